@@ -1,0 +1,2 @@
+pub mod TallyLemmas
+pub mod Runs

@@ -1,0 +1,14 @@
+-- The limits of the subsystem, each in one place.
+use Rattle.std.specs.Prelude.{ℕ, ◌-◌, ◌^◌}
+
+-- the greatest bank of a soft level's buffer; bank k has 2^k places (our own rule)
+abbrev pub greatest_bank : ℕ
+greatest_bank = 8
+
+-- the cyclics that one CPU can hold: the places of the greatest bank (our own rule)
+abbrev pub cyclics : ℕ
+cyclics = 2 ^ greatest_bank
+
+-- the greatest number of a cyclic: what is left of 64 bits beside an index (our own rule)
+abbrev pub last_id : ℕ
+last_id = 2 ^ 56 - 1

@@ -1,0 +1,20 @@
+//! The values, refusals and traits that every crate of the cyclic subsystem shares.
+#![tactic(auto)]
+
+pub mod calls;
+pub mod draining;
+pub mod firing;
+pub mod id;
+pub mod level;
+pub mod limits;
+pub mod refusal;
+pub mod tally;
+
+pub use calls::{Calls, Refused};
+pub use draining::{Drain, Finished};
+pub use firing::{Raise, Raised, Sent};
+pub use id::CyclicId;
+pub use level::{Ceiling, Index, Level, Soft};
+pub use limits::{CYCLICS, GREATEST_BANK, LAST_ID};
+pub use refusal::{JuggleReport, Refusal};
+pub use tally::Tally;

@@ -1,0 +1,8 @@
+/// The cyclics that one CPU can hold, which is the number of places of the greatest bank (our own rule).
+pub const CYCLICS: u16 = 256;
+
+/// The greatest bank of a soft level's buffer; bank `k` has `2^k` places (our own rule).
+pub const GREATEST_BANK: u8 = 8;
+
+/// The greatest number of a cyclic, so that a buffer entry of 64 bits holds it beside an index (our own rule).
+pub const LAST_ID: u64 = (1 << 56) - 1;

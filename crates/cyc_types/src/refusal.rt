@@ -1,0 +1,143 @@
+ghost use Rattle.std.specs.Prelude.{◌≡◌};
+ghost use Rattle.cyc_types.specs.Refusals.{number_of};
+ghost use Rattle.cyc_types.specs.declared.refusal.Refusal.TheVariants.{Memory};
+
+use crate::id::CyclicId;
+use std::alloc::{AllocError, AllocFailed};
+use thiserror::Error;
+
+/// What a juggle of one CPU did: the cyclics that moved, and those that stayed, with the reason (`cyclic_juggle`).
+#[derive(Clone, Copy, Debug, PartialEq, Eq)]
+pub struct JuggleReport {
+    /// Cyclics that moved to another CPU.
+    pub moved: u32,
+    /// Cyclics that stayed because they are bound.
+    pub bound: u32,
+    /// Cyclics that stayed because calls of them are outstanding.
+    pub pending: u32,
+    /// Cyclics that stayed because their destination refused them.
+    pub refused: u32,
+}
+
+/// Why a call refused. The text is the name alone.
+#[derive(Clone, Copy, Debug, PartialEq, Eq, Error)]
+pub enum Refusal {
+    /// A growth of memory was refused.
+    #[error("Memory")]
+    Memory,
+    /// The start is negative.
+    #[error("BadWhen")]
+    BadWhen,
+    /// The interval is below 1.
+    #[error("BadInterval")]
+    BadInterval,
+    /// The moment of a fire is never.
+    #[error("BadNow")]
+    BadNow,
+    /// The CPU holds as many cyclics as it can.
+    #[error("Full")]
+    Full,
+    /// A soft level has not yet followed the last switch of banks.
+    #[error("Expanding")]
+    Expanding,
+    /// The removal of this cyclic is open.
+    #[error("Busy")]
+    Busy(CyclicId),
+    /// There is no such cyclic here.
+    #[error("NoCyclic")]
+    NoCyclic,
+    /// Calls of the cyclic are outstanding.
+    #[error("Pending")]
+    Pending,
+    /// Every id was given.
+    #[error("IdsSpent")]
+    IdsSpent,
+    /// The cyclic has expired as often as it may.
+    #[error("CountSpent")]
+    CountSpent(CyclicId),
+    /// The handler of this cyclic refused its call.
+    #[error("HandlerRefused")]
+    HandlerRefused(CyclicId),
+    /// There is no such CPU.
+    #[error("NoCpu")]
+    NoCpu,
+    /// The CPU is offline.
+    #[error("Offline")]
+    Offline,
+    /// The CPU is the last one online.
+    #[error("LastCpu")]
+    LastCpu,
+    /// The cyclic is omnipresent.
+    #[error("Omnipresent")]
+    Omnipresent,
+    /// Cyclics stayed on a CPU that was to go offline.
+    #[error("Left")]
+    Left(JuggleReport),
+    /// The script is no JSON text.
+    #[error("ScriptSyntax")]
+    ScriptSyntax,
+    /// This step of the script has not the form of a step.
+    #[error("ScriptShape")]
+    ScriptShape(u32),
+    /// This step of the script goes back in time.
+    #[error("TimeBack")]
+    TimeBack(u32),
+    /// This step of the script gives a name for the second time.
+    #[error("NameTwice")]
+    NameTwice(u32),
+    /// This step of the script uses a name that was not given.
+    #[error("NoName")]
+    NoName(u32),
+    /// The CPU is online.
+    #[error("Online")]
+    Online,
+}
+
+impl Refusal {
+    /// The number of the refusal, by which programs tell it. No refusal has the number 18.
+    pub fn number(&self) -> u8
+        ensures { result ≡ number_of self.now }
+    {
+        match self {
+            Refusal::Memory => 1,
+            Refusal::BadWhen => 2,
+            Refusal::BadInterval => 3,
+            Refusal::BadNow => 4,
+            Refusal::Full => 5,
+            Refusal::Expanding => 6,
+            Refusal::Busy(_) => 7,
+            Refusal::NoCyclic => 8,
+            Refusal::Pending => 9,
+            Refusal::IdsSpent => 10,
+            Refusal::CountSpent(_) => 11,
+            Refusal::HandlerRefused(_) => 12,
+            Refusal::NoCpu => 13,
+            Refusal::Offline => 14,
+            Refusal::LastCpu => 15,
+            Refusal::Omnipresent => 16,
+            Refusal::Left(_) => 17,
+            Refusal::ScriptSyntax => 19,
+            Refusal::ScriptShape(_) => 20,
+            Refusal::TimeBack(_) => 21,
+            Refusal::NameTwice(_) => 22,
+            Refusal::NoName(_) => 23,
+            Refusal::Online => 24,
+        }
+    }
+}
+
+impl From<AllocError> for Refusal {
+    ghost from_gives = { λ _ refusal. refusal ≡ Memory };
+
+    fn from(_error: AllocError) -> Refusal {
+        Refusal::Memory
+    }
+}
+
+impl<T: Drop> From<AllocFailed<T>> for Refusal {
+    ghost from_gives = { λ _ refusal. refusal ≡ Memory };
+
+    fn from(_error: AllocFailed<T>) -> Refusal {
+        Refusal::Memory
+    }
+}
