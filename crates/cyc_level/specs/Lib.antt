@@ -1,0 +1,4 @@
+pub mod Level
+pub mod Lawful
+pub mod Events
+pub mod Conservation
