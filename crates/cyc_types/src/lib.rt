@@ -7,6 +7,7 @@ pub mod firing;
 pub mod id;
 pub mod level;
 pub mod limits;
+pub mod moment;
 pub mod refusal;
 pub mod tally;
 
@@ -16,5 +17,6 @@ pub use firing::{Raise, Raised, Sent};
 pub use id::CyclicId;
 pub use level::{Ceiling, Index, Level, Soft};
 pub use limits::{CYCLICS, GREATEST_BANK, LAST_ID};
+pub use moment::{Interval, Moment, When, due, next};
 pub use refusal::{JuggleReport, Refusal};
 pub use tally::Tally;
