@@ -1,0 +1,4 @@
+pub mod Order
+pub mod Dues
+pub mod Firings
+pub mod Laws

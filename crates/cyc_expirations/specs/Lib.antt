@@ -1,0 +1,2 @@
+pub mod Timers
+pub mod Expirations
