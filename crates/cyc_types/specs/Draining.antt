@@ -1,5 +1,6 @@
 -- What the holder of a level's soft side knows: the cyclic in hand, and the calls that it finished.
-use Rattle.std.specs.Prelude.{ℕ, eqb, cond, Option, Some, None}
+use Rattle.std.specs.Prelude.{ℕ, Option, Some, None}
+use Rattle.cyc_types.specs.Counting.{one_at}
 use Rattle.cyc_types.specs.declared.draining.Finished.{Finished}
 use Rattle.cyc_types.specs.declared.draining.Finished.TheVariants.{More, Last, LastOfRemoval}
 
@@ -17,4 +18,4 @@ hand_after LastOfRemoval hand = None
 -- one where the id is in the hand
 abbrev pub one_of : ℕ → Option ℕ → ℕ
 one_of id None = 0
-one_of id (Some x) = cond (eqb id x) 1 0
+one_of id (Some x) = one_at id x

@@ -6,3 +6,4 @@ pub mod Counting
 pub mod Tally
 pub mod Firing
 pub mod Draining
+pub mod Runs
