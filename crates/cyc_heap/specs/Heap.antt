@@ -1,0 +1,47 @@
+-- What callers see of a heap of expirations.
+use Rattle.std.specs.Prelude.{◌≡◌, ℕ, true, List, [], ◌∷◌, length, count_by, slice_index_or, slice_set, Option, Some, None, is_some, option_map}
+use Rattle.cyc_expirations.specs.Expirations.{Expiration, is_before}
+
+-- for each index below the size the expiration of its cyclic, none where the index is free;
+-- the index with the least expiration; and the size up to which no call takes memory
+pub record HeapView : Type 0 where
+  pub slots : List (Option Expiration)
+  pub root : Option ℕ
+  pub room : ℕ
+
+-- the heap at first: one index, which is free
+abbrev pub new_heap : HeapView
+new_heap = record { slots = None ∷ []; root = None; room = 1 }
+
+-- the number of indexes (`cyp_size` of sys/cyclic_impl.h)
+abbrev pub size_of : HeapView → ℕ
+size_of heap = length heap.slots
+
+-- the number of indexes in use (`cyp_nelems` of sys/cyclic_impl.h)
+abbrev pub len_of : HeapView → ℕ
+len_of heap = count_by is_some heap.slots
+
+-- the expiration of an index, none where the index is free or not below the size
+abbrev pub expiration_at : HeapView → ℕ → Option Expiration
+expiration_at heap i = slice_index_or heap.slots i None
+
+-- the same cyclic's expiration at another moment
+abbrev pub at_moment : ℕ → Expiration → Expiration
+at_moment m e = record e { moment = m }
+
+-- the slots with another moment for this index
+abbrev pub with_moment : List (Option Expiration) → ℕ → ℕ → List (Option Expiration)
+with_moment slots i m = slice_set slots i (option_map (at_moment m) (slice_index_or slots i None))
+
+-- an expiration as its moment and its id
+abbrev pub pair_of : Expiration → ℕ × ℕ
+pair_of e = (e.moment, e.id)
+
+-- no index is in use
+abbrev pub IsEmpty : HeapView → Type 0
+IsEmpty heap = (i : ℕ) → expiration_at heap i ≡ None
+
+-- the index has this expiration, and no index has one that comes before it
+pub record IsLeast (heap : HeapView) (i : ℕ) (e : Expiration) : Type 0 where
+  pub holds : expiration_at heap i ≡ Some e
+  pub least : (k : ℕ) (other : Expiration) → expiration_at heap k ≡ Some other → is_before e other ≡ true
