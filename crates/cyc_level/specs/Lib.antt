@@ -1,4 +1,5 @@
 pub mod Level
 pub mod Lawful
 pub mod Events
+pub mod Runs
 pub mod Conservation

@@ -1,0 +1,6 @@
+pub mod Words
+pub mod Trail
+pub mod Shown
+pub mod Rule
+pub mod Conservation
+pub mod Steps

@@ -1,0 +1,68 @@
+-- The level that the words and the two trails show.
+use Rattle.std.specs.Prelude.{◌≡◌, ◌≢◌, ℕ, ◌+◌, ◌*◌, ◌/◌, ◌%◌, ◌^◌, ◌<◌, ◌≤◌, ◌==◌, if◌then◌else◌, true, Option, Some, None, List, [], ◌∷◌, length, slice_index, ⊤}
+use Rattle.cyc_types.specs.Limits.{greatest_bank, cyclics}
+use Rattle.cyc_level.specs.Level.{Cyclic, Cyclics, Level, count, soft_list, in_hand}
+use Rattle.ring_rule.specs.declared.RaiseStep.{RaiseStep}
+use Rattle.ring_rule.specs.declared.DrainStep.{DrainStep}
+use Rattle.ring_rule.specs.Words.{mark_bit, index_range, place, producer_word, hard_word, soft_word, entry, entry_id, entry_index}
+use Rattle.ring_rule.specs.Trail.{StayCounts, open_stay, ended_calls, firer_hand_of, marked_of, seen_pend, hard_bank_of, producer_index, stored_entry, has_followed, held_entry, drainer_hand_of, made_calls, soft_bank_of, consumer_index, producer_seen, bank_seen}
+
+-- the stay in the raise seat's trail is the level's. Of the finishes made, those of the stays that have ended are not this stay's
+abbrev pub IsSameStay : ℕ → ℕ → Option StayCounts → Option Cyclic → Type 0
+IsSameStay made ended None None = made ≡ ended
+IsSameStay made ended (Some s) (Some c) = (s.index ≡ c.index) × (s.sent ≡ c.sent) × (s.lost ≡ c.lost) × (made ≡ c.done + ended)
+IsSameStay made ended None (Some c) = ⊥
+IsSameStay made ended (Some s) None = ⊥
+
+module _ (words : List ℕ) (m : Cyclics) where
+  -- the buffer word of this index of a bank is the entry of the id, which is admitted
+  abbrev pub HoldsEntry : ℕ → ℕ → ℕ → Type 0
+  HoldsEntry bank i id = (c : Cyclic) × (m id ≡ Some c) × (slice_index words (place bank i) ≡ entry id c.index)
+
+  -- from the index i on up to its producer word the bank holds the entries of these ids
+  abbrev pub BankHolds : ℕ → ℕ → List ℕ → Type 0
+  BankHolds bank i [] = slice_index words (producer_word bank) ≡ i % index_range
+  BankHolds bank i (id ∷ ids) = HoldsEntry bank i id × BankHolds bank (i + 1) ids
+
+  -- an entry that was stored and isn't yet published is that of the firer's hand
+  abbrev pub IsHandStored : ℕ → ℕ → Option ℕ → Option ℕ → Type 0
+  IsHandStored bank i None hand = ⊤
+  IsHandStored bank i (Some e) None = ⊥
+  IsHandStored bank i (Some e) (Some id) = HoldsEntry bank i id
+
+-- where the new list begins in its bank: at the consumer index, or at the bank's first index until the soft side has followed
+abbrev pub new_list_start : ℕ → List DrainStep → Level → ℕ
+new_list_start start drain_trail l = if l.hard_bank == l.soft_bank then consumer_index start drain_trail else start
+
+-- each part of the level is what the words and the trails say
+pub record Shows (start : ℕ) (words : List ℕ) (raise_trail : List RaiseStep) (drain_trail : List DrainStep) (l : Level) : Type 0 where
+  pub hard_is : l.hard_bank ≡ hard_bank_of raise_trail
+  pub soft_is : l.soft_bank ≡ soft_bank_of drain_trail
+  pub hard_shown : slice_index words hard_word ≡ l.hard_bank
+  pub soft_shown : slice_index words soft_word ≡ l.soft_bank
+  pub firer_is : l.firer_hand ≡ firer_hand_of raise_trail
+  pub drainer_is : l.drainer_hand ≡ drainer_hand_of drain_trail
+  pub marked_is : l.marked ≡ marked_of raise_trail
+  pub stays : (id : ℕ) → IsSameStay (made_calls id drain_trail) (ended_calls id raise_trail) (open_stay id raise_trail) (l.cyclics id)
+  -- a pend word is the outstanding calls with the mark, and that of an unused index is 0
+  pub pends : (id : ℕ) (c : Cyclic) → l.cyclics id ≡ Some c → slice_index words c.index ≡ c.count + mark_bit * in_hand id l.marked
+  pub unused : (i : ℕ) → i < cyclics → ((id : ℕ) (c : Cyclic) → l.cyclics id ≡ Some c → c.index ≢ i) → slice_index words i ≡ 0
+  -- each entry between the indexes is id * cyclics + index of an admitted id
+  pub new_held : BankHolds words l.cyclics l.hard_bank (new_list_start start drain_trail l) l.new_list
+  pub old_held : l.hard_bank ≢ l.soft_bank → BankHolds words l.cyclics l.soft_bank (consumer_index start drain_trail) l.old_list
+  pub produced : producer_index start raise_trail ≡ new_list_start start drain_trail l + length l.new_list
+
+-- what the values that the two sides found say of the level still
+pub record StillHolds (start : ℕ) (words : List ℕ) (raise_trail : List RaiseStep) (drain_trail : List DrainStep) (l : Level) : Type 0 where
+  pub seen_is_enough : (id : ℕ) → count l id ≤ seen_pend id raise_trail
+  pub hand_stored : IsHandStored words l.cyclics l.hard_bank (producer_index start raise_trail) (stored_entry raise_trail) (firer_hand_of raise_trail)
+  -- the banks that were never used
+  pub fresh : (bank : ℕ) → l.hard_bank < bank → bank ≤ greatest_bank → slice_index words (producer_word bank) ≡ start % index_range
+  pub held_is : (e : ℕ) → held_entry drain_trail ≡ Some e → (c : Cyclic) × (l.cyclics (entry_id e) ≡ Some c) × (c.index ≡ entry_index e)
+  pub followed_is : has_followed raise_trail ≡ true → l.hard_bank ≡ l.soft_bank
+  -- a hard bank that was found to be another than the soft side's is still the hard bank
+  pub bank_is : (bank : ℕ) → bank_seen drain_trail ≡ Some bank → bank ≢ l.soft_bank → bank ≡ l.hard_bank
+  -- where the producer word differed from the consumer index there is still an entry
+  pub some_left : (end : ℕ) → producer_seen drain_trail ≡ Some end → end ≢ consumer_index start drain_trail % index_range → soft_list l ≢ []
+  -- where it did not, after a look that found another hard bank, the old list is still empty
+  pub none_left : (end bank : ℕ) → producer_seen drain_trail ≡ Some end → end ≡ consumer_index start drain_trail % index_range → bank_seen drain_trail ≡ Some bank → bank ≢ l.soft_bank → l.old_list ≡ []

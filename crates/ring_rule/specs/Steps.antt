@@ -1,0 +1,99 @@
+-- What each kind of atomic step tells its seat: which step its trail gains, and what is known of the value found.
+use Rattle.std.specs.Prelude.{◌≡◌, ◌≢◌, ℕ, ◌%◌, ◌<◌, ◌≤◌, true, ◌∷◌}
+use Rattle.atomic_table.specs.Table.{Me, Step}
+use Rattle.cyc_types.specs.Limits.{greatest_bank}
+use Rattle.cyc_level.specs.Lawful.{IsId}
+use Rattle.ring_rule.specs.declared.RaiseStep.{RaiseStep}
+use Rattle.ring_rule.specs.declared.RaiseStep.TheVariants.{Admitted, Loaded, Lost, Added, Stored, Published, Marked, Cleared, Switched, LoadedSoftBank}
+use Rattle.ring_rule.specs.declared.DrainStep.{DrainStep}
+use Rattle.ring_rule.specs.declared.DrainStep.TheVariants.{LoadedHardBank, LoadedProducer, Took, Subtracted, Followed}
+use Rattle.ring_rule.specs.declared.SeatView.{SeatView}
+use Rattle.ring_rule.specs.declared.Setting.{Setting}
+use Rattle.ring_rule.specs.Words.{mark_bit, entry_id}
+use Rattle.ring_rule.specs.Trail.{seen_pend, soft_bank_of, hard_bank_of, has_followed}
+use Rattle.ring_rule.specs.Conservation.{StandsFor}
+
+-- the seat that steps: its view, and the slots that it holds, of which there are none
+abbrev pub ThisSeat : Type 0
+ThisSeat = Me (Unit {0}) SeatView
+
+abbrev pub with_raise_step : RaiseStep → SeatView → SeatView
+with_raise_step x v = record { role = v.role; raise_trail = x ∷ v.raise_trail; drain_trail = v.drain_trail }
+
+abbrev pub with_drain_step : DrainStep → SeatView → SeatView
+with_drain_step x v = record { role = v.role; raise_trail = v.raise_trail; drain_trail = x ∷ v.drain_trail }
+
+-- the seat's trail gains this step, and nothing else changes
+abbrev pub GainsRaiseStep : RaiseStep → ThisSeat → ThisSeat → Type 0
+GainsRaiseStep x me me' = me' ≡ (with_raise_step x me.0, me.1)
+
+abbrev pub GainsDrainStep : DrainStep → ThisSeat → ThisSeat → Type 0
+GainsDrainStep x me me' = me' ≡ (with_drain_step x me.0, me.1)
+
+-- what a step tells: a fact of the step, the seat before, the value found and the seat after
+abbrev pub Telling : Type 1
+Telling = Step (Unit {0}) → ThisSeat → ℕ → ThisSeat → Type 0
+
+-- the load that admits an id found the pend word of an unused index
+abbrev pub TellsAdmit : ℕ → Telling
+TellsAdmit id t me found me' = (found ≡ 0) × GainsRaiseStep (Admitted id t.word) me me'
+
+-- the load that begins a raise: at the ceiling the expiration is lost
+abbrev pub TellsRaiseLoad : ℕ → ℕ → Telling
+TellsRaiseLoad id ceiling t me found me' = (found ≤ seen_pend id me.0.raise_trail) × (found ≤ ceiling) × (found ≡ ceiling → GainsRaiseStep (Lost id found) me me') × (found ≢ ceiling → GainsRaiseStep (Loaded id found) me me')
+
+-- the `fetch_add` of 1
+abbrev pub TellsAdd : ℕ → Telling
+TellsAdd id t me found me' = (found ≤ seen_pend id me.0.raise_trail) × GainsRaiseStep (Added id found) me me'
+
+-- the store of a buffer word
+abbrev pub TellsStore : Telling
+TellsStore t me found me' = GainsRaiseStep (Stored t.first) me me'
+
+-- the store of a producer word
+abbrev pub TellsPublish : Telling
+TellsPublish t me found me' = GainsRaiseStep (Published t.first) me me'
+
+-- the load of a pend word
+abbrev pub TellsLoad : ℕ → Telling
+TellsLoad id t me found me' = (found % mark_bit ≤ seen_pend id me.0.raise_trail) × GainsRaiseStep (Loaded id found) me me'
+
+-- the `fetch_add` of the mark
+abbrev pub TellsMark : ℕ → Telling
+TellsMark id t me found me' = (found ≤ seen_pend id me.0.raise_trail) × GainsRaiseStep (Marked id found) me me'
+
+-- the store of 0 that ends the stay
+abbrev pub TellsClear : ℕ → Telling
+TellsClear id t me found me' = GainsRaiseStep (Cleared id) me me'
+
+-- the store of the hard bank
+abbrev pub TellsSwitch : Telling
+TellsSwitch t me found me' = GainsRaiseStep (Switched t.first) me me'
+
+-- the load of the soft bank: what was seen to have followed has still followed
+abbrev pub TellsSoftBank : Telling
+TellsSoftBank t me found me' = (has_followed me.0.raise_trail ≡ true → found ≡ hard_bank_of me.0.raise_trail) × GainsRaiseStep (LoadedSoftBank found) me me'
+
+-- the load of the hard bank
+abbrev pub TellsHardBank : Telling
+TellsHardBank t me found me' = (soft_bank_of me.0.drain_trail ≤ found) × (found ≤ greatest_bank) × GainsDrainStep (LoadedHardBank found) me me'
+
+-- the load of a producer word
+abbrev pub TellsProducer : Telling
+TellsProducer t me found me' = GainsDrainStep (LoadedProducer found) me me'
+
+-- the load of a buffer word found the entry of an id
+abbrev pub TellsTake : Telling
+TellsTake t me found me' = IsId (entry_id found) × GainsDrainStep (Took found) me me'
+
+-- the `fetch_sub` of 1 found a call outstanding
+abbrev pub TellsSubtract : Telling
+TellsSubtract t me found me' = (0 < found % mark_bit) × GainsDrainStep (Subtracted found) me me'
+
+-- the store of the soft bank
+abbrev pub TellsFollow : Telling
+TellsFollow t me found me' = GainsDrainStep (Followed t.first) me me'
+
+-- and each step tells, beside this, that a lawful level stands now, with this side's trail
+abbrev pub AndStands : Setting → Telling → Telling
+AndStands k tells t me found me' = tells t me found me' × StandsFor k me'.0

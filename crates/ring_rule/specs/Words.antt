@@ -1,0 +1,45 @@
+-- The words of a ring: one table for each CPU and soft level. Counts are of 64-bit words.
+use Rattle.std.specs.Prelude.{ℕ, ◌+◌, ◌-◌, ◌*◌, ◌/◌, ◌%◌, ◌^◌, nat_lt, if◌then◌else◌}
+use Rattle.cyc_types.specs.Limits.{greatest_bank, cyclics}
+use Rattle.cyc_level.specs.Level.{bank_size}
+
+-- the pend words come first, one for each index (cy_pend): bits 0 to 31 are the calls outstanding, and bit 32 is the mark of a removal
+abbrev pub mark_bit : ℕ
+mark_bit = 2 ^ 32
+
+-- indexes of a bank and its producer word run modulo this (cypc_prodndx and cypc_consndx are 32 bits wide)
+abbrev pub index_range : ℕ
+index_range = 2 ^ 32
+
+-- the buffer word of an index of a bank, which is taken modulo the bank's size (cypc_sizemask). The banks stand one after another, the smallest first
+abbrev pub place : ℕ → ℕ → ℕ
+place bank i = cyclics - 1 + bank_size bank + i % bank_size bank
+
+-- the next index that the firing side fills in a bank (cypc_prodndx)
+abbrev pub producer_word : ℕ → ℕ
+producer_word bank = 3 * cyclics - 1 + bank
+
+-- the bank that the firing side fills (cys_hard)
+abbrev pub hard_word : ℕ
+hard_word = 3 * cyclics + greatest_bank
+
+-- the bank that the soft side drains (cys_soft)
+abbrev pub soft_word : ℕ
+soft_word = hard_word + 1
+
+abbrev pub word_count : ℕ
+word_count = soft_word + 1
+
+-- what a buffer word holds: the cyclic's id and its index in one number (cypc_buf holds the index; the id is our own)
+abbrev pub entry : ℕ → ℕ → ℕ
+entry id index = id * cyclics + index
+
+abbrev pub entry_id : ℕ → ℕ
+entry_id e = e / cyclics
+
+abbrev pub entry_index : ℕ → ℕ
+entry_index e = e % cyclics
+
+-- the words of a ring that is opened: producer words hold the first index, all others 0
+abbrev pub first_word : ℕ → ℕ → ℕ
+first_word start word = if nat_lt word (producer_word 0) then 0 else (if nat_lt word hard_word then start else 0)

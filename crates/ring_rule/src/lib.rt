@@ -1,0 +1,91 @@
+//! The rule of a ring: what its words and the views of its two seats show together, between any two atomic steps.
+//!
+//! The definitions stand in `specs/`. They rest on the model of a level in `cyc_level`.
+#![tactic(auto)]
+
+ghost use Rattle.std.specs.Prelude.{◌^◌, ◌<◌};
+ghost use Rattle.ring_rule.specs.declared.Setting.{Setting as TheSetting};
+ghost use Rattle.ring_rule.specs.Rule.{RingState, MeetsRule, opening_view};
+ghost use Rattle.ring_rule.specs.Conservation.{Conserves};
+
+use atomic_table::TableRule;
+use std::collections::LinkedList;
+
+/// Which side's seat it is. Before the split and after the join one seat is both; the seat that the join leaves is spent.
+pub enum Role {
+    Joint,
+    Raise,
+    Drain,
+    Spent,
+}
+
+/// An atomic step of the firing side, with its id where it has one, and the value that it found or stored.
+pub enum RaiseStep {
+    /// The load of an unused pend word that admits the id at this index.
+    Admitted(u64, u64),
+    /// The load of the pend word.
+    Loaded(u64, u64),
+    /// The load of the pend word, in a raise that finds it at the ceiling: the expiration is lost.
+    Lost(u64, u64),
+    /// The `fetch_add` of 1 on the pend word.
+    Added(u64, u64),
+    /// The store of this entry in a buffer word.
+    Stored(u64),
+    /// The store of this index in a producer word.
+    Published(u64),
+    /// The `fetch_add` of the mark on the pend word.
+    Marked(u64, u64),
+    /// The store of 0 in the pend word, which ends the stay of the id.
+    Cleared(u64),
+    /// The store of this bank as the hard bank.
+    Switched(u64),
+    /// The load of the soft bank.
+    LoadedSoftBank(u64),
+}
+
+/// An atomic step of the soft side, with the value that it found or stored.
+pub enum DrainStep {
+    /// The load of the hard bank.
+    LoadedHardBank(u64),
+    /// The load of the producer word of the soft side's bank.
+    LoadedProducer(u64),
+    /// The load of a buffer word: its entry is taken.
+    Took(u64),
+    /// The `fetch_sub` of 1 on the pend word of the cyclic in hand: one call is done.
+    Subtracted(u64),
+    /// The store of this bank as the soft bank.
+    Followed(u64),
+}
+
+/// What a seat knows: the steps of its side, the newest first. It exists in proofs alone, and no value of it is made.
+pub struct SeatView {
+    pub role: Role,
+    pub raise_trail: LinkedList<RaiseStep>,
+    pub drain_trail: LinkedList<DrainStep>,
+}
+
+/// What is fixed when a ring is opened.
+#[derive(Clone, Copy)]
+pub struct Setting {
+    /// The greatest pend.
+    pub ceiling: u32,
+    /// The first index of each bank.
+    pub start: u32,
+}
+
+/// The rule that the table of a ring keeps.
+pub struct RingRule;
+
+impl TableRule<(), SeatView, Setting> for RingRule {
+    ghost holds = { MeetsRule };
+
+    ghost first = { λ _. opening_view };
+}
+
+/// The conservation theorem: whatever state meets the ring's rule shows a level that a run of enabled events reaches, those
+/// of each side in the order of its trail. So it is lawful; each admitted cyclic's expirations are its finished calls, its
+/// outstanding ones and those lost; a cyclic with calls outstanding stands in exactly one place; no list is longer than its
+/// bank; the pend word of an unused index is 0; and each shown entry names an admitted id.
+pub fn conservation()
+    ensures { (k : TheSetting) (s : RingState) → k.ceiling < 2 ^ 32 → MeetsRule k s → Conserves k s }
+{}
