@@ -1,0 +1,36 @@
+-- What the firing side knows of a level that no other thread uses, and the events of each of its calls.
+use Rattle.std.specs.Prelude.{◌≡◌, ℕ, ◌<◌, ◌==◌, List, [], ◌∷◌, Option, Some, None, is_none}
+use Rattle.std.specs.Option.{option_map}
+use Rattle.std.specs.List.{FoldsTo}
+use Rattle.cyc_types.specs.Firing.{Stay, FiringView, FiringCall, Admits, Loads, Raises, Marks, Polls, Expands, Looks, sent_of}
+use Rattle.cyc_types.specs.declared.firing.Raised.{Raised}
+use Rattle.cyc_types.specs.declared.firing.Raised.TheVariants.{First, More, Lost}
+use Rattle.cyc_level.specs.declared.Event.{Event}
+use Rattle.cyc_level.specs.declared.Event.TheVariants.{Admit, Expire, Lose, Publish, Mark, Clear, Switch}
+use Rattle.cyc_level.specs.Level.{Cyclic, Level, count}
+use Rattle.cyc_core.specs.Reached.{Happens}
+
+-- the pend that is seen is the pend
+abbrev pub stay_of : Cyclic → Stay
+stay_of c = record { index = c.index; sent = c.sent; lost = c.lost; seen = c.count }
+
+-- the firing side knows all of its level but what the soft side holds
+abbrev pub firing_view : Level → FiringView
+firing_view l = record { stays = λ id. option_map stay_of (l.cyclics id); marked = l.marked; bank = l.hard_bank; ceiling = l.ceiling; followed = l.hard_bank == l.soft_bank; hand_free = is_none l.firer_hand }
+
+-- the events of a raise with this answer (cyclic_expire)
+abbrev pub raise_events : ℕ → Raised → List Event
+raise_events id First = Expire id ∷ Publish ∷ []
+raise_events id More = Expire id ∷ []
+raise_events id Lost = Lose id ∷ []
+
+-- a call of the firing side with its answer: its events happened, in this order, and the answer is what was found. The firer's hand is empty after each
+abbrev pub Fires : Level → FiringCall → Level → Type 0
+Fires l (Admits id index) m = Happens l (Admit id index) m
+Fires l (Loads id pend) m = (pend ≡ count l id) × (m ≡ l)
+Fires l (Raises id answer) m = FoldsTo Happens l (raise_events id answer) m × (m.firer_hand ≡ None)
+Fires l (Marks id pend) m = (pend ≡ count l id) × Happens l (Mark id) m
+Fires l (Polls id None) m = (0 < count l id) × (m ≡ l)
+Fires l (Polls id (Some counts)) m = (sent_of id (firing_view l) ≡ Some counts) × Happens l (Clear id) m
+Fires l (Expands bank) m = Happens l (Switch bank) m
+Fires l (Looks answer) m = (answer ≡ (l.hard_bank == l.soft_bank)) × (m ≡ l)

@@ -1,0 +1,12 @@
+use cyc_types::{CyclicId, Index};
+
+/// An admitted cyclic with its counts.
+#[derive(Clone, Copy, Debug)]
+pub struct Admitted {
+    pub id: CyclicId,
+    pub index: Index,
+    pub sent: u64,
+    pub done: u64,
+    pub lost: u64,
+    pub count: u32,
+}

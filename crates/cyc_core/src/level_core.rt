@@ -1,0 +1,103 @@
+ghost use Rattle.std.specs.Prelude.{◌≡◌, ℕ, ◌<◌, ◌≤◌, length, IfOk, IfErr, IfSome, IfNone, IsSome, None};
+ghost use Rattle.cyc_level.specs.Level.{empty_level};
+ghost use Rattle.cyc_level.specs.Lawful.{Lawful};
+ghost use Rattle.cyc_level.specs.Conservation.{IsConserved};
+ghost use Rattle.cyc_core.specs.Tables.{level_of, lookup, IsAt, IsGap, IsOrdered};
+ghost use Rattle.cyc_core.specs.Reached.{IsReached};
+
+use crate::admitted::Admitted;
+use cyc_types::{CYCLICS, Ceiling, CyclicId, Refusal};
+use std::alloc::Global;
+use std::collections::VecDeque;
+use std::marker::Model;
+
+/// One soft level, with all its memory taken when it is made.
+///
+/// Contracts see it as its tables, and `level_of` gives the level that they show.
+#[derive(Drop)]
+pub struct LevelCore {
+    pub(crate) ceiling: u32,
+    pub(crate) hard_bank: u8,
+    pub(crate) soft_bank: u8,
+    pub(crate) table: Vec<Admitted>,
+    pub(crate) marked: Option<CyclicId>,
+    pub(crate) firer_hand: Option<CyclicId>,
+    pub(crate) old_list: VecDeque<CyclicId>,
+    pub(crate) new_list: VecDeque<CyclicId>,
+    pub(crate) drainer_hand: Option<CyclicId>,
+}
+
+impl Model for LevelCore {
+    ghost use Rattle.cyc_core.specs.Tables.{Tables};
+
+    ghost Value = { Tables };
+
+    ghost use Rattle.cyc_core.specs.Shown.{shown, IsSound};
+
+    ghost view = { shown };
+
+    ghost invariant = { IsSound };
+}
+
+/// Where the entry of the id stands, or where it would stand.
+fn search(table: &[Admitted], id: CyclicId) -> Result<usize, usize>
+    requires { IsOrdered table.now }
+    ensures found { IfOk result (IsAt table.now id) }
+    ensures absent { IfErr result (IsGap table.now id) }
+{
+    let number = id.number();
+    table.binary_search_by_key(&number, |entry| entry.id.number())
+}
+
+impl LevelCore {
+    /// An empty level with both banks 0 and this ceiling.
+    ///
+    /// It takes room for `CYCLICS` admitted cyclics and two lists of as many ids; no other call takes memory. Refuses
+    /// Memory alone.
+    pub fn new(alloc: Global, ceiling: Ceiling) -> Result<LevelCore, Refusal>
+        ensures ok { IfOk result (λ core. level_of core ≡ empty_level ceiling) }
+        ensures err { IfErr result (λ refusal. refusal ≡ Refusal.Memory) }
+    {
+        let room = usize::from(CYCLICS);
+        Ok(LevelCore {
+            ceiling: ceiling.calls(),
+            hard_bank: 0,
+            soft_bank: 0,
+            table: Vec::with_capacity(alloc, room)?,
+            marked: None,
+            firer_hand: None,
+            old_list: VecDeque::with_capacity(alloc, room)?,
+            new_list: VecDeque::with_capacity(alloc, room)?,
+            drainer_hand: None,
+        })
+    }
+
+    /// The conservation theorem of one level, as a call that does nothing: at any time the level is one that enabled events
+    /// reached from the empty one, so it keeps every law of such levels.
+    pub fn conservation(&self)
+        ensures reached { IsReached (level_of self.now) }
+        ensures lawful { Lawful (level_of self.now) }
+        ensures conserved { IsConserved (level_of self.now) }
+    {
+        let _ceiling = &self.ceiling;
+    }
+
+    /// Where the entry of the id stands in the table, or where it would stand.
+    pub(crate) fn search(&self, id: CyclicId) -> Result<usize, usize>
+        ensures found { IfOk result (IsAt self.now.table id) }
+        ensures absent { IfErr result (IsGap self.now.table id) }
+    {
+        search(&self.table, id)
+    }
+
+    /// Where the entry of an admitted id stands in the table.
+    pub(crate) fn place_of(&self, id: CyclicId) -> usize
+        requires { IsSome (lookup id self.now.table) }
+        ensures { IsAt self.now.table id result }
+    {
+        let Ok(place) = self.search(id) else {
+            unreachable!()
+        };
+        place
+    }
+}

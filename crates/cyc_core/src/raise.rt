@@ -1,0 +1,80 @@
+ghost use Rattle.cyc_core.specs.Tables.{level_of};
+ghost use Rattle.cyc_core.specs.FiringSide.{firing_view, Fires};
+
+use crate::level_core::LevelCore;
+use cyc_types::{CyclicId, Index, Raise, Raised, Sent};
+
+/// The firing side of a level that no other thread uses: `seen` is the pend.
+///
+/// The calls are the level's events: `admit` Admit, `raise` Lose, or Expire and from 0 also Publish, `mark` Mark,
+/// `poll_clear` Clear where it answers, `expand` Switch.
+impl Raise for LevelCore {
+    ghost view = { λ core. firing_view (level_of core) };
+
+    ghost step = { λ core call after. Fires (level_of core) call (level_of after) };
+
+    fn law(&self) {
+        self.conservation();
+    }
+
+    fn admit(&mut self, id: CyclicId, index: Index) {
+        self.begin_stay(id, index);
+    }
+
+    fn load_pend(&mut self, id: CyclicId) -> u32 {
+        let place = self.place_of(id);
+        self.table[place].count
+    }
+
+    fn raise(&mut self, id: CyclicId) -> Raised {
+        let place = self.place_of(id);
+        let count = self.table[place].count;
+        if count == self.ceiling {
+            self.lose(place, id);
+            return Raised::Lost;
+        }
+        self.expire(place, id);
+        if count > 0 {
+            return Raised::More;
+        }
+        self.publish();
+        Raised::First
+    }
+
+    fn mark(&mut self, id: CyclicId) -> u32 {
+        let place = self.place_of(id);
+        let count = self.table[place].count;
+        self.begin_removal(id);
+        count
+    }
+
+    fn poll_clear(&mut self, id: CyclicId) -> Option<Sent> {
+        let place = self.place_of(id);
+        let entry = self.table[place];
+        if entry.count > 0 {
+            return None;
+        }
+        self.end_stay(place, id);
+        Some(Sent {
+            sent: entry.sent,
+            lost: entry.lost,
+        })
+    }
+
+    fn expand(&mut self, bank: u8) {
+        self.switch_to(bank);
+    }
+
+    fn followed(&mut self) -> bool {
+        self.hard_bank == self.soft_bank
+    }
+
+    fn sent(&self, id: CyclicId) -> Sent {
+        let place = self.place_of(id);
+        let entry = self.table[place];
+        Sent {
+            sent: entry.sent,
+            lost: entry.lost,
+        }
+    }
+}
