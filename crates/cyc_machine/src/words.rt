@@ -1,0 +1,37 @@
+ghost use Rattle.std.specs.Prelude.{◌≡◌, length, OnOk};
+
+use crate::fault::Fault;
+use clap::{Arg, ArgAction};
+use std::alloc::Global;
+
+/// What the program is asked to do.
+#[derive(Clone, Copy, Debug, Drop, PartialEq, Eq)]
+pub enum Command {
+    /// Replay a script on one thread.
+    Replay,
+}
+
+/// The command that the program's words ask for, without the program's own name.
+///
+/// It is `Fault::Words` for all but the one word `replay`, which is exact: an option and a `--` before it are wrong words
+/// too. It is `Fault::Memory` only where memory was refused, which the parser takes.
+pub fn command_of(alloc: Global, words: &[&str]) -> Result<Command, Fault>
+    ensures { OnOk result (length words.now ≡ 1) }
+{
+    if words.len() != 1 {
+        return Err(Fault::Words);
+    }
+    let word = Arg::new(alloc, "command")
+        .required(true)
+        .action(ArgAction::Set);
+    let command = clap::Command::new(alloc, "cyclic")
+        .no_binary_name(true)
+        .disable_help_flag(true)
+        .disable_version_flag(true)
+        .arg(word)?;
+    let matches = command.try_get_matches_from(words)?;
+    match matches.get_str("command") {
+        Some("replay") => Ok(Command::Replay),
+        _ => Err(Fault::Words),
+    }
+}
