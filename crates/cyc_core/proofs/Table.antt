@@ -4,6 +4,7 @@ use Rattle.std.specs.List.{insert, remove}
 use Rattle.std.specs.List.Sorted.{IsSearchInRange, IsBinarySearchResult, IsNonDecreasingBy}
 use Rattle.std.specs.Ordering.{nat_cmp, ordering_index}
 use Rattle.std.proofs.lemmas.Cmp.{ranked}
+use Rattle.std.proofs.lemmas.List.{get_or_default}
 use Rattle.std.proofs.lemmas.List.Sorted.{IsNonDecreasingBy-from_default}
 use Rattle.std.proofs.lemmas.List.Edits.{length-insert, get_or-insert_below, get_or-insert_at, get_or-insert_above, length-remove, get_or-remove_below, get_or-remove_above}
 use Rattle.std.proofs.lemmas.Bool.Decides.{nat_tests}
@@ -77,6 +78,10 @@ module _ (xs : List Admitted) (ordered : IsOrdered xs) (id : ℕ) where
       greater_after = λ j d le less. ranked _ id _ (sym ((parted comparisons_rise).1 j d le less));
     };
   }
+
+-- the entry at a place is that of its id
+pub is_at_place : (xs : List Admitted) (place : ℕ) (d : Admitted) → place < length xs → IsAt xs (get_or xs place d).id place
+is_at_place xs place d in_range = record { in_range = in_range; has_id = λ e. ap (λ (x : Admitted). x.id) (get_or_default xs place e d in_range) }
 
 module _ (xs : List Admitted) (ordered : IsOrdered xs) (id place : ℕ) (at : IsAt xs id place) where
   no_id_before_place : NoIdBefore xs id place

@@ -1,0 +1,25 @@
+use Rattle.std.proofs.Common.{◌≡◌, ◌≢◌, ◌<◌, ◌≤◌, ℕ, List, [], ap, arith, refl, subst, sym, ◌∙◌, Some, None, vec_capacity, vec_len}
+use Rattle.cyc_level.specs.declared.Event.TheVariants.{Admit, Expire, Lose, Publish, Take, Finish, Mark, Clear, Switch, Follow}
+use Rattle.cyc_level.specs.Level.{Level, Cyclic, count}
+use Rattle.cyc_level.specs.Events.{after, most_sent, Enabled}
+use Rattle.cyc_level.specs.Lawful.{Lawful}
+use Rattle.cyc_core.specs.Tables.{Tables, level_of, IsAt, IsGap, lookup}
+use Rattle.cyc_core.specs.Shown.{shown}
+use Rattle.cyc_core.proofs.Room.{publish_room}
+use Rattle.cyc_core.proofs.Changes.{level_publish, sound_by, reached_lawful}
+use Rattle.cyc_core.proofs.level_core.LevelCore.publish.Goals as goal
+
+pub push_back_reserved-requires : goal.push_back_reserved-requires
+push_back_reserved-requires c =
+    let t = shown c.self.inside in
+    let fits = publish_room t c.self.invariant.ordered (reached_lawful (level_of t) c.self.invariant.reached) c.in-Some.id c.in-Some.is in
+    let room = c.self.invariant.new_room in
+    omega (arith, fits, room)
+
+pub invariant_of-self : goal.invariant_of-self
+invariant_of-self c =
+    let t = shown c.self.inside in
+    let may = rw (← c.self.view_is) at c.requires in
+    let pushed = c.push_back_reserved.ensures in
+    let made = (λ z. record (level_of t) { firer_hand = None; new_list = pushed.items z }) ∙ level_publish t c.in-Some.id c.in-Some.is in
+    sound_by c.self.inside _ Publish c.self.invariant may made c.self.invariant.ordered (omega arith) (omega arith) (omega (arith, pushed.capacity))

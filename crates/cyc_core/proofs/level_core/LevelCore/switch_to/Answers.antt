@@ -1,0 +1,28 @@
+use Rattle.std.proofs.Common.{◌≡◌, ◌≢◌, ◌<◌, ◌≤◌, ℕ, List, [], ap, arith, refl, subst, sym, ◌∙◌, Some, None, vec_capacity, vec_len}
+use Rattle.cyc_level.specs.declared.Event.TheVariants.{Admit, Expire, Lose, Publish, Take, Finish, Mark, Clear, Switch, Follow}
+use Rattle.cyc_level.specs.Level.{Level, Cyclic, count}
+use Rattle.cyc_level.specs.Events.{after, most_sent, Enabled}
+use Rattle.cyc_level.specs.Lawful.{Lawful}
+use Rattle.cyc_core.specs.Tables.{Tables, level_of, IsAt, IsGap, lookup}
+use Rattle.cyc_core.specs.Shown.{shown}
+use Rattle.std.specs.VecDeque.{deque_capacity}
+use Rattle.cyc_core.proofs.Changes.{level_switch, sound_roomy, reached_lawful}
+use Rattle.cyc_core.proofs.level_core.LevelCore.switch_to.Goals as goal
+
+pub invariant_of-self : goal.invariant_of-self
+invariant_of-self c =
+    let t = shown c.self.inside in
+    let may = rw (← c.self.view_is) at c.requires in
+    let old : c.swap.new.x.items ≡ t.new_list = ap (λ d. d.items) c.swap.ensures.x_after in
+    let new : c.swap.new.y.items ≡ [] = ap (λ d. d.items) c.swap.ensures.y_after ∙ (reached_lawful (level_of t) c.self.invariant.reached).old_empty may.1 in
+    let old_room : 256 ≤ deque_capacity c.swap.new.x = subst (λ d. 256 ≤ deque_capacity d) (sym c.swap.ensures.x_after) c.self.invariant.new_room in
+    let new_room : 256 ≤ deque_capacity c.swap.new.y = subst (λ d. 256 ≤ deque_capacity d) (sym c.swap.ensures.y_after) c.self.invariant.old_room in
+    sound_roomy c.self.inside _ (Switch c.args.bank) c.self.invariant may (level_switch t c.args.bank _ _ old new) c.self.invariant.ordered c.self.invariant.table_room old_room new_room
+
+pub returns : goal.returns
+returns c =
+    let t = shown c.self.inside in
+    let may = rw (← c.self.view_is) at c.requires in
+    let old : c.swap.new.x.items ≡ t.new_list = ap (λ d. d.items) c.swap.ensures.x_after in
+    let new : c.swap.new.y.items ≡ [] = ap (λ d. d.items) c.swap.ensures.y_after ∙ (reached_lawful (level_of t) c.self.invariant.reached).old_empty may.1 in
+    rw (← c.self.view_is) (level_switch t c.args.bank _ _ old new)
