@@ -1,11 +1,11 @@
 -- A run of a level: a list of events, the newest first. What it says of each side and of each id.
-use Rattle.std.specs.Prelude.{◌≡◌, ℕ, ◌+◌, ◌==◌, if◌then◌else◌, Bool, true, false, List, [], ◌∷◌}
+use Rattle.std.specs.Prelude.{◌≡◌, ℕ, ◌+◌, ◌-◌, ◌==◌, if◌then◌else◌, ⊤, Bool, true, false, Option, Some, None, List, [], ◌∷◌, ◌++◌}
 use Rattle.cyc_level.specs.declared.Event.{Event}
 use Rattle.cyc_level.specs.declared.Event.TheVariants.{Admit, Expire, Lose, Publish, Take, Finish, Mark, Clear, Switch, Follow}
-use Rattle.cyc_level.specs.Level.{Level, in_hand, count}
-use Rattle.cyc_level.specs.Events.{reached, AllEnabled}
+use Rattle.cyc_level.specs.Level.{in_hand, count}
+use Rattle.cyc_level.specs.Events.{reached}
 
--- whether an event is one of the soft side (cyclic_softint), and not of the firing side (cyclic_fire and the calls across CPUs)
+-- whether an event is one of the soft side (cyclic_softint), and not of the firing side (cyclic_fire, and the calls across CPUs)
 abbrev pub is_soft_event : Event → Bool
 is_soft_event (Admit id index) = false
 is_soft_event (Expire id) = false
@@ -41,6 +41,47 @@ losses id [] = 0
 losses id (Lose a ∷ es) = (if id == a then 1 else 0) + losses id es
 losses id (_ ∷ es) = losses id es
 
+-- a stay, as its firing side knows it: the index, and the expirations with those of them that were lost
+pub record StayCounts : Type 0 where
+  pub index : ℕ
+  pub sent : ℕ
+  pub lost : ℕ
+
+-- one more expiration, of which this many are lost
+abbrev pub one_more : ℕ → Option StayCounts → Option StayCounts
+one_more lost None = None
+one_more lost (Some s) = Some record { index = s.index; sent = s.sent + 1; lost = s.lost + lost }
+
+-- the stay of an id that has not ended
+abbrev pub current_stay : ℕ → List Event → Option StayCounts
+current_stay id [] = None
+current_stay id (Admit a index ∷ es) = if id == a then Some record { index = index; sent = 0; lost = 0 } else current_stay id es
+current_stay id (Expire a ∷ es) = if id == a then one_more 0 (current_stay id es) else current_stay id es
+current_stay id (Lose a ∷ es) = if id == a then one_more 1 (current_stay id es) else current_stay id es
+current_stay id (Clear a ∷ es) = if id == a then None else current_stay id es
+current_stay id (_ ∷ es) = current_stay id es
+
+abbrev pub stay_list : Option StayCounts → List StayCounts
+stay_list None = []
+stay_list (Some s) = s ∷ []
+
+-- the stays of an id that have ended, the newest first
+abbrev pub past_stays : ℕ → List Event → List StayCounts
+past_stays id [] = []
+past_stays id (Clear a ∷ es) = if id == a then stay_list (current_stay id es) ++ past_stays id es else past_stays id es
+past_stays id (_ ∷ es) = past_stays id es
+
+-- the expirations of a stay that were not lost
+abbrev pub stay_calls : Option StayCounts → ℕ
+stay_calls None = 0
+stay_calls (Some s) = s.sent - s.lost
+
+-- the calls of the stays of an id that have ended
+abbrev pub past_calls : ℕ → List Event → ℕ
+past_calls id [] = 0
+past_calls id (Clear a ∷ es) = if id == a then past_calls id es + stay_calls (current_stay id es) else past_calls id es
+past_calls id (_ ∷ es) = past_calls id es
+
 module _ (ceiling id : ℕ) where
   -- how many calls of the id were finished, in all its stays
   abbrev pub finishes : List Event → ℕ
@@ -56,11 +97,19 @@ module _ (ceiling id : ℕ) where
   stay_finishes (_ ∷ es) = stay_finishes es
 
   -- how many were finished in each stay that has ended, the newest first
-  abbrev pub ended_finishes : List Event → List ℕ
-  ended_finishes [] = []
-  ended_finishes (Clear a ∷ es) = if id == a then stay_finishes es ∷ ended_finishes es else ended_finishes es
-  ended_finishes (_ ∷ es) = ended_finishes es
+  abbrev pub past_finishes : List Event → List ℕ
+  past_finishes [] = []
+  past_finishes (Clear a ∷ es) = if id == a then stay_finishes es ∷ past_finishes es else past_finishes es
+  past_finishes (_ ∷ es) = past_finishes es
 
--- over all stays of each id, admitted or not, the expirations are the finished calls, the outstanding ones and the losses
-abbrev pub IsConservedOverStays : ℕ → List Event → Type 0
-IsConservedOverStays ceiling es = (id : ℕ) → expirations id es ≡ finishes ceiling id es + count (reached ceiling es) id + losses id es
+-- of each ended stay the expirations are its finishes and its losses
+abbrev pub AreFinished : List StayCounts → List ℕ → Type 0
+AreFinished [] [] = ⊤
+AreFinished (s ∷ stays) (done ∷ finishes) = (s.sent ≡ done + s.lost) × AreFinished stays finishes
+AreFinished [] (done ∷ finishes) = ⊥
+AreFinished (s ∷ stays) [] = ⊥
+
+-- over all stays of an id, admitted or not, its expirations are the finished calls, the outstanding ones and the losses; and each ended stay has no call outstanding
+pub record IsConservedOverStays (ceiling : ℕ) (es : List Event) (id : ℕ) : Type 0 where
+  pub total : expirations id es ≡ finishes ceiling id es + count (reached ceiling es) id + losses id es
+  pub ended : AreFinished (past_stays id es) (past_finishes ceiling id es)

@@ -10,6 +10,7 @@ ghost use Rattle.cyc_level.specs.Level.{Level};
 ghost use Rattle.cyc_level.specs.Lawful.{Lawful};
 ghost use Rattle.cyc_level.specs.Events.{Enabled, after, reached, AllEnabled};
 ghost use Rattle.cyc_level.specs.Conservation.{IsConserved};
+ghost use Rattle.cyc_level.specs.Runs.{IsConservedOverStays};
 
 use cyc_types::{CyclicId, Index};
 
@@ -56,4 +57,10 @@ pub fn every_reached_level_is_lawful()
 /// id with calls outstanding stands in exactly one place; no list is longer than its bank.
 pub fn conservation()
     ensures { (ceiling : ℕ) (events : List AnEvent) → AllEnabled ceiling events → IsConserved (reached ceiling events) }
+{}
+
+/// In every run, and for every id, admitted or not: the expirations of all its stays are the finished calls, the outstanding
+/// ones and the losses; and of each stay that has ended the expirations are its finished calls and its losses.
+pub fn conservation_over_stays()
+    ensures { (ceiling : ℕ) (events : List AnEvent) → AllEnabled ceiling events → (id : ℕ) → IsConservedOverStays ceiling events id }
 {}

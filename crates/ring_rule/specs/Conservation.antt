@@ -1,18 +1,18 @@
 -- The conservation theorem between any two atomic steps of a ring.
-use Rattle.std.specs.Prelude.{◌≡◌, ℕ, ◌+◌, ◌%◌, ◌≤◌, Option, Some, None, List, [], ◌∷◌, slice_index, ⊤}
+use Rattle.std.specs.Prelude.{◌≡◌, ℕ, ◌+◌, ◌%◌, ◌≤◌, Option, Some, None, List, slice_index}
 use mathlib.Core.Option.{some}
 use lib.ListN.{get_elem?}
 use Rattle.cyc_level.specs.declared.Event.{Event}
 use Rattle.cyc_level.specs.Lawful.{Lawful}
 use Rattle.cyc_level.specs.Events.{reached, AllEnabled}
-use Rattle.cyc_level.specs.Runs.{firing_events, soft_events, ended_finishes}
+use Rattle.cyc_level.specs.Runs.{StayCounts, firing_events, soft_events, past_finishes, AreFinished}
 use Rattle.cyc_level.specs.Conservation.{IsConserved}
 use Rattle.ring_rule.specs.declared.RaiseStep.{RaiseStep}
 use Rattle.ring_rule.specs.declared.DrainStep.{DrainStep}
 use Rattle.ring_rule.specs.declared.SeatView.{SeatView}
 use Rattle.ring_rule.specs.declared.Setting.{Setting}
 use Rattle.ring_rule.specs.Words.{mark_bit}
-use Rattle.ring_rule.specs.Trail.{StayCounts, open_stay, ended_stays, ended_calls, raises_of, losses_of, seen_pend, made_calls, raise_events, drain_events}
+use Rattle.ring_rule.specs.Trail.{open_stay, ended_stays, ended_calls, raises_of, losses_of, seen_pend, made_calls, raise_events, drain_events}
 use Rattle.ring_rule.specs.Shown.{Shows}
 use Rattle.ring_rule.specs.Rule.{RingState, HasItsTrail}
 
@@ -31,13 +31,6 @@ abbrev pub IsAccounted : List RaiseStep → List DrainStep → Type 0
 IsAccounted raise_trail drain_trail = (id : ℕ) → (pend : ℕ) × IsPending pend (seen_pend id raise_trail) (open_stay id raise_trail)
     × (made_calls id drain_trail + pend + losses_of id raise_trail ≡ raises_of id raise_trail)
 
--- of each ended stay the expirations are its finishes and its losses
-abbrev pub AreFinished : List StayCounts → List ℕ → Type 0
-AreFinished [] [] = ⊤
-AreFinished (s ∷ stays) (done ∷ finishes) = (s.sent ≡ done + s.lost) × AreFinished stays finishes
-AreFinished [] (done ∷ finishes) = ⊥
-AreFinished (s ∷ stays) [] = ⊥
-
 -- a run of enabled events, those of each side in the order of its trail, leads to the level that words and trails show; it is lawful, and no call of it is forgotten
 pub record LevelStands (k : Setting) (words : List ℕ) (raise_trail : List RaiseStep) (drain_trail : List DrainStep) : Type 0 where
   pub events : List Event
@@ -49,7 +42,7 @@ pub record LevelStands (k : Setting) (words : List ℕ) (raise_trail : List Rais
   pub conserved : IsConserved (reached k.ceiling events)
   pub booked : IsBooked words raise_trail drain_trail
   pub accounted : IsAccounted raise_trail drain_trail
-  pub finished : (id : ℕ) → AreFinished (ended_stays id raise_trail) (ended_finishes k.ceiling id events)
+  pub finished : (id : ℕ) → AreFinished (ended_stays id raise_trail) (past_finishes k.ceiling id events)
 
 -- such a level stands now, with the trail of this seat's side
 abbrev pub StandsFor : Setting → SeatView → Type 0

@@ -4,7 +4,6 @@ use mathlib.Core.Option.{some}
 use lib.ListN.{get_elem?}
 use Rattle.atomic_table.specs.Table.{State}
 use Rattle.cyc_level.specs.declared.Event.{Event}
-use Rattle.cyc_level.specs.Level.{Level}
 use Rattle.cyc_level.specs.Events.{reached, AllEnabled}
 use Rattle.cyc_level.specs.Runs.{firing_events, soft_events}
 use Rattle.ring_rule.specs.declared.Role.{Role}
@@ -13,7 +12,7 @@ use Rattle.ring_rule.specs.declared.RaiseStep.{RaiseStep}
 use Rattle.ring_rule.specs.declared.DrainStep.{DrainStep}
 use Rattle.ring_rule.specs.declared.SeatView.{SeatView}
 use Rattle.ring_rule.specs.declared.Setting.{Setting}
-use Rattle.ring_rule.specs.Words.{word_count}
+use Rattle.ring_rule.specs.Words.{mark_bit, index_range, word_count}
 use Rattle.ring_rule.specs.Trail.{raise_events, drain_events}
 use Rattle.ring_rule.specs.Shown.{Shows, StillHolds}
 
@@ -61,6 +60,7 @@ pub record MeetsRule (k : Setting) (s : RingState) : Type 0 where
   pub raise_seat : ℕ
   pub drain_seat : ℕ
   pub events : List Event
+  pub fits : (k.ceiling < mark_bit) × (k.start < index_range)
   pub wide : length s.words ≡ word_count
   pub some_seat : (raise_seat < length s.views) × (drain_seat < length s.views)
   pub seats : (j : ℕ) (v : SeatView) → get_elem? s.views j ≡ some v → IsSeat raise_trail drain_trail raise_seat drain_seat j v v.role

@@ -1,11 +1,12 @@
 -- The level that the words and the two trails show.
-use Rattle.std.specs.Prelude.{◌≡◌, ◌≢◌, ℕ, ◌+◌, ◌*◌, ◌/◌, ◌%◌, ◌^◌, ◌<◌, ◌≤◌, ◌==◌, if◌then◌else◌, true, Option, Some, None, List, [], ◌∷◌, length, slice_index, ⊤}
+use Rattle.std.specs.Prelude.{◌≡◌, ◌≢◌, ℕ, ◌+◌, ◌*◌, ◌%◌, ◌<◌, ◌≤◌, ◌==◌, if◌then◌else◌, true, Option, Some, None, List, [], ◌∷◌, length, slice_index, ⊤}
 use Rattle.cyc_types.specs.Limits.{greatest_bank, cyclics}
 use Rattle.cyc_level.specs.Level.{Cyclic, Cyclics, Level, count, soft_list, in_hand}
+use Rattle.cyc_level.specs.Runs.{StayCounts}
 use Rattle.ring_rule.specs.declared.RaiseStep.{RaiseStep}
 use Rattle.ring_rule.specs.declared.DrainStep.{DrainStep}
 use Rattle.ring_rule.specs.Words.{mark_bit, index_range, place, producer_word, hard_word, soft_word, entry, entry_id, entry_index}
-use Rattle.ring_rule.specs.Trail.{StayCounts, open_stay, ended_calls, firer_hand_of, marked_of, seen_pend, hard_bank_of, producer_index, stored_entry, has_followed, held_entry, drainer_hand_of, made_calls, soft_bank_of, consumer_index, producer_seen, bank_seen}
+use Rattle.ring_rule.specs.Trail.{open_stay, ended_calls, firer_hand_of, marked_of, seen_pend, hard_bank_of, producer_index, stored_entry, has_followed, held_entry, drainer_hand_of, made_calls, soft_bank_of, consumer_index, producer_seen, bank_seen}
 
 -- the stay in the raise seat's trail is the level's. Of the finishes made, those of the stays that have ended are not this stay's
 abbrev pub IsSameStay : ℕ → ℕ → Option StayCounts → Option Cyclic → Type 0

@@ -1,68 +1,64 @@
 -- What the steps of a side show, read from its trail: the list of its seat's steps, the newest first, each with the value that it found.
-use Rattle.std.specs.Prelude.{ℕ, ◌+◌, ◌-◌, ◌%◌, ◌==◌, if◌then◌else◌, Bool, true, false, Option, Some, None, List, [], ◌∷◌, ◌++◌}
+use Rattle.std.specs.Prelude.{ℕ, ◌+◌, ◌%◌, ◌==◌, if◌then◌else◌, Bool, true, false, Option, Some, None, List, [], ◌∷◌, ◌++◌}
 use Rattle.cyc_level.specs.declared.Event.{Event}
 use Rattle.cyc_level.specs.declared.Event.TheVariants.{Admit, Expire, Lose, Publish, Take, Finish, Mark, Clear, Switch, Follow}
 use Rattle.cyc_level.specs.Level.{in_hand}
 use Rattle.cyc_level.specs.Events.{hand_after_expire, hand_after_finish}
+use Rattle.cyc_level.specs.Runs.{StayCounts, current_stay, past_stays, past_calls, expirations, losses}
 use Rattle.ring_rule.specs.declared.RaiseStep.{RaiseStep}
 use Rattle.ring_rule.specs.declared.RaiseStep.TheVariants.{Admitted, Loaded, Lost, Added, Stored, Published, Marked, Cleared, Switched, LoadedSoftBank}
 use Rattle.ring_rule.specs.declared.DrainStep.{DrainStep}
 use Rattle.ring_rule.specs.declared.DrainStep.TheVariants.{LoadedHardBank, LoadedProducer, Took, Subtracted, Followed}
 use Rattle.ring_rule.specs.Words.{mark_bit, entry_id}
 
--- what the raise seat keeps of a stay, from its admission on
-pub record StayCounts : Type 0 where
-  pub index : ℕ
-  pub sent : ℕ
-  pub lost : ℕ
+-- the event of the level that a step of the firing side is, or none
+abbrev pub raise_event : RaiseStep → List Event
+raise_event (Admitted id index) = Admit id index ∷ []
+raise_event (Loaded id found) = []
+raise_event (Lost id found) = Lose id ∷ []
+raise_event (Added id found) = Expire id ∷ []
+raise_event (Stored e) = []
+raise_event (Published next) = Publish ∷ []
+raise_event (Marked id found) = Mark id ∷ []
+raise_event (Cleared id) = Clear id ∷ []
+raise_event (Switched bank) = Switch bank ∷ []
+raise_event (LoadedSoftBank found) = []
 
--- one more expiration, of which this many are lost
-abbrev pub one_more : ℕ → Option StayCounts → Option StayCounts
-one_more lost None = None
-one_more lost (Some s) = Some record { index = s.index; sent = s.sent + 1; lost = s.lost + lost }
+-- the event of the level that a step of the soft side is, or none
+abbrev pub drain_event : DrainStep → List Event
+drain_event (LoadedHardBank found) = []
+drain_event (LoadedProducer found) = []
+drain_event (Took e) = Take ∷ []
+drain_event (Subtracted found) = Finish ∷ []
+drain_event (Followed bank) = Follow ∷ []
+
+abbrev pub raise_events : List RaiseStep → List Event
+raise_events [] = []
+raise_events (x ∷ t) = raise_event x ++ raise_events t
+
+abbrev pub drain_events : List DrainStep → List Event
+drain_events [] = []
+drain_events (x ∷ t) = drain_event x ++ drain_events t
 
 -- the stay of an id that has not ended
 abbrev pub open_stay : ℕ → List RaiseStep → Option StayCounts
-open_stay id [] = None
-open_stay id (Admitted a index ∷ t) = if id == a then Some record { index = index; sent = 0; lost = 0 } else open_stay id t
-open_stay id (Added a found ∷ t) = if id == a then one_more 0 (open_stay id t) else open_stay id t
-open_stay id (Lost a found ∷ t) = if id == a then one_more 1 (open_stay id t) else open_stay id t
-open_stay id (Cleared a ∷ t) = if id == a then None else open_stay id t
-open_stay id (_ ∷ t) = open_stay id t
-
-abbrev pub stay_list : Option StayCounts → List StayCounts
-stay_list None = []
-stay_list (Some s) = s ∷ []
+open_stay id t = current_stay id (raise_events t)
 
 -- the stays of an id that have ended, the newest first
 abbrev pub ended_stays : ℕ → List RaiseStep → List StayCounts
-ended_stays id [] = []
-ended_stays id (Cleared a ∷ t) = if id == a then stay_list (open_stay id t) ++ ended_stays id t else ended_stays id t
-ended_stays id (_ ∷ t) = ended_stays id t
-
--- the expirations of a stay that were not lost
-abbrev pub stay_calls : Option StayCounts → ℕ
-stay_calls None = 0
-stay_calls (Some s) = s.sent - s.lost
+ended_stays id t = past_stays id (raise_events t)
 
 -- the calls of the stays of an id that have ended
 abbrev pub ended_calls : ℕ → List RaiseStep → ℕ
-ended_calls id [] = 0
-ended_calls id (Cleared a ∷ t) = if id == a then ended_calls id t + stay_calls (open_stay id t) else ended_calls id t
-ended_calls id (_ ∷ t) = ended_calls id t
+ended_calls id t = past_calls id (raise_events t)
 
 -- the expirations of an id in all its stays
 abbrev pub raises_of : ℕ → List RaiseStep → ℕ
-raises_of id [] = 0
-raises_of id (Added a found ∷ t) = (if id == a then 1 else 0) + raises_of id t
-raises_of id (Lost a found ∷ t) = (if id == a then 1 else 0) + raises_of id t
-raises_of id (_ ∷ t) = raises_of id t
+raises_of id t = expirations id (raise_events t)
 
 -- those of them that were lost
 abbrev pub losses_of : ℕ → List RaiseStep → ℕ
-losses_of id [] = 0
-losses_of id (Lost a found ∷ t) = (if id == a then 1 else 0) + losses_of id t
-losses_of id (_ ∷ t) = losses_of id t
+losses_of id t = losses id (raise_events t)
 
 -- the firer's hand
 abbrev pub firer_hand_of : List RaiseStep → Option ℕ
@@ -157,32 +153,3 @@ abbrev pub bank_seen : List DrainStep → Option ℕ
 bank_seen (LoadedHardBank found ∷ t) = Some found
 bank_seen (LoadedProducer found ∷ t) = bank_seen t
 bank_seen _ = None
-
--- the event of the level that a step of the firing side is, or none
-abbrev pub raise_event : RaiseStep → List Event
-raise_event (Admitted id index) = Admit id index ∷ []
-raise_event (Loaded id found) = []
-raise_event (Lost id found) = Lose id ∷ []
-raise_event (Added id found) = Expire id ∷ []
-raise_event (Stored e) = []
-raise_event (Published next) = Publish ∷ []
-raise_event (Marked id found) = Mark id ∷ []
-raise_event (Cleared id) = Clear id ∷ []
-raise_event (Switched bank) = Switch bank ∷ []
-raise_event (LoadedSoftBank found) = []
-
--- the event of the level that a step of the soft side is, or none
-abbrev pub drain_event : DrainStep → List Event
-drain_event (LoadedHardBank found) = []
-drain_event (LoadedProducer found) = []
-drain_event (Took e) = Take ∷ []
-drain_event (Subtracted found) = Finish ∷ []
-drain_event (Followed bank) = Follow ∷ []
-
-abbrev pub raise_events : List RaiseStep → List Event
-raise_events [] = []
-raise_events (x ∷ t) = raise_event x ++ raise_events t
-
-abbrev pub drain_events : List DrainStep → List Event
-drain_events [] = []
-drain_events (x ∷ t) = drain_event x ++ drain_events t

@@ -3,7 +3,6 @@
 //! The definitions stand in `specs/`. They rest on the model of a level in `cyc_level`.
 #![tactic(auto)]
 
-ghost use Rattle.std.specs.Prelude.{◌^◌, ◌<◌};
 ghost use Rattle.ring_rule.specs.declared.Setting.{Setting as TheSetting};
 ghost use Rattle.ring_rule.specs.Rule.{RingState, MeetsRule, opening_view};
 ghost use Rattle.ring_rule.specs.Conservation.{Conserves};
@@ -87,5 +86,5 @@ impl TableRule<(), SeatView, Setting> for RingRule {
 /// outstanding ones and those lost; a cyclic with calls outstanding stands in exactly one place; no list is longer than its
 /// bank; the pend word of an unused index is 0; and each shown entry names an admitted id.
 pub fn conservation()
-    ensures { (k : TheSetting) (s : RingState) → k.ceiling < 2 ^ 32 → MeetsRule k s → Conserves k s }
+    ensures { (k : TheSetting) (s : RingState) → MeetsRule k s → Conserves k s }
 {}

@@ -1,0 +1,42 @@
+-- All that is known of a ring at one moment.
+use Rattle.std.proofs.Common.{◌≡◌, ℕ, ◌^◌, ◌<◌, ◌≤◌, eqb, Bool, true, cond, List, length, get_or, set, sym, refl, subst, pow_mono, arith, eq-eqb, ne_eqb}
+use lib.Seq.{set-get_or}
+use mathlib.Core.Logic.{dite}
+use native.Mathlib.Decide.{ℕ_discrete}
+use Rattle.std.specs.Prelude.{Some}
+use Rattle.cyc_level.specs.Level.{Cyclic, Level, soft_list}
+use Rattle.cyc_level.specs.Lawful.{Lawful}
+use Rattle.cyc_level.proofs.Keeps.{always_lawful, same_ceiling}
+use Rattle.ring_rule.specs.declared.RaiseStep.{RaiseStep}
+use Rattle.ring_rule.specs.declared.DrainStep.{DrainStep}
+use Rattle.ring_rule.specs.declared.Setting.{Setting}
+use Rattle.ring_rule.specs.Trail.{consumer_index}
+use Rattle.ring_rule.specs.Shown.{BankHolds, Shows, StillHolds}
+use Rattle.ring_rule.specs.Rule.{RingState, MeetsRule}
+use Rattle.ring_rule.proofs.Seats.{level}
+
+pub record RingNow (k : Setting) (ws : List ℕ) (rs : List RaiseStep) (ds : List DrainStep) (l : Level) : Type 0 where
+  pub small : k.ceiling < 2 ^ 32
+  pub wide : length ws ≡ 778
+  pub law : Lawful l
+  pub ceiling_is : l.ceiling ≡ k.ceiling
+  pub shows : Shows k.start ws rs ds l
+  pub still : StillHolds k.start ws rs ds l
+
+pub ring_now : (k : Setting) (s : RingState) (R : MeetsRule k s) → RingNow k s.words R.raise_trail R.drain_trail (level k s R)
+ring_now k s R = record { small = R.fits.0; wide = R.wide; law = always_lawful k.ceiling R.events R.enabled; ceiling_is = same_ceiling k.ceiling R.events; shows = R.shows; still = R.still }
+
+-- a load leaves the words
+pub loaded : (P : List ℕ → Type 0) (ws : List ℕ) (i : ℕ) → P ws → P (set ws i (get_or ws i 0))
+loaded P ws i h = subst P (sym (set-get_or ws i 0)) h
+
+module _ (k : Setting) (ws : List ℕ) (rs : List RaiseStep) (ds : List DrainStep) (l : Level) (N : RingNow k ws rs ds l) where
+  pub index_low : (id : ℕ) (c : Cyclic) → l.cyclics id ≡ Some c → c.index < 256
+  index_low id c e = let a = N.law.in_hard_bank id c e in let b = N.law.bank_bound in let p : 2 ^ l.hard_bank ≤ 2 ^ 8 = pow_mono {i = l.hard_bank} {j = 8} b in let q : 2 ^ 8 ≡ 256 = refl in omega (arith, a, p, q)
+
+  pub softs_held : BankHolds ws l.cyclics l.soft_bank (consumer_index k.start ds) (soft_list l)
+  softs_held = dite (ℕ_discrete l.hard_bank l.soft_bank)
+      (λ e. let b : eqb l.hard_bank l.soft_bank ≡ true = eq-eqb l.hard_bank l.soft_bank e in
+      subst (λ (x : ℕ × Bool). BankHolds ws l.cyclics x.0 (consumer_index k.start ds) (cond x.1 l.new_list l.old_list)) (λ z. (e z, sym b z))
+      (subst (λ x. BankHolds ws l.cyclics l.hard_bank (cond x (consumer_index k.start ds) k.start) l.new_list) b N.shows.new_held))
+      (λ ne. subst (λ x. BankHolds ws l.cyclics l.soft_bank (consumer_index k.start ds) (cond x l.new_list l.old_list)) (sym (ne_eqb l.hard_bank l.soft_bank ne)) (N.shows.old_held ne))

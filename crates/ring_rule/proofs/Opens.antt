@@ -1,0 +1,69 @@
+-- A ring that is opened keeps the rule.
+use Rattle.std.proofs.Common.{◌≡◌, ℕ, zero, suc, ◌+◌, ◌%◌, ◌^◌, ◌<◌, ◌≤◌, ltb, cond, List, [], ◌∷◌, length, get_or, sym, refl, ap, ◌∙◌, subst, arith, mod-eq_of_lt, lt-ltb, le-ltb}
+use mathlib.Core.Option.{some, some-injective, some-ne-none}
+use lib.ListN.{get_elem?}
+use Rattle.atomic_table.specs.Table.{opening}
+use Rattle.cyc_level.specs.Level.{empty_level}
+use Rattle.ring_rule.specs.declared.SeatView.{SeatView}
+use Rattle.ring_rule.specs.declared.Setting.{Setting}
+use Rattle.ring_rule.specs.Words.{first_word}
+use Rattle.ring_rule.specs.Shown.{Shows, StillHolds}
+use Rattle.ring_rule.specs.Rule.{opening_view, IsSeat, MeetsRule}
+
+module _ (k : Setting) (ws : List ℕ) (long : length ws ≡ 778) (all : (j : ℕ) → j < 778 → get_or ws j 0 ≡ first_word k.start j) (small : k.start < 2 ^ 32) (ceiling_fits : k.ceiling < 2 ^ 32) where
+  low : (j : ℕ) → j < 767 → get_or ws j 0 ≡ 0
+  low j h = all j (omega arith) ∙ ap (λ b. cond b 0 (cond (ltb j 776) k.start 0)) (lt-ltb j 767 h)
+
+  ends : (j : ℕ) → 767 ≤ j → j < 776 → get_or ws j 0 ≡ k.start % 2 ^ 32
+  ends j from to = all j (omega arith) ∙ (ap (λ b. cond b 0 (cond (ltb j 776) k.start 0)) (le-ltb j 767 from) ∙ (ap (λ b. cond b k.start 0) (lt-ltb j 776 to) ∙ sym (mod-eq_of_lt small)))
+
+  opened_shown : Shows k.start ws [] [] (empty_level k.ceiling)
+  opened_shown = record {
+    hard_is = refl;
+    soft_is = refl;
+    hard_shown = all 776 (omega arith);
+    soft_shown = all 777 (omega arith);
+    firer_is = refl;
+    drainer_is = refl;
+    marked_is = refl;
+    stays = λ j. refl;
+    pends = λ j c e. absurd (cc);
+    unused = λ j h _. low j (omega arith);
+    new_held = ends 767 (omega arith) (omega arith);
+    old_held = λ ne. absurd (ne refl);
+    produced = omega arith;
+  }
+
+  opened_learned : StillHolds k.start ws [] [] (empty_level k.ceiling)
+  opened_learned = record {
+    seen_is_enough = λ j. omega arith;
+    hand_stored = tt;
+    fresh = λ bank more most. ends (767 + bank) (omega arith) (omega arith);
+    held_is = λ e h. absurd (cc);
+    followed_is = λ _. refl;
+    bank_is = λ bank e. absurd (cc);
+    some_left = λ end e. absurd (cc);
+    none_left = λ end bank e. absurd (cc);
+  }
+
+  known : (j : ℕ) (v : SeatView) → get_elem? (opening_view ∷ []) j ≡ some v → IsSeat [] [] 0 0 j v v.role
+  known zero v e = subst (λ (v : SeatView). IsSeat [] [] 0 0 0 v v.role) (some-injective opening_view v e) (refl, refl, refl, refl)
+  known (suc j) v e = absurd (some-ne-none v (sym e))
+
+  pub opens : MeetsRule k (opening ws [] opening_view)
+  opens = record {
+    raise_trail = [];
+    drain_trail = [];
+    raise_seat = 0;
+    drain_seat = 0;
+    events = [];
+    fits = (ceiling_fits, small);
+    wide = long;
+    some_seat = (omega arith, omega arith);
+    seats = known;
+    enabled = tt;
+    firing_side = refl;
+    soft_side = refl;
+    shows = opened_shown;
+    still = opened_learned;
+  }

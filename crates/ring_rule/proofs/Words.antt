@@ -1,0 +1,52 @@
+-- Where the words of a ring lie, and which of them a write leaves as they were.
+use Rattle.std.proofs.Common.{◌≡◌, ℕ, ◌+◌, ◌%◌, ◌^◌, ◌<◌, ◌≤◌, List, [], ◌∷◌, length, get_or, sym, refl, ap, ◌∙◌, pow_mono, pow_pos, mod-lt, arith}
+use Rattle.std.specs.Prelude.{Option, Some, None}
+use Rattle.std.specs.Option.{option_map}
+use Rattle.cyc_level.specs.Level.{Cyclic, Cyclics}
+use Rattle.cyc_level.specs.Events.{changed_at}
+use Rattle.cyc_level.proofs.Maps.{at_cases}
+use Rattle.ring_rule.specs.Words.{place, producer_word, entry}
+use Rattle.ring_rule.specs.Shown.{HoldsEntry, BankHolds, IsHandStored}
+
+pub place_high : (bank i : ℕ) → 256 ≤ place bank i
+place_high bank i = let p : 0 < 2 ^ bank = pow_pos bank in omega (arith, p)
+
+pub place_low : (bank i : ℕ) → bank ≤ 8 → place bank i < 767
+place_low bank i h = let p : 0 < 2 ^ bank = pow_pos bank in let q : 2 ^ bank ≤ 2 ^ 8 = pow_mono {i = bank} {j = 8} h in
+    let r : i % 2 ^ bank < 2 ^ bank = mod-lt i p in let e : 2 ^ 8 ≡ 256 = refl in omega (arith, p, q, r, e)
+
+-- each map has the ids of the first, with their indexes
+abbrev pub Keeps : Cyclics → Cyclics → Type 0
+Keeps m m' = (id : ℕ) (c : Cyclic) → m id ≡ Some c → (d : Cyclic) × (m' id ≡ Some d) × (d.index ≡ c.index)
+
+pub keeps_all : (m : Cyclics) → Keeps m m
+keeps_all m id c e = (c, e, refl)
+
+pub keeps_option_map : (m : Cyclics) (id : ℕ) (f : Cyclic → Cyclic) → ((c : Cyclic) → (f c).index ≡ c.index) → Keeps m (changed_at m id (option_map f))
+keeps_option_map m id f same j c e = at_cases m id (option_map f) (λ k o. m k ≡ Some c → (d : Cyclic) × (o ≡ Some d) × (d.index ≡ c.index))
+    (λ h. (f c, ap (option_map f) h, same c)) (λ k _ h. (c, h, refl)) j e
+
+module _ (ws ws' : List ℕ) (m m' : Cyclics) (keeps : Keeps m m') where
+  pub entry_kept : (bank i id : ℕ) → get_or ws' (place bank i) 0 ≡ get_or ws (place bank i) 0 → HoldsEntry ws m bank i id → HoldsEntry ws' m' bank i id
+  entry_kept bank i id same h = let d = keeps id h.0 h.1 in (d.0, d.1, same ∙ (h.2 ∙ ap (entry id) (sym d.2)))
+
+  pub holds_kept : (bank : ℕ) (xs : List ℕ) (i : ℕ) → ((j : ℕ) → i ≤ j → j < i + length xs → get_or ws' (place bank j) 0 ≡ get_or ws (place bank j) 0)
+      → get_or ws' (producer_word bank) 0 ≡ get_or ws (producer_word bank) 0 → BankHolds ws m bank i xs → BankHolds ws' m' bank i xs
+  holds_kept bank [] i same end h = end ∙ h
+  holds_kept bank (x ∷ xs) i same end h = (
+    entry_kept bank i x (same i (omega arith) (omega arith)) h.0,
+    holds_kept bank xs (i + 1) (λ j a b. same j (omega arith) (omega arith)) end h.1,
+  )
+
+  pub stored_kept : (bank i : ℕ) (e h : Option ℕ) → get_or ws' (place bank i) 0 ≡ get_or ws (place bank i) 0 → IsHandStored ws m bank i e h → IsHandStored ws' m' bank i e h
+  stored_kept bank i None h same k = tt
+  stored_kept bank i (Some e) None same k = k
+  stored_kept bank i (Some e) (Some id) same k = entry_kept bank i id same k
+
+  -- the words from 256 on open_stay as they were
+  module _ (high : (j : ℕ) → 256 ≤ j → get_or ws' j 0 ≡ get_or ws j 0) where
+    pub holds_high : (bank : ℕ) (xs : List ℕ) (i : ℕ) → BankHolds ws m bank i xs → BankHolds ws' m' bank i xs
+    holds_high bank xs i = holds_kept bank xs i (λ j _ _. high (place bank j) (place_high bank j)) (high (producer_word bank) (omega arith))
+
+    pub stored_high : (bank i : ℕ) (e h : Option ℕ) → IsHandStored ws m bank i e h → IsHandStored ws' m' bank i e h
+    stored_high bank i e h = stored_kept bank i e h (high (place bank i) (place_high bank i))
