@@ -1,0 +1,28 @@
+-- How the answer of a function stands to what a definition gives: it is that, or memory ran out.
+use Rattle.std.specs.Prelude.{◌≡◌, ◌⊎◌, ℕ, Result, Ok, Err}
+use Rattle.cyc_types.specs.declared.refusal.Refusal.{Refusal}
+use Rattle.cyc_types.specs.declared.refusal.Refusal.TheVariants as refusal
+use Rattle.cyc_script.specs.declared.cause.Cause.{Cause}
+use Rattle.cyc_script.specs.declared.cause.Cause.TheVariants as cause
+
+-- the refusal of the step of this number
+abbrev pub refusal_at : ℕ → Cause → Refusal
+refusal_at step cause.Memory = refusal.Memory
+refusal_at step cause.Shape = refusal.ScriptShape step
+refusal_at step cause.NameTwice = refusal.NameTwice step
+refusal_at step cause.NoName = refusal.NoName step
+refusal_at step cause.TimeBack = refusal.TimeBack step
+
+-- the error is the wanted one, or memory
+abbrev pub Fails : {E Y : Type 0} → E → E → Result Y E → Type 0
+Fails memory error wanted = (error ≡ memory) ⊎ (wanted ≡ Err error)
+
+-- the answer, as `view` sees it, is the wanted one, or memory
+abbrev pub Gives : {X Y : Type 0} → (X → Y) → Result X Cause → Result Y Cause → Type 0
+Gives view (Ok x) wanted = wanted ≡ Ok (view x)
+Gives view (Err e) wanted = Fails cause.Memory e wanted
+
+-- the answer, as `view` sees it, is the wanted one, or memory
+abbrev pub Answers : {X Y : Type 0} → (X → Y) → Result X Refusal → Result Y Refusal → Type 0
+Answers view (Ok x) wanted = wanted ≡ Ok (view x)
+Answers view (Err e) wanted = Fails refusal.Memory e wanted

@@ -1,0 +1,8 @@
+pub mod Answers
+pub mod Names
+pub mod Orderly
+pub mod Parameters
+pub mod Script
+pub mod SoFar
+pub mod Steps
+pub mod Words

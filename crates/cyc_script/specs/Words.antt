@@ -1,0 +1,148 @@
+-- The eleven words of a step, each with its parameters (our own format).
+use Rattle.std.specs.Prelude.{ℕ, List, [], ◌∷◌, length, codes, Some, None, Result, Ok, Err, bytes_eq, if◌then◌else◌}
+use Rattle.serde_json.specs.Data.{Data, Items, no_items, item}
+use Rattle.serde_json.specs.Find.{as_str, as_array}
+use Rattle.cyc_script.specs.declared.cause.Cause.{Cause}
+use Rattle.cyc_script.specs.declared.cause.Cause.TheVariants.{Shape}
+use Rattle.cyc_script.specs.declared.step.Step.{Step}
+use Rattle.cyc_script.specs.declared.step.Step.TheVariants.{Add, Omni, Bind, Unbind, Reprogram, Remove, Softint, Juggle, Offline, Online}
+use Rattle.cyc_script.specs.Parameters.{shaped, name_of, level_of, soft_of, whole_of, moment_of, skew_of, word_of}
+use Rattle.cyc_script.specs.SoFar.{runs_word}
+
+-- a step whose name is still a text, so that the step is a function of the name's number
+pub data Form : Type 0 where
+  introduces : List ℕ → (ℕ → Step) → Form
+  refers : List ℕ → (ℕ → Step) → Form
+  advances : ℕ → Form
+  nameless : Step → Form
+
+-- a result, and then what is made of it
+infixl 10 ◌>>=◌
+abbrev pub ◌>>=◌ : {A B E : Type 0} → Result A E → (A → Result B E) → Result B E
+(Ok x) >>= f = f x
+(Err e) >>= f = Err e
+
+-- `add` name level start interval
+unfoldable pub add_of : List Data → Result Form Cause
+add_of (name ∷ level ∷ start ∷ interval ∷ []) = do
+  n ← name_of name
+  l ← level_of level
+  s ← whole_of start
+  i ← whole_of interval
+  Ok (introduces n (λ k. Add (record { name = k; level = l; start = s; interval = i })))
+add_of _ = Err Shape
+
+-- `omni` name level start interval skew
+unfoldable pub omni_of : List Data → Result Form Cause
+omni_of (name ∷ level ∷ start ∷ interval ∷ skew ∷ []) = do
+  n ← name_of name
+  l ← level_of level
+  s ← whole_of start
+  i ← whole_of interval
+  w ← skew_of skew
+  Ok (introduces n (λ k. Omni (record { name = k; level = l; start = s; interval = i; skew = w })))
+omni_of _ = Err Shape
+
+-- `bind` name cpu
+unfoldable pub bind_of : List Data → Result Form Cause
+bind_of (name ∷ cpu ∷ []) = do
+  n ← name_of name
+  c ← word_of cpu
+  Ok (refers n (λ k. Bind (record { name = k; cpu = c })))
+bind_of _ = Err Shape
+
+-- `unbind` name
+unfoldable pub unbind_of : List Data → Result Form Cause
+unbind_of (name ∷ []) = do
+  n ← name_of name
+  Ok (refers n Unbind)
+unbind_of _ = Err Shape
+
+-- `reprogram` name moment, and optionally cpu
+unfoldable pub reprogram_of : List Data → Result Form Cause
+reprogram_of (name ∷ moment ∷ []) = do
+  n ← name_of name
+  m ← whole_of moment
+  Ok (refers n (λ k. Reprogram (record { name = k; moment = m; cpu = None })))
+reprogram_of (name ∷ moment ∷ cpu ∷ []) = do
+  n ← name_of name
+  m ← whole_of moment
+  c ← word_of cpu
+  Ok (refers n (λ k. Reprogram (record { name = k; moment = m; cpu = Some c })))
+reprogram_of _ = Err Shape
+
+-- `remove` name
+unfoldable pub remove_of : List Data → Result Form Cause
+remove_of (name ∷ []) = do
+  n ← name_of name
+  Ok (refers n Remove)
+remove_of _ = Err Shape
+
+-- `advance` moment
+unfoldable pub advance_of : List Data → Result Form Cause
+advance_of (moment ∷ []) = do
+  m ← moment_of moment
+  Ok (advances m)
+advance_of _ = Err Shape
+
+-- `softint` cpu level budget
+unfoldable pub softint_of : List Data → Result Form Cause
+softint_of (cpu ∷ level ∷ budget ∷ []) = do
+  c ← word_of cpu
+  l ← soft_of level
+  b ← word_of budget
+  Ok (nameless (Softint (record { cpu = c; level = l; budget = b })))
+softint_of _ = Err Shape
+
+-- the CPU that is the only parameter
+unfoldable pub only_cpu : List Data → Result ℕ Cause
+only_cpu (cpu ∷ []) = word_of cpu
+only_cpu _ = Err Shape
+
+-- `juggle` cpu
+abbrev pub juggle_of : List Data → Result Form Cause
+juggle_of parts = only_cpu parts >>= λ cpu. Ok (nameless (Juggle cpu))
+
+-- `offline` cpu
+abbrev pub offline_of : List Data → Result Form Cause
+offline_of parts = only_cpu parts >>= λ cpu. Ok (nameless (Offline cpu))
+
+-- `online` cpu
+abbrev pub online_of : List Data → Result Form Cause
+online_of parts = only_cpu parts >>= λ cpu. Ok (nameless (Online cpu))
+
+-- the form of a step of this word
+unfoldable pub form_of : List ℕ → List Data → Result Form Cause
+form_of word parts = if bytes_eq word (codes "add") then add_of parts else
+    if bytes_eq word (codes "omni") then omni_of parts else
+    if bytes_eq word (codes "bind") then bind_of parts else
+    if bytes_eq word (codes "unbind") then unbind_of parts else
+    if bytes_eq word (codes "reprogram") then reprogram_of parts else
+    if bytes_eq word (codes "remove") then remove_of parts else
+    if bytes_eq word (codes "advance") then advance_of parts else
+    if bytes_eq word (codes "softint") then softint_of parts else
+    if bytes_eq word (codes "juggle") then juggle_of parts else
+    if bytes_eq word (codes "offline") then offline_of parts else
+    if bytes_eq word (codes "online") then online_of parts else Err Shape
+
+-- the items of an array as a list
+abbrev pub list_of : Items → List Data
+list_of no_items = []
+list_of (item d ds) = d ∷ list_of ds
+
+-- the form of a step of this word, where it runs so far
+unfoldable pub running_form_of : List ℕ → List Data → Result Form Cause
+running_form_of word parts = if runs_word word (length parts) then form_of word parts else Err Shape
+
+-- a word and its parameters
+unfoldable pub words_of : List Data → Result Form Cause
+words_of [] = Err Shape
+words_of (word ∷ parts) = do
+  w ← shaped (as_str word)
+  running_form_of w parts
+
+-- a step is an array of a word and its parameters
+unfoldable pub array_form : Data → Result Form Cause
+array_form d = do
+  items ← shaped (as_array d)
+  words_of (list_of items)

@@ -1,0 +1,18 @@
+//! Scripts of the cyclic subsystem, read from JSON.
+#![tactic(auto)]
+
+mod before;
+mod cause;
+mod name;
+mod names;
+mod parameters;
+mod reader;
+mod script;
+mod so_far;
+mod step;
+mod words;
+
+pub use name::Name;
+pub use reader::read_script;
+pub use script::Script;
+pub use step::{Add, Bind, Omni, Reprogram, Softint, Step};

@@ -1,0 +1,183 @@
+//! A script, from its bytes.
+
+ghost use Rattle.std.specs.Prelude.{◌≡◌, ◌≤◌, ◌<◌, ◌^◌, [], length, map, option_map, string_bytes, IfOk, IfSome, true};
+ghost use Rattle.std.specs.List.{list_all};
+ghost use Rattle.std.specs.BTreeMap.{keys};
+ghost use Rattle.serde_json.specs.View.{view};
+ghost use Rattle.cyc_script.specs.Answers.{Answers};
+ghost use Rattle.cyc_script.specs.Orderly.{names_fit, names_after_all, moments_fit};
+ghost use Rattle.cyc_script.specs.Script.{content, number_between, cpus_in, cpus_of, ceiling_of, few, values_of, is_key, has_keys, content_of, json_of, script_of};
+ghost use Rattle.cyc_script.specs.Steps.{steps_of, IsOrderly};
+
+use crate::before::Before;
+use crate::names::Names;
+use crate::script::Script;
+use crate::so_far::CPUS_SO_FAR;
+use crate::step::Step;
+use crate::{parameters, words};
+use cyc_types::{Ceiling, Refusal};
+use serde_json::{Map, Value};
+use std::alloc::Global;
+
+/// The most bytes that a script may have.
+const MOST_BYTES: usize = 16_777_216;
+
+/// The most steps that a script may have.
+const MOST_STEPS: usize = 65_536;
+
+/// The most CPUs that a script may have.
+const MOST_CPUS: u32 = 16;
+
+#[tactic(auto, unfolding(crate::specs::Script::is_key))]
+fn is_key(key: &str) -> bool
+    ensures { result ≡ is_key key.now }
+{
+    key == "cpus" || key == "ceiling" || key == "steps"
+}
+
+fn are_keys(map: &Map<String, Value>) -> bool
+    ensures { result ≡ list_all (λ key. is_key (string_bytes key)) (keys map.now) }
+{
+    map.keys().all(|key| is_key(key.as_str()))
+}
+
+/// Whether the value is an object with no key but those of a script.
+#[tactic(auto, using(crate::proofs::Lists::known_keys), unfolding(crate::specs::Script::has_keys))]
+fn has_keys(value: &Value) -> bool
+    ensures { result ≡ has_keys (view value.now) }
+{
+    match value.as_object() {
+        Some(map) => are_keys(map),
+        None => false,
+    }
+}
+
+/// A whole number from the least to the greatest.
+fn number_between(value: &Value, least: u32, most: u32) -> Option<u32>
+    ensures { result ≡ number_between least most (view value.now) }
+{
+    match parameters::number(value, u64::from(most)) {
+        Some(n) if n >= u64::from(least) && n <= u64::from(most) => Some(n as u32),
+        _ => None,
+    }
+}
+
+fn cpus_in(value: &Value) -> Option<u32>
+    ensures { result ≡ cpus_in (view value.now) }
+{
+    match number_between(value, 1, MOST_CPUS) {
+        Some(n) if n <= CPUS_SO_FAR => Some(n),
+        _ => None,
+    }
+}
+
+#[tactic(auto, unfolding(crate::specs::Script::cpus_of))]
+fn cpus(value: &Value) -> Option<u32>
+    ensures value { result ≡ cpus_of (view value.now) }
+    ensures range { IfSome result (λ cpus. (1 ≤ cpus) × (cpus ≤ 16)) }
+{
+    cpus_in(value.get("cpus")?)
+}
+
+#[tactic(auto, unfolding(crate::specs::Script::ceiling_of))]
+fn ceiling(value: &Value) -> Option<Ceiling>
+    ensures { result ≡ ceiling_of (view value.now) }
+{
+    let calls = match value.get("ceiling") {
+        Some(found) => number_between(found, 1, u32::MAX)?,
+        None => u32::MAX,
+    };
+    Ceiling::new(calls)
+}
+
+fn few(values: &[Value]) -> Option<&[Value]>
+    ensures value { option_map (λ values. map view values.now) result ≡ few (map view values.now) }
+    ensures most { IfSome result (λ values. length values.now ≤ 65536) }
+{
+    if values.len() > MOST_STEPS {
+        return None;
+    }
+    Some(values)
+}
+
+#[tactic(auto, using(crate::proofs::Lists::list_of_items_of), unfolding(crate::specs::Script::values_of))]
+fn values(value: &Value) -> Option<&[Value]>
+    ensures value { option_map (λ values. map view values.now) result ≡ values_of (view value.now) }
+    ensures most { IfSome result (λ values. length values.now ≤ 65536) }
+{
+    few(value.get("steps")?.as_array()?.as_slice())
+}
+
+/// The steps of the values, with the names that they introduce.
+fn steps(alloc: Global, values: &[Value]) -> Result<(Vec<Step>, Vec<String>), Refusal>
+    requires { length values.now ≤ 65536 }
+    ensures answers { Answers (λ read. (read.0.items, map string_bytes read.1.items)) result
+        (steps_of [] (record { names = []; moment = 0 }) (map view values.now)) }
+    ensures orderly { IfOk result (λ read. IsOrderly read.0.items (length read.1.items)) }
+{
+    let mut steps = Vec::with_capacity(alloc, values.len())?;
+    let mut before = Before {
+        names: Names::new(alloc),
+        moment: 0,
+    };
+    let mut number: u32 = 0;
+    for value in values {
+        number += 1;
+        match words::read_step(alloc, &mut before, value) {
+            Ok(step) => steps.push(step)?,
+            Err(cause) => return Err(cause.at(number)),
+        }
+    }
+    Ok((steps, before.names.into_texts()))
+}
+
+#[tactic(auto, unfolding(crate::specs::Script::content_of))]
+fn script_in(alloc: Global, value: &Value) -> Result<Script, Refusal>
+    ensures { Answers content result (content_of (view value.now)) }
+{
+    const SHAPE: Refusal = Refusal::ScriptShape(0);
+    if !has_keys(value) {
+        return Err(SHAPE);
+    }
+    let cpus = cpus(value).ok_or(SHAPE)?;
+    let ceiling = ceiling(value).ok_or(SHAPE)?;
+    let values = values(value).ok_or(SHAPE)?;
+    let (steps, names) = steps(alloc, values)?;
+    Ok(Script {
+        cpus,
+        ceiling,
+        names,
+        steps,
+    })
+}
+
+/// The JSON value of the bytes.
+#[tactic(auto, using(crate::proofs::Lists::is_utf8_text), unfolding(crate::specs::Script::json_of))]
+fn json(alloc: Global, bytes: &[u8]) -> Result<Value, Refusal>
+    ensures { Answers view result (json_of bytes.now) }
+{
+    let Ok(text) = str::from_utf8(bytes) else {
+        return Err(Refusal::ScriptSyntax);
+    };
+    Value::from_str(alloc, text).map_err(|error| if error.is_memory() {
+        Refusal::Memory
+    } else {
+        Refusal::ScriptSyntax
+    })
+}
+
+/// Reads a script from its JSON text. The refusals, in this order: `ScriptShape(0)` for more than 16,777,216 bytes;
+/// `ScriptSyntax` for bytes that are no JSON; `ScriptShape(0)` for an object that is no script; then the first
+/// faulty step decides, counted from 1, by `ScriptShape` for its form, `NameTwice` for a name that was introduced
+/// before, `NoName` for one that wasn't, `TimeBack` for a moment below the one before it. Takes memory for the
+/// value, the names and the steps; `Memory` where it is refused. Our own format.
+#[tactic(auto, unfolding(crate::specs::Script::script_of))]
+pub fn read_script(alloc: Global, bytes: &[u8]) -> Result<Script, Refusal>
+    ensures { Answers content result (script_of bytes.now) }
+{
+    if bytes.len() > MOST_BYTES {
+        return Err(Refusal::ScriptShape(0));
+    }
+    let value = json(alloc, bytes)?;
+    script_in(alloc, &value)
+}
