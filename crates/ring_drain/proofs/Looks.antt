@@ -1,0 +1,125 @@
+-- The soft side's loads of the hard bank and of a producer word are no events.
+use Rattle.std.proofs.Common.{◌≡◌, ℕ, ◌+◌, ◌%◌, ◌^◌, ◌≤◌, ◌≢◌, List, [], ◌∷◌, length, get_or, sym, refl, ap, ◌∙◌, subst, arith, pow_mono}
+use mathlib.Core.Option.{none}
+use Rattle.atomic_table.specs.Table.{step, keeps}
+use Rattle.cyc_level.specs.Level.{Cyclics, Level, soft_list}
+use Rattle.cyc_level.proofs.Maps.{some_same}
+use Rattle.cyc_level.proofs.Room.{roomy}
+use Rattle.ring_drain.specs.Allowed.{HardBankLoadIsAllowed, ProducerLoadIsAllowed}
+use Rattle.ring_rule.specs.declared.RaiseStep.{RaiseStep}
+use Rattle.ring_rule.specs.declared.DrainStep.{DrainStep}
+use Rattle.ring_rule.specs.declared.DrainStep.TheVariants.{LoadedHardBank, LoadedProducer}
+use Rattle.ring_rule.specs.declared.Setting.{Setting}
+use Rattle.ring_rule.specs.Words.{producer_word, hard_word}
+use Rattle.ring_rule.specs.Trail.{soft_bank_of, consumer_index}
+use Rattle.ring_rule.specs.Shown.{BankHolds, Shows, StillHolds}
+use Rattle.ring_rule.specs.Steps.{with_drain_step, TellsHardBank, TellsProducer}
+use Rattle.ring_rule.proofs.Seats.{level, drains, drain_stays}
+use Rattle.ring_rule.proofs.Now.{RingNow, ring_now, loaded, softs_held}
+use Rattle.ring_rule.proofs.Stands.{and_stands}
+
+holds_end : (ws : List ℕ) (m : Cyclics) (bank : ℕ) (xs : List ℕ) (i : ℕ) → BankHolds ws m bank i xs → get_or ws (producer_word bank) 0 ≡ (i + length xs) % 2 ^ 32
+holds_end ws m bank [] i h = h ∙ ap (λ (j : ℕ). j % 2 ^ 32) (let e : i ≡ i + 0 = omega arith in e)
+holds_end ws m bank (x ∷ xs) i h = holds_end ws m bank xs (i + 1) h.1 ∙ ap (λ (j : ℕ). j % 2 ^ 32) (let e : i + 1 + length xs ≡ i + length (x ∷ xs) = omega arith in e)
+
+empty_of : (xs : List ℕ) → length xs ≡ 0 → xs ≡ []
+empty_of [] e = refl
+empty_of (x ∷ xs) e = absurd (omega (arith, e))
+
+module _ (k : Setting) (ws : List ℕ) (rs : List RaiseStep) (ds : List DrainStep) (l : Level) (N : RingNow k ws rs ds l) where
+  abbrev C : ℕ
+  C = consumer_index k.start ds
+
+  some_in : (xs : List ℕ) → BankHolds ws l.cyclics l.soft_bank C xs → ¬ (get_or ws (producer_word l.soft_bank) 0 ≡ C % 2 ^ 32) → xs ≢ []
+  some_in [] h ne e = ne h
+  some_in (x ∷ xs) h ne e = absurd (cc)
+
+  none_in : ¬ (l.hard_bank ≡ l.soft_bank) → get_or ws (producer_word l.soft_bank) 0 ≡ C % 2 ^ 32 → l.old_list ≡ []
+  none_in apart e = let h = holds_end ws l.cyclics l.soft_bank l.old_list C (N.shows.old_held apart) in let b = N.law.soft_behind in let g = N.law.bank_bound in
+      let r = roomy l N.law (2 ^ l.soft_bank) l.old_list (λ id. omega arith) (λ id c x t. N.law.in_soft_bank id c x t) in
+      let p : 2 ^ l.soft_bank ≤ 2 ^ 8 = pow_mono {i = l.soft_bank} {j = 8} (omega (arith, b, g)) in let q : 2 ^ 8 ≡ 256 = refl in empty_of l.old_list (omega (arith, h, e, r, p, q))
+
+  pub ends_shown : (n : ℕ) → Shows k.start ws rs (LoadedProducer n ∷ ds) l
+  ends_shown n = let sh = N.shows in record {
+    hard_is = sh.hard_is;
+    soft_is = sh.soft_is;
+    hard_shown = sh.hard_shown;
+    soft_shown = sh.soft_shown;
+    firer_is = sh.firer_is;
+    drainer_is = sh.drainer_is;
+    marked_is = sh.marked_is;
+    stays = sh.stays;
+    pends = sh.pends;
+    unused = sh.unused;
+    new_held = sh.new_held;
+    old_held = sh.old_held;
+    produced = sh.produced;
+  }
+
+  pub ends_learned : StillHolds k.start ws rs (LoadedProducer (get_or ws (producer_word l.soft_bank) 0) ∷ ds) l
+  ends_learned = let le = N.still in record {
+    seen_is_enough = le.seen_is_enough;
+    hand_stored = le.hand_stored;
+    fresh = le.fresh;
+    held_is = le.held_is;
+    followed_is = le.followed_is;
+    bank_is = le.bank_is;
+    some_left = λ end e ne. some_in (soft_list l) (softs_held k ws rs ds l N) (λ x. ne (sym (some_same _ end e) ∙ x));
+    none_left = λ end bank e is saw ne. none_in (λ x. ne (le.bank_is bank saw ne ∙ x)) (some_same _ end e ∙ is);
+  }
+
+  pub banks_shown : (n : ℕ) → Shows k.start ws rs (LoadedHardBank n ∷ ds) l
+  banks_shown n = let sh = N.shows in record {
+    hard_is = sh.hard_is;
+    soft_is = sh.soft_is;
+    hard_shown = sh.hard_shown;
+    soft_shown = sh.soft_shown;
+    firer_is = sh.firer_is;
+    drainer_is = sh.drainer_is;
+    marked_is = sh.marked_is;
+    stays = sh.stays;
+    pends = sh.pends;
+    unused = sh.unused;
+    new_held = sh.new_held;
+    old_held = sh.old_held;
+    produced = sh.produced;
+  }
+
+  pub banks_learned : StillHolds k.start ws rs (LoadedHardBank (get_or ws hard_word 0) ∷ ds) l
+  banks_learned = let le = N.still in record {
+    seen_is_enough = le.seen_is_enough;
+    hand_stored = le.hand_stored;
+    fresh = le.fresh;
+    held_is = le.held_is;
+    followed_is = le.followed_is;
+    bank_is = λ bank e ne. sym (some_same _ bank e) ∙ N.shows.hard_shown;
+    some_left = λ end e. absurd (cc);
+    none_left = λ end bank e. absurd (cc);
+  }
+
+pub loads_producer : ProducerLoadIsAllowed
+loads_producer k slots seat me role i at_i = and_stands k slots seat me i (λ n. n) (TellsProducer (step slots i 0 0 none) me) (λ s R _ at _. let t : List DrainStep = R.drain_trail in let same : me.0.drain_trail ≡ t = (drains k s R seat me.0 at me.1 i 0 role).1 in let l : Level = level k s R in let N : RingNow k s.words R.raise_trail t l = ring_now k s R in
+    let here : producer_word l.soft_bank ≡ i = ap producer_word N.shows.soft_is ∙ (ap (λ (t : List DrainStep). producer_word (soft_bank_of t)) (sym same) ∙ sym at_i) in let n : ℕ = get_or s.words i 0 in (
+      with_drain_step (LoadedProducer n) me.0,
+      keeps,
+      tt,
+      drain_stays k s R seat me.0 at me.1 i n role (LoadedProducer n) refl
+          (loaded (λ x. Shows k.start x R.raise_trail (LoadedProducer n ∷ t) l) s.words i (ends_shown k s.words R.raise_trail t l N n))
+          (loaded (λ x. StillHolds k.start x R.raise_trail (LoadedProducer n ∷ t) l) s.words i (subst (λ (j : ℕ). StillHolds k.start s.words R.raise_trail (LoadedProducer (get_or s.words j 0) ∷ t) l) here (ends_learned k s.words R.raise_trail t l N))),
+      refl,
+    ))
+
+pub loads_hard_bank : HardBankLoadIsAllowed
+loads_hard_bank k slots seat me role = and_stands k slots seat me hard_word (λ n. n) (TellsHardBank (step slots hard_word 0 0 none) me) (λ s R _ at _. let t : List DrainStep = R.drain_trail in let same : me.0.drain_trail ≡ t = (drains k s R seat me.0 at me.1 hard_word 0 role).1 in let l : Level = level k s R in let N : RingNow k s.words R.raise_trail t l = ring_now k s R in let n : ℕ = get_or s.words hard_word 0 in (
+  with_drain_step (LoadedHardBank n) me.0,
+  keeps,
+  tt,
+  drain_stays k s R seat me.0 at me.1 hard_word n role (LoadedHardBank n) refl
+      (loaded (λ x. Shows k.start x R.raise_trail (LoadedHardBank n ∷ t) l) s.words hard_word (banks_shown k s.words R.raise_trail t l N n))
+      (loaded (λ x. StillHolds k.start x R.raise_trail (LoadedHardBank n ∷ t) l) s.words hard_word (banks_learned k s.words R.raise_trail t l N)),
+  (
+    (let x = N.shows.hard_shown in let y = N.shows.soft_is in let b = N.law.soft_behind in let z : soft_bank_of me.0.drain_trail ≡ soft_bank_of t = ap (soft_bank_of) same in omega (arith, x, y, b, z)),
+    (let x = N.shows.hard_shown in let b = N.law.bank_bound in omega (arith, x, b)),
+    refl,
+  ),
+))

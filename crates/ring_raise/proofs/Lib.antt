@@ -1,0 +1,5 @@
+pub mod Adds
+pub mod Admits
+pub mod Publishes
+pub mod RaiseLoads
+pub mod Stores
