@@ -1,6 +1,6 @@
 pub mod Answers
 pub mod Names
-pub mod Orderly
+pub mod WellFormed
 pub mod Parameters
 pub mod Script
 pub mod SoFar

@@ -1,5 +1,5 @@
 -- The parameters of a step, each from its JSON value (our own format).
-use Rattle.std.specs.Prelude.{ℕ, ◌&&◌, ◌||◌, ◌==◌, ℤ, pos, negsuc, List, length, codes, Bool, Option, Some, None, option_and_then, Result, Ok, Err, nat_le, bytes_eq, if◌then◌else◌}
+use Rattle.std.specs.Prelude.{ℕ, ◌-◌, ◌&&◌, ◌||◌, ◌==◌, ℤ, pos, negsuc, List, length, codes, Bool, Option, Some, None, option_and_then, Result, Ok, Err, nat_le, bytes_eq, if◌then◌else◌}
 use Rattle.std.specs.List.{list_all}
 use Rattle.serde_json.specs.Data.{Data}
 use Rattle.serde_json.specs.Find.{as_number, as_i64, as_str}
@@ -7,6 +7,7 @@ use Rattle.cyc_types.specs.declared.level.Level.{Level}
 use Rattle.cyc_types.specs.declared.level.Level.TheVariants as level
 use Rattle.cyc_types.specs.declared.level.Soft.{Soft}
 use Rattle.cyc_types.specs.declared.level.Soft.TheVariants as soft
+use Rattle.cyc_types.specs.Series.{never}
 use Rattle.cyc_script.specs.declared.cause.Cause.{Cause}
 use Rattle.cyc_script.specs.declared.cause.Cause.TheVariants.{Shape}
 use Rattle.cyc_script.specs.SoFar.{runs_level}
@@ -37,11 +38,11 @@ whole_of d = shaped (whole_in d)
 
 -- a moment of `advance`: below never
 abbrev pub moment_of : Data → Result ℕ Cause
-moment_of d = shaped (number_in 9223372036854775806 d)
+moment_of d = shaped (number_in (never - 1) d)
 
 -- the skew of `omni`
 abbrev pub skew_of : Data → Result ℕ Cause
-skew_of d = shaped (number_in 9223372036854775807 d)
+skew_of d = shaped (number_in never d)
 
 -- the number of a CPU, or a budget
 abbrev pub word_of : Data → Result ℕ Cause

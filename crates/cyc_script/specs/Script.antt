@@ -12,7 +12,7 @@ use Rattle.cyc_script.specs.declared.script.Script.{Script}
 use Rattle.cyc_script.specs.declared.step.Step.{Step}
 use Rattle.cyc_script.specs.Parameters.{number_in}
 use Rattle.cyc_script.specs.SoFar.{cpus_so_far}
-use Rattle.cyc_script.specs.Steps.{steps_of}
+use Rattle.cyc_script.specs.Steps.{first_context, steps_of}
 use Rattle.cyc_script.specs.Words.{list_of, ◌>>=◌}
 
 -- a script without where it lies in memory
@@ -54,12 +54,12 @@ unfoldable pub ceiling_of : Data → Option ℕ
 ceiling_of d = ceiling_in (get (codes "ceiling") d)
 
 -- at most 65,536 steps
-abbrev pub few : List Data → Option (List Data)
-few values = if nat_le (length values) 65536 then Some values else None
+abbrev pub within_limit : List Data → Option (List Data)
+within_limit values = if nat_le (length values) 65536 then Some values else None
 
 -- the values of the steps, which must be there
 unfoldable pub values_of : Data → Option (List Data)
-values_of d = option_and_then (λ items. few (list_of items)) (option_and_then as_array (get (codes "steps") d))
+values_of d = option_and_then (λ items. within_limit (list_of items)) (option_and_then as_array (get (codes "steps") d))
 
 -- a key that a script may have
 unfoldable pub is_key : List ℕ → Bool
@@ -80,7 +80,7 @@ content_of d = if has_keys d then (do
   cpus ← formed (cpus_of d)
   ceiling ← formed (ceiling_of d)
   values ← formed (values_of d)
-  read ← steps_of [] (record { names = []; moment = 0 }) values
+  read ← steps_of [] first_context values
   Ok (record { cpus = cpus; ceiling = ceiling; names = read.1; steps = read.0 })) else Err (ScriptShape 0)
 
 -- ---- the bytes

@@ -131,18 +131,18 @@ list_of no_items = []
 list_of (item d ds) = d ∷ list_of ds
 
 -- the form of a step of this word, where it runs so far
-unfoldable pub running_form_of : List ℕ → List Data → Result Form Cause
-running_form_of word parts = if runs_word word (length parts) then form_of word parts else Err Shape
+unfoldable pub form_so_far : List ℕ → List Data → Result Form Cause
+form_so_far word parts = if runs_word word (length parts) then form_of word parts else Err Shape
 
 -- a word and its parameters
-unfoldable pub words_of : List Data → Result Form Cause
-words_of [] = Err Shape
-words_of (word ∷ parts) = do
+unfoldable pub form_of_items : List Data → Result Form Cause
+form_of_items [] = Err Shape
+form_of_items (word ∷ parts) = do
   w ← shaped (as_str word)
-  running_form_of w parts
+  form_so_far w parts
 
 -- a step is an array of a word and its parameters
-unfoldable pub array_form : Data → Result Form Cause
-array_form d = do
+unfoldable pub form_of_value : Data → Result Form Cause
+form_of_value d = do
   items ← shaped (as_array d)
-  words_of (list_of items)
+  form_of_items (list_of items)

@@ -1,8 +1,8 @@
 //! Scripts of the cyclic subsystem, read from JSON.
 #![tactic(auto)]
 
-mod before;
 mod cause;
+mod context;
 mod name;
 mod names;
 mod parameters;

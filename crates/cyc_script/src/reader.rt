@@ -5,11 +5,11 @@ ghost use Rattle.std.specs.List.{list_all};
 ghost use Rattle.std.specs.BTreeMap.{keys};
 ghost use Rattle.serde_json.specs.View.{view};
 ghost use Rattle.cyc_script.specs.Answers.{Answers};
-ghost use Rattle.cyc_script.specs.Orderly.{names_fit, names_after_all, moments_fit};
-ghost use Rattle.cyc_script.specs.Script.{content, number_between, cpus_in, cpus_of, ceiling_of, few, values_of, is_key, has_keys, content_of, json_of, script_of};
-ghost use Rattle.cyc_script.specs.Steps.{steps_of, IsOrderly};
+ghost use Rattle.cyc_script.specs.WellFormed.{IsWellFormed};
+ghost use Rattle.cyc_script.specs.Script.{content, number_between, cpus_in, cpus_of, ceiling_of, within_limit, values_of, is_key, has_keys, content_of, json_of, script_of};
+ghost use Rattle.cyc_script.specs.Steps.{first_context, steps_of};
 
-use crate::before::Before;
+use crate::context::Context;
 use crate::names::Names;
 use crate::script::Script;
 use crate::so_far::CPUS_SO_FAR;
@@ -90,8 +90,8 @@ fn ceiling(value: &Value) -> Option<Ceiling>
     Ceiling::new(calls)
 }
 
-fn few(values: &[Value]) -> Option<&[Value]>
-    ensures value { option_map (λ values. map view values.now) result ≡ few (map view values.now) }
+fn within_limit(values: &[Value]) -> Option<&[Value]>
+    ensures value { option_map (λ values. map view values.now) result ≡ within_limit (map view values.now) }
     ensures most { IfSome result (λ values. length values.now ≤ 65536) }
 {
     if values.len() > MOST_STEPS {
@@ -105,30 +105,30 @@ fn values(value: &Value) -> Option<&[Value]>
     ensures value { option_map (λ values. map view values.now) result ≡ values_of (view value.now) }
     ensures most { IfSome result (λ values. length values.now ≤ 65536) }
 {
-    few(value.get("steps")?.as_array()?.as_slice())
+    within_limit(value.get("steps")?.as_array()?.as_slice())
 }
 
 /// The steps of the values, with the names that they introduce.
 fn steps(alloc: Global, values: &[Value]) -> Result<(Vec<Step>, Vec<String>), Refusal>
     requires { length values.now ≤ 65536 }
     ensures answers { Answers (λ read. (read.0.items, map string_bytes read.1.items)) result
-        (steps_of [] (record { names = []; moment = 0 }) (map view values.now)) }
-    ensures orderly { IfOk result (λ read. IsOrderly read.0.items (length read.1.items)) }
+        (steps_of [] first_context (map view values.now)) }
+    ensures well_formed { IfOk result (λ read. IsWellFormed read.0.items (length read.1.items)) }
 {
     let mut steps = Vec::with_capacity(alloc, values.len())?;
-    let mut before = Before {
+    let mut context = Context {
         names: Names::new(alloc),
         moment: 0,
     };
     let mut number: u32 = 0;
     for value in values {
         number += 1;
-        match words::read_step(alloc, &mut before, value) {
+        match words::read_step(alloc, &mut context, value) {
             Ok(step) => steps.push(step)?,
             Err(cause) => return Err(cause.at(number)),
         }
     }
-    Ok((steps, before.names.into_texts()))
+    Ok((steps, context.names.into_texts()))
 }
 
 #[tactic(auto, unfolding(crate::specs::Script::content_of))]

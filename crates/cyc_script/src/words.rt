@@ -3,21 +3,21 @@
 ghost use Rattle.std.specs.Prelude.{◌≡◌, ℕ, ◌<◌, ◌^◌, length, map, IfOk};
 ghost use Rattle.serde_json.specs.View.{view};
 ghost use Rattle.cyc_script.specs.Answers.{Gives};
-ghost use Rattle.cyc_script.specs.Steps.{Keeps, Reads, step_of};
-ghost use Rattle.cyc_script.specs.Words.{add_of, omni_of, bind_of, unbind_of, reprogram_of, remove_of, advance_of, softint_of, only_cpu, form_of, running_form_of, words_of};
+ghost use Rattle.cyc_script.specs.Steps.{Fits, Reads, step_of};
+ghost use Rattle.cyc_script.specs.Words.{add_of, omni_of, bind_of, unbind_of, reprogram_of, remove_of, advance_of, softint_of, only_cpu, form_of, form_so_far, form_of_items};
 
-use crate::before::Before;
 use crate::cause::Cause;
+use crate::context::Context;
 use crate::step::{Add, Bind, Omni, Reprogram, Softint, Step};
 use crate::{parameters, so_far};
 use serde_json::Value;
 use std::alloc::Global;
 
 #[tactic(auto, unfolding(crate::specs::Words::add_of))]
-fn add<'a>(alloc: Global, before: &mut Before<'a>, parts: &'a [Value]) -> Result<Step, Cause>
-    requires { length before.old.names < 2 ^ 32 }
-    ensures reads { Reads result before.old before.new (add_of (map view parts.now)) }
-    ensures keeps { IfOk result (λ step. Keeps before.old step before.new) }
+fn add<'a>(alloc: Global, context: &mut Context<'a>, parts: &'a [Value]) -> Result<Step, Cause>
+    requires { length context.old.names < 2 ^ 32 }
+    ensures reads { Reads result context.old context.new (add_of (map view parts.now)) }
+    ensures fits { IfOk result (λ step. Fits context.old step context.new) }
 {
     let [name, level, start, interval] = parts else {
         return Err(Cause::Shape);
@@ -26,7 +26,7 @@ fn add<'a>(alloc: Global, before: &mut Before<'a>, parts: &'a [Value]) -> Result
     let level = parameters::level(level)?;
     let start = parameters::whole(start)?;
     let interval = parameters::whole(interval)?;
-    let name = before.names.introduce(alloc, text)?;
+    let name = context.names.introduce(alloc, text)?;
     Ok(Step::Add(Add {
         name,
         level,
@@ -36,10 +36,10 @@ fn add<'a>(alloc: Global, before: &mut Before<'a>, parts: &'a [Value]) -> Result
 }
 
 #[tactic(auto, unfolding(crate::specs::Words::omni_of))]
-fn omni<'a>(alloc: Global, before: &mut Before<'a>, parts: &'a [Value]) -> Result<Step, Cause>
-    requires { length before.old.names < 2 ^ 32 }
-    ensures reads { Reads result before.old before.new (omni_of (map view parts.now)) }
-    ensures keeps { IfOk result (λ step. Keeps before.old step before.new) }
+fn omni<'a>(alloc: Global, context: &mut Context<'a>, parts: &'a [Value]) -> Result<Step, Cause>
+    requires { length context.old.names < 2 ^ 32 }
+    ensures reads { Reads result context.old context.new (omni_of (map view parts.now)) }
+    ensures fits { IfOk result (λ step. Fits context.old step context.new) }
 {
     let [name, level, start, interval, skew] = parts else {
         return Err(Cause::Shape);
@@ -49,7 +49,7 @@ fn omni<'a>(alloc: Global, before: &mut Before<'a>, parts: &'a [Value]) -> Resul
     let start = parameters::whole(start)?;
     let interval = parameters::whole(interval)?;
     let skew = parameters::skew(skew)?;
-    let name = before.names.introduce(alloc, text)?;
+    let name = context.names.introduce(alloc, text)?;
     Ok(Step::Omni(Omni {
         name,
         level,
@@ -60,35 +60,35 @@ fn omni<'a>(alloc: Global, before: &mut Before<'a>, parts: &'a [Value]) -> Resul
 }
 
 #[tactic(auto, unfolding(crate::specs::Words::bind_of))]
-fn bind(before: &Before<'_>, parts: &[Value]) -> Result<Step, Cause>
-    ensures reads { Reads result before.now before.now (bind_of (map view parts.now)) }
-    ensures keeps { IfOk result (λ step. Keeps before.now step before.now) }
+fn bind(context: &Context<'_>, parts: &[Value]) -> Result<Step, Cause>
+    ensures reads { Reads result context.now context.now (bind_of (map view parts.now)) }
+    ensures fits { IfOk result (λ step. Fits context.now step context.now) }
 {
     let [name, cpu] = parts else {
         return Err(Cause::Shape);
     };
     let text = parameters::name(name)?;
     let cpu = parameters::word(cpu)?;
-    let name = before.names.number(text)?;
+    let name = context.names.number(text)?;
     Ok(Step::Bind(Bind { name, cpu }))
 }
 
 #[tactic(auto, unfolding(crate::specs::Words::unbind_of))]
-fn unbind(before: &Before<'_>, parts: &[Value]) -> Result<Step, Cause>
-    ensures reads { Reads result before.now before.now (unbind_of (map view parts.now)) }
-    ensures keeps { IfOk result (λ step. Keeps before.now step before.now) }
+fn unbind(context: &Context<'_>, parts: &[Value]) -> Result<Step, Cause>
+    ensures reads { Reads result context.now context.now (unbind_of (map view parts.now)) }
+    ensures fits { IfOk result (λ step. Fits context.now step context.now) }
 {
     let [name] = parts else {
         return Err(Cause::Shape);
     };
     let text = parameters::name(name)?;
-    Ok(Step::Unbind(before.names.number(text)?))
+    Ok(Step::Unbind(context.names.number(text)?))
 }
 
 #[tactic(auto, unfolding(crate::specs::Words::reprogram_of))]
-fn reprogram(before: &Before<'_>, parts: &[Value]) -> Result<Step, Cause>
-    ensures reads { Reads result before.now before.now (reprogram_of (map view parts.now)) }
-    ensures keeps { IfOk result (λ step. Keeps before.now step before.now) }
+fn reprogram(context: &Context<'_>, parts: &[Value]) -> Result<Step, Cause>
+    ensures reads { Reads result context.now context.now (reprogram_of (map view parts.now)) }
+    ensures fits { IfOk result (λ step. Fits context.now step context.now) }
 {
     let (name, moment, cpu) = match parts {
         [name, moment] => (name, moment, None),
@@ -101,42 +101,42 @@ fn reprogram(before: &Before<'_>, parts: &[Value]) -> Result<Step, Cause>
         Some(cpu) => Some(parameters::word(cpu)?),
         None => None,
     };
-    let name = before.names.number(text)?;
+    let name = context.names.number(text)?;
     Ok(Step::Reprogram(Reprogram { name, moment, cpu }))
 }
 
 #[tactic(auto, unfolding(crate::specs::Words::remove_of))]
-fn remove(before: &Before<'_>, parts: &[Value]) -> Result<Step, Cause>
-    ensures reads { Reads result before.now before.now (remove_of (map view parts.now)) }
-    ensures keeps { IfOk result (λ step. Keeps before.now step before.now) }
+fn remove(context: &Context<'_>, parts: &[Value]) -> Result<Step, Cause>
+    ensures reads { Reads result context.now context.now (remove_of (map view parts.now)) }
+    ensures fits { IfOk result (λ step. Fits context.now step context.now) }
 {
     let [name] = parts else {
         return Err(Cause::Shape);
     };
     let text = parameters::name(name)?;
-    Ok(Step::Remove(before.names.number(text)?))
+    Ok(Step::Remove(context.names.number(text)?))
 }
 
 #[tactic(auto, unfolding(crate::specs::Words::advance_of))]
-fn advance(before: &mut Before<'_>, parts: &[Value]) -> Result<Step, Cause>
-    ensures reads { Reads result before.old before.new (advance_of (map view parts.now)) }
-    ensures keeps { IfOk result (λ step. Keeps before.old step before.new) }
+fn advance(context: &mut Context<'_>, parts: &[Value]) -> Result<Step, Cause>
+    ensures reads { Reads result context.old context.new (advance_of (map view parts.now)) }
+    ensures fits { IfOk result (λ step. Fits context.old step context.new) }
 {
     let [moment] = parts else {
         return Err(Cause::Shape);
     };
     let moment = parameters::moment(moment)?;
-    if moment < before.moment {
+    if moment < context.moment {
         return Err(Cause::TimeBack);
     }
-    before.moment = moment;
+    context.moment = moment;
     Ok(Step::Advance(moment))
 }
 
 #[tactic(auto, unfolding(crate::specs::Words::softint_of))]
-fn softint(before: &Before<'_>, parts: &[Value]) -> Result<Step, Cause>
-    ensures reads { Reads result before.now before.now (softint_of (map view parts.now)) }
-    ensures keeps { IfOk result (λ step. Keeps before.now step before.now) }
+fn softint(context: &Context<'_>, parts: &[Value]) -> Result<Step, Cause>
+    ensures reads { Reads result context.now context.now (softint_of (map view parts.now)) }
+    ensures fits { IfOk result (λ step. Fits context.now step context.now) }
 {
     let [cpu, level, budget] = parts else {
         return Err(Cause::Shape);
@@ -161,23 +161,23 @@ fn only_cpu(parts: &[Value]) -> Result<u32, Cause>
 #[tactic(auto, unfolding(crate::specs::Words::form_of))]
 fn step_of_word<'a>(
     alloc: Global,
-    before: &mut Before<'a>,
+    context: &mut Context<'a>,
     word: &str,
     parts: &'a [Value],
 ) -> Result<Step, Cause>
-    requires { length before.old.names < 2 ^ 32 }
-    ensures reads { Reads result before.old before.new (form_of word.now (map view parts.now)) }
-    ensures keeps { IfOk result (λ step. Keeps before.old step before.new) }
+    requires { length context.old.names < 2 ^ 32 }
+    ensures reads { Reads result context.old context.new (form_of word.now (map view parts.now)) }
+    ensures fits { IfOk result (λ step. Fits context.old step context.new) }
 {
     match word {
-        "add" => add(alloc, before, parts),
-        "omni" => omni(alloc, before, parts),
-        "bind" => bind(before, parts),
-        "unbind" => unbind(before, parts),
-        "reprogram" => reprogram(before, parts),
-        "remove" => remove(before, parts),
-        "advance" => advance(before, parts),
-        "softint" => softint(before, parts),
+        "add" => add(alloc, context, parts),
+        "omni" => omni(alloc, context, parts),
+        "bind" => bind(context, parts),
+        "unbind" => unbind(context, parts),
+        "reprogram" => reprogram(context, parts),
+        "remove" => remove(context, parts),
+        "advance" => advance(context, parts),
+        "softint" => softint(context, parts),
         "juggle" => Ok(Step::Juggle(only_cpu(parts)?)),
         "offline" => Ok(Step::Offline(only_cpu(parts)?)),
         "online" => Ok(Step::Online(only_cpu(parts)?)),
@@ -185,28 +185,32 @@ fn step_of_word<'a>(
     }
 }
 
-#[tactic(auto, using(crate::proofs::Lists::length_map), unfolding(crate::specs::Words::running_form_of))]
-fn running_step<'a>(
+#[tactic(auto, using(crate::proofs::Lists::length_map), unfolding(crate::specs::Words::form_so_far))]
+fn step_so_far<'a>(
     alloc: Global,
-    before: &mut Before<'a>,
+    context: &mut Context<'a>,
     word: &str,
     parts: &'a [Value],
 ) -> Result<Step, Cause>
-    requires { length before.old.names < 2 ^ 32 }
-    ensures reads { Reads result before.old before.new (running_form_of word.now (map view parts.now)) }
-    ensures keeps { IfOk result (λ step. Keeps before.old step before.new) }
+    requires { length context.old.names < 2 ^ 32 }
+    ensures reads { Reads result context.old context.new (form_so_far word.now (map view parts.now)) }
+    ensures fits { IfOk result (λ step. Fits context.old step context.new) }
 {
     if !so_far::runs_word(word, parts.len()) {
         return Err(Cause::Shape);
     }
-    step_of_word(alloc, before, word, parts)
+    step_of_word(alloc, context, word, parts)
 }
 
-#[tactic(auto, unfolding(crate::specs::Words::words_of))]
-fn worded<'a>(alloc: Global, before: &mut Before<'a>, parts: &'a [Value]) -> Result<Step, Cause>
-    requires { length before.old.names < 2 ^ 32 }
-    ensures reads { Reads result before.old before.new (words_of (map view parts.now)) }
-    ensures keeps { IfOk result (λ step. Keeps before.old step before.new) }
+#[tactic(auto, unfolding(crate::specs::Words::form_of_items))]
+fn step_of_items<'a>(
+    alloc: Global,
+    context: &mut Context<'a>,
+    parts: &'a [Value],
+) -> Result<Step, Cause>
+    requires { length context.old.names < 2 ^ 32 }
+    ensures reads { Reads result context.old context.new (form_of_items (map view parts.now)) }
+    ensures fits { IfOk result (λ step. Fits context.old step context.new) }
 {
     let [first, rest @ ..] = parts else {
         return Err(Cause::Shape);
@@ -214,23 +218,23 @@ fn worded<'a>(alloc: Global, before: &mut Before<'a>, parts: &'a [Value]) -> Res
     let Some(word) = first.as_str() else {
         return Err(Cause::Shape);
     };
-    running_step(alloc, before, word, rest)
+    step_so_far(alloc, context, word, rest)
 }
 
-/// The step of a value after those before it, which takes note of the name that it introduces or the moment that
-/// it advances to. First its form is judged, then its name or its moment. Takes memory where it introduces a name.
-#[tactic(auto, using(crate::proofs::Lists::list_of_items_of), unfolding(crate::specs::Steps::step_of, crate::specs::Words::array_form))]
+/// The step of a value after those before it, and takes note of the name that it introduces or the moment that it
+/// advances to. First its form is judged, then its name or its moment. Takes memory where it introduces a name.
+#[tactic(auto, using(crate::proofs::Lists::list_of_items_of), unfolding(crate::specs::Steps::step_of, crate::specs::Words::form_of_value))]
 pub(crate) fn read_step<'a>(
     alloc: Global,
-    before: &mut Before<'a>,
+    context: &mut Context<'a>,
     value: &'a Value,
 ) -> Result<Step, Cause>
-    requires { length before.old.names < 2 ^ 32 }
-    ensures reads { Gives (λ step. (step, before.new)) result (step_of before.old (view value.now)) }
-    ensures keeps { IfOk result (λ step. Keeps before.old step before.new) }
+    requires { length context.old.names < 2 ^ 32 }
+    ensures reads { Gives (λ step. (step, context.new)) result (step_of context.old (view value.now)) }
+    ensures fits { IfOk result (λ step. Fits context.old step context.new) }
 {
     let Some(items) = value.as_array() else {
         return Err(Cause::Shape);
     };
-    worded(alloc, before, items.as_slice())
+    step_of_items(alloc, context, items.as_slice())
 }

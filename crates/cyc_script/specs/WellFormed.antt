@@ -1,5 +1,6 @@
 -- What holds of the steps of every script: names are introduced before they are used, and moments don't fall (our own rules).
-use Rattle.std.specs.Prelude.{ℕ, ◌+◌, ◌&&◌, ◌==◌, List, [], ◌∷◌, fold, Bool, true, nat_lt, nat_le}
+use Rattle.std.specs.Prelude.{◌≡◌, ℕ, ◌+◌, ◌≤◌, ◌&&◌, ◌==◌, List, [], ◌∷◌, length, fold, Bool, true, nat_lt, nat_le}
+use Rattle.cyc_types.specs.Series.{never}
 use Rattle.cyc_script.specs.declared.step.Step.{Step}
 use Rattle.cyc_script.specs.declared.step.Step.TheVariants.{Add, Omni, Bind, Unbind, Reprogram, Remove, Advance}
 
@@ -39,7 +40,7 @@ moment_after now _ = now
 
 -- a step sets the clock neither back nor to never
 abbrev pub moment_fits : ℕ → Step → Bool
-moment_fits now (Advance moment) = nat_le now moment && nat_lt moment 9223372036854775807
+moment_fits now (Advance moment) = nat_le now moment && nat_lt moment never
 moment_fits now _ = true
 
 -- the same of each step of a list
@@ -50,3 +51,12 @@ moments_fit now (step ∷ steps) = moment_fits now step && moments_fit (moment_a
 -- the clock's moment after these steps
 abbrev pub moment_after_all : ℕ → List Step → ℕ
 moment_after_all now steps = fold moment_after now steps
+
+-- ---- the whole
+
+-- the steps of a script with so many names
+pub record IsWellFormed (steps : List Step) (names : ℕ) : Type 0 where
+  pub few_steps : length steps ≤ 65536
+  pub names_introduced : names_after_all 0 steps ≡ names
+  pub names_in_order : names_fit 0 steps ≡ true
+  pub moments_in_order : moments_fit 0 steps ≡ true
