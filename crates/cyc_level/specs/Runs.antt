@@ -2,8 +2,8 @@
 use Rattle.std.specs.Prelude.{◌≡◌, ℕ, ◌+◌, ◌-◌, ◌==◌, if◌then◌else◌, ⊤, Bool, true, false, Option, Some, None, List, [], ◌∷◌, ◌++◌}
 use Rattle.cyc_level.specs.declared.Event.{Event}
 use Rattle.cyc_level.specs.declared.Event.TheVariants.{Admit, Expire, Lose, Publish, Take, Finish, Mark, Clear, Switch, Follow}
-use Rattle.cyc_level.specs.Level.{in_hand, count}
-use Rattle.cyc_level.specs.Events.{reached}
+use Rattle.cyc_level.specs.Level.{in_hand, count, place_count}
+use Rattle.cyc_level.specs.Events.{reached, AllEnabled}
 
 -- whether an event is one of the soft side (cyclic_softint), and not of the firing side (cyclic_fire, and the calls across CPUs)
 abbrev pub is_soft_event : Event → Bool
@@ -113,3 +113,14 @@ AreFinished (s ∷ stays) [] = ⊥
 pub record IsConservedOverStays (ceiling : ℕ) (es : List Event) (id : ℕ) : Type 0 where
   pub total : expirations id es ≡ finishes ceiling id es + count (reached ceiling es) id + losses id es
   pub ended : AreFinished (past_stays id es) (past_finishes ceiling id es)
+
+-- how often an id was admitted
+abbrev pub admissions : ℕ → List Event → ℕ
+admissions id [] = 0
+admissions id (Admit a index ∷ es) = (if id == a then 1 else 0) + admissions id es
+admissions id (_ ∷ es) = admissions id es
+
+-- once the removal of an id has answered, and until it is admitted anew, the id stands in no place and no call of it is made
+abbrev pub NothingFollowsClear : Type 0
+NothingFollowsClear = (ceiling id : ℕ) (later earlier : List Event) → AllEnabled ceiling (later ++ Clear id ∷ earlier) → admissions id later ≡ 0
+    → (place_count (reached ceiling (later ++ Clear id ∷ earlier)) id ≡ 0) × (finishes ceiling id (later ++ Clear id ∷ earlier) ≡ finishes ceiling id earlier)

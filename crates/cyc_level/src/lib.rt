@@ -10,7 +10,7 @@ ghost use Rattle.cyc_level.specs.Level.{Level};
 ghost use Rattle.cyc_level.specs.Lawful.{Lawful};
 ghost use Rattle.cyc_level.specs.Events.{Enabled, after, reached, AllEnabled};
 ghost use Rattle.cyc_level.specs.Conservation.{IsConserved};
-ghost use Rattle.cyc_level.specs.Runs.{IsConservedOverStays};
+ghost use Rattle.cyc_level.specs.Runs.{IsConservedOverStays, NothingFollowsClear};
 
 use cyc_types::{CyclicId, Index};
 
@@ -63,4 +63,10 @@ pub fn conservation()
 /// ones and the losses; and of each stay that has ended the expirations are its finished calls and its losses.
 pub fn conservation_over_stays()
     ensures { (ceiling : ℕ) (events : List AnEvent) → AllEnabled ceiling events → (id : ℕ) → IsConservedOverStays ceiling events id }
+{}
+
+/// Once the removal of a cyclic has answered, and until its id is admitted anew, the id stands in no place and no call of it
+/// is made.
+pub fn nothing_follows_clear()
+    ensures { NothingFollowsClear }
 {}

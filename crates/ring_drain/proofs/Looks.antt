@@ -6,6 +6,7 @@ use Rattle.cyc_level.specs.Level.{Cyclics, Level, soft_list}
 use Rattle.cyc_level.proofs.Maps.{some_same}
 use Rattle.cyc_level.proofs.Room.{roomy}
 use Rattle.ring_drain.specs.Allowed.{HardBankLoadIsAllowed, ProducerLoadIsAllowed}
+use Rattle.cyc_types.specs.Limits.{greatest_bank, cyclics}
 use Rattle.ring_rule.specs.declared.RaiseStep.{RaiseStep}
 use Rattle.ring_rule.specs.declared.DrainStep.{DrainStep}
 use Rattle.ring_rule.specs.declared.DrainStep.TheVariants.{LoadedHardBank, LoadedProducer}
@@ -37,7 +38,7 @@ module _ (k : Setting) (ws : List ℕ) (rs : List RaiseStep) (ds : List DrainSte
   none_in : ¬ (l.hard_bank ≡ l.soft_bank) → get_or ws (producer_word l.soft_bank) 0 ≡ C % 2 ^ 32 → l.old_list ≡ []
   none_in apart e = let h = holds_end ws l.cyclics l.soft_bank l.old_list C (N.shows.old_held apart) in let b = N.law.soft_behind in let g = N.law.bank_bound in
       let r = roomy l N.law (2 ^ l.soft_bank) l.old_list (λ id. omega arith) (λ id c x t. N.law.in_soft_bank id c x t) in
-      let p : 2 ^ l.soft_bank ≤ 2 ^ 8 = pow_mono {i = l.soft_bank} {j = 8} (omega (arith, b, g)) in let q : 2 ^ 8 ≡ 256 = refl in empty_of l.old_list (omega (arith, h, e, r, p, q))
+      let p : 2 ^ l.soft_bank ≤ 2 ^ greatest_bank = pow_mono {i = l.soft_bank} {j = greatest_bank} (omega (arith, b, g)) in let q : 2 ^ greatest_bank ≡ cyclics = refl in empty_of l.old_list (omega (arith, h, e, r, p, q))
 
   pub ends_shown : (n : ℕ) → Shows k.start ws rs (LoadedProducer n ∷ ds) l
   ends_shown n = let sh = N.shows in record {
@@ -56,8 +57,8 @@ module _ (k : Setting) (ws : List ℕ) (rs : List RaiseStep) (ds : List DrainSte
     produced = sh.produced;
   }
 
-  pub ends_learned : StillHolds k.start ws rs (LoadedProducer (get_or ws (producer_word l.soft_bank) 0) ∷ ds) l
-  ends_learned = let le = N.still in record {
+  pub ends_still : StillHolds k.start ws rs (LoadedProducer (get_or ws (producer_word l.soft_bank) 0) ∷ ds) l
+  ends_still = let le = N.still in record {
     seen_is_enough = le.seen_is_enough;
     hand_stored = le.hand_stored;
     fresh = le.fresh;
@@ -85,8 +86,8 @@ module _ (k : Setting) (ws : List ℕ) (rs : List RaiseStep) (ds : List DrainSte
     produced = sh.produced;
   }
 
-  pub banks_learned : StillHolds k.start ws rs (LoadedHardBank (get_or ws hard_word 0) ∷ ds) l
-  banks_learned = let le = N.still in record {
+  pub banks_still : StillHolds k.start ws rs (LoadedHardBank (get_or ws hard_word 0) ∷ ds) l
+  banks_still = let le = N.still in record {
     seen_is_enough = le.seen_is_enough;
     hand_stored = le.hand_stored;
     fresh = le.fresh;
@@ -105,7 +106,7 @@ loads_producer k slots seat me role i at_i = and_stands k slots seat me i (λ n.
       tt,
       drain_stays k s R seat me.0 at me.1 i n role (LoadedProducer n) refl
           (loaded (λ x. Shows k.start x R.raise_trail (LoadedProducer n ∷ t) l) s.words i (ends_shown k s.words R.raise_trail t l N n))
-          (loaded (λ x. StillHolds k.start x R.raise_trail (LoadedProducer n ∷ t) l) s.words i (subst (λ (j : ℕ). StillHolds k.start s.words R.raise_trail (LoadedProducer (get_or s.words j 0) ∷ t) l) here (ends_learned k s.words R.raise_trail t l N))),
+          (loaded (λ x. StillHolds k.start x R.raise_trail (LoadedProducer n ∷ t) l) s.words i (subst (λ (j : ℕ). StillHolds k.start s.words R.raise_trail (LoadedProducer (get_or s.words j 0) ∷ t) l) here (ends_still k s.words R.raise_trail t l N))),
       refl,
     ))
 
@@ -116,7 +117,7 @@ loads_hard_bank k slots seat me role = and_stands k slots seat me hard_word (λ 
   tt,
   drain_stays k s R seat me.0 at me.1 hard_word n role (LoadedHardBank n) refl
       (loaded (λ x. Shows k.start x R.raise_trail (LoadedHardBank n ∷ t) l) s.words hard_word (banks_shown k s.words R.raise_trail t l N n))
-      (loaded (λ x. StillHolds k.start x R.raise_trail (LoadedHardBank n ∷ t) l) s.words hard_word (banks_learned k s.words R.raise_trail t l N)),
+      (loaded (λ x. StillHolds k.start x R.raise_trail (LoadedHardBank n ∷ t) l) s.words hard_word (banks_still k s.words R.raise_trail t l N)),
   (
     (let x = N.shows.hard_shown in let y = N.shows.soft_is in let b = N.law.soft_behind in let z : soft_bank_of me.0.drain_trail ≡ soft_bank_of t = ap (soft_bank_of) same in omega (arith, x, y, b, z)),
     (let x = N.shows.hard_shown in let b = N.law.bank_bound in omega (arith, x, b)),

@@ -1,5 +1,5 @@
 -- The `fetch_sub` of 1 on a pend word is the event Finish.
-use Rattle.std.proofs.Common.{◌≡◌, ℕ, zero, suc, ◌+◌, ◌-◌, ◌*◌, ◌/◌, ◌%◌, ◌^◌, ◌<◌, ◌≤◌, eqb, Bool, true, false, cond, List, ◌∷◌, get_or, set, sym, refl, ap, ◌∙◌, subst, arith, ne_eqb, get_or-set_other, get_or-set_same}
+use Rattle.std.proofs.Common.{◌≡◌, ℕ, zero, suc, ◌+◌, ◌-◌, ◌*◌, ◌%◌, ◌^◌, ◌<◌, ◌≤◌, eqb, Bool, true, false, cond, List, ◌∷◌, get_or, set, sym, refl, ap, ◌∙◌, subst, arith, ne_eqb, get_or-set_other, get_or-set_same}
 use mathlib.Core.Option.{none}
 use mathlib.Core.Logic.{dite}
 use native.Mathlib.Decide.{ℕ_discrete}
@@ -13,6 +13,8 @@ use Rattle.cyc_level.specs.Events.{changed_at, cyclic_after_finish, hand_after_f
 use Rattle.cyc_level.specs.Runs.{StayCounts}
 use Rattle.cyc_level.proofs.Maps.{some_same, is_some_of, at_cases, hand_here}
 use Rattle.ring_drain.specs.Allowed.{SubtractIsAllowed}
+use Rattle.cyc_types.specs.Limits.{cyclics}
+use Rattle.ring_rule.specs.Words.{entry_id, entry_index, producer_word, hard_word, soft_word}
 use Rattle.ring_rule.specs.declared.RaiseStep.{RaiseStep}
 use Rattle.ring_rule.specs.declared.DrainStep.{DrainStep}
 use Rattle.ring_rule.specs.declared.DrainStep.TheVariants.{Subtracted}
@@ -48,10 +50,10 @@ once_some (suc n) h = absurd (omega arith)
 
 module _ (k : Setting) (small : k.ceiling < 2 ^ 32) (ws : List ℕ) (rs : List RaiseStep) (ds : List DrainStep) (l : Level) (N : RingNow k ws rs ds l) (e : ℕ) (has : held_entry ds ≡ Some e) where
   abbrev id : ℕ
-  id = e / 256
+  id = entry_id e
 
   abbrev i : ℕ
-  i = e % 256
+  i = entry_index e
 
   pub known : (c : Cyclic) × (l.cyclics id ≡ Some c) × (c.index ≡ i)
   known = N.still.held_is e has
@@ -94,10 +96,10 @@ module _ (k : Setting) (small : k.ceiling < 2 ^ 32) (ws : List ℕ) (rs : List R
   abbrev ws' : List ℕ
   ws' = set ws i (n - 1)
 
-  low : i < 256
+  low : i < cyclics
   low = omega arith
 
-  high : (j : ℕ) → 256 ≤ j → get_or ws' j 0 ≡ get_or ws j 0
+  high : (j : ℕ) → cyclics ≤ j → get_or ws' j 0 ≡ get_or ws j 0
   high j h = let x = low in get_or-set_other ws i j (n - 1) 0 (λ e. omega arith)
 
   abbrev m' : Cyclics
@@ -121,8 +123,8 @@ module _ (k : Setting) (small : k.ceiling < 2 ^ 32) (ws : List ℕ) (rs : List R
   finishes_shown = let sh = N.shows in record {
     hard_is = sh.hard_is;
     soft_is = sh.soft_is;
-    hard_shown = high 776 (omega arith) ∙ sh.hard_shown;
-    soft_shown = high 777 (omega arith) ∙ sh.soft_shown;
+    hard_shown = high hard_word (omega arith) ∙ sh.hard_shown;
+    soft_shown = high soft_word (omega arith) ∙ sh.soft_shown;
     firer_is = sh.firer_is;
     drainer_is = (λ z. hand_after_finish (sym counts z) (sh.drainer_is z)) ∙ sym (laid_id (n % 2 ^ 32) (held_entry ds));
     marked_is = sh.marked_is;
@@ -140,13 +142,13 @@ module _ (k : Setting) (small : k.ceiling < 2 ^ 32) (ws : List ℕ) (rs : List R
     produced = sh.produced;
   }
 
-  pub finishes_learned : StillHolds k.start ws' rs (Subtracted n ∷ ds) l'
-  finishes_learned = let le = N.still in record {
+  pub finishes_still : StillHolds k.start ws' rs (Subtracted n ∷ ds) l'
+  finishes_still = let le = N.still in record {
     seen_is_enough = at_cases l.cyclics id (option_map cyclic_after_finish) (λ j o. count_in o ≤ seen_pend j rs)
         (subst (λ o. count_in (option_map cyclic_after_finish o) ≤ seen_pend id rs) (sym known.1) (let a = le.seen_is_enough id in let b : count l id ≡ c.count = ap count_in known.1 in omega (arith, a, b))) (λ j _. le.seen_is_enough j);
     hand_stored = stored_high ws ws' l.cyclics m' (keeps_option_map l.cyclics id cyclic_after_finish same_index) high l.hard_bank _ _ _ le.hand_stored;
-    fresh = λ bank more most. high (767 + bank) (omega arith) ∙ le.fresh bank more most;
-    held_is = λ x h. let was = le.held_is x (laid_held (n % 2 ^ 32) x (held_entry ds) h) in let y = keeps_option_map l.cyclics id cyclic_after_finish same_index (x / 256) was.0 was.1 in (y.0, y.1, y.2 ∙ was.2);
+    fresh = λ bank more most. high (producer_word bank) (omega arith) ∙ le.fresh bank more most;
+    held_is = λ x h. let was = le.held_is x (laid_held (n % 2 ^ 32) x (held_entry ds) h) in let y = keeps_option_map l.cyclics id cyclic_after_finish same_index (entry_id x) was.0 was.1 in (y.0, y.1, y.2 ∙ was.2);
     followed_is = le.followed_is;
     bank_is = λ bank e. absurd (cc);
     some_left = λ end e. absurd (cc);
@@ -155,17 +157,17 @@ module _ (k : Setting) (small : k.ceiling < 2 ^ 32) (ws : List ℕ) (rs : List R
 
 pub subtracts : SubtractIsAllowed
 subtracts k slots seat me e role has i at_i = and_stands k slots seat me i (λ n. (n + (2 ^ 64 - 1)) % 2 ^ 64) (TellsSubtract (step slots i 1 0 none) me) (λ s R _ at _. let small : k.ceiling < 2 ^ 32 = R.fits.0 in let t : List DrainStep = R.drain_trail in let same : me.0.drain_trail ≡ t = (drains k s R seat me.0 at me.1 i 0 role).1 in
-    let l : Level = level k s R in let N : RingNow k s.words R.raise_trail t l = ring_now k s R in let has' : held_entry t ≡ Some e = ap held_entry (sym same) ∙ has in let hand : l.drainer_hand ≡ Some (e / 256) = N.shows.drainer_is ∙ ap id_in has' in
-    let n : ℕ = get_or s.words (e % 256) 0 in let x : ℕ = get_or s.words i 0 in let here : e % 256 ≡ i = sym at_i in
-    let values : (j : ℕ) → e % 256 ≡ j → (get_or s.words (e % 256) 0 + (2 ^ 64 - 1)) % 2 ^ 64 ≡ (get_or s.words j 0 + (2 ^ 64 - 1)) % 2 ^ 64 = λ j z. ap (λ (j : ℕ). (get_or s.words j 0 + (2 ^ 64 - 1)) % 2 ^ 64) z in
+    let l : Level = level k s R in let N : RingNow k s.words R.raise_trail t l = ring_now k s R in let has' : held_entry t ≡ Some e = ap held_entry (sym same) ∙ has in let hand : l.drainer_hand ≡ Some (entry_id e) = N.shows.drainer_is ∙ ap id_in has' in
+    let n : ℕ = get_or s.words (entry_index e) 0 in let x : ℕ = get_or s.words i 0 in let here : entry_index e ≡ i = sym at_i in
+    let values : (j : ℕ) → entry_index e ≡ j → (get_or s.words (entry_index e) 0 + (2 ^ 64 - 1)) % 2 ^ 64 ≡ (get_or s.words j 0 + (2 ^ 64 - 1)) % 2 ^ 64 = λ j z. ap (λ (j : ℕ). (get_or s.words j 0 + (2 ^ 64 - 1)) % 2 ^ 64) z in
     let value : n - 1 ≡ (x + (2 ^ 64 - 1)) % 2 ^ 64 = sym (lowered k small s.words R.raise_trail t l N e has') ∙ values i here in let found : n ≡ x = ap (λ (j : ℕ). get_or s.words j 0) here in (
       with_drain_step (Subtracted x) me.0,
       keeps,
       tt,
-      drain_moves k s R seat me.0 at me.1 i ((x + (2 ^ 64 - 1)) % 2 ^ 64) role (Subtracted x) Finish refl refl (is_some_of l.drainer_hand (e / 256) hand)
+      drain_moves k s R seat me.0 at me.1 i ((x + (2 ^ 64 - 1)) % 2 ^ 64) role (Subtracted x) Finish refl refl (is_some_of l.drainer_hand (entry_id e) hand)
           (subst (λ (h : Option ℕ). Shows k.start (set s.words i ((x + (2 ^ 64 - 1)) % 2 ^ 64)) R.raise_trail (Subtracted x ∷ t) (after_finish h l)) (sym hand)
-          (subst (λ (y : ℕ × ℕ × ℕ). Shows k.start (set s.words y.0 y.1) R.raise_trail (Subtracted y.2 ∷ t) (after_finish (Some (e / 256)) l)) (λ z. (here z, value z, found z)) (finishes_shown k small s.words R.raise_trail t l N e has')))
+          (subst (λ (y : ℕ × ℕ × ℕ). Shows k.start (set s.words y.0 y.1) R.raise_trail (Subtracted y.2 ∷ t) (after_finish (Some (entry_id e)) l)) (λ z. (here z, value z, found z)) (finishes_shown k small s.words R.raise_trail t l N e has')))
           (subst (λ (h : Option ℕ). StillHolds k.start (set s.words i ((x + (2 ^ 64 - 1)) % 2 ^ 64)) R.raise_trail (Subtracted x ∷ t) (after_finish h l)) (sym hand)
-          (subst (λ (y : ℕ × ℕ × ℕ). StillHolds k.start (set s.words y.0 y.1) R.raise_trail (Subtracted y.2 ∷ t) (after_finish (Some (e / 256)) l)) (λ z. (here z, value z, found z)) (finishes_learned k small s.words R.raise_trail t l N e has'))),
+          (subst (λ (y : ℕ × ℕ × ℕ). StillHolds k.start (set s.words y.0 y.1) R.raise_trail (Subtracted y.2 ∷ t) (after_finish (Some (entry_id e)) l)) (λ z. (here z, value z, found z)) (finishes_still k small s.words R.raise_trail t l N e has'))),
       (subst (λ (y : ℕ). 0 < y % 2 ^ 32) found (one_found k small s.words R.raise_trail t l N e has'), refl),
     ))

@@ -1,5 +1,5 @@
 -- The load of a buffer word is the event Take.
-use Rattle.std.proofs.Common.{◌≡◌, ℕ, ◌+◌, ◌/◌, ◌%◌, ◌^◌, ◌≢◌, eqb, Bool, true, false, cond, List, [], ◌∷◌, length, get_or, sym, refl, ap, ◌∙◌, subst, arith, ne_eqb}
+use Rattle.std.proofs.Common.{◌≡◌, ℕ, ◌+◌, ◌%◌, ◌^◌, ◌≢◌, eqb, Bool, true, false, cond, List, [], ◌∷◌, length, get_or, sym, refl, ap, ◌∙◌, subst, arith, ne_eqb}
 use mathlib.Core.Option.{none}
 use Rattle.std.specs.Prelude.{Some}
 use Rattle.atomic_table.specs.Table.{step, keeps}
@@ -13,7 +13,7 @@ use Rattle.ring_rule.specs.declared.RaiseStep.{RaiseStep}
 use Rattle.ring_rule.specs.declared.DrainStep.{DrainStep}
 use Rattle.ring_rule.specs.declared.DrainStep.TheVariants.{Took}
 use Rattle.ring_rule.specs.declared.Setting.{Setting}
-use Rattle.ring_rule.specs.Words.{place}
+use Rattle.ring_rule.specs.Words.{place, entry_id, entry_index}
 use Rattle.ring_rule.specs.Trail.{producer_index, held_entry, id_in, soft_bank_of, consumer_index, producer_seen}
 use Rattle.ring_rule.specs.Shown.{HoldsEntry, BankHolds, Shows, StillHolds}
 use Rattle.ring_rule.specs.Steps.{with_drain_step, TellsTake}
@@ -56,13 +56,13 @@ module _ (k : Setting) (ws : List ℕ) (rs : List RaiseStep) (ds : List DrainSte
   pub found : HoldsEntry ws l.cyclics l.soft_bank C id
   found = first_held ws l.cyclics l.soft_bank id (soft_list l) C oldest (softs_held k ws rs ds l N)
 
-  pub is_id : n / 256 ≡ id
+  pub is_id : entry_id n ≡ id
   is_id = let f = found in let e = f.2 in let low = index_low k ws rs ds l N id f.0 f.1 in omega (arith, e, low)
 
-  pub named : IsId (n / 256)
+  pub named : IsId (entry_id n)
   named = let f = found in subst IsId (sym is_id) (N.law.ids id f.0 f.1)
 
-  is_index : (found.0).index ≡ n % 256
+  is_index : (found.0).index ≡ entry_index n
   is_index = let f = found in let e = f.2 in let low = index_low k ws rs ds l N id f.0 f.1 in omega (arith, e, low)
 
   pub takes_shown : Shows k.start ws rs (Took n ∷ ds) (after Take l)
@@ -83,12 +83,12 @@ module _ (k : Setting) (ws : List ℕ) (rs : List RaiseStep) (ds : List DrainSte
     produced = produced_after (eqb l.hard_bank l.soft_bank) l.old_list l.new_list C k.start (producer_index k.start rs) id oldest sh.produced;
   }
 
-  pub takes_learned : StillHolds k.start ws rs (Took n ∷ ds) (after Take l)
-  takes_learned = let le = N.still in record {
+  pub takes_still : StillHolds k.start ws rs (Took n ∷ ds) (after Take l)
+  takes_still = let le = N.still in record {
     seen_is_enough = le.seen_is_enough;
     hand_stored = le.hand_stored;
     fresh = le.fresh;
-    held_is = λ e h. let same : n ≡ e = some_same n e h in subst (λ (x : ℕ). (c : Cyclic) × (l.cyclics (x / 256) ≡ Some c) × (c.index ≡ x % 256)) same (found.0, ap l.cyclics is_id ∙ found.1, is_index);
+    held_is = λ e h. let same : n ≡ e = some_same n e h in subst (λ (x : ℕ). (c : Cyclic) × (l.cyclics (entry_id x) ≡ Some c) × (c.index ≡ entry_index x)) same (found.0, ap l.cyclics is_id ∙ found.1, is_index);
     followed_is = le.followed_is;
     bank_is = λ bank e. absurd (cc);
     some_left = λ end e. absurd (cc);
@@ -110,6 +110,6 @@ takes k slots seat me end role bare saw more i lies = and_stands k slots seat me
           (loaded (λ x. Shows k.start x R.raise_trail (Took (get_or s.words i 0) ∷ t) (after Take l)) s.words i
           (subst (λ (j : ℕ). Shows k.start s.words R.raise_trail (Took (get_or s.words j 0) ∷ t) (after Take l)) here (takes_shown k s.words R.raise_trail t l N id oldest)))
           (loaded (λ x. StillHolds k.start x R.raise_trail (Took (get_or s.words i 0) ∷ t) (after Take l)) s.words i
-          (subst (λ (j : ℕ). StillHolds k.start s.words R.raise_trail (Took (get_or s.words j 0) ∷ t) (after Take l)) here (takes_learned k s.words R.raise_trail t l N id oldest))),
-      (subst (λ (j : ℕ). IsId (get_or s.words j 0 / 256)) here (named k s.words R.raise_trail t l N id oldest), refl),
+          (subst (λ (j : ℕ). StillHolds k.start s.words R.raise_trail (Took (get_or s.words j 0) ∷ t) (after Take l)) here (takes_still k s.words R.raise_trail t l N id oldest))),
+      (subst (λ (j : ℕ). IsId (entry_id (get_or s.words j 0))) here (named k s.words R.raise_trail t l N id oldest), refl),
     ))

@@ -1,5 +1,5 @@
 -- The `fetch_add` of 1 on a pend word is the event Expire.
-use Rattle.std.proofs.Common.{◌≡◌, ℕ, ◌+◌, ◌-◌, ◌*◌, ◌/◌, ◌%◌, ◌^◌, ◌<◌, ◌≤◌, eqb, cond, List, ◌∷◌, length, get_or, set, sym, refl, ap, ◌∙◌, subst, arith, eq-eqb, ne_eqb, pow_mono, mod-eq_of_lt, get_or-set_other, get_or-set_same}
+use Rattle.std.proofs.Common.{◌≡◌, ℕ, ◌+◌, ◌-◌, ◌*◌, ◌%◌, ◌^◌, ◌<◌, ◌≤◌, eqb, cond, List, ◌∷◌, length, get_or, set, sym, refl, ap, ◌∙◌, subst, arith, eq-eqb, ne_eqb, pow_mono, mod-eq_of_lt, get_or-set_other, get_or-set_same}
 use mathlib.Core.Option.{none}
 use Rattle.std.specs.Prelude.{Option, Some, None}
 use Rattle.std.specs.Option.{option_map}
@@ -12,6 +12,8 @@ use Rattle.cyc_level.specs.Runs.{StayCounts, one_more}
 use Rattle.cyc_level.proofs.Maps.{some_same, is_some_and, at_cases}
 use Rattle.cyc_level.proofs.Keeps.{always_lawful, same_ceiling}
 use Rattle.ring_raise.specs.Allowed.{AddIsAllowed}
+use Rattle.cyc_types.specs.Limits.{greatest_bank, cyclics}
+use Rattle.ring_rule.specs.Words.{entry_id, producer_word, hard_word, soft_word, word_count}
 use Rattle.ring_rule.specs.declared.RaiseStep.{RaiseStep}
 use Rattle.ring_rule.specs.declared.RaiseStep.TheVariants.{Added}
 use Rattle.ring_rule.specs.declared.DrainStep.{DrainStep}
@@ -23,7 +25,7 @@ use Rattle.ring_rule.proofs.Seats.{level, raiser, raise_moves}
 use Rattle.ring_rule.proofs.Stays.{behind, same_if, same_expired, not_held}
 use Rattle.ring_rule.proofs.Stands.{and_stands}
 
-module _ (start : ℕ) (ws : List ℕ) (wide : length ws ≡ 778) (rs : List RaiseStep) (ds : List DrainStep) (l : Level) (law : Lawful l) (sh : Shows start ws rs ds l) (le : StillHolds start ws rs ds l)
+module _ (start : ℕ) (ws : List ℕ) (wide : length ws ≡ word_count) (rs : List RaiseStep) (ds : List DrainStep) (l : Level) (law : Lawful l) (sh : Shows start ws rs ds l) (le : StillHolds start ws rs ds l)
     (i id : ℕ) (st : StayCounts) (is : open_stay id rs ≡ Some st) (at_i : st.index ≡ i) (free : ¬ (marked_of rs ≡ Some id)) where
   pub known : (c : Cyclic) × (l.cyclics id ≡ Some c) × (st.index ≡ c.index) × (st.sent ≡ c.sent) × (st.lost ≡ c.lost) × (made_calls id ds ≡ c.done + ended_calls id rs)
   known = behind (made_calls id ds) (ended_calls id rs) (open_stay id rs) (l.cyclics id) st is (sh.stays id)
@@ -34,8 +36,8 @@ module _ (start : ℕ) (ws : List ℕ) (wide : length ws ≡ 778) (rs : List Rai
   here : c.index ≡ i
   here = sym known.2 ∙ at_i
 
-  low : i < 256
-  low = let a = law.in_hard_bank id c known.1 in let b = law.bank_bound in let p : 2 ^ l.hard_bank ≤ 2 ^ 8 = pow_mono {i = l.hard_bank} {j = 8} b in let h = here in let e : 2 ^ 8 ≡ 256 = refl in omega (arith, a, p, h, e)
+  low : i < cyclics
+  low = let a = law.in_hard_bank id c known.1 in let b = law.bank_bound in let p : 2 ^ l.hard_bank ≤ 2 ^ greatest_bank = pow_mono {i = l.hard_bank} {j = greatest_bank} b in let h = here in let e : 2 ^ greatest_bank ≡ cyclics = refl in omega (arith, a, p, h, e)
 
   pub found : get_or ws i 0 ≡ c.count
   found = let p = sh.pends id c known.1 in let z : in_hand id l.marked ≡ 0 = not_held id l.marked (λ e. free (sym sh.marked_is ∙ e)) in
@@ -50,7 +52,7 @@ module _ (start : ℕ) (ws : List ℕ) (wide : length ws ≡ 778) (rs : List Rai
   counted : n ≡ count l id
   counted = found ∙ ap count_in (sym known.1)
 
-  high : (j : ℕ) → 256 ≤ j → get_or ws' j 0 ≡ get_or ws j 0
+  high : (j : ℕ) → cyclics ≤ j → get_or ws' j 0 ≡ get_or ws j 0
   high j h = let x = low in get_or-set_other ws i j (n + 1) 0 (λ e. omega arith)
 
   same_index : (d : Cyclic) → (cyclic_after_expire d).index ≡ d.index
@@ -66,8 +68,8 @@ module _ (start : ℕ) (ws : List ℕ) (wide : length ws ≡ 778) (rs : List Rai
   adds_shown = record {
     hard_is = sh.hard_is;
     soft_is = sh.soft_is;
-    hard_shown = high 776 (omega arith) ∙ sh.hard_shown;
-    soft_shown = high 777 (omega arith) ∙ sh.soft_shown;
+    hard_shown = high hard_word (omega arith) ∙ sh.hard_shown;
+    soft_shown = high soft_word (omega arith) ∙ sh.soft_shown;
     firer_is = λ z. hand_after_expire (sym counted z) id (sh.firer_is z);
     drainer_is = sh.drainer_is;
     marked_is = sh.marked_is;
@@ -83,14 +85,14 @@ module _ (start : ℕ) (ws : List ℕ) (wide : length ws ≡ 778) (rs : List Rai
     produced = sh.produced;
   }
 
-  pub adds_learned : StillHolds start ws' (Added id n ∷ rs) ds (after (Expire id) l)
-  adds_learned = record {
+  pub adds_still : StillHolds start ws' (Added id n ∷ rs) ds (after (Expire id) l)
+  adds_still = record {
     seen_is_enough = at_cases l.cyclics id (option_map cyclic_after_expire) (λ j o. count_in o ≤ cond (eqb j id) (n + 1) (seen_pend j rs))
         (subst (λ b. count_in (option_map cyclic_after_expire (l.cyclics id)) ≤ cond b (n + 1) (seen_pend id rs)) (sym (eq-eqb id id refl)) (subst (λ o. count_in (option_map cyclic_after_expire o) ≤ n + 1) (sym known.1) (let f = found in omega (arith, f))))
         (λ j ne. subst (λ b. count_in (l.cyclics j) ≤ cond b (n + 1) (seen_pend j rs)) (sym (ne_eqb j id ne)) (le.seen_is_enough j));
     hand_stored = tt;
-    fresh = λ bank more most. high (767 + bank) (omega arith) ∙ le.fresh bank more most;
-    held_is = λ e h. let x = le.held_is e h in let y = keeps_option_map l.cyclics id cyclic_after_expire same_index (e / 256) x.0 x.1 in (y.0, y.1, y.2 ∙ x.2);
+    fresh = λ bank more most. high (producer_word bank) (omega arith) ∙ le.fresh bank more most;
+    held_is = λ e h. let x = le.held_is e h in let y = keeps_option_map l.cyclics id cyclic_after_expire same_index (entry_id e) x.0 x.1 in (y.0, y.1, y.2 ∙ x.2);
     followed_is = le.followed_is;
     bank_is = le.bank_is;
     some_left = le.some_left;
@@ -121,6 +123,6 @@ adds k slots seat me i id st role is at_i free bare below room = and_stands k sl
           (subst (λ (x : ℕ). Shows k.start (set s.words i x) (Added id n ∷ t) R.drain_trail (after (Expire id) l)) (sym fits)
           (adds_shown k.start s.words R.wide t R.drain_trail l law R.shows R.still i id st is' at_i free'))
           (subst (λ (x : ℕ). StillHolds k.start (set s.words i x) (Added id n ∷ t) R.drain_trail (after (Expire id) l)) (sym fits)
-          (adds_learned k.start s.words R.wide t R.drain_trail l law R.shows R.still i id st is' at_i free')),
+          (adds_still k.start s.words R.wide t R.drain_trail l law R.shows R.still i id st is' at_i free')),
       (subst (λ (t : List RaiseStep). n ≤ seen_pend id t) (sym same) top, refl),
     ))

@@ -1,5 +1,5 @@
 -- The load of an unused pend word is the event Admit.
-use Rattle.std.proofs.Common.{◌≡◌, ℕ, ◌+◌, ◌*◌, ◌/◌, ◌^◌, ◌<◌, ◌≤◌, eqb, cond, List, ◌∷◌, get_or, sym, refl, ap, ◌∙◌, subst, arith, eq-eqb, ne_eqb}
+use Rattle.std.proofs.Common.{◌≡◌, ℕ, ◌+◌, ◌*◌, ◌^◌, ◌<◌, ◌≤◌, eqb, cond, List, ◌∷◌, get_or, sym, refl, ap, ◌∙◌, subst, arith, eq-eqb, ne_eqb}
 use mathlib.Core.Option.{none}
 use mathlib.Core.Logic.{dite}
 use native.Mathlib.Decide.{ℕ_discrete}
@@ -12,6 +12,8 @@ use Rattle.cyc_level.specs.Events.{changed_at, Enabled, after}
 use Rattle.cyc_level.specs.Runs.{StayCounts}
 use Rattle.cyc_level.proofs.Maps.{some_same, none_some, not_none, at_cases}
 use Rattle.ring_raise.specs.Allowed.{AdmitIsAllowed}
+use Rattle.cyc_types.specs.Limits.{cyclics}
+use Rattle.ring_rule.specs.Words.{entry_id}
 use Rattle.ring_rule.specs.declared.RaiseStep.{RaiseStep}
 use Rattle.ring_rule.specs.declared.RaiseStep.TheVariants.{Admitted}
 use Rattle.ring_rule.specs.declared.DrainStep.{DrainStep}
@@ -25,7 +27,7 @@ use Rattle.ring_rule.proofs.Stays.{not_held}
 use Rattle.ring_rule.proofs.Now.{RingNow, ring_now, loaded}
 use Rattle.ring_rule.proofs.Stands.{and_stands}
 
--- an id with no open_stay is not TellsAdmit
+-- an id with no stay is not admitted
 pub absent : (m e : ℕ) (o : Option StayCounts) (p : Option Cyclic) → o ≡ None → IsSameStay m e o p → (p ≡ None) × (m ≡ e)
 absent m e None None is h = (refl, h)
 absent m e None (Some c) is h = absurd h
@@ -38,7 +40,7 @@ present m e (Some s) c None is h = absurd (cc)
 present m e (Some s) c (Some d) is h = (s, refl, h.0 ∙ ap (λ (x : Cyclic). x.index) (some_same d c is))
 
 module _ (k : Setting) (ws : List ℕ) (rs : List RaiseStep) (ds : List DrainStep) (l : Level) (N : RingNow k ws rs ds l) (id i : ℕ) (none : open_stay id rs ≡ None)
-    (unused : (j : ℕ) (s : StayCounts) → open_stay j rs ≡ Some s → ¬ (s.index ≡ i)) (within : i < 256) where
+    (unused : (j : ℕ) (s : StayCounts) → open_stay j rs ≡ Some s → ¬ (s.index ≡ i)) (within : i < cyclics) where
   abbrev new : Cyclic
   new = record { index = i; sent = 0; done = 0; lost = 0; count = 0 }
 
@@ -89,13 +91,13 @@ module _ (k : Setting) (ws : List ℕ) (rs : List RaiseStep) (ds : List DrainSte
     produced = sh.produced;
   }
 
-  pub admits_learned : StillHolds k.start ws (Admitted id i ∷ rs) ds (after (Admit id i) l)
-  admits_learned = let le = N.still in record {
+  pub admits_still : StillHolds k.start ws (Admitted id i ∷ rs) ds (after (Admit id i) l)
+  admits_still = let le = N.still in record {
     seen_is_enough = at_cases l.cyclics id (λ _. Some new) (λ j o. count_in o ≤ cond (eqb j id) 0 (seen_pend j rs)) (omega arith)
         (λ j ne. subst (λ b. count_in (l.cyclics j) ≤ cond b 0 (seen_pend j rs)) (sym (ne_eqb j id ne)) (le.seen_is_enough j));
     hand_stored = tt;
     fresh = le.fresh;
-    held_is = λ e h. let x = le.held_is e h in let y = kept (e / 256) x.0 x.1 in (y.0, y.1, y.2 ∙ x.2);
+    held_is = λ e h. let x = le.held_is e h in let y = kept (entry_id e) x.0 x.1 in (y.0, y.1, y.2 ∙ x.2);
     followed_is = le.followed_is;
     bank_is = le.bank_is;
     some_left = le.some_left;
@@ -112,6 +114,6 @@ admits k slots seat me i id role bare unused empty room low real = and_stands k 
       raise_moves k s R seat me.0 at me.1 i (get_or s.words i 0) role (Admitted id i) (Admit id i) refl refl
           (admits_enabled k s.words t R.drain_trail l N id i bare' unused' low real (ap firer_hand_of (sym same) ∙ empty) (subst (λ (t : List RaiseStep). i < 2 ^ hard_bank_of t) same room))
           (loaded (λ x. Shows k.start x (Admitted id i ∷ t) R.drain_trail (after (Admit id i) l)) s.words i (admits_shown k s.words t R.drain_trail l N id i bare' unused' low))
-          (loaded (λ x. StillHolds k.start x (Admitted id i ∷ t) R.drain_trail (after (Admit id i) l)) s.words i (admits_learned k s.words t R.drain_trail l N id i bare' unused' low)),
+          (loaded (λ x. StillHolds k.start x (Admitted id i ∷ t) R.drain_trail (after (Admit id i) l)) s.words i (admits_still k s.words t R.drain_trail l N id i bare' unused' low)),
       (zero_found k s.words t R.drain_trail l N id i bare' unused' low, refl),
     ))

@@ -8,11 +8,12 @@ use Rattle.cyc_level.specs.Level.{Cyclics, Level}
 use Rattle.cyc_level.specs.Events.{as_list, after}
 use Rattle.cyc_level.proofs.Maps.{is_some_of}
 use Rattle.ring_raise.specs.Allowed.{PublishIsAllowed}
+use Rattle.cyc_types.specs.Limits.{greatest_bank}
 use Rattle.ring_rule.specs.declared.RaiseStep.{RaiseStep}
 use Rattle.ring_rule.specs.declared.RaiseStep.TheVariants.{Published}
 use Rattle.ring_rule.specs.declared.DrainStep.{DrainStep}
 use Rattle.ring_rule.specs.declared.Setting.{Setting}
-use Rattle.ring_rule.specs.Words.{place, producer_word}
+use Rattle.ring_rule.specs.Words.{place, producer_word, hard_word, soft_word}
 use Rattle.ring_rule.specs.Trail.{firer_hand_of, hard_bank_of, producer_index, stored_entry, consumer_index}
 use Rattle.ring_rule.specs.Shown.{HoldsEntry, BankHolds, IsHandStored, Shows, StillHolds}
 use Rattle.ring_rule.specs.Steps.{with_raise_step, TellsPublish}
@@ -61,15 +62,15 @@ module _ (k : Setting) (ws : List ℕ) (rs : List RaiseStep) (ds : List DrainSte
   put_there : HoldsEntry ws l.cyclics l.hard_bank P id
   put_there = subst (λ (x : Option ℕ × Option ℕ). IsHandStored ws l.cyclics l.hard_bank P x.0 x.1) (λ z. (there z, up z)) N.still.hand_stored
 
-  kept_place : (bank j : ℕ) → bank ≤ 8 → get_or ws' (place bank j) 0 ≡ get_or ws (place bank j) 0
+  kept_place : (bank j : ℕ) → bank ≤ greatest_bank → get_or ws' (place bank j) 0 ≡ get_or ws (place bank j) 0
   kept_place bank j most = let low = place_low bank j most in kept (place bank j) (λ e. omega arith)
 
   pub publishes_shown : Shows k.start ws' (Published v ∷ rs) ds (after Publish l)
   publishes_shown = let sh = N.shows in let most = N.law.bank_bound in let behind = N.law.soft_behind in let p = sh.produced in record {
     hard_is = sh.hard_is;
     soft_is = sh.soft_is;
-    hard_shown = kept 776 (λ e. omega arith) ∙ sh.hard_shown;
-    soft_shown = kept 777 (λ e. omega arith) ∙ sh.soft_shown;
+    hard_shown = kept hard_word (λ e. omega arith) ∙ sh.hard_shown;
+    soft_shown = kept soft_word (λ e. omega arith) ∙ sh.soft_shown;
     firer_is = refl;
     drainer_is = sh.drainer_is;
     marked_is = sh.marked_is;
@@ -84,8 +85,8 @@ module _ (k : Setting) (ws : List ℕ) (rs : List RaiseStep) (ds : List DrainSte
     produced = let long : length longer ≡ length l.new_list + 1 = ap (λ (x : List ℕ). length (l.new_list ++ x)) is_listed ∙ length-append l.new_list (id ∷ []) in omega (arith, p, long);
   }
 
-  pub publishes_learned : StillHolds k.start ws' (Published v ∷ rs) ds (after Publish l)
-  publishes_learned = let le = N.still in record {
+  pub publishes_still : StillHolds k.start ws' (Published v ∷ rs) ds (after Publish l)
+  publishes_still = let le = N.still in record {
     seen_is_enough = le.seen_is_enough;
     hand_stored = tt;
     fresh = λ bank more most. kept (producer_word bank) (λ e. omega arith) ∙ le.fresh bank more most;
@@ -106,6 +107,6 @@ publishes k slots seat me id e role up there i at_i v is_v = and_stands k slots 
       tt,
       raise_moves k s R seat me.0 at me.1 i v role (Published v) Publish refl refl (is_some_of l.firer_hand id (N.shows.firer_is ∙ up'))
           (subst (λ (x : ℕ × ℕ). Shows k.start (set s.words x.0 x.1) (Published x.1 ∷ t) R.drain_trail (after Publish l)) (λ z. (here z, value z)) (publishes_shown k s.words t R.drain_trail l N id e up' there'))
-          (subst (λ (x : ℕ × ℕ). StillHolds k.start (set s.words x.0 x.1) (Published x.1 ∷ t) R.drain_trail (after Publish l)) (λ z. (here z, value z)) (publishes_learned k s.words t R.drain_trail l N id e up' there')),
+          (subst (λ (x : ℕ × ℕ). StillHolds k.start (set s.words x.0 x.1) (Published x.1 ∷ t) R.drain_trail (after Publish l)) (λ z. (here z, value z)) (publishes_still k s.words t R.drain_trail l N id e up' there')),
       refl,
     ))

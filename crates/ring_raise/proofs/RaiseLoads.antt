@@ -1,5 +1,5 @@
 -- The load of a pend word by the firing side: Lose at the ceiling, where it begins a raise, and otherwise no event.
-use Rattle.std.proofs.Common.{◌≡◌, ℕ, ◌+◌, ◌-◌, ◌*◌, ◌/◌, ◌%◌, ◌^◌, ◌<◌, ◌≤◌, eqb, cond, List, ◌∷◌, get_or, sym, refl, ap, ◌∙◌, subst, arith, eq-eqb, ne_eqb, mod-eq_of_lt}
+use Rattle.std.proofs.Common.{◌≡◌, ℕ, ◌+◌, ◌-◌, ◌*◌, ◌%◌, ◌^◌, ◌<◌, ◌≤◌, eqb, cond, List, ◌∷◌, get_or, sym, refl, ap, ◌∙◌, subst, arith, eq-eqb, ne_eqb, mod-eq_of_lt}
 use mathlib.Core.Option.{none}
 use mathlib.Core.Logic.{dite}
 use native.Mathlib.Decide.{ℕ_discrete}
@@ -12,6 +12,7 @@ use Rattle.cyc_level.specs.Events.{changed_at, cyclic_after_lose, Enabled, after
 use Rattle.cyc_level.specs.Runs.{StayCounts, one_more}
 use Rattle.cyc_level.proofs.Maps.{some_same, is_some_and, at_cases}
 use Rattle.ring_raise.specs.Allowed.{RaiseLoadIsAllowed}
+use Rattle.ring_rule.specs.Words.{entry_id}
 use Rattle.ring_rule.specs.declared.RaiseStep.{RaiseStep}
 use Rattle.ring_rule.specs.declared.RaiseStep.TheVariants.{Loaded, Lost}
 use Rattle.ring_rule.specs.declared.DrainStep.{DrainStep}
@@ -71,8 +72,8 @@ module _ (k : Setting) (small : k.ceiling < 2 ^ 32) (ws : List ℕ) (rs : List R
     produced = sh.produced;
   }
 
-  pub loads_learned : StillHolds k.start ws (Loaded id n ∷ rs) ds l
-  loads_learned = let le = N.still in record {
+  pub loads_still : StillHolds k.start ws (Loaded id n ∷ rs) ds l
+  loads_still = let le = N.still in record {
     seen_is_enough = counts (n % 2 ^ 32) below l.cyclics (λ j. refl);
     hand_stored = tt;
     fresh = le.fresh;
@@ -121,12 +122,12 @@ module _ (k : Setting) (small : k.ceiling < 2 ^ 32) (ws : List ℕ) (rs : List R
     produced = sh.produced;
   }
 
-  pub loses_learned : StillHolds k.start ws (Lost id n ∷ rs) ds (after (Lose id) l)
-  loses_learned = let le = N.still in record {
+  pub loses_still : StillHolds k.start ws (Lost id n ∷ rs) ds (after (Lose id) l)
+  loses_still = let le = N.still in record {
     seen_is_enough = counts n refl m' still;
     hand_stored = tt;
     fresh = le.fresh;
-    held_is = λ e h. let x = le.held_is e h in let y = keeps_option_map l.cyclics id cyclic_after_lose same_index (e / 256) x.0 x.1 in (y.0, y.1, y.2 ∙ x.2);
+    held_is = λ e h. let x = le.held_is e h in let y = keeps_option_map l.cyclics id cyclic_after_lose same_index (entry_id e) x.0 x.1 in (y.0, y.1, y.2 ∙ x.2);
     followed_is = le.followed_is;
     bank_is = le.bank_is;
     some_left = le.some_left;
@@ -143,7 +144,7 @@ raise_loads k slots seat me i id st role is at_i free bare room ceiling same_c =
       tt,
       raise_moves k s R seat me.0 at me.1 i n role (Lost id n) (Lose id) refl refl (loses_enabled k small s.words t R.drain_trail l N i id st is' at_i free' (ap firer_hand_of (sym same) ∙ bare) (full ∙ same_c) room)
           (loaded (λ x. Shows k.start x (Lost id n ∷ t) R.drain_trail (after (Lose id) l)) s.words i (loses_shown k small s.words t R.drain_trail l N i id st is' at_i free'))
-          (loaded (λ x. StillHolds k.start x (Lost id n ∷ t) R.drain_trail (after (Lose id) l)) s.words i (loses_learned k small s.words t R.drain_trail l N i id st is' at_i free')),
+          (loaded (λ x. StillHolds k.start x (Lost id n ∷ t) R.drain_trail (after (Lose id) l)) s.words i (loses_still k small s.words t R.drain_trail l N i id st is' at_i free')),
       (high, most, (λ _. refl), λ ne. absurd (ne full)),
     ))
     (λ less. (
@@ -152,6 +153,6 @@ raise_loads k slots seat me i id st role is at_i free bare room ceiling same_c =
       tt,
       raise_stays k s R seat me.0 at me.1 i n role (Loaded id n) refl
           (loaded (λ x. Shows k.start x (Loaded id n ∷ t) R.drain_trail l) s.words i (loads_shown k small s.words t R.drain_trail l N i id st is' at_i free'))
-          (loaded (λ x. StillHolds k.start x (Loaded id n ∷ t) R.drain_trail l) s.words i (loads_learned k small s.words t R.drain_trail l N i id st is' at_i free')),
+          (loaded (λ x. StillHolds k.start x (Loaded id n ∷ t) R.drain_trail l) s.words i (loads_still k small s.words t R.drain_trail l N i id st is' at_i free')),
       (high, most, (λ e. absurd (less e)), λ _. refl),
     )))

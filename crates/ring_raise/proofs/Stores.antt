@@ -9,11 +9,12 @@ use Rattle.cyc_level.specs.Level.{Cyclic, Level}
 use Rattle.cyc_level.specs.Runs.{StayCounts}
 use Rattle.cyc_level.proofs.Room.{new_fits}
 use Rattle.ring_raise.specs.Allowed.{StoreIsAllowed}
+use Rattle.cyc_types.specs.Limits.{cyclics}
 use Rattle.ring_rule.specs.declared.RaiseStep.{RaiseStep}
 use Rattle.ring_rule.specs.declared.RaiseStep.TheVariants.{Stored}
 use Rattle.ring_rule.specs.declared.DrainStep.{DrainStep}
 use Rattle.ring_rule.specs.declared.Setting.{Setting}
-use Rattle.ring_rule.specs.Words.{place, producer_word, entry}
+use Rattle.ring_rule.specs.Words.{place, producer_word, entry, hard_word, soft_word}
 use Rattle.ring_rule.specs.Trail.{open_stay, ended_calls, firer_hand_of, hard_bank_of, producer_index, made_calls, consumer_index}
 use Rattle.ring_rule.specs.Shown.{IsHandStored, Shows, StillHolds}
 use Rattle.ring_rule.specs.Steps.{with_raise_step, TellsStore}
@@ -50,10 +51,10 @@ module _ (k : Setting) (ws : List ℕ) (rs : List RaiseStep) (ds : List DrainSte
   known : (c : Cyclic) × (l.cyclics id ≡ Some c) × (st.index ≡ c.index) × (st.sent ≡ c.sent) × (st.lost ≡ c.lost) × (made_calls id ds ≡ c.done + ended_calls id rs)
   known = behind (made_calls id ds) (ended_calls id rs) (open_stay id rs) (l.cyclics id) st is (N.shows.stays id)
 
-  high : 256 ≤ i
+  high : cyclics ≤ i
   high = place_high l.hard_bank P
 
-  low : i < 767
+  low : i < producer_word 0
   low = place_low l.hard_bank P N.law.bank_bound
 
   kept : (j : ℕ) → j ≢ i → get_or ws' j 0 ≡ get_or ws j 0
@@ -63,8 +64,8 @@ module _ (k : Setting) (ws : List ℕ) (rs : List RaiseStep) (ds : List DrainSte
   puts_shown = let sh = N.shows in let h = high in let b = low in record {
     hard_is = sh.hard_is;
     soft_is = sh.soft_is;
-    hard_shown = kept 776 (λ e. omega arith) ∙ sh.hard_shown;
-    soft_shown = kept 777 (λ e. omega arith) ∙ sh.soft_shown;
+    hard_shown = kept hard_word (λ e. omega arith) ∙ sh.hard_shown;
+    soft_shown = kept soft_word (λ e. omega arith) ∙ sh.soft_shown;
     firer_is = sh.firer_is;
     drainer_is = sh.drainer_is;
     marked_is = sh.marked_is;
@@ -79,8 +80,8 @@ module _ (k : Setting) (ws : List ℕ) (rs : List RaiseStep) (ds : List DrainSte
     produced = sh.produced;
   }
 
-  pub puts_learned : StillHolds k.start ws' (Stored v ∷ rs) ds l
-  puts_learned = let le = N.still in let h = high in let b = low in let wide = N.wide in record {
+  pub puts_still : StillHolds k.start ws' (Stored v ∷ rs) ds l
+  puts_still = let le = N.still in let h = high in let b = low in let wide = N.wide in record {
     seen_is_enough = le.seen_is_enough;
     hand_stored = subst (IsHandStored ws' l.cyclics l.hard_bank P (Some v)) (sym up) (known.0, known.1, get_or-set_same ws i v 0 (omega arith) ∙ ap (entry id) known.2);
     fresh = λ bank more most. kept (producer_word bank) (λ e. omega arith) ∙ le.fresh bank more most;
@@ -100,6 +101,6 @@ stores k slots seat me id st role up is i at_i v is_v = and_stands k slots seat 
       tt,
       raise_stays k s R seat me.0 at me.1 i v role (Stored v) refl
           (subst (λ (x : ℕ × ℕ). Shows k.start (set s.words x.0 x.1) (Stored x.1 ∷ t) R.drain_trail l) (λ z. (here z, sym is_v z)) (puts_shown k s.words t R.drain_trail l N id st up' is'))
-          (subst (λ (x : ℕ × ℕ). StillHolds k.start (set s.words x.0 x.1) (Stored x.1 ∷ t) R.drain_trail l) (λ z. (here z, sym is_v z)) (puts_learned k s.words t R.drain_trail l N id st up' is')),
+          (subst (λ (x : ℕ × ℕ). StillHolds k.start (set s.words x.0 x.1) (Stored x.1 ∷ t) R.drain_trail l) (λ z. (here z, sym is_v z)) (puts_still k s.words t R.drain_trail l N id st up' is')),
       refl,
     ))

@@ -7,6 +7,8 @@ use Rattle.std.specs.Prelude.{Some}
 use Rattle.cyc_level.specs.Level.{Cyclic, Level, soft_list}
 use Rattle.cyc_level.specs.Lawful.{Lawful}
 use Rattle.cyc_level.proofs.Keeps.{always_lawful, same_ceiling}
+use Rattle.cyc_types.specs.Limits.{greatest_bank, cyclics}
+use Rattle.ring_rule.specs.Words.{word_count}
 use Rattle.ring_rule.specs.declared.RaiseStep.{RaiseStep}
 use Rattle.ring_rule.specs.declared.DrainStep.{DrainStep}
 use Rattle.ring_rule.specs.declared.Setting.{Setting}
@@ -17,7 +19,7 @@ use Rattle.ring_rule.proofs.Seats.{level}
 
 pub record RingNow (k : Setting) (ws : List ℕ) (rs : List RaiseStep) (ds : List DrainStep) (l : Level) : Type 0 where
   pub small : k.ceiling < 2 ^ 32
-  pub wide : length ws ≡ 778
+  pub wide : length ws ≡ word_count
   pub law : Lawful l
   pub ceiling_is : l.ceiling ≡ k.ceiling
   pub shows : Shows k.start ws rs ds l
@@ -31,8 +33,8 @@ pub loaded : (P : List ℕ → Type 0) (ws : List ℕ) (i : ℕ) → P ws → P 
 loaded P ws i h = subst P (sym (set-get_or ws i 0)) h
 
 module _ (k : Setting) (ws : List ℕ) (rs : List RaiseStep) (ds : List DrainStep) (l : Level) (N : RingNow k ws rs ds l) where
-  pub index_low : (id : ℕ) (c : Cyclic) → l.cyclics id ≡ Some c → c.index < 256
-  index_low id c e = let a = N.law.in_hard_bank id c e in let b = N.law.bank_bound in let p : 2 ^ l.hard_bank ≤ 2 ^ 8 = pow_mono {i = l.hard_bank} {j = 8} b in let q : 2 ^ 8 ≡ 256 = refl in omega (arith, a, p, q)
+  pub index_low : (id : ℕ) (c : Cyclic) → l.cyclics id ≡ Some c → c.index < cyclics
+  index_low id c e = let a = N.law.in_hard_bank id c e in let b = N.law.bank_bound in let p : 2 ^ l.hard_bank ≤ 2 ^ greatest_bank = pow_mono {i = l.hard_bank} {j = greatest_bank} b in let q : 2 ^ greatest_bank ≡ cyclics = refl in omega (arith, a, p, q)
 
   pub softs_held : BankHolds ws l.cyclics l.soft_bank (consumer_index k.start ds) (soft_list l)
   softs_held = dite (ℕ_discrete l.hard_bank l.soft_bank)

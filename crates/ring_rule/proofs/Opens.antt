@@ -1,44 +1,44 @@
 -- A ring that is opened keeps the rule.
-use Rattle.std.proofs.Common.{◌≡◌, ℕ, zero, suc, ◌+◌, ◌%◌, ◌^◌, ◌<◌, ◌≤◌, ltb, cond, List, [], ◌∷◌, length, get_or, sym, refl, ap, ◌∙◌, subst, arith, mod-eq_of_lt, lt-ltb, le-ltb}
+use Rattle.std.proofs.Common.{◌≡◌, ℕ, zero, suc, ◌%◌, ◌^◌, ◌<◌, ◌≤◌, ltb, cond, List, [], ◌∷◌, length, get_or, sym, refl, ap, ◌∙◌, subst, arith, mod-eq_of_lt, lt-ltb, le-ltb}
 use mathlib.Core.Option.{some, some-injective, some-ne-none}
 use lib.ListN.{get_elem?}
 use Rattle.atomic_table.specs.Table.{opening}
 use Rattle.cyc_level.specs.Level.{empty_level}
 use Rattle.ring_rule.specs.declared.SeatView.{SeatView}
 use Rattle.ring_rule.specs.declared.Setting.{Setting}
-use Rattle.ring_rule.specs.Words.{first_word}
+use Rattle.ring_rule.specs.Words.{first_word, producer_word, hard_word, soft_word, word_count}
 use Rattle.ring_rule.specs.Shown.{Shows, StillHolds}
 use Rattle.ring_rule.specs.Rule.{opening_view, IsSeat, MeetsRule}
 
-module _ (k : Setting) (ws : List ℕ) (long : length ws ≡ 778) (all : (j : ℕ) → j < 778 → get_or ws j 0 ≡ first_word k.start j) (small : k.start < 2 ^ 32) (ceiling_fits : k.ceiling < 2 ^ 32) where
-  low : (j : ℕ) → j < 767 → get_or ws j 0 ≡ 0
-  low j h = all j (omega arith) ∙ ap (λ b. cond b 0 (cond (ltb j 776) k.start 0)) (lt-ltb j 767 h)
+module _ (k : Setting) (ws : List ℕ) (long : length ws ≡ word_count) (all : (j : ℕ) → j < word_count → get_or ws j 0 ≡ first_word k.start j) (small : k.start < 2 ^ 32) (ceiling_fits : k.ceiling < 2 ^ 32) where
+  low : (j : ℕ) → j < producer_word 0 → get_or ws j 0 ≡ 0
+  low j h = all j (omega arith) ∙ ap (λ b. cond b 0 (cond (ltb j hard_word) k.start 0)) (lt-ltb j (producer_word 0) h)
 
-  ends : (j : ℕ) → 767 ≤ j → j < 776 → get_or ws j 0 ≡ k.start % 2 ^ 32
-  ends j from to = all j (omega arith) ∙ (ap (λ b. cond b 0 (cond (ltb j 776) k.start 0)) (le-ltb j 767 from) ∙ (ap (λ b. cond b k.start 0) (lt-ltb j 776 to) ∙ sym (mod-eq_of_lt small)))
+  ends : (j : ℕ) → producer_word 0 ≤ j → j < hard_word → get_or ws j 0 ≡ k.start % 2 ^ 32
+  ends j from to = all j (omega arith) ∙ (ap (λ b. cond b 0 (cond (ltb j hard_word) k.start 0)) (le-ltb j (producer_word 0) from) ∙ (ap (λ b. cond b k.start 0) (lt-ltb j hard_word to) ∙ sym (mod-eq_of_lt small)))
 
   opened_shown : Shows k.start ws [] [] (empty_level k.ceiling)
   opened_shown = record {
     hard_is = refl;
     soft_is = refl;
-    hard_shown = all 776 (omega arith);
-    soft_shown = all 777 (omega arith);
+    hard_shown = all hard_word (omega arith);
+    soft_shown = all soft_word (omega arith);
     firer_is = refl;
     drainer_is = refl;
     marked_is = refl;
     stays = λ j. refl;
     pends = λ j c e. absurd (cc);
     unused = λ j h _. low j (omega arith);
-    new_held = ends 767 (omega arith) (omega arith);
+    new_held = ends (producer_word 0) (omega arith) (omega arith);
     old_held = λ ne. absurd (ne refl);
     produced = omega arith;
   }
 
-  opened_learned : StillHolds k.start ws [] [] (empty_level k.ceiling)
-  opened_learned = record {
+  opened_still : StillHolds k.start ws [] [] (empty_level k.ceiling)
+  opened_still = record {
     seen_is_enough = λ j. omega arith;
     hand_stored = tt;
-    fresh = λ bank more most. ends (767 + bank) (omega arith) (omega arith);
+    fresh = λ bank more most. ends (producer_word bank) (omega arith) (omega arith);
     held_is = λ e h. absurd (cc);
     followed_is = λ _. refl;
     bank_is = λ bank e. absurd (cc);
@@ -65,5 +65,5 @@ module _ (k : Setting) (ws : List ℕ) (long : length ws ≡ 778) (all : (j : �
     firing_side = refl;
     soft_side = refl;
     shows = opened_shown;
-    still = opened_learned;
+    still = opened_still;
   }

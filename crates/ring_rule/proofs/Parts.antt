@@ -1,14 +1,14 @@
--- A seat is cut into the two ends, and the ends are put together.
+-- The split of the seat of both sides, and the join of the two seats.
 use Rattle.std.proofs.Common.{◌≡◌, ℕ, zero, suc, ◌≢◌, ◌⊎◌, List, [], ◌∷◌, ◌++◌, length, set, sym, refl, ap, ◌∙◌, subst, inl, inr, ⊎_elim, arith, length-append}
 use Rattle.atomic_table.proofs.Lists.{at_set}
 use mathlib.Core.Option.{some, some-injective, some-ne-none}
 use lib.ListN.{get_elem?}
-use Rattle.atomic_table.specs.Table.{Splits, Joins}
 use Rattle.ring_rule.specs.declared.Role.{Role}
 use Rattle.ring_rule.specs.declared.Role.TheVariants.{Joint, Raise, Drain, Spent}
 use Rattle.ring_rule.specs.declared.SeatView.{SeatView}
 use Rattle.ring_rule.specs.declared.Setting.{Setting}
 use Rattle.ring_rule.specs.Rule.{RingState, raise_view, drain_view, joint_view, spent_view, IsSeat, MeetsRule}
+use Rattle.ring_rule.specs.Moves.{SplitIsAllowed, JoinIsAllowed}
 use Rattle.ring_rule.proofs.Seats.{length_set}
 
 at_end : (l : List SeatView) (a b : SeatView) (j : ℕ) → get_elem? (l ++ a ∷ []) j ≡ some b → (get_elem? l j ≡ some b) ⊎ ((length l ≡ j) × (a ≡ b))
@@ -87,8 +87,8 @@ module _ (k : Setting) (s : RingState) (R : MeetsRule k s) where
       still = R.still;
     }
 
-pub splits : (k : Setting) (id : ℕ) (v : SeatView) → v.role ≡ Joint → Splits (MeetsRule k) id v (raise_view v) (drain_view v)
+pub splits : SplitIsAllowed
 splits k id v role s R at = parted k s R id v role at
 
-pub joins : (k : Setting) (id : ℕ) (v : SeatView) (o : ℕ) (w : SeatView) → v.role ≡ Raise → w.role ≡ Drain → Joins (MeetsRule k) id v o w (joint_view v w) spent_view
+pub joins : JoinIsAllowed
 joins k id v o w raise drain s R at apart there = joined k s R id v raise at o w drain apart there

@@ -1,4 +1,4 @@
--- What a step of one side leaves of the rule: only the shown level is to be given.
+-- What a step of one side leaves of the rule: only what it shows is to be given.
 use Rattle.std.proofs.Common.{◌≡◌, ℕ, zero, suc, ◌≢◌, true, false, cond, List, [], ◌∷◌, ◌++◌, length, set, sym, refl, ap, ◌∙◌, subst, ⊎_elim, arith, length-set}
 use Rattle.atomic_table.proofs.Lists.{at_set}
 use mathlib.Core.Option.{some}

@@ -2,7 +2,7 @@
 use Rattle.std.proofs.Common.{◌≡◌, ℕ, zero, suc, List, [], ◌∷◌, set, sym, refl, subst}
 use mathlib.Core.Option.{some, some-ne-none}
 use lib.ListN.{get_elem?}
-use Rattle.atomic_table.specs.Table.{Allows, Final, Seen}
+use Rattle.atomic_table.specs.Table.{Allows}
 use Rattle.cyc_level.proofs.Room.{conserved_level}
 use Rattle.ring_rule.specs.declared.Role.{Role}
 use Rattle.ring_rule.specs.declared.Role.TheVariants.{Joint, Raise, Drain, Spent}
@@ -13,6 +13,7 @@ use Rattle.ring_rule.specs.declared.Setting.{Setting}
 use Rattle.ring_rule.specs.Rule.{RingState, HasItsTrail, IsSeat, MeetsRule}
 use Rattle.ring_rule.specs.Conservation.{LevelStands, StandsFor, Conserves}
 use Rattle.ring_rule.specs.Steps.{ThisSeat}
+use Rattle.ring_rule.specs.Moves.{ClosingStands}
 use Rattle.ring_rule.proofs.Seats.{level}
 use Rattle.ring_rule.proofs.Now.{ring_now}
 use Rattle.ring_rule.proofs.Books.{booked, accounted, finished_stays}
@@ -55,7 +56,7 @@ and_stands k slots seat me i f then A s R homes at small = let x = A s R homes a
     (x.0, x.1, x.2, x.3, (x.4, stands_for k _ x.3 seat x.0 (at_here s.views seat me.0 x.0 at)))
 
 -- a ring that was closed with the seat of both sides
-pub closes : (k : Setting) (id : ℕ) (v : SeatView) → v.role ≡ Joint → (ws : List ℕ) (xs : List (Unit {0})) → Final (Seen (MeetsRule k) id v) ws xs → LevelStands k ws v.raise_trail v.drain_trail
+pub closes : ClosingStands
 closes k id v role ws xs f = let s : RingState = f.0 in let R : MeetsRule k s = f.1.0 in
     let knows = subst (λ (r : Role). IsSeat R.raise_trail R.drain_trail R.raise_seat R.drain_seat id v r) role (R.seats id v f.1.1) in
     subst (λ (t : List ℕ × List RaiseStep × List DrainStep). LevelStands k t.0 t.1 t.2) (λ z. (f.2 z, sym knows.2 z, sym knows.3 z)) (level_stands k s R)

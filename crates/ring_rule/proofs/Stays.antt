@@ -10,7 +10,7 @@ use Rattle.cyc_level.specs.Runs.{StayCounts, one_more}
 use Rattle.cyc_level.proofs.Maps.{some_same, hand_else}
 use Rattle.ring_rule.specs.Shown.{IsSameStay}
 
--- the cyclic behind a open_stay
+-- the cyclic behind a stay
 pub behind : (m e : ℕ) (o : Option StayCounts) (p : Option Cyclic) (s : StayCounts) → o ≡ Some s → IsSameStay m e o p
     → (c : Cyclic) × (p ≡ Some c) × (s.index ≡ c.index) × (s.sent ≡ c.sent) × (s.lost ≡ c.lost) × (m ≡ c.done + e)
 behind m e None p s is h = let x : None ≡ Some s = is in absurd (cc)

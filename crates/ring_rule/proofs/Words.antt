@@ -5,15 +5,16 @@ use Rattle.std.specs.Option.{option_map}
 use Rattle.cyc_level.specs.Level.{Cyclic, Cyclics}
 use Rattle.cyc_level.specs.Events.{changed_at}
 use Rattle.cyc_level.proofs.Maps.{at_cases}
+use Rattle.cyc_types.specs.Limits.{greatest_bank, cyclics}
 use Rattle.ring_rule.specs.Words.{place, producer_word, entry}
 use Rattle.ring_rule.specs.Shown.{HoldsEntry, BankHolds, IsHandStored}
 
-pub place_high : (bank i : ℕ) → 256 ≤ place bank i
+pub place_high : (bank i : ℕ) → cyclics ≤ place bank i
 place_high bank i = let p : 0 < 2 ^ bank = pow_pos bank in omega (arith, p)
 
-pub place_low : (bank i : ℕ) → bank ≤ 8 → place bank i < 767
-place_low bank i h = let p : 0 < 2 ^ bank = pow_pos bank in let q : 2 ^ bank ≤ 2 ^ 8 = pow_mono {i = bank} {j = 8} h in
-    let r : i % 2 ^ bank < 2 ^ bank = mod-lt i p in let e : 2 ^ 8 ≡ 256 = refl in omega (arith, p, q, r, e)
+pub place_low : (bank i : ℕ) → bank ≤ greatest_bank → place bank i < producer_word 0
+place_low bank i h = let p : 0 < 2 ^ bank = pow_pos bank in let q : 2 ^ bank ≤ 2 ^ greatest_bank = pow_mono {i = bank} {j = greatest_bank} h in
+    let r : i % 2 ^ bank < 2 ^ bank = mod-lt i p in let e : 2 ^ greatest_bank ≡ cyclics = refl in omega (arith, p, q, r, e)
 
 -- each map has the ids of the first, with their indexes
 abbrev pub Keeps : Cyclics → Cyclics → Type 0
@@ -43,8 +44,8 @@ module _ (ws ws' : List ℕ) (m m' : Cyclics) (keeps : Keeps m m') where
   stored_kept bank i (Some e) None same k = k
   stored_kept bank i (Some e) (Some id) same k = entry_kept bank i id same k
 
-  -- the words from 256 on open_stay as they were
-  module _ (high : (j : ℕ) → 256 ≤ j → get_or ws' j 0 ≡ get_or ws j 0) where
+  -- the words behind the pend words stay as they were
+  module _ (high : (j : ℕ) → cyclics ≤ j → get_or ws' j 0 ≡ get_or ws j 0) where
     pub holds_high : (bank : ℕ) (xs : List ℕ) (i : ℕ) → BankHolds ws m bank i xs → BankHolds ws' m' bank i xs
     holds_high bank xs i = holds_kept bank xs i (λ j _ _. high (place bank j) (place_high bank j)) (high (producer_word bank) (omega arith))
 

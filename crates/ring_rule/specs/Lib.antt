@@ -4,3 +4,4 @@ pub mod Shown
 pub mod Rule
 pub mod Conservation
 pub mod Steps
+pub mod Moves

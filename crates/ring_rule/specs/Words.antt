@@ -1,4 +1,4 @@
--- The words of a ring: one table for each CPU and soft level. Counts are of 64-bit words.
+-- The words of a ring: one table of 64-bit words for each CPU and soft level, and where each of them lies in it.
 use Rattle.std.specs.Prelude.{ℕ, ◌+◌, ◌-◌, ◌*◌, ◌/◌, ◌%◌, ◌^◌, nat_lt, if◌then◌else◌}
 use Rattle.cyc_types.specs.Limits.{greatest_bank, cyclics}
 use Rattle.cyc_level.specs.Level.{bank_size}

@@ -6,6 +6,7 @@
 ghost use Rattle.ring_rule.specs.declared.Setting.{Setting as TheSetting};
 ghost use Rattle.ring_rule.specs.Rule.{RingState, MeetsRule, opening_view};
 ghost use Rattle.ring_rule.specs.Conservation.{Conserves};
+ghost use Rattle.ring_rule.specs.Moves.{OpeningMeetsRule, SplitIsAllowed, JoinIsAllowed, ClosingStands};
 
 use atomic_table::TableRule;
 use std::collections::LinkedList;
@@ -87,4 +88,24 @@ impl TableRule<(), SeatView, Setting> for RingRule {
 /// bank; the pend word of an unused index is 0; and each shown entry names an admitted id.
 pub fn conservation()
     ensures { (k : TheSetting) (s : RingState) → MeetsRule k s → Conserves k s }
+{}
+
+/// A ring that is opened keeps the rule.
+pub fn opening_meets_the_rule()
+    ensures { OpeningMeetsRule }
+{}
+
+/// The split of a seat keeps the rule. It is no event.
+pub fn split_is_allowed()
+    ensures { SplitIsAllowed }
+{}
+
+/// The join of the two seats keeps the rule. It is no event.
+pub fn join_is_allowed()
+    ensures { JoinIsAllowed }
+{}
+
+/// A ring that is closed gives the run that both trails interleave to, and the books.
+pub fn closing_stands()
+    ensures { ClosingStands }
 {}

@@ -7,6 +7,7 @@ use Rattle.cyc_level.specs.declared.Event.TheVariants.{Switch, Follow}
 use Rattle.cyc_level.specs.Level.{Level}
 use Rattle.cyc_level.specs.Events.{Enabled, after}
 use Rattle.ring_turns.specs.Allowed.{SwitchIsAllowed, SoftBankLoadIsAllowed, FollowIsAllowed}
+use Rattle.cyc_types.specs.Limits.{greatest_bank}
 use Rattle.ring_rule.specs.declared.RaiseStep.{RaiseStep}
 use Rattle.ring_rule.specs.declared.RaiseStep.TheVariants.{Switched, LoadedSoftBank}
 use Rattle.ring_rule.specs.declared.DrainStep.{DrainStep}
@@ -28,12 +29,12 @@ module _ (k : Setting) (ws : List ℕ) (rs : List RaiseStep) (ds : List DrainSte
   other : (i v j : ℕ) → j ≢ i → get_or (set ws i v) j 0 ≡ get_or ws j 0
   other i v j ne = get_or-set_other ws i j v 0 ne
 
-  holds_low : (i v bank : ℕ) (xs : List ℕ) (from : ℕ) → bank ≤ 8 → 776 ≤ i → BankHolds ws l.cyclics bank from xs → BankHolds (set ws i v) l.cyclics bank from xs
+  holds_low : (i v bank : ℕ) (xs : List ℕ) (from : ℕ) → bank ≤ greatest_bank → hard_word ≤ i → BankHolds ws l.cyclics bank from xs → BankHolds (set ws i v) l.cyclics bank from xs
   holds_low i v bank xs from most high h = holds_kept ws (set ws i v) l.cyclics l.cyclics (keeps_all l.cyclics) bank xs from
       (λ j _ _. let low = place_low bank j most in other i v (place bank j) (λ e. omega arith)) (other i v (producer_word bank) (λ e. omega arith)) h
 
   -- Switch
-  module _ (bank : ℕ) (empty : firer_hand_of rs ≡ None) (even : has_followed rs ≡ true) (more : hard_bank_of rs < bank) (most : bank ≤ 8) where
+  module _ (bank : ℕ) (empty : firer_hand_of rs ≡ None) (even : has_followed rs ≡ true) (more : hard_bank_of rs < bank) (most : bank ≤ greatest_bank) where
     abbrev ws' : List ℕ
     ws' = set ws hard_word bank
 
@@ -56,24 +57,24 @@ module _ (k : Setting) (ws : List ℕ) (rs : List RaiseStep) (ds : List DrainSte
     switch_shown = let sh = N.shows in let wide = N.wide in let g = N.law.bank_bound in let b = N.law.soft_behind in let off = ne_eqb bank l.soft_bank split in record {
       hard_is = refl;
       soft_is = sh.soft_is;
-      hard_shown = get_or-set_same ws 776 bank 0 (omega arith);
-      soft_shown = other 776 bank 777 (λ e. omega arith) ∙ sh.soft_shown;
+      hard_shown = get_or-set_same ws hard_word bank 0 (omega arith);
+      soft_shown = other hard_word bank soft_word (λ e. omega arith) ∙ sh.soft_shown;
       firer_is = sh.firer_is;
       drainer_is = sh.drainer_is;
       marked_is = sh.marked_is;
       stays = sh.stays;
-      pends = λ j c e. let x = index_low k ws rs ds l N j c e in other 776 bank c.index (λ e. omega arith) ∙ sh.pends j c e;
-      unused = λ j less no. other 776 bank j (λ e. omega arith) ∙ sh.unused j less no;
-      new_held = subst (λ x. get_or ws' (producer_word bank) 0 ≡ cond x C k.start % 2 ^ 32) (sym off) (other 776 bank (producer_word bank) (λ e. omega arith) ∙ N.still.fresh bank greater most);
-      old_held = λ _. holds_low 776 bank l.soft_bank l.new_list C (omega (arith, g, b)) (omega arith) was;
+      pends = λ j c e. let x = index_low k ws rs ds l N j c e in other hard_word bank c.index (λ e. omega arith) ∙ sh.pends j c e;
+      unused = λ j less no. other hard_word bank j (λ e. omega arith) ∙ sh.unused j less no;
+      new_held = subst (λ x. get_or ws' (producer_word bank) 0 ≡ cond x C k.start % 2 ^ 32) (sym off) (other hard_word bank (producer_word bank) (λ e. omega arith) ∙ N.still.fresh bank greater most);
+      old_held = λ _. holds_low hard_word bank l.soft_bank l.new_list C (omega (arith, g, b)) (omega arith) was;
       produced = subst (λ x. k.start ≡ cond x C k.start + 0) (sym off) (omega arith);
     }
 
-    pub switch_learned : StillHolds k.start ws' (Switched bank ∷ rs) ds (after (Switch bank) l)
-    switch_learned = let le = N.still in let gr = greater in let off = ne_eqb bank l.soft_bank split in record {
+    pub switch_still : StillHolds k.start ws' (Switched bank ∷ rs) ds (after (Switch bank) l)
+    switch_still = let le = N.still in let gr = greater in let off = ne_eqb bank l.soft_bank split in record {
       seen_is_enough = le.seen_is_enough;
       hand_stored = tt;
-      fresh = λ b up top. other 776 bank (producer_word b) (λ e. omega arith) ∙ le.fresh b (omega (arith, gr, up)) top;
+      fresh = λ b up top. other hard_word bank (producer_word b) (λ e. omega arith) ∙ le.fresh b (omega (arith, gr, up)) top;
       held_is = le.held_is;
       followed_is = λ e. absurd (cc);
       bank_is = λ b saw ne. absurd (ne (le.bank_is b saw ne ∙ equal));
@@ -99,8 +100,8 @@ module _ (k : Setting) (ws : List ℕ) (rs : List RaiseStep) (ds : List DrainSte
     produced = sh.produced;
   }
 
-  pub look_learned : StillHolds k.start ws (LoadedSoftBank (get_or ws soft_word 0) ∷ rs) ds l
-  look_learned = let le = N.still in record {
+  pub look_still : StillHolds k.start ws (LoadedSoftBank (get_or ws soft_word 0) ∷ rs) ds l
+  look_still = let le = N.still in record {
     seen_is_enough = le.seen_is_enough;
     hand_stored = tt;
     fresh = le.fresh;
@@ -132,25 +133,25 @@ module _ (k : Setting) (ws : List ℕ) (rs : List RaiseStep) (ds : List DrainSte
     follow_shown = let sh = N.shows in let wide = N.wide in let off = ne_eqb l.hard_bank l.soft_bank differ in let on = eq-eqb l.hard_bank l.hard_bank refl in record {
       hard_is = sh.hard_is;
       soft_is = sym is_hard;
-      hard_shown = other 777 bank 776 (λ e. omega arith) ∙ sh.hard_shown;
-      soft_shown = get_or-set_same ws 777 bank 0 (omega arith) ∙ is_hard;
+      hard_shown = other soft_word bank hard_word (λ e. omega arith) ∙ sh.hard_shown;
+      soft_shown = get_or-set_same ws soft_word bank 0 (omega arith) ∙ is_hard;
       firer_is = sh.firer_is;
       drainer_is = sh.drainer_is;
       marked_is = sh.marked_is;
       stays = sh.stays;
-      pends = λ j c e. let x = index_low k ws rs ds l N j c e in other 777 bank c.index (λ e. omega arith) ∙ sh.pends j c e;
-      unused = λ j less no. other 777 bank j (λ e. omega arith) ∙ sh.unused j less no;
-      new_held = holds_low 777 bank l.hard_bank l.new_list (cond (eqb l.hard_bank l.hard_bank) k.start k.start) N.law.bank_bound (omega arith)
+      pends = λ j c e. let x = index_low k ws rs ds l N j c e in other soft_word bank c.index (λ e. omega arith) ∙ sh.pends j c e;
+      unused = λ j less no. other soft_word bank j (λ e. omega arith) ∙ sh.unused j less no;
+      new_held = holds_low soft_word bank l.hard_bank l.new_list (cond (eqb l.hard_bank l.hard_bank) k.start k.start) N.law.bank_bound (omega arith)
           (subst (λ (x : ℕ). BankHolds ws l.cyclics l.hard_bank x l.new_list) (ap (λ b. cond b C k.start) off ∙ ap (λ b. cond b k.start k.start) (sym on)) sh.new_held);
       old_held = λ ne. absurd (ne refl);
       produced = sh.produced ∙ ap (λ (x : ℕ). x + length l.new_list) (ap (λ b. cond b C k.start) off ∙ ap (λ b. cond b k.start k.start) (sym on));
     }
 
-    pub follow_learned : StillHolds k.start ws'' rs (Followed bank ∷ ds) (after Follow l)
-    follow_learned = let le = N.still in record {
+    pub follow_still : StillHolds k.start ws'' rs (Followed bank ∷ ds) (after Follow l)
+    follow_still = let le = N.still in record {
       seen_is_enough = le.seen_is_enough;
-      hand_stored = stored_kept ws ws'' l.cyclics l.cyclics (keeps_all l.cyclics) l.hard_bank _ _ _ (let low = place_low l.hard_bank (producer_index k.start rs) N.law.bank_bound in other 777 bank (place l.hard_bank (producer_index k.start rs)) (λ e. omega arith)) le.hand_stored;
-      fresh = λ b up top. other 777 bank (producer_word b) (λ e. omega arith) ∙ le.fresh b up top;
+      hand_stored = stored_kept ws ws'' l.cyclics l.cyclics (keeps_all l.cyclics) l.hard_bank _ _ _ (let low = place_low l.hard_bank (producer_index k.start rs) N.law.bank_bound in other soft_word bank (place l.hard_bank (producer_index k.start rs)) (λ e. omega arith)) le.hand_stored;
+      fresh = λ b up top. other soft_word bank (producer_word b) (λ e. omega arith) ∙ le.fresh b up top;
       held_is = le.held_is;
       followed_is = λ _. refl;
       bank_is = λ b e. absurd (cc);
@@ -165,7 +166,7 @@ switches k slots seat me bank role bare even more most = and_stands k slots seat
       keeps,
       tt,
       raise_moves k s R seat me.0 at me.1 hard_word bank role (Switched bank) (Switch bank) refl refl (switch_enabled k s.words t R.drain_trail l N bank bare' even' more' most)
-          (switch_shown k s.words t R.drain_trail l N bank bare' even' more' most) (switch_learned k s.words t R.drain_trail l N bank bare' even' more' most),
+          (switch_shown k s.words t R.drain_trail l N bank bare' even' more' most) (switch_still k s.words t R.drain_trail l N bank bare' even' more' most),
       refl,
     ))
 
@@ -176,7 +177,7 @@ loads_soft_bank k slots seat me role = and_stands k slots seat me soft_word (λ 
   tt,
   raise_stays k s R seat me.0 at me.1 soft_word n role (LoadedSoftBank n) refl
       (loaded (λ x. Shows k.start x (LoadedSoftBank n ∷ t) R.drain_trail l) s.words soft_word (look_shown k s.words t R.drain_trail l N n))
-      (loaded (λ x. StillHolds k.start x (LoadedSoftBank n ∷ t) R.drain_trail l) s.words soft_word (look_learned k s.words t R.drain_trail l N)),
+      (loaded (λ x. StillHolds k.start x (LoadedSoftBank n ∷ t) R.drain_trail l) s.words soft_word (look_still k s.words t R.drain_trail l N)),
   (λ e. N.shows.soft_shown ∙ (sym (N.still.followed_is (ap (has_followed) (sym same) ∙ e)) ∙ (N.shows.hard_is ∙ ap (hard_bank_of) (sym same))), refl),
 ))
 
@@ -188,6 +189,6 @@ follows k slots seat me bank end role saw apart ended_calls bare = and_stands k 
       keeps,
       tt,
       drain_moves k s R seat me.0 at me.1 soft_word bank role (Followed bank) Follow refl refl (follow_enabled k s.words R.raise_trail t l N bank end saw' apart' ended' bare')
-          (follow_shown k s.words R.raise_trail t l N bank end saw' apart' ended' bare') (follow_learned k s.words R.raise_trail t l N bank end saw' apart' ended' bare'),
+          (follow_shown k s.words R.raise_trail t l N bank end saw' apart' ended' bare') (follow_still k s.words R.raise_trail t l N bank end saw' apart' ended' bare'),
       refl,
     ))

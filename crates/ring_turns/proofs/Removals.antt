@@ -1,5 +1,5 @@
 -- The steps of a removal: Mark, the loads that follow it, and Clear.
-use Rattle.std.proofs.Common.{◌≡◌, ℕ, ◌+◌, ◌-◌, ◌*◌, ◌/◌, ◌%◌, ◌^◌, ◌<◌, ◌≤◌, ◌≢◌, eqb, cond, List, [], ◌∷◌, length, get_or, set, sym, refl, ap, ◌∙◌, subst, arith, eq-eqb, ne_eqb, mod-eq_of_lt, get_or-set_other, get_or-set_same}
+use Rattle.std.proofs.Common.{◌≡◌, ℕ, ◌+◌, ◌-◌, ◌*◌, ◌%◌, ◌^◌, ◌<◌, ◌≤◌, ◌≢◌, eqb, cond, List, [], ◌∷◌, length, get_or, set, sym, refl, ap, ◌∙◌, subst, arith, eq-eqb, ne_eqb, mod-eq_of_lt, get_or-set_other, get_or-set_same}
 use mathlib.Core.Option.{none}
 use mathlib.Core.Logic.{dite}
 use native.Mathlib.Decide.{ℕ_discrete}
@@ -12,11 +12,12 @@ use Rattle.cyc_level.specs.Events.{changed_at, Enabled, after}
 use Rattle.cyc_level.specs.Runs.{StayCounts, stay_calls}
 use Rattle.cyc_level.proofs.Maps.{some_same, is_some_of, at_other, at_cases, hand_here, hand_else}
 use Rattle.ring_turns.specs.Allowed.{LoadIsAllowed, MarkIsAllowed, ClearIsAllowed}
+use Rattle.cyc_types.specs.Limits.{cyclics}
 use Rattle.ring_rule.specs.declared.RaiseStep.{RaiseStep}
 use Rattle.ring_rule.specs.declared.RaiseStep.TheVariants.{Loaded, Marked, Cleared}
 use Rattle.ring_rule.specs.declared.DrainStep.{DrainStep}
 use Rattle.ring_rule.specs.declared.Setting.{Setting}
-use Rattle.ring_rule.specs.Words.{place, producer_word}
+use Rattle.ring_rule.specs.Words.{place, producer_word, entry_id, hard_word, soft_word}
 use Rattle.ring_rule.specs.Trail.{open_stay, ended_calls, firer_hand_of, marked_of, seen_pend, id_in, made_calls, consumer_index}
 use Rattle.ring_rule.specs.Shown.{IsSameStay, BankHolds, Shows, StillHolds}
 use Rattle.ring_rule.specs.Steps.{with_raise_step, TellsLoad, TellsMark, TellsClear}
@@ -26,7 +27,7 @@ use Rattle.ring_rule.proofs.Stays.{behind, held_once}
 use Rattle.ring_rule.proofs.Now.{RingNow, ring_now, loaded, index_low}
 use Rattle.ring_rule.proofs.Stands.{and_stands}
 
-module _ (ws ws' : List ℕ) (m : Cyclics) (id : ℕ) (high : (j : ℕ) → 256 ≤ j → get_or ws' j 0 ≡ get_or ws j 0) where
+module _ (ws ws' : List ℕ) (m : Cyclics) (id : ℕ) (high : (j : ℕ) → cyclics ≤ j → get_or ws' j 0 ≡ get_or ws j 0) where
   abbrev without : Cyclics
   without = changed_at m id (λ _. None)
 
@@ -45,19 +46,19 @@ module _ (k : Setting) (ws : List ℕ) (rs : List RaiseStep) (ds : List DrainSte
   here : c.index ≡ i
   here = sym known.2 ∙ at_i
 
-  low : i < 256
+  low : i < cyclics
   low = let h = here in let x = index_low k ws rs ds l N id c known.1 in omega (arith, h, x)
 
   abbrev n : ℕ
   n = get_or ws i 0
 
-  high : (v j : ℕ) → 256 ≤ j → get_or (set ws i v) j 0 ≡ get_or ws j 0
+  high : (v j : ℕ) → cyclics ≤ j → get_or (set ws i v) j 0 ≡ get_or ws j 0
   high v j h = let x = low in get_or-set_other ws i j v 0 (λ e. omega arith)
 
   inside : i < length ws
   inside = let w = N.wide in let x = low in omega (arith, w, x)
 
-  -- a load, also of a marked_of id
+  -- a load, also of a marked id
   module _ (small : k.ceiling < 2 ^ 32) where
     pub count_found : n % 2 ^ 32 ≡ c.count
     count_found = let p = N.shows.pends id c known.1 in let e : n ≡ get_or ws c.index 0 = ap (λ (a : ℕ). get_or ws a 0) (sym here) in let m = held_once id l.marked in
@@ -83,8 +84,8 @@ module _ (k : Setting) (ws : List ℕ) (rs : List RaiseStep) (ds : List DrainSte
       produced = sh.produced;
     }
 
-    pub load_learned : StillHolds k.start ws (Loaded id n ∷ rs) ds l
-    load_learned = let le = N.still in record {
+    pub load_still : StillHolds k.start ws (Loaded id n ∷ rs) ds l
+    load_still = let le = N.still in record {
       seen_is_enough = λ j. dite (ℕ_discrete j id)
           (λ x. subst (λ b. count l j ≤ cond b (n % 2 ^ 32) (seen_pend j rs)) (sym (eq-eqb j id x)) (let f = count_found in let e : count l j ≡ c.count = ap (λ (j : ℕ). count l j) x ∙ ap count_in known.1 in omega (arith, f, e)))
           (λ ne. subst (λ b. count l j ≤ cond b (n % 2 ^ 32) (seen_pend j rs)) (sym (ne_eqb j id ne)) (le.seen_is_enough j));
@@ -118,8 +119,8 @@ module _ (k : Setting) (ws : List ℕ) (rs : List RaiseStep) (ds : List DrainSte
     mark_shown = let sh = N.shows in record {
       hard_is = sh.hard_is;
       soft_is = sh.soft_is;
-      hard_shown = high (n + 2 ^ 32) 776 (omega arith) ∙ sh.hard_shown;
-      soft_shown = high (n + 2 ^ 32) 777 (omega arith) ∙ sh.soft_shown;
+      hard_shown = high (n + 2 ^ 32) hard_word (omega arith) ∙ sh.hard_shown;
+      soft_shown = high (n + 2 ^ 32) soft_word (omega arith) ∙ sh.soft_shown;
       firer_is = sh.firer_is;
       drainer_is = sh.drainer_is;
       marked_is = refl;
@@ -135,13 +136,13 @@ module _ (k : Setting) (ws : List ℕ) (rs : List RaiseStep) (ds : List DrainSte
       produced = sh.produced;
     }
 
-    pub mark_learned : StillHolds k.start ws' (Marked id n ∷ rs) ds (after (Mark id) l)
-    mark_learned = let le = N.still in record {
+    pub mark_still : StillHolds k.start ws' (Marked id n ∷ rs) ds (after (Mark id) l)
+    mark_still = let le = N.still in record {
       seen_is_enough = λ j. dite (ℕ_discrete j id)
           (λ x. subst (λ b. count l j ≤ cond b n (seen_pend j rs)) (sym (eq-eqb j id x)) (let f = found in let e : count l j ≡ c.count = ap (λ (j : ℕ). count l j) x ∙ ap count_in known.1 in omega (arith, f, e)))
           (λ ne. subst (λ b. count l j ≤ cond b n (seen_pend j rs)) (sym (ne_eqb j id ne)) (le.seen_is_enough j));
       hand_stored = tt;
-      fresh = λ bank more most. high (n + 2 ^ 32) (767 + bank) (omega arith) ∙ le.fresh bank more most;
+      fresh = λ bank more most. high (n + 2 ^ 32) (producer_word bank) (omega arith) ∙ le.fresh bank more most;
       held_is = le.held_is;
       followed_is = le.followed_is;
       bank_is = le.bank_is;
@@ -184,8 +185,8 @@ module _ (k : Setting) (ws : List ℕ) (rs : List RaiseStep) (ds : List DrainSte
     clear_shown = let sh = N.shows in let gone = nowhere in record {
       hard_is = sh.hard_is;
       soft_is = sh.soft_is;
-      hard_shown = high 0 776 (omega arith) ∙ sh.hard_shown;
-      soft_shown = high 0 777 (omega arith) ∙ sh.soft_shown;
+      hard_shown = high 0 hard_word (omega arith) ∙ sh.hard_shown;
+      soft_shown = high 0 soft_word (omega arith) ∙ sh.soft_shown;
       firer_is = sh.firer_is;
       drainer_is = sh.drainer_is;
       marked_is = refl;
@@ -201,12 +202,12 @@ module _ (k : Setting) (ws : List ℕ) (rs : List RaiseStep) (ds : List DrainSte
       produced = sh.produced;
     }
 
-    pub clear_learned : StillHolds k.start wz (Cleared id ∷ rs) ds (after (Clear id) l)
-    clear_learned = let le = N.still in let gone = nowhere in record {
+    pub clear_still : StillHolds k.start wz (Cleared id ∷ rs) ds (after (Clear id) l)
+    clear_still = let le = N.still in let gone = nowhere in record {
       seen_is_enough = at_cases l.cyclics id (λ _. None) (λ j o. count_in o ≤ seen_pend j rs) (omega arith) (λ j _. le.seen_is_enough j);
       hand_stored = tt;
-      fresh = λ bank more most. high 0 (767 + bank) (omega arith) ∙ le.fresh bank more most;
-      held_is = λ e h. let x = le.held_is e h in let ne : e / 256 ≢ id = λ y. let a : in_hand id l.drainer_hand ≡ 1 = ap (in_hand id) (N.shows.drainer_is ∙ (ap id_in h ∙ ap Some y)) ∙ hand_here id in omega (arith, a, gone) in (x.0, left (e / 256) x.0 ne x.1, x.2);
+      fresh = λ bank more most. high 0 (producer_word bank) (omega arith) ∙ le.fresh bank more most;
+      held_is = λ e h. let x = le.held_is e h in let ne : entry_id e ≢ id = λ y. let a : in_hand id l.drainer_hand ≡ 1 = ap (in_hand id) (N.shows.drainer_is ∙ (ap id_in h ∙ ap Some y)) ∙ hand_here id in omega (arith, a, gone) in (x.0, left (entry_id e) x.0 ne x.1, x.2);
       followed_is = le.followed_is;
       bank_is = le.bank_is;
       some_left = le.some_left;
@@ -221,7 +222,7 @@ marks k slots seat me i id st role is at_i free bare = and_stands k slots seat m
       tt,
       raise_moves k s R seat me.0 at me.1 i ((n + 2 ^ 32) % 2 ^ 64) role (Marked id n) (Mark id) refl refl (mark_enabled k s.words t R.drain_trail l N i id st is' at_i free' (ap firer_hand_of (sym same) ∙ bare))
           (subst (λ (x : ℕ). Shows k.start (set s.words i x) (Marked id n ∷ t) R.drain_trail (after (Mark id) l)) (sym f) (mark_shown k s.words t R.drain_trail l N i id st is' at_i free'))
-          (subst (λ (x : ℕ). StillHolds k.start (set s.words i x) (Marked id n ∷ t) R.drain_trail (after (Mark id) l)) (sym f) (mark_learned k s.words t R.drain_trail l N i id st is' at_i free')),
+          (subst (λ (x : ℕ). StillHolds k.start (set s.words i x) (Marked id n ∷ t) R.drain_trail (after (Mark id) l)) (sym f) (mark_still k s.words t R.drain_trail l N i id st is' at_i free')),
       (subst (λ (t : List RaiseStep). n ≤ seen_pend id t) (sym same) (top k s.words t R.drain_trail l N i id st is' at_i free'), refl),
     ))
 
@@ -232,7 +233,7 @@ clears k slots seat me i id st role is at_i mine zero_seen bare = and_stands k s
       keeps,
       tt,
       raise_moves k s R seat me.0 at me.1 i 0 role (Cleared id) (Clear id) refl refl (clear_enabled k s.words t R.drain_trail l N i id st is' at_i mine' z' (ap firer_hand_of (sym same) ∙ bare))
-          (clear_shown k s.words t R.drain_trail l N i id st is' at_i mine' z') (clear_learned k s.words t R.drain_trail l N i id st is' at_i mine' z'),
+          (clear_shown k s.words t R.drain_trail l N i id st is' at_i mine' z') (clear_still k s.words t R.drain_trail l N i id st is' at_i mine' z'),
       refl,
     ))
 
@@ -244,6 +245,6 @@ loads k slots seat me i id st role is at_i = and_stands k slots seat me i (λ n.
       tt,
       raise_stays k s R seat me.0 at me.1 i n role (Loaded id n) refl
           (loaded (λ x. Shows k.start x (Loaded id n ∷ t) R.drain_trail l) s.words i (load_shown k s.words t R.drain_trail l N i id st is' at_i small))
-          (loaded (λ x. StillHolds k.start x (Loaded id n ∷ t) R.drain_trail l) s.words i (load_learned k s.words t R.drain_trail l N i id st is' at_i small)),
+          (loaded (λ x. StillHolds k.start x (Loaded id n ∷ t) R.drain_trail l) s.words i (load_still k s.words t R.drain_trail l N i id st is' at_i small)),
       (subst (λ (t : List RaiseStep). n % 2 ^ 32 ≤ seen_pend id t) (sym same) (load_top k s.words t R.drain_trail l N i id st is' at_i small), refl),
     ))
