@@ -1,0 +1,4 @@
+pub mod Orders
+pub mod Slots
+pub mod Holes
+pub mod Hollows
