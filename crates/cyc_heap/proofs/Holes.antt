@@ -28,10 +28,10 @@ links_opened entries positions hole low linked = record {
 
 -- an entry x is written at the place h, and the place at its index
 module _ (h : ℕ) (entries : List Entry) (positions : List ℕ) (x : Entry) (low_h : h < length entries) (low_x : x.index < length positions) where
-  entry_here : entry_at (set entries h x) h ≡ x
+  pub entry_here : entry_at (set entries h x) h ≡ x
   entry_here = get_or-set_same entries h x nowhere low_h
 
-  entry_rest : (p : ℕ) → p ≢ h → entry_at (set entries h x) p ≡ entry_at entries p
+  pub entry_rest : (p : ℕ) → p ≢ h → entry_at (set entries h x) p ≡ entry_at entries p
   entry_rest p ne = get_or-set_other entries h p x nowhere ne
 
   index_here : (p : ℕ) → p ≡ h → index_at (set entries h x) p ≡ x.index
@@ -40,10 +40,10 @@ module _ (h : ℕ) (entries : List Entry) (positions : List ℕ) (x : Entry) (lo
   index_rest : (p : ℕ) → p ≢ h → index_at (set entries h x) p ≡ index_at entries p
   index_rest p ne = ap (λ (e : Entry). e.index) (entry_rest p ne)
 
-  place_here : (i : ℕ) → i ≡ x.index → get_or (set positions x.index h) i 0 ≡ h
+  pub place_here : (i : ℕ) → i ≡ x.index → get_or (set positions x.index h) i 0 ≡ h
   place_here i eq = ap (λ i. get_or (set positions x.index h) i 0) eq ∙ get_or-set_same positions x.index h 0 low_x
 
-  place_rest : (i : ℕ) → i ≢ x.index → get_or (set positions x.index h) i 0 ≡ get_or positions i 0
+  pub place_rest : (i : ℕ) → i ≢ x.index → get_or (set positions x.index h) i 0 ≡ get_or positions i 0
   place_rest i ne = get_or-set_other positions x.index i h 0 ne
 
   long_entries : length (set entries h x) ≡ length entries

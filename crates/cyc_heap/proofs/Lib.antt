@@ -2,3 +2,5 @@ pub mod Orders
 pub mod Slots
 pub mod Holes
 pub mod Hollows
+pub mod Views
+pub mod Edits

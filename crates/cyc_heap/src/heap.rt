@@ -5,7 +5,7 @@ ghost use Rattle.cyc_heap.specs.Array.{IsLinked, slots};
 ghost use Rattle.cyc_heap.specs.Heap.{HeapView, new_heap, size_of, len_of, expiration_at, with_moment, pair_of, IsEmpty, IsLeast};
 
 use crate::entry::Entry;
-use crate::sift::{fill, put};
+use crate::sift::fill;
 use cyc_types::{CyclicId, Index, Moment, Refusal};
 use std::alloc::Global;
 use std::marker::Model;
@@ -160,12 +160,14 @@ impl ExpiryHeap {
         ensures slots { self.new.slots ≡ slice_set self.old.slots index None }
         ensures room { self.new.room ≡ self.old.room }
     {
-        let hole = self.positions[index.number() as usize];
+        let number = index.number() as usize;
+        let hole = self.positions[number];
         let last = self.len - 1;
         let removed = self.entries[hole];
         let moved = self.entries[last];
         self.len = last;
-        put(&mut self.entries, &mut self.positions, last, removed);
+        self.entries[last] = removed;
+        self.positions[number] = last;
         if hole < last {
             fill(&mut self.entries, &mut self.positions, last, hole, moved);
         }

@@ -1,4 +1,4 @@
-ghost use Rattle.std.specs.Prelude.{◌≡◌, ◌≢◌, ℕ, ◌+◌, ◌*◌, ◌<◌, ◌≤◌, ◌⊎◌, true, length, slice_set, Some};
+ghost use Rattle.std.specs.Prelude.{◌≡◌, ◌≢◌, ℕ, ◌+◌, ◌*◌, ◌<◌, ◌≤◌, ◌⊎◌, true, length, slice_set, vec_capacity, Some};
 ghost use Rattle.cyc_expirations.specs.Expirations.{is_before};
 ghost use Rattle.cyc_types.specs.Limits.{cyclics};
 ghost use Rattle.cyc_heap.specs.Array.{key, key_at, IsLinked, IsLinkedBut, IsOrdered, IsOrderedBut, IsBridged, slots};
@@ -18,7 +18,7 @@ fn least_child(entries: &[Entry], place: usize) -> usize
 }
 
 /// Writes an entry at a place, and the place at the entry's index.
-pub(crate) fn put(entries: &mut [Entry], positions: &mut [usize], place: usize, entry: Entry)
+fn put(entries: &mut [Entry], positions: &mut [usize], place: usize, entry: Entry)
     requires place { place < length entries.old }
     requires index { entry.index < length positions.old }
     ensures entries { entries.new ≡ slice_set entries.old place entry }
@@ -29,9 +29,9 @@ pub(crate) fn put(entries: &mut [Entry], positions: &mut [usize], place: usize, 
     positions[index] = place;
 }
 
-/// Puts an entry into a hole of the heap, which is in order but at the hole: the hole goes down to a leaf by the
-/// children that expire first, and then up to where the entry is in order.
-pub(crate) fn fill(
+/// Moves the hole down to a leaf by the children that expire first, and then up to where the entry is in order, and puts
+/// the entry there.
+fn sift(
     entries: &mut [Entry],
     positions: &mut [usize],
     len: usize,
@@ -72,4 +72,34 @@ pub(crate) fn fill(
         hole = parent;
     }
     put(entries, positions, hole, entry);
+}
+
+/// Puts an entry into a hole of the heap, which is in order but at the hole.
+pub(crate) fn fill(
+    entries: &mut Vec<Entry>,
+    positions: &mut Vec<usize>,
+    len: usize,
+    hole: usize,
+    entry: Entry,
+)
+    requires few { length entries.old.items ≤ cyclics }
+    requires len { len ≤ length entries.old.items }
+    requires hole { hole < len }
+    requires linked { IsLinkedBut hole entry.index entries.old.items positions.old.items }
+    requires order { IsOrderedBut hole len (key_at entries.old.items) }
+    requires bridged { IsBridged hole len (key_at entries.old.items) }
+    ensures linked { IsLinked entries.new.items positions.new.items }
+    ensures order { IsOrdered len (key_at entries.new.items) }
+    ensures length { length entries.new.items ≡ length entries.old.items }
+    ensures slots { slots len entries.new.items positions.new.items ≡ slice_set (slots len entries.old.items positions.old.items) entry.index (Some (key entry)) }
+    ensures entries { vec_capacity entries.new ≡ vec_capacity entries.old }
+    ensures positions { vec_capacity positions.new ≡ vec_capacity positions.old }
+{
+    sift(
+        entries.as_mut_slice(),
+        positions.as_mut_slice(),
+        len,
+        hole,
+        entry,
+    );
 }

@@ -6,8 +6,8 @@ use Rattle.cyc_heap.specs.declared.entry.Entry.{Entry}
 use Rattle.cyc_heap.specs.Array.{key, key_at, entry_at, IsChild, IsOrdered, slots}
 use Rattle.cyc_heap.proofs.Orders.{child_low, parent, one_parent, before_self}
 use Rattle.cyc_heap.proofs.Hollows.{Hollow, IsAbove, at_m, hollow_down, hollow_up, hollow_slots, hollow_order, least_of_both}
-use Rattle.cyc_heap.proofs.sift.fill.Goals as goal
-use Rattle.cyc_heap.proofs.sift.fill.Goals.{then-hole-len, else-hole-len, else-up-test, then-up-test+then-not-expires_before}
+use Rattle.cyc_heap.proofs.sift.sift.Goals as goal
+use Rattle.cyc_heap.proofs.sift.sift.Goals.{then-hole-len, else-hole-len, else-up-test, then-up-test+then-not-expires_before}
 
 pub down-preserved : goal.down-preserved
 down-preserved c =

@@ -1,6 +1,6 @@
 use Rattle.std.proofs.Common.{◌-◌}
 use Rattle.cyc_heap.proofs.Hollows.{Hollow, IsAbove}
-use Rattle.cyc_heap.proofs.sift.fill.Given as goal
+use Rattle.cyc_heap.proofs.sift.sift.Given as goal
 
 abbrev pub invariant-down : goal.invariant-down
 invariant-down l = Hollow l.len l.entry l.fn.entries l.fn.positions l.hole l.entries l.positions
