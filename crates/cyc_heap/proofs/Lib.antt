@@ -4,3 +4,4 @@ pub mod Holes
 pub mod Hollows
 pub mod Views
 pub mod Edits
+pub mod Widening

@@ -216,12 +216,12 @@ fn add_free(entries: &mut Vec<Entry>, positions: &mut Vec<usize>, size: usize)
     ensures linked { IsLinked entries.new.items positions.new.items }
     ensures length { length entries.new.items ≡ max (length entries.old.items) size }
     ensures slots { (len : ℕ) → len ≤ length entries.old.items → slots len entries.new.items positions.new.items ≡ slots len entries.old.items positions.old.items ++ replicate (size - length entries.old.items) None }
-    ensures entries { vec_capacity entries.new ≡ vec_capacity entries.old }
-    ensures positions { vec_capacity positions.new ≡ vec_capacity positions.old }
+    ensures entries { vec_capacity entries.old ≤ vec_capacity entries.new }
+    ensures positions { vec_capacity positions.old ≤ vec_capacity positions.new }
 {
     for number in entries.len()..size {
         let index = Index::new(number as u16).unwrap();
-        let _ = entries.push(Entry::free(index));
-        let _ = positions.push(number);
+        entries.push(Entry::free(index)).unwrap();
+        positions.push(number).unwrap();
     }
 }

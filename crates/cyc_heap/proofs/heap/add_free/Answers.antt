@@ -1,0 +1,37 @@
+use Rattle.std.proofs.Common.{◌≡◌, ℕ, ◌+◌, ◌-◌, ◌<◌, ◌≤◌, List, [], ◌∷◌, ◌++◌, length, replicate, Option, Some, None, IfSome, cond, is_ok, sym, ap, ◌∙◌, subst, subst₂, arith}
+use Rattle.std.proofs.lemmas.Bool.{cond-true}
+use Rattle.std.proofs.lemmas.List.{length_push}
+use Rattle.cyc_expirations.specs.Expirations.{Expiration}
+use Rattle.cyc_heap.specs.declared.entry.Entry.{Entry}
+use Rattle.cyc_heap.specs.Array.{IsLinked, slots}
+use Rattle.cyc_heap.proofs.Widening.{pushed_linked, pushed_slots, free_more}
+use Rattle.cyc_heap.proofs.heap.add_free.Goals as goal
+
+pub loop-number-preserved : goal.loop-number-preserved
+loop-number-preserved c =
+    let h = c.loop-number.invariant in
+    let n = c.loop-number.number in
+    let es = c.loop-number.entries.items in
+    let ps = c.loop-number.positions.items in
+    let x = c.free.result in
+    let test = c.loop-number-test.true in
+    let least = h.least in
+    let index : x.index ≡ n = c.free.ensures ∙ subst (λ o. IfSome o (λ i. i ≡ n)) c.unwrap-index.ensures c.new.ensures.value in
+    let new_es = c.push.ensures.items ∙ cond-true _ (es ++ x ∷ []) es (ap is_ok c.unwrap.ensures) in
+    let new_ps = c.push-in-loop-number.ensures.items ∙ cond-true _ (ps ++ n ∷ []) ps (ap is_ok c.unwrap-in-loop-number.ensures) in
+    let more = c.push.ensures.capacity in
+    let more_ps = c.push-in-loop-number.ensures.capacity in
+    let was = h.entries in
+    let was_ps = h.positions in
+    record {
+      long = ap length new_es ∙ length_push es x ∙ ap (λ k. k + 1) h.long;
+      least = omega (arith, least);
+      most = omega (arith, test);
+      linked = subst₂ IsLinked (sym new_es) (sym new_ps) (pushed_linked es ps n x h.long index h.linked);
+      slots = λ len low. ap (λ (es : List Entry). slots len es c.push-in-loop-number.new.self.items) new_es ∙ ap (slots len (es ++ x ∷ [])) new_ps
+          ∙ pushed_slots es ps n x h.long index h.linked len (omega (arith, low, least))
+          ∙ ap (λ (os : List (Option Expiration)). os ++ None ∷ []) (h.slots len low)
+          ∙ free_more (slots len c.args.entries.now.items c.args.positions.now.items) (length c.args.entries.now.items) n least;
+      entries = omega (arith, more, was);
+      positions = omega (arith, more_ps, was_ps);
+    }
