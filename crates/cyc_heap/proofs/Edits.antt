@@ -1,15 +1,14 @@
 -- The heap after an expiration was put in or taken out.
-use Rattle.std.proofs.Common.{◌≡◌, ◌≢◌, ℕ, ◌+◌, ◌-◌, ◌<◌, ◌≤◌, ◌⊎◌, inl, inr, true, List, length, get_or, Option, Some, None, is_some, count_by, refl, sym, ap, ◌∙◌, subst, subst₂, arith}
+use Rattle.std.proofs.Common.{◌≡◌, ◌≢◌, ℕ, ◌+◌, ◌<◌, ◌≤◌, inl, inr, true, List, length, get_or, Option, Some, None, is_some, count_by, sym, ap, ◌∙◌, subst, subst₂, arith}
 use Rattle.std.proofs.Math.ListN.{set}
 use Rattle.std.proofs.lemmas.Bool.{cases_eq, cases_lt}
 use Rattle.std.proofs.lemmas.List.{length-set, get_or-set_same, get_or-set_other, set-get_or, same_lists}
 use Rattle.cyc_expirations.specs.Expirations.{Expiration, is_before}
 use Rattle.cyc_heap.specs.declared.entry.Entry.{Entry}
-use Rattle.cyc_heap.specs.Array.{nowhere, key, entry_at, key_at, index_at, slot, slots, IsChild, IsLinked, IsLinkedBut, IsOrdered, IsOrderedBut, IsBridged, IsHeap}
-use Rattle.cyc_heap.specs.Heap.{HeapView, expiration_at}
+use Rattle.cyc_heap.specs.Array.{key, entry_at, key_at, index_at, slot, slots, IsLinked, IsLinkedBut, IsOrdered, IsBridged, IsHeap}
 use Rattle.cyc_heap.proofs.Slots.{length-slots, slots_at, slot_used, slot_free, slot_kept}
-use Rattle.cyc_heap.proofs.Orders.{child_low, Writes, hole_made}
-use Rattle.cyc_heap.proofs.Holes.{keys_written, links_opened, moved_linked, filled_linked, entry_rest, place_here, place_rest}
+use Rattle.cyc_heap.proofs.Orders.{child_low, hole_made}
+use Rattle.cyc_heap.proofs.Holes.{links_opened, moved_linked, filled_linked, entry_rest, place_here, place_rest}
 use Rattle.cyc_heap.proofs.Views.{IsPlace, count_more, count_less}
 
 -- lists that differ at one place alone are equal once that place is written
@@ -17,10 +16,10 @@ pub set_but : (xs ys : List (Option Expiration)) (i : ℕ) (v : Option Expiratio
     → ((k : ℕ) (d : Option Expiration) → k < length xs → k ≢ i → get_or xs k d ≡ get_or ys k d) → set xs i v ≡ set ys i v
 set_but xs ys i v long rest = same_lists (set xs i v) (set ys i v) (length-set xs i v ∙ long ∙ sym (length-set ys i v))
     (λ k d low. let l = length-set xs i v in elim (cases_eq k i) [
-        inl eq ↦ ap (λ i'. get_or (set xs i v) i' d) eq ∙ get_or-set_same xs i v d (omega (arith, low, l, eq))
-            ∙ sym (get_or-set_same ys i v d (omega (arith, low, l, eq, long))) ∙ ap (λ i'. get_or (set ys i v) i' d) (sym eq)
+      | inl eq ↦ ap (λ i'. get_or (set xs i v) i' d) eq ∙ get_or-set_same xs i v d (omega (arith, low, l, eq))
+          ∙ sym (get_or-set_same ys i v d (omega (arith, low, l, eq, long))) ∙ ap (λ i'. get_or (set ys i v) i' d) (sym eq)
       | inr off ↦ get_or-set_other xs i k v d off ∙ rest k d (omega (arith, low, l)) off ∙ sym (get_or-set_other ys i k v d off)
-      ])
+    ])
 
 -- what a place has already changes nothing when it is written
 pub set_same_value : (xs : List (Option Expiration)) (i : ℕ) (v : Option Expiration) → get_or xs i None ≡ v → set xs i v ≡ xs
@@ -35,14 +34,14 @@ module _ (len : ℕ) (entries : List Entry) (positions : List ℕ) (h : IsHeap l
   longer_slots i v is = set_but (slots (len + 1) entries positions) (slots len entries positions) i v
       (length-slots (len + 1) entries positions ∙ sym (length-slots len entries positions))
       (λ k d low ne.
-        let l = length-slots (len + 1) entries positions in
-        let low_k : k < length positions = omega (arith, low, l) in
-        let down = h.linked.down k (low_entry k low_k) in
-        let off : get_or positions k 0 ≢ len = λ q. ne (sym down.1 ∙ ap (index_at entries) q ∙ is) in
-        slots_at (len + 1) entries positions k d low_k ∙ elim (cases_lt (get_or positions k 0) len) [
-            inl used ↦ slot_used (len + 1) entries (get_or positions k 0) (omega (arith, used)) ∙ sym (slot_used len entries (get_or positions k 0) used)
-          | inr free ↦ slot_free (len + 1) entries (get_or positions k 0) (omega (arith, free, off)) ∙ sym (slot_free len entries (get_or positions k 0) free)
-          ] ∙ sym (slots_at len entries positions k d low_k))
+      let l = length-slots (len + 1) entries positions in
+      let low_k : k < length positions = omega (arith, low, l) in
+      let down = h.linked.down k (low_entry k low_k) in
+      let off : get_or positions k 0 ≢ len = λ q. ne (sym down.1 ∙ ap (index_at entries) q ∙ is) in
+      slots_at (len + 1) entries positions k d low_k ∙ elim (cases_lt (get_or positions k 0) len) [
+        | inl used ↦ slot_used (len + 1) entries (get_or positions k 0) (omega (arith, used)) ∙ sym (slot_used len entries (get_or positions k 0) used)
+        | inr free ↦ slot_free (len + 1) entries (get_or positions k 0) (omega (arith, free, off)) ∙ sym (slot_free len entries (get_or positions k 0) free)
+      ] ∙ sym (slots_at len entries positions k d low_k))
 
   -- the first place after the heap has a free index
   pub first_free : (i : ℕ) → len < length entries → index_at entries len ≡ i → (i < length positions) × (get_or (slots len entries positions) i None ≡ None)
@@ -58,14 +57,14 @@ module _ (len : ℕ) (entries : List Entry) (positions : List ℕ) (h : IsHeap l
       → IsOrdered (len + 1) (key_at new_entries) → length new_entries ≡ length entries → slots (len + 1) new_entries new_positions ≡ set (slots len entries positions) i (Some k)
       → IsHeap (len + 1) new_entries new_positions
   heap_longer i k new_entries new_positions room is linked order long eq = let (low, free) = first_free i room is in record {
-      few = (let few = h.few in omega (arith, few, long));
-      within = omega (arith, room, long);
-      linked = linked;
-      order = order;
-      count = ap (count_by is_some) eq
-          ∙ count_more (slots len entries positions) i k (let l = length-slots len entries positions in omega (arith, low, l)) free
-          ∙ ap (λ n. n + 1) h.count;
-    }
+    few = (let few = h.few in omega (arith, few, long));
+    within = omega (arith, room, long);
+    linked = linked;
+    order = order;
+    count = ap (count_by is_some) eq
+        ∙ count_more (slots len entries positions) i k (let l = length-slots len entries positions in omega (arith, low, l)) free
+        ∙ ap (λ n. n + 1) h.count;
+  }
 
   -- the entry x at the place p of the index i goes to the end of the heap, which is one shorter
   module _ (last i p : ℕ) (x : Entry) (end : last + 1 ≡ len) (pl : IsPlace len entries positions i p) (is : entry_at entries p ≡ x) where
@@ -89,7 +88,7 @@ module _ (len : ℕ) (entries : List Entry) (positions : List ℕ) (h : IsHeap l
         let used = pl.used in
         let at : p ≡ last = omega (arith, after, used, end) in
         filled_linked last entries positions x low_last low_x
-          (subst (λ m. IsLinkedBut last m entries positions) (ap (index_at entries) (sym at) ∙ ap (λ (x : Entry). x.index) is) (links_opened entries positions last low_last h.linked))
+        (subst (λ m. IsLinkedBut last m entries positions) (ap (index_at entries) (sym at) ∙ ap (λ (x : Entry). x.index) is) (links_opened entries positions last low_last h.linked))
 
     shorter_key : (k : ℕ) → k ≢ last → key_at (set entries last x) k ≡ key_at entries k
     shorter_key k ne = ap key (entry_rest last entries positions x low_last low_x k ne)
@@ -97,12 +96,12 @@ module _ (len : ℕ) (entries : List Entry) (positions : List ℕ) (h : IsHeap l
     pub shorter_order : IsOrdered last (key_at (set entries last x))
     shorter_order a c child low = (let l = child_low a c child in
         subst₂ (λ x y. is_before x y ≡ true) (sym (shorter_key a (λ q. absurd (omega (arith, q, l, low))))) (sym (shorter_key c (λ q. absurd (omega (arith, q, low)))))
-          (h.order a c child (omega (arith, low, end))))
+        (h.order a c child (omega (arith, low, end))))
 
     pub shorter_bridged : p < last → IsBridged p last (key_at (set entries last x))
     shorter_bridged before a c is_p is_c low = (let l = child_low a p is_p in
         subst₂ (λ x y. is_before x y ≡ true) (sym (shorter_key a (λ q. absurd (omega (arith, q, l, before))))) (sym (shorter_key c (λ q. absurd (omega (arith, q, low)))))
-          ((hole_made len p (key_at entries) h.order pl.used).1 a c is_p is_c (omega (arith, low, end))))
+        ((hole_made len p (key_at entries) h.order pl.used).1 a c is_p is_c (omega (arith, low, end))))
 
     shorter_free : (k : ℕ) → k ≡ i → slot last (set entries last x) (get_or (set positions x.index last) k 0) ≡ None
     shorter_free k eq = (let at = place_here last entries positions x low_last low_x k (eq ∙ sym x_index) in slot_free last (set entries last x) (get_or (set positions x.index last) k 0) (omega (arith, at)))
@@ -114,9 +113,9 @@ module _ (len : ℕ) (entries : List Entry) (positions : List ℕ) (h : IsHeap l
         ap (slot last (set entries last x)) (place_rest last entries positions x low_last low_x k (λ q. ne (q ∙ x_index)))
         ∙ slot_kept last entries (set entries last x) (get_or positions k 0) (entry_rest last entries positions x low_last low_x (get_or positions k 0) apart)
         ∙ elim (cases_lt (get_or positions k 0) len) [
-            inl used ↦ slot_used last entries (get_or positions k 0) (omega (arith, used, end, apart)) ∙ sym (slot_used len entries (get_or positions k 0) used)
+          | inl used ↦ slot_used last entries (get_or positions k 0) (omega (arith, used, end, apart)) ∙ sym (slot_used len entries (get_or positions k 0) used)
           | inr free ↦ slot_free last entries (get_or positions k 0) (omega (arith, free, end)) ∙ sym (slot_free len entries (get_or positions k 0) free)
-          ]
+        ]
 
     long_new : length (slots last (set entries last x) (set positions x.index last)) ≡ length (slots len entries positions)
     long_new = length-slots last (set entries last x) (set positions x.index last) ∙ length-set positions x.index last ∙ sym (length-slots len entries positions)
@@ -131,17 +130,17 @@ module _ (len : ℕ) (entries : List Entry) (positions : List ℕ) (h : IsHeap l
         let low_n : k < length (set positions x.index last) = omega (arith, low, l₁) in
         let low_k : k < length positions = omega (arith, low_n, l₂) in
         slots_at last (set entries last x) (set positions x.index last) k d low_n ∙ elim (cases_eq k i) [
-            inl eq ↦ shorter_free k eq ∙ sym (get_or-set_same (slots len entries positions) i None d (omega (arith, low_k, l₃, eq)))
-                ∙ ap (λ n. get_or (set (slots len entries positions) i None) n d) (sym eq)
+          | inl eq ↦ shorter_free k eq ∙ sym (get_or-set_same (slots len entries positions) i None d (omega (arith, low_k, l₃, eq)))
+              ∙ ap (λ n. get_or (set (slots len entries positions) i None) n d) (sym eq)
           | inr ne ↦ shorter_kept k low_k ne (other ne) ∙ sym (slots_at len entries positions k d low_k) ∙ sym (get_or-set_other (slots len entries positions) i k None d ne)
-          ]
+        ]
 
     pub shorter_slots : last ≤ p → slots last (set entries last x) (set positions x.index last) ≡ set (slots len entries positions) i None
     shorter_slots after =
         let used = pl.used in
         let at : p ≡ last = omega (arith, after, used, end) in
         same_lists (slots last (set entries last x) (set positions x.index last)) (set (slots len entries positions) i None) (long_new ∙ sym (length-set (slots len entries positions) i None))
-          (λ k d low. shorter_at k d low (λ ne q. ne (q ∙ ap (index_at entries) (sym at) ∙ pl.index)))
+        (λ k d low. shorter_at k d low (λ ne q. ne (q ∙ ap (index_at entries) (sym at) ∙ pl.index)))
 
     -- the end's entry y fills the hole
     pub shorter_filled : (y : Entry) → p < last → entry_at entries last ≡ y
@@ -155,24 +154,24 @@ module _ (len : ℕ) (entries : List Entry) (positions : List ℕ) (h : IsHeap l
         let apart : y.index ≢ i = λ q. (let b = pl.back in let s = ap (λ n. get_or positions n 0) q in absurd (omega (arith, b, s, place, before))) in
         let l = length-slots len entries positions in
         let has : get_or (set (slots len entries positions) i None) y.index None ≡ Some (key y)
-            = get_or-set_other (slots len entries positions) i y.index None None apart ∙ slots_at len entries positions y.index None low_y
-              ∙ slot_used len entries (get_or positions y.index 0) (omega (arith, place, end)) ∙ ap (λ p. Some (key_at entries p)) place ∙ ap (λ (y : Entry). Some (key y)) end_is in
+        = get_or-set_other (slots len entries positions) i y.index None None apart ∙ slots_at len entries positions y.index None low_y
+        ∙ slot_used len entries (get_or positions y.index 0) (omega (arith, place, end)) ∙ ap (λ p. Some (key_at entries p)) place ∙ ap (λ (y : Entry). Some (key y)) end_is in
         set_but (slots last (set entries last x) (set positions x.index last)) (set (slots len entries positions) i None) y.index (Some (key y)) (long_new ∙ sym (length-set (slots len entries positions) i None))
-          (λ k d low ne. shorter_at k d low (λ _ q. ne (q ∙ index_is)))
+        (λ k d low ne. shorter_at k d low (λ _ q. ne (q ∙ index_is)))
         ∙ set_same_value (set (slots len entries positions) i None) y.index (Some (key y)) has
 
     -- the heap without the index
     pub heap_shorter : (new_entries : List Entry) (new_positions : List ℕ) → IsLinked new_entries new_positions → IsOrdered last (key_at new_entries) → length new_entries ≡ length entries
         → slots last new_entries new_positions ≡ set (slots len entries positions) i None → IsHeap last new_entries new_positions
     heap_shorter new_entries new_positions linked order long eq = record {
-        few = (let few = h.few in omega (arith, few, long));
-        within = (let within = h.within in omega (arith, within, end, long));
-        linked = linked;
-        order = order;
-        count = (let fewer = ap (count_by is_some) eq in
-            let less = count_less (slots len entries positions) i (key x) (has_x) in
-            let all = h.count in omega (arith, fewer, less, all, end));
-      }
+      few = (let few = h.few in omega (arith, few, long));
+      within = (let within = h.within in omega (arith, within, end, long));
+      linked = linked;
+      order = order;
+      count = (let fewer = ap (count_by is_some) eq in
+          let less = count_less (slots len entries positions) i (key x) (has_x) in
+          let all = h.count in omega (arith, fewer, less, all, end));
+    }
       where
         has_x : get_or (slots len entries positions) i None ≡ Some (key x)
         has_x = (let back = pl.back in let used = pl.used in

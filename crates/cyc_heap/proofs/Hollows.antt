@@ -1,11 +1,11 @@
 -- A heap on the way from one array to another: a hole in it waits for an entry.
-use Rattle.std.proofs.Common.{◌≡◌, ◌≢◌, ◌≤◌, ◌<◌, ◌*◌, ◌+◌, ◌-◌, ◌/◌, ℕ, List, inl, inr, sym, ap, ◌∙◌, subst, arith, length, true, Some, get_or}
+use Rattle.std.proofs.Common.{◌≡◌, ◌≢◌, ◌≤◌, ◌<◌, ◌*◌, ◌+◌, ℕ, List, inl, inr, sym, ap, ◌∙◌, subst, arith, length, true, Some, get_or}
 use Rattle.std.proofs.Math.ListN.{set}
 use Rattle.std.proofs.lemmas.List.{get_or_default, length-set}
 use Rattle.cyc_expirations.specs.Expirations.{Expiration, is_before}
 use Rattle.cyc_heap.specs.declared.entry.Entry.{Entry}
 use Rattle.cyc_heap.specs.Array.{nowhere, key, key_at, entry_at, IsChild, IsLinked, IsLinkedBut, IsOrdered, IsOrderedBut, IsBridged, slots}
-use Rattle.cyc_heap.proofs.Orders.{child_low, Writes, hole_down, hole_up, hole_filled}
+use Rattle.cyc_heap.proofs.Orders.{Writes, hole_down, hole_up, hole_filled}
 use Rattle.cyc_heap.proofs.Holes.{keys_written, moved_linked, moved_slots, filled_linked, filled_slots}
 
 -- the entry e is to fill the hole; with it the indexes will have what they had at first, and its own index will have it
@@ -39,13 +39,13 @@ module _ (len : ℕ) (e : Entry) (entries₀ : List Entry) (positions₀ : List 
 
     moved : IsOrderedBut m len (key_at (set entries hole x)) → IsBridged m len (key_at (set entries hole x)) → Hollow len e entries₀ positions₀ m (set entries hole x) (set positions x.index hole)
     moved order bridged = record {
-        long = length-set entries hole x ∙ h.long;
-        low = low;
-        linked = moved_linked hole entries positions x (in_entries hole h.low) low_x m e.index (in_entries m low) apart at_m h.linked;
-        order = order;
-        bridged = bridged;
-        same = moved_slots hole entries positions x (in_entries hole h.low) low_x m e.index (in_entries m low) apart at_m h.linked len (Some (key e)) h.low low ∙ h.same;
-      }
+      long = length-set entries hole x ∙ h.long;
+      low = low;
+      linked = moved_linked hole entries positions x (in_entries hole h.low) low_x m e.index (in_entries m low) apart at_m h.linked;
+      order = order;
+      bridged = bridged;
+      same = moved_slots hole entries positions x (in_entries hole h.low) low_x m e.index (in_entries m low) apart at_m h.linked len (Some (key e)) h.low low ∙ h.same;
+    }
 
     pub hollow_down : IsChild hole m → ((c : ℕ) → IsChild hole c → c < len → is_before (key_at entries m) (key_at entries c) ≡ true)
         → Hollow len e entries₀ positions₀ m (set entries hole x) (set positions x.index hole)

@@ -1,5 +1,5 @@
 -- The order of the heap, with and without a hole.
-use Rattle.std.proofs.Common.{◌≡◌, ◌≢◌, ℕ, zero, suc, ◌+◌, ◌-◌, ◌*◌, ◌/◌, ◌%◌, ◌<◌, ◌≤◌, ◌⊎◌, inl, inr, Bool, true, false, refl, sym, ap, ◌∙◌, subst, subst₂, arith}
+use Rattle.std.proofs.Common.{◌≡◌, ◌≢◌, ℕ, zero, suc, ◌-◌, ◌/◌, ◌%◌, ◌<◌, inl, inr, Bool, true, false, refl, sym, ap, ◌∙◌, subst, subst₂, arith}
 use Rattle.std.proofs.lemmas.Bool.{cases_eq, cases_lt}
 use Rattle.cyc_expirations.specs.Expirations.{Expiration, is_before}
 use Rattle.cyc_expirations.proofs.Order.{before_trans, before_total}
@@ -41,20 +41,22 @@ hole_down n hole m f g order bridged child low least w = (ordered, bridge)
   where
     down : hole < m
     down = child_low hole m child
+
     ordered : IsOrderedBut m n g
     ordered a c is low_c not_a not_c = let low_a = child_low a c is in elim (cases_eq a hole) [
-        inl here ↦ before_both (g a) (g c) (f m) (f c) (ap g here ∙ w.here) (w.rest c (λ q. absurd (omega (arith, q, here, low_a)))) (least c (subst (λ x. IsChild x c) here is) low_c)
+      | inl here ↦ before_both (g a) (g c) (f m) (f c) (ap g here ∙ w.here) (w.rest c (λ q. absurd (omega (arith, q, here, low_a)))) (least c (subst (λ x. IsChild x c) here is) low_c)
       | inr off ↦ elim (cases_eq c hole) [
-            inl there ↦ before_both (g a) (g c) (f a) (f m) (w.rest a off) (ap g there ∙ w.here) (bridged a m (subst (IsChild a) there is) child low)
-          | inr apart ↦ before_both (g a) (g c) (f a) (f c) (w.rest a off) (w.rest c apart) (order a c is low_c off apart)
-          ]
+        | inl there ↦ before_both (g a) (g c) (f a) (f m) (w.rest a off) (ap g there ∙ w.here) (bridged a m (subst (IsChild a) there is) child low)
+        | inr apart ↦ before_both (g a) (g c) (f a) (f c) (w.rest a off) (w.rest c apart) (order a c is low_c off apart)
       ]
+    ]
+
     bridge : IsBridged m n g
     bridge a c is_m is_c low_c =
         let here : a ≡ hole = one_parent a hole m is_m child in
         let lower = child_low m c is_c in
         before_both (g a) (g c) (f m) (f c) (ap g here ∙ w.here) (w.rest c (λ q. absurd (omega (arith, q, lower, down))))
-          (order m c is_c low_c (λ q. absurd (omega (arith, q, down))) (λ q. absurd (omega (arith, q, lower, down))))
+        (order m c is_c low_c (λ q. absurd (omega (arith, q, down))) (λ q. absurd (omega (arith, q, lower, down))))
 
 -- the hole goes up to the place above it, which comes after the key that is to fill it
 pub hole_up : (n hole up : ℕ) (k : Expiration) (f g : ℕ → Expiration) → IsOrderedBut hole n f → IsBridged hole n f → IsChild up hole → hole < n
@@ -64,25 +66,29 @@ hole_up n hole up k f g order bridged child low before w = (ordered, bridge, abo
   where
     down : up < hole
     down = child_low up hole child
+
     ordered : IsOrderedBut up n g
     ordered a c is low_c not_a not_c = let low_a = child_low a c is in elim (cases_eq a hole) [
-        inl here ↦ before_both (g a) (g c) (f up) (f c) (ap g here ∙ w.here) (w.rest c (λ q. absurd (omega (arith, q, here, low_a)))) (bridged up c child (subst (λ x. IsChild x c) here is) low_c)
+      | inl here ↦ before_both (g a) (g c) (f up) (f c) (ap g here ∙ w.here) (w.rest c (λ q. absurd (omega (arith, q, here, low_a)))) (bridged up c child (subst (λ x. IsChild x c) here is) low_c)
       | inr off ↦ elim (cases_eq c hole) [
-            inl there ↦ absurd (not_a (one_parent a up hole (subst (IsChild a) there is) child))
-          | inr apart ↦ before_both (g a) (g c) (f a) (f c) (w.rest a off) (w.rest c apart) (order a c is low_c off apart)
-          ]
+        | inl there ↦ absurd (not_a (one_parent a up hole (subst (IsChild a) there is) child))
+        | inr apart ↦ before_both (g a) (g c) (f a) (f c) (w.rest a off) (w.rest c apart) (order a c is low_c off apart)
       ]
+    ]
+
     -- a child of the place above comes no earlier than it did
     under : (c : ℕ) → IsChild up c → c < n → is_before (f up) (g c) ≡ true
     under c is low_c = elim (cases_eq c hole) [
-        inl there ↦ subst (λ x. is_before (f up) x ≡ true) (sym (ap g there ∙ w.here)) (before_self (f up))
+      | inl there ↦ subst (λ x. is_before (f up) x ≡ true) (sym (ap g there ∙ w.here)) (before_self (f up))
       | inr apart ↦ subst (λ x. is_before (f up) x ≡ true) (sym (w.rest c apart)) (order up c is low_c (λ q. absurd (omega (arith, q, down))) apart)
-      ]
+    ]
+
     bridge : IsBridged up n g
     bridge a c is_up is_c low_c =
         let top = child_low a up is_up in
         let first : is_before (f a) (f up) ≡ true = order a up is_up (omega (arith, down, low)) (λ q. absurd (omega (arith, q, top, down))) (λ q. absurd (omega (arith, q, down))) in
         subst (λ x. is_before x (g c) ≡ true) (sym (w.rest a (λ q. absurd (omega (arith, q, top, down))))) (before_trans (f a) (f up) (g c) first (under c is_c low_c))
+
     above : (c : ℕ) → IsChild up c → c < n → is_before k (g c) ≡ true
     above c is low_c = before_trans k (f up) (g c) before (under c is low_c)
 
@@ -90,12 +96,12 @@ hole_up n hole up k f g order bridged child low before w = (ordered, bridge, abo
 pub hole_filled : (n hole : ℕ) (k : Expiration) (f g : ℕ → Expiration) → IsOrderedBut hole n f
     → ((a : ℕ) → IsChild a hole → is_before (f a) k ≡ true) → ((c : ℕ) → IsChild hole c → c < n → is_before k (f c) ≡ true) → Writes hole k f g → IsOrdered n g
 hole_filled n hole k f g order below above w a c is low_c = let low_a = child_low a c is in elim (cases_eq a hole) [
-    inl here ↦ before_both (g a) (g c) k (f c) (ap g here ∙ w.here) (w.rest c (λ q. absurd (omega (arith, q, here, low_a)))) (above c (subst (λ x. IsChild x c) here is) low_c)
+  | inl here ↦ before_both (g a) (g c) k (f c) (ap g here ∙ w.here) (w.rest c (λ q. absurd (omega (arith, q, here, low_a)))) (above c (subst (λ x. IsChild x c) here is) low_c)
   | inr off ↦ elim (cases_eq c hole) [
-        inl there ↦ before_both (g a) (g c) (f a) k (w.rest a off) (ap g there ∙ w.here) (below a (subst (IsChild a) there is))
-      | inr apart ↦ before_both (g a) (g c) (f a) (f c) (w.rest a off) (w.rest c apart) (order a c is low_c off apart)
-      ]
+    | inl there ↦ before_both (g a) (g c) (f a) k (w.rest a off) (ap g there ∙ w.here) (below a (subst (IsChild a) there is))
+    | inr apart ↦ before_both (g a) (g c) (f a) (f c) (w.rest a off) (w.rest c apart) (order a c is low_c off apart)
   ]
+]
 
 -- any place of a heap may become the hole
 pub hole_made : (n hole : ℕ) (f : ℕ → Expiration) → IsOrdered n f → hole < n → IsOrderedBut hole n f × IsBridged hole n f

@@ -1,12 +1,12 @@
 -- What callers see of a heap, read off its array.
-use Rattle.std.proofs.Common.{◌≡◌, ◌≢◌, ℕ, ◌+◌, ◌<◌, ◌≤◌, ◌⊎◌, inl, inr, true, List, length, get_or, Option, Some, None, IsSome, IfSome, is_some, option_map, cond, count_by, refl, sym, ap, ◌∙◌, subst, arith}
+use Rattle.std.proofs.Common.{◌≡◌, ℕ, ◌+◌, ◌<◌, ◌≤◌, inl, inr, true, List, length, get_or, Option, Some, None, IsSome, IfSome, is_some, option_map, cond, count_by, refl, sym, ap, ◌∙◌, subst, arith}
 use Rattle.std.proofs.lemmas.Bool.{cases_lt, lt-ltb, le-ltb, cond-true, cond-false}
 use Rattle.std.proofs.lemmas.List.{get_or_past, get_or_default}
 use Rattle.std.proofs.lemmas.List.Sums.{sum_by-set}
 use Rattle.std.proofs.Math.ListN.{set}
 use Rattle.cyc_expirations.specs.Expirations.{Expiration, is_before}
 use Rattle.cyc_heap.specs.declared.entry.Entry.{Entry}
-use Rattle.cyc_heap.specs.Array.{nowhere, key, entry_at, key_at, index_at, slot, slots, root_of, IsLinked, IsOrdered, IsHeap}
+use Rattle.cyc_heap.specs.Array.{key, entry_at, key_at, index_at, slots, root_of, IsLinked, IsOrdered, IsHeap}
 use Rattle.cyc_heap.specs.Heap.{HeapView, expiration_at, at_moment, with_moment, IsLeast}
 use Rattle.cyc_heap.proofs.Slots.{length-slots, slots_at, slot_used, slot_free}
 use Rattle.cyc_heap.proofs.Orders.{root_least}
@@ -28,12 +28,12 @@ module _ (len : ℕ) (entries : List Entry) (positions : List ℕ) (room : ℕ) 
   -- an index that has an expiration has a place in the heap
   pub held : (i : ℕ) (e : Expiration) → expiration_at (view_of len entries positions room) i ≡ Some e → (i < length positions) × (get_or positions i 0 < len) × (key_at entries (get_or positions i 0) ≡ e)
   held i e is = elim (cases_lt i (length positions)) [
-      inr past ↦ absurd (let gone = at_past i past in let none : ⊥ = cc in none)
+    | inr past ↦ absurd (let gone = at_past i past in let none : ⊥ = cc in none)
     | inl low ↦ elim (cases_lt (get_or positions i 0) len) [
-        inr free ↦ absurd (let gone = at_free i low free in let none : ⊥ = cc in none)
+      | inr free ↦ absurd (let gone = at_free i low free in let none : ⊥ = cc in none)
       | inl used ↦ (low, used, (let here = at_used i low used in cc))
-      ]
     ]
+  ]
 
   pub in_map : (i : ℕ) → IsSome (expiration_at (view_of len entries positions room) i) → (i < length positions) × (get_or positions i 0 < len)
   in_map i some = of (expiration_at (view_of len entries positions room) i) refl some
@@ -55,10 +55,10 @@ module _ (len : ℕ) (entries : List Entry) (positions : List ℕ) (room : ℕ) 
   pub least_at_root : (x : Entry) → len ≤ length entries → IsLinked entries positions → IsOrdered len (key_at entries) → 0 < len → entry_at entries 0 ≡ x
       → IsLeast (view_of len entries positions room) x.index (key x)
   least_at_root x within linked order some is = record {
-      holds = at_place 0 x some within linked is;
-      least = λ k other has. (let (low_k, used_k, here) = held k other has in
+    holds = at_place 0 x some within linked is;
+    least = λ k other has. (let (low_k, used_k, here) = held k other has in
         subst (λ (x : Entry). is_before (key x) other ≡ true) is (subst (λ e. is_before (key_at entries 0) e ≡ true) here (root_least len (key_at entries) order (get_or positions k 0) used_k)));
-    }
+  }
 
   pub root_is : 0 < len → root_of len entries ≡ Some (index_at entries 0)
   root_is some = cond-true _ (Some (index_at entries 0)) None (lt-ltb 0 len some)
@@ -66,9 +66,9 @@ module _ (len : ℕ) (entries : List Entry) (positions : List ℕ) (room : ℕ) 
 -- a heap with a root is not empty
 pub root_some : (len : ℕ) (entries : List Entry) → IsSome (root_of len entries) → 0 < len
 root_some len entries some = elim (cases_lt 0 len) [
-    inl low ↦ low
+  | inl low ↦ low
   | inr none ↦ absurd (let gone : root_of len entries ≡ None = cond-false _ (Some (index_at entries 0)) None (le-ltb 0 len none) in let t = subst IsSome gone some in let never : ⊥ = cc in never)
-  ]
+]
 
 -- another moment for an index that has an expiration
 pub moment_slots : (v : HeapView) (i m : ℕ) (e : Expiration) → expiration_at v i ≡ Some e → set v.slots i (Some (at_moment m e)) ≡ with_moment v.slots i m
@@ -96,12 +96,12 @@ pub heap_moved : (len : ℕ) (entries new_entries : List Entry) (positions new_p
     → get_or (slots len entries positions) i None ≡ Some e → IsLinked new_entries new_positions → IsOrdered len (key_at new_entries) → length new_entries ≡ length entries
     → slots len new_entries new_positions ≡ set (slots len entries positions) i (Some k) → IsHeap len new_entries new_positions
 heap_moved len entries new_entries positions new_positions i e k h has linked order long is = record {
-    few = (let few = h.few in omega (arith, few, long));
-    within = (let within = h.within in omega (arith, within, long));
-    linked = linked;
-    order = order;
-    count = ap (count_by is_some) is ∙ count_same (slots len entries positions) i e k has ∙ h.count;
-  }
+  few = (let few = h.few in omega (arith, few, long));
+  within = (let within = h.within in omega (arith, within, long));
+  linked = linked;
+  order = order;
+  count = ap (count_by is_some) is ∙ count_same (slots len entries positions) i e k has ∙ h.count;
+}
 
 pub if_some : (o : Option ℕ) (P : ℕ → Type 0) (i : ℕ) → o ≡ Some i → P i → IfSome o P
 if_some o P i is p = subst (λ o. IfSome o P) (sym is) p

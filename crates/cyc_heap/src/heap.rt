@@ -1,7 +1,7 @@
 ghost use Rattle.std.specs.Prelude.{◌≡◌, ◌≢◌, ℕ, ◌+◌, ◌-◌, ◌*◌, ◌<◌, ◌≤◌, ◌↔◌, ◌++◌, max, length, replicate, slice_set, option_map, Some, None, IsSome, IfSome, IfNone, IfOk, IfErr, OnOk, OnErr, vec_len, vec_capacity};
 ghost use Rattle.cyc_types.specs.Limits.{cyclics};
 ghost use Rattle.cyc_types.specs.declared.refusal.Refusal.TheVariants.{Memory};
-ghost use Rattle.cyc_heap.specs.Array.{IsLinked, slots};
+ghost use Rattle.cyc_heap.specs.Array.{IsLinked, entry_at, slots};
 ghost use Rattle.cyc_heap.specs.Heap.{HeapView, new_heap, size_of, len_of, expiration_at, with_moment, pair_of, IsEmpty, IsLeast};
 
 use crate::entry::Entry;
@@ -216,6 +216,7 @@ fn add_free(entries: &mut Vec<Entry>, positions: &mut Vec<usize>, size: usize)
     ensures linked { IsLinked entries.new.items positions.new.items }
     ensures length { length entries.new.items ≡ max (length entries.old.items) size }
     ensures slots { (len : ℕ) → len ≤ length entries.old.items → slots len entries.new.items positions.new.items ≡ slots len entries.old.items positions.old.items ++ replicate (size - length entries.old.items) None }
+    ensures kept { (p : ℕ) → p < length entries.old.items → entry_at entries.new.items p ≡ entry_at entries.old.items p }
     ensures entries { vec_capacity entries.old ≤ vec_capacity entries.new }
     ensures positions { vec_capacity positions.old ≤ vec_capacity positions.new }
 {

@@ -31,13 +31,7 @@ fn put(entries: &mut [Entry], positions: &mut [usize], place: usize, entry: Entr
 
 /// Moves the hole down to a leaf by the children that expire first, and then up to where the entry is in order, and puts
 /// the entry there.
-fn sift(
-    entries: &mut [Entry],
-    positions: &mut [usize],
-    len: usize,
-    hole: usize,
-    entry: Entry,
-)
+fn sift(entries: &mut [Entry], positions: &mut [usize], len: usize, hole: usize, entry: Entry)
     requires few { length entries.old ≤ cyclics }
     requires len { len ≤ length entries.old }
     requires hole { hole < len }

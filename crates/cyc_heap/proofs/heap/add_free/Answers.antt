@@ -1,9 +1,9 @@
-use Rattle.std.proofs.Common.{◌≡◌, ℕ, ◌+◌, ◌-◌, ◌<◌, ◌≤◌, List, [], ◌∷◌, ◌++◌, length, replicate, Option, Some, None, IfSome, cond, is_ok, sym, ap, ◌∙◌, subst, subst₂, arith}
+use Rattle.std.proofs.Common.{◌≡◌, ◌+◌, List, [], ◌∷◌, ◌++◌, length, Option, None, IfSome, is_ok, sym, ap, ◌∙◌, subst, subst₂, arith}
 use Rattle.std.proofs.lemmas.Bool.{cond-true}
-use Rattle.std.proofs.lemmas.List.{length_push}
+use Rattle.std.proofs.lemmas.List.{length_push, get_or_append_left}
 use Rattle.cyc_expirations.specs.Expirations.{Expiration}
 use Rattle.cyc_heap.specs.declared.entry.Entry.{Entry}
-use Rattle.cyc_heap.specs.Array.{IsLinked, slots}
+use Rattle.cyc_heap.specs.Array.{nowhere, IsLinked, entry_at, slots}
 use Rattle.cyc_heap.proofs.Widening.{pushed_linked, pushed_slots, free_more}
 use Rattle.cyc_heap.proofs.heap.add_free.Goals as goal
 
@@ -32,6 +32,7 @@ loop-number-preserved c =
           ∙ pushed_slots es ps n x h.long index h.linked len (omega (arith, low, least))
           ∙ ap (λ (os : List (Option Expiration)). os ++ None ∷ []) (h.slots len low)
           ∙ free_more (slots len c.args.entries.now.items c.args.positions.now.items) (length c.args.entries.now.items) n least;
+      kept = λ p low. ap (λ (es : List Entry). entry_at es p) new_es ∙ get_or_append_left es (x ∷ []) nowhere p (let long = h.long in omega (arith, low, least, long)) ∙ h.kept p low;
       entries = omega (arith, more, was);
       positions = omega (arith, more_ps, was_ps);
     }

@@ -1,9 +1,9 @@
-use Rattle.std.proofs.Common.{◌≡◌, ◌≢◌, ◌≤◌, ◌<◌, ◌*◌, ◌+◌, ◌-◌, ◌/◌, ℕ, List, inl, inr, sym, ap, ◌∙◌, subst, subst₂, arith, length, true, refl}
+use Rattle.std.proofs.Common.{◌≡◌, ◌≤◌, ◌<◌, ◌*◌, ◌+◌, ◌-◌, ◌/◌, ℕ, List, inl, inr, sym, ap, ◌∙◌, subst, subst₂, arith, true, refl}
 use Rattle.std.proofs.Math.ListN.{set}
 use Rattle.std.proofs.lemmas.Bool.{OnTrue_at, OnFalse_at}
 use Rattle.cyc_expirations.specs.Expirations.{is_before}
 use Rattle.cyc_heap.specs.declared.entry.Entry.{Entry}
-use Rattle.cyc_heap.specs.Array.{key, key_at, entry_at, IsChild, IsOrdered, slots}
+use Rattle.cyc_heap.specs.Array.{key, key_at, IsChild, IsOrdered, slots}
 use Rattle.cyc_heap.proofs.Orders.{child_low, parent, one_parent, before_self}
 use Rattle.cyc_heap.proofs.Hollows.{Hollow, IsAbove, at_m, hollow_down, hollow_up, hollow_slots, hollow_order, least_of_both}
 use Rattle.cyc_heap.proofs.sift.sift.Goals as goal
@@ -18,9 +18,9 @@ down-preserved c =
     let l = child_low c.down.hole m child in
     let t = c.down-test.true in
     subst₂ (Hollow c.args.len c.args.entry c.args.entries.now c.args.positions.now m) (sym c.put.ensures.entries) (sym c.put.ensures.positions)
-      (hollow_down c.args.len c.args.entry c.args.entries.now c.args.positions.now c.down.hole c.down.entries c.down.positions c.requires.len h m x
-        (elim child [ inl eq ↦ omega (arith, eq, t) | inr eq ↦ omega (arith, eq, t) ]) (λ q. absurd (omega (arith, q, l))) c.index-entries-child.is child
-        (least_of_both c.down.hole c.args.len m (key_at c.down.entries) c.least_child-child.ensures.left c.least_child-child.ensures.right))
+    (hollow_down c.args.len c.args.entry c.args.entries.now c.args.positions.now c.down.hole c.down.entries c.down.positions c.requires.len h m x
+    (elim child [ inl eq ↦ omega (arith, eq, t) | inr eq ↦ omega (arith, eq, t) ]) (λ q. absurd (omega (arith, q, l))) c.index-entries-child.is child
+    (least_of_both c.down.hole c.args.len m (key_at c.down.entries) c.least_child-child.ensures.left c.least_child-child.ensures.right))
 
 -- a leaf has nothing below it
 above_leaf : (len : ℕ) (e : Entry) (hole : ℕ) (entries : List Entry) → len ≤ 2 * hole + 1 → IsAbove len e hole entries
@@ -37,23 +37,23 @@ up-init c =
     let h = c.down.invariant in
     let t = c.down-test.false in
     elim c.if-hole-len.branch [
-        then-hole-len w ↦
+      | then-hole-len w ↦
           (let m = 2 * c.down.hole + 1 in
           let x = w.index-entries-child-then-hole-len.result in
           let hollow = hollow_down c.args.len c.args.entry c.args.entries.now c.args.positions.now c.down.hole c.down.entries c.down.positions c.requires.len h m x
-              w.if-hole-len.true (λ q. absurd (omega (arith, q))) w.index-entries-child-then-hole-len.is (inl refl) (least_alone c.args.len c.down.hole c.down.entries t) in
+          w.if-hole-len.true (λ q. absurd (omega (arith, q))) w.index-entries-child-then-hole-len.is (inl refl) (least_alone c.args.len c.down.hole c.down.entries t) in
           record {
             hollow = subst (λ p. Hollow c.args.len c.args.entry c.args.entries.now c.args.positions.now p c.if-hole-len.entries c.if-hole-len.positions) (sym w.hole-is)
                 (subst₂ (Hollow c.args.len c.args.entry c.args.entries.now c.args.positions.now m)
-                  (sym (w.entries-is ∙ w.put-then-hole-len.ensures.entries)) (sym (w.positions-is ∙ w.put-then-hole-len.ensures.positions)) hollow);
+                (sym (w.entries-is ∙ w.put-then-hole-len.ensures.entries)) (sym (w.positions-is ∙ w.put-then-hole-len.ensures.positions)) hollow);
             above = (let is = w.hole-is in above_leaf c.args.len c.args.entry c.if-hole-len.hole c.if-hole-len.entries (omega (arith, is, t)));
           })
       | else-hole-len w ↦ record {
-            hollow = subst (λ p. Hollow c.args.len c.args.entry c.args.entries.now c.args.positions.now p c.if-hole-len.entries c.if-hole-len.positions) (sym w.hole-is)
-                (subst₂ (Hollow c.args.len c.args.entry c.args.entries.now c.args.positions.now c.down.hole) (sym w.entries-is) (sym w.positions-is) h);
-            above = (let is = w.hole-is in let leaf = w.if-hole-len.false in above_leaf c.args.len c.args.entry c.if-hole-len.hole c.if-hole-len.entries (omega (arith, is, leaf)));
-          }
-      ]
+        hollow = subst (λ p. Hollow c.args.len c.args.entry c.args.entries.now c.args.positions.now p c.if-hole-len.entries c.if-hole-len.positions) (sym w.hole-is)
+            (subst₂ (Hollow c.args.len c.args.entry c.args.entries.now c.args.positions.now c.down.hole) (sym w.entries-is) (sym w.positions-is) h);
+        above = (let is = w.hole-is in let leaf = w.if-hole-len.false in above_leaf c.args.len c.args.entry c.if-hole-len.hole c.if-hole-len.entries (omega (arith, is, leaf)));
+      }
+    ]
 
 pub up-preserved : goal.up-preserved
 up-preserved c =
@@ -64,7 +64,7 @@ up-preserved c =
     let l = child_low m c.up.hole child in
     let low = h.low in
     let (hollow, above) = hollow_up c.args.len c.args.entry c.args.entries.now c.args.positions.now c.up.hole c.up.entries c.up.positions c.requires.len h m x
-        (omega (arith, l, low)) (λ q. absurd (omega (arith, q, l))) c.index-entries-parent.is child (OnTrue_at c.if-not-expires_before.false c.expires_before.ensures.before) in
+    (omega (arith, l, low)) (λ q. absurd (omega (arith, q, l))) c.index-entries-parent.is child (OnTrue_at c.if-not-expires_before.false c.expires_before.ensures.before) in
     record {
       hollow = subst₂ (Hollow c.args.len c.args.entry c.args.entries.now c.args.positions.now m) (sym c.put-in-up.ensures.entries) (sym c.put-in-up.ensures.positions) hollow;
       above = subst (IsAbove c.args.len c.args.entry m) (sym c.put-in-up.ensures.entries) above;
@@ -75,23 +75,23 @@ returns-clause-order c =
     let h = c.up.invariant.hollow in
     let e = c.args.entry in
     subst (λ (es : List Entry). IsOrdered c.args.len (key_at es)) (sym c.put-2.ensures.entries)
-      (hollow_order c.args.len e c.args.entries.now c.args.positions.now c.up.hole c.up.entries c.up.positions c.requires.len h c.up.invariant.above
-        (λ a is. elim c.up-test.branch [
-            else-up-test w ↦ (let l = child_low a c.up.hole is in let t = w.up-test.false in absurd (omega (arith, l, t)))
-          | then-up-test+then-not-expires_before w ↦
-              (let m = (c.up.hole - 1) / 2 in
-              let child : IsChild m c.up.hole = parent c.up.hole w.up-test.true in
-              let l = child_low m c.up.hole child in
-              let low = h.low in
-              let at = at_m c.args.len e c.args.entries.now c.args.positions.now c.up.hole c.up.entries c.up.positions c.requires.len h m w.index-entries-parent.result
-                  (omega (arith, l, low)) (λ q. absurd (omega (arith, q, l))) w.index-entries-parent.is in
-              let after = OnFalse_at w.if-not-expires_before.true w.expires_before.ensures.after in
-              subst (λ p. is_before (key_at c.up.entries p) (key e) ≡ true) (one_parent m a c.up.hole child is)
-                (subst (λ (x : Entry). is_before (key x) (key e) ≡ true) (sym at) after))
-          ]))
+    (hollow_order c.args.len e c.args.entries.now c.args.positions.now c.up.hole c.up.entries c.up.positions c.requires.len h c.up.invariant.above
+    (λ a is. elim c.up-test.branch [
+      | else-up-test w ↦ (let l = child_low a c.up.hole is in let t = w.up-test.false in absurd (omega (arith, l, t)))
+      | then-up-test+then-not-expires_before w ↦
+          (let m = (c.up.hole - 1) / 2 in
+          let child : IsChild m c.up.hole = parent c.up.hole w.up-test.true in
+          let l = child_low m c.up.hole child in
+          let low = h.low in
+          let at = at_m c.args.len e c.args.entries.now c.args.positions.now c.up.hole c.up.entries c.up.positions c.requires.len h m w.index-entries-parent.result
+          (omega (arith, l, low)) (λ q. absurd (omega (arith, q, l))) w.index-entries-parent.is in
+          let after = OnFalse_at w.if-not-expires_before.true w.expires_before.ensures.after in
+          subst (λ p. is_before (key_at c.up.entries p) (key e) ≡ true) (one_parent m a c.up.hole child is)
+          (subst (λ (x : Entry). is_before (key x) (key e) ≡ true) (sym at) after))
+    ]))
 
 pub returns-clause-slots : goal.returns-clause-slots
 returns-clause-slots c =
     ap (λ (es : List Entry). slots c.args.len es c.put-2.new.positions) c.put-2.ensures.entries
-      ∙ ap (slots c.args.len (set c.up.entries c.up.hole c.args.entry)) c.put-2.ensures.positions
-      ∙ hollow_slots c.args.len c.args.entry c.args.entries.now c.args.positions.now c.up.hole c.up.entries c.up.positions c.requires.len c.up.invariant.hollow
+    ∙ ap (slots c.args.len (set c.up.entries c.up.hole c.args.entry)) c.put-2.ensures.positions
+    ∙ hollow_slots c.args.len c.args.entry c.args.entries.now c.args.positions.now c.up.hole c.up.entries c.up.positions c.requires.len c.up.invariant.hollow

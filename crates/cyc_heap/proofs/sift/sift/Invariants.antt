@@ -10,9 +10,9 @@ decreases-down l = l.len - l.hole
 
 abbrev pub invariant-up : goal.invariant-up
 invariant-up l = record {
-    hollow : Hollow l.len l.entry l.fn.entries l.fn.positions l.hole l.entries l.positions;
-    above : IsAbove l.len l.entry l.hole l.entries;
-  }
+  hollow : Hollow l.len l.entry l.fn.entries l.fn.positions l.hole l.entries l.positions;
+  above : IsAbove l.len l.entry l.hole l.entries;
+}
 
 abbrev pub decreases-up : goal.decreases-up
 decreases-up l = l.hole

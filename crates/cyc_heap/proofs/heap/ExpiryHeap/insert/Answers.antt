@@ -1,8 +1,8 @@
-use Rattle.std.proofs.Common.{◌≡◌, ◌<◌, ◌≤◌, ◌+◌, ℕ, List, None, Some, sym, ap, ◌∙◌, subst, arith, length}
+use Rattle.std.proofs.Common.{◌≡◌, ◌<◌, ◌≤◌, ℕ, List, None, Some, sym, ap, ◌∙◌, subst, arith, length}
 use Rattle.std.proofs.Math.ListN.{set}
 use Rattle.std.proofs.lemmas.List.{get_or_default}
 use Rattle.cyc_heap.specs.declared.entry.Entry.{Entry}
-use Rattle.cyc_heap.specs.Array.{nowhere, entry_at, index_at, slots, IsLinkedBut, IsHeap}
+use Rattle.cyc_heap.specs.Array.{nowhere, index_at, IsLinkedBut, IsHeap}
 use Rattle.cyc_heap.specs.Heap.{HeapView, size_of, len_of, expiration_at}
 use Rattle.cyc_heap.proofs.Slots.{length-slots}
 use Rattle.cyc_heap.proofs.Holes.{links_opened}
@@ -50,10 +50,13 @@ invariant_of-self c =
     let is : index_at i.entries.items i.len ≡ x.index = ap (λ (x : Entry). x.index) (get_or_default i.entries.items i.len nowhere x room ∙ sym c.index.ensures) in
     let f = c.fill.ensures in
     let long = f.length in
-    let reserved = c.self.invariant.3 in
-    (heap_longer i.len i.entries.items i.positions.items h x.index (record { moment = c.args.moment; id = c.args.id }) c.fill.new.entries.items c.fill.new.positions.items room is f.linked f.order f.length
-       (f.slots ∙ longer_slots i.len i.entries.items i.positions.items h x.index (Some (record { moment = c.args.moment; id = c.args.id })) is),
-     subst (λ n. i.room ≤ n) (sym f.entries) c.self.invariant.1, subst (λ n. i.room ≤ n) (sym f.positions) c.self.invariant.2, omega (arith, long, reserved))
+    let reserved = c.self.invariant.3 in (
+      heap_longer i.len i.entries.items i.positions.items h x.index (record { moment = c.args.moment; id = c.args.id }) c.fill.new.entries.items c.fill.new.positions.items room is f.linked f.order f.length
+          (f.slots ∙ longer_slots i.len i.entries.items i.positions.items h x.index (Some (record { moment = c.args.moment; id = c.args.id })) is),
+      subst (λ n. i.room ≤ n) (sym f.entries) c.self.invariant.1,
+      subst (λ n. i.room ≤ n) (sym f.positions) c.self.invariant.2,
+      omega (arith, long, reserved),
+    )
 
 pub returns-clause-below : goal.returns-clause-below
 returns-clause-below c =
@@ -84,4 +87,4 @@ returns-clause-slots c =
     let x = c.index.result.now in
     let is : index_at i.entries.items i.len ≡ x.index = ap (λ (x : Entry). x.index) (get_or_default i.entries.items i.len nowhere x room ∙ sym c.index.ensures) in
     c.fill.ensures.slots ∙ longer_slots i.len i.entries.items i.positions.items h x.index (Some (record { moment = c.args.moment; id = c.args.id })) is
-      ∙ ap (λ (v : HeapView). set v.slots x.index (Some (record { moment = c.args.moment; id = c.args.id }))) c.self.view_is
+    ∙ ap (λ (v : HeapView). set v.slots x.index (Some (record { moment = c.args.moment; id = c.args.id }))) c.self.view_is

@@ -1,9 +1,8 @@
-use Rattle.std.proofs.Common.{◌≡◌, ◌<◌, ◌≤◌, ◌+◌, ◌-◌, ℕ, List, None, Some, IsSome, sym, ap, ◌∙◌, subst, subst₂, arith, length}
+use Rattle.std.proofs.Common.{◌≡◌, ◌≤◌, ◌+◌, ◌-◌, None, Some, IsSome, sym, ap, ◌∙◌, subst, arith}
 use Rattle.std.proofs.Math.ListN.{set}
 use Rattle.std.proofs.lemmas.List.{get_or_default, length-set}
-use Rattle.cyc_expirations.specs.Expirations.{is_before}
 use Rattle.cyc_heap.specs.declared.entry.Entry.{Entry}
-use Rattle.cyc_heap.specs.Array.{nowhere, key, key_at, entry_at, index_at, slots, IsChild, IsLinkedBut, IsBridged, IsHeap}
+use Rattle.cyc_heap.specs.Array.{nowhere, key, slots, IsLinkedBut, IsHeap}
 use Rattle.cyc_heap.specs.Heap.{HeapView, expiration_at}
 use Rattle.cyc_heap.proofs.Views.{in_map, place_read}
 use Rattle.cyc_heap.proofs.Edits.{low_last, shorter_linked_but, shorter_linked, shorter_order, shorter_bridged, shorter_slots, shorter_filled, heap_shorter}
@@ -52,7 +51,7 @@ fill-requires-clause-linked c =
     let y = c.index-moved.result.now in
     let end_is = get_or_default i.entries.items (i.len - 1) nowhere y (low_last i.len i.entries.items i.positions.items h (i.len - 1) c.args.index p x end pl is) ∙ sym c.index-moved.ensures in
     subst (λ n. IsLinkedBut p y.index (set i.entries.items (i.len - 1) x) (set i.positions.items n (i.len - 1))) number
-      (shorter_linked_but i.len i.entries.items i.positions.items h (i.len - 1) c.args.index p x end pl is y.index c.if-hole-last.true (ap (λ (y : Entry). y.index) end_is))
+    (shorter_linked_but i.len i.entries.items i.positions.items h (i.len - 1) c.args.index p x end pl is y.index c.if-hole-last.true (ap (λ (y : Entry). y.index) end_is))
 
 pub fill-requires-clause-bridged : goal.fill-requires-clause-bridged
 fill-requires-clause-bridged c =
@@ -82,11 +81,14 @@ invariant_of-self c =
     let end_is = get_or_default i.entries.items (i.len - 1) nowhere y (low_last i.len i.entries.items i.positions.items h (i.len - 1) c.args.index p x end pl is) ∙ sym c.index-moved.ensures in
     let f = c.fill.ensures in
     let long = f.length ∙ length-set i.entries.items (i.len - 1) x in
-    let reserved = c.self.invariant.3 in
-    (heap_shorter i.len i.entries.items i.positions.items h (i.len - 1) c.args.index p x end pl is c.fill.new.entries.items c.fill.new.positions.items f.linked f.order long
-       (f.slots ∙ ap (λ n. set (slots (i.len - 1) (set i.entries.items (i.len - 1) x) (set i.positions.items n (i.len - 1))) y.index (Some (key y))) (sym number)
-         ∙ shorter_filled i.len i.entries.items i.positions.items h (i.len - 1) c.args.index p x end pl is y c.if-hole-last.true end_is),
-     subst (λ n. i.room ≤ n) (sym f.entries) c.self.invariant.1, subst (λ n. i.room ≤ n) (sym f.positions) c.self.invariant.2, omega (arith, long, reserved))
+    let reserved = c.self.invariant.3 in (
+      heap_shorter i.len i.entries.items i.positions.items h (i.len - 1) c.args.index p x end pl is c.fill.new.entries.items c.fill.new.positions.items f.linked f.order long
+          (f.slots ∙ ap (λ n. set (slots (i.len - 1) (set i.entries.items (i.len - 1) x) (set i.positions.items n (i.len - 1))) y.index (Some (key y))) (sym number)
+          ∙ shorter_filled i.len i.entries.items i.positions.items h (i.len - 1) c.args.index p x end pl is y c.if-hole-last.true end_is),
+      subst (λ n. i.room ≤ n) (sym f.entries) c.self.invariant.1,
+      subst (λ n. i.room ≤ n) (sym f.positions) c.self.invariant.2,
+      omega (arith, long, reserved),
+    )
 
 pub invariant_of-self-else-hole-last : goal.invariant_of-self-else-hole-last
 invariant_of-self-else-hole-last c =
@@ -100,11 +102,14 @@ invariant_of-self-else-hole-last c =
     let end : i.len - 1 + 1 ≡ i.len = omega (arith, used) in
     let number : x.index ≡ c.number-number.result = ap (λ (x : Entry). x.index) (sym is) ∙ pl.index ∙ sym c.number-number.ensures.value in
     let long = length-set i.entries.items (i.len - 1) x in
-    let reserved = c.self.invariant.3 in
-    (subst (λ n. IsHeap (i.len - 1) (set i.entries.items (i.len - 1) x) (set i.positions.items n (i.len - 1))) number
-       (heap_shorter i.len i.entries.items i.positions.items h (i.len - 1) c.args.index p x end pl is (set i.entries.items (i.len - 1) x) (set i.positions.items x.index (i.len - 1))
-         (shorter_linked i.len i.entries.items i.positions.items h (i.len - 1) c.args.index p x end pl is c.if-hole-last.false) (shorter_order i.len i.entries.items i.positions.items h (i.len - 1) c.args.index p x end pl is) long (shorter_slots i.len i.entries.items i.positions.items h (i.len - 1) c.args.index p x end pl is c.if-hole-last.false)),
-     c.self.invariant.1, c.self.invariant.2, omega (arith, long, reserved))
+    let reserved = c.self.invariant.3 in (
+      subst (λ n. IsHeap (i.len - 1) (set i.entries.items (i.len - 1) x) (set i.positions.items n (i.len - 1))) number
+          (heap_shorter i.len i.entries.items i.positions.items h (i.len - 1) c.args.index p x end pl is (set i.entries.items (i.len - 1) x) (set i.positions.items x.index (i.len - 1))
+          (shorter_linked i.len i.entries.items i.positions.items h (i.len - 1) c.args.index p x end pl is c.if-hole-last.false) (shorter_order i.len i.entries.items i.positions.items h (i.len - 1) c.args.index p x end pl is) long (shorter_slots i.len i.entries.items i.positions.items h (i.len - 1) c.args.index p x end pl is c.if-hole-last.false)),
+      c.self.invariant.1,
+      c.self.invariant.2,
+      omega (arith, long, reserved),
+    )
 
 pub returns-then-hole-last-clause-slots : goal.returns-then-hole-last-clause-slots
 returns-then-hole-last-clause-slots c =
@@ -120,9 +125,9 @@ returns-then-hole-last-clause-slots c =
     let y = c.index-moved.result.now in
     let end_is = get_or_default i.entries.items (i.len - 1) nowhere y (low_last i.len i.entries.items i.positions.items h (i.len - 1) c.args.index p x end pl is) ∙ sym c.index-moved.ensures in
     c.fill.ensures.slots
-      ∙ ap (λ n. set (slots (i.len - 1) (set i.entries.items (i.len - 1) x) (set i.positions.items n (i.len - 1))) y.index (Some (key y))) (sym number)
-      ∙ shorter_filled i.len i.entries.items i.positions.items h (i.len - 1) c.args.index p x end pl is y c.if-hole-last.true end_is
-      ∙ ap (λ (v : HeapView). set v.slots c.args.index None) c.self.view_is
+    ∙ ap (λ n. set (slots (i.len - 1) (set i.entries.items (i.len - 1) x) (set i.positions.items n (i.len - 1))) y.index (Some (key y))) (sym number)
+    ∙ shorter_filled i.len i.entries.items i.positions.items h (i.len - 1) c.args.index p x end pl is y c.if-hole-last.true end_is
+    ∙ ap (λ (v : HeapView). set v.slots c.args.index None) c.self.view_is
 
 pub returns-else-hole-last-clause-slots : goal.returns-else-hole-last-clause-slots
 returns-else-hole-last-clause-slots c =
@@ -136,5 +141,5 @@ returns-else-hole-last-clause-slots c =
     let end : i.len - 1 + 1 ≡ i.len = omega (arith, used) in
     let number : x.index ≡ c.number-number.result = ap (λ (x : Entry). x.index) (sym is) ∙ pl.index ∙ sym c.number-number.ensures.value in
     ap (λ n. slots (i.len - 1) (set i.entries.items (i.len - 1) x) (set i.positions.items n (i.len - 1))) (sym number)
-      ∙ shorter_slots i.len i.entries.items i.positions.items h (i.len - 1) c.args.index p x end pl is c.if-hole-last.false
-      ∙ ap (λ (v : HeapView). set v.slots c.args.index None) c.self.view_is
+    ∙ shorter_slots i.len i.entries.items i.positions.items h (i.len - 1) c.args.index p x end pl is c.if-hole-last.false
+    ∙ ap (λ (v : HeapView). set v.slots c.args.index None) c.self.view_is

@@ -1,7 +1,7 @@
-use Rattle.std.proofs.Common.{◌≡◌, ◌<◌, ◌≤◌, ℕ, sym, ap, ◌∙◌, subst, arith, length, get_or, Some, IsSome}
+use Rattle.std.proofs.Common.{◌≤◌, sym, ap, ◌∙◌, subst, arith, Some, IsSome}
 use Rattle.std.proofs.lemmas.List.{get_or_default}
 use Rattle.cyc_heap.specs.declared.entry.Entry.{Entry}
-use Rattle.cyc_heap.specs.Array.{nowhere, key, key_at, entry_at, index_at, IsLinkedBut}
+use Rattle.cyc_heap.specs.Array.{nowhere, key, key_at, IsLinkedBut}
 use Rattle.cyc_heap.specs.Heap.{HeapView, expiration_at, with_moment}
 use Rattle.cyc_heap.proofs.Orders.{hole_made}
 use Rattle.cyc_heap.proofs.Holes.{links_opened}
@@ -38,7 +38,7 @@ fill-requires-clause-linked c =
     let h = c.self.invariant.0 in
     let p = place_read i.len i.entries.items i.positions.items i.room c.args.self.now c.args.index c.number.result c.index-hole.result.now h c.self.view_is c.requires c.number.ensures.value c.index-hole.ensures in
     subst (λ n. IsLinkedBut c.index-hole.result.now n i.entries.items i.positions.items) p.index
-      (links_opened i.entries.items i.positions.items c.index-hole.result.now p.within h.linked)
+    (links_opened i.entries.items i.positions.items c.index-hole.result.now p.within h.linked)
 
 pub fill-requires-clause-bridged : goal.fill-requires-clause-bridged
 fill-requires-clause-bridged c =
@@ -56,9 +56,12 @@ invariant_of-self c =
     let long = f.length in
     let room = c.self.invariant.3 in
     let e = key_at i.entries.items c.index-hole.result.now in
-    let has = at_index i.len i.entries.items i.positions.items i.room c.args.index c.index-hole.result.now p in
-    (heap_moved i.len i.entries.items c.fill.new.entries.items i.positions.items c.fill.new.positions.items c.args.index e (record { moment = c.args.moment; id = c.index-entry.result.now.id }) h has f.linked f.order f.length f.slots,
-     subst (λ n. i.room ≤ n) (sym f.entries) c.self.invariant.1, subst (λ n. i.room ≤ n) (sym f.positions) c.self.invariant.2, omega (arith, long, room))
+    let has = at_index i.len i.entries.items i.positions.items i.room c.args.index c.index-hole.result.now p in (
+      heap_moved i.len i.entries.items c.fill.new.entries.items i.positions.items c.fill.new.positions.items c.args.index e (record { moment = c.args.moment; id = c.index-entry.result.now.id }) h has f.linked f.order f.length f.slots,
+      subst (λ n. i.room ≤ n) (sym f.entries) c.self.invariant.1,
+      subst (λ n. i.room ≤ n) (sym f.positions) c.self.invariant.2,
+      omega (arith, long, room),
+    )
 
 pub returns-clause-slots : goal.returns-clause-slots
 returns-clause-slots c =
@@ -69,4 +72,4 @@ returns-clause-slots c =
     let is = get_or_default i.entries.items c.index-hole.result.now nowhere x p.within ∙ sym c.index-entry.ensures in
     let has = at_index i.len i.entries.items i.positions.items i.room c.args.index c.index-hole.result.now p ∙ ap (λ (x : Entry). Some (key x)) is in
     c.fill.ensures.slots ∙ moment_slots (view_of i.len i.entries.items i.positions.items i.room) c.args.index c.args.moment (key x) has
-      ∙ ap (λ (v : HeapView). with_moment v.slots c.args.index c.args.moment) c.self.view_is
+    ∙ ap (λ (v : HeapView). with_moment v.slots c.args.index c.args.moment) c.self.view_is

@@ -1,4 +1,4 @@
-use Rattle.std.proofs.Common.{◌≡◌, ◌<◌, sym, ◌∙◌, subst, arith, length}
+use Rattle.std.proofs.Common.{◌<◌, sym, ◌∙◌, subst, arith}
 use Rattle.std.proofs.lemmas.List.{get_or_default}
 use Rattle.cyc_heap.specs.Array.{nowhere, key}
 use Rattle.cyc_heap.specs.Heap.{HeapView, IsLeast}
@@ -15,4 +15,4 @@ returns-clause-least c =
     let within = h.within in
     let is = get_or_default i.entries.items 0 nowhere x (omega (arith, some, within)) ∙ sym c.index-entry.ensures in
     subst (λ (v : HeapView). IsLeast v x.index (key x)) c.self.view_is
-      (least_at_root i.len i.entries.items i.positions.items i.room x h.within h.linked h.order some is)
+    (least_at_root i.len i.entries.items i.positions.items i.room x h.within h.linked h.order some is)

@@ -1,5 +1,5 @@
 use Rattle.std.proofs.Common.{◌≡◌, ap, sym, ◌∙◌, length, arith, vec_len}
-use Rattle.cyc_heap.specs.Heap.{HeapView, size_of}
+use Rattle.cyc_heap.specs.Heap.{size_of}
 use Rattle.cyc_heap.proofs.Slots.{length-slots}
 use Rattle.cyc_heap.proofs.heap.ExpiryHeap.size.Goals as goal
 
