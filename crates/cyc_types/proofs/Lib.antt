@@ -1,2 +1,3 @@
 pub mod TallyLemmas
 pub mod Runs
+pub mod RunStays
