@@ -79,23 +79,24 @@ module _ (t : Tables) (ordered : IsOrdered t.table) (id place : ℕ) (at : IsAt 
   pub read_cyclic : (level_of t).cyclics id ≡ Some (cyclic_of c)
   read_cyclic = ap (option_map cyclic_of) (lookup_read t.table ordered id place at c read)
 
-  pub read_count : count (level_of t) id ≡ c.count
-  read_count = ap count_in read_cyclic
-
   pub read_id : c.id ≡ id
   read_id = ap (λ (x : Admitted). x.id) read ∙ at.has_id c
 
+module _ (t : Tables) (ordered : IsOrdered t.table) (id place : ℕ) (at : IsAt t.table id place) (c : Admitted) (found : (level_of t).cyclics id ≡ Some (cyclic_of c)) (found_id : c.id ≡ id) where
+  found_count : count (level_of t) id ≡ c.count
+  found_count = ap count_in found
+
   -- what holds of the cyclic holds of the entry
-  pub read_fact : (P : Cyclic → Type 0) → IsSomeAnd ((level_of t).cyclics id) P → P (cyclic_of c)
-  read_fact P h = subst (λ (o : Option Cyclic). IsSomeAnd o P) read_cyclic h
+  pub found_fact : (P : Cyclic → Type 0) → IsSomeAnd ((level_of t).cyclics id) P → P (cyclic_of c)
+  found_fact P h = subst (λ (o : Option Cyclic). IsSomeAnd o P) found h
 
   written : (f : Cyclic → Cyclic) (d : Admitted) → d.id ≡ c.id → cyclic_of d ≡ f (cyclic_of c) → cyclics_of (set t.table place d) ≡ changed_at (cyclics_of t.table) id (option_map f)
-  written f d same made = cyclics_changed t.table (set t.table place d) id (Some d) (option_map f) (lookup_written t.table ordered id place at d (same ∙ read_id)) (ap Some made ∙ sym (ap (option_map f) read_cyclic))
+  written f d same made = cyclics_changed t.table (set t.table place d) id (Some d) (option_map f) (lookup_written t.table ordered id place at d (same ∙ found_id)) (ap Some made ∙ sym (ap (option_map f) found))
 
   pub level_expire : (d : Admitted) (hand : Option ℕ) → d.id ≡ c.id → cyclic_of d ≡ cyclic_after_expire (cyclic_of c) → hand ≡ then_some (eqb c.count 0) id → t.firer_hand ≡ None →
       level_of (record t { table = set t.table place d; firer_hand = hand }) ≡ after (Expire id) (level_of t)
   level_expire d hand same made is free =
-      let in_hand : hand ≡ hand_after_expire (count (level_of t) id) id t.firer_hand = is ∙ hand_expired c.count id t.firer_hand free ∙ ap (λ (n : ℕ). hand_after_expire n id t.firer_hand) (sym read_count) in
+      let in_hand : hand ≡ hand_after_expire (count (level_of t) id) id t.firer_hand = is ∙ hand_expired c.count id t.firer_hand free ∙ ap (λ (n : ℕ). hand_after_expire n id t.firer_hand) (sym found_count) in
       let map = written cyclic_after_expire d same made in
       λ z. record (level_of t) { cyclics = map z; firer_hand = in_hand z }
 
@@ -105,7 +106,7 @@ module _ (t : Tables) (ordered : IsOrdered t.table) (id place : ℕ) (at : IsAt 
   pub level_finish : (d : Admitted) (hand : Option ℕ) → d.id ≡ c.id → cyclic_of d ≡ cyclic_after_finish (cyclic_of c) → t.drainer_hand ≡ Some id → 0 < c.count → hand ≡ then_some (not (eqb c.count 1)) id →
       level_of (record t { table = set t.table place d; drainer_hand = hand }) ≡ after Finish (level_of t)
   level_finish d hand same made holds some is =
-      let in_hand : hand ≡ hand_after_finish (count (level_of t) id) t.drainer_hand = is ∙ hand_finished c.count id some ∙ ap (λ (n : ℕ). hand_after_finish n (Some id)) (sym read_count) ∙ ap (hand_after_finish (count (level_of t) id)) (sym holds) in
+      let in_hand : hand ≡ hand_after_finish (count (level_of t) id) t.drainer_hand = is ∙ hand_finished c.count id some ∙ ap (λ (n : ℕ). hand_after_finish n (Some id)) (sym found_count) ∙ ap (hand_after_finish (count (level_of t) id)) (sym holds) in
       let map = written cyclic_after_finish d same made in
       let one : level_of (record t { table = set t.table place d; drainer_hand = hand }) ≡ after_finish (Some id) (level_of t) = λ z. record (level_of t) { cyclics = map z; drainer_hand = in_hand z } in
       one ∙ ap (λ (o : Option ℕ). after_finish o (level_of t)) (sym holds)
@@ -178,11 +179,10 @@ none_some (Some x) none some = let wrong : ⊥ = cc in wrong
 pub none_is_some : {X : Type 0} (o : Option X) (x : X) → o ≡ None → o ≡ Some x → ⊥
 none_is_some o x none some = let wrong : ⊥ = cc in wrong
 
--- the entry of the cyclic in the drainer's hand
-pub held_entry : (t : Tables) → IsOrdered t.table → Lawful (level_of t) → (id place : ℕ) → IsAt t.table id place → (c : Admitted) → c ≡ get_or t.table place c → t.drainer_hand ≡ Some id → (0 < c.count) × (c.sent ≡ c.done + c.count + c.lost)
-held_entry t ordered law id place at c read holds =
-    let (d, is, some) = held_cyclic (level_of t) law id holds in
-    let here = read_cyclic t ordered id place at c read in
-    let same : d ≡ cyclic_of c = same_some _ d (cyclic_of c) is here in
+-- the cyclic in the drainer's hand has calls outstanding
+pub held_count : (l : Level) → Lawful l → (id : ℕ) (c : Cyclic) → l.cyclics id ≡ Some c → l.drainer_hand ≡ Some id → 0 < c.count
+held_count l law id c is holds =
+    let (d, there, some) = held_cyclic l law id holds in
+    let same : d ≡ c = same_some _ d c there is in
     let count = ap (λ (x : Cyclic). x.count) same in
-    (omega (arith, some, count), law.conserved id (cyclic_of c) here)
+    omega (arith, some, count)

@@ -40,10 +40,7 @@ impl LevelCore {
         ensures books { result ≡ books_of (level_of self.now) id }
         ensures conserved { IfSome result (λ b. b.sent ≡ b.done + b.pending + b.kept + b.lost) }
     {
-        let Ok(place) = self.search(id) else {
-            return None;
-        };
-        let entry = self.table[place];
+        let entry = self.find(id)?;
         let (pending, kept) = if self.marked == Some(id) {
             (0, entry.count)
         } else {

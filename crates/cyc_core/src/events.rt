@@ -94,8 +94,7 @@ impl LevelCore {
         ensures { level_of self.new ≡ after Finish (level_of self.old) }
     {
         if let Some(id) = self.drainer_hand {
-            let place = self.place_of(id);
-            let mut entry = self.table[place];
+            let (place, mut entry) = self.entry_of(id);
             self.drainer_hand = (entry.count != 1).then_some(id);
             entry.done += 1;
             entry.count -= 1;
@@ -141,13 +140,20 @@ impl LevelCore {
     fn may_admit(&self, id: CyclicId, index: Index) -> bool
         ensures { IsTrue result ↔ Enabled (Admit id index) (level_of self.now) }
     {
-        self.firer_hand.is_none()
-            && u32::from(index.number()) < 1 << self.hard_bank
-            && self.search(id).is_err()
-            && self
-                .table
-                .iter()
-                .all(|entry| entry.index.number() != index.number())
+        if self.firer_hand.is_some() || self.find(id).is_some() {
+            return false;
+        }
+        let places: u32 = 1 << self.hard_bank;
+        u32::from(index.number()) < places && self.is_unused(index)
+    }
+
+    // Whether no admitted cyclic has this index.
+    fn is_unused(&self, index: Index) -> bool
+        ensures { IsTrue result ↔ IsUnused (level_of self.now) index }
+    {
+        self.table
+            .iter()
+            .all(|entry| entry.index.number() != index.number())
     }
 
     fn may_expire(&self, id: CyclicId) -> bool
@@ -156,11 +162,10 @@ impl LevelCore {
         if self.firer_hand.is_some() || self.marked == Some(id) {
             return false;
         }
-        let Ok(place) = self.search(id) else {
-            return false;
-        };
-        let entry = self.table[place];
-        entry.count < self.ceiling && entry.sent < u64::MAX
+        match self.find(id) {
+            Some(entry) => entry.count < self.ceiling && entry.sent < u64::MAX,
+            None => false,
+        }
     }
 
     fn may_lose(&self, id: CyclicId) -> bool
@@ -169,11 +174,10 @@ impl LevelCore {
         if self.firer_hand.is_some() || self.marked == Some(id) {
             return false;
         }
-        let Ok(place) = self.search(id) else {
-            return false;
-        };
-        let entry = self.table[place];
-        entry.count == self.ceiling && entry.sent < u64::MAX
+        match self.find(id) {
+            Some(entry) => entry.count == self.ceiling && entry.sent < u64::MAX,
+            None => false,
+        }
     }
 
     /// Whether the list that the soft side empties is empty.
@@ -189,7 +193,7 @@ impl LevelCore {
     fn may_mark(&self, id: CyclicId) -> bool
         ensures { IsTrue result ↔ Enabled (Mark id) (level_of self.now) }
     {
-        self.firer_hand.is_none() && self.marked.is_none() && self.search(id).is_ok()
+        self.firer_hand.is_none() && self.marked.is_none() && self.find(id).is_some()
     }
 
     fn may_clear(&self, id: CyclicId) -> bool
@@ -198,9 +202,9 @@ impl LevelCore {
         if self.firer_hand.is_some() || self.marked != Some(id) {
             return false;
         }
-        match self.search(id) {
-            Ok(place) => self.table[place].count == 0,
-            Err(_) => true,
+        match self.find(id) {
+            Some(entry) => entry.count == 0,
+            None => true,
         }
     }
 
@@ -236,14 +240,15 @@ impl LevelCore {
         requires { Enabled event (level_of self.old) }
         ensures { level_of self.new ≡ after event (level_of self.old) }
     {
+        self.conservation();
         match event {
             Event::Admit(id, index) => self.begin_stay(id, index),
             Event::Expire(id) => {
-                let place = self.place_of(id);
+                let (place, _) = self.entry_of(id);
                 self.expire(place, id);
             }
             Event::Lose(id) => {
-                let place = self.place_of(id);
+                let (place, _) = self.entry_of(id);
                 self.lose(place, id);
             }
             Event::Publish => self.publish(),
@@ -251,7 +256,7 @@ impl LevelCore {
             Event::Finish => self.finish_call(),
             Event::Mark(id) => self.begin_removal(id),
             Event::Clear(id) => {
-                let place = self.place_of(id);
+                let (place, _) = self.entry_of(id);
                 self.end_stay(place, id);
             }
             Event::Switch(bank) => self.switch_to(bank),

@@ -1,8 +1,9 @@
-ghost use Rattle.std.specs.Prelude.{◌≡◌, ℕ, ◌<◌, ◌≤◌, length, IfOk, IfErr, IfSome, IfNone, IsSome, None};
+ghost use Rattle.std.specs.Prelude.{◌≡◌, ℕ, ◌<◌, ◌≤◌, length, IfOk, IfErr, IfSome, IfNone, IsSome, Some, None};
+ghost use Rattle.std.specs.Option.{option_map};
 ghost use Rattle.cyc_level.specs.Level.{empty_level};
 ghost use Rattle.cyc_level.specs.Lawful.{Lawful};
 ghost use Rattle.cyc_level.specs.Conservation.{IsConserved};
-ghost use Rattle.cyc_core.specs.Tables.{level_of, lookup, IsAt, IsGap, IsOrdered};
+ghost use Rattle.cyc_core.specs.Tables.{cyclic_of, level_of, lookup, IsAt, IsGap, IsOrdered};
 ghost use Rattle.cyc_core.specs.Reached.{IsReached};
 
 use crate::admitted::Admitted;
@@ -78,6 +79,7 @@ impl LevelCore {
         ensures reached { IsReached (level_of self.now) }
         ensures lawful { Lawful (level_of self.now) }
         ensures conserved { IsConserved (level_of self.now) }
+        ensures some_ceiling { 0 < self.now.ceiling }
     {
         let _ceiling = &self.ceiling;
     }
@@ -90,14 +92,29 @@ impl LevelCore {
         search(&self.table, id)
     }
 
-    /// Where the entry of an admitted id stands in the table.
-    pub(crate) fn place_of(&self, id: CyclicId) -> usize
+    /// The entry of the id, where it is admitted.
+    pub(crate) fn find(&self, id: CyclicId) -> Option<Admitted>
+        ensures cyclic { option_map cyclic_of result ≡ (level_of self.now).cyclics id }
+        ensures lawful { Lawful (level_of self.now) }
+    {
+        match self.search(id) {
+            Ok(place) => Some(self.table[place]),
+            Err(_) => None,
+        }
+    }
+
+    /// The entry of an admitted id, and where it stands in the table.
+    pub(crate) fn entry_of(&self, id: CyclicId) -> (usize, Admitted)
         requires { IsSome (lookup id self.now.table) }
-        ensures { IsAt self.now.table id result }
+        ensures place { IsAt self.now.table id result.0 }
+        ensures cyclic { (level_of self.now).cyclics id ≡ Some (cyclic_of result.1) }
+        ensures id { result.1.id ≡ id }
+        ensures lawful { Lawful (level_of self.now) }
+        ensures some_ceiling { 0 < self.now.ceiling }
     {
         let Ok(place) = self.search(id) else {
             unreachable!()
         };
-        place
+        (place, self.table[place])
     }
 }

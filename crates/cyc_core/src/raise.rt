@@ -18,23 +18,23 @@ impl Raise for LevelCore {
     }
 
     fn admit(&mut self, id: CyclicId, index: Index) {
+        self.conservation();
         self.begin_stay(id, index);
     }
 
     fn load_pend(&mut self, id: CyclicId) -> u32 {
-        let place = self.place_of(id);
-        self.table[place].count
+        let (_, entry) = self.entry_of(id);
+        entry.count
     }
 
     fn raise(&mut self, id: CyclicId) -> Raised {
-        let place = self.place_of(id);
-        let count = self.table[place].count;
-        if count == self.ceiling {
+        let (place, entry) = self.entry_of(id);
+        if entry.count == self.ceiling {
             self.lose(place, id);
             return Raised::Lost;
         }
         self.expire(place, id);
-        if count > 0 {
+        if entry.count > 0 {
             return Raised::More;
         }
         self.publish();
@@ -42,15 +42,13 @@ impl Raise for LevelCore {
     }
 
     fn mark(&mut self, id: CyclicId) -> u32 {
-        let place = self.place_of(id);
-        let count = self.table[place].count;
+        let (_, entry) = self.entry_of(id);
         self.begin_removal(id);
-        count
+        entry.count
     }
 
     fn poll_clear(&mut self, id: CyclicId) -> Option<Sent> {
-        let place = self.place_of(id);
-        let entry = self.table[place];
+        let (place, entry) = self.entry_of(id);
         if entry.count > 0 {
             return None;
         }
@@ -62,6 +60,7 @@ impl Raise for LevelCore {
     }
 
     fn expand(&mut self, bank: u8) {
+        self.conservation();
         self.switch_to(bank);
     }
 
@@ -70,8 +69,7 @@ impl Raise for LevelCore {
     }
 
     fn sent(&self, id: CyclicId) -> Sent {
-        let place = self.place_of(id);
-        let entry = self.table[place];
+        let (_, entry) = self.entry_of(id);
         Sent {
             sent: entry.sent,
             lost: entry.lost,

@@ -1,0 +1,28 @@
+use Rattle.std.proofs.Common.{◌≡◌, ◌≢◌, ◌<◌, ◌≤◌, ℕ, List, [], ap, arith, refl, subst, sym, ◌∙◌, Some, None, vec_capacity, vec_len}
+use Rattle.cyc_level.specs.declared.Event.TheVariants.{Admit, Expire, Lose, Publish, Take, Finish, Mark, Clear, Switch, Follow}
+use Rattle.cyc_level.specs.Level.{Level, Cyclic, count}
+use Rattle.cyc_level.specs.Events.{after, most_sent, Enabled}
+use Rattle.cyc_level.specs.Lawful.{Lawful}
+use Rattle.cyc_core.specs.Tables.{Tables, level_of, IsAt, IsGap, lookup}
+use Rattle.cyc_core.specs.Shown.{shown}
+use Rattle.cyc_core.proofs.Table.{lookup_gap}
+use Rattle.cyc_core.proofs.Changes.{read_cyclic, read_id, none_some, reached_lawful}
+use Rattle.cyc_core.proofs.level_core.LevelCore.entry_of.Goals as goal
+
+pub unreachable-requires : goal.unreachable-requires
+unreachable-requires c = none_some _ (lookup_gap c.args.self.now.table c.args.id c.in_default.field-0 c.in_default.ensures.absent) c.requires
+
+pub returns-clause-cyclic : goal.returns-clause-cyclic
+returns-clause-cyclic c =
+    let t = shown c.self.inside in
+    let at = rw (← c.self.view_is) at c.in-Ok.ensures.found in
+    rw (← c.self.view_is) (read_cyclic t c.self.invariant.ordered c.args.id c.in-Ok.place at c.index.result.now c.index.ensures)
+
+pub returns-clause-id : goal.returns-clause-id
+returns-clause-id c =
+    let t = shown c.self.inside in
+    let at = rw (← c.self.view_is) at c.in-Ok.ensures.found in
+    read_id t c.self.invariant.ordered c.args.id c.in-Ok.place at c.index.result.now c.index.ensures
+
+pub returns-clause-lawful : goal.returns-clause-lawful
+returns-clause-lawful c = rw (← c.self.view_is) (reached_lawful (level_of (shown c.self.inside)) c.self.invariant.reached)

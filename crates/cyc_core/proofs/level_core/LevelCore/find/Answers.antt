@@ -1,0 +1,27 @@
+use Rattle.std.proofs.Common.{◌≡◌, ◌≢◌, ◌<◌, ◌≤◌, ℕ, List, [], ap, arith, refl, subst, sym, ◌∙◌, Some, None, vec_capacity, vec_len}
+use Rattle.cyc_level.specs.declared.Event.TheVariants.{Admit, Expire, Lose, Publish, Take, Finish, Mark, Clear, Switch, Follow}
+use Rattle.cyc_level.specs.Level.{Level, Cyclic, count}
+use Rattle.cyc_level.specs.Events.{after, most_sent, Enabled}
+use Rattle.cyc_level.specs.Lawful.{Lawful}
+use Rattle.cyc_core.specs.Tables.{Tables, level_of, IsAt, IsGap, lookup}
+use Rattle.cyc_core.specs.Shown.{shown}
+use Rattle.std.specs.Option.{option_map}
+use Rattle.cyc_core.specs.Tables.{cyclic_of}
+use Rattle.cyc_core.proofs.Table.{lookup_gap}
+use Rattle.cyc_core.proofs.Changes.{read_cyclic, reached_lawful}
+use Rattle.cyc_core.proofs.level_core.LevelCore.find.Goals as goal
+
+pub returns-in-Ok-clause-cyclic : goal.returns-in-Ok-clause-cyclic
+returns-in-Ok-clause-cyclic c =
+    let t = shown c.self.inside in
+    let at = rw (← c.self.view_is) at c.in-Ok.ensures.found in
+    rw (← c.self.view_is) (sym (read_cyclic t c.self.invariant.ordered c.args.id c.in-Ok.place at c.index.result.now c.index.ensures))
+
+pub returns-in-Ok-clause-lawful : goal.returns-in-Ok-clause-lawful
+returns-in-Ok-clause-lawful c = rw (← c.self.view_is) (reached_lawful (level_of (shown c.self.inside)) c.self.invariant.reached)
+
+pub returns-in-Err-clause-cyclic : goal.returns-in-Err-clause-cyclic
+returns-in-Err-clause-cyclic c = sym (ap (option_map cyclic_of) (lookup_gap c.args.self.now.table c.args.id c.in-Err.field-0 c.in-Err.ensures.absent))
+
+pub returns-in-Err-clause-lawful : goal.returns-in-Err-clause-lawful
+returns-in-Err-clause-lawful c = rw (← c.self.view_is) (reached_lawful (level_of (shown c.self.inside)) c.self.invariant.reached)
