@@ -1,6 +1,6 @@
 -- What the fields show after an edit, and that each event leaves a reached level.
-use Rattle.std.proofs.Common.{◌≡◌, ◌≢◌, ℕ, zero, suc, ◌+◌, ◌-◌, ◌<◌, ◌≤◌, eqb, cond, Bool, true, false, not, List, [], ◌∷◌, ◌++◌, length, drop, get_or, set, Option, Some, None, IsSome, IsSomeAnd, refl, sym, ap, ◌∙◌, subst, arith, vec_capacity, option_to_list}
-use Rattle.std.specs.Prelude.{Result, Ok, Err, is_ok, OnErr}
+use Rattle.std.proofs.Common.{◌≡◌, ◌≢◌, ℕ, zero, suc, ◌<◌, ◌≤◌, eqb, cond, Bool, true, false, not, List, [], ◌∷◌, ◌++◌, length, drop, get_or, set, Option, Some, None, IsSome, IsSomeAnd, refl, sym, ap, ◌∙◌, subst, arith, vec_capacity, option_to_list}
+use Rattle.std.specs.Prelude.{Result, Ok, Err, is_ok, OnErr, OnOk}
 use Rattle.std.specs.Bool.{then_some}
 use Rattle.std.specs.Option.{option_map}
 use Rattle.std.specs.List.{insert, remove}
@@ -8,9 +8,9 @@ use Rattle.std.specs.VecDeque.{deque_capacity}
 use Rattle.std.proofs.lemmas.Bool.Decides.{nat_tests}
 use Rattle.cyc_types.specs.Limits.{cyclics}
 use Rattle.cyc_level.specs.declared.Event.{Event}
-use Rattle.cyc_level.specs.declared.Event.TheVariants.{Admit, Expire, Lose, Publish, Take, Finish, Mark, Clear, Switch, Follow}
-use Rattle.cyc_level.specs.Level.{Cyclic, Cyclics, Level, count, count_in, in_hand, soft_list}
-use Rattle.cyc_level.specs.Events.{changed_at, admitted_cyclic, cyclic_after_expire, cyclic_after_lose, cyclic_after_finish, hand_after_expire, hand_after_finish, first_of, rest_of, as_list, Enabled, after, after_finish, after_take, reached, AllEnabled}
+use Rattle.cyc_level.specs.declared.Event.TheVariants.{Admit, Expire, Lose, Publish, Take, Finish, Clear, Switch}
+use Rattle.cyc_level.specs.Level.{Cyclic, Level, count, count_in, in_hand}
+use Rattle.cyc_level.specs.Events.{changed_at, admitted_cyclic, cyclic_after_expire, cyclic_after_lose, cyclic_after_finish, hand_after_expire, hand_after_finish, first_of, rest_of, as_list, Enabled, after, after_finish, reached, AllEnabled}
 use Rattle.cyc_level.specs.Lawful.{Lawful}
 use Rattle.cyc_level.proofs.Room.{placed_cyclic}
 use Rattle.cyc_level.proofs.Maps.{hand_here}
@@ -20,7 +20,7 @@ use Rattle.cyc_core.specs.declared.level_core.LevelCore.TheInside.{Inside}
 use Rattle.cyc_core.specs.Tables.{Tables, lookup, cyclic_of, cyclics_of, level_of, IsOrdered, IsAt, IsGap}
 use Rattle.cyc_core.specs.Reached.{IsReached}
 use Rattle.cyc_core.specs.Shown.{shown, IsSound}
-use Rattle.cyc_core.proofs.Table.{lookup_read, lookup_written, lookup_removed, lookup_inserted, lookup_gap}
+use Rattle.cyc_core.proofs.Table.{lookup_read, lookup_written, lookup_removed, lookup_inserted}
 
 pub reached_lawful : (l : Level) → IsReached l → Lawful l
 reached_lawful l (events, all, is) = subst Lawful (sym is) (always_lawful l.ceiling events all)
@@ -171,6 +171,10 @@ level_switch t bank old new is none = λ z. record (level_of t) { hard_bank = ba
 pub err_fact : {T E : Type 0} (P : Type 0) (r : Result T E) → is_ok r ≡ false → OnErr r P → P
 err_fact P (Ok x) failed h = absurd (let none : ⊥ = cc in none)
 err_fact P (Err x) failed h = h
+
+pub ok_fact : {T E : Type 0} (P : Type 0) (r : Result T E) → is_ok r ≡ true → OnOk r P → P
+ok_fact P (Ok x) is h = h
+ok_fact P (Err x) is h = absurd (let none : ⊥ = cc in none)
 
 pub none_some : {X : Type 0} (o : Option X) → o ≡ None → IsSome o → ⊥
 none_some None none some = let wrong : ⊥ = cc in wrong

@@ -1,9 +1,9 @@
 -- What the calls of the firing side teach it.
-use Rattle.std.proofs.Common.{◌≡◌, ◌≢◌, ℕ, zero, suc, ◌+◌, ◌-◌, ◌<◌, ◌≤◌, ◌^◌, eqb, cond, Bool, true, false, Option, Some, None, IsSome, IsSomeAnd, refl, sym, ap, ◌∙◌, subst, arith}
+use Rattle.std.proofs.Common.{◌≡◌, ℕ, zero, suc, ◌+◌, ◌<◌, ◌≤◌, ◌^◌, eqb, cond, Bool, true, false, Option, Some, None, IsSome, refl, sym, ap, ◌∙◌, subst, arith}
 use Rattle.std.specs.Prelude.{is_none}
 use Rattle.std.specs.Option.{option_map}
 use Rattle.std.proofs.lemmas.Bool.Decides.{nat_tests}
-use Rattle.cyc_types.specs.Firing.{Stay, FiringView, Admits, Loads, Raises, Marks, Polls, Expands, Looks, Learns, Sound, IsAdmitted, edited as stay_edited, seen_in, seen_of, sent_in, sent_of, saw, MayAdmit, MayRaise, MayMark, MayPoll, MayExpand}
+use Rattle.cyc_types.specs.Firing.{Stay, FiringView, Admits, Loads, Raises, Marks, Polls, Expands, Learns, Sound, edited as stay_edited, seen_in, seen_of, sent_in, saw, MayAdmit, MayRaise, MayMark, MayPoll, MayExpand}
 use Rattle.cyc_types.specs.declared.firing.Raised.TheVariants.{First, More, Lost}
 use Rattle.cyc_level.specs.declared.Event.{Event}
 use Rattle.cyc_level.specs.declared.Event.TheVariants.{Admit, Expire, Lose, Publish, Mark, Clear, Switch}

@@ -2,3 +2,5 @@ pub mod Table
 pub mod Changes
 pub mod Room
 pub mod FiringLaws
+pub mod DrainingLaws
+pub mod PlaceLaws

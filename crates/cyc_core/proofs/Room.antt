@@ -1,7 +1,6 @@
 -- The table has room for all that can be admitted, and the lists for all that can stand in them.
-use Rattle.std.proofs.Common.{◌≡◌, ◌≢◌, ℕ, zero, suc, ◌+◌, ◌^◌, ◌<◌, ◌≤◌, eqb, cond, Bool, true, false, List, [], ◌∷◌, length, map, get_or, Option, Some, None, IsSome, refl, sym, ap, ◌∙◌, subst, arith, pow_mono}
+use Rattle.std.proofs.Common.{◌≡◌, ◌≢◌, ℕ, suc, ◌+◌, ◌<◌, ◌≤◌, eqb, cond, true, false, List, [], ◌∷◌, length, map, get_or, Some, sym, ap, ◌∙◌, subst, arith, pow_mono}
 use Rattle.std.specs.Option.{option_map}
-use Rattle.std.proofs.lemmas.Bool.Decides.{nat_tests}
 use Rattle.std.specs.List.{insert}
 use Rattle.std.proofs.lemmas.List.{length-map}
 use Rattle.std.proofs.lemmas.List.Edits.{length-insert}
@@ -9,14 +8,14 @@ use mathlib.Core.Logic.{dite}
 use native.Mathlib.Decide.{ℕ_discrete}
 use Rattle.cyc_types.specs.Limits.{cyclics, greatest_bank}
 use Rattle.cyc_level.specs.declared.Event.TheVariants.{Admit}
-use Rattle.cyc_level.specs.Level.{Cyclic, Level, bank_size, times_in}
+use Rattle.cyc_level.specs.Level.{bank_size, times_in}
 use Rattle.cyc_level.specs.Events.{Enabled, admitted_cyclic}
 use Rattle.cyc_level.specs.Lawful.{Lawful}
 use Rattle.cyc_level.proofs.Keeps.{keeps_law}
 use Rattle.cyc_level.proofs.Room.{few, new_fits}
-use Rattle.cyc_level.proofs.Maps.{hand_here, hand_else}
+use Rattle.cyc_level.proofs.Maps.{hand_else}
 use Rattle.cyc_core.specs.declared.admitted.Admitted.{Admitted}
-use Rattle.cyc_core.specs.Tables.{Tables, lookup, cyclic_of, cyclics_of, level_of, IsOrdered, IsAt, IsGap}
+use Rattle.cyc_core.specs.Tables.{Tables, cyclic_of, cyclics_of, level_of, IsOrdered, IsGap}
 use Rattle.cyc_core.proofs.Table.{lookup_at, is_at_place, ordered_insert}
 use Rattle.cyc_core.proofs.Changes.{level_admit}
 

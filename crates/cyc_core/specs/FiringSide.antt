@@ -1,5 +1,5 @@
 -- What the firing side knows of a level that no other thread uses, and the events of each of its calls.
-use Rattle.std.specs.Prelude.{◌≡◌, ℕ, ◌<◌, ◌==◌, List, [], ◌∷◌, Option, Some, None, is_none}
+use Rattle.std.specs.Prelude.{◌≡◌, ℕ, ◌<◌, ◌==◌, List, [], ◌∷◌, Some, None, is_none}
 use Rattle.std.specs.Option.{option_map}
 use Rattle.std.specs.List.{FoldsTo}
 use Rattle.cyc_types.specs.Firing.{Stay, FiringView, FiringCall, Admits, Loads, Raises, Marks, Polls, Expands, Looks, sent_of}

@@ -1,5 +1,5 @@
 -- What `books` and `place` show of a level.
-use Rattle.std.specs.Prelude.{◌≡◌, ℕ, ◌<◌, ◌==◌, ◌≢◌, if◌then◌else◌, List, Option, Some, None, Bool, true, false}
+use Rattle.std.specs.Prelude.{◌≡◌, ℕ, ◌<◌, if◌then◌else◌, Option, Some, Bool}
 use Rattle.std.specs.Option.{option_map}
 use Rattle.cyc_level.specs.Level.{Cyclic, Level, times_in}
 use Rattle.cyc_core.specs.declared.books.Books.{Books}

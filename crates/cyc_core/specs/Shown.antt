@@ -1,5 +1,5 @@
 -- What the fields of a `LevelCore` show, and what holds of them at all times.
-use Rattle.std.specs.Prelude.{ℕ, ◌<◌, ◌≤◌, vec_capacity}
+use Rattle.std.specs.Prelude.{◌<◌, ◌≤◌, vec_capacity}
 use Rattle.std.specs.VecDeque.{deque_capacity}
 use Rattle.cyc_types.specs.Limits.{cyclics}
 use Rattle.cyc_core.specs.Tables.{Tables, level_of, IsOrdered}

@@ -1,5 +1,5 @@
 -- What a `LevelCore` keeps, as data, and the level that it shows.
-use Rattle.std.specs.Prelude.{◌≡◌, ℕ, ◌<◌, ◌≤◌, Option, None, List, length, Bool, ◌==◌, find, Some, slice_index_or}
+use Rattle.std.specs.Prelude.{◌≡◌, ℕ, ◌<◌, ◌≤◌, Option, List, length, Bool, ◌==◌, find, slice_index_or}
 use Rattle.std.specs.Option.{option_map}
 use Rattle.cyc_level.specs.Level.{Cyclic, Cyclics, Level}
 use Rattle.cyc_core.specs.declared.admitted.Admitted.{Admitted}

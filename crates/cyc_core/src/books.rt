@@ -1,10 +1,12 @@
-ghost use Rattle.std.specs.Prelude.{◌≡◌, ℕ, ◌+◌, ◌<◌, ◌↔◌, Some, IfSome, IsSome};
+ghost use Rattle.std.specs.Prelude.{◌≡◌, ℕ, ◌+◌, ◌<◌, ◌↔◌, ◌==◌, Some, IfSome, IsSome};
+ghost use Rattle.std.specs.List.{list_any};
 ghost use Rattle.cyc_level.specs.Level.{count};
 ghost use Rattle.cyc_core.specs.Tables.{level_of};
 ghost use Rattle.cyc_core.specs.Showing.{books_of, StandsAt};
 
 use crate::level_core::LevelCore;
 use cyc_types::CyclicId;
+use std::collections::VecDeque;
 
 /// The books of one admitted cyclic. `sent` is always the sum of the other four.
 #[derive(Clone, Copy, Debug, PartialEq, Eq)]
@@ -32,6 +34,14 @@ pub enum Place {
     NewBank,
     /// In the soft interrupt's hand.
     DrainerHand,
+}
+
+/// Whether the id stands in the list.
+fn stands_in(list: &VecDeque<CyclicId>, id: CyclicId) -> bool
+    ensures { result ≡ list_any (λ other. other == id) list.now.items }
+{
+    let number = id.number();
+    list.iter().any(|other| other.number() == number)
 }
 
 impl LevelCore {
@@ -66,10 +76,10 @@ impl LevelCore {
         if self.drainer_hand == Some(id) {
             return Some(Place::DrainerHand);
         }
-        if self.old_list.iter().any(|other| *other == id) {
+        if stands_in(&self.old_list, id) {
             return Some(Place::OldBank);
         }
-        if self.new_list.iter().any(|other| *other == id) {
+        if stands_in(&self.new_list, id) {
             return Some(Place::NewBank);
         }
         None

@@ -30,15 +30,16 @@ impl Drain for LevelCore {
     }
 
     fn finish(&mut self) -> Finished {
-        let id = self.drainer_hand;
+        let Some(id) = self.drainer_hand else {
+            unreachable!()
+        };
         self.finish_call();
         if self.drainer_hand.is_some() {
             return Finished::More;
         }
-        if self.marked == id {
-            Finished::LastOfRemoval
-        } else {
-            Finished::Last
+        if self.marked == Some(id) {
+            return Finished::LastOfRemoval;
         }
+        Finished::Last
     }
 }

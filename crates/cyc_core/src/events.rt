@@ -1,5 +1,5 @@
 ghost use Rattle.std.specs.Prelude.{◌≡◌, ◌≢◌, ℕ, ◌+◌, ◌<◌, ◌≤◌, ◌↔◌, ◌==◌, Some, None, IsTrue, IsOk, OnOk, OnErr, IfErr, IsSome, IsSomeAnd, slice_get, take, [], List};
-ghost use Rattle.std.specs.List.{FoldsTo};
+ghost use Rattle.std.specs.List.{FoldsTo, list_any};
 ghost use Rattle.cyc_level.specs.declared.Event.TheVariants.{Admit, Expire, Lose, Publish, Take, Finish, Mark, Clear, Switch, Follow};
 ghost use Rattle.cyc_level.specs.Level.{count, soft_list};
 ghost use Rattle.cyc_level.specs.Events.{Enabled, IsUnused, after};
@@ -21,6 +21,14 @@ pub struct NotEnabled;
 #[derive(Clone, Copy, Debug, PartialEq, Eq, Error)]
 #[error("event {0} is not enabled")]
 pub struct NotEnabledAt(pub usize);
+
+/// Whether an entry has this index.
+fn has_index(table: &[Admitted], index: Index) -> bool
+    ensures { result ≡ list_any (λ entry. entry.index == index) table.now }
+{
+    let number = index.number();
+    table.iter().any(|entry| entry.index.number() == number)
+}
 
 // What each event changes, where it is enabled.
 impl LevelCore {
@@ -144,16 +152,7 @@ impl LevelCore {
             return false;
         }
         let places: u32 = 1 << self.hard_bank;
-        u32::from(index.number()) < places && self.is_unused(index)
-    }
-
-    // Whether no admitted cyclic has this index.
-    fn is_unused(&self, index: Index) -> bool
-        ensures { IsTrue result ↔ IsUnused (level_of self.now) index }
-    {
-        self.table
-            .iter()
-            .all(|entry| entry.index.number() != index.number())
+        u32::from(index.number()) < places && !has_index(&self.table, index)
     }
 
     fn may_expire(&self, id: CyclicId) -> bool

@@ -1,10 +1,7 @@
-use Rattle.std.proofs.Common.{◌≡◌, ◌≢◌, ◌<◌, ◌≤◌, ℕ, List, [], ap, arith, refl, subst, sym, ◌∙◌, Some, None, vec_capacity, vec_len}
-use Rattle.cyc_level.specs.declared.Event.TheVariants.{Admit, Expire, Lose, Publish, Take, Finish, Mark, Clear, Switch, Follow}
-use Rattle.cyc_level.specs.Level.{Level, Cyclic, count}
-use Rattle.cyc_level.specs.Events.{after, most_sent, Enabled}
-use Rattle.cyc_level.specs.Lawful.{Lawful}
-use Rattle.cyc_core.specs.Tables.{Tables, level_of, IsAt, IsGap, lookup}
-use Rattle.cyc_core.specs.Shown.{shown}
+use Rattle.std.proofs.Common.{subst}
+use Rattle.cyc_level.specs.declared.Event.TheVariants.{Clear}
+use Rattle.cyc_level.specs.Events.{Enabled}
+use Rattle.cyc_core.specs.Tables.{level_of}
 use Rattle.cyc_level.specs.declared.Event.{Event}
 use Rattle.cyc_level.proofs.Maps.{some_of}
 use Rattle.cyc_core.proofs.Changes.{entry_of}
