@@ -1,0 +1,174 @@
+//! Scripts that are refused.
+
+use cyc_script::read_script;
+use cyc_types::Refusal;
+use cyc_types::Refusal::{NameTwice, ScriptShape, ScriptSyntax, TimeBack};
+use std::alloc::{AllocError, Global};
+use std::test::Fail;
+
+const FIRST: &[u8] =
+    b"{\"cpus\":1,\"steps\":[[\"add\",\"a\",\"low\",5,10],[\"advance\",5],[\"softint\",0,\"low\",8]]}";
+
+// What reading these steps on one CPU refuses; none where they are a script.
+fn refusal_of(alloc: Global, steps: &str) -> Result<Option<Refusal>, AllocError> {
+    let text = format!(in alloc; "{{\"cpus\":1,\"steps\":[{steps}]}}")?;
+    Ok(read_script(alloc, text.as_bytes()).err())
+}
+
+#[test]
+fn no_proper_prefix_of_a_script_is_json(rt: HostRuntime) {
+    for n in 0..FIRST.len() {
+        assert!(rt;
+            matches!(read_script(rt.alloc(), &FIRST[..n]), Err(ScriptSyntax)),
+            "the first {n} bytes"
+        );
+    }
+    assert!(rt; read_script(rt.alloc(), FIRST).is_ok());
+}
+
+#[test]
+fn bytes_that_are_no_json(rt: HostRuntime) {
+    for bytes in [
+        b"{\"cpus\":1,\"steps\":[".as_slice(),
+        b"{\"cpus\":1,\"steps\":[[\"add\",\"\xff\",\"low\",5,10]]}",
+        b"{\"cpus\":1,\"steps\":[]} x",
+        b"{'cpus':1,'steps':[]}",
+    ] {
+        assert!(rt;
+            matches!(read_script(rt.alloc(), bytes), Err(ScriptSyntax)),
+            "at {bytes:?}"
+        );
+    }
+}
+
+#[test]
+fn objects_that_are_no_script(rt: HostRuntime) {
+    for text in [
+        "[]",
+        "{}",
+        "{\"cpus\":1}",
+        "{\"steps\":[]}",
+        "{\"cpus\":0,\"steps\":[]}",
+        "{\"cpus\":2,\"steps\":[]}",
+        "{\"cpus\":16,\"steps\":[]}",
+        "{\"cpus\":17,\"steps\":[]}",
+        "{\"cpus\":1.0,\"steps\":[]}",
+        "{\"cpus\":\"1\",\"steps\":[]}",
+        "{\"cpus\":1,\"steps\":{}}",
+        "{\"cpus\":1,\"ceiling\":0,\"steps\":[]}",
+        "{\"cpus\":1,\"ceiling\":4294967296,\"steps\":[]}",
+        "{\"cpus\":1,\"ceiling\":null,\"steps\":[]}",
+        "{\"cpus\":1,\"steps\":[],\"more\":1}",
+    ] {
+        assert!(rt;
+            matches!(
+                read_script(rt.alloc(), text.as_bytes()),
+                Err(ScriptShape(0))
+            ),
+            "at {text}"
+        );
+    }
+}
+
+#[test]
+fn steps_that_have_not_the_form_of_a_step(rt: HostRuntime) -> Result<(), Fail> {
+    for step in [
+        "7",
+        "[]",
+        "[7]",
+        "[\"\"]",
+        "[\"Add\",\"a\",\"low\",1,1]",
+        "[\"add\",\"a\",\"low\",1]",
+        "[\"add\",\"a\",\"low\",1,1,1]",
+        "[\"add\",\"a\",\"low\",9223372036854775808,1]",
+        "[\"add\",\"a\",\"low\",1.0,1]",
+        "[\"add\",\"a\",\"low\",-0,1]",
+        "[\"add\",\"a\",\"Low\",1,1]",
+        "[\"add\",\"a\",0,1,1]",
+        "[\"add\",7,\"low\",1,1]",
+        "[\"add\",\"\",\"low\",1,1]",
+        "[\"add\",\"a b\",\"low\",1,1]",
+        "[\"add\",\"\u{e9}\",\"low\",1,1]",
+        "[\"add\",\"abcdefghijklmnopqrstuvwxyzABCDEFG\",\"low\",1,1]",
+        "[\"advance\"]",
+        "[\"advance\",-1]",
+        "[\"advance\",9223372036854775807]",
+        "[\"softint\",-1,\"low\",8]",
+        "[\"softint\",4294967296,\"low\",8]",
+        "[\"softint\",0,\"low\",4294967296]",
+        "[\"softint\",0,\"high\",8]",
+    ] {
+        assert_eq!(rt;
+            refusal_of(rt.alloc(), step)?,
+            Some(ScriptShape(1)),
+            "at {step}"
+        );
+    }
+    Ok(())
+}
+
+#[test]
+fn what_the_program_runs_later_has_not_the_form_of_a_step(rt: HostRuntime) -> Result<(), Fail> {
+    for step in [
+        "[\"add\",\"a\",\"lock\",1,1]",
+        "[\"add\",\"a\",\"high\",1,1]",
+        "[\"softint\",0,\"lock\",8]",
+        "[\"omni\",\"a\",\"low\",1,1,0]",
+        "[\"bind\",\"a\",0]",
+        "[\"unbind\",\"a\"]",
+        "[\"reprogram\",\"a\",1]",
+        "[\"reprogram\",\"a\",1,0]",
+        "[\"remove\",\"a\"]",
+        "[\"juggle\",0]",
+        "[\"offline\",0]",
+        "[\"online\",0]",
+    ] {
+        assert_eq!(rt;
+            refusal_of(rt.alloc(), step)?,
+            Some(ScriptShape(1)),
+            "at {step}"
+        );
+    }
+    Ok(())
+}
+
+#[test]
+fn the_first_faulty_step_decides_and_its_form_before_its_name(rt: HostRuntime) -> Result<(), Fail> {
+    for (steps, refusal) in [
+        ("[\"advance\",5],[\"advance\",4]", Some(TimeBack(2))),
+        ("[\"advance\",5],[\"advance\",5]", None),
+        ("[\"advance\",5],[],[\"advance\",4]", Some(ScriptShape(2))),
+        ("[\"advance\",5],[\"advance\",4],[]", Some(TimeBack(2))),
+        (
+            "[\"add\",\"a\",\"low\",1,1],[\"add\",\"a\",\"low\",2,2]",
+            Some(NameTwice(2)),
+        ),
+        (
+            "[\"add\",\"a\",\"low\",1,1],[\"add\",\"\\u0061\",\"low\",2,2]",
+            Some(NameTwice(2)),
+        ),
+        (
+            "[\"add\",\"a\",\"low\",1,1],[\"add\",\"A\",\"low\",2,2]",
+            None,
+        ),
+        (
+            "[\"add\",\"a\",\"low\",0,0],[\"advance\",1],[\"add\",\"a\",\"low\",2,2]",
+            Some(NameTwice(3)),
+        ),
+        (
+            "[\"add\",\"a\",\"low\",1,1],[\"add\",\"a\",\"low\",1]",
+            Some(ScriptShape(2)),
+        ),
+        (
+            "[\"add\",\"a\",\"low\",1,1],[\"add\",\"a\",\"high\",1,1]",
+            Some(ScriptShape(2)),
+        ),
+        (
+            "[\"add\",\"abcdefghijklmnopqrstuvwxyzAZ09_-\",\"low\",1,1]",
+            None,
+        ),
+    ] {
+        assert_eq!(rt; refusal_of(rt.alloc(), steps)?, refusal, "at {steps}");
+    }
+    Ok(())
+}
