@@ -59,9 +59,12 @@ IsUnused l index = (id : ℕ) (c : Cyclic) → l.cyclics id ≡ Some c → c.ind
 
 -- when an event can happen. Each event of the firing side but Publish needs an empty firer's hand
 abbrev pub Enabled : Event → Level → Type 0
-Enabled (Admit id index) l = (l.firer_hand ≡ None) × IsId id × (l.cyclics id ≡ None) × IsUnused l index × (index < bank_size l.hard_bank)
-Enabled (Expire id) l = (l.firer_hand ≡ None) × (l.marked ≢ Some id) × IsSomeAnd (l.cyclics id) (λ c. (c.count < l.ceiling) × (c.sent < most_sent))
-Enabled (Lose id) l = (l.firer_hand ≡ None) × (l.marked ≢ Some id) × IsSomeAnd (l.cyclics id) (λ c. (c.count ≡ l.ceiling) × (c.sent < most_sent))
+Enabled (Admit id index) l = (l.firer_hand ≡ None) × IsId id × (l.cyclics id ≡ None) × IsUnused l index
+    × (index < bank_size l.hard_bank)
+Enabled (Expire id) l = (l.firer_hand ≡ None) × (l.marked ≢ Some id)
+    × IsSomeAnd (l.cyclics id) (λ c. (c.count < l.ceiling) × (c.sent < most_sent))
+Enabled (Lose id) l = (l.firer_hand ≡ None) × (l.marked ≢ Some id)
+    × IsSomeAnd (l.cyclics id) (λ c. (c.count ≡ l.ceiling) × (c.sent < most_sent))
 Enabled Publish l = IsSome l.firer_hand
 Enabled Take l = (l.drainer_hand ≡ None) × (soft_list l ≢ [])
 Enabled Finish l = IsSome l.drainer_hand
@@ -73,7 +76,10 @@ Enabled Follow l = (l.hard_bank ≢ l.soft_bank) × (l.old_list ≡ [])
 -- one call of the id in the drainer's hand is done
 abbrev pub after_finish : Option ℕ → Level → Level
 after_finish None l = l
-after_finish (Some id) l = record l { cyclics = changed_at l.cyclics id (option_map cyclic_after_finish); drainer_hand = hand_after_finish (count l id) l.drainer_hand }
+after_finish (Some id) l = record l {
+  cyclics = changed_at l.cyclics id (option_map cyclic_after_finish);
+  drainer_hand = hand_after_finish (count l id) l.drainer_hand;
+}
 
 -- the first id of the soft side's list goes into the drainer's hand
 abbrev pub after_take : Level → Level

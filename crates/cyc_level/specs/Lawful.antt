@@ -12,7 +12,8 @@ abbrev pub one_if_any : ℕ → ℕ
 one_if_any zero = 0
 one_if_any (suc n) = 1
 
--- the laws of a level (the theory statement of cyclic.c: a cyclic with a pend stands in its producer-consumer buffer once, so no buffer overflows)
+-- the laws of a level (the theory statement of cyclic.c: a cyclic with a pend stands in its producer-consumer buffer
+-- once, so no buffer overflows)
 pub record Lawful (l : Level) : Type 0 where
   -- each expiration is done, outstanding or lost
   pub conserved : (id : ℕ) (c : Cyclic) → l.cyclics id ≡ Some c → c.sent ≡ c.done + c.count + c.lost
@@ -21,7 +22,8 @@ pub record Lawful (l : Level) : Type 0 where
   pub one_place : (id : ℕ) → place_count l id ≡ one_if_any (count l id)
   pub distinct_indexes : (a b : ℕ) (c d : Cyclic) → l.cyclics a ≡ Some c → l.cyclics b ≡ Some d → c.index ≡ d.index → a ≡ b
   pub in_hard_bank : (id : ℕ) (c : Cyclic) → l.cyclics id ≡ Some c → c.index < bank_size l.hard_bank
-  pub in_soft_bank : (id : ℕ) (c : Cyclic) → l.cyclics id ≡ Some c → 0 < times_in id l.old_list → c.index < bank_size l.soft_bank
+  pub in_soft_bank : (id : ℕ) (c : Cyclic) → l.cyclics id ≡ Some c → 0 < times_in id l.old_list
+      → c.index < bank_size l.soft_bank
   pub soft_behind : l.soft_bank ≤ l.hard_bank
   pub old_empty : l.hard_bank ≡ l.soft_bank → l.old_list ≡ []
   pub bank_bound : l.hard_bank ≤ greatest_bank

@@ -1,7 +1,8 @@
 -- The level: its admitted cyclics, its two banks, and the four places in which a cyclic with calls outstanding can stand.
 use Rattle.std.specs.Prelude.{ℕ, ◌+◌, ◌^◌, ◌==◌, if◌then◌else◌, Option, Some, None, List, [], ◌∷◌}
 
--- what a level keeps of an admitted cyclic during one stay: its index, the expirations, the finished calls, the expirations lost at the ceiling, and the pend (cyc_t's cy_pend)
+-- what a level keeps of an admitted cyclic during one stay: its index, the expirations, the finished calls, the
+-- expirations lost at the ceiling, and the pend (cyc_t's cy_pend)
 pub record Cyclic : Type 0 where
   pub index : ℕ
   pub sent : ℕ
@@ -27,7 +28,17 @@ pub record Level : Type 0 where
 
 -- a level as it begins: no cyclic, and both banks 0
 abbrev pub empty_level : ℕ → Level
-empty_level ceiling = record { ceiling = ceiling; hard_bank = 0; soft_bank = 0; cyclics = λ _. None; marked = None; firer_hand = None; old_list = []; new_list = []; drainer_hand = None }
+empty_level ceiling = record {
+  ceiling = ceiling;
+  hard_bank = 0;
+  soft_bank = 0;
+  cyclics = λ _. None;
+  marked = None;
+  firer_hand = None;
+  old_list = [];
+  new_list = [];
+  drainer_hand = None;
+}
 
 -- the places of a bank (cypc_sizemask + 1; our own rule: bank k has 2^k)
 abbrev pub bank_size : ℕ → ℕ

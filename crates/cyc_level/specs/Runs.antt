@@ -5,7 +5,8 @@ use Rattle.cyc_level.specs.declared.Event.TheVariants.{Admit, Expire, Lose, Publ
 use Rattle.cyc_level.specs.Level.{in_hand, count, place_count}
 use Rattle.cyc_level.specs.Events.{reached, AllEnabled}
 
--- whether an event is one of the soft side (cyclic_softint), and not of the firing side (cyclic_fire, and the calls across CPUs)
+-- whether an event is one of the soft side (cyclic_softint), and not of the firing side (cyclic_fire, and the calls
+-- across CPUs)
 abbrev pub is_soft_event : Event → Bool
 is_soft_event (Admit id index) = false
 is_soft_event (Expire id) = false
@@ -109,7 +110,8 @@ AreFinished (s ∷ stays) (done ∷ finishes) = (s.sent ≡ done + s.lost) × Ar
 AreFinished [] (done ∷ finishes) = ⊥
 AreFinished (s ∷ stays) [] = ⊥
 
--- over all stays of an id, admitted or not, its expirations are the finished calls, the outstanding ones and the losses; and each ended stay has no call outstanding
+-- over all stays of an id, admitted or not, its expirations are the finished calls, the outstanding ones and the
+-- losses; and each ended stay has no call outstanding
 pub record IsConservedOverStays (ceiling : ℕ) (es : List Event) (id : ℕ) : Type 0 where
   pub total : expirations id es ≡ finishes ceiling id es + count (reached ceiling es) id + losses id es
   pub ended : AreFinished (past_stays id es) (past_finishes ceiling id es)
@@ -122,5 +124,7 @@ admissions id (_ ∷ es) = admissions id es
 
 -- once the removal of an id has answered, and until it is admitted anew, the id stands in no place and no call of it is made
 abbrev pub NothingFollowsClear : Type 0
-NothingFollowsClear = (ceiling id : ℕ) (later earlier : List Event) → AllEnabled ceiling (later ++ Clear id ∷ earlier) → admissions id later ≡ 0
-    → (place_count (reached ceiling (later ++ Clear id ∷ earlier)) id ≡ 0) × (finishes ceiling id (later ++ Clear id ∷ earlier) ≡ finishes ceiling id earlier)
+NothingFollowsClear = (ceiling id : ℕ) (later earlier : List Event) → AllEnabled ceiling (later ++ Clear id ∷ earlier)
+    → admissions id later ≡ 0
+    → (place_count (reached ceiling (later ++ Clear id ∷ earlier)) id ≡ 0)
+    × (finishes ceiling id (later ++ Clear id ∷ earlier) ≡ finishes ceiling id earlier)

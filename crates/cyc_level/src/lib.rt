@@ -18,7 +18,7 @@ use cyc_types::{CyclicId, Index};
 ///
 /// Admit, Expire, Lose, Publish, Mark, Clear and Switch are events of the firing side; Take, Finish and Follow are events of
 /// the soft side.
-#[derive(Clone, Copy)]
+#[derive(Clone, Copy, Debug, PartialEq, Eq)]
 pub enum Event {
     /// The cyclic begins a stay at this index, with its counts at 0 (`cyclic_add_here`).
     Admit(CyclicId, Index),

@@ -1,4 +1,5 @@
--- When the soft side may make each of its steps on a bank and on a pend word: then the step keeps the rule, and tells what it says.
+-- When the soft side may make each of its steps on a bank and on a pend word: then the step keeps the rule, and tells
+-- what it says.
 use Rattle.std.specs.Prelude.{◌≡◌, ◌≢◌, ℕ, ◌+◌, ◌-◌, ◌%◌, ◌^◌, Some, None}
 use mathlib.Core.Option.{none}
 use Rattle.atomic_table.specs.Table.{step, Allows}

@@ -1,4 +1,5 @@
--- The moves of a ring's table that are no steps of a side: it is opened, its seat is split, the two seats are joined, and it is closed.
+-- The moves of a ring's table that are no steps of a side: it is opened, its seat is split, the two seats are joined,
+-- and it is closed.
 use Rattle.std.specs.Prelude.{◌≡◌, ℕ, ◌<◌, List, [], length, slice_index}
 use Rattle.atomic_table.specs.Table.{Splits, Joins, opening, Final, Seen}
 use Rattle.ring_rule.specs.declared.Role.TheVariants.{Joint, Raise, Drain}
@@ -19,12 +20,15 @@ OpeningMeetsRule = (k : Setting) (words : List ℕ)
 
 -- the seat of both sides may be split into the raise seat and the drain seat
 abbrev pub SplitIsAllowed : Type 0
-SplitIsAllowed = (k : Setting) (seat : ℕ) (v : SeatView) → v.role ≡ Joint → Splits (MeetsRule k) seat v (raise_view v) (drain_view v)
+SplitIsAllowed = (k : Setting) (seat : ℕ) (v : SeatView) → v.role ≡ Joint
+    → Splits (MeetsRule k) seat v (raise_view v) (drain_view v)
 
 -- the raise seat may take in the drain seat
 abbrev pub JoinIsAllowed : Type 0
-JoinIsAllowed = (k : Setting) (seat : ℕ) (v : SeatView) (other : ℕ) (w : SeatView) → v.role ≡ Raise → w.role ≡ Drain → Joins (MeetsRule k) seat v other w (joint_view v w) spent_view
+JoinIsAllowed = (k : Setting) (seat : ℕ) (v : SeatView) (other : ℕ) (w : SeatView) → v.role ≡ Raise → w.role ≡ Drain
+    → Joins (MeetsRule k) seat v other w (joint_view v w) spent_view
 
 -- the words of a table that was closed with the seat of both sides, and the trails of this seat, show a level that stands
 abbrev pub ClosingStands : Type 0
-ClosingStands = (k : Setting) (seat : ℕ) (v : SeatView) → v.role ≡ Joint → (words : List ℕ) (values : List (Unit {0})) → Final (Seen (MeetsRule k) seat v) words values → LevelStands k words v.raise_trail v.drain_trail
+ClosingStands = (k : Setting) (seat : ℕ) (v : SeatView) → v.role ≡ Joint → (words : List ℕ) (values : List (Unit {0}))
+    → Final (Seen (MeetsRule k) seat v) words values → LevelStands k words v.raise_trail v.drain_trail

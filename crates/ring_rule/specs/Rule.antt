@@ -48,7 +48,8 @@ module _ (raise_trail : List RaiseStep) (drain_trail : List DrainStep) where
 
   -- the one raise seat and the one drain seat, by their numbers in the table, and each one's trail
   abbrev pub IsSeat : ℕ → ℕ → ℕ → SeatView → Role → Type 0
-  IsSeat raise_seat drain_seat seat v Joint = (seat ≡ raise_seat) × (seat ≡ drain_seat) × (v.raise_trail ≡ raise_trail) × (v.drain_trail ≡ drain_trail)
+  IsSeat raise_seat drain_seat seat v Joint = (seat ≡ raise_seat) × (seat ≡ drain_seat) × (v.raise_trail ≡ raise_trail)
+      × (v.drain_trail ≡ drain_trail)
   IsSeat raise_seat drain_seat seat v Raise = (seat ≡ raise_seat) × (v.raise_trail ≡ raise_trail)
   IsSeat raise_seat drain_seat seat v Drain = (seat ≡ drain_seat) × (v.drain_trail ≡ drain_trail)
   IsSeat raise_seat drain_seat seat v Spent = ⊤
@@ -63,7 +64,8 @@ pub record MeetsRule (k : Setting) (s : RingState) : Type 0 where
   pub fits : (k.ceiling < mark_bit) × (k.start < index_range)
   pub wide : length s.words ≡ word_count
   pub some_seat : (raise_seat < length s.views) × (drain_seat < length s.views)
-  pub seats : (j : ℕ) (v : SeatView) → get_elem? s.views j ≡ some v → IsSeat raise_trail drain_trail raise_seat drain_seat j v v.role
+  pub seats : (j : ℕ) (v : SeatView) → get_elem? s.views j ≡ some v
+      → IsSeat raise_trail drain_trail raise_seat drain_seat j v v.role
   pub enabled : AllEnabled k.ceiling events
   pub firing_side : firing_events events ≡ raise_events raise_trail
   pub soft_side : soft_events events ≡ drain_events drain_trail

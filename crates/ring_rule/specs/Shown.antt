@@ -8,7 +8,8 @@ use Rattle.ring_rule.specs.declared.DrainStep.{DrainStep}
 use Rattle.ring_rule.specs.Words.{mark_bit, index_range, place, producer_word, hard_word, soft_word, entry, entry_id, entry_index}
 use Rattle.ring_rule.specs.Trail.{open_stay, ended_calls, firer_hand_of, marked_of, seen_pend, hard_bank_of, producer_index, stored_entry, has_followed, held_entry, drainer_hand_of, made_calls, soft_bank_of, consumer_index, producer_seen, bank_seen}
 
--- the stay in the raise seat's trail is the level's. Of the finishes made, those of the stays that have ended are not this stay's
+-- the stay in the raise seat's trail is the level's. Of the finishes made, those of the stays that have ended are not
+-- this stay's
 abbrev pub IsSameStay : ℕ → ℕ → Option StayCounts → Option Cyclic → Type 0
 IsSameStay made ended None None = made ≡ ended
 IsSameStay made ended (Some s) (Some c) = (s.index ≡ c.index) × (s.sent ≡ c.sent) × (s.lost ≡ c.lost) × (made ≡ c.done + ended)
@@ -46,7 +47,8 @@ pub record Shows (start : ℕ) (words : List ℕ) (raise_trail : List RaiseStep)
   pub marked_is : l.marked ≡ marked_of raise_trail
   pub stays : (id : ℕ) → IsSameStay (made_calls id drain_trail) (ended_calls id raise_trail) (open_stay id raise_trail) (l.cyclics id)
   -- a pend word is the outstanding calls with the mark, and that of an unused index is 0
-  pub pends : (id : ℕ) (c : Cyclic) → l.cyclics id ≡ Some c → slice_index words c.index ≡ c.count + mark_bit * in_hand id l.marked
+  pub pends : (id : ℕ) (c : Cyclic) → l.cyclics id ≡ Some c
+      → slice_index words c.index ≡ c.count + mark_bit * in_hand id l.marked
   pub unused : (i : ℕ) → i < cyclics → ((id : ℕ) (c : Cyclic) → l.cyclics id ≡ Some c → c.index ≢ i) → slice_index words i ≡ 0
   -- each entry between the indexes is id * cyclics + index of an admitted id
   pub new_held : BankHolds words l.cyclics l.hard_bank (new_list_start start drain_trail l) l.new_list
@@ -58,12 +60,17 @@ pub record StillHolds (start : ℕ) (words : List ℕ) (raise_trail : List Raise
   pub seen_is_enough : (id : ℕ) → count l id ≤ seen_pend id raise_trail
   pub hand_stored : IsHandStored words l.cyclics l.hard_bank (producer_index start raise_trail) (stored_entry raise_trail) (firer_hand_of raise_trail)
   -- the banks that were never used
-  pub fresh : (bank : ℕ) → l.hard_bank < bank → bank ≤ greatest_bank → slice_index words (producer_word bank) ≡ start % index_range
-  pub held_is : (e : ℕ) → held_entry drain_trail ≡ Some e → (c : Cyclic) × (l.cyclics (entry_id e) ≡ Some c) × (c.index ≡ entry_index e)
+  pub fresh : (bank : ℕ) → l.hard_bank < bank → bank ≤ greatest_bank
+      → slice_index words (producer_word bank) ≡ start % index_range
+  pub held_is : (e : ℕ) → held_entry drain_trail ≡ Some e → (c : Cyclic) × (l.cyclics (entry_id e) ≡ Some c)
+      × (c.index ≡ entry_index e)
   pub followed_is : has_followed raise_trail ≡ true → l.hard_bank ≡ l.soft_bank
   -- a hard bank that was found to be another than the soft side's is still the hard bank
   pub bank_is : (bank : ℕ) → bank_seen drain_trail ≡ Some bank → bank ≢ l.soft_bank → bank ≡ l.hard_bank
   -- where the producer word differed from the consumer index there is still an entry
-  pub some_left : (end : ℕ) → producer_seen drain_trail ≡ Some end → end ≢ consumer_index start drain_trail % index_range → soft_list l ≢ []
+  pub some_left : (end : ℕ) → producer_seen drain_trail ≡ Some end
+      → end ≢ consumer_index start drain_trail % index_range → soft_list l ≢ []
   -- where it did not, after a look that found another hard bank, the old list is still empty
-  pub none_left : (end bank : ℕ) → producer_seen drain_trail ≡ Some end → end ≡ consumer_index start drain_trail % index_range → bank_seen drain_trail ≡ Some bank → bank ≢ l.soft_bank → l.old_list ≡ []
+  pub none_left : (end bank : ℕ) → producer_seen drain_trail ≡ Some end
+      → end ≡ consumer_index start drain_trail % index_range → bank_seen drain_trail ≡ Some bank → bank ≢ l.soft_bank
+      → l.old_list ≡ []

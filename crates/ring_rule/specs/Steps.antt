@@ -40,7 +40,8 @@ TellsAdmit id t me found me' = (found ≡ 0) × GainsRaiseStep (Admitted id t.wo
 
 -- the load that begins a raise: at the ceiling the expiration is lost
 abbrev pub TellsRaiseLoad : ℕ → ℕ → Telling
-TellsRaiseLoad id ceiling t me found me' = (found ≤ seen_pend id me.0.raise_trail) × (found ≤ ceiling) × (found ≡ ceiling → GainsRaiseStep (Lost id found) me me') × (found ≢ ceiling → GainsRaiseStep (Loaded id found) me me')
+TellsRaiseLoad id ceiling t me found me' = (found ≤ seen_pend id me.0.raise_trail) × (found ≤ ceiling)
+    × (found ≡ ceiling → GainsRaiseStep (Lost id found) me me') × (found ≢ ceiling → GainsRaiseStep (Loaded id found) me me')
 
 -- the `fetch_add` of 1
 abbrev pub TellsAdd : ℕ → Telling
@@ -72,11 +73,13 @@ TellsSwitch t me found me' = GainsRaiseStep (Switched t.first) me me'
 
 -- the load of the soft bank: what was seen to have followed has still followed
 abbrev pub TellsSoftBank : Telling
-TellsSoftBank t me found me' = (has_followed me.0.raise_trail ≡ true → found ≡ hard_bank_of me.0.raise_trail) × GainsRaiseStep (LoadedSoftBank found) me me'
+TellsSoftBank t me found me' = (has_followed me.0.raise_trail ≡ true → found ≡ hard_bank_of me.0.raise_trail)
+    × GainsRaiseStep (LoadedSoftBank found) me me'
 
 -- the load of the hard bank
 abbrev pub TellsHardBank : Telling
-TellsHardBank t me found me' = (soft_bank_of me.0.drain_trail ≤ found) × (found ≤ greatest_bank) × GainsDrainStep (LoadedHardBank found) me me'
+TellsHardBank t me found me' = (soft_bank_of me.0.drain_trail ≤ found) × (found ≤ greatest_bank)
+    × GainsDrainStep (LoadedHardBank found) me me'
 
 -- the load of a producer word
 abbrev pub TellsProducer : Telling

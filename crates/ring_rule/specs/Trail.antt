@@ -1,4 +1,5 @@
--- What the steps of a side show, read from its trail: the list of its seat's steps, the newest first, each with the value that it found.
+-- What the steps of a side show, read from its trail: the list of its seat's steps, the newest first, each with the
+-- value that it found.
 use Rattle.std.specs.Prelude.{ℕ, ◌+◌, ◌%◌, ◌==◌, if◌then◌else◌, Bool, true, false, Option, Some, None, List, [], ◌∷◌, ◌++◌}
 use Rattle.cyc_level.specs.declared.Event.{Event}
 use Rattle.cyc_level.specs.declared.Event.TheVariants.{Admit, Expire, Lose, Publish, Take, Finish, Mark, Clear, Switch, Follow}

@@ -3,7 +3,8 @@ use Rattle.std.specs.Prelude.{ℕ, ◌+◌, ◌-◌, ◌*◌, ◌/◌, ◌%◌, 
 use Rattle.cyc_types.specs.Limits.{greatest_bank, cyclics}
 use Rattle.cyc_level.specs.Level.{bank_size}
 
--- the pend words come first, one for each index (cy_pend): bits 0 to 31 are the calls outstanding, and bit 32 is the mark of a removal
+-- the pend words come first, one for each index (cy_pend): bits 0 to 31 are the calls outstanding, and bit 32 is the
+-- mark of a removal
 abbrev pub mark_bit : ℕ
 mark_bit = 2 ^ 32
 
@@ -11,7 +12,8 @@ mark_bit = 2 ^ 32
 abbrev pub index_range : ℕ
 index_range = 2 ^ 32
 
--- the buffer word of an index of a bank, which is taken modulo the bank's size (cypc_sizemask). The banks stand one after another, the smallest first
+-- the buffer word of an index of a bank, which is taken modulo the bank's size (cypc_sizemask). The banks stand one
+-- after another, the smallest first
 abbrev pub place : ℕ → ℕ → ℕ
 place bank i = cyclics - 1 + bank_size bank + i % bank_size bank
 

@@ -1,4 +1,5 @@
--- When the steps of a removal and those on the two bank words may be made: then the step keeps the rule, and tells what it says.
+-- When the steps of a removal and those on the two bank words may be made: then the step keeps the rule, and tells what
+-- it says.
 use Rattle.std.specs.Prelude.{◌≡◌, ◌≢◌, ℕ, ◌+◌, ◌%◌, ◌^◌, ◌<◌, ◌≤◌, true, Some, None}
 use mathlib.Core.Option.{none}
 use Rattle.atomic_table.specs.Table.{step, Allows}
@@ -56,7 +57,8 @@ SoftBankLoadIsAllowed = (k : Setting) (slots seat : ℕ) (me : ThisSeat)
     → me.0.role ≡ Raise
     → Allows (MeetsRule k) slots seat me soft_word (λ n. n) (AndStands k TellsSoftBank (step slots soft_word 0 0 none) me)
 
--- the store of the soft bank: after a look that found another hard bank, and then one that found the producer word at the consumer index. The event Follow
+-- the store of the soft bank: after a look that found another hard bank, and then one that found the producer word at
+-- the consumer index. The event Follow
 abbrev pub FollowIsAllowed : Type 0
 FollowIsAllowed = (k : Setting) (slots seat : ℕ) (me : ThisSeat) (bank end : ℕ)
     → me.0.role ≡ Drain
