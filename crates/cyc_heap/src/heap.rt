@@ -91,15 +91,10 @@ impl ExpiryHeap {
     {
         let hole = self.len;
         let index = self.entries[hole].index;
-        self.len += 1;
+        let len = hole + 1;
+        self.len = len;
         let entry = Entry { moment, id, index };
-        fill(
-            &mut self.entries,
-            &mut self.positions,
-            self.len,
-            hole,
-            entry,
-        );
+        fill(&mut self.entries, &mut self.positions, len, hole, entry);
         index
     }
 
@@ -145,13 +140,8 @@ impl ExpiryHeap {
             id: entry.id,
             index,
         };
-        fill(
-            &mut self.entries,
-            &mut self.positions,
-            self.len,
-            hole,
-            entry,
-        );
+        let len = self.len;
+        fill(&mut self.entries, &mut self.positions, len, hole, entry);
     }
 
     /// Takes out the expiration of this index, which is free from now on (`cyclic_remove_here`).
