@@ -1,0 +1,2 @@
+mod Scripts
+mod Words
