@@ -1,0 +1,9 @@
+pub mod Telling
+pub mod Places
+pub mod Learning
+pub mod Rows
+pub mod Balance
+pub mod Listing
+pub mod Calls
+pub mod Hands
+pub mod Closing

@@ -1,0 +1,19 @@
+use Rattle.std.proofs.Common.{rules, ◌≡◌, ◌≢◌, ℕ, ◌+◌, ◌-◌, ◌*◌, ◌/◌, ◌%◌, ◌^◌, ◌<◌, ◌≤◌, List, [], ◌∷◌, ◌++◌, refl, sym, ap, ◌∙◌, subst, arith, get_or, set}
+use Rattle.std.specs.Prelude.{Option, Some, None}
+use Rattle.ring_rule.specs.declared.Setting.{Setting}
+use Rattle.ring_rule.specs.declared.RaiseStep.{RaiseStep}
+use Rattle.ring_rule.specs.declared.RaiseStep.TheVariants.{Admitted, Loaded, Lost, Added, Stored, Published, Marked, Cleared, Switched, LoadedSoftBank}
+use Rattle.ring_rule.specs.declared.DrainStep.{DrainStep}
+use Rattle.ring_rule.specs.declared.DrainStep.TheVariants.{LoadedHardBank, LoadedProducer, Took, Subtracted, Followed}
+use Rattle.ring_rule.specs.Steps.{ThisSeat}
+use Rattle.cyc_ring.specs.Seats.{MakesRaiseStep, MakesDrainStep}
+use Rattle.cyc_ring.proofs.Calls.{no_raise, one_raise, raise_call, no_drain, one_drain, drain_call}
+use Rattle.std.proofs.Common.{pow_mono}
+use Rattle.ring_rule.specs.Trail.{hard_bank_of}
+use Rattle.cyc_ring.proofs.Learning.{free_index}
+use Rattle.cyc_ring.proofs.ends.RaiseEndRaise.admit.Goals as goal
+
+pub admit_as-requires-clause-index : goal.admit_as-requires-clause-index
+admit_as-requires-clause-index c = let r = c.args.self.now.seat in let b = r.bank_is in let room = c.requires.2 in let size : 2 ^ r.bank ≡ 2 ^ hard_bank_of r.seat.me.0.raise_trail = ap (λ (x : ℕ). 2 ^ x) b.0 in
+    let m : 2 ^ r.bank ≤ 2 ^ 8 = pow_mono {i = r.bank} {j = 8} b.1 in let q : 2 ^ 8 ≡ 256 = refl in let low : c.args.index < 256 = omega (arith, m, q, room, size) in
+    (omega (arith, room, size), free_index r.setting.ceiling r.ids r.sent r.lost r.seat.me.0.raise_trail r.rows c.args.index low c.requires.1)

@@ -1,0 +1,18 @@
+use Rattle.std.proofs.Common.{rules, ◌≡◌, ◌≢◌, ℕ, ◌+◌, ◌-◌, ◌*◌, ◌/◌, ◌%◌, ◌^◌, ◌<◌, ◌≤◌, List, [], ◌∷◌, ◌++◌, refl, sym, ap, ◌∙◌, subst, arith, get_or, set}
+use Rattle.std.specs.Prelude.{Option, Some, None}
+use Rattle.ring_rule.specs.declared.Setting.{Setting}
+use Rattle.ring_rule.specs.declared.RaiseStep.{RaiseStep}
+use Rattle.ring_rule.specs.declared.RaiseStep.TheVariants.{Admitted, Loaded, Lost, Added, Stored, Published, Marked, Cleared, Switched, LoadedSoftBank}
+use Rattle.ring_rule.specs.declared.DrainStep.{DrainStep}
+use Rattle.ring_rule.specs.declared.DrainStep.TheVariants.{LoadedHardBank, LoadedProducer, Took, Subtracted, Followed}
+use Rattle.ring_rule.specs.Steps.{ThisSeat}
+use Rattle.cyc_ring.specs.Seats.{MakesRaiseStep, MakesDrainStep}
+use Rattle.cyc_ring.proofs.Calls.{no_raise, one_raise, raise_call, no_drain, one_drain, drain_call}
+use Rattle.std.specs.Prelude.{◌==◌}
+use Rattle.cyc_types.specs.Firing.{Looks}
+use Rattle.cyc_ring.proofs.ends.RaiseEndRaise.followed.Goals as goal
+
+pub returns-clause-step : goal.returns-clause-step
+returns-clause-step c = let e = c.args.self.now in let s = e.seat.seat in let k = e.seat.setting in let t : List RaiseStep = s.me.0.raise_trail in let found : ℕ = c.look_as.result in let s' = c.look_as.new.raiser.seat in
+    let m : MakesRaiseStep k (LoadedSoftBank found) s s' = subst (λ (x : Setting). MakesRaiseStep x (LoadedSoftBank found) s s') (sym e.own.1) c.look_as.ensures.step in
+    (c.look_as.ensures.own, raise_call k s s' (LoadedSoftBank found ∷ []) (Looks _) (one_raise k (LoadedSoftBank found) s [] s s' (no_raise k s e.seat.role) m) (found, ap (λ (b : ℕ). found == b) (c.look_as.ensures.bank ∙ e.seat.bank_is.0), refl))

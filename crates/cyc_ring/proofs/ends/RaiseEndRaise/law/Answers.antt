@@ -1,0 +1,7 @@
+use Rattle.std.proofs.Common.{rules, ◌≡◌, ◌≢◌, ℕ, ◌+◌, ◌-◌, ◌/◌, ◌%◌, ◌^◌, ◌<◌, ◌≤◌, List, [], ◌∷◌, ◌++◌, refl, sym, ap, ◌∙◌, subst, arith, get_or, set}
+use Rattle.std.specs.Prelude.{Option, Some, None}
+use Rattle.cyc_ring.proofs.Learning.{sound_seat}
+use Rattle.cyc_ring.proofs.ends.RaiseEndRaise.law.Goals as goal
+
+pub returns : goal.returns
+returns c = let r = c.args.self.now.seat in sound_seat r.setting.ceiling r.ids r.sent r.lost r.seat.me.0.raise_trail r.rows r.seen (let b = r.bank_is.0 in let m = r.bank_is.1 in omega (arith, b, m)) r.ranges.0

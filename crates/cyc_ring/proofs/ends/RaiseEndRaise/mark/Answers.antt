@@ -1,0 +1,21 @@
+use Rattle.std.proofs.Common.{rules, ◌≡◌, ◌≢◌, ℕ, ◌+◌, ◌-◌, ◌*◌, ◌/◌, ◌%◌, ◌^◌, ◌<◌, ◌≤◌, List, [], ◌∷◌, ◌++◌, refl, sym, ap, ◌∙◌, subst, arith, get_or, set}
+use Rattle.std.specs.Prelude.{Option, Some, None}
+use Rattle.ring_rule.specs.declared.Setting.{Setting}
+use Rattle.ring_rule.specs.declared.RaiseStep.{RaiseStep}
+use Rattle.ring_rule.specs.declared.RaiseStep.TheVariants.{Admitted, Loaded, Lost, Added, Stored, Published, Marked, Cleared, Switched, LoadedSoftBank}
+use Rattle.ring_rule.specs.declared.DrainStep.{DrainStep}
+use Rattle.ring_rule.specs.declared.DrainStep.TheVariants.{LoadedHardBank, LoadedProducer, Took, Subtracted, Followed}
+use Rattle.ring_rule.specs.Steps.{ThisSeat}
+use Rattle.cyc_ring.specs.Seats.{MakesRaiseStep, MakesDrainStep}
+use Rattle.cyc_ring.proofs.Calls.{no_raise, one_raise, raise_call, no_drain, one_drain, drain_call}
+use Rattle.cyc_types.specs.Firing.{Marks}
+use Rattle.ring_rule.specs.Trail.{seen_pend}
+use Rattle.cyc_ring.proofs.ends.RaiseEndRaise.mark.Goals as goal
+
+pub returns-clause-step : goal.returns-clause-step
+returns-clause-step c = let e = c.args.self.now in let s = e.seat.seat in let k = e.seat.setting in let t : List RaiseStep = s.me.0.raise_trail in let found : ℕ = c.mark_as.result in let s' = c.mark_as.new.raiser.seat in let named = c.index_of-index.ensures.1 in
+    let m : MakesRaiseStep k (Marked c.args.id found) s s' = subst (λ (p : Setting × ℕ). MakesRaiseStep p.0 (Marked p.1 found) s s') (λ z. (sym e.own.1 z, named z)) c.mark_as.ensures.step in (
+      c.mark_as.ensures.own,
+      raise_call k s s' (Marked c.args.id found ∷ []) (Marks c.args.id found) (one_raise k (Marked c.args.id found) s [] s s' (no_raise k s e.seat.role) m)
+          (subst (λ (x : ℕ). found ≤ seen_pend x t) named c.mark_as.ensures.bound, refl),
+    )

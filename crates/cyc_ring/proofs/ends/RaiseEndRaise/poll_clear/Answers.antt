@@ -1,0 +1,41 @@
+use Rattle.std.proofs.Common.{rules, ◌≡◌, ◌≢◌, ℕ, ◌+◌, ◌-◌, ◌*◌, ◌/◌, ◌%◌, ◌^◌, ◌<◌, ◌≤◌, List, [], ◌∷◌, ◌++◌, refl, sym, ap, ◌∙◌, subst, arith, get_or, set}
+use Rattle.std.specs.Prelude.{Option, Some, None}
+use Rattle.ring_rule.specs.declared.Setting.{Setting}
+use Rattle.ring_rule.specs.declared.RaiseStep.{RaiseStep}
+use Rattle.ring_rule.specs.declared.RaiseStep.TheVariants.{Admitted, Loaded, Lost, Added, Stored, Published, Marked, Cleared, Switched, LoadedSoftBank}
+use Rattle.ring_rule.specs.declared.DrainStep.{DrainStep}
+use Rattle.ring_rule.specs.declared.DrainStep.TheVariants.{LoadedHardBank, LoadedProducer, Took, Subtracted, Followed}
+use Rattle.ring_rule.specs.Steps.{ThisSeat}
+use Rattle.cyc_ring.specs.Seats.{MakesRaiseStep, MakesDrainStep}
+use Rattle.cyc_ring.proofs.Calls.{no_raise, one_raise, raise_call, no_drain, one_drain, drain_call}
+use Rattle.cyc_types.specs.Firing.{Polls, Learns}
+use Rattle.ring_rule.specs.Words.{mark_bit}
+use Rattle.ring_rule.specs.Trail.{seen_pend}
+use Rattle.cyc_ring.specs.Views.{firing_view}
+use Rattle.cyc_ring.proofs.Learning.{the_stay, learns_kept}
+use Rattle.cyc_ring.proofs.ends.RaiseEndRaise.poll_clear.Goals as goal
+
+pub returns-then-found-ne0-clause-step : goal.returns-then-found-ne0-clause-step
+returns-then-found-ne0-clause-step c = let e = c.args.self.now in let s = e.seat.seat in let k = e.seat.setting in let t : List RaiseStep = s.me.0.raise_trail in let found : ℕ = c.load_as-found.result in let s' = c.load_as-found.new.raiser.seat in let named = c.index_of-index.ensures.1 in
+    let m : MakesRaiseStep k (Loaded c.args.id found) s s' = subst (λ (p : Setting × ℕ). MakesRaiseStep p.0 (Loaded p.1 found) s s') (λ z. (sym e.own.1 z, named z)) c.load_as-found.ensures.step in let more = c.if-found-ne0.true in (
+      c.load_as-found.ensures.own,
+      raise_call k s s' (Loaded c.args.id found ∷ []) (Polls c.args.id None) (one_raise k (Loaded c.args.id found) s [] s s' (no_raise k s e.seat.role) m)
+          (found, omega (arith, more), subst (λ (x : ℕ). found % mark_bit ≤ seen_pend x t) named c.load_as-found.ensures.bound, refl),
+    )
+
+pub returns-then-found-ne0-clause-learns : goal.returns-then-found-ne0-clause-learns
+returns-then-found-ne0-clause-learns c = let e = c.args.self.now in let s = e.seat.seat in let k = e.seat.setting in let t : List RaiseStep = s.me.0.raise_trail in let r = e.seat in let found : ℕ = c.load_as-found.result in let w = the_stay k.ceiling r.ids r.sent r.lost t r.rows c.args.id _ c.requires.0 in let named = c.index_of-index.ensures.1 in
+    let same : c.load_as-found.new.raiser.seat.me.0.raise_trail ≡ Loaded c.args.id found ∷ t = ap (λ (m : ThisSeat). m.0.raise_trail) c.load_as-found.ensures.step.1 ∙ ap (λ (x : ℕ). Loaded x found ∷ t) named in
+    let low : found % mark_bit ≤ seen_pend c.args.id t = subst (λ (x : ℕ). found % mark_bit ≤ seen_pend x t) named c.load_as-found.ensures.bound in let more = c.if-found-ne0.true in
+    subst (λ (p : Setting × List RaiseStep). Learns (firing_view k.ceiling t) (Polls c.args.id None) (firing_view p.0.ceiling p.1)) (λ z. (sym c.load_as-found.ensures.own.1 z, sym same z))
+    (learns_kept k.ceiling t c.args.id found w.0 w.1 (omega (arith, more)) low)
+
+pub returns-clause-step : goal.returns-clause-step
+returns-clause-step c = let e = c.args.self.now in let s = e.seat.seat in let k = e.seat.setting in let t : List RaiseStep = s.me.0.raise_trail in let found : ℕ = c.load_as-found.result in let s1 = c.load_as-found.new.raiser.seat in let s2 = c.clear_as.new.raiser.seat in let named = c.index_of-index.ensures.1 in
+    let m1 : MakesRaiseStep k (Loaded c.args.id found) s s1 = subst (λ (p : Setting × ℕ). MakesRaiseStep p.0 (Loaded p.1 found) s s1) (λ z. (sym e.own.1 z, named z)) c.load_as-found.ensures.step in
+    let m2 : MakesRaiseStep k (Cleared c.args.id) s1 s2 = subst (λ (x : Setting). MakesRaiseStep x (Cleared c.args.id) s1 s2) (sym e.own.1) c.clear_as.ensures.step in
+    let a = c.load_as-found.ensures.own in let b = c.clear_as.ensures.own in (
+      (b.0 ∙ a.0, b.1 ∙ a.1),
+      raise_call k s s2 (Cleared c.args.id ∷ Loaded c.args.id found ∷ []) (Polls c.args.id (Some _)) (one_raise k (Cleared c.args.id) s (Loaded c.args.id found ∷ []) s1 s2 (one_raise k (Loaded c.args.id found) s [] s s1 (no_raise k s e.seat.role) m1) m2)
+          (found, (let h : found % mark_bit ≡ 0 = search rules in h), refl),
+    )

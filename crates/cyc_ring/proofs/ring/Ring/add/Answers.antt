@@ -1,0 +1,16 @@
+use Rattle.std.proofs.Common.{rules, ◌≡◌, ℕ, ◌+◌, ◌-◌, ◌%◌, ◌^◌, ◌<◌, ◌≤◌, refl, sym, ap, ◌∙◌, subst, arith}
+use Rattle.std.specs.Prelude.{Some, None}
+use mathlib.Core.Option.{none}
+use Rattle.atomic_table.specs.Table.{step}
+use Rattle.ring_rule.specs.declared.Setting.{Setting}
+use Rattle.ring_rule.specs.Words.{producer_word, hard_word, soft_word, place}
+use Rattle.ring_rule.specs.Trail.{seen_pend, producer_index, consumer_index, hard_bank_of, soft_bank_of}
+use Rattle.ring_rule.specs.Steps.{TellsAdmit, TellsRaiseLoad, TellsAdd, TellsStore, TellsPublish, TellsLoad, TellsMark, TellsClear, TellsSwitch, TellsSoftBank, TellsHardBank, TellsProducer, TellsTake, TellsSubtract, TellsFollow}
+use Rattle.ring_raise.proofs.Adds.{adds}
+use Rattle.cyc_ring.proofs.Telling.{telling}
+use Rattle.cyc_ring.proofs.ring.Ring.add.Goals as goal
+
+pub fetch_add-requires : goal.fetch_add-requires
+fetch_add-requires g c = let ring = c.args.self.now in let seat = c.args.seat.now in let k = ring.table.shared.key in let n : ℕ = ring.table.shared.table_id.slots in let wide = ring.wide in
+    let same : g.J.Served.setting ≡ k = c.requires.setting ∙ sym ring.key in let id : ℕ = g.J.Served.id in
+    (c.requires.own.0, (let i = c.requires.stay.0 in omega (arith, wide, i)), telling k g.J.Served.setting same n seat.id seat.me c.args.index (λ n. (n + 1) % 2 ^ 64) (TellsAdd id (step n c.args.index 1 0 none) seat.me) (adds k n seat.id seat.me c.args.index id c.requires.stay.1.0 c.requires.own.1 c.requires.stay.1.1 c.requires.stay.1.2 c.requires.unmarked c.requires.hand (subst (λ (x : Setting). seen_pend id seat.me.0.raise_trail < x.ceiling) same c.requires.below) c.requires.stay.1.3))

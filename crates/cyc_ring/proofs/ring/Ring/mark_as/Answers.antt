@@ -1,0 +1,16 @@
+use Rattle.std.proofs.Common.{rules, ◌≡◌, ◌≢◌, ℕ, ◌+◌, ◌-◌, ◌*◌, ◌/◌, ◌%◌, ◌^◌, ◌<◌, ◌≤◌, List, [], ◌∷◌, ◌++◌, refl, sym, ap, ◌∙◌, subst, arith, get_or, set}
+use Rattle.std.specs.Prelude.{Option, Some, None}
+use Rattle.ring_rule.specs.declared.Setting.{Setting}
+use Rattle.ring_rule.specs.declared.RaiseStep.{RaiseStep}
+use Rattle.ring_rule.specs.declared.RaiseStep.TheVariants.{Admitted, Loaded, Lost, Added, Stored, Published, Marked, Cleared, Switched, LoadedSoftBank}
+use Rattle.ring_rule.specs.declared.DrainStep.{DrainStep}
+use Rattle.ring_rule.specs.declared.DrainStep.TheVariants.{LoadedHardBank, LoadedProducer, Took, Subtracted, Followed}
+use Rattle.ring_rule.specs.Steps.{ThisSeat}
+use Rattle.cyc_ring.specs.Seats.{MakesRaiseStep, MakesDrainStep}
+use Rattle.cyc_ring.proofs.Calls.{no_raise, one_raise, raise_call, no_drain, one_drain, drain_call}
+use Rattle.ring_rule.specs.Trail.{open_stay}
+use Rattle.cyc_ring.proofs.ring.Ring.mark_as.Goals as goal
+
+pub add_mark-requires-clause-stay : goal.add_mark-requires-clause-stay
+add_mark-requires-clause-stay g c = let r = c.args.raiser.now in let i = c.requires.index in
+    (i.0, (record { index = c.args.index; sent = get_or r.sent c.args.index 0; lost = get_or r.lost c.args.index 0 }, ap (λ (x : ℕ). open_stay x r.seat.me.0.raise_trail) (sym i.1) ∙ r.rows.used c.args.index i.0 (λ z. i.2 (sym i.1 ∙ z)), refl))

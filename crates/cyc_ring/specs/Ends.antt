@@ -1,0 +1,69 @@
+-- What a contract says of the seats and ends of a ring.
+use Rattle.std.specs.Prelude.{◌≡◌, ℕ, Option, List, [], ◌++◌}
+use Rattle.cyc_types.specs.Firing.{FiringView, FiringCall}
+use Rattle.cyc_types.specs.Draining.{DrainCall}
+use Rattle.ring_rule.specs.declared.RaiseStep.{RaiseStep}
+use Rattle.ring_rule.specs.declared.DrainStep.{DrainStep}
+use Rattle.ring_rule.specs.declared.Setting.{Setting}
+use Rattle.ring_rule.specs.Trail.{ended_calls, raises_of, losses_of, drainer_hand_of, made_calls}
+use Rattle.cyc_ring.specs.Views.{firing_view}
+use Rattle.cyc_ring.specs.Steps.{MakesRaiseCall, MakesDrainCall, FoundNone}
+use Rattle.cyc_ring.specs.declared.ring.Ring.{Ring}
+use Rattle.cyc_ring.specs.declared.seats.RaiseSeat.{RaiseSeat}
+use Rattle.cyc_ring.specs.declared.seats.DrainSeat.{DrainSeat}
+use Rattle.cyc_ring.specs.declared.ends.RaiseEnd.{RaiseEnd}
+use Rattle.cyc_ring.specs.declared.ends.DrainEnd.{DrainEnd}
+
+-- the steps of a seat, the newest first
+abbrev pub raise_trail : RaiseSeat → List RaiseStep
+raise_trail r = r.seat.me.0.raise_trail
+
+abbrev pub drain_trail : DrainSeat → List DrainStep
+drain_trail d = d.seat.me.0.drain_trail
+
+-- the seat is one of this ring's
+abbrev pub IsRaiseSeatOf : Ring → RaiseSeat → Type 0
+IsRaiseSeatOf ring r = (r.seat.table_id ≡ ring.table.shared.table_id) × (r.setting ≡ ring.setting)
+
+abbrev pub IsDrainSeatOf : Ring → DrainSeat → Type 0
+IsDrainSeatOf ring d = (d.seat.table_id ≡ ring.table.shared.table_id) × (d.setting ≡ ring.setting)
+
+-- two seats of the same ring
+abbrev pub IsSameRaiseSeat : RaiseSeat → RaiseSeat → Type 0
+IsSameRaiseSeat r r' = (r'.seat.table_id ≡ r.seat.table_id) × (r'.setting ≡ r.setting)
+
+abbrev pub IsSameDrainSeat : DrainSeat → DrainSeat → Type 0
+IsSameDrainSeat d d' = (d'.seat.table_id ≡ d.seat.table_id) × (d'.setting ≡ d.setting)
+
+-- what the holder of a raise seat or of a raise end knows
+abbrev pub seat_view : RaiseSeat → FiringView
+seat_view r = firing_view r.setting.ceiling (raise_trail r)
+
+abbrev pub end_view : RaiseEnd → FiringView
+end_view e = seat_view e.seat
+
+-- a call at a raise end, with its answer
+abbrev pub RaiseEndCall : RaiseEnd → FiringCall → RaiseEnd → Type 0
+RaiseEndCall e call f = IsSameRaiseSeat e.seat f.seat × MakesRaiseCall e.seat.setting (raise_trail e.seat) call (raise_trail f.seat)
+
+-- the cyclic in the hand of a drain seat, and its finishes of each id
+abbrev pub seat_hand : DrainSeat → Option ℕ
+seat_hand d = drainer_hand_of (drain_trail d)
+
+abbrev pub seat_made : DrainSeat → ℕ → ℕ
+seat_made d id = made_calls id (drain_trail d)
+
+-- the same of a drain end
+abbrev pub end_hand : DrainEnd → Option ℕ
+end_hand e = seat_hand e.seat
+
+abbrev pub end_made : DrainEnd → ℕ → ℕ
+end_made e id = seat_made e.seat id
+
+-- a call at a drain end, with its answer
+abbrev pub DrainEndCall : DrainEnd → DrainCall → DrainEnd → Type 0
+DrainEndCall e call f = IsSameDrainSeat e.seat f.seat × MakesDrainCall e.seat.setting (drain_trail e.seat) call (drain_trail f.seat)
+
+-- the trail gained, last, a load of the hard bank that found the soft side's bank, then a load of its producer word that found the consumer index
+abbrev pub FoundIdle : DrainEnd → DrainEnd → Type 0
+FoundIdle e f = (before steps : List DrainStep) × FoundNone e.seat.setting.start (drain_trail e.seat) before steps × (drain_trail f.seat ≡ steps ++ drain_trail e.seat)

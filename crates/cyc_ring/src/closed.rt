@@ -1,0 +1,125 @@
+ghost use Rattle.std.specs.Prelude.{◌≡◌, ◌≢◌, ℕ, ◌+◌, ◌%◌, ◌<◌, ◌≤◌, Some, slice_index};
+ghost use Rattle.cyc_types.specs.Limits.{cyclics, last_id};
+ghost use Rattle.ring_rule.specs.Words.{mark_bit};
+ghost use Rattle.ring_rule.specs.Trail.{marked_of, made_calls, ended_calls};
+ghost use Rattle.cyc_ring.specs.Rows.{HoldsStays};
+
+use crate::plays::Whole;
+use crate::ring::Ring;
+use crate::seats::{DrainSeat, RaiseSeat};
+use crate::steps::MARK;
+use cyc_types::{CyclicId, Index};
+use std::snapshot::Snapshot;
+
+/// What a closed ring says of the cyclic at one index.
+#[derive(Clone, Copy, Debug, PartialEq, Eq)]
+pub struct Book {
+    /// The cyclic.
+    pub id: CyclicId,
+    /// The expirations of its stay.
+    pub sent: u64,
+    /// The calls that are done.
+    pub done: u64,
+    /// The calls that are outstanding: pending, in hand or kept for its removal.
+    pub count: u32,
+    /// The expirations that were lost at the ceiling.
+    pub lost: u64,
+    /// Its removal is open.
+    pub marked: bool,
+}
+
+/// A closed ring: the counts of each index, and for contracts alone what its two seats knew at last.
+#[derive(Drop)]
+pub struct Closed {
+    ids: [u64; 256],
+    sent: [u64; 256],
+    lost: [u64; 256],
+    pends: [u64; 256],
+    raiser: Snapshot<RaiseSeat>,
+    drainer: Snapshot<DrainSeat>,
+    ghost rows: { HoldsStays ids sent lost raiser.value.seat.me.0.raise_trail },
+    ghost named: { (i : ℕ) → i < cyclics → slice_index ids i ≤ last_id },
+    ghost counted: { (i : ℕ) → i < cyclics → slice_index ids i ≢ 0 → slice_index lost i + slice_index pends i % mark_bit ≤ slice_index sent i },
+    ghost finished: { (i : ℕ) → i < cyclics → slice_index ids i ≢ 0 → made_calls (slice_index ids i) drainer.value.seat.me.0.drain_trail + slice_index lost i + slice_index pends i % mark_bit ≡ slice_index sent i + ended_calls (slice_index ids i) raiser.value.seat.me.0.raise_trail },
+    ghost marked: { (i : ℕ) → i < cyclics → slice_index ids i ≢ 0 → marked_of raiser.value.seat.me.0.raise_trail ≡ Some (slice_index ids i) → mark_bit ≤ slice_index pends i },
+    ghost unmarked: { (i : ℕ) → i < cyclics → slice_index ids i ≢ 0 → marked_of raiser.value.seat.me.0.raise_trail ≢ Some (slice_index ids i) → slice_index pends i < mark_bit },
+}
+
+impl Ring {
+    ghost use Rattle.std.specs.Prelude.{◌≡◌, ℕ, List};
+    ghost use Rattle.ring_rule.specs.Conservation.{LevelStands, IsAccounted};
+    ghost use Rattle.cyc_ring.specs.Ends.{IsRaiseSeatOf, IsDrainSeatOf, raise_trail, drain_trail};
+
+    /// Ends the ring, whose two seats are given back, and keeps the counts of each index. Takes no memory and doesn't wait.
+    pub fn close(self, raiser: RaiseSeat, drainer: DrainSeat) -> Closed
+        requires raiser { IsRaiseSeatOf self raiser }
+        requires drainer { IsDrainSeatOf self drainer }
+        ensures seats { (result.raiser.value ≡ raiser) × (result.drainer.value ≡ drainer) }
+        ensures stands { (words : List ℕ) × LevelStands self.setting words (raise_trail raiser) (drain_trail drainer) }
+        ensures accounted { IsAccounted (raise_trail raiser) (drain_trail drainer) }
+    {
+        let known = Snapshot::of(&raiser);
+        let done = Snapshot::of(&drainer);
+        let Ring { table, setting: _ } = self;
+        let RaiseSeat {
+            mut seat,
+            setting: _,
+            finder: _,
+            ids,
+            sent,
+            lost,
+            bank: _,
+            mask: _,
+            next: _,
+        } = raiser;
+        let DrainSeat {
+            seat: other,
+            setting: _,
+            bank: _,
+            mask: _,
+            next: _,
+            hand: _,
+        } = drainer;
+        table.shared.join_seat::<Whole>(&mut seat, other);
+        let closed = table.close_with(seat);
+        let mut pends = [0u64; 256];
+        for i in 0..256 {
+            pends[i] = closed.word(i);
+        }
+        closed.free();
+        Closed {
+            ids,
+            sent,
+            lost,
+            pends,
+            raiser: known,
+            drainer: done,
+        }
+    }
+}
+
+impl Closed {
+    ghost use Rattle.std.specs.Prelude.{IfSome, IfNone};
+    ghost use Rattle.cyc_ring.specs.Books.{IsBook, IsFree};
+
+    /// The book of the cyclic that is admitted at the index. None where none is.
+    pub fn book(&self, index: Index) -> Option<Book>
+        ensures used { IfSome result (λ book. IsBook index book self.now) }
+        ensures free { IfNone result (IsFree index self.now) }
+    {
+        let at = index.number() as usize;
+        let id = CyclicId::new(self.ids[at])?;
+        let sent = self.sent[at];
+        let lost = self.lost[at];
+        let pend = self.pends[at];
+        let count = (pend % MARK) as u32;
+        Some(Book {
+            id,
+            sent,
+            done: sent - lost - count as u64,
+            count,
+            lost,
+            marked: pend >= MARK,
+        })
+    }
+}

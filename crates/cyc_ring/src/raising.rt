@@ -1,0 +1,138 @@
+//! The calls of the firing side on a seat: the atomic steps of each, and what the seat notes of them.
+ghost use Rattle.std.specs.Prelude.{◌≡◌, ◌≢◌, ℕ, ◌+◌, ◌%◌, ◌^◌, ◌<◌, ◌≤◌, true, Some, None, slice_index};
+ghost use Rattle.cyc_types.specs.Limits.{cyclics, greatest_bank};
+ghost use Rattle.cyc_types.specs.Firing.{Admits, Loads, Raises, Marks, Polls, Expands, Looks};
+ghost use Rattle.cyc_level.specs.Level.{bank_size};
+ghost use Rattle.cyc_level.specs.Events.{most_sent};
+ghost use Rattle.ring_rule.specs.declared.RaiseStep.TheVariants.{Admitted, Loaded, Marked, Cleared, Switched, LoadedSoftBank};
+ghost use Rattle.ring_rule.specs.Words.{mark_bit};
+ghost use Rattle.ring_rule.specs.Trail.{open_stay, seen_pend, marked_of, hard_bank_of, has_followed};
+ghost use Rattle.cyc_ring.specs.Steps.{MakesRaiseCall};
+ghost use Rattle.cyc_ring.specs.Seats.{MakesRaiseStep};
+ghost use Rattle.cyc_ring.specs.Ends.{IsRaiseSeatOf, IsSameRaiseSeat, raise_trail};
+
+use crate::plays::Served;
+use crate::ring::Ring;
+use crate::seats::RaiseSeat;
+use cyc_types::{CyclicId, Index, Raised};
+
+impl Ring {
+    // Begins a stay of the id at the index.
+    pub(crate) fn admit_as<J: Served>(&self, raiser: &mut RaiseSeat, id: CyclicId, index: Index)
+        requires named { (J.id ≡ id) × (J.setting ≡ self.now.setting) }
+        requires own { IsRaiseSeatOf self.now raiser.old }
+        requires index { (index < bank_size raiser.old.bank) × (slice_index raiser.old.ids index ≡ 0) }
+        requires absent { open_stay id (raise_trail raiser.old) ≡ None }
+        ensures own { IsSameRaiseSeat raiser.old raiser.new }
+        ensures step { MakesRaiseStep J.setting (Admitted id index) raiser.old.seat raiser.new.seat }
+    {
+        let at = index.number() as usize;
+        self.load_to_admit::<J>(&mut raiser.seat, at);
+        raiser.finder.insert(id, index);
+        raiser.ids[at] = id.number();
+        raiser.sent[at] = 0;
+        raiser.lost[at] = 0;
+    }
+
+    // The calls of the id at the index that are outstanding, with the mark.
+    pub(crate) fn load_as<J: Served>(&self, raiser: &mut RaiseSeat, index: usize) -> u64
+        requires named { J.setting ≡ self.now.setting }
+        requires own { IsRaiseSeatOf self.now raiser.old }
+        requires index { (index < cyclics) × (slice_index raiser.old.ids index ≡ J.id) × (J.id ≢ 0) }
+        ensures own { IsSameRaiseSeat raiser.old raiser.new }
+        ensures rows { (raiser.new.ids ≡ raiser.old.ids) × (raiser.new.sent ≡ raiser.old.sent) × (raiser.new.lost ≡ raiser.old.lost) }
+        ensures bound { result % mark_bit ≤ seen_pend J.id (raise_trail raiser.old) }
+        ensures step { MakesRaiseStep J.setting (Loaded J.id result) raiser.old.seat raiser.new.seat }
+    {
+        self.load::<J>(&mut raiser.seat, index)
+    }
+
+    // The `fetch_add` that marks the id at the index.
+    pub(crate) fn mark_as<J: Served>(&self, raiser: &mut RaiseSeat, index: usize) -> u64
+        requires named { J.setting ≡ self.now.setting }
+        requires own { IsRaiseSeatOf self.now raiser.old }
+        requires index { (index < cyclics) × (slice_index raiser.old.ids index ≡ J.id) × (J.id ≢ 0) }
+        requires unmarked { marked_of (raise_trail raiser.old) ≡ None }
+        ensures own { IsSameRaiseSeat raiser.old raiser.new }
+        ensures bound { result ≤ seen_pend J.id (raise_trail raiser.old) }
+        ensures step { MakesRaiseStep J.setting (Marked J.id result) raiser.old.seat raiser.new.seat }
+    {
+        self.add_mark::<J>(&mut raiser.seat, index)
+    }
+
+    // The store of 0 that ends the stay of the marked id at the index.
+    pub(crate) fn clear_as<J: Served>(&self, raiser: &mut RaiseSeat, id: CyclicId, index: usize)
+        requires named { (J.id ≡ id) × (J.setting ≡ self.now.setting) }
+        requires own { IsRaiseSeatOf self.now raiser.old }
+        requires index { (index < cyclics) × (slice_index raiser.old.ids index ≡ id) × (id ≢ 0) }
+        requires alone { (marked_of (raise_trail raiser.old) ≡ Some id) × (seen_pend id (raise_trail raiser.old) ≡ 0) }
+        ensures own { IsSameRaiseSeat raiser.old raiser.new }
+        ensures step { MakesRaiseStep J.setting (Cleared id) raiser.old.seat raiser.new.seat }
+    {
+        self.store_zero::<J>(&mut raiser.seat, index);
+        raiser.finder.remove(id);
+        raiser.ids[index] = 0;
+    }
+
+    // The store of the hard bank.
+    pub(crate) fn switch_as<J: Served>(&self, raiser: &mut RaiseSeat, bank: u8)
+        requires named { J.setting ≡ self.now.setting }
+        requires own { IsRaiseSeatOf self.now raiser.old }
+        requires followed { has_followed (raise_trail raiser.old) ≡ true }
+        requires bank { (raiser.old.bank < bank) × (bank ≤ greatest_bank) }
+        ensures own { IsSameRaiseSeat raiser.old raiser.new }
+        ensures step { MakesRaiseStep J.setting (Switched bank) raiser.old.seat raiser.new.seat }
+    {
+        self.store_hard_bank::<J>(&mut raiser.seat, bank as u64);
+        raiser.bank = bank as u64;
+        raiser.mask = (1u64 << bank) - 1;
+        raiser.next = raiser.setting.start;
+    }
+
+    // The load of the soft bank.
+    pub(crate) fn look_as<J: Served>(&self, raiser: &mut RaiseSeat) -> u64
+        requires named { J.setting ≡ self.now.setting }
+        requires own { IsRaiseSeatOf self.now raiser.old }
+        ensures own { IsSameRaiseSeat raiser.old raiser.new }
+        ensures bank { raiser.new.bank ≡ raiser.old.bank }
+        ensures followed { has_followed (raise_trail raiser.old) ≡ true → result ≡ hard_bank_of (raise_trail raiser.old) }
+        ensures step { MakesRaiseStep J.setting (LoadedSoftBank result) raiser.old.seat raiser.new.seat }
+    {
+        self.load_soft_bank::<J>(&mut raiser.seat)
+    }
+
+    // One expiration of the id at the index: the pend is loaded before it is raised, and the entry is stored before it is
+    // published.
+    pub(crate) fn raise_as<J: Served>(
+        &self,
+        raiser: &mut RaiseSeat,
+        id: CyclicId,
+        index: usize,
+    ) -> Raised
+        requires named { (J.id ≡ id) × (J.setting ≡ self.now.setting) }
+        requires own { IsRaiseSeatOf self.now raiser.old }
+        requires index { (index < cyclics) × (slice_index raiser.old.ids index ≡ id) }
+        requires unmarked { marked_of (raise_trail raiser.old) ≢ Some id }
+        requires room { slice_index raiser.old.sent index < most_sent }
+        ensures own { IsSameRaiseSeat raiser.old raiser.new }
+        ensures call { MakesRaiseCall self.now.setting (raise_trail raiser.old) (Raises id result) (raise_trail raiser.new) }
+    {
+        let ceiling = raiser.setting.ceiling as u64;
+        let entry = id.number() * 256 + index as u64;
+        let before = self.load_to_raise::<J>(&mut raiser.seat, index);
+        raiser.sent[index] += 1;
+        if before == ceiling {
+            raiser.lost[index] += 1;
+            return Raised::Lost;
+        }
+        let found = self.add::<J>(&mut raiser.seat, index);
+        if found != 0 {
+            return Raised::More;
+        }
+        let word = 256 + raiser.mask + (raiser.next as u64 & raiser.mask);
+        self.store_entry::<J>(&mut raiser.seat, word as usize, entry);
+        raiser.next = raiser.next.wrapping_add(1);
+        self.publish::<J>(&mut raiser.seat, raiser.bank, raiser.next);
+        Raised::First
+    }
+}
