@@ -3,19 +3,19 @@ ghost use Rattle.std.specs.Bool.{OnTrue, OnFalse};
 ghost use Rattle.cyc_expirations.specs.Expirations.{is_before};
 ghost use Rattle.cyc_heap.specs.Array.{key};
 
-use cyc_types::{CyclicId, Index, Moment};
+use cyc_types::{CyclicId, Moment};
 
 /// An expiration and the index of its cyclic. Where the index is free, the expiration means nothing.
 #[derive(Clone, Copy, Debug, PartialEq, Eq)]
 pub(crate) struct Entry {
     pub moment: Moment,
     pub id: CyclicId,
-    pub index: Index,
+    pub index: usize,
 }
 
 impl Entry {
     /// An entry for a free index.
-    pub(crate) fn free(index: Index) -> Entry
+    pub(crate) fn free(index: usize) -> Entry
         ensures { result.index ≡ index }
     {
         Entry {

@@ -95,7 +95,7 @@ impl ExpiryHeap {
         self.len = len;
         let entry = Entry { moment, id, index };
         fill(&mut self.entries, &mut self.positions, len, hole, entry);
-        index
+        index_of(index)
     }
 
     /// The least expiration by its moment and then its id, and its index. None where no index is in use.
@@ -109,7 +109,7 @@ impl ExpiryHeap {
             return None;
         }
         let entry = self.entries[0];
-        Some((entry.index, entry.moment, entry.id))
+        Some((index_of(entry.index), entry.moment, entry.id))
     }
 
     /// Gives the least expiration another moment (`cyclic_downheap` in `cyclic_fire`).
@@ -133,12 +133,13 @@ impl ExpiryHeap {
         ensures slots { self.new.slots ≡ with_moment self.old.slots index moment }
         ensures room { self.new.room ≡ self.old.room }
     {
-        let hole = self.positions[index.number() as usize];
+        let number = index.number() as usize;
+        let hole = self.positions[number];
         let entry = self.entries[hole];
         let entry = Entry {
             moment,
             id: entry.id,
-            index,
+            index: number,
         };
         let len = self.len;
         fill(&mut self.entries, &mut self.positions, len, hole, entry);
@@ -197,6 +198,14 @@ impl ExpiryHeap {
     }
 }
 
+/// The index of this number.
+fn index_of(number: usize) -> Index
+    requires { number < cyclics }
+    ensures { result ≡ number }
+{
+    Index::new(number as u16).unwrap()
+}
+
 /// Adds an entry for each free index up to this size, the smallest first.
 fn add_free(entries: &mut Vec<Entry>, positions: &mut Vec<usize>, size: usize)
     requires few { size ≤ cyclics }
@@ -211,8 +220,7 @@ fn add_free(entries: &mut Vec<Entry>, positions: &mut Vec<usize>, size: usize)
     ensures positions { vec_capacity positions.old ≤ vec_capacity positions.new }
 {
     for number in entries.len()..size {
-        let index = Index::new(number as u16).unwrap();
-        entries.push(Entry::free(index)).unwrap();
+        entries.push(Entry::free(number)).unwrap();
         positions.push(number).unwrap();
     }
 }

@@ -24,7 +24,7 @@ fn put(entries: &mut [Entry], positions: &mut [usize], place: usize, entry: Entr
     ensures entries { entries.new ≡ slice_set entries.old place entry }
     ensures positions { positions.new ≡ slice_set positions.old entry.index place }
 {
-    let index = entry.index.number() as usize;
+    let index = entry.index;
     entries[place] = entry;
     positions[index] = place;
 }

@@ -1,4 +1,4 @@
-use Rattle.std.proofs.Common.{◌≡◌, ◌+◌, List, [], ◌∷◌, ◌++◌, length, Option, None, IfSome, is_ok, sym, ap, ◌∙◌, subst, subst₂, arith}
+use Rattle.std.proofs.Common.{◌≡◌, ◌+◌, List, [], ◌∷◌, ◌++◌, length, Option, None, is_ok, sym, ap, ◌∙◌, subst₂, arith}
 use Rattle.std.proofs.lemmas.Bool.{cond-true}
 use Rattle.std.proofs.lemmas.List.{length_push, get_or_append_left}
 use Rattle.cyc_expirations.specs.Expirations.{Expiration}
@@ -16,7 +16,7 @@ loop-number-preserved c =
     let x = c.free.result in
     let test = c.loop-number-test.true in
     let least = h.least in
-    let index : x.index ≡ n = c.free.ensures ∙ subst (λ o. IfSome o (λ i. i ≡ n)) c.unwrap-index.ensures c.new.ensures.value in
+    let index : x.index ≡ n = c.free.ensures in
     let new_es = c.push.ensures.items ∙ cond-true _ (es ++ x ∷ []) es (ap is_ok c.unwrap.ensures) in
     let new_ps = c.push-in-loop-number.ensures.items ∙ cond-true _ (ps ++ n ∷ []) ps (ap is_ok c.unwrap-in-loop-number.ensures) in
     let more = c.push.ensures.capacity in

@@ -41,6 +41,18 @@ fill-requires-clause-linked c =
     let is : index_at i.entries.items i.len ≡ x.index = ap (λ (x : Entry). x.index) (get_or_default i.entries.items i.len nowhere x room ∙ sym c.index.ensures) in
     subst (λ n. IsLinkedBut i.len n i.entries.items i.positions.items) is (links_opened i.entries.items i.positions.items i.len room c.self.invariant.0.linked)
 
+pub index_of-requires : goal.index_of-requires
+index_of-requires c =
+    let i = c.self.inside in
+    let h = c.self.invariant.0 in
+    let room = has_room i.len i.entries.items i.positions.items i.room c.args.self.now h c.self.view_is c.requires in
+    let x = c.index.result.now in
+    let is : index_at i.entries.items i.len ≡ x.index = ap (λ (x : Entry). x.index) (get_or_default i.entries.items i.len nowhere x room ∙ sym c.index.ensures) in
+    let low = (first_free i.len i.entries.items i.positions.items h x.index room is).0 in
+    let same = h.linked.same in
+    let few = h.few in
+    omega (arith, low, same, few)
+
 pub invariant_of-self : goal.invariant_of-self
 invariant_of-self c =
     let i = c.self.inside in
@@ -77,7 +89,8 @@ returns-clause-free c =
     let room = has_room i.len i.entries.items i.positions.items i.room c.args.self.now h c.self.view_is c.requires in
     let x = c.index.result.now in
     let is : index_at i.entries.items i.len ≡ x.index = ap (λ (x : Entry). x.index) (get_or_default i.entries.items i.len nowhere x room ∙ sym c.index.ensures) in
-    subst (λ (v : HeapView). expiration_at v x.index ≡ None) c.self.view_is (first_free i.len i.entries.items i.positions.items h x.index room is).1
+    subst (λ n. expiration_at c.args.self.now n ≡ None) (sym c.index_of.ensures)
+    (subst (λ (v : HeapView). expiration_at v x.index ≡ None) c.self.view_is (first_free i.len i.entries.items i.positions.items h x.index room is).1)
 
 pub returns-clause-slots : goal.returns-clause-slots
 returns-clause-slots c =
@@ -88,3 +101,4 @@ returns-clause-slots c =
     let is : index_at i.entries.items i.len ≡ x.index = ap (λ (x : Entry). x.index) (get_or_default i.entries.items i.len nowhere x room ∙ sym c.index.ensures) in
     c.fill.ensures.slots ∙ longer_slots i.len i.entries.items i.positions.items h x.index (Some (record { moment = c.args.moment; id = c.args.id })) is
     ∙ ap (λ (v : HeapView). set v.slots x.index (Some (record { moment = c.args.moment; id = c.args.id }))) c.self.view_is
+    ∙ ap (λ n. set c.args.self.now.slots n (Some (record { moment = c.args.moment; id = c.args.id }))) (sym c.index_of.ensures)

@@ -14,5 +14,5 @@ returns-clause-least c =
     let some : 0 < i.len = omega (arith, none) in
     let within = h.within in
     let is = get_or_default i.entries.items 0 nowhere x (omega (arith, some, within)) ∙ sym c.index-entry.ensures in
-    subst (λ (v : HeapView). IsLeast v x.index (key x)) c.self.view_is
-    (least_at_root i.len i.entries.items i.positions.items i.room x h.within h.linked h.order some is)
+    subst (λ n. IsLeast c.args.self.now n (key x)) (sym c.index_of.ensures) (subst (λ (v : HeapView). IsLeast v x.index (key x)) c.self.view_is
+    (least_at_root i.len i.entries.items i.positions.items i.room x h.within h.linked h.order some is))
