@@ -1,2 +1,2 @@
-mod Scripts
-mod Words
+mod EveryWord
+mod WorkedScripts
