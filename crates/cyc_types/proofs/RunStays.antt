@@ -37,7 +37,7 @@ look id j pend v w s is here =
     (went.0, went.1, went.2, omega (arith, went.3, none), omega (arith, went.4, none))
 
 -- one call
-learns_stay : (id : ℕ) (v w : FiringView) (call : FiringCall) (s : Stay) → Learns v call w → turns_of id call ≡ 0 → v.stays id ≡ Some s → GoesOn s (raises_of id call) (losses_of id call) (w.stays id)
+pub learns_stay : (id : ℕ) (v w : FiringView) (call : FiringCall) (s : Stay) → Learns v call w → turns_of id call ≡ 0 → v.stays id ≡ Some s → GoesOn s (raises_of id call) (losses_of id call) (w.stays id)
 learns_stay id v w (Admits j index) s l e here =
     subst (λ (x : FiringView). GoesOn s 0 0 (x.stays id)) (sym l) (other (eqb id j) (λ _. Some record { index = index; sent = 0; lost = 0; seen = 0 }) (v.stays id) s e here)
 learns_stay id v w (Loads j pend) s l e here = look id j pend v w s l.1 here

@@ -1,0 +1,8 @@
+use Rattle.std.proofs.Common.{◌<◌, ◌≤◌}
+use Rattle.cyc_core.specs.Tables.{level_of}
+use Rattle.cyc_core.specs.FiringSide.{firing_view}
+use Rattle.bench_level.specs.Ready.{IsReady}
+use Rattle.bench_level.proofs.hand_overs.Given as goal
+
+abbrev pub invariant-loop-turn : goal.invariant-loop-turn
+invariant-loop-turn l = (0 < l.number) × (l.number ≤ l.ids) × IsReady l.ids l.turn (firing_view (level_of l.core))

@@ -1,0 +1,15 @@
+-- A level whose cyclics may be raised in turn.
+use Rattle.std.specs.Prelude.{◌≡◌, ℕ, ◌<◌, ◌≤◌, Some, None, true}
+use Rattle.cyc_types.specs.Firing.{FiringView, Stay, IsAdmitted}
+
+-- the ids up to n are admitted, each with at most this many expirations, and no removal is open
+pub record IsReady (n most : ℕ) (v : FiringView) : Type 0 where
+  pub free : v.hand_free ≡ true
+  pub unmarked : v.marked ≡ None
+  pub stays : (id : ℕ) → 0 < id → id ≤ n → IsAdmitted id v (λ s. s.sent ≤ most)
+
+-- the ids up to n are admitted at the indexes below them, in the greatest bank, and none has expired
+pub record IsFilled (n : ℕ) (v : FiringView) : Type 0 where
+  pub bank : v.bank ≡ 8
+  pub ready : IsReady n 0 v
+  pub only : (id : ℕ) (s : Stay) → v.stays id ≡ Some s → (id ≤ n) × (s.index < n)
