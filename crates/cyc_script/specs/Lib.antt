@@ -1,4 +1,5 @@
 pub mod Answers
+pub mod Limits
 pub mod Names
 pub mod WellFormed
 pub mod Parameters

@@ -10,6 +10,7 @@ use Rattle.cyc_types.specs.declared.level.Soft.TheVariants as soft
 use Rattle.cyc_types.specs.Series.{never}
 use Rattle.cyc_script.specs.declared.cause.Cause.{Cause}
 use Rattle.cyc_script.specs.declared.cause.Cause.TheVariants.{Shape}
+use Rattle.cyc_script.specs.Limits.{longest_name}
 use Rattle.cyc_script.specs.SoFar.{runs_level}
 
 -- where a part is missing, the step has not the form of a step
@@ -44,9 +45,9 @@ moment_of d = shaped (number_in (never - 1) d)
 abbrev pub skew_of : Data → Result ℕ Cause
 skew_of d = shaped (number_in never d)
 
--- the number of a CPU, or a budget
-abbrev pub word_of : Data → Result ℕ Cause
-word_of d = shaped (number_in 4294967295 d)
+-- the number of a CPU, or a budget: a number of 32 bits
+abbrev pub unsigned_of : Data → Result ℕ Cause
+unsigned_of d = shaped (number_in 4294967295 d)
 
 -- ---- names
 
@@ -54,10 +55,11 @@ word_of d = shaped (number_in 4294967295 d)
 unfoldable pub is_name_byte : ℕ → Bool
 is_name_byte b = (nat_le 97 b && nat_le b 122) || (nat_le 65 b && nat_le b 90) || (nat_le 48 b && nat_le b 57) || (b == 95) || (b == 45)
 
--- 1 to 32 such bytes
+-- a name has 1 to 32 such bytes
 abbrev pub is_name : List ℕ → Bool
-is_name text = nat_le 1 (length text) && nat_le (length text) 32 && list_all is_name_byte text
+is_name text = nat_le 1 (length text) && nat_le (length text) longest_name && list_all is_name_byte text
 
+-- a text that is a name
 abbrev pub name_in : List ℕ → Option (List ℕ)
 name_in text = if is_name text then Some text else None
 
@@ -71,6 +73,7 @@ name_of d = shaped (option_and_then name_in (as_str d))
 abbrev pub level_word : Data → Option (List ℕ)
 level_word d = option_and_then (λ word. if runs_level word then Some word else None) (as_str d)
 
+-- the level of a word
 abbrev pub level_in : List ℕ → Option Level
 level_in word = if bytes_eq word (codes "low") then Some level.Low else if bytes_eq word (codes "lock") then Some level.Lock else if bytes_eq word (codes "high") then Some level.High else None
 
@@ -78,6 +81,7 @@ level_in word = if bytes_eq word (codes "low") then Some level.Low else if bytes
 abbrev pub level_of : Data → Result Level Cause
 level_of d = shaped (option_and_then level_in (level_word d))
 
+-- the soft level of a word
 abbrev pub soft_in : List ℕ → Option Soft
 soft_in word = if bytes_eq word (codes "low") then Some soft.Low else if bytes_eq word (codes "lock") then Some soft.Lock else None
 

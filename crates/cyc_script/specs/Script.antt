@@ -10,6 +10,7 @@ use Rattle.cyc_types.specs.declared.refusal.Refusal.{Refusal}
 use Rattle.cyc_types.specs.declared.refusal.Refusal.TheVariants.{ScriptSyntax, ScriptShape}
 use Rattle.cyc_script.specs.declared.script.Script.{Script}
 use Rattle.cyc_script.specs.declared.step.Step.{Step}
+use Rattle.cyc_script.specs.Limits.{most_bytes, most_cpus, most_steps}
 use Rattle.cyc_script.specs.Parameters.{number_in}
 use Rattle.cyc_script.specs.SoFar.{cpus_so_far}
 use Rattle.cyc_script.specs.Steps.{first_context, steps_of}
@@ -22,6 +23,7 @@ pub record Content : Type 0 where
   pub names : List (List ℕ)
   pub steps : List Step
 
+-- what a contract sees of a script
 abbrev pub content : Script → Content
 content s = record { cpus = s.cpus; ceiling = s.ceiling; names = map string_bytes s.names.items; steps = s.steps.items }
 
@@ -38,7 +40,7 @@ number_between least most d = option_and_then (λ n. if nat_le least n then Some
 
 -- 1 to 16 CPUs, of which not more than the program runs so far
 abbrev pub cpus_in : Data → Option ℕ
-cpus_in d = option_and_then (λ n. if nat_le n cpus_so_far then Some n else None) (number_between 1 16 d)
+cpus_in d = option_and_then (λ n. if nat_le n cpus_so_far then Some n else None) (number_between 1 most_cpus d)
 
 -- the number of CPUs, which must be there
 unfoldable pub cpus_of : Data → Option ℕ
@@ -55,7 +57,7 @@ ceiling_of d = ceiling_in (get (codes "ceiling") d)
 
 -- at most 65,536 steps
 abbrev pub within_limit : List Data → Option (List Data)
-within_limit values = if nat_le (length values) 65536 then Some values else None
+within_limit values = if nat_le (length values) most_steps then Some values else None
 
 -- the values of the steps, which must be there
 unfoldable pub values_of : Data → Option (List Data)
@@ -98,6 +100,6 @@ parsed None = Err ScriptSyntax
 unfoldable pub json_of : List ℕ → Result Data Refusal
 json_of bytes = if is_utf8 bytes then parsed (read bytes) else Err ScriptSyntax
 
--- the script of the bytes: at most 16,777,216 of them, that are JSON, that is a script
+-- the script of the bytes: not too many, JSON, and an object that is a script
 unfoldable pub script_of : List ℕ → Result Content Refusal
-script_of bytes = if nat_lt 16777216 (length bytes) then Err (ScriptShape 0) else (json_of bytes >>= content_of)
+script_of bytes = if nat_lt most_bytes (length bytes) then Err (ScriptShape 0) else (json_of bytes >>= content_of)

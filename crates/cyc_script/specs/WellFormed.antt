@@ -3,6 +3,7 @@ use Rattle.std.specs.Prelude.{◌≡◌, ℕ, ◌+◌, ◌≤◌, ◌&&◌, ◌=
 use Rattle.cyc_types.specs.Series.{never}
 use Rattle.cyc_script.specs.declared.step.Step.{Step}
 use Rattle.cyc_script.specs.declared.step.Step.TheVariants.{Add, Omni, Bind, Unbind, Reprogram, Remove, Advance}
+use Rattle.cyc_script.specs.Limits.{most_steps}
 
 -- ---- names
 
@@ -56,7 +57,7 @@ moment_after_all now steps = fold moment_after now steps
 
 -- the steps of a script with so many names
 pub record IsWellFormed (steps : List Step) (names : ℕ) : Type 0 where
-  pub few_steps : length steps ≤ 65536
+  pub few_steps : length steps ≤ most_steps
   pub names_introduced : names_after_all 0 steps ≡ names
   pub names_in_order : names_fit 0 steps ≡ true
   pub moments_in_order : moments_fit 0 steps ≡ true

@@ -6,10 +6,11 @@ use Rattle.cyc_script.specs.declared.cause.Cause.{Cause}
 use Rattle.cyc_script.specs.declared.cause.Cause.TheVariants.{Shape}
 use Rattle.cyc_script.specs.declared.step.Step.{Step}
 use Rattle.cyc_script.specs.declared.step.Step.TheVariants.{Add, Omni, Bind, Unbind, Reprogram, Remove, Softint, Juggle, Offline, Online}
-use Rattle.cyc_script.specs.Parameters.{shaped, name_of, level_of, soft_of, whole_of, moment_of, skew_of, word_of}
+use Rattle.cyc_script.specs.Parameters.{shaped, name_of, level_of, soft_of, whole_of, moment_of, skew_of, unsigned_of}
 use Rattle.cyc_script.specs.SoFar.{runs_word}
 
--- a step whose name is still a text, so that the step is a function of the name's number
+-- a step whose name is still a text, and so a function of the name's number: it introduces a new name, refers to one that was
+-- introduced before, advances the clock to a moment, or has neither a name nor a moment
 pub data Form : Type 0 where
   introduces : List ℕ → (ℕ → Step) → Form
   refers : List ℕ → (ℕ → Step) → Form
@@ -47,7 +48,7 @@ omni_of _ = Err Shape
 unfoldable pub bind_of : List Data → Result Form Cause
 bind_of (name ∷ cpu ∷ []) = do
   n ← name_of name
-  c ← word_of cpu
+  c ← unsigned_of cpu
   Ok (refers n (λ k. Bind (record { name = k; cpu = c })))
 bind_of _ = Err Shape
 
@@ -67,7 +68,7 @@ reprogram_of (name ∷ moment ∷ []) = do
 reprogram_of (name ∷ moment ∷ cpu ∷ []) = do
   n ← name_of name
   m ← whole_of moment
-  c ← word_of cpu
+  c ← unsigned_of cpu
   Ok (refers n (λ k. Reprogram (record { name = k; moment = m; cpu = Some c })))
 reprogram_of _ = Err Shape
 
@@ -88,15 +89,15 @@ advance_of _ = Err Shape
 -- `softint` cpu level budget
 unfoldable pub softint_of : List Data → Result Form Cause
 softint_of (cpu ∷ level ∷ budget ∷ []) = do
-  c ← word_of cpu
+  c ← unsigned_of cpu
   l ← soft_of level
-  b ← word_of budget
+  b ← unsigned_of budget
   Ok (nameless (Softint (record { cpu = c; level = l; budget = b })))
 softint_of _ = Err Shape
 
 -- the CPU that is the only parameter
 unfoldable pub only_cpu : List Data → Result ℕ Cause
-only_cpu (cpu ∷ []) = word_of cpu
+only_cpu (cpu ∷ []) = unsigned_of cpu
 only_cpu _ = Err Shape
 
 -- `juggle` cpu
@@ -134,14 +135,14 @@ list_of (item d ds) = d ∷ list_of ds
 unfoldable pub form_so_far : List ℕ → List Data → Result Form Cause
 form_so_far word parts = if runs_word word (length parts) then form_of word parts else Err Shape
 
--- a word and its parameters
+-- the form of an array's items: a word and its parameters
 unfoldable pub form_of_items : List Data → Result Form Cause
 form_of_items [] = Err Shape
 form_of_items (word ∷ parts) = do
   w ← shaped (as_str word)
   form_so_far w parts
 
--- a step is an array of a word and its parameters
+-- the form of a step, which is an array
 unfoldable pub form_of_value : Data → Result Form Cause
 form_of_value d = do
   items ← shaped (as_array d)

@@ -4,12 +4,15 @@ ghost use Rattle.std.specs.Prelude.{◌≡◌, map, option_map, ℕ, ◌≤◌, 
 ghost use Rattle.std.specs.List.{list_all};
 ghost use Rattle.serde_json.specs.View.{view};
 ghost use Rattle.cyc_script.specs.Answers.{Gives};
-ghost use Rattle.cyc_script.specs.Parameters.{number_in, whole_of, moment_of, skew_of, word_of, is_name_byte, is_name, name_of, level_word, level_of, soft_of};
+ghost use Rattle.cyc_script.specs.Parameters.{number_in, whole_of, moment_of, skew_of, unsigned_of, is_name_byte, is_name, name_of, level_word, level_of, soft_of};
 
 use crate::cause::Cause;
 use crate::so_far;
 use cyc_types::{Level, Soft};
 use serde_json::Value;
+
+/// The most bytes of a name.
+const LONGEST_NAME: usize = 32;
 
 /// A whole number from 0 to the greatest.
 pub(crate) fn number(value: &Value, most: u64) -> Option<u64>
@@ -44,8 +47,8 @@ pub(crate) fn skew(value: &Value) -> Result<u64, Cause>
 }
 
 /// The number of a CPU, or a budget.
-pub(crate) fn word(value: &Value) -> Result<u32, Cause>
-    ensures { result ≡ word_of (view value.now) }
+pub(crate) fn unsigned(value: &Value) -> Result<u32, Cause>
+    ensures { result ≡ unsigned_of (view value.now) }
 {
     match number(value, u64::from(u32::MAX)) {
         Some(number) => u32::try_from(number).map_err(|_| Cause::Shape),
@@ -70,7 +73,7 @@ fn is_name(text: &str) -> bool
     ensures { result ≡ is_name text.now }
 {
     let bytes = text.as_bytes();
-    if bytes.is_empty() || bytes.len() > 32 {
+    if bytes.is_empty() || bytes.len() > LONGEST_NAME {
         return false;
     }
     are_name_bytes(bytes)

@@ -6,6 +6,7 @@ ghost use Rattle.std.specs.BTreeMap.{keys};
 ghost use Rattle.serde_json.specs.View.{view};
 ghost use Rattle.cyc_script.specs.Answers.{Answers};
 ghost use Rattle.cyc_script.specs.WellFormed.{IsWellFormed};
+ghost use Rattle.cyc_script.specs.Limits.{most_cpus, most_steps};
 ghost use Rattle.cyc_script.specs.Script.{content, number_between, cpus_in, cpus_of, ceiling_of, within_limit, values_of, is_key, has_keys, content_of, json_of, script_of};
 ghost use Rattle.cyc_script.specs.Steps.{first_context, steps_of};
 
@@ -74,7 +75,7 @@ fn cpus_in(value: &Value) -> Option<u32>
 #[tactic(auto, unfolding(crate::specs::Script::cpus_of))]
 fn cpus(value: &Value) -> Option<u32>
     ensures value { result ≡ cpus_of (view value.now) }
-    ensures range { IfSome result (λ cpus. (1 ≤ cpus) × (cpus ≤ 16)) }
+    ensures range { IfSome result (λ cpus. (1 ≤ cpus) × (cpus ≤ most_cpus)) }
 {
     cpus_in(value.get("cpus")?)
 }
@@ -92,7 +93,7 @@ fn ceiling(value: &Value) -> Option<Ceiling>
 
 fn within_limit(values: &[Value]) -> Option<&[Value]>
     ensures value { option_map (λ values. map view values.now) result ≡ within_limit (map view values.now) }
-    ensures most { IfSome result (λ values. length values.now ≤ 65536) }
+    ensures most { IfSome result (λ values. length values.now ≤ most_steps) }
 {
     if values.len() > MOST_STEPS {
         return None;
@@ -103,14 +104,14 @@ fn within_limit(values: &[Value]) -> Option<&[Value]>
 #[tactic(auto, using(crate::proofs::Lists::list_of_items_of), unfolding(crate::specs::Script::values_of))]
 fn values(value: &Value) -> Option<&[Value]>
     ensures value { option_map (λ values. map view values.now) result ≡ values_of (view value.now) }
-    ensures most { IfSome result (λ values. length values.now ≤ 65536) }
+    ensures most { IfSome result (λ values. length values.now ≤ most_steps) }
 {
     within_limit(value.get("steps")?.as_array()?.as_slice())
 }
 
 /// The steps of the values, with the names that they introduce.
 fn steps(alloc: Global, values: &[Value]) -> Result<(Vec<Step>, Vec<String>), Refusal>
-    requires { length values.now ≤ 65536 }
+    requires { length values.now ≤ most_steps }
     ensures answers { Answers (λ read. (read.0.items, map string_bytes read.1.items)) result
         (steps_of [] first_context (map view values.now)) }
     ensures well_formed { IfOk result (λ read. IsWellFormed read.0.items (length read.1.items)) }

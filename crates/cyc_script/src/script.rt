@@ -1,4 +1,5 @@
 ghost use Rattle.std.specs.Prelude.{◌≤◌, length};
+ghost use Rattle.cyc_script.specs.Limits.{most_cpus};
 ghost use Rattle.cyc_script.specs.WellFormed.{IsWellFormed};
 
 use crate::step::Step;
@@ -15,6 +16,6 @@ pub struct Script {
     pub names: Vec<String>,
     /// The steps, at most 65,536. A name is introduced before it is used, and the moments of `Advance` don't fall.
     pub steps: Vec<Step>,
-    pub ghost cpus_in_range: { (1 ≤ cpus) × (cpus ≤ 16) },
+    pub ghost cpus_in_range: { (1 ≤ cpus) × (cpus ≤ most_cpus) },
     pub ghost well_formed: { IsWellFormed steps.items (length names.items) },
 }

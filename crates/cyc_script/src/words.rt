@@ -68,7 +68,7 @@ fn bind(context: &Context<'_>, parts: &[Value]) -> Result<Step, Cause>
         return Err(Cause::Shape);
     };
     let text = parameters::name(name)?;
-    let cpu = parameters::word(cpu)?;
+    let cpu = parameters::unsigned(cpu)?;
     let name = context.names.number(text)?;
     Ok(Step::Bind(Bind { name, cpu }))
 }
@@ -98,7 +98,7 @@ fn reprogram(context: &Context<'_>, parts: &[Value]) -> Result<Step, Cause>
     let text = parameters::name(name)?;
     let moment = parameters::whole(moment)?;
     let cpu = match cpu {
-        Some(cpu) => Some(parameters::word(cpu)?),
+        Some(cpu) => Some(parameters::unsigned(cpu)?),
         None => None,
     };
     let name = context.names.number(text)?;
@@ -141,9 +141,9 @@ fn softint(context: &Context<'_>, parts: &[Value]) -> Result<Step, Cause>
     let [cpu, level, budget] = parts else {
         return Err(Cause::Shape);
     };
-    let cpu = parameters::word(cpu)?;
+    let cpu = parameters::unsigned(cpu)?;
     let level = parameters::soft(level)?;
-    let budget = parameters::word(budget)?;
+    let budget = parameters::unsigned(budget)?;
     Ok(Step::Softint(Softint { cpu, level, budget }))
 }
 
@@ -153,7 +153,7 @@ fn only_cpu(parts: &[Value]) -> Result<u32, Cause>
     ensures { result ≡ only_cpu (map view parts.now) }
 {
     match parts {
-        [cpu] => parameters::word(cpu),
+        [cpu] => parameters::unsigned(cpu),
         _ => Err(Cause::Shape),
     }
 }
@@ -221,7 +221,7 @@ fn step_of_items<'a>(
     step_so_far(alloc, context, word, rest)
 }
 
-/// The step of a value after those before it, and takes note of the name that it introduces or the moment that it
+/// Reads the step of a value after those before it, and takes note of the name that it introduces or the moment that it
 /// advances to. First its form is judged, then its name or its moment. Takes memory where it introduces a name.
 #[tactic(auto, using(crate::proofs::Lists::list_of_items_of), unfolding(crate::specs::Steps::step_of, crate::specs::Words::form_of_value))]
 pub(crate) fn read_step<'a>(
