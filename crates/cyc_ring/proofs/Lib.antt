@@ -7,3 +7,4 @@ pub mod Listing
 pub mod Calls
 pub mod Hands
 pub mod Closing
+pub mod Ways

@@ -4,3 +4,4 @@ pub mod Steps
 pub mod Seats
 pub mod Ends
 pub mod Books
+pub mod Laws

@@ -10,6 +10,7 @@
 mod closed;
 mod draining;
 mod ends;
+pub mod laws;
 pub mod plays;
 mod raising;
 mod ring;

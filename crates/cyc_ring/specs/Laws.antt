@@ -1,0 +1,35 @@
+-- Laws of runs of calls, and of what stands at a moment.
+use Rattle.std.specs.Prelude.{◌≡◌, ℕ, ◌+◌, None, List}
+use Rattle.cyc_types.specs.Firing.{FiringCall}
+use Rattle.cyc_types.specs.Draining.{DrainCall, Takes}
+use Rattle.cyc_types.specs.Runs.{Goes, DrainGoes, raised_by, lost_by, finished_by}
+use Rattle.ring_rule.specs.declared.RaiseStep.{RaiseStep}
+use Rattle.ring_rule.specs.declared.DrainStep.{DrainStep}
+use Rattle.ring_rule.specs.declared.Setting.{Setting}
+use Rattle.ring_rule.specs.Trail.{open_stay, raises_of, losses_of, ended_calls, made_calls}
+use Rattle.ring_rule.specs.Conservation.{LevelStands}
+use Rattle.cyc_ring.specs.Ends.{raise_trail, end_view, RaiseEndCall, end_made, DrainEndCall, IsSameRaiseSeat, IsSameDrainSeat, FoundIdle}
+use Rattle.cyc_ring.specs.declared.ends.RaiseEnd.{RaiseEnd}
+use Rattle.cyc_ring.specs.declared.ends.DrainEnd.{DrainEnd}
+
+-- the raises and the losses in the trail grow by those of the run
+abbrev pub RaiseWaysAddUp : Type 0
+RaiseWaysAddUp = (e f : RaiseEnd) (way : List FiringCall) → Goes RaiseEndCall end_view e way f
+    → IsSameRaiseSeat e.seat f.seat
+    × ((id : ℕ) → raises_of id (raise_trail f.seat) ≡ raises_of id (raise_trail e.seat) + raised_by id way)
+    × ((id : ℕ) → losses_of id (raise_trail f.seat) ≡ losses_of id (raise_trail e.seat) + lost_by id way)
+
+-- the finishes grow by those of the run
+abbrev pub DrainWaysAddUp : Type 0
+DrainWaysAddUp = (e f : DrainEnd) (way : List DrainCall) → DrainGoes DrainEndCall e way f
+    → IsSameDrainSeat e.seat f.seat × ((id : ℕ) → end_made f id ≡ end_made e id + finished_by id way)
+
+-- the last take of a run answered None because it looked
+abbrev pub IdleIsFound : Type 0
+IdleIsFound = (e before f : DrainEnd) (way : List DrainCall) → DrainGoes DrainEndCall e way before → DrainEndCall before (Takes None) f
+    → FoundIdle e f
+
+-- while no stay of the id is open, its finishes stay what they were when the last one ended
+abbrev pub NothingFollowsRemoval : Type 0
+NothingFollowsRemoval = (k : Setting) (words : List ℕ) (raises : List RaiseStep) (drains : List DrainStep) (id : ℕ)
+    → LevelStands k words raises drains → open_stay id raises ≡ None → made_calls id drains ≡ ended_calls id raises
