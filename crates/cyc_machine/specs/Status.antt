@@ -1,5 +1,7 @@
 -- The exit status of the program after a fault. Our own rule.
-use Rattle.std.specs.Prelude.{ℕ, ◌==◌, if◌then◌else◌}
+use Rattle.std.specs.Prelude.{◌≡◌, ℕ, ◌==◌, if◌then◌else◌, Bool, true, false, Result, Ok, Err}
+use Rattle.cyc_machine.specs.declared.fault.RunFault.{RunFault}
+use Rattle.cyc_machine.specs.declared.fault.RunFault.TheVariants as run_fault
 use Rattle.cyc_types.specs.declared.refusal.Refusal.{Refusal}
 use Rattle.cyc_types.specs.declared.refusal.Refusal.TheVariants as refusal
 use Rattle.cyc_types.specs.Refusals.{number_of}
@@ -16,3 +18,14 @@ status Memory = 3
 status Read = 3
 status (Script why) = script_status why
 status (Run why) = 3
+
+-- whether a run stopped because its sink failed
+abbrev pub is_write : {A : Type 0} → Result A RunFault → Bool
+is_write (Ok x) = false
+is_write (Err (run_fault.Refused why)) = false
+is_write (Err run_fault.Write) = true
+
+-- a run is refused for want of memory alone
+abbrev pub IsMemoryOrWrite : RunFault → Type 0
+IsMemoryOrWrite (run_fault.Refused why) = why ≡ refusal.Memory
+IsMemoryOrWrite run_fault.Write = Unit {0}

@@ -75,6 +75,14 @@ impl fmt::Display for Fault {
 
 impl Error for Fault {}
 
+impl From<Refusal> for RunFault {
+    ghost from_gives = { λ why e. e ≡ run_fault.Refused why };
+
+    fn from(why: Refusal) -> RunFault {
+        RunFault::Refused(why)
+    }
+}
+
 impl From<AllocError> for RunFault {
     ghost from_gives = { λ _ e. e ≡ run_fault.Refused refusal.Memory };
 

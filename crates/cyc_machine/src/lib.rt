@@ -1,8 +1,18 @@
 //! Scripts run on the machine of CPUs: the program's words, its faults, and the replay of a script.
+//!
+//! The reader of scripts, the lines and the sinks come from `cyc_script` and `cyc_text`; their names are given again here.
 #![tactic(auto)]
 
 mod fault;
+mod lines;
+mod machine;
+mod run;
+mod steps;
+mod timer;
 mod words;
 
+pub use cyc_script::{Add, Name, Script, Softint, Step, read_script};
+pub use cyc_text::{Out, PutFailed, Sink};
 pub use fault::{Fault, RunFault, status_of};
+pub use run::replay;
 pub use words::{Command, command_of};

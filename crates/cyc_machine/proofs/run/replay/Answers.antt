@@ -1,0 +1,31 @@
+use Rattle.std.proofs.Common.{◌≡◌, ℕ, List, ◌++◌, length, map, ap, sym, ◌∙◌, subst, refl, string_bytes}
+use Rattle.std.proofs.lemmas.List.{length-map}
+use Rattle.std.proofs.lemmas.Result.{err_from_is_err_and}
+use Rattle.cyc_text.specs.Puts.{Puts, AppendsPrefix}
+use Rattle.cyc_text.proofs.Puts.{more, stops}
+use Rattle.std.specs.Io.KnownBytes.{Appends}
+use Rattle.cyc_machine.specs.Text.{State, run, reports, start, names_of, text_of}
+use Rattle.cyc_machine.specs.Machine.{state_of}
+use Rattle.cyc_machine.proofs.run.replay.Goals as goal
+
+pub returns-in_err-put_steps-clause-text : goal.returns-in_err-put_steps-clause-text
+unfolding text_of
+returns-in_err-put_steps-clause-text g c =
+    let script = c.args.script.now in
+    let begin = c.in_ok-machine.ensures.state ∙ ap (start script.ceiling) (ap length c.as_slice-names.ensures.value ∙ sym (length-map script.names.items string_bytes)) in
+    let line = ap (λ xs. (run 1 xs (state_of c.in_ok-machine.machine)).line) c.as_slice.ensures.value ∙ ap (λ s. (run 1 script.steps.items s).line) begin in
+    let P : List ℕ → Type 0 = λ text. AppendsPrefix (g.S.Sink.written c.args.sink.now) (g.S.Sink.written c.put_steps.new.sink) text in
+    let p = err_from_is_err_and c.from_residual-in_err-put_steps.result c.from_residual-in_err-put_steps.ensures.1 in
+    rw p.1 (stops _ _ _ _ (subst P line c.in_err-put_steps.ensures.text))
+
+pub returns-clause-text : goal.returns-clause-text
+unfolding text_of
+returns-clause-text g c =
+    let script = c.args.script.now in
+    let begin = c.in_ok-machine.ensures.state ∙ ap (start script.ceiling) (ap length c.as_slice-names.ensures.value ∙ sym (length-map script.names.items string_bytes)) in
+    let line = ap (λ xs. (run 1 xs (state_of c.in_ok-machine.machine)).line) c.as_slice.ensures.value ∙ ap (λ s. (run 1 script.steps.items s).line) begin in
+    let state = c.in_ok-put_steps.ensures.state ∙ (ap (λ xs. (run 1 xs (state_of c.in_ok-machine.machine)).state) c.as_slice.ensures.value ∙ ap (λ s. (run 1 script.steps.items s).state) begin) in
+    let report = ap (λ xs. reports 0 (map string_bytes xs) (state_of c.put_steps.new.machine)) c.as_slice-names.ensures.value ∙ ap (λ s. reports 0 (names_of script) s) state in
+    let P : List ℕ → Type 0 = λ text. Appends (g.S.Sink.written c.args.sink.now) (g.S.Sink.written c.put_steps.new.sink) text in
+    let Q : List ℕ → Type 0 = λ text. Puts (g.S.Sink.written c.put_steps.new.sink) (g.S.Sink.written c.put_reports.new.sink) c.put_reports.result text in
+    more _ _ _ _ _ _ (subst P line c.in_ok-put_steps.ensures.text) (subst Q report c.put_reports.ensures.text)
