@@ -1,0 +1,6 @@
+pub mod Tables
+pub mod Acting
+pub mod Nexts
+pub mod Readying
+pub mod Making
+pub mod Stepping

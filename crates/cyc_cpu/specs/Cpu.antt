@@ -1,0 +1,70 @@
+-- What callers see of the firing side of one CPU.
+use Rattle.std.specs.Prelude.{◌≡◌, ◌≢◌, ℕ, ◌+◌, ◌<◌, ◌≤◌, List, map, length, slice_index_or, All, true, Option, Some, None}
+use Rattle.cyc_types.specs.Firing.{FiringView, FiringCall}
+use Rattle.cyc_types.specs.declared.level.Level.TheVariants.{Low, Lock, High}
+use Rattle.cyc_types.specs.declared.refusal.Refusal.{Refusal}
+use Rattle.cyc_types.specs.declared.refusal.Refusal.TheVariants as why
+use Rattle.cyc_expirations.specs.Expirations.{Expiration, all_after}
+use Rattle.cyc_expirations.specs.Timers.{Timer}
+use Rattle.cyc_cpu.specs.Rows.{Cyclic, timers}
+use Rattle.cyc_cpu.specs.Acts.{Sides, Acts, ids_at, losses, lost_after, timer_of}
+
+-- the firing side of one CPU
+pub record CpuView (R : Type 0) : Type 0 where
+  -- the cyclics by rising ids, with the one whose removal is open
+  pub cyclics : List Cyclic
+  -- the id of the cyclic whose removal is open: its moment is never
+  pub removal : Option ℕ
+  -- the number of indexes
+  pub size : ℕ
+  -- the number of indexes for which memory was taken
+  pub room : ℕ
+  -- the most expirations of a cyclic
+  pub most : ℕ
+  pub lock : R
+  pub low : R
+
+-- what no fire and no question changes
+pub record SameCpu {R : Type 0} (v w : CpuView R) : Type 0 where
+  pub removal : w.removal ≡ v.removal
+  pub size : w.size ≡ v.size
+  pub room : w.room ≡ v.room
+  pub most : w.most ≡ v.most
+
+-- an end with no cyclic, on bank 0
+pub record IsFresh (v : FiringView) : Type 0 where
+  pub none : (id : ℕ) → v.stays id ≡ None
+  pub unmarked : v.marked ≡ None
+  pub bank : v.bank ≡ 0
+  pub free : v.hand_free ≡ true
+
+-- the cyclic at a place
+abbrev pub IsCyclic : List Cyclic → ℕ → Cyclic → Type 0
+IsCyclic cs k c = (k < length cs) × (slice_index_or cs k c ≡ c)
+
+-- no cyclic has this id
+abbrev pub HasNoCyclic : ℕ → List Cyclic → Type 0
+HasNoCyclic id cs = All (λ c. c.timer.id ≢ id) cs
+
+-- the cyclic with another moment
+abbrev pub with_moment : ℕ → Cyclic → Cyclic
+with_moment m c = record c { timer = record c.timer { moment = m } }
+
+-- these expirations of a fire at now were made: each cyclic stands where they leave it, the handlers of the high ones were
+-- called, the others were raised at their ends, and each id lost what its raises lost
+pub record Makes {C R : Type 0} (called : C → ℕ → C → Type 0) (count : C → ℕ → ℕ) (step : R → FiringCall → R → Type 0) (view : R → FiringView)
+    (now : ℕ) (made : List Expiration) (cs cs' : List Cyclic) (s s' : Sides C R) (lost : ℕ) : Type 0 where
+  pub acts : Acts called count step view (ids_at High (timers cs) made) (ids_at Lock (timers cs) made) (ids_at Low (timers cs) made) s s'
+  pub timers_are : timers cs' ≡ all_after now made (timers cs)
+  pub losses_are : map (λ c. c.lost) cs' ≡ map (λ c. lost_after acts.lock_way acts.low_way c.timer.id c.lost) cs
+  pub lost_is : lost ≡ losses acts.lock_way + losses acts.low_way
+
+-- what the refusal of an expiration of this cyclic says
+abbrev pub Stops : {C : Type 0} → (C → ℕ → Type 0) → ℕ → C → Timer → Refusal → Type 0
+Stops may_refuse most at t (why.CountSpent id) = (id ≡ t.id) × (most ≤ t.expired)
+Stops may_refuse most at t (why.HandlerRefused id) = (id ≡ t.id) × (t.level ≡ High) × may_refuse at id
+Stops may_refuse most at t e = ⊥
+
+-- the expiration was refused: its cyclic has expired as often as it may, or its handler may refuse at this moment
+abbrev pub WhyStopped : {C : Type 0} → (C → ℕ → Type 0) → ℕ → C → Expiration → List Timer → Refusal → Type 0
+WhyStopped may_refuse most at last ts e = (t : Timer) × (timer_of last.id ts ≡ Some t) × Stops may_refuse most at t e

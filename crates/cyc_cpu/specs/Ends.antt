@@ -1,0 +1,38 @@
+-- How the cyclics of a CPU stand at the ends of its two soft levels.
+use Rattle.std.specs.Prelude.{◌≡◌, ℕ, ◌<◌, ◌≤◌, ◌^◌, List, true, All, Option, Some}
+use Rattle.cyc_types.specs.Series.{never}
+use Rattle.cyc_types.specs.Firing.{FiringView, Stay, Sound, IsAdmitted}
+use Rattle.cyc_types.specs.declared.level.Level.{Level}
+use Rattle.cyc_types.specs.declared.level.Level.TheVariants.{Low, Lock}
+use Rattle.cyc_cpu.specs.Rows.{Row, IsRow}
+
+-- what an end has of a cyclic: its index, and no more expirations and losses than the cyclic
+abbrev pub HasStay : FiringView → Row → Type 0
+HasStay v r = IsAdmitted r.timer.id v (λ s. (s.index ≡ r.index) × (s.sent ≤ r.timer.expired) × (s.lost ≤ r.lost))
+
+-- the cyclics of this level are exactly those admitted at the end, each at its index
+pub record IsEnd (soft : Level) (size : ℕ) (marked : Option ℕ) (v : FiringView) (rows : List Row) : Type 0 where
+  pub sound : Sound v
+  pub free : v.hand_free ≡ true
+  pub size_is : size ≡ 2 ^ v.bank
+  pub marked_is : v.marked ≡ marked
+  pub here : (k : ℕ) (r : Row) → IsRow rows k r → r.timer.level ≡ soft → HasStay v r
+  pub only : (id : ℕ) (s : Stay) → v.stays id ≡ Some s → (k : ℕ) × (r : Row) × IsRow rows k r × (r.timer.id ≡ id) × (r.timer.level ≡ soft)
+  -- a cyclic whose removal is open never comes to an expiration
+  pub removed : (k : ℕ) (r : Row) → IsRow rows k r → marked ≡ Some r.timer.id → r.timer.moment ≡ never
+
+-- no cyclic has more losses than expirations, nor more expirations than the most
+abbrev pub IsCounted : ℕ → List Row → Type 0
+IsCounted most rows = All (λ r. (r.lost ≤ r.timer.expired) × (r.timer.expired ≤ most)) rows
+
+-- both ends have the cyclics of their levels
+pub record IsReady {R : Type 0} (view : R → FiringView) (size most : ℕ) (lock_marked low_marked : Option ℕ) (lock low : R) (rows : List Row) : Type 0 where
+  pub lock_end : IsEnd Lock size lock_marked (view lock) rows
+  pub low_end : IsEnd Low size low_marked (view low) rows
+  pub counted : IsCounted most rows
+
+-- the firing side of a CPU: both ends are ready, and an open removal is marked at the end of its level
+pub record IsHard {R : Type 0} (view : R → FiringView) (size most : ℕ) (removal : Option ℕ) (lock low : R) (rows : List Row) : Type 0 where
+  pub ready : IsReady view size most (view lock).marked (view low).marked lock low rows
+  pub lock_marked : (id : ℕ) → (view lock).marked ≡ Some id → removal ≡ Some id
+  pub low_marked : (id : ℕ) → (view low).marked ≡ Some id → removal ≡ Some id

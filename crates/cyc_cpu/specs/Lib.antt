@@ -1,0 +1,4 @@
+pub mod Rows
+pub mod Acts
+pub mod Ends
+pub mod Cpu

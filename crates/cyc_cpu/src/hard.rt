@@ -1,0 +1,153 @@
+use crate::fire::{FireRefused, Fired, fire_all};
+use crate::table::Table;
+use cyc_types::{Calls, CyclicId, Moment, Raise, Refusal};
+use std::alloc::Global;
+use std::marker::Model;
+
+ghost use Rattle.std.specs.Prelude.{◌≡◌, ◌≢◌, ℕ, ◌≤◌, ◌++◌, ◌∷◌, [], List, length, slice_set, None, Some, IfOk, IfErr, OnOk, OnErr, ◌⊎◌};
+ghost use Rattle.std.specs.Bool.{OnTrue, OnFalse};
+ghost use Rattle.cyc_types.specs.Series.{never};
+ghost use Rattle.cyc_types.specs.declared.refusal.Refusal.TheVariants.{Memory, BadNow, NoCyclic};
+ghost use Rattle.cyc_expirations.specs.Timers.{earliest};
+ghost use Rattle.cyc_expirations.specs.Expirations.{Expiration, expirations};
+ghost use Rattle.cyc_cpu.specs.Rows.{Cyclic, timers};
+ghost use Rattle.cyc_cpu.specs.Cpu.{CpuView, Makes, WhyStopped, SameCpu, IsFresh, IsCyclic, HasNoCyclic, with_moment};
+
+/// The firing side of one CPU (`cyc_cpu_t` of sys/cyclic_impl.h): its cyclics and the firing ends of its two soft levels.
+#[derive(Drop)]
+pub struct Hard<R: Raise> {
+    table: Table,
+    removal: Option<CyclicId>,
+    most: u64,
+    lock: R,
+    low: R,
+}
+
+impl<R: Raise> Model for Hard<R> {
+    ghost use Rattle.cyc_cpu.specs.Rows.{cyclics_of};
+    ghost use Rattle.cyc_cpu.specs.Cpu.{CpuView};
+    ghost use Rattle.cyc_cpu.specs.Ends.{IsHard};
+
+    ghost Value = { CpuView R };
+
+    ghost view = { λ h. record { cyclics = cyclics_of h.table.rows; removal = h.removal; size = h.table.size; room = h.table.room; most = h.most; lock = h.lock; low = h.low } };
+
+    ghost invariant = { λ h. IsHard R.view h.table.size h.most h.removal h.lock h.low h.table.rows };
+}
+
+impl<R: Raise + Drop> Hard<R> {
+    /// A CPU with no cyclic and of size 1, over the ends of its lock and its low level. No cyclic expires more than `most`
+    /// times. Refuses with Memory alone; the ends are then dropped.
+    pub fn new(alloc: Global, most: u64, lock: R, low: R) -> Result<Hard<R>, Refusal>
+        requires lock { IsFresh (R.view lock) }
+        requires low { IsFresh (R.view low) }
+        ensures ok { IfOk result (λ cpu. cpu ≡ record { cyclics = []; removal = None; size = 1; room = 1; most = most; lock = lock; low = low }) }
+        ensures err { IfErr result (λ refusal. refusal ≡ Memory) }
+    {
+        let table = Table::new(alloc)?;
+        lock.law();
+        low.law();
+        Ok(Hard {
+            table,
+            removal: None,
+            most,
+            lock,
+            low,
+        })
+    }
+}
+
+impl<R: Raise> Hard<R> {
+    /// The ends of the lock and the low level.
+    pub fn into_ends(self) -> (R, R)
+        ensures { result ≡ (self.lock, self.low) }
+    {
+        let Hard {
+            table: _table,
+            removal: _,
+            most: _,
+            lock,
+            low,
+        } = self;
+        (lock, low)
+    }
+
+    /// How many cyclics there are, with one whose removal is open.
+    pub fn len(&self) -> usize
+        ensures { result ≡ length self.now.cyclics }
+    {
+        self.table.len()
+    }
+
+    /// Makes every expiration that is due at `now`, in the order of their moments and ids (`cyclic_fire`). At high level the
+    /// handler is called, at a soft level the pend is raised.
+    ///
+    /// Refuses with BadNow where `now` is never. An expiration of a cyclic that has expired `most` times is refused with
+    /// CountSpent, and one whose handler refuses with HandlerRefused; those before it were made. Takes no memory.
+    pub fn fire<C: Calls>(&mut self, now: Moment, calls: &mut C) -> Result<Fired, FireRefused>
+        // The whole list was made, and no more.
+        ensures now { OnOk result (now ≢ never) }
+        ensures expired { IfOk result (λ r. r.expired ≡ length (expirations now (timers self.old.cyclics))) }
+        ensures next { IfOk result (λ r. r.next ≡ earliest (timers self.new.cyclics)) }
+        ensures made { IfOk result (λ r. Makes C.called C.count R.step R.view now (expirations now (timers self.old.cyclics)) self.old.cyclics self.new.cyclics
+            (record { calls = calls.old; lock = self.old.lock; low = self.old.low }) (record { calls = calls.new; lock = self.new.lock; low = self.new.low }) r.lost) }
+
+        // At the moment that is never nothing was done; else the list was made up to an expiration that was refused.
+        ensures bad_now { IfErr result (λ e. now ≡ never → (e ≡ record { why = BadNow; expired = 0; lost = 0 }) × (self.new ≡ self.old) × (calls.new ≡ calls.old)) }
+        ensures refused { IfErr result (λ e. now ≢ never → (made : List Expiration) × (last : Expiration) × (rest : List Expiration)
+            × (expirations now (timers self.old.cyclics) ≡ made ++ last ∷ rest) × (length made ≡ e.expired) × (at : C)
+            × Makes C.called C.count R.step R.view now made self.old.cyclics self.new.cyclics
+                (record { calls = calls.old; lock = self.old.lock; low = self.old.low }) (record { calls = at; lock = self.new.lock; low = self.new.low }) e.lost
+            × ((id : ℕ) → C.count calls.new id ≡ C.count at id)
+            × WhyStopped C.may_refuse self.old.most at last (timers self.new.cyclics) e.why) }
+        ensures kept { SameCpu self.old self.new }
+    {
+        if now.nanoseconds() == Moment::NEVER.nanoseconds() {
+            return Err(FireRefused {
+                why: Refusal::BadNow,
+                expired: 0,
+                lost: 0,
+            });
+        }
+        fire_all(
+            &mut self.table,
+            &mut self.lock,
+            &mut self.low,
+            calls,
+            self.most,
+            now,
+        )
+    }
+
+    /// Gives the cyclic another next expiration, and changes nothing else (`cyclic_reprogram`). Refuses with NoCyclic where
+    /// the id is not here, or its removal is open. Takes no memory.
+    pub fn reprogram(&mut self, id: CyclicId, moment: Moment) -> Result<(), Refusal>
+        ensures ok { OnOk result ((k : ℕ) × (c : Cyclic) × IsCyclic self.old.cyclics k c × (c.timer.id ≡ id) × (self.old.removal ≢ Some id)
+            × (self.new ≡ record self.old { cyclics = slice_set self.old.cyclics k (with_moment moment c) })) }
+        ensures refused { IfErr result (λ e. (e ≡ NoCyclic) × (HasNoCyclic id self.old.cyclics ⊎ (self.old.removal ≡ Some id))) }
+        ensures err { OnErr result (self.new ≡ self.old) }
+    {
+        let _ = moment.nanoseconds();
+        if self.is_removed(id) {
+            return Err(Refusal::NoCyclic);
+        }
+        match self.table.find(id) {
+            Some(place) => {
+                self.table.reprogram(place, moment);
+                Ok(())
+            }
+            None => Err(Refusal::NoCyclic),
+        }
+    }
+
+    /// Whether the removal of this id is open.
+    fn is_removed(&self, id: CyclicId) -> bool
+        ensures removed { OnTrue result (self.now.removal ≡ Some id) }
+        ensures kept { OnFalse result (self.now.removal ≢ Some id) }
+    {
+        match self.removal {
+            Some(removed) => removed.number() == id.number(),
+            None => false,
+        }
+    }
+}

@@ -1,0 +1,12 @@
+//! The firing side of one CPU: its cyclics, exact firing, and what is asked of each cyclic.
+//!
+//! `Hard` stands over any pair of ends that implement `Raise`, one for the lock level and one for the low level. What it
+//! promises of a fire is `cyc_expirations`' definition; how the ends do their part is in the traits' laws alone.
+#![tactic(auto)]
+
+mod fire;
+mod hard;
+mod table;
+
+pub use fire::{FireRefused, Fired};
+pub use hard::Hard;
