@@ -1,15 +1,12 @@
 -- Lemmas on acts: none, one, and one after others.
-use Rattle.std.proofs.Common.{◌≡◌, ◌≢◌, ℕ, zero, suc, ◌+◌, ◌≤◌, Bool, true, false, cond, List, [], ◌∷◌, ◌++◌, refl, sym, ap, ◌∙◌, subst, arith, length}
+use Rattle.std.proofs.Common.{◌≡◌, ℕ, ◌+◌, List, [], ◌∷◌, ◌++◌, refl, sym, ap, subst, arith}
 use Rattle.std.specs.List.{FoldsTo}
-use Rattle.cyc_types.specs.Counting.{times, one_at}
-use Rattle.cyc_types.specs.Firing.{FiringView, FiringCall, Admits, Loads, Raises, Marks, Polls, Expands, Looks, Learns}
-use Rattle.cyc_types.specs.Runs.{Goes, Taught, raised_by, turned_by, lost_by, raises_of}
-use Rattle.cyc_types.specs.declared.firing.Raised.{Raised}
-use Rattle.cyc_types.specs.declared.firing.Raised.TheVariants.{First, More, Lost}
+use Rattle.cyc_types.specs.Counting.{times}
+use Rattle.cyc_types.specs.Firing.{FiringView, FiringCall, Raises}
 use Rattle.cyc_types.specs.declared.level.Level.{Level}
 use Rattle.cyc_types.specs.declared.level.Level.TheVariants.{Low, Lock, High}
 use Rattle.cyc_types.proofs.Runs.{folds_on, times_on, goes_on}
-use Rattle.cyc_cpu.specs.Acts.{Sides, Acts, RaisedOnce, IsRaise, AreRaises, loss_in, losses, id_at}
+use Rattle.cyc_cpu.specs.Acts.{Sides, Acts, RaisedOnce, AreRaises, losses, id_at}
 
 raises_on : (xs ys : List ℕ) (way more : List FiringCall) → AreRaises xs way → AreRaises ys more → AreRaises (xs ++ ys) (way ++ more)
 raises_on [] ys [] more a b = b
@@ -30,7 +27,8 @@ module _ {C R : Type 0} (called : C → ℕ → C → Type 0) (count : C → ℕ
   pub acts_more : (hs ks ws hs' ks' ws' hs'' ks'' ws'' : List ℕ) (s m t : Sides C R) (a : Acts called count step view hs ks ws s m) (b : Acts called count step view hs' ks' ws' m t) →
       hs'' ≡ hs ++ hs' → ks'' ≡ ks ++ ks' → ws'' ≡ ws ++ ws' →
       (c : Acts called count step view hs'' ks'' ws'' s t) × (c.lock_way ≡ a.lock_way ++ b.lock_way) × (c.low_way ≡ a.low_way ++ b.low_way)
-  acts_more hs ks ws hs' ks' ws' hs'' ks'' ws'' s m t a b e f g = (record {
+  acts_more hs ks ws hs' ks' ws' hs'' ks'' ws'' s m t a b e f g = (
+    record {
       lock_way = a.lock_way ++ b.lock_way;
       low_way = a.low_way ++ b.low_way;
       called_in_order = subst (λ xs. FoldsTo called s.calls xs t.calls) (sym e) (folds_on called s.calls hs m.calls hs' t.calls a.called_in_order b.called_in_order);
@@ -39,7 +37,10 @@ module _ {C R : Type 0} (called : C → ℕ → C → Type 0) (count : C → ℕ
       low_goes = goes_on step view s.low m.low t.low a.low_way b.low_way a.low_goes b.low_goes;
       lock_raises = subst (λ xs. AreRaises xs (a.lock_way ++ b.lock_way)) (sym f) (raises_on ks ks' a.lock_way b.lock_way a.lock_raises b.lock_raises);
       low_raises = subst (λ xs. AreRaises xs (a.low_way ++ b.low_way)) (sym g) (raises_on ws ws' a.low_way b.low_way a.low_raises b.low_raises);
-    }, refl, refl)
+    },
+    refl,
+    refl,
+  )
 
   pub act_high : (id : ℕ) (c c' : C) (k w : R) → called c id c' → ((q : ℕ) → count c' q ≡ count c q + times q (id ∷ [])) →
       (a : Acts called count step view (id ∷ []) [] [] (record { calls = c; lock = k; low = w }) (record { calls = c'; lock = k; low = w })) × (0 ≡ losses a.lock_way + losses a.low_way)
@@ -47,13 +48,35 @@ module _ {C R : Type 0} (called : C → ℕ → C → Type 0) (count : C → ℕ
 
   pub act_lock : (id : ℕ) (c : C) (k k' w : R) (n : ℕ) → RaisedOnce step view id k k' n →
       (a : Acts called count step view [] (id ∷ []) [] (record { calls = c; lock = k; low = w }) (record { calls = c; lock = k'; low = w })) × (n ≡ losses a.lock_way + losses a.low_way)
-  act_lock id c k k' w n (answer, taught, is) = (record { lock_way = Raises id answer ∷ []; low_way = []; called_in_order = refl; counted = λ q. omega arith; lock_goes = (k', taught, refl); low_goes = refl;
-      lock_raises = (refl, tt); low_raises = tt }, omega (arith, is))
+  act_lock id c k k' w n (answer, taught, is) = (
+    record {
+      lock_way = Raises id answer ∷ [];
+      low_way = [];
+      called_in_order = refl;
+      counted = λ q. omega arith;
+      lock_goes = (k', taught, refl);
+      low_goes = refl;
+      lock_raises = (refl, tt);
+      low_raises = tt;
+    },
+    omega (arith, is),
+  )
 
   pub act_low : (id : ℕ) (c : C) (k w w' : R) (n : ℕ) → RaisedOnce step view id w w' n →
       (a : Acts called count step view [] [] (id ∷ []) (record { calls = c; lock = k; low = w }) (record { calls = c; lock = k; low = w' })) × (n ≡ losses a.lock_way + losses a.low_way)
-  act_low id c k w w' n (answer, taught, is) = (record { lock_way = []; low_way = Raises id answer ∷ []; called_in_order = refl; counted = λ q. omega arith; lock_goes = refl; low_goes = (w', taught, refl);
-      lock_raises = tt; low_raises = (refl, tt) }, omega (arith, is))
+  act_low id c k w w' n (answer, taught, is) = (
+    record {
+      lock_way = [];
+      low_way = Raises id answer ∷ [];
+      called_in_order = refl;
+      counted = λ q. omega arith;
+      lock_goes = refl;
+      low_goes = (w', taught, refl);
+      lock_raises = tt;
+      low_raises = (refl, tt);
+    },
+    omega (arith, is),
+  )
 
 -- one expiration at its level
 module _ {C R : Type 0} (called : C → ℕ → C → Type 0) (count : C → ℕ → ℕ) (step : R → FiringCall → R → Type 0) (view : R → FiringView) where

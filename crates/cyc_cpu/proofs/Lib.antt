@@ -4,3 +4,5 @@ pub mod Nexts
 pub mod Readying
 pub mod Making
 pub mod Stepping
+pub mod Widening
+pub mod Cyclics

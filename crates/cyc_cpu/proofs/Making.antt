@@ -1,24 +1,20 @@
 -- What one expiration adds to those that a fire has made.
-use Rattle.std.proofs.Common.{◌≡◌, ◌≢◌, ℕ, zero, suc, ◌+◌, ◌-◌, ◌<◌, ◌≤◌, ◌^◌, ◌==◌, ◌⊎◌, inl, inr, Bool, true, false, cond, eqb, Option, Some, None, List, [], ◌∷◌, ◌++◌, All, refl, sym, ap, ◌∙◌, subst, arith, length, get_or, find, filter, map, eq-eqb, length-append}
+use Rattle.std.proofs.Common.{◌≡◌, ◌≢◌, ℕ, zero, suc, ◌+◌, ◌<◌, ◌==◌, inl, inr, Bool, true, false, cond, eqb, Some, List, [], ◌∷◌, ◌++◌, refl, sym, ap, ◌∙◌, subst, arith, length, get_or, filter, map, eq-eqb}
 use Rattle.std.proofs.Math.ListN.{set}
 use Rattle.std.proofs.lemmas.Bool.{cases_lt, cases_eq}
 use Rattle.std.proofs.lemmas.Bool.Decides.{nat_tests}
-use Rattle.std.proofs.lemmas.List.{length-set, length-map, get_or-set_same, get_or-set_other, get_or_default, get_or-map, same_lists, map-append, map-set}
+use Rattle.std.proofs.lemmas.List.{length-set, length-map, get_or-set_same, get_or-set_other, get_or-map, same_lists, map-append}
 use Rattle.std.proofs.lemmas.List.Elements.{filter-append}
-use Rattle.cyc_types.specs.Firing.{FiringView, FiringCall, Admits, Loads, Raises, Marks, Polls, Expands, Looks, Learns, Sound}
+use Rattle.cyc_types.specs.Firing.{FiringView, FiringCall, Admits, Loads, Raises, Marks, Polls, Expands, Looks}
 use Rattle.cyc_types.specs.Runs.{Goes, lost_by}
 use Rattle.cyc_types.proofs.Runs.{lost_on}
-use Rattle.cyc_types.specs.declared.firing.Raised.{Raised}
 use Rattle.cyc_types.specs.declared.firing.Raised.TheVariants.{First, More, Lost}
 use Rattle.cyc_types.specs.declared.level.Level.{Level}
-use Rattle.cyc_types.specs.declared.level.Level.TheVariants.{Low, Lock, High}
-use Rattle.cyc_expirations.specs.Expirations.{Expiration, after, all_after, times_of, next_of}
+use Rattle.cyc_expirations.specs.Expirations.{Expiration, after, all_after}
 use Rattle.cyc_expirations.specs.Timers.{Timer, HasDistinctIds}
 use Rattle.cyc_expirations.proofs.Firings.{Firing}
-use Rattle.cyc_cpu.specs.Rows.{Row, Cyclic, IsRow, IsRising, timers, timers_of, cyclic_of, cyclics_of}
-use Rattle.cyc_cpu.specs.Acts.{Sides, Acts, AreRaises, loss_in, losses, id_at, ids_at, is_at, is_of, same_level, timer_of, lost_after}
-use Rattle.cyc_cpu.specs.Cpu.{Makes}
-use Rattle.cyc_cpu.proofs.Acting.{One}
+use Rattle.cyc_cpu.specs.Rows.{Row, Cyclic, IsRow, IsRising, timers_of, cyclic_of, cyclics_of}
+use Rattle.cyc_cpu.specs.Acts.{AreRaises, loss_in, losses, id_at, ids_at, is_at, is_of, same_level, timer_of, lost_after}
 use Rattle.cyc_cpu.proofs.Readying.{Edits, edits}
 use Rattle.cyc_cpu.proofs.Tables.{timer_of_row, timers_long}
 
@@ -35,8 +31,8 @@ raised_edits step view id e f (Looks x ∷ way) n a g is = absurd a.0
 raised_edits step view id e f (Raises j x ∷ (c ∷ way)) n a g is = absurd a.1
 raised_edits step view id e f (Raises j x ∷ []) n a (m, (stepped, learns), last) is =
     subst (λ k. Edits (view e) (view f) id k) (let z : loss_in (Raises j x) ≡ n = omega (arith, is) in z)
-      (subst (λ k. Edits (view e) (view f) k (loss_in (Raises j x))) a.0
-        (subst (λ q. Edits (view e) (view q) j (loss_in (Raises j x))) last (edits (view e) (view m) j x learns)))
+    (subst (λ k. Edits (view e) (view f) k (loss_in (Raises j x))) a.0
+    (subst (λ q. Edits (view e) (view q) j (loss_in (Raises j x))) last (edits (view e) (view m) j x learns)))
 
 -- an end that was not
 pub same_end : {R : Type 0} (step : R → FiringCall → R → Type 0) (view : R → FiringView) (e f : R) (way : List FiringCall) → AreRaises [] way → Goes step view e way f → (f ≡ e) × (losses way ≡ 0)
@@ -84,10 +80,10 @@ distinct rows rising i j d low_i low_j same =
     let a = ap (λ (t : Timer). t.id) (timer_of_row rows i d e li) in
     let b = ap (λ (t : Timer). t.id) (timer_of_row rows j d e lj) in
     elim (cases_eq i j) [
-      inl eq ↦ eq
-    | inr ne ↦ elim (cases_lt i j) [
-        inl less ↦ let h = rising i j e less lj in absurd (omega (arith, h, a, b, same))
-      | inr more ↦ let h = rising j i e (omega (arith, more, ne)) li in absurd (omega (arith, h, a, b, same))
+      | inl eq ↦ eq
+      | inr ne ↦ elim (cases_lt i j) [
+        | inl less ↦ let h = rising i j e less lj in absurd (omega (arith, h, a, b, same))
+        | inr more ↦ let h = rising j i e (omega (arith, more, ne)) li in absurd (omega (arith, h, a, b, same))
       ]
     ]
 
@@ -120,9 +116,11 @@ unfolding all_after
 origin now made ts cur i t f distinct low is =
     let long : length cur ≡ length ts = ap length f.is ∙ length-map ts (after now made) in
     let within : i < length ts = omega (arith, long) in
-    let from : t ≡ after now made (get_or ts i t) = is ∙ ap (λ xs. get_or xs i t) f.is ∙ get_or-map (after now made) ts i t t within in
-    (get_or ts i t, ap (λ id. timer_of id ts) (ap (λ (x : Timer). x.id) from ∙ after_id now made (get_or ts i t)) ∙ found_at ts i t distinct within,
-     sym (after_level now made (get_or ts i t)) ∙ sym (ap (λ (x : Timer). x.level) from))
+    let from : t ≡ after now made (get_or ts i t) = is ∙ ap (λ xs. get_or xs i t) f.is ∙ get_or-map (after now made) ts i t t within in (
+      get_or ts i t,
+      ap (λ id. timer_of id ts) (ap (λ (x : Timer). x.id) from ∙ after_id now made (get_or ts i t)) ∙ found_at ts i t distinct within,
+      sym (after_level now made (get_or ts i t)) ∙ sym (ap (λ (x : Timer). x.level) from),
+    )
 
 -- the id at a place never changes
 pub same_id : (now : ℕ) (made : List Expiration) (ts cur : List Timer) (i : ℕ) (d : Timer) → cur ≡ all_after now made ts → i < length cur → (get_or cur i d).id ≡ (get_or ts i d).id
@@ -173,24 +171,24 @@ module _ (k w kk ww : List FiringCall) (cs : List Cyclic) (rows : List Row) (i :
       let l4 = ap length was in
       let long_cs : length cs ≡ length rows = omega (arith, l0, l2, l4) in
       same_lists (map (λ c. c.lost) (cyclics_of rows')) (map f' cs) (omega (arith, l1, l3, long, long_cs)) (λ j d h.
-        let low : j < length rows = omega (arith, h, l1, long) in
-        let c0 : Cyclic = get_or cs j (cyclic_of r) in
-        let left = lost_of_row rows' j d r (omega (arith, low, long)) in
-        let right = get_or-map f' cs j (cyclic_of r) d (omega (arith, low, long_cs)) in
-        let old : (get_or rows j r).lost ≡ f c0 = sym (lost_of_row rows j d r low) ∙ ap (λ xs. get_or xs j d) was ∙ get_or-map f cs j (cyclic_of r) d (omega (arith, low, long_cs)) in
-        let id0 = same j (cyclic_of r) r low in
-        let a = lost_on c0.timer.id k kk in
-        let b = lost_on c0.timer.id w ww in
-        elim (cases_eq j i) [
-          inl eq ↦
+      let low : j < length rows = omega (arith, h, l1, long) in
+      let c0 : Cyclic = get_or cs j (cyclic_of r) in
+      let left = lost_of_row rows' j d r (omega (arith, low, long)) in
+      let right = get_or-map f' cs j (cyclic_of r) d (omega (arith, low, long_cs)) in
+      let old : (get_or rows j r).lost ≡ f c0 = sym (lost_of_row rows j d r low) ∙ ap (λ xs. get_or xs j d) was ∙ get_or-map f cs j (cyclic_of r) d (omega (arith, low, long_cs)) in
+      let id0 = same j (cyclic_of r) r low in
+      let a = lost_on c0.timer.id k kk in
+      let b = lost_on c0.timer.id w ww in
+      elim (cases_eq j i) [
+        | inl eq ↦
             (let at : get_or rows j r ≡ r = ap (λ m. get_or rows m r) eq ∙ is_r.1 in
-             let is_id : c0.timer.id ≡ id = id0 ∙ ap (λ (x : Row). x.timer.id) at ∙ named in
-             let new : (get_or rows' j r).lost ≡ u.lost = ap (λ (x : Row). x.lost) (ap (λ m. get_or rows' m r) eq ∙ get_or-set_same rows i u r is_r.0) in
-             let own' : lost_by c0.timer.id kk + lost_by c0.timer.id ww ≡ n = ap (λ q. lost_by q kk + lost_by q ww) is_id ∙ own in
-             let was_lost = ap (λ (x : Row). x.lost) at in
-             omega (arith, left, right, old, new, own', was_lost, lost, a, b))
+            let is_id : c0.timer.id ≡ id = id0 ∙ ap (λ (x : Row). x.timer.id) at ∙ named in
+            let new : (get_or rows' j r).lost ≡ u.lost = ap (λ (x : Row). x.lost) (ap (λ m. get_or rows' m r) eq ∙ get_or-set_same rows i u r is_r.0) in
+            let own' : lost_by c0.timer.id kk + lost_by c0.timer.id ww ≡ n = ap (λ q. lost_by q kk + lost_by q ww) is_id ∙ own in
+            let was_lost = ap (λ (x : Row). x.lost) at in
+            omega (arith, left, right, old, new, own', was_lost, lost, a, b))
         | inr ne ↦
             (let new : (get_or rows' j r).lost ≡ (get_or rows j r).lost = ap (λ (x : Row). x.lost) (get_or-set_other rows i j u r ne) in
-             let (x, y) = other c0.timer.id (λ q. apart j r low ne (sym id0 ∙ q)) in
-             omega (arith, left, right, old, new, x, y, a, b))
-        ])
+            let (x, y) = other c0.timer.id (λ q. apart j r low ne (sym id0 ∙ q)) in
+            omega (arith, left, right, old, new, x, y, a, b))
+      ])

@@ -1,20 +1,21 @@
 -- One expiration leaves both ends ready for the next.
-use Rattle.std.proofs.Common.{◌≡◌, ◌≢◌, ℕ, zero, suc, ◌+◌, ◌-◌, ◌<◌, ◌≤◌, ◌^◌, ◌⊎◌, inl, inr, Bool, true, false, cond, eqb, Option, Some, None, List, [], ◌∷◌, All, refl, sym, ap, ◌∙◌, subst, arith, length, get_or, eq-eqb}
+use Rattle.std.proofs.Common.{◌≡◌, ◌≢◌, ℕ, ◌+◌, ◌-◌, ◌<◌, ◌≤◌, ◌^◌, ◌⊎◌, inl, inr, Bool, true, false, cond, eqb, Option, Some, None, List, [], ◌∷◌, refl, sym, ap, ◌∙◌, subst, arith, length, get_or, eq-eqb}
 use Rattle.std.proofs.Math.ListN.{set}
 use Rattle.std.proofs.lemmas.Bool.{cases_lt, cases_eq}
 use Rattle.std.proofs.lemmas.Bool.Decides.{nat_tests}
 use Rattle.std.proofs.lemmas.List.{length-set, get_or-set_same, get_or-set_other, get_or_default}
 use Rattle.std.proofs.lemmas.List.Elements.{All-set}
 use Rattle.cyc_types.specs.Series.{never}
-use Rattle.cyc_types.specs.Firing.{FiringView, FiringCall, Raises, Learns, Sound, Stay, Stays, IsAdmitted, MayRaise, edited, edit_stay}
+use Rattle.cyc_types.specs.Firing.{FiringView, FiringCall, Raises, Loads, Looks, Learns, Sound, Stay, MayRaise, edited, edit_stay}
 use Rattle.cyc_types.specs.Runs.{Goes}
 use Rattle.cyc_types.specs.declared.firing.Raised.{Raised}
 use Rattle.cyc_types.specs.declared.firing.Raised.TheVariants.{First, More, Lost}
 use Rattle.cyc_types.specs.declared.level.Level.{Level}
 use Rattle.cyc_types.specs.declared.level.Level.TheVariants as level
 use Rattle.cyc_cpu.specs.Rows.{Row, IsRow, IsRising}
-use Rattle.cyc_cpu.specs.Acts.{Sides, AreRaises, IsRaise, loss_in, losses, id_at}
-use Rattle.cyc_cpu.specs.Ends.{HasStay, IsEnd, IsCounted}
+use Rattle.cyc_cpu.specs.Acts.{loss_in}
+use Rattle.cyc_cpu.specs.Ends.{HasStay, IsEnd, IsCounted, IsHard}
+use Rattle.cyc_cpu.specs.Quiet.{asks_at}
 
 -- a row after one of its expirations, of which this many were lost
 pub record Advances (r u : Row) (n : ℕ) : Type 0 where
@@ -27,9 +28,9 @@ pub record Advances (r u : Row) (n : ℕ) : Type 0 where
 -- a row after a change of one row
 pub row_cases : (rows : List Row) (i k : ℕ) (u x : Row) → i < length rows → IsRow (set rows i u) k x → ((k ≡ i) × (x ≡ u)) ⊎ ((k ≢ i) × IsRow rows k x)
 row_cases rows i k u x low is = elim (cases_eq k i) [
-    inl same ↦ inl (same, sym is.1 ∙ ap (λ n. get_or (set rows i u) n x) same ∙ get_or-set_same rows i u x low)
+  | inl same ↦ inl (same, sym is.1 ∙ ap (λ n. get_or (set rows i u) n x) same ∙ get_or-set_same rows i u x low)
   | inr ne ↦ inr (ne, ((let l = length-set rows i u in let a = is.0 in omega (arith, l, a)), sym (get_or-set_other rows i k u x ne) ∙ is.1))
-  ]
+]
 
 pub row_kept : (rows : List Row) (i k : ℕ) (u x : Row) → k ≢ i → IsRow rows k x → IsRow (set rows i u) k x
 row_kept rows i k u x ne is = ((let l = length-set rows i u in let a = is.0 in omega (arith, l, a)), get_or-set_other rows i k u x ne ∙ is.1)
@@ -44,9 +45,9 @@ ids_apart rows i k r x rising is_r is_x ne same =
     let e : (get_or rows k r).timer.id ≡ x.timer.id = ap (λ (y : Row). y.timer.id) (sym x_at ∙ is_x.1) in
     let f : (get_or rows i r).timer.id ≡ r.timer.id = ap (λ (y : Row). y.timer.id) is_r.1 in
     elim (cases_lt i k) [
-        inl less ↦ let h = rising i k r less is_x.0 in absurd (omega (arith, h, e, f, same))
+      | inl less ↦ let h = rising i k r less is_x.0 in absurd (omega (arith, h, e, f, same))
       | inr more ↦ let h = rising k i r (omega (arith, more, ne)) is_r.0 in absurd (omega (arith, h, e, f, same))
-      ]
+    ]
 
 -- a raise edits the stay of its id alone
 pub record Edits (v w : FiringView) (id n : ℕ) : Type 0 where
@@ -91,61 +92,61 @@ module _ (soft : Level) (size : ℕ) (marked : Option ℕ) (v : FiringView) (row
 
   removed_still : (k : ℕ) (x : Row) → IsRow (set rows i u) k x → marked ≡ Some x.timer.id → x.timer.moment ≡ never
   removed_still k x is_x h = elim (row_cases rows i k u x is.0 is_x) [
-      inl (same, eq) ↦ absurd (not_marked (h ∙ ap (λ (y : Row). Some y.timer.id) eq ∙ ap Some adv.id))
+    | inl (same, eq) ↦ absurd (not_marked (h ∙ ap (λ (y : Row). Some y.timer.id) eq ∙ ap Some adv.id))
     | inr (ne, old) ↦ ready.removed k x old h
-    ]
+  ]
 
   -- the end at which the cyclic was raised
   pub end_raised : (w : FiringView) (e : Edits v w r.timer.id n) → r.timer.level ≡ soft → Sound w → IsEnd soft size marked w (set rows i u)
   end_raised w e at sound = record {
-      sound = sound;
-      free = ap (λ (x : FiringView). x.hand_free) e.is ∙ ready.free;
-      size_is = ready.size_is ∙ ap (λ (x : FiringView). 2 ^ x.bank) (sym e.is);
-      marked_is = ap (λ (x : FiringView). x.marked) e.is ∙ ready.marked_is;
-      here = λ k x is_x at_x. elim (row_cases rows i k u x is.0 is_x) [
-          inl (same, eq) ↦
-            (let (s, stay, (index, sent, lost)) = ready.here i r is at in
-             let to = same_stay v w r.timer.id n e s stay in
-             let i1 = e.index s in let i2 = e.sent s in let i3 = e.lost s in
-             let a1 = adv.index in let a2 = adv.expired in let a3 = adv.lost in
-             subst (HasStay w) (sym eq) (e.f s, ap w.stays adv.id ∙ to, (i1 ∙ index ∙ sym a1, omega (arith, i2, sent, a2), omega (arith, i3, lost, a3))))
-        | inr (ne, old) ↦
-            (let (s, stay, rest) = ready.here k x old at_x in
-             (s, other_stay v w r.timer.id n e x.timer.id (ids_apart rows i k r x rising is old ne) ∙ stay, rest))
-        ];
-      only = λ id s h.
+    sound = sound;
+    free = ap (λ (x : FiringView). x.hand_free) e.is ∙ ready.free;
+    size_is = ready.size_is ∙ ap (λ (x : FiringView). 2 ^ x.bank) (sym e.is);
+    marked_is = ap (λ (x : FiringView). x.marked) e.is ∙ ready.marked_is;
+    here = λ k x is_x at_x. elim (row_cases rows i k u x is.0 is_x) [
+      | inl (same, eq) ↦
+          (let (s, stay, (index, sent, lost)) = ready.here i r is at in
+          let to = same_stay v w r.timer.id n e s stay in
+          let i1 = e.index s in let i2 = e.sent s in let i3 = e.lost s in
+          let a1 = adv.index in let a2 = adv.expired in let a3 = adv.lost in
+          subst (HasStay w) (sym eq) (e.f s, ap w.stays adv.id ∙ to, (i1 ∙ index ∙ sym a1, omega (arith, i2, sent, a2), omega (arith, i3, lost, a3))))
+      | inr (ne, old) ↦
+          (let (s, stay, rest) = ready.here k x old at_x in
+          (s, other_stay v w r.timer.id n e x.timer.id (ids_apart rows i k r x rising is old ne) ∙ stay, rest))
+    ];
+    only = λ id s h.
         let (t, was) = was_stay v w r.timer.id n e id s h in
         let (k, x, is_x, named, at_x) = ready.only id t was in
         elim (cases_eq k i) [
-          inl same ↦
-            (let x_is : x ≡ r = sym is_x.1 ∙ ap (λ m. get_or rows m x) same ∙ get_or_default rows i x r is.0 ∙ is.1 in
-             (i, u, row_new rows i u is.0, adv.id ∙ ap (λ (y : Row). y.timer.id) (sym x_is) ∙ named, adv.level ∙ at))
-        | inr ne ↦ (k, x, row_kept rows i k u x ne is_x, named, at_x)
+          | inl same ↦
+              (let x_is : x ≡ r = sym is_x.1 ∙ ap (λ m. get_or rows m x) same ∙ get_or_default rows i x r is.0 ∙ is.1 in
+              (i, u, row_new rows i u is.0, adv.id ∙ ap (λ (y : Row). y.timer.id) (sym x_is) ∙ named, adv.level ∙ at))
+          | inr ne ↦ (k, x, row_kept rows i k u x ne is_x, named, at_x)
         ];
-      removed = removed_still;
-    }
+    removed = removed_still;
+  }
 
   -- the end at which it was not
   pub end_other : r.timer.level ≢ soft → IsEnd soft size marked v (set rows i u)
   end_other off = record {
-      sound = ready.sound;
-      free = ready.free;
-      size_is = ready.size_is;
-      marked_is = ready.marked_is;
-      here = λ k x is_x at_x. elim (row_cases rows i k u x is.0 is_x) [
-          inl (same, eq) ↦ absurd (off (sym adv.level ∙ ap (λ (y : Row). y.timer.level) (sym eq) ∙ at_x))
-        | inr (ne, old) ↦ ready.here k x old at_x
-        ];
-      only = λ id s h.
+    sound = ready.sound;
+    free = ready.free;
+    size_is = ready.size_is;
+    marked_is = ready.marked_is;
+    here = λ k x is_x at_x. elim (row_cases rows i k u x is.0 is_x) [
+      | inl (same, eq) ↦ absurd (off (sym adv.level ∙ ap (λ (y : Row). y.timer.level) (sym eq) ∙ at_x))
+      | inr (ne, old) ↦ ready.here k x old at_x
+    ];
+    only = λ id s h.
         let (k, x, is_x, named, at_x) = ready.only id s h in
         elim (cases_eq k i) [
-          inl same ↦
-            (let x_is : x ≡ r = sym is_x.1 ∙ ap (λ m. get_or rows m x) same ∙ get_or_default rows i x r is.0 ∙ is.1 in
-             absurd (off (ap (λ (y : Row). y.timer.level) (sym x_is) ∙ at_x)))
-        | inr ne ↦ (k, x, row_kept rows i k u x ne is_x, named, at_x)
+          | inl same ↦
+              (let x_is : x ≡ r = sym is_x.1 ∙ ap (λ m. get_or rows m x) same ∙ get_or_default rows i x r is.0 ∙ is.1 in
+              absurd (off (ap (λ (y : Row). y.timer.level) (sym x_is) ∙ at_x)))
+          | inr ne ↦ (k, x, row_kept rows i k u x ne is_x, named, at_x)
         ];
-      removed = removed_still;
-    }
+    removed = removed_still;
+  }
 
   -- the cyclic may be raised
   pub may_raise : r.timer.level ≡ soft → r.timer.expired < 2 ^ 64 - 1 → MayRaise r.timer.id v
@@ -158,3 +159,127 @@ counted_still most rows i r u n counted is adv few less =
     let old = subst (λ (x : Row). (x.lost ≤ x.timer.expired) × (x.timer.expired ≤ most)) is.1 (counted i r is.0) in
     let a = adv.expired in let b = adv.lost in
     All-set (λ (x : Row). (x.lost ≤ x.timer.expired) × (x.timer.expired ≤ most)) rows i u (omega (arith, old, a, b, few), omega (arith, a, less)) counted
+
+-- an end after a change of one row that leaves its id, level, index and counts
+pub record Keeps (r u : Row) : Type 0 where
+  pub id : u.timer.id ≡ r.timer.id
+  pub level : u.timer.level ≡ r.timer.level
+  pub index : u.index ≡ r.index
+  pub expired : u.timer.expired ≡ r.timer.expired
+  pub lost : u.lost ≡ r.lost
+
+pub end_moved : (soft : Level) (size : ℕ) (marked : Option ℕ) (v : FiringView) (rows : List Row) (i : ℕ) (r u : Row) → IsEnd soft size marked v rows → IsRow rows i r → Keeps r u → marked ≢ Some r.timer.id →
+    IsEnd soft size marked v (set rows i u)
+end_moved soft size marked v rows i r u ready is keep unmarked = record {
+  sound = ready.sound;
+  free = ready.free;
+  size_is = ready.size_is;
+  marked_is = ready.marked_is;
+  here = λ k x is_x at_x. elim (row_cases rows i k u x is.0 is_x) [
+    | inl (same, eq) ↦
+        (let (s, stay, (index, sent, lost)) = ready.here i r is (sym keep.level ∙ ap (λ (y : Row). y.timer.level) (sym eq) ∙ at_x) in
+        let a = keep.index in let b = keep.expired in let c = keep.lost in
+        subst (HasStay v) (sym eq) (s, ap v.stays keep.id ∙ stay, (index ∙ sym a, omega (arith, sent, b), omega (arith, lost, c))))
+    | inr (ne, old) ↦ ready.here k x old at_x
+  ];
+  only = λ id s h.
+      let (k, x, is_x, named, at_x) = ready.only id s h in
+      elim (cases_eq k i) [
+        | inl same ↦
+            (let x_is : x ≡ r = sym is_x.1 ∙ ap (λ m. get_or rows m x) same ∙ get_or_default rows i x r is.0 ∙ is.1 in
+            (i, u, row_new rows i u is.0, keep.id ∙ ap (λ (y : Row). y.timer.id) (sym x_is) ∙ named, keep.level ∙ ap (λ (y : Row). y.timer.level) (sym x_is) ∙ at_x))
+        | inr ne ↦ (k, x, row_kept rows i k u x ne is_x, named, at_x)
+      ];
+  removed = λ k x is_x h. elim (row_cases rows i k u x is.0 is_x) [
+    | inl (same, eq) ↦ absurd (unmarked (h ∙ ap (λ (y : Row). Some y.timer.id) eq ∙ ap Some keep.id))
+    | inr (ne, old) ↦ ready.removed k x old h
+  ];
+}
+
+pub counted_moved : (most : ℕ) (rows : List Row) (i : ℕ) (r u : Row) → IsCounted most rows → IsRow rows i r → Keeps r u → IsCounted most (set rows i u)
+counted_moved most rows i r u counted is keep =
+    let old = subst (λ (x : Row). (x.lost ≤ x.timer.expired) × (x.timer.expired ≤ most)) is.1 (counted i r is.0) in
+    let a = keep.expired in let b = keep.lost in
+    All-set (λ (x : Row). (x.lost ≤ x.timer.expired) × (x.timer.expired ≤ most)) rows i u (omega (arith, old, a, b), omega (arith, old, a)) counted
+
+-- an end of which nothing changed but what was seen
+pub record KeepsStays (v w : FiringView) : Type 0 where
+  pub to : (id : ℕ) (s : Stay) → v.stays id ≡ Some s → (t : Stay) × (w.stays id ≡ Some t) × (t.index ≡ s.index) × (t.sent ≡ s.sent) × (t.lost ≡ s.lost)
+  pub from : (id : ℕ) (t : Stay) → w.stays id ≡ Some t → (s : Stay) × (v.stays id ≡ Some s)
+  pub marked : w.marked ≡ v.marked
+  pub bank : w.bank ≡ v.bank
+  pub free : w.hand_free ≡ v.hand_free
+
+pub end_kept : (soft : Level) (size : ℕ) (marked : Option ℕ) (v w : FiringView) (rows : List Row) → IsEnd soft size marked v rows → KeepsStays v w → Sound w → IsEnd soft size marked w rows
+end_kept soft size marked v w rows ready keep sound = record {
+  sound = sound;
+  free = keep.free ∙ ready.free;
+  size_is = ready.size_is ∙ ap (λ n. 2 ^ n) (sym keep.bank);
+  marked_is = keep.marked ∙ ready.marked_is;
+  here = λ k r is at. (let (s, stay, (index, sent, lost)) = ready.here k r is at in
+      let (t, there, i1, i2, i3) = keep.to r.timer.id s stay in
+      (t, there, (i1 ∙ index, omega (arith, sent, i2), omega (arith, lost, i3))));
+  only = λ id t h. (let (s, was) = keep.from id t h in ready.only id s was);
+  removed = ready.removed;
+}
+
+stay_to : (b : Bool) (n : ℕ) (o : Option Stay) (s : Stay) → o ≡ Some s → (t : Stay) × (cond b (edited (λ s. record s { seen = n }) o) o ≡ Some t) × (t.index ≡ s.index) × (t.sent ≡ s.sent) × (t.lost ≡ s.lost)
+stay_to true n o s h = (record s { seen = n }, ap (edited (λ s. record s { seen = n })) h, refl, refl, refl)
+stay_to false n o s h = (s, h, refl, refl, refl)
+
+-- what a load leaves
+pub loads_keep : (v w : FiringView) (id n : ℕ) → Learns v (Loads id n) w → KeepsStays v w
+loads_keep v w id n l = record {
+  to = λ j s h. (let (t, there, i1, i2, i3) = stay_to (eqb j id) n (v.stays j) s h in (t, ap (λ (x : FiringView). x.stays j) l.1 ∙ there, i1, i2, i3));
+  from = λ j t h. stay_was (λ s. record s { seen = n }) (eqb j id) (v.stays j) t (sym (ap (λ (x : FiringView). x.stays j) l.1) ∙ h);
+  marked = ap (λ (x : FiringView). x.marked) l.1;
+  bank = ap (λ (x : FiringView). x.bank) l.1;
+  free = ap (λ (x : FiringView). x.hand_free) l.1;
+}
+
+-- what a look leaves
+pub looks_keep : (v w : FiringView) (answer : Bool) → Learns v (Looks answer) w → KeepsStays v w
+looks_keep v w answer l = record {
+  to = λ j s h. (s, ap (λ (x : FiringView). x.stays j) l.1 ∙ h, refl, refl, refl);
+  from = λ j t h. (t, sym (ap (λ (x : FiringView). x.stays j) l.1) ∙ h);
+  marked = ap (λ (x : FiringView). x.marked) l.1;
+  bank = ap (λ (x : FiringView). x.bank) l.1;
+  free = ap (λ (x : FiringView). x.hand_free) l.1;
+}
+
+-- the CPU after a change of one row that leaves its id, level, index and counts
+pub hard_moved : {R : Type 0} (view : R → FiringView) (size most : ℕ) (removal : Option ℕ) (lock low : R) (rows : List Row) (i : ℕ) (r u : Row) → IsHard view size most removal lock low rows → IsRow rows i r → Keeps r u →
+    removal ≢ Some r.timer.id → IsHard view size most removal lock low (set rows i u)
+hard_moved view size most removal lock low rows i r u h is keep still = record {
+  ready = record {
+    lock_end = end_moved level.Lock size (view lock).marked (view lock) rows i r u h.ready.lock_end is keep (λ q. still (h.lock_marked r.timer.id q));
+    low_end = end_moved level.Low size (view low).marked (view low) rows i r u h.ready.low_end is keep (λ q. still (h.low_marked r.timer.id q));
+    counted = counted_moved most rows i r u h.ready.counted is keep;
+  };
+  lock_marked = h.lock_marked;
+  low_marked = h.low_marked;
+}
+
+-- the CPU after calls of the ends that leave their stays
+pub hard_kept : {R : Type 0} (view : R → FiringView) (size most : ℕ) (removal : Option ℕ) (lock low lock' low' : R) (rows : List Row) → IsHard view size most removal lock low rows →
+    KeepsStays (view lock) (view lock') → Sound (view lock') → KeepsStays (view low) (view low') → Sound (view low') → IsHard view size most removal lock' low' rows
+hard_kept view size most removal lock low lock' low' rows h k sk w sw = record {
+  ready = record {
+    lock_end = subst (λ m. IsEnd level.Lock size m (view lock') rows) (sym k.marked) (end_kept level.Lock size (view lock).marked (view lock) (view lock') rows h.ready.lock_end k sk);
+    low_end = subst (λ m. IsEnd level.Low size m (view low') rows) (sym w.marked) (end_kept level.Low size (view low).marked (view low) (view low') rows h.ready.low_end w sw);
+    counted = h.ready.counted;
+  };
+  lock_marked = λ id q. h.lock_marked id (sym k.marked ∙ q);
+  low_marked = λ id q. h.low_marked id (sym w.marked ∙ q);
+}
+
+pub keeps_itself : (v : FiringView) → KeepsStays v v
+keeps_itself v = record { to = λ id s h. (s, h, refl, refl, refl); from = λ id t h. (t, h); marked = refl; bank = refl; free = refl }
+
+asked_keep : {R : Type 0} (step : R → FiringCall → R → Type 0) (view : R → FiringView) (b : Bool) (id n : ℕ) (e f : R) → Goes step view e (cond b (Loads id n ∷ []) []) f → KeepsStays (view e) (view f)
+asked_keep step view true id n e f (m, (stepped, learns), last) = subst (λ x. KeepsStays (view e) (view x)) last (loads_keep (view e) (view m) id n learns)
+asked_keep step view false id n e f g = subst (λ x. KeepsStays (view e) (view x)) g (keeps_itself (view e))
+
+-- an end that may have been asked
+pub asks_keep : {R : Type 0} (step : R → FiringCall → R → Type 0) (view : R → FiringView) (l own : Level) (id n : ℕ) (e f : R) → Goes step view e (asks_at l own id n) f → KeepsStays (view e) (view f)
+asks_keep step view l own id n e f g = asked_keep step view _ id n e f g

@@ -1,19 +1,18 @@
 -- Lemmas on a table: what a place, an index and the root have, and what a change at one index leaves.
-use Rattle.std.proofs.Common.{◌≡◌, ◌≢◌, ℕ, zero, suc, ◌+◌, ◌-◌, ◌<◌, ◌≤◌, ◌⊎◌, inl, inr, Bool, true, false, cond, List, [], ◌∷◌, ◌++◌, Option, Some, None, refl, sym, ap, ◌∙◌, subst, arith, length, get_or, map, take, drop, All, count_by, option_map}
-use Rattle.std.proofs.Math.ListN.{set, replicate}
-use Rattle.std.specs.Prelude.{is_some, insert, IfSome}
+use Rattle.std.proofs.Common.{◌≡◌, ◌≢◌, ℕ, suc, ◌+◌, ◌<◌, ◌≤◌, ◌⊎◌, inl, inr, cond, List, [], ◌∷◌, Option, Some, None, refl, sym, ap, ◌∙◌, subst, arith, length, get_or, map, All, count_by, option_map}
+use Rattle.std.proofs.Math.ListN.{set}
+use Rattle.std.specs.Prelude.{is_some, IfSome}
 use Rattle.cyc_heap.specs.Heap as heap
 use Rattle.cyc_heap.specs.Heap.{HeapView, IsLeast, with_moment}
 use Rattle.std.proofs.lemmas.Bool.{cases_lt, cases_eq}
-use Rattle.std.proofs.lemmas.Bool.Decides.{nat_tests}
-use Rattle.std.proofs.lemmas.List.{get_or_past, get_or-map, get_or_default, same_lists, length-map, length-set, get_or-set_same, get_or-set_other, set-get_or, take-map, drop-map, get_or_append_left, length-append, length-replicate, map-append}
-use Rattle.std.proofs.lemmas.List.Sums.{sum_by-set, sum_by-append}
+use Rattle.std.proofs.lemmas.List.{get_or_past, get_or-map, get_or_default, same_lists, length-map, length-set, get_or-set_same, get_or-set_other, set-get_or}
+use Rattle.std.proofs.lemmas.List.Sums.{sum_by-set}
 use Rattle.cyc_types.specs.Series.{never}
 use Rattle.cyc_expirations.specs.Expirations.{Expiration, is_before, next_of}
 use Rattle.cyc_expirations.specs.Timers.{Timer, IsSound}
 use Rattle.cyc_cpu.specs.declared.table.Place.{Place}
 use Rattle.cyc_cpu.specs.declared.table.Record.{Record}
-use Rattle.cyc_cpu.specs.Rows.{Row, no_record, moment_in, joined, row_of, rows_of, timers_of, IsTable, IsRow, IsRising, HasDistinctIndexes, IsFirstAt, IsRecordOf, at_moment, TableView, Cyclic, cyclic_of, cyclics_of, timers, HasNo}
+use Rattle.cyc_cpu.specs.Rows.{Row, no_record, moment_in, joined, row_of, rows_of, timers_of, IsTable, IsRow, IsRising, HasDistinctIndexes, IsFirstAt, IsRecordOf, at_moment, TableView, Cyclic, cyclic_of, cyclics_of, HasNo}
 
 abbrev pub no_place : Place
 no_place = record { id = 1; index = 0 }
@@ -21,9 +20,9 @@ no_place = record { id = 1; index = 0 }
 -- an index that is in use is below the size
 pub slot_low : (slots : List (Option Expiration)) (i : ℕ) (e : Expiration) → get_or slots i None ≡ Some e → i < length slots
 slot_low slots i e h = elim (cases_lt i (length slots)) [
-    inl low ↦ low
+  | inl low ↦ low
   | inr past ↦ let none = get_or_past slots i None past in absurd (let no : Some e ≡ None = sym h ∙ none in cc)
-  ]
+]
 
 -- what stands at a place: its row is what heap and record of its index are together
 pub record Standing (slots : List (Option Expiration)) (records : List Record) (places : List Place) (k : ℕ) (r : Row) : Type 0 where
@@ -57,9 +56,9 @@ row_at slots records places k d low = get_or-map (row_of slots records) places k
 pub apart : (slots : List (Option Expiration)) (records : List Record) (places : List Place) (i j : ℕ) → IsTable slots records places → i < length places → j < length places → i ≢ j →
     (get_or places i no_place).id ≢ (get_or places j no_place).id
 apart slots records places i j t low_i low_j ne same = elim (cases_lt i j) [
-    inl less ↦ let r = t.rising i j no_place less low_j in absurd (omega (arith, r, same))
+  | inl less ↦ let r = t.rising i j no_place less low_j in absurd (omega (arith, r, same))
   | inr more ↦ let r = t.rising j i no_place (omega (arith, more, ne)) low_i in absurd (omega (arith, r, same))
-  ]
+]
 
 pub apart_index : (slots : List (Option Expiration)) (records : List Record) (places : List Place) (i j : ℕ) → IsTable slots records places → i < length places → j < length places → i ≢ j →
     (get_or places i no_place).index ≢ (get_or places j no_place).index
@@ -95,10 +94,10 @@ changed slots records places k r s m kept t =
     let new = joined s.p.id i e kept in
     let set_long = length-set old k new in
     same_lists (map f places) (set old k new) (omega (arith, long, long_old, set_long)) (λ j d h.
-      let low : j < length places = omega (arith, h, long) in
-      let at = get_or-map f places j no_place d low in
-      elim (cases_eq j k) [
-        inl same ↦
+    let low : j < length places = omega (arith, h, long) in
+    let at = get_or-map f places j no_place d low in
+    elim (cases_eq j k) [
+      | inl same ↦
           let here : get_or places j no_place ≡ s.p = ap (λ x. get_or places x no_place) same ∙ s.is no_place in
           let there = get_or-set_same slots i e None s.below in
           let kept_there = get_or-set_same records i kept no_record (let l = t.long in let b = s.below in omega (arith, l, b)) in
@@ -109,16 +108,16 @@ changed slots records places k r s m kept t =
           let far : p.index ≢ i = λ q. apart_index slots records places j k t low s.low ne (q ∙ ap (λ (x : Place). x.index) (sym (s.is no_place))) in
           at ∙ (λ x. joined p.id p.index (get_or-set_other slots i p.index e None far x) (get_or-set_other records i p.index kept no_record far x))
           ∙ sym (row_at slots records places j d low) ∙ sym (get_or-set_other old k j new d ne)
-      ])
+    ])
 
 -- a slot after a change of one index
-slot_changed : (slots : List (Option Expiration)) (i j : ℕ) (o e : Option Expiration) → i < length slots → get_or (set slots i o) j None ≡ e → ((j ≡ i) × (o ≡ e)) ⊎ ((j ≢ i) × (get_or slots j None ≡ e))
+pub slot_changed : (slots : List (Option Expiration)) (i j : ℕ) (o e : Option Expiration) → i < length slots → get_or (set slots i o) j None ≡ e → ((j ≡ i) × (o ≡ e)) ⊎ ((j ≢ i) × (get_or slots j None ≡ e))
 slot_changed slots i j o e low h = elim (cases_eq j i) [
-    inl same ↦ inl (same, sym (get_or-set_same slots i o None low) ∙ ap (λ x. get_or (set slots i o) x None) (sym same) ∙ h)
+  | inl same ↦ inl (same, sym (get_or-set_same slots i o None low) ∙ ap (λ x. get_or (set slots i o) x None) (sym same) ∙ h)
   | inr ne ↦ inr (ne, sym (get_or-set_other slots i j o None ne) ∙ h)
-  ]
+]
 
-abbrev tally : Option Expiration → ℕ
+abbrev pub tally : Option Expiration → ℕ
 tally o = cond (is_some o) 1 0
 
 count_same : (slots : List (Option Expiration)) (i : ℕ) (e f : Expiration) → get_or slots i None ≡ Some e → count_by is_some (set slots i (Some f)) ≡ count_by is_some slots
@@ -137,7 +136,7 @@ table_changed slots records places k r s m kept t low_m some most =
     record {
       rising = t.rising;
       named = λ j d low. elim (cases_eq j k) [
-          inl same ↦
+        | inl same ↦
             let here : get_or places j d ≡ s.p = ap (λ x. get_or places x d) same ∙ s.is d in
             (m, ap (λ (p : Place). get_or (set slots i (Some new)) p.index None) here ∙ get_or-set_same slots i (Some new) None s.below ∙ ap (λ (p : Place). Some (record { moment = m; id = p.id })) (sym here))
         | inr ne ↦
@@ -145,23 +144,23 @@ table_changed slots records places k r s m kept t low_m some most =
             let same_d = get_or_default places j d no_place low in
             let far : (get_or places j d).index ≢ i = λ q. apart_index slots records places j k t low s.low ne (ap (λ (x : Place). x.index) (sym same_d) ∙ q ∙ ap (λ (x : Place). x.index) (sym (s.is no_place))) in
             (n, get_or-set_other slots i (get_or places j d).index (Some new) None far ∙ holds)
-        ];
+      ];
       covered = λ j e h. elim (slot_changed slots i j (Some new) (Some e) s.below h) [
-          inl (same, is) ↦ (k, s.low, λ d. ap (λ (x : Place). x.index) (s.is d) ∙ sym same)
+        | inl (same, is) ↦ (k, s.low, λ d. ap (λ (x : Place). x.index) (s.is d) ∙ sym same)
         | inr (ne, is) ↦ t.covered j e is
-        ];
+      ];
       long = (let a = length-set records i kept in let b = length-set slots i (Some new) in let c = t.long in omega (arith, a, b, c));
       len = count_same slots i _ new s.holds ∙ t.len;
       moments = λ j e h. elim (slot_changed slots i j (Some new) (Some e) s.below h) [
-          inl (same, is) ↦ subst (λ (x : Expiration). x.moment ≤ never) (some_is new e is) low_m
+        | inl (same, is) ↦ subst (λ (x : Expiration). x.moment ≤ never) (some_is new e is) low_m
         | inr (ne, is) ↦ t.moments j e is
-        ];
+      ];
       intervals = λ j d low. elim (cases_eq j i) [
-          inl same ↦ (let at = ap (λ x. get_or (set records i kept) x d) same ∙ get_or-set_same records i kept d (let l = t.long in let b = s.below in omega (arith, l, b)) in
+        | inl same ↦ (let at = ap (λ x. get_or (set records i kept) x d) same ∙ get_or-set_same records i kept d (let l = t.long in let b = s.below in omega (arith, l, b)) in
             subst (λ (x : Record). (0 < x.interval) × (x.interval ≤ never)) (sym at) (some, most))
         | inr ne ↦ (let at = get_or-set_other records i j kept d ne in let l = length-set records i kept in
             subst (λ (x : Record). (0 < x.interval) × (x.interval ≤ never)) (sym at) (t.intervals j d (omega (arith, low, l))))
-        ];
+      ];
     }
   where
     some_is : (a b : Expiration) → Some a ≡ Some b → a ≡ b
@@ -173,11 +172,12 @@ pub kept_at : (slots : List (Option Expiration)) (records : List Record) (places
 kept_at slots records places k r s t i kept same is =
     let low : i < length records = (let l = t.long in let b = s.below in omega (arith, l, b, same)) in
     let at : kept ≡ get_or records s.p.index no_record = is ∙ get_or_default records i kept no_record low ∙ ap (λ n. get_or records n no_record) (sym same) in
-    let row = sym s.row in
-    (ap (λ (x : Record). x.level) at ∙ ap (λ (x : Row). x.timer.level) row,
-     ap (λ (x : Record). x.interval) at ∙ ap (λ (x : Row). x.timer.interval) row,
-     ap (λ (x : Record). x.expired) at ∙ ap (λ (x : Row). x.timer.expired) row,
-     ap (λ (x : Record). x.lost) at ∙ ap (λ (x : Row). x.lost) row)
+    let row = sym s.row in (
+      ap (λ (x : Record). x.level) at ∙ ap (λ (x : Row). x.timer.level) row,
+      ap (λ (x : Record). x.interval) at ∙ ap (λ (x : Row). x.timer.interval) row,
+      ap (λ (x : Record). x.expired) at ∙ ap (λ (x : Row). x.timer.expired) row,
+      ap (λ (x : Record). x.lost) at ∙ ap (λ (x : Row). x.lost) row,
+    )
 
 -- what is left of a slot that gets another moment
 pub moved : (slots new : List (Option Expiration)) (i m id n : ℕ) → get_or slots i None ≡ Some (record { moment = m; id = id }) →
@@ -232,16 +232,23 @@ root_is h records places t (Some found) is =
     let (m, named) = t.named k no_place low in
     let same = one_slot (record { moment = m; id = p.id }) e _ named holds in
     let id : p.id ≡ found.2 = ap (λ (x : Expiration). x.id) same in
-    let moment : moment_in (get_or slots p.index None) ≡ found.1 = ap moment_in holds in
-    (k, row_of slots records p, is_row slots records places k low, at no_place, moment, id, λ j d low_j.
-      let low' : j < length places = (let l = rows_long slots records places in omega (arith, l, low_j)) in
-      let q = get_or places j no_place in
-      let (n, there) = t.named j no_place low' in
-      let before = is.least q.index (record { moment = n; id = q.id }) there in
-      let left : next_of (get_or (timers_of (rows_of slots records places)) k d) ≡ e = ap next_of (timer_at slots records places k d low) ∙ (λ i. record { moment = moment i; id = id i }) in
-      let right : next_of (get_or (timers_of (rows_of slots records places)) j d) ≡ record { moment = n; id = q.id } =
+    let moment : moment_in (get_or slots p.index None) ≡ found.1 = ap moment_in holds in (
+      k,
+      row_of slots records p,
+      is_row slots records places k low,
+      at no_place,
+      moment,
+      id,
+      λ j d low_j.
+          let low' : j < length places = (let l = rows_long slots records places in omega (arith, l, low_j)) in
+          let q = get_or places j no_place in
+          let (n, there) = t.named j no_place low' in
+          let before = is.least q.index (record { moment = n; id = q.id }) there in
+          let left : next_of (get_or (timers_of (rows_of slots records places)) k d) ≡ e = ap next_of (timer_at slots records places k d low) ∙ (λ i. record { moment = moment i; id = id i }) in
+          let right : next_of (get_or (timers_of (rows_of slots records places)) j d) ≡ record { moment = n; id = q.id } =
           ap next_of (timer_at slots records places j d low') ∙ (λ i. record { moment = moment_in (there i); id = q.id }) in
-      ap (λ (x : Expiration). is_before x (next_of (get_or (timers_of (rows_of slots records places)) j d))) left ∙ ap (is_before e) right ∙ before)
+          ap (λ (x : Expiration). is_before x (next_of (get_or (timers_of (rows_of slots records places)) j d))) left ∙ ap (is_before e) right ∙ before,
+    )
 
 -- what is true of every table
 pub rows_rise : (slots : List (Option Expiration)) (records : List Record) (places : List Place) → IsTable slots records places → IsRising (rows_of slots records places)
@@ -298,8 +305,8 @@ table_replaced slots new records places k r s m t low is =
     let kept = get_or records s.p.index no_record in
     let i = t.intervals s.p.index no_record (let l = t.long in let b = s.below in omega (arith, l, b)) in
     subst (λ xs. IsTable xs records places) (sym (moved slots new s.p.index s.m s.p.id m s.holds is))
-      (subst (λ xs. IsTable (set slots s.p.index (Some (record { moment = m; id = s.p.id }))) xs places) (set-get_or records s.p.index no_record)
-        (table_changed slots records places k r s m kept t low i.0 i.1))
+    (subst (λ xs. IsTable (set slots s.p.index (Some (record { moment = m; id = s.p.id }))) xs places) (set-get_or records s.p.index no_record)
+    (table_changed slots records places k r s m kept t low i.0 i.1))
 
 -- what stands at a place
 pub standing_at : (slots : List (Option Expiration)) (records : List Record) (places : List Place) (k : ℕ) → IsTable slots records places → k < length places →
@@ -313,21 +320,21 @@ place_low v slots records places k is low = (let l = length-map places (row_of s
 pub ids_below : (places : List Place) → ((i j : ℕ) (d : Place) → i < j → j < length places → (get_or places i d).id < (get_or places j d).id) → (id m : ℕ) (p : Place) → m < length places →
     p ≡ get_or places m p → p.id < id → (k : ℕ) (d : Place) → k < m + 1 → (get_or places k d).id < id
 ids_below places rising id m p low is less k d h = elim (cases_eq k m) [
-    inl same ↦
+  | inl same ↦
       (let e = ap (λ (x : Place). x.id) is in let f = ap (λ (x : Place). x.id) (ap (λ n. get_or places n d) same ∙ get_or_default places m d p low) in omega (arith, e, f, less))
   | inr ne ↦
       (let r = rising k m d (omega (arith, h, ne)) low in let e = ap (λ (x : Place). x.id) is in let f = ap (λ (x : Place). x.id) (get_or_default places m d p low) in omega (arith, r, e, f, less))
-  ]
+]
 
 -- the ids from the middle on are not below
 pub ids_above : (places : List Place) → ((i j : ℕ) (d : Place) → i < j → j < length places → (get_or places i d).id < (get_or places j d).id) → (id m : ℕ) (p : Place) → m < length places →
     p ≡ get_or places m p → id ≤ p.id → (k : ℕ) (d : Place) → m ≤ k → k < length places → id ≤ (get_or places k d).id
 ids_above places rising id m p low is above k d h low_k = elim (cases_eq k m) [
-    inl same ↦
+  | inl same ↦
       (let e = ap (λ (x : Place). x.id) is in let f = ap (λ (x : Place). x.id) (ap (λ n. get_or places n d) same ∙ get_or_default places m d p low) in omega (arith, e, f, above))
   | inr ne ↦
       (let r = rising m k d (omega (arith, h, ne)) low_k in let e = ap (λ (x : Place). x.id) is in let f = ap (λ (x : Place). x.id) (get_or_default places m d p low) in omega (arith, r, e, f, above))
-  ]
+]
 
 pub id_here : (places : List Place) (k : ℕ) (p : Place) → p ≡ get_or places k p → k < length places → p.id ≡ (get_or places k no_place).id
 id_here places k p is low = ap (λ (x : Place). x.id) (is ∙ get_or_default places k p no_place low)
@@ -336,14 +343,14 @@ id_here places k p is low = ap (λ (x : Place). x.id) (is ∙ get_or_default pla
 pub absent : (rows : List Row) → IsRising rows → (id q : ℕ) → ((k : ℕ) (d : Row) → k < q → (get_or rows k d).timer.id < id) → ((k : ℕ) (d : Row) → q ≤ k → k < length rows → id ≤ (get_or rows k d).timer.id) →
     ((d : Row) → q < length rows → (get_or rows q d).timer.id ≢ id) → HasNo id rows
 absent rows rising id q below above here k d low same = elim (cases_lt k q) [
-    inl less ↦ let b = below k d less in absurd (omega (arith, b, same))
+  | inl less ↦ let b = below k d less in absurd (omega (arith, b, same))
   | inr more ↦ elim (cases_eq k q) [
-      inl eq ↦ here d (let l = low in omega (arith, l, eq)) (ap (λ n. (get_or rows n d).timer.id) (sym eq) ∙ same)
+    | inl eq ↦ here d (let l = low in omega (arith, l, eq)) (ap (λ n. (get_or rows n d).timer.id) (sym eq) ∙ same)
     | inr ne ↦
         let low_q : q < length rows = omega (arith, more, low) in
         let r = rising q k d (omega (arith, more, ne)) low in
         let a = above q d (omega arith) low_q in
         let h = here d low_q in
         absurd (omega (arith, r, a, h, same))
-    ]
   ]
+]

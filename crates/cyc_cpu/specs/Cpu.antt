@@ -1,12 +1,15 @@
 -- What callers see of the firing side of one CPU.
-use Rattle.std.specs.Prelude.{◌≡◌, ◌≢◌, ℕ, ◌+◌, ◌<◌, ◌≤◌, List, map, length, slice_index_or, All, true, Option, Some, None}
+use Rattle.std.specs.Prelude.{◌≡◌, ◌≢◌, ℕ, ◌+◌, ◌<◌, ◌≤◌, List, map, length, slice_index_or, All, true, false, ◌⊎◌, Option, Some, None}
 use Rattle.cyc_types.specs.Firing.{FiringView, FiringCall}
+use Rattle.cyc_types.specs.Limits.{cyclics as most_cyclics}
+use Rattle.cyc_types.specs.Runs.{Goes}
 use Rattle.cyc_types.specs.declared.level.Level.TheVariants.{Low, Lock, High}
 use Rattle.cyc_types.specs.declared.refusal.Refusal.{Refusal}
 use Rattle.cyc_types.specs.declared.refusal.Refusal.TheVariants as why
 use Rattle.cyc_expirations.specs.Expirations.{Expiration, all_after}
 use Rattle.cyc_expirations.specs.Timers.{Timer}
 use Rattle.cyc_cpu.specs.Rows.{Cyclic, timers}
+use Rattle.cyc_cpu.specs.Quiet.{asks_at, OnlyLooks}
 use Rattle.cyc_cpu.specs.Acts.{Sides, Acts, ids_at, losses, lost_after, timer_of}
 
 -- the firing side of one CPU
@@ -49,6 +52,42 @@ HasNoCyclic id cs = All (λ c. c.timer.id ≢ id) cs
 -- the cyclic with another moment
 abbrev pub with_moment : ℕ → Cyclic → Cyclic
 with_moment m c = record c { timer = record c.timer { moment = m } }
+
+-- the cyclic was asked for at its end, which answered so many calls outstanding; nothing else was done
+pub record Asks {R : Type 0} (step : R → FiringCall → R → Type 0) (view : R → FiringView) (id n : ℕ) (v w : CpuView R) : Type 0 where
+  pub place : ℕ
+  pub cyclic : Cyclic
+  pub here : IsCyclic v.cyclics place cyclic
+  pub named : cyclic.timer.id ≡ id
+  pub high : cyclic.timer.level ≡ High → n ≡ 0
+  pub lock : Goes step view v.lock (asks_at Lock cyclic.timer.level id n) w.lock
+  pub low : Goes step view v.low (asks_at Low cyclic.timer.level id n) w.low
+  pub cyclics : w.cyclics ≡ v.cyclics
+  pub kept : SameCpu v w
+
+-- the ends were asked at most whether their soft sides have followed
+pub record Looked {R : Type 0} (step : R → FiringCall → R → Type 0) (view : R → FiringView) (v w : CpuView R) : Type 0 where
+  pub lock : OnlyLooks step view v.lock w.lock
+  pub low : OnlyLooks step view v.low w.low
+  pub cyclics : w.cyclics ≡ v.cyclics
+  pub kept : SameCpu v w
+
+-- both soft levels were seen to have followed
+abbrev pub HasFollowed : {R : Type 0} → (R → FiringView) → CpuView R → Type 0
+HasFollowed view v = ((view v.lock).followed ≡ true) × ((view v.low).followed ≡ true)
+
+-- so many more cyclics fit, and where the size must grow it can
+pub record HasRoom {R : Type 0} (view : R → FiringView) (more : ℕ) (v : CpuView R) : Type 0 where
+  pub fits : length v.cyclics + more ≤ most_cyclics
+  pub still : v.size < length v.cyclics + more → (v.removal ≡ None) × HasFollowed view v
+
+-- why there is no room for so many more
+abbrev pub WhyNoRoom : {R : Type 0} → (R → FiringView) → ℕ → CpuView R → Refusal → Type 0
+WhyNoRoom view more v why.Full = most_cyclics < length v.cyclics + more
+WhyNoRoom view more v (why.Busy id) = (length v.cyclics + more ≤ most_cyclics) × (v.size < length v.cyclics + more) × (v.removal ≡ Some id)
+WhyNoRoom view more v why.Expanding = (length v.cyclics + more ≤ most_cyclics) × (v.size < length v.cyclics + more) × (v.removal ≡ None)
+    × (((view v.lock).followed ≡ false) ⊎ ((view v.low).followed ≡ false))
+WhyNoRoom view more v e = ⊥
 
 -- these expirations of a fire at now were made: each cyclic stands where they leave it, the handlers of the high ones were
 -- called, the others were raised at their ends, and each id lost what its raises lost

@@ -1,5 +1,5 @@
 -- How the cyclics of a CPU stand at the ends of its two soft levels.
-use Rattle.std.specs.Prelude.{◌≡◌, ℕ, ◌<◌, ◌≤◌, ◌^◌, List, true, All, Option, Some}
+use Rattle.std.specs.Prelude.{◌≡◌, ℕ, ◌≤◌, ◌^◌, List, true, All, Option, Some}
 use Rattle.cyc_types.specs.Series.{never}
 use Rattle.cyc_types.specs.Firing.{FiringView, Stay, Sound, IsAdmitted}
 use Rattle.cyc_types.specs.declared.level.Level.{Level}

@@ -1,4 +1,5 @@
 pub mod Rows
 pub mod Acts
 pub mod Ends
+pub mod Quiet
 pub mod Cpu

@@ -1,6 +1,3 @@
-use crate::table::{Record, Table};
-use cyc_types::{Calls, CyclicId, Index, Interval, Level, Moment, Raise, Raised, Refusal, Refused, next};
-
 ghost use Rattle.std.specs.Prelude.{◌≡◌, ℕ, ◌+◌, ◌<◌, ◌≤◌, ◌++◌, ◌∷◌, [], length, min, All, List, Some, IfOk, IfErr, OnOk, OnErr, IfNone, IfSome};
 ghost use Rattle.cyc_types.specs.Series.{due, next, never};
 ghost use Rattle.cyc_types.specs.Firing.{MayRaise, Sound};
@@ -11,6 +8,11 @@ ghost use Rattle.cyc_cpu.specs.Rows.{Row, IsRow, timers_of, cyclics_of, IsFirstA
 ghost use Rattle.cyc_cpu.specs.Ends.{IsReady};
 ghost use Rattle.cyc_cpu.specs.Cpu.{Makes, WhyStopped};
 ghost use Rattle.cyc_cpu.specs.Acts.{Sides, Acts, RaisedOnce, id_at, losses};
+
+use crate::table::{Record, Table};
+use cyc_types::{
+    Calls, CyclicId, Index, Interval, Level, Moment, Raise, Raised, Refusal, Refused, next,
+};
 
 /// A cyclic that is later than this, in nanoseconds, skips the expirations that it missed (our own rule).
 const LATE: u64 = 1_000_000_000;
@@ -157,7 +159,7 @@ pub(crate) fn fire_all<C: Calls, R: Raise>(
     ensures refused { IfErr result (λ e. (made : List Expiration) × (last : Expiration) × (rest : List Expiration)
         × (expirations now (timers_of table.old.rows) ≡ made ++ last ∷ rest) × (length made ≡ e.expired) × (at : C)
         × Makes C.called C.count R.step R.view now made (cyclics_of table.old.rows) (cyclics_of table.new.rows)
-            (record { calls = calls.old; lock = lock.old; low = low.old }) (record { calls = at; lock = lock.new; low = low.new }) e.lost
+        (record { calls = calls.old; lock = lock.old; low = low.old }) (record { calls = at; lock = lock.new; low = low.new }) e.lost
         × ((id : ℕ) → C.count calls.new id ≡ C.count at id)
         × WhyStopped C.may_refuse most at last (timers_of table.new.rows) e.why) }
 

@@ -1,17 +1,29 @@
-use crate::fire::{FireRefused, Fired, fire_all};
-use crate::table::Table;
-use cyc_types::{Calls, CyclicId, Moment, Raise, Refusal};
-use std::alloc::Global;
-use std::marker::Model;
-
-ghost use Rattle.std.specs.Prelude.{◌≡◌, ◌≢◌, ℕ, ◌≤◌, ◌++◌, ◌∷◌, [], List, length, slice_set, None, Some, IfOk, IfErr, OnOk, OnErr, ◌⊎◌};
+ghost use Rattle.std.specs.Prelude.{◌≡◌, ◌≢◌, ℕ, ◌≤◌, ◌++◌, ◌∷◌, [], List, length, slice_set, None, Some, IfOk, IfErr, OnOk, OnErr, IfNone, IfSome, ◌⊎◌};
 ghost use Rattle.std.specs.Bool.{OnTrue, OnFalse};
 ghost use Rattle.cyc_types.specs.Series.{never};
 ghost use Rattle.cyc_types.specs.declared.refusal.Refusal.TheVariants.{Memory, BadNow, NoCyclic};
 ghost use Rattle.cyc_expirations.specs.Timers.{earliest};
 ghost use Rattle.cyc_expirations.specs.Expirations.{Expiration, expirations};
 ghost use Rattle.cyc_cpu.specs.Rows.{Cyclic, timers};
-ghost use Rattle.cyc_cpu.specs.Cpu.{CpuView, Makes, WhyStopped, SameCpu, IsFresh, IsCyclic, HasNoCyclic, with_moment};
+ghost use Rattle.cyc_cpu.specs.Cpu.{CpuView, Makes, WhyStopped, SameCpu, IsFresh, IsCyclic, HasNoCyclic, with_moment, Asks, HasRoom, WhyNoRoom, Looked};
+
+use crate::ends::{both_followed, load_pend};
+use crate::fire::{FireRefused, Fired, fire_all};
+use crate::table::Table;
+use cyc_types::{CYCLICS, Calls, CyclicId, Moment, Raise, Refusal};
+use std::alloc::Global;
+use std::marker::Model;
+
+/// The counts of a cyclic on its CPU.
+#[derive(Clone, Copy, Debug, PartialEq, Eq)]
+pub struct Totals {
+    /// The expirations.
+    pub expired: u64,
+    /// Those of them that were lost at the ceiling.
+    pub lost: u64,
+    /// The calls that are outstanding: pending, in hand or kept for a removal.
+    pub pending: u32,
+}
 
 /// The firing side of one CPU (`cyc_cpu_t` of sys/cyclic_impl.h): its cyclics and the firing ends of its two soft levels.
 #[derive(Drop)]
@@ -97,7 +109,7 @@ impl<R: Raise> Hard<R> {
         ensures refused { IfErr result (λ e. now ≢ never → (made : List Expiration) × (last : Expiration) × (rest : List Expiration)
             × (expirations now (timers self.old.cyclics) ≡ made ++ last ∷ rest) × (length made ≡ e.expired) × (at : C)
             × Makes C.called C.count R.step R.view now made self.old.cyclics self.new.cyclics
-                (record { calls = calls.old; lock = self.old.lock; low = self.old.low }) (record { calls = at; lock = self.new.lock; low = self.new.low }) e.lost
+            (record { calls = calls.old; lock = self.old.lock; low = self.old.low }) (record { calls = at; lock = self.new.lock; low = self.new.low }) e.lost
             × ((id : ℕ) → C.count calls.new id ≡ C.count at id)
             × WhyStopped C.may_refuse self.old.most at last (timers self.new.cyclics) e.why) }
         ensures kept { SameCpu self.old self.new }
@@ -137,6 +149,59 @@ impl<R: Raise> Hard<R> {
                 Ok(())
             }
             None => Err(Refusal::NoCyclic),
+        }
+    }
+
+    /// The calls of the cyclic that are outstanding, 0 at high level. None where the id is not here. Takes no memory.
+    pub fn pending(&mut self, id: CyclicId) -> Option<u32>
+        ensures none { IfNone result (HasNoCyclic id self.old.cyclics × (self.new ≡ self.old)) }
+        ensures some { IfSome result (λ n. Asks R.step R.view id n self.old self.new) }
+    {
+        let place = self.table.find(id)?;
+        let kept = self.table.record_at(place);
+        Some(load_pend(id, kept.level, &mut self.lock, &mut self.low))
+    }
+
+    /// The counts of the cyclic, with those that it carried in, and its calls that are outstanding. None where the id is
+    /// not here. Takes no memory.
+    pub fn totals(&mut self, id: CyclicId) -> Option<Totals>
+        ensures none { IfNone result (HasNoCyclic id self.old.cyclics × (self.new ≡ self.old)) }
+        ensures some { IfSome result (λ t. Asks R.step R.view id t.pending self.old self.new) }
+        ensures counts { IfSome result (λ t. (k : ℕ) × (c : Cyclic) × IsCyclic self.old.cyclics k c × (c.timer.id ≡ id) × (t.expired ≡ c.timer.expired) × (t.lost ≡ c.lost)) }
+    {
+        let place = self.table.find(id)?;
+        let kept = self.table.record_at(place);
+        Some(Totals {
+            expired: kept.expired,
+            lost: kept.lost,
+            pending: load_pend(id, kept.level, &mut self.lock, &mut self.low),
+        })
+    }
+
+    /// Whether indexes for so many more cyclics can be had. Takes no memory.
+    ///
+    /// Refuses with Full where the CPU would hold more than `CYCLICS`; where the size must grow also with Busy while a
+    /// removal is open, and then with Expanding where a soft level has not followed the last switch of banks.
+    pub fn room(&mut self, more: usize) -> Result<(), Refusal>
+        ensures ok { OnOk result (HasRoom R.view more self.new) }
+        ensures refused { IfErr result (WhyNoRoom R.view more self.new) }
+        ensures looked { Looked R.step R.view self.old self.new }
+    {
+        let len = self.table.len();
+        let size = self.table.size();
+        if more > usize::from(CYCLICS) - len {
+            return Err(Refusal::Full);
+        }
+        if len + more <= size {
+            return Ok(());
+        }
+        if let Some(id) = self.removal {
+            return Err(Refusal::Busy(id));
+        }
+        if both_followed(&mut self.lock, &mut self.low) {
+            Ok(())
+        } else {
+            Err(Refusal::Expanding)
         }
     }
 

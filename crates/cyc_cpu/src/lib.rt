@@ -4,9 +4,10 @@
 //! promises of a fire is `cyc_expirations`' definition; how the ends do their part is in the traits' laws alone.
 #![tactic(auto)]
 
+mod ends;
 mod fire;
 mod hard;
 mod table;
 
 pub use fire::{FireRefused, Fired};
-pub use hard::Hard;
+pub use hard::{Hard, Totals};

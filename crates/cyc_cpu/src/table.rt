@@ -1,14 +1,14 @@
-use cyc_heap::ExpiryHeap;
-use cyc_types::{CyclicId, Index, Interval, Level, Moment, Refusal};
-use std::alloc::Global;
-use std::marker::Model;
-
 ghost use Rattle.std.specs.Prelude.{◌≡◌, ◌≢◌, ℕ, ◌+◌, ◌-◌, ◌<◌, ◌≤◌, max, length, slice_index_or, slice_set, Some, None, IfOk, IfErr, OnOk, OnErr, IfNone, IfSome, All, [], insert};
 ghost use Rattle.cyc_types.specs.Limits.{cyclics};
 ghost use Rattle.cyc_types.specs.Series.{never};
 ghost use Rattle.cyc_expirations.specs.Timers.{IsSound};
 ghost use Rattle.cyc_types.specs.declared.refusal.Refusal.TheVariants.{Memory};
 ghost use Rattle.cyc_cpu.specs.Rows.{Row, TableView, new_table, timers_of, IsRow, IsRising, HasNo, HasDistinctIndexes, vacant_row, with_record, at_moment, IsRecordOf, IsFirstAt};
+
+use cyc_heap::ExpiryHeap;
+use cyc_types::{CyclicId, Index, Interval, Level, Moment, Refusal};
+use std::alloc::Global;
+use std::marker::Model;
 
 /// What a CPU keeps of a cyclic beside its expiration.
 #[derive(Clone, Copy, Debug, PartialEq, Eq)]
@@ -42,12 +42,13 @@ impl Model for Table {
 
     ghost view = { λ t. record { rows = rows_of t.heap.slots t.records.items t.places.items; root = t.heap.root; size = length t.heap.slots; room = t.heap.room } };
 
-    ghost invariant = { λ t. IsTable t.heap.slots t.records.items t.places.items × (t.heap.room ≤ vec_capacity t.records) × (t.heap.room ≤ vec_capacity t.places) };
+    ghost invariant = { λ t. IsTable t.heap.slots t.records.items t.places.items × (t.heap.room ≤ vec_capacity t.records) × (t.heap.room ≤ vec_capacity t.places) × (length t.heap.slots ≤ t.heap.room) };
 }
 
 impl Record {
     /// What stands at an index that is free.
     fn vacant() -> Record
+        ensures { result.interval ≡ 1 }
     {
         Record {
             level: Level::Low,
@@ -82,7 +83,8 @@ impl Table {
         ensures memory { IfErr result (λ refusal. refusal ≡ Memory) }
         ensures refused { OnErr result (self.old.room < size) }
     {
-        self.records.reserve(size.saturating_sub(self.records.len()))?;
+        self.records
+            .reserve(size.saturating_sub(self.records.len()))?;
         self.places.reserve(size.saturating_sub(self.places.len()))?;
         self.heap.reserve(size)
     }

@@ -8,7 +8,7 @@ use Rattle.cyc_cpu.proofs.fire.following.Goals as goal
 pub returns-clause-due : goal.returns-clause-due
 returns-clause-due c =
     let near : c.args.now ≤ c.args.moment + c.args.interval + late =
-        elim c.else-following-now_is.branch [ else-following-now_is-via-then-following-now_is+else-now_is-following-gt-LATE w ↦ omega arith | else-following-now_is-via-else-following-now_is w ↦ omega arith ] in
+    elim c.else-following-now_is.branch [ else-following-now_is-via-then-following-now_is+else-now_is-following-gt-LATE w ↦ omega arith | else-following-now_is-via-else-following-now_is w ↦ omega arith ] in
     let some : 0 < c.args.interval = omega arith in
     let is : c.moment_of.result ≡ min (c.args.moment + c.args.interval) never = omega arith in
     due_step c.args.moment c.args.interval c.args.now c.moment_of.result c.requires.due c.requires.now some is near

@@ -1,5 +1,4 @@
-use Rattle.std.proofs.Common.{◌≡◌, sym, ap, ◌∙◌}
-use Rattle.cyc_expirations.specs.Timers.{Timer}
+use Rattle.std.proofs.Common.{sym, ◌∙◌}
 use Rattle.cyc_expirations.proofs.Firings.{earliest_least}
 use Rattle.cyc_cpu.specs.Rows.{timers_of}
 use Rattle.cyc_cpu.proofs.Stepping.{timer_is, timer_low}

@@ -1,9 +1,7 @@
-use Rattle.std.proofs.Common.{◌≡◌, ◌<◌, ◌≤◌, ℕ, sym, ap, ◌∙◌, subst, arith, length, vec_len, Some, None, get_or, List, Option}
+use Rattle.std.proofs.Common.{◌≡◌, ℕ, sym, ap, ◌∙◌, subst, arith, length, length-set, Some}
 use Rattle.std.proofs.Math.ListN.{set}
-use Rattle.cyc_expirations.specs.Expirations.{Expiration}
-use Rattle.cyc_cpu.specs.declared.table.Record.{Record}
-use Rattle.cyc_cpu.specs.Rows.{Row, TableView, IsRow, IsTable, row_of, rows_of, with_record, joined}
-use Rattle.cyc_cpu.proofs.Tables.{standing, changed, table_changed, lowered, Standing}
+use Rattle.cyc_cpu.specs.Rows.{Row, TableView, IsRow, IsTable, rows_of, with_record}
+use Rattle.cyc_cpu.proofs.Tables.{standing, changed, table_changed, lowered}
 use Rattle.cyc_cpu.proofs.table.Table.expire_root.Goals as goal
 
 pub index_mut-requires : goal.index_mut-requires
@@ -24,11 +22,14 @@ invariant_of-self c =
     let same : s.p.index ≡ c.number.result = ap (λ (x : Row). x.index) (sym s.row) ∙ at ∙ sym c.number.ensures.value in
     let root = ap (λ (v : TableView). v.root) c.self.view_is ∙ c.requires.root in
     let low = lowered c.self.inside.heap.root slots c.lower_root.new.self.slots c.args.index s.p.index s.m s.p.id c.args.moment root (ap (λ (x : Row). x.index) (sym s.row) ∙ at) s.holds c.lower_root.ensures.slots in
-    let room = c.lower_root.ensures.room in let caps = c.self.invariant in
-    (subst (λ (n : ℕ). IsTable c.lower_root.new.self.slots (set records n c.args.kept) places) same
-       (subst (λ xs. IsTable xs (set records s.p.index c.args.kept) places) (sym low)
-         (table_changed slots records places k r s c.args.moment c.args.kept t c.requires.moment c.requires.interval.0 c.requires.interval.1)),
-     omega (arith, room, caps), omega (arith, room, caps))
+    let room = c.lower_root.ensures.room in let caps = c.self.invariant in (
+      subst (λ (n : ℕ). IsTable c.lower_root.new.self.slots (set records n c.args.kept) places) same
+          (subst (λ xs. IsTable xs (set records s.p.index c.args.kept) places) (sym low)
+          (table_changed slots records places k r s c.args.moment c.args.kept t c.requires.moment c.requires.interval.0 c.requires.interval.1)),
+      omega (arith, room, caps),
+      omega (arith, room, caps),
+      (let l = ap length low in let m = length-set slots s.p.index (Some (record { moment = c.args.moment; id = s.p.id })) in omega (arith, room, caps, l, m)),
+    )
 
 pub returns-clause-rows : goal.returns-clause-rows
 returns-clause-rows c k r is at =

@@ -1,26 +1,25 @@
-use Rattle.std.proofs.Common.{◌≡◌, ℕ, ◌+◌, ◌-◌, ◌/◌, ◌<◌, ◌≤◌, arith, length, get_or, ap, sym, ◌∙◌, subst}
-use Rattle.std.proofs.lemmas.List.{length-map}
-use Rattle.cyc_cpu.specs.Rows.{Row, TableView, row_of, rows_of}
+use Rattle.std.proofs.Common.{◌+◌, ◌-◌, ◌/◌, ◌<◌, arith, length, get_or, ap, sym, ◌∙◌}
+use Rattle.cyc_cpu.specs.Rows.{Row, TableView}
 use Rattle.cyc_cpu.proofs.Tables.{ids_below, ids_above, row_at, no_place, place_low}
 use Rattle.cyc_cpu.proofs.table.Table.place.Goals as goal
 
 pub loop-low-preserved-then-number : goal.loop-low-preserved-then-number
 loop-low-preserved-then-number c = record {
-    order = omega arith;
-    bound = c.loop-low.invariant.bound;
-    below = ids_below c.self.inside.places.items c.self.invariant.0.rising c.args.id (c.loop-low.low + (c.loop-low.high - c.loop-low.low) / 2) c.index.result.now
+  order = omega arith;
+  bound = c.loop-low.invariant.bound;
+  below = ids_below c.self.inside.places.items c.self.invariant.0.rising c.args.id (c.loop-low.low + (c.loop-low.high - c.loop-low.low) / 2) c.index.result.now
       (let b = c.loop-low.invariant.bound in let t = c.loop-low-test.true in omega (arith, b, t)) c.index.ensures (omega arith);
-    above = c.loop-low.invariant.above;
-  }
+  above = c.loop-low.invariant.above;
+}
 
 pub loop-low-preserved : goal.loop-low-preserved
 loop-low-preserved c = record {
-    order = omega arith;
-    bound = (let b = c.loop-low.invariant.bound in let t = c.loop-low-test.true in omega (arith, b, t));
-    below = c.loop-low.invariant.below;
-    above = ids_above c.self.inside.places.items c.self.invariant.0.rising c.args.id (c.loop-low.low + (c.loop-low.high - c.loop-low.low) / 2) c.index.result.now
+  order = omega arith;
+  bound = (let b = c.loop-low.invariant.bound in let t = c.loop-low-test.true in omega (arith, b, t));
+  below = c.loop-low.invariant.below;
+  above = ids_above c.self.inside.places.items c.self.invariant.0.rising c.args.id (c.loop-low.low + (c.loop-low.high - c.loop-low.low) / 2) c.index.result.now
       (let b = c.loop-low.invariant.bound in let t = c.loop-low-test.true in omega (arith, b, t)) c.index.ensures (omega arith);
-  }
+}
 
 pub returns-clause-below : goal.returns-clause-below
 returns-clause-below c k d h =

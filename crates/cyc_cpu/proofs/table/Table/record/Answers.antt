@@ -1,5 +1,5 @@
-use Rattle.std.proofs.Common.{◌≡◌, ◌<◌, sym, ap, ◌∙◌, subst, arith, length, vec_len}
-use Rattle.cyc_cpu.specs.Rows.{Row, TableView, IsRow, row_of}
+use Rattle.std.proofs.Common.{◌≡◌, sym, ap, ◌∙◌, subst, arith}
+use Rattle.cyc_cpu.specs.Rows.{Row, TableView, IsRow}
 use Rattle.cyc_cpu.proofs.Tables.{standing, kept_at}
 use Rattle.cyc_cpu.proofs.table.Table.record.Goals as goal
 

@@ -1,6 +1,6 @@
-use Rattle.std.proofs.Common.{◌≡◌, ◌<◌, sym, ap, ◌∙◌, subst, arith, length, get_or}
+use Rattle.std.proofs.Common.{◌≡◌, sym, ap, ◌∙◌, subst, arith}
 use Rattle.cyc_cpu.specs.declared.table.Place.{Place}
-use Rattle.cyc_cpu.specs.Rows.{Row, TableView, IsRow}
+use Rattle.cyc_cpu.specs.Rows.{TableView, IsRow}
 use Rattle.cyc_cpu.proofs.Tables.{standing, standing_at, place_low, kept_at}
 use Rattle.cyc_cpu.proofs.table.Table.record_at.Goals as goal
 

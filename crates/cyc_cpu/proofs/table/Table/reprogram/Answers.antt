@@ -1,8 +1,8 @@
-use Rattle.std.proofs.Common.{◌≡◌, ◌<◌, ◌≤◌, ℕ, refl, sym, ap, ◌∙◌, subst, arith, length, Some, None, get_or, IsSome}
+use Rattle.std.proofs.Common.{◌≡◌, refl, sym, ap, ◌∙◌, subst, arith, length, length-set, option_map, None, get_or, IsSome}
 use Rattle.std.proofs.Math.ListN.{set}
-use Rattle.cyc_heap.specs.Heap.{with_moment}
+use Rattle.cyc_heap.specs.Heap.{with_moment, at_moment as at_moment_of}
 use Rattle.cyc_cpu.specs.declared.table.Place.{Place}
-use Rattle.cyc_cpu.specs.Rows.{Row, TableView, IsRow, at_moment}
+use Rattle.cyc_cpu.specs.Rows.{TableView, IsRow, at_moment}
 use Rattle.cyc_cpu.proofs.Tables.{standing, standing_at, place_low, replaced, table_replaced}
 use Rattle.cyc_cpu.proofs.table.Table.reprogram.Goals as goal
 
@@ -19,9 +19,12 @@ invariant_of-self c =
     let t = c.self.invariant.0 in
     let s = standing_at slots records places c.args.place t (place_low c.args.self.now slots records places c.args.place (ap (λ (v : TableView). v.rows) c.self.view_is) c.requires.here) in
     let at = c.index.ensures ∙ s.is c.index.result.now in
-    let room = c.replace.ensures.room in let caps = c.self.invariant in
-    (table_replaced slots c.replace.new.self.slots records places c.args.place _ s c.args.moment t c.requires.moment (c.replace.ensures.slots ∙ ap (λ (p : Place). with_moment slots p.index c.args.moment) at),
-     omega (arith, room, caps), omega (arith, room, caps))
+    let room = c.replace.ensures.room in let caps = c.self.invariant in (
+      table_replaced slots c.replace.new.self.slots records places c.args.place _ s c.args.moment t c.requires.moment (c.replace.ensures.slots ∙ ap (λ (p : Place). with_moment slots p.index c.args.moment) at),
+      omega (arith, room, caps),
+      omega (arith, room, caps),
+      (let l = ap length c.replace.ensures.slots in let m = length-set slots c.index.result.now.index (option_map (at_moment_of c.args.moment) (get_or slots c.index.result.now.index None)) in omega (arith, room, caps, l, m)),
+    )
 
 pub returns-clause-rows : goal.returns-clause-rows
 returns-clause-rows c r is =

@@ -1,0 +1,26 @@
+-- From rows to the cyclics that callers see.
+use Rattle.std.proofs.Common.{◌≡◌, ◌<◌, ℕ, List, arith, length, ap, sym, subst, ◌∙◌}
+use Rattle.std.proofs.Math.ListN.{set}
+use Rattle.std.proofs.lemmas.List.{length-map, get_or-map, map-set}
+use Rattle.cyc_cpu.specs.Rows.{Row, Cyclic, IsRow, HasNo, cyclic_of, cyclics_of}
+use Rattle.cyc_types.specs.Firing.{FiringView, FiringCall}
+use Rattle.cyc_cpu.specs.Cpu.{CpuView, IsCyclic, HasNoCyclic, Asks, Looked}
+
+pub is_cyclic : (rows : List Row) (k : ℕ) (r : Row) → IsRow rows k r → IsCyclic (cyclics_of rows) k (cyclic_of r)
+is_cyclic rows k r is = ((let l = length-map rows cyclic_of in let a = is.0 in omega (arith, l, a)), get_or-map cyclic_of rows k r (cyclic_of r) is.0 ∙ ap cyclic_of is.1)
+
+pub no_cyclic : (id : ℕ) (rows : List Row) → HasNo id rows → HasNoCyclic id (cyclics_of rows)
+no_cyclic id rows none k d low same =
+    let l = length-map rows cyclic_of in
+    let low' : k < length rows = omega (arith, l, low) in
+    let e : Row = record { timer = d.timer; lost = d.lost; index = 0 } in
+    none k e low' (ap (λ (c : Cyclic). c.timer.id) (sym (get_or-map cyclic_of rows k e d low')) ∙ same)
+
+pub cyclics_set : (rows : List Row) (i : ℕ) (u : Row) → cyclics_of (set rows i u) ≡ set (cyclics_of rows) i (cyclic_of u)
+cyclics_set rows i u = map-set cyclic_of rows i u
+
+pub asks_from : {R : Type 0} (step : R → FiringCall → R → Type 0) (view : R → FiringView) (id n : ℕ) (u v w : CpuView R) → u ≡ v → Asks step view id n u w → Asks step view id n v w
+asks_from step view id n u v w is a = subst (λ x. Asks step view id n x w) is a
+
+pub looked_from : {R : Type 0} (step : R → FiringCall → R → Type 0) (view : R → FiringView) (u v w : CpuView R) → u ≡ v → Looked step view u w → Looked step view v w
+looked_from step view u v w is a = subst (λ x. Looked step view x w) is a

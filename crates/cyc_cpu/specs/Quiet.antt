@@ -1,0 +1,18 @@
+-- What the calls that raise nothing do at the two ends.
+use Rattle.std.specs.Prelude.{ℕ, Bool, cond, List, [], ◌∷◌, map}
+use Rattle.cyc_types.specs.Firing.{FiringView, FiringCall, Loads, Looks}
+use Rattle.cyc_types.specs.Runs.{Taught, Goes}
+use Rattle.cyc_types.specs.declared.level.Level.{Level}
+use Rattle.cyc_cpu.specs.Acts.{same_level}
+
+-- an end of this level is asked for the id where the cyclic is of its level
+abbrev pub asks_at : Level → Level → ℕ → ℕ → List FiringCall
+asks_at level own id n = cond (same_level level own) (Loads id n ∷ []) []
+
+-- the end was asked once whether its soft side has followed
+abbrev pub Looks1 : {R : Type 0} → (R → FiringCall → R → Type 0) → (R → FiringView) → R → R → Type 0
+Looks1 step view e f = (answer : Bool) × Taught step view e (Looks answer) f
+
+-- the end was asked any number of times whether its soft side has followed, and nothing else
+abbrev pub OnlyLooks : {R : Type 0} → (R → FiringCall → R → Type 0) → (R → FiringView) → R → R → Type 0
+OnlyLooks step view e f = (answers : List Bool) × Goes step view e (map Looks answers) f
