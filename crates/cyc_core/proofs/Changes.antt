@@ -7,6 +7,8 @@ use Rattle.std.specs.List.{insert, remove}
 use Rattle.std.specs.VecDeque.{deque_capacity}
 use Rattle.std.proofs.lemmas.Bool.Decides.{nat_tests}
 use Rattle.cyc_types.specs.Limits.{cyclics}
+use Rattle.std.specs.List.{slice_get}
+use Rattle.std.proofs.lemmas.Option.{get_or_from_slice_get, slice_get-get_or, slice_get_within}
 use Rattle.cyc_level.specs.declared.Event.{Event}
 use Rattle.cyc_level.specs.declared.Event.TheVariants.{Admit, Expire, Lose, Publish, Take, Finish, Clear, Switch}
 use Rattle.cyc_level.specs.Level.{Cyclic, Level, count, count_in, in_hand}
@@ -190,3 +192,14 @@ held_count l law id c is holds =
     let same : d ≡ c = same_some _ d c there is in
     let count = ap (λ (x : Cyclic). x.count) same in
     omega (arith, some, count)
+
+-- the entry that stands at a place is that of its id
+pub entry_is_at : (xs : List Admitted) (place : ℕ) (e : Admitted) → slice_get xs place ≡ Some e → IsAt xs e.id place
+entry_is_at xs place e is = record { in_range = slice_get_within xs place e is; has_id = λ d. ap (λ (x : Admitted). x.id) (get_or_from_slice_get xs place e d is) }
+
+pub entry_cyclic : (t : Tables) → IsOrdered t.table → (place : ℕ) (e : Admitted) → slice_get t.table place ≡ Some e → (level_of t).cyclics e.id ≡ Some (cyclic_of e)
+entry_cyclic t ordered place e is = read_cyclic t ordered e.id place (entry_is_at t.table place e is) e (sym (get_or_from_slice_get t.table place e e is))
+
+-- what was read at a place stands there
+pub read_entry : (xs : List Admitted) (place : ℕ) (e : Admitted) → place < length xs → e ≡ get_or xs place e → slice_get xs place ≡ Some e
+read_entry xs place e in_range read = slice_get-get_or xs place e in_range ∙ ap Some (sym read)

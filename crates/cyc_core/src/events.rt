@@ -52,25 +52,23 @@ impl LevelCore {
         prove!(fits);
     }
 
-    pub(crate) fn expire(&mut self, place: usize, id: CyclicId)
-        requires place { IsAt self.old.table id place }
-        requires enabled { Enabled (Expire id) (level_of self.old) }
-        ensures { level_of self.new ≡ after (Expire id) (level_of self.old) }
+    pub(crate) fn expire(&mut self, place: usize, mut entry: Admitted)
+        requires place { slice_get self.old.table place ≡ Some entry }
+        requires enabled { Enabled (Expire entry.id) (level_of self.old) }
+        ensures { level_of self.new ≡ after (Expire entry.id) (level_of self.old) }
     {
-        let mut entry = self.table[place];
-        self.firer_hand = (entry.count == 0).then_some(id);
+        self.firer_hand = (entry.count == 0).then_some(entry.id);
         entry.sent += 1;
         entry.count += 1;
         self.table[place] = entry;
     }
 
-    pub(crate) fn lose(&mut self, place: usize, id: CyclicId)
-        requires place { IsAt self.old.table id place }
-        requires enabled { Enabled (Lose id) (level_of self.old) }
-        ensures { level_of self.new ≡ after (Lose id) (level_of self.old) }
+    pub(crate) fn lose(&mut self, place: usize, mut entry: Admitted)
+        requires place { slice_get self.old.table place ≡ Some entry }
+        requires enabled { Enabled (Lose entry.id) (level_of self.old) }
+        ensures { level_of self.new ≡ after (Lose entry.id) (level_of self.old) }
     {
-        let mut entry = self.table[place];
-        let _id = id;
+        prove!(entry.count == self.ceiling);
         entry.sent += 1;
         entry.lost += 1;
         self.table[place] = entry;
@@ -117,12 +115,13 @@ impl LevelCore {
         self.marked = Some(id);
     }
 
-    pub(crate) fn end_stay(&mut self, place: usize, id: CyclicId)
-        requires place { IsAt self.old.table id place }
-        requires enabled { Enabled (Clear id) (level_of self.old) }
+    pub(crate) fn end_stay(&mut self, id: CyclicId)
+        requires { Enabled (Clear id) (level_of self.old) }
         ensures { level_of self.new ≡ after (Clear id) (level_of self.old) }
     {
-        let _id = id;
+        let Ok(place) = self.search(id) else {
+            unreachable!()
+        };
         self.table.remove(place);
         self.marked = None;
     }
@@ -239,25 +238,21 @@ impl LevelCore {
         requires { Enabled event (level_of self.old) }
         ensures { level_of self.new ≡ after event (level_of self.old) }
     {
-        self.conservation();
         match event {
             Event::Admit(id, index) => self.begin_stay(id, index),
             Event::Expire(id) => {
-                let (place, _) = self.entry_of(id);
-                self.expire(place, id);
+                let (place, entry) = self.entry_of(id);
+                self.expire(place, entry);
             }
             Event::Lose(id) => {
-                let (place, _) = self.entry_of(id);
-                self.lose(place, id);
+                let (place, entry) = self.entry_of(id);
+                self.lose(place, entry);
             }
             Event::Publish => self.publish(),
             Event::Take => self.take_first(),
             Event::Finish => self.finish_call(),
             Event::Mark(id) => self.begin_removal(id),
-            Event::Clear(id) => {
-                let (place, _) = self.entry_of(id);
-                self.end_stay(place, id);
-            }
+            Event::Clear(id) => self.end_stay(id),
             Event::Switch(bank) => self.switch_to(bank),
             Event::Follow => self.follow(),
         }

@@ -1,4 +1,4 @@
-ghost use Rattle.std.specs.Prelude.{◌≡◌, ℕ, ◌<◌, ◌≤◌, length, IfOk, IfErr, IfSome, IfNone, IsSome, Some, None};
+ghost use Rattle.std.specs.Prelude.{◌≡◌, ℕ, ◌<◌, ◌≤◌, length, IfOk, IfErr, IfSome, IfNone, IsSome, Some, None, slice_get};
 ghost use Rattle.std.specs.Option.{option_map};
 ghost use Rattle.cyc_level.specs.Level.{empty_level};
 ghost use Rattle.cyc_level.specs.Lawful.{Lawful};
@@ -106,7 +106,7 @@ impl LevelCore {
     /// The entry of an admitted id, and where it stands in the table.
     pub(crate) fn entry_of(&self, id: CyclicId) -> (usize, Admitted)
         requires { IsSome (lookup id self.now.table) }
-        ensures place { IsAt self.now.table id result.0 }
+        ensures place { slice_get self.now.table result.0 ≡ Some result.1 }
         ensures cyclic { (level_of self.now).cyclics id ≡ Some (cyclic_of result.1) }
         ensures id { result.1.id ≡ id }
         ensures lawful { Lawful (level_of self.now) }

@@ -29,12 +29,13 @@ impl Raise for LevelCore {
 
     fn raise(&mut self, id: CyclicId) -> Raised {
         let (place, entry) = self.entry_of(id);
-        if entry.count == self.ceiling {
-            self.lose(place, id);
+        let count = entry.count;
+        if count == self.ceiling {
+            self.lose(place, entry);
             return Raised::Lost;
         }
-        self.expire(place, id);
-        if entry.count > 0 {
+        self.expire(place, entry);
+        if count > 0 {
             return Raised::More;
         }
         self.publish();
@@ -48,11 +49,11 @@ impl Raise for LevelCore {
     }
 
     fn poll_clear(&mut self, id: CyclicId) -> Option<Sent> {
-        let (place, entry) = self.entry_of(id);
+        let (_, entry) = self.entry_of(id);
         if entry.count > 0 {
             return None;
         }
-        self.end_stay(place, id);
+        self.end_stay(id);
         Some(Sent {
             sent: entry.sent,
             lost: entry.lost,

@@ -1,24 +1,38 @@
-use Rattle.std.proofs.Common.{arith, subst, sym, ◌∙◌, None}
-use Rattle.cyc_level.specs.declared.Event.TheVariants.{Clear}
-use Rattle.cyc_core.specs.Tables.{level_of}
+use Rattle.std.proofs.Common.{◌≡◌, ◌≢◌, ◌<◌, ◌≤◌, ℕ, List, [], ap, arith, refl, subst, sym, ◌∙◌, Some, None, vec_capacity, vec_len}
+use Rattle.cyc_level.specs.declared.Event.TheVariants.{Admit, Expire, Lose, Publish, Take, Finish, Mark, Clear, Switch, Follow}
+use Rattle.cyc_level.specs.Level.{Level, Cyclic, count}
+use Rattle.cyc_level.specs.Events.{after, most_sent, Enabled}
+use Rattle.cyc_level.specs.Lawful.{Lawful}
+use Rattle.cyc_core.specs.Tables.{Tables, cyclic_of, level_of, IsAt, IsGap, IsOrdered, lookup}
 use Rattle.cyc_core.specs.Shown.{shown}
-use Rattle.cyc_core.specs.Tables.{IsOrdered}
-use Rattle.cyc_core.proofs.Table.{ordered_remove}
-use Rattle.cyc_core.proofs.Changes.{level_clear, sound_by}
+use Rattle.std.specs.Option.{option_map}
+use Rattle.cyc_core.proofs.Table.{ordered_remove, lookup_gap}
+use Rattle.cyc_core.proofs.Changes.{level_clear, sound_by, none_some, reached_lawful}
 use Rattle.cyc_core.proofs.level_core.LevelCore.end_stay.Goals as goal
+
+pub unreachable-requires : goal.unreachable-requires
+unreachable-requires c =
+    let t = shown c.self.inside in
+    let law = reached_lawful (level_of t) c.self.invariant.reached in
+    let may = rw (← c.self.view_is) at c.requires in
+    let gap = rw (← c.self.view_is) at c.in_default.ensures.absent in
+    none_some _ (ap (option_map cyclic_of) (lookup_gap t.table c.args.id c.in_default.field-0 gap)) (law.marked_admitted c.args.id may.1)
 
 pub invariant_of-self : goal.invariant_of-self
 invariant_of-self c =
     let t = shown c.self.inside in
-    let may = rw (← c.self.view_is) at c.requires.enabled in
-    let at = rw (← c.self.view_is) at c.requires.place in
+    let ordered = c.self.invariant.ordered in
+    let at = rw (← c.self.view_is) at c.in-Ok.ensures.found in
     let gone = c.remove.ensures.items in
-    let made = (λ z. level_of (record t { table = gone z; marked = None })) ∙ level_clear t c.self.invariant.ordered c.args.id c.args.place at in
-    sound_by c.self.inside _ (Clear c.args.id) c.self.invariant may made (subst IsOrdered (sym gone) (ordered_remove t.table c.self.invariant.ordered c.args.id c.args.place at)) (omega (arith, c.remove.ensures.capacity)) (omega arith) (omega arith)
+    let made = (λ z. level_of (record t { table = gone z; marked = None })) ∙ level_clear t ordered c.args.id c.in-Ok.place at in
+    let may = rw (← c.self.view_is) at c.requires in
+    sound_by c.self.inside _ (Clear c.args.id) c.self.invariant may made (subst IsOrdered (sym gone) (ordered_remove t.table ordered c.args.id c.in-Ok.place at)) (omega (arith, c.remove.ensures.capacity)) (omega arith) (omega arith)
 
 pub returns : goal.returns
 returns c =
     let t = shown c.self.inside in
-    let at = rw (← c.self.view_is) at c.requires.place in
+    let ordered = c.self.invariant.ordered in
+    let at = rw (← c.self.view_is) at c.in-Ok.ensures.found in
     let gone = c.remove.ensures.items in
-    rw (← c.self.view_is) ((λ z. level_of (record t { table = gone z; marked = None })) ∙ level_clear t c.self.invariant.ordered c.args.id c.args.place at)
+    let made = (λ z. level_of (record t { table = gone z; marked = None })) ∙ level_clear t ordered c.args.id c.in-Ok.place at in
+    rw (← c.self.view_is) made

@@ -1,11 +1,22 @@
-use Rattle.cyc_core.specs.Tables.{level_of}
+use Rattle.std.proofs.Common.{◌≡◌, ◌≢◌, ◌<◌, ◌≤◌, ℕ, List, [], ap, arith, refl, subst, sym, ◌∙◌, Some, None, vec_capacity, vec_len}
+use Rattle.cyc_level.specs.declared.Event.TheVariants.{Admit, Expire, Lose, Publish, Take, Finish, Mark, Clear, Switch, Follow}
+use Rattle.cyc_level.specs.Level.{Level, Cyclic, count}
+use Rattle.cyc_level.specs.Events.{after, most_sent, Enabled}
+use Rattle.cyc_level.specs.Lawful.{Lawful}
+use Rattle.cyc_core.specs.Tables.{Tables, cyclic_of, level_of, IsAt, IsGap, IsOrdered, lookup}
 use Rattle.cyc_core.specs.Shown.{shown}
 use Rattle.cyc_core.proofs.Table.{lookup_gap}
-use Rattle.cyc_core.proofs.Changes.{read_cyclic, read_id, none_some, reached_lawful}
+use Rattle.cyc_core.proofs.Changes.{read_entry, read_cyclic, read_id, none_some, reached_lawful}
 use Rattle.cyc_core.proofs.level_core.LevelCore.entry_of.Goals as goal
 
 pub unreachable-requires : goal.unreachable-requires
 unreachable-requires c = none_some _ (lookup_gap c.args.self.now.table c.args.id c.in_default.field-0 c.in_default.ensures.absent) c.requires
+
+pub returns-clause-place : goal.returns-clause-place
+returns-clause-place c =
+    let t = shown c.self.inside in
+    let at = rw (← c.self.view_is) at c.in-Ok.ensures.found in
+    rw (← c.self.view_is) (read_entry t.table c.in-Ok.place c.index.result.now at.in_range c.index.ensures)
 
 pub returns-clause-cyclic : goal.returns-clause-cyclic
 returns-clause-cyclic c =

@@ -1,10 +1,12 @@
-use Rattle.std.proofs.Common.{arith, refl}
-use Rattle.cyc_level.specs.declared.Event.TheVariants.{Finish}
-use Rattle.cyc_core.specs.Tables.{level_of}
+use Rattle.std.proofs.Common.{◌≡◌, ◌≢◌, ◌<◌, ◌≤◌, ℕ, List, [], ap, arith, refl, subst, sym, ◌∙◌, Some, None, vec_capacity, vec_len}
+use Rattle.cyc_level.specs.declared.Event.TheVariants.{Admit, Expire, Lose, Publish, Take, Finish, Mark, Clear, Switch, Follow}
+use Rattle.cyc_level.specs.Level.{Level, Cyclic, count}
+use Rattle.cyc_level.specs.Events.{after, most_sent, Enabled}
+use Rattle.cyc_level.specs.Lawful.{Lawful}
+use Rattle.cyc_core.specs.Tables.{Tables, cyclic_of, level_of, IsAt, IsGap, IsOrdered, lookup}
 use Rattle.cyc_core.specs.Shown.{shown}
-use Rattle.cyc_core.specs.Tables.{cyclic_of}
 use Rattle.cyc_core.proofs.Table.{ordered_set}
-use Rattle.cyc_core.proofs.Changes.{entry_of, held_cyclic, held_count, level_finish, sound_by, reached_lawful}
+use Rattle.cyc_core.proofs.Changes.{entry_is_at, entry_of, held_cyclic, held_count, level_finish, sound_by, reached_lawful}
 use Rattle.cyc_core.proofs.level_core.LevelCore.finish_call.Goals as goal
 
 pub entry_of-place-requires : goal.entry_of-place-requires
@@ -19,8 +21,9 @@ overflow_add-entry c =
     let ordered = c.self.invariant.ordered in
     let law = reached_lawful (level_of t) c.self.invariant.reached in
     let may = rw (← c.self.view_is) at c.requires in
-    let at = rw (← c.self.view_is) at c.entry_of-place.ensures.place in
     let entry = c.entry_of-place.result.1 in
+    let stands = rw (← c.self.view_is) at c.entry_of-place.ensures.place in
+    let at = subst (λ i. IsAt t.table i c.entry_of-place.result.0) c.entry_of-place.ensures.id (entry_is_at t.table c.entry_of-place.result.0 entry stands) in
     let found = rw (← c.self.view_is) at c.entry_of-place.ensures.cyclic in
     let some = held_count (level_of t) law c.in-Some.id (cyclic_of entry) found c.in-Some.is in
     let even = law.conserved c.in-Some.id (cyclic_of entry) found in
@@ -32,8 +35,9 @@ overflow_sub-entry c =
     let ordered = c.self.invariant.ordered in
     let law = reached_lawful (level_of t) c.self.invariant.reached in
     let may = rw (← c.self.view_is) at c.requires in
-    let at = rw (← c.self.view_is) at c.entry_of-place.ensures.place in
     let entry = c.entry_of-place.result.1 in
+    let stands = rw (← c.self.view_is) at c.entry_of-place.ensures.place in
+    let at = subst (λ i. IsAt t.table i c.entry_of-place.result.0) c.entry_of-place.ensures.id (entry_is_at t.table c.entry_of-place.result.0 entry stands) in
     let found = rw (← c.self.view_is) at c.entry_of-place.ensures.cyclic in
     let some = held_count (level_of t) law c.in-Some.id (cyclic_of entry) found c.in-Some.is in
     omega (arith, some)
@@ -44,8 +48,9 @@ invariant_of-self c =
     let ordered = c.self.invariant.ordered in
     let law = reached_lawful (level_of t) c.self.invariant.reached in
     let may = rw (← c.self.view_is) at c.requires in
-    let at = rw (← c.self.view_is) at c.entry_of-place.ensures.place in
     let entry = c.entry_of-place.result.1 in
+    let stands = rw (← c.self.view_is) at c.entry_of-place.ensures.place in
+    let at = subst (λ i. IsAt t.table i c.entry_of-place.result.0) c.entry_of-place.ensures.id (entry_is_at t.table c.entry_of-place.result.0 entry stands) in
     let found = rw (← c.self.view_is) at c.entry_of-place.ensures.cyclic in
     let some = held_count (level_of t) law c.in-Some.id (cyclic_of entry) found c.in-Some.is in
     sound_by c.self.inside _ Finish c.self.invariant may (level_finish t ordered c.in-Some.id c.entry_of-place.result.0 at entry found c.entry_of-place.ensures.id _ _ refl refl c.in-Some.is some c.then_some-self-inside.ensures) (ordered_set t.table ordered c.in-Some.id c.entry_of-place.result.0 at _ c.entry_of-place.ensures.id) (omega arith) (omega arith) (omega arith)
@@ -56,8 +61,9 @@ returns-in-Some c =
     let ordered = c.self.invariant.ordered in
     let law = reached_lawful (level_of t) c.self.invariant.reached in
     let may = rw (← c.self.view_is) at c.requires in
-    let at = rw (← c.self.view_is) at c.entry_of-place.ensures.place in
     let entry = c.entry_of-place.result.1 in
+    let stands = rw (← c.self.view_is) at c.entry_of-place.ensures.place in
+    let at = subst (λ i. IsAt t.table i c.entry_of-place.result.0) c.entry_of-place.ensures.id (entry_is_at t.table c.entry_of-place.result.0 entry stands) in
     let found = rw (← c.self.view_is) at c.entry_of-place.ensures.cyclic in
     let some = held_count (level_of t) law c.in-Some.id (cyclic_of entry) found c.in-Some.is in
     rw (← c.self.view_is) (level_finish t ordered c.in-Some.id c.entry_of-place.result.0 at entry found c.entry_of-place.ensures.id _ _ refl refl c.in-Some.is some c.then_some-self-inside.ensures)

@@ -1,56 +1,69 @@
-use Rattle.std.proofs.Common.{◌≡◌, ◌<◌, arith, refl}
-use Rattle.cyc_level.specs.declared.Event.TheVariants.{Lose}
-use Rattle.cyc_level.specs.Level.{Cyclic}
-use Rattle.cyc_level.specs.Events.{most_sent}
-use Rattle.cyc_core.specs.Tables.{level_of}
+use Rattle.std.proofs.Common.{◌≡◌, ◌≢◌, ◌<◌, ◌≤◌, ℕ, List, [], ap, arith, refl, subst, sym, ◌∙◌, Some, None, vec_capacity, vec_len}
+use Rattle.cyc_level.specs.declared.Event.TheVariants.{Admit, Expire, Lose, Publish, Take, Finish, Mark, Clear, Switch, Follow}
+use Rattle.cyc_level.specs.Level.{Level, Cyclic, count}
+use Rattle.cyc_level.specs.Events.{after, most_sent, Enabled}
+use Rattle.cyc_level.specs.Lawful.{Lawful}
+use Rattle.cyc_core.specs.Tables.{Tables, cyclic_of, level_of, IsAt, IsGap, IsOrdered, lookup}
 use Rattle.cyc_core.specs.Shown.{shown}
 use Rattle.cyc_core.proofs.Table.{ordered_set}
-use Rattle.cyc_core.proofs.Changes.{found_fact, read_id, read_cyclic, level_lose, sound_by, reached_lawful}
+use Rattle.cyc_core.proofs.Changes.{found_fact, entry_is_at, entry_cyclic, level_lose, sound_by, reached_lawful}
 use Rattle.cyc_core.proofs.level_core.LevelCore.lose.Goals as goal
+
+pub prove-unreachable-requires : goal.prove-unreachable-requires
+prove-unreachable-requires c =
+    let t = shown c.self.inside in
+    let ordered = c.self.invariant.ordered in
+    let entry = c.args.entry in
+    let may = rw (← c.self.view_is) at c.requires.enabled in
+    let stands = rw (← c.self.view_is) at c.requires.place in
+    let at = entry_is_at t.table c.args.place entry stands in
+    let found = entry_cyclic t ordered c.args.place entry stands in
+    let fact = found_fact t ordered entry.id c.args.place at entry found refl (λ (x : Cyclic). (x.count ≡ t.ceiling) × (x.sent < most_sent)) may.2 in
+    absurd (let apart = c.if-prove.true in omega (arith, fact, apart))
 
 pub overflow_add-entry : goal.overflow_add-entry
 overflow_add-entry c =
     let t = shown c.self.inside in
     let ordered = c.self.invariant.ordered in
+    let entry = c.args.entry in
     let may = rw (← c.self.view_is) at c.requires.enabled in
-    let at = rw (← c.self.view_is) at c.requires.place in
-    let entry = c.index-entry.result.now in
-    let found = read_cyclic t ordered c.args.id c.args.place at entry c.index-entry.ensures in
-    let same = read_id t ordered c.args.id c.args.place at entry c.index-entry.ensures in
-    let fact = found_fact t ordered c.args.id c.args.place at entry found same (λ (x : Cyclic). (x.count ≡ t.ceiling) × (x.sent < most_sent)) may.2 in
+    let stands = rw (← c.self.view_is) at c.requires.place in
+    let at = entry_is_at t.table c.args.place entry stands in
+    let found = entry_cyclic t ordered c.args.place entry stands in
+    let fact = found_fact t ordered entry.id c.args.place at entry found refl (λ (x : Cyclic). (x.count ≡ t.ceiling) × (x.sent < most_sent)) may.2 in
     omega (arith, fact)
 
 pub overflow_add-entry-2 : goal.overflow_add-entry-2
 overflow_add-entry-2 c =
     let t = shown c.self.inside in
     let ordered = c.self.invariant.ordered in
+    let entry = c.args.entry in
     let may = rw (← c.self.view_is) at c.requires.enabled in
-    let at = rw (← c.self.view_is) at c.requires.place in
-    let entry = c.index-entry.result.now in
-    let found = read_cyclic t ordered c.args.id c.args.place at entry c.index-entry.ensures in
-    let same = read_id t ordered c.args.id c.args.place at entry c.index-entry.ensures in
-    let fact = found_fact t ordered c.args.id c.args.place at entry found same (λ (x : Cyclic). (x.count ≡ t.ceiling) × (x.sent < most_sent)) may.2 in
-    let even = (reached_lawful (level_of t) c.self.invariant.reached).conserved c.args.id _ found in
+    let stands = rw (← c.self.view_is) at c.requires.place in
+    let at = entry_is_at t.table c.args.place entry stands in
+    let found = entry_cyclic t ordered c.args.place entry stands in
+    let fact = found_fact t ordered entry.id c.args.place at entry found refl (λ (x : Cyclic). (x.count ≡ t.ceiling) × (x.sent < most_sent)) may.2 in
+    let even = (reached_lawful (level_of t) c.self.invariant.reached).conserved entry.id _ found in
     omega (arith, fact, even)
 
 pub invariant_of-self : goal.invariant_of-self
 invariant_of-self c =
     let t = shown c.self.inside in
     let ordered = c.self.invariant.ordered in
+    let entry = c.args.entry in
     let may = rw (← c.self.view_is) at c.requires.enabled in
-    let at = rw (← c.self.view_is) at c.requires.place in
-    let entry = c.index-entry.result.now in
-    let found = read_cyclic t ordered c.args.id c.args.place at entry c.index-entry.ensures in
-    let same = read_id t ordered c.args.id c.args.place at entry c.index-entry.ensures in
-    sound_by c.self.inside _ (Lose c.args.id) c.self.invariant may (level_lose t ordered c.args.id c.args.place at entry found same _ refl refl) (ordered_set t.table ordered c.args.id c.args.place at _ same) (omega arith) (omega arith) (omega arith)
+    let stands = rw (← c.self.view_is) at c.requires.place in
+    let at = entry_is_at t.table c.args.place entry stands in
+    let found = entry_cyclic t ordered c.args.place entry stands in
+    sound_by c.self.inside _ (Lose entry.id) c.self.invariant may (level_lose t ordered entry.id c.args.place at entry found refl _ refl refl) (ordered_set t.table ordered entry.id c.args.place at _ refl) (omega arith) (omega arith) (omega arith)
 
 pub returns : goal.returns
 returns c =
     let t = shown c.self.inside in
     let ordered = c.self.invariant.ordered in
+    let entry = c.args.entry in
     let may = rw (← c.self.view_is) at c.requires.enabled in
-    let at = rw (← c.self.view_is) at c.requires.place in
-    let entry = c.index-entry.result.now in
-    let found = read_cyclic t ordered c.args.id c.args.place at entry c.index-entry.ensures in
-    let same = read_id t ordered c.args.id c.args.place at entry c.index-entry.ensures in
-    rw (← c.self.view_is) (level_lose t ordered c.args.id c.args.place at entry found same _ refl refl)
+    let stands = rw (← c.self.view_is) at c.requires.place in
+    let at = entry_is_at t.table c.args.place entry stands in
+    let found = entry_cyclic t ordered c.args.place entry stands in
+    rw (← c.self.view_is) (level_lose t ordered entry.id c.args.place at entry found refl _ refl refl)

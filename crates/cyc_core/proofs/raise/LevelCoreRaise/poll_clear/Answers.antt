@@ -1,8 +1,11 @@
-use Rattle.std.proofs.Common.{◌≡◌, arith, subst, sym, Some}
-use Rattle.cyc_types.specs.Firing.{Learns, Sound, Polls}
-use Rattle.cyc_level.specs.declared.Event.TheVariants.{Clear}
+use Rattle.std.proofs.Common.{◌≡◌, ◌≢◌, ◌<◌, ◌≤◌, ap, arith, rules, refl, subst, sym, ◌∙◌, Some, None}
+use Rattle.cyc_types.specs.Firing.{Learns, Sound, Admits, Raises, Marks, Polls, Expands}
+use Rattle.cyc_types.specs.declared.firing.Raised.TheVariants.{First, More, Lost}
+use Rattle.cyc_level.specs.declared.Event.TheVariants.{Admit, Expire, Lose, Publish, Mark, Clear, Switch}
 use Rattle.cyc_level.specs.Level.{Level}
-use Rattle.cyc_core.specs.Tables.{cyclic_of, level_of}
+use Rattle.cyc_level.specs.Events.{Enabled, after}
+use Rattle.cyc_level.specs.Lawful.{Lawful, IsId}
+use Rattle.cyc_core.specs.Tables.{Tables, cyclic_of, level_of}
 use Rattle.cyc_core.specs.FiringSide.{firing_view}
 use Rattle.cyc_core.proofs.FiringLaws.{learns_clear, can_clear, sound_after}
 use Rattle.cyc_core.proofs.raise.LevelCoreRaise.poll_clear.Goals as goal
@@ -10,14 +13,14 @@ use Rattle.cyc_core.proofs.raise.LevelCoreRaise.poll_clear.Goals as goal
 pub returns-clause-learns : goal.returns-clause-learns
 returns-clause-learns c =
     let l = level_of c.args.self.now in
-    let entry = c.entry_of-place.result.1 in
-    let facts = c.entry_of-place.ensures in
+    let entry = c.entry_of-entry.result.1 in
+    let facts = c.entry_of-entry.ensures in
     subst (λ (m : Level). Learns (firing_view l) (Polls c.args.id (Some (record { sent = entry.sent; lost = entry.lost }))) (firing_view m)) (sym c.end_stay.ensures) (learns_clear l c.args.id (cyclic_of entry) facts.cyclic)
 
 pub returns-clause-sound : goal.returns-clause-sound
 returns-clause-sound c =
     let l = level_of c.args.self.now in
-    let entry = c.entry_of-place.result.1 in
-    let facts = c.entry_of-place.ensures in
+    let entry = c.entry_of-entry.result.1 in
+    let facts = c.entry_of-entry.ensures in
     let none : entry.count ≡ 0 = omega (arith, c.if-entry-gt0.false) in
     subst (λ (m : Level). Sound (firing_view m)) (sym c.end_stay.ensures) (sound_after l (Clear c.args.id) facts.lawful facts.some_ceiling (can_clear l c.args.id (cyclic_of entry) facts.cyclic c.requires none))
