@@ -69,8 +69,8 @@ module _ (len : ℕ) (e : Entry) (entries₀ : List Entry) (positions₀ : List 
   pub hollow_order : IsAbove len e hole entries → ((a : ℕ) → IsChild a hole → is_before (key_at entries a) (key e) ≡ true) → IsOrdered len (key_at (set entries hole e))
   hollow_order above below = hole_filled len hole (key e) (key_at entries) (key_at (set entries hole e)) h.order below above (keys_written entries hole e (in_entries hole h.low))
 
--- the lesser of two children is the least child
-pub least_of_both : (hole n m : ℕ) (f : ℕ → Expiration) → is_before (f m) (f (2 * hole + 1)) ≡ true → is_before (f m) (f (2 * hole + 2)) ≡ true
+-- the child that comes first is the least
+pub least_of_both : (hole n m : ℕ) (f : ℕ → Expiration) → is_before (f m) (f (2 * hole + 1)) ≡ true → (2 * hole + 2 < n → is_before (f m) (f (2 * hole + 2)) ≡ true)
     → (c : ℕ) → IsChild hole c → c < n → is_before (f m) (f c) ≡ true
 least_of_both hole n m f left right c (inl eq) low = subst (λ c. is_before (f m) (f c) ≡ true) (sym eq) left
-least_of_both hole n m f left right c (inr eq) low = subst (λ c. is_before (f m) (f c) ≡ true) (sym eq) right
+least_of_both hole n m f left right c (inr eq) low = subst (λ c. is_before (f m) (f c) ≡ true) (sym eq) (right (omega (arith, eq, low)))

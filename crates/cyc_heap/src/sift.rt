@@ -5,15 +5,20 @@ ghost use Rattle.cyc_heap.specs.Array.{key, key_at, IsLinked, IsLinkedBut, IsOrd
 
 use crate::entry::Entry;
 
-/// The child that expires first, of a place that has both children.
-fn least_child(entries: &[Entry], place: usize) -> usize
+/// The child that expires first, of a place that has one in the heap.
+fn least_child(entries: &[Entry], len: usize, place: usize) -> usize
     requires few { length entries.now ≤ cyclics }
-    requires both { 2 * place + 2 < length entries.now }
+    requires len { len ≤ length entries.now }
+    requires some { 2 * place + 1 < len }
+    ensures below { result < len }
     ensures child { (result ≡ 2 * place + 1) ⊎ (result ≡ 2 * place + 2) }
     ensures left { is_before (key_at entries.now result) (key_at entries.now (2 * place + 1)) ≡ true }
-    ensures right { is_before (key_at entries.now result) (key_at entries.now (2 * place + 2)) ≡ true }
+    ensures right { 2 * place + 2 < len → is_before (key_at entries.now result) (key_at entries.now (2 * place + 2)) ≡ true }
 {
     let left = 2 * place + 1;
+    if left + 1 == len {
+        return left;
+    }
     left + entries[left + 1].expires_before(&entries[left]) as usize
 }
 
@@ -29,7 +34,7 @@ fn put(entries: &mut [Entry], positions: &mut [usize], place: usize, entry: Entr
     positions[index] = place;
 }
 
-/// Moves the hole down to a leaf by the children that expire first, and then up to where the entry is in order, and puts
+/// Moves the hole down while a child expires before the entry, and up while the place above expires after it, and puts
 /// the entry there.
 fn sift(entries: &mut [Entry], positions: &mut [usize], len: usize, hole: usize, entry: Entry)
     requires few { length entries.old ≤ cyclics }
@@ -44,15 +49,12 @@ fn sift(entries: &mut [Entry], positions: &mut [usize], len: usize, hole: usize,
     ensures slots { slots len entries.new positions.new ≡ slice_set (slots len entries.old positions.old) entry.index (Some (key entry)) }
 {
     let mut hole = hole;
-    'down: while 2 * hole + 2 < len {
-        let child = least_child(entries, hole);
+    'down: while 2 * hole + 1 < len {
+        let child = least_child(entries, len, hole);
         let moved = entries[child];
-        put(entries, positions, hole, moved);
-        hole = child;
-    }
-    if 2 * hole + 1 < len {
-        let child = 2 * hole + 1;
-        let moved = entries[child];
+        if !moved.expires_before(&entry) {
+            break;
+        }
         put(entries, positions, hole, moved);
         hole = child;
     }
