@@ -1,5 +1,6 @@
 -- From rows to the cyclics that callers see.
-use Rattle.std.proofs.Common.{◌≡◌, ◌<◌, ℕ, List, arith, length, ap, sym, subst, ◌∙◌}
+use Rattle.std.specs.Prelude.{insert}
+use Rattle.std.proofs.Common.{◌≡◌, ◌<◌, ◌++◌, ◌∷◌, ℕ, List, take, drop, map, arith, length, ap, sym, subst, ◌∙◌}
 use Rattle.std.proofs.Math.ListN.{set}
 use Rattle.std.proofs.lemmas.List.{length-map, get_or-map, map-set}
 use Rattle.cyc_cpu.specs.Rows.{Row, Cyclic, IsRow, HasNo, cyclic_of, cyclics_of}
@@ -24,3 +25,11 @@ asks_from step view id n u v w is a = subst (λ x. Asks step view id n x w) is a
 
 pub looked_from : {R : Type 0} (step : R → FiringCall → R → Type 0) (view : R → FiringView) (u v w : CpuView R) → u ≡ v → Looked step view u w → Looked step view v w
 looked_from step view u v w is a = subst (λ x. Looked step view x w) is a
+
+pub no_row_of : (id : ℕ) (rows : List Row) → HasNoCyclic id (cyclics_of rows) → HasNo id rows
+no_row_of id rows none k d low same =
+    let l = length-map rows cyclic_of in
+    none k (cyclic_of d) (omega (arith, l, low)) (ap (λ (c : Cyclic). c.timer.id) (get_or-map cyclic_of rows k d (cyclic_of d) low) ∙ same)
+
+pub cyclics_insert : (rows : List Row) (q : ℕ) (u : Row) → cyclics_of (insert rows q u) ≡ insert (cyclics_of rows) q (cyclic_of u)
+cyclics_insert rows q u = map-append cyclic_of (take q rows) (u ∷ drop q rows) ∙ (λ j. sym (take-map cyclic_of q rows) j ++ (cyclic_of u ∷ sym (drop-map cyclic_of q rows) j))

@@ -6,3 +6,4 @@ pub mod Making
 pub mod Stepping
 pub mod Widening
 pub mod Cyclics
+pub mod Entering

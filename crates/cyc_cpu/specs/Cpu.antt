@@ -1,15 +1,16 @@
 -- What callers see of the firing side of one CPU.
-use Rattle.std.specs.Prelude.{◌≡◌, ◌≢◌, ℕ, ◌+◌, ◌<◌, ◌≤◌, List, map, length, slice_index_or, All, true, false, ◌⊎◌, Option, Some, None}
-use Rattle.cyc_types.specs.Firing.{FiringView, FiringCall}
-use Rattle.cyc_types.specs.Limits.{cyclics as most_cyclics}
-use Rattle.cyc_types.specs.Runs.{Goes}
+use Rattle.std.specs.Prelude.{◌≡◌, ◌≢◌, ℕ, zero, suc, ◌+◌, ◌^◌, nat_le, cond, insert, ◌<◌, ◌≤◌, List, map, length, slice_index_or, All, true, false, ◌⊎◌, Option, Some, None}
+use Rattle.cyc_types.specs.Firing.{FiringView, FiringCall, Expands}
+use Rattle.cyc_types.specs.Limits.{cyclics as most_cyclics, greatest_bank}
+use Rattle.cyc_types.specs.Runs.{Goes, Taught}
+use Rattle.cyc_types.specs.declared.level.Level.{Level}
 use Rattle.cyc_types.specs.declared.level.Level.TheVariants.{Low, Lock, High}
 use Rattle.cyc_types.specs.declared.refusal.Refusal.{Refusal}
 use Rattle.cyc_types.specs.declared.refusal.Refusal.TheVariants as why
 use Rattle.cyc_expirations.specs.Expirations.{Expiration, all_after}
 use Rattle.cyc_expirations.specs.Timers.{Timer}
 use Rattle.cyc_cpu.specs.Rows.{Cyclic, timers}
-use Rattle.cyc_cpu.specs.Quiet.{asks_at, OnlyLooks}
+use Rattle.cyc_cpu.specs.Quiet.{asks_at, admits_at, OnlyLooks}
 use Rattle.cyc_cpu.specs.Acts.{Sides, Acts, ids_at, losses, lost_after, timer_of}
 
 -- the firing side of one CPU
@@ -88,6 +89,60 @@ WhyNoRoom view more v (why.Busy id) = (length v.cyclics + more ≤ most_cyclics)
 WhyNoRoom view more v why.Expanding = (length v.cyclics + more ≤ most_cyclics) × (v.size < length v.cyclics + more) × (v.removal ≡ None)
     × (((view v.lock).followed ≡ false) ⊎ ((view v.low).followed ≡ false))
 WhyNoRoom view more v e = ⊥
+
+-- the least bank from k on that has n places, among so many more
+abbrev pub least_bank : ℕ → ℕ → ℕ → ℕ
+least_bank zero k n = k
+least_bank (suc more) k n = cond (nat_le n (2 ^ k)) k (least_bank more (k + 1) n)
+
+-- the least bank that has n places
+abbrev pub bank_for : ℕ → ℕ
+bank_for n = least_bank greatest_bank 0 n
+
+-- the size that a CPU of this size needs for n cyclics: its own where that is enough (`cyclic_expand` doubles)
+abbrev pub size_for : ℕ → ℕ → ℕ
+size_for size n = cond (nat_le n size) size (2 ^ bank_for n)
+
+-- a switch to so many more is possible, and the memory for them is there
+pub record MayWiden {R : Type 0} (view : R → FiringView) (more : ℕ) (v : CpuView R) : Type 0 where
+  pub room : HasRoom view more v
+  pub reserved : size_for v.size (length v.cyclics + more) ≤ v.room
+
+-- memory may have been taken; the ends were asked at most whether their soft sides have followed
+pub record Reserves {R : Type 0} (step : R → FiringCall → R → Type 0) (view : R → FiringView) (v w : CpuView R) : Type 0 where
+  pub lock : OnlyLooks step view v.lock w.lock
+  pub low : OnlyLooks step view v.low w.low
+  pub cyclics : w.cyclics ≡ v.cyclics
+  pub removal : w.removal ≡ v.removal
+  pub size : w.size ≡ v.size
+  pub room : v.room ≤ w.room
+  pub most : w.most ≡ v.most
+
+-- the size is what so many more need; where it grew, both ends were switched, once
+pub record Widens {R : Type 0} (step : R → FiringCall → R → Type 0) (view : R → FiringView) (more : ℕ) (v w : CpuView R) : Type 0 where
+  pub size : w.size ≡ size_for v.size (length v.cyclics + more)
+  pub kept_lock : length v.cyclics + more ≤ v.size → w.lock ≡ v.lock
+  pub kept_low : length v.cyclics + more ≤ v.size → w.low ≡ v.low
+  pub lock : v.size < length v.cyclics + more → Taught step view v.lock (Expands (bank_for (length v.cyclics + more))) w.lock
+  pub low : v.size < length v.cyclics + more → Taught step view v.low (Expands (bank_for (length v.cyclics + more))) w.low
+  pub cyclics : w.cyclics ≡ v.cyclics
+  pub removal : w.removal ≡ v.removal
+  pub room : w.room ≡ v.room
+  pub most : w.most ≡ v.most
+
+-- a cyclic that has not expired yet
+abbrev pub new_cyclic : ℕ → Level → ℕ → ℕ → Cyclic
+new_cyclic id level interval moment = record { timer = record { id = id; level = level; interval = interval; moment = moment; expired = 0 }; lost = 0 }
+
+-- the cyclic stands at its place among the others, and is admitted at the end of its level
+pub record Enters {R : Type 0} (step : R → FiringCall → R → Type 0) (view : R → FiringView) (id : ℕ) (level : Level) (interval moment : ℕ) (v w : CpuView R) : Type 0 where
+  pub place : ℕ
+  pub index : ℕ
+  pub within : place ≤ length v.cyclics
+  pub cyclics : w.cyclics ≡ insert v.cyclics place (new_cyclic id level interval moment)
+  pub lock : Goes step view v.lock (admits_at Lock level id index) w.lock
+  pub low : Goes step view v.low (admits_at Low level id index) w.low
+  pub kept : SameCpu v w
 
 -- these expirations of a fire at now were made: each cyclic stands where they leave it, the handlers of the high ones were
 -- called, the others were raised at their ends, and each id lost what its raises lost

@@ -1,6 +1,6 @@
 -- What the calls that raise nothing do at the two ends.
 use Rattle.std.specs.Prelude.{ℕ, Bool, cond, List, [], ◌∷◌, map}
-use Rattle.cyc_types.specs.Firing.{FiringView, FiringCall, Loads, Looks}
+use Rattle.cyc_types.specs.Firing.{FiringView, FiringCall, Admits, Loads, Looks}
 use Rattle.cyc_types.specs.Runs.{Taught, Goes}
 use Rattle.cyc_types.specs.declared.level.Level.{Level}
 use Rattle.cyc_cpu.specs.Acts.{same_level}
@@ -8,6 +8,10 @@ use Rattle.cyc_cpu.specs.Acts.{same_level}
 -- an end of this level is asked for the id where the cyclic is of its level
 abbrev pub asks_at : Level → Level → ℕ → ℕ → List FiringCall
 asks_at level own id n = cond (same_level level own) (Loads id n ∷ []) []
+
+-- an end of this level admits the id at this index where the cyclic is of its level
+abbrev pub admits_at : Level → Level → ℕ → ℕ → List FiringCall
+admits_at level own id index = cond (same_level level own) (Admits id index ∷ []) []
 
 -- the end was asked once whether its soft side has followed
 abbrev pub Looks1 : {R : Type 0} → (R → FiringCall → R → Type 0) → (R → FiringView) → R → R → Type 0

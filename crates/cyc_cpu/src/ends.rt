@@ -1,11 +1,13 @@
-ghost use Rattle.std.specs.Prelude.{◌≡◌, ◌⊎◌, true, false};
+ghost use Rattle.std.specs.Prelude.{◌≡◌, ◌≤◌, ◌^◌, ◌⊎◌, true, false};
 ghost use Rattle.std.specs.Bool.{OnTrue, OnFalse};
-ghost use Rattle.cyc_types.specs.Firing.{MayAsk, Sound, Learns, Loads};
+ghost use Rattle.cyc_types.specs.Firing.{MayAsk, MayAdmit, Sound};
+ghost use Rattle.cyc_types.specs.Limits.{cyclics, greatest_bank};
 ghost use Rattle.cyc_types.specs.Runs.{Goes};
 ghost use Rattle.cyc_types.specs.declared.level.Level.TheVariants.{Low, Lock, High};
-ghost use Rattle.cyc_cpu.specs.Quiet.{asks_at, Looks1};
+ghost use Rattle.cyc_cpu.specs.Cpu.{bank_for};
+ghost use Rattle.cyc_cpu.specs.Quiet.{asks_at, admits_at, Looks1};
 
-use cyc_types::{CyclicId, Level, Raise};
+use cyc_types::{CyclicId, Index, Level, Raise};
 
 /// The calls of the cyclic that are outstanding at its level, 0 at high level.
 pub(crate) fn load_pend<R: Raise>(id: CyclicId, level: Level, lock: &mut R, low: &mut R) -> u32
@@ -36,4 +38,49 @@ pub(crate) fn both_followed<R: Raise>(lock: &mut R, low: &mut R) -> bool
     let lock_followed = lock.followed();
     let low_followed = low.followed();
     lock_followed && low_followed
+}
+
+/// Admits the cyclic at the end of its level.
+pub(crate) fn admit_at<R: Raise>(id: CyclicId, level: Level, index: Index, lock: &mut R, low: &mut R)
+    requires lock { level ≡ Lock → MayAdmit id index (R.view lock.old) }
+    requires low { level ≡ Low → MayAdmit id index (R.view low.old) }
+    ensures lock { Goes R.step R.view lock.old (admits_at Lock level id index) lock.new }
+    ensures low { Goes R.step R.view low.old (admits_at Low level id index) low.new }
+    ensures sound_lock { Sound (R.view lock.old) → Sound (R.view lock.new) }
+    ensures sound_low { Sound (R.view low.old) → Sound (R.view low.new) }
+{
+    match level {
+        Level::High => {}
+        Level::Lock => lock.admit(id, index),
+        Level::Low => low.admit(id, index),
+    }
+}
+
+/// The least bank that has so many places.
+pub(crate) fn least_bank(places: usize) -> u8
+    requires { places ≤ cyclics }
+    ensures least { result ≡ bank_for places }
+    ensures enough { places ≤ 2 ^ result }
+    ensures greatest { result ≤ greatest_bank }
+    ensures few { 2 ^ result ≤ cyclics }
+{
+    match places {
+        0..=1 => 0,
+        2 => 1,
+        3..=4 => 2,
+        5..=8 => 3,
+        9..=16 => 4,
+        17..=32 => 5,
+        33..=64 => 6,
+        65..=128 => 7,
+        _ => 8,
+    }
+}
+
+/// The places of a bank.
+pub(crate) fn places_of(bank: u8) -> usize
+    requires { bank ≤ greatest_bank }
+    ensures { result ≡ 2 ^ bank }
+{
+    1 << bank
 }

@@ -1,16 +1,16 @@
-ghost use Rattle.std.specs.Prelude.{◌≡◌, ◌≢◌, ℕ, ◌≤◌, ◌++◌, ◌∷◌, [], List, length, slice_set, None, Some, IfOk, IfErr, OnOk, OnErr, IfNone, IfSome, ◌⊎◌};
+ghost use Rattle.std.specs.Prelude.{◌≡◌, ◌≢◌, ℕ, ◌+◌, ◌<◌, ◌≤◌, ◌++◌, ◌∷◌, [], List, length, slice_set, None, Some, IfOk, IfErr, OnOk, OnErr, IfNone, IfSome, ◌⊎◌};
 ghost use Rattle.std.specs.Bool.{OnTrue, OnFalse};
-ghost use Rattle.cyc_types.specs.Series.{never};
+ghost use Rattle.cyc_types.specs.Series.{never, first};
 ghost use Rattle.cyc_types.specs.declared.refusal.Refusal.TheVariants.{Memory, BadNow, NoCyclic};
 ghost use Rattle.cyc_expirations.specs.Timers.{earliest};
 ghost use Rattle.cyc_expirations.specs.Expirations.{Expiration, expirations};
 ghost use Rattle.cyc_cpu.specs.Rows.{Cyclic, timers};
-ghost use Rattle.cyc_cpu.specs.Cpu.{CpuView, Makes, WhyStopped, SameCpu, IsFresh, IsCyclic, HasNoCyclic, with_moment, Asks, HasRoom, WhyNoRoom, Looked};
+ghost use Rattle.cyc_cpu.specs.Cpu.{CpuView, Makes, WhyStopped, SameCpu, IsFresh, IsCyclic, HasNoCyclic, with_moment, Asks, HasRoom, WhyNoRoom, Looked, MayWiden, Reserves, Widens, Enters, size_for};
 
-use crate::ends::{both_followed, load_pend};
+use crate::ends::{admit_at, both_followed, least_bank, load_pend, places_of};
 use crate::fire::{FireRefused, Fired, fire_all};
-use crate::table::Table;
-use cyc_types::{CYCLICS, Calls, CyclicId, Moment, Raise, Refusal};
+use crate::table::{Record, Table};
+use cyc_types::{CYCLICS, Calls, CyclicId, Interval, Level, Moment, Raise, Refusal, When};
 use std::alloc::Global;
 use std::marker::Model;
 
@@ -203,6 +203,77 @@ impl<R: Raise> Hard<R> {
         } else {
             Err(Refusal::Expanding)
         }
+    }
+
+    /// Takes the memory that so many more cyclics need, so that `widen` and adding them take none. Refuses as `room`, then
+    /// with Memory.
+    pub fn reserve(&mut self, more: usize) -> Result<(), Refusal>
+        ensures ok { OnOk result (MayWiden R.view more self.new) }
+        ensures refused { IfErr result (λ e. WhyNoRoom R.view more self.new e ⊎ ((e ≡ Memory) × HasRoom R.view more self.new × (self.old.room < size_for self.old.size (length self.old.cyclics + more)))) }
+        ensures reserves { Reserves R.step R.view self.old self.new }
+        ensures err { OnErr result (self.new.room ≡ self.old.room) }
+    {
+        self.room(more)?;
+        let needed = self.table.len() + more;
+        if needed <= self.table.size() {
+            return Ok(());
+        }
+        self.table.reserve(places_of(least_bank(needed)))
+    }
+
+    /// Makes the size what so many more cyclics need, and switches both soft levels where it grows (`cyclic_expand`). Takes
+    /// no memory.
+    pub fn widen(&mut self, more: usize)
+        requires { MayWiden R.view more self.old }
+        ensures { Widens R.step R.view more self.old self.new }
+    {
+        let needed = self.table.len() + more;
+        if needed > self.table.size() {
+            let bank = least_bank(needed);
+            self.table.widen(places_of(bank));
+            self.lock.expand(bank);
+            self.low.expand(bank);
+        }
+    }
+
+    /// Adds a cyclic (`cyclic_add_here`). Its first expiration is what `when` says at `now`.
+    ///
+    /// Refuses with BadNow where `now` is never, then as `reserve` of one.
+    pub fn add(&mut self, id: CyclicId, level: Level, when: When, now: Moment) -> Result<(), Refusal>
+        requires absent { HasNoCyclic id self.old.cyclics }
+        requires still { self.old.removal ≢ Some id }
+        ensures ok { OnOk result ((now ≢ never) × (u : CpuView R) × (w : CpuView R) × Reserves R.step R.view self.old u × Widens R.step R.view 1 u w
+            × Enters R.step R.view id level when.interval (first when.start when.interval now) w self.new) }
+        ensures bad_now { IfErr result (λ e. now ≡ never → (e ≡ BadNow) × (self.new ≡ self.old)) }
+        ensures refused { IfErr result (λ e. now ≢ never → (WhyNoRoom R.view 1 self.new e ⊎ ((e ≡ Memory) × HasRoom R.view 1 self.new × (self.old.room < size_for self.old.size (length self.old.cyclics + 1))))) }
+        ensures err { OnErr result (Reserves R.step R.view self.old self.new × (self.new.room ≡ self.old.room)) }
+    {
+        if now.nanoseconds() == Moment::NEVER.nanoseconds() {
+            return Err(Refusal::BadNow);
+        }
+        self.reserve(1)?;
+        self.widen(1);
+        self.enter(id, level, when.interval, when.first(now));
+        Ok(())
+    }
+
+    /// Puts in a cyclic that has not expired yet, and admits it at the end of its level.
+    fn enter(&mut self, id: CyclicId, level: Level, interval: Interval, moment: Moment)
+        requires absent { HasNoCyclic id self.old.cyclics }
+        requires still { self.old.removal ≢ Some id }
+        requires free { length self.old.cyclics < self.old.size }
+        ensures { Enters R.step R.view id level interval moment self.old self.new }
+    {
+        let _ = moment.nanoseconds();
+        let _ = interval.nanoseconds();
+        let kept = Record {
+            level,
+            interval,
+            expired: 0,
+            lost: 0,
+        };
+        let index = self.table.insert(id, moment, kept);
+        admit_at(id, level, index, &mut self.lock, &mut self.low);
     }
 
     /// Whether the removal of this id is open.
