@@ -2,7 +2,7 @@
 use Rattle.std.specs.Prelude.{insert}
 use Rattle.std.proofs.Common.{◌≡◌, ◌<◌, ◌++◌, ◌∷◌, ℕ, List, take, drop, map, arith, length, ap, sym, subst, ◌∙◌}
 use Rattle.std.proofs.Math.ListN.{set}
-use Rattle.std.proofs.lemmas.List.{length-map, get_or-map, map-set}
+use Rattle.std.proofs.lemmas.List.{length-map, get_or-map, map-set, map-append, take-map, drop-map}
 use Rattle.cyc_cpu.specs.Rows.{Row, Cyclic, IsRow, HasNo, cyclic_of, cyclics_of}
 use Rattle.cyc_types.specs.Firing.{FiringView, FiringCall}
 use Rattle.cyc_cpu.specs.Cpu.{CpuView, IsCyclic, HasNoCyclic, Asks, Looked}
