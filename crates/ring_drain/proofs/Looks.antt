@@ -1,11 +1,11 @@
 -- The soft side's loads of the hard bank and of a producer word are no events.
 use Rattle.std.proofs.Common.{◌≡◌, ℕ, ◌+◌, ◌%◌, ◌^◌, ◌≤◌, ◌≢◌, List, [], ◌∷◌, length, get_or, sym, refl, ap, ◌∙◌, subst, arith, pow_mono}
 use mathlib.Core.Option.{none}
-use Rattle.atomic_table.specs.Table.{step, keeps}
+use Rattle.atomic_table.specs.Table.{step}
 use Rattle.cyc_level.specs.Level.{Cyclics, Level, soft_list}
 use Rattle.cyc_level.proofs.Maps.{some_same}
 use Rattle.cyc_level.proofs.Room.{roomy}
-use Rattle.ring_drain.specs.Allowed.{HardBankLoadIsAllowed, ProducerLoadIsAllowed}
+use Rattle.ring_drain.specs.Allowed.{HardBankLoadIsAllowed, ProducerLoadIsAllowed, HardBankLoadExtendsRun, ProducerLoadExtendsRun}
 use Rattle.cyc_types.specs.Limits.{greatest_bank, cyclics}
 use Rattle.ring_rule.specs.declared.RaiseStep.{RaiseStep}
 use Rattle.ring_rule.specs.declared.DrainStep.{DrainStep}
@@ -14,10 +14,10 @@ use Rattle.ring_rule.specs.declared.Setting.{Setting}
 use Rattle.ring_rule.specs.Words.{producer_word, hard_word}
 use Rattle.ring_rule.specs.Trail.{soft_bank_of, consumer_index}
 use Rattle.ring_rule.specs.Shown.{BankHolds, Shows, StillHolds}
-use Rattle.ring_rule.specs.Steps.{with_drain_step, TellsHardBank, TellsProducer}
+use Rattle.ring_rule.specs.Steps.{TellsHardBank, TellsProducer}
 use Rattle.ring_rule.proofs.Seats.{level, drains, drain_stays}
 use Rattle.ring_rule.proofs.Now.{RingNow, ring_now, loaded, softs_held}
-use Rattle.ring_rule.proofs.Stands.{and_stands}
+use Rattle.ring_rule.proofs.Stands.{drain_allowed}
 
 holds_end : (ws : List ℕ) (m : Cyclics) (bank : ℕ) (xs : List ℕ) (i : ℕ) → BankHolds ws m bank i xs → get_or ws (producer_word bank) 0 ≡ (i + length xs) % 2 ^ 32
 holds_end ws m bank [] i h = h ∙ ap (λ (j : ℕ). j % 2 ^ 32) (let e : i ≡ i + 0 = omega arith in e)
@@ -98,23 +98,22 @@ module _ (k : Setting) (ws : List ℕ) (rs : List RaiseStep) (ds : List DrainSte
     none_left = λ end bank e. absurd (cc);
   }
 
-pub loads_producer : ProducerLoadIsAllowed
-loads_producer k slots seat me role i at_i = and_stands k slots seat me i (λ n. n) (TellsProducer (step slots i 0 0 none) me) (λ s R _ at _. let t : List DrainStep = R.drain_trail in let same : me.0.drain_trail ≡ t = (drains k s R seat me.0 at me.1 i 0 role).1 in let l : Level = level k s R in let N : RingNow k s.words R.raise_trail t l = ring_now k s R in
+pub loads_producer_extend : ProducerLoadExtendsRun
+loads_producer_extend k slots seat me role i at_i s R _ at _ = let t : List DrainStep = R.drain_trail in let same : me.0.drain_trail ≡ t = (drains k s R seat me.0 at me.1 i 0 role).1 in let l : Level = level k s R in let N : RingNow k s.words R.raise_trail t l = ring_now k s R in
     let here : producer_word l.soft_bank ≡ i = ap producer_word N.shows.soft_is ∙ (ap (λ (t : List DrainStep). producer_word (soft_bank_of t)) (sym same) ∙ sym at_i) in let n : ℕ = get_or s.words i 0 in (
-      with_drain_step (LoadedProducer n) me.0,
-      keeps,
-      tt,
+      (LoadedProducer n),
       drain_stays k s R seat me.0 at me.1 i n role (LoadedProducer n) refl
           (loaded (λ x. Shows k.start x R.raise_trail (LoadedProducer n ∷ t) l) s.words i (ends_shown k s.words R.raise_trail t l N n))
           (loaded (λ x. StillHolds k.start x R.raise_trail (LoadedProducer n ∷ t) l) s.words i (subst (λ (j : ℕ). StillHolds k.start s.words R.raise_trail (LoadedProducer (get_or s.words j 0) ∷ t) l) here (ends_still k s.words R.raise_trail t l N))),
       refl,
-    ))
+    )
 
-pub loads_hard_bank : HardBankLoadIsAllowed
-loads_hard_bank k slots seat me role = and_stands k slots seat me hard_word (λ n. n) (TellsHardBank (step slots hard_word 0 0 none) me) (λ s R _ at _. let t : List DrainStep = R.drain_trail in let same : me.0.drain_trail ≡ t = (drains k s R seat me.0 at me.1 hard_word 0 role).1 in let l : Level = level k s R in let N : RingNow k s.words R.raise_trail t l = ring_now k s R in let n : ℕ = get_or s.words hard_word 0 in (
-  with_drain_step (LoadedHardBank n) me.0,
-  keeps,
-  tt,
+pub loads_producer : ProducerLoadIsAllowed
+loads_producer k slots seat me role i at_i = drain_allowed k slots seat me i (λ n. n) (TellsProducer (step slots i 0 0 none) me) (loads_producer_extend k slots seat me role i at_i)
+
+pub loads_hard_bank_extend : HardBankLoadExtendsRun
+loads_hard_bank_extend k slots seat me role s R _ at _ = let t : List DrainStep = R.drain_trail in let same : me.0.drain_trail ≡ t = (drains k s R seat me.0 at me.1 hard_word 0 role).1 in let l : Level = level k s R in let N : RingNow k s.words R.raise_trail t l = ring_now k s R in let n : ℕ = get_or s.words hard_word 0 in (
+  (LoadedHardBank n),
   drain_stays k s R seat me.0 at me.1 hard_word n role (LoadedHardBank n) refl
       (loaded (λ x. Shows k.start x R.raise_trail (LoadedHardBank n ∷ t) l) s.words hard_word (banks_shown k s.words R.raise_trail t l N n))
       (loaded (λ x. StillHolds k.start x R.raise_trail (LoadedHardBank n ∷ t) l) s.words hard_word (banks_still k s.words R.raise_trail t l N)),
@@ -123,4 +122,7 @@ loads_hard_bank k slots seat me role = and_stands k slots seat me hard_word (λ 
     (let x = N.shows.hard_shown in let b = N.law.bank_bound in omega (arith, x, b)),
     refl,
   ),
-))
+)
+
+pub loads_hard_bank : HardBankLoadIsAllowed
+loads_hard_bank k slots seat me role = drain_allowed k slots seat me hard_word (λ n. n) (TellsHardBank (step slots hard_word 0 0 none) me) (loads_hard_bank_extend k slots seat me role)

@@ -5,14 +5,14 @@ use mathlib.Core.Logic.{dite}
 use native.Mathlib.Decide.{ℕ_discrete}
 use Rattle.std.specs.Prelude.{Option, Some, None}
 use Rattle.std.specs.Option.{option_map}
-use Rattle.atomic_table.specs.Table.{step, keeps}
+use Rattle.atomic_table.specs.Table.{step}
 use Rattle.cyc_level.specs.declared.Event.TheVariants.{Finish}
 use Rattle.cyc_level.specs.Level.{Cyclic, Cyclics, Level, count, count_in, in_hand}
 use Rattle.cyc_level.specs.Lawful.{one_if_any}
 use Rattle.cyc_level.specs.Events.{changed_at, cyclic_after_finish, hand_after_finish, after_finish}
 use Rattle.cyc_level.specs.Runs.{StayCounts}
 use Rattle.cyc_level.proofs.Maps.{some_same, is_some_of, at_cases, hand_here}
-use Rattle.ring_drain.specs.Allowed.{SubtractIsAllowed}
+use Rattle.ring_drain.specs.Allowed.{SubtractIsAllowed, SubtractExtendsRun}
 use Rattle.cyc_types.specs.Limits.{cyclics}
 use Rattle.ring_rule.specs.Words.{entry_id, entry_index, producer_word, hard_word, soft_word}
 use Rattle.ring_rule.specs.declared.RaiseStep.{RaiseStep}
@@ -21,11 +21,11 @@ use Rattle.ring_rule.specs.declared.DrainStep.TheVariants.{Subtracted}
 use Rattle.ring_rule.specs.declared.Setting.{Setting}
 use Rattle.ring_rule.specs.Trail.{open_stay, ended_calls, seen_pend, held_entry, id_in, drainer_hand_of, made_calls, consumer_index}
 use Rattle.ring_rule.specs.Shown.{IsSameStay, Shows, StillHolds}
-use Rattle.ring_rule.specs.Steps.{with_drain_step, TellsSubtract}
+use Rattle.ring_rule.specs.Steps.{TellsSubtract}
 use Rattle.ring_rule.proofs.Words.{keeps_option_map, holds_high, stored_high}
 use Rattle.ring_rule.proofs.Seats.{level, drains, drain_moves}
 use Rattle.ring_rule.proofs.Now.{RingNow, ring_now}
-use Rattle.ring_rule.proofs.Stands.{and_stands}
+use Rattle.ring_rule.proofs.Stands.{drain_allowed}
 
 same_called : (b : Bool) (m e : ℕ) (o : Option StayCounts) (p : Option Cyclic) → (b ≡ true → (c : Cyclic) × (p ≡ Some c)) → IsSameStay m e o p → IsSameStay (cond b 1 0 + m) e o (cond b (option_map cyclic_after_finish p) p)
 same_called true m e None None ok h = let c = ok refl in let x : None ≡ Some c.0 = c.1 in absurd (cc)
@@ -155,19 +155,20 @@ module _ (k : Setting) (small : k.ceiling < 2 ^ 32) (ws : List ℕ) (rs : List R
     none_left = λ end bank e. absurd (cc);
   }
 
-pub subtracts : SubtractIsAllowed
-subtracts k slots seat me e role has i at_i = and_stands k slots seat me i (λ n. (n + (2 ^ 64 - 1)) % 2 ^ 64) (TellsSubtract (step slots i 1 0 none) me) (λ s R _ at _. let small : k.ceiling < 2 ^ 32 = R.fits.0 in let t : List DrainStep = R.drain_trail in let same : me.0.drain_trail ≡ t = (drains k s R seat me.0 at me.1 i 0 role).1 in
+pub subtracts_extend : SubtractExtendsRun
+subtracts_extend k slots seat me e role has i at_i s R _ at _ = let small : k.ceiling < 2 ^ 32 = R.fits.0 in let t : List DrainStep = R.drain_trail in let same : me.0.drain_trail ≡ t = (drains k s R seat me.0 at me.1 i 0 role).1 in
     let l : Level = level k s R in let N : RingNow k s.words R.raise_trail t l = ring_now k s R in let has' : held_entry t ≡ Some e = ap held_entry (sym same) ∙ has in let hand : l.drainer_hand ≡ Some (entry_id e) = N.shows.drainer_is ∙ ap id_in has' in
     let n : ℕ = get_or s.words (entry_index e) 0 in let x : ℕ = get_or s.words i 0 in let here : entry_index e ≡ i = sym at_i in
     let values : (j : ℕ) → entry_index e ≡ j → (get_or s.words (entry_index e) 0 + (2 ^ 64 - 1)) % 2 ^ 64 ≡ (get_or s.words j 0 + (2 ^ 64 - 1)) % 2 ^ 64 = λ j z. ap (λ (j : ℕ). (get_or s.words j 0 + (2 ^ 64 - 1)) % 2 ^ 64) z in
     let value : n - 1 ≡ (x + (2 ^ 64 - 1)) % 2 ^ 64 = sym (lowered k small s.words R.raise_trail t l N e has') ∙ values i here in let found : n ≡ x = ap (λ (j : ℕ). get_or s.words j 0) here in (
-      with_drain_step (Subtracted x) me.0,
-      keeps,
-      tt,
+      (Subtracted x),
       drain_moves k s R seat me.0 at me.1 i ((x + (2 ^ 64 - 1)) % 2 ^ 64) role (Subtracted x) Finish refl refl (is_some_of l.drainer_hand (entry_id e) hand)
           (subst (λ (h : Option ℕ). Shows k.start (set s.words i ((x + (2 ^ 64 - 1)) % 2 ^ 64)) R.raise_trail (Subtracted x ∷ t) (after_finish h l)) (sym hand)
           (subst (λ (y : ℕ × ℕ × ℕ). Shows k.start (set s.words y.0 y.1) R.raise_trail (Subtracted y.2 ∷ t) (after_finish (Some (entry_id e)) l)) (λ z. (here z, value z, found z)) (finishes_shown k small s.words R.raise_trail t l N e has')))
           (subst (λ (h : Option ℕ). StillHolds k.start (set s.words i ((x + (2 ^ 64 - 1)) % 2 ^ 64)) R.raise_trail (Subtracted x ∷ t) (after_finish h l)) (sym hand)
           (subst (λ (y : ℕ × ℕ × ℕ). StillHolds k.start (set s.words y.0 y.1) R.raise_trail (Subtracted y.2 ∷ t) (after_finish (Some (entry_id e)) l)) (λ z. (here z, value z, found z)) (finishes_still k small s.words R.raise_trail t l N e has'))),
       (subst (λ (y : ℕ). 0 < y % 2 ^ 32) found (one_found k small s.words R.raise_trail t l N e has'), refl),
-    ))
+    )
+
+pub subtracts : SubtractIsAllowed
+subtracts k slots seat me e role has i at_i = drain_allowed k slots seat me i (λ n. (n + (2 ^ 64 - 1)) % 2 ^ 64) (TellsSubtract (step slots i 1 0 none) me) (subtracts_extend k slots seat me e role has i at_i)

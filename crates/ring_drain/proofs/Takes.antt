@@ -2,13 +2,13 @@
 use Rattle.std.proofs.Common.{◌≡◌, ℕ, ◌+◌, ◌%◌, ◌^◌, ◌≢◌, eqb, Bool, true, false, cond, List, [], ◌∷◌, length, get_or, sym, refl, ap, ◌∙◌, subst, arith, ne_eqb}
 use mathlib.Core.Option.{none}
 use Rattle.std.specs.Prelude.{Some}
-use Rattle.atomic_table.specs.Table.{step, keeps}
+use Rattle.atomic_table.specs.Table.{step}
 use Rattle.cyc_level.specs.declared.Event.TheVariants.{Take}
 use Rattle.cyc_level.specs.Level.{Cyclic, Cyclics, Level, soft_list}
 use Rattle.cyc_level.specs.Lawful.{IsId}
 use Rattle.cyc_level.specs.Events.{first_of, rest_of, after}
 use Rattle.cyc_level.proofs.Maps.{some_same}
-use Rattle.ring_drain.specs.Allowed.{TakeIsAllowed}
+use Rattle.ring_drain.specs.Allowed.{TakeIsAllowed, TakeExtendsRun}
 use Rattle.ring_rule.specs.declared.RaiseStep.{RaiseStep}
 use Rattle.ring_rule.specs.declared.DrainStep.{DrainStep}
 use Rattle.ring_rule.specs.declared.DrainStep.TheVariants.{Took}
@@ -16,10 +16,10 @@ use Rattle.ring_rule.specs.declared.Setting.{Setting}
 use Rattle.ring_rule.specs.Words.{place, entry_id, entry_index}
 use Rattle.ring_rule.specs.Trail.{producer_index, held_entry, id_in, soft_bank_of, consumer_index, producer_seen}
 use Rattle.ring_rule.specs.Shown.{HoldsEntry, BankHolds, Shows, StillHolds}
-use Rattle.ring_rule.specs.Steps.{with_drain_step, TellsTake}
+use Rattle.ring_rule.specs.Steps.{TellsTake}
 use Rattle.ring_rule.proofs.Seats.{level, drains, drain_moves}
 use Rattle.ring_rule.proofs.Now.{RingNow, ring_now, loaded, index_low, softs_held}
-use Rattle.ring_rule.proofs.Stands.{and_stands}
+use Rattle.ring_rule.proofs.Stands.{drain_allowed}
 
 first_some : (xs : List ℕ) → xs ≢ [] → (id : ℕ) × (first_of xs ≡ Some id)
 first_some [] ne = absurd (ne refl)
@@ -95,16 +95,13 @@ module _ (k : Setting) (ws : List ℕ) (rs : List RaiseStep) (ds : List DrainSte
     none_left = λ end bank e. absurd (cc);
   }
 
-pub takes : TakeIsAllowed
-takes k slots seat me end role bare saw more i lies = and_stands k slots seat me i (λ n. n) (TellsTake (step slots i 0 0 none) me) (λ s R _ at _. let t : List DrainStep = R.drain_trail in let same : me.0.drain_trail ≡ t = (drains k s R seat me.0 at me.1 i 0 role).1 in
+pub takes_extend : TakeExtendsRun
+takes_extend k slots seat me end role bare saw more i lies s R _ at _ = let t : List DrainStep = R.drain_trail in let same : me.0.drain_trail ≡ t = (drains k s R seat me.0 at me.1 i 0 role).1 in
     let l : Level = level k s R in let N : RingNow k s.words R.raise_trail t l = ring_now k s R in
     let left = N.still.some_left end (ap producer_seen (sym same) ∙ saw) (λ e. more (e ∙ ap (λ t. consumer_index k.start t % 2 ^ 32) (sym same))) in
     let first = first_some (soft_list l) left in let id : ℕ = first.0 in let oldest : first_of (soft_list l) ≡ Some id = first.1 in
-    let here : place l.soft_bank (consumer_index k.start t) ≡ i = (ap (λ (b : ℕ). place b (consumer_index k.start t)) N.shows.soft_is ∙ ap (λ (t : List DrainStep). place (soft_bank_of t) (consumer_index k.start t)) (sym same)) ∙ sym lies in
-    let w = with_drain_step (Took (get_or s.words i 0)) me.0 in (
-      w,
-      keeps,
-      tt,
+    let here : place l.soft_bank (consumer_index k.start t) ≡ i = (ap (λ (b : ℕ). place b (consumer_index k.start t)) N.shows.soft_is ∙ ap (λ (t : List DrainStep). place (soft_bank_of t) (consumer_index k.start t)) (sym same)) ∙ sym lies in (
+      (Took (get_or s.words i 0)),
       drain_moves k s R seat me.0 at me.1 i (get_or s.words i 0) role (Took (get_or s.words i 0)) Take refl refl
           (N.shows.drainer_is ∙ ap id_in (ap held_entry (sym same) ∙ bare), left)
           (loaded (λ x. Shows k.start x R.raise_trail (Took (get_or s.words i 0) ∷ t) (after Take l)) s.words i
@@ -112,4 +109,7 @@ takes k slots seat me end role bare saw more i lies = and_stands k slots seat me
           (loaded (λ x. StillHolds k.start x R.raise_trail (Took (get_or s.words i 0) ∷ t) (after Take l)) s.words i
           (subst (λ (j : ℕ). StillHolds k.start s.words R.raise_trail (Took (get_or s.words j 0) ∷ t) (after Take l)) here (takes_still k s.words R.raise_trail t l N id oldest))),
       (subst (λ (j : ℕ). IsId (entry_id (get_or s.words j 0))) here (named k s.words R.raise_trail t l N id oldest), refl),
-    ))
+    )
+
+pub takes : TakeIsAllowed
+takes k slots seat me end role bare saw more i lies = drain_allowed k slots seat me i (λ n. n) (TellsTake (step slots i 0 0 none) me) (takes_extend k slots seat me end role bare saw more i lies)

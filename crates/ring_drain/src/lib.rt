@@ -1,27 +1,48 @@
-//! The soft side's steps on a bank and on a pend word of a ring: each keeps the ring's rule.
+//! The soft side's steps on a bank and on a pend word of a ring.
 //!
-//! The functions do nothing: each one's contract is a law. When a step may be made stands in `specs/Allowed.antt`; the event
-//! that it is stands with the steps in `ring_rule`.
+//! Each step is proved to keep the ring's rule, and to be its one event of the level, or none: whatever the other side did,
+//! the run gains this event and nothing else. `specs/Allowed.antt` says when each step may be made. The functions do nothing:
+//! each one's contract is a law.
 #![tactic(auto)]
 
-ghost use Rattle.ring_drain.specs.Allowed.{HardBankLoadIsAllowed, ProducerLoadIsAllowed, TakeIsAllowed, SubtractIsAllowed};
+ghost use Rattle.ring_drain.specs.Allowed.{HardBankLoadIsAllowed, HardBankLoadExtendsRun, ProducerLoadIsAllowed, ProducerLoadExtendsRun, TakeIsAllowed, TakeExtendsRun, SubtractIsAllowed, SubtractExtendsRun};
 
-/// Where it is allowed, the load of the hard bank is no event.
+/// Where it may be made, the load of the hard bank keeps the rule, and tells that a lawful level stands.
 pub fn hard_bank_load_is_allowed()
     ensures { HardBankLoadIsAllowed }
 {}
 
-/// Where it is allowed, the load of a producer word is no event.
+/// Where it may be made, the load of the hard bank is no event.
+pub fn hard_bank_load_extends_the_run()
+    ensures { HardBankLoadExtendsRun }
+{}
+
+/// Where it may be made, the load of a producer word keeps the rule, and tells that a lawful level stands.
 pub fn producer_load_is_allowed()
     ensures { ProducerLoadIsAllowed }
 {}
 
-/// Where it is allowed, the load of a buffer word is the event Take.
+/// Where it may be made, the load of a producer word is no event.
+pub fn producer_load_extends_the_run()
+    ensures { ProducerLoadExtendsRun }
+{}
+
+/// Where it may be made, the load of a buffer word keeps the rule, and tells that a lawful level stands.
 pub fn take_is_allowed()
     ensures { TakeIsAllowed }
 {}
 
-/// Where it is allowed, the `fetch_sub` of 1 is the event Finish.
+/// Where it may be made, the load of a buffer word is the event Take.
+pub fn take_extends_the_run()
+    ensures { TakeExtendsRun }
+{}
+
+/// Where it may be made, the `fetch_sub` of 1 keeps the rule, and tells that a lawful level stands.
 pub fn subtract_is_allowed()
     ensures { SubtractIsAllowed }
+{}
+
+/// Where it may be made, the `fetch_sub` of 1 is the event Finish.
+pub fn subtract_extends_the_run()
+    ensures { SubtractExtendsRun }
 {}

@@ -3,7 +3,7 @@ use Rattle.std.proofs.Common.{◌≡◌, ℕ, ◌+◌, ◌-◌, ◌*◌, ◌%◌
 use mathlib.Core.Option.{none}
 use Rattle.std.specs.Prelude.{Option, Some, None}
 use Rattle.std.specs.Option.{option_map}
-use Rattle.atomic_table.specs.Table.{step, keeps}
+use Rattle.atomic_table.specs.Table.{step}
 use Rattle.cyc_level.specs.declared.Event.TheVariants.{Expire}
 use Rattle.cyc_level.specs.Level.{Cyclic, Level, count, count_in, in_hand}
 use Rattle.cyc_level.specs.Lawful.{Lawful}
@@ -11,7 +11,7 @@ use Rattle.cyc_level.specs.Events.{changed_at, cyclic_after_expire, hand_after_e
 use Rattle.cyc_level.specs.Runs.{StayCounts, one_more}
 use Rattle.cyc_level.proofs.Maps.{some_same, is_some_and, at_cases}
 use Rattle.cyc_level.proofs.Keeps.{always_lawful, same_ceiling}
-use Rattle.ring_raise.specs.Allowed.{AddIsAllowed}
+use Rattle.ring_raise.specs.Allowed.{AddIsAllowed, AddExtendsRun}
 use Rattle.cyc_types.specs.Limits.{greatest_bank, cyclics}
 use Rattle.ring_rule.specs.Words.{entry_id, producer_word, hard_word, soft_word, word_count}
 use Rattle.ring_rule.specs.declared.RaiseStep.{RaiseStep}
@@ -19,11 +19,11 @@ use Rattle.ring_rule.specs.declared.RaiseStep.TheVariants.{Added}
 use Rattle.ring_rule.specs.declared.DrainStep.{DrainStep}
 use Rattle.ring_rule.specs.Trail.{open_stay, ended_calls, firer_hand_of, marked_of, seen_pend, made_calls, consumer_index}
 use Rattle.ring_rule.specs.Shown.{Shows, StillHolds}
-use Rattle.ring_rule.specs.Steps.{with_raise_step, TellsAdd}
+use Rattle.ring_rule.specs.Steps.{TellsAdd}
 use Rattle.ring_rule.proofs.Words.{keeps_option_map, holds_high}
 use Rattle.ring_rule.proofs.Seats.{level, raiser, raise_moves}
 use Rattle.ring_rule.proofs.Stays.{behind, same_if, same_expired, not_held}
-use Rattle.ring_rule.proofs.Stands.{and_stands}
+use Rattle.ring_rule.proofs.Stands.{raise_allowed}
 
 module _ (start : ℕ) (ws : List ℕ) (wide : length ws ≡ word_count) (rs : List RaiseStep) (ds : List DrainStep) (l : Level) (law : Lawful l) (sh : Shows start ws rs ds l) (le : StillHolds start ws rs ds l)
     (i id : ℕ) (st : StayCounts) (is : open_stay id rs ≡ Some st) (at_i : st.index ≡ i) (free : ¬ (marked_of rs ≡ Some id)) where
@@ -106,18 +106,16 @@ module _ (start : ℕ) (ws : List ℕ) (wide : length ws ≡ word_count) (rs : L
     is_some_and (λ (c : Cyclic). (c.count < l.ceiling) × (c.sent < 2 ^ 64 - 1)) (l.cyclics id) c known.1 ((let a = le.seen_is_enough id in let b : count l id ≡ c.count = ap count_in known.1 in omega (arith, a, b, below, is_ceiling)), subst (λ (x : ℕ). x < 2 ^ 64 - 1) known.3 room),
   )
 
-pub adds : AddIsAllowed
-adds k slots seat me i id st role is at_i free bare below room = and_stands k slots seat me i (λ n. (n + 1) % 2 ^ 64) (TellsAdd id (step slots i 1 0 none) me) (λ s R _ at _. let small : k.ceiling < 2 ^ 32 = R.fits.0 in let t : List RaiseStep = R.raise_trail in let same : me.0.raise_trail ≡ t = (raiser k s R seat me.0 at me.1 i 0 role).1 in
+pub adds_extend : AddExtendsRun
+adds_extend k slots seat me i id st role is at_i free bare below room s R _ at _ = let small : k.ceiling < 2 ^ 32 = R.fits.0 in let t : List RaiseStep = R.raise_trail in let same : me.0.raise_trail ≡ t = (raiser k s R seat me.0 at me.1 i 0 role).1 in
     let l : Level = level k s R in let law : Lawful l = always_lawful k.ceiling R.events R.enabled in
     let is' : open_stay id t ≡ Some st = ap (open_stay id) (sym same) ∙ is in let free' : ¬ (marked_of t ≡ Some id) = λ e. free (ap marked_of same ∙ e) in
     let below' : seen_pend id t < k.ceiling = subst (λ (t : List RaiseStep). seen_pend id t < k.ceiling) same below in
-    let n : ℕ = get_or s.words i 0 in let w = with_raise_step (Added id n) me.0 in
+    let n : ℕ = get_or s.words i 0 in
     let f = found k.start s.words R.wide t R.drain_trail l law R.shows R.still i id st is' at_i free' in
     let top : n ≤ seen_pend id t = subst (λ (x : ℕ). x ≤ seen_pend id t) (sym (counted k.start s.words R.wide t R.drain_trail l law R.shows R.still i id st is' at_i free')) (R.still.seen_is_enough id) in
     let fits : (n + 1) % 2 ^ 64 ≡ n + 1 = mod-eq_of_lt (omega (arith, top, below', small)) in (
-      w,
-      keeps,
-      tt,
+      (Added id n),
       raise_moves k s R seat me.0 at me.1 i ((n + 1) % 2 ^ 64) role (Added id n) (Expire id) refl refl
           (adds_enabled k.start s.words R.wide t R.drain_trail l law R.shows R.still i id st is' at_i free' k.ceiling (same_ceiling k.ceiling R.events) (ap firer_hand_of (sym same) ∙ bare) below' room)
           (subst (λ (x : ℕ). Shows k.start (set s.words i x) (Added id n ∷ t) R.drain_trail (after (Expire id) l)) (sym fits)
@@ -125,4 +123,7 @@ adds k slots seat me i id st role is at_i free bare below room = and_stands k sl
           (subst (λ (x : ℕ). StillHolds k.start (set s.words i x) (Added id n ∷ t) R.drain_trail (after (Expire id) l)) (sym fits)
           (adds_still k.start s.words R.wide t R.drain_trail l law R.shows R.still i id st is' at_i free')),
       (subst (λ (t : List RaiseStep). n ≤ seen_pend id t) (sym same) top, refl),
-    ))
+    )
+
+pub adds : AddIsAllowed
+adds k slots seat me i id st role is at_i free bare below room = raise_allowed k slots seat me i (λ n. (n + 1) % 2 ^ 64) (TellsAdd id (step slots i 1 0 none) me) (adds_extend k slots seat me i id st role is at_i free bare below room)

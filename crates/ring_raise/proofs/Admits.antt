@@ -4,14 +4,14 @@ use mathlib.Core.Option.{none}
 use mathlib.Core.Logic.{dite}
 use native.Mathlib.Decide.{ℕ_discrete}
 use Rattle.std.specs.Prelude.{Option, Some, None}
-use Rattle.atomic_table.specs.Table.{step, keeps}
+use Rattle.atomic_table.specs.Table.{step}
 use Rattle.cyc_level.specs.declared.Event.TheVariants.{Admit}
 use Rattle.cyc_level.specs.Level.{Cyclic, Cyclics, Level, count_in, in_hand}
 use Rattle.cyc_level.specs.Lawful.{IsId}
 use Rattle.cyc_level.specs.Events.{changed_at, Enabled, after}
 use Rattle.cyc_level.specs.Runs.{StayCounts}
 use Rattle.cyc_level.proofs.Maps.{some_same, none_some, not_none, at_cases}
-use Rattle.ring_raise.specs.Allowed.{AdmitIsAllowed}
+use Rattle.ring_raise.specs.Allowed.{AdmitIsAllowed, AdmitExtendsRun}
 use Rattle.cyc_types.specs.Limits.{cyclics}
 use Rattle.ring_rule.specs.Words.{entry_id}
 use Rattle.ring_rule.specs.declared.RaiseStep.{RaiseStep}
@@ -20,12 +20,12 @@ use Rattle.ring_rule.specs.declared.DrainStep.{DrainStep}
 use Rattle.ring_rule.specs.declared.Setting.{Setting}
 use Rattle.ring_rule.specs.Trail.{open_stay, ended_calls, firer_hand_of, seen_pend, hard_bank_of, made_calls, consumer_index}
 use Rattle.ring_rule.specs.Shown.{IsSameStay, Shows, StillHolds}
-use Rattle.ring_rule.specs.Steps.{with_raise_step, TellsAdmit}
+use Rattle.ring_rule.specs.Steps.{TellsAdmit}
 use Rattle.ring_rule.proofs.Words.{Keeps, holds_kept}
 use Rattle.ring_rule.proofs.Seats.{level, raiser, raise_moves}
 use Rattle.ring_rule.proofs.Stays.{not_held}
 use Rattle.ring_rule.proofs.Now.{RingNow, ring_now, loaded}
-use Rattle.ring_rule.proofs.Stands.{and_stands}
+use Rattle.ring_rule.proofs.Stands.{raise_allowed}
 
 -- an id with no stay is not admitted
 pub absent : (m e : ℕ) (o : Option StayCounts) (p : Option Cyclic) → o ≡ None → IsSameStay m e o p → (p ≡ None) × (m ≡ e)
@@ -104,16 +104,17 @@ module _ (k : Setting) (ws : List ℕ) (rs : List RaiseStep) (ds : List DrainSte
     none_left = le.none_left;
   }
 
-pub admits : AdmitIsAllowed
-admits k slots seat me i id role bare unused empty room low real = and_stands k slots seat me i (λ n. n) (TellsAdmit id (step slots i 0 0 none) me) (λ s R _ at _. let t : List RaiseStep = R.raise_trail in let same : me.0.raise_trail ≡ t = (raiser k s R seat me.0 at me.1 i 0 role).1 in
+pub admits_extend : AdmitExtendsRun
+admits_extend k slots seat me i id role bare unused empty room low real s R _ at _ = let t : List RaiseStep = R.raise_trail in let same : me.0.raise_trail ≡ t = (raiser k s R seat me.0 at me.1 i 0 role).1 in
     let l : Level = level k s R in let N : RingNow k s.words t R.drain_trail l = ring_now k s R in let bare' : open_stay id t ≡ None = ap (open_stay id) (sym same) ∙ bare in
     let unused' : (j : ℕ) (s : StayCounts) → open_stay j t ≡ Some s → ¬ (s.index ≡ i) = λ j s e. unused j s (ap (open_stay j) same ∙ e) in (
-      with_raise_step (Admitted id i) me.0,
-      keeps,
-      tt,
+      (Admitted id i),
       raise_moves k s R seat me.0 at me.1 i (get_or s.words i 0) role (Admitted id i) (Admit id i) refl refl
           (admits_enabled k s.words t R.drain_trail l N id i bare' unused' low real (ap firer_hand_of (sym same) ∙ empty) (subst (λ (t : List RaiseStep). i < 2 ^ hard_bank_of t) same room))
           (loaded (λ x. Shows k.start x (Admitted id i ∷ t) R.drain_trail (after (Admit id i) l)) s.words i (admits_shown k s.words t R.drain_trail l N id i bare' unused' low))
           (loaded (λ x. StillHolds k.start x (Admitted id i ∷ t) R.drain_trail (after (Admit id i) l)) s.words i (admits_still k s.words t R.drain_trail l N id i bare' unused' low)),
       (zero_found k s.words t R.drain_trail l N id i bare' unused' low, refl),
-    ))
+    )
+
+pub admits : AdmitIsAllowed
+admits k slots seat me i id role bare unused empty room low real = raise_allowed k slots seat me i (λ n. n) (TellsAdmit id (step slots i 0 0 none) me) (admits_extend k slots seat me i id role bare unused empty room low real)

@@ -5,13 +5,13 @@ use mathlib.Core.Logic.{dite}
 use native.Mathlib.Decide.{ℕ_discrete}
 use Rattle.std.specs.Prelude.{Option, Some, None}
 use Rattle.std.specs.Option.{option_map}
-use Rattle.atomic_table.specs.Table.{step, keeps}
+use Rattle.atomic_table.specs.Table.{step}
 use Rattle.cyc_level.specs.declared.Event.TheVariants.{Lose}
 use Rattle.cyc_level.specs.Level.{Cyclic, Cyclics, Level, count, count_in, in_hand}
 use Rattle.cyc_level.specs.Events.{changed_at, cyclic_after_lose, Enabled, after}
 use Rattle.cyc_level.specs.Runs.{StayCounts, one_more}
 use Rattle.cyc_level.proofs.Maps.{some_same, is_some_and, at_cases}
-use Rattle.ring_raise.specs.Allowed.{RaiseLoadIsAllowed}
+use Rattle.ring_raise.specs.Allowed.{RaiseLoadIsAllowed, RaiseLoadExtendsRun}
 use Rattle.ring_rule.specs.Words.{entry_id}
 use Rattle.ring_rule.specs.declared.RaiseStep.{RaiseStep}
 use Rattle.ring_rule.specs.declared.RaiseStep.TheVariants.{Loaded, Lost}
@@ -19,12 +19,12 @@ use Rattle.ring_rule.specs.declared.DrainStep.{DrainStep}
 use Rattle.ring_rule.specs.declared.Setting.{Setting}
 use Rattle.ring_rule.specs.Trail.{open_stay, ended_calls, firer_hand_of, marked_of, seen_pend, made_calls, consumer_index}
 use Rattle.ring_rule.specs.Shown.{Shows, StillHolds}
-use Rattle.ring_rule.specs.Steps.{with_raise_step, TellsRaiseLoad}
+use Rattle.ring_rule.specs.Steps.{TellsRaiseLoad}
 use Rattle.ring_rule.proofs.Words.{keeps_option_map, holds_kept}
 use Rattle.ring_rule.proofs.Seats.{level, raiser, raise_moves, raise_stays}
 use Rattle.ring_rule.proofs.Stays.{behind, same_if, same_dropped, not_held}
 use Rattle.ring_rule.proofs.Now.{RingNow, ring_now, loaded}
-use Rattle.ring_rule.proofs.Stands.{and_stands}
+use Rattle.ring_rule.proofs.Stands.{raise_allowed}
 
 module _ (k : Setting) (small : k.ceiling < 2 ^ 32) (ws : List ℕ) (rs : List RaiseStep) (ds : List DrainStep) (l : Level) (N : RingNow k ws rs ds l) (i id : ℕ) (st : StayCounts) (is : open_stay id rs ≡ Some st) (at_i : st.index ≡ i)
     (free : ¬ (marked_of rs ≡ Some id)) where
@@ -134,25 +134,24 @@ module _ (k : Setting) (small : k.ceiling < 2 ^ 32) (ws : List ℕ) (rs : List R
     none_left = le.none_left;
   }
 
-pub raise_loads : RaiseLoadIsAllowed
-raise_loads k slots seat me i id st role is at_i free bare room ceiling same_c = and_stands k slots seat me i (λ n. n) (TellsRaiseLoad id ceiling (step slots i 0 0 none) me) (λ s R _ at _. let small : k.ceiling < 2 ^ 32 = R.fits.0 in let t : List RaiseStep = R.raise_trail in let same : me.0.raise_trail ≡ t = (raiser k s R seat me.0 at me.1 i 0 role).1 in
+pub raise_loads_extend : RaiseLoadExtendsRun
+raise_loads_extend k slots seat me i id st role is at_i free bare room ceiling same_c s R _ at _ = let small : k.ceiling < 2 ^ 32 = R.fits.0 in let t : List RaiseStep = R.raise_trail in let same : me.0.raise_trail ≡ t = (raiser k s R seat me.0 at me.1 i 0 role).1 in
     let l : Level = level k s R in let N : RingNow k s.words t R.drain_trail l = ring_now k s R in let is' : open_stay id t ≡ Some st = ap (open_stay id) (sym same) ∙ is in let free' : ¬ (marked_of t ≡ Some id) = λ e. free (ap marked_of same ∙ e) in
     let n : ℕ = get_or s.words i 0 in let high = subst (λ (t : List RaiseStep). n ≤ seen_pend id t) (sym same) (top k small s.words t R.drain_trail l N i id st is' at_i free') in let most : n ≤ ceiling = subst (λ (x : ℕ). n ≤ x) (sym same_c) (topmost k small s.words t R.drain_trail l N i id st is' at_i free') in dite (ℕ_discrete n ceiling)
     (λ full. (
-      with_raise_step (Lost id n) me.0,
-      keeps,
-      tt,
+      (Lost id n),
       raise_moves k s R seat me.0 at me.1 i n role (Lost id n) (Lose id) refl refl (loses_enabled k small s.words t R.drain_trail l N i id st is' at_i free' (ap firer_hand_of (sym same) ∙ bare) (full ∙ same_c) room)
           (loaded (λ x. Shows k.start x (Lost id n ∷ t) R.drain_trail (after (Lose id) l)) s.words i (loses_shown k small s.words t R.drain_trail l N i id st is' at_i free'))
           (loaded (λ x. StillHolds k.start x (Lost id n ∷ t) R.drain_trail (after (Lose id) l)) s.words i (loses_still k small s.words t R.drain_trail l N i id st is' at_i free')),
       (high, most, (λ _. refl), λ ne. absurd (ne full)),
     ))
     (λ less. (
-      with_raise_step (Loaded id n) me.0,
-      keeps,
-      tt,
+      (Loaded id n),
       raise_stays k s R seat me.0 at me.1 i n role (Loaded id n) refl
           (loaded (λ x. Shows k.start x (Loaded id n ∷ t) R.drain_trail l) s.words i (loads_shown k small s.words t R.drain_trail l N i id st is' at_i free'))
           (loaded (λ x. StillHolds k.start x (Loaded id n ∷ t) R.drain_trail l) s.words i (loads_still k small s.words t R.drain_trail l N i id st is' at_i free')),
       (high, most, (λ e. absurd (less e)), λ _. refl),
-    )))
+    ))
+
+pub raise_loads : RaiseLoadIsAllowed
+raise_loads k slots seat me i id st role is at_i free bare room ceiling same_c = raise_allowed k slots seat me i (λ n. n) (TellsRaiseLoad id ceiling (step slots i 0 0 none) me) (raise_loads_extend k slots seat me i id st role is at_i free bare room ceiling same_c)

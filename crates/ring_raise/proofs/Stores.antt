@@ -4,11 +4,11 @@ use native.Mathlib.Nat.{pow-suc}
 use Rattle.atomic_table.proofs.Lists.{one_turn}
 use mathlib.Core.Option.{none}
 use Rattle.std.specs.Prelude.{Some}
-use Rattle.atomic_table.specs.Table.{step, keeps}
+use Rattle.atomic_table.specs.Table.{step}
 use Rattle.cyc_level.specs.Level.{Cyclic, Level}
 use Rattle.cyc_level.specs.Runs.{StayCounts}
 use Rattle.cyc_level.proofs.Room.{new_fits}
-use Rattle.ring_raise.specs.Allowed.{StoreIsAllowed}
+use Rattle.ring_raise.specs.Allowed.{StoreIsAllowed, StoreExtendsRun}
 use Rattle.cyc_types.specs.Limits.{cyclics}
 use Rattle.ring_rule.specs.declared.RaiseStep.{RaiseStep}
 use Rattle.ring_rule.specs.declared.RaiseStep.TheVariants.{Stored}
@@ -17,12 +17,12 @@ use Rattle.ring_rule.specs.declared.Setting.{Setting}
 use Rattle.ring_rule.specs.Words.{place, producer_word, entry, hard_word, soft_word}
 use Rattle.ring_rule.specs.Trail.{open_stay, ended_calls, firer_hand_of, hard_bank_of, producer_index, made_calls, consumer_index}
 use Rattle.ring_rule.specs.Shown.{IsHandStored, Shows, StillHolds}
-use Rattle.ring_rule.specs.Steps.{with_raise_step, TellsStore}
+use Rattle.ring_rule.specs.Steps.{TellsStore}
 use Rattle.ring_rule.proofs.Words.{place_high, place_low, keeps_all, holds_kept}
 use Rattle.ring_rule.proofs.Seats.{level, raiser, raise_stays}
 use Rattle.ring_rule.proofs.Stays.{behind}
 use Rattle.ring_rule.proofs.Now.{RingNow, ring_now, index_low}
-use Rattle.ring_rule.proofs.Stands.{and_stands}
+use Rattle.ring_rule.proofs.Stands.{raise_allowed}
 
 -- two indexes of a bank less than its size apart lie in different words
 pub other_place : (bank i j : ℕ) → i < j → j < i + 2 ^ bank → place bank i ≢ place bank j
@@ -92,15 +92,16 @@ module _ (k : Setting) (ws : List ℕ) (rs : List RaiseStep) (ds : List DrainSte
     none_left = le.none_left;
   }
 
-pub stores : StoreIsAllowed
-stores k slots seat me id st role up is i at_i v is_v = and_stands k slots seat me i (λ _. v) (λ _. TellsStore (step slots i v 0 none) me v) (λ s R _ at _. let t : List RaiseStep = R.raise_trail in let same : me.0.raise_trail ≡ t = (raiser k s R seat me.0 at me.1 i v role).1 in
+pub stores_extend : StoreExtendsRun
+stores_extend k slots seat me id st role up is i at_i v is_v s R _ at _ = let t : List RaiseStep = R.raise_trail in let same : me.0.raise_trail ≡ t = (raiser k s R seat me.0 at me.1 i v role).1 in
     let l : Level = level k s R in let N : RingNow k s.words t R.drain_trail l = ring_now k s R in let up' : firer_hand_of t ≡ Some id = ap firer_hand_of (sym same) ∙ up in let is' : open_stay id t ≡ Some st = ap (open_stay id) (sym same) ∙ is in
     let here : place l.hard_bank (producer_index k.start t) ≡ i = ap (λ (b : ℕ). place b (producer_index k.start t)) N.shows.hard_is ∙ (ap (λ (t : List RaiseStep). place (hard_bank_of t) (producer_index k.start t)) (sym same) ∙ sym at_i) in (
-      with_raise_step (Stored v) me.0,
-      keeps,
-      tt,
+      (Stored v),
       raise_stays k s R seat me.0 at me.1 i v role (Stored v) refl
           (subst (λ (x : ℕ × ℕ). Shows k.start (set s.words x.0 x.1) (Stored x.1 ∷ t) R.drain_trail l) (λ z. (here z, sym is_v z)) (puts_shown k s.words t R.drain_trail l N id st up' is'))
           (subst (λ (x : ℕ × ℕ). StillHolds k.start (set s.words x.0 x.1) (Stored x.1 ∷ t) R.drain_trail l) (λ z. (here z, sym is_v z)) (puts_still k s.words t R.drain_trail l N id st up' is')),
       refl,
-    ))
+    )
+
+pub stores : StoreIsAllowed
+stores k slots seat me id st role up is i at_i v is_v = raise_allowed k slots seat me i (λ _. v) (λ _. TellsStore (step slots i v 0 none) me v) (stores_extend k slots seat me id st role up is i at_i v is_v)

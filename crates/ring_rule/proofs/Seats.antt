@@ -17,7 +17,7 @@ use Rattle.ring_rule.specs.declared.Setting.{Setting}
 use Rattle.ring_rule.specs.Trail.{raise_event, drain_event, raise_events, drain_events}
 use Rattle.ring_rule.specs.Shown.{Shows, StillHolds}
 use Rattle.ring_rule.specs.Rule.{RingState, IsSeat, MeetsRule}
-use Rattle.ring_rule.specs.Steps.{with_raise_step, with_drain_step}
+use Rattle.ring_rule.specs.Steps.{with_raise_step, with_drain_step, ExtendsByRaise, ExtendsByDrain}
 
 abbrev pub level : (k : Setting) (s : RingState) → MeetsRule k s → Level
 level k s R = reached k.ceiling R.events
@@ -49,42 +49,52 @@ module _ (k : Setting) (s : RingState) (R : MeetsRule k s) (seat : ℕ) (v : Sea
 
     -- a step of the firing side that is the event e
     pub raise_moves : (x : RaiseStep) (e : Event) → raise_event x ≡ e ∷ [] → is_soft_event e ≡ false → Enabled e (level k s R)
-        → Shows k.start (set s.words i n) (x ∷ R.raise_trail) R.drain_trail (after e (level k s R)) → StillHolds k.start (set s.words i n) (x ∷ R.raise_trail) R.drain_trail (after e (level k s R)) → MeetsRule k (stepped s i n seat cs (with_raise_step x v) keeps)
-    raise_moves x e one ours on shows learned = let wide = R.wide in let some_seat = R.some_seat in let long = length_set s.views seat (with_raise_step x v) in record {
-      raise_trail = x ∷ R.raise_trail;
-      drain_trail = R.drain_trail;
-      raise_seat = R.raise_seat;
-      drain_seat = R.drain_seat;
-      events = e ∷ R.events;
-      fits = R.fits;
-      wide = length-set s.words i n ∙ wide;
-      some_seat = (omega (arith, long), omega (arith, long));
-      seats = known_after x;
-      enabled = (on, R.enabled);
-      firing_side = ap (λ b. cond b (firing_events R.events) (e ∷ firing_events R.events)) ours ∙ (ap (λ l. e ∷ l) R.firing_side ∙ ap (λ l. l ++ raise_events R.raise_trail) (sym one));
-      soft_side = ap (λ b. cond b (e ∷ soft_events R.events) (soft_events R.events)) ours ∙ R.soft_side;
-      shows = shows;
-      still = learned;
-    }
+        → Shows k.start (set s.words i n) (x ∷ R.raise_trail) R.drain_trail (after e (level k s R)) → StillHolds k.start (set s.words i n) (x ∷ R.raise_trail) R.drain_trail (after e (level k s R)) → ExtendsByRaise k s R (stepped s i n seat cs (with_raise_step x v) keeps) x
+    raise_moves x e one ours on shows learned = let wide = R.wide in let some_seat = R.some_seat in let long = length_set s.views seat (with_raise_step x v) in (
+      record {
+        raise_trail = x ∷ R.raise_trail;
+        drain_trail = R.drain_trail;
+        raise_seat = R.raise_seat;
+        drain_seat = R.drain_seat;
+        events = e ∷ R.events;
+        fits = R.fits;
+        wide = length-set s.words i n ∙ wide;
+        some_seat = (omega (arith, long), omega (arith, long));
+        seats = known_after x;
+        enabled = (on, R.enabled);
+        firing_side = ap (λ b. cond b (firing_events R.events) (e ∷ firing_events R.events)) ours ∙ (ap (λ l. e ∷ l) R.firing_side ∙ ap (λ l. l ++ raise_events R.raise_trail) (sym one));
+        soft_side = ap (λ b. cond b (e ∷ soft_events R.events) (soft_events R.events)) ours ∙ R.soft_side;
+        shows = shows;
+        still = learned;
+      },
+      ap (λ l. l ++ R.events) (sym one),
+      refl,
+      refl,
+    )
 
     -- a step of the firing side that is no event
-    pub raise_stays : (x : RaiseStep) → raise_event x ≡ [] → Shows k.start (set s.words i n) (x ∷ R.raise_trail) R.drain_trail (level k s R) → StillHolds k.start (set s.words i n) (x ∷ R.raise_trail) R.drain_trail (level k s R) → MeetsRule k (stepped s i n seat cs (with_raise_step x v) keeps)
-    raise_stays x bare shows learned = let wide = R.wide in let some_seat = R.some_seat in let long = length_set s.views seat (with_raise_step x v) in record {
-      raise_trail = x ∷ R.raise_trail;
-      drain_trail = R.drain_trail;
-      raise_seat = R.raise_seat;
-      drain_seat = R.drain_seat;
-      events = R.events;
-      fits = R.fits;
-      wide = length-set s.words i n ∙ wide;
-      some_seat = (omega (arith, long), omega (arith, long));
-      seats = known_after x;
-      enabled = R.enabled;
-      firing_side = R.firing_side ∙ ap (λ l. l ++ raise_events R.raise_trail) (sym bare);
-      soft_side = R.soft_side;
-      shows = shows;
-      still = learned;
-    }
+    pub raise_stays : (x : RaiseStep) → raise_event x ≡ [] → Shows k.start (set s.words i n) (x ∷ R.raise_trail) R.drain_trail (level k s R) → StillHolds k.start (set s.words i n) (x ∷ R.raise_trail) R.drain_trail (level k s R) → ExtendsByRaise k s R (stepped s i n seat cs (with_raise_step x v) keeps) x
+    raise_stays x bare shows learned = let wide = R.wide in let some_seat = R.some_seat in let long = length_set s.views seat (with_raise_step x v) in (
+      record {
+        raise_trail = x ∷ R.raise_trail;
+        drain_trail = R.drain_trail;
+        raise_seat = R.raise_seat;
+        drain_seat = R.drain_seat;
+        events = R.events;
+        fits = R.fits;
+        wide = length-set s.words i n ∙ wide;
+        some_seat = (omega (arith, long), omega (arith, long));
+        seats = known_after x;
+        enabled = R.enabled;
+        firing_side = R.firing_side ∙ ap (λ l. l ++ raise_events R.raise_trail) (sym bare);
+        soft_side = R.soft_side;
+        shows = shows;
+        still = learned;
+      },
+      ap (λ l. l ++ R.events) (sym bare),
+      refl,
+      refl,
+    )
 
   module _ (is : v.role ≡ Drain) where
     pub drains : (seat ≡ R.drain_seat) × (v.drain_trail ≡ R.drain_trail)
@@ -103,38 +113,48 @@ module _ (k : Setting) (s : RingState) (R : MeetsRule k s) (seat : ℕ) (v : Sea
         (λ (t : (j ≢ seat) × (get_elem? s.views j ≡ some d)). others_drain x j d t.0 d.role (R.seats j d t.1)) (at_set s.views seat j (with_drain_step x v) d e)
 
     pub drain_moves : (x : DrainStep) (e : Event) → drain_event x ≡ e ∷ [] → is_soft_event e ≡ true → Enabled e (level k s R)
-        → Shows k.start (set s.words i n) R.raise_trail (x ∷ R.drain_trail) (after e (level k s R)) → StillHolds k.start (set s.words i n) R.raise_trail (x ∷ R.drain_trail) (after e (level k s R)) → MeetsRule k (stepped s i n seat cs (with_drain_step x v) keeps)
-    drain_moves x e one ours on shows learned = let wide = R.wide in let some_seat = R.some_seat in let long = length_set s.views seat (with_drain_step x v) in record {
-      raise_trail = R.raise_trail;
-      drain_trail = x ∷ R.drain_trail;
-      raise_seat = R.raise_seat;
-      drain_seat = R.drain_seat;
-      events = e ∷ R.events;
-      fits = R.fits;
-      wide = length-set s.words i n ∙ wide;
-      some_seat = (omega (arith, long), omega (arith, long));
-      seats = known_drain x;
-      enabled = (on, R.enabled);
-      firing_side = ap (λ b. cond b (firing_events R.events) (e ∷ firing_events R.events)) ours ∙ R.firing_side;
-      soft_side = ap (λ b. cond b (e ∷ soft_events R.events) (soft_events R.events)) ours ∙ (ap (λ l. e ∷ l) R.soft_side ∙ ap (λ l. l ++ drain_events R.drain_trail) (sym one));
-      shows = shows;
-      still = learned;
-    }
+        → Shows k.start (set s.words i n) R.raise_trail (x ∷ R.drain_trail) (after e (level k s R)) → StillHolds k.start (set s.words i n) R.raise_trail (x ∷ R.drain_trail) (after e (level k s R)) → ExtendsByDrain k s R (stepped s i n seat cs (with_drain_step x v) keeps) x
+    drain_moves x e one ours on shows learned = let wide = R.wide in let some_seat = R.some_seat in let long = length_set s.views seat (with_drain_step x v) in (
+      record {
+        raise_trail = R.raise_trail;
+        drain_trail = x ∷ R.drain_trail;
+        raise_seat = R.raise_seat;
+        drain_seat = R.drain_seat;
+        events = e ∷ R.events;
+        fits = R.fits;
+        wide = length-set s.words i n ∙ wide;
+        some_seat = (omega (arith, long), omega (arith, long));
+        seats = known_drain x;
+        enabled = (on, R.enabled);
+        firing_side = ap (λ b. cond b (firing_events R.events) (e ∷ firing_events R.events)) ours ∙ R.firing_side;
+        soft_side = ap (λ b. cond b (e ∷ soft_events R.events) (soft_events R.events)) ours ∙ (ap (λ l. e ∷ l) R.soft_side ∙ ap (λ l. l ++ drain_events R.drain_trail) (sym one));
+        shows = shows;
+        still = learned;
+      },
+      ap (λ l. l ++ R.events) (sym one),
+      refl,
+      refl,
+    )
 
-    pub drain_stays : (x : DrainStep) → drain_event x ≡ [] → Shows k.start (set s.words i n) R.raise_trail (x ∷ R.drain_trail) (level k s R) → StillHolds k.start (set s.words i n) R.raise_trail (x ∷ R.drain_trail) (level k s R) → MeetsRule k (stepped s i n seat cs (with_drain_step x v) keeps)
-    drain_stays x bare shows learned = let wide = R.wide in let some_seat = R.some_seat in let long = length_set s.views seat (with_drain_step x v) in record {
-      raise_trail = R.raise_trail;
-      drain_trail = x ∷ R.drain_trail;
-      raise_seat = R.raise_seat;
-      drain_seat = R.drain_seat;
-      events = R.events;
-      fits = R.fits;
-      wide = length-set s.words i n ∙ wide;
-      some_seat = (omega (arith, long), omega (arith, long));
-      seats = known_drain x;
-      enabled = R.enabled;
-      firing_side = R.firing_side;
-      soft_side = R.soft_side ∙ ap (λ l. l ++ drain_events R.drain_trail) (sym bare);
-      shows = shows;
-      still = learned;
-    }
+    pub drain_stays : (x : DrainStep) → drain_event x ≡ [] → Shows k.start (set s.words i n) R.raise_trail (x ∷ R.drain_trail) (level k s R) → StillHolds k.start (set s.words i n) R.raise_trail (x ∷ R.drain_trail) (level k s R) → ExtendsByDrain k s R (stepped s i n seat cs (with_drain_step x v) keeps) x
+    drain_stays x bare shows learned = let wide = R.wide in let some_seat = R.some_seat in let long = length_set s.views seat (with_drain_step x v) in (
+      record {
+        raise_trail = R.raise_trail;
+        drain_trail = x ∷ R.drain_trail;
+        raise_seat = R.raise_seat;
+        drain_seat = R.drain_seat;
+        events = R.events;
+        fits = R.fits;
+        wide = length-set s.words i n ∙ wide;
+        some_seat = (omega (arith, long), omega (arith, long));
+        seats = known_drain x;
+        enabled = R.enabled;
+        firing_side = R.firing_side;
+        soft_side = R.soft_side ∙ ap (λ l. l ++ drain_events R.drain_trail) (sym bare);
+        shows = shows;
+        still = learned;
+      },
+      ap (λ l. l ++ R.events) (sym bare),
+      refl,
+      refl,
+    )

@@ -2,7 +2,7 @@
 use Rattle.std.proofs.Common.{◌≡◌, ℕ, zero, suc, List, [], ◌∷◌, set, sym, refl, subst}
 use mathlib.Core.Option.{some, some-ne-none}
 use lib.ListN.{get_elem?}
-use Rattle.atomic_table.specs.Table.{Allows}
+use Rattle.atomic_table.specs.Table.{keeps, Allows}
 use Rattle.cyc_level.proofs.Room.{conserved_level}
 use Rattle.ring_rule.specs.declared.Role.{Role}
 use Rattle.ring_rule.specs.declared.Role.TheVariants.{Joint, Raise, Drain, Spent}
@@ -12,7 +12,7 @@ use Rattle.ring_rule.specs.declared.SeatView.{SeatView}
 use Rattle.ring_rule.specs.declared.Setting.{Setting}
 use Rattle.ring_rule.specs.Rule.{RingState, HasItsTrail, IsSeat, MeetsRule}
 use Rattle.ring_rule.specs.Conservation.{LevelStands, StandsFor, Conserves}
-use Rattle.ring_rule.specs.Steps.{ThisSeat}
+use Rattle.ring_rule.specs.Steps.{ThisSeat, with_raise_step, with_drain_step, IsAllowed, IsRaiseStep, IsDrainStep}
 use Rattle.ring_rule.specs.Moves.{ClosingStands}
 use Rattle.ring_rule.proofs.Seats.{level}
 use Rattle.ring_rule.proofs.Now.{ring_now}
@@ -54,6 +54,13 @@ at_here (x ∷ xs) (suc i) v w e = at_here xs i v w e
 pub and_stands : (k : Setting) (slots seat : ℕ) (me : ThisSeat) (i : ℕ) (f : ℕ → ℕ) (then : ℕ → ThisSeat → Type 0) → Allows (MeetsRule k) slots seat me i f then → Allows (MeetsRule k) slots seat me i f (λ n m. then n m × StandsFor k m.0)
 and_stands k slots seat me i f then A s R homes at small = let x = A s R homes at small in
     (x.0, x.1, x.2, x.3, (x.4, stands_for k _ x.3 seat x.0 (at_here s.views seat me.0 x.0 at)))
+
+-- a step that extends the run is allowed
+pub raise_allowed : (k : Setting) (slots seat : ℕ) (me : ThisSeat) (i : ℕ) (f : ℕ → ℕ) (tells : ℕ → ThisSeat → Type 0) → IsRaiseStep k slots seat me i f tells → IsAllowed k slots seat me i f tells
+raise_allowed k slots seat me i f tells A = and_stands k slots seat me i f tells (λ s R homes at small. let x = A s R homes at small in (with_raise_step x.0 me.0, keeps, tt, x.1.0, x.2))
+
+pub drain_allowed : (k : Setting) (slots seat : ℕ) (me : ThisSeat) (i : ℕ) (f : ℕ → ℕ) (tells : ℕ → ThisSeat → Type 0) → IsDrainStep k slots seat me i f tells → IsAllowed k slots seat me i f tells
+drain_allowed k slots seat me i f tells A = and_stands k slots seat me i f tells (λ s R homes at small. let x = A s R homes at small in (with_drain_step x.0 me.0, keeps, tt, x.1.0, x.2))
 
 -- a ring that was closed with the seat of both sides
 pub closes : ClosingStands

@@ -1,6 +1,8 @@
 -- What each kind of atomic step tells its seat: which step its trail gains, and what is known of the value found.
-use Rattle.std.specs.Prelude.{◌≡◌, ◌≢◌, ℕ, ◌%◌, ◌<◌, ◌≤◌, true, ◌∷◌}
-use Rattle.atomic_table.specs.Table.{Me, Step}
+use Rattle.std.specs.Prelude.{◌≡◌, ◌≢◌, ℕ, ◌%◌, ◌^◌, ◌<◌, ◌≤◌, true, ◌∷◌, ◌++◌, length, slice_index}
+use mathlib.Core.Option.{some}
+use lib.ListN.{get_elem?}
+use Rattle.atomic_table.specs.Table.{Me, Step, Allows, keeps, stepped}
 use Rattle.cyc_types.specs.Limits.{greatest_bank}
 use Rattle.cyc_level.specs.Lawful.{IsId}
 use Rattle.ring_rule.specs.declared.RaiseStep.{RaiseStep}
@@ -10,7 +12,8 @@ use Rattle.ring_rule.specs.declared.DrainStep.TheVariants.{LoadedHardBank, Loade
 use Rattle.ring_rule.specs.declared.SeatView.{SeatView}
 use Rattle.ring_rule.specs.declared.Setting.{Setting}
 use Rattle.ring_rule.specs.Words.{mark_bit, entry_id}
-use Rattle.ring_rule.specs.Trail.{seen_pend, soft_bank_of, hard_bank_of, has_followed}
+use Rattle.ring_rule.specs.Trail.{seen_pend, soft_bank_of, hard_bank_of, has_followed, raise_event, drain_event}
+use Rattle.ring_rule.specs.Rule.{RingState, MeetsRule}
 use Rattle.ring_rule.specs.Conservation.{StandsFor}
 
 -- the seat that steps: its view, and the slots that it holds, of which there are none
@@ -100,3 +103,37 @@ TellsFollow t me found me' = GainsDrainStep (Followed t.first) me me'
 -- and each step tells, beside this, that a lawful level stands now, with this side's trail
 abbrev pub AndStands : Setting → Telling → Telling
 AndStands k tells t me found me' = tells t me found me' × StandsFor k me'.0
+
+-- what is said of a step: the seat that makes it, the word, the value that it leaves there, and what it tells
+abbrev pub Claim : Type 1
+Claim = (k : Setting) (slots seat : ℕ) (me : ThisSeat) (i : ℕ) → (ℕ → ℕ) → (ℕ → ThisSeat → Type 0) → Type 0
+
+-- the step keeps the rule, whatever the other side did, and tells beside its own that a lawful level stands now
+abbrev pub IsAllowed : Claim
+IsAllowed k slots seat me i f tells = Allows (MeetsRule k) slots seat me i f (λ found me'. tells found me' × StandsFor k me'.0)
+
+-- a step of the firing side: the run gains the event that the step is, or none, and the trail of this side the step
+abbrev pub ExtendsByRaise : (k : Setting) (s : RingState) → MeetsRule k s → RingState → RaiseStep → Type 0
+ExtendsByRaise k s R s' x = (R' : MeetsRule k s') × (R'.events ≡ raise_event x ++ R.events)
+    × (R'.raise_trail ≡ x ∷ R.raise_trail) × (R'.drain_trail ≡ R.drain_trail)
+
+abbrev pub ExtendsByDrain : (k : Setting) (s : RingState) → MeetsRule k s → RingState → DrainStep → Type 0
+ExtendsByDrain k s R s' x = (R' : MeetsRule k s') × (R'.events ≡ drain_event x ++ R.events)
+    × (R'.raise_trail ≡ R.raise_trail) × (R'.drain_trail ≡ x ∷ R.drain_trail)
+
+-- whatever the other side did, the step extends the run so
+abbrev pub IsRaiseStep : Claim
+IsRaiseStep k slots seat me i f tells = (s : RingState) (R : MeetsRule k s) → length s.homes ≡ slots
+    → get_elem? s.views seat ≡ some me.0
+    → slice_index s.words i < 2 ^ 64
+    → (x : RaiseStep)
+    × ExtendsByRaise k s R (stepped s i (f (slice_index s.words i)) seat me.1 (with_raise_step x me.0) keeps) x
+    × tells (slice_index s.words i) (with_raise_step x me.0, me.1)
+
+abbrev pub IsDrainStep : Claim
+IsDrainStep k slots seat me i f tells = (s : RingState) (R : MeetsRule k s) → length s.homes ≡ slots
+    → get_elem? s.views seat ≡ some me.0
+    → slice_index s.words i < 2 ^ 64
+    → (x : DrainStep)
+    × ExtendsByDrain k s R (stepped s i (f (slice_index s.words i)) seat me.1 (with_drain_step x me.0) keeps) x
+    × tells (slice_index s.words i) (with_drain_step x me.0, me.1)

@@ -2,11 +2,11 @@
 use Rattle.std.proofs.Common.{◌≡◌, ℕ, ◌+◌, ◌%◌, ◌^◌, ◌<◌, ◌≤◌, ◌≢◌, eqb, Bool, true, cond, List, [], ◌∷◌, length, get_or, set, sym, refl, ap, ◌∙◌, subst, arith, eq-eqb, ne_eqb, eqb-true, get_or-set_other, get_or-set_same}
 use mathlib.Core.Option.{none}
 use Rattle.std.specs.Prelude.{Some, None}
-use Rattle.atomic_table.specs.Table.{step, keeps}
+use Rattle.atomic_table.specs.Table.{step}
 use Rattle.cyc_level.specs.declared.Event.TheVariants.{Switch, Follow}
 use Rattle.cyc_level.specs.Level.{Level}
 use Rattle.cyc_level.specs.Events.{Enabled, after}
-use Rattle.ring_turns.specs.Allowed.{SwitchIsAllowed, SoftBankLoadIsAllowed, FollowIsAllowed}
+use Rattle.ring_turns.specs.Allowed.{SwitchIsAllowed, SoftBankLoadIsAllowed, FollowIsAllowed, SwitchExtendsRun, SoftBankLoadExtendsRun, FollowExtendsRun}
 use Rattle.cyc_types.specs.Limits.{greatest_bank}
 use Rattle.ring_rule.specs.declared.RaiseStep.{RaiseStep}
 use Rattle.ring_rule.specs.declared.RaiseStep.TheVariants.{Switched, LoadedSoftBank}
@@ -16,11 +16,11 @@ use Rattle.ring_rule.specs.declared.Setting.{Setting}
 use Rattle.ring_rule.specs.Words.{place, producer_word, hard_word, soft_word}
 use Rattle.ring_rule.specs.Trail.{ended_calls, firer_hand_of, hard_bank_of, producer_index, has_followed, soft_bank_of, consumer_index, producer_seen, bank_seen}
 use Rattle.ring_rule.specs.Shown.{BankHolds, Shows, StillHolds}
-use Rattle.ring_rule.specs.Steps.{with_raise_step, with_drain_step, TellsSwitch, TellsSoftBank, TellsFollow}
+use Rattle.ring_rule.specs.Steps.{TellsSwitch, TellsSoftBank, TellsFollow}
 use Rattle.ring_rule.proofs.Words.{place_low, keeps_all, holds_kept, stored_kept}
 use Rattle.ring_rule.proofs.Seats.{level, raiser, drains, raise_moves, raise_stays, drain_moves}
 use Rattle.ring_rule.proofs.Now.{RingNow, ring_now, loaded, index_low}
-use Rattle.ring_rule.proofs.Stands.{and_stands}
+use Rattle.ring_rule.proofs.Stands.{raise_allowed, drain_allowed}
 
 module _ (k : Setting) (ws : List ℕ) (rs : List RaiseStep) (ds : List DrainStep) (l : Level) (N : RingNow k ws rs ds l) where
   abbrev C : ℕ
@@ -159,36 +159,39 @@ module _ (k : Setting) (ws : List ℕ) (rs : List RaiseStep) (ds : List DrainSte
       none_left = λ e b x. absurd (cc);
     }
 
-pub switches : SwitchIsAllowed
-switches k slots seat me bank role bare even more most = and_stands k slots seat me hard_word (λ _. bank) (λ _. TellsSwitch (step slots hard_word bank 0 none) me bank) (λ s R _ at _. let t : List RaiseStep = R.raise_trail in let same : me.0.raise_trail ≡ t = (raiser k s R seat me.0 at me.1 hard_word bank role).1 in let l : Level = level k s R in let N : RingNow k s.words t R.drain_trail l = ring_now k s R in
+pub switches_extend : SwitchExtendsRun
+switches_extend k slots seat me bank role bare even more most s R _ at _ = let t : List RaiseStep = R.raise_trail in let same : me.0.raise_trail ≡ t = (raiser k s R seat me.0 at me.1 hard_word bank role).1 in let l : Level = level k s R in let N : RingNow k s.words t R.drain_trail l = ring_now k s R in
     let bare' : firer_hand_of t ≡ None = ap firer_hand_of (sym same) ∙ bare in let even' : has_followed t ≡ true = ap (has_followed) (sym same) ∙ even in let more' : hard_bank_of t < bank = subst (λ (t : List RaiseStep). hard_bank_of t < bank) same more in (
-      with_raise_step (Switched bank) me.0,
-      keeps,
-      tt,
+      (Switched bank),
       raise_moves k s R seat me.0 at me.1 hard_word bank role (Switched bank) (Switch bank) refl refl (switch_enabled k s.words t R.drain_trail l N bank bare' even' more' most)
           (switch_shown k s.words t R.drain_trail l N bank bare' even' more' most) (switch_still k s.words t R.drain_trail l N bank bare' even' more' most),
       refl,
-    ))
+    )
 
-pub loads_soft_bank : SoftBankLoadIsAllowed
-loads_soft_bank k slots seat me role = and_stands k slots seat me soft_word (λ n. n) (TellsSoftBank (step slots soft_word 0 0 none) me) (λ s R _ at _. let t : List RaiseStep = R.raise_trail in let same : me.0.raise_trail ≡ t = (raiser k s R seat me.0 at me.1 soft_word 0 role).1 in let l : Level = level k s R in let N : RingNow k s.words t R.drain_trail l = ring_now k s R in let n : ℕ = get_or s.words soft_word 0 in (
-  with_raise_step (LoadedSoftBank n) me.0,
-  keeps,
-  tt,
+pub switches : SwitchIsAllowed
+switches k slots seat me bank role bare even more most = raise_allowed k slots seat me hard_word (λ _. bank) (λ _. TellsSwitch (step slots hard_word bank 0 none) me bank) (switches_extend k slots seat me bank role bare even more most)
+
+pub loads_soft_bank_extend : SoftBankLoadExtendsRun
+loads_soft_bank_extend k slots seat me role s R _ at _ = let t : List RaiseStep = R.raise_trail in let same : me.0.raise_trail ≡ t = (raiser k s R seat me.0 at me.1 soft_word 0 role).1 in let l : Level = level k s R in let N : RingNow k s.words t R.drain_trail l = ring_now k s R in let n : ℕ = get_or s.words soft_word 0 in (
+  (LoadedSoftBank n),
   raise_stays k s R seat me.0 at me.1 soft_word n role (LoadedSoftBank n) refl
       (loaded (λ x. Shows k.start x (LoadedSoftBank n ∷ t) R.drain_trail l) s.words soft_word (look_shown k s.words t R.drain_trail l N n))
       (loaded (λ x. StillHolds k.start x (LoadedSoftBank n ∷ t) R.drain_trail l) s.words soft_word (look_still k s.words t R.drain_trail l N)),
   (λ e. N.shows.soft_shown ∙ (sym (N.still.followed_is (ap (has_followed) (sym same) ∙ e)) ∙ (N.shows.hard_is ∙ ap (hard_bank_of) (sym same))), refl),
-))
+)
 
-pub follows : FollowIsAllowed
-follows k slots seat me bank end role saw apart ended_calls bare = and_stands k slots seat me soft_word (λ _. bank) (λ _. TellsFollow (step slots soft_word bank 0 none) me bank) (λ s R _ at _. let t : List DrainStep = R.drain_trail in let same : me.0.drain_trail ≡ t = (drains k s R seat me.0 at me.1 soft_word bank role).1 in let l : Level = level k s R in let N : RingNow k s.words R.raise_trail t l = ring_now k s R in
+pub loads_soft_bank : SoftBankLoadIsAllowed
+loads_soft_bank k slots seat me role = raise_allowed k slots seat me soft_word (λ n. n) (TellsSoftBank (step slots soft_word 0 0 none) me) (loads_soft_bank_extend k slots seat me role)
+
+pub follows_extend : FollowExtendsRun
+follows_extend k slots seat me bank end role saw apart ended_calls bare s R _ at _ = let t : List DrainStep = R.drain_trail in let same : me.0.drain_trail ≡ t = (drains k s R seat me.0 at me.1 soft_word bank role).1 in let l : Level = level k s R in let N : RingNow k s.words R.raise_trail t l = ring_now k s R in
     let saw' : bank_seen t ≡ Some bank = ap bank_seen (sym same) ∙ saw in let apart' : bank ≢ soft_bank_of t = λ e. apart (e ∙ ap (soft_bank_of) (sym same)) in let ended' : producer_seen t ≡ Some end = ap producer_seen (sym same) ∙ ended_calls in
     let bare' : end ≡ consumer_index k.start t % 2 ^ 32 = bare ∙ ap (λ (t : List DrainStep). consumer_index k.start t % 2 ^ 32) same in (
-      with_drain_step (Followed bank) me.0,
-      keeps,
-      tt,
+      (Followed bank),
       drain_moves k s R seat me.0 at me.1 soft_word bank role (Followed bank) Follow refl refl (follow_enabled k s.words R.raise_trail t l N bank end saw' apart' ended' bare')
           (follow_shown k s.words R.raise_trail t l N bank end saw' apart' ended' bare') (follow_still k s.words R.raise_trail t l N bank end saw' apart' ended' bare'),
       refl,
-    ))
+    )
+
+pub follows : FollowIsAllowed
+follows k slots seat me bank end role saw apart ended_calls bare = drain_allowed k slots seat me soft_word (λ _. bank) (λ _. TellsFollow (step slots soft_word bank 0 none) me bank) (follows_extend k slots seat me bank end role saw apart ended_calls bare)

@@ -4,28 +4,28 @@ use mathlib.Core.Option.{none}
 use mathlib.Core.Logic.{dite}
 use native.Mathlib.Decide.{ℕ_discrete}
 use Rattle.std.specs.Prelude.{Some, None}
-use Rattle.atomic_table.specs.Table.{step, keeps}
+use Rattle.atomic_table.specs.Table.{step}
 use Rattle.cyc_level.specs.declared.Event.TheVariants.{Mark, Clear}
 use Rattle.cyc_level.specs.Level.{Cyclic, Cyclics, Level, count, count_in, times_in, in_hand, place_count}
 use Rattle.cyc_level.specs.Lawful.{one_if_any}
 use Rattle.cyc_level.specs.Events.{changed_at, Enabled, after}
 use Rattle.cyc_level.specs.Runs.{StayCounts, stay_calls}
 use Rattle.cyc_level.proofs.Maps.{some_same, is_some_of, at_other, at_cases, hand_here, hand_else}
-use Rattle.ring_turns.specs.Allowed.{LoadIsAllowed, MarkIsAllowed, ClearIsAllowed}
+use Rattle.ring_turns.specs.Allowed.{LoadIsAllowed, MarkIsAllowed, ClearIsAllowed, LoadExtendsRun, MarkExtendsRun, ClearExtendsRun}
 use Rattle.cyc_types.specs.Limits.{cyclics}
 use Rattle.ring_rule.specs.declared.RaiseStep.{RaiseStep}
 use Rattle.ring_rule.specs.declared.RaiseStep.TheVariants.{Loaded, Marked, Cleared}
 use Rattle.ring_rule.specs.declared.DrainStep.{DrainStep}
 use Rattle.ring_rule.specs.declared.Setting.{Setting}
-use Rattle.ring_rule.specs.Words.{place, producer_word, entry_id, hard_word, soft_word}
+use Rattle.ring_rule.specs.Words.{mark_bit, place, producer_word, entry_id, hard_word, soft_word}
 use Rattle.ring_rule.specs.Trail.{open_stay, ended_calls, firer_hand_of, marked_of, seen_pend, id_in, made_calls, consumer_index}
 use Rattle.ring_rule.specs.Shown.{IsSameStay, BankHolds, Shows, StillHolds}
-use Rattle.ring_rule.specs.Steps.{with_raise_step, TellsLoad, TellsMark, TellsClear}
+use Rattle.ring_rule.specs.Steps.{TellsLoad, TellsMark, TellsClear}
 use Rattle.ring_rule.proofs.Words.{place_high, keeps_all, holds_high}
 use Rattle.ring_rule.proofs.Seats.{level, raiser, raise_moves, raise_stays}
 use Rattle.ring_rule.proofs.Stays.{behind, held_once}
 use Rattle.ring_rule.proofs.Now.{RingNow, ring_now, loaded, index_low}
-use Rattle.ring_rule.proofs.Stands.{and_stands}
+use Rattle.ring_rule.proofs.Stands.{raise_allowed}
 
 module _ (ws ws' : List ℕ) (m : Cyclics) (id : ℕ) (high : (j : ℕ) → cyclics ≤ j → get_or ws' j 0 ≡ get_or ws j 0) where
   abbrev without : Cyclics
@@ -214,37 +214,40 @@ module _ (k : Setting) (ws : List ℕ) (rs : List RaiseStep) (ds : List DrainSte
       none_left = le.none_left;
     }
 
-pub marks : MarkIsAllowed
-marks k slots seat me i id st role is at_i free bare = and_stands k slots seat me i (λ n. (n + 2 ^ 32) % 2 ^ 64) (TellsMark id (step slots i (2 ^ 32) 0 none) me) (λ s R _ at _. let small : k.ceiling < 2 ^ 32 = R.fits.0 in let t : List RaiseStep = R.raise_trail in let same : me.0.raise_trail ≡ t = (raiser k s R seat me.0 at me.1 i 0 role).1 in let l : Level = level k s R in let N : RingNow k s.words t R.drain_trail l = ring_now k s R in
+pub marks_extend : MarkExtendsRun
+marks_extend k slots seat me i id st role is at_i free bare s R _ at _ = let small : k.ceiling < 2 ^ 32 = R.fits.0 in let t : List RaiseStep = R.raise_trail in let same : me.0.raise_trail ≡ t = (raiser k s R seat me.0 at me.1 i 0 role).1 in let l : Level = level k s R in let N : RingNow k s.words t R.drain_trail l = ring_now k s R in
     let is' : open_stay id t ≡ Some st = ap (open_stay id) (sym same) ∙ is in let free' : marked_of t ≡ None = ap marked_of (sym same) ∙ free in let n : ℕ = get_or s.words i 0 in let f = fits k s.words t R.drain_trail l N i id st is' at_i free' small in (
-      with_raise_step (Marked id n) me.0,
-      keeps,
-      tt,
+      (Marked id n),
       raise_moves k s R seat me.0 at me.1 i ((n + 2 ^ 32) % 2 ^ 64) role (Marked id n) (Mark id) refl refl (mark_enabled k s.words t R.drain_trail l N i id st is' at_i free' (ap firer_hand_of (sym same) ∙ bare))
           (subst (λ (x : ℕ). Shows k.start (set s.words i x) (Marked id n ∷ t) R.drain_trail (after (Mark id) l)) (sym f) (mark_shown k s.words t R.drain_trail l N i id st is' at_i free'))
           (subst (λ (x : ℕ). StillHolds k.start (set s.words i x) (Marked id n ∷ t) R.drain_trail (after (Mark id) l)) (sym f) (mark_still k s.words t R.drain_trail l N i id st is' at_i free')),
       (subst (λ (t : List RaiseStep). n ≤ seen_pend id t) (sym same) (top k s.words t R.drain_trail l N i id st is' at_i free'), refl),
-    ))
+    )
 
-pub clears : ClearIsAllowed
-clears k slots seat me i id st role is at_i mine zero_seen bare = and_stands k slots seat me i (λ _. 0) (λ _. TellsClear id (step slots i 0 0 none) me 0) (λ s R _ at _. let t : List RaiseStep = R.raise_trail in let same : me.0.raise_trail ≡ t = (raiser k s R seat me.0 at me.1 i 0 role).1 in let l : Level = level k s R in let N : RingNow k s.words t R.drain_trail l = ring_now k s R in
+pub marks : MarkIsAllowed
+marks k slots seat me i id st role is at_i free bare = raise_allowed k slots seat me i (λ n. (n + mark_bit) % 2 ^ 64) (TellsMark id (step slots i mark_bit 0 none) me) (marks_extend k slots seat me i id st role is at_i free bare)
+
+pub clears_extend : ClearExtendsRun
+clears_extend k slots seat me i id st role is at_i mine zero_seen bare s R _ at _ = let t : List RaiseStep = R.raise_trail in let same : me.0.raise_trail ≡ t = (raiser k s R seat me.0 at me.1 i 0 role).1 in let l : Level = level k s R in let N : RingNow k s.words t R.drain_trail l = ring_now k s R in
     let is' : open_stay id t ≡ Some st = ap (open_stay id) (sym same) ∙ is in let mine' : marked_of t ≡ Some id = ap marked_of (sym same) ∙ mine in let z' : seen_pend id t ≡ 0 = ap (seen_pend id) (sym same) ∙ zero_seen in (
-      with_raise_step (Cleared id) me.0,
-      keeps,
-      tt,
+      (Cleared id),
       raise_moves k s R seat me.0 at me.1 i 0 role (Cleared id) (Clear id) refl refl (clear_enabled k s.words t R.drain_trail l N i id st is' at_i mine' z' (ap firer_hand_of (sym same) ∙ bare))
           (clear_shown k s.words t R.drain_trail l N i id st is' at_i mine' z') (clear_still k s.words t R.drain_trail l N i id st is' at_i mine' z'),
       refl,
-    ))
+    )
 
-pub loads : LoadIsAllowed
-loads k slots seat me i id st role is at_i = and_stands k slots seat me i (λ n. n) (TellsLoad id (step slots i 0 0 none) me) (λ s R _ at _. let small : k.ceiling < 2 ^ 32 = R.fits.0 in let t : List RaiseStep = R.raise_trail in let same : me.0.raise_trail ≡ t = (raiser k s R seat me.0 at me.1 i 0 role).1 in let l : Level = level k s R in let N : RingNow k s.words t R.drain_trail l = ring_now k s R in
+pub clears : ClearIsAllowed
+clears k slots seat me i id st role is at_i mine zero_seen bare = raise_allowed k slots seat me i (λ _. 0) (λ _. TellsClear id (step slots i 0 0 none) me 0) (clears_extend k slots seat me i id st role is at_i mine zero_seen bare)
+
+pub loads_extend : LoadExtendsRun
+loads_extend k slots seat me i id st role is at_i s R _ at _ = let small : k.ceiling < 2 ^ 32 = R.fits.0 in let t : List RaiseStep = R.raise_trail in let same : me.0.raise_trail ≡ t = (raiser k s R seat me.0 at me.1 i 0 role).1 in let l : Level = level k s R in let N : RingNow k s.words t R.drain_trail l = ring_now k s R in
     let is' : open_stay id t ≡ Some st = ap (open_stay id) (sym same) ∙ is in let n : ℕ = get_or s.words i 0 in (
-      with_raise_step (Loaded id n) me.0,
-      keeps,
-      tt,
+      (Loaded id n),
       raise_stays k s R seat me.0 at me.1 i n role (Loaded id n) refl
           (loaded (λ x. Shows k.start x (Loaded id n ∷ t) R.drain_trail l) s.words i (load_shown k s.words t R.drain_trail l N i id st is' at_i small))
           (loaded (λ x. StillHolds k.start x (Loaded id n ∷ t) R.drain_trail l) s.words i (load_still k s.words t R.drain_trail l N i id st is' at_i small)),
       (subst (λ (t : List RaiseStep). n % 2 ^ 32 ≤ seen_pend id t) (sym same) (load_top k s.words t R.drain_trail l N i id st is' at_i small), refl),
-    ))
+    )
+
+pub loads : LoadIsAllowed
+loads k slots seat me i id st role is at_i = raise_allowed k slots seat me i (λ n. n) (TellsLoad id (step slots i 0 0 none) me) (loads_extend k slots seat me i id st role is at_i)
