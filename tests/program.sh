@@ -4,6 +4,9 @@ set -u
 cd "$(dirname "$0")/.."
 failed=0
 
+# where the program isn't built yet, this builds it
+./cyclic replay < examples/first.json > /dev/null || exit 1
+
 # expect NAME STATUS STDOUT STDERR INPUT WORD..
 expect() {
   local name=$1 status=$2 out=$3 err=$4 input=$5
