@@ -1,11 +1,13 @@
 -- From rows to the cyclics that callers see.
 use Rattle.std.specs.Prelude.{insert}
-use Rattle.std.proofs.Common.{◌≡◌, ◌<◌, ◌++◌, ◌∷◌, ℕ, List, take, drop, map, arith, length, ap, sym, subst, ◌∙◌}
+use Rattle.std.proofs.Common.{◌≡◌, ◌<◌, ◌≤◌, All, Option, get_or, ◌++◌, ◌∷◌, ℕ, List, take, drop, map, arith, length, ap, sym, subst, ◌∙◌}
 use Rattle.std.proofs.Math.ListN.{set}
-use Rattle.std.proofs.lemmas.List.{length-map, get_or-map, map-set, map-append, take-map, drop-map}
-use Rattle.cyc_cpu.specs.Rows.{Row, Cyclic, IsRow, HasNo, cyclic_of, cyclics_of}
-use Rattle.cyc_types.specs.Firing.{FiringView, FiringCall}
-use Rattle.cyc_cpu.specs.Cpu.{CpuView, IsCyclic, HasNoCyclic, Asks, Looked}
+use Rattle.std.proofs.lemmas.List.{length-map, get_or_default, get_or-map, map-set, map-append, take-map, drop-map}
+use Rattle.cyc_cpu.specs.Rows.{Row, Cyclic, IsRow, IsRising, HasNo, cyclic_of, cyclics_of}
+use Rattle.cyc_cpu.specs.Ends.{IsEnd, IsCounted}
+use Rattle.cyc_types.specs.Firing.{FiringView, FiringCall, Stay}
+use Rattle.cyc_types.specs.declared.level.Level.{Level}
+use Rattle.cyc_cpu.specs.Cpu.{CpuView, IsCyclic, HasNoCyclic, Asks, Looked, AreAdmitted, HasRisingIds}
 
 pub is_cyclic : (rows : List Row) (k : ℕ) (r : Row) → IsRow rows k r → IsCyclic (cyclics_of rows) k (cyclic_of r)
 is_cyclic rows k r is = ((let l = length-map rows cyclic_of in let a = is.0 in omega (arith, l, a)), get_or-map cyclic_of rows k r (cyclic_of r) is.0 ∙ ap cyclic_of is.1)
@@ -33,3 +35,37 @@ no_row_of id rows none k d low same =
 
 pub cyclics_insert : (rows : List Row) (q : ℕ) (u : Row) → cyclics_of (insert rows q u) ≡ insert (cyclics_of rows) q (cyclic_of u)
 cyclics_insert rows q u = map-append cyclic_of (take q rows) (u ∷ drop q rows) ∙ (λ j. sym (take-map cyclic_of q rows) j ++ (cyclic_of u ∷ sym (drop-map cyclic_of q rows) j))
+
+-- the row of a cyclic
+row_of_cyclic : (rows : List Row) (k : ℕ) (c : Cyclic) → IsCyclic (cyclics_of rows) k c → (r : Row) × IsRow rows k r × (cyclic_of r ≡ c)
+row_of_cyclic rows k c is =
+    let e : Row = record { timer = c.timer; lost = c.lost; index = 0 } in
+    let low : k < length rows = (let l = length-map rows cyclic_of in let a = is.0 in omega (arith, l, a)) in
+    (get_or rows k e, (low, get_or_default rows k (get_or rows k e) e low), sym (get_or-map cyclic_of rows k e c low) ∙ is.1)
+
+pub admitted_cyclics : (soft : Level) (size : ℕ) (marked : Option ℕ) (v : FiringView) (rows : List Row) → IsEnd soft size marked v rows → AreAdmitted soft v (cyclics_of rows)
+admitted_cyclics soft size marked v rows ready = record {
+    here = λ k c is at.
+      let (r, row, same) = row_of_cyclic rows k c is in
+      let (s, stay, (index, sent, lost)) = ready.here k r row (ap (λ (x : Cyclic). x.timer.level) same ∙ at) in
+      let a = ap (λ (x : Cyclic). x.timer.expired) same in let b = ap (λ (x : Cyclic). x.lost) same in
+      (s, ap v.stays (ap (λ (x : Cyclic). x.timer.id) (sym same)) ∙ stay, (omega (arith, sent, a), omega (arith, lost, b)));
+    only = λ id s h. (let (k, r, row, named, at) = ready.only id s h in (k, cyclic_of r, is_cyclic rows k r row, named, at));
+  }
+
+pub rising_cyclics : (rows : List Row) → IsRising rows → HasRisingIds (cyclics_of rows)
+rising_cyclics rows rising i j d less low =
+    let e : Row = record { timer = d.timer; lost = d.lost; index = 0 } in
+    let l = length-map rows cyclic_of in
+    let low_j : j < length rows = omega (arith, l, low) in
+    let a = ap (λ (x : Cyclic). x.timer.id) (get_or-map cyclic_of rows i e d (omega (arith, less, low_j))) in
+    let b = ap (λ (x : Cyclic). x.timer.id) (get_or-map cyclic_of rows j e d low_j) in
+    let r = rising i j e less low_j in
+    omega (arith, a, b, r)
+
+pub counted_cyclics : (most : ℕ) (rows : List Row) → IsCounted most rows → All (λ c. (c.lost ≤ c.timer.expired) × (c.timer.expired ≤ most)) (cyclics_of rows)
+counted_cyclics most rows counted k d low =
+    let e : Row = record { timer = d.timer; lost = d.lost; index = 0 } in
+    let l = length-map rows cyclic_of in
+    let low' : k < length rows = omega (arith, l, low) in
+    subst (λ (c : Cyclic). (c.lost ≤ c.timer.expired) × (c.timer.expired ≤ most)) (sym (get_or-map cyclic_of rows k e d low')) (counted k e low')

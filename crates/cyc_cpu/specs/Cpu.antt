@@ -1,6 +1,6 @@
 -- What callers see of the firing side of one CPU.
 use Rattle.std.specs.Prelude.{◌≡◌, ◌≢◌, ℕ, zero, suc, ◌+◌, ◌^◌, nat_le, cond, insert, ◌<◌, ◌≤◌, List, map, length, slice_index_or, All, true, false, ◌⊎◌, Option, Some, None}
-use Rattle.cyc_types.specs.Firing.{FiringView, FiringCall, Expands}
+use Rattle.cyc_types.specs.Firing.{FiringView, FiringCall, Expands, Stay, IsAdmitted}
 use Rattle.cyc_types.specs.Limits.{cyclics as most_cyclics, greatest_bank}
 use Rattle.cyc_types.specs.Runs.{Goes, Taught}
 use Rattle.cyc_types.specs.declared.level.Level.{Level}
@@ -49,6 +49,15 @@ IsCyclic cs k c = (k < length cs) × (slice_index_or cs k c ≡ c)
 -- no cyclic has this id
 abbrev pub HasNoCyclic : ℕ → List Cyclic → Type 0
 HasNoCyclic id cs = All (λ c. c.timer.id ≢ id) cs
+
+-- the cyclics of a soft level are exactly those admitted at its end, which counts no more of each than the CPU
+pub record AreAdmitted (soft : Level) (v : FiringView) (cs : List Cyclic) : Type 0 where
+  pub here : (k : ℕ) (c : Cyclic) → IsCyclic cs k c → c.timer.level ≡ soft → IsAdmitted c.timer.id v (λ s. (s.sent ≤ c.timer.expired) × (s.lost ≤ c.lost))
+  pub only : (id : ℕ) (s : Stay) → v.stays id ≡ Some s → (k : ℕ) × (c : Cyclic) × IsCyclic cs k c × (c.timer.id ≡ id) × (c.timer.level ≡ soft)
+
+-- the ids of the cyclics rise
+abbrev pub HasRisingIds : List Cyclic → Type 0
+HasRisingIds cs = (i j : ℕ) (d : Cyclic) → i < j → j < length cs → (slice_index_or cs i d).timer.id < (slice_index_or cs j d).timer.id
 
 -- the cyclic with another moment
 abbrev pub with_moment : ℕ → Cyclic → Cyclic

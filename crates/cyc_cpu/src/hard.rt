@@ -1,11 +1,13 @@
-ghost use Rattle.std.specs.Prelude.{◌≡◌, ◌≢◌, ℕ, ◌+◌, ◌<◌, ◌≤◌, ◌++◌, ◌∷◌, [], List, length, slice_set, None, Some, IfOk, IfErr, OnOk, OnErr, IfNone, IfSome, ◌⊎◌};
+ghost use Rattle.std.specs.Prelude.{◌≡◌, ◌≢◌, ℕ, ◌+◌, ◌<◌, ◌≤◌, ◌++◌, ◌∷◌, [], List, All, length, slice_set, None, Some, IfOk, IfErr, OnOk, OnErr, IfNone, IfSome, ◌⊎◌};
 ghost use Rattle.std.specs.Bool.{OnTrue, OnFalse};
+ghost use Rattle.cyc_types.specs.Limits.{cyclics};
+ghost use Rattle.cyc_types.specs.declared.level.Level.TheVariants.{Low, Lock};
 ghost use Rattle.cyc_types.specs.Series.{never, first};
 ghost use Rattle.cyc_types.specs.declared.refusal.Refusal.TheVariants.{Memory, BadNow, NoCyclic};
 ghost use Rattle.cyc_expirations.specs.Timers.{earliest};
 ghost use Rattle.cyc_expirations.specs.Expirations.{Expiration, expirations};
 ghost use Rattle.cyc_cpu.specs.Rows.{Cyclic, timers};
-ghost use Rattle.cyc_cpu.specs.Cpu.{CpuView, Makes, WhyStopped, SameCpu, IsFresh, IsCyclic, HasNoCyclic, with_moment, Asks, HasRoom, WhyNoRoom, Looked, MayWiden, Reserves, Widens, Enters, size_for};
+ghost use Rattle.cyc_cpu.specs.Cpu.{CpuView, Makes, WhyStopped, SameCpu, IsFresh, IsCyclic, HasNoCyclic, with_moment, Asks, HasRoom, WhyNoRoom, Looked, MayWiden, Reserves, Widens, Enters, size_for, AreAdmitted, HasRisingIds};
 
 use crate::ends::{admit_at, both_followed, least_bank, load_pend, places_of};
 use crate::fire::{FireRefused, Fired, fire_all};
@@ -82,6 +84,21 @@ impl<R: Raise> Hard<R> {
             low,
         } = self;
         (lock, low)
+    }
+
+    /// What is true of every CPU. It does nothing when it runs.
+    pub fn law(&self)
+        ensures rising { HasRisingIds self.now.cyclics }
+        ensures counted { All (λ c. (c.lost ≤ c.timer.expired) × (c.timer.expired ≤ self.now.most)) self.now.cyclics }
+        ensures lock { AreAdmitted Lock (R.view self.now.lock) self.now.cyclics }
+        ensures low { AreAdmitted Low (R.view self.now.low) self.now.cyclics }
+        ensures few { length self.now.cyclics ≤ self.now.size }
+        ensures size { self.now.size ≤ cyclics }
+        ensures room { self.now.size ≤ self.now.room }
+    {
+        self.table.law();
+        let _ = self.table.len();
+        let _ = self.table.size();
     }
 
     /// How many cyclics there are, with one whose removal is open.
