@@ -45,13 +45,13 @@ row_of_cyclic rows k c is =
 
 pub admitted_cyclics : (soft : Level) (size : ℕ) (marked : Option ℕ) (v : FiringView) (rows : List Row) → IsEnd soft size marked v rows → AreAdmitted soft v (cyclics_of rows)
 admitted_cyclics soft size marked v rows ready = record {
-    here = λ k c is at.
+  here = λ k c is at.
       let (r, row, same) = row_of_cyclic rows k c is in
       let (s, stay, (index, sent, lost)) = ready.here k r row (ap (λ (x : Cyclic). x.timer.level) same ∙ at) in
       let a = ap (λ (x : Cyclic). x.timer.expired) same in let b = ap (λ (x : Cyclic). x.lost) same in
       (s, ap v.stays (ap (λ (x : Cyclic). x.timer.id) (sym same)) ∙ stay, (omega (arith, sent, a), omega (arith, lost, b)));
-    only = λ id s h. (let (k, r, row, named, at) = ready.only id s h in (k, cyclic_of r, is_cyclic rows k r row, named, at));
-  }
+  only = λ id s h. (let (k, r, row, named, at) = ready.only id s h in (k, cyclic_of r, is_cyclic rows k r row, named, at));
+}
 
 pub rising_cyclics : (rows : List Row) → IsRising rows → HasRisingIds (cyclics_of rows)
 rising_cyclics rows rising i j d less low =

@@ -22,11 +22,11 @@ row_in rows q k u x low is =
     let n = length-insert rows q u low in
     let long = is.0 in
     elim (cases_lt k q) [
-      inl less ↦ inr (k, (omega (arith, less, low), sym (get_or-insert_below rows q u x k less low) ∙ is.1))
-    | inr more ↦ elim (cases_eq k q) [
-        inl same ↦ inl (sym is.1 ∙ ap (λ m. get_or (insert rows q u) m x) same ∙ get_or-insert_at rows q u x low)
-      | inr ne ↦ (let s : k ≡ (k - 1) + 1 = omega (arith, more, ne) in
-          inr (k - 1, (omega (arith, long, n, s), sym (ap (λ m. get_or (insert rows q u) m x) s ∙ get_or-insert_above rows q u x (k - 1) (omega (arith, more, ne)) low) ∙ is.1)))
+      | inl less ↦ inr (k, (omega (arith, less, low), sym (get_or-insert_below rows q u x k less low) ∙ is.1))
+      | inr more ↦ elim (cases_eq k q) [
+        | inl same ↦ inl (sym is.1 ∙ ap (λ m. get_or (insert rows q u) m x) same ∙ get_or-insert_at rows q u x low)
+        | inr ne ↦ (let s : k ≡ (k - 1) + 1 = omega (arith, more, ne) in
+            inr (k - 1, (omega (arith, long, n, s), sym (ap (λ m. get_or (insert rows q u) m x) s ∙ get_or-insert_above rows q u x (k - 1) (omega (arith, more, ne)) low) ∙ is.1)))
       ]
     ]
 
@@ -35,8 +35,8 @@ row_old rows q j u x low is =
     let n = length-insert rows q u low in
     let long = is.0 in
     elim (cases_lt j q) [
-      inl less ↦ (j, (omega (arith, long, n), get_or-insert_below rows q u x j less low ∙ is.1))
-    | inr more ↦ (j + 1, (omega (arith, long, n), get_or-insert_above rows q u x j more low ∙ is.1))
+      | inl less ↦ (j, (omega (arith, long, n), get_or-insert_below rows q u x j less low ∙ is.1))
+      | inr more ↦ (j + 1, (omega (arith, long, n), get_or-insert_above rows q u x j more low ∙ is.1))
     ]
 
 pub row_put : (rows : List Row) (q : ℕ) (u : Row) → q ≤ length rows → IsRow (insert rows q u) q u
@@ -55,22 +55,23 @@ some_same a b o h k = cc
 
 -- an end may admit an id that is not here, at an index that no row has
 pub may_admit : (soft : Level) (size : ℕ) (marked : Option ℕ) (v : FiringView) (rows : List Row) (id index : ℕ) → IsEnd soft size marked v rows → HasNo id rows → All (λ r. r.index ≢ index) rows → index < size → MayAdmit id index v
-may_admit soft size marked v rows id index ready none fresh low =
-    (none_of (v.stays id) (λ s h. (let (k, r, is, named, at) = ready.only id s h in no_row id rows k r none is named)),
-     (λ j s h same. (let (k, r, is, named, at) = ready.only j s h in
-       let (s', stay, (i, sent, lost)) = ready.here k r is at in
-       let eq = some_same s s' (v.stays j) h (ap v.stays (sym named) ∙ stay) in
-       fresh k r is.0 (ap (λ (x : Row). x.index) is.1 ∙ sym i ∙ ap (λ (x : Stay). x.index) (sym eq) ∙ same))),
-     (let z = ready.size_is in omega (arith, z, low)),
-     ready.free)
+may_admit soft size marked v rows id index ready none fresh low = (
+  none_of (v.stays id) (λ s h. (let (k, r, is, named, at) = ready.only id s h in no_row id rows k r none is named)),
+  (λ j s h same. (let (k, r, is, named, at) = ready.only j s h in
+      let (s', stay, (i, sent, lost)) = ready.here k r is at in
+      let eq = some_same s s' (v.stays j) h (ap v.stays (sym named) ∙ stay) in
+      fresh k r is.0 (ap (λ (x : Row). x.index) is.1 ∙ sym i ∙ ap (λ (x : Stay). x.index) (sym eq) ∙ same))),
+  (let z = ready.size_is in omega (arith, z, low)),
+  ready.free,
+)
 
 module _ (soft : Level) (size : ℕ) (marked : Option ℕ) (v : FiringView) (rows : List Row) (q id index : ℕ) (u : Row)
     (ready : IsEnd soft size marked v rows) (low : q ≤ length rows) (none : HasNo id rows) (unmarked : marked ≢ Some id) (named : u.timer.id ≡ id) where
   removed_in : (k : ℕ) (x : Row) → IsRow (insert rows q u) k x → marked ≡ Some x.timer.id → x.timer.moment ≡ never
   removed_in k x is h = elim (row_in rows q k u x low is) [
-      inl eq ↦ absurd (unmarked (h ∙ ap (λ (y : Row). Some y.timer.id) eq ∙ ap Some named))
+    | inl eq ↦ absurd (unmarked (h ∙ ap (λ (y : Row). Some y.timer.id) eq ∙ ap Some named))
     | inr (j, old) ↦ ready.removed j x old h
-    ]
+  ]
 
   -- the end that admitted it
   pub end_entered : (w : FiringView) → Learns v (Admits id index) w → Sound w → u.timer.level ≡ soft → u.index ≡ index → IsEnd soft size marked w (insert rows q u)
@@ -85,37 +86,37 @@ module _ (soft : Level) (size : ℕ) (marked : Option ℕ) (v : FiringView) (row
         size_is = ready.size_is ∙ ap (λ (x : FiringView). 2 ^ x.bank) (sym l);
         marked_is = ap (λ (x : FiringView). x.marked) l ∙ ready.marked_is;
         here = λ k x is at_x. elim (row_in rows q k u x low is) [
-            inl eq ↦ subst (HasStay w) (sym eq) (new, ap w.stays named ∙ mine, (sym indexed, omega arith, omega arith))
+          | inl eq ↦ subst (HasStay w) (sym eq) (new, ap w.stays named ∙ mine, (sym indexed, omega arith, omega arith))
           | inr (j, old) ↦ (let (s, stay, rest) = ready.here j x old at_x in (s, others x.timer.id (no_row id rows j x none old) ∙ stay, rest))
-          ];
+        ];
         only = λ j s h. elim (cases_eq j id) [
-            inl same ↦ (q, u, row_put rows q u low, named ∙ sym same, at)
+          | inl same ↦ (q, u, row_put rows q u low, named ∙ sym same, at)
           | inr ne ↦ (let (k, x, is, named_x, at_x) = ready.only j s (sym (others j ne) ∙ h) in let (m, is') = row_old rows q k u x low is in (m, x, is', named_x, at_x))
-          ];
+        ];
         removed = removed_in;
       }
 
   -- the end of another level
   pub end_beside : u.timer.level ≢ soft → IsEnd soft size marked v (insert rows q u)
   end_beside off = record {
-      sound = ready.sound;
-      free = ready.free;
-      size_is = ready.size_is;
-      marked_is = ready.marked_is;
-      here = λ k x is at_x. elim (row_in rows q k u x low is) [
-          inl eq ↦ absurd (off (ap (λ (y : Row). y.timer.level) (sym eq) ∙ at_x))
-        | inr (j, old) ↦ ready.here j x old at_x
-        ];
-      only = λ j s h. (let (k, x, is, named_x, at_x) = ready.only j s h in let (m, is') = row_old rows q k u x low is in (m, x, is', named_x, at_x));
-      removed = removed_in;
-    }
+    sound = ready.sound;
+    free = ready.free;
+    size_is = ready.size_is;
+    marked_is = ready.marked_is;
+    here = λ k x is at_x. elim (row_in rows q k u x low is) [
+      | inl eq ↦ absurd (off (ap (λ (y : Row). y.timer.level) (sym eq) ∙ at_x))
+      | inr (j, old) ↦ ready.here j x old at_x
+    ];
+    only = λ j s h. (let (k, x, is, named_x, at_x) = ready.only j s h in let (m, is') = row_old rows q k u x low is in (m, x, is', named_x, at_x));
+    removed = removed_in;
+  }
 
 pub counted_entered : (most : ℕ) (rows : List Row) (q : ℕ) (u : Row) → q ≤ length rows → IsCounted most rows → u.timer.expired ≡ 0 → u.lost ≡ 0 → IsCounted most (insert rows q u)
 counted_entered most rows q u low counted none zero' k d long =
     let x = get_or (insert rows q u) k d in
     elim (row_in rows q k u x low (long, get_or_default (insert rows q u) k x d long)) [
-      inl eq ↦ subst (λ (y : Row). (y.lost ≤ y.timer.expired) × (y.timer.expired ≤ most)) (sym eq) (omega (arith, none, zero'), omega (arith, none))
-    | inr (j, old) ↦ subst (λ (y : Row). (y.lost ≤ y.timer.expired) × (y.timer.expired ≤ most)) old.1 (counted j x old.0)
+      | inl eq ↦ subst (λ (y : Row). (y.lost ≤ y.timer.expired) × (y.timer.expired ≤ most)) (sym eq) (omega (arith, none, zero'), omega (arith, none))
+      | inr (j, old) ↦ subst (λ (y : Row). (y.lost ≤ y.timer.expired) × (y.timer.expired ≤ most)) old.1 (counted j x old.0)
     ]
 
 entered_at : {R : Type 0} (step : R → FiringCall → R → Type 0) (view : R → FiringView) (soft own : Level) (size : ℕ) (marked : Option ℕ) (e f : R) (rows : List Row) (q id index : ℕ) (u : Row) →
@@ -160,12 +161,12 @@ hard_entered step view size most removal lock low lock' low' rows q id index own
     let w = marks_same step view _ id index low low' low_goes in
     record {
       ready = record {
-          lock_end = subst (λ m. IsEnd level.Lock size m (view lock') (insert rows q u)) (sym k)
+        lock_end = subst (λ m. IsEnd level.Lock size m (view lock') (insert rows q u)) (sym k)
             (entered_at step view level.Lock own size (view lock).marked lock lock' rows q id index u h.ready.lock_end bound none (λ m. still (h.lock_marked id m)) named at indexed sound_lock _ (lock_yes own) (lock_no own) lock_goes);
-          low_end = subst (λ m. IsEnd level.Low size m (view low') (insert rows q u)) (sym w)
+        low_end = subst (λ m. IsEnd level.Low size m (view low') (insert rows q u)) (sym w)
             (entered_at step view level.Low own size (view low).marked low low' rows q id index u h.ready.low_end bound none (λ m. still (h.low_marked id m)) named at indexed sound_low _ (low_yes own) (low_no own) low_goes);
-          counted = counted_entered most rows q u bound h.ready.counted no_sent no_lost;
-        };
+        counted = counted_entered most rows q u bound h.ready.counted no_sent no_lost;
+      };
       lock_marked = λ i m. h.lock_marked i (sym k ∙ m);
       low_marked = λ i m. h.low_marked i (sym w ∙ m);
     }
@@ -173,20 +174,20 @@ hard_entered step view size most removal lock low lock' low' rows q id index own
 -- a greater power is of a greater number
 pub pow_order : (a b : ℕ) → 2 ^ a < 2 ^ b → a < b
 pow_order a b h = elim (cases_lt a b) [
-    inl less ↦ less
+  | inl less ↦ less
   | inr more ↦ let p = pow-le-pow_right {n = 2} (omega arith) {i = b} {j = a} more in absurd (omega (arith, p, h))
-  ]
+]
 
 end_expanded : (soft : Level) (size : ℕ) (marked : Option ℕ) (v w : FiringView) (rows : List Row) (bank : ℕ) → IsEnd soft size marked v rows → Learns v (Expands bank) w → Sound w → IsEnd soft (2 ^ bank) marked w rows
 end_expanded soft size marked v w rows bank ready l sound = record {
-    sound = sound;
-    free = ap (λ (x : FiringView). x.hand_free) l ∙ ready.free;
-    size_is = ap (λ (x : FiringView). 2 ^ x.bank) (sym l);
-    marked_is = ap (λ (x : FiringView). x.marked) l ∙ ready.marked_is;
-    here = λ k r is at. (let (s, stay, rest) = ready.here k r is at in (s, ap (λ (x : FiringView). x.stays r.timer.id) l ∙ stay, rest));
-    only = λ id s h. ready.only id s (sym (ap (λ (x : FiringView). x.stays id) l) ∙ h);
-    removed = ready.removed;
-  }
+  sound = sound;
+  free = ap (λ (x : FiringView). x.hand_free) l ∙ ready.free;
+  size_is = ap (λ (x : FiringView). 2 ^ x.bank) (sym l);
+  marked_is = ap (λ (x : FiringView). x.marked) l ∙ ready.marked_is;
+  here = λ k r is at. (let (s, stay, rest) = ready.here k r is at in (s, ap (λ (x : FiringView). x.stays r.timer.id) l ∙ stay, rest));
+  only = λ id s h. ready.only id s (sym (ap (λ (x : FiringView). x.stays id) l) ∙ h);
+  removed = ready.removed;
+}
 
 -- the CPU after a switch of both ends
 pub hard_expanded : {R : Type 0} (view : R → FiringView) (size size' most : ℕ) (removal : Option ℕ) (lock low lock' low' : R) (rows : List Row) (bank : ℕ) → IsHard view size most removal lock low rows → size' ≡ 2 ^ bank →
@@ -196,10 +197,10 @@ hard_expanded view size size' most removal lock low lock' low' rows bank h is k 
     let mw = ap (λ (x : FiringView). x.marked) w in
     subst (λ n. IsHard view n most removal lock' low' rows) (sym is) (record {
       ready = record {
-          lock_end = subst (λ m. IsEnd level.Lock (2 ^ bank) m (view lock') rows) (sym mk) (end_expanded level.Lock size (view lock).marked (view lock) (view lock') rows bank h.ready.lock_end k sk);
-          low_end = subst (λ m. IsEnd level.Low (2 ^ bank) m (view low') rows) (sym mw) (end_expanded level.Low size (view low).marked (view low) (view low') rows bank h.ready.low_end w sw);
-          counted = h.ready.counted;
-        };
+        lock_end = subst (λ m. IsEnd level.Lock (2 ^ bank) m (view lock') rows) (sym mk) (end_expanded level.Lock size (view lock).marked (view lock) (view lock') rows bank h.ready.lock_end k sk);
+        low_end = subst (λ m. IsEnd level.Low (2 ^ bank) m (view low') rows) (sym mw) (end_expanded level.Low size (view low).marked (view low) (view low') rows bank h.ready.low_end w sw);
+        counted = h.ready.counted;
+      };
       lock_marked = λ id q. h.lock_marked id (sym mk ∙ q);
       low_marked = λ id q. h.low_marked id (sym mw ∙ q);
     })

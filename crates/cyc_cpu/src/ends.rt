@@ -41,7 +41,13 @@ pub(crate) fn both_followed<R: Raise>(lock: &mut R, low: &mut R) -> bool
 }
 
 /// Admits the cyclic at the end of its level.
-pub(crate) fn admit_at<R: Raise>(id: CyclicId, level: Level, index: Index, lock: &mut R, low: &mut R)
+pub(crate) fn admit_at<R: Raise>(
+    id: CyclicId,
+    level: Level,
+    index: Index,
+    lock: &mut R,
+    low: &mut R,
+)
     requires lock { level ≡ Lock → MayAdmit id index (R.view lock.old) }
     requires low { level ≡ Low → MayAdmit id index (R.view low.old) }
     ensures lock { Goes R.step R.view lock.old (admits_at Lock level id index) lock.new }

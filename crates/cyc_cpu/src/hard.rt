@@ -256,7 +256,13 @@ impl<R: Raise> Hard<R> {
     /// Adds a cyclic (`cyclic_add_here`). Its first expiration is what `when` says at `now`.
     ///
     /// Refuses with BadNow where `now` is never, then as `reserve` of one.
-    pub fn add(&mut self, id: CyclicId, level: Level, when: When, now: Moment) -> Result<(), Refusal>
+    pub fn add(
+        &mut self,
+        id: CyclicId,
+        level: Level,
+        when: When,
+        now: Moment,
+    ) -> Result<(), Refusal>
         requires absent { HasNoCyclic id self.old.cyclics }
         requires still { self.old.removal ≢ Some id }
         ensures ok { OnOk result ((now ≢ never) × (u : CpuView R) × (w : CpuView R) × Reserves R.step R.view self.old u × Widens R.step R.view 1 u w

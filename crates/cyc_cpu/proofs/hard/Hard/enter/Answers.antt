@@ -36,9 +36,9 @@ invariant_of-self g c =
     let kept : Record = record { level = c.args.level; interval = c.args.interval; expired = 0; lost = 0 } in
     let u = with_record c.args.moment kept (vacant_row c.args.id c.insert-index.result) in
     subst (λ xs. IsHard g.R.Raise.view c.insert-index.new.self.size i.most i.removal c.admit_at.new.lock c.admit_at.new.low xs) (sym rows)
-      (subst (λ n. IsHard g.R.Raise.view n i.most i.removal c.admit_at.new.lock c.admit_at.new.low (insert i.table.rows q u)) (sym c.insert-index.ensures.size)
-        (hard_entered g.R.Raise.step g.R.Raise.view i.table.size i.most i.removal i.lock i.low c.admit_at.new.lock c.admit_at.new.low i.table.rows q c.args.id c.insert-index.result c.args.level u
-          c.self.invariant bound none still refl refl refl refl refl e.lock e.low e.sound_lock e.sound_low))
+    (subst (λ n. IsHard g.R.Raise.view n i.most i.removal c.admit_at.new.lock c.admit_at.new.low (insert i.table.rows q u)) (sym c.insert-index.ensures.size)
+    (hard_entered g.R.Raise.step g.R.Raise.view i.table.size i.most i.removal i.lock i.low c.admit_at.new.lock c.admit_at.new.low i.table.rows q c.args.id c.insert-index.result c.args.level u
+    c.self.invariant bound none still refl refl refl refl refl e.lock e.low e.sound_lock e.sound_low))
 
 pub returns : goal.returns
 returns g c =
@@ -54,9 +54,9 @@ returns g c =
       lock = subst (λ (x : CpuView _). Goes g.R.Raise.step g.R.Raise.view x.lock (admits_at Lock c.args.level c.args.id c.insert-index.result) c.admit_at.new.lock) v e.lock;
       low = subst (λ (x : CpuView _). Goes g.R.Raise.step g.R.Raise.view x.low (admits_at Low c.args.level c.args.id c.insert-index.result) c.admit_at.new.low) v e.low;
       kept = record {
-          removal = ap (λ (x : CpuView _). x.removal) v;
-          size = c.insert-index.ensures.size ∙ ap (λ (x : CpuView _). x.size) v;
-          room = c.insert-index.ensures.room ∙ ap (λ (x : CpuView _). x.room) v;
-          most = ap (λ (x : CpuView _). x.most) v;
-        };
+        removal = ap (λ (x : CpuView _). x.removal) v;
+        size = c.insert-index.ensures.size ∙ ap (λ (x : CpuView _). x.size) v;
+        room = c.insert-index.ensures.room ∙ ap (λ (x : CpuView _). x.room) v;
+        most = ap (λ (x : CpuView _). x.most) v;
+      };
     }
