@@ -18,6 +18,7 @@ impl Raise for LevelCore {
     }
 
     fn admit(&mut self, id: CyclicId, index: Index) {
+        // Costs nothing: it tells that the level is lawful.
         self.conservation();
         self.begin_stay(id, index);
     }
@@ -61,6 +62,7 @@ impl Raise for LevelCore {
     }
 
     fn expand(&mut self, bank: u8) {
+        // Costs nothing: it tells that the level is lawful.
         self.conservation();
         self.switch_to(bank);
     }

@@ -1,9 +1,4 @@
-use Rattle.std.proofs.Common.{◌≡◌, ◌≢◌, ◌<◌, ◌≤◌, ℕ, List, [], ap, arith, refl, subst, sym, ◌∙◌, Some, None, vec_capacity, vec_len}
-use Rattle.cyc_level.specs.declared.Event.TheVariants.{Admit, Expire, Lose, Publish, Take, Finish, Mark, Clear, Switch, Follow}
-use Rattle.cyc_level.specs.Level.{Level, Cyclic, count}
-use Rattle.cyc_level.specs.Events.{after, most_sent, Enabled}
-use Rattle.cyc_level.specs.Lawful.{Lawful}
-use Rattle.cyc_core.specs.Tables.{Tables, cyclic_of, level_of, IsAt, IsGap, IsOrdered, lookup}
+use Rattle.cyc_core.specs.Tables.{level_of}
 use Rattle.cyc_core.specs.Shown.{shown}
 use Rattle.cyc_core.proofs.Table.{lookup_gap}
 use Rattle.cyc_core.proofs.Changes.{read_entry, read_cyclic, read_id, none_some, reached_lawful}

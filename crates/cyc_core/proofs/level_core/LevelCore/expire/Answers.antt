@@ -1,12 +1,10 @@
-use Rattle.std.proofs.Common.{◌≡◌, ◌≢◌, ◌<◌, ◌≤◌, ℕ, List, [], ap, arith, refl, subst, sym, ◌∙◌, Some, None, vec_capacity, vec_len}
-use Rattle.cyc_level.specs.declared.Event.TheVariants.{Admit, Expire, Lose, Publish, Take, Finish, Mark, Clear, Switch, Follow}
-use Rattle.cyc_level.specs.Level.{Level, Cyclic, count}
-use Rattle.cyc_level.specs.Events.{after, most_sent, Enabled}
-use Rattle.cyc_level.specs.Lawful.{Lawful}
-use Rattle.cyc_core.specs.Tables.{Tables, cyclic_of, level_of, IsAt, IsGap, IsOrdered, lookup}
+use Rattle.std.proofs.Common.{◌<◌, arith, refl}
+use Rattle.cyc_level.specs.declared.Event.TheVariants.{Expire}
+use Rattle.cyc_level.specs.Level.{Cyclic}
+use Rattle.cyc_level.specs.Events.{most_sent}
 use Rattle.cyc_core.specs.Shown.{shown}
 use Rattle.cyc_core.proofs.Table.{ordered_set}
-use Rattle.cyc_core.proofs.Changes.{found_fact, entry_is_at, entry_cyclic, level_expire, sound_by, reached_lawful}
+use Rattle.cyc_core.proofs.Changes.{found_fact, entry_is_at, entry_cyclic, level_expire, sound_by}
 use Rattle.cyc_core.proofs.level_core.LevelCore.expire.Goals as goal
 
 pub overflow_add-entry : goal.overflow_add-entry

@@ -1,9 +1,6 @@
-use Rattle.std.proofs.Common.{◌≡◌, ◌≢◌, ◌<◌, ◌≤◌, ℕ, List, [], ap, arith, refl, subst, sym, ◌∙◌, Some, None, vec_capacity, vec_len}
-use Rattle.cyc_level.specs.declared.Event.TheVariants.{Admit, Expire, Lose, Publish, Take, Finish, Mark, Clear, Switch, Follow}
-use Rattle.cyc_level.specs.Level.{Level, Cyclic, count}
-use Rattle.cyc_level.specs.Events.{after, most_sent, Enabled}
-use Rattle.cyc_level.specs.Lawful.{Lawful}
-use Rattle.cyc_core.specs.Tables.{Tables, cyclic_of, level_of, IsAt, IsGap, IsOrdered, lookup}
+use Rattle.std.proofs.Common.{arith, refl, subst}
+use Rattle.cyc_level.specs.declared.Event.TheVariants.{Finish}
+use Rattle.cyc_core.specs.Tables.{cyclic_of, level_of, IsAt}
 use Rattle.cyc_core.specs.Shown.{shown}
 use Rattle.cyc_core.proofs.Table.{ordered_set}
 use Rattle.cyc_core.proofs.Changes.{entry_is_at, entry_of, held_cyclic, held_count, level_finish, sound_by, reached_lawful}

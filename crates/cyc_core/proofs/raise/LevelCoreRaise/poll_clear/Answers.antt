@@ -1,11 +1,8 @@
-use Rattle.std.proofs.Common.{◌≡◌, ◌≢◌, ◌<◌, ◌≤◌, ap, arith, rules, refl, subst, sym, ◌∙◌, Some, None}
-use Rattle.cyc_types.specs.Firing.{Learns, Sound, Admits, Raises, Marks, Polls, Expands}
-use Rattle.cyc_types.specs.declared.firing.Raised.TheVariants.{First, More, Lost}
-use Rattle.cyc_level.specs.declared.Event.TheVariants.{Admit, Expire, Lose, Publish, Mark, Clear, Switch}
+use Rattle.std.proofs.Common.{◌≡◌, arith, subst, sym, Some}
+use Rattle.cyc_types.specs.Firing.{Learns, Sound, Polls}
+use Rattle.cyc_level.specs.declared.Event.TheVariants.{Clear}
 use Rattle.cyc_level.specs.Level.{Level}
-use Rattle.cyc_level.specs.Events.{Enabled, after}
-use Rattle.cyc_level.specs.Lawful.{Lawful, IsId}
-use Rattle.cyc_core.specs.Tables.{Tables, cyclic_of, level_of}
+use Rattle.cyc_core.specs.Tables.{cyclic_of, level_of}
 use Rattle.cyc_core.specs.FiringSide.{firing_view}
 use Rattle.cyc_core.proofs.FiringLaws.{learns_clear, can_clear, sound_after}
 use Rattle.cyc_core.proofs.raise.LevelCoreRaise.poll_clear.Goals as goal
