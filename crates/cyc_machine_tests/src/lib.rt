@@ -1,0 +1,5 @@
+//! Runs of scripts with what they must write, and what no clause says of the program's words.
+#![tactic(auto)]
+
+#[cfg(test)]
+mod tests;

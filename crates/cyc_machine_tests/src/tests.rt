@@ -1,0 +1,217 @@
+ghost use Rattle.std.specs.Prelude.{Some, None};
+
+use cyc_machine::{
+    Command, Fault, Out, PutFailed, RunFault, Sink, command_of, read_script, replay, status_of,
+};
+use cyc_types::Refusal;
+use std::process::Abort;
+use std::test::Fail;
+
+/// Scripts with one low-level cyclic or none, each with its text.
+const RUNS: [(&str, &str, &str); 9] = [
+    ("no_steps", "{\"cpus\":1,\"steps\":[]}", ""),
+    (
+        "one_expiration_is_served",
+        "{\"cpus\":1,\"steps\":[[\"add\",\"a\",\"low\",5,10],[\"advance\",5],[\"softint\",0,\"low\",8]]}",
+        "1 ok\n2 fired 1 lost 0\n3 ran 1 idle\na expired 1 called 1 lost 0 pending 0\n",
+    ),
+    (
+        "the_ceiling_loses",
+        "{\"cpus\":1,\"ceiling\":2,\"steps\":[[\"add\",\"a\",\"low\",1,1],[\"advance\",5],[\"softint\",0,\"low\",8]]}",
+        "1 ok\n2 fired 5 lost 3\n3 ran 2 idle\na expired 5 called 2 lost 3 pending 0\n",
+    ),
+    (
+        "the_cyclic_in_hand_is_not_put_in_again",
+        "{\"cpus\":1,\"steps\":[[\"add\",\"a\",\"low\",1,1],[\"advance\",2],[\"softint\",0,\"low\",1],[\"advance\",3],[\"softint\",0,\"low\",8]]}",
+        "1 ok\n2 fired 2 lost 0\n3 ran 1 more\n4 fired 1 lost 0\n5 ran 2 idle\na expired 3 called 3 lost 0 pending 0\n",
+    ),
+    (
+        "an_interval_of_0_is_refused",
+        "{\"cpus\":1,\"steps\":[[\"add\",\"a\",\"low\",0,0]]}",
+        "1 refused 3\na expired 0 called 0 lost 0 pending 0\n",
+    ),
+    (
+        "the_start_is_looked_at_before_the_interval",
+        "{\"cpus\":1,\"steps\":[[\"add\",\"a\",\"low\",-1,0]]}",
+        "1 refused 2\na expired 0 called 0 lost 0 pending 0\n",
+    ),
+    (
+        "a_second_cyclic_is_refused",
+        "{\"cpus\":1,\"steps\":[[\"add\",\"a\",\"low\",1,1],[\"add\",\"b\",\"low\",1,1]]}",
+        "1 ok\n2 refused 5\na expired 0 called 0 lost 0 pending 0\nb expired 0 called 0 lost 0 pending 0\n",
+    ),
+    (
+        "a_soft_interrupt_needs_its_cpu",
+        "{\"cpus\":1,\"steps\":[[\"softint\",1,\"low\",8],[\"softint\",0,\"low\",0],[\"softint\",0,\"low\",1]]}",
+        "1 refused 13\n2 ran 0 more\n3 ran 0 idle\n",
+    ),
+    (
+        "calls_stay_pending",
+        "{\"cpus\":1,\"steps\":[[\"add\",\"a\",\"low\",0,10],[\"advance\",35],[\"softint\",0,\"low\",1]]}",
+        "1 ok\n2 fired 3 lost 0\n3 ran 1 more\na expired 3 called 1 lost 0 pending 2\n",
+    ),
+];
+
+/// What a script's replay writes.
+fn written<R: AllocGlobal + Abort>(rt: &R, script: &str) -> Result<Vec<u8>, Fail> {
+    let script = read_script(rt.alloc(), script.as_bytes())
+        .ok()
+        .ok_or("it is a script")?;
+    let mut written: Vec<u8> = Vec::new(rt.alloc());
+    let mut out = Out::new(&mut written);
+    let ended = replay(rt.alloc(), &script, &mut out);
+    assert!(rt; ended.is_ok() && !out.failed());
+    drop(out);
+    Ok(written)
+}
+
+#[test]
+fn each_script_gives_its_text(rt: HostRuntime) -> Result<(), Fail> {
+    for (name, script, text) in RUNS {
+        let written = written(&rt, script)?;
+        assert_eq!(rt; written.as_slice(), text.as_bytes(), "{name}");
+    }
+    Ok(())
+}
+
+/// A sink that fails at a put, after the first byte of it.
+#[derive(Drop)]
+struct Stops {
+    puts_left: u32,
+    written: Vec<u8>,
+    failed: bool,
+}
+
+impl Sink for Stops {
+    ghost written = { λ s. Some s.written.items };
+
+    ghost has_failed = { λ s. s.failed };
+
+    fn put(&mut self, bytes: &[u8]) -> Result<(), PutFailed> {
+        if self.puts_left == 0 {
+            self.failed = true;
+            return Err(PutFailed);
+        }
+        self.puts_left -= 1;
+        match self.written.extend_from_slice(bytes) {
+            Ok(()) => Ok(()),
+            Err(_) => {
+                self.failed = true;
+                Err(PutFailed)
+            }
+        }
+    }
+
+    fn failed(&self) -> bool {
+        self.failed
+    }
+}
+
+#[test]
+fn a_failed_put_stops_the_replay(rt: HostRuntime) -> Result<(), Fail> {
+    let (_, script, text) = RUNS[1];
+    let lines = [
+        "1 ok\n",
+        "2 fired 1 lost 0\n",
+        "3 ran 1 idle\n",
+        "a expired 1 called 1 lost 0 pending 0\n",
+    ];
+    let script = read_script(rt.alloc(), script.as_bytes())
+        .ok()
+        .ok_or("it is a script")?;
+    for k in 0..6u32 {
+        let mut sink = Stops {
+            puts_left: k,
+            written: Vec::new(rt.alloc()),
+            failed: false,
+        };
+        let ended = replay(rt.alloc(), &script, &mut sink);
+        let whole = k as usize >= lines.len();
+        assert_eq!(rt; ended.is_ok(), whole, "at {k}");
+        assert_eq!(rt; ended.err() == Some(RunFault::Write), !whole, "at {k}");
+        let mut front: Vec<u8> = Vec::new(rt.alloc());
+        for line in lines.iter().take(k as usize) {
+            front.extend_from_slice(line.as_bytes())?;
+        }
+        assert_eq!(rt; sink.written.as_slice(), front.as_slice(), "at {k}");
+        assert!(rt; text.as_bytes().starts_with(front.as_slice()), "at {k}");
+    }
+    Ok(())
+}
+
+#[test]
+fn only_the_exact_word_is_a_command(rt: HostRuntime) {
+    let alloc = rt.alloc();
+    assert_eq!(rt; command_of(alloc, &["replay"]).ok(), Some(Command::Replay));
+    assert_eq!(rt; command_of(alloc, &[]).err(), Some(Fault::Words));
+    for word in [
+        "--",
+        "--help",
+        "-h",
+        "-V",
+        "--version",
+        "help",
+        "",
+        "Replay",
+        "--replay",
+        "replay ",
+        "run",
+    ] {
+        assert_eq!(rt;
+            command_of(alloc, &[word]).err(),
+            Some(Fault::Words),
+            "at {word}"
+        );
+    }
+    for words in [
+        ["--", "replay"],
+        ["replay", "x"],
+        ["replay", "replay"],
+        ["replay", "--"],
+        ["-v", "replay"],
+    ] {
+        assert_eq!(rt;
+            command_of(alloc, &words).err(),
+            Some(Fault::Words),
+            "at {words:?}"
+        );
+    }
+}
+
+#[test]
+fn each_fault_has_its_words_and_status(rt: HostRuntime) -> Result<(), Fail> {
+    for (fault, words, status) in [
+        (Fault::Words, "usage: cyclic replay|run", 1),
+        (Fault::Memory, "fault 1", 3),
+        (Fault::Read, "fault read", 3),
+        (Fault::Script(Refusal::Memory), "fault 1", 3),
+        (Fault::Script(Refusal::ScriptSyntax), "script refused 19", 2),
+        (
+            Fault::Script(Refusal::ScriptShape(0)),
+            "script refused 20 step 0",
+            2,
+        ),
+        (
+            Fault::Script(Refusal::TimeBack(2)),
+            "script refused 21 step 2",
+            2,
+        ),
+        (
+            Fault::Script(Refusal::NameTwice(3)),
+            "script refused 22 step 3",
+            2,
+        ),
+        (
+            Fault::Script(Refusal::NoName(1)),
+            "script refused 23 step 1",
+            2,
+        ),
+        (Fault::Run(RunFault::Refused(Refusal::Memory)), "fault 1", 3),
+        (Fault::Run(RunFault::Write), "fault write", 3),
+    ] {
+        let text = format!(in rt.alloc(); "{fault}")?;
+        assert_eq!(rt; text.as_str(), words);
+        assert_eq!(rt; status_of(&fault), status, "{words}");
+    }
+    Ok(())
+}
