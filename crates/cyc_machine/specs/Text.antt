@@ -202,3 +202,7 @@ text_of script = text_on script.ceiling (names_of script) script.steps.items
 -- the events of the level in the whole run of a script
 unfoldable pub events_of : Script → List Event
 events_of script = (run 1 script.steps.items (start script.ceiling (length (names_of script)))).events
+
+-- the level after the last step of a script
+unfoldable pub last_level : Script → Level
+last_level script = (run 1 script.steps.items (start script.ceiling (length (names_of script)))).state.level

@@ -4,7 +4,8 @@ ghost use Rattle.std.specs.Prelude.{◌≡◌, ◌≤◌, ◌<◌, ◌^◌, ◌+
 ghost use Rattle.cyc_core.specs.Tables.{level_of};
 ghost use Rattle.cyc_text.specs.Puts.{Puts};
 ghost use Rattle.cyc_text.specs.Lines.{reported};
-ghost use Rattle.cyc_machine.specs.Text.{outcome, run, reports, counts_of, id_of, text_of};
+ghost use Rattle.cyc_machine.specs.Text.{outcome, run, reports, counts_of, id_of, text_of, last_level};
+ghost use Rattle.cyc_core.specs.Reached.{IsReached};
 ghost use Rattle.cyc_machine.specs.Machine.{state_of, Stands, Tallies};
 ghost use Rattle.cyc_machine.specs.Status.{is_write, IsMemoryOrWrite};
 
@@ -51,6 +52,7 @@ fn put_steps<S: Sink>(
     ensures text { Puts (S.written sink.old) (S.written sink.new) result (run 1 steps.now (state_of machine.old)).line }
     ensures state { OnOk result (state_of machine.new ≡ (run 1 steps.now (state_of machine.old)).state) }
     ensures tallied { Tallies machine.new.tally (level_of machine.new.level) }
+    ensures reached { OnOk result (IsReached (level_of machine.new.level)) }
     ensures write { S.has_failed sink.new ≡ is_write result }
     ensures memory { IfErr result IsMemoryOrWrite }
 {
@@ -59,6 +61,7 @@ fn put_steps<S: Sink>(
         put_step(machine, line, sink, step, taken)?;
         step += 1;
     }
+    machine.level.conservation();
     Ok(())
 }
 
@@ -111,6 +114,9 @@ fn put_reports<S: Sink>(
 pub fn replay<S: Sink>(alloc: Global, script: &Script, sink: &mut S) -> Result<(), RunFault>
     requires { S.has_failed sink.old ≡ false }
     ensures text { Puts (S.written sink.old) (S.written sink.new) result (text_of script.now) }
+
+    // The level after the last step is one that enabled events reached, so the conservation theorem holds of it.
+    ensures reached { OnOk result (IsReached (last_level script.now)) }
     ensures write { S.has_failed sink.new ≡ is_write result }
     ensures memory { IfErr result IsMemoryOrWrite }
 {
