@@ -55,8 +55,8 @@ impl Ring {
     ghost use Rattle.cyc_ring.specs.Ends.{raise_trail, drain_trail, IsRaiseSeatOf, IsDrainSeatOf};
 
     /// Opens a ring with no cyclic, both sides on bank 0, and the two seats of its sides. `ceiling` is the greatest pend; the
-    /// buffer indexes of each bank begin at `start`. Takes all the memory that the ring will use, and refuses Memory alone
-    /// (`cyclic_softint` and `cyclic_expand` have no counterpart: our own rule).
+    /// buffer indexes of each bank begin at `start`. Takes all the memory that the ring will use, and refuses Memory
+    /// alone (our own rule: the kernel allocates each bank when it grows).
     pub fn open(
         alloc: Global,
         ceiling: Ceiling,
