@@ -1,5 +1,5 @@
 -- From the steps of a seat to the call that they make.
-use Rattle.std.proofs.Common.{◌≡◌, ℕ, List, [], ◌∷◌, ◌++◌, refl, sym, ap, ◌∙◌, subst}
+use Rattle.std.proofs.Common.{◌≡◌, List, [], ◌∷◌, ◌++◌, refl, sym, ap, ◌∙◌, subst}
 use Rattle.cyc_types.specs.Firing.{FiringCall}
 use Rattle.cyc_types.specs.Draining.{DrainCall}
 use Rattle.ring_rule.specs.declared.Role.{Role}
@@ -9,7 +9,7 @@ use Rattle.ring_rule.specs.declared.DrainStep.{DrainStep}
 use Rattle.ring_rule.specs.declared.SeatView.{SeatView}
 use Rattle.ring_rule.specs.declared.Setting.{Setting}
 use Rattle.ring_rule.specs.Rule.{HasItsTrail}
-use Rattle.ring_rule.specs.Steps.{ThisSeat, with_raise_step, with_drain_step}
+use Rattle.ring_rule.specs.Steps.{ThisSeat}
 use Rattle.ring_rule.specs.Conservation.{StandsFor, LevelStands}
 use Rattle.cyc_ring.specs.Steps.{RaiseStands, DrainStands, RaiseStood, DrainStood, RaiseSteps, DrainSteps, MakesRaiseCall, MakesDrainCall}
 use Rattle.cyc_ring.specs.Seats.{TableSeat, MakesRaiseStep, MakesDrainStep}

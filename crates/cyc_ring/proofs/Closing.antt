@@ -1,10 +1,9 @@
 -- What a level that stands says of the rows of a raise seat.
-use Rattle.std.proofs.Common.{◌≡◌, ◌≢◌, ℕ, ◌+◌, ◌-◌, ◌*◌, ◌%◌, ◌^◌, ◌<◌, ◌≤◌, List, get_or, refl, sym, ap, ◌∙◌, subst, arith, eq-eqb, cond}
-use Rattle.std.specs.Prelude.{Option, Some, None}
+use Rattle.std.proofs.Common.{◌≡◌, ◌≢◌, ℕ, ◌+◌, ◌*◌, ◌%◌, ◌^◌, ◌<◌, ◌≤◌, List, get_or, refl, sym, ap, ◌∙◌, arith, eq-eqb, cond}
+use Rattle.std.specs.Prelude.{Option, Some}
 use Rattle.cyc_types.specs.Limits.{cyclics, last_id}
 use Rattle.cyc_level.specs.Level.{Cyclic, Level, in_hand}
 use Rattle.cyc_level.specs.Events.{reached}
-use Rattle.cyc_level.specs.Runs.{StayCounts}
 use Rattle.cyc_level.proofs.Keeps.{same_ceiling}
 use Rattle.ring_rule.specs.declared.RaiseStep.{RaiseStep}
 use Rattle.ring_rule.specs.declared.DrainStep.{DrainStep}

@@ -1,20 +1,19 @@
 -- What each call of the firing side teaches its holder.
-use Rattle.std.proofs.Common.{◌≡◌, ℕ, zero, suc, ◌+◌, ◌-◌, ◌%◌, ◌^◌, ◌<◌, ◌≤◌, ◌≢◌, eqb, Bool, true, false, cond, List, [], ◌∷◌, ◌++◌, sym, refl, ap, ◌∙◌, subst, arith, eq-eqb, ne_eqb, pow_mono, get_or}
+use Rattle.std.proofs.Common.{◌≡◌, ℕ, zero, suc, ◌+◌, ◌%◌, ◌^◌, ◌<◌, ◌≤◌, ◌≢◌, eqb, Bool, true, false, cond, List, [], ◌∷◌, ◌++◌, sym, refl, ap, ◌∙◌, subst, arith, eq-eqb, ne_eqb, pow_mono, get_or}
 use Rattle.std.specs.Prelude.{Option, Some, None, is_none}
 use mathlib.Core.Logic.{dite}
 use native.Mathlib.Decide.{ℕ_discrete}
 use Rattle.cyc_level.specs.Events.{hand_after_expire}
 use Rattle.cyc_level.proofs.Maps.{some_same}
-use Rattle.cyc_types.specs.Firing.{Stay as Known, FiringView, FiringCall, Admits, Loads, Raises, Marks, Polls, Expands, Looks, Learns, Sound, IsAdmitted, edited, seen_of, seen_in, sent_of, sent_in}
+use Rattle.cyc_types.specs.Firing.{Stay as Known, FiringView, Admits, Loads, Raises, Marks, Polls, Expands, Looks, Learns, Sound, IsAdmitted, edited, seen_of, seen_in, sent_in}
 use Rattle.cyc_types.specs.declared.firing.Raised.{Raised as Answer}
 use Rattle.cyc_types.specs.declared.firing.Raised.TheVariants as answers
-use Rattle.cyc_types.specs.declared.firing.Sent.{Sent}
 use Rattle.ring_rule.specs.declared.RaiseStep.{RaiseStep}
 use Rattle.ring_rule.specs.declared.RaiseStep.TheVariants.{Admitted, Loaded, Lost, Added, Stored, Published, Marked, Cleared, Switched, LoadedSoftBank}
 use Rattle.ring_rule.specs.declared.Setting.{Setting}
 use Rattle.ring_rule.specs.Words.{index_range, entry}
 use Rattle.cyc_level.specs.Runs.{StayCounts, one_more}
-use Rattle.ring_rule.specs.Trail.{producer_index, open_stay, seen_pend, marked_of, firer_hand_of, hard_bank_of, has_followed}
+use Rattle.ring_rule.specs.Trail.{producer_index, open_stay, seen_pend, firer_hand_of, hard_bank_of, has_followed}
 use Rattle.cyc_ring.specs.Rows.{HoldsStays}
 use Rattle.cyc_ring.specs.Views.{stay_with, firing_view, IsSeenSound}
 use Rattle.cyc_ring.specs.Steps.{RaiseSteps}

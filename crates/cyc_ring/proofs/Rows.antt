@@ -5,7 +5,7 @@ use mathlib.Core.Logic.{dite}
 use native.Mathlib.Decide.{ℕ_discrete}
 use Rattle.cyc_level.proofs.Maps.{some_same}
 use Rattle.ring_rule.specs.declared.RaiseStep.{RaiseStep}
-use Rattle.ring_rule.specs.declared.RaiseStep.TheVariants.{Admitted, Added, Cleared}
+use Rattle.ring_rule.specs.declared.RaiseStep.TheVariants.{Admitted, Cleared}
 use Rattle.cyc_level.specs.Runs.{StayCounts, one_more}
 use Rattle.ring_rule.specs.Trail.{open_stay}
 use Rattle.cyc_ring.specs.Rows.{HoldsStays}

@@ -1,5 +1,5 @@
 -- What runs of calls at the ends add up to.
-use Rattle.std.proofs.Common.{◌≡◌, ◌≢◌, ℕ, ◌+◌, ◌%◌, List, [], ◌∷◌, ◌++◌, refl, ap, sym, ◌∙◌, subst, arith, true, false, cond, ◌==◌, eq-eqb, ne_eqb}
+use Rattle.std.proofs.Common.{◌≡◌, ℕ, ◌+◌, ◌%◌, List, [], ◌∷◌, ◌++◌, refl, ap, sym, ◌∙◌, arith, true, false, cond, ◌==◌, eq-eqb, ne_eqb}
 use mathlib.Core.Logic.{dite}
 use native.Mathlib.Decide.{ℕ_discrete}
 use Rattle.std.proofs.lemmas.Bool.Decides.{nat_tests}
@@ -9,22 +9,20 @@ use Rattle.std.specs.List.{FoldsTo}
 use Rattle.cyc_types.specs.Counting.{times, one_at}
 use Rattle.cyc_types.specs.Firing.{FiringCall, Admits, Loads, Raises, Marks, Polls, Expands, Looks}
 use Rattle.cyc_types.specs.Draining.{DrainCall, Takes, Finishes}
-use Rattle.cyc_types.specs.Runs.{Taught, raised_by, lost_by, finished_by, finishes_of, raises_of as raise_in, losses_of as loss_in}
+use Rattle.cyc_types.specs.Runs.{Taught, raised_by, lost_by, finished_by, raises_of as raise_in, losses_of as loss_in}
 use Rattle.cyc_types.specs.declared.firing.Raised.TheVariants as answers
 use Rattle.cyc_level.specs.Level.{Cyclic, in_hand}
 use Rattle.cyc_level.specs.Events.{reached}
 use Rattle.cyc_level.specs.Runs.{StayCounts}
 use Rattle.ring_rule.specs.declared.RaiseStep.{RaiseStep}
-use Rattle.ring_rule.specs.declared.RaiseStep.TheVariants.{Admitted, Loaded, Lost, Added, Stored, Published, Marked, Cleared, Switched, LoadedSoftBank}
 use Rattle.ring_rule.specs.declared.DrainStep.{DrainStep}
-use Rattle.ring_rule.specs.declared.DrainStep.TheVariants.{Subtracted, LoadedProducer, LoadedHardBank}
+use Rattle.ring_rule.specs.declared.DrainStep.TheVariants.{LoadedProducer, LoadedHardBank}
 use Rattle.ring_rule.specs.declared.Setting.{Setting}
-use Rattle.ring_rule.specs.Words.{index_range, entry, entry_id}
-use Rattle.ring_rule.specs.Trail.{raises_of, losses_of, made_calls, drainer_hand_of, id_in, producer_index, consumer_index, soft_bank_of, open_stay, ended_calls}
+use Rattle.ring_rule.specs.Words.{index_range}
+use Rattle.ring_rule.specs.Trail.{raises_of, losses_of, made_calls, drainer_hand_of, id_in, consumer_index, soft_bank_of, open_stay, ended_calls}
 use Rattle.ring_rule.specs.Shown.{IsSameStay}
-use Rattle.ring_rule.specs.Conservation.{LevelStands}
-use Rattle.cyc_ring.specs.Steps.{RaiseSteps, DrainSteps, MakesRaiseCall, MakesDrainCall, FoundNone, AreFollows}
-use Rattle.cyc_ring.specs.Ends.{raise_trail, drain_trail, end_view, RaiseEndCall, DrainEndCall, IsSameRaiseSeat, IsSameDrainSeat, FoundIdle, end_made}
+use Rattle.cyc_ring.specs.Steps.{RaiseSteps, DrainSteps}
+use Rattle.cyc_ring.specs.Ends.{raise_trail, drain_trail, end_view, RaiseEndCall, DrainEndCall, IsSameRaiseSeat, IsSameDrainSeat, end_made}
 use Rattle.cyc_ring.specs.Laws.{RaiseWaysAddUp, DrainWaysAddUp, IdleIsFound, NothingFollowsRemoval}
 use Rattle.cyc_ring.specs.declared.ends.RaiseEnd.{RaiseEnd}
 use Rattle.cyc_ring.specs.declared.ends.DrainEnd.{DrainEnd}
@@ -49,15 +47,15 @@ module _ (k : Setting) (t : List RaiseStep) (id : ℕ) where
 raise_run : (way : List FiringCall) (e f : RaiseEnd) → FoldsTo (Taught RaiseEndCall end_view) e way f
     → IsSameRaiseSeat e.seat f.seat × ((id : ℕ) → raises_of id (raise_trail f.seat) ≡ raises_of id (raise_trail e.seat) + raised_by id way) × ((id : ℕ) → losses_of id (raise_trail f.seat) ≡ losses_of id (raise_trail e.seat) + lost_by id way)
 raise_run [] e f h = (
-    (ap (λ (x : RaiseEnd). x.seat.seat.table_id) (sym h), ap (λ (x : RaiseEnd). x.seat.setting) (sym h)),
-    (λ id. ap (λ (x : RaiseEnd). raises_of id (raise_trail x.seat)) (sym h) ∙ omega arith),
-    (λ id. ap (λ (x : RaiseEnd). losses_of id (raise_trail x.seat)) (sym h) ∙ omega arith),
-  )
+  (ap (λ (x : RaiseEnd). x.seat.seat.table_id) (sym h), ap (λ (x : RaiseEnd). x.seat.setting) (sym h)),
+  (λ id. ap (λ (x : RaiseEnd). raises_of id (raise_trail x.seat)) (sym h) ∙ omega arith),
+  (λ id. ap (λ (x : RaiseEnd). losses_of id (raise_trail x.seat)) (sym h) ∙ omega arith),
+)
 raise_run (call ∷ way) e f (m, first, rest) = let b = raise_run way m f rest in let c = first.0.1 in (
-    (b.0.0 ∙ first.0.0.0, b.0.1 ∙ first.0.0.1),
-    (λ id. let x : raises_of id (raise_trail m.seat) ≡ raises_of id (raise_trail e.seat) + raise_in id call = ap (raises_of id) c.gained ∙ (call_adds e.seat.setting (raise_trail e.seat) id call c.steps c.made).0 in let y = b.1 id in omega (arith, x, y)),
-    (λ id. let x : losses_of id (raise_trail m.seat) ≡ losses_of id (raise_trail e.seat) + loss_in id call = ap (losses_of id) c.gained ∙ (call_adds e.seat.setting (raise_trail e.seat) id call c.steps c.made).1 in let y = b.2 id in omega (arith, x, y)),
-  )
+  (b.0.0 ∙ first.0.0.0, b.0.1 ∙ first.0.0.1),
+  (λ id. let x : raises_of id (raise_trail m.seat) ≡ raises_of id (raise_trail e.seat) + raise_in id call = ap (raises_of id) c.gained ∙ (call_adds e.seat.setting (raise_trail e.seat) id call c.steps c.made).0 in let y = b.1 id in omega (arith, x, y)),
+  (λ id. let x : losses_of id (raise_trail m.seat) ≡ losses_of id (raise_trail e.seat) + loss_in id call = ap (losses_of id) c.gained ∙ (call_adds e.seat.setting (raise_trail e.seat) id call c.steps c.made).1 in let y = b.2 id in omega (arith, x, y)),
+)
 
 pub raise_ways : RaiseWaysAddUp
 raise_ways e f way goes = raise_run way e f goes
@@ -78,14 +76,14 @@ call_makes start t id (Finishes j answer) steps f = let hand : drainer_hand_of t
 
 drain_run : (way : List DrainCall) (e f : DrainEnd) → FoldsTo DrainEndCall e way f → IsSameDrainSeat e.seat f.seat × ((id : ℕ) → end_made f id ≡ end_made e id + finished_by id way)
 drain_run [] e f h = (
-    (ap (λ (x : DrainEnd). x.seat.seat.table_id) (sym h), ap (λ (x : DrainEnd). x.seat.setting) (sym h)),
-    (λ id. ap (λ (x : DrainEnd). end_made x id) (sym h) ∙ omega arith),
-  )
+  (ap (λ (x : DrainEnd). x.seat.seat.table_id) (sym h), ap (λ (x : DrainEnd). x.seat.setting) (sym h)),
+  (λ id. ap (λ (x : DrainEnd). end_made x id) (sym h) ∙ omega arith),
+)
 drain_run (call ∷ way) e f (m, first, rest) = let b = drain_run way m f rest in let c = first.1 in (
-    (b.0.0 ∙ first.0.0, b.0.1 ∙ first.0.1),
-    (λ id. let x : end_made m id ≡ end_made e id + finished_by id (call ∷ []) = ap (made_calls id) c.gained ∙ call_makes e.seat.setting.start (drain_trail e.seat) id call c.steps c.made in
+  (b.0.0 ∙ first.0.0, b.0.1 ∙ first.0.1),
+  (λ id. let x : end_made m id ≡ end_made e id + finished_by id (call ∷ []) = ap (made_calls id) c.gained ∙ call_makes e.seat.setting.start (drain_trail e.seat) id call c.steps c.made in
       let y = b.1 id in let z = finished_on id (call ∷ []) way in omega (arith, x, y, z)),
-  )
+)
 
 pub drain_ways : DrainWaysAddUp
 drain_ways e f way goes = drain_run way e f goes

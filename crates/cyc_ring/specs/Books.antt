@@ -1,7 +1,6 @@
 -- What a closed ring says of each cyclic.
 use Rattle.std.specs.Prelude.{◌≡◌, ◌≢◌, ℕ, ◌+◌, ◌↔◌, true, Some, List}
 use Rattle.ring_rule.specs.declared.RaiseStep.{RaiseStep}
-use Rattle.ring_rule.specs.declared.DrainStep.{DrainStep}
 use Rattle.cyc_level.specs.Runs.{StayCounts}
 use Rattle.ring_rule.specs.Trail.{open_stay, ended_calls, marked_of, made_calls}
 use Rattle.cyc_ring.specs.Ends.{raise_trail, drain_trail}

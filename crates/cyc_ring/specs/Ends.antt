@@ -1,11 +1,10 @@
 -- What a contract says of the seats and ends of a ring.
-use Rattle.std.specs.Prelude.{◌≡◌, ℕ, Option, List, [], ◌++◌}
+use Rattle.std.specs.Prelude.{◌≡◌, ℕ, Option, List, ◌++◌}
 use Rattle.cyc_types.specs.Firing.{FiringView, FiringCall}
 use Rattle.cyc_types.specs.Draining.{DrainCall}
 use Rattle.ring_rule.specs.declared.RaiseStep.{RaiseStep}
 use Rattle.ring_rule.specs.declared.DrainStep.{DrainStep}
-use Rattle.ring_rule.specs.declared.Setting.{Setting}
-use Rattle.ring_rule.specs.Trail.{ended_calls, raises_of, losses_of, drainer_hand_of, made_calls}
+use Rattle.ring_rule.specs.Trail.{drainer_hand_of, made_calls}
 use Rattle.cyc_ring.specs.Views.{firing_view}
 use Rattle.cyc_ring.specs.Steps.{MakesRaiseCall, MakesDrainCall, FoundNone}
 use Rattle.cyc_ring.specs.declared.ring.Ring.{Ring}

@@ -1,5 +1,5 @@
 -- What a firing side's trail shows to its holder.
-use Rattle.std.specs.Prelude.{◌≡◌, ℕ, ◌+◌, ◌-◌, ◌^◌, ◌<◌, ◌≤◌, Option, Some, None, List, is_none}
+use Rattle.std.specs.Prelude.{◌≡◌, ℕ, ◌+◌, ◌<◌, ◌≤◌, Option, Some, None, List, is_none}
 use Rattle.cyc_types.specs.Firing.{Stay, FiringView}
 use Rattle.cyc_level.specs.Level.{bank_size}
 use Rattle.ring_rule.specs.declared.RaiseStep.{RaiseStep}

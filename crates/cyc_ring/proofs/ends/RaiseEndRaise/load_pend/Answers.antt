@@ -1,13 +1,9 @@
-use Rattle.std.proofs.Common.{rules, ◌≡◌, ◌≢◌, ℕ, ◌+◌, ◌-◌, ◌*◌, ◌/◌, ◌%◌, ◌^◌, ◌<◌, ◌≤◌, List, [], ◌∷◌, ◌++◌, refl, sym, ap, ◌∙◌, subst, arith, get_or, set}
-use Rattle.std.specs.Prelude.{Option, Some, None}
+use Rattle.std.proofs.Common.{ℕ, ◌%◌, ◌≤◌, List, [], ◌∷◌, refl, sym, subst}
 use Rattle.ring_rule.specs.declared.Setting.{Setting}
 use Rattle.ring_rule.specs.declared.RaiseStep.{RaiseStep}
-use Rattle.ring_rule.specs.declared.RaiseStep.TheVariants.{Admitted, Loaded, Lost, Added, Stored, Published, Marked, Cleared, Switched, LoadedSoftBank}
-use Rattle.ring_rule.specs.declared.DrainStep.{DrainStep}
-use Rattle.ring_rule.specs.declared.DrainStep.TheVariants.{LoadedHardBank, LoadedProducer, Took, Subtracted, Followed}
-use Rattle.ring_rule.specs.Steps.{ThisSeat}
-use Rattle.cyc_ring.specs.Seats.{MakesRaiseStep, MakesDrainStep}
-use Rattle.cyc_ring.proofs.Calls.{no_raise, one_raise, raise_call, no_drain, one_drain, drain_call}
+use Rattle.ring_rule.specs.declared.RaiseStep.TheVariants.{Loaded}
+use Rattle.cyc_ring.specs.Seats.{MakesRaiseStep}
+use Rattle.cyc_ring.proofs.Calls.{no_raise, one_raise, raise_call}
 use Rattle.cyc_types.specs.Firing.{Loads}
 use Rattle.ring_rule.specs.Words.{mark_bit}
 use Rattle.ring_rule.specs.Trail.{seen_pend}

@@ -1,13 +1,4 @@
-use Rattle.std.proofs.Common.{rules, ◌≡◌, ◌≢◌, ℕ, ◌+◌, ◌-◌, ◌*◌, ◌/◌, ◌%◌, ◌^◌, ◌<◌, ◌≤◌, List, [], ◌∷◌, ◌++◌, refl, sym, ap, ◌∙◌, subst, arith, get_or, set}
-use Rattle.std.specs.Prelude.{Option, Some, None}
-use Rattle.ring_rule.specs.declared.Setting.{Setting}
-use Rattle.ring_rule.specs.declared.RaiseStep.{RaiseStep}
-use Rattle.ring_rule.specs.declared.RaiseStep.TheVariants.{Admitted, Loaded, Lost, Added, Stored, Published, Marked, Cleared, Switched, LoadedSoftBank}
-use Rattle.ring_rule.specs.declared.DrainStep.{DrainStep}
-use Rattle.ring_rule.specs.declared.DrainStep.TheVariants.{LoadedHardBank, LoadedProducer, Took, Subtracted, Followed}
-use Rattle.ring_rule.specs.Steps.{ThisSeat}
-use Rattle.cyc_ring.specs.Seats.{MakesRaiseStep, MakesDrainStep}
-use Rattle.cyc_ring.proofs.Calls.{no_raise, one_raise, raise_call, no_drain, one_drain, drain_call}
+use Rattle.std.proofs.Common.{ℕ, refl, sym, ap, ◌∙◌, get_or}
 use Rattle.ring_rule.specs.Trail.{open_stay}
 use Rattle.cyc_ring.proofs.ring.Ring.load_as.Goals as goal
 

@@ -1,11 +1,10 @@
-use Rattle.std.proofs.Common.{rules, ◌≡◌, ℕ, ◌+◌, ◌-◌, ◌%◌, ◌^◌, ◌<◌, ◌≤◌, refl, sym, ap, ◌∙◌, subst, arith}
-use Rattle.std.specs.Prelude.{Some, None}
+use Rattle.std.proofs.Common.{◌≡◌, ℕ, ◌%◌, ◌^◌, sym, ap, ◌∙◌}
 use mathlib.Core.Option.{none}
 use Rattle.atomic_table.specs.Table.{step}
 use Rattle.ring_rule.specs.declared.Setting.{Setting}
-use Rattle.ring_rule.specs.Words.{producer_word, hard_word, soft_word, place}
-use Rattle.ring_rule.specs.Trail.{seen_pend, producer_index, consumer_index, hard_bank_of, soft_bank_of}
-use Rattle.ring_rule.specs.Steps.{TellsAdmit, TellsRaiseLoad, TellsAdd, TellsStore, TellsPublish, TellsLoad, TellsMark, TellsClear, TellsSwitch, TellsSoftBank, TellsHardBank, TellsProducer, TellsTake, TellsSubtract, TellsFollow}
+use Rattle.ring_rule.specs.Words.{place}
+use Rattle.ring_rule.specs.Trail.{consumer_index, soft_bank_of}
+use Rattle.ring_rule.specs.Steps.{TellsTake}
 use Rattle.ring_drain.proofs.Takes.{takes}
 use Rattle.cyc_ring.proofs.Telling.{telling}
 use Rattle.cyc_ring.proofs.ring.Ring.load_entry.Goals as goal

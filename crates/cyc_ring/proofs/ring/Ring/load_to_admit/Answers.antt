@@ -1,11 +1,7 @@
-use Rattle.std.proofs.Common.{rules, ◌≡◌, ℕ, ◌+◌, ◌-◌, ◌%◌, ◌^◌, ◌<◌, ◌≤◌, refl, sym, ap, ◌∙◌, subst, arith}
-use Rattle.std.specs.Prelude.{Some, None}
+use Rattle.std.proofs.Common.{◌≡◌, ℕ, sym, ◌∙◌, arith}
 use mathlib.Core.Option.{none}
 use Rattle.atomic_table.specs.Table.{step}
-use Rattle.ring_rule.specs.declared.Setting.{Setting}
-use Rattle.ring_rule.specs.Words.{producer_word, hard_word, soft_word, place}
-use Rattle.ring_rule.specs.Trail.{seen_pend, producer_index, consumer_index, hard_bank_of, soft_bank_of}
-use Rattle.ring_rule.specs.Steps.{TellsAdmit, TellsRaiseLoad, TellsAdd, TellsStore, TellsPublish, TellsLoad, TellsMark, TellsClear, TellsSwitch, TellsSoftBank, TellsHardBank, TellsProducer, TellsTake, TellsSubtract, TellsFollow}
+use Rattle.ring_rule.specs.Steps.{TellsAdmit}
 use Rattle.ring_raise.proofs.Admits.{admits}
 use Rattle.cyc_ring.proofs.Telling.{telling}
 use Rattle.cyc_ring.proofs.ring.Ring.load_to_admit.Goals as goal

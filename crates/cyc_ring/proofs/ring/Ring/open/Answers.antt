@@ -1,4 +1,4 @@
-use Rattle.std.proofs.Common.{rules, ◌≡◌, ℕ, ◌+◌, ◌%◌, ◌^◌, ◌<◌, List, [], refl, sym, ap, ◌∙◌, subst, arith}
+use Rattle.std.proofs.Common.{rules, ℕ, List, [], sym, ap, subst}
 use Rattle.atomic_table.specs.Table.{opening}
 use Rattle.ring_rule.specs.Rule.{MeetsRule, opening_view}
 use Rattle.ring_rule.specs.Steps.{ThisSeat}

@@ -1,11 +1,11 @@
-use Rattle.std.proofs.Common.{rules, ◌≡◌, ◌≢◌, ℕ, zero, suc, ◌+◌, ◌-◌, ◌*◌, ◌/◌, ◌%◌, ◌^◌, ◌<◌, ◌≤◌, eqb, cond, List, [], ◌∷◌, ◌++◌, refl, sym, ap, ◌∙◌, subst, arith, get_or, set, eq-eqb, get_or-set_same, get_or-set_other}
+use Rattle.std.proofs.Common.{rules, ◌≡◌, ◌≢◌, ℕ, zero, suc, ◌+◌, ◌*◌, ◌%◌, ◌^◌, ◌<◌, ◌≤◌, cond, List, [], ◌∷◌, refl, sym, ap, ◌∙◌, subst, arith, get_or, set, eq-eqb}
 use Rattle.std.specs.Prelude.{Option, Some, None}
 use Rattle.cyc_types.specs.Firing.{Raises}
 use Rattle.cyc_types.specs.declared.firing.Raised.TheVariants as answers
 use Rattle.cyc_level.specs.Events.{hand_after_expire}
 use Rattle.ring_rule.specs.declared.Setting.{Setting}
 use Rattle.ring_rule.specs.declared.RaiseStep.{RaiseStep}
-use Rattle.ring_rule.specs.declared.RaiseStep.TheVariants.{Loaded, Lost, Added, Stored, Published}
+use Rattle.ring_rule.specs.declared.RaiseStep.TheVariants.{Loaded, Added, Stored, Published}
 use Rattle.ring_rule.specs.Words.{index_range, place, entry}
 use Rattle.cyc_level.specs.Runs.{StayCounts, one_more}
 use Rattle.ring_rule.specs.Trail.{open_stay, seen_pend, firer_hand_of, hard_bank_of, producer_index, stored_entry}

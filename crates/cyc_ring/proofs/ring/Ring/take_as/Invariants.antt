@@ -1,8 +1,8 @@
-use Rattle.std.proofs.Common.{◌≡◌, ℕ, ◌-◌, List, ◌++◌}
+use Rattle.std.proofs.Common.{◌≡◌, ◌-◌, List}
 use Rattle.std.specs.Prelude.{None}
 use Rattle.ring_rule.specs.declared.DrainStep.{DrainStep}
 use Rattle.ring_rule.specs.Trail.{held_entry}
-use Rattle.cyc_ring.specs.Steps.{AreFollows, DrainStood}
+use Rattle.cyc_ring.specs.Steps.{AreFollows}
 use Rattle.cyc_ring.specs.Ends.{IsDrainSeatOf, drain_trail}
 use Rattle.cyc_ring.proofs.Calls.{DrainRun}
 use Rattle.cyc_ring.proofs.ring.Ring.take_as.Given as goal

@@ -1,4 +1,4 @@
-use Rattle.std.proofs.Common.{rules, sym, subst, refl, List, ap, ◌∙◌, ◌≡◌, ℕ, ◌%◌, ◌^◌, ◌<◌, ◌≤◌, lit≤, mod-eq_of_lt}
+use Rattle.std.proofs.Common.{sym, subst, refl, List, ap, ◌∙◌, ◌%◌, ◌^◌, lit≤, mod-eq_of_lt}
 use Rattle.ring_rule.specs.Trail.{open_stay, firer_hand_of, hard_bank_of, producer_index}
 use Rattle.ring_rule.specs.declared.RaiseStep.{RaiseStep}
 use Rattle.cyc_ring.specs.Rows.{HoldsStays, stay_index}
