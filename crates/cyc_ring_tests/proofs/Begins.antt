@@ -1,6 +1,5 @@
 -- What a test knows of the raise end of a ring that is opened.
-use Rattle.std.proofs.Common.{◌≡◌, ◌≢◌, ℕ, ◌^◌, ◌<◌, List, [], sym, refl, ap, ◌∙◌, subst, arith}
-use Rattle.std.specs.Prelude.{None}
+use Rattle.std.proofs.Common.{◌≡◌, ℕ, List, [], sym, refl, ap, ◌∙◌, subst, arith}
 use Rattle.cyc_types.specs.Firing.{MayAdmit}
 use Rattle.ring_rule.specs.declared.RaiseStep.{RaiseStep}
 use Rattle.cyc_ring.specs.Views.{firing_view}

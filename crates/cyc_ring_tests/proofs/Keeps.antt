@@ -1,7 +1,7 @@
 -- What the calls of a firing side leave of what a test knows.
-use Rattle.std.proofs.Common.{◌≡◌, ◌≢◌, ℕ, ◌+◌, ◌-◌, ◌^◌, ◌<◌, ◌≤◌, eqb, Bool, true, false, cond, List, [], sym, refl, ap, ◌∙◌, subst, arith, eq-eqb, ne_eqb}
+use Rattle.std.proofs.Common.{◌≡◌, ℕ, ◌+◌, ◌-◌, ◌^◌, ◌<◌, ◌≤◌, eqb, Bool, true, false, cond, sym, refl, ap, ◌∙◌, subst, arith, eq-eqb}
 use Rattle.std.specs.Prelude.{Option, Some, None}
-use Rattle.cyc_types.specs.Firing.{FiringView, FiringCall, Stay, Admits, Loads, Raises, Marks, Polls, Expands, Looks, Learns, edited, MayRaise, MayAsk, MayMark, MayPoll}
+use Rattle.cyc_types.specs.Firing.{FiringView, Stay, Admits, Raises, Marks, Polls, Expands, Looks, Learns, edited, MayRaise, MayMark, MayPoll}
 use Rattle.cyc_types.specs.declared.firing.Raised.{Raised}
 use Rattle.cyc_types.specs.declared.firing.Raised.TheVariants.{First, More, Lost}
 use Rattle.cyc_ring_tests.specs.Ready.{IsOpen, IsReady, IsMarked}

@@ -1,4 +1,3 @@
-use Rattle.std.proofs.Common.{◌≤◌}
 use Rattle.cyc_ring.specs.Ends.{IsDrainSeatOf}
 use Rattle.cyc_ring_tests.proofs.help.drain_until.Given as goal
 

@@ -1,9 +1,9 @@
-use Rattle.std.proofs.Common.{rules, ◌≡◌, ℕ, ◌+◌, ◌-◌, ◌^◌, ◌<◌, ◌≤◌, refl, sym, ap, ◌∙◌, arith}
+use Rattle.std.proofs.Common.{rules, ℕ, arith}
 use Rattle.cyc_types.specs.Firing.{FiringView}
 use Rattle.cyc_ring.specs.Ends.{end_view}
-use Rattle.cyc_ring_tests.specs.Ready.{IsOpen, IsReady, IsMarked}
+use Rattle.cyc_ring_tests.specs.Ready.{IsOpen, IsReady}
 use Rattle.cyc_ring_tests.proofs.Begins.{may_begin, begins_ready}
-use Rattle.cyc_ring_tests.proofs.Keeps.{open_new, open_raise, open_mark, open_poll, ready_admit, ready_raise, marked_mark, marked_poll, may_raise, may_mark, may_poll}
+use Rattle.cyc_ring_tests.proofs.Keeps.{open_new, open_raise, ready_admit, ready_raise, may_raise, may_mark}
 use Rattle.cyc_ring_tests.proofs.removal.a_call_is_kept_for_an_open_removal.Goals as goal
 
 pub admit-requires : goal.admit-requires

@@ -1,4 +1,4 @@
-use Rattle.std.proofs.Common.{rules, ◌≡◌, ℕ, ◌+◌, ◌-◌, ◌^◌, ◌<◌, ◌≤◌, refl, sym, ap, ◌∙◌, arith}
+use Rattle.std.proofs.Common.{rules, ℕ, arith}
 use Rattle.cyc_types.specs.Firing.{FiringView}
 use Rattle.cyc_ring.specs.Ends.{end_view}
 use Rattle.cyc_ring_tests.specs.Ready.{IsOpen, IsReady, IsMarked}

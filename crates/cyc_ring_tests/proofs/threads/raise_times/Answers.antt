@@ -1,4 +1,4 @@
-use Rattle.std.proofs.Common.{◌≡◌, ℕ, ◌+◌, refl, sym, ap, ◌∙◌, arith}
+use Rattle.std.proofs.Common.{◌∙◌}
 use Rattle.cyc_ring.specs.Ends.{end_view}
 use Rattle.cyc_ring_tests.proofs.Keeps.{open_raise, ready_raise}
 use Rattle.cyc_ring_tests.proofs.threads.raise_times.Goals as goal

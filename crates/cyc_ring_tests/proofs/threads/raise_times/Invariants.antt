@@ -1,4 +1,3 @@
-use Rattle.std.proofs.Common.{ℕ}
 use Rattle.cyc_ring.specs.Ends.{IsRaiseSeatOf, end_view}
 use Rattle.cyc_ring_tests.specs.Ready.{IsOpen, IsReady}
 use Rattle.cyc_ring_tests.proofs.threads.raise_times.Given as goal

@@ -1,4 +1,4 @@
-use Rattle.std.proofs.Common.{rules, ◌≡◌, ℕ, refl, sym, ap, ◌∙◌, subst}
+use Rattle.std.proofs.Common.{rules, ℕ, sym, ap, ◌∙◌, subst}
 use Rattle.cyc_types.specs.Firing.{FiringView}
 use Rattle.cyc_ring.specs.Ends.{end_view, seat_view}
 use Rattle.cyc_ring.specs.declared.seats.RaiseSeat.{RaiseSeat}
