@@ -1,20 +1,18 @@
 -- What the fire of one timer is.
-use Rattle.std.proofs.Common.{◌≡◌, ◌≢◌, ℕ, zero, suc, ◌+◌, ◌-◌, ◌*◌, ◌<◌, ◌≤◌, ◌^◌, List, [], ◌∷◌, ◌++◌, length, Bool, true, false, cond, ◌==◌, eqb, eq-eqb, Option, Some, None, refl, ap, sym, ◌∙◌, subst, arith, append-nil}
+use Rattle.std.proofs.Common.{◌≡◌, ◌≢◌, ℕ, zero, suc, ◌+◌, ◌≤◌, [], ◌∷◌, ◌++◌, length, true, Some, refl, ap, sym, ◌∙◌, subst, arith, append-nil}
 use Rattle.std.proofs.lemmas.Bool.Decides.{nat_tests}
 use mathlib.Core.Logic.{dite}
 use native.Mathlib.Decide.{ℕ_discrete}
-use Rattle.std.specs.Prelude.{count_by, map}
-use Rattle.cyc_types.specs.Series.{due, next, late, never}
-use Rattle.cyc_level.specs.declared.Event.{Event}
-use Rattle.cyc_level.specs.Level.{Cyclic, Level}
+use Rattle.cyc_types.specs.Series.{due, next}
+use Rattle.cyc_level.specs.Level.{Level}
 use Rattle.cyc_core.specs.DrainingSide.{done_of, done_in}
 use Rattle.cyc_expirations.specs.Timers.{Timer}
-use Rattle.cyc_expirations.specs.Expirations.{Expiration, is_before, put_in, ascending, series, due_of, expirations, times_of, after, all_after}
+use Rattle.cyc_expirations.specs.Expirations.{is_before, put_in, ascending, series, due_of, expirations, times_of, after, all_after}
 use Rattle.cyc_expirations.proofs.Order.{put_in_front}
 use Rattle.cyc_expirations.proofs.Dues.{series_all, length_series, due_small}
 use Rattle.cyc_expirations.proofs.Laws.{moment_next, count_due, times_expirations}
 use Rattle.cyc_machine.specs.LevelRun.{happen, fire_events, expiry}
-use Rattle.cyc_machine.specs.Machine.{repeat_expiry, MayExpire, IsReadyFor, Serves, most_before}
+use Rattle.cyc_machine.specs.Machine.{repeat_expiry, MayExpire, IsReadyFor}
 use Rattle.cyc_machine.proofs.Raising.{Expired, expired_times}
 
 before_next : (id e t : ℕ) → is_before (record { moment = e; id = id }) (record { moment = e + t; id = id }) ≡ true

@@ -1,14 +1,12 @@
 -- What a soft interrupt over a level core does is what the definition says.
-use Rattle.std.proofs.Common.{◌≡◌, ◌≢◌, ℕ, zero, suc, ◌+◌, ◌-◌, ◌<◌, ◌≤◌, List, [], ◌∷◌, ◌++◌, length, Bool, true, false, cond, ◌==◌, ne_eqb, Option, Some, None, refl, ap, sym, ◌∙◌, subst, arith}
+use Rattle.std.proofs.Common.{◌≡◌, ℕ, zero, suc, ◌+◌, ◌-◌, ◌<◌, List, [], ◌∷◌, length, Bool, true, false, cond, ◌==◌, ne_eqb, Option, Some, None, refl, ap, sym, ◌∙◌, subst, arith}
 use Rattle.std.specs.Prelude.{is_some}
 use Rattle.std.specs.Option.{option_map, option_map_or}
-use Rattle.std.specs.List.{FoldsTo}
-use Rattle.cyc_types.specs.Draining.{DrainCall, Takes, Finishes, hand_after}
+use Rattle.cyc_types.specs.Draining.{DrainCall, Takes, hand_after}
 use Rattle.cyc_types.specs.Runs.{DrainGoes}
 use Rattle.cyc_types.specs.declared.draining.Finished.{Finished}
 use Rattle.cyc_types.specs.declared.draining.Finished.TheVariants.{More, Last, LastOfRemoval}
-use Rattle.cyc_level.specs.declared.Event.{Event}
-use Rattle.cyc_level.specs.declared.Event.TheVariants.{Take, Finish, Follow}
+use Rattle.cyc_level.specs.declared.Event.TheVariants.{Finish}
 use Rattle.cyc_level.specs.Level.{Cyclic, Level, count, count_in}
 use Rattle.cyc_level.specs.Events.{after, after_finish, cyclic_after_finish, hand_after_finish}
 use Rattle.cyc_level.proofs.Maps.{at_same}

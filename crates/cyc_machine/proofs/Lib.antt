@@ -5,3 +5,5 @@ pub mod Tallying
 pub mod Firing
 pub mod Standing
 pub mod Starting
+pub mod Conserving
+pub mod Replaying

@@ -1,15 +1,14 @@
 -- What expirations of one cyclic do to a level.
-use Rattle.std.proofs.Common.{◌≡◌, ◌≢◌, ℕ, zero, suc, ◌+◌, ◌<◌, ◌≤◌, ◌^◌, List, [], ◌∷◌, ◌++◌, Bool, true, false, cond, ◌==◌, eqb, eq-eqb, ne_eqb, Option, Some, None, IsSome, refl, ap, sym, ◌∙◌, subst, arith}
-use Rattle.std.specs.Prelude.{is_none, nat_lt}
+use Rattle.std.proofs.Common.{◌≡◌, ◌≢◌, ℕ, zero, suc, ◌+◌, ◌<◌, ◌≤◌, List, [], ◌∷◌, ◌++◌, Bool, true, false, cond, ◌==◌, eq-eqb, ne_eqb, Option, Some, None, IsSome, refl, ap, sym, ◌∙◌, subst, arith}
+use Rattle.std.specs.Prelude.{is_none}
 use Rattle.std.specs.Option.{option_map}
 use Rattle.std.specs.List.{FoldsTo}
 use Rattle.cyc_types.specs.Firing.{Raises, MayRaise}
 use Rattle.cyc_types.specs.declared.firing.Raised.{Raised}
 use Rattle.cyc_types.specs.declared.firing.Raised.TheVariants.{First, More, Lost}
 use Rattle.cyc_level.specs.declared.Event.{Event}
-use Rattle.cyc_level.specs.declared.Event.TheVariants.{Expire, Lose, Publish}
 use Rattle.cyc_level.specs.Level.{Cyclic, Level, count, count_in}
-use Rattle.cyc_level.specs.Events.{after, changed_at, cyclic_after_expire, cyclic_after_lose, hand_after_expire, Enabled}
+use Rattle.cyc_level.specs.Events.{after, cyclic_after_expire, cyclic_after_lose, hand_after_expire}
 use Rattle.cyc_level.proofs.Maps.{some_and, not_none, at_same, at_other}
 use Rattle.cyc_core.specs.Reached.{Happens}
 use Rattle.cyc_core.specs.FiringSide.{stay_of, firing_view, Fires, raise_events}

@@ -1,15 +1,15 @@
 -- The machine stays ready.
 use Rattle.std.specs.Prelude.{is_some, length}
-use Rattle.std.proofs.Common.{false, ◌≡◌, ◌≢◌, ℕ, zero, suc, ◌+◌, ◌*◌, ◌<◌, ◌≤◌, List, [], ◌∷◌, Option, Some, None, refl, ap, sym, ◌∙◌, subst, arith}
+use Rattle.std.proofs.Common.{false, ◌≡◌, ℕ, ◌+◌, ◌<◌, List, [], ◌∷◌, Option, Some, None, refl, ap, sym, ◌∙◌, subst, arith}
 use mathlib.Core.Logic.{dite}
 use native.Mathlib.Decide.{ℕ_discrete}
 use Rattle.cyc_level.specs.declared.Event.TheVariants.{Admit}
-use Rattle.cyc_level.specs.Level.{Cyclic, Cyclics, Level}
-use Rattle.cyc_level.specs.Events.{changed_at, admitted_cyclic}
+use Rattle.cyc_level.specs.Level.{Cyclics, Level}
+use Rattle.cyc_level.specs.Events.{admitted_cyclic}
 use Rattle.cyc_level.proofs.Maps.{at_same, at_other}
 use Rattle.cyc_core.specs.DrainingSide.{done_of, done_in}
 use Rattle.cyc_core.specs.Tables.{level_of}
-use Rattle.cyc_types.specs.Tally.{TallyView, tally_count}
+use Rattle.cyc_types.specs.Tally.{TallyView}
 use Rattle.cyc_expirations.specs.Timers.{Timer}
 use Rattle.cyc_expirations.specs.Expirations.{expirations, all_after}
 use Rattle.cyc_machine.specs.LevelRun.{happen, fire_events, losses}

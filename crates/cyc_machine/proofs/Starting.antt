@@ -1,14 +1,13 @@
 -- The machine before the first step.
-use Rattle.std.proofs.Common.{◌≡◌, ℕ, zero, suc, ◌+◌, ◌-◌, ◌*◌, ◌<◌, ◌≤◌, ◌^◌, List, [], ◌∷◌, length, Bool, true, false, cond, nat_lt, get_or, Option, Some, None, refl, ap, sym, ◌∙◌, subst, arith}
-use Rattle.std.specs.Prelude.{slice_get, slice_index, unwrap_or, replicate}
+use Rattle.std.proofs.Common.{◌≡◌, ℕ, zero, suc, ◌-◌, ◌^◌, List, [], ◌∷◌, Bool, true, false, cond, nat_lt, get_or, Option, None, refl, ap, sym, ◌∙◌, subst, arith}
+use Rattle.std.specs.Prelude.{slice_get, slice_index, unwrap_or}
 use Rattle.std.proofs.lemmas.Option.{unwrap_or-slice_get}
-use Rattle.cyc_types.specs.Series.{never}
 use Rattle.cyc_types.specs.Tally.{TallyView, tally_made, tally_get, tally_count}
 use Rattle.cyc_level.specs.Level.{Level, empty_level}
 use Rattle.cyc_core.specs.Tables.{level_of}
 use Rattle.cyc_machine.specs.Text.{State, start}
 use Rattle.cyc_machine.specs.declared.machine.Machine.{Machine}
-use Rattle.cyc_machine.specs.Machine.{IsReady, Tallies, Stands, Holds, state_of}
+use Rattle.cyc_machine.specs.Machine.{IsReady, Tallies, Stands, state_of}
 
 zero_list : List ℕ
 zero_list = 0 ∷ []
@@ -26,7 +25,7 @@ fresh_tally : (ceiling : ℕ) → Tallies (tally_made 1 1 (2 ^ 64 - 1)) (empty_l
 unfolding zero_list
 fresh_tally ceiling = record { first = refl; one = refl; most = refl; counted = λ id. none_counted (nat_lt id 1) (id - 1) }
 
-fresh_ready : (ceiling names : ℕ) → IsReady 1 (start ceiling names)
+pub fresh_ready : (ceiling names : ℕ) → IsReady 1 (start ceiling names)
 fresh_ready ceiling names = record { hand_free = refl; unmarked = refl; holds = λ id. refl }
 
 pub begun : (ceiling names : ℕ) (m : Machine) → state_of m ≡ start ceiling names → m.tally ≡ tally_made 1 1 (2 ^ 64 - 1) → Stands 1 m

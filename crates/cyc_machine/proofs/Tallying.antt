@@ -1,22 +1,21 @@
 -- A soft interrupt over a level core and a tally never meets a refusal, and counts what it finishes.
-use Rattle.std.proofs.Common.{◌≡◌, ◌≢◌, ℕ, zero, suc, ◌+◌, ◌-◌, ◌<◌, ◌≤◌, ◌^◌, ◌⊎◌, inl, inr, List, [], ◌∷◌, ◌++◌, length, Bool, true, false, cond, ◌==◌, Option, Some, None, refl, ap, sym, ◌∙◌, subst, arith}
-use Rattle.std.proofs.Math.ListN.{set, length-set}
+use Rattle.std.proofs.Common.{◌≡◌, ℕ, ◌+◌, ◌<◌, ◌≤◌, inl, inr, List, [], ◌∷◌, length, Bool, true, false, ◌==◌, Option, Some, None, refl, ap, sym, ◌∙◌, subst, arith}
+use Rattle.std.proofs.Math.ListN.{length-set}
 use Rattle.std.specs.Prelude.{IsTrue, ◌↔◌}
 use Rattle.std.specs.Option.{option_map}
 use Rattle.std.specs.List.{FoldsTo}
 use Rattle.cyc_types.specs.Draining.{DrainCall, Takes, Finishes}
 use Rattle.cyc_types.specs.Tally.{TallyView, tally_count, tally_called, TallyRefuses}
-use Rattle.cyc_level.specs.declared.Event.{Event}
-use Rattle.cyc_level.specs.declared.Event.TheVariants.{Take, Finish, Follow}
-use Rattle.cyc_level.specs.Level.{Cyclic, Cyclics, Level, count}
+use Rattle.cyc_level.specs.declared.Event.TheVariants.{Finish}
+use Rattle.cyc_level.specs.Level.{Cyclic, Cyclics, Level}
 use Rattle.cyc_level.specs.Events.{after, after_finish, cyclic_after_finish}
 use Rattle.cyc_level.specs.Lawful.{Lawful}
-use Rattle.cyc_level.proofs.Maps.{at_cases, none_some}
+use Rattle.cyc_level.proofs.Maps.{at_cases}
 use Rattle.cyc_level.proofs.Room.{placed_cyclic}
 use Rattle.cyc_level.proofs.Maps.{hand_here}
 use Rattle.cyc_level.specs.Level.{in_hand}
 use Rattle.cyc_core.specs.Tables.{Tables, level_of}
-use Rattle.cyc_core.specs.DrainingSide.{Drains, take_events, done_of, done_in}
+use Rattle.cyc_core.specs.DrainingSide.{take_events, done_of, done_in}
 use Rattle.cyc_machine.specs.LevelRun.{happen}
 use Rattle.cyc_machine.specs.Machine.{Tallies, IsBounded, sent_in, SoftKeeps}
 use Rattle.cyc_machine.proofs.Raising.{folds_happen}
@@ -27,7 +26,7 @@ use Rattle.cyc_machine.proofs.Interrupts.{drained, FitsBudget, Interrupts, inter
 
 -- ---- the soft side keeps each cyclic's expirations
 
-take_keeps : (old new : List ℕ) (b : Bool) (l : Level) → (happen (take_events old new b) l).cyclics ≡ l.cyclics
+pub take_keeps : (old new : List ℕ) (b : Bool) (l : Level) → (happen (take_events old new b) l).cyclics ≡ l.cyclics
 take_keeps old (x ∷ xs) true l = refl
 take_keeps old [] true l = refl
 take_keeps (x ∷ xs) new false l = refl
@@ -38,7 +37,7 @@ called_sent : (o : Option Cyclic) → sent_in (option_map cyclic_after_finish o)
 called_sent None = refl
 called_sent (Some c) = refl
 
-finish_keeps : (id : ℕ) (l k : Level) → l.drainer_hand ≡ Some id → k ≡ after Finish l → (q : ℕ) → sent_in (k.cyclics q) ≡ sent_in (l.cyclics q)
+pub finish_keeps : (id : ℕ) (l k : Level) → l.drainer_hand ≡ Some id → k ≡ after Finish l → (q : ℕ) → sent_in (k.cyclics q) ≡ sent_in (l.cyclics q)
 finish_keeps id l k held is q =
     ap (λ (x : Level). sent_in (x.cyclics q)) (is ∙ ap (λ h. after_finish h l) held)
     ∙ at_cases l.cyclics id (option_map cyclic_after_finish) (λ j o. sent_in o ≡ sent_in (l.cyclics j)) (called_sent (l.cyclics id)) (λ j ne. refl) q
@@ -52,14 +51,14 @@ drain_keeps (Takes answer ∷ way) d e (j, (folds, found), rest) q =
 drain_keeps (Finishes id answer ∷ way) d e (j, (held, (on, is), found), rest) q =
     drain_keeps way j e rest q ∙ finish_keeps id (level_of d) (level_of j) held is q
 
-take_same : (old new : List ℕ) (b : Bool) (l : Level) → ((happen (take_events old new b) l).firer_hand ≡ l.firer_hand) × ((happen (take_events old new b) l).marked ≡ l.marked)
+pub take_same : (old new : List ℕ) (b : Bool) (l : Level) → ((happen (take_events old new b) l).firer_hand ≡ l.firer_hand) × ((happen (take_events old new b) l).marked ≡ l.marked)
 take_same old (x ∷ xs) true l = (refl, refl)
 take_same old [] true l = (refl, refl)
 take_same (x ∷ xs) new false l = (refl, refl)
 take_same [] (x ∷ xs) false l = (refl, refl)
 take_same [] [] false l = (refl, refl)
 
-finish_same : (id : ℕ) (l k : Level) → l.drainer_hand ≡ Some id → k ≡ after Finish l → (k.firer_hand ≡ l.firer_hand) × (k.marked ≡ l.marked)
+pub finish_same : (id : ℕ) (l k : Level) → l.drainer_hand ≡ Some id → k ≡ after Finish l → (k.firer_hand ≡ l.firer_hand) × (k.marked ≡ l.marked)
 finish_same id l k held is = let done = is ∙ ap (λ h. after_finish h l) held in (ap (λ (x : Level). x.firer_hand) done, ap (λ (x : Level). x.marked) done)
 
 drain_same : (way : List DrainCall) (d e : Tables) → FoldsTo drained d way e → ((level_of e).firer_hand ≡ (level_of d).firer_hand) × ((level_of e).marked ≡ (level_of d).marked)
@@ -78,7 +77,7 @@ drain_same (Finishes id answer ∷ way) d e (j, (held, (on, is), found), rest) =
 soft_keeps : (way : List DrainCall) (d e : Tables) → FoldsTo drained d way e → SoftKeeps (level_of d) (level_of e)
 soft_keeps way d e goes = record { hand = (drain_same way d e goes).0; marked = (drain_same way d e goes).1; sent = drain_keeps way d e goes }
 
-some_sent : (o : Option Cyclic) (c : Cyclic) → sent_in (Some c) ≡ sent_in o → (b : Cyclic) × (o ≡ Some b) × (b.sent ≡ c.sent)
+pub some_sent : (o : Option Cyclic) (c : Cyclic) → sent_in (Some c) ≡ sent_in o → (b : Cyclic) × (o ≡ Some b) × (b.sent ≡ c.sent)
 some_sent None c e = absurd (cc)
 some_sent (Some b) c e = (b, refl, let same : b.sent ≡ c.sent = cc in same)
 

@@ -1,5 +1,5 @@
 -- The definition of the text, computed on worked scripts.
-use Rattle.std.proofs.Common.{◌≡◌, ℕ, List, [], ◌∷◌, ◌++◌, refl, codes}
+use Rattle.std.proofs.Common.{◌≡◌, ℕ, [], ◌∷◌, refl, codes}
 use Rattle.std.specs.Prelude.{pos}
 use Rattle.cyc_types.specs.declared.level.Level.TheVariants as level
 use Rattle.cyc_types.specs.declared.level.Soft.TheVariants as soft

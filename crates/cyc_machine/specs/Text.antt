@@ -1,5 +1,5 @@
 -- The text of a script: what its steps do to the timers of the CPU and to its low level, and the lines that tell of it.
-use Rattle.std.specs.Prelude.{ℕ, ◌+◌, ◌==◌, if◌then◌else◌, ℤ, pos, negsuc, int_lt, Bool, true, false, Option, Some, None, List, [], ◌∷◌, ◌++◌, length, map, replicate, slice_get, slice_set, find, nat_lt, option_and_then, string_bytes, is_none}
+use Rattle.std.specs.Prelude.{ℕ, ◌+◌, ◌==◌, if◌then◌else◌, ℤ, pos, negsuc, int_lt, Bool, true, false, Option, Some, None, List, [], ◌∷◌, ◌++◌, length, map, replicate, slice_get, slice_set, find, nat_lt, option_and_then, string_bytes}
 use Rattle.std.specs.Option.{option_map_or}
 use Rattle.cyc_types.specs.declared.refusal.Refusal.{Refusal}
 use Rattle.cyc_types.specs.declared.refusal.Refusal.TheVariants.{BadWhen, BadInterval, BadNow, Full, NoCpu, ScriptShape}

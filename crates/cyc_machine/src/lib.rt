@@ -4,6 +4,7 @@
 #![tactic(auto)]
 
 mod fault;
+mod law;
 mod lines;
 mod machine;
 mod run;
@@ -14,5 +15,6 @@ mod words;
 pub use cyc_script::{Add, Name, Script, Softint, Step, read_script};
 pub use cyc_text::{Out, PutFailed, Sink};
 pub use fault::{Fault, RunFault, status_of};
+pub use law::conservation;
 pub use run::replay;
 pub use words::{Command, command_of};

@@ -1,4 +1,4 @@
-use Rattle.std.proofs.Common.{◌≡◌, ℕ, List, ◌+◌, ◌++◌, map, drop, false, string_bytes}
+use Rattle.std.proofs.Common.{◌≡◌, ℕ, List, ◌++◌, map, drop, false, string_bytes}
 use Rattle.std.specs.Io.KnownBytes.{Appends}
 use Rattle.cyc_machine.specs.Text.{reports}
 use Rattle.cyc_machine.specs.Machine.{state_of}

@@ -1,9 +1,9 @@
-use Rattle.std.proofs.Common.{rules, ◌≡◌, ◌+◌, ◌++◌, ◌∷◌, drop, refl, ap, sym, ◌∙◌, subst, arith}
+use Rattle.std.proofs.Common.{◌≡◌, ◌+◌, ◌++◌, ◌∷◌, drop, ap, sym, ◌∙◌, arith}
 use Rattle.std.proofs.lemmas.List.{at_drop_more}
 use Rattle.std.proofs.lemmas.Result.{err_from_is_err_and}
 use Rattle.cyc_text.proofs.Puts.{turn, broke}
-use Rattle.cyc_machine.specs.Text.{outcome, run}
-use Rattle.cyc_machine.specs.Machine.{state_of, Stands}
+use Rattle.cyc_machine.specs.Text.{run}
+use Rattle.cyc_machine.specs.Machine.{state_of}
 use Rattle.cyc_machine.proofs.run.put_steps.Goals as goal
 
 pub returns-in_err-put_step-clause-text : goal.returns-in_err-put_step-clause-text

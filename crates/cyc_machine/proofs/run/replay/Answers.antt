@@ -1,4 +1,4 @@
-use Rattle.std.proofs.Common.{◌≡◌, ℕ, List, ◌++◌, length, map, ap, sym, ◌∙◌, subst, refl, string_bytes}
+use Rattle.std.proofs.Common.{ℕ, List, length, map, ap, sym, ◌∙◌, subst, string_bytes}
 use Rattle.std.specs.Prelude.{Result, Ok, Err, OnOk}
 use Rattle.cyc_core.specs.Reached.{IsReached}
 use Rattle.std.proofs.lemmas.List.{length-map}

@@ -1,4 +1,4 @@
-use Rattle.std.proofs.Common.{rules, refl, ◌≡◌, ◌∙◌, sym, None}
+use Rattle.std.proofs.Common.{refl, sym}
 use Rattle.cyc_machine.proofs.Standing.{added_stands, none_of}
 use Rattle.cyc_machine.proofs.steps.add_cyclic.Goals as goal
 

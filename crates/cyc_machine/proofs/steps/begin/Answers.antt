@@ -1,6 +1,6 @@
 use Rattle.std.proofs.Common.{rules, ◌≡◌, ◌∙◌, ◌-◌, ◌^◌, ap, None}
-use Rattle.cyc_types.specs.Tally.{TallyView, tally_made}
-use Rattle.cyc_machine.specs.Text.{State, start}
+use Rattle.cyc_types.specs.Tally.{tally_made}
+use Rattle.cyc_machine.specs.Text.{start}
 use Rattle.cyc_machine.specs.declared.machine.Machine.{Machine}
 use Rattle.cyc_machine.specs.Machine.{state_of}
 use Rattle.cyc_machine.proofs.Starting.{begun}

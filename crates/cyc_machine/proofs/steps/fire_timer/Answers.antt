@@ -1,4 +1,4 @@
-use Rattle.std.proofs.Common.{◌≡◌, ℕ, ◌+◌, ◌∷◌, [], ◌∙◌, sym, refl, ap}
+use Rattle.std.proofs.Common.{◌+◌, ◌∷◌, [], ◌∙◌, sym, refl, ap}
 use Rattle.cyc_core.specs.Tables.{level_of}
 use Rattle.cyc_machine.specs.LevelRun.{happen, losses}
 use Rattle.cyc_machine.specs.Machine.{timer_of, repeat_expiry}

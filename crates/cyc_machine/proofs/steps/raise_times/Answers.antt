@@ -1,9 +1,7 @@
-use Rattle.std.proofs.Common.{◌≡◌, ℕ, suc, ◌+◌, ◌-◌, ◌≤◌, ◌++◌, arith, ap, sym, ◌∙◌, subst, refl, append_assoc}
-use Rattle.cyc_types.specs.declared.firing.Raised.{Raised}
-use Rattle.cyc_types.specs.declared.firing.Raised.TheVariants.{First, More, Lost}
+use Rattle.std.proofs.Common.{◌≡◌, ℕ, suc, ◌+◌, ◌-◌, ◌++◌, arith, ap, sym, ◌∙◌, subst, append_assoc}
 use Rattle.cyc_core.specs.Tables.{level_of}
-use Rattle.cyc_machine.specs.LevelRun.{happen, expiry, losses}
-use Rattle.cyc_machine.specs.Machine.{repeat_expiry, MayExpire, loss_in}
+use Rattle.cyc_machine.specs.LevelRun.{happen, expiry}
+use Rattle.cyc_machine.specs.Machine.{repeat_expiry, MayExpire}
 use Rattle.cyc_machine.proofs.Raising.{may_once, may_more, fires_happen, happen_on, losses_on, losses_of_expiry, loss_most}
 use Rattle.cyc_machine.proofs.steps.raise_times.Goals as goal
 

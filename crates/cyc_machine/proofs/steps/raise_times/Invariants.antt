@@ -1,4 +1,4 @@
-use Rattle.std.proofs.Common.{◌≡◌, ℕ, ◌+◌, ◌-◌, ◌≤◌, List, ◌++◌}
+use Rattle.std.proofs.Common.{◌≡◌, ◌-◌, ◌≤◌, List, ◌++◌}
 use Rattle.cyc_level.specs.declared.Event.{Event}
 use Rattle.cyc_core.specs.Tables.{level_of}
 use Rattle.cyc_machine.specs.LevelRun.{happen, losses}

@@ -1,4 +1,4 @@
-use Rattle.std.proofs.Common.{◌≡◌, sym}
+use Rattle.std.proofs.Common.{sym}
 use Rattle.cyc_machine.proofs.Tallying.{softint_made, softint_never_refused}
 use Rattle.cyc_machine.proofs.steps.run_softint.Goals as goal
 
