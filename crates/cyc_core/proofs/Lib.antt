@@ -4,3 +4,4 @@ pub mod Room
 pub mod FiringLaws
 pub mod DrainingLaws
 pub mod PlaceLaws
+pub mod Idle
