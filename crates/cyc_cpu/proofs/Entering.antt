@@ -11,7 +11,7 @@ use Rattle.cyc_types.specs.Firing.{FiringView, FiringCall, Admits, Expands, Lear
 use Rattle.cyc_types.specs.Runs.{Goes}
 use Rattle.cyc_types.specs.declared.level.Level.{Level}
 use Rattle.cyc_types.specs.declared.level.Level.TheVariants as level
-use Rattle.cyc_cpu.specs.Rows.{Row, Cyclic, IsRow, HasNo, cyclic_of, cyclics_of}
+use Rattle.cyc_timers.specs.Rows.{Row, Cyclic, IsRow, HasNo, cyclic_of, cyclics_of}
 use Rattle.cyc_cpu.specs.Acts.{same_level}
 use Rattle.cyc_cpu.specs.Ends.{HasStay, IsEnd, IsCounted, IsReady, IsHard}
 use Rattle.cyc_cpu.specs.Quiet.{admits_at}

@@ -1,9 +1,7 @@
-pub mod Tables
 pub mod Acting
 pub mod Nexts
 pub mod Readying
 pub mod Making
 pub mod Stepping
-pub mod Widening
 pub mod Cyclics
 pub mod Entering

@@ -13,10 +13,10 @@ use Rattle.cyc_types.specs.declared.level.Level.{Level}
 use Rattle.cyc_expirations.specs.Expirations.{Expiration, after, all_after}
 use Rattle.cyc_expirations.specs.Timers.{Timer, HasDistinctIds}
 use Rattle.cyc_expirations.proofs.Firings.{Firing}
-use Rattle.cyc_cpu.specs.Rows.{Row, Cyclic, IsRow, IsRising, timers_of, cyclic_of, cyclics_of}
+use Rattle.cyc_timers.specs.Rows.{Row, Cyclic, IsRow, IsRising, timers_of, cyclic_of, cyclics_of}
 use Rattle.cyc_cpu.specs.Acts.{AreRaises, loss_in, losses, id_at, ids_at, is_at, is_of, same_level, timer_of, lost_after}
 use Rattle.cyc_cpu.proofs.Readying.{Edits, edits}
-use Rattle.cyc_cpu.proofs.Tables.{timer_of_row, timers_long}
+use Rattle.cyc_timers.proofs.Tables.{timer_of_row, timers_long}
 
 -- an end that was raised once for the id
 pub raised_edits : {R : Type 0} (step : R → FiringCall → R → Type 0) (view : R → FiringView) (id : ℕ) (e f : R) (way : List FiringCall) (n : ℕ) →

@@ -12,7 +12,7 @@ use Rattle.cyc_types.specs.declared.firing.Raised.{Raised}
 use Rattle.cyc_types.specs.declared.firing.Raised.TheVariants.{First, More, Lost}
 use Rattle.cyc_types.specs.declared.level.Level.{Level}
 use Rattle.cyc_types.specs.declared.level.Level.TheVariants as level
-use Rattle.cyc_cpu.specs.Rows.{Row, IsRow, IsRising}
+use Rattle.cyc_timers.specs.Rows.{Row, IsRow, IsRising}
 use Rattle.cyc_cpu.specs.Acts.{loss_in}
 use Rattle.cyc_cpu.specs.Ends.{HasStay, IsEnd, IsCounted, IsHard}
 use Rattle.cyc_cpu.specs.Quiet.{asks_at}

@@ -12,15 +12,15 @@ use Rattle.cyc_types.specs.declared.level.Level.TheVariants.{Low, Lock, High}
 use Rattle.cyc_expirations.specs.Expirations.{Expiration, expirations, next_of, is_before}
 use Rattle.cyc_expirations.specs.Timers.{Timer, IsSound}
 use Rattle.cyc_expirations.proofs.Firings.{Firing, Expires, fire_step, fire_left, fire_front}
-use Rattle.cyc_cpu.specs.declared.table.Record.{Record}
-use Rattle.cyc_cpu.specs.Rows.{Row, Cyclic, IsRow, IsRising, IsRecordOf, IsFirstAt, timers, timers_of, cyclic_of, cyclics_of, with_record}
+use Rattle.cyc_timers.specs.declared.table.Record.{Record}
+use Rattle.cyc_timers.specs.Rows.{Row, Cyclic, IsRow, IsRising, IsRecordOf, IsFirstAt, timers, timers_of, cyclic_of, cyclics_of, with_record}
 use Rattle.cyc_cpu.specs.Acts.{Sides, losses, lost_after, timer_of}
 use Rattle.cyc_cpu.specs.Ends.{IsEnd, IsReady}
 use Rattle.cyc_cpu.specs.Cpu.{Makes}
 use Rattle.cyc_cpu.proofs.Acting.{One, acts_more, losses_on}
 use Rattle.cyc_cpu.proofs.Readying.{Advances, ids_apart, end_raised, end_other, counted_still}
 use Rattle.cyc_cpu.proofs.Making.{raised_edits, same_end, losses_same, losses_other, distinct, origin, found_at, same_id, ids_more, losses_more, length-all}
-use Rattle.cyc_cpu.proofs.Tables.{timer_of_row, timers_long}
+use Rattle.cyc_timers.proofs.Tables.{timer_of_row, timers_long}
 
 -- what the expiration after one that is due is
 pub record Following (moment interval now m : ℕ) : Type 0 where

@@ -9,7 +9,7 @@ use Rattle.cyc_types.specs.declared.refusal.Refusal.{Refusal}
 use Rattle.cyc_types.specs.declared.refusal.Refusal.TheVariants as why
 use Rattle.cyc_expirations.specs.Expirations.{Expiration, all_after}
 use Rattle.cyc_expirations.specs.Timers.{Timer}
-use Rattle.cyc_cpu.specs.Rows.{Cyclic, timers}
+use Rattle.cyc_timers.specs.Rows.{Cyclic, timers}
 use Rattle.cyc_cpu.specs.Quiet.{asks_at, admits_at, OnlyLooks}
 use Rattle.cyc_cpu.specs.Acts.{Sides, Acts, ids_at, losses, lost_after, timer_of}
 

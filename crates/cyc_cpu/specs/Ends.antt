@@ -4,7 +4,7 @@ use Rattle.cyc_types.specs.Series.{never}
 use Rattle.cyc_types.specs.Firing.{FiringView, Stay, Sound, IsAdmitted}
 use Rattle.cyc_types.specs.declared.level.Level.{Level}
 use Rattle.cyc_types.specs.declared.level.Level.TheVariants.{Low, Lock}
-use Rattle.cyc_cpu.specs.Rows.{Row, IsRow}
+use Rattle.cyc_timers.specs.Rows.{Row, IsRow}
 
 -- what an end has of a cyclic: its index, and no more expirations and losses than the cyclic
 abbrev pub HasStay : FiringView → Row → Type 0

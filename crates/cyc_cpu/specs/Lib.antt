@@ -1,4 +1,3 @@
-pub mod Rows
 pub mod Acts
 pub mod Ends
 pub mod Quiet

@@ -4,18 +4,15 @@ ghost use Rattle.cyc_types.specs.Firing.{MayRaise, Sound};
 ghost use Rattle.cyc_types.specs.declared.level.Level.TheVariants.{Low, Lock, High};
 ghost use Rattle.cyc_expirations.specs.Timers.{earliest};
 ghost use Rattle.cyc_expirations.specs.Expirations.{Expiration, expirations};
-ghost use Rattle.cyc_cpu.specs.Rows.{Row, IsRow, timers_of, cyclics_of, IsFirstAt};
+ghost use Rattle.cyc_timers.specs.Rows.{Row, IsRow, timers_of, cyclics_of, IsFirstAt};
 ghost use Rattle.cyc_cpu.specs.Ends.{IsReady};
 ghost use Rattle.cyc_cpu.specs.Cpu.{Makes, WhyStopped};
 ghost use Rattle.cyc_cpu.specs.Acts.{Sides, Acts, RaisedOnce, id_at, losses};
 
-use crate::table::{Record, Table};
+use cyc_timers::{Record, Table};
 use cyc_types::{
-    Calls, CyclicId, Index, Interval, Level, Moment, Raise, Raised, Refusal, Refused, next,
+    Calls, CyclicId, Index, Interval, LATE, Level, Moment, Raise, Raised, Refusal, Refused, next,
 };
-
-/// A cyclic that is later than this, in nanoseconds, skips the expirations that it missed (our own rule).
-const LATE: u64 = 1_000_000_000;
 
 /// The moment of this many nanoseconds, at most never.
 fn moment_of(nanoseconds: u64) -> Moment

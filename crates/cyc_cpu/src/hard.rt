@@ -6,12 +6,12 @@ ghost use Rattle.cyc_types.specs.Series.{never, first};
 ghost use Rattle.cyc_types.specs.declared.refusal.Refusal.TheVariants.{Memory, BadNow, NoCyclic};
 ghost use Rattle.cyc_expirations.specs.Timers.{earliest};
 ghost use Rattle.cyc_expirations.specs.Expirations.{Expiration, expirations};
-ghost use Rattle.cyc_cpu.specs.Rows.{Cyclic, timers};
+ghost use Rattle.cyc_timers.specs.Rows.{Cyclic, timers};
 ghost use Rattle.cyc_cpu.specs.Cpu.{CpuView, Makes, WhyStopped, SameCpu, IsFresh, IsCyclic, HasNoCyclic, with_moment, Asks, HasRoom, WhyNoRoom, Looked, MayWiden, Reserves, Widens, Enters, size_for, AreAdmitted, HasRisingIds};
 
 use crate::ends::{admit_at, both_followed, least_bank, load_pend, places_of};
 use crate::fire::{FireRefused, Fired, fire_all};
-use crate::table::{Record, Table};
+use cyc_timers::{Record, Table};
 use cyc_types::{CYCLICS, Calls, CyclicId, Interval, Level, Moment, Raise, Refusal, When};
 use std::alloc::Global;
 use std::marker::Model;
@@ -38,7 +38,7 @@ pub struct Hard<R: Raise> {
 }
 
 impl<R: Raise> Model for Hard<R> {
-    ghost use Rattle.cyc_cpu.specs.Rows.{cyclics_of};
+    ghost use Rattle.cyc_timers.specs.Rows.{cyclics_of};
     ghost use Rattle.cyc_cpu.specs.Cpu.{CpuView};
     ghost use Rattle.cyc_cpu.specs.Ends.{IsHard};
 

@@ -7,7 +7,6 @@
 mod ends;
 mod fire;
 mod hard;
-mod table;
 
 pub use fire::{FireRefused, Fired};
 pub use hard::{Hard, Totals};

@@ -8,6 +8,7 @@ pub mod id;
 pub mod level;
 pub mod limits;
 pub mod moment;
+pub mod receipt;
 pub mod refusal;
 pub mod tally;
 
@@ -16,7 +17,8 @@ pub use draining::{Drain, Finished};
 pub use firing::{Raise, Raised, Sent};
 pub use id::CyclicId;
 pub use level::{Ceiling, Index, Level, Soft};
-pub use limits::{CYCLICS, GREATEST_BANK, LAST_ID};
+pub use limits::{CYCLICS, GREATEST_BANK, LAST_ID, LATE};
 pub use moment::{Interval, Moment, When, due, next};
+pub use receipt::Receipt;
 pub use refusal::{JuggleReport, Refusal};
 pub use tally::Tally;

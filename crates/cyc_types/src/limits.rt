@@ -6,3 +6,6 @@ pub const GREATEST_BANK: u8 = 8;
 
 /// The greatest number of a cyclic, so that a buffer entry of 64 bits holds it beside an index (our own rule).
 pub const LAST_ID: u64 = (1 << 56) - 1;
+
+/// A cyclic that is later than this, in nanoseconds, skips the expirations that it missed (our own rule).
+pub const LATE: u64 = 1_000_000_000;

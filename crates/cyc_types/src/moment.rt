@@ -2,11 +2,9 @@ ghost use Rattle.std.specs.Prelude.{◌≡◌, ℕ, ◌+◌, ◌*◌, ◌-◌, �
 ghost use Rattle.cyc_types.specs.Series.{never, first, due, next, IsFirstAbove};
 ghost use Rattle.cyc_types.specs.declared.refusal.Refusal.TheVariants.{BadWhen, BadInterval};
 
+use crate::limits::LATE;
 use crate::refusal::Refusal;
 use std::marker::Model;
-
-/// A cyclic that is later than this, in nanoseconds, skips the expirations that it missed (our own rule).
-const LATE: u64 = 1_000_000_000;
 
 /// A moment in nanoseconds, from 0 to 2^63-1. The last, `NEVER`, is never due (`hrtime_t` and `CY_INFINITY` of the headers).
 #[derive(Clone, Copy, Debug, PartialEq, Eq, PartialOrd, Ord)]
@@ -60,7 +58,7 @@ impl Moment {
 /// The time between two expirations of a cyclic in nanoseconds, from 1 to 2^63-1 (`cyt_interval` of sys/cyclic.h).
 #[derive(Clone, Copy, Debug, PartialEq, Eq, PartialOrd, Ord)]
 pub struct Interval {
-    nanoseconds: u64,
+    length: u64,
 }
 
 impl Model for Interval {
@@ -69,11 +67,11 @@ impl Model for Interval {
 
     ghost Value = { ℕ };
 
-    ghost view = { λ a. a.nanoseconds };
+    ghost view = { λ a. a.length };
 
-    ghost invariant = { λ a. (0 < a.nanoseconds) × (a.nanoseconds ≤ never) };
+    ghost invariant = { λ a. (0 < a.length) × (a.length ≤ never) };
 
-    ghost inverse = { λ n. record { nanoseconds = n } };
+    ghost inverse = { λ n. record { length = n } };
 }
 
 impl Interval {
@@ -85,7 +83,7 @@ impl Interval {
             return Err(Refusal::BadInterval);
         }
         Ok(Interval {
-            nanoseconds: nanoseconds as u64,
+            length: nanoseconds as u64,
         })
     }
 
@@ -94,7 +92,7 @@ impl Interval {
         ensures value { result ≡ self }
         ensures valid { (0 < result) × (result ≤ never) }
     {
-        self.nanoseconds
+        self.length
     }
 }
 

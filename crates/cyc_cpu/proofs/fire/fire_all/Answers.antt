@@ -3,10 +3,10 @@ use Rattle.std.proofs.lemmas.List.Elements.{recursion_from_All}
 use Rattle.cyc_expirations.specs.Expirations.{next_of}
 use Rattle.cyc_expirations.specs.Timers.{Timer}
 use Rattle.cyc_expirations.proofs.Firings.{fire_start, fire_done, fire_bound}
-use Rattle.cyc_cpu.specs.Rows.{timers_of, cyclics_of}
+use Rattle.cyc_timers.specs.Rows.{timers_of, cyclics_of}
 use Rattle.cyc_cpu.specs.Ends.{IsReady}
 use Rattle.cyc_cpu.specs.Cpu.{Makes}
-use Rattle.cyc_cpu.proofs.Tables.{timers_long}
+use Rattle.cyc_timers.proofs.Tables.{timers_long}
 use Rattle.cyc_cpu.proofs.Stepping.{turn_written, makes_none, less_left, row_found, front}
 use Rattle.cyc_cpu.proofs.fire.fire_all.Goals as goal
 

@@ -2,7 +2,7 @@ use Rattle.std.proofs.Common.{◌≡◌, ◌≤◌, List, length, All}
 use Rattle.cyc_expirations.specs.Expirations.{Expiration, expirations}
 use Rattle.cyc_expirations.specs.Timers.{IsSound}
 use Rattle.cyc_expirations.proofs.Firings.{Firing}
-use Rattle.cyc_cpu.specs.Rows.{timers_of, cyclics_of, IsRising}
+use Rattle.cyc_timers.specs.Rows.{timers_of, cyclics_of, IsRising}
 use Rattle.cyc_cpu.specs.Ends.{IsReady}
 use Rattle.cyc_cpu.specs.Cpu.{Makes}
 use Rattle.cyc_cpu.proofs.fire.fire_all.Given as goal

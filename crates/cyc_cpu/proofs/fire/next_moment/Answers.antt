@@ -1,6 +1,6 @@
 use Rattle.std.proofs.Common.{sym, ◌∙◌}
 use Rattle.cyc_expirations.proofs.Firings.{earliest_least}
-use Rattle.cyc_cpu.specs.Rows.{timers_of}
+use Rattle.cyc_timers.specs.Rows.{timers_of}
 use Rattle.cyc_cpu.proofs.Stepping.{timer_is, timer_low}
 use Rattle.cyc_cpu.proofs.fire.next_moment.Goals as goal
 

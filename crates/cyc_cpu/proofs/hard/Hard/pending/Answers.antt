@@ -1,7 +1,7 @@
 use Rattle.std.proofs.Common.{◌≡◌, sym, ◌∙◌, subst, refl, IfNone}
 use Rattle.cyc_types.specs.Runs.{Goes}
 use Rattle.cyc_types.specs.declared.level.Level.TheVariants.{Low, Lock}
-use Rattle.cyc_cpu.specs.Rows.{cyclic_of}
+use Rattle.cyc_timers.specs.Rows.{cyclic_of}
 use Rattle.cyc_cpu.specs.Cpu.{CpuView, HasNoCyclic}
 use Rattle.cyc_cpu.specs.Quiet.{asks_at}
 use Rattle.cyc_cpu.proofs.Readying.{hard_kept, asks_keep}

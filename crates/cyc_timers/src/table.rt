@@ -1,0 +1,235 @@
+ghost use Rattle.std.specs.Prelude.{◌≡◌, ◌≢◌, ℕ, ◌+◌, ◌-◌, ◌<◌, ◌≤◌, max, length, slice_index_or, slice_set, Some, None, IfOk, IfErr, OnOk, OnErr, IfNone, IfSome, All, [], insert};
+ghost use Rattle.cyc_types.specs.Limits.{cyclics};
+ghost use Rattle.cyc_types.specs.Series.{never};
+ghost use Rattle.cyc_expirations.specs.Timers.{IsSound};
+ghost use Rattle.cyc_types.specs.declared.refusal.Refusal.TheVariants.{Memory};
+ghost use Rattle.cyc_timers.specs.Rows.{Row, TableView, new_table, timers_of, IsRow, IsRising, HasNo, HasDistinctIndexes, vacant_row, with_record, at_moment, IsRecordOf, IsFirstAt};
+
+use cyc_heap::ExpiryHeap;
+use cyc_types::{CyclicId, Index, Interval, Level, Moment, Refusal};
+use std::alloc::Global;
+use std::marker::Model;
+
+/// What a CPU keeps of a cyclic beside its expiration (`cyclic_t` of sys/cyclic_impl.h).
+#[derive(Clone, Copy, Debug, PartialEq, Eq)]
+pub struct Record {
+    pub level: Level,
+    pub interval: Interval,
+    /// The expirations.
+    pub expired: u64,
+    /// Those of them that were lost at the ceiling.
+    pub lost: u64,
+}
+
+/// A cyclic's id and its index.
+#[derive(Clone, Copy, Debug, PartialEq, Eq)]
+pub struct Place {
+    pub id: CyclicId,
+    pub index: Index,
+}
+
+/// The cyclics of a CPU: the expirations in a heap, the records by index, and the indexes by rising id (`cyp_heap` and
+/// `cyp_cyclics` of sys/cyclic_impl.h; the order by id is our own).
+///
+/// A look-up by id takes O(log n), and so does a change of the heap. Putting in and taking out move the ids above.
+#[derive(Drop)]
+pub struct Table {
+    heap: ExpiryHeap,
+    records: Vec<Record>,
+    places: Vec<Place>,
+}
+
+impl Model for Table {
+    ghost use Rattle.std.specs.Prelude.{◌≤◌, length, vec_capacity};
+    ghost use Rattle.cyc_timers.specs.Rows.{TableView, rows_of, IsTable};
+
+    ghost Value = { TableView };
+
+    ghost view = { λ t. record { rows = rows_of t.heap.slots t.records.items t.places.items; root = t.heap.root; size = length t.heap.slots; room = t.heap.room } };
+
+    ghost invariant = { λ t. IsTable t.heap.slots t.records.items t.places.items × (t.heap.room ≤ vec_capacity t.records) × (t.heap.room ≤ vec_capacity t.places) × (length t.heap.slots ≤ t.heap.room) };
+}
+
+impl Record {
+    /// What stands at an index that is free.
+    fn vacant() -> Record
+        ensures { result.interval ≡ 1 }
+    {
+        Record {
+            level: Level::Low,
+            interval: Interval::new(1).unwrap(),
+            expired: 0,
+            lost: 0,
+        }
+    }
+}
+
+impl Table {
+    /// A table of size 1 with no cyclic. Refuses with Memory alone.
+    pub fn new(alloc: Global) -> Result<Table, Refusal>
+        ensures ok { IfOk result (λ table. table ≡ new_table) }
+        ensures err { IfErr result (λ refusal. refusal ≡ Memory) }
+    {
+        let mut records = Vec::with_capacity(alloc, 1)?;
+        let places = Vec::with_capacity(alloc, 1)?;
+        let heap = ExpiryHeap::new(alloc)?;
+        let _ = records.push(Record::vacant());
+        Ok(Table {
+            heap,
+            records,
+            places,
+        })
+    }
+
+    /// Takes the memory of this size. Refuses with Memory alone.
+    pub fn reserve(&mut self, size: usize) -> Result<(), Refusal>
+        ensures ok { OnOk result (self.new ≡ record self.old { room = max self.old.room size }) }
+        ensures err { OnErr result (self.new ≡ self.old) }
+        ensures memory { IfErr result (λ refusal. refusal ≡ Memory) }
+        ensures refused { OnErr result (self.old.room < size) }
+    {
+        self.records
+            .reserve(size.saturating_sub(self.records.len()))?;
+        self.places.reserve(size.saturating_sub(self.places.len()))?;
+        self.heap.reserve(size)
+    }
+
+    /// Adds free indexes up to this size. Takes no memory.
+    pub fn widen(&mut self, size: usize)
+        requires few { size ≤ cyclics }
+        requires reserved { size ≤ self.old.room }
+        ensures { self.new ≡ record self.old { size = max self.old.size size } }
+    {
+        self.heap.widen(size);
+        let length = self.records.len().max(size);
+        let _ = self.records.resize(length, Record::vacant());
+    }
+
+    /// Puts in a cyclic with this record, at an index that was free. Takes no memory.
+    pub fn insert(&mut self, id: CyclicId, moment: Moment, kept: Record) -> Index
+        requires free { length self.old.rows < self.old.size }
+        requires absent { HasNo id self.old.rows }
+        requires moment { moment ≤ never }
+        requires interval { (0 < kept.interval) × (kept.interval ≤ never) }
+        ensures below { result < self.old.size }
+        ensures fresh { All (λ r. r.index ≢ result) self.old.rows }
+        ensures rows { (k : ℕ) × (k ≤ length self.old.rows) × (self.new.rows ≡ insert self.old.rows k (with_record moment kept (vacant_row id result))) }
+        ensures size { self.new.size ≡ self.old.size }
+        ensures room { self.new.room ≡ self.old.room }
+    {
+        let place = self.place(id);
+        let index = self.heap.insert(moment, id);
+        self.records[index.number() as usize] = kept;
+        let _ = self.places.insert(place, Place { id, index });
+        index
+    }
+
+    /// The first place whose id is not below this one.
+    fn place(&self, id: CyclicId) -> usize
+        ensures bound { result ≤ length self.now.rows }
+        ensures below { (k : ℕ) (d : Row) → k < result → (slice_index_or self.now.rows k d).timer.id < id }
+        ensures above { (k : ℕ) (d : Row) → result ≤ k → k < length self.now.rows → id ≤ (slice_index_or self.now.rows k d).timer.id }
+    {
+        let mut low = 0;
+        let mut high = self.places.len();
+        while low < high {
+            let middle = low + (high - low) / 2;
+            if self.places[middle].id.number() < id.number() {
+                low = middle + 1;
+            } else {
+                high = middle;
+            }
+        }
+        low
+    }
+
+    /// The place of this id.
+    pub fn find(&self, id: CyclicId) -> Option<usize>
+        ensures none { IfNone result (HasNo id self.now.rows) }
+        ensures some { IfSome result (λ k. (r : Row) × IsRow self.now.rows k r × (r.timer.id ≡ id)) }
+    {
+        let place = self.place(id);
+        if place < self.places.len() && self.places[place].id.number() == id.number() {
+            Some(place)
+        } else {
+            None
+        }
+    }
+
+    /// What is kept of the cyclic at this place.
+    pub fn record_at(&self, place: usize) -> Record
+        requires { place < length self.now.rows }
+        ensures { (r : Row) → IsRow self.now.rows place r → IsRecordOf result r }
+    {
+        self.records[self.places[place].index.number() as usize]
+    }
+
+    /// What is kept of the cyclic with this index.
+    pub fn record(&self, index: Index) -> Record
+        requires { (k : ℕ) × (r : Row) × IsRow self.now.rows k r × (r.index ≡ index) }
+        ensures { (k : ℕ) (r : Row) → IsRow self.now.rows k r → r.index ≡ index → IsRecordOf result r }
+    {
+        self.records[index.number() as usize]
+    }
+
+    /// Gives the cyclic at this place another moment.
+    pub fn reprogram(&mut self, place: usize, moment: Moment)
+        requires here { place < length self.old.rows }
+        requires moment { moment ≤ never }
+        ensures rows { (r : Row) → IsRow self.old.rows place r → self.new.rows ≡ slice_set self.old.rows place (at_moment moment r) }
+        ensures size { self.new.size ≡ self.old.size }
+        ensures room { self.new.room ≡ self.old.room }
+    {
+        self.heap.replace(self.places[place].index, moment);
+    }
+
+    /// The cyclic that expires first: its index, its moment and its id.
+    pub fn root(&self) -> Option<(Index, Moment, CyclicId)>
+        ensures none { IfNone result (self.now.rows ≡ []) }
+        ensures root { IfSome result (λ found. self.now.root ≡ Some found.0) }
+        ensures first { IfSome result (λ found. (k : ℕ) × (r : Row) × IsRow self.now.rows k r × (r.index ≡ found.0) × (r.timer.moment ≡ found.1) × (r.timer.id ≡ found.2) × IsFirstAt self.now.rows k) }
+    {
+        self.heap.root()
+    }
+
+    /// Gives the cyclic that expires first another moment and record.
+    pub fn expire_root(&mut self, index: Index, moment: Moment, kept: Record)
+        requires root { self.old.root ≡ Some index }
+        requires moment { moment ≤ never }
+        requires interval { (0 < kept.interval) × (kept.interval ≤ never) }
+        requires here { (k : ℕ) × (r : Row) × IsRow self.old.rows k r × (r.index ≡ index) }
+        ensures rows { (k : ℕ) (r : Row) → IsRow self.old.rows k r → r.index ≡ index → self.new.rows ≡ slice_set self.old.rows k (with_record moment kept r) }
+        ensures size { self.new.size ≡ self.old.size }
+        ensures room { self.new.room ≡ self.old.room }
+    {
+        self.heap.lower_root(moment);
+        self.records[index.number() as usize] = kept;
+    }
+
+    /// The number of indexes.
+    pub fn size(&self) -> usize
+        ensures value { result ≡ self.now.size }
+        ensures few { result ≤ cyclics }
+        ensures reserved { result ≤ self.now.room }
+    {
+        self.heap.size()
+    }
+
+    /// How many cyclics there are.
+    pub fn len(&self) -> usize
+        ensures value { result ≡ length self.now.rows }
+        ensures few { result ≤ self.now.size }
+    {
+        self.places.len()
+    }
+
+    /// What is true of every table.
+    pub fn law(&self)
+        ensures rising { IsRising self.now.rows }
+        ensures sound { All IsSound (timers_of self.now.rows) }
+        ensures apart { HasDistinctIndexes self.now.rows }
+        ensures below { All (λ r. r.index < self.now.size) self.now.rows }
+    {
+        let _size = self.heap.size();
+    }
+}
