@@ -1,11 +1,11 @@
 -- From rows to the cyclics that callers see.
 use Rattle.std.specs.Prelude.{insert}
-use Rattle.std.proofs.Common.{◌≡◌, ◌<◌, ◌≤◌, All, Option, get_or, ◌++◌, ◌∷◌, ℕ, List, take, drop, map, arith, length, ap, sym, subst, ◌∙◌}
+use Rattle.std.proofs.Common.{◌≡◌, ◌<◌, ◌≤◌, All, Option, get_or, ◌++◌, ◌∷◌, ℕ, List, take, drop, arith, length, ap, sym, subst, ◌∙◌}
 use Rattle.std.proofs.Math.ListN.{set}
 use Rattle.std.proofs.lemmas.List.{length-map, get_or_default, get_or-map, map-set, map-append, take-map, drop-map}
 use Rattle.cyc_timers.specs.Rows.{Row, Cyclic, IsRow, IsRising, HasNo, cyclic_of, cyclics_of}
 use Rattle.cyc_cpu.specs.Ends.{IsEnd, IsCounted}
-use Rattle.cyc_types.specs.Firing.{FiringView, FiringCall, Stay}
+use Rattle.cyc_types.specs.Firing.{FiringView, FiringCall}
 use Rattle.cyc_types.specs.declared.level.Level.{Level}
 use Rattle.cyc_cpu.specs.Cpu.{CpuView, IsCyclic, HasNoCyclic, Asks, Looked, AreAdmitted, HasRisingIds}
 

@@ -1,19 +1,19 @@
 -- One cyclic more, and a switch of banks.
-use Rattle.std.proofs.Common.{◌≡◌, ◌≢◌, ℕ, zero, suc, ◌+◌, ◌-◌, ◌<◌, ◌≤◌, ◌^◌, ◌⊎◌, inl, inr, Bool, true, false, cond, eqb, Option, Some, None, List, [], ◌∷◌, All, refl, sym, ap, ◌∙◌, subst, arith, length, get_or, eq-eqb}
+use Rattle.std.proofs.Common.{◌≡◌, ◌≢◌, ℕ, ◌+◌, ◌-◌, ◌<◌, ◌≤◌, ◌^◌, ◌⊎◌, inl, inr, Bool, true, false, cond, eqb, Option, Some, None, List, [], ◌∷◌, All, refl, sym, ap, ◌∙◌, subst, arith, length, get_or, eq-eqb}
 use Rattle.std.specs.Prelude.{insert}
 use Rattle.std.proofs.Math.Nat.{pow-le-pow_right}
 use Rattle.std.proofs.lemmas.Bool.{cases_lt, cases_eq}
 use Rattle.std.proofs.lemmas.Bool.Decides.{nat_tests}
-use Rattle.std.proofs.lemmas.List.{get_or_default, length-map}
+use Rattle.std.proofs.lemmas.List.{get_or_default}
 use Rattle.std.proofs.lemmas.List.Edits.{length-insert, get_or-insert_below, get_or-insert_at, get_or-insert_above}
 use Rattle.cyc_types.specs.Series.{never}
-use Rattle.cyc_types.specs.Firing.{FiringView, FiringCall, Admits, Expands, Learns, Sound, Stay, MayAdmit, IsAdmitted}
+use Rattle.cyc_types.specs.Firing.{FiringView, FiringCall, Admits, Expands, Learns, Sound, Stay, MayAdmit}
 use Rattle.cyc_types.specs.Runs.{Goes}
 use Rattle.cyc_types.specs.declared.level.Level.{Level}
 use Rattle.cyc_types.specs.declared.level.Level.TheVariants as level
-use Rattle.cyc_timers.specs.Rows.{Row, Cyclic, IsRow, HasNo, cyclic_of, cyclics_of}
+use Rattle.cyc_timers.specs.Rows.{Row, IsRow, HasNo}
 use Rattle.cyc_cpu.specs.Acts.{same_level}
-use Rattle.cyc_cpu.specs.Ends.{HasStay, IsEnd, IsCounted, IsReady, IsHard}
+use Rattle.cyc_cpu.specs.Ends.{HasStay, IsEnd, IsCounted, IsHard}
 use Rattle.cyc_cpu.specs.Quiet.{admits_at}
 
 -- a row after one was put in

@@ -5,3 +5,4 @@ pub mod Making
 pub mod Stepping
 pub mod Cyclics
 pub mod Entering
+pub mod Sharing

@@ -2,3 +2,4 @@ pub mod Acts
 pub mod Ends
 pub mod Quiet
 pub mod Cpu
+pub mod Shares

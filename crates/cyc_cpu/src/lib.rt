@@ -7,6 +7,8 @@
 mod ends;
 mod fire;
 mod hard;
+mod law;
 
 pub use fire::{FireRefused, Fired};
 pub use hard::{Hard, Totals};
+pub use law::share_law;

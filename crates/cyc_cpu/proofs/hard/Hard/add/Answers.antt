@@ -1,4 +1,4 @@
-use Rattle.std.proofs.Common.{◌≡◌, ℕ, arith, subst}
+use Rattle.std.proofs.Common.{arith, subst}
 use Rattle.cyc_cpu.specs.Cpu.{Enters}
 use Rattle.cyc_cpu.proofs.hard.Hard.add.Goals as goal
 

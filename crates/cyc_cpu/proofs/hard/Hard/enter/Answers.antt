@@ -1,10 +1,10 @@
 use Rattle.std.proofs.lemmas.List.{length-map}
-use Rattle.std.proofs.Common.{◌≡◌, ◌≢◌, ◌≤◌, ℕ, length, arith, ap, sym, ◌∙◌, subst, refl, Some, Option}
+use Rattle.std.proofs.Common.{◌≢◌, length, arith, ap, sym, ◌∙◌, subst, refl, Some}
 use Rattle.std.specs.Prelude.{insert}
 use Rattle.cyc_types.specs.Runs.{Goes}
 use Rattle.cyc_types.specs.declared.level.Level.TheVariants.{Low, Lock}
 use Rattle.cyc_timers.specs.declared.table.Record.{Record}
-use Rattle.cyc_timers.specs.Rows.{Row, cyclic_of, cyclics_of, with_record, vacant_row}
+use Rattle.cyc_timers.specs.Rows.{cyclic_of, cyclics_of, with_record, vacant_row}
 use Rattle.cyc_cpu.specs.Cpu.{CpuView, HasNoCyclic, new_cyclic}
 use Rattle.cyc_cpu.specs.Ends.{IsHard}
 use Rattle.cyc_cpu.specs.Quiet.{admits_at}

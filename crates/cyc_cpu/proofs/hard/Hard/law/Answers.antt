@@ -1,7 +1,5 @@
-use Rattle.std.proofs.Common.{◌≤◌, All, subst, ap, arith, length}
-use Rattle.std.proofs.lemmas.List.{length-map}
+use Rattle.std.proofs.Common.{◌≤◌, All, subst}
 use Rattle.cyc_types.specs.declared.level.Level.TheVariants.{Low, Lock}
-use Rattle.cyc_timers.specs.Rows.{cyclic_of}
 use Rattle.cyc_cpu.specs.Cpu.{CpuView, AreAdmitted, HasRisingIds}
 use Rattle.cyc_cpu.proofs.Cyclics.{admitted_cyclics, rising_cyclics, counted_cyclics}
 use Rattle.cyc_cpu.proofs.hard.Hard.law.Goals as goal

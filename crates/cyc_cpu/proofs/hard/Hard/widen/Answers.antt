@@ -1,4 +1,4 @@
-use Rattle.std.proofs.Common.{◌≡◌, ◌<◌, ◌≤◌, ◌+◌, ◌^◌, ℕ, max, length, arith, ap, sym, ◌∙◌, subst, refl, true}
+use Rattle.std.proofs.Common.{◌≡◌, ◌<◌, ◌+◌, ◌^◌, length, arith, ap, sym, ◌∙◌, subst}
 use Rattle.std.proofs.lemmas.List.{length-map}
 use Rattle.cyc_timers.specs.Rows.{TableView, cyclic_of}
 use Rattle.cyc_cpu.specs.Cpu.{CpuView}
