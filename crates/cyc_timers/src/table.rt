@@ -1,4 +1,4 @@
-ghost use Rattle.std.specs.Prelude.{◌≡◌, ◌≢◌, ℕ, ◌+◌, ◌-◌, ◌<◌, ◌≤◌, max, length, slice_index_or, slice_set, Some, None, IfOk, IfErr, OnOk, OnErr, IfNone, IfSome, All, [], insert};
+ghost use Rattle.std.specs.Prelude.{◌≡◌, ◌≢◌, ℕ, ◌+◌, ◌-◌, ◌<◌, ◌≤◌, max, length, slice_index_or, slice_set, Some, None, IfOk, IfErr, OnOk, OnErr, IfNone, IfSome, All, [], insert, remove};
 ghost use Rattle.cyc_types.specs.Limits.{cyclics};
 ghost use Rattle.cyc_types.specs.Series.{never};
 ghost use Rattle.cyc_expirations.specs.Timers.{IsSound};
@@ -181,6 +181,17 @@ impl Table {
         ensures room { self.new.room ≡ self.old.room }
     {
         self.heap.replace(self.places[place].index, moment);
+    }
+
+    /// Takes out the cyclic at this place; its index is free from now on. Takes no memory (`cyclic_remove_here`).
+    pub fn remove(&mut self, place: usize)
+        requires { place < length self.old.rows }
+        ensures rows { self.new.rows ≡ remove self.old.rows place }
+        ensures size { self.new.size ≡ self.old.size }
+        ensures room { self.new.room ≡ self.old.room }
+    {
+        self.heap.remove(self.places[place].index);
+        let _ = self.places.remove(place);
     }
 
     /// The cyclic that expires first: its index, its moment and its id.
