@@ -1,2 +1,3 @@
+pub mod Removing
 pub mod Tables
 pub mod Widening
