@@ -15,7 +15,7 @@ use Rattle.cyc_types.specs.declared.level.Level.TheVariants as level
 use Rattle.cyc_timers.specs.Rows.{Row, IsRow, IsRising}
 use Rattle.cyc_cpu.specs.Acts.{loss_in}
 use Rattle.cyc_cpu.specs.Ends.{HasStay, IsEnd, IsCounted, IsHard}
-use Rattle.cyc_cpu.specs.Quiet.{asks_at}
+use Rattle.cyc_cpu.specs.Quiet.{asks_at, KeepsStays}
 
 -- a row after one of its expirations, of which this many were lost
 pub record Advances (r u : Row) (n : ℕ) : Type 0 where
@@ -201,14 +201,6 @@ counted_moved most rows i r u counted is keep =
     let old = subst (λ (x : Row). (x.lost ≤ x.timer.expired) × (x.timer.expired ≤ most)) is.1 (counted i r is.0) in
     let a = keep.expired in let b = keep.lost in
     All-set (λ (x : Row). (x.lost ≤ x.timer.expired) × (x.timer.expired ≤ most)) rows i u (omega (arith, old, a, b), omega (arith, old, a)) counted
-
--- an end of which nothing changed but what was seen
-pub record KeepsStays (v w : FiringView) : Type 0 where
-  pub to : (id : ℕ) (s : Stay) → v.stays id ≡ Some s → (t : Stay) × (w.stays id ≡ Some t) × (t.index ≡ s.index) × (t.sent ≡ s.sent) × (t.lost ≡ s.lost)
-  pub from : (id : ℕ) (t : Stay) → w.stays id ≡ Some t → (s : Stay) × (v.stays id ≡ Some s)
-  pub marked : w.marked ≡ v.marked
-  pub bank : w.bank ≡ v.bank
-  pub free : w.hand_free ≡ v.hand_free
 
 pub end_kept : (soft : Level) (size : ℕ) (marked : Option ℕ) (v w : FiringView) (rows : List Row) → IsEnd soft size marked v rows → KeepsStays v w → Sound w → IsEnd soft size marked w rows
 end_kept soft size marked v w rows ready keep sound = record {

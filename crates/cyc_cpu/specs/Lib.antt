@@ -3,3 +3,4 @@ pub mod Ends
 pub mod Quiet
 pub mod Cpu
 pub mod Shares
+pub mod Soft

@@ -1,6 +1,6 @@
 -- What the calls that raise nothing do at the two ends.
-use Rattle.std.specs.Prelude.{ℕ, Bool, cond, List, [], ◌∷◌, map}
-use Rattle.cyc_types.specs.Firing.{FiringView, FiringCall, Admits, Loads, Looks}
+use Rattle.std.specs.Prelude.{◌≡◌, ℕ, Bool, cond, List, [], ◌∷◌, map, Some}
+use Rattle.cyc_types.specs.Firing.{FiringView, FiringCall, Stay, Admits, Loads, Looks}
 use Rattle.cyc_types.specs.Runs.{Taught, Goes}
 use Rattle.cyc_types.specs.declared.level.Level.{Level}
 use Rattle.cyc_cpu.specs.Acts.{same_level}
@@ -20,3 +20,11 @@ Looks1 step view e f = (answer : Bool) × Taught step view e (Looks answer) f
 -- the end was asked any number of times whether its soft side has followed, and nothing else
 abbrev pub OnlyLooks : {R : Type 0} → (R → FiringCall → R → Type 0) → (R → FiringView) → R → R → Type 0
 OnlyLooks step view e f = (answers : List Bool) × Goes step view e (map Looks answers) f
+
+-- an end of which nothing changed but what was seen
+pub record KeepsStays (v w : FiringView) : Type 0 where
+  pub to : (id : ℕ) (s : Stay) → v.stays id ≡ Some s → (t : Stay) × (w.stays id ≡ Some t) × (t.index ≡ s.index) × (t.sent ≡ s.sent) × (t.lost ≡ s.lost)
+  pub from : (id : ℕ) (t : Stay) → w.stays id ≡ Some t → (s : Stay) × (v.stays id ≡ Some s)
+  pub marked : w.marked ≡ v.marked
+  pub bank : w.bank ≡ v.bank
+  pub free : w.hand_free ≡ v.hand_free

@@ -33,8 +33,8 @@ pub struct Hard<R: Raise> {
     table: Table,
     removal: Option<CyclicId>,
     most: u64,
-    lock: R,
-    low: R,
+    pub(crate) lock: R,
+    pub(crate) low: R,
 }
 
 impl<R: Raise> Model for Hard<R> {

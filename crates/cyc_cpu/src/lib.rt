@@ -8,6 +8,7 @@ mod ends;
 mod fire;
 mod hard;
 mod law;
+mod soft;
 
 pub use fire::{FireRefused, Fired};
 pub use hard::{Hard, Totals};

@@ -1,0 +1,47 @@
+-- The soft interrupt of one level of a CPU whose levels no other thread uses.
+use Rattle.std.specs.Prelude.{◌≡◌, ℕ, List, Option}
+use Rattle.cyc_types.specs.Draining.{DrainCall}
+use Rattle.cyc_types.specs.declared.level.Soft.{Soft}
+use Rattle.cyc_types.specs.declared.level.Soft.TheVariants.{Low, Lock}
+use Rattle.cyc_core.specs.Tables.{Tables, level_of}
+use Rattle.cyc_types.specs.Firing.{FiringView}
+use Rattle.cyc_core.specs.FiringSide.{firing_view}
+use Rattle.cyc_core.specs.DrainingSide.{Drains, held_of, done_of}
+use Rattle.cyc_soft.specs.Serving.{Served, Serves}
+use Rattle.cyc_cpu.specs.Cpu.{CpuView, SameCpu}
+
+-- the end of a soft level
+abbrev pub end_at : {R : Type 0} → Soft → CpuView R → R
+end_at Low v = v.low
+end_at Lock v = v.lock
+
+-- the end of the other soft level
+abbrev pub end_beside : {R : Type 0} → Soft → CpuView R → R
+end_beside Low v = v.lock
+end_beside Lock v = v.low
+
+-- a call of the soft side of a level that no other thread uses
+abbrev pub drains : Tables → DrainCall → Tables → Type 0
+drains a call b = Drains (level_of a) call (level_of b)
+
+-- the cyclic in the hand of a level's soft side
+abbrev pub held_at : Tables → Option ℕ
+held_at a = held_of (level_of a)
+
+-- the finished calls of each id in its present stay
+abbrev pub done_at : Tables → ℕ → ℕ
+done_at a id = done_of (level_of a) id
+
+-- what the firing side of such a level knows
+abbrev pub firing_at : Tables → FiringView
+firing_at a = firing_view (level_of a)
+
+-- these calls were made at one level, in order, and no other
+abbrev pub ServesAt : {C : Type 0} → (C → ℕ → C → Type 0) → (C → ℕ → ℕ) → Tables → C → List Served → List DrainCall → Tables → C → Type 0
+ServesAt called count a calls ran rest b calls' = Serves drains held_at done_at called count a calls ran rest b calls'
+
+-- what a soft interrupt of one level leaves alone
+pub record SoftKept {R : Type 0} (level : Soft) (v w : CpuView R) : Type 0 where
+  pub beside : end_beside level w ≡ end_beside level v
+  pub cyclics : w.cyclics ≡ v.cyclics
+  pub kept : SameCpu v w
