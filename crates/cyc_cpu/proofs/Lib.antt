@@ -6,3 +6,4 @@ pub mod Stepping
 pub mod Cyclics
 pub mod Entering
 pub mod Sharing
+pub mod Softs
