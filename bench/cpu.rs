@@ -1,0 +1,76 @@
+//! Times the fires of a proved CPU (`crates/bench_cpu`) against heaps of plain Rust that make the same expirations. The handler
+//! of each expiration counts the calls of its cyclic.
+
+mod heaps;
+mod timing;
+
+use heaps::{FIRES, Fires};
+
+unsafe extern "C" {
+    fn bench_fire(intervals: *const u64, count: usize, step: u64, fires: u64) -> u64;
+}
+
+/// The calls of each id, as the proved side counts them.
+struct Tally {
+    most: u64,
+    counts: Vec<u64>,
+}
+
+impl Tally {
+    fn new(count: usize) -> Tally {
+        Tally {
+            most: u64::MAX,
+            counts: vec![0; count],
+        }
+    }
+
+    fn call(&mut self, id: u64) {
+        let count = &mut self.counts[id as usize - 1];
+        assert!(*count < self.most, "the handler refuses no call here");
+        *count += 1;
+    }
+
+    /// The counts, folded into one number.
+    fn folded(&self) -> u64 {
+        self.counts.iter().fold(0, |all: u64, count| {
+            all.wrapping_mul(31).wrapping_add(*count)
+        })
+    }
+}
+
+fn main() {
+    timing::head(
+        "An expiration of a fire, at high level",
+        heaps::WHAT,
+        &heaps::columns("`Hard::fire`, ns"),
+    );
+    for (count, step) in FIRES {
+        let intervals = heaps::spread(count);
+        let run = Fires::new(&intervals, step);
+        let mut expirations = 0;
+        run.by_indexes(|_| expirations += 1);
+        let indexes = || {
+            let mut tally = Tally::new(count);
+            run.by_indexes(|id| tally.call(id));
+            tally.folded()
+        };
+        let keys = || {
+            let mut tally = Tally::new(count);
+            run.by_keys(|id| tally.call(id));
+            tally.folded()
+        };
+        let library = || {
+            let mut tally = Tally::new(count);
+            run.by_library(|id| tally.call(id));
+            tally.folded()
+        };
+        // The calls read the intervals and keep nothing.
+        let high = || unsafe { bench_fire(intervals.as_ptr(), count, step, run.fires) };
+        let times = timing::medians(
+            heaps::ROUNDS,
+            expirations,
+            [&indexes, &keys, &library, &high],
+        );
+        timing::row(&heaps::what(count, step), &times, times[3] / times[0]);
+    }
+}

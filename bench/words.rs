@@ -1,0 +1,195 @@
+//! One soft level as shared words, as a Rust programmer writes it without proofs: the same words, the same atomic steps in
+//! the same order, all sequentially consistent, and the same look-up of an id. `APART` is how far apart the words lie, in
+//! words: 1 is as the proved ring has them, 8 puts each on a cache line of its own.
+
+use std::sync::atomic::{AtomicU64, Ordering::SeqCst};
+
+pub const PRODUCERS: usize = 767;
+pub const HARD: usize = 776;
+const SOFT: usize = 777;
+const MARK: u64 = 1 << 32;
+
+pub struct Ring<const APART: usize> {
+    words: Vec<AtomicU64>,
+}
+
+impl<const APART: usize> Ring<APART> {
+    pub fn open() -> Ring<APART> {
+        Ring {
+            words: (0..778 * APART).map(|_| AtomicU64::new(0)).collect(),
+        }
+    }
+
+    fn word(&self, number: usize) -> &AtomicU64 {
+        &self.words[number * APART]
+    }
+}
+
+/// The index of each id: a hint by its low bits, and behind it the ids in rising order.
+struct Finder {
+    ids: Vec<u64>,
+    indexes: Vec<usize>,
+    hints: Vec<(u64, usize)>,
+}
+
+impl Finder {
+    fn insert(&mut self, id: u64, index: usize) {
+        let place = self.ids.partition_point(|other| *other < id);
+        self.ids.insert(place, id);
+        self.indexes.insert(place, index);
+        self.hints[id as usize % 256] = (id, index);
+    }
+
+    fn find(&self, id: u64) -> Option<usize> {
+        let (hinted, index) = self.hints[id as usize % 256];
+        if hinted == id {
+            return Some(index);
+        }
+        self.ids
+            .binary_search(&id)
+            .ok()
+            .map(|place| self.indexes[place])
+    }
+}
+
+pub struct Raiser<'a, const APART: usize> {
+    ring: &'a Ring<APART>,
+    finder: Finder,
+    ceiling: u32,
+    sent: [u64; 256],
+    lost: [u64; 256],
+    bank: usize,
+    mask: usize,
+    next: u32,
+}
+
+impl<'a, const APART: usize> Raiser<'a, APART> {
+    /// The firing side, switched to the greatest bank, with the ids from 1 to `ids` admitted.
+    pub fn filled(ring: &'a Ring<APART>, ids: u16) -> Raiser<'a, APART> {
+        let mut raiser = Raiser {
+            ring,
+            finder: Finder {
+                ids: Vec::with_capacity(256),
+                indexes: Vec::with_capacity(256),
+                hints: vec![(0, 0); 256],
+            },
+            ceiling: u32::MAX,
+            sent: [0; 256],
+            lost: [0; 256],
+            bank: 8,
+            mask: 255,
+            next: 0,
+        };
+        ring.word(HARD).store(8, SeqCst);
+        for index in 0..usize::from(ids) {
+            ring.word(index).load(SeqCst);
+            raiser.finder.insert(index as u64 + 1, index);
+        }
+        raiser
+    }
+
+    pub fn raise(&mut self, id: u64) {
+        let index = self.finder.find(id).expect("an admitted id");
+        let pend = self.ring.word(index);
+        let before = pend.load(SeqCst);
+        self.sent[index] += 1;
+        if before == u64::from(self.ceiling) {
+            self.lost[index] += 1;
+            return;
+        }
+        if pend.fetch_add(1, SeqCst) != 0 {
+            return;
+        }
+        let place = 256 + self.mask + (self.next as usize & self.mask);
+        self.ring.word(place).store(id * 256 + index as u64, SeqCst);
+        self.next = self.next.wrapping_add(1);
+        self.ring
+            .word(PRODUCERS + self.bank)
+            .store(u64::from(self.next), SeqCst);
+    }
+
+    /// So many raises, the ids from 1 to `ids` round.
+    pub fn raise_round(&mut self, ids: u16, turns: u64) {
+        let mut id = 1;
+        for _ in 0..turns {
+            self.raise(id);
+            id = if id < u64::from(ids) { id + 1 } else { 1 };
+        }
+    }
+}
+
+pub struct Drainer<'a, const APART: usize> {
+    ring: &'a Ring<APART>,
+    bank: usize,
+    mask: usize,
+    next: u32,
+    hand: u64,
+}
+
+impl<'a, const APART: usize> Drainer<'a, APART> {
+    pub fn new(ring: &'a Ring<APART>) -> Drainer<'a, APART> {
+        Drainer {
+            ring,
+            bank: 0,
+            mask: 0,
+            next: 0,
+            hand: 0,
+        }
+    }
+
+    fn take(&mut self) -> bool {
+        loop {
+            let bank = self.ring.word(HARD).load(SeqCst) as usize;
+            let end = self.ring.word(PRODUCERS + self.bank).load(SeqCst);
+            if end != u64::from(self.next) {
+                let place = 256 + self.mask + (self.next as usize & self.mask);
+                self.hand = self.ring.word(place).load(SeqCst);
+                self.next = self.next.wrapping_add(1);
+                return true;
+            }
+            if bank == self.bank {
+                return false;
+            }
+            self.ring.word(SOFT).store(bank as u64, SeqCst);
+            self.bank = bank;
+            self.mask = (1 << bank) - 1;
+            self.next = 0;
+        }
+    }
+
+    /// Takes the next cyclic where the hand is empty. Whether one is in hand.
+    fn has_taken(&mut self) -> bool {
+        self.hand != 0 || self.take()
+    }
+
+    /// Whether it was the last call of its cyclic.
+    fn finish(&mut self) -> bool {
+        let found = self
+            .ring
+            .word(self.hand as usize % 256)
+            .fetch_sub(1, SeqCst);
+        if found % MARK <= 1 {
+            self.hand = 0;
+        }
+        found == 1
+    }
+
+    /// Takes and finishes one call. Whether it was the last of its cyclic.
+    pub fn serve(&mut self) -> bool {
+        self.has_taken() && self.finish()
+    }
+
+    /// Takes and finishes until so many calls are finished.
+    pub fn serve_until(&mut self, calls: u64) -> u64 {
+        let mut made = 0;
+        while made < calls {
+            if self.has_taken() {
+                self.finish();
+                made += 1;
+            } else {
+                std::hint::spin_loop();
+            }
+        }
+        made
+    }
+}
