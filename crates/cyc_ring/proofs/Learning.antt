@@ -5,6 +5,7 @@ use mathlib.Core.Logic.{dite}
 use native.Mathlib.Decide.{ℕ_discrete}
 use Rattle.cyc_level.specs.Events.{hand_after_expire}
 use Rattle.cyc_level.proofs.Maps.{some_same}
+use Rattle.cyc_types.specs.Limits.{greatest_bank, cyclics}
 use Rattle.cyc_types.specs.Firing.{Stay as Known, FiringView, Admits, Loads, Raises, Marks, Polls, Expands, Looks, Learns, Sound, IsAdmitted, edited, seen_of, seen_in, sent_in}
 use Rattle.cyc_types.specs.declared.firing.Raised.{Raised as Answer}
 use Rattle.cyc_types.specs.declared.firing.Raised.TheVariants as answers
@@ -178,7 +179,7 @@ module _ (c : ℕ) (t : List RaiseStep) where
       at None e = refl
       at (Some s) e = absurd (cc)
 
-  pub sound_view : IsSeenSound c t → ((a b : ℕ) (s u : StayCounts) → open_stay a t ≡ Some s → open_stay b t ≡ Some u → s.index ≡ u.index → a ≡ b) → hard_bank_of t ≤ 8 → 0 < c → Sound (firing_view c t)
+  pub sound_view : IsSeenSound c t → ((a b : ℕ) (s u : StayCounts) → open_stay a t ≡ Some s → open_stay b t ≡ Some u → s.index ≡ u.index → a ≡ b) → hard_bank_of t ≤ greatest_bank → 0 < c → Sound (firing_view c t)
   sound_view S one most some = record {
     some_ceiling = some;
     capped = λ id s e. let w = admitted_stay_of id s e in let x = S id w.0 w.1 in let a = x.0 in let b = w.5 in omega (arith, a, b);
@@ -205,12 +206,12 @@ module _ (c : ℕ) (ids sent lost : List ℕ) (t : List RaiseStep) (F : HoldsSta
   pub the_stay : (st : StayCounts) × (open_stay id t ≡ Some st) × (st.index ≡ (a.0).index) × (st.sent ≡ (a.0).sent) × (st.lost ≡ (a.0).lost) × (seen_pend id t ≡ (a.0).seen)
   the_stay = admitted_stay_of c t id a.0 a.1
 
-  pub has_index : (i : ℕ) × (i < 256) × (get_or ids i 0 ≡ id)
+  pub has_index : (i : ℕ) × (i < cyclics) × (get_or ids i 0 ≡ id)
   has_index = let w = the_stay in let o = F.only id w.0 w.1 in ((w.0).index, o.0, o.1)
 
-pub free_index : (c : ℕ) (ids sent lost : List ℕ) (t : List RaiseStep) → HoldsStays ids sent lost t → (i : ℕ) → i < 256 → ((j : ℕ) (s : Known) → (firing_view c t).stays j ≡ Some s → ¬ (s.index ≡ i)) → get_or ids i 0 ≡ 0
+pub free_index : (c : ℕ) (ids sent lost : List ℕ) (t : List RaiseStep) → HoldsStays ids sent lost t → (i : ℕ) → i < cyclics → ((j : ℕ) (s : Known) → (firing_view c t).stays j ≡ Some s → ¬ (s.index ≡ i)) → get_or ids i 0 ≡ 0
 free_index c ids sent lost t F i low unused = dite (ℕ_discrete (get_or ids i 0) 0) (λ e. e)
     (λ ne. absurd (unused (get_or ids i 0) record { index = i; sent = get_or sent i 0; lost = get_or lost i 0; seen = seen_pend (get_or ids i 0) t } (ap (stay_with (seen_pend (get_or ids i 0) t)) (F.used i low ne)) refl))
 
-pub sound_seat : (c : ℕ) (ids sent lost : List ℕ) (t : List RaiseStep) → HoldsStays ids sent lost t → IsSeenSound c t → hard_bank_of t ≤ 8 → 0 < c → Sound (firing_view c t)
+pub sound_seat : (c : ℕ) (ids sent lost : List ℕ) (t : List RaiseStep) → HoldsStays ids sent lost t → IsSeenSound c t → hard_bank_of t ≤ greatest_bank → 0 < c → Sound (firing_view c t)
 sound_seat c ids sent lost t F S most some = sound_view c t S (λ a b s u e f i. let x = F.only a s e in let y = F.only b u f in sym x.1 ∙ (ap (λ (n : ℕ). get_or ids n 0) i ∙ y.1)) most some

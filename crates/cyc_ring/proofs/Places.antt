@@ -5,15 +5,16 @@ use Prim.Native.Nat.{◌∣◌}
 use lib.Pow.{pow-add}
 use lib.Bits.{bit_and}
 use Rattle.std.proofs.lemmas.Nat.{and_mask}
-use Rattle.ring_rule.specs.Words.{place}
+use Rattle.cyc_types.specs.Limits.{greatest_bank, cyclics}
+use Rattle.ring_rule.specs.Words.{place, word_count}
 
-same_mod : (bank i : ℕ) → bank ≤ 8 → i % 2 ^ 32 % 2 ^ bank ≡ i % 2 ^ bank
+same_mod : (bank i : ℕ) → bank ≤ greatest_bank → i % 2 ^ 32 % 2 ^ bank ≡ i % 2 ^ bank
 same_mod bank i most = mod-mod_of_dvd (2 ^ bank) i (subst (λ (x : ℕ). 2 ^ bank ∣ x) (sym (pow-add 2 bank (32 - bank)) ∙ ap (λ (x : ℕ). 2 ^ x) (let e : bank + (32 - bank) ≡ 32 = omega arith in e)) (dvd-mul_right (2 ^ bank) (2 ^ (32 - bank))))
 
-pub place_masked : (bank mask next i : ℕ) → bank ≤ 8 → mask + 1 ≡ 2 ^ bank → next ≡ i % 2 ^ 32 → 256 + mask + bit_and next mask ≡ place bank i
+pub place_masked : (bank mask next i : ℕ) → bank ≤ greatest_bank → mask + 1 ≡ 2 ^ bank → next ≡ i % 2 ^ 32 → cyclics + mask + bit_and next mask ≡ place bank i
 place_masked bank mask next i most size at = let m : mask ≡ 2 ^ bank - 1 = omega (arith, size) in
     let low : bit_and next mask ≡ i % 2 ^ bank = ap (bit_and next) m ∙ (and_mask next bank ∙ (ap (λ (n : ℕ). n % 2 ^ bank) at ∙ same_mod bank i most)) in omega (arith, size, low)
 
-pub place_inside : (bank mask next i : ℕ) → bank ≤ 8 → mask + 1 ≡ 2 ^ bank → next ≡ i % 2 ^ 32 → 256 + mask + bit_and next mask < 778
-place_inside bank mask next i most size at = let e = place_masked bank mask next i most size at in let p : 0 < 2 ^ bank = pow_pos bank in let q : 2 ^ bank ≤ 2 ^ 8 = pow_mono {i = bank} {j = 8} most in
-    let r : i % 2 ^ bank < 2 ^ bank = mod-lt i p in let z : 2 ^ 8 ≡ 256 = refl in omega (arith, e, p, q, r, z)
+pub place_inside : (bank mask next i : ℕ) → bank ≤ greatest_bank → mask + 1 ≡ 2 ^ bank → next ≡ i % 2 ^ 32 → cyclics + mask + bit_and next mask < word_count
+place_inside bank mask next i most size at = let e = place_masked bank mask next i most size at in let p : 0 < 2 ^ bank = pow_pos bank in let q : 2 ^ bank ≤ 2 ^ greatest_bank = pow_mono {i = bank} {j = greatest_bank} most in
+    let r : i % 2 ^ bank < 2 ^ bank = mod-lt i p in let z : 2 ^ greatest_bank ≡ cyclics = refl in omega (arith, e, p, q, r, z)

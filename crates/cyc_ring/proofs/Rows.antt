@@ -4,6 +4,7 @@ use Rattle.std.specs.Prelude.{Option, Some, None}
 use mathlib.Core.Logic.{dite}
 use native.Mathlib.Decide.{ℕ_discrete}
 use Rattle.cyc_level.proofs.Maps.{some_same}
+use Rattle.cyc_types.specs.Limits.{cyclics}
 use Rattle.ring_rule.specs.declared.RaiseStep.{RaiseStep}
 use Rattle.ring_rule.specs.declared.RaiseStep.TheVariants.{Admitted, Cleared}
 use Rattle.cyc_level.specs.Runs.{StayCounts, one_more}
@@ -15,7 +16,7 @@ use mathlib.Core.Option.{some, some-injective, some-ne-none}
 use lib.ListN.{get_elem?}
 
 module _ (ids sent lost : List ℕ) (t : List RaiseStep) (F : HoldsStays ids sent lost t) where
-  pub same_place : (i j : ℕ) → i < 256 → j < 256 → ¬ (get_or ids i 0 ≡ 0) → get_or ids j 0 ≡ get_or ids i 0 → j ≡ i
+  pub same_place : (i j : ℕ) → i < cyclics → j < cyclics → ¬ (get_or ids i 0 ≡ 0) → get_or ids j 0 ≡ get_or ids i 0 → j ≡ i
   same_place i j li lj used e = let a = F.used i li used in let b = F.used j lj (λ z. used (sym e ∙ z)) in
       ap (λ (s : StayCounts). s.index) (some_same _ _ (sym b ∙ (ap (λ (id : ℕ). open_stay id t) e ∙ a)))
 
@@ -26,7 +27,7 @@ module _ (ids sent lost : List ℕ) (t : List RaiseStep) (F : HoldsStays ids sen
   more_was n None st e = absurd (cc)
   more_was n (Some s) st e = (s, refl, ap (λ (x : StayCounts). x.index) (some_same _ st e))
 
-  module _ (a i by : ℕ) (low : i < 256) (named : get_or ids i 0 ≡ a) (used : ¬ (a ≡ 0)) (long : i < length sent) (t' : List RaiseStep) (grows : (id : ℕ) → open_stay id t' ≡ cond (eqb id a) (one_more by (open_stay id t)) (open_stay id t))
+  module _ (a i by : ℕ) (low : i < cyclics) (named : get_or ids i 0 ≡ a) (used : ¬ (a ≡ 0)) (long : i < length sent) (t' : List RaiseStep) (grows : (id : ℕ) → open_stay id t' ≡ cond (eqb id a) (one_more by (open_stay id t)) (open_stay id t))
       (lost' : List ℕ) (here : get_or lost' i 0 ≡ get_or lost i 0 + by) (else : (j : ℕ) → j ≢ i → get_or lost' j 0 ≡ get_or lost j 0) (one : by ≤ 1) where
     was : (b : Bool) (id : ℕ) (st : StayCounts) → cond b (one_more by (open_stay id t)) (open_stay id t) ≡ Some st → (s : StayCounts) × (open_stay id t ≡ Some s) × (s.index ≡ st.index)
     was true id st e = more_was by (open_stay id t) st e
@@ -44,13 +45,13 @@ module _ (ids sent lost : List ℕ) (t : List RaiseStep) (F : HoldsStays ids sen
           ∙ (λ z. Some record { index = i; sent = sym (get_or-set_same sent i (get_or sent i 0 + 1) 0 long) z; lost = sym here z }))))
           (λ ne. ap (λ b. cond b (one_more by (open_stay (get_or ids j 0) t)) (open_stay (get_or ids j 0) t)) (ne_eqb (get_or ids j 0) a (λ e. ne (same_place i j low lj used_i (e ∙ sym named))))
           ∙ (F.used j lj uj ∙ (λ z. Some record { index = j; sent = sym (get_or-set_other sent i j (get_or sent i 0 + 1) 0 ne) z; lost = sym (else j ne) z })));
-      only = λ id st e. let w = was (eqb id a) id st (sym (grows id) ∙ e) in let o = F.only id w.0 w.1 in (subst (λ (x : ℕ). x < 256) w.2 o.0, ap (λ (x : ℕ). get_or ids x 0) (sym w.2) ∙ o.1, o.2);
+      only = λ id st e. let w = was (eqb id a) id st (sym (grows id) ∙ e) in let o = F.only id w.0 w.1 in (subst (λ (x : ℕ). x < cyclics) w.2 o.0, ap (λ (x : ℕ). get_or ids x 0) (sym w.2) ∙ o.1, o.2);
       less = λ j lj. let f = F.less j lj in dite (ℕ_discrete j i)
           (λ e. subst (λ (j : ℕ). get_or lost' j 0 ≤ get_or (set sent i (get_or sent i 0 + 1)) j 0) (sym e) (let g = F.less i low in let s = get_or-set_same sent i (get_or sent i 0 + 1) 0 long in let h = here in omega (arith, g, s, h, one)))
           (λ ne. let s = get_or-set_other sent i j (get_or sent i 0 + 1) 0 ne in let h = else j ne in omega (arith, f, s, h));
     }
 
-  module _ (id i : ℕ) (low : i < 256) (named : get_or ids i 0 ≡ id) (real : ¬ (id ≡ 0)) (long : i < length ids) where
+  module _ (id i : ℕ) (low : i < cyclics) (named : get_or ids i 0 ≡ id) (real : ¬ (id ≡ 0)) (long : i < length ids) where
     left : (b : Bool) (j : ℕ) (st : StayCounts) → eqb j id ≡ b → cond b None (open_stay j t) ≡ Some st → (j ≢ id) × (open_stay j t ≡ Some st)
     left true j st is e = absurd (cc)
     left false j st is e = ((λ x. let h : true ≡ false = sym (eq-eqb j id x) ∙ is in absurd (cc)), e)
@@ -66,7 +67,7 @@ module _ (ids sent lost : List ℕ) (t : List RaiseStep) (F : HoldsStays ids sen
       less = F.less;
     }
 
-  module _ (id i : ℕ) (low : i < 256) (free : get_or ids i 0 ≡ 0) (real : ¬ (id ≡ 0)) (none : open_stay id t ≡ None) (l1 : i < length ids) (l2 : i < length sent) (l3 : i < length lost) where
+  module _ (id i : ℕ) (low : i < cyclics) (free : get_or ids i 0 ≡ 0) (real : ¬ (id ≡ 0)) (none : open_stay id t ≡ None) (l1 : i < length ids) (l2 : i < length sent) (l3 : i < length lost) where
     came : (j : ℕ) (st : StayCounts) → open_stay j (Admitted id i ∷ t) ≡ Some st → ((j ≡ id) × (i ≡ st.index)) ⊎ ((j ≢ id) × (open_stay j t ≡ Some st))
     came j st e = dite (ℕ_discrete j id)
         (λ x. inl (x, ap (λ (s : StayCounts). s.index) (some_same record { index = i; sent = 0; lost = 0 } st (ap (λ b. cond b (Some record { index = i; sent = 0; lost = 0 }) (open_stay j t)) (sym (eq-eqb j id x)) ∙ e))))
@@ -83,7 +84,7 @@ module _ (ids sent lost : List ℕ) (t : List RaiseStep) (F : HoldsStays ids sen
           (ap (λ b. cond b (Some record { index = i; sent = 0; lost = 0 }) (open_stay (get_or ids j 0) t)) (ne_eqb (get_or ids j 0) id (λ e. let x : None ≡ Some record { index = j; sent = get_or sent j 0; lost = get_or lost j 0 } = sym none ∙ (ap (λ (x : ℕ). open_stay x t) (sym e) ∙ f) in absurd (cc)))
           ∙ (f ∙ (λ z. Some record { index = j; sent = sym (get_or-set_other sent i j 0 0 ne) z; lost = sym (get_or-set_other lost i j 0 0 ne) z }))));
       only = λ j st e. ⊎_elim
-          (λ x. (subst (λ (y : ℕ). y < 256) x.1 low, ap (λ (y : ℕ). get_or (set ids i id) y 0) (sym x.1) ∙ (get_or-set_same ids i id 0 l1 ∙ sym x.0), λ z. real (sym x.0 ∙ z)))
+          (λ x. (subst (λ (y : ℕ). y < cyclics) x.1 low, ap (λ (y : ℕ). get_or (set ids i id) y 0) (sym x.1) ∙ (get_or-set_same ids i id 0 l1 ∙ sym x.0), λ z. real (sym x.0 ∙ z)))
           (λ x. let o = F.only j st x.1 in (o.0, get_or-set_other ids i st.index id 0 (λ e. o.2 (sym o.1 ∙ (ap (λ (y : ℕ). get_or ids y 0) e ∙ free))) ∙ o.1, o.2)) (came j st e);
       less = λ j lj. dite (ℕ_discrete j i)
           (λ e. let a : get_or (set lost i 0) j 0 ≡ 0 = ap (λ (x : ℕ). get_or (set lost i 0) x 0) e ∙ get_or-set_same lost i 0 0 l3 in omega (arith, a))
@@ -97,8 +98,8 @@ module _ (ids sent lost : List ℕ) (t : List RaiseStep) (F : HoldsStays ids sen
 pub fits_same : (ids sent lost : List ℕ) (t t' : List RaiseStep) → ((id : ℕ) → open_stay id t' ≡ open_stay id t) → HoldsStays ids sent lost t → HoldsStays ids sent lost t'
 fits_same ids sent lost t t' same F = record { used = λ i low u. same (get_or ids i 0) ∙ F.used i low u; only = λ id st e. F.only id st (sym (same id) ∙ e); less = F.less }
 
-pub fits_none : HoldsStays (replicate 256 0) (replicate 256 0) (replicate 256 0) []
-fits_none = record { less = λ i low. omega arith; used = λ i low used. absurd (used (get_or-replicate 256 i 0 0 low)); only = λ id st e. absurd (cc) }
+pub fits_none : HoldsStays (replicate cyclics 0) (replicate cyclics 0) (replicate cyclics 0) []
+fits_none = record { less = λ i low. omega arith; used = λ i low used. absurd (used (get_or-replicate cyclics i 0 0 low)); only = λ id st e. absurd (cc) }
 
 pub or_elem : (l : List ℕ) (i a : ℕ) → get_elem? l i ≡ some a → get_or l i 0 ≡ a
 or_elem [] i a e = absurd (some-ne-none a (sym e))

@@ -7,7 +7,7 @@ ghost use Rattle.cyc_ring.specs.Rows.{HoldsStays};
 use crate::plays::Whole;
 use crate::ring::Ring;
 use crate::seats::{DrainSeat, RaiseSeat};
-use crate::steps::MARK;
+use crate::words::{INDEXES, MARK};
 use cyc_types::{CyclicId, Index};
 use std::snapshot::Snapshot;
 
@@ -31,10 +31,10 @@ pub struct Book {
 /// A closed ring: the counts of each index, and for contracts alone what its two seats knew at last.
 #[derive(Drop)]
 pub struct Closed {
-    ids: [u64; 256],
-    sent: [u64; 256],
-    lost: [u64; 256],
-    pends: [u64; 256],
+    ids: [u64; INDEXES],
+    sent: [u64; INDEXES],
+    lost: [u64; INDEXES],
+    pends: [u64; INDEXES],
     raiser: Snapshot<RaiseSeat>,
     drainer: Snapshot<DrainSeat>,
     ghost rows: { HoldsStays ids sent lost raiser.value.seat.me.0.raise_trail },
@@ -82,8 +82,8 @@ impl Ring {
         } = drainer;
         table.shared.join_seat::<Whole>(&mut seat, other);
         let closed = table.close_with(seat);
-        let mut pends = [0u64; 256];
-        for i in 0..256 {
+        let mut pends = [0u64; INDEXES];
+        for i in 0..INDEXES {
             pends[i] = closed.word(i);
         }
         closed.free();

@@ -12,7 +12,7 @@ ghost use Rattle.cyc_ring.specs.Ends.{IsDrainSeatOf, IsSameDrainSeat, drain_trai
 use crate::plays::Served;
 use crate::ring::Ring;
 use crate::seats::DrainSeat;
-use crate::steps::MARK;
+use crate::words::{BUFFERS, ENTRY_BASE, MARK};
 
 impl Ring {
     // The load of the buffer word at the consumer index: its entry comes into the hand.
@@ -25,7 +25,7 @@ impl Ring {
         ensures named { IsId (entry_id result) }
         ensures step { MakesDrainStep J.setting (Took result) drainer.old.seat drainer.new.seat }
     {
-        let word = 256 + drainer.mask + (drainer.next as u64 & drainer.mask);
+        let word = BUFFERS + drainer.mask + (drainer.next as u64 & drainer.mask);
         let entry = self.load_entry::<J>(&mut drainer.seat, word as usize);
         drainer.next = drainer.next.wrapping_add(1);
         drainer.hand = entry;
@@ -46,7 +46,7 @@ impl Ring {
             let bank = self.load_hard_bank::<J>(&mut drainer.seat);
             let end = self.load_producer::<J>(&mut drainer.seat, drainer.bank);
             if end != drainer.next as u64 {
-                return Some(self.take_entry::<J>(drainer) / 256);
+                return Some(self.take_entry::<J>(drainer) / ENTRY_BASE);
             }
             if bank == drainer.bank {
                 return None;
@@ -67,7 +67,7 @@ impl Ring {
         ensures outstanding { 0 < result % mark_bit }
         ensures step { MakesDrainStep J.setting (Subtracted result) drainer.old.seat drainer.new.seat }
     {
-        let found = self.subtract::<J>(&mut drainer.seat, (drainer.hand % 256) as usize);
+        let found = self.subtract::<J>(&mut drainer.seat, (drainer.hand % ENTRY_BASE) as usize);
         if found % MARK <= 1 {
             drainer.hand = 0;
         }

@@ -3,7 +3,7 @@ ghost use Rattle.std.specs.Prelude.{◌≡◌};
 
 use crate::ring::Ring;
 use crate::seats::{DrainSeat, RaiseSeat};
-use crate::steps::MARK;
+use crate::words::{ENTRY_BASE, MARK};
 use cyc_types::{CyclicId, Drain, Finished, Index, Raise, Raised, Sent};
 use std::marker::Brand;
 
@@ -137,7 +137,7 @@ impl Drain for DrainEnd<'_> {
     ghost step = { DrainEndCall };
 
     fn hand(&self) -> Option<CyclicId> {
-        CyclicId::new(self.seat.hand / 256)
+        CyclicId::new(self.seat.hand / ENTRY_BASE)
     }
 
     fn take(&mut self) -> Option<CyclicId> {

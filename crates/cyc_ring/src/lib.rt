@@ -1,7 +1,7 @@
 //! One soft level of a CPU as shared words, between a firing thread and a draining thread, with no lock.
 //!
-//! A ring is one table of 778 words: a pend word for each index, the buffers of nine banks, their producer words, and the
-//! banks that the two sides are on. A raise seat fills the buffer and a drain seat empties it, each by single atomic steps,
+//! A ring is one table of words: a pend word for each index, the buffers of all banks, their producer words, and the banks
+//! that the two sides are on (`words.rt`). A raise seat fills the buffer and a drain seat empties it, each by single atomic steps,
 //! and every step of one may fall between two steps of the other. At each moment between two of them the words and the two
 //! seats' trails show a lawful level (`cyc_level`), which `ring_rule` states and this crate keeps. No call but `Ring::open`
 //! takes memory, and none waits.
@@ -16,6 +16,7 @@ mod raising;
 mod ring;
 mod seats;
 mod steps;
+mod words;
 
 pub use closed::{Book, Closed};
 pub use ends::{DrainEnd, RaiseEnd};

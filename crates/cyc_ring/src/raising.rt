@@ -14,6 +14,7 @@ ghost use Rattle.cyc_ring.specs.Ends.{IsRaiseSeatOf, IsSameRaiseSeat, raise_trai
 use crate::plays::Served;
 use crate::ring::Ring;
 use crate::seats::RaiseSeat;
+use crate::words::{BUFFERS, ENTRY_BASE};
 use cyc_types::{CyclicId, Index, Raised};
 
 impl Ring {
@@ -118,7 +119,7 @@ impl Ring {
         ensures call { MakesRaiseCall self.now.setting (raise_trail raiser.old) (Raises id result) (raise_trail raiser.new) }
     {
         let ceiling = raiser.setting.ceiling as u64;
-        let entry = id.number() * 256 + index as u64;
+        let entry = id.number() * ENTRY_BASE + index as u64;
         let before = self.load_to_raise::<J>(&mut raiser.seat, index);
         raiser.sent[index] += 1;
         if before == ceiling {
@@ -129,7 +130,7 @@ impl Ring {
         if found != 0 {
             return Raised::More;
         }
-        let word = 256 + raiser.mask + (raiser.next as u64 & raiser.mask);
+        let word = BUFFERS + raiser.mask + (raiser.next as u64 & raiser.mask);
         self.store_entry::<J>(&mut raiser.seat, word as usize, entry);
         raiser.next = raiser.next.wrapping_add(1);
         self.publish::<J>(&mut raiser.seat, raiser.bank, raiser.next);

@@ -4,6 +4,7 @@ ghost use Rattle.ring_rule.specs.Words.{word_count, first_word, hard_word, produ
 
 use crate::plays::Parts;
 use crate::seats::{DrainSeat, RaiseSeat};
+use crate::words::{HARD, PRODUCERS, WORDS};
 use atomic_table::Table;
 use cyc_types::{Ceiling, Refusal};
 use ring_rule::{RingRule, SeatView, Setting};
@@ -36,18 +37,6 @@ fn first_words(alloc: Global, start: u32) -> Result<Vec<u64>, AllocError>
     }
     Ok(words)
 }
-
-/// The first producer word.
-pub(crate) const PRODUCERS: usize = 767;
-
-/// The word of the hard bank.
-pub(crate) const HARD: usize = 776;
-
-/// The word of the soft bank.
-pub(crate) const SOFT: usize = 777;
-
-/// The number of words.
-pub(crate) const WORDS: usize = 778;
 
 impl Ring {
     ghost use Rattle.std.specs.Prelude.{◌≡◌, [], IfOk, IfErr};

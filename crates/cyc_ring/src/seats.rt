@@ -8,6 +8,7 @@ ghost use Rattle.ring_finder.specs.Indexes.{index_of};
 ghost use Rattle.cyc_ring.specs.Rows.{HoldsStays, stay_index, entry_in_hand};
 ghost use Rattle.cyc_ring.specs.Views.{IsSeenSound, IsBalanced};
 
+use crate::words::INDEXES;
 use atomic_table::Seat;
 use cyc_types::CyclicId;
 use ring_finder::Finder;
@@ -21,9 +22,9 @@ pub struct RaiseSeat {
     pub(crate) setting: Setting,
     pub(crate) finder: Finder,
     // For each index the id of its cyclic, 0 where it is free, and the counts of its stay.
-    pub(crate) ids: [u64; 256],
-    pub(crate) sent: [u64; 256],
-    pub(crate) lost: [u64; 256],
+    pub(crate) ids: [u64; INDEXES],
+    pub(crate) sent: [u64; INDEXES],
+    pub(crate) lost: [u64; INDEXES],
     // The bank that it fills, the bank's size less one, and the next index.
     pub(crate) bank: u64,
     pub(crate) mask: u64,
@@ -75,9 +76,9 @@ impl RaiseSeat {
             seat,
             setting,
             finder,
-            ids: [0; 256],
-            sent: [0; 256],
-            lost: [0; 256],
+            ids: [0; INDEXES],
+            sent: [0; INDEXES],
+            lost: [0; INDEXES],
             bank: 0,
             mask: 0,
             next: setting.start,

@@ -16,12 +16,10 @@ use crate::plays::{
     Add, Admit, Clear, Follow, HardBank, Load, Mark, Producer, Publish, RaiseLoad, Served,
     SoftBank, Store, Subtract, Switch, Take,
 };
-use crate::ring::{HARD, PRODUCERS, Ring, SOFT};
+use crate::ring::Ring;
+use crate::words::{HARD, MARK, PRODUCERS, SOFT};
 use atomic_table::Seat;
 use ring_rule::SeatView;
-
-// The bit of a pend word that marks an open removal. The bits below it are the calls outstanding.
-pub(crate) const MARK: u64 = 1 << 32;
 
 impl Ring {
     // The load of the unused pend word that admits the id.

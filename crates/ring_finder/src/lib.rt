@@ -1,8 +1,8 @@
 //! Finds the index of an admitted cyclic by its id.
 //!
-//! The ids stand in rising order, so a look-up takes at most eight comparisons among 256 ids. In front of them is a table of
-//! hints, of which an id has one by its low bits: mostly the first look answers. Ids mostly rise, so a new one mostly goes to
-//! the end. No memory is taken after `Finder::new`.
+//! The ids stand in rising order, so a look-up halves them at each comparison. In front of them is a table of hints, of which
+//! an id has one by its low bits: mostly the first look answers. Ids mostly rise, so a new one mostly goes to the end. No
+//! memory is taken after `Finder::new`.
 #![tactic(auto)]
 
 ghost use Rattle.std.specs.Prelude.{◌≡◌, ℕ, ◌%◌, ◌<◌, ◌≤◌, cond, eqb, IfOk, IfSome, None, Some, slice_index, length, vec_capacity};

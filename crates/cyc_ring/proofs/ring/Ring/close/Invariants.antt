@@ -2,7 +2,8 @@ use Rattle.std.proofs.Common.{◌≡◌, ℕ, ◌<◌, length, get_or}
 use mathlib.Core.Option.{some}
 use lib.ListN.{get_elem?}
 use Rattle.std.specs.Slots.{slots_items}
+use Rattle.cyc_types.specs.Limits.{cyclics}
 use Rattle.cyc_ring.proofs.ring.Ring.close.Given as goal
 
 abbrev pub invariant-loop-i : goal.invariant-loop-i
-invariant-loop-i l = (length l.pends ≡ 256) × ((k : ℕ) → k < l.i → get_elem? (slots_items l.closed.words) k ≡ some (get_or l.pends k 0))
+invariant-loop-i l = (length l.pends ≡ cyclics) × ((k : ℕ) → k < l.i → get_elem? (slots_items l.closed.words) k ≡ some (get_or l.pends k 0))

@@ -1,4 +1,4 @@
-use Rattle.std.proofs.Common.{rules, ◌≡◌, ◌≢◌, ℕ, zero, suc, ◌+◌, ◌*◌, ◌%◌, ◌^◌, ◌<◌, ◌≤◌, cond, List, [], ◌∷◌, refl, sym, ap, ◌∙◌, subst, arith, get_or, set, eq-eqb}
+use Rattle.std.proofs.Common.{rules, ◌≡◌, ◌≢◌, ℕ, zero, suc, ◌+◌, ◌%◌, ◌^◌, ◌<◌, ◌≤◌, cond, List, [], ◌∷◌, refl, sym, ap, ◌∙◌, subst, arith, get_or, set, eq-eqb}
 use Rattle.std.specs.Prelude.{Option, Some, None}
 use Rattle.cyc_types.specs.Firing.{Raises}
 use Rattle.cyc_types.specs.declared.firing.Raised.TheVariants as answers
@@ -126,7 +126,7 @@ store_entry-requires-clause-value g c = let r = c.args.raiser.now in let ring = 
     let e2 : s2.me.0.raise_trail ≡ Added id found ∷ Loaded id before ∷ t = ap (λ (m : ThisSeat). m.0.raise_trail) m2.1 ∙ ap (λ (m : ThisSeat). Added id found ∷ m.0.raise_trail) m1.1 in
     let grown : open_stay id (Added id found ∷ Loaded id before ∷ t) ≡ Some record { index = x; sent = get_or r.sent x 0 + 1; lost = get_or r.lost x 0 + 0 } =
     ap (λ b. cond b (one_more 0 (open_stay id t)) (open_stay id t)) (eq-eqb id id refl) ∙ ap (one_more 0) is in
-    (record { index = x; sent = get_or r.sent x 0 + 1; lost = get_or r.lost x 0 + 0 }, (λ z. open_stay (n.0 z) (e2 z)) ∙ grown, (λ z. c.number.ensures.value z * 256 + x) ∙ ap (λ (y : ℕ). y * 256 + x) (sym n.0))
+    (record { index = x; sent = get_or r.sent x 0 + 1; lost = get_or r.lost x 0 + 0 }, (λ z. open_stay (n.0 z) (e2 z)) ∙ grown, ap (λ (y : ℕ). entry y x) (c.number.ensures.value ∙ sym n.0))
 
 pub publish-requires-clause-stored : goal.publish-requires-clause-stored
 publish-requires-clause-stored g c = let r = c.args.raiser.now in let ring = c.args.self.now in let n = c.requires.named in let i = c.requires.index in let t : List RaiseStep = r.seat.me.0.raise_trail in let x : ℕ = c.args.index in let id : ℕ = c.args.id in let k = ring.setting in let own = c.requires.own in
@@ -141,7 +141,7 @@ publish-requires-clause-stored g c = let r = c.args.raiser.now in let ring = c.a
     let found : ℕ = c.add-found.result in let s2 = c.add-found.new.seat in
     let m2 : MakesRaiseStep k (Added id found) s1 s2 = subst (λ (p : Setting × ℕ). MakesRaiseStep p.0 (Added p.1 found) s1 s2) (λ z. (n.1 z, n.0 z)) c.add-found.ensures.step in
     let e2 : s2.me.0.raise_trail ≡ Added id found ∷ Loaded id before ∷ t = ap (λ (m : ThisSeat). m.0.raise_trail) m2.1 ∙ ap (λ (m : ThisSeat). Added id found ∷ m.0.raise_trail) m1.1 in
-    (c.number.result * 256 + x, ap (λ (m : ThisSeat). stored_entry m.0.raise_trail) c.store_entry.ensures.1)
+    (entry c.number.result x, ap (λ (m : ThisSeat). stored_entry m.0.raise_trail) c.store_entry.ensures.1)
 
 pub invariant_of-raiser-2 : goal.invariant_of-raiser-2
 invariant_of-raiser-2 g c = let r = c.args.raiser.now in let ring = c.args.self.now in let n = c.requires.named in let i = c.requires.index in let t : List RaiseStep = r.seat.me.0.raise_trail in let x : ℕ = c.args.index in let id : ℕ = c.args.id in let k = ring.setting in let own = c.requires.own in
@@ -159,7 +159,7 @@ invariant_of-raiser-2 g c = let r = c.args.raiser.now in let ring = c.args.self.
     let top : found ≤ before = (let f : found ≤ seen_pend id (Loaded id before ∷ t) = subst (λ (p : ℕ × List RaiseStep). found ≤ seen_pend p.0 p.1) (λ z. (n.0 z, (m1.1 z).0.raise_trail)) c.add-found.ensures.bound in
     let h : found ≤ before % 2 ^ 32 = subst (λ b. found ≤ cond b (before % 2 ^ 32) (seen_pend id t)) (eq-eqb id id refl) f in omega (arith, h)) in
     let zero_found : found ≡ 0 = search rules in let v : ℕ = entry id x in let s3 = c.store_entry.new.seat in let w : ℕ = (producer_index k.start t + 1) % index_range in let s4 = c.publish.new.seat in
-    let value : c.number.result * 256 + x ≡ v = ap (λ (y : ℕ). y * 256 + x) c.number.ensures.value in
+    let value : entry c.number.result x ≡ v = ap (λ (y : ℕ). entry y x) c.number.ensures.value in
     let m3 : MakesRaiseStep k (Stored v) s2 s3 = subst (λ (p : Setting × ℕ). MakesRaiseStep p.0 (Stored p.1) s2 s3) (λ z. (n.1 z, value z)) c.store_entry.ensures in
     let index_is : (r.next + 1) % 2 ^ 32 ≡ w = (let h : r.next ≡ producer_index k.start t % 2 ^ 32 = r.next_is ∙ ap (λ (s : Setting). producer_index s.start t % 2 ^ 32) own.1 in let z : (r.next + 1) % 2 ^ 32 ≡ (producer_index k.start t + 1) % 2 ^ 32 = omega (arith, h) in z) in
     let m4 : MakesRaiseStep k (Published w) s3 s4 = subst (λ (p : Setting × ℕ). MakesRaiseStep p.0 (Published p.1) s3 s4) (λ z. (n.1 z, index_is z)) c.publish.ensures in
@@ -194,7 +194,7 @@ returns-clause-call g c = let r = c.args.raiser.now in let ring = c.args.self.no
     let m2 : MakesRaiseStep k (Added id found) s1 s2 = subst (λ (p : Setting × ℕ). MakesRaiseStep p.0 (Added p.1 found) s1 s2) (λ z. (n.1 z, n.0 z)) c.add-found.ensures.step in
     let e2 : s2.me.0.raise_trail ≡ Added id found ∷ Loaded id before ∷ t = ap (λ (m : ThisSeat). m.0.raise_trail) m2.1 ∙ ap (λ (m : ThisSeat). Added id found ∷ m.0.raise_trail) m1.1 in
     let zero_found : found ≡ 0 = search rules in let v : ℕ = entry id x in let s3 = c.store_entry.new.seat in let w : ℕ = (producer_index k.start t + 1) % index_range in let s4 = c.publish.new.seat in
-    let value : c.number.result * 256 + x ≡ v = ap (λ (y : ℕ). y * 256 + x) c.number.ensures.value in
+    let value : entry c.number.result x ≡ v = ap (λ (y : ℕ). entry y x) c.number.ensures.value in
     let m3 : MakesRaiseStep k (Stored v) s2 s3 = subst (λ (p : Setting × ℕ). MakesRaiseStep p.0 (Stored p.1) s2 s3) (λ z. (n.1 z, value z)) c.store_entry.ensures in
     let index_is : (r.next + 1) % 2 ^ 32 ≡ w = (let h : r.next ≡ producer_index k.start t % 2 ^ 32 = r.next_is ∙ ap (λ (s : Setting). producer_index s.start t % 2 ^ 32) own.1 in let z : (r.next + 1) % 2 ^ 32 ≡ (producer_index k.start t + 1) % 2 ^ 32 = omega (arith, h) in z) in
     let m4 : MakesRaiseStep k (Published w) s3 s4 = subst (λ (p : Setting × ℕ). MakesRaiseStep p.0 (Published p.1) s3 s4) (λ z. (n.1 z, index_is z)) c.publish.ensures in

@@ -1,5 +1,6 @@
 use Rattle.std.proofs.Common.{◌≡◌, ◌-◌, List}
 use Rattle.std.specs.Prelude.{None}
+use Rattle.cyc_types.specs.Limits.{greatest_bank}
 use Rattle.ring_rule.specs.declared.DrainStep.{DrainStep}
 use Rattle.ring_rule.specs.Trail.{held_entry}
 use Rattle.cyc_ring.specs.Steps.{AreFollows}
@@ -12,4 +13,4 @@ invariant-loop-drainer g l = IsDrainSeatOf l.self l.drainer × (held_entry (drai
     × ((before : List DrainStep) × AreFollows l.self.setting.start (drain_trail l.initial.drainer) before × DrainRun l.self.setting (drain_trail l.initial.drainer) before l.drainer.seat)
 
 abbrev pub decreases-loop-drainer : goal.decreases-loop-drainer
-decreases-loop-drainer g l = 8 - l.drainer.bank
+decreases-loop-drainer g l = greatest_bank - l.drainer.bank
