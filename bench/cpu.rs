@@ -6,8 +6,12 @@ mod timing;
 
 use heaps::{FIRES, Fires};
 
+/// A run of so many fires, so many nanoseconds apart: the calls of each handler, folded into one number.
+type Run = unsafe extern "C" fn(intervals: *const u64, count: usize, step: u64, fires: u64) -> u64;
+
 unsafe extern "C" {
-    fn bench_fire(intervals: *const u64, count: usize, step: u64, fires: u64) -> u64;
+    fn bench_fire_high(intervals: *const u64, count: usize, step: u64, fires: u64) -> u64;
+    fn bench_fire_low(intervals: *const u64, count: usize, step: u64, fires: u64) -> u64;
 }
 
 /// The calls of each id, as the proved side counts them.
@@ -38,12 +42,8 @@ impl Tally {
     }
 }
 
-fn main() {
-    timing::head(
-        "An expiration of a fire, at high level",
-        heaps::WHAT,
-        &heaps::columns("`Hard::fire`, ns"),
-    );
+fn table(title: &str, proved: &str, fire: Run) {
+    timing::head(title, heaps::WHAT, &heaps::columns(proved));
     for (count, step) in FIRES {
         let intervals = heaps::spread(count);
         let run = Fires::new(&intervals, step);
@@ -64,13 +64,24 @@ fn main() {
             run.by_library(|id| tally.call(id));
             tally.folded()
         };
-        // The calls read the intervals and keep nothing.
-        let high = || unsafe { bench_fire(intervals.as_ptr(), count, step, run.fires) };
-        let times = timing::medians(
-            heaps::ROUNDS,
-            expirations,
-            [&indexes, &keys, &library, &high],
-        );
+        // The call reads the intervals and keeps nothing.
+        let proved = || unsafe { fire(intervals.as_ptr(), count, step, run.fires) };
+        let sides: [timing::Side; 4] = [&indexes, &keys, &library, &proved];
+        let times = timing::medians(heaps::ROUNDS, expirations, sides);
         timing::row(&heaps::what(count, step), &times, times[3] / times[0]);
     }
+}
+
+fn main() {
+    table(
+        "An expiration of a fire, at high level",
+        "`fire`, ns",
+        bench_fire_high,
+    );
+    println!();
+    table(
+        "An expiration of a fire, at low level, and its call by the soft interrupt",
+        "`fire` and `softint`, ns",
+        bench_fire_low,
+    );
 }

@@ -5,7 +5,7 @@ ghost use Rattle.std.specs.Prelude.{◌≡◌, None, IfOk, OnOk};
 
 use cyc_core::LevelCore;
 use cyc_cpu::Hard;
-use cyc_types::{Ceiling, CyclicId, Level, Moment, Refusal, Tally, When};
+use cyc_types::{Ceiling, CyclicId, Level, Moment, Refusal, Soft, Tally, When};
 use std::alloc::Global;
 
 /// A CPU over two plain levels.
@@ -76,14 +76,24 @@ fn folded(tally: &Tally, len: usize) -> u64 {
     all
 }
 
-fn run(alloc: Global, intervals: &[u64], step: u64, fires: u64) -> Result<u64, Refusal> {
-    let mut cpu = started(alloc, intervals, Level::High)?;
+/// Fires so many times, and after each fire serves the low level until it is idle.
+fn run(
+    alloc: Global,
+    level: Level,
+    intervals: &[u64],
+    step: u64,
+    fires: u64,
+) -> Result<u64, Refusal> {
+    let mut cpu = started(alloc, intervals, level)?;
     let mut calls = tally(alloc, intervals.len())?;
     let mut now = 0u64;
     for _ in 0..fires {
         now = now.wrapping_add(step);
         if let Err(refused) = cpu.fire(moment_of(now)?, &mut calls) {
             return Err(refused.why);
+        }
+        if level == Level::Low && cpu.softint(Soft::Low, &mut calls, u32::MAX).is_err() {
+            return Err(Refusal::NoCyclic);
         }
     }
     Ok(folded(&calls, intervals.len()))
@@ -92,6 +102,12 @@ fn run(alloc: Global, intervals: &[u64], step: u64, fires: u64) -> Result<u64, R
 /// Fires `fires` times, `step` nanoseconds apart, with a high cyclic for each interval, and answers the calls of each handler
 /// folded into one number; 0 where memory was refused.
 #[unsafe(no_mangle)]
-pub extern "C" fn bench_fire(alloc: Global, intervals: &[u64], step: u64, fires: u64) -> u64 {
-    run(alloc, intervals, step, fires).unwrap_or(0)
+pub extern "C" fn bench_fire_high(alloc: Global, intervals: &[u64], step: u64, fires: u64) -> u64 {
+    run(alloc, Level::High, intervals, step, fires).unwrap_or(0)
+}
+
+/// The same with low cyclics, and a soft interrupt after each fire.
+#[unsafe(no_mangle)]
+pub extern "C" fn bench_fire_low(alloc: Global, intervals: &[u64], step: u64, fires: u64) -> u64 {
+    run(alloc, Level::Low, intervals, step, fires).unwrap_or(0)
 }
