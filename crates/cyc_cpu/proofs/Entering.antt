@@ -13,8 +13,9 @@ use Rattle.cyc_types.specs.declared.level.Level.{Level}
 use Rattle.cyc_types.specs.declared.level.Level.TheVariants as level
 use Rattle.cyc_timers.specs.Rows.{Row, IsRow, HasNo}
 use Rattle.cyc_cpu.specs.Acts.{same_level}
-use Rattle.cyc_cpu.specs.Ends.{HasStay, IsEnd, IsCounted, IsHard}
+use Rattle.cyc_cpu.specs.Ends.{HasStay, HasRow, IsEnd, IsCounted, IsHard}
 use Rattle.cyc_cpu.specs.Quiet.{admits_at}
+use Rattle.cyc_cpu.proofs.Readying.{some_same}
 
 -- a row after one was put in
 pub row_in : (rows : List Row) (q k : ℕ) (u x : Row) → q ≤ length rows → IsRow (insert rows q u) k x → (x ≡ u) ⊎ ((j : ℕ) × IsRow rows j x)
@@ -39,6 +40,9 @@ row_old rows q j u x low is =
       | inr more ↦ (j + 1, (omega (arith, long, n), get_or-insert_above rows q u x j more low ∙ is.1))
     ]
 
+pub still_in : (rows : List Row) (q : ℕ) (u : Row) (level : Level) (id : ℕ) → q ≤ length rows → HasRow level id rows → HasRow level id (insert rows q u)
+still_in rows q u level id low (k, x, is, named, at) = (let (m, is') = row_old rows q k u x low is in (m, x, is', named, at))
+
 pub row_put : (rows : List Row) (q : ℕ) (u : Row) → q ≤ length rows → IsRow (insert rows q u) q u
 row_put rows q u low = (let n = length-insert rows q u low in omega (arith, n, low), get_or-insert_at rows q u u low)
 
@@ -49,9 +53,6 @@ no_row id rows k r none is same = none k r is.0 (ap (λ (x : Row). x.timer.id) i
 none_of : (o : Option Stay) → ((s : Stay) → o ≡ Some s → ⊥) → o ≡ None
 none_of None h = refl
 none_of (Some s) h = absurd (h s refl)
-
-some_same : (a b : Stay) (o : Option Stay) → o ≡ Some a → o ≡ Some b → a ≡ b
-some_same a b o h k = cc
 
 -- an end may admit an id that is not here, at an index that no row has
 pub may_admit : (soft : Level) (size : ℕ) (marked : Option ℕ) (v : FiringView) (rows : List Row) (id index : ℕ) → IsEnd soft size marked v rows → HasNo id rows → All (λ r. r.index ≢ index) rows → index < size → MayAdmit id index v
@@ -91,8 +92,13 @@ module _ (soft : Level) (size : ℕ) (marked : Option ℕ) (v : FiringView) (row
         ];
         only = λ j s h. elim (cases_eq j id) [
           | inl same ↦ (q, u, row_put rows q u low, named ∙ sym same, at)
-          | inr ne ↦ (let (k, x, is, named_x, at_x) = ready.only j s (sym (others j ne) ∙ h) in let (m, is') = row_old rows q k u x low is in (m, x, is', named_x, at_x))
+          | inr ne ↦ still_in rows q u soft j low (ready.only j s (sym (others j ne) ∙ h))
         ];
+        over = λ j s h some. elim (cases_eq j id) [
+          | inl same ↦ (let eq : s ≡ new = some_same s new (w.stays id) (sym (ap w.stays same) ∙ h) mine in let a = ap (λ (x : Stay). x.lost) eq in absurd (omega (arith, a, some)))
+          | inr ne ↦ (let c = ap (λ (x : FiringView). x.ceiling) l in let o = ready.over j s (sym (others j ne) ∙ h) some in omega (arith, o, c))
+        ];
+        marked_here = λ j h. still_in rows q u soft j low (ready.marked_here j h);
         removed = removed_in;
       }
 
@@ -107,7 +113,9 @@ module _ (soft : Level) (size : ℕ) (marked : Option ℕ) (v : FiringView) (row
       | inl eq ↦ absurd (off (ap (λ (y : Row). y.timer.level) (sym eq) ∙ at_x))
       | inr (j, old) ↦ ready.here j x old at_x
     ];
-    only = λ j s h. (let (k, x, is, named_x, at_x) = ready.only j s h in let (m, is') = row_old rows q k u x low is in (m, x, is', named_x, at_x));
+    only = λ j s h. still_in rows q u soft j low (ready.only j s h);
+    over = ready.over;
+    marked_here = λ j h. still_in rows q u soft j low (ready.marked_here j h);
     removed = removed_in;
   }
 
@@ -169,6 +177,10 @@ hard_entered step view size most removal lock low lock' low' rows q id index own
       };
       lock_marked = λ i m. h.lock_marked i (sym k ∙ m);
       low_marked = λ i m. h.low_marked i (sym w ∙ m);
+      is_open = λ i m. elim (h.is_open i m) [
+        | inl marked ↦ inl (k ∙ marked)
+        | inr marked ↦ inr (w ∙ marked)
+      ];
     }
 
 -- a greater power is of a greater number
@@ -186,6 +198,8 @@ end_expanded soft size marked v w rows bank ready l sound = record {
   marked_is = ap (λ (x : FiringView). x.marked) l ∙ ready.marked_is;
   here = λ k r is at. (let (s, stay, rest) = ready.here k r is at in (s, ap (λ (x : FiringView). x.stays r.timer.id) l ∙ stay, rest));
   only = λ id s h. ready.only id s (sym (ap (λ (x : FiringView). x.stays id) l) ∙ h);
+  over = λ id s h some. (let c = ap (λ (x : FiringView). x.ceiling) l in let o = ready.over id s (sym (ap (λ (x : FiringView). x.stays id) l) ∙ h) some in omega (arith, o, c));
+  marked_here = ready.marked_here;
   removed = ready.removed;
 }
 
@@ -203,4 +217,8 @@ hard_expanded view size size' most removal lock low lock' low' rows bank h is k 
       };
       lock_marked = λ id q. h.lock_marked id (sym mk ∙ q);
       low_marked = λ id q. h.low_marked id (sym mw ∙ q);
+      is_open = λ id q. elim (h.is_open id q) [
+        | inl marked ↦ inl (mk ∙ marked)
+        | inr marked ↦ inr (mw ∙ marked)
+      ];
     })

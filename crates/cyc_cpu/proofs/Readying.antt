@@ -6,7 +6,7 @@ use Rattle.std.proofs.lemmas.Bool.Decides.{nat_tests}
 use Rattle.std.proofs.lemmas.List.{length-set, get_or-set_same, get_or-set_other, get_or_default}
 use Rattle.std.proofs.lemmas.List.Elements.{All-set}
 use Rattle.cyc_types.specs.Series.{never}
-use Rattle.cyc_types.specs.Firing.{FiringView, FiringCall, Raises, Loads, Looks, Learns, Sound, Stay, MayRaise, edited, edit_stay}
+use Rattle.cyc_types.specs.Firing.{FiringView, FiringCall, Raises, Loads, Looks, Learns, Sound, Stay, MayRaise, edited, edit_stay, seen_in}
 use Rattle.cyc_types.specs.Runs.{Goes}
 use Rattle.cyc_types.specs.declared.firing.Raised.{Raised}
 use Rattle.cyc_types.specs.declared.firing.Raised.TheVariants.{First, More, Lost}
@@ -14,7 +14,7 @@ use Rattle.cyc_types.specs.declared.level.Level.{Level}
 use Rattle.cyc_types.specs.declared.level.Level.TheVariants as level
 use Rattle.cyc_timers.specs.Rows.{Row, IsRow, IsRising}
 use Rattle.cyc_cpu.specs.Acts.{loss_in}
-use Rattle.cyc_cpu.specs.Ends.{HasStay, IsEnd, IsCounted, IsHard}
+use Rattle.cyc_cpu.specs.Ends.{HasStay, HasRow, IsEnd, IsCounted, IsHard}
 use Rattle.cyc_cpu.specs.Quiet.{asks_at, KeepsStays}
 
 -- a row after one of its expirations, of which this many were lost
@@ -38,6 +38,15 @@ row_kept rows i k u x ne is = ((let l = length-set rows i u in let a = is.0 in o
 pub row_new : (rows : List Row) (i : ℕ) (u : Row) → i < length rows → IsRow (set rows i u) i u
 row_new rows i u low = ((let l = length-set rows i u in omega (arith, l, low)), get_or-set_same rows i u u low)
 
+-- a row of a level stays one where another row changes, or its own but for id and level
+pub still_here : (rows : List Row) (i : ℕ) (r u : Row) (level : Level) (id : ℕ) → IsRow rows i r → u.timer.id ≡ r.timer.id → u.timer.level ≡ r.timer.level → HasRow level id rows → HasRow level id (set rows i u)
+still_here rows i r u level id is same same_level (k, x, is_x, named, at) = elim (cases_eq k i) [
+  | inl eq ↦
+      (let x_is : x ≡ r = sym is_x.1 ∙ ap (λ m. get_or rows m x) eq ∙ get_or_default rows i x r is.0 ∙ is.1 in
+      (i, u, row_new rows i u is.0, same ∙ ap (λ (y : Row). y.timer.id) (sym x_is) ∙ named, same_level ∙ ap (λ (y : Row). y.timer.level) (sym x_is) ∙ at))
+  | inr ne ↦ (k, x, row_kept rows i k u x ne is_x, named, at)
+]
+
 -- different rows have different ids
 pub ids_apart : (rows : List Row) (i k : ℕ) (r x : Row) → IsRising rows → IsRow rows i r → IsRow rows k x → k ≢ i → x.timer.id ≢ r.timer.id
 ids_apart rows i k r x rising is_r is_x ne same =
@@ -56,11 +65,16 @@ pub record Edits (v w : FiringView) (id n : ℕ) : Type 0 where
   pub index : (s : Stay) → (f s).index ≡ s.index
   pub sent : (s : Stay) → (f s).sent ≡ s.sent + 1
   pub lost : (s : Stay) → (f s).lost ≡ s.lost + n
+  -- it is lost only where as many calls as the ceiling were seen
+  pub over : (s : Stay) → v.stays id ≡ Some s → 0 < n → s.seen ≡ v.ceiling
 
 pub edits : (v w : FiringView) (id : ℕ) (a : Raised) → Learns v (Raises id a) w → Edits v w id (loss_in (Raises id a))
-edits v w id First l = record { f = λ s. record s { sent = s.sent + 1; seen = 0 + 1 }; is = l; index = λ s. refl; sent = λ s. refl; lost = λ s. omega arith }
-edits v w id More l = record { f = λ s. record s { sent = s.sent + 1; seen = l.0 + 1 }; is = l.4; index = λ s. refl; sent = λ s. refl; lost = λ s. omega arith }
-edits v w id Lost l = record { f = λ s. record s { sent = s.sent + 1; lost = s.lost + 1; seen = v.ceiling }; is = l.1; index = λ s. refl; sent = λ s. refl; lost = λ s. refl }
+edits v w id First l = record { f = λ s. record s { sent = s.sent + 1; seen = 0 + 1 }; is = l; index = λ s. refl; sent = λ s. refl; lost = λ s. omega arith; over = λ s h some. absurd (omega (arith, some)) }
+edits v w id More l = record { f = λ s. record s { sent = s.sent + 1; seen = l.0 + 1 }; is = l.4; index = λ s. refl; sent = λ s. refl; lost = λ s. omega arith; over = λ s h some. absurd (omega (arith, some)) }
+edits v w id Lost l = record { f = λ s. record s { sent = s.sent + 1; lost = s.lost + 1; seen = v.ceiling }; is = l.1; index = λ s. refl; sent = λ s. refl; lost = λ s. refl; over = λ s h some. sym (ap seen_in h) ∙ l.0 }
+
+pub some_same : (a b : Stay) (o : Option Stay) → o ≡ Some a → o ≡ Some b → a ≡ b
+some_same a b o h k = cc
 
 stay_here : (f : Stay → Stay) (b : Bool) (o : Option Stay) (s : Stay) → b ≡ true → o ≡ Some s → cond b (edited f o) o ≡ Some (f s)
 stay_here f true o s on is = ap (edited f) is
@@ -96,6 +110,22 @@ module _ (soft : Level) (size : ℕ) (marked : Option ℕ) (v : FiringView) (row
     | inr (ne, old) ↦ ready.removed k x old h
   ]
 
+  over_still : (w : FiringView) (e : Edits v w r.timer.id n) → Sound w → (id : ℕ) (s : Stay) → w.stays id ≡ Some s → 0 < s.lost → w.ceiling < s.sent
+  over_still w e sound id s h some =
+      let c = ap (λ (x : FiringView). x.ceiling) e.is in
+      elim (cases_eq id r.timer.id) [
+        | inl same ↦
+            (let (t, was) = was_stay v w r.timer.id n e r.timer.id s (sym (ap w.stays same) ∙ h) in
+            let eq : e.f t ≡ s = some_same (e.f t) s (w.stays r.timer.id) (same_stay v w r.timer.id n e t was) (sym (ap w.stays same) ∙ h) in
+            let a = ap (λ (x : Stay). x.lost) eq in let b = ap (λ (x : Stay). x.sent) eq in
+            let d = e.sent t in let f = e.lost t in
+            elim (cases_lt 0 n) [
+              | inl more ↦ (let g = e.over t was more in let o = ready.sound.owed r.timer.id t was in omega (arith, a, b, c, d, f, g, o))
+              | inr none ↦ (let o = ready.over r.timer.id t was (omega (arith, some, a, f, none)) in omega (arith, b, c, d, o))
+            ])
+        | inr ne ↦ (let o = ready.over id s (sym (other_stay v w r.timer.id n e id ne) ∙ h) some in omega (arith, o, c))
+      ]
+
   -- the end at which the cyclic was raised
   pub end_raised : (w : FiringView) (e : Edits v w r.timer.id n) → r.timer.level ≡ soft → Sound w → IsEnd soft size marked w (set rows i u)
   end_raised w e at sound = record {
@@ -114,15 +144,9 @@ module _ (soft : Level) (size : ℕ) (marked : Option ℕ) (v : FiringView) (row
           (let (s, stay, rest) = ready.here k x old at_x in
           (s, other_stay v w r.timer.id n e x.timer.id (ids_apart rows i k r x rising is old ne) ∙ stay, rest))
     ];
-    only = λ id s h.
-        let (t, was) = was_stay v w r.timer.id n e id s h in
-        let (k, x, is_x, named, at_x) = ready.only id t was in
-        elim (cases_eq k i) [
-          | inl same ↦
-              (let x_is : x ≡ r = sym is_x.1 ∙ ap (λ m. get_or rows m x) same ∙ get_or_default rows i x r is.0 ∙ is.1 in
-              (i, u, row_new rows i u is.0, adv.id ∙ ap (λ (y : Row). y.timer.id) (sym x_is) ∙ named, adv.level ∙ at))
-          | inr ne ↦ (k, x, row_kept rows i k u x ne is_x, named, at_x)
-        ];
+    only = λ id s h. (let (t, was) = was_stay v w r.timer.id n e id s h in still_here rows i r u soft id is adv.id adv.level (ready.only id t was));
+    over = over_still w e sound;
+    marked_here = λ id h. still_here rows i r u soft id is adv.id adv.level (ready.marked_here id h);
     removed = removed_still;
   }
 
@@ -137,14 +161,9 @@ module _ (soft : Level) (size : ℕ) (marked : Option ℕ) (v : FiringView) (row
       | inl (same, eq) ↦ absurd (off (sym adv.level ∙ ap (λ (y : Row). y.timer.level) (sym eq) ∙ at_x))
       | inr (ne, old) ↦ ready.here k x old at_x
     ];
-    only = λ id s h.
-        let (k, x, is_x, named, at_x) = ready.only id s h in
-        elim (cases_eq k i) [
-          | inl same ↦
-              (let x_is : x ≡ r = sym is_x.1 ∙ ap (λ m. get_or rows m x) same ∙ get_or_default rows i x r is.0 ∙ is.1 in
-              absurd (off (ap (λ (y : Row). y.timer.level) (sym x_is) ∙ at_x)))
-          | inr ne ↦ (k, x, row_kept rows i k u x ne is_x, named, at_x)
-        ];
+    only = λ id s h. still_here rows i r u soft id is adv.id adv.level (ready.only id s h);
+    over = ready.over;
+    marked_here = λ id h. still_here rows i r u soft id is adv.id adv.level (ready.marked_here id h);
     removed = removed_still;
   }
 
@@ -182,14 +201,9 @@ end_moved soft size marked v rows i r u ready is keep unmarked = record {
         subst (HasStay v) (sym eq) (s, ap v.stays keep.id ∙ stay, (index ∙ sym a, omega (arith, sent, b), omega (arith, lost, c))))
     | inr (ne, old) ↦ ready.here k x old at_x
   ];
-  only = λ id s h.
-      let (k, x, is_x, named, at_x) = ready.only id s h in
-      elim (cases_eq k i) [
-        | inl same ↦
-            (let x_is : x ≡ r = sym is_x.1 ∙ ap (λ m. get_or rows m x) same ∙ get_or_default rows i x r is.0 ∙ is.1 in
-            (i, u, row_new rows i u is.0, keep.id ∙ ap (λ (y : Row). y.timer.id) (sym x_is) ∙ named, keep.level ∙ ap (λ (y : Row). y.timer.level) (sym x_is) ∙ at_x))
-        | inr ne ↦ (k, x, row_kept rows i k u x ne is_x, named, at_x)
-      ];
+  only = λ id s h. still_here rows i r u soft id is keep.id keep.level (ready.only id s h);
+  over = ready.over;
+  marked_here = λ id h. still_here rows i r u soft id is keep.id keep.level (ready.marked_here id h);
   removed = λ k x is_x h. elim (row_cases rows i k u x is.0 is_x) [
     | inl (same, eq) ↦ absurd (unmarked (h ∙ ap (λ (y : Row). Some y.timer.id) eq ∙ ap Some keep.id))
     | inr (ne, old) ↦ ready.removed k x old h
@@ -212,6 +226,13 @@ end_kept soft size marked v w rows ready keep sound = record {
       let (t, there, i1, i2, i3) = keep.to r.timer.id s stay in
       (t, there, (i1 ∙ index, omega (arith, sent, i2), omega (arith, lost, i3))));
   only = λ id t h. (let (s, was) = keep.from id t h in ready.only id s was);
+  over = λ id t h some. (let (s, was) = keep.from id t h in
+      let (t', there, i1, i2, i3) = keep.to id s was in
+      let same : t ≡ t' = some_same t t' (w.stays id) h there in
+      let a = ap (λ (x : Stay). x.lost) same in let b = ap (λ (x : Stay). x.sent) same in let c = keep.ceiling in
+      let more = ready.over id s was (omega (arith, some, a, i3)) in
+      omega (arith, more, b, i2, c));
+  marked_here = ready.marked_here;
   removed = ready.removed;
 }
 
@@ -226,6 +247,7 @@ loads_keep v w id n l = record {
   from = λ j t h. stay_was (λ s. record s { seen = n }) (eqb j id) (v.stays j) t (sym (ap (λ (x : FiringView). x.stays j) l.1) ∙ h);
   marked = ap (λ (x : FiringView). x.marked) l.1;
   bank = ap (λ (x : FiringView). x.bank) l.1;
+  ceiling = ap (λ (x : FiringView). x.ceiling) l.1;
   free = ap (λ (x : FiringView). x.hand_free) l.1;
 }
 
@@ -236,6 +258,7 @@ looks_keep v w answer l = record {
   from = λ j t h. (t, sym (ap (λ (x : FiringView). x.stays j) l.1) ∙ h);
   marked = ap (λ (x : FiringView). x.marked) l.1;
   bank = ap (λ (x : FiringView). x.bank) l.1;
+  ceiling = ap (λ (x : FiringView). x.ceiling) l.1;
   free = ap (λ (x : FiringView). x.hand_free) l.1;
 }
 
@@ -250,6 +273,7 @@ hard_moved view size most removal lock low rows i r u h is keep still = record {
   };
   lock_marked = h.lock_marked;
   low_marked = h.low_marked;
+  is_open = h.is_open;
 }
 
 -- the CPU after calls of the ends that leave their stays
@@ -263,10 +287,14 @@ hard_kept view size most removal lock low lock' low' rows h k sk w sw = record {
   };
   lock_marked = λ id q. h.lock_marked id (sym k.marked ∙ q);
   low_marked = λ id q. h.low_marked id (sym w.marked ∙ q);
+  is_open = λ id q. elim (h.is_open id q) [
+    | inl m ↦ inl (k.marked ∙ m)
+    | inr m ↦ inr (w.marked ∙ m)
+  ];
 }
 
 pub keeps_itself : (v : FiringView) → KeepsStays v v
-keeps_itself v = record { to = λ id s h. (s, h, refl, refl, refl); from = λ id t h. (t, h); marked = refl; bank = refl; free = refl }
+keeps_itself v = record { to = λ id s h. (s, h, refl, refl, refl); from = λ id t h. (t, h); marked = refl; bank = refl; ceiling = refl; free = refl }
 
 asked_keep : {R : Type 0} (step : R → FiringCall → R → Type 0) (view : R → FiringView) (b : Bool) (id n : ℕ) (e f : R) → Goes step view e (cond b (Loads id n ∷ []) []) f → KeepsStays (view e) (view f)
 asked_keep step view true id n e f (m, (stepped, learns), last) = subst (λ x. KeepsStays (view e) (view x)) last (loads_keep (view e) (view m) id n learns)

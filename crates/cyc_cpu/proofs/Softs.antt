@@ -23,6 +23,7 @@ keeps_on u v w a b = record {
   from = λ id x h. (let (t, there) = b.from id x h in a.from id t there);
   marked = b.marked ∙ a.marked;
   bank = b.bank ∙ a.bank;
+  ceiling = b.ceiling ∙ a.ceiling;
   free = b.free ∙ a.free;
 }
 
@@ -44,6 +45,7 @@ finish_keeps l (Some id) = record {
   from = λ j t h. finish_from (eqb j id) (l.cyclics j) t h;
   marked = refl;
   bank = refl;
+  ceiling = refl;
   free = refl;
 }
 
@@ -52,7 +54,7 @@ taken l m (enabled, is) = subst (λ (x : Level). KeepsStays (firing_view l) (fir
 
 followed : (l m : Level) → Happens l Follow m → KeepsStays (firing_view l) (firing_view m)
 followed l m (enabled, is) = subst (λ (x : Level). KeepsStays (firing_view l) (firing_view x)) (sym is)
-    (record { to = λ id s h. (s, h, refl, refl, refl); from = λ id t h. (t, h); marked = refl; bank = refl; free = refl })
+    (record { to = λ id s h. (s, h, refl, refl, refl); from = λ id t h. (t, h); marked = refl; bank = refl; ceiling = refl; free = refl })
 
 finished : (l m : Level) → Happens l Finish m → KeepsStays (firing_view l) (firing_view m)
 finished l m (enabled, is) = subst (λ (x : Level). KeepsStays (firing_view l) (firing_view x)) (sym is) (finish_keeps l l.drainer_hand)

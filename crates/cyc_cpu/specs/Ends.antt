@@ -1,5 +1,5 @@
 -- How the cyclics of a CPU stand at the ends of its two soft levels.
-use Rattle.std.specs.Prelude.{◌≡◌, ℕ, ◌≤◌, ◌^◌, List, true, All, Option, Some}
+use Rattle.std.specs.Prelude.{◌≡◌, ℕ, ◌<◌, ◌≤◌, ◌^◌, ◌⊎◌, List, true, All, Option, Some}
 use Rattle.cyc_types.specs.Series.{never}
 use Rattle.cyc_types.specs.Firing.{FiringView, Stay, Sound, IsAdmitted}
 use Rattle.cyc_types.specs.declared.level.Level.{Level}
@@ -10,6 +10,10 @@ use Rattle.cyc_timers.specs.Rows.{Row, IsRow}
 abbrev pub HasStay : FiringView → Row → Type 0
 HasStay v r = IsAdmitted r.timer.id v (λ s. (s.index ≡ r.index) × (s.sent ≤ r.timer.expired) × (s.lost ≤ r.lost))
 
+-- a cyclic of this level has the id
+abbrev pub HasRow : Level → ℕ → List Row → Type 0
+HasRow level id rows = (k : ℕ) × (r : Row) × IsRow rows k r × (r.timer.id ≡ id) × (r.timer.level ≡ level)
+
 -- the cyclics of this level are exactly those admitted at the end, each at its index
 pub record IsEnd (soft : Level) (size : ℕ) (marked : Option ℕ) (v : FiringView) (rows : List Row) : Type 0 where
   pub sound : Sound v
@@ -17,7 +21,11 @@ pub record IsEnd (soft : Level) (size : ℕ) (marked : Option ℕ) (v : FiringVi
   pub size_is : size ≡ 2 ^ v.bank
   pub marked_is : v.marked ≡ marked
   pub here : (k : ℕ) (r : Row) → IsRow rows k r → r.timer.level ≡ soft → HasStay v r
-  pub only : (id : ℕ) (s : Stay) → v.stays id ≡ Some s → (k : ℕ) × (r : Row) × IsRow rows k r × (r.timer.id ≡ id) × (r.timer.level ≡ soft)
+  pub only : (id : ℕ) (s : Stay) → v.stays id ≡ Some s → HasRow soft id rows
+  -- an expiration is lost only where as many calls as the ceiling were outstanding
+  pub over : (id : ℕ) (s : Stay) → v.stays id ≡ Some s → 0 < s.lost → v.ceiling < s.sent
+  -- an open removal is of a cyclic of this level
+  pub marked_here : (id : ℕ) → marked ≡ Some id → HasRow soft id rows
   -- a cyclic whose removal is open never comes to an expiration
   pub removed : (k : ℕ) (r : Row) → IsRow rows k r → marked ≡ Some r.timer.id → r.timer.moment ≡ never
 
@@ -36,3 +44,4 @@ pub record IsHard {R : Type 0} (view : R → FiringView) (size most : ℕ) (remo
   pub ready : IsReady view size most (view lock).marked (view low).marked lock low rows
   pub lock_marked : (id : ℕ) → (view lock).marked ≡ Some id → removal ≡ Some id
   pub low_marked : (id : ℕ) → (view low).marked ≡ Some id → removal ≡ Some id
+  pub is_open : (id : ℕ) → removal ≡ Some id → ((view lock).marked ≡ Some id) ⊎ ((view low).marked ≡ Some id)

@@ -27,4 +27,5 @@ pub record KeepsStays (v w : FiringView) : Type 0 where
   pub from : (id : ℕ) (t : Stay) → w.stays id ≡ Some t → (s : Stay) × (v.stays id ≡ Some s)
   pub marked : w.marked ≡ v.marked
   pub bank : w.bank ≡ v.bank
+  pub ceiling : w.ceiling ≡ v.ceiling
   pub free : w.hand_free ≡ v.hand_free
