@@ -1,13 +1,14 @@
 -- From rows to the cyclics that callers see.
 use Rattle.std.specs.Prelude.{insert}
-use Rattle.std.proofs.Common.{◌≡◌, ◌<◌, ◌≤◌, All, Option, get_or, ◌++◌, ◌∷◌, ℕ, List, take, drop, arith, length, ap, sym, subst, ◌∙◌}
+use Rattle.std.proofs.Common.{◌≡◌, inl, inr, Some, ◌<◌, ◌≤◌, All, Option, get_or, ◌++◌, ◌∷◌, ℕ, List, take, drop, arith, length, ap, sym, subst, ◌∙◌}
 use Rattle.std.proofs.Math.ListN.{set}
 use Rattle.std.proofs.lemmas.List.{length-map, get_or_default, get_or-map, map-set, map-append, take-map, drop-map}
 use Rattle.cyc_timers.specs.Rows.{Row, Cyclic, IsRow, IsRising, HasNo, cyclic_of, cyclics_of}
-use Rattle.cyc_cpu.specs.Ends.{IsEnd, IsCounted}
+use Rattle.cyc_cpu.specs.Ends.{IsEnd, IsCounted, IsHard}
 use Rattle.cyc_types.specs.Firing.{FiringView, FiringCall}
 use Rattle.cyc_types.specs.declared.level.Level.{Level}
-use Rattle.cyc_cpu.specs.Cpu.{CpuView, IsCyclic, HasNoCyclic, Asks, Looked, AreAdmitted, HasRisingIds}
+use Rattle.cyc_types.specs.declared.level.Level.TheVariants.{Low, Lock, High}
+use Rattle.cyc_cpu.specs.Cpu.{CpuView, IsCyclic, HasNoCyclic, Asks, Looked, AreAdmitted, IsRemoved, HasRisingIds}
 
 pub is_cyclic : (rows : List Row) (k : ℕ) (r : Row) → IsRow rows k r → IsCyclic (cyclics_of rows) k (cyclic_of r)
 is_cyclic rows k r is = ((let l = length-map rows cyclic_of in let a = is.0 in omega (arith, l, a)), get_or-map cyclic_of rows k r (cyclic_of r) is.0 ∙ ap cyclic_of is.1)
@@ -51,6 +52,7 @@ admitted_cyclics soft size marked v rows ready = record {
       let a = ap (λ (x : Cyclic). x.timer.expired) same in let b = ap (λ (x : Cyclic). x.lost) same in
       (s, ap v.stays (ap (λ (x : Cyclic). x.timer.id) (sym same)) ∙ stay, (omega (arith, sent, a), omega (arith, lost, b)));
   only = λ id s h. (let (k, r, row, named, at) = ready.only id s h in (k, cyclic_of r, is_cyclic rows k r row, named, at));
+  over = ready.over;
 }
 
 pub rising_cyclics : (rows : List Row) → IsRising rows → HasRisingIds (cyclics_of rows)
@@ -69,3 +71,12 @@ counted_cyclics most rows counted k d low =
     let l = length-map rows cyclic_of in
     let low' : k < length rows = omega (arith, l, low) in
     subst (λ (c : Cyclic). (c.lost ≤ c.timer.expired) × (c.timer.expired ≤ most)) (sym (get_or-map cyclic_of rows k e d low')) (counted k e low')
+
+-- the cyclic whose removal is open
+pub removed_cyclic : {R : Type 0} (view : R → FiringView) (size most : ℕ) (removal : Option ℕ) (lock low : R) (rows : List Row) (id : ℕ) → IsHard view size most removal lock low rows → removal ≡ Some id → IsRemoved id (cyclics_of rows)
+removed_cyclic view size most removal lock low rows id h is = elim (h.is_open id is) [
+  | inl m ↦ (let (k, r, row, named, at) = h.ready.lock_end.marked_here id m in
+      (k, cyclic_of r, is_cyclic rows k r row, named, (λ q. absurd (let no : Lock ≡ High = sym at ∙ q in cc)), h.ready.lock_end.removed k r row (m ∙ ap Some (sym named))))
+  | inr m ↦ (let (k, r, row, named, at) = h.ready.low_end.marked_here id m in
+      (k, cyclic_of r, is_cyclic rows k r row, named, (λ q. absurd (let no : Low ≡ High = sym at ∙ q in cc)), h.ready.low_end.removed k r row (m ∙ ap Some (sym named))))
+]

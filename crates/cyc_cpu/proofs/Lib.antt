@@ -7,3 +7,4 @@ pub mod Cyclics
 pub mod Entering
 pub mod Sharing
 pub mod Softs
+pub mod Leaving

@@ -1,6 +1,7 @@
 -- What callers see of the firing side of one CPU.
 use Rattle.std.specs.Prelude.{◌≡◌, ◌≢◌, ℕ, zero, suc, ◌+◌, ◌^◌, nat_le, cond, insert, ◌<◌, ◌≤◌, List, map, length, slice_index_or, All, true, false, ◌⊎◌, Option, Some, None}
 use Rattle.cyc_types.specs.Firing.{FiringView, FiringCall, Expands, Stay, IsAdmitted}
+use Rattle.cyc_types.specs.Series.{never}
 use Rattle.cyc_types.specs.Limits.{cyclics as most_cyclics, greatest_bank}
 use Rattle.cyc_types.specs.Runs.{Goes, Taught}
 use Rattle.cyc_types.specs.declared.level.Level.{Level}
@@ -54,6 +55,12 @@ HasNoCyclic id cs = All (λ c. c.timer.id ≢ id) cs
 pub record AreAdmitted (soft : Level) (v : FiringView) (cs : List Cyclic) : Type 0 where
   pub here : (k : ℕ) (c : Cyclic) → IsCyclic cs k c → c.timer.level ≡ soft → IsAdmitted c.timer.id v (λ s. (s.sent ≤ c.timer.expired) × (s.lost ≤ c.lost))
   pub only : (id : ℕ) (s : Stay) → v.stays id ≡ Some s → (k : ℕ) × (c : Cyclic) × IsCyclic cs k c × (c.timer.id ≡ id) × (c.timer.level ≡ soft)
+  -- a stay lost an expiration only after as many as the ceiling
+  pub over : (id : ℕ) (s : Stay) → v.stays id ≡ Some s → 0 < s.lost → v.ceiling < s.sent
+
+-- an open removal is of one cyclic of a soft level, which never expires
+abbrev pub IsRemoved : ℕ → List Cyclic → Type 0
+IsRemoved id cs = (k : ℕ) × (c : Cyclic) × IsCyclic cs k c × (c.timer.id ≡ id) × (c.timer.level ≢ High) × (c.timer.moment ≡ never)
 
 -- the ids of the cyclics rise
 abbrev pub HasRisingIds : List Cyclic → Type 0

@@ -4,3 +4,4 @@ pub mod Quiet
 pub mod Cpu
 pub mod Shares
 pub mod Soft
+pub mod Removal

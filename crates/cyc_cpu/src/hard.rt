@@ -7,7 +7,7 @@ ghost use Rattle.cyc_types.specs.declared.refusal.Refusal.TheVariants.{Memory, B
 ghost use Rattle.cyc_expirations.specs.Timers.{earliest};
 ghost use Rattle.cyc_expirations.specs.Expirations.{Expiration, expirations};
 ghost use Rattle.cyc_timers.specs.Rows.{Cyclic, timers};
-ghost use Rattle.cyc_cpu.specs.Cpu.{CpuView, Makes, WhyStopped, SameCpu, IsFresh, IsCyclic, HasNoCyclic, with_moment, Asks, HasRoom, WhyNoRoom, Looked, MayWiden, Reserves, Widens, Enters, size_for, AreAdmitted, HasRisingIds};
+ghost use Rattle.cyc_cpu.specs.Cpu.{CpuView, Makes, WhyStopped, SameCpu, IsFresh, IsCyclic, HasNoCyclic, with_moment, Asks, HasRoom, WhyNoRoom, Looked, MayWiden, Reserves, Widens, Enters, size_for, AreAdmitted, IsRemoved, HasRisingIds};
 
 use crate::ends::{admit_at, both_followed, least_bank, load_pend, places_of};
 use crate::fire::{FireRefused, Fired, fire_all};
@@ -30,9 +30,9 @@ pub struct Totals {
 /// The firing side of one CPU (`cyc_cpu_t` of sys/cyclic_impl.h): its cyclics and the firing ends of its two soft levels.
 #[derive(Drop)]
 pub struct Hard<R: Raise> {
-    table: Table,
-    removal: Option<CyclicId>,
-    most: u64,
+    pub(crate) table: Table,
+    pub(crate) removal: Option<CyclicId>,
+    pub(crate) most: u64,
     pub(crate) lock: R,
     pub(crate) low: R,
 }
@@ -92,6 +92,9 @@ impl<R: Raise> Hard<R> {
         ensures counted { All (λ c. (c.lost ≤ c.timer.expired) × (c.timer.expired ≤ self.now.most)) self.now.cyclics }
         ensures lock { AreAdmitted Lock (R.view self.now.lock) self.now.cyclics }
         ensures low { AreAdmitted Low (R.view self.now.low) self.now.cyclics }
+        ensures removed { (id : ℕ) → self.now.removal ≡ Some id → IsRemoved id self.now.cyclics }
+        ensures marked_lock { (id : ℕ) → (R.view self.now.lock).marked ≡ Some id → self.now.removal ≡ Some id }
+        ensures marked_low { (id : ℕ) → (R.view self.now.low).marked ≡ Some id → self.now.removal ≡ Some id }
         ensures few { length self.now.cyclics ≤ self.now.size }
         ensures size { self.now.size ≤ cyclics }
         ensures room { self.now.size ≤ self.now.room }

@@ -4,12 +4,15 @@
 //! promises of a fire is `cyc_expirations`' definition; how the ends do their part is in the traits' laws alone.
 #![tactic(auto)]
 
+mod ending;
 mod ends;
 mod fire;
 mod hard;
 mod law;
+mod removing;
 mod soft;
 
 pub use fire::{FireRefused, Fired};
 pub use hard::{Hard, Totals};
 pub use law::share_law;
+pub use removing::Removal;

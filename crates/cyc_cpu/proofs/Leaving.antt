@@ -1,0 +1,413 @@
+-- A cyclic that leaves its CPU, and a removal that stays open.
+use Rattle.std.proofs.Common.{◌≡◌, ◌≢◌, ℕ, ◌+◌, ◌-◌, ◌<◌, ◌≤◌, ◌^◌, ◌⊎◌, inl, inr, Bool, true, false, cond, eqb, Option, Some, None, List, [], ◌∷◌, refl, sym, ap, ◌∙◌, subst, arith, length, get_or, eq-eqb, suc, take, drop, ◌++◌}
+use Rattle.std.specs.Prelude.{remove}
+use Rattle.std.proofs.Math.ListN.{set}
+use Rattle.std.proofs.lemmas.Bool.{cases_lt, cases_eq}
+use Rattle.std.proofs.lemmas.Bool.Decides.{nat_tests}
+use Rattle.std.proofs.lemmas.List.{get_or_default, map-append, take-map, drop-map}
+use Rattle.std.proofs.lemmas.List.Edits.{length-remove, get_or-remove_below, get_or-remove_above}
+use Rattle.cyc_types.specs.Series.{never}
+use Rattle.cyc_types.specs.Firing.{FiringView, FiringCall, Loads, Marks, Polls, Learns, Sound, Stay, MayMark, MayPoll, edited, saw}
+use Rattle.cyc_types.specs.Runs.{Goes}
+use Rattle.cyc_types.specs.declared.firing.Sent.{Sent}
+use Rattle.cyc_types.specs.declared.level.Level.{Level}
+use Rattle.cyc_types.specs.declared.level.Level.TheVariants as level
+use Rattle.cyc_timers.specs.Rows.{Row, Cyclic, IsRow, IsRising, at_moment, cyclic_of, cyclics_of}
+use Rattle.cyc_cpu.specs.Acts.{same_level}
+use Rattle.cyc_cpu.specs.Ends.{HasRow, IsEnd, IsCounted, IsHard}
+use Rattle.cyc_cpu.specs.Quiet.{KeepsStays}
+use Rattle.cyc_cpu.specs.Cpu.{CpuView}
+use Rattle.cyc_cpu.specs.Removal.{calls_at, Opens, Leaves, Waits, Ends, IsReceipt}
+use Rattle.cyc_types.specs.declared.receipt.Receipt.{Receipt}
+use Rattle.cyc_cpu.proofs.Readying.{Keeps, row_cases, row_new, ids_apart, end_moved, counted_moved, end_kept, loads_keep, keeps_itself}
+
+-- a row after one was taken out
+pub row_less : (rows : List Row) (k j : ℕ) (x : Row) → k < length rows → IsRow (remove rows k) j x → (i : ℕ) × (i ≢ k) × IsRow rows i x
+row_less rows k j x low is =
+    let n = length-remove rows k low in let long = is.0 in
+    elim (cases_lt j k) [
+      | inl less ↦ (j, (λ q. absurd (omega (arith, q, less))), (omega (arith, less, low), sym (get_or-remove_below rows k x j less low) ∙ is.1))
+      | inr more ↦ (j + 1, (λ q. absurd (omega (arith, q, more))), (omega (arith, long, n), sym (get_or-remove_above rows k x j more low) ∙ is.1))
+    ]
+
+pub row_stays : (rows : List Row) (k i : ℕ) (x : Row) → k < length rows → i ≢ k → IsRow rows i x → (j : ℕ) × IsRow (remove rows k) j x
+row_stays rows k i x low ne is =
+    let n = length-remove rows k low in let long = is.0 in
+    elim (cases_lt i k) [
+      | inl less ↦ (i, (omega (arith, less, low, n), get_or-remove_below rows k x i less low ∙ is.1))
+      | inr more ↦ (let s : (i - 1) + 1 ≡ i = omega (arith, more, ne) in
+          (i - 1, (omega (arith, long, n, more, ne), get_or-remove_above rows k x (i - 1) (omega (arith, more, ne)) low ∙ ap (λ m. get_or rows m x) s ∙ is.1)))
+    ]
+
+same_row : (rows : List Row) (i k : ℕ) (r x : Row) → IsRow rows i r → IsRow rows k x → k ≡ i → x ≡ r
+same_row rows i k r x is_r is_x eq = sym is_x.1 ∙ ap (λ m. get_or rows m x) eq ∙ get_or_default rows i x r is_r.0 ∙ is_r.1
+
+-- one id, one row
+pub one_row : (rows : List Row) (i k : ℕ) (r x : Row) → IsRising rows → IsRow rows i r → IsRow rows k x → x.timer.id ≡ r.timer.id → x ≡ r
+one_row rows i k r x rising is_r is_x same = elim (cases_eq k i) [
+  | inl eq ↦ same_row rows i k r x is_r is_x eq
+  | inr ne ↦ absurd (ids_apart rows i k r x rising is_r is_x ne same)
+]
+
+-- an end that has seen or marked one cyclic has the others as they were
+pub record Sees (v w : FiringView) (id : ℕ) : Type 0 where
+  pub others : (j : ℕ) → j ≢ id → w.stays j ≡ v.stays j
+  pub bank : w.bank ≡ v.bank
+  pub ceiling : w.ceiling ≡ v.ceiling
+  pub free : w.hand_free ≡ v.hand_free
+
+-- an end that has cleared one cyclic has the others as they were
+pub record Clears (v w : FiringView) (id : ℕ) : Type 0 where
+  pub gone : w.stays id ≡ None
+  pub marked : w.marked ≡ None
+  pub rest : Sees v w id
+
+other_id : (j id : ℕ) → j ≢ id → eqb j id ≡ false
+other_id j id ne = grind (arith, nat_tests)
+
+pub sees_load : (v w : FiringView) (id n : ℕ) → Learns v (Loads id n) w → Sees v w id
+sees_load v w id n l = record {
+  others = λ j ne. ap (λ (x : FiringView). x.stays j) l.1 ∙ ap (λ b. cond b (edited (λ s. record s { seen = n }) (v.stays j)) (v.stays j)) (other_id j id ne);
+  bank = ap (λ (x : FiringView). x.bank) l.1;
+  ceiling = ap (λ (x : FiringView). x.ceiling) l.1;
+  free = ap (λ (x : FiringView). x.hand_free) l.1;
+}
+
+pub sees_mark : (v w : FiringView) (id n : ℕ) → Learns v (Marks id n) w → Sees v w id
+sees_mark v w id n l = record {
+  others = λ j ne. ap (λ (x : FiringView). x.stays j) l.1 ∙ (sees_load v (saw id n v) id n (l.0, refl)).others j ne;
+  bank = ap (λ (x : FiringView). x.bank) l.1;
+  ceiling = ap (λ (x : FiringView). x.ceiling) l.1;
+  free = ap (λ (x : FiringView). x.hand_free) l.1;
+}
+
+pub clears_poll : (v w : FiringView) (id : ℕ) (counts : Sent) → Learns v (Polls id (Some counts)) w → Clears v w id
+clears_poll v w id counts l =
+    let none : Option Stay = None in
+    record {
+      gone = ap (λ (x : FiringView). x.stays id) l.1 ∙ (let yes : eqb id id ≡ true = eq-eqb id id refl in ap (λ b. cond b none (v.stays id)) yes);
+      marked = ap (λ (x : FiringView). x.marked) l.1;
+      rest = record {
+        others = λ j ne. ap (λ (x : FiringView). x.stays j) l.1 ∙ ap (λ b. cond b none (v.stays j)) (other_id j id ne);
+        bank = ap (λ (x : FiringView). x.bank) l.1;
+        ceiling = ap (λ (x : FiringView). x.ceiling) l.1;
+        free = ap (λ (x : FiringView). x.hand_free) l.1;
+      };
+    }
+
+sees_on : (u v w : FiringView) (id : ℕ) → Sees u v id → Sees v w id → Sees u w id
+sees_on u v w id a b = record { others = λ j ne. b.others j ne ∙ a.others j ne; bank = b.bank ∙ a.bank; ceiling = b.ceiling ∙ a.ceiling; free = b.free ∙ a.free }
+
+pub clears_after : (u v w : FiringView) (id : ℕ) → Sees u v id → Clears v w id → Clears u w id
+clears_after u v w id a c = record { gone = c.gone; marked = c.marked; rest = sees_on u v w id a c.rest }
+
+module _ (soft : Level) (size : ℕ) (marked : Option ℕ) (v : FiringView) (rows : List Row) (k : ℕ) (r : Row) (ready : IsEnd soft size marked v rows) (is : IsRow rows k r) where
+  -- the end that has cleared it
+  pub end_left : (w : FiringView) → IsRising rows → Clears v w r.timer.id → Sound w → IsEnd soft size None w (remove rows k)
+  end_left w rising c sound = record {
+    sound = sound;
+    free = c.rest.free ∙ ready.free;
+    size_is = ready.size_is ∙ ap (λ n. 2 ^ n) (sym c.rest.bank);
+    marked_is = c.marked;
+    here = λ j x is_x at. (let (i, ne, old) = row_less rows k j x is.0 is_x in
+        let (s, stay, rest) = ready.here i x old at in
+        (s, c.rest.others x.timer.id (ids_apart rows k i r x rising is old ne) ∙ stay, rest));
+    only = λ id s h. elim (cases_eq id r.timer.id) [
+      | inl same ↦ absurd (let no : None ≡ Some s = sym c.gone ∙ ap w.stays (sym same) ∙ h in cc)
+      | inr ne ↦ (let (i, x, old, named, at) = ready.only id s (sym (c.rest.others id ne) ∙ h) in
+          let (j, is_x) = row_stays rows k i x is.0 (λ q. ne (sym named ∙ ap (λ (y : Row). y.timer.id) (same_row rows k i r x is old q))) old in
+          (j, x, is_x, named, at))
+    ];
+    over = λ id s h some. elim (cases_eq id r.timer.id) [
+      | inl same ↦ absurd (let no : None ≡ Some s = sym c.gone ∙ ap w.stays (sym same) ∙ h in cc)
+      | inr ne ↦ (let o = ready.over id s (sym (c.rest.others id ne) ∙ h) some in let e = c.rest.ceiling in omega (arith, o, e))
+    ];
+    marked_here = λ id h. absurd (let no : None ≡ Some id = h in cc);
+    removed = λ j x is_x h. absurd (let no : None ≡ Some x.timer.id = h in cc);
+  }
+
+  stays_off : r.timer.level ≢ soft → (id : ℕ) → HasRow soft id rows → HasRow soft id (remove rows k)
+  stays_off off id (i, x, old, named, at) =
+      let (j, is_x) = row_stays rows k i x is.0 (λ q. off (ap (λ (y : Row). y.timer.level) (sym (same_row rows k i r x is old q)) ∙ at)) old in
+      (j, x, is_x, named, at)
+
+  -- the end of another level
+  pub end_off : r.timer.level ≢ soft → IsEnd soft size marked v (remove rows k)
+  end_off off = record {
+    sound = ready.sound;
+    free = ready.free;
+    size_is = ready.size_is;
+    marked_is = ready.marked_is;
+    here = λ j x is_x at. (let (i, ne, old) = row_less rows k j x is.0 is_x in ready.here i x old at);
+    only = λ id s h. stays_off off id (ready.only id s h);
+    over = ready.over;
+    marked_here = λ id h. stays_off off id (ready.marked_here id h);
+    removed = λ j x is_x h. (let (i, ne, old) = row_less rows k j x is.0 is_x in ready.removed i x old h);
+  }
+
+pub level_cases : (a b : Level) → (a ≡ b) ⊎ (a ≢ b)
+level_cases level.Low level.Low = inl refl
+level_cases level.Low level.Lock = inr (λ q. let no : ⊥ = cc in no)
+level_cases level.Low level.High = inr (λ q. let no : ⊥ = cc in no)
+level_cases level.Lock level.Low = inr (λ q. let no : ⊥ = cc in no)
+level_cases level.Lock level.Lock = inl refl
+level_cases level.Lock level.High = inr (λ q. let no : ⊥ = cc in no)
+level_cases level.High level.Low = inr (λ q. let no : ⊥ = cc in no)
+level_cases level.High level.Lock = inr (λ q. let no : ⊥ = cc in no)
+level_cases level.High level.High = inl refl
+
+same_yes : (a b : Level) → b ≡ a → same_level a b ≡ true
+same_yes level.Low b e = ap (same_level level.Low) e
+same_yes level.Lock b e = ap (same_level level.Lock) e
+same_yes level.High b e = ap (same_level level.High) e
+
+same_no : (a b : Level) → b ≢ a → same_level a b ≡ false
+same_no level.Low level.Low ne = absurd (ne refl)
+same_no level.Low level.Lock ne = refl
+same_no level.Low level.High ne = refl
+same_no level.Lock level.Low ne = refl
+same_no level.Lock level.Lock ne = absurd (ne refl)
+same_no level.Lock level.High ne = refl
+same_no level.High level.Low ne = refl
+same_no level.High level.Lock ne = refl
+same_no level.High level.High ne = absurd (ne refl)
+
+module _ {R : Type 0} (step : R → FiringCall → R → Type 0) (view : R → FiringView) (soft own : Level) (e f : R) (way : List FiringCall) (goes : Goes step view e (calls_at soft own way) f) where
+  -- the end of the cyclic's level went the way
+  pub goes_here : own ≡ soft → Goes step view e way f
+  goes_here at = subst (λ w. Goes step view e w f) (ap (λ b. cond b way []) (same_yes soft own at)) goes
+
+  -- another end did nothing
+  pub goes_not : own ≢ soft → f ≡ e
+  goes_not off = let same : e ≡ f = subst (λ w. Goes step view e w f) (ap (λ b. cond b way []) (same_no soft own off)) goes in sym same
+
+-- an end after a cyclic has left: it was cleared at the end of its level, and the other is as it was, with no removal open
+pub record EndLeft {R : Type 0} (view : R → FiringView) (soft own : Level) (id : ℕ) (e f : R) : Type 0 where
+  pub cleared : own ≡ soft → Clears (view e) (view f) id
+  pub sound : own ≡ soft → Sound (view f)
+  pub same : own ≢ soft → f ≡ e
+  pub unmarked : own ≢ soft → (view e).marked ≡ None
+
+module _ {R : Type 0} (step : R → FiringCall → R → Type 0) (view : R → FiringView) (soft own : Level) (id : ℕ) (counts : Sent) where
+  -- a removal that is done at once
+  pub begun_left : (e f : R) → Goes step view e (calls_at soft own (Marks id 0 ∷ Polls id (Some counts) ∷ [])) f → Sound (view f) → (own ≢ soft → (view e).marked ≡ None) → EndLeft view soft own id e f
+  begun_left e f goes sound unmarked = record {
+    cleared = λ at. (let (m, (s1, l1), (n, (s2, l2), last)) = goes_here step view soft own e f _ goes at in
+        subst (λ x. Clears (view e) (view x) id) last (clears_after (view e) (view m) (view n) id (sees_mark (view e) (view m) id 0 l1) (clears_poll (view m) (view n) id counts l2)));
+    sound = λ at. sound;
+    same = goes_not step view soft own e f _ goes;
+    unmarked = unmarked;
+  }
+
+  -- an open removal that ends
+  pub polled_left : (e f : R) → Goes step view e (calls_at soft own (Polls id (Some counts) ∷ [])) f → Sound (view f) → (own ≢ soft → (view e).marked ≡ None) → EndLeft view soft own id e f
+  polled_left e f goes sound unmarked = record {
+    cleared = λ at. (let (n, (s2, l2), last) = goes_here step view soft own e f _ goes at in subst (λ x. Clears (view e) (view x) id) last (clears_poll (view e) (view n) id counts l2));
+    sound = λ at. sound;
+    same = goes_not step view soft own e f _ goes;
+    unmarked = unmarked;
+  }
+
+pub counted_left : (most : ℕ) (rows : List Row) (k : ℕ) → k < length rows → IsCounted most rows → IsCounted most (remove rows k)
+counted_left most rows k low counted j d long =
+    let x = get_or (remove rows k) j d in
+    let (i, ne, old) = row_less rows k j x low (long, get_or_default (remove rows k) j x d long) in
+    subst (λ (y : Row). (y.lost ≤ y.timer.expired) × (y.timer.expired ≤ most)) old.1 (counted i x old.0)
+
+module _ {R : Type 0} (view : R → FiringView) (size : ℕ) (rows : List Row) (k : ℕ) (r : Row) (rising : IsRising rows) (is : IsRow rows k r) where
+  end_after : (soft : Level) (e f : R) → IsEnd soft size (view e).marked (view e) rows → EndLeft view soft r.timer.level r.timer.id e f →
+      IsEnd soft size (view f).marked (view f) (remove rows k) × ((view f).marked ≡ None)
+  end_after soft e f ready h = elim (level_cases r.timer.level soft) [
+    | inl at ↦ (let c = h.cleared at in
+        (subst (λ m. IsEnd soft size m (view f) (remove rows k)) (sym c.marked) (end_left soft size (view e).marked (view e) rows k r ready is (view f) rising c (h.sound at)), c.marked))
+    | inr off ↦ (let eq = h.same off in
+        (subst (λ x. IsEnd soft size (view x).marked (view x) (remove rows k)) (sym eq) (end_off soft size (view e).marked (view e) rows k r ready is off), ap (λ x. (view x).marked) eq ∙ h.unmarked off))
+  ]
+
+  -- the CPU without a cyclic
+  pub hard_left : (most : ℕ) (removal : Option ℕ) (lock low lock' low' : R) → IsHard view size most removal lock low rows →
+      EndLeft view level.Lock r.timer.level r.timer.id lock lock' → EndLeft view level.Low r.timer.level r.timer.id low low' → IsHard view size most None lock' low' (remove rows k)
+  hard_left most removal lock low lock' low' h a b =
+      let (lock_end, no_lock) = end_after level.Lock lock lock' h.ready.lock_end a in
+      let (low_end, no_low) = end_after level.Low low low' h.ready.low_end b in
+      record {
+        ready = record { lock_end = lock_end; low_end = low_end; counted = counted_left most rows k is.0 h.ready.counted };
+        lock_marked = λ id q. absurd (let no : None ≡ Some id = sym no_lock ∙ q in cc);
+        low_marked = λ id q. absurd (let no : None ≡ Some id = sym no_low ∙ q in cc);
+        is_open = λ id q. absurd (let no : None ≡ Some id = q in cc);
+      }
+
+-- no end has a mark where no removal is open
+pub no_mark : (o removal : Option ℕ) → ((id : ℕ) → o ≡ Some id → removal ≡ Some id) → removal ≡ None → o ≡ None
+no_mark None removal h none = refl
+no_mark (Some id) removal h none = absurd (let yes : removal ≡ Some id = h id refl in cc)
+
+-- an open removal is marked at the end of its cyclic's level, and at no other
+module _ {R : Type 0} (view : R → FiringView) (size most : ℕ) (removal : Option ℕ) (lock low : R) (rows : List Row) (k : ℕ) (r : Row)
+    (h : IsHard view size most removal lock low rows) (rising : IsRising rows) (is : IsRow rows k r) (removed : removal ≡ Some r.timer.id) where
+  at_its_level : (level : Level) → HasRow level r.timer.id rows → r.timer.level ≡ level
+  at_its_level level (j, x, is_x, named, at) = ap (λ (y : Row). y.timer.level) (sym (one_row rows k j r x rising is is_x named)) ∙ at
+
+  marked_cases : ((r.timer.level ≡ level.Lock) × ((view lock).marked ≡ Some r.timer.id)) ⊎ ((r.timer.level ≡ level.Low) × ((view low).marked ≡ Some r.timer.id))
+  marked_cases = elim (h.is_open r.timer.id removed) [
+    | inl m ↦ inl (at_its_level level.Lock (h.ready.lock_end.marked_here r.timer.id m), m)
+    | inr m ↦ inr (at_its_level level.Low (h.ready.low_end.marked_here r.timer.id m), m)
+  ]
+
+  pub marked_lock : r.timer.level ≡ level.Lock → (view lock).marked ≡ Some r.timer.id
+  marked_lock at = elim marked_cases [
+    | inl (lock_is, m) ↦ m
+    | inr (low_is, m) ↦ absurd (let no : level.Low ≡ level.Lock = sym low_is ∙ at in cc)
+  ]
+
+  pub marked_low : r.timer.level ≡ level.Low → (view low).marked ≡ Some r.timer.id
+  marked_low at = elim marked_cases [
+    | inl (lock_is, m) ↦ absurd (let no : level.Lock ≡ level.Low = sym lock_is ∙ at in cc)
+    | inr (low_is, m) ↦ m
+  ]
+
+  pub marked_soft : r.timer.level ≢ level.High
+  marked_soft at = elim marked_cases [
+    | inl (lock_is, m) ↦ absurd (let no : level.Lock ≡ level.High = sym lock_is ∙ at in cc)
+    | inr (low_is, m) ↦ absurd (let no : level.Low ≡ level.High = sym low_is ∙ at in cc)
+  ]
+
+  none_at : (o : Option ℕ) (level : Level) → ((id : ℕ) → o ≡ Some id → removal ≡ Some id) → ((id : ℕ) → o ≡ Some id → HasRow level id rows) → r.timer.level ≢ level → o ≡ None
+  none_at None level to row off = refl
+  none_at (Some id) level to row off =
+      let same : id ≡ r.timer.id = (let a : removal ≡ Some id = to id refl in cc) in
+      absurd (off (at_its_level level (subst (λ q. HasRow level q rows) same (row id refl))))
+
+  pub unmarked_lock : r.timer.level ≢ level.Lock → (view lock).marked ≡ None
+  unmarked_lock off = none_at (view lock).marked level.Lock h.lock_marked h.ready.lock_end.marked_here off
+
+  pub unmarked_low : r.timer.level ≢ level.Low → (view low).marked ≡ None
+  unmarked_low off = none_at (view low).marked level.Low h.low_marked h.ready.low_end.marked_here off
+
+unmarked_sound : (u : FiringView) (m : Option ℕ) → Sound (record u { marked = m }) → Sound u
+unmarked_sound u m s = record { some_ceiling = s.some_ceiling; capped = s.capped; owed = s.owed; apart = s.apart; inside = s.inside; greatest = s.greatest }
+
+-- the end at which a removal is open from now on
+end_remarked : (soft : Level) (size : ℕ) (marked : Option ℕ) (u : FiringView) (rows : List Row) (id : ℕ) → IsEnd soft size marked u rows → Sound (record u { marked = Some id }) → HasRow soft id rows →
+    ((j : ℕ) (x : Row) → IsRow rows j x → x.timer.id ≡ id → x.timer.moment ≡ never) → IsEnd soft size (Some id) (record u { marked = Some id }) rows
+end_remarked soft size marked u rows id ready sound row still = record {
+  sound = sound;
+  free = ready.free;
+  size_is = ready.size_is;
+  marked_is = refl;
+  here = ready.here;
+  only = ready.only;
+  over = ready.over;
+  marked_here = λ q h. (let same : id ≡ q = cc in subst (λ x. HasRow soft x rows) same row);
+  removed = λ j x is h. still j x is (let same : id ≡ x.timer.id = cc in sym same);
+}
+
+end_marks : (soft : Level) (size : ℕ) (marked : Option ℕ) (v w : FiringView) (rows : List Row) (id n : ℕ) → IsEnd soft size marked v rows → Learns v (Marks id n) w → Sound w → HasRow soft id rows →
+    ((j : ℕ) (x : Row) → IsRow rows j x → x.timer.id ≡ id → x.timer.moment ≡ never) → IsEnd soft size (Some id) w rows
+end_marks soft size marked v w rows id n ready l sound row still =
+    let u = saw id n v in
+    let s : Sound (record u { marked = Some id }) = subst Sound l.1 sound in
+    subst (λ x. IsEnd soft size (Some id) x rows) (sym l.1)
+    (end_remarked soft size marked u rows id (end_kept soft size marked v u rows ready (loads_keep v u id n (l.0, refl)) (unmarked_sound u (Some id) s)) s row still)
+
+module _ {R : Type 0} (step : R → FiringCall → R → Type 0) (view : R → FiringView) (size : ℕ) (rows : List Row) (k n : ℕ) (r : Row) (rising : IsRising rows) (is : IsRow rows k r) where
+  abbrev u : Row
+  u = at_moment never r
+
+  keeps : Keeps r u
+  keeps = record { id = refl; level = refl; index = refl; expired = refl; lost = refl }
+
+  never_now : (j : ℕ) (x : Row) → IsRow (set rows k u) j x → x.timer.id ≡ r.timer.id → x.timer.moment ≡ never
+  never_now j x is_x same = elim (row_cases rows k j u x is.0 is_x) [
+    | inl (eq, now) ↦ ap (λ (y : Row). y.timer.moment) now
+    | inr (ne, old) ↦ absurd (ids_apart rows k j r x rising is old ne same)
+  ]
+
+  end_opened : (soft : Level) (e f : R) → IsEnd soft size (view e).marked (view e) rows → (view e).marked ≡ None → Goes step view e (calls_at soft r.timer.level (Marks r.timer.id n ∷ [])) f → Sound (view f) →
+      IsEnd soft size (view f).marked (view f) (set rows k u) × (r.timer.level ≡ soft → (view f).marked ≡ Some r.timer.id) × (r.timer.level ≢ soft → (view f).marked ≡ None)
+  end_opened soft e f ready none goes sound =
+      let moved = end_moved soft size (view e).marked (view e) rows k r u ready is keeps (λ q. let no : None ≡ Some r.timer.id = sym none ∙ q in absurd (cc)) in
+      elim (level_cases r.timer.level soft) [
+        | inl at ↦
+            (let (m, (s, l), last) = goes_here step view soft r.timer.level e f _ goes at in
+            let l' = subst (λ x. Learns (view e) (Marks r.timer.id n) (view x)) last l in
+            let opened = end_marks soft size (view e).marked (view e) (view f) (set rows k u) r.timer.id n moved l' sound (k, u, row_new rows k u is.0, refl, at) never_now in
+            let marked : (view f).marked ≡ Some r.timer.id = ap (λ (x : FiringView). x.marked) l'.1 in
+            (subst (λ m. IsEnd soft size m (view f) (set rows k u)) (sym marked) opened, (λ q. marked), (λ off. absurd (off at))))
+        | inr off ↦
+            (let eq = goes_not step view soft r.timer.level e f _ goes off in
+            (subst (λ x. IsEnd soft size (view x).marked (view x) (set rows k u)) (sym eq) moved, (λ q. absurd (off q)), (λ q. ap (λ x. (view x).marked) eq ∙ none)))
+      ]
+
+  -- the CPU with a removal that stays open
+  pub hard_opened : (most : ℕ) (removal : Option ℕ) (lock low lock' low' : R) → IsHard view size most removal lock low rows → removal ≡ None → r.timer.level ≢ level.High →
+      Goes step view lock (calls_at level.Lock r.timer.level (Marks r.timer.id n ∷ [])) lock' → Goes step view low (calls_at level.Low r.timer.level (Marks r.timer.id n ∷ [])) low' →
+      Sound (view lock') → Sound (view low') → IsHard view size most (Some r.timer.id) lock' low' (set rows k u)
+  hard_opened most removal lock low lock' low' h none soft a b sound_lock sound_low =
+      let (lock_end, lock_yes, lock_no) = end_opened level.Lock lock lock' h.ready.lock_end (no_mark (view lock).marked removal h.lock_marked none) a sound_lock in
+      let (low_end, low_yes, low_no) = end_opened level.Low low low' h.ready.low_end (no_mark (view low).marked removal h.low_marked none) b sound_low in
+      record {
+        ready = record { lock_end = lock_end; low_end = low_end; counted = counted_moved most rows k r u h.ready.counted is keeps };
+        lock_marked = λ id q. elim (level_cases r.timer.level level.Lock) [
+          | inl at ↦ sym (lock_yes at) ∙ q
+          | inr off ↦ absurd (let no : None ≡ Some id = sym (lock_no off) ∙ q in cc)
+        ];
+        low_marked = λ id q. elim (level_cases r.timer.level level.Low) [
+          | inl at ↦ sym (low_yes at) ∙ q
+          | inr off ↦ absurd (let no : None ≡ Some id = sym (low_no off) ∙ q in cc)
+        ];
+        is_open = λ id q. elim (level_cases r.timer.level level.Lock) [
+          | inl at ↦ inl (lock_yes at ∙ q)
+          | inr off ↦ elim (level_cases r.timer.level level.Low) [
+            | inl at ↦ inr (low_yes at ∙ q)
+            | inr neither ↦ absurd (three r.timer.level off neither soft)
+          ]
+        ];
+      }
+    where
+      three : (l : Level) → l ≢ level.Lock → l ≢ level.Low → l ≢ level.High → ⊥
+      three level.Low a b c = b refl
+      three level.Lock a b c = a refl
+      three level.High a b c = c refl
+
+polled_keeps : {R : Type 0} (step : R → FiringCall → R → Type 0) (view : R → FiringView) (b : Bool) (id : ℕ) (e f : R) → Goes step view e (cond b (Polls id None ∷ []) []) f → KeepsStays (view e) (view f)
+polled_keeps step view true id e f (m, (stepped, (pend, some, few, saw)), last) = subst (λ x. KeepsStays (view e) (view x)) last (loads_keep (view e) (view m) id pend (few, saw))
+polled_keeps step view false id e f g = subst (λ x. KeepsStays (view e) (view x)) g (keeps_itself (view e))
+
+-- an end that may have been polled
+pub polls_keep : {R : Type 0} (step : R → FiringCall → R → Type 0) (view : R → FiringView) (l own : Level) (id : ℕ) (e f : R) → Goes step view e (calls_at l own (Polls id None ∷ [])) f → KeepsStays (view e) (view f)
+polls_keep step view l own id e f g = polled_keeps step view (same_level l own) id e f g
+
+marked_stay : (b : Bool) (n : ℕ) (o : Option Stay) (s : Stay) → o ≡ Some s → (t : Stay) × (cond b (edited (λ s. record s { seen = n }) o) o ≡ Some t) × Unit {0}
+marked_stay true n o s h = (record s { seen = n }, ap (edited (λ s. record s { seen = n })) h, tt)
+marked_stay false n o s h = (s, h, tt)
+
+-- a cyclic that was just marked may be polled
+pub may_poll : (v w : FiringView) (id n : ℕ) → MayMark id v → Learns v (Marks id n) w → MayPoll id w
+may_poll v w id n ((s, stay, _), none, free) l =
+    let (t, there, unit) = marked_stay (eqb id id) n (v.stays id) s stay in
+    ((t, ap (λ (x : FiringView). x.stays id) l.1 ∙ there, tt), ap (λ (x : FiringView). x.marked) l.1, ap (λ (x : FiringView). x.hand_free) l.1 ∙ free)
+
+pub cyclics_less : (rows : List Row) (k : ℕ) → cyclics_of (remove rows k) ≡ remove (cyclics_of rows) k
+cyclics_less rows k = map-append cyclic_of (take k rows) (drop (suc k) rows) ∙ (λ j. sym (take-map cyclic_of k rows) j ++ sym (drop-map cyclic_of (suc k) rows) j)
+
+-- the view of a CPU in place of its fields
+module _ {R : Type 0} (step : R → FiringCall → R → Type 0) (view : R → FiringView) where
+  pub opens_from : (id n : ℕ) (u v w : CpuView R) → u ≡ v → Opens step view id n u w → Opens step view id n v w
+  opens_from id n u v w is a = subst (λ x. Opens step view id n x w) is a
+
+  pub leaves_from : (id : ℕ) (way : List FiringCall) (c : Cyclic) (u v w : CpuView R) → u ≡ v → Leaves step view id way c u w → Leaves step view id way c v w
+  leaves_from id way c u v w is a = subst (λ x. Leaves step view id way c x w) is a
+
+  pub waits_from : (id : ℕ) (u v w : CpuView R) → u ≡ v → Waits step view id u w → Waits step view id v w
+  waits_from id u v w is a = subst (λ x. Waits step view id x w) is a
+
+  pub ends_from : (receipt : Receipt) (id : ℕ) (c : Cyclic) (counts : Sent) (u v w : CpuView R) → u ≡ v → u.removal ≡ Some id → receipt.id ≡ id → IsReceipt receipt c →
+      Leaves step view id (Polls id (Some counts) ∷ []) c u w → Ends step view receipt v w
+  ends_from receipt id c counts u v w is removed named counted leaves = record {
+    was_open = sym (ap (λ (x : CpuView R). x.removal) is) ∙ removed ∙ ap Some (sym named);
+    cyclic = c;
+    counts = counts;
+    counted = counted;
+    leaves = leaves_from receipt.id (Polls receipt.id (Some counts) ∷ []) c u v w is (subst (λ q. Leaves step view q (Polls q (Some counts) ∷ []) c u w) (sym named) leaves);
+  }

@@ -1,0 +1,114 @@
+use Rattle.std.proofs.Common.{◌≢◌, ◌∷◌, [], Some, None, sym, ap, ◌∙◌, subst, refl, arith}
+use Rattle.std.specs.Prelude.{remove}
+use Rattle.std.proofs.Math.ListN.{set}
+use Rattle.cyc_types.specs.Series.{never}
+use Rattle.cyc_types.specs.Firing.{Marks, Polls}
+use Rattle.cyc_types.specs.Runs.{Goes}
+use Rattle.cyc_types.specs.declared.level.Level.TheVariants.{Low, Lock, High}
+use Rattle.cyc_timers.specs.Rows.{cyclic_of, cyclics_of, at_moment}
+use Rattle.cyc_cpu.specs.Cpu.{CpuView, IsCyclic, HasNoCyclic}
+use Rattle.cyc_cpu.specs.Ends.{IsHard}
+use Rattle.cyc_cpu.specs.Removal.{calls_at}
+use Rattle.cyc_cpu.proofs.Cyclics.{is_cyclic, no_cyclic, cyclics_set}
+use Rattle.cyc_cpu.proofs.Leaving.{hard_opened, hard_left, begun_left, no_mark, cyclics_less, opens_from, leaves_from}
+use Rattle.cyc_cpu.proofs.hard.Hard.begin_remove.Goals as goal
+
+pub returns-in_default-clause-refused : goal.returns-in_default-clause-refused
+returns-in_default-clause-refused g c = subst (λ (x : CpuView _). HasNoCyclic c.args.id x.cyclics) c.self.view_is (no_cyclic c.args.id c.self.inside.table.rows c.in_default.ensures.none)
+
+pub returns-in-Some-removal-clause-refused : goal.returns-in-Some-removal-clause-refused
+returns-in-Some-removal-clause-refused g c =
+    let (r, is, named) = c.in-Some.ensures.some in (
+      (c.in-Some.place, cyclic_of r, subst (λ (x : CpuView _). IsCyclic x.cyclics c.in-Some.place (cyclic_of r)) c.self.view_is (is_cyclic c.self.inside.table.rows c.in-Some.place r is), named),
+      sym (ap (λ (x : CpuView _). x.removal) c.self.view_is) ∙ c.in-Some-removal.is,
+    )
+
+pub invariant_of-self : goal.invariant_of-self
+invariant_of-self g c =
+    let (r, is, named) = c.in-Some.ensures.some in
+    let i = c.self.inside in let h = c.self.invariant in let e = c.remove_at-left.ensures in
+    let n = c.remove_at-left.result in
+    let level = (c.record_at-kept.ensures r is).0 in
+    let (a, b) = e.kept c.if-left-gt0.true in
+    let soft : r.timer.level ≢ High = λ q. (let z = e.high (level ∙ q) in let m = c.if-left-gt0.true in absurd (omega (arith, z, m))) in
+    let lock = subst (λ q. Goes g.R.Raise.step g.R.Raise.view i.lock (calls_at Lock r.timer.level (Marks q n ∷ [])) c.remove_at-left.new.lock) (sym named)
+    (subst (λ l. Goes g.R.Raise.step g.R.Raise.view i.lock (calls_at Lock l (Marks c.args.id n ∷ [])) c.remove_at-left.new.lock) level a) in
+    let low = subst (λ q. Goes g.R.Raise.step g.R.Raise.view i.low (calls_at Low r.timer.level (Marks q n ∷ [])) c.remove_at-left.new.low) (sym named)
+    (subst (λ l. Goes g.R.Raise.step g.R.Raise.view i.low (calls_at Low l (Marks c.args.id n ∷ [])) c.remove_at-left.new.low) level b) in
+    let opened = hard_opened g.R.Raise.step g.R.Raise.view i.table.size i.table.rows c.in-Some.place n r c.law.ensures.rising is i.most i.removal i.lock i.low c.remove_at-left.new.lock c.remove_at-left.new.low h c.in_default-removal.is soft lock low
+    (e.sound_lock h.ready.lock_end.sound) (e.sound_low h.ready.low_end.sound) in
+    subst (λ q. IsHard g.R.Raise.view c.reprogram.new.self.size i.most (Some q) c.remove_at-left.new.lock c.remove_at-left.new.low c.reprogram.new.self.rows) named
+    (subst (λ xs. IsHard g.R.Raise.view c.reprogram.new.self.size i.most (Some r.timer.id) c.remove_at-left.new.lock c.remove_at-left.new.low xs) (sym (c.reprogram.ensures.rows r is))
+    (subst (λ m. IsHard g.R.Raise.view m i.most (Some r.timer.id) c.remove_at-left.new.lock c.remove_at-left.new.low (set i.table.rows c.in-Some.place (at_moment never r))) (sym c.reprogram.ensures.size) opened))
+
+pub returns-then-left-gt0-clause-ok : goal.returns-then-left-gt0-clause-ok
+returns-then-left-gt0-clause-ok g c =
+    let (r, is, named) = c.in-Some.ensures.some in
+    let i = c.self.inside in let e = c.remove_at-left.ensures in
+    let n = c.remove_at-left.result in
+    let level = (c.record_at-kept.ensures r is).0 in
+    let (a, b) = e.kept c.if-left-gt0.true in
+    let soft : r.timer.level ≢ High = λ q. (let z = e.high (level ∙ q) in let m = c.if-left-gt0.true in absurd (omega (arith, z, m))) in
+    opens_from g.R.Raise.step g.R.Raise.view c.args.id n _ _ _ c.self.view_is (record {
+      place = c.in-Some.place;
+      cyclic = cyclic_of r;
+      here = is_cyclic i.table.rows c.in-Some.place r is;
+      named = named;
+      soft = soft;
+      some = c.if-left-gt0.true;
+      goes = (
+        subst (λ l. Goes g.R.Raise.step g.R.Raise.view i.lock (calls_at Lock l (Marks c.args.id n ∷ [])) c.remove_at-left.new.lock) level a,
+        subst (λ l. Goes g.R.Raise.step g.R.Raise.view i.low (calls_at Low l (Marks c.args.id n ∷ [])) c.remove_at-left.new.low) level b,
+      );
+      cyclics = ap cyclics_of (c.reprogram.ensures.rows r is) ∙ cyclics_set i.table.rows c.in-Some.place (at_moment never r);
+      removal = refl;
+      size = c.reprogram.ensures.size;
+      room = c.reprogram.ensures.room;
+      most = refl;
+    })
+
+pub invariant_of-self-2 : goal.invariant_of-self-2
+invariant_of-self-2 g c =
+    let (r, is, named) = c.in-Some.ensures.some in
+    let i = c.self.inside in let h = c.self.invariant in let e = c.remove_at-left.ensures in
+    let none = c.in_default-removal.is in
+    let level = (c.record_at-kept.ensures r is).0 in
+    let few = c.if-left-gt0.false in
+    let (counts, a, b) = e.ended (omega (arith, few)) in
+    let lock = subst (λ q. Goes g.R.Raise.step g.R.Raise.view i.lock (calls_at Lock r.timer.level (Marks q 0 ∷ Polls q (Some counts) ∷ [])) c.remove_at-left.new.lock) (sym named)
+    (subst (λ l. Goes g.R.Raise.step g.R.Raise.view i.lock (calls_at Lock l (Marks c.args.id 0 ∷ Polls c.args.id (Some counts) ∷ [])) c.remove_at-left.new.lock) level a) in
+    let low = subst (λ q. Goes g.R.Raise.step g.R.Raise.view i.low (calls_at Low r.timer.level (Marks q 0 ∷ Polls q (Some counts) ∷ [])) c.remove_at-left.new.low) (sym named)
+    (subst (λ l. Goes g.R.Raise.step g.R.Raise.view i.low (calls_at Low l (Marks c.args.id 0 ∷ Polls c.args.id (Some counts) ∷ [])) c.remove_at-left.new.low) level b) in
+    let left = hard_left g.R.Raise.view i.table.size i.table.rows c.in-Some.place r c.law.ensures.rising is i.most i.removal i.lock i.low c.remove_at-left.new.lock c.remove_at-left.new.low h
+    (begun_left g.R.Raise.step g.R.Raise.view Lock r.timer.level r.timer.id counts i.lock c.remove_at-left.new.lock lock (e.sound_lock h.ready.lock_end.sound) (λ off. no_mark (g.R.Raise.view i.lock).marked i.removal h.lock_marked none))
+    (begun_left g.R.Raise.step g.R.Raise.view Low r.timer.level r.timer.id counts i.low c.remove_at-left.new.low low (e.sound_low h.ready.low_end.sound) (λ off. no_mark (g.R.Raise.view i.low).marked i.removal h.low_marked none)) in
+    subst (λ o. IsHard g.R.Raise.view c.remove.new.self.size i.most o c.remove_at-left.new.lock c.remove_at-left.new.low c.remove.new.self.rows) (sym none)
+    (subst (λ xs. IsHard g.R.Raise.view c.remove.new.self.size i.most None c.remove_at-left.new.lock c.remove_at-left.new.low xs) (sym c.remove.ensures.rows)
+    (subst (λ m. IsHard g.R.Raise.view m i.most None c.remove_at-left.new.lock c.remove_at-left.new.low (remove i.table.rows c.in-Some.place)) (sym c.remove.ensures.size) left))
+
+pub returns-clause-ok : goal.returns-clause-ok
+returns-clause-ok g c =
+    let (r, is, named) = c.in-Some.ensures.some in
+    let i = c.self.inside in let e = c.remove_at-left.ensures in
+    let rec = c.record_at-kept.ensures r is in
+    let level = rec.0 in
+    let few = c.if-left-gt0.false in
+    let (counts, a, b) = e.ended (omega (arith, few)) in (
+      cyclic_of r,
+      counts,
+      (c.receipt_of.ensures.id ∙ sym named, c.receipt_of.ensures.sent ∙ rec.2, c.receipt_of.ensures.lost ∙ rec.3),
+      leaves_from g.R.Raise.step g.R.Raise.view c.args.id (Marks c.args.id 0 ∷ Polls c.args.id (Some counts) ∷ []) (cyclic_of r) _ _ _ c.self.view_is (record {
+        place = c.in-Some.place;
+        here = is_cyclic i.table.rows c.in-Some.place r is;
+        named = named;
+        goes = (
+          subst (λ l. Goes g.R.Raise.step g.R.Raise.view i.lock (calls_at Lock l (Marks c.args.id 0 ∷ Polls c.args.id (Some counts) ∷ [])) c.remove_at-left.new.lock) level a,
+          subst (λ l. Goes g.R.Raise.step g.R.Raise.view i.low (calls_at Low l (Marks c.args.id 0 ∷ Polls c.args.id (Some counts) ∷ [])) c.remove_at-left.new.low) level b,
+        );
+        cyclics = ap cyclics_of c.remove.ensures.rows ∙ cyclics_less i.table.rows c.in-Some.place;
+        removal = c.in_default-removal.is;
+        size = c.remove.ensures.size;
+        room = c.remove.ensures.room;
+        most = refl;
+      }),
+    )

@@ -1,0 +1,82 @@
+ghost use Rattle.std.specs.Prelude.{◌≡◌, ◌≤◌, ◌⊎◌, None, Some, IfOk, IfErr, OnOk, OnErr, IfNone, IfSome, ℕ};
+
+use crate::ending::{poll_at, remove_at};
+use crate::hard::Hard;
+use cyc_timers::Record;
+use cyc_types::{CyclicId, Moment, Raise, Receipt, Refusal};
+
+/// What the beginning of a removal found.
+#[derive(Clone, Copy, Debug, PartialEq, Eq)]
+pub enum Removal {
+    /// No call was outstanding: the cyclic is gone.
+    Done(Receipt),
+    /// So many calls are outstanding, and the removal is open until they are made.
+    Kept(u32),
+}
+
+/// The receipt of a cyclic with these counts.
+fn receipt_of(id: CyclicId, kept: Record) -> Receipt
+    requires { kept.lost ≤ kept.expired }
+    ensures id { result.id ≡ id }
+    ensures sent { result.sent ≡ kept.expired }
+    ensures lost { result.lost ≡ kept.lost }
+{
+    Receipt {
+        id,
+        sent: u128::from(kept.expired),
+        lost: u128::from(kept.lost),
+    }
+}
+
+impl<R: Raise> Hard<R> {
+    ghost use Rattle.cyc_cpu.specs.Removal.{Begins, Ends, Waits, WhyNotBegun};
+
+    /// Begins the removal of a cyclic (`cyclic_remove_here`): from now on it never expires. It is done at once where no call
+    /// of it is outstanding, as at high level. Else it stays open, and `poll_remove` answers once the soft interrupt has made
+    /// those calls.
+    ///
+    /// Refuses with NoCyclic where the id is not here, then with Busy while a removal is open. Takes no memory.
+    pub fn begin_remove(&mut self, id: CyclicId) -> Result<Removal, Refusal>
+        ensures ok { IfOk result (λ removal. Begins R.step R.view id self.old removal self.new) }
+        ensures still { OnOk result (self.old.removal ≡ None) }
+        ensures refused { IfErr result (λ e. WhyNotBegun id self.old e) }
+        ensures err { OnErr result (self.new ≡ self.old) }
+    {
+        self.table.law();
+        let Some(place) = self.table.find(id) else {
+            return Err(Refusal::NoCyclic);
+        };
+        if let Some(removed) = self.removal {
+            return Err(Refusal::Busy(removed));
+        }
+        let kept = self.table.record_at(place);
+        let left = remove_at(id, kept.level, &mut self.lock, &mut self.low);
+        if left > 0 {
+            self.table.reprogram(place, Moment::NEVER);
+            self.removal = Some(id);
+            return Ok(Removal::Kept(left));
+        }
+        self.table.remove(place);
+        Ok(Removal::Done(receipt_of(id, kept)))
+    }
+
+    /// Ends the open removal where the last of its calls was made, and gives the receipt, with the counts that the cyclic
+    /// carried in. None where no removal is open, or calls are still outstanding. Takes no memory.
+    pub fn poll_remove(&mut self) -> Option<Receipt>
+        ensures some { IfSome result (λ receipt. Ends R.step R.view receipt self.old self.new) }
+        ensures none { IfNone result (((self.old.removal ≡ None) × (self.new ≡ self.old)) ⊎ ((id : ℕ) × (self.old.removal ≡ Some id) × Waits R.step R.view id self.old self.new)) }
+    {
+        self.table.law();
+        let id = self.removal?;
+        let Some(place) = self.table.find(id) else {
+            unreachable!()
+        };
+        let kept = self.table.record_at(place);
+        if !poll_at(id, kept.level, &mut self.lock, &mut self.low) {
+            return None;
+        }
+        self.table.remove(place);
+        self.removal = None;
+        Some(receipt_of(id, kept))
+    }
+}
