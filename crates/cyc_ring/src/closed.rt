@@ -6,7 +6,7 @@ ghost use Rattle.cyc_ring.specs.Rows.{HoldsStays};
 
 use crate::plays::Whole;
 use crate::ring::Ring;
-use crate::seats::{DrainSeat, RaiseSeat};
+use crate::seats::{DrainSeat, RaiseSeat, Stays};
 use crate::words::{INDEXES, MARK};
 use cyc_types::{CyclicId, Index};
 use std::snapshot::Snapshot;
@@ -31,18 +31,16 @@ pub struct Book {
 /// A closed ring: the counts of each index, and for contracts alone what its two seats knew at last.
 #[derive(Drop)]
 pub struct Closed {
-    ids: [u64; INDEXES],
-    sent: [u64; INDEXES],
-    lost: [u64; INDEXES],
+    stays: Box<Stays>,
     pends: [u64; INDEXES],
     raiser: Snapshot<RaiseSeat>,
     drainer: Snapshot<DrainSeat>,
-    ghost rows: { HoldsStays ids sent lost raiser.value.seat.me.0.raise_trail },
-    ghost named: { (i : ℕ) → i < cyclics → slice_index ids i ≤ last_id },
-    ghost counted: { (i : ℕ) → i < cyclics → slice_index ids i ≢ 0 → slice_index lost i + slice_index pends i % mark_bit ≤ slice_index sent i },
-    ghost finished: { (i : ℕ) → i < cyclics → slice_index ids i ≢ 0 → made_calls (slice_index ids i) drainer.value.seat.me.0.drain_trail + slice_index lost i + slice_index pends i % mark_bit ≡ slice_index sent i + ended_calls (slice_index ids i) raiser.value.seat.me.0.raise_trail },
-    ghost marked: { (i : ℕ) → i < cyclics → slice_index ids i ≢ 0 → marked_of raiser.value.seat.me.0.raise_trail ≡ Some (slice_index ids i) → mark_bit ≤ slice_index pends i },
-    ghost unmarked: { (i : ℕ) → i < cyclics → slice_index ids i ≢ 0 → marked_of raiser.value.seat.me.0.raise_trail ≢ Some (slice_index ids i) → slice_index pends i < mark_bit },
+    ghost rows: { HoldsStays stays.value.ids stays.value.sent stays.value.lost raiser.value.seat.me.0.raise_trail },
+    ghost named: { (i : ℕ) → i < cyclics → slice_index stays.value.ids i ≤ last_id },
+    ghost counted: { (i : ℕ) → i < cyclics → slice_index stays.value.ids i ≢ 0 → slice_index stays.value.lost i + slice_index pends i % mark_bit ≤ slice_index stays.value.sent i },
+    ghost finished: { (i : ℕ) → i < cyclics → slice_index stays.value.ids i ≢ 0 → made_calls (slice_index stays.value.ids i) drainer.value.seat.me.0.drain_trail + slice_index stays.value.lost i + slice_index pends i % mark_bit ≡ slice_index stays.value.sent i + ended_calls (slice_index stays.value.ids i) raiser.value.seat.me.0.raise_trail },
+    ghost marked: { (i : ℕ) → i < cyclics → slice_index stays.value.ids i ≢ 0 → marked_of raiser.value.seat.me.0.raise_trail ≡ Some (slice_index stays.value.ids i) → mark_bit ≤ slice_index pends i },
+    ghost unmarked: { (i : ℕ) → i < cyclics → slice_index stays.value.ids i ≢ 0 → marked_of raiser.value.seat.me.0.raise_trail ≢ Some (slice_index stays.value.ids i) → slice_index pends i < mark_bit },
 }
 
 impl Ring {
@@ -65,9 +63,7 @@ impl Ring {
             mut seat,
             setting: _,
             finder: _,
-            ids,
-            sent,
-            lost,
+            stays,
             bank: _,
             mask: _,
             next: _,
@@ -88,9 +84,7 @@ impl Ring {
         }
         closed.free();
         Closed {
-            ids,
-            sent,
-            lost,
+            stays,
             pends,
             raiser: known,
             drainer: done,
@@ -108,9 +102,9 @@ impl Closed {
         ensures free { IfNone result (IsFree index self.now) }
     {
         let at = index.number() as usize;
-        let id = CyclicId::new(self.ids[at])?;
-        let sent = self.sent[at];
-        let lost = self.lost[at];
+        let id = CyclicId::new(self.stays.ids[at])?;
+        let sent = self.stays.sent[at];
+        let lost = self.stays.lost[at];
         let pend = self.pends[at];
         let count = (pend % MARK) as u32;
         Some(Book {

@@ -104,8 +104,8 @@ impl Raise for RaiseEnd<'_> {
         if found % MARK != 0 {
             return None;
         }
-        let sent = self.seat.sent[index];
-        let lost = self.seat.lost[index];
+        let sent = self.seat.stays.sent[index];
+        let lost = self.seat.stays.lost[index];
         self.ring.clear_as::<Brand>(&mut self.seat, id, index);
         Some(Sent { sent, lost })
     }
@@ -121,8 +121,8 @@ impl Raise for RaiseEnd<'_> {
     fn sent(&self, id: CyclicId) -> Sent {
         let index = self.seat.index_of(id);
         Sent {
-            sent: self.seat.sent[index],
-            lost: self.seat.lost[index],
+            sent: self.seat.stays.sent[index],
+            lost: self.seat.stays.lost[index],
         }
     }
 }

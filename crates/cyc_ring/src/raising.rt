@@ -22,7 +22,7 @@ impl Ring {
     pub(crate) fn admit_as<J: Served>(&self, raiser: &mut RaiseSeat, id: CyclicId, index: Index)
         requires named { (J.id ≡ id) × (J.setting ≡ self.now.setting) }
         requires own { IsRaiseSeatOf self.now raiser.old }
-        requires index { (index < bank_size raiser.old.bank) × (slice_index raiser.old.ids index ≡ 0) }
+        requires index { (index < bank_size raiser.old.bank) × (slice_index raiser.old.stays.value.ids index ≡ 0) }
         requires absent { open_stay id (raise_trail raiser.old) ≡ None }
         ensures own { IsSameRaiseSeat raiser.old raiser.new }
         ensures step { MakesRaiseStep J.setting (Admitted id index) raiser.old.seat raiser.new.seat }
@@ -30,18 +30,18 @@ impl Ring {
         let at = index.number() as usize;
         self.load_to_admit::<J>(&mut raiser.seat, at);
         raiser.finder.insert(id, index);
-        raiser.ids[at] = id.number();
-        raiser.sent[at] = 0;
-        raiser.lost[at] = 0;
+        raiser.stays.ids[at] = id.number();
+        raiser.stays.sent[at] = 0;
+        raiser.stays.lost[at] = 0;
     }
 
     // The calls of the id at the index that are outstanding, with the mark.
     pub(crate) fn load_as<J: Served>(&self, raiser: &mut RaiseSeat, index: usize) -> u64
         requires named { J.setting ≡ self.now.setting }
         requires own { IsRaiseSeatOf self.now raiser.old }
-        requires index { (index < cyclics) × (slice_index raiser.old.ids index ≡ J.id) × (J.id ≢ 0) }
+        requires index { (index < cyclics) × (slice_index raiser.old.stays.value.ids index ≡ J.id) × (J.id ≢ 0) }
         ensures own { IsSameRaiseSeat raiser.old raiser.new }
-        ensures rows { (raiser.new.ids ≡ raiser.old.ids) × (raiser.new.sent ≡ raiser.old.sent) × (raiser.new.lost ≡ raiser.old.lost) }
+        ensures rows { raiser.new.stays ≡ raiser.old.stays }
         ensures bound { result % mark_bit ≤ seen_pend J.id (raise_trail raiser.old) }
         ensures step { MakesRaiseStep J.setting (Loaded J.id result) raiser.old.seat raiser.new.seat }
     {
@@ -52,7 +52,7 @@ impl Ring {
     pub(crate) fn mark_as<J: Served>(&self, raiser: &mut RaiseSeat, index: usize) -> u64
         requires named { J.setting ≡ self.now.setting }
         requires own { IsRaiseSeatOf self.now raiser.old }
-        requires index { (index < cyclics) × (slice_index raiser.old.ids index ≡ J.id) × (J.id ≢ 0) }
+        requires index { (index < cyclics) × (slice_index raiser.old.stays.value.ids index ≡ J.id) × (J.id ≢ 0) }
         requires unmarked { marked_of (raise_trail raiser.old) ≡ None }
         ensures own { IsSameRaiseSeat raiser.old raiser.new }
         ensures bound { result ≤ seen_pend J.id (raise_trail raiser.old) }
@@ -65,14 +65,14 @@ impl Ring {
     pub(crate) fn clear_as<J: Served>(&self, raiser: &mut RaiseSeat, id: CyclicId, index: usize)
         requires named { (J.id ≡ id) × (J.setting ≡ self.now.setting) }
         requires own { IsRaiseSeatOf self.now raiser.old }
-        requires index { (index < cyclics) × (slice_index raiser.old.ids index ≡ id) × (id ≢ 0) }
+        requires index { (index < cyclics) × (slice_index raiser.old.stays.value.ids index ≡ id) × (id ≢ 0) }
         requires alone { (marked_of (raise_trail raiser.old) ≡ Some id) × (seen_pend id (raise_trail raiser.old) ≡ 0) }
         ensures own { IsSameRaiseSeat raiser.old raiser.new }
         ensures step { MakesRaiseStep J.setting (Cleared id) raiser.old.seat raiser.new.seat }
     {
         self.store_zero::<J>(&mut raiser.seat, index);
         raiser.finder.remove(id);
-        raiser.ids[index] = 0;
+        raiser.stays.ids[index] = 0;
     }
 
     // The store of the hard bank.
@@ -112,18 +112,18 @@ impl Ring {
     ) -> Raised
         requires named { (J.id ≡ id) × (J.setting ≡ self.now.setting) }
         requires own { IsRaiseSeatOf self.now raiser.old }
-        requires index { (index < cyclics) × (slice_index raiser.old.ids index ≡ id) }
+        requires index { (index < cyclics) × (slice_index raiser.old.stays.value.ids index ≡ id) }
         requires unmarked { marked_of (raise_trail raiser.old) ≢ Some id }
-        requires room { slice_index raiser.old.sent index < most_sent }
+        requires room { slice_index raiser.old.stays.value.sent index < most_sent }
         ensures own { IsSameRaiseSeat raiser.old raiser.new }
         ensures call { MakesRaiseCall self.now.setting (raise_trail raiser.old) (Raises id result) (raise_trail raiser.new) }
     {
         let ceiling = raiser.setting.ceiling as u64;
         let entry = id.number() * ENTRY_BASE + index as u64;
         let before = self.load_to_raise::<J>(&mut raiser.seat, index);
-        raiser.sent[index] += 1;
+        raiser.stays.sent[index] += 1;
         if before == ceiling {
-            raiser.lost[index] += 1;
+            raiser.stays.lost[index] += 1;
             return Raised::Lost;
         }
         let found = self.add::<J>(&mut raiser.seat, index);

@@ -15,16 +15,22 @@ use ring_finder::Finder;
 use ring_rule::{SeatView, Setting};
 use std::alloc::{AllocError, Global};
 
+/// For each index the id of its cyclic, 0 where it is free, and the counts of its stay. They stand in memory of their own, so
+/// that a seat that is moved copies little.
+#[derive(Drop)]
+pub struct Stays {
+    pub(crate) ids: [u64; INDEXES],
+    pub(crate) sent: [u64; INDEXES],
+    pub(crate) lost: [u64; INDEXES],
+}
+
 /// The seat of a ring's firing side: what it knows of each index, and its place in the buffer.
 #[derive(Drop)]
 pub struct RaiseSeat {
     pub(crate) seat: Seat<(), SeatView>,
     pub(crate) setting: Setting,
     pub(crate) finder: Finder,
-    // For each index the id of its cyclic, 0 where it is free, and the counts of its stay.
-    pub(crate) ids: [u64; INDEXES],
-    pub(crate) sent: [u64; INDEXES],
-    pub(crate) lost: [u64; INDEXES],
+    pub(crate) stays: Box<Stays>,
     // The bank that it fills, the bank's size less one, and the next index.
     pub(crate) bank: u64,
     pub(crate) mask: u64,
@@ -35,7 +41,7 @@ pub struct RaiseSeat {
     ghost bank_is: { (bank ≡ hard_bank_of seat.me.0.raise_trail) × (bank ≤ greatest_bank) × (mask + 1 ≡ 2 ^ bank) },
     ghost next_is: { next ≡ producer_index setting.start seat.me.0.raise_trail % index_range },
     ghost ranges: { (0 < setting.ceiling) × (setting.ceiling < 2 ^ 32) × (setting.start < 2 ^ 32) },
-    ghost rows: { HoldsStays ids sent lost seat.me.0.raise_trail },
+    ghost rows: { HoldsStays stays.value.ids stays.value.sent stays.value.lost seat.me.0.raise_trail },
     ghost listed: { (id : ℕ) → index_of id finder ≡ stay_index (open_stay id seat.me.0.raise_trail) },
     ghost seen: { IsSeenSound setting.ceiling seat.me.0.raise_trail },
     ghost balanced: { IsBalanced seat.me.0.raise_trail },
@@ -72,13 +78,19 @@ impl RaiseSeat {
         ensures { IfOk result (λ r. (r.seat ≡ seat) × (r.setting ≡ setting)) }
     {
         let finder = Finder::new(alloc)?;
+        let stays = Box::new(
+            alloc,
+            Stays {
+                ids: [0; INDEXES],
+                sent: [0; INDEXES],
+                lost: [0; INDEXES],
+            },
+        )?;
         Ok(RaiseSeat {
             seat,
             setting,
             finder,
-            ids: [0; INDEXES],
-            sent: [0; INDEXES],
-            lost: [0; INDEXES],
+            stays,
             bank: 0,
             mask: 0,
             next: setting.start,
@@ -88,7 +100,7 @@ impl RaiseSeat {
     // The index at which the id is admitted.
     pub(crate) fn index_of(&self, id: CyclicId) -> usize
         requires { open_stay id self.now.seat.me.0.raise_trail ≢ None }
-        ensures { (result < cyclics) × (slice_index self.now.ids result ≡ id) }
+        ensures { (result < cyclics) × (slice_index self.now.stays.value.ids result ≡ id) }
     {
         match self.finder.find(id) {
             Some(index) => index,

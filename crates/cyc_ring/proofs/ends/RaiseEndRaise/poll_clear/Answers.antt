@@ -22,7 +22,7 @@ returns-then-found-ne0-clause-step c = let e = c.args.self.now in let s = e.seat
     )
 
 pub returns-then-found-ne0-clause-learns : goal.returns-then-found-ne0-clause-learns
-returns-then-found-ne0-clause-learns c = let e = c.args.self.now in let s = e.seat.seat in let k = e.seat.setting in let t : List RaiseStep = s.me.0.raise_trail in let r = e.seat in let found : ℕ = c.load_as-found.result in let w = the_stay k.ceiling r.ids r.sent r.lost t r.rows c.args.id _ c.requires.0 in let named = c.index_of-index.ensures.1 in
+returns-then-found-ne0-clause-learns c = let e = c.args.self.now in let s = e.seat.seat in let k = e.seat.setting in let t : List RaiseStep = s.me.0.raise_trail in let r = e.seat in let found : ℕ = c.load_as-found.result in let w = the_stay k.ceiling r.stays.value.ids r.stays.value.sent r.stays.value.lost t r.rows c.args.id _ c.requires.0 in let named = c.index_of-index.ensures.1 in
     let same : c.load_as-found.new.raiser.seat.me.0.raise_trail ≡ Loaded c.args.id found ∷ t = ap (λ (m : ThisSeat). m.0.raise_trail) c.load_as-found.ensures.step.1 ∙ ap (λ (x : ℕ). Loaded x found ∷ t) named in
     let low : found % mark_bit ≤ seen_pend c.args.id t = subst (λ (x : ℕ). found % mark_bit ≤ seen_pend x t) named c.load_as-found.ensures.bound in let more = c.if-found-ne0.true in
     subst (λ (p : Setting × List RaiseStep). Learns (firing_view k.ceiling t) (Polls c.args.id None) (firing_view p.0.ceiling p.1)) (λ z. (sym c.load_as-found.ensures.own.1 z, sym same z))

@@ -4,4 +4,4 @@ use Rattle.cyc_ring.proofs.ring.Ring.clear_as.Goals as goal
 
 pub store_zero-requires-clause-stay : goal.store_zero-requires-clause-stay
 store_zero-requires-clause-stay g c = let r = c.args.raiser.now in let i = c.requires.index in
-    (i.0, (record { index = c.args.index; sent = get_or r.sent c.args.index 0; lost = get_or r.lost c.args.index 0 }, ap (λ (x : ℕ). open_stay x r.seat.me.0.raise_trail) (c.requires.named.0 ∙ sym i.1) ∙ r.rows.used c.args.index i.0 (λ z. i.2 (sym i.1 ∙ z)), refl))
+    (i.0, (record { index = c.args.index; sent = get_or r.stays.value.sent c.args.index 0; lost = get_or r.stays.value.lost c.args.index 0 }, ap (λ (x : ℕ). open_stay x r.seat.me.0.raise_trail) (c.requires.named.0 ∙ sym i.1) ∙ r.rows.used c.args.index i.0 (λ z. i.2 (sym i.1 ∙ z)), refl))

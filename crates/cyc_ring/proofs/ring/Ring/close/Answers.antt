@@ -34,13 +34,13 @@ invariant_of-result c = let r = c.args.raiser in let d = c.args.drainer in let t
     let known : c.of-known.result.value.seat.me.0.raise_trail ≡ rs = ap (λ (x : RaiseSeat). x.seat.me.0.raise_trail) c.of-known.ensures in
     let done : c.of-done.result.value.seat.me.0.drain_trail ≡ ds = ap (λ (x : DrainSeat). x.seat.me.0.drain_trail) c.of-done.ensures in let small = c.args.self.ranges.1 in
     record {
-      rows = subst (HoldsStays r.ids r.sent r.lost) (sym known) r.rows;
-      named = λ i low. dite (ℕ_discrete (get_or r.ids i 0) 0) (λ z. omega (arith, z)) (λ used. named_row k small ws rs ds L r.ids r.sent r.lost c.loop-i.pends r.rows read i low used);
-      counted = λ i low used. counted_row k small ws rs ds L r.ids r.sent r.lost c.loop-i.pends r.rows read i low used;
-      finished = λ i low used. subst (λ (p : List RaiseStep × List DrainStep). made_calls (get_or r.ids i 0) p.1 + get_or r.lost i 0 + get_or c.loop-i.pends i 0 % mark_bit ≡ get_or r.sent i 0 + ended_calls (get_or r.ids i 0) p.0)
-          (λ z. (sym known z, sym done z)) (finished_row k small ws rs ds L r.ids r.sent r.lost c.loop-i.pends r.rows read i low used);
-      marked = λ i low used is. marked_row k small ws rs ds L r.ids r.sent r.lost c.loop-i.pends r.rows read i low used (ap marked_of (sym known) ∙ is);
-      unmarked = λ i low used not. unmarked_row k small ws rs ds L r.ids r.sent r.lost c.loop-i.pends r.rows read i low used (λ e. not (ap marked_of known ∙ e));
+      rows = subst (HoldsStays r.stays.value.ids r.stays.value.sent r.stays.value.lost) (sym known) r.rows;
+      named = λ i low. dite (ℕ_discrete (get_or r.stays.value.ids i 0) 0) (λ z. omega (arith, z)) (λ used. named_row k small ws rs ds L r.stays.value.ids r.stays.value.sent r.stays.value.lost c.loop-i.pends r.rows read i low used);
+      counted = λ i low used. counted_row k small ws rs ds L r.stays.value.ids r.stays.value.sent r.stays.value.lost c.loop-i.pends r.rows read i low used;
+      finished = λ i low used. subst (λ (p : List RaiseStep × List DrainStep). made_calls (get_or r.stays.value.ids i 0) p.1 + get_or r.stays.value.lost i 0 + get_or c.loop-i.pends i 0 % mark_bit ≡ get_or r.stays.value.sent i 0 + ended_calls (get_or r.stays.value.ids i 0) p.0)
+          (λ z. (sym known z, sym done z)) (finished_row k small ws rs ds L r.stays.value.ids r.stays.value.sent r.stays.value.lost c.loop-i.pends r.rows read i low used);
+      marked = λ i low used is. marked_row k small ws rs ds L r.stays.value.ids r.stays.value.sent r.stays.value.lost c.loop-i.pends r.rows read i low used (ap marked_of (sym known) ∙ is);
+      unmarked = λ i low used not. unmarked_row k small ws rs ds L r.stays.value.ids r.stays.value.sent r.stays.value.lost c.loop-i.pends r.rows read i low used (λ e. not (ap marked_of known ∙ e));
     }
 
 pub returns-clause-stands : goal.returns-clause-stands

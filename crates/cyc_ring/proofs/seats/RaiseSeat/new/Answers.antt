@@ -2,6 +2,7 @@ use Rattle.std.proofs.Common.{sym, subst, refl, List, ap, ◌∙◌, ◌%◌, �
 use Rattle.ring_rule.specs.Trail.{open_stay, firer_hand_of, hard_bank_of, producer_index}
 use Rattle.ring_rule.specs.declared.RaiseStep.{RaiseStep}
 use Rattle.cyc_ring.specs.Rows.{HoldsStays, stay_index}
+use Rattle.cyc_ring.specs.declared.seats.Stays.{Stays}
 use Rattle.cyc_ring.specs.Views.{IsBalanced, IsSeenSound}
 use Rattle.cyc_ring.proofs.Rows.{fits_none}
 use Rattle.cyc_ring.proofs.Balance.{balanced_none}
@@ -15,7 +16,7 @@ invariant_of-result c = let e = c.requires.seat.1 in record {
   bank_is = (ap hard_bank_of (sym e), lit≤ tt, refl);
   next_is = sym (mod-eq_of_lt c.requires.ranges.2) ∙ ap (λ (t : List RaiseStep). producer_index c.args.setting.start t % 2 ^ 32) (sym e);
   ranges = c.requires.ranges;
-  rows = subst (λ (t : List RaiseStep). HoldsStays _ _ _ t) (sym e) fits_none;
+  rows = subst (λ (p : Stays × List RaiseStep). HoldsStays p.0.ids p.0.sent p.0.lost p.1) (λ z. (sym c.in_ok-stays.ensures.ok z, sym e z)) fits_none;
   listed = λ id. c.in_ok-finder.ensures id ∙ ap (λ (t : List RaiseStep). stay_index (open_stay id t)) (sym e);
   seen = subst (IsSeenSound c.args.setting.ceiling) (sym e) (λ id s x. absurd (cc));
   balanced = subst IsBalanced (sym e) balanced_none;
