@@ -1,2 +1,1 @@
-pub mod Keeps
-pub mod Begins
+pub mod Knowing

@@ -1,12 +1,24 @@
-//! Tests of what no clause of `cyc_ring` says: worked rings call by call, that each call can succeed, and two threads on one
-//! ring.
+//! Tests of what no clause of `cyc_ring` says: worked rings call by call, that each call can succeed, ends that stop and go on
+//! in another thread, and two threads on one ring.
 #![tactic(auto)]
 
 #[cfg(test)]
+mod drainer;
+#[cfg(test)]
+mod firer;
+#[cfg(test)]
+mod handlers;
+#[cfg(test)]
+mod handover;
+#[cfg(test)]
 mod help;
 #[cfg(test)]
-mod one_bank;
+mod ledger;
 #[cfg(test)]
-mod removal;
+mod play;
+#[cfg(test)]
+mod rows;
+#[cfg(test)]
+mod stress;
 #[cfg(test)]
 mod threads;

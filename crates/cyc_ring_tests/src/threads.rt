@@ -1,36 +1,55 @@
-ghost use Rattle.std.specs.Prelude.{◌≡◌, ◌<◌, ◌^◌};
-ghost use Rattle.cyc_ring.specs.Ends.{IsRaiseSeatOf, IsDrainSeatOf, seat_view};
-ghost use Rattle.cyc_ring_tests.specs.Ready.{IsOpen, IsReady};
+ghost use Rattle.cyc_ring.specs.Ends.{IsRaiseSeatOf, IsDrainSeatOf};
 
-use crate::help::{Drained, book, drain_until, id, index, open};
-use cyc_ring::{DrainSeat, RaiseEnd, RaiseSeat, Ring};
-use cyc_types::{CyclicId, Raise};
+use crate::drainer::Drainer;
+use crate::firer::{Firer, KnownSeat, NotAllowed};
+use crate::help::{book, id, open};
+use cyc_ring::{DrainSeat, Ring};
+use cyc_types::{CyclicId, Index};
 use std::test::Fail;
 use std::thread::{Threads, join};
 
 /// Raises the id this many times.
-fn raise_times(ring: &Ring, raiser: RaiseSeat, id: CyclicId, times: u32) -> RaiseSeat
-    requires own { IsRaiseSeatOf ring.now raiser }
-    requires open { IsOpen id 0 (seat_view raiser) × IsReady (seat_view raiser) }
-    ensures { IsRaiseSeatOf ring.now result }
+fn raise_times(ring: &Ring, raiser: KnownSeat, id: CyclicId, times: u32) -> KnownSeat
+    requires { IsRaiseSeatOf ring.now raiser.seat }
+    ensures { IsRaiseSeatOf ring.now result.seat }
 {
-    let mut end = RaiseEnd::new(ring, raiser);
+    let mut firer = Firer::new(ring, raiser);
     for raised in 0..times {
-        let _ = end.raise(id);
+        let _ = firer.raise(id);
     }
-    end.into_seat()
+    firer.into_seat()
+}
+
+/// Takes and finishes until so many calls are finished or so many turns are made.
+fn drain_until(ring: &Ring, drainer: DrainSeat, finishes: u64, turns: u64) -> (DrainSeat, u64)
+    requires { IsDrainSeatOf ring.now drainer }
+    ensures { IsDrainSeatOf ring.now result.0 }
+{
+    let mut end = Drainer::new(ring, drainer);
+    let mut finished = 0;
+    for turn in 0..turns {
+        if finished >= finishes {
+            break;
+        }
+        match end.finish() {
+            Ok(_) => finished += 1,
+            Err(NotAllowed) => {
+                let _ = end.take();
+            }
+        }
+    }
+    (end.into_seat(), finished)
 }
 
 fn both<R: Threads>(
     rt: &R,
     ring: &Ring,
-    raiser: RaiseSeat,
+    raiser: KnownSeat,
     drainer: DrainSeat,
     id: CyclicId,
-) -> (RaiseSeat, Drained)
-    requires raiser { IsRaiseSeatOf ring.now raiser × IsOpen id 0 (seat_view raiser) × IsReady (seat_view raiser) }
-    requires drainer { IsDrainSeatOf ring.now drainer }
-    ensures { IsRaiseSeatOf ring.now result.0 × IsDrainSeatOf ring.now result.1.seat }
+) -> (KnownSeat, (DrainSeat, u64))
+    requires { IsRaiseSeatOf ring.now raiser.seat × IsDrainSeatOf ring.now drainer }
+    ensures { IsRaiseSeatOf ring.now result.0.seat × IsDrainSeatOf ring.now result.1.0 }
 {
     join(
         rt,
@@ -41,22 +60,15 @@ fn both<R: Threads>(
 
 // One thread raises, another drains, and the closed ring has each expiration.
 #[test]
-fn two_threads_lose_no_expiration(rt: HostRuntime) -> Result<(), Fail> {
+fn ring_two_threads(rt: HostRuntime) -> Result<(), Fail> {
     let (ring, raiser, drainer) = open(rt.alloc(), 4294967295, 0)?;
     let one = id(1)?;
-    let mut raise = RaiseEnd::new(&ring, raiser);
-    raise.admit(one, index(0)?);
-    let raiser = raise.into_seat();
-    let (raiser, drained) = both(&rt, &ring, raiser, drainer, one);
-    let Drained {
-        finished,
-        last: _,
-        seat,
-    } = drained;
-    let closed = ring.close(raiser, seat);
-    let Some(book) = book(&closed, 0)? else {
-        return Err(Fail::from("a book"));
-    };
+    let mut firer = Firer::new(&ring, raiser);
+    firer.admit(one, Index::new(0).ok_or("an index")?)?;
+    let raiser = firer.into_seat();
+    let (raiser, (drainer, finished)) = both(&rt, &ring, raiser, drainer, one);
+    let closed = ring.close(raiser.seat(), drainer);
+    let book = book(&closed, 0)?.ok_or("a book")?;
     assert_eq!(rt; book.sent, 1_000);
     assert_eq!(rt; book.lost, 0);
     assert_eq!(rt; book.done, finished);

@@ -1,0 +1,74 @@
+//! What a raiser of many ids notes of them.
+ghost use Rattle.std.specs.Prelude.{◌<◌};
+
+use cyc_types::{Raised, Sent};
+
+/// The ids are 1 to `IDS`; the id `at + 1` has the two indexes `at` and `at + IDS` in turn.
+pub const IDS: usize = 64;
+
+/// The counts of each id, and how far the ring has grown.
+#[derive(Drop)]
+pub struct Ledger {
+    /// The present index of each id.
+    pub index: [u16; 64],
+    /// The raises of each id in all its stays, and those that were lost.
+    pub sent: [u64; 64],
+    pub lost: [u64; 64],
+    /// The same of its ended stays, as each removal answered.
+    pub ended_sent: [u64; 64],
+    pub ended_lost: [u64; 64],
+    /// The ids that are admitted are the first of all.
+    pub admitted: usize,
+    /// The id whose removal is open.
+    pub marked: Option<usize>,
+    /// The bank, and its size.
+    pub bank: u8,
+    pub size: u16,
+}
+
+impl Ledger {
+    pub fn new() -> Ledger {
+        Ledger {
+            index: [0; 64],
+            sent: [0; 64],
+            lost: [0; 64],
+            ended_sent: [0; 64],
+            ended_lost: [0; 64],
+            admitted: 0,
+            marked: None,
+            bank: 0,
+            size: 1,
+        }
+    }
+
+    /// The id has no open removal, and is admitted.
+    pub fn may_raise(&self, at: usize) -> bool {
+        match self.marked {
+            Some(marked) => at < self.admitted && at != marked,
+            None => at < self.admitted,
+        }
+    }
+
+    /// The id was raised.
+    pub fn note(&mut self, at: usize, answer: Raised)
+        requires { at < 64 }
+    {
+        self.sent[at] = self.sent[at].wrapping_add(1);
+        if answer == Raised::Lost {
+            self.lost[at] = self.lost[at].wrapping_add(1);
+        }
+    }
+
+    /// The removal of the id answered. The answer is the index at which it is admitted anew.
+    pub fn ended(&mut self, at: usize, counts: Sent) -> u16
+        requires { at < 64 }
+    {
+        self.ended_sent[at] = self.ended_sent[at].wrapping_add(counts.sent);
+        self.ended_lost[at] = self.ended_lost[at].wrapping_add(counts.lost);
+        let other = self.index[at] ^ 64;
+        if other < self.size {
+            self.index[at] = other;
+        }
+        self.index[at]
+    }
+}
