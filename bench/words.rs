@@ -2,6 +2,7 @@
 //! the same order, all sequentially consistent, and the same look-up of an id. `APART` is how far apart the words lie, in
 //! words: 1 is as the proved ring has them, 8 puts each on a cache line of its own.
 
+use std::hint::spin_loop;
 use std::sync::atomic::{AtomicU64, Ordering::SeqCst};
 
 pub const PRODUCERS: usize = 767;
@@ -108,10 +109,18 @@ impl<'a, const APART: usize> Raiser<'a, APART> {
             .store(u64::from(self.next), SeqCst);
     }
 
-    /// So many raises, the ids from 1 to `ids` round.
-    pub fn raise_round(&mut self, ids: u16, turns: u64) {
+    fn load_pend(&self, id: u64) -> u64 {
+        let index = self.finder.find(id).expect("an admitted id");
+        self.ring.word(index).load(SeqCst) % MARK
+    }
+
+    /// So many raises, the ids from 1 to `ids` round, each where its calls are done.
+    pub fn raise_done(&mut self, ids: u16, turns: u64) {
         let mut id = 1;
         for _ in 0..turns {
+            while self.load_pend(id) != 0 {
+                spin_loop();
+            }
             self.raise(id);
             id = if id < u64::from(ids) { id + 1 } else { 1 };
         }
@@ -187,7 +196,7 @@ impl<'a, const APART: usize> Drainer<'a, APART> {
                 self.finish();
                 made += 1;
             } else {
-                std::hint::spin_loop();
+                spin_loop();
             }
         }
         made

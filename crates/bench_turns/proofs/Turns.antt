@@ -2,7 +2,7 @@
 use Rattle.std.proofs.Common.{◌≡◌, ◌≢◌, ℕ, ◌+◌, ◌-◌, ◌<◌, ◌≤◌, ◌^◌, eqb, cond, Bool, true, false, refl, sym, ap, subst, ◌∙◌, arith, Option, Some, None, eq-eqb, ne_eqb}
 use mathlib.Core.Logic.{dite}
 use native.Mathlib.Decide.{ℕ_discrete}
-use Rattle.cyc_types.specs.Firing.{FiringView, Admits, Raises, Expands, Learns, Stay, IsAdmitted, MayAdmit, MayRaise, MayExpand, after_admit}
+use Rattle.cyc_types.specs.Firing.{FiringView, Admits, Raises, Loads, Expands, Learns, Stay, IsAdmitted, MayAdmit, MayAsk, MayRaise, MayExpand, after_admit}
 use Rattle.cyc_types.specs.declared.firing.Raised.{Raised}
 use Rattle.cyc_types.specs.declared.firing.Raised.TheVariants.{First, More, Lost}
 use Rattle.cyc_types.proofs.RunStays.{learns_stay}
@@ -84,3 +84,20 @@ pub may_raise : (n most id : ℕ) (v : FiringView) → IsReady n most v → 0 < 
 may_raise n most id v r some few low =
     let (s, here, sent) = r.stays id some few in
     ((s, here, omega (arith, sent, low)), (λ e. none_some ⊥ id v.marked r.unmarked e), r.free)
+
+pub may_ask : (n most id : ℕ) (v : FiringView) → IsReady n most v → 0 < id → id ≤ n → MayAsk id v
+may_ask n most id v r some few =
+    let (s, here, sent) = r.stays id some few in
+    ((s, here, tt), r.free)
+
+-- a look at a pend keeps a level ready
+pub load_ready : (n most : ℕ) (v w : FiringView) (id pend : ℕ) → IsReady n most v → Learns v (Loads id pend) w → IsReady n most w
+load_ready n most v w id pend r l = record {
+  free = ap (λ (x : FiringView). x.hand_free) l.1 ∙ r.free;
+  unmarked = ap (λ (x : FiringView). x.marked) l.1 ∙ r.unmarked;
+  stays = λ j some few.
+      let (s, here, low) = r.stays j some few in
+      let went = learns_stay j v w (Loads id pend) s l refl here in
+      let grown = went.3 in
+      (went.0, went.1, omega (arith, low, grown));
+}

@@ -54,14 +54,30 @@ pub fn following(number: u64, ids: u16) -> u64
     }
 }
 
-/// Raises so many times, the ids from 1 to `ids` round.
-pub fn raise_round<R: Raise>(raise: &mut R, ids: u16, turns: u64)
+/// Looks until no call of the id is outstanding.
+fn wait_done<R: Raise>(raise: &mut R, id: CyclicId, ids: u16, most: u64)
+    requires id { id ≤ ids }
+    requires ready { IsReady ids most (R.view raise.old) }
+    ensures { IsReady ids most (R.view raise.new) }
+{
+    let _number = id.number();
+    for _ in 0..u64::MAX {
+        if raise.load_pend(id) == 0 {
+            break;
+        }
+        hint::spin_loop();
+    }
+}
+
+/// Raises so many times, the ids from 1 to `ids` round, each only where its calls are done: so each goes through the buffer.
+pub fn raise_done<R: Raise>(raise: &mut R, ids: u16, turns: u64)
     requires some { 0 < ids }
     requires ready { IsReady ids 0 (R.view raise.old) }
 {
     let mut number = 1;
     for turn in 0..turns {
         if let Some(id) = CyclicId::new(number) {
+            wait_done(raise, id, ids, turn);
             raise_one(raise, id, ids, turn);
         }
         number = following(number, ids);
