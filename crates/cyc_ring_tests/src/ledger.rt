@@ -10,13 +10,13 @@ pub const IDS: usize = 64;
 #[derive(Drop)]
 pub struct Ledger {
     /// The present index of each id.
-    pub index: [u16; 64],
+    pub index: [u16; IDS],
     /// The raises of each id in all its stays, and those that were lost.
-    pub sent: [u64; 64],
-    pub lost: [u64; 64],
+    pub sent: [u64; IDS],
+    pub lost: [u64; IDS],
     /// The same of its ended stays, as each removal answered.
-    pub ended_sent: [u64; 64],
-    pub ended_lost: [u64; 64],
+    pub ended_sent: [u64; IDS],
+    pub ended_lost: [u64; IDS],
     /// The ids that are admitted are the first of all.
     pub admitted: usize,
     /// The id whose removal is open.
@@ -29,11 +29,11 @@ pub struct Ledger {
 impl Ledger {
     pub fn new() -> Ledger {
         Ledger {
-            index: [0; 64],
-            sent: [0; 64],
-            lost: [0; 64],
-            ended_sent: [0; 64],
-            ended_lost: [0; 64],
+            index: [0; IDS],
+            sent: [0; IDS],
+            lost: [0; IDS],
+            ended_sent: [0; IDS],
+            ended_lost: [0; IDS],
             admitted: 0,
             marked: None,
             bank: 0,
@@ -51,7 +51,7 @@ impl Ledger {
 
     /// The id was raised.
     pub fn note(&mut self, at: usize, answer: Raised)
-        requires { at < 64 }
+        requires { at < IDS }
     {
         self.sent[at] = self.sent[at].wrapping_add(1);
         if answer == Raised::Lost {
@@ -61,11 +61,11 @@ impl Ledger {
 
     /// The removal of the id answered. The answer is the index at which it is admitted anew.
     pub fn ended(&mut self, at: usize, counts: Sent) -> u16
-        requires { at < 64 }
+        requires { at < IDS }
     {
         self.ended_sent[at] = self.ended_sent[at].wrapping_add(counts.sent);
         self.ended_lost[at] = self.ended_lost[at].wrapping_add(counts.lost);
-        let other = self.index[at] ^ 64;
+        let other = self.index[at] ^ IDS as u16;
         if other < self.size {
             self.index[at] = other;
         }

@@ -12,7 +12,7 @@ use std::test::Fail;
 use std::thread::{Threads, join, yield_now};
 
 fn id_at(at: usize) -> Result<CyclicId, NotAllowed>
-    requires { at < 64 }
+    requires { at < IDS }
 {
     CyclicId::new(at as u64 + 1).ok_or(NotAllowed)
 }
@@ -39,7 +39,7 @@ fn grow(firer: &mut Firer, ledger: &mut Ledger) -> Result<(), NotAllowed>
 
 /// Raises the id this many times.
 fn burst(firer: &mut Firer, ledger: &mut Ledger, at: usize, times: usize) -> Result<(), NotAllowed>
-    requires { at < 64 }
+    requires { at < IDS }
     ensures { firer.new.ring.now ≡ firer.old.ring.now }
 {
     let id = id_at(at)?;
@@ -52,7 +52,7 @@ fn burst(firer: &mut Firer, ledger: &mut Ledger, at: usize, times: usize) -> Res
 
 /// Begins the removal of this id, or polls the open one. A removal that answers is followed by the id's next stay.
 fn remove(firer: &mut Firer, ledger: &mut Ledger, at: usize) -> Result<(), NotAllowed>
-    requires { at < 64 }
+    requires { at < IDS }
     ensures { firer.new.ring.now ≡ firer.old.ring.now }
 {
     let Some(marked) = ledger.marked else {
@@ -140,7 +140,7 @@ fn drain_all(
 /// Whether the closed ring, the raiser's ledger and the drainer's tally have the same of this id: in all its stays its
 /// expirations are the calls made, those outstanding and those lost.
 fn agrees(closed: &Closed, ledger: &Ledger, tally: &Tally, at: usize) -> Option<bool>
-    requires { at < 64 }
+    requires { at < IDS }
 {
     let calls = tally.count(CyclicId::new(at as u64 + 1)?)?;
     let ended = ledger.ended_sent[at].wrapping_sub(ledger.ended_lost[at]);
