@@ -1,6 +1,7 @@
 -- From rows to the cyclics that callers see.
 use Rattle.std.specs.Prelude.{insert}
-use Rattle.std.proofs.Common.{◌≡◌, inl, inr, Some, ◌<◌, ◌≤◌, All, Option, get_or, ◌++◌, ◌∷◌, ℕ, List, take, drop, arith, length, ap, sym, subst, ◌∙◌}
+use Rattle.cyc_cpu.proofs.Entering.{no_row}
+use Rattle.std.proofs.Common.{◌≡◌, ◌≢◌, inl, inr, Some, ◌<◌, ◌≤◌, All, Option, get_or, ◌++◌, ◌∷◌, ℕ, List, take, drop, arith, length, ap, sym, subst, ◌∙◌}
 use Rattle.std.proofs.Math.ListN.{set}
 use Rattle.std.proofs.lemmas.List.{length-map, get_or_default, get_or-map, map-set, map-append, take-map, drop-map}
 use Rattle.cyc_timers.specs.Rows.{Row, Cyclic, IsRow, IsRising, HasNo, cyclic_of, cyclics_of}
@@ -79,4 +80,11 @@ removed_cyclic view size most removal lock low rows id h is = elim (h.is_open id
       (k, cyclic_of r, is_cyclic rows k r row, named, (λ q. absurd (let no : Lock ≡ High = sym at ∙ q in cc)), h.ready.lock_end.removed k r row (m ∙ ap Some (sym named))))
   | inr m ↦ (let (k, r, row, named, at) = h.ready.low_end.marked_here id m in
       (k, cyclic_of r, is_cyclic rows k r row, named, (λ q. absurd (let no : Low ≡ High = sym at ∙ q in cc)), h.ready.low_end.removed k r row (m ∙ ap Some (sym named))))
+]
+
+-- no removal is open of an id that is not here
+pub not_removed : {R : Type 0} (view : R → FiringView) (size most : ℕ) (removal : Option ℕ) (lock low : R) (rows : List Row) (id : ℕ) → IsHard view size most removal lock low rows → HasNo id rows → removal ≢ Some id
+not_removed view size most removal lock low rows id h none is = elim (h.is_open id is) [
+  | inl m ↦ (let (k, r, row, named, at) = h.ready.lock_end.marked_here id m in absurd (no_row id rows k r none row named))
+  | inr m ↦ (let (k, r, row, named, at) = h.ready.low_end.marked_here id m in absurd (no_row id rows k r none row named))
 ]

@@ -47,7 +47,7 @@ pub row_put : (rows : List Row) (q : ℕ) (u : Row) → q ≤ length rows → Is
 row_put rows q u low = (let n = length-insert rows q u low in omega (arith, n, low), get_or-insert_at rows q u u low)
 
 -- no row has the id
-no_row : (id : ℕ) (rows : List Row) (k : ℕ) (r : Row) → HasNo id rows → IsRow rows k r → r.timer.id ≢ id
+pub no_row : (id : ℕ) (rows : List Row) (k : ℕ) (r : Row) → HasNo id rows → IsRow rows k r → r.timer.id ≢ id
 no_row id rows k r none is same = none k r is.0 (ap (λ (x : Row). x.timer.id) is.1 ∙ same)
 
 none_of : (o : Option Stay) → ((s : Stay) → o ≡ Some s → ⊥) → o ≡ None
@@ -119,11 +119,11 @@ module _ (soft : Level) (size : ℕ) (marked : Option ℕ) (v : FiringView) (row
     removed = removed_in;
   }
 
-pub counted_entered : (most : ℕ) (rows : List Row) (q : ℕ) (u : Row) → q ≤ length rows → IsCounted most rows → u.timer.expired ≡ 0 → u.lost ≡ 0 → IsCounted most (insert rows q u)
-counted_entered most rows q u low counted none zero' k d long =
+pub counted_entered : (most : ℕ) (rows : List Row) (q : ℕ) (u : Row) → q ≤ length rows → IsCounted most rows → u.lost ≤ u.timer.expired → u.timer.expired ≤ most → IsCounted most (insert rows q u)
+counted_entered most rows q u low counted few less k d long =
     let x = get_or (insert rows q u) k d in
     elim (row_in rows q k u x low (long, get_or_default (insert rows q u) k x d long)) [
-      | inl eq ↦ subst (λ (y : Row). (y.lost ≤ y.timer.expired) × (y.timer.expired ≤ most)) (sym eq) (omega (arith, none, zero'), omega (arith, none))
+      | inl eq ↦ subst (λ (y : Row). (y.lost ≤ y.timer.expired) × (y.timer.expired ≤ most)) (sym eq) (few, less)
       | inr (j, old) ↦ subst (λ (y : Row). (y.lost ≤ y.timer.expired) × (y.timer.expired ≤ most)) old.1 (counted j x old.0)
     ]
 
@@ -161,10 +161,10 @@ marks_same step view false id index e f g = ap (λ x. (view x).marked) (sym g)
 
 -- the CPU with one cyclic more
 pub hard_entered : {R : Type 0} (step : R → FiringCall → R → Type 0) (view : R → FiringView) (size most : ℕ) (removal : Option ℕ) (lock low lock' low' : R) (rows : List Row) (q id index : ℕ) (own : Level) (u : Row) →
-    IsHard view size most removal lock low rows → q ≤ length rows → HasNo id rows → removal ≢ Some id → u.timer.id ≡ id → u.timer.level ≡ own → u.index ≡ index → u.timer.expired ≡ 0 → u.lost ≡ 0 →
+    IsHard view size most removal lock low rows → q ≤ length rows → HasNo id rows → removal ≢ Some id → u.timer.id ≡ id → u.timer.level ≡ own → u.index ≡ index → u.lost ≤ u.timer.expired → u.timer.expired ≤ most →
     Goes step view lock (admits_at level.Lock own id index) lock' → Goes step view low (admits_at level.Low own id index) low' → (Sound (view lock) → Sound (view lock')) → (Sound (view low) → Sound (view low')) →
     IsHard view size most removal lock' low' (insert rows q u)
-hard_entered step view size most removal lock low lock' low' rows q id index own u h bound none still named at indexed no_sent no_lost lock_goes low_goes sound_lock sound_low =
+hard_entered step view size most removal lock low lock' low' rows q id index own u h bound none still named at indexed few less lock_goes low_goes sound_lock sound_low =
     let k = marks_same step view _ id index lock lock' lock_goes in
     let w = marks_same step view _ id index low low' low_goes in
     record {
@@ -173,7 +173,7 @@ hard_entered step view size most removal lock low lock' low' rows q id index own
             (entered_at step view level.Lock own size (view lock).marked lock lock' rows q id index u h.ready.lock_end bound none (λ m. still (h.lock_marked id m)) named at indexed sound_lock _ (lock_yes own) (lock_no own) lock_goes);
         low_end = subst (λ m. IsEnd level.Low size m (view low') (insert rows q u)) (sym w)
             (entered_at step view level.Low own size (view low).marked low low' rows q id index u h.ready.low_end bound none (λ m. still (h.low_marked id m)) named at indexed sound_low _ (low_yes own) (low_no own) low_goes);
-        counted = counted_entered most rows q u bound h.ready.counted no_sent no_lost;
+        counted = counted_entered most rows q u bound h.ready.counted few less;
       };
       lock_marked = λ i m. h.lock_marked i (sym k ∙ m);
       low_marked = λ i m. h.low_marked i (sym w ∙ m);

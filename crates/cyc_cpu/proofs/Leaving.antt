@@ -7,7 +7,7 @@ use Rattle.std.proofs.lemmas.Bool.Decides.{nat_tests}
 use Rattle.std.proofs.lemmas.List.{get_or_default, map-append, take-map, drop-map}
 use Rattle.std.proofs.lemmas.List.Edits.{length-remove, get_or-remove_below, get_or-remove_above}
 use Rattle.cyc_types.specs.Series.{never}
-use Rattle.cyc_types.specs.Firing.{FiringView, FiringCall, Loads, Marks, Polls, Learns, Sound, Stay, MayMark, MayPoll, edited, saw}
+use Rattle.cyc_types.specs.Firing.{FiringView, FiringCall, Loads, Marks, Polls, Learns, Sound, Stay, MayMark, MayPoll, edited, saw, seen_in, seen_of}
 use Rattle.cyc_types.specs.Runs.{Goes}
 use Rattle.cyc_types.specs.declared.firing.Sent.{Sent}
 use Rattle.cyc_types.specs.declared.level.Level.{Level}
@@ -207,6 +207,18 @@ module _ {R : Type 0} (step : R → FiringCall → R → Type 0) (view : R → F
     same = goes_not step view soft own e f _ goes;
     unmarked = unmarked;
   }
+
+-- a cyclic that is taken where nothing of it is outstanding
+pub taken_left : {R : Type 0} (step : R → FiringCall → R → Type 0) (view : R → FiringView) (soft own : Level) (id : ℕ) (counts : Sent) (e f : R) →
+    Goes step view e (calls_at soft own (Loads id 0 ∷ Marks id 0 ∷ Polls id (Some counts) ∷ [])) f → Sound (view f) → (own ≢ soft → (view e).marked ≡ None) → EndLeft view soft own id e f
+taken_left step view soft own id counts e f goes sound unmarked = record {
+  cleared = λ at. (let (a, (s0, l0), (m, (s1, l1), (n, (s2, l2), last))) = goes_here step view soft own e f _ goes at in
+      subst (λ x. Clears (view e) (view x) id) last (clears_after (view e) (view a) (view n) id (sees_load (view e) (view a) id 0 l0)
+      (clears_after (view a) (view m) (view n) id (sees_mark (view a) (view m) id 0 l1) (clears_poll (view m) (view n) id counts l2))));
+  sound = λ at. sound;
+  same = goes_not step view soft own e f _ goes;
+  unmarked = unmarked;
+}
 
 pub counted_left : (most : ℕ) (rows : List Row) (k : ℕ) → k < length rows → IsCounted most rows → IsCounted most (remove rows k)
 counted_left most rows k low counted j d long =
@@ -411,3 +423,19 @@ module _ {R : Type 0} (step : R → FiringCall → R → Type 0) (view : R → F
     counted = counted;
     leaves = leaves_from receipt.id (Polls receipt.id (Some counts) ∷ []) c u v w is (subst (λ q. Leaves step view q (Polls q (Some counts) ∷ []) c u w) (sym named) leaves);
   }
+
+-- a cyclic that was just asked for may be marked, and what was found is what is seen of it
+pub may_mark : (v w : FiringView) (id n : ℕ) → MayMark id v → Learns v (Loads id n) w → MayMark id w
+may_mark v w id n ((s, stay, _), none, free) l =
+    let (t, there, unit) = marked_stay (eqb id id) n (v.stays id) s stay in
+    ((t, ap (λ (x : FiringView). x.stays id) l.1 ∙ there, tt), ap (λ (x : FiringView). x.marked) l.1 ∙ none, ap (λ (x : FiringView). x.hand_free) l.1 ∙ free)
+
+seen_stay : (n : ℕ) (o : Option Stay) (s : Stay) → o ≡ Some s → seen_in (edited (λ s. record s { seen = n }) o) ≡ n
+seen_stay n (Some t) s h = refl
+seen_stay n None s h = absurd (let wrong : None ≡ Some s = h in cc)
+
+pub seen_now : (v w : FiringView) (id n : ℕ) → MayMark id v → Learns v (Loads id n) w → seen_of id w ≡ n
+seen_now v w id n ((s, stay, _), none, free) l =
+    ap (λ (x : FiringView). seen_of id x) l.1
+    ∙ (let yes : eqb id id ≡ true = eq-eqb id id refl in ap (λ b. seen_in (cond b (edited (λ s. record s { seen = n }) (v.stays id)) (v.stays id))) yes)
+    ∙ seen_stay n (v.stays id) s stay

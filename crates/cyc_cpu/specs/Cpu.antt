@@ -146,19 +146,27 @@ pub record Widens {R : Type 0} (step : R → FiringCall → R → Type 0) (view 
   pub room : w.room ≡ v.room
   pub most : w.most ≡ v.most
 
+-- a cyclic with the counts that it carries in
+abbrev pub cyclic_with : ℕ → Level → ℕ → ℕ → ℕ → ℕ → Cyclic
+cyclic_with id level interval moment expired lost = record { timer = record { id = id; level = level; interval = interval; moment = moment; expired = expired }; lost = lost }
+
 -- a cyclic that has not expired yet
 abbrev pub new_cyclic : ℕ → Level → ℕ → ℕ → Cyclic
-new_cyclic id level interval moment = record { timer = record { id = id; level = level; interval = interval; moment = moment; expired = 0 }; lost = 0 }
+new_cyclic id level interval moment = cyclic_with id level interval moment 0 0
 
 -- the cyclic stands at its place among the others, and is admitted at the end of its level
-pub record Enters {R : Type 0} (step : R → FiringCall → R → Type 0) (view : R → FiringView) (id : ℕ) (level : Level) (interval moment : ℕ) (v w : CpuView R) : Type 0 where
+pub record Places {R : Type 0} (step : R → FiringCall → R → Type 0) (view : R → FiringView) (c : Cyclic) (v w : CpuView R) : Type 0 where
   pub place : ℕ
   pub index : ℕ
   pub within : place ≤ length v.cyclics
-  pub cyclics : w.cyclics ≡ insert v.cyclics place (new_cyclic id level interval moment)
-  pub lock : Goes step view v.lock (admits_at Lock level id index) w.lock
-  pub low : Goes step view v.low (admits_at Low level id index) w.low
+  pub cyclics : w.cyclics ≡ insert v.cyclics place c
+  pub lock : Goes step view v.lock (admits_at Lock c.timer.level c.timer.id index) w.lock
+  pub low : Goes step view v.low (admits_at Low c.timer.level c.timer.id index) w.low
   pub kept : SameCpu v w
+
+-- a cyclic that has not expired yet was put in
+abbrev pub Enters : {R : Type 0} → (R → FiringCall → R → Type 0) → (R → FiringView) → ℕ → Level → ℕ → ℕ → CpuView R → CpuView R → Type 0
+Enters step view id level interval moment v w = Places step view (new_cyclic id level interval moment) v w
 
 -- these expirations of a fire at now were made: each cyclic stands where they leave it, the handlers of the high ones were
 -- called, the others were raised at their ends, and each id lost what its raises lost

@@ -5,3 +5,4 @@ pub mod Cpu
 pub mod Shares
 pub mod Soft
 pub mod Removal
+pub mod Moving

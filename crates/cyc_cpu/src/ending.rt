@@ -1,8 +1,8 @@
 //! How a stay ends at the end of its level.
 
-ghost use Rattle.std.specs.Prelude.{◌≡◌, ◌<◌, ◌≤◌, ◌∷◌, [], Some, None};
+ghost use Rattle.std.specs.Prelude.{◌≡◌, ◌≢◌, ℕ, ◌+◌, ◌<◌, ◌≤◌, ◌∷◌, [], Some, None};
 ghost use Rattle.std.specs.Bool.{OnTrue, OnFalse};
-ghost use Rattle.cyc_types.specs.Firing.{MayMark, MayPoll, Marks, Polls, Sound, seen_of};
+ghost use Rattle.cyc_types.specs.Firing.{MayMark, MayPoll, Loads, Marks, Polls, Sound, seen_of};
 ghost use Rattle.cyc_types.specs.Runs.{Goes};
 ghost use Rattle.cyc_types.specs.declared.firing.Sent.{Sent as Counts};
 ghost use Rattle.cyc_types.specs.declared.level.Level.TheVariants.{Low, Lock, High};
@@ -74,5 +74,40 @@ pub(crate) fn poll_at<R: Raise>(id: CyclicId, level: Level, lock: &mut R, low: &
         Level::High => true,
         Level::Lock => poll_end(lock, id),
         Level::Low => poll_end(low, id),
+    }
+}
+
+/// Ends the stay of the cyclic where its load finds no call outstanding, and says whether it did.
+fn take_from<R: Raise>(end: &mut R, id: CyclicId) -> bool
+    requires { MayMark id (R.view end.old) }
+    ensures ended { OnTrue result ((counts : Counts) × Goes R.step R.view end.old (Loads id 0 ∷ Marks id 0 ∷ Polls id (Some counts) ∷ []) end.new) }
+    ensures pending { OnFalse result ((n : ℕ) × (0 < n) × (n ≤ seen_of id (R.view end.old)) × Goes R.step R.view end.old (Loads id n ∷ []) end.new) }
+    ensures sound { Sound (R.view end.new) }
+{
+    if end.load_pend(id) > 0 {
+        return false;
+    }
+    if remove_from(end, id) > 0 {
+        unreachable!()
+    }
+    true
+}
+
+/// Ends the stay of the cyclic at the end of its level where its load finds no call outstanding, and says whether it did.
+pub(crate) fn take_at<R: Raise>(id: CyclicId, level: Level, lock: &mut R, low: &mut R) -> bool
+    requires lock { level ≡ Lock → MayMark id (R.view lock.old) }
+    requires low { level ≡ Low → MayMark id (R.view low.old) }
+    ensures ended { OnTrue result ((counts : Counts) × Goes R.step R.view lock.old (calls_at Lock level (Loads id 0 ∷ Marks id 0 ∷ Polls id (Some counts) ∷ [])) lock.new
+        × Goes R.step R.view low.old (calls_at Low level (Loads id 0 ∷ Marks id 0 ∷ Polls id (Some counts) ∷ [])) low.new) }
+    ensures pending { OnFalse result ((n : ℕ) × (0 < n) × (n ≤ seen_of id (R.view lock.old) + seen_of id (R.view low.old))
+        × Goes R.step R.view lock.old (calls_at Lock level (Loads id n ∷ [])) lock.new × Goes R.step R.view low.old (calls_at Low level (Loads id n ∷ [])) low.new) }
+    ensures soft { OnFalse result (level ≢ High) }
+    ensures sound_lock { Sound (R.view lock.old) → Sound (R.view lock.new) }
+    ensures sound_low { Sound (R.view low.old) → Sound (R.view low.new) }
+{
+    match level {
+        Level::High => true,
+        Level::Lock => take_from(lock, id),
+        Level::Low => take_from(low, id),
     }
 }

@@ -9,10 +9,10 @@ ghost use Rattle.cyc_expirations.specs.Expirations.{Expiration, expirations};
 ghost use Rattle.cyc_timers.specs.Rows.{Cyclic, timers};
 ghost use Rattle.cyc_cpu.specs.Cpu.{CpuView, Makes, WhyStopped, SameCpu, IsFresh, IsCyclic, HasNoCyclic, with_moment, Asks, HasRoom, WhyNoRoom, Looked, MayWiden, Reserves, Widens, Enters, size_for, AreAdmitted, IsRemoved, HasRisingIds};
 
-use crate::ends::{admit_at, both_followed, least_bank, load_pend, places_of};
+use crate::ends::{both_followed, least_bank, load_pend, places_of};
 use crate::fire::{FireRefused, Fired, fire_all};
-use cyc_timers::{Record, Table};
-use cyc_types::{CYCLICS, Calls, CyclicId, Interval, Level, Moment, Raise, Refusal, When};
+use cyc_timers::Table;
+use cyc_types::{CYCLICS, Calls, CyclicId, Interval, Level, Moment, Raise, Refusal, Sent, When};
 use std::alloc::Global;
 use std::marker::Model;
 
@@ -267,7 +267,6 @@ impl<R: Raise> Hard<R> {
         now: Moment,
     ) -> Result<(), Refusal>
         requires absent { HasNoCyclic id self.old.cyclics }
-        requires still { self.old.removal ≢ Some id }
         ensures ok { OnOk result ((now ≢ never) × (u : CpuView R) × (w : CpuView R) × Reserves R.step R.view self.old u × Widens R.step R.view 1 u w
             × Enters R.step R.view id level when.interval (first when.start when.interval now) w self.new) }
         ensures bad_now { IfErr result (λ e. now ≡ never → (e ≡ BadNow) × (self.new ≡ self.old)) }
@@ -286,20 +285,10 @@ impl<R: Raise> Hard<R> {
     /// Puts in a cyclic that has not expired yet, and admits it at the end of its level.
     fn enter(&mut self, id: CyclicId, level: Level, interval: Interval, moment: Moment)
         requires absent { HasNoCyclic id self.old.cyclics }
-        requires still { self.old.removal ≢ Some id }
         requires free { length self.old.cyclics < self.old.size }
         ensures { Enters R.step R.view id level interval moment self.old self.new }
     {
-        let _ = moment.nanoseconds();
-        let _ = interval.nanoseconds();
-        let kept = Record {
-            level,
-            interval,
-            expired: 0,
-            lost: 0,
-        };
-        let index = self.table.insert(id, moment, kept);
-        admit_at(id, level, index, &mut self.lock, &mut self.low);
+        self.place(id, level, interval, moment, Sent { sent: 0, lost: 0 });
     }
 
     /// Whether the removal of this id is open.

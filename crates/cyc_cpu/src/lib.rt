@@ -9,10 +9,12 @@ mod ends;
 mod fire;
 mod hard;
 mod law;
+mod moving;
 mod removing;
 mod soft;
 
 pub use fire::{FireRefused, Fired};
 pub use hard::{Hard, Totals};
 pub use law::share_law;
+pub use moving::Taken;
 pub use removing::Removal;

@@ -164,6 +164,25 @@ impl Table {
         self.records[self.places[place].index.number() as usize]
     }
 
+    /// The id of the cyclic at this place.
+    pub fn id_at(&self, place: usize) -> CyclicId
+        requires { place < length self.now.rows }
+        ensures { (r : Row) → IsRow self.now.rows place r → result ≡ r.timer.id }
+    {
+        self.places[place].id
+    }
+
+    /// The next expiration of the cyclic at this place.
+    pub fn moment_at(&self, place: usize) -> Moment
+        requires { place < length self.now.rows }
+        ensures { (r : Row) → IsRow self.now.rows place r → result ≡ r.timer.moment }
+    {
+        match self.heap.at(self.places[place].index) {
+            Some((moment, _)) => moment,
+            None => unreachable!(),
+        }
+    }
+
     /// What is kept of the cyclic with this index.
     pub fn record(&self, index: Index) -> Record
         requires { (k : ℕ) × (r : Row) × IsRow self.now.rows k r × (r.index ≡ index) }

@@ -1,16 +1,16 @@
 use Rattle.std.proofs.lemmas.List.{length-map}
-use Rattle.std.proofs.Common.{◌≢◌, length, arith, ap, sym, ◌∙◌, subst, refl, Some}
+use Rattle.std.proofs.Common.{◌≤◌, length, arith, ap, sym, ◌∙◌, subst, refl}
 use Rattle.std.specs.Prelude.{insert}
 use Rattle.cyc_types.specs.Runs.{Goes}
 use Rattle.cyc_types.specs.declared.level.Level.TheVariants.{Low, Lock}
 use Rattle.cyc_timers.specs.declared.table.Record.{Record}
 use Rattle.cyc_timers.specs.Rows.{cyclic_of, cyclics_of, with_record, vacant_row}
-use Rattle.cyc_cpu.specs.Cpu.{CpuView, HasNoCyclic, new_cyclic}
+use Rattle.cyc_cpu.specs.Cpu.{CpuView, HasNoCyclic, cyclic_with}
 use Rattle.cyc_cpu.specs.Ends.{IsHard}
 use Rattle.cyc_cpu.specs.Quiet.{admits_at}
-use Rattle.cyc_cpu.proofs.Cyclics.{no_row_of, cyclics_insert}
+use Rattle.cyc_cpu.proofs.Cyclics.{no_row_of, cyclics_insert, not_removed}
 use Rattle.cyc_cpu.proofs.Entering.{hard_entered, may_admit}
-use Rattle.cyc_cpu.proofs.hard.Hard.enter.Goals as goal
+use Rattle.cyc_cpu.proofs.hard.Hard.place.Goals as goal
 
 pub insert-index-requires-clause-absent : goal.insert-index-requires-clause-absent
 insert-index-requires-clause-absent g c = no_row_of c.args.id c.self.inside.table.rows (subst (λ (v : CpuView _). HasNoCyclic c.args.id v.cyclics) (sym c.self.view_is) c.requires.absent)
@@ -31,26 +31,27 @@ pub invariant_of-self : goal.invariant_of-self
 invariant_of-self g c =
     let i = c.self.inside in let e = c.admit_at.ensures in
     let none = no_row_of c.args.id i.table.rows (subst (λ (v : CpuView _). HasNoCyclic c.args.id v.cyclics) (sym c.self.view_is) c.requires.absent) in
-    let still : i.removal ≢ Some c.args.id = λ h. c.requires.still (sym (ap (λ (v : CpuView _). v.removal) c.self.view_is) ∙ h) in
+    let still = not_removed g.R.Raise.view i.table.size i.most i.removal i.lock i.low i.table.rows c.args.id c.self.invariant none in
     let (q, bound, rows) = c.insert-index.ensures.rows in
-    let kept : Record = record { level = c.args.level; interval = c.args.interval; expired = 0; lost = 0 } in
+    let kept : Record = record { level = c.args.level; interval = c.args.interval; expired = c.args.carried.sent; lost = c.args.carried.lost } in
     let u = with_record c.args.moment kept (vacant_row c.args.id c.insert-index.result) in
+    let most : c.args.carried.sent ≤ i.most = (let m = c.requires.most in let v = ap (λ (x : CpuView _). x.most) c.self.view_is in omega (arith, m, v)) in
     subst (λ xs. IsHard g.R.Raise.view c.insert-index.new.self.size i.most i.removal c.admit_at.new.lock c.admit_at.new.low xs) (sym rows)
     (subst (λ n. IsHard g.R.Raise.view n i.most i.removal c.admit_at.new.lock c.admit_at.new.low (insert i.table.rows q u)) (sym c.insert-index.ensures.size)
     (hard_entered g.R.Raise.step g.R.Raise.view i.table.size i.most i.removal i.lock i.low c.admit_at.new.lock c.admit_at.new.low i.table.rows q c.args.id c.insert-index.result c.args.level u
-    c.self.invariant bound none still refl refl refl refl refl e.lock e.low e.sound_lock e.sound_low))
+    c.self.invariant bound none still refl refl refl c.requires.lost most e.lock e.low e.sound_lock e.sound_low))
 
 pub returns : goal.returns
 returns g c =
     let i = c.self.inside in let e = c.admit_at.ensures in let v = c.self.view_is in
     let (q, bound, rows) = c.insert-index.ensures.rows in
-    let kept : Record = record { level = c.args.level; interval = c.args.interval; expired = 0; lost = 0 } in
+    let kept : Record = record { level = c.args.level; interval = c.args.interval; expired = c.args.carried.sent; lost = c.args.carried.lost } in
     let u = with_record c.args.moment kept (vacant_row c.args.id c.insert-index.result) in
     record {
       place = q;
       index = c.insert-index.result;
       within = (let l = ap (λ (x : CpuView _). length x.cyclics) v in let m = length-map i.table.rows cyclic_of in omega (arith, bound, l, m));
-      cyclics = ap cyclics_of rows ∙ cyclics_insert i.table.rows q u ∙ ap (λ (x : CpuView _). insert x.cyclics q (new_cyclic c.args.id c.args.level c.args.interval c.args.moment)) v;
+      cyclics = ap cyclics_of rows ∙ cyclics_insert i.table.rows q u ∙ ap (λ (x : CpuView _). insert x.cyclics q (cyclic_with c.args.id c.args.level c.args.interval c.args.moment c.args.carried.sent c.args.carried.lost)) v;
       lock = subst (λ (x : CpuView _). Goes g.R.Raise.step g.R.Raise.view x.lock (admits_at Lock c.args.level c.args.id c.insert-index.result) c.admit_at.new.lock) v e.lock;
       low = subst (λ (x : CpuView _). Goes g.R.Raise.step g.R.Raise.view x.low (admits_at Low c.args.level c.args.id c.insert-index.result) c.admit_at.new.low) v e.low;
       kept = record {

@@ -1,0 +1,36 @@
+-- How a cyclic moves from one CPU to another (`cyclic_juggle_one_to`).
+use Rattle.std.specs.Prelude.{◌≡◌, ℕ, ◌+◌, ◌<◌, [], ◌∷◌, Some, None}
+use Rattle.cyc_types.specs.Firing.{FiringView, FiringCall, Loads, Marks, Polls, seen_of}
+use Rattle.cyc_types.specs.declared.firing.Sent.{Sent}
+use Rattle.cyc_types.specs.declared.refusal.Refusal.{Refusal}
+use Rattle.cyc_types.specs.declared.refusal.Refusal.TheVariants as why
+use Rattle.cyc_timers.specs.Rows.{Cyclic}
+use Rattle.cyc_cpu.specs.declared.moving.Taken.{Taken}
+use Rattle.cyc_cpu.specs.Cpu.{CpuView, HasNoCyclic, Asks, HasFollowed}
+use Rattle.cyc_cpu.specs.Removal.{Leaves, HasCyclic}
+
+-- what was seen of a cyclic at the two ends: at least its outstanding calls
+abbrev pub seen_at : {R : Type 0} → (R → FiringView) → ℕ → CpuView R → ℕ
+seen_at view id v = seen_of id (view v.lock) + seen_of id (view v.low)
+
+-- what was taken is all that the CPU has of this cyclic
+abbrev pub IsTaken : Taken → Cyclic → Type 0
+IsTaken taken c = (taken.level ≡ c.timer.level) × (taken.interval ≡ c.timer.interval) × (taken.moment ≡ c.timer.moment)
+    × (taken.sent.sent ≡ c.timer.expired) × (taken.sent.lost ≡ c.lost)
+
+-- the cyclic has left with all its counts: its load found nothing outstanding, and then the mark and the poll
+abbrev pub Takes : {R : Type 0} → (R → FiringCall → R → Type 0) → (R → FiringView) → ℕ → Taken → CpuView R → CpuView R → Type 0
+Takes step view id taken v w = (c : Cyclic) × (counts : Sent) × IsTaken taken c × Leaves step view id (Loads id 0 ∷ Marks id 0 ∷ Polls id (Some counts) ∷ []) c v w
+
+-- why a cyclic was not taken; where calls of it are outstanding it was asked for, and nothing else was done
+abbrev pub WhyNotTaken : {R : Type 0} → (R → FiringCall → R → Type 0) → (R → FiringView) → ℕ → CpuView R → Refusal → CpuView R → Type 0
+WhyNotTaken step view id v why.NoCyclic w = HasNoCyclic id v.cyclics × (w ≡ v)
+WhyNotTaken step view id v (why.Busy removed) w = HasCyclic id v.cyclics × (v.removal ≡ Some removed) × (w ≡ v)
+WhyNotTaken step view id v why.Pending w = (v.removal ≡ None) × (0 < seen_at view id v) × (n : ℕ) × (0 < n) × Asks step view id n v w
+WhyNotTaken step view id v e w = ⊥
+
+-- no call is outstanding, both soft sides have followed, and no removal is open
+pub record IsSettled {R : Type 0} (view : R → FiringView) (v : CpuView R) : Type 0 where
+  pub seen : (id : ℕ) → seen_at view id v ≡ 0
+  pub followed : HasFollowed view v
+  pub still : v.removal ≡ None
