@@ -8,3 +8,4 @@ pub mod Entering
 pub mod Sharing
 pub mod Softs
 pub mod Leaving
+pub mod Inquiring

@@ -6,7 +6,8 @@ use Rattle.cyc_types.specs.declared.refusal.Refusal.{Refusal}
 use Rattle.cyc_types.specs.declared.refusal.Refusal.TheVariants as why
 use Rattle.cyc_timers.specs.Rows.{Cyclic}
 use Rattle.cyc_cpu.specs.declared.moving.Taken.{Taken}
-use Rattle.cyc_cpu.specs.Cpu.{CpuView, HasNoCyclic, Asks, HasFollowed}
+use Rattle.cyc_cpu.specs.Cpu.{CpuView, HasNoCyclic, Asks, HasFollowed, SameCpu}
+use Rattle.cyc_cpu.specs.Quiet.{LoadsThenLooks}
 use Rattle.cyc_cpu.specs.Removal.{Leaves, HasCyclic}
 
 -- what was seen of a cyclic at the two ends: at least its outstanding calls
@@ -34,3 +35,10 @@ pub record IsSettled {R : Type 0} (view : R → FiringView) (v : CpuView R) : Ty
   pub seen : (id : ℕ) → seen_at view id v ≡ 0
   pub followed : HasFollowed view v
   pub still : v.removal ≡ None
+
+-- the ends were asked for their cyclics, and then at most whether their soft sides have followed
+pub record Inquires {R : Type 0} (step : R → FiringCall → R → Type 0) (view : R → FiringView) (v w : CpuView R) : Type 0 where
+  pub lock : LoadsThenLooks step view v.lock w.lock
+  pub low : LoadsThenLooks step view v.low w.low
+  pub cyclics : w.cyclics ≡ v.cyclics
+  pub kept : SameCpu v w

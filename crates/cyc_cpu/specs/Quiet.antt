@@ -29,3 +29,11 @@ pub record KeepsStays (v w : FiringView) : Type 0 where
   pub bank : w.bank ≡ v.bank
   pub ceiling : w.ceiling ≡ v.ceiling
   pub free : w.hand_free ≡ v.hand_free
+
+-- the end was asked for any cyclics, and nothing else: each with its answer
+abbrev pub OnlyLoads : {R : Type 0} → (R → FiringCall → R → Type 0) → (R → FiringView) → R → R → Type 0
+OnlyLoads step view e f = (asked : List (ℕ × ℕ)) × Goes step view e (map (λ a. Loads a.0 a.1) asked) f
+
+-- the end was asked for any cyclics, and then any number of times whether its soft side has followed
+abbrev pub LoadsThenLooks : {R : Type 0} → (R → FiringCall → R → Type 0) → (R → FiringView) → R → R → Type 0
+LoadsThenLooks {R} step view e g = (f : R) × OnlyLoads step view e f × OnlyLooks step view f g

@@ -11,6 +11,7 @@ mod hard;
 mod law;
 mod moving;
 mod removing;
+mod settling;
 mod soft;
 
 pub use fire::{FireRefused, Fired};

@@ -1,0 +1,73 @@
+use Rattle.std.proofs.Common.{[], ◌∷◌, sym, ◌∙◌, refl, arith}
+use Rattle.cyc_types.specs.declared.level.Level.TheVariants.{Low, Lock}
+use Rattle.cyc_cpu.proofs.Readying.{hard_kept, looks_keep}
+use Rattle.cyc_cpu.proofs.Softs.{keeps_on}
+use Rattle.cyc_cpu.proofs.Inquiring.{only_loads_keep, looks_see, quiet_end, none_some, on_true, inquires_from}
+use Rattle.cyc_cpu.proofs.hard.Hard.settled.Goals as goal
+
+pub returns-then-is_some-clause-inquires : goal.returns-then-is_some-clause-inquires
+returns-then-is_some-clause-inquires g c =
+    let v = c.args.self.now in
+    record {
+      lock = (v.lock, ([], refl), ([], refl));
+      low = (v.low, ([], refl), ([], refl));
+      cyclics = refl;
+      kept = record { removal = refl; size = refl; room = refl; most = refl };
+    }
+
+pub invariant_of-self : goal.invariant_of-self
+invariant_of-self g c =
+    let i = c.self.inside in let e = c.all_quiet.ensures in let h = c.self.invariant in
+    hard_kept g.R.Raise.view i.table.size i.most i.removal i.lock i.low c.all_quiet.new.lock c.all_quiet.new.low i.table.rows h
+    (only_loads_keep g.R.Raise.step g.R.Raise.view i.lock c.all_quiet.new.lock e.lock) (e.sound_lock h.ready.lock_end.sound)
+    (only_loads_keep g.R.Raise.step g.R.Raise.view i.low c.all_quiet.new.low e.low) (e.sound_low h.ready.low_end.sound)
+
+pub returns-then-not-all_quiet-clause-inquires : goal.returns-then-not-all_quiet-clause-inquires
+returns-then-not-all_quiet-clause-inquires g c =
+    let e = c.all_quiet.ensures in
+    inquires_from g.R.Raise.step g.R.Raise.view _ _ _ c.self.view_is (record {
+      lock = (c.all_quiet.new.lock, e.lock, ([], refl));
+      low = (c.all_quiet.new.low, e.low, ([], refl));
+      cyclics = refl;
+      kept = record { removal = refl; size = refl; room = refl; most = refl };
+    })
+
+pub invariant_of-self-2 : goal.invariant_of-self-2
+invariant_of-self-2 g c =
+    let i = c.self.inside in let e = c.all_quiet.ensures in let h = c.self.invariant in let f = c.both_followed.ensures in
+    let (a, (stepped, learns)) = f.lock in
+    let (b, (stepped', learns')) = f.low in
+    hard_kept g.R.Raise.view i.table.size i.most i.removal i.lock i.low c.both_followed.new.lock c.both_followed.new.low i.table.rows h
+    (keeps_on (g.R.Raise.view i.lock) (g.R.Raise.view c.all_quiet.new.lock) (g.R.Raise.view c.both_followed.new.lock) (only_loads_keep g.R.Raise.step g.R.Raise.view i.lock c.all_quiet.new.lock e.lock)
+    (looks_keep (g.R.Raise.view c.all_quiet.new.lock) (g.R.Raise.view c.both_followed.new.lock) a learns)) f.sound_lock
+    (keeps_on (g.R.Raise.view i.low) (g.R.Raise.view c.all_quiet.new.low) (g.R.Raise.view c.both_followed.new.low) (only_loads_keep g.R.Raise.step g.R.Raise.view i.low c.all_quiet.new.low e.low)
+    (looks_keep (g.R.Raise.view c.all_quiet.new.low) (g.R.Raise.view c.both_followed.new.low) b learns')) f.sound_low
+
+pub returns-clause-yes : goal.returns-clause-yes
+returns-clause-yes g c =
+    let i = c.self.inside in let e = c.all_quiet.ensures in let h = c.self.invariant in let f = c.both_followed.ensures in
+    let q = c.if-not-all_quiet.ensures in
+    let (a, (stepped, learns)) = f.lock in
+    let (b, (stepped', learns')) = f.low in
+    on_true c.both_followed.result _ _ (λ both. record {
+      seen = λ id.
+          let x = quiet_end g.R.Raise.step g.R.Raise.view Lock i.table.size (g.R.Raise.view i.lock).marked i.lock c.all_quiet.new.lock i.table.rows h.ready.lock_end (only_loads_keep g.R.Raise.step g.R.Raise.view i.lock c.all_quiet.new.lock e.lock) q.quiet_lock id in
+          let y = quiet_end g.R.Raise.step g.R.Raise.view Low i.table.size (g.R.Raise.view i.low).marked i.low c.all_quiet.new.low i.table.rows h.ready.low_end (only_loads_keep g.R.Raise.step g.R.Raise.view i.low c.all_quiet.new.low e.low) q.quiet_low id in
+          let z = looks_see g.R.Raise.step g.R.Raise.view c.all_quiet.new.lock c.both_followed.new.lock a id learns in
+          let w = looks_see g.R.Raise.step g.R.Raise.view c.all_quiet.new.low c.both_followed.new.low b id learns' in
+          omega (arith, x, y, z, w);
+      followed = both;
+      still = none_some i.removal (sym c.is_some.ensures ∙ c.if-is_some.false);
+    }) f.yes
+
+pub returns-clause-inquires : goal.returns-clause-inquires
+returns-clause-inquires g c =
+    let e = c.all_quiet.ensures in let f = c.both_followed.ensures in
+    let (a, taught) = f.lock in
+    let (b, taught') = f.low in
+    inquires_from g.R.Raise.step g.R.Raise.view _ _ _ c.self.view_is (record {
+      lock = (c.all_quiet.new.lock, e.lock, (a ∷ [], (c.both_followed.new.lock, taught, refl)));
+      low = (c.all_quiet.new.low, e.low, (b ∷ [], (c.both_followed.new.low, taught', refl)));
+      cyclics = refl;
+      kept = record { removal = refl; size = refl; room = refl; most = refl };
+    })
