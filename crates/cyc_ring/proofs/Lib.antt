@@ -5,6 +5,8 @@ pub mod Rows
 pub mod Balance
 pub mod Listing
 pub mod Calls
+pub mod RaiseSteps
 pub mod Hands
+pub mod Finishes
 pub mod Closing
 pub mod Ways

@@ -1,5 +1,5 @@
 //! The atomic steps of a ring, one function for each kind. Each makes one step on one word.
-ghost use Rattle.std.specs.Prelude.{◌≡◌, ◌≢◌, ℕ, ◌+◌, ◌%◌, ◌^◌, ◌<◌, ◌≤◌, true, Some, None};
+ghost use Rattle.std.specs.Prelude.{◌≡◌, ◌≢◌, ℕ, ◌+◌, ◌%◌, ◌^◌, ◌<◌, ◌≤◌, true, Some, None, IsSome};
 ghost use Rattle.cyc_types.specs.Limits.{cyclics, greatest_bank};
 ghost use Rattle.cyc_level.specs.Level.{bank_size};
 ghost use Rattle.cyc_level.specs.Events.{most_sent};
@@ -78,7 +78,8 @@ impl Ring {
         requires hand { firer_hand_of seat.old.me.0.raise_trail ≡ Some J.id }
         requires word { (word < self.now.table.shared.table_id.words) × (word ≡ place (hard_bank_of seat.old.me.0.raise_trail) (producer_index J.setting.start seat.old.me.0.raise_trail)) }
         requires value { (s : StayCounts) × (open_stay J.id seat.old.me.0.raise_trail ≡ Some s) × (value ≡ entry J.id s.index) }
-        ensures { MakesRaiseStep J.setting (Stored value) seat.old seat.new }
+        ensures stored { IsSome (stored_entry seat.new.me.0.raise_trail) }
+        ensures step { MakesRaiseStep J.setting (Stored value) seat.old seat.new }
     {
         self.table.shared.store::<Store<J>>(seat, word, value);
     }
@@ -88,7 +89,7 @@ impl Ring {
         requires setting { J.setting ≡ self.now.setting }
         requires own { (seat.old.table_id ≡ self.now.table.shared.table_id) × (seat.old.me.0.role ≡ Raise) }
         requires hand { firer_hand_of seat.old.me.0.raise_trail ≡ Some J.id }
-        requires stored { (e : ℕ) × (stored_entry seat.old.me.0.raise_trail ≡ Some e) }
+        requires stored { IsSome (stored_entry seat.old.me.0.raise_trail) }
         requires bank { (bank ≡ hard_bank_of seat.old.me.0.raise_trail) × (bank ≤ greatest_bank) }
         requires next { next ≡ (producer_index J.setting.start seat.old.me.0.raise_trail + 1) % index_range }
         ensures { MakesRaiseStep J.setting (Published next) seat.old seat.new }

@@ -1,4 +1,4 @@
-use Rattle.std.proofs.Common.{rules, ◌≡◌, ℕ, ◌%◌, List, ◌∷◌, ◌++◌, refl, sym, ap, ◌∙◌, subst}
+use Rattle.std.proofs.Common.{rules, ◌≡◌, ℕ, ◌%◌, List, ◌∷◌, ◌++◌, refl, sym, ap, ◌∙◌, subst, arith}
 use Rattle.std.specs.Prelude.{Some, None}
 use Rattle.ring_rule.specs.declared.Setting.{Setting}
 use Rattle.ring_rule.specs.declared.DrainStep.{DrainStep}
@@ -27,7 +27,7 @@ returns-then-bank-drainer-clause-call g c = let d = c.loop-drainer.drainer in le
     let run1 = one_drain k (LoadedHardBank bank) t before d.seat c.load_hard_bank-bank.new.seat run (subst (λ (x : Setting). MakesDrainStep x (LoadedHardBank bank) d.seat c.load_hard_bank-bank.new.seat) c.requires.named c.load_hard_bank-bank.ensures.step) in
     let run2 = one_drain k (LoadedProducer end) t (LoadedHardBank bank ∷ before) c.load_hard_bank-bank.new.seat c.load_producer-end.new.seat run1 (subst (λ (x : Setting). MakesDrainStep x (LoadedProducer end) c.load_hard_bank-bank.new.seat c.load_producer-end.new.seat) c.requires.named c.load_producer-end.ensures) in
     drain_call k t c.load_producer-end.new.seat (LoadedProducer end ∷ LoadedHardBank bank ∷ before) (Takes None) run2
-    (before, inv.2.1, (bank, end, c.if-bank-drainer.true ∙ (d.bank_is.0 ∙ ap soft_bank_of run.gained), (let h : end ≡ d.next = search rules in h ∙ next_is), refl))
+    (before, inv.2.1, (bank, end, (let test = c.if-bank-drainer.true in let looked : bank ≡ d.bank = omega (arith, test) in looked) ∙ (d.bank_is.0 ∙ ap soft_bank_of run.gained), (let h : end ≡ d.next = search rules in h ∙ next_is), refl))
 
 pub loop-drainer-preserved : goal.loop-drainer-preserved
 loop-drainer-preserved g c = let d = c.loop-drainer.drainer in let inv = c.loop-drainer.invariant in let k = c.args.self.now.setting in let t : List DrainStep = c.args.drainer.now.seat.me.0.drain_trail in
@@ -41,7 +41,7 @@ loop-drainer-preserved g c = let d = c.loop-drainer.drainer in let inv = c.loop-
       ap (λ (m : ThisSeat). held_entry m.0.drain_trail) e3.1 ∙ (ap (λ (m : ThisSeat). held_entry m.0.drain_trail) e2.1 ∙ (ap (λ (m : ThisSeat). held_entry m.0.drain_trail) e1.1 ∙ inv.1)),
       (
         Followed bank ∷ LoadedProducer end ∷ LoadedHardBank bank ∷ before,
-        (refl, (λ x. c.if-bank-drainer.false (x ∙ (ap soft_bank_of (sym run.gained) ∙ sym d.bank_is.0))), (let h : end ≡ d.next = search rules in h ∙ next_is), inv.2.1),
+        (refl, (λ x. let test = c.if-bank-drainer.false in let same : bank ≡ d.bank = x ∙ (ap soft_bank_of (sym run.gained) ∙ sym d.bank_is.0) in omega (arith, test, same)), (let h : end ≡ d.next = search rules in h ∙ next_is), inv.2.1),
         run3,
       ),
     )
