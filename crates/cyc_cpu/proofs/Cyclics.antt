@@ -39,7 +39,7 @@ pub cyclics_insert : (rows : List Row) (q : ℕ) (u : Row) → cyclics_of (inser
 cyclics_insert rows q u = map-append cyclic_of (take q rows) (u ∷ drop q rows) ∙ (λ j. sym (take-map cyclic_of q rows) j ++ (cyclic_of u ∷ sym (drop-map cyclic_of q rows) j))
 
 -- the row of a cyclic
-row_of_cyclic : (rows : List Row) (k : ℕ) (c : Cyclic) → IsCyclic (cyclics_of rows) k c → (r : Row) × IsRow rows k r × (cyclic_of r ≡ c)
+pub row_of_cyclic : (rows : List Row) (k : ℕ) (c : Cyclic) → IsCyclic (cyclics_of rows) k c → (r : Row) × IsRow rows k r × (cyclic_of r ≡ c)
 row_of_cyclic rows k c is =
     let e : Row = record { timer = c.timer; lost = c.lost; index = 0 } in
     let low : k < length rows = (let l = length-map rows cyclic_of in let a = is.0 in omega (arith, l, a)) in

@@ -9,3 +9,4 @@ pub mod Sharing
 pub mod Softs
 pub mod Leaving
 pub mod Inquiring
+pub mod Sparing

@@ -6,3 +6,4 @@ pub mod Shares
 pub mod Soft
 pub mod Removal
 pub mod Moving
+pub mod Losses

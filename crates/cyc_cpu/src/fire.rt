@@ -7,6 +7,7 @@ ghost use Rattle.cyc_expirations.specs.Expirations.{Expiration, expirations};
 ghost use Rattle.cyc_timers.specs.Rows.{Row, IsRow, timers_of, cyclics_of, IsFirstAt};
 ghost use Rattle.cyc_cpu.specs.Ends.{IsReady};
 ghost use Rattle.cyc_cpu.specs.Cpu.{Makes, WhyStopped};
+ghost use Rattle.cyc_cpu.specs.Losses.{Spares};
 ghost use Rattle.cyc_cpu.specs.Acts.{Sides, Acts, RaisedOnce, id_at, losses};
 
 use cyc_timers::{Record, Table};
@@ -159,6 +160,9 @@ pub(crate) fn fire_all<C: Calls, R: Raise>(
         (record { calls = calls.old; lock = lock.old; low = low.old }) (record { calls = at; lock = lock.new; low = low.new }) e.lost
         × ((id : ℕ) → C.count calls.new id ≡ C.count at id)
         × WhyStopped C.may_refuse most at last (timers_of table.new.rows) e.why) }
+
+    // Only a cyclic above its ceiling lost anything.
+    ensures spares { Spares (R.view lock.old).ceiling (R.view low.old).ceiling (cyclics_of table.old.rows) (cyclics_of table.new.rows) }
 
     // The CPU is ready for the next.
     ensures ready { IsReady R.view table.new.size most (R.view lock.old).marked (R.view low.old).marked lock.new low.new table.new.rows }

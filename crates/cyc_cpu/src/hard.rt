@@ -7,6 +7,7 @@ ghost use Rattle.cyc_types.specs.declared.refusal.Refusal.TheVariants.{Memory, B
 ghost use Rattle.cyc_expirations.specs.Timers.{earliest};
 ghost use Rattle.cyc_expirations.specs.Expirations.{Expiration, expirations};
 ghost use Rattle.cyc_timers.specs.Rows.{Cyclic, timers};
+ghost use Rattle.cyc_cpu.specs.Losses.{Spares, IsSpared};
 ghost use Rattle.cyc_cpu.specs.Cpu.{CpuView, Makes, WhyStopped, SameCpu, IsFresh, IsCyclic, HasNoCyclic, with_moment, Asks, HasRoom, WhyNoRoom, Looked, MayWiden, Reserves, Widens, Enters, size_for, AreAdmitted, IsRemoved, HasRisingIds};
 
 use crate::ends::{both_followed, least_bank, load_pend, places_of};
@@ -132,6 +133,8 @@ impl<R: Raise> Hard<R> {
             (record { calls = calls.old; lock = self.old.lock; low = self.old.low }) (record { calls = at; lock = self.new.lock; low = self.new.low }) e.lost
             × ((id : ℕ) → C.count calls.new id ≡ C.count at id)
             × WhyStopped C.may_refuse self.old.most at last (timers self.new.cyclics) e.why) }
+        // Only a cyclic above the ceiling of its level lost anything.
+        ensures spares { Spares (R.view self.old.lock).ceiling (R.view self.old.low).ceiling self.old.cyclics self.new.cyclics }
         ensures kept { SameCpu self.old self.new }
     {
         if now.nanoseconds() == Moment::NEVER.nanoseconds() {
@@ -188,7 +191,9 @@ impl<R: Raise> Hard<R> {
         ensures none { IfNone result (HasNoCyclic id self.old.cyclics × (self.new ≡ self.old)) }
         ensures some { IfSome result (λ t. Asks R.step R.view id t.pending self.old self.new) }
         ensures counts { IfSome result (λ t. (k : ℕ) × (c : Cyclic) × IsCyclic self.old.cyclics k c × (c.timer.id ≡ id) × (t.expired ≡ c.timer.expired) × (t.lost ≡ c.lost)) }
+        ensures spared { IfSome result (λ t. IsSpared (R.view self.new.lock) id t.expired × IsSpared (R.view self.new.low) id t.expired) }
     {
+        self.table.law();
         let place = self.table.find(id)?;
         let kept = self.table.record_at(place);
         Some(Totals {

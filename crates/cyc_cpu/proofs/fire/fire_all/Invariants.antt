@@ -5,6 +5,7 @@ use Rattle.cyc_expirations.proofs.Firings.{Firing}
 use Rattle.cyc_timers.specs.Rows.{timers_of, cyclics_of, IsRising}
 use Rattle.cyc_cpu.specs.Ends.{IsReady}
 use Rattle.cyc_cpu.specs.Cpu.{Makes}
+use Rattle.cyc_cpu.proofs.Sparing.{SparesRows}
 use Rattle.cyc_cpu.proofs.fire.fire_all.Given as goal
 
 abbrev pub invariant-loop-root : goal.invariant-loop-root
@@ -18,6 +19,9 @@ invariant-loop-root g l = record {
       × Makes g.C.Calls.called g.C.Calls.count g.R.Raise.step g.R.Raise.view l.now made (cyclics_of l.fn.table.rows) (cyclics_of l.table.rows)
       (record { calls = l.fn.calls; lock = l.fn.lock; low = l.fn.low }) (record { calls = l.calls; lock = l.lock; low = l.low }) l.lost
       × (l.lost ≤ length made);
+  lock_ceiling : (g.R.Raise.view l.lock).ceiling ≡ (g.R.Raise.view l.fn.lock).ceiling;
+  low_ceiling : (g.R.Raise.view l.low).ceiling ≡ (g.R.Raise.view l.fn.low).ceiling;
+  spares : SparesRows (g.R.Raise.view l.fn.lock).ceiling (g.R.Raise.view l.fn.low).ceiling l.fn.table.rows l.table.rows;
 }
 
 abbrev pub decreases-loop-root : goal.decreases-loop-root
