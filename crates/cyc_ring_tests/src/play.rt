@@ -6,7 +6,7 @@ use crate::firer::{Firer, NotAllowed};
 use cyc_types::{CyclicId, Finished, Index, Raised, Sent};
 
 /// A call with its answer; ids and indexes by their numbers.
-#[derive(Clone, Copy, Debug)]
+#[derive(Clone, Copy)]
 pub enum Call {
     Admit(u64, u16),
     Raise(u64, Raised),

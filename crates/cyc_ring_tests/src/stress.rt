@@ -181,8 +181,8 @@ fn both<R: Threads>(
 {
     join(
         rt,
-        || raise_all(ring, raiser, stop, 4_000),
-        || drain_all(ring, drainer, tally, stop, 20_000_000),
+        || raise_all(ring, raiser, stop, 20_000),
+        || drain_all(ring, drainer, tally, stop, 50_000_000),
     )
 }
 
