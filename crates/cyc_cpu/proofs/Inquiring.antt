@@ -26,7 +26,7 @@ same_id : (j id : ℕ) → eqb j id ≡ true → j ≡ id
 same_id j id h = let e : j ≡ id = grind (arith, nat_tests) in e
 
 -- a load raises what was seen of no cyclic
-load_lowers : (v w : FiringView) (id n j : ℕ) → Learns v (Loads id n) w → seen_of j w ≤ seen_of j v
+pub load_lowers : (v w : FiringView) (id n j : ℕ) → Learns v (Loads id n) w → seen_of j w ≤ seen_of j v
 load_lowers v w id n j l =
     let a = seen_less (eqb j id) n (v.stays j) (λ on. let e = ap (λ i. seen_in (v.stays i)) (same_id j id on) in let f = l.0 in omega (arith, e, f)) in
     let e = ap (λ (x : FiringView). seen_of j x) l.1 in

@@ -9,4 +9,5 @@ pub mod Sharing
 pub mod Softs
 pub mod Leaving
 pub mod Inquiring
+pub mod Staying
 pub mod Sparing

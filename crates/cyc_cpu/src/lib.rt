@@ -19,3 +19,4 @@ pub use hard::{Hard, Totals};
 pub use law::share_law;
 pub use moving::Taken;
 pub use removing::Removal;
+pub use settling::settled_law;
