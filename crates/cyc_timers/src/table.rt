@@ -13,18 +13,22 @@ use std::marker::Model;
 /// What a CPU keeps of a cyclic beside its expiration (`cyclic_t` of sys/cyclic_impl.h).
 #[derive(Clone, Copy, Debug, PartialEq, Eq)]
 pub struct Record {
+    /// At which level its handler is called (`cy_level`).
     pub level: Level,
+    /// From one expiration to the next, in nanoseconds (`cy_interval`).
     pub interval: Interval,
-    /// The expirations.
+    /// The expirations so far.
     pub expired: u64,
     /// Those of them that were lost at the ceiling.
     pub lost: u64,
 }
 
-/// A cyclic's id and its index.
+/// Under which index a cyclic stands in the heap and the records.
 #[derive(Clone, Copy, Debug, PartialEq, Eq)]
 pub struct Place {
+    /// The cyclic's own id, which never changes.
     pub id: CyclicId,
+    /// Its index on this CPU (`cyp_heap` holds indexes).
     pub index: Index,
 }
 
@@ -65,7 +69,7 @@ impl Record {
 }
 
 impl Table {
-    /// A table of size 1 with no cyclic. Refuses with Memory alone.
+    /// A table of size 1 with no cyclic (`cyclic_configure`). Takes the memory of one cyclic; refuses with Memory alone.
     pub fn new(alloc: Global) -> Result<Table, Refusal>
         ensures ok { IfOk result (λ table. table ≡ new_table) }
         ensures err { IfErr result (λ refusal. refusal ≡ Memory) }
@@ -81,7 +85,8 @@ impl Table {
         })
     }
 
-    /// Takes the memory of this size. Refuses with Memory alone.
+    /// Takes the memory of this size, so that `widen` up to it and each `insert` take none. Refuses with Memory alone; no
+    /// cyclic is touched then.
     pub fn reserve(&mut self, size: usize) -> Result<(), Refusal>
         ensures ok { OnOk result (self.new ≡ record self.old { room = max self.old.room size }) }
         ensures err { OnErr result (self.new ≡ self.old) }
@@ -94,7 +99,7 @@ impl Table {
         self.heap.reserve(size)
     }
 
-    /// Adds free indexes up to this size. Takes no memory.
+    /// Adds free indexes up to this size; a table that is larger stays as it is (`cyclic_expand`). Takes no memory.
     pub fn widen(&mut self, size: usize)
         requires few { size ≤ cyclics }
         requires reserved { size ≤ self.old.room }
@@ -105,7 +110,8 @@ impl Table {
         let _ = self.records.resize(length, Record::vacant());
     }
 
-    /// Puts in a cyclic with this record, at an index that was free. Takes no memory.
+    /// Puts in a cyclic with this record and this first expiration, and gives its index, which was free (`cyclic_add_here`).
+    /// O(n) for the ids above it. Takes no memory.
     pub fn insert(&mut self, id: CyclicId, moment: Moment, kept: Record) -> Index
         requires free { length self.old.rows < self.old.size }
         requires absent { HasNo id self.old.rows }
@@ -124,7 +130,7 @@ impl Table {
         index
     }
 
-    /// The first place whose id is not below this one.
+    /// The first place whose id is not below this one, by halving.
     fn place(&self, id: CyclicId) -> usize
         ensures bound { result ≤ length self.now.rows }
         ensures below { (k : ℕ) (d : Row) → k < result → (slice_index_or self.now.rows k d).timer.id < id }
@@ -143,7 +149,7 @@ impl Table {
         low
     }
 
-    /// The place of this id.
+    /// The place of this id among the rows, or None where it is not here. O(log n), and takes no memory.
     pub fn find(&self, id: CyclicId) -> Option<usize>
         ensures none { IfNone result (HasNo id self.now.rows) }
         ensures some { IfSome result (λ k. (r : Row) × IsRow self.now.rows k r × (r.timer.id ≡ id)) }
@@ -156,7 +162,7 @@ impl Table {
         }
     }
 
-    /// What is kept of the cyclic at this place.
+    /// What is kept of the cyclic at this place of `find`. O(1).
     pub fn record_at(&self, place: usize) -> Record
         requires { place < length self.now.rows }
         ensures { (r : Row) → IsRow self.now.rows place r → IsRecordOf result r }
@@ -164,7 +170,7 @@ impl Table {
         self.records[self.places[place].index.number() as usize]
     }
 
-    /// The id of the cyclic at this place.
+    /// The id of the cyclic at this place, which rises with the place. O(1).
     pub fn id_at(&self, place: usize) -> CyclicId
         requires { place < length self.now.rows }
         ensures { (r : Row) → IsRow self.now.rows place r → result ≡ r.timer.id }
@@ -172,7 +178,7 @@ impl Table {
         self.places[place].id
     }
 
-    /// The next expiration of the cyclic at this place.
+    /// The next expiration of the cyclic at this place of `find` (`cy_expire`). O(1).
     pub fn moment_at(&self, place: usize) -> Moment
         requires { place < length self.now.rows }
         ensures { (r : Row) → IsRow self.now.rows place r → result ≡ r.timer.moment }
@@ -183,15 +189,17 @@ impl Table {
         }
     }
 
-    /// What is kept of the cyclic with this index.
+    /// What is kept of the cyclic with this index of `root`, for the path of firing. O(1).
     pub fn record(&self, index: Index) -> Record
         requires { (k : ℕ) × (r : Row) × IsRow self.now.rows k r × (r.index ≡ index) }
         ensures { (k : ℕ) (r : Row) → IsRow self.now.rows k r → r.index ≡ index → IsRecordOf result r }
     {
-        self.records[index.number() as usize]
+        let number = index.number() as usize;
+        self.records[number]
     }
 
-    /// Gives the cyclic at this place another moment.
+    /// Gives the cyclic at this place of `find` another next expiration, earlier or later (`cyclic_reprogram_cyclic`).
+    /// O(log n), and takes no memory.
     pub fn reprogram(&mut self, place: usize, moment: Moment)
         requires here { place < length self.old.rows }
         requires moment { moment ≤ never }
@@ -202,7 +210,8 @@ impl Table {
         self.heap.replace(self.places[place].index, moment);
     }
 
-    /// Takes out the cyclic at this place; its index is free from now on. Takes no memory (`cyclic_remove_here`).
+    /// Takes out the cyclic at this place of `find`; its index is free from now on (`cyclic_remove_here`). O(n) for the ids
+    /// above it. Takes no memory.
     pub fn remove(&mut self, place: usize)
         requires { place < length self.old.rows }
         ensures rows { self.new.rows ≡ remove self.old.rows place }
@@ -213,7 +222,8 @@ impl Table {
         let _ = self.places.remove(place);
     }
 
-    /// The cyclic that expires first: its index, its moment and its id.
+    /// The cyclic that expires first, of equal moments the smaller id: its index, its moment and its id. None where there is
+    /// no cyclic. O(1).
     pub fn root(&self) -> Option<(Index, Moment, CyclicId)>
         ensures none { IfNone result (self.now.rows ≡ []) }
         ensures root { IfSome result (λ found. self.now.root ≡ Some found.0) }
@@ -222,7 +232,8 @@ impl Table {
         self.heap.root()
     }
 
-    /// Gives the cyclic that expires first another moment and record.
+    /// Gives the cyclic that expires first, with the index of `root`, another next expiration and record (`cyclic_fire`).
+    /// O(log n), and takes no memory.
     pub fn expire_root(&mut self, index: Index, moment: Moment, kept: Record)
         requires root { self.old.root ≡ Some index }
         requires moment { moment ≤ never }
@@ -236,7 +247,7 @@ impl Table {
         self.records[index.number() as usize] = kept;
     }
 
-    /// The number of indexes.
+    /// The number of indexes, those in use and those that are free (`cyp_size`).
     pub fn size(&self) -> usize
         ensures value { result ≡ self.now.size }
         ensures few { result ≤ cyclics }
@@ -245,7 +256,7 @@ impl Table {
         self.heap.size()
     }
 
-    /// How many cyclics there are.
+    /// How many cyclics there are (`cyp_nelems`).
     pub fn len(&self) -> usize
         ensures value { result ≡ length self.now.rows }
         ensures few { result ≤ self.now.size }
@@ -253,7 +264,8 @@ impl Table {
         self.places.len()
     }
 
-    /// What is true of every table.
+    /// What is true of every table: its ids rise, each of its cyclics is sound, and no two have one index. It does nothing
+    /// when it runs.
     pub fn law(&self)
         ensures rising { IsRising self.now.rows }
         ensures sound { All IsSound (timers_of self.now.rows) }
