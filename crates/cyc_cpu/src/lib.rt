@@ -9,6 +9,7 @@ mod ends;
 mod fire;
 mod hard;
 mod law;
+mod levels;
 mod moving;
 mod removing;
 mod settling;

@@ -1,93 +1,235 @@
--- What the fire of one timer is.
-use Rattle.std.proofs.Common.{◌≡◌, ◌≢◌, ℕ, zero, suc, ◌+◌, ◌≤◌, [], ◌∷◌, ◌++◌, length, true, Some, refl, ap, sym, ◌∙◌, subst, arith, append-nil}
-use Rattle.std.proofs.lemmas.Bool.Decides.{nat_tests}
+-- A fire of the CPU is what the definition of the text says, and no expiration is refused.
+use Rattle.std.proofs.Common.{◌≡◌, ◌≢◌, ℕ, zero, suc, ◌+◌, ◌^◌, ◌-◌, ◌<◌, ◌≤◌, ◌⊎◌, inl, inr, List, [], ◌∷◌, ◌++◌, length, map, find, get_or, All, Bool, true, false, cond, ◌==◌, Option, Some, None, refl, ap, sym, ◌∙◌, subst, arith}
+use Rattle.std.proofs.lemmas.List.{length-map, get_or-map}
+use Rattle.std.proofs.lemmas.List.Elements.{All-map}
+use Rattle.std.proofs.lemmas.List.Sums.{sum_by-append}
 use mathlib.Core.Logic.{dite}
 use native.Mathlib.Decide.{ℕ_discrete}
-use Rattle.cyc_types.specs.Series.{due, next}
-use Rattle.cyc_level.specs.Level.{Level}
-use Rattle.cyc_core.specs.DrainingSide.{done_of, done_in}
-use Rattle.cyc_expirations.specs.Timers.{Timer}
-use Rattle.cyc_expirations.specs.Expirations.{is_before, put_in, ascending, series, due_of, expirations, times_of, after, all_after}
-use Rattle.cyc_expirations.proofs.Order.{put_in_front}
-use Rattle.cyc_expirations.proofs.Dues.{series_all, length_series, due_small}
-use Rattle.cyc_expirations.proofs.Laws.{moment_next, count_due, times_expirations}
-use Rattle.cyc_machine.specs.LevelRun.{happen, fire_events, expiry}
-use Rattle.cyc_machine.specs.Machine.{repeat_expiry, MayExpire, IsReadyFor}
-use Rattle.cyc_machine.proofs.Raising.{Expired, expired_times}
+use Rattle.std.proofs.lemmas.Bool.{cases_lt, cases_eq}
+use Rattle.cyc_types.specs.Counting.{times}
+use Rattle.cyc_types.specs.Firing.{FiringCall}
+use Rattle.cyc_types.specs.Runs.{lost_by}
+use Rattle.cyc_types.specs.Series.{late}
+use Rattle.cyc_types.specs.Tally.{TallyView, tally_count, tally_called, TallyRefuses}
+use Rattle.cyc_types.specs.declared.level.Level.{Level as CyclicLevel}
+use Rattle.cyc_types.specs.declared.level.Level.TheVariants.{Low, Lock, High}
+use Rattle.cyc_types.specs.declared.refusal.Refusal.{Refusal}
+use Rattle.cyc_types.specs.declared.refusal.Refusal.TheVariants.{CountSpent, HandlerRefused}
+use Rattle.cyc_level.specs.declared.Event.{Event}
+use Rattle.cyc_level.specs.Runs.{losses as losses_of}
+use Rattle.cyc_core.specs.Tables.{Tables, level_of}
+use Rattle.cyc_expirations.specs.Expirations.{Expiration, expirations, times_of, after, all_after}
+use Rattle.cyc_expirations.specs.Timers.{Timer, HasDistinctIds}
+use Rattle.cyc_expirations.proofs.Dues.{due_small}
+use Rattle.cyc_expirations.proofs.Laws.{times_expirations, times_others}
+use Rattle.cyc_timers.specs.Rows.{Cyclic, timers}
+use Rattle.cyc_cpu.specs.Acts.{ids_at, is_of, timer_of, lost_after}
+use Rattle.cyc_cpu.specs.Cpu.{CpuView, SameCpu, HasRisingIds, Makes, Stops, WhyStopped}
+use Rattle.cyc_cpu.proofs.Sharing.{ids_add_up}
+use Rattle.cyc_machine.specs.LevelRun.{expiries, losses}
+use Rattle.cyc_machine.specs.Machine.{unindexed, IsFew, Tallies, Serves, most_before}
+use Rattle.cyc_machine.specs.Text.{advance, fired_cyclic}
+use Rattle.cyc_machine.proofs.Ends.{fires, seen, Expired, expired}
+use Rattle.cyc_machine.proofs.Serving.{state_at}
+use Rattle.cyc_machine.proofs.Standing.{same_range, tallies_on, never_refuses, serves_on}
+use Rattle.cyc_machine.proofs.Unindexed.{expiries_same, expiries_bare}
 
-before_next : (id e t : ℕ) → is_before (record { moment = e; id = id }) (record { moment = e + t; id = id }) ≡ true
-before_next id e zero = grind (arith, nat_tests)
-before_next id e (suc t) = grind (arith, nat_tests)
+-- ---- how often one cyclic expires
 
-ascending_series : (id e t n : ℕ) → ascending (series id e t n) ≡ series id e t n
-ascending_series id e t zero = refl
-ascending_series id e t (suc n) =
-    ap (put_in (record { moment = e; id = id })) (ascending_series id (e + t) t n)
-    ∙ put_in_front (record { moment = e; id = id }) (series id (e + t) t n) (series_all (record { moment = e; id = id }) id (e + t) t n (before_next id e t))
+pub distinct_timers : (cs : List Cyclic) → HasRisingIds cs → HasDistinctIds (timers cs)
+distinct_timers cs rising i j d low_i low_j same =
+    let l = length-map cs (λ (c : Cyclic). c.timer) in
+    let e : Cyclic = record { timer = d; lost = 0 } in
+    let li : i < length cs = omega (arith, l, low_i) in
+    let lj : j < length cs = omega (arith, l, low_j) in
+    let a = ap (λ (t : Timer). t.id) (get_or-map (λ (c : Cyclic). c.timer) cs i e d li) in
+    let b = ap (λ (t : Timer). t.id) (get_or-map (λ (c : Cyclic). c.timer) cs j e d lj) in
+    elim (cases_eq i j) [
+      | inl eq ↦ eq
+      | inr ne ↦ elim (cases_lt i j) [
+        | inl less ↦ let h = rising i j e less lj in absurd (omega (arith, h, a, b, same))
+        | inr more ↦ let h = rising j i e (omega (arith, more, ne)) li in absurd (omega (arith, h, a, b, same))
+      ]
+    ]
 
--- the expirations of one timer are its series
-pub one_series : (now : ℕ) (t : Timer) → expirations now (t ∷ []) ≡ series t.id t.moment t.interval (due t.moment t.interval now)
-unfolding expirations due_of
-one_series now t = ap ascending (append-nil (series t.id t.moment t.interval (due t.moment t.interval now))) ∙ ascending_series t.id t.moment t.interval (due t.moment t.interval now)
+abbrev Place : ℕ → List Timer → Type 0
+Place id ts = ((k : ℕ) × (k < length ts) × ((d : Timer) → (get_or ts k d).id ≡ id)) ⊎ ((k : ℕ) (d : Timer) → k < length ts → (get_or ts k d).id ≢ id)
 
-fire_series : (n id e t : ℕ) (l : Level) → fire_events (series id e t n) l ≡ repeat_expiry n id l
-fire_series zero id e t l = refl
-fire_series (suc n) id e t l = ap (λ es. expiry id l ++ es) (fire_series n id (e + t) t (happen (expiry id l) l))
+none_more : (id : ℕ) (t : Timer) (ts : List Timer) → t.id ≢ id → ((k : ℕ) (d : Timer) → k < length ts → (get_or ts k d).id ≢ id) → (k : ℕ) (d : Timer) → k < length (t ∷ ts) → (get_or (t ∷ ts) k d).id ≢ id
+none_more id t ts ne none zero d low = ne
+none_more id t ts ne none (suc k) d low = none k d (omega arith)
 
-pub one_length : (now : ℕ) (t : Timer) → length (expirations now (t ∷ [])) ≡ due t.moment t.interval now
-one_length now t = ap length (one_series now t) ∙ length_series t.id t.moment t.interval (due t.moment t.interval now)
+place_more : (id : ℕ) (t : Timer) (ts : List Timer) → t.id ≢ id → Place id ts → Place id (t ∷ ts)
+place_more id t ts ne (inl (k, low, is)) = inl (suc k, omega arith, is)
+place_more id t ts ne (inr none) = inr (none_more id t ts ne none)
 
-pub one_fire : (now : ℕ) (t : Timer) (l : Level) → fire_events (expirations now (t ∷ [])) l ≡ repeat_expiry (due t.moment t.interval now) t.id l
-one_fire now t l = ap (λ ps. fire_events ps l) (one_series now t) ∙ fire_series (due t.moment t.interval now) t.id t.moment t.interval l
+place : (id : ℕ) (ts : List Timer) → Place id ts
+place id [] = inr (λ k d low. absurd (omega arith))
+place id (t ∷ ts) = dite (ℕ_discrete t.id id) (λ e. inl (0, omega arith, λ d. e)) (λ ne. place_more id t ts ne (place id ts))
 
-one_times : (now : ℕ) (t : Timer) → times_of t.id (expirations now (t ∷ [])) ≡ due t.moment t.interval now
-one_times now t = times_expirations now (t ∷ []) 0 t (λ i j d less below same. omega arith) (omega arith)
+some_timer : Timer
+some_timer = record { id = 0; level = Low; interval = 1; moment = 0; expired = 0 }
 
-pub one_after : (now : ℕ) (t : Timer) → record { id = t.id; level = t.level; interval = t.interval; moment = next t.moment t.interval now; expired = t.expired + due t.moment t.interval now } ∷ [] ≡ all_after now (expirations now (t ∷ [])) (t ∷ [])
-unfolding all_after after
-one_after now t =
-    let moment = moment_next now (expirations now (t ∷ [])) t (one_times now t) in
-    let count = count_due now (expirations now (t ∷ [])) t (one_times now t) in
-    sym (λ z. (record { id = t.id; level = t.level; interval = t.interval; moment = moment z; expired = count z }) ∷ [])
+small_at : (now : ℕ) (ts : List Timer) (id : ℕ) → HasDistinctIds ts → All (λ t. 0 < t.interval) ts → Place id ts → times_of id (expirations now ts) ≤ late + 2
+small_at now ts id distinct some (inl (k, low, is)) =
+    let t = get_or ts k some_timer in
+    let a = ap (λ i. times_of i (expirations now ts)) (is some_timer) in
+    let b = times_expirations now ts k some_timer distinct low in
+    let c = due_small t.moment t.interval now (some k some_timer low) in
+    omega (arith, a, b, c)
+small_at now ts id distinct some (inr none) = let a = times_others now id ts none in omega (arith, a)
 
--- the cyclic may expire as often as is due
-pub may_fire : (step now : ℕ) (t : Timer) (l : Level) → step ≤ 65536 → IsReadyFor step t l → MayExpire (due t.moment t.interval now) t.id l
-may_fire step now t l few ready =
-    let (c, is, sent) = ready.serves.admitted in
-    let small = due_small t.moment t.interval now ready.serves.some in
-    let no_mark : l.marked ≢ Some t.id = λ e. let none = ready.unmarked in absurd (cc) in
-    record { hand_free = ready.hand_free; unmarked = no_mark; admitted = (c, ap l.cyclics ready.serves.id ∙ is, omega (arith, sent, small, few)) }
+some_intervals : (step adds : ℕ) (cs : List Cyclic) → All (IsFew step adds) cs → All (λ (t : Timer). 0 < t.interval) (timers cs)
+some_intervals step adds cs few = All-map (λ (t : Timer). 0 < t.interval) (λ (c : Cyclic). c.timer) cs (λ k d low. (few k d low).some)
 
-pub fired_ready : (step now : ℕ) (t u : Timer) (l m : Level) → u.id ≡ t.id → u.interval ≡ t.interval → u.expired ≡ t.expired + due t.moment t.interval now
-    → m ≡ happen (repeat_expiry (due t.moment t.interval now) t.id l) l → IsReadyFor step t l → IsReadyFor (step + 1) u m
-fired_ready step now t u l m id interval count is ready =
-    let n = due t.moment t.interval now in
-    let small = due_small t.moment t.interval now ready.serves.some in
-    let made = subst (λ (k : Level). Expired n t.id l k) (sym is) (expired_times n t.id l ready.hand_free) in
-    let (c, isc, sent) = ready.serves.admitted in
-    let one = ready.serves.id in
-    let (d, isd, more, done) = made.here c (ap l.cyclics one ∙ isc) in
-    let few = ready.serves.few in
-    let some = ready.serves.some in
-    record {
-      hand_free = made.hand;
-      unmarked = made.marked ∙ ready.unmarked;
-      serves = record {
-        id = id ∙ one;
-        some = omega (arith, interval, some);
-        few = omega (arith, count, few, small);
-        admitted = (d, ap m.cyclics (sym one) ∙ isd, omega (arith, more, sent, small));
-        others = λ j ne. made.others j (λ e. ne (e ∙ one)) ∙ ready.serves.others j ne;
-      };
+-- no cyclic expires more often in a fire
+pub few_times : (step adds now : ℕ) (cs : List Cyclic) → HasRisingIds cs → All (IsFew step adds) cs → (id : ℕ) → times_of id (expirations now (timers cs)) ≤ late + 2
+few_times step adds now cs rising few id = small_at now (timers cs) id (distinct_timers cs rising) (some_intervals step adds cs few) (place id (timers cs))
+
+pub few_in_front : (now : ℕ) (ts : List Timer) (made : List Expiration) (last : Expiration) (rest : List Expiration) (n id : ℕ) → expirations now ts ≡ made ++ last ∷ rest → times_of id (expirations now ts) ≤ n → times_of id made ≤ n
+few_in_front now ts made last rest n id split small =
+    let a = ap (times_of id) split in
+    let b = sum_by-append (λ (p : Expiration). cond (p.id == id) 1 0) made (last ∷ rest) in
+    omega (arith, a, b, small)
+
+pub cond_most : (b : Bool) (m n : ℕ) → m ≤ n → cond b m 0 ≤ n
+cond_most true m n h = h
+cond_most false m n h = omega arith
+
+pub few_calls : (level : CyclicLevel) (ts : List Timer) (made : List Expiration) (n id : ℕ) → times_of id made ≤ n → times id (ids_at level ts made) ≤ n
+few_calls level ts made n id small =
+    let a = ids_add_up id level ts made in
+    let b = cond_most (is_of level (timer_of id ts)) (times_of id made) n small in
+    omega (arith, a, b)
+
+-- ---- the cyclics after it
+
+pub fired_cyclics : (now : ℕ) (made : List Expiration) (lock low : List Event) (lock_way low_way : List FiringCall) (cs ds : List Cyclic)
+    → timers ds ≡ all_after now made (timers cs) → map (λ (c : Cyclic). c.lost) ds ≡ map (λ (c : Cyclic). lost_after lock_way low_way c.timer.id c.lost) cs
+    → ((id : ℕ) → losses_of id lock ≡ lost_by id lock_way) → ((id : ℕ) → losses_of id low ≡ lost_by id low_way) → ds ≡ map (fired_cyclic now made lock low) cs
+unfolding all_after
+fired_cyclics now made lock low lock_way low_way [] [] moved lost at_lock at_low = refl
+fired_cyclics now made lock low lock_way low_way [] (d ∷ ds) moved lost at_lock at_low = absurd (let no = ap length moved in omega (arith, no))
+fired_cyclics now made lock low lock_way low_way (c ∷ cs) [] moved lost at_lock at_low = absurd (let no = ap length moved in omega (arith, no))
+fired_cyclics now made lock low lock_way low_way (c ∷ cs) (d ∷ ds) moved lost at_lock at_low =
+    let timer : d.timer ≡ after now made c.timer = ap (λ xs. get_or xs 0 d.timer) moved in
+    let more : d.lost ≡ lost_after lock_way low_way c.timer.id c.lost = ap (λ xs. get_or xs 0 d.lost) lost in
+    let a = at_lock c.timer.id in
+    let b = at_low c.timer.id in
+    let all : d.lost ≡ c.lost + losses_of c.timer.id lock + losses_of c.timer.id low = omega (arith, more, a, b) in
+    let rest = fired_cyclics now made lock low lock_way low_way cs ds (ap tail moved) (ap tail lost) at_lock at_low in
+    λ z. record { timer = timer z; lost = all z } ∷ rest z
+  where
+    tail : {A : Type 0} → List A → List A
+    tail [] = []
+    tail (x ∷ xs) = xs
+
+fired_few : (step adds now : ℕ) (made : List Expiration) (lock low : List Event) (c : Cyclic) → ((id : ℕ) → times_of id made ≤ 2 ^ 40) → IsFew step adds c → IsFew (step + 1) adds (fired_cyclic now made lock low c)
+unfolding after
+fired_few step adds now made lock low c small few =
+    let a = small c.timer.id in
+    let b = few.expired in
+    record { given = few.given; id = few.id; some = few.some; expired = omega (arith, a, b) }
+
+pub all_fired_few : (step adds now : ℕ) (made : List Expiration) (lock low : List Event) (cs ds : List Cyclic) → ds ≡ map (fired_cyclic now made lock low) cs → ((id : ℕ) → times_of id made ≤ 2 ^ 40)
+    → All (IsFew step adds) cs → All (IsFew (step + 1) adds) ds
+all_fired_few step adds now made lock low cs ds is small few =
+    subst (λ (xs : List Cyclic). All (IsFew (step + 1) adds) xs) (sym is)
+    (All-map (IsFew (step + 1) adds) (fired_cyclic now made lock low) cs (λ k d at. fired_few step adds now made lock low (get_or cs k d) small (few k d at)))
+
+-- ---- the whole fire
+
+abbrev pub Fire : ℕ → List Expiration → CpuView Tables → CpuView Tables → TallyView → TallyView → ℕ → Type 0
+Fire now made v w t u lost = Makes tally_called tally_count fires seen now made v.cyclics w.cyclics (record { calls = t; lock = v.lock; low = v.low }) (record { calls = u; lock = w.lock; low = w.low }) lost
+
+lock_expired : (now : ℕ) (made : List Expiration) (v w : CpuView Tables) (t u : TallyView) (lost : ℕ) (m : Fire now made v w t u lost) → Expired (ids_at Lock (timers v.cyclics) made) m.acts.lock_way (level_of v.lock) (level_of w.lock)
+lock_expired now made v w t u lost m = expired (ids_at Lock (timers v.cyclics) made) m.acts.lock_way v.lock w.lock m.acts.lock_goes m.acts.lock_raises
+
+low_expired : (now : ℕ) (made : List Expiration) (v w : CpuView Tables) (t u : TallyView) (lost : ℕ) (m : Fire now made v w t u lost) → Expired (ids_at Low (timers v.cyclics) made) m.acts.low_way (level_of v.low) (level_of w.low)
+low_expired now made v w t u lost m = expired (ids_at Low (timers v.cyclics) made) m.acts.low_way v.low w.low m.acts.low_goes m.acts.low_raises
+
+cyclics_fired : (now : ℕ) (made : List Expiration) (v w : CpuView Tables) (t u : TallyView) (lost : ℕ) → Fire now made v w t u lost
+    → w.cyclics ≡ map (fired_cyclic now made (expiries (ids_at Lock (timers v.cyclics) made) (unindexed (level_of v.lock))) (expiries (ids_at Low (timers v.cyclics) made) (unindexed (level_of v.low)))) v.cyclics
+cyclics_fired now made v w t u lost m =
+    let locks = ids_at Lock (timers v.cyclics) made in let lows = ids_at Low (timers v.cyclics) made in
+    fired_cyclics now made (expiries locks (unindexed (level_of v.lock))) (expiries lows (unindexed (level_of v.low))) m.acts.lock_way m.acts.low_way v.cyclics w.cyclics m.timers_are m.losses_are
+    (λ id. ap (losses_of id) (expiries_same locks (level_of v.lock)) ∙ (lock_expired now made v w t u lost m).each id)
+    (λ id. ap (losses_of id) (expiries_same lows (level_of v.low)) ∙ (low_expired now made v w t u lost m).each id)
+
+pub fired_state : (step now clock adds lost : ℕ) (names : List (Option ℕ)) (v w : CpuView Tables) (t u : TallyView) → Fire now (expirations now (timers v.cyclics)) v w t u lost → SameCpu v w
+    → state_at now adds names w u ≡ (advance step now (state_at clock adds names v t)).state
+fired_state step now clock adds lost names v w t u m same =
+    let made = expirations now (timers v.cyclics) in
+    let cyclics = cyclics_fired now made v w t u lost m in
+    let lock = ap unindexed (lock_expired now made v w t u lost m).level ∙ expiries_bare (ids_at Lock (timers v.cyclics) made) (level_of v.lock) in
+    let low = ap unindexed (low_expired now made v w t u lost m).level ∙ expiries_bare (ids_at Low (timers v.cyclics) made) (level_of v.low) in
+    λ z. record {
+      clock = now;
+      adds = adds;
+      cyclics = cyclics z;
+      size = same.size z;
+      lock = lock z;
+      low = low z;
+      called = λ q. m.acts.counted q z;
+      ids = names;
     }
 
-pub fired_done : (step now : ℕ) (t : Timer) (l m : Level) → m ≡ happen (repeat_expiry (due t.moment t.interval now) t.id l) l → IsReadyFor step t l → (q : ℕ) → done_of m q ≡ done_of l q
-fired_done step now t l m is ready q =
-    let n = due t.moment t.interval now in
-    let made = subst (λ (k : Level). Expired n t.id l k) (sym is) (expired_times n t.id l ready.hand_free) in
-    let (c, isc, sent) = ready.serves.admitted in
-    let one = ready.serves.id in
-    let (d, isd, more, done) = made.here c (ap l.cyclics one ∙ isc) in
-    dite (ℕ_discrete q t.id)
-    (λ e. ap (done_of m) e ∙ (ap done_in isd ∙ (done ∙ (sym (ap done_in (ap l.cyclics one ∙ isc)) ∙ sym (ap (done_of l) e)))))
-    (λ ne. ap done_in (made.others q ne))
+pub fired_lost : (step now clock adds lost : ℕ) (names : List (Option ℕ)) (v w : CpuView Tables) (t u : TallyView) → Fire now (expirations now (timers v.cyclics)) v w t u lost
+    → lost ≡ losses (advance step now (state_at clock adds names v t)).lock + losses (advance step now (state_at clock adds names v t)).low
+fired_lost step now clock adds lost names v w t u m =
+    let made = expirations now (timers v.cyclics) in
+    let a = ap losses (expiries_same (ids_at Lock (timers v.cyclics) made) (level_of v.lock)) ∙ (lock_expired now made v w t u lost m).lost in
+    let b = ap losses (expiries_same (ids_at Low (timers v.cyclics) made) (level_of v.low)) ∙ (low_expired now made v w t u lost m).lost in
+    let c = m.lost_is in
+    omega (arith, a, b, c)
+
+fired_tally : (step now : ℕ) (made : List Expiration) (v w : CpuView Tables) (t u : TallyView) (lost : ℕ) → Fire now made v w t u lost → ((id : ℕ) → times_of id made ≤ late + 2) → Tallies step t → Tallies (step + 1) u
+fired_tally step now made v w t u lost m small s =
+    let high = ids_at High (timers v.cyclics) made in
+    tallies_on step t u (λ q. times q high) s (same_range high t u m.acts.called_in_order) m.acts.counted (λ q. let a = few_calls High (timers v.cyclics) made (late + 2) q (small q) in omega (arith, a))
+
+cyclics_few : (step adds now : ℕ) (made : List Expiration) (v w : CpuView Tables) (t u : TallyView) (lost : ℕ) → Fire now made v w t u lost → ((id : ℕ) → times_of id made ≤ late + 2) → All (IsFew step adds) v.cyclics → All (IsFew (step + 1) adds) w.cyclics
+cyclics_few step adds now made v w t u lost m small few = all_fired_few step adds now made (expiries (ids_at Lock (timers v.cyclics) made) (unindexed (level_of v.lock))) (expiries (ids_at Low (timers v.cyclics) made) (unindexed (level_of v.low))) v.cyclics w.cyclics (cyclics_fired now made v w t u lost m) (λ id. let a = small id in omega (arith, a)) few
+
+pub fire_stands : (step now adds lost : ℕ) (v w : CpuView Tables) (t u : TallyView) → Fire now (expirations now (timers v.cyclics)) v w t u lost → SameCpu v w → HasRisingIds v.cyclics → Serves step adds v → Tallies step t
+    → Serves (step + 1) adds w × Tallies (step + 1) u
+fire_stands step now adds lost v w t u m same rising s tallies =
+    let made = expirations now (timers v.cyclics) in
+    let small = few_times step adds now v.cyclics rising s.few in
+    (serves_on step adds v w same s (cyclics_few step adds now made v w t u lost m small s.few), fired_tally step now made v w t u lost m small tallies)
+
+-- ---- no expiration is refused
+
+found_as : {A : Type 0} (P : A → Type 0) (o : Option A) (y x : A) (b : Bool) → P y → (o ≡ Some x → P x) → cond b (Some y) o ≡ Some x → P x
+found_as P o y x true here there e = let same : y ≡ x = cc in subst P same here
+found_as P o y x false here there e = there e
+
+pub found_all : {A : Type 0} (P : A → Type 0) (p : A → Bool) (xs : List A) (x : A) → find p xs ≡ Some x → ((k : ℕ) (d : A) → k < length xs → P (get_or xs k d)) → P x
+found_all P p [] x is all = absurd (let no : None ≡ Some x = is in cc)
+found_all P p (y ∷ ys) x is all = found_as P (find p ys) y x (p y) (all 0 y (omega arith)) (λ e. found_all P p ys x e (λ k d low. all (suc k) d (omega arith))) is
+
+record FewTimer (step adds : ℕ) (t : Timer) : Type 0 where
+  given : 0 < t.id
+  id : t.id ≤ adds
+  expired : t.expired ≤ most_before step
+
+never_stops : (step adds most : ℕ) (at : TallyView) (t : Timer) (why : Refusal) → step ≤ 65536 → adds < step → most ≡ 2 ^ 64 - 1 → FewTimer (step + 1) adds t → Tallies (step + 1) at → Stops TallyRefuses most at t why → ⊥
+never_stops step adds most at t (CountSpent id) low less is few tallies s = let a = s.1 in let b = few.expired in omega (arith, a, b, is, low)
+never_stops step adds most at t (HandlerRefused id) low less is few tallies s =
+    let same = s.0 in let a = few.given in let b = few.id in
+    never_refuses step adds id at low less (omega (arith, same, a)) (omega (arith, same, b)) tallies s.2
+never_stops step adds most at t _ low less is few tallies s = absurd s
+
+pub fire_never_refused : (step adds now expired lost : ℕ) (v w : CpuView Tables) (t u : TallyView) (why : Refusal)
+    → ((made : List Expiration) × (last : Expiration) × (rest : List Expiration)
+    × (expirations now (timers v.cyclics) ≡ made ++ last ∷ rest) × (length made ≡ expired) × (at : TallyView)
+    × Fire now made v w t at lost
+    × ((id : ℕ) → tally_count u id ≡ tally_count at id)
+    × WhyStopped TallyRefuses v.most at last (timers w.cyclics) why)
+    → step ≤ 65536 → adds < step → HasRisingIds v.cyclics → Serves step adds v → Tallies step t → ⊥
+fire_never_refused step adds now n lost v w t u why (made, last, rest, split, long, at, m, same, (tm, found, stops)) low less rising s tallies =
+    let all = few_times step adds now v.cyclics rising s.few in
+    let small : (id : ℕ) → times_of id made ≤ late + 2 = λ id. few_in_front now (timers v.cyclics) made last rest (late + 2) id split (all id) in
+    let few = cyclics_few step adds now made v w t at lost m small s.few in
+    let timers_few = All-map (FewTimer (step + 1) adds) (λ (c : Cyclic). c.timer) w.cyclics (λ k d below. let f = few k d below in record { given = f.given; id = f.id; expired = f.expired }) in
+    never_stops step adds v.most at tm why low less s.most (found_all (FewTimer (step + 1) adds) (λ (x : Timer). x.id == last.id) (timers w.cyclics) tm found timers_few) (fired_tally step now made v w t at lost m small tallies) stops

@@ -2,7 +2,7 @@
 use Rattle.std.proofs.Common.{◌≡◌, ℕ, zero, suc, ◌+◌, ◌-◌, ◌<◌, List, [], ◌∷◌, length, Bool, true, false, cond, ◌==◌, ne_eqb, Option, Some, None, refl, ap, sym, ◌∙◌, subst, arith}
 use Rattle.std.specs.Prelude.{is_some}
 use Rattle.std.specs.Option.{option_map, option_map_or}
-use Rattle.cyc_types.specs.Draining.{DrainCall, Takes, hand_after}
+use Rattle.cyc_types.specs.Draining.{Takes, hand_after}
 use Rattle.cyc_types.specs.Runs.{DrainGoes}
 use Rattle.cyc_types.specs.declared.draining.Finished.{Finished}
 use Rattle.cyc_types.specs.declared.draining.Finished.TheVariants.{More, Last, LastOfRemoval}
@@ -12,7 +12,8 @@ use Rattle.cyc_level.specs.Events.{after, after_finish, cyclic_after_finish, han
 use Rattle.cyc_level.proofs.Maps.{at_same}
 use Rattle.cyc_core.specs.Tables.{Tables, level_of}
 use Rattle.cyc_core.specs.DrainingSide.{Drains, take_events, finished_at, is_marked}
-use Rattle.cyc_soft.specs.Serving.{Served, way_of, last_look, hand_left}
+use Rattle.cyc_cpu.specs.Soft.{drains}
+use Rattle.cyc_soft.specs.Serving.{Served, ids, way_of, last_look, hand_left}
 use Rattle.cyc_machine.specs.LevelRun.{happen, look, Interrupt, call_first, serve}
 use Rattle.cyc_machine.proofs.Raising.{happen_on, folds_happen}
 
@@ -49,11 +50,8 @@ took l m answer free (folds, is) = folds_happen (take_events l.old_list l.new_li
 
 -- ---- the calls one after another
 
-abbrev pub drained : Tables → DrainCall → Tables → Type 0
-drained d call e = Drains (level_of d) call (level_of e)
-
 -- the definition makes these calls, and leaves this level
-pub record Interrupts (budget calls : ℕ) (idle : Bool) (l m : Level) : Type 0 where
+pub record Interrupts (budget : ℕ) (calls : List ℕ) (idle : Bool) (l m : Level) : Type 0 where
   pub made : (serve budget l).calls ≡ calls
   pub stopped : (serve budget l).idle ≡ idle
   pub level : m ≡ happen (serve budget l).events l
@@ -67,35 +65,35 @@ fits_less : (idle : Bool) (m n b : ℕ) → m ≡ n + 1 → FitsBudget idle m (s
 fits_less true m n b is fits = omega arith
 fits_less false m n b is fits = omega arith
 
-stops : (budget : ℕ) (l m : Level) → m ≡ happen (look l) l → m.drainer_hand ≡ None → Interrupts (suc budget) 0 true l m
+stops : (budget : ℕ) (l m : Level) → m ≡ happen (look l) l → m.drainer_hand ≡ None → Interrupts (suc budget) [] true l m
 stops budget l m is free =
     let none : (happen (look l) l).drainer_hand ≡ None = ap (λ (x : Level). x.drainer_hand) (sym is) ∙ free in
-    let so : serve (suc budget) l ≡ record { events = look l; calls = 0; idle = true } =
-    ap (λ h. option_map_or (λ (id : ℕ). call_first (look l) (serve budget (after Finish (happen (look l) l)))) h (record { events = look l; calls = 0; idle = true })) none in
+    let so : serve (suc budget) l ≡ record { events = look l; calls = []; idle = true } =
+    ap (λ h. option_map_or (λ (id : ℕ). call_first (look l) id (serve budget (after Finish (happen (look l) l)))) h (record { events = look l; calls = []; idle = true })) none in
     record { made = ap (λ (x : Interrupt). x.calls) so; stopped = ap (λ (x : Interrupt). x.idle) so; level = is ∙ ap (λ (x : Interrupt). happen x.events l) (sym so) }
 
-goes_on : (budget calls total id : ℕ) → total ≡ calls + 1 → (idle : Bool) (l m k n : Level) → m ≡ happen (look l) l → m.drainer_hand ≡ Some id → k ≡ after Finish m → Interrupts budget calls idle k n → Interrupts (suc budget) total idle l n
-goes_on budget calls total id sum idle l m k n is held done rest =
+goes_on : (budget : ℕ) (calls : List ℕ) (id : ℕ) (idle : Bool) (l m k n : Level) → m ≡ happen (look l) l → m.drainer_hand ≡ Some id → k ≡ after Finish m → Interrupts budget calls idle k n → Interrupts (suc budget) (id ∷ calls) idle l n
+goes_on budget calls id idle l m k n is held done rest =
     let hand : (happen (look l) l).drainer_hand ≡ Some id = ap (λ (x : Level). x.drainer_hand) (sym is) ∙ held in
     let at : k ≡ after Finish (happen (look l) l) = done ∙ ap (after Finish) is in
-    let so : serve (suc budget) l ≡ call_first (look l) (serve budget k) =
-    ap (λ h. option_map_or (λ (id : ℕ). call_first (look l) (serve budget (after Finish (happen (look l) l)))) h (record { events = look l; calls = 0; idle = true })) hand
-    ∙ ap (λ x. call_first (look l) (serve budget x)) (sym at) in
+    let so : serve (suc budget) l ≡ call_first (look l) id (serve budget k) =
+    ap (λ h. option_map_or (λ (id : ℕ). call_first (look l) id (serve budget (after Finish (happen (look l) l)))) h (record { events = look l; calls = []; idle = true })) hand
+    ∙ ap (λ x. call_first (look l) id (serve budget x)) (sym at) in
     record {
-      made = ap (λ (x : Interrupt). x.calls) so ∙ (ap (λ n. n + 1) rest.made ∙ sym sum);
+      made = ap (λ (x : Interrupt). x.calls) so ∙ ap (λ xs. id ∷ xs) rest.made;
       stopped = ap (λ (x : Interrupt). x.idle) so ∙ rest.stopped;
       level = rest.level ∙ (ap (happen (serve budget k).events) at ∙ (sym (happen_on (look l) (Finish ∷ (serve budget k).events) l) ∙ ap (λ (x : Interrupt). happen x.events l) (sym so)));
     }
 
 pub interrupts : (budget : ℕ) (ran : List Served) (idle : Bool) (hand : Option ℕ) (d e : Tables) → (level_of d).drainer_hand ≡ hand → FitsBudget idle (length ran) budget
-    → (idle ≡ true → hand_left hand ran ≡ None) → DrainGoes drained d (way_of hand ran (last_look idle)) e → Interrupts budget (length ran) idle (level_of d) (level_of e)
+    → (idle ≡ true → hand_left hand ran ≡ None) → DrainGoes drains d (way_of hand ran (last_look idle)) e → Interrupts budget (ids ran) idle (level_of d) (level_of e)
 interrupts zero [] false hand d e held fits left way = record { made = refl; stopped = refl; level = ap level_of (sym way) }
 interrupts (suc budget) [] false hand d e held fits left way = absurd (omega arith)
 interrupts zero [] true hand d e held fits left way = absurd (omega arith)
 interrupts (suc budget) [] true hand d e held fits left (j, drains, last) =
     let free : (level_of d).drainer_hand ≡ None = held ∙ left refl in
     let same : level_of e ≡ level_of j = ap level_of (sym last) in
-    subst (λ (x : Level). Interrupts (suc budget) 0 true (level_of d) x) (sym same)
+    subst (λ (x : Level). Interrupts (suc budget) [] true (level_of d) x) (sym same)
     (stops budget (level_of d) (level_of j) (took (level_of d) (level_of j) None free drains) (sym drains.1))
 interrupts zero (s ∷ ran) true hand d e held fits left way = absurd (omega arith)
 interrupts zero (s ∷ ran) false hand d e held fits left way = absurd (omega arith)
@@ -103,10 +101,10 @@ interrupts (suc budget) (s ∷ ran) idle (Some x) d e held fits left (k, (in_han
     let l = level_of d in
     let after_it = finish_hand s.id s.answer l (level_of k) in_hand is found in
     let none : l ≡ happen (look l) l = ap (λ es. happen es l) (sym (looks_empty l s.id in_hand)) in
-    goes_on budget (length ran) (length (s ∷ ran)) s.id (omega arith) idle l l (level_of k) (level_of e) none in_hand is
+    goes_on budget (ids ran) s.id idle l l (level_of k) (level_of e) none in_hand is
     (interrupts budget ran idle (hand_after s.answer (Some s.id)) k e after_it (fits_less idle (length (s ∷ ran)) (length ran) budget (omega arith) fits) left rest)
 interrupts (suc budget) (s ∷ ran) idle None d e held fits left (j, drains, (k, (in_hand, (on, is), found), rest)) =
     let l = level_of d in
     let after_it = finish_hand s.id s.answer (level_of j) (level_of k) in_hand is found in
-    goes_on budget (length ran) (length (s ∷ ran)) s.id (omega arith) idle l (level_of j) (level_of k) (level_of e) (took l (level_of j) (Some s.id) held drains) in_hand is
+    goes_on budget (ids ran) s.id idle l (level_of j) (level_of k) (level_of e) (took l (level_of j) (Some s.id) held drains) in_hand is
     (interrupts budget ran idle (hand_after s.answer (Some s.id)) k e after_it (fits_less idle (length (s ∷ ran)) (length ran) budget (omega arith) fits) left rest)

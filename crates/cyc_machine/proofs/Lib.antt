@@ -1,9 +1,14 @@
 pub mod WorkedScripts
 pub mod Raising
+pub mod Ends
+pub mod Unindexed
 pub mod Interrupts
-pub mod Tallying
-pub mod Firing
 pub mod Standing
+pub mod Serving
+pub mod Firing
+pub mod Adding
+pub mod Named
 pub mod Starting
+pub mod Indexing
 pub mod Conserving
 pub mod Replaying

@@ -1,9 +1,8 @@
--- What expirations of one cyclic do to a level.
-use Rattle.std.proofs.Common.{◌≡◌, ◌≢◌, ℕ, zero, suc, ◌+◌, ◌<◌, ◌≤◌, List, [], ◌∷◌, ◌++◌, Bool, true, false, cond, ◌==◌, eq-eqb, ne_eqb, Option, Some, None, IsSome, refl, ap, sym, ◌∙◌, subst, arith}
-use Rattle.std.specs.Prelude.{is_none}
+-- What an expiration does to a level.
+use Rattle.std.proofs.Common.{◌≡◌, ◌≢◌, ℕ, zero, suc, ◌+◌, ◌<◌, List, [], ◌∷◌, ◌++◌, Bool, true, false, cond, ◌==◌, eq-eqb, ne_eqb, Option, Some, None, IsSome, refl, ap, sym, ◌∙◌, subst, arith}
 use Rattle.std.specs.Option.{option_map}
 use Rattle.std.specs.List.{FoldsTo}
-use Rattle.cyc_types.specs.Firing.{Raises, MayRaise}
+use Rattle.cyc_types.specs.Firing.{Raises}
 use Rattle.cyc_types.specs.declared.firing.Raised.{Raised}
 use Rattle.cyc_types.specs.declared.firing.Raised.TheVariants.{First, More, Lost}
 use Rattle.cyc_level.specs.declared.Event.{Event}
@@ -11,9 +10,12 @@ use Rattle.cyc_level.specs.Level.{Cyclic, Level, count, count_in}
 use Rattle.cyc_level.specs.Events.{after, cyclic_after_expire, cyclic_after_lose, hand_after_expire}
 use Rattle.cyc_level.proofs.Maps.{some_and, not_none, at_same, at_other}
 use Rattle.cyc_core.specs.Reached.{Happens}
-use Rattle.cyc_core.specs.FiringSide.{stay_of, firing_view, Fires, raise_events}
+use Rattle.cyc_core.specs.FiringSide.{Fires, raise_events}
 use Rattle.cyc_machine.specs.LevelRun.{happen, found, expiry, losses}
-use Rattle.cyc_machine.specs.Machine.{repeat_expiry, MayExpire, loss_in}
+use Rattle.cyc_types.specs.Runs.{losses_of as calls_of}
+use Rattle.cyc_level.specs.Runs.{losses as losses_of}
+use Rattle.cyc_level.specs.declared.Event.TheVariants.{Admit, Expire, Lose, Publish, Take, Finish, Mark, Clear, Switch, Follow}
+use Rattle.cyc_cpu.specs.Acts.{loss_in}
 
 -- so many expirations of the cyclic led from the one level to the other
 pub record Expired (times id : ℕ) (l m : Level) : Type 0 where
@@ -21,6 +23,8 @@ pub record Expired (times id : ℕ) (l m : Level) : Type 0 where
   pub marked : m.marked ≡ l.marked
   pub here : (c : Cyclic) → l.cyclics id ≡ Some c → (d : Cyclic) × (m.cyclics id ≡ Some d) × (d.sent ≡ c.sent + times) × (d.done ≡ c.done)
   pub others : (j : ℕ) → j ≢ id → m.cyclics j ≡ l.cyclics j
+  pub none : l.cyclics id ≡ None → m.cyclics id ≡ None
+  pub bank : m.hard_bank ≡ l.hard_bank
 
 -- the pend at which a raise has this answer
 Fits : Raised → ℕ → Type 0
@@ -44,32 +48,30 @@ raised_as First id l free fits = record {
   marked = refl;
   here = λ c is. (cyclic_after_expire c, at_same l.cyclics id (option_map cyclic_after_expire) ∙ ap (option_map cyclic_after_expire) is, refl, refl);
   others = at_other l.cyclics id (option_map cyclic_after_expire);
+  none = λ e. at_same l.cyclics id (option_map cyclic_after_expire) ∙ ap (option_map cyclic_after_expire) e;
+  bank = refl;
 }
 raised_as More id l free (k, is_more) = record {
   hand = ap (λ n. hand_after_expire n id l.firer_hand) is_more ∙ free;
   marked = refl;
   here = λ c is. (cyclic_after_expire c, at_same l.cyclics id (option_map cyclic_after_expire) ∙ ap (option_map cyclic_after_expire) is, refl, refl);
   others = at_other l.cyclics id (option_map cyclic_after_expire);
+  none = λ e. at_same l.cyclics id (option_map cyclic_after_expire) ∙ ap (option_map cyclic_after_expire) e;
+  bank = refl;
 }
 raised_as Lost id l free fits = record {
   hand = free;
   marked = refl;
   here = λ c is. (cyclic_after_lose c, at_same l.cyclics id (option_map cyclic_after_lose) ∙ ap (option_map cyclic_after_lose) is, refl, refl);
   others = at_other l.cyclics id (option_map cyclic_after_lose);
+  none = λ e. at_same l.cyclics id (option_map cyclic_after_lose) ∙ ap (option_map cyclic_after_lose) e;
+  bank = refl;
 }
 
 -- one expiration
 pub expired_once : (id : ℕ) (l : Level) → l.firer_hand ≡ None → Expired 1 id l (happen (expiry id l) l)
 unfolding found_at
 expired_once id l free = raised_as (found id l) id l free (found_fits (count l id == l.ceiling) (count l id))
-
-expired_on : (n id : ℕ) (l m k : Level) → Expired 1 id l m → Expired n id m k → Expired (suc n) id l k
-expired_on n id l m k first rest = record {
-  hand = rest.hand;
-  marked = rest.marked ∙ first.marked;
-  here = λ c is. let (d, isd, sent, done) = first.here c is in let (e, ise, more, still) = rest.here d isd in (e, ise, omega (arith, sent, more), still ∙ done);
-  others = λ j ne. rest.others j ne ∙ first.others j ne;
-}
 
 pub happen_on : (xs ys : List Event) (l : Level) → happen (xs ++ ys) l ≡ happen ys (happen xs l)
 happen_on [] ys l = refl
@@ -78,25 +80,6 @@ happen_on (x ∷ xs) ys l = happen_on xs ys (after x l)
 pub losses_on : (xs ys : List Event) → losses (xs ++ ys) ≡ losses xs + losses ys
 losses_on [] ys = omega arith
 losses_on (x ∷ xs) ys = let rest = losses_on xs ys in omega (arith, rest)
-
--- several expirations
-pub expired_times : (n id : ℕ) (l : Level) → l.firer_hand ≡ None → Expired n id l (happen (repeat_expiry n id l) l)
-expired_times zero id l free = record { hand = free; marked = refl; here = λ c is. (c, is, omega arith, refl); others = λ j ne. refl }
-expired_times (suc n) id l free =
-    let first = expired_once id l free in
-    subst (λ (k : Level). Expired (suc n) id l k) (sym (happen_on (expiry id l) (repeat_expiry n id (happen (expiry id l) l)) l))
-    (expired_on n id l (happen (expiry id l) l) _ first (expired_times n id (happen (expiry id l) l) first.hand))
-
--- a cyclic that may expire once and then so many times more
-pub may_once : (n id : ℕ) (l : Level) → MayExpire (suc n) id l → MayRaise id (firing_view l)
-may_once n id l may = let (c, is, room) = may.admitted in ((stay_of c, ap (option_map stay_of) is, omega (arith, room)), may.unmarked, ap is_none may.hand_free)
-
-pub may_more : (n id : ℕ) (l : Level) → MayExpire (suc n) id l → MayExpire n id (happen (expiry id l) l)
-may_more n id l may =
-    let made = expired_once id l may.hand_free in
-    let (c, is, room) = may.admitted in
-    let (d, isd, sent, _) = made.here c is in
-    record { hand_free = made.hand; unmarked = λ e. may.unmarked (sym made.marked ∙ e); admitted = (d, isd, omega (arith, sent, room)) }
 
 -- ---- what a raise of a level core found
 
@@ -141,15 +124,32 @@ folds_happen (e ∷ es) l m (j, (on, is), rest) = folds_happen es j m rest ∙ a
 pub fires_happen : (id : ℕ) (a : Raised) (l m : Level) → Fires l (Raises id a) m → m ≡ happen (expiry id l) l
 fires_happen id a l m fires = folds_happen (raise_events id a) l m fires.0 ∙ ap (λ (x : Raised). happen (raise_events id x) l) (fires_found id a l m fires)
 
-losses_as : (a : Raised) (id : ℕ) → losses (raise_events id a) ≡ loss_in a
+losses_as : (a : Raised) (id : ℕ) → losses (raise_events id a) ≡ loss_in (Raises id a)
 losses_as First id = refl
 losses_as More id = refl
 losses_as Lost id = refl
 
-pub losses_of_expiry : (id : ℕ) (a : Raised) (l m : Level) → Fires l (Raises id a) m → losses (expiry id l) ≡ loss_in a
+pub losses_of_expiry : (id : ℕ) (a : Raised) (l m : Level) → Fires l (Raises id a) m → losses (expiry id l) ≡ loss_in (Raises id a)
 losses_of_expiry id a l m fires = ap (λ (x : Raised). losses (raise_events id x)) (sym (fires_found id a l m fires)) ∙ losses_as a id
 
-pub loss_most : (a : Raised) → loss_in a ≤ 1
-loss_most First = omega arith
-loss_most More = omega arith
-loss_most Lost = omega arith
+each_as : (a : Raised) (id j : ℕ) → losses_of j (raise_events id a) ≡ calls_of j (Raises id a)
+each_as First id j = refl
+each_as More id j = refl
+each_as Lost id j = omega arith
+
+-- the losses of each id in one expiration
+pub each_of_expiry : (id : ℕ) (a : Raised) (l m : Level) → Fires l (Raises id a) m → (j : ℕ) → losses_of j (expiry id l) ≡ calls_of j (Raises id a)
+each_of_expiry id a l m fires j = ap (λ (x : Raised). losses_of j (raise_events id x)) (sym (fires_found id a l m fires)) ∙ each_as a id j
+
+pub each_on : (j : ℕ) (xs ys : List Event) → losses_of j (xs ++ ys) ≡ losses_of j xs + losses_of j ys
+each_on j [] ys = omega arith
+each_on j (Admit id index ∷ xs) ys = each_on j xs ys
+each_on j (Expire id ∷ xs) ys = each_on j xs ys
+each_on j (Lose id ∷ xs) ys = let rest = each_on j xs ys in omega (arith, rest)
+each_on j (Publish ∷ xs) ys = each_on j xs ys
+each_on j (Take ∷ xs) ys = each_on j xs ys
+each_on j (Finish ∷ xs) ys = each_on j xs ys
+each_on j (Mark id ∷ xs) ys = each_on j xs ys
+each_on j (Clear id ∷ xs) ys = each_on j xs ys
+each_on j (Switch bank ∷ xs) ys = each_on j xs ys
+each_on j (Follow ∷ xs) ys = each_on j xs ys

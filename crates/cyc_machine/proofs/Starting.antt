@@ -1,44 +1,95 @@
 -- The machine before the first step.
-use Rattle.std.proofs.Common.{◌≡◌, ℕ, zero, suc, ◌-◌, ◌^◌, List, [], ◌∷◌, Bool, true, false, cond, nat_lt, get_or, Option, None, refl, ap, sym, ◌∙◌, subst, arith}
-use Rattle.std.specs.Prelude.{slice_get, slice_index, unwrap_or}
+use Rattle.std.proofs.Common.{◌≡◌, ℕ, zero, ◌+◌, ◌-◌, ◌^◌, ◌⊎◌, inl, inr, List, [], length, Bool, true, false, cond, nat_lt, get_or, All, Option, Some, None, refl, ap, sym, ◌∙◌, subst, arith}
+use Rattle.std.specs.Prelude.{slice_get, slice_index, unwrap_or, replicate, ◌==◌}
 use Rattle.std.proofs.lemmas.Option.{unwrap_or-slice_get}
+use Rattle.std.proofs.lemmas.List.{get_or-replicate, length-replicate}
+use Rattle.std.proofs.Math.ListN.{get_or-eq_default}
+use Rattle.std.proofs.lemmas.Bool.{cases_lt}
 use Rattle.cyc_types.specs.Tally.{TallyView, tally_made, tally_get, tally_count}
+use Rattle.cyc_types.specs.declared.refusal.Refusal.{Refusal}
+use Rattle.cyc_types.specs.declared.refusal.Refusal.TheVariants.{Full, Busy, Expanding, Memory}
 use Rattle.cyc_level.specs.Level.{Level, empty_level}
-use Rattle.cyc_core.specs.Tables.{level_of}
-use Rattle.cyc_machine.specs.Text.{State, start}
-use Rattle.cyc_machine.specs.declared.machine.Machine.{Machine}
-use Rattle.cyc_machine.specs.Machine.{IsReady, Tallies, Stands, state_of}
+use Rattle.cyc_core.specs.FiringSide.{firing_view}
+use Rattle.cyc_core.specs.Tables.{Tables, level_of}
+use Rattle.cyc_timers.specs.Rows.{Cyclic}
+use Rattle.cyc_cpu.specs.Cpu.{CpuView, IsFresh, Reserves, MayWiden, WhyNoRoom, HasRoom, size_for}
+use Rattle.cyc_machine.specs.Text.{start}
+use Rattle.cyc_machine.specs.Machine.{IsEmpty, IsFew, Tallies, Serves, unindexed}
+use Rattle.cyc_machine.proofs.Ends.{fires, seen, only_looked}
+use Rattle.cyc_machine.proofs.Serving.{state_at}
 
-zero_list : List ℕ
-zero_list = 0 ∷ []
+-- an empty level as its firing side sees it
+pub fresh : (ceiling : ℕ) (l : Level) → l ≡ empty_level ceiling → IsFresh (firing_view l)
+fresh ceiling l is = subst (λ (k : Level). IsFresh (firing_view k)) (sym is) (record { none = λ id. refl; unmarked = refl; bank = refl; free = refl })
 
-only_zero : (k : ℕ) → get_or zero_list k zero ≡ zero
-unfolding zero_list
-only_zero zero = refl
-only_zero (suc k) = refl
-
-none_counted : (b : Bool) (k : ℕ) → cond b zero (get_or zero_list k zero) ≡ zero
-none_counted true k = refl
-none_counted false k = only_zero k
-
-fresh_tally : (ceiling : ℕ) → Tallies (tally_made 1 1 (2 ^ 64 - 1)) (empty_level ceiling)
-unfolding zero_list
-fresh_tally ceiling = record { first = refl; one = refl; most = refl; counted = λ id. none_counted (nat_lt id 1) (id - 1) }
-
-pub fresh_ready : (ceiling names : ℕ) → IsReady 1 (start ceiling names)
-fresh_ready ceiling names = record { hand_free = refl; unmarked = refl; holds = λ id. refl }
-
-pub begun : (ceiling names : ℕ) (m : Machine) → state_of m ≡ start ceiling names → m.tally ≡ tally_made 1 1 (2 ^ 64 - 1) → Stands 1 m
-begun ceiling names m is tally =
-    let P : State → Type 0 = λ s. IsReady 1 s in
-    let Q : Level → Type 0 = λ l. Tallies (tally_made 1 1 (2 ^ 64 - 1)) l in
-    let R : TallyView → Type 0 = λ t. Tallies t (level_of m.level) in
-    let clock : m.clock ≡ 0 = ap (λ (s : State). s.clock) is in
+-- the CPU with its memory
+pub emptied : (ceiling most : ℕ) (lock low : Tables) (n : CpuView Tables) → most ≡ 2 ^ 64 - 1 → level_of lock ≡ empty_level ceiling → level_of low ≡ empty_level ceiling
+    → Reserves fires seen (record { cyclics = []; removal = None; size = 1; room = 1; most = most; lock = lock; low = low }) n → MayWiden seen 256 n → IsEmpty ceiling n
+emptied ceiling most lock low n greatest at_lock at_low r may =
+    let reserved = may.reserved in let size = r.size in let long = ap length r.cyclics in
+    let needs : size_for n.size (length n.cyclics + 256) ≡ 256 = ap (λ m. size_for m (length n.cyclics + 256)) size ∙ ap (λ m. size_for 1 (m + 256)) long in
     record {
-      ready = subst P (sym is) (fresh_ready ceiling names);
-      tallied = subst R (sym tally) (subst Q (sym (ap (λ (s : State). s.level) is)) (fresh_tally ceiling));
-      clock = omega (arith, clock);
+      cyclics = r.cyclics;
+      still = r.removal;
+      size = size;
+      room = omega (arith, reserved, needs);
+      most = r.most ∙ greatest;
+      lock = only_looked lock n.lock r.lock ∙ at_lock;
+      low = only_looked low n.low r.low ∙ at_low;
     }
+
+behind : (ceiling : ℕ) (old d : Tables) → level_of old ≡ empty_level ceiling → level_of d ≡ level_of old → (seen d).followed ≡ false → ⊥
+behind ceiling old d at looked not_yet = let yes_it_is : (seen d).followed ≡ true = ap (λ (l : Level). l.hard_bank == l.soft_bank) (looked ∙ at) in let both : true ≡ false = sym yes_it_is ∙ not_yet in cc
+
+-- there is room for all
+has_room : (ceiling most : ℕ) (lock low : Tables) (n : CpuView Tables) (e : Refusal) → level_of lock ≡ empty_level ceiling → level_of low ≡ empty_level ceiling
+    → Reserves fires seen (record { cyclics = []; removal = None; size = 1; room = 1; most = most; lock = lock; low = low }) n → WhyNoRoom seen 256 n e → ⊥
+has_room ceiling most lock low n Full at_lock at_low r why = let long = ap length r.cyclics in omega (arith, why, long)
+has_room ceiling most lock low n (Busy id) at_lock at_low r why = let both : None ≡ Some id = sym r.removal ∙ why.2 in cc
+has_room ceiling most lock low n Expanding at_lock at_low r (fits, grows, none, inl b) = behind ceiling lock n.lock at_lock (only_looked lock n.lock r.lock) b
+has_room ceiling most lock low n Expanding at_lock at_low r (fits, grows, none, inr b) = behind ceiling low n.low at_low (only_looked low n.low r.low) b
+has_room ceiling most lock low n _ at_lock at_low r why = why
+
+pub only_memory : {X : Type 0} (ceiling most : ℕ) (lock low : Tables) (n : CpuView Tables) (e : Refusal) → level_of lock ≡ empty_level ceiling → level_of low ≡ empty_level ceiling
+    → Reserves fires seen (record { cyclics = []; removal = None; size = 1; room = 1; most = most; lock = lock; low = low }) n
+    → (WhyNoRoom seen 256 n e ⊎ ((e ≡ Memory) × HasRoom seen 256 n × X)) → e ≡ Memory
+only_memory ceiling most lock low n e at_lock at_low r (inl why) = absurd (has_room ceiling most lock low n e at_lock at_low r why)
+only_memory ceiling most lock low n e at_lock at_low r (inr (is, room, rest)) = is
+
+-- the same of the code's values
+pub emptied_from : (ceiling most more : ℕ) (lock low : Tables) (old n : CpuView Tables) → old ≡ record { cyclics = []; removal = None; size = 1; room = 1; most = most; lock = lock; low = low } → most ≡ 2 ^ 64 - 1
+    → level_of lock ≡ empty_level ceiling → level_of low ≡ empty_level ceiling → more ≡ 256 → Reserves fires seen old n → MayWiden seen more n → IsEmpty ceiling n
+emptied_from ceiling most more lock low old n is greatest at_lock at_low all r may =
+    emptied ceiling most lock low n greatest at_lock at_low (subst (λ o. Reserves fires seen o n) is r) (subst (λ k. MayWiden seen k n) all may)
+
+pub only_memory_from : {X : Type 0} (ceiling most more : ℕ) (lock low : Tables) (old n : CpuView Tables) (e : Refusal) → old ≡ record { cyclics = []; removal = None; size = 1; room = 1; most = most; lock = lock; low = low }
+    → level_of lock ≡ empty_level ceiling → level_of low ≡ empty_level ceiling → more ≡ 256 → Reserves fires seen old n → (WhyNoRoom seen more n e ⊎ ((e ≡ Memory) × HasRoom seen more n × X)) → e ≡ Memory
+only_memory_from {X} ceiling most more lock low old n e is at_lock at_low all r why =
+    only_memory ceiling most lock low n e at_lock at_low (subst (λ o. Reserves fires seen o n) is r) (subst (λ k. WhyNoRoom seen k n e ⊎ ((e ≡ Memory) × HasRoom seen k n × X)) all why)
+
+-- ---- the machine
+
+abbrev zero_list : ℕ → List ℕ
+zero_list n = replicate n 0
+
+zeros : (k n : ℕ) → get_or (zero_list n) k zero ≡ zero
+zeros k n = elim (cases_lt k n) [ inl near ↦ get_or-replicate n k zero zero near | inr far ↦ get_or-eq_default (zero_list n) zero (let l = length-replicate n zero in omega (arith, far, l)) ]
+
+none_counted : (b : Bool) (k n : ℕ) → cond b zero (get_or (zero_list n) k zero) ≡ zero
+none_counted true k n = refl
+none_counted false k n = zeros k n
+
+pub fresh_tally : (t : TallyView) → t ≡ tally_made 1 65536 (2 ^ 64 - 1) → Tallies 1 t
+fresh_tally t is = subst (Tallies 1) (sym is) (record { first = refl; len = length-replicate 65536 zero; most = refl; few = λ id. let n = none_counted (nat_lt id 1) (id - 1) 65536 in omega (arith, n) })
+
+pub fresh_cpu : (ceiling : ℕ) (v : CpuView Tables) → IsEmpty ceiling v → Serves 1 0 v
+fresh_cpu ceiling v e = record { still = e.still; most = e.most; room = e.room; few = subst (λ (cs : List Cyclic). All (IsFew 1 0) cs) (sym e.cyclics) (λ k d low. absurd (omega (arith, low))) }
+
+pub fresh_state : (ceiling names : ℕ) (ids : List (Option ℕ)) (v : CpuView Tables) (t : TallyView) → IsEmpty ceiling v → t ≡ tally_made 1 65536 (2 ^ 64 - 1) → ids ≡ replicate names None → state_at 0 0 ids v t ≡ start ceiling names
+fresh_state ceiling names ids v t e is made =
+    let lock = ap unindexed e.lock in let low = ap unindexed e.low in
+    let counted : (q : ℕ) → tally_count t q ≡ 0 = λ q. ap (λ (x : TallyView). tally_count x q) is ∙ none_counted (nat_lt q 1) (q - 1) 65536 in
+    λ z. record { clock = 0; adds = 0; cyclics = e.cyclics z; size = e.size z; lock = lock z; low = low z; called = λ q. counted q z; ids = made z }
 
 -- what a tally tells of an id
 pub told : (b : Bool) (xs : List ℕ) (k : ℕ) → unwrap_or (cond b None (slice_get xs k)) 0 ≡ cond b 0 (slice_index xs k)

@@ -9,7 +9,6 @@ use Rattle.cyc_level.specs.Level.{Level, count}
 use Rattle.cyc_level.specs.Events.{after}
 use Rattle.cyc_core.specs.FiringSide.{raise_events}
 use Rattle.cyc_core.specs.DrainingSide.{take_events}
-use Rattle.cyc_expirations.specs.Expirations.{Expiration}
 
 -- the level after these events
 abbrev pub happen : List Event → Level → Level
@@ -24,10 +23,10 @@ found id l = if count l id == l.ceiling then Lost else if count l id == 0 then F
 abbrev pub expiry : ℕ → Level → List Event
 expiry id l = raise_events id (found id l)
 
--- the events of the expirations of one fire (cyclic_fire)
-abbrev pub fire_events : List Expiration → Level → List Event
-fire_events [] l = []
-fire_events (p ∷ ps) l = expiry p.id l ++ fire_events ps (happen (expiry p.id l) l)
+-- the events of the expirations of these ids, in order (cyclic_fire)
+abbrev pub expiries : List ℕ → Level → List Event
+expiries [] l = []
+expiries (id ∷ ids) l = expiry id l ++ expiries ids (happen (expiry id l) l)
 
 -- 1 where the event loses an expiration
 abbrev pub loss_of : Event → ℕ
@@ -51,19 +50,19 @@ losses (event ∷ events) = loss_of event + losses events
 abbrev pub look : Level → List Event
 look l = if is_some l.drainer_hand then [] else take_events l.old_list l.new_list (l.hard_bank == l.soft_bank)
 
--- what a soft interrupt does: its events, the calls that it makes, and whether it stops because it finds nothing
+-- what a soft interrupt does: its events, the ids whose calls it makes, in order, and whether it stops because it finds nothing
 pub record Interrupt : Type 0 where
   pub events : List Event
-  pub calls : ℕ
+  pub calls : List ℕ
   pub idle : Bool
 
--- one call before the rest of a soft interrupt
-abbrev pub call_first : List Event → Interrupt → Interrupt
-call_first looked rest = record { events = looked ++ Finish ∷ rest.events; calls = rest.calls + 1; idle = rest.idle }
+-- one call of the id before the rest of a soft interrupt
+abbrev pub call_first : List Event → ℕ → Interrupt → Interrupt
+call_first looked id rest = record { events = looked ++ Finish ∷ rest.events; calls = id ∷ rest.calls; idle = rest.idle }
 
 -- a soft interrupt that may make this many calls: it goes on with the cyclic in hand, or looks for the next (cyclic_softint;
 -- the budget is our own rule)
 abbrev pub serve : ℕ → Level → Interrupt
-serve zero l = record { events = []; calls = 0; idle = false }
-serve (suc budget) l = option_map_or (λ id. call_first (look l) (serve budget (after Finish (happen (look l) l))))
-    ((happen (look l) l).drainer_hand) (record { events = look l; calls = 0; idle = true })
+serve zero l = record { events = []; calls = []; idle = false }
+serve (suc budget) l = option_map_or (λ id. call_first (look l) id (serve budget (after Finish (happen (look l) l))))
+    ((happen (look l) l).drainer_hand) (record { events = look l; calls = []; idle = true })

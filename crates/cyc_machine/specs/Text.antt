@@ -1,45 +1,67 @@
--- The text of a script: what its steps do to the timers of the CPU and to its low level, and the lines that tell of it.
-use Rattle.std.specs.Prelude.{ℕ, ◌+◌, ◌==◌, if◌then◌else◌, ℤ, pos, negsuc, int_lt, Bool, true, false, Option, Some, None, List, [], ◌∷◌, ◌++◌, length, map, replicate, slice_get, slice_set, find, nat_lt, option_and_then, string_bytes}
+-- The text of a script: what its steps do to the cyclics of the CPU and to its two soft levels, and the lines that tell of it.
+use Rattle.std.specs.Prelude.{◌≡◌, ◌<◌, ⊤, ℕ, ◌+◌, ◌==◌, ◌&&◌, if◌then◌else◌, ℤ, pos, negsuc, int_lt, Bool, false, Option, Some, None, List, [], ◌∷◌, ◌++◌, length, map, replicate, slice_get, slice_set, find, nat_lt, nat_le, option_and_then, string_bytes}
+use Rattle.std.specs.List.{list_any}
 use Rattle.std.specs.Option.{option_map_or}
+use Rattle.cyc_types.specs.Counting.{times}
+use Rattle.cyc_types.specs.Limits.{cyclics as most_cyclics}
 use Rattle.cyc_types.specs.declared.refusal.Refusal.{Refusal}
-use Rattle.cyc_types.specs.declared.refusal.Refusal.TheVariants.{BadWhen, BadInterval, BadNow, Full, NoCpu, ScriptShape}
+use Rattle.cyc_types.specs.declared.refusal.Refusal.TheVariants.{BadWhen, BadInterval, BadNow, Full, Expanding, NoCyclic, NoCpu, ScriptShape}
 use Rattle.cyc_types.specs.declared.level.Level.{Level as CyclicLevel}
-use Rattle.cyc_types.specs.declared.level.Level.TheVariants as level
+use Rattle.cyc_types.specs.declared.level.Level.TheVariants.{Low, Lock, High}
 use Rattle.cyc_types.specs.declared.level.Soft.{Soft}
 use Rattle.cyc_types.specs.declared.level.Soft.TheVariants as soft
 use Rattle.cyc_types.specs.Refusals.{number_of}
 use Rattle.cyc_types.specs.Series.{never, first}
 use Rattle.cyc_level.specs.declared.Event.{Event}
-use Rattle.cyc_level.specs.declared.Event.TheVariants.{Admit}
-use Rattle.cyc_level.specs.Level.{Cyclic, Level, empty_level}
-use Rattle.cyc_expirations.specs.Timers.{Timer}
-use Rattle.cyc_expirations.specs.Expirations.{expirations, all_after}
+use Rattle.cyc_level.specs.declared.Event.TheVariants.{Admit, Switch}
+use Rattle.cyc_level.specs.Level.{Level, empty_level, count, bank_size}
+use Rattle.cyc_level.specs.Events.{IsUnused}
+use Rattle.cyc_level.specs.Runs.{losses as losses_of}
+use Rattle.cyc_timers.specs.Rows.{Cyclic, timers}
+use Rattle.cyc_cpu.specs.Acts.{ids_at, same_level}
+use Rattle.cyc_cpu.specs.Cpu.{bank_for, size_for, new_cyclic, with_moment}
+use Rattle.cyc_expirations.specs.Expirations.{Expiration, expirations, after}
 use Rattle.cyc_text.specs.declared.lines.Counts.{Counts}
 use Rattle.cyc_text.specs.Lines.{accepted, refused, fired, ran, reported}
 use Rattle.cyc_script.specs.declared.step.Step.{Step}
 use Rattle.cyc_script.specs.declared.step.Step.TheVariants.{Add, Omni, Bind, Unbind, Reprogram, Remove, Advance, Softint, Juggle, Offline, Online}
 use Rattle.cyc_script.specs.declared.step.Add.{Add as AddStep}
+use Rattle.cyc_script.specs.declared.step.Reprogram.{Reprogram as ReprogramStep}
 use Rattle.cyc_script.specs.declared.step.Softint.{Softint as SoftintStep}
 use Rattle.cyc_script.specs.declared.script.Script.{Script}
-use Rattle.cyc_machine.specs.LevelRun.{happen, fire_events, losses, serve}
+use Rattle.cyc_machine.specs.LevelRun.{happen, expiries, losses, Interrupt, serve}
 
--- the machine between two steps: the clock, the timers of its CPU, its low level, and for each name the id of its cyclic,
--- where the name's add was accepted
+-- the machine between two steps
 pub record State : Type 0 where
   pub clock : ℕ
-  pub timers : List Timer
-  pub level : Level
+  -- the adds that were accepted: the id that was given last
+  pub adds : ℕ
+  -- the cyclics of the CPU by rising ids, and the number of its indexes (cyp_size)
+  pub cyclics : List Cyclic
+  pub size : ℕ
+  -- its two soft levels
+  pub lock : Level
+  pub low : Level
+  -- how often the handler of each id was called
+  pub called : ℕ → ℕ
+  -- for each name the id of its cyclic, where its add was accepted
   pub ids : List (Option ℕ)
 
--- what a step does: its line, the events of the level, and the machine after it
+-- what a step does: its line, the events of the lock and of the low level, and the machine after it
 pub record Outcome : Type 0 where
   pub line : List ℕ
-  pub events : List Event
+  pub lock : List Event
+  pub low : List Event
   pub state : State
 
 -- a step that is refused does nothing
 abbrev pub refusal : ℕ → Refusal → State → Outcome
-refusal step why s = record { line = refused step (number_of why); events = []; state = s }
+refusal step why s = record { line = refused step (number_of why); lock = []; low = []; state = s }
+
+-- a step that may be refused
+abbrev pub unless : Option Refusal → ℕ → State → Outcome → Outcome
+unless (Some why) step s accepted = refusal step why s
+unless None step s accepted = accepted
 
 -- ---- add
 
@@ -48,134 +70,205 @@ abbrev pub magnitude : ℤ → ℕ
 magnitude (pos n) = n
 magnitude (negsuc n) = 0
 
-abbrev pub is_low : CyclicLevel → Bool
-is_low level.Low = true
-is_low level.Lock = false
-is_low level.High = false
+-- the cyclics of the CPU with one more
+abbrev pub one_more : State → ℕ
+one_more s = length s.cyclics + 1
 
--- why an add is refused, if it is: the CPU holds one cyclic so far, and that at the low level
-abbrev pub add_refusal : ℕ → AddStep → State → Option Refusal
-add_refusal step a s =
-    if is_low a.level
-    then if int_lt a.start (pos 0) then Some BadWhen
+-- both soft sides are on the bank that the firing side fills
+abbrev pub have_followed : State → Bool
+have_followed s = (s.lock.hard_bank == s.lock.soft_bank) && (s.low.hard_bank == s.low.soft_bank)
+
+-- why an add is refused, if it is
+abbrev pub add_refusal : AddStep → State → Option Refusal
+add_refusal a s =
+    if int_lt a.start (pos 0) then Some BadWhen
     else if int_lt a.interval (pos 1) then Some BadInterval
-    else if length s.timers == 0 then None
-    else Some Full
-    else Some (ScriptShape step)
+    else if nat_le most_cyclics (length s.cyclics) then Some Full
+    else if nat_le (one_more s) s.size then None
+    else if have_followed s then None
+    else Some Expanding
 
--- the timer of the cyclic that an add makes (cyclic_add_here)
-abbrev pub added_timer : AddStep → State → Timer
-added_timer a s = record {
-  id = length s.timers + 1;
-  level = a.level;
-  interval = magnitude a.interval;
-  moment = first (magnitude a.start) (magnitude a.interval) s.clock;
-  expired = 0;
-}
+-- the size grows where it is used up: both levels switch to the least bank that has room (cyclic_expand)
+abbrev pub growth : State → List Event
+growth s = if nat_le (one_more s) s.size then [] else Switch (bank_for (one_more s)) ∷ []
 
--- a cyclic is added: its stay at the level begins, and its name gets its id
-abbrev pub addition : ℕ → AddStep → State → Outcome
-addition step a s = record {
+-- a level admits the cyclic where it is of this level
+abbrev pub admission : CyclicLevel → CyclicLevel → ℕ → ℕ → List Event
+admission level own id index = if same_level level own then Admit id index ∷ [] else []
+
+-- what an add does to one level
+abbrev pub add_events : CyclicLevel → ℕ → AddStep → State → List Event
+add_events level index a s = growth s ++ admission level a.level (s.adds + 1) index
+
+-- the cyclic that an add makes
+abbrev pub added : AddStep → State → Cyclic
+added a s = new_cyclic (s.adds + 1) a.level (magnitude a.interval) (first (magnitude a.start) (magnitude a.interval) s.clock)
+
+-- a cyclic is added at this index, and its name gets its id (cyclic_add_here)
+abbrev pub addition : ℕ → ℕ → AddStep → State → Outcome
+addition index step a s = record {
   line = accepted step;
-  events = Admit (length s.timers + 1) (length s.timers) ∷ [];
-  state = record {
-    clock = s.clock;
-    timers = s.timers ++ added_timer a s ∷ [];
-    level = happen (Admit (length s.timers + 1) (length s.timers) ∷ []) s.level;
-    ids = slice_set s.ids a.name (Some (length s.timers + 1));
+  lock = add_events Lock index a s;
+  low = add_events Low index a s;
+  state = record s {
+    adds = s.adds + 1;
+    cyclics = s.cyclics ++ added a s ∷ [];
+    size = size_for s.size (one_more s);
+    lock = happen (add_events Lock index a s) s.lock;
+    low = happen (add_events Low index a s) s.low;
+    ids = slice_set s.ids a.name (Some (s.adds + 1));
   };
 }
 
-abbrev pub answer_to_add : Option Refusal → ℕ → AddStep → State → Outcome
-answer_to_add (Some why) step a s = refusal step why s
-answer_to_add None step a s = addition step a s
-
 -- ---- advance
+
+-- the expirations of a fire at this moment
+abbrev pub due_at : ℕ → State → List Expiration
+due_at now s = expirations now (timers s.cyclics)
+
+-- what a fire does to one level: its cyclics expire in order (cyclic_expire)
+abbrev pub fire_events : CyclicLevel → ℕ → State → Level → List Event
+fire_events level now s l = expiries (ids_at level (timers s.cyclics) (due_at now s)) l
+
+-- a cyclic after a fire with these events of the two levels
+abbrev pub fired_cyclic : ℕ → List Expiration → List Event → List Event → Cyclic → Cyclic
+fired_cyclic now made lock low c = record {
+  timer = after now made c.timer;
+  lost = c.lost + losses_of c.timer.id lock + losses_of c.timer.id low;
+}
+
+-- the calls of these ids are counted
+abbrev pub counting : List ℕ → (ℕ → ℕ) → ℕ → ℕ
+counting ids called id = called id + times id ids
 
 -- the clock is set, and the CPU fires (cyclic_fire)
 abbrev pub advance : ℕ → ℕ → State → Outcome
 advance step now s = record {
-  line = fired step (length (expirations now s.timers)) (losses (fire_events (expirations now s.timers) s.level));
-  events = fire_events (expirations now s.timers) s.level;
-  state = record {
+  line = fired step (length (due_at now s)) (losses (fire_events Lock now s s.lock) + losses (fire_events Low now s s.low));
+  lock = fire_events Lock now s s.lock;
+  low = fire_events Low now s s.low;
+  state = record s {
     clock = now;
-    timers = all_after now (expirations now s.timers) s.timers;
-    level = happen (fire_events (expirations now s.timers) s.level) s.level;
-    ids = s.ids;
+    cyclics = map (fired_cyclic now (due_at now s) (fire_events Lock now s s.lock) (fire_events Low now s s.low)) s.cyclics;
+    lock = happen (fire_events Lock now s s.lock) s.lock;
+    low = happen (fire_events Low now s s.low) s.low;
+    called = counting (ids_at High (timers s.cyclics) (due_at now s)) s.called;
   };
 }
 
 -- a clock at never is refused
-abbrev pub answer_to_advance : ℕ → ℕ → State → Outcome
-answer_to_advance step now s = if nat_lt now never then advance step now s else refusal step BadNow s
+abbrev pub advance_refusal : ℕ → Option Refusal
+advance_refusal now = if nat_lt now never then None else Some BadNow
 
 -- ---- softint
 
-abbrev pub is_low_soft : Soft → Bool
-is_low_soft soft.Low = true
-is_low_soft soft.Lock = false
+-- what a soft interrupt does at its level (cyclic_softint)
+abbrev pub served_at : Soft → ℕ → State → Interrupt
+served_at soft.Low budget s = serve budget s.low
+served_at soft.Lock budget s = serve budget s.lock
 
--- a soft interrupt of the low level
-abbrev pub interrupt : ℕ → ℕ → State → Outcome
-interrupt step budget s = record {
-  line = ran step (serve budget s.level).calls (serve budget s.level).idle;
-  events = (serve budget s.level).events;
-  state = record { clock = s.clock; timers = s.timers; level = happen (serve budget s.level).events s.level; ids = s.ids };
+-- the machine after these events of one level
+abbrev pub moved : Soft → List Event → State → State
+moved soft.Low events s = record s { low = happen events s.low }
+moved soft.Lock events s = record s { lock = happen events s.lock }
+
+-- the events, where the level is this one
+abbrev pub events_at : Soft → Soft → List Event → List Event
+events_at soft.Low soft.Low events = events
+events_at soft.Lock soft.Lock events = events
+events_at soft.Low soft.Lock events = []
+events_at soft.Lock soft.Low events = []
+
+abbrev pub interrupt : Soft → ℕ → ℕ → State → Outcome
+interrupt level step budget s = record {
+  line = ran step (length (served_at level budget s).calls) (served_at level budget s).idle;
+  lock = events_at soft.Lock level (served_at level budget s).events;
+  low = events_at soft.Low level (served_at level budget s).events;
+  state = record (moved level (served_at level budget s).events s) { called = counting (served_at level budget s).calls s.called };
 }
 
--- why a soft interrupt is refused, if it is: the one CPU is number 0, and it has the low level so far
-abbrev pub softint_refusal : ℕ → SoftintStep → Option Refusal
-softint_refusal step i = if is_low_soft i.level then (if i.cpu == 0 then None else Some NoCpu) else Some (ScriptShape step)
+-- the one CPU is number 0
+abbrev pub softint_refusal : SoftintStep → Option Refusal
+softint_refusal i = if i.cpu == 0 then None else Some NoCpu
 
-abbrev pub answer_to_softint : Option Refusal → ℕ → ℕ → State → Outcome
-answer_to_softint (Some why) step budget s = refusal step why s
-answer_to_softint None step budget s = interrupt step budget s
+-- ---- reprogram
+
+-- the id that this name was given
+abbrev pub id_in : List (Option ℕ) → ℕ → Option ℕ
+id_in ids name = option_and_then (λ o. o) (slice_get ids name)
+
+abbrev pub id_of : ℕ → State → Option ℕ
+id_of name s = id_in s.ids name
+
+-- the cyclic is the one of this id, if there is one
+abbrev pub is_named : Option ℕ → Cyclic → Bool
+is_named None c = false
+is_named (Some id) c = c.timer.id == id
+
+-- why a reprogram is refused, if it is: one that names a CPU does not run so far
+abbrev pub reprogram_refusal : ℕ → ReprogramStep → State → Option Refusal
+reprogram_refusal step r s = option_map_or (λ cpu. Some (ScriptShape step)) r.cpu
+    (if int_lt r.moment (pos 0) then Some BadWhen
+    else if list_any (is_named (id_of r.name s)) s.cyclics then None
+    else Some NoCyclic)
+
+-- the cyclic of the name gets this moment (cyclic_reprogram)
+abbrev pub reprogrammed : Option ℕ → ℕ → Cyclic → Cyclic
+reprogrammed id moment c = if is_named id c then with_moment moment c else c
+
+abbrev pub reprogramming : ℕ → ReprogramStep → State → Outcome
+reprogramming step r s = record {
+  line = accepted step;
+  lock = [];
+  low = [];
+  state = record s { cyclics = map (reprogrammed (id_of r.name s) (magnitude r.moment)) s.cyclics };
+}
 
 -- ---- all steps
 
--- a word that the machine does not run so far is refused as no step
-abbrev pub outcome : ℕ → Step → State → Outcome
-outcome step (Add a) s = answer_to_add (add_refusal step a s) step a s
-outcome step (Advance now) s = answer_to_advance step now s
-outcome step (Softint i) s = answer_to_softint (softint_refusal step i) step i.budget s
-outcome step (Omni a) s = refusal step (ScriptShape step) s
-outcome step (Bind b) s = refusal step (ScriptShape step) s
-outcome step (Unbind name) s = refusal step (ScriptShape step) s
-outcome step (Reprogram r) s = refusal step (ScriptShape step) s
-outcome step (Remove name) s = refusal step (ScriptShape step) s
-outcome step (Juggle cpu) s = refusal step (ScriptShape step) s
-outcome step (Offline cpu) s = refusal step (ScriptShape step) s
-outcome step (Online cpu) s = refusal step (ScriptShape step) s
+-- a step, and the index of the cyclic that it adds. A word that the machine does not run so far is refused as no step
+abbrev pub outcome : ℕ → ℕ → Step → State → Outcome
+outcome index step (Add a) s = unless (add_refusal a s) step s (addition index step a s)
+outcome index step (Advance now) s = unless (advance_refusal now) step s (advance step now s)
+outcome index step (Softint i) s = unless (softint_refusal i) step s (interrupt i.level step i.budget s)
+outcome index step (Reprogram r) s = unless (reprogram_refusal step r s) step s (reprogramming step r s)
+outcome index step (Omni a) s = refusal step (ScriptShape step) s
+outcome index step (Bind b) s = refusal step (ScriptShape step) s
+outcome index step (Unbind name) s = refusal step (ScriptShape step) s
+outcome index step (Remove name) s = refusal step (ScriptShape step) s
+outcome index step (Juggle cpu) s = refusal step (ScriptShape step) s
+outcome index step (Offline cpu) s = refusal step (ScriptShape step) s
+outcome index step (Online cpu) s = refusal step (ScriptShape step) s
 
--- the steps from this number on: their lines, the events of the level, and the machine after them
-abbrev pub run : ℕ → List Step → State → Outcome
-run step [] s = record { line = []; events = []; state = s }
-run step (x ∷ xs) s = record {
-  line = (outcome step x s).line ++ (run (step + 1) xs (outcome step x s).state).line;
-  events = (outcome step x s).events ++ (run (step + 1) xs (outcome step x s).state).events;
-  state = (run (step + 1) xs (outcome step x s).state).state;
+-- the steps from this number on: their lines, the events of the levels, and the machine after them. The cyclic that a step
+-- adds gets the index of that step
+abbrev pub run : (ℕ → ℕ) → ℕ → List Step → State → Outcome
+run indexes step [] s = record { line = []; lock = []; low = []; state = s }
+run indexes step (x ∷ xs) s = record {
+  line = (outcome (indexes step) step x s).line ++ (run indexes (step + 1) xs (outcome (indexes step) step x s).state).line;
+  lock = (outcome (indexes step) step x s).lock ++ (run indexes (step + 1) xs (outcome (indexes step) step x s).state).lock;
+  low = (outcome (indexes step) step x s).low ++ (run indexes (step + 1) xs (outcome (indexes step) step x s).state).low;
+  state = (run indexes (step + 1) xs (outcome (indexes step) step x s).state).state;
 }
 
 -- ---- the report
 
-abbrev pub expired_of : ℕ → List Timer → ℕ
-expired_of id timers = option_map_or (λ (t : Timer). t.expired) (find (λ (t : Timer). t.id == id) timers) 0
+-- the calls of a cyclic that are outstanding
+abbrev pub outstanding : CyclicLevel → ℕ → State → ℕ
+outstanding High id s = 0
+outstanding Lock id s = count s.lock id
+outstanding Low id s = count s.low id
 
 abbrev pub no_counts : Counts
 no_counts = record { expired = 0; called = 0; lost = 0; pending = 0 }
 
 -- the counts of a cyclic: its expirations, and of them the calls done, lost and outstanding
-abbrev pub counts_in : ℕ → Option Cyclic → Counts
-counts_in expired None = no_counts
-counts_in expired (Some c) = record { expired = expired; called = c.done; lost = c.lost; pending = c.count }
+abbrev pub counts_in : State → Cyclic → Counts
+counts_in s c = record { expired = c.timer.expired; called = s.called c.timer.id; lost = c.lost; pending = outstanding c.timer.level c.timer.id s }
 
 -- the counts of a name, all 0 where its add was refused
 abbrev pub counts_of : State → Option ℕ → Counts
-counts_of s None = no_counts
-counts_of s (Some id) = counts_in (expired_of id s.timers) (s.level.cyclics id)
-
-abbrev pub id_of : ℕ → State → Option ℕ
-id_of name s = option_and_then (λ o. o) (slice_get s.ids name)
+counts_of s id = option_map_or (counts_in s) (find (is_named id) s.cyclics) no_counts
 
 -- one line for each name, from this number on
 abbrev pub reports : ℕ → List (List ℕ) → State → List ℕ
@@ -186,23 +279,67 @@ reports name (text ∷ texts) s = reported text (counts_of s (id_of name s)) ++ 
 
 -- the machine before the first step, with this ceiling and so many names
 abbrev pub start : ℕ → ℕ → State
-start ceiling names = record { clock = 0; timers = []; level = empty_level ceiling; ids = replicate names None }
+start ceiling names = record {
+  clock = 0;
+  adds = 0;
+  cyclics = [];
+  size = 1;
+  lock = empty_level ceiling;
+  low = empty_level ceiling;
+  called = λ id. 0;
+  ids = replicate names None;
+}
 
 -- the text of steps over these names: the lines of the steps, and then the report of each name
-abbrev pub text_on : ℕ → List (List ℕ) → List Step → List ℕ
-text_on ceiling names steps = (run 1 steps (start ceiling (length names))).line ++ reports 0 names (run 1 steps (start ceiling (length names))).state
+abbrev pub text_on : (ℕ → ℕ) → ℕ → List (List ℕ) → List Step → List ℕ
+text_on indexes ceiling names steps =
+    (run indexes 1 steps (start ceiling (length names))).line ++ reports 0 names (run indexes 1 steps (start ceiling (length names))).state
 
 abbrev pub names_of : Script → List (List ℕ)
 names_of script = map string_bytes script.names.items
 
+-- the text of a script where its cyclics get these indexes
+unfoldable pub text_with : (ℕ → ℕ) → Script → List ℕ
+text_with indexes script = text_on indexes script.ceiling (names_of script) script.steps.items
+
+-- no line tells of an index, so any will do
+abbrev pub no_indexes : ℕ → ℕ
+no_indexes step = 0
+
 -- the text of a script
-unfoldable pub text_of : Script → List ℕ
-text_of script = text_on script.ceiling (names_of script) script.steps.items
+abbrev pub text_of : Script → List ℕ
+text_of script = text_with no_indexes script
 
--- the events of the level in the whole run of a script
-unfoldable pub events_of : Script → List Event
-events_of script = (run 1 script.steps.items (start script.ceiling (length (names_of script)))).events
+-- the whole run of a script where its cyclics get these indexes
+unfoldable pub run_of : (ℕ → ℕ) → Script → Outcome
+run_of indexes script = run indexes 1 script.steps.items (start script.ceiling (length (names_of script)))
 
--- the level after the last step of a script
-unfoldable pub last_level : Script → Level
-last_level script = (run 1 script.steps.items (start script.ceiling (length (names_of script)))).state.level
+-- ---- the indexes that cyclics can get
+
+-- no cyclic of the level has the index, and it is a place of the bank that the firing side fills
+abbrev pub IsFreeAt : ℕ → Level → Type 0
+IsFreeAt index l = IsUnused l index × (index < bank_size l.hard_bank)
+
+-- an accepted add gives an index that is free at the cyclic's level, once the size has grown
+abbrev pub GetsFree : ℕ → Step → State → Type 0
+GetsFree index (Add a) s = add_refusal a s ≡ None
+    → (a.level ≡ Lock → IsFreeAt index (happen (growth s) s.lock)) × (a.level ≡ Low → IsFreeAt index (happen (growth s) s.low))
+GetsFree index (Advance now) s = ⊤
+GetsFree index (Softint i) s = ⊤
+GetsFree index (Reprogram r) s = ⊤
+GetsFree index (Omni a) s = ⊤
+GetsFree index (Bind b) s = ⊤
+GetsFree index (Unbind name) s = ⊤
+GetsFree index (Remove name) s = ⊤
+GetsFree index (Juggle cpu) s = ⊤
+GetsFree index (Offline cpu) s = ⊤
+GetsFree index (Online cpu) s = ⊤
+
+-- the same of each step from this number on
+abbrev pub GetFree : (ℕ → ℕ) → ℕ → List Step → State → Type 0
+GetFree indexes step [] s = ⊤
+GetFree indexes step (x ∷ xs) s = GetsFree (indexes step) x s × GetFree indexes (step + 1) xs (outcome (indexes step) step x s).state
+
+-- each cyclic of the script gets an index that is free
+unfoldable pub AreFree : (ℕ → ℕ) → Script → Type 0
+AreFree indexes script = GetFree indexes 1 script.steps.items (start script.ceiling (length (names_of script)))

@@ -9,12 +9,11 @@ mod lines;
 mod machine;
 mod run;
 mod steps;
-mod timer;
 mod words;
 
-pub use cyc_script::{Add, Name, Script, Softint, Step, read_script};
+pub use cyc_script::{Add, Name, Reprogram, Script, Softint, Step, read_script};
 pub use cyc_text::{Out, PutFailed, Sink};
 pub use fault::{Fault, RunFault, status_of};
-pub use law::conservation;
+pub use law::{conservation, same_text};
 pub use run::replay;
 pub use words::{Command, command_of};

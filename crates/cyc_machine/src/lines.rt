@@ -1,16 +1,14 @@
 //! The line of each step, and of each name's report.
 
-ghost use Rattle.std.specs.Prelude.{◌≡◌, ◌≤◌, ◌<◌, ◌+◌, ◌^◌, Some, OnOk, string_bytes};
-ghost use Rattle.cyc_core.specs.Tables.{level_of};
-ghost use Rattle.cyc_machine.specs.Text.{outcome, answer_to_add, add_refusal, answer_to_softint, softint_refusal, advance, refusal, answer_to_advance, expired_of, counts_of, id_of, no_counts};
+ghost use Rattle.std.specs.Prelude.{◌≡◌, ◌≤◌, ◌+◌, Some, OnOk, string_bytes};
+ghost use Rattle.cyc_machine.specs.Text.{outcome, unless, add_refusal, addition, advance, advance_refusal, interrupt, softint_refusal, reprogramming, reprogram_refusal, refusal, counts_of, id_of, no_counts};
 ghost use Rattle.cyc_types.specs.Tally.{tally_count};
 ghost use Rattle.cyc_types.specs.declared.refusal.Refusal.TheVariants as refusal_kind;
-ghost use Rattle.cyc_machine.specs.Machine.{state_of, Stands, Takes, Tallies, timers_of};
+ghost use Rattle.cyc_machine.specs.Machine.{state_of, Stands, Takes};
 
 use crate::machine::Machine;
-use crate::steps::{add_cyclic, advance_clock, serve_level};
-use crate::timer::OneTimer;
-use cyc_script::{Add, Softint, Step};
+use crate::steps::{add_cyclic, advance_clock, id_at, reprogram_cyclic, serve_level};
+use cyc_script::{Add, Reprogram, Softint, Step};
 use cyc_text::{Counts, write_accepted, write_fired, write_ran, write_refused};
 use cyc_types::{CyclicId, Refusal, Tally};
 use std::alloc::AllocError;
@@ -21,8 +19,9 @@ fn write_add(
     step: u32,
     added: &Add,
 ) -> Result<(), AllocError>
-    requires { Stands step machine.old }
-    ensures takes { OnOk result (Takes (answer_to_add (add_refusal step added.now (state_of machine.old)) step added.now (state_of machine.old)) (string_bytes line.new) machine.new) }
+    requires few { step ≤ 65536 }
+    requires stands { Stands step machine.old }
+    ensures takes { OnOk result (Takes (unless (add_refusal added.now (state_of machine.old)) step (state_of machine.old) (addition 0 step added.now (state_of machine.old))) (string_bytes line.new) machine.new) }
     ensures stands { Stands (step + 1) machine.new }
 {
     match add_cyclic(machine, step, added) {
@@ -39,7 +38,7 @@ fn write_advance(
 ) -> Result<(), AllocError>
     requires few { step ≤ 65536 }
     requires stands { Stands step machine.old }
-    ensures takes { OnOk result (Takes (answer_to_advance step moment (state_of machine.old)) (string_bytes line.new) machine.new) }
+    ensures takes { OnOk result (Takes (unless (advance_refusal moment) step (state_of machine.old) (advance step moment (state_of machine.old))) (string_bytes line.new) machine.new) }
     ensures stands { Stands (step + 1) machine.new }
 {
     match advance_clock(machine, step, moment) {
@@ -61,11 +60,27 @@ fn write_softint(
 ) -> Result<(), AllocError>
     requires few { step ≤ 65536 }
     requires stands { Stands step machine.old }
-    ensures takes { OnOk result (Takes (answer_to_softint (softint_refusal step softint.now) step softint.now.budget (state_of machine.old)) (string_bytes line.new) machine.new) }
+    ensures takes { OnOk result (Takes (unless (softint_refusal softint.now) step (state_of machine.old) (interrupt softint.now.level step softint.now.budget (state_of machine.old))) (string_bytes line.new) machine.new) }
     ensures stands { Stands (step + 1) machine.new }
 {
     match serve_level(machine, step, softint) {
         Ok(ran) => write_ran(line, step, ran.calls, ran.idle),
+        Err(why) => write_refused(line, step, why.number()),
+    }
+}
+
+fn write_reprogram(
+    machine: &mut Machine,
+    line: &mut String,
+    step: u32,
+    reprogram: &Reprogram,
+) -> Result<(), AllocError>
+    requires stands { Stands step machine.old }
+    ensures takes { OnOk result (Takes (unless (reprogram_refusal step reprogram.now (state_of machine.old)) step (state_of machine.old) (reprogramming step reprogram.now (state_of machine.old))) (string_bytes line.new) machine.new) }
+    ensures stands { Stands (step + 1) machine.new }
+{
+    match reprogram_cyclic(machine, step, reprogram) {
+        Ok(()) => write_accepted(line, step),
         Err(why) => write_refused(line, step, why.number()),
     }
 }
@@ -89,35 +104,21 @@ pub fn take_step(
 ) -> Result<(), AllocError>
     requires few { step ≤ 65536 }
     requires stands { Stands step machine.old }
-    ensures takes { OnOk result (Takes (outcome step taken.now (state_of machine.old)) (string_bytes line.new) machine.new) }
+    ensures takes { OnOk result (Takes (outcome 0 step taken.now (state_of machine.old)) (string_bytes line.new) machine.new) }
     ensures stands { Stands (step + 1) machine.new }
 {
     match taken {
         Step::Add(added) => write_add(machine, line, step, added),
         Step::Advance(moment) => write_advance(machine, line, step, *moment),
         Step::Softint(softint) => write_softint(machine, line, step, softint),
+        Step::Reprogram(reprogram) => write_reprogram(machine, line, step, reprogram),
         Step::Omni(_)
         | Step::Bind(_)
         | Step::Unbind(_)
-        | Step::Reprogram(_)
         | Step::Remove(_)
         | Step::Juggle(_)
         | Step::Offline(_)
         | Step::Online(_) => write_not_run(machine, line, step),
-    }
-}
-
-/// How often the cyclic has expired.
-fn expired_by(timer: Option<OneTimer>, id: CyclicId) -> u64
-    ensures { result ≡ expired_of id (timers_of timer) }
-{
-    match timer {
-        Some(timer) => if timer.id.number() == id.number() {
-            timer.expired
-        } else {
-            0
-        },
-        None => 0,
     }
 }
 
@@ -140,30 +141,28 @@ fn all_zero() -> Counts
 }
 
 /// The counts of a cyclic.
-fn cyclic_counts(machine: &Machine, id: CyclicId) -> Counts
-    requires { Tallies machine.now.tally (level_of machine.now.level) }
-    ensures { result ≡ counts_of (state_of machine.now) (Some id) }
+fn cyclic_counts(machine: &mut Machine, id: CyclicId) -> Counts
+    ensures counts { result ≡ counts_of (state_of machine.old) (Some id) }
+    ensures state { state_of machine.new ≡ state_of machine.old }
 {
-    let Some(books) = machine.level.books(id) else {
+    machine.cpu.law();
+    let Some(totals) = machine.cpu.totals(id) else {
         return all_zero();
     };
     Counts {
-        expired: u128::from(expired_by(machine.timer, id)),
+        expired: u128::from(totals.expired),
         called: u128::from(called_by(&machine.tally, id)),
-        lost: u128::from(books.lost),
-        pending: u64::from(books.pending) + u64::from(books.kept),
+        lost: u128::from(totals.lost),
+        pending: u64::from(totals.pending),
     }
 }
 
 /// The counts of a name.
-pub fn name_counts(machine: &Machine, name: usize) -> Counts
-    requires { Tallies machine.now.tally (level_of machine.now.level) }
-    ensures { result ≡ counts_of (state_of machine.now) (id_of name (state_of machine.now)) }
+pub fn name_counts(machine: &mut Machine, name: usize) -> Counts
+    ensures counts { result ≡ counts_of (state_of machine.old) (id_of name (state_of machine.old)) }
+    ensures state { state_of machine.new ≡ state_of machine.old }
 {
-    if name >= machine.ids.len() {
-        return all_zero();
-    }
-    match machine.ids[name] {
+    match id_at(&machine.ids, name) {
         Some(id) => cyclic_counts(machine, id),
         None => all_zero(),
     }

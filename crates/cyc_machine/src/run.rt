@@ -1,12 +1,10 @@
 //! The replay of a script on one thread.
 
 ghost use Rattle.std.specs.Prelude.{◌≡◌, ◌≤◌, ◌<◌, ◌^◌, ◌+◌, length, map, string_bytes, OnOk, IfErr, false};
-ghost use Rattle.cyc_core.specs.Tables.{level_of};
 ghost use Rattle.cyc_text.specs.Puts.{Puts};
 ghost use Rattle.cyc_text.specs.Lines.{reported};
-ghost use Rattle.cyc_machine.specs.Text.{outcome, run, reports, counts_of, id_of, text_of, last_level};
-ghost use Rattle.cyc_core.specs.Reached.{IsReached};
-ghost use Rattle.cyc_machine.specs.Machine.{state_of, Stands, Tallies};
+ghost use Rattle.cyc_machine.specs.Text.{no_indexes, outcome, run, reports, counts_of, id_of, text_of};
+ghost use Rattle.cyc_machine.specs.Machine.{state_of, Stands};
 ghost use Rattle.cyc_machine.specs.Status.{is_write, IsMemoryOrWrite};
 
 use crate::fault::RunFault;
@@ -28,8 +26,8 @@ fn put_step<S: Sink>(
     requires few { step ≤ 65536 }
     requires stands { Stands step machine.old }
     requires whole { S.has_failed sink.old ≡ false }
-    ensures text { Puts (S.written sink.old) (S.written sink.new) result (outcome step taken.now (state_of machine.old)).line }
-    ensures state { OnOk result (state_of machine.new ≡ (outcome step taken.now (state_of machine.old)).state) }
+    ensures text { Puts (S.written sink.old) (S.written sink.new) result (outcome 0 step taken.now (state_of machine.old)).line }
+    ensures state { OnOk result (state_of machine.new ≡ (outcome 0 step taken.now (state_of machine.old)).state) }
     ensures stands { Stands (step + 1) machine.new }
     ensures write { S.has_failed sink.new ≡ is_write result }
     ensures memory { IfErr result IsMemoryOrWrite }
@@ -49,10 +47,8 @@ fn put_steps<S: Sink>(
     requires few { length steps.now ≤ 65536 }
     requires stands { Stands 1 machine.old }
     requires whole { S.has_failed sink.old ≡ false }
-    ensures text { Puts (S.written sink.old) (S.written sink.new) result (run 1 steps.now (state_of machine.old)).line }
-    ensures state { OnOk result (state_of machine.new ≡ (run 1 steps.now (state_of machine.old)).state) }
-    ensures tallied { Tallies machine.new.tally (level_of machine.new.level) }
-    ensures reached { OnOk result (IsReached (level_of machine.new.level)) }
+    ensures text { Puts (S.written sink.old) (S.written sink.new) result (run no_indexes 1 steps.now (state_of machine.old)).line }
+    ensures state { OnOk result (state_of machine.new ≡ (run no_indexes 1 steps.now (state_of machine.old)).state) }
     ensures write { S.has_failed sink.new ≡ is_write result }
     ensures memory { IfErr result IsMemoryOrWrite }
 {
@@ -61,21 +57,20 @@ fn put_steps<S: Sink>(
         put_step(machine, line, sink, step, taken)?;
         step += 1;
     }
-    machine.level.conservation();
     Ok(())
 }
 
 /// Puts the report of a name.
 fn put_report<S: Sink>(
-    machine: &Machine,
+    machine: &mut Machine,
     line: &mut String,
     sink: &mut S,
     number: usize,
     name: &str,
 ) -> Result<(), RunFault>
-    requires tallied { Tallies machine.now.tally (level_of machine.now.level) }
     requires whole { S.has_failed sink.old ≡ false }
-    ensures text { Puts (S.written sink.old) (S.written sink.new) result (reported name.now (counts_of (state_of machine.now) (id_of number (state_of machine.now)))) }
+    ensures text { Puts (S.written sink.old) (S.written sink.new) result (reported name.now (counts_of (state_of machine.old) (id_of number (state_of machine.old)))) }
+    ensures state { state_of machine.new ≡ state_of machine.old }
     ensures write { S.has_failed sink.new ≡ is_write result }
     ensures memory { IfErr result IsMemoryOrWrite }
 {
@@ -87,14 +82,13 @@ fn put_report<S: Sink>(
 
 /// Puts the report of each name, in order.
 fn put_reports<S: Sink>(
-    machine: &Machine,
+    machine: &mut Machine,
     line: &mut String,
     sink: &mut S,
     names: &[String],
 ) -> Result<(), RunFault>
-    requires tallied { Tallies machine.now.tally (level_of machine.now.level) }
     requires whole { S.has_failed sink.old ≡ false }
-    ensures text { Puts (S.written sink.old) (S.written sink.new) result (reports 0 (map string_bytes names.now) (state_of machine.now)) }
+    ensures text { Puts (S.written sink.old) (S.written sink.new) result (reports 0 (map string_bytes names.now) (state_of machine.old)) }
     ensures write { S.has_failed sink.new ≡ is_write result }
     ensures memory { IfErr result IsMemoryOrWrite }
 {
@@ -114,9 +108,6 @@ fn put_reports<S: Sink>(
 pub fn replay<S: Sink>(alloc: Global, script: &Script, sink: &mut S) -> Result<(), RunFault>
     requires { S.has_failed sink.old ≡ false }
     ensures text { Puts (S.written sink.old) (S.written sink.new) result (text_of script.now) }
-
-    // The level after the last step is one that enabled events reached, so the conservation theorem holds of it.
-    ensures reached { OnOk result (IsReached (last_level script.now)) }
     ensures write { S.has_failed sink.new ≡ is_write result }
     ensures memory { IfErr result IsMemoryOrWrite }
 {
@@ -124,5 +115,5 @@ pub fn replay<S: Sink>(alloc: Global, script: &Script, sink: &mut S) -> Result<(
     let mut machine = begin(alloc, script.ceiling, names.len())?;
     let mut line = String::new(alloc);
     put_steps(&mut machine, &mut line, sink, script.steps.as_slice())?;
-    put_reports(&machine, &mut line, sink, names)
+    put_reports(&mut machine, &mut line, sink, names)
 }

@@ -4,11 +4,13 @@ use cyc_machine::{
     Command, Fault, Out, PutFailed, RunFault, Sink, command_of, read_script, replay, status_of,
 };
 use cyc_types::Refusal;
+use std::alloc::{AllocError, Global};
+use std::fmt::Write;
 use std::process::Abort;
 use std::test::Fail;
 
-/// Scripts with one low-level cyclic or none, each with its text.
-const RUNS: [(&str, &str, &str); 9] = [
+/// Scripts, each with its text.
+const RUNS: [(&str, &str, &str); 17] = [
     ("no_steps", "{\"cpus\":1,\"steps\":[]}", ""),
     (
         "one_expiration_is_served",
@@ -36,9 +38,49 @@ const RUNS: [(&str, &str, &str); 9] = [
         "1 refused 2\na expired 0 called 0 lost 0 pending 0\n",
     ),
     (
-        "a_second_cyclic_is_refused",
-        "{\"cpus\":1,\"steps\":[[\"add\",\"a\",\"low\",1,1],[\"add\",\"b\",\"low\",1,1]]}",
-        "1 ok\n2 refused 5\na expired 0 called 0 lost 0 pending 0\nb expired 0 called 0 lost 0 pending 0\n",
+        "high_calls_are_made_at_once",
+        "{\"cpus\":1,\"steps\":[[\"add\",\"a\",\"high\",0,10],[\"advance\",35]]}",
+        "1 ok\n2 fired 3 lost 0\na expired 3 called 3 lost 0 pending 0\n",
+    ),
+    (
+        "one_second_late_is_not_distant",
+        "{\"cpus\":1,\"steps\":[[\"add\",\"a\",\"high\",100000000,100000000],[\"advance\",1200000000]]}",
+        "1 ok\n2 fired 12 lost 0\na expired 12 called 12 lost 0 pending 0\n",
+    ),
+    (
+        "more_than_a_second_late_skips",
+        "{\"cpus\":1,\"steps\":[[\"add\",\"a\",\"high\",100000000,100000000],[\"advance\",1200000001],[\"advance\",1299999999],[\"advance\",1300000000]]}",
+        "1 ok\n2 fired 1 lost 0\n3 fired 0 lost 0\n4 fired 1 lost 0\na expired 2 called 2 lost 0 pending 0\n",
+    ),
+    (
+        "a_one_shot_is_reprogrammed",
+        "{\"cpus\":1,\"steps\":[[\"add\",\"a\",\"high\",7,9223372036854775807],[\"advance\",100],[\"reprogram\",\"a\",150],[\"advance\",150],[\"reprogram\",\"a\",9223372036854775807],[\"advance\",9223372036854775806]]}",
+        "1 ok\n2 fired 1 lost 0\n3 ok\n4 fired 1 lost 0\n5 ok\n6 fired 0 lost 0\na expired 2 called 2 lost 0 pending 0\n",
+    ),
+    (
+        "the_old_bank_is_drained_first",
+        "{\"cpus\":1,\"steps\":[[\"add\",\"a\",\"low\",1,10],[\"advance\",1],[\"add\",\"b\",\"low\",2,10],[\"advance\",2],[\"softint\",0,\"low\",1]]}",
+        "1 ok\n2 fired 1 lost 0\n3 ok\n4 fired 1 lost 0\n5 ran 1 more\na expired 1 called 1 lost 0 pending 0\nb expired 1 called 0 lost 0 pending 1\n",
+    ),
+    (
+        "both_levels_must_follow",
+        "{\"cpus\":1,\"steps\":[[\"add\",\"a\",\"low\",1,10],[\"add\",\"b\",\"low\",2,10],[\"add\",\"c\",\"low\",3,10],[\"softint\",0,\"low\",8],[\"add\",\"d\",\"low\",3,10],[\"softint\",0,\"lock\",8],[\"add\",\"e\",\"low\",3,10]]}",
+        "1 ok\n2 ok\n3 refused 6\n4 ran 0 idle\n5 refused 6\n6 ran 0 idle\n7 ok\na expired 0 called 0 lost 0 pending 0\nb expired 0 called 0 lost 0 pending 0\nc expired 0 called 0 lost 0 pending 0\nd expired 0 called 0 lost 0 pending 0\ne expired 0 called 0 lost 0 pending 0\n",
+    ),
+    (
+        "the_last_moment_is_never",
+        "{\"cpus\":1,\"steps\":[[\"add\",\"a\",\"high\",9223372036854775800,10],[\"advance\",9223372036854775806],[\"advance\",9223372036854775806]]}",
+        "1 ok\n2 fired 1 lost 0\n3 fired 0 lost 0\na expired 1 called 1 lost 0 pending 0\n",
+    ),
+    (
+        "a_reprogram_needs_its_cyclic",
+        "{\"cpus\":1,\"steps\":[[\"add\",\"a\",\"low\",0,0],[\"reprogram\",\"a\",-1],[\"reprogram\",\"a\",5]]}",
+        "1 refused 3\n2 refused 2\n3 refused 8\na expired 0 called 0 lost 0 pending 0\n",
+    ),
+    (
+        "each_level_has_its_own_buffer",
+        "{\"cpus\":1,\"steps\":[[\"add\",\"a\",\"lock\",1,10],[\"softint\",0,\"low\",8],[\"softint\",0,\"lock\",8],[\"add\",\"b\",\"low\",1,10],[\"softint\",0,\"low\",8],[\"softint\",0,\"lock\",8],[\"advance\",1],[\"softint\",0,\"lock\",8],[\"softint\",0,\"low\",8]]}",
+        "1 ok\n2 ran 0 idle\n3 ran 0 idle\n4 ok\n5 ran 0 idle\n6 ran 0 idle\n7 fired 2 lost 0\n8 ran 1 idle\n9 ran 1 idle\na expired 1 called 1 lost 0 pending 0\nb expired 1 called 1 lost 0 pending 0\n",
     ),
     (
         "a_soft_interrupt_needs_its_cpu",
@@ -71,6 +113,43 @@ fn each_script_gives_its_text(rt: HostRuntime) -> Result<(), Fail> {
         let written = written(&rt, script)?;
         assert_eq!(rt; written.as_slice(), text.as_bytes(), "{name}");
     }
+    Ok(())
+}
+
+/// A script with one more cyclic than a CPU can hold, each add followed by the soft interrupts that drain its old banks.
+fn too_many(alloc: Global) -> Result<String, AllocError> {
+    let mut script = String::new(alloc);
+    script.push_str("{\"cpus\":1,\"steps\":[")?;
+    for k in 0..256u32 {
+        write!(
+            script,
+            "[\"add\",\"c{k}\",\"low\",1,1],[\"softint\",0,\"low\",1],[\"softint\",0,\"lock\",1],"
+        )?;
+    }
+    script.push_str("[\"add\",\"c256\",\"low\",1,1]]}")?;
+    Ok(script)
+}
+
+/// The text of that script.
+fn too_many_text(alloc: Global) -> Result<String, AllocError> {
+    let mut text = String::new(alloc);
+    for k in 0..256u32 {
+        let (add, low, lock) = (3 * k + 1, 3 * k + 2, 3 * k + 3);
+        write!(text, "{add} ok\n{low} ran 0 idle\n{lock} ran 0 idle\n")?;
+    }
+    text.push_str("769 refused 5\n")?;
+    for k in 0..257u32 {
+        write!(text, "c{k} expired 0 called 0 lost 0 pending 0\n")?;
+    }
+    Ok(text)
+}
+
+#[test]
+fn a_cpu_holds_256_cyclics(rt: HostRuntime) -> Result<(), Fail> {
+    let script = too_many(rt.alloc())?;
+    let text = too_many_text(rt.alloc())?;
+    let written = written(&rt, script.as_str())?;
+    assert_eq!(rt; written.as_slice(), text.as_bytes());
     Ok(())
 }
 

@@ -4,11 +4,11 @@ use Rattle.std.specs.List.{list_any}
 
 -- the words, each with its number of parameters
 abbrev pub forms_so_far : List (List ℕ × ℕ)
-forms_so_far = (codes "add", 4) ∷ (codes "advance", 1) ∷ (codes "softint", 3) ∷ []
+forms_so_far = (codes "add", 4) ∷ (codes "reprogram", 2) ∷ (codes "advance", 1) ∷ (codes "softint", 3) ∷ []
 
 -- the levels
 abbrev pub levels_so_far : List (List ℕ)
-levels_so_far = codes "low" ∷ []
+levels_so_far = codes "low" ∷ codes "lock" ∷ codes "high" ∷ []
 
 -- the greatest number of CPUs
 abbrev pub cpus_so_far : ℕ

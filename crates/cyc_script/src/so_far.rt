@@ -12,6 +12,7 @@ pub(crate) fn runs_word(word: &str, parameters: usize) -> bool
     ensures { result ≡ runs_word word.now parameters }
 {
     (word == "add" && parameters == 4)
+        || (word == "reprogram" && parameters == 2)
         || (word == "advance" && parameters == 1)
         || (word == "softint" && parameters == 3)
 }
@@ -21,5 +22,5 @@ pub(crate) fn runs_word(word: &str, parameters: usize) -> bool
 pub(crate) fn runs_level(word: &str) -> bool
     ensures { result ≡ runs_level word.now }
 {
-    word == "low"
+    word == "low" || word == "lock" || word == "high"
 }

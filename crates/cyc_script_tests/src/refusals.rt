@@ -2,7 +2,7 @@
 
 use cyc_script::read_script;
 use cyc_types::Refusal;
-use cyc_types::Refusal::{NameTwice, ScriptShape, ScriptSyntax, TimeBack};
+use cyc_types::Refusal::{NameTwice, NoName, ScriptShape, ScriptSyntax, TimeBack};
 use std::alloc::{AllocError, Global};
 use std::test::Fail;
 
@@ -110,13 +110,9 @@ fn steps_that_have_not_the_form_of_a_step(rt: HostRuntime) -> Result<(), Fail> {
 #[test]
 fn what_the_program_runs_later_has_not_the_form_of_a_step(rt: HostRuntime) -> Result<(), Fail> {
     for step in [
-        "[\"add\",\"a\",\"lock\",1,1]",
-        "[\"add\",\"a\",\"high\",1,1]",
-        "[\"softint\",0,\"lock\",8]",
         "[\"omni\",\"a\",\"low\",1,1,0]",
         "[\"bind\",\"a\",0]",
         "[\"unbind\",\"a\"]",
-        "[\"reprogram\",\"a\",1]",
         "[\"reprogram\",\"a\",1,0]",
         "[\"remove\",\"a\"]",
         "[\"juggle\",0]",
@@ -137,6 +133,11 @@ fn the_first_faulty_step_decides_and_its_form_before_its_name(rt: HostRuntime) -
     for (steps, refusal) in [
         ("[\"advance\",5],[\"advance\",4]", Some(TimeBack(2))),
         ("[\"advance\",5],[\"advance\",5]", None),
+        (
+            "[\"add\",\"a\",\"lock\",1,1],[\"softint\",0,\"lock\",8],[\"reprogram\",\"a\",-1]",
+            None,
+        ),
+        ("[\"reprogram\",\"a\",1]", Some(NoName(1))),
         ("[\"advance\",5],[],[\"advance\",4]", Some(ScriptShape(2))),
         ("[\"advance\",5],[\"advance\",4],[]", Some(TimeBack(2))),
         (
@@ -161,7 +162,7 @@ fn the_first_faulty_step_decides_and_its_form_before_its_name(rt: HostRuntime) -
         ),
         (
             "[\"add\",\"a\",\"low\",1,1],[\"add\",\"a\",\"high\",1,1]",
-            Some(ScriptShape(2)),
+            Some(NameTwice(2)),
         ),
         (
             "[\"add\",\"abcdefghijklmnopqrstuvwxyzAZ09_-\",\"low\",1,1]",

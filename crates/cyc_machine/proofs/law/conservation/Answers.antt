@@ -8,11 +8,20 @@ use Rattle.cyc_machine.proofs.Conserving.{holds_along}
 use Rattle.cyc_machine.proofs.Replaying.{script_can, empty_reached}
 use Rattle.cyc_machine.proofs.law.conservation.Goals as goal
 
-pub returns-clause-enabled : goal.returns-clause-enabled
-returns-clause-enabled c = script_can c.args.script.now c.args.script.now.well_formed.few_steps
+pub returns-clause-lock_enabled : goal.returns-clause-lock_enabled
+returns-clause-lock_enabled c indexes free = (script_can c.args.script.now indexes c.args.script.now.well_formed.few_steps free).0
 
-pub returns-clause-lawful : goal.returns-clause-lawful
-returns-clause-lawful c = holds_along Lawful reached_lawful _ _ (empty_reached _) (script_can c.args.script.now c.args.script.now.well_formed.few_steps)
+pub returns-clause-low_enabled : goal.returns-clause-low_enabled
+returns-clause-low_enabled c indexes free = (script_can c.args.script.now indexes c.args.script.now.well_formed.few_steps free).1
 
-pub returns-clause-conserved : goal.returns-clause-conserved
-returns-clause-conserved c = holds_along IsConserved (λ (l : Level) (r : IsReached l). conserved_level l (reached_lawful l r)) _ _ (empty_reached _) (script_can c.args.script.now c.args.script.now.well_formed.few_steps)
+pub returns-clause-lock_lawful : goal.returns-clause-lock_lawful
+returns-clause-lock_lawful c indexes free = holds_along Lawful reached_lawful _ _ (empty_reached _) (script_can c.args.script.now indexes c.args.script.now.well_formed.few_steps free).0
+
+pub returns-clause-low_lawful : goal.returns-clause-low_lawful
+returns-clause-low_lawful c indexes free = holds_along Lawful reached_lawful _ _ (empty_reached _) (script_can c.args.script.now indexes c.args.script.now.well_formed.few_steps free).1
+
+pub returns-clause-lock_conserved : goal.returns-clause-lock_conserved
+returns-clause-lock_conserved c indexes free = holds_along IsConserved (λ (l : Level) (r : IsReached l). conserved_level l (reached_lawful l r)) _ _ (empty_reached _) (script_can c.args.script.now indexes c.args.script.now.well_formed.few_steps free).0
+
+pub returns-clause-low_conserved : goal.returns-clause-low_conserved
+returns-clause-low_conserved c indexes free = holds_along IsConserved (λ (l : Level) (r : IsReached l). conserved_level l (reached_lawful l r)) _ _ (empty_reached _) (script_can c.args.script.now indexes c.args.script.now.well_formed.few_steps free).1

@@ -8,6 +8,7 @@ use Rattle.cyc_machine.proofs.run.put_reports.Given as goal
 abbrev pub invariant-loop-name : goal.invariant-loop-name
 invariant-loop-name g l = record {
   count : l.number ≡ l.name-index;
+  state : state_of l.machine ≡ state_of l.initial.machine;
   whole : g.S.Sink.has_failed l.sink ≡ false;
-  text : (done : List ℕ) × (reports 0 (map string_bytes l.names) (state_of l.machine) ≡ done ++ reports l.name-index (map string_bytes (drop l.name-index l.names)) (state_of l.machine)) × Appends (g.S.Sink.written l.initial.sink) (g.S.Sink.written l.sink) done;
+  text : (done : List ℕ) × (reports 0 (map string_bytes l.names) (state_of l.initial.machine) ≡ done ++ reports l.name-index (map string_bytes (drop l.name-index l.names)) (state_of l.machine)) × Appends (g.S.Sink.written l.initial.sink) (g.S.Sink.written l.sink) done;
 }

@@ -1,7 +1,47 @@
-use Rattle.std.proofs.Common.{refl, sym}
-use Rattle.cyc_machine.proofs.Standing.{added_stands, none_of}
+use Rattle.std.proofs.Common.{Some, ap, ◌∙◌, refl, subst, sym, arith}
+use Rattle.cyc_machine.specs.Machine.{state_of}
+use Rattle.std.proofs.lemmas.Result.{err_from_is_err_and}
+use Rattle.cyc_types.specs.Series.{first}
+use Rattle.cyc_machine.proofs.Adding.{Adds, added_machine, add_accepted, add_refused, refused_state, added_serves}
 use Rattle.cyc_machine.proofs.steps.add_cyclic.Goals as goal
+
+pub returns-in_err-add-clause-answer : goal.returns-in_err-add-clause-answer
+returns-in_err-add-clause-answer c =
+    let m = c.args.machine.now in let s = c.requires.stands in let w = c.in_ok-when.ensures.ok in let clock = s.clock in
+    let p = err_from_is_err_and c.from_residual-in_err-add.result c.from_residual-in_err-add.ensures.1 in
+    let reserves = c.in_err-add.ensures.err.0 in
+    rw p.1 (
+      add_refused c.args.step m.clock m.adds c.in_ok-when.when.start c.in_ok-when.when.interval c.args.added.now m.ids.items m.cpu c.add.new.self m.tally c.in_err-add.field-0.0 w.0 w.1 w.2 s.cpu c.law.ensures.size reserves
+          (c.in_err-add.ensures.refused (λ e. absurd (omega (arith, clock, e)))) ∙ ap Some (sym p.2),
+      refused_state m.clock m.adds m.ids.items m.cpu c.add.new.self m.tally reserves,
+    )
+
+pub returns-clause-answer : goal.returns-clause-answer
+returns-clause-answer c =
+    let m = c.args.machine.now in let s = c.requires.stands in let w = c.in_ok-when.ensures.ok in
+    let ok = c.in_ok-add.ensures.ok in
+    let start = c.in_ok-when.when.start in let interval = c.in_ok-when.when.interval in
+    let made : Adds c.next_id-id.result c.args.added.now.level interval (first start interval m.clock) m.cpu c.add.new.self = (ok.1, ok.2, ok.3, ok.4, ok.5) in
+    let one = subst (λ i. Adds i c.args.added.now.level interval (first start interval m.clock) m.cpu c.add.new.self) c.next_id-id.ensures made in (
+      add_accepted m.clock m.adds start interval c.args.added.now m.ids.items m.cpu c.add.new.self m.tally w.0 w.1 w.2 one c.law-2.ensures.few c.law-2.ensures.size,
+      added_machine c.args.step m.clock m.adds c.next_id-id.result c.number.result start interval c.args.added.now m.ids.items c.give_id.new.ids.items m.cpu c.add.new.self m.tally c.next_id-id.ensures w.0 w.1 made c.law-2.ensures.rising s.cpu c.give_id.ensures c.number.ensures.value,
+    )
 
 pub returns-clause-stands : goal.returns-clause-stands
 returns-clause-stands c =
-    added_stands c.args.step c.args.machine.now _ _ (none_of _ (sym c.if-is_some.ensures)) refl c.only_id.ensures c.in_ok-when.ensures.2 refl refl refl c.begin_stay.ensures c.requires
+    let m = c.args.machine.now in let s = c.requires.stands in let w = c.in_ok-when.ensures.ok in let adds = s.adds in
+    let ok = c.in_ok-add.ensures.ok in
+    let start = c.in_ok-when.when.start in let interval = c.in_ok-when.when.interval in
+    let made : Adds c.next_id-id.result c.args.added.now.level interval (first start interval m.clock) m.cpu c.add.new.self = (ok.1, ok.2, ok.3, ok.4, ok.5) in
+    let one = subst (λ i. Adds i c.args.added.now.level interval (first start interval m.clock) m.cpu c.add.new.self) c.next_id-id.ensures made in
+    record {
+      clock = s.clock;
+      adds = omega (arith, adds);
+      cpu = added_serves c.args.step m.clock m.adds start interval c.args.added.now m.cpu c.add.new.self w.2 one c.law-2.ensures.rising s.cpu;
+      tally = record { first = s.tally.first; len = s.tally.len; most = s.tally.most; few = λ q. let f = s.tally.few q in omega (arith, f) };
+    }
+
+pub returns-in_err-when-clause-answer : goal.returns-in_err-when-clause-answer
+returns-in_err-when-clause-answer c =
+    let p = err_from_is_err_and c.from_residual.result c.from_residual.ensures.1 in
+    rw p.1 (c.in_err-when.ensures.err (state_of c.args.machine.now) ∙ ap Some (sym p.2), refl)

@@ -1,14 +1,18 @@
-use Rattle.std.proofs.Common.{rules, ◌≡◌, ◌∙◌, ◌-◌, ◌^◌, ap, None}
+use Rattle.std.proofs.Common.{rules, arith, ◌≡◌, ◌∙◌, ◌-◌, ◌^◌, ap, None}
+use Rattle.std.specs.Prelude.{replicate}
 use Rattle.cyc_types.specs.Tally.{tally_made}
-use Rattle.cyc_machine.specs.Text.{start}
-use Rattle.cyc_machine.specs.declared.machine.Machine.{Machine}
-use Rattle.cyc_machine.specs.Machine.{state_of}
-use Rattle.cyc_machine.proofs.Starting.{begun}
+use Rattle.cyc_machine.proofs.Starting.{fresh_state, fresh_tally, fresh_cpu}
 use Rattle.cyc_machine.proofs.steps.begin.Goals as goal
 
+pub returns-clause-state : goal.returns-clause-state
+returns-clause-state c =
+    let names : c.in_ok-vec.field-0.items ≡ replicate c.args.names None = search rules in
+    fresh_state c.args.ceiling c.args.names c.in_ok-vec.field-0.items c.in_ok-empty_cpu.field-0 c.in_ok-new.field-0 c.in_ok-empty_cpu.ensures.state (c.in_ok-new.ensures ∙ ap (λ f. tally_made f 65536 (2 ^ 64 - 1)) c.next_id.ensures) names
+
 pub returns-clause-stands : goal.returns-clause-stands
-returns-clause-stands c =
-    let m : Machine = record { clock = 0; timer = None; level = c.in_ok-new.field-0; tally = c.in_ok-new-2.field-0; ids = c.in_ok-vec.field-0 } in
-    let same : state_of m ≡ start c.args.ceiling c.args.names = search rules in
-    let tally : m.tally ≡ tally_made 1 1 (2 ^ 64 - 1) = c.in_ok-new-2.ensures ∙ ap (λ f. tally_made f 1 (2 ^ 64 - 1)) c.only_id.ensures in
-    begun c.args.ceiling c.args.names m same tally
+returns-clause-stands c = record {
+  clock = omega arith;
+  adds = omega arith;
+  cpu = fresh_cpu c.args.ceiling c.in_ok-empty_cpu.field-0 c.in_ok-empty_cpu.ensures.state;
+  tally = fresh_tally c.in_ok-new.field-0 (c.in_ok-new.ensures ∙ ap (λ f. tally_made f 65536 (2 ^ 64 - 1)) c.next_id.ensures);
+}

@@ -1,0 +1,178 @@
+-- The cyclic of a name on the CPU.
+use Rattle.std.proofs.Common.{◌≡◌, ◌≢◌, ℕ, zero, suc, ◌+◌, ◌<◌, ◌⊎◌, inl, inr, List, [], ◌∷◌, length, map, find, get_or, All, Bool, true, false, cond, ◌==◌, ◌||◌, Option, Some, None, refl, ap, sym, ◌∙◌, arith}
+use Rattle.std.proofs.Math.ListN.{set, length-set}
+use Rattle.std.specs.Prelude.{pos, slice_set, is_some}
+use Rattle.std.specs.Option.{option_map_or}
+use Rattle.cyc_script.specs.declared.step.Reprogram.{Reprogram as ReprogramStep}
+use Rattle.cyc_machine.proofs.Adding.{not_negative}
+use Rattle.std.specs.List.{list_any}
+use Rattle.std.proofs.lemmas.Bool.{cases_lt, cases_eq}
+use Rattle.std.proofs.lemmas.Bool.Decides.{nat_tests}
+use Rattle.std.proofs.lemmas.List.{length-map, get_or-map, ext_get_or, get_or-set_other}
+use Rattle.std.proofs.lemmas.List.Elements.{All-map}
+use Rattle.std.proofs.lemmas.List.Folds.{list_any_none}
+use Rattle.std.proofs.lemmas.Grind.{get_or-set_at}
+use Rattle.cyc_types.specs.Tally.{TallyView, tally_count}
+use Rattle.cyc_types.specs.declared.level.Level.{Level as CyclicLevel}
+use Rattle.cyc_types.specs.declared.level.Level.TheVariants.{Low, Lock, High}
+use Rattle.cyc_types.specs.declared.refusal.Refusal.{Refusal}
+use Rattle.cyc_types.specs.declared.refusal.Refusal.TheVariants.{BadWhen, NoCyclic, ScriptShape}
+use Rattle.cyc_level.specs.Level.{count}
+use Rattle.cyc_core.specs.Tables.{Tables, level_of}
+use Rattle.cyc_timers.specs.Rows.{Cyclic}
+use Rattle.cyc_cpu.specs.Cpu.{CpuView, HasRisingIds, HasNoCyclic, IsCyclic, Asks, with_moment}
+use Rattle.cyc_cpu.specs.Acts.{same_level}
+use Rattle.cyc_cpu.specs.Quiet.{asks_at}
+use Rattle.cyc_types.specs.Runs.{Goes}
+use Rattle.cyc_machine.specs.Machine.{unindexed, IsFew}
+use Rattle.cyc_machine.specs.Text.{State, id_of, id_in, magnitude, reprogramming, reprogram_refusal, is_named, reprogrammed, outstanding}
+use Rattle.cyc_machine.proofs.Ends.{fires, seen, asked_as}
+use Rattle.cyc_machine.proofs.Serving.{state_at}
+use Rattle.cyc_machine.proofs.Standing.{all_few_on}
+use Rattle.cyc_machine.proofs.Unindexed.{count_same}
+
+same_id : (a b : ℕ) → a ≡ b → (a == b) ≡ true
+same_id a b e = grind (arith, nat_tests)
+
+other_id : (a b : ℕ) → a ≢ b → (a == b) ≡ false
+other_id a b ne = grind (arith, nat_tests)
+
+-- different cyclics have different ids
+apart : (cs : List Cyclic) (i k : ℕ) (d : Cyclic) → HasRisingIds cs → i < length cs → k < length cs → i ≢ k → (get_or cs i d).timer.id ≢ (get_or cs k d).timer.id
+apart cs i k d rising low_i low_k ne same = elim (cases_lt i k) [
+  | inl less ↦ let h = rising i k d less low_k in omega (arith, h, same)
+  | inr more ↦ let h = rising k i d (omega (arith, more, ne)) low_i in omega (arith, h, same)
+]
+
+-- ---- reprogram
+
+moved_here : (id : Option ℕ) (b : Bool) (moment : ℕ) (c d : Cyclic) → b ≡ true → c ≡ d → cond b (with_moment moment c) c ≡ with_moment moment d
+moved_here id true moment c d e is = ap (with_moment moment) is
+moved_here id false moment c d e is = absurd (let no : false ≡ true = e in cc)
+
+kept_there : (b : Bool) (x c : Cyclic) → b ≡ false → cond b x c ≡ c
+kept_there true x c e = absurd (let no : true ≡ false = e in cc)
+kept_there false x c e = refl
+
+reprogrammed_at : (cs : List Cyclic) (k i id moment : ℕ) (c : Cyclic) → HasRisingIds cs → IsCyclic cs k c → c.timer.id ≡ id → i < length cs
+    → get_or (set cs k (with_moment moment c)) i c ≡ get_or (map (reprogrammed (Some id) moment) cs) i c
+reprogrammed_at cs k i id moment c rising (low, at) named within = elim (cases_eq i k) [
+  | inl e ↦
+      let here : get_or cs i c ≡ c = ap (λ j. get_or cs j c) e ∙ at in
+      get_or-set_at cs k i (with_moment moment c) c e low
+      ∙ sym (get_or-map (reprogrammed (Some id) moment) cs i c c within
+      ∙ moved_here (Some id) ((get_or cs i c).timer.id == id) moment (get_or cs i c) c (same_id _ id (ap (λ (x : Cyclic). x.timer.id) here ∙ named)) here)
+  | inr ne ↦
+      let other : (get_or cs i c).timer.id ≢ id = λ e. apart cs i k c rising within low ne (e ∙ sym named ∙ ap (λ (x : Cyclic). x.timer.id) (sym at)) in
+      get_or-set_other cs k i (with_moment moment c) c ne
+      ∙ sym (get_or-map (reprogrammed (Some id) moment) cs i c c within ∙ kept_there ((get_or cs i c).timer.id == id) (with_moment moment (get_or cs i c)) (get_or cs i c) (other_id _ id other))
+]
+
+pub reprogrammed_cyclics : (cs : List Cyclic) (k id moment : ℕ) (c : Cyclic) → HasRisingIds cs → IsCyclic cs k c → c.timer.id ≡ id → set cs k (with_moment moment c) ≡ map (reprogrammed (Some id) moment) cs
+reprogrammed_cyclics cs k id moment c rising is named =
+    let long = length-set cs k (with_moment moment c) in
+    let mapped = length-map cs (reprogrammed (Some id) moment) in
+    ext_get_or c (set cs k (with_moment moment c)) (map (reprogrammed (Some id) moment) cs) (omega (arith, long, mapped)) (λ i low. reprogrammed_at cs k i id moment c rising is named (omega (arith, low, long)))
+
+pub is_here : (cs : List Cyclic) (k id : ℕ) (c : Cyclic) → IsCyclic cs k c → c.timer.id ≡ id → list_any (is_named (Some id)) cs ≡ true
+is_here [] k id c is named = absurd (let low = is.0 in omega (arith, low))
+is_here (x ∷ xs) zero id c (low, at) named = ap (λ b. b || list_any (is_named (Some id)) xs) (same_id x.timer.id id (ap (λ (y : Cyclic). y.timer.id) at ∙ named))
+is_here (x ∷ xs) (suc k) id c (low, at) named = or_true (x.timer.id == id) (list_any (is_named (Some id)) xs) (is_here xs k id c (omega arith, at) named)
+  where
+    or_true : (a b : Bool) → b ≡ true → (a || b) ≡ true
+    or_true true b e = refl
+    or_true false b e = e
+
+pub is_absent : (cs : List Cyclic) (id : ℕ) → HasNoCyclic id cs → list_any (is_named (Some id)) cs ≡ false
+is_absent cs id none = list_any_none (is_named (Some id)) cs (λ k d low. other_id (get_or cs k d).timer.id id (none k d low))
+
+pub none_named : (cs : List Cyclic) → list_any (is_named None) cs ≡ false
+none_named cs = list_any_none (is_named None) cs (λ k d low. refl)
+
+names_no_cpu : (cpu : Option ℕ) (f : ℕ → Option Refusal) (rest : Option Refusal) → is_some cpu ≡ false → option_map_or f cpu rest ≡ rest
+names_no_cpu None f rest e = refl
+names_no_cpu (Some n) f rest e = absurd (let both : true ≡ false = e in cc)
+
+-- what a reprogram is refused with
+pub reprogram_answer : (step moment : ℕ) (r : ReprogramStep) (s : State) (id : Option ℕ) (here : Bool) → is_some r.cpu ≡ false → pos moment ≡ r.moment → id_of r.name s ≡ id → list_any (is_named id) s.cyclics ≡ here
+    → reprogram_refusal step r s ≡ cond here None (Some NoCyclic)
+reprogram_answer step moment r s id here free at named is =
+    names_no_cpu r.cpu (λ cpu. Some (ScriptShape step)) _ free
+    ∙ ap (λ b. cond b (Some BadWhen) (cond (list_any (is_named (id_of r.name s)) s.cyclics) None (Some NoCyclic))) (not_negative r.moment moment at)
+    ∙ ap (λ o. cond (list_any (is_named o) s.cyclics) None (Some NoCyclic)) named
+    ∙ ap (λ b. cond b None (Some NoCyclic)) is
+
+pub refused_here : (id : ℕ) (v : CpuView Tables) → v.removal ≡ None → (HasNoCyclic id v.cyclics ⊎ (v.removal ≡ Some id)) → list_any (is_named (Some id)) v.cyclics ≡ false
+refused_here id v still (inl none) = is_absent v.cyclics id none
+refused_here id v still (inr open_one) = absurd (let both : None ≡ Some id = sym still ∙ open_one in cc)
+
+-- the machine after a reprogram
+pub reprogrammed_state : (step clock adds id k moment : ℕ) (r : ReprogramStep) (names : List (Option ℕ)) (v n : CpuView Tables) (t : TallyView) (c : Cyclic) → HasRisingIds v.cyclics → IsCyclic v.cyclics k c → c.timer.id ≡ id
+    → n ≡ record v { cyclics = slice_set v.cyclics k (with_moment moment c) } → id_in names r.name ≡ Some id → pos moment ≡ r.moment → state_at clock adds names n t ≡ (reprogramming step r (state_at clock adds names v t)).state
+reprogrammed_state step clock adds id k moment r names v n t c rising is named new given at =
+    let cyclics = reprogrammed_cyclics v.cyclics k id moment c rising is named ∙ (λ z. map (reprogrammed (sym given z) (ap magnitude at z)) v.cyclics) in
+    ap (λ (x : CpuView Tables). state_at clock adds names x t) new ∙ (λ z. record (state_at clock adds names v t) { cyclics = cyclics z })
+
+pub id_given : (ids xs : List (Option ℕ)) (name k : ℕ) (o p : Option ℕ) → xs ≡ ids → k ≡ name → o ≡ id_in xs k → o ≡ p → id_in ids name ≡ p
+id_given ids xs name k o p same number found is = ap (λ ys. id_in ys name) (sym same) ∙ ap (id_in xs) (sym number) ∙ sym found ∙ is
+
+few_moved : (step adds moment : ℕ) (id : Option ℕ) (c : Cyclic) → IsFew step adds c → (b : Bool) → IsFew step adds (cond b (with_moment moment c) c)
+few_moved step adds moment id c few true = record { given = few.given; id = few.id; some = few.some; expired = few.expired }
+few_moved step adds moment id c few false = few
+
+pub all_few_moved : (step adds moment : ℕ) (id : Option ℕ) (cs : List Cyclic) → All (IsFew step adds) cs → All (IsFew (step + 1) adds) (map (reprogrammed id moment) cs)
+all_few_moved step adds moment id cs few = All-map (IsFew (step + 1) adds) (reprogrammed id moment) cs (λ k d low. few_moved (step + 1) adds moment id (get_or cs k d) (all_few_on step adds cs few k d low) (is_named id (get_or cs k d)))
+
+-- ---- the counts of a cyclic
+
+pub found_at : (cs : List Cyclic) (k id : ℕ) (c : Cyclic) → HasRisingIds cs → IsCyclic cs k c → c.timer.id ≡ id → find (is_named (Some id)) cs ≡ Some c
+found_at [] k id c rising is named = absurd (let low = is.0 in omega (arith, low))
+found_at (x ∷ xs) zero id c rising (low, at) named =
+    ap (λ b. cond b (Some x) (find (is_named (Some id)) xs)) (same_id x.timer.id id (ap (λ (y : Cyclic). y.timer.id) at ∙ named)) ∙ ap Some at
+found_at (x ∷ xs) (suc k) id c rising (low, at) named =
+    let less = rising 0 (suc k) c (omega arith) low in
+    let same = ap (λ (y : Cyclic). y.timer.id) at in
+    let ne : x.timer.id ≢ id = λ e. omega (arith, less, same, named, e) in
+    ap (λ b. cond b (Some x) (find (is_named (Some id)) xs)) (other_id x.timer.id id ne)
+    ∙ found_at xs k id c (λ i j d less low. rising (suc i) (suc j) d (omega arith) (omega arith)) (omega arith, at) named
+
+pub none_found : (cs : List Cyclic) (id : ℕ) → HasNoCyclic id cs → find (is_named (Some id)) cs ≡ None
+none_found [] id none = refl
+none_found (x ∷ xs) id none =
+    ap (λ b. cond b (Some x) (find (is_named (Some id)) xs)) (other_id x.timer.id id (none 0 x (omega arith)))
+    ∙ none_found xs id (λ k d low. none (suc k) d (omega arith))
+
+same_found : (o : Option Cyclic) (c d : Cyclic) → o ≡ Some c → o ≡ Some d → c ≡ d
+same_found None c d a b = absurd (let no : None ≡ Some c = a in cc)
+same_found (Some x) c d a b = let p : x ≡ c = cc in let q : x ≡ d = cc in sym p ∙ q
+
+outstanding_as : (own : CyclicLevel) (id n : ℕ) (s : State) (v w : CpuView Tables) → s.lock ≡ unindexed (level_of v.lock) → s.low ≡ unindexed (level_of v.low) → (own ≡ High → n ≡ 0)
+    → Goes fires seen v.lock (asks_at Lock own id n) w.lock → Goes fires seen v.low (asks_at Low own id n) w.low → n ≡ outstanding own id s
+outstanding_as High id n s v w lock low at_high at_lock at_low = at_high refl
+outstanding_as Lock id n s v w lock low at_high at_lock at_low = (asked_as true id n v.lock w.lock at_lock).1 refl ∙ sym (count_same (level_of v.lock) id) ∙ ap (λ l. count l id) (sym lock)
+outstanding_as Low id n s v w lock low at_high at_lock at_low = (asked_as true id n v.low w.low at_low).1 refl ∙ sym (count_same (level_of v.low) id) ∙ ap (λ l. count l id) (sym low)
+
+pub counts_found : (clock adds id expired lost n : ℕ) (names : List (Option ℕ)) (v w : CpuView Tables) (t : TallyView) → HasRisingIds v.cyclics → Asks fires seen id n v w
+    → ((k : ℕ) × (c : Cyclic) × IsCyclic v.cyclics k c × (c.timer.id ≡ id) × (expired ≡ c.timer.expired) × (lost ≡ c.lost))
+    → (c : Cyclic) × (find (is_named (Some id)) v.cyclics ≡ Some c) × (c.timer.id ≡ id) × (expired ≡ c.timer.expired) × (lost ≡ c.lost) × (n ≡ outstanding c.timer.level id (state_at clock adds names v t))
+counts_found clock adds id expired lost n names v w t rising asks (k, c, is, named, same, less) =
+    let found = found_at v.cyclics k id c rising is named in
+    let also : asks.cyclic ≡ c = same_found (find (is_named (Some id)) v.cyclics) asks.cyclic c (found_at v.cyclics asks.place id asks.cyclic rising asks.here asks.named) found in (
+      c,
+      found,
+      named,
+      same,
+      less,
+      outstanding_as asks.cyclic.timer.level id n (state_at clock adds names v t) v w refl refl asks.high asks.lock asks.low
+          ∙ ap (λ (x : Cyclic). outstanding x.timer.level id (state_at clock adds names v t)) also,
+    )
+
+pub asked_state : (clock adds id n : ℕ) (names : List (Option ℕ)) (v w : CpuView Tables) (t : TallyView) → Asks fires seen id n v w → state_at clock adds names w t ≡ state_at clock adds names v t
+asked_state clock adds id n names v w t asks =
+    let lock = ap unindexed (asked_as (same_level Lock asks.cyclic.timer.level) id n v.lock w.lock asks.lock).0 in
+    let low = ap unindexed (asked_as (same_level Low asks.cyclic.timer.level) id n v.low w.low asks.low).0 in
+    λ z. record { clock = clock; adds = adds; cyclics = asks.cyclics z; size = asks.kept.size z; lock = lock z; low = low z; called = tally_count t; ids = names }
+
+pub none_of_none : (cs : List Cyclic) → find (is_named None) cs ≡ None
+none_of_none [] = refl
+none_of_none (c ∷ cs) = none_of_none cs
