@@ -1,9 +1,10 @@
 -- What the loads of all cyclics leave, and what they tell.
-use Rattle.std.proofs.Common.{◌≡◌, ℕ, ◌<◌, ◌≤◌, Bool, true, false, cond, eqb, Option, Some, None, List, [], ◌∷◌, map, refl, sym, ap, ◌∙◌, subst, arith, eq-eqb, ◌++◌, inl, inr, length, get_or}
+use Rattle.std.proofs.Common.{◌≡◌, ◌≢◌, ℕ, ◌+◌, ◌<◌, ◌≤◌, Bool, true, false, cond, eqb, Option, Some, None, List, [], ◌∷◌, map, refl, sym, ap, ◌∙◌, subst, arith, eq-eqb, ◌++◌, inl, inr, length, get_or}
 use Rattle.cyc_types.specs.Firing.{FiringView, FiringCall, Loads, Looks, Learns, Stay, MayAsk, edited, seen_in, seen_of}
 use Rattle.cyc_types.specs.Runs.{Goes}
 use Rattle.cyc_types.specs.declared.level.Level.{Level}
-use Rattle.cyc_timers.specs.Rows.{Row, IsRow, vacant_row}
+use Rattle.cyc_types.specs.declared.level.Level.TheVariants as level
+use Rattle.cyc_timers.specs.Rows.{Row, IsRow, IsRising, vacant_row}
 use Rattle.std.specs.Prelude.{is_some}
 use Rattle.std.specs.Bool.{OnTrue}
 use Rattle.cyc_cpu.specs.Cpu.{CpuView}
@@ -15,7 +16,7 @@ use Rattle.cyc_cpu.specs.Ends.{IsEnd}
 use Rattle.cyc_cpu.specs.Quiet.{KeepsStays, OnlyLoads, OnlyLooks, asks_at}
 use Rattle.cyc_cpu.proofs.Readying.{loads_keep, looks_keep, keeps_itself}
 use Rattle.cyc_cpu.proofs.Softs.{keeps_on}
-use Rattle.cyc_cpu.proofs.Leaving.{goes_here, goes_not, level_cases}
+use Rattle.cyc_cpu.proofs.Leaving.{goes_here, goes_not, level_cases, one_row}
 
 seen_less : (b : Bool) (n : ℕ) (o : Option Stay) → (b ≡ true → n ≤ seen_in o) → seen_in (cond b (edited (λ s. record s { seen = n }) o) o) ≤ seen_in o
 seen_less true n None h = omega arith
@@ -119,3 +120,40 @@ on_true false P Q f h = h
 
 pub inquires_from : {R : Type 0} (step : R → FiringCall → R → Type 0) (view : R → FiringView) (u v w : CpuView R) → u ≡ v → Inquires step view u w → Inquires step view v w
 inquires_from step view u v w is a = subst (λ x. Inquires step view x w) is a
+
+seen_zero : (o : Option Stay) → ((t : Stay) → o ≡ Some t → ⊥) → seen_in o ≡ 0
+seen_zero None h = refl
+seen_zero (Some t) h = absurd (h t refl)
+
+-- a cyclic is seen at the end of its level alone
+off_end : (soft : Level) (size : ℕ) (marked : Option ℕ) (v : FiringView) (rows : List Row) (i : ℕ) (r : Row) → IsEnd soft size marked v rows → IsRising rows → IsRow rows i r → r.timer.level ≢ soft → seen_of r.timer.id v ≡ 0
+off_end soft size marked v rows i r ready rising is off = seen_zero (v.stays r.timer.id) (λ t h.
+    (let (k, x, is_x, named, at) = ready.only r.timer.id t h in off (ap (λ (y : Row). y.timer.level) (sym (one_row rows i k r x rising is is_x named)) ∙ at)))
+
+module _ {R : Type 0} (step : R → FiringCall → R → Type 0) (view : R → FiringView) (size : ℕ) (rows : List Row) (i n : ℕ) (r : Row) (rising : IsRising rows) (is : IsRow rows i r) where
+  seen_here : (soft : Level) (marked : Option ℕ) (e f : R) → IsEnd soft size marked (view e) rows → Goes step view e (asks_at soft r.timer.level r.timer.id n) f → r.timer.level ≡ soft → seen_of r.timer.id (view f) ≡ n
+  seen_here soft marked e f ready goes at =
+      let (s, stay, rest) = ready.here i r is at in
+      asked_some step view soft r.timer.level r.timer.id n e f at ((s, stay, tt), ready.free) goes
+
+  seen_off : (soft : Level) (marked : Option ℕ) (e f : R) → IsEnd soft size marked (view e) rows → Goes step view e (asks_at soft r.timer.level r.timer.id n) f → r.timer.level ≢ soft → seen_of r.timer.id (view f) ≡ 0
+  seen_off soft marked e f ready goes off =
+      ap (λ x. seen_of r.timer.id (view x)) (goes_not step view soft r.timer.level e f (Loads r.timer.id n ∷ []) goes off) ∙ off_end soft size marked (view e) rows i r ready rising is off
+
+  -- what was found is what is seen
+  pub seen_asked : (l : Level) (lock_marked low_marked : Option ℕ) (lock low lock' low' : R) → r.timer.level ≡ l → IsEnd level.Lock size lock_marked (view lock) rows → IsEnd level.Low size low_marked (view low) rows →
+      Goes step view lock (asks_at level.Lock r.timer.level r.timer.id n) lock' → Goes step view low (asks_at level.Low r.timer.level r.timer.id n) low' → (r.timer.level ≡ level.High → n ≡ 0) →
+      seen_of r.timer.id (view lock') + seen_of r.timer.id (view low') ≡ n
+  seen_asked level.High m m' lock low lock' low' at a b goes goes' high =
+      let x = seen_off level.Lock m lock lock' a goes (λ q. let no : level.High ≡ level.Lock = sym at ∙ q in absurd (cc)) in
+      let y = seen_off level.Low m' low low' b goes' (λ q. let no : level.High ≡ level.Low = sym at ∙ q in absurd (cc)) in
+      let z = high at in
+      omega (arith, x, y, z)
+  seen_asked level.Lock m m' lock low lock' low' at a b goes goes' high =
+      let x = seen_here level.Lock m lock lock' a goes at in
+      let y = seen_off level.Low m' low low' b goes' (λ q. let no : level.Lock ≡ level.Low = sym at ∙ q in absurd (cc)) in
+      omega (arith, x, y)
+  seen_asked level.Low m m' lock low lock' low' at a b goes goes' high =
+      let x = seen_off level.Lock m lock lock' a goes (λ q. let no : level.Low ≡ level.Lock = sym at ∙ q in absurd (cc)) in
+      let y = seen_here level.Low m' low low' b goes' at in
+      omega (arith, x, y)

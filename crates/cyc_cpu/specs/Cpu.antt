@@ -1,6 +1,6 @@
 -- What callers see of the firing side of one CPU.
 use Rattle.std.specs.Prelude.{◌≡◌, ◌≢◌, ℕ, zero, suc, ◌+◌, ◌^◌, nat_le, cond, insert, ◌<◌, ◌≤◌, List, map, length, slice_index_or, All, true, false, ◌⊎◌, Option, Some, None}
-use Rattle.cyc_types.specs.Firing.{FiringView, FiringCall, Expands, Stay, IsAdmitted}
+use Rattle.cyc_types.specs.Firing.{FiringView, FiringCall, Expands, Stay, IsAdmitted, seen_of}
 use Rattle.cyc_types.specs.Series.{never}
 use Rattle.cyc_types.specs.Limits.{cyclics as most_cyclics, greatest_bank}
 use Rattle.cyc_types.specs.Runs.{Goes, Taught}
@@ -28,6 +28,10 @@ pub record CpuView (R : Type 0) : Type 0 where
   pub most : ℕ
   pub lock : R
   pub low : R
+
+-- what was seen of a cyclic at the two ends: at least its outstanding calls
+abbrev pub seen_at : {R : Type 0} → (R → FiringView) → ℕ → CpuView R → ℕ
+seen_at view id v = seen_of id (view v.lock) + seen_of id (view v.low)
 
 -- what no fire and no question changes
 pub record SameCpu {R : Type 0} (v w : CpuView R) : Type 0 where

@@ -1,18 +1,14 @@
 -- How a cyclic moves from one CPU to another (`cyclic_juggle_one_to`).
 use Rattle.std.specs.Prelude.{◌≡◌, ℕ, ◌+◌, ◌<◌, [], ◌∷◌, Some, None}
-use Rattle.cyc_types.specs.Firing.{FiringView, FiringCall, Loads, Marks, Polls, seen_of}
+use Rattle.cyc_types.specs.Firing.{FiringView, FiringCall, Loads, Marks, Polls}
 use Rattle.cyc_types.specs.declared.firing.Sent.{Sent}
 use Rattle.cyc_types.specs.declared.refusal.Refusal.{Refusal}
 use Rattle.cyc_types.specs.declared.refusal.Refusal.TheVariants as why
 use Rattle.cyc_timers.specs.Rows.{Cyclic}
 use Rattle.cyc_cpu.specs.declared.moving.Taken.{Taken}
-use Rattle.cyc_cpu.specs.Cpu.{CpuView, HasNoCyclic, Asks, HasFollowed, SameCpu}
+use Rattle.cyc_cpu.specs.Cpu.{CpuView, seen_at, HasNoCyclic, Asks, HasFollowed, SameCpu}
 use Rattle.cyc_cpu.specs.Quiet.{LoadsThenLooks}
 use Rattle.cyc_cpu.specs.Removal.{Leaves, HasCyclic}
-
--- what was seen of a cyclic at the two ends: at least its outstanding calls
-abbrev pub seen_at : {R : Type 0} → (R → FiringView) → ℕ → CpuView R → ℕ
-seen_at view id v = seen_of id (view v.lock) + seen_of id (view v.low)
 
 -- what was taken is all that the CPU has of this cyclic
 abbrev pub IsTaken : Taken → Cyclic → Type 0

@@ -8,7 +8,7 @@ ghost use Rattle.cyc_expirations.specs.Timers.{earliest};
 ghost use Rattle.cyc_expirations.specs.Expirations.{Expiration, expirations};
 ghost use Rattle.cyc_timers.specs.Rows.{Cyclic, timers};
 ghost use Rattle.cyc_cpu.specs.Losses.{Spares, IsSpared};
-ghost use Rattle.cyc_cpu.specs.Cpu.{CpuView, Makes, WhyStopped, SameCpu, IsFresh, IsCyclic, HasNoCyclic, with_moment, Asks, HasRoom, WhyNoRoom, Looked, MayWiden, Reserves, Widens, Enters, size_for, AreAdmitted, IsRemoved, HasRisingIds};
+ghost use Rattle.cyc_cpu.specs.Cpu.{CpuView, seen_at, Makes, WhyStopped, SameCpu, IsFresh, IsCyclic, HasNoCyclic, with_moment, Asks, HasRoom, WhyNoRoom, Looked, MayWiden, Reserves, Widens, Enters, size_for, AreAdmitted, IsRemoved, HasRisingIds};
 
 use crate::ends::{both_followed, least_bank, load_pend, places_of};
 use crate::fire::{FireRefused, Fired, fire_all};
@@ -179,7 +179,9 @@ impl<R: Raise> Hard<R> {
     pub fn pending(&mut self, id: CyclicId) -> Option<u32>
         ensures none { IfNone result (HasNoCyclic id self.old.cyclics × (self.new ≡ self.old)) }
         ensures some { IfSome result (λ n. Asks R.step R.view id n self.old self.new) }
+        ensures seen { IfSome result (λ n. seen_at R.view id self.new ≡ n) }
     {
+        self.table.law();
         let place = self.table.find(id)?;
         let kept = self.table.record_at(place);
         Some(load_pend(id, kept.level, &mut self.lock, &mut self.low))

@@ -1,4 +1,6 @@
-use Rattle.std.proofs.Common.{◌≡◌, sym, ◌∙◌, subst, refl, IfNone}
+use Rattle.std.proofs.Common.{◌+◌, ◌≡◌, sym, ◌∙◌, subst, refl, IfNone}
+use Rattle.cyc_types.specs.Firing.{seen_of}
+use Rattle.cyc_cpu.proofs.Inquiring.{seen_asked}
 use Rattle.cyc_types.specs.Runs.{Goes}
 use Rattle.cyc_types.specs.declared.level.Level.TheVariants.{Low, Lock}
 use Rattle.cyc_timers.specs.Rows.{cyclic_of}
@@ -36,3 +38,14 @@ returns-clause-some g c =
       cyclics = refl;
       kept = record { removal = refl; size = refl; room = refl; most = refl };
     })
+
+pub returns-clause-seen : goal.returns-clause-seen
+returns-clause-seen g c =
+    let (r, is, named) = c.in_ok-place.ensures.some in
+    let i = c.self.inside in let e = c.load_pend.ensures in let h = c.self.invariant in let n = c.load_pend.result in
+    let level = (c.record_at-kept.ensures r is).0 in
+    let lock = subst (λ q. Goes g.R.Raise.step g.R.Raise.view i.lock (asks_at Lock r.timer.level q n) c.load_pend.new.lock) (sym named) (subst (λ l. Goes g.R.Raise.step g.R.Raise.view i.lock (asks_at Lock l c.args.id n) c.load_pend.new.lock) level e.lock) in
+    let low = subst (λ q. Goes g.R.Raise.step g.R.Raise.view i.low (asks_at Low r.timer.level q n) c.load_pend.new.low) (sym named) (subst (λ l. Goes g.R.Raise.step g.R.Raise.view i.low (asks_at Low l c.args.id n) c.load_pend.new.low) level e.low) in
+    subst (λ q. seen_of q (g.R.Raise.view c.load_pend.new.lock) + seen_of q (g.R.Raise.view c.load_pend.new.low) ≡ n) named
+    (seen_asked g.R.Raise.step g.R.Raise.view i.table.size i.table.rows c.in_ok-place.place n r c.law.ensures.rising is r.timer.level (g.R.Raise.view i.lock).marked (g.R.Raise.view i.low).marked i.lock i.low c.load_pend.new.lock c.load_pend.new.low refl
+    h.ready.lock_end h.ready.low_end lock low (λ q. e.high (level ∙ q)))
