@@ -1,0 +1,2 @@
+mod Enough
+mod Keeps
