@@ -5,6 +5,7 @@ use Rattle.cyc_types.specs.Limits.{cyclics as most_cyclics}
 use Rattle.cyc_types.specs.Series.{never}
 use Rattle.cyc_types.specs.Tally.{TallyView, tally_count}
 use Rattle.cyc_level.specs.Level.{Cyclic, Level, empty_level}
+use Rattle.cyc_core.specs.Reached.{IsReached}
 use Rattle.cyc_core.specs.Tables.{Tables, level_of}
 use Rattle.cyc_timers.specs.Rows.{Cyclic as Timed}
 use Rattle.cyc_cpu.specs.Cpu.{CpuView}
@@ -19,6 +20,10 @@ without_index c = record c { index = 0 }
 -- the level without the indexes of its cyclics
 abbrev pub unindexed : Level → Level
 unindexed l = record l { cyclics = λ id. option_map without_index (l.cyclics id) }
+
+-- the level is, but for indexes, one that enabled events reached
+abbrev pub IsReachedUnindexed : Level → Type 0
+IsReachedUnindexed l = (m : Level) × IsReached m × (unindexed m ≡ l)
 
 -- the machine as the definition of the text has it, but for indexes
 abbrev pub state_of : Machine → State

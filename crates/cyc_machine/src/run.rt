@@ -3,8 +3,8 @@
 ghost use Rattle.std.specs.Prelude.{◌≡◌, ◌≤◌, ◌<◌, ◌^◌, ◌+◌, length, map, string_bytes, OnOk, IfErr, false};
 ghost use Rattle.cyc_text.specs.Puts.{Puts};
 ghost use Rattle.cyc_text.specs.Lines.{reported};
-ghost use Rattle.cyc_machine.specs.Text.{no_indexes, outcome, run, reports, counts_of, id_of, text_of};
-ghost use Rattle.cyc_machine.specs.Machine.{state_of, Stands};
+ghost use Rattle.cyc_machine.specs.Text.{no_indexes, outcome, run, run_of, reports, counts_of, id_of, text_of};
+ghost use Rattle.cyc_machine.specs.Machine.{state_of, Stands, IsReachedUnindexed};
 ghost use Rattle.cyc_machine.specs.Status.{is_write, IsMemoryOrWrite};
 
 use crate::fault::RunFault;
@@ -108,6 +108,10 @@ fn put_reports<S: Sink>(
 pub fn replay<S: Sink>(alloc: Global, script: &Script, sink: &mut S) -> Result<(), RunFault>
     requires { S.has_failed sink.old ≡ false }
     ensures text { Puts (S.written sink.old) (S.written sink.new) result (text_of script.now) }
+
+    // Both levels after the last step are ones that enabled events reached, so the conservation theorem holds of them.
+    ensures lock_reached { OnOk result (IsReachedUnindexed (run_of no_indexes script.now).state.lock) }
+    ensures low_reached { OnOk result (IsReachedUnindexed (run_of no_indexes script.now).state.low) }
     ensures write { S.has_failed sink.new ≡ is_write result }
     ensures memory { IfErr result IsMemoryOrWrite }
 {
@@ -115,5 +119,6 @@ pub fn replay<S: Sink>(alloc: Global, script: &Script, sink: &mut S) -> Result<(
     let mut machine = begin(alloc, script.ceiling, names.len())?;
     let mut line = String::new(alloc);
     put_steps(&mut machine, &mut line, sink, script.steps.as_slice())?;
+    machine.cpu.conservation();
     put_reports(&mut machine, &mut line, sink, names)
 }
