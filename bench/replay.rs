@@ -12,7 +12,7 @@ use std::process::{Command, Stdio};
 use std::time::Instant;
 
 const STEPS: usize = 65_536;
-const ROUNDS: usize = 5;
+const ROUNDS: usize = 15;
 
 /// The cyclic's interval, and the nanoseconds between two advances.
 const INTERVAL: u64 = 1_000;
@@ -34,54 +34,58 @@ fn script(start: u64) -> String {
     text
 }
 
-/// The nanoseconds of a replay, and the expirations that its report has.
-fn replay(program: &str, script: &Path, output: &Path) -> (f64, u64) {
-    let start = Instant::now();
-    let status = Command::new(program)
-        .arg("replay")
-        .stdin(Stdio::from(File::open(script).expect("a script")))
-        .stdout(Stdio::from(File::create(output).expect("an output")))
-        .status()
-        .expect("the program");
-    let nanoseconds = start.elapsed().as_nanos() as f64;
-    assert!(status.success());
-    let text = fs::read_to_string(output).expect("text");
+/// The program on a script.
+fn replay(program: &str, script: &Path) -> Command {
+    let mut command = Command::new(program);
+    let script = File::open(script).expect("a script");
+    command.arg("replay").stdin(Stdio::from(script));
+    command
+}
+
+/// The expirations that the report of a replay has.
+fn expirations(program: &str, script: &Path) -> u64 {
+    let done = replay(program, script).output().expect("the program");
+    let text = String::from_utf8(done.stdout).expect("text");
     let report = text.lines().last().expect("a report");
     let expired = report.split(' ').nth(2).expect("the expirations");
-    (nanoseconds, expired.parse().expect("a number"))
+    expired.parse().expect("a number")
+}
+
+/// The nanoseconds of a replay whose lines nobody reads.
+fn time(program: &str, script: &Path) -> f64 {
+    let mut command = replay(program, script);
+    let start = Instant::now();
+    let status = command.stdout(Stdio::null()).status().expect("the program");
+    assert!(status.success());
+    start.elapsed().as_nanos() as f64
 }
 
 fn main() {
     let mut arguments = std::env::args().skip(1);
     let program = arguments.next().expect("the path of the program");
     let folder = arguments.next().expect("a folder for the scripts");
-    let path = |name: &str| Path::new(&folder).join(name);
-    let (firing, still, output) = (path("firing"), path("still"), path("output"));
+    let firing = Path::new(&folder).join("firing.json");
+    let still = Path::new(&folder).join("still.json");
     fs::write(&firing, script(0)).expect("a script");
     fs::write(&still, script(1 << 62)).expect("a script");
+    let expired = expirations(&program, &firing);
+    assert_eq!(expired, (STEPS as u64 / 2) * STEP / INTERVAL);
+    assert_eq!(expirations(&program, &still), 0);
 
-    let mut times = [Vec::new(), Vec::new()];
-    let mut expirations = 0;
+    let (mut whole, mut alone, mut each) = (Vec::new(), Vec::new(), Vec::new());
     for _ in 0..ROUNDS {
-        let (nanoseconds, expired) = replay(&program, &firing, &output);
-        times[0].push(nanoseconds);
-        expirations = expired;
-        let (nanoseconds, expired) = replay(&program, &still, &output);
-        times[1].push(nanoseconds);
-        assert_eq!(expired, 0);
+        let firing = time(&program, &firing);
+        let still = time(&program, &still);
+        whole.push(firing / 1e6);
+        alone.push(still / 1e6);
+        each.push((firing - still) / expired as f64);
     }
-    assert_eq!(expirations, (STEPS as u64 / 2) * STEP / INTERVAL);
-    let [firing, still] = times.map(|mut times| timing::median(&mut times));
-    println!(
-        "`cyclic replay` of {STEPS} steps with {expirations} expirations, each of them called:\n"
-    );
+    let [whole, alone, each] = [whole, alone, each].map(|mut times| timing::median(&mut times));
+    println!("`cyclic replay` of {STEPS} steps with {expired} expirations, each of them called:\n");
     println!("| Whole, ms | With no expiration, ms | Its share | An expiration and its call, ns |");
     println!("|--:|--:|--:|--:|");
     println!(
-        "| {:.0} | {:.0} | {:.2} | {:.1} |",
-        firing / 1e6,
-        still / 1e6,
-        still / firing,
-        (firing - still) / expirations as f64
+        "| {whole:.0} | {alone:.0} | {:.2} | {each:.1} |",
+        alone / whole
     );
 }
