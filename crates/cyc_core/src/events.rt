@@ -7,7 +7,7 @@ ghost use Rattle.cyc_core.specs.Tables.{level_of, lookup, IsAt};
 ghost use Rattle.cyc_core.specs.Reached.{Happens};
 
 use crate::admitted::Admitted;
-use crate::level_core::LevelCore;
+use crate::level_core::{LevelCore, hint_at};
 use cyc_level::Event;
 use cyc_types::{CyclicId, GREATEST_BANK, Index};
 use thiserror::Error;
@@ -50,6 +50,7 @@ impl LevelCore {
         let inserted = self.table.insert(place, entry);
         let fits = inserted.is_ok();
         prove!(fits);
+        self.hints[hint_at(id)] = place.min(usize::from(u8::MAX)) as u8;
     }
 
     pub(crate) fn expire(&mut self, place: usize, mut entry: Admitted)

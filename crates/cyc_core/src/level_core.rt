@@ -1,5 +1,6 @@
 ghost use Rattle.std.specs.Prelude.{◌≡◌, ℕ, ◌<◌, ◌≤◌, length, IfOk, IfErr, IfSome, IfNone, IsSome, Some, None, slice_get};
 ghost use Rattle.std.specs.Option.{option_map};
+ghost use Rattle.cyc_types.specs.Limits.{cyclics};
 ghost use Rattle.cyc_level.specs.Level.{empty_level};
 ghost use Rattle.cyc_level.specs.Lawful.{Lawful};
 ghost use Rattle.cyc_level.specs.Conservation.{IsConserved};
@@ -26,6 +27,15 @@ pub struct LevelCore {
     pub(crate) old_list: VecDeque<CyclicId>,
     pub(crate) new_list: VecDeque<CyclicId>,
     pub(crate) drainer_hand: Option<CyclicId>,
+    // Where an entry was put in, by its id's low bits. It may have moved since, so each look is checked.
+    pub(crate) hints: [u8; CYCLICS as usize],
+}
+
+/// Where the hint of an id stands.
+pub(crate) fn hint_at(id: CyclicId) -> usize
+    ensures { result < cyclics }
+{
+    (id.number() % u64::from(CYCLICS)) as usize
 }
 
 impl Model for LevelCore {
@@ -70,6 +80,7 @@ impl LevelCore {
             old_list: VecDeque::with_capacity(alloc, room)?,
             new_list: VecDeque::with_capacity(alloc, room)?,
             drainer_hand: None,
+            hints: [0; CYCLICS as usize],
         })
     }
 
@@ -89,6 +100,10 @@ impl LevelCore {
         ensures found { IfOk result (IsAt self.now.table id) }
         ensures absent { IfErr result (IsGap self.now.table id) }
     {
+        let hint = usize::from(self.hints[hint_at(id)]);
+        if hint < self.table.len() && self.table[hint].id.number() == id.number() {
+            return Ok(hint);
+        }
         search(&self.table, id)
     }
 
