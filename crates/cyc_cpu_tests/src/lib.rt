@@ -1,0 +1,17 @@
+//! Tests of what no clause of `cyc_cpu` says: worked rows of one CPU, and that each call can succeed.
+#![tactic(auto)]
+
+#[cfg(test)]
+mod firing;
+#[cfg(test)]
+mod handlers;
+#[cfg(test)]
+mod moving;
+#[cfg(test)]
+mod removing;
+#[cfg(test)]
+mod room;
+#[cfg(test)]
+mod softs;
+#[cfg(test)]
+mod steps;

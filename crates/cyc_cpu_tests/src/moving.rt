@@ -1,0 +1,78 @@
+ghost use Rattle.std.specs.Prelude.{◌≤◌};
+
+use crate::handlers::Handlers;
+use crate::steps::{Answer, Step, cpu, id, play};
+use cyc_core::LevelCore;
+use cyc_cpu::Hard;
+use cyc_types::{Interval, Level, Moment, Refusal, Sent, Soft};
+use std::alloc::Global;
+use std::process::Abort;
+use std::test::Fail;
+
+/// Places the id, with these counts, where room for it was made.
+fn place(
+    cpu: &mut Hard<LevelCore>,
+    number: u64,
+    level: Level,
+    interval: i64,
+    moment: i64,
+    carried: Sent,
+) -> Result<(), Fail>
+    requires lost { carried.lost ≤ carried.sent }
+    requires most { carried.sent ≤ cpu.old.most }
+{
+    let id = id(number)?;
+    let interval = Interval::new(interval)?;
+    let moment = Moment::new(moment)?;
+    let None = cpu.pending(id) else {
+        return Err(Fail::from("an id that is not here"));
+    };
+    cpu.reserve(1)?;
+    cpu.widen(1);
+    cpu.place(id, level, interval, moment, carried);
+    Ok(())
+}
+
+/// A cyclic of one CPU, which is taken off it once its calls are made.
+fn leave(rt: &impl Abort, alloc: Global, calls: &mut Handlers) -> Result<(), Fail> {
+    let mut source = cpu(alloc, u64::MAX, u32::MAX)?;
+    let steps = [
+        (Step::Add(1, Level::Low, 1, 1, 0), Answer::Done),
+        (Step::Fire(3), Answer::Fired(3, 0, 4)),
+        (Step::Settled, Answer::Settled(false)),
+        (Step::TakeNow(1), Answer::Refused(Refusal::Pending)),
+        (Step::Softint(Soft::Low, 8), Answer::Ran(3, true)),
+        (Step::Settled, Answer::Settled(true)),
+        (Step::TakeNow(1), Answer::Taken(Level::Low, 1, 4, 3, 0)),
+        (Step::TakeNow(1), Answer::Refused(Refusal::NoCyclic)),
+    ];
+    play(rt, &mut source, calls, &steps)
+}
+
+/// The cyclic of `leave` on another CPU, up to the end of its removal there.
+fn arrive(rt: &impl Abort, alloc: Global, calls: &mut Handlers) -> Result<(), Fail> {
+    let mut target = cpu(alloc, u64::MAX, u32::MAX)?;
+    place(&mut target, 1, Level::Low, 1, 4, Sent { sent: 3, lost: 0 })?;
+    let busy = Refusal::Busy(id(1)?);
+    let steps = [
+        (Step::Fire(4), Answer::Fired(1, 0, 5)),
+        (Step::BeginRemove(1), Answer::Kept(1)),
+        (Step::BeginRemove(1), Answer::Refused(busy)),
+        (Step::Reprogram(1, 9), Answer::Refused(Refusal::NoCyclic)),
+        (Step::PollRemove, Answer::Nothing),
+        (Step::Softint(Soft::Low, 8), Answer::Ran(1, true)),
+        (Step::PollRemove, Answer::Receipt(1, 4, 0, 4)),
+        (Step::PollRemove, Answer::Nothing),
+        (Step::BeginRemove(1), Answer::Refused(Refusal::NoCyclic)),
+    ];
+    play(rt, &mut target, calls, &steps)
+}
+
+#[test]
+fn a_cyclic_goes_on_at_another_cpu_where_it_stopped(rt: HostRuntime) -> Result<(), Fail> {
+    let mut calls = Handlers::new(rt.alloc(), 0)?;
+    leave(&rt, rt.alloc(), &mut calls)?;
+    arrive(&rt, rt.alloc(), &mut calls)?;
+    assert_eq!(rt; calls.count(id(1)?), Some(4));
+    Ok(())
+}
