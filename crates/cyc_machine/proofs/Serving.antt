@@ -23,11 +23,12 @@ use Rattle.cyc_cpu.specs.Cpu.{CpuView, AreAdmitted}
 use Rattle.cyc_cpu.specs.Soft.{drains, held_at, end_at, SoftKept, ServesAt}
 use Rattle.cyc_soft.specs.Serving.{Served, ids, last_look, look_of, hand_left}
 use Rattle.cyc_machine.specs.LevelRun.{Interrupt, serve}
-use Rattle.cyc_machine.specs.Machine.{unindexed, IsFew, Tallies, Serves}
+use Rattle.cyc_machine.specs.declared.machine.Open.{Open}
+use Rattle.cyc_machine.specs.declared.machine.Fate.{Fate}
+use Rattle.cyc_machine.specs.Machine.{IsFew, Tallies, Serves}
 use Rattle.cyc_machine.specs.Text.{State, interrupt, served_at, counting}
 use Rattle.cyc_machine.proofs.Interrupts.{FitsBudget, Interrupts, interrupts}
 use Rattle.cyc_machine.proofs.Standing.{SameRange, same_range, tallies_on, never_refuses, all_few_on, serves_on, few_at}
-use Rattle.cyc_machine.proofs.Unindexed.{serve_same, serve_bare}
 
 fits_budget : (idle : Bool) (calls n budget : ℕ) → n ≡ calls → calls ≤ budget → (IsTrue idle ↔ (calls < budget)) → FitsBudget idle n budget
 fits_budget true calls n budget same most exactly = let less = exactly.0 refl in omega (arith, less)
@@ -59,57 +60,41 @@ softint_made budget calls idle d e t u (ran, long, serves, left) (most, exactly)
       counted = serves.counted;
     }
 
-abbrev pub state_at : ℕ → ℕ → List (Option ℕ) → CpuView Tables → TallyView → State
-state_at clock adds names v t = record { clock = clock; adds = adds; cyclics = v.cyclics; size = v.size; lock = unindexed (level_of v.lock); low = unindexed (level_of v.low); called = tally_count t; ids = names }
+abbrev pub state_at : ℕ → ℕ → Option Open → List Fate → CpuView Tables → TallyView → State
+state_at clock adds o fates v t = record { clock = clock; adds = adds; cyclics = v.cyclics; size = v.size; removal = o; lock = level_of v.lock; low = level_of v.low; called = tally_count t; fates = fates }
 
-pub served_state : (level : Soft) (step budget calls clock adds : ℕ) (idle : Bool) (names : List (Option ℕ)) (v w : CpuView Tables) (t u : TallyView)
-    → SoftKept level v w → Made budget calls idle (end_at level v) (end_at level w) t u → state_at clock adds names w u ≡ (interrupt level step budget (state_at clock adds names v t)).state
-served_state Low step budget calls clock adds idle names v w t u kept m =
-    let l = level_of v.low in
-    let same : (serve budget (unindexed l)).calls ≡ m.ran = ap (λ (i : Interrupt). i.calls) (serve_same budget l) ∙ m.made.made in
-    let low = ap unindexed m.made.level ∙ serve_bare budget l in
-    let counts : (q : ℕ) → tally_count u q ≡ counting (serve budget (unindexed l)).calls (tally_count t) q = λ q. m.counted q ∙ ap (λ xs. tally_count t q + times q xs) (sym same) in
-    λ z. record {
-      clock = clock;
-      adds = adds;
+pub served_state : (level : Soft) (step budget calls clock adds : ℕ) (idle : Bool) (o : Option Open) (fates : List Fate) (v w : CpuView Tables) (t u : TallyView)
+    → SoftKept level v w → Made budget calls idle (end_at level v) (end_at level w) t u → state_at clock adds o fates w u ≡ (interrupt level step budget (state_at clock adds o fates v t)).state
+served_state Low step budget calls clock adds idle o fates v w t u kept m =
+    let counts : (q : ℕ) → tally_count u q ≡ counting (serve budget (level_of v.low)).calls (tally_count t) q = λ q. m.counted q ∙ ap (λ xs. tally_count t q + times q xs) (sym m.made.made) in
+    λ z. record (state_at clock adds o fates v t) {
       cyclics = kept.cyclics z;
       size = kept.kept.size z;
-      lock = ap (λ (x : Tables). unindexed (level_of x)) kept.beside z;
-      low = low z;
+      lock = ap level_of kept.beside z;
+      low = m.made.level z;
       called = λ q. counts q z;
-      ids = names;
     }
-served_state Lock step budget calls clock adds idle names v w t u kept m =
-    let l = level_of v.lock in
-    let same : (serve budget (unindexed l)).calls ≡ m.ran = ap (λ (i : Interrupt). i.calls) (serve_same budget l) ∙ m.made.made in
-    let lock = ap unindexed m.made.level ∙ serve_bare budget l in
-    let counts : (q : ℕ) → tally_count u q ≡ counting (serve budget (unindexed l)).calls (tally_count t) q = λ q. m.counted q ∙ ap (λ xs. tally_count t q + times q xs) (sym same) in
-    λ z. record {
-      clock = clock;
-      adds = adds;
+served_state Lock step budget calls clock adds idle o fates v w t u kept m =
+    let counts : (q : ℕ) → tally_count u q ≡ counting (serve budget (level_of v.lock)).calls (tally_count t) q = λ q. m.counted q ∙ ap (λ xs. tally_count t q + times q xs) (sym m.made.made) in
+    λ z. record (state_at clock adds o fates v t) {
       cyclics = kept.cyclics z;
       size = kept.kept.size z;
-      lock = lock z;
-      low = ap (λ (x : Tables). unindexed (level_of x)) kept.beside z;
+      lock = m.made.level z;
+      low = ap level_of kept.beside z;
       called = λ q. counts q z;
-      ids = names;
     }
 
-pub served_calls : (level : Soft) (budget calls clock adds : ℕ) (idle : Bool) (names : List (Option ℕ)) (v w : CpuView Tables) (t u : TallyView)
-    → Made budget calls idle (end_at level v) (end_at level w) t u → (calls ≡ length (served_at level budget (state_at clock adds names v t)).calls) × (idle ≡ (served_at level budget (state_at clock adds names v t)).idle)
-served_calls Low budget calls clock adds idle names v w t u m =
-    let l = level_of v.low in
-    (sym m.long ∙ ap length (sym m.made.made) ∙ ap (λ (i : Interrupt). length i.calls) (sym (serve_same budget l)), sym m.made.stopped ∙ ap (λ (i : Interrupt). i.idle) (sym (serve_same budget l)))
-served_calls Lock budget calls clock adds idle names v w t u m =
-    let l = level_of v.lock in
-    (sym m.long ∙ ap length (sym m.made.made) ∙ ap (λ (i : Interrupt). length i.calls) (sym (serve_same budget l)), sym m.made.stopped ∙ ap (λ (i : Interrupt). i.idle) (sym (serve_same budget l)))
+pub served_calls : (level : Soft) (budget calls clock adds : ℕ) (idle : Bool) (o : Option Open) (fates : List Fate) (v w : CpuView Tables) (t u : TallyView)
+    → Made budget calls idle (end_at level v) (end_at level w) t u → (calls ≡ length (served_at level budget (state_at clock adds o fates v t)).calls) × (idle ≡ (served_at level budget (state_at clock adds o fates v t)).idle)
+served_calls Low budget calls clock adds idle o fates v w t u m = (sym m.long ∙ ap length (sym m.made.made), sym m.made.stopped)
+served_calls Lock budget calls clock adds idle o fates v w t u m = (sym m.long ∙ ap length (sym m.made.made), sym m.made.stopped)
 
 pub served_tally : (step budget calls : ℕ) (idle : Bool) (d e : Tables) (t u : TallyView) → Made budget calls idle d e t u → calls ≤ 2 ^ 32 → Tallies step t → Tallies (step + 1) u
 served_tally step budget calls idle d e t u m few s =
     tallies_on step t u (λ q. times q m.ran) s m.range m.counted (λ q. let a = count_by-le-length (λ c. c == q) m.ran in let b = m.long in omega (arith, a, b, few))
 
-pub served_cpu : (level : Soft) (step adds : ℕ) (v w : CpuView Tables) → SoftKept level v w → Serves step adds v → Serves (step + 1) adds w
-served_cpu level step adds v w kept s = serves_on step adds v w kept.kept s (subst (λ cs. All (IsFew (step + 1) adds) cs) (sym kept.cyclics) (all_few_on step adds v.cyclics s.few))
+pub served_cpu : (level : Soft) (step adds : ℕ) (o : Option Open) (v w : CpuView Tables) → SoftKept level v w → Serves step adds o v → Serves (step + 1) adds o w
+served_cpu level step adds o v w kept s = serves_on step adds o v w kept.kept s (subst (λ cs. All (IsFew (step + 1) adds) cs) (sym kept.cyclics) (all_few_on step adds v.cyclics s.few))
 
 -- ---- no call is refused
 
@@ -134,14 +119,14 @@ never_refused soft step adds budget id calls d e cs t u (ran, at, long, less, se
     let more : (q : ℕ) → times q (ids ran) ≤ 2 ^ 32 = λ q. let a = count_by-le-length (λ c. c == q) (ids ran) in let b = length-map ran (λ (s : Served). s.id) in omega (arith, a, b, long, less, small) in
     never_refuses step adds id at low under given within (tallies_on step t at (λ q. times q (ids ran)) tallies (same_range (ids ran) t at serves.called_all) serves.counted more) refuses
 
-pub softint_never_refused : (level : Soft) (step adds budget id calls : ℕ) (v w : CpuView Tables) (t u : TallyView)
+pub softint_never_refused : (level : Soft) (step adds budget id calls : ℕ) (o : Option Open) (v w : CpuView Tables) (t u : TallyView)
     → ((ran : List Served) × (at : TallyView) × (length ran ≡ calls) × (calls < budget)
     × ServesAt tally_called tally_count (end_at level v) t ran (look_of (hand_left (held_at (end_at level v)) ran) (Some id)) (end_at level w) at
     × TallyRefuses at id × ((q : ℕ) → tally_count u q ≡ tally_count at q) × (held_at (end_at level w) ≡ Some id))
-    → SoftKept level v w → step ≤ 65536 → adds < step → budget ≤ 2 ^ 32 → Tallies step t → Serves step adds v
+    → SoftKept level v w → step ≤ 65536 → adds < step → budget ≤ 2 ^ 32 → Tallies step t → Serves step adds o v
     → AreAdmitted kind.Lock (firing_view (level_of w.lock)) w.cyclics → AreAdmitted kind.Low (firing_view (level_of w.low)) w.cyclics
     → Lawful (level_of w.lock) → Lawful (level_of w.low) → ⊥
-softint_never_refused Low step adds budget id calls v w t u refused kept low under small tallies s lock_end low_end lock_law low_law =
+softint_never_refused Low step adds budget id calls o v w t u refused kept low under small tallies s lock_end low_end lock_law low_law =
     never_refused kind.Low step adds budget id calls v.low w.low w.cyclics t u refused low under small tallies low_end low_law (subst (λ cs. All (IsFew step adds) cs) (sym kept.cyclics) s.few)
-softint_never_refused Lock step adds budget id calls v w t u refused kept low under small tallies s lock_end low_end lock_law low_law =
+softint_never_refused Lock step adds budget id calls o v w t u refused kept low under small tallies s lock_end low_end lock_law low_law =
     never_refused kind.Lock step adds budget id calls v.lock w.lock w.cyclics t u refused low under small tallies lock_end lock_law (subst (λ cs. All (IsFew step adds) cs) (sym kept.cyclics) s.few)

@@ -1,5 +1,5 @@
 -- What stays true of a machine from step to step.
-use Rattle.std.proofs.Common.{◌≡◌, ℕ, ◌+◌, ◌^◌, ◌<◌, ◌≤◌, List, length, All, get_or, inl, inr, ap, sym, ◌∙◌, subst, arith}
+use Rattle.std.proofs.Common.{◌≡◌, ℕ, ◌+◌, ◌^◌, ◌<◌, ◌≤◌, List, length, All, get_or, Option, inl, inr, ap, sym, ◌∙◌, subst, arith}
 use Rattle.std.proofs.Math.ListN.{length-set}
 use Rattle.std.specs.List.{FoldsTo}
 use Rattle.std.proofs.Common.{[], ◌∷◌}
@@ -8,6 +8,7 @@ use Rattle.cyc_core.specs.Tables.{Tables}
 use Rattle.cyc_timers.specs.Rows.{Cyclic}
 use Rattle.cyc_cpu.specs.Cpu.{CpuView, SameCpu, IsCyclic}
 use Rattle.cyc_machine.specs.declared.machine.Machine.{Machine}
+use Rattle.cyc_machine.specs.declared.machine.Open.{Open}
 use Rattle.cyc_machine.specs.Machine.{IsFew, Tallies, Serves, Stands}
 
 few_on : (step adds : ℕ) (c : Cyclic) → IsFew step adds c → IsFew (step + 1) adds c
@@ -22,13 +23,13 @@ stands_on step m s =
     let adds = s.adds in record {
       clock = s.clock;
       adds = omega (arith, adds);
-      cpu = record { still = s.cpu.still; most = s.cpu.most; room = s.cpu.room; few = all_few_on step m.adds m.cpu.cyclics s.cpu.few };
+      cpu = record { open_removal = s.cpu.open_removal; most = s.cpu.most; room = s.cpu.room; few = all_few_on step m.adds m.cpu.cyclics s.cpu.few };
       tally = record { first = s.tally.first; len = s.tally.len; most = s.tally.most; few = λ id. let f = s.tally.few id in omega (arith, f) };
     }
 
 -- the CPU is the same but for its cyclics and its levels
-pub serves_on : (step adds : ℕ) (v w : CpuView Tables) → SameCpu v w → Serves step adds v → All (IsFew (step + 1) adds) w.cyclics → Serves (step + 1) adds w
-serves_on step adds v w same s few = let room = s.room in let still = same.room in record { still = same.removal ∙ s.still; most = same.most ∙ s.most; room = omega (arith, room, still); few = few }
+pub serves_on : (step adds : ℕ) (o : Option Open) (v w : CpuView Tables) → SameCpu v w → Serves step adds o v → All (IsFew (step + 1) adds) w.cyclics → Serves (step + 1) adds o w
+serves_on step adds o v w same s few = let room = s.room in let still = same.room in record { open_removal = same.removal ∙ s.open_removal; most = same.most ∙ s.most; room = omega (arith, room, still); few = few }
 
 -- the cyclic at a place
 pub few_at : (step adds k : ℕ) (cs : List Cyclic) (c : Cyclic) → All (IsFew step adds) cs → IsCyclic cs k c → IsFew step adds c

@@ -7,6 +7,7 @@ mod fault;
 mod law;
 mod lines;
 mod machine;
+mod removal;
 mod run;
 mod steps;
 mod words;

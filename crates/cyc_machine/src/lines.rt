@@ -1,17 +1,23 @@
 //! The line of each step, and of each name's report.
 
-ghost use Rattle.std.specs.Prelude.{◌≡◌, ◌≤◌, ◌+◌, Some, OnOk, string_bytes};
-ghost use Rattle.cyc_machine.specs.Text.{outcome, unless, add_refusal, addition, advance, advance_refusal, interrupt, softint_refusal, reprogramming, reprogram_refusal, refusal, counts_of, id_of, no_counts};
+ghost use Rattle.std.specs.Prelude.{◌≡◌, ◌≤◌, ◌+◌, ◌++◌, ℕ, map, OnOk, string_bytes};
+ghost use Rattle.cyc_machine.specs.Text.{unless, followed_by, add_refusal, addition, advance, advance_refusal, interrupt, poll, softint_refusal, reprogramming, reprogram_refusal, remove_refusal, removal, refusal, fate_counts, counts_of, no_counts, text_in, GetsFree};
 ghost use Rattle.cyc_types.specs.Tally.{tally_count};
 ghost use Rattle.cyc_types.specs.declared.refusal.Refusal.TheVariants as refusal_kind;
-ghost use Rattle.cyc_machine.specs.Machine.{state_of, Stands, Takes};
+ghost use Rattle.cyc_machine.specs.declared.machine.Fate.TheVariants as fate_kind;
+ghost use Rattle.cyc_script.specs.declared.step.Step.TheVariants as step_kind;
+ghost use Rattle.cyc_machine.specs.Machine.{state_of, Stands, Shows, Takes};
 
-use crate::machine::Machine;
-use crate::steps::{add_cyclic, advance_clock, id_at, reprogram_cyclic, serve_level};
+use crate::machine::{Fate, Machine};
+use crate::removal::{begin_removal, poll_removal};
+use crate::steps::{add_cyclic, advance_clock, reprogram_cyclic, serve_level};
+use cyc_cpu::Removal;
 use cyc_script::{Add, Reprogram, Softint, Step};
-use cyc_text::{Counts, write_accepted, write_fired, write_ran, write_refused};
+use cyc_text::{
+    Counts, write_accepted, write_fired, write_kept, write_ran, write_refused, write_removed,
+};
 use cyc_types::{CyclicId, Refusal, Tally};
-use std::alloc::AllocError;
+use std::alloc::{AllocError, Global};
 
 fn write_add(
     machine: &mut Machine,
@@ -21,7 +27,8 @@ fn write_add(
 ) -> Result<(), AllocError>
     requires few { step ≤ 65536 }
     requires stands { Stands step machine.old }
-    ensures takes { OnOk result (Takes (unless (add_refusal added.now (state_of machine.old)) step (state_of machine.old) (addition 0 step added.now (state_of machine.old))) (string_bytes line.new) machine.new) }
+    ensures takes { OnOk result ((index : ℕ) × GetsFree index (step_kind.Add added.now) (state_of machine.old)
+        × Shows (unless (add_refusal added.now (state_of machine.old)) step (state_of machine.old) (addition index step added.now (state_of machine.old))) (string_bytes line.new) machine.new) }
     ensures stands { Stands (step + 1) machine.new }
 {
     match add_cyclic(machine, step, added) {
@@ -38,7 +45,7 @@ fn write_advance(
 ) -> Result<(), AllocError>
     requires few { step ≤ 65536 }
     requires stands { Stands step machine.old }
-    ensures takes { OnOk result (Takes (unless (advance_refusal moment) step (state_of machine.old) (advance step moment (state_of machine.old))) (string_bytes line.new) machine.new) }
+    ensures takes { OnOk result (Shows (unless (advance_refusal moment) step (state_of machine.old) (advance step moment (state_of machine.old))) (string_bytes line.new) machine.new) }
     ensures stands { Stands (step + 1) machine.new }
 {
     match advance_clock(machine, step, moment) {
@@ -52,19 +59,88 @@ fn write_advance(
     }
 }
 
-fn write_softint(
+/// The text of a name.
+fn name_text(names: &[String], name: usize) -> &str
+    ensures { result.now ≡ text_in (map string_bytes names.now) name }
+{
+    if name < names.len() {
+        names[name].as_str()
+    } else {
+        ""
+    }
+}
+
+/// Polls the removal that is open, and appends its line where it was answered.
+fn append_poll(
+    alloc: Global,
     machine: &mut Machine,
+    names: &[String],
+    line: &mut String,
+    step: u32,
+) -> Result<(), AllocError>
+    requires few { step ≤ 65536 }
+    requires stands { Stands (step + 1) machine.old }
+    ensures line { OnOk result (string_bytes line.new ≡ string_bytes line.old ++ (poll (map string_bytes names.now) step (state_of machine.old)).line) }
+    ensures state { state_of machine.new ≡ (poll (map string_bytes names.now) step (state_of machine.old)).state }
+    ensures stands { Stands (step + 1) machine.new }
+{
+    let Some(answered) = poll_removal(machine, step) else {
+        return Ok(());
+    };
+    let mut removed = String::new(alloc);
+    write_removed(
+        &mut removed,
+        step,
+        name_text(names, answered.name),
+        answered.calls,
+    )?;
+    line.push_str(removed.as_str())
+}
+
+fn write_softint(
+    alloc: Global,
+    machine: &mut Machine,
+    names: &[String],
     line: &mut String,
     step: u32,
     softint: &Softint,
 ) -> Result<(), AllocError>
     requires few { step ≤ 65536 }
     requires stands { Stands step machine.old }
-    ensures takes { OnOk result (Takes (unless (softint_refusal softint.now) step (state_of machine.old) (interrupt softint.now.level step softint.now.budget (state_of machine.old))) (string_bytes line.new) machine.new) }
+    ensures takes { OnOk result (Shows (unless (softint_refusal softint.now) step (state_of machine.old)
+        (followed_by (interrupt softint.now.level step softint.now.budget (state_of machine.old)) (poll (map string_bytes names.now) step))) (string_bytes line.new) machine.new) }
     ensures stands { Stands (step + 1) machine.new }
 {
     match serve_level(machine, step, softint) {
-        Ok(ran) => write_ran(line, step, ran.calls, ran.idle),
+        Ok(ran) => {
+            write_ran(line, step, ran.calls, ran.idle)?;
+            append_poll(alloc, machine, names, line, step)
+        }
+        Err(why) => write_refused(line, step, why.number()),
+    }
+}
+
+fn write_remove(
+    machine: &mut Machine,
+    names: &[String],
+    line: &mut String,
+    step: u32,
+    name: usize,
+) -> Result<(), AllocError>
+    requires few { step ≤ 65536 }
+    requires stands { Stands step machine.old }
+    ensures takes { OnOk result (Shows (unless (remove_refusal name (state_of machine.old)) step (state_of machine.old)
+        (removal (map string_bytes names.now) step name (state_of machine.old))) (string_bytes line.new) machine.new) }
+    ensures stands { Stands (step + 1) machine.new }
+{
+    match begin_removal(machine, step, name) {
+        Ok(Removal::Done(receipt)) => write_removed(
+            line,
+            step,
+            name_text(names, name),
+            receipt.calls(),
+        ),
+        Ok(Removal::Kept(calls)) => write_kept(line, step, u64::from(calls)),
         Err(why) => write_refused(line, step, why.number()),
     }
 }
@@ -76,7 +152,7 @@ fn write_reprogram(
     reprogram: &Reprogram,
 ) -> Result<(), AllocError>
     requires stands { Stands step machine.old }
-    ensures takes { OnOk result (Takes (unless (reprogram_refusal step reprogram.now (state_of machine.old)) step (state_of machine.old) (reprogramming step reprogram.now (state_of machine.old))) (string_bytes line.new) machine.new) }
+    ensures takes { OnOk result (Shows (unless (reprogram_refusal step reprogram.now (state_of machine.old)) step (state_of machine.old) (reprogramming step reprogram.now (state_of machine.old))) (string_bytes line.new) machine.new) }
     ensures stands { Stands (step + 1) machine.new }
 {
     match reprogram_cyclic(machine, step, reprogram) {
@@ -88,34 +164,36 @@ fn write_reprogram(
 /// A step that the machine does not run so far.
 fn write_not_run(machine: &mut Machine, line: &mut String, step: u32) -> Result<(), AllocError>
     requires { Stands step machine.old }
-    ensures takes { OnOk result (Takes (refusal step (refusal_kind.ScriptShape step) (state_of machine.old)) (string_bytes line.new) machine.new) }
+    ensures takes { OnOk result (Shows (refusal step (refusal_kind.ScriptShape step) (state_of machine.old)) (string_bytes line.new) machine.new) }
     ensures stands { Stands (step + 1) machine.new }
 {
     let _clock = machine.clock;
     write_refused(line, step, Refusal::ScriptShape(step).number())
 }
 
-/// Takes a step, and writes its line.
+/// Takes a step, and writes its line, or its two where a removal was answered.
 pub fn take_step(
+    alloc: Global,
     machine: &mut Machine,
+    names: &[String],
     line: &mut String,
     step: u32,
     taken: &Step,
 ) -> Result<(), AllocError>
     requires few { step ≤ 65536 }
     requires stands { Stands step machine.old }
-    ensures takes { OnOk result (Takes (outcome 0 step taken.now (state_of machine.old)) (string_bytes line.new) machine.new) }
+    ensures takes { OnOk result (Takes (map string_bytes names.now) step taken.now (string_bytes line.new) machine.old machine.new) }
     ensures stands { Stands (step + 1) machine.new }
 {
     match taken {
         Step::Add(added) => write_add(machine, line, step, added),
         Step::Advance(moment) => write_advance(machine, line, step, *moment),
-        Step::Softint(softint) => write_softint(machine, line, step, softint),
+        Step::Softint(softint) => write_softint(alloc, machine, names, line, step, softint),
         Step::Reprogram(reprogram) => write_reprogram(machine, line, step, reprogram),
+        Step::Remove(name) => write_remove(machine, names, line, step, name.number()),
         Step::Omni(_)
         | Step::Bind(_)
         | Step::Unbind(_)
-        | Step::Remove(_)
         | Step::Juggle(_)
         | Step::Offline(_)
         | Step::Online(_) => write_not_run(machine, line, step),
@@ -142,7 +220,7 @@ fn all_zero() -> Counts
 
 /// The counts of a cyclic.
 fn cyclic_counts(machine: &mut Machine, id: CyclicId) -> Counts
-    ensures counts { result ≡ counts_of (state_of machine.old) (Some id) }
+    ensures counts { result ≡ fate_counts (state_of machine.old) (fate_kind.Here id) }
     ensures state { state_of machine.new ≡ state_of machine.old }
 {
     machine.cpu.law();
@@ -157,13 +235,31 @@ fn cyclic_counts(machine: &mut Machine, id: CyclicId) -> Counts
     }
 }
 
-/// The counts of a name.
-pub fn name_counts(machine: &mut Machine, name: usize) -> Counts
-    ensures counts { result ≡ counts_of (state_of machine.old) (id_of name (state_of machine.old)) }
+/// The counts of what became of a name.
+fn fate_counts_of(machine: &mut Machine, fate: Fate) -> Counts
+    ensures counts { result ≡ fate_counts (state_of machine.old) fate }
     ensures state { state_of machine.new ≡ state_of machine.old }
 {
-    match id_at(&machine.ids, name) {
-        Some(id) => cyclic_counts(machine, id),
-        None => all_zero(),
+    match fate {
+        Fate::Nobody => all_zero(),
+        Fate::Here(id) => cyclic_counts(machine, id),
+        Fate::Gone(counted) => Counts {
+            expired: counted.expired,
+            called: u128::from(called_by(&machine.tally, counted.id)),
+            lost: counted.lost,
+            pending: 0,
+        },
     }
+}
+
+/// The counts of a name.
+pub fn name_counts(machine: &mut Machine, name: usize) -> Counts
+    ensures counts { result ≡ counts_of name (state_of machine.old) }
+    ensures state { state_of machine.new ≡ state_of machine.old }
+{
+    if name >= machine.fates.len() {
+        return all_zero();
+    }
+    let fate = machine.fates[name];
+    fate_counts_of(machine, fate)
 }

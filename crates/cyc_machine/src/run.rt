@@ -1,10 +1,10 @@
 //! The replay of a script on one thread.
 
-ghost use Rattle.std.specs.Prelude.{◌≡◌, ◌≤◌, ◌<◌, ◌^◌, ◌+◌, length, map, string_bytes, OnOk, IfErr, false};
+ghost use Rattle.std.specs.Prelude.{◌≡◌, ◌≤◌, ◌<◌, ◌^◌, ◌+◌, ℕ, length, map, string_bytes, OnOk, IfErr, false};
 ghost use Rattle.cyc_text.specs.Puts.{Puts};
 ghost use Rattle.cyc_text.specs.Lines.{reported};
-ghost use Rattle.cyc_machine.specs.Text.{no_indexes, outcome, run, run_of, reports, counts_of, id_of, text_of};
-ghost use Rattle.cyc_machine.specs.Machine.{state_of, Stands, IsReachedUnindexed};
+ghost use Rattle.cyc_machine.specs.Text.{no_indexes, outcome, run, reports, counts_of, text_of, GetsFree};
+ghost use Rattle.cyc_machine.specs.Machine.{state_of, Stands, Leads, Ran};
 ghost use Rattle.cyc_machine.specs.Status.{is_write, IsMemoryOrWrite};
 
 use crate::fault::RunFault;
@@ -17,7 +17,9 @@ use std::alloc::Global;
 
 /// Takes a step and puts its line.
 fn put_step<S: Sink>(
+    alloc: Global,
     machine: &mut Machine,
+    names: &[String],
     line: &mut String,
     sink: &mut S,
     step: u32,
@@ -26,20 +28,22 @@ fn put_step<S: Sink>(
     requires few { step ≤ 65536 }
     requires stands { Stands step machine.old }
     requires whole { S.has_failed sink.old ≡ false }
-    ensures text { Puts (S.written sink.old) (S.written sink.new) result (outcome 0 step taken.now (state_of machine.old)).line }
-    ensures state { OnOk result (state_of machine.new ≡ (outcome 0 step taken.now (state_of machine.old)).state) }
+    ensures text { Puts (S.written sink.old) (S.written sink.new) result (outcome (map string_bytes names.now) 0 step taken.now (state_of machine.old)).line }
+    ensures state { OnOk result ((index : ℕ) × GetsFree index taken.now (state_of machine.old) × (state_of machine.new ≡ (outcome (map string_bytes names.now) index step taken.now (state_of machine.old)).state)) }
     ensures stands { Stands (step + 1) machine.new }
     ensures write { S.has_failed sink.new ≡ is_write result }
     ensures memory { IfErr result IsMemoryOrWrite }
 {
-    take_step(machine, line, step, taken)?;
+    take_step(alloc, machine, names, line, step, taken)?;
     sink.put(line.as_bytes())?;
     Ok(())
 }
 
 /// Takes the steps one after another and puts their lines.
 fn put_steps<S: Sink>(
+    alloc: Global,
     machine: &mut Machine,
+    names: &[String],
     line: &mut String,
     sink: &mut S,
     steps: &[Step],
@@ -47,14 +51,14 @@ fn put_steps<S: Sink>(
     requires few { length steps.now ≤ 65536 }
     requires stands { Stands 1 machine.old }
     requires whole { S.has_failed sink.old ≡ false }
-    ensures text { Puts (S.written sink.old) (S.written sink.new) result (run no_indexes 1 steps.now (state_of machine.old)).line }
-    ensures state { OnOk result (state_of machine.new ≡ (run no_indexes 1 steps.now (state_of machine.old)).state) }
+    ensures text { Puts (S.written sink.old) (S.written sink.new) result (run (map string_bytes names.now) no_indexes 1 steps.now (state_of machine.old)).line }
+    ensures leads { OnOk result (Leads (map string_bytes names.now) 1 steps.now machine.old machine.new) }
     ensures write { S.has_failed sink.new ≡ is_write result }
     ensures memory { IfErr result IsMemoryOrWrite }
 {
     let mut step: u32 = 1;
     for taken in steps {
-        put_step(machine, line, sink, step, taken)?;
+        put_step(alloc, machine, names, line, sink, step, taken)?;
         step += 1;
     }
     Ok(())
@@ -69,7 +73,7 @@ fn put_report<S: Sink>(
     name: &str,
 ) -> Result<(), RunFault>
     requires whole { S.has_failed sink.old ≡ false }
-    ensures text { Puts (S.written sink.old) (S.written sink.new) result (reported name.now (counts_of (state_of machine.old) (id_of number (state_of machine.old)))) }
+    ensures text { Puts (S.written sink.old) (S.written sink.new) result (reported name.now (counts_of number (state_of machine.old))) }
     ensures state { state_of machine.new ≡ state_of machine.old }
     ensures write { S.has_failed sink.new ≡ is_write result }
     ensures memory { IfErr result IsMemoryOrWrite }
@@ -109,16 +113,22 @@ pub fn replay<S: Sink>(alloc: Global, script: &Script, sink: &mut S) -> Result<(
     requires { S.has_failed sink.old ≡ false }
     ensures text { Puts (S.written sink.old) (S.written sink.new) result (text_of script.now) }
 
-    // Both levels after the last step are ones that enabled events reached, so the conservation theorem holds of them.
-    ensures lock_reached { OnOk result (IsReachedUnindexed (run_of no_indexes script.now).state.lock) }
-    ensures low_reached { OnOk result (IsReachedUnindexed (run_of no_indexes script.now).state.low) }
+    // Its own cyclics got free indexes, so the conservation theorem holds after each event of its run.
+    ensures ran { OnOk result (Ran script.now) }
     ensures write { S.has_failed sink.new ≡ is_write result }
     ensures memory { IfErr result IsMemoryOrWrite }
 {
     let names = script.names.as_slice();
     let mut machine = begin(alloc, script.ceiling, names.len())?;
     let mut line = String::new(alloc);
-    put_steps(&mut machine, &mut line, sink, script.steps.as_slice())?;
+    put_steps(
+        alloc,
+        &mut machine,
+        names,
+        &mut line,
+        sink,
+        script.steps.as_slice(),
+    )?;
     machine.cpu.conservation();
     put_reports(&mut machine, &mut line, sink, names)
 }

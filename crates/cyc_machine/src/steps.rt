@@ -1,13 +1,14 @@
 //! What each step does to the machine.
 
-ghost use Rattle.std.specs.Prelude.{true, int_lt, ◌≡◌, ◌≤◌, ◌<◌, ◌+◌, Some, None, pos, MatchResult, IfSome, IfNone, IfOk, IfErr, OnErr, length, slice_set};
+ghost use Rattle.std.specs.Prelude.{true, int_lt, ◌≡◌, ◌≤◌, ◌<◌, ◌+◌, Some, None, pos, MatchResult, ℕ, IfSome, IfNone, IfOk, IfErr, OnErr, length, slice_set};
 ghost use Rattle.cyc_types.specs.Series.{never};
 ghost use Rattle.cyc_types.specs.declared.refusal.Refusal.TheVariants as refusal_kind;
 ghost use Rattle.cyc_machine.specs.LevelRun.{losses};
-ghost use Rattle.cyc_machine.specs.Text.{State, add_refusal, addition, advance, advance_refusal, due_at, interrupt, reprogram_refusal, reprogramming, softint_refusal, start, id_in, served_at};
+ghost use Rattle.cyc_machine.specs.Text.{State, add_refusal, addition, advance, advance_refusal, due_at, interrupt, reprogram_refusal, reprogramming, softint_refusal, start, id_in, served_at, GetsFree};
 ghost use Rattle.cyc_machine.specs.Machine.{state_of, IsEmpty, Stands};
+ghost use Rattle.cyc_script.specs.declared.step.Step.TheVariants as step_kind;
 
-use crate::machine::Machine;
+use crate::machine::{Fate, Machine};
 use cyc_core::LevelCore;
 use cyc_cpu::{Fired, Hard};
 use cyc_script::{Add, Reprogram, Softint};
@@ -41,7 +42,8 @@ pub fn begin(alloc: Global, ceiling: Ceiling, names: usize) -> Result<Machine, R
         adds: 0,
         cpu: empty_cpu(alloc, ceiling)?,
         tally: Tally::new(alloc, next_id(0), MOST_STEPS, u64::MAX)?,
-        ids: vec![in alloc; None; names]?,
+        removal: None,
+        fates: vec![in alloc; Fate::Nobody; names]?,
     })
 }
 
@@ -56,20 +58,26 @@ fn moment_of(nanoseconds: u64) -> Option<Moment>
     Moment::new(nanoseconds as i64).ok()
 }
 
-/// Gives the name an id, where there is such a name.
-fn give_id(ids: &mut Vec<Option<CyclicId>>, name: usize, id: CyclicId)
-    ensures { ids.new.items ≡ slice_set ids.old.items name (Some id) }
+/// Sets what became of the name, where there is such a name.
+pub fn set_fate(fates: &mut Vec<Fate>, name: usize, fate: Fate)
+    ensures { fates.new.items ≡ slice_set fates.old.items name fate }
 {
-    if name < ids.len() {
-        ids[name] = Some(id);
+    if name < fates.len() {
+        fates[name] = fate;
     }
 }
 
-/// The id that the name was given.
-pub fn id_at(ids: &[Option<CyclicId>], name: usize) -> Option<CyclicId>
-    ensures { result ≡ id_in ids.now name }
+/// The id of the cyclic that the name has.
+pub fn id_at(fates: &[Fate], name: usize) -> Option<CyclicId>
+    ensures { result ≡ id_in fates.now name }
 {
-    if name < ids.len() { ids[name] } else { None }
+    if name >= fates.len() {
+        return None;
+    }
+    match fates[name] {
+        Fate::Here(id) => Some(id),
+        Fate::Nobody | Fate::Gone(_) => None,
+    }
 }
 
 /// The id after so many.
@@ -88,13 +96,14 @@ fn when_of(added: &Add) -> Result<When, Refusal>
     When::new(added.start, added.interval)
 }
 
-/// Adds a cyclic. It is refused as `When::new` refuses, then with Full where the CPU holds all that it can, and then with
-/// Expanding where the size must grow and a level has not followed the last switch.
+/// Adds a cyclic. It is refused as `When::new` refuses, then with Full where the CPU holds all that it can, and then, where
+/// the size must grow, with Busy while a removal is open and with Expanding where a level has not followed the last switch.
 pub fn add_cyclic(machine: &mut Machine, step: u32, added: &Add) -> Result<(), Refusal>
     requires few { step ≤ 65536 }
     requires stands { Stands step machine.old }
     ensures answer { MatchResult result
-        (λ _. (add_refusal added.now (state_of machine.old) ≡ None) × (state_of machine.new ≡ (addition 0 step added.now (state_of machine.old)).state))
+        (λ _. (add_refusal added.now (state_of machine.old) ≡ None)
+        × (index : ℕ) × GetsFree index (step_kind.Add added.now) (state_of machine.old) × (state_of machine.new ≡ (addition index step added.now (state_of machine.old)).state))
         (λ why. (add_refusal added.now (state_of machine.old) ≡ Some why) × (state_of machine.new ≡ state_of machine.old)) }
     ensures stands { Stands (step + 1) machine.new }
 {
@@ -104,7 +113,7 @@ pub fn add_cyclic(machine: &mut Machine, step: u32, added: &Add) -> Result<(), R
     machine.cpu.add(id, added.level, when, machine.clock)?;
     machine.cpu.law();
     machine.adds += 1;
-    give_id(&mut machine.ids, added.name.number(), id);
+    set_fate(&mut machine.fates, added.name.number(), Fate::Here(id));
     Ok(())
 }
 
@@ -189,7 +198,7 @@ fn moment_in(reprogram: &Reprogram) -> Result<Moment, Refusal>
 }
 
 /// Gives the cyclic of a name another next expiration. It is refused as no step where it names a CPU, then with BadWhen
-/// where the moment is negative, and then with NoCyclic where the CPU has no cyclic of the name.
+/// where the moment is negative, and then with NoCyclic where the CPU has no cyclic of the name, or its removal is open.
 pub fn reprogram_cyclic(
     machine: &mut Machine,
     step: u32,
@@ -205,7 +214,7 @@ pub fn reprogram_cyclic(
         return Err(Refusal::ScriptShape(step));
     }
     let moment = moment_in(reprogram)?;
-    let Some(id) = id_at(&machine.ids, reprogram.name.number()) else {
+    let Some(id) = id_at(&machine.fates, reprogram.name.number()) else {
         return Err(Refusal::NoCyclic);
     };
     machine.cpu.law();

@@ -4,7 +4,7 @@ use Rattle.std.specs.List.{list_any}
 
 -- the words, each with its number of parameters
 abbrev pub forms_so_far : List (List ℕ × ℕ)
-forms_so_far = (codes "add", 4) ∷ (codes "reprogram", 2) ∷ (codes "advance", 1) ∷ (codes "softint", 3) ∷ []
+forms_so_far = (codes "add", 4) ∷ (codes "reprogram", 2) ∷ (codes "remove", 1) ∷ (codes "advance", 1) ∷ (codes "softint", 3) ∷ []
 
 -- the levels
 abbrev pub levels_so_far : List (List ℕ)

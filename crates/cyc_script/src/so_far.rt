@@ -13,6 +13,7 @@ pub(crate) fn runs_word(word: &str, parameters: usize) -> bool
 {
     (word == "add" && parameters == 4)
         || (word == "reprogram" && parameters == 2)
+        || (word == "remove" && parameters == 1)
         || (word == "advance" && parameters == 1)
         || (word == "softint" && parameters == 3)
 }
