@@ -11,8 +11,15 @@ use Rattle.cyc_level.specs.Events.{after, after_finish, admitted_cyclic, cyclic_
 use Rattle.cyc_core.specs.FiringSide.{raise_events}
 use Rattle.cyc_core.specs.DrainingSide.{take_events}
 use Rattle.cyc_machine.specs.LevelRun.{happen, found, expiry, expiries, look, Interrupt, call_first, serve}
-use Rattle.cyc_machine.specs.Machine.{without_index, unindexed}
 use Rattle.cyc_machine.proofs.Raising.{happen_on}
+
+-- the cyclic of a level without its index
+abbrev pub without_index : Cyclic → Cyclic
+without_index c = record c { index = 0 }
+
+-- the level without the indexes of its cyclics
+abbrev pub unindexed : Level → Level
+unindexed l = record l { cyclics = λ id. option_map without_index (l.cyclics id) }
 
 -- the event without its index
 abbrev pub bare : Event → Event
@@ -71,6 +78,17 @@ bare_after Follow l = refl
 pub bare_happen : (es : List Event) (l : Level) → unindexed (happen es l) ≡ happen (map bare es) (unindexed l)
 bare_happen [] l = refl
 bare_happen (e ∷ es) l = bare_happen es (after e l) ∙ ap (happen (map bare es)) (bare_after e l)
+
+pub bare_add : (b c : Bool) (bank id index : ℕ) → map bare (cond b [] (Switch bank ∷ []) ++ cond c (Admit id index ∷ []) []) ≡ cond b [] (Switch bank ∷ []) ++ cond c (Admit id 0 ∷ []) []
+bare_add true true bank id index = refl
+bare_add true false bank id index = refl
+bare_add false true bank id index = refl
+bare_add false false bank id index = refl
+
+-- events with no index, where the level is theirs
+pub bare_where : (b : Bool) (es : List Event) (l : Level) → map bare es ≡ es → unindexed (happen (cond b es []) l) ≡ happen (cond b es []) (unindexed l)
+bare_where true es l same = bare_happen es l ∙ ap (λ xs. happen xs (unindexed l)) same
+bare_where false es l same = refl
 
 -- ---- expirations
 

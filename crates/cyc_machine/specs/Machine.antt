@@ -4,7 +4,7 @@ use Rattle.std.specs.Option.{option_map}
 use Rattle.cyc_types.specs.Limits.{cyclics as most_cyclics}
 use Rattle.cyc_types.specs.Series.{never}
 use Rattle.cyc_types.specs.Tally.{TallyView, tally_count}
-use Rattle.cyc_level.specs.Level.{Cyclic, Level, empty_level}
+use Rattle.cyc_level.specs.Level.{empty_level}
 use Rattle.cyc_core.specs.Reached.{IsReached}
 use Rattle.cyc_core.specs.Tables.{Tables, level_of}
 use Rattle.cyc_timers.specs.Rows.{Cyclic as Timed}
@@ -18,14 +18,6 @@ use Rattle.cyc_script.specs.declared.step.Step.{Step}
 use Rattle.cyc_script.specs.declared.script.Script.{Script}
 use Rattle.cyc_machine.specs.declared.machine.Open.{Open}
 use Rattle.cyc_machine.specs.Text.{State, Outcome, text_in, outcome, run, run_of, GetsFree, GetFree, AreFree}
-
--- the cyclic of a level without its index
-abbrev pub without_index : Cyclic → Cyclic
-without_index c = record c { index = 0 }
-
--- the level without the indexes of its cyclics
-abbrev pub unindexed : Level → Level
-unindexed l = record l { cyclics = λ id. option_map without_index (l.cyclics id) }
 
 -- the machine as the definition of the text has it
 abbrev pub state_of : Machine → State
