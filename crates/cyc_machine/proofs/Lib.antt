@@ -8,6 +8,7 @@ pub mod Serving
 pub mod Firing
 pub mod Adding
 pub mod Named
+pub mod Removing
 pub mod Starting
 pub mod Indexing
 pub mod Conserving
