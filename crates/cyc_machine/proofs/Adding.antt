@@ -1,33 +1,38 @@
 -- An add to the CPU is what the definition of the text says.
 use Rattle.std.proofs.Common.{◌≡◌, ℕ, zero, suc, ◌+◌, ◌^◌, ◌<◌, ◌≤◌, ◌⊎◌, inl, inr, eq-eqb, List, [], ◌∷◌, ◌++◌, length, map, get_or, All, Bool, true, false, cond, ◌==◌, Option, Some, None, refl, ap, sym, ◌∙◌, subst, arith}
 use Rattle.std.specs.Prelude.{nat_le, ℤ, pos, int_lt, insert, ◌&&◌, slice_set}
+use Rattle.std.specs.Option.{option_map, option_map_or}
 use Rattle.std.proofs.lemmas.Bool.{cases_eq}
 use Rattle.std.proofs.lemmas.Bool.Decides.{nat_tests}
 use Rattle.std.proofs.lemmas.Nat.{pow_below}
 use Rattle.std.proofs.lemmas.List.Elements.{All-append}
 use Rattle.std.proofs.lemmas.List.Edits.{insert_end, get_or-insert_at, get_or-insert_above, length-insert}
-use Rattle.cyc_types.specs.Firing.{Expands}
-use Rattle.cyc_types.specs.Runs.{Taught}
+use Rattle.cyc_types.specs.Firing.{Expands, Admits}
+use Rattle.cyc_types.specs.Runs.{Taught, Goes}
 use Rattle.cyc_types.specs.Series.{first}
 use Rattle.cyc_types.specs.Tally.{TallyView, tally_count}
 use Rattle.cyc_types.specs.declared.level.Level.{Level as CyclicLevel}
 use Rattle.cyc_types.specs.declared.level.Level.TheVariants.{Low, Lock}
 use Rattle.cyc_types.specs.declared.refusal.Refusal.{Refusal}
 use Rattle.cyc_types.specs.declared.refusal.Refusal.TheVariants.{BadWhen, BadInterval, Full, Busy, Expanding, Memory}
+use Rattle.cyc_level.specs.declared.Event.{Event}
 use Rattle.cyc_level.specs.declared.Event.TheVariants.{Admit, Switch}
 use Rattle.cyc_level.specs.Level.{Level}
 use Rattle.cyc_core.specs.Tables.{Tables, level_of}
 use Rattle.cyc_timers.specs.Rows.{Cyclic}
 use Rattle.cyc_cpu.specs.Acts.{same_level}
-use Rattle.cyc_cpu.specs.Cpu.{CpuView, HasRisingIds, Reserves, Widens, Enters, WhyNoRoom, HasRoom, bank_for, least_bank, size_for, new_cyclic}
+use Rattle.cyc_cpu.specs.Cpu.{CpuView, HasRisingIds, Looked, Reserves, Widens, Enters, WhyNoRoom, HasRoom, bank_for, least_bank, size_for, new_cyclic}
 use Rattle.cyc_script.specs.declared.step.Add.{Add as AddStep}
+use Rattle.cyc_script.specs.declared.step.Step.TheVariants as step_kind
+use Rattle.cyc_machine.specs.declared.machine.Open.{Open}
+use Rattle.cyc_machine.specs.declared.machine.Fate.{Fate}
+use Rattle.cyc_machine.specs.declared.machine.Fate.TheVariants.{Here}
 use Rattle.cyc_machine.specs.LevelRun.{happen}
-use Rattle.cyc_machine.specs.Machine.{unindexed, IsFew, Serves}
-use Rattle.cyc_machine.specs.Text.{add_refusal, addition, magnitude}
+use Rattle.cyc_machine.specs.Machine.{IsFew, Serves}
+use Rattle.cyc_machine.specs.Text.{add_refusal, addition, magnitude, IsFreeAt, GetsFree}
 use Rattle.cyc_machine.proofs.Ends.{fires, seen, only_looked, admitted_as}
 use Rattle.cyc_machine.proofs.Raising.{happen_on}
 use Rattle.cyc_machine.proofs.Serving.{state_at}
-use Rattle.cyc_machine.proofs.Unindexed.{bare, bare_happen}
 
 -- ---- sizes
 
@@ -62,20 +67,25 @@ within n size e = grind (arith, nat_tests)
 pub beyond : (n size : ℕ) → nat_le n size ≡ false → size < n
 beyond n size e = grind (arith, nat_tests)
 
-pub bare_add : (b c : Bool) (bank id index : ℕ) → map bare (cond b [] (Switch bank ∷ []) ++ cond c (Admit id index ∷ []) []) ≡ cond b [] (Switch bank ∷ []) ++ cond c (Admit id 0 ∷ []) []
-bare_add true true bank id index = refl
-bare_add true false bank id index = refl
-bare_add false true bank id index = refl
-bare_add false false bank id index = refl
+-- what a level's end is once the size has grown
+end_grown : (size : ℕ) (cs ds : List Cyclic) (old d e : Tables) → level_of d ≡ level_of old → ds ≡ cs
+    → (length ds + 1 ≤ size → e ≡ d) → (size < length ds + 1 → Taught fires seen d (Expands (bank_for (length ds + 1))) e)
+    → level_of e ≡ happen (cond (nat_le (length cs + 1) size) [] (Switch (bank_for (length cs + 1)) ∷ [])) (level_of old)
+end_grown size cs ds old d e looked same kept grew =
+    let long : length ds ≡ length cs = ap length same in
+    grown_as (nat_le (length cs + 1) size) (bank_for (length cs + 1)) d e
+    (λ yes. let w = within (length cs + 1) size yes in kept (omega (arith, w, long)))
+    (λ no. let b = beyond (length cs + 1) size no in subst (λ k. Taught fires seen d (Expands (bank_for (k + 1))) e) long (grew (omega (arith, b, long))))
+    ∙ ap (happen (cond (nat_le (length cs + 1) size) [] (Switch (bank_for (length cs + 1)) ∷ []))) looked
 
 -- a level after an add
-level_added : (b c : Bool) (bank id index : ℕ) (l m k n : Level) → m ≡ l → k ≡ happen (cond b [] (Switch bank ∷ [])) m → n ≡ happen (cond c (Admit id index ∷ []) []) k
-    → unindexed n ≡ happen (cond b [] (Switch bank ∷ []) ++ cond c (Admit id 0 ∷ []) []) (unindexed l)
-level_added b c bank id index l m k n looked grew admitted =
-    let G = cond b [] (Switch bank ∷ []) in
-    let A = cond c (Admit id index ∷ []) [] in
-    let all : n ≡ happen (G ++ A) l = admitted ∙ ap (happen A) (grew ∙ ap (happen G) looked) ∙ sym (happen_on G A l) in
-    ap unindexed all ∙ bare_happen (G ++ A) l ∙ ap (λ es. happen es (unindexed l)) (bare_add b c bank id index)
+level_added : (grown admitted : List Event) (l m n : Level) → m ≡ happen grown l → n ≡ happen admitted m → n ≡ happen (grown ++ admitted) l
+level_added grown admitted l m n first then = then ∙ ap (happen admitted) first ∙ sym (happen_on grown admitted l)
+
+-- the index with which a level admits a cyclic is free
+free_where : (b : Bool) (id index : ℕ) (d e : Tables) (l : Level) → b ≡ true → Goes fires seen d (cond b (Admits id index ∷ []) []) e → level_of d ≡ l → IsFreeAt index l
+free_where true id index d e l so (x, (step, learns), last) at = subst (IsFreeAt index) at (step.0.3, step.0.4)
+free_where false id index d e l so goes at = absurd (let no : false ≡ true = so in cc)
 
 -- ---- the cyclics
 
@@ -103,23 +113,34 @@ Adds id level interval moment v n = (u : CpuView Tables) × (w : CpuView Tables)
 size_same : (u v : CpuView Tables) → u.size ≡ v.size → u.cyclics ≡ v.cyclics → size_for u.size (length u.cyclics + 1) ≡ size_for v.size (length v.cyclics + 1)
 size_same u v size cyclics = ap (λ n. size_for n (length u.cyclics + 1)) size ∙ ap (λ (cs : List Cyclic). size_for v.size (length cs + 1)) cyclics
 
--- what a level of the CPU is after an add
-end_added : (level own : CyclicLevel) (id index size : ℕ) (cs ds : List Cyclic) (old d e f : Tables) → level_of d ≡ level_of old → ds ≡ cs
-    → (length ds + 1 ≤ size → e ≡ d) → (size < length ds + 1 → Taught fires seen d (Expands (bank_for (length ds + 1))) e)
-    → level_of f ≡ happen (cond (same_level level own) (Admit id index ∷ []) []) (level_of e)
-    → unindexed (level_of f) ≡ happen (cond (nat_le (length cs + 1) size) [] (Switch (bank_for (length cs + 1)) ∷ []) ++ cond (same_level level own) (Admit id 0 ∷ []) []) (unindexed (level_of old))
-end_added level own id index size cs ds old d e f looked same kept grew admitted =
-    let long : length ds ≡ length cs = ap length same in
-    level_added (nat_le (length cs + 1) size) (same_level level own) (bank_for (length cs + 1)) id index (level_of old) (level_of d) (level_of e) (level_of f) looked
-    (grown_as (nat_le (length cs + 1) size) (bank_for (length cs + 1)) d e
-    (λ yes. let w = within (length cs + 1) size yes in kept (omega (arith, w, long)))
-    (λ no. let b = beyond (length cs + 1) size no in subst (λ k. Taught fires seen d (Expands (bank_for (k + 1))) e) long (grew (omega (arith, b, long)))))
-    admitted
+abbrev growth_of : CpuView Tables → List Event
+growth_of v = cond (nat_le (length v.cyclics + 1) v.size) [] (Switch (bank_for (length v.cyclics + 1)) ∷ [])
 
-pub added_state : (step clock adds start interval : ℕ) (a : AddStep) (names : List (Option ℕ)) (v n : CpuView Tables) (t : TallyView) → pos start ≡ a.start → pos interval ≡ a.interval
-    → Adds (adds + 1) a.level interval (first start interval clock) v n → HasRisingIds n.cyclics → ((k : ℕ) (d : Cyclic) → k < length v.cyclics → (get_or v.cyclics k d).timer.id < adds + 1)
-    → state_at clock (adds + 1) (slice_set names a.name (Some (adds + 1))) n t ≡ (addition 0 step a (state_at clock adds names v t)).state
-added_state step clock adds start interval a names v n t starts goes (u, w, r, wd, e) rising less =
+lock_grown : (v u w : CpuView Tables) → Reserves fires seen v u → Widens fires seen 1 u w → level_of w.lock ≡ happen (growth_of v) (level_of v.lock)
+lock_grown v u w r wd =
+    let same = r.size in
+    end_grown v.size v.cyclics u.cyclics v.lock u.lock w.lock (only_looked v.lock u.lock r.lock) r.cyclics
+    (λ few. wd.kept_lock (omega (arith, few, same))) (λ more. wd.lock (omega (arith, more, same)))
+
+low_grown : (v u w : CpuView Tables) → Reserves fires seen v u → Widens fires seen 1 u w → level_of w.low ≡ happen (growth_of v) (level_of v.low)
+low_grown v u w r wd =
+    let same = r.size in
+    end_grown v.size v.cyclics u.cyclics v.low u.low w.low (only_looked v.low u.low r.low) r.cyclics
+    (λ few. wd.kept_low (omega (arith, few, same))) (λ more. wd.low (omega (arith, more, same)))
+
+-- the cyclic got an index that is free
+pub added_free : (clock adds id interval moment : ℕ) (a : AddStep) (o : Option Open) (fates : List Fate) (v u w n : CpuView Tables) (t : TallyView)
+    → Reserves fires seen v u → Widens fires seen 1 u w → (e : Enters fires seen id a.level interval moment w n) → GetsFree e.index (step_kind.Add a) (state_at clock adds o fates v t)
+added_free clock adds id interval moment a o fates v u w n t r wd e accepted = (
+  λ is. free_where (same_level Lock a.level) id e.index w.lock n.lock (happen (growth_of v) (level_of v.lock)) (ap (same_level Lock) is) e.lock (lock_grown v u w r wd),
+  λ is. free_where (same_level Low a.level) id e.index w.low n.low (happen (growth_of v) (level_of v.low)) (ap (same_level Low) is) e.low (low_grown v u w r wd),
+)
+
+pub added_state : (step clock adds start interval : ℕ) (a : AddStep) (o : Option Open) (fates : List Fate) (v u w n : CpuView Tables) (t : TallyView) → pos start ≡ a.start → pos interval ≡ a.interval
+    → Reserves fires seen v u → Widens fires seen 1 u w → (e : Enters fires seen (adds + 1) a.level interval (first start interval clock) w n)
+    → HasRisingIds n.cyclics → ((k : ℕ) (d : Cyclic) → k < length v.cyclics → (get_or v.cyclics k d).timer.id < adds + 1)
+    → state_at clock (adds + 1) o (slice_set fates a.name (Here (adds + 1))) n t ≡ (addition e.index step a (state_at clock adds o fates v t)).state
+added_state step clock adds start interval a o fates v u w n t starts goes r wd e rising less =
     let x = new_cyclic (adds + 1) a.level interval (first start interval clock) in
     let is : n.cyclics ≡ insert v.cyclics e.place x = e.cyclics ∙ ap (λ cs. insert cs e.place x) (wd.cyclics ∙ r.cyclics) in
     let long : length w.cyclics ≡ length v.cyclics = ap length (wd.cyclics ∙ r.cyclics) in
@@ -128,20 +149,15 @@ added_state step clock adds start interval a names v n t starts goes (u, w, r, w
     let pi : interval ≡ magnitude a.interval = ap magnitude goes in
     let cyclics = put_last v.cyclics n.cyclics e.place x (omega (arith, low, long)) is rising less ∙ (λ z. v.cyclics ++ new_cyclic (adds + 1) a.level (pi z) (first (ps z) (pi z) clock) ∷ []) in
     let size = e.kept.size ∙ wd.size ∙ size_same u v r.size r.cyclics in
-    let same = r.size in
-    let lock = end_added Lock a.level (adds + 1) e.index v.size v.cyclics u.cyclics v.lock u.lock w.lock n.lock (only_looked v.lock u.lock r.lock) r.cyclics
-    (λ few. wd.kept_lock (omega (arith, few, same))) (λ more. wd.lock (omega (arith, more, same))) (admitted_as (same_level Lock a.level) (adds + 1) e.index w.lock n.lock e.lock) in
-    let low_level = end_added Low a.level (adds + 1) e.index v.size v.cyclics u.cyclics v.low u.low w.low n.low (only_looked v.low u.low r.low) r.cyclics
-    (λ few. wd.kept_low (omega (arith, few, same))) (λ more. wd.low (omega (arith, more, same))) (admitted_as (same_level Low a.level) (adds + 1) e.index w.low n.low e.low) in
-    λ z. record {
-      clock = clock;
-      adds = adds + 1;
+    let lock = level_added (growth_of v) (cond (same_level Lock a.level) (Admit (adds + 1) e.index ∷ []) []) (level_of v.lock) (level_of w.lock) (level_of n.lock) (lock_grown v u w r wd)
+    (admitted_as (same_level Lock a.level) (adds + 1) e.index w.lock n.lock e.lock) in
+    let low_level = level_added (growth_of v) (cond (same_level Low a.level) (Admit (adds + 1) e.index ∷ []) []) (level_of v.low) (level_of w.low) (level_of n.low) (low_grown v u w r wd)
+    (admitted_as (same_level Low a.level) (adds + 1) e.index w.low n.low e.low) in
+    λ z. record (state_at clock (adds + 1) o (slice_set fates a.name (Here (adds + 1))) v t) {
       cyclics = cyclics z;
       size = size z;
       lock = lock z;
       low = low_level z;
-      called = tally_count t;
-      ids = slice_set names a.name (Some (adds + 1));
     }
 
 -- ---- accepted and refused
@@ -158,14 +174,15 @@ positive i n is some = ap (λ j. int_lt j (pos 1)) (sym is) ∙ below n some
     below : (n : ℕ) → 0 < n → int_lt (pos n) (pos 1) ≡ false
     below n some = grind (arith, nat_tests)
 
-chosen : (bad small full fits followed : Bool) → bad ≡ false → small ≡ false → full ≡ false → (fits ≡ false → followed ≡ true)
-    → cond bad (Some BadWhen) (cond small (Some BadInterval) (cond full (Some Full) (cond fits None (cond followed None (Some Expanding))))) ≡ None
-chosen false false false true followed a b c d = refl
-chosen false false false false true a b c d = refl
-chosen false false false false false a b c d = absurd (let no : false ≡ true = d refl in cc)
-chosen false false true fits followed a b c d = absurd (let no : true ≡ false = c in cc)
-chosen false true full fits followed a b c d = absurd (let no : true ≡ false = b in cc)
-chosen true small full fits followed a b c d = absurd (let no : true ≡ false = a in cc)
+chosen : (bad small full fits followed : Bool) (o : Option Open) → bad ≡ false → small ≡ false → full ≡ false → (fits ≡ false → (option_map (λ (x : Open). x.id) o ≡ None) × (followed ≡ true))
+    → cond bad (Some BadWhen) (cond small (Some BadInterval) (cond full (Some Full) (cond fits None (option_map_or (λ (x : Open). Some (Busy x.id)) o (cond followed None (Some Expanding)))))) ≡ None
+chosen false false false true followed o a b c d = refl
+chosen false false false false true None a b c d = refl
+chosen false false false false false None a b c d = absurd (let no : false ≡ true = (d refl).1 in cc)
+chosen false false false false followed (Some x) a b c d = absurd (let no : Some x.id ≡ None = (d refl).0 in cc)
+chosen false false true fits followed o a b c d = absurd (let no : true ≡ false = c in cc)
+chosen false true full fits followed o a b c d = absurd (let no : true ≡ false = b in cc)
+chosen true small full fits followed o a b c d = absurd (let no : true ≡ false = a in cc)
 
 full_chosen : (bad small full : Bool) (rest : Option Refusal) → bad ≡ false → small ≡ false → full ≡ true
     → cond bad (Some BadWhen) (cond small (Some BadInterval) (cond full (Some Full) rest)) ≡ Some Full
@@ -174,14 +191,22 @@ full_chosen false false false rest a b c = absurd (let no : false ≡ true = c i
 full_chosen false true full rest a b c = absurd (let no : true ≡ false = b in cc)
 full_chosen true small full rest a b c = absurd (let no : true ≡ false = a in cc)
 
-expanding_chosen : (bad small full fits followed : Bool) → bad ≡ false → small ≡ false → full ≡ false → fits ≡ false → followed ≡ false
-    → cond bad (Some BadWhen) (cond small (Some BadInterval) (cond full (Some Full) (cond fits None (cond followed None (Some Expanding))))) ≡ Some Expanding
-expanding_chosen false false false false false a b c d e = refl
-expanding_chosen false false false false true a b c d e = absurd (let no : true ≡ false = e in cc)
-expanding_chosen false false false true followed a b c d e = absurd (let no : true ≡ false = d in cc)
-expanding_chosen false false true fits followed a b c d e = absurd (let no : true ≡ false = c in cc)
-expanding_chosen false true full fits followed a b c d e = absurd (let no : true ≡ false = b in cc)
-expanding_chosen true small full fits followed a b c d e = absurd (let no : true ≡ false = a in cc)
+-- where the size must grow the rest decides
+grows_chosen : (bad small full fits : Bool) (rest : Option Refusal) → bad ≡ false → small ≡ false → full ≡ false → fits ≡ false
+    → cond bad (Some BadWhen) (cond small (Some BadInterval) (cond full (Some Full) (cond fits None rest))) ≡ rest
+grows_chosen false false false false rest a b c d = refl
+grows_chosen false false false true rest a b c d = absurd (let no : true ≡ false = d in cc)
+grows_chosen false false true fits rest a b c d = absurd (let no : true ≡ false = c in cc)
+grows_chosen false true full fits rest a b c d = absurd (let no : true ≡ false = b in cc)
+grows_chosen true small full fits rest a b c d = absurd (let no : true ≡ false = a in cc)
+
+busy_as : (o : Option Open) (id : ℕ) (rest : Option Refusal) → option_map (λ (x : Open). x.id) o ≡ Some id → option_map_or (λ (x : Open). Some (Busy x.id)) o rest ≡ Some (Busy id)
+busy_as None id rest is = absurd (let no : None ≡ Some id = is in cc)
+busy_as (Some x) id rest is = let same : x.id ≡ id = cc in ap (λ i. Some (Busy i)) same
+
+still_as : (o : Option Open) (rest : Option Refusal) → option_map (λ (x : Open). x.id) o ≡ None → option_map_or (λ (x : Open). Some (Busy x.id)) o rest ≡ rest
+still_as None rest is = refl
+still_as (Some x) rest is = absurd (let no : Some x.id ≡ None = is in cc)
 
 and_true : (a b : Bool) → a ≡ true → b ≡ true → (a && b) ≡ true
 and_true true b x y = y
@@ -198,26 +223,15 @@ not_within m n less = grind (arith, nat_tests)
 is_within : (m n : ℕ) → m ≤ n → nat_le m n ≡ true
 is_within m n less = grind (arith, nat_tests)
 
--- a switch says that its level had followed
-switched : (bank : ℕ) (old d e : Tables) → level_of d ≡ level_of old → Taught fires seen d (Expands bank) e → ((level_of old).hard_bank == (level_of old).soft_bank) ≡ true
-switched bank old d e looked (step, learns) = ap (λ (l : Level). l.hard_bank == l.soft_bank) (sym looked) ∙ eq-eqb (level_of d).hard_bank (level_of d).soft_bank step.0.1
-
-pub add_accepted : (clock adds start interval : ℕ) (a : AddStep) (names : List (Option ℕ)) (v n : CpuView Tables) (t : TallyView) → pos start ≡ a.start → pos interval ≡ a.interval → 0 < interval
-    → Adds (adds + 1) a.level interval (first start interval clock) v n → length n.cyclics ≤ n.size → n.size ≤ 256
-    → add_refusal a (state_at clock adds names v t) ≡ None
-add_accepted clock adds start interval a names v n t starts goes some (u, w, r, wd, e) few most =
-    let low = e.within in
-    let same = ap length (wd.cyclics ∙ r.cyclics) in
-    let looked = ap length r.cyclics in
-    let long = ap length e.cyclics ∙ length-insert w.cyclics e.place (new_cyclic (adds + 1) a.level interval (first start interval clock)) low in
-    let size = r.size in
+pub add_accepted : (clock adds start interval : ℕ) (a : AddStep) (o : Option Open) (fates : List Fate) (v : CpuView Tables) (t : TallyView) → pos start ≡ a.start → pos interval ≡ a.interval → 0 < interval
+    → v.removal ≡ option_map (λ (x : Open). x.id) o → HasRoom seen 1 v → add_refusal a (state_at clock adds o fates v t) ≡ None
+add_accepted clock adds start interval a o fates v t starts goes some opened room =
+    let fits = room.fits in
     chosen (int_lt a.start (pos 0)) (int_lt a.interval (pos 1)) (nat_le 256 (length v.cyclics)) (nat_le (length v.cyclics + 1) v.size)
-    (((level_of v.lock).hard_bank == (level_of v.lock).soft_bank) && ((level_of v.low).hard_bank == (level_of v.low).soft_bank))
+    (((level_of v.lock).hard_bank == (level_of v.lock).soft_bank) && ((level_of v.low).hard_bank == (level_of v.low).soft_bank)) o
     (not_negative a.start start starts) (positive a.interval interval goes some)
-    (not_within 256 (length v.cyclics) (omega (arith, long, same, few, most)))
-    (λ no. let b = beyond (length v.cyclics + 1) v.size no in
-    let grows : u.size < length u.cyclics + 1 = omega (arith, b, size, looked) in
-    and_true _ _ (switched _ v.lock u.lock w.lock (only_looked v.lock u.lock r.lock) (wd.lock grows)) (switched _ v.low u.low w.low (only_looked v.low u.low r.low) (wd.low grows)))
+    (not_within 256 (length v.cyclics) (omega (arith, fits)))
+    (λ no. let b = beyond (length v.cyclics + 1) v.size no in let still = room.still b in (sym opened ∙ still.0, and_true _ _ still.1.0 still.1.1))
 
 not_followed : (old d : Tables) → level_of d ≡ level_of old → (seen d).followed ≡ false → ((level_of old).hard_bank == (level_of old).soft_bank) ≡ false
 not_followed old d looked behind = ap (λ (l : Level). l.hard_bank == l.soft_bank) (sym looked) ∙ behind
@@ -226,40 +240,55 @@ either : {A B C D : Type 0} → (A → C) → (B → D) → A ⊎ B → C ⊎ D
 either f g (inl a) = inl (f a)
 either f g (inr b) = inr (g b)
 
-no_room : (clock adds start interval : ℕ) (a : AddStep) (names : List (Option ℕ)) (v n : CpuView Tables) (t : TallyView) (e : Refusal) → pos start ≡ a.start → pos interval ≡ a.interval → 0 < interval → v.removal ≡ None
-    → Reserves fires seen v n → WhyNoRoom seen 1 n e → add_refusal a (state_at clock adds names v t) ≡ Some e
-no_room clock adds start interval a names v n t Full starts goes some still r why =
+no_room : (clock adds start interval : ℕ) (a : AddStep) (o : Option Open) (fates : List Fate) (v n : CpuView Tables) (t : TallyView) (e : Refusal) → pos start ≡ a.start → pos interval ≡ a.interval → 0 < interval
+    → v.removal ≡ option_map (λ (x : Open). x.id) o → Reserves fires seen v n → WhyNoRoom seen 1 n e → add_refusal a (state_at clock adds o fates v t) ≡ Some e
+no_room clock adds start interval a o fates v n t Full starts goes some opened r why =
     let same = ap length r.cyclics in
     full_chosen (int_lt a.start (pos 0)) (int_lt a.interval (pos 1)) (nat_le 256 (length v.cyclics)) _ (not_negative a.start start starts) (positive a.interval interval goes some) (is_within 256 (length v.cyclics) (omega (arith, why, same)))
-no_room clock adds start interval a names v n t (Busy id) starts goes some still r why = absurd (let no : None ≡ Some id = sym still ∙ sym r.removal ∙ why.2 in cc)
-no_room clock adds start interval a names v n t Expanding starts goes some still r (fits, grows, none, behind) =
+no_room clock adds start interval a o fates v n t (Busy id) starts goes some opened r (fits, grows, busy) =
     let same = ap length r.cyclics in
     let size = r.size in
-    expanding_chosen (int_lt a.start (pos 0)) (int_lt a.interval (pos 1)) (nat_le 256 (length v.cyclics)) (nat_le (length v.cyclics + 1) v.size)
-    (((level_of v.lock).hard_bank == (level_of v.lock).soft_bank) && ((level_of v.low).hard_bank == (level_of v.low).soft_bank))
+    grows_chosen (int_lt a.start (pos 0)) (int_lt a.interval (pos 1)) (nat_le 256 (length v.cyclics)) (nat_le (length v.cyclics + 1) v.size) _
     (not_negative a.start start starts) (positive a.interval interval goes some)
     (not_within 256 (length v.cyclics) (omega (arith, fits, same))) (not_within (length v.cyclics + 1) v.size (omega (arith, grows, same, size)))
-    (and_false _ _ (either (not_followed v.lock n.lock (only_looked v.lock n.lock r.lock)) (not_followed v.low n.low (only_looked v.low n.low r.low)) behind))
-no_room clock adds start interval a names v n t _ starts goes some still r why = absurd why
+    ∙ busy_as o id _ (sym opened ∙ sym r.removal ∙ busy)
+no_room clock adds start interval a o fates v n t Expanding starts goes some opened r (fits, grows, none, behind) =
+    let same = ap length r.cyclics in
+    let size = r.size in
+    grows_chosen (int_lt a.start (pos 0)) (int_lt a.interval (pos 1)) (nat_le 256 (length v.cyclics)) (nat_le (length v.cyclics + 1) v.size) _
+    (not_negative a.start start starts) (positive a.interval interval goes some)
+    (not_within 256 (length v.cyclics) (omega (arith, fits, same))) (not_within (length v.cyclics + 1) v.size (omega (arith, grows, same, size)))
+    ∙ (still_as o _ (sym opened ∙ sym r.removal ∙ none)
+    ∙ ap (λ b. cond b None (Some Expanding)) (and_false ((level_of v.lock).hard_bank == (level_of v.lock).soft_bank) ((level_of v.low).hard_bank == (level_of v.low).soft_bank) (either (not_followed v.lock n.lock (only_looked v.lock n.lock r.lock)) (not_followed v.low n.low (only_looked v.low n.low r.low)) behind)))
+no_room clock adds start interval a o fates v n t _ starts goes some opened r why = absurd why
 
-pub add_refused : (step clock adds start interval : ℕ) (a : AddStep) (names : List (Option ℕ)) (v n : CpuView Tables) (t : TallyView) (e : Refusal) → pos start ≡ a.start → pos interval ≡ a.interval → 0 < interval → Serves step adds v → v.size ≤ 256
-    → Reserves fires seen v n → (WhyNoRoom seen 1 n e ⊎ ((e ≡ Memory) × HasRoom seen 1 n × (v.room < size_for v.size (length v.cyclics + 1)))) → add_refusal a (state_at clock adds names v t) ≡ Some e
-add_refused step clock adds start interval a names v n t e starts goes some s small r (inl why) = no_room clock adds start interval a names v n t e starts goes some s.still r why
-add_refused step clock adds start interval a names v n t e starts goes some s small r (inr (is, room, short)) = let most = size_few v.size (length v.cyclics + 1) small in let enough = s.room in absurd (omega (arith, short, most, enough))
+-- memory is never short
+pub add_refused : (step clock adds start interval : ℕ) (a : AddStep) (o : Option Open) (fates : List Fate) (v n : CpuView Tables) (t : TallyView) (e : Refusal) → pos start ≡ a.start → pos interval ≡ a.interval → 0 < interval → Serves step adds o v → v.size ≤ 256
+    → Reserves fires seen v n → (WhyNoRoom seen 1 n e ⊎ ((e ≡ Memory) × HasRoom seen 1 n × (v.room < size_for v.size (length v.cyclics + 1)))) → add_refusal a (state_at clock adds o fates v t) ≡ Some e
+add_refused step clock adds start interval a o fates v n t e starts goes some s small r (inl why) = no_room clock adds start interval a o fates v n t e starts goes some s.open_removal r why
+add_refused step clock adds start interval a o fates v n t e starts goes some s small r (inr (is, room, short)) = let most = size_few v.size (length v.cyclics + 1) small in let enough = s.room in absurd (omega (arith, short, most, enough))
 
-pub refused_state : (clock adds : ℕ) (names : List (Option ℕ)) (v n : CpuView Tables) (t : TallyView) → Reserves fires seen v n → state_at clock adds names n t ≡ state_at clock adds names v t
-refused_state clock adds names v n t r =
-    let lock = ap unindexed (only_looked v.lock n.lock r.lock) in
-    let low = ap unindexed (only_looked v.low n.low r.low) in
-    λ z. record { clock = clock; adds = adds; cyclics = r.cyclics z; size = r.size z; lock = lock z; low = low z; called = tally_count t; ids = names }
+pub refused_state : (clock adds : ℕ) (o : Option Open) (fates : List Fate) (v n : CpuView Tables) (t : TallyView) → Reserves fires seen v n → state_at clock adds o fates n t ≡ state_at clock adds o fates v t
+refused_state clock adds o fates v n t r =
+    let lock = only_looked v.lock n.lock r.lock in
+    let low = only_looked v.low n.low r.low in
+    λ z. record (state_at clock adds o fates v t) { cyclics = r.cyclics z; size = r.size z; lock = lock z; low = low z }
+
+-- the question whether there is room takes nothing
+pub asked_room : (v n : CpuView Tables) → Looked fires seen v n → Reserves fires seen v n
+asked_room v n l = let room = l.kept.room in record { lock = l.lock; low = l.low; cyclics = l.cyclics; removal = l.kept.removal; size = l.kept.size; room = omega (arith, room); most = l.kept.most }
+
+pub room_refused : (clock adds start interval : ℕ) (a : AddStep) (o : Option Open) (fates : List Fate) (v n : CpuView Tables) (t : TallyView) (e : Refusal) → pos start ≡ a.start → pos interval ≡ a.interval → 0 < interval
+    → v.removal ≡ option_map (λ (x : Open). x.id) o → Looked fires seen v n → WhyNoRoom seen 1 n e → add_refusal a (state_at clock adds o fates v t) ≡ Some e
+room_refused clock adds start interval a o fates v n t e starts goes some opened l why = no_room clock adds start interval a o fates v n t e starts goes some opened (asked_room v n l) why
 
 -- ---- ready for the next step
 
 few_more : (step adds : ℕ) (c : Cyclic) → IsFew step adds c → IsFew (step + 1) (adds + 1) c
 few_more step adds c few = let e = few.expired in let id = few.id in record { given = few.given; id = omega (arith, id); some = few.some; expired = omega (arith, e) }
 
-pub added_serves : (step clock adds start interval : ℕ) (a : AddStep) (v n : CpuView Tables) → 0 < interval → Adds (adds + 1) a.level interval (first start interval clock) v n → HasRisingIds n.cyclics → Serves step adds v → Serves (step + 1) (adds + 1) n
-added_serves step clock adds start interval a v n some (u, w, r, wd, e) rising s =
+pub added_serves : (step clock adds start interval : ℕ) (a : AddStep) (o : Option Open) (v n : CpuView Tables) → 0 < interval → Adds (adds + 1) a.level interval (first start interval clock) v n → HasRisingIds n.cyclics → Serves step adds o v → Serves (step + 1) (adds + 1) o n
+added_serves step clock adds start interval a o v n some (u, w, r, wd, e) rising s =
     let x = new_cyclic (adds + 1) a.level interval (first start interval clock) in
     let is : n.cyclics ≡ insert v.cyclics e.place x = e.cyclics ∙ ap (λ cs. insert cs e.place x) (wd.cyclics ∙ r.cyclics) in
     let long : length w.cyclics ≡ length v.cyclics = ap length (wd.cyclics ∙ r.cyclics) in
@@ -268,7 +297,7 @@ added_serves step clock adds start interval a v n some (u, w, r, wd, e) rising s
     let cyclics = put_last v.cyclics n.cyclics e.place x (omega (arith, low, long)) is rising less in
     let a = s.room in let b = r.room in let c = wd.room in let d = e.kept.room in
     record {
-      still = e.kept.removal ∙ wd.removal ∙ r.removal ∙ s.still;
+      open_removal = e.kept.removal ∙ wd.removal ∙ r.removal ∙ s.open_removal;
       most = e.kept.most ∙ wd.most ∙ r.most ∙ s.most;
       room = omega (arith, a, b, c, d);
       few = subst (λ (cs : List Cyclic). All (IsFew (step + 1) (adds + 1)) cs) (sym cyclics)
@@ -279,16 +308,20 @@ added_serves step clock adds start interval a v n some (u, w, r, wd, e) rising s
     only zero d at = record { given = omega arith; id = omega arith; some = some; expired = omega arith }
     only (suc k) d at = absurd (omega arith)
 
-pub serves_still : (step adds : ℕ) (v n : CpuView Tables) → Reserves fires seen v n → Serves step adds v → Serves step adds n
-serves_still step adds v n r s =
-    let a = s.room in let b = r.room in record { still = r.removal ∙ s.still; most = r.most ∙ s.most; room = omega (arith, a, b); few = subst (λ (cs : List Cyclic). All (IsFew step adds) cs) (sym r.cyclics) s.few }
+pub serves_still : (step adds : ℕ) (o : Option Open) (v n : CpuView Tables) → Reserves fires seen v n → Serves step adds o v → Serves step adds o n
+serves_still step adds o v n r s =
+    let a = s.room in let b = r.room in
+    record { open_removal = r.removal ∙ s.open_removal; most = r.most ∙ s.most; room = omega (arith, a, b); few = subst (λ (cs : List Cyclic). All (IsFew step adds) cs) (sym r.cyclics) s.few }
 
 -- ---- as the code has it
 
-pub added_machine : (step clock adds id name start interval : ℕ) (a : AddStep) (names after : List (Option ℕ)) (v n : CpuView Tables) (t : TallyView) → id ≡ adds + 1 → pos start ≡ a.start → pos interval ≡ a.interval
-    → Adds id a.level interval (first start interval clock) v n → HasRisingIds n.cyclics → Serves step adds v → after ≡ slice_set names name (Some id) → name ≡ a.name
-    → state_at clock (adds + 1) after n t ≡ (addition 0 step a (state_at clock adds names v t)).state
-added_machine step clock adds id name start interval a names after v n t is starts goes made rising s given named =
-    let at = subst (λ i. Adds i a.level interval (first start interval clock) v n) is made in
-    ap (λ xs. state_at clock (adds + 1) xs n t) (given ∙ ap (λ k. slice_set names k (Some id)) named ∙ ap (λ i. slice_set names a.name (Some i)) is)
-    ∙ added_state step clock adds start interval a names v n t starts goes at rising (λ k d low. let f = (s.few k d low).id in omega (arith, f))
+pub added_machine : (step clock adds id name start interval : ℕ) (a : AddStep) (o : Option Open) (fates after : List Fate) (v n : CpuView Tables) (t : TallyView) → id ≡ adds + 1 → pos start ≡ a.start → pos interval ≡ a.interval
+    → Adds id a.level interval (first start interval clock) v n → HasRisingIds n.cyclics → Serves step adds o v → after ≡ slice_set fates name (Here id) → name ≡ a.name
+    → (index : ℕ) × GetsFree index (step_kind.Add a) (state_at clock adds o fates v t) × (state_at clock (adds + 1) o after n t ≡ (addition index step a (state_at clock adds o fates v t)).state)
+added_machine step clock adds id name start interval a o fates after v n t is starts goes made rising s given named =
+    let (u, w, r, wd, e) = subst (λ i. Adds i a.level interval (first start interval clock) v n) is made in (
+      e.index,
+      added_free clock adds (adds + 1) interval (first start interval clock) a o fates v u w n t r wd e,
+      ap (λ xs. state_at clock (adds + 1) o xs n t) (given ∙ ap (λ k. slice_set fates k (Here id)) named ∙ ap (λ i. slice_set fates a.name (Here i)) is)
+          ∙ added_state step clock adds start interval a o fates v u w n t starts goes r wd e rising (λ k d low. let f = (s.few k d low).id in omega (arith, f)),
+    )

@@ -27,12 +27,13 @@ use Rattle.cyc_cpu.specs.Acts.{ids_at, is_of, timer_of, lost_after}
 use Rattle.cyc_cpu.specs.Cpu.{CpuView, SameCpu, HasRisingIds, Makes, Stops, WhyStopped}
 use Rattle.cyc_cpu.proofs.Sharing.{ids_add_up}
 use Rattle.cyc_machine.specs.LevelRun.{expiries, losses}
-use Rattle.cyc_machine.specs.Machine.{unindexed, IsFew, Tallies, Serves, most_before}
+use Rattle.cyc_machine.specs.declared.machine.Open.{Open}
+use Rattle.cyc_machine.specs.declared.machine.Fate.{Fate}
+use Rattle.cyc_machine.specs.Machine.{IsFew, Tallies, Serves, most_before}
 use Rattle.cyc_machine.specs.Text.{advance, fired_cyclic}
 use Rattle.cyc_machine.proofs.Ends.{fires, seen, Expired, expired}
 use Rattle.cyc_machine.proofs.Serving.{state_at}
 use Rattle.cyc_machine.proofs.Standing.{same_range, tallies_on, never_refuses, serves_on}
-use Rattle.cyc_machine.proofs.Unindexed.{expiries_same, expiries_bare}
 
 -- ---- how often one cyclic expires
 
@@ -149,37 +150,34 @@ low_expired : (now : ℕ) (made : List Expiration) (v w : CpuView Tables) (t u :
 low_expired now made v w t u lost m = expired (ids_at Low (timers v.cyclics) made) m.acts.low_way v.low w.low m.acts.low_goes m.acts.low_raises
 
 cyclics_fired : (now : ℕ) (made : List Expiration) (v w : CpuView Tables) (t u : TallyView) (lost : ℕ) → Fire now made v w t u lost
-    → w.cyclics ≡ map (fired_cyclic now made (expiries (ids_at Lock (timers v.cyclics) made) (unindexed (level_of v.lock))) (expiries (ids_at Low (timers v.cyclics) made) (unindexed (level_of v.low)))) v.cyclics
+    → w.cyclics ≡ map (fired_cyclic now made (expiries (ids_at Lock (timers v.cyclics) made) (level_of v.lock)) (expiries (ids_at Low (timers v.cyclics) made) (level_of v.low))) v.cyclics
 cyclics_fired now made v w t u lost m =
     let locks = ids_at Lock (timers v.cyclics) made in let lows = ids_at Low (timers v.cyclics) made in
-    fired_cyclics now made (expiries locks (unindexed (level_of v.lock))) (expiries lows (unindexed (level_of v.low))) m.acts.lock_way m.acts.low_way v.cyclics w.cyclics m.timers_are m.losses_are
-    (λ id. ap (losses_of id) (expiries_same locks (level_of v.lock)) ∙ (lock_expired now made v w t u lost m).each id)
-    (λ id. ap (losses_of id) (expiries_same lows (level_of v.low)) ∙ (low_expired now made v w t u lost m).each id)
+    fired_cyclics now made (expiries locks (level_of v.lock)) (expiries lows (level_of v.low)) m.acts.lock_way m.acts.low_way v.cyclics w.cyclics m.timers_are m.losses_are
+    (lock_expired now made v w t u lost m).each
+    (low_expired now made v w t u lost m).each
 
-pub fired_state : (step now clock adds lost : ℕ) (names : List (Option ℕ)) (v w : CpuView Tables) (t u : TallyView) → Fire now (expirations now (timers v.cyclics)) v w t u lost → SameCpu v w
-    → state_at now adds names w u ≡ (advance step now (state_at clock adds names v t)).state
-fired_state step now clock adds lost names v w t u m same =
+pub fired_state : (step now clock adds lost : ℕ) (o : Option Open) (fates : List Fate) (v w : CpuView Tables) (t u : TallyView) → Fire now (expirations now (timers v.cyclics)) v w t u lost → SameCpu v w
+    → state_at now adds o fates w u ≡ (advance step now (state_at clock adds o fates v t)).state
+fired_state step now clock adds lost o fates v w t u m same =
     let made = expirations now (timers v.cyclics) in
     let cyclics = cyclics_fired now made v w t u lost m in
-    let lock = ap unindexed (lock_expired now made v w t u lost m).level ∙ expiries_bare (ids_at Lock (timers v.cyclics) made) (level_of v.lock) in
-    let low = ap unindexed (low_expired now made v w t u lost m).level ∙ expiries_bare (ids_at Low (timers v.cyclics) made) (level_of v.low) in
-    λ z. record {
-      clock = now;
-      adds = adds;
+    let lock = (lock_expired now made v w t u lost m).level in
+    let low = (low_expired now made v w t u lost m).level in
+    λ z. record (state_at now adds o fates v t) {
       cyclics = cyclics z;
       size = same.size z;
       lock = lock z;
       low = low z;
       called = λ q. m.acts.counted q z;
-      ids = names;
     }
 
-pub fired_lost : (step now clock adds lost : ℕ) (names : List (Option ℕ)) (v w : CpuView Tables) (t u : TallyView) → Fire now (expirations now (timers v.cyclics)) v w t u lost
-    → lost ≡ losses (advance step now (state_at clock adds names v t)).lock + losses (advance step now (state_at clock adds names v t)).low
-fired_lost step now clock adds lost names v w t u m =
+pub fired_lost : (step now clock adds lost : ℕ) (o : Option Open) (fates : List Fate) (v w : CpuView Tables) (t u : TallyView) → Fire now (expirations now (timers v.cyclics)) v w t u lost
+    → lost ≡ losses (advance step now (state_at clock adds o fates v t)).lock + losses (advance step now (state_at clock adds o fates v t)).low
+fired_lost step now clock adds lost o fates v w t u m =
     let made = expirations now (timers v.cyclics) in
-    let a = ap losses (expiries_same (ids_at Lock (timers v.cyclics) made) (level_of v.lock)) ∙ (lock_expired now made v w t u lost m).lost in
-    let b = ap losses (expiries_same (ids_at Low (timers v.cyclics) made) (level_of v.low)) ∙ (low_expired now made v w t u lost m).lost in
+    let a = (lock_expired now made v w t u lost m).lost in
+    let b = (low_expired now made v w t u lost m).lost in
     let c = m.lost_is in
     omega (arith, a, b, c)
 
@@ -189,14 +187,14 @@ fired_tally step now made v w t u lost m small s =
     tallies_on step t u (λ q. times q high) s (same_range high t u m.acts.called_in_order) m.acts.counted (λ q. let a = few_calls High (timers v.cyclics) made (late + 2) q (small q) in omega (arith, a))
 
 cyclics_few : (step adds now : ℕ) (made : List Expiration) (v w : CpuView Tables) (t u : TallyView) (lost : ℕ) → Fire now made v w t u lost → ((id : ℕ) → times_of id made ≤ late + 2) → All (IsFew step adds) v.cyclics → All (IsFew (step + 1) adds) w.cyclics
-cyclics_few step adds now made v w t u lost m small few = all_fired_few step adds now made (expiries (ids_at Lock (timers v.cyclics) made) (unindexed (level_of v.lock))) (expiries (ids_at Low (timers v.cyclics) made) (unindexed (level_of v.low))) v.cyclics w.cyclics (cyclics_fired now made v w t u lost m) (λ id. let a = small id in omega (arith, a)) few
+cyclics_few step adds now made v w t u lost m small few = all_fired_few step adds now made (expiries (ids_at Lock (timers v.cyclics) made) (level_of v.lock)) (expiries (ids_at Low (timers v.cyclics) made) (level_of v.low)) v.cyclics w.cyclics (cyclics_fired now made v w t u lost m) (λ id. let a = small id in omega (arith, a)) few
 
-pub fire_stands : (step now adds lost : ℕ) (v w : CpuView Tables) (t u : TallyView) → Fire now (expirations now (timers v.cyclics)) v w t u lost → SameCpu v w → HasRisingIds v.cyclics → Serves step adds v → Tallies step t
-    → Serves (step + 1) adds w × Tallies (step + 1) u
-fire_stands step now adds lost v w t u m same rising s tallies =
+pub fire_stands : (step now adds lost : ℕ) (o : Option Open) (v w : CpuView Tables) (t u : TallyView) → Fire now (expirations now (timers v.cyclics)) v w t u lost → SameCpu v w → HasRisingIds v.cyclics → Serves step adds o v → Tallies step t
+    → Serves (step + 1) adds o w × Tallies (step + 1) u
+fire_stands step now adds lost o v w t u m same rising s tallies =
     let made = expirations now (timers v.cyclics) in
     let small = few_times step adds now v.cyclics rising s.few in
-    (serves_on step adds v w same s (cyclics_few step adds now made v w t u lost m small s.few), fired_tally step now made v w t u lost m small tallies)
+    (serves_on step adds o v w same s (cyclics_few step adds now made v w t u lost m small s.few), fired_tally step now made v w t u lost m small tallies)
 
 -- ---- no expiration is refused
 
@@ -220,14 +218,14 @@ never_stops step adds most at t (HandlerRefused id) low less is few tallies s =
     never_refuses step adds id at low less (omega (arith, same, a)) (omega (arith, same, b)) tallies s.2
 never_stops step adds most at t _ low less is few tallies s = absurd s
 
-pub fire_never_refused : (step adds now expired lost : ℕ) (v w : CpuView Tables) (t u : TallyView) (why : Refusal)
+pub fire_never_refused : (step adds now expired lost : ℕ) (o : Option Open) (v w : CpuView Tables) (t u : TallyView) (why : Refusal)
     → ((made : List Expiration) × (last : Expiration) × (rest : List Expiration)
     × (expirations now (timers v.cyclics) ≡ made ++ last ∷ rest) × (length made ≡ expired) × (at : TallyView)
     × Fire now made v w t at lost
     × ((id : ℕ) → tally_count u id ≡ tally_count at id)
     × WhyStopped TallyRefuses v.most at last (timers w.cyclics) why)
-    → step ≤ 65536 → adds < step → HasRisingIds v.cyclics → Serves step adds v → Tallies step t → ⊥
-fire_never_refused step adds now n lost v w t u why (made, last, rest, split, long, at, m, same, (tm, found, stops)) low less rising s tallies =
+    → step ≤ 65536 → adds < step → HasRisingIds v.cyclics → Serves step adds o v → Tallies step t → ⊥
+fire_never_refused step adds now n lost o v w t u why (made, last, rest, split, long, at, m, same, (tm, found, stops)) low less rising s tallies =
     let all = few_times step adds now v.cyclics rising s.few in
     let small : (id : ℕ) → times_of id made ≤ late + 2 = λ id. few_in_front now (timers v.cyclics) made last rest (late + 2) id split (all id) in
     let few = cyclics_few step adds now made v w t at lost m small s.few in

@@ -14,7 +14,9 @@ use Rattle.cyc_core.specs.Tables.{Tables, level_of}
 use Rattle.cyc_timers.specs.Rows.{Cyclic}
 use Rattle.cyc_cpu.specs.Cpu.{CpuView, IsFresh, Reserves, MayWiden, WhyNoRoom, HasRoom, size_for}
 use Rattle.cyc_machine.specs.Text.{start}
-use Rattle.cyc_machine.specs.Machine.{IsEmpty, IsFew, Tallies, Serves, unindexed}
+use Rattle.cyc_machine.specs.declared.machine.Fate.{Fate}
+use Rattle.cyc_machine.specs.declared.machine.Fate.TheVariants.{Nobody}
+use Rattle.cyc_machine.specs.Machine.{IsEmpty, IsFew, Tallies, Serves}
 use Rattle.cyc_machine.proofs.Ends.{fires, seen, only_looked}
 use Rattle.cyc_machine.proofs.Serving.{state_at}
 
@@ -82,14 +84,13 @@ none_counted false k n = zeros k n
 pub fresh_tally : (t : TallyView) → t ≡ tally_made 1 65536 (2 ^ 64 - 1) → Tallies 1 t
 fresh_tally t is = subst (Tallies 1) (sym is) (record { first = refl; len = length-replicate 65536 zero; most = refl; few = λ id. let n = none_counted (nat_lt id 1) (id - 1) 65536 in omega (arith, n) })
 
-pub fresh_cpu : (ceiling : ℕ) (v : CpuView Tables) → IsEmpty ceiling v → Serves 1 0 v
-fresh_cpu ceiling v e = record { still = e.still; most = e.most; room = e.room; few = subst (λ (cs : List Cyclic). All (IsFew 1 0) cs) (sym e.cyclics) (λ k d low. absurd (omega (arith, low))) }
+pub fresh_cpu : (ceiling : ℕ) (v : CpuView Tables) → IsEmpty ceiling v → Serves 1 0 None v
+fresh_cpu ceiling v e = record { open_removal = e.still; most = e.most; room = e.room; few = subst (λ (cs : List Cyclic). All (IsFew 1 0) cs) (sym e.cyclics) (λ k d low. absurd (omega (arith, low))) }
 
-pub fresh_state : (ceiling names : ℕ) (ids : List (Option ℕ)) (v : CpuView Tables) (t : TallyView) → IsEmpty ceiling v → t ≡ tally_made 1 65536 (2 ^ 64 - 1) → ids ≡ replicate names None → state_at 0 0 ids v t ≡ start ceiling names
-fresh_state ceiling names ids v t e is made =
-    let lock = ap unindexed e.lock in let low = ap unindexed e.low in
+pub fresh_state : (ceiling names : ℕ) (fates : List Fate) (v : CpuView Tables) (t : TallyView) → IsEmpty ceiling v → t ≡ tally_made 1 65536 (2 ^ 64 - 1) → fates ≡ replicate names Nobody → state_at 0 0 None fates v t ≡ start ceiling names
+fresh_state ceiling names fates v t e is made =
     let counted : (q : ℕ) → tally_count t q ≡ 0 = λ q. ap (λ (x : TallyView). tally_count x q) is ∙ none_counted (nat_lt q 1) (q - 1) 65536 in
-    λ z. record { clock = 0; adds = 0; cyclics = e.cyclics z; size = e.size z; lock = lock z; low = low z; called = λ q. counted q z; ids = made z }
+    λ z. record { clock = 0; adds = 0; cyclics = e.cyclics z; size = e.size z; removal = None; lock = e.lock z; low = e.low z; called = λ q. counted q z; fates = made z }
 
 -- what a tally tells of an id
 pub told : (b : Bool) (xs : List ℕ) (k : ℕ) → unwrap_or (cond b None (slice_get xs k)) 0 ≡ cond b 0 (slice_index xs k)

@@ -5,20 +5,20 @@ use Rattle.cyc_machine.proofs.steps.fire_cpu.Goals as goal
 pub unreachable-requires : goal.unreachable-requires
 unreachable-requires c =
     let m = c.args.machine.now in let s = c.requires.stands in let now = c.requires.now in
-    fire_never_refused c.args.step m.adds c.args.now _ _ m.cpu c.fire.new.self m.tally c.fire.new.calls _ (c.in-Err.ensures.refused (λ e. absurd (omega (arith, now, e)))) c.requires.few s.adds c.law.ensures.rising s.cpu s.tally
+    fire_never_refused c.args.step m.adds c.args.now _ _ m.removal m.cpu c.fire.new.self m.tally c.fire.new.calls _ (c.in-Err.ensures.refused (λ e. absurd (omega (arith, now, e)))) c.requires.few s.adds c.law.ensures.rising s.cpu s.tally
 
 pub returns-clause-lost : goal.returns-clause-lost
 returns-clause-lost c =
     let m = c.args.machine.now in
-    fired_lost c.args.step c.args.now m.clock m.adds _ m.ids.items m.cpu c.fire.new.self m.tally c.fire.new.calls c.in-Ok.ensures.made
+    fired_lost c.args.step c.args.now m.clock m.adds _ m.removal m.fates.items m.cpu c.fire.new.self m.tally c.fire.new.calls c.in-Ok.ensures.made
 
 pub returns-clause-state : goal.returns-clause-state
 returns-clause-state c =
     let m = c.args.machine.now in
-    fired_state c.args.step c.args.now m.clock m.adds _ m.ids.items m.cpu c.fire.new.self m.tally c.fire.new.calls c.in-Ok.ensures.made c.fire.ensures.kept
+    fired_state c.args.step c.args.now m.clock m.adds _ m.removal m.fates.items m.cpu c.fire.new.self m.tally c.fire.new.calls c.in-Ok.ensures.made c.fire.ensures.kept
 
 pub returns-clause-stands : goal.returns-clause-stands
 returns-clause-stands c =
     let m = c.args.machine.now in let s = c.requires.stands in let adds = s.adds in
-    let on = fire_stands c.args.step c.args.now m.adds _ m.cpu c.fire.new.self m.tally c.fire.new.calls c.in-Ok.ensures.made c.fire.ensures.kept c.law.ensures.rising s.cpu s.tally in
+    let on = fire_stands c.args.step c.args.now m.adds _ m.removal m.cpu c.fire.new.self m.tally c.fire.new.calls c.in-Ok.ensures.made c.fire.ensures.kept c.law.ensures.rising s.cpu s.tally in
     record { clock = c.requires.now; adds = omega (arith, adds); cpu = on.0; tally = on.1 }
