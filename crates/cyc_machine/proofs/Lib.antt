@@ -11,5 +11,6 @@ pub mod Named
 pub mod Removing
 pub mod Starting
 pub mod Indexing
+pub mod Leading
 pub mod Conserving
 pub mod Replaying
