@@ -178,7 +178,7 @@ none_found (x ∷ xs) id none =
     ap (λ b. cond b (Some x) (find (is_named (Some id)) xs)) (other_id x.timer.id id (none 0 x (omega arith)))
     ∙ none_found xs id (λ k d low. none (suc k) d (omega arith))
 
-same_found : (o : Option Cyclic) (c d : Cyclic) → o ≡ Some c → o ≡ Some d → c ≡ d
+pub same_found : (o : Option Cyclic) (c d : Cyclic) → o ≡ Some c → o ≡ Some d → c ≡ d
 same_found None c d a b = absurd (let no : None ≡ Some c = a in cc)
 same_found (Some x) c d a b = let p : x ≡ c = cc in let q : x ≡ d = cc in sym p ∙ q
 
