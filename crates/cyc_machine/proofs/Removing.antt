@@ -1,14 +1,15 @@
 -- A removal of the CPU is what the definition of the text says.
-use Rattle.std.proofs.Common.{◌≡◌, ◌≢◌, ℕ, zero, suc, ◌+◌, ◌-◌, ◌<◌, ◌⊎◌, inl, inr, List, [], ◌∷◌, length, map, find, filter, get_or, All, Bool, true, false, cond, not, ◌==◌, Option, Some, None, refl, ap, sym, ◌∙◌, subst, arith}
-use Rattle.std.specs.Prelude.{slice_set, remove}
+use Rattle.std.proofs.Common.{◌≡◌, ◌≢◌, ℕ, zero, suc, ◌+◌, ◌-◌, ◌<◌, ◌++◌, ◌⊎◌, inl, inr, List, [], ◌∷◌, length, map, find, filter, get_or, All, Bool, true, false, cond, not, ◌==◌, Option, Some, None, refl, ap, sym, ◌∙◌, subst, arith}
+use Rattle.std.specs.Prelude.{slice_set, remove, Result, OnOk}
 use Rattle.std.specs.List.{list_any}
 use Rattle.std.specs.Option.{option_map, option_map_or}
 use Rattle.std.proofs.lemmas.List.Elements.{All-filter}
+use Rattle.std.proofs.lemmas.Result.{on_ok_weaker}
 use Rattle.cyc_types.specs.Series.{never}
 use Rattle.cyc_types.specs.Firing.{FiringCall, Marks, Polls}
 use Rattle.cyc_types.specs.Runs.{Goes}
 use Rattle.cyc_types.specs.Tally.{TallyView}
-use Rattle.cyc_text.specs.Lines.{kept, removed}
+use Rattle.cyc_text.specs.Lines.{ran, kept, removed}
 use Rattle.cyc_types.specs.declared.firing.Sent.{Sent}
 use Rattle.cyc_types.specs.declared.level.Level.{Level as CyclicLevel}
 use Rattle.cyc_types.specs.declared.level.Level.TheVariants.{Low, Lock, High}
@@ -24,13 +25,14 @@ use Rattle.cyc_timers.specs.Rows.{Cyclic}
 use Rattle.cyc_cpu.specs.Cpu.{CpuView, HasRisingIds, IsCyclic, IsRemoved}
 use Rattle.cyc_cpu.specs.Acts.{same_level}
 use Rattle.cyc_cpu.specs.Removal.{Leaves, Opens, Waits, EndGoes, IsReceipt, WhyNotBegun}
+use Rattle.cyc_script.specs.declared.step.Softint.{Softint as SoftintStep}
 use Rattle.cyc_machine.specs.declared.machine.Open.{Open}
 use Rattle.cyc_machine.specs.declared.machine.Fate.{Fate}
 use Rattle.cyc_machine.specs.declared.machine.Fate.TheVariants.{Gone}
 use Rattle.cyc_machine.specs.declared.machine.Machine.{Machine}
 use Rattle.cyc_machine.specs.LevelRun.{happen}
-use Rattle.cyc_machine.specs.Machine.{state_of, IsFew, Serves, Stands, Tallies}
-use Rattle.cyc_machine.specs.Text.{State, Outcome, is_named, id_in, text_in, others, outstanding, outstanding_of, events_of, leaving, keeping, removing, removal, remove_refusal, answering, poll, where_here, nothing}
+use Rattle.cyc_machine.specs.Machine.{state_of, IsFew, Serves, Shows, Stands, Tallies}
+use Rattle.cyc_machine.specs.Text.{State, Outcome, is_named, id_in, text_in, others, outstanding, outstanding_of, events_of, leaving, keeping, removing, removal, remove_refusal, answering, poll, where_here, nothing, interrupt, served_at, softint_refusal, unless, followed_by}
 use Rattle.cyc_machine.proofs.Ends.{fires, seen}
 use Rattle.cyc_machine.proofs.Serving.{state_at}
 use Rattle.cyc_machine.proofs.Named.{same_id, other_id, same_found, found_at, is_here, is_absent, none_named, reprogrammed_cyclics, all_few_moved}
@@ -267,6 +269,15 @@ waits_on texts step id clock adds p o fates v w t rising opened same (k, d, is_d
       state = λ z. record s { cyclics = waits.cyclics z; size = waits.kept.size z; lock = lock.0 z; low = low.0 z };
     })
 
+-- a poll that answers nothing
+pub not_answered : (texts : List (List ℕ)) (step clock adds : ℕ) (p : Open) (o : Option Open) (fates : List Fate) (v w : CpuView Tables) (t : TallyView)
+    → HasRisingIds v.cyclics → v.removal ≡ option_map (λ o. o.id) o → o ≡ Some p → ((id : ℕ) → v.removal ≡ Some id → IsRemoved id v.cyclics)
+    → (((v.removal ≡ None) × (w ≡ v)) ⊎ ((id : ℕ) × (v.removal ≡ Some id) × Waits fires seen id v w))
+    → Left [] (state_at clock adds o fates w t) (poll texts step (state_at clock adds o fates v t))
+not_answered texts step clock adds p o fates v w t rising same opened removed (inl (none, kept)) = absurd (is_open p o v same opened none)
+not_answered texts step clock adds p o fates v w t rising same opened removed (inr (id, at, waits)) =
+    waits_on texts step id clock adds p o fates v w t rising opened (open_id p id o v same opened at) (removed id at) waits
+
 -- the state of a machine with these fields
 pub state_is : (n : Machine) (clock adds : ℕ) (o : Option Open) (fates : List Fate) (v : CpuView Tables) (t : TallyView) → n.clock ≡ clock → n.adds ≡ adds → n.removal ≡ o → n.fates.items ≡ fates → n.cpu ≡ v → n.tally ≡ t
     → state_of n ≡ state_at clock adds o fates v t
@@ -308,3 +319,20 @@ opened_serves step adds id calls name o v w rising opens s =
       room = omega (arith, same, room);
       few = subst (λ cs. All (IsFew (step + 1) adds) cs) (sym cyclics) (all_few_moved step adds never (Some c.timer.id) v.cyclics s.few);
     }
+
+-- ---- a soft interrupt, and then the poll
+
+-- what was written and left after the poll is the outcome of both
+pub served_and_polled : {A E : Type 0} (texts : List (List ℕ)) (step calls : ℕ) (idle : Bool) (i : SoftintStep) (m served n : Machine) (r : Result A E) (first line : List ℕ)
+    → ((softint_refusal i ≡ None) × (calls ≡ length (served_at i.level i.budget (state_of m)).calls) × (idle ≡ (served_at i.level i.budget (state_of m)).idle) × (state_of served ≡ (interrupt i.level step i.budget (state_of m)).state))
+    → first ≡ ran step calls idle → OnOk r (line ≡ first ++ (poll texts step (state_of served)).line) → state_of n ≡ (poll texts step (state_of served)).state
+    → OnOk r (Shows (unless (softint_refusal i) step (state_of m) (followed_by (interrupt i.level step i.budget (state_of m)) (poll texts step))) line n)
+served_and_polled texts step calls idle i m served n r first line (accepted, made, stopped, led) written polled state =
+    let s = state_of m in
+    let both = followed_by (interrupt i.level step i.budget s) (poll texts step) in
+    let is : unless (softint_refusal i) step s both ≡ both = ap (λ why_not. unless why_not step s both) accepted in
+    let text : first ≡ (interrupt i.level step i.budget s).line = written ∙ (λ z. ran step (made z) (stopped z)) in
+    on_ok_weaker r (λ added. subst (λ (o : Outcome). Shows o line n) (sym is) (record {
+      line = added ∙ (λ z. text z ++ (poll texts step (led z)).line);
+      state = state ∙ ap (λ (x : State). (poll texts step x).state) led;
+    })) polled

@@ -1,18 +1,13 @@
-use Rattle.std.proofs.Common.{◌≡◌, ℕ, ◌+◌, List, [], inl, inr, ap, sym, ◌∙◌}
+use Rattle.std.proofs.Common.{◌≡◌, ℕ, ◌+◌, List, ap, sym, ◌∙◌}
 use Rattle.cyc_text.specs.Lines.{removed}
 use Rattle.cyc_machine.specs.Text.{text_in}
-use Rattle.cyc_machine.proofs.Removing.{answered, waits_on, left_stands, state_is, open_id, is_open}
+use Rattle.cyc_machine.proofs.Removing.{answered, not_answered, left_stands, state_is, open_id}
 use Rattle.cyc_machine.proofs.removal.poll_removal.Goals as goal
 
 pub returns-in_err-receipt-clause-none : goal.returns-in_err-receipt-clause-none
 returns-in_err-receipt-clause-none c =
     let m = c.args.machine.now in let s = c.requires.stands in
-    let goes_on = λ (texts : List (List ℕ)). elim c.in_err-receipt.ensures.none [
-      | inl (none, same) ↦ absurd (is_open c.in-Some.open m.removal m.cpu s.cpu.open_removal c.in-Some.is none)
-      | inr (id, opened, waits) ↦
-          let same = open_id c.in-Some.open id m.removal m.cpu s.cpu.open_removal c.in-Some.is opened in
-          waits_on texts c.args.step id m.clock m.adds c.in-Some.open m.removal m.fates.items m.cpu c.poll_remove.new.self m.tally c.law.ensures.rising c.in-Some.is same (c.law.ensures.removed id opened) waits
-    ] in
+    let goes_on = λ (texts : List (List ℕ)). not_answered texts c.args.step m.clock m.adds c.in-Some.open m.removal m.fates.items m.cpu c.poll_remove.new.self m.tally c.law.ensures.rising s.cpu.open_removal c.in-Some.is c.law.ensures.removed c.in_err-receipt.ensures.none in
     rw c.from_residual.ensures (λ texts. (sym (goes_on texts).line, (goes_on texts).state))
 
 pub returns-clause-some : goal.returns-clause-some
