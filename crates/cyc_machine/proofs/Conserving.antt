@@ -100,22 +100,26 @@ may_rest id ids l m one may q some = dite (ℕ_discrete q id)
     (λ e. let t = times_same id q ids e in let (b, is, room) = may q (omega (arith, t, some)) in let (c, isc, sent, done) = one.here b (ap l.cyclics (sym e) ∙ is) in (c, ap m.cyclics e ∙ isc, omega (arith, sent, room, t)))
     (λ ne. let t = times_other id q ids ne in let (b, is, room) = may q (omega (arith, t, some)) in (b, one.others q ne ∙ is, omega (arith, room, t)))
 
-can_once : (id : ℕ) (ids : List ℕ) (l : Level) → IsReached l → l.firer_hand ≡ None → l.marked ≡ None → MayAll (id ∷ ids) l → CanHappen (expiry id l) l
-can_once id ids l reached free unmarked may =
+can_once : (id : ℕ) (ids : List ℕ) (l : Level) → IsReached l → l.firer_hand ≡ None → ((q : ℕ) → l.marked ≡ Some q → times q (id ∷ ids) ≡ 0) → MayAll (id ∷ ids) l → CanHappen (expiry id l) l
+can_once id ids l reached free spared may =
     let t = times_same id id ids refl in
     let (b, is, room) = may id (omega (arith, t)) in
-    can_raise id l b free (λ e. let no_mark : None ≡ Some id = sym unmarked ∙ e in absurd (cc)) is ((reached_lawful l reached).below_ceiling id b is) (omega (arith, room, t))
+    can_raise id l b free (λ e. let none = spared id e in absurd (omega (arith, t, none))) is ((reached_lawful l reached).below_ceiling id b is) (omega (arith, room, t))
 
-pub can_expiries : (ids : List ℕ) (l : Level) → IsReached l → l.firer_hand ≡ None → l.marked ≡ None → MayAll ids l → CanHappen (expiries ids l) l × Grows ids l (happen (expiries ids l) l)
-can_expiries [] l reached free unmarked may = (tt, record { hand = free; marked = refl; bank = refl; here = λ q b is. (b, is, plain b.sent); none = λ q is. is })
+spared_rest : (id : ℕ) (ids : List ℕ) (l m : Level) → m.marked ≡ l.marked → ((q : ℕ) → l.marked ≡ Some q → times q (id ∷ ids) ≡ 0) → (q : ℕ) → m.marked ≡ Some q → times q ids ≡ 0
+spared_rest id ids l m same spared q is = let none = spared q (sym same ∙ is) in let t = times_more q id ids in omega (arith, none, t)
+
+-- expirations of ids that aren't marked
+pub can_expiries : (ids : List ℕ) (l : Level) → IsReached l → l.firer_hand ≡ None → ((q : ℕ) → l.marked ≡ Some q → times q ids ≡ 0) → MayAll ids l → CanHappen (expiries ids l) l × Grows ids l (happen (expiries ids l) l)
+can_expiries [] l reached free spared may = (tt, record { hand = free; marked = refl; bank = refl; here = λ q b is. (b, is, plain b.sent); none = λ q is. is })
   where
     plain : (n : ℕ) → n ≡ n + 0
     plain n = omega arith
-can_expiries (id ∷ ids) l reached free unmarked may =
-    let once = can_once id ids l reached free unmarked may in
+can_expiries (id ∷ ids) l reached free spared may =
+    let once = can_once id ids l reached free spared may in
     let one = expired_once id l free in
     let m = happen (expiry id l) l in
-    let rest = can_expiries ids m (reached_after (expiry id l) l reached once) one.hand (one.marked ∙ unmarked) (may_rest id ids l m one may) in
+    let rest = can_expiries ids m (reached_after (expiry id l) l reached once) one.hand (spared_rest id ids l m one.marked spared) (may_rest id ids l m one may) in
     (can_on (expiry id l) (expiries ids m) l once rest.0, subst (λ (k : Level). Grows (id ∷ ids) l k) (sym (happen_on (expiry id l) (expiries ids m) l)) (grows_on id ids l m (happen (expiries ids m) m) one rest.1))
 
 -- ---- a soft interrupt

@@ -13,4 +13,6 @@ pub mod Starting
 pub mod Indexing
 pub mod Leading
 pub mod Conserving
+pub mod Going
+pub mod Marking
 pub mod Replaying
