@@ -2,7 +2,9 @@
 use Rattle.std.proofs.Common.{◌≡◌, ℕ, zero, suc, ◌+◌, List, [], ◌∷◌, refl, ap, sym, ◌∙◌, subst}
 use Rattle.cyc_script.specs.declared.step.Step.{Step}
 use Rattle.cyc_machine.specs.Text.{State, outcome, run, reports, no_indexes, GetsFree, GetFree}
-use Rattle.cyc_machine.proofs.Indexing.{bare_state, same_lines, same_bare, same_reports, same_run_state}
+use Rattle.cyc_machine.specs.declared.machine.Machine.{Machine}
+use Rattle.cyc_machine.specs.Machine.{state_of, Takes}
+use Rattle.cyc_machine.proofs.Indexing.{bare_state, same_lines, same_bare, same_outcome_line, same_reports, same_run_state}
 
 -- this index, and then the others
 abbrev pub first_then : ℕ → (ℕ → ℕ) → ℕ → ℕ
@@ -44,3 +46,10 @@ lines_on texts step x rest s t (index, gets, is) = same_lines texts no_indexes n
 -- and so are the reports
 pub reports_after : (texts : List (List ℕ)) (step : ℕ) (xs : List Step) (s t : State) → RunsTo texts step xs s t → reports 0 texts t ≡ reports 0 texts (run texts no_indexes step xs s).state
 reports_after texts step xs s t (g, free, is) = same_reports 0 texts t (run texts no_indexes step xs s).state (ap bare_state is ∙ same_run_state texts g no_indexes step xs s s refl)
+
+-- a step's line tells of no index
+pub taken_line : (texts : List (List ℕ)) (step : ℕ) (x : Step) (text : List ℕ) (m n : Machine) → Takes texts step x text m n → text ≡ (outcome texts 0 step x (state_of m)).line
+taken_line texts step x text m n (index, gets, shows) = shows.line ∙ same_outcome_line texts index 0 step x (state_of m)
+
+pub taken_state : (texts : List (List ℕ)) (step : ℕ) (x : Step) (text : List ℕ) (m n : Machine) → Takes texts step x text m n → (index : ℕ) × GetsFree index x (state_of m) × (state_of n ≡ (outcome texts index step x (state_of m)).state)
+taken_state texts step x text m n (index, gets, shows) = (index, gets, shows.state)
