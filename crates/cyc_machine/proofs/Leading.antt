@@ -15,9 +15,6 @@ first_then index others (suc n) = others n
 abbrev pub Extends : List (List ℕ) → ℕ → List Step → State → ℕ → List Step → State → Type 0
 Extends texts start all s step rest t = (f : ℕ → ℕ) → GetFree texts f step rest t → (g : ℕ → ℕ) × GetFree texts g start all s × ((run texts g start all s).state ≡ (run texts f step rest t).state)
 
-pub extends_itself : (texts : List (List ℕ)) (step : ℕ) (xs : List Step) (s : State) → Extends texts step xs s step xs s
-extends_itself texts step xs s f free = (f, free, refl)
-
 -- a step more
 pub extends_on : (texts : List (List ℕ)) (start : ℕ) (all : List Step) (s : State) (step : ℕ) (x : Step) (rest : List Step) (t u : State)
     → (index : ℕ) × GetsFree index x t × (u ≡ (outcome texts index step x t).state) → Extends texts start all s step (x ∷ rest) t → Extends texts start all s (step + 1) rest u
