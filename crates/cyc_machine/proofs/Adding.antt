@@ -1,5 +1,5 @@
 -- An add to the CPU is what the definition of the text says.
-use Rattle.std.proofs.Common.{◌≡◌, ℕ, zero, suc, ◌+◌, ◌^◌, ◌<◌, ◌≤◌, ◌⊎◌, inl, inr, eq-eqb, List, [], ◌∷◌, ◌++◌, length, map, get_or, All, Bool, true, false, cond, ◌==◌, Option, Some, None, refl, ap, sym, ◌∙◌, subst, arith}
+use Rattle.std.proofs.Common.{◌≡◌, ℕ, zero, suc, ◌+◌, ◌^◌, ◌<◌, ◌≤◌, ◌⊎◌, inl, inr, List, [], ◌∷◌, ◌++◌, length, get_or, All, Bool, true, false, cond, ◌==◌, Option, Some, None, refl, ap, sym, ◌∙◌, subst, arith}
 use Rattle.std.specs.Prelude.{nat_le, ℤ, pos, int_lt, insert, ◌&&◌, slice_set}
 use Rattle.std.specs.Option.{option_map, option_map_or}
 use Rattle.std.proofs.lemmas.Bool.{cases_eq}
@@ -10,7 +10,7 @@ use Rattle.std.proofs.lemmas.List.Edits.{insert_end, get_or-insert_at, get_or-in
 use Rattle.cyc_types.specs.Firing.{Expands, Admits}
 use Rattle.cyc_types.specs.Runs.{Taught, Goes}
 use Rattle.cyc_types.specs.Series.{first}
-use Rattle.cyc_types.specs.Tally.{TallyView, tally_count}
+use Rattle.cyc_types.specs.Tally.{TallyView}
 use Rattle.cyc_types.specs.declared.level.Level.{Level as CyclicLevel}
 use Rattle.cyc_types.specs.declared.level.Level.TheVariants.{Low, Lock}
 use Rattle.cyc_types.specs.declared.refusal.Refusal.{Refusal}

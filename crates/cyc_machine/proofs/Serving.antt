@@ -22,7 +22,7 @@ use Rattle.cyc_core.specs.Tables.{Tables, level_of}
 use Rattle.cyc_cpu.specs.Cpu.{CpuView, AreAdmitted}
 use Rattle.cyc_cpu.specs.Soft.{drains, held_at, end_at, SoftKept, ServesAt}
 use Rattle.cyc_soft.specs.Serving.{Served, ids, last_look, look_of, hand_left}
-use Rattle.cyc_machine.specs.LevelRun.{Interrupt, serve}
+use Rattle.cyc_machine.specs.LevelRun.{serve}
 use Rattle.cyc_machine.specs.declared.machine.Open.{Open}
 use Rattle.cyc_machine.specs.declared.machine.Fate.{Fate}
 use Rattle.cyc_machine.specs.Machine.{IsFew, Tallies, Serves}

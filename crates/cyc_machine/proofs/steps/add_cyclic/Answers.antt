@@ -28,7 +28,7 @@ returns-in_err-add-clause-answer c =
     rw p.1 (
       ap (add_refusal c.args.added.now) (sym same)
           ∙ (add_refused c.args.step m.clock m.adds c.in_ok-when.when.start c.in_ok-when.when.interval c.args.added.now m.removal m.fates.items c.room.new.self c.add.new.self m.tally c.in_err-add.field-0.0 w.0 w.1 w.2
-              (serves_still c.args.step m.adds m.removal m.cpu c.room.new.self asked s.cpu) c.law.ensures.size reserves (c.in_err-add.ensures.refused (λ e. absurd (omega (arith, clock, e)))) ∙ ap Some (sym p.2)),
+          (serves_still c.args.step m.adds m.removal m.cpu c.room.new.self asked s.cpu) c.law.ensures.size reserves (c.in_err-add.ensures.refused (λ e. absurd (omega (arith, clock, e)))) ∙ ap Some (sym p.2)),
       refused_state m.clock m.adds m.removal m.fates.items c.room.new.self c.add.new.self m.tally reserves ∙ same,
     )
 
