@@ -22,7 +22,7 @@ use Rattle.cyc_machine.specs.LevelRun.{happen, losses, Interrupt}
 use Rattle.cyc_machine.specs.declared.machine.Open.{Open}
 use Rattle.cyc_machine.specs.declared.machine.Fate.{Fate}
 use Rattle.cyc_machine.specs.declared.machine.Fate.TheVariants.{Nobody, Here, Gone}
-use Rattle.cyc_machine.specs.Text.{State, Outcome, nothing, followed_by, unless, admission, one_more, add_refusal, addition, due_at, fired_cyclic, advance, advance_refusal, interrupt, softint_refusal, counting, reprogram_refusal, reprogramming, remove_refusal, outstanding, outstanding_of, leaving, keeping, removing, where_here, removal, answering, poll, outcome, later, run, no_indexes, counts_in, no_counts, fate_counts, counts_of, is_named, id_of, reports, start, names_of, text_with, text_of, others, gone, reprogrammed}
+use Rattle.cyc_machine.specs.Text.{State, Outcome, nothing, followed_by, unless, admission, one_more, add_refusal, addition, due_at, fired_cyclic, advance, advance_refusal, interrupt, softint_refusal, counting, reprogram_refusal, reprogramming, remove_refusal, outstanding, outstanding_of, leaving, keeping, removing, where_here, removal, answering, poll, outcome, later, run, no_indexes, counts_in, no_counts, fate_counts, is_named, id_of, reports, start, names_of, text_with, text_of}
 use Rattle.cyc_machine.proofs.Unindexed.{unindexed, bare, bare_add, bare_happen, bare_where, expiries_same, expiries_bare, serve_same, serve_bare, count_same}
 
 abbrev pub bare_state : State → State

@@ -1,5 +1,5 @@
 -- What a removal does to a ready machine, and what holds while it is open.
-use Rattle.std.proofs.Common.{◌≡◌, ◌≢◌, ℕ, zero, suc, ◌+◌, ◌<◌, ◌≤◌, List, [], ◌∷◌, ◌++◌, length, map, find, filter, get_or, All, Bool, true, false, not, cond, ◌==◌, Option, Some, None, refl, ap, sym, ◌∙◌, subst, arith}
+use Rattle.std.proofs.Common.{◌≡◌, ◌≢◌, ℕ, zero, suc, ◌<◌, ◌≤◌, List, [], ◌∷◌, ◌++◌, length, map, find, get_or, All, Bool, true, false, not, cond, ◌==◌, Option, Some, None, refl, ap, sym, ◌∙◌, subst, arith}
 use Rattle.std.specs.Prelude.{◌&&◌, flat_map}
 use Rattle.std.specs.List.{list_any}
 use Rattle.std.specs.Option.{option_map, option_map_or, option_or}
@@ -12,8 +12,7 @@ use mathlib.Core.Logic.{dite}
 use native.Mathlib.Decide.{ℕ_discrete}
 use Rattle.cyc_types.specs.Series.{never}
 use Rattle.cyc_types.specs.declared.level.Level.{Level as CyclicLevel}
-use Rattle.cyc_types.specs.declared.level.Level.TheVariants.{Low, Lock, High}
-use Rattle.cyc_types.specs.declared.refusal.Refusal.{Refusal}
+use Rattle.cyc_types.specs.declared.level.Level.TheVariants.{Low, Lock}
 use Rattle.cyc_types.specs.declared.refusal.Refusal.TheVariants.{Busy, NoCyclic}
 use Rattle.cyc_level.specs.declared.Event.{Event}
 use Rattle.cyc_level.specs.declared.Event.TheVariants.{Mark, Clear}
@@ -31,9 +30,9 @@ use Rattle.cyc_machine.specs.declared.machine.Open.{Open}
 use Rattle.cyc_machine.specs.Conserving.{CanHappen}
 use Rattle.cyc_machine.specs.LevelRun.{happen}
 use Rattle.cyc_machine.specs.Machine.{IsFew}
-use Rattle.cyc_machine.specs.Text.{State, Outcome, nothing, is_named, id_of, is_here, is_removed, stays, reprogrammed, outstanding, outstanding_of, events_of, remove_refusal, others, leaving, keeping, removing, removal, where_here, answering, poll}
+use Rattle.cyc_machine.specs.Text.{State, nothing, is_named, id_of, is_here, is_removed, stays, reprogrammed, outstanding, outstanding_of, events_of, remove_refusal, others, leaving, keeping, removing, removal, where_here, answering, poll}
 use Rattle.cyc_machine.proofs.Firing.{found_all}
-use Rattle.cyc_machine.proofs.Going.{IsServed, EndReady, IsReady, IsKept, Goes, mark_in, mark_at, mark_changed, mark_names, remark, find_changed, nothing_goes, not_own, same_kind}
+use Rattle.cyc_machine.proofs.Going.{IsServed, EndReady, IsReady, IsKept, Goes, mark_in, mark_at, remark, find_changed, nothing_goes, same_kind}
 
 is_true : (a b : ℕ) → (a == b) ≡ true → a ≡ b
 is_true a b e = grind (arith, nat_tests)
@@ -181,7 +180,7 @@ kept_silent now o cs low k =
 
 -- ---- a removal that begins, and one that is answered
 
-pub marked_end : (kind : CyclicLevel) (mine : Bool) (size adds : ℕ) (cs : List Timed) (c : Timed) (l : Level) → same_level kind c.timer.level ≡ mine → IsServed kind l c.timer → EndReady kind size adds None cs l
+marked_end : (kind : CyclicLevel) (mine : Bool) (size adds : ℕ) (cs : List Timed) (c : Timed) (l : Level) → same_level kind c.timer.level ≡ mine → IsServed kind l c.timer → EndReady kind size adds None cs l
     → CanHappen (cond mine (Mark c.timer.id ∷ []) []) l × EndReady kind size adds (cond mine (Some c.timer.id) None) cs (happen (cond mine (Mark c.timer.id ∷ []) []) l)
 marked_end kind true size adds cs c l is served r =
     let (b, at, less) = served (same_kind kind c.timer.level is) in (
@@ -202,7 +201,7 @@ cleared_only id adds l only q above = dite (ℕ_discrete q id)
     (λ e. ap (after (Clear id) l).cyclics e ∙ at_same l.cyclics id (λ _. None))
     (λ ne. at_other l.cyclics id (λ _. None) q ne ∙ only q above)
 
-pub cleared_end : (kind : CyclicLevel) (mine : Bool) (size adds : ℕ) (cs : List Timed) (c : Timed) (l : Level) → same_level kind c.timer.level ≡ mine → (c.timer.level ≡ kind → count l c.timer.id ≡ 0)
+cleared_end : (kind : CyclicLevel) (mine : Bool) (size adds : ℕ) (cs : List Timed) (c : Timed) (l : Level) → same_level kind c.timer.level ≡ mine → (c.timer.level ≡ kind → count l c.timer.id ≡ 0)
     → EndReady kind size adds (cond mine (Some c.timer.id) None) cs l
     → CanHappen (cond mine (Clear c.timer.id ∷ []) []) l × EndReady kind size adds None (others c.timer.id cs) (happen (cond mine (Clear c.timer.id ∷ []) []) l)
 cleared_end kind true size adds cs c l is none r =

@@ -1,5 +1,5 @@
 -- Each step of a script leads from a ready machine to a ready one, by events that can happen.
-use Rattle.std.proofs.Common.{◌≡◌, ℕ, zero, suc, ◌+◌, ◌*◌, ◌^◌, ◌<◌, ◌≤◌, List, [], ◌∷◌, ◌++◌, length, map, find, get_or, All, Bool, true, false, cond, ◌==◌, Option, Some, None, refl, ap, sym, ◌∙◌, subst, arith}
+use Rattle.std.proofs.Common.{◌≡◌, ℕ, zero, suc, ◌+◌, ◌*◌, ◌^◌, ◌<◌, ◌≤◌, List, [], ◌∷◌, ◌++◌, length, map, get_or, All, Bool, true, false, cond, ◌==◌, Option, Some, None, refl, ap, sym, ◌∙◌, subst, arith}
 use Rattle.std.proofs.lemmas.Bool.Decides.{nat_tests}
 use Rattle.std.proofs.lemmas.List.{length-map, length-append}
 use Rattle.std.proofs.lemmas.List.Elements.{All-map, All-append}
@@ -10,7 +10,7 @@ use Rattle.cyc_types.specs.Counting.{times}
 use Rattle.cyc_types.specs.Limits.{last_id}
 use Rattle.cyc_types.specs.Series.{late, never}
 use Rattle.cyc_types.specs.declared.level.Level.{Level as CyclicLevel}
-use Rattle.cyc_types.specs.declared.level.Level.TheVariants.{Low, Lock, High}
+use Rattle.cyc_types.specs.declared.level.Level.TheVariants.{Low, Lock}
 use Rattle.cyc_types.specs.declared.level.Soft.{Soft}
 use Rattle.cyc_types.specs.declared.level.Soft.TheVariants as soft
 use Rattle.cyc_types.specs.declared.refusal.Refusal.TheVariants.{BadWhen, BadInterval, BadNow, Full, Expanding, Busy, NoCyclic, ScriptShape}
@@ -37,7 +37,7 @@ use Rattle.cyc_machine.specs.declared.machine.Open.{Open}
 use Rattle.cyc_machine.specs.Conserving.{CanHappen}
 use Rattle.cyc_machine.specs.LevelRun.{happen, expiries}
 use Rattle.cyc_machine.specs.Machine.{IsFew, most_before}
-use Rattle.cyc_machine.specs.Text.{State, Outcome, magnitude, one_more, have_followed, growth, admission, add_refusal, add_events, added, addition, IsFreeAt, GetsFree, GetFree, AreFree, due_at, fire_events, fired_cyclic, advance, advance_refusal, interrupt, softint_refusal, poll, remove_refusal, removal, reprogram_refusal, reprogramming, reprogrammed, stays, id_of, outcome, later, run, start, names_of, run_of}
+use Rattle.cyc_machine.specs.Text.{State, magnitude, one_more, have_followed, growth, admission, add_refusal, add_events, added, addition, IsFreeAt, GetsFree, GetFree, AreFree, due_at, fire_events, fired_cyclic, advance, advance_refusal, interrupt, softint_refusal, poll, remove_refusal, removal, reprogram_refusal, reprogramming, reprogrammed, stays, id_of, outcome, later, run, start, names_of, run_of}
 use Rattle.cyc_machine.proofs.Adding.{within, beyond, least_low}
 use Rattle.cyc_machine.proofs.Conserving.{can_on, reached_after, can_expiries, Grows, can_serve, serve_keeps, SoftKeeps, sent_in}
 use Rattle.cyc_machine.proofs.Firing.{all_fired_few, found_all, few_calls}
@@ -149,7 +149,7 @@ end_goes kind index step a s l low last followed free few r kept =
     let (more, end) = admitted (same_level kind a.level) kind a.level step size s.adds index mark s.cyclics (added a s) (happen (growth s) l) refl refl refl last free few mid in (
       can_on (growth s) (admission kind a.level (s.adds + 1) index) l can more,
       subst (λ (m : Level). EndReady kind size (s.adds + 1) (mark_at kind s.removal cs) cs m) (sym (happen_on (growth s) (admission kind a.level (s.adds + 1) index) l))
-      (remark kind size (s.adds + 1) mark _ cs _ (mark_more kind s.removal s.cyclics (added a s ∷ []) kept) end),
+          (remark kind size (s.adds + 1) mark _ cs _ (mark_more kind s.removal s.cyclics (added a s ∷ []) kept) end),
     )
 
 few_added : (step adds : ℕ) (c : Timed) → IsFew step adds c → IsFew (step + 1) (adds + 1) c
