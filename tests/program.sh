@@ -33,6 +33,7 @@ expect not_json 2 '' 'script refused 19' '{"cpus":1,"steps":[' replay
 expect no_cpus 2 '' 'script refused 20 step 0' '{"cpus":0,"steps":[]}' replay
 expect time_back 2 '' 'script refused 21 step 2' '{"cpus":1,"steps":[["advance",5],["advance",4]]}' replay
 expect name_twice 2 '' 'script refused 22 step 2' '{"cpus":1,"steps":[["add","a","low",1,1],["add","a","low",1,1]]}' replay
+expect no_name 2 '' 'script refused 23 step 1' '{"cpus":1,"steps":[["remove","a"]]}' replay
 expect at_never 2 '' 'script refused 20 step 1' '{"cpus":1,"steps":[["advance",9223372036854775807]]}' replay
 expect no_steps 0 '' '' '{"cpus":1,"steps":[]}' replay
 

@@ -187,7 +187,7 @@ done_at_once texts step name id clock adds counts o fates receipt v w t c rising
     let none = none_out own c.timer.id s (λ e. lock.1 (same_lock own e)) (λ e. low.1 (same_low own e)) in
     let events = Mark c.timer.id ∷ Clear c.timer.id ∷ [] in
     let is = removal_is texts step name id s c given (found_at v.cyclics leaves.place id c rising leaves.here leaves.named)
-        ∙ ap (λ b. cond b (leaving texts step name c events s) (keeping step name c s)) (same_id (outstanding_of c s) 0 none) in
+    ∙ ap (λ b. cond b (leaving texts step name c events s) (keeping step name c s)) (same_id (outstanding_of c s) 0 none) in
     on_left _ _ _ _ is (record {
       line = left_line texts step name receipt c counted;
       state = left_state texts step name c.timer.id clock adds events _ o fates receipt v w t c rising counted own_id (record { lock = lock.0; low = low.0 });
@@ -205,7 +205,7 @@ kept_open texts step name id calls clock adds o fates v w t rising given opens =
     let all = all_out own c.timer.id calls s opens.soft (λ e. lock.1 (same_lock own e)) (λ e. low.1 (same_low own e)) in
     let some = opens.some in
     let is = removal_is texts step name id s c given (found_at v.cyclics opens.place id c rising opens.here opens.named)
-        ∙ ap (λ b. cond b (leaving texts step name c (Mark c.timer.id ∷ Clear c.timer.id ∷ []) s) (keeping step name c s)) (other_id (outstanding_of c s) 0 (λ e. omega (arith, e, all, some))) in
+    ∙ ap (λ b. cond b (leaving texts step name c (Mark c.timer.id ∷ Clear c.timer.id ∷ []) s) (keeping step name c s)) (other_id (outstanding_of c s) 0 (λ e. omega (arith, e, all, some))) in
     let cyclics = opens.cyclics ∙ reprogrammed_cyclics v.cyclics opens.place c.timer.id never c rising opens.here refl in
     on_left _ _ _ _ is (record {
       line = ap (kept step) all;
@@ -238,7 +238,7 @@ answered texts step clock adds counts p o fates receipt v w t c rising opened sa
     let none = none_out own c.timer.id s (λ e. lock.1 (same_lock own e)) (λ e. low.1 (same_low own e)) in
     let events = Clear c.timer.id ∷ [] in
     let is = poll_is texts step receipt.id p s c opened same (found_at v.cyclics leaves.place receipt.id c rising leaves.here leaves.named)
-        ∙ ap (λ b. cond b (leaving texts step p.name c events s) (nothing s)) (same_id (outstanding_of c s) 0 none) in
+    ∙ ap (λ b. cond b (leaving texts step p.name c events s) (nothing s)) (same_id (outstanding_of c s) 0 none) in
     on_left _ _ _ _ is (record {
       line = left_line texts step p.name receipt c counted;
       state = left_state texts step p.name c.timer.id clock adds events _ o fates receipt v w t c rising counted own_id (record { lock = lock.0; low = low.0 });
@@ -263,7 +263,7 @@ waits_on texts step id clock adds p o fates v w t rising opened same (k, d, is_d
     let some = some_out own id s is_soft (λ e. lock.1 (same_lock own e)) (λ e. low.1 (same_low own e)) in
     let at : outstanding own id s ≡ outstanding_of c s = ap (λ i. outstanding own i s) (sym waits.named) in
     let is = poll_is texts step id p s c opened same found
-        ∙ ap (λ b. cond b (leaving texts step p.name c (Clear c.timer.id ∷ []) s) (nothing s)) (other_id (outstanding_of c s) 0 (λ e. omega (arith, e, some, at))) in
+    ∙ ap (λ b. cond b (leaving texts step p.name c (Clear c.timer.id ∷ []) s) (nothing s)) (other_id (outstanding_of c s) 0 (λ e. omega (arith, e, some, at))) in
     on_left _ _ _ _ is (record {
       line = refl;
       state = λ z. record s { cyclics = waits.cyclics z; size = waits.kept.size z; lock = lock.0 z; low = low.0 z };
@@ -303,7 +303,7 @@ left_stands next id way m n w c s rising leaves clock adds cpu removal tally = r
   clock = subst (λ x. x < never) (sym clock) s.clock;
   adds = subst (λ x. x < next) (sym adds) s.adds;
   cpu = subst (λ x. Serves next x n.removal n.cpu) (sym adds)
-  (subst (λ r. Serves next m.adds r n.cpu) (sym removal) (subst (λ v. Serves next m.adds None v) (sym cpu) (left_serves next m.adds id way m.removal m.cpu w c rising leaves s.cpu)));
+      (subst (λ r. Serves next m.adds r n.cpu) (sym removal) (subst (λ v. Serves next m.adds None v) (sym cpu) (left_serves next m.adds id way m.removal m.cpu w c rising leaves s.cpu)));
   tally = subst (Tallies next) (sym tally) s.tally;
 }
 

@@ -2,4 +2,6 @@
 #![tactic(auto)]
 
 #[cfg(test)]
+mod removals;
+#[cfg(test)]
 mod tests;

@@ -95,7 +95,7 @@ const RUNS: [(&str, &str, &str); 17] = [
 ];
 
 /// What a script's replay writes.
-fn written<R: AllocGlobal + Abort>(rt: &R, script: &str) -> Result<Vec<u8>, Fail> {
+pub fn written<R: AllocGlobal + Abort>(rt: &R, script: &str) -> Result<Vec<u8>, Fail> {
     let script = read_script(rt.alloc(), script.as_bytes())
         .ok()
         .ok_or("it is a script")?;
