@@ -11,3 +11,5 @@ pub mod Leaving
 pub mod Inquiring
 pub mod Staying
 pub mod Sparing
+pub mod Gone
+pub mod Following

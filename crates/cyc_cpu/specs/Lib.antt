@@ -7,3 +7,4 @@ pub mod Soft
 pub mod Removal
 pub mod Moving
 pub mod Losses
+pub mod Gone

@@ -1,5 +1,5 @@
 -- How a cyclic moves from one CPU to another (`cyclic_juggle_one_to`).
-use Rattle.std.specs.Prelude.{◌≡◌, ℕ, ◌+◌, ◌<◌, [], ◌∷◌, Some, None}
+use Rattle.std.specs.Prelude.{◌≡◌, ℕ, ◌<◌, [], ◌∷◌, Some, None}
 use Rattle.cyc_types.specs.Firing.{FiringView, FiringCall, Loads, Marks, Polls}
 use Rattle.cyc_types.specs.declared.firing.Sent.{Sent}
 use Rattle.cyc_types.specs.declared.refusal.Refusal.{Refusal}

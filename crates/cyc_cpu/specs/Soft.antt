@@ -4,8 +4,8 @@ use Rattle.cyc_types.specs.Draining.{DrainCall}
 use Rattle.cyc_types.specs.declared.level.Soft.{Soft}
 use Rattle.cyc_types.specs.declared.level.Soft.TheVariants.{Low, Lock}
 use Rattle.cyc_core.specs.Tables.{Tables, level_of}
-use Rattle.cyc_types.specs.Firing.{FiringView}
-use Rattle.cyc_core.specs.FiringSide.{firing_view}
+use Rattle.cyc_types.specs.Firing.{FiringView, FiringCall}
+use Rattle.cyc_core.specs.FiringSide.{firing_view, Fires}
 use Rattle.cyc_core.specs.DrainingSide.{Drains, held_of, done_of}
 use Rattle.cyc_soft.specs.Serving.{Served, Serves}
 use Rattle.cyc_cpu.specs.Cpu.{CpuView, SameCpu}
@@ -19,6 +19,10 @@ end_at Lock v = v.lock
 abbrev pub end_beside : {R : Type 0} → Soft → CpuView R → R
 end_beside Low v = v.lock
 end_beside Lock v = v.low
+
+-- a call of the firing side of a level that no other thread uses
+abbrev pub fires : Tables → FiringCall → Tables → Type 0
+fires a call b = Fires (level_of a) call (level_of b)
 
 -- a call of the soft side of a level that no other thread uses
 abbrev pub drains : Tables → DrainCall → Tables → Type 0
