@@ -141,6 +141,8 @@ pub record Reserves {R : Type 0} (step : R → FiringCall → R → Type 0) (vie
 -- the size is what so many more need; where it grew, both ends were switched, once
 pub record Widens {R : Type 0} (step : R → FiringCall → R → Type 0) (view : R → FiringView) (more : ℕ) (v w : CpuView R) : Type 0 where
   pub size : w.size ≡ size_for v.size (length v.cyclics + more)
+  -- it has an index for each of them
+  pub enough : length v.cyclics + more ≤ w.size
   pub kept_lock : length v.cyclics + more ≤ v.size → w.lock ≡ v.lock
   pub kept_low : length v.cyclics + more ≤ v.size → w.low ≡ v.low
   pub lock : v.size < length v.cyclics + more → Taught step view v.lock (Expands (bank_for (length v.cyclics + more))) w.lock
