@@ -276,6 +276,7 @@ impl<R: Raise> Hard<R> {
         requires absent { HasNoCyclic id self.old.cyclics }
         ensures ok { OnOk result ((now ≢ never) × (u : CpuView R) × (w : CpuView R) × Reserves R.step R.view self.old u × Widens R.step R.view 1 u w
             × Enters R.step R.view id level when.interval (first when.start when.interval now) w self.new) }
+        ensures room { OnOk result ((u : CpuView R) × Reserves R.step R.view self.old u × HasRoom R.view 1 u) }
         ensures bad_now { IfErr result (λ e. now ≡ never → (e ≡ BadNow) × (self.new ≡ self.old)) }
         ensures refused { IfErr result (λ e. now ≢ never → (WhyNoRoom R.view 1 self.new e ⊎ ((e ≡ Memory) × HasRoom R.view 1 self.new × (self.old.room < size_for self.old.size (length self.old.cyclics + 1))))) }
         ensures err { OnErr result (Reserves R.step R.view self.old self.new × (self.new.room ≡ self.old.room)) }

@@ -21,7 +21,7 @@ use Rattle.cyc_level.specs.Level.{Level}
 use Rattle.cyc_core.specs.Tables.{Tables, level_of}
 use Rattle.cyc_timers.specs.Rows.{Cyclic}
 use Rattle.cyc_cpu.specs.Acts.{same_level}
-use Rattle.cyc_cpu.specs.Cpu.{CpuView, HasRisingIds, Looked, Reserves, Widens, Enters, WhyNoRoom, HasRoom, bank_for, least_bank, size_for, new_cyclic}
+use Rattle.cyc_cpu.specs.Cpu.{CpuView, HasRisingIds, Reserves, Widens, Enters, WhyNoRoom, HasRoom, bank_for, least_bank, size_for, new_cyclic}
 use Rattle.cyc_script.specs.declared.step.Add.{Add as AddStep}
 use Rattle.cyc_script.specs.declared.step.Step.TheVariants as step_kind
 use Rattle.cyc_machine.specs.declared.machine.Open.{Open}
@@ -275,13 +275,6 @@ refused_state clock adds o fates v n t r =
     λ z. record (state_at clock adds o fates v t) { cyclics = r.cyclics z; size = r.size z; lock = lock z; low = low z }
 
 -- the question whether there is room takes nothing
-pub asked_room : (v n : CpuView Tables) → Looked fires seen v n → Reserves fires seen v n
-asked_room v n l = let room = l.kept.room in record { lock = l.lock; low = l.low; cyclics = l.cyclics; removal = l.kept.removal; size = l.kept.size; room = omega (arith, room); most = l.kept.most }
-
-pub room_refused : (clock adds start interval : ℕ) (a : AddStep) (o : Option Open) (fates : List Fate) (v n : CpuView Tables) (t : TallyView) (e : Refusal) → pos start ≡ a.start → pos interval ≡ a.interval → 0 < interval
-    → v.removal ≡ option_map (λ (x : Open). x.id) o → Looked fires seen v n → WhyNoRoom seen 1 n e → add_refusal a (state_at clock adds o fates v t) ≡ Some e
-room_refused clock adds start interval a o fates v n t e starts goes some opened l why = no_room clock adds start interval a o fates v n t e starts goes some opened (asked_room v n l) why
-
 -- ---- ready for the next step
 
 few_more : (step adds : ℕ) (c : Cyclic) → IsFew step adds c → IsFew (step + 1) (adds + 1) c

@@ -109,8 +109,6 @@ pub fn add_cyclic(machine: &mut Machine, step: u32, added: &Add) -> Result<(), R
 {
     let when = when_of(added)?;
     let id = next_id(machine.adds);
-    // Only this tells that no removal was open where the size grows.
-    machine.cpu.room(1)?;
     machine.cpu.law();
     machine.cpu.add(id, added.level, when, machine.clock)?;
     machine.cpu.law();

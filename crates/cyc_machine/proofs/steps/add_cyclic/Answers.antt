@@ -1,35 +1,22 @@
 use Rattle.std.proofs.Common.{Some, ap, ◌≡◌, ◌∙◌, refl, subst, sym, arith}
 use Rattle.cyc_script.specs.declared.step.Step.TheVariants as step_kind
 use Rattle.cyc_machine.specs.Machine.{state_of}
-use Rattle.cyc_machine.specs.Text.{add_refusal, addition, GetsFree}
+use Rattle.cyc_machine.specs.Text.{add_refusal}
 use Rattle.std.proofs.lemmas.Result.{err_from_is_err_and}
 use Rattle.cyc_types.specs.Series.{first}
 use Rattle.cyc_machine.proofs.Serving.{state_at}
-use Rattle.cyc_machine.proofs.Adding.{Adds, asked_room, room_refused, added_machine, add_accepted, add_refused, refused_state, added_serves, serves_still}
+use Rattle.cyc_machine.proofs.Adding.{Adds, added_machine, add_accepted, add_refused, refused_state, added_serves, serves_still}
 use Rattle.cyc_machine.proofs.steps.add_cyclic.Goals as goal
-
-pub returns-in_err-room-clause-answer : goal.returns-in_err-room-clause-answer
-returns-in_err-room-clause-answer c =
-    let m = c.args.machine.now in let s = c.requires.stands in let w = c.in_ok-when.ensures.ok in
-    let p = err_from_is_err_and c.from_residual-in_err-room.result c.from_residual-in_err-room.ensures.1 in
-    rw p.1 (
-      room_refused m.clock m.adds c.in_ok-when.when.start c.in_ok-when.when.interval c.args.added.now m.removal m.fates.items m.cpu c.room.new.self m.tally c.in_err-room.field-0.0 w.0 w.1 w.2 s.cpu.open_removal
-          c.room.ensures.looked c.in_err-room.ensures.refused ∙ ap Some (sym p.2),
-      refused_state m.clock m.adds m.removal m.fates.items m.cpu c.room.new.self m.tally (asked_room m.cpu c.room.new.self c.room.ensures.looked),
-    )
 
 pub returns-in_err-add-clause-answer : goal.returns-in_err-add-clause-answer
 returns-in_err-add-clause-answer c =
     let m = c.args.machine.now in let s = c.requires.stands in let w = c.in_ok-when.ensures.ok in let clock = s.clock in
     let p = err_from_is_err_and c.from_residual-in_err-add.result c.from_residual-in_err-add.ensures.1 in
-    let asked = asked_room m.cpu c.room.new.self c.room.ensures.looked in
-    let same : state_at m.clock m.adds m.removal m.fates.items c.room.new.self m.tally ≡ state_of m = refused_state m.clock m.adds m.removal m.fates.items m.cpu c.room.new.self m.tally asked in
     let reserves = c.in_err-add.ensures.err.0 in
     rw p.1 (
-      ap (add_refusal c.args.added.now) (sym same)
-          ∙ (add_refused c.args.step m.clock m.adds c.in_ok-when.when.start c.in_ok-when.when.interval c.args.added.now m.removal m.fates.items c.room.new.self c.add.new.self m.tally c.in_err-add.field-0.0 w.0 w.1 w.2
-          (serves_still c.args.step m.adds m.removal m.cpu c.room.new.self asked s.cpu) c.law.ensures.size reserves (c.in_err-add.ensures.refused (λ e. absurd (omega (arith, clock, e)))) ∙ ap Some (sym p.2)),
-      refused_state m.clock m.adds m.removal m.fates.items c.room.new.self c.add.new.self m.tally reserves ∙ same,
+      add_refused c.args.step m.clock m.adds c.in_ok-when.when.start c.in_ok-when.when.interval c.args.added.now m.removal m.fates.items m.cpu c.add.new.self m.tally c.in_err-add.field-0.0 w.0 w.1 w.2
+          s.cpu c.law.ensures.size reserves (c.in_err-add.ensures.refused (λ e. absurd (omega (arith, clock, e)))) ∙ ap Some (sym p.2),
+      refused_state m.clock m.adds m.removal m.fates.items m.cpu c.add.new.self m.tally reserves,
     )
 
 pub returns-clause-answer : goal.returns-clause-answer
@@ -38,16 +25,15 @@ returns-clause-answer c =
     let a = c.args.added.now in
     let ok = c.in_ok-add.ensures.ok in
     let start = c.in_ok-when.when.start in let interval = c.in_ok-when.when.interval in
-    let asked = asked_room m.cpu c.room.new.self c.room.ensures.looked in
-    let same : state_at m.clock m.adds m.removal m.fates.items c.room.new.self m.tally ≡ state_of m = refused_state m.clock m.adds m.removal m.fates.items m.cpu c.room.new.self m.tally asked in
-    let serves = serves_still c.args.step m.adds m.removal m.cpu c.room.new.self asked s.cpu in
-    let made : Adds c.next_id-id.result a.level interval (first start interval m.clock) c.room.new.self c.add.new.self = (ok.1, ok.2, ok.3, ok.4, ok.5) in
-    let (index, free, state) = added_machine c.args.step m.clock m.adds c.next_id-id.result c.number.result start interval a m.removal m.fates.items c.set_fate.new.fates.items c.room.new.self c.add.new.self m.tally
-    c.next_id-id.ensures w.0 w.1 made c.law-2.ensures.rising serves c.set_fate.ensures c.number.ensures.value in (
-      ap (add_refusal a) (sym same) ∙ add_accepted m.clock m.adds start interval a m.removal m.fates.items c.room.new.self m.tally w.0 w.1 w.2 serves.open_removal c.in_ok-room.ensures.ok,
+    let (u, asked, room) = c.in_ok-add.ensures.room in
+    let same : state_at m.clock m.adds m.removal m.fates.items u m.tally ≡ state_of m = refused_state m.clock m.adds m.removal m.fates.items m.cpu u m.tally asked in
+    let made : Adds c.next_id-id.result a.level interval (first start interval m.clock) m.cpu c.add.new.self = (ok.1, ok.2, ok.3, ok.4, ok.5) in
+    let (index, free, state) = added_machine c.args.step m.clock m.adds c.next_id-id.result c.number.result start interval a m.removal m.fates.items c.set_fate.new.fates.items m.cpu c.add.new.self m.tally
+    c.next_id-id.ensures w.0 w.1 made c.law-2.ensures.rising s.cpu c.set_fate.ensures c.number.ensures.value in (
+      ap (add_refusal a) (sym same) ∙ add_accepted m.clock m.adds start interval a m.removal m.fates.items u m.tally w.0 w.1 w.2 (serves_still c.args.step m.adds m.removal m.cpu u asked s.cpu).open_removal room,
       index,
-      subst (λ x. GetsFree index (step_kind.Add a) x) same free,
-      state ∙ ap (λ x. (addition index c.args.step a x).state) same,
+      free,
+      state,
     )
 
 pub returns-clause-stands : goal.returns-clause-stands
@@ -55,13 +41,12 @@ returns-clause-stands c =
     let m = c.args.machine.now in let s = c.requires.stands in let w = c.in_ok-when.ensures.ok in let adds = s.adds in
     let ok = c.in_ok-add.ensures.ok in
     let start = c.in_ok-when.when.start in let interval = c.in_ok-when.when.interval in
-    let serves = serves_still c.args.step m.adds m.removal m.cpu c.room.new.self (asked_room m.cpu c.room.new.self c.room.ensures.looked) s.cpu in
-    let made : Adds c.next_id-id.result c.args.added.now.level interval (first start interval m.clock) c.room.new.self c.add.new.self = (ok.1, ok.2, ok.3, ok.4, ok.5) in
-    let one = subst (λ i. Adds i c.args.added.now.level interval (first start interval m.clock) c.room.new.self c.add.new.self) c.next_id-id.ensures made in
+    let made : Adds c.next_id-id.result c.args.added.now.level interval (first start interval m.clock) m.cpu c.add.new.self = (ok.1, ok.2, ok.3, ok.4, ok.5) in
+    let one = subst (λ i. Adds i c.args.added.now.level interval (first start interval m.clock) m.cpu c.add.new.self) c.next_id-id.ensures made in
     record {
       clock = s.clock;
       adds = omega (arith, adds);
-      cpu = added_serves c.args.step m.clock m.adds start interval c.args.added.now m.removal c.room.new.self c.add.new.self w.2 one c.law-2.ensures.rising serves;
+      cpu = added_serves c.args.step m.clock m.adds start interval c.args.added.now m.removal m.cpu c.add.new.self w.2 one c.law-2.ensures.rising s.cpu;
       tally = record { first = s.tally.first; len = s.tally.len; most = s.tally.most; few = λ q. let f = s.tally.few q in omega (arith, f) };
     }
 

@@ -11,3 +11,6 @@ returns-clause-ok g c = (
   c.widen.ensures,
   subst (λ m. Enters g.R.Raise.step g.R.Raise.view c.args.id c.args.level c.args.when.interval m c.widen.new.self c.enter.new.self) c.first.ensures.value c.enter.ensures,
 )
+
+pub returns-clause-room : goal.returns-clause-room
+returns-clause-room g c = (c.reserve.new.self, c.reserve.ensures.reserves, c.in_ok-reserve.ensures.ok.room)
