@@ -274,7 +274,6 @@ refused_state clock adds o fates v n t r =
     let low = only_looked v.low n.low r.low in
     λ z. record (state_at clock adds o fates v t) { cyclics = r.cyclics z; size = r.size z; lock = lock z; low = low z }
 
--- the question whether there is room takes nothing
 -- ---- ready for the next step
 
 few_more : (step adds : ℕ) (c : Cyclic) → IsFew step adds c → IsFew (step + 1) (adds + 1) c
