@@ -1,6 +1,6 @@
 -- The size that a CPU needs for so many cyclics has as many places.
-use Rattle.std.proofs.Common.{◌≡◌, ℕ, zero, suc, ◌+◌, ◌^◌, ◌<◌, ◌≤◌, Bool, true, false, cond, refl, arith, subst, length, nat_le}
-use Rattle.std.proofs.lemmas.Bool.{leb-true, leb-false}
+use Rattle.std.proofs.Common.{◌≡◌, ℕ, zero, suc, ◌+◌, ◌^◌, ◌<◌, ◌≤◌, Bool, true, false, cond, refl, arith, subst, nat_le}
+use Rattle.std.proofs.lemmas.Bool.{leb-true}
 use Rattle.cyc_types.specs.Limits.{cyclics, greatest_bank}
 use Rattle.cyc_cpu.specs.Cpu.{least_bank, bank_for, size_for}
 

@@ -1,5 +1,4 @@
-use crate::handlers::Handlers;
-use crate::steps::{Answer, Step, alone, cpu, id, play};
+use crate::steps::{Answer, Bounds, FREE, Step, alone, id};
 use cyc_types::{Level, Refusal};
 use std::test::Fail;
 
@@ -8,18 +7,15 @@ const LAST: i64 = 9223372036854775806;
 
 #[test]
 fn a_start_of_zero_is_the_next_multiple_of_the_interval(rt: HostRuntime) -> Result<(), Fail> {
-    let mut cpu = cpu(rt.alloc(), u64::MAX, 1)?;
-    let mut calls = Handlers::new(rt.alloc(), 0)?;
     let steps = [
         (Step::Add(1, Level::High, 0, 10, 0), Answer::Done),
         (Step::Fire(35), Answer::Fired(3, 0, 40)),
         (Step::Totals(1), Answer::Totals(3, 0, 0)),
         (Step::Pending(1), Answer::Pending(0)),
         (Step::Len, Answer::Len(1)),
+        (Step::Called(1), Answer::Called(3)),
     ];
-    play(&rt, &mut cpu, &mut calls, &steps)?;
-    assert_eq!(rt; calls.count(id(1)?), Some(3));
-    Ok(())
+    alone(&rt, rt.alloc(), Bounds { ceiling: 1, ..FREE }, &steps)
 }
 
 #[test]
@@ -32,7 +28,7 @@ fn a_series_more_than_one_second_late_skips(rt: HostRuntime) -> Result<(), Fail>
         (Step::Fire(1200000000), Answer::Fired(12, 0, 1300000000)),
         (Step::Totals(1), Answer::Totals(12, 0, 0)),
     ];
-    alone(&rt, rt.alloc(), &one_second)?;
+    alone(&rt, rt.alloc(), FREE, &one_second)?;
     let more = [
         (
             Step::Add(1, Level::High, 100000000, 100000000, 0),
@@ -43,7 +39,7 @@ fn a_series_more_than_one_second_late_skips(rt: HostRuntime) -> Result<(), Fail>
         (Step::Fire(1300000000), Answer::Fired(1, 0, 1400000000)),
         (Step::Totals(1), Answer::Totals(2, 0, 0)),
     ];
-    alone(&rt, rt.alloc(), &more)
+    alone(&rt, rt.alloc(), FREE, &more)
 }
 
 #[test]
@@ -61,26 +57,22 @@ fn a_one_shot_expires_once_for_each_moment_it_is_given(rt: HostRuntime) -> Resul
         (Step::Totals(2), Answer::Nothing),
         (Step::Pending(2), Answer::Nothing),
     ];
-    alone(&rt, rt.alloc(), &steps)
+    alone(&rt, rt.alloc(), FREE, &steps)
 }
 
 #[test]
 fn equal_expirations_go_by_the_smaller_id(rt: HostRuntime) -> Result<(), Fail> {
-    let mut cpu = cpu(rt.alloc(), u64::MAX, 1)?;
-    let mut calls = Handlers::new(rt.alloc(), 0)?;
     let steps = [
         (Step::Add(2, Level::High, 10, 10, 0), Answer::Done),
         (Step::Add(1, Level::High, 10, 10, 0), Answer::Done),
         (Step::Fire(20), Answer::Fired(4, 0, 30)),
+        (Step::Call(0), Answer::Call(1, Level::High)),
+        (Step::Call(1), Answer::Call(2, Level::High)),
+        (Step::Call(2), Answer::Call(1, Level::High)),
+        (Step::Call(3), Answer::Call(2, Level::High)),
+        (Step::Call(4), Answer::Nothing),
     ];
-    play(&rt, &mut cpu, &mut calls, &steps)?;
-    let first = Some((1, Level::High));
-    let second = Some((2, Level::High));
-    assert_eq!(rt;
-        calls.noted(),
-        [first, second, first, second, None, None, None, None]
-    );
-    Ok(())
+    alone(&rt, rt.alloc(), Bounds { ceiling: 1, ..FREE }, &steps)
 }
 
 #[test]
@@ -103,13 +95,16 @@ fn a_series_ends_at_never_and_a_fire_at_never_is_refused(rt: HostRuntime) -> Res
             Answer::Refused(Refusal::BadNow),
         ),
     ];
-    alone(&rt, rt.alloc(), &steps)
+    alone(&rt, rt.alloc(), FREE, &steps)
 }
 
 #[test]
 fn no_cyclic_expires_more_often_than_the_most(rt: HostRuntime) -> Result<(), Fail> {
-    let mut cpu = cpu(rt.alloc(), 3, 1)?;
-    let mut calls = Handlers::new(rt.alloc(), 0)?;
+    let bounds = Bounds {
+        most: 3,
+        ceiling: 1,
+        refused: 0,
+    };
     let spent = Refusal::CountSpent(id(1)?);
     let steps = [
         (Step::Add(1, Level::High, 1, 1, 0), Answer::Done),
@@ -120,27 +115,27 @@ fn no_cyclic_expires_more_often_than_the_most(rt: HostRuntime) -> Result<(), Fai
             Answer::FireRefused(Refusal::BadNow, 0, 0),
         ),
         (Step::Totals(1), Answer::Totals(3, 0, 0)),
+        (Step::Called(1), Answer::Called(3)),
     ];
-    play(&rt, &mut cpu, &mut calls, &steps)?;
-    assert_eq!(rt; calls.count(id(1)?), Some(3));
-    Ok(())
+    alone(&rt, rt.alloc(), bounds, &steps)
 }
 
 #[test]
 fn a_refused_handler_ends_a_fire_and_is_called_by_the_next(rt: HostRuntime) -> Result<(), Fail> {
-    let mut cpu = cpu(rt.alloc(), u64::MAX, 1)?;
-    let mut calls = Handlers::new(rt.alloc(), 2)?;
+    let bounds = Bounds {
+        most: u64::MAX,
+        ceiling: 1,
+        refused: 2,
+    };
     let refused = Refusal::HandlerRefused(id(1)?);
     let steps = [
         (Step::Add(1, Level::High, 1, 1, 0), Answer::Done),
         (Step::Fire(3), Answer::FireRefused(refused, 1, 0)),
         (Step::Fire(3), Answer::Fired(2, 0, 4)),
+        (Step::Call(0), Answer::Call(1, Level::High)),
+        (Step::Call(1), Answer::Call(1, Level::High)),
+        (Step::Call(2), Answer::Call(1, Level::High)),
+        (Step::Call(3), Answer::Nothing),
     ];
-    play(&rt, &mut cpu, &mut calls, &steps)?;
-    let call = Some((1, Level::High));
-    assert_eq!(rt;
-        calls.noted(),
-        [call, call, call, None, None, None, None, None]
-    );
-    Ok(())
+    alone(&rt, rt.alloc(), bounds, &steps)
 }

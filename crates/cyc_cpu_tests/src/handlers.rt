@@ -6,11 +6,11 @@ use cyc_types::{Calls, CyclicId, Level, Refused, Tally};
 use std::alloc::{AllocError, Global};
 
 /// How many of the calls are noted.
-pub const NOTED: usize = 8;
+const NOTED: usize = 8;
 
 /// Handlers of the ids 1 to 256. They count the calls of each, note the first ones, and refuse one call of all.
 #[derive(Drop)]
-pub struct Handlers {
+pub(crate) struct Handlers {
     tally: Tally,
     noted: [Option<(u64, Level)>; NOTED],
     made: usize,
@@ -20,7 +20,7 @@ pub struct Handlers {
 
 impl Handlers {
     /// The handlers that refuse this call, counted from 1; with 0 they refuse none.
-    pub fn new(alloc: Global, refused: u32) -> Result<Handlers, AllocError> {
+    pub(crate) fn new(alloc: Global, refused: u32) -> Result<Handlers, AllocError> {
         let first = CyclicId::new(1).unwrap();
         Ok(Handlers {
             tally: Tally::new(alloc, first, 256, u64::MAX)?,
@@ -31,13 +31,13 @@ impl Handlers {
         })
     }
 
-    /// The id and the level of each call that was made, in order, up to the first so many.
-    pub fn noted(&self) -> [Option<(u64, Level)>; NOTED] {
-        self.noted
+    /// The id and the level of the call of this number, counted from 0. None where it was not made or is not noted.
+    pub(crate) fn noted(&self, number: usize) -> Option<(u64, Level)> {
+        *self.noted.get(number)?
     }
 
     /// How often the handler of this id was called.
-    pub fn count(&self, id: CyclicId) -> Option<u64> {
+    pub(crate) fn count(&self, id: CyclicId) -> Option<u64> {
         self.tally.count(id)
     }
 }

@@ -1,5 +1,4 @@
-use crate::handlers::Handlers;
-use crate::steps::{Answer, Step, alone, cpu, id, play};
+use crate::steps::{Answer, Bounds, FREE, Step, alone, id};
 use cyc_types::{Level, Refusal, Soft};
 use std::test::Fail;
 
@@ -7,8 +6,6 @@ const NO_CYCLIC: Answer = Answer::Refused(Refusal::NoCyclic);
 
 #[test]
 fn kept_calls_are_made_before_the_removal_answers(rt: HostRuntime) -> Result<(), Fail> {
-    let mut cpu = cpu(rt.alloc(), u64::MAX, u32::MAX)?;
-    let mut calls = Handlers::new(rt.alloc(), 0)?;
     let busy = Refusal::Busy(id(1)?);
     let steps = [
         (Step::Add(1, Level::Low, 1, 1, 0), Answer::Done),
@@ -29,10 +26,9 @@ fn kept_calls_are_made_before_the_removal_answers(rt: HostRuntime) -> Result<(),
         (Step::BeginRemove(1), NO_CYCLIC),
         (Step::PollRemove, Answer::Nothing),
         (Step::Len, Answer::Len(0)),
+        (Step::Called(1), Answer::Called(3)),
     ];
-    play(&rt, &mut cpu, &mut calls, &steps)?;
-    assert_eq!(rt; calls.count(id(1)?), Some(3));
-    Ok(())
+    alone(&rt, rt.alloc(), FREE, &steps)
 }
 
 #[test]
@@ -45,7 +41,7 @@ fn a_cyclic_with_no_call_outstanding_is_gone_at_once(rt: HostRuntime) -> Result<
         (Step::PollRemove, Answer::Nothing),
         (Step::Fire(100), Answer::Fired(0, 0, i64::MAX as u64)),
     ];
-    alone(&rt, rt.alloc(), &high)?;
+    alone(&rt, rt.alloc(), FREE, &high)?;
     let never_expired = [
         (Step::Add(1, Level::Lock, 10, 10, 0), Answer::Done),
         (Step::Fire(9), Answer::Fired(0, 0, 10)),
@@ -55,7 +51,7 @@ fn a_cyclic_with_no_call_outstanding_is_gone_at_once(rt: HostRuntime) -> Result<
         (Step::Fire(20), Answer::Fired(1, 0, 30)),
         (Step::Totals(1), Answer::Totals(1, 0, 1)),
     ];
-    alone(&rt, rt.alloc(), &never_expired)
+    alone(&rt, rt.alloc(), FREE, &never_expired)
 }
 
 #[test]
@@ -70,7 +66,7 @@ fn a_cyclic_in_the_hand_of_the_soft_interrupt_is_removed(rt: HostRuntime) -> Res
         (Step::PollRemove, Answer::Receipt(1, 2, 0, 2)),
         (Step::Softint(Soft::Low, 1), Answer::Ran(0, true)),
     ];
-    alone(&rt, rt.alloc(), &steps)
+    alone(&rt, rt.alloc(), FREE, &steps)
 }
 
 #[test]
@@ -94,23 +90,18 @@ fn a_cyclic_of_the_old_bank_is_removed_while_a_resize_is_open(rt: HostRuntime) -
         (Step::Widen(2), Answer::Done),
         (Step::Totals(2), Answer::Totals(1, 0, 0)),
     ];
-    alone(&rt, rt.alloc(), &steps)
+    alone(&rt, rt.alloc(), FREE, &steps)
 }
 
 #[test]
 fn the_other_cyclics_go_on_while_a_removal_is_open(rt: HostRuntime) -> Result<(), Fail> {
-    let mut cpu = cpu(rt.alloc(), u64::MAX, u32::MAX)?;
-    let mut calls = Handlers::new(rt.alloc(), 0)?;
-    let begun = [
+    let steps = [
         (Step::Add(1, Level::Low, 1, 1, 0), Answer::Done),
         (Step::Add(2, Level::Low, 1, 1, 0), Answer::Done),
         (Step::Fire(2), Answer::Fired(4, 0, 3)),
         (Step::BeginRemove(1), Answer::Kept(2)),
         (Step::Fire(4), Answer::Fired(2, 0, 5)),
         (Step::PollRemove, Answer::Nothing),
-    ];
-    play(&rt, &mut cpu, &mut calls, &begun)?;
-    let drained = [
         (Step::Softint(Soft::Low, 1), Answer::Ran(1, false)),
         (Step::PollRemove, Answer::Nothing),
         (Step::Softint(Soft::Low, 1), Answer::Ran(1, false)),
@@ -121,17 +112,14 @@ fn the_other_cyclics_go_on_while_a_removal_is_open(rt: HostRuntime) -> Result<()
         (Step::Softint(Soft::Low, 1), Answer::Ran(1, false)),
         (Step::Softint(Soft::Low, 1), Answer::Ran(0, true)),
         (Step::Totals(2), Answer::Totals(4, 0, 0)),
+        (Step::Called(1), Answer::Called(2)),
+        (Step::Called(2), Answer::Called(4)),
     ];
-    play(&rt, &mut cpu, &mut calls, &drained)?;
-    assert_eq!(rt; calls.count(id(1)?), Some(2));
-    assert_eq!(rt; calls.count(id(2)?), Some(4));
-    Ok(())
+    alone(&rt, rt.alloc(), FREE, &steps)
 }
 
 #[test]
 fn a_receipt_has_the_losses(rt: HostRuntime) -> Result<(), Fail> {
-    let mut cpu = cpu(rt.alloc(), u64::MAX, 2)?;
-    let mut calls = Handlers::new(rt.alloc(), 0)?;
     let steps = [
         (Step::Add(1, Level::Lock, 1, 1, 0), Answer::Done),
         (Step::Fire(5), Answer::Fired(5, 3, 6)),
@@ -139,5 +127,5 @@ fn a_receipt_has_the_losses(rt: HostRuntime) -> Result<(), Fail> {
         (Step::Softint(Soft::Lock, 8), Answer::Ran(2, true)),
         (Step::PollRemove, Answer::Receipt(1, 5, 3, 2)),
     ];
-    play(&rt, &mut cpu, &mut calls, &steps)
+    alone(&rt, rt.alloc(), Bounds { ceiling: 2, ..FREE }, &steps)
 }

@@ -1,6 +1,9 @@
 use crate::handlers::Handlers;
-use crate::steps::{Answer, Step, alone, cpu, play};
+use crate::steps::{Answer, FREE, Step, alone, cpu, play};
+use cyc_core::LevelCore;
+use cyc_cpu::Hard;
 use cyc_types::{Level, Refusal, Soft};
+use std::process::Abort;
 use std::test::Fail;
 
 const FULL: Answer = Answer::Refused(Refusal::Full);
@@ -18,7 +21,7 @@ fn a_third_cyclic_needs_both_levels_to_have_followed(rt: HostRuntime) -> Result<
         (Step::Room(0), Answer::Done),
         (Step::Len, Answer::Len(2)),
     ];
-    alone(&rt, rt.alloc(), &two)?;
+    alone(&rt, rt.alloc(), FREE, &two)?;
     let five = [
         (Step::Add(1, Level::Low, 1, 10, 0), Answer::Done),
         (Step::Add(2, Level::Low, 2, 10, 0), Answer::Done),
@@ -29,7 +32,7 @@ fn a_third_cyclic_needs_both_levels_to_have_followed(rt: HostRuntime) -> Result<
         (Step::Add(3, Level::Low, 3, 10, 0), Answer::Done),
         (Step::Totals(3), Answer::Totals(0, 0, 0)),
     ];
-    alone(&rt, rt.alloc(), &five)
+    alone(&rt, rt.alloc(), FREE, &five)
 }
 
 #[test]
@@ -50,13 +53,11 @@ fn a_refusal_of_more_than_fit_comes_before_one_of_an_expansion(
         (Step::Widen(256), Answer::Done),
         (Step::Room(256), Answer::Done),
     ];
-    alone(&rt, rt.alloc(), &steps)
+    alone(&rt, rt.alloc(), FREE, &steps)
 }
 
-#[test]
-fn a_cpu_holds_256_cyclics(rt: HostRuntime) -> Result<(), Fail> {
-    let mut cpu = cpu(rt.alloc(), u64::MAX, u32::MAX)?;
-    let mut calls = Handlers::new(rt.alloc(), 0)?;
+/// Adds 256 cyclics, and lets both soft levels follow after each.
+fn fill(rt: &impl Abort, cpu: &mut Hard<LevelCore>, calls: &mut Handlers) -> Result<(), Fail> {
     for number in 1..257u64 {
         let level = match number % 3 {
             0 => Level::Low,
@@ -68,8 +69,16 @@ fn a_cpu_holds_256_cyclics(rt: HostRuntime) -> Result<(), Fail> {
             (Step::Softint(Soft::Low, 1), Answer::Ran(0, true)),
             (Step::Softint(Soft::Lock, 1), Answer::Ran(0, true)),
         ];
-        play(&rt, &mut cpu, &mut calls, &steps)?;
+        play(rt, cpu, calls, &steps)?;
     }
+    Ok(())
+}
+
+#[test]
+fn a_cpu_holds_256_cyclics(rt: HostRuntime) -> Result<(), Fail> {
+    let mut cpu = cpu(rt.alloc(), u64::MAX, u32::MAX)?;
+    let mut calls = Handlers::new(rt.alloc(), 0)?;
+    fill(&rt, &mut cpu, &mut calls)?;
     let steps = [
         (Step::Len, Answer::Len(256)),
         (Step::Add(257, Level::Low, 1, 10, 0), FULL),

@@ -1,5 +1,4 @@
-use crate::handlers::Handlers;
-use crate::steps::{Answer, Step, cpu, id, play};
+use crate::steps::{Answer, Bounds, FREE, Step, alone};
 use cyc_types::{Level, Soft};
 use std::test::Fail;
 
@@ -7,8 +6,6 @@ use std::test::Fail;
 fn a_refused_handler_ends_a_soft_interrupt_and_is_called_by_the_next(
     rt: HostRuntime,
 ) -> Result<(), Fail> {
-    let mut cpu = cpu(rt.alloc(), u64::MAX, u32::MAX)?;
-    let mut calls = Handlers::new(rt.alloc(), 2)?;
     let steps = [
         (Step::Add(1, Level::Low, 1, 1, 0), Answer::Done),
         (Step::Fire(2), Answer::Fired(2, 0, 3)),
@@ -16,36 +13,28 @@ fn a_refused_handler_ends_a_soft_interrupt_and_is_called_by_the_next(
         (Step::Pending(1), Answer::Pending(1)),
         (Step::Softint(Soft::Low, 8), Answer::Ran(1, true)),
         (Step::Totals(1), Answer::Totals(2, 0, 0)),
+        (Step::Call(0), Answer::Call(1, Level::Low)),
+        (Step::Call(1), Answer::Call(1, Level::Low)),
+        (Step::Call(2), Answer::Nothing),
     ];
-    play(&rt, &mut cpu, &mut calls, &steps)?;
-    let call = Some((1, Level::Low));
-    assert_eq!(rt;
-        calls.noted(),
-        [call, call, None, None, None, None, None, None]
-    );
-    Ok(())
+    alone(&rt, rt.alloc(), Bounds { refused: 2, ..FREE }, &steps)
 }
 
 #[test]
 fn expirations_above_the_ceiling_are_lost(rt: HostRuntime) -> Result<(), Fail> {
-    let mut cpu = cpu(rt.alloc(), u64::MAX, 2)?;
-    let mut calls = Handlers::new(rt.alloc(), 0)?;
     let steps = [
         (Step::Add(1, Level::Low, 1, 1, 0), Answer::Done),
         (Step::Fire(5), Answer::Fired(5, 3, 6)),
         (Step::Totals(1), Answer::Totals(5, 3, 2)),
         (Step::Softint(Soft::Low, 8), Answer::Ran(2, true)),
         (Step::Totals(1), Answer::Totals(5, 3, 0)),
+        (Step::Called(1), Answer::Called(2)),
     ];
-    play(&rt, &mut cpu, &mut calls, &steps)?;
-    assert_eq!(rt; calls.count(id(1)?), Some(2));
-    Ok(())
+    alone(&rt, rt.alloc(), Bounds { ceiling: 2, ..FREE }, &steps)
 }
 
 #[test]
 fn the_old_bank_is_drained_first(rt: HostRuntime) -> Result<(), Fail> {
-    let mut cpu = cpu(rt.alloc(), u64::MAX, u32::MAX)?;
-    let mut calls = Handlers::new(rt.alloc(), 0)?;
     let steps = [
         (Step::Add(1, Level::Low, 1, 10, 0), Answer::Done),
         (Step::Fire(1), Answer::Fired(1, 0, 11)),
@@ -54,9 +43,8 @@ fn the_old_bank_is_drained_first(rt: HostRuntime) -> Result<(), Fail> {
         (Step::Softint(Soft::Low, 1), Answer::Ran(1, false)),
         (Step::Totals(1), Answer::Totals(1, 0, 0)),
         (Step::Totals(2), Answer::Totals(1, 0, 1)),
+        (Step::Called(1), Answer::Called(1)),
+        (Step::Called(2), Answer::Called(0)),
     ];
-    play(&rt, &mut cpu, &mut calls, &steps)?;
-    assert_eq!(rt; calls.count(id(1)?), Some(1));
-    assert_eq!(rt; calls.count(id(2)?), Some(0));
-    Ok(())
+    alone(&rt, rt.alloc(), FREE, &steps)
 }

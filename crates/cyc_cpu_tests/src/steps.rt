@@ -13,8 +13,8 @@ use std::process::Abort;
 use std::test::Fail;
 
 /// A call of a CPU.
-#[derive(Clone, Copy, Debug)]
-pub enum Step {
+#[derive(Clone, Copy)]
+pub(crate) enum Step {
     /// Adds the id at the level, with this start and interval, at this moment.
     Add(u64, Level, i64, i64, i64),
     /// Fires at this moment.
@@ -43,11 +43,15 @@ pub enum Step {
     Pending(u64),
     /// How many cyclics there are.
     Len,
+    /// How often the handler of the id was called.
+    Called(u64),
+    /// The handler call of this number, counted from 0.
+    Call(usize),
 }
 
 /// What a call answers.
 #[derive(Clone, Copy, Debug, PartialEq, Eq)]
-pub enum Answer {
+pub(crate) enum Answer {
     Done,
     Refused(Refusal),
     /// Expirations, losses, and the next expiration.
@@ -71,12 +75,35 @@ pub enum Answer {
     /// Level, interval, next expiration, expirations and losses.
     Taken(Level, u64, u64, u64, u64),
     Settled(bool),
+    Called(u64),
+    /// The id and the level.
+    Call(u64, Level),
 }
 
+/// What bounds a CPU of a test.
+#[derive(Clone, Copy)]
+pub(crate) struct Bounds {
+    /// How often each cyclic may expire.
+    pub(crate) most: u64,
+    /// The ceiling of both soft levels.
+    pub(crate) ceiling: u32,
+    /// The handler call that is refused, counted from 1; with 0 none is.
+    pub(crate) refused: u32,
+}
+
+/// No bounds but those of a count.
+pub(crate) const FREE: Bounds = Bounds {
+    most: u64::MAX,
+    ceiling: u32::MAX,
+    refused: 0,
+};
+
 /// An id.
-pub fn id(number: u64) -> Result<CyclicId, Fail> {
-    let id = CyclicId::new(number).ok_or("an id")?;
-    Ok(id)
+pub(crate) fn id(number: u64) -> Result<CyclicId, Fail> {
+    match CyclicId::new(number) {
+        Some(id) => Ok(id),
+        None => Err(Fail::from("an id")),
+    }
 }
 
 /// A new level with this ceiling.
@@ -91,7 +118,7 @@ fn level(alloc: Global, ceiling: u32) -> Result<LevelCore, Fail>
 }
 
 /// A CPU over two new levels of this ceiling, whose cyclics expire at most so often.
-pub fn cpu(alloc: Global, most: u64, ceiling: u32) -> Result<Hard<LevelCore>, Fail>
+pub(crate) fn cpu(alloc: Global, most: u64, ceiling: u32) -> Result<Hard<LevelCore>, Fail>
     ensures { IfOk result (λ cpu. cpu.most ≡ most) }
 {
     let lock = level(alloc, ceiling)?;
@@ -200,6 +227,21 @@ fn widen(cpu: &mut Hard<LevelCore>, more: usize) -> Answer {
     }
 }
 
+/// What the handlers counted and noted.
+fn noted(calls: &Handlers, step: Step) -> Result<Answer, Fail> {
+    match step {
+        Step::Called(number) => match calls.count(id(number)?) {
+            Some(times) => Ok(Answer::Called(times)),
+            None => Ok(Answer::Nothing),
+        },
+        Step::Call(number) => match calls.noted(number) {
+            Some((id, level)) => Ok(Answer::Call(id, level)),
+            None => Ok(Answer::Nothing),
+        },
+        _ => Err(Fail::from("a question to the handlers")),
+    }
+}
+
 /// Makes a call about the whole CPU.
 fn make_whole(cpu: &mut Hard<LevelCore>, step: Step) -> Answer {
     match step {
@@ -250,12 +292,13 @@ fn make(cpu: &mut Hard<LevelCore>, calls: &mut Handlers, step: Step) -> Result<A
         Step::Reprogram(number, moment) => {
             Ok(done(cpu.reprogram(id(number)?, Moment::new(moment)?)))
         }
+        Step::Called(_) | Step::Call(_) => noted(calls, step),
         _ => make_plain(cpu, step),
     }
 }
 
 /// Makes each call, which must give its answer.
-pub fn play(
+pub(crate) fn play(
     rt: &impl Abort,
     cpu: &mut Hard<LevelCore>,
     calls: &mut Handlers,
@@ -268,9 +311,14 @@ pub fn play(
     Ok(())
 }
 
-/// Makes the calls on a CPU of its own whose ceiling and count have no end, with handlers that refuse nothing.
-pub fn alone(rt: &impl Abort, alloc: Global, steps: &[(Step, Answer)]) -> Result<(), Fail> {
-    let mut cpu = cpu(alloc, u64::MAX, u32::MAX)?;
-    let mut calls = Handlers::new(alloc, 0)?;
+/// Makes the calls on a new CPU within these bounds, with new handlers.
+pub(crate) fn alone(
+    rt: &impl Abort,
+    alloc: Global,
+    bounds: Bounds,
+    steps: &[(Step, Answer)],
+) -> Result<(), Fail> {
+    let mut cpu = cpu(alloc, bounds.most, bounds.ceiling)?;
+    let mut calls = Handlers::new(alloc, bounds.refused)?;
     play(rt, &mut cpu, &mut calls, steps)
 }
