@@ -21,7 +21,7 @@ pub record IsAbsent (id : ℕ) (l : Level) : Type 0 where
   pub not_admitted : l.cyclics id ≡ None
   pub nowhere : place_count l id ≡ 0
 
--- no cyclic of the CPU has the id, and neither of its levels
+-- no cyclic of the CPU has the id, and it is at neither of its levels
 pub record IsGone (id : ℕ) (v : CpuView Tables) : Type 0 where
   pub no_cyclic : HasNoCyclic id v.cyclics
   pub lock : IsAbsent id (level_of v.lock)
@@ -31,8 +31,8 @@ pub record IsGone (id : ℕ) (v : CpuView Tables) : Type 0 where
 abbrev pub HasAnswered : ℕ → CpuView Tables → CpuView Tables → Type 0
 HasAnswered id v w = (receipt : Receipt) × (Begins fires firing_at id v (Done receipt) w ⊎ ((receipt.id ≡ id) × Ends fires firing_at receipt v w))
 
--- The calls on a CPU: `totals` does what `pending` does, `room` what `reserve` may, `take_now` of a cyclic with calls
--- outstanding what `pending` does, and `add` is a reserve, a widening and a placing.
+-- The calls on a CPU, but for those that change nothing. `totals` does what `pending` does, and so does `take_now` where it
+-- finds calls outstanding; `room` does what `reserve` may; `add` is a reserve, a widening and a placing.
 pub data CpuCall : Type 0 where
   Fire : ℕ → CpuCall
   SoftInterrupt : Soft → CpuCall
