@@ -1,6 +1,4 @@
-use Rattle.std.proofs.Common.{◌≡◌, ◌++◌, map, ap, sym, ◌∙◌, string_bytes}
-use Rattle.cyc_machine.specs.Machine.{state_of}
-use Rattle.cyc_machine.specs.Text.{interrupt, poll}
+use Rattle.std.proofs.Common.{map, string_bytes}
 use Rattle.cyc_machine.proofs.Removing.{served_and_polled}
 use Rattle.cyc_machine.proofs.lines.write_softint.Goals as goal
 

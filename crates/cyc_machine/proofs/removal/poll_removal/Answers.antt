@@ -1,4 +1,4 @@
-use Rattle.std.proofs.Common.{◌≡◌, ℕ, ◌+◌, List, ap, sym, ◌∙◌}
+use Rattle.std.proofs.Common.{ℕ, ◌+◌, List, ap, sym, ◌∙◌}
 use Rattle.cyc_text.specs.Lines.{removed}
 use Rattle.cyc_machine.specs.Text.{text_in}
 use Rattle.cyc_machine.proofs.Removing.{answered, not_answered, left_stands, state_is, open_id}

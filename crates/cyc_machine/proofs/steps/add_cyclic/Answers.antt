@@ -1,5 +1,4 @@
 use Rattle.std.proofs.Common.{Some, ap, ◌≡◌, ◌∙◌, refl, subst, sym, arith}
-use Rattle.cyc_script.specs.declared.step.Step.TheVariants as step_kind
 use Rattle.cyc_machine.specs.Machine.{state_of}
 use Rattle.cyc_machine.specs.Text.{add_refusal}
 use Rattle.std.proofs.lemmas.Result.{err_from_is_err_and}
