@@ -78,7 +78,6 @@ fn append_poll(
     line: &mut String,
     step: u32,
 ) -> Result<(), AllocError>
-    requires few { step ≤ 65536 }
     requires stands { Stands (step + 1) machine.old }
     ensures line { OnOk result (string_bytes line.new ≡ string_bytes line.old ++ (poll (map string_bytes names.now) step (state_of machine.old)).line) }
     ensures state { state_of machine.new ≡ (poll (map string_bytes names.now) step (state_of machine.old)).state }
@@ -127,7 +126,6 @@ fn write_remove(
     step: u32,
     name: usize,
 ) -> Result<(), AllocError>
-    requires few { step ≤ 65536 }
     requires stands { Stands step machine.old }
     ensures takes { OnOk result (Shows (unless (remove_refusal name (state_of machine.old)) step (state_of machine.old)
         (removal (map string_bytes names.now) step name (state_of machine.old))) (string_bytes line.new) machine.new) }

@@ -1,6 +1,6 @@
 //! The removals of a script.
 
-ghost use Rattle.std.specs.Prelude.{◌≡◌, ◌≤◌, ◌+◌, Some, None, [], ℕ, List, slice_set, MatchResult, IfSome, IfNone};
+ghost use Rattle.std.specs.Prelude.{◌≡◌, ◌+◌, Some, None, [], ℕ, List, slice_set, MatchResult, IfSome, IfNone};
 ghost use Rattle.cyc_text.specs.Lines.{removed};
 ghost use Rattle.cyc_machine.specs.Text.{text_in, remove_refusal, removal, poll};
 ghost use Rattle.cyc_machine.specs.declared.machine.Fate.TheVariants as fate_kind;
@@ -41,7 +41,6 @@ fn end_name(machine: &mut Machine, name: usize, receipt: &Receipt)
 /// Begins the removal of the cyclic of a name. It is refused with NoCyclic where the CPU has no cyclic of the name, and then
 /// with Busy while a removal is open.
 pub fn begin_removal(machine: &mut Machine, step: u32, name: usize) -> Result<Removal, Refusal>
-    requires few { step ≤ 65536 }
     requires stands { Stands step machine.old }
     ensures answer { MatchResult result
         (λ r. (remove_refusal name (state_of machine.old) ≡ None)
@@ -54,7 +53,6 @@ pub fn begin_removal(machine: &mut Machine, step: u32, name: usize) -> Result<Re
         return Err(Refusal::NoCyclic);
     };
     machine.cpu.law();
-    machine.cpu.conservation();
     match machine.cpu.begin_remove(id)? {
         Removal::Done(receipt) => {
             end_name(machine, name, &receipt);
@@ -69,7 +67,6 @@ pub fn begin_removal(machine: &mut Machine, step: u32, name: usize) -> Result<Re
 
 /// Polls the removal that is open, and ends it where the last of its calls was made.
 pub fn poll_removal(machine: &mut Machine, step: u32) -> Option<Answered>
-    requires few { step ≤ 65536 }
     requires stands { Stands (step + 1) machine.old }
     ensures some { IfSome result (λ r. (texts : List (List ℕ))
         → ((poll texts step (state_of machine.old)).line ≡ removed step (text_in texts r.name) r.calls) × (state_of machine.new ≡ (poll texts step (state_of machine.old)).state)) }
@@ -81,7 +78,6 @@ pub fn poll_removal(machine: &mut Machine, step: u32) -> Option<Answered>
         return None;
     };
     machine.cpu.law();
-    machine.cpu.conservation();
     let receipt = machine.cpu.poll_remove()?;
     end_name(machine, open.name, &receipt);
     Some(Answered {
