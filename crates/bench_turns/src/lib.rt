@@ -32,7 +32,7 @@ pub fn fill<R: Raise>(raise: &mut R, ids: u16)
 }
 
 /// Raises the id once.
-pub fn raise_one<R: Raise>(raise: &mut R, id: CyclicId, ids: u16, most: u64)
+fn raise_one<R: Raise>(raise: &mut R, id: CyclicId, ids: u16, most: u64)
     requires id { id ≤ ids }
     requires most { most < 2 ^ 64 - 1 }
     requires ready { IsReady ids most (R.view raise.old) }
@@ -43,7 +43,7 @@ pub fn raise_one<R: Raise>(raise: &mut R, id: CyclicId, ids: u16, most: u64)
 }
 
 /// The number after this one, round from 1 to `ids`.
-pub fn following(number: u64, ids: u16) -> u64
+fn following(number: u64, ids: u16) -> u64
     requires some { 0 < ids }
     ensures { (0 < result) × (result ≤ ids) }
 {
@@ -93,7 +93,7 @@ fn has_taken<D: Drain>(drain: &mut D) -> bool
 
 /// Takes the next cyclic where the hand is empty, and finishes one call of the cyclic in hand. The answer is 1 where it was
 /// the last call of its cyclic.
-pub fn serve_one<D: Drain>(drain: &mut D) -> u64 {
+fn serve_one<D: Drain>(drain: &mut D) -> u64 {
     if !has_taken(drain) {
         return 0;
     }

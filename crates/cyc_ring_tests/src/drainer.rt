@@ -8,7 +8,7 @@ use cyc_types::{Calls, CyclicId, Drain, Finished, Soft};
 
 /// The soft side of a ring.
 #[derive(Drop)]
-pub struct Drainer<'a> {
+pub(crate) struct Drainer<'a> {
     ring: &'a Ring,
     end: DrainEnd<'a>,
     ghost own: { IsDrainSeatOf ring.now end.seat },
@@ -29,7 +29,7 @@ impl<'a> Drainer<'a> {
     ghost use Rattle.cyc_ring.specs.Ends.{IsDrainSeatOf};
 
     /// The soft side that goes on with this seat.
-    pub fn new(ring: &'a Ring, seat: DrainSeat) -> Drainer<'a>
+    pub(crate) fn new(ring: &'a Ring, seat: DrainSeat) -> Drainer<'a>
         requires { IsDrainSeatOf ring.now seat }
         ensures { result.ring.now ≡ ring.now }
     {
@@ -40,7 +40,7 @@ impl<'a> Drainer<'a> {
     }
 
     /// The seat, with the hand.
-    pub fn into_seat(self) -> DrainSeat
+    pub(crate) fn into_seat(self) -> DrainSeat
         ensures { IsDrainSeatOf self.entry.ring.now result }
     {
         let Drainer { ring: _, end } = self;
@@ -48,12 +48,12 @@ impl<'a> Drainer<'a> {
     }
 
     /// As `Drain::hand`.
-    pub fn hand(&self) -> Option<CyclicId> {
+    pub(crate) fn hand(&self) -> Option<CyclicId> {
         self.end.hand()
     }
 
     /// As `Drain::take`.
-    pub fn take(&mut self) -> Result<Option<CyclicId>, NotAllowed>
+    pub(crate) fn take(&mut self) -> Result<Option<CyclicId>, NotAllowed>
         ensures { self.new.ring.now ≡ self.old.ring.now }
     {
         if self.end.hand().is_some() {
@@ -63,7 +63,7 @@ impl<'a> Drainer<'a> {
     }
 
     /// As `Drain::finish`.
-    pub fn finish(&mut self) -> Result<Finished, NotAllowed>
+    pub(crate) fn finish(&mut self) -> Result<Finished, NotAllowed>
         ensures { self.new.ring.now ≡ self.old.ring.now }
     {
         if self.end.hand().is_none() {
@@ -73,7 +73,7 @@ impl<'a> Drainer<'a> {
     }
 
     /// A soft interrupt at the low level.
-    pub fn softint<C: Calls>(&mut self, calls: &mut C, budget: u32) -> Result<Ran, SoftRefused>
+    pub(crate) fn softint<C: Calls>(&mut self, calls: &mut C, budget: u32) -> Result<Ran, SoftRefused>
         ensures { self.new.ring.now ≡ self.old.ring.now }
     {
         soft(&mut self.end, calls, budget)

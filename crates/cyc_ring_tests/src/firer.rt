@@ -9,14 +9,14 @@ use cyc_types::{CyclicId, GREATEST_BANK, Index, Raise, Raised, Sent};
 
 /// What a call requires does not hold.
 #[derive(Clone, Copy, Debug, PartialEq, Eq)]
-pub struct NotAllowed;
+pub(crate) struct NotAllowed;
 
 /// More raises than these are not made.
 const MOST_RAISES: u64 = 1_000_000_000;
 
 /// Which cyclics are admitted, and how far the two sides were seen to be.
 #[derive(Clone, Copy)]
-pub struct Known {
+pub(crate) struct Known {
     // The id at each index, 0 where it is free.
     ids: [u64; 256],
     // The raises of all ids.
@@ -28,15 +28,15 @@ pub struct Known {
 
 /// A raise seat, and what is known of it.
 #[derive(Drop)]
-pub struct KnownSeat {
-    pub seat: RaiseSeat,
+pub(crate) struct KnownSeat {
+    pub(crate) seat: RaiseSeat,
     known: Known,
     ghost knows: { Knows known.ids known.raises known.marked known.bank known.followed (seat_view seat) },
 }
 
 /// The firing side of a ring, whose calls refuse where they are not allowed.
 #[derive(Drop)]
-pub struct Firer<'a> {
+pub(crate) struct Firer<'a> {
     ring: &'a Ring,
     end: RaiseEnd<'a>,
     known: Known,
@@ -88,7 +88,7 @@ impl KnownSeat {
     ghost use Rattle.cyc_ring.specs.Ends.{raise_trail};
 
     /// A seat that has made no call.
-    pub fn new(seat: RaiseSeat) -> KnownSeat
+    pub(crate) fn new(seat: RaiseSeat) -> KnownSeat
         requires { raise_trail seat ≡ [] }
         ensures { result.seat ≡ seat }
     {
@@ -99,7 +99,7 @@ impl KnownSeat {
     }
 
     /// The seat alone.
-    pub fn seat(self) -> RaiseSeat
+    pub(crate) fn seat(self) -> RaiseSeat
         ensures { result ≡ self.seat }
     {
         let KnownSeat { seat, known: _ } = self;
@@ -112,7 +112,7 @@ impl<'a> Firer<'a> {
     ghost use Rattle.cyc_ring.specs.Ends.{IsRaiseSeatOf};
 
     /// The firing side that goes on with this seat.
-    pub fn new(ring: &'a Ring, seat: KnownSeat) -> Firer<'a>
+    pub(crate) fn new(ring: &'a Ring, seat: KnownSeat) -> Firer<'a>
         requires { IsRaiseSeatOf ring.now seat.seat }
         ensures { result.ring.now ≡ ring.now }
     {
@@ -125,7 +125,7 @@ impl<'a> Firer<'a> {
     }
 
     /// The seat, and what is known of it.
-    pub fn into_seat(self) -> KnownSeat
+    pub(crate) fn into_seat(self) -> KnownSeat
         ensures { IsRaiseSeatOf self.entry.ring.now result.seat }
     {
         let Firer {
@@ -140,7 +140,7 @@ impl<'a> Firer<'a> {
     }
 
     /// As `Raise::admit`.
-    pub fn admit(&mut self, id: CyclicId, index: Index) -> Result<(), NotAllowed>
+    pub(crate) fn admit(&mut self, id: CyclicId, index: Index) -> Result<(), NotAllowed>
         ensures { self.new.ring.now ≡ self.old.ring.now }
     {
         let at = index.number() as usize;
@@ -156,7 +156,7 @@ impl<'a> Firer<'a> {
     }
 
     /// As `Raise::raise`.
-    pub fn raise(&mut self, id: CyclicId) -> Result<Raised, NotAllowed>
+    pub(crate) fn raise(&mut self, id: CyclicId) -> Result<Raised, NotAllowed>
         ensures { self.new.ring.now ≡ self.old.ring.now }
     {
         if self.known.is_marked(id) || self.known.raises >= MOST_RAISES {
@@ -171,7 +171,7 @@ impl<'a> Firer<'a> {
     }
 
     /// As `Raise::mark`.
-    pub fn mark(&mut self, id: CyclicId) -> Result<u32, NotAllowed>
+    pub(crate) fn mark(&mut self, id: CyclicId) -> Result<u32, NotAllowed>
         ensures { self.new.ring.now ≡ self.old.ring.now }
     {
         let None = self.known.marked else {
@@ -186,7 +186,7 @@ impl<'a> Firer<'a> {
     }
 
     /// As `Raise::poll_clear`.
-    pub fn poll_clear(&mut self, id: CyclicId) -> Result<Option<Sent>, NotAllowed>
+    pub(crate) fn poll_clear(&mut self, id: CyclicId) -> Result<Option<Sent>, NotAllowed>
         ensures { self.new.ring.now ≡ self.old.ring.now }
     {
         if !self.known.is_marked(id) {
@@ -204,7 +204,7 @@ impl<'a> Firer<'a> {
     }
 
     /// As `Raise::expand`.
-    pub fn expand(&mut self, bank: u8) -> Result<(), NotAllowed>
+    pub(crate) fn expand(&mut self, bank: u8) -> Result<(), NotAllowed>
         ensures { self.new.ring.now ≡ self.old.ring.now }
     {
         if bank <= self.known.bank || bank > GREATEST_BANK || !self.known.followed {
@@ -217,7 +217,7 @@ impl<'a> Firer<'a> {
     }
 
     /// As `Raise::followed`.
-    pub fn followed(&mut self) -> bool
+    pub(crate) fn followed(&mut self) -> bool
         ensures { self.new.ring.now ≡ self.old.ring.now }
     {
         let answer = self.end.followed();

@@ -6,13 +6,13 @@ use cyc_types::{Calls, CyclicId, Level, Refused, Tally};
 
 /// Handlers that count the calls and refuse the first of all.
 #[derive(Drop)]
-pub struct RefusesFirst {
+pub(crate) struct RefusesFirst {
     tally: Tally,
     asked: bool,
 }
 
 impl RefusesFirst {
-    pub fn new(tally: Tally) -> RefusesFirst {
+    pub(crate) fn new(tally: Tally) -> RefusesFirst {
         RefusesFirst {
             tally,
             asked: false,

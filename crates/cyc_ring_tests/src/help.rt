@@ -8,7 +8,7 @@ use std::alloc::Global;
 use std::test::Fail;
 
 /// A ring with this ceiling, whose indexes begin at `start`.
-pub fn open(alloc: Global, ceiling: u32, start: u32) -> Result<(Ring, KnownSeat, DrainSeat), Fail>
+pub(crate) fn open(alloc: Global, ceiling: u32, start: u32) -> Result<(Ring, KnownSeat, DrainSeat), Fail>
     ensures { IfOk result (λ r. IsRaiseSeatOf r.0 r.1.seat × IsDrainSeatOf r.0 r.2) }
 {
     let ceiling = Ceiling::new(ceiling).ok_or("a ceiling")?;
@@ -19,13 +19,13 @@ pub fn open(alloc: Global, ceiling: u32, start: u32) -> Result<(Ring, KnownSeat,
 }
 
 /// An id.
-pub fn id(number: u64) -> Result<CyclicId, Fail> {
+pub(crate) fn id(number: u64) -> Result<CyclicId, Fail> {
     let id = CyclicId::new(number).ok_or("an id")?;
     Ok(id)
 }
 
 /// The book at this index.
-pub fn book(closed: &Closed, number: u16) -> Result<Option<Book>, Fail> {
+pub(crate) fn book(closed: &Closed, number: u16) -> Result<Option<Book>, Fail> {
     let index = Index::new(number).ok_or("an index")?;
     Ok(closed.book(index))
 }

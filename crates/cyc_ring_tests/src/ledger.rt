@@ -4,30 +4,30 @@ ghost use Rattle.std.specs.Prelude.{◌<◌};
 use cyc_types::{Raised, Sent};
 
 /// The ids are 1 to `IDS`; the id `at + 1` has the two indexes `at` and `at + IDS` in turn.
-pub const IDS: usize = 64;
+pub(crate) const IDS: usize = 64;
 
 /// The counts of each id, and how far the ring has grown.
 #[derive(Drop)]
-pub struct Ledger {
+pub(crate) struct Ledger {
     /// The present index of each id.
-    pub index: [u16; IDS],
+    pub(crate) index: [u16; IDS],
     /// The raises of each id in all its stays, and those that were lost.
-    pub sent: [u64; IDS],
-    pub lost: [u64; IDS],
+    pub(crate) sent: [u64; IDS],
+    pub(crate) lost: [u64; IDS],
     /// The same of its ended stays, as each removal answered.
-    pub ended_sent: [u64; IDS],
-    pub ended_lost: [u64; IDS],
+    pub(crate) ended_sent: [u64; IDS],
+    pub(crate) ended_lost: [u64; IDS],
     /// The ids that are admitted are the first of all.
-    pub admitted: usize,
+    pub(crate) admitted: usize,
     /// The id whose removal is open.
-    pub marked: Option<usize>,
+    pub(crate) marked: Option<usize>,
     /// The bank, and its size.
-    pub bank: u8,
-    pub size: u16,
+    pub(crate) bank: u8,
+    pub(crate) size: u16,
 }
 
 impl Ledger {
-    pub fn new() -> Ledger {
+    pub(crate) fn new() -> Ledger {
         Ledger {
             index: [0; IDS],
             sent: [0; IDS],
@@ -42,7 +42,7 @@ impl Ledger {
     }
 
     /// The id has no open removal, and is admitted.
-    pub fn may_raise(&self, at: usize) -> bool {
+    pub(crate) fn may_raise(&self, at: usize) -> bool {
         match self.marked {
             Some(marked) => at < self.admitted && at != marked,
             None => at < self.admitted,
@@ -50,7 +50,7 @@ impl Ledger {
     }
 
     /// The id was raised.
-    pub fn note(&mut self, at: usize, answer: Raised)
+    pub(crate) fn note(&mut self, at: usize, answer: Raised)
         requires { at < IDS }
     {
         self.sent[at] = self.sent[at].wrapping_add(1);
@@ -60,7 +60,7 @@ impl Ledger {
     }
 
     /// The removal of the id answered. The answer is the index at which it is admitted anew.
-    pub fn ended(&mut self, at: usize, counts: Sent) -> u16
+    pub(crate) fn ended(&mut self, at: usize, counts: Sent) -> u16
         requires { at < IDS }
     {
         self.ended_sent[at] = self.ended_sent[at].wrapping_add(counts.sent);

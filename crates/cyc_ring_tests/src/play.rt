@@ -7,7 +7,7 @@ use cyc_types::{CyclicId, Finished, Index, Raised, Sent};
 
 /// A call with its answer; ids and indexes by their numbers.
 #[derive(Clone, Copy)]
-pub enum Call {
+pub(crate) enum Call {
     Admit(u64, u16),
     Raise(u64, Raised),
     Mark(u64, u32),
@@ -20,8 +20,8 @@ pub enum Call {
 
 /// The call of this number, counted from 0, was not allowed or had another answer.
 #[derive(Clone, Copy, Debug, PartialEq, Eq)]
-pub struct Differs {
-    pub call: usize,
+pub(crate) struct Differs {
+    pub(crate) call: usize,
 }
 
 fn id_of(number: u64) -> Result<CyclicId, NotAllowed> {
@@ -72,7 +72,7 @@ fn has_answer(firer: &mut Firer, drainer: &mut Drainer, call: Call) -> Result<bo
 }
 
 /// Makes these calls in order, up to the first that differs.
-pub fn play(firer: &mut Firer, drainer: &mut Drainer, calls: &[Call]) -> Result<(), Differs>
+pub(crate) fn play(firer: &mut Firer, drainer: &mut Drainer, calls: &[Call]) -> Result<(), Differs>
     ensures firer { firer.new.ring.now ≡ firer.old.ring.now }
     ensures drainer { drainer.new.ring.now ≡ drainer.old.ring.now }
 {

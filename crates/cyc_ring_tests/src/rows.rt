@@ -62,7 +62,7 @@ const THEN_ANOTHER: [Call; 6] = [
 ];
 
 // A switch of banks: the old bank is drained first.
-pub const SWITCHED: [Call; 12] = [
+pub(crate) const SWITCHED: [Call; 12] = [
     Admit(1, 0),
     Raise(1, Raised::First),
     Expand(1),
@@ -124,7 +124,7 @@ fn a_call_is_kept_for_an_open_removal(rt: HostRuntime) -> Result<(), Fail> {
 }
 
 /// The books after a switch of banks.
-pub fn switched(id: CyclicId, other: CyclicId) -> (Book, Book) {
+pub(crate) fn switched(id: CyclicId, other: CyclicId) -> (Book, Book) {
     let taken = Book {
         id: other,
         sent: 1,
