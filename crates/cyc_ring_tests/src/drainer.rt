@@ -73,7 +73,11 @@ impl<'a> Drainer<'a> {
     }
 
     /// A soft interrupt at the low level.
-    pub(crate) fn softint<C: Calls>(&mut self, calls: &mut C, budget: u32) -> Result<Ran, SoftRefused>
+    pub(crate) fn softint<C: Calls>(
+        &mut self,
+        calls: &mut C,
+        budget: u32,
+    ) -> Result<Ran, SoftRefused>
         ensures { self.new.ring.now ≡ self.old.ring.now }
     {
         soft(&mut self.end, calls, budget)

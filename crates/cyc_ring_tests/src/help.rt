@@ -8,7 +8,11 @@ use std::alloc::Global;
 use std::test::Fail;
 
 /// A ring with this ceiling, whose indexes begin at `start`.
-pub(crate) fn open(alloc: Global, ceiling: u32, start: u32) -> Result<(Ring, KnownSeat, DrainSeat), Fail>
+pub(crate) fn open(
+    alloc: Global,
+    ceiling: u32,
+    start: u32,
+) -> Result<(Ring, KnownSeat, DrainSeat), Fail>
     ensures { IfOk result (λ r. IsRaiseSeatOf r.0 r.1.seat × IsDrainSeatOf r.0 r.2) }
 {
     let ceiling = Ceiling::new(ceiling).ok_or("a ceiling")?;
