@@ -8,21 +8,21 @@ use Rattle.cyc_level.proofs.Keeps.{same_ceiling}
 use Rattle.ring_rule.specs.declared.RaiseStep.{RaiseStep}
 use Rattle.ring_rule.specs.declared.DrainStep.{DrainStep}
 use Rattle.ring_rule.specs.declared.Setting.{Setting}
-use Rattle.ring_rule.specs.Words.{mark_bit}
+use Rattle.ring_rule.specs.Words.{pend_word, mark_bit}
 use Rattle.ring_rule.specs.Trail.{open_stay, marked_of, made_calls, ended_calls}
 use Rattle.ring_rule.specs.Conservation.{LevelStands}
 use Rattle.ring_rule.proofs.Stays.{behind, not_held}
 use Rattle.cyc_ring.specs.Rows.{HoldsStays}
 
 module _ (k : Setting) (small : k.ceiling < 2 ^ 32) (words : List ℕ) (rs : List RaiseStep) (ds : List DrainStep) (L : LevelStands k words rs ds)
-    (ids sent lost pends : List ℕ) (rows : HoldsStays ids sent lost rs) (read : (i : ℕ) → i < cyclics → get_or words i 0 ≡ get_or pends i 0) (i : ℕ) (low : i < cyclics) (used : get_or ids i 0 ≢ 0) where
+    (ids sent lost pends : List ℕ) (rows : HoldsStays ids sent lost rs) (read : (i : ℕ) → i < cyclics → get_or words (pend_word i) 0 ≡ get_or pends i 0) (i : ℕ) (low : i < cyclics) (used : get_or ids i 0 ≢ 0) where
   abbrev id : ℕ
   id = get_or ids i 0
 
   abbrev l : Level
   l = reached k.ceiling L.events
 
-  book : (done : ℕ) × (get_or sent i 0 ≡ done + get_or words i 0 % mark_bit + get_or lost i 0) × (made_calls id ds ≡ done + ended_calls id rs)
+  book : (done : ℕ) × (get_or sent i 0 ≡ done + get_or words (pend_word i) 0 % mark_bit + get_or lost i 0) × (made_calls id ds ≡ done + ended_calls id rs)
   book = L.booked id record { index = i; sent = get_or sent i 0; lost = get_or lost i 0 } (rows.used i low used)
 
   pub counted_row : get_or lost i 0 + get_or pends i 0 % mark_bit ≤ get_or sent i 0
@@ -38,7 +38,7 @@ module _ (k : Setting) (small : k.ceiling < 2 ^ 32) (words : List ℕ) (rs : Lis
   named_row = (L.lawful.ids id cyclic.0 cyclic.1).1
 
   pend : get_or pends i 0 ≡ (cyclic.0).count + mark_bit * in_hand id (marked_of rs)
-  pend = sym (read i low) ∙ (ap (λ (j : ℕ). get_or words j 0) cyclic.2 ∙ (L.shows.pends id cyclic.0 cyclic.1 ∙ ap (λ (m : Option ℕ). (cyclic.0).count + mark_bit * in_hand id m) L.shows.marked_is))
+  pend = sym (read i low) ∙ (ap (λ (j : ℕ). get_or words (pend_word j) 0) cyclic.2 ∙ (L.shows.pends id cyclic.0 cyclic.1 ∙ ap (λ (m : Option ℕ). (cyclic.0).count + mark_bit * in_hand id m) L.shows.marked_is))
 
   pub marked_row : marked_of rs ≡ Some id → mark_bit ≤ get_or pends i 0
   marked_row is = let p = pend in let h : in_hand id (marked_of rs) ≡ 1 = ap (in_hand id) is ∙ ap (λ b. cond {A = ℕ} b 1 0) (eq-eqb id id refl) in omega (arith, p, h)

@@ -7,7 +7,7 @@ ghost use Rattle.cyc_ring.specs.Rows.{HoldsStays};
 use crate::plays::Whole;
 use crate::ring::Ring;
 use crate::seats::{DrainSeat, RaiseSeat, Stays};
-use crate::words::{INDEXES, MARK};
+use crate::words::{INDEXES, MARK, pend_at};
 use cyc_types::{CyclicId, Index};
 use std::snapshot::Snapshot;
 
@@ -80,7 +80,7 @@ impl Ring {
         let closed = table.close_with(seat);
         let mut pends = [0u64; INDEXES];
         for i in 0..INDEXES {
-            pends[i] = closed.word(i);
+            pends[i] = closed.word(pend_at(i));
         }
         closed.free();
         Closed {

@@ -12,7 +12,7 @@ ghost use Rattle.cyc_ring.specs.Ends.{IsDrainSeatOf, IsSameDrainSeat, drain_trai
 use crate::plays::Served;
 use crate::ring::Ring;
 use crate::seats::DrainSeat;
-use crate::words::{BUFFERS, ENTRY_BASE, MARK};
+use crate::words::{APART, BUFFERS, ENTRY_BASE, MARK};
 
 impl Ring {
     // The load of the buffer word at the consumer index: its entry comes into the hand.
@@ -25,7 +25,7 @@ impl Ring {
         ensures named { IsId (entry_id result) }
         ensures step { MakesDrainStep J.setting (Took result) drainer.old.seat drainer.new.seat }
     {
-        let word = BUFFERS + drainer.mask + (drainer.next as u64 & drainer.mask);
+        let word = BUFFERS + drainer.mask + (drainer.next as u64 * APART & drainer.mask);
         let entry = self.load_entry::<J>(&mut drainer.seat, word as usize);
         drainer.next = drainer.next.wrapping_add(1);
         drainer.hand = entry;

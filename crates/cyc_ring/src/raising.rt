@@ -14,7 +14,7 @@ ghost use Rattle.cyc_ring.specs.Ends.{IsRaiseSeatOf, IsSameRaiseSeat, raise_trai
 use crate::plays::Served;
 use crate::ring::Ring;
 use crate::seats::RaiseSeat;
-use crate::words::{BUFFERS, ENTRY_BASE};
+use crate::words::{APART, BUFFERS, ENTRY_BASE};
 use cyc_types::{CyclicId, Index, Raised};
 
 impl Ring {
@@ -130,7 +130,7 @@ impl Ring {
         if found != 0 {
             return Raised::More;
         }
-        let word = BUFFERS + raiser.mask + (raiser.next as u64 & raiser.mask);
+        let word = BUFFERS + raiser.mask + (raiser.next as u64 * APART & raiser.mask);
         self.store_entry::<J>(&mut raiser.seat, word as usize, entry);
         raiser.next = raiser.next.wrapping_add(1);
         self.publish::<J>(&mut raiser.seat, raiser.bank, raiser.next);

@@ -17,7 +17,7 @@ use crate::plays::{
     SoftBank, Store, Subtract, Switch, Take,
 };
 use crate::ring::Ring;
-use crate::words::{HARD, MARK, PRODUCERS, SOFT};
+use crate::words::{HARD, MARK, PRODUCERS, SOFT, pend_at};
 use atomic_table::Seat;
 use ring_rule::SeatView;
 
@@ -31,7 +31,8 @@ impl Ring {
         requires index { (index < cyclics) × (index < bank_size (hard_bank_of seat.old.me.0.raise_trail)) × ((j : ℕ) (s : StayCounts) → open_stay j seat.old.me.0.raise_trail ≡ Some s → s.index ≢ index) }
         ensures { MakesRaiseStep J.setting (Admitted J.id index) seat.old seat.new }
     {
-        self.table.shared.load::<Admit<J>>(seat, index);
+        let word = pend_at(index);
+        self.table.shared.load::<Admit<J>>(seat, word);
     }
 
     // The load of the pend word that begins a raise. At the ceiling the expiration is lost.
@@ -49,7 +50,8 @@ impl Ring {
         ensures lost { result ≡ J.setting.ceiling → MakesRaiseStep J.setting (Lost J.id result) seat.old seat.new }
         ensures below { result ≢ J.setting.ceiling → MakesRaiseStep J.setting (Loaded J.id result) seat.old seat.new }
     {
-        self.table.shared.load::<RaiseLoad<J>>(seat, index)
+        let word = pend_at(index);
+        self.table.shared.load::<RaiseLoad<J>>(seat, word)
     }
 
     // The `fetch_add` of 1 on the pend word.
@@ -63,7 +65,8 @@ impl Ring {
         ensures bound { result ≤ seen_pend J.id seat.old.me.0.raise_trail }
         ensures step { MakesRaiseStep J.setting (Added J.id result) seat.old seat.new }
     {
-        self.table.shared.fetch_add::<Add<J>>(seat, index, 1)
+        let word = pend_at(index);
+        self.table.shared.fetch_add::<Add<J>>(seat, word, 1)
     }
 
     // The store of the hand's entry in the buffer word at the producer index.
@@ -107,7 +110,8 @@ impl Ring {
         ensures bound { result % mark_bit ≤ seen_pend J.id seat.old.me.0.raise_trail }
         ensures step { MakesRaiseStep J.setting (Loaded J.id result) seat.old seat.new }
     {
-        self.table.shared.load::<Load<J>>(seat, index)
+        let word = pend_at(index);
+        self.table.shared.load::<Load<J>>(seat, word)
     }
 
     // The `fetch_add` of the mark on the pend word.
@@ -120,7 +124,8 @@ impl Ring {
         ensures bound { result ≤ seen_pend J.id seat.old.me.0.raise_trail }
         ensures step { MakesRaiseStep J.setting (Marked J.id result) seat.old seat.new }
     {
-        self.table.shared.fetch_add::<Mark<J>>(seat, index, MARK)
+        let word = pend_at(index);
+        self.table.shared.fetch_add::<Mark<J>>(seat, word, MARK)
     }
 
     // The store of 0 in the pend word, where the mark was found alone: the stay ends.
@@ -132,7 +137,8 @@ impl Ring {
         requires stay { (index < cyclics) × ((s : StayCounts) × (open_stay J.id seat.old.me.0.raise_trail ≡ Some s) × (s.index ≡ index)) }
         ensures { MakesRaiseStep J.setting (Cleared J.id) seat.old seat.new }
     {
-        self.table.shared.store::<Clear<J>>(seat, index, 0);
+        let word = pend_at(index);
+        self.table.shared.store::<Clear<J>>(seat, word, 0);
     }
 
     // The store of the hard bank.
@@ -200,7 +206,8 @@ impl Ring {
         ensures bound { 0 < result % mark_bit }
         ensures step { MakesDrainStep J.setting (Subtracted result) seat.old seat.new }
     {
-        self.table.shared.fetch_sub::<Subtract<J>>(seat, index, 1)
+        let word = pend_at(index);
+        self.table.shared.fetch_sub::<Subtract<J>>(seat, word, 1)
     }
 
     // The store of the soft bank, after the old bank was found empty and another hard bank before that.

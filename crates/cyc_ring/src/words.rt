@@ -1,8 +1,23 @@
 //! Where the words of a ring lie, and how an entry is made up: the numbers of `ring_rule`'s `specs/Words.antt`.
+ghost use Rattle.std.specs.Prelude.{◌≡◌, ◌<◌};
+ghost use Rattle.cyc_types.specs.Limits.{cyclics};
+ghost use Rattle.ring_rule.specs.Words.{pend_word};
+
 use cyc_types::{CYCLICS, GREATEST_BANK};
 
 // The indexes of a ring. Each has a pend word, and the pend words come first.
 pub(crate) const INDEXES: usize = CYCLICS as usize;
+
+// How far apart the words of neighbouring indexes lie: one more than the words of a cache line.
+pub(crate) const APART: u64 = 9;
+
+// The pend word of an index.
+pub(crate) fn pend_at(index: usize) -> usize
+    requires { index < cyclics }
+    ensures { result ≡ pend_word index }
+{
+    index * APART as usize % INDEXES
+}
 
 // The first buffer word.
 pub(crate) const BUFFERS: u64 = CYCLICS as u64;

@@ -14,7 +14,7 @@ use Rattle.cyc_level.specs.Runs.{StayCounts}
 use Rattle.cyc_level.proofs.Maps.{some_same, is_some_of, at_cases, hand_here}
 use Rattle.ring_drain.specs.Allowed.{SubtractIsAllowed, SubtractExtendsRun}
 use Rattle.cyc_types.specs.Limits.{cyclics}
-use Rattle.ring_rule.specs.Words.{entry_id, entry_index, producer_word, hard_word, soft_word}
+use Rattle.ring_rule.specs.Words.{pend_word, entry_id, entry_index, producer_word, hard_word, soft_word}
 use Rattle.ring_rule.specs.declared.RaiseStep.{RaiseStep}
 use Rattle.ring_rule.specs.declared.DrainStep.{DrainStep}
 use Rattle.ring_rule.specs.declared.DrainStep.TheVariants.{Subtracted}
@@ -22,9 +22,9 @@ use Rattle.ring_rule.specs.declared.Setting.{Setting}
 use Rattle.ring_rule.specs.Trail.{open_stay, ended_calls, seen_pend, held_entry, id_in, drainer_hand_of, made_calls, consumer_index}
 use Rattle.ring_rule.specs.Shown.{IsSameStay, Shows, StillHolds}
 use Rattle.ring_rule.specs.Steps.{TellsSubtract}
-use Rattle.ring_rule.proofs.Words.{keeps_option_map, holds_high, stored_high}
+use Rattle.ring_rule.proofs.Words.{pend_low, pend_distinct, keeps_option_map, holds_high, stored_high}
 use Rattle.ring_rule.proofs.Seats.{level, drains, drain_moves}
-use Rattle.ring_rule.proofs.Now.{RingNow, ring_now}
+use Rattle.ring_rule.proofs.Now.{RingNow, ring_now, admitted_low, same_pend}
 use Rattle.ring_rule.proofs.Stands.{drain_allowed}
 
 same_called : (b : Bool) (m e : ℕ) (o : Option StayCounts) (p : Option Cyclic) → (b ≡ true → (c : Cyclic) × (p ≡ Some c)) → IsSameStay m e o p → IsSameStay (cond b 1 0 + m) e o (cond b (option_map cyclic_after_finish p) p)
@@ -53,13 +53,19 @@ module _ (k : Setting) (small : k.ceiling < 2 ^ 32) (ws : List ℕ) (rs : List R
   id = entry_id e
 
   abbrev i : ℕ
-  i = entry_index e
+  i = pend_word (entry_index e)
 
-  pub known : (c : Cyclic) × (l.cyclics id ≡ Some c) × (c.index ≡ i)
+  pub known : (c : Cyclic) × (l.cyclics id ≡ Some c) × (c.index ≡ entry_index e)
   known = N.still.held_is e has
 
   abbrev c : Cyclic
   c = known.0
+
+  here : pend_word c.index ≡ i
+  here = ap pend_word known.2
+
+  index_low : c.index < cyclics
+  index_low = admitted_low l N.law id c known.1
 
   hand_is : l.drainer_hand ≡ Some id
   hand_is = N.shows.drainer_is ∙ ap id_in has
@@ -77,7 +83,7 @@ module _ (k : Setting) (small : k.ceiling < 2 ^ 32) (ws : List ℕ) (rs : List R
     cases (Some x) = elim (eqb id x) as (λ b. cond {A = ℕ} b 1 0 ≤ 1) [ true ↦ omega arith | false ↦ omega arith ]
 
   n_is : n ≡ c.count + 2 ^ 32 * mark
-  n_is = sym (ap (λ (a : ℕ). get_or ws a 0) known.2) ∙ N.shows.pends id c known.1
+  n_is = sym (ap (λ (a : ℕ). get_or ws a 0) here) ∙ N.shows.pends id c known.1
 
   some_call : 0 < c.count
   some_call = let p = N.law.one_place id in let full : in_hand id l.drainer_hand ≡ 1 = ap (in_hand id) hand_is ∙ hand_here id in
@@ -97,7 +103,7 @@ module _ (k : Setting) (small : k.ceiling < 2 ^ 32) (ws : List ℕ) (rs : List R
   ws' = set ws i (n - 1)
 
   low : i < cyclics
-  low = omega arith
+  low = subst (λ (x : ℕ). x < cyclics) here (pend_low c.index index_low)
 
   high : (j : ℕ) → cyclics ≤ j → get_or ws' j 0 ≡ get_or ws j 0
   high j h = let x = low in get_or-set_other ws i j (n - 1) 0 (λ e. omega arith)
@@ -111,10 +117,10 @@ module _ (k : Setting) (small : k.ceiling < 2 ^ 32) (ws : List ℕ) (rs : List R
   counts : n % 2 ^ 32 ≡ count l id
   counts = count_found ∙ ap count_in (sym known.1)
 
-  pend_here : (d : Cyclic) → option_map cyclic_after_finish (l.cyclics id) ≡ Some d → get_or ws' d.index 0 ≡ d.count + 2 ^ 32 * mark
+  pend_here : (d : Cyclic) → option_map cyclic_after_finish (l.cyclics id) ≡ Some d → get_or ws' (pend_word d.index) 0 ≡ d.count + 2 ^ 32 * mark
   pend_here d h = let same : cyclic_after_finish c ≡ d = some_same (cyclic_after_finish c) d (ap (option_map cyclic_after_finish) (sym known.1) ∙ h) in let x = low in let wide = N.wide in
-      subst (λ (d : Cyclic). get_or ws' d.index 0 ≡ d.count + 2 ^ 32 * mark) same
-      (ap (λ (a : ℕ). get_or ws' a 0) known.2 ∙ (get_or-set_same ws i (n - 1) 0 (omega arith) ∙ (let f = n_is in let s = some_call in omega (arith, f, s))))
+      subst (λ (d : Cyclic). get_or ws' (pend_word d.index) 0 ≡ d.count + 2 ^ 32 * mark) same
+      (ap (λ (a : ℕ). get_or ws' a 0) here ∙ (get_or-set_same ws i (n - 1) 0 (omega arith) ∙ (let f = n_is in let s = some_call in omega (arith, f, s))))
 
   abbrev l' : Level
   l' = record l { cyclics = m'; drainer_hand = hand_after_finish (count l id) l.drainer_hand }
@@ -132,10 +138,10 @@ module _ (k : Setting) (small : k.ceiling < 2 ^ 32) (ws : List ℕ) (rs : List R
         subst (λ (x : Option ℕ). IsSameStay (in_hand j x + made_calls j ds) (ended_calls j rs) (open_stay j rs) (m' j)) (sym hand)
         (same_called (eqb j id) (made_calls j ds) (ended_calls j rs) (open_stay j rs) (l.cyclics j)
         (λ t. dite (ℕ_discrete j id) (λ e. (c, ap l.cyclics e ∙ known.1)) (λ ne. let f : eqb j id ≡ false = ne_eqb j id ne in let x : true ≡ false = sym t ∙ f in absurd (cc))) (sh.stays j));
-    pends = at_cases l.cyclics id (option_map cyclic_after_finish) (λ j o. (d : Cyclic) → o ≡ Some d → get_or ws' d.index 0 ≡ d.count + 2 ^ 32 * in_hand j l.marked) pend_here
-        (λ j ne d e. get_or-set_other ws i d.index (n - 1) 0 (λ x. ne (N.law.distinct_indexes j id d c e known.1 (x ∙ sym known.2))) ∙ sh.pends j d e);
+    pends = at_cases l.cyclics id (option_map cyclic_after_finish) (λ j o. (d : Cyclic) → o ≡ Some d → get_or ws' (pend_word d.index) 0 ≡ d.count + 2 ^ 32 * in_hand j l.marked) pend_here
+        (λ j ne d e. get_or-set_other ws i (pend_word d.index) (n - 1) 0 (λ x. ne (same_pend l N.law j id d c e known.1 (x ∙ sym here))) ∙ sh.pends j d e);
     unused = λ a lt no. let kept = keeps_option_map l.cyclics id cyclic_after_finish same_index in
-        get_or-set_other ws i a (n - 1) 0 (λ e. let d = kept id c known.1 in no id d.0 d.1 (d.2 ∙ (known.2 ∙ sym e)))
+        get_or-set_other ws i (pend_word a) (n - 1) 0 (λ e. let d = kept id c known.1 in no id d.0 d.1 (d.2 ∙ pend_distinct c.index a index_low lt (here ∙ sym e)))
         ∙ sh.unused a lt (λ j d e x. let y = kept j d e in no j y.0 y.1 (y.2 ∙ x));
     new_held = holds_high ws ws' l.cyclics m' (keeps_option_map l.cyclics id cyclic_after_finish same_index) high l.hard_bank l.new_list (cond (eqb l.hard_bank l.soft_bank) (consumer_index k.start ds) k.start) sh.new_held;
     old_held = λ apart. holds_high ws ws' l.cyclics m' (keeps_option_map l.cyclics id cyclic_after_finish same_index) high l.soft_bank l.old_list (consumer_index k.start ds) (sh.old_held apart);
@@ -158,8 +164,8 @@ module _ (k : Setting) (small : k.ceiling < 2 ^ 32) (ws : List ℕ) (rs : List R
 pub subtracts_extend : SubtractExtendsRun
 subtracts_extend k slots seat me e role has i at_i s R _ at _ = let small : k.ceiling < 2 ^ 32 = R.fits.0 in let t : List DrainStep = R.drain_trail in let same : me.0.drain_trail ≡ t = (drains k s R seat me.0 at me.1 i 0 role).1 in
     let l : Level = level k s R in let N : RingNow k s.words R.raise_trail t l = ring_now k s R in let has' : held_entry t ≡ Some e = ap held_entry (sym same) ∙ has in let hand : l.drainer_hand ≡ Some (entry_id e) = N.shows.drainer_is ∙ ap id_in has' in
-    let n : ℕ = get_or s.words (entry_index e) 0 in let x : ℕ = get_or s.words i 0 in let here : entry_index e ≡ i = sym at_i in
-    let values : (j : ℕ) → entry_index e ≡ j → (get_or s.words (entry_index e) 0 + (2 ^ 64 - 1)) % 2 ^ 64 ≡ (get_or s.words j 0 + (2 ^ 64 - 1)) % 2 ^ 64 = λ j z. ap (λ (j : ℕ). (get_or s.words j 0 + (2 ^ 64 - 1)) % 2 ^ 64) z in
+    let w : ℕ = pend_word (entry_index e) in let n : ℕ = get_or s.words w 0 in let x : ℕ = get_or s.words i 0 in let here : w ≡ i = sym at_i in
+    let values : (j : ℕ) → w ≡ j → (get_or s.words w 0 + (2 ^ 64 - 1)) % 2 ^ 64 ≡ (get_or s.words j 0 + (2 ^ 64 - 1)) % 2 ^ 64 = λ j z. ap (λ (j : ℕ). (get_or s.words j 0 + (2 ^ 64 - 1)) % 2 ^ 64) z in
     let value : n - 1 ≡ (x + (2 ^ 64 - 1)) % 2 ^ 64 = sym (lowered k small s.words R.raise_trail t l N e has') ∙ values i here in let found : n ≡ x = ap (λ (j : ℕ). get_or s.words j 0) here in (
       (Subtracted x),
       drain_moves k s R seat me.0 at me.1 i ((x + (2 ^ 64 - 1)) % 2 ^ 64) role (Subtracted x) Finish refl refl (is_some_of l.drainer_hand (entry_id e) hand)

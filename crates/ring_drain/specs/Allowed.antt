@@ -4,7 +4,7 @@ use mathlib.Core.Option.{none}
 use Rattle.atomic_table.specs.Table.{step}
 use Rattle.ring_rule.specs.declared.Role.TheVariants.{Drain}
 use Rattle.ring_rule.specs.declared.Setting.{Setting}
-use Rattle.ring_rule.specs.Words.{index_range, place, producer_word, hard_word, entry_index}
+use Rattle.ring_rule.specs.Words.{pend_word, index_range, place, producer_word, hard_word, entry_index}
 use Rattle.ring_rule.specs.Trail.{held_entry, soft_bank_of, consumer_index, producer_seen}
 use Rattle.ring_rule.specs.Steps.{ThisSeat, Claim, IsAllowed, IsDrainStep, TellsHardBank, TellsProducer, TellsTake, TellsSubtract}
 
@@ -57,7 +57,7 @@ OfSubtract Says = (k : Setting) (slots seat : ℕ) (me : ThisSeat) (e : ℕ)
     → me.0.role ≡ Drain
     → held_entry me.0.drain_trail ≡ Some e
     → (i : ℕ)
-    → i ≡ entry_index e
+    → i ≡ pend_word (entry_index e)
     → Says k slots seat me i (λ n. (n + (2 ^ 64 - 1)) % 2 ^ 64) (TellsSubtract (step slots i 1 0 none) me)
 
 abbrev pub SubtractIsAllowed : Type 0

@@ -1,5 +1,5 @@
 -- The `fetch_add` of 1 on a pend word is the event Expire.
-use Rattle.std.proofs.Common.{◌≡◌, ℕ, ◌+◌, ◌-◌, ◌*◌, ◌%◌, ◌^◌, ◌<◌, ◌≤◌, eqb, cond, List, ◌∷◌, length, get_or, set, sym, refl, ap, ◌∙◌, subst, arith, eq-eqb, ne_eqb, pow_mono, mod-eq_of_lt, get_or-set_other, get_or-set_same}
+use Rattle.std.proofs.Common.{◌≡◌, ℕ, ◌+◌, ◌-◌, ◌*◌, ◌%◌, ◌^◌, ◌<◌, ◌≤◌, eqb, cond, List, ◌∷◌, length, get_or, set, sym, refl, ap, ◌∙◌, subst, arith, eq-eqb, ne_eqb, mod-eq_of_lt, get_or-set_other, get_or-set_same}
 use mathlib.Core.Option.{none}
 use Rattle.std.specs.Prelude.{Option, Some, None}
 use Rattle.std.specs.Option.{option_map}
@@ -12,32 +12,36 @@ use Rattle.cyc_level.specs.Runs.{StayCounts, one_more}
 use Rattle.cyc_level.proofs.Maps.{some_same, is_some_and, at_cases}
 use Rattle.cyc_level.proofs.Keeps.{always_lawful, same_ceiling}
 use Rattle.ring_raise.specs.Allowed.{AddIsAllowed, AddExtendsRun}
-use Rattle.cyc_types.specs.Limits.{greatest_bank, cyclics}
-use Rattle.ring_rule.specs.Words.{entry_id, producer_word, hard_word, soft_word, word_count}
+use Rattle.cyc_types.specs.Limits.{cyclics}
+use Rattle.ring_rule.specs.Words.{pend_word, entry_id, producer_word, hard_word, soft_word, word_count}
 use Rattle.ring_rule.specs.declared.RaiseStep.{RaiseStep}
 use Rattle.ring_rule.specs.declared.RaiseStep.TheVariants.{Added}
 use Rattle.ring_rule.specs.declared.DrainStep.{DrainStep}
 use Rattle.ring_rule.specs.Trail.{open_stay, ended_calls, firer_hand_of, marked_of, seen_pend, made_calls, consumer_index}
 use Rattle.ring_rule.specs.Shown.{Shows, StillHolds}
 use Rattle.ring_rule.specs.Steps.{TellsAdd}
-use Rattle.ring_rule.proofs.Words.{keeps_option_map, holds_high}
+use Rattle.ring_rule.proofs.Words.{pend_low, pend_distinct, keeps_option_map, holds_high}
 use Rattle.ring_rule.proofs.Seats.{level, raiser, raise_moves}
 use Rattle.ring_rule.proofs.Stays.{behind, same_if, same_expired, not_held}
+use Rattle.ring_rule.proofs.Now.{admitted_low, same_pend}
 use Rattle.ring_rule.proofs.Stands.{raise_allowed}
 
 module _ (start : ℕ) (ws : List ℕ) (wide : length ws ≡ word_count) (rs : List RaiseStep) (ds : List DrainStep) (l : Level) (law : Lawful l) (sh : Shows start ws rs ds l) (le : StillHolds start ws rs ds l)
-    (i id : ℕ) (st : StayCounts) (is : open_stay id rs ≡ Some st) (at_i : st.index ≡ i) (free : ¬ (marked_of rs ≡ Some id)) where
+    (i id : ℕ) (st : StayCounts) (is : open_stay id rs ≡ Some st) (at_i : i ≡ pend_word st.index) (free : ¬ (marked_of rs ≡ Some id)) where
   pub known : (c : Cyclic) × (l.cyclics id ≡ Some c) × (st.index ≡ c.index) × (st.sent ≡ c.sent) × (st.lost ≡ c.lost) × (made_calls id ds ≡ c.done + ended_calls id rs)
   known = behind (made_calls id ds) (ended_calls id rs) (open_stay id rs) (l.cyclics id) st is (sh.stays id)
 
   abbrev c : Cyclic
   c = known.0
 
-  here : c.index ≡ i
-  here = sym known.2 ∙ at_i
+  here : pend_word c.index ≡ i
+  here = sym (at_i ∙ ap pend_word known.2)
+
+  index_low : c.index < cyclics
+  index_low = admitted_low l law id c known.1
 
   low : i < cyclics
-  low = let a = law.in_hard_bank id c known.1 in let b = law.bank_bound in let p : 2 ^ l.hard_bank ≤ 2 ^ greatest_bank = pow_mono {i = l.hard_bank} {j = greatest_bank} b in let h = here in let e : 2 ^ greatest_bank ≡ cyclics = refl in omega (arith, a, p, h, e)
+  low = subst (λ (x : ℕ). x < cyclics) here (pend_low c.index index_low)
 
   pub found : get_or ws i 0 ≡ c.count
   found = let p = sh.pends id c known.1 in let z : in_hand id l.marked ≡ 0 = not_held id l.marked (λ e. free (sym sh.marked_is ∙ e)) in
@@ -58,10 +62,10 @@ module _ (start : ℕ) (ws : List ℕ) (wide : length ws ≡ word_count) (rs : L
   same_index : (d : Cyclic) → (cyclic_after_expire d).index ≡ d.index
   same_index d = refl
 
-  pend_here : (o : Option Cyclic) → o ≡ Some c → (d : Cyclic) → option_map cyclic_after_expire o ≡ Some d → get_or ws' d.index 0 ≡ d.count + 2 ^ 32 * in_hand id l.marked
+  pend_here : (o : Option Cyclic) → o ≡ Some c → (d : Cyclic) → option_map cyclic_after_expire o ≡ Some d → get_or ws' (pend_word d.index) 0 ≡ d.count + 2 ^ 32 * in_hand id l.marked
   pend_here o e d h = let z : in_hand id l.marked ≡ 0 = not_held id l.marked (λ e. free (sym sh.marked_is ∙ e)) in
       let same : cyclic_after_expire c ≡ d = some_same (cyclic_after_expire c) d (ap (option_map cyclic_after_expire) (sym e) ∙ h) in let x = low in let wide = wide in
-      subst (λ (d : Cyclic). get_or ws' d.index 0 ≡ d.count + 2 ^ 32 * in_hand id l.marked) same
+      subst (λ (d : Cyclic). get_or ws' (pend_word d.index) 0 ≡ d.count + 2 ^ 32 * in_hand id l.marked) same
       (ap (λ (a : ℕ). get_or ws' a 0) here ∙ (get_or-set_same ws i (n + 1) 0 (omega arith) ∙ (let f = found in omega (arith, f, z))))
 
   pub adds_shown : Shows start ws' (Added id n ∷ rs) ds (after (Expire id) l)
@@ -74,11 +78,11 @@ module _ (start : ℕ) (ws : List ℕ) (wide : length ws ≡ word_count) (rs : L
     drainer_is = sh.drainer_is;
     marked_is = sh.marked_is;
     stays = λ j. same_if (eqb j id) (made_calls j ds) (ended_calls j rs) (open_stay j rs) (one_more 0 (open_stay j rs)) (l.cyclics j) (option_map cyclic_after_expire (l.cyclics j)) (sh.stays j) (same_expired (made_calls j ds) (ended_calls j rs) (open_stay j rs) (l.cyclics j) (sh.stays j));
-    pends = at_cases l.cyclics id (option_map cyclic_after_expire) (λ j o. (d : Cyclic) → o ≡ Some d → get_or ws' d.index 0 ≡ d.count + 2 ^ 32 * in_hand j l.marked)
+    pends = at_cases l.cyclics id (option_map cyclic_after_expire) (λ j o. (d : Cyclic) → o ≡ Some d → get_or ws' (pend_word d.index) 0 ≡ d.count + 2 ^ 32 * in_hand j l.marked)
         (pend_here (l.cyclics id) known.1)
-        (λ j ne d e. get_or-set_other ws i d.index (n + 1) 0 (λ x. ne (law.distinct_indexes j id d c e known.1 (x ∙ sym here))) ∙ sh.pends j d e);
+        (λ j ne d e. get_or-set_other ws i (pend_word d.index) (n + 1) 0 (λ x. ne (same_pend l law j id d c e known.1 (x ∙ sym here))) ∙ sh.pends j d e);
     unused = λ a lt no. let kept = keeps_option_map l.cyclics id cyclic_after_expire same_index in
-        get_or-set_other ws i a (n + 1) 0 (λ e. let d = kept id c known.1 in no id d.0 d.1 (d.2 ∙ (here ∙ sym e)))
+        get_or-set_other ws i (pend_word a) (n + 1) 0 (λ e. let d = kept id c known.1 in no id d.0 d.1 (d.2 ∙ pend_distinct c.index a index_low lt (here ∙ sym e)))
         ∙ sh.unused a lt (λ j d e x. let y = kept j d e in no j y.0 y.1 (y.2 ∙ x));
     new_held = holds_high ws ws' l.cyclics (changed_at l.cyclics id (option_map cyclic_after_expire)) (keeps_option_map l.cyclics id cyclic_after_expire same_index) high l.hard_bank l.new_list (cond (eqb l.hard_bank l.soft_bank) (consumer_index start ds) start) sh.new_held;
     old_held = λ apart. holds_high ws ws' l.cyclics (changed_at l.cyclics id (option_map cyclic_after_expire)) (keeps_option_map l.cyclics id cyclic_after_expire same_index) high l.soft_bank l.old_list (consumer_index start ds) (sh.old_held apart);

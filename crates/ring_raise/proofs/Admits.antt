@@ -13,15 +13,15 @@ use Rattle.cyc_level.specs.Runs.{StayCounts}
 use Rattle.cyc_level.proofs.Maps.{some_same, none_some, not_none, at_cases}
 use Rattle.ring_raise.specs.Allowed.{AdmitIsAllowed, AdmitExtendsRun}
 use Rattle.cyc_types.specs.Limits.{cyclics}
-use Rattle.ring_rule.specs.Words.{entry_id}
+use Rattle.ring_rule.specs.Words.{pend_word, entry_id}
 use Rattle.ring_rule.specs.declared.RaiseStep.{RaiseStep}
 use Rattle.ring_rule.specs.declared.RaiseStep.TheVariants.{Admitted}
 use Rattle.ring_rule.specs.declared.DrainStep.{DrainStep}
 use Rattle.ring_rule.specs.declared.Setting.{Setting}
 use Rattle.ring_rule.specs.Trail.{open_stay, ended_calls, firer_hand_of, seen_pend, hard_bank_of, made_calls, consumer_index}
 use Rattle.ring_rule.specs.Shown.{IsSameStay, Shows, StillHolds}
-use Rattle.ring_rule.specs.Steps.{TellsAdmit}
-use Rattle.ring_rule.proofs.Words.{Keeps, holds_kept}
+use Rattle.ring_rule.specs.Steps.{with_raise_step, TellsAdmit}
+use Rattle.ring_rule.proofs.Words.{pend_distinct, Keeps, holds_kept}
 use Rattle.ring_rule.proofs.Seats.{level, raiser, raise_moves}
 use Rattle.ring_rule.proofs.Stays.{not_held}
 use Rattle.ring_rule.proofs.Now.{RingNow, ring_now, loaded}
@@ -50,7 +50,7 @@ module _ (k : Setting) (ws : List ℕ) (rs : List RaiseStep) (ds : List DrainSte
   free : (j : ℕ) (c : Cyclic) → l.cyclics j ≡ Some c → ¬ (c.index ≡ i)
   free j c e x = let s = present (made_calls j ds) (ended_calls j rs) (open_stay j rs) c (l.cyclics j) e (N.shows.stays j) in unused j s.0 s.1 (s.2 ∙ x)
 
-  pub zero_found : get_or ws i 0 ≡ 0
+  pub zero_found : get_or ws (pend_word i) 0 ≡ 0
   zero_found = N.shows.unused i within free
 
   abbrev m' : Cyclics
@@ -82,8 +82,8 @@ module _ (k : Setting) (ws : List ℕ) (rs : List RaiseStep) (ds : List DrainSte
     drainer_is = sh.drainer_is;
     marked_is = sh.marked_is;
     stays = same_new;
-    pends = at_cases l.cyclics id (λ _. Some new) (λ j o. (d : Cyclic) → o ≡ Some d → get_or ws d.index 0 ≡ d.count + 2 ^ 32 * in_hand j l.marked)
-        (λ d e. subst (λ (d : Cyclic). get_or ws d.index 0 ≡ d.count + 2 ^ 32 * in_hand id l.marked) (some_same new d e) (let z = zero_found in let y = clear in omega (arith, z, y)))
+    pends = at_cases l.cyclics id (λ _. Some new) (λ j o. (d : Cyclic) → o ≡ Some d → get_or ws (pend_word d.index) 0 ≡ d.count + 2 ^ 32 * in_hand j l.marked)
+        (λ d e. subst (λ (d : Cyclic). get_or ws (pend_word d.index) 0 ≡ d.count + 2 ^ 32 * in_hand id l.marked) (some_same new d e) (let z = zero_found in let y = clear in omega (arith, z, y)))
         (λ j ne. sh.pends j);
     unused = λ a lt no. sh.unused a lt (λ j d e x. let y = kept j d e in no j y.0 y.1 (y.2 ∙ x));
     new_held = holds_kept ws ws l.cyclics m' kept l.hard_bank l.new_list (cond (eqb l.hard_bank l.soft_bank) (consumer_index k.start ds) k.start) (λ _ _ _. refl) refl sh.new_held;
@@ -105,16 +105,19 @@ module _ (k : Setting) (ws : List ℕ) (rs : List RaiseStep) (ds : List DrainSte
   }
 
 pub admits_extend : AdmitExtendsRun
-admits_extend k slots seat me i id role bare unused empty room low real s R _ at _ = let t : List RaiseStep = R.raise_trail in let same : me.0.raise_trail ≡ t = (raiser k s R seat me.0 at me.1 i 0 role).1 in
+admits_extend k slots seat me i id role bare unused empty room low real word is_word s R _ at _ = let t : List RaiseStep = R.raise_trail in let same : me.0.raise_trail ≡ t = (raiser k s R seat me.0 at me.1 word 0 role).1 in
     let l : Level = level k s R in let N : RingNow k s.words t R.drain_trail l = ring_now k s R in let bare' : open_stay id t ≡ None = ap (open_stay id) (sym same) ∙ bare in
     let unused' : (j : ℕ) (s : StayCounts) → open_stay j t ≡ Some s → ¬ (s.index ≡ i) = λ j s e. unused j s (ap (open_stay j) same ∙ e) in (
       (Admitted id i),
-      raise_moves k s R seat me.0 at me.1 i (get_or s.words i 0) role (Admitted id i) (Admit id i) refl refl
+      raise_moves k s R seat me.0 at me.1 word (get_or s.words word 0) role (Admitted id i) (Admit id i) refl refl
           (admits_enabled k s.words t R.drain_trail l N id i bare' unused' low real (ap firer_hand_of (sym same) ∙ empty) (subst (λ (t : List RaiseStep). i < 2 ^ hard_bank_of t) same room))
-          (loaded (λ x. Shows k.start x (Admitted id i ∷ t) R.drain_trail (after (Admit id i) l)) s.words i (admits_shown k s.words t R.drain_trail l N id i bare' unused' low))
-          (loaded (λ x. StillHolds k.start x (Admitted id i ∷ t) R.drain_trail (after (Admit id i) l)) s.words i (admits_still k s.words t R.drain_trail l N id i bare' unused' low)),
-      (zero_found k s.words t R.drain_trail l N id i bare' unused' low, refl),
+          (loaded (λ x. Shows k.start x (Admitted id i ∷ t) R.drain_trail (after (Admit id i) l)) s.words word (admits_shown k s.words t R.drain_trail l N id i bare' unused' low))
+          (loaded (λ x. StillHolds k.start x (Admitted id i ∷ t) R.drain_trail (after (Admit id i) l)) s.words word (admits_still k s.words t R.drain_trail l N id i bare' unused' low)),
+      (
+        ap (λ (j : ℕ). get_or s.words j 0) is_word ∙ zero_found k s.words t R.drain_trail l N id i bare' unused' low,
+        λ j below same_word. ap (λ (x : ℕ). (with_raise_step (Admitted id x) me.0, me.1)) (pend_distinct i j low below (sym is_word ∙ same_word)),
+      ),
     )
 
 pub admits : AdmitIsAllowed
-admits k slots seat me i id role bare unused empty room low real = raise_allowed k slots seat me i (λ n. n) (TellsAdmit id (step slots i 0 0 none) me) (admits_extend k slots seat me i id role bare unused empty room low real)
+admits k slots seat me i id role bare unused empty room low real word is_word = raise_allowed k slots seat me word (λ n. n) (TellsAdmit id (step slots word 0 0 none) me) (admits_extend k slots seat me i id role bare unused empty room low real word is_word)

@@ -13,11 +13,11 @@ use Rattle.ring_rule.specs.declared.RaiseStep.{RaiseStep}
 use Rattle.ring_rule.specs.declared.RaiseStep.TheVariants.{Published}
 use Rattle.ring_rule.specs.declared.DrainStep.{DrainStep}
 use Rattle.ring_rule.specs.declared.Setting.{Setting}
-use Rattle.ring_rule.specs.Words.{place, producer_word, hard_word, soft_word}
+use Rattle.ring_rule.specs.Words.{pend_word, place, producer_word, hard_word, soft_word}
 use Rattle.ring_rule.specs.Trail.{firer_hand_of, hard_bank_of, producer_index, stored_entry, consumer_index}
 use Rattle.ring_rule.specs.Shown.{HoldsEntry, BankHolds, IsHandStored, Shows, StillHolds}
 use Rattle.ring_rule.specs.Steps.{TellsPublish}
-use Rattle.ring_rule.proofs.Words.{place_low, keeps_all, entry_kept, holds_kept}
+use Rattle.ring_rule.proofs.Words.{pend_low, place_low, keeps_all, entry_kept, holds_kept}
 use Rattle.ring_rule.proofs.Seats.{level, raiser, raise_moves}
 use Rattle.ring_rule.proofs.Now.{RingNow, ring_now, index_low}
 use Rattle.ring_rule.proofs.Stands.{raise_allowed}
@@ -75,8 +75,8 @@ module _ (k : Setting) (ws : List ℕ) (rs : List RaiseStep) (ds : List DrainSte
     drainer_is = sh.drainer_is;
     marked_is = sh.marked_is;
     stays = sh.stays;
-    pends = λ j c e. let x = index_low k ws rs ds l N j c e in kept c.index (λ e. omega arith) ∙ sh.pends j c e;
-    unused = λ j less no. kept j (λ e. omega arith) ∙ sh.unused j less no;
+    pends = λ j c e. let x = pend_low c.index (index_low k ws rs ds l N j c e) in kept (pend_word c.index) (λ e. omega arith) ∙ sh.pends j c e;
+    unused = λ j less no. let x = pend_low j less in kept (pend_word j) (λ e. omega arith) ∙ sh.unused j less no;
     new_held = subst (λ (x : List ℕ). BankHolds ws' l.cyclics l.hard_bank base (l.new_list ++ x)) (sym is_listed)
         (holds_snoc ws ws' l.cyclics l.hard_bank (λ j. kept_place l.hard_bank j most) id l.new_list base sh.new_held (subst (λ (j : ℕ). HoldsEntry ws l.cyclics l.hard_bank j id) p put_there)
         (let wide = N.wide in get_or-set_same ws i v 0 (omega arith) ∙ ap (λ (j : ℕ). (j + 1) % 2 ^ 32) p));

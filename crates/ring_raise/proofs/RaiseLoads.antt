@@ -12,7 +12,7 @@ use Rattle.cyc_level.specs.Events.{changed_at, cyclic_after_lose, Enabled, after
 use Rattle.cyc_level.specs.Runs.{StayCounts, one_more}
 use Rattle.cyc_level.proofs.Maps.{some_same, is_some_and, at_cases}
 use Rattle.ring_raise.specs.Allowed.{RaiseLoadIsAllowed, RaiseLoadExtendsRun}
-use Rattle.ring_rule.specs.Words.{entry_id}
+use Rattle.ring_rule.specs.Words.{pend_word, entry_id}
 use Rattle.ring_rule.specs.declared.RaiseStep.{RaiseStep}
 use Rattle.ring_rule.specs.declared.RaiseStep.TheVariants.{Loaded, Lost}
 use Rattle.ring_rule.specs.declared.DrainStep.{DrainStep}
@@ -26,7 +26,7 @@ use Rattle.ring_rule.proofs.Stays.{behind, same_if, same_dropped, not_held}
 use Rattle.ring_rule.proofs.Now.{RingNow, ring_now, loaded}
 use Rattle.ring_rule.proofs.Stands.{raise_allowed}
 
-module _ (k : Setting) (small : k.ceiling < 2 ^ 32) (ws : List ℕ) (rs : List RaiseStep) (ds : List DrainStep) (l : Level) (N : RingNow k ws rs ds l) (i id : ℕ) (st : StayCounts) (is : open_stay id rs ≡ Some st) (at_i : st.index ≡ i)
+module _ (k : Setting) (small : k.ceiling < 2 ^ 32) (ws : List ℕ) (rs : List RaiseStep) (ds : List DrainStep) (l : Level) (N : RingNow k ws rs ds l) (i id : ℕ) (st : StayCounts) (is : open_stay id rs ≡ Some st) (at_i : i ≡ pend_word st.index)
     (free : ¬ (marked_of rs ≡ Some id)) where
   pub known : (c : Cyclic) × (l.cyclics id ≡ Some c) × (st.index ≡ c.index) × (st.sent ≡ c.sent) × (st.lost ≡ c.lost) × (made_calls id ds ≡ c.done + ended_calls id rs)
   known = behind (made_calls id ds) (ended_calls id rs) (open_stay id rs) (l.cyclics id) st is (N.shows.stays id)
@@ -39,7 +39,7 @@ module _ (k : Setting) (small : k.ceiling < 2 ^ 32) (ws : List ℕ) (rs : List R
 
   pub found : n ≡ c.count
   found = let p = N.shows.pends id c known.1 in let z : in_hand id l.marked ≡ 0 = not_held id l.marked (λ e. free (sym N.shows.marked_is ∙ e)) in
-      sym (ap (λ (a : ℕ). get_or ws a 0) (sym known.2 ∙ at_i)) ∙ (p ∙ omega (arith, z))
+      ap (λ (a : ℕ). get_or ws a 0) (at_i ∙ ap pend_word known.2) ∙ (p ∙ omega (arith, z))
 
   pub top : n ≤ seen_pend id rs
   top = let a = N.still.seen_is_enough id in let b : count l id ≡ c.count = ap count_in known.1 in let f = found in omega (arith, a, b, f)
@@ -114,8 +114,8 @@ module _ (k : Setting) (small : k.ceiling < 2 ^ 32) (ws : List ℕ) (rs : List R
     drainer_is = sh.drainer_is;
     marked_is = sh.marked_is;
     stays = λ j. same_if (eqb j id) (made_calls j ds) (ended_calls j rs) (open_stay j rs) (one_more 1 (open_stay j rs)) (l.cyclics j) (option_map cyclic_after_lose (l.cyclics j)) (sh.stays j) (same_dropped (made_calls j ds) (ended_calls j rs) (open_stay j rs) (l.cyclics j) (sh.stays j));
-    pends = at_cases l.cyclics id (option_map cyclic_after_lose) (λ j o. (d : Cyclic) → o ≡ Some d → get_or ws d.index 0 ≡ d.count + 2 ^ 32 * in_hand j l.marked)
-        (λ d e. let b = back (l.cyclics id) d e in subst (λ (d : Cyclic). get_or ws d.index 0 ≡ d.count + 2 ^ 32 * in_hand id l.marked) b.2 (sh.pends id b.0 b.1)) (λ j _. sh.pends j);
+    pends = at_cases l.cyclics id (option_map cyclic_after_lose) (λ j o. (d : Cyclic) → o ≡ Some d → get_or ws (pend_word d.index) 0 ≡ d.count + 2 ^ 32 * in_hand j l.marked)
+        (λ d e. let b = back (l.cyclics id) d e in subst (λ (d : Cyclic). get_or ws (pend_word d.index) 0 ≡ d.count + 2 ^ 32 * in_hand id l.marked) b.2 (sh.pends id b.0 b.1)) (λ j _. sh.pends j);
     unused = λ a lt no. sh.unused a lt (λ j d e x. let y = kept j d e in no j y.0 y.1 (y.2 ∙ x));
     new_held = holds_kept ws ws l.cyclics m' kept l.hard_bank l.new_list (cond (eqb l.hard_bank l.soft_bank) (consumer_index k.start ds) k.start) (λ _ _ _. refl) refl sh.new_held;
     old_held = λ apart. holds_kept ws ws l.cyclics m' kept l.soft_bank l.old_list (consumer_index k.start ds) (λ _ _ _. refl) refl (sh.old_held apart);

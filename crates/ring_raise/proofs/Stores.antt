@@ -9,27 +9,27 @@ use Rattle.cyc_level.specs.Level.{Cyclic, Level}
 use Rattle.cyc_level.specs.Runs.{StayCounts}
 use Rattle.cyc_level.proofs.Room.{new_fits}
 use Rattle.ring_raise.specs.Allowed.{StoreIsAllowed, StoreExtendsRun}
-use Rattle.cyc_types.specs.Limits.{cyclics}
+use Rattle.cyc_types.specs.Limits.{greatest_bank, cyclics}
 use Rattle.ring_rule.specs.declared.RaiseStep.{RaiseStep}
 use Rattle.ring_rule.specs.declared.RaiseStep.TheVariants.{Stored}
 use Rattle.ring_rule.specs.declared.DrainStep.{DrainStep}
 use Rattle.ring_rule.specs.declared.Setting.{Setting}
-use Rattle.ring_rule.specs.Words.{place, producer_word, entry, hard_word, soft_word}
+use Rattle.ring_rule.specs.Words.{pend_word, place, producer_word, entry, hard_word, soft_word}
 use Rattle.ring_rule.specs.Trail.{open_stay, ended_calls, firer_hand_of, hard_bank_of, producer_index, made_calls, consumer_index}
 use Rattle.ring_rule.specs.Shown.{IsHandStored, Shows, StillHolds}
 use Rattle.ring_rule.specs.Steps.{TellsStore}
-use Rattle.ring_rule.proofs.Words.{place_high, place_low, keeps_all, holds_kept}
+use Rattle.ring_rule.proofs.Words.{pend_low, same_turn, place_high, place_low, keeps_all, holds_kept}
 use Rattle.ring_rule.proofs.Seats.{level, raiser, raise_stays}
 use Rattle.ring_rule.proofs.Stays.{behind}
 use Rattle.ring_rule.proofs.Now.{RingNow, ring_now, index_low}
 use Rattle.ring_rule.proofs.Stands.{raise_allowed}
 
 -- two indexes of a bank less than its size apart lie in different words
-pub other_place : (bank i j : ℕ) → i < j → j < i + 2 ^ bank → place bank i ≢ place bank j
-other_place bank i j less near e = let same : i % 2 ^ bank ≡ j % 2 ^ bank = omega (arith, e) in let x = one_turn i j (2 ^ bank) (omega arith) near same in omega (arith, x)
+pub other_place : (bank i j : ℕ) → bank ≤ greatest_bank → i < j → j < i + 2 ^ bank → place bank i ≢ place bank j
+other_place bank i j most less near e = let same : i % 2 ^ bank ≡ j % 2 ^ bank = same_turn bank i j (omega (arith, most)) (omega (arith, e)) in let x = one_turn i j (2 ^ bank) (omega arith) near same in omega (arith, x)
 
 pub lower_bank : (low high i j : ℕ) → low < high → place low i ≢ place high j
-lower_bank low high i j less e = let p : 0 < 2 ^ low = pow_pos low in let m : i % 2 ^ low < 2 ^ low = mod-lt i p in let q : 2 ^ suc low ≤ 2 ^ high = pow_mono {i = suc low} {j = high} (omega arith) in
+lower_bank low high i j less e = let p : 0 < 2 ^ low = pow_pos low in let m : i * 9 % 2 ^ low < 2 ^ low = mod-lt (i * 9) p in let q : 2 ^ suc low ≤ 2 ^ high = pow_mono {i = suc low} {j = high} (omega arith) in
     let r : 2 ^ suc low ≡ 2 ^ low * 2 = pow-suc 2 low in omega (arith, m, q, r, e)
 
 module _ (k : Setting) (ws : List ℕ) (rs : List RaiseStep) (ds : List DrainStep) (l : Level) (N : RingNow k ws rs ds l) (id : ℕ) (st : StayCounts) (up : firer_hand_of rs ≡ Some id) (is : open_stay id rs ≡ Some st) where
@@ -70,10 +70,10 @@ module _ (k : Setting) (ws : List ℕ) (rs : List RaiseStep) (ds : List DrainSte
     drainer_is = sh.drainer_is;
     marked_is = sh.marked_is;
     stays = sh.stays;
-    pends = λ j c e. let x = index_low k ws rs ds l N j c e in kept c.index (λ e. omega arith) ∙ sh.pends j c e;
-    unused = λ j less no. kept j (λ e. omega arith) ∙ sh.unused j less no;
+    pends = λ j c e. let x = pend_low c.index (index_low k ws rs ds l N j c e) in kept (pend_word c.index) (λ e. omega arith) ∙ sh.pends j c e;
+    unused = λ j less no. let x = pend_low j less in kept (pend_word j) (λ e. omega arith) ∙ sh.unused j less no;
     new_held = holds_kept ws ws' l.cyclics l.cyclics (keeps_all l.cyclics) l.hard_bank l.new_list base
-        (λ j from to. kept (place l.hard_bank j) (let room = new_fits l N.law id (sh.firer_is ∙ up) in let p = sh.produced in other_place l.hard_bank j P (omega (arith, p)) (omega (arith, p, room))))
+        (λ j from to. kept (place l.hard_bank j) (let room = new_fits l N.law id (sh.firer_is ∙ up) in let p = sh.produced in other_place l.hard_bank j P N.law.bank_bound (omega (arith, p)) (omega (arith, p, room))))
         (kept (producer_word l.hard_bank) (λ e. omega arith)) sh.new_held;
     old_held = λ apart. holds_kept ws ws' l.cyclics l.cyclics (keeps_all l.cyclics) l.soft_bank l.old_list (consumer_index k.start ds)
         (λ j from to. let b = N.law.soft_behind in kept (place l.soft_bank j) (lower_bank l.soft_bank l.hard_bank j P (omega (arith, b, apart)))) (kept (producer_word l.soft_bank) (λ e. omega arith)) (sh.old_held apart);

@@ -9,7 +9,7 @@ use Rattle.cyc_level.specs.Events.{most_sent}
 use Rattle.cyc_level.specs.Runs.{StayCounts}
 use Rattle.ring_rule.specs.declared.Role.TheVariants.{Raise}
 use Rattle.ring_rule.specs.declared.Setting.{Setting}
-use Rattle.ring_rule.specs.Words.{index_range, place, producer_word, entry}
+use Rattle.ring_rule.specs.Words.{pend_word, index_range, place, producer_word, entry}
 use Rattle.ring_rule.specs.Trail.{open_stay, firer_hand_of, marked_of, seen_pend, hard_bank_of, producer_index, stored_entry}
 use Rattle.ring_rule.specs.Steps.{ThisSeat, Claim, IsAllowed, IsRaiseStep, TellsAdmit, TellsRaiseLoad, TellsAdd, TellsStore, TellsPublish}
 
@@ -23,7 +23,9 @@ OfAdmit Says = (k : Setting) (slots seat : ℕ) (me : ThisSeat) (i id : ℕ)
     → i < bank_size (hard_bank_of me.0.raise_trail)
     → i < cyclics
     → IsId id
-    → Says k slots seat me i (λ n. n) (TellsAdmit id (step slots i 0 0 none) me)
+    → (word : ℕ)
+    → word ≡ pend_word i
+    → Says k slots seat me word (λ n. n) (TellsAdmit id (step slots word 0 0 none) me)
 
 abbrev pub AdmitIsAllowed : Type 0
 AdmitIsAllowed = OfAdmit IsAllowed
@@ -36,7 +38,7 @@ abbrev pub OfRaiseLoad : Claim → Type 0
 OfRaiseLoad Says = (k : Setting) (slots seat : ℕ) (me : ThisSeat) (i id : ℕ) (s : StayCounts)
     → me.0.role ≡ Raise
     → open_stay id me.0.raise_trail ≡ Some s
-    → s.index ≡ i
+    → i ≡ pend_word s.index
     → marked_of me.0.raise_trail ≢ Some id
     → firer_hand_of me.0.raise_trail ≡ None
     → s.sent < most_sent
@@ -55,7 +57,7 @@ abbrev pub OfAdd : Claim → Type 0
 OfAdd Says = (k : Setting) (slots seat : ℕ) (me : ThisSeat) (i id : ℕ) (s : StayCounts)
     → me.0.role ≡ Raise
     → open_stay id me.0.raise_trail ≡ Some s
-    → s.index ≡ i
+    → i ≡ pend_word s.index
     → marked_of me.0.raise_trail ≢ Some id
     → firer_hand_of me.0.raise_trail ≡ None
     → seen_pend id me.0.raise_trail < k.ceiling

@@ -8,6 +8,7 @@ use Rattle.cyc_level.proofs.Stays.{IsSplit, split_finishes, over_stays, expirati
 use Rattle.ring_rule.specs.declared.RaiseStep.{RaiseStep}
 use Rattle.ring_rule.specs.declared.DrainStep.{DrainStep}
 use Rattle.ring_rule.specs.declared.Setting.{Setting}
+use Rattle.ring_rule.specs.Words.{pend_word}
 use Rattle.ring_rule.specs.Trail.{open_stay, ended_stays, ended_calls, seen_pend, made_calls, raise_events}
 use Rattle.ring_rule.specs.Shown.{IsSameStay}
 use Rattle.ring_rule.specs.Rule.{RingState, MeetsRule}
@@ -19,7 +20,7 @@ use Rattle.ring_rule.proofs.Now.{RingNow, ring_now}
 module _ (k : Setting) (ws : List ℕ) (rs : List RaiseStep) (ds : List DrainStep) (l : Level) (N : RingNow k ws rs ds l) where
   pub booked : IsBooked ws rs ds
   booked id st is = let b = behind (made_calls id ds) (ended_calls id rs) (open_stay id rs) (l.cyclics id) st is (N.shows.stays id) in let c : Cyclic = b.0 in
-      let p : get_or ws st.index 0 ≡ c.count + 2 ^ 32 * in_hand id l.marked = ap (λ (a : ℕ). get_or ws a 0) b.2 ∙ N.shows.pends id c b.1 in
+      let p : get_or ws (pend_word st.index) 0 ≡ c.count + 2 ^ 32 * in_hand id l.marked = ap (λ (a : ℕ). get_or ws (pend_word a) 0) b.2 ∙ N.shows.pends id c b.1 in
       let low = N.law.below_ceiling id c b.1 in let t = N.ceiling_is in let m = held_once id l.marked in let sums = N.law.conserved id c b.1 in let s = b.3 in let x = b.4 in let small = N.small in
       (c.done, omega (arith, p, low, t, m, sums, s, x, small), b.5)
 

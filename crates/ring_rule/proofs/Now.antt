@@ -8,13 +8,14 @@ use Rattle.cyc_level.specs.Level.{Cyclic, Level, soft_list}
 use Rattle.cyc_level.specs.Lawful.{Lawful}
 use Rattle.cyc_level.proofs.Keeps.{always_lawful, same_ceiling}
 use Rattle.cyc_types.specs.Limits.{greatest_bank, cyclics}
-use Rattle.ring_rule.specs.Words.{word_count}
+use Rattle.ring_rule.specs.Words.{pend_word, word_count}
 use Rattle.ring_rule.specs.declared.RaiseStep.{RaiseStep}
 use Rattle.ring_rule.specs.declared.DrainStep.{DrainStep}
 use Rattle.ring_rule.specs.declared.Setting.{Setting}
 use Rattle.ring_rule.specs.Trail.{consumer_index}
 use Rattle.ring_rule.specs.Shown.{BankHolds, Shows, StillHolds}
 use Rattle.ring_rule.specs.Rule.{RingState, MeetsRule}
+use Rattle.ring_rule.proofs.Words.{pend_distinct}
 use Rattle.ring_rule.proofs.Seats.{level}
 
 pub record RingNow (k : Setting) (ws : List ℕ) (rs : List RaiseStep) (ds : List DrainStep) (l : Level) : Type 0 where
@@ -32,9 +33,17 @@ ring_now k s R = record { small = R.fits.0; wide = R.wide; law = always_lawful k
 pub loaded : (P : List ℕ → Type 0) (ws : List ℕ) (i : ℕ) → P ws → P (set ws i (get_or ws i 0))
 loaded P ws i h = subst P (sym (set-get_or ws i 0)) h
 
+module _ (l : Level) (law : Lawful l) where
+  pub admitted_low : (id : ℕ) (c : Cyclic) → l.cyclics id ≡ Some c → c.index < cyclics
+  admitted_low id c e = let a = law.in_hard_bank id c e in let b = law.bank_bound in let p : 2 ^ l.hard_bank ≤ 2 ^ greatest_bank = pow_mono {i = l.hard_bank} {j = greatest_bank} b in let q : 2 ^ greatest_bank ≡ cyclics = refl in omega (arith, a, p, q)
+
+  -- two admitted cyclics have two pend words
+  pub same_pend : (i j : ℕ) (c d : Cyclic) → l.cyclics i ≡ Some c → l.cyclics j ≡ Some d → pend_word c.index ≡ pend_word d.index → i ≡ j
+  same_pend i j c d e f same = law.distinct_indexes i j c d e f (pend_distinct c.index d.index (admitted_low i c e) (admitted_low j d f) same)
+
 module _ (k : Setting) (ws : List ℕ) (rs : List RaiseStep) (ds : List DrainStep) (l : Level) (N : RingNow k ws rs ds l) where
   pub index_low : (id : ℕ) (c : Cyclic) → l.cyclics id ≡ Some c → c.index < cyclics
-  index_low id c e = let a = N.law.in_hard_bank id c e in let b = N.law.bank_bound in let p : 2 ^ l.hard_bank ≤ 2 ^ greatest_bank = pow_mono {i = l.hard_bank} {j = greatest_bank} b in let q : 2 ^ greatest_bank ≡ cyclics = refl in omega (arith, a, p, q)
+  index_low = admitted_low l N.law
 
   pub softs_held : BankHolds ws l.cyclics l.soft_bank (consumer_index k.start ds) (soft_list l)
   softs_held = dite (ℕ_discrete l.hard_bank l.soft_bank)

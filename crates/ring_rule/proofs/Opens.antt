@@ -6,9 +6,10 @@ use Rattle.atomic_table.specs.Table.{opening}
 use Rattle.cyc_level.specs.Level.{empty_level}
 use Rattle.ring_rule.specs.declared.SeatView.{SeatView}
 use Rattle.ring_rule.specs.declared.Setting.{Setting}
-use Rattle.ring_rule.specs.Words.{first_word, producer_word, hard_word, soft_word, word_count}
+use Rattle.ring_rule.specs.Words.{pend_word, first_word, producer_word, hard_word, soft_word, word_count}
 use Rattle.ring_rule.specs.Shown.{Shows, StillHolds}
 use Rattle.ring_rule.specs.Rule.{opening_view, IsSeat, MeetsRule}
+use Rattle.ring_rule.proofs.Words.{pend_low}
 
 module _ (k : Setting) (ws : List ℕ) (long : length ws ≡ word_count) (all : (j : ℕ) → j < word_count → get_or ws j 0 ≡ first_word k.start j) (small : k.start < 2 ^ 32) (ceiling_fits : k.ceiling < 2 ^ 32) where
   low : (j : ℕ) → j < producer_word 0 → get_or ws j 0 ≡ 0
@@ -28,7 +29,7 @@ module _ (k : Setting) (ws : List ℕ) (long : length ws ≡ word_count) (all : 
     marked_is = refl;
     stays = λ j. refl;
     pends = λ j c e. absurd (cc);
-    unused = λ j h _. low j (omega arith);
+    unused = λ j h _. low (pend_word j) (let p = pend_low j h in omega (arith, p));
     new_held = ends (producer_word 0) (omega arith) (omega arith);
     old_held = λ ne. absurd (ne refl);
     produced = omega arith;

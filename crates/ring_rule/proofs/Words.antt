@@ -1,20 +1,39 @@
 -- Where the words of a ring lie, and which of them a write leaves as they were.
-use Rattle.std.proofs.Common.{◌≡◌, ℕ, ◌+◌, ◌%◌, ◌^◌, ◌<◌, ◌≤◌, List, [], ◌∷◌, length, get_or, sym, refl, ap, ◌∙◌, pow_mono, pow_pos, mod-lt, arith}
+use Rattle.std.proofs.Common.{◌≡◌, ℕ, ◌+◌, ◌-◌, ◌*◌, ◌%◌, ◌^◌, ◌<◌, ◌≤◌, List, [], ◌∷◌, length, get_or, sym, refl, ap, ◌∙◌, pow_mono, pow_pos, mod-lt, arith}
+use Rattle.std.proofs.lemmas.Nat.{mul-mod_first}
+use Rattle.std.proofs.Math.Nat.{add-mul-mod_self_left, mul_assoc}
+use lib.Pow.{pow-add}
 use Rattle.std.specs.Prelude.{Option, Some, None}
 use Rattle.std.specs.Option.{option_map}
 use Rattle.cyc_level.specs.Level.{Cyclic, Cyclics}
 use Rattle.cyc_level.specs.Events.{changed_at}
 use Rattle.cyc_level.proofs.Maps.{at_cases}
 use Rattle.cyc_types.specs.Limits.{greatest_bank, cyclics}
-use Rattle.ring_rule.specs.Words.{place, producer_word, entry}
+use Rattle.ring_rule.specs.Words.{spread, pend_word, place, producer_word, entry}
 use Rattle.ring_rule.specs.Shown.{HoldsEntry, BankHolds, IsHandStored}
+
+pub pend_low : (i : ℕ) → i < cyclics → pend_word i < cyclics
+pend_low i h = omega arith
+
+-- two indexes have two pend words
+pub pend_distinct : (i j : ℕ) → i < cyclics → j < cyclics → pend_word i ≡ pend_word j → i ≡ j
+pend_distinct i j a b e = omega (arith, a, b, e)
 
 pub place_high : (bank i : ℕ) → cyclics ≤ place bank i
 place_high bank i = let p : 0 < 2 ^ bank = pow_pos bank in omega (arith, p)
 
 pub place_low : (bank i : ℕ) → bank ≤ greatest_bank → place bank i < producer_word 0
 place_low bank i h = let p : 0 < 2 ^ bank = pow_pos bank in let q : 2 ^ bank ≤ 2 ^ greatest_bank = pow_mono {i = bank} {j = greatest_bank} h in
-    let r : i % 2 ^ bank < 2 ^ bank = mod-lt i p in let e : 2 ^ greatest_bank ≡ cyclics = refl in omega (arith, p, q, r, e)
+    let r : i * 9 % 2 ^ bank < 2 ^ bank = mod-lt (i * 9) p in let e : 2 ^ greatest_bank ≡ cyclics = refl in omega (arith, p, q, r, e)
+
+-- nine has an inverse, so that the place shows the index
+turned_back : (bank i : ℕ) → bank ≤ 33 → spread (2 ^ bank) i * 954437177 % 2 ^ bank ≡ i % 2 ^ bank
+turned_back bank i most = let q : 2 ^ 33 ≡ 2 ^ bank * 2 ^ (33 - bank) = sym (sym (pow-add 2 bank (33 - bank)) ∙ ap (λ (x : ℕ). 2 ^ x) (let e : bank + (33 - bank) ≡ 33 = omega arith in e)) in
+    let e : i * 9 * 954437177 ≡ i + 2 ^ 33 * i = omega arith in
+    mul-mod_first (i * 9) 954437177 (2 ^ bank) ∙ (ap (λ (x : ℕ). x % 2 ^ bank) (e ∙ (ap (λ (x : ℕ). i + x * i) q ∙ ap (λ (x : ℕ). i + x) (mul_assoc (2 ^ bank) (2 ^ (33 - bank)) i))) ∙ add-mul-mod_self_left i (2 ^ bank) (2 ^ (33 - bank) * i))
+
+pub same_turn : (bank i j : ℕ) → bank ≤ 33 → spread (2 ^ bank) i ≡ spread (2 ^ bank) j → i % 2 ^ bank ≡ j % 2 ^ bank
+same_turn bank i j most e = sym (turned_back bank i most) ∙ (ap (λ (x : ℕ). x * 954437177 % 2 ^ bank) e ∙ turned_back bank j most)
 
 -- each map has the ids of the first, with their indexes
 abbrev pub Keeps : Cyclics → Cyclics → Type 0

@@ -11,7 +11,7 @@ use Rattle.ring_rule.specs.declared.RaiseStep.{RaiseStep}
 use Rattle.ring_rule.specs.declared.DrainStep.{DrainStep}
 use Rattle.ring_rule.specs.declared.SeatView.{SeatView}
 use Rattle.ring_rule.specs.declared.Setting.{Setting}
-use Rattle.ring_rule.specs.Words.{mark_bit}
+use Rattle.ring_rule.specs.Words.{pend_word, mark_bit}
 use Rattle.ring_rule.specs.Trail.{open_stay, ended_stays, ended_calls, raises_of, losses_of, seen_pend, made_calls, raise_events, drain_events}
 use Rattle.ring_rule.specs.Shown.{Shows}
 use Rattle.ring_rule.specs.Rule.{RingState, HasItsTrail}
@@ -20,7 +20,7 @@ use Rattle.ring_rule.specs.Rule.{RingState, HasItsTrail}
 -- lost; and the finishes of the id are these and the calls of its ended stays
 abbrev pub IsBooked : List ℕ → List RaiseStep → List DrainStep → Type 0
 IsBooked words raise_trail drain_trail = (id : ℕ) (s : StayCounts) → open_stay id raise_trail ≡ Some s
-    → (done : ℕ) × (s.sent ≡ done + slice_index words s.index % mark_bit + s.lost)
+    → (done : ℕ) × (s.sent ≡ done + slice_index words (pend_word s.index) % mark_bit + s.lost)
     × (made_calls id drain_trail ≡ done + ended_calls id raise_trail)
 
 -- with no open stay nothing is pending, and otherwise no more than was seen

@@ -5,7 +5,7 @@ use Rattle.cyc_level.specs.Level.{Cyclic, Cyclics, Level, count, soft_list, in_h
 use Rattle.cyc_level.specs.Runs.{StayCounts}
 use Rattle.ring_rule.specs.declared.RaiseStep.{RaiseStep}
 use Rattle.ring_rule.specs.declared.DrainStep.{DrainStep}
-use Rattle.ring_rule.specs.Words.{mark_bit, index_range, place, producer_word, hard_word, soft_word, entry, entry_id, entry_index}
+use Rattle.ring_rule.specs.Words.{pend_word, mark_bit, index_range, place, producer_word, hard_word, soft_word, entry, entry_id, entry_index}
 use Rattle.ring_rule.specs.Trail.{open_stay, ended_calls, firer_hand_of, marked_of, seen_pend, hard_bank_of, producer_index, stored_entry, has_followed, held_entry, drainer_hand_of, made_calls, soft_bank_of, consumer_index, producer_seen, bank_seen}
 
 -- the stay in the raise seat's trail is the level's. Of the finishes made, those of the stays that have ended are not
@@ -48,8 +48,8 @@ pub record Shows (start : ℕ) (words : List ℕ) (raise_trail : List RaiseStep)
   pub stays : (id : ℕ) → IsSameStay (made_calls id drain_trail) (ended_calls id raise_trail) (open_stay id raise_trail) (l.cyclics id)
   -- a pend word is the outstanding calls with the mark, and that of an unused index is 0
   pub pends : (id : ℕ) (c : Cyclic) → l.cyclics id ≡ Some c
-      → slice_index words c.index ≡ c.count + mark_bit * in_hand id l.marked
-  pub unused : (i : ℕ) → i < cyclics → ((id : ℕ) (c : Cyclic) → l.cyclics id ≡ Some c → c.index ≢ i) → slice_index words i ≡ 0
+      → slice_index words (pend_word c.index) ≡ c.count + mark_bit * in_hand id l.marked
+  pub unused : (i : ℕ) → i < cyclics → ((id : ℕ) (c : Cyclic) → l.cyclics id ≡ Some c → c.index ≢ i) → slice_index words (pend_word i) ≡ 0
   -- each entry between the indexes is id * cyclics + index of an admitted id
   pub new_held : BankHolds words l.cyclics l.hard_bank (new_list_start start drain_trail l) l.new_list
   pub old_held : l.hard_bank ≢ l.soft_bank → BankHolds words l.cyclics l.soft_bank (consumer_index start drain_trail) l.old_list

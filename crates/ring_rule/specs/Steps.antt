@@ -3,7 +3,7 @@ use Rattle.std.specs.Prelude.{◌≡◌, ◌≢◌, ℕ, ◌%◌, ◌^◌, ◌<�
 use mathlib.Core.Option.{some}
 use lib.ListN.{get_elem?}
 use Rattle.atomic_table.specs.Table.{Me, Step, Allows, keeps, stepped}
-use Rattle.cyc_types.specs.Limits.{greatest_bank}
+use Rattle.cyc_types.specs.Limits.{greatest_bank, cyclics}
 use Rattle.cyc_level.specs.Lawful.{IsId}
 use Rattle.ring_rule.specs.declared.RaiseStep.{RaiseStep}
 use Rattle.ring_rule.specs.declared.RaiseStep.TheVariants.{Admitted, Loaded, Lost, Added, Stored, Published, Marked, Cleared, Switched, LoadedSoftBank}
@@ -11,7 +11,7 @@ use Rattle.ring_rule.specs.declared.DrainStep.{DrainStep}
 use Rattle.ring_rule.specs.declared.DrainStep.TheVariants.{LoadedHardBank, LoadedProducer, Took, Subtracted, Followed}
 use Rattle.ring_rule.specs.declared.SeatView.{SeatView}
 use Rattle.ring_rule.specs.declared.Setting.{Setting}
-use Rattle.ring_rule.specs.Words.{mark_bit, entry_id}
+use Rattle.ring_rule.specs.Words.{pend_word, mark_bit, entry_id}
 use Rattle.ring_rule.specs.Trail.{seen_pend, soft_bank_of, hard_bank_of, has_followed, raise_event, drain_event}
 use Rattle.ring_rule.specs.Rule.{RingState, MeetsRule}
 use Rattle.ring_rule.specs.Conservation.{StandsFor}
@@ -37,9 +37,10 @@ GainsDrainStep x me me' = me' ≡ (with_drain_step x me.0, me.1)
 abbrev pub Telling : Type 1
 Telling = Step (Unit {0}) → ThisSeat → ℕ → ThisSeat → Type 0
 
--- the load that admits an id found the pend word of an unused index
+-- the load that admits an id at an index found the pend word of an unused one
 abbrev pub TellsAdmit : ℕ → Telling
-TellsAdmit id t me found me' = (found ≡ 0) × GainsRaiseStep (Admitted id t.word) me me'
+TellsAdmit id t me found me' = (found ≡ 0)
+    × ((index : ℕ) → index < cyclics → t.word ≡ pend_word index → GainsRaiseStep (Admitted id index) me me')
 
 -- the load that begins a raise: at the ceiling the expiration is lost
 abbrev pub TellsRaiseLoad : ℕ → ℕ → Telling

@@ -13,11 +13,11 @@ use Rattle.ring_rule.specs.declared.RaiseStep.TheVariants.{Switched, LoadedSoftB
 use Rattle.ring_rule.specs.declared.DrainStep.{DrainStep}
 use Rattle.ring_rule.specs.declared.DrainStep.TheVariants.{Followed}
 use Rattle.ring_rule.specs.declared.Setting.{Setting}
-use Rattle.ring_rule.specs.Words.{place, producer_word, hard_word, soft_word}
+use Rattle.ring_rule.specs.Words.{pend_word, place, producer_word, hard_word, soft_word}
 use Rattle.ring_rule.specs.Trail.{ended_calls, firer_hand_of, hard_bank_of, producer_index, has_followed, soft_bank_of, consumer_index, producer_seen, bank_seen}
 use Rattle.ring_rule.specs.Shown.{BankHolds, Shows, StillHolds}
 use Rattle.ring_rule.specs.Steps.{TellsSwitch, TellsSoftBank, TellsFollow}
-use Rattle.ring_rule.proofs.Words.{place_low, keeps_all, holds_kept, stored_kept}
+use Rattle.ring_rule.proofs.Words.{pend_low, place_low, keeps_all, holds_kept, stored_kept}
 use Rattle.ring_rule.proofs.Seats.{level, raiser, drains, raise_moves, raise_stays, drain_moves}
 use Rattle.ring_rule.proofs.Now.{RingNow, ring_now, loaded, index_low}
 use Rattle.ring_rule.proofs.Stands.{raise_allowed, drain_allowed}
@@ -63,8 +63,8 @@ module _ (k : Setting) (ws : List ℕ) (rs : List RaiseStep) (ds : List DrainSte
       drainer_is = sh.drainer_is;
       marked_is = sh.marked_is;
       stays = sh.stays;
-      pends = λ j c e. let x = index_low k ws rs ds l N j c e in other hard_word bank c.index (λ e. omega arith) ∙ sh.pends j c e;
-      unused = λ j less no. other hard_word bank j (λ e. omega arith) ∙ sh.unused j less no;
+      pends = λ j c e. let x = pend_low c.index (index_low k ws rs ds l N j c e) in other hard_word bank (pend_word c.index) (λ e. omega arith) ∙ sh.pends j c e;
+      unused = λ j less no. let x = pend_low j less in other hard_word bank (pend_word j) (λ e. omega arith) ∙ sh.unused j less no;
       new_held = subst (λ x. get_or ws' (producer_word bank) 0 ≡ cond x C k.start % 2 ^ 32) (sym off) (other hard_word bank (producer_word bank) (λ e. omega arith) ∙ N.still.fresh bank greater most);
       old_held = λ _. holds_low hard_word bank l.soft_bank l.new_list C (omega (arith, g, b)) (omega arith) was;
       produced = subst (λ x. k.start ≡ cond x C k.start + 0) (sym off) (omega arith);
@@ -139,8 +139,8 @@ module _ (k : Setting) (ws : List ℕ) (rs : List RaiseStep) (ds : List DrainSte
       drainer_is = sh.drainer_is;
       marked_is = sh.marked_is;
       stays = sh.stays;
-      pends = λ j c e. let x = index_low k ws rs ds l N j c e in other soft_word bank c.index (λ e. omega arith) ∙ sh.pends j c e;
-      unused = λ j less no. other soft_word bank j (λ e. omega arith) ∙ sh.unused j less no;
+      pends = λ j c e. let x = pend_low c.index (index_low k ws rs ds l N j c e) in other soft_word bank (pend_word c.index) (λ e. omega arith) ∙ sh.pends j c e;
+      unused = λ j less no. let x = pend_low j less in other soft_word bank (pend_word j) (λ e. omega arith) ∙ sh.unused j less no;
       new_held = holds_low soft_word bank l.hard_bank l.new_list (cond (eqb l.hard_bank l.hard_bank) k.start k.start) N.law.bank_bound (omega arith)
           (subst (λ (x : ℕ). BankHolds ws l.cyclics l.hard_bank x l.new_list) (ap (λ b. cond b C k.start) off ∙ ap (λ b. cond b k.start k.start) (sym on)) sh.new_held);
       old_held = λ ne. absurd (ne refl);

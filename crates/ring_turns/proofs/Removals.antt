@@ -17,14 +17,14 @@ use Rattle.ring_rule.specs.declared.RaiseStep.{RaiseStep}
 use Rattle.ring_rule.specs.declared.RaiseStep.TheVariants.{Loaded, Marked, Cleared}
 use Rattle.ring_rule.specs.declared.DrainStep.{DrainStep}
 use Rattle.ring_rule.specs.declared.Setting.{Setting}
-use Rattle.ring_rule.specs.Words.{mark_bit, place, producer_word, entry_id, hard_word, soft_word}
+use Rattle.ring_rule.specs.Words.{pend_word, mark_bit, place, producer_word, entry_id, hard_word, soft_word}
 use Rattle.ring_rule.specs.Trail.{open_stay, ended_calls, firer_hand_of, marked_of, seen_pend, id_in, made_calls, consumer_index}
 use Rattle.ring_rule.specs.Shown.{IsSameStay, BankHolds, Shows, StillHolds}
 use Rattle.ring_rule.specs.Steps.{TellsLoad, TellsMark, TellsClear}
-use Rattle.ring_rule.proofs.Words.{place_high, keeps_all, holds_high}
+use Rattle.ring_rule.proofs.Words.{pend_low, pend_distinct, place_high, keeps_all, holds_high}
 use Rattle.ring_rule.proofs.Seats.{level, raiser, raise_moves, raise_stays}
 use Rattle.ring_rule.proofs.Stays.{behind, held_once}
-use Rattle.ring_rule.proofs.Now.{RingNow, ring_now, loaded, index_low}
+use Rattle.ring_rule.proofs.Now.{RingNow, ring_now, loaded, index_low, same_pend}
 use Rattle.ring_rule.proofs.Stands.{raise_allowed}
 
 module _ (ws ws' : List ℕ) (m : Cyclics) (id : ℕ) (high : (j : ℕ) → cyclics ≤ j → get_or ws' j 0 ≡ get_or ws j 0) where
@@ -36,18 +36,21 @@ module _ (ws ws' : List ℕ) (m : Cyclics) (id : ℕ) (high : (j : ℕ) → cycl
   holds_cleared bank (x ∷ xs) i bare h = let ne : x ≢ id = λ e. let a = hand_here id in let b : in_hand id (Some x) ≡ in_hand id (Some id) = ap (λ (y : ℕ). in_hand id (Some y)) e in omega (arith, a, b, bare) in
       let c = h.0 in ((c.0, at_other m id (λ _. None) x ne ∙ c.1, high (place bank i) (place_high bank i) ∙ c.2), holds_cleared bank xs (i + 1) (omega (arith, bare)) h.1)
 
-module _ (k : Setting) (ws : List ℕ) (rs : List RaiseStep) (ds : List DrainStep) (l : Level) (N : RingNow k ws rs ds l) (i id : ℕ) (st : StayCounts) (is : open_stay id rs ≡ Some st) (at_i : st.index ≡ i) where
+module _ (k : Setting) (ws : List ℕ) (rs : List RaiseStep) (ds : List DrainStep) (l : Level) (N : RingNow k ws rs ds l) (i id : ℕ) (st : StayCounts) (is : open_stay id rs ≡ Some st) (at_i : i ≡ pend_word st.index) where
   pub known : (c : Cyclic) × (l.cyclics id ≡ Some c) × (st.index ≡ c.index) × (st.sent ≡ c.sent) × (st.lost ≡ c.lost) × (made_calls id ds ≡ c.done + ended_calls id rs)
   known = behind (made_calls id ds) (ended_calls id rs) (open_stay id rs) (l.cyclics id) st is (N.shows.stays id)
 
   abbrev c : Cyclic
   c = known.0
 
-  here : c.index ≡ i
-  here = sym known.2 ∙ at_i
+  here : pend_word c.index ≡ i
+  here = sym (at_i ∙ ap pend_word known.2)
+
+  own_low : c.index < cyclics
+  own_low = index_low k ws rs ds l N id c known.1
 
   low : i < cyclics
-  low = let h = here in let x = index_low k ws rs ds l N id c known.1 in omega (arith, h, x)
+  low = subst (λ (x : ℕ). x < cyclics) here (pend_low c.index own_low)
 
   abbrev n : ℕ
   n = get_or ws i 0
@@ -61,7 +64,7 @@ module _ (k : Setting) (ws : List ℕ) (rs : List RaiseStep) (ds : List DrainSte
   -- a load, also of a marked id
   module _ (small : k.ceiling < 2 ^ 32) where
     pub count_found : n % 2 ^ 32 ≡ c.count
-    count_found = let p = N.shows.pends id c known.1 in let e : n ≡ get_or ws c.index 0 = ap (λ (a : ℕ). get_or ws a 0) (sym here) in let m = held_once id l.marked in
+    count_found = let p = N.shows.pends id c known.1 in let e : n ≡ get_or ws (pend_word c.index) 0 = ap (λ (a : ℕ). get_or ws a 0) (sym here) in let m = held_once id l.marked in
         let b = N.law.below_ceiling id c known.1 in let t = N.ceiling_is in omega (arith, p, e, m, b, t, small)
 
     pub load_top : n % 2 ^ 32 ≤ seen_pend id rs
@@ -126,11 +129,11 @@ module _ (k : Setting) (ws : List ℕ) (rs : List RaiseStep) (ds : List DrainSte
       marked_is = refl;
       stays = sh.stays;
       pends = λ j d e. dite (ℕ_discrete j id)
-          (λ x. let same : c ≡ d = some_same c d (sym known.1 ∙ (ap l.cyclics (sym x) ∙ e)) in subst (λ (p : ℕ × Cyclic). get_or ws' p.1.index 0 ≡ p.1.count + 2 ^ 32 * in_hand p.0 (Some id)) (λ z. (sym x z, same z))
+          (λ x. let same : c ≡ d = some_same c d (sym known.1 ∙ (ap l.cyclics (sym x) ∙ e)) in subst (λ (p : ℕ × Cyclic). get_or ws' (pend_word p.1.index) 0 ≡ p.1.count + 2 ^ 32 * in_hand p.0 (Some id)) (λ z. (sym x z, same z))
           (ap (λ (a : ℕ). get_or ws' a 0) here ∙ (get_or-set_same ws i (n + 2 ^ 32) 0 inside ∙ (let f = found in let o = hand_here id in omega (arith, f, o)))))
-          (λ ne. get_or-set_other ws i d.index (n + 2 ^ 32) 0 (λ x. ne (N.law.distinct_indexes j id d c e known.1 (x ∙ sym here)))
-          ∙ (let p = sh.pends j d e in let a : in_hand j l.marked ≡ 0 = ap (in_hand j) unmarked in let b = hand_else j id ne in let q : get_or ws d.index 0 ≡ d.count + 2 ^ 32 * in_hand j (Some id) = omega (arith, p, a, b) in q));
-      unused = λ a lt no. get_or-set_other ws i a (n + 2 ^ 32) 0 (λ e. no id c known.1 (here ∙ sym e)) ∙ sh.unused a lt no;
+          (λ ne. get_or-set_other ws i (pend_word d.index) (n + 2 ^ 32) 0 (λ x. ne (same_pend l N.law j id d c e known.1 (x ∙ sym here)))
+          ∙ (let p = sh.pends j d e in let a : in_hand j l.marked ≡ 0 = ap (in_hand j) unmarked in let b = hand_else j id ne in let q : get_or ws (pend_word d.index) 0 ≡ d.count + 2 ^ 32 * in_hand j (Some id) = omega (arith, p, a, b) in q));
+      unused = λ a lt no. get_or-set_other ws i (pend_word a) (n + 2 ^ 32) 0 (λ e. no id c known.1 (pend_distinct c.index a own_low lt (here ∙ sym e))) ∙ sh.unused a lt no;
       new_held = holds_high ws ws' l.cyclics l.cyclics (keeps_all l.cyclics) (high (n + 2 ^ 32)) l.hard_bank l.new_list (cond (eqb l.hard_bank l.soft_bank) (consumer_index k.start ds) k.start) sh.new_held;
       old_held = λ apart. holds_high ws ws' l.cyclics l.cyclics (keeps_all l.cyclics) (high (n + 2 ^ 32)) l.soft_bank l.old_list (consumer_index k.start ds) (sh.old_held apart);
       produced = sh.produced;
@@ -191,12 +194,12 @@ module _ (k : Setting) (ws : List ℕ) (rs : List RaiseStep) (ds : List DrainSte
       drainer_is = sh.drainer_is;
       marked_is = refl;
       stays = same_cleared;
-      pends = at_cases l.cyclics id (λ _. None) (λ j o. (d : Cyclic) → o ≡ Some d → get_or wz d.index 0 ≡ d.count + 2 ^ 32 * in_hand j None) (λ d e. absurd (cc))
-          (λ j ne d e. get_or-set_other ws i d.index 0 0 (λ x. ne (N.law.distinct_indexes j id d c e known.1 (x ∙ sym here)))
+      pends = at_cases l.cyclics id (λ _. None) (λ j o. (d : Cyclic) → o ≡ Some d → get_or wz (pend_word d.index) 0 ≡ d.count + 2 ^ 32 * in_hand j None) (λ d e. absurd (cc))
+          (λ j ne d e. get_or-set_other ws i (pend_word d.index) 0 0 (λ x. ne (same_pend l N.law j id d c e known.1 (x ∙ sym here)))
           ∙ (let p = sh.pends j d e in let a : in_hand j l.marked ≡ 0 = ap (in_hand j) is_marked ∙ hand_else j id ne in omega (arith, p, a)));
-      unused = λ a lt no. dite (ℕ_discrete a i) (λ e. ap (λ (x : ℕ). get_or wz x 0) e ∙ get_or-set_same ws i 0 0 inside)
-          (λ ne. get_or-set_other ws i a 0 0 ne ∙ sh.unused a lt (λ j d e x. dite (ℕ_discrete j id)
-          (λ y. let same : c ≡ d = some_same c d (sym known.1 ∙ (ap l.cyclics (sym y) ∙ e)) in ne (sym x ∙ (ap (λ (z : Cyclic). z.index) (sym same) ∙ here))) (λ y. no j d (left j d y e) x)));
+      unused = λ a lt no. dite (ℕ_discrete (pend_word a) i) (λ e. ap (λ (x : ℕ). get_or wz x 0) e ∙ get_or-set_same ws i 0 0 inside)
+          (λ ne. get_or-set_other ws i (pend_word a) 0 0 ne ∙ sh.unused a lt (λ j d e x. dite (ℕ_discrete j id)
+          (λ y. let same : c ≡ d = some_same c d (sym known.1 ∙ (ap l.cyclics (sym y) ∙ e)) in ne (ap pend_word (sym x ∙ ap (λ (z : Cyclic). z.index) (sym same)) ∙ here)) (λ y. no j d (left j d y e) x)));
       new_held = holds_cleared ws wz l.cyclics id (high 0) l.hard_bank l.new_list (cond (eqb l.hard_bank l.soft_bank) (consumer_index k.start ds) k.start) (omega (arith, gone)) sh.new_held;
       old_held = λ apart. holds_cleared ws wz l.cyclics id (high 0) l.soft_bank l.old_list (consumer_index k.start ds) (omega (arith, gone)) (sh.old_held apart);
       produced = sh.produced;

@@ -6,7 +6,7 @@ use Rattle.cyc_types.specs.Limits.{greatest_bank}
 use Rattle.cyc_level.specs.Runs.{StayCounts}
 use Rattle.ring_rule.specs.declared.Role.TheVariants.{Raise, Drain}
 use Rattle.ring_rule.specs.declared.Setting.{Setting}
-use Rattle.ring_rule.specs.Words.{mark_bit, index_range, hard_word, soft_word}
+use Rattle.ring_rule.specs.Words.{pend_word, mark_bit, index_range, hard_word, soft_word}
 use Rattle.ring_rule.specs.Trail.{open_stay, firer_hand_of, marked_of, seen_pend, hard_bank_of, has_followed, soft_bank_of, consumer_index, producer_seen, bank_seen}
 use Rattle.ring_rule.specs.Steps.{ThisSeat, Claim, IsAllowed, IsRaiseStep, IsDrainStep, TellsLoad, TellsMark, TellsClear, TellsSwitch, TellsSoftBank, TellsFollow}
 
@@ -15,7 +15,7 @@ abbrev pub OfLoad : Claim → Type 0
 OfLoad Says = (k : Setting) (slots seat : ℕ) (me : ThisSeat) (i id : ℕ) (s : StayCounts)
     → me.0.role ≡ Raise
     → open_stay id me.0.raise_trail ≡ Some s
-    → s.index ≡ i
+    → i ≡ pend_word s.index
     → Says k slots seat me i (λ n. n) (TellsLoad id (step slots i 0 0 none) me)
 
 abbrev pub LoadIsAllowed : Type 0
@@ -29,7 +29,7 @@ abbrev pub OfMark : Claim → Type 0
 OfMark Says = (k : Setting) (slots seat : ℕ) (me : ThisSeat) (i id : ℕ) (s : StayCounts)
     → me.0.role ≡ Raise
     → open_stay id me.0.raise_trail ≡ Some s
-    → s.index ≡ i
+    → i ≡ pend_word s.index
     → marked_of me.0.raise_trail ≡ None
     → firer_hand_of me.0.raise_trail ≡ None
     → Says k slots seat me i (λ n. (n + mark_bit) % 2 ^ 64) (TellsMark id (step slots i mark_bit 0 none) me)
@@ -45,7 +45,7 @@ abbrev pub OfClear : Claim → Type 0
 OfClear Says = (k : Setting) (slots seat : ℕ) (me : ThisSeat) (i id : ℕ) (s : StayCounts)
     → me.0.role ≡ Raise
     → open_stay id me.0.raise_trail ≡ Some s
-    → s.index ≡ i
+    → i ≡ pend_word s.index
     → marked_of me.0.raise_trail ≡ Some id
     → seen_pend id me.0.raise_trail ≡ 0
     → firer_hand_of me.0.raise_trail ≡ None

@@ -7,7 +7,7 @@ use Rattle.ring_rule.specs.declared.RaiseStep.{RaiseStep}
 use Rattle.ring_rule.specs.declared.DrainStep.{DrainStep}
 use Rattle.ring_rule.specs.declared.SeatView.{SeatView}
 use Rattle.ring_rule.specs.declared.Setting.{Setting}
-use Rattle.ring_rule.specs.Words.{mark_bit}
+use Rattle.ring_rule.specs.Words.{pend_word, mark_bit}
 use Rattle.ring_rule.specs.Trail.{marked_of, made_calls, ended_calls}
 use Rattle.ring_rule.specs.Rule.{joint_view}
 use Rattle.ring_rule.specs.Steps.{ThisSeat}
@@ -30,7 +30,7 @@ invariant_of-result c = let r = c.args.raiser in let d = c.args.drainer in let t
     let joined : c.join_seat.new.seat.me.0 ≡ joint_view r.seat.me.0 d.seat.me.0 = ap (λ (m : ThisSeat). m.0) c.join_seat.ensures.2 in
     let L : LevelStands k ws rs ds = subst (λ (p : Setting × SeatView). LevelStands p.0 ws p.1.raise_trail p.1.drain_trail) (λ z. (c.args.self.key z, joined z))
     (closes t.key c.join_seat.new.seat.id c.join_seat.new.seat.me.0 (ap (λ (v : SeatView). v.role) joined) ws _ c.close_with-closed.ensures.values.2) in
-    let read : (i : ℕ) → i < cyclics → get_or ws i 0 ≡ get_or c.loop-i.pends i 0 = λ i low. or_elem ws i _ (c.loop-i.invariant.1 i (search rules)) in
+    let read : (i : ℕ) → i < cyclics → get_or ws (pend_word i) 0 ≡ get_or c.loop-i.pends i 0 = λ i low. or_elem ws (pend_word i) _ (c.loop-i.invariant.1 i (search rules)) in
     let known : c.of-known.result.value.seat.me.0.raise_trail ≡ rs = ap (λ (x : RaiseSeat). x.seat.me.0.raise_trail) c.of-known.ensures in
     let done : c.of-done.result.value.seat.me.0.drain_trail ≡ ds = ap (λ (x : DrainSeat). x.seat.me.0.drain_trail) c.of-done.ensures in let small = c.args.self.ranges.1 in
     record {
