@@ -7,7 +7,7 @@ mod words;
 
 use std::hint::black_box;
 use std::sync::atomic::{AtomicU64, Ordering::SeqCst};
-use words::{Drainer, HARD, PRODUCERS, Raiser, Ring};
+use words::{Drainer, HARD, PRODUCERS, Raiser, Ring, pend_word, spread};
 
 unsafe extern "C" {
     fn bench_ring(ids: u16, turns: u64) -> u64;
@@ -47,18 +47,18 @@ fn steps(ids: u16, turns: u64) -> u64 {
     let mut id = 1;
     for _ in 0..turns {
         let index = id as usize - 1;
-        if words[index].load(SeqCst) != u64::from(u32::MAX)
-            && words[index].fetch_add(1, SeqCst) == 0
-        {
-            words[511 + producer % 256].store(id * 256 + index as u64, SeqCst);
+        let pend = &words[pend_word(index)];
+        if pend.load(SeqCst) != u64::from(u32::MAX) && pend.fetch_add(1, SeqCst) == 0 {
+            words[511 + spread(256, producer)].store(id * 256 + index as u64, SeqCst);
             producer += 1;
             words[PRODUCERS + bank].store(producer as u64, SeqCst);
         }
         words[HARD].load(SeqCst);
         if words[PRODUCERS + bank].load(SeqCst) != consumer as u64 {
-            let entry = words[511 + consumer % 256].load(SeqCst);
+            let entry = words[511 + spread(256, consumer)].load(SeqCst);
             consumer += 1;
-            last += u64::from(words[entry as usize % 256].fetch_sub(1, SeqCst) == 1);
+            let pend = &words[pend_word(entry as usize % 256)];
+            last += u64::from(pend.fetch_sub(1, SeqCst) == 1);
         }
         id = following(id, ids);
     }

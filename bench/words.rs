@@ -26,6 +26,16 @@ impl<const APART: usize> Ring<APART> {
     }
 }
 
+/// Which of so many words an index has: those of neighbours lie on two cache lines.
+pub fn spread(size: usize, index: usize) -> usize {
+    index * 9 & (size - 1)
+}
+
+/// The pend word of an index.
+pub fn pend_word(index: usize) -> usize {
+    spread(256, index)
+}
+
 /// The index of each id: a hint by its low bits, and behind it the ids in rising order.
 struct Finder {
     ids: Vec<u64>,
@@ -83,7 +93,7 @@ impl<'a, const APART: usize> Raiser<'a, APART> {
         };
         ring.word(HARD).store(8, SeqCst);
         for index in 0..usize::from(ids) {
-            ring.word(index).load(SeqCst);
+            ring.word(pend_word(index)).load(SeqCst);
             raiser.finder.insert(index as u64 + 1, index);
         }
         raiser
@@ -91,7 +101,7 @@ impl<'a, const APART: usize> Raiser<'a, APART> {
 
     pub fn raise(&mut self, id: u64) {
         let index = self.finder.find(id).expect("an admitted id");
-        let pend = self.ring.word(index);
+        let pend = self.ring.word(pend_word(index));
         let before = pend.load(SeqCst);
         self.sent[index] += 1;
         if before == u64::from(self.ceiling) {
@@ -101,7 +111,7 @@ impl<'a, const APART: usize> Raiser<'a, APART> {
         if pend.fetch_add(1, SeqCst) != 0 {
             return;
         }
-        let place = 256 + self.mask + (self.next as usize & self.mask);
+        let place = 256 + self.mask + spread(self.mask + 1, self.next as usize);
         self.ring.word(place).store(id * 256 + index as u64, SeqCst);
         self.next = self.next.wrapping_add(1);
         self.ring
@@ -111,7 +121,7 @@ impl<'a, const APART: usize> Raiser<'a, APART> {
 
     fn load_pend(&self, id: u64) -> u64 {
         let index = self.finder.find(id).expect("an admitted id");
-        self.ring.word(index).load(SeqCst) % MARK
+        self.ring.word(pend_word(index)).load(SeqCst) % MARK
     }
 
     /// So many raises, the ids from 1 to `ids` round, each where its calls are done.
@@ -151,7 +161,7 @@ impl<'a, const APART: usize> Drainer<'a, APART> {
             let bank = self.ring.word(HARD).load(SeqCst) as usize;
             let end = self.ring.word(PRODUCERS + self.bank).load(SeqCst);
             if end != u64::from(self.next) {
-                let place = 256 + self.mask + (self.next as usize & self.mask);
+                let place = 256 + self.mask + spread(self.mask + 1, self.next as usize);
                 self.hand = self.ring.word(place).load(SeqCst);
                 self.next = self.next.wrapping_add(1);
                 return true;
@@ -175,7 +185,7 @@ impl<'a, const APART: usize> Drainer<'a, APART> {
     fn finish(&mut self) -> bool {
         let found = self
             .ring
-            .word(self.hand as usize % 256)
+            .word(pend_word(self.hand as usize % 256))
             .fetch_sub(1, SeqCst);
         if found % MARK <= 1 {
             self.hand = 0;
