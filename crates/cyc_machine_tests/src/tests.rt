@@ -116,8 +116,8 @@ fn each_script_gives_its_text(rt: HostRuntime) -> Result<(), Fail> {
     Ok(())
 }
 
-/// A script with one more cyclic than a CPU can hold, each add followed by the soft interrupts that drain its old banks.
-fn too_many(alloc: Global) -> Result<String, AllocError> {
+/// A script that fills a CPU, each add followed by the soft interrupts that drain its old banks, and then takes these steps.
+fn filled(alloc: Global, last: &str) -> Result<String, AllocError> {
     let mut script = String::new(alloc);
     script.push_str("{\"cpus\":1,\"steps\":[")?;
     for k in 0..256u32 {
@@ -126,18 +126,19 @@ fn too_many(alloc: Global) -> Result<String, AllocError> {
             "[\"add\",\"c{k}\",\"low\",1,1],[\"softint\",0,\"low\",1],[\"softint\",0,\"lock\",1],"
         )?;
     }
-    script.push_str("[\"add\",\"c256\",\"low\",1,1]]}")?;
+    script.push_str(last)?;
+    script.push_str("]}")?;
     Ok(script)
 }
 
-/// The text of that script.
-fn too_many_text(alloc: Global) -> Result<String, AllocError> {
+/// The text of that script, with these lines of its last steps.
+fn filled_text(alloc: Global, last: &str) -> Result<String, AllocError> {
     let mut text = String::new(alloc);
     for k in 0..256u32 {
         let (add, low, lock) = (3 * k + 1, 3 * k + 2, 3 * k + 3);
         write!(text, "{add} ok\n{low} ran 0 idle\n{lock} ran 0 idle\n")?;
     }
-    text.push_str("769 refused 5\n")?;
+    text.push_str(last)?;
     for k in 0..257u32 {
         write!(text, "c{k} expired 0 called 0 lost 0 pending 0\n")?;
     }
@@ -145,11 +146,19 @@ fn too_many_text(alloc: Global) -> Result<String, AllocError> {
 }
 
 #[test]
-fn a_cpu_holds_256_cyclics(rt: HostRuntime) -> Result<(), Fail> {
-    let script = too_many(rt.alloc())?;
-    let text = too_many_text(rt.alloc())?;
-    let written = written(&rt, script.as_str())?;
-    assert_eq!(rt; written.as_slice(), text.as_bytes());
+fn a_cpu_holds_256_cyclics_and_another_after_a_removal(rt: HostRuntime) -> Result<(), Fail> {
+    for (last, lines) in [
+        ("[\"add\",\"c256\",\"low\",1,1]", "769 refused 5\n"),
+        (
+            "[\"remove\",\"c0\"],[\"add\",\"c256\",\"low\",1,1]",
+            "769 removed c0 0\n770 ok\n",
+        ),
+    ] {
+        let script = filled(rt.alloc(), last)?;
+        let text = filled_text(rt.alloc(), lines)?;
+        let written = written(&rt, script.as_str())?;
+        assert_eq!(rt; written.as_slice(), text.as_bytes(), "{last}");
+    }
     Ok(())
 }
 
