@@ -1,2 +1,1 @@
-mod Enough
 mod Keeps

@@ -10,16 +10,18 @@ use cyc_cpu::{Fired, Hard};
 use cyc_ring::{DrainSeat, RaiseEnd, RaiseSeat, Ring};
 use cyc_types::{Ceiling, CyclicId, Level, Moment, Raise, Tally, When};
 use std::alloc::Global;
+use std::fmt::Debug;
+use std::process::Abort;
 use std::test::Fail;
 
 /// An id.
-pub fn id(number: u64) -> Result<CyclicId, Fail> {
+pub(crate) fn id(number: u64) -> Result<CyclicId, Fail> {
     let id = CyclicId::new(number).ok_or("an id")?;
     Ok(id)
 }
 
 /// A new ring of this ceiling, and its two seats.
-pub fn open(alloc: Global, ceiling: u32) -> Result<(Ring, RaiseSeat, DrainSeat), Fail>
+pub(crate) fn open(alloc: Global, ceiling: u32) -> Result<(Ring, RaiseSeat, DrainSeat), Fail>
     ensures own { IfOk result (λ r. IsRaiseSeatOf r.0 r.1 × IsDrainSeatOf r.0 r.2) }
     ensures empty { IfOk result (λ r. raise_trail r.1 ≡ []) }
 {
@@ -31,7 +33,7 @@ pub fn open(alloc: Global, ceiling: u32) -> Result<(Ring, RaiseSeat, DrainSeat),
 }
 
 /// The firing end of a new ring.
-pub fn raise_end<'a>(ring: &'a Ring, seat: RaiseSeat) -> RaiseEnd<'a>
+pub(crate) fn raise_end<'a>(ring: &'a Ring, seat: RaiseSeat) -> RaiseEnd<'a>
     requires own { IsRaiseSeatOf ring.now seat }
     requires empty { raise_trail seat ≡ [] }
     ensures { IsFresh (end_view result) }
@@ -40,7 +42,7 @@ pub fn raise_end<'a>(ring: &'a Ring, seat: RaiseSeat) -> RaiseEnd<'a>
 }
 
 /// A new level of this ceiling.
-pub fn level(alloc: Global, ceiling: u32) -> Result<LevelCore, Fail>
+pub(crate) fn level(alloc: Global, ceiling: u32) -> Result<LevelCore, Fail>
     ensures { IfOk result (λ core. IsFresh (firing_view (level_of core))) }
 {
     let ceiling = Ceiling::new(ceiling).ok_or("a ceiling")?;
@@ -51,7 +53,7 @@ pub fn level(alloc: Global, ceiling: u32) -> Result<LevelCore, Fail>
 }
 
 /// A CPU over two new ends, whose cyclics expire as often as a count goes.
-pub fn cpu<R: Raise + Drop>(alloc: Global, lock: R, low: R) -> Result<Hard<R>, Fail>
+pub(crate) fn cpu<R: Raise + Drop>(alloc: Global, lock: R, low: R) -> Result<Hard<R>, Fail>
     requires lock { IsFresh (R.view lock) }
     requires low { IsFresh (R.view low) }
     ensures { IfOk result (λ cpu. cpu.most ≡ 2 ^ 64 - 1) }
@@ -63,7 +65,7 @@ pub fn cpu<R: Raise + Drop>(alloc: Global, lock: R, low: R) -> Result<Hard<R>, F
 }
 
 /// Adds a cyclic of the low level with this start and interval, at this moment.
-pub fn add_low<R: Raise>(
+pub(crate) fn add_low<R: Raise>(
     cpu: &mut Hard<R>,
     id: CyclicId,
     start: i64,
@@ -84,7 +86,11 @@ pub fn add_low<R: Raise>(
 }
 
 /// Fires at this moment: the expirations and the losses.
-pub fn fire<R: Raise>(cpu: &mut Hard<R>, tally: &mut Tally, now: i64) -> Result<(u64, u64), Fail>
+pub(crate) fn fire<R: Raise>(
+    cpu: &mut Hard<R>,
+    tally: &mut Tally,
+    now: i64,
+) -> Result<(u64, u64), Fail>
     ensures { OnOk result (cpu.new.most ≡ cpu.old.most) }
 {
     let now = Moment::new(now)?;
@@ -102,16 +108,16 @@ pub fn fire<R: Raise>(cpu: &mut Hard<R>, tally: &mut Tally, now: i64) -> Result<
 
 /// The counts of a cyclic, as a report has them.
 #[derive(Clone, Copy, Debug, PartialEq, Eq)]
-pub struct Counts {
-    pub expired: u64,
-    pub called: u64,
-    pub lost: u64,
+pub(crate) struct Counts {
+    pub(crate) expired: u64,
+    pub(crate) called: u64,
+    pub(crate) lost: u64,
     /// The calls that are outstanding.
-    pub pending: u32,
+    pub(crate) pending: u32,
 }
 
 /// The counts of the id. None where it is not on this CPU.
-pub fn report<R: Raise>(cpu: &mut Hard<R>, tally: &Tally, id: CyclicId) -> Option<Counts>
+pub(crate) fn report<R: Raise>(cpu: &mut Hard<R>, tally: &Tally, id: CyclicId) -> Option<Counts>
     ensures { cpu.new.most ≡ cpu.old.most }
 {
     let called = tally.count(id)?;
@@ -124,4 +130,10 @@ pub fn report<R: Raise>(cpu: &mut Hard<R>, tally: &Tally, id: CyclicId) -> Optio
         }),
         None => None,
     }
+}
+
+/// Ends the test where what was found is not what was wanted.
+// As a call of its own it keeps the proofs of the tests short.
+pub(crate) fn expect<T: PartialEq + Debug + Copy>(rt: &impl Abort, found: T, wanted: T) {
+    assert_eq!(rt; found, wanted);
 }

@@ -1,6 +1,6 @@
 ghost use Rattle.std.specs.Prelude.{◌≡◌, ◌-◌, ◌^◌, IfOk, OnOk};
 
-use crate::help::{Counts, add_low, cpu, fire, id, level, open, raise_end, report};
+use crate::help::{Counts, add_low, cpu, expect, fire, id, level, open, raise_end, report};
 use cyc_core::LevelCore;
 use cyc_cpu::{Hard, Taken};
 use cyc_ring::DrainEnd;
@@ -8,6 +8,7 @@ use cyc_soft::Ran;
 use cyc_types::{CyclicId, Interval, Level, Moment, Raise, Refusal, Sent, Soft, Tally};
 use ring_soft::softint;
 use std::alloc::Global;
+use std::process::Abort;
 use std::test::Fail;
 
 /// Moves the cyclic to another CPU (`cyclic_juggle_one_to`): all that it took along. None where calls of it are outstanding.
@@ -65,33 +66,71 @@ fn drained(expired: u64, called: u64) -> Counts {
     }
 }
 
-// The ceiling is 2: three of the first five expirations are lost, and the count of them goes along, there and back.
+/// Moves the cyclic once its calls are made: three of its first five expirations are lost, and the count of them goes along.
+fn there<R: Raise>(
+    rt: &impl Abort,
+    plain: &mut Hard<LevelCore>,
+    shared: &mut Hard<R>,
+    tally: &mut Tally,
+) -> Result<(), Fail>
+    requires { shared.old.most ≡ plain.old.most }
+    ensures { OnOk result ((plain.new.most ≡ plain.old.most) × (shared.new.most ≡ shared.old.most)) }
+{
+    let a = id(1)?;
+    add_low(plain, a, 1, 1, 0)?;
+    expect(rt, fire(plain, tally, 5)?, (5, 3));
+    expect(rt, moves(plain, shared, a)?, None);
+    let ran = plain.softint(Soft::Low, tally, 8)?;
+    expect(rt, ran, idle_after(2));
+    expect(rt, moves(plain, shared, a)?, Some(taken(6, 5)?));
+    expect(rt, report(plain, tally, a), None);
+    expect(rt, report(shared, tally, a), Some(drained(5, 2)));
+    Ok(())
+}
+
+/// Lets it expire once there, and moves it back.
+fn back<R: Raise>(
+    rt: &impl Abort,
+    plain: &mut Hard<LevelCore>,
+    shared: &mut Hard<R>,
+    drain: &mut DrainEnd,
+    tally: &mut Tally,
+) -> Result<(), Fail>
+    requires { shared.old.most ≡ plain.old.most }
+{
+    let a = id(1)?;
+    expect(rt, fire(shared, tally, 6)?, (1, 0));
+    expect(rt, moves(shared, plain, a)?, None);
+    let ran = softint(drain, tally, Soft::Low, 8)?;
+    expect(rt, ran, idle_after(1));
+    expect(rt, moves(shared, plain, a)?, Some(taken(7, 6)?));
+    expect(rt, report(shared, tally, a), None);
+    expect(rt, report(plain, tally, a), Some(drained(6, 3)));
+    Ok(())
+}
+
+fn there_and_back<R: Raise>(
+    rt: &impl Abort,
+    plain: &mut Hard<LevelCore>,
+    shared: &mut Hard<R>,
+    drain: &mut DrainEnd,
+    tally: &mut Tally,
+) -> Result<(), Fail>
+    requires { shared.old.most ≡ plain.old.most }
+{
+    there(rt, plain, shared, tally)?;
+    back(rt, plain, shared, drain, tally)
+}
+
+// The ceiling is 2.
 #[test]
 fn a_cyclic_moves_between_ends_of_two_kinds(rt: HostRuntime) -> Result<(), Fail> {
-    let a = id(1)?;
+    let mut tally = Tally::new(rt.alloc(), id(1)?, 1, u64::MAX)?;
+    let mut plain = plain(rt.alloc(), 2)?;
     let (lock, lock_seat, _lock_drainer) = open(rt.alloc(), 2)?;
     let (low, low_seat, low_drainer) = open(rt.alloc(), 2)?;
     let lock = raise_end(&lock, lock_seat);
     let mut drain = DrainEnd::new(&low, low_drainer);
     let mut shared = cpu(rt.alloc(), lock, raise_end(&low, low_seat))?;
-    let mut plain = plain(rt.alloc(), 2)?;
-    let mut tally = Tally::new(rt.alloc(), a, 1, u64::MAX)?;
-
-    add_low(&mut plain, a, 1, 1, 0)?;
-    assert_eq!(rt; fire(&mut plain, &mut tally, 5)?, (5, 3));
-    assert_eq!(rt; moves(&mut plain, &mut shared, a)?, None);
-    let ran = plain.softint(Soft::Low, &mut tally, 8)?;
-    assert_eq!(rt; ran, idle_after(2));
-    assert_eq!(rt; moves(&mut plain, &mut shared, a)?, Some(taken(6, 5)?));
-    assert_eq!(rt; report(&mut plain, &tally, a), None);
-    assert_eq!(rt; report(&mut shared, &tally, a), Some(drained(5, 2)));
-
-    assert_eq!(rt; fire(&mut shared, &mut tally, 6)?, (1, 0));
-    assert_eq!(rt; moves(&mut shared, &mut plain, a)?, None);
-    let ran = softint(&mut drain, &mut tally, Soft::Low, 8)?;
-    assert_eq!(rt; ran, idle_after(1));
-    assert_eq!(rt; moves(&mut shared, &mut plain, a)?, Some(taken(7, 6)?));
-    assert_eq!(rt; report(&mut shared, &tally, a), None);
-    assert_eq!(rt; report(&mut plain, &tally, a), Some(drained(6, 3)));
-    Ok(())
+    there_and_back(&rt, &mut plain, &mut shared, &mut drain, &mut tally)
 }

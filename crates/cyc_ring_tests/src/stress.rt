@@ -190,8 +190,8 @@ fn both<R: Threads>(
 #[test]
 fn totals_are_exact_after_stress(rt: HostRuntime) -> Result<(), Fail> {
     for (ceiling, start) in [(3, 0), (4294967295, 4294967295)] {
-        let (ring, raiser, drainer) = open(rt.alloc(), ceiling, start)?;
         let tally = Tally::new(rt.alloc(), id(1)?, IDS, 1_000_000_000)?;
+        let (ring, raiser, drainer) = open(rt.alloc(), ceiling, start)?;
         let stop = AtomicBool::new(false);
         let (fired, (drainer, tally)) = both(&rt, &ring, raiser, drainer, tally, &stop);
         let (raiser, ledger) = fired?;

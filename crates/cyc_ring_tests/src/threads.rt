@@ -61,10 +61,11 @@ fn both<R: Threads>(
 // One thread raises, another drains, and the closed ring has each expiration.
 #[test]
 fn ring_two_threads(rt: HostRuntime) -> Result<(), Fail> {
-    let (ring, raiser, drainer) = open(rt.alloc(), 4294967295, 0)?;
     let one = id(1)?;
+    let index = Index::new(0).ok_or("an index")?;
+    let (ring, raiser, drainer) = open(rt.alloc(), 4294967295, 0)?;
     let mut firer = Firer::new(&ring, raiser);
-    firer.admit(one, Index::new(0).ok_or("an index")?)?;
+    firer.admit(one, index)?;
     let raiser = firer.into_seat();
     let (raiser, (drainer, finished)) = both(&rt, &ring, raiser, drainer, one);
     let closed = ring.close(raiser.seat(), drainer);

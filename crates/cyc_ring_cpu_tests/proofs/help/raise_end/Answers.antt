@@ -1,4 +1,4 @@
-use Rattle.std.proofs.Common.{◌≡◌, ap, ◌∙◌, sym, subst, refl, List}
+use Rattle.std.proofs.Common.{ap, ◌∙◌, sym, subst, refl, List}
 use Rattle.ring_rule.specs.declared.RaiseStep.{RaiseStep}
 use Rattle.cyc_ring.specs.Ends.{raise_trail}
 use Rattle.cyc_ring.specs.Views.{firing_view}
