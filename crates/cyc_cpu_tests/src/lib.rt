@@ -8,6 +8,8 @@ mod handlers;
 #[cfg(test)]
 mod moving;
 #[cfg(test)]
+mod removed;
+#[cfg(test)]
 mod removing;
 #[cfg(test)]
 mod room;

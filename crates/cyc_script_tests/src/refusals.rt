@@ -114,7 +114,6 @@ fn what_the_program_runs_later_has_not_the_form_of_a_step(rt: HostRuntime) -> Re
         "[\"bind\",\"a\",0]",
         "[\"unbind\",\"a\"]",
         "[\"reprogram\",\"a\",1,0]",
-        "[\"remove\",\"a\"]",
         "[\"juggle\",0]",
         "[\"offline\",0]",
         "[\"online\",0]",
@@ -138,6 +137,9 @@ fn the_first_faulty_step_decides_and_its_form_before_its_name(rt: HostRuntime) -
             None,
         ),
         ("[\"reprogram\",\"a\",1]", Some(NoName(1))),
+        ("[\"remove\",\"a\"]", Some(NoName(1))),
+        ("[\"add\",\"a\",\"low\",1,1],[\"remove\",\"a\"]", None),
+        ("[\"add\",\"a\",\"low\",1,1],[\"remove\",\"a\",0]", Some(ScriptShape(2))),
         ("[\"advance\",5],[],[\"advance\",4]", Some(ScriptShape(2))),
         ("[\"advance\",5],[\"advance\",4],[]", Some(TimeBack(2))),
         (
