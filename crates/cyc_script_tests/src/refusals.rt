@@ -139,7 +139,10 @@ fn the_first_faulty_step_decides_and_its_form_before_its_name(rt: HostRuntime) -
         ("[\"reprogram\",\"a\",1]", Some(NoName(1))),
         ("[\"remove\",\"a\"]", Some(NoName(1))),
         ("[\"add\",\"a\",\"low\",1,1],[\"remove\",\"a\"]", None),
-        ("[\"add\",\"a\",\"low\",1,1],[\"remove\",\"a\",0]", Some(ScriptShape(2))),
+        (
+            "[\"add\",\"a\",\"low\",1,1],[\"remove\",\"a\",0]",
+            Some(ScriptShape(2)),
+        ),
         ("[\"advance\",5],[],[\"advance\",4]", Some(ScriptShape(2))),
         ("[\"advance\",5],[\"advance\",4],[]", Some(TimeBack(2))),
         (
