@@ -23,7 +23,7 @@ fn following(id: u64, ids: u16) -> u64 {
 /// `turns` times one raise, one take and one finish, the ids from 1 to `ids` raised round.
 #[inline(never)]
 fn calls(ids: u16, turns: u64) -> u64 {
-    let ring = Ring::<1>::open();
+    let ring = Ring::<1, 9>::open();
     let mut raiser = Raiser::filled(&ring, ids);
     let mut drainer = Drainer::new(&ring);
     let mut last = 0;
@@ -47,17 +47,17 @@ fn steps(ids: u16, turns: u64) -> u64 {
     let mut id = 1;
     for _ in 0..turns {
         let index = id as usize - 1;
-        let pend = &words[pend_word(index)];
+        let pend = &words[pend_word::<9>(index)];
         if pend.load(SeqCst) != u64::from(u32::MAX) && pend.fetch_add(1, SeqCst) == 0 {
-            words[511 + spread(256, producer)].store(id * 256 + index as u64, SeqCst);
+            words[511 + spread::<9>(256, producer)].store(id * 256 + index as u64, SeqCst);
             producer += 1;
             words[PRODUCERS + bank].store(producer as u64, SeqCst);
         }
         words[HARD].load(SeqCst);
         if words[PRODUCERS + bank].load(SeqCst) != consumer as u64 {
-            let entry = words[511 + spread(256, consumer)].load(SeqCst);
+            let entry = words[511 + spread::<9>(256, consumer)].load(SeqCst);
             consumer += 1;
-            let pend = &words[pend_word(entry as usize % 256)];
+            let pend = &words[pend_word::<9>(entry as usize % 256)];
             last += u64::from(pend.fetch_sub(1, SeqCst) == 1);
         }
         id = following(id, ids);

@@ -1,6 +1,6 @@
 //! Times items handed from one thread to another, at most 256 on the way, over a proved ring (`crates/bench_threads`, a program,
-//! whose path is the argument), against the same calls in plain Rust over the same words, over words each on a cache line of its
-//! own, over a locked queue and over a channel of the library.
+//! whose path is the argument), against the same calls in plain Rust over the same words, over those words in the order of their
+//! indexes, over words each on a cache line of its own, over a locked queue and over a channel of the library.
 
 #[allow(dead_code)]
 mod timing;
@@ -29,8 +29,8 @@ fn at_once(raise: impl FnOnce() + Send, serve: impl FnOnce() -> u64) -> f64 {
     start.elapsed().as_nanos() as f64
 }
 
-fn ring<const APART: usize>() -> f64 {
-    let ring = Ring::<APART>::open();
+fn ring<const APART: usize, const SPREAD: usize>() -> f64 {
+    let ring = Ring::<APART, SPREAD>::open();
     let mut raiser = Raiser::filled(&ring, IDS);
     let mut drainer = Drainer::new(&ring);
     at_once(
@@ -89,11 +89,12 @@ fn proved(program: &str) -> f64 {
 
 fn main() {
     let program = std::env::args().nth(1).expect("the path of the program");
-    let mut times = [const { Vec::new() }; 5];
+    let mut times = [const { Vec::new() }; 6];
     for _ in 0..ROUNDS {
         for (times, time) in times.iter_mut().zip([
-            ring::<1>(),
-            ring::<8>(),
+            ring::<1, 9>(),
+            ring::<1, 1>(),
+            ring::<8, 1>(),
             locked(),
             channel(),
             proved(&program),
@@ -107,6 +108,7 @@ fn main() {
         "Items",
         &[
             "Rust, ns",
+            "Rust, words in order, ns",
             "Rust, words apart, ns",
             "`Mutex<VecDeque>`, ns",
             "`sync_channel`, ns",
@@ -114,5 +116,5 @@ fn main() {
             "Rattle to Rust",
         ],
     );
-    timing::row(&ITEMS.to_string(), &times, times[4] / times[0]);
+    timing::row(&ITEMS.to_string(), &times, times[5] / times[0]);
 }

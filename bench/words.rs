@@ -1,6 +1,7 @@
 //! One soft level as shared words, as a Rust programmer writes it without proofs: the same words, the same atomic steps in
-//! the same order, all sequentially consistent, and the same look-up of an id. `APART` is how far apart the words lie, in
-//! words: 1 is as the proved ring has them, 8 puts each on a cache line of its own.
+//! the same order, all sequentially consistent, and the same look-up of an id. Two numbers say where the words lie. The words of
+//! neighbouring indexes are `SPREAD` words apart: 9 is as the proved ring has them, on two cache lines, and 1 is their order. All
+//! words are `APART` times as far apart: 1 is as the proved ring has them, and 8 puts each on a cache line of its own.
 
 use std::hint::spin_loop;
 use std::sync::atomic::{AtomicU64, Ordering::SeqCst};
@@ -10,12 +11,12 @@ pub const HARD: usize = 776;
 const SOFT: usize = 777;
 const MARK: u64 = 1 << 32;
 
-pub struct Ring<const APART: usize> {
+pub struct Ring<const APART: usize, const SPREAD: usize> {
     words: Vec<AtomicU64>,
 }
 
-impl<const APART: usize> Ring<APART> {
-    pub fn open() -> Ring<APART> {
+impl<const APART: usize, const SPREAD: usize> Ring<APART, SPREAD> {
+    pub fn open() -> Ring<APART, SPREAD> {
         Ring {
             words: (0..778 * APART).map(|_| AtomicU64::new(0)).collect(),
         }
@@ -26,14 +27,14 @@ impl<const APART: usize> Ring<APART> {
     }
 }
 
-/// Which of so many words an index has: those of neighbours lie on two cache lines.
-pub fn spread(size: usize, index: usize) -> usize {
-    index * 9 & (size - 1)
+/// Which of so many words an index has.
+pub fn spread<const SPREAD: usize>(size: usize, index: usize) -> usize {
+    index * SPREAD & (size - 1)
 }
 
 /// The pend word of an index.
-pub fn pend_word(index: usize) -> usize {
-    spread(256, index)
+pub fn pend_word<const SPREAD: usize>(index: usize) -> usize {
+    spread::<SPREAD>(256, index)
 }
 
 /// The index of each id: a hint by its low bits, and behind it the ids in rising order.
@@ -63,8 +64,8 @@ impl Finder {
     }
 }
 
-pub struct Raiser<'a, const APART: usize> {
-    ring: &'a Ring<APART>,
+pub struct Raiser<'a, const APART: usize, const SPREAD: usize> {
+    ring: &'a Ring<APART, SPREAD>,
     finder: Finder,
     ceiling: u32,
     sent: [u64; 256],
@@ -74,9 +75,9 @@ pub struct Raiser<'a, const APART: usize> {
     next: u32,
 }
 
-impl<'a, const APART: usize> Raiser<'a, APART> {
+impl<'a, const APART: usize, const SPREAD: usize> Raiser<'a, APART, SPREAD> {
     /// The firing side, switched to the greatest bank, with the ids from 1 to `ids` admitted.
-    pub fn filled(ring: &'a Ring<APART>, ids: u16) -> Raiser<'a, APART> {
+    pub fn filled(ring: &'a Ring<APART, SPREAD>, ids: u16) -> Raiser<'a, APART, SPREAD> {
         let mut raiser = Raiser {
             ring,
             finder: Finder {
@@ -93,7 +94,7 @@ impl<'a, const APART: usize> Raiser<'a, APART> {
         };
         ring.word(HARD).store(8, SeqCst);
         for index in 0..usize::from(ids) {
-            ring.word(pend_word(index)).load(SeqCst);
+            ring.word(pend_word::<SPREAD>(index)).load(SeqCst);
             raiser.finder.insert(index as u64 + 1, index);
         }
         raiser
@@ -101,7 +102,7 @@ impl<'a, const APART: usize> Raiser<'a, APART> {
 
     pub fn raise(&mut self, id: u64) {
         let index = self.finder.find(id).expect("an admitted id");
-        let pend = self.ring.word(pend_word(index));
+        let pend = self.ring.word(pend_word::<SPREAD>(index));
         let before = pend.load(SeqCst);
         self.sent[index] += 1;
         if before == u64::from(self.ceiling) {
@@ -111,7 +112,7 @@ impl<'a, const APART: usize> Raiser<'a, APART> {
         if pend.fetch_add(1, SeqCst) != 0 {
             return;
         }
-        let place = 256 + self.mask + spread(self.mask + 1, self.next as usize);
+        let place = 256 + self.mask + spread::<SPREAD>(self.mask + 1, self.next as usize);
         self.ring.word(place).store(id * 256 + index as u64, SeqCst);
         self.next = self.next.wrapping_add(1);
         self.ring
@@ -121,7 +122,7 @@ impl<'a, const APART: usize> Raiser<'a, APART> {
 
     fn load_pend(&self, id: u64) -> u64 {
         let index = self.finder.find(id).expect("an admitted id");
-        self.ring.word(pend_word(index)).load(SeqCst) % MARK
+        self.ring.word(pend_word::<SPREAD>(index)).load(SeqCst) % MARK
     }
 
     /// So many raises, the ids from 1 to `ids` round, each where its calls are done.
@@ -137,16 +138,16 @@ impl<'a, const APART: usize> Raiser<'a, APART> {
     }
 }
 
-pub struct Drainer<'a, const APART: usize> {
-    ring: &'a Ring<APART>,
+pub struct Drainer<'a, const APART: usize, const SPREAD: usize> {
+    ring: &'a Ring<APART, SPREAD>,
     bank: usize,
     mask: usize,
     next: u32,
     hand: u64,
 }
 
-impl<'a, const APART: usize> Drainer<'a, APART> {
-    pub fn new(ring: &'a Ring<APART>) -> Drainer<'a, APART> {
+impl<'a, const APART: usize, const SPREAD: usize> Drainer<'a, APART, SPREAD> {
+    pub fn new(ring: &'a Ring<APART, SPREAD>) -> Drainer<'a, APART, SPREAD> {
         Drainer {
             ring,
             bank: 0,
@@ -161,7 +162,7 @@ impl<'a, const APART: usize> Drainer<'a, APART> {
             let bank = self.ring.word(HARD).load(SeqCst) as usize;
             let end = self.ring.word(PRODUCERS + self.bank).load(SeqCst);
             if end != u64::from(self.next) {
-                let place = 256 + self.mask + spread(self.mask + 1, self.next as usize);
+                let place = 256 + self.mask + spread::<SPREAD>(self.mask + 1, self.next as usize);
                 self.hand = self.ring.word(place).load(SeqCst);
                 self.next = self.next.wrapping_add(1);
                 return true;
@@ -185,7 +186,7 @@ impl<'a, const APART: usize> Drainer<'a, APART> {
     fn finish(&mut self) -> bool {
         let found = self
             .ring
-            .word(pend_word(self.hand as usize % 256))
+            .word(pend_word::<SPREAD>(self.hand as usize % 256))
             .fetch_sub(1, SeqCst);
         if found % MARK <= 1 {
             self.hand = 0;
