@@ -30,7 +30,8 @@ use Rattle.cyc_machine.specs.declared.machine.Fate.TheVariants.{Here}
 use Rattle.cyc_machine.specs.LevelRun.{happen}
 use Rattle.cyc_machine.specs.Machine.{IsFew, Serves}
 use Rattle.cyc_machine.specs.Text.{add_refusal, addition, magnitude, IsFreeAt, GetsFree}
-use Rattle.cyc_machine.proofs.Ends.{fires, seen, only_looked, admitted_as}
+use Rattle.cyc_cpu.specs.Soft.{fires, firing_at as seen}
+use Rattle.cyc_machine.proofs.Ends.{only_looked, admitted_as}
 use Rattle.cyc_machine.proofs.Raising.{happen_on}
 use Rattle.cyc_machine.proofs.Serving.{state_at}
 

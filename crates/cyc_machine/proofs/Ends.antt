@@ -1,25 +1,19 @@
 -- What the calls of a CPU do to the levels at its ends.
 use Rattle.std.proofs.Common.{◌≡◌, ℕ, ◌+◌, List, [], ◌∷◌, map, Bool, true, false, cond, refl, ap, sym, ◌∙◌, subst, arith}
-use Rattle.cyc_types.specs.Firing.{FiringView, FiringCall, Admits, Loads, Raises, Marks, Polls, Expands, Looks}
+use Rattle.cyc_types.specs.Firing.{FiringCall, Admits, Loads, Raises, Marks, Polls, Expands, Looks}
 use Rattle.cyc_types.specs.Runs.{Goes, lost_by, losses_of as calls_of}
 use Rattle.cyc_types.specs.declared.firing.Raised.{Raised}
 use Rattle.cyc_types.specs.declared.firing.Raised.TheVariants.{First, More, Lost}
 use Rattle.cyc_level.specs.declared.Event.TheVariants.{Admit}
 use Rattle.cyc_level.specs.Level.{Level, count}
 use Rattle.cyc_level.specs.Runs.{losses as losses_of}
-use Rattle.cyc_core.specs.FiringSide.{firing_view, Fires}
+use Rattle.cyc_core.specs.FiringSide.{Fires}
 use Rattle.cyc_core.specs.Tables.{Tables, level_of}
 use Rattle.cyc_cpu.specs.Acts.{AreRaises, loss_in, losses as losses_in}
 use Rattle.cyc_cpu.specs.Quiet.{OnlyLooks}
+use Rattle.cyc_cpu.specs.Soft.{fires, firing_at as seen}
 use Rattle.cyc_machine.specs.LevelRun.{happen, expiry, expiries, losses}
 use Rattle.cyc_machine.proofs.Raising.{fires_happen, losses_of_expiry, each_of_expiry, happen_on, losses_on, each_on}
-
--- a call of the firing side of a level that no other thread uses
-abbrev pub fires : Tables → FiringCall → Tables → Type 0
-fires d call e = Fires (level_of d) call (level_of e)
-
-abbrev pub seen : Tables → FiringView
-seen d = firing_view (level_of d)
 
 -- these raises were these expirations
 pub record Expired (ids : List ℕ) (way : List FiringCall) (l m : Level) : Type 0 where

@@ -31,7 +31,8 @@ use Rattle.cyc_machine.specs.declared.machine.Open.{Open}
 use Rattle.cyc_machine.specs.declared.machine.Fate.{Fate}
 use Rattle.cyc_machine.specs.Machine.{IsFew, Tallies, Serves, most_before}
 use Rattle.cyc_machine.specs.Text.{advance, fired_cyclic}
-use Rattle.cyc_machine.proofs.Ends.{fires, seen, Expired, expired}
+use Rattle.cyc_cpu.specs.Soft.{fires, firing_at as seen}
+use Rattle.cyc_machine.proofs.Ends.{Expired, expired}
 use Rattle.cyc_machine.proofs.Serving.{state_at}
 use Rattle.cyc_machine.proofs.Standing.{same_range, tallies_on, never_refuses, serves_on}
 

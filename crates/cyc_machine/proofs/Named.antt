@@ -1,5 +1,5 @@
 -- The cyclic of a name on the CPU.
-use Rattle.std.proofs.Common.{◌≡◌, ◌≢◌, ℕ, zero, suc, ◌+◌, ◌<◌, ◌⊎◌, inl, inr, List, [], ◌∷◌, length, map, find, get_or, All, Bool, true, false, cond, not, ◌==◌, ◌||◌, ◌&&◌, Option, Some, None, refl, ap, sym, ◌∙◌, arith}
+use Rattle.std.proofs.Common.{◌≡◌, ◌≢◌, ℕ, zero, suc, ◌<◌, ◌⊎◌, inl, inr, List, [], ◌∷◌, length, map, find, get_or, All, Bool, true, false, cond, not, ◌==◌, ◌||◌, ◌&&◌, Option, Some, None, refl, ap, sym, ◌∙◌, arith}
 use Rattle.std.proofs.Math.ListN.{set, length-set}
 use Rattle.std.specs.Prelude.{pos, slice_set, is_some}
 use Rattle.std.specs.Option.{option_map, option_map_or}
@@ -9,7 +9,6 @@ use Rattle.std.specs.List.{list_any}
 use Rattle.std.proofs.lemmas.Bool.{cases_lt, cases_eq}
 use Rattle.std.proofs.lemmas.Bool.Decides.{nat_tests}
 use Rattle.std.proofs.lemmas.List.{length-map, get_or-map, ext_get_or, get_or-set_other}
-use Rattle.std.proofs.lemmas.List.Elements.{All-map}
 use Rattle.std.proofs.lemmas.List.Folds.{list_any_none}
 use Rattle.std.proofs.lemmas.Grind.{get_or-set_at}
 use Rattle.cyc_types.specs.Tally.{TallyView}
@@ -26,11 +25,10 @@ use Rattle.cyc_cpu.specs.Quiet.{asks_at}
 use Rattle.cyc_types.specs.Runs.{Goes}
 use Rattle.cyc_machine.specs.declared.machine.Open.{Open}
 use Rattle.cyc_machine.specs.declared.machine.Fate.{Fate}
-use Rattle.cyc_machine.specs.Machine.{IsFew}
 use Rattle.cyc_machine.specs.Text.{State, id_of, id_in, magnitude, reprogramming, reprogram_refusal, is_named, is_removed, stays, reprogrammed, outstanding}
-use Rattle.cyc_machine.proofs.Ends.{fires, seen, asked_as}
+use Rattle.cyc_cpu.specs.Soft.{fires, firing_at as seen}
+use Rattle.cyc_machine.proofs.Ends.{asked_as}
 use Rattle.cyc_machine.proofs.Serving.{state_at}
-use Rattle.cyc_machine.proofs.Standing.{all_few_on}
 
 pub same_id : (a b : ℕ) → a ≡ b → (a == b) ≡ true
 same_id a b e = grind (arith, nat_tests)
@@ -151,13 +149,6 @@ reprogrammed_state step clock adds id k moment r o fates v n t c rising is named
 
 pub id_given : (fates xs : List Fate) (name k : ℕ) (o p : Option ℕ) → xs ≡ fates → k ≡ name → o ≡ id_in xs k → o ≡ p → id_in fates name ≡ p
 id_given fates xs name k o p same number found is = ap (λ ys. id_in ys name) (sym same) ∙ ap (id_in xs) (sym number) ∙ sym found ∙ is
-
-few_moved : (step adds moment : ℕ) (id : Option ℕ) (c : Cyclic) → IsFew step adds c → (b : Bool) → IsFew step adds (cond b (with_moment moment c) c)
-few_moved step adds moment id c few true = record { given = few.given; id = few.id; some = few.some; expired = few.expired }
-few_moved step adds moment id c few false = few
-
-pub all_few_moved : (step adds moment : ℕ) (id : Option ℕ) (cs : List Cyclic) → All (IsFew step adds) cs → All (IsFew (step + 1) adds) (map (reprogrammed id moment) cs)
-all_few_moved step adds moment id cs few = All-map (IsFew (step + 1) adds) (reprogrammed id moment) cs (λ k d low. few_moved (step + 1) adds moment id (get_or cs k d) (all_few_on step adds cs few k d low) (is_named id (get_or cs k d)))
 
 -- ---- the counts of a cyclic
 

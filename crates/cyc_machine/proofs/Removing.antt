@@ -33,9 +33,11 @@ use Rattle.cyc_machine.specs.declared.machine.Machine.{Machine}
 use Rattle.cyc_machine.specs.LevelRun.{happen}
 use Rattle.cyc_machine.specs.Machine.{state_of, IsFew, Serves, Shows, Stands, Tallies}
 use Rattle.cyc_machine.specs.Text.{State, Outcome, is_named, id_in, text_in, others, outstanding, outstanding_of, events_of, leaving, keeping, removing, removal, remove_refusal, answering, poll, where_here, nothing, interrupt, served_at, softint_refusal, unless, followed_by}
-use Rattle.cyc_machine.proofs.Ends.{fires, seen}
+use Rattle.cyc_cpu.specs.Soft.{fires, firing_at as seen}
 use Rattle.cyc_machine.proofs.Serving.{state_at}
-use Rattle.cyc_machine.proofs.Named.{same_id, other_id, same_found, found_at, is_here, is_absent, none_named, reprogrammed_cyclics, all_few_moved}
+use Rattle.cyc_machine.proofs.Named.{same_id, other_id, same_found, found_at, is_here, is_absent, none_named, reprogrammed_cyclics}
+use Rattle.cyc_machine.proofs.Marking.{all_moved}
+use Rattle.cyc_machine.proofs.Standing.{all_few_on}
 
 -- ---- the calls of a removal at one end
 
@@ -317,7 +319,7 @@ opened_serves step adds id calls name o v w rising opens s =
       open_removal = opens.removal;
       most = opens.most ∙ s.most;
       room = omega (arith, same, room);
-      few = subst (λ cs. All (IsFew (step + 1) adds) cs) (sym cyclics) (all_few_moved step adds never (Some c.timer.id) v.cyclics s.few);
+      few = subst (λ cs. All (IsFew (step + 1) adds) cs) (sym cyclics) (all_moved (step + 1) adds never (Some c.timer.id) v.cyclics (all_few_on step adds v.cyclics s.few));
     }
 
 -- ---- a soft interrupt, and then the poll

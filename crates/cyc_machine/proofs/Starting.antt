@@ -17,7 +17,8 @@ use Rattle.cyc_machine.specs.Text.{start}
 use Rattle.cyc_machine.specs.declared.machine.Fate.{Fate}
 use Rattle.cyc_machine.specs.declared.machine.Fate.TheVariants.{Nobody}
 use Rattle.cyc_machine.specs.Machine.{IsEmpty, IsFew, Tallies, Serves}
-use Rattle.cyc_machine.proofs.Ends.{fires, seen, only_looked}
+use Rattle.cyc_cpu.specs.Soft.{fires, firing_at as seen}
+use Rattle.cyc_machine.proofs.Ends.{only_looked}
 use Rattle.cyc_machine.proofs.Serving.{state_at}
 
 -- an empty level as its firing side sees it

@@ -2,7 +2,7 @@ use Rattle.std.proofs.Common.{ℕ, List, refl, ◌+◌, Some, None, ap, sym, ◌
 use Rattle.std.proofs.lemmas.Result.{err_from_is_err_and}
 use Rattle.cyc_cpu.specs.Removal.{Begins}
 use Rattle.cyc_machine.specs.Machine.{state_of}
-use Rattle.cyc_machine.proofs.Ends.{fires, seen}
+use Rattle.cyc_cpu.specs.Soft.{fires, firing_at as seen}
 use Rattle.cyc_machine.proofs.Standing.{stands_on}
 use Rattle.cyc_machine.proofs.Serving.{state_at}
 use Rattle.cyc_machine.proofs.Named.{id_given}
