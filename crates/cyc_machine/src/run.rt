@@ -104,7 +104,8 @@ fn put_reports<S: Sink>(
     Ok(())
 }
 
-/// Runs the steps of a script on one thread, and puts the text that tells of them, a line at a time.
+/// Runs the steps of a script on one thread, and puts the text that tells of them: the lines of a step at once, and then those of
+/// the report one by one.
 ///
 /// The handler of every cyclic counts its call and does nothing else. It takes the memory of the machine before the first
 /// line, and that of a line where it first needs it: `Refused` comes with `Memory` alone. `Write` comes exactly where the sink
