@@ -131,7 +131,7 @@ no_timer id (c ∷ cs) none =
 no_share : (own : Level) (id : ℕ) (cs : List Cyclic) (made : List Expiration) → HasNoCyclic id cs → share own (timers cs) made id ≡ 0
 no_share own id cs made none = ap (λ o. cond (is_of own o) (times_of id made) 0) (no_timer id cs none)
 
-module _ {C : Type 0} (called : C → ℕ → C → Type 0) (count_of : C → ℕ → ℕ) (id : ℕ) where
+module _ {C : Type 0} (called : C → ℕ → Level → C → Type 0) (count_of : C → ℕ → ℕ) (id : ℕ) where
   fire_gone : (s t : Running C) (now : ℕ) → IsGone id s.cpu → Runs called count_of s (Fire now) t → StaysGone count_of id s t
   fire_gone s t now h (made, lost, at, m, same) = (
     record {
@@ -210,7 +210,7 @@ does_gone id v w Settled h not i = record {
 does_gone id v w (Fire now) h not d = absurd d
 does_gone id v w (SoftInterrupt soft) h not d = absurd d
 
-module _ {C : Type 0} (called : C → ℕ → C → Type 0) (count_of : C → ℕ → ℕ) (id : ℕ) where
+module _ {C : Type 0} (called : C → ℕ → Level → C → Type 0) (count_of : C → ℕ → ℕ) (id : ℕ) where
   -- a call that reaches no handler
   quiet_gone : (s t : Running C) (call : CpuCall) → IsGone id s.cpu → PutsNot id call → Does s.cpu call t.cpu × (t.calls ≡ s.calls) → StaysGone count_of id s t
   quiet_gone s t call h not (d, same) = (does_gone id s.cpu t.cpu call h not d, ap (λ (c : C). count_of c id) same)

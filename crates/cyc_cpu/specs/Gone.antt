@@ -1,5 +1,8 @@
 -- What follows a removal that has answered, on a CPU whose levels no other thread uses.
 use Rattle.std.specs.Prelude.{◌≡◌, ◌≢◌, ℕ, ◌⊎◌, List, None, slice_set}
+use Rattle.cyc_types.specs.Levels.{at_level, level_of as cyclic_level}
+use Rattle.cyc_types.specs.declared.level.Level.{Level as CyclicLevel}
+use Rattle.cyc_types.specs.declared.level.Level.TheVariants.{High}
 use Rattle.cyc_types.specs.declared.level.Soft.{Soft}
 use Rattle.cyc_types.specs.declared.receipt.Receipt.{Receipt}
 use Rattle.cyc_types.specs.Draining.{DrainCall}
@@ -66,12 +69,12 @@ pub record Running (C : Type 0) : Type 0 where
   pub calls : C
 
 -- what any call on the CPU does: a fire and a soft interrupt may stop at a handler that refuses, which changes no count
-abbrev pub Runs : {C : Type 0} → (C → ℕ → C → Type 0) → (C → ℕ → ℕ) → Running C → CpuCall → Running C → Type 0
+abbrev pub Runs : {C : Type 0} → (C → ℕ → CyclicLevel → C → Type 0) → (C → ℕ → ℕ) → Running C → CpuCall → Running C → Type 0
 Runs {C} called count s (Fire now) t = (made : List Expiration) × (lost : ℕ) × (at : C)
-    × Makes called count fires firing_at now made s.cpu.cyclics t.cpu.cyclics (record { calls = s.calls; lock = s.cpu.lock; low = s.cpu.low }) (record { calls = at; lock = t.cpu.lock; low = t.cpu.low }) lost
+    × Makes (at_level called High) count fires firing_at now made s.cpu.cyclics t.cpu.cyclics (record { calls = s.calls; lock = s.cpu.lock; low = s.cpu.low }) (record { calls = at; lock = t.cpu.lock; low = t.cpu.low }) lost
     × ((q : ℕ) → count t.calls q ≡ count at q)
 Runs {C} called count s (SoftInterrupt level) t = (ran : List Served) × (rest : List DrainCall) × (at : C)
-    × ServesAt called count (end_at level s.cpu) s.calls ran rest (end_at level t.cpu) at × ((q : ℕ) → count t.calls q ≡ count at q) × SoftKept level s.cpu t.cpu
+    × ServesAt (at_level called (cyclic_level level)) count (end_at level s.cpu) s.calls ran rest (end_at level t.cpu) at × ((q : ℕ) → count t.calls q ≡ count at q) × SoftKept level s.cpu t.cpu
 Runs called count s call t = Does s.cpu call t.cpu × (t.calls ≡ s.calls)
 
 -- the call puts in no cyclic of this id

@@ -1,6 +1,7 @@
 ghost use Rattle.std.specs.Prelude.{◌≡◌, ℕ, ◌+◌, ◌<◌, ◌≤◌, ◌++◌, ◌∷◌, [], length, min, All, List, Some, IfOk, IfErr, OnOk, OnErr, IfNone, IfSome};
 ghost use Rattle.cyc_types.specs.Series.{due, next, never};
 ghost use Rattle.cyc_types.specs.Firing.{MayRaise, Sound};
+ghost use Rattle.cyc_types.specs.Levels.{at_level};
 ghost use Rattle.cyc_types.specs.declared.level.Level.TheVariants.{Low, Lock, High};
 ghost use Rattle.cyc_expirations.specs.Timers.{earliest};
 ghost use Rattle.cyc_expirations.specs.Expirations.{Expiration, expirations};
@@ -64,7 +65,7 @@ pub(crate) fn expire_at<C: Calls, R: Raise>(
 ) -> Result<u64, Refused>
     requires lock { level ≡ Lock → MayRaise id (R.view lock.old) }
     requires low { level ≡ Low → MayRaise id (R.view low.old) }
-    ensures acts { IfOk result (λ lost. (a : Acts C.called C.count R.step R.view (id_at High level id) (id_at Lock level id) (id_at Low level id)
+    ensures acts { IfOk result (λ lost. (a : Acts (at_level C.called High) C.count R.step R.view (id_at High level id) (id_at Lock level id) (id_at Low level id)
         (record { calls = calls.old; lock = lock.old; low = low.old }) (record { calls = calls.new; lock = lock.new; low = low.new }))
         × (lost ≡ losses a.lock_way + losses a.low_way)) }
     ensures few { IfOk result (λ lost. lost ≤ 1) }
@@ -150,13 +151,13 @@ pub(crate) fn fire_all<C: Calls, R: Raise>(
     // The whole list was made, and no more.
     ensures expired { IfOk result (λ r. r.expired ≡ length (expirations now (timers_of table.old.rows))) }
     ensures next { IfOk result (λ r. r.next ≡ earliest (timers_of table.new.rows)) }
-    ensures made { IfOk result (λ r. Makes C.called C.count R.step R.view now (expirations now (timers_of table.old.rows)) (cyclics_of table.old.rows) (cyclics_of table.new.rows)
+    ensures made { IfOk result (λ r. Makes (at_level C.called High) C.count R.step R.view now (expirations now (timers_of table.old.rows)) (cyclics_of table.old.rows) (cyclics_of table.new.rows)
         (record { calls = calls.old; lock = lock.old; low = low.old }) (record { calls = calls.new; lock = lock.new; low = low.new }) r.lost) }
 
     // The list was made up to an expiration that was refused.
     ensures refused { IfErr result (λ e. (made : List Expiration) × (last : Expiration) × (rest : List Expiration)
         × (expirations now (timers_of table.old.rows) ≡ made ++ last ∷ rest) × (length made ≡ e.expired) × (at : C)
-        × Makes C.called C.count R.step R.view now made (cyclics_of table.old.rows) (cyclics_of table.new.rows)
+        × Makes (at_level C.called High) C.count R.step R.view now made (cyclics_of table.old.rows) (cyclics_of table.new.rows)
         (record { calls = calls.old; lock = lock.old; low = low.old }) (record { calls = at; lock = lock.new; low = low.new }) e.lost
         × ((id : ℕ) → C.count calls.new id ≡ C.count at id)
         × WhyStopped C.may_refuse most at last (timers_of table.new.rows) e.why) }

@@ -1,7 +1,8 @@
 ghost use Rattle.std.specs.Prelude.{◌≡◌, ◌≢◌, ℕ, ◌+◌, ◌<◌, ◌≤◌, ◌++◌, ◌∷◌, [], List, All, length, slice_set, None, Some, IfOk, IfErr, OnOk, OnErr, IfNone, IfSome, ◌⊎◌};
 ghost use Rattle.std.specs.Bool.{OnTrue, OnFalse};
 ghost use Rattle.cyc_types.specs.Limits.{cyclics};
-ghost use Rattle.cyc_types.specs.declared.level.Level.TheVariants.{Low, Lock};
+ghost use Rattle.cyc_types.specs.Levels.{at_level};
+ghost use Rattle.cyc_types.specs.declared.level.Level.TheVariants.{Low, Lock, High};
 ghost use Rattle.cyc_types.specs.Series.{never, first};
 ghost use Rattle.cyc_types.specs.declared.refusal.Refusal.TheVariants.{Memory, BadNow, NoCyclic};
 ghost use Rattle.cyc_expirations.specs.Timers.{earliest};
@@ -122,14 +123,14 @@ impl<R: Raise> Hard<R> {
         ensures now { OnOk result (now ≢ never) }
         ensures expired { IfOk result (λ r. r.expired ≡ length (expirations now (timers self.old.cyclics))) }
         ensures next { IfOk result (λ r. r.next ≡ earliest (timers self.new.cyclics)) }
-        ensures made { IfOk result (λ r. Makes C.called C.count R.step R.view now (expirations now (timers self.old.cyclics)) self.old.cyclics self.new.cyclics
+        ensures made { IfOk result (λ r. Makes (at_level C.called High) C.count R.step R.view now (expirations now (timers self.old.cyclics)) self.old.cyclics self.new.cyclics
             (record { calls = calls.old; lock = self.old.lock; low = self.old.low }) (record { calls = calls.new; lock = self.new.lock; low = self.new.low }) r.lost) }
 
         // At the moment that is never nothing was done; else the list was made up to an expiration that was refused.
         ensures bad_now { IfErr result (λ e. now ≡ never → (e ≡ record { why = BadNow; expired = 0; lost = 0 }) × (self.new ≡ self.old) × (calls.new ≡ calls.old)) }
         ensures refused { IfErr result (λ e. now ≢ never → (made : List Expiration) × (last : Expiration) × (rest : List Expiration)
             × (expirations now (timers self.old.cyclics) ≡ made ++ last ∷ rest) × (length made ≡ e.expired) × (at : C)
-            × Makes C.called C.count R.step R.view now made self.old.cyclics self.new.cyclics
+            × Makes (at_level C.called High) C.count R.step R.view now made self.old.cyclics self.new.cyclics
             (record { calls = calls.old; lock = self.old.lock; low = self.old.low }) (record { calls = at; lock = self.new.lock; low = self.new.low }) e.lost
             × ((id : ℕ) → C.count calls.new id ≡ C.count at id)
             × WhyStopped C.may_refuse self.old.most at last (timers self.new.cyclics) e.why) }

@@ -4,6 +4,7 @@ ghost use Rattle.std.specs.Prelude.{◌≡◌, ℕ, ◌+◌, cond, List, All};
 ghost use Rattle.cyc_types.specs.Series.{due};
 ghost use Rattle.cyc_types.specs.Runs.{raised_by};
 ghost use Rattle.cyc_types.specs.declared.level.Level.{Level as TheLevel};
+ghost use Rattle.cyc_types.specs.Levels.{at_level};
 ghost use Rattle.cyc_types.specs.declared.level.Level.TheVariants.{Low, Lock, High};
 ghost use Rattle.cyc_expirations.specs.Timers.{Timer, HasDistinctIds};
 ghost use Rattle.cyc_expirations.specs.Expirations.{Expiration, expirations};
@@ -19,11 +20,11 @@ use cyc_types::{Calls, Raise};
 ///
 /// It does nothing when it runs: its clauses are the law.
 pub fn share_law<C: Calls, R: Raise>()
-    ensures lock { (now : ℕ) (made : List Expiration) (cs cs' : List Cyclic) (s s' : Sides C R) (lost : ℕ) (m : Makes C.called C.count R.step R.view now made cs cs' s s' lost)
+    ensures lock { (now : ℕ) (made : List Expiration) (cs cs' : List Cyclic) (s s' : Sides C R) (lost : ℕ) (m : Makes (at_level C.called High) C.count R.step R.view now made cs cs' s s' lost)
         → (id : ℕ) → raised_by id m.acts.lock_way ≡ share Lock (timers cs) made id }
-    ensures low { (now : ℕ) (made : List Expiration) (cs cs' : List Cyclic) (s s' : Sides C R) (lost : ℕ) (m : Makes C.called C.count R.step R.view now made cs cs' s s' lost)
+    ensures low { (now : ℕ) (made : List Expiration) (cs cs' : List Cyclic) (s s' : Sides C R) (lost : ℕ) (m : Makes (at_level C.called High) C.count R.step R.view now made cs cs' s s' lost)
         → (id : ℕ) → raised_by id m.acts.low_way ≡ share Low (timers cs) made id }
-    ensures high { (now : ℕ) (made : List Expiration) (cs cs' : List Cyclic) (s s' : Sides C R) (lost : ℕ) → Makes C.called C.count R.step R.view now made cs cs' s s' lost
+    ensures high { (now : ℕ) (made : List Expiration) (cs cs' : List Cyclic) (s s' : Sides C R) (lost : ℕ) → Makes (at_level C.called High) C.count R.step R.view now made cs cs' s s' lost
         → (id : ℕ) → C.count s'.calls id ≡ C.count s.calls id + share High (timers cs) made id }
     ensures whole { (now : ℕ) (ts : List Timer) → HasDistinctIds ts → (level : TheLevel)
         → All (λ t. share level ts (expirations now ts) t.id ≡ cond (same_level level t.level) (due t.moment t.interval now) 0) ts }

@@ -1,4 +1,5 @@
 ghost use Rattle.std.specs.Prelude.{◌≡◌, ℕ, ◌<◌, ◌≤◌, List, length, Some, None, IfOk, IfErr, IsTrue, ◌↔◌};
+ghost use Rattle.cyc_types.specs.Levels.{level_of, at_level};
 ghost use Rattle.cyc_types.specs.Draining.{DrainCall, Takes};
 ghost use Rattle.cyc_types.specs.Runs.{DrainGoes};
 ghost use Rattle.cyc_types.specs.Firing.{Sound};
@@ -20,13 +21,13 @@ fn serve<C: Calls>(
     budget: u32,
 ) -> Result<Ran, SoftRefused>
     ensures served { IfOk result (λ r. (ran : List Served) × (length ran ≡ r.calls)
-        × ServesAt C.called C.count end.old calls.old ran (last_look r.idle) end.new calls.new
+        × ServesAt (at_level C.called (level_of level)) C.count end.old calls.old ran (last_look r.idle) end.new calls.new
         × (held_at end.new ≡ hand_left (held_at end.old) ran)) }
     ensures budget { IfOk result (λ r. (r.calls ≤ budget) × (IsTrue r.idle ↔ (r.calls < budget))) }
     ensures idle { IfOk result (λ r. IsTrue r.idle → (before : Tables) × (way : List DrainCall)
         × DrainGoes drains end.old way before × drains before (Takes None) end.new × (held_at end.new ≡ None)) }
     ensures refused { IfErr result (λ e. (ran : List Served) × (at : C) × (length ran ≡ e.calls) × (e.calls < budget)
-        × ServesAt C.called C.count end.old calls.old ran (look_of (hand_left (held_at end.old) ran) (Some e.id)) end.new at
+        × ServesAt (at_level C.called (level_of level)) C.count end.old calls.old ran (look_of (hand_left (held_at end.old) ran) (Some e.id)) end.new at
         × C.may_refuse at e.id × ((q : ℕ) → C.count calls.new q ≡ C.count at q)
         × (held_at end.new ≡ Some e.id)) }
     ensures keeps { KeepsStays (firing_at end.old) (firing_at end.new) }
@@ -48,9 +49,9 @@ impl Hard<LevelCore> {
         calls: &mut C,
         budget: u32,
     ) -> Result<Ran, SoftRefused>
-        // The calls that were made, and no other; no look after the last of them but the one that found nothing.
+        // The calls that were made, each at this level, and no other; no look after the last of them but the one that found nothing.
         ensures served { IfOk result (λ r. (ran : List Served) × (length ran ≡ r.calls)
-            × ServesAt C.called C.count (end_at level self.old) calls.old ran (last_look r.idle) (end_at level self.new) calls.new
+            × ServesAt (at_level C.called (level_of level)) C.count (end_at level self.old) calls.old ran (last_look r.idle) (end_at level self.new) calls.new
             × (held_at (end_at level self.new) ≡ hand_left (held_at (end_at level self.old)) ran)) }
 
         // It is idle exactly where it stopped before the budget.
@@ -62,7 +63,7 @@ impl Hard<LevelCore> {
 
         // A handler refused that may refuse at that moment: its cyclic stays in hand, and the calls before it were made.
         ensures refused { IfErr result (λ e. (ran : List Served) × (at : C) × (length ran ≡ e.calls) × (e.calls < budget)
-            × ServesAt C.called C.count (end_at level self.old) calls.old ran (look_of (hand_left (held_at (end_at level self.old)) ran) (Some e.id)) (end_at level self.new) at
+            × ServesAt (at_level C.called (level_of level)) C.count (end_at level self.old) calls.old ran (look_of (hand_left (held_at (end_at level self.old)) ran) (Some e.id)) (end_at level self.new) at
             × C.may_refuse at e.id × ((q : ℕ) → C.count calls.new q ≡ C.count at q)
             × (held_at (end_at level self.new) ≡ Some e.id)) }
 

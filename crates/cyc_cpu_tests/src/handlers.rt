@@ -45,7 +45,7 @@ impl Handlers {
 impl Calls for Handlers {
     ghost count = { λ handlers. tally_count handlers.tally };
 
-    ghost called = { λ handlers id after. tally_called handlers.tally id after.tally };
+    ghost called = { λ handlers id level after. tally_called handlers.tally id level after.tally };
 
     ghost may_refuse = { λ handlers id. Unit {0} };
 

@@ -10,7 +10,7 @@ use Rattle.cyc_types.specs.Counting.{times}
 use Rattle.cyc_types.specs.Firing.{FiringCall}
 use Rattle.cyc_types.specs.Runs.{lost_by}
 use Rattle.cyc_types.specs.Series.{late}
-use Rattle.cyc_types.specs.Tally.{TallyView, tally_count, tally_called, TallyRefuses}
+use Rattle.cyc_types.specs.Tally.{TallyView, tally_count, tally_counted, TallyRefuses}
 use Rattle.cyc_types.specs.declared.level.Level.{Level as CyclicLevel}
 use Rattle.cyc_types.specs.declared.level.Level.TheVariants.{Low, Lock, High}
 use Rattle.cyc_types.specs.declared.refusal.Refusal.{Refusal}
@@ -142,7 +142,7 @@ all_fired_few step adds now made lock low cs ds is small few =
 -- ---- the whole fire
 
 abbrev pub Fire : ℕ → List Expiration → CpuView Tables → CpuView Tables → TallyView → TallyView → ℕ → Type 0
-Fire now made v w t u lost = Makes tally_called tally_count fires seen now made v.cyclics w.cyclics (record { calls = t; lock = v.lock; low = v.low }) (record { calls = u; lock = w.lock; low = w.low }) lost
+Fire now made v w t u lost = Makes tally_counted tally_count fires seen now made v.cyclics w.cyclics (record { calls = t; lock = v.lock; low = v.low }) (record { calls = u; lock = w.lock; low = w.low }) lost
 
 lock_expired : (now : ℕ) (made : List Expiration) (v w : CpuView Tables) (t u : TallyView) (lost : ℕ) (m : Fire now made v w t u lost) → Expired (ids_at Lock (timers v.cyclics) made) m.acts.lock_way (level_of v.lock) (level_of w.lock)
 lock_expired now made v w t u lost m = expired (ids_at Lock (timers v.cyclics) made) m.acts.lock_way v.lock w.lock m.acts.lock_goes m.acts.lock_raises

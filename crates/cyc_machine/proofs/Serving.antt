@@ -7,7 +7,7 @@ use Rattle.std.proofs.lemmas.List.Sums.{count_by-le-length}
 use Rattle.cyc_types.specs.Counting.{times}
 use Rattle.cyc_types.specs.Draining.{DrainCall, Takes}
 use Rattle.cyc_types.specs.Runs.{DrainGoes}
-use Rattle.cyc_types.specs.Tally.{TallyView, tally_count, tally_called, TallyRefuses}
+use Rattle.cyc_types.specs.Tally.{TallyView, tally_count, tally_counted, TallyRefuses}
 use Rattle.cyc_types.specs.declared.level.Level.{Level as CyclicLevel}
 use Rattle.cyc_types.specs.declared.level.Level.TheVariants as kind
 use Rattle.cyc_timers.specs.Rows.{Cyclic as Timed}
@@ -46,7 +46,7 @@ pub record Made (budget calls : ℕ) (idle : Bool) (d e : Tables) (t u : TallyVi
   pub counted : (q : ℕ) → tally_count u q ≡ tally_count t q + times q ran
 
 pub softint_made : (budget calls : ℕ) (idle : Bool) (d e : Tables) (t u : TallyView)
-    → ((ran : List Served) × (length ran ≡ calls) × ServesAt tally_called tally_count d t ran (last_look idle) e u × (held_at e ≡ hand_left (held_at d) ran))
+    → ((ran : List Served) × (length ran ≡ calls) × ServesAt tally_counted tally_count d t ran (last_look idle) e u × (held_at e ≡ hand_left (held_at d) ran))
     → ((calls ≤ budget) × (IsTrue idle ↔ (calls < budget)))
     → (IsTrue idle → (before : Tables) × (way : List DrainCall) × DrainGoes drains d way before × drains before (Takes None) e × (held_at e ≡ None))
     → Made budget calls idle d e t u
@@ -111,7 +111,7 @@ held_is_given soft step adds id e cs admitted law held few =
 
 never_refused : (soft : CyclicLevel) (step adds budget id calls : ℕ) (d e : Tables) (cs : List Timed) (t u : TallyView)
     → ((ran : List Served) × (at : TallyView) × (length ran ≡ calls) × (calls < budget)
-    × ServesAt tally_called tally_count d t ran (look_of (hand_left (held_at d) ran) (Some id)) e at
+    × ServesAt tally_counted tally_count d t ran (look_of (hand_left (held_at d) ran) (Some id)) e at
     × TallyRefuses at id × ((q : ℕ) → tally_count u q ≡ tally_count at q) × (held_at e ≡ Some id))
     → step ≤ 65536 → adds < step → budget ≤ 2 ^ 32 → Tallies step t → AreAdmitted soft (firing_view (level_of e)) cs → Lawful (level_of e) → All (IsFew step adds) cs → ⊥
 never_refused soft step adds budget id calls d e cs t u (ran, at, long, less, serves, refuses, same, held) low under small tallies admitted law few =
@@ -121,7 +121,7 @@ never_refused soft step adds budget id calls d e cs t u (ran, at, long, less, se
 
 pub softint_never_refused : (level : Soft) (step adds budget id calls : ℕ) (o : Option Open) (v w : CpuView Tables) (t u : TallyView)
     → ((ran : List Served) × (at : TallyView) × (length ran ≡ calls) × (calls < budget)
-    × ServesAt tally_called tally_count (end_at level v) t ran (look_of (hand_left (held_at (end_at level v)) ran) (Some id)) (end_at level w) at
+    × ServesAt tally_counted tally_count (end_at level v) t ran (look_of (hand_left (held_at (end_at level v)) ran) (Some id)) (end_at level w) at
     × TallyRefuses at id × ((q : ℕ) → tally_count u q ≡ tally_count at q) × (held_at (end_at level w) ≡ Some id))
     → SoftKept level v w → step ≤ 65536 → adds < step → budget ≤ 2 ^ 32 → Tallies step t → Serves step adds o v
     → AreAdmitted kind.Lock (firing_view (level_of w.lock)) w.cyclics → AreAdmitted kind.Low (firing_view (level_of w.low)) w.cyclics

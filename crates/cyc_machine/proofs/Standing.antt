@@ -3,7 +3,7 @@ use Rattle.std.proofs.Common.{◌≡◌, ℕ, ◌+◌, ◌^◌, ◌<◌, ◌≤�
 use Rattle.std.proofs.Math.ListN.{length-set}
 use Rattle.std.specs.List.{FoldsTo}
 use Rattle.std.proofs.Common.{[], ◌∷◌}
-use Rattle.cyc_types.specs.Tally.{TallyView, tally_count, tally_called, TallyRefuses}
+use Rattle.cyc_types.specs.Tally.{TallyView, tally_count, tally_counted, TallyRefuses}
 use Rattle.cyc_core.specs.Tables.{Tables}
 use Rattle.cyc_timers.specs.Rows.{Cyclic}
 use Rattle.cyc_cpu.specs.Cpu.{CpuView, SameCpu, IsCyclic}
@@ -42,7 +42,7 @@ pub record SameRange (t u : TallyView) : Type 0 where
   pub len : length u.counts ≡ length t.counts
   pub most : u.most ≡ t.most
 
-pub same_range : (ids : List ℕ) (t u : TallyView) → FoldsTo tally_called t ids u → SameRange t u
+pub same_range : (ids : List ℕ) (t u : TallyView) → FoldsTo tally_counted t ids u → SameRange t u
 same_range [] t u is = record { first = ap (λ (x : TallyView). x.first) (sym is); len = ap (λ (x : TallyView). length x.counts) (sym is); most = ap (λ (x : TallyView). x.most) (sym is) }
 same_range (id ∷ ids) t u (v, called, rest) =
     let on = same_range ids v u rest in

@@ -23,7 +23,7 @@ impl RefusesFirst {
 impl Calls for RefusesFirst {
     ghost count = { λ handlers. tally_count handlers.tally };
 
-    ghost called = { λ handlers id after. tally_called handlers.tally id after.tally };
+    ghost called = { λ handlers id level after. tally_called handlers.tally id level after.tally };
 
     ghost may_refuse = { λ handlers id. Unit {0} };
 

@@ -3,6 +3,7 @@
 
 ghost use Rattle.std.specs.Prelude.{◌≡◌, ℕ, ◌+◌, ◌<◌, ◌≤◌, List, length, Some, None, Option, IfNone, IfOk, IfErr, IsTrue, ◌↔◌};
 ghost use Rattle.cyc_types.specs.Draining.{DrainCall, Takes};
+ghost use Rattle.cyc_types.specs.Levels.{level_of, at_level};
 ghost use Rattle.cyc_types.specs.Runs.{DrainGoes};
 ghost use Rattle.cyc_soft.specs.Serving.{Served, Serves, look_of, last_look, hand_left};
 
@@ -53,9 +54,9 @@ pub fn softint<D: Drain, C: Calls>(
     level: Soft,
     budget: u32,
 ) -> Result<Ran, SoftRefused>
-    // The calls that were made, and no other; no look after the last of them but the one that found nothing.
+    // The calls that were made, each at this level, and no other; no look after the last of them but the one that found nothing.
     ensures served { IfOk result (λ r. (ran : List Served) × (length ran ≡ r.calls)
-        × Serves D.step D.held D.made C.called C.count drain.old calls.old ran (last_look r.idle) drain.new calls.new
+        × Serves D.step D.held D.made (at_level C.called (level_of level)) C.count drain.old calls.old ran (last_look r.idle) drain.new calls.new
         × (D.held drain.new ≡ hand_left (D.held drain.old) ran)) }
 
     // It is idle exactly where it stopped before the budget.
@@ -67,7 +68,7 @@ pub fn softint<D: Drain, C: Calls>(
 
     // A handler refused that may refuse at that moment: its cyclic stays in hand, and the calls before it were made.
     ensures refused { IfErr result (λ e. (ran : List Served) × (at : C) × (length ran ≡ e.calls) × (e.calls < budget)
-        × Serves D.step D.held D.made C.called C.count drain.old calls.old ran (look_of (hand_left (D.held drain.old) ran) (Some e.id)) drain.new at
+        × Serves D.step D.held D.made (at_level C.called (level_of level)) C.count drain.old calls.old ran (look_of (hand_left (D.held drain.old) ran) (Some e.id)) drain.new at
         × C.may_refuse at e.id × ((q : ℕ) → C.count calls.new q ≡ C.count at q)
         × (D.held drain.new ≡ Some e.id)) }
 {

@@ -1,3 +1,4 @@
+use Rattle.std.specs.Prelude.{ℕ}
 use Rattle.cyc_types.specs.declared.level.Level.{Level}
 use Rattle.cyc_types.specs.declared.level.Level.TheVariants as level
 use Rattle.cyc_types.specs.declared.level.Soft.{Soft}
@@ -7,3 +8,7 @@ use Rattle.cyc_types.specs.declared.level.Soft.TheVariants.{Low, Lock}
 abbrev pub level_of : Soft → Level
 level_of Low = level.Low
 level_of Lock = level.Lock
+
+-- the calls that handlers may be given, at one level alone
+abbrev pub at_level : {C : Type 0} → (C → ℕ → Level → C → Type 0) → Level → C → ℕ → C → Type 0
+at_level called level c id d = called c id level d

@@ -1,4 +1,5 @@
 use Rattle.std.specs.Prelude.{◌≡◌, ℕ, ◌+◌, ◌-◌, ◌<◌, ◌≤◌, List, Option, None, cond, nat_lt, slice_get, slice_set, slice_index, length, replicate, ◌⊎◌}
+use Rattle.cyc_types.specs.declared.level.Level.{Level}
 
 -- the counts of the ids from the first on
 pub record TallyView : Type 0 where
@@ -21,5 +22,10 @@ tally_count t id = cond (nat_lt id t.first) 0 (slice_index t.counts (id - t.firs
 abbrev pub TallyRefuses : TallyView → ℕ → Type 0
 TallyRefuses t id = (id < t.first) ⊎ (length t.counts ≤ id - t.first) ⊎ (t.most ≤ tally_count t id)
 
-abbrev pub tally_called : TallyView → ℕ → TallyView → Type 0
-tally_called t id u = u ≡ record t { counts = slice_set t.counts (id - t.first) (slice_index t.counts (id - t.first) + 1) }
+-- the count of the id is one more
+abbrev pub tally_counted : TallyView → ℕ → TallyView → Type 0
+tally_counted t id u = u ≡ record t { counts = slice_set t.counts (id - t.first) (slice_index t.counts (id - t.first) + 1) }
+
+-- a call counts the same at each level
+abbrev pub tally_called : TallyView → ℕ → Level → TallyView → Type 0
+tally_called t id level u = tally_counted t id u

@@ -56,8 +56,8 @@ impl Calls for Tally {
 
     ghost may_refuse = { TallyRefuses };
 
-    fn call(&mut self, id: CyclicId, _level: Level) -> Result<(), Refused>
-        ensures called { OnOk result (tally_called self.old id self.new) }
+    fn call(&mut self, id: CyclicId, level: Level) -> Result<(), Refused>
+        ensures called { OnOk result (tally_called self.old id level self.new) }
         ensures counted { OnOk result ((q : ℕ) → tally_count self.new q ≡ tally_count self.old q + times q (id ∷ [])) }
         ensures refused { IsErr result ↔ TallyRefuses self.old id }
         ensures kept { OnErr result (self.new ≡ self.old) }

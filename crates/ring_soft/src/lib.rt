@@ -2,6 +2,7 @@
 #![tactic(auto)]
 
 ghost use Rattle.std.specs.Prelude.{◌≡◌, ℕ, ◌<◌, ◌≤◌, List, length, Some, IfOk, IfErr, IsTrue, ◌↔◌};
+ghost use Rattle.cyc_types.specs.Levels.{level_of, at_level};
 ghost use Rattle.cyc_soft.specs.Serving.{Served, Serves, look_of, last_look, hand_left};
 ghost use Rattle.cyc_ring.specs.Ends.{DrainEndCall, FoundIdle, end_hand, end_made};
 
@@ -23,9 +24,9 @@ pub fn softint<C: Calls>(
     level: Soft,
     budget: u32,
 ) -> Result<Ran, SoftRefused>
-    // The calls that were made, and no other.
+    // The calls that were made, each at this level, and no other.
     ensures served { IfOk result (λ r. (ran : List Served) × (length ran ≡ r.calls)
-        × Serves DrainEndCall end_hand end_made C.called C.count drain.old calls.old ran (last_look r.idle) drain.new calls.new
+        × Serves DrainEndCall end_hand end_made (at_level C.called (level_of level)) C.count drain.old calls.old ran (last_look r.idle) drain.new calls.new
         × (end_hand drain.new ≡ hand_left (end_hand drain.old) ran)) }
 
     // It is idle exactly where it stopped before the budget.
@@ -36,7 +37,7 @@ pub fn softint<C: Calls>(
 
     // A handler refused that may refuse at that moment: its cyclic stays in hand, and the calls before it were made.
     ensures refused { IfErr result (λ e. (ran : List Served) × (at : C) × (length ran ≡ e.calls) × (e.calls < budget)
-        × Serves DrainEndCall end_hand end_made C.called C.count drain.old calls.old ran (look_of (hand_left (end_hand drain.old) ran) (Some e.id)) drain.new at
+        × Serves DrainEndCall end_hand end_made (at_level C.called (level_of level)) C.count drain.old calls.old ran (look_of (hand_left (end_hand drain.old) ran) (Some e.id)) drain.new at
         × C.may_refuse at e.id × ((q : ℕ) → C.count calls.new q ≡ C.count at q)
         × (end_hand drain.new ≡ Some e.id)) }
 {

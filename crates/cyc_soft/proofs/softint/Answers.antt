@@ -17,10 +17,11 @@ loop-done-preserved g c =
     let way = subst (λ h. DrainGoes g.D.Drain.step c.loop-done.drain (look_of h (Some c.in-Some.id)) c.in_hand.new.drain) hand found.way in
     let one : Served = record { id = c.in-Some.id; answer = c.finish.result } in
     let longer : length (ran ++ one ∷ []) ≡ c.loop-done.done + 1 = simp length-append (omega (arith, long)) in
-    let looked = serves_look _ _ _ _ _ _ _ ran _ _ _ _ s found.still way in (
+    let looked = serves_look _ _ _ _ _ _ _ ran _ _ _ _ s found.still way in
+    let called = subst (λ level. g.C.Calls.called c.loop-done.calls c.in-Some.id level c.call.new.self) c.from.ensures c.in-Ok.ensures.called in (
       ran ++ one ∷ [],
       longer,
-      serves_call _ _ _ _ _ _ _ ran _ _ c.in-Some.id c.finish.result _ _ looked c.in-Ok.ensures.called c.in-Ok.ensures.counted
+      serves_call _ _ _ _ _ _ _ ran _ _ c.in-Some.id c.finish.result _ _ looked called c.in-Ok.ensures.counted
           (rw found.hand at c.finish.ensures.step) (rw found.hand at c.finish.ensures.made),
       (rw found.hand at c.finish.ensures.hand) ∙ sym (hand_more _ ran one),
     )

@@ -4,6 +4,8 @@ use Rattle.cyc_expirations.specs.Expirations.{next_of}
 use Rattle.cyc_expirations.specs.Timers.{Timer}
 use Rattle.cyc_expirations.proofs.Firings.{fire_start, fire_done, fire_bound}
 use Rattle.cyc_timers.specs.Rows.{timers_of, cyclics_of}
+use Rattle.cyc_types.specs.Levels.{at_level}
+use Rattle.cyc_types.specs.declared.level.Level.TheVariants.{High}
 use Rattle.cyc_cpu.specs.Ends.{IsReady}
 use Rattle.cyc_cpu.specs.Cpu.{Makes}
 use Rattle.cyc_timers.proofs.Tables.{timers_long}
@@ -21,7 +23,7 @@ loop-root-init g c =
       rising = c.law.ensures.rising;
       sound = c.law.ensures.sound;
       ready = c.requires.ready;
-      made = ([], refl, f, makes_none g.C.Calls.called g.C.Calls.count g.R.Raise.step g.R.Raise.view c.args.now (cyclics_of rows) (record { calls = c.args.calls.now; lock = c.args.lock.now; low = c.args.low.now }) f, omega arith);
+      made = ([], refl, f, makes_none (at_level g.C.Calls.called High) g.C.Calls.count g.R.Raise.step g.R.Raise.view c.args.now (cyclics_of rows) (record { calls = c.args.calls.now; lock = c.args.lock.now; low = c.args.low.now }) f, omega arith);
       lock_ceiling = refl;
       low_ceiling = refl;
       spares = spares_rows_none (g.R.Raise.view c.args.lock.now).ceiling (g.R.Raise.view c.args.low.now).ceiling rows;
@@ -39,7 +41,7 @@ loop-root-preserved g c =
     let (k, r, is, at, moment, named, first) = c.in-Some.ensures.first in
     let i = c.loop-root.invariant in
     let (made, long, f, makes, few) = i.made in
-    let t = turn_written g.C.Calls.called g.C.Calls.count g.R.Raise.step g.R.Raise.view c.args.now c.loop-root.table.size c.args.most (g.R.Raise.view c.args.lock.now).marked (g.R.Raise.view c.args.low.now).marked
+    let t = turn_written (at_level g.C.Calls.called High) g.C.Calls.count g.R.Raise.step g.R.Raise.view c.args.now c.loop-root.table.size c.args.most (g.R.Raise.view c.args.lock.now).marked (g.R.Raise.view c.args.low.now).marked
     c.args.table.now.rows (record { calls = c.args.calls.now; lock = c.args.lock.now; low = c.args.low.now }) made c.loop-root.table.rows c.expire_root.new.self.rows
     (record { calls = c.loop-root.calls; lock = c.loop-root.lock; low = c.loop-root.low }) (record { calls = c.expire_at.new.calls; lock = c.expire_at.new.lock; low = c.expire_at.new.low })
     c.loop-root.lost c.in-Ok.more c.following.result k c.in-Some.root.1 c.in-Some.root.2 r c.record-kept.result
@@ -126,7 +128,7 @@ pub returns-clause-made : goal.returns-clause-made
 returns-clause-made g c =
     let (made, long, f, makes, few) = c.loop-root.invariant.made in
     let later = recursion_from_All (λ (t : Timer). c.args.now < t.moment) (timers_of c.loop-root.table.rows) c.in_default.ensures.none in
-    subst (λ xs. Makes g.C.Calls.called g.C.Calls.count g.R.Raise.step g.R.Raise.view c.args.now xs (cyclics_of c.args.table.now.rows) (cyclics_of c.loop-root.table.rows)
+    subst (λ xs. Makes (at_level g.C.Calls.called High) g.C.Calls.count g.R.Raise.step g.R.Raise.view c.args.now xs (cyclics_of c.args.table.now.rows) (cyclics_of c.loop-root.table.rows)
     (record { calls = c.args.calls.now; lock = c.args.lock.now; low = c.args.low.now }) (record { calls = c.loop-root.calls; lock = c.loop-root.lock; low = c.loop-root.low }) c.loop-root.lost)
     (sym (fire_done c.args.now made (timers_of c.args.table.now.rows) (timers_of c.loop-root.table.rows) f later)) makes
 

@@ -3,6 +3,8 @@ use Rattle.cyc_expirations.specs.Expirations.{Expiration, expirations}
 use Rattle.cyc_expirations.specs.Timers.{IsSound}
 use Rattle.cyc_expirations.proofs.Firings.{Firing}
 use Rattle.cyc_timers.specs.Rows.{timers_of, cyclics_of, IsRising}
+use Rattle.cyc_types.specs.Levels.{at_level}
+use Rattle.cyc_types.specs.declared.level.Level.TheVariants.{High}
 use Rattle.cyc_cpu.specs.Ends.{IsReady}
 use Rattle.cyc_cpu.specs.Cpu.{Makes}
 use Rattle.cyc_cpu.proofs.Sparing.{SparesRows}
@@ -16,7 +18,7 @@ invariant-loop-root g l = record {
   sound : All IsSound (timers_of l.table.rows);
   ready : IsReady g.R.Raise.view l.table.size l.most (g.R.Raise.view l.fn.lock).marked (g.R.Raise.view l.fn.low).marked l.lock l.low l.table.rows;
   made : (made : List Expiration) × (length made ≡ l.expired) × Firing l.now made (timers_of l.fn.table.rows) (timers_of l.table.rows)
-      × Makes g.C.Calls.called g.C.Calls.count g.R.Raise.step g.R.Raise.view l.now made (cyclics_of l.fn.table.rows) (cyclics_of l.table.rows)
+      × Makes (at_level g.C.Calls.called High) g.C.Calls.count g.R.Raise.step g.R.Raise.view l.now made (cyclics_of l.fn.table.rows) (cyclics_of l.table.rows)
       (record { calls = l.fn.calls; lock = l.fn.lock; low = l.fn.low }) (record { calls = l.calls; lock = l.lock; low = l.low }) l.lost
       × (l.lost ≤ length made);
   lock_ceiling : (g.R.Raise.view l.lock).ceiling ≡ (g.R.Raise.view l.fn.lock).ceiling;
