@@ -2,6 +2,8 @@
 use Rattle.std.specs.Prelude.{◌≡◌, ℕ, ◌==◌, if◌then◌else◌, Bool, true, false, Result, Ok, Err}
 use Rattle.cyc_machine.specs.declared.fault.RunFault.{RunFault}
 use Rattle.cyc_machine.specs.declared.fault.RunFault.TheVariants as run_fault
+use Rattle.cyc_input.specs.declared.fault.InputFault.{InputFault}
+use Rattle.cyc_input.specs.declared.fault.InputFault.TheVariants as input_fault
 use Rattle.cyc_types.specs.declared.refusal.Refusal.{Refusal}
 use Rattle.cyc_types.specs.declared.refusal.Refusal.TheVariants as refusal
 use Rattle.cyc_types.specs.Refusals.{number_of}
@@ -18,6 +20,11 @@ status Memory = 3
 status Read = 3
 status (Script why) = script_status why
 status (Run why) = 3
+
+-- the fault of an input that was not read
+abbrev pub reading_fault : InputFault → Fault
+reading_fault input_fault.Memory = Memory
+reading_fault input_fault.Read = Read
 
 -- whether a run stopped because its sink failed
 abbrev pub is_write : {A : Type 0} → Result A RunFault → Bool

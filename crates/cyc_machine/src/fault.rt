@@ -1,10 +1,11 @@
 ghost use Rattle.std.specs.Prelude.{◌≡◌};
-ghost use Rattle.cyc_machine.specs.Status.{status};
+ghost use Rattle.cyc_machine.specs.Status.{status, reading_fault};
 ghost use Rattle.cyc_machine.specs.declared.fault.Fault.TheVariants as fault;
 ghost use Rattle.cyc_machine.specs.declared.fault.RunFault.TheVariants as run_fault;
 ghost use Rattle.cyc_types.specs.declared.refusal.Refusal.TheVariants as refusal;
 
 use clap::error::ErrorKind;
+use cyc_input::InputFault;
 use cyc_text::PutFailed;
 use cyc_types::Refusal;
 use std::alloc::AllocError;
@@ -104,6 +105,17 @@ impl From<AllocError> for Fault {
 
     fn from(_e: AllocError) -> Fault {
         Fault::Memory
+    }
+}
+
+impl From<InputFault> for Fault {
+    ghost from_gives = { λ why e. e ≡ reading_fault why };
+
+    fn from(why: InputFault) -> Fault {
+        match why {
+            InputFault::Memory => Fault::Memory,
+            InputFault::Read => Fault::Read,
+        }
     }
 }
 

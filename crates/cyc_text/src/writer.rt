@@ -2,13 +2,14 @@ ghost use Rattle.std.specs.Prelude.{◌≡◌, ◌≤◌, length, false, IfOk};
 ghost use Rattle.std.specs.Io.KnownBytes.{WriteAppends};
 ghost use Rattle.cyc_text.specs.Puts.{Puts};
 
+use crate::bounded::MOST_TURNS;
 use crate::sink::{PutFailed, Sink};
 use std::io;
 
 /// A sink over any writer. What was written is what the writer tells of its bytes.
 ///
 /// A `put` asks the writer again where a write was interrupted or took only a part, and fails where
-/// the writer fails otherwise or takes nothing. It takes no memory of its own.
+/// the writer fails otherwise or takes nothing, or where it was asked 33,554,432 times in this put. It takes no memory of its own.
 #[derive(Drop)]
 pub struct Out<W> {
     writer: W,
@@ -55,7 +56,7 @@ fn write_whole<W: io::Write>(writer: &mut W, bytes: &[u8]) -> Result<(), PutFail
     ensures { Puts (W.contents writer.old) (W.contents writer.new) result bytes.now }
 {
     let mut rest = bytes;
-    for _ in 0..u64::MAX {
+    for _ in 0..MOST_TURNS {
         if rest.is_empty() {
             return Ok(());
         }

@@ -1,26 +1,36 @@
 //! `cyclic replay`: reads a script from standard input, runs it, and writes its text to standard output.
 #![tactic(auto)]
 
+ghost use Rattle.std.specs.Prelude.{◌≡◌, ◌≢◌};
+ghost use Rattle.std.specs.IoError.{error_kind};
+
 use cyc_machine::{
-    Command, Fault, Out, RunFault, Script, command_of, read_script, replay, status_of,
+    BoundedReader, BoundedWriter, Command, Fault, Out, RunFault, Script, command_of, read_input,
+    read_script, replay, status_of,
 };
 use cyc_types::Refusal;
 use std::alloc::Global;
 use std::env::Env;
-use std::io::{BufWriter, ErrorKind, Read, Write};
+use std::io::{BufWriter, ErrorKind, Write};
 use std::process::ExitCode;
 use std::{env, io};
 
-/// One byte more than a script may have, so that a longer input is refused.
-const MOST_READ: usize = 16_777_217;
-
-/// The most turns of the reading; an interrupted read takes one.
-const MOST_TURNS: u32 = 33_554_432;
+/// The fault where the words were not given: refused memory, or a word that is not UTF-8.
+fn words_fault(why: &io::Error) -> Fault
+    ensures memory { error_kind why.now ≡ ErrorKind.OutOfMemory → result ≡ Fault.Memory }
+    ensures words { error_kind why.now ≢ ErrorKind.OutOfMemory → result ≡ Fault.Words }
+{
+    if why.kind() == ErrorKind::OutOfMemory {
+        Fault::Memory
+    } else {
+        Fault::Words
+    }
+}
 
 /// What the program's words ask for.
 fn command<R: Env + AllocGlobal>(rt: &R) -> Result<Command, Fault> {
     let mut owned = Vec::new(rt.alloc());
-    for word in env::args(rt).map_err(|_| Fault::Words)? {
+    for word in env::args(rt).map_err(|why| words_fault(&why))? {
         owned.push(word).map_err(|_| Fault::Memory)?;
     }
     let mut words = Vec::new(rt.alloc());
@@ -28,26 +38,6 @@ fn command<R: Env + AllocGlobal>(rt: &R) -> Result<Command, Fault> {
         words.push(word.as_str()).map_err(|_| Fault::Memory)?;
     }
     command_of(rt.alloc(), words.as_slice())
-}
-
-/// The bytes of standard input, up to the greatest number, and no further.
-fn input(alloc: Global, reader: &mut impl Read) -> Result<Vec<u8>, Fault> {
-    let mut all = Vec::new(alloc);
-    let mut chunk = [0u8; 4096];
-    for _ in 0..MOST_TURNS {
-        let room = MOST_READ.saturating_sub(all.len()).min(chunk.len());
-        if room == 0 {
-            return Ok(all);
-        }
-        match reader.read(&mut chunk[..room]) {
-            Ok(0) => return Ok(all),
-            Ok(n) => all.extend_from_slice(&chunk[..n])?,
-            Err(e) => if e.kind() != ErrorKind::Interrupted {
-                return Err(Fault::Read);
-            },
-        }
-    }
-    Err(Fault::Read)
 }
 
 fn refused(why: Refusal) -> Fault {
@@ -81,9 +71,10 @@ fn flushed(ended: io::Result<()>) -> Result<(), Fault> {
 /// Finds the faults in the order of the words, the reading, the script and the run.
 fn go<R: Env + AllocGlobal + Input + Print>(rt: &R) -> Result<(), Fault> {
     let Command::Replay = command(rt)?;
-    let bytes = input(rt.alloc(), &mut rt.reader())?;
+    let bytes = read_input(rt.alloc(), &mut BoundedReader::new(rt.reader()))?;
     let script = script(rt.alloc(), bytes.as_slice())?;
-    let writer = BufWriter::new(rt.alloc(), io::writer(rt)).map_err(|_| Fault::Memory)?;
+    let bounded = BoundedWriter::new(io::writer(rt));
+    let writer = BufWriter::new(rt.alloc(), bounded).map_err(|_| Fault::Memory)?;
     let mut writer = run(rt.alloc(), &script, writer)?;
     flushed(writer.flush())
 }
