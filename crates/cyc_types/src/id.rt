@@ -1,4 +1,4 @@
-ghost use Rattle.std.specs.Prelude.{◌≡◌, ℕ, ◌+◌, ◌-◌, ◌<◌, ◌≤◌, ◌↔◌, IsSome, IfSome};
+ghost use Rattle.std.specs.Prelude.{◌≡◌, ℕ, ◌+◌, ◌-◌, ◌<◌, ◌≤◌, ◌↔◌, IsSome, IfSome, IfNone};
 ghost use Rattle.cyc_types.specs.Limits.{last_id};
 
 use crate::limits::LAST_ID;
@@ -24,6 +24,13 @@ impl CyclicId {
     /// The greatest id; none follows it.
     pub const LAST: CyclicId = CyclicId { number: LAST_ID };
 
+    /// The greatest id, which is `LAST`. None follows it.
+    pub fn last() -> CyclicId
+        ensures value { result ≡ last_id }
+    {
+        CyclicId::LAST
+    }
+
     /// The id of this number. None for 0 and for a number above `LAST_ID`.
     pub fn new(number: u64) -> Option<CyclicId>
         ensures valid { IsSome result ↔ ((0 < number) × (number ≤ last_id)) }
@@ -46,6 +53,7 @@ impl CyclicId {
 
     /// The id after this one. None after `LAST`.
     pub fn following(self) -> Option<CyclicId>
+        ensures last { IfNone result (self ≡ last_id) }
         ensures valid { IsSome result ↔ (self < last_id) }
         ensures value { IfSome result (λ id. id ≡ self + 1) }
     {

@@ -1,3 +1,7 @@
+ghost use Rattle.std.specs.Prelude.{◌≡◌};
+ghost use Rattle.cyc_types.specs.Limits.{greatest_bank, cyclics, last_id};
+ghost use Rattle.cyc_types.specs.Series.{late};
+
 /// The cyclics that one CPU can hold, which is the number of places of the greatest bank (our own rule).
 pub const CYCLICS: u16 = 256;
 
@@ -9,3 +13,11 @@ pub const LAST_ID: u64 = (1 << 56) - 1;
 
 /// A cyclic that is later than this, in nanoseconds, skips the expirations that it missed (our own rule).
 pub const LATE: u64 = 1_000_000_000;
+
+/// The constants are the limits that the definitions speak of. It does nothing when it runs.
+pub fn limits_law()
+    ensures cyclics { CYCLICS ≡ cyclics }
+    ensures bank { GREATEST_BANK ≡ greatest_bank }
+    ensures last { LAST_ID ≡ last_id }
+    ensures late { LATE ≡ late }
+{}
