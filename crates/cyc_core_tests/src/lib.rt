@@ -4,6 +4,8 @@
 #[cfg(test)]
 mod events;
 #[cfg(test)]
+mod level;
+#[cfg(test)]
 mod rows;
 #[cfg(test)]
 mod sides;

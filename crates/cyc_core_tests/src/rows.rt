@@ -1,17 +1,13 @@
+use crate::level::{admit, apply, books, id, level, place};
 use cyc_core::{Books, Event, LevelCore, NotEnabledAt, Place};
-use cyc_types::{Ceiling, CyclicId, Index};
-use std::test::Fail;
+use std::process::Abort;
 
 #[test]
-fn a_cyclic_that_expires_while_in_hand_is_called_as_often_as_it_expired(
-    rt: HostRuntime,
-) -> Result<(), Fail> {
-    let one = CyclicId::new(1).ok_or("an id")?;
-    let first = Index::new(0).ok_or("an index")?;
-    let ceiling = Ceiling::new(2).ok_or("a ceiling")?;
-    let mut level = LevelCore::new(rt.alloc(), ceiling)?;
+fn a_cyclic_that_expires_while_in_hand_is_called_as_often_as_it_expired(rt: HostRuntime) {
+    let one = id(&rt, 1);
+    let mut level = level(&rt, 2);
     let events = [
-        Event::Admit(one, first),
+        admit(&rt, 1, 0),
         Event::Expire(one),
         Event::Publish,
         Event::Take,
@@ -20,69 +16,66 @@ fn a_cyclic_that_expires_while_in_hand_is_called_as_often_as_it_expired(
         Event::Finish,
         Event::Finish,
     ];
-    assert_eq!(rt; level.apply(&events), Err(NotEnabledAt(7)));
-    let books = Books {
+    assert_eq!(rt; apply(&mut level, &events), Err(NotEnabledAt(7)));
+    let both_made = Books {
         sent: 2,
         done: 2,
         pending: 0,
         kept: 0,
         lost: 0,
     };
-    assert_eq!(rt; level.books(one), Some(books));
-    assert_eq!(rt; level.place(one), None);
-    Ok(())
+    assert_eq!(rt; books(&level, one), Some(both_made));
+    assert_eq!(rt; place(&level, one), None);
 }
 
 #[test]
-fn an_expiration_needs_an_empty_hand(rt: HostRuntime) -> Result<(), Fail> {
-    let one = CyclicId::new(1).ok_or("an id")?;
-    let first = Index::new(0).ok_or("an index")?;
-    let ceiling = Ceiling::new(1).ok_or("a ceiling")?;
-    let mut level = LevelCore::new(rt.alloc(), ceiling)?;
-    let events = [
-        Event::Admit(one, first),
-        Event::Expire(one),
-        Event::Expire(one),
-    ];
-    assert_eq!(rt; level.apply(&events), Err(NotEnabledAt(2)));
-    assert_eq!(rt; level.place(one), Some(Place::FirerHand));
-    Ok(())
+fn an_expiration_needs_an_empty_hand(rt: HostRuntime) {
+    let one = id(&rt, 1);
+    let mut level = level(&rt, 1);
+    let events = [admit(&rt, 1, 0), Event::Expire(one), Event::Expire(one)];
+    assert_eq!(rt; apply(&mut level, &events), Err(NotEnabledAt(2)));
+    assert_eq!(rt; place(&level, one), Some(Place::FirerHand));
 }
+
+/// A level whose id 1 went from the old bank to the soft side's hand, and whose id 2 is admitted in the new bank.
+fn taken_from_the_old_bank<R: AllocGlobal + Abort>(rt: &R) -> LevelCore {
+    let one = id(rt, 1);
+    let mut level = level(rt, 1);
+    let events = [
+        admit(rt, 1, 0),
+        Event::Expire(one),
+        Event::Publish,
+        Event::Switch(1),
+        admit(rt, 2, 1),
+        Event::Follow,
+    ];
+    assert_eq!(rt; apply(&mut level, &events), Err(NotEnabledAt(5)));
+    assert_eq!(rt; place(&level, one), Some(Place::OldBank));
+    assert_eq!(rt; apply(&mut level, &[Event::Take]), Ok(()));
+    level
+}
+
+/// What a level knows of a cyclic whose one call a removal kept.
+const KEPT: Books = Books {
+    sent: 1,
+    done: 0,
+    pending: 0,
+    kept: 1,
+    lost: 0,
+};
 
 #[test]
 fn the_old_bank_is_emptied_first_and_kept_calls_are_made_before_the_removal_answers(
     rt: HostRuntime,
-) -> Result<(), Fail> {
-    let one = CyclicId::new(1).ok_or("an id")?;
-    let two = CyclicId::new(2).ok_or("an id")?;
-    let first = Index::new(0).ok_or("an index")?;
-    let second = Index::new(1).ok_or("an index")?;
-    let ceiling = Ceiling::new(1).ok_or("a ceiling")?;
-    let mut level = LevelCore::new(rt.alloc(), ceiling)?;
-    let events = [
-        Event::Admit(one, first),
-        Event::Expire(one),
-        Event::Publish,
-        Event::Switch(1),
-        Event::Admit(two, second),
-        Event::Follow,
-    ];
-    assert_eq!(rt; level.apply(&events), Err(NotEnabledAt(5)));
-    assert_eq!(rt; level.place(one), Some(Place::OldBank));
-    assert_eq!(rt; level.apply(&[Event::Take]), Ok(()));
-    assert_eq!(rt; level.place(one), Some(Place::DrainerHand));
+) {
+    let one = id(&rt, 1);
+    let mut level = taken_from_the_old_bank(&rt);
+    assert_eq!(rt; place(&level, one), Some(Place::DrainerHand));
     let events = [Event::Follow, Event::Mark(one), Event::Clear(one)];
-    assert_eq!(rt; level.apply(&events), Err(NotEnabledAt(2)));
-    let kept = Books {
-        sent: 1,
-        done: 0,
-        pending: 0,
-        kept: 1,
-        lost: 0,
-    };
-    assert_eq!(rt; level.books(one), Some(kept));
-    assert_eq!(rt; level.apply(&[Event::Finish, Event::Clear(one)]), Ok(()));
-    assert_eq!(rt; level.books(one), None);
-    assert_eq!(rt; level.place(two), None);
-    Ok(())
+    assert_eq!(rt; apply(&mut level, &events), Err(NotEnabledAt(2)));
+    assert_eq!(rt; books(&level, one), Some(KEPT));
+    let events = [Event::Finish, Event::Clear(one)];
+    assert_eq!(rt; apply(&mut level, &events), Ok(()));
+    assert_eq!(rt; books(&level, one), None);
+    assert_eq!(rt; place(&level, id(&rt, 2)), None);
 }

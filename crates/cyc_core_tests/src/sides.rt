@@ -1,34 +1,51 @@
+use crate::level::{admit, apply, id, level};
 use cyc_core::{Event, LevelCore};
-use cyc_types::{Ceiling, CyclicId, Drain, Finished, Index};
-use std::test::Fail;
+use cyc_types::{CyclicId, Drain, Finished};
+use std::process::Abort;
 
-#[test]
-fn the_soft_side_makes_all_calls_of_one_cyclic_and_follows(rt: HostRuntime) -> Result<(), Fail> {
-    let one = CyclicId::new(1).ok_or("an id")?;
-    let two = CyclicId::new(2).ok_or("an id")?;
-    let first = Index::new(0).ok_or("an index")?;
-    let second = Index::new(1).ok_or("an index")?;
-    let ceiling = Ceiling::new(5).ok_or("a ceiling")?;
-    let mut level = LevelCore::new(rt.alloc(), ceiling)?;
+fn hand(level: &LevelCore) -> Option<CyclicId> {
+    level.hand()
+}
+
+fn take(rt: &impl Abort, level: &mut LevelCore) -> Option<CyclicId> {
+    assert!(rt; level.hand().is_none());
+    level.take()
+}
+
+fn finish(rt: &impl Abort, level: &mut LevelCore) -> Finished {
+    assert!(rt; level.hand().is_some());
+    level.finish()
+}
+
+/// A level with two expirations of the id 1 in its old bank, and one of the id 2 in its new one, which a removal keeps.
+fn raised_twice_and_kept<R: AllocGlobal + Abort>(rt: &R) -> LevelCore {
+    let (one, two) = (id(rt, 1), id(rt, 2));
+    let mut level = level(rt, 5);
     let events = [
-        Event::Admit(one, first),
+        admit(rt, 1, 0),
         Event::Expire(one),
         Event::Publish,
         Event::Switch(1),
-        Event::Admit(two, second),
+        admit(rt, 2, 1),
         Event::Expire(two),
         Event::Publish,
         Event::Expire(one),
         Event::Mark(two),
     ];
-    assert_eq!(rt; level.apply(&events), Ok(()));
-    assert_eq!(rt; level.hand(), None);
-    assert_eq!(rt; level.take(), Some(one));
-    assert_eq!(rt; level.finish(), Finished::More);
-    assert_eq!(rt; level.finish(), Finished::Last);
-    assert_eq!(rt; level.take(), Some(two));
-    assert_eq!(rt; level.hand(), Some(two));
-    assert_eq!(rt; level.finish(), Finished::LastOfRemoval);
-    assert_eq!(rt; level.take(), None);
-    Ok(())
+    assert_eq!(rt; apply(&mut level, &events), Ok(()));
+    level
+}
+
+#[test]
+fn the_soft_side_makes_all_calls_of_one_cyclic_and_follows(rt: HostRuntime) {
+    let (one, two) = (id(&rt, 1), id(&rt, 2));
+    let mut level = raised_twice_and_kept(&rt);
+    assert_eq!(rt; hand(&level), None);
+    assert_eq!(rt; take(&rt, &mut level), Some(one));
+    assert_eq!(rt; finish(&rt, &mut level), Finished::More);
+    assert_eq!(rt; finish(&rt, &mut level), Finished::Last);
+    assert_eq!(rt; take(&rt, &mut level), Some(two));
+    assert_eq!(rt; hand(&level), Some(two));
+    assert_eq!(rt; finish(&rt, &mut level), Finished::LastOfRemoval);
+    assert_eq!(rt; take(&rt, &mut level), None);
 }
