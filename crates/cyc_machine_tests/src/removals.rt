@@ -3,10 +3,9 @@
 use crate::tests::written;
 use cyc_machine::read_script;
 use cyc_types::Refusal;
-use std::test::Fail;
 
 /// Scripts, each with its text.
-const RUNS: [(&str, &str, &str); 16] = [
+static RUNS: [(&str, &str, &str); 16] = [
     (
         "kept_calls_are_made_before_a_removal_answers",
         "{\"cpus\":1,\"steps\":[[\"add\",\"a\",\"low\",1,1],[\"advance\",3],[\"remove\",\"a\"],[\"advance\",9],[\"remove\",\"a\"],[\"softint\",0,\"low\",2],[\"softint\",0,\"low\",8],[\"remove\",\"a\"]]}",
@@ -90,12 +89,11 @@ const RUNS: [(&str, &str, &str); 16] = [
 ];
 
 #[test]
-fn each_removal_gives_its_text(rt: HostRuntime) -> Result<(), Fail> {
-    for (name, script, text) in RUNS {
-        let written = written(&rt, script)?;
+fn each_removal_gives_its_text(rt: HostRuntime) {
+    for &(name, script, text) in &RUNS {
+        let written = written(&rt, script);
         assert_eq!(rt; written.as_slice(), text.as_bytes(), "{name}");
     }
-    Ok(())
 }
 
 #[test]

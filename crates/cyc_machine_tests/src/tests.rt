@@ -1,16 +1,16 @@
-ghost use Rattle.std.specs.Prelude.{Some, None};
+ghost use Rattle.std.specs.Prelude.{◌≡◌, ◌<◌, Some, None, false};
 
 use cyc_machine::{
     Command, Fault, Out, PutFailed, RunFault, Sink, command_of, read_script, replay, status_of,
 };
+use cyc_script::Script;
 use cyc_types::Refusal;
 use std::alloc::{AllocError, Global};
 use std::fmt::Write;
 use std::process::Abort;
-use std::test::Fail;
 
 /// Scripts, each with its text.
-const RUNS: [(&str, &str, &str); 17] = [
+static RUNS: [(&str, &str, &str); 17] = [
     ("no_steps", "{\"cpus\":1,\"steps\":[]}", ""),
     (
         "one_expiration_is_served",
@@ -94,26 +94,63 @@ const RUNS: [(&str, &str, &str); 17] = [
     ),
 ];
 
-/// What a script's replay writes.
-pub fn written<R: AllocGlobal + Abort>(rt: &R, script: &str) -> Result<Vec<u8>, Fail> {
-    let script = read_script(rt.alloc(), script.as_bytes())
-        .ok()
-        .ok_or("it is a script")?;
-    let mut written: Vec<u8> = Vec::new(rt.alloc());
+fn script_of<R: AllocGlobal + Abort>(rt: &R, text: &str) -> Script {
+    let script = read_script(rt.alloc(), text.as_bytes()).ok();
+    script.expect(rt, "a script")
+}
+
+/// Replays a script. Its contract is empty: the tests compare what is written.
+fn put_all<S: Sink>(alloc: Global, script: &Script, sink: &mut S) -> Result<(), RunFault>
+    requires { S.has_failed sink.old ≡ false }
+{
+    replay(alloc, script, sink)
+}
+
+/// What a script's replay writes. None where it fails.
+fn text_of(alloc: Global, script: &Script) -> Option<Vec<u8>> {
+    let mut written: Vec<u8> = Vec::new(alloc);
     let mut out = Out::new(&mut written);
-    let ended = replay(rt.alloc(), &script, &mut out);
-    assert!(rt; ended.is_ok() && !out.failed());
+    let ended = put_all(alloc, script, &mut out);
+    if ended.is_err() || out.failed() {
+        return None;
+    }
     drop(out);
-    Ok(written)
+    Some(written)
+}
+
+/// What the replay of a script of this text writes.
+pub fn written<R: AllocGlobal + Abort>(rt: &R, script: &str) -> Vec<u8> {
+    let script = script_of(rt, script);
+    text_of(rt.alloc(), &script).expect(rt, "a text")
 }
 
 #[test]
-fn each_script_gives_its_text(rt: HostRuntime) -> Result<(), Fail> {
-    for (name, script, text) in RUNS {
-        let written = written(&rt, script)?;
+fn each_script_gives_its_text(rt: HostRuntime) {
+    for &(name, script, text) in &RUNS {
+        let written = written(&rt, script);
         assert_eq!(rt; written.as_slice(), text.as_bytes(), "{name}");
     }
-    Ok(())
+}
+
+/// Adds the cyclic of this number and drains both old banks.
+fn push_add(script: &mut String, k: u32) -> Result<(), AllocError> {
+    write!(
+        script,
+        "[\"add\",\"c{k}\",\"low\",1,1],[\"softint\",0,\"low\",1],[\"softint\",0,\"lock\",1],"
+    )
+}
+
+/// The three lines of such steps.
+fn push_add_text(text: &mut String, k: u32) -> Result<(), AllocError>
+    requires { k < 256 }
+{
+    let (add, low, lock) = (3 * k + 1, 3 * k + 2, 3 * k + 3);
+    write!(text, "{add} ok\n{low} ran 0 idle\n{lock} ran 0 idle\n")
+}
+
+/// The report of a cyclic that never expired.
+fn push_report(text: &mut String, k: u32) -> Result<(), AllocError> {
+    write!(text, "c{k} expired 0 called 0 lost 0 pending 0\n")
 }
 
 /// A script that fills a CPU, each add followed by the soft interrupts that drain its old banks, and then takes these steps.
@@ -121,10 +158,7 @@ fn filled(alloc: Global, last: &str) -> Result<String, AllocError> {
     let mut script = String::new(alloc);
     script.push_str("{\"cpus\":1,\"steps\":[")?;
     for k in 0..256u32 {
-        write!(
-            script,
-            "[\"add\",\"c{k}\",\"low\",1,1],[\"softint\",0,\"low\",1],[\"softint\",0,\"lock\",1],"
-        )?;
+        push_add(&mut script, k)?;
     }
     script.push_str(last)?;
     script.push_str("]}")?;
@@ -135,18 +169,17 @@ fn filled(alloc: Global, last: &str) -> Result<String, AllocError> {
 fn filled_text(alloc: Global, last: &str) -> Result<String, AllocError> {
     let mut text = String::new(alloc);
     for k in 0..256u32 {
-        let (add, low, lock) = (3 * k + 1, 3 * k + 2, 3 * k + 3);
-        write!(text, "{add} ok\n{low} ran 0 idle\n{lock} ran 0 idle\n")?;
+        push_add_text(&mut text, k)?;
     }
     text.push_str(last)?;
     for k in 0..257u32 {
-        write!(text, "c{k} expired 0 called 0 lost 0 pending 0\n")?;
+        push_report(&mut text, k)?;
     }
     Ok(text)
 }
 
 #[test]
-fn a_cpu_holds_256_cyclics_and_another_after_a_removal(rt: HostRuntime) -> Result<(), Fail> {
+fn a_cpu_holds_256_cyclics_and_another_after_a_removal(rt: HostRuntime) {
     for (last, lines) in [
         ("[\"add\",\"c256\",\"low\",1,1]", "769 refused 5\n"),
         (
@@ -154,12 +187,11 @@ fn a_cpu_holds_256_cyclics_and_another_after_a_removal(rt: HostRuntime) -> Resul
             "769 removed c0 0\n770 ok\n",
         ),
     ] {
-        let script = filled(rt.alloc(), last)?;
-        let text = filled_text(rt.alloc(), lines)?;
-        let written = written(&rt, script.as_str())?;
+        let script = filled(rt.alloc(), last).expect(&rt, "a script");
+        let text = filled_text(rt.alloc(), lines).expect(&rt, "a text");
+        let written = written(&rt, script.as_str());
         assert_eq!(rt; written.as_slice(), text.as_bytes(), "{last}");
     }
-    Ok(())
 }
 
 /// A sink that fails at a put, after the first byte of it.
@@ -195,111 +227,133 @@ impl Sink for Stops {
     }
 }
 
+/// How the replay of a script ends on a sink that fails after so many puts, and what it wrote before.
+fn stopped(alloc: Global, script: &Script, puts: u32) -> (Result<(), RunFault>, Vec<u8>) {
+    let mut sink = Stops {
+        puts_left: puts,
+        written: Vec::new(alloc),
+        failed: false,
+    };
+    let ended = put_all(alloc, script, &mut sink);
+    (ended, sink.written)
+}
+
+/// The lines of `RUNS[1]`.
+static LINES: [&str; 4] = [
+    "1 ok\n",
+    "2 fired 1 lost 0\n",
+    "3 ran 1 idle\n",
+    "a expired 1 called 1 lost 0 pending 0\n",
+];
+
+/// So many of those lines.
+fn first_lines(alloc: Global, count: usize) -> Result<Vec<u8>, AllocError> {
+    let mut text: Vec<u8> = Vec::new(alloc);
+    for line in LINES.iter().take(count) {
+        text.extend_from_slice(line.as_bytes())?;
+    }
+    Ok(text)
+}
+
 #[test]
-fn a_failed_put_stops_the_replay(rt: HostRuntime) -> Result<(), Fail> {
+fn a_failed_put_stops_the_replay(rt: HostRuntime) {
     let (_, script, text) = RUNS[1];
-    let lines = [
-        "1 ok\n",
-        "2 fired 1 lost 0\n",
-        "3 ran 1 idle\n",
-        "a expired 1 called 1 lost 0 pending 0\n",
-    ];
-    let script = read_script(rt.alloc(), script.as_bytes())
-        .ok()
-        .ok_or("it is a script")?;
+    let script = script_of(&rt, script);
     for k in 0..6u32 {
-        let mut sink = Stops {
-            puts_left: k,
-            written: Vec::new(rt.alloc()),
-            failed: false,
-        };
-        let ended = replay(rt.alloc(), &script, &mut sink);
-        let whole = k as usize >= lines.len();
-        assert_eq!(rt; ended.is_ok(), whole, "at {k}");
-        assert_eq!(rt; ended.err() == Some(RunFault::Write), !whole, "at {k}");
-        let mut front: Vec<u8> = Vec::new(rt.alloc());
-        for line in lines.iter().take(k as usize) {
-            front.extend_from_slice(line.as_bytes())?;
-        }
-        assert_eq!(rt; sink.written.as_slice(), front.as_slice(), "at {k}");
+        let (ended, written) = stopped(rt.alloc(), &script, k);
+        let wanted = if k < 4 { Err(RunFault::Write) } else { Ok(()) };
+        assert!(rt; ended == wanted, "at {k}");
+        let front = first_lines(rt.alloc(), k as usize).expect(&rt, "a text");
+        assert_eq!(rt; written.as_slice(), front.as_slice(), "at {k}");
         assert!(rt; text.as_bytes().starts_with(front.as_slice()), "at {k}");
     }
-    Ok(())
 }
+
+fn is_replay(alloc: Global, words: &[&str]) -> bool {
+    matches!(command_of(alloc, words), Ok(Command::Replay))
+}
+
+/// Whether the words are refused as no command.
+fn is_no_command(alloc: Global, words: &[&str]) -> bool {
+    matches!(command_of(alloc, words), Err(Fault::Words))
+}
+
+static NO_WORDS: [&str; 11] = [
+    "--",
+    "--help",
+    "-h",
+    "-V",
+    "--version",
+    "help",
+    "",
+    "Replay",
+    "--replay",
+    "replay ",
+    "run",
+];
+
+static NO_PAIRS: [[&str; 2]; 5] = [
+    ["--", "replay"],
+    ["replay", "x"],
+    ["replay", "replay"],
+    ["replay", "--"],
+    ["-v", "replay"],
+];
 
 #[test]
 fn only_the_exact_word_is_a_command(rt: HostRuntime) {
-    let alloc = rt.alloc();
-    assert_eq!(rt; command_of(alloc, &["replay"]).ok(), Some(Command::Replay));
-    assert_eq!(rt; command_of(alloc, &[]).err(), Some(Fault::Words));
-    for word in [
-        "--",
-        "--help",
-        "-h",
-        "-V",
-        "--version",
-        "help",
-        "",
-        "Replay",
-        "--replay",
-        "replay ",
-        "run",
-    ] {
-        assert_eq!(rt;
-            command_of(alloc, &[word]).err(),
-            Some(Fault::Words),
-            "at {word}"
-        );
+    assert!(rt; is_replay(rt.alloc(), &["replay"]));
+    assert!(rt; is_no_command(rt.alloc(), &[]));
+    for word in &NO_WORDS {
+        assert!(rt; is_no_command(rt.alloc(), &[*word]), "at {word}");
     }
-    for words in [
-        ["--", "replay"],
-        ["replay", "x"],
-        ["replay", "replay"],
-        ["replay", "--"],
-        ["-v", "replay"],
-    ] {
-        assert_eq!(rt;
-            command_of(alloc, &words).err(),
-            Some(Fault::Words),
-            "at {words:?}"
-        );
+    for words in &NO_PAIRS {
+        assert!(rt; is_no_command(rt.alloc(), words), "at {words:?}");
     }
 }
 
+/// What the fault shows.
+fn shown<R: AllocGlobal + Abort>(rt: &R, fault: &Fault) -> String {
+    let text = format!(in rt.alloc(); "{fault}");
+    text.expect(rt, "a text")
+}
+
+/// Each fault with what it shows and the status.
+const FAULTS: [(Fault, &str, u8); 11] = [
+    (Fault::Words, "usage: cyclic replay|run", 1),
+    (Fault::Memory, "fault 1", 3),
+    (Fault::Read, "fault read", 3),
+    (Fault::Script(Refusal::Memory), "fault 1", 3),
+    (Fault::Script(Refusal::ScriptSyntax), "script refused 19", 2),
+    (
+        Fault::Script(Refusal::ScriptShape(0)),
+        "script refused 20 step 0",
+        2,
+    ),
+    (
+        Fault::Script(Refusal::TimeBack(2)),
+        "script refused 21 step 2",
+        2,
+    ),
+    (
+        Fault::Script(Refusal::NameTwice(3)),
+        "script refused 22 step 3",
+        2,
+    ),
+    (
+        Fault::Script(Refusal::NoName(1)),
+        "script refused 23 step 1",
+        2,
+    ),
+    (Fault::Run(RunFault::Refused(Refusal::Memory)), "fault 1", 3),
+    (Fault::Run(RunFault::Write), "fault write", 3),
+];
+
 #[test]
-fn each_fault_has_its_words_and_status(rt: HostRuntime) -> Result<(), Fail> {
-    for (fault, words, status) in [
-        (Fault::Words, "usage: cyclic replay|run", 1),
-        (Fault::Memory, "fault 1", 3),
-        (Fault::Read, "fault read", 3),
-        (Fault::Script(Refusal::Memory), "fault 1", 3),
-        (Fault::Script(Refusal::ScriptSyntax), "script refused 19", 2),
-        (
-            Fault::Script(Refusal::ScriptShape(0)),
-            "script refused 20 step 0",
-            2,
-        ),
-        (
-            Fault::Script(Refusal::TimeBack(2)),
-            "script refused 21 step 2",
-            2,
-        ),
-        (
-            Fault::Script(Refusal::NameTwice(3)),
-            "script refused 22 step 3",
-            2,
-        ),
-        (
-            Fault::Script(Refusal::NoName(1)),
-            "script refused 23 step 1",
-            2,
-        ),
-        (Fault::Run(RunFault::Refused(Refusal::Memory)), "fault 1", 3),
-        (Fault::Run(RunFault::Write), "fault write", 3),
-    ] {
-        let text = format!(in rt.alloc(); "{fault}")?;
-        assert_eq!(rt; text.as_str(), words);
-        assert_eq!(rt; status_of(&fault), status, "{words}");
+fn each_fault_has_its_words_and_status(rt: HostRuntime) {
+    for (fault, words, status) in &FAULTS {
+        let text = shown(&rt, fault);
+        assert_eq!(rt; text.as_str(), *words);
+        assert_eq!(rt; status_of(fault), *status, "{words}");
     }
-    Ok(())
 }
