@@ -1,0 +1,195 @@
+-- What is done on one CPU happens there, and is all that its levels see.
+use Rattle.std.proofs.Common.{◌≡◌, ◌≢◌, ℕ, zero, suc, ◌+◌, ◌&&◌, eq-eqb, ne_eqb, Bool, true, false, cond, List, [], ◌∷◌, ◌++◌, map, Option, Some, None, refl, ap, sym, ◌∙◌, arith}
+use Rattle.std.specs.Prelude.{⊤}
+use Rattle.cyc_types.specs.declared.level.Soft.{Soft}
+use Rattle.cyc_types.specs.declared.level.Soft.TheVariants.{Low, Lock}
+use Rattle.cyc_types.specs.declared.level.Level.{Level as CyclicLevel}
+use Rattle.cyc_types.specs.declared.level.Level.TheVariants as level
+use Rattle.cyc_level.specs.declared.Event.{Event}
+use Rattle.cyc_level.specs.declared.Event.TheVariants.{Mark, Clear, Finish}
+use Rattle.cyc_level.specs.Level.{Level}
+use Rattle.cyc_level.specs.Events.{after}
+use Rattle.cyc_expirations.specs.Expirations.{Expiration}
+use Rattle.cyc_model.specs.Acts.{Act, At, Call, at_own, same_soft, event_at, events_at, calls_of}
+use Rattle.cyc_model.specs.Cpu.{Cyclic, Cpu, Here, cpu_after, happen, here, nothing_here, then_here, level_of, others}
+use Rattle.cyc_model.specs.Firing.{raised, expiry, expire_here, expire_all, due_here, fire_here}
+use Rattle.cyc_model.specs.Serving.{level_after, look, Interrupt, after_look, serve, serve_here, level_at}
+use Rattle.cyc_model.specs.Moving.{widen_here, must_grow, place_here, enter_here, take_here, mark_here, clear_here, reprogram_here}
+
+pub level_append : (xs ys : List Event) (l : Level) → level_after (xs ++ ys) l ≡ level_after ys (level_after xs l)
+level_append [] ys l = refl
+level_append (x ∷ xs) ys l = level_append xs ys (after x l)
+
+append_assoc : {A : Type 0} → (xs ys zs : List A) → (xs ++ ys) ++ zs ≡ xs ++ (ys ++ zs)
+append_assoc [] ys zs = refl
+append_assoc (x ∷ xs) ys zs = ap (λ ws. x ∷ ws) (append_assoc xs ys zs)
+
+pub events_append : (n : ℕ) (soft : Soft) (xs ys : List Act) → events_at n soft (xs ++ ys)
+    ≡ events_at n soft xs ++ events_at n soft ys
+events_append n soft [] ys = refl
+events_append n soft (x ∷ xs) ys =
+    ap (λ es. event_at n soft x ++ es) (events_append n soft xs ys)
+    ∙ sym (append_assoc (event_at n soft x) (events_at n soft xs) (events_at n soft ys))
+
+pub calls_append : (id : ℕ) (xs ys : List Act) → calls_of id (xs ++ ys) ≡ calls_of id xs + calls_of id ys
+calls_append id [] ys = plain (calls_of id ys)
+  where
+    plain : (n : ℕ) → n ≡ 0 + n
+    plain n = omega arith
+calls_append id (x ∷ xs) ys = let h = calls_append id xs ys in omega (arith, h)
+
+-- the act is of the CPU of this number
+abbrev pub IsOn : ℕ → Act → Type 0
+IsOn n (At m soft event) = m ≡ n
+IsOn n (Call id) = ⊤
+
+abbrev pub AllOn : ℕ → List Act → Type 0
+AllOn n [] = ⊤
+AllOn n (act ∷ acts) = IsOn n act × AllOn n acts
+
+pub on_append : (n : ℕ) (xs ys : List Act) → AllOn n xs → AllOn n ys → AllOn n (xs ++ ys)
+on_append n [] ys first rest = rest
+on_append n (x ∷ xs) ys first rest = (first.0, on_append n xs ys first.1 rest)
+
+pub on_own : (n : ℕ) (l : CyclicLevel) (event : Event) → AllOn n (at_own n l event)
+on_own n level.High event = tt
+on_own n level.Lock event = (refl, tt)
+on_own n level.Low event = (refl, tt)
+
+pub on_map : (n : ℕ) (soft : Soft) (es : List Event) → AllOn n (map (At n soft) es)
+on_map n soft [] = tt
+on_map n soft (e ∷ es) = (refl, on_map n soft es)
+
+own_step : (act : Act) (n : ℕ) (soft : Soft) (c : Cpu) → IsOn n act → level_at soft (cpu_after act c)
+    ≡ level_after (event_at n soft act) (level_at soft c)
+own_step (Call id) n soft c is = refl
+own_step (At m Low e) n Low c is = ap (λ (b : Bool). level_after (cond (b && true) (e ∷ []) []) c.low) (sym (eq-eqb m n is))
+own_step (At m Lock e) n Lock c is = ap (λ (b : Bool). level_after (cond (b && true) (e ∷ []) []) c.lock) (sym (eq-eqb m n is))
+own_step (At m Low e) n Lock c is = ap (λ (b : Bool). level_after (cond (b && false) (e ∷ []) []) c.lock) (sym (eq-eqb m n is))
+own_step (At m Lock e) n Low c is = ap (λ (b : Bool). level_after (cond (b && false) (e ∷ []) []) c.low) (sym (eq-eqb m n is))
+
+-- the levels of a CPU after its acts
+pub own_levels : (acts : List Act) (n : ℕ) (soft : Soft) (c : Cpu) → AllOn n acts → level_at soft (happen acts c)
+    ≡ level_after (events_at n soft acts) (level_at soft c)
+own_levels [] n soft c is = refl
+own_levels (a ∷ acts) n soft c is =
+    own_levels acts n soft (cpu_after a c) is.1
+    ∙ ap (level_after (events_at n soft acts)) (own_step a n soft c is.0)
+    ∙ sym (level_append (event_at n soft a) (events_at n soft acts) (level_at soft c))
+
+other_event : (act : Act) (n m : ℕ) (soft : Soft) → IsOn n act → m ≢ n → event_at m soft act ≡ []
+other_event (Call id) n m soft is ne = refl
+other_event (At k s e) n m soft is ne = ap (λ (b : Bool). cond (b && same_soft s soft) (e ∷ []) [])
+    (ne_eqb k m (λ same. ne (sym same ∙ is)))
+
+-- another CPU sees none of them
+pub other_events : (acts : List Act) (n m : ℕ) (soft : Soft) → AllOn n acts → m ≢ n → events_at m soft acts ≡ []
+other_events [] n m soft is ne = refl
+other_events (a ∷ acts) n m soft is ne =
+    ap (λ es. es ++ events_at m soft acts) (other_event a n m soft is.0 ne) ∙ other_events acts n m soft is.1 ne
+
+-- what was done on the CPU of this number happened there, and is all that its levels saw
+pub record Local (n : ℕ) (c : Cpu) (d : Here) : Type 0 where
+  pub on : AllOn n d.acts
+  pub levels : (soft : Soft) → level_at soft d.cpu ≡ level_after (events_at n soft d.acts) (level_at soft c)
+
+-- the two have the same levels
+abbrev pub SameLevels : Cpu → Cpu → Type 0
+SameLevels c d = (soft : Soft) → level_at soft d ≡ level_at soft c
+
+pub local_here : (n : ℕ) (acts : List Act) (c d : Cpu) → AllOn n acts → SameLevels c d → Local n c (here acts d)
+local_here n acts c d is same = record {
+  on = is;
+  levels = λ soft. own_levels acts n soft d is ∙ ap (level_after (events_at n soft acts)) (same soft);
+}
+
+pub local_nothing : (n : ℕ) (c d : Cpu) → SameLevels c d → Local n c (nothing_here d)
+local_nothing n c d same = record { on = tt; levels = same }
+
+pub local_then : (n : ℕ) (c : Cpu) (d : Here) (f : Cpu → Here) → Local n c d → ((e : Cpu) → Local n e (f e))
+    → Local n c (then_here d f)
+local_then n c d f first next = record {
+  on = on_append n d.acts (f d.cpu).acts first.on (next d.cpu).on;
+  levels = λ soft. (next d.cpu).levels soft
+      ∙ ap (level_after (events_at n soft (f d.cpu).acts)) (first.levels soft)
+      ∙ sym (level_append (events_at n soft d.acts) (events_at n soft (f d.cpu).acts) (level_at soft c))
+      ∙ ap (λ es. level_after es (level_at soft c)) (sym (events_append n soft d.acts (f d.cpu).acts));
+}
+
+pub same_low_lock : (c d : Cpu) → d.lock ≡ c.lock → d.low ≡ c.low → SameLevels c d
+same_low_lock c d lock low Lock = lock
+same_low_lock c d lock low Low = low
+
+local_if : (b : Bool) (n : ℕ) (c : Cpu) (d e : Here) → Local n c d → Local n c e → Local n c (cond b d e)
+local_if true n c d e one other = one
+local_if false n c d e one other = other
+
+-- ---- each of the calls on one CPU
+
+on_expiry : (n : ℕ) (l : CyclicLevel) (id : ℕ) (c : Cpu) → AllOn n (expiry n l id c)
+on_expiry n level.High id c = (tt, tt)
+on_expiry n level.Lock id c = on_map n Lock (raised id c.lock)
+on_expiry n level.Low id c = on_map n Low (raised id c.low)
+
+local_expire : (n id : ℕ) (c : Cpu) → Local n c (expire_here n id c)
+local_expire n id c = local_here n (expiry n (level_of id c) id c) c c (on_expiry n (level_of id c) id c) (λ soft. refl)
+
+pub local_expire_all : (n : ℕ) (ps : List Expiration) (c : Cpu) → Local n c (expire_all n ps c)
+local_expire_all n [] c = local_nothing n c c (λ soft. refl)
+local_expire_all n (p ∷ ps) c = local_then n c (expire_here n p.id c) (expire_all n ps) (local_expire n p.id c)
+    (local_expire_all n ps)
+
+retimed : (n : ℕ) (c : Cpu) (d : Here) (cs : List Cyclic) → Local n c d
+    → Local n c (record d { cpu = record d.cpu { cyclics = cs } })
+retimed n c d cs h = record { on = h.on; levels = same }
+  where
+    same : (soft : Soft) → level_at soft (record d.cpu { cyclics = cs }) ≡ level_after (events_at n soft d.acts) (level_at soft c)
+    same Low = h.levels Low
+    same Lock = h.levels Lock
+
+pub local_fire : (n now : ℕ) (c : Cpu) → Local n c (fire_here n now c)
+local_fire n now c = retimed n c (expire_all n (due_here now c) c) _ (local_expire_all n (due_here now c) c)
+
+on_look : (n : ℕ) (soft : Soft) (looked : List Event) (l : Level) (rest : Level → Interrupt)
+    → ((m : Level) → AllOn n (rest m).acts)
+    → (hand : Option ℕ) → AllOn n (after_look n soft looked (record l { drainer_hand = hand }) rest).acts
+on_look n soft looked l rest more None = on_map n soft looked
+on_look n soft looked l rest more (Some id) =
+    on_append n (map (At n soft) looked) _ (on_map n soft looked)
+    (tt, (refl, more (after Finish (record l { drainer_hand = Some id }))))
+
+on_serve : (n : ℕ) (soft : Soft) (budget : ℕ) (l : Level) → AllOn n (serve n soft budget l).acts
+on_serve n soft zero l = tt
+on_serve n soft (suc budget) l =
+    on_look n soft (look l) (level_after (look l) l) (serve n soft budget) (on_serve n soft budget)
+    (level_after (look l) l).drainer_hand
+
+pub local_serve : (n : ℕ) (soft : Soft) (budget : ℕ) (c : Cpu) → Local n c (serve_here n soft budget c)
+local_serve n soft budget c =
+    local_here n (serve n soft budget (level_at soft c)).acts c c (on_serve n soft budget (level_at soft c)) (λ s. refl)
+
+pub local_widen : (n more : ℕ) (c : Cpu) → Local n c (widen_here n more c)
+local_widen n more c = local_if (must_grow more c) n c _ (nothing_here c)
+    (local_here n _ c _ (refl, (refl, tt)) (same_low_lock c _ refl refl)) (local_nothing n c c (λ soft. refl))
+
+pub local_place : (n index : ℕ) (x : Cyclic) (c : Cpu) → Local n c (place_here n index x c)
+local_place n index x c = local_here n _ c _ (on_own n x.timer.level _) (same_low_lock c _ refl refl)
+
+pub local_enter : (n index : ℕ) (x : Cyclic) (c : Cpu) → Local n c (enter_here n index x c)
+local_enter n index x c = local_then n c (widen_here n 1 c) (place_here n index x) (local_widen n 1 c) (local_place n index x)
+
+pub local_take : (n id : ℕ) (c : Cpu) → Local n c (take_here n id c)
+local_take n id c =
+    local_then n c (here (at_own n (level_of id c) (Mark id)) c) _
+    (local_here n (at_own n (level_of id c) (Mark id)) c c (on_own n (level_of id c) (Mark id)) (λ soft. refl))
+    (λ d. local_here n (at_own n (level_of id d) (Clear id)) d (record d { cyclics = others id d.cyclics })
+    (on_own n (level_of id d) (Clear id)) (same_low_lock d _ refl refl))
+
+pub local_mark : (n id : ℕ) (c : Cpu) → Local n c (mark_here n id c)
+local_mark n id c = local_here n _ c _ (on_own n (level_of id c) (Mark id)) (same_low_lock c _ refl refl)
+
+pub local_clear : (n id : ℕ) (c : Cpu) → Local n c (clear_here n id c)
+local_clear n id c = local_here n _ c _ (on_own n (level_of id c) (Clear id)) (same_low_lock c _ refl refl)
+
+pub local_reprogram : (n id moment : ℕ) (c : Cpu) → Local n c (reprogram_here id moment c)
+local_reprogram n id moment c = local_nothing n c _ (same_low_lock c _ refl refl)

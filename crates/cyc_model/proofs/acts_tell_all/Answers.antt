@@ -1,0 +1,5 @@
+use Rattle.cyc_model.proofs.Telling.{tells_steps}
+use Rattle.cyc_model.proofs.acts_tell_all.Goals as goal
+
+pub returns : goal.returns
+returns c = tells_steps

@@ -1,0 +1,22 @@
+-- advance: the clock is set, and every online CPU fires (cyclic_fire).
+use Rattle.std.specs.Prelude.{ℕ, List, length, sum_by, Option}
+use Rattle.cyc_types.specs.declared.refusal.Refusal.{Refusal}
+use Rattle.cyc_text.specs.Lines.{fired}
+use Rattle.cyc_model.specs.Acts.{losses_in}
+use Rattle.cyc_model.specs.Firing.{due_here, fire_here}
+use Rattle.cyc_model.specs.State.{State, Outcome, cpu_of, on, each, told, online_cpus}
+use Rattle.cyc_model.specs.Refusals.{bad_now}
+
+-- the expirations of all online CPUs
+abbrev pub due_on : ℕ → List ℕ → State → ℕ
+due_on now ns s = sum_by (λ n. length (due_here now (cpu_of n s))) ns
+
+abbrev pub with_fired_line : ℕ → ℕ → Outcome → Outcome
+with_fired_line step expired o = told (fired step expired (losses_in o.acts)) o
+
+abbrev pub advance_refusal : ℕ → Option Refusal
+advance_refusal now = bad_now now
+
+abbrev pub advance : ℕ → ℕ → State → Outcome
+advance step now s = with_fired_line step (due_on now (online_cpus s) s)
+    (each (λ n. on n (fire_here n now)) (online_cpus s) (record s { clock = now }))

@@ -1,0 +1,56 @@
+-- online: a CPU takes part again, with a component of each omnipresent cyclic (cyclic_online).
+use Rattle.std.specs.Prelude.{ℕ, not, Bool, true, false, List, [], ◌∷◌, length, filter, Option}
+use Rattle.cyc_types.specs.declared.refusal.Refusal.{Refusal}
+use Rattle.cyc_types.specs.declared.refusal.Refusal.TheVariants.{Expanding, Online}
+use Rattle.cyc_types.specs.Series.{first}
+use Rattle.cyc_text.specs.Lines.{accepted}
+use Rattle.cyc_model.specs.Cpu.{Cpu, Cyclic, nothing_here}
+use Rattle.cyc_model.specs.Moving.{must_grow, widen_here, place_here}
+use Rattle.cyc_model.specs.Questions.{Questions}
+use Rattle.cyc_model.specs.State.{State, Outcome, Ended, Everywhere, Place, On, OnAll, Placed, cpu_of, on, nothing, each, told, followed_by}
+use Rattle.cyc_model.specs.Places.{is_leaving, without_ended}
+use Rattle.cyc_model.specs.Refusals.{first_refusal, when, only_if, no_cpu, bad_now}
+use Rattle.cyc_model.specs.Add.{cyclic_with, one_admitted}
+use Rattle.cyc_model.specs.Omni.{start_on}
+
+abbrev pub is_on_all : Place → Bool
+is_on_all (On n bound) = false
+is_on_all (OnAll e) = true
+
+-- the omnipresent cyclics whose removal isn't open
+abbrev pub staying : State → List Placed
+staying s = filter (λ p. is_on_all p.place) (filter (λ p. not (is_leaving p.id s)) s.placed)
+
+abbrev pub online_cpu : ℕ → State → Option Refusal
+online_cpu n s = when (cpu_of n s).online Online
+
+-- each of them needs an index
+abbrev pub no_room_for_all : Questions → ℕ → ℕ → Cpu → Option Refusal
+no_room_for_all q n more c = only_if (must_grow more c) (when (not (q.followed n 0 c)) Expanding)
+
+abbrev pub online_refusal : Questions → ℕ → State → Option Refusal
+online_refusal q n s = first_refusal (no_cpu n s ∷ online_cpu n s ∷ bad_now s.clock
+    ∷ no_room_for_all q n (length (staying s)) (cpu_of n s) ∷ [])
+
+-- the component begins again, with the counts that its earlier stays left on this CPU
+abbrev pub again : ℕ → ℕ → Everywhere → Ended → ℕ → Cyclic
+again id n e counts now = cyclic_with id e.level e.interval (first (start_on n e) e.interval now) counts.expired counts.lost
+
+abbrev pub return_at : (ℕ → ℕ) → ℕ → ℕ → Place → State → Outcome
+return_at indexes n id (On m bound) s = nothing s
+return_at indexes n id (OnAll e) s =
+    one_admitted (on n (place_here n (indexes s.admissions) (again id n e (s.ended id n) s.clock)) (without_ended n id s))
+
+abbrev pub return_of : (ℕ → ℕ) → ℕ → Placed → State → Outcome
+return_of indexes n p s = return_at indexes n p.id p.place s
+
+abbrev pub go_online : Cpu → Cpu
+go_online c = record c { online = true }
+
+abbrev pub return_all : (ℕ → ℕ) → ℕ → List Placed → State → Outcome
+return_all indexes n ps s = followed_by (on n (widen_here n (length ps)) s)
+    (λ t. followed_by (each (return_of indexes n) ps t) (on n (λ c. nothing_here (go_online c))))
+
+-- the size grows once, for all of them
+abbrev pub online : (ℕ → ℕ) → ℕ → ℕ → State → Outcome
+online indexes step n s = told (accepted step) (return_all indexes n (staying s) s)

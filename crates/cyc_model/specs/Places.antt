@@ -1,0 +1,108 @@
+-- Where cyclics are: their names, ids and CPUs.
+use Rattle.std.specs.Prelude.{ℕ, ◌+◌, ◌==◌, ◌&&◌, nat_lt, if◌then◌else◌, not, Bool, true, false, is_some, List, [], ◌∷◌, ◌++◌, length, find, map, filter, slice_set, slice_index_or, Option, Some, None}
+use Rattle.std.specs.List.{list_any}
+use Rattle.std.specs.Option.{option_map, option_map_or}
+use Rattle.cyc_model.specs.Cpu.{Cyclic}
+use Rattle.cyc_model.specs.State.{Place, On, OnAll, Placed, State, cpu_of, online_cpus}
+
+-- the id of a name
+abbrev pub id_of : ℕ → State → ℕ
+id_of name s = slice_index_or s.names name 0
+
+abbrev pub place_of : ℕ → State → Option Place
+place_of id s = option_map (λ p. p.place) (find (λ p. p.id == id) s.placed)
+
+-- no cyclic has this id, or its removal has answered
+abbrev pub is_unknown : ℕ → State → Bool
+is_unknown id s = not (is_some (place_of id s))
+
+-- the removal of this id is open on some CPU
+abbrev pub is_leaving : ℕ → State → Bool
+is_leaving id s = list_any (λ c. option_map_or (λ busy. busy == id) c.removal false) s.cpus
+
+abbrev pub is_everywhere : Option Place → Bool
+is_everywhere None = false
+is_everywhere (Some (On n bound)) = false
+is_everywhere (Some (OnAll e)) = true
+
+abbrev pub is_omnipresent : ℕ → State → Bool
+is_omnipresent id s = is_everywhere (place_of id s)
+
+abbrev pub is_bound_at : Option Place → Bool
+is_bound_at None = false
+is_bound_at (Some (On n bound)) = bound
+is_bound_at (Some (OnAll e)) = false
+
+abbrev pub is_bound : ℕ → State → Bool
+is_bound id s = is_bound_at (place_of id s)
+
+-- the CPU of a cyclic that is on one
+abbrev pub home_at : Option Place → ℕ
+home_at None = 0
+home_at (Some (On n bound)) = n
+home_at (Some (OnAll e)) = 0
+
+abbrev pub home_of : ℕ → State → ℕ
+home_of id s = home_at (place_of id s)
+
+-- the cyclic of this id has this place
+abbrev pub replaced : ℕ → Place → Placed → Placed
+replaced id place p = if p.id == id then record p { place = place } else p
+
+abbrev pub put_at : ℕ → Place → State → State
+put_at id place s = record s { placed = map (replaced id place) s.placed }
+
+-- the next id is given to a cyclic with this place, and the name has it
+abbrev pub given : ℕ → Place → State → State
+given name place s = record s {
+  last_id = s.last_id + 1;
+  placed = s.placed ++ record { id = s.last_id + 1; place = place } ∷ [];
+  names = slice_set s.names name (s.last_id + 1);
+}
+
+-- the removal of this id has answered
+abbrev pub forgotten : ℕ → State → State
+forgotten id s = record s { placed = filter (λ p. not (p.id == id)) s.placed }
+
+-- ---- destinations
+
+abbrev pub len_of : ℕ → State → ℕ
+len_of n s = length (cpu_of n s).cyclics
+
+-- the first of two with no more cyclics than the other
+abbrev pub fewer : ℕ → Option ℕ → State → ℕ
+fewer n None s = n
+fewer n (Some m) s = if nat_lt (len_of m s) (len_of n s) then m else n
+
+abbrev pub fewest : List ℕ → State → Option ℕ
+fewest [] s = None
+fewest (n ∷ ns) s = Some (fewer n (fewest ns s) s)
+
+abbrev pub is_not : Option ℕ → ℕ → Bool
+is_not None n = true
+is_not (Some m) n = not (n == m)
+
+-- the online CPU, other than the source, with the fewest cyclics, and of several the first (our own rule in place of
+-- cyclic_pick_cpu); 0 where there is none
+abbrev pub destination : Option ℕ → State → ℕ
+destination source s = option_map_or (λ n. n) (fewest (filter (is_not source) (online_cpus s)) s) 0
+
+-- ---- counts of stays
+
+-- the counts of a cyclic that leaves are kept
+abbrev pub with_ended : ℕ → Cyclic → State → State
+with_ended n x s = record s {
+  ended = λ id m. if (id == x.timer.id) && (m == n)
+      then record { expired = (s.ended id m).expired + x.timer.expired; lost = (s.ended id m).lost + x.lost }
+      else s.ended id m;
+}
+
+-- the counts that a stay on this CPU takes on
+abbrev pub without_ended : ℕ → ℕ → State → State
+without_ended n x s = record s {
+  ended = λ id m. if (id == x) && (m == n) then record { expired = 0; lost = 0 } else s.ended id m;
+}
+
+abbrev pub keep_counts : ℕ → Option Cyclic → State → State
+keep_counts n None s = s
+keep_counts n (Some x) s = with_ended n x s

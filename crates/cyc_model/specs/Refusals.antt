@@ -1,0 +1,76 @@
+-- Why a call is refused: the first reason that holds, in the order in which a call names them.
+use Rattle.std.specs.Prelude.{ℕ, ◌+◌, nat_lt, nat_le, cond, not, Bool, List, [], ◌∷◌, length, int_lt, ℤ, pos, negsuc, Option, Some, None}
+use Rattle.std.specs.Option.{option_map}
+use Rattle.cyc_types.specs.Limits.{cyclics as most_cyclics, last_id as greatest_id}
+use Rattle.cyc_types.specs.Series.{never}
+use Rattle.cyc_types.specs.declared.refusal.Refusal.{Refusal}
+use Rattle.cyc_types.specs.declared.refusal.Refusal.TheVariants.{BadWhen, BadInterval, BadNow, Full, Expanding, Busy, IdsSpent, NoCpu, Offline, LastCpu}
+use Rattle.cyc_types.specs.Refusals.{number_of}
+use Rattle.cyc_text.specs.Lines.{refused}
+use Rattle.cyc_model.specs.Cpu.{Cpu}
+use Rattle.cyc_model.specs.Moving.{must_grow}
+use Rattle.cyc_model.specs.Questions.{Questions}
+use Rattle.cyc_model.specs.State.{State, Outcome, nothing, told, cpu_of, online_cpus}
+
+-- a refusal, where its reason holds
+abbrev pub when : Bool → Refusal → Option Refusal
+when holds why = cond holds (Some why) None
+
+-- the first of two
+abbrev pub or_else : Option Refusal → Option Refusal → Option Refusal
+or_else None later = later
+or_else (Some why) later = Some why
+
+abbrev pub first_refusal : List (Option Refusal) → Option Refusal
+first_refusal [] = None
+first_refusal (why ∷ whys) = or_else why (first_refusal whys)
+
+-- a removal is open
+abbrev pub busy : Option ℕ → Option Refusal
+busy removal = option_map (λ id. Busy id) removal
+
+-- the refusal, where the test holds
+abbrev pub only_if : Bool → Option Refusal → Option Refusal
+only_if test why = cond test why None
+
+-- why there is no room for so many more: asked for the sake of this id
+abbrev pub no_room : Questions → ℕ → ℕ → ℕ → Cpu → Option Refusal
+no_room q n id more c = first_refusal (
+    when (nat_lt most_cyclics (length c.cyclics + more)) Full
+    ∷ only_if (must_grow more c) (busy (q.removal n c))
+    ∷ only_if (must_grow more c) (when (not (q.followed n id c)) Expanding)
+    ∷ [])
+
+abbrev pub no_cpu : ℕ → State → Option Refusal
+no_cpu n s = when (nat_le (length s.cpus) n) NoCpu
+
+abbrev pub offline_cpu : ℕ → State → Option Refusal
+offline_cpu n s = when (not (cpu_of n s).online) Offline
+
+-- no other CPU is online
+abbrev pub last_cpu : ℕ → State → Option Refusal
+last_cpu n s = when (nat_le (length (online_cpus s)) 1) LastCpu
+
+-- the start and the interval of a cyclic (When::new)
+abbrev pub bad_when : ℤ → ℤ → List (Option Refusal)
+bad_when start interval = when (int_lt start (pos 0)) BadWhen ∷ when (int_lt interval (pos 1)) BadInterval ∷ []
+
+abbrev pub bad_now : ℕ → Option Refusal
+bad_now now = when (nat_le never now) BadNow
+
+abbrev pub ids_spent : State → Option Refusal
+ids_spent s = when (nat_le greatest_id s.last_id) IdsSpent
+
+-- the number of an integer that isn't negative
+abbrev pub magnitude : ℤ → ℕ
+magnitude (pos n) = n
+magnitude (negsuc n) = 0
+
+-- a step that is refused does nothing
+abbrev pub refusal : ℕ → Refusal → State → Outcome
+refusal step why s = told (refused step (number_of why)) (nothing s)
+
+-- a step that may be refused
+abbrev pub unless : Option Refusal → ℕ → (State → Outcome) → State → Outcome
+unless (Some why) step does s = refusal step why s
+unless None step does s = does s

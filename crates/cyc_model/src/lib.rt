@@ -1,0 +1,22 @@
+//! What a script does with 1 to 16 CPUs: a definition, and its laws.
+//!
+//! The definition stands in `specs/`: what a call does on one CPU (`Firing`, `Serving`, `Moving`), what it must ask first
+//! (`Questions`), the machine (`State`, `Places`), why a call is refused (`Refusals`), one file for each word of a script (`Add`
+//! to `Online`), and the whole (`Script`, `Report`). It has no heap, no ring and no thread in it.
+//!
+//! A step comes to its lines, to one list of acts in the order of time, and to the machine after it. The functions here do
+//! nothing: each one's contract is a law.
+#![tactic(auto)]
+
+ghost use Rattle.cyc_model.specs.Laws.{RefusedOrDone, ActsTellAll};
+
+/// A step that is refused changes nothing and its line has the number of the refusal; any other does what its word does.
+pub fn refused_or_done()
+    ensures { RefusedOrDone }
+{}
+
+/// The acts of a run tell all of it: each soft level of each CPU is what its events made of it, and the handler of each id was
+/// called as often as they say.
+pub fn acts_tell_all()
+    ensures { ActsTellAll }
+{}
