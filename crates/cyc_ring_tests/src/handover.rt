@@ -1,34 +1,18 @@
-ghost use Rattle.std.specs.Prelude.{◌≡◌, ◌≤◌, IfOk};
+ghost use Rattle.std.specs.Prelude.{◌≤◌, IfOk};
 ghost use Rattle.cyc_ring.specs.Ends.{IsRaiseSeatOf, IsDrainSeatOf};
 
-use crate::drainer::Drainer;
-use crate::firer::{Firer, KnownSeat};
 use crate::handlers::RefusesFirst;
-use crate::help::{book, id, open};
+use crate::help::{Books, Counts, books, expect, id, open};
 use crate::play::{Call, Differs, play};
 use crate::rows::{SWITCHED, switched};
-use cyc_ring::{Book, DrainSeat, Ring};
+use cyc_ring::{DrainSeat, Ring};
 use cyc_soft::{Ran, SoftRefused};
 use cyc_types::{CyclicId, Raised, Tally};
+use ring_sides::drainer::Drainer;
+use ring_sides::firer::KnownSeat;
 use std::alloc::Global;
 use std::test::Fail;
 use std::thread::{Threads, join};
-
-/// Goes on with the seats of a ring.
-fn goes_on(
-    ring: &Ring,
-    raiser: KnownSeat,
-    drainer: DrainSeat,
-    calls: &[Call],
-) -> Result<(KnownSeat, DrainSeat), Differs>
-    requires { IsRaiseSeatOf ring.now raiser.seat × IsDrainSeatOf ring.now drainer }
-    ensures { IfOk result (λ r. IsRaiseSeatOf ring.now r.0.seat × IsDrainSeatOf ring.now r.1) }
-{
-    let mut firer = Firer::new(ring, raiser);
-    let mut end = Drainer::new(ring, drainer);
-    play(&mut firer, &mut end, calls)?;
-    Ok((firer.into_seat(), end.into_seat()))
-}
 
 /// Makes the calls of the switch, those after the first `k` in a fresh thread.
 fn handed_over<R: Threads>(
@@ -37,27 +21,33 @@ fn handed_over<R: Threads>(
     raiser: KnownSeat,
     drainer: DrainSeat,
     k: usize,
-) -> Result<(KnownSeat, DrainSeat), Differs>
+) -> (KnownSeat, DrainSeat, [Differs; 2])
     requires own { IsRaiseSeatOf ring.now raiser.seat × IsDrainSeatOf ring.now drainer }
     requires within { k ≤ 12 }
-    ensures { IfOk result (λ r. IsRaiseSeatOf ring.now r.0.seat × IsDrainSeatOf ring.now r.1) }
+    ensures { IsRaiseSeatOf ring.now result.0.seat × IsDrainSeatOf ring.now result.1 }
 {
     let (first, rest) = SWITCHED.split_at(k);
-    let (raiser, drainer) = goes_on(ring, raiser, drainer, first)?;
-    let (seats, ()) = join(rt, || goes_on(ring, raiser, drainer, rest), || ());
-    seats
+    let (raiser, drainer, before) = play(ring, raiser, drainer, first);
+    let ((raiser, drainer, after), ()) = join(rt, || play(ring, raiser, drainer, rest), || ());
+    (raiser, drainer, [before, after])
+}
+
+/// The calls that differ, and the books, where another thread goes on after the first `k` calls.
+fn closed_after<R: Threads>(rt: &R, alloc: Global, k: usize) -> Result<([Differs; 2], Books), Fail>
+    requires { k ≤ 12 }
+{
+    let (ring, raiser, drainer) = open(alloc, 5, 0)?;
+    let (raiser, drainer, differs) = handed_over(rt, &ring, raiser, drainer, k);
+    let closed = ring.close(raiser.seat(), drainer);
+    Ok((differs, books(&closed)))
 }
 
 // Wherever the two sides stop, another thread goes on with their seats, to the same answers and books.
 #[test]
 fn seats_go_on_in_another_thread(rt: HostRuntime) -> Result<(), Fail> {
-    let (first, second) = switched(id(1)?, id(2)?);
     for k in 0..13 {
-        let (ring, raiser, drainer) = open(rt.alloc(), 5, 0)?;
-        let (raiser, drainer) = handed_over(&rt, &ring, raiser, drainer, k)?;
-        let closed = ring.close(raiser.seat(), drainer);
-        assert_eq!(rt; book(&closed, 0)?, Some(first));
-        assert_eq!(rt; book(&closed, 1)?, Some(second));
+        let found = closed_after(&rt, rt.alloc(), k)?;
+        expect(&rt, found, ([None, None], switched()));
     }
     Ok(())
 }
@@ -69,20 +59,18 @@ const THREE_PENDING: [Call; 4] = [
     Call::Raise(1, Raised::More),
 ];
 
-/// A ring with three expirations of one cyclic, of which a soft interrupt with a budget of one call made one.
-fn after_one_call(
-    alloc: Global,
-    one: CyclicId,
-) -> Result<(Ring, KnownSeat, DrainSeat, Result<Ran, SoftRefused>), Fail>
-    ensures { IfOk result (λ r. IsRaiseSeatOf r.0 r.1.seat × IsDrainSeatOf r.0 r.2) }
+/// A soft interrupt with a budget of one call.
+fn makes_one(
+    ring: &Ring,
+    drainer: DrainSeat,
+    mut tally: Tally,
+) -> (DrainSeat, Result<Ran, SoftRefused>)
+    requires { IsDrainSeatOf ring.now drainer }
+    ensures { IsDrainSeatOf ring.now result.0 }
 {
-    let mut tally = Tally::new(alloc, one, 1, 100)?;
-    let (ring, raiser, drainer) = open(alloc, 5, 0)?;
-    let (raiser, drainer) = goes_on(&ring, raiser, drainer, &THREE_PENDING)?;
-    let mut end = Drainer::new(&ring, drainer);
+    let mut end = Drainer::new(ring, drainer);
     let ran = end.softint(&mut tally, 1);
-    let drainer = end.into_seat();
-    Ok((ring, raiser, drainer, ran))
+    (end.into_seat(), ran)
 }
 
 /// What a soft side met whose handlers refuse their first call: its hand, and the answer of a soft interrupt, twice.
@@ -125,31 +113,49 @@ fn meets_elsewhere<R: Threads>(
     met
 }
 
-// A soft interrupt that stops keeps the cyclic in hand, whose call is the next in another thread too.
+/// The book of a ring with three expirations of one cyclic, of which a soft interrupt with a budget of one call made one.
+fn stopped(alloc: Global, tally: Tally) -> Result<(Result<Ran, SoftRefused>, Books), Fail> {
+    let (ring, raiser, drainer) = open(alloc, 5, 0)?;
+    let (raiser, drainer, _) = play(&ring, raiser, drainer, &THREE_PENDING);
+    let (drainer, ran) = makes_one(&ring, drainer, tally);
+    let closed = ring.close(raiser.seat(), drainer);
+    Ok((ran, books(&closed)))
+}
+
+/// The same ring after the soft side has gone on in another thread.
+fn went_on<R: Threads>(
+    rt: &R,
+    alloc: Global,
+    tally: Tally,
+    calls: RefusesFirst,
+) -> Result<(Met, Books), Fail> {
+    let (ring, raiser, drainer) = open(alloc, 5, 0)?;
+    let (raiser, drainer, _) = play(&ring, raiser, drainer, &THREE_PENDING);
+    let (drainer, _) = makes_one(&ring, drainer, tally);
+    let (drainer, met) = meets_elsewhere(rt, &ring, drainer, calls);
+    let closed = ring.close(raiser.seat(), drainer);
+    Ok((met, books(&closed)))
+}
+
+// A soft interrupt that stops keeps the cyclic in hand, whose call is the next in another thread too. The books say so: one call
+// is done and two are outstanding, and then all three are done.
 #[test]
 fn a_hand_goes_on_in_another_thread(rt: HostRuntime) -> Result<(), Fail> {
     let one = id(1)?;
-    let stopped = Ok(Ran {
+    let ran = Ok(Ran {
         calls: 1,
         idle: false,
     });
-    let (ring, raiser, drainer, ran) = after_one_call(rt.alloc(), one)?;
-    assert_eq!(rt; ran, stopped);
-    let closed = ring.close(raiser.seat(), drainer);
-    let want = Book {
-        id: one,
-        sent: 3,
+    let book = Counts {
         done: 1,
         count: 2,
-        lost: 0,
-        marked: false,
+        ..Counts::done(1, 3, 0)
     };
-    assert_eq!(rt; book(&closed, 0)?, Some(want));
-    let (ring, raiser, drainer, ran) = after_one_call(rt.alloc(), one)?;
-    assert_eq!(rt; ran, stopped);
+    let found = stopped(rt.alloc(), Tally::new(rt.alloc(), one, 1, 100)?)?;
+    expect(&rt, found, (ran, [Some(book), None]));
     let calls = RefusesFirst::new(Tally::new(rt.alloc(), one, 1, 100)?);
-    let (drainer, met) = meets_elsewhere(&rt, &ring, drainer, calls);
-    let want = Met {
+    let found = went_on(&rt, rt.alloc(), Tally::new(rt.alloc(), one, 1, 100)?, calls)?;
+    let met = Met {
         hand: Some(one),
         refused: Err(SoftRefused { id: one, calls: 0 }),
         hand_then: Some(one),
@@ -158,7 +164,6 @@ fn a_hand_goes_on_in_another_thread(rt: HostRuntime) -> Result<(), Fail> {
             idle: true,
         }),
     };
-    assert_eq!(rt; met, want);
-    let _closed = ring.close(raiser.seat(), drainer);
+    expect(&rt, found, (met, [Some(Counts::done(1, 3, 0)), None]));
     Ok(())
 }

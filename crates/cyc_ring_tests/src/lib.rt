@@ -1,11 +1,9 @@
 //! Tests of what no clause of `cyc_ring` says: worked rings call by call, that each call can succeed, ends that stop and go on
-//! in another thread, and two threads on one ring.
+//! in another thread, and two threads on one ring. The program `soak_ring` has the long runs.
 #![tactic(auto)]
 
 #[cfg(test)]
-mod drainer;
-#[cfg(test)]
-mod firer;
+mod banks;
 #[cfg(test)]
 mod handlers;
 #[cfg(test)]
@@ -13,12 +11,8 @@ mod handover;
 #[cfg(test)]
 mod help;
 #[cfg(test)]
-mod ledger;
-#[cfg(test)]
 mod play;
 #[cfg(test)]
 mod rows;
-#[cfg(test)]
-mod stress;
 #[cfg(test)]
 mod threads;

@@ -1,58 +1,68 @@
-use crate::drainer::Drainer;
-use crate::firer::Firer;
-use crate::help::{book, id, open};
-use crate::play::{Call, play};
-use Call::{Admit, Expand, Finish, Followed, Mark, PollClear, Raise, Take};
-use cyc_ring::{Book, Closed};
-use cyc_types::{CyclicId, Finished, Raised, Sent};
+//! Worked rings: calls with their answers, and the books after them.
+use crate::help::{Books, Counts, books, expect, open};
+use crate::play::{Call, Differs, play};
+use Call::{Admit, Expand, Finish, Followed, Load, Mark, PollClear, Raise, Take};
+use cyc_types::{Finished, Raised, Sent};
 use std::alloc::Global;
 use std::test::Fail;
 
-/// A ring of this ceiling and start, closed after these calls and then those.
+/// A ring of this ceiling and start: the first of these calls that differs, and the books where it is closed after them.
 fn closed_after(
     alloc: Global,
     ceiling: u32,
     start: u32,
     calls: &[Call],
-    then: &[Call],
-) -> Result<Closed, Fail> {
+) -> Result<(Differs, Books), Fail> {
     let (ring, raiser, drainer) = open(alloc, ceiling, start)?;
-    let mut firer = Firer::new(&ring, raiser);
-    let mut drainer = Drainer::new(&ring, drainer);
-    play(&mut firer, &mut drainer, calls)?;
-    play(&mut firer, &mut drainer, then)?;
-    let raiser = firer.into_seat();
-    let drainer = drainer.into_seat();
-    Ok(ring.close(raiser.seat(), drainer))
+    let (raiser, drainer, differs) = play(&ring, raiser, drainer, calls);
+    let closed = ring.close(raiser.seat(), drainer);
+    Ok((differs, books(&closed)))
 }
 
-// Ceiling 2, and the buffer index wraps: the third expiration is lost, and the two others are called.
-const AT_THE_CEILING: [Call; 8] = [
+// Ceiling 2, and the buffer index wraps: the third expiration is lost, and the two others are called. The removal of the same
+// cyclic answers after its last call.
+const AT_THE_CEILING: [Call; 20] = [
     Admit(1, 0),
     Raise(1, Raised::First),
     Raise(1, Raised::More),
     Raise(1, Raised::Lost),
+    Call::Counts(1, Sent { sent: 3, lost: 1 }),
     Take(Some(1)),
     Finish(Finished::More),
     Finish(Finished::Last),
     Take(None),
-];
-
-// The removal of the same cyclic answers after its last call.
-const THEN_REMOVED: [Call; 6] = [
+    Call::Counts(1, Sent { sent: 3, lost: 1 }),
     Raise(1, Raised::First),
     Mark(1, 1),
     PollClear(1, None),
     Take(Some(1)),
     Finish(Finished::LastOfRemoval),
+    Call::Counts(1, Sent { sent: 4, lost: 1 }),
     PollClear(1, Some(Sent { sent: 4, lost: 1 })),
+    Admit(1, 0),
+    Call::Counts(1, Sent { sent: 0, lost: 0 }),
+    Raise(1, Raised::First),
 ];
 
-// A removal keeps a call that was pending.
-const MARKED: [Call; 3] = [Admit(1, 0), Raise(1, Raised::First), Mark(1, 1)];
+#[test]
+fn at_the_ceiling_an_expiration_is_lost(rt: HostRuntime) -> Result<(), Fail> {
+    for (n, first) in [
+        (9, Some(Counts::done(1, 3, 1))),
+        (17, None),
+        (20, Some(Counts::one_outstanding(1, 1))),
+    ] {
+        let (calls, _) = AT_THE_CEILING.split_at(n);
+        let found = closed_after(rt.alloc(), 2, 4294967295, calls)?;
+        expect(&rt, found, (None, [first, None]));
+    }
+    Ok(())
+}
 
-// After it another cyclic has the index.
-const THEN_ANOTHER: [Call; 6] = [
+// A removal keeps a call that was pending. After it another cyclic has the index.
+const MARKED: [Call; 9] = [
+    Admit(1, 0),
+    Raise(1, Raised::First),
+    Mark(1, 1),
     Take(Some(1)),
     Finish(Finished::LastOfRemoval),
     PollClear(1, Some(Sent { sent: 1, lost: 0 })),
@@ -60,6 +70,54 @@ const THEN_ANOTHER: [Call; 6] = [
     Raise(2, Raised::First),
     Take(Some(2)),
 ];
+
+#[test]
+fn a_call_is_kept_for_an_open_removal(rt: HostRuntime) -> Result<(), Fail> {
+    let kept = Counts {
+        marked: true,
+        ..Counts::one_outstanding(1, 1)
+    };
+    for (n, first) in [(3, kept), (9, Counts::one_outstanding(2, 1))] {
+        let (calls, _) = MARKED.split_at(n);
+        let found = closed_after(rt.alloc(), 2, 0, calls)?;
+        expect(&rt, found, (None, [Some(first), None]));
+    }
+    Ok(())
+}
+
+// The soft side made calls that the firing side has not seen: it could know that at most one call is outstanding and finds
+// none, or at most two and finds one, once by a load and once by a mark.
+const FOUND: [Call; 22] = [
+    Admit(1, 0),
+    Raise(1, Raised::First),
+    Take(Some(1)),
+    Finish(Finished::Last),
+    Load(1, 0),
+    Raise(1, Raised::First),
+    Take(Some(1)),
+    Finish(Finished::Last),
+    Mark(1, 0),
+    PollClear(1, Some(Sent { sent: 2, lost: 0 })),
+    Admit(2, 0),
+    Raise(2, Raised::First),
+    Raise(2, Raised::More),
+    Take(Some(2)),
+    Finish(Finished::More),
+    Load(2, 1),
+    Raise(2, Raised::More),
+    Finish(Finished::More),
+    Mark(2, 1),
+    PollClear(2, None),
+    Finish(Finished::LastOfRemoval),
+    PollClear(2, Some(Sent { sent: 3, lost: 0 })),
+];
+
+#[test]
+fn answers_are_what_is_found_now(rt: HostRuntime) -> Result<(), Fail> {
+    let found = closed_after(rt.alloc(), 2, 0, &FOUND)?;
+    expect(&rt, found, (None, [None, None]));
+    Ok(())
+}
 
 // A switch of banks: the old bank is drained first.
 pub(crate) const SWITCHED: [Call; 12] = [
@@ -77,70 +135,37 @@ pub(crate) const SWITCHED: [Call; 12] = [
     Followed(true),
 ];
 
-// The book of the cyclic at index 0, of which nothing is kept for a removal.
-fn unmarked(id: CyclicId, sent: u64, done: u64, lost: u64) -> Book {
-    Book {
-        id,
-        sent,
-        done,
-        count: 0,
-        lost,
-        marked: false,
-    }
-}
-
-#[test]
-fn at_the_ceiling_an_expiration_is_lost(rt: HostRuntime) -> Result<(), Fail> {
-    let closed = closed_after(rt.alloc(), 2, 4294967295, &AT_THE_CEILING, &[])?;
-    assert_eq!(rt; book(&closed, 0)?, Some(unmarked(id(1)?, 3, 2, 1)));
-    let closed = closed_after(rt.alloc(), 2, 4294967295, &AT_THE_CEILING, &THEN_REMOVED)?;
-    assert_eq!(rt; book(&closed, 0)?, None);
-    Ok(())
-}
-
-#[test]
-fn a_call_is_kept_for_an_open_removal(rt: HostRuntime) -> Result<(), Fail> {
-    let closed = closed_after(rt.alloc(), 2, 0, &MARKED, &[])?;
-    let want = Book {
-        id: id(1)?,
-        sent: 1,
-        done: 0,
-        count: 1,
-        lost: 0,
-        marked: true,
-    };
-    assert_eq!(rt; book(&closed, 0)?, Some(want));
-    let closed = closed_after(rt.alloc(), 2, 0, &MARKED, &THEN_ANOTHER)?;
-    let want = Book {
-        id: id(2)?,
-        sent: 1,
-        done: 0,
-        count: 1,
-        lost: 0,
-        marked: false,
-    };
-    assert_eq!(rt; book(&closed, 0)?, Some(want));
-    Ok(())
-}
+// Five banks are skipped, and the soft side follows in one step.
+const SKIPPED: [Call; 14] = [
+    Admit(1, 0),
+    Raise(1, Raised::First),
+    Expand(5),
+    Admit(2, 31),
+    Raise(2, Raised::First),
+    Followed(false),
+    Take(Some(1)),
+    Finish(Finished::Last),
+    Followed(false),
+    Take(Some(2)),
+    Followed(true),
+    Finish(Finished::Last),
+    Take(None),
+    Expand(8),
+];
 
 /// The books after a switch of banks.
-pub(crate) fn switched(id: CyclicId, other: CyclicId) -> (Book, Book) {
-    let taken = Book {
-        id: other,
-        sent: 1,
-        done: 0,
-        count: 1,
-        lost: 0,
-        marked: false,
-    };
-    (unmarked(id, 2, 2, 0), taken)
+pub(crate) fn switched() -> Books {
+    [
+        Some(Counts::done(1, 2, 0)),
+        Some(Counts::one_outstanding(2, 1)),
+    ]
 }
 
 #[test]
 fn the_old_bank_is_drained_first(rt: HostRuntime) -> Result<(), Fail> {
-    let closed = closed_after(rt.alloc(), 5, 0, &SWITCHED, &[])?;
-    let (first, second) = switched(id(1)?, id(2)?);
-    assert_eq!(rt; book(&closed, 0)?, Some(first));
-    assert_eq!(rt; book(&closed, 1)?, Some(second));
+    let found = closed_after(rt.alloc(), 5, 0, &SWITCHED)?;
+    expect(&rt, found, (None, switched()));
+    let found = closed_after(rt.alloc(), 5, 4294967295, &SKIPPED)?;
+    expect(&rt, found, (None, [Some(Counts::done(1, 1, 0)), None]));
     Ok(())
 }

@@ -1,12 +1,15 @@
 ghost use Rattle.cyc_ring.specs.Ends.{IsRaiseSeatOf, IsDrainSeatOf};
 
-use crate::drainer::Drainer;
-use crate::firer::{Firer, KnownSeat, NotAllowed};
-use crate::help::{book, id, open};
+use crate::help::{Counts, book, expect, id, open};
+use crate::play::{Call, play};
 use cyc_ring::{DrainSeat, Ring};
-use cyc_types::{CyclicId, Index};
+use cyc_types::{CyclicId, Raised};
+use ring_sides::drainer::Drainer;
+use ring_sides::firer::{Firer, KnownSeat, NotAllowed};
+use std::alloc::Global;
+use std::sync::atomic::{AtomicBool, Ordering};
 use std::test::Fail;
-use std::thread::{Threads, join};
+use std::thread::{Threads, join, yield_now};
 
 /// Raises the id this many times.
 fn raise_times(ring: &Ring, raiser: KnownSeat, id: CyclicId, times: u32) -> KnownSeat
@@ -21,7 +24,7 @@ fn raise_times(ring: &Ring, raiser: KnownSeat, id: CyclicId, times: u32) -> Know
 }
 
 /// Takes and finishes until so many calls are finished or so many turns are made.
-fn drain_until(ring: &Ring, drainer: DrainSeat, finishes: u64, turns: u64) -> (DrainSeat, u64)
+fn drain_until(ring: &Ring, drainer: DrainSeat, finishes: u32, turns: u32) -> (DrainSeat, u32)
     requires { IsDrainSeatOf ring.now drainer }
     ensures { IsDrainSeatOf ring.now result.0 }
 {
@@ -47,7 +50,7 @@ fn both<R: Threads>(
     raiser: KnownSeat,
     drainer: DrainSeat,
     id: CyclicId,
-) -> (KnownSeat, (DrainSeat, u64))
+) -> (KnownSeat, (DrainSeat, u32))
     requires { IsRaiseSeatOf ring.now raiser.seat × IsDrainSeatOf ring.now drainer }
     ensures { IsRaiseSeatOf ring.now result.0.seat × IsDrainSeatOf ring.now result.1.0 }
 {
@@ -58,21 +61,103 @@ fn both<R: Threads>(
     )
 }
 
+/// The finishes of the draining thread and the book, after 1000 raises of a cyclic.
+fn after_raises<R: Threads>(
+    rt: &R,
+    alloc: Global,
+    id: CyclicId,
+) -> Result<(u32, Option<Counts>), Fail> {
+    let (ring, raiser, drainer) = open(alloc, 4294967295, 0)?;
+    let (raiser, drainer, _) = play(&ring, raiser, drainer, &[Call::Admit(1, 0)]);
+    let (raiser, (drainer, finished)) = both(rt, &ring, raiser, drainer, id);
+    let closed = ring.close(raiser.seat(), drainer);
+    Ok((finished, book(&closed, 0)))
+}
+
 // One thread raises, another drains, and the closed ring has each expiration.
 #[test]
 fn ring_two_threads(rt: HostRuntime) -> Result<(), Fail> {
-    let one = id(1)?;
-    let index = Index::new(0).ok_or("an index")?;
-    let (ring, raiser, drainer) = open(rt.alloc(), 4294967295, 0)?;
-    let mut firer = Firer::new(&ring, raiser);
-    firer.admit(one, index)?;
-    let raiser = firer.into_seat();
-    let (raiser, (drainer, finished)) = both(&rt, &ring, raiser, drainer, one);
+    let (finished, book) = after_raises(&rt, rt.alloc(), id(1)?)?;
+    let wanted = Counts {
+        done: finished as u64,
+        count: 1_000u32.wrapping_sub(finished),
+        ..Counts::done(1, 1_000, 0)
+    };
+    expect(&rt, book, Some(wanted));
+    Ok(())
+}
+
+/// Looks whether the soft side has followed: before it is let go on, and then until it has or so many looks are made.
+fn looks(ring: &Ring, raiser: KnownSeat, go: &AtomicBool, looks: u64) -> (KnownSeat, (bool, bool))
+    requires { IsRaiseSeatOf ring.now raiser.seat }
+    ensures { IsRaiseSeatOf ring.now result.0.seat }
+{
+    let mut firer = Firer::new(ring, raiser);
+    let before = firer.followed();
+    go.store(true, Ordering::SeqCst);
+    let mut after = false;
+    for look in 0..looks {
+        if after {
+            break;
+        }
+        after = firer.followed();
+        yield_now();
+    }
+    (firer.into_seat(), (before, after))
+}
+
+/// Waits until it may go on, or so many looks are made, and takes and finishes.
+fn follows(ring: &Ring, drainer: DrainSeat, go: &AtomicBool, looks: u64) -> DrainSeat
+    requires { IsDrainSeatOf ring.now drainer }
+    ensures { IsDrainSeatOf ring.now result }
+{
+    for look in 0..looks {
+        if go.load(Ordering::SeqCst) {
+            break;
+        }
+        yield_now();
+    }
+    let (drainer, _) = drain_until(ring, drainer, 2, 100);
+    drainer
+}
+
+fn looks_and_follows<R: Threads>(
+    rt: &R,
+    ring: &Ring,
+    raiser: KnownSeat,
+    drainer: DrainSeat,
+) -> (KnownSeat, DrainSeat, (bool, bool))
+    requires { IsRaiseSeatOf ring.now raiser.seat × IsDrainSeatOf ring.now drainer }
+    ensures { IsRaiseSeatOf ring.now result.0.seat × IsDrainSeatOf ring.now result.1 }
+{
+    let go = AtomicBool::new(false);
+    let (looked, drainer) = join(
+        rt,
+        || looks(ring, raiser, &go, 50_000_000),
+        || follows(ring, drainer, &go, 50_000_000),
+    );
+    let (raiser, followed) = looked;
+    (raiser, drainer, followed)
+}
+
+const SWITCHING: [Call; 3] = [
+    Call::Admit(1, 0),
+    Call::Raise(1, Raised::First),
+    Call::Expand(3),
+];
+
+fn after_switch<R: Threads>(rt: &R, alloc: Global) -> Result<((bool, bool), Option<Counts>), Fail> {
+    let (ring, raiser, drainer) = open(alloc, 4294967295, 0)?;
+    let (raiser, drainer, _) = play(&ring, raiser, drainer, &SWITCHING);
+    let (raiser, drainer, followed) = looks_and_follows(rt, &ring, raiser, drainer);
     let closed = ring.close(raiser.seat(), drainer);
-    let book = book(&closed, 0)?.ok_or("a book")?;
-    assert_eq!(rt; book.sent, 1_000);
-    assert_eq!(rt; book.lost, 0);
-    assert_eq!(rt; book.done, finished);
-    assert_eq!(rt; book.done.wrapping_add(book.count as u64), 1_000);
+    Ok((followed, book(&closed, 0)))
+}
+
+// The firing side sees in its thread that the soft side, which drains the old bank in another, has followed, and not before.
+#[test]
+fn the_other_thread_follows(rt: HostRuntime) -> Result<(), Fail> {
+    let found = after_switch(&rt, rt.alloc())?;
+    expect(&rt, found, ((false, true), Some(Counts::done(1, 1, 0))));
     Ok(())
 }

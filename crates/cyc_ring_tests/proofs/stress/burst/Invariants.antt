@@ -1,5 +1,0 @@
-use Rattle.std.proofs.Common.{◌≡◌}
-use Rattle.cyc_ring_tests.proofs.stress.burst.Given as goal
-
-abbrev pub invariant-loop-raised : goal.invariant-loop-raised
-invariant-loop-raised l = l.firer.ring.now ≡ l.fn.firer.ring.now

@@ -1,5 +1,0 @@
-use Rattle.std.proofs.Common.{◌≡◌}
-use Rattle.cyc_ring_tests.proofs.stress.raise_all.Given as goal
-
-abbrev pub invariant-loop-i : goal.invariant-loop-i
-invariant-loop-i l = l.firer.ring.now ≡ l.ring
