@@ -1,26 +1,39 @@
 -- What a level that stands says of the rows of a raise seat.
-use Rattle.std.proofs.Common.{◌≡◌, ◌≢◌, ℕ, ◌+◌, ◌*◌, ◌%◌, ◌^◌, ◌<◌, ◌≤◌, List, get_or, refl, sym, ap, ◌∙◌, arith, eq-eqb, cond}
+use Rattle.std.proofs.Common.{◌≡◌, ◌≢◌, ℕ, ◌+◌, ◌*◌, ◌%◌, ◌^◌, ◌<◌, ◌≤◌, List, get_or, refl, sym, ap, ◌∙◌, subst, arith, eq-eqb, cond}
 use Rattle.std.specs.Prelude.{Option, Some}
+use Rattle.atomic_table.specs.Table.{Final, Seen}
 use Rattle.cyc_types.specs.Limits.{cyclics, last_id}
 use Rattle.cyc_level.specs.Level.{Cyclic, Level, in_hand}
-use Rattle.cyc_level.specs.Events.{reached}
 use Rattle.cyc_level.proofs.Keeps.{same_ceiling}
 use Rattle.ring_rule.specs.declared.RaiseStep.{RaiseStep}
 use Rattle.ring_rule.specs.declared.DrainStep.{DrainStep}
+use Rattle.ring_rule.specs.declared.SeatView.{SeatView}
 use Rattle.ring_rule.specs.declared.Setting.{Setting}
 use Rattle.ring_rule.specs.Words.{pend_word, mark_bit}
 use Rattle.ring_rule.specs.Trail.{open_stay, marked_of, made_calls, ended_calls}
-use Rattle.ring_rule.specs.Conservation.{LevelStands}
+use Rattle.ring_rule.specs.Log.{RingStep, raise_side, drain_side, events_of, level_after, replay}
+use Rattle.ring_rule.specs.Rule.{joint_view, HasRaises, HasDrains, MeetsRule}
+use Rattle.ring_rule.specs.Conservation.{LevelStands, AllStood}
+use Rattle.ring_rule.proofs.Stands.{closes}
 use Rattle.ring_rule.proofs.Stays.{behind, not_held}
 use Rattle.cyc_ring.specs.Rows.{HoldsStays}
 
-module _ (k : Setting) (small : k.ceiling < 2 ^ 32) (words : List ℕ) (rs : List RaiseStep) (ds : List DrainStep) (L : LevelStands k words rs ds)
-    (ids sent lost pends : List ℕ) (rows : HoldsStays ids sent lost rs) (read : (i : ℕ) → i < cyclics → get_or words (pend_word i) 0 ≡ get_or pends i 0) (i : ℕ) (low : i < cyclics) (used : get_or ids i 0 ≢ 0) where
+module _ (k : Setting) (small : k.ceiling < 2 ^ 32) (log : List RingStep) (L : LevelStands k log)
+    (ids sent lost pends : List ℕ) (rows : HoldsStays ids sent lost (raise_side log)) (read : (i : ℕ) → i < cyclics → get_or (replay k.start log) (pend_word i) 0 ≡ get_or pends i 0) (i : ℕ) (low : i < cyclics) (used : get_or ids i 0 ≢ 0) where
   abbrev id : ℕ
   id = get_or ids i 0
 
   abbrev l : Level
-  l = reached k.ceiling L.events
+  l = level_after k.ceiling log
+
+  abbrev words : List ℕ
+  words = replay k.start log
+
+  abbrev rs : List RaiseStep
+  rs = raise_side log
+
+  abbrev ds : List DrainStep
+  ds = drain_side log
 
   book : (done : ℕ) × (get_or sent i 0 ≡ done + get_or words (pend_word i) 0 % mark_bit + get_or lost i 0) × (made_calls id ds ≡ done + ended_calls id rs)
   book = L.booked id record { index = i; sent = get_or sent i 0; lost = get_or lost i 0 } (rows.used i low used)
@@ -44,4 +57,12 @@ module _ (k : Setting) (small : k.ceiling < 2 ^ 32) (words : List ℕ) (rs : Lis
   marked_row is = let p = pend in let h : in_hand id (marked_of rs) ≡ 1 = ap (in_hand id) is ∙ ap (λ b. cond {A = ℕ} b 1 0) (eq-eqb id id refl) in omega (arith, p, h)
 
   pub unmarked_row : marked_of rs ≢ Some id → get_or pends i 0 < mark_bit
-  unmarked_row not = let p = pend in let h = not_held id (marked_of rs) not in let c = L.lawful.below_ceiling id cyclic.0 cyclic.1 in let e = same_ceiling k.ceiling L.events in omega (arith, p, h, c, e, small)
+  unmarked_row not = let p = pend in let h = not_held id (marked_of rs) not in let c = L.lawful.below_ceiling id cyclic.0 cyclic.1 in let e = same_ceiling k.ceiling (events_of log) in omega (arith, p, h, c, e, small)
+
+-- a ring that was closed with these words and the views of its two seats
+abbrev pub Ended : Setting → List ℕ → SeatView → SeatView → Type 0
+Ended k ws v w = (log : List RingStep) × (ws ≡ replay k.start log) × (HasRaises log v × HasDrains log w) × AllStood k log
+
+pub ended : (x k : Setting) → x ≡ k → (seat : ℕ) (u v w : SeatView) → u ≡ joint_view v w → (ws : List ℕ) (values : List (Unit {0})) → Final (Seen (MeetsRule x) seat u) ws values → Ended k ws v w
+ended x k same seat u v w is ws values f = let c = closes x seat u (ap (λ (y : SeatView). y.role) is) ws values f in
+    subst (λ (y : Setting). Ended y ws v w) same (c.0, c.1, subst (λ (y : SeatView). HasRaises c.0 y × HasDrains c.0 y) is c.2, c.3)

@@ -67,10 +67,10 @@ module _ {r : RaiseSeat} {k k' : Setting} {id id' x : ℕ} (b : Begun r k k' id 
   module _ {s1 : TableSeat} {before : ℕ} (w : Below r k id s1 before) where
     -- the stay of the id still stands where it is counted
     pub stay_below : open_stay id' s1.me.0.raise_trail ≡ Some (stay_at r x)
-    stay_below = ap (λ (m : ThisSeat). open_stay id' m.0.raise_trail) w.step.1 ∙ stay_named
+    stay_below = ap (λ (m : ThisSeat). open_stay id' m.0.raise_trail) w.step.1.1 ∙ stay_named
 
     pub is_counted : (s2 : TableSeat) (found : ℕ) → found ≤ seen_pend id' s1.me.0.raise_trail → MakesRaiseStep k' (Added id' found) s1 s2 → Counted r k id s1 s2 before found
-    is_counted s2 found bound made = let f : found ≤ seen_pend id (Loaded id before ∷ t) = subst (λ (p : ℕ × List RaiseStep). found ≤ seen_pend p.0 p.1) (λ z. (b.named.0 z, (w.step.1 z).0.raise_trail)) bound in
+    is_counted s2 found bound made = let f : found ≤ seen_pend id (Loaded id before ∷ t) = subst (λ (p : ℕ × List RaiseStep). found ≤ seen_pend p.0 p.1) (λ z. (b.named.0 z, (w.step.1.1 z).0.raise_trail)) bound in
         let h : found ≤ before % 2 ^ 32 = subst (λ b. found ≤ cond b (before % 2 ^ 32) (seen_pend id t)) (eq-eqb id id refl) f in record {
           below = w;
           step = subst (λ (p : Setting × ℕ). MakesRaiseStep p.0 (Added p.1 found) s1 s2) (λ z. (b.named.1 z, b.named.0 z)) made;
@@ -93,8 +93,15 @@ module _ {r : RaiseSeat} {k : Setting} {id : ℕ} {s1 s2 : TableSeat} {before fo
   pub counted_run : RaiseRun k r.seat (Added id found ∷ Loaded id before ∷ []) s2
   counted_run = one_raise k (Added id found) r.seat (Loaded id before ∷ []) s1 s2 (one_raise k (Loaded id before) r.seat [] r.seat s1 (no_raise k r.seat r.role) a.below.step) a.step
 
-  pub counted_me : s2.me ≡ (with_raise_step (Added id found) (with_raise_step (Loaded id before) r.seat.me.0), r.seat.me.1)
-  counted_me = a.step.1 ∙ ap (λ (m : ThisSeat). (with_raise_step (Added id found) m.0, m.1)) a.below.step.1
+  -- the places of both
+  abbrev p1 : ℕ
+  p1 = a.below.step.1.0
+
+  abbrev p2 : ℕ
+  p2 = a.step.1.0
+
+  pub counted_me : s2.me ≡ (with_raise_step p2 (Added id found) (with_raise_step p1 (Loaded id before) r.seat.me.0), r.seat.me.1)
+  counted_me = a.step.1.1 ∙ ap (λ (m : ThisSeat). (with_raise_step p2 (Added id found) m.0, m.1)) a.below.step.1.1
 
   pub counted_trail : s2.me.0.raise_trail ≡ Added id found ∷ Loaded id before ∷ r.seat.me.0.raise_trail
   counted_trail = ap (λ (m : ThisSeat). m.0.raise_trail) counted_me
@@ -113,5 +120,8 @@ module _ {r : RaiseSeat} {k : Setting} {id x : ℕ} {s1 s2 s3 s4 : TableSeat} {b
   pub put_in_run : RaiseRun k r.seat (Published index ∷ Stored (entry id x) ∷ Added id 0 ∷ Loaded id before ∷ []) s4
   put_in_run = one_raise k (Published index) r.seat (Stored (entry id x) ∷ Added id 0 ∷ Loaded id before ∷ []) s3 s4 (one_raise k (Stored (entry id x)) r.seat (Added id 0 ∷ Loaded id before ∷ []) s2 s3 (counted_run p.counted) p.stored) p.published
 
-  pub put_in_me : s4.me ≡ (with_raise_step (Published index) (with_raise_step (Stored (entry id x)) (with_raise_step (Added id 0) (with_raise_step (Loaded id before) r.seat.me.0))), r.seat.me.1)
-  put_in_me = p.published.1 ∙ (ap (λ (m : ThisSeat). (with_raise_step (Published index) m.0, m.1)) p.stored.1 ∙ ap (λ (m : ThisSeat). (with_raise_step (Published index) (with_raise_step (Stored (entry id x)) m.0), m.1)) (counted_me p.counted))
+  abbrev at : ℕ → RaiseStep → ThisSeat → ThisSeat
+  at place x m = (with_raise_step place x m.0, m.1)
+
+  pub put_in_me : s4.me ≡ at p.published.1.0 (Published index) (at p.stored.1.0 (Stored (entry id x)) (at p.counted.step.1.0 (Added id 0) (at p.counted.below.step.1.0 (Loaded id before) r.seat.me)))
+  put_in_me = p.published.1.1 ∙ (ap (at p.published.1.0 (Published index)) p.stored.1.1 ∙ ap (λ (m : ThisSeat). at p.published.1.0 (Published index) (at p.stored.1.0 (Stored (entry id x)) m)) (counted_me p.counted))

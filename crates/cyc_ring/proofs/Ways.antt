@@ -12,7 +12,6 @@ use Rattle.cyc_types.specs.Draining.{DrainCall, Takes, Finishes}
 use Rattle.cyc_types.specs.Runs.{Taught, raised_by, lost_by, finished_by, raises_of as raise_in, losses_of as loss_in}
 use Rattle.cyc_types.specs.declared.firing.Raised.TheVariants as answers
 use Rattle.cyc_level.specs.Level.{Cyclic, in_hand}
-use Rattle.cyc_level.specs.Events.{reached}
 use Rattle.cyc_level.specs.Runs.{StayCounts}
 use Rattle.ring_rule.specs.declared.RaiseStep.{RaiseStep}
 use Rattle.ring_rule.specs.declared.DrainStep.{DrainStep}
@@ -20,6 +19,7 @@ use Rattle.ring_rule.specs.declared.DrainStep.TheVariants.{LoadedProducer, Loade
 use Rattle.ring_rule.specs.declared.Setting.{Setting}
 use Rattle.ring_rule.specs.Words.{index_range}
 use Rattle.ring_rule.specs.Trail.{raises_of, losses_of, made_calls, drainer_hand_of, id_in, consumer_index, soft_bank_of, open_stay, ended_calls}
+use Rattle.ring_rule.specs.Log.{raise_side, drain_side, level_after}
 use Rattle.ring_rule.specs.Shown.{IsSameStay}
 use Rattle.cyc_ring.specs.Steps.{RaiseSteps, DrainSteps}
 use Rattle.cyc_ring.specs.Ends.{raise_trail, drain_trail, end_view, RaiseEndCall, DrainEndCall, IsSameRaiseSeat, IsSameDrainSeat, end_made}
@@ -110,4 +110,4 @@ over made ended None (Some c) e h = absurd h
 over made ended (Some s) p e h = absurd (cc)
 
 pub nothing_follows : NothingFollowsRemoval
-nothing_follows k words raises drains id L none = over (made_calls id drains) (ended_calls id raises) (open_stay id raises) ((reached k.ceiling L.events).cyclics id) none (L.shows.stays id)
+nothing_follows k log id L none = over (made_calls id (drain_side log)) (ended_calls id (raise_side log)) (open_stay id (raise_side log)) ((level_after k.ceiling log).cyclics id) none (L.shows.stays id)

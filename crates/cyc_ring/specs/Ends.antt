@@ -4,7 +4,10 @@ use Rattle.cyc_types.specs.Firing.{FiringView, FiringCall}
 use Rattle.cyc_types.specs.Draining.{DrainCall}
 use Rattle.ring_rule.specs.declared.RaiseStep.{RaiseStep}
 use Rattle.ring_rule.specs.declared.DrainStep.{DrainStep}
+use Rattle.ring_rule.specs.declared.SeatView.{SeatView}
 use Rattle.ring_rule.specs.Trail.{drainer_hand_of, made_calls}
+use Rattle.ring_rule.specs.Log.{RingStep}
+use Rattle.ring_rule.specs.Rule.{HasRaises, HasDrains}
 use Rattle.cyc_ring.specs.Views.{firing_view}
 use Rattle.cyc_ring.specs.Steps.{MakesRaiseCall, MakesDrainCall, FoundNone}
 use Rattle.cyc_ring.specs.declared.ring.Ring.{Ring}
@@ -19,6 +22,17 @@ raise_trail r = r.seat.me.0.raise_trail
 
 abbrev pub drain_trail : DrainSeat → List DrainStep
 drain_trail d = d.seat.me.0.drain_trail
+
+-- what a seat knows
+abbrev pub raiser_view : RaiseSeat → SeatView
+raiser_view r = r.seat.me.0
+
+abbrev pub drainer_view : DrainSeat → SeatView
+drainer_view d = d.seat.me.0
+
+-- the one order of all steps that the two seats made: its sides are their trails, with the places
+abbrev pub IsOrderOf : List RingStep → RaiseSeat → DrainSeat → Type 0
+IsOrderOf log r d = HasRaises log (raiser_view r) × HasDrains log (drainer_view d)
 
 -- the seat is one of this ring's
 abbrev pub IsRaiseSeatOf : Ring → RaiseSeat → Type 0
@@ -43,7 +57,7 @@ end_view e = seat_view e.seat
 
 -- a call at a raise end, with its answer
 abbrev pub RaiseEndCall : RaiseEnd → FiringCall → RaiseEnd → Type 0
-RaiseEndCall e call f = IsSameRaiseSeat e.seat f.seat × MakesRaiseCall e.seat.setting (raise_trail e.seat) call (raise_trail f.seat)
+RaiseEndCall e call f = IsSameRaiseSeat e.seat f.seat × MakesRaiseCall e.seat.setting (raiser_view e.seat) call (raiser_view f.seat)
 
 -- the cyclic in the hand of a drain seat, and its finishes of each id
 abbrev pub seat_hand : DrainSeat → Option ℕ
@@ -61,7 +75,7 @@ end_made e id = seat_made e.seat id
 
 -- a call at a drain end, with its answer
 abbrev pub DrainEndCall : DrainEnd → DrainCall → DrainEnd → Type 0
-DrainEndCall e call f = IsSameDrainSeat e.seat f.seat × MakesDrainCall e.seat.setting (drain_trail e.seat) call (drain_trail f.seat)
+DrainEndCall e call f = IsSameDrainSeat e.seat f.seat × MakesDrainCall e.seat.setting (drainer_view e.seat) call (drainer_view f.seat)
 
 -- the trail gained, last, a load of the hard bank that found the soft side's bank, then a load of its producer word that found the consumer index
 abbrev pub FoundIdle : DrainEnd → DrainEnd → Type 0

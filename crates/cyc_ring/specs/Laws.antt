@@ -3,10 +3,9 @@ use Rattle.std.specs.Prelude.{◌≡◌, ℕ, ◌+◌, None, List}
 use Rattle.cyc_types.specs.Firing.{FiringCall}
 use Rattle.cyc_types.specs.Draining.{DrainCall, Takes}
 use Rattle.cyc_types.specs.Runs.{Goes, DrainGoes, raised_by, lost_by, finished_by}
-use Rattle.ring_rule.specs.declared.RaiseStep.{RaiseStep}
-use Rattle.ring_rule.specs.declared.DrainStep.{DrainStep}
 use Rattle.ring_rule.specs.declared.Setting.{Setting}
 use Rattle.ring_rule.specs.Trail.{open_stay, raises_of, losses_of, ended_calls, made_calls}
+use Rattle.ring_rule.specs.Log.{RingStep, raise_side, drain_side}
 use Rattle.ring_rule.specs.Conservation.{LevelStands}
 use Rattle.cyc_ring.specs.Ends.{raise_trail, end_view, RaiseEndCall, end_made, DrainEndCall, IsSameRaiseSeat, IsSameDrainSeat, FoundIdle}
 use Rattle.cyc_ring.specs.declared.ends.RaiseEnd.{RaiseEnd}
@@ -31,5 +30,5 @@ IdleIsFound = (e before f : DrainEnd) (way : List DrainCall) → DrainGoes Drain
 
 -- while no stay of the id is open, its finishes stay what they were when the last one ended
 abbrev pub NothingFollowsRemoval : Type 0
-NothingFollowsRemoval = (k : Setting) (words : List ℕ) (raises : List RaiseStep) (drains : List DrainStep) (id : ℕ)
-    → LevelStands k words raises drains → open_stay id raises ≡ None → made_calls id drains ≡ ended_calls id raises
+NothingFollowsRemoval = (k : Setting) (log : List RingStep) (id : ℕ) → LevelStands k log → open_stay id (raise_side log) ≡ None
+    → made_calls id (drain_side log) ≡ ended_calls id (raise_side log)

@@ -11,7 +11,7 @@ use Rattle.ring_rule.specs.Conservation.{StandsFor}
 abbrev pub TableSeat : Type 0
 TableSeat = Seat (Unit {0}) SeatView
 
--- the seat's trail gains this step of the firing side, and a lawful level stands at that moment
+-- the seat's trail gains this step of the firing side, and a lawful level stands at its place
 abbrev pub MakesRaiseStep : Setting → RaiseStep → TableSeat → TableSeat → Type 0
 MakesRaiseStep k x s s' = (s'.table_id ≡ s.table_id) × GainsRaiseStep x s.me s'.me × StandsFor k s'.me.0
 

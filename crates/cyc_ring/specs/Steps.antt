@@ -1,5 +1,5 @@
 -- The atomic steps of each call, the newest first, and how its answer comes from the values that they found.
-use Rattle.std.specs.Prelude.{◌≡◌, ◌≢◌, ℕ, ◌+◌, ◌%◌, ◌<◌, ◌≤◌, ◌==◌, List, [], ◌∷◌, ◌++◌, Some, None, ⊤}
+use Rattle.std.specs.Prelude.{◌≡◌, ◌≢◌, ℕ, ◌+◌, ◌%◌, ◌<◌, ◌≤◌, ◌==◌, List, [], ◌∷◌, ◌++◌, length, Some, None, ⊤}
 use Rattle.cyc_types.specs.Firing.{FiringCall, Admits, Loads, Raises, Marks, Polls, Expands, Looks}
 use Rattle.cyc_types.specs.Draining.{DrainCall, Takes, Finishes}
 use Rattle.cyc_types.specs.declared.firing.Raised.TheVariants as answers
@@ -9,28 +9,37 @@ use Rattle.ring_rule.specs.declared.RaiseStep.{RaiseStep}
 use Rattle.ring_rule.specs.declared.RaiseStep.TheVariants.{Admitted, Loaded, Lost, Added, Stored, Published, Marked, Cleared, Switched, LoadedSoftBank}
 use Rattle.ring_rule.specs.declared.DrainStep.{DrainStep}
 use Rattle.ring_rule.specs.declared.DrainStep.TheVariants.{LoadedHardBank, LoadedProducer, Took, Subtracted, Followed}
+use Rattle.ring_rule.specs.declared.SeatView.{SeatView}
 use Rattle.ring_rule.specs.declared.Setting.{Setting}
 use Rattle.ring_rule.specs.Words.{mark_bit, index_range, entry, entry_id}
 use Rattle.cyc_level.specs.Runs.{StayCounts}
 use Rattle.ring_rule.specs.Trail.{open_stay, seen_pend, hard_bank_of, producer_index, held_entry, soft_bank_of, consumer_index}
-use Rattle.ring_rule.specs.Conservation.{LevelStands}
+use Rattle.ring_rule.specs.Log.{RingStep, raise_side, raise_places, drain_side, drain_places, newest}
+use Rattle.ring_rule.specs.Conservation.{AllStood}
 
--- a lawful level stood at some moment, with this trail of its firing side
-abbrev pub RaiseStands : Setting → List RaiseStep → Type 0
-RaiseStands k t = (words : List ℕ) × (drain_trail : List DrainStep) × LevelStands k words t drain_trail
+-- a lawful level stands at the place of the firing side's newest step: the one order of all steps up to there has this trail on its
+-- side, with these places, and each record of it is true
+abbrev pub RaiseStands : Setting → List RaiseStep → List ℕ → Type 0
+RaiseStands k t places = (log : List RingStep) × (t ≡ raise_side log) × (places ≡ raise_places log) × (length log ≡ newest places + 1)
+    × AllStood k log
 
--- a lawful level stood at some moment, with this trail of its soft side
-abbrev pub DrainStands : Setting → List DrainStep → Type 0
-DrainStands k t = (words : List ℕ) × (raise_trail : List RaiseStep) × LevelStands k words raise_trail t
+-- the same of the soft side
+abbrev pub DrainStands : Setting → List DrainStep → List ℕ → Type 0
+DrainStands k t places = (log : List RingStep) × (t ≡ drain_side log) × (places ≡ drain_places log) × (length log ≡ newest places + 1)
+    × AllStood k log
 
--- a lawful level stood after each of these steps, which the trail gained
-abbrev pub RaiseStood : Setting → List RaiseStep → List RaiseStep → Type 0
-RaiseStood k [] t = ⊤
-RaiseStood k (x ∷ steps) t = RaiseStands k (x ∷ (steps ++ t)) × RaiseStood k steps t
+-- a lawful level stood at the place of each of these steps, which the trail gained
+abbrev pub RaiseStood : Setting → List RaiseStep → List ℕ → List RaiseStep → List ℕ → Type 0
+RaiseStood k [] [] t at = ⊤
+RaiseStood k (x ∷ steps) (p ∷ places) t at = RaiseStands k (x ∷ (steps ++ t)) (p ∷ (places ++ at)) × RaiseStood k steps places t at
+RaiseStood k [] (p ∷ places) t at = ⊥
+RaiseStood k (x ∷ steps) [] t at = ⊥
 
-abbrev pub DrainStood : Setting → List DrainStep → List DrainStep → Type 0
-DrainStood k [] t = ⊤
-DrainStood k (x ∷ steps) t = DrainStands k (x ∷ (steps ++ t)) × DrainStood k steps t
+abbrev pub DrainStood : Setting → List DrainStep → List ℕ → List DrainStep → List ℕ → Type 0
+DrainStood k [] [] t at = ⊤
+DrainStood k (x ∷ steps) (p ∷ places) t at = DrainStands k (x ∷ (steps ++ t)) (p ∷ (places ++ at)) × DrainStood k steps places t at
+DrainStood k [] (p ∷ places) t at = ⊥
+DrainStood k (x ∷ steps) [] t at = ⊥
 
 module _ (k : Setting) (t : List RaiseStep) where
   -- the steps of a call of the firing side
@@ -88,16 +97,21 @@ module _ (start : ℕ) (t : List DrainStep) where
   -- the `fetch_sub` of 1 on the pend word of the cyclic in hand
   DrainSteps (Finishes id answer) steps = (e found : ℕ) × (held_entry t ≡ Some e) × (id ≡ entry_id e) × IsFinish found answer × (steps ≡ Subtracted found ∷ [])
 
--- a call of the firing side: its trail gained the steps of the call, and at the moment of each of them a lawful level stood
-pub record MakesRaiseCall (k : Setting) (t : List RaiseStep) (call : FiringCall) (t' : List RaiseStep) : Type 0 where
+-- a call of the firing side: the seat's trail gained the steps of the call, each with its place, and at the place of each of them a
+-- lawful level stood
+pub record MakesRaiseCall (k : Setting) (v : SeatView) (call : FiringCall) (v' : SeatView) : Type 0 where
   pub steps : List RaiseStep
-  pub gained : t' ≡ steps ++ t
-  pub made : RaiseSteps k t call steps
-  pub stood : RaiseStood k steps t
+  pub places : List ℕ
+  pub gained : v'.raise_trail ≡ steps ++ v.raise_trail
+  pub placed : v'.raise_places ≡ places ++ v.raise_places
+  pub made : RaiseSteps k v.raise_trail call steps
+  pub stood : RaiseStood k steps places v.raise_trail v.raise_places
 
 -- a call of the soft side, the same
-pub record MakesDrainCall (k : Setting) (t : List DrainStep) (call : DrainCall) (t' : List DrainStep) : Type 0 where
+pub record MakesDrainCall (k : Setting) (v : SeatView) (call : DrainCall) (v' : SeatView) : Type 0 where
   pub steps : List DrainStep
-  pub gained : t' ≡ steps ++ t
-  pub made : DrainSteps k.start t call steps
-  pub stood : DrainStood k steps t
+  pub places : List ℕ
+  pub gained : v'.drain_trail ≡ steps ++ v.drain_trail
+  pub placed : v'.drain_places ≡ places ++ v.drain_places
+  pub made : DrainSteps k.start v.drain_trail call steps
+  pub stood : DrainStood k steps places v.drain_trail v.drain_places

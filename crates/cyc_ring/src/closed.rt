@@ -44,16 +44,18 @@ pub struct Closed {
 }
 
 impl Ring {
-    ghost use Rattle.std.specs.Prelude.{◌≡◌, ℕ, List};
-    ghost use Rattle.ring_rule.specs.Conservation.{LevelStands, IsAccounted};
-    ghost use Rattle.cyc_ring.specs.Ends.{IsRaiseSeatOf, IsDrainSeatOf, raise_trail, drain_trail};
+    ghost use Rattle.std.specs.Prelude.{◌≡◌, List};
+    ghost use Rattle.ring_rule.specs.Log.{RingStep};
+    ghost use Rattle.ring_rule.specs.Conservation.{AllStood, IsAccounted};
+    ghost use Rattle.cyc_ring.specs.Ends.{IsRaiseSeatOf, IsDrainSeatOf, IsOrderOf, raise_trail, drain_trail};
 
-    /// Ends the ring, whose two seats are given back, and keeps the counts of each index. Takes no memory and doesn't wait.
+    /// Ends the ring, whose two seats are given back, and keeps the counts of each index. There is one order of all steps that
+    /// the two sides made, and a lawful level stood before and after each of them. Takes no memory and doesn't wait.
     pub fn close(self, raiser: RaiseSeat, drainer: DrainSeat) -> Closed
         requires raiser { IsRaiseSeatOf self raiser }
         requires drainer { IsDrainSeatOf self drainer }
         ensures seats { (result.raiser.value ≡ raiser) × (result.drainer.value ≡ drainer) }
-        ensures stands { (words : List ℕ) × LevelStands self.setting words (raise_trail raiser) (drain_trail drainer) }
+        ensures stands { (log : List RingStep) × IsOrderOf log raiser drainer × AllStood self.setting log }
         ensures accounted { IsAccounted (raise_trail raiser) (drain_trail drainer) }
     {
         let known = Snapshot::of(&raiser);

@@ -7,7 +7,7 @@ ghost use Rattle.ring_rule.specs.Words.{mark_bit, index_range, entry_id};
 ghost use Rattle.ring_rule.specs.Trail.{held_entry, producer_seen, consumer_index};
 ghost use Rattle.cyc_ring.specs.Steps.{MakesDrainCall};
 ghost use Rattle.cyc_ring.specs.Seats.{MakesDrainStep};
-ghost use Rattle.cyc_ring.specs.Ends.{IsDrainSeatOf, IsSameDrainSeat, drain_trail};
+ghost use Rattle.cyc_ring.specs.Ends.{IsDrainSeatOf, IsSameDrainSeat, drain_trail, drainer_view};
 
 use crate::plays::Served;
 use crate::ring::Ring;
@@ -40,7 +40,7 @@ impl Ring {
         requires hand { held_entry (drain_trail drainer.old) ≡ None }
         ensures own { IsSameDrainSeat drainer.old drainer.new }
         ensures named { IfSome result IsId }
-        ensures call { MakesDrainCall self.now.setting (drain_trail drainer.old) (Takes result) (drain_trail drainer.new) }
+        ensures call { MakesDrainCall self.now.setting (drainer_view drainer.old) (Takes result) (drainer_view drainer.new) }
     {
         loop {
             let bank = self.load_hard_bank::<J>(&mut drainer.seat);

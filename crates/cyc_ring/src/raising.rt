@@ -9,7 +9,7 @@ ghost use Rattle.ring_rule.specs.Words.{mark_bit};
 ghost use Rattle.ring_rule.specs.Trail.{open_stay, seen_pend, marked_of, hard_bank_of, has_followed};
 ghost use Rattle.cyc_ring.specs.Steps.{MakesRaiseCall};
 ghost use Rattle.cyc_ring.specs.Seats.{MakesRaiseStep};
-ghost use Rattle.cyc_ring.specs.Ends.{IsRaiseSeatOf, IsSameRaiseSeat, raise_trail};
+ghost use Rattle.cyc_ring.specs.Ends.{IsRaiseSeatOf, IsSameRaiseSeat, raise_trail, raiser_view};
 
 use crate::plays::Served;
 use crate::ring::Ring;
@@ -116,7 +116,7 @@ impl Ring {
         requires unmarked { marked_of (raise_trail raiser.old) ≢ Some id }
         requires room { slice_index raiser.old.stays.value.sent index < most_sent }
         ensures own { IsSameRaiseSeat raiser.old raiser.new }
-        ensures call { MakesRaiseCall self.now.setting (raise_trail raiser.old) (Raises id result) (raise_trail raiser.new) }
+        ensures call { MakesRaiseCall self.now.setting (raiser_view raiser.old) (Raises id result) (raiser_view raiser.new) }
     {
         let ceiling = raiser.setting.ceiling as u64;
         let entry = id.number() * ENTRY_BASE + index as u64;

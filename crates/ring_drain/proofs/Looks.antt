@@ -13,15 +13,13 @@ use Rattle.ring_rule.specs.declared.DrainStep.TheVariants.{LoadedHardBank, Loade
 use Rattle.ring_rule.specs.declared.Setting.{Setting}
 use Rattle.ring_rule.specs.Words.{producer_word, hard_word}
 use Rattle.ring_rule.specs.Trail.{soft_bank_of, consumer_index}
+use Rattle.ring_rule.specs.Log.{raise_side, drain_side, held_word}
 use Rattle.ring_rule.specs.Shown.{BankHolds, Shows, StillHolds}
 use Rattle.ring_rule.specs.Steps.{TellsHardBank, TellsProducer}
-use Rattle.ring_rule.proofs.Seats.{level, drains, drain_stays}
+use Rattle.ring_rule.proofs.Words.{holds_end}
+use Rattle.ring_rule.proofs.Seats.{level, drains, drain_goes}
 use Rattle.ring_rule.proofs.Now.{RingNow, ring_now, loaded, softs_held}
 use Rattle.ring_rule.proofs.Stands.{drain_allowed}
-
-holds_end : (ws : List ℕ) (m : Cyclics) (bank : ℕ) (xs : List ℕ) (i : ℕ) → BankHolds ws m bank i xs → get_or ws (producer_word bank) 0 ≡ (i + length xs) % 2 ^ 32
-holds_end ws m bank [] i h = h ∙ ap (λ (j : ℕ). j % 2 ^ 32) (let e : i ≡ i + 0 = omega arith in e)
-holds_end ws m bank (x ∷ xs) i h = holds_end ws m bank xs (i + 1) h.1 ∙ ap (λ (j : ℕ). j % 2 ^ 32) (let e : i + 1 + length xs ≡ i + length (x ∷ xs) = omega arith in e)
 
 empty_of : (xs : List ℕ) → length xs ≡ 0 → xs ≡ []
 empty_of [] e = refl
@@ -99,30 +97,32 @@ module _ (k : Setting) (ws : List ℕ) (rs : List RaiseStep) (ds : List DrainSte
   }
 
 pub loads_producer_extend : ProducerLoadExtendsRun
-loads_producer_extend k slots seat me role i at_i s R _ at _ = let t : List DrainStep = R.drain_trail in let same : me.0.drain_trail ≡ t = (drains k s R seat me.0 at me.1 i 0 role).1 in let l : Level = level k s R in let N : RingNow k s.words R.raise_trail t l = ring_now k s R in
+loads_producer_extend k slots seat me role i at_i s R _ at _ = let t : List DrainStep = (drain_side R.log) in let same : me.0.drain_trail ≡ t = (drains k s R seat me.0 at me.1 i 0 role).1.0 in let l : Level = level k s R in let N : RingNow k s.words (raise_side R.log) t l = ring_now k s R in
     let here : producer_word l.soft_bank ≡ i = ap producer_word N.shows.soft_is ∙ (ap (λ (t : List DrainStep). producer_word (soft_bank_of t)) (sym same) ∙ sym at_i) in let n : ℕ = get_or s.words i 0 in (
       (LoadedProducer n),
-      drain_stays k s R seat me.0 at me.1 i n role (LoadedProducer n) refl
-          (loaded (λ x. Shows k.start x R.raise_trail (LoadedProducer n ∷ t) l) s.words i (ends_shown k s.words R.raise_trail t l N n))
-          (loaded (λ x. StillHolds k.start x R.raise_trail (LoadedProducer n ∷ t) l) s.words i (subst (λ (j : ℕ). StillHolds k.start s.words R.raise_trail (LoadedProducer (get_or s.words j 0) ∷ t) l) here (ends_still k s.words R.raise_trail t l N))),
-      refl,
+      drain_goes k s R seat me.0 at me.1 i n role (LoadedProducer n) R.enabled
+          (loaded (λ x. Shows k.start x (raise_side R.log) (LoadedProducer n ∷ t) l) s.words i (ends_shown k s.words (raise_side R.log) t l N n))
+          (loaded (λ x. StillHolds k.start x (raise_side R.log) (LoadedProducer n ∷ t) l) s.words i (subst (λ (j : ℕ). StillHolds k.start s.words (raise_side R.log) (LoadedProducer (get_or s.words j 0) ∷ t) l) here (ends_still k s.words (raise_side R.log) t l N)))
+          (at_i ∙ ap (λ (t : List DrainStep). producer_word (soft_bank_of t)) same) refl refl,
+      (length R.log, refl),
     )
 
 pub loads_producer : ProducerLoadIsAllowed
-loads_producer k slots seat me role i at_i = drain_allowed k slots seat me i (λ n. n) (TellsProducer (step slots i 0 0 none) me) (loads_producer_extend k slots seat me role i at_i)
+loads_producer k slots seat me role i at_i = drain_allowed k slots seat me i (λ n. n) (TellsProducer (step slots i 0 0 none) me) role (loads_producer_extend k slots seat me role i at_i)
 
 pub loads_hard_bank_extend : HardBankLoadExtendsRun
-loads_hard_bank_extend k slots seat me role s R _ at _ = let t : List DrainStep = R.drain_trail in let same : me.0.drain_trail ≡ t = (drains k s R seat me.0 at me.1 hard_word 0 role).1 in let l : Level = level k s R in let N : RingNow k s.words R.raise_trail t l = ring_now k s R in let n : ℕ = get_or s.words hard_word 0 in (
+loads_hard_bank_extend k slots seat me role s R _ at _ = let t : List DrainStep = (drain_side R.log) in let same : me.0.drain_trail ≡ t = (drains k s R seat me.0 at me.1 hard_word 0 role).1.0 in let l : Level = level k s R in let N : RingNow k s.words (raise_side R.log) t l = ring_now k s R in let n : ℕ = get_or s.words hard_word 0 in (
   (LoadedHardBank n),
-  drain_stays k s R seat me.0 at me.1 hard_word n role (LoadedHardBank n) refl
-      (loaded (λ x. Shows k.start x R.raise_trail (LoadedHardBank n ∷ t) l) s.words hard_word (banks_shown k s.words R.raise_trail t l N n))
-      (loaded (λ x. StillHolds k.start x R.raise_trail (LoadedHardBank n ∷ t) l) s.words hard_word (banks_still k s.words R.raise_trail t l N)),
+  drain_goes k s R seat me.0 at me.1 hard_word n role (LoadedHardBank n) R.enabled
+      (loaded (λ x. Shows k.start x (raise_side R.log) (LoadedHardBank n ∷ t) l) s.words hard_word (banks_shown k s.words (raise_side R.log) t l N n))
+      (loaded (λ x. StillHolds k.start x (raise_side R.log) (LoadedHardBank n ∷ t) l) s.words hard_word (banks_still k s.words (raise_side R.log) t l N))
+      refl refl refl,
   (
     (let x = N.shows.hard_shown in let y = N.shows.soft_is in let b = N.law.soft_behind in let z : soft_bank_of me.0.drain_trail ≡ soft_bank_of t = ap (soft_bank_of) same in omega (arith, x, y, b, z)),
     (let x = N.shows.hard_shown in let b = N.law.bank_bound in omega (arith, x, b)),
-    refl,
+    (length R.log, refl),
   ),
 )
 
 pub loads_hard_bank : HardBankLoadIsAllowed
-loads_hard_bank k slots seat me role = drain_allowed k slots seat me hard_word (λ n. n) (TellsHardBank (step slots hard_word 0 0 none) me) (loads_hard_bank_extend k slots seat me role)
+loads_hard_bank k slots seat me role = drain_allowed k slots seat me hard_word (λ n. n) (TellsHardBank (step slots hard_word 0 0 none) me) role (loads_hard_bank_extend k slots seat me role)

@@ -1,5 +1,5 @@
 -- The `fetch_sub` of 1 on a pend word is the event Finish.
-use Rattle.std.proofs.Common.{◌≡◌, ℕ, zero, suc, ◌+◌, ◌-◌, ◌*◌, ◌%◌, ◌^◌, ◌<◌, ◌≤◌, eqb, Bool, true, false, cond, List, ◌∷◌, get_or, set, sym, refl, ap, ◌∙◌, subst, arith, ne_eqb, get_or-set_other, get_or-set_same}
+use Rattle.std.proofs.Common.{◌≡◌, ℕ, zero, suc, ◌+◌, ◌-◌, ◌*◌, ◌%◌, ◌^◌, ◌<◌, ◌≤◌, eqb, Bool, true, false, cond, List, ◌∷◌, get_or, set, sym, refl, ap, ◌∙◌, subst, arith, ne_eqb, get_or-set_other, get_or-set_same, length}
 use mathlib.Core.Option.{none}
 use mathlib.Core.Logic.{dite}
 use native.Mathlib.Decide.{ℕ_discrete}
@@ -20,10 +20,11 @@ use Rattle.ring_rule.specs.declared.DrainStep.{DrainStep}
 use Rattle.ring_rule.specs.declared.DrainStep.TheVariants.{Subtracted}
 use Rattle.ring_rule.specs.declared.Setting.{Setting}
 use Rattle.ring_rule.specs.Trail.{open_stay, ended_calls, seen_pend, held_entry, id_in, drainer_hand_of, made_calls, consumer_index}
+use Rattle.ring_rule.specs.Log.{raise_side, drain_side, held_word}
 use Rattle.ring_rule.specs.Shown.{IsSameStay, Shows, StillHolds}
 use Rattle.ring_rule.specs.Steps.{TellsSubtract}
 use Rattle.ring_rule.proofs.Words.{pend_low, pend_distinct, keeps_option_map, holds_high, stored_high}
-use Rattle.ring_rule.proofs.Seats.{level, drains, drain_moves}
+use Rattle.ring_rule.proofs.Seats.{level, drains, drain_goes}
 use Rattle.ring_rule.proofs.Now.{RingNow, ring_now, admitted_low, same_pend}
 use Rattle.ring_rule.proofs.Stands.{drain_allowed}
 
@@ -162,19 +163,20 @@ module _ (k : Setting) (small : k.ceiling < 2 ^ 32) (ws : List ℕ) (rs : List R
   }
 
 pub subtracts_extend : SubtractExtendsRun
-subtracts_extend k slots seat me e role has i at_i s R _ at _ = let small : k.ceiling < 2 ^ 32 = R.fits.0 in let t : List DrainStep = R.drain_trail in let same : me.0.drain_trail ≡ t = (drains k s R seat me.0 at me.1 i 0 role).1 in
-    let l : Level = level k s R in let N : RingNow k s.words R.raise_trail t l = ring_now k s R in let has' : held_entry t ≡ Some e = ap held_entry (sym same) ∙ has in let hand : l.drainer_hand ≡ Some (entry_id e) = N.shows.drainer_is ∙ ap id_in has' in
+subtracts_extend k slots seat me e role has i at_i s R _ at _ = let small : k.ceiling < 2 ^ 32 = R.fits.0 in let t : List DrainStep = (drain_side R.log) in let same : me.0.drain_trail ≡ t = (drains k s R seat me.0 at me.1 i 0 role).1.0 in
+    let l : Level = level k s R in let N : RingNow k s.words (raise_side R.log) t l = ring_now k s R in let has' : held_entry t ≡ Some e = ap held_entry (sym same) ∙ has in let hand : l.drainer_hand ≡ Some (entry_id e) = N.shows.drainer_is ∙ ap id_in has' in
     let w : ℕ = pend_word (entry_index e) in let n : ℕ = get_or s.words w 0 in let x : ℕ = get_or s.words i 0 in let here : w ≡ i = sym at_i in
     let values : (j : ℕ) → w ≡ j → (get_or s.words w 0 + (2 ^ 64 - 1)) % 2 ^ 64 ≡ (get_or s.words j 0 + (2 ^ 64 - 1)) % 2 ^ 64 = λ j z. ap (λ (j : ℕ). (get_or s.words j 0 + (2 ^ 64 - 1)) % 2 ^ 64) z in
-    let value : n - 1 ≡ (x + (2 ^ 64 - 1)) % 2 ^ 64 = sym (lowered k small s.words R.raise_trail t l N e has') ∙ values i here in let found : n ≡ x = ap (λ (j : ℕ). get_or s.words j 0) here in (
+    let value : n - 1 ≡ (x + (2 ^ 64 - 1)) % 2 ^ 64 = sym (lowered k small s.words (raise_side R.log) t l N e has') ∙ values i here in let found : n ≡ x = ap (λ (j : ℕ). get_or s.words j 0) here in (
       (Subtracted x),
-      drain_moves k s R seat me.0 at me.1 i ((x + (2 ^ 64 - 1)) % 2 ^ 64) role (Subtracted x) Finish refl refl (is_some_of l.drainer_hand (entry_id e) hand)
-          (subst (λ (h : Option ℕ). Shows k.start (set s.words i ((x + (2 ^ 64 - 1)) % 2 ^ 64)) R.raise_trail (Subtracted x ∷ t) (after_finish h l)) (sym hand)
-          (subst (λ (y : ℕ × ℕ × ℕ). Shows k.start (set s.words y.0 y.1) R.raise_trail (Subtracted y.2 ∷ t) (after_finish (Some (entry_id e)) l)) (λ z. (here z, value z, found z)) (finishes_shown k small s.words R.raise_trail t l N e has')))
-          (subst (λ (h : Option ℕ). StillHolds k.start (set s.words i ((x + (2 ^ 64 - 1)) % 2 ^ 64)) R.raise_trail (Subtracted x ∷ t) (after_finish h l)) (sym hand)
-          (subst (λ (y : ℕ × ℕ × ℕ). StillHolds k.start (set s.words y.0 y.1) R.raise_trail (Subtracted y.2 ∷ t) (after_finish (Some (entry_id e)) l)) (λ z. (here z, value z, found z)) (finishes_still k small s.words R.raise_trail t l N e has'))),
-      (subst (λ (y : ℕ). 0 < y % 2 ^ 32) found (one_found k small s.words R.raise_trail t l N e has'), refl),
+      drain_goes k s R seat me.0 at me.1 i ((x + (2 ^ 64 - 1)) % 2 ^ 64) role (Subtracted x) ((is_some_of l.drainer_hand (entry_id e) hand), R.enabled)
+          (subst (λ (h : Option ℕ). Shows k.start (set s.words i ((x + (2 ^ 64 - 1)) % 2 ^ 64)) (raise_side R.log) (Subtracted x ∷ t) (after_finish h l)) (sym hand)
+          (subst (λ (y : ℕ × ℕ × ℕ). Shows k.start (set s.words y.0 y.1) (raise_side R.log) (Subtracted y.2 ∷ t) (after_finish (Some (entry_id e)) l)) (λ z. (here z, value z, found z)) (finishes_shown k small s.words (raise_side R.log) t l N e has')))
+          (subst (λ (h : Option ℕ). StillHolds k.start (set s.words i ((x + (2 ^ 64 - 1)) % 2 ^ 64)) (raise_side R.log) (Subtracted x ∷ t) (after_finish h l)) (sym hand)
+          (subst (λ (y : ℕ × ℕ × ℕ). StillHolds k.start (set s.words y.0 y.1) (raise_side R.log) (Subtracted y.2 ∷ t) (after_finish (Some (entry_id e)) l)) (λ z. (here z, value z, found z)) (finishes_still k small s.words (raise_side R.log) t l N e has')))
+          (at_i ∙ ap held_word (sym has')) refl refl,
+      (subst (λ (y : ℕ). 0 < y % 2 ^ 32) found (one_found k small s.words (raise_side R.log) t l N e has'), (length R.log, refl)),
     )
 
 pub subtracts : SubtractIsAllowed
-subtracts k slots seat me e role has i at_i = drain_allowed k slots seat me i (λ n. (n + (2 ^ 64 - 1)) % 2 ^ 64) (TellsSubtract (step slots i 1 0 none) me) (subtracts_extend k slots seat me e role has i at_i)
+subtracts k slots seat me e role has i at_i = drain_allowed k slots seat me i (λ n. (n + (2 ^ 64 - 1)) % 2 ^ 64) (TellsSubtract (step slots i 1 0 none) me) role (subtracts_extend k slots seat me e role has i at_i)

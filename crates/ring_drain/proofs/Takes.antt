@@ -15,21 +15,15 @@ use Rattle.ring_rule.specs.declared.DrainStep.TheVariants.{Took}
 use Rattle.ring_rule.specs.declared.Setting.{Setting}
 use Rattle.ring_rule.specs.Words.{place, entry_id, entry_index}
 use Rattle.ring_rule.specs.Trail.{producer_index, held_entry, id_in, soft_bank_of, consumer_index, producer_seen}
+use Rattle.ring_rule.specs.Log.{raise_side, drain_side, held_word}
 use Rattle.ring_rule.specs.Shown.{HoldsEntry, BankHolds, Shows, StillHolds}
 use Rattle.ring_rule.specs.Steps.{TellsTake}
-use Rattle.ring_rule.proofs.Seats.{level, drains, drain_moves}
+use Rattle.ring_rule.proofs.Words.{first_some, first_held}
+use Rattle.ring_rule.proofs.Seats.{level, drains, drain_goes}
 use Rattle.ring_rule.proofs.Now.{RingNow, ring_now, loaded, index_low, softs_held}
 use Rattle.ring_rule.proofs.Stands.{drain_allowed}
 
-first_some : (xs : List ℕ) → xs ≢ [] → (id : ℕ) × (first_of xs ≡ Some id)
-first_some [] ne = absurd (ne refl)
-first_some (x ∷ xs) ne = (x, refl)
-
 module _ (ws : List ℕ) (m : Cyclics) (bank id : ℕ) where
-  first_held : (xs : List ℕ) (i : ℕ) → first_of xs ≡ Some id → BankHolds ws m bank i xs → HoldsEntry ws m bank i id
-  first_held [] i e h = absurd (cc)
-  first_held (x ∷ xs) i e h = subst (HoldsEntry ws m bank i) (some_same x id e) h.0
-
   rest_held : (xs : List ℕ) (i : ℕ) → first_of xs ≡ Some id → BankHolds ws m bank i xs → BankHolds ws m bank (i + 1) (rest_of xs)
   rest_held [] i e h = absurd (cc)
   rest_held (x ∷ xs) i e h = h.1
@@ -96,20 +90,20 @@ module _ (k : Setting) (ws : List ℕ) (rs : List RaiseStep) (ds : List DrainSte
   }
 
 pub takes_extend : TakeExtendsRun
-takes_extend k slots seat me end role bare saw more i lies s R _ at _ = let t : List DrainStep = R.drain_trail in let same : me.0.drain_trail ≡ t = (drains k s R seat me.0 at me.1 i 0 role).1 in
-    let l : Level = level k s R in let N : RingNow k s.words R.raise_trail t l = ring_now k s R in
+takes_extend k slots seat me end role bare saw more i lies s R _ at _ = let t : List DrainStep = (drain_side R.log) in let same : me.0.drain_trail ≡ t = (drains k s R seat me.0 at me.1 i 0 role).1.0 in
+    let l : Level = level k s R in let N : RingNow k s.words (raise_side R.log) t l = ring_now k s R in
     let left = N.still.some_left end (ap producer_seen (sym same) ∙ saw) (λ e. more (e ∙ ap (λ t. consumer_index k.start t % 2 ^ 32) (sym same))) in
     let first = first_some (soft_list l) left in let id : ℕ = first.0 in let oldest : first_of (soft_list l) ≡ Some id = first.1 in
     let here : place l.soft_bank (consumer_index k.start t) ≡ i = (ap (λ (b : ℕ). place b (consumer_index k.start t)) N.shows.soft_is ∙ ap (λ (t : List DrainStep). place (soft_bank_of t) (consumer_index k.start t)) (sym same)) ∙ sym lies in (
       (Took (get_or s.words i 0)),
-      drain_moves k s R seat me.0 at me.1 i (get_or s.words i 0) role (Took (get_or s.words i 0)) Take refl refl
-          (N.shows.drainer_is ∙ ap id_in (ap held_entry (sym same) ∙ bare), left)
-          (loaded (λ x. Shows k.start x R.raise_trail (Took (get_or s.words i 0) ∷ t) (after Take l)) s.words i
-          (subst (λ (j : ℕ). Shows k.start s.words R.raise_trail (Took (get_or s.words j 0) ∷ t) (after Take l)) here (takes_shown k s.words R.raise_trail t l N id oldest)))
-          (loaded (λ x. StillHolds k.start x R.raise_trail (Took (get_or s.words i 0) ∷ t) (after Take l)) s.words i
-          (subst (λ (j : ℕ). StillHolds k.start s.words R.raise_trail (Took (get_or s.words j 0) ∷ t) (after Take l)) here (takes_still k s.words R.raise_trail t l N id oldest))),
-      (subst (λ (j : ℕ). IsId (entry_id (get_or s.words j 0))) here (named k s.words R.raise_trail t l N id oldest), refl),
+      drain_goes k s R seat me.0 at me.1 i (get_or s.words i 0) role (Took (get_or s.words i 0)) ((N.shows.drainer_is ∙ ap id_in (ap held_entry (sym same) ∙ bare), left), R.enabled)
+          (loaded (λ x. Shows k.start x (raise_side R.log) (Took (get_or s.words i 0) ∷ t) (after Take l)) s.words i
+          (subst (λ (j : ℕ). Shows k.start s.words (raise_side R.log) (Took (get_or s.words j 0) ∷ t) (after Take l)) here (takes_shown k s.words (raise_side R.log) t l N id oldest)))
+          (loaded (λ x. StillHolds k.start x (raise_side R.log) (Took (get_or s.words i 0) ∷ t) (after Take l)) s.words i
+          (subst (λ (j : ℕ). StillHolds k.start s.words (raise_side R.log) (Took (get_or s.words j 0) ∷ t) (after Take l)) here (takes_still k s.words (raise_side R.log) t l N id oldest)))
+          (lies ∙ ap (λ (t : List DrainStep). place (soft_bank_of t) (consumer_index k.start t)) same) refl refl,
+      (subst (λ (j : ℕ). IsId (entry_id (get_or s.words j 0))) here (named k s.words (raise_side R.log) t l N id oldest), (length R.log, refl)),
     )
 
 pub takes : TakeIsAllowed
-takes k slots seat me end role bare saw more i lies = drain_allowed k slots seat me i (λ n. n) (TellsTake (step slots i 0 0 none) me) (takes_extend k slots seat me end role bare saw more i lies)
+takes k slots seat me end role bare saw more i lies = drain_allowed k slots seat me i (λ n. n) (TellsTake (step slots i 0 0 none) me) role (takes_extend k slots seat me end role bare saw more i lies)

@@ -10,7 +10,6 @@ use Rattle.cyc_level.specs.Lawful.{Lawful}
 use Rattle.cyc_level.specs.Events.{changed_at, cyclic_after_expire, hand_after_expire, Enabled, after}
 use Rattle.cyc_level.specs.Runs.{StayCounts, one_more}
 use Rattle.cyc_level.proofs.Maps.{some_same, is_some_and, at_cases}
-use Rattle.cyc_level.proofs.Keeps.{always_lawful, same_ceiling}
 use Rattle.ring_raise.specs.Allowed.{AddIsAllowed, AddExtendsRun}
 use Rattle.cyc_types.specs.Limits.{cyclics}
 use Rattle.ring_rule.specs.Words.{pend_word, entry_id, producer_word, hard_word, soft_word, word_count}
@@ -18,12 +17,13 @@ use Rattle.ring_rule.specs.declared.RaiseStep.{RaiseStep}
 use Rattle.ring_rule.specs.declared.RaiseStep.TheVariants.{Added}
 use Rattle.ring_rule.specs.declared.DrainStep.{DrainStep}
 use Rattle.ring_rule.specs.Trail.{open_stay, ended_calls, firer_hand_of, marked_of, seen_pend, made_calls, consumer_index}
+use Rattle.ring_rule.specs.Log.{raise_side, drain_side, stay_word}
 use Rattle.ring_rule.specs.Shown.{Shows, StillHolds}
 use Rattle.ring_rule.specs.Steps.{TellsAdd}
 use Rattle.ring_rule.proofs.Words.{pend_low, pend_distinct, keeps_option_map, holds_high}
-use Rattle.ring_rule.proofs.Seats.{level, raiser, raise_moves}
+use Rattle.ring_rule.proofs.Seats.{level, raiser, raise_goes}
 use Rattle.ring_rule.proofs.Stays.{behind, same_if, same_expired, not_held}
-use Rattle.ring_rule.proofs.Now.{admitted_low, same_pend}
+use Rattle.ring_rule.proofs.Now.{RingNow, ring_now, admitted_low, same_pend}
 use Rattle.ring_rule.proofs.Stands.{raise_allowed}
 
 module _ (start : ℕ) (ws : List ℕ) (wide : length ws ≡ word_count) (rs : List RaiseStep) (ds : List DrainStep) (l : Level) (law : Lawful l) (sh : Shows start ws rs ds l) (le : StillHolds start ws rs ds l)
@@ -111,23 +111,23 @@ module _ (start : ℕ) (ws : List ℕ) (wide : length ws ≡ word_count) (rs : L
   )
 
 pub adds_extend : AddExtendsRun
-adds_extend k slots seat me i id st role is at_i free bare below room s R _ at _ = let small : k.ceiling < 2 ^ 32 = R.fits.0 in let t : List RaiseStep = R.raise_trail in let same : me.0.raise_trail ≡ t = (raiser k s R seat me.0 at me.1 i 0 role).1 in
-    let l : Level = level k s R in let law : Lawful l = always_lawful k.ceiling R.events R.enabled in
+adds_extend k slots seat me i id st role is at_i free bare below room s R _ at _ = let small : k.ceiling < 2 ^ 32 = R.fits.0 in let t : List RaiseStep = (raise_side R.log) in let same : me.0.raise_trail ≡ t = (raiser k s R seat me.0 at me.1 i 0 role).1.0 in
+    let l : Level = level k s R in let N : RingNow k s.words t (drain_side R.log) l = ring_now k s R in let law : Lawful l = N.law in
     let is' : open_stay id t ≡ Some st = ap (open_stay id) (sym same) ∙ is in let free' : ¬ (marked_of t ≡ Some id) = λ e. free (ap marked_of same ∙ e) in
     let below' : seen_pend id t < k.ceiling = subst (λ (t : List RaiseStep). seen_pend id t < k.ceiling) same below in
     let n : ℕ = get_or s.words i 0 in
-    let f = found k.start s.words R.wide t R.drain_trail l law R.shows R.still i id st is' at_i free' in
-    let top : n ≤ seen_pend id t = subst (λ (x : ℕ). x ≤ seen_pend id t) (sym (counted k.start s.words R.wide t R.drain_trail l law R.shows R.still i id st is' at_i free')) (R.still.seen_is_enough id) in
+    let f = found k.start s.words N.wide t (drain_side R.log) l law N.shows N.still i id st is' at_i free' in
+    let top : n ≤ seen_pend id t = subst (λ (x : ℕ). x ≤ seen_pend id t) (sym (counted k.start s.words N.wide t (drain_side R.log) l law N.shows N.still i id st is' at_i free')) (N.still.seen_is_enough id) in
     let fits : (n + 1) % 2 ^ 64 ≡ n + 1 = mod-eq_of_lt (omega (arith, top, below', small)) in (
       (Added id n),
-      raise_moves k s R seat me.0 at me.1 i ((n + 1) % 2 ^ 64) role (Added id n) (Expire id) refl refl
-          (adds_enabled k.start s.words R.wide t R.drain_trail l law R.shows R.still i id st is' at_i free' k.ceiling (same_ceiling k.ceiling R.events) (ap firer_hand_of (sym same) ∙ bare) below' room)
-          (subst (λ (x : ℕ). Shows k.start (set s.words i x) (Added id n ∷ t) R.drain_trail (after (Expire id) l)) (sym fits)
-          (adds_shown k.start s.words R.wide t R.drain_trail l law R.shows R.still i id st is' at_i free'))
-          (subst (λ (x : ℕ). StillHolds k.start (set s.words i x) (Added id n ∷ t) R.drain_trail (after (Expire id) l)) (sym fits)
-          (adds_still k.start s.words R.wide t R.drain_trail l law R.shows R.still i id st is' at_i free')),
-      (subst (λ (t : List RaiseStep). n ≤ seen_pend id t) (sym same) top, refl),
+      raise_goes k s R seat me.0 at me.1 i ((n + 1) % 2 ^ 64) role (Added id n) ((adds_enabled k.start s.words N.wide t (drain_side R.log) l law N.shows N.still i id st is' at_i free' k.ceiling N.ceiling_is (ap firer_hand_of (sym same) ∙ bare) below' room), R.enabled)
+          (subst (λ (x : ℕ). Shows k.start (set s.words i x) (Added id n ∷ t) (drain_side R.log) (after (Expire id) l)) (sym fits)
+          (adds_shown k.start s.words N.wide t (drain_side R.log) l law N.shows N.still i id st is' at_i free'))
+          (subst (λ (x : ℕ). StillHolds k.start (set s.words i x) (Added id n ∷ t) (drain_side R.log) (after (Expire id) l)) (sym fits)
+          (adds_still k.start s.words N.wide t (drain_side R.log) l law N.shows N.still i id st is' at_i free'))
+          (at_i ∙ ap stay_word (sym is')) refl refl,
+      (subst (λ (t : List RaiseStep). n ≤ seen_pend id t) (sym same) top, (length R.log, refl)),
     )
 
 pub adds : AddIsAllowed
-adds k slots seat me i id st role is at_i free bare below room = raise_allowed k slots seat me i (λ n. (n + 1) % 2 ^ 64) (TellsAdd id (step slots i 1 0 none) me) (adds_extend k slots seat me i id st role is at_i free bare below room)
+adds k slots seat me i id st role is at_i free bare below room = raise_allowed k slots seat me i (λ n. (n + 1) % 2 ^ 64) (TellsAdd id (step slots i 1 0 none) me) role (adds_extend k slots seat me i id st role is at_i free bare below room)

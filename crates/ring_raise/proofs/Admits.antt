@@ -1,5 +1,5 @@
 -- The load of an unused pend word is the event Admit.
-use Rattle.std.proofs.Common.{◌≡◌, ℕ, ◌+◌, ◌*◌, ◌^◌, ◌<◌, ◌≤◌, eqb, cond, List, ◌∷◌, get_or, sym, refl, ap, ◌∙◌, subst, arith, eq-eqb, ne_eqb}
+use Rattle.std.proofs.Common.{◌≡◌, ℕ, ◌+◌, ◌*◌, ◌^◌, ◌<◌, ◌≤◌, eqb, cond, List, ◌∷◌, length, get_or, sym, refl, ap, ◌∙◌, subst, arith, eq-eqb, ne_eqb}
 use mathlib.Core.Option.{none}
 use mathlib.Core.Logic.{dite}
 use native.Mathlib.Decide.{ℕ_discrete}
@@ -19,10 +19,11 @@ use Rattle.ring_rule.specs.declared.RaiseStep.TheVariants.{Admitted}
 use Rattle.ring_rule.specs.declared.DrainStep.{DrainStep}
 use Rattle.ring_rule.specs.declared.Setting.{Setting}
 use Rattle.ring_rule.specs.Trail.{open_stay, ended_calls, firer_hand_of, seen_pend, hard_bank_of, made_calls, consumer_index}
+use Rattle.ring_rule.specs.Log.{raise_side, drain_side, stay_word}
 use Rattle.ring_rule.specs.Shown.{IsSameStay, Shows, StillHolds}
 use Rattle.ring_rule.specs.Steps.{with_raise_step, TellsAdmit}
 use Rattle.ring_rule.proofs.Words.{pend_distinct, Keeps, holds_kept}
-use Rattle.ring_rule.proofs.Seats.{level, raiser, raise_moves}
+use Rattle.ring_rule.proofs.Seats.{level, raiser, raise_goes}
 use Rattle.ring_rule.proofs.Stays.{not_held}
 use Rattle.ring_rule.proofs.Now.{RingNow, ring_now, loaded}
 use Rattle.ring_rule.proofs.Stands.{raise_allowed}
@@ -105,19 +106,19 @@ module _ (k : Setting) (ws : List ℕ) (rs : List RaiseStep) (ds : List DrainSte
   }
 
 pub admits_extend : AdmitExtendsRun
-admits_extend k slots seat me i id role bare unused empty room low real word is_word s R _ at _ = let t : List RaiseStep = R.raise_trail in let same : me.0.raise_trail ≡ t = (raiser k s R seat me.0 at me.1 word 0 role).1 in
-    let l : Level = level k s R in let N : RingNow k s.words t R.drain_trail l = ring_now k s R in let bare' : open_stay id t ≡ None = ap (open_stay id) (sym same) ∙ bare in
+admits_extend k slots seat me i id role bare unused empty room low real word is_word s R _ at _ = let t : List RaiseStep = (raise_side R.log) in let same : me.0.raise_trail ≡ t = (raiser k s R seat me.0 at me.1 word 0 role).1.0 in
+    let l : Level = level k s R in let N : RingNow k s.words t (drain_side R.log) l = ring_now k s R in let bare' : open_stay id t ≡ None = ap (open_stay id) (sym same) ∙ bare in
     let unused' : (j : ℕ) (s : StayCounts) → open_stay j t ≡ Some s → ¬ (s.index ≡ i) = λ j s e. unused j s (ap (open_stay j) same ∙ e) in (
       (Admitted id i),
-      raise_moves k s R seat me.0 at me.1 word (get_or s.words word 0) role (Admitted id i) (Admit id i) refl refl
-          (admits_enabled k s.words t R.drain_trail l N id i bare' unused' low real (ap firer_hand_of (sym same) ∙ empty) (subst (λ (t : List RaiseStep). i < 2 ^ hard_bank_of t) same room))
-          (loaded (λ x. Shows k.start x (Admitted id i ∷ t) R.drain_trail (after (Admit id i) l)) s.words word (admits_shown k s.words t R.drain_trail l N id i bare' unused' low))
-          (loaded (λ x. StillHolds k.start x (Admitted id i ∷ t) R.drain_trail (after (Admit id i) l)) s.words word (admits_still k s.words t R.drain_trail l N id i bare' unused' low)),
+      raise_goes k s R seat me.0 at me.1 word (get_or s.words word 0) role (Admitted id i) ((admits_enabled k s.words t (drain_side R.log) l N id i bare' unused' low real (ap firer_hand_of (sym same) ∙ empty) (subst (λ (t : List RaiseStep). i < 2 ^ hard_bank_of t) same room)), R.enabled)
+          (loaded (λ x. Shows k.start x (Admitted id i ∷ t) (drain_side R.log) (after (Admit id i) l)) s.words word (admits_shown k s.words t (drain_side R.log) l N id i bare' unused' low))
+          (loaded (λ x. StillHolds k.start x (Admitted id i ∷ t) (drain_side R.log) (after (Admit id i) l)) s.words word (admits_still k s.words t (drain_side R.log) l N id i bare' unused' low))
+          is_word (sym (ap (λ (j : ℕ). get_or s.words j 0) is_word ∙ zero_found k s.words t (drain_side R.log) l N id i bare' unused' low)) refl,
       (
-        ap (λ (j : ℕ). get_or s.words j 0) is_word ∙ zero_found k s.words t R.drain_trail l N id i bare' unused' low,
-        λ j below same_word. ap (λ (x : ℕ). (with_raise_step (Admitted id x) me.0, me.1)) (pend_distinct i j low below (sym is_word ∙ same_word)),
+        ap (λ (j : ℕ). get_or s.words j 0) is_word ∙ zero_found k s.words t (drain_side R.log) l N id i bare' unused' low,
+        λ j below same_word. (length R.log, ap (λ (x : ℕ). (with_raise_step (length R.log) (Admitted id x) me.0, me.1)) (pend_distinct i j low below (sym is_word ∙ same_word))),
       ),
     )
 
 pub admits : AdmitIsAllowed
-admits k slots seat me i id role bare unused empty room low real word is_word = raise_allowed k slots seat me word (λ n. n) (TellsAdmit id (step slots word 0 0 none) me) (admits_extend k slots seat me i id role bare unused empty room low real word is_word)
+admits k slots seat me i id role bare unused empty room low real word is_word = raise_allowed k slots seat me word (λ n. n) (TellsAdmit id (step slots word 0 0 none) me) role (admits_extend k slots seat me i id role bare unused empty room low real word is_word)

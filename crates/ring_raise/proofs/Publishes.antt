@@ -15,10 +15,11 @@ use Rattle.ring_rule.specs.declared.DrainStep.{DrainStep}
 use Rattle.ring_rule.specs.declared.Setting.{Setting}
 use Rattle.ring_rule.specs.Words.{pend_word, place, producer_word, hard_word, soft_word}
 use Rattle.ring_rule.specs.Trail.{firer_hand_of, hard_bank_of, producer_index, stored_entry, consumer_index}
+use Rattle.ring_rule.specs.Log.{raise_side, drain_side, stay_word}
 use Rattle.ring_rule.specs.Shown.{HoldsEntry, BankHolds, IsHandStored, Shows, StillHolds}
 use Rattle.ring_rule.specs.Steps.{TellsPublish}
 use Rattle.ring_rule.proofs.Words.{pend_low, place_low, keeps_all, entry_kept, holds_kept}
-use Rattle.ring_rule.proofs.Seats.{level, raiser, raise_moves}
+use Rattle.ring_rule.proofs.Seats.{level, raiser, raise_goes}
 use Rattle.ring_rule.proofs.Now.{RingNow, ring_now, index_low}
 use Rattle.ring_rule.proofs.Stands.{raise_allowed}
 
@@ -98,16 +99,17 @@ module _ (k : Setting) (ws : List ℕ) (rs : List RaiseStep) (ds : List DrainSte
   }
 
 pub publishes_extend : PublishExtendsRun
-publishes_extend k slots seat me id e role up there i at_i v is_v s R _ at _ = let t : List RaiseStep = R.raise_trail in let same : me.0.raise_trail ≡ t = (raiser k s R seat me.0 at me.1 i v role).1 in
-    let l : Level = level k s R in let N : RingNow k s.words t R.drain_trail l = ring_now k s R in let up' : firer_hand_of t ≡ Some id = ap firer_hand_of (sym same) ∙ up in let there' : stored_entry t ≡ Some e = ap stored_entry (sym same) ∙ there in
+publishes_extend k slots seat me id e role up there i at_i v is_v s R _ at _ = let t : List RaiseStep = (raise_side R.log) in let same : me.0.raise_trail ≡ t = (raiser k s R seat me.0 at me.1 i v role).1.0 in
+    let l : Level = level k s R in let N : RingNow k s.words t (drain_side R.log) l = ring_now k s R in let up' : firer_hand_of t ≡ Some id = ap firer_hand_of (sym same) ∙ up in let there' : stored_entry t ≡ Some e = ap stored_entry (sym same) ∙ there in
     let here : producer_word l.hard_bank ≡ i = ap producer_word N.shows.hard_is ∙ (ap (λ (t : List RaiseStep). producer_word (hard_bank_of t)) (sym same) ∙ sym at_i) in
     let value : (producer_index k.start t + 1) % 2 ^ 32 ≡ v = ap (λ (t : List RaiseStep). (producer_index k.start t + 1) % 2 ^ 32) (sym same) ∙ sym is_v in (
       (Published v),
-      raise_moves k s R seat me.0 at me.1 i v role (Published v) Publish refl refl (is_some_of l.firer_hand id (N.shows.firer_is ∙ up'))
-          (subst (λ (x : ℕ × ℕ). Shows k.start (set s.words x.0 x.1) (Published x.1 ∷ t) R.drain_trail (after Publish l)) (λ z. (here z, value z)) (publishes_shown k s.words t R.drain_trail l N id e up' there'))
-          (subst (λ (x : ℕ × ℕ). StillHolds k.start (set s.words x.0 x.1) (Published x.1 ∷ t) R.drain_trail (after Publish l)) (λ z. (here z, value z)) (publishes_still k s.words t R.drain_trail l N id e up' there')),
-      refl,
+      raise_goes k s R seat me.0 at me.1 i v role (Published v) ((is_some_of l.firer_hand id (N.shows.firer_is ∙ up')), R.enabled)
+          (subst (λ (x : ℕ × ℕ). Shows k.start (set s.words x.0 x.1) (Published x.1 ∷ t) (drain_side R.log) (after Publish l)) (λ z. (here z, value z)) (publishes_shown k s.words t (drain_side R.log) l N id e up' there'))
+          (subst (λ (x : ℕ × ℕ). StillHolds k.start (set s.words x.0 x.1) (Published x.1 ∷ t) (drain_side R.log) (after Publish l)) (λ z. (here z, value z)) (publishes_still k s.words t (drain_side R.log) l N id e up' there'))
+          (at_i ∙ ap (λ (t : List RaiseStep). producer_word (hard_bank_of t)) same) tt refl,
+      (length R.log, refl),
     )
 
 pub publishes : PublishIsAllowed
-publishes k slots seat me id e role up there i at_i v is_v = raise_allowed k slots seat me i (λ _. v) (λ _. TellsPublish (step slots i v 0 none) me v) (publishes_extend k slots seat me id e role up there i at_i v is_v)
+publishes k slots seat me id e role up there i at_i v is_v = raise_allowed k slots seat me i (λ _. v) (λ _. TellsPublish (step slots i v 0 none) me v) role (publishes_extend k slots seat me id e role up there i at_i v is_v)

@@ -1,5 +1,5 @@
 -- The load of a pend word by the firing side: Lose at the ceiling, where it begins a raise, and otherwise no event.
-use Rattle.std.proofs.Common.{◌≡◌, ℕ, ◌+◌, ◌-◌, ◌*◌, ◌%◌, ◌^◌, ◌<◌, ◌≤◌, eqb, cond, List, ◌∷◌, get_or, sym, refl, ap, ◌∙◌, subst, arith, eq-eqb, ne_eqb, mod-eq_of_lt}
+use Rattle.std.proofs.Common.{◌≡◌, ℕ, ◌+◌, ◌-◌, ◌*◌, ◌%◌, ◌^◌, ◌<◌, ◌≤◌, eqb, cond, List, ◌∷◌, get_or, sym, refl, ap, ◌∙◌, subst, arith, eq-eqb, ne_eqb, mod-eq_of_lt, length}
 use mathlib.Core.Option.{none}
 use mathlib.Core.Logic.{dite}
 use native.Mathlib.Decide.{ℕ_discrete}
@@ -18,10 +18,11 @@ use Rattle.ring_rule.specs.declared.RaiseStep.TheVariants.{Loaded, Lost}
 use Rattle.ring_rule.specs.declared.DrainStep.{DrainStep}
 use Rattle.ring_rule.specs.declared.Setting.{Setting}
 use Rattle.ring_rule.specs.Trail.{open_stay, ended_calls, firer_hand_of, marked_of, seen_pend, made_calls, consumer_index}
+use Rattle.ring_rule.specs.Log.{raise_side, drain_side, stay_word}
 use Rattle.ring_rule.specs.Shown.{Shows, StillHolds}
 use Rattle.ring_rule.specs.Steps.{TellsRaiseLoad}
 use Rattle.ring_rule.proofs.Words.{keeps_option_map, holds_kept}
-use Rattle.ring_rule.proofs.Seats.{level, raiser, raise_moves, raise_stays}
+use Rattle.ring_rule.proofs.Seats.{level, raiser, raise_goes}
 use Rattle.ring_rule.proofs.Stays.{behind, same_if, same_dropped, not_held}
 use Rattle.ring_rule.proofs.Now.{RingNow, ring_now, loaded}
 use Rattle.ring_rule.proofs.Stands.{raise_allowed}
@@ -135,23 +136,25 @@ module _ (k : Setting) (small : k.ceiling < 2 ^ 32) (ws : List ℕ) (rs : List R
   }
 
 pub raise_loads_extend : RaiseLoadExtendsRun
-raise_loads_extend k slots seat me i id st role is at_i free bare room ceiling same_c s R _ at _ = let small : k.ceiling < 2 ^ 32 = R.fits.0 in let t : List RaiseStep = R.raise_trail in let same : me.0.raise_trail ≡ t = (raiser k s R seat me.0 at me.1 i 0 role).1 in
-    let l : Level = level k s R in let N : RingNow k s.words t R.drain_trail l = ring_now k s R in let is' : open_stay id t ≡ Some st = ap (open_stay id) (sym same) ∙ is in let free' : ¬ (marked_of t ≡ Some id) = λ e. free (ap marked_of same ∙ e) in
-    let n : ℕ = get_or s.words i 0 in let high = subst (λ (t : List RaiseStep). n ≤ seen_pend id t) (sym same) (top k small s.words t R.drain_trail l N i id st is' at_i free') in let most : n ≤ ceiling = subst (λ (x : ℕ). n ≤ x) (sym same_c) (topmost k small s.words t R.drain_trail l N i id st is' at_i free') in dite (ℕ_discrete n ceiling)
+raise_loads_extend k slots seat me i id st role is at_i free bare room ceiling same_c s R _ at _ = let small : k.ceiling < 2 ^ 32 = R.fits.0 in let t : List RaiseStep = (raise_side R.log) in let same : me.0.raise_trail ≡ t = (raiser k s R seat me.0 at me.1 i 0 role).1.0 in
+    let l : Level = level k s R in let N : RingNow k s.words t (drain_side R.log) l = ring_now k s R in let is' : open_stay id t ≡ Some st = ap (open_stay id) (sym same) ∙ is in let free' : ¬ (marked_of t ≡ Some id) = λ e. free (ap marked_of same ∙ e) in
+    let n : ℕ = get_or s.words i 0 in let high = subst (λ (t : List RaiseStep). n ≤ seen_pend id t) (sym same) (top k small s.words t (drain_side R.log) l N i id st is' at_i free') in let most : n ≤ ceiling = subst (λ (x : ℕ). n ≤ x) (sym same_c) (topmost k small s.words t (drain_side R.log) l N i id st is' at_i free') in dite (ℕ_discrete n ceiling)
     (λ full. (
       (Lost id n),
-      raise_moves k s R seat me.0 at me.1 i n role (Lost id n) (Lose id) refl refl (loses_enabled k small s.words t R.drain_trail l N i id st is' at_i free' (ap firer_hand_of (sym same) ∙ bare) (full ∙ same_c) room)
-          (loaded (λ x. Shows k.start x (Lost id n ∷ t) R.drain_trail (after (Lose id) l)) s.words i (loses_shown k small s.words t R.drain_trail l N i id st is' at_i free'))
-          (loaded (λ x. StillHolds k.start x (Lost id n ∷ t) R.drain_trail (after (Lose id) l)) s.words i (loses_still k small s.words t R.drain_trail l N i id st is' at_i free')),
-      (high, most, (λ _. refl), λ ne. absurd (ne full)),
+      raise_goes k s R seat me.0 at me.1 i n role (Lost id n) ((loses_enabled k small s.words t (drain_side R.log) l N i id st is' at_i free' (ap firer_hand_of (sym same) ∙ bare) (full ∙ same_c) room), R.enabled)
+          (loaded (λ x. Shows k.start x (Lost id n ∷ t) (drain_side R.log) (after (Lose id) l)) s.words i (loses_shown k small s.words t (drain_side R.log) l N i id st is' at_i free'))
+          (loaded (λ x. StillHolds k.start x (Lost id n ∷ t) (drain_side R.log) (after (Lose id) l)) s.words i (loses_still k small s.words t (drain_side R.log) l N i id st is' at_i free'))
+          (at_i ∙ ap stay_word (sym is')) refl refl,
+      (high, most, (λ _. (length R.log, refl)), λ ne. absurd (ne full)),
     ))
     (λ less. (
       (Loaded id n),
-      raise_stays k s R seat me.0 at me.1 i n role (Loaded id n) refl
-          (loaded (λ x. Shows k.start x (Loaded id n ∷ t) R.drain_trail l) s.words i (loads_shown k small s.words t R.drain_trail l N i id st is' at_i free'))
-          (loaded (λ x. StillHolds k.start x (Loaded id n ∷ t) R.drain_trail l) s.words i (loads_still k small s.words t R.drain_trail l N i id st is' at_i free')),
-      (high, most, (λ e. absurd (less e)), λ _. refl),
+      raise_goes k s R seat me.0 at me.1 i n role (Loaded id n) R.enabled
+          (loaded (λ x. Shows k.start x (Loaded id n ∷ t) (drain_side R.log) l) s.words i (loads_shown k small s.words t (drain_side R.log) l N i id st is' at_i free'))
+          (loaded (λ x. StillHolds k.start x (Loaded id n ∷ t) (drain_side R.log) l) s.words i (loads_still k small s.words t (drain_side R.log) l N i id st is' at_i free'))
+          (at_i ∙ ap stay_word (sym is')) refl refl,
+      (high, most, (λ e. absurd (less e)), λ _. (length R.log, refl)),
     ))
 
 pub raise_loads : RaiseLoadIsAllowed
-raise_loads k slots seat me i id st role is at_i free bare room ceiling same_c = raise_allowed k slots seat me i (λ n. n) (TellsRaiseLoad id ceiling (step slots i 0 0 none) me) (raise_loads_extend k slots seat me i id st role is at_i free bare room ceiling same_c)
+raise_loads k slots seat me i id st role is at_i free bare room ceiling same_c = raise_allowed k slots seat me i (λ n. n) (TellsRaiseLoad id ceiling (step slots i 0 0 none) me) role (raise_loads_extend k slots seat me i id st role is at_i free bare room ceiling same_c)

@@ -1,5 +1,5 @@
 -- The store of a buffer word is no event.
-use Rattle.std.proofs.Common.{◌≡◌, ℕ, suc, ◌+◌, ◌*◌, ◌%◌, ◌^◌, ◌<◌, ◌≤◌, ◌≢◌, eqb, cond, List, ◌∷◌, get_or, set, sym, refl, ap, ◌∙◌, subst, arith, pow_pos, pow_mono, mod-lt, get_or-set_other, get_or-set_same}
+use Rattle.std.proofs.Common.{◌≡◌, ℕ, suc, ◌+◌, ◌*◌, ◌%◌, ◌^◌, ◌<◌, ◌≤◌, ◌≢◌, eqb, cond, List, ◌∷◌, get_or, set, sym, refl, ap, ◌∙◌, subst, arith, pow_pos, pow_mono, mod-lt, get_or-set_other, get_or-set_same, length}
 use native.Mathlib.Nat.{pow-suc}
 use Rattle.atomic_table.proofs.Lists.{one_turn}
 use mathlib.Core.Option.{none}
@@ -16,10 +16,11 @@ use Rattle.ring_rule.specs.declared.DrainStep.{DrainStep}
 use Rattle.ring_rule.specs.declared.Setting.{Setting}
 use Rattle.ring_rule.specs.Words.{pend_word, place, producer_word, entry, hard_word, soft_word}
 use Rattle.ring_rule.specs.Trail.{open_stay, ended_calls, firer_hand_of, hard_bank_of, producer_index, made_calls, consumer_index}
+use Rattle.ring_rule.specs.Log.{raise_side, drain_side, stay_word}
 use Rattle.ring_rule.specs.Shown.{IsHandStored, Shows, StillHolds}
 use Rattle.ring_rule.specs.Steps.{TellsStore}
 use Rattle.ring_rule.proofs.Words.{pend_low, same_turn, place_high, place_low, keeps_all, holds_kept}
-use Rattle.ring_rule.proofs.Seats.{level, raiser, raise_stays}
+use Rattle.ring_rule.proofs.Seats.{level, raiser, raise_goes}
 use Rattle.ring_rule.proofs.Stays.{behind}
 use Rattle.ring_rule.proofs.Now.{RingNow, ring_now, index_low}
 use Rattle.ring_rule.proofs.Stands.{raise_allowed}
@@ -93,15 +94,16 @@ module _ (k : Setting) (ws : List ℕ) (rs : List RaiseStep) (ds : List DrainSte
   }
 
 pub stores_extend : StoreExtendsRun
-stores_extend k slots seat me id st role up is i at_i v is_v s R _ at _ = let t : List RaiseStep = R.raise_trail in let same : me.0.raise_trail ≡ t = (raiser k s R seat me.0 at me.1 i v role).1 in
-    let l : Level = level k s R in let N : RingNow k s.words t R.drain_trail l = ring_now k s R in let up' : firer_hand_of t ≡ Some id = ap firer_hand_of (sym same) ∙ up in let is' : open_stay id t ≡ Some st = ap (open_stay id) (sym same) ∙ is in
+stores_extend k slots seat me id st role up is i at_i v is_v s R _ at _ = let t : List RaiseStep = (raise_side R.log) in let same : me.0.raise_trail ≡ t = (raiser k s R seat me.0 at me.1 i v role).1.0 in
+    let l : Level = level k s R in let N : RingNow k s.words t (drain_side R.log) l = ring_now k s R in let up' : firer_hand_of t ≡ Some id = ap firer_hand_of (sym same) ∙ up in let is' : open_stay id t ≡ Some st = ap (open_stay id) (sym same) ∙ is in
     let here : place l.hard_bank (producer_index k.start t) ≡ i = ap (λ (b : ℕ). place b (producer_index k.start t)) N.shows.hard_is ∙ (ap (λ (t : List RaiseStep). place (hard_bank_of t) (producer_index k.start t)) (sym same) ∙ sym at_i) in (
       (Stored v),
-      raise_stays k s R seat me.0 at me.1 i v role (Stored v) refl
-          (subst (λ (x : ℕ × ℕ). Shows k.start (set s.words x.0 x.1) (Stored x.1 ∷ t) R.drain_trail l) (λ z. (here z, sym is_v z)) (puts_shown k s.words t R.drain_trail l N id st up' is'))
-          (subst (λ (x : ℕ × ℕ). StillHolds k.start (set s.words x.0 x.1) (Stored x.1 ∷ t) R.drain_trail l) (λ z. (here z, sym is_v z)) (puts_still k s.words t R.drain_trail l N id st up' is')),
-      refl,
+      raise_goes k s R seat me.0 at me.1 i v role (Stored v) R.enabled
+          (subst (λ (x : ℕ × ℕ). Shows k.start (set s.words x.0 x.1) (Stored x.1 ∷ t) (drain_side R.log) l) (λ z. (here z, sym is_v z)) (puts_shown k s.words t (drain_side R.log) l N id st up' is'))
+          (subst (λ (x : ℕ × ℕ). StillHolds k.start (set s.words x.0 x.1) (Stored x.1 ∷ t) (drain_side R.log) l) (λ z. (here z, sym is_v z)) (puts_still k s.words t (drain_side R.log) l N id st up' is'))
+          (at_i ∙ ap (λ (t : List RaiseStep). place (hard_bank_of t) (producer_index k.start t)) same) tt refl,
+      (length R.log, refl),
     )
 
 pub stores : StoreIsAllowed
-stores k slots seat me id st role up is i at_i v is_v = raise_allowed k slots seat me i (λ _. v) (λ _. TellsStore (step slots i v 0 none) me v) (stores_extend k slots seat me id st role up is i at_i v is_v)
+stores k slots seat me id st role up is i at_i v is_v = raise_allowed k slots seat me i (λ _. v) (λ _. TellsStore (step slots i v 0 none) me v) role (stores_extend k slots seat me id st role up is i at_i v is_v)

@@ -3,6 +3,7 @@ use Rattle.std.proofs.Common.{◌≡◌, ℕ, ◌+◌, ◌*◌, ◌^◌, ◌≤�
 use Rattle.std.specs.Prelude.{Option, Some, None}
 use Rattle.cyc_level.specs.declared.Event.{Event}
 use Rattle.cyc_level.specs.Level.{Cyclic, Level, count, count_in, in_hand}
+use Rattle.cyc_level.specs.Events.{AllEnabled}
 use Rattle.cyc_level.specs.Runs.{firing_events, StayCounts, past_calls, past_stays, past_finishes, expirations, losses, finishes, AreFinished}
 use Rattle.cyc_level.proofs.Stays.{IsSplit, split_finishes, over_stays, expirations_firing, losses_firing, past_calls_firing, past_stays_firing}
 use Rattle.ring_rule.specs.declared.RaiseStep.{RaiseStep}
@@ -11,11 +12,11 @@ use Rattle.ring_rule.specs.declared.Setting.{Setting}
 use Rattle.ring_rule.specs.Words.{pend_word}
 use Rattle.ring_rule.specs.Trail.{open_stay, ended_stays, ended_calls, seen_pend, made_calls, raise_events}
 use Rattle.ring_rule.specs.Shown.{IsSameStay}
-use Rattle.ring_rule.specs.Rule.{RingState, MeetsRule}
+use Rattle.ring_rule.specs.Log.{RingStep, raise_side, drain_side, events_of, level_after, replay}
 use Rattle.ring_rule.specs.Conservation.{IsBooked, IsPending, IsAccounted}
-use Rattle.ring_rule.proofs.Seats.{level}
 use Rattle.ring_rule.proofs.Stays.{behind, held_once}
-use Rattle.ring_rule.proofs.Now.{RingNow, ring_now}
+use Rattle.ring_rule.proofs.Now.{RingNow}
+use Rattle.ring_rule.proofs.Log.{firing_side}
 
 module _ (k : Setting) (ws : List ℕ) (rs : List RaiseStep) (ds : List DrainStep) (l : Level) (N : RingNow k ws rs ds l) where
   pub booked : IsBooked ws rs ds
@@ -38,25 +39,25 @@ pending made past seen None (Some c) h low = absurd h
 pending made past seen (Some s) None h low = absurd h
 pending made past seen (Some s) (Some c) h low = low
 
-module _ (k : Setting) (s : RingState) (R : MeetsRule k s) where
+module _ (k : Setting) (log : List RingStep) (on : AllEnabled k.ceiling (events_of log)) (N : RingNow k (replay k.start log) (raise_side log) (drain_side log) (level_after k.ceiling log)) where
   abbrev rs : List RaiseStep
-  rs = R.raise_trail
+  rs = raise_side log
 
   abbrev ds : List DrainStep
-  ds = R.drain_trail
+  ds = drain_side log
 
   abbrev es : List Event
-  es = R.events
+  es = events_of log
 
-  -- what the raise seat's trail says, the run says
+  -- what the firing side's trail says, the run says
   same_of_run : {A : Type 0} (f : List Event → A) → ((es : List Event) → f (firing_events es) ≡ f es) → f (raise_events rs) ≡ f es
-  same_of_run f same = ap f (sym R.firing_side) ∙ same es
+  same_of_run f same = ap f (sym (firing_side log)) ∙ same es
 
   pub accounted : IsAccounted rs ds
-  accounted id = let N = ring_now k s R in let l : Level = level k s R in let t = (over_stays k.ceiling id es R.enabled).total in
+  accounted id = let l : Level = level_after k.ceiling log in let t = (over_stays k.ceiling id es on).total in
       let a = same_of_run (expirations id) (expirations_firing id) in let b = same_of_run (losses id) (losses_firing id) in let c = same_of_run (past_calls id) (past_calls_firing id) in
-      let m = same_made (made_calls id ds) (ended_calls id rs) (past_calls id es) (finishes k.ceiling id es) (open_stay id rs) (l.cyclics id) c (N.shows.stays id) (split_finishes k.ceiling id es R.enabled) in
+      let m = same_made (made_calls id ds) (ended_calls id rs) (past_calls id es) (finishes k.ceiling id es) (open_stay id rs) (l.cyclics id) c (N.shows.stays id) (split_finishes k.ceiling id es on) in
       (count l id, pending (made_calls id ds) (ended_calls id rs) (seen_pend id rs) (open_stay id rs) (l.cyclics id) (N.shows.stays id) (N.still.seen_is_enough id), omega (arith, t, a, b, m))
 
   pub finished_stays : (id : ℕ) → AreFinished (ended_stays id rs) (past_finishes k.ceiling id es)
-  finished_stays id = subst (λ xs. AreFinished xs (past_finishes k.ceiling id es)) (sym (same_of_run (past_stays id) (past_stays_firing id))) (over_stays k.ceiling id es R.enabled).ended
+  finished_stays id = subst (λ xs. AreFinished xs (past_finishes k.ceiling id es)) (sym (same_of_run (past_stays id) (past_stays_firing id))) (over_stays k.ceiling id es on).ended

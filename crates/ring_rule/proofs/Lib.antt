@@ -1,3 +1,4 @@
+pub mod Log
 pub mod Words
 pub mod Seats
 pub mod Stays
@@ -6,3 +7,4 @@ pub mod Opens
 pub mod Parts
 pub mod Books
 pub mod Stands
+pub mod Truths

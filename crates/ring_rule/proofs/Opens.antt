@@ -1,5 +1,7 @@
 -- A ring that is opened keeps the rule.
 use Rattle.std.proofs.Common.{◌≡◌, ℕ, zero, suc, ◌%◌, ◌^◌, ◌<◌, ◌≤◌, ltb, cond, List, [], ◌∷◌, length, get_or, sym, refl, ap, ◌∙◌, subst, arith, mod-eq_of_lt, lt-ltb, le-ltb}
+use Rattle.std.proofs.lemmas.List.{ext_get_or}
+use Rattle.std.proofs.lemmas.List.FromFn.{get_or-map-range_with_len}
 use mathlib.Core.Option.{some, some-injective, some-ne-none}
 use lib.ListN.{get_elem?}
 use Rattle.atomic_table.specs.Table.{opening}
@@ -7,9 +9,11 @@ use Rattle.cyc_level.specs.Level.{empty_level}
 use Rattle.ring_rule.specs.declared.SeatView.{SeatView}
 use Rattle.ring_rule.specs.declared.Setting.{Setting}
 use Rattle.ring_rule.specs.Words.{pend_word, first_word, producer_word, hard_word, soft_word, word_count}
+use Rattle.ring_rule.specs.Log.{replay}
 use Rattle.ring_rule.specs.Shown.{Shows, StillHolds}
 use Rattle.ring_rule.specs.Rule.{opening_view, IsSeat, MeetsRule}
 use Rattle.ring_rule.proofs.Words.{pend_low}
+use Rattle.ring_rule.proofs.Seats.{as_wide}
 
 module _ (k : Setting) (ws : List ℕ) (long : length ws ≡ word_count) (all : (j : ℕ) → j < word_count → get_or ws j 0 ≡ first_word k.start j) (small : k.start < 2 ^ 32) (ceiling_fits : k.ceiling < 2 ^ 32) where
   low : (j : ℕ) → j < producer_word 0 → get_or ws j 0 ≡ 0
@@ -47,24 +51,27 @@ module _ (k : Setting) (ws : List ℕ) (long : length ws ≡ word_count) (all : 
     none_left = λ end bank e. absurd (cc);
   }
 
-  known : (j : ℕ) (v : SeatView) → get_elem? (opening_view ∷ []) j ≡ some v → IsSeat [] [] 0 0 j v v.role
-  known zero v e = subst (λ (v : SeatView). IsSeat [] [] 0 0 0 v v.role) (some-injective opening_view v e) (refl, refl, refl, refl)
+  -- the words are the first ones
+  words_are : ws ≡ replay k.start []
+  words_are = ext_get_or 0 ws (replay k.start []) (long ∙ sym (as_wide k.start [])) (λ j less. let low : j < word_count = omega (arith, less, long) in all j low ∙ sym (get_or-map-range_with_len (first_word k.start) 0 word_count j j 0 low (omega arith)))
+
+  known : (j : ℕ) (v : SeatView) → get_elem? (opening_view ∷ []) j ≡ some v → IsSeat [] 0 0 j v v.role
+  known zero v e = subst (λ (v : SeatView). IsSeat [] 0 0 0 v v.role) (some-injective opening_view v e) (refl, refl, (refl, refl), (refl, refl))
   known (suc j) v e = absurd (some-ne-none v (sym e))
 
   pub opens : MeetsRule k (opening ws [] opening_view)
   opens = record {
-    raise_trail = [];
-    drain_trail = [];
+    log = [];
     raise_seat = 0;
     drain_seat = 0;
-    events = [];
     fits = (ceiling_fits, small);
-    wide = long;
+    words = words_are;
+    all_true = tt;
     some_seat = (omega arith, omega arith);
     seats = known;
     enabled = tt;
-    firing_side = refl;
-    soft_side = refl;
-    shows = opened_shown;
-    still = opened_still;
+    shown = (
+      subst (λ (w : List ℕ). Shows k.start w [] [] (empty_level k.ceiling)) words_are opened_shown,
+      subst (λ (w : List ℕ). StillHolds k.start w [] [] (empty_level k.ceiling)) words_are opened_still,
+    );
   }

@@ -7,7 +7,7 @@ use Rattle.ring_rule.specs.declared.Role.{Role}
 use Rattle.ring_rule.specs.declared.Role.TheVariants.{Joint, Raise, Drain, Spent}
 use Rattle.ring_rule.specs.declared.SeatView.{SeatView}
 use Rattle.ring_rule.specs.declared.Setting.{Setting}
-use Rattle.ring_rule.specs.Rule.{RingState, raise_view, drain_view, joint_view, spent_view, IsSeat, MeetsRule}
+use Rattle.ring_rule.specs.Rule.{RingState, raise_view, drain_view, joint_view, spent_view, HasRaises, HasDrains, IsSeat, MeetsRule}
 use Rattle.ring_rule.specs.Moves.{SplitIsAllowed, JoinIsAllowed}
 use Rattle.ring_rule.proofs.Seats.{length_set}
 
@@ -19,10 +19,10 @@ at_end (x ∷ xs) a b (suc j) e = ⊎_elim inl (λ t. inr (ap suc t.0, t.1)) (at
 
 module _ (k : Setting) (s : RingState) (R : MeetsRule k s) where
   module _ (id : ℕ) (v : SeatView) (role : v.role ≡ Joint) (at : get_elem? s.views id ≡ some v) where
-    whole : (id ≡ R.raise_seat) × (id ≡ R.drain_seat) × (v.raise_trail ≡ R.raise_trail) × (v.drain_trail ≡ R.drain_trail)
-    whole = subst (λ (r : Role). IsSeat R.raise_trail R.drain_trail R.raise_seat R.drain_seat id v r) role (R.seats id v at)
+    whole : (id ≡ R.raise_seat) × (id ≡ R.drain_seat) × HasRaises R.log v × HasDrains R.log v
+    whole = subst (λ (r : Role). IsSeat R.log R.raise_seat R.drain_seat id v r) role (R.seats id v at)
 
-    other : (j : ℕ) (d : SeatView) → j ≢ id → (r : Role) → IsSeat R.raise_trail R.drain_trail R.raise_seat R.drain_seat j d r → IsSeat R.raise_trail R.drain_trail R.raise_seat (length s.views) j d r
+    other : (j : ℕ) (d : SeatView) → j ≢ id → (r : Role) → IsSeat R.log R.raise_seat R.drain_seat j d r → IsSeat R.log R.raise_seat (length s.views) j d r
     other j d ne Joint h = absurd (ne (h.0 ∙ sym whole.0))
     other j d ne Raise h = absurd (ne (h.0 ∙ sym whole.0))
     other j d ne Drain h = absurd (ne (h.0 ∙ sym whole.1))
@@ -30,36 +30,32 @@ module _ (k : Setting) (s : RingState) (R : MeetsRule k s) where
 
     pub parted : MeetsRule k record { words = s.words; homes = s.homes; views = set s.views id (raise_view v) ++ drain_view v ∷ [] }
     parted = let long = length_set s.views id (raise_view v) in let more = length-append (set s.views id (raise_view v)) (drain_view v ∷ []) in let some_seat = R.some_seat in record {
-      raise_trail = R.raise_trail;
-      drain_trail = R.drain_trail;
+      log = R.log;
       raise_seat = R.raise_seat;
       drain_seat = length s.views;
-      events = R.events;
       fits = R.fits;
-      wide = R.wide;
+      words = R.words;
+      all_true = R.all_true;
       some_seat = (omega (arith, long, more), omega (arith, long, more));
       seats = λ j d e. ⊎_elim
-          (λ h. ⊎_elim (λ (t : (j ≡ id) × (raise_view v ≡ d)). subst (λ (p : ℕ × SeatView). IsSeat R.raise_trail R.drain_trail R.raise_seat (length s.views) p.0 p.1 p.1.role) (λ z. (sym t.0 z, t.1 z)) (whole.0, whole.2))
+          (λ h. ⊎_elim (λ (t : (j ≡ id) × (raise_view v ≡ d)). subst (λ (p : ℕ × SeatView). IsSeat R.log R.raise_seat (length s.views) p.0 p.1 p.1.role) (λ z. (sym t.0 z, t.1 z)) (whole.0, whole.2))
           (λ (t : (j ≢ id) × (get_elem? s.views j ≡ some d)). other j d t.0 d.role (R.seats j d t.1)) (at_set s.views id j (raise_view v) d h))
-          (λ t. subst (λ (p : SeatView). IsSeat R.raise_trail R.drain_trail R.raise_seat (length s.views) j p p.role) t.1 (sym t.0 ∙ long, whole.3)) (at_end (set s.views id (raise_view v)) (drain_view v) d j e);
+          (λ t. subst (λ (p : SeatView). IsSeat R.log R.raise_seat (length s.views) j p p.role) t.1 (sym t.0 ∙ long, whole.3)) (at_end (set s.views id (raise_view v)) (drain_view v) d j e);
       enabled = R.enabled;
-      firing_side = R.firing_side;
-      soft_side = R.soft_side;
-      shows = R.shows;
-      still = R.still;
+      shown = R.shown;
     }
 
   module _ (id : ℕ) (v : SeatView) (raise : v.role ≡ Raise) (at : get_elem? s.views id ≡ some v) (o : ℕ) (w : SeatView) (drain : w.role ≡ Drain) (apart : ¬ (o ≡ id)) (there : get_elem? (set s.views id (joint_view v w)) o ≡ some w) where
-    mine : (id ≡ R.raise_seat) × (v.raise_trail ≡ R.raise_trail)
-    mine = subst (λ (r : Role). IsSeat R.raise_trail R.drain_trail R.raise_seat R.drain_seat id v r) raise (R.seats id v at)
+    mine : (id ≡ R.raise_seat) × HasRaises R.log v
+    mine = subst (λ (r : Role). IsSeat R.log R.raise_seat R.drain_seat id v r) raise (R.seats id v at)
 
     at_o : get_elem? s.views o ≡ some w
     at_o = ⊎_elim (λ t. absurd (apart t.0)) (λ t. t.1) (at_set s.views id o (joint_view v w) w there)
 
-    its : (o ≡ R.drain_seat) × (w.drain_trail ≡ R.drain_trail)
-    its = subst (λ (r : Role). IsSeat R.raise_trail R.drain_trail R.raise_seat R.drain_seat o w r) drain (R.seats o w at_o)
+    its : (o ≡ R.drain_seat) × HasDrains R.log w
+    its = subst (λ (r : Role). IsSeat R.log R.raise_seat R.drain_seat o w r) drain (R.seats o w at_o)
 
-    rest : (j : ℕ) (d : SeatView) → j ≢ o → j ≢ id → (r : Role) → IsSeat R.raise_trail R.drain_trail R.raise_seat R.drain_seat j d r → IsSeat R.raise_trail R.drain_trail R.raise_seat id j d r
+    rest : (j : ℕ) (d : SeatView) → j ≢ o → j ≢ id → (r : Role) → IsSeat R.log R.raise_seat R.drain_seat j d r → IsSeat R.log R.raise_seat id j d r
     rest j d nt ni Joint h = absurd (ni (h.0 ∙ sym mine.0))
     rest j d nt ni Raise h = absurd (ni (h.0 ∙ sym mine.0))
     rest j d nt ni Drain h = absurd (nt (h.0 ∙ sym its.0))
@@ -67,24 +63,20 @@ module _ (k : Setting) (s : RingState) (R : MeetsRule k s) where
 
     pub joined : MeetsRule k record { words = s.words; homes = s.homes; views = set (set s.views id (joint_view v w)) o spent_view }
     joined = let a = length_set s.views id (joint_view v w) in let b = length_set (set s.views id (joint_view v w)) o spent_view in let some_seat = R.some_seat in let m = mine.0 in record {
-      raise_trail = R.raise_trail;
-      drain_trail = R.drain_trail;
+      log = R.log;
       raise_seat = R.raise_seat;
       drain_seat = id;
-      events = R.events;
       fits = R.fits;
-      wide = R.wide;
+      words = R.words;
+      all_true = R.all_true;
       some_seat = (omega (arith, a, b), omega (arith, a, b, m));
       seats = λ j d e. ⊎_elim
-          (λ t. subst (λ (p : SeatView). IsSeat R.raise_trail R.drain_trail R.raise_seat id j p p.role) t.1 tt)
-          (λ h. ⊎_elim (λ (t : (j ≡ id) × (joint_view v w ≡ d)). subst (λ (p : ℕ × SeatView). IsSeat R.raise_trail R.drain_trail R.raise_seat id p.0 p.1 p.1.role) (λ z. (sym t.0 z, t.1 z)) (mine.0, refl, mine.1, its.1))
+          (λ t. subst (λ (p : SeatView). IsSeat R.log R.raise_seat id j p p.role) t.1 tt)
+          (λ h. ⊎_elim (λ (t : (j ≡ id) × (joint_view v w ≡ d)). subst (λ (p : ℕ × SeatView). IsSeat R.log R.raise_seat id p.0 p.1 p.1.role) (λ z. (sym t.0 z, t.1 z)) (mine.0, refl, mine.1, its.1))
           (λ (t : (j ≢ id) × (get_elem? s.views j ≡ some d)). rest j d h.0 t.0 d.role (R.seats j d t.1)) (at_set s.views id j (joint_view v w) d h.1))
           (at_set (set s.views id (joint_view v w)) o j spent_view d e);
       enabled = R.enabled;
-      firing_side = R.firing_side;
-      soft_side = R.soft_side;
-      shows = R.shows;
-      still = R.still;
+      shown = R.shown;
     }
 
 pub splits : SplitIsAllowed

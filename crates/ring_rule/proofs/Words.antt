@@ -1,13 +1,13 @@
 -- Where the words of a ring lie, and which of them a write leaves as they were.
-use Rattle.std.proofs.Common.{◌≡◌, ℕ, ◌+◌, ◌-◌, ◌*◌, ◌%◌, ◌^◌, ◌<◌, ◌≤◌, List, [], ◌∷◌, length, get_or, sym, refl, ap, ◌∙◌, pow_mono, pow_pos, mod-lt, arith}
+use Rattle.std.proofs.Common.{◌≡◌, ◌≢◌, subst, ℕ, ◌+◌, ◌-◌, ◌*◌, ◌%◌, ◌^◌, ◌<◌, ◌≤◌, List, [], ◌∷◌, length, get_or, sym, refl, ap, ◌∙◌, pow_mono, pow_pos, mod-lt, arith}
 use Rattle.std.proofs.lemmas.Nat.{mul-mod_first}
 use Rattle.std.proofs.Math.Nat.{add-mul-mod_self_left, mul_assoc}
 use lib.Pow.{pow-add}
 use Rattle.std.specs.Prelude.{Option, Some, None}
 use Rattle.std.specs.Option.{option_map}
 use Rattle.cyc_level.specs.Level.{Cyclic, Cyclics}
-use Rattle.cyc_level.specs.Events.{changed_at}
-use Rattle.cyc_level.proofs.Maps.{at_cases}
+use Rattle.cyc_level.specs.Events.{changed_at, first_of}
+use Rattle.cyc_level.proofs.Maps.{some_same, at_cases}
 use Rattle.cyc_types.specs.Limits.{greatest_bank, cyclics}
 use Rattle.ring_rule.specs.Words.{spread, pend_word, place, producer_word, entry}
 use Rattle.ring_rule.specs.Shown.{HoldsEntry, BankHolds, IsHandStored}
@@ -70,3 +70,16 @@ module _ (ws ws' : List ℕ) (m m' : Cyclics) (keeps : Keeps m m') where
 
     pub stored_high : (bank i : ℕ) (e h : Option ℕ) → IsHandStored ws m bank i e h → IsHandStored ws' m' bank i e h
     stored_high bank i e h = stored_kept bank i e h (high (place bank i) (place_high bank i))
+
+-- a bank that holds a list ends behind it, and begins with its first id
+pub holds_end : (ws : List ℕ) (m : Cyclics) (bank : ℕ) (xs : List ℕ) (i : ℕ) → BankHolds ws m bank i xs → get_or ws (producer_word bank) 0 ≡ (i + length xs) % 2 ^ 32
+holds_end ws m bank [] i h = h ∙ ap (λ (j : ℕ). j % 2 ^ 32) (let e : i ≡ i + 0 = omega arith in e)
+holds_end ws m bank (x ∷ xs) i h = holds_end ws m bank xs (i + 1) h.1 ∙ ap (λ (j : ℕ). j % 2 ^ 32) (let e : i + 1 + length xs ≡ i + length (x ∷ xs) = omega arith in e)
+
+pub first_some : (xs : List ℕ) → xs ≢ [] → (id : ℕ) × (first_of xs ≡ Some id)
+first_some [] ne = absurd (ne refl)
+first_some (x ∷ xs) ne = (x, refl)
+
+pub first_held : (ws : List ℕ) (m : Cyclics) (bank id : ℕ) (xs : List ℕ) (i : ℕ) → first_of xs ≡ Some id → BankHolds ws m bank i xs → HoldsEntry ws m bank i id
+first_held ws m bank id [] i e h = absurd (cc)
+first_held ws m bank id (x ∷ xs) i e h = subst (HoldsEntry ws m bank i) (some_same x id e) h.0

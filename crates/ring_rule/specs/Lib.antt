@@ -1,7 +1,9 @@
 pub mod Words
 pub mod Trail
+pub mod Log
 pub mod Shown
 pub mod Rule
 pub mod Conservation
 pub mod Steps
 pub mod Moves
+pub mod Laws

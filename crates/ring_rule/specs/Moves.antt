@@ -6,8 +6,9 @@ use Rattle.ring_rule.specs.declared.Role.TheVariants.{Joint, Raise, Drain}
 use Rattle.ring_rule.specs.declared.SeatView.{SeatView}
 use Rattle.ring_rule.specs.declared.Setting.{Setting}
 use Rattle.ring_rule.specs.Words.{mark_bit, index_range, word_count, first_word}
-use Rattle.ring_rule.specs.Rule.{opening_view, raise_view, drain_view, joint_view, spent_view, MeetsRule}
-use Rattle.ring_rule.specs.Conservation.{LevelStands}
+use Rattle.ring_rule.specs.Rule.{opening_view, raise_view, drain_view, joint_view, spent_view, HasItsTrail, MeetsRule}
+use Rattle.ring_rule.specs.Log.{RingStep, replay}
+use Rattle.ring_rule.specs.Conservation.{AllStood}
 
 -- a table of the first words keeps the rule
 abbrev pub OpeningMeetsRule : Type 0
@@ -28,7 +29,9 @@ abbrev pub JoinIsAllowed : Type 0
 JoinIsAllowed = (k : Setting) (seat : ℕ) (v : SeatView) (other : ℕ) (w : SeatView) → v.role ≡ Raise → w.role ≡ Drain
     → Joins (MeetsRule k) seat v other w (joint_view v w) spent_view
 
--- the words of a table that was closed with the seat of both sides, and the trails of this seat, show a level that stands
+-- the words of a table that was closed with the seat of both sides are what the log leaves whose sides are the trails of this seat, and
+-- a level stood before and after each of its steps
 abbrev pub ClosingStands : Type 0
 ClosingStands = (k : Setting) (seat : ℕ) (v : SeatView) → v.role ≡ Joint → (words : List ℕ) (values : List (Unit {0}))
-    → Final (Seen (MeetsRule k) seat v) words values → LevelStands k words v.raise_trail v.drain_trail
+    → Final (Seen (MeetsRule k) seat v) words values
+    → (log : List RingStep) × (words ≡ replay k.start log) × HasItsTrail log v Joint × AllStood k log

@@ -1,5 +1,5 @@
 -- What each kind of atomic step tells its seat: which step its trail gains, and what is known of the value found.
-use Rattle.std.specs.Prelude.{◌≡◌, ◌≢◌, ℕ, ◌%◌, ◌^◌, ◌<◌, ◌≤◌, true, ◌∷◌, ◌++◌, length, slice_index}
+use Rattle.std.specs.Prelude.{◌≡◌, ◌≢◌, ℕ, ◌%◌, ◌^◌, ◌<◌, ◌≤◌, true, ◌∷◌, length, slice_index}
 use mathlib.Core.Option.{some}
 use lib.ListN.{get_elem?}
 use Rattle.atomic_table.specs.Table.{Me, Step, Allows, keeps, stepped}
@@ -12,7 +12,8 @@ use Rattle.ring_rule.specs.declared.DrainStep.TheVariants.{LoadedHardBank, Loade
 use Rattle.ring_rule.specs.declared.SeatView.{SeatView}
 use Rattle.ring_rule.specs.declared.Setting.{Setting}
 use Rattle.ring_rule.specs.Words.{pend_word, mark_bit, entry_id}
-use Rattle.ring_rule.specs.Trail.{seen_pend, soft_bank_of, hard_bank_of, has_followed, raise_event, drain_event}
+use Rattle.ring_rule.specs.Trail.{seen_pend, soft_bank_of, hard_bank_of, has_followed}
+use Rattle.ring_rule.specs.Log.{of_raise, of_drain}
 use Rattle.ring_rule.specs.Rule.{RingState, MeetsRule}
 use Rattle.ring_rule.specs.Conservation.{StandsFor}
 
@@ -20,18 +21,20 @@ use Rattle.ring_rule.specs.Conservation.{StandsFor}
 abbrev pub ThisSeat : Type 0
 ThisSeat = Me (Unit {0}) SeatView
 
-abbrev pub with_raise_step : RaiseStep → SeatView → SeatView
-with_raise_step x v = record { role = v.role; raise_trail = x ∷ v.raise_trail; drain_trail = v.drain_trail }
+-- a view whose trail has one step more, at this place
+abbrev pub with_raise_step : ℕ → RaiseStep → SeatView → SeatView
+with_raise_step place x v = record v { raise_trail = x ∷ v.raise_trail; raise_places = place ∷ v.raise_places }
 
-abbrev pub with_drain_step : DrainStep → SeatView → SeatView
-with_drain_step x v = record { role = v.role; raise_trail = v.raise_trail; drain_trail = x ∷ v.drain_trail }
+abbrev pub with_drain_step : ℕ → DrainStep → SeatView → SeatView
+with_drain_step place x v = record v { drain_trail = x ∷ v.drain_trail; drain_places = place ∷ v.drain_places }
 
--- the seat's trail gains this step, and nothing else changes
+-- the seat's trail gains this step, at some place, and nothing else changes. The rule leaves no choice of the place: it is the next
+-- one in the order of all steps
 abbrev pub GainsRaiseStep : RaiseStep → ThisSeat → ThisSeat → Type 0
-GainsRaiseStep x me me' = me' ≡ (with_raise_step x me.0, me.1)
+GainsRaiseStep x me me' = (place : ℕ) × (me' ≡ (with_raise_step place x me.0, me.1))
 
 abbrev pub GainsDrainStep : DrainStep → ThisSeat → ThisSeat → Type 0
-GainsDrainStep x me me' = me' ≡ (with_drain_step x me.0, me.1)
+GainsDrainStep x me me' = (place : ℕ) × (me' ≡ (with_drain_step place x me.0, me.1))
 
 -- what a step tells: a fact of the step, the seat before, the value found and the seat after
 abbrev pub Telling : Type 1
@@ -101,7 +104,7 @@ TellsSubtract t me found me' = (0 < found % mark_bit) × GainsDrainStep (Subtrac
 abbrev pub TellsFollow : Telling
 TellsFollow t me found me' = GainsDrainStep (Followed t.first) me me'
 
--- and each step tells, beside this, that a lawful level stands now, with this side's trail
+-- and each step tells, beside this, that a lawful level stands at its place
 abbrev pub AndStands : Setting → Telling → Telling
 AndStands k tells t me found me' = tells t me found me' × StandsFor k me'.0
 
@@ -113,28 +116,26 @@ Claim = (k : Setting) (slots seat : ℕ) (me : ThisSeat) (i : ℕ) → (ℕ → 
 abbrev pub IsAllowed : Claim
 IsAllowed k slots seat me i f tells = Allows (MeetsRule k) slots seat me i f (λ found me'. tells found me' × StandsFor k me'.0)
 
--- a step of the firing side: the run gains the event that the step is, or none, and the trail of this side the step
+-- a step of the firing side: the log gains it, and so the run the event that the step is, or none
 abbrev pub ExtendsByRaise : (k : Setting) (s : RingState) → MeetsRule k s → RingState → RaiseStep → Type 0
-ExtendsByRaise k s R s' x = (R' : MeetsRule k s') × (R'.events ≡ raise_event x ++ R.events)
-    × (R'.raise_trail ≡ x ∷ R.raise_trail) × (R'.drain_trail ≡ R.drain_trail)
+ExtendsByRaise k s R s' x = (R' : MeetsRule k s') × (R'.log ≡ of_raise x ∷ R.log)
 
 abbrev pub ExtendsByDrain : (k : Setting) (s : RingState) → MeetsRule k s → RingState → DrainStep → Type 0
-ExtendsByDrain k s R s' x = (R' : MeetsRule k s') × (R'.events ≡ drain_event x ++ R.events)
-    × (R'.raise_trail ≡ R.raise_trail) × (R'.drain_trail ≡ x ∷ R.drain_trail)
+ExtendsByDrain k s R s' x = (R' : MeetsRule k s') × (R'.log ≡ of_drain x ∷ R.log)
 
--- whatever the other side did, the step extends the run so
+-- whatever the other side did, the step extends the log so, and its record has the next place
 abbrev pub IsRaiseStep : Claim
 IsRaiseStep k slots seat me i f tells = (s : RingState) (R : MeetsRule k s) → length s.homes ≡ slots
     → get_elem? s.views seat ≡ some me.0
     → slice_index s.words i < 2 ^ 64
     → (x : RaiseStep)
-    × ExtendsByRaise k s R (stepped s i (f (slice_index s.words i)) seat me.1 (with_raise_step x me.0) keeps) x
-    × tells (slice_index s.words i) (with_raise_step x me.0, me.1)
+    × ExtendsByRaise k s R (stepped s i (f (slice_index s.words i)) seat me.1 (with_raise_step (length R.log) x me.0) keeps) x
+    × tells (slice_index s.words i) (with_raise_step (length R.log) x me.0, me.1)
 
 abbrev pub IsDrainStep : Claim
 IsDrainStep k slots seat me i f tells = (s : RingState) (R : MeetsRule k s) → length s.homes ≡ slots
     → get_elem? s.views seat ≡ some me.0
     → slice_index s.words i < 2 ^ 64
     → (x : DrainStep)
-    × ExtendsByDrain k s R (stepped s i (f (slice_index s.words i)) seat me.1 (with_drain_step x me.0) keeps) x
-    × tells (slice_index s.words i) (with_drain_step x me.0, me.1)
+    × ExtendsByDrain k s R (stepped s i (f (slice_index s.words i)) seat me.1 (with_drain_step (length R.log) x me.0) keeps) x
+    × tells (slice_index s.words i) (with_drain_step (length R.log) x me.0, me.1)

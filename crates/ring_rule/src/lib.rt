@@ -7,6 +7,7 @@ ghost use Rattle.ring_rule.specs.declared.Setting.{Setting as TheSetting};
 ghost use Rattle.ring_rule.specs.Rule.{RingState, MeetsRule, opening_view};
 ghost use Rattle.ring_rule.specs.Conservation.{Conserves};
 ghost use Rattle.ring_rule.specs.Moves.{OpeningMeetsRule, SplitIsAllowed, JoinIsAllowed, ClosingStands};
+ghost use Rattle.ring_rule.specs.Laws.{EachRecordIsTrue, TrailsMakeTheLog, SidesAreTheTrails, RecordsComeAfter, NewRaiseIsTrue, NewDrainIsTrue, FoundIsShown};
 
 use atomic_table::TableRule;
 use std::collections::LinkedList;
@@ -57,11 +58,14 @@ pub enum DrainStep {
     Followed(u64),
 }
 
-/// What a seat knows: the steps of its side, the newest first. It exists in proofs alone, and no value of it is made.
+/// What a seat knows: the steps of its side, the newest first, and the place of each in the one order of all steps of both
+/// sides. It exists in proofs alone, and no value of it is made.
 pub struct SeatView {
     pub role: Role,
     pub raise_trail: LinkedList<RaiseStep>,
+    pub raise_places: LinkedList<u64>,
     pub drain_trail: LinkedList<DrainStep>,
+    pub drain_places: LinkedList<u64>,
 }
 
 /// What is fixed when a ring is opened.
@@ -82,8 +86,9 @@ impl TableRule<(), SeatView, Setting> for RingRule {
     ghost first = { λ _. opening_view };
 }
 
-/// The conservation theorem: whatever state meets the ring's rule shows a level that a run of enabled events reaches, those
-/// of each side in the order of its trail. So it is lawful; each admitted cyclic's expirations are its finished calls, its
+/// The conservation theorem: whatever state meets the ring's rule has one order of all steps that were made, with each seat's
+/// in the order of its trail. Its events are an enabled run, and the level that this reaches is the shown one, as it was after
+/// each earlier step. So it is lawful; each admitted cyclic's expirations are its finished calls, its
 /// outstanding ones and those lost; a cyclic with calls outstanding stands in exactly one place; no list is longer than its
 /// bank; the pend word of an unused index is 0; and each shown entry names an admitted id.
 pub fn conservation()
@@ -105,7 +110,46 @@ pub fn join_is_allowed()
     ensures { JoinIsAllowed }
 {}
 
-/// A ring that is closed gives the run that both trails interleave to, and the books.
+/// A ring that is closed gives the order of all steps, whose sides are the two trails, and the level that stood at each place.
 pub fn closing_stands()
     ensures { ClosingStands }
+{}
+
+/// Where the rule holds, each record of a seat stands at its place in the one order of all steps, and is true there: what it
+/// is recorded to have found is what its word held just before it.
+pub fn each_record_is_true()
+    ensures { EachRecordIsTrue }
+{}
+
+/// The order is read off the two seats' trails by the places alone. So it is the one order, and not some order.
+pub fn trails_make_the_log()
+    ensures { TrailsMakeTheLog }
+{}
+
+/// The events of the order are on each side those of its trail.
+pub fn sides_are_the_trails()
+    ensures { SidesAreTheTrails }
+{}
+
+/// What the two sides gained since a state stands in the order behind all that had been made then: so no call can answer from
+/// a step that was made before it began.
+pub fn records_come_after()
+    ensures { RecordsComeAfter }
+{}
+
+/// Whatever its play says, a record that the raise seat gains has the next place and is true of the words before it.
+pub fn new_raise_is_true()
+    ensures { NewRaiseIsTrue }
+{}
+
+/// The same of the drain seat.
+pub fn new_drain_is_true()
+    ensures { NewDrainIsTrue }
+{}
+
+/// What a step found, the level just before it shows: a pend word the outstanding calls of its id with the mark, the bank
+/// words the banks, the producer word of the soft side's bank the consumer index and the list's length modulo 2^32, and a
+/// buffer word the entry of the list's first id.
+pub fn found_is_shown()
+    ensures { FoundIsShown }
 {}

@@ -15,10 +15,11 @@ use Rattle.ring_rule.specs.declared.DrainStep.TheVariants.{Followed}
 use Rattle.ring_rule.specs.declared.Setting.{Setting}
 use Rattle.ring_rule.specs.Words.{pend_word, place, producer_word, hard_word, soft_word}
 use Rattle.ring_rule.specs.Trail.{ended_calls, firer_hand_of, hard_bank_of, producer_index, has_followed, soft_bank_of, consumer_index, producer_seen, bank_seen}
+use Rattle.ring_rule.specs.Log.{raise_side, drain_side, stay_word}
 use Rattle.ring_rule.specs.Shown.{BankHolds, Shows, StillHolds}
 use Rattle.ring_rule.specs.Steps.{TellsSwitch, TellsSoftBank, TellsFollow}
 use Rattle.ring_rule.proofs.Words.{pend_low, place_low, keeps_all, holds_kept, stored_kept}
-use Rattle.ring_rule.proofs.Seats.{level, raiser, drains, raise_moves, raise_stays, drain_moves}
+use Rattle.ring_rule.proofs.Seats.{level, raiser, drains, raise_goes, drain_goes}
 use Rattle.ring_rule.proofs.Now.{RingNow, ring_now, loaded, index_low}
 use Rattle.ring_rule.proofs.Stands.{raise_allowed, drain_allowed}
 
@@ -160,38 +161,43 @@ module _ (k : Setting) (ws : List ℕ) (rs : List RaiseStep) (ds : List DrainSte
     }
 
 pub switches_extend : SwitchExtendsRun
-switches_extend k slots seat me bank role bare even more most s R _ at _ = let t : List RaiseStep = R.raise_trail in let same : me.0.raise_trail ≡ t = (raiser k s R seat me.0 at me.1 hard_word bank role).1 in let l : Level = level k s R in let N : RingNow k s.words t R.drain_trail l = ring_now k s R in
+switches_extend k slots seat me bank role bare even more most s R _ at _ = let t : List RaiseStep = (raise_side R.log) in let same : me.0.raise_trail ≡ t = (raiser k s R seat me.0 at me.1 hard_word bank role).1.0 in let l : Level = level k s R in let N : RingNow k s.words t (drain_side R.log) l = ring_now k s R in
     let bare' : firer_hand_of t ≡ None = ap firer_hand_of (sym same) ∙ bare in let even' : has_followed t ≡ true = ap (has_followed) (sym same) ∙ even in let more' : hard_bank_of t < bank = subst (λ (t : List RaiseStep). hard_bank_of t < bank) same more in (
       (Switched bank),
-      raise_moves k s R seat me.0 at me.1 hard_word bank role (Switched bank) (Switch bank) refl refl (switch_enabled k s.words t R.drain_trail l N bank bare' even' more' most)
-          (switch_shown k s.words t R.drain_trail l N bank bare' even' more' most) (switch_still k s.words t R.drain_trail l N bank bare' even' more' most),
-      refl,
+      raise_goes k s R seat me.0 at me.1 hard_word bank role (Switched bank) ((switch_enabled k s.words t (drain_side R.log) l N bank bare' even' more' most), R.enabled)
+          (switch_shown k s.words t (drain_side R.log) l N bank bare' even' more' most)
+          (switch_still k s.words t (drain_side R.log) l N bank bare' even' more' most)
+          refl tt refl,
+      (length R.log, refl),
     )
 
 pub switches : SwitchIsAllowed
-switches k slots seat me bank role bare even more most = raise_allowed k slots seat me hard_word (λ _. bank) (λ _. TellsSwitch (step slots hard_word bank 0 none) me bank) (switches_extend k slots seat me bank role bare even more most)
+switches k slots seat me bank role bare even more most = raise_allowed k slots seat me hard_word (λ _. bank) (λ _. TellsSwitch (step slots hard_word bank 0 none) me bank) role (switches_extend k slots seat me bank role bare even more most)
 
 pub loads_soft_bank_extend : SoftBankLoadExtendsRun
-loads_soft_bank_extend k slots seat me role s R _ at _ = let t : List RaiseStep = R.raise_trail in let same : me.0.raise_trail ≡ t = (raiser k s R seat me.0 at me.1 soft_word 0 role).1 in let l : Level = level k s R in let N : RingNow k s.words t R.drain_trail l = ring_now k s R in let n : ℕ = get_or s.words soft_word 0 in (
+loads_soft_bank_extend k slots seat me role s R _ at _ = let t : List RaiseStep = (raise_side R.log) in let same : me.0.raise_trail ≡ t = (raiser k s R seat me.0 at me.1 soft_word 0 role).1.0 in let l : Level = level k s R in let N : RingNow k s.words t (drain_side R.log) l = ring_now k s R in let n : ℕ = get_or s.words soft_word 0 in (
   (LoadedSoftBank n),
-  raise_stays k s R seat me.0 at me.1 soft_word n role (LoadedSoftBank n) refl
-      (loaded (λ x. Shows k.start x (LoadedSoftBank n ∷ t) R.drain_trail l) s.words soft_word (look_shown k s.words t R.drain_trail l N n))
-      (loaded (λ x. StillHolds k.start x (LoadedSoftBank n ∷ t) R.drain_trail l) s.words soft_word (look_still k s.words t R.drain_trail l N)),
-  (λ e. N.shows.soft_shown ∙ (sym (N.still.followed_is (ap (has_followed) (sym same) ∙ e)) ∙ (N.shows.hard_is ∙ ap (hard_bank_of) (sym same))), refl),
+  raise_goes k s R seat me.0 at me.1 soft_word n role (LoadedSoftBank n) R.enabled
+      (loaded (λ x. Shows k.start x (LoadedSoftBank n ∷ t) (drain_side R.log) l) s.words soft_word (look_shown k s.words t (drain_side R.log) l N n))
+      (loaded (λ x. StillHolds k.start x (LoadedSoftBank n ∷ t) (drain_side R.log) l) s.words soft_word (look_still k s.words t (drain_side R.log) l N))
+      refl refl refl,
+  (λ e. N.shows.soft_shown ∙ (sym (N.still.followed_is (ap (has_followed) (sym same) ∙ e)) ∙ (N.shows.hard_is ∙ ap (hard_bank_of) (sym same))), (length R.log, refl)),
 )
 
 pub loads_soft_bank : SoftBankLoadIsAllowed
-loads_soft_bank k slots seat me role = raise_allowed k slots seat me soft_word (λ n. n) (TellsSoftBank (step slots soft_word 0 0 none) me) (loads_soft_bank_extend k slots seat me role)
+loads_soft_bank k slots seat me role = raise_allowed k slots seat me soft_word (λ n. n) (TellsSoftBank (step slots soft_word 0 0 none) me) role (loads_soft_bank_extend k slots seat me role)
 
 pub follows_extend : FollowExtendsRun
-follows_extend k slots seat me bank end role saw apart ended_calls bare s R _ at _ = let t : List DrainStep = R.drain_trail in let same : me.0.drain_trail ≡ t = (drains k s R seat me.0 at me.1 soft_word bank role).1 in let l : Level = level k s R in let N : RingNow k s.words R.raise_trail t l = ring_now k s R in
+follows_extend k slots seat me bank end role saw apart ended_calls bare s R _ at _ = let t : List DrainStep = (drain_side R.log) in let same : me.0.drain_trail ≡ t = (drains k s R seat me.0 at me.1 soft_word bank role).1.0 in let l : Level = level k s R in let N : RingNow k s.words (raise_side R.log) t l = ring_now k s R in
     let saw' : bank_seen t ≡ Some bank = ap bank_seen (sym same) ∙ saw in let apart' : bank ≢ soft_bank_of t = λ e. apart (e ∙ ap (soft_bank_of) (sym same)) in let ended' : producer_seen t ≡ Some end = ap producer_seen (sym same) ∙ ended_calls in
     let bare' : end ≡ consumer_index k.start t % 2 ^ 32 = bare ∙ ap (λ (t : List DrainStep). consumer_index k.start t % 2 ^ 32) same in (
       (Followed bank),
-      drain_moves k s R seat me.0 at me.1 soft_word bank role (Followed bank) Follow refl refl (follow_enabled k s.words R.raise_trail t l N bank end saw' apart' ended' bare')
-          (follow_shown k s.words R.raise_trail t l N bank end saw' apart' ended' bare') (follow_still k s.words R.raise_trail t l N bank end saw' apart' ended' bare'),
-      refl,
+      drain_goes k s R seat me.0 at me.1 soft_word bank role (Followed bank) ((follow_enabled k s.words (raise_side R.log) t l N bank end saw' apart' ended' bare'), R.enabled)
+          (follow_shown k s.words (raise_side R.log) t l N bank end saw' apart' ended' bare')
+          (follow_still k s.words (raise_side R.log) t l N bank end saw' apart' ended' bare')
+          refl tt refl,
+      (length R.log, refl),
     )
 
 pub follows : FollowIsAllowed
-follows k slots seat me bank end role saw apart ended_calls bare = drain_allowed k slots seat me soft_word (λ _. bank) (λ _. TellsFollow (step slots soft_word bank 0 none) me bank) (follows_extend k slots seat me bank end role saw apart ended_calls bare)
+follows k slots seat me bank end role saw apart ended_calls bare = drain_allowed k slots seat me soft_word (λ _. bank) (λ _. TellsFollow (step slots soft_word bank 0 none) me bank) role (follows_extend k slots seat me bank end role saw apart ended_calls bare)

@@ -19,10 +19,11 @@ use Rattle.ring_rule.specs.declared.DrainStep.{DrainStep}
 use Rattle.ring_rule.specs.declared.Setting.{Setting}
 use Rattle.ring_rule.specs.Words.{pend_word, mark_bit, place, producer_word, entry_id, hard_word, soft_word}
 use Rattle.ring_rule.specs.Trail.{open_stay, ended_calls, firer_hand_of, marked_of, seen_pend, id_in, made_calls, consumer_index}
+use Rattle.ring_rule.specs.Log.{raise_side, drain_side, stay_word}
 use Rattle.ring_rule.specs.Shown.{IsSameStay, BankHolds, Shows, StillHolds}
 use Rattle.ring_rule.specs.Steps.{TellsLoad, TellsMark, TellsClear}
 use Rattle.ring_rule.proofs.Words.{pend_low, pend_distinct, place_high, keeps_all, holds_high}
-use Rattle.ring_rule.proofs.Seats.{level, raiser, raise_moves, raise_stays}
+use Rattle.ring_rule.proofs.Seats.{level, raiser, raise_goes}
 use Rattle.ring_rule.proofs.Stays.{behind, held_once}
 use Rattle.ring_rule.proofs.Now.{RingNow, ring_now, loaded, index_low, same_pend}
 use Rattle.ring_rule.proofs.Stands.{raise_allowed}
@@ -218,39 +219,43 @@ module _ (k : Setting) (ws : List ℕ) (rs : List RaiseStep) (ds : List DrainSte
     }
 
 pub marks_extend : MarkExtendsRun
-marks_extend k slots seat me i id st role is at_i free bare s R _ at _ = let small : k.ceiling < 2 ^ 32 = R.fits.0 in let t : List RaiseStep = R.raise_trail in let same : me.0.raise_trail ≡ t = (raiser k s R seat me.0 at me.1 i 0 role).1 in let l : Level = level k s R in let N : RingNow k s.words t R.drain_trail l = ring_now k s R in
-    let is' : open_stay id t ≡ Some st = ap (open_stay id) (sym same) ∙ is in let free' : marked_of t ≡ None = ap marked_of (sym same) ∙ free in let n : ℕ = get_or s.words i 0 in let f = fits k s.words t R.drain_trail l N i id st is' at_i free' small in (
+marks_extend k slots seat me i id st role is at_i free bare s R _ at _ = let small : k.ceiling < 2 ^ 32 = R.fits.0 in let t : List RaiseStep = (raise_side R.log) in let same : me.0.raise_trail ≡ t = (raiser k s R seat me.0 at me.1 i 0 role).1.0 in let l : Level = level k s R in let N : RingNow k s.words t (drain_side R.log) l = ring_now k s R in
+    let is' : open_stay id t ≡ Some st = ap (open_stay id) (sym same) ∙ is in let free' : marked_of t ≡ None = ap marked_of (sym same) ∙ free in let n : ℕ = get_or s.words i 0 in let f = fits k s.words t (drain_side R.log) l N i id st is' at_i free' small in (
       (Marked id n),
-      raise_moves k s R seat me.0 at me.1 i ((n + 2 ^ 32) % 2 ^ 64) role (Marked id n) (Mark id) refl refl (mark_enabled k s.words t R.drain_trail l N i id st is' at_i free' (ap firer_hand_of (sym same) ∙ bare))
-          (subst (λ (x : ℕ). Shows k.start (set s.words i x) (Marked id n ∷ t) R.drain_trail (after (Mark id) l)) (sym f) (mark_shown k s.words t R.drain_trail l N i id st is' at_i free'))
-          (subst (λ (x : ℕ). StillHolds k.start (set s.words i x) (Marked id n ∷ t) R.drain_trail (after (Mark id) l)) (sym f) (mark_still k s.words t R.drain_trail l N i id st is' at_i free')),
-      (subst (λ (t : List RaiseStep). n ≤ seen_pend id t) (sym same) (top k s.words t R.drain_trail l N i id st is' at_i free'), refl),
+      raise_goes k s R seat me.0 at me.1 i ((n + 2 ^ 32) % 2 ^ 64) role (Marked id n) ((mark_enabled k s.words t (drain_side R.log) l N i id st is' at_i free' (ap firer_hand_of (sym same) ∙ bare)), R.enabled)
+          (subst (λ (x : ℕ). Shows k.start (set s.words i x) (Marked id n ∷ t) (drain_side R.log) (after (Mark id) l)) (sym f) (mark_shown k s.words t (drain_side R.log) l N i id st is' at_i free'))
+          (subst (λ (x : ℕ). StillHolds k.start (set s.words i x) (Marked id n ∷ t) (drain_side R.log) (after (Mark id) l)) (sym f) (mark_still k s.words t (drain_side R.log) l N i id st is' at_i free'))
+          (at_i ∙ ap stay_word (sym is')) refl refl,
+      (subst (λ (t : List RaiseStep). n ≤ seen_pend id t) (sym same) (top k s.words t (drain_side R.log) l N i id st is' at_i free'), (length R.log, refl)),
     )
 
 pub marks : MarkIsAllowed
-marks k slots seat me i id st role is at_i free bare = raise_allowed k slots seat me i (λ n. (n + mark_bit) % 2 ^ 64) (TellsMark id (step slots i mark_bit 0 none) me) (marks_extend k slots seat me i id st role is at_i free bare)
+marks k slots seat me i id st role is at_i free bare = raise_allowed k slots seat me i (λ n. (n + mark_bit) % 2 ^ 64) (TellsMark id (step slots i mark_bit 0 none) me) role (marks_extend k slots seat me i id st role is at_i free bare)
 
 pub clears_extend : ClearExtendsRun
-clears_extend k slots seat me i id st role is at_i mine zero_seen bare s R _ at _ = let t : List RaiseStep = R.raise_trail in let same : me.0.raise_trail ≡ t = (raiser k s R seat me.0 at me.1 i 0 role).1 in let l : Level = level k s R in let N : RingNow k s.words t R.drain_trail l = ring_now k s R in
+clears_extend k slots seat me i id st role is at_i mine zero_seen bare s R _ at _ = let t : List RaiseStep = (raise_side R.log) in let same : me.0.raise_trail ≡ t = (raiser k s R seat me.0 at me.1 i 0 role).1.0 in let l : Level = level k s R in let N : RingNow k s.words t (drain_side R.log) l = ring_now k s R in
     let is' : open_stay id t ≡ Some st = ap (open_stay id) (sym same) ∙ is in let mine' : marked_of t ≡ Some id = ap marked_of (sym same) ∙ mine in let z' : seen_pend id t ≡ 0 = ap (seen_pend id) (sym same) ∙ zero_seen in (
       (Cleared id),
-      raise_moves k s R seat me.0 at me.1 i 0 role (Cleared id) (Clear id) refl refl (clear_enabled k s.words t R.drain_trail l N i id st is' at_i mine' z' (ap firer_hand_of (sym same) ∙ bare))
-          (clear_shown k s.words t R.drain_trail l N i id st is' at_i mine' z') (clear_still k s.words t R.drain_trail l N i id st is' at_i mine' z'),
-      refl,
+      raise_goes k s R seat me.0 at me.1 i 0 role (Cleared id) ((clear_enabled k s.words t (drain_side R.log) l N i id st is' at_i mine' z' (ap firer_hand_of (sym same) ∙ bare)), R.enabled)
+          (clear_shown k s.words t (drain_side R.log) l N i id st is' at_i mine' z')
+          (clear_still k s.words t (drain_side R.log) l N i id st is' at_i mine' z')
+          (at_i ∙ ap stay_word (sym is')) tt refl,
+      (length R.log, refl),
     )
 
 pub clears : ClearIsAllowed
-clears k slots seat me i id st role is at_i mine zero_seen bare = raise_allowed k slots seat me i (λ _. 0) (λ _. TellsClear id (step slots i 0 0 none) me 0) (clears_extend k slots seat me i id st role is at_i mine zero_seen bare)
+clears k slots seat me i id st role is at_i mine zero_seen bare = raise_allowed k slots seat me i (λ _. 0) (λ _. TellsClear id (step slots i 0 0 none) me 0) role (clears_extend k slots seat me i id st role is at_i mine zero_seen bare)
 
 pub loads_extend : LoadExtendsRun
-loads_extend k slots seat me i id st role is at_i s R _ at _ = let small : k.ceiling < 2 ^ 32 = R.fits.0 in let t : List RaiseStep = R.raise_trail in let same : me.0.raise_trail ≡ t = (raiser k s R seat me.0 at me.1 i 0 role).1 in let l : Level = level k s R in let N : RingNow k s.words t R.drain_trail l = ring_now k s R in
+loads_extend k slots seat me i id st role is at_i s R _ at _ = let small : k.ceiling < 2 ^ 32 = R.fits.0 in let t : List RaiseStep = (raise_side R.log) in let same : me.0.raise_trail ≡ t = (raiser k s R seat me.0 at me.1 i 0 role).1.0 in let l : Level = level k s R in let N : RingNow k s.words t (drain_side R.log) l = ring_now k s R in
     let is' : open_stay id t ≡ Some st = ap (open_stay id) (sym same) ∙ is in let n : ℕ = get_or s.words i 0 in (
       (Loaded id n),
-      raise_stays k s R seat me.0 at me.1 i n role (Loaded id n) refl
-          (loaded (λ x. Shows k.start x (Loaded id n ∷ t) R.drain_trail l) s.words i (load_shown k s.words t R.drain_trail l N i id st is' at_i small))
-          (loaded (λ x. StillHolds k.start x (Loaded id n ∷ t) R.drain_trail l) s.words i (load_still k s.words t R.drain_trail l N i id st is' at_i small)),
-      (subst (λ (t : List RaiseStep). n % 2 ^ 32 ≤ seen_pend id t) (sym same) (load_top k s.words t R.drain_trail l N i id st is' at_i small), refl),
+      raise_goes k s R seat me.0 at me.1 i n role (Loaded id n) R.enabled
+          (loaded (λ x. Shows k.start x (Loaded id n ∷ t) (drain_side R.log) l) s.words i (load_shown k s.words t (drain_side R.log) l N i id st is' at_i small))
+          (loaded (λ x. StillHolds k.start x (Loaded id n ∷ t) (drain_side R.log) l) s.words i (load_still k s.words t (drain_side R.log) l N i id st is' at_i small))
+          (at_i ∙ ap stay_word (sym is')) refl refl,
+      (subst (λ (t : List RaiseStep). n % 2 ^ 32 ≤ seen_pend id t) (sym same) (load_top k s.words t (drain_side R.log) l N i id st is' at_i small), (length R.log, refl)),
     )
 
 pub loads : LoadIsAllowed
-loads k slots seat me i id st role is at_i = raise_allowed k slots seat me i (λ n. n) (TellsLoad id (step slots i 0 0 none) me) (loads_extend k slots seat me i id st role is at_i)
+loads k slots seat me i id st role is at_i = raise_allowed k slots seat me i (λ n. n) (TellsLoad id (step slots i 0 0 none) me) role (loads_extend k slots seat me i id st role is at_i)

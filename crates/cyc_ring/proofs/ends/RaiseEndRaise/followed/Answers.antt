@@ -1,3 +1,5 @@
+use Rattle.std.proofs.Common.{arith}
+use Rattle.cyc_ring.proofs.Learning.{sound_seat}
 use Rattle.std.proofs.Common.{ℕ, List, [], ◌∷◌, refl, sym, ap, ◌∙◌, subst}
 use Rattle.ring_rule.specs.declared.Setting.{Setting}
 use Rattle.ring_rule.specs.declared.RaiseStep.{RaiseStep}
@@ -12,3 +14,6 @@ pub returns-clause-step : goal.returns-clause-step
 returns-clause-step c = let e = c.args.self.now in let s = e.seat.seat in let k = e.seat.setting in let t : List RaiseStep = s.me.0.raise_trail in let found : ℕ = c.look_as.result in let s' = c.look_as.new.raiser.seat in
     let m : MakesRaiseStep k (LoadedSoftBank found) s s' = subst (λ (x : Setting). MakesRaiseStep x (LoadedSoftBank found) s s') (sym e.own.1) c.look_as.ensures.step in
     (c.look_as.ensures.own, raise_call k s s' (LoadedSoftBank found ∷ []) (Looks _) (one_raise k (LoadedSoftBank found) s [] s s' (no_raise k s e.seat.role) m) (found, ap (λ (b : ℕ). found == b) (c.look_as.ensures.bank ∙ e.seat.bank_is.0), refl))
+
+pub returns-clause-sound : goal.returns-clause-sound
+returns-clause-sound c = let r = c.look_as.new.raiser in sound_seat r.setting.ceiling r.stays.value.ids r.stays.value.sent r.stays.value.lost r.seat.me.0.raise_trail r.rows r.seen (let b = r.bank_is.0 in let m = r.bank_is.1 in omega (arith, b, m)) r.ranges.0

@@ -1,3 +1,5 @@
+use Rattle.std.proofs.Common.{arith}
+use Rattle.cyc_ring.proofs.Learning.{sound_seat}
 use Rattle.std.proofs.Common.{ℕ, ◌≤◌, List, [], ◌∷◌, refl, sym, subst}
 use Rattle.ring_rule.specs.declared.Setting.{Setting}
 use Rattle.ring_rule.specs.declared.RaiseStep.{RaiseStep}
@@ -15,3 +17,6 @@ returns-clause-step c = let e = c.args.self.now in let s = e.seat.seat in let k 
       raise_call k s s' (Marked c.args.id found ∷ []) (Marks c.args.id found) (one_raise k (Marked c.args.id found) s [] s s' (no_raise k s e.seat.role) m)
           (subst (λ (x : ℕ). found ≤ seen_pend x t) named c.mark_as.ensures.bound, refl),
     )
+
+pub returns-clause-sound : goal.returns-clause-sound
+returns-clause-sound c = let r = c.mark_as.new.raiser in sound_seat r.setting.ceiling r.stays.value.ids r.stays.value.sent r.stays.value.lost r.seat.me.0.raise_trail r.rows r.seen (let b = r.bank_is.0 in let m = r.bank_is.1 in omega (arith, b, m)) r.ranges.0

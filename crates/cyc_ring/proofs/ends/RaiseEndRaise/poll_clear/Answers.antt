@@ -1,3 +1,4 @@
+use Rattle.cyc_ring.proofs.Learning.{sound_seat}
 use Rattle.std.proofs.Common.{rules, ◌≡◌, ℕ, ◌%◌, ◌≤◌, List, [], ◌∷◌, refl, sym, ap, ◌∙◌, subst, arith}
 use Rattle.std.specs.Prelude.{Some, None}
 use Rattle.ring_rule.specs.declared.Setting.{Setting}
@@ -23,7 +24,7 @@ returns-then-found-ne0-clause-step c = let e = c.args.self.now in let s = e.seat
 
 pub returns-then-found-ne0-clause-learns : goal.returns-then-found-ne0-clause-learns
 returns-then-found-ne0-clause-learns c = let e = c.args.self.now in let s = e.seat.seat in let k = e.seat.setting in let t : List RaiseStep = s.me.0.raise_trail in let r = e.seat in let found : ℕ = c.load_as-found.result in let w = the_stay k.ceiling r.stays.value.ids r.stays.value.sent r.stays.value.lost t r.rows c.args.id _ c.requires.0 in let named = c.index_of-index.ensures.1 in
-    let same : c.load_as-found.new.raiser.seat.me.0.raise_trail ≡ Loaded c.args.id found ∷ t = ap (λ (m : ThisSeat). m.0.raise_trail) c.load_as-found.ensures.step.1 ∙ ap (λ (x : ℕ). Loaded x found ∷ t) named in
+    let same : c.load_as-found.new.raiser.seat.me.0.raise_trail ≡ Loaded c.args.id found ∷ t = ap (λ (m : ThisSeat). m.0.raise_trail) c.load_as-found.ensures.step.1.1 ∙ ap (λ (x : ℕ). Loaded x found ∷ t) named in
     let low : found % mark_bit ≤ seen_pend c.args.id t = subst (λ (x : ℕ). found % mark_bit ≤ seen_pend x t) named c.load_as-found.ensures.bound in let more = c.if-found-ne0.true in
     subst (λ (p : Setting × List RaiseStep). Learns (firing_view k.ceiling t) (Polls c.args.id None) (firing_view p.0.ceiling p.1)) (λ z. (sym c.load_as-found.ensures.own.1 z, sym same z))
     (learns_kept k.ceiling t c.args.id found w.0 w.1 (omega (arith, more)) low)
@@ -37,3 +38,9 @@ returns-clause-step c = let e = c.args.self.now in let s = e.seat.seat in let k 
       raise_call k s s2 (Cleared c.args.id ∷ Loaded c.args.id found ∷ []) (Polls c.args.id (Some _)) (one_raise k (Cleared c.args.id) s (Loaded c.args.id found ∷ []) s1 s2 (one_raise k (Loaded c.args.id found) s [] s s1 (no_raise k s e.seat.role) m1) m2)
           (found, (let h : found % mark_bit ≡ 0 = search rules in h), refl),
     )
+
+pub returns-then-found-ne0-clause-sound : goal.returns-then-found-ne0-clause-sound
+returns-then-found-ne0-clause-sound c = let r = c.load_as-found.new.raiser in sound_seat r.setting.ceiling r.stays.value.ids r.stays.value.sent r.stays.value.lost r.seat.me.0.raise_trail r.rows r.seen (let b = r.bank_is.0 in let m = r.bank_is.1 in omega (arith, b, m)) r.ranges.0
+
+pub returns-clause-sound : goal.returns-clause-sound
+returns-clause-sound c = let r = c.clear_as.new.raiser in sound_seat r.setting.ceiling r.stays.value.ids r.stays.value.sent r.stays.value.lost r.seat.me.0.raise_trail r.rows r.seen (let b = r.bank_is.0 in let m = r.bank_is.1 in omega (arith, b, m)) r.ranges.0

@@ -1,4 +1,4 @@
-use Rattle.std.proofs.Common.{rules, ◌≡◌, ◌≢◌, ℕ, zero, suc, ◌+◌, ◌%◌, ◌<◌, List, [], ◌∷◌, refl, sym, ap, ◌∙◌, subst, arith, length, get_or, set, get_or-set_same, get_or-set_other}
+use Rattle.std.proofs.Common.{rules, ◌≡◌, ◌≢◌, ℕ, zero, suc, ◌+◌, ◌%◌, ◌<◌, ◌≤◌, List, [], ◌∷◌, refl, sym, ap, ◌∙◌, subst, arith, length, get_or, set, get_or-set_same, get_or-set_other}
 use Rattle.std.specs.Prelude.{Option, Some, None}
 use Rattle.cyc_types.specs.Firing.{Raises}
 use Rattle.cyc_types.specs.declared.firing.Raised.TheVariants as answers
@@ -7,14 +7,14 @@ use Rattle.ring_rule.specs.declared.Setting.{Setting}
 use Rattle.ring_rule.specs.declared.RaiseStep.{RaiseStep}
 use Rattle.ring_rule.specs.declared.RaiseStep.TheVariants.{Loaded, Lost, Added, Stored, Published}
 use Rattle.ring_rule.specs.Words.{index_range, place, entry}
-use Rattle.ring_rule.specs.Trail.{open_stay, firer_hand_of, hard_bank_of, producer_index}
+use Rattle.ring_rule.specs.Trail.{open_stay, firer_hand_of, hard_bank_of, producer_index, seen_pend}
 use Rattle.ring_rule.specs.Steps.{ThisSeat}
 use Rattle.ring_finder.specs.Indexes.{index_of}
 use Rattle.cyc_ring.specs.Rows.{HoldsStays, stay_index}
 use Rattle.cyc_ring.specs.Seats.{MakesRaiseStep}
 use Rattle.cyc_ring.specs.Views.{IsSeenSound, IsBalanced}
 use Rattle.cyc_ring.specs.declared.seats.Stays.{Stays}
-use Rattle.cyc_ring.proofs.Calls.{raise_call}
+use Rattle.cyc_ring.proofs.Calls.{no_raise, one_raise, raise_call}
 use Rattle.cyc_ring.proofs.RaiseSteps.{Begun, Counted, is_real, stay_at, stay_is, stay_named, is_low, is_lost, is_below, stay_below, is_counted, stay_counted, next_is, next_published, counted_run, counted_me, counted_trail, PutIn, put_in_run, put_in_me}
 use Rattle.cyc_ring.proofs.Balance.{balanced_added, balanced_lost}
 use Rattle.cyc_ring.proofs.Learning.{sound_added, sound_lost}
@@ -38,12 +38,12 @@ invariant_of-raiser g c = let r = c.args.raiser.now in let k = c.args.self.now.s
     let before : ℕ = c.load_to_raise-before.result in let s1 = c.load_to_raise-before.new.seat in let lost = r.stays.value.lost in
     let test = c.if-before-ceiling.true in let full : before ≡ r.setting.ceiling = omega (arith, test) in
     let m : MakesRaiseStep k (Lost id before) r.seat s1 = is_lost b s1 before r.setting.ceiling refl full c.load_to_raise-before.ensures.lost in
-    let e : s1.me.0.raise_trail ≡ Lost id before ∷ t = ap (λ (m : ThisSeat). m.0.raise_trail) m.1 in
+    let e : s1.me.0.raise_trail ≡ Lost id before ∷ t = ap (λ (m : ThisSeat). m.0.raise_trail) m.1.1 in
     let now = c.deref_mut-then-before-ceiling.ensures.value ∙ ap (λ (p : Stays). record { ids = p.ids; sent = set p.sent x (get_or p.sent x 0 + 1); lost = p.lost }) c.deref_mut.ensures.value in
     let long : x < length lost = search rules in
     record {
-      role = ap (λ (m : ThisSeat). m.0.role) m.1 ∙ r.role;
-      no_slots = ap (λ (m : ThisSeat). m.1) m.1 ∙ r.no_slots;
+      role = ap (λ (m : ThisSeat). m.0.role) m.1.1 ∙ r.role;
+      no_slots = ap (λ (m : ThisSeat). m.1) m.1.1 ∙ r.no_slots;
       free_hand = ap firer_hand_of e ∙ r.free_hand;
       bank_is = (r.bank_is.0 ∙ ap hard_bank_of (sym e), r.bank_is.1, r.bank_is.2);
       next_is = r.next_is ∙ ap (λ (u : List RaiseStep). producer_index r.setting.start u % index_range) (sym e);
@@ -154,3 +154,11 @@ returns-clause-call g c = let r = c.args.raiser.now in let k = c.args.self.now.s
       published = subst (λ (p : Setting × ℕ). MakesRaiseStep p.0 (Published p.1) s3 s4) (λ z. (n.1 z, next_published b z)) c.publish.ensures;
     } in
     raise_call k r.seat s4 (Published w' ∷ Stored (entry id x) ∷ Added id 0 ∷ Loaded id before ∷ []) (Raises id answers.First) (put_in_run p) (before, stay_at r x, w.under, w.low, stay_is b, refl)
+
+pub returns-then-before-ceiling-clause-call : goal.returns-then-before-ceiling-clause-call
+returns-then-before-ceiling-clause-call g c = let r = c.args.raiser.now in let k = c.args.self.now.setting in let x : ℕ = c.args.index in let id : ℕ = c.args.id in
+    let b : Begun r k g.J.Served.setting id g.J.Served.id x = record { own = c.requires.own.1; named = c.requires.named; index = c.requires.index; real = is_real id c.number.result c.number.ensures.value c.number.ensures.valid.0 } in
+    let before : ℕ = c.load_to_raise-before.result in let s1 = c.load_to_raise-before.new.seat in let test = c.if-before-ceiling.true in let full : before ≡ r.setting.ceiling = omega (arith, test) in
+    let top : before ≡ k.ceiling = full ∙ ap (λ (s : Setting). s.ceiling) b.own in
+    let m : MakesRaiseStep k (Lost id k.ceiling) r.seat s1 = subst (λ (n : ℕ). MakesRaiseStep k (Lost id n) r.seat s1) top (is_lost b s1 before r.setting.ceiling refl full c.load_to_raise-before.ensures.lost) in
+    raise_call k r.seat s1 (Lost id k.ceiling ∷ []) (Raises id answers.Lost) (one_raise k (Lost id k.ceiling) r.seat [] r.seat s1 (no_raise k r.seat r.role) m) (subst (λ (n : ℕ). n ≤ seen_pend id r.seat.me.0.raise_trail) top (is_low b before c.load_to_raise-before.ensures.bound.0), refl)
