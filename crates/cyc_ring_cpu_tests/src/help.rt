@@ -16,8 +16,10 @@ use std::test::Fail;
 
 /// An id.
 pub(crate) fn id(number: u64) -> Result<CyclicId, Fail> {
-    let id = CyclicId::new(number).ok_or("an id")?;
-    Ok(id)
+    match CyclicId::new(number) {
+        Some(id) => Ok(id),
+        None => Err(Fail::from("an id")),
+    }
 }
 
 /// A new ring of this ceiling, and its two seats.
@@ -25,7 +27,9 @@ pub(crate) fn open(alloc: Global, ceiling: u32) -> Result<(Ring, RaiseSeat, Drai
     ensures own { IfOk result (λ r. IsRaiseSeatOf r.0 r.1 × IsDrainSeatOf r.0 r.2) }
     ensures empty { IfOk result (λ r. raise_trail r.1 ≡ []) }
 {
-    let ceiling = Ceiling::new(ceiling).ok_or("a ceiling")?;
+    let Some(ceiling) = Ceiling::new(ceiling) else {
+        return Err(Fail::from("a ceiling"));
+    };
     match Ring::open(alloc, ceiling, 0) {
         Ok(opened) => Ok(opened),
         Err(_) => Err(Fail::from("memory")),
@@ -45,7 +49,9 @@ pub(crate) fn raise_end<'a>(ring: &'a Ring, seat: RaiseSeat) -> RaiseEnd<'a>
 pub(crate) fn level(alloc: Global, ceiling: u32) -> Result<LevelCore, Fail>
     ensures { IfOk result (λ core. IsFresh (firing_view (level_of core))) }
 {
-    let ceiling = Ceiling::new(ceiling).ok_or("a ceiling")?;
+    let Some(ceiling) = Ceiling::new(ceiling) else {
+        return Err(Fail::from("a ceiling"));
+    };
     match LevelCore::new(alloc, ceiling) {
         Ok(core) => Ok(core),
         Err(_) => Err(Fail::from("memory")),
@@ -64,10 +70,11 @@ pub(crate) fn cpu<R: Raise + Drop>(alloc: Global, lock: R, low: R) -> Result<Har
     }
 }
 
-/// Adds a cyclic of the low level with this start and interval, at this moment.
-pub(crate) fn add_low<R: Raise>(
+/// Adds a cyclic of this level, start and interval, at this moment.
+pub(crate) fn add<R: Raise>(
     cpu: &mut Hard<R>,
     id: CyclicId,
+    level: Level,
     start: i64,
     interval: i64,
     now: i64,
@@ -79,7 +86,7 @@ pub(crate) fn add_low<R: Raise>(
     let None = cpu.pending(id) else {
         return Err(Fail::from("an id that is not here"));
     };
-    match cpu.add(id, Level::Low, when, now) {
+    match cpu.add(id, level, when, now) {
         Ok(()) => Ok(()),
         Err(refusal) => Err(Fail::from(refusal)),
     }

@@ -1,4 +1,5 @@
-//! Tests of what goes across crates: one CPU over two rings, and a cyclic that moves between CPUs over different ends.
+//! Tests of what goes across crates: one CPU over two rings, its removals, and a cyclic that moves between CPUs over different
+//! ends.
 #![tactic(auto)]
 
 #[cfg(test)]
@@ -7,3 +8,7 @@ mod help;
 mod moving;
 #[cfg(test)]
 mod over_a_ring;
+#[cfg(test)]
+mod removing;
+#[cfg(test)]
+mod rings;

@@ -1,6 +1,6 @@
 ghost use Rattle.std.specs.Prelude.{◌≡◌, ◌-◌, ◌^◌, IfOk, OnOk};
 
-use crate::help::{Counts, add_low, cpu, expect, fire, id, level, open, raise_end, report};
+use crate::help::{Counts, add, cpu, expect, fire, id, level, report};
 use cyc_core::LevelCore;
 use cyc_cpu::{Hard, Taken};
 use cyc_ring::DrainEnd;
@@ -77,7 +77,7 @@ fn there<R: Raise>(
     ensures { OnOk result ((plain.new.most ≡ plain.old.most) × (shared.new.most ≡ shared.old.most)) }
 {
     let a = id(1)?;
-    add_low(plain, a, 1, 1, 0)?;
+    add(plain, a, Level::Low, 1, 1, 0)?;
     expect(rt, fire(plain, tally, 5)?, (5, 3));
     expect(rt, moves(plain, shared, a)?, None);
     let ran = plain.softint(Soft::Low, tally, 8)?;
@@ -109,28 +109,19 @@ fn back<R: Raise>(
     Ok(())
 }
 
-fn there_and_back<R: Raise>(
+/// A cyclic that moves from a CPU over plain levels to this one, and back. The ceiling is 2.
+pub(crate) fn there_and_back<R: Raise>(
     rt: &impl Abort,
-    plain: &mut Hard<LevelCore>,
+    alloc: Global,
     shared: &mut Hard<R>,
     drain: &mut DrainEnd,
     tally: &mut Tally,
 ) -> Result<(), Fail>
-    requires { shared.old.most ≡ plain.old.most }
+    requires { shared.old.most ≡ 2 ^ 64 - 1 }
 {
-    there(rt, plain, shared, tally)?;
-    back(rt, plain, shared, drain, tally)
-}
-
-// The ceiling is 2.
-#[test]
-fn a_cyclic_moves_between_ends_of_two_kinds(rt: HostRuntime) -> Result<(), Fail> {
-    let mut tally = Tally::new(rt.alloc(), id(1)?, 1, u64::MAX)?;
-    let mut plain = plain(rt.alloc(), 2)?;
-    let (lock, lock_seat, _lock_drainer) = open(rt.alloc(), 2)?;
-    let (low, low_seat, low_drainer) = open(rt.alloc(), 2)?;
-    let lock = raise_end(&lock, lock_seat);
-    let mut drain = DrainEnd::new(&low, low_drainer);
-    let mut shared = cpu(rt.alloc(), lock, raise_end(&low, low_seat))?;
-    there_and_back(&rt, &mut plain, &mut shared, &mut drain, &mut tally)
+    let mut plain = plain(alloc, 2)?;
+    match there(rt, &mut plain, shared, tally) {
+        Ok(()) => back(rt, &mut plain, shared, drain, tally),
+        Err(fail) => Err(fail),
+    }
 }

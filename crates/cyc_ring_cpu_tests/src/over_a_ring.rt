@@ -1,23 +1,23 @@
-use crate::help::{Counts, add_low, cpu, expect, fire, id, open, raise_end, report};
+use crate::help::{Counts, add, expect, fire, id, report};
 use cyc_cpu::Hard;
 use cyc_ring::DrainEnd;
 use cyc_soft::Ran;
-use cyc_types::{Raise, Soft, Tally};
+use cyc_types::{Level, Raise, Soft, Tally};
 use ring_soft::softint;
 use std::process::Abort;
 use std::test::Fail;
 
-// The second cyclic makes the CPU grow while the call of the first stands in the buffer of the old bank.
-fn drains_the_old_bank<R: Raise>(
+/// The second cyclic makes the CPU grow while the call of the first stands in the buffer of the old bank.
+pub(crate) fn drains_the_old_bank<R: Raise>(
     rt: &impl Abort,
     cpu: &mut Hard<R>,
     drain: &mut DrainEnd,
     tally: &mut Tally,
 ) -> Result<(), Fail> {
     let (a, b) = (id(1)?, id(2)?);
-    add_low(cpu, a, 1, 10, 0)?;
+    add(cpu, a, Level::Low, 1, 10, 0)?;
     expect(rt, fire(cpu, tally, 1)?, (1, 0));
-    add_low(cpu, b, 2, 10, 1)?;
+    add(cpu, b, Level::Low, 2, 10, 1)?;
     expect(rt, fire(cpu, tally, 2)?, (1, 0));
     let ran = softint(drain, tally, Soft::Low, 1)?;
     let more = Ran {
@@ -40,15 +40,4 @@ fn drains_the_old_bank<R: Raise>(
     expect(rt, report(cpu, tally, a), Some(drained));
     expect(rt, report(cpu, tally, b), Some(waiting));
     Ok(())
-}
-
-#[test]
-fn the_old_bank_is_drained_first(rt: HostRuntime) -> Result<(), Fail> {
-    let mut tally = Tally::new(rt.alloc(), id(1)?, 2, u64::MAX)?;
-    let (lock, lock_seat, _lock_drainer) = open(rt.alloc(), u32::MAX)?;
-    let (low, low_seat, low_drainer) = open(rt.alloc(), u32::MAX)?;
-    let lock = raise_end(&lock, lock_seat);
-    let mut drain = DrainEnd::new(&low, low_drainer);
-    let mut cpu = cpu(rt.alloc(), lock, raise_end(&low, low_seat))?;
-    drains_the_old_bank(&rt, &mut cpu, &mut drain, &mut tally)
 }
