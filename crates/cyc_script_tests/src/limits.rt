@@ -1,16 +1,20 @@
 //! Scripts as great as they may be, and greater ones.
 
-use cyc_script::{Script, read_script};
+use cyc_script::read_script;
 use cyc_types::Refusal;
 use std::alloc::{AllocError, Global};
-use std::test::Fail;
+use std::process::Abort;
 
-// A script of so many equal steps.
-fn read_steps(
-    alloc: Global,
-    count: u32,
-    step: &str,
-) -> Result<Result<Script, Refusal>, AllocError> {
+// What reading these bytes refuses, or how many steps the script has.
+fn read(alloc: Global, bytes: &[u8]) -> Result<usize, Refusal> {
+    match read_script(alloc, bytes) {
+        Ok(script) => Ok(script.steps.len()),
+        Err(refusal) => Err(refusal),
+    }
+}
+
+// The text of a script of so many equal steps.
+fn text_of_steps(alloc: Global, count: u32, step: &str) -> Result<String, AllocError> {
     let mut text = String::from_str(alloc, "{\"cpus\":1,\"steps\":[")?;
     for n in 0..count {
         if n > 0 {
@@ -19,59 +23,59 @@ fn read_steps(
         text.push_str(step)?;
     }
     text.push_str("]}")?;
-    Ok(read_script(alloc, text.as_bytes()))
+    Ok(text)
+}
+
+// Reads a script of so many steps.
+fn read_steps<R: AllocGlobal + Abort>(rt: &R, count: u32) -> Result<usize, Refusal> {
+    let text = text_of_steps(rt.alloc(), count, "[\"advance\",0]").expect(rt, "a text");
+    read(rt.alloc(), text.as_bytes())
 }
 
 #[test]
-fn a_script_has_at_most_65536_steps(rt: HostRuntime) -> Result<(), Fail> {
-    let script = read_steps(rt.alloc(), 65_536, "[\"advance\",0]")??;
-    assert_eq!(rt; script.steps.len(), 65_536);
-    assert!(rt;
-        matches!(
-            read_steps(rt.alloc(), 65_537, "[\"advance\",0]")?,
-            Err(Refusal::ScriptShape(0))
-        )
-    );
-    Ok(())
+fn a_script_has_at_most_65536_steps(rt: HostRuntime) {
+    assert_eq!(rt; read_steps(&rt, 65_536), Ok(65_536));
+    assert_eq!(rt; read_steps(&rt, 65_537), Err(Refusal::ScriptShape(0)));
+}
+
+// Reads so many spaces.
+fn read_spaces<R: AllocGlobal + Abort>(rt: &R, count: usize) -> Result<usize, Refusal> {
+    let spaces = vec![in rt.alloc(); b' '; count].expect(rt, "spaces");
+    read(rt.alloc(), spaces.as_slice())
 }
 
 #[test]
-fn a_script_has_at_most_16777216_bytes(rt: HostRuntime) -> Result<(), Fail> {
-    let most = vec![in rt.alloc(); b' '; 16_777_216]?;
-    assert!(rt;
-        matches!(
-            read_script(rt.alloc(), most.as_slice()),
-            Err(Refusal::ScriptSyntax)
-        )
-    );
-    let more = vec![in rt.alloc(); b' '; 16_777_217]?;
-    assert!(rt;
-        matches!(
-            read_script(rt.alloc(), more.as_slice()),
-            Err(Refusal::ScriptShape(0))
-        )
-    );
-    Ok(())
+fn a_script_has_at_most_16777216_bytes(rt: HostRuntime) {
+    assert_eq!(rt; read_spaces(&rt, 16_777_216), Err(Refusal::ScriptSyntax));
+    assert_eq!(rt; read_spaces(&rt, 16_777_217), Err(Refusal::ScriptShape(0)));
 }
+
+// The text of a script whose only step is so many arrays inside one another.
+fn text_of_arrays(alloc: Global, depth: u32) -> Result<String, AllocError> {
+    let mut text = String::from_str(alloc, "{\"cpus\":1,\"steps\":[")?;
+    for _ in 0..depth {
+        text.push_str("[")?;
+    }
+    for _ in 0..depth {
+        text.push_str("]")?;
+    }
+    text.push_str("]}")?;
+    Ok(text)
+}
+
+/// So many arrays inside one another, each with its refusal.
+const DEPTHS: [(u32, Refusal); 3] = [
+    (125, Refusal::ScriptShape(1)),
+    (126, Refusal::ScriptSyntax),
+    (200, Refusal::ScriptSyntax),
+];
 
 // The JSON reader reads 127 arrays and objects inside one another.
 #[test]
-fn deep_values_are_no_json(rt: HostRuntime) -> Result<(), Fail> {
-    for (depth, refusal) in [
-        (125, Refusal::ScriptShape(1)),
-        (126, Refusal::ScriptSyntax),
-        (200, Refusal::ScriptSyntax),
-    ] {
-        let mut text = String::from_str(rt.alloc(), "{\"cpus\":1,\"steps\":[")?;
-        for _ in 0..depth {
-            text.push_str("[")?;
-        }
-        for _ in 0..depth {
-            text.push_str("]")?;
-        }
-        text.push_str("]}")?;
-        let refused = read_script(rt.alloc(), text.as_bytes()).err();
-        assert_eq!(rt; refused, Some(refusal), "{depth} arrays");
+fn deep_values_are_no_json(rt: HostRuntime) {
+    for &(depth, refusal) in &DEPTHS {
+        let text = text_of_arrays(rt.alloc(), depth).expect(&rt, "a text");
+        let refused = read(rt.alloc(), text.as_bytes());
+        assert_eq!(rt; refused, Err(refusal), "{depth} arrays");
     }
-    Ok(())
 }

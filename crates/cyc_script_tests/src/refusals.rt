@@ -3,27 +3,30 @@
 use cyc_script::read_script;
 use cyc_types::Refusal;
 use cyc_types::Refusal::{NameTwice, NoName, ScriptShape, ScriptSyntax, TimeBack};
-use std::alloc::{AllocError, Global};
-use std::test::Fail;
+use std::alloc::Global;
+use std::process::Abort;
 
 const FIRST: &[u8] =
     b"{\"cpus\":1,\"steps\":[[\"add\",\"a\",\"low\",5,10],[\"advance\",5],[\"softint\",0,\"low\",8]]}";
 
+// What reading these bytes refuses; none where they are a script.
+fn refusal_of(alloc: Global, bytes: &[u8]) -> Option<Refusal> {
+    read_script(alloc, bytes).err()
+}
+
 // What reading these steps on one CPU refuses; none where they are a script.
-fn refusal_of(alloc: Global, steps: &str) -> Result<Option<Refusal>, AllocError> {
-    let text = format!(in alloc; "{{\"cpus\":1,\"steps\":[{steps}]}}")?;
-    Ok(read_script(alloc, text.as_bytes()).err())
+fn refusal_of_steps<R: AllocGlobal + Abort>(rt: &R, steps: &str) -> Option<Refusal> {
+    let text = format!(in rt.alloc(); "{{\"cpus\":1,\"steps\":[{steps}]}}");
+    refusal_of(rt.alloc(), text.expect(rt, "a text").as_bytes())
 }
 
 #[test]
 fn no_proper_prefix_of_a_script_is_json(rt: HostRuntime) {
     for n in 0..FIRST.len() {
-        assert!(rt;
-            matches!(read_script(rt.alloc(), &FIRST[..n]), Err(ScriptSyntax)),
-            "the first {n} bytes"
-        );
+        let refused = refusal_of(rt.alloc(), &FIRST[..n]);
+        assert_eq!(rt; refused, Some(ScriptSyntax), "the first {n} bytes");
     }
-    assert!(rt; read_script(rt.alloc(), FIRST).is_ok());
+    assert_eq!(rt; refusal_of(rt.alloc(), FIRST), None);
 }
 
 #[test]
@@ -34,147 +37,140 @@ fn bytes_that_are_no_json(rt: HostRuntime) {
         b"{\"cpus\":1,\"steps\":[]} x",
         b"{'cpus':1,'steps':[]}",
     ] {
-        assert!(rt;
-            matches!(read_script(rt.alloc(), bytes), Err(ScriptSyntax)),
-            "at {bytes:?}"
-        );
+        let refused = refusal_of(rt.alloc(), bytes);
+        assert_eq!(rt; refused, Some(ScriptSyntax), "at {bytes:?}");
     }
 }
+
+static NO_SCRIPTS: [&str; 15] = [
+    "[]",
+    "{}",
+    "{\"cpus\":1}",
+    "{\"steps\":[]}",
+    "{\"cpus\":0,\"steps\":[]}",
+    "{\"cpus\":2,\"steps\":[]}",
+    "{\"cpus\":16,\"steps\":[]}",
+    "{\"cpus\":17,\"steps\":[]}",
+    "{\"cpus\":1.0,\"steps\":[]}",
+    "{\"cpus\":\"1\",\"steps\":[]}",
+    "{\"cpus\":1,\"steps\":{}}",
+    "{\"cpus\":1,\"ceiling\":0,\"steps\":[]}",
+    "{\"cpus\":1,\"ceiling\":4294967296,\"steps\":[]}",
+    "{\"cpus\":1,\"ceiling\":null,\"steps\":[]}",
+    "{\"cpus\":1,\"steps\":[],\"more\":1}",
+];
 
 #[test]
 fn objects_that_are_no_script(rt: HostRuntime) {
-    for text in [
-        "[]",
-        "{}",
-        "{\"cpus\":1}",
-        "{\"steps\":[]}",
-        "{\"cpus\":0,\"steps\":[]}",
-        "{\"cpus\":2,\"steps\":[]}",
-        "{\"cpus\":16,\"steps\":[]}",
-        "{\"cpus\":17,\"steps\":[]}",
-        "{\"cpus\":1.0,\"steps\":[]}",
-        "{\"cpus\":\"1\",\"steps\":[]}",
-        "{\"cpus\":1,\"steps\":{}}",
-        "{\"cpus\":1,\"ceiling\":0,\"steps\":[]}",
-        "{\"cpus\":1,\"ceiling\":4294967296,\"steps\":[]}",
-        "{\"cpus\":1,\"ceiling\":null,\"steps\":[]}",
-        "{\"cpus\":1,\"steps\":[],\"more\":1}",
-    ] {
-        assert!(rt;
-            matches!(
-                read_script(rt.alloc(), text.as_bytes()),
-                Err(ScriptShape(0))
-            ),
-            "at {text}"
-        );
+    for text in &NO_SCRIPTS {
+        let refused = refusal_of(rt.alloc(), text.as_bytes());
+        assert_eq!(rt; refused, Some(ScriptShape(0)), "at {text}");
     }
 }
 
-#[test]
-fn steps_that_have_not_the_form_of_a_step(rt: HostRuntime) -> Result<(), Fail> {
-    for step in [
-        "7",
-        "[]",
-        "[7]",
-        "[\"\"]",
-        "[\"Add\",\"a\",\"low\",1,1]",
-        "[\"add\",\"a\",\"low\",1]",
-        "[\"add\",\"a\",\"low\",1,1,1]",
-        "[\"add\",\"a\",\"low\",9223372036854775808,1]",
-        "[\"add\",\"a\",\"low\",1.0,1]",
-        "[\"add\",\"a\",\"low\",-0,1]",
-        "[\"add\",\"a\",\"Low\",1,1]",
-        "[\"add\",\"a\",0,1,1]",
-        "[\"add\",7,\"low\",1,1]",
-        "[\"add\",\"\",\"low\",1,1]",
-        "[\"add\",\"a b\",\"low\",1,1]",
-        "[\"add\",\"\u{e9}\",\"low\",1,1]",
-        "[\"add\",\"abcdefghijklmnopqrstuvwxyzABCDEFG\",\"low\",1,1]",
-        "[\"advance\"]",
-        "[\"advance\",-1]",
-        "[\"advance\",9223372036854775807]",
-        "[\"softint\",-1,\"low\",8]",
-        "[\"softint\",4294967296,\"low\",8]",
-        "[\"softint\",0,\"low\",4294967296]",
-        "[\"softint\",0,\"high\",8]",
-    ] {
-        assert_eq!(rt;
-            refusal_of(rt.alloc(), step)?,
-            Some(ScriptShape(1)),
-            "at {step}"
-        );
-    }
-    Ok(())
-}
+static NO_STEPS: [&str; 24] = [
+    "7",
+    "[]",
+    "[7]",
+    "[\"\"]",
+    "[\"Add\",\"a\",\"low\",1,1]",
+    "[\"add\",\"a\",\"low\",1]",
+    "[\"add\",\"a\",\"low\",1,1,1]",
+    "[\"add\",\"a\",\"low\",9223372036854775808,1]",
+    "[\"add\",\"a\",\"low\",1.0,1]",
+    "[\"add\",\"a\",\"low\",-0,1]",
+    "[\"add\",\"a\",\"Low\",1,1]",
+    "[\"add\",\"a\",0,1,1]",
+    "[\"add\",7,\"low\",1,1]",
+    "[\"add\",\"\",\"low\",1,1]",
+    "[\"add\",\"a b\",\"low\",1,1]",
+    "[\"add\",\"\u{e9}\",\"low\",1,1]",
+    "[\"add\",\"abcdefghijklmnopqrstuvwxyzABCDEFG\",\"low\",1,1]",
+    "[\"advance\"]",
+    "[\"advance\",-1]",
+    "[\"advance\",9223372036854775807]",
+    "[\"softint\",-1,\"low\",8]",
+    "[\"softint\",4294967296,\"low\",8]",
+    "[\"softint\",0,\"low\",4294967296]",
+    "[\"softint\",0,\"high\",8]",
+];
 
 #[test]
-fn what_the_program_runs_later_has_not_the_form_of_a_step(rt: HostRuntime) -> Result<(), Fail> {
-    for step in [
-        "[\"omni\",\"a\",\"low\",1,1,0]",
-        "[\"bind\",\"a\",0]",
-        "[\"unbind\",\"a\"]",
-        "[\"reprogram\",\"a\",1,0]",
-        "[\"juggle\",0]",
-        "[\"offline\",0]",
-        "[\"online\",0]",
-    ] {
-        assert_eq!(rt;
-            refusal_of(rt.alloc(), step)?,
-            Some(ScriptShape(1)),
-            "at {step}"
-        );
+fn steps_that_have_not_the_form_of_a_step(rt: HostRuntime) {
+    for step in &NO_STEPS {
+        let refused = refusal_of_steps(&rt, step);
+        assert_eq!(rt; refused, Some(ScriptShape(1)), "at {step}");
     }
-    Ok(())
 }
 
+static LATER_STEPS: [&str; 7] = [
+    "[\"omni\",\"a\",\"low\",1,1,0]",
+    "[\"bind\",\"a\",0]",
+    "[\"unbind\",\"a\"]",
+    "[\"reprogram\",\"a\",1,0]",
+    "[\"juggle\",0]",
+    "[\"offline\",0]",
+    "[\"online\",0]",
+];
+
 #[test]
-fn the_first_faulty_step_decides_and_its_form_before_its_name(rt: HostRuntime) -> Result<(), Fail> {
-    for (steps, refusal) in [
-        ("[\"advance\",5],[\"advance\",4]", Some(TimeBack(2))),
-        ("[\"advance\",5],[\"advance\",5]", None),
-        (
-            "[\"add\",\"a\",\"lock\",1,1],[\"softint\",0,\"lock\",8],[\"reprogram\",\"a\",-1]",
-            None,
-        ),
-        ("[\"reprogram\",\"a\",1]", Some(NoName(1))),
-        ("[\"remove\",\"a\"]", Some(NoName(1))),
-        ("[\"add\",\"a\",\"low\",1,1],[\"remove\",\"a\"]", None),
-        (
-            "[\"add\",\"a\",\"low\",1,1],[\"remove\",\"a\",0]",
-            Some(ScriptShape(2)),
-        ),
-        ("[\"advance\",5],[],[\"advance\",4]", Some(ScriptShape(2))),
-        ("[\"advance\",5],[\"advance\",4],[]", Some(TimeBack(2))),
-        (
-            "[\"add\",\"a\",\"low\",1,1],[\"add\",\"a\",\"low\",2,2]",
-            Some(NameTwice(2)),
-        ),
-        (
-            "[\"add\",\"a\",\"low\",1,1],[\"add\",\"\\u0061\",\"low\",2,2]",
-            Some(NameTwice(2)),
-        ),
-        (
-            "[\"add\",\"a\",\"low\",1,1],[\"add\",\"A\",\"low\",2,2]",
-            None,
-        ),
-        (
-            "[\"add\",\"a\",\"low\",0,0],[\"advance\",1],[\"add\",\"a\",\"low\",2,2]",
-            Some(NameTwice(3)),
-        ),
-        (
-            "[\"add\",\"a\",\"low\",1,1],[\"add\",\"a\",\"low\",1]",
-            Some(ScriptShape(2)),
-        ),
-        (
-            "[\"add\",\"a\",\"low\",1,1],[\"add\",\"a\",\"high\",1,1]",
-            Some(NameTwice(2)),
-        ),
-        (
-            "[\"add\",\"abcdefghijklmnopqrstuvwxyzAZ09_-\",\"low\",1,1]",
-            None,
-        ),
-    ] {
-        assert_eq!(rt; refusal_of(rt.alloc(), steps)?, refusal, "at {steps}");
+fn what_the_program_runs_later_has_not_the_form_of_a_step(rt: HostRuntime) {
+    for step in &LATER_STEPS {
+        let refused = refusal_of_steps(&rt, step);
+        assert_eq!(rt; refused, Some(ScriptShape(1)), "at {step}");
     }
-    Ok(())
+}
+
+/// The steps of a script, each list with its refusal.
+const FAULTY_STEPS: [(&str, Option<Refusal>); 16] = [
+    ("[\"advance\",5],[\"advance\",4]", Some(TimeBack(2))),
+    ("[\"advance\",5],[\"advance\",5]", None),
+    (
+        "[\"add\",\"a\",\"lock\",1,1],[\"softint\",0,\"lock\",8],[\"reprogram\",\"a\",-1]",
+        None,
+    ),
+    ("[\"reprogram\",\"a\",1]", Some(NoName(1))),
+    ("[\"remove\",\"a\"]", Some(NoName(1))),
+    ("[\"add\",\"a\",\"low\",1,1],[\"remove\",\"a\"]", None),
+    (
+        "[\"add\",\"a\",\"low\",1,1],[\"remove\",\"a\",0]",
+        Some(ScriptShape(2)),
+    ),
+    ("[\"advance\",5],[],[\"advance\",4]", Some(ScriptShape(2))),
+    ("[\"advance\",5],[\"advance\",4],[]", Some(TimeBack(2))),
+    (
+        "[\"add\",\"a\",\"low\",1,1],[\"add\",\"a\",\"low\",2,2]",
+        Some(NameTwice(2)),
+    ),
+    (
+        "[\"add\",\"a\",\"low\",1,1],[\"add\",\"\\u0061\",\"low\",2,2]",
+        Some(NameTwice(2)),
+    ),
+    (
+        "[\"add\",\"a\",\"low\",1,1],[\"add\",\"A\",\"low\",2,2]",
+        None,
+    ),
+    (
+        "[\"add\",\"a\",\"low\",0,0],[\"advance\",1],[\"add\",\"a\",\"low\",2,2]",
+        Some(NameTwice(3)),
+    ),
+    (
+        "[\"add\",\"a\",\"low\",1,1],[\"add\",\"a\",\"low\",1]",
+        Some(ScriptShape(2)),
+    ),
+    (
+        "[\"add\",\"a\",\"low\",1,1],[\"add\",\"a\",\"high\",1,1]",
+        Some(NameTwice(2)),
+    ),
+    (
+        "[\"add\",\"abcdefghijklmnopqrstuvwxyzAZ09_-\",\"low\",1,1]",
+        None,
+    ),
+];
+
+#[test]
+fn the_first_faulty_step_decides_and_its_form_before_its_name(rt: HostRuntime) {
+    for (steps, refusal) in &FAULTY_STEPS {
+        assert_eq!(rt; refusal_of_steps(&rt, steps), *refusal, "at {steps}");
+    }
 }
