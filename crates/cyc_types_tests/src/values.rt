@@ -1,30 +1,53 @@
 use cyc_types::{CYCLICS, Ceiling, CyclicId, GREATEST_BANK, Index, LAST_ID, Level, Soft};
-use std::test::Fail;
+
+fn id_of(number: u64) -> Option<u64> {
+    let id = CyclicId::new(number)?;
+    Some(id.number())
+}
+
+fn id_after(number: u64) -> Option<u64> {
+    let id = CyclicId::new(number)?;
+    let following = id.following()?;
+    Some(following.number())
+}
+
+fn index_of(number: u16) -> Option<u16> {
+    let index = Index::new(number)?;
+    Some(index.number())
+}
+
+fn ceiling_of(calls: u32) -> Option<u32> {
+    let ceiling = Ceiling::new(calls)?;
+    Some(ceiling.calls())
+}
+
+const LAST: u64 = 72_057_594_037_927_935;
+
+/// Numbers, each with the id that it gives and the one after it.
+static IDS: [(u64, Option<u64>, Option<u64>); 4] = [
+    (0, None, None),
+    (1, Some(1), Some(2)),
+    (LAST, Some(LAST), None),
+    (LAST + 1, None, None),
+];
 
 #[test]
-fn ids_go_from_one_to_the_last(rt: HostRuntime) -> Result<(), Fail> {
-    let first = CyclicId::new(1).ok_or("an id")?;
-    let second = first.following().ok_or("an id")?;
-    let last = CyclicId::new(72_057_594_037_927_935).ok_or("an id")?;
-    assert_eq!(rt; second.number(), 2);
-    assert_eq!(rt; CyclicId::new(0), None);
-    assert_eq!(rt; CyclicId::new(72_057_594_037_927_936), None);
-    assert_eq!(rt; last, CyclicId::LAST);
-    assert_eq!(rt; LAST_ID, CyclicId::LAST.number());
-    assert_eq!(rt; last.following(), None);
-    Ok(())
+fn ids_go_from_one_to_the_last(rt: HostRuntime) {
+    for &(number, id, following) in &IDS {
+        assert_eq!(rt; id_of(number), id, "{number}");
+        assert_eq!(rt; id_after(number), following, "{number}");
+    }
+    assert_eq!(rt; (LAST_ID, CyclicId::LAST.number()), (LAST, LAST));
 }
 
 #[test]
-fn indexes_and_ceilings_have_their_ranges(rt: HostRuntime) -> Result<(), Fail> {
-    let index = Index::new(255).ok_or("an index")?;
-    let ceiling = Ceiling::new(u32::MAX).ok_or("a ceiling")?;
-    assert_eq!(rt; index.number(), 255);
-    assert_eq!(rt; Index::new(256), None);
+fn indexes_and_ceilings_have_their_ranges(rt: HostRuntime) {
+    assert_eq!(rt; (index_of(255), index_of(256)), (Some(255), None));
+    assert_eq!(rt;
+        (ceiling_of(u32::MAX), ceiling_of(0)),
+        (Some(4_294_967_295), None)
+    );
     assert_eq!(rt; CYCLICS, 1 << GREATEST_BANK);
-    assert_eq!(rt; ceiling.calls(), 4_294_967_295);
-    assert_eq!(rt; Ceiling::new(0), None);
-    Ok(())
 }
 
 #[test]
