@@ -1,3 +1,4 @@
+pub mod Fits
 pub mod Lists
 pub mod Numbers
 pub mod Steps

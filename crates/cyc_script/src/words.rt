@@ -16,8 +16,7 @@ use std::alloc::Global;
 #[tactic(auto, unfolding(crate::specs::Words::add_of))]
 fn add<'a>(alloc: Global, context: &mut Context<'a>, parts: &'a [Value]) -> Result<Step, Cause>
     requires { length context.old.names < 2 ^ 32 }
-    ensures reads { Reads result context.old context.new (add_of (map view parts.now)) }
-    ensures fits { IfOk result (λ step. Fits context.old step context.new) }
+    ensures { Reads result context.old context.new (add_of (map view parts.now)) }
 {
     let [name, level, start, interval] = parts else {
         return Err(Cause::Shape);
@@ -38,8 +37,7 @@ fn add<'a>(alloc: Global, context: &mut Context<'a>, parts: &'a [Value]) -> Resu
 #[tactic(auto, unfolding(crate::specs::Words::omni_of))]
 fn omni<'a>(alloc: Global, context: &mut Context<'a>, parts: &'a [Value]) -> Result<Step, Cause>
     requires { length context.old.names < 2 ^ 32 }
-    ensures reads { Reads result context.old context.new (omni_of (map view parts.now)) }
-    ensures fits { IfOk result (λ step. Fits context.old step context.new) }
+    ensures { Reads result context.old context.new (omni_of (map view parts.now)) }
 {
     let [name, level, start, interval, skew] = parts else {
         return Err(Cause::Shape);
@@ -61,8 +59,7 @@ fn omni<'a>(alloc: Global, context: &mut Context<'a>, parts: &'a [Value]) -> Res
 
 #[tactic(auto, unfolding(crate::specs::Words::bind_of))]
 fn bind(context: &Context<'_>, parts: &[Value]) -> Result<Step, Cause>
-    ensures reads { Reads result context.now context.now (bind_of (map view parts.now)) }
-    ensures fits { IfOk result (λ step. Fits context.now step context.now) }
+    ensures { Reads result context.now context.now (bind_of (map view parts.now)) }
 {
     let [name, cpu] = parts else {
         return Err(Cause::Shape);
@@ -75,8 +72,7 @@ fn bind(context: &Context<'_>, parts: &[Value]) -> Result<Step, Cause>
 
 #[tactic(auto, unfolding(crate::specs::Words::unbind_of))]
 fn unbind(context: &Context<'_>, parts: &[Value]) -> Result<Step, Cause>
-    ensures reads { Reads result context.now context.now (unbind_of (map view parts.now)) }
-    ensures fits { IfOk result (λ step. Fits context.now step context.now) }
+    ensures { Reads result context.now context.now (unbind_of (map view parts.now)) }
 {
     let [name] = parts else {
         return Err(Cause::Shape);
@@ -87,8 +83,7 @@ fn unbind(context: &Context<'_>, parts: &[Value]) -> Result<Step, Cause>
 
 #[tactic(auto, unfolding(crate::specs::Words::reprogram_of))]
 fn reprogram(context: &Context<'_>, parts: &[Value]) -> Result<Step, Cause>
-    ensures reads { Reads result context.now context.now (reprogram_of (map view parts.now)) }
-    ensures fits { IfOk result (λ step. Fits context.now step context.now) }
+    ensures { Reads result context.now context.now (reprogram_of (map view parts.now)) }
 {
     let (name, moment, cpu) = match parts {
         [name, moment] => (name, moment, None),
@@ -107,8 +102,7 @@ fn reprogram(context: &Context<'_>, parts: &[Value]) -> Result<Step, Cause>
 
 #[tactic(auto, unfolding(crate::specs::Words::remove_of))]
 fn remove(context: &Context<'_>, parts: &[Value]) -> Result<Step, Cause>
-    ensures reads { Reads result context.now context.now (remove_of (map view parts.now)) }
-    ensures fits { IfOk result (λ step. Fits context.now step context.now) }
+    ensures { Reads result context.now context.now (remove_of (map view parts.now)) }
 {
     let [name] = parts else {
         return Err(Cause::Shape);
@@ -119,8 +113,7 @@ fn remove(context: &Context<'_>, parts: &[Value]) -> Result<Step, Cause>
 
 #[tactic(auto, unfolding(crate::specs::Words::advance_of))]
 fn advance(context: &mut Context<'_>, parts: &[Value]) -> Result<Step, Cause>
-    ensures reads { Reads result context.old context.new (advance_of (map view parts.now)) }
-    ensures fits { IfOk result (λ step. Fits context.old step context.new) }
+    ensures { Reads result context.old context.new (advance_of (map view parts.now)) }
 {
     let [moment] = parts else {
         return Err(Cause::Shape);
@@ -135,8 +128,7 @@ fn advance(context: &mut Context<'_>, parts: &[Value]) -> Result<Step, Cause>
 
 #[tactic(auto, unfolding(crate::specs::Words::softint_of))]
 fn softint(context: &Context<'_>, parts: &[Value]) -> Result<Step, Cause>
-    ensures reads { Reads result context.now context.now (softint_of (map view parts.now)) }
-    ensures fits { IfOk result (λ step. Fits context.now step context.now) }
+    ensures { Reads result context.now context.now (softint_of (map view parts.now)) }
 {
     let [cpu, level, budget] = parts else {
         return Err(Cause::Shape);
@@ -166,8 +158,7 @@ fn step_of_word<'a>(
     parts: &'a [Value],
 ) -> Result<Step, Cause>
     requires { length context.old.names < 2 ^ 32 }
-    ensures reads { Reads result context.old context.new (form_of word.now (map view parts.now)) }
-    ensures fits { IfOk result (λ step. Fits context.old step context.new) }
+    ensures { Reads result context.old context.new (form_of word.now (map view parts.now)) }
 {
     match word {
         "add" => add(alloc, context, parts),
@@ -193,8 +184,7 @@ fn step_so_far<'a>(
     parts: &'a [Value],
 ) -> Result<Step, Cause>
     requires { length context.old.names < 2 ^ 32 }
-    ensures reads { Reads result context.old context.new (form_so_far word.now (map view parts.now)) }
-    ensures fits { IfOk result (λ step. Fits context.old step context.new) }
+    ensures { Reads result context.old context.new (form_so_far word.now (map view parts.now)) }
 {
     if !so_far::runs_word(word, parts.len()) {
         return Err(Cause::Shape);
@@ -209,8 +199,7 @@ fn step_of_items<'a>(
     parts: &'a [Value],
 ) -> Result<Step, Cause>
     requires { length context.old.names < 2 ^ 32 }
-    ensures reads { Reads result context.old context.new (form_of_items (map view parts.now)) }
-    ensures fits { IfOk result (λ step. Fits context.old step context.new) }
+    ensures { Reads result context.old context.new (form_of_items (map view parts.now)) }
 {
     let [first, rest @ ..] = parts else {
         return Err(Cause::Shape);
