@@ -26,61 +26,61 @@ pub(crate) enum Call {
 /// The first call, counted from 0, that was not allowed or had another answer.
 pub(crate) type Differs = Option<usize>;
 
-fn id_of(number: u64) -> Result<CyclicId, NotAllowed> {
-    CyclicId::new(number).ok_or(NotAllowed)
-}
-
-fn index_of(number: u16) -> Result<Index, NotAllowed> {
-    Index::new(number).ok_or(NotAllowed)
-}
-
-// A call that asks for the counts of an id; whether it had its answer.
-fn asks(firer: &mut Firer, call: Call) -> Result<bool, NotAllowed>
+// A call about one cyclic; whether it had its answer.
+fn asks(firer: &mut Firer, id: CyclicId, call: Call) -> bool
     ensures { firer.new.ring.now ≡ firer.old.ring.now }
 {
     match call {
-        Call::Load(id, want) => Ok(firer.load_pend(id_of(id)?)? == want),
-        Call::Counts(id, want) => Ok(firer.sent(id_of(id)?)? == want),
-        _ => Err(NotAllowed),
+        Call::Admit(_, index) => match Index::new(index) {
+            Some(index) => firer.admit(id, index) == Ok(()),
+            None => false,
+        },
+        Call::Load(_, want) => firer.load_pend(id) == Ok(want),
+        Call::Raise(_, want) => firer.raise(id) == Ok(want),
+        Call::Mark(_, want) => firer.mark(id) == Ok(want),
+        Call::PollClear(_, want) => firer.poll_clear(id) == Ok(want),
+        Call::Counts(_, want) => firer.sent(id) == Ok(want),
+        _ => false,
     }
 }
 
-// A call of the firing side; whether it had its answer.
-fn fires(firer: &mut Firer, call: Call) -> Result<bool, NotAllowed>
-    ensures { firer.new.ring.now ≡ firer.old.ring.now }
-{
+// The cyclic that a call is about.
+fn cyclic_of(call: Call) -> Option<CyclicId> {
     match call {
-        Call::Admit(id, index) => {
-            firer.admit(id_of(id)?, index_of(index)?)?;
-            Ok(true)
-        }
-        Call::Raise(id, want) => Ok(firer.raise(id_of(id)?)? == want),
-        Call::Mark(id, want) => Ok(firer.mark(id_of(id)?)? == want),
-        Call::PollClear(id, want) => Ok(firer.poll_clear(id_of(id)?)? == want),
-        Call::Expand(bank) => {
-            firer.expand(bank)?;
-            Ok(true)
-        }
-        Call::Followed(want) => Ok(firer.followed() == want),
-        _ => asks(firer, call),
+        Call::Admit(id, _)
+        | Call::Load(id, _)
+        | Call::Raise(id, _)
+        | Call::Mark(id, _)
+        | Call::PollClear(id, _)
+        | Call::Counts(id, _) => CyclicId::new(id),
+        Call::Expand(_) | Call::Followed(_) | Call::Take(_) | Call::Finish(_) => None,
+    }
+}
+
+// The number of the cyclic that was taken.
+fn taken(drainer: &mut Drainer) -> Result<Option<u64>, NotAllowed>
+    ensures { drainer.new.ring.now ≡ drainer.old.ring.now }
+{
+    match drainer.take()? {
+        Some(id) => Ok(Some(id.number())),
+        None => Ok(None),
     }
 }
 
 // A call of either side; whether it had its answer.
-fn has_answer(firer: &mut Firer, drainer: &mut Drainer, call: Call) -> Result<bool, NotAllowed>
+fn has_answer(firer: &mut Firer, drainer: &mut Drainer, call: Call) -> bool
     ensures firer { firer.new.ring.now ≡ firer.old.ring.now }
     ensures drainer { drainer.new.ring.now ≡ drainer.old.ring.now }
 {
     match call {
-        Call::Take(want) => {
-            let taken = match drainer.take()? {
-                Some(id) => Some(id.number()),
-                None => None,
-            };
-            Ok(taken == want)
-        }
-        Call::Finish(want) => Ok(drainer.finish()? == want),
-        _ => fires(firer, call),
+        Call::Expand(bank) => firer.expand(bank) == Ok(()),
+        Call::Followed(want) => firer.followed() == want,
+        Call::Take(want) => taken(drainer) == Ok(want),
+        Call::Finish(want) => drainer.finish() == Ok(want),
+        _ => match cyclic_of(call) {
+            Some(id) => asks(firer, id, call),
+            None => false,
+        },
     }
 }
 
@@ -90,9 +90,8 @@ fn makes(firer: &mut Firer, drainer: &mut Drainer, calls: &[Call]) -> Differs
     ensures drainer { drainer.new.ring.now ≡ drainer.old.ring.now }
 {
     for (i, call) in calls.iter().enumerate() {
-        match has_answer(firer, drainer, *call) {
-            Ok(true) => {}
-            Ok(false) | Err(NotAllowed) => return Some(i),
+        if !has_answer(firer, drainer, *call) {
+            return Some(i);
         }
     }
     None
