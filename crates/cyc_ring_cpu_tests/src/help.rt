@@ -7,8 +7,10 @@ ghost use Rattle.cyc_cpu.specs.Cpu.{IsFresh};
 
 use cyc_core::LevelCore;
 use cyc_cpu::{Fired, Hard};
-use cyc_ring::{DrainSeat, RaiseEnd, RaiseSeat, Ring};
-use cyc_types::{Ceiling, CyclicId, Level, Moment, Raise, Tally, When};
+use cyc_ring::{DrainEnd, DrainSeat, RaiseEnd, RaiseSeat, Ring};
+use cyc_soft::Ran;
+use cyc_types::{Ceiling, CyclicId, Level, Moment, Raise, Soft, Tally, When};
+use ring_soft::softint;
 use std::alloc::Global;
 use std::fmt::Debug;
 use std::process::Abort;
@@ -136,6 +138,20 @@ pub(crate) fn report<R: Raise>(cpu: &mut Hard<R>, tally: &Tally, id: CyclicId) -
             pending: totals.pending,
         }),
         None => None,
+    }
+}
+
+/// A soft interrupt over a ring: its calls, and whether it is idle.
+// It has no contract, and so the proofs of the tests that call it are short.
+pub(crate) fn interrupts(
+    drain: &mut DrainEnd,
+    tally: &mut Tally,
+    level: Soft,
+    budget: u32,
+) -> Result<(u32, bool), Fail> {
+    match softint(drain, tally, level, budget) {
+        Ok(Ran { calls, idle }) => Ok((calls, idle)),
+        Err(refused) => Err(Fail::from(refused)),
     }
 }
 

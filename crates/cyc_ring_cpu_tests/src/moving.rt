@@ -1,12 +1,10 @@
 ghost use Rattle.std.specs.Prelude.{◌≡◌, ◌-◌, ◌^◌, IfOk, OnOk};
 
-use crate::help::{Counts, add, cpu, expect, fire, id, level, report};
+use crate::help::{Counts, add, cpu, expect, fire, id, interrupts, level, report};
 use cyc_core::LevelCore;
 use cyc_cpu::{Hard, Taken};
 use cyc_ring::DrainEnd;
-use cyc_soft::Ran;
 use cyc_types::{CyclicId, Interval, Level, Moment, Raise, Refusal, Sent, Soft, Tally};
-use ring_soft::softint;
 use std::alloc::Global;
 use std::process::Abort;
 use std::test::Fail;
@@ -40,10 +38,6 @@ fn plain(alloc: Global, ceiling: u32) -> Result<Hard<LevelCore>, Fail>
     ensures { IfOk result (λ cpu. cpu.most ≡ 2 ^ 64 - 1) }
 {
     cpu(alloc, level(alloc, ceiling)?, level(alloc, ceiling)?)
-}
-
-fn idle_after(calls: u32) -> Ran {
-    Ran { calls, idle: true }
 }
 
 /// A low cyclic of interval 1 that lost three of these expirations, with its next one.
@@ -81,7 +75,7 @@ fn there<R: Raise>(
     expect(rt, fire(plain, tally, 5)?, (5, 3));
     expect(rt, moves(plain, shared, a)?, None);
     let ran = plain.softint(Soft::Low, tally, 8)?;
-    expect(rt, ran, idle_after(2));
+    expect(rt, (ran.calls, ran.idle), (2, true));
     expect(rt, moves(plain, shared, a)?, Some(taken(6, 5)?));
     expect(rt, report(plain, tally, a), None);
     expect(rt, report(shared, tally, a), Some(drained(5, 2)));
@@ -101,8 +95,7 @@ fn back<R: Raise>(
     let a = id(1)?;
     expect(rt, fire(shared, tally, 6)?, (1, 0));
     expect(rt, moves(shared, plain, a)?, None);
-    let ran = softint(drain, tally, Soft::Low, 8)?;
-    expect(rt, ran, idle_after(1));
+    expect(rt, interrupts(drain, tally, Soft::Low, 8)?, (1, true));
     expect(rt, moves(shared, plain, a)?, Some(taken(7, 6)?));
     expect(rt, report(shared, tally, a), None);
     expect(rt, report(plain, tally, a), Some(drained(6, 3)));

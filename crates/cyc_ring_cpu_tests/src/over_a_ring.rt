@@ -1,9 +1,7 @@
-use crate::help::{Counts, add, expect, fire, id, report};
+use crate::help::{Counts, add, expect, fire, id, interrupts, report};
 use cyc_cpu::Hard;
 use cyc_ring::DrainEnd;
-use cyc_soft::Ran;
 use cyc_types::{Level, Raise, Soft, Tally};
-use ring_soft::softint;
 use std::process::Abort;
 use std::test::Fail;
 
@@ -19,12 +17,7 @@ pub(crate) fn drains_the_old_bank<R: Raise>(
     expect(rt, fire(cpu, tally, 1)?, (1, 0));
     add(cpu, b, Level::Low, 2, 10, 1)?;
     expect(rt, fire(cpu, tally, 2)?, (1, 0));
-    let ran = softint(drain, tally, Soft::Low, 1)?;
-    let more = Ran {
-        calls: 1,
-        idle: false,
-    };
-    expect(rt, ran, more);
+    expect(rt, interrupts(drain, tally, Soft::Low, 1)?, (1, false));
     let drained = Counts {
         expired: 1,
         called: 1,

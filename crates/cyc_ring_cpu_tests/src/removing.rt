@@ -1,9 +1,8 @@
 //! Removals of cyclics whose calls stand in rings, and what settles such a CPU.
-use crate::help::{Counts, add, expect, fire, id, report};
+use crate::help::{Counts, add, expect, fire, id, interrupts, report};
 use cyc_cpu::{Hard, Removal};
 use cyc_ring::DrainEnd;
 use cyc_types::{CyclicId, Level, Raise, Receipt, Soft, Tally};
-use ring_soft::softint;
 use std::process::Abort;
 use std::test::Fail;
 
@@ -31,6 +30,11 @@ fn begun<R: Raise>(cpu: &mut Hard<R>, id: CyclicId) -> Answer {
     }
 }
 
+// It has no contract, and so the proofs of the tests that call it are short.
+fn settled<R: Raise>(cpu: &mut Hard<R>) -> bool {
+    cpu.settled()
+}
+
 fn polled<R: Raise>(cpu: &mut Hard<R>) -> Answer {
     match cpu.poll_remove() {
         Some(receipt) => gone(receipt),
@@ -48,19 +52,17 @@ pub(crate) fn keeps_its_calls<R: Raise>(
 ) -> Result<(), Fail> {
     let a = id(1)?;
     add(cpu, a, Level::Low, 1, 1, 0)?;
-    expect(rt, cpu.settled(), true);
+    expect(rt, settled(cpu), true);
     expect(rt, fire(cpu, tally, 3)?, (3, 1));
-    expect(rt, cpu.settled(), false);
+    expect(rt, settled(cpu), false);
     expect(rt, begun(cpu, a), Answer::Kept(2));
     expect(rt, fire(cpu, tally, 9)?, (0, 0));
-    let ran = softint(drain, tally, Soft::Low, 1)?;
-    expect(rt, (ran.calls, ran.idle), (1, false));
+    expect(rt, interrupts(drain, tally, Soft::Low, 1)?, (1, false));
     expect(rt, polled(cpu), Answer::Nothing);
-    let ran = softint(drain, tally, Soft::Low, 8)?;
-    expect(rt, (ran.calls, ran.idle), (1, true));
-    expect(rt, cpu.settled(), false);
+    expect(rt, interrupts(drain, tally, Soft::Low, 8)?, (1, true));
+    expect(rt, settled(cpu), false);
     expect(rt, polled(cpu), Answer::Gone(3, 2));
-    expect(rt, cpu.settled(), true);
+    expect(rt, settled(cpu), true);
     Ok(())
 }
 
@@ -77,12 +79,10 @@ pub(crate) fn drains_both<R: Raise>(
     add(cpu, a, Level::Lock, 1, 1, 0)?;
     expect(rt, fire(cpu, tally, 2)?, (2, 0));
     add(cpu, b, Level::Low, 9, 1, 2)?;
-    let ran = softint(low, tally, Soft::Low, 8)?;
-    expect(rt, (ran.calls, ran.idle), (0, true));
-    expect(rt, cpu.settled(), false);
-    let ran = softint(lock, tally, Soft::Lock, 8)?;
-    expect(rt, (ran.calls, ran.idle), (2, true));
-    expect(rt, cpu.settled(), true);
+    expect(rt, interrupts(low, tally, Soft::Low, 8)?, (0, true));
+    expect(rt, settled(cpu), false);
+    expect(rt, interrupts(lock, tally, Soft::Lock, 8)?, (2, true));
+    expect(rt, settled(cpu), true);
     let drained = Counts {
         expired: 2,
         called: 2,
