@@ -9,7 +9,8 @@ use Rattle.cyc_cpu.specs.Ends.{IsEnd, IsCounted, IsHard}
 use Rattle.cyc_types.specs.Firing.{FiringView, FiringCall}
 use Rattle.cyc_types.specs.declared.level.Level.{Level}
 use Rattle.cyc_types.specs.declared.level.Level.TheVariants.{Low, Lock, High}
-use Rattle.cyc_cpu.specs.Cpu.{CpuView, IsCyclic, HasNoCyclic, Asks, Looked, AreAdmitted, IsRemoved, HasRisingIds}
+use Rattle.cyc_cpu.specs.Calls.{CpuCall, Changes}
+use Rattle.cyc_cpu.specs.Cpu.{CpuView, IsCyclic, HasNoCyclic, Asks, Looked, AreAdmitted, HasCounts, IsRemoved, HasRisingIds}
 
 pub is_cyclic : (rows : List Row) (k : ℕ) (r : Row) → IsRow rows k r → IsCyclic (cyclics_of rows) k (cyclic_of r)
 is_cyclic rows k r is = ((let l = length-map rows cyclic_of in let a = is.0 in omega (arith, l, a)), get_or-map cyclic_of rows k r (cyclic_of r) is.0 ∙ ap cyclic_of is.1)
@@ -18,7 +19,7 @@ pub no_cyclic : (id : ℕ) (rows : List Row) → HasNo id rows → HasNoCyclic i
 no_cyclic id rows none k d low same =
     let l = length-map rows cyclic_of in
     let low' : k < length rows = omega (arith, l, low) in
-    let e : Row = record { timer = d.timer; lost = d.lost; index = 0 } in
+    let e : Row = record { timer = d.timer; lost = d.lost; carried = d.carried; index = 0 } in
     none k e low' (ap (λ (c : Cyclic). c.timer.id) (sym (get_or-map cyclic_of rows k e d low')) ∙ same)
 
 pub cyclics_set : (rows : List Row) (i : ℕ) (u : Row) → cyclics_of (set rows i u) ≡ set (cyclics_of rows) i (cyclic_of u)
@@ -26,6 +27,10 @@ cyclics_set rows i u = map-set cyclic_of rows i u
 
 pub asks_from : {R : Type 0} (step : R → FiringCall → R → Type 0) (view : R → FiringView) (id n : ℕ) (u v w : CpuView R) → u ≡ v → Asks step view id n u w → Asks step view id n v w
 asks_from step view id n u v w is a = subst (λ x. Asks step view id n x w) is a
+
+-- what a call does to a CPU, by what is inside it
+pub changes_from : {R : Type 0} (step : R → FiringCall → R → Type 0) (view : R → FiringView) (call : CpuCall) (u v w : CpuView R) → u ≡ v → Changes step view u call w → Changes step view v call w
+changes_from step view call u v w is a = subst (λ x. Changes step view x call w) is a
 
 pub looked_from : {R : Type 0} (step : R → FiringCall → R → Type 0) (view : R → FiringView) (u v w : CpuView R) → u ≡ v → Looked step view u w → Looked step view v w
 looked_from step view u v w is a = subst (λ x. Looked step view x w) is a
@@ -41,7 +46,7 @@ cyclics_insert rows q u = map-append cyclic_of (take q rows) (u ∷ drop q rows)
 -- the row of a cyclic
 pub row_of_cyclic : (rows : List Row) (k : ℕ) (c : Cyclic) → IsCyclic (cyclics_of rows) k c → (r : Row) × IsRow rows k r × (cyclic_of r ≡ c)
 row_of_cyclic rows k c is =
-    let e : Row = record { timer = c.timer; lost = c.lost; index = 0 } in
+    let e : Row = record { timer = c.timer; lost = c.lost; carried = c.carried; index = 0 } in
     let low : k < length rows = (let l = length-map rows cyclic_of in let a = is.0 in omega (arith, l, a)) in
     (get_or rows k e, (low, get_or_default rows k (get_or rows k e) e low), sym (get_or-map cyclic_of rows k e c low) ∙ is.1)
 
@@ -50,15 +55,15 @@ admitted_cyclics soft size marked v rows ready = record {
   here = λ k c is at.
       let (r, row, same) = row_of_cyclic rows k c is in
       let (s, stay, (index, sent, lost)) = ready.here k r row (ap (λ (x : Cyclic). x.timer.level) same ∙ at) in
-      let a = ap (λ (x : Cyclic). x.timer.expired) same in let b = ap (λ (x : Cyclic). x.lost) same in
-      (s, ap v.stays (ap (λ (x : Cyclic). x.timer.id) (sym same)) ∙ stay, (omega (arith, sent, a), omega (arith, lost, b)));
+      let a = ap (λ (x : Cyclic). x.timer.expired) same in let b = ap (λ (x : Cyclic). x.lost) same in let d = ap (λ (x : Cyclic). x.carried.sent) same in let e = ap (λ (x : Cyclic). x.carried.lost) same in
+      (s, ap v.stays (ap (λ (x : Cyclic). x.timer.id) (sym same)) ∙ stay, (omega (arith, sent, a, d), omega (arith, lost, b, e)));
   only = λ id s h. (let (k, r, row, named, at) = ready.only id s h in (k, cyclic_of r, is_cyclic rows k r row, named, at));
   over = ready.over;
 }
 
 pub rising_cyclics : (rows : List Row) → IsRising rows → HasRisingIds (cyclics_of rows)
 rising_cyclics rows rising i j d less low =
-    let e : Row = record { timer = d.timer; lost = d.lost; index = 0 } in
+    let e : Row = record { timer = d.timer; lost = d.lost; carried = d.carried; index = 0 } in
     let l = length-map rows cyclic_of in
     let low_j : j < length rows = omega (arith, l, low) in
     let a = ap (λ (x : Cyclic). x.timer.id) (get_or-map cyclic_of rows i e d (omega (arith, less, low_j))) in
@@ -66,12 +71,12 @@ rising_cyclics rows rising i j d less low =
     let r = rising i j e less low_j in
     omega (arith, a, b, r)
 
-pub counted_cyclics : (most : ℕ) (rows : List Row) → IsCounted most rows → All (λ c. (c.lost ≤ c.timer.expired) × (c.timer.expired ≤ most)) (cyclics_of rows)
+pub counted_cyclics : (most : ℕ) (rows : List Row) → IsCounted most rows → All (HasCounts most) (cyclics_of rows)
 counted_cyclics most rows counted k d low =
-    let e : Row = record { timer = d.timer; lost = d.lost; index = 0 } in
+    let e : Row = record { timer = d.timer; lost = d.lost; carried = d.carried; index = 0 } in
     let l = length-map rows cyclic_of in
     let low' : k < length rows = omega (arith, l, low) in
-    subst (λ (c : Cyclic). (c.lost ≤ c.timer.expired) × (c.timer.expired ≤ most)) (sym (get_or-map cyclic_of rows k e d low')) (counted k e low')
+    subst (HasCounts most) (sym (get_or-map cyclic_of rows k e d low')) (counted k e low')
 
 -- the cyclic whose removal is open
 pub removed_cyclic : {R : Type 0} (view : R → FiringView) (size most : ℕ) (removal : Option ℕ) (lock low : R) (rows : List Row) (id : ℕ) → IsHard view size most removal lock low rows → removal ≡ Some id → IsRemoved id (cyclics_of rows)

@@ -11,7 +11,8 @@ use Rattle.cyc_types.specs.Firing.{FiringView, FiringCall, Admits, Expands, Lear
 use Rattle.cyc_types.specs.Runs.{Goes}
 use Rattle.cyc_types.specs.declared.level.Level.{Level}
 use Rattle.cyc_types.specs.declared.level.Level.TheVariants as level
-use Rattle.cyc_timers.specs.Rows.{Row, IsRow, HasNo}
+use Rattle.cyc_timers.specs.Rows.{Row, IsRow, HasNo, cyclic_of}
+use Rattle.cyc_cpu.specs.Cpu.{HasCounts}
 use Rattle.cyc_cpu.specs.Acts.{same_level}
 use Rattle.cyc_cpu.specs.Ends.{HasStay, HasRow, IsEnd, IsCounted, IsHard}
 use Rattle.cyc_cpu.specs.Quiet.{admits_at}
@@ -46,6 +47,11 @@ still_in rows q u level id low (k, x, is, named, at) = (let (m, is') = row_old r
 pub row_put : (rows : List Row) (q : ℕ) (u : Row) → q ≤ length rows → IsRow (insert rows q u) q u
 row_put rows q u low = (let n = length-insert rows q u low in omega (arith, n, low), get_or-insert_at rows q u u low)
 
+-- a row that has just what it carried in
+pub record Carries (u : Row) : Type 0 where
+  pub sent : u.timer.expired ≡ u.carried.sent
+  pub lost : u.lost ≡ u.carried.lost
+
 -- no row has the id
 pub no_row : (id : ℕ) (rows : List Row) (k : ℕ) (r : Row) → HasNo id rows → IsRow rows k r → r.timer.id ≢ id
 no_row id rows k r none is same = none k r is.0 (ap (λ (x : Row). x.timer.id) is.1 ∙ same)
@@ -67,7 +73,7 @@ may_admit soft size marked v rows id index ready none fresh low = (
 )
 
 module _ (soft : Level) (size : ℕ) (marked : Option ℕ) (v : FiringView) (rows : List Row) (q id index : ℕ) (u : Row)
-    (ready : IsEnd soft size marked v rows) (low : q ≤ length rows) (none : HasNo id rows) (unmarked : marked ≢ Some id) (named : u.timer.id ≡ id) where
+    (ready : IsEnd soft size marked v rows) (low : q ≤ length rows) (none : HasNo id rows) (unmarked : marked ≢ Some id) (named : u.timer.id ≡ id) (carries : Carries u) where
   removed_in : (k : ℕ) (x : Row) → IsRow (insert rows q u) k x → marked ≡ Some x.timer.id → x.timer.moment ≡ never
   removed_in k x is h = elim (row_in rows q k u x low is) [
     | inl eq ↦ absurd (unmarked (h ∙ ap (λ (y : Row). Some y.timer.id) eq ∙ ap Some named))
@@ -87,7 +93,7 @@ module _ (soft : Level) (size : ℕ) (marked : Option ℕ) (v : FiringView) (row
         size_is = ready.size_is ∙ ap (λ (x : FiringView). 2 ^ x.bank) (sym l);
         marked_is = ap (λ (x : FiringView). x.marked) l ∙ ready.marked_is;
         here = λ k x is at_x. elim (row_in rows q k u x low is) [
-          | inl eq ↦ subst (HasStay w) (sym eq) (new, ap w.stays named ∙ mine, (sym indexed, omega arith, omega arith))
+          | inl eq ↦ subst (HasStay w) (sym eq) (new, ap w.stays named ∙ mine, (sym indexed, (let a = carries.sent in omega (arith, a)), (let a = carries.lost in omega (arith, a))))
           | inr (j, old) ↦ (let (s, stay, rest) = ready.here j x old at_x in (s, others x.timer.id (no_row id rows j x none old) ∙ stay, rest))
         ];
         only = λ j s h. elim (cases_eq j id) [
@@ -119,21 +125,21 @@ module _ (soft : Level) (size : ℕ) (marked : Option ℕ) (v : FiringView) (row
     removed = removed_in;
   }
 
-pub counted_entered : (most : ℕ) (rows : List Row) (q : ℕ) (u : Row) → q ≤ length rows → IsCounted most rows → u.lost ≤ u.timer.expired → u.timer.expired ≤ most → IsCounted most (insert rows q u)
-counted_entered most rows q u low counted few less k d long =
+pub counted_entered : (most : ℕ) (rows : List Row) (q : ℕ) (u : Row) → q ≤ length rows → IsCounted most rows → u.lost ≤ u.timer.expired → u.timer.expired ≤ most → Carries u → IsCounted most (insert rows q u)
+counted_entered most rows q u low counted few less carries k d long =
     let x = get_or (insert rows q u) k d in
     elim (row_in rows q k u x low (long, get_or_default (insert rows q u) k x d long)) [
-      | inl eq ↦ subst (λ (y : Row). (y.lost ≤ y.timer.expired) × (y.timer.expired ≤ most)) (sym eq) (few, less)
-      | inr (j, old) ↦ subst (λ (y : Row). (y.lost ≤ y.timer.expired) × (y.timer.expired ≤ most)) old.1 (counted j x old.0)
+      | inl eq ↦ (let a = carries.sent in let b = carries.lost in subst (λ (y : Row). HasCounts most (cyclic_of y)) (sym eq) (record { some = few; few = less; carried = omega (arith, a); carried_lost = omega (arith, b); high = λ at. b }))
+      | inr (j, old) ↦ subst (λ (y : Row). HasCounts most (cyclic_of y)) old.1 (counted j x old.0)
     ]
 
 entered_at : {R : Type 0} (step : R → FiringCall → R → Type 0) (view : R → FiringView) (soft own : Level) (size : ℕ) (marked : Option ℕ) (e f : R) (rows : List Row) (q id index : ℕ) (u : Row) →
-    IsEnd soft size marked (view e) rows → q ≤ length rows → HasNo id rows → marked ≢ Some id → u.timer.id ≡ id → u.timer.level ≡ own → u.index ≡ index → (Sound (view e) → Sound (view f)) →
+    IsEnd soft size marked (view e) rows → q ≤ length rows → HasNo id rows → marked ≢ Some id → u.timer.id ≡ id → u.timer.level ≡ own → u.index ≡ index → Carries u → (Sound (view e) → Sound (view f)) →
     (b : Bool) → (b ≡ true → own ≡ soft) → (b ≡ false → own ≢ soft) → Goes step view e (cond b (Admits id index ∷ []) []) f → IsEnd soft size marked (view f) (insert rows q u)
-entered_at step view soft own size marked e f rows q id index u ready low none unmarked named at indexed sound true on off (m, (stepped, learns), last) =
-    end_entered soft size marked (view e) rows q id index u ready low none unmarked named (view f) (subst (λ x. Learns (view e) (Admits id index) (view x)) last learns) (sound ready.sound) (at ∙ on refl) indexed
-entered_at step view soft own size marked e f rows q id index u ready low none unmarked named at indexed sound false on off g =
-    subst (λ x. IsEnd soft size marked (view x) (insert rows q u)) g (end_beside soft size marked (view e) rows q id index u ready low none unmarked named (λ h. off refl (sym at ∙ h)))
+entered_at step view soft own size marked e f rows q id index u ready low none unmarked named at indexed carries sound true on off (m, (stepped, learns), last) =
+    end_entered soft size marked (view e) rows q id index u ready low none unmarked named carries (view f) (subst (λ x. Learns (view e) (Admits id index) (view x)) last learns) (sound ready.sound) (at ∙ on refl) indexed
+entered_at step view soft own size marked e f rows q id index u ready low none unmarked named at indexed carries sound false on off g =
+    subst (λ x. IsEnd soft size marked (view x) (insert rows q u)) g (end_beside soft size marked (view e) rows q id index u ready low none unmarked named carries (λ h. off refl (sym at ∙ h)))
 
 lock_yes : (own : Level) → same_level level.Lock own ≡ true → own ≡ level.Lock
 lock_yes level.Low h = absurd (cc)
@@ -161,19 +167,19 @@ marks_same step view false id index e f g = ap (λ x. (view x).marked) (sym g)
 
 -- the CPU with one cyclic more
 pub hard_entered : {R : Type 0} (step : R → FiringCall → R → Type 0) (view : R → FiringView) (size most : ℕ) (removal : Option ℕ) (lock low lock' low' : R) (rows : List Row) (q id index : ℕ) (own : Level) (u : Row) →
-    IsHard view size most removal lock low rows → q ≤ length rows → HasNo id rows → removal ≢ Some id → u.timer.id ≡ id → u.timer.level ≡ own → u.index ≡ index → u.lost ≤ u.timer.expired → u.timer.expired ≤ most →
+    IsHard view size most removal lock low rows → q ≤ length rows → HasNo id rows → removal ≢ Some id → u.timer.id ≡ id → u.timer.level ≡ own → u.index ≡ index → Carries u → u.lost ≤ u.timer.expired → u.timer.expired ≤ most →
     Goes step view lock (admits_at level.Lock own id index) lock' → Goes step view low (admits_at level.Low own id index) low' → (Sound (view lock) → Sound (view lock')) → (Sound (view low) → Sound (view low')) →
     IsHard view size most removal lock' low' (insert rows q u)
-hard_entered step view size most removal lock low lock' low' rows q id index own u h bound none still named at indexed few less lock_goes low_goes sound_lock sound_low =
+hard_entered step view size most removal lock low lock' low' rows q id index own u h bound none still named at indexed carries few less lock_goes low_goes sound_lock sound_low =
     let k = marks_same step view _ id index lock lock' lock_goes in
     let w = marks_same step view _ id index low low' low_goes in
     record {
       ready = record {
         lock_end = subst (λ m. IsEnd level.Lock size m (view lock') (insert rows q u)) (sym k)
-            (entered_at step view level.Lock own size (view lock).marked lock lock' rows q id index u h.ready.lock_end bound none (λ m. still (h.lock_marked id m)) named at indexed sound_lock _ (lock_yes own) (lock_no own) lock_goes);
+            (entered_at step view level.Lock own size (view lock).marked lock lock' rows q id index u h.ready.lock_end bound none (λ m. still (h.lock_marked id m)) named at indexed carries sound_lock _ (lock_yes own) (lock_no own) lock_goes);
         low_end = subst (λ m. IsEnd level.Low size m (view low') (insert rows q u)) (sym w)
-            (entered_at step view level.Low own size (view low).marked low low' rows q id index u h.ready.low_end bound none (λ m. still (h.low_marked id m)) named at indexed sound_low _ (low_yes own) (low_no own) low_goes);
-        counted = counted_entered most rows q u bound h.ready.counted few less;
+            (entered_at step view level.Low own size (view low).marked low low' rows q id index u h.ready.low_end bound none (λ m. still (h.low_marked id m)) named at indexed carries sound_low _ (low_yes own) (low_no own) low_goes);
+        counted = counted_entered most rows q u bound h.ready.counted few less carries;
       };
       lock_marked = λ i m. h.lock_marked i (sym k ∙ m);
       low_marked = λ i m. h.low_marked i (sym w ∙ m);

@@ -1,6 +1,6 @@
 -- A CPU from the answer of a removal on.
 use Rattle.std.proofs.Common.{◌≡◌, ◌≢◌, ℕ, suc, ◌+◌, ◌-◌, ◌<◌, ◌≤◌, inl, inr, All, Bool, true, false, cond, eqb, ◌==◌, Option, Some, None, List, [], ◌∷◌, map, length, get_or, refl, sym, ap, ◌∙◌, subst, arith, eq-eqb}
-use Rattle.std.specs.Prelude.{insert, remove}
+use Rattle.std.specs.Prelude.{insert, remove, Ok, Err}
 use Rattle.std.specs.Option.{option_map}
 use Rattle.std.specs.List.{FoldsTo}
 use Rattle.std.proofs.Math.ListN.{set}
@@ -11,10 +11,16 @@ use Rattle.std.proofs.lemmas.List.Edits.{length-insert, length-remove, get_or-in
 use Rattle.cyc_types.specs.Series.{never, due}
 use Rattle.cyc_types.specs.Firing.{FiringCall, Admits, Loads, Raises, Marks, Polls, Expands, Looks}
 use Rattle.cyc_types.specs.Runs.{Goes}
+use Rattle.cyc_types.specs.Draining.{DrainCall}
+use Rattle.cyc_soft.specs.Serving.{Served}
 use Rattle.cyc_types.specs.declared.firing.Sent.{Sent}
+use Rattle.cyc_types.specs.Levels.{at_level, level_of as handler_level}
 use Rattle.cyc_types.specs.declared.level.Level.{Level}
 use Rattle.cyc_types.specs.declared.level.Level.TheVariants as level
 use Rattle.cyc_types.specs.declared.level.Soft.{Soft}
+use Rattle.cyc_types.specs.declared.moment.When.{When}
+use Rattle.cyc_types.specs.declared.refusal.Refusal.{Refusal}
+use Rattle.cyc_types.specs.declared.refusal.Refusal.TheVariants as why
 use Rattle.cyc_types.specs.declared.level.Soft.TheVariants as soft_level
 use Rattle.cyc_level.specs.Level.{Cyclic as Admission, Level as Model, count, count_in, place_count}
 use Rattle.cyc_level.specs.Lawful.{Lawful, one_if_any}
@@ -26,15 +32,17 @@ use Rattle.cyc_expirations.specs.Expirations.{Expiration, all_after, expirations
 use Rattle.cyc_expirations.specs.Timers.{Timer, HasDistinctIds}
 use Rattle.cyc_expirations.proofs.Dues.{due_later}
 use Rattle.cyc_expirations.proofs.Laws.{times_expirations}
-use Rattle.cyc_timers.specs.Rows.{Cyclic, timers}
+use Rattle.cyc_timers.specs.Rows.{Cyclic, no_counts, timers}
 use Rattle.cyc_cpu.specs.declared.removing.Removal.TheVariants.{Done, Kept}
 use Rattle.cyc_cpu.specs.Acts.{AreRaises, is_of, timer_of}
 use Rattle.cyc_cpu.specs.Shares.{share}
 use Rattle.cyc_cpu.specs.Quiet.{OnlyLooks, LoadsThenLooks}
-use Rattle.cyc_cpu.specs.Cpu.{CpuView, IsCyclic, HasNoCyclic, AreAdmitted, HasRisingIds, IsRemoved, with_moment}
+use Rattle.cyc_cpu.specs.Cpu.{CpuView, Running, sides, Makes, Asks, Looked, Reserves, Widens, Places, IsCyclic, HasNoCyclic, AreAdmitted, HasRisingIds, IsRemoved, with_moment}
 use Rattle.cyc_cpu.specs.Removal.{calls_at, EndGoes, Leaves}
-use Rattle.cyc_cpu.specs.Soft.{fires, firing_at, held_at}
-use Rattle.cyc_cpu.specs.Gone.{IsAbsent, IsGone, CpuCall, Fire, SoftInterrupt, Reprogram, Pending, Reserve, Widen, Place, BeginRemove, PollRemove, TakeNow, Settled, Does, Running, Runs, HasAnswered, PutsNot, StaysGone}
+use Rattle.cyc_cpu.specs.Moving.{WhyNotTaken, Inquires}
+use Rattle.cyc_cpu.specs.Soft.{fires, firing_at, held_at, end_at, ServesAt, SoftKept, Interrupts}
+use Rattle.cyc_cpu.specs.Calls.{CpuCall, Fire, SoftInterrupt, Add, Place, Reprogram, AskPending, AskTotals, AskRoom, Reserve, Widen, BeginRemove, PollRemove, TakeNow, AskSettled, Changes, Does}
+use Rattle.cyc_cpu.specs.Gone.{IsAbsent, IsGone, HasAnswered, PutsNot, StaysGone}
 use Rattle.cyc_cpu.proofs.Gone.{off_of, absent_of, AreSpared, off_goes, none_served}
 use Rattle.cyc_cpu.proofs.Leaving.{goes_here, goes_not, level_cases}
 use Rattle.cyc_cpu.proofs.Making.{same_id, length-all}
@@ -131,9 +139,11 @@ no_timer id (c ∷ cs) none =
 no_share : (own : Level) (id : ℕ) (cs : List Cyclic) (made : List Expiration) → HasNoCyclic id cs → share own (timers cs) made id ≡ 0
 no_share own id cs made none = ap (λ o. cond (is_of own o) (times_of id made) 0) (no_timer id cs none)
 
-module _ {C : Type 0} (called : C → ℕ → Level → C → Type 0) (count_of : C → ℕ → ℕ) (id : ℕ) where
-  fire_gone : (s t : Running C) (now : ℕ) → IsGone id s.cpu → Runs called count_of s (Fire now) t → StaysGone count_of id s t
-  fire_gone s t now h (made, lost, at, m, same) = (
+module _ {C : Type 0} (called : C → ℕ → C → Type 0) (count_of : C → ℕ → ℕ) (id : ℕ) where
+  fire_gone : (s t : Running C Tables) (now : ℕ) (made : List Expiration) (lost : ℕ) (at : C) → IsGone id s.cpu
+      → Makes called count_of fires firing_at now made s.cpu.cyclics t.cpu.cyclics (sides s.calls s.cpu) (sides at t.cpu) lost
+      → ((q : ℕ) → count_of t.calls q ≡ count_of at q) → StaysGone count_of id s t
+  fire_gone s t now made lost at h m same = (
     record {
       no_cyclic = none_fired id now made s.cpu.cyclics t.cpu.cyclics m.timers_are h.no_cyclic;
       lock = stays_absent id s.cpu.lock t.cpu.lock m.acts.lock_way (spared_raises id _ m.acts.lock_way m.acts.lock_raises) h.lock m.acts.lock_goes;
@@ -142,8 +152,10 @@ module _ {C : Type 0} (called : C → ℕ → Level → C → Type 0) (count_of 
     (let a = same id in let b = m.acts.counted id in let c = ids_add_up id level.High (timers s.cpu.cyclics) made in let d = no_share level.High id s.cpu.cyclics made h.no_cyclic in omega (arith, a, b, c, d)),
   )
 
-  soft_gone : (s t : Running C) (soft : Soft) → IsGone id s.cpu → Runs called count_of s (SoftInterrupt soft) t → StaysGone count_of id s t
-  soft_gone s t soft_level.Low h (ran, rest, at, v, same, kept) =
+  soft_gone : (s t : Running C Tables) (soft : Soft) (ran : List Served) (rest : List DrainCall) (at : C) → IsGone id s.cpu
+      → ServesAt called count_of (end_at soft s.cpu) s.calls ran rest (end_at soft t.cpu) at
+      → ((q : ℕ) → count_of t.calls q ≡ count_of at q) → SoftKept soft s.cpu t.cpu → StaysGone count_of id s t
+  soft_gone s t soft_level.Low ran rest at h v same kept =
       let (off, none) = none_served id (held_at s.cpu.low) ran rest s.cpu.low t.cpu.low (off_of id (level_of s.cpu.low) h.low) v.way in (
         record {
           no_cyclic = subst (λ cs. HasNoCyclic id cs) (sym kept.cyclics) h.no_cyclic;
@@ -152,7 +164,7 @@ module _ {C : Type 0} (called : C → ℕ → Level → C → Type 0) (count_of 
         },
         (let a = same id in let b = v.counted id in omega (arith, a, b, none)),
       )
-  soft_gone s t soft_level.Lock h (ran, rest, at, v, same, kept) =
+  soft_gone s t soft_level.Lock ran rest at h v same kept =
       let (off, none) = none_served id (held_at s.cpu.lock) ran rest s.cpu.lock t.cpu.lock (off_of id (level_of s.cpu.lock) h.lock) v.way in (
         record {
           no_cyclic = subst (λ cs. HasNoCyclic id cs) (sym kept.cyclics) h.no_cyclic;
@@ -180,58 +192,119 @@ widened_end id n m bank a b h kept goes = elim (cases_lt n m) [
   | inr stays ↦ subst (λ (x : Tables). IsAbsent id (level_of x)) (sym (kept stays)) h
 ]
 
-does_gone : (id : ℕ) (v w : CpuView Tables) (call : CpuCall) → IsGone id v → PutsNot id call → Does v call w → IsGone id w
-does_gone id v w (Reprogram j moment) h not (k, c, here, is) = subst (λ (x : CpuView Tables). IsGone id x) (sym is) (record { no_cyclic = none_changed id v.cyclics k moment c here h.no_cyclic; lock = h.lock; low = h.low })
-does_gone id v w (Pending j) h not (n, a) = goes_gone id a.cyclic.timer.level (Loads j n ∷ []) v w (tt, tt) h (a.lock, a.low) (subst (λ cs. HasNoCyclic id cs) (sym a.cyclics) h.no_cyclic)
-does_gone id v w Reserve h not r = record {
+-- where the cyclics stay, and an end or both were asked
+asked_gone : (id j n : ℕ) (v w : CpuView Tables) → IsGone id v → Asks fires firing_at j n v w → IsGone id w
+asked_gone id j n v w h a = goes_gone id a.cyclic.timer.level (Loads j n ∷ []) v w (tt, tt) h (a.lock, a.low) (subst (λ cs. HasNoCyclic id cs) (sym a.cyclics) h.no_cyclic)
+
+looked_gone : (id : ℕ) (v w : CpuView Tables) → IsGone id v → Looked fires firing_at v w → IsGone id w
+looked_gone id v w h r = record {
   no_cyclic = subst (λ cs. HasNoCyclic id cs) (sym r.cyclics) h.no_cyclic;
   lock = looks_absent id v.lock w.lock h.lock r.lock;
   low = looks_absent id v.low w.low h.low r.low;
 }
-does_gone id v w (Widen more) h not r = record {
+
+reserved_gone : (id more : ℕ) (v w : CpuView Tables) → IsGone id v → Reserves fires firing_at more v w → IsGone id w
+reserved_gone id more v w h r = record {
+  no_cyclic = subst (λ cs. HasNoCyclic id cs) (sym r.cyclics) h.no_cyclic;
+  lock = looks_absent id v.lock w.lock h.lock r.lock;
+  low = looks_absent id v.low w.low h.low r.low;
+}
+
+widened_gone : (id more : ℕ) (v w : CpuView Tables) → IsGone id v → Widens fires firing_at more v w → IsGone id w
+widened_gone id more v w h r = record {
   no_cyclic = subst (λ cs. HasNoCyclic id cs) (sym r.cyclics) h.no_cyclic;
   lock = widened_end id v.size (length v.cyclics + more) _ v.lock w.lock h.lock r.kept_lock (λ g. (w.lock, r.lock g, refl));
   low = widened_end id v.size (length v.cyclics + more) _ v.low w.low h.low r.kept_low (λ g. (w.low, r.low g, refl));
 }
-does_gone id v w (Place c) h not p =
+
+placed_gone : (id : ℕ) (v w : CpuView Tables) (c : Cyclic) → c.timer.id ≢ id → IsGone id v → Places fires firing_at c v w → IsGone id w
+placed_gone id v w c not h p =
     goes_gone id c.timer.level (Admits c.timer.id p.index ∷ []) v w ((λ q. not (sym q)), tt) h (p.lock, p.low)
     (subst (λ cs. HasNoCyclic id cs) (sym p.cyclics) (none_placed id v.cyclics p.place c p.within not h.no_cyclic))
-does_gone id v w (BeginRemove j) h not (Done receipt, (c, counts, is, l)) = leaves_gone id j _ c v w (tt, (tt, tt)) h l
-does_gone id v w (BeginRemove j) h not (Kept kept, o) =
-    goes_gone id o.cyclic.timer.level (Marks j kept ∷ []) v w (tt, tt) h o.goes (subst (λ cs. HasNoCyclic id cs) (sym o.cyclics) (none_changed id v.cyclics o.place never o.cyclic o.here h.no_cyclic))
-does_gone id v w PollRemove h not (inl (receipt, e)) = leaves_gone id receipt.id _ e.cyclic v w (tt, tt) h e.leaves
-does_gone id v w PollRemove h not (inr (j, e)) = goes_gone id e.cyclic.timer.level (Polls j None ∷ []) v w (tt, tt) h e.goes (subst (λ cs. HasNoCyclic id cs) (sym e.cyclics) h.no_cyclic)
-does_gone id v w (TakeNow j) h not (taken, (c, counts, is, l)) = leaves_gone id j _ c v w (tt, (tt, (tt, tt))) h l
-does_gone id v w Settled h not i = record {
+
+inquired_gone : (id : ℕ) (v w : CpuView Tables) → IsGone id v → Inquires fires firing_at v w → IsGone id w
+inquired_gone id v w h i = record {
   no_cyclic = subst (λ cs. HasNoCyclic id cs) (sym i.cyclics) h.no_cyclic;
   lock = inquires_absent id v.lock w.lock h.lock i.lock;
   low = inquires_absent id v.low w.low h.low i.low;
 }
-does_gone id v w (Fire now) h not d = absurd d
-does_gone id v w (SoftInterrupt soft) h not d = absurd d
 
-module _ {C : Type 0} (called : C → ℕ → Level → C → Type 0) (count_of : C → ℕ → ℕ) (id : ℕ) where
+same_gone : (id : ℕ) (v w : CpuView Tables) → IsGone id v → w ≡ v → IsGone id w
+same_gone id v w h is = subst (λ (x : CpuView Tables). IsGone id x) (sym is) h
+
+not_taken_gone : (id j : ℕ) (v w : CpuView Tables) (e : Refusal) → IsGone id v → WhyNotTaken fires firing_at j v e w → IsGone id w
+not_taken_gone id j v w why.NoCyclic h d = same_gone id v w h d.1
+not_taken_gone id j v w (why.Busy removed) h d = same_gone id v w h d.2
+not_taken_gone id j v w why.Pending h (still, some, n, more, a) = asked_gone id j n v w h a
+not_taken_gone id j v w e h d = absurd d
+
+not_added_gone : (id own now : ℕ) (level : Level) (when : When) (v w : CpuView Tables) (e : Refusal) → IsGone id v → Changes fires firing_at v (Add own level when now (Err e)) w → IsGone id w
+not_added_gone id own now level when v w why.BadNow h d = same_gone id v w h d.2
+not_added_gone id own now level when v w e h d = looked_gone id v w h d.2
+
+changes_gone : (id : ℕ) (v w : CpuView Tables) (call : CpuCall) → IsGone id v → PutsNot id call → Changes fires firing_at v call w → IsGone id w
+changes_gone id v w (Add own level when now (Ok done)) h not (absent, early, a) =
+    placed_gone id a.widened w _ not (widened_gone id 1 a.reserved a.widened (reserved_gone id 1 v a.reserved h a.reserves) a.widens) a.enters
+changes_gone id v w (Add own level when now (Err e)) h not d = not_added_gone id own now level when v w e h d
+changes_gone id v w (Place own level interval moment carried) h not d = placed_gone id v w _ not h d.1
+changes_gone id v w (Reprogram j moment (Ok done)) h not (k, c, here, named, still, is) =
+    subst (λ (x : CpuView Tables). IsGone id x) (sym is) (record { no_cyclic = none_changed id v.cyclics k moment c here h.no_cyclic; lock = h.lock; low = h.low })
+changes_gone id v w (Reprogram j moment (Err e)) h not d = same_gone id v w h d.2
+changes_gone id v w (AskPending j (Some n)) h not d = asked_gone id j n v w h d.0
+changes_gone id v w (AskPending j None) h not d = same_gone id v w h d.1
+changes_gone id v w (AskTotals j (Some t)) h not d = asked_gone id j t.pending v w h d.0
+changes_gone id v w (AskTotals j None) h not d = same_gone id v w h d.1
+changes_gone id v w (AskRoom more (Ok done)) h not d = looked_gone id v w h d.0
+changes_gone id v w (AskRoom more (Err e)) h not d = looked_gone id v w h d.0
+changes_gone id v w (Reserve more (Ok done)) h not d = reserved_gone id more v w h d.0
+changes_gone id v w (Reserve more (Err e)) h not d = looked_gone id v w h d.0
+changes_gone id v w (Widen more) h not d = widened_gone id more v w h d.1
+changes_gone id v w (BeginRemove j (Ok (Done receipt))) h not (still, (c, counts, is, polled, l)) = leaves_gone id j _ c v w (tt, (tt, tt)) h l
+changes_gone id v w (BeginRemove j (Ok (Kept kept))) h not (still, o) =
+    goes_gone id o.cyclic.timer.level (Marks j kept ∷ []) v w (tt, tt) h o.goes (subst (λ cs. HasNoCyclic id cs) (sym o.cyclics) (none_changed id v.cyclics o.place never o.cyclic o.here h.no_cyclic))
+changes_gone id v w (BeginRemove j (Err e)) h not d = same_gone id v w h d.1
+changes_gone id v w (PollRemove (Some receipt)) h not e = leaves_gone id receipt.id _ e.cyclic v w (tt, tt) h e.leaves
+changes_gone id v w (PollRemove None) h not (inl d) = same_gone id v w h d.1
+changes_gone id v w (PollRemove None) h not (inr (j, is_open, e)) = goes_gone id e.cyclic.timer.level (Polls j None ∷ []) v w (tt, tt) h e.goes (subst (λ cs. HasNoCyclic id cs) (sym e.cyclics) h.no_cyclic)
+changes_gone id v w (TakeNow j (Ok taken)) h not (still, (c, counts, is, polled, l)) = leaves_gone id j _ c v w (tt, (tt, (tt, tt))) h l
+changes_gone id v w (TakeNow j (Err e)) h not d = not_taken_gone id j v w e h d
+changes_gone id v w (AskSettled true) h not d = inquired_gone id v w h d.0
+changes_gone id v w (AskSettled false) h not d = inquired_gone id v w h d.0
+changes_gone id v w (Fire now answer) h not d = absurd d
+changes_gone id v w (SoftInterrupt soft budget answer) h not d = absurd d
+
+module _ {C : Type 0} (called : C → ℕ → Level → C → Type 0) (count_of : C → ℕ → ℕ) (may_refuse : C → ℕ → Type 0) (id : ℕ) where
+  -- a call of the CPU and its handlers
+  abbrev Runs : Running C Tables → CpuCall → Running C Tables → Type 0
+  Runs s call t = Does called count_of may_refuse fires firing_at (Interrupts called count_of may_refuse) s call t
+
   -- a call that reaches no handler
-  quiet_gone : (s t : Running C) (call : CpuCall) → IsGone id s.cpu → PutsNot id call → Does s.cpu call t.cpu × (t.calls ≡ s.calls) → StaysGone count_of id s t
-  quiet_gone s t call h not (d, same) = (does_gone id s.cpu t.cpu call h not d, ap (λ (c : C). count_of c id) same)
+  quiet_gone : (s t : Running C Tables) (call : CpuCall) → IsGone id s.cpu → PutsNot id call → Changes fires firing_at s.cpu call t.cpu × (t.calls ≡ s.calls) → StaysGone count_of id s t
+  quiet_gone s t call h not (d, same) = (changes_gone id s.cpu t.cpu call h not d, ap (λ (c : C). count_of c id) same)
 
-  pub stays_gone : (s t : Running C) (call : CpuCall) → IsGone id s.cpu → PutsNot id call → Runs called count_of s call t → StaysGone count_of id s t
-  stays_gone s t (Fire now) h not r = fire_gone called count_of id s t now h r
-  stays_gone s t (SoftInterrupt soft) h not r = soft_gone called count_of id s t soft h r
-  stays_gone s t (Reprogram j moment) h not r = quiet_gone s t (Reprogram j moment) h not r
-  stays_gone s t (Pending j) h not r = quiet_gone s t (Pending j) h not r
-  stays_gone s t Reserve h not r = quiet_gone s t Reserve h not r
+  pub stays_gone : (s t : Running C Tables) (call : CpuCall) → IsGone id s.cpu → PutsNot id call → Runs s call t → StaysGone count_of id s t
+  stays_gone s t (Fire now (Ok r)) h not (early, kept, expired, next, makes) = fire_gone (at_level called level.High) count_of id s t now (expirations now (timers s.cpu.cyclics)) r.lost t.calls h makes (λ q. refl)
+  stays_gone s t (Fire now (Err e)) h not (inl (late, is, same)) = (subst (λ (x : Running C Tables). IsGone id x.cpu) (sym same) h, ap (λ (x : Running C Tables). count_of x.calls id) same)
+  stays_gone s t (Fire now (Err e)) h not (inr (early, kept, f)) = fire_gone (at_level called level.High) count_of id s t now f.made e.lost f.at h f.makes f.counted
+  stays_gone s t (SoftInterrupt soft budget (Ok r)) h not ((ran, many, serves, left, few, idle), kept) = soft_gone (at_level called (handler_level soft)) count_of id s t soft ran _ t.calls h serves (λ q. refl) kept
+  stays_gone s t (SoftInterrupt soft budget (Err e)) h not ((ran, at, many, few, serves, may, same, held), kept) = soft_gone (at_level called (handler_level soft)) count_of id s t soft ran _ at h serves same kept
+  stays_gone s t (Add own level when now answer) h not r = quiet_gone s t (Add own level when now answer) h not r
+  stays_gone s t (Place own level interval moment carried) h not r = quiet_gone s t (Place own level interval moment carried) h not r
+  stays_gone s t (Reprogram j moment answer) h not r = quiet_gone s t (Reprogram j moment answer) h not r
+  stays_gone s t (AskPending j answer) h not r = quiet_gone s t (AskPending j answer) h not r
+  stays_gone s t (AskTotals j answer) h not r = quiet_gone s t (AskTotals j answer) h not r
+  stays_gone s t (AskRoom more answer) h not r = quiet_gone s t (AskRoom more answer) h not r
+  stays_gone s t (Reserve more answer) h not r = quiet_gone s t (Reserve more answer) h not r
   stays_gone s t (Widen more) h not r = quiet_gone s t (Widen more) h not r
-  stays_gone s t (Place c) h not r = quiet_gone s t (Place c) h not r
-  stays_gone s t (BeginRemove j) h not r = quiet_gone s t (BeginRemove j) h not r
-  stays_gone s t PollRemove h not r = quiet_gone s t PollRemove h not r
-  stays_gone s t (TakeNow j) h not r = quiet_gone s t (TakeNow j) h not r
-  stays_gone s t Settled h not r = quiet_gone s t Settled h not r
+  stays_gone s t (BeginRemove j answer) h not r = quiet_gone s t (BeginRemove j answer) h not r
+  stays_gone s t (PollRemove answer) h not r = quiet_gone s t (PollRemove answer) h not r
+  stays_gone s t (TakeNow j answer) h not r = quiet_gone s t (TakeNow j answer) h not r
+  stays_gone s t (AskSettled answer) h not r = quiet_gone s t (AskSettled answer) h not r
 
-  pub runs_gone : (s t : Running C) (way : List CpuCall) → IsGone id s.cpu → All (PutsNot id) way → FoldsTo (Runs called count_of) s way t → StaysGone count_of id s t
-  runs_gone s t [] h not last = (subst (λ (x : Running C). IsGone id x.cpu) last h, ap (λ (x : Running C). count_of x.calls id) (sym last))
+  pub runs_gone : (s t : Running C Tables) (way : List CpuCall) → IsGone id s.cpu → All (PutsNot id) way → FoldsTo Runs s way t → StaysGone count_of id s t
+  runs_gone s t [] h not last = (subst (λ (x : Running C Tables). IsGone id x.cpu) last h, ap (λ (x : Running C Tables). count_of x.calls id) (sym last))
   runs_gone s t (call ∷ way) h not (m, first, rest) =
-      let (gone, same) = stays_gone s m call h (not 0 call (omega arith)) first in
+      let (gone, same) = stays_gone s m call h (not 0 call (omega (arith))) first in
       let (still, on) = runs_gone m t way gone (λ k d low. not (suc k) d (omega (arith, low))) rest in
       (still, on ∙ same)
 
@@ -296,33 +369,5 @@ module _ (id : ℕ) (v w : CpuView Tables) (c : Cyclic) (way : List FiringCall) 
 module _ (id : ℕ) (v w : CpuView Tables) (rising : HasRisingIds v.cyclics) (lock : AreAdmitted level.Lock (firing_at v.lock) v.cyclics) (low : AreAdmitted level.Low (firing_at v.low) v.cyclics)
     (lock_law : Lawful (level_of v.lock)) (low_law : Lawful (level_of v.low)) where
   pub answered_gone : HasAnswered id v w → IsGone id w
-  answered_gone (receipt, inl (c, counts, is, l)) = left_gone id v w c _ rising l lock low lock_law low_law (λ a b once. marked_absent id counts a b once)
+  answered_gone (receipt, inl (c, counts, is, polled, l)) = left_gone id v w c _ rising l lock low lock_law low_law (λ a b once. marked_absent id counts a b once)
   answered_gone (receipt, inr (same, e)) = subst (λ j. IsGone j w) same (left_gone receipt.id v w e.cyclic _ rising e.leaves lock low lock_law low_law (λ a b once. polled_absent receipt.id e.counts a b once))
-
--- different cyclics have different ids
-distinct_ids : (cs : List Cyclic) → HasRisingIds cs → HasDistinctIds (timers cs)
-distinct_ids cs rising i j d low_i low_j same =
-    let l = length-map cs (λ (c : Cyclic). c.timer) in
-    let e : Cyclic = record { timer = d; lost = 0 } in
-    let li : i < length cs = omega (arith, l, low_i) in
-    let lj : j < length cs = omega (arith, l, low_j) in
-    let a = ap (λ (t : Timer). t.id) (get_or-map (λ (c : Cyclic). c.timer) cs i e d li) in
-    let b = ap (λ (t : Timer). t.id) (get_or-map (λ (c : Cyclic). c.timer) cs j e d lj) in
-    elim (cases_eq i j) [
-      | inl eq ↦ eq
-      | inr ne ↦ elim (cases_lt i j) [
-        | inl less ↦ let h = rising i j e less lj in absurd (omega (arith, h, a, b, same))
-        | inr more ↦ let h = rising j i e (omega (arith, more, ne)) li in absurd (omega (arith, h, a, b, same))
-      ]
-    ]
-
--- a cyclic whose removal is open is never due
-pub removed_never : (id now : ℕ) (cs : List Cyclic) → HasRisingIds cs → IsRemoved id cs → now < never → times_of id (expirations now (timers cs)) ≡ 0
-removed_never id now cs rising (k, c, (within, is), named, soft, still) early =
-    let l = length-map cs (λ (c : Cyclic). c.timer) in
-    let low : k < length (timers cs) = omega (arith, within, l) in
-    let at : get_or (timers cs) k c.timer ≡ c.timer = get_or-map (λ (c : Cyclic). c.timer) cs k c c.timer within ∙ ap (λ (c : Cyclic). c.timer) is in
-    ap (λ i. times_of i (expirations now (timers cs))) (sym (ap (λ (t : Timer). t.id) at ∙ named))
-    ∙ times_expirations now (timers cs) k c.timer (distinct_ids cs rising) low
-    ∙ ap (λ (t : Timer). due t.moment t.interval now) at
-    ∙ due_later c.timer.moment c.timer.interval now (omega (arith, early, still))

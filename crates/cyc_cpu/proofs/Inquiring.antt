@@ -5,10 +5,11 @@ use Rattle.cyc_types.specs.Runs.{Goes}
 use Rattle.cyc_types.specs.declared.level.Level.{Level}
 use Rattle.cyc_types.specs.declared.level.Level.TheVariants as level
 use Rattle.cyc_timers.specs.Rows.{Row, IsRow, IsRising, vacant_row}
-use Rattle.std.specs.Prelude.{is_some}
-use Rattle.std.specs.Bool.{OnTrue}
+use Rattle.std.specs.Prelude.{is_some, ◌⊎◌}
+use Rattle.std.specs.Bool.{OnTrue, OnFalse}
 use Rattle.cyc_cpu.specs.Cpu.{CpuView}
-use Rattle.cyc_cpu.specs.Moving.{Inquires}
+use Rattle.cyc_cpu.specs.Calls.{Changes, AskSettled}
+use Rattle.cyc_cpu.specs.Moving.{IsSettled, Inquires}
 use Rattle.cyc_types.proofs.Runs.{goes_on}
 use Rattle.std.proofs.lemmas.List.{map-append, get_or_default}
 use Rattle.std.proofs.lemmas.Bool.Decides.{nat_tests}
@@ -157,3 +158,18 @@ module _ {R : Type 0} (step : R → FiringCall → R → Type 0) (view : R → F
       let x = seen_off level.Lock m lock lock' a goes (λ q. let no : level.Low ≡ level.Lock = sym at ∙ q in absurd (cc)) in
       let y = seen_here level.Low m' low low' b goes' at in
       omega (arith, x, y)
+
+pub some_not_none : (o : Option ℕ) → is_some o ≡ true → o ≡ None → ⊥
+some_not_none None h e = (let wrong : false ≡ true = h in cc)
+some_not_none (Some n) h e = (let wrong : Some n ≡ None = e in cc)
+
+module _ {R : Type 0} (step : R → FiringCall → R → Type 0) (view : R → FiringView) where
+  pub settled_either : (v w : CpuView R) (b : Bool) → Inquires step view v w → OnTrue b (IsSettled view w) → OnFalse b (IsSettled view w → ⊥) → Changes step view v (AskSettled b) w
+  settled_either v w true i settled unsettled = (i, settled)
+  settled_either v w false i settled unsettled = (i, unsettled)
+
+-- a soft side that has not followed
+pub no_settled : {R : Type 0} (view : R → FiringView) (w : CpuView R) (b : Bool) → OnFalse b (((view w.lock).followed ≡ false) ⊎ ((view w.low).followed ≡ false)) → OnFalse b (IsSettled view w → ⊥)
+no_settled view w true h = h
+no_settled view w false (inl lock) = λ settled. (let yes = settled.followed.0 in let wrong : true ≡ false = sym yes ∙ lock in cc)
+no_settled view w false (inr low) = λ settled. (let yes = settled.followed.1 in let wrong : true ≡ false = sym yes ∙ low in cc)

@@ -7,7 +7,7 @@ use Rattle.std.proofs.lemmas.Bool.Decides.{nat_tests}
 use Rattle.std.proofs.lemmas.List.{get_or_default, map-append, take-map, drop-map}
 use Rattle.std.proofs.lemmas.List.Edits.{length-remove, get_or-remove_below, get_or-remove_above}
 use Rattle.cyc_types.specs.Series.{never}
-use Rattle.cyc_types.specs.Firing.{FiringView, FiringCall, Loads, Marks, Polls, Learns, Sound, Stay, MayMark, MayPoll, edited, saw, seen_in, seen_of}
+use Rattle.cyc_types.specs.Firing.{FiringView, FiringCall, Loads, Marks, Polls, Learns, Sound, Stay, MayMark, MayPoll, edited, saw, seen_in, seen_of, sent_in, sent_of}
 use Rattle.cyc_types.specs.Runs.{Goes}
 use Rattle.cyc_types.specs.declared.firing.Sent.{Sent}
 use Rattle.cyc_types.specs.declared.level.Level.{Level}
@@ -16,8 +16,8 @@ use Rattle.cyc_timers.specs.Rows.{Row, Cyclic, IsRow, IsRising, at_moment, cycli
 use Rattle.cyc_cpu.specs.Acts.{same_level}
 use Rattle.cyc_cpu.specs.Ends.{HasRow, IsEnd, IsCounted, IsHard}
 use Rattle.cyc_cpu.specs.Quiet.{KeepsStays}
-use Rattle.cyc_cpu.specs.Cpu.{CpuView}
-use Rattle.cyc_cpu.specs.Removal.{calls_at, Opens, Leaves, Waits, Ends, IsReceipt}
+use Rattle.cyc_cpu.specs.Cpu.{CpuView, HasCounts}
+use Rattle.cyc_cpu.specs.Removal.{calls_at, HasPolled, Opens, Leaves, Waits, Ends, IsReceipt}
 use Rattle.cyc_types.specs.declared.receipt.Receipt.{Receipt}
 use Rattle.cyc_cpu.proofs.Readying.{Keeps, row_cases, row_new, ids_apart, end_moved, counted_moved, end_kept, loads_keep, keeps_itself}
 
@@ -224,7 +224,7 @@ pub counted_left : (most : ℕ) (rows : List Row) (k : ℕ) → k < length rows 
 counted_left most rows k low counted j d long =
     let x = get_or (remove rows k) j d in
     let (i, ne, old) = row_less rows k j x low (long, get_or_default (remove rows k) j x d long) in
-    subst (λ (y : Row). (y.lost ≤ y.timer.expired) × (y.timer.expired ≤ most)) old.1 (counted i x old.0)
+    subst (λ (y : Row). HasCounts most (cyclic_of y)) old.1 (counted i x old.0)
 
 module _ {R : Type 0} (view : R → FiringView) (size : ℕ) (rows : List Row) (k : ℕ) (r : Row) (rising : IsRising rows) (is : IsRow rows k r) where
   end_after : (soft : Level) (e f : R) → IsEnd soft size (view e).marked (view e) rows → EndLeft view soft r.timer.level r.timer.id e f →
@@ -327,7 +327,7 @@ module _ {R : Type 0} (step : R → FiringCall → R → Type 0) (view : R → F
   u = at_moment never r
 
   keeps : Keeps r u
-  keeps = record { id = refl; level = refl; index = refl; expired = refl; lost = refl }
+  keeps = record { id = refl; level = refl; index = refl; expired = refl; lost = refl; carried = refl }
 
   never_now : (j : ℕ) (x : Row) → IsRow (set rows k u) j x → x.timer.id ≡ r.timer.id → x.timer.moment ≡ never
   never_now j x is_x same = elim (row_cases rows k j u x is.0 is_x) [
@@ -414,13 +414,14 @@ module _ {R : Type 0} (step : R → FiringCall → R → Type 0) (view : R → F
   pub waits_from : (id : ℕ) (u v w : CpuView R) → u ≡ v → Waits step view id u w → Waits step view id v w
   waits_from id u v w is a = subst (λ x. Waits step view id x w) is a
 
-  pub ends_from : (receipt : Receipt) (id : ℕ) (c : Cyclic) (counts : Sent) (u v w : CpuView R) → u ≡ v → u.removal ≡ Some id → receipt.id ≡ id → IsReceipt receipt c →
+  pub ends_from : (receipt : Receipt) (id : ℕ) (c : Cyclic) (counts : Sent) (u v w : CpuView R) → u ≡ v → u.removal ≡ Some id → receipt.id ≡ id → IsReceipt receipt c → HasPolled counts c →
       Leaves step view id (Polls id (Some counts) ∷ []) c u w → Ends step view receipt v w
-  ends_from receipt id c counts u v w is removed named counted leaves = record {
+  ends_from receipt id c counts u v w is removed named counted polled leaves = record {
     was_open = sym (ap (λ (x : CpuView R). x.removal) is) ∙ removed ∙ ap Some (sym named);
     cyclic = c;
     counts = counts;
     counted = counted;
+    polled = polled;
     leaves = leaves_from receipt.id (Polls receipt.id (Some counts) ∷ []) c u v w is (subst (λ q. Leaves step view q (Polls q (Some counts) ∷ []) c u w) (sym named) leaves);
   }
 
@@ -439,3 +440,50 @@ seen_now v w id n ((s, stay, _), none, free) l =
     ap (λ (x : FiringView). seen_of id x) l.1
     ∙ (let yes : eqb id id ≡ true = eq-eqb id id refl in ap (λ b. seen_in (cond b (edited (λ s. record s { seen = n }) (v.stays id)) (v.stays id))) yes)
     ∙ seen_stay n (v.stays id) s stay
+
+-- the counts that the end of a stay answered
+loaded_sent : (b : Bool) (n : ℕ) (o : Option Stay) → sent_in (cond b (edited (λ s. record s { seen = n }) o) o) ≡ sent_in o
+loaded_sent true n None = refl
+loaded_sent true n (Some s) = refl
+loaded_sent false n o = refl
+
+sent_loaded : (v w : FiringView) (id n : ℕ) → Learns v (Loads id n) w → sent_of id w ≡ sent_of id v
+sent_loaded v w id n l = ap (λ (x : FiringView). sent_of id x) l.1 ∙ loaded_sent (eqb id id) n (v.stays id)
+
+sent_marked : (v w : FiringView) (id n : ℕ) → Learns v (Marks id n) w → sent_of id w ≡ sent_of id v
+sent_marked v w id n l = ap (λ (x : FiringView). sent_of id x) l.1 ∙ loaded_sent (eqb id id) n (v.stays id)
+
+module _ {R : Type 0} (step : R → FiringCall → R → Type 0) (view : R → FiringView) (id : ℕ) (counts : Sent) (e f : R) where
+  pub polled_sent : Goes step view e (Polls id (Some counts) ∷ []) f → sent_of id (view e) ≡ Some counts
+  polled_sent (m, (s, l), last) = l.0
+
+  pub begun_sent : Goes step view e (Marks id 0 ∷ Polls id (Some counts) ∷ []) f → sent_of id (view e) ≡ Some counts
+  begun_sent (m, (s, l), (n, (s', l'), last)) = sym (sent_marked (view e) (view m) id 0 l) ∙ l'.0
+
+  pub taken_sent : Goes step view e (Loads id 0 ∷ Marks id 0 ∷ Polls id (Some counts) ∷ []) f → sent_of id (view e) ≡ Some counts
+  taken_sent (k, (s, l), (m, (s', l'), (n, (s'', l''), last))) = sym (sent_loaded (view e) (view k) id 0 l) ∙ sym (sent_marked (view k) (view m) id 0 l') ∙ l''.0
+
+stay_counts : (o : Option Stay) (s : Stay) (counts : Sent) → o ≡ Some s → sent_in o ≡ Some counts → (counts.sent ≡ s.sent) × (counts.lost ≡ s.lost)
+stay_counts o s counts h k =
+    let is : Some (record { sent = s.sent; lost = s.lost }) ≡ Some counts = sym (ap sent_in h) ∙ k in
+    let same : record { sent = s.sent; lost = s.lost } ≡ counts = cc in
+    (ap (λ (x : Sent). x.sent) (sym same), ap (λ (x : Sent). x.lost) (sym same))
+
+-- what a cyclic that leaves has: what it carried in, and what the end of its stay answered
+pub has_polled : {R : Type 0} (step : R → FiringCall → R → Type 0) (view : R → FiringView) (size : ℕ) (lock_marked low_marked : Option ℕ) (lock low lock' low' : R) (rows : List Row) (k : ℕ) (r : Row) (counts : Sent) (way : List FiringCall)
+    → IsEnd level.Lock size lock_marked (view lock) rows → IsEnd level.Low size low_marked (view low) rows → IsRow rows k r
+    → Goes step view lock (calls_at level.Lock r.timer.level way) lock' → Goes step view low (calls_at level.Low r.timer.level way) low'
+    → ((e f : R) → Goes step view e way f → sent_of r.timer.id (view e) ≡ Some counts) → HasPolled counts (cyclic_of r)
+has_polled {R} step view size lock_marked low_marked lock low lock' low' rows k r counts way lock_end low_end is a b tells soft = by_level r.timer.level refl
+  where
+    at_end : (own : Level) (marked : Option ℕ) (e f : R) → r.timer.level ≡ own → IsEnd own size marked (view e) rows → Goes step view e (calls_at own r.timer.level way) f
+        → (r.timer.expired ≡ r.carried.sent + counts.sent) × (r.lost ≡ r.carried.lost + counts.lost)
+    at_end own marked e f at ready goes =
+        let (s, stay, (index, sent, lost)) = ready.here k r is at in
+        let (x, y) = stay_counts ((view e).stays r.timer.id) s counts stay (tells e f (goes_here step view own r.timer.level e f way goes at)) in
+        (omega (arith, sent, x), omega (arith, lost, y))
+
+    by_level : (l : Level) → r.timer.level ≡ l → (r.timer.expired ≡ r.carried.sent + counts.sent) × (r.lost ≡ r.carried.lost + counts.lost)
+    by_level level.High at = absurd (soft at)
+    by_level level.Lock at = at_end level.Lock lock_marked lock lock' at lock_end a
+    by_level level.Low at = at_end level.Low low_marked low low' at low_end b

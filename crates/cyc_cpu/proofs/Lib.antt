@@ -13,3 +13,5 @@ pub mod Staying
 pub mod Sparing
 pub mod Gone
 pub mod Following
+pub mod Lawful
+pub mod Calling

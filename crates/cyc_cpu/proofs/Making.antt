@@ -13,7 +13,7 @@ use Rattle.cyc_types.specs.declared.level.Level.{Level}
 use Rattle.cyc_expirations.specs.Expirations.{Expiration, after, all_after}
 use Rattle.cyc_expirations.specs.Timers.{Timer, HasDistinctIds}
 use Rattle.cyc_expirations.proofs.Firings.{Firing}
-use Rattle.cyc_timers.specs.Rows.{Row, Cyclic, IsRow, IsRising, timers_of, cyclic_of, cyclics_of}
+use Rattle.cyc_timers.specs.Rows.{Row, Cyclic, IsRow, IsRising, no_counts, timers_of, cyclic_of, cyclics_of}
 use Rattle.cyc_cpu.specs.Acts.{AreRaises, loss_in, losses, id_at, ids_at, is_at, is_of, same_level, timer_of, lost_after}
 use Rattle.cyc_cpu.proofs.Readying.{Edits, edits}
 use Rattle.cyc_timers.proofs.Tables.{timer_of_row, timers_long}
@@ -74,7 +74,7 @@ losses_other true id q (Raises j Lost ∷ []) ne a = (let same = a.0 in let no :
 pub distinct : (rows : List Row) → IsRising rows → HasDistinctIds (timers_of rows)
 distinct rows rising i j d low_i low_j same =
     let l = timers_long rows in
-    let e : Row = record { timer = d; lost = 0; index = 0 } in
+    let e : Row = record { timer = d; lost = 0; carried = no_counts; index = 0 } in
     let li : i < length rows = omega (arith, l, low_i) in
     let lj : j < length rows = omega (arith, l, low_j) in
     let a = ap (λ (t : Timer). t.id) (timer_of_row rows i d e li) in

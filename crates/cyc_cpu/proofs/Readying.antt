@@ -12,7 +12,9 @@ use Rattle.cyc_types.specs.declared.firing.Raised.{Raised}
 use Rattle.cyc_types.specs.declared.firing.Raised.TheVariants.{First, More, Lost}
 use Rattle.cyc_types.specs.declared.level.Level.{Level}
 use Rattle.cyc_types.specs.declared.level.Level.TheVariants as level
-use Rattle.cyc_timers.specs.Rows.{Row, IsRow, IsRising}
+use Rattle.cyc_types.specs.declared.firing.Sent.{Sent}
+use Rattle.cyc_timers.specs.Rows.{Row, IsRow, IsRising, cyclic_of}
+use Rattle.cyc_cpu.specs.Cpu.{HasCounts}
 use Rattle.cyc_cpu.specs.Acts.{loss_in}
 use Rattle.cyc_cpu.specs.Ends.{HasStay, HasRow, IsEnd, IsCounted, IsHard}
 use Rattle.cyc_cpu.specs.Quiet.{asks_at, KeepsStays}
@@ -24,6 +26,7 @@ pub record Advances (r u : Row) (n : ℕ) : Type 0 where
   pub index : u.index ≡ r.index
   pub expired : u.timer.expired ≡ r.timer.expired + 1
   pub lost : u.lost ≡ r.lost + n
+  pub carried : u.carried ≡ r.carried
 
 -- a row after a change of one row
 pub row_cases : (rows : List Row) (i k : ℕ) (u x : Row) → i < length rows → IsRow (set rows i u) k x → ((k ≡ i) × (x ≡ u)) ⊎ ((k ≢ i) × IsRow rows k x)
@@ -138,8 +141,8 @@ module _ (soft : Level) (size : ℕ) (marked : Option ℕ) (v : FiringView) (row
           (let (s, stay, (index, sent, lost)) = ready.here i r is at in
           let to = same_stay v w r.timer.id n e s stay in
           let i1 = e.index s in let i2 = e.sent s in let i3 = e.lost s in
-          let a1 = adv.index in let a2 = adv.expired in let a3 = adv.lost in
-          subst (HasStay w) (sym eq) (e.f s, ap w.stays adv.id ∙ to, (i1 ∙ index ∙ sym a1, omega (arith, i2, sent, a2), omega (arith, i3, lost, a3))))
+          let a1 = adv.index in let a2 = adv.expired in let a3 = adv.lost in let c2 = ap (λ (x : Sent). x.sent) adv.carried in let c3 = ap (λ (x : Sent). x.lost) adv.carried in
+          subst (HasStay w) (sym eq) (e.f s, ap w.stays adv.id ∙ to, (i1 ∙ index ∙ sym a1, omega (arith, i2, sent, a2, c2), omega (arith, i3, lost, a3, c3))))
       | inr (ne, old) ↦
           (let (s, stay, rest) = ready.here k x old at_x in
           (s, other_stay v w r.timer.id n e x.timer.id (ids_apart rows i k r x rising is old ne) ∙ stay, rest))
@@ -173,11 +176,18 @@ module _ (soft : Level) (size : ℕ) (marked : Option ℕ) (v : FiringView) (row
       let (s, stay, (index, sent, lost)) = ready.here i r is at in
       ((s, stay, omega (arith, sent, room)), (λ h. not_marked (sym ready.marked_is ∙ h)), ready.free)
 
-pub counted_still : (most : ℕ) (rows : List Row) (i : ℕ) (r u : Row) (n : ℕ) → IsCounted most rows → IsRow rows i r → Advances r u n → n ≤ 1 → r.timer.expired < most → IsCounted most (set rows i u)
-counted_still most rows i r u n counted is adv few less =
-    let old = subst (λ (x : Row). (x.lost ≤ x.timer.expired) × (x.timer.expired ≤ most)) is.1 (counted i r is.0) in
-    let a = adv.expired in let b = adv.lost in
-    All-set (λ (x : Row). (x.lost ≤ x.timer.expired) × (x.timer.expired ≤ most)) rows i u (omega (arith, old, a, b, few), omega (arith, a, less)) counted
+pub counted_still : (most : ℕ) (rows : List Row) (i : ℕ) (r u : Row) (n : ℕ) → IsCounted most rows → IsRow rows i r → Advances r u n → n ≤ 1 → r.timer.expired < most → (r.timer.level ≡ level.High → n ≡ 0) → IsCounted most (set rows i u)
+counted_still most rows i r u n counted is adv few less high =
+    let old = subst (λ (x : Row). HasCounts most (cyclic_of x)) is.1 (counted i r is.0) in
+    let a = adv.expired in let b = adv.lost in let c = ap (λ (x : Sent). x.sent) adv.carried in let d = ap (λ (x : Sent). x.lost) adv.carried in
+    let o1 = old.some in let o2 = old.carried in let o3 = old.carried_lost in
+    All-set (λ (x : Row). HasCounts most (cyclic_of x)) rows i u (record {
+      some = omega (arith, o1, a, b, few);
+      few = omega (arith, a, less);
+      carried = omega (arith, o2, a, c);
+      carried_lost = omega (arith, o3, b, d);
+      high = λ at. (let was = sym adv.level ∙ at in let e = old.high was in let z = high was in omega (arith, b, d, e, z));
+    }) counted
 
 -- an end after a change of one row that leaves its id, level, index and counts
 pub record Keeps (r u : Row) : Type 0 where
@@ -186,6 +196,7 @@ pub record Keeps (r u : Row) : Type 0 where
   pub index : u.index ≡ r.index
   pub expired : u.timer.expired ≡ r.timer.expired
   pub lost : u.lost ≡ r.lost
+  pub carried : u.carried ≡ r.carried
 
 pub end_moved : (soft : Level) (size : ℕ) (marked : Option ℕ) (v : FiringView) (rows : List Row) (i : ℕ) (r u : Row) → IsEnd soft size marked v rows → IsRow rows i r → Keeps r u → marked ≢ Some r.timer.id →
     IsEnd soft size marked v (set rows i u)
@@ -197,8 +208,8 @@ end_moved soft size marked v rows i r u ready is keep unmarked = record {
   here = λ k x is_x at_x. elim (row_cases rows i k u x is.0 is_x) [
     | inl (same, eq) ↦
         (let (s, stay, (index, sent, lost)) = ready.here i r is (sym keep.level ∙ ap (λ (y : Row). y.timer.level) (sym eq) ∙ at_x) in
-        let a = keep.index in let b = keep.expired in let c = keep.lost in
-        subst (HasStay v) (sym eq) (s, ap v.stays keep.id ∙ stay, (index ∙ sym a, omega (arith, sent, b), omega (arith, lost, c))))
+        let a = keep.index in let b = keep.expired in let c = keep.lost in let d = ap (λ (x : Sent). x.sent) keep.carried in let e = ap (λ (x : Sent). x.lost) keep.carried in
+        subst (HasStay v) (sym eq) (s, ap v.stays keep.id ∙ stay, (index ∙ sym a, omega (arith, sent, b, d), omega (arith, lost, c, e))))
     | inr (ne, old) ↦ ready.here k x old at_x
   ];
   only = λ id s h. still_here rows i r u soft id is keep.id keep.level (ready.only id s h);
@@ -212,9 +223,16 @@ end_moved soft size marked v rows i r u ready is keep unmarked = record {
 
 pub counted_moved : (most : ℕ) (rows : List Row) (i : ℕ) (r u : Row) → IsCounted most rows → IsRow rows i r → Keeps r u → IsCounted most (set rows i u)
 counted_moved most rows i r u counted is keep =
-    let old = subst (λ (x : Row). (x.lost ≤ x.timer.expired) × (x.timer.expired ≤ most)) is.1 (counted i r is.0) in
-    let a = keep.expired in let b = keep.lost in
-    All-set (λ (x : Row). (x.lost ≤ x.timer.expired) × (x.timer.expired ≤ most)) rows i u (omega (arith, old, a, b), omega (arith, old, a)) counted
+    let old = subst (λ (x : Row). HasCounts most (cyclic_of x)) is.1 (counted i r is.0) in
+    let a = keep.expired in let b = keep.lost in let c = ap (λ (x : Sent). x.sent) keep.carried in let d = ap (λ (x : Sent). x.lost) keep.carried in
+    let o1 = old.some in let o2 = old.carried in let o3 = old.carried_lost in let o4 = old.few in
+    All-set (λ (x : Row). HasCounts most (cyclic_of x)) rows i u (record {
+      some = omega (arith, o1, a, b);
+      few = omega (arith, o4, a);
+      carried = omega (arith, o2, a, c);
+      carried_lost = omega (arith, o3, b, d);
+      high = λ at. (let e = old.high (sym keep.level ∙ at) in omega (arith, b, d, e));
+    }) counted
 
 pub end_kept : (soft : Level) (size : ℕ) (marked : Option ℕ) (v w : FiringView) (rows : List Row) → IsEnd soft size marked v rows → KeepsStays v w → Sound w → IsEnd soft size marked w rows
 end_kept soft size marked v w rows ready keep sound = record {

@@ -9,7 +9,7 @@ use Rattle.cyc_types.specs.declared.level.Level.TheVariants.{Low, Lock, High}
 use Rattle.cyc_timers.specs.Rows.{Row, Cyclic, IsRow, IsRising, cyclics_of}
 use Rattle.cyc_cpu.specs.Acts.{Sides}
 use Rattle.cyc_cpu.specs.Ends.{IsEnd, IsReady}
-use Rattle.cyc_cpu.specs.Losses.{IsUnder, Spares, IsSpared}
+use Rattle.cyc_cpu.specs.Losses.{IsUnder, Spares}
 use Rattle.cyc_cpu.proofs.Acting.{One}
 use Rattle.cyc_cpu.proofs.Cyclics.{row_of_cyclic}
 use Rattle.cyc_cpu.proofs.Readying.{Advances, Edits, row_cases, some_same}
@@ -99,17 +99,3 @@ module _ {C R : Type 0} (called : C → ℕ → C → Type 0) (count : C → ℕ
         low_same = ap (λ (x : FiringView). x.ceiling) e.is;
         none = none_under n r.timer.expired (view s.low).ceiling (over_ceiling Low size low_marked (view s.low) (view s'.low) rows i r n ready.low_end is at e);
       }
-
--- what a stay has lost
-pub spared : (soft : Level) (size : ℕ) (marked : Option ℕ) (v : FiringView) (rows : List Row) (i : ℕ) (r : Row) (id expired : ℕ) → IsEnd soft size marked v rows → IsRising rows → IsRow rows i r → r.timer.id ≡ id → expired ≡ r.timer.expired →
-    IsSpared v id expired
-spared soft size marked v rows i r id expired ready rising is named count s stay under =
-    let (k, x, is_x, named_x, at) = ready.only id s stay in
-    let same : x ≡ r = one_row rows i k r x rising is is_x (named_x ∙ sym named) in
-    let (t, there, (index, sent, lost)) = ready.here k x is_x at in
-    let eq : s ≡ t = some_same s t (v.stays id) stay (ap v.stays (sym named_x) ∙ there) in
-    let a = ap (λ (y : Row). y.timer.expired) same in let b = ap (λ (y : Stay). y.sent) eq in
-    elim (cases_lt 0 s.lost) [
-      | inl some ↦ (let o = ready.over id s stay some in absurd (omega (arith, o, sent, a, b, count, under)))
-      | inr none ↦ omega (arith, none)
-    ]

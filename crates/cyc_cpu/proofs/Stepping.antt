@@ -1,5 +1,5 @@
 -- One turn of a fire: what holds before it holds after it.
-use Rattle.std.proofs.Common.{◌≡◌, ℕ, ◌+◌, ◌<◌, ◌≤◌, true, Option, Some, List, [], ◌∷◌, ◌++◌, All, refl, sym, ap, ◌∙◌, subst, arith, length, get_or, map, inl, inr, length-append}
+use Rattle.std.proofs.Common.{◌≡◌, ℕ, zero, suc, ◌+◌, ◌<◌, ◌≤◌, true, Option, Some, List, [], ◌∷◌, ◌++◌, All, refl, sym, ap, ◌∙◌, subst, arith, length, get_or, map, inl, inr, length-append}
 use Rattle.std.proofs.Math.ListN.{set}
 use Rattle.std.proofs.lemmas.Bool.{cases_eq}
 use Rattle.std.proofs.lemmas.Bool.Decides.{nat_tests}
@@ -34,16 +34,16 @@ pub record Following (moment interval now m : ℕ) : Type 0 where
 
 -- a row after one of its expirations
 abbrev pub row_after : Row → ℕ → ℕ → Row
-row_after r m n = record { timer = record { id = r.timer.id; level = r.timer.level; interval = r.timer.interval; moment = m; expired = r.timer.expired + 1 }; lost = r.lost + n; index = r.index }
+row_after r m n = record { timer = record { id = r.timer.id; level = r.timer.level; interval = r.timer.interval; moment = m; expired = r.timer.expired + 1 }; lost = r.lost + n; carried = r.carried; index = r.index }
 
 pub advances : (r : Row) (m n : ℕ) → Advances r (row_after r m n) n
-advances r m n = record { id = refl; level = refl; index = refl; expired = refl; lost = refl }
+advances r m n = record { id = refl; level = refl; index = refl; expired = refl; lost = refl; carried = refl }
 
 -- the row that the code writes
 pub written : (r : Row) (m n : ℕ) (kept : Record) → IsRecordOf kept r →
-    with_record m (record { level = kept.level; interval = kept.interval; expired = kept.expired + 1; lost = kept.lost + n }) r ≡ row_after r m n
-written r m n kept (level, interval, expired, lost) =
-    λ j. record { timer = record { id = r.timer.id; level = level j; interval = interval j; moment = m; expired = expired j + 1 }; lost = lost j + n; index = r.index }
+    with_record m (record { level = kept.level; interval = kept.interval; expired = kept.expired + 1; lost = kept.lost + n; carried = kept.carried }) r ≡ row_after r m n
+written r m n kept (level, interval, expired, lost, carried) =
+    λ j. record { timer = record { id = r.timer.id; level = level j; interval = interval j; moment = m; expired = expired j + 1 }; lost = lost j + n; carried = carried j; index = r.index }
 
 expires : (now : ℕ) (r : Row) (m n : ℕ) → Following r.timer.moment r.timer.interval now m → Expires now r.timer (row_after r m n).timer
 expires now r m n f = record { same_id = refl; same_level = refl; same_interval = refl; count = refl; step = f.due_is; as_next = f.next_is; follows = f.follows; later = f.later }
@@ -57,6 +57,12 @@ timer_is rows i r is = sym (timer_of_row rows i r.timer r is.0 ∙ ap (λ (x : R
 
 pub timer_low : (rows : List Row) (i : ℕ) (r : Row) → IsRow rows i r → i < length (timers_of rows)
 timer_low rows i r is = (let l = timers_long rows in let a = is.0 in omega (arith, l, a))
+
+-- what the cyclics carried in, after a change of one row that leaves it
+carried_set : (rows : List Row) (i : ℕ) (r u : Row) → IsRow rows i r → u.carried ≡ r.carried → map (λ (c : Cyclic). c.carried) (cyclics_of (set rows i u)) ≡ map (λ (c : Cyclic). c.carried) (cyclics_of rows)
+carried_set [] i r u is same = absurd (let a = is.0 in omega (arith, a))
+carried_set (x ∷ rows) zero r u is same = (λ j. (same ∙ ap (λ (y : Row). y.carried) (sym is.1)) j ∷ map (λ (c : Cyclic). c.carried) (cyclics_of rows))
+carried_set (x ∷ rows) (suc i) r u is same = (let rest = carried_set rows i r u ((let a = is.0 in omega (arith, a)), is.1) same in λ j. x.carried ∷ rest j)
 
 rising_set : (rows : List Row) (i : ℕ) (r u : Row) → IsRow rows i r → u.timer.id ≡ r.timer.id → IsRising rows → IsRising (set rows i u)
 rising_set rows i r u is same rising j k d less low =
@@ -91,6 +97,7 @@ module _ {C R : Type 0} (called : C → ℕ → C → Type 0) (count : C → ℕ
   makes_none now cs s f = record {
     acts = record { lock_way = []; low_way = []; called_in_order = refl; counted = λ id. omega arith; lock_goes = refl; low_goes = refl; lock_raises = tt; low_raises = tt };
     timers_are = f.is;
+    carried_are = refl;
     losses_are = same cs;
     lost_is = omega arith;
   }
@@ -168,12 +175,14 @@ module _ {C R : Type 0} (called : C → ℕ → C → Type 0) (count : C → ℕ
         ready = record {
           lock_end = lock_step r.timer.level size n lock_marked rows i r u s s' refl o t.ready.lock_end t.rising is adv soon sound_lock;
           low_end = low_step r.timer.level size n low_marked rows i r u s s' refl o t.ready.low_end t.rising is adv soon sound_low;
-          counted = counted_still most rows i r u n t.ready.counted is adv one less;
+          counted = counted_still most rows i r u n t.ready.counted is adv one less
+              (λ at. fairly.none (subst (λ l. IsUnder (view s.lock).ceiling (view s.low).ceiling l (r.timer.expired + 1)) (sym at) tt));
         };
         firing = firing';
         makes = record {
           acts = c;
           timers_are = firing'.is;
+          carried_are = carried_set rows i r u is adv.carried ∙ t.makes.carried_are;
           losses_are = losts ∙ (λ j. map (λ (x : Cyclic). lost_after (sym e1 j) (sym e2 j) x.timer.id x.lost) (cyclics_of rows0));
           lost_is = (let a = ap losses e1 in let b = ap losses e2 in let x = losses_on t.makes.acts.lock_way o.0.lock_way in let y = losses_on t.makes.acts.low_way o.0.low_way in
               let z = t.makes.lost_is in let w = o.1 in omega (arith, a, b, x, y, z, w));
@@ -190,7 +199,7 @@ module _ {C R : Type 0} (called : C → ℕ → C → Type 0) (count : C → ℕ
       Turns now size most lock_marked low_marked rows0 s0 made rows s lost → IsRising rows0 → IsRow rows i r → IsFirstAt rows i → r.timer.moment ≡ mo → r.timer.id ≡ id → IsRecordOf kept r → mo ≤ now → now < never →
       kept.expired < most → Following mo kept.interval now m → One called count step view kept.level id s s' n → n ≤ 1 →
       (Sound (view s.lock) → Sound (view s'.lock)) → (Sound (view s.low) → Sound (view s'.low)) →
-      rows' ≡ set rows i (with_record m (record { level = kept.level; interval = kept.interval; expired = kept.expired + 1; lost = kept.lost + n }) r) →
+      rows' ≡ set rows i (with_record m (record { level = kept.level; interval = kept.interval; expired = kept.expired + 1; lost = kept.lost + n; carried = kept.carried }) r) →
       Turns now size most lock_marked low_marked rows0 s0 (made ++ next_of r.timer ∷ []) rows' s' (lost + n)
   turn_written now size most lock_marked low_marked rows0 s0 made rows rows' s s' lost n m i mo id r kept t rising0 is first moment named of reached last less f o one sound_lock sound_low written_is =
       let f' = subst (λ x. Following x r.timer.interval now m) (sym moment) (subst (λ x. Following mo x now m) of.1 f) in
@@ -202,7 +211,7 @@ module _ {C R : Type 0} (called : C → ℕ → C → Type 0) (count : C → ℕ
 
 -- less is left after a turn
 pub less_left : (now : ℕ) (rows rows' : List Row) (n m i mo : ℕ) (r : Row) (kept : Record) → IsRow rows i r → IsFirstAt rows i → r.timer.moment ≡ mo → IsRecordOf kept r → Following mo kept.interval now m →
-    rows' ≡ set rows i (with_record m (record { level = kept.level; interval = kept.interval; expired = kept.expired + 1; lost = kept.lost + n }) r) →
+    rows' ≡ set rows i (with_record m (record { level = kept.level; interval = kept.interval; expired = kept.expired + 1; lost = kept.lost + n; carried = kept.carried }) r) →
     length (expirations now (timers_of rows')) < length (expirations now (timers_of rows))
 less_left now rows rows' n m i mo r kept is first moment of f written_is =
     let f' = subst (λ x. Following x r.timer.interval now m) (sym moment) (subst (λ x. Following mo x now m) of.1 f) in

@@ -1,5 +1,5 @@
 -- What callers see of the firing side of one CPU.
-use Rattle.std.specs.Prelude.{◌≡◌, ◌≢◌, ℕ, zero, suc, ◌+◌, ◌^◌, nat_le, cond, insert, ◌<◌, ◌≤◌, List, map, length, slice_index_or, All, true, false, ◌⊎◌, Option, Some, None}
+use Rattle.std.specs.Prelude.{◌≡◌, ◌≢◌, ℕ, zero, suc, ◌+◌, ◌^◌, nat_le, cond, insert, ◌<◌, ◌≤◌, max, List, map, length, slice_index_or, All, true, false, ◌⊎◌, Option, Some, None}
 use Rattle.cyc_types.specs.Firing.{FiringView, FiringCall, Expands, Stay, IsAdmitted, seen_of}
 use Rattle.cyc_types.specs.Series.{never}
 use Rattle.cyc_types.specs.Limits.{cyclics as most_cyclics, greatest_bank}
@@ -29,6 +29,18 @@ pub record CpuView (R : Type 0) : Type 0 where
   pub lock : R
   pub low : R
 
+-- a CPU and the handlers of its cyclics
+pub record Running (C R : Type 0) : Type 0 where
+  pub cpu : CpuView R
+  pub calls : C
+
+abbrev pub running : {C R : Type 0} → C → CpuView R → Running C R
+running calls v = record { cpu = v; calls = calls }
+
+-- what a fire acts on of these
+abbrev pub sides : {C R : Type 0} → C → CpuView R → Sides C R
+sides calls v = record { calls = calls; lock = v.lock; low = v.low }
+
 -- what was seen of a cyclic at the two ends: at least its outstanding calls
 abbrev pub seen_at : {R : Type 0} → (R → FiringView) → ℕ → CpuView R → ℕ
 seen_at view id v = seen_of id (view v.lock) + seen_of id (view v.low)
@@ -55,12 +67,20 @@ IsCyclic cs k c = (k < length cs) × (slice_index_or cs k c ≡ c)
 abbrev pub HasNoCyclic : ℕ → List Cyclic → Type 0
 HasNoCyclic id cs = All (λ c. c.timer.id ≢ id) cs
 
--- the cyclics of a soft level are exactly those admitted at its end, which counts no more of each than the CPU
+-- the cyclics of a soft level are exactly those admitted at its end, which counts of each what it didn't carry in
 pub record AreAdmitted (soft : Level) (v : FiringView) (cs : List Cyclic) : Type 0 where
-  pub here : (k : ℕ) (c : Cyclic) → IsCyclic cs k c → c.timer.level ≡ soft → IsAdmitted c.timer.id v (λ s. (s.sent ≤ c.timer.expired) × (s.lost ≤ c.lost))
+  pub here : (k : ℕ) (c : Cyclic) → IsCyclic cs k c → c.timer.level ≡ soft → IsAdmitted c.timer.id v (λ s. (c.timer.expired ≡ c.carried.sent + s.sent) × (c.lost ≡ c.carried.lost + s.lost))
   pub only : (id : ℕ) (s : Stay) → v.stays id ≡ Some s → (k : ℕ) × (c : Cyclic) × IsCyclic cs k c × (c.timer.id ≡ id) × (c.timer.level ≡ soft)
   -- a stay lost an expiration only after as many as the ceiling
   pub over : (id : ℕ) (s : Stay) → v.stays id ≡ Some s → 0 < s.lost → v.ceiling < s.sent
+
+-- the counts of a cyclic: those that it carried in are among them, and at high level it loses nothing here
+pub record HasCounts (most : ℕ) (c : Cyclic) : Type 0 where
+  pub some : c.lost ≤ c.timer.expired
+  pub few : c.timer.expired ≤ most
+  pub carried : c.carried.sent ≤ c.timer.expired
+  pub carried_lost : c.carried.lost ≤ c.lost
+  pub high : c.timer.level ≡ High → c.lost ≡ c.carried.lost
 
 -- an open removal is of one cyclic of a soft level, which never expires
 abbrev pub IsRemoved : ℕ → List Cyclic → Type 0
@@ -128,15 +148,21 @@ pub record MayWiden {R : Type 0} (view : R → FiringView) (more : ℕ) (v : Cpu
   pub room : HasRoom view more v
   pub reserved : size_for v.size (length v.cyclics + more) ≤ v.room
 
--- memory may have been taken; the ends were asked at most whether their soft sides have followed
-pub record Reserves {R : Type 0} (step : R → FiringCall → R → Type 0) (view : R → FiringView) (v w : CpuView R) : Type 0 where
+-- the memory that so many more need was taken where it was not there, and no more; the ends were asked at most whether their
+-- soft sides have followed
+pub record Reserves {R : Type 0} (step : R → FiringCall → R → Type 0) (view : R → FiringView) (more : ℕ) (v w : CpuView R) : Type 0 where
   pub lock : OnlyLooks step view v.lock w.lock
   pub low : OnlyLooks step view v.low w.low
   pub cyclics : w.cyclics ≡ v.cyclics
   pub removal : w.removal ≡ v.removal
   pub size : w.size ≡ v.size
-  pub room : v.room ≤ w.room
+  pub room : w.room ≡ max v.room (size_for v.size (length v.cyclics + more))
   pub most : w.most ≡ v.most
+
+-- why no memory was taken for so many more: as for room, and then want of memory where more is needed than is there
+abbrev pub WhyNotReserved : {R : Type 0} → (R → FiringView) → ℕ → CpuView R → CpuView R → Refusal → Type 0
+WhyNotReserved view more v w why.Memory = HasRoom view more w × (v.room < size_for v.size (length v.cyclics + more))
+WhyNotReserved view more v w e = WhyNoRoom view more w e
 
 -- the size is what so many more need; where it grew, both ends were switched, once
 pub record Widens {R : Type 0} (step : R → FiringCall → R → Type 0) (view : R → FiringView) (more : ℕ) (v w : CpuView R) : Type 0 where
@@ -154,7 +180,7 @@ pub record Widens {R : Type 0} (step : R → FiringCall → R → Type 0) (view 
 
 -- a cyclic with the counts that it carries in
 abbrev pub cyclic_with : ℕ → Level → ℕ → ℕ → ℕ → ℕ → Cyclic
-cyclic_with id level interval moment expired lost = record { timer = record { id = id; level = level; interval = interval; moment = moment; expired = expired }; lost = lost }
+cyclic_with id level interval moment expired lost = record { timer = record { id = id; level = level; interval = interval; moment = moment; expired = expired }; lost = lost; carried = record { sent = expired; lost = lost } }
 
 -- a cyclic that has not expired yet
 abbrev pub new_cyclic : ℕ → Level → ℕ → ℕ → Cyclic
@@ -180,13 +206,14 @@ pub record Makes {C R : Type 0} (called : C → ℕ → C → Type 0) (count : C
     (now : ℕ) (made : List Expiration) (cs cs' : List Cyclic) (s s' : Sides C R) (lost : ℕ) : Type 0 where
   pub acts : Acts called count step view (ids_at High (timers cs) made) (ids_at Lock (timers cs) made) (ids_at Low (timers cs) made) s s'
   pub timers_are : timers cs' ≡ all_after now made (timers cs)
+  pub carried_are : map (λ c. c.carried) cs' ≡ map (λ c. c.carried) cs
   pub losses_are : map (λ c. c.lost) cs' ≡ map (λ c. lost_after acts.lock_way acts.low_way c.timer.id c.lost) cs
   pub lost_is : lost ≡ losses acts.lock_way + losses acts.low_way
 
--- what the refusal of an expiration of this cyclic says
+-- what the refusal of an expiration of this cyclic says: first that it has expired as often as it may, and then its handler
 abbrev pub Stops : {C : Type 0} → (C → ℕ → Type 0) → ℕ → C → Timer → Refusal → Type 0
 Stops may_refuse most at t (why.CountSpent id) = (id ≡ t.id) × (most ≤ t.expired)
-Stops may_refuse most at t (why.HandlerRefused id) = (id ≡ t.id) × (t.level ≡ High) × may_refuse at id
+Stops may_refuse most at t (why.HandlerRefused id) = (id ≡ t.id) × (t.expired < most) × (t.level ≡ High) × may_refuse at id
 Stops may_refuse most at t e = ⊥
 
 -- the expiration was refused: its cyclic has expired as often as it may, or its handler may refuse at this moment

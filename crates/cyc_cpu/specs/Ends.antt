@@ -1,14 +1,15 @@
 -- How the cyclics of a CPU stand at the ends of its two soft levels.
-use Rattle.std.specs.Prelude.{◌≡◌, ℕ, ◌<◌, ◌≤◌, ◌^◌, ◌⊎◌, List, true, All, Option, Some}
+use Rattle.std.specs.Prelude.{◌≡◌, ℕ, ◌+◌, ◌<◌, ◌^◌, ◌⊎◌, List, true, All, Option, Some}
 use Rattle.cyc_types.specs.Series.{never}
 use Rattle.cyc_types.specs.Firing.{FiringView, Stay, Sound, IsAdmitted}
 use Rattle.cyc_types.specs.declared.level.Level.{Level}
 use Rattle.cyc_types.specs.declared.level.Level.TheVariants.{Low, Lock}
-use Rattle.cyc_timers.specs.Rows.{Row, IsRow}
+use Rattle.cyc_timers.specs.Rows.{Row, IsRow, cyclic_of}
+use Rattle.cyc_cpu.specs.Cpu.{HasCounts}
 
--- what an end has of a cyclic: its index, and no more expirations and losses than the cyclic
+-- what an end has of a cyclic: its index, and the counts of its stay, which with those that it carried in are the cyclic's
 abbrev pub HasStay : FiringView → Row → Type 0
-HasStay v r = IsAdmitted r.timer.id v (λ s. (s.index ≡ r.index) × (s.sent ≤ r.timer.expired) × (s.lost ≤ r.lost))
+HasStay v r = IsAdmitted r.timer.id v (λ s. (s.index ≡ r.index) × (r.timer.expired ≡ r.carried.sent + s.sent) × (r.lost ≡ r.carried.lost + s.lost))
 
 -- a cyclic of this level has the id
 abbrev pub HasRow : Level → ℕ → List Row → Type 0
@@ -29,9 +30,9 @@ pub record IsEnd (soft : Level) (size : ℕ) (marked : Option ℕ) (v : FiringVi
   -- a cyclic whose removal is open never comes to an expiration
   pub removed : (k : ℕ) (r : Row) → IsRow rows k r → marked ≡ Some r.timer.id → r.timer.moment ≡ never
 
--- no cyclic has more losses than expirations, nor more expirations than the most
+-- the counts of each cyclic
 abbrev pub IsCounted : ℕ → List Row → Type 0
-IsCounted most rows = All (λ r. (r.lost ≤ r.timer.expired) × (r.timer.expired ≤ most)) rows
+IsCounted most rows = All (λ r. HasCounts most (cyclic_of r)) rows
 
 -- both ends have the cyclics of their levels
 pub record IsReady {R : Type 0} (view : R → FiringView) (size most : ℕ) (lock_marked low_marked : Option ℕ) (lock low : R) (rows : List Row) : Type 0 where

@@ -7,4 +7,6 @@ pub mod Soft
 pub mod Removal
 pub mod Moving
 pub mod Losses
+pub mod Law
+pub mod Calls
 pub mod Gone

@@ -1,6 +1,5 @@
 -- Which cyclics can lose an expiration.
-use Rattle.std.specs.Prelude.{◌≡◌, ℕ, ◌≤◌, List, Some}
-use Rattle.cyc_types.specs.Firing.{FiringView, Stay}
+use Rattle.std.specs.Prelude.{◌≡◌, ℕ, ◌≤◌, List}
 use Rattle.cyc_types.specs.declared.level.Level.{Level}
 use Rattle.cyc_types.specs.declared.level.Level.TheVariants.{Low, Lock, High}
 use Rattle.cyc_timers.specs.Rows.{Cyclic}
@@ -16,6 +15,6 @@ IsUnder lock_ceiling low_ceiling High n = Unit {0}
 abbrev pub Spares : ℕ → ℕ → List Cyclic → List Cyclic → Type 0
 Spares lock_ceiling low_ceiling cs cs' = (k : ℕ) (c c' : Cyclic) → IsCyclic cs k c → IsCyclic cs' k c' → IsUnder lock_ceiling low_ceiling c'.timer.level c'.timer.expired → c'.lost ≡ c.lost
 
--- a cyclic that has expired no more often than the ceiling has lost nothing in this stay: what it lost it carried in
-abbrev pub IsSpared : FiringView → ℕ → ℕ → Type 0
-IsSpared v id expired = (s : Stay) → v.stays id ≡ Some s → expired ≤ v.ceiling → s.lost ≡ 0
+-- a cyclic that has expired no more often than the ceiling of its level has lost nothing here: what it lost it carried in
+abbrev pub IsSpared : ℕ → ℕ → Cyclic → Type 0
+IsSpared lock_ceiling low_ceiling c = IsUnder lock_ceiling low_ceiling c.timer.level c.timer.expired → c.lost ≡ c.carried.lost

@@ -1,5 +1,5 @@
 -- How a cyclic leaves its CPU: a removal, or a move to another CPU.
-use Rattle.std.specs.Prelude.{◌≡◌, ◌≢◌, ℕ, ◌<◌, cond, List, [], ◌∷◌, Some, None, slice_set, remove}
+use Rattle.std.specs.Prelude.{◌≡◌, ◌≢◌, ℕ, ◌+◌, ◌<◌, cond, List, [], ◌∷◌, Some, None, slice_set, remove}
 use Rattle.cyc_types.specs.Series.{never}
 use Rattle.cyc_types.specs.Firing.{FiringView, FiringCall, Marks, Polls}
 use Rattle.cyc_types.specs.Runs.{Goes}
@@ -50,13 +50,17 @@ pub record Opens {R : Type 0} (step : R → FiringCall → R → Type 0) (view :
   pub room : w.room ≡ v.room
   pub most : w.most ≡ v.most
 
+-- a cyclic of a soft level has the counts that it carried in and those that the end of its stay answered
+abbrev pub HasPolled : Sent → Cyclic → Type 0
+HasPolled counts c = c.timer.level ≢ High → (c.timer.expired ≡ c.carried.sent + counts.sent) × (c.lost ≡ c.carried.lost + counts.lost)
+
 -- the receipt has the counts of this cyclic
 abbrev pub IsReceipt : Receipt → Cyclic → Type 0
 IsReceipt receipt c = (receipt.id ≡ c.timer.id) × (receipt.sent ≡ c.timer.expired) × (receipt.lost ≡ c.lost)
 
 -- a removal is done exactly where the mark found nothing outstanding (`cyclic_remove_here`)
 abbrev pub Begins : {R : Type 0} → (R → FiringCall → R → Type 0) → (R → FiringView) → ℕ → CpuView R → Removal → CpuView R → Type 0
-Begins step view id v (Done receipt) w = (c : Cyclic) × (counts : Sent) × IsReceipt receipt c × Leaves step view id (Marks id 0 ∷ Polls id (Some counts) ∷ []) c v w
+Begins step view id v (Done receipt) w = (c : Cyclic) × (counts : Sent) × IsReceipt receipt c × HasPolled counts c × Leaves step view id (Marks id 0 ∷ Polls id (Some counts) ∷ []) c v w
 Begins step view id v (Kept kept) w = Opens step view id kept v w
 
 -- the open removal has ended: the poll found nothing outstanding
@@ -65,6 +69,7 @@ pub record Ends {R : Type 0} (step : R → FiringCall → R → Type 0) (view : 
   pub cyclic : Cyclic
   pub counts : Sent
   pub counted : IsReceipt receipt cyclic
+  pub polled : HasPolled counts cyclic
   pub leaves : Leaves step view receipt.id (Polls receipt.id (Some counts) ∷ []) cyclic v w
 
 -- the open removal of this cyclic goes on: the poll found calls outstanding

@@ -184,6 +184,7 @@ pub(crate) fn fire_all<C: Calls, R: Raise>(
         let level = kept.level;
         let interval = kept.interval;
         let before = kept.lost;
+        let carried = kept.carried;
         if count >= most {
             return Err(FireRefused {
                 why: Refusal::CountSpent(id),
@@ -206,6 +207,7 @@ pub(crate) fn fire_all<C: Calls, R: Raise>(
             interval,
             expired: count + 1,
             lost: before + more,
+            carried,
         };
         table.expire_root(index, following(moment, interval, now), after);
         expired += 1;

@@ -1,19 +1,19 @@
 ghost use Rattle.std.specs.Prelude.{◌≡◌, ◌≢◌, ℕ, ◌+◌, ◌<◌, ◌≤◌, ◌++◌, ◌∷◌, [], List, All, length, slice_set, None, Some, IfOk, IfErr, OnOk, OnErr, IfNone, IfSome, ◌⊎◌};
 ghost use Rattle.std.specs.Bool.{OnTrue, OnFalse};
 ghost use Rattle.cyc_types.specs.Limits.{cyclics};
-ghost use Rattle.cyc_types.specs.Levels.{at_level};
-ghost use Rattle.cyc_types.specs.declared.level.Level.TheVariants.{Low, Lock, High};
+ghost use Rattle.cyc_types.specs.declared.level.Level.TheVariants.{Low, Lock};
 ghost use Rattle.cyc_types.specs.Series.{never, first};
 ghost use Rattle.cyc_types.specs.declared.refusal.Refusal.TheVariants.{Memory, BadNow, NoCyclic};
 ghost use Rattle.cyc_expirations.specs.Timers.{earliest};
 ghost use Rattle.cyc_expirations.specs.Expirations.{Expiration, expirations};
 ghost use Rattle.cyc_timers.specs.Rows.{Cyclic, timers};
-ghost use Rattle.cyc_cpu.specs.Losses.{Spares, IsSpared};
-ghost use Rattle.cyc_cpu.specs.Cpu.{CpuView, seen_at, Makes, WhyStopped, SameCpu, IsFresh, IsCyclic, HasNoCyclic, with_moment, Asks, HasRoom, WhyNoRoom, Looked, MayWiden, Reserves, Widens, Enters, size_for, AreAdmitted, IsRemoved, HasRisingIds};
+ghost use Rattle.cyc_cpu.specs.Law.{IsLawful};
+ghost use Rattle.cyc_cpu.specs.Cpu.{running, seen_at, IsFresh, HasNoCyclic, Asks, MayWiden, Enters};
+ghost use Rattle.cyc_cpu.specs.Calls.{Changes, Does, no_interrupts, Fire, Add, Reprogram, AskPending, AskTotals, AskRoom, Reserve, Widen};
 
 use crate::ends::{both_followed, least_bank, load_pend, places_of};
 use crate::fire::{FireRefused, Fired, fire_all};
-use cyc_timers::Table;
+use cyc_timers::{Record, Table};
 use cyc_types::{CYCLICS, Calls, CyclicId, Interval, Level, Moment, Raise, Refusal, Sent, When};
 use std::alloc::Global;
 use std::marker::Model;
@@ -90,16 +90,7 @@ impl<R: Raise> Hard<R> {
 
     /// What is true of every CPU. It does nothing when it runs.
     pub fn law(&self)
-        ensures rising { HasRisingIds self.now.cyclics }
-        ensures counted { All (λ c. (c.lost ≤ c.timer.expired) × (c.timer.expired ≤ self.now.most)) self.now.cyclics }
-        ensures lock { AreAdmitted Lock (R.view self.now.lock) self.now.cyclics }
-        ensures low { AreAdmitted Low (R.view self.now.low) self.now.cyclics }
-        ensures removed { (id : ℕ) → self.now.removal ≡ Some id → IsRemoved id self.now.cyclics }
-        ensures marked_lock { (id : ℕ) → (R.view self.now.lock).marked ≡ Some id → self.now.removal ≡ Some id }
-        ensures marked_low { (id : ℕ) → (R.view self.now.low).marked ≡ Some id → self.now.removal ≡ Some id }
-        ensures few { length self.now.cyclics ≤ self.now.size }
-        ensures size { self.now.size ≤ cyclics }
-        ensures room { self.now.size ≤ self.now.room }
+        ensures { IsLawful R.view self.now }
     {
         self.table.law();
         let _ = self.table.len();
@@ -119,24 +110,8 @@ impl<R: Raise> Hard<R> {
     /// Refuses with BadNow where `now` is never. An expiration of a cyclic that has expired `most` times is refused with
     /// CountSpent, and one whose handler refuses with HandlerRefused; those before it were made. Takes no memory.
     pub fn fire<C: Calls>(&mut self, now: Moment, calls: &mut C) -> Result<Fired, FireRefused>
-        // The whole list was made, and no more.
-        ensures now { OnOk result (now ≢ never) }
-        ensures expired { IfOk result (λ r. r.expired ≡ length (expirations now (timers self.old.cyclics))) }
-        ensures next { IfOk result (λ r. r.next ≡ earliest (timers self.new.cyclics)) }
-        ensures made { IfOk result (λ r. Makes (at_level C.called High) C.count R.step R.view now (expirations now (timers self.old.cyclics)) self.old.cyclics self.new.cyclics
-            (record { calls = calls.old; lock = self.old.lock; low = self.old.low }) (record { calls = calls.new; lock = self.new.lock; low = self.new.low }) r.lost) }
-
-        // At the moment that is never nothing was done; else the list was made up to an expiration that was refused.
-        ensures bad_now { IfErr result (λ e. now ≡ never → (e ≡ record { why = BadNow; expired = 0; lost = 0 }) × (self.new ≡ self.old) × (calls.new ≡ calls.old)) }
-        ensures refused { IfErr result (λ e. now ≢ never → (made : List Expiration) × (last : Expiration) × (rest : List Expiration)
-            × (expirations now (timers self.old.cyclics) ≡ made ++ last ∷ rest) × (length made ≡ e.expired) × (at : C)
-            × Makes (at_level C.called High) C.count R.step R.view now made self.old.cyclics self.new.cyclics
-            (record { calls = calls.old; lock = self.old.lock; low = self.old.low }) (record { calls = at; lock = self.new.lock; low = self.new.low }) e.lost
-            × ((id : ℕ) → C.count calls.new id ≡ C.count at id)
-            × WhyStopped C.may_refuse self.old.most at last (timers self.new.cyclics) e.why) }
-        // Only a cyclic above the ceiling of its level lost anything.
-        ensures spares { Spares (R.view self.old.lock).ceiling (R.view self.old.low).ceiling self.old.cyclics self.new.cyclics }
-        ensures kept { SameCpu self.old self.new }
+        // The whole list was made, or it was made up to an expiration that was refused; at the moment that is never, nothing.
+        ensures { Does C.called C.count C.may_refuse R.step R.view no_interrupts (running calls.old self.old) (Fire now result) (running calls.new self.new) }
     {
         if now.nanoseconds() == Moment::NEVER.nanoseconds() {
             return Err(FireRefused {
@@ -158,10 +133,7 @@ impl<R: Raise> Hard<R> {
     /// Gives the cyclic another next expiration, and changes nothing else (`cyclic_reprogram`). Refuses with NoCyclic where
     /// the id is not here, or its removal is open. Takes no memory.
     pub fn reprogram(&mut self, id: CyclicId, moment: Moment) -> Result<(), Refusal>
-        ensures ok { OnOk result ((k : ℕ) × (c : Cyclic) × IsCyclic self.old.cyclics k c × (c.timer.id ≡ id) × (self.old.removal ≢ Some id)
-            × (self.new ≡ record self.old { cyclics = slice_set self.old.cyclics k (with_moment moment c) })) }
-        ensures refused { IfErr result (λ e. (e ≡ NoCyclic) × (HasNoCyclic id self.old.cyclics ⊎ (self.old.removal ≡ Some id))) }
-        ensures err { OnErr result (self.new ≡ self.old) }
+        ensures { Changes R.step R.view self.old (Reprogram id moment result) self.new }
     {
         let _ = moment.nanoseconds();
         if self.is_removed(id) {
@@ -178,32 +150,36 @@ impl<R: Raise> Hard<R> {
 
     /// The calls of the cyclic that are outstanding, 0 at high level. None where the id is not here. Takes no memory.
     pub fn pending(&mut self, id: CyclicId) -> Option<u32>
-        ensures none { IfNone result (HasNoCyclic id self.old.cyclics × (self.new ≡ self.old)) }
-        ensures some { IfSome result (λ n. Asks R.step R.view id n self.old self.new) }
-        ensures seen { IfSome result (λ n. seen_at R.view id self.new ≡ n) }
+        ensures { Changes R.step R.view self.old (AskPending id result) self.new }
     {
-        self.table.law();
-        let place = self.table.find(id)?;
-        let kept = self.table.record_at(place);
-        Some(load_pend(id, kept.level, &mut self.lock, &mut self.low))
+        let (_, pend) = self.ask(id)?;
+        Some(pend)
     }
 
     /// The counts of the cyclic, with those that it carried in, and its calls that are outstanding. None where the id is
     /// not here. Takes no memory.
     pub fn totals(&mut self, id: CyclicId) -> Option<Totals>
+        ensures { Changes R.step R.view self.old (AskTotals id result) self.new }
+    {
+        let (kept, pending) = self.ask(id)?;
+        Some(Totals {
+            expired: kept.expired,
+            lost: kept.lost,
+            pending,
+        })
+    }
+
+    /// What is kept of the cyclic, and its calls that are outstanding. None where the id is not here.
+    fn ask(&mut self, id: CyclicId) -> Option<(Record, u32)>
         ensures none { IfNone result (HasNoCyclic id self.old.cyclics × (self.new ≡ self.old)) }
-        ensures some { IfSome result (λ t. Asks R.step R.view id t.pending self.old self.new) }
-        ensures counts { IfSome result (λ t. (k : ℕ) × (c : Cyclic) × IsCyclic self.old.cyclics k c × (c.timer.id ≡ id) × (t.expired ≡ c.timer.expired) × (t.lost ≡ c.lost)) }
-        ensures spared { IfSome result (λ t. IsSpared (R.view self.new.lock) id t.expired × IsSpared (R.view self.new.low) id t.expired) }
+        ensures some { IfSome result (λ a. (asks : Asks R.step R.view id a.1 self.old self.new) × (a.0.expired ≡ asks.cyclic.timer.expired) × (a.0.lost ≡ asks.cyclic.lost)) }
+        ensures seen { IfSome result (λ a. seen_at R.view id self.new ≡ a.1) }
     {
         self.table.law();
         let place = self.table.find(id)?;
         let kept = self.table.record_at(place);
-        Some(Totals {
-            expired: kept.expired,
-            lost: kept.lost,
-            pending: load_pend(id, kept.level, &mut self.lock, &mut self.low),
-        })
+        let pend = load_pend(id, kept.level, &mut self.lock, &mut self.low);
+        Some((kept, pend))
     }
 
     /// Whether indexes for so many more cyclics can be had. Takes no memory.
@@ -211,9 +187,7 @@ impl<R: Raise> Hard<R> {
     /// Refuses with Full where the CPU would hold more than `CYCLICS`; where the size must grow also with Busy while a
     /// removal is open, and then with Expanding where a soft level has not followed the last switch of banks.
     pub fn room(&mut self, more: usize) -> Result<(), Refusal>
-        ensures ok { OnOk result (HasRoom R.view more self.new) }
-        ensures refused { IfErr result (WhyNoRoom R.view more self.new) }
-        ensures looked { Looked R.step R.view self.old self.new }
+        ensures { Changes R.step R.view self.old (AskRoom more result) self.new }
     {
         let len = self.table.len();
         let size = self.table.size();
@@ -236,10 +210,7 @@ impl<R: Raise> Hard<R> {
     /// Takes the memory that so many more cyclics need, so that `widen` and adding them take none. Refuses as `room`, then
     /// with Memory.
     pub fn reserve(&mut self, more: usize) -> Result<(), Refusal>
-        ensures ok { OnOk result (MayWiden R.view more self.new) }
-        ensures refused { IfErr result (λ e. WhyNoRoom R.view more self.new e ⊎ ((e ≡ Memory) × HasRoom R.view more self.new × (self.old.room < size_for self.old.size (length self.old.cyclics + more)))) }
-        ensures reserves { Reserves R.step R.view self.old self.new }
-        ensures err { OnErr result (self.new.room ≡ self.old.room) }
+        ensures { Changes R.step R.view self.old (Reserve more result) self.new }
     {
         self.room(more)?;
         let needed = self.table.len() + more;
@@ -253,7 +224,7 @@ impl<R: Raise> Hard<R> {
     /// no memory.
     pub fn widen(&mut self, more: usize)
         requires { MayWiden R.view more self.old }
-        ensures { Widens R.step R.view more self.old self.new }
+        ensures { Changes R.step R.view self.old (Widen more) self.new }
     {
         let needed = self.table.len() + more;
         if needed > self.table.size() {
@@ -275,12 +246,7 @@ impl<R: Raise> Hard<R> {
         now: Moment,
     ) -> Result<(), Refusal>
         requires absent { HasNoCyclic id self.old.cyclics }
-        ensures ok { OnOk result ((now ≢ never) × (u : CpuView R) × (w : CpuView R) × Reserves R.step R.view self.old u × Widens R.step R.view 1 u w
-            × Enters R.step R.view id level when.interval (first when.start when.interval now) w self.new) }
-        ensures room { OnOk result ((u : CpuView R) × Reserves R.step R.view self.old u × HasRoom R.view 1 u) }
-        ensures bad_now { IfErr result (λ e. now ≡ never → (e ≡ BadNow) × (self.new ≡ self.old)) }
-        ensures refused { IfErr result (λ e. now ≢ never → (WhyNoRoom R.view 1 self.new e ⊎ ((e ≡ Memory) × HasRoom R.view 1 self.new × (self.old.room < size_for self.old.size (length self.old.cyclics + 1))))) }
-        ensures err { OnErr result (Reserves R.step R.view self.old self.new × (self.new.room ≡ self.old.room)) }
+        ensures { Changes R.step R.view self.old (Add id level when now result) self.new }
     {
         if now.nanoseconds() == Moment::NEVER.nanoseconds() {
             return Err(Refusal::BadNow);

@@ -1,13 +1,12 @@
-ghost use Rattle.std.specs.Prelude.{◌≡◌, ℕ, ◌<◌, List, All, Some};
+ghost use Rattle.std.specs.Prelude.{ℕ, List, All};
 ghost use Rattle.std.specs.List.{FoldsTo};
-ghost use Rattle.cyc_types.specs.Series.{never};
-ghost use Rattle.cyc_expirations.specs.Expirations.{expirations, times_of};
-ghost use Rattle.cyc_timers.specs.Rows.{timers};
 ghost use Rattle.cyc_core.specs.Tables.{Tables, level_of};
 ghost use Rattle.cyc_core.specs.Reached.{IsReached};
 ghost use Rattle.cyc_level.specs.Lawful.{Lawful};
-ghost use Rattle.cyc_cpu.specs.Cpu.{CpuView};
-ghost use Rattle.cyc_cpu.specs.Gone.{CpuCall, Running, Runs, HasAnswered, IsGone, PutsNot, StaysGone};
+ghost use Rattle.cyc_cpu.specs.Cpu.{CpuView, Running};
+ghost use Rattle.cyc_cpu.specs.Calls.{CpuCall, Does};
+ghost use Rattle.cyc_cpu.specs.Soft.{fires, firing_at, Interrupts};
+ghost use Rattle.cyc_cpu.specs.Gone.{HasAnswered, IsGone, PutsNot, StaysGone};
 
 use crate::hard::Hard;
 use cyc_core::LevelCore;
@@ -26,19 +25,17 @@ impl Hard<LevelCore> {
         self.low.conservation();
     }
 
-    /// Once the removal of a cyclic has answered, no call of it is made until its id is put in anew; and from the beginning
-    /// of its removal on it never expires. It does nothing when it runs.
+    /// Once the removal of a cyclic has answered, no call of it is made until its id is put in anew. It does nothing when it
+    /// runs.
     pub fn removal_law<C: Calls>(&self)
         // After a removal of this CPU that answered, no cyclic has the id, and it is admitted at neither level and stands in
         // no place.
         ensures answered { (id : ℕ) (w : CpuView Tables) → HasAnswered id self.now w → IsGone id w }
         // One more call on the CPU that doesn't put it in makes no call of it, and leaves it gone.
-        ensures kept { (id : ℕ) (s t : Running C) (call : CpuCall) → IsGone id s.cpu → PutsNot id call → Runs C.called C.count s call t → StaysGone C.count id s t }
+        ensures kept { (id : ℕ) (s t : Running C Tables) (call : CpuCall) → IsGone id s.cpu → PutsNot id call → Does C.called C.count C.may_refuse fires firing_at (Interrupts C.called C.count C.may_refuse) s call t → StaysGone C.count id s t }
         // So none of any number of such calls after the removal makes one.
-        ensures nothing_follows { (id : ℕ) (s t : Running C) (way : List CpuCall) → HasAnswered id self.now s.cpu → All (PutsNot id) way
-            → FoldsTo (Runs C.called C.count) s way t → StaysGone C.count id s t }
-        // While the removal is open, the cyclic is due at no moment.
-        ensures never_due { (id now : ℕ) → self.now.removal ≡ Some id → now < never → times_of id (expirations now (timers self.now.cyclics)) ≡ 0 }
+        ensures nothing_follows { (id : ℕ) (s t : Running C Tables) (way : List CpuCall) → HasAnswered id self.now s.cpu → All (PutsNot id) way
+            → FoldsTo (Does C.called C.count C.may_refuse fires firing_at (Interrupts C.called C.count C.may_refuse)) s way t → StaysGone C.count id s t }
     {
         self.law();
         self.conservation();

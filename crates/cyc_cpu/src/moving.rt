@@ -20,18 +20,16 @@ pub struct Taken {
 }
 
 impl<R: Raise> Hard<R> {
-    ghost use Rattle.cyc_cpu.specs.Cpu.{Places, cyclic_with, HasNoCyclic};
-    ghost use Rattle.cyc_cpu.specs.Moving.{Takes, WhyNotTaken};
+    ghost use Rattle.cyc_cpu.specs.Cpu.{HasNoCyclic};
+    ghost use Rattle.cyc_cpu.specs.Calls.{Changes, TakeNow, Place};
 
     /// Takes the cyclic off this CPU with all its counts (the first half of `cyclic_juggle_one_to`).
     ///
     /// Refuses with NoCyclic where the id is not here, then with Busy while any removal is open, then with Pending where
     /// calls of it are outstanding. Takes no memory.
     pub fn take_now(&mut self, id: CyclicId) -> Result<Taken, Refusal>
-        ensures ok { IfOk result (λ taken. Takes R.step R.view id taken self.old self.new) }
-        ensures still { OnOk result (self.old.removal ≡ None) }
+        ensures did { Changes R.step R.view self.old (TakeNow id result) self.new }
         ensures counts { IfOk result (λ taken. (taken.sent.lost ≤ taken.sent.sent) × (taken.sent.sent ≤ self.old.most)) }
-        ensures refused { IfErr result (λ e. WhyNotTaken R.step R.view id self.old e self.new) }
     {
         self.table.law();
         let Some(place) = self.table.find(id) else {
@@ -71,7 +69,7 @@ impl<R: Raise> Hard<R> {
         requires free { length self.old.cyclics < self.old.size }
         requires lost { carried.lost ≤ carried.sent }
         requires most { carried.sent ≤ self.old.most }
-        ensures { Places R.step R.view (cyclic_with id level interval moment carried.sent carried.lost) self.old self.new }
+        ensures { Changes R.step R.view self.old (Place id level interval moment carried) self.new }
     {
         let _ = moment.nanoseconds();
         let _ = interval.nanoseconds();
@@ -80,6 +78,7 @@ impl<R: Raise> Hard<R> {
             interval,
             expired: carried.sent,
             lost: carried.lost,
+            carried,
         };
         let index = self.table.insert(id, moment, kept);
         admit_at(id, level, index, &mut self.lock, &mut self.low);

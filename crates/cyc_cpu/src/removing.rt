@@ -29,7 +29,7 @@ fn receipt_of(id: CyclicId, kept: Record) -> Receipt
 }
 
 impl<R: Raise> Hard<R> {
-    ghost use Rattle.cyc_cpu.specs.Removal.{Begins, Ends, Waits, WhyNotBegun};
+    ghost use Rattle.cyc_cpu.specs.Calls.{Changes, BeginRemove, PollRemove};
 
     /// Begins the removal of a cyclic (`cyclic_remove_here`): from now on it never expires. It is done at once where no call
     /// of it is outstanding, as at high level. Else it stays open, and `poll_remove` answers once the soft interrupt has made
@@ -37,10 +37,7 @@ impl<R: Raise> Hard<R> {
     ///
     /// Refuses with NoCyclic where the id is not here, then with Busy while a removal is open. Takes no memory.
     pub fn begin_remove(&mut self, id: CyclicId) -> Result<Removal, Refusal>
-        ensures ok { IfOk result (λ removal. Begins R.step R.view id self.old removal self.new) }
-        ensures still { OnOk result (self.old.removal ≡ None) }
-        ensures refused { IfErr result (λ e. WhyNotBegun id self.old e) }
-        ensures err { OnErr result (self.new ≡ self.old) }
+        ensures { Changes R.step R.view self.old (BeginRemove id result) self.new }
     {
         self.table.law();
         let Some(place) = self.table.find(id) else {
@@ -63,8 +60,7 @@ impl<R: Raise> Hard<R> {
     /// Ends the open removal where the last of its calls was made, and gives the receipt, with the counts that the cyclic
     /// carried in. None where no removal is open, or calls are still outstanding. Takes no memory.
     pub fn poll_remove(&mut self) -> Option<Receipt>
-        ensures some { IfSome result (λ receipt. Ends R.step R.view receipt self.old self.new) }
-        ensures none { IfNone result (((self.old.removal ≡ None) × (self.new ≡ self.old)) ⊎ ((id : ℕ) × (self.old.removal ≡ Some id) × Waits R.step R.view id self.old self.new)) }
+        ensures { Changes R.step R.view self.old (PollRemove result) self.new }
     {
         self.table.law();
         let id = self.removal?;

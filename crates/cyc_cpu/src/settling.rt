@@ -7,7 +7,8 @@ ghost use Rattle.cyc_timers.specs.Rows.{Row, Cyclic, IsRow};
 ghost use Rattle.cyc_cpu.specs.Quiet.{OnlyLoads};
 ghost use Rattle.cyc_cpu.specs.declared.moving.Taken.{Taken as TheTaken};
 ghost use Rattle.cyc_cpu.specs.Cpu.{CpuView, WhyNoRoom, Looked, Asks, Places};
-ghost use Rattle.cyc_cpu.specs.Moving.{IsSettled, Inquires, Takes, WhyNotTaken};
+ghost use Rattle.cyc_cpu.specs.Moving.{IsSettled, Takes, WhyNotTaken};
+ghost use Rattle.cyc_cpu.specs.Calls.{Changes, AskSettled};
 
 use crate::ends::{both_followed, load_pend};
 use crate::hard::Hard;
@@ -44,9 +45,7 @@ impl<R: Raise> Hard<R> {
     /// After true, nothing of this CPU is refused with Expanding, Busy or Pending until the next fire, removal or switch of
     /// banks.
     pub fn settled(&mut self) -> bool
-        ensures yes { OnTrue result (IsSettled R.view self.new) }
-        ensures no { OnFalse result (IsSettled R.view self.new → ⊥) }
-        ensures inquires { Inquires R.step R.view self.old self.new }
+        ensures { Changes R.step R.view self.old (AskSettled result) self.new }
     {
         if self.removal.is_some() {
             return false;

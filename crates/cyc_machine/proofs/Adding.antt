@@ -20,8 +20,9 @@ use Rattle.cyc_level.specs.declared.Event.TheVariants.{Admit, Switch}
 use Rattle.cyc_level.specs.Level.{Level}
 use Rattle.cyc_core.specs.Tables.{Tables, level_of}
 use Rattle.cyc_timers.specs.Rows.{Cyclic}
+use Rattle.std.proofs.Math.Nat.{le-max_left}
 use Rattle.cyc_cpu.specs.Acts.{same_level}
-use Rattle.cyc_cpu.specs.Cpu.{CpuView, HasRisingIds, Reserves, Widens, Enters, WhyNoRoom, HasRoom, bank_for, least_bank, size_for, new_cyclic}
+use Rattle.cyc_cpu.specs.Cpu.{CpuView, HasRisingIds, Looked, Reserves, WhyNotReserved, Widens, Enters, WhyNoRoom, HasRoom, bank_for, least_bank, size_for, new_cyclic}
 use Rattle.cyc_script.specs.declared.step.Add.{Add as AddStep}
 use Rattle.cyc_script.specs.declared.step.Step.TheVariants as step_kind
 use Rattle.cyc_machine.specs.declared.machine.Open.{Open}
@@ -109,7 +110,7 @@ put_last cs ds place x low is rising less = elim (cases_eq place (length cs)) [
 -- ---- the whole add
 
 abbrev pub Adds : ℕ → CyclicLevel → ℕ → ℕ → CpuView Tables → CpuView Tables → Type 0
-Adds id level interval moment v n = (u : CpuView Tables) × (w : CpuView Tables) × Reserves fires seen v u × Widens fires seen 1 u w × Enters fires seen id level interval moment w n
+Adds id level interval moment v n = (u : CpuView Tables) × (w : CpuView Tables) × Reserves fires seen 1 v u × Widens fires seen 1 u w × Enters fires seen id level interval moment w n
 
 size_same : (u v : CpuView Tables) → u.size ≡ v.size → u.cyclics ≡ v.cyclics → size_for u.size (length u.cyclics + 1) ≡ size_for v.size (length v.cyclics + 1)
 size_same u v size cyclics = ap (λ n. size_for n (length u.cyclics + 1)) size ∙ ap (λ (cs : List Cyclic). size_for v.size (length cs + 1)) cyclics
@@ -117,13 +118,13 @@ size_same u v size cyclics = ap (λ n. size_for n (length u.cyclics + 1)) size �
 abbrev growth_of : CpuView Tables → List Event
 growth_of v = cond (nat_le (length v.cyclics + 1) v.size) [] (Switch (bank_for (length v.cyclics + 1)) ∷ [])
 
-lock_grown : (v u w : CpuView Tables) → Reserves fires seen v u → Widens fires seen 1 u w → level_of w.lock ≡ happen (growth_of v) (level_of v.lock)
+lock_grown : (v u w : CpuView Tables) → Reserves fires seen 1 v u → Widens fires seen 1 u w → level_of w.lock ≡ happen (growth_of v) (level_of v.lock)
 lock_grown v u w r wd =
     let same = r.size in
     end_grown v.size v.cyclics u.cyclics v.lock u.lock w.lock (only_looked v.lock u.lock r.lock) r.cyclics
     (λ few. wd.kept_lock (omega (arith, few, same))) (λ more. wd.lock (omega (arith, more, same)))
 
-low_grown : (v u w : CpuView Tables) → Reserves fires seen v u → Widens fires seen 1 u w → level_of w.low ≡ happen (growth_of v) (level_of v.low)
+low_grown : (v u w : CpuView Tables) → Reserves fires seen 1 v u → Widens fires seen 1 u w → level_of w.low ≡ happen (growth_of v) (level_of v.low)
 low_grown v u w r wd =
     let same = r.size in
     end_grown v.size v.cyclics u.cyclics v.low u.low w.low (only_looked v.low u.low r.low) r.cyclics
@@ -131,14 +132,14 @@ low_grown v u w r wd =
 
 -- the cyclic got an index that is free
 pub added_free : (clock adds id interval moment : ℕ) (a : AddStep) (o : Option Open) (fates : List Fate) (v u w n : CpuView Tables) (t : TallyView)
-    → Reserves fires seen v u → Widens fires seen 1 u w → (e : Enters fires seen id a.level interval moment w n) → GetsFree e.index (step_kind.Add a) (state_at clock adds o fates v t)
+    → Reserves fires seen 1 v u → Widens fires seen 1 u w → (e : Enters fires seen id a.level interval moment w n) → GetsFree e.index (step_kind.Add a) (state_at clock adds o fates v t)
 added_free clock adds id interval moment a o fates v u w n t r wd e accepted = (
   λ is. free_where (same_level Lock a.level) id e.index w.lock n.lock (happen (growth_of v) (level_of v.lock)) (ap (same_level Lock) is) e.lock (lock_grown v u w r wd),
   λ is. free_where (same_level Low a.level) id e.index w.low n.low (happen (growth_of v) (level_of v.low)) (ap (same_level Low) is) e.low (low_grown v u w r wd),
 )
 
 pub added_state : (step clock adds start interval : ℕ) (a : AddStep) (o : Option Open) (fates : List Fate) (v u w n : CpuView Tables) (t : TallyView) → pos start ≡ a.start → pos interval ≡ a.interval
-    → Reserves fires seen v u → Widens fires seen 1 u w → (e : Enters fires seen (adds + 1) a.level interval (first start interval clock) w n)
+    → Reserves fires seen 1 v u → Widens fires seen 1 u w → (e : Enters fires seen (adds + 1) a.level interval (first start interval clock) w n)
     → HasRisingIds n.cyclics → ((k : ℕ) (d : Cyclic) → k < length v.cyclics → (get_or v.cyclics k d).timer.id < adds + 1)
     → state_at clock (adds + 1) o (slice_set fates a.name (Here (adds + 1))) n t ≡ (addition e.index step a (state_at clock adds o fates v t)).state
 added_state step clock adds start interval a o fates v u w n t starts goes r wd e rising less =
@@ -242,35 +243,46 @@ either f g (inl a) = inl (f a)
 either f g (inr b) = inr (g b)
 
 no_room : (clock adds start interval : ℕ) (a : AddStep) (o : Option Open) (fates : List Fate) (v n : CpuView Tables) (t : TallyView) (e : Refusal) → pos start ≡ a.start → pos interval ≡ a.interval → 0 < interval
-    → v.removal ≡ option_map (λ (x : Open). x.id) o → Reserves fires seen v n → WhyNoRoom seen 1 n e → add_refusal a (state_at clock adds o fates v t) ≡ Some e
+    → v.removal ≡ option_map (λ (x : Open). x.id) o → Looked fires seen v n → WhyNoRoom seen 1 n e → add_refusal a (state_at clock adds o fates v t) ≡ Some e
 no_room clock adds start interval a o fates v n t Full starts goes some opened r why =
     let same = ap length r.cyclics in
     full_chosen (int_lt a.start (pos 0)) (int_lt a.interval (pos 1)) (nat_le 256 (length v.cyclics)) _ (not_negative a.start start starts) (positive a.interval interval goes some) (is_within 256 (length v.cyclics) (omega (arith, why, same)))
 no_room clock adds start interval a o fates v n t (Busy id) starts goes some opened r (fits, grows, busy) =
     let same = ap length r.cyclics in
-    let size = r.size in
+    let size = r.kept.size in
     grows_chosen (int_lt a.start (pos 0)) (int_lt a.interval (pos 1)) (nat_le 256 (length v.cyclics)) (nat_le (length v.cyclics + 1) v.size) _
     (not_negative a.start start starts) (positive a.interval interval goes some)
     (not_within 256 (length v.cyclics) (omega (arith, fits, same))) (not_within (length v.cyclics + 1) v.size (omega (arith, grows, same, size)))
-    ∙ busy_as o id _ (sym opened ∙ sym r.removal ∙ busy)
+    ∙ busy_as o id _ (sym opened ∙ sym r.kept.removal ∙ busy)
 no_room clock adds start interval a o fates v n t Expanding starts goes some opened r (fits, grows, none, behind) =
     let same = ap length r.cyclics in
-    let size = r.size in
+    let size = r.kept.size in
     grows_chosen (int_lt a.start (pos 0)) (int_lt a.interval (pos 1)) (nat_le 256 (length v.cyclics)) (nat_le (length v.cyclics + 1) v.size) _
     (not_negative a.start start starts) (positive a.interval interval goes some)
     (not_within 256 (length v.cyclics) (omega (arith, fits, same))) (not_within (length v.cyclics + 1) v.size (omega (arith, grows, same, size)))
-    ∙ (still_as o _ (sym opened ∙ sym r.removal ∙ none)
+    ∙ (still_as o _ (sym opened ∙ sym r.kept.removal ∙ none)
     ∙ ap (λ b. cond b None (Some Expanding)) (and_false ((level_of v.lock).hard_bank == (level_of v.lock).soft_bank) ((level_of v.low).hard_bank == (level_of v.low).soft_bank) (either (not_followed v.lock n.lock (only_looked v.lock n.lock r.lock)) (not_followed v.low n.low (only_looked v.low n.low r.low)) behind)))
 no_room clock adds start interval a o fates v n t _ starts goes some opened r why = absurd why
 
 -- memory is never short
-pub add_refused : (step clock adds start interval : ℕ) (a : AddStep) (o : Option Open) (fates : List Fate) (v n : CpuView Tables) (t : TallyView) (e : Refusal) → pos start ≡ a.start → pos interval ≡ a.interval → 0 < interval → Serves step adds o v → v.size ≤ 256
-    → Reserves fires seen v n → (WhyNoRoom seen 1 n e ⊎ ((e ≡ Memory) × HasRoom seen 1 n × (v.room < size_for v.size (length v.cyclics + 1)))) → add_refusal a (state_at clock adds o fates v t) ≡ Some e
-add_refused step clock adds start interval a o fates v n t e starts goes some s small r (inl why) = no_room clock adds start interval a o fates v n t e starts goes some s.open_removal r why
-add_refused step clock adds start interval a o fates v n t e starts goes some s small r (inr (is, room, short)) = let most = size_few v.size (length v.cyclics + 1) small in let enough = s.room in absurd (omega (arith, short, most, enough))
+not_reserved : (clock adds start interval : ℕ) (a : AddStep) (o : Option Open) (fates : List Fate) (v n : CpuView Tables) (t : TallyView) (e : Refusal) → pos start ≡ a.start → pos interval ≡ a.interval → 0 < interval
+    → v.removal ≡ option_map (λ (x : Open). x.id) o → 256 ≤ v.room → v.size ≤ 256 → Looked fires seen v n → WhyNotReserved seen 1 v n e → add_refusal a (state_at clock adds o fates v t) ≡ Some e
+not_reserved clock adds start interval a o fates v n t Memory starts goes some opened enough small r why =
+    let most = size_few v.size (length v.cyclics + 1) small in let short = why.1 in absurd (omega (arith, short, most, enough))
+not_reserved clock adds start interval a o fates v n t e starts goes some opened enough small r why = no_room clock adds start interval a o fates v n t e starts goes some opened r why
 
-pub refused_state : (clock adds : ℕ) (o : Option Open) (fates : List Fate) (v n : CpuView Tables) (t : TallyView) → Reserves fires seen v n → state_at clock adds o fates n t ≡ state_at clock adds o fates v t
-refused_state clock adds o fates v n t r =
+pub add_refused : (step clock adds start interval : ℕ) (a : AddStep) (o : Option Open) (fates : List Fate) (v n : CpuView Tables) (t : TallyView) (e : Refusal) → pos start ≡ a.start → pos interval ≡ a.interval → 0 < interval → Serves step adds o v → v.size ≤ 256
+    → Looked fires seen v n → WhyNotReserved seen 1 v n e → add_refusal a (state_at clock adds o fates v t) ≡ Some e
+add_refused step clock adds start interval a o fates v n t e starts goes some s small r why = not_reserved clock adds start interval a o fates v n t e starts goes some s.open_removal s.room small r why
+
+pub looked_state : (clock adds : ℕ) (o : Option Open) (fates : List Fate) (v n : CpuView Tables) (t : TallyView) → Looked fires seen v n → state_at clock adds o fates n t ≡ state_at clock adds o fates v t
+looked_state clock adds o fates v n t r =
+    let lock = only_looked v.lock n.lock r.lock in
+    let low = only_looked v.low n.low r.low in
+    λ z. record (state_at clock adds o fates v t) { cyclics = r.cyclics z; size = r.kept.size z; lock = lock z; low = low z }
+
+pub reserved_state : (clock adds : ℕ) (o : Option Open) (fates : List Fate) (v n : CpuView Tables) (t : TallyView) → Reserves fires seen 1 v n → state_at clock adds o fates n t ≡ state_at clock adds o fates v t
+reserved_state clock adds o fates v n t r =
     let lock = only_looked v.lock n.lock r.lock in
     let low = only_looked v.low n.low r.low in
     λ z. record (state_at clock adds o fates v t) { cyclics = r.cyclics z; size = r.size z; lock = lock z; low = low z }
@@ -288,11 +300,11 @@ added_serves step clock adds start interval a o v n some (u, w, r, wd, e) rising
     let low = e.within in
     let less : (k : ℕ) (d : Cyclic) → k < length v.cyclics → (get_or v.cyclics k d).timer.id < adds + 1 = λ k d at. let f = (s.few k d at).id in omega (arith, f) in
     let cyclics = put_last v.cyclics n.cyclics e.place x (omega (arith, low, long)) is rising less in
-    let a = s.room in let b = r.room in let c = wd.room in let d = e.kept.room in
+    let a = s.room in let b = r.room in let m = le-max_left v.room (size_for v.size (length v.cyclics + 1)) in let c = wd.room in let d = e.kept.room in
     record {
       open_removal = e.kept.removal ∙ wd.removal ∙ r.removal ∙ s.open_removal;
       most = e.kept.most ∙ wd.most ∙ r.most ∙ s.most;
-      room = omega (arith, a, b, c, d);
+      room = omega (arith, a, b, m, c, d);
       few = subst (λ (cs : List Cyclic). All (IsFew (step + 1) (adds + 1)) cs) (sym cyclics)
           (All-append (IsFew (step + 1) (adds + 1)) v.cyclics (x ∷ []) (λ k d at. few_more step adds (get_or v.cyclics k d) (s.few k d at)) (λ k d at. only k d at));
     }
@@ -301,10 +313,10 @@ added_serves step clock adds start interval a o v n some (u, w, r, wd, e) rising
     only zero d at = record { given = omega arith; id = omega arith; some = some; expired = omega arith }
     only (suc k) d at = absurd (omega arith)
 
-pub serves_still : (step adds : ℕ) (o : Option Open) (v n : CpuView Tables) → Reserves fires seen v n → Serves step adds o v → Serves step adds o n
+pub serves_still : (step adds : ℕ) (o : Option Open) (v n : CpuView Tables) → Reserves fires seen 1 v n → Serves step adds o v → Serves step adds o n
 serves_still step adds o v n r s =
-    let a = s.room in let b = r.room in
-    record { open_removal = r.removal ∙ s.open_removal; most = r.most ∙ s.most; room = omega (arith, a, b); few = subst (λ (cs : List Cyclic). All (IsFew step adds) cs) (sym r.cyclics) s.few }
+    let a = s.room in let b = r.room in let m = le-max_left v.room (size_for v.size (length v.cyclics + 1)) in
+    record { open_removal = r.removal ∙ s.open_removal; most = r.most ∙ s.most; room = omega (arith, a, b, m); few = subst (λ (cs : List Cyclic). All (IsFew step adds) cs) (sym r.cyclics) s.few }
 
 -- ---- as the code has it
 

@@ -24,7 +24,10 @@ use Rattle.cyc_expirations.proofs.Dues.{due_small}
 use Rattle.cyc_expirations.proofs.Laws.{times_expirations, times_others}
 use Rattle.cyc_timers.specs.Rows.{Cyclic, timers}
 use Rattle.cyc_cpu.specs.Acts.{ids_at, is_of, timer_of, lost_after}
-use Rattle.cyc_cpu.specs.Cpu.{CpuView, SameCpu, HasRisingIds, Makes, Stops, WhyStopped}
+use Rattle.cyc_cpu.specs.declared.fire.FireRefused.{FireRefused}
+use Rattle.cyc_cpu.specs.Calls.{Stopped}
+use Rattle.cyc_cpu.specs.Cpu.{CpuView, SameCpu, HasRisingIds, Makes, Stops, running}
+use Rattle.cyc_cpu.proofs.Lawful.{distinct_ids}
 use Rattle.cyc_cpu.proofs.Sharing.{ids_add_up}
 use Rattle.cyc_machine.specs.LevelRun.{expiries, losses}
 use Rattle.cyc_machine.specs.declared.machine.Open.{Open}
@@ -39,20 +42,7 @@ use Rattle.cyc_machine.proofs.Standing.{same_range, tallies_on, never_refuses, s
 -- ---- how often one cyclic expires
 
 pub distinct_timers : (cs : List Cyclic) → HasRisingIds cs → HasDistinctIds (timers cs)
-distinct_timers cs rising i j d low_i low_j same =
-    let l = length-map cs (λ (c : Cyclic). c.timer) in
-    let e : Cyclic = record { timer = d; lost = 0 } in
-    let li : i < length cs = omega (arith, l, low_i) in
-    let lj : j < length cs = omega (arith, l, low_j) in
-    let a = ap (λ (t : Timer). t.id) (get_or-map (λ (c : Cyclic). c.timer) cs i e d li) in
-    let b = ap (λ (t : Timer). t.id) (get_or-map (λ (c : Cyclic). c.timer) cs j e d lj) in
-    elim (cases_eq i j) [
-      | inl eq ↦ eq
-      | inr ne ↦ elim (cases_lt i j) [
-        | inl less ↦ let h = rising i j e less lj in absurd (omega (arith, h, a, b, same))
-        | inr more ↦ let h = rising j i e (omega (arith, more, ne)) li in absurd (omega (arith, h, a, b, same))
-      ]
-    ]
+distinct_timers cs rising = distinct_ids cs rising
 
 abbrev Place : ℕ → List Timer → Type 0
 Place id ts = ((k : ℕ) × (k < length ts) × ((d : Timer) → (get_or ts k d).id ≡ id)) ⊎ ((k : ℕ) (d : Timer) → k < length ts → (get_or ts k d).id ≢ id)
@@ -107,20 +97,21 @@ few_calls level ts made n id small =
 -- ---- the cyclics after it
 
 pub fired_cyclics : (now : ℕ) (made : List Expiration) (lock low : List Event) (lock_way low_way : List FiringCall) (cs ds : List Cyclic)
-    → timers ds ≡ all_after now made (timers cs) → map (λ (c : Cyclic). c.lost) ds ≡ map (λ (c : Cyclic). lost_after lock_way low_way c.timer.id c.lost) cs
+    → timers ds ≡ all_after now made (timers cs) → map (λ (c : Cyclic). c.carried) ds ≡ map (λ (c : Cyclic). c.carried) cs → map (λ (c : Cyclic). c.lost) ds ≡ map (λ (c : Cyclic). lost_after lock_way low_way c.timer.id c.lost) cs
     → ((id : ℕ) → losses_of id lock ≡ lost_by id lock_way) → ((id : ℕ) → losses_of id low ≡ lost_by id low_way) → ds ≡ map (fired_cyclic now made lock low) cs
 unfolding all_after
-fired_cyclics now made lock low lock_way low_way [] [] moved lost at_lock at_low = refl
-fired_cyclics now made lock low lock_way low_way [] (d ∷ ds) moved lost at_lock at_low = absurd (let no = ap length moved in omega (arith, no))
-fired_cyclics now made lock low lock_way low_way (c ∷ cs) [] moved lost at_lock at_low = absurd (let no = ap length moved in omega (arith, no))
-fired_cyclics now made lock low lock_way low_way (c ∷ cs) (d ∷ ds) moved lost at_lock at_low =
+fired_cyclics now made lock low lock_way low_way [] [] moved carried lost at_lock at_low = refl
+fired_cyclics now made lock low lock_way low_way [] (d ∷ ds) moved carried lost at_lock at_low = absurd (let no = ap length moved in omega (arith, no))
+fired_cyclics now made lock low lock_way low_way (c ∷ cs) [] moved carried lost at_lock at_low = absurd (let no = ap length moved in omega (arith, no))
+fired_cyclics now made lock low lock_way low_way (c ∷ cs) (d ∷ ds) moved carried lost at_lock at_low =
     let timer : d.timer ≡ after now made c.timer = ap (λ xs. get_or xs 0 d.timer) moved in
     let more : d.lost ≡ lost_after lock_way low_way c.timer.id c.lost = ap (λ xs. get_or xs 0 d.lost) lost in
     let a = at_lock c.timer.id in
     let b = at_low c.timer.id in
     let all : d.lost ≡ c.lost + losses_of c.timer.id lock + losses_of c.timer.id low = omega (arith, more, a, b) in
-    let rest = fired_cyclics now made lock low lock_way low_way cs ds (ap tail moved) (ap tail lost) at_lock at_low in
-    λ z. record { timer = timer z; lost = all z } ∷ rest z
+    let rest = fired_cyclics now made lock low lock_way low_way cs ds (ap tail moved) (ap tail carried) (ap tail lost) at_lock at_low in
+    let same : d.carried ≡ c.carried = ap (λ xs. get_or xs 0 d.carried) carried in
+    λ z. record { timer = timer z; lost = all z; carried = same z } ∷ rest z
   where
     tail : {A : Type 0} → List A → List A
     tail [] = []
@@ -154,7 +145,7 @@ cyclics_fired : (now : ℕ) (made : List Expiration) (v w : CpuView Tables) (t u
     → w.cyclics ≡ map (fired_cyclic now made (expiries (ids_at Lock (timers v.cyclics) made) (level_of v.lock)) (expiries (ids_at Low (timers v.cyclics) made) (level_of v.low))) v.cyclics
 cyclics_fired now made v w t u lost m =
     let locks = ids_at Lock (timers v.cyclics) made in let lows = ids_at Low (timers v.cyclics) made in
-    fired_cyclics now made (expiries locks (level_of v.lock)) (expiries lows (level_of v.low)) m.acts.lock_way m.acts.low_way v.cyclics w.cyclics m.timers_are m.losses_are
+    fired_cyclics now made (expiries locks (level_of v.lock)) (expiries lows (level_of v.low)) m.acts.lock_way m.acts.low_way v.cyclics w.cyclics m.timers_are m.carried_are m.losses_are
     (lock_expired now made v w t u lost m).each
     (low_expired now made v w t u lost m).each
 
@@ -216,19 +207,17 @@ never_stops : (step adds most : ℕ) (at : TallyView) (t : Timer) (why : Refusal
 never_stops step adds most at t (CountSpent id) low less is few tallies s = let a = s.1 in let b = few.expired in omega (arith, a, b, is, low)
 never_stops step adds most at t (HandlerRefused id) low less is few tallies s =
     let same = s.0 in let a = few.given in let b = few.id in
-    never_refuses step adds id at low less (omega (arith, same, a)) (omega (arith, same, b)) tallies s.2
+    never_refuses step adds id at low less (omega (arith, same, a)) (omega (arith, same, b)) tallies s.3
 never_stops step adds most at t _ low less is few tallies s = absurd s
 
-pub fire_never_refused : (step adds now expired lost : ℕ) (o : Option Open) (v w : CpuView Tables) (t u : TallyView) (why : Refusal)
-    → ((made : List Expiration) × (last : Expiration) × (rest : List Expiration)
-    × (expirations now (timers v.cyclics) ≡ made ++ last ∷ rest) × (length made ≡ expired) × (at : TallyView)
-    × Fire now made v w t at lost
-    × ((id : ℕ) → tally_count u id ≡ tally_count at id)
-    × WhyStopped TallyRefuses v.most at last (timers w.cyclics) why)
+pub fire_never_refused : (step adds now : ℕ) (o : Option Open) (v w : CpuView Tables) (t u : TallyView) (e : FireRefused)
+    → Stopped tally_counted tally_count TallyRefuses fires seen now e (running t v) (running u w)
     → step ≤ 65536 → adds < step → HasRisingIds v.cyclics → Serves step adds o v → Tallies step t → ⊥
-fire_never_refused step adds now n lost o v w t u why (made, last, rest, split, long, at, m, same, (tm, found, stops)) low less rising s tallies =
+fire_never_refused step adds now o v w t u e f low less rising s tallies =
     let all = few_times step adds now v.cyclics rising s.few in
-    let small : (id : ℕ) → times_of id made ≤ late + 2 = λ id. few_in_front now (timers v.cyclics) made last rest (late + 2) id split (all id) in
-    let few = cyclics_few step adds now made v w t at lost m small s.few in
-    let timers_few = All-map (FewTimer (step + 1) adds) (λ (c : Cyclic). c.timer) w.cyclics (λ k d below. let f = few k d below in record { given = f.given; id = f.id; expired = f.expired }) in
-    never_stops step adds v.most at tm why low less s.most (found_all (FewTimer (step + 1) adds) (λ (x : Timer). x.id == last.id) (timers w.cyclics) tm found timers_few) (fired_tally step now made v w t at lost m small tallies) stops
+    let small : (id : ℕ) → times_of id f.made ≤ late + 2 = λ id. few_in_front now (timers v.cyclics) f.made f.last f.rest (late + 2) id f.listed (all id) in
+    let few = cyclics_few step adds now f.made v w t f.at e.lost f.makes small s.few in
+    let timers_few = All-map (FewTimer (step + 1) adds) (λ (c : Cyclic). c.timer) w.cyclics (λ k d below. let x = few k d below in record { given = x.given; id = x.id; expired = x.expired }) in
+    let (tm, found, stops) = f.stops in
+    never_stops step adds v.most f.at tm e.why low less s.most (found_all (FewTimer (step + 1) adds) (λ (x : Timer). x.id == f.last.id) (timers w.cyclics) tm found timers_few)
+    (fired_tally step now f.made v w t f.at e.lost f.makes small tallies) stops

@@ -12,7 +12,7 @@ use Rattle.cyc_level.specs.Level.{Level, empty_level}
 use Rattle.cyc_core.specs.FiringSide.{firing_view}
 use Rattle.cyc_core.specs.Tables.{Tables, level_of}
 use Rattle.cyc_timers.specs.Rows.{Cyclic}
-use Rattle.cyc_cpu.specs.Cpu.{CpuView, IsFresh, Reserves, MayWiden, WhyNoRoom, HasRoom, size_for}
+use Rattle.cyc_cpu.specs.Cpu.{CpuView, IsFresh, Looked, Reserves, WhyNotReserved, MayWiden, WhyNoRoom, size_for}
 use Rattle.cyc_machine.specs.Text.{start}
 use Rattle.cyc_machine.specs.declared.machine.Fate.{Fate}
 use Rattle.cyc_machine.specs.declared.machine.Fate.TheVariants.{Nobody}
@@ -27,7 +27,7 @@ fresh ceiling l is = subst (λ (k : Level). IsFresh (firing_view k)) (sym is) (r
 
 -- the CPU with its memory
 pub emptied : (ceiling most : ℕ) (lock low : Tables) (n : CpuView Tables) → most ≡ 2 ^ 64 - 1 → level_of lock ≡ empty_level ceiling → level_of low ≡ empty_level ceiling
-    → Reserves fires seen (record { cyclics = []; removal = None; size = 1; room = 1; most = most; lock = lock; low = low }) n → MayWiden seen 256 n → IsEmpty ceiling n
+    → Reserves fires seen 256 (record { cyclics = []; removal = None; size = 1; room = 1; most = most; lock = lock; low = low }) n → MayWiden seen 256 n → IsEmpty ceiling n
 emptied ceiling most lock low n greatest at_lock at_low r may =
     let reserved = may.reserved in let size = r.size in let long = ap length r.cyclics in
     let needs : size_for n.size (length n.cyclics + 256) ≡ 256 = ap (λ m. size_for m (length n.cyclics + 256)) size ∙ ap (λ m. size_for 1 (m + 256)) long in
@@ -46,29 +46,29 @@ behind ceiling old d at looked not_yet = let yes_it_is : (seen d).followed ≡ t
 
 -- there is room for all
 has_room : (ceiling most : ℕ) (lock low : Tables) (n : CpuView Tables) (e : Refusal) → level_of lock ≡ empty_level ceiling → level_of low ≡ empty_level ceiling
-    → Reserves fires seen (record { cyclics = []; removal = None; size = 1; room = 1; most = most; lock = lock; low = low }) n → WhyNoRoom seen 256 n e → ⊥
+    → Looked fires seen (record { cyclics = []; removal = None; size = 1; room = 1; most = most; lock = lock; low = low }) n → WhyNoRoom seen 256 n e → ⊥
 has_room ceiling most lock low n Full at_lock at_low r why = let long = ap length r.cyclics in omega (arith, why, long)
-has_room ceiling most lock low n (Busy id) at_lock at_low r why = let both : None ≡ Some id = sym r.removal ∙ why.2 in cc
+has_room ceiling most lock low n (Busy id) at_lock at_low r why = let both : None ≡ Some id = sym r.kept.removal ∙ why.2 in cc
 has_room ceiling most lock low n Expanding at_lock at_low r (fits, grows, none, inl b) = behind ceiling lock n.lock at_lock (only_looked lock n.lock r.lock) b
 has_room ceiling most lock low n Expanding at_lock at_low r (fits, grows, none, inr b) = behind ceiling low n.low at_low (only_looked low n.low r.low) b
 has_room ceiling most lock low n _ at_lock at_low r why = why
 
-pub only_memory : {X : Type 0} (ceiling most : ℕ) (lock low : Tables) (n : CpuView Tables) (e : Refusal) → level_of lock ≡ empty_level ceiling → level_of low ≡ empty_level ceiling
-    → Reserves fires seen (record { cyclics = []; removal = None; size = 1; room = 1; most = most; lock = lock; low = low }) n
-    → (WhyNoRoom seen 256 n e ⊎ ((e ≡ Memory) × HasRoom seen 256 n × X)) → e ≡ Memory
-only_memory ceiling most lock low n e at_lock at_low r (inl why) = absurd (has_room ceiling most lock low n e at_lock at_low r why)
-only_memory ceiling most lock low n e at_lock at_low r (inr (is, room, rest)) = is
+pub only_memory : (ceiling most : ℕ) (lock low : Tables) (n : CpuView Tables) (e : Refusal) → level_of lock ≡ empty_level ceiling → level_of low ≡ empty_level ceiling
+    → Looked fires seen (record { cyclics = []; removal = None; size = 1; room = 1; most = most; lock = lock; low = low }) n
+    → WhyNotReserved seen 256 (record { cyclics = []; removal = None; size = 1; room = 1; most = most; lock = lock; low = low }) n e → e ≡ Memory
+only_memory ceiling most lock low n Memory at_lock at_low r why = refl
+only_memory ceiling most lock low n e at_lock at_low r why = absurd (has_room ceiling most lock low n e at_lock at_low r why)
 
 -- the same of the code's values
 pub emptied_from : (ceiling most more : ℕ) (lock low : Tables) (old n : CpuView Tables) → old ≡ record { cyclics = []; removal = None; size = 1; room = 1; most = most; lock = lock; low = low } → most ≡ 2 ^ 64 - 1
-    → level_of lock ≡ empty_level ceiling → level_of low ≡ empty_level ceiling → more ≡ 256 → Reserves fires seen old n → MayWiden seen more n → IsEmpty ceiling n
+    → level_of lock ≡ empty_level ceiling → level_of low ≡ empty_level ceiling → more ≡ 256 → Reserves fires seen more old n → MayWiden seen more n → IsEmpty ceiling n
 emptied_from ceiling most more lock low old n is greatest at_lock at_low all r may =
-    emptied ceiling most lock low n greatest at_lock at_low (subst (λ o. Reserves fires seen o n) is r) (subst (λ k. MayWiden seen k n) all may)
+    emptied ceiling most lock low n greatest at_lock at_low (subst (λ k. Reserves fires seen k (record { cyclics = []; removal = None; size = 1; room = 1; most = most; lock = lock; low = low }) n) all (subst (λ o. Reserves fires seen more o n) is r)) (subst (λ k. MayWiden seen k n) all may)
 
-pub only_memory_from : {X : Type 0} (ceiling most more : ℕ) (lock low : Tables) (old n : CpuView Tables) (e : Refusal) → old ≡ record { cyclics = []; removal = None; size = 1; room = 1; most = most; lock = lock; low = low }
-    → level_of lock ≡ empty_level ceiling → level_of low ≡ empty_level ceiling → more ≡ 256 → Reserves fires seen old n → (WhyNoRoom seen more n e ⊎ ((e ≡ Memory) × HasRoom seen more n × X)) → e ≡ Memory
-only_memory_from {X} ceiling most more lock low old n e is at_lock at_low all r why =
-    only_memory ceiling most lock low n e at_lock at_low (subst (λ o. Reserves fires seen o n) is r) (subst (λ k. WhyNoRoom seen k n e ⊎ ((e ≡ Memory) × HasRoom seen k n × X)) all why)
+pub only_memory_from : (ceiling most more : ℕ) (lock low : Tables) (old n : CpuView Tables) (e : Refusal) → old ≡ record { cyclics = []; removal = None; size = 1; room = 1; most = most; lock = lock; low = low }
+    → level_of lock ≡ empty_level ceiling → level_of low ≡ empty_level ceiling → more ≡ 256 → Looked fires seen old n → WhyNotReserved seen more old n e → e ≡ Memory
+only_memory_from ceiling most more lock low old n e is at_lock at_low all r why =
+    only_memory ceiling most lock low n e at_lock at_low (subst (λ o. Looked fires seen o n) is r) (subst (λ k. WhyNotReserved seen k (record { cyclics = []; removal = None; size = 1; room = 1; most = most; lock = lock; low = low }) n e) all (subst (λ o. WhyNotReserved seen more o n e) is why))
 
 -- ---- the machine
 

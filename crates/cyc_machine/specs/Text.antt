@@ -180,6 +180,7 @@ abbrev pub fired_cyclic : ℕ → List Expiration → List Event → List Event 
 fired_cyclic now made lock low c = record {
   timer = after now made c.timer;
   lost = c.lost + losses_of c.timer.id lock + losses_of c.timer.id low;
+  carried = c.carried;
 }
 
 -- the calls of these ids are counted

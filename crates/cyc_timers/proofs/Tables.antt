@@ -177,6 +177,7 @@ kept_at slots records places k r s t i kept same is =
       ap (λ (x : Record). x.interval) at ∙ ap (λ (x : Row). x.timer.interval) row,
       ap (λ (x : Record). x.expired) at ∙ ap (λ (x : Row). x.timer.expired) row,
       ap (λ (x : Record). x.lost) at ∙ ap (λ (x : Row). x.lost) row,
+      ap (λ (x : Record). x.carried) at ∙ ap (λ (x : Row). x.carried) row,
     )
 
 -- what is left of a slot that gets another moment

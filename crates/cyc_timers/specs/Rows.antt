@@ -1,22 +1,25 @@
 -- The cyclics of one CPU in the order of their ids, with the index and the counts of each.
 use Rattle.std.specs.Prelude.{◌≡◌, ◌≢◌, ℕ, ◌<◌, ◌≤◌, List, [], map, length, count_by, slice_index_or, All, true, Option, Some, None, is_some}
 use Rattle.cyc_types.specs.Series.{never}
+use Rattle.cyc_types.specs.declared.firing.Sent.{Sent}
 use Rattle.cyc_types.specs.declared.level.Level.TheVariants.{Low}
 use Rattle.cyc_expirations.specs.Expirations.{Expiration, is_before, next_of}
 use Rattle.cyc_expirations.specs.Timers.{Timer}
 use Rattle.cyc_timers.specs.declared.table.Place.{Place}
 use Rattle.cyc_timers.specs.declared.table.Record.{Record}
 
--- a cyclic with its losses at the ceiling and its index
+-- a cyclic with its index
 pub record Row : Type 0 where
   pub timer : Timer
   pub lost : ℕ
+  pub carried : Sent
   pub index : ℕ
 
--- a cyclic, and those of its expirations that were lost at the ceiling
+-- a cyclic, those of its expirations that were lost at the ceiling, and the counts that it carried in from another CPU
 pub record Cyclic : Type 0 where
   pub timer : Timer
   pub lost : ℕ
+  pub carried : Sent
 
 -- the timers of these cyclics
 abbrev pub timers : List Cyclic → List Timer
@@ -24,7 +27,7 @@ timers cs = map (λ c. c.timer) cs
 
 -- a row without its index
 abbrev pub cyclic_of : Row → Cyclic
-cyclic_of r = record { timer = r.timer; lost = r.lost }
+cyclic_of r = record { timer = r.timer; lost = r.lost; carried = r.carried }
 
 -- the cyclics of the rows
 abbrev pub cyclics_of : List Row → List Cyclic
@@ -42,9 +45,13 @@ pub record TableView : Type 0 where
   pub size : ℕ
   pub room : ℕ
 
+-- no expiration
+abbrev pub no_counts : Sent
+no_counts = record { sent = 0; lost = 0 }
+
 -- what is read where there is no record
 abbrev pub no_record : Record
-no_record = record { level = Low; interval = 1; expired = 0; lost = 0 }
+no_record = record { level = Low; interval = 1; expired = 0; lost = 0; carried = no_counts }
 
 -- the moment of an expiration, where there is one
 abbrev pub moment_in : Option Expiration → ℕ
@@ -53,7 +60,7 @@ moment_in (Some e) = e.moment
 
 -- what the heap and the record of an index are together, for the cyclic of this id
 abbrev pub joined : ℕ → ℕ → Option Expiration → Record → Row
-joined id index e r = record { timer = record { id = id; level = r.level; interval = r.interval; moment = moment_in e; expired = r.expired }; lost = r.lost; index = index }
+joined id index e r = record { timer = record { id = id; level = r.level; interval = r.interval; moment = moment_in e; expired = r.expired }; lost = r.lost; carried = r.carried; index = index }
 
 -- the table at first: no cyclic, and one index
 abbrev pub new_table : TableView
@@ -69,7 +76,7 @@ HasNo id rows = All (λ r. r.timer.id ≢ id) rows
 
 -- the row with another moment and the counts of this record
 abbrev pub with_record : ℕ → Record → Row → Row
-with_record m rec r = record { timer = record { id = r.timer.id; level = rec.level; interval = rec.interval; moment = m; expired = rec.expired }; lost = rec.lost; index = r.index }
+with_record m rec r = record { timer = record { id = r.timer.id; level = rec.level; interval = rec.interval; moment = m; expired = rec.expired }; lost = rec.lost; carried = rec.carried; index = r.index }
 
 -- the row with another moment
 abbrev pub at_moment : ℕ → Row → Row
@@ -85,7 +92,7 @@ HasDistinctIndexes rows = (i j : ℕ) (d : Row) → i < length rows → j < leng
 
 -- what is kept of the row beside its id, index and moment
 abbrev pub IsRecordOf : Record → Row → Type 0
-IsRecordOf rec r = (rec.level ≡ r.timer.level) × (rec.interval ≡ r.timer.interval) × (rec.expired ≡ r.timer.expired) × (rec.lost ≡ r.lost)
+IsRecordOf rec r = (rec.level ≡ r.timer.level) × (rec.interval ≡ r.timer.interval) × (rec.expired ≡ r.timer.expired) × (rec.lost ≡ r.lost) × (rec.carried ≡ r.carried)
 
 -- the row at this place expires no later than any
 abbrev pub IsFirstAt : List Row → ℕ → Type 0

@@ -6,7 +6,7 @@ ghost use Rattle.cyc_types.specs.declared.refusal.Refusal.TheVariants.{Memory};
 ghost use Rattle.cyc_timers.specs.Rows.{Row, TableView, new_table, timers_of, IsRow, IsRising, HasNo, HasDistinctIndexes, vacant_row, with_record, at_moment, IsRecordOf, IsFirstAt};
 
 use cyc_heap::ExpiryHeap;
-use cyc_types::{CyclicId, Index, Interval, Level, Moment, Refusal};
+use cyc_types::{CyclicId, Index, Interval, Level, Moment, Refusal, Sent};
 use std::alloc::Global;
 use std::marker::Model;
 
@@ -21,6 +21,8 @@ pub struct Record {
     pub expired: u64,
     /// Those of them that were lost at the ceiling.
     pub lost: u64,
+    /// What of both it carried in from another CPU (our own).
+    pub carried: Sent,
 }
 
 /// Under which index a cyclic stands in the heap and the records.
@@ -64,6 +66,7 @@ impl Record {
             interval: Interval::new(1).unwrap(),
             expired: 0,
             lost: 0,
+            carried: Sent { sent: 0, lost: 0 },
         }
     }
 }

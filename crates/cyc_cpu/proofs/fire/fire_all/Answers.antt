@@ -115,7 +115,7 @@ returns-in-Err-clause-refused g c =
       c.loop-root.calls,
       rw (same_lock, same_low) makes,
       h.kept,
-      (r.timer, row_found c.loop-root.table.rows k r i.rising is, (sym named, sym kept.0 ∙ h.high, h.refused)),
+      (r.timer, row_found c.loop-root.table.rows k r i.rising is, (sym named, (let e = kept.2 in let below = c.if-count-most.false in omega (arith, e, below)), sym kept.0 ∙ h.high, h.refused)),
     )
 
 pub returns-clause-expired : goal.returns-clause-expired

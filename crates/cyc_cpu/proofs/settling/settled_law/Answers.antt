@@ -24,7 +24,7 @@ pub returns-clause-asked : goal.returns-clause-asked
 returns-clause-asked g c = settled_asked g.R.Raise.step g.R.Raise.view
 
 pub returns-clause-taken : goal.returns-clause-taken
-returns-clause-taken g c id taken v w s (cyclic, counts, is, leaves) = settled_taken g.R.Raise.step g.R.Raise.view id counts cyclic v w s leaves
+returns-clause-taken g c id taken v w s (cyclic, counts, is, polled, leaves) = settled_taken g.R.Raise.step g.R.Raise.view id counts cyclic v w s leaves
 
 pub returns-clause-placed : goal.returns-clause-placed
 returns-clause-placed g c = settled_placed g.R.Raise.step g.R.Raise.view

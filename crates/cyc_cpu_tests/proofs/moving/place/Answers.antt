@@ -3,5 +3,5 @@ use Rattle.cyc_cpu_tests.proofs.moving.place.Goals as goal
 
 pub place-requires-clause-free : goal.place-requires-clause-free
 place-requires-clause-free c =
-    let enough = c.widen.ensures.enough in let same = ap length c.widen.ensures.cyclics in
+    let enough = c.widen.ensures.1.enough in let same = ap length c.widen.ensures.1.cyclics in
     omega (arith, enough, same)

@@ -13,8 +13,8 @@ new-requires-3-clause-low c = fresh c.args.ceiling _ c.in_ok-low.ensures.ok
 pub returns-in_err-reserve-clause-err : goal.returns-in_err-reserve-clause-err
 returns-in_err-reserve-clause-err c =
     let p = err_from_is_err_and c.from_residual-in_err-reserve.result c.from_residual-in_err-reserve.ensures.1 in
-    rw p.1 (ap Err (p.2 ∙ only_memory_from c.args.ceiling _ c.from.result c.in_ok-lock.lock c.in_ok-low.low c.in_ok-cpu.cpu c.reserve.new.self c.in_err-reserve.field-0.0 c.in_ok-cpu.ensures.ok c.in_ok-lock.ensures.ok c.in_ok-low.ensures.ok c.from.ensures c.reserve.ensures.reserves c.in_err-reserve.ensures.refused))
+    rw p.1 (ap Err (p.2 ∙ only_memory_from c.args.ceiling _ c.from.result c.in_ok-lock.lock c.in_ok-low.low c.in_ok-cpu.cpu c.reserve.new.self c.in_err-reserve.field-0.0 c.in_ok-cpu.ensures.ok c.in_ok-lock.ensures.ok c.in_ok-low.ensures.ok c.from.ensures c.in_err-reserve.ensures.0 c.in_err-reserve.ensures.1))
 
 pub returns-clause-state : goal.returns-clause-state
 returns-clause-state c =
-    emptied_from c.args.ceiling _ c.from.result c.in_ok-lock.lock c.in_ok-low.low c.in_ok-cpu.cpu c.reserve.new.self c.in_ok-cpu.ensures.ok refl c.in_ok-lock.ensures.ok c.in_ok-low.ensures.ok c.from.ensures c.reserve.ensures.reserves c.in_ok-reserve.ensures.ok
+    emptied_from c.args.ceiling _ c.from.result c.in_ok-lock.lock c.in_ok-low.low c.in_ok-cpu.cpu c.reserve.new.self c.in_ok-cpu.ensures.ok refl c.in_ok-lock.ensures.ok c.in_ok-low.ensures.ok c.from.ensures c.in_ok-reserve.ensures.0 c.in_ok-reserve.ensures.1

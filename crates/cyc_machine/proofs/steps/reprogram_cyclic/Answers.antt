@@ -18,15 +18,15 @@ returns-in_err-reprogram-clause-answer c =
     let p = err_from_is_err_and c.from_residual-in_err-reprogram.result c.from_residual-in_err-reprogram.ensures.1 in
     let e = c.in_err-reprogram.ensures in
     rw p.1 (
-      reprogram_answer c.args.step c.in_ok-moment.moment r (state_of m) (Some c.in-Some.id) false (sym c.if-is_some.ensures) c.in_ok-moment.ensures.ok given (refused_here c.in-Some.id m.removal m.cpu s.cpu.open_removal e.refused.1) ∙ ap Some (sym e.refused.0 ∙ sym p.2),
-      ap (λ x. state_at m.clock m.adds m.removal m.fates.items x m.tally) e.err,
+      reprogram_answer c.args.step c.in_ok-moment.moment r (state_of m) (Some c.in-Some.id) false (sym c.if-is_some.ensures) c.in_ok-moment.ensures.ok given (refused_here c.in-Some.id m.removal m.cpu s.cpu.open_removal e.1) ∙ ap Some (sym e.0 ∙ sym p.2),
+      ap (λ x. state_at m.clock m.adds m.removal m.fates.items x m.tally) e.2,
     )
 
 pub returns-clause-answer : goal.returns-clause-answer
 returns-clause-answer c =
     let m = c.args.machine.now in let r = c.args.reprogram.now in let s = c.requires.stands in
     let given = id_given m.fates.items c.deref.result.now r.name c.number.result c.id_at.result (Some c.in-Some.id) c.deref.ensures.value c.number.ensures.value c.id_at.ensures c.in-Some.is in
-    let (k, cyclic, is, named, still, new) = c.in_ok-reprogram.ensures.ok in (
+    let (k, cyclic, is, named, still, new) = c.in_ok-reprogram.ensures in (
       reprogram_answer c.args.step c.in_ok-moment.moment r (state_of m) (Some c.in-Some.id) true (sym c.if-is_some.ensures) c.in_ok-moment.ensures.ok given (stays_here c.in-Some.id k m.removal m.cpu cyclic s.cpu.open_removal is named still),
       reprogrammed_state c.args.step m.clock m.adds c.in-Some.id k c.in_ok-moment.moment r m.removal m.fates.items m.cpu c.reprogram.new.self m.tally cyclic c.law.ensures.rising is named new given c.in_ok-moment.ensures.ok,
     )

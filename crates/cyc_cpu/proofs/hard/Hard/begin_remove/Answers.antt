@@ -10,17 +10,20 @@ use Rattle.cyc_cpu.specs.Cpu.{CpuView, IsCyclic, HasNoCyclic}
 use Rattle.cyc_cpu.specs.Ends.{IsHard}
 use Rattle.cyc_cpu.specs.Removal.{calls_at}
 use Rattle.cyc_cpu.proofs.Cyclics.{is_cyclic, no_cyclic, cyclics_set}
-use Rattle.cyc_cpu.proofs.Leaving.{hard_opened, hard_left, begun_left, no_mark, cyclics_less, opens_from, leaves_from}
+use Rattle.cyc_cpu.proofs.Leaving.{hard_opened, hard_left, begun_left, no_mark, cyclics_less, opens_from, leaves_from, has_polled, begun_sent}
 use Rattle.cyc_cpu.proofs.hard.Hard.begin_remove.Goals as goal
 
-pub returns-in_default-clause-refused : goal.returns-in_default-clause-refused
-returns-in_default-clause-refused g c = subst (λ (x : CpuView _). HasNoCyclic c.args.id x.cyclics) c.self.view_is (no_cyclic c.args.id c.self.inside.table.rows c.in_default.ensures.none)
+pub returns-in_default : goal.returns-in_default
+returns-in_default g c = (subst (λ (x : CpuView _). HasNoCyclic c.args.id x.cyclics) c.self.view_is (no_cyclic c.args.id c.self.inside.table.rows c.in_default.ensures.none), refl)
 
-pub returns-in-Some-removal-clause-refused : goal.returns-in-Some-removal-clause-refused
-returns-in-Some-removal-clause-refused g c =
+pub returns-in-Some-removal : goal.returns-in-Some-removal
+returns-in-Some-removal g c =
     let (r, is, named) = c.in-Some.ensures.some in (
-      (c.in-Some.place, cyclic_of r, subst (λ (x : CpuView _). IsCyclic x.cyclics c.in-Some.place (cyclic_of r)) c.self.view_is (is_cyclic c.self.inside.table.rows c.in-Some.place r is), named),
-      sym (ap (λ (x : CpuView _). x.removal) c.self.view_is) ∙ c.in-Some-removal.is,
+      (
+        (c.in-Some.place, cyclic_of r, subst (λ (x : CpuView _). IsCyclic x.cyclics c.in-Some.place (cyclic_of r)) c.self.view_is (is_cyclic c.self.inside.table.rows c.in-Some.place r is), named),
+        sym (ap (λ (x : CpuView _). x.removal) c.self.view_is) ∙ c.in-Some-removal.is,
+      ),
+      refl,
     )
 
 pub invariant_of-self : goal.invariant_of-self
@@ -41,31 +44,33 @@ invariant_of-self g c =
     (subst (λ xs. IsHard g.R.Raise.view c.reprogram.new.self.size i.most (Some r.timer.id) c.remove_at-left.new.lock c.remove_at-left.new.low xs) (sym (c.reprogram.ensures.rows r is))
     (subst (λ m. IsHard g.R.Raise.view m i.most (Some r.timer.id) c.remove_at-left.new.lock c.remove_at-left.new.low (set i.table.rows c.in-Some.place (at_moment never r))) (sym c.reprogram.ensures.size) opened))
 
-pub returns-then-left-gt0-clause-ok : goal.returns-then-left-gt0-clause-ok
-returns-then-left-gt0-clause-ok g c =
+pub returns-then-left-gt0 : goal.returns-then-left-gt0
+returns-then-left-gt0 g c =
     let (r, is, named) = c.in-Some.ensures.some in
     let i = c.self.inside in let e = c.remove_at-left.ensures in
     let n = c.remove_at-left.result in
     let level = (c.record_at-kept.ensures r is).0 in
     let (a, b) = e.kept c.if-left-gt0.true in
-    let soft : r.timer.level ≢ High = λ q. (let z = e.high (level ∙ q) in let m = c.if-left-gt0.true in absurd (omega (arith, z, m))) in
-    opens_from g.R.Raise.step g.R.Raise.view c.args.id n _ _ _ c.self.view_is (record {
-      place = c.in-Some.place;
-      cyclic = cyclic_of r;
-      here = is_cyclic i.table.rows c.in-Some.place r is;
-      named = named;
-      soft = soft;
-      some = c.if-left-gt0.true;
-      goes = (
-        subst (λ l. Goes g.R.Raise.step g.R.Raise.view i.lock (calls_at Lock l (Marks c.args.id n ∷ [])) c.remove_at-left.new.lock) level a,
-        subst (λ l. Goes g.R.Raise.step g.R.Raise.view i.low (calls_at Low l (Marks c.args.id n ∷ [])) c.remove_at-left.new.low) level b,
-      );
-      cyclics = ap cyclics_of (c.reprogram.ensures.rows r is) ∙ cyclics_set i.table.rows c.in-Some.place (at_moment never r);
-      removal = refl;
-      size = c.reprogram.ensures.size;
-      room = c.reprogram.ensures.room;
-      most = refl;
-    })
+    let soft : r.timer.level ≢ High = λ q. (let z = e.high (level ∙ q) in let m = c.if-left-gt0.true in absurd (omega (arith, z, m))) in (
+      sym (ap (λ (x : CpuView _). x.removal) c.self.view_is) ∙ c.in_default-removal.is,
+      opens_from g.R.Raise.step g.R.Raise.view c.args.id n _ _ _ c.self.view_is (record {
+        place = c.in-Some.place;
+        cyclic = cyclic_of r;
+        here = is_cyclic i.table.rows c.in-Some.place r is;
+        named = named;
+        soft = soft;
+        some = c.if-left-gt0.true;
+        goes = (
+          subst (λ l. Goes g.R.Raise.step g.R.Raise.view i.lock (calls_at Lock l (Marks c.args.id n ∷ [])) c.remove_at-left.new.lock) level a,
+          subst (λ l. Goes g.R.Raise.step g.R.Raise.view i.low (calls_at Low l (Marks c.args.id n ∷ [])) c.remove_at-left.new.low) level b,
+        );
+        cyclics = ap cyclics_of (c.reprogram.ensures.rows r is) ∙ cyclics_set i.table.rows c.in-Some.place (at_moment never r);
+        removal = refl;
+        size = c.reprogram.ensures.size;
+        room = c.reprogram.ensures.room;
+        most = refl;
+      }),
+    )
 
 pub invariant_of-self-2 : goal.invariant_of-self-2
 invariant_of-self-2 g c =
@@ -86,29 +91,39 @@ invariant_of-self-2 g c =
     (subst (λ xs. IsHard g.R.Raise.view c.remove.new.self.size i.most None c.remove_at-left.new.lock c.remove_at-left.new.low xs) (sym c.remove.ensures.rows)
     (subst (λ m. IsHard g.R.Raise.view m i.most None c.remove_at-left.new.lock c.remove_at-left.new.low (remove i.table.rows c.in-Some.place)) (sym c.remove.ensures.size) left))
 
-pub returns-clause-ok : goal.returns-clause-ok
-returns-clause-ok g c =
+pub returns : goal.returns
+returns g c =
     let (r, is, named) = c.in-Some.ensures.some in
     let i = c.self.inside in let e = c.remove_at-left.ensures in
     let rec = c.record_at-kept.ensures r is in
     let level = rec.0 in
     let few = c.if-left-gt0.false in
-    let (counts, a, b) = e.ended (omega (arith, few)) in (
-      cyclic_of r,
-      counts,
-      (c.receipt_of.ensures.id ∙ sym named, c.receipt_of.ensures.sent ∙ rec.2, c.receipt_of.ensures.lost ∙ rec.3),
-      leaves_from g.R.Raise.step g.R.Raise.view c.args.id (Marks c.args.id 0 ∷ Polls c.args.id (Some counts) ∷ []) (cyclic_of r) _ _ _ c.self.view_is (record {
-        place = c.in-Some.place;
-        here = is_cyclic i.table.rows c.in-Some.place r is;
-        named = named;
-        goes = (
-          subst (λ l. Goes g.R.Raise.step g.R.Raise.view i.lock (calls_at Lock l (Marks c.args.id 0 ∷ Polls c.args.id (Some counts) ∷ [])) c.remove_at-left.new.lock) level a,
-          subst (λ l. Goes g.R.Raise.step g.R.Raise.view i.low (calls_at Low l (Marks c.args.id 0 ∷ Polls c.args.id (Some counts) ∷ [])) c.remove_at-left.new.low) level b,
-        );
-        cyclics = ap cyclics_of c.remove.ensures.rows ∙ cyclics_less i.table.rows c.in-Some.place;
-        removal = c.in_default-removal.is;
-        size = c.remove.ensures.size;
-        room = c.remove.ensures.room;
-        most = refl;
-      }),
+    let (counts, a, b) = e.ended (omega (arith, few)) in
+    let lock' = subst (λ q. Goes g.R.Raise.step g.R.Raise.view i.lock (calls_at Lock r.timer.level (Marks q 0 ∷ Polls q (Some counts) ∷ [])) c.remove_at-left.new.lock) (sym named)
+    (subst (λ l. Goes g.R.Raise.step g.R.Raise.view i.lock (calls_at Lock l (Marks c.args.id 0 ∷ Polls c.args.id (Some counts) ∷ [])) c.remove_at-left.new.lock) level a) in
+    let low' = subst (λ q. Goes g.R.Raise.step g.R.Raise.view i.low (calls_at Low r.timer.level (Marks q 0 ∷ Polls q (Some counts) ∷ [])) c.remove_at-left.new.low) (sym named)
+    (subst (λ l. Goes g.R.Raise.step g.R.Raise.view i.low (calls_at Low l (Marks c.args.id 0 ∷ Polls c.args.id (Some counts) ∷ [])) c.remove_at-left.new.low) level b) in
+    let polled = has_polled g.R.Raise.step g.R.Raise.view i.table.size (g.R.Raise.view i.lock).marked (g.R.Raise.view i.low).marked i.lock i.low c.remove_at-left.new.lock c.remove_at-left.new.low i.table.rows c.in-Some.place r counts _
+    c.self.invariant.ready.lock_end c.self.invariant.ready.low_end is lock' low' (begun_sent g.R.Raise.step g.R.Raise.view r.timer.id counts) in (
+      sym (ap (λ (x : CpuView _). x.removal) c.self.view_is) ∙ c.in_default-removal.is,
+      (
+        cyclic_of r,
+        counts,
+        (c.receipt_of.ensures.id ∙ sym named, c.receipt_of.ensures.sent ∙ rec.2, c.receipt_of.ensures.lost ∙ rec.3),
+        polled,
+        leaves_from g.R.Raise.step g.R.Raise.view c.args.id (Marks c.args.id 0 ∷ Polls c.args.id (Some counts) ∷ []) (cyclic_of r) _ _ _ c.self.view_is (record {
+          place = c.in-Some.place;
+          here = is_cyclic i.table.rows c.in-Some.place r is;
+          named = named;
+          goes = (
+            subst (λ l. Goes g.R.Raise.step g.R.Raise.view i.lock (calls_at Lock l (Marks c.args.id 0 ∷ Polls c.args.id (Some counts) ∷ [])) c.remove_at-left.new.lock) level a,
+            subst (λ l. Goes g.R.Raise.step g.R.Raise.view i.low (calls_at Low l (Marks c.args.id 0 ∷ Polls c.args.id (Some counts) ∷ [])) c.remove_at-left.new.low) level b,
+          );
+          cyclics = ap cyclics_of c.remove.ensures.rows ∙ cyclics_less i.table.rows c.in-Some.place;
+          removal = c.in_default-removal.is;
+          size = c.remove.ensures.size;
+          room = c.remove.ensures.room;
+          most = refl;
+        }),
+      ),
     )

@@ -9,7 +9,7 @@ use Rattle.cyc_cpu.specs.Ends.{IsHard}
 use Rattle.cyc_cpu.specs.Removal.{calls_at}
 use Rattle.cyc_cpu.proofs.Cyclics.{is_cyclic}
 use Rattle.cyc_cpu.proofs.Readying.{hard_kept}
-use Rattle.cyc_cpu.proofs.Leaving.{hard_left, polled_left, polls_keep, marked_lock, marked_low, unmarked_lock, unmarked_low, cyclics_less, waits_from, ends_from}
+use Rattle.cyc_cpu.proofs.Leaving.{hard_left, polled_left, polls_keep, marked_lock, marked_low, unmarked_lock, unmarked_low, cyclics_less, waits_from, ends_from, has_polled, polled_sent}
 use Rattle.cyc_cpu.proofs.hard.Hard.poll_remove.Goals as goal
 
 pub poll_at-requires-clause-lock : goal.poll_at-requires-clause-lock
@@ -38,8 +38,8 @@ invariant_of-self g c =
     (polls_keep g.R.Raise.step g.R.Raise.view Lock c.record_at-kept.result.level c.in_ok-id.id i.lock c.poll_at.new.lock a) (e.sound_lock h.ready.lock_end.sound)
     (polls_keep g.R.Raise.step g.R.Raise.view Low c.record_at-kept.result.level c.in_ok-id.id i.low c.poll_at.new.low b) (e.sound_low h.ready.low_end.sound)
 
-pub returns-then-not-poll_at-clause-none : goal.returns-then-not-poll_at-clause-none
-returns-then-not-poll_at-clause-none g c =
+pub returns-then-not-poll_at : goal.returns-then-not-poll_at
+returns-then-not-poll_at g c =
     let (r, is, named) = c.in-Some.ensures.some in
     let i = c.self.inside in
     let (a, b) = c.if-not-poll_at.ensures.waits in
@@ -80,14 +80,21 @@ invariant_of-self-2 g c =
     subst (λ xs. IsHard g.R.Raise.view c.remove.new.self.size i.most None c.poll_at.new.lock c.poll_at.new.low xs) (sym c.remove.ensures.rows)
     (subst (λ m. IsHard g.R.Raise.view m i.most None c.poll_at.new.lock c.poll_at.new.low (remove i.table.rows c.in-Some.place)) (sym c.remove.ensures.size) left)
 
-pub returns-clause-some : goal.returns-clause-some
-returns-clause-some g c =
+pub returns : goal.returns
+returns g c =
     let (r, is, named) = c.in-Some.ensures.some in
     let i = c.self.inside in
     let (counts, a, b) = c.if-not-poll_at.ensures.ended in
     let rec = c.record_at-kept.ensures r is in
+    let lock' = subst (λ q. Goes g.R.Raise.step g.R.Raise.view i.lock (calls_at Lock r.timer.level (Polls q (Some counts) ∷ [])) c.poll_at.new.lock) (sym named)
+    (subst (λ l. Goes g.R.Raise.step g.R.Raise.view i.lock (calls_at Lock l (Polls c.in_ok-id.id (Some counts) ∷ [])) c.poll_at.new.lock) rec.0 a) in
+    let low' = subst (λ q. Goes g.R.Raise.step g.R.Raise.view i.low (calls_at Low r.timer.level (Polls q (Some counts) ∷ [])) c.poll_at.new.low) (sym named)
+    (subst (λ l. Goes g.R.Raise.step g.R.Raise.view i.low (calls_at Low l (Polls c.in_ok-id.id (Some counts) ∷ [])) c.poll_at.new.low) rec.0 b) in
+    let polled = has_polled g.R.Raise.step g.R.Raise.view i.table.size (g.R.Raise.view i.lock).marked (g.R.Raise.view i.low).marked i.lock i.low c.poll_at.new.lock c.poll_at.new.low i.table.rows c.in-Some.place r counts _
+    c.self.invariant.ready.lock_end c.self.invariant.ready.low_end is lock' low' (polled_sent g.R.Raise.step g.R.Raise.view r.timer.id counts) in
     ends_from g.R.Raise.step g.R.Raise.view c.receipt_of.result c.in_ok-id.id (cyclic_of r) counts _ _ _ c.self.view_is c.in_ok-id.was c.receipt_of.ensures.id
     (c.receipt_of.ensures.id ∙ sym named, c.receipt_of.ensures.sent ∙ rec.2, c.receipt_of.ensures.lost ∙ rec.3)
+    polled
     (record {
       place = c.in-Some.place;
       here = is_cyclic i.table.rows c.in-Some.place r is;

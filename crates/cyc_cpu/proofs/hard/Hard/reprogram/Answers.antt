@@ -15,10 +15,10 @@ invariant_of-self g c =
     subst (λ xs. IsHard g.R.Raise.view c.reprogram.new.self.size i.most i.removal i.lock i.low xs) (sym (c.reprogram.ensures.rows r is))
     (subst (λ n. IsHard g.R.Raise.view n i.most i.removal i.lock i.low (set i.table.rows c.in-Some.place (at_moment c.args.moment r))) (sym c.reprogram.ensures.size)
     (hard_moved g.R.Raise.view i.table.size i.most i.removal i.lock i.low i.table.rows c.in-Some.place r (at_moment c.args.moment r) c.self.invariant is
-    (record { id = refl; level = refl; index = refl; expired = refl; lost = refl }) still))
+    (record { id = refl; level = refl; index = refl; expired = refl; lost = refl; carried = refl }) still))
 
-pub returns-in-Some-clause-ok : goal.returns-in-Some-clause-ok
-returns-in-Some-clause-ok g c =
+pub returns-in-Some : goal.returns-in-Some
+returns-in-Some g c =
     let (r, is, named) = c.in-Some.ensures.some in
     let i = c.self.inside in
     let v = c.self.view_is in (
@@ -38,5 +38,5 @@ returns-in-Some-clause-ok g c =
       },
     )
 
-pub returns-in-None-clause-refused : goal.returns-in-None-clause-refused
-returns-in-None-clause-refused g c = (refl, inl (subst (λ (x : CpuView _). HasNoCyclic c.args.id x.cyclics) c.self.view_is (no_cyclic c.args.id c.self.inside.table.rows c.in-None.ensures.none)))
+pub returns-in-None : goal.returns-in-None
+returns-in-None g c = (refl, inl (subst (λ (x : CpuView _). HasNoCyclic c.args.id x.cyclics) c.self.view_is (no_cyclic c.args.id c.self.inside.table.rows c.in-None.ensures.none)), refl)

@@ -1,4 +1,4 @@
-use Rattle.cyc_cpu.proofs.Following.{answered_gone, stays_gone, runs_gone, removed_never}
+use Rattle.cyc_cpu.proofs.Following.{answered_gone, stays_gone, runs_gone}
 use Rattle.cyc_cpu.proofs.levels.Hard+LevelCore.removal_law.Goals as goal
 
 pub returns-clause-answered : goal.returns-clause-answered
@@ -7,12 +7,9 @@ returns-clause-answered g c id w h =
     answered_gone id c.args.self.now w e.rising e.lock e.low k.lock_lawful k.low_lawful h
 
 pub returns-clause-kept : goal.returns-clause-kept
-returns-clause-kept g c id s t call gone not runs = stays_gone g.C.Calls.called g.C.Calls.count id s t call gone not runs
+returns-clause-kept g c id s t call gone not runs = stays_gone g.C.Calls.called g.C.Calls.count g.C.Calls.may_refuse id s t call gone not runs
 
 pub returns-clause-nothing_follows : goal.returns-clause-nothing_follows
 returns-clause-nothing_follows g c id s t way h not runs =
     let e = c.law.ensures in let k = c.conservation.ensures in
-    runs_gone g.C.Calls.called g.C.Calls.count id s t way (answered_gone id c.args.self.now s.cpu e.rising e.lock e.low k.lock_lawful k.low_lawful h) not runs
-
-pub returns-clause-never_due : goal.returns-clause-never_due
-returns-clause-never_due g c id now removed early = let e = c.law.ensures in removed_never id now c.args.self.now.cyclics e.rising (e.removed id removed) early
+    runs_gone g.C.Calls.called g.C.Calls.count g.C.Calls.may_refuse id s t way (answered_gone id c.args.self.now s.cpu e.rising e.lock e.low k.lock_lawful k.low_lawful h) not runs
