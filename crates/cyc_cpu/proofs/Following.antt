@@ -42,7 +42,7 @@ use Rattle.cyc_cpu.specs.Removal.{calls_at, EndGoes, Leaves}
 use Rattle.cyc_cpu.specs.Moving.{WhyNotTaken, Inquires}
 use Rattle.cyc_cpu.specs.Soft.{fires, firing_at, held_at, end_at, ServesAt, SoftKept, Interrupts}
 use Rattle.cyc_cpu.specs.Calls.{CpuCall, Fire, SoftInterrupt, Add, Place, Reprogram, AskPending, AskTotals, AskRoom, Reserve, Widen, BeginRemove, PollRemove, TakeNow, AskSettled, Changes, Does}
-use Rattle.cyc_cpu.specs.Gone.{IsAbsent, IsGone, HasAnswered, PutsNot, StaysGone}
+use Rattle.cyc_cpu.specs.Gone.{IsAbsent, IsGone, HasLeft, PutsNot, StaysGone}
 use Rattle.cyc_cpu.proofs.Gone.{off_of, absent_of, AreSpared, off_goes, none_served}
 use Rattle.cyc_cpu.proofs.Leaving.{goes_here, goes_not, level_cases}
 use Rattle.cyc_cpu.proofs.Making.{same_id, length-all}
@@ -309,7 +309,7 @@ module _ {C : Type 0} (called : C → ℕ → Level → C → Type 0) (count_of 
       (still, on ∙ same)
 
 -- one id, one cyclic
-one_cyclic : (cs : List Cyclic) (i k : ℕ) (c d : Cyclic) → HasRisingIds cs → IsCyclic cs i c → IsCyclic cs k d → d.timer.id ≡ c.timer.id → d ≡ c
+pub one_cyclic : (cs : List Cyclic) (i k : ℕ) (c d : Cyclic) → HasRisingIds cs → IsCyclic cs i c → IsCyclic cs k d → d.timer.id ≡ c.timer.id → d ≡ c
 one_cyclic cs i k c d rising (within, is) (within', is') same = elim (cases_eq k i) [
   | inl eq ↦ sym is' ∙ get_or_default cs k d c within' ∙ ap (λ j. get_or cs j c) eq ∙ is
   | inr ne ↦ absurd (let other = ap (λ (x : Cyclic). x.timer.id) (get_or_default cs k d c within' ∙ refl) in elim (cases_lt i k) [
@@ -319,7 +319,7 @@ one_cyclic cs i k c d rising (within, is) (within', is') same = elim (cases_eq k
 ]
 
 -- a cyclic that has left
-none_left : (cs : List Cyclic) (k : ℕ) (c : Cyclic) → HasRisingIds cs → IsCyclic cs k c → HasNoCyclic c.timer.id (remove cs k)
+pub none_left : (cs : List Cyclic) (k : ℕ) (c : Cyclic) → HasRisingIds cs → IsCyclic cs k c → HasNoCyclic c.timer.id (remove cs k)
 none_left cs k c rising (within, is) j d low same =
     let n = length-remove cs k within in
     let a = ap (λ (x : Cyclic). x.timer.id) (get_or_default cs k c d within) in
@@ -340,6 +340,9 @@ polled_absent id counts a b once (m, ((sent, happens), learns), last) = subst (�
 
 marked_absent : (id : ℕ) (counts : Sent) (a b : Tables) → place_count (level_of a) id ≡ one_if_any (count (level_of a) id) → ends_absent id a b (Marks id 0 ∷ Polls id (Some counts) ∷ [])
 marked_absent id counts a b once (m, ((pend, (enabled, is)), learns), rest) = polled_absent id counts m b (subst (λ (x : Model). place_count x id ≡ one_if_any (count x id)) (sym is) once) rest
+
+taken_absent : (id : ℕ) (counts : Sent) (a b : Tables) → place_count (level_of a) id ≡ one_if_any (count (level_of a) id) → ends_absent id a b (Loads id 0 ∷ Marks id 0 ∷ Polls id (Some counts) ∷ [])
+taken_absent id counts a b once (m, ((pend, is), learns), rest) = marked_absent id counts m b (subst (λ (x : Model). place_count x id ≡ one_if_any (count x id)) (sym is) once) rest
 
 not_stays : (o : Option Admission) → ((c : Admission) → o ≡ Some c → ⊥) → o ≡ None
 not_stays None never_there = refl
@@ -368,6 +371,7 @@ module _ (id : ℕ) (v w : CpuView Tables) (c : Cyclic) (way : List FiringCall) 
 
 module _ (id : ℕ) (v w : CpuView Tables) (rising : HasRisingIds v.cyclics) (lock : AreAdmitted level.Lock (firing_at v.lock) v.cyclics) (low : AreAdmitted level.Low (firing_at v.low) v.cyclics)
     (lock_law : Lawful (level_of v.lock)) (low_law : Lawful (level_of v.low)) where
-  pub answered_gone : HasAnswered id v w → IsGone id w
-  answered_gone (receipt, inl (c, counts, is, polled, l)) = left_gone id v w c _ rising l lock low lock_law low_law (λ a b once. marked_absent id counts a b once)
-  answered_gone (receipt, inr (same, e)) = subst (λ j. IsGone j w) same (left_gone receipt.id v w e.cyclic _ rising e.leaves lock low lock_law low_law (λ a b once. polled_absent receipt.id e.counts a b once))
+  pub answered_gone : HasLeft fires firing_at id v w → IsGone id w
+  answered_gone (inl (receipt, (c, counts, is, polled, l))) = left_gone id v w c _ rising l lock low lock_law low_law (λ a b once. marked_absent id counts a b once)
+  answered_gone (inr (inl (receipt, same, e))) = subst (λ j. IsGone j w) same (left_gone receipt.id v w e.cyclic _ rising e.leaves lock low lock_law low_law (λ a b once. polled_absent receipt.id e.counts a b once))
+  answered_gone (inr (inr (taken, (c, counts, is, polled, l)))) = left_gone id v w c _ rising l lock low lock_law low_law (λ a b once. taken_absent id counts a b once)

@@ -7,11 +7,13 @@ pub mod Cyclics
 pub mod Entering
 pub mod Sharing
 pub mod Softs
+pub mod Idling
 pub mod Leaving
 pub mod Inquiring
 pub mod Staying
 pub mod Sparing
 pub mod Gone
 pub mod Following
+pub mod Off
 pub mod Lawful
 pub mod Calling

@@ -1,12 +1,14 @@
--- What follows a removal that has answered, on a CPU whose levels no other thread uses.
+-- What follows where a cyclic has left its CPU: of any CPU, and of one whose levels no other thread uses.
 use Rattle.std.specs.Prelude.{◌≡◌, ◌≢◌, ℕ, ◌⊎◌, None}
 use Rattle.cyc_types.specs.declared.receipt.Receipt.{Receipt}
+use Rattle.cyc_types.specs.Firing.{FiringView, FiringCall}
 use Rattle.cyc_level.specs.Level.{Level, place_count}
 use Rattle.cyc_core.specs.Tables.{Tables, level_of}
 use Rattle.cyc_cpu.specs.declared.removing.Removal.TheVariants.{Done}
 use Rattle.cyc_cpu.specs.Cpu.{CpuView, Running, HasNoCyclic}
+use Rattle.cyc_cpu.specs.declared.moving.Taken.{Taken}
 use Rattle.cyc_cpu.specs.Removal.{Begins, Ends}
-use Rattle.cyc_cpu.specs.Soft.{fires, firing_at}
+use Rattle.cyc_cpu.specs.Moving.{Takes}
 use Rattle.cyc_cpu.specs.Calls.{CpuCall, Add, Place}
 
 -- the id is not admitted at the level, and stands in no place of it
@@ -20,9 +22,17 @@ pub record IsGone (id : ℕ) (v : CpuView Tables) : Type 0 where
   pub lock : IsAbsent id (level_of v.lock)
   pub low : IsAbsent id (level_of v.low)
 
--- the removal of the id has answered, as it began or at a poll
-abbrev pub HasAnswered : ℕ → CpuView Tables → CpuView Tables → Type 0
-HasAnswered id v w = (receipt : Receipt) × (Begins fires firing_at id v (Done receipt) w ⊎ ((receipt.id ≡ id) × Ends fires firing_at receipt v w))
+-- the cyclic of this id has left: its removal has answered, as it began or at a poll, or it was taken to another CPU
+abbrev pub HasLeft : {R : Type 0} → (R → FiringCall → R → Type 0) → (R → FiringView) → ℕ → CpuView R → CpuView R → Type 0
+HasLeft step view id v w = ((receipt : Receipt) × Begins step view id v (Done receipt) w)
+    ⊎ ((receipt : Receipt) × (receipt.id ≡ id) × Ends step view receipt v w)
+    ⊎ ((taken : Taken) × Takes step view id taken v w)
+
+-- no cyclic of the CPU has the id, and it is a stay of neither end
+pub record IsOff {R : Type 0} (view : R → FiringView) (id : ℕ) (v : CpuView R) : Type 0 where
+  pub no_cyclic : HasNoCyclic id v.cyclics
+  pub lock : (view v.lock).stays id ≡ None
+  pub low : (view v.low).stays id ≡ None
 
 -- the call puts in no cyclic of this id
 abbrev pub PutsNot : ℕ → CpuCall → Type 0

@@ -1,5 +1,5 @@
 -- The soft interrupt of one level of a CPU whose levels no other thread uses.
-use Rattle.std.specs.Prelude.{◌≡◌, ℕ, ◌<◌, ◌≤◌, ◌↔◌, IsTrue, List, length, Option, Some, Result, Ok, Err}
+use Rattle.std.specs.Prelude.{◌≡◌, ℕ, ◌<◌, ◌≤◌, ◌↔◌, IsTrue, List, [], length, Option, Some, Result, Ok, Err}
 use Rattle.cyc_types.specs.Draining.{DrainCall}
 use Rattle.cyc_types.specs.Levels.{at_level, level_of as handler_level}
 use Rattle.cyc_types.specs.declared.level.Level.{Level}
@@ -53,6 +53,10 @@ pub record SoftKept {R : Type 0} (level : Soft) (v w : CpuView R) : Type 0 where
   pub beside : end_beside level w ≡ end_beside level v
   pub cyclics : w.cyclics ≡ v.cyclics
   pub kept : SameCpu v w
+
+-- nothing waits in the lists of the level
+abbrev pub HasEmptyLists : Tables → Type 0
+HasEmptyLists a = (a.old_list ≡ []) × (a.new_list ≡ [])
 
 -- What a soft interrupt does at its level: it makes these calls, each counted and finished once, and is idle exactly where it
 -- stopped before the budget. Or a handler refused that may refuse at that moment: its cyclic stays in hand.

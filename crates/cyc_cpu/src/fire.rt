@@ -17,7 +17,7 @@ use cyc_types::{
 };
 
 /// The moment of this many nanoseconds, at most never.
-fn moment_of(nanoseconds: u64) -> Moment
+fn nearest_moment(nanoseconds: u64) -> Moment
     ensures { result ≡ min nanoseconds never }
 {
     let nearest = nanoseconds.min(Moment::NEVER.nanoseconds());
@@ -39,7 +39,7 @@ fn following(moment: Moment, interval: Interval, now: Moment) -> Moment
     if following < now_is && now_is - following > LATE {
         return next(moment, interval, now);
     }
-    moment_of(following)
+    nearest_moment(following)
 }
 
 /// Raises a cyclic once, and says how many expirations were lost.

@@ -6,7 +6,7 @@ ghost use Rattle.cyc_level.specs.Lawful.{Lawful};
 ghost use Rattle.cyc_cpu.specs.Cpu.{CpuView, Running};
 ghost use Rattle.cyc_cpu.specs.Calls.{CpuCall, Does};
 ghost use Rattle.cyc_cpu.specs.Soft.{fires, firing_at, Interrupts};
-ghost use Rattle.cyc_cpu.specs.Gone.{HasAnswered, IsGone, PutsNot, StaysGone};
+ghost use Rattle.cyc_cpu.specs.Gone.{HasLeft, IsGone, PutsNot, StaysGone};
 
 use crate::hard::Hard;
 use cyc_core::LevelCore;
@@ -25,16 +25,15 @@ impl Hard<LevelCore> {
         self.low.conservation();
     }
 
-    /// Once the removal of a cyclic has answered, no call of it is made until its id is put in anew. It does nothing when it
-    /// runs.
+    /// Once a cyclic has left this CPU, by a removal that has answered or to another CPU, no call of it is made until its id is
+    /// put in anew. It does nothing when it runs.
     pub fn removal_law<C: Calls>(&self)
-        // After a removal of this CPU that answered, no cyclic has the id, and it is admitted at neither level and stands in
-        // no place.
-        ensures answered { (id : ℕ) (w : CpuView Tables) → HasAnswered id self.now w → IsGone id w }
+        // After that no cyclic has the id, and it is admitted at neither level and stands in no place.
+        ensures left { (id : ℕ) (w : CpuView Tables) → HasLeft fires firing_at id self.now w → IsGone id w }
         // One more call on the CPU that doesn't put it in makes no call of it, and leaves it gone.
         ensures kept { (id : ℕ) (s t : Running C Tables) (call : CpuCall) → IsGone id s.cpu → PutsNot id call → Does C.called C.count C.may_refuse fires firing_at (Interrupts C.called C.count C.may_refuse) s call t → StaysGone C.count id s t }
-        // So none of any number of such calls after the removal makes one.
-        ensures nothing_follows { (id : ℕ) (s t : Running C Tables) (way : List CpuCall) → HasAnswered id self.now s.cpu → All (PutsNot id) way
+        // So none of any number of such calls makes one.
+        ensures nothing_follows { (id : ℕ) (s t : Running C Tables) (way : List CpuCall) → HasLeft fires firing_at id self.now s.cpu → All (PutsNot id) way
             → FoldsTo (Does C.called C.count C.may_refuse fires firing_at (Interrupts C.called C.count C.may_refuse)) s way t → StaysGone C.count id s t }
     {
         self.law();

@@ -19,5 +19,5 @@ pub use fire::{FireRefused, Fired};
 pub use hard::{Hard, Totals};
 pub use law::share_law;
 pub use moving::Taken;
-pub use removing::Removal;
+pub use removing::{Removal, leaving_law};
 pub use settling::settled_law;

@@ -3,7 +3,7 @@ ghost use Rattle.std.specs.Bool.{OnTrue};
 ghost use Rattle.cyc_types.specs.Series.{never};
 
 use crate::ending::take_at;
-use crate::ends::{admit_at, both_followed, load_pend};
+use crate::ends::admit_at;
 use crate::hard::Hard;
 use cyc_timers::Record;
 use cyc_types::{CyclicId, Interval, Level, Moment, Raise, Refusal, Sent};

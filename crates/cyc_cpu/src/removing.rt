@@ -1,4 +1,7 @@
-ghost use Rattle.std.specs.Prelude.{◌≡◌, ◌≤◌, ◌⊎◌, None, Some, IfOk, IfErr, OnOk, OnErr, IfNone, IfSome, ℕ};
+ghost use Rattle.std.specs.Prelude.{◌≡◌, ◌≤◌, ℕ};
+ghost use Rattle.cyc_cpu.specs.Cpu.{CpuView};
+ghost use Rattle.cyc_cpu.specs.Law.{IsLawful};
+ghost use Rattle.cyc_cpu.specs.Gone.{HasLeft, IsOff};
 
 use crate::ending::{poll_at, remove_at};
 use crate::hard::Hard;
@@ -76,3 +79,11 @@ impl<R: Raise> Hard<R> {
         Some(receipt_of(id, kept))
     }
 }
+
+/// Where a cyclic has left a CPU, by a removal that has answered or to another CPU, no cyclic there has its id, and it is a
+/// stay of neither end: no call of it can be raised until the id is put in anew.
+///
+/// It does nothing when it runs: its clause is the law.
+pub fn leaving_law<R: Raise>()
+    ensures { (id : ℕ) (v w : CpuView R) → IsLawful R.view v → HasLeft R.step R.view id v w → IsOff R.view id w }
+{}

@@ -7,7 +7,7 @@ ghost use Rattle.cyc_core.specs.Tables.{Tables};
 ghost use Rattle.cyc_cpu.specs.Quiet.{KeepsStays};
 ghost use Rattle.cyc_cpu.specs.Cpu.{running};
 ghost use Rattle.cyc_cpu.specs.Calls.{Does, SoftInterrupt};
-ghost use Rattle.cyc_cpu.specs.Soft.{end_at, fires, drains, held_at, firing_at, ServesWithin, Interrupts};
+ghost use Rattle.cyc_cpu.specs.Soft.{end_at, fires, drains, held_at, firing_at, HasEmptyLists, ServesWithin, Interrupts};
 
 use crate::hard::Hard;
 use cyc_core::LevelCore;
@@ -24,9 +24,11 @@ fn serve<C: Calls>(
     ensures served { ServesWithin (at_level C.called (level_of level)) C.count C.may_refuse budget result end.old calls.old end.new calls.new }
     ensures idle { IfOk result (λ r. IsTrue r.idle → (before : Tables) × (way : List DrainCall)
         × DrainGoes drains end.old way before × drains before (Takes None) end.new × (held_at end.new ≡ None)) }
+    ensures empty { IfOk result (λ r. IsTrue r.idle → HasEmptyLists end.new) }
     ensures keeps { KeepsStays (firing_at end.old) (firing_at end.new) }
     ensures sound { Sound (firing_at end.new) }
 {
+    end.conservation();
     let answer = cyc_soft::softint(end, calls, level, budget);
     end.law();
     answer
@@ -46,9 +48,10 @@ impl Hard<LevelCore> {
         // The calls that were made, each at this level, and no other, or those up to one that its handler refused; nothing else changed.
         ensures did { Does C.called C.count C.may_refuse fires firing_at (Interrupts C.called C.count C.may_refuse) (running calls.old self.old) (SoftInterrupt level budget result) (running calls.new self.new) }
 
-        // Where it is idle, its last step is a look that found nothing.
+        // Where it is idle, its last step is a look that found nothing, and nothing waits at its level.
         ensures idle { IfOk result (λ r. IsTrue r.idle → (before : Tables) × (way : List DrainCall)
             × DrainGoes drains (end_at level self.old) way before × drains before (Takes None) (end_at level self.new) × (held_at (end_at level self.new) ≡ None)) }
+        ensures empty { IfOk result (λ r. IsTrue r.idle → HasEmptyLists (end_at level self.new)) }
     {
         match level {
             Soft::Lock => serve(&mut self.lock, calls, level, budget),

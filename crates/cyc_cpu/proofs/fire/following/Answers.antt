@@ -10,11 +10,11 @@ returns-clause-due c =
     let near : c.args.now ≤ c.args.moment + c.args.interval + late =
     elim c.else-following-now_is.branch [ else-following-now_is-via-then-following-now_is+else-now_is-following-gt-LATE w ↦ omega arith | else-following-now_is-via-else-following-now_is w ↦ omega arith ] in
     let some : 0 < c.args.interval = omega arith in
-    let is : c.moment_of.result ≡ min (c.args.moment + c.args.interval) never = omega arith in
-    due_step c.args.moment c.args.interval c.args.now c.moment_of.result c.requires.due c.requires.now some is near
+    let is : c.nearest_moment.result ≡ min (c.args.moment + c.args.interval) never = omega arith in
+    due_step c.args.moment c.args.interval c.args.now c.nearest_moment.result c.requires.due c.requires.now some is near
 
 pub returns-clause-next : goal.returns-clause-next
 returns-clause-next c =
     let some : 0 < c.args.interval = omega arith in
-    let is : c.moment_of.result ≡ min (c.args.moment + c.args.interval) never = omega arith in
-    next_step c.args.moment c.args.interval c.args.now c.moment_of.result c.requires.due c.requires.now some is
+    let is : c.nearest_moment.result ≡ min (c.args.moment + c.args.interval) never = omega arith in
+    next_step c.args.moment c.args.interval c.args.now c.nearest_moment.result c.requires.due c.requires.now some is

@@ -1,8 +1,8 @@
 use Rattle.cyc_cpu.proofs.Following.{answered_gone, stays_gone, runs_gone}
 use Rattle.cyc_cpu.proofs.levels.Hard+LevelCore.removal_law.Goals as goal
 
-pub returns-clause-answered : goal.returns-clause-answered
-returns-clause-answered g c id w h =
+pub returns-clause-left : goal.returns-clause-left
+returns-clause-left g c id w h =
     let e = c.law.ensures in let k = c.conservation.ensures in
     answered_gone id c.args.self.now w e.rising e.lock e.low k.lock_lawful k.low_lawful h
 
