@@ -4,5 +4,5 @@ use Rattle.cyc_ring_cpu_tests.proofs.help.add.Goals as goal
 
 pub returns-in-Ok : goal.returns-in-Ok
 returns-in-Ok g c =
-    let ok = c.in-Ok.ensures.ok in
-    ok.5.kept.most ∙ (ok.4.most ∙ (ok.3.most ∙ same_most _ _ c.in-None.ensures.none.1))
+    let ok = c.in-Ok.ensures.2 in
+    ok.enters.kept.most ∙ (ok.widens.most ∙ (ok.reserves.most ∙ same_most _ _ c.in-None.ensures.1))
