@@ -7,20 +7,39 @@ failed=0
 # where the program isn't built yet, this builds it
 ./cyclic replay < examples/first.json > /dev/null || exit 1
 
-# expect NAME STATUS STDOUT STDERR INPUT WORD..
-expect() {
-  local name=$1 status=$2 out=$3 err=$4 input=$5
-  shift 5
-  local got_out got_err got
-  got_err=$(mktemp)
-  got_out=$(printf '%s' "$input" | ./cyclic "$@" 2>"$got_err"; echo "status $?")
-  got=${got_out##*status }
-  got_out=${got_out%status *}
-  if [ "$got" != "$status" ] || [ "$got_out" != "$out" ] || [ "$(cat "$got_err")" != "$err" ]; then
-    echo "program: $name: status $got, wrote '$got_out' and '$(cat "$got_err")'"
+program=$PWD/crates/cyclic/out/cyclic
+work=$(mktemp -d)
+trap 'rm -rf "$work"' EXIT
+
+# say NAME STATUS WANTED: the run whose outputs stand in got and said, against those that stand in text and words
+say() {
+  if [ "$2" != "$3" ] || ! cmp -s "$work/text" "$work/got" || ! cmp -s "$work/words" "$work/said"; then
+    echo "program: $1: status $2, wrote '$(head -c 300 "$work/got")' and '$(head -c 300 "$work/said")'"
     failed=1
   fi
-  rm -f "$got_err"
+}
+
+# want STDOUT STDERR: what the next run writes
+want() {
+  printf '%s' "$1" > "$work/text"
+  printf '%s' "${2:+$2
+}" > "$work/words"
+}
+
+# ran NAME STATUS WORD..: runs the program on standard input, for at most 20 seconds
+ran() {
+  local name=$1 status=$2
+  shift 2
+  timeout 20 "$program" "$@" > "$work/got" 2> "$work/said"
+  say "$name" "$?" "$status"
+}
+
+# expect NAME STATUS STDOUT STDERR INPUT WORD..
+expect() {
+  local name=$1 status=$2 input=$5
+  want "$3" "$4"
+  shift 5
+  ran "$name" "$status" "$@" < <(printf '%s' "$input")
 }
 
 usage='usage: cyclic replay|run'
@@ -37,15 +56,98 @@ expect no_name 2 '' 'script refused 23 step 1' '{"cpus":1,"steps":[["remove","a"
 expect at_never 2 '' 'script refused 20 step 1' '{"cpus":1,"steps":[["advance",9223372036854775807]]}' replay
 expect no_steps 0 '' '' '{"cpus":1,"steps":[]}' replay
 
-# a full device: what the last flush meets is a failed write
+# scripts that are refused, or as great as they may be
+first=$(cat crates/cyclic/stdin)
+for ((n = 0; n < ${#first}; n++)); do
+  expect "first_$n" 2 '' 'script refused 19' "${first:0:n}" replay
+done
+step() { expect "$1" "$2" "$3" "$4" '{"cpus":1,"steps":['"$5"']}' replay; }
+nested=$(printf '[%.0s' {1..200})$(printf ']%.0s' {1..200})
+step nested_arrays 2 '' 'script refused 19' "$nested"
+step past_never 2 '' 'script refused 20 step 1' '["add","a","low",9223372036854775808,1]'
+step form_before_name 2 '' 'script refused 20 step 2' '["add","a","low",1,1],["add","a","low",1]'
+step name_before_time 2 '' 'script refused 23 step 2' '["advance",5],["remove","z"],["advance",4]'
+step name_of_33 2 '' 'script refused 20 step 1' '["add","abcdefghijklmnopqrstuvwxyz0123456","low",1,1]'
+step empty_name 2 '' 'script refused 20 step 1' '["add","","low",1,1]'
+step spaced_name 2 '' 'script refused 20 step 1' '["add","a b","low",1,1]'
+step name_of_32 0 $'1 ok\nabcdefghijklmnopqrstuvwxyz012345 expired 0 called 0 lost 0 pending 0\n' '' \
+  '["add","abcdefghijklmnopqrstuvwxyz012345","low",1,1]'
+for head in '"cpus":17' '"cpus":1,"ceiling":0' '"cpus":1,"ceiling":4294967296' '"cpus":1,"more":1'; do
+  expect "$head" 2 '' 'script refused 20 step 0' "{$head,\"steps\":[]}" replay
+done
+want '' 'script refused 19'
+printf '%s' "$first" | sed 's/"a"/"\xff"/' > "$work/script"
+ran no_utf8 2 replay < "$work/script"
+head -c 16777216 /dev/zero | tr '\0' ' ' > "$work/script"
+ran as_many_bytes_as_may_be 2 replay < "$work/script"
+want '' 'script refused 20 step 0'
+printf ' ' >> "$work/script"
+ran one_byte_more 2 replay < "$work/script"
+
+# a reading stops one byte after the last that a script may have
+printf ' ' >> "$work/script"
+{ ran two_bytes_more 2 replay; left=$(wc -c); } < "$work/script"
+[ "$left" -eq 1 ] || { echo "program: two_bytes_more: $left bytes are left"; failed=1; }
+ran endless 2 replay < <(tr '\0' ' ' < /dev/zero)
+
+# steps COUNT: a script of so many steps
+steps() { printf '{"cpus":1,"steps":['; yes '["advance",0]' | head -n "$1" | paste -sd,; printf ']}'; }
+ran one_step_more 2 replay < <(steps 65537)
+want '' ''
+seq 65536 | sed 's/$/ fired 0 lost 0/' > "$work/text"
+ran as_many_steps_as_may_be 0 replay < <(steps 65536)
+
+# an input that is not read
+want '' 'fault read'
+ran a_directory 3 replay < /tmp
+ran a_closed_input 3 replay <&-
+
+# an output that is not written: closed, a full device, a pipe that nobody reads
+want '' 'fault write'
+: > "$work/got"
+timeout 20 "$program" replay < examples/first.json 2> "$work/said" >&-
+say a_closed_output "$?" 3
 if [ -e /dev/full ]; then
-  words=$(printf '%s' '{"cpus":1,"steps":[["advance",1]]}' | ./cyclic replay 2>&1 >/dev/full)
-  status=$?
-  if [ "$status" -ne 3 ] || [ "$words" != 'fault write' ]; then
-    echo "program: full_device: status $status, wrote '$words'"
-    failed=1
-  fi
+  timeout 20 "$program" replay < examples/first.json 2> "$work/said" > /dev/full
+  say a_full_device "$?" 3
+  timeout 20 "$program" replay < <(steps 65536) 2> "$work/said" > /dev/full
+  say a_full_device_and_a_long_text "$?" 3
+  want '' ''
+  : > "$work/said"
+  timeout 20 "$program" replay < examples/first.json > /dev/full 2>&1
+  say nowhere_to_say_it "$?" 3
+  want '' 'fault write'
 fi
+mkfifo "$work/pipe"
+sleep 20 < "$work/pipe" & reader=$!
+exec 8> "$work/pipe"
+kill "$reader"
+wait "$reader" 2> /dev/null
+timeout 20 "$program" replay < examples/first.json 2> "$work/said" >&8
+say a_pipe_that_nobody_reads "$?" 3
+exec 8>&-
+
+# reads and writes that are interrupted, and requests for memory that are refused; these put a shim before the C library
+if ${CC:-cc} -shared -fPIC -O1 -o "$work/shim.so" tests/shim.c 2> /dev/null; then
+  interrupted() {
+    timeout 20 env "$2" LD_PRELOAD="$work/shim.so" "$program" replay < examples/first.json > "$work/got" 2> "$work/said"
+    say "$1" "$?" "$3"
+  }
+  cp examples/first.txt "$work/text"
+  : > "$work/words"
+  interrupted reads_interrupted_every_other_time HALF=0 0
+  interrupted writes_interrupted_every_other_time HALF=1 0
+  want '' 'fault write'
+  interrupted writes_always_interrupted INTERRUPT=1 3
+  want '' 'fault read'
+  interrupted reads_always_interrupted INTERRUPT=0 3
+  tests/memory.sh || failed=1
+else
+  echo 'program: no C compiler: interrupted reads and writes, and refused memory, are not tried'
+fi
+
+# scripts made at random, whole and damaged
+tests/random.py 2000 1 || failed=1
 
 # each example that the program runs so far gives the text beside it
 for script in examples/*.json; do

@@ -11,18 +11,20 @@ use std::io::Read;
 /// One byte more than a script may have, so that a longer input is refused.
 const MOST_BYTES: usize = 16_777_217;
 
-/// Asks the reader once, and puts what it gives behind the bytes. Whether it was at its end.
+/// Asks the reader once, by way of the buffer, and puts what it gives behind the bytes. Whether it was at its end.
 fn read_turn<R: Read>(
     reader: &mut BoundedReader<R>,
+    buffer: &mut [u8],
     bytes: &mut Vec<u8>,
 ) -> Result<bool, InputFault>
     requires room { vec_len bytes.old < most_bytes }
+    requires buffer { 0 < length buffer.old }
     requires whole { reader.old.failed ≡ false }
-    ensures bytes { GrowsBy (R.remaining reader.old.reader) (R.remaining reader.new.reader) bytes.old.items bytes.new.items result }
+    ensures bytes { GrowsBy (R.remaining reader.old.reader) (R.remaining reader.new.reader)
+        bytes.old.items bytes.new.items result }
     ensures later { OnOk result (reader.old.turns < reader.new.turns) }
     ensures failed { reader.new.failed ≡ is_read_fault result }
 {
-    let mut buffer = [0u8; 4096];
     let room = (MOST_BYTES - bytes.len()).min(buffer.len());
     match reader.turn(&mut buffer[..room])? {
         Turn::Bytes(n) => {
@@ -50,8 +52,9 @@ pub fn read_input<R: Read>(
     ensures failed { reader.new.failed ≡ is_read_fault result }
 {
     let mut bytes = Vec::new(alloc);
+    let mut buffer = [0u8; 4096];
     while bytes.len() < MOST_BYTES {
-        if read_turn(reader, &mut bytes)? {
+        if read_turn(reader, &mut buffer, &mut bytes)? {
             return Ok(bytes);
         }
     }

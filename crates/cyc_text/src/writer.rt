@@ -8,8 +8,8 @@ use std::io;
 
 /// A sink over any writer. What was written is what the writer tells of its bytes.
 ///
-/// A `put` asks the writer again where a write was interrupted or took only a part, and fails where
-/// the writer fails otherwise or takes nothing, or where it was asked 33,554,432 times in this put. It takes no memory of its own.
+/// A `put` asks the writer again where a write was interrupted or took only a part. It fails where the writer fails otherwise or
+/// takes nothing, or was asked 33,554,432 times in this put. It takes no memory of its own.
 #[derive(Drop)]
 pub struct Out<W> {
     writer: W,

@@ -5,9 +5,12 @@ use Rattle.cyc_input.specs.Turns.{most_turns}
 use Rattle.cyc_input.proofs.input.read_input.Given as goal
 
 -- the bytes so far are what the reader lost
-abbrev pub invariant-loop-reader : goal.invariant-loop-reader
-invariant-loop-reader g l = (length l.bytes.items ≤ most_bytes) × Consumes (g.R.Read.remaining l.initial.reader.reader) (g.R.Read.remaining l.reader.reader) l.bytes.items × (l.reader.failed ≡ false)
+abbrev pub invariant-loop-buffer : goal.invariant-loop-buffer
+invariant-loop-buffer g l =
+    (length l.bytes.items ≤ most_bytes)
+    × Consumes (g.R.Read.remaining l.initial.reader.reader) (g.R.Read.remaining l.reader.reader) l.bytes.items
+    × (l.reader.failed ≡ false)
 
 -- the turns left
-abbrev pub decreases-loop-reader : goal.decreases-loop-reader
-decreases-loop-reader g l = most_turns - l.reader.turns
+abbrev pub decreases-loop-buffer : goal.decreases-loop-buffer
+decreases-loop-buffer g l = most_turns - l.reader.turns

@@ -1,0 +1,150 @@
+#!/usr/bin/env python3
+"""Runs the program on scripts made at random, and on damaged ones, and checks what needs no reference.
+
+    tests/random.py COUNT [SEED]
+
+Every other script is whole: it must be accepted. The others are damaged in one to four bytes: each is accepted, or refused as a
+script. An accepted one has status 0, nothing on standard error, lines of the right forms, and a report in which the expirations
+are those called, lost and pending. A refused one has status 2, no text, and one line 'script refused K', with 'step N' for 20 to
+23. The same seed makes the same scripts. The first faulty one is printed, and the status is 1.
+"""
+import json
+import os
+import random
+import re
+import subprocess
+import sys
+
+PROGRAM = os.path.join(os.path.dirname(os.path.abspath(__file__)), "..", "crates", "cyclic", "out", "cyclic")
+NEVER = 2**63 - 1
+SECOND = 10**9
+REFUSED = re.compile(rb"script refused (?:19|2[0-3] step \d+)\n")
+LINE = re.compile(
+    rb"\d+ (?:ok|refused \d+|fired \d+ lost \d+|ran \d+ (?:idle|more)|kept \d+|removed [A-Za-z0-9_-]{1,32} \d+)\n")
+REPORT = re.compile(rb"[A-Za-z0-9_-]{1,32} expired (\d+) called (\d+) lost (\d+) pending (\d+)\n")
+
+
+class Maker:
+    """Makes a script of all words that run. Moments are near the clock or far from it, so that no fire makes very many calls."""
+
+    def __init__(self, chance):
+        self.chance, self.clock, self.names = chance, 0, []
+
+    def near(self):
+        return min(self.clock + self.chance.randint(0, 2000), NEVER)
+
+    def moment(self):
+        far = [0, -1, -2**63, min(self.clock + 4 * SECOND, NEVER), NEVER - self.chance.randint(1, 50), NEVER]
+        return self.chance.choice(far) if self.chance.random() < 0.1 else self.near()
+
+    def interval(self):
+        far = [0, -1, 10**6, SECOND, 2**62, NEVER]
+        return self.chance.choice(far) if self.chance.random() < 0.2 else self.chance.randint(1, 20)
+
+    def name(self):
+        letters = "abcXYZ019_-"
+        return "".join(self.chance.choice(letters) for _ in range(self.chance.randint(1, 32))) + str(len(self.names))
+
+    def add(self):
+        name = self.name()[-32:]
+        if name in self.names:
+            return self.advance()
+        self.names.append(name)
+        return ["add", name, self.chance.choice(["low", "lock", "high"]), self.moment(), self.interval()]
+
+    def advance(self):
+        jump = self.chance.random()
+        if jump < 0.03:
+            self.clock = min(self.clock + self.chance.choice([3 * SECOND, 2**50, 2**62]), NEVER - 1)
+        elif jump < 0.9:
+            self.clock = min(self.clock + self.chance.randint(0, 200), NEVER - 1)
+        return ["advance", self.clock]
+
+    def softint(self):
+        cpu = 0 if self.chance.random() < 0.97 else self.chance.choice([1, 15, 2**32 - 1])
+        budget = self.chance.choice([0, 1, 2, 8, 1000, 2**32 - 1])
+        return ["softint", cpu, self.chance.choice(["low", "lock"]), budget]
+
+    def step(self):
+        word = self.chance.random()
+        if not self.names or word < 0.2:
+            return self.add()
+        if word < 0.5:
+            return self.advance()
+        if word < 0.8:
+            return self.softint()
+        if word < 0.9:
+            return ["remove", self.chance.choice(self.names)]
+        return ["reprogram", self.chance.choice(self.names), self.moment()]
+
+    def script(self):
+        whole = {"cpus": 1, "steps": [self.step() for _ in range(self.chance.choice([0, 3, 10, 30, 100]))]}
+        if self.chance.random() < 0.5:
+            whole["ceiling"] = self.chance.choice([1, 2, 7, 2**32 - 1])
+        return json.dumps(whole).encode()
+
+
+def damaged(script, chance):
+    """One to four bytes of the script exchanged, put in, taken out or cut off."""
+    script = bytearray(script)
+    for _ in range(chance.randint(1, 4)):
+        at = chance.randrange(len(script)) if script else 0
+        byte = chance.choice(b'0123456789-,.:[]{}" \\eEx\x00\xff') if chance.random() < 0.7 else chance.randrange(256)
+        kind = chance.random()
+        if kind < 0.4 and script:
+            script[at] = byte
+        elif kind < 0.7:
+            script.insert(at, byte)
+        elif kind < 0.97:
+            del script[at:at + 1]
+        else:
+            del script[at:]
+    return bytes(script)
+
+
+def fault_of(text):
+    """What is wrong with the text of an accepted script, or None."""
+    lines = text.splitlines(keepends=True)
+    report = 0
+    for line in lines:
+        counts = REPORT.fullmatch(line)
+        if counts:
+            report += 1
+            expired, called, lost, pending = map(int, counts.groups())
+            if expired != called + lost + pending:
+                return f"the report {line!r}"
+        elif report or not LINE.fullmatch(line):
+            return f"the line {line!r}"
+    return None
+
+
+def look(script, whole):
+    """What is wrong with the run of this script, or None."""
+    try:
+        ran = subprocess.run([PROGRAM, "replay"], input=script, capture_output=True, timeout=100)
+    except subprocess.TimeoutExpired:
+        return "no end within 100 seconds"
+    if ran.returncode == 0:
+        return "words on standard error" if ran.stderr else fault_of(ran.stdout)
+    if whole or ran.returncode != 2 or ran.stdout or not REFUSED.fullmatch(ran.stderr):
+        return f"status {ran.returncode}, text {ran.stdout[:80]!r}, words {ran.stderr[:80]!r}"
+    return None
+
+
+def main():
+    count, seed = int(sys.argv[1]), int(sys.argv[2]) if len(sys.argv) > 2 else 1
+    for number in range(count):
+        chance = random.Random(seed * 2**32 + number)
+        script, whole = Maker(chance).script(), number % 2 == 0
+        if not whole:
+            script = damaged(script, chance)
+        fault = look(script, whole)
+        if fault:
+            print(f"random: seed {seed}, script {number}: {fault}\n{script!r}")
+            return 1
+    print(f"random: {count} scripts of seed {seed}: passed")
+    return 0
+
+
+if __name__ == "__main__":
+    sys.exit(main())
