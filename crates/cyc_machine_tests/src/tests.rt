@@ -1,4 +1,4 @@
-ghost use Rattle.std.specs.Prelude.{◌≡◌, ◌<◌, Some, None, false};
+ghost use Rattle.std.specs.Prelude.{◌≡◌, ◌<◌, None, false};
 
 use cyc_machine::{
     Command, Fault, Out, PutFailed, RunFault, Sink, command_of, read_script, replay, status_of,
@@ -194,21 +194,24 @@ fn a_cpu_holds_256_cyclics_and_another_after_a_removal(rt: HostRuntime) {
     }
 }
 
-/// A sink that fails at a put, after the first byte of it.
+/// A sink that fails at a put, after a part of it.
 #[derive(Drop)]
 struct Stops {
     puts_left: u32,
+    part: usize,
     written: Vec<u8>,
     failed: bool,
 }
 
 impl Sink for Stops {
-    ghost written = { λ s. Some s.written.items };
+    ghost written = { λ _. None };
 
     ghost has_failed = { λ s. s.failed };
 
     fn put(&mut self, bytes: &[u8]) -> Result<(), PutFailed> {
         if self.puts_left == 0 {
+            let part = bytes.len().min(self.part);
+            let _ = self.written.extend_from_slice(&bytes[..part]);
             self.failed = true;
             return Err(PutFailed);
         }
@@ -227,10 +230,16 @@ impl Sink for Stops {
     }
 }
 
-/// How the replay of a script ends on a sink that fails after so many puts, and what it wrote before.
-fn stopped(alloc: Global, script: &Script, puts: u32) -> (Result<(), RunFault>, Vec<u8>) {
+/// How the replay of a script ends on a sink that fails after so many puts and so many bytes of the next, and what it wrote.
+fn stopped(
+    alloc: Global,
+    script: &Script,
+    puts: u32,
+    part: usize,
+) -> (Result<(), RunFault>, Vec<u8>) {
     let mut sink = Stops {
         puts_left: puts,
+        part,
         written: Vec::new(alloc),
         failed: false,
     };
@@ -255,17 +264,34 @@ fn first_lines(alloc: Global, count: usize) -> Result<Vec<u8>, AllocError> {
     Ok(text)
 }
 
+/// Whether the replay of `RUNS[1]` writes as many of its lines, and as much of the next one, as the sink takes, and then ends.
+fn stops_right(alloc: Global, script: &Script, text: &str, puts: u32, part: usize) -> bool {
+    let (ended, written) = stopped(alloc, script, puts, part);
+    let wanted = if puts < 4 {
+        Err(RunFault::Write)
+    } else {
+        Ok(())
+    };
+    let Ok(front) = first_lines(alloc, puts as usize) else {
+        return false;
+    };
+    let next = LINES
+        .get(puts as usize)
+        .map_or(0, |line| line.len().min(part));
+    ended == wanted
+        && written.len() == front.len().saturating_add(next)
+        && text.as_bytes().starts_with(written.as_slice())
+}
+
 #[test]
-fn a_failed_put_stops_the_replay(rt: HostRuntime) {
+fn a_failed_put_stops_the_replay_after_any_part_of_it(rt: HostRuntime) {
     let (_, script, text) = RUNS[1];
     let script = script_of(&rt, script);
-    for k in 0..6u32 {
-        let (ended, written) = stopped(rt.alloc(), &script, k);
-        let wanted = if k < 4 { Err(RunFault::Write) } else { Ok(()) };
-        assert!(rt; ended == wanted, "at {k}");
-        let front = first_lines(rt.alloc(), k as usize).expect(&rt, "a text");
-        assert_eq!(rt; written.as_slice(), front.as_slice(), "at {k}");
-        assert!(rt; text.as_bytes().starts_with(front.as_slice()), "at {k}");
+    for puts in 0..6u32 {
+        for part in 0..40usize {
+            let right = stops_right(rt.alloc(), &script, text, puts, part);
+            assert!(rt; right, "{part} bytes after {puts} puts");
+        }
     }
 }
 
