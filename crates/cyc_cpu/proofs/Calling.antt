@@ -9,8 +9,8 @@ use Rattle.cyc_types.specs.declared.level.Soft.{Soft}
 use Rattle.cyc_expirations.specs.Timers.{earliest}
 use Rattle.cyc_expirations.specs.Expirations.{Expiration, expirations}
 use Rattle.cyc_timers.specs.Rows.{timers}
-use Rattle.cyc_cpu.specs.declared.fire.Fired.{Fired}
-use Rattle.cyc_cpu.specs.declared.fire.FireRefused.{FireRefused}
+use Rattle.cyc_fire.specs.declared.fire.Fired.{Fired}
+use Rattle.cyc_fire.specs.declared.fire.FireRefused.{FireRefused}
 use Rattle.cyc_types.specs.Levels.{at_level}
 use Rattle.cyc_types.specs.declared.level.Level.{Level}
 use Rattle.cyc_types.specs.declared.level.Level.TheVariants.{High}

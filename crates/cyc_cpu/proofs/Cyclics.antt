@@ -5,7 +5,7 @@ use Rattle.std.proofs.Common.{◌≡◌, ◌≢◌, inl, inr, Some, ◌<◌, ◌
 use Rattle.std.proofs.Math.ListN.{set}
 use Rattle.std.proofs.lemmas.List.{length-map, get_or_default, get_or-map, map-set, map-append, take-map, drop-map}
 use Rattle.cyc_timers.specs.Rows.{Row, Cyclic, IsRow, IsRising, HasNo, cyclic_of, cyclics_of}
-use Rattle.cyc_cpu.specs.Ends.{IsEnd, IsCounted, IsHard}
+use Rattle.cyc_fire.specs.Ends.{IsEnd, IsCounted, IsHard}
 use Rattle.cyc_types.specs.Firing.{FiringView, FiringCall}
 use Rattle.cyc_types.specs.declared.level.Level.{Level}
 use Rattle.cyc_types.specs.declared.level.Level.TheVariants.{Low, Lock, High}

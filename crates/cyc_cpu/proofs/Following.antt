@@ -34,9 +34,9 @@ use Rattle.cyc_expirations.proofs.Dues.{due_later}
 use Rattle.cyc_expirations.proofs.Laws.{times_expirations}
 use Rattle.cyc_timers.specs.Rows.{Cyclic, no_counts, timers}
 use Rattle.cyc_cpu.specs.declared.removing.Removal.TheVariants.{Done, Kept}
-use Rattle.cyc_cpu.specs.Acts.{AreRaises, is_of, timer_of}
-use Rattle.cyc_cpu.specs.Shares.{share}
-use Rattle.cyc_cpu.specs.Quiet.{OnlyLooks, LoadsThenLooks}
+use Rattle.cyc_fire.specs.Acts.{AreRaises, is_of, timer_of}
+use Rattle.cyc_fire.specs.Shares.{share}
+use Rattle.cyc_fire.specs.Quiet.{OnlyLooks, LoadsThenLooks}
 use Rattle.cyc_cpu.specs.Cpu.{CpuView, Running, sides, Makes, Asks, Looked, Reserves, Widens, Places, IsCyclic, HasNoCyclic, AreAdmitted, HasRisingIds, IsRemoved, with_moment}
 use Rattle.cyc_cpu.specs.Removal.{calls_at, EndGoes, Leaves}
 use Rattle.cyc_cpu.specs.Moving.{WhyNotTaken, Inquires}
@@ -45,8 +45,8 @@ use Rattle.cyc_cpu.specs.Calls.{CpuCall, Fire, SoftInterrupt, Add, Place, Reprog
 use Rattle.cyc_cpu.specs.Gone.{IsAbsent, IsGone, HasLeft, PutsNot, StaysGone}
 use Rattle.cyc_cpu.proofs.Gone.{off_of, absent_of, AreSpared, off_goes, none_served}
 use Rattle.cyc_cpu.proofs.Leaving.{goes_here, goes_not, level_cases}
-use Rattle.cyc_cpu.proofs.Making.{same_id, length-all}
-use Rattle.cyc_cpu.proofs.Sharing.{ids_add_up}
+use Rattle.cyc_fire.proofs.Making.{same_id, length-all}
+use Rattle.cyc_fire.proofs.Sharing.{ids_add_up}
 
 -- what an end of this CPU has
 abbrev ends_absent : (id : ℕ) (a b : Tables) (way : List FiringCall) → Type 0

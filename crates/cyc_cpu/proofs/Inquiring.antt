@@ -13,9 +13,9 @@ use Rattle.cyc_cpu.specs.Moving.{IsSettled, Inquires}
 use Rattle.cyc_types.proofs.Runs.{goes_on}
 use Rattle.std.proofs.lemmas.List.{map-append, get_or_default}
 use Rattle.std.proofs.lemmas.Bool.Decides.{nat_tests}
-use Rattle.cyc_cpu.specs.Ends.{IsEnd}
-use Rattle.cyc_cpu.specs.Quiet.{KeepsStays, OnlyLoads, OnlyLooks, asks_at}
-use Rattle.cyc_cpu.proofs.Readying.{loads_keep, looks_keep, keeps_itself}
+use Rattle.cyc_fire.specs.Ends.{IsEnd}
+use Rattle.cyc_fire.specs.Quiet.{KeepsStays, OnlyLoads, OnlyLooks, asks_at}
+use Rattle.cyc_fire.proofs.Readying.{loads_keep, looks_keep, keeps_itself}
 use Rattle.cyc_cpu.proofs.Softs.{keeps_on}
 use Rattle.cyc_cpu.proofs.Leaving.{goes_here, goes_not, level_cases, one_row}
 

@@ -14,7 +14,7 @@ use Rattle.cyc_expirations.proofs.Dues.{due_later}
 use Rattle.cyc_expirations.proofs.Laws.{times_expirations}
 use Rattle.cyc_timers.specs.Rows.{Row, Cyclic, IsRow, IsRising, no_counts, timers, cyclic_of, cyclics_of}
 use Rattle.cyc_cpu.specs.Cpu.{CpuView, IsCyclic, HasCounts, HasRisingIds, IsRemoved}
-use Rattle.cyc_cpu.specs.Ends.{IsEnd, IsHard}
+use Rattle.cyc_fire.specs.Ends.{IsEnd, IsHard}
 use Rattle.cyc_cpu.specs.Losses.{IsUnder, IsSpared}
 use Rattle.cyc_cpu.specs.Law.{IsLawful}
 use Rattle.cyc_cpu.proofs.Cyclics.{admitted_cyclics, rising_cyclics, counted_cyclics, removed_cyclic}

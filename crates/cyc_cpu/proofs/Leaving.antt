@@ -13,13 +13,13 @@ use Rattle.cyc_types.specs.declared.firing.Sent.{Sent}
 use Rattle.cyc_types.specs.declared.level.Level.{Level}
 use Rattle.cyc_types.specs.declared.level.Level.TheVariants as level
 use Rattle.cyc_timers.specs.Rows.{Row, Cyclic, IsRow, IsRising, at_moment, cyclic_of, cyclics_of}
-use Rattle.cyc_cpu.specs.Acts.{same_level}
-use Rattle.cyc_cpu.specs.Ends.{HasRow, IsEnd, IsCounted, IsHard}
-use Rattle.cyc_cpu.specs.Quiet.{KeepsStays}
+use Rattle.cyc_fire.specs.Acts.{same_level}
+use Rattle.cyc_fire.specs.Ends.{HasRow, IsEnd, IsCounted, IsHard}
+use Rattle.cyc_fire.specs.Quiet.{KeepsStays}
 use Rattle.cyc_cpu.specs.Cpu.{CpuView, HasCounts}
 use Rattle.cyc_cpu.specs.Removal.{calls_at, HasPolled, Opens, Leaves, Waits, Ends, IsReceipt}
 use Rattle.cyc_types.specs.declared.receipt.Receipt.{Receipt}
-use Rattle.cyc_cpu.proofs.Readying.{Keeps, row_cases, row_new, ids_apart, end_moved, counted_moved, end_kept, loads_keep, keeps_itself}
+use Rattle.cyc_fire.proofs.Readying.{Keeps, row_cases, row_new, ids_apart, end_moved, counted_moved, end_kept, loads_keep, keeps_itself}
 
 -- a row after one was taken out
 pub row_less : (rows : List Row) (k j : ℕ) (x : Row) → k < length rows → IsRow (remove rows k) j x → (i : ℕ) × (i ≢ k) × IsRow rows i x

@@ -1,17 +1,10 @@
-pub mod Acting
-pub mod Nexts
-pub mod Readying
-pub mod Making
-pub mod Stepping
 pub mod Cyclics
 pub mod Entering
-pub mod Sharing
 pub mod Softs
 pub mod Idling
 pub mod Leaving
 pub mod Inquiring
 pub mod Staying
-pub mod Sparing
 pub mod Gone
 pub mod Following
 pub mod Off

@@ -8,11 +8,10 @@ use Rattle.cyc_types.specs.declared.level.Level.{Level}
 use Rattle.cyc_types.specs.declared.level.Level.TheVariants.{Low, Lock, High}
 use Rattle.cyc_types.specs.declared.refusal.Refusal.{Refusal}
 use Rattle.cyc_types.specs.declared.refusal.Refusal.TheVariants as why
-use Rattle.cyc_expirations.specs.Expirations.{Expiration, all_after}
-use Rattle.cyc_expirations.specs.Timers.{Timer}
 use Rattle.cyc_timers.specs.Rows.{Cyclic, timers}
-use Rattle.cyc_cpu.specs.Quiet.{asks_at, admits_at, OnlyLooks}
-use Rattle.cyc_cpu.specs.Acts.{Sides, Acts, ids_at, losses, lost_after, timer_of}
+use Rattle.cyc_fire.specs.Quiet.{asks_at, admits_at, OnlyLooks}
+use Rattle.cyc_fire.specs.Acts.{Sides}
+pub use Rattle.cyc_fire.specs.Made.{Makes, WhyStopped, HasCounts}
 
 -- the firing side of one CPU
 pub record CpuView (R : Type 0) : Type 0 where
@@ -73,14 +72,6 @@ pub record AreAdmitted (soft : Level) (v : FiringView) (cs : List Cyclic) : Type
   pub only : (id : ℕ) (s : Stay) → v.stays id ≡ Some s → (k : ℕ) × (c : Cyclic) × IsCyclic cs k c × (c.timer.id ≡ id) × (c.timer.level ≡ soft)
   -- a stay lost an expiration only after as many as the ceiling
   pub over : (id : ℕ) (s : Stay) → v.stays id ≡ Some s → 0 < s.lost → v.ceiling < s.sent
-
--- the counts of a cyclic: those that it carried in are among them, and at high level it loses nothing here
-pub record HasCounts (most : ℕ) (c : Cyclic) : Type 0 where
-  pub some : c.lost ≤ c.timer.expired
-  pub few : c.timer.expired ≤ most
-  pub carried : c.carried.sent ≤ c.timer.expired
-  pub carried_lost : c.carried.lost ≤ c.lost
-  pub high : c.timer.level ≡ High → c.lost ≡ c.carried.lost
 
 -- an open removal is of one cyclic of a soft level, which never expires
 abbrev pub IsRemoved : ℕ → List Cyclic → Type 0
@@ -199,23 +190,3 @@ pub record Places {R : Type 0} (step : R → FiringCall → R → Type 0) (view 
 -- a cyclic that has not expired yet was put in
 abbrev pub Enters : {R : Type 0} → (R → FiringCall → R → Type 0) → (R → FiringView) → ℕ → Level → ℕ → ℕ → CpuView R → CpuView R → Type 0
 Enters step view id level interval moment v w = Places step view (new_cyclic id level interval moment) v w
-
--- these expirations of a fire at now were made: each cyclic stands where they leave it, the handlers of the high ones were
--- called, the others were raised at their ends, and each id lost what its raises lost
-pub record Makes {C R : Type 0} (called : C → ℕ → C → Type 0) (count : C → ℕ → ℕ) (step : R → FiringCall → R → Type 0) (view : R → FiringView)
-    (now : ℕ) (made : List Expiration) (cs cs' : List Cyclic) (s s' : Sides C R) (lost : ℕ) : Type 0 where
-  pub acts : Acts called count step view (ids_at High (timers cs) made) (ids_at Lock (timers cs) made) (ids_at Low (timers cs) made) s s'
-  pub timers_are : timers cs' ≡ all_after now made (timers cs)
-  pub carried_are : map (λ c. c.carried) cs' ≡ map (λ c. c.carried) cs
-  pub losses_are : map (λ c. c.lost) cs' ≡ map (λ c. lost_after acts.lock_way acts.low_way c.timer.id c.lost) cs
-  pub lost_is : lost ≡ losses acts.lock_way + losses acts.low_way
-
--- what the refusal of an expiration of this cyclic says: first that it has expired as often as it may, and then its handler
-abbrev pub Stops : {C : Type 0} → (C → ℕ → Type 0) → ℕ → C → Timer → Refusal → Type 0
-Stops may_refuse most at t (why.CountSpent id) = (id ≡ t.id) × (most ≤ t.expired)
-Stops may_refuse most at t (why.HandlerRefused id) = (id ≡ t.id) × (t.expired < most) × (t.level ≡ High) × may_refuse at id
-Stops may_refuse most at t e = ⊥
-
--- the expiration was refused: its cyclic has expired as often as it may, or its handler may refuse at this moment
-abbrev pub WhyStopped : {C : Type 0} → (C → ℕ → Type 0) → ℕ → C → Expiration → List Timer → Refusal → Type 0
-WhyStopped may_refuse most at last ts e = (t : Timer) × (timer_of last.id ts ≡ Some t) × Stops may_refuse most at t e

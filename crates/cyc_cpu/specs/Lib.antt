@@ -1,8 +1,8 @@
-pub mod Acts
-pub mod Ends
-pub mod Quiet
+pub use Rattle.cyc_fire.specs.Acts
+pub use Rattle.cyc_fire.specs.Ends
+pub use Rattle.cyc_fire.specs.Quiet
+pub use Rattle.cyc_fire.specs.Shares
 pub mod Cpu
-pub mod Shares
 pub mod Soft
 pub mod Removal
 pub mod Moving

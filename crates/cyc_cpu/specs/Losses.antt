@@ -1,19 +1,14 @@
 -- Which cyclics can lose an expiration.
-use Rattle.std.specs.Prelude.{◌≡◌, ℕ, ◌≤◌, List}
+use Rattle.std.specs.Prelude.{◌≡◌, ℕ, ◌≤◌}
 use Rattle.cyc_types.specs.declared.level.Level.{Level}
 use Rattle.cyc_types.specs.declared.level.Level.TheVariants.{Low, Lock, High}
 use Rattle.cyc_timers.specs.Rows.{Cyclic}
-use Rattle.cyc_cpu.specs.Cpu.{IsCyclic}
 
 -- so many expirations at this level are at most the ceiling of the level; the high level has none
 abbrev pub IsUnder : ℕ → ℕ → Level → ℕ → Type 0
 IsUnder lock_ceiling low_ceiling Low n = n ≤ low_ceiling
 IsUnder lock_ceiling low_ceiling Lock n = n ≤ lock_ceiling
 IsUnder lock_ceiling low_ceiling High n = Unit {0}
-
--- no cyclic lost more that has expired no more often than the ceiling of its level (cyclic_expire loses where cy_pend is UINT32_MAX)
-abbrev pub Spares : ℕ → ℕ → List Cyclic → List Cyclic → Type 0
-Spares lock_ceiling low_ceiling cs cs' = (k : ℕ) (c c' : Cyclic) → IsCyclic cs k c → IsCyclic cs' k c' → IsUnder lock_ceiling low_ceiling c'.timer.level c'.timer.expired → c'.lost ≡ c.lost
 
 -- a cyclic that has expired no more often than the ceiling of its level has lost nothing here: what it lost it carried in
 abbrev pub IsSpared : ℕ → ℕ → Cyclic → Type 0

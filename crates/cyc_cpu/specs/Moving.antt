@@ -7,7 +7,7 @@ use Rattle.cyc_types.specs.declared.refusal.Refusal.TheVariants as why
 use Rattle.cyc_timers.specs.Rows.{Cyclic}
 use Rattle.cyc_cpu.specs.declared.moving.Taken.{Taken}
 use Rattle.cyc_cpu.specs.Cpu.{CpuView, seen_at, HasNoCyclic, Asks, HasFollowed, SameCpu}
-use Rattle.cyc_cpu.specs.Quiet.{LoadsThenLooks}
+use Rattle.cyc_fire.specs.Quiet.{LoadsThenLooks}
 use Rattle.cyc_cpu.specs.Removal.{Leaves, HasCyclic, HasPolled}
 
 -- what was taken is all that the CPU has of this cyclic

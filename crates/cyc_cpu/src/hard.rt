@@ -12,7 +12,7 @@ ghost use Rattle.cyc_cpu.specs.Cpu.{running, seen_at, IsFresh, HasNoCyclic, Asks
 ghost use Rattle.cyc_cpu.specs.Calls.{Changes, Does, no_interrupts, Fire, Add, Reprogram, AskPending, AskTotals, AskRoom, Reserve, Widen};
 
 use crate::ends::{both_followed, least_bank, load_pend, places_of};
-use crate::fire::{FireRefused, Fired, fire_all};
+use cyc_fire::{FireRefused, Fired, fire_all};
 use cyc_timers::{Record, Table};
 use cyc_types::{CYCLICS, Calls, CyclicId, Interval, Level, Moment, Raise, Refusal, Sent, When};
 use std::alloc::Global;
@@ -42,7 +42,7 @@ pub struct Hard<R: Raise> {
 impl<R: Raise> Model for Hard<R> {
     ghost use Rattle.cyc_timers.specs.Rows.{cyclics_of};
     ghost use Rattle.cyc_cpu.specs.Cpu.{CpuView};
-    ghost use Rattle.cyc_cpu.specs.Ends.{IsHard};
+    ghost use Rattle.cyc_fire.specs.Ends.{IsHard};
 
     ghost Value = { CpuView R };
 

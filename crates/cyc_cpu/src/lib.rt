@@ -6,18 +6,15 @@
 
 mod ending;
 mod ends;
-mod fire;
 mod hard;
-mod law;
 mod levels;
 mod moving;
 mod removing;
 mod settling;
 mod soft;
 
-pub use fire::{FireRefused, Fired};
+pub use cyc_fire::{FireRefused, Fired, share_law};
 pub use hard::{Hard, Totals};
-pub use law::share_law;
 pub use moving::Taken;
 pub use removing::{Removal, leaving_law};
 pub use settling::settled_law;

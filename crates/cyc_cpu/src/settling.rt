@@ -4,7 +4,7 @@ ghost use Rattle.cyc_types.specs.Firing.{MayAsk, Sound, seen_of};
 ghost use Rattle.cyc_types.specs.declared.level.Level.TheVariants.{Low, Lock};
 ghost use Rattle.cyc_types.specs.declared.refusal.Refusal.TheVariants as why;
 ghost use Rattle.cyc_timers.specs.Rows.{Row, Cyclic, IsRow};
-ghost use Rattle.cyc_cpu.specs.Quiet.{OnlyLoads};
+ghost use Rattle.cyc_fire.specs.Quiet.{OnlyLoads};
 ghost use Rattle.cyc_cpu.specs.declared.moving.Taken.{Taken as TheTaken};
 ghost use Rattle.cyc_cpu.specs.Cpu.{CpuView, WhyNoRoom, Looked, Asks, Places};
 ghost use Rattle.cyc_cpu.specs.Moving.{IsSettled, Takes, WhyNotTaken};

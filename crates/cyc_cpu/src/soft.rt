@@ -4,7 +4,7 @@ ghost use Rattle.cyc_types.specs.Draining.{DrainCall, Takes};
 ghost use Rattle.cyc_types.specs.Runs.{DrainGoes};
 ghost use Rattle.cyc_types.specs.Firing.{Sound};
 ghost use Rattle.cyc_core.specs.Tables.{Tables};
-ghost use Rattle.cyc_cpu.specs.Quiet.{KeepsStays};
+ghost use Rattle.cyc_fire.specs.Quiet.{KeepsStays};
 ghost use Rattle.cyc_cpu.specs.Cpu.{running};
 ghost use Rattle.cyc_cpu.specs.Calls.{Does, SoftInterrupt};
 ghost use Rattle.cyc_cpu.specs.Soft.{end_at, fires, drains, held_at, firing_at, HasEmptyLists, ServesWithin, Interrupts};

@@ -21,7 +21,7 @@ use Rattle.cyc_level.specs.Level.{Level}
 use Rattle.cyc_core.specs.Tables.{Tables, level_of}
 use Rattle.cyc_timers.specs.Rows.{Cyclic}
 use Rattle.std.proofs.Math.Nat.{le-max_left}
-use Rattle.cyc_cpu.specs.Acts.{same_level}
+use Rattle.cyc_fire.specs.Acts.{same_level}
 use Rattle.cyc_cpu.specs.Cpu.{CpuView, HasRisingIds, Looked, Reserves, WhyNotReserved, Widens, Enters, WhyNoRoom, HasRoom, bank_for, least_bank, size_for, new_cyclic}
 use Rattle.cyc_script.specs.declared.step.Add.{Add as AddStep}
 use Rattle.cyc_script.specs.declared.step.Step.TheVariants as step_kind

@@ -9,8 +9,8 @@ use Rattle.cyc_level.specs.Level.{Level, count}
 use Rattle.cyc_level.specs.Runs.{losses as losses_of}
 use Rattle.cyc_core.specs.FiringSide.{Fires}
 use Rattle.cyc_core.specs.Tables.{Tables, level_of}
-use Rattle.cyc_cpu.specs.Acts.{AreRaises, loss_in, losses as losses_in}
-use Rattle.cyc_cpu.specs.Quiet.{OnlyLooks}
+use Rattle.cyc_fire.specs.Acts.{AreRaises, loss_in, losses as losses_in}
+use Rattle.cyc_fire.specs.Quiet.{OnlyLooks}
 use Rattle.cyc_cpu.specs.Soft.{fires, firing_at as seen}
 use Rattle.cyc_machine.specs.LevelRun.{happen, expiry, expiries, losses}
 use Rattle.cyc_machine.proofs.Raising.{fires_happen, losses_of_expiry, each_of_expiry, happen_on, losses_on, each_on}

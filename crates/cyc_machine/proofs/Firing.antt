@@ -23,12 +23,12 @@ use Rattle.cyc_expirations.specs.Timers.{Timer, HasDistinctIds}
 use Rattle.cyc_expirations.proofs.Dues.{due_small}
 use Rattle.cyc_expirations.proofs.Laws.{times_expirations, times_others}
 use Rattle.cyc_timers.specs.Rows.{Cyclic, timers}
-use Rattle.cyc_cpu.specs.Acts.{ids_at, is_of, timer_of, lost_after}
-use Rattle.cyc_cpu.specs.declared.fire.FireRefused.{FireRefused}
+use Rattle.cyc_fire.specs.Acts.{ids_at, is_of, timer_of, lost_after}
+use Rattle.cyc_fire.specs.declared.fire.FireRefused.{FireRefused}
 use Rattle.cyc_cpu.specs.Calls.{Stopped}
 use Rattle.cyc_cpu.specs.Cpu.{CpuView, SameCpu, HasRisingIds, Makes, Stops, running}
 use Rattle.cyc_cpu.proofs.Lawful.{distinct_ids}
-use Rattle.cyc_cpu.proofs.Sharing.{ids_add_up}
+use Rattle.cyc_fire.proofs.Sharing.{ids_add_up}
 use Rattle.cyc_machine.specs.LevelRun.{expiries, losses}
 use Rattle.cyc_machine.specs.declared.machine.Open.{Open}
 use Rattle.cyc_machine.specs.declared.machine.Fate.{Fate}

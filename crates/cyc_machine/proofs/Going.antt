@@ -8,7 +8,7 @@ use Rattle.cyc_types.specs.declared.refusal.Refusal.{Refusal}
 use Rattle.cyc_level.specs.Level.{Cyclic, Level}
 use Rattle.cyc_expirations.specs.Timers.{Timer}
 use Rattle.cyc_timers.specs.Rows.{Cyclic as Timed}
-use Rattle.cyc_cpu.specs.Acts.{same_level}
+use Rattle.cyc_fire.specs.Acts.{same_level}
 use Rattle.cyc_machine.specs.declared.machine.Open.{Open}
 use Rattle.cyc_machine.specs.Conserving.{CanHappen}
 use Rattle.cyc_machine.specs.LevelRun.{happen}

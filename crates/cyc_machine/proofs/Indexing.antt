@@ -11,7 +11,7 @@ use Rattle.cyc_level.specs.declared.Event.{Event}
 use Rattle.cyc_level.specs.declared.Event.TheVariants.{Mark, Clear, Switch}
 use Rattle.cyc_level.specs.Level.{Level}
 use Rattle.cyc_timers.specs.Rows.{Cyclic, timers}
-use Rattle.cyc_cpu.specs.Acts.{ids_at, same_level}
+use Rattle.cyc_fire.specs.Acts.{ids_at, same_level}
 use Rattle.cyc_cpu.specs.Cpu.{bank_for}
 use Rattle.cyc_text.specs.Lines.{fired, ran, kept, reported}
 use Rattle.cyc_script.specs.declared.step.Step.{Step}

@@ -24,7 +24,7 @@ use Rattle.cyc_expirations.specs.Expirations.{Expiration, expirations, times_of,
 use Rattle.cyc_expirations.proofs.Dues.{due_of_none}
 use Rattle.cyc_expirations.proofs.Laws.{count_expirations, times_none}
 use Rattle.cyc_timers.specs.Rows.{Cyclic as Timed, timers}
-use Rattle.cyc_cpu.specs.Acts.{same_level}
+use Rattle.cyc_fire.specs.Acts.{same_level}
 use Rattle.cyc_cpu.specs.Cpu.{with_moment}
 use Rattle.cyc_machine.specs.declared.machine.Open.{Open}
 use Rattle.cyc_machine.specs.Conserving.{CanHappen}

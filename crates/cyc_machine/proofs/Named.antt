@@ -20,8 +20,8 @@ use Rattle.cyc_level.specs.Level.{count}
 use Rattle.cyc_core.specs.Tables.{Tables, level_of}
 use Rattle.cyc_timers.specs.Rows.{Cyclic}
 use Rattle.cyc_cpu.specs.Cpu.{CpuView, HasRisingIds, HasNoCyclic, IsCyclic, Asks, with_moment}
-use Rattle.cyc_cpu.specs.Acts.{same_level}
-use Rattle.cyc_cpu.specs.Quiet.{asks_at}
+use Rattle.cyc_fire.specs.Acts.{same_level}
+use Rattle.cyc_fire.specs.Quiet.{asks_at}
 use Rattle.cyc_types.specs.Runs.{Goes}
 use Rattle.cyc_machine.specs.declared.machine.Open.{Open}
 use Rattle.cyc_machine.specs.declared.machine.Fate.{Fate}

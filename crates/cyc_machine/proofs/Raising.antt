@@ -15,7 +15,7 @@ use Rattle.cyc_machine.specs.LevelRun.{happen, found, expiry, losses}
 use Rattle.cyc_types.specs.Runs.{losses_of as calls_of}
 use Rattle.cyc_level.specs.Runs.{losses as losses_of}
 use Rattle.cyc_level.specs.declared.Event.TheVariants.{Admit, Expire, Lose, Publish, Take, Finish, Mark, Clear, Switch, Follow}
-use Rattle.cyc_cpu.specs.Acts.{loss_in}
+use Rattle.cyc_fire.specs.Acts.{loss_in}
 
 -- so many expirations of the cyclic led from the one level to the other
 pub record Expired (times id : ℕ) (l m : Level) : Type 0 where

@@ -23,7 +23,7 @@ use Rattle.cyc_level.specs.Events.{after}
 use Rattle.cyc_core.specs.Tables.{Tables, level_of}
 use Rattle.cyc_timers.specs.Rows.{Cyclic}
 use Rattle.cyc_cpu.specs.Cpu.{CpuView, HasRisingIds, IsCyclic, IsRemoved}
-use Rattle.cyc_cpu.specs.Acts.{same_level}
+use Rattle.cyc_fire.specs.Acts.{same_level}
 use Rattle.cyc_cpu.specs.Removal.{Leaves, Opens, Waits, EndGoes, IsReceipt, WhyNotBegun}
 use Rattle.cyc_script.specs.declared.step.Softint.{Softint as SoftintStep}
 use Rattle.cyc_machine.specs.declared.machine.Open.{Open}

@@ -24,10 +24,10 @@ use Rattle.cyc_expirations.specs.Timers.{Timer}
 use Rattle.cyc_expirations.specs.Expirations.{Expiration, expirations, times_of, moment_after, after}
 use Rattle.cyc_expirations.proofs.Firings.{expirations_few}
 use Rattle.cyc_timers.specs.Rows.{Cyclic as Timed, timers}
-use Rattle.cyc_cpu.specs.Acts.{ids_at, is_of, same_level, timer_of}
+use Rattle.cyc_fire.specs.Acts.{ids_at, is_of, same_level, timer_of}
 use Rattle.cyc_cpu.specs.Cpu.{bank_for, least_bank, size_for}
 use Rattle.cyc_cpu.proofs.Entering.{pow_order}
-use Rattle.cyc_cpu.proofs.Sharing.{ids_add_up}
+use Rattle.cyc_fire.proofs.Sharing.{ids_add_up}
 use Rattle.cyc_script.specs.declared.step.Step.{Step}
 use Rattle.cyc_script.specs.declared.step.Step.TheVariants.{Add, Omni, Bind, Unbind, Reprogram, Remove, Advance, Softint, Juggle, Offline, Online}
 use Rattle.cyc_script.specs.declared.step.Add.{Add as AddStep}

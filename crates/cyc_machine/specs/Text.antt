@@ -18,7 +18,7 @@ use Rattle.cyc_level.specs.Level.{Level, empty_level, count, bank_size}
 use Rattle.cyc_level.specs.Events.{IsUnused}
 use Rattle.cyc_level.specs.Runs.{losses as losses_of}
 use Rattle.cyc_timers.specs.Rows.{Cyclic, timers}
-use Rattle.cyc_cpu.specs.Acts.{ids_at, same_level}
+use Rattle.cyc_fire.specs.Acts.{ids_at, same_level}
 use Rattle.cyc_cpu.specs.Cpu.{bank_for, size_for, new_cyclic, with_moment}
 use Rattle.cyc_expirations.specs.Expirations.{Expiration, expirations, after}
 use Rattle.cyc_text.specs.declared.lines.Counts.{Counts}

@@ -4,8 +4,8 @@ use Rattle.cyc_types.specs.Runs.{Goes}
 use Rattle.cyc_types.specs.declared.level.Level.TheVariants.{Low, Lock}
 use Rattle.cyc_timers.specs.Rows.{cyclic_of, cyclics_of}
 use Rattle.cyc_cpu.specs.Cpu.{CpuView, HasNoCyclic, Asks}
-use Rattle.cyc_cpu.specs.Quiet.{asks_at}
-use Rattle.cyc_cpu.proofs.Readying.{hard_kept, asks_keep}
+use Rattle.cyc_fire.specs.Quiet.{asks_at}
+use Rattle.cyc_fire.proofs.Readying.{hard_kept, asks_keep}
 use Rattle.cyc_cpu.proofs.Inquiring.{seen_asked}
 use Rattle.cyc_cpu.proofs.Cyclics.{is_cyclic, no_cyclic}
 use Rattle.cyc_cpu.proofs.hard.Hard.ask.Goals as goal

@@ -7,7 +7,7 @@ use Rattle.cyc_types.specs.Runs.{Goes}
 use Rattle.cyc_types.specs.declared.level.Level.TheVariants.{Low, Lock, High}
 use Rattle.cyc_timers.specs.Rows.{cyclic_of, cyclics_of, at_moment}
 use Rattle.cyc_cpu.specs.Cpu.{CpuView, IsCyclic, HasNoCyclic}
-use Rattle.cyc_cpu.specs.Ends.{IsHard}
+use Rattle.cyc_fire.specs.Ends.{IsHard}
 use Rattle.cyc_cpu.specs.Removal.{calls_at}
 use Rattle.cyc_cpu.proofs.Cyclics.{is_cyclic, no_cyclic, cyclics_set}
 use Rattle.cyc_cpu.proofs.Leaving.{hard_opened, hard_left, begun_left, no_mark, cyclics_less, opens_from, leaves_from, has_polled, begun_sent}

@@ -14,8 +14,8 @@ use Rattle.cyc_expirations.specs.Expirations.{Expiration, after, all_after}
 use Rattle.cyc_expirations.specs.Timers.{Timer, HasDistinctIds}
 use Rattle.cyc_expirations.proofs.Firings.{Firing}
 use Rattle.cyc_timers.specs.Rows.{Row, Cyclic, IsRow, IsRising, no_counts, timers_of, cyclic_of, cyclics_of}
-use Rattle.cyc_cpu.specs.Acts.{AreRaises, loss_in, losses, id_at, ids_at, is_at, is_of, same_level, timer_of, lost_after}
-use Rattle.cyc_cpu.proofs.Readying.{Edits, edits}
+use Rattle.cyc_fire.specs.Acts.{AreRaises, loss_in, losses, id_at, ids_at, is_at, is_of, same_level, timer_of, lost_after}
+use Rattle.cyc_fire.proofs.Readying.{Edits, edits}
 use Rattle.cyc_timers.proofs.Tables.{timer_of_row, timers_long}
 
 -- an end that was raised once for the id

@@ -1,9 +1,9 @@
 use Rattle.std.proofs.Common.{◌≡◌, ◌<◌, ◌≤◌, ◌+◌, min, arith}
 use Rattle.cyc_types.specs.Series.{late, never}
 use Rattle.cyc_expirations.proofs.Dues.{due_step}
-use Rattle.cyc_cpu.proofs.Nexts.{next_step}
-use Rattle.cyc_cpu.proofs.fire.following.Goals.{else-following-now_is-via-then-following-now_is+else-now_is-following-gt-LATE, else-following-now_is-via-else-following-now_is}
-use Rattle.cyc_cpu.proofs.fire.following.Goals as goal
+use Rattle.cyc_fire.proofs.Nexts.{next_step}
+use Rattle.cyc_fire.proofs.fire.following.Goals.{else-following-now_is-via-then-following-now_is+else-now_is-following-gt-LATE, else-following-now_is-via-else-following-now_is}
+use Rattle.cyc_fire.proofs.fire.following.Goals as goal
 
 pub returns-clause-due : goal.returns-clause-due
 returns-clause-due c =

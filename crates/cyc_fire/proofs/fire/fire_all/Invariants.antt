@@ -5,10 +5,9 @@ use Rattle.cyc_expirations.proofs.Firings.{Firing}
 use Rattle.cyc_timers.specs.Rows.{timers_of, cyclics_of, IsRising}
 use Rattle.cyc_types.specs.Levels.{at_level}
 use Rattle.cyc_types.specs.declared.level.Level.TheVariants.{High}
-use Rattle.cyc_cpu.specs.Ends.{IsReady}
-use Rattle.cyc_cpu.specs.Cpu.{Makes}
-use Rattle.cyc_cpu.proofs.Sparing.{SparesRows}
-use Rattle.cyc_cpu.proofs.fire.fire_all.Given as goal
+use Rattle.cyc_fire.specs.Ends.{IsReady}
+use Rattle.cyc_fire.specs.Made.{Makes}
+use Rattle.cyc_fire.proofs.fire.fire_all.Given as goal
 
 abbrev pub invariant-loop-root : goal.invariant-loop-root
 invariant-loop-root g l = record {
@@ -21,9 +20,6 @@ invariant-loop-root g l = record {
       × Makes (at_level g.C.Calls.called High) g.C.Calls.count g.R.Raise.step g.R.Raise.view l.now made (cyclics_of l.fn.table.rows) (cyclics_of l.table.rows)
       (record { calls = l.fn.calls; lock = l.fn.lock; low = l.fn.low }) (record { calls = l.calls; lock = l.lock; low = l.low }) l.lost
       × (l.lost ≤ length made);
-  lock_ceiling : (g.R.Raise.view l.lock).ceiling ≡ (g.R.Raise.view l.fn.lock).ceiling;
-  low_ceiling : (g.R.Raise.view l.low).ceiling ≡ (g.R.Raise.view l.fn.low).ceiling;
-  spares : SparesRows (g.R.Raise.view l.fn.lock).ceiling (g.R.Raise.view l.fn.low).ceiling l.fn.table.rows l.table.rows;
 }
 
 abbrev pub decreases-loop-root : goal.decreases-loop-root

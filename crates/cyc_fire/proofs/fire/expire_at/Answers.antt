@@ -1,8 +1,8 @@
 use Rattle.std.proofs.Common.{subst}
 use Rattle.cyc_types.specs.Levels.{at_level}
 use Rattle.cyc_types.specs.declared.level.Level.TheVariants.{High}
-use Rattle.cyc_cpu.proofs.Acting.{one_high, one_lock, one_low}
-use Rattle.cyc_cpu.proofs.fire.expire_at.Goals as goal
+use Rattle.cyc_fire.proofs.Acting.{one_high, one_lock, one_low}
+use Rattle.cyc_fire.proofs.fire.expire_at.Goals as goal
 
 pub returns-in_ok-call-in-High-clause-acts : goal.returns-in_ok-call-in-High-clause-acts
 returns-in_ok-call-in-High-clause-acts g c =

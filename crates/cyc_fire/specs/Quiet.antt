@@ -3,7 +3,7 @@ use Rattle.std.specs.Prelude.{◌≡◌, ℕ, Bool, cond, List, [], ◌∷◌, m
 use Rattle.cyc_types.specs.Firing.{FiringView, FiringCall, Stay, Admits, Loads, Looks}
 use Rattle.cyc_types.specs.Runs.{Taught, Goes}
 use Rattle.cyc_types.specs.declared.level.Level.{Level}
-use Rattle.cyc_cpu.specs.Acts.{same_level}
+use Rattle.cyc_fire.specs.Acts.{same_level}
 
 -- an end of this level is asked for the id where the cyclic is of its level
 abbrev pub asks_at : Level → Level → ℕ → ℕ → List FiringCall

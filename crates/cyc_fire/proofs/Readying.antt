@@ -14,10 +14,10 @@ use Rattle.cyc_types.specs.declared.level.Level.{Level}
 use Rattle.cyc_types.specs.declared.level.Level.TheVariants as level
 use Rattle.cyc_types.specs.declared.firing.Sent.{Sent}
 use Rattle.cyc_timers.specs.Rows.{Row, IsRow, IsRising, cyclic_of}
-use Rattle.cyc_cpu.specs.Cpu.{HasCounts}
-use Rattle.cyc_cpu.specs.Acts.{loss_in}
-use Rattle.cyc_cpu.specs.Ends.{HasStay, HasRow, IsEnd, IsCounted, IsHard}
-use Rattle.cyc_cpu.specs.Quiet.{asks_at, KeepsStays}
+use Rattle.cyc_fire.specs.Made.{HasCounts}
+use Rattle.cyc_fire.specs.Acts.{loss_in}
+use Rattle.cyc_fire.specs.Ends.{HasStay, HasRow, IsEnd, IsCounted, IsHard}
+use Rattle.cyc_fire.specs.Quiet.{asks_at, KeepsStays}
 
 -- a row after one of its expirations, of which this many were lost
 pub record Advances (r u : Row) (n : ℕ) : Type 0 where

@@ -6,10 +6,9 @@ ghost use Rattle.cyc_types.specs.declared.level.Level.TheVariants.{Low, Lock, Hi
 ghost use Rattle.cyc_expirations.specs.Timers.{earliest};
 ghost use Rattle.cyc_expirations.specs.Expirations.{Expiration, expirations};
 ghost use Rattle.cyc_timers.specs.Rows.{Row, IsRow, timers_of, cyclics_of, IsFirstAt};
-ghost use Rattle.cyc_cpu.specs.Ends.{IsReady};
-ghost use Rattle.cyc_cpu.specs.Cpu.{Makes, WhyStopped};
-ghost use Rattle.cyc_cpu.specs.Losses.{Spares};
-ghost use Rattle.cyc_cpu.specs.Acts.{Sides, Acts, RaisedOnce, id_at, losses};
+ghost use Rattle.cyc_fire.specs.Ends.{IsReady};
+ghost use Rattle.cyc_fire.specs.Made.{Makes, WhyStopped};
+ghost use Rattle.cyc_fire.specs.Acts.{Sides, Acts, RaisedOnce, id_at, losses};
 
 use cyc_timers::{Record, Table};
 use cyc_types::{
@@ -56,7 +55,7 @@ fn raise_once<R: Raise>(end: &mut R, id: CyclicId) -> u64
 }
 
 /// Makes one expiration at its level (`cyclic_expire`), and says how many were lost.
-pub(crate) fn expire_at<C: Calls, R: Raise>(
+pub fn expire_at<C: Calls, R: Raise>(
     id: CyclicId,
     level: Level,
     calls: &mut C,
@@ -137,7 +136,7 @@ fn next_moment(table: &Table) -> Moment
 }
 
 /// Makes every expiration that is due, in ascending order (`cyclic_fire`).
-pub(crate) fn fire_all<C: Calls, R: Raise>(
+pub fn fire_all<C: Calls, R: Raise>(
     table: &mut Table,
     lock: &mut R,
     low: &mut R,
@@ -161,9 +160,6 @@ pub(crate) fn fire_all<C: Calls, R: Raise>(
         (record { calls = calls.old; lock = lock.old; low = low.old }) (record { calls = at; lock = lock.new; low = low.new }) e.lost
         × ((id : ℕ) → C.count calls.new id ≡ C.count at id)
         × WhyStopped C.may_refuse most at last (timers_of table.new.rows) e.why) }
-
-    // Only a cyclic above its ceiling lost anything.
-    ensures spares { Spares (R.view lock.old).ceiling (R.view low.old).ceiling (cyclics_of table.old.rows) (cyclics_of table.new.rows) }
 
     // The CPU is ready for the next.
     ensures ready { IsReady R.view table.new.size most (R.view lock.old).marked (R.view low.old).marked lock.new low.new table.new.rows }

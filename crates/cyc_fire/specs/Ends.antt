@@ -5,7 +5,7 @@ use Rattle.cyc_types.specs.Firing.{FiringView, Stay, Sound, IsAdmitted}
 use Rattle.cyc_types.specs.declared.level.Level.{Level}
 use Rattle.cyc_types.specs.declared.level.Level.TheVariants.{Low, Lock}
 use Rattle.cyc_timers.specs.Rows.{Row, IsRow, cyclic_of}
-use Rattle.cyc_cpu.specs.Cpu.{HasCounts}
+use Rattle.cyc_fire.specs.Made.{HasCounts}
 
 -- what an end has of a cyclic: its index, and the counts of its stay, which with those that it carried in are the cyclic's
 abbrev pub HasStay : FiringView → Row → Type 0

@@ -6,12 +6,11 @@ use Rattle.cyc_expirations.proofs.Firings.{fire_start, fire_done, fire_bound}
 use Rattle.cyc_timers.specs.Rows.{timers_of, cyclics_of}
 use Rattle.cyc_types.specs.Levels.{at_level}
 use Rattle.cyc_types.specs.declared.level.Level.TheVariants.{High}
-use Rattle.cyc_cpu.specs.Ends.{IsReady}
-use Rattle.cyc_cpu.specs.Cpu.{Makes}
+use Rattle.cyc_fire.specs.Ends.{IsReady}
+use Rattle.cyc_fire.specs.Made.{Makes}
 use Rattle.cyc_timers.proofs.Tables.{timers_long}
-use Rattle.cyc_cpu.proofs.Sparing.{spares_rows_none, spares_cyclics}
-use Rattle.cyc_cpu.proofs.Stepping.{turn_written, makes_none, less_left, row_found, front}
-use Rattle.cyc_cpu.proofs.fire.fire_all.Goals as goal
+use Rattle.cyc_fire.proofs.Stepping.{turn_written, makes_none, less_left, row_found, front}
+use Rattle.cyc_fire.proofs.fire.fire_all.Goals as goal
 
 pub loop-root-init : goal.loop-root-init
 loop-root-init g c =
@@ -24,9 +23,6 @@ loop-root-init g c =
       sound = c.law.ensures.sound;
       ready = c.requires.ready;
       made = ([], refl, f, makes_none (at_level g.C.Calls.called High) g.C.Calls.count g.R.Raise.step g.R.Raise.view c.args.now (cyclics_of rows) (record { calls = c.args.calls.now; lock = c.args.lock.now; low = c.args.low.now }) f, omega arith);
-      lock_ceiling = refl;
-      low_ceiling = refl;
-      spares = spares_rows_none (g.R.Raise.view c.args.lock.now).ceiling (g.R.Raise.view c.args.low.now).ceiling rows;
     }
 
 pub loop-root-smaller : goal.loop-root-smaller
@@ -45,7 +41,7 @@ loop-root-preserved g c =
     c.args.table.now.rows (record { calls = c.args.calls.now; lock = c.args.lock.now; low = c.args.low.now }) made c.loop-root.table.rows c.expire_root.new.self.rows
     (record { calls = c.loop-root.calls; lock = c.loop-root.lock; low = c.loop-root.low }) (record { calls = c.expire_at.new.calls; lock = c.expire_at.new.lock; low = c.expire_at.new.low })
     c.loop-root.lost c.in-Ok.more c.following.result k c.in-Some.root.1 c.in-Some.root.2 r c.record-kept.result
-    (record { rising = i.rising; sound = i.sound; ready = i.ready; firing = f; makes = makes; few = few; lock_ceiling = i.lock_ceiling; low_ceiling = i.low_ceiling; spares = i.spares })
+    (record { rising = i.rising; sound = i.sound; ready = i.ready; firing = f; makes = makes; few = few })
     c.law.ensures.rising is first moment named (c.record-kept.ensures k r is at) c.in-Some.ensures.due c.requires.now c.if-count-most.false
     (record { due_is = c.following.ensures.due; next_is = c.following.ensures.next; follows = c.following.ensures.follows; later = c.following.ensures.later; bound = c.following.ensures.bound })
     c.in-Ok.ensures.acts c.in-Ok.ensures.few c.expire_at.ensures.sound_lock c.expire_at.ensures.sound_low (c.expire_root.ensures.rows k r is at) in
@@ -57,9 +53,6 @@ loop-root-preserved g c =
       sound = t.sound;
       ready = subst (λ n. IsReady g.R.Raise.view n c.args.most (g.R.Raise.view c.args.lock.now).marked (g.R.Raise.view c.args.low.now).marked c.expire_at.new.lock c.expire_at.new.low c.expire_root.new.self.rows) (sym same_size) t.ready;
       made = (made ++ next_of r.timer ∷ [], simp length-append (omega (arith, long)), t.firing, t.makes, t.few);
-      lock_ceiling = t.lock_ceiling;
-      low_ceiling = t.low_ceiling;
-      spares = t.spares;
     }
 
 pub overflow_add-expired : goal.overflow_add-expired
@@ -131,12 +124,3 @@ returns-clause-made g c =
     subst (λ xs. Makes (at_level g.C.Calls.called High) g.C.Calls.count g.R.Raise.step g.R.Raise.view c.args.now xs (cyclics_of c.args.table.now.rows) (cyclics_of c.loop-root.table.rows)
     (record { calls = c.args.calls.now; lock = c.args.lock.now; low = c.args.low.now }) (record { calls = c.loop-root.calls; lock = c.loop-root.lock; low = c.loop-root.low }) c.loop-root.lost)
     (sym (fire_done c.args.now made (timers_of c.args.table.now.rows) (timers_of c.loop-root.table.rows) f later)) makes
-
-pub returns-then-count-most-clause-spares : goal.returns-then-count-most-clause-spares
-returns-then-count-most-clause-spares g c = spares_cyclics (g.R.Raise.view c.args.lock.now).ceiling (g.R.Raise.view c.args.low.now).ceiling c.args.table.now.rows c.loop-root.table.rows c.loop-root.invariant.spares
-
-pub returns-in-Err-clause-spares : goal.returns-in-Err-clause-spares
-returns-in-Err-clause-spares g c = spares_cyclics (g.R.Raise.view c.args.lock.now).ceiling (g.R.Raise.view c.args.low.now).ceiling c.args.table.now.rows c.loop-root.table.rows c.loop-root.invariant.spares
-
-pub returns-clause-spares : goal.returns-clause-spares
-returns-clause-spares g c = spares_cyclics (g.R.Raise.view c.args.lock.now).ceiling (g.R.Raise.view c.args.low.now).ceiling c.args.table.now.rows c.loop-root.table.rows c.loop-root.invariant.spares

@@ -1,6 +1,6 @@
 use Rattle.std.proofs.Common.{◌<◌, arith}
-use Rattle.cyc_cpu.proofs.Stepping.{all_later}
-use Rattle.cyc_cpu.proofs.fire.due_root.Goals as goal
+use Rattle.cyc_fire.proofs.Stepping.{all_later}
+use Rattle.cyc_fire.proofs.fire.due_root.Goals as goal
 
 pub returns-then-nanoseconds-clause-none : goal.returns-then-nanoseconds-clause-none
 returns-then-nanoseconds-clause-none c =

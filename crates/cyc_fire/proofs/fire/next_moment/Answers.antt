@@ -1,8 +1,8 @@
 use Rattle.std.proofs.Common.{sym, ◌∙◌}
 use Rattle.cyc_expirations.proofs.Firings.{earliest_least}
 use Rattle.cyc_timers.specs.Rows.{timers_of}
-use Rattle.cyc_cpu.proofs.Stepping.{timer_is, timer_low}
-use Rattle.cyc_cpu.proofs.fire.next_moment.Goals as goal
+use Rattle.cyc_fire.proofs.Stepping.{timer_is, timer_low}
+use Rattle.cyc_fire.proofs.fire.next_moment.Goals as goal
 
 pub returns-in-Some : goal.returns-in-Some
 returns-in-Some c =

@@ -10,9 +10,9 @@ use Rattle.cyc_types.specs.declared.level.Level.{Level}
 use Rattle.cyc_expirations.specs.Expirations.{Expiration, expirations, times_of}
 use Rattle.cyc_expirations.specs.Timers.{Timer, HasDistinctIds}
 use Rattle.cyc_expirations.proofs.Laws.{times_expirations}
-use Rattle.cyc_cpu.specs.Acts.{AreRaises, ids_at, is_at, is_of, same_level, timer_of}
-use Rattle.cyc_cpu.specs.Shares.{share}
-use Rattle.cyc_cpu.proofs.Making.{found_at}
+use Rattle.cyc_fire.specs.Acts.{AreRaises, ids_at, is_at, is_of, same_level, timer_of}
+use Rattle.cyc_fire.specs.Shares.{share}
+use Rattle.cyc_fire.proofs.Making.{found_at}
 
 times_more : (id x : ℕ) (xs : List ℕ) → times id (x ∷ xs) ≡ cond (x == id) 1 0 + times id xs
 times_more id x xs = sum_by-cons (λ (c : ℕ). cond (c == id) 1 0) x xs

@@ -6,7 +6,7 @@ use Rattle.cyc_types.specs.Firing.{FiringView, FiringCall, Raises}
 use Rattle.cyc_types.specs.declared.level.Level.{Level}
 use Rattle.cyc_types.specs.declared.level.Level.TheVariants.{Low, Lock, High}
 use Rattle.cyc_types.proofs.Runs.{folds_on, times_on, goes_on}
-use Rattle.cyc_cpu.specs.Acts.{Sides, Acts, RaisedOnce, AreRaises, losses, id_at}
+use Rattle.cyc_fire.specs.Acts.{Sides, Acts, RaisedOnce, AreRaises, losses, id_at}
 
 raises_on : (xs ys : List ℕ) (way more : List FiringCall) → AreRaises xs way → AreRaises ys more → AreRaises (xs ++ ys) (way ++ more)
 raises_on [] ys [] more a b = b

@@ -9,9 +9,9 @@ ghost use Rattle.cyc_types.specs.declared.level.Level.TheVariants.{Low, Lock, Hi
 ghost use Rattle.cyc_expirations.specs.Timers.{Timer, HasDistinctIds};
 ghost use Rattle.cyc_expirations.specs.Expirations.{Expiration, expirations};
 ghost use Rattle.cyc_timers.specs.Rows.{Cyclic, timers};
-ghost use Rattle.cyc_cpu.specs.Cpu.{Makes};
-ghost use Rattle.cyc_cpu.specs.Acts.{Sides, same_level};
-ghost use Rattle.cyc_cpu.specs.Shares.{share};
+ghost use Rattle.cyc_fire.specs.Made.{Makes};
+ghost use Rattle.cyc_fire.specs.Acts.{Sides, same_level};
+ghost use Rattle.cyc_fire.specs.Shares.{share};
 
 use cyc_types::{Calls, Raise};
 

@@ -14,14 +14,13 @@ use Rattle.cyc_expirations.specs.Timers.{Timer, IsSound}
 use Rattle.cyc_expirations.proofs.Firings.{Firing, Expires, fire_step, fire_left, fire_front}
 use Rattle.cyc_timers.specs.declared.table.Record.{Record}
 use Rattle.cyc_timers.specs.Rows.{Row, Cyclic, IsRow, IsRising, IsRecordOf, IsFirstAt, timers, timers_of, cyclic_of, cyclics_of, with_record}
-use Rattle.cyc_cpu.specs.Acts.{Sides, losses, lost_after, timer_of}
-use Rattle.cyc_cpu.specs.Ends.{IsEnd, IsReady}
-use Rattle.cyc_cpu.specs.Cpu.{Makes}
-use Rattle.cyc_cpu.specs.Losses.{IsUnder}
-use Rattle.cyc_cpu.proofs.Sparing.{SparesRows, spares_step, fair}
-use Rattle.cyc_cpu.proofs.Acting.{One, acts_more, losses_on}
-use Rattle.cyc_cpu.proofs.Readying.{Advances, ids_apart, end_raised, end_other, counted_still}
-use Rattle.cyc_cpu.proofs.Making.{raised_edits, same_end, losses_same, losses_other, distinct, origin, found_at, same_id, ids_more, losses_more, length-all}
+use Rattle.cyc_fire.specs.Acts.{Sides, losses, lost_after, timer_of}
+use Rattle.cyc_fire.specs.Ends.{IsEnd, IsReady}
+use Rattle.cyc_fire.specs.Made.{Makes}
+use Rattle.cyc_fire.proofs.Sparing.{none_high}
+use Rattle.cyc_fire.proofs.Acting.{One, acts_more, losses_on}
+use Rattle.cyc_fire.proofs.Readying.{Advances, ids_apart, end_raised, end_other, counted_still}
+use Rattle.cyc_fire.proofs.Making.{raised_edits, same_end, losses_same, losses_other, distinct, origin, found_at, same_id, ids_more, losses_more, length-all}
 use Rattle.cyc_timers.proofs.Tables.{timer_of_row, timers_long}
 
 -- what the expiration after one that is due is
@@ -89,9 +88,6 @@ module _ {C R : Type 0} (called : C → ℕ → C → Type 0) (count : C → ℕ
     pub firing : Firing now made (timers_of rows0) (timers_of rows)
     pub makes : Makes called count step view now made (cyclics_of rows0) (cyclics_of rows) s0 s lost
     pub few : lost ≤ length made
-    pub lock_ceiling : (view s.lock).ceiling ≡ (view s0.lock).ceiling
-    pub low_ceiling : (view s.low).ceiling ≡ (view s0.low).ceiling
-    pub spares : SparesRows (view s0.lock).ceiling (view s0.low).ceiling rows0 rows
 
   pub makes_none : (now : ℕ) (cs : List Cyclic) (s : Sides C R) → Firing now [] (timers cs) (timers cs) → Makes called count step view now [] cs cs s s 0
   makes_none now cs s f = record {
@@ -153,7 +149,6 @@ module _ {C R : Type 0} (called : C → ℕ → C → Type 0) (count : C → ℕ
       (fire_step now made ts (timers_of rows) i r.timer u.timer t.firing (distinct rows0 rising0) low timer first (expires now r m n f)) in
       let (origin_timer, found, level) = origin now made ts (timers_of rows) i r.timer t.firing (distinct rows0 rising0) low timer in
       let p = next_of r.timer in
-      let fairly = fair called count step view size most lock_marked low_marked rows i r n s s' is t.ready r.timer.level refl o in
       let (c, e1, e2) = acts_more called count step view _ _ _ _ _ _ _ _ _ s0 s s' t.makes.acts o.0
       (ids_more High ts made p origin_timer r.timer.level found level) (ids_more Lock ts made p origin_timer r.timer.level found level) (ids_more Low ts made p origin_timer r.timer.level found level) in
       let losts = losses_more t.makes.acts.lock_way t.makes.acts.low_way o.0.lock_way o.0.low_way (cyclics_of rows0) rows i r u r.timer.id n is refl refl
@@ -175,8 +170,7 @@ module _ {C R : Type 0} (called : C → ℕ → C → Type 0) (count : C → ℕ
         ready = record {
           lock_end = lock_step r.timer.level size n lock_marked rows i r u s s' refl o t.ready.lock_end t.rising is adv soon sound_lock;
           low_end = low_step r.timer.level size n low_marked rows i r u s s' refl o t.ready.low_end t.rising is adv soon sound_low;
-          counted = counted_still most rows i r u n t.ready.counted is adv one less
-              (λ at. fairly.none (subst (λ l. IsUnder (view s.lock).ceiling (view s.low).ceiling l (r.timer.expired + 1)) (sym at) tt));
+          counted = counted_still most rows i r u n t.ready.counted is adv one less (none_high called count step view r.timer.id n s s' r.timer.level o);
         };
         firing = firing';
         makes = record {
@@ -188,10 +182,6 @@ module _ {C R : Type 0} (called : C → ℕ → C → Type 0) (count : C → ℕ
               let z = t.makes.lost_is in let w = o.1 in omega (arith, a, b, x, y, z, w));
         };
         few = (let a = t.few in let l = length-append made (p ∷ []) in omega (arith, a, l, one));
-        lock_ceiling = fairly.lock_same ∙ t.lock_ceiling;
-        low_ceiling = fairly.low_same ∙ t.low_ceiling;
-        spares = spares_step (view s0.lock).ceiling (view s0.low).ceiling rows0 rows i r u n t.spares is adv
-            (λ under. fairly.none (subst (λ x. IsUnder x (view s.low).ceiling r.timer.level (r.timer.expired + 1)) (sym t.lock_ceiling) (subst (λ x. IsUnder (view s0.lock).ceiling x r.timer.level (r.timer.expired + 1)) (sym t.low_ceiling) under)));
       }
 
   -- one turn, as the code writes it

@@ -1,0 +1,10 @@
+//! What a fire does, over a table of cyclics and the firing ends of the two soft levels.
+//!
+//! Which expirations it makes is `cyc_expirations`' definition; how the ends do their part is in the traits' laws alone.
+#![tactic(auto)]
+
+mod fire;
+mod law;
+
+pub use fire::{FireRefused, Fired, fire_all};
+pub use law::share_law;
