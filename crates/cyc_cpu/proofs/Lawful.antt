@@ -58,7 +58,7 @@ removed_never id now cs rising (k, c, (within, is), named, soft, still) early =
 
 module _ {R : Type 0} (view : R → FiringView) (size room most : ℕ) (removal : Option ℕ) (lock low : R) (rows : List Row) (h : IsHard view size most removal lock low rows) (rising : IsRising rows) where
   -- a cyclic that is under its ceiling has lost nothing here
-  spared_row : (k : ℕ) (r : Row) → IsRow rows k r → IsSpared (view lock).ceiling (view low).ceiling (cyclic_of r)
+  pub spared_row : (k : ℕ) (r : Row) → IsRow rows k r → IsSpared (view lock).ceiling (view low).ceiling (cyclic_of r)
   spared_row k r is = by_level r.timer.level refl
     where
       by_level : (l : Level) → r.timer.level ≡ l → IsSpared (view lock).ceiling (view low).ceiling (cyclic_of r)

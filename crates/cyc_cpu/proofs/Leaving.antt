@@ -414,7 +414,7 @@ module _ {R : Type 0} (step : R → FiringCall → R → Type 0) (view : R → F
   pub waits_from : (id : ℕ) (u v w : CpuView R) → u ≡ v → Waits step view id u w → Waits step view id v w
   waits_from id u v w is a = subst (λ x. Waits step view id x w) is a
 
-  pub ends_from : (receipt : Receipt) (id : ℕ) (c : Cyclic) (counts : Sent) (u v w : CpuView R) → u ≡ v → u.removal ≡ Some id → receipt.id ≡ id → IsReceipt receipt c → HasPolled counts c →
+  pub ends_from : (receipt : Receipt) (id : ℕ) (c : Cyclic) (counts : Sent) (u v w : CpuView R) → u ≡ v → u.removal ≡ Some id → receipt.id ≡ id → IsReceipt receipt c → HasPolled view counts v c →
       Leaves step view id (Polls id (Some counts) ∷ []) c u w → Ends step view receipt v w
   ends_from receipt id c counts u v w is removed named counted polled leaves = record {
     was_open = sym (ap (λ (x : CpuView R). x.removal) is) ∙ removed ∙ ap Some (sym named);
@@ -473,7 +473,7 @@ stay_counts o s counts h k =
 pub has_polled : {R : Type 0} (step : R → FiringCall → R → Type 0) (view : R → FiringView) (size : ℕ) (lock_marked low_marked : Option ℕ) (lock low lock' low' : R) (rows : List Row) (k : ℕ) (r : Row) (counts : Sent) (way : List FiringCall)
     → IsEnd level.Lock size lock_marked (view lock) rows → IsEnd level.Low size low_marked (view low) rows → IsRow rows k r
     → Goes step view lock (calls_at level.Lock r.timer.level way) lock' → Goes step view low (calls_at level.Low r.timer.level way) low'
-    → ((e f : R) → Goes step view e way f → sent_of r.timer.id (view e) ≡ Some counts) → HasPolled counts (cyclic_of r)
+    → ((e f : R) → Goes step view e way f → sent_of r.timer.id (view e) ≡ Some counts) → r.timer.level ≢ level.High → (r.timer.expired ≡ r.carried.sent + counts.sent) × (r.lost ≡ r.carried.lost + counts.lost)
 has_polled {R} step view size lock_marked low_marked lock low lock' low' rows k r counts way lock_end low_end is a b tells soft = by_level r.timer.level refl
   where
     at_end : (own : Level) (marked : Option ℕ) (e f : R) → r.timer.level ≡ own → IsEnd own size marked (view e) rows → Goes step view e (calls_at own r.timer.level way) f

@@ -22,6 +22,7 @@ use Rattle.cyc_cpu.specs.declared.hard.Totals.{Totals}
 use Rattle.cyc_cpu.specs.declared.moving.Taken.{Taken}
 use Rattle.cyc_cpu.specs.declared.removing.Removal.{Removal}
 use Rattle.cyc_cpu.specs.Cpu.{CpuView, Running, IsCyclic, HasNoCyclic, SameCpu, sides, seen_at, with_moment, cyclic_with, Makes, WhyStopped, Asks, Looked, HasRoom, WhyNoRoom, MayWiden, Reserves, WhyNotReserved, Widens, Places, Enters}
+use Rattle.cyc_cpu.specs.Losses.{IsSparedAt}
 use Rattle.cyc_cpu.specs.Removal.{Begins, WhyNotBegun, Ends, Waits}
 use Rattle.cyc_cpu.specs.Moving.{Takes, WhyNotTaken, IsSettled, Inquires}
 
@@ -70,7 +71,7 @@ Changes {R} step view v (Reprogram id moment (Ok done)) w =
 Changes step view v (Reprogram id moment (Err e)) w = (e ≡ NoCyclic) × (HasNoCyclic id v.cyclics ⊎ (v.removal ≡ Some id)) × (w ≡ v)
 Changes step view v (AskPending id (Some n)) w = Asks step view id n v w × (seen_at view id w ≡ n)
 Changes step view v (AskPending id None) w = HasNoCyclic id v.cyclics × (w ≡ v)
-Changes step view v (AskTotals id (Some t)) w = (a : Asks step view id t.pending v w) × (seen_at view id w ≡ t.pending) × (t.expired ≡ a.cyclic.timer.expired) × (t.lost ≡ a.cyclic.lost)
+Changes step view v (AskTotals id (Some t)) w = (a : Asks step view id t.pending v w) × (seen_at view id w ≡ t.pending) × (t.expired ≡ a.cyclic.timer.expired) × (t.lost ≡ a.cyclic.lost) × IsSparedAt view v a.cyclic
 Changes step view v (AskTotals id None) w = HasNoCyclic id v.cyclics × (w ≡ v)
 Changes step view v (AskRoom more (Ok done)) w = Looked step view v w × HasRoom view more w
 Changes step view v (AskRoom more (Err e)) w = Looked step view v w × WhyNoRoom view more w e

@@ -13,6 +13,7 @@ use Rattle.cyc_timers.specs.Rows.{Cyclic}
 use Rattle.cyc_cpu.specs.declared.removing.Removal.{Removal}
 use Rattle.cyc_cpu.specs.declared.removing.Removal.TheVariants.{Done, Kept}
 use Rattle.cyc_fire.specs.Acts.{same_level}
+use Rattle.cyc_cpu.specs.Losses.{IsSparedAt}
 use Rattle.cyc_cpu.specs.Cpu.{CpuView, IsCyclic, HasNoCyclic, SameCpu, with_moment}
 
 -- what an end of this level does, where the cyclic is of its level
@@ -50,9 +51,11 @@ pub record Opens {R : Type 0} (step : R → FiringCall → R → Type 0) (view :
   pub room : w.room ≡ v.room
   pub most : w.most ≡ v.most
 
--- a cyclic of a soft level has the counts that it carried in and those that the end of its stay answered
-abbrev pub HasPolled : Sent → Cyclic → Type 0
-HasPolled counts c = c.timer.level ≢ High → (c.timer.expired ≡ c.carried.sent + counts.sent) × (c.lost ≡ c.carried.lost + counts.lost)
+-- a cyclic that leaves has the counts that it carried in and, at a soft level, those that the end of its stay answered; and it
+-- has lost nothing here where it is spared
+pub record HasPolled {R : Type 0} (view : R → FiringView) (counts : Sent) (v : CpuView R) (c : Cyclic) : Type 0 where
+  pub polled : c.timer.level ≢ High → (c.timer.expired ≡ c.carried.sent + counts.sent) × (c.lost ≡ c.carried.lost + counts.lost)
+  pub spared : IsSparedAt view v c
 
 -- the receipt has the counts of this cyclic
 abbrev pub IsReceipt : Receipt → Cyclic → Type 0
@@ -60,7 +63,7 @@ IsReceipt receipt c = (receipt.id ≡ c.timer.id) × (receipt.sent ≡ c.timer.e
 
 -- a removal is done exactly where the mark found nothing outstanding (`cyclic_remove_here`)
 abbrev pub Begins : {R : Type 0} → (R → FiringCall → R → Type 0) → (R → FiringView) → ℕ → CpuView R → Removal → CpuView R → Type 0
-Begins step view id v (Done receipt) w = (c : Cyclic) × (counts : Sent) × IsReceipt receipt c × HasPolled counts c × Leaves step view id (Marks id 0 ∷ Polls id (Some counts) ∷ []) c v w
+Begins step view id v (Done receipt) w = (c : Cyclic) × (counts : Sent) × IsReceipt receipt c × HasPolled view counts v c × Leaves step view id (Marks id 0 ∷ Polls id (Some counts) ∷ []) c v w
 Begins step view id v (Kept kept) w = Opens step view id kept v w
 
 -- the open removal has ended: the poll found nothing outstanding
@@ -69,7 +72,7 @@ pub record Ends {R : Type 0} (step : R → FiringCall → R → Type 0) (view : 
   pub cyclic : Cyclic
   pub counts : Sent
   pub counted : IsReceipt receipt cyclic
-  pub polled : HasPolled counts cyclic
+  pub polled : HasPolled view counts v cyclic
   pub leaves : Leaves step view receipt.id (Polls receipt.id (Some counts) ∷ []) cyclic v w
 
 -- the open removal of this cyclic goes on: the poll found calls outstanding

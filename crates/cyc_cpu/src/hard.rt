@@ -8,6 +8,7 @@ ghost use Rattle.cyc_expirations.specs.Timers.{earliest};
 ghost use Rattle.cyc_expirations.specs.Expirations.{Expiration, expirations};
 ghost use Rattle.cyc_timers.specs.Rows.{Cyclic, timers};
 ghost use Rattle.cyc_cpu.specs.Law.{IsLawful};
+ghost use Rattle.cyc_cpu.specs.Losses.{IsSparedAt};
 ghost use Rattle.cyc_cpu.specs.Cpu.{running, seen_at, IsFresh, HasNoCyclic, Asks, MayWiden, Enters};
 ghost use Rattle.cyc_cpu.specs.Calls.{Changes, Does, no_interrupts, Fire, Add, Reprogram, AskPending, AskTotals, AskRoom, Reserve, Widen};
 
@@ -172,7 +173,7 @@ impl<R: Raise> Hard<R> {
     /// What is kept of the cyclic, and its calls that are outstanding. None where the id is not here.
     fn ask(&mut self, id: CyclicId) -> Option<(Record, u32)>
         ensures none { IfNone result (HasNoCyclic id self.old.cyclics × (self.new ≡ self.old)) }
-        ensures some { IfSome result (λ a. (asks : Asks R.step R.view id a.1 self.old self.new) × (a.0.expired ≡ asks.cyclic.timer.expired) × (a.0.lost ≡ asks.cyclic.lost)) }
+        ensures some { IfSome result (λ a. (asks : Asks R.step R.view id a.1 self.old self.new) × (a.0.expired ≡ asks.cyclic.timer.expired) × (a.0.lost ≡ asks.cyclic.lost) × IsSparedAt R.view self.old asks.cyclic) }
         ensures seen { IfSome result (λ a. seen_at R.view id self.new ≡ a.1) }
     {
         self.table.law();

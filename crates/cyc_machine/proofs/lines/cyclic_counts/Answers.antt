@@ -14,7 +14,7 @@ returns-in_default-clause-counts c =
 pub returns-clause-counts : goal.returns-clause-counts
 returns-clause-counts c =
     let m = c.args.machine.now in let t = c.in-Some.totals in
-    let (asks, seen, same, less) = c.in-Some.ensures in
+    let (asks, seen, same, less, spared) = c.in-Some.ensures in
     let (cyclic, found, named, expired, lost, pending) = counts_found m.clock m.adds c.args.id t.expired t.lost t.pending m.removal m.fates.items m.cpu c.totals.new.self m.tally c.law.ensures.rising asks (asks.place, asks.cyclic, asks.here, asks.named, same, less) in
     let e = c.from.ensures ∙ expired in
     let k = c.from-2.ensures ∙ c.called_by.ensures ∙ ap (tally_count m.tally) (sym named) in

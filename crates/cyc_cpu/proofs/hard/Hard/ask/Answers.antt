@@ -6,6 +6,8 @@ use Rattle.cyc_timers.specs.Rows.{cyclic_of, cyclics_of}
 use Rattle.cyc_cpu.specs.Cpu.{CpuView, HasNoCyclic, Asks}
 use Rattle.cyc_fire.specs.Quiet.{asks_at}
 use Rattle.cyc_fire.proofs.Readying.{hard_kept, asks_keep}
+use Rattle.cyc_cpu.specs.Losses.{IsSparedAt}
+use Rattle.cyc_cpu.proofs.Lawful.{spared_row}
 use Rattle.cyc_cpu.proofs.Inquiring.{seen_asked}
 use Rattle.cyc_cpu.proofs.Cyclics.{is_cyclic, no_cyclic}
 use Rattle.cyc_cpu.proofs.hard.Hard.ask.Goals as goal
@@ -29,7 +31,7 @@ returns-clause-some g c =
     let level = (c.record_at-kept.ensures r is).0 in
     let rec = c.record_at-kept.ensures r is in
     let w : CpuView _ = record { cyclics = cyclics_of i.table.rows; removal = i.removal; size = i.table.size; room = i.table.room; most = i.most; lock = c.load_pend-pend.new.lock; low = c.load_pend-pend.new.low } in
-    subst (λ (x : CpuView _). (asks : Asks g.R.Raise.step g.R.Raise.view c.args.id n x w) × (c.record_at-kept.result.expired ≡ asks.cyclic.timer.expired) × (c.record_at-kept.result.lost ≡ asks.cyclic.lost)) c.self.view_is (
+    subst (λ (x : CpuView _). (asks : Asks g.R.Raise.step g.R.Raise.view c.args.id n x w) × (c.record_at-kept.result.expired ≡ asks.cyclic.timer.expired) × (c.record_at-kept.result.lost ≡ asks.cyclic.lost) × IsSparedAt g.R.Raise.view x asks.cyclic) c.self.view_is (
       record {
         place = c.in_ok-place.place;
         cyclic = cyclic_of r;
@@ -43,6 +45,7 @@ returns-clause-some g c =
       },
       rec.2,
       rec.3,
+      spared_row g.R.Raise.view i.table.size i.table.room i.most i.removal i.lock i.low i.table.rows c.self.invariant c.law.ensures.rising c.in_ok-place.place r is,
     )
 
 pub returns-clause-seen : goal.returns-clause-seen

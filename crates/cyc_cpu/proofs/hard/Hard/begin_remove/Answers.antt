@@ -8,7 +8,8 @@ use Rattle.cyc_types.specs.declared.level.Level.TheVariants.{Low, Lock, High}
 use Rattle.cyc_timers.specs.Rows.{cyclic_of, cyclics_of, at_moment}
 use Rattle.cyc_cpu.specs.Cpu.{CpuView, IsCyclic, HasNoCyclic}
 use Rattle.cyc_fire.specs.Ends.{IsHard}
-use Rattle.cyc_cpu.specs.Removal.{calls_at}
+use Rattle.cyc_cpu.specs.Removal.{calls_at, HasPolled}
+use Rattle.cyc_cpu.proofs.Lawful.{spared_row}
 use Rattle.cyc_cpu.proofs.Cyclics.{is_cyclic, no_cyclic, cyclics_set}
 use Rattle.cyc_cpu.proofs.Leaving.{hard_opened, hard_left, begun_left, no_mark, cyclics_less, opens_from, leaves_from, has_polled, begun_sent}
 use Rattle.cyc_cpu.proofs.hard.Hard.begin_remove.Goals as goal
@@ -103,8 +104,11 @@ returns g c =
     (subst (λ l. Goes g.R.Raise.step g.R.Raise.view i.lock (calls_at Lock l (Marks c.args.id 0 ∷ Polls c.args.id (Some counts) ∷ [])) c.remove_at-left.new.lock) level a) in
     let low' = subst (λ q. Goes g.R.Raise.step g.R.Raise.view i.low (calls_at Low r.timer.level (Marks q 0 ∷ Polls q (Some counts) ∷ [])) c.remove_at-left.new.low) (sym named)
     (subst (λ l. Goes g.R.Raise.step g.R.Raise.view i.low (calls_at Low l (Marks c.args.id 0 ∷ Polls c.args.id (Some counts) ∷ [])) c.remove_at-left.new.low) level b) in
-    let polled = has_polled g.R.Raise.step g.R.Raise.view i.table.size (g.R.Raise.view i.lock).marked (g.R.Raise.view i.low).marked i.lock i.low c.remove_at-left.new.lock c.remove_at-left.new.low i.table.rows c.in-Some.place r counts _
-    c.self.invariant.ready.lock_end c.self.invariant.ready.low_end is lock' low' (begun_sent g.R.Raise.step g.R.Raise.view r.timer.id counts) in (
+    let polled = subst (λ (v : CpuView _). HasPolled g.R.Raise.view counts v (cyclic_of r)) c.self.view_is (record {
+      polled = has_polled g.R.Raise.step g.R.Raise.view i.table.size (g.R.Raise.view i.lock).marked (g.R.Raise.view i.low).marked i.lock i.low c.remove_at-left.new.lock c.remove_at-left.new.low i.table.rows c.in-Some.place r counts _
+          c.self.invariant.ready.lock_end c.self.invariant.ready.low_end is lock' low' (begun_sent g.R.Raise.step g.R.Raise.view r.timer.id counts);
+      spared = spared_row g.R.Raise.view i.table.size i.table.room i.most i.removal i.lock i.low i.table.rows c.self.invariant c.law.ensures.rising c.in-Some.place r is;
+    }) in (
       sym (ap (λ (x : CpuView _). x.removal) c.self.view_is) ∙ c.in_default-removal.is,
       (
         cyclic_of r,

@@ -6,7 +6,8 @@ use Rattle.cyc_types.specs.declared.level.Level.TheVariants.{Low, Lock}
 use Rattle.cyc_timers.specs.Rows.{cyclic_of, cyclics_of}
 use Rattle.cyc_cpu.specs.Cpu.{CpuView}
 use Rattle.cyc_fire.specs.Ends.{IsHard}
-use Rattle.cyc_cpu.specs.Removal.{calls_at}
+use Rattle.cyc_cpu.specs.Removal.{calls_at, HasPolled}
+use Rattle.cyc_cpu.proofs.Lawful.{spared_row}
 use Rattle.cyc_cpu.proofs.Cyclics.{is_cyclic}
 use Rattle.cyc_fire.proofs.Readying.{hard_kept}
 use Rattle.cyc_cpu.proofs.Leaving.{hard_left, polled_left, polls_keep, marked_lock, marked_low, unmarked_lock, unmarked_low, cyclics_less, waits_from, ends_from, has_polled, polled_sent}
@@ -90,8 +91,11 @@ returns g c =
     (subst (λ l. Goes g.R.Raise.step g.R.Raise.view i.lock (calls_at Lock l (Polls c.in_ok-id.id (Some counts) ∷ [])) c.poll_at.new.lock) rec.0 a) in
     let low' = subst (λ q. Goes g.R.Raise.step g.R.Raise.view i.low (calls_at Low r.timer.level (Polls q (Some counts) ∷ [])) c.poll_at.new.low) (sym named)
     (subst (λ l. Goes g.R.Raise.step g.R.Raise.view i.low (calls_at Low l (Polls c.in_ok-id.id (Some counts) ∷ [])) c.poll_at.new.low) rec.0 b) in
-    let polled = has_polled g.R.Raise.step g.R.Raise.view i.table.size (g.R.Raise.view i.lock).marked (g.R.Raise.view i.low).marked i.lock i.low c.poll_at.new.lock c.poll_at.new.low i.table.rows c.in-Some.place r counts _
-    c.self.invariant.ready.lock_end c.self.invariant.ready.low_end is lock' low' (polled_sent g.R.Raise.step g.R.Raise.view r.timer.id counts) in
+    let polled = subst (λ (v : CpuView _). HasPolled g.R.Raise.view counts v (cyclic_of r)) c.self.view_is (record {
+      polled = has_polled g.R.Raise.step g.R.Raise.view i.table.size (g.R.Raise.view i.lock).marked (g.R.Raise.view i.low).marked i.lock i.low c.poll_at.new.lock c.poll_at.new.low i.table.rows c.in-Some.place r counts _
+          c.self.invariant.ready.lock_end c.self.invariant.ready.low_end is lock' low' (polled_sent g.R.Raise.step g.R.Raise.view r.timer.id counts);
+      spared = spared_row g.R.Raise.view i.table.size i.table.room i.most i.removal i.lock i.low i.table.rows c.self.invariant c.law.ensures.rising c.in-Some.place r is;
+    }) in
     ends_from g.R.Raise.step g.R.Raise.view c.receipt_of.result c.in_ok-id.id (cyclic_of r) counts _ _ _ c.self.view_is c.in_ok-id.was c.receipt_of.ensures.id
     (c.receipt_of.ensures.id ∙ sym named, c.receipt_of.ensures.sent ∙ rec.2, c.receipt_of.ensures.lost ∙ rec.3)
     polled
