@@ -21,7 +21,8 @@ use Rattle.cyc_fire.specs.declared.fire.FireRefused.{FireRefused}
 use Rattle.cyc_cpu.specs.declared.hard.Totals.{Totals}
 use Rattle.cyc_cpu.specs.declared.moving.Taken.{Taken}
 use Rattle.cyc_cpu.specs.declared.removing.Removal.{Removal}
-use Rattle.cyc_cpu.specs.Cpu.{CpuView, Running, IsCyclic, HasNoCyclic, SameCpu, sides, seen_at, with_moment, cyclic_with, Makes, WhyStopped, Asks, Looked, HasRoom, WhyNoRoom, MayWiden, Reserves, WhyNotReserved, Widens, Places, Enters}
+use Rattle.cyc_cpu.specs.Cpu.{CpuView, Running, IsCyclic, HasNoCyclic, SameCpu, sides, seen_at, with_moment, cyclic_with}
+use Rattle.cyc_cpu.specs.Cpu.{Makes, WhyStopped, Asks, Looked, HasRoom, WhyNoRoom, MayWiden, Reserves, WhyNotReserved, Widens, Places, Enters}
 use Rattle.cyc_cpu.specs.Losses.{IsSparedAt}
 use Rattle.cyc_cpu.specs.Removal.{Begins, WhyNotBegun, Ends, Waits}
 use Rattle.cyc_cpu.specs.Moving.{Takes, WhyNotTaken, IsSettled, Inquires}
@@ -51,7 +52,8 @@ pub record MayPlace {R : Type 0} (id : ℕ) (carried : Sent) (v : CpuView R) : T
   pub most : carried.sent ≤ v.most
 
 -- a cyclic was added: memory for it was taken, the size grew where it had to and was allowed to, and it was put in
-pub record Adds {R : Type 0} (step : R → FiringCall → R → Type 0) (view : R → FiringView) (id : ℕ) (level : Level) (when : When) (now : ℕ) (v w : CpuView R) : Type 0 where
+pub record Adds {R : Type 0} (step : R → FiringCall → R → Type 0) (view : R → FiringView)
+    (id : ℕ) (level : Level) (when : When) (now : ℕ) (v w : CpuView R) : Type 0 where
   -- the CPU with the memory, and then with the size
   pub reserved : CpuView R
   pub widened : CpuView R
@@ -62,16 +64,21 @@ pub record Adds {R : Type 0} (step : R → FiringCall → R → Type 0) (view : 
 
 -- what a call does that reaches no handler
 abbrev pub Changes : {R : Type 0} → (R → FiringCall → R → Type 0) → (R → FiringView) → CpuView R → CpuCall → CpuView R → Type 0
-Changes step view v (Add id level when now (Ok done)) w = HasNoCyclic id v.cyclics × (now ≢ never) × Adds step view id level when now v w
+Changes step view v (Add id level when now (Ok done)) w =
+    HasNoCyclic id v.cyclics × (now ≢ never) × Adds step view id level when now v w
 Changes step view v (Add id level when now (Err BadNow)) w = HasNoCyclic id v.cyclics × (now ≡ never) × (w ≡ v)
-Changes step view v (Add id level when now (Err e)) w = HasNoCyclic id v.cyclics × (now ≢ never) × Looked step view v w × WhyNotReserved view 1 v w e
-Changes step view v (Place id level interval moment carried) w = MayPlace id carried v × Places step view (cyclic_with id level interval moment carried.sent carried.lost) v w
+Changes step view v (Add id level when now (Err e)) w =
+    HasNoCyclic id v.cyclics × (now ≢ never) × Looked step view v w × WhyNotReserved view 1 v w e
+Changes step view v (Place id level interval moment carried) w =
+    MayPlace id carried v × Places step view (cyclic_with id level interval moment carried.sent carried.lost) v w
 Changes {R} step view v (Reprogram id moment (Ok done)) w =
-    (k : ℕ) × (c : Cyclic) × IsCyclic v.cyclics k c × (c.timer.id ≡ id) × (v.removal ≢ Some id) × (w ≡ record v { cyclics = slice_set v.cyclics k (with_moment moment c) })
+    (k : ℕ) × (c : Cyclic) × IsCyclic v.cyclics k c × (c.timer.id ≡ id) × (v.removal ≢ Some id)
+    × (w ≡ record v { cyclics = slice_set v.cyclics k (with_moment moment c) })
 Changes step view v (Reprogram id moment (Err e)) w = (e ≡ NoCyclic) × (HasNoCyclic id v.cyclics ⊎ (v.removal ≡ Some id)) × (w ≡ v)
 Changes step view v (AskPending id (Some n)) w = Asks step view id n v w × (seen_at view id w ≡ n)
 Changes step view v (AskPending id None) w = HasNoCyclic id v.cyclics × (w ≡ v)
-Changes step view v (AskTotals id (Some t)) w = (a : Asks step view id t.pending v w) × (seen_at view id w ≡ t.pending) × (t.expired ≡ a.cyclic.timer.expired) × (t.lost ≡ a.cyclic.lost) × IsSparedAt view v a.cyclic
+Changes step view v (AskTotals id (Some t)) w = (a : Asks step view id t.pending v w) × (seen_at view id w ≡ t.pending)
+    × (t.expired ≡ a.cyclic.timer.expired) × (t.lost ≡ a.cyclic.lost) × IsSparedAt view v a.cyclic
 Changes step view v (AskTotals id None) w = HasNoCyclic id v.cyclics × (w ≡ v)
 Changes step view v (AskRoom more (Ok done)) w = Looked step view v w × HasRoom view more w
 Changes step view v (AskRoom more (Err e)) w = Looked step view v w × WhyNoRoom view more w e
@@ -81,7 +88,8 @@ Changes step view v (Widen more) w = MayWiden view more v × Widens step view mo
 Changes step view v (BeginRemove id (Ok removal)) w = (v.removal ≡ None) × Begins step view id v removal w
 Changes step view v (BeginRemove id (Err e)) w = WhyNotBegun id v e × (w ≡ v)
 Changes step view v (PollRemove (Some receipt)) w = Ends step view receipt v w
-Changes step view v (PollRemove None) w = ((v.removal ≡ None) × (w ≡ v)) ⊎ ((id : ℕ) × (v.removal ≡ Some id) × Waits step view id v w)
+Changes step view v (PollRemove None) w =
+    ((v.removal ≡ None) × (w ≡ v)) ⊎ ((id : ℕ) × (v.removal ≡ Some id) × Waits step view id v w)
 Changes step view v (TakeNow id (Ok taken)) w = (v.removal ≡ None) × Takes step view id taken v w
 Changes step view v (TakeNow id (Err e)) w = WhyNotTaken step view id v e w
 Changes step view v (AskSettled true) w = Inquires step view v w × IsSettled view w
@@ -90,8 +98,8 @@ Changes step view v (Fire now answer) w = ⊥
 Changes step view v (SoftInterrupt level budget answer) w = ⊥
 
 -- a fire was stopped by an expiration that was refused: those before it were made, and no other
-pub record Stopped {C R : Type 0} (called : C → ℕ → C → Type 0) (count : C → ℕ → ℕ) (may_refuse : C → ℕ → Type 0) (step : R → FiringCall → R → Type 0) (view : R → FiringView)
-    (now : ℕ) (e : FireRefused) (s t : Running C R) : Type 0 where
+pub record Stopped {C R : Type 0} (called : C → ℕ → C → Type 0) (count : C → ℕ → ℕ) (may_refuse : C → ℕ → Type 0)
+    (step : R → FiringCall → R → Type 0) (view : R → FiringView) (now : ℕ) (e : FireRefused) (s t : Running C R) : Type 0 where
   pub made : List Expiration
   pub last : Expiration
   pub rest : List Expiration
@@ -105,12 +113,15 @@ pub record Stopped {C R : Type 0} (called : C → ℕ → C → Type 0) (count :
 
 -- What each call does to a CPU and its handlers. `interrupts` is what a soft interrupt does, which is a call of a CPU alone
 -- where one thread has both sides of its levels.
-abbrev pub Does : {C R : Type 0} → (C → ℕ → Level → C → Type 0) → (C → ℕ → ℕ) → (C → ℕ → Type 0) → (R → FiringCall → R → Type 0) → (R → FiringView)
-    → (Soft → ℕ → Result Ran SoftRefused → Running C R → Running C R → Type 0) → Running C R → CpuCall → Running C R → Type 0
+abbrev pub Does : {C R : Type 0} → (C → ℕ → Level → C → Type 0) → (C → ℕ → ℕ) → (C → ℕ → Type 0)
+    → (R → FiringCall → R → Type 0) → (R → FiringView) → (Soft → ℕ → Result Ran SoftRefused → Running C R → Running C R → Type 0)
+    → Running C R → CpuCall → Running C R → Type 0
 Does called count may_refuse step view interrupts s (Fire now (Ok r)) t = (now ≢ never) × SameCpu s.cpu t.cpu
     × (r.expired ≡ length (expirations now (timers s.cpu.cyclics))) × (r.next ≡ earliest (timers t.cpu.cyclics))
-    × Makes (at_level called High) count step view now (expirations now (timers s.cpu.cyclics)) s.cpu.cyclics t.cpu.cyclics (sides s.calls s.cpu) (sides t.calls t.cpu) r.lost
-Does called count may_refuse step view interrupts s (Fire now (Err e)) t = ((now ≡ never) × (e ≡ record { why = BadNow; expired = 0; lost = 0 }) × (t ≡ s))
+    × Makes (at_level called High) count step view now (expirations now (timers s.cpu.cyclics)) s.cpu.cyclics t.cpu.cyclics
+    (sides s.calls s.cpu) (sides t.calls t.cpu) r.lost
+Does called count may_refuse step view interrupts s (Fire now (Err e)) t =
+    ((now ≡ never) × (e ≡ record { why = BadNow; expired = 0; lost = 0 }) × (t ≡ s))
     ⊎ ((now ≢ never) × SameCpu s.cpu t.cpu × Stopped (at_level called High) count may_refuse step view now e s t)
 Does called count may_refuse step view interrupts s (SoftInterrupt level budget answer) t = interrupts level budget answer s t
 Does called count may_refuse step view interrupts s call t = Changes step view s.cpu call t.cpu × (t.calls ≡ s.calls)

@@ -23,7 +23,8 @@ pub record IsGone (id : ℕ) (v : CpuView Tables) : Type 0 where
   pub low : IsAbsent id (level_of v.low)
 
 -- the cyclic of this id has left: its removal has answered, as it began or at a poll, or it was taken to another CPU
-abbrev pub HasLeft : {R : Type 0} → (R → FiringCall → R → Type 0) → (R → FiringView) → ℕ → CpuView R → CpuView R → Type 0
+abbrev pub HasLeft : {R : Type 0} → (R → FiringCall → R → Type 0) → (R → FiringView)
+    → ℕ → CpuView R → CpuView R → Type 0
 HasLeft step view id v w = ((receipt : Receipt) × Begins step view id v (Done receipt) w)
     ⊎ ((receipt : Receipt) × (receipt.id ≡ id) × Ends step view receipt v w)
     ⊎ ((taken : Taken) × Takes step view id taken v w)

@@ -24,7 +24,8 @@ pub record IsLawful {R : Type 0} (view : R → FiringView) (v : CpuView R) : Typ
   pub spared : All (IsSpared (view v.lock).ceiling (view v.low).ceiling) v.cyclics
   -- the cyclic whose removal is open is one of a soft level, is marked there, and is due at no moment
   pub removed : (id : ℕ) → v.removal ≡ Some id → IsRemoved id v.cyclics
-  pub never_due : (id now : ℕ) → v.removal ≡ Some id → now < never → times_of id (expirations now (timers v.cyclics)) ≡ 0
+  pub never_due : (id now : ℕ) → v.removal ≡ Some id → now < never
+      → times_of id (expirations now (timers v.cyclics)) ≡ 0
   pub marked_lock : (id : ℕ) → (view v.lock).marked ≡ Some id → v.removal ≡ Some id
   pub marked_low : (id : ℕ) → (view v.low).marked ≡ Some id → v.removal ≡ Some id
   -- the size is that of the bank that both ends fill

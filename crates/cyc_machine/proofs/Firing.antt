@@ -26,7 +26,8 @@ use Rattle.cyc_timers.specs.Rows.{Cyclic, timers}
 use Rattle.cyc_fire.specs.Acts.{ids_at, is_of, timer_of, lost_after}
 use Rattle.cyc_fire.specs.declared.fire.FireRefused.{FireRefused}
 use Rattle.cyc_cpu.specs.Calls.{Stopped}
-use Rattle.cyc_cpu.specs.Cpu.{CpuView, SameCpu, HasRisingIds, Makes, Stops, running}
+use Rattle.cyc_fire.specs.Made.{Makes, Stops}
+use Rattle.cyc_cpu.specs.Cpu.{CpuView, SameCpu, HasRisingIds, running}
 use Rattle.cyc_cpu.proofs.Lawful.{distinct_ids}
 use Rattle.cyc_fire.proofs.Sharing.{ids_add_up}
 use Rattle.cyc_machine.specs.LevelRun.{expiries, losses}
