@@ -5,3 +5,7 @@ pub mod WorkedRules
 pub mod Filled
 pub mod Local
 pub mod Telling
+pub mod Bare
+pub mod BareMachine
+pub mod Unindexed
+pub mod Given

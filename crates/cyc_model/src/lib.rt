@@ -8,7 +8,7 @@
 //! nothing: each one's contract is a law.
 #![tactic(auto)]
 
-ghost use Rattle.cyc_model.specs.Laws.{RefusedOrDone, ActsTellAll};
+ghost use Rattle.cyc_model.specs.Laws.{RefusedOrDone, ActsTellAll, TextTellsNoIndex, IdsAreGivenOnce};
 
 /// A step that is refused changes nothing and its line has the number of the refusal; any other does what its word does.
 pub fn refused_or_done()
@@ -19,4 +19,15 @@ pub fn refused_or_done()
 /// called as often as they say.
 pub fn acts_tell_all()
     ensures { ActsTellAll }
+{}
+
+/// The text of a script is the same whatever indexes its cyclics get.
+pub fn text_tells_no_index()
+    ensures { TextTellsNoIndex }
+{}
+
+/// After any steps the ids whose removal has not answered rise up to the one that was given last, and no cyclic on any CPU has an
+/// id above it: an id is never given again.
+pub fn ids_are_given_once()
+    ensures { IdsAreGivenOnce }
 {}
