@@ -1,5 +1,6 @@
 pub mod Orders
 pub mod Slots
+pub mod Places
 pub mod Holes
 pub mod Hollows
 pub mod Views

@@ -1,12 +1,12 @@
 -- What callers see of a heap, read off its array.
-use Rattle.std.proofs.Common.{◌≡◌, ℕ, ◌+◌, ◌<◌, ◌≤◌, inl, inr, true, List, length, get_or, Option, Some, None, IsSome, IfSome, is_some, option_map, cond, count_by, refl, sym, ap, ◌∙◌, subst, arith}
+use Rattle.std.proofs.Common.{◌≡◌, ℕ, ◌+◌, ◌<◌, ◌≤◌, inl, inr, ◌≢◌, true, List, length, get_or, Option, Some, None, IsSome, IfSome, IfNone, is_some, option_map, cond, count_by, refl, sym, ap, ◌∙◌, subst, arith}
 use Rattle.std.proofs.lemmas.Bool.{cases_lt, lt-ltb, le-ltb, cond-true, cond-false}
 use Rattle.std.proofs.lemmas.List.{get_or_past, get_or_default}
 use Rattle.std.proofs.lemmas.List.Sums.{sum_by-set}
 use Rattle.std.proofs.Math.ListN.{set}
 use Rattle.cyc_expirations.specs.Expirations.{Expiration, is_before}
 use Rattle.cyc_heap.specs.declared.entry.Entry.{Entry}
-use Rattle.cyc_heap.specs.Array.{key, entry_at, key_at, index_at, slots, root_of, IsLinked, IsOrdered, IsHeap}
+use Rattle.cyc_heap.specs.Array.{key, entry_at, key_at, index_of, index_at, slots, root_of, IsLinked, IsOrdered, IsHeap}
 use Rattle.cyc_heap.specs.Heap.{HeapView, expiration_at, at_moment, with_moment, IsLeast}
 use Rattle.cyc_heap.proofs.Slots.{length-slots, slots_at, slot_used, slot_free}
 use Rattle.cyc_heap.proofs.Orders.{root_least}
@@ -43,17 +43,17 @@ module _ (len : ℕ) (entries : List Entry) (positions : List ℕ) (room : ℕ) 
       of (Some e) is s = let (low, used, _) = held i e is in (low, used)
 
   -- what the index of a place in the heap has
-  pub at_place : (p : ℕ) (x : Entry) → p < len → len ≤ length entries → IsLinked entries positions → entry_at entries p ≡ x → expiration_at (view_of len entries positions room) x.index ≡ Some (key x)
+  pub at_place : (p : ℕ) (x : Entry) → p < len → len ≤ length entries → IsLinked entries positions → entry_at entries p ≡ x → expiration_at (view_of len entries positions room) (index_of x) ≡ Some (key x)
   at_place p x low within linked is =
       let (low_i, back) = linked.up p (omega (arith, low, within)) in
       let same = linked.same in
-      let index_is : index_at entries p ≡ x.index = ap (λ (x : Entry). x.index) is in
-      let place : get_or positions x.index 0 ≡ p = ap (λ i. get_or positions i 0) (sym index_is) ∙ back in
-      at_used x.index (omega (arith, low_i, same, index_is)) (omega (arith, place, low)) ∙ ap (λ p. Some (key_at entries p)) place ∙ ap (λ (x : Entry). Some (key x)) is
+      let index_is : index_at entries p ≡ index_of x = ap index_of is in
+      let place : get_or positions (index_of x) 0 ≡ p = ap (λ i. get_or positions i 0) (sym index_is) ∙ back in
+      at_used (index_of x) (omega (arith, low_i, same, index_is)) (omega (arith, place, low)) ∙ ap (λ p. Some (key_at entries p)) place ∙ ap (λ (x : Entry). Some (key x)) is
 
   -- the entry at the root is the least
   pub least_at_root : (x : Entry) → len ≤ length entries → IsLinked entries positions → IsOrdered len (key_at entries) → 0 < len → entry_at entries 0 ≡ x
-      → IsLeast (view_of len entries positions room) x.index (key x)
+      → IsLeast (view_of len entries positions room) (index_of x) (key x)
   least_at_root x within linked order some is = record {
     holds = at_place 0 x some within linked is;
     least = λ k other has. (let (low_k, used_k, here) = held k other has in
@@ -106,7 +106,7 @@ heap_moved len entries new_entries positions new_positions i e k h has linked or
 pub if_some : (o : Option ℕ) (P : ℕ → Type 0) (i : ℕ) → o ≡ Some i → P i → IfSome o P
 if_some o P i is p = subst (λ o. IfSome o P) (sym is) p
 
--- what is read at an index that has an expiration is its place in the heap
+-- the place of an index that has an expiration
 pub record IsPlace (len : ℕ) (entries : List Entry) (positions : List ℕ) (i p : ℕ) : Type 0 where
   pub low : i < length positions
   pub used : p < len
@@ -114,16 +114,51 @@ pub record IsPlace (len : ℕ) (entries : List Entry) (positions : List ℕ) (i 
   pub index : index_at entries p ≡ i
   pub back : get_or positions i 0 ≡ p
 
-pub place_read : (len : ℕ) (entries : List Entry) (positions : List ℕ) (room : ℕ) (v : HeapView) (i number p : ℕ) → IsHeap len entries positions → view_of len entries positions room ≡ v
-    → IsSome (expiration_at v i) → number ≡ i → p ≡ get_or positions number p → IsPlace len entries positions i p
-place_read len entries positions room v i number p h is some value read =
+-- a place with the index of an expiration is its place
+pub place_found : (len : ℕ) (entries : List Entry) (positions : List ℕ) (room : ℕ) (v : HeapView) (i p : ℕ) → IsHeap len entries positions → view_of len entries positions room ≡ v
+    → IsSome (expiration_at v i) → p < length entries → index_at entries p ≡ i → IsPlace len entries positions i p
+place_found len entries positions room v i p h is some within here =
     let (low, used) = in_map len entries positions room i (subst (λ (v : HeapView). IsSome (expiration_at v i)) (sym is) some) in
-    let low_n : number < length positions = omega (arith, low, value) in
-    let back : get_or positions i 0 ≡ p = ap (λ n. get_or positions n 0) (sym value) ∙ get_or_default positions number 0 p low_n ∙ sym read in
+    let back : get_or positions i 0 ≡ p = ap (λ n. get_or positions n 0) (sym here) ∙ (h.linked.up p within).1 in
+    record { low = low; used = omega (arith, used, back); within = within; index = here; back = back }
+
+-- the place that a walk has found
+pub found_place : (len : ℕ) (entries : List Entry) (positions : List ℕ) (room : ℕ) (v : HeapView) (i p : ℕ) (found : Option ℕ) (walked : List Entry) → IsHeap len entries positions
+    → view_of len entries positions room ≡ v → IsSome (expiration_at v i) → walked ≡ entries → found ≡ Some p
+    → IfSome found (λ p. (p < length walked) × (index_at walked p ≡ i)) → IsPlace len entries positions i p
+found_place len entries positions room v i p found walked h is some all at found_it =
+    let both = subst (λ o. IfSome o (λ p. (p < length walked) × (index_at walked p ≡ i))) at found_it in
+    let (within, here) = subst (λ es. (p < length es) × (index_at es p ≡ i)) all both in
+    place_found len entries positions room v i p h is some within here
+
+-- a walk that finds none, one after the heap, and one in it
+pub walk_none : (len : ℕ) (entries : List Entry) (positions : List ℕ) (room i : ℕ) → IsHeap len entries positions → ((p : ℕ) → p < length entries → index_at entries p ≢ i)
+    → expiration_at (view_of len entries positions room) i ≡ None
+walk_none len entries positions room i h none = elim (cases_lt i (length entries)) [
+  | inl low ↦ (let (within, here) = h.linked.down i low in absurd (none (get_or positions i 0) within here))
+  | inr past ↦ (let same = h.linked.same in at_past len entries positions room i (omega (arith, past, same)))
+]
+
+module _ (len : ℕ) (entries : List Entry) (positions : List ℕ) (room i p : ℕ) (h : IsHeap len entries positions) (within : p < length entries) (here : index_at entries p ≡ i) where
+  back_at : (i < length positions) × (get_or positions i 0 ≡ p)
+  back_at = let (low, back) = h.linked.up p within in let same = h.linked.same in
+      (omega (arith, low, same, here), ap (λ n. get_or positions n 0) (sym here) ∙ back)
+
+  pub walk_free : len ≤ p → expiration_at (view_of len entries positions room) i ≡ None
+  walk_free after = let (low, back) = back_at in at_free len entries positions room i low (omega (arith, after, back))
+
+  pub walk_used : p < len → expiration_at (view_of len entries positions room) i ≡ Some (key_at entries p)
+  walk_used used = let (low, back) = back_at in at_used len entries positions room i low (omega (arith, used, back)) ∙ ap (λ p. Some (key_at entries p)) back
+
+-- a walk finds one where the index has an expiration
+pub walk_finds : (len : ℕ) (entries : List Entry) (positions : List ℕ) (room : ℕ) (v : HeapView) (i : ℕ) (found : Option ℕ) → IsHeap len entries positions → view_of len entries positions room ≡ v
+    → IsSome (expiration_at v i) → IfNone found ((p : ℕ) → p < length entries → index_at entries p ≢ i) → IsSome found
+walk_finds len entries positions room v i (Some p) h is some none = refl
+walk_finds len entries positions room v i None h is some none =
+    let (low, used) = in_map len entries positions room i (subst (λ (v : HeapView). IsSome (expiration_at v i)) (sym is) some) in
     let same = h.linked.same in
-    let within = h.within in
-    let down = h.linked.down i (omega (arith, low, same)) in
-    record { low = low; used = omega (arith, used, back); within = omega (arith, used, back, within); index = ap (index_at entries) (sym back) ∙ down.1; back = back }
+    let (within, here) = h.linked.down i (omega (arith, low, same)) in
+    absurd (none (get_or positions i 0) within here)
 
 pub at_index : (len : ℕ) (entries : List Entry) (positions : List ℕ) (room i p : ℕ) → IsPlace len entries positions i p → expiration_at (view_of len entries positions room) i ≡ Some (key_at entries p)
 at_index len entries positions room i p h =

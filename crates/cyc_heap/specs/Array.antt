@@ -1,15 +1,23 @@
 -- The array of a heap: its first entries are the heap, those after them have the free indexes.
-use Rattle.std.specs.Prelude.{◌≡◌, ◌≢◌, ℕ, ◌+◌, ◌*◌, ◌<◌, ◌≤◌, ◌⊎◌, true, nat_lt, List, length, map, count_by, slice_index, slice_index_or, Option, Some, None, is_some, if◌then◌else◌}
+use Rattle.std.specs.Prelude.{◌≡◌, ◌≢◌, ℕ, suc, ◌+◌, ◌*◌, ◌/◌, ◌%◌, ◌<◌, ◌≤◌, ◌⊎◌, true, nat_lt, eqb, cond, List, [], ◌∷◌, length, map, count_by, slice_index, slice_index_or, Option, Some, None, is_some, if◌then◌else◌}
+use Rattle.std.specs.List.{range_with_len}
 use Rattle.cyc_types.specs.Limits.{cyclics}
 use Rattle.cyc_expirations.specs.Expirations.{Expiration, is_before}
 use Rattle.cyc_heap.specs.declared.entry.Entry.{Entry}
 
 -- what is read past the end
 abbrev pub nowhere : Entry
-nowhere = record { moment = 0; id = 0; index = 0 }
+nowhere = record { moment = 0; word = 0 }
+
+-- the id and the index of an entry's cyclic, which stand in one word, the id in the high bits
+abbrev pub id_of : Entry → ℕ
+id_of e = e.word / cyclics
+
+abbrev pub index_of : Entry → ℕ
+index_of e = e.word % cyclics
 
 abbrev pub key : Entry → Expiration
-key e = record { moment = e.moment; id = e.id }
+key e = record { moment = e.moment; id = id_of e }
 
 abbrev pub entry_at : List Entry → ℕ → Entry
 entry_at entries p = slice_index_or entries p nowhere
@@ -18,7 +26,16 @@ abbrev pub key_at : List Entry → ℕ → Expiration
 key_at entries p = key (entry_at entries p)
 
 abbrev pub index_at : List Entry → ℕ → ℕ
-index_at entries p = (entry_at entries p).index
+index_at entries p = index_of (entry_at entries p)
+
+-- the first place of an index
+abbrev pub place_of : ℕ → List Entry → ℕ
+place_of i [] = 0
+place_of i (e ∷ entries) = cond (eqb (index_of e) i) 0 (suc (place_of i entries))
+
+-- the place of each index, which the array doesn't keep: it is looked up by a walk (`cyclic_remove_here` of cyclic.c)
+unfoldable pub places : List Entry → List ℕ
+places entries = map (λ i. place_of i entries) (range_with_len 0 (length entries))
 
 -- what an index at this place has: an expiration where the place is in the heap
 abbrev pub slot : ℕ → List Entry → ℕ → Option Expiration
@@ -53,13 +70,6 @@ pub record IsLinked (entries : List Entry) (positions : List ℕ) : Type 0 where
   pub same : length positions ≡ length entries
   pub up : (p : ℕ) → p < length entries → (index_at entries p < length entries) × (slice_index positions (index_at entries p) ≡ p)
   pub down : (i : ℕ) → i < length entries → (slice_index positions i < length entries) × (index_at entries (slice_index positions i) ≡ i)
-
--- the same, but for the hole and the index that has no place
-pub record IsLinkedBut (hole free : ℕ) (entries : List Entry) (positions : List ℕ) : Type 0 where
-  pub same : length positions ≡ length entries
-  pub low : free < length entries
-  pub up : (p : ℕ) → p < length entries → p ≢ hole → (index_at entries p < length entries) × (slice_index positions (index_at entries p) ≡ p) × (index_at entries p ≢ free)
-  pub down : (i : ℕ) → i < length entries → i ≢ free → (slice_index positions i < length entries) × (index_at entries (slice_index positions i) ≡ i) × (slice_index positions i ≢ hole)
 
 -- the first entries are a heap
 pub record IsHeap (len : ℕ) (entries : List Entry) (positions : List ℕ) : Type 0 where

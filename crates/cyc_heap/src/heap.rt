@@ -1,10 +1,10 @@
 ghost use Rattle.std.specs.Prelude.{◌≡◌, ◌≢◌, ℕ, ◌+◌, ◌-◌, ◌*◌, ◌<◌, ◌≤◌, ◌↔◌, ◌++◌, max, length, replicate, slice_set, option_map, Some, None, IsSome, IfSome, IfNone, IfOk, IfErr, OnOk, OnErr, vec_len, vec_capacity};
 ghost use Rattle.cyc_types.specs.Limits.{cyclics};
 ghost use Rattle.cyc_types.specs.declared.refusal.Refusal.TheVariants.{Memory};
-ghost use Rattle.cyc_heap.specs.Array.{IsLinked, entry_at, slots};
+ghost use Rattle.cyc_heap.specs.Array.{IsLinked, entry_at, index_of, places, slots};
 ghost use Rattle.cyc_heap.specs.Heap.{HeapView, new_heap, size_of, len_of, expiration_at, with_moment, pair_of, IsEmpty, IsLeast};
 
-use crate::entry::Entry;
+use crate::entry::{Entry, place_of};
 use crate::sift::fill;
 use cyc_types::{CyclicId, Index, Moment, Refusal};
 use std::alloc::Global;
@@ -16,8 +16,6 @@ use std::marker::Model;
 pub struct ExpiryHeap {
     /// The heap, and after it an entry for each free index.
     entries: Vec<Entry>,
-    /// Where the entry of each index stands.
-    positions: Vec<usize>,
     /// The indexes in use.
     len: usize,
     /// The size for which memory was taken.
@@ -27,13 +25,13 @@ pub struct ExpiryHeap {
 impl Model for ExpiryHeap {
     ghost use Rattle.std.specs.Prelude.{◌≤◌, length, vec_capacity};
     ghost use Rattle.cyc_heap.specs.Heap.{HeapView};
-    ghost use Rattle.cyc_heap.specs.Array.{IsHeap, slots, root_of};
+    ghost use Rattle.cyc_heap.specs.Array.{IsHeap, places, slots, root_of};
 
     ghost Value = { HeapView };
 
-    ghost view = { λ h. record { slots = slots h.len h.entries.items h.positions.items; root = root_of h.len h.entries.items; room = h.room } };
+    ghost view = { λ h. record { slots = slots h.len h.entries.items (places h.entries.items); root = root_of h.len h.entries.items; room = h.room } };
 
-    ghost invariant = { λ h. IsHeap h.len h.entries.items h.positions.items × (h.room ≤ vec_capacity h.entries) × (h.room ≤ vec_capacity h.positions) × (length h.entries.items ≤ h.room) };
+    ghost invariant = { λ h. IsHeap h.len h.entries.items (places h.entries.items) × (h.room ≤ vec_capacity h.entries) × (length h.entries.items ≤ h.room) };
 }
 
 impl ExpiryHeap {
@@ -43,11 +41,9 @@ impl ExpiryHeap {
         ensures err { IfErr result (λ refusal. refusal ≡ Memory) }
     {
         let mut entries = Vec::with_capacity(alloc, 1)?;
-        let mut positions = Vec::with_capacity(alloc, 1)?;
-        add_free(&mut entries, &mut positions, 1);
+        add_free(&mut entries, 1);
         Ok(ExpiryHeap {
             entries,
-            positions,
             len: 0,
             room: 1,
         })
@@ -64,7 +60,6 @@ impl ExpiryHeap {
         if size > self.room {
             let more = size - self.entries.len();
             self.entries.reserve(more)?;
-            self.positions.reserve(more)?;
             self.room = size;
         }
         Ok(())
@@ -78,7 +73,7 @@ impl ExpiryHeap {
         ensures root { self.new.root ≡ self.old.root }
         ensures room { self.new.room ≡ self.old.room }
     {
-        add_free(&mut self.entries, &mut self.positions, size);
+        add_free(&mut self.entries, size);
     }
 
     /// Puts in an expiration, and gives the index that it has from now on: one that was free. Takes no memory.
@@ -90,12 +85,12 @@ impl ExpiryHeap {
         ensures room { self.new.room ≡ self.old.room }
     {
         let hole = self.len;
-        let index = self.entries[hole].index;
+        let index = self.entries[hole].index();
         let len = hole + 1;
         self.len = len;
-        let entry = Entry { moment, id, index };
-        fill(&mut self.entries, &mut self.positions, len, hole, entry);
-        index_of(index)
+        let entry = Entry::new(moment, id, index);
+        fill(&mut self.entries, len, hole, entry);
+        index
     }
 
     /// The least expiration by its moment and then its id, and its index. None where no index is in use.
@@ -109,7 +104,7 @@ impl ExpiryHeap {
             return None;
         }
         let entry = self.entries[0];
-        Some((index_of(entry.index), entry.moment, entry.id))
+        Some((entry.index(), entry.moment, entry.id()))
     }
 
     /// Gives the least expiration another moment (`cyclic_downheap` in `cyclic_fire`).
@@ -118,13 +113,8 @@ impl ExpiryHeap {
         ensures slots { IfSome self.old.root (λ index. self.new.slots ≡ with_moment self.old.slots index moment) }
         ensures room { self.new.room ≡ self.old.room }
     {
-        let entry = self.entries[0];
-        let entry = Entry {
-            moment,
-            id: entry.id,
-            index: entry.index,
-        };
-        fill(&mut self.entries, &mut self.positions, self.len, 0, entry);
+        let word = self.entries[0].word;
+        fill(&mut self.entries, self.len, 0, Entry { moment, word });
     }
 
     /// Gives the expiration of this index another moment, earlier or later (`cyclic_reprogram_cyclic`).
@@ -133,16 +123,9 @@ impl ExpiryHeap {
         ensures slots { self.new.slots ≡ with_moment self.old.slots index moment }
         ensures room { self.new.room ≡ self.old.room }
     {
-        let number = index.number() as usize;
-        let hole = self.positions[number];
-        let entry = self.entries[hole];
-        let entry = Entry {
-            moment,
-            id: entry.id,
-            index: number,
-        };
-        let len = self.len;
-        fill(&mut self.entries, &mut self.positions, len, hole, entry);
+        let hole = place_of(&self.entries, index).unwrap();
+        let word = self.entries[hole].word;
+        fill(&mut self.entries, self.len, hole, Entry { moment, word });
     }
 
     /// Takes out the expiration of this index, which is free from now on (`cyclic_remove_here`).
@@ -151,16 +134,16 @@ impl ExpiryHeap {
         ensures slots { self.new.slots ≡ slice_set self.old.slots index None }
         ensures room { self.new.room ≡ self.old.room }
     {
-        let number = index.number() as usize;
-        let hole = self.positions[number];
+        let hole = place_of(&self.entries, index).unwrap();
         let last = self.len - 1;
         let removed = self.entries[hole];
         let moved = self.entries[last];
         self.len = last;
         self.entries[last] = removed;
-        self.positions[number] = last;
+        self.entries[hole] = moved;
         if hole < last {
-            fill(&mut self.entries, &mut self.positions, last, hole, moved);
+            let entry = self.entries[hole];
+            fill(&mut self.entries, last, hole, entry);
         }
     }
 
@@ -168,16 +151,12 @@ impl ExpiryHeap {
     pub fn at(&self, index: Index) -> Option<(Moment, CyclicId)>
         ensures { result ≡ option_map pair_of (expiration_at self.now index) }
     {
-        let number = index.number() as usize;
-        if number >= self.positions.len() {
+        let place = place_of(&self.entries, index)?;
+        if place >= self.len {
             return None;
         }
-        let position = self.positions[number];
-        if position >= self.len {
-            return None;
-        }
-        let entry = self.entries[position];
-        Some((entry.moment, entry.id))
+        let entry = &self.entries[place];
+        Some((entry.moment, entry.id()))
     }
 
     /// How many indexes are in use.
@@ -198,29 +177,28 @@ impl ExpiryHeap {
     }
 }
 
-/// The index of this number.
-fn index_of(number: usize) -> Index
-    requires { number < cyclics }
-    ensures { result ≡ number }
-{
-    Index::new(number as u16).unwrap()
-}
-
 /// Adds an entry for each free index up to this size, the smallest first.
-fn add_free(entries: &mut Vec<Entry>, positions: &mut Vec<usize>, size: usize)
+fn add_free(entries: &mut Vec<Entry>, size: usize)
     requires few { size ≤ cyclics }
     requires entries { size ≤ vec_capacity entries.old }
-    requires positions { size ≤ vec_capacity positions.old }
-    requires linked { IsLinked entries.old.items positions.old.items }
-    ensures linked { IsLinked entries.new.items positions.new.items }
+    requires linked { IsLinked entries.old.items (places entries.old.items) }
+    ensures linked { IsLinked entries.new.items (places entries.new.items) }
     ensures length { length entries.new.items ≡ max (length entries.old.items) size }
-    ensures slots { (len : ℕ) → len ≤ length entries.old.items → slots len entries.new.items positions.new.items ≡ slots len entries.old.items positions.old.items ++ replicate (size - length entries.old.items) None }
+    ensures slots { (len : ℕ) → len ≤ length entries.old.items → slots len entries.new.items (places entries.new.items)
+        ≡ slots len entries.old.items (places entries.old.items) ++ replicate (size - length entries.old.items) None }
     ensures kept { (p : ℕ) → p < length entries.old.items → entry_at entries.new.items p ≡ entry_at entries.old.items p }
     ensures entries { vec_capacity entries.old ≤ vec_capacity entries.new }
-    ensures positions { vec_capacity positions.old ≤ vec_capacity positions.new }
 {
     for number in entries.len()..size {
-        entries.push(Entry::free(number)).unwrap();
-        positions.push(number).unwrap();
+        entries.push(free_entry(number)).unwrap();
     }
+}
+
+/// The entry of a free index.
+fn free_entry(number: usize) -> Entry
+    requires { number < cyclics }
+    ensures { index_of result ≡ number }
+{
+    let index = Index::new(number as u16).unwrap();
+    Entry::new(Moment::NEVER, CyclicId::LAST, index)
 }

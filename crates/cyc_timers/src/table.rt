@@ -37,7 +37,8 @@ pub struct Place {
 /// The cyclics of a CPU: the expirations in a heap, the records by index, and the indexes by rising id (`cyp_heap` and
 /// `cyp_cyclics` of sys/cyclic_impl.h; the order by id is our own).
 ///
-/// A look-up by id takes O(log n), and so does a change of the heap. Putting in and taking out move the ids above.
+/// A look-up by id takes O(log n), and so does an expiration. Putting in and taking out move the ids above, and the heap looks an
+/// index up by a walk.
 #[derive(Drop)]
 pub struct Table {
     heap: ExpiryHeap,
@@ -181,7 +182,7 @@ impl Table {
         self.places[place].id
     }
 
-    /// The next expiration of the cyclic at this place of `find` (`cy_expire`). O(1).
+    /// The next expiration of the cyclic at this place of `find` (`cy_expire`). O(n).
     pub fn moment_at(&self, place: usize) -> Moment
         requires { place < length self.now.rows }
         ensures { (r : Row) → IsRow self.now.rows place r → result ≡ r.timer.moment }
@@ -202,7 +203,7 @@ impl Table {
     }
 
     /// Gives the cyclic at this place of `find` another next expiration, earlier or later (`cyclic_reprogram_cyclic`).
-    /// O(log n), and takes no memory.
+    /// O(n), and takes no memory.
     pub fn reprogram(&mut self, place: usize, moment: Moment)
         requires here { place < length self.old.rows }
         requires moment { moment ≤ never }

@@ -1,9 +1,10 @@
-use Rattle.std.proofs.Common.{◌≡◌, ◌+◌, List, [], ◌∷◌, ◌++◌, length, Option, None, is_ok, sym, ap, ◌∙◌, subst₂, arith}
+use Rattle.std.proofs.Common.{◌≡◌, ◌+◌, List, [], ◌∷◌, ◌++◌, length, Option, None, is_ok, sym, ap, ◌∙◌, subst, arith}
 use Rattle.std.proofs.lemmas.Bool.{cond-true}
 use Rattle.std.proofs.lemmas.List.{length_push, get_or_append_left}
 use Rattle.cyc_expirations.specs.Expirations.{Expiration}
 use Rattle.cyc_heap.specs.declared.entry.Entry.{Entry}
-use Rattle.cyc_heap.specs.Array.{nowhere, IsLinked, entry_at, slots}
+use Rattle.cyc_heap.specs.Array.{nowhere, IsLinked, entry_at, index_of, places, slots}
+use Rattle.cyc_heap.proofs.Places.{places_are, placed}
 use Rattle.cyc_heap.proofs.Widening.{pushed_linked, pushed_slots, free_more}
 use Rattle.cyc_heap.proofs.heap.add_free.Goals as goal
 
@@ -12,27 +13,24 @@ loop-number-preserved c =
     let h = c.loop-number.invariant in
     let n = c.loop-number.number in
     let es = c.loop-number.entries.items in
-    let ps = c.loop-number.positions.items in
-    let x = c.free.result in
+    let ps = places es in
+    let x = c.free_entry.result in
     let test = c.loop-number-test.true in
     let least = h.least in
-    let index : x.index ≡ n = c.free.ensures in
+    let index : index_of x ≡ n = c.free_entry.ensures in
     let new_es = c.push.ensures.items ∙ cond-true _ (es ++ x ∷ []) es (ap is_ok c.unwrap.ensures) in
-    let new_ps = c.push-in-loop-number.ensures.items ∙ cond-true _ (ps ++ n ∷ []) ps (ap is_ok c.unwrap-in-loop-number.ensures) in
+    let linked = pushed_linked es ps n x h.long index h.linked in
     let more = c.push.ensures.capacity in
-    let more_ps = c.push-in-loop-number.ensures.capacity in
     let was = h.entries in
-    let was_ps = h.positions in
     record {
       long = ap length new_es ∙ length_push es x ∙ ap (λ k. k + 1) h.long;
       least = omega (arith, least);
       most = omega (arith, test);
-      linked = subst₂ IsLinked (sym new_es) (sym new_ps) (pushed_linked es ps n x h.long index h.linked);
-      slots = λ len low. ap (λ (es : List Entry). slots len es c.push-in-loop-number.new.self.items) new_es ∙ ap (slots len (es ++ x ∷ [])) new_ps
+      linked = subst (λ (es : List Entry). IsLinked es (places es)) (sym new_es) (placed (es ++ x ∷ []) (ps ++ n ∷ []) linked);
+      slots = λ len low. ap (λ (es : List Entry). slots len es (places es)) new_es ∙ ap (slots len (es ++ x ∷ [])) (places_are (es ++ x ∷ []) (ps ++ n ∷ []) linked)
           ∙ pushed_slots es ps n x h.long index h.linked len (omega (arith, low, least))
           ∙ ap (λ (os : List (Option Expiration)). os ++ None ∷ []) (h.slots len low)
-          ∙ free_more (slots len c.args.entries.now.items c.args.positions.now.items) (length c.args.entries.now.items) n least;
+          ∙ free_more (slots len c.args.entries.now.items (places c.args.entries.now.items)) (length c.args.entries.now.items) n least;
       kept = λ p low. ap (λ (es : List Entry). entry_at es p) new_es ∙ get_or_append_left es (x ∷ []) nowhere p (let long = h.long in omega (arith, low, least, long)) ∙ h.kept p low;
       entries = omega (arith, more, was);
-      positions = omega (arith, more_ps, was_ps);
     }

@@ -1,48 +1,35 @@
-use Rattle.std.proofs.Common.{◌≡◌, ◌<◌, None, Some, sym, ap, ◌∙◌, subst, arith, length, option_map}
+use Rattle.std.proofs.Common.{◌≡◌, ◌≢◌, ℕ, ◌<◌, List, None, Some, sym, ap, ◌∙◌, subst, length, arith}
+use Rattle.std.specs.Option.{option_map}
 use Rattle.std.proofs.lemmas.List.{get_or_default}
+use Rattle.cyc_expirations.specs.Expirations.{Expiration}
 use Rattle.cyc_heap.specs.declared.entry.Entry.{Entry}
-use Rattle.cyc_heap.specs.Array.{nowhere, key, key_at, entry_at}
+use Rattle.cyc_heap.specs.Array.{nowhere, key, key_at, id_of, index_at, places}
 use Rattle.cyc_heap.specs.Heap.{HeapView, expiration_at, pair_of}
-use Rattle.cyc_heap.proofs.Views.{at_past, at_free, at_used}
+use Rattle.cyc_heap.proofs.Views.{walk_none, walk_free, walk_used}
 use Rattle.cyc_heap.proofs.heap.ExpiryHeap.at.Goals as goal
 
-pub returns-then-number-len : goal.returns-then-number-len
-returns-then-number-len c =
+pub returns-in_err-place : goal.returns-in_err-place
+returns-in_err-place c =
     let i = c.self.inside in
-    let ok = i.positions.ok in
-    let value = c.number-number.ensures.value in
-    let past = c.if-number-len.true in
-    let len = c.len.ensures in
-    ap (option_map pair_of) (sym (subst (λ (v : HeapView). expiration_at v c.args.index ≡ None) c.self.view_is
-    (at_past i.len i.entries.items i.positions.items i.room c.args.index (omega (arith, ok, value, past, len)))))
+    let none = subst (λ (es : List Entry). (p : ℕ) → p < length es → index_at es p ≢ c.args.index) c.deref.ensures.value c.in_err-place.ensures.none in
+    c.from_residual.ensures ∙ ap (option_map pair_of) (sym (subst (λ (v : HeapView). expiration_at v c.args.index ≡ None) c.self.view_is
+    (walk_none i.len i.entries.items (places i.entries.items) i.room c.args.index c.self.invariant.0 none)))
 
-pub returns-then-position-self : goal.returns-then-position-self
-returns-then-position-self c =
+pub returns-then-place-self : goal.returns-then-place-self
+returns-then-place-self c =
     let i = c.self.inside in
-    let ok = i.positions.ok in
-    let value = c.number-number.ensures.value in
-    let below = c.if-number-len.false in
-    let len = c.len.ensures in
-    let low : c.number-number.result < length i.positions.items = omega (arith, ok, below, len) in
-    let place = get_or_default i.positions.items c.number-number.result 0 c.index-position.result.now low ∙ sym c.index-position.ensures in
-    let free = c.if-position-self.true in
-    ap (option_map pair_of) (sym (subst (λ n. expiration_at c.args.self.now n ≡ None) value (subst (λ (v : HeapView). expiration_at v c.number-number.result ≡ None) c.self.view_is
-    (at_free i.len i.entries.items i.positions.items i.room c.number-number.result low (omega (arith, place, free))))))
+    let p = c.in_ok-place.place in
+    let (within, here) = subst (λ (es : List Entry). (p < length es) × (index_at es p ≡ c.args.index)) c.deref.ensures.value c.in_ok-place.ensures.some in
+    ap (option_map pair_of) (sym (subst (λ (v : HeapView). expiration_at v c.args.index ≡ None) c.self.view_is
+    (walk_free i.len i.entries.items (places i.entries.items) i.room c.args.index p c.self.invariant.0 within here c.if-place-self.true)))
 
 pub returns : goal.returns
 returns c =
     let i = c.self.inside in
-    let ok = i.positions.ok in
-    let ok-entries = i.entries.ok in
-    let within = c.self.invariant.0.within in
-    let value = c.number-number.ensures.value in
-    let below = c.if-number-len.false in
-    let len = c.len.ensures in
-    let low : c.number-number.result < length i.positions.items = omega (arith, ok, below, len) in
-    let place = get_or_default i.positions.items c.number-number.result 0 c.index-position.result.now low ∙ sym c.index-position.ensures in
-    let used = c.if-position-self.false in
-    let entry = c.index-entry.result.now in
-    let here : entry_at i.entries.items c.index-position.result.now ≡ entry
-    = get_or_default i.entries.items c.index-position.result.now nowhere entry (omega (arith, used, within)) ∙ sym c.index-entry.ensures in
-    let has = at_used i.len i.entries.items i.positions.items i.room c.number-number.result low (omega (arith, place, used)) ∙ ap (λ p. Some (key_at i.entries.items p)) place ∙ ap (λ (x : Entry). Some (key x)) here in
-    ap (option_map pair_of) (sym (subst (λ n. expiration_at c.args.self.now n ≡ Some (key entry)) value (subst (λ (v : HeapView). expiration_at v c.number-number.result ≡ Some (key entry)) c.self.view_is has)))
+    let p = c.in_ok-place.place in
+    let (within, here) = subst (λ (es : List Entry). (p < length es) × (index_at es p ≡ c.args.index)) c.deref.ensures.value c.in_ok-place.ensures.some in
+    let x = c.index-entry.result.now in
+    let is = get_or_default i.entries.items p nowhere x within ∙ sym c.index-entry.ensures in
+    let has = walk_used i.len i.entries.items (places i.entries.items) i.room c.args.index p c.self.invariant.0 within here c.if-place-self.false ∙ ap (λ (x : Entry). Some (key x)) is in
+    ap (λ n. Some (x.moment, n)) c.id.ensures
+    ∙ ap (option_map pair_of) (sym (subst (λ (v : HeapView). expiration_at v c.args.index ≡ Some (key x)) c.self.view_is has))

@@ -1,8 +1,9 @@
 use Rattle.std.proofs.Common.{◌≡◌, ◌<◌, ◌≤◌, ℕ, List, None, Some, sym, ap, ◌∙◌, subst, arith, length}
 use Rattle.std.proofs.Math.ListN.{set}
 use Rattle.std.proofs.lemmas.List.{get_or_default}
+use Rattle.cyc_expirations.specs.Expirations.{Expiration}
 use Rattle.cyc_heap.specs.declared.entry.Entry.{Entry}
-use Rattle.cyc_heap.specs.Array.{nowhere, index_at, IsLinkedBut, IsHeap}
+use Rattle.cyc_heap.specs.Array.{nowhere, key, index_at, IsHeap, places, index_of}
 use Rattle.cyc_heap.specs.Heap.{HeapView, size_of, len_of, expiration_at}
 use Rattle.cyc_heap.proofs.Slots.{length-slots}
 use Rattle.cyc_heap.proofs.Holes.{links_opened}
@@ -24,49 +25,38 @@ pub index-requires : goal.index-requires
 index-requires c =
     let i = c.self.inside in
     let ok = i.entries.ok in
-    let room = has_room i.len i.entries.items i.positions.items i.room c.args.self.now c.self.invariant.0 c.self.view_is c.requires in
+    let room = has_room i.len i.entries.items (places i.entries.items) i.room c.args.self.now c.self.invariant.0 c.self.view_is c.requires in
     omega (arith, ok, room)
 
 pub fill-requires-clause-len : goal.fill-requires-clause-len
 fill-requires-clause-len c =
     let i = c.self.inside in
-    let room = has_room i.len i.entries.items i.positions.items i.room c.args.self.now c.self.invariant.0 c.self.view_is c.requires in
+    let room = has_room i.len i.entries.items (places i.entries.items) i.room c.args.self.now c.self.invariant.0 c.self.view_is c.requires in
     omega (arith, room)
 
-pub fill-requires-clause-linked : goal.fill-requires-clause-linked
-fill-requires-clause-linked c =
+pub fill-requires-clause-index : goal.fill-requires-clause-index
+fill-requires-clause-index c =
     let i = c.self.inside in
-    let room = has_room i.len i.entries.items i.positions.items i.room c.args.self.now c.self.invariant.0 c.self.view_is c.requires in
+    let room = has_room i.len i.entries.items (places i.entries.items) i.room c.args.self.now c.self.invariant.0 c.self.view_is c.requires in
     let x = c.index.result.now in
-    let is : index_at i.entries.items i.len ≡ x.index = ap (λ (x : Entry). x.index) (get_or_default i.entries.items i.len nowhere x room ∙ sym c.index.ensures) in
-    subst (λ n. IsLinkedBut i.len n i.entries.items i.positions.items) is (links_opened i.entries.items i.positions.items i.len room c.self.invariant.0.linked)
-
-pub index_of-requires : goal.index_of-requires
-index_of-requires c =
-    let i = c.self.inside in
-    let h = c.self.invariant.0 in
-    let room = has_room i.len i.entries.items i.positions.items i.room c.args.self.now h c.self.view_is c.requires in
-    let x = c.index.result.now in
-    let is : index_at i.entries.items i.len ≡ x.index = ap (λ (x : Entry). x.index) (get_or_default i.entries.items i.len nowhere x room ∙ sym c.index.ensures) in
-    let low = (first_free i.len i.entries.items i.positions.items h x.index room is).0 in
-    let same = h.linked.same in
-    let few = h.few in
-    omega (arith, low, same, few)
+    let is : index_at i.entries.items i.len ≡ index_of x = ap index_of (get_or_default i.entries.items i.len nowhere x room ∙ sym c.index.ensures) in
+    c.new-entry.ensures.index ∙ c.index-index.ensures ∙ sym is
 
 pub invariant_of-self : goal.invariant_of-self
 invariant_of-self c =
     let i = c.self.inside in
     let h = c.self.invariant.0 in
-    let room = has_room i.len i.entries.items i.positions.items i.room c.args.self.now h c.self.view_is c.requires in
+    let room = has_room i.len i.entries.items (places i.entries.items) i.room c.args.self.now h c.self.view_is c.requires in
     let x = c.index.result.now in
-    let is : index_at i.entries.items i.len ≡ x.index = ap (λ (x : Entry). x.index) (get_or_default i.entries.items i.len nowhere x room ∙ sym c.index.ensures) in
+    let e = c.new-entry.result in
+    let same : index_of x ≡ index_of e = sym (c.new-entry.ensures.index ∙ c.index-index.ensures) in
+    let is : index_at i.entries.items i.len ≡ index_of e = ap index_of (get_or_default i.entries.items i.len nowhere x room ∙ sym c.index.ensures) ∙ same in
     let f = c.fill.ensures in
     let long = f.length in
-    let reserved = c.self.invariant.3 in (
-      heap_longer i.len i.entries.items i.positions.items h x.index (record { moment = c.args.moment; id = c.args.id }) c.fill.new.entries.items c.fill.new.positions.items room is f.linked f.order f.length
-          (f.slots ∙ longer_slots i.len i.entries.items i.positions.items h x.index (Some (record { moment = c.args.moment; id = c.args.id })) is),
+    let reserved = c.self.invariant.2 in (
+      heap_longer i.len i.entries.items (places i.entries.items) h (index_of e) (key e) c.fill.new.entries.items (places c.fill.new.entries.items) room is f.linked f.order f.length
+          (f.slots ∙ longer_slots i.len i.entries.items (places i.entries.items) h (index_of e) (Some (key e)) is),
       subst (λ n. i.room ≤ n) (sym f.entries) c.self.invariant.1,
-      subst (λ n. i.room ≤ n) (sym f.positions) c.self.invariant.2,
       omega (arith, long, reserved),
     )
 
@@ -74,11 +64,11 @@ pub returns-clause-below : goal.returns-clause-below
 returns-clause-below c =
     let i = c.self.inside in
     let h = c.self.invariant.0 in
-    let room = has_room i.len i.entries.items i.positions.items i.room c.args.self.now h c.self.view_is c.requires in
+    let room = has_room i.len i.entries.items (places i.entries.items) i.room c.args.self.now h c.self.view_is c.requires in
     let x = c.index.result.now in
-    let is : index_at i.entries.items i.len ≡ x.index = ap (λ (x : Entry). x.index) (get_or_default i.entries.items i.len nowhere x room ∙ sym c.index.ensures) in
-    let low = (first_free i.len i.entries.items i.positions.items h x.index room is).0 in
-    let l = length-slots i.len i.entries.items i.positions.items in
+    let is : index_at i.entries.items i.len ≡ index_of x = ap index_of (get_or_default i.entries.items i.len nowhere x room ∙ sym c.index.ensures) in
+    let low = (first_free i.len i.entries.items (places i.entries.items) h (index_of x) room is).0 in
+    let l = length-slots i.len i.entries.items (places i.entries.items) in
     let m = ap size_of c.self.view_is in
     omega (arith, low, l, m)
 
@@ -86,19 +76,24 @@ pub returns-clause-free : goal.returns-clause-free
 returns-clause-free c =
     let i = c.self.inside in
     let h = c.self.invariant.0 in
-    let room = has_room i.len i.entries.items i.positions.items i.room c.args.self.now h c.self.view_is c.requires in
+    let room = has_room i.len i.entries.items (places i.entries.items) i.room c.args.self.now h c.self.view_is c.requires in
     let x = c.index.result.now in
-    let is : index_at i.entries.items i.len ≡ x.index = ap (λ (x : Entry). x.index) (get_or_default i.entries.items i.len nowhere x room ∙ sym c.index.ensures) in
-    subst (λ n. expiration_at c.args.self.now n ≡ None) (sym c.index_of.ensures)
-    (subst (λ (v : HeapView). expiration_at v x.index ≡ None) c.self.view_is (first_free i.len i.entries.items i.positions.items h x.index room is).1)
+    let is : index_at i.entries.items i.len ≡ index_of x = ap index_of (get_or_default i.entries.items i.len nowhere x room ∙ sym c.index.ensures) in
+    subst (λ n. expiration_at c.args.self.now n ≡ None) (sym c.index-index.ensures)
+    (subst (λ (v : HeapView). expiration_at v (index_of x) ≡ None) c.self.view_is (first_free i.len i.entries.items (places i.entries.items) h (index_of x) room is).1)
 
 pub returns-clause-slots : goal.returns-clause-slots
 returns-clause-slots c =
     let i = c.self.inside in
     let h = c.self.invariant.0 in
-    let room = has_room i.len i.entries.items i.positions.items i.room c.args.self.now h c.self.view_is c.requires in
+    let room = has_room i.len i.entries.items (places i.entries.items) i.room c.args.self.now h c.self.view_is c.requires in
     let x = c.index.result.now in
-    let is : index_at i.entries.items i.len ≡ x.index = ap (λ (x : Entry). x.index) (get_or_default i.entries.items i.len nowhere x room ∙ sym c.index.ensures) in
-    c.fill.ensures.slots ∙ longer_slots i.len i.entries.items i.positions.items h x.index (Some (record { moment = c.args.moment; id = c.args.id })) is
-    ∙ ap (λ (v : HeapView). set v.slots x.index (Some (record { moment = c.args.moment; id = c.args.id }))) c.self.view_is
-    ∙ ap (λ n. set c.args.self.now.slots n (Some (record { moment = c.args.moment; id = c.args.id }))) (sym c.index_of.ensures)
+    let e = c.new-entry.result in
+    let same : index_of x ≡ index_of e = sym (c.new-entry.ensures.index ∙ c.index-index.ensures) in
+    let is : index_at i.entries.items i.len ≡ index_of e = ap index_of (get_or_default i.entries.items i.len nowhere x room ∙ sym c.index.ensures) ∙ same in
+    let put : Expiration = record { moment = c.args.moment; id = c.args.id } in
+    let key_is : key e ≡ put = λ z. record { moment = c.new-entry.ensures.moment z; id = c.new-entry.ensures.id z } in
+    c.fill.ensures.slots ∙ longer_slots i.len i.entries.items (places i.entries.items) h (index_of e) (Some (key e)) is
+    ∙ ap (λ (v : HeapView). set v.slots (index_of e) (Some (key e))) c.self.view_is
+    ∙ ap (λ n. set c.args.self.now.slots n (Some (key e))) c.new-entry.ensures.index
+    ∙ ap (λ (k : Expiration). set c.args.self.now.slots c.index-index.result (Some k)) key_is
