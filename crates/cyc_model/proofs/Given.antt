@@ -28,7 +28,7 @@ use Rattle.cyc_model.specs.Juggle.{Turn, IsBound, IsPending, IsRefused, Moves, t
 use Rattle.cyc_model.specs.Offline.{retire, retire_all, go_offline, last_part, leaving, ids_on, any_pending}
 use Rattle.cyc_model.specs.Online.{return_at, return_of, return_all, go_online, staying, again, is_on_all}
 use Rattle.cyc_model.specs.Script.{refusal_of, does, word, steps_from, text_in, start}
-use Rattle.cyc_model.specs.Laws.{AtMost, AllAtMost, RiseTo, AreGiven}
+use Rattle.cyc_model.specs.Laws.{AtMost, AllAtMost, RiseTo, AreGiven, IdsAreGivenOnce}
 
 -- ---- the cyclics of one CPU
 
@@ -205,222 +205,242 @@ rise_first low high p (q ∷ ps) h = let a = h.1.0 in let b = rise_first p.id hi
 
 -- ---- the words
 
-abbrev Keeps : (State → Outcome) → Type 0
-Keeps f = (s : State) → AreGiven s → AreGiven (f s).state
+module _ (least : ℕ) where
+  abbrev Keeps : (State → Outcome) → Type 0
+  Keeps f = (s : State) → AreGiven least s → AreGiven least (f s).state
 
-keeps_each : {A : Type 0} → (f : A → State → Outcome) → ((x : A) → Keeps (f x)) → (xs : List A) → Keeps (each f xs)
-keeps_each f one [] s h = h
-keeps_each f one (x ∷ xs) s h = keeps_each f one xs (f x s).state (one x s h)
+  keeps_each : {A : Type 0} → (f : A → State → Outcome) → ((x : A) → Keeps (f x)) → (xs : List A) → Keeps (each f xs)
+  keeps_each f one [] s h = h
+  keeps_each f one (x ∷ xs) s h = keeps_each f one xs (f x s).state (one x s h)
 
-keeps_on : (n : ℕ) (f : Cpu → Here) → ((k : ℕ) → Brings k f) → Keeps (on n f)
-keeps_on n f brings s h = record {
-  rise = h.rise;
-  cyclics = set_most s.last_id s.cpus (f (cpu_of n s)).cpu h.cyclics
-      (brings s.last_id (cpu_of n s) (at_most s.last_id s.cpus h.cyclics n)) n;
-}
+  keeps_on : (n : ℕ) (f : Cpu → Here) → ((k : ℕ) → Brings k f) → Keeps (on n f)
+  keeps_on n f brings s h = record {
+    many = h.many;
+    rise = h.rise;
+    cyclics = set_most s.last_id s.cpus (f (cpu_of n s)).cpu h.cyclics
+        (brings s.last_id (cpu_of n s) (at_most s.last_id s.cpus h.cyclics n)) n;
+  }
 
-keeps_enter : (indexes : ℕ → ℕ) (n : ℕ) (x : Cyclic) (s : State) → x.timer.id ≤ s.last_id → AreGiven s
-    → AreGiven (enter indexes n x s).state
-keeps_enter indexes n x s one h = record {
-  rise = h.rise;
-  cyclics = set_most s.last_id s.cpus (enter_here n (indexes s.admissions) x (cpu_of n s)).cpu h.cyclics
-      (enter_most s.last_id n (indexes s.admissions) x one (cpu_of n s) (at_most s.last_id s.cpus h.cyclics n)) n;
-}
+  keeps_enter : (indexes : ℕ → ℕ) (n : ℕ) (x : Cyclic) (s : State) → x.timer.id ≤ s.last_id → AreGiven least s
+      → AreGiven least (enter indexes n x s).state
+  keeps_enter indexes n x s one h = record {
+    many = h.many;
+    rise = h.rise;
+    cyclics = set_most s.last_id s.cpus (enter_here n (indexes s.admissions) x (cpu_of n s)).cpu h.cyclics
+        (enter_most s.last_id n (indexes s.admissions) x one (cpu_of n s) (at_most s.last_id s.cpus h.cyclics n)) n;
+  }
 
-keeps_given : (name : ℕ) (place : Place) (s : State) → AreGiven s → AreGiven (given name place s)
-keeps_given name place s h = record {
-  rise = rise_append 0 s.last_id place s.placed h.rise;
-  cyclics = all_more s.last_id (s.last_id + 1) (omega arith) s.cpus h.cyclics;
-}
+  keeps_given : (name : ℕ) (place : Place) (s : State) → AreGiven least s → AreGiven least (given name place s)
+  keeps_given name place s h = record {
+    many = let a = h.many in omega (arith, a);
+    rise = rise_append 0 s.last_id place s.placed h.rise;
+    cyclics = all_more s.last_id (s.last_id + 1) (omega arith) s.cpus h.cyclics;
+  }
 
-keeps_put : (id : ℕ) (place : Place) (s : State) → AreGiven s → AreGiven (put_at id place s)
-keeps_put id place s h = record { rise = rise_map 0 s.last_id id place s.placed h.rise; cyclics = h.cyclics }
+  keeps_put : (id : ℕ) (place : Place) (s : State) → AreGiven least s → AreGiven least (put_at id place s)
+  keeps_put id place s h = record { many = h.many; rise = rise_map 0 s.last_id id place s.placed h.rise; cyclics = h.cyclics }
 
-keeps_forgotten : (id : ℕ) (s : State) → AreGiven s → AreGiven (forgotten id s)
-keeps_forgotten id s h = record { rise = rise_filter (λ p. not (p.id == id)) 0 s.last_id s.placed h.rise; cyclics = h.cyclics }
+  keeps_forgotten : (id : ℕ) (s : State) → AreGiven least s → AreGiven least (forgotten id s)
+  keeps_forgotten id s h = record {
+    many = h.many;
+    rise = rise_filter
+        (λ p. not (p.id == id)) 0 s.last_id s.placed h.rise;
+    cyclics = h.cyclics;
+  }
 
-keeps_counts : (n : ℕ) (x : Option Cyclic) (s : State) → AreGiven s → AreGiven (keep_counts n x s)
-keeps_counts n None s h = h
-keeps_counts n (Some x) s h = record { rise = h.rise; cyclics = h.cyclics }
+  keeps_counts : (n : ℕ) (x : Option Cyclic) (s : State) → AreGiven least s → AreGiven least (keep_counts n x s)
+  keeps_counts n None s h = h
+  keeps_counts n (Some x) s h = record { many = h.many; rise = h.rise; cyclics = h.cyclics }
 
-keeps_components : (indexes : ℕ → ℕ) (id : ℕ) (e : Everywhere) (ns : List ℕ) (s : State) → id ≤ s.last_id → AreGiven s
-    → AreGiven (each (λ n t. enter indexes n (component id n e t.clock) t) ns s).state
-keeps_components indexes id e [] s one h = h
-keeps_components indexes id e (n ∷ ns) s one h =
-    keeps_components indexes id e ns (enter indexes n (component id n e s.clock) s).state one
-    (keeps_enter indexes n (component id n e s.clock) s one h)
+  keeps_components : (indexes : ℕ → ℕ) (id : ℕ) (e : Everywhere) (ns : List ℕ) (s : State) → id ≤ s.last_id → AreGiven least s
+      → AreGiven least (each (λ n t. enter indexes n (component id n e t.clock) t) ns s).state
+  keeps_components indexes id e [] s one h = h
+  keeps_components indexes id e (n ∷ ns) s one h =
+      keeps_components indexes id e ns (enter indexes n (component id n e s.clock) s).state one
+      (keeps_enter indexes n (component id n e s.clock) s one h)
 
-keeps_bring : (indexes : ℕ → ℕ) (n : ℕ) (x : Option Cyclic) (s : State) → OneAtMost s.last_id x → AreGiven s
-    → AreGiven (bring indexes n x s).state
-keeps_bring indexes n None s one h = h
-keeps_bring indexes n (Some x) s one h = keeps_enter indexes n x s one h
+  keeps_bring : (indexes : ℕ → ℕ) (n : ℕ) (x : Option Cyclic) (s : State) → OneAtMost s.last_id x → AreGiven least s
+      → AreGiven least (bring indexes n x s).state
+  keeps_bring indexes n None s one h = h
+  keeps_bring indexes n (Some x) s one h = keeps_enter indexes n x s one h
 
-keeps_move : (indexes : ℕ → ℕ) (id source target : ℕ) → Keeps (move indexes id source target)
-keeps_move indexes id source target s h =
-    let t = (on source (take_here source id) s).state in
-    keeps_bring indexes target (cyclic_of id (cpu_of source s)) (put_at id (On target (is_bound id t)) t)
-    (most_find s.last_id id (cpu_of source s).cyclics (at_most s.last_id s.cpus h.cyclics source))
-    (keeps_put id (On target (is_bound id t)) t (keeps_on source (take_here source id) (λ k. take_most k source id) s h))
+  keeps_move : (indexes : ℕ → ℕ) (id source target : ℕ) → Keeps (move indexes id source target)
+  keeps_move indexes id source target s h =
+      let t = (on source (take_here source id) s).state in
+      keeps_bring indexes target (cyclic_of id (cpu_of source s)) (put_at id (On target (is_bound id t)) t)
+      (most_find s.last_id id (cpu_of source s).cyclics (at_most s.last_id s.cpus h.cyclics source))
+      (keeps_put id (On target (is_bound id t)) t (keeps_on source (take_here source id) (λ k. take_most k source id) s h))
 
-keeps_unless_there : (there : Bool) (indexes : ℕ → ℕ) (id n : ℕ) → Keeps (move_unless_there there indexes id n)
-keeps_unless_there true indexes id n s h = h
-keeps_unless_there false indexes id n s h = keeps_move indexes id (home_of id s) n s h
+  keeps_unless_there : (there : Bool) (indexes : ℕ → ℕ) (id n : ℕ) → Keeps (move_unless_there there indexes id n)
+  keeps_unless_there true indexes id n s h = h
+  keeps_unless_there false indexes id n s h = keeps_move indexes id (home_of id s) n s h
 
-keeps_bind : (indexes : ℕ → ℕ) (id n : ℕ) → Keeps (bind_id indexes id n)
-keeps_bind indexes id n s h =
-    keeps_put id (On n true) (move_unless_there (home_of id s == n) indexes id n s).state
-    (keeps_unless_there (home_of id s == n) indexes id n s h)
+  keeps_bind : (indexes : ℕ → ℕ) (id n : ℕ) → Keeps (bind_id indexes id n)
+  keeps_bind indexes id n s h =
+      keeps_put id (On n true) (move_unless_there (home_of id s == n) indexes id n s).state
+      (keeps_unless_there (home_of id s == n) indexes id n s h)
 
-keeps_clear : (id n : ℕ) → Keeps (clear id n)
-keeps_clear id n s h =
-    keeps_on n (clear_here n id) (λ k. clear_most k n id) (keep_counts n (cyclic_of id (cpu_of n s)) s)
-    (keeps_counts n (cyclic_of id (cpu_of n s)) s h)
+  keeps_clear : (id n : ℕ) → Keeps (clear id n)
+  keeps_clear id n s h =
+      keeps_on n (clear_here n id) (λ k. clear_most k n id) (keep_counts n (cyclic_of id (cpu_of n s)) s)
+      (keeps_counts n (cyclic_of id (cpu_of n s)) s h)
 
-keeps_clear_if : (b : Bool) (id n : ℕ) → Keeps (clear_if b id n)
-keeps_clear_if true id n s h = keeps_clear id n s h
-keeps_clear_if false id n s h = h
+  keeps_clear_if : (b : Bool) (id n : ℕ) → Keeps (clear_if b id n)
+  keeps_clear_if true id n s h = keeps_clear id n s h
+  keeps_clear_if false id n s h = h
 
-keeps_poll : (q : Questions) (id n : ℕ) → Keeps (poll q id n)
-keeps_poll q id n s h = keeps_clear_if (q.outstanding n id (cpu_of n s) == 0) id n s h
+  keeps_poll : (q : Questions) (id n : ℕ) → Keeps (poll q id n)
+  keeps_poll q id n s h = keeps_clear_if (q.outstanding n id (cpu_of n s) == 0) id n s h
 
-keeps_begin : (q : Questions) (id n : ℕ) → Keeps (begin q id n)
-keeps_begin q id n s h = keeps_poll q id n (on n (mark_here n id) s).state
-    (keeps_on n (mark_here n id) (λ k. mark_most k n id) s h)
+  keeps_begin : (q : Questions) (id n : ℕ) → Keeps (begin q id n)
+  keeps_begin q id n s h = keeps_poll q id n (on n (mark_here n id) s).state
+      (keeps_on n (mark_here n id) (λ k. mark_most k n id) s h)
 
-keeps_begun : (q : Questions) (step : ℕ) (text : List ℕ) (id : ℕ) (ns : List ℕ) (o : Outcome) → AreGiven o.state
-    → AreGiven (begun q step text id ns o).state
-keeps_begun q step text id [] o h = keeps_forgotten id o.state h
-keeps_begun q step text id (n ∷ ns) o h = h
+  keeps_begun : (q : Questions) (step : ℕ) (text : List ℕ) (id : ℕ) (ns : List ℕ) (o : Outcome) → AreGiven least o.state
+      → AreGiven least (begun q step text id ns o).state
+  keeps_begun q step text id [] o h = keeps_forgotten id o.state h
+  keeps_begun q step text id (n ∷ ns) o h = h
 
-keeps_remove : (q : Questions) (step : ℕ) (text : List ℕ) (id : ℕ) → Keeps (remove_id q step text id)
-keeps_remove q step text id s h =
-    let o = each (begin q id) (cpus_with id s) s in
-    keeps_begun q step text id (cpus_with id o.state) o (keeps_each (begin q id) (keeps_begin q id) (cpus_with id s) s h)
+  keeps_remove : (q : Questions) (step : ℕ) (text : List ℕ) (id : ℕ) → Keeps (remove_id q step text id)
+  keeps_remove q step text id s h =
+      let o = each (begin q id) (cpus_with id s) s in
+      keeps_begun q step text id (cpus_with id o.state) o (keeps_each (begin q id) (keeps_begin q id) (cpus_with id s) s h)
 
-keeps_polled : (step : ℕ) (text : List ℕ) (id : ℕ) (ns : List ℕ) (o : Outcome) → AreGiven o.state
-    → AreGiven (polled step text id ns o).state
-keeps_polled step text id [] o h = keeps_forgotten id o.state h
-keeps_polled step text id (n ∷ ns) o h = h
+  keeps_polled : (step : ℕ) (text : List ℕ) (id : ℕ) (ns : List ℕ) (o : Outcome) → AreGiven least o.state
+      → AreGiven least (polled step text id ns o).state
+  keeps_polled step text id [] o h = keeps_forgotten id o.state h
+  keeps_polled step text id (n ∷ ns) o h = h
 
-keeps_poll_id : (q : Questions) (texts : List (List ℕ)) (step id : ℕ) → Keeps (poll_id q texts step id)
-keeps_poll_id q texts step id s h =
-    let o = each (poll q id) (numbers (is_open id) s) s in
-    keeps_polled step (text_of_id id texts s.names) id (cpus_with id o.state) o
-    (keeps_each (poll q id) (keeps_poll q id) (numbers (is_open id) s) s h)
+  keeps_poll_id : (q : Questions) (texts : List (List ℕ)) (step id : ℕ) → Keeps (poll_id q texts step id)
+  keeps_poll_id q texts step id s h =
+      let o = each (poll q id) (numbers (is_open id) s) s in
+      keeps_polled step (text_of_id id texts s.names) id (cpus_with id o.state) o
+      (keeps_each (poll q id) (keeps_poll q id) (numbers (is_open id) s) s h)
 
-keeps_turn : (indexes : ℕ → ℕ) (source id : ℕ) (t : Turn) → Keeps (take_turn indexes source id t)
-keeps_turn indexes source id IsBound s h = h
-keeps_turn indexes source id IsPending s h = h
-keeps_turn indexes source id IsRefused s h = h
-keeps_turn indexes source id (Moves target) s h = keeps_move indexes id source target s h
+  keeps_turn : (indexes : ℕ → ℕ) (source id : ℕ) (t : Turn) → Keeps (take_turn indexes source id t)
+  keeps_turn indexes source id IsBound s h = h
+  keeps_turn indexes source id IsPending s h = h
+  keeps_turn indexes source id IsRefused s h = h
+  keeps_turn indexes source id (Moves target) s h = keeps_move indexes id source target s h
 
-keeps_turns : (q : Questions) (indexes : ℕ → ℕ) (source : ℕ) (ids : List ℕ) (s : State) → AreGiven s
-    → AreGiven (juggle_each q indexes source ids s).outcome.state
-keeps_turns q indexes source [] s h = h
-keeps_turns q indexes source (id ∷ ids) s h =
-    keeps_turns q indexes source ids (take_turn indexes source id (turn q source id s) s).state
-    (keeps_turn indexes source id (turn q source id s) s h)
+  keeps_turns : (q : Questions) (indexes : ℕ → ℕ) (source : ℕ) (ids : List ℕ) (s : State) → AreGiven least s
+      → AreGiven least (juggle_each q indexes source ids s).outcome.state
+  keeps_turns q indexes source [] s h = h
+  keeps_turns q indexes source (id ∷ ids) s h =
+      keeps_turns q indexes source ids (take_turn indexes source id (turn q source id s) s).state
+      (keeps_turn indexes source id (turn q source id s) s h)
 
-keeps_retire : (n id : ℕ) → Keeps (retire n id)
-keeps_retire n id s h =
-    keeps_on n (take_here n id) (λ k. take_most k n id) (keep_counts n (cyclic_of id (cpu_of n s)) s)
-    (keeps_counts n (cyclic_of id (cpu_of n s)) s h)
+  keeps_retire : (n id : ℕ) → Keeps (retire n id)
+  keeps_retire n id s h =
+      keeps_on n (take_here n id) (λ k. take_most k n id) (keep_counts n (cyclic_of id (cpu_of n s)) s)
+      (keeps_counts n (cyclic_of id (cpu_of n s)) s h)
 
-keeps_retire_all : (n : ℕ) → Keeps (retire_all n)
-keeps_retire_all n s h =
-    keeps_on n (λ c. nothing_here (go_offline c)) (λ k c i. i) (each (retire n) (ids_on n s) s).state
-    (keeps_each (retire n) (keeps_retire n) (ids_on n s) s h)
+  keeps_retire_all : (n : ℕ) → Keeps (retire_all n)
+  keeps_retire_all n s h =
+      keeps_on n (λ c. nothing_here (go_offline c)) (λ k c i. i) (each (retire n) (ids_on n s) s).state
+      (keeps_each (retire n) (keeps_retire n) (ids_on n s) s h)
 
-keeps_last : (b : Bool) (step n : ℕ) (o : Outcome) → AreGiven o.state → AreGiven (last_part b step n o).state
-keeps_last true step n o h = h
-keeps_last false step n o h = keeps_retire_all n o.state h
+  keeps_last : (b : Bool) (step n : ℕ) (o : Outcome) → AreGiven least o.state → AreGiven least (last_part b step n o).state
+  keeps_last true step n o h = h
+  keeps_last false step n o h = keeps_retire_all n o.state h
 
-keeps_leaving : (q : Questions) (step n : ℕ) (ids : List ℕ) (j : Juggled) → AreGiven j.outcome.state
-    → AreGiven (leaving q step n ids j).state
-keeps_leaving q step n (id ∷ ids) j h = h
-keeps_leaving q step n [] j h = keeps_last (any_pending q n (ids_on n j.outcome.state) j.outcome.state) step n j.outcome h
+  keeps_leaving : (q : Questions) (step n : ℕ) (ids : List ℕ) (j : Juggled) → AreGiven least j.outcome.state
+      → AreGiven least (leaving q step n ids j).state
+  keeps_leaving q step n (id ∷ ids) j h = h
+  keeps_leaving q step n [] j h = keeps_last (any_pending q n (ids_on n j.outcome.state) j.outcome.state) step n j.outcome h
 
-keeps_return : (indexes : ℕ → ℕ) (n id : ℕ) (p : Place) (s : State) → id ≤ s.last_id → AreGiven s
-    → AreGiven (return_at indexes n id p s).state
-keeps_return indexes n id (On m bound) s one h = h
-keeps_return indexes n id (OnAll e) s one h = record {
-  rise = h.rise;
-  cyclics = set_most s.last_id s.cpus
-      (place_here n (indexes s.admissions) (again id n e (s.ended id n) s.clock) (cpu_of n s)).cpu h.cyclics
-      (place_most s.last_id n (indexes s.admissions) (again id n e (s.ended id n) s.clock) one (cpu_of n s)
-      (at_most s.last_id s.cpus h.cyclics n)) n;
-}
+  keeps_return : (indexes : ℕ → ℕ) (n id : ℕ) (p : Place) (s : State) → id ≤ s.last_id → AreGiven least s
+      → AreGiven least (return_at indexes n id p s).state
+  keeps_return indexes n id (On m bound) s one h = h
+  keeps_return indexes n id (OnAll e) s one h = record {
+    many = h.many;
+    rise = h.rise;
+    cyclics = set_most s.last_id s.cpus
+        (place_here n (indexes s.admissions) (again id n e (s.ended id n) s.clock) (cpu_of n s)).cpu h.cyclics
+        (place_most s.last_id n (indexes s.admissions) (again id n e (s.ended id n) s.clock) one (cpu_of n s)
+        (at_most s.last_id s.cpus h.cyclics n)) n;
+  }
 
-same_last : (indexes : ℕ → ℕ) (n id : ℕ) (p : Place) (s : State) → (return_at indexes n id p s).state.last_id ≡ s.last_id
-same_last indexes n id (On m bound) s = refl
-same_last indexes n id (OnAll e) s = refl
+  same_last : (indexes : ℕ → ℕ) (n id : ℕ) (p : Place) (s : State) → (return_at indexes n id p s).state.last_id ≡ s.last_id
+  same_last indexes n id (On m bound) s = refl
+  same_last indexes n id (OnAll e) s = refl
 
-keeps_returns : (indexes : ℕ → ℕ) (n low high : ℕ) (ps : List Placed) (s : State) → RiseTo low ps high → high ≤ s.last_id
-    → AreGiven s
-    → AreGiven (each (return_of indexes n) ps s).state
-keeps_returns indexes n low high [] s rise le h = h
-keeps_returns indexes n low high (p ∷ ps) s rise le h =
-    let first = rise_first low high p ps rise in
-    keeps_returns indexes n p.id high ps (return_of indexes n p s).state rise.1
-    (subst (λ k. high ≤ k) (sym (same_last indexes n p.id p.place s)) le)
-    (keeps_return indexes n p.id p.place s (omega (arith, first, le)) h)
+  keeps_returns : (indexes : ℕ → ℕ) (n low high : ℕ) (ps : List Placed) (s : State) → RiseTo low ps high → high ≤ s.last_id
+      → AreGiven least s
+      → AreGiven least (each (return_of indexes n) ps s).state
+  keeps_returns indexes n low high [] s rise le h = h
+  keeps_returns indexes n low high (p ∷ ps) s rise le h =
+      let first = rise_first low high p ps rise in
+      keeps_returns indexes n p.id high ps (return_of indexes n p s).state rise.1
+      (subst (λ k. high ≤ k) (sym (same_last indexes n p.id p.place s)) le)
+      (keeps_return indexes n p.id p.place s (omega (arith, first, le)) h)
 
-staying_rise : (s : State) → AreGiven s → RiseTo 0 (staying s) s.last_id
-staying_rise s h =
-    rise_filter (λ p. is_on_all p.place) 0 s.last_id (filter (λ p. not (is_leaving p.id s)) s.placed)
-    (rise_filter (λ p. not (is_leaving p.id s)) 0 s.last_id s.placed h.rise)
+  staying_rise : (s : State) → AreGiven least s → RiseTo 0 (staying s) s.last_id
+  staying_rise s h =
+      rise_filter (λ p. is_on_all p.place) 0 s.last_id (filter (λ p. not (is_leaving p.id s)) s.placed)
+      (rise_filter (λ p. not (is_leaving p.id s)) 0 s.last_id s.placed h.rise)
 
-keeps_online : (indexes : ℕ → ℕ) (n : ℕ) (ps : List Placed) (s : State) → RiseTo 0 ps s.last_id → AreGiven s
-    → AreGiven (return_all indexes n ps s).state
-keeps_online indexes n ps s rise h =
-    let t = (on n (widen_here n (length ps)) s).state in
-    keeps_on n (λ c. nothing_here (go_online c)) (λ k c i. i) (each (return_of indexes n) ps t).state
-    (keeps_returns indexes n 0 s.last_id ps t rise (omega arith)
-    (keeps_on n (widen_here n (length ps)) (λ k. widen_most k n (length ps)) s h))
+  keeps_online : (indexes : ℕ → ℕ) (n : ℕ) (ps : List Placed) (s : State) → RiseTo 0 ps s.last_id → AreGiven least s
+      → AreGiven least (return_all indexes n ps s).state
+  keeps_online indexes n ps s rise h =
+      let t = (on n (widen_here n (length ps)) s).state in
+      keeps_on n (λ c. nothing_here (go_online c)) (λ k c i. i) (each (return_of indexes n) ps t).state
+      (keeps_returns indexes n 0 s.last_id ps t rise (omega arith)
+      (keeps_on n (widen_here n (length ps)) (λ k. widen_most k n (length ps)) s h))
 
-keeps_does : (q : Questions) (texts : List (List ℕ)) (indexes : ℕ → ℕ) (step : ℕ) (x : Step) → Keeps (does q texts indexes step x)
-keeps_does q texts indexes step (Add a) s h =
-    keeps_enter indexes (destination None s) (added a s) (given a.name (On (destination None s) false) s) (omega arith)
-    (keeps_given a.name (On (destination None s) false) s h)
-keeps_does q texts indexes step (Omni a) s h =
-    keeps_components indexes (s.last_id + 1) (everywhere a) (online_cpus s) (given a.name (OnAll (everywhere a)) s) (omega arith)
-    (keeps_given a.name (OnAll (everywhere a)) s h)
-keeps_does q texts indexes step (Bind b) s h = keeps_bind indexes (id_of b.name s) b.cpu s h
-keeps_does q texts indexes step (Unbind name) s h = keeps_put (id_of name s) (On (home_of (id_of name s) s) false) s h
-keeps_does q texts indexes step (Reprogram r) s h =
-    keeps_on (cpu_meant r.cpu (id_of r.name s) s) (reprogram_here (id_of r.name s) (magnitude r.moment))
-    (λ k. reprogram_most k (id_of r.name s) (magnitude r.moment)) s h
-keeps_does q texts indexes step (Remove name) s h = keeps_remove q step (text_in texts name) (id_of name s) s h
-keeps_does q texts indexes step (Advance now) s h =
-    keeps_each (λ n. on n (fire_here n now)) (λ n. keeps_on n (fire_here n now) (λ k. fire_most k n now)) (online_cpus s)
-    (record s { clock = now })
-    (record { rise = h.rise; cyclics = h.cyclics })
-keeps_does q texts indexes step (Softint i) s h =
-    let t = (interrupt step i s).state in
-    keeps_each (poll_id q texts step) (keeps_poll_id q texts step) (leaving_ids t) t
-    (keeps_on i.cpu (serve_here i.cpu i.level i.budget) (λ k. serve_most k i.cpu i.level i.budget) s h)
-keeps_does q texts indexes step (Juggle n) s h = keeps_turns q indexes n (single_ids n s) s h
-keeps_does q texts indexes step (Offline n) s h =
-    let j = juggled q indexes n s in
-    keeps_leaving q step n (single_ids n j.outcome.state) j (keeps_turns q indexes n (single_ids n s) s h)
-keeps_does q texts indexes step (Online n) s h = keeps_online indexes n (staying s) s (staying_rise s h) h
+  keeps_does : (q : Questions) (texts : List (List ℕ)) (indexes : ℕ → ℕ) (step : ℕ) (x : Step)
+      → Keeps (does q texts indexes step x)
+  keeps_does q texts indexes step (Add a) s h =
+      keeps_enter indexes (destination None s) (added a s) (given a.name (On (destination None s) false) s) (omega arith)
+      (keeps_given a.name (On (destination None s) false) s h)
+  keeps_does q texts indexes step (Omni a) s h =
+      keeps_components indexes (s.last_id + 1) (everywhere a) (online_cpus s) (given a.name (OnAll (everywhere a)) s)
+      (omega arith)
+      (keeps_given a.name (OnAll (everywhere a)) s h)
+  keeps_does q texts indexes step (Bind b) s h = keeps_bind indexes (id_of b.name s) b.cpu s h
+  keeps_does q texts indexes step (Unbind name) s h = keeps_put (id_of name s) (On (home_of (id_of name s) s) false) s h
+  keeps_does q texts indexes step (Reprogram r) s h =
+      keeps_on (cpu_meant r.cpu (id_of r.name s) s) (reprogram_here (id_of r.name s) (magnitude r.moment))
+      (λ k. reprogram_most k (id_of r.name s) (magnitude r.moment)) s h
+  keeps_does q texts indexes step (Remove name) s h = keeps_remove q step (text_in texts name) (id_of name s) s h
+  keeps_does q texts indexes step (Advance now) s h =
+      keeps_each (λ n. on n (fire_here n now)) (λ n. keeps_on n (fire_here n now) (λ k. fire_most k n now)) (online_cpus s)
+      (record s { clock = now })
+      (record { many = h.many; rise = h.rise; cyclics = h.cyclics })
+  keeps_does q texts indexes step (Softint i) s h =
+      let t = (interrupt step i s).state in
+      keeps_each (poll_id q texts step) (keeps_poll_id q texts step) (leaving_ids t) t
+      (keeps_on i.cpu (serve_here i.cpu i.level i.budget) (λ k. serve_most k i.cpu i.level i.budget) s h)
+  keeps_does q texts indexes step (Juggle n) s h = keeps_turns q indexes n (single_ids n s) s h
+  keeps_does q texts indexes step (Offline n) s h =
+      let j = juggled q indexes n s in
+      keeps_leaving q step n (single_ids n j.outcome.state) j (keeps_turns q indexes n (single_ids n s) s h)
+  keeps_does q texts indexes step (Online n) s h = keeps_online indexes n (staying s) s (staying_rise s h) h
 
-keeps_unless : (why : Option Refusal) (step : ℕ) (f : State → Outcome) → Keeps f → Keeps (unless why step f)
-keeps_unless (Some why) step f done s h = h
-keeps_unless None step f done s h = done s h
+  keeps_unless : (why : Option Refusal) (step : ℕ) (f : State → Outcome) → Keeps f → Keeps (unless why step f)
+  keeps_unless (Some why) step f done s h = h
+  keeps_unless None step f done s h = done s h
 
-keeps_steps : (q : Questions) (texts : List (List ℕ)) (indexes : ℕ → ℕ) (step : ℕ) (xs : List Step)
-    → Keeps (steps_from q texts indexes step xs)
-keeps_steps q texts indexes step [] s h = h
-keeps_steps q texts indexes step (x ∷ xs) s h =
-    keeps_steps q texts indexes (step + 1) xs (word q texts indexes step x s).state
-    (keeps_unless (refusal_of q x s) step (does q texts indexes step x) (keeps_does q texts indexes step x) s h)
+  keeps_steps : (q : Questions) (texts : List (List ℕ)) (indexes : ℕ → ℕ) (step : ℕ) (xs : List Step)
+      → Keeps (steps_from q texts indexes step xs)
+  keeps_steps q texts indexes step [] s h = h
+  keeps_steps q texts indexes step (x ∷ xs) s h =
+      keeps_steps q texts indexes (step + 1) xs (word q texts indexes step x s).state
+      (keeps_unless (refusal_of q x s) step (does q texts indexes step x) (keeps_does q texts indexes step x) s h)
 
 start_most : (n ceiling : ℕ) → AllAtMost 0 (replicate n (new_cpu ceiling))
 start_most zero ceiling = tt
 start_most (suc n) ceiling = (tt, start_most n ceiling)
 
-pub given_from_start : (q : Questions) (texts : List (List ℕ)) (indexes : ℕ → ℕ) (cpus ceiling names : ℕ) (xs : List Step)
-    → AreGiven (steps_from q texts indexes 1 xs (start cpus ceiling names)).state
-given_from_start q texts indexes cpus ceiling names xs =
-    keeps_steps q texts indexes 1 xs (start cpus ceiling names) (record { rise = omega arith; cyclics = start_most cpus ceiling })
+start_given : (cpus ceiling names : ℕ) → AreGiven 0 (start cpus ceiling names)
+start_given cpus ceiling names = record { many = omega arith; rise = omega arith; cyclics = start_most cpus ceiling }
+
+-- the same, with as many ids given as there are
+as_many : (s : State) → AreGiven 0 s → AreGiven s.last_id s
+as_many s h = record { many = omega arith; rise = h.rise; cyclics = h.cyclics }
+
+pub given_from_start : IdsAreGivenOnce
+given_from_start q texts indexes cpus ceiling names step xs ys =
+    let s = (steps_from q texts indexes 1 xs (start cpus ceiling names)).state in
+    keeps_steps s.last_id q texts indexes step ys s
+    (as_many s (keeps_steps 0 q texts indexes 1 xs (start cpus ceiling names) (start_given cpus ceiling names)))

@@ -3,6 +3,8 @@ pub mod WorkedScripts
 pub mod WorkedCpus
 pub mod WorkedRules
 pub mod Filled
+pub mod Events
+pub mod Fair
 pub mod Local
 pub mod Telling
 pub mod Bare

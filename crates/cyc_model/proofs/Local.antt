@@ -1,12 +1,12 @@
 -- What is done on one CPU happens there, and is all that its levels see.
-use Rattle.std.proofs.Common.{◌≡◌, ◌≢◌, ℕ, zero, suc, ◌+◌, ◌&&◌, eq-eqb, ne_eqb, Bool, true, false, cond, List, [], ◌∷◌, ◌++◌, map, Option, Some, None, refl, ap, sym, ◌∙◌, arith}
-use Rattle.std.specs.Prelude.{⊤}
+use Rattle.std.proofs.Common.{◌≡◌, ◌≢◌, ℕ, zero, suc, ◌+◌, ◌&&◌, eq-eqb, ne_eqb, Bool, true, false, cond, List, [], ◌∷◌, ◌++◌, map, Option, Some, None, refl, ap, sym, ◌∙◌, subst}
+use Rattle.std.specs.Prelude.{⊤, length}
 use Rattle.cyc_types.specs.declared.level.Soft.{Soft}
 use Rattle.cyc_types.specs.declared.level.Soft.TheVariants.{Low, Lock}
 use Rattle.cyc_types.specs.declared.level.Level.{Level as CyclicLevel}
 use Rattle.cyc_types.specs.declared.level.Level.TheVariants as level
 use Rattle.cyc_level.specs.declared.Event.{Event}
-use Rattle.cyc_level.specs.declared.Event.TheVariants.{Mark, Clear, Finish}
+use Rattle.cyc_level.specs.declared.Event.TheVariants.{Admit, Mark, Clear, Finish}
 use Rattle.cyc_level.specs.Level.{Level}
 use Rattle.cyc_level.specs.Events.{after}
 use Rattle.cyc_expirations.specs.Expirations.{Expiration}
@@ -14,29 +14,9 @@ use Rattle.cyc_model.specs.Acts.{Act, At, Call, at_own, same_soft, event_at, eve
 use Rattle.cyc_model.specs.Cpu.{Cyclic, Cpu, Here, cpu_after, happen, here, nothing_here, then_here, level_of, others}
 use Rattle.cyc_model.specs.Firing.{raised, expiry, expire_here, expire_all, due_here, fire_here}
 use Rattle.cyc_model.specs.Serving.{level_after, look, Interrupt, after_look, serve, serve_here, level_at}
-use Rattle.cyc_model.specs.Moving.{widen_here, must_grow, place_here, enter_here, take_here, mark_here, clear_here, reprogram_here}
-
-pub level_append : (xs ys : List Event) (l : Level) → level_after (xs ++ ys) l ≡ level_after ys (level_after xs l)
-level_append [] ys l = refl
-level_append (x ∷ xs) ys l = level_append xs ys (after x l)
-
-append_assoc : {A : Type 0} → (xs ys zs : List A) → (xs ++ ys) ++ zs ≡ xs ++ (ys ++ zs)
-append_assoc [] ys zs = refl
-append_assoc (x ∷ xs) ys zs = ap (λ ws. x ∷ ws) (append_assoc xs ys zs)
-
-pub events_append : (n : ℕ) (soft : Soft) (xs ys : List Act) → events_at n soft (xs ++ ys)
-    ≡ events_at n soft xs ++ events_at n soft ys
-events_append n soft [] ys = refl
-events_append n soft (x ∷ xs) ys =
-    ap (λ es. event_at n soft x ++ es) (events_append n soft xs ys)
-    ∙ sym (append_assoc (event_at n soft x) (events_at n soft xs) (events_at n soft ys))
-
-pub calls_append : (id : ℕ) (xs ys : List Act) → calls_of id (xs ++ ys) ≡ calls_of id xs + calls_of id ys
-calls_append id [] ys = plain (calls_of id ys)
-  where
-    plain : (n : ℕ) → n ≡ 0 + n
-    plain n = omega arith
-calls_append id (x ∷ xs) ys = let h = calls_append id xs ys in omega (arith, h)
+use Rattle.cyc_model.specs.Moving.{bank_for, switch_here, widen_here, must_grow, place_here, enter_here, take_here, mark_here, clear_here, reprogram_here}
+use Rattle.cyc_model.proofs.Events.{level_append, events_append}
+use Rattle.cyc_model.proofs.Fair.{Fair, FairAt, fair_append, fair_own, fair_expiry, fair_serve_at, fair_switch}
 
 -- the act is of the CPU of this number
 abbrev pub IsOn : ℕ → Act → Type 0
@@ -92,19 +72,21 @@ other_events (a ∷ acts) n m soft is ne =
 pub record Local (n : ℕ) (c : Cpu) (d : Here) : Type 0 where
   pub on : AllOn n d.acts
   pub levels : (soft : Soft) → level_at soft d.cpu ≡ level_after (events_at n soft d.acts) (level_at soft c)
+  pub fair : FairAt n d.acts c
 
 -- the two have the same levels
 abbrev pub SameLevels : Cpu → Cpu → Type 0
 SameLevels c d = (soft : Soft) → level_at soft d ≡ level_at soft c
 
-pub local_here : (n : ℕ) (acts : List Act) (c d : Cpu) → AllOn n acts → SameLevels c d → Local n c (here acts d)
-local_here n acts c d is same = record {
+pub local_here : (n : ℕ) (acts : List Act) (c d : Cpu) → AllOn n acts → SameLevels c d → FairAt n acts c → Local n c (here acts d)
+local_here n acts c d is same fair = record {
   on = is;
   levels = λ soft. own_levels acts n soft d is ∙ ap (level_after (events_at n soft acts)) (same soft);
+  fair = fair;
 }
 
 pub local_nothing : (n : ℕ) (c d : Cpu) → SameLevels c d → Local n c (nothing_here d)
-local_nothing n c d same = record { on = tt; levels = same }
+local_nothing n c d same = record { on = tt; levels = same; fair = λ soft free. (tt, free) }
 
 pub local_then : (n : ℕ) (c : Cpu) (d : Here) (f : Cpu → Here) → Local n c d → ((e : Cpu) → Local n e (f e))
     → Local n c (then_here d f)
@@ -114,6 +96,12 @@ local_then n c d f first next = record {
       ∙ ap (level_after (events_at n soft (f d.cpu).acts)) (first.levels soft)
       ∙ sym (level_append (events_at n soft d.acts) (events_at n soft (f d.cpu).acts) (level_at soft c))
       ∙ ap (λ es. level_after es (level_at soft c)) (sym (events_append n soft d.acts (f d.cpu).acts));
+  fair = λ soft free.
+      let one = first.fair soft free in
+      let rest = (next d.cpu).fair soft (ap (λ (l : Level). l.firer_hand) (first.levels soft) ∙ one.1) in
+      subst (λ es. Fair es (level_at soft c)) (sym (events_append n soft d.acts (f d.cpu).acts))
+      (fair_append (events_at n soft d.acts) (events_at n soft (f d.cpu).acts) (level_at soft c) one.0
+      (subst (λ l. Fair (events_at n soft (f d.cpu).acts) l) (first.levels soft) rest));
 }
 
 pub same_low_lock : (c d : Cpu) → d.lock ≡ c.lock → d.low ≡ c.low → SameLevels c d
@@ -133,6 +121,7 @@ on_expiry n level.Low id c = on_map n Low (raised id c.low)
 
 local_expire : (n id : ℕ) (c : Cpu) → Local n c (expire_here n id c)
 local_expire n id c = local_here n (expiry n (level_of id c) id c) c c (on_expiry n (level_of id c) id c) (λ soft. refl)
+    (fair_expiry n (level_of id c) id c)
 
 pub local_expire_all : (n : ℕ) (ps : List Expiration) (c : Cpu) → Local n c (expire_all n ps c)
 local_expire_all n [] c = local_nothing n c c (λ soft. refl)
@@ -141,7 +130,7 @@ local_expire_all n (p ∷ ps) c = local_then n c (expire_here n p.id c) (expire_
 
 retimed : (n : ℕ) (c : Cpu) (d : Here) (cs : List Cyclic) → Local n c d
     → Local n c (record d { cpu = record d.cpu { cyclics = cs } })
-retimed n c d cs h = record { on = h.on; levels = same }
+retimed n c d cs h = record { on = h.on; levels = same; fair = h.fair }
   where
     same : (soft : Soft) → level_at soft (record d.cpu { cyclics = cs }) ≡ level_after (events_at n soft d.acts) (level_at soft c)
     same Low = h.levels Low
@@ -167,13 +156,16 @@ on_serve n soft (suc budget) l =
 pub local_serve : (n : ℕ) (soft : Soft) (budget : ℕ) (c : Cpu) → Local n c (serve_here n soft budget c)
 local_serve n soft budget c =
     local_here n (serve n soft budget (level_at soft c)).acts c c (on_serve n soft budget (level_at soft c)) (λ s. refl)
+    (fair_serve_at n soft budget c)
 
 pub local_widen : (n more : ℕ) (c : Cpu) → Local n c (widen_here n more c)
 local_widen n more c = local_if (must_grow more c) n c _ (nothing_here c)
-    (local_here n _ c _ (refl, (refl, tt)) (same_low_lock c _ refl refl)) (local_nothing n c c (λ soft. refl))
+    (local_here n _ c _ (refl, (refl, tt)) (same_low_lock c _ refl refl) (fair_switch n (bank_for (length c.cyclics + more)) c))
+    (local_nothing n c c (λ soft. refl))
 
 pub local_place : (n index : ℕ) (x : Cyclic) (c : Cpu) → Local n c (place_here n index x c)
 local_place n index x c = local_here n _ c _ (on_own n x.timer.level _) (same_low_lock c _ refl refl)
+    (fair_own n x.timer.level (Admit x.timer.id index) c (λ l free. ((tt, tt), free)))
 
 pub local_enter : (n index : ℕ) (x : Cyclic) (c : Cpu) → Local n c (enter_here n index x c)
 local_enter n index x c = local_then n c (widen_here n 1 c) (place_here n index x) (local_widen n 1 c) (local_place n index x)
@@ -181,15 +173,19 @@ local_enter n index x c = local_then n c (widen_here n 1 c) (place_here n index 
 pub local_take : (n id : ℕ) (c : Cpu) → Local n c (take_here n id c)
 local_take n id c =
     local_then n c (here (at_own n (level_of id c) (Mark id)) c) _
-    (local_here n (at_own n (level_of id c) (Mark id)) c c (on_own n (level_of id c) (Mark id)) (λ soft. refl))
+    (local_here n (at_own n (level_of id c) (Mark id)) c c (on_own n (level_of id c) (Mark id)) (λ soft. refl)
+    (fair_own n (level_of id c) (Mark id) c (λ l free. ((tt, tt), free))))
     (λ d. local_here n (at_own n (level_of id d) (Clear id)) d (record d { cyclics = others id d.cyclics })
-    (on_own n (level_of id d) (Clear id)) (same_low_lock d _ refl refl))
+    (on_own n (level_of id d) (Clear id)) (same_low_lock d _ refl refl)
+    (fair_own n (level_of id d) (Clear id) d (λ l free. ((tt, tt), free))))
 
 pub local_mark : (n id : ℕ) (c : Cpu) → Local n c (mark_here n id c)
 local_mark n id c = local_here n _ c _ (on_own n (level_of id c) (Mark id)) (same_low_lock c _ refl refl)
+    (fair_own n (level_of id c) (Mark id) c (λ l free. ((tt, tt), free)))
 
 pub local_clear : (n id : ℕ) (c : Cpu) → Local n c (clear_here n id c)
 local_clear n id c = local_here n _ c _ (on_own n (level_of id c) (Clear id)) (same_low_lock c _ refl refl)
+    (fair_own n (level_of id c) (Clear id) c (λ l free. ((tt, tt), free)))
 
 pub local_reprogram : (n id moment : ℕ) (c : Cpu) → Local n c (reprogram_here id moment c)
 local_reprogram n id moment c = local_nothing n c _ (same_low_lock c _ refl refl)

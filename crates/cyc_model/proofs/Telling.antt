@@ -1,15 +1,16 @@
 -- The acts of each word tell all of it.
-use Rattle.std.proofs.Common.{◌≡◌, ℕ, ◌+◌, ◌<◌, ◌==◌, Bool, true, false, List, [], ◌∷◌, ◌++◌, length, Option, Some, None, refl, ap, sym, ◌∙◌, subst, arith}
+use Rattle.std.proofs.Common.{◌≡◌, ℕ, zero, suc, ◌+◌, ◌<◌, ◌==◌, Bool, true, false, List, [], ◌∷◌, ◌++◌, length, Option, Some, None, refl, ap, sym, ◌∙◌, subst, arith}
 use mathlib.Core.Logic.{dite}
 use native.Mathlib.Decide.{ℕ_discrete}
 use Rattle.std.proofs.lemmas.List.{get_or-set_same, get_or-set_other, length-set}
-use Rattle.std.specs.Prelude.{slice_index_or}
+use Rattle.std.specs.Prelude.{slice_index_or, replicate}
 use Rattle.cyc_types.specs.declared.level.Soft.{Soft}
+use Rattle.cyc_types.specs.declared.level.Soft.TheVariants.{Low, Lock}
 use Rattle.cyc_script.specs.declared.step.Step.{Step}
 use Rattle.cyc_script.specs.declared.step.Step.TheVariants.{Add, Omni, Bind, Unbind, Reprogram, Remove, Advance, Softint, Juggle, Offline, Online}
 use Rattle.cyc_types.specs.declared.refusal.Refusal.{Refusal}
 use Rattle.cyc_model.specs.Acts.{Act, events_at, calls_of}
-use Rattle.cyc_model.specs.Cpu.{Cyclic, Cpu, Here, cyclic_of, nothing_here}
+use Rattle.cyc_model.specs.Cpu.{Cyclic, Cpu, Here, cyclic_of, new_cpu, nothing_here}
 use Rattle.cyc_model.specs.Serving.{level_at, level_after, serve_here}
 use Rattle.cyc_model.specs.Firing.{fire_here}
 use Rattle.cyc_model.specs.Moving.{enter_here, take_here, widen_here, place_here, mark_here, clear_here, reprogram_here}
@@ -26,31 +27,30 @@ use Rattle.cyc_model.specs.Softint.{interrupt, polled, poll_id, poll_all, is_ope
 use Rattle.cyc_model.specs.Juggle.{Turn, IsBound, IsPending, IsRefused, Moves, turn, take_turn, Juggled, juggle_each, juggled, single_ids}
 use Rattle.cyc_model.specs.Offline.{retire, retire_all, go_offline, last_part, leaving, ids_on, any_pending}
 use Rattle.cyc_model.specs.Online.{return_at, return_of, return_all, go_online, staying, again}
-use Rattle.cyc_model.specs.Script.{refusal_of, does, word, steps_from, text_in}
-use Rattle.cyc_model.specs.Laws.{level_on, Tells}
-use Rattle.cyc_model.proofs.Local.{level_append, events_append, calls_append, other_events, Local, SameLevels, same_low_lock, local_nothing, local_fire, local_serve, local_widen, local_place, local_enter, local_take, local_mark, local_clear, local_reprogram}
+use Rattle.cyc_model.specs.Script.{refusal_of, does, word, steps_from, text_in, start}
+use Rattle.cyc_model.specs.Laws.{level_on, Tells, HandsAreFree, SoftSideIsEnabled}
+use Rattle.cyc_level.specs.Level.{Level}
+use Rattle.cyc_model.proofs.Events.{level_append, events_append, calls_append}
+use Rattle.cyc_model.proofs.Fair.{Fair, fair_append}
+use Rattle.cyc_model.proofs.Local.{other_events, Local, SameLevels, same_low_lock, local_nothing, local_fire, local_serve, local_widen, local_place, local_enter, local_take, local_mark, local_clear, local_reprogram}
 
 -- a state with the same CPUs and calls
 abbrev Alike : State → State → Type 0
 Alike s t = (t.cpus ≡ s.cpus) × (t.called ≡ s.called)
 
--- the acts of this word tell all of it
-abbrev Telling : (State → Outcome) → Type 0
-Telling f = (s : State) → Tells (f s).acts s (f s).state
-
 none_more : (n : ℕ) → n ≡ n + 0
 none_more n = omega arith
 
-tells_alike : (s t : State) → Alike s t → Tells [] s t
-tells_alike s t same = record {
+told_alike : (s t : State) → Alike s t → Tells [] s t
+told_alike s t same = record {
   as_many = ap length same.0;
   levels = λ n within soft. ap (λ (cs : List Cpu). level_at soft (slice_index_or cs n absent)) same.0;
   called = λ id. ap (λ (f : ℕ → ℕ). f id) same.1 ∙ none_more (s.called id);
 }
 
 -- other books before the acts
-tells_from : (acts : List Act) (s r t : State) → Alike s r → Tells acts r t → Tells acts s t
-tells_from acts s r t same h = record {
+told_from : (acts : List Act) (s r t : State) → Alike s r → Tells acts r t → Tells acts s t
+told_from acts s r t same h = record {
   as_many = h.as_many ∙ ap length same.0;
   levels = λ n within soft. h.levels n (subst (λ k. n < k) (sym (ap length same.0)) within) soft
       ∙ ap (λ (cs : List Cpu). level_after (events_at n soft acts) (level_at soft (slice_index_or cs n absent))) same.0;
@@ -58,15 +58,15 @@ tells_from acts s r t same h = record {
 }
 
 -- and after them
-tells_to : (acts : List Act) (s t u : State) → Tells acts s t → Alike t u → Tells acts s u
-tells_to acts s t u h same = record {
+told_to : (acts : List Act) (s t u : State) → Tells acts s t → Alike t u → Tells acts s u
+told_to acts s t u h same = record {
   as_many = ap length same.0 ∙ h.as_many;
   levels = λ n within soft. ap (λ (cs : List Cpu). level_at soft (slice_index_or cs n absent)) same.0 ∙ h.levels n within soft;
   called = λ id. ap (λ (f : ℕ → ℕ). f id) same.1 ∙ h.called id;
 }
 
-tells_append : (xs ys : List Act) (s t u : State) → Tells xs s t → Tells ys t u → Tells (xs ++ ys) s u
-tells_append xs ys s t u first next = record {
+told_append : (xs ys : List Act) (s t u : State) → Tells xs s t → Tells ys t u → Tells (xs ++ ys) s u
+told_append xs ys s t u first next = record {
   as_many = next.as_many ∙ first.as_many;
   levels = λ n within soft. next.levels n (subst (λ k. n < k) (sym first.as_many) within) soft
       ∙ ap (level_after (events_at n soft ys)) (first.levels n within soft)
@@ -75,16 +75,8 @@ tells_append xs ys s t u first next = record {
   called = λ id. let a = first.called id in let b = next.called id in let c = calls_append id xs ys in omega (arith, a, b, c);
 }
 
-tells_then : (o : Outcome) (f : State → Outcome) (s : State) → Tells o.acts s o.state → Telling f
-    → Tells (followed_by o f).acts s (followed_by o f).state
-tells_then o f s first next = tells_append o.acts (f o.state).acts s o.state (f o.state).state first (next o.state)
-
-tells_each : {A : Type 0} → (f : A → State → Outcome) → ((x : A) → Telling (f x)) → (xs : List A) → Telling (each f xs)
-tells_each f one [] s = tells_alike s s (refl, refl)
-tells_each f one (x ∷ xs) s = tells_then (f x s) (each f xs) s (one x s) (tells_each f one xs)
-
-tells_on : (n : ℕ) (f : Cpu → Here) → ((c : Cpu) → Local n c (f c)) → Telling (on n f)
-tells_on n f local s = record {
+told_on : (n : ℕ) (f : Cpu → Here) → ((c : Cpu) → Local n c (f c)) → (s : State) → Tells (on n f s).acts s (on n f s).state
+told_on n f local s = record {
   as_many = length-set s.cpus n (f (cpu_of n s)).cpu;
   levels = λ m within soft. dite (ℕ_discrete m n)
       (λ same. here_level m soft within same)
@@ -105,6 +97,74 @@ tells_on n f local s = record {
         (λ k. level_on k soft (on n f s).state ≡ level_after (events_at k soft (f (cpu_of n s)).acts) (level_on k soft s))
         (sym same)
         (own_level soft (subst (λ k. k < length s.cpus) same within))
+
+-- the acts are fair at each level, where each firer's hand is empty
+abbrev FairOn : List Act → State → Type 0
+FairOn acts s = (n : ℕ) → n < length s.cpus → (soft : Soft) → Fair (events_at n soft acts) (level_on n soft s)
+
+-- the acts tell all, and are fair
+pub record Tale (acts : List Act) (s t : State) : Type 0 where
+  pub tells : Tells acts s t
+  pub fair : HandsAreFree s → FairOn acts s
+
+-- the same of what this word does
+abbrev pub Telling : (State → Outcome) → Type 0
+Telling f = (s : State) → Tale (f s).acts s (f s).state
+
+-- the hands are free afterwards
+pub free_after : (acts : List Act) (s t : State) → Tale acts s t → HandsAreFree s → HandsAreFree t
+free_after acts s t h free n within soft =
+    let w = subst (λ k. n < k) h.tells.as_many within in
+    ap (λ (l : Level). l.firer_hand) (h.tells.levels n w soft) ∙ (h.fair free n w soft).1
+
+tells_alike : (s t : State) → Alike s t → Tale [] s t
+tells_alike s t same = record { tells = told_alike s t same; fair = λ free n within soft. (tt, free n within soft) }
+
+tells_from : (acts : List Act) (s r t : State) → Alike s r → Tale acts r t → Tale acts s t
+tells_from acts s r t same h = record {
+  tells = told_from acts s r t same h.tells;
+  fair = λ free n within soft. subst (λ l. Fair (events_at n soft acts) l) (level_same n soft)
+      (h.fair (λ m w k. ap (λ (l : Level). l.firer_hand) (level_same m k) ∙ free m (subst (λ j. m < j) (ap length same.0) w) k)
+      n (subst (λ j. n < j) (sym (ap length same.0)) within) soft);
+}
+  where
+    level_same : (n : ℕ) (soft : Soft) → level_on n soft r ≡ level_on n soft s
+    level_same n soft = ap (λ (cs : List Cpu). level_at soft (slice_index_or cs n absent)) same.0
+
+tells_to : (acts : List Act) (s t u : State) → Tale acts s t → Alike t u → Tale acts s u
+tells_to acts s t u h same = record { tells = told_to acts s t u h.tells same; fair = h.fair }
+
+tells_append : (xs ys : List Act) (s t u : State) → Tale xs s t → Tale ys t u → Tale (xs ++ ys) s u
+tells_append xs ys s t u first next = record {
+  tells = told_append xs ys s t u first.tells next.tells;
+  fair = λ free n within soft.
+      let rest = next.fair (free_after xs s t first free) n (subst (λ k. n < k) (sym first.tells.as_many) within) soft in
+      subst (λ es. Fair es (level_on n soft s)) (sym (events_append n soft xs ys))
+      (fair_append (events_at n soft xs) (events_at n soft ys) (level_on n soft s) (first.fair free n within soft).0
+      (subst (λ l. Fair (events_at n soft ys) l) (first.tells.levels n within soft) rest));
+}
+
+tells_then : (o : Outcome) (f : State → Outcome) (s : State) → Tale o.acts s o.state → Telling f
+    → Tale (followed_by o f).acts s (followed_by o f).state
+tells_then o f s first next = tells_append o.acts (f o.state).acts s o.state (f o.state).state first (next o.state)
+
+tells_each : {A : Type 0} → (f : A → State → Outcome) → ((x : A) → Telling (f x)) → (xs : List A) → Telling (each f xs)
+tells_each f one [] s = tells_alike s s (refl, refl)
+tells_each f one (x ∷ xs) s = tells_then (f x s) (each f xs) s (one x s) (tells_each f one xs)
+
+tells_on : (n : ℕ) (f : Cpu → Here) → ((c : Cpu) → Local n c (f c)) → Telling (on n f)
+tells_on n f local s = record { tells = told_on n f local s; fair = fair }
+  where
+    own : (soft : Soft) → (level_on n soft s).firer_hand ≡ None
+        → Fair (events_at n soft (f (cpu_of n s)).acts) (level_on n soft s)
+    own soft free = (local (cpu_of n s)).fair soft free
+
+    fair : HandsAreFree s → FairOn (f (cpu_of n s)).acts s
+    fair free m within soft = dite (ℕ_discrete m n)
+        (λ same. subst (λ k. Fair (events_at k soft (f (cpu_of n s)).acts) (level_on k soft s)) (sym same)
+        (own soft (free n (subst (λ k. k < length s.cpus) same within) soft)))
+        (λ ne. subst (λ es. Fair es (level_on m soft s))
+        (sym (other_events (f (cpu_of n s)).acts n m soft (local (cpu_of n s)).on ne)) (tt, free m within soft))
 
 -- ---- the words
 
@@ -155,8 +215,8 @@ tells_begin : (q : Questions) (id n : ℕ) → Telling (begin q id n)
 tells_begin q id n s = tells_then (on n (mark_here n id) s) (poll q id n) s (tells_on n (mark_here n id) (local_mark n id) s)
     (tells_poll q id n)
 
-tells_begun : (q : Questions) (step : ℕ) (text : List ℕ) (id : ℕ) (ns : List ℕ) (o : Outcome) (s : State) → Tells o.acts s o.state
-    → Tells (begun q step text id ns o).acts s (begun q step text id ns o).state
+tells_begun : (q : Questions) (step : ℕ) (text : List ℕ) (id : ℕ) (ns : List ℕ) (o : Outcome) (s : State) → Tale o.acts s o.state
+    → Tale (begun q step text id ns o).acts s (begun q step text id ns o).state
 tells_begun q step text id [] o s h = tells_to o.acts s o.state (forgotten id o.state) h (refl, refl)
 tells_begun q step text id (n ∷ ns) o s h = h
 
@@ -165,8 +225,8 @@ tells_remove q step text id s =
     tells_begun q step text id (cpus_with id (each (begin q id) (cpus_with id s) s).state)
     (each (begin q id) (cpus_with id s) s) s (tells_each (begin q id) (tells_begin q id) (cpus_with id s) s)
 
-tells_polled : (step : ℕ) (text : List ℕ) (id : ℕ) (ns : List ℕ) (o : Outcome) (s : State) → Tells o.acts s o.state
-    → Tells (polled step text id ns o).acts s (polled step text id ns o).state
+tells_polled : (step : ℕ) (text : List ℕ) (id : ℕ) (ns : List ℕ) (o : Outcome) (s : State) → Tale o.acts s o.state
+    → Tale (polled step text id ns o).acts s (polled step text id ns o).state
 tells_polled step text id [] o s h = tells_to o.acts s o.state (forgotten id o.state) h (refl, refl)
 tells_polled step text id (n ∷ ns) o s h = h
 
@@ -183,7 +243,7 @@ tells_turn indexes source id IsRefused s = tells_alike s s (refl, refl)
 tells_turn indexes source id (Moves target) s = tells_move indexes id source target s
 
 tells_turns : (q : Questions) (indexes : ℕ → ℕ) (source : ℕ) (ids : List ℕ) (s : State)
-    → Tells (juggle_each q indexes source ids s).outcome.acts s (juggle_each q indexes source ids s).outcome.state
+    → Tale (juggle_each q indexes source ids s).outcome.acts s (juggle_each q indexes source ids s).outcome.state
 tells_turns q indexes source [] s = tells_alike s s (refl, refl)
 tells_turns q indexes source (id ∷ ids) s =
     let o = take_turn indexes source id (turn q source id s) s in
@@ -203,13 +263,13 @@ tells_retire_all n s = tells_then (each (retire n) (ids_on n s) s) (on n (λ c. 
     (tells_each (retire n) (tells_retire n) (ids_on n s) s)
     (tells_switched n go_offline (λ c. same_low_lock c (go_offline c) refl refl))
 
-tells_last : (b : Bool) (step n : ℕ) (o : Outcome) (s : State) → Tells o.acts s o.state
-    → Tells (last_part b step n o).acts s (last_part b step n o).state
+tells_last : (b : Bool) (step n : ℕ) (o : Outcome) (s : State) → Tale o.acts s o.state
+    → Tale (last_part b step n o).acts s (last_part b step n o).state
 tells_last true step n o s h = h
 tells_last false step n o s h = tells_then o (retire_all n) s h (tells_retire_all n)
 
-tells_leaving : (q : Questions) (step n : ℕ) (ids : List ℕ) (j : Juggled) (s : State) → Tells j.outcome.acts s j.outcome.state
-    → Tells (leaving q step n ids j).acts s (leaving q step n ids j).state
+tells_leaving : (q : Questions) (step n : ℕ) (ids : List ℕ) (j : Juggled) (s : State) → Tale j.outcome.acts s j.outcome.state
+    → Tale (leaving q step n ids j).acts s (leaving q step n ids j).state
 tells_leaving q step n (id ∷ ids) j s h = h
 tells_leaving q step n [] j s h = tells_last (any_pending q n (ids_on n j.outcome.state) j.outcome.state) step n j.outcome s h
 
@@ -268,3 +328,24 @@ tells_steps q texts indexes step (x ∷ xs) s = tells_then (word q texts indexes
     (steps_from q texts indexes (step + 1) xs) s
     (tells_unless (refusal_of q x s) step (does q texts indexes step x) (tells_does q texts indexes step x) s)
     (tells_steps q texts indexes (step + 1) xs)
+
+-- ---- the machine as it begins
+
+start_hand : (k n ceiling : ℕ) (soft : Soft)
+    → (level_at soft (slice_index_or (replicate k (new_cpu ceiling)) n absent)).firer_hand ≡ None
+start_hand zero n ceiling Low = refl
+start_hand zero n ceiling Lock = refl
+start_hand (suc k) zero ceiling Low = refl
+start_hand (suc k) zero ceiling Lock = refl
+start_hand (suc k) (suc n) ceiling soft = start_hand k n ceiling soft
+
+pub start_free : (cpus ceiling names : ℕ) → HandsAreFree (start cpus ceiling names)
+start_free cpus ceiling names n within soft = start_hand cpus n ceiling soft
+
+pub fair_steps : SoftSideIsEnabled
+fair_steps q texts indexes step xs s free =
+    let h = tells_steps q texts indexes step xs s in (
+      λ n within soft. (h.fair free n within soft).0,
+      free_after (steps_from q texts indexes step xs s).acts s
+          (steps_from q texts indexes step xs s).state h free,
+    )

@@ -2,7 +2,10 @@
 use Rattle.std.specs.Prelude.{◌≡◌, ℕ, ◌+◌, ◌<◌, ◌≤◌, ⊤, List, [], ◌∷◌, length, Some, None}
 use Rattle.cyc_types.specs.declared.level.Soft.{Soft}
 use Rattle.cyc_types.specs.declared.refusal.Refusal.{Refusal}
+use Rattle.cyc_level.specs.declared.Event.{Event}
+use Rattle.cyc_level.specs.declared.Event.TheVariants.{Publish, Take, Finish, Follow}
 use Rattle.cyc_level.specs.Level.{Level}
+use Rattle.cyc_level.specs.Events.{Enabled, after}
 use Rattle.cyc_script.specs.declared.step.Step.{Step}
 use Rattle.cyc_script.specs.declared.script.Script.{Script}
 use Rattle.cyc_model.specs.Acts.{Act, events_at, calls_of}
@@ -55,12 +58,40 @@ abbrev pub AllAtMost : ℕ → List Cpu → Type 0
 AllAtMost id [] = ⊤
 AllAtMost id (c ∷ cs) = AtMost id c.cyclics × AllAtMost id cs
 
--- no id stands twice, and none that was not given: so the id that the next add gives is new everywhere
-pub record AreGiven (s : State) : Type 0 where
+-- at least so many ids were given; no id stands twice, and none that was not given
+pub record AreGiven (least : ℕ) (s : State) : Type 0 where
+  pub many : least ≤ s.last_id
   pub rise : RiseTo 0 s.placed s.last_id
   pub cyclics : AllAtMost s.last_id s.cpus
 
--- after any steps of a machine that begins with no cyclic
+-- after any steps of a machine that begins with no cyclic, and after any further steps, which take no id back
 abbrev pub IdsAreGivenOnce : Type 0
-IdsAreGivenOnce = (q : Questions) (texts : List (List ℕ)) (indexes : ℕ → ℕ) (cpus ceiling names : ℕ) (xs : List Step)
-    → AreGiven (steps_from q texts indexes 1 xs (start cpus ceiling names)).state
+IdsAreGivenOnce = (q : Questions) (texts : List (List ℕ)) (indexes : ℕ → ℕ) (cpus ceiling names step : ℕ) (xs ys : List Step)
+    → AreGiven (steps_from q texts indexes 1 xs (start cpus ceiling names)).state.last_id
+    (steps_from q texts indexes step ys (steps_from q texts indexes 1 xs (start cpus ceiling names)).state).state
+
+-- an event of the soft side, or a Publish, is enabled; of the other events nothing is said
+abbrev pub CanAsSoft : Event → Level → Type 0
+CanAsSoft Take l = Enabled Take l
+CanAsSoft Finish l = Enabled Finish l
+CanAsSoft Follow l = Enabled Follow l
+CanAsSoft Publish l = Enabled Publish l
+CanAsSoft _ l = ⊤
+
+-- the same of each of these, when it happens
+abbrev pub AllCanAsSoft : List Event → Level → Type 0
+AllCanAsSoft [] l = ⊤
+AllCanAsSoft (event ∷ events) l = CanAsSoft event l × AllCanAsSoft events (after event l)
+
+-- no level has a cyclic in its firer's hand
+abbrev pub HandsAreFree : State → Type 0
+HandsAreFree s = (n : ℕ) → n < length s.cpus → (soft : Soft) → (level_on n soft s).firer_hand ≡ None
+
+-- in any run from such a machine, each Take, Finish, Follow and Publish is enabled when it happens, and the run leaves such a
+-- machine
+abbrev pub SoftSideIsEnabled : Type 0
+SoftSideIsEnabled = (q : Questions) (texts : List (List ℕ)) (indexes : ℕ → ℕ) (step : ℕ) (xs : List Step) (s : State)
+    → HandsAreFree s
+    → ((n : ℕ) → n < length s.cpus → (soft : Soft)
+    → AllCanAsSoft (events_at n soft (steps_from q texts indexes step xs s).acts) (level_on n soft s))
+    × HandsAreFree (steps_from q texts indexes step xs s).state

@@ -20,3 +20,4 @@ pub mod Online
 pub mod Report
 pub mod Script
 pub mod Laws
+pub mod Free

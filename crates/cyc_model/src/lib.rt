@@ -8,7 +8,9 @@
 //! nothing: each one's contract is a law.
 #![tactic(auto)]
 
-ghost use Rattle.cyc_model.specs.Laws.{RefusedOrDone, ActsTellAll, TextTellsNoIndex, IdsAreGivenOnce};
+ghost use Rattle.std.specs.Prelude.{ℕ};
+ghost use Rattle.cyc_model.specs.Script.{start};
+ghost use Rattle.cyc_model.specs.Laws.{RefusedOrDone, ActsTellAll, TextTellsNoIndex, IdsAreGivenOnce, HandsAreFree, SoftSideIsEnabled};
 
 /// A step that is refused changes nothing and its line has the number of the refusal; any other does what its word does.
 pub fn refused_or_done()
@@ -27,7 +29,14 @@ pub fn text_tells_no_index()
 {}
 
 /// After any steps the ids whose removal has not answered rise up to the one that was given last, and no cyclic on any CPU has an
-/// id above it: an id is never given again.
+/// id above it; and no further steps take an id back. So the id that an add gives is new everywhere, and is never given again.
 pub fn ids_are_given_once()
     ensures { IdsAreGivenOnce }
+{}
+
+/// Between two steps no cyclic stands in a firer's hand, and whatever the soft side does, it may do: in every run each Take,
+/// Finish and Follow is enabled when it happens, and so is each Publish.
+pub fn soft_side_is_enabled()
+    ensures start { (cpus ceiling names : ℕ) → HandsAreFree (start cpus ceiling names) }
+    ensures run { SoftSideIsEnabled }
 {}
