@@ -1,0 +1,101 @@
+-- An id that is off a CPU stays off it, and nothing of it is called or raised, until it is put in.
+use Rattle.std.proofs.Common.{◌≡◌, ℕ, suc, All, List, [], ◌∷◌, Option, Some, None, refl, sym, ap, subst, ◌∙◌, arith, inl, inr}
+use Rattle.std.specs.Prelude.{Ok, Err}
+use Rattle.std.specs.List.{FoldsTo}
+use Rattle.cyc_types.specs.Firing.{FiringView, FiringCall, Stay}
+use Rattle.cyc_types.specs.declared.level.Level.{Level}
+use Rattle.cyc_types.specs.declared.level.Level.TheVariants.{Low, Lock, High}
+use Rattle.cyc_timers.specs.Rows.{Cyclic, timers}
+use Rattle.cyc_fire.specs.Shares.{share}
+use Rattle.cyc_cpu.specs.Cpu.{CpuView, Running, HasNoCyclic, AreAdmitted}
+use Rattle.cyc_cpu.specs.Law.{IsLawful}
+use Rattle.cyc_cpu.specs.Gone.{IsOff, PutsNot}
+use Rattle.cyc_cpu.specs.Calls.{CpuCall, Changes, Does, no_interrupts, Fire, SoftInterrupt, Add, Place, Reprogram, AskPending, AskTotals, AskRoom, Reserve, Widen, BeginRemove, PollRemove, TakeNow, AskSettled}
+use Rattle.cyc_cpu_laws.specs.Runs.{Steps}
+use Rattle.cyc_cpu_laws.specs.Accounts.{made_by}
+use Rattle.cyc_cpu_laws.specs.Leaving.{StaysOff}
+use Rattle.cyc_cpu_laws.proofs.Shifts.{changes_shift, shift_away}
+use Rattle.cyc_cpu_laws.proofs.Fires.{no_share, no_cyclic, fired_away}
+use Rattle.cyc_cpu_laws.proofs.Accounting.{proceeds_one}
+
+none_there : (o : Option Stay) → ((s : Stay) → o ≡ Some s → ⊥) → o ≡ None
+none_there None h = refl
+none_there (Some s) h = absurd (h s refl)
+
+not_admitted : (soft : Level) (v : FiringView) (cs : List Cyclic) (id : ℕ) → AreAdmitted soft v cs → HasNoCyclic id cs →
+    v.stays id ≡ None
+not_admitted soft v cs id admitted none = none_there (v.stays id)
+    (λ s e. let (k, c, (low, is), named, at) = admitted.only id s e in none k c low (ap (λ (x : Cyclic). x.timer.id) is ∙ named))
+
+module _ {C R : Type 0} (called : C → ℕ → Level → C → Type 0) (count : C → ℕ → ℕ) (may_refuse : C → ℕ → Type 0)
+    (step : R → FiringCall → R → Type 0) (view : R → FiringView) (id : ℕ) where
+  -- a lawful CPU without a cyclic of the id
+  off : (v : CpuView R) → IsLawful view v → HasNoCyclic id v.cyclics → IsOff view id v
+  off v law none = record {
+    no_cyclic = none;
+    lock = not_admitted Lock (view v.lock) v.cyclics id law.lock none;
+    low = not_admitted Low (view v.low) v.cyclics id law.low none;
+  }
+
+  quiet_away : (s t : Running C R) (call : CpuCall) → HasNoCyclic id s.cpu.cyclics → PutsNot id call →
+      Changes step view s.cpu call t.cpu × (t.calls ≡ s.calls) → HasNoCyclic id t.cpu.cyclics
+  quiet_away s t call none not d =
+      shift_away call s.cpu.cyclics t.cpu.cyclics id (changes_shift step view s.cpu t.cpu call d.0) not none
+
+  away_one : (s t : Running C R) (call : CpuCall) → HasNoCyclic id s.cpu.cyclics → PutsNot id call →
+      Does called count may_refuse step view no_interrupts s call t → HasNoCyclic id t.cpu.cyclics
+  away_one s t (Fire now (Ok r)) none not (
+    early,
+    kept,
+    expired,
+    next,
+    makes,
+  ) = fired_away id now _ s.cpu.cyclics t.cpu.cyclics makes.timers_are none
+  away_one s t (Fire now (Err e)) none not (inl (late, is, same)) = subst (λ (x : Running C R). HasNoCyclic id x.cpu.cyclics)
+      (sym same) none
+  away_one s t (Fire now (Err e)) none not (inr (
+    early,
+    kept,
+    f,
+  )) = fired_away id now _ s.cpu.cyclics t.cpu.cyclics f.makes.timers_are none
+  away_one s t (SoftInterrupt soft budget answer) none not d = absurd d
+  away_one s t (Add own level when now answer) none not d = quiet_away s t (Add own level when now answer) none not d
+  away_one s t (Place own level interval moment carried) none not d =
+      quiet_away s t (Place own level interval moment carried) none not d
+  away_one s t (Reprogram j moment answer) none not d = quiet_away s t (Reprogram j moment answer) none not d
+  away_one s t (AskPending j answer) none not d = quiet_away s t (AskPending j answer) none not d
+  away_one s t (AskTotals j answer) none not d = quiet_away s t (AskTotals j answer) none not d
+  away_one s t (AskRoom more answer) none not d = quiet_away s t (AskRoom more answer) none not d
+  away_one s t (Reserve more answer) none not d = quiet_away s t (Reserve more answer) none not d
+  away_one s t (Widen more) none not d = quiet_away s t (Widen more) none not d
+  away_one s t (BeginRemove j answer) none not d = quiet_away s t (BeginRemove j answer) none not d
+  away_one s t (PollRemove answer) none not d = quiet_away s t (PollRemove answer) none not d
+  away_one s t (TakeNow j answer) none not d = quiet_away s t (TakeNow j answer) none not d
+  away_one s t (AskSettled answer) none not d = quiet_away s t (AskSettled answer) none not d
+
+  -- its share of any call
+  unfired_one : (s : Running C R) (call : CpuCall) (level : Level) → HasNoCyclic id s.cpu.cyclics →
+      share level (timers s.cpu.cyclics) (made_by call s.cpu.cyclics) id ≡ 0
+  unfired_one s call level none = no_share level id (timers s.cpu.cyclics) (made_by call s.cpu.cyclics)
+      (no_cyclic id s.cpu.cyclics none)
+
+  abbrev D : Running C R → CpuCall → Running C R → Type 0
+  D = Steps called count may_refuse step view no_interrupts
+
+  pub stays_off : (s t : Running C R) (way : List CpuCall) → IsLawful view s.cpu → IsOff view id s.cpu → All (PutsNot id) way →
+      (run : FoldsTo D s way t) → StaysOff count view D id s way t run
+  stays_off s t [] law gone not run = record {
+    off = subst (λ (x : Running C R). IsOff view id x.cpu) run gone;
+    uncalled = ap (λ (x : Running C R). count x.calls id) (sym run);
+    unfired = λ level. refl;
+  }
+  stays_off s t (call ∷ way) law gone not (m, (does, lawful), rest) =
+      let p = proceeds_one called count may_refuse step view s m call law does in
+      let none = away_one s m call gone.no_cyclic (not 0 call (omega arith)) does in
+      let r = stays_off m t way lawful (off m.cpu lawful none) (λ k d low. not (suc k) d (omega (arith, low))) rest in
+      record {
+        off = r.off;
+        uncalled = (let a = r.uncalled in let b = p.called id in let z = unfired_one s call High gone.no_cyclic in
+            omega (arith, a, b, z));
+        unfired = λ level. (let a = unfired_one s call level gone.no_cyclic in let b = r.unfired level in omega (arith, a, b));
+      }

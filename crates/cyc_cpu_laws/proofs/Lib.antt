@@ -1,0 +1,9 @@
+pub mod Stills
+pub mod Shifts
+pub mod Fires
+pub mod Ways
+pub mod Accounting
+pub mod Staying
+pub mod Softs
+pub mod Departing
+pub mod Answering

@@ -1,0 +1,99 @@
+-- What calls on a CPU add up to for each id.
+use Rattle.std.specs.Prelude.{◌≡◌, ℕ, ◌+◌, ◌==◌, cond, take, List, [], ◌∷◌, Some, Ok, Err, sum_by}
+use Rattle.std.specs.List.{FoldsTo}
+use Rattle.cyc_types.specs.Firing.{FiringView, FiringCall}
+use Rattle.cyc_types.specs.declared.firing.Sent.{Sent}
+use Rattle.cyc_types.specs.declared.level.Level.{Level}
+use Rattle.cyc_types.specs.declared.level.Level.TheVariants.{Low, Lock, High}
+use Rattle.cyc_expirations.specs.Expirations.{Expiration, expirations}
+use Rattle.cyc_timers.specs.Rows.{Cyclic, no_counts, timers}
+use Rattle.cyc_fire.specs.Shares.{share}
+use Rattle.cyc_cpu.specs.declared.removing.Removal.TheVariants.{Done}
+use Rattle.cyc_cpu.specs.Cpu.{Running}
+use Rattle.cyc_cpu.specs.Calls.{CpuCall, Fire, Place, BeginRemove, PollRemove, TakeNow}
+use Rattle.cyc_cpu_laws.specs.Passing.{Passes}
+
+-- the expirations that a call made: those of a fire, up to one that was refused
+abbrev pub made_by : CpuCall → List Cyclic → List Expiration
+made_by (Fire now (Ok fired)) cs = expirations now (timers cs)
+made_by (Fire now (Err e)) cs = take e.expired (expirations now (timers cs))
+made_by call cs = []
+
+-- these counts for their own id, and none for another
+abbrev pub counts_of : ℕ → Sent → ℕ → Sent
+counts_of own counts id = cond (own == id) counts no_counts
+
+-- the counts with which a call put in each id: those that a cyclic carries in
+abbrev pub entered_by : CpuCall → ℕ → Sent
+entered_by (Place own level interval moment carried) id = counts_of own carried id
+entered_by call id = no_counts
+
+-- the counts with which each id left by a call: those of the receipt, or of what was taken
+abbrev pub left_by : CpuCall → ℕ → Sent
+left_by (BeginRemove own (Ok (Done r))) id = counts_of own (record { sent = r.sent; lost = r.lost }) id
+left_by (PollRemove (Some r)) id = counts_of r.id (record { sent = r.sent; lost = r.lost }) id
+left_by (TakeNow own (Ok taken)) id = counts_of own taken.sent id
+left_by call id = no_counts
+
+-- what calls did to each id: its expirations at each level, the counts that it entered with and those that it left with
+pub record Account : Type 0 where
+  pub fired : Level → ℕ → ℕ
+  pub entered : ℕ → Sent
+  pub left : ℕ → Sent
+
+-- no call
+abbrev pub nothing : Account
+nothing = record { fired = λ level id. 0; entered = λ id. no_counts; left = λ id. no_counts }
+
+abbrev pub both_counts : (ℕ → Sent) → (ℕ → Sent) → ℕ → Sent
+both_counts a b id = record { sent = (a id).sent + (b id).sent; lost = (a id).lost + (b id).lost }
+
+-- some calls and then others
+abbrev pub both : Account → Account → Account
+both a b = record {
+  fired = λ level id. a.fired level id + b.fired level id;
+  entered = both_counts a.entered b.entered;
+  left = both_counts a.left b.left;
+}
+
+-- one call on a CPU with these cyclics: in a fire each id has its share
+abbrev pub account_of : CpuCall → List Cyclic → Account
+account_of call cs = record {
+  fired = λ level id. share level (timers cs) (made_by call cs) id;
+  entered = entered_by call;
+  left = left_by call;
+}
+
+-- the calls of a run
+abbrev pub account_in : {C R : Type 0} (D : Running C R → CpuCall → Running C R → Type 0) (s : Running C R) (way : List CpuCall)
+    (t : Running C R) → FoldsTo D s way t → Account
+account_in D s [] t run = nothing
+account_in D s (call ∷ way) t run = both (account_of call s.cpu.cyclics) (account_in D run.0 way t run.2)
+
+-- the expirations and the losses that a CPU has of an id, 0 where no cyclic has it
+abbrev pub expired_of : ℕ → List Cyclic → ℕ
+expired_of id cs = sum_by (λ c. cond (c.timer.id == id) c.timer.expired 0) cs
+
+abbrev pub lost_of : ℕ → List Cyclic → ℕ
+lost_of id cs = sum_by (λ c. cond (c.timer.id == id) c.lost 0) cs
+
+-- what cyclics have of an id's expirations, with what it left with, is what they had, with what it entered with and what the
+-- fires made of it
+abbrev pub AddsUp : Account → List Cyclic → List Cyclic → Type 0
+AddsUp a cs cs' = (id : ℕ) → expired_of id cs' + (a.left id).sent
+    ≡ expired_of id cs + (a.entered id).sent + (a.fired Lock id + a.fired Low id + a.fired High id)
+
+-- A CPU came from s to t with this account. Each end was raised for its level's expirations, the handlers were called for the
+-- high ones, and nothing else was raised or called. The expirations of each id add up, and so do its losses.
+pub record Proceeds {C R : Type 0} (count : C → ℕ → ℕ) (step : R → FiringCall → R → Type 0) (view : R → FiringView) (a : Account)
+    (s t : Running C R) : Type 0 where
+  -- the raises that each end lost
+  pub lock_lost : ℕ → ℕ
+  pub low_lost : ℕ → ℕ
+  pub lock : Passes step view (a.fired Lock) lock_lost s.cpu.lock t.cpu.lock
+  pub low : Passes step view (a.fired Low) low_lost s.cpu.low t.cpu.low
+  pub called : (id : ℕ) → count t.calls id ≡ count s.calls id + a.fired High id
+  pub expired : AddsUp a s.cpu.cyclics t.cpu.cyclics
+  pub lost : (id : ℕ) → lost_of id t.cpu.cyclics + (a.left id).lost
+      ≡ lost_of id s.cpu.cyclics + (a.entered id).lost + (lock_lost id + low_lost id)
+  pub most : t.cpu.most ≡ s.cpu.most

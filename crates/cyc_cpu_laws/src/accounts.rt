@@ -1,0 +1,37 @@
+ghost use Rattle.std.specs.Prelude.{List};
+ghost use Rattle.std.specs.List.{FoldsTo};
+ghost use Rattle.cyc_core.specs.Tables.{Tables};
+ghost use Rattle.cyc_cpu.specs.Cpu.{Running};
+ghost use Rattle.cyc_cpu.specs.Law.{IsLawful};
+ghost use Rattle.cyc_cpu.specs.Calls.{CpuCall, Does, no_interrupts};
+ghost use Rattle.cyc_cpu.specs.Soft.{fires, firing_at, Interrupts};
+ghost use Rattle.cyc_cpu_laws.specs.Runs.{Steps};
+ghost use Rattle.cyc_cpu_laws.specs.Accounts.{Account, nothing, both, account_of, account_in, AddsUp, Proceeds};
+
+use cyc_types::{Calls, Raise};
+
+/// What the calls on a CPU add up to for each id: no call, one, some and then others, and a whole run.
+///
+/// Each end was raised for an id as often as the fires' lists have it at that level, and no other call raised or called
+/// anything. What the CPU has of an id, with what its removals and moves answered, is what it had, with what was carried in
+/// and what expired and was lost since.
+///
+/// It does nothing when it runs: its clauses are the law.
+pub fn account_law<C: Calls, R: Raise>()
+    ensures none { (s : Running C R) → Proceeds C.count R.step R.view nothing s s }
+    ensures one { (s t : Running C R) (call : CpuCall) → IsLawful R.view s.cpu → Does C.called C.count C.may_refuse R.step R.view no_interrupts s call t
+        → Proceeds C.count R.step R.view (account_of call s.cpu.cyclics) s t }
+    ensures joined { (a b : Account) (s t u : Running C R) → Proceeds C.count R.step R.view a s t → Proceeds C.count R.step R.view b t u
+        → Proceeds C.count R.step R.view (both a b) s u }
+    ensures run { (s t : Running C R) (way : List CpuCall) → IsLawful R.view s.cpu → (run : FoldsTo (Steps C.called C.count C.may_refuse R.step R.view no_interrupts) s way t)
+        → Proceeds C.count R.step R.view (account_in (Steps C.called C.count C.may_refuse R.step R.view no_interrupts) s way t run) s t }
+{}
+
+/// The expirations of each id add up on a CPU whose levels no other thread uses, where soft interrupts are among the calls.
+///
+/// It does nothing when it runs: its clause is the law.
+pub fn account_core_law<C: Calls>()
+    ensures { (s t : Running C Tables) (way : List CpuCall) → IsLawful firing_at s.cpu
+        → (run : FoldsTo (Steps C.called C.count C.may_refuse fires firing_at (Interrupts C.called C.count C.may_refuse)) s way t)
+        → AddsUp (account_in (Steps C.called C.count C.may_refuse fires firing_at (Interrupts C.called C.count C.may_refuse)) s way t run) s.cpu.cyclics t.cpu.cyclics }
+{}

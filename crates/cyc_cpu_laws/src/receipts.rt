@@ -1,0 +1,17 @@
+ghost use Rattle.std.specs.Prelude.{ℕ};
+ghost use Rattle.cyc_core.specs.Tables.{Tables, level_of};
+ghost use Rattle.cyc_level.specs.Lawful.{Lawful};
+ghost use Rattle.cyc_cpu.specs.Cpu.{CpuView};
+ghost use Rattle.cyc_cpu.specs.Law.{IsLawful};
+ghost use Rattle.cyc_cpu.specs.Soft.{fires, firing_at};
+ghost use Rattle.cyc_cpu.specs.Calls.{CpuCall, Changes};
+ghost use Rattle.cyc_cpu_laws.specs.Receipts.{Releases, AnswersCalls};
+
+/// Of a cyclic of a soft level, on a CPU whose levels no other thread uses, a receipt says the calls that were carried in
+/// and those that were done here; and so does what a move takes.
+///
+/// It does nothing when it runs: its clause is the law.
+pub fn receipt_law()
+    ensures { (id : ℕ) (call : CpuCall) (v w : CpuView Tables) → IsLawful firing_at v → Lawful (level_of v.lock) → Lawful (level_of v.low)
+        → Releases id call → Changes fires firing_at v call w → AnswersCalls id call v }
+{}
