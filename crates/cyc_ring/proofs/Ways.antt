@@ -23,7 +23,7 @@ use Rattle.ring_rule.specs.Log.{raise_side, drain_side, level_after}
 use Rattle.ring_rule.specs.Shown.{IsSameStay}
 use Rattle.cyc_ring.specs.Steps.{RaiseSteps, DrainSteps}
 use Rattle.cyc_ring.specs.Ends.{raise_trail, drain_trail, end_view, RaiseEndCall, DrainEndCall, IsSameRaiseSeat, IsSameDrainSeat, end_made}
-use Rattle.cyc_ring.specs.Laws.{RaiseWaysAddUp, DrainWaysAddUp, IdleIsFound, NothingFollowsRemoval}
+use Rattle.cyc_ring.specs.Laws.{RaiseWaysAddUp, DrainWaysAddUp, IdleIsFound, NothingFollowsRemoval, IsQuiet, QuietCallsRaiseNothing, EndsKeepTheirCeiling}
 use Rattle.cyc_ring.specs.declared.ends.RaiseEnd.{RaiseEnd}
 use Rattle.cyc_ring.specs.declared.ends.DrainEnd.{DrainEnd}
 use Rattle.cyc_types.proofs.Runs.{finished_on}
@@ -111,3 +111,21 @@ over made ended (Some s) p e h = absurd (cc)
 
 pub nothing_follows : NothingFollowsRemoval
 nothing_follows k log id L none = over (made_calls id (drain_side log)) (ended_calls id (raise_side log)) (open_stay id (raise_side log)) ((level_after k.ceiling log).cyclics id) none (L.shows.stays id)
+
+-- a call that is no raise
+quiet_call : (id : ℕ) (call : FiringCall) → IsQuiet call → (raise_in id call ≡ 0) × (loss_in id call ≡ 0)
+quiet_call id (Admits a i) q = (refl, refl)
+quiet_call id (Loads a n) q = (refl, refl)
+quiet_call id (Raises a answer) q = absurd q
+quiet_call id (Marks a n) q = (refl, refl)
+quiet_call id (Polls a None) q = (refl, refl)
+quiet_call id (Polls a (Some counts)) q = (refl, refl)
+quiet_call id (Expands bank) q = (refl, refl)
+quiet_call id (Looks answer) q = (refl, refl)
+
+pub quiet : QuietCallsRaiseNothing
+quiet id [] q = (refl, refl)
+quiet id (call ∷ way) q = let a = quiet_call id call q.0 in let b = quiet id way q.1 in let x = a.0 in let y = a.1 in let u = b.0 in let v = b.1 in (omega (arith, x, u), omega (arith, y, v))
+
+pub same_ceiling : EndsKeepTheirCeiling
+same_ceiling e f way goes = ap (λ (k : Setting). k.ceiling) (raise_run way e f goes).0.1

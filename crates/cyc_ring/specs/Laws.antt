@@ -1,6 +1,6 @@
 -- Laws of runs of calls, and of what stands at a moment.
-use Rattle.std.specs.Prelude.{◌≡◌, ℕ, ◌+◌, None, List}
-use Rattle.cyc_types.specs.Firing.{FiringCall}
+use Rattle.std.specs.Prelude.{◌≡◌, ℕ, ◌+◌, None, List, [], ◌∷◌, ⊤}
+use Rattle.cyc_types.specs.Firing.{FiringCall, Raises}
 use Rattle.cyc_types.specs.Draining.{DrainCall, Takes}
 use Rattle.cyc_types.specs.Runs.{Goes, DrainGoes, raised_by, lost_by, finished_by}
 use Rattle.ring_rule.specs.declared.Setting.{Setting}
@@ -32,3 +32,21 @@ IdleIsFound = (e before f : DrainEnd) (way : List DrainCall) → DrainGoes Drain
 abbrev pub NothingFollowsRemoval : Type 0
 NothingFollowsRemoval = (k : Setting) (log : List RingStep) (id : ℕ) → LevelStands k log → open_stay id (raise_side log) ≡ None
     → made_calls id (drain_side log) ≡ ended_calls id (raise_side log)
+
+-- a call of the firing side that is no raise
+abbrev pub IsQuiet : FiringCall → Type 0
+IsQuiet (Raises id answer) = ⊥
+IsQuiet (_) = ⊤
+
+abbrev pub AreQuiet : List FiringCall → Type 0
+AreQuiet [] = ⊤
+AreQuiet (call ∷ way) = IsQuiet call × AreQuiet way
+
+-- calls that are no raises raise nothing and lose nothing, at any end
+abbrev pub QuietCallsRaiseNothing : Type 0
+QuietCallsRaiseNothing = (id : ℕ) (way : List FiringCall) → AreQuiet way → (raised_by id way ≡ 0) × (lost_by id way ≡ 0)
+
+-- no run of calls changes the ceiling
+abbrev pub EndsKeepTheirCeiling : Type 0
+EndsKeepTheirCeiling = (e f : RaiseEnd) (way : List FiringCall) → Goes RaiseEndCall end_view e way f
+    → (end_view f).ceiling ≡ (end_view e).ceiling

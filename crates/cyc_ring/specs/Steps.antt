@@ -1,5 +1,6 @@
 -- The atomic steps of each call, the newest first, and how its answer comes from the values that they found.
-use Rattle.std.specs.Prelude.{◌≡◌, ◌≢◌, ℕ, ◌+◌, ◌%◌, ◌<◌, ◌≤◌, ◌==◌, List, [], ◌∷◌, ◌++◌, length, Some, None, ⊤}
+use Rattle.std.specs.Prelude.{◌≡◌, ◌≢◌, ℕ, ◌+◌, ◌*◌, ◌%◌, ◌<◌, ◌≤◌, ◌==◌, List, [], ◌∷◌, ◌++◌, length, Some, None, ⊤}
+use Rattle.cyc_types.specs.Limits.{greatest_bank}
 use Rattle.cyc_types.specs.Firing.{FiringCall, Admits, Loads, Raises, Marks, Polls, Expands, Looks}
 use Rattle.cyc_types.specs.Draining.{DrainCall, Takes, Finishes}
 use Rattle.cyc_types.specs.declared.firing.Raised.TheVariants as answers
@@ -90,10 +91,10 @@ module _ (start : ℕ) (t : List DrainStep) where
   FoundEntry id before steps = (bank end e : ℕ) × (end ≢ consumer_index start (before ++ t) % index_range) × (id ≡ entry_id e)
       × (steps ≡ Took e ∷ LoadedProducer end ∷ LoadedHardBank bank ∷ before)
 
-  -- the steps of a call of the soft side
+  -- the steps of a call of the soft side. A take follows at most once for each bank but the first, and so looks at most nine times
   abbrev pub DrainSteps : DrainCall → List DrainStep → Type 0
-  DrainSteps (Takes None) steps = (before : List DrainStep) × AreFollows before × FoundNone before steps
-  DrainSteps (Takes (Some id)) steps = (before : List DrainStep) × AreFollows before × FoundEntry id before steps
+  DrainSteps (Takes None) steps = (before : List DrainStep) × AreFollows before × FoundNone before steps × (length before ≤ 3 * greatest_bank)
+  DrainSteps (Takes (Some id)) steps = (before : List DrainStep) × AreFollows before × FoundEntry id before steps × (length before ≤ 3 * greatest_bank)
   -- the `fetch_sub` of 1 on the pend word of the cyclic in hand
   DrainSteps (Finishes id answer) steps = (e found : ℕ) × (held_entry t ≡ Some e) × (id ≡ entry_id e) × IsFinish found answer × (steps ≡ Subtracted found ∷ [])
 

@@ -1,6 +1,6 @@
 //! What runs of calls at the ends add up to, and what a moment says of a removal that has answered. The functions here do
 //! nothing: each one's contract is a law.
-ghost use Rattle.cyc_ring.specs.Laws.{RaiseWaysAddUp, DrainWaysAddUp, IdleIsFound, NothingFollowsRemoval};
+ghost use Rattle.cyc_ring.specs.Laws.{RaiseWaysAddUp, DrainWaysAddUp, IdleIsFound, NothingFollowsRemoval, QuietCallsRaiseNothing, EndsKeepTheirCeiling};
 
 /// A run of calls at a raise end leaves it an end of the same ring, and its trail gains the raises and losses of the run.
 pub fn raise_ways_add_up()
@@ -23,4 +23,15 @@ pub fn idle_is_found()
 /// has answered, and until it is admitted anew, no call of it is finished any more.
 pub fn nothing_follows_removal()
     ensures { NothingFollowsRemoval }
+{}
+
+/// A run of calls with no raise among them raises nothing and loses nothing: `admit`, `load_pend`, `mark`, `poll_clear`,
+/// `expand` and `followed` leave both counts of each id.
+pub fn quiet_calls_raise_nothing()
+    ensures { QuietCallsRaiseNothing }
+{}
+
+/// A run of calls at a raise end keeps its ceiling.
+pub fn ends_keep_their_ceiling()
+    ensures { EndsKeepTheirCeiling }
 {}

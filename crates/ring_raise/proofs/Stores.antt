@@ -1,6 +1,5 @@
 -- The store of a buffer word is no event.
 use Rattle.std.proofs.Common.{◌≡◌, ℕ, suc, ◌+◌, ◌*◌, ◌%◌, ◌^◌, ◌<◌, ◌≤◌, ◌≢◌, eqb, cond, List, ◌∷◌, get_or, set, sym, refl, ap, ◌∙◌, subst, arith, pow_pos, pow_mono, mod-lt, get_or-set_other, get_or-set_same, length}
-use native.Mathlib.Nat.{pow-suc}
 use Rattle.atomic_table.proofs.Lists.{one_turn}
 use mathlib.Core.Option.{none}
 use Rattle.std.specs.Prelude.{Some}
@@ -20,6 +19,7 @@ use Rattle.ring_rule.specs.Log.{raise_side, drain_side, stay_word}
 use Rattle.ring_rule.specs.Shown.{IsHandStored, Shows, StillHolds}
 use Rattle.ring_rule.specs.Steps.{TellsStore}
 use Rattle.ring_rule.proofs.Words.{pend_low, same_turn, place_high, place_low, keeps_all, holds_kept}
+use Rattle.ring_rule.proofs.Apart.{lower_bank}
 use Rattle.ring_rule.proofs.Seats.{level, raiser, raise_goes}
 use Rattle.ring_rule.proofs.Stays.{behind}
 use Rattle.ring_rule.proofs.Now.{RingNow, ring_now, index_low}
@@ -28,10 +28,6 @@ use Rattle.ring_rule.proofs.Stands.{raise_allowed}
 -- two indexes of a bank less than its size apart lie in different words
 pub other_place : (bank i j : ℕ) → bank ≤ greatest_bank → i < j → j < i + 2 ^ bank → place bank i ≢ place bank j
 other_place bank i j most less near e = let same : i % 2 ^ bank ≡ j % 2 ^ bank = same_turn bank i j (omega (arith, most)) (omega (arith, e)) in let x = one_turn i j (2 ^ bank) (omega arith) near same in omega (arith, x)
-
-pub lower_bank : (low high i j : ℕ) → low < high → place low i ≢ place high j
-lower_bank low high i j less e = let p : 0 < 2 ^ low = pow_pos low in let m : i * 9 % 2 ^ low < 2 ^ low = mod-lt (i * 9) p in let q : 2 ^ suc low ≤ 2 ^ high = pow_mono {i = suc low} {j = high} (omega arith) in
-    let r : 2 ^ suc low ≡ 2 ^ low * 2 = pow-suc 2 low in omega (arith, m, q, r, e)
 
 module _ (k : Setting) (ws : List ℕ) (rs : List RaiseStep) (ds : List DrainStep) (l : Level) (N : RingNow k ws rs ds l) (id : ℕ) (st : StayCounts) (up : firer_hand_of rs ≡ Some id) (is : open_stay id rs ≡ Some st) where
   abbrev P : ℕ

@@ -1,5 +1,6 @@
 pub mod Log
 pub mod Words
+pub mod Apart
 pub mod Seats
 pub mod Stays
 pub mod Now
@@ -8,3 +9,4 @@ pub mod Parts
 pub mod Books
 pub mod Stands
 pub mod Truths
+pub mod Removals

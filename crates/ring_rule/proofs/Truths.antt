@@ -124,7 +124,7 @@ raises_append [] log = refl
 raises_append (of_raise x ∷ later) log = ap (λ (t : List RaiseStep). x ∷ t) (raises_append later log)
 raises_append (of_drain x ∷ later) log = raises_append later log
 
-drains_append : (later log : List RingStep) → drain_side (later ++ log) ≡ drain_side later ++ drain_side log
+pub drains_append : (later log : List RingStep) → drain_side (later ++ log) ≡ drain_side later ++ drain_side log
 drains_append [] log = refl
 drains_append (of_raise x ∷ later) log = drains_append later log
 drains_append (of_drain x ∷ later) log = ap (λ (t : List DrainStep). x ∷ t) (drains_append later log)

@@ -27,7 +27,7 @@ place_low bank i h = let p : 0 < 2 ^ bank = pow_pos bank in let q : 2 ^ bank ≤
     let r : i * 9 % 2 ^ bank < 2 ^ bank = mod-lt (i * 9) p in let e : 2 ^ greatest_bank ≡ cyclics = refl in omega (arith, p, q, r, e)
 
 -- nine has an inverse, so that the place shows the index
-turned_back : (bank i : ℕ) → bank ≤ 33 → spread (2 ^ bank) i * 954437177 % 2 ^ bank ≡ i % 2 ^ bank
+pub turned_back : (bank i : ℕ) → bank ≤ 33 → spread (2 ^ bank) i * 954437177 % 2 ^ bank ≡ i % 2 ^ bank
 turned_back bank i most = let q : 2 ^ 33 ≡ 2 ^ bank * 2 ^ (33 - bank) = sym (sym (pow-add 2 bank (33 - bank)) ∙ ap (λ (x : ℕ). 2 ^ x) (let e : bank + (33 - bank) ≡ 33 = omega arith in e)) in
     let e : i * 9 * 954437177 ≡ i + 2 ^ 33 * i = omega arith in
     mul-mod_first (i * 9) 954437177 (2 ^ bank) ∙ (ap (λ (x : ℕ). x % 2 ^ bank) (e ∙ (ap (λ (x : ℕ). i + x * i) q ∙ ap (λ (x : ℕ). i + x) (mul_assoc (2 ^ bank) (2 ^ (33 - bank)) i))) ∙ add-mul-mod_self_left i (2 ^ bank) (2 ^ (33 - bank) * i))

@@ -1,5 +1,5 @@
 -- What the rule says of the records, whatever the plays say that made them.
-use Rattle.std.specs.Prelude.{◌≡◌, ℕ, zero, suc, ◌+◌, ◌*◌, ◌%◌, ◌≤◌, ◌==◌, if◌then◌else◌, Some, List, [], ◌∷◌, ◌++◌, length, slice_set, All, ⊤}
+use Rattle.std.specs.Prelude.{◌≡◌, ◌≢◌, ℕ, zero, suc, ◌+◌, ◌*◌, ◌%◌, ◌≤◌, ◌==◌, if◌then◌else◌, Some, List, [], ◌∷◌, ◌++◌, length, slice_set, All, ⊤}
 use mathlib.Core.Option.{some}
 use lib.ListN.{get_elem?}
 use Rattle.cyc_level.specs.Level.{Cyclic, Level, count, soft_list, in_hand}
@@ -13,8 +13,8 @@ use Rattle.ring_rule.specs.declared.DrainStep.{DrainStep}
 use Rattle.ring_rule.specs.declared.DrainStep.TheVariants.{LoadedHardBank, LoadedProducer, Took, Subtracted, Followed}
 use Rattle.ring_rule.specs.declared.SeatView.{SeatView}
 use Rattle.ring_rule.specs.declared.Setting.{Setting}
-use Rattle.ring_rule.specs.Words.{mark_bit, index_range, entry}
-use Rattle.ring_rule.specs.Trail.{consumer_index, raise_events, drain_events}
+use Rattle.ring_rule.specs.Words.{mark_bit, index_range, entry, entry_id}
+use Rattle.ring_rule.specs.Trail.{consumer_index, drainer_hand_of, raise_events, drain_events}
 use Rattle.ring_rule.specs.Log.{RingStep, of_raise, of_drain, raise_side, drain_side, events_of, level_after, words_after, IsTrue, StandsAt}
 use Rattle.ring_rule.specs.Rule.{RingState, MeetsRule}
 use Rattle.ring_rule.specs.Conservation.{AllStood}
@@ -126,3 +126,30 @@ Finds k log (of_drain x) = DrainFinds (consumer_index k.start (drain_side log)) 
 -- each step of the log found what the level just before it shows
 abbrev pub FoundIsShown : Type 0
 FoundIsShown = (k : Setting) (later earlier : List RingStep) (x : RingStep) → AllStood k (later ++ x ∷ earlier) → Finds k earlier x
+
+-- the step admits the id
+abbrev pub IsAdmission : ℕ → RaiseStep → Type 0
+IsAdmission id (Admitted a index) = a ≡ id
+IsAdmission id (_) = ⊥
+
+abbrev pub NoneAdmits : ℕ → List RaiseStep → Type 0
+NoneAdmits id [] = ⊤
+NoneAdmits id (x ∷ t) = ¬ IsAdmission id x × NoneAdmits id t
+
+-- the step, which follows these of its side, takes the id or finishes a call of it
+abbrev pub IsCall : ℕ → DrainStep → List DrainStep → Type 0
+IsCall id (Took e) t = entry_id e ≡ id
+IsCall id (Subtracted found) t = drainer_hand_of t ≡ Some id
+IsCall id (_) t = ⊥
+
+-- none of the steps does, which follow these of their side
+abbrev pub NoneCalls : ℕ → List DrainStep → List DrainStep → Type 0
+NoneCalls id [] t = ⊤
+NoneCalls id (x ∷ steps) t = ¬ IsCall id x (steps ++ t) × NoneCalls id steps t
+
+-- behind the step that ends a stay of the id, and until it is admitted anew, no step takes the id or finishes a call of it, and it is
+-- not in the drainer's hand: so no handler's call of it begins
+abbrev pub NoCallFollowsRemoval : Type 0
+NoCallFollowsRemoval = (k : Setting) (later earlier : List RingStep) (id : ℕ) → AllStood k (later ++ of_raise (Cleared id) ∷ earlier)
+    → NoneAdmits id (raise_side later)
+    → NoneCalls id (drain_side later) (drain_side earlier) × (drainer_hand_of (drain_side later ++ drain_side earlier) ≢ Some id)

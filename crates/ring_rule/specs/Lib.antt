@@ -1,4 +1,5 @@
 pub mod Words
+pub mod Apart
 pub mod Trail
 pub mod Log
 pub mod Shown

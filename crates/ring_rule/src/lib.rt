@@ -7,7 +7,8 @@ ghost use Rattle.ring_rule.specs.declared.Setting.{Setting as TheSetting};
 ghost use Rattle.ring_rule.specs.Rule.{RingState, MeetsRule, opening_view};
 ghost use Rattle.ring_rule.specs.Conservation.{Conserves};
 ghost use Rattle.ring_rule.specs.Moves.{OpeningMeetsRule, SplitIsAllowed, JoinIsAllowed, ClosingStands};
-ghost use Rattle.ring_rule.specs.Laws.{EachRecordIsTrue, TrailsMakeTheLog, SidesAreTheTrails, RecordsComeAfter, NewRaiseIsTrue, NewDrainIsTrue, FoundIsShown};
+ghost use Rattle.ring_rule.specs.Laws.{EachRecordIsTrue, TrailsMakeTheLog, SidesAreTheTrails, RecordsComeAfter, NewRaiseIsTrue, NewDrainIsTrue, FoundIsShown, NoCallFollowsRemoval};
+ghost use Rattle.ring_rule.specs.Apart.{WordsAreApart};
 
 use atomic_table::TableRule;
 use std::collections::LinkedList;
@@ -152,4 +153,16 @@ pub fn new_drain_is_true()
 /// buffer word the entry of the list's first id.
 pub fn found_is_shown()
     ensures { FoundIsShown }
+{}
+
+/// Behind the step that ends a stay of an id, and until it is admitted anew, no step takes it or finishes a call of it, and it
+/// is not in the soft side's hand. So once a removal has answered, no handler's call of the cyclic begins or ends.
+pub fn no_call_follows_removal()
+    ensures { NoCallFollowsRemoval }
+{}
+
+/// No two uses of a ring share a word: each index has a pend word of its own, each place of each bank a buffer word of its own,
+/// and no word of these is left over.
+pub fn words_are_apart()
+    ensures { WordsAreApart }
 {}

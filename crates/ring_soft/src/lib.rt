@@ -1,7 +1,7 @@
 //! The soft interrupt over a ring, and what its answer `idle` means there.
 #![tactic(auto)]
 
-ghost use Rattle.std.specs.Prelude.{◌≡◌, ℕ, ◌<◌, ◌≤◌, List, length, Some, IfOk, IfErr, IsTrue, ◌↔◌};
+ghost use Rattle.std.specs.Prelude.{◌≡◌, ℕ, ◌<◌, ◌≤◌, List, length, Some, None, IfOk, IfErr, IsTrue, ◌↔◌};
 ghost use Rattle.cyc_types.specs.Levels.{level_of, at_level};
 ghost use Rattle.cyc_soft.specs.Serving.{Served, Serves, look_of, last_look, hand_left};
 ghost use Rattle.cyc_ring.specs.Ends.{DrainEndCall, FoundIdle, end_hand, end_made};
@@ -32,8 +32,9 @@ pub fn softint<C: Calls>(
     // It is idle exactly where it stopped before the budget.
     ensures budget { IfOk result (λ r. (r.calls ≤ budget) × (IsTrue r.idle ↔ (r.calls < budget))) }
 
-    // Where it is idle it has looked, last: at the hard bank, which is the soft side's, and then at its producer word.
-    ensures idle { IfOk result (λ r. IsTrue r.idle → FoundIdle drain.old drain.new) }
+    // Where it is idle it has looked, last: at the hard bank, which is the soft side's, and then at its producer word. So no
+    // cyclic is in hand.
+    ensures idle { IfOk result (λ r. IsTrue r.idle → FoundIdle drain.old drain.new × (end_hand drain.new ≡ None)) }
 
     // A handler refused that may refuse at that moment: its cyclic stays in hand, and the calls before it were made.
     ensures refused { IfErr result (λ e. (ran : List Served) × (at : C) × (length ran ≡ e.calls) × (e.calls < budget)

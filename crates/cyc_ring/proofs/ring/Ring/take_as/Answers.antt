@@ -1,4 +1,4 @@
-use Rattle.std.proofs.Common.{rules, ◌≡◌, ℕ, ◌%◌, List, ◌∷◌, ◌++◌, refl, sym, ap, ◌∙◌, subst, arith}
+use Rattle.std.proofs.Common.{rules, ◌≡◌, ℕ, ◌%◌, List, [], ◌∷◌, ◌++◌, refl, sym, ap, ◌∙◌, subst, arith}
 use Rattle.std.specs.Prelude.{Some, None}
 use Rattle.ring_rule.specs.declared.SeatView.{SeatView}
 use Rattle.ring_rule.specs.declared.Setting.{Setting}
@@ -6,7 +6,7 @@ use Rattle.ring_rule.specs.declared.DrainStep.{DrainStep}
 use Rattle.ring_rule.specs.declared.DrainStep.TheVariants.{LoadedHardBank, LoadedProducer, Took, Followed}
 use Rattle.ring_rule.specs.Steps.{ThisSeat}
 use Rattle.cyc_ring.specs.Seats.{MakesDrainStep}
-use Rattle.cyc_ring.proofs.Calls.{one_drain, drain_call}
+use Rattle.cyc_ring.proofs.Calls.{no_drain, one_drain, drain_call}
 use Rattle.cyc_types.specs.Draining.{Takes}
 use Rattle.ring_rule.specs.Words.{index_range, entry_id}
 use Rattle.ring_rule.specs.Trail.{held_entry, soft_bank_of, consumer_index}
@@ -19,7 +19,7 @@ returns-then-end-drainer-clause-call g c = let d = c.loop-drainer.drainer in let
     let run1 = one_drain k (LoadedHardBank bank) v before d.seat c.load_hard_bank-bank.new.seat run (subst (λ (x : Setting). MakesDrainStep x (LoadedHardBank bank) d.seat c.load_hard_bank-bank.new.seat) c.requires.named c.load_hard_bank-bank.ensures.step) in
     let run2 = one_drain k (LoadedProducer end) v (LoadedHardBank bank ∷ before) c.load_hard_bank-bank.new.seat c.load_producer-end.new.seat run1 (subst (λ (x : Setting). MakesDrainStep x (LoadedProducer end) c.load_hard_bank-bank.new.seat c.load_producer-end.new.seat) c.requires.named c.load_producer-end.ensures) in
     let run3 = one_drain k (Took e) v (LoadedProducer end ∷ LoadedHardBank bank ∷ before) c.load_producer-end.new.seat c.take_entry.new.drainer.seat run2 (subst (λ (x : Setting). MakesDrainStep x (Took e) c.load_producer-end.new.seat c.take_entry.new.drainer.seat) c.requires.named c.take_entry.ensures.step) in
-    drain_call k v c.take_entry.new.drainer.seat (Took e ∷ LoadedProducer end ∷ LoadedHardBank bank ∷ before) (Takes (Some (entry_id e))) run3 (before, inv.2.1, (bank, end, e, (λ x. c.if-end-drainer.true (x ∙ sym next_is)), refl, refl))
+    drain_call k v c.take_entry.new.drainer.seat (Took e ∷ LoadedProducer end ∷ LoadedHardBank bank ∷ before) (Takes (Some (entry_id e))) run3 (before, inv.2.1, (bank, end, e, (λ x. c.if-end-drainer.true (x ∙ sym next_is)), refl, refl), (let n = inv.2.3 in let b = d.bank_is.1 in omega (arith, n, b)))
 
 pub returns-then-bank-drainer-clause-call : goal.returns-then-bank-drainer-clause-call
 returns-then-bank-drainer-clause-call g c = let d = c.loop-drainer.drainer in let inv = c.loop-drainer.invariant in let k = c.args.self.now.setting in let v : SeatView = c.args.drainer.now.seat.me.0 in let t : List DrainStep = v.drain_trail in
@@ -28,7 +28,7 @@ returns-then-bank-drainer-clause-call g c = let d = c.loop-drainer.drainer in le
     let run1 = one_drain k (LoadedHardBank bank) v before d.seat c.load_hard_bank-bank.new.seat run (subst (λ (x : Setting). MakesDrainStep x (LoadedHardBank bank) d.seat c.load_hard_bank-bank.new.seat) c.requires.named c.load_hard_bank-bank.ensures.step) in
     let run2 = one_drain k (LoadedProducer end) v (LoadedHardBank bank ∷ before) c.load_hard_bank-bank.new.seat c.load_producer-end.new.seat run1 (subst (λ (x : Setting). MakesDrainStep x (LoadedProducer end) c.load_hard_bank-bank.new.seat c.load_producer-end.new.seat) c.requires.named c.load_producer-end.ensures) in
     drain_call k v c.load_producer-end.new.seat (LoadedProducer end ∷ LoadedHardBank bank ∷ before) (Takes None) run2
-    (before, inv.2.1, (bank, end, (let test = c.if-bank-drainer.true in let looked : bank ≡ d.bank = omega (arith, test) in looked) ∙ (d.bank_is.0 ∙ ap soft_bank_of run.gained), (let h : end ≡ d.next = search rules in h ∙ next_is), refl))
+    (before, inv.2.1, (bank, end, (let test = c.if-bank-drainer.true in let looked : bank ≡ d.bank = omega (arith, test) in looked) ∙ (d.bank_is.0 ∙ ap soft_bank_of run.gained), (let h : end ≡ d.next = search rules in h ∙ next_is), refl), (let n = inv.2.3 in let b = d.bank_is.1 in omega (arith, n, b)))
 
 pub loop-drainer-preserved : goal.loop-drainer-preserved
 loop-drainer-preserved g c = let d = c.loop-drainer.drainer in let inv = c.loop-drainer.invariant in let k = c.args.self.now.setting in let v : SeatView = c.args.drainer.now.seat.me.0 in let t : List DrainStep = v.drain_trail in
@@ -44,5 +44,9 @@ loop-drainer-preserved g c = let d = c.loop-drainer.drainer in let inv = c.loop-
         Followed bank ∷ LoadedProducer end ∷ LoadedHardBank bank ∷ before,
         (refl, (λ x. let test = c.if-bank-drainer.false in let same : bank ≡ d.bank = x ∙ (ap soft_bank_of (sym run.gained) ∙ sym d.bank_is.0) in omega (arith, test, same)), (let h : end ≡ d.next = search rules in h ∙ next_is), inv.2.1),
         run3,
+        (let n = inv.2.3 in let b = d.bank_is.0 in let low = c.load_hard_bank-bank.ensures.bound.0 in let test = c.if-bank-drainer.false in omega (arith, n, b, low, test)),
       ),
     )
+
+pub loop-drainer-init : goal.loop-drainer-init
+loop-drainer-init g c = let d = c.args.drainer.now in (c.requires.own, c.requires.hand, ([], tt, no_drain c.args.self.now.setting d.seat d.role, omega arith))
