@@ -11,3 +11,4 @@ pub mod Bare
 pub mod BareMachine
 pub mod Unindexed
 pub mod Given
+pub mod Along

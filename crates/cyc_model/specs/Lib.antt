@@ -21,3 +21,4 @@ pub mod Report
 pub mod Script
 pub mod Laws
 pub mod Free
+pub mod Along

@@ -10,7 +10,10 @@
 
 ghost use Rattle.std.specs.Prelude.{ℕ};
 ghost use Rattle.cyc_model.specs.Script.{start};
-ghost use Rattle.cyc_model.specs.Laws.{RefusedOrDone, ActsTellAll, TextTellsNoIndex, IdsAreGivenOnce, HandsAreFree, SoftSideIsEnabled};
+ghost use Rattle.cyc_model.specs.Laws.{RefusedOrDone, ActsTellAll, TextTellsNoIndex, IdsAreGivenOnce, HandsAreFree, SoftSideIsEnabled, level_on};
+ghost use Rattle.cyc_model.specs.Along.{LevelsStayLawful};
+ghost use Rattle.cyc_level.specs.Lawful.{Lawful};
+ghost use Rattle.cyc_types.specs.declared.level.Soft.{Soft};
 
 /// A step that is refused changes nothing and its line has the number of the refusal; any other does what its word does.
 pub fn refused_or_done()
@@ -39,4 +42,12 @@ pub fn ids_are_given_once()
 pub fn soft_side_is_enabled()
     ensures start { (cpus ceiling names : ℕ) → HandsAreFree (start cpus ceiling names) }
     ensures run { SoftSideIsEnabled }
+{}
+
+/// Wherever each Admit, Expire, Lose, Mark, Clear and Switch of a run is enabled when it happens, each soft level of each CPU is
+/// lawful before the first and after each act: each admitted cyclic's expirations are its finished calls, its outstanding ones
+/// and those lost, a cyclic with calls outstanding stands in one place, and no list outgrows its bank.
+pub fn levels_stay_lawful()
+    ensures start { (cpus ceiling names n : ℕ) (soft : Soft) → Lawful (level_on n soft (start cpus ceiling names)) }
+    ensures run { LevelsStayLawful }
 {}
