@@ -4,6 +4,7 @@ pub mod WorkedCpus
 pub mod WorkedRules
 pub mod Filled
 pub mod Events
+pub mod Agreement
 pub mod Fair
 pub mod Local
 pub mod Telling

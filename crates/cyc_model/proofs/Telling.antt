@@ -31,6 +31,8 @@ use Rattle.cyc_model.specs.Script.{refusal_of, does, word, steps_from, text_in, 
 use Rattle.cyc_model.specs.Laws.{level_on, Tells, HandsAreFree, SoftSideIsEnabled}
 use Rattle.cyc_level.specs.Level.{Level}
 use Rattle.cyc_model.proofs.Events.{level_append, events_append, calls_append}
+use Rattle.cyc_model.specs.Agreement.{Agrees, AllAgree, CpusAgree}
+use Rattle.cyc_model.proofs.Agreement.{agrees_with, agree_at, agree_set}
 use Rattle.cyc_model.proofs.Fair.{Fair, fair_append}
 use Rattle.cyc_model.proofs.Local.{other_events, Local, SameLevels, same_low_lock, local_nothing, local_fire, local_serve, local_widen, local_place, local_enter, local_take, local_mark, local_clear, local_reprogram}
 
@@ -102,10 +104,11 @@ told_on n f local s = record {
 abbrev FairOn : List Act → State → Type 0
 FairOn acts s = (n : ℕ) → n < length s.cpus → (soft : Soft) → Fair (events_at n soft acts) (level_on n soft s)
 
--- the acts tell all, and are fair
+-- the acts tell all, and are fair; and the CPUs go on to agree
 pub record Tale (acts : List Act) (s t : State) : Type 0 where
   pub tells : Tells acts s t
   pub fair : HandsAreFree s → FairOn acts s
+  pub agree : AllAgree s.cpus → AllAgree t.cpus
 
 -- the same of what this word does
 abbrev pub Telling : (State → Outcome) → Type 0
@@ -118,7 +121,11 @@ free_after acts s t h free n within soft =
     ap (λ (l : Level). l.firer_hand) (h.tells.levels n w soft) ∙ (h.fair free n w soft).1
 
 tells_alike : (s t : State) → Alike s t → Tale [] s t
-tells_alike s t same = record { tells = told_alike s t same; fair = λ free n within soft. (tt, free n within soft) }
+tells_alike s t same = record {
+  tells = told_alike s t same;
+  fair = λ free n within soft. (tt, free n within soft);
+  agree = subst AllAgree (sym same.0);
+}
 
 tells_from : (acts : List Act) (s r t : State) → Alike s r → Tale acts r t → Tale acts s t
 tells_from acts s r t same h = record {
@@ -126,13 +133,18 @@ tells_from acts s r t same h = record {
   fair = λ free n within soft. subst (λ l. Fair (events_at n soft acts) l) (level_same n soft)
       (h.fair (λ m w k. ap (λ (l : Level). l.firer_hand) (level_same m k) ∙ free m (subst (λ j. m < j) (ap length same.0) w) k)
       n (subst (λ j. n < j) (sym (ap length same.0)) within) soft);
+  agree = λ a. h.agree (subst AllAgree (sym same.0) a);
 }
   where
     level_same : (n : ℕ) (soft : Soft) → level_on n soft r ≡ level_on n soft s
     level_same n soft = ap (λ (cs : List Cpu). level_at soft (slice_index_or cs n absent)) same.0
 
 tells_to : (acts : List Act) (s t u : State) → Tale acts s t → Alike t u → Tale acts s u
-tells_to acts s t u h same = record { tells = told_to acts s t u h.tells same; fair = h.fair }
+tells_to acts s t u h same = record {
+  tells = told_to acts s t u h.tells same;
+  fair = h.fair;
+  agree = λ a. subst AllAgree (sym same.0) (h.agree a);
+}
 
 tells_append : (xs ys : List Act) (s t u : State) → Tale xs s t → Tale ys t u → Tale (xs ++ ys) s u
 tells_append xs ys s t u first next = record {
@@ -142,6 +154,7 @@ tells_append xs ys s t u first next = record {
       subst (λ es. Fair es (level_on n soft s)) (sym (events_append n soft xs ys))
       (fair_append (events_at n soft xs) (events_at n soft ys) (level_on n soft s) (first.fair free n within soft).0
       (subst (λ l. Fair (events_at n soft ys) l) (first.tells.levels n within soft) rest));
+  agree = λ a. next.agree (first.agree a);
 }
 
 tells_then : (o : Outcome) (f : State → Outcome) (s : State) → Tale o.acts s o.state → Telling f
@@ -153,7 +166,11 @@ tells_each f one [] s = tells_alike s s (refl, refl)
 tells_each f one (x ∷ xs) s = tells_then (f x s) (each f xs) s (one x s) (tells_each f one xs)
 
 tells_on : (n : ℕ) (f : Cpu → Here) → ((c : Cpu) → Local n c (f c)) → Telling (on n f)
-tells_on n f local s = record { tells = told_on n f local s; fair = fair }
+tells_on n f local s = record {
+  tells = told_on n f local s;
+  fair = fair;
+  agree = λ a. agree_set s.cpus (f (cpu_of n s)).cpu a ((local (cpu_of n s)).agrees (agree_at s.cpus a n)) n;
+}
   where
     own : (soft : Soft) → (level_on n soft s).firer_hand ≡ None
         → Fair (events_at n soft (f (cpu_of n s)).acts) (level_on n soft s)
@@ -255,13 +272,15 @@ tells_retire : (n id : ℕ) → Telling (retire n id)
 tells_retire n id s = tells_from _ s (keep_counts n (cyclic_of id (cpu_of n s)) s) _ (kept_alike n (cyclic_of id (cpu_of n s)) s)
     (tells_on n (take_here n id) (local_take n id) (keep_counts n (cyclic_of id (cpu_of n s)) s))
 
-tells_switched : (n : ℕ) (f : Cpu → Cpu) → ((c : Cpu) → SameLevels c (f c)) → Telling (on n (λ c. nothing_here (f c)))
-tells_switched n f same s = tells_on n (λ c. nothing_here (f c)) (λ c. local_nothing n c (f c) (same c)) s
+tells_switched : (n : ℕ) (f : Cpu → Cpu) → ((c : Cpu) → SameLevels c (f c)) → ((c : Cpu) → Agrees c → Agrees (f c))
+    → Telling (on n (λ c. nothing_here (f c)))
+tells_switched n f same agrees s = tells_on n (λ c. nothing_here (f c)) (λ c. local_nothing n c (f c) (same c) (agrees c)) s
 
 tells_retire_all : (n : ℕ) → Telling (retire_all n)
 tells_retire_all n s = tells_then (each (retire n) (ids_on n s) s) (on n (λ c. nothing_here (go_offline c))) s
     (tells_each (retire n) (tells_retire n) (ids_on n s) s)
-    (tells_switched n go_offline (λ c. same_low_lock c (go_offline c) refl refl))
+    (tells_switched n go_offline (λ c. same_low_lock c (go_offline c) refl refl)
+    (λ c h. agrees_with c (go_offline c) refl refl refl (λ id. refl) h))
 
 tells_last : (b : Bool) (step n : ℕ) (o : Outcome) (s : State) → Tale o.acts s o.state
     → Tale (last_part b step n o).acts s (last_part b step n o).state
@@ -288,7 +307,8 @@ tells_return_all indexes n ps s = tells_then (on n (widen_here n (length ps)) s)
     (tells_on n (widen_here n (length ps)) (local_widen n (length ps)) s)
     (λ t. tells_then (each (return_of indexes n) ps t) (on n (λ c. nothing_here (go_online c))) t
     (tells_each (return_of indexes n) (λ p. tells_return indexes n p.id p.place) ps t)
-    (tells_switched n go_online (λ c. same_low_lock c (go_online c) refl refl)))
+    (tells_switched n go_online (λ c. same_low_lock c (go_online c) refl refl)
+    (λ c h. agrees_with c (go_online c) refl refl refl (λ id. refl) h)))
 
 tells_does : (q : Questions) (texts : List (List ℕ)) (indexes : ℕ → ℕ) (step : ℕ) (x : Step)
     → Telling (does q texts indexes step x)
@@ -349,3 +369,6 @@ fair_steps q texts indexes step xs s free =
       free_after (steps_from q texts indexes step xs s).acts s
           (steps_from q texts indexes step xs s).state h free,
     )
+
+pub agree_steps : CpusAgree
+agree_steps q texts indexes step xs s h = (tells_steps q texts indexes step xs s).agree h

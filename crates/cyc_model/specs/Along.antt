@@ -36,9 +36,8 @@ abbrev pub AllAlong : List Event → Level → Type 0
 AllAlong [] l = IsSound l
 AllAlong (event ∷ events) l = IsSound l × AllAlong events (after event l)
 
--- in any run, each soft level of each CPU that is lawful before it, with its firer's hand empty, is lawful and conserved before
--- the first and after each of its events, and so it is in the machine that the run leaves: if only each Admit, Expire, Lose, Mark,
--- Clear and Switch of that level is enabled when it happens
+-- in any run, each soft level that is lawful before it is lawful and conserved before the first and after each of its events,
+-- and so in the machine that the run leaves: if each Admit, Expire, Lose, Mark, Clear and Switch of it is enabled when it happens
 abbrev pub LevelsStayLawful : Type 0
 LevelsStayLawful = (q : Questions) (texts : List (List ℕ)) (indexes : ℕ → ℕ) (step : ℕ) (xs : List Step) (s : State)
     → HandsAreFree s → (n : ℕ) → n < length s.cpus → (soft : Soft) → Lawful (level_on n soft s)

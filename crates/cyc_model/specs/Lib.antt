@@ -22,3 +22,4 @@ pub mod Script
 pub mod Laws
 pub mod Free
 pub mod Along
+pub mod Agreement

@@ -12,6 +12,7 @@ ghost use Rattle.std.specs.Prelude.{ℕ};
 ghost use Rattle.cyc_model.specs.Script.{start};
 ghost use Rattle.cyc_model.specs.Laws.{RefusedOrDone, ActsTellAll, TextTellsNoIndex, IdsAreGivenOnce, HandsAreFree, SoftSideIsEnabled, level_on};
 ghost use Rattle.cyc_model.specs.Along.{LevelsStayLawful};
+ghost use Rattle.cyc_model.specs.Agreement.{AllAgree, CpusAgree};
 ghost use Rattle.cyc_level.specs.Lawful.{Lawful};
 ghost use Rattle.cyc_types.specs.declared.level.Soft.{Soft};
 
@@ -42,6 +43,13 @@ pub fn ids_are_given_once()
 pub fn soft_side_is_enabled()
     ensures start { (cpus ceiling names : ℕ) → HandsAreFree (start cpus ceiling names) }
     ensures run { SoftSideIsEnabled }
+{}
+
+/// In every run, on each CPU: a cyclic of a soft level is admitted at that level, both levels fill the same bank, and the CPU has
+/// one index for each of its places.
+pub fn cpus_agree()
+    ensures start { (cpus ceiling names : ℕ) → AllAgree (start cpus ceiling names).cpus }
+    ensures run { CpusAgree }
 {}
 
 /// Wherever each Admit, Expire, Lose, Mark, Clear and Switch of a run is enabled when it happens, each soft level of each CPU is
