@@ -1,6 +1,6 @@
 -- What is done on a CPU keeps its cyclics and its size in agreement with its soft levels.
 use Rattle.std.proofs.Common.{◌≡◌, ◌≢◌, ℕ, zero, suc, ◌==◌, eq-eqb, ne_eqb, Bool, true, false, cond, List, [], ◌∷◌, ◌++◌, map, Option, Some, None, refl, ap, sym, ◌∙◌, subst}
-use Rattle.std.specs.Prelude.{⊤, IsSome, is_some, not, nat_lt, find, length, replicate, slice_index_or, slice_set}
+use Rattle.std.specs.Prelude.{⊤, IsSome, is_some, not, nat_lt, find, replicate, slice_index_or, slice_set}
 use Rattle.std.specs.Option.{option_map, option_map_or}
 use mathlib.Core.Logic.{dite}
 use native.Mathlib.Decide.{ℕ_discrete}
@@ -8,17 +8,16 @@ use Rattle.cyc_types.specs.declared.level.Soft.{Soft}
 use Rattle.cyc_types.specs.declared.level.Soft.TheVariants.{Low, Lock}
 use Rattle.cyc_types.specs.declared.level.Level.{Level as CyclicLevel}
 use Rattle.cyc_types.specs.declared.level.Level.TheVariants as level
-use Rattle.cyc_types.specs.Series.{never}
 use Rattle.cyc_level.specs.declared.Event.{Event}
 use Rattle.cyc_level.specs.declared.Event.TheVariants.{Admit, Expire, Lose, Publish, Take, Finish, Mark, Clear, Switch, Follow}
 use Rattle.cyc_level.specs.Level.{Level, Cyclics, Cyclic as Admitted, bank_size, count}
 use Rattle.cyc_level.specs.Events.{after, after_finish, changed_at, admitted_cyclic, cyclic_after_expire, cyclic_after_lose, cyclic_after_finish}
 use Rattle.cyc_expirations.specs.Expirations.{Expiration, after as timer_after}
 use Rattle.cyc_model.specs.Acts.{Act, At, Call, at_own}
-use Rattle.cyc_model.specs.Cpu.{Cyclic, Cpu, Here, cpu_after, happen, here, nothing_here, is_of, cyclic_of, level_of, others, new_cpu, with_moment}
-use Rattle.cyc_model.specs.Firing.{raised, expiry, expire_here, expire_all, due_here, fired, fire_here}
+use Rattle.cyc_model.specs.Cpu.{Cyclic, Cpu, cpu_after, happen, here, is_of, level_of, others, new_cpu, with_moment}
+use Rattle.cyc_model.specs.Firing.{raised, expiry, expire_here, fired}
 use Rattle.cyc_model.specs.Serving.{level_at, level_after, looks, look, Interrupt, after_look, serve, serve_here}
-use Rattle.cyc_model.specs.Moving.{must_grow, widen_here, switch_here, place_here, put_in, take_here, mark_here, clear_here, reprogram_here, moment_at, bank_for}
+use Rattle.cyc_model.specs.Moving.{switch_here, place_here, put_in, moment_at}
 use Rattle.cyc_model.specs.State.{absent}
 use Rattle.cyc_model.specs.Agreement.{as_level, Agrees, AllAgree}
 
@@ -28,17 +27,24 @@ IsCalm (Clear id) = ⊥
 IsCalm (Switch bank) = ⊥
 IsCalm _ = ⊤
 
+-- this holds of the act's event, and of each act's
+abbrev pub ActIs : (Event → Type 0) → Act → Type 0
+ActIs Q (At n soft e) = Q e
+ActIs Q (Call id) = ⊤
+
+abbrev pub AllActs : (Event → Type 0) → List Act → Type 0
+AllActs Q [] = ⊤
+AllActs Q (a ∷ acts) = ActIs Q a × AllActs Q acts
+
 abbrev CalmAct : Act → Type 0
-CalmAct (At n soft e) = IsCalm e
-CalmAct (Call id) = ⊤
+CalmAct a = ActIs IsCalm a
 
 abbrev AllCalm : List Act → Type 0
-AllCalm [] = ⊤
-AllCalm (a ∷ acts) = CalmAct a × AllCalm acts
+AllCalm acts = AllActs IsCalm acts
 
-calm_append : (xs ys : List Act) → AllCalm xs → AllCalm ys → AllCalm (xs ++ ys)
-calm_append [] ys h i = i
-calm_append (x ∷ xs) ys h i = (h.0, calm_append xs ys h.1 i)
+acts_append : (Q : Event → Type 0) (xs ys : List Act) → AllActs Q xs → AllActs Q ys → AllActs Q (xs ++ ys)
+acts_append Q [] ys h i = i
+acts_append Q (x ∷ xs) ys h i = (h.0, acts_append Q xs ys h.1 i)
 
 -- ---- what is admitted stays so
 
@@ -56,7 +62,8 @@ mapped_some f (Some c) h = refl
 
 finish_some : (hand : Option ℕ) (l : Level) (j : ℕ) → IsSome (l.cyclics j) → IsSome ((after_finish hand l).cyclics j)
 finish_some None l j h = h
-finish_some (Some id) l j h = changed_some l.cyclics id (option_map cyclic_after_finish) j (mapped_some cyclic_after_finish (l.cyclics j)) h
+finish_some (Some id) l j h =
+    changed_some l.cyclics id (option_map cyclic_after_finish) j (mapped_some cyclic_after_finish (l.cyclics j)) h
 
 finish_bank : (hand : Option ℕ) (l : Level) → (after_finish hand l).hard_bank ≡ l.hard_bank
 finish_bank None l = refl
@@ -105,7 +112,13 @@ onward_act (At n Low e) c calm = record { cyclics = refl; size = refl; lock = re
         → IsSome ((level_at soft (record c { low = after e c.low })).cyclics id)
     by id Low h = stays_admitted e c.low id calm h
     by id Lock h = h
-onward_act (At n Lock e) c calm = record { cyclics = refl; size = refl; lock = same_bank e c.lock calm; low = refl; admitted = by }
+onward_act (At n Lock e) c calm = record {
+  cyclics = refl;
+  size = refl;
+  lock = same_bank e c.lock calm;
+  low = refl;
+  admitted = by;
+}
   where
     by : (id : ℕ) (soft : Soft) → IsSome ((level_at soft c).cyclics id)
         → IsSome ((level_at soft (record c { lock = after e c.lock })).cyclics id)
@@ -261,7 +274,8 @@ agrees_place n index x c h = record {
       (λ same i. subst (λ (j : ℕ). IsSome ((level_at soft after_it).cyclics j)) same
       (admitted_own n x.timer.id index x.timer.level soft with_it i))
       c.cyclics
-      (λ i. on.admitted id soft (subst (λ (l : Level). IsSome (l.cyclics id)) (sym (same_at c (put_in x c.cyclics) c.removal soft))
+      (λ i. on.admitted id soft
+      (subst (λ (l : Level). IsSome (l.cyclics id)) (sym (same_at c (put_in x c.cyclics) c.removal soft))
       (h.admitted id soft i)))
       (ap (level_in id) (sym on.cyclics) ∙ is);
 }
@@ -273,7 +287,8 @@ agrees_place n index x c h = record {
     after_it = happen (at_own n x.timer.level (Admit x.timer.id index)) with_it
 
     on : Onward with_it after_it
-    on = onward_acts (at_own n x.timer.level (Admit x.timer.id index)) with_it (calm_own n x.timer.level (Admit x.timer.id index) tt)
+    on = onward_acts (at_own n x.timer.level (Admit x.timer.id index)) with_it
+        (calm_own n x.timer.level (Admit x.timer.id index) tt)
 
 -- where the stay of one id ends
 record Past (id : ℕ) (c d : Cpu) : Type 0 where
@@ -312,7 +327,8 @@ agrees_gone n id l r c h = record {
   size = past.size ∙ h.size ∙ ap bank_size (sym past.lock);
   admitted = λ j soft is. level_others (λ k. k ≡ as_level soft → IsSome ((level_at soft after_it).cyclics j)) j id
       (λ no. absurd (high_is_not soft no)) c.cyclics
-      (λ far i. past.admitted j soft far (subst (λ (m : Level). IsSome (m.cyclics j)) (sym (same_at c (others id c.cyclics) r soft))
+      (λ far i. past.admitted j soft far
+      (subst (λ (m : Level). IsSome (m.cyclics j)) (sym (same_at c (others id c.cyclics) r soft))
       (h.admitted j soft i)))
       (ap (level_in j) (sym past.cyclics) ∙ is);
 }
@@ -350,36 +366,40 @@ pub agrees_fired : (now : ℕ) (made : List Expiration) (acts : List Act) (c : C
 agrees_fired now made acts c h = agrees_with c (record c { cyclics = map (fired now made acts) c.cyclics }) refl refl refl
     (λ id. level_map (fired now made acts) (fired_same now made acts) id c.cyclics) h
 
-calm_looks : (n : ℕ) (soft : Soft) (old new : List ℕ) (b : Bool) → AllCalm (map (At n soft) (looks old new b))
-calm_looks n soft old (x ∷ xs) true = (tt, tt)
-calm_looks n soft old [] true = tt
-calm_looks n soft (x ∷ xs) new false = (tt, tt)
-calm_looks n soft [] (y ∷ ys) false = (tt, (tt, tt))
-calm_looks n soft [] [] false = (tt, tt)
+-- what holds of Take, Finish and Follow holds of all that a soft interrupt does
+module _ (Q : Event → Type 0) (take : Q Take) (finish : Q Finish) (follow : Q Follow) where
+  acts_of_looks : (n : ℕ) (soft : Soft) (old new : List ℕ) (b : Bool) → AllActs Q (map (At n soft) (looks old new b))
+  acts_of_looks n soft old (x ∷ xs) true = (take, tt)
+  acts_of_looks n soft old [] true = tt
+  acts_of_looks n soft (x ∷ xs) new false = (take, tt)
+  acts_of_looks n soft [] (y ∷ ys) false = (follow, (take, tt))
+  acts_of_looks n soft [] [] false = (follow, tt)
 
-calm_look : (n : ℕ) (soft : Soft) (l : Level) → AllCalm (map (At n soft) (look l))
-calm_look n soft l = by (is_some l.drainer_hand)
-  where
-    by : (b : Bool) → AllCalm (map (At n soft) (cond b [] (looks l.old_list l.new_list (l.hard_bank == l.soft_bank))))
-    by true = tt
-    by false = calm_looks n soft l.old_list l.new_list (l.hard_bank == l.soft_bank)
+  acts_of_look : (n : ℕ) (soft : Soft) (l : Level) → AllActs Q (map (At n soft) (look l))
+  acts_of_look n soft l =
+      by (is_some l.drainer_hand) (acts_of_looks n soft l.old_list l.new_list (l.hard_bank == l.soft_bank))
+    where
+      by : (b : Bool) → AllActs Q (map (At n soft) (looks l.old_list l.new_list (l.hard_bank == l.soft_bank)))
+          → AllActs Q (map (At n soft) (cond b [] (looks l.old_list l.new_list (l.hard_bank == l.soft_bank))))
+      by true all = tt
+      by false all = all
 
-calm_after : (n : ℕ) (soft : Soft) (looked : List Event) (l : Level) (rest : Level → Interrupt)
-    → AllCalm (map (At n soft) looked) → ((m : Level) → AllCalm (rest m).acts)
-    → (hand : Option ℕ) → AllCalm (after_look n soft looked (record l { drainer_hand = hand }) rest).acts
-calm_after n soft looked l rest calm more None = calm
-calm_after n soft looked l rest calm more (Some id) =
-    calm_append (map (At n soft) looked) _ calm (tt, (tt, more (after Finish (record l { drainer_hand = Some id }))))
+  acts_after : (n : ℕ) (soft : Soft) (looked : List Event) (l : Level) (rest : Level → Interrupt)
+      → AllActs Q (map (At n soft) looked) → ((m : Level) → AllActs Q (rest m).acts)
+      → (hand : Option ℕ) → AllActs Q (after_look n soft looked (record l { drainer_hand = hand }) rest).acts
+  acts_after n soft looked l rest all more None = all
+  acts_after n soft looked l rest all more (Some id) =
+      acts_append Q (map (At n soft) looked) _ all (tt, (finish, more (after Finish (record l { drainer_hand = Some id }))))
 
-calm_serve : (n : ℕ) (soft : Soft) (budget : ℕ) (l : Level) → AllCalm (serve n soft budget l).acts
-calm_serve n soft zero l = tt
-calm_serve n soft (suc budget) l =
-    calm_after n soft (look l) (level_after (look l) l) (serve n soft budget) (calm_look n soft l) (calm_serve n soft budget)
-    (level_after (look l) l).drainer_hand
+  pub acts_of_serve : (n : ℕ) (soft : Soft) (budget : ℕ) (l : Level) → AllActs Q (serve n soft budget l).acts
+  acts_of_serve n soft zero l = tt
+  acts_of_serve n soft (suc budget) l =
+      acts_after n soft (look l) (level_after (look l) l) (serve n soft budget) (acts_of_look n soft l)
+      (acts_of_serve n soft budget) (level_after (look l) l).drainer_hand
 
 pub agrees_serve : (n : ℕ) (soft : Soft) (budget : ℕ) (c : Cpu) → Agrees c → Agrees (serve_here n soft budget c).cpu
 agrees_serve n soft budget c h = agrees_here (serve n soft budget (level_at soft c)).acts c
-    (calm_serve n soft budget (level_at soft c)) h
+    (acts_of_serve IsCalm tt tt tt n soft budget (level_at soft c)) h
 
 pub agrees_switch : (n bank : ℕ) (c : Cpu) → Agrees c → Agrees (switch_here n bank c).cpu
 agrees_switch n bank c h = record { one_bank = refl; size = refl; admitted = by }

@@ -1,6 +1,6 @@
 -- What the soft side does can happen, and so can each Publish.
 use Rattle.std.proofs.Common.{◌≡◌, ◌≢◌, ℕ, zero, suc, ◌==◌, ◌&&◌, eq-eqb, ne_eqb, Bool, true, false, cond, List, [], ◌∷◌, ◌++◌, map, Option, Some, None, refl, ap, sym, ◌∙◌, subst}
-use Rattle.std.specs.Prelude.{⊤, is_some, IsSome}
+use Rattle.std.specs.Prelude.{is_some, IsSome}
 use Rattle.std.specs.Option.{option_map_or}
 use mathlib.Core.Logic.{dite}
 use native.Mathlib.Decide.{ℕ_discrete}
@@ -9,14 +9,14 @@ use Rattle.cyc_types.specs.declared.level.Soft.TheVariants.{Low, Lock}
 use Rattle.cyc_types.specs.declared.level.Level.{Level as CyclicLevel}
 use Rattle.cyc_types.specs.declared.level.Level.TheVariants as level
 use Rattle.cyc_level.specs.declared.Event.{Event}
-use Rattle.cyc_level.specs.declared.Event.TheVariants.{Admit, Expire, Lose, Publish, Take, Finish, Mark, Clear, Switch, Follow}
+use Rattle.cyc_level.specs.declared.Event.TheVariants.{Expire, Lose, Publish, Finish, Switch, Follow}
 use Rattle.cyc_level.specs.Level.{Level, count, soft_list}
-use Rattle.cyc_level.specs.Events.{after, after_finish, Enabled, hand_after_expire}
+use Rattle.cyc_level.specs.Events.{after, after_finish, hand_after_expire}
 use Rattle.cyc_model.specs.Acts.{Act, At, Call, at_own, same_soft, event_at, events_at}
 use Rattle.cyc_model.specs.Cpu.{Cpu}
 use Rattle.cyc_model.specs.Firing.{raised, expiry}
-use Rattle.cyc_model.specs.Serving.{level_after, looks, look, Interrupt, calling, found_nothing, after_look, serve, level_at}
-use Rattle.cyc_model.specs.Laws.{CanAsSoft, AllCanAsSoft}
+use Rattle.cyc_model.specs.Serving.{level_after, looks, look, Interrupt, calling, found_nothing, serve, level_at}
+use Rattle.cyc_model.specs.Laws.{AllCanAsSoft}
 use Rattle.cyc_model.proofs.Events.{level_append, events_append}
 
 -- these events can happen as far as the soft side has a part in them, and leave the firer's hand empty
@@ -40,7 +40,7 @@ abbrev pub FairAt : ℕ → List Act → Cpu → Type 0
 FairAt n acts c = (soft : Soft) → (level_at soft c).firer_hand ≡ None → Fair (events_at n soft acts) (level_at soft c)
 
 -- the events of the acts of one level
-own_events : (n : ℕ) (from soft : Soft) (es : List Event) → events_at n soft (map (At n from) es)
+pub own_events : (n : ℕ) (from soft : Soft) (es : List Event) → events_at n soft (map (At n from) es)
     ≡ cond (same_soft from soft) es []
 own_events n from soft [] = sym (by (same_soft from soft))
   where
@@ -241,15 +241,14 @@ fair_serve_at n Lock budget c Lock free = fair_serve n Lock budget c.lock free
 fair_serve_at n Low budget c Lock free = subst (λ es. Fair es c.lock) (sym (serve_other n Low Lock refl budget c.low)) (tt, free)
 fair_serve_at n Lock budget c Low free = subst (λ es. Fair es c.low) (sym (serve_other n Lock Low refl budget c.lock)) (tt, free)
 
--- a switch of both banks
+-- a switch of both banks, at each level
+pub switch_events : (n bank : ℕ) (soft : Soft)
+    → events_at n soft (At n Lock (Switch bank) ∷ At n Low (Switch bank) ∷ []) ≡ Switch bank ∷ []
+switch_events n bank Low =
+    ap (λ (b : Bool). cond (b && false) (Switch bank ∷ []) [] ++ (cond (b && true) (Switch bank ∷ []) [] ++ [])) (eq-eqb n n refl)
+switch_events n bank Lock =
+    ap (λ (b : Bool). cond (b && true) (Switch bank ∷ []) [] ++ (cond (b && false) (Switch bank ∷ []) [] ++ [])) (eq-eqb n n refl)
+
 pub fair_switch : (n bank : ℕ) (c : Cpu) → FairAt n (At n Lock (Switch bank) ∷ At n Low (Switch bank) ∷ []) c
-fair_switch n bank c Low free = subst (λ es. Fair es c.low) (sym both) ((tt, tt), free)
-  where
-    both : events_at n Low (At n Lock (Switch bank) ∷ At n Low (Switch bank) ∷ []) ≡ Switch bank ∷ []
-    both = ap (λ (b : Bool). cond (b && false) (Switch bank ∷ []) [] ++ (cond (b && true) (Switch bank ∷ []) [] ++ []))
-        (eq-eqb n n refl)
-fair_switch n bank c Lock free = subst (λ es. Fair es c.lock) (sym both) ((tt, tt), free)
-  where
-    both : events_at n Lock (At n Lock (Switch bank) ∷ At n Low (Switch bank) ∷ []) ≡ Switch bank ∷ []
-    both = ap (λ (b : Bool). cond (b && true) (Switch bank ∷ []) [] ++ (cond (b && false) (Switch bank ∷ []) [] ++ []))
-        (eq-eqb n n refl)
+fair_switch n bank c soft free =
+    subst (λ es. Fair es (level_at soft c)) (sym (switch_events n bank soft)) ((tt, tt), free)

@@ -6,6 +6,7 @@ pub mod Filled
 pub mod Events
 pub mod Agreement
 pub mod Fair
+pub mod Ready
 pub mod Local
 pub mod Telling
 pub mod Bare

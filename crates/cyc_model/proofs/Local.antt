@@ -11,14 +11,15 @@ use Rattle.cyc_level.specs.declared.Event.TheVariants.{Admit, Mark, Clear, Finis
 use Rattle.cyc_level.specs.Level.{Level}
 use Rattle.cyc_level.specs.Events.{after}
 use Rattle.cyc_expirations.specs.Expirations.{Expiration}
-use Rattle.cyc_model.specs.Acts.{Act, At, Call, at_own, same_soft, event_at, events_at, calls_of}
+use Rattle.cyc_model.specs.Acts.{Act, At, Call, at_own, same_soft, event_at, events_at}
 use Rattle.cyc_model.specs.Cpu.{Cyclic, Cpu, Here, cpu_after, happen, here, nothing_here, then_here, level_of, others}
 use Rattle.cyc_model.specs.Firing.{raised, expiry, expire_here, expire_all, due_here, fire_here}
 use Rattle.cyc_model.specs.Serving.{level_after, look, Interrupt, after_look, serve, serve_here, level_at}
-use Rattle.cyc_model.specs.Moving.{bank_for, switch_here, widen_here, must_grow, place_here, enter_here, take_here, mark_here, clear_here, reprogram_here}
+use Rattle.cyc_model.specs.Moving.{bank_for, widen_here, must_grow, place_here, enter_here, take_here, mark_here, clear_here, reprogram_here}
 use Rattle.cyc_model.proofs.Events.{level_append, events_append}
-use Rattle.cyc_model.specs.Agreement.{Agrees}
+use Rattle.cyc_model.specs.Agreement.{Agrees, AllReady}
 use Rattle.cyc_model.proofs.Agreement.{agrees_expire, agrees_fired, agrees_serve, agrees_switch, agrees_place, agrees_gone, agrees_own, agrees_moment}
+use Rattle.cyc_model.proofs.Ready.{ReadyAt, ready_append, ready_expire, ready_serve, ready_switch, ready_admit, ready_mark, ready_clear}
 use Rattle.cyc_model.proofs.Fair.{Fair, FairAt, fair_append, fair_own, fair_expiry, fair_serve_at, fair_switch}
 
 -- the act is of the CPU of this number
@@ -77,22 +78,30 @@ pub record Local (n : ℕ) (c : Cpu) (d : Here) : Type 0 where
   pub levels : (soft : Soft) → level_at soft d.cpu ≡ level_after (events_at n soft d.acts) (level_at soft c)
   pub fair : FairAt n d.acts c
   pub agrees : Agrees c → Agrees d.cpu
+  pub ready : ReadyAt n d.acts c
 
 -- the two have the same levels
 abbrev pub SameLevels : Cpu → Cpu → Type 0
 SameLevels c d = (soft : Soft) → level_at soft d ≡ level_at soft c
 
 pub local_here : (n : ℕ) (acts : List Act) (c d : Cpu) → AllOn n acts → SameLevels c d → FairAt n acts c
-    → (Agrees c → Agrees (here acts d).cpu) → Local n c (here acts d)
-local_here n acts c d is same fair agrees = record {
+    → (Agrees c → Agrees (here acts d).cpu) → ReadyAt n acts c → Local n c (here acts d)
+local_here n acts c d is same fair agrees ready = record {
   on = is;
   levels = λ soft. own_levels acts n soft d is ∙ ap (level_after (events_at n soft acts)) (same soft);
   fair = fair;
   agrees = agrees;
+  ready = ready;
 }
 
 pub local_nothing : (n : ℕ) (c d : Cpu) → SameLevels c d → (Agrees c → Agrees d) → Local n c (nothing_here d)
-local_nothing n c d same agrees = record { on = tt; levels = same; fair = λ soft free. (tt, free); agrees = agrees }
+local_nothing n c d same agrees = record {
+  on = tt;
+  levels = same;
+  fair = λ soft free. (tt, free);
+  agrees = agrees;
+  ready = λ a soft free. tt;
+}
 
 pub local_then : (n : ℕ) (c : Cpu) (d : Here) (f : Cpu → Here) → Local n c d → ((e : Cpu) → Local n e (f e))
     → Local n c (then_here d f)
@@ -109,6 +118,12 @@ local_then n c d f first next = record {
       (fair_append (events_at n soft d.acts) (events_at n soft (f d.cpu).acts) (level_at soft c) one.0
       (subst (λ l. Fair (events_at n soft (f d.cpu).acts) l) (first.levels soft) rest));
   agrees = λ h. (next d.cpu).agrees (first.agrees h);
+  ready = λ h soft free.
+      let rest = (next d.cpu).ready (first.agrees h) soft
+      (ap (λ (l : Level). l.firer_hand) (first.levels soft) ∙ (first.fair soft free).1) in
+      subst (λ es. AllReady es (level_at soft c)) (sym (events_append n soft d.acts (f d.cpu).acts))
+      (ready_append (events_at n soft d.acts) (events_at n soft (f d.cpu).acts) (level_at soft c) (first.ready h soft free)
+      (subst (λ l. AllReady (events_at n soft (f d.cpu).acts) l) (first.levels soft) rest));
 }
 
 pub same_low_lock : (c d : Cpu) → d.lock ≡ c.lock → d.low ≡ c.low → SameLevels c d
@@ -128,7 +143,7 @@ on_expiry n level.Low id c = on_map n Low (raised id c.low)
 
 local_expire : (n id : ℕ) (c : Cpu) → Local n c (expire_here n id c)
 local_expire n id c = local_here n (expiry n (level_of id c) id c) c c (on_expiry n (level_of id c) id c) (λ soft. refl)
-    (fair_expiry n (level_of id c) id c) (agrees_expire n id c)
+    (fair_expiry n (level_of id c) id c) (agrees_expire n id c) (ready_expire n id c)
 
 pub local_expire_all : (n : ℕ) (ps : List Expiration) (c : Cpu) → Local n c (expire_all n ps c)
 local_expire_all n [] c = local_nothing n c c (λ soft. refl) (λ h. h)
@@ -138,7 +153,13 @@ local_expire_all n (p ∷ ps) c = local_then n c (expire_here n p.id c) (expire_
 retimed : (n : ℕ) (c : Cpu) (d : Here) (cs : List Cyclic) → Local n c d
     → (Agrees d.cpu → Agrees (record d.cpu { cyclics = cs }))
     → Local n c (record d { cpu = record d.cpu { cyclics = cs } })
-retimed n c d cs h agrees = record { on = h.on; levels = same; fair = h.fair; agrees = λ a. agrees (h.agrees a) }
+retimed n c d cs h agrees = record {
+  on = h.on;
+  levels = same;
+  fair = h.fair;
+  agrees = λ a. agrees (h.agrees a);
+  ready = h.ready;
+}
   where
     same : (soft : Soft) → level_at soft (record d.cpu { cyclics = cs }) ≡ level_after (events_at n soft d.acts) (level_at soft c)
     same Low = h.levels Low
@@ -165,17 +186,18 @@ on_serve n soft (suc budget) l =
 pub local_serve : (n : ℕ) (soft : Soft) (budget : ℕ) (c : Cpu) → Local n c (serve_here n soft budget c)
 local_serve n soft budget c =
     local_here n (serve n soft budget (level_at soft c)).acts c c (on_serve n soft budget (level_at soft c)) (λ s. refl)
-    (fair_serve_at n soft budget c) (agrees_serve n soft budget c)
+    (fair_serve_at n soft budget c) (agrees_serve n soft budget c) (ready_serve n soft budget c)
 
 pub local_widen : (n more : ℕ) (c : Cpu) → Local n c (widen_here n more c)
 local_widen n more c = local_if (must_grow more c) n c _ (nothing_here c)
     (local_here n _ c _ (refl, (refl, tt)) (same_low_lock c _ refl refl) (fair_switch n (bank_for (length c.cyclics + more)) c)
-    (agrees_switch n (bank_for (length c.cyclics + more)) c))
+    (agrees_switch n (bank_for (length c.cyclics + more)) c) (ready_switch n (bank_for (length c.cyclics + more)) c))
     (local_nothing n c c (λ soft. refl) (λ h. h))
 
 pub local_place : (n index : ℕ) (x : Cyclic) (c : Cpu) → Local n c (place_here n index x c)
 local_place n index x c = local_here n _ c _ (on_own n x.timer.level _) (same_low_lock c _ refl refl)
     (fair_own n x.timer.level (Admit x.timer.id index) c (λ l free. ((tt, tt), free))) (agrees_place n index x c)
+    (ready_admit n x.timer.level x.timer.id index c)
 
 pub local_enter : (n index : ℕ) (x : Cyclic) (c : Cpu) → Local n c (enter_here n index x c)
 local_enter n index x c = local_then n c (widen_here n 1 c) (place_here n index x) (local_widen n 1 c) (local_place n index x)
@@ -184,21 +206,22 @@ pub local_take : (n id : ℕ) (c : Cpu) → Local n c (take_here n id c)
 local_take n id c =
     local_then n c (here (at_own n (level_of id c) (Mark id)) c) _
     (local_here n (at_own n (level_of id c) (Mark id)) c c (on_own n (level_of id c) (Mark id)) (λ soft. refl)
-    (fair_own n (level_of id c) (Mark id) c (λ l free. ((tt, tt), free))) (agrees_own n (level_of id c) id c))
+    (fair_own n (level_of id c) (Mark id) c (λ l free. ((tt, tt), free))) (agrees_own n (level_of id c) id c)
+    (ready_mark n id c))
     (λ d. local_here n (at_own n (level_of id d) (Clear id)) d (record d { cyclics = others id d.cyclics })
     (on_own n (level_of id d) (Clear id)) (same_low_lock d _ refl refl)
     (fair_own n (level_of id d) (Clear id) d (λ l free. ((tt, tt), free)))
-    (agrees_gone n id (level_of id d) d.removal d))
+    (agrees_gone n id (level_of id d) d.removal d) (ready_clear n (level_of id d) id d))
 
 pub local_mark : (n id : ℕ) (c : Cpu) → Local n c (mark_here n id c)
 local_mark n id c = local_here n _ c _ (on_own n (level_of id c) (Mark id)) (same_low_lock c _ refl refl)
     (fair_own n (level_of id c) (Mark id) c (λ l free. ((tt, tt), free)))
-    (λ h. agrees_own n (level_of id c) id _ (agrees_moment id never (Some id) c h))
+    (λ h. agrees_own n (level_of id c) id _ (agrees_moment id never (Some id) c h)) (ready_mark n id c)
 
 pub local_clear : (n id : ℕ) (c : Cpu) → Local n c (clear_here n id c)
 local_clear n id c = local_here n _ c _ (on_own n (level_of id c) (Clear id)) (same_low_lock c _ refl refl)
     (fair_own n (level_of id c) (Clear id) c (λ l free. ((tt, tt), free)))
-    (agrees_gone n id (level_of id c) None c)
+    (agrees_gone n id (level_of id c) None c) (ready_clear n (level_of id c) id c)
 
 pub local_reprogram : (n id moment : ℕ) (c : Cpu) → Local n c (reprogram_here id moment c)
 local_reprogram n id moment c = local_nothing n c _ (same_low_lock c _ refl refl) (agrees_moment id moment c.removal c)

@@ -31,9 +31,10 @@ use Rattle.cyc_model.specs.Script.{refusal_of, does, word, steps_from, text_in, 
 use Rattle.cyc_model.specs.Laws.{level_on, Tells, HandsAreFree, SoftSideIsEnabled}
 use Rattle.cyc_level.specs.Level.{Level}
 use Rattle.cyc_model.proofs.Events.{level_append, events_append, calls_append}
-use Rattle.cyc_model.specs.Agreement.{Agrees, AllAgree, CpusAgree}
+use Rattle.cyc_model.specs.Agreement.{Agrees, AllAgree, CpusAgree, AllReady, FiringSideIsReady}
 use Rattle.cyc_model.proofs.Agreement.{agrees_with, agree_at, agree_set}
 use Rattle.cyc_model.proofs.Fair.{Fair, fair_append}
+use Rattle.cyc_model.proofs.Ready.{ready_append}
 use Rattle.cyc_model.proofs.Local.{other_events, Local, SameLevels, same_low_lock, local_nothing, local_fire, local_serve, local_widen, local_place, local_enter, local_take, local_mark, local_clear, local_reprogram}
 
 -- a state with the same CPUs and calls
@@ -104,11 +105,16 @@ told_on n f local s = record {
 abbrev FairOn : List Act → State → Type 0
 FairOn acts s = (n : ℕ) → n < length s.cpus → (soft : Soft) → Fair (events_at n soft acts) (level_on n soft s)
 
--- the acts tell all, and are fair; and the CPUs go on to agree
+-- and find all ready there
+abbrev ReadyOn : List Act → State → Type 0
+ReadyOn acts s = (n : ℕ) → n < length s.cpus → (soft : Soft) → AllReady (events_at n soft acts) (level_on n soft s)
+
+-- the acts tell all, and are fair; where the CPUs agree they go on to, and find all ready
 pub record Tale (acts : List Act) (s t : State) : Type 0 where
   pub tells : Tells acts s t
   pub fair : HandsAreFree s → FairOn acts s
   pub agree : AllAgree s.cpus → AllAgree t.cpus
+  pub ready : AllAgree s.cpus → HandsAreFree s → ReadyOn acts s
 
 -- the same of what this word does
 abbrev pub Telling : (State → Outcome) → Type 0
@@ -125,6 +131,7 @@ tells_alike s t same = record {
   tells = told_alike s t same;
   fair = λ free n within soft. (tt, free n within soft);
   agree = subst AllAgree (sym same.0);
+  ready = λ a free n within soft. tt;
 }
 
 tells_from : (acts : List Act) (s r t : State) → Alike s r → Tale acts r t → Tale acts s t
@@ -134,6 +141,10 @@ tells_from acts s r t same h = record {
       (h.fair (λ m w k. ap (λ (l : Level). l.firer_hand) (level_same m k) ∙ free m (subst (λ j. m < j) (ap length same.0) w) k)
       n (subst (λ j. n < j) (sym (ap length same.0)) within) soft);
   agree = λ a. h.agree (subst AllAgree (sym same.0) a);
+  ready = λ a free n within soft. subst (λ l. AllReady (events_at n soft acts) l) (level_same n soft)
+      (h.ready (subst AllAgree (sym same.0) a)
+      (λ m w k. ap (λ (l : Level). l.firer_hand) (level_same m k) ∙ free m (subst (λ j. m < j) (ap length same.0) w) k)
+      n (subst (λ j. n < j) (sym (ap length same.0)) within) soft);
 }
   where
     level_same : (n : ℕ) (soft : Soft) → level_on n soft r ≡ level_on n soft s
@@ -144,6 +155,7 @@ tells_to acts s t u h same = record {
   tells = told_to acts s t u h.tells same;
   fair = h.fair;
   agree = λ a. subst AllAgree (sym same.0) (h.agree a);
+  ready = h.ready;
 }
 
 tells_append : (xs ys : List Act) (s t u : State) → Tale xs s t → Tale ys t u → Tale (xs ++ ys) s u
@@ -155,6 +167,12 @@ tells_append xs ys s t u first next = record {
       (fair_append (events_at n soft xs) (events_at n soft ys) (level_on n soft s) (first.fair free n within soft).0
       (subst (λ l. Fair (events_at n soft ys) l) (first.tells.levels n within soft) rest));
   agree = λ a. next.agree (first.agree a);
+  ready = λ a free n within soft.
+      let rest = next.ready (first.agree a) (free_after xs s t first free) n
+      (subst (λ k. n < k) (sym first.tells.as_many) within) soft in
+      subst (λ es. AllReady es (level_on n soft s)) (sym (events_append n soft xs ys))
+      (ready_append (events_at n soft xs) (events_at n soft ys) (level_on n soft s) (first.ready a free n within soft)
+      (subst (λ l. AllReady (events_at n soft ys) l) (first.tells.levels n within soft) rest));
 }
 
 tells_then : (o : Outcome) (f : State → Outcome) (s : State) → Tale o.acts s o.state → Telling f
@@ -170,6 +188,7 @@ tells_on n f local s = record {
   tells = told_on n f local s;
   fair = fair;
   agree = λ a. agree_set s.cpus (f (cpu_of n s)).cpu a ((local (cpu_of n s)).agrees (agree_at s.cpus a n)) n;
+  ready = ready;
 }
   where
     own : (soft : Soft) → (level_on n soft s).firer_hand ≡ None
@@ -182,6 +201,13 @@ tells_on n f local s = record {
         (own soft (free n (subst (λ k. k < length s.cpus) same within) soft)))
         (λ ne. subst (λ es. Fair es (level_on m soft s))
         (sym (other_events (f (cpu_of n s)).acts n m soft (local (cpu_of n s)).on ne)) (tt, free m within soft))
+
+    ready : AllAgree s.cpus → HandsAreFree s → ReadyOn (f (cpu_of n s)).acts s
+    ready a free m within soft = dite (ℕ_discrete m n)
+        (λ same. subst (λ k. AllReady (events_at k soft (f (cpu_of n s)).acts) (level_on k soft s)) (sym same)
+        ((local (cpu_of n s)).ready (agree_at s.cpus a n) soft (free n (subst (λ k. k < length s.cpus) same within) soft)))
+        (λ ne. subst (λ es. AllReady es (level_on m soft s))
+        (sym (other_events (f (cpu_of n s)).acts n m soft (local (cpu_of n s)).on ne)) tt)
 
 -- ---- the words
 
@@ -372,3 +398,7 @@ fair_steps q texts indexes step xs s free =
 
 pub agree_steps : CpusAgree
 agree_steps q texts indexes step xs s h = (tells_steps q texts indexes step xs s).agree h
+
+pub ready_steps : FiringSideIsReady
+ready_steps q texts indexes step xs s free agree n within soft =
+    (tells_steps q texts indexes step xs s).ready agree free n within soft

@@ -1,16 +1,21 @@
 -- How the cyclics and the size of a CPU agree with its soft levels.
-use Rattle.std.specs.Prelude.{◌≡◌, ℕ, ⊤, IsSome, List, [], ◌∷◌}
+use Rattle.std.specs.Prelude.{◌≡◌, ◌≢◌, ℕ, ◌<◌, ⊤, None, IsSome, List, [], ◌∷◌, length}
 use Rattle.cyc_types.specs.declared.level.Soft.{Soft}
 use Rattle.cyc_types.specs.declared.level.Soft.TheVariants.{Low, Lock}
 use Rattle.cyc_types.specs.declared.level.Level.{Level as CyclicLevel}
 use Rattle.cyc_types.specs.declared.level.Level.TheVariants as level
-use Rattle.cyc_level.specs.Level.{bank_size}
+use Rattle.cyc_level.specs.declared.Event.{Event}
+use Rattle.cyc_level.specs.declared.Event.TheVariants.{Admit, Expire, Lose, Mark, Clear, Switch}
+use Rattle.cyc_level.specs.Level.{Level, bank_size, count}
+use Rattle.cyc_level.specs.Events.{after}
 use Rattle.cyc_script.specs.declared.step.Step.{Step}
+use Rattle.cyc_model.specs.Acts.{events_at}
 use Rattle.cyc_model.specs.Cpu.{Cpu, level_of}
 use Rattle.cyc_model.specs.Serving.{level_at}
 use Rattle.cyc_model.specs.Questions.{Questions}
 use Rattle.cyc_model.specs.State.{State}
-use Rattle.cyc_model.specs.Script.{steps_from, start}
+use Rattle.cyc_model.specs.Script.{steps_from}
+use Rattle.cyc_model.specs.Laws.{level_on, HandsAreFree}
 
 -- the level of a cyclic whose calls a soft interrupt of this level makes
 abbrev pub as_level : Soft → CyclicLevel
@@ -33,3 +38,25 @@ AllAgree (c ∷ cs) = Agrees c × AllAgree cs
 abbrev pub CpusAgree : Type 0
 CpusAgree = (q : Questions) (texts : List (List ℕ)) (indexes : ℕ → ℕ) (step : ℕ) (xs : List Step) (s : State)
     → AllAgree s.cpus → AllAgree (steps_from q texts indexes step xs s).state.cpus
+
+-- what an event of the firing side finds: the firer's hand is empty, the cyclic is admitted, and its pend is at the ceiling just
+-- where its expiration is lost
+abbrev pub IsReady : Event → Level → Type 0
+IsReady (Admit id index) l = l.firer_hand ≡ None
+IsReady (Expire id) l = (l.firer_hand ≡ None) × IsSome (l.cyclics id) × (count l id ≢ l.ceiling)
+IsReady (Lose id) l = (l.firer_hand ≡ None) × IsSome (l.cyclics id) × (count l id ≡ l.ceiling)
+IsReady (Mark id) l = (l.firer_hand ≡ None) × IsSome (l.cyclics id)
+IsReady (Clear id) l = l.firer_hand ≡ None
+IsReady (Switch bank) l = l.firer_hand ≡ None
+IsReady _ l = ⊤
+
+-- the same of each of these, when it happens
+abbrev pub AllReady : List Event → Level → Type 0
+AllReady [] l = ⊤
+AllReady (event ∷ events) l = IsReady event l × AllReady events (after event l)
+
+-- in any run from a machine whose CPUs agree, with no cyclic in a firer's hand
+abbrev pub FiringSideIsReady : Type 0
+FiringSideIsReady = (q : Questions) (texts : List (List ℕ)) (indexes : ℕ → ℕ) (step : ℕ) (xs : List Step) (s : State)
+    → HandsAreFree s → AllAgree s.cpus → (n : ℕ) → n < length s.cpus → (soft : Soft)
+    → AllReady (events_at n soft (steps_from q texts indexes step xs s).acts) (level_on n soft s)

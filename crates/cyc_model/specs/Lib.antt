@@ -21,5 +21,5 @@ pub mod Report
 pub mod Script
 pub mod Laws
 pub mod Free
-pub mod Along
 pub mod Agreement
+pub mod Along

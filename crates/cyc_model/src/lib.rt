@@ -12,7 +12,7 @@ ghost use Rattle.std.specs.Prelude.{ℕ};
 ghost use Rattle.cyc_model.specs.Script.{start};
 ghost use Rattle.cyc_model.specs.Laws.{RefusedOrDone, ActsTellAll, TextTellsNoIndex, IdsAreGivenOnce, HandsAreFree, SoftSideIsEnabled, level_on};
 ghost use Rattle.cyc_model.specs.Along.{LevelsStayLawful};
-ghost use Rattle.cyc_model.specs.Agreement.{AllAgree, CpusAgree};
+ghost use Rattle.cyc_model.specs.Agreement.{AllAgree, CpusAgree, FiringSideIsReady};
 ghost use Rattle.cyc_level.specs.Lawful.{Lawful};
 ghost use Rattle.cyc_types.specs.declared.level.Soft.{Soft};
 
@@ -52,9 +52,17 @@ pub fn cpus_agree()
     ensures run { CpusAgree }
 {}
 
-/// Wherever each Admit, Expire, Lose, Mark, Clear and Switch of a run is enabled when it happens, each soft level of each CPU is
-/// lawful before the first and after each act: each admitted cyclic's expirations are its finished calls, its outstanding ones
-/// and those lost, a cyclic with calls outstanding stands in one place, and no list outgrows its bank.
+/// In every run, each Admit, Expire, Lose, Mark, Clear and Switch finds the firer's hand empty when it happens; each Expire, Lose
+/// and Mark finds its cyclic admitted; and an expiration is lost just where the pend is at the ceiling.
+pub fn firing_side_is_ready()
+    ensures { FiringSideIsReady }
+{}
+
+/// In a run each soft level of each CPU is lawful before the first and after each of its events: each admitted cyclic's
+/// expirations are its finished calls, its outstanding ones and those lost, a cyclic with calls outstanding stands in one place,
+/// and no list outgrows its bank. This is so where each Admit is enabled, no cyclic expires while its removal is open, nor 2^64
+/// times in a stay, each Mark finds no removal open, each Clear its own open and no call outstanding, and each Switch goes to a
+/// greater bank, up to 8, while both sides are at one bank.
 pub fn levels_stay_lawful()
     ensures start { (cpus ceiling names n : ℕ) (soft : Soft) → Lawful (level_on n soft (start cpus ceiling names)) }
     ensures run { LevelsStayLawful }
