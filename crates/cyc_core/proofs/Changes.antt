@@ -19,10 +19,11 @@ use Rattle.cyc_level.proofs.Maps.{hand_here}
 use Rattle.cyc_level.proofs.Keeps.{always_lawful, same_ceiling, ceiling_after}
 use Rattle.cyc_core.specs.declared.admitted.Admitted.{Admitted}
 use Rattle.cyc_core.specs.declared.level_core.LevelCore.TheInside.{Inside}
-use Rattle.cyc_core.specs.Tables.{Tables, lookup, cyclic_of, cyclics_of, level_of, IsOrdered, IsAt, IsGap}
+use Rattle.cyc_finder.specs.Sorted.{IsAt, IsGap, Rises}
+use Rattle.cyc_core.specs.Tables.{id_in, Tables, lookup, cyclic_of, cyclics_of, level_of}
 use Rattle.cyc_core.specs.Reached.{IsReached}
 use Rattle.cyc_core.specs.Shown.{shown, IsSound}
-use Rattle.cyc_core.proofs.Table.{lookup_read, lookup_written, lookup_removed, lookup_inserted}
+use Rattle.cyc_finder.proofs.RisingIds.{look_up_read, look_up_written, look_up_removed, look_up_inserted}
 
 pub reached_lawful : (l : Level) → IsReached l → Lawful l
 reached_lawful l (events, all, is) = subst Lawful (sym is) (always_lawful l.ceiling events all)
@@ -35,7 +36,7 @@ reached_on l m event (events, all, is) may made =
     (event ∷ events, subst (λ (k : ℕ). AllEnabled k (event ∷ events)) (sym same) (subst (Enabled event) is may, all), on ∙ ap (λ (k : ℕ). reached k (event ∷ events)) (sym same))
 
 -- fields that show what an enabled event leaves, with the memory that was there
-pub sound_by : (a b : Inside) (event : Event) → IsSound a → Enabled event (level_of (shown a)) → level_of (shown b) ≡ after event (level_of (shown a)) → IsOrdered b.table.items →
+pub sound_by : (a b : Inside) (event : Event) → IsSound a → Enabled event (level_of (shown a)) → level_of (shown b) ≡ after event (level_of (shown a)) → Rises id_in b.table.items →
     vec_capacity a.table ≤ vec_capacity b.table → deque_capacity a.old_list ≤ deque_capacity b.old_list → deque_capacity a.new_list ≤ deque_capacity b.new_list → IsSound b
 sound_by a b event h may made ordered table old new = record {
   reached = reached_on (level_of (shown a)) (level_of (shown b)) event h.reached may made;
@@ -47,7 +48,7 @@ sound_by a b event h may made ordered table old new = record {
 }
 
 -- the same, where the lists' memory is not what it was
-pub sound_roomy : (a b : Inside) (event : Event) → IsSound a → Enabled event (level_of (shown a)) → level_of (shown b) ≡ after event (level_of (shown a)) → IsOrdered b.table.items →
+pub sound_roomy : (a b : Inside) (event : Event) → IsSound a → Enabled event (level_of (shown a)) → level_of (shown b) ≡ after event (level_of (shown a)) → Rises id_in b.table.items →
     cyclics ≤ vec_capacity b.table → cyclics ≤ deque_capacity b.old_list → cyclics ≤ deque_capacity b.new_list → IsSound b
 sound_roomy a b event h may made ordered table old new = record {
   reached = reached_on (level_of (shown a)) (level_of (shown b)) event h.reached may made;
@@ -76,15 +77,15 @@ hand_finished zero id some = absurd (omega arith)
 hand_finished (suc zero) id some = refl
 hand_finished (suc (suc n)) id some = let no : eqb (suc (suc n)) 1 ≡ false = grind (arith, nat_tests) in ap (λ b. then_some (not b) id) no
 
-module _ (t : Tables) (ordered : IsOrdered t.table) (id place : ℕ) (at : IsAt t.table id place) (c : Admitted) (read : c ≡ get_or t.table place c) where
+module _ (t : Tables) (ordered : Rises id_in t.table) (id place : ℕ) (at : IsAt id_in t.table id place) (c : Admitted) (read : c ≡ get_or t.table place c) where
   -- the cyclic of the entry that was read
   pub read_cyclic : (level_of t).cyclics id ≡ Some (cyclic_of c)
-  read_cyclic = ap (option_map cyclic_of) (lookup_read t.table ordered id place at c read)
+  read_cyclic = ap (option_map cyclic_of) (look_up_read id_in t.table ordered id place at c read)
 
   pub read_id : c.id ≡ id
   read_id = ap (λ (x : Admitted). x.id) read ∙ at.has_id c
 
-module _ (t : Tables) (ordered : IsOrdered t.table) (id place : ℕ) (at : IsAt t.table id place) (c : Admitted) (found : (level_of t).cyclics id ≡ Some (cyclic_of c)) (found_id : c.id ≡ id) where
+module _ (t : Tables) (ordered : Rises id_in t.table) (id place : ℕ) (at : IsAt id_in t.table id place) (c : Admitted) (found : (level_of t).cyclics id ≡ Some (cyclic_of c)) (found_id : c.id ≡ id) where
   found_count : count (level_of t) id ≡ c.count
   found_count = ap count_in found
 
@@ -93,7 +94,7 @@ module _ (t : Tables) (ordered : IsOrdered t.table) (id place : ℕ) (at : IsAt 
   found_fact P h = subst (λ (o : Option Cyclic). IsSomeAnd o P) found h
 
   written : (f : Cyclic → Cyclic) (d : Admitted) → d.id ≡ c.id → cyclic_of d ≡ f (cyclic_of c) → cyclics_of (set t.table place d) ≡ changed_at (cyclics_of t.table) id (option_map f)
-  written f d same made = cyclics_changed t.table (set t.table place d) id (Some d) (option_map f) (lookup_written t.table ordered id place at d (same ∙ found_id)) (ap Some made ∙ sym (ap (option_map f) found))
+  written f d same made = cyclics_changed t.table (set t.table place d) id (Some d) (option_map f) (look_up_written id_in t.table ordered id place at d (same ∙ found_id)) (ap Some made ∙ sym (ap (option_map f) found))
 
   pub level_expire : (d : Admitted) (hand : Option ℕ) → d.id ≡ c.id → cyclic_of d ≡ cyclic_after_expire (cyclic_of c) → hand ≡ then_some (eqb c.count 0) id → t.firer_hand ≡ None →
       level_of (record t { table = set t.table place d; firer_hand = hand }) ≡ after (Expire id) (level_of t)
@@ -113,14 +114,14 @@ module _ (t : Tables) (ordered : IsOrdered t.table) (id place : ℕ) (at : IsAt 
       let one : level_of (record t { table = set t.table place d; drainer_hand = hand }) ≡ after_finish (Some id) (level_of t) = λ z. record (level_of t) { cyclics = map z; drainer_hand = in_hand z } in
       one ∙ ap (λ (o : Option ℕ). after_finish o (level_of t)) (sym holds)
 
-pub level_clear : (t : Tables) → IsOrdered t.table → (id place : ℕ) → IsAt t.table id place → level_of (record t { table = remove t.table place; marked = None }) ≡ after (Clear id) (level_of t)
+pub level_clear : (t : Tables) → Rises id_in t.table → (id place : ℕ) → IsAt id_in t.table id place → level_of (record t { table = remove t.table place; marked = None }) ≡ after (Clear id) (level_of t)
 level_clear t ordered id place at =
-    let map = cyclics_changed t.table (remove t.table place) id None (λ _. None) (lookup_removed t.table ordered id place at) refl in
+    let map = cyclics_changed t.table (remove t.table place) id None (λ _. None) (look_up_removed id_in t.table ordered id place at) refl in
     λ z. record (level_of t) { cyclics = map z; marked = None }
 
-pub level_admit : (t : Tables) (id index place : ℕ) (e : Admitted) → IsGap t.table id place → e.id ≡ id → cyclic_of e ≡ admitted_cyclic index → level_of (record t { table = insert t.table place e }) ≡ after (Admit id index) (level_of t)
+pub level_admit : (t : Tables) (id index place : ℕ) (e : Admitted) → IsGap id_in t.table id place → e.id ≡ id → cyclic_of e ≡ admitted_cyclic index → level_of (record t { table = insert t.table place e }) ≡ after (Admit id index) (level_of t)
 level_admit t id index place e gap same made =
-    let map = cyclics_changed t.table (insert t.table place e) id (Some e) (λ _. Some (admitted_cyclic index)) (lookup_inserted t.table id place gap e same) (ap Some made) in
+    let map = cyclics_changed t.table (insert t.table place e) id (Some e) (λ _. Some (admitted_cyclic index)) (look_up_inserted id_in t.table id place gap e same) (ap Some made) in
     λ z. record (level_of t) { cyclics = map z }
 
 pub level_publish : (t : Tables) (id : ℕ) → t.firer_hand ≡ Some id → level_of (record t { firer_hand = None; new_list = t.new_list ++ id ∷ [] }) ≡ after Publish (level_of t)
@@ -194,10 +195,10 @@ held_count l law id c is holds =
     omega (arith, some, count)
 
 -- the entry that stands at a place is that of its id
-pub entry_is_at : (xs : List Admitted) (place : ℕ) (e : Admitted) → slice_get xs place ≡ Some e → IsAt xs e.id place
+pub entry_is_at : (xs : List Admitted) (place : ℕ) (e : Admitted) → slice_get xs place ≡ Some e → IsAt id_in xs e.id place
 entry_is_at xs place e is = record { in_range = slice_get_within xs place e is; has_id = λ d. ap (λ (x : Admitted). x.id) (get_or_from_slice_get xs place e d is) }
 
-pub entry_cyclic : (t : Tables) → IsOrdered t.table → (place : ℕ) (e : Admitted) → slice_get t.table place ≡ Some e → (level_of t).cyclics e.id ≡ Some (cyclic_of e)
+pub entry_cyclic : (t : Tables) → Rises id_in t.table → (place : ℕ) (e : Admitted) → slice_get t.table place ≡ Some e → (level_of t).cyclics e.id ≡ Some (cyclic_of e)
 entry_cyclic t ordered place e is = read_cyclic t ordered e.id place (entry_is_at t.table place e is) e (sym (get_or_from_slice_get t.table place e e is))
 
 -- what was read at a place stands there

@@ -1,4 +1,3 @@
-pub mod Table
 pub mod Changes
 pub mod Room
 pub mod FiringLaws

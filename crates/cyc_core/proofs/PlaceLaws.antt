@@ -11,9 +11,10 @@ use Rattle.cyc_level.proofs.Maps.{hand_here, some_same}
 use Rattle.cyc_core.specs.declared.admitted.Admitted.{Admitted}
 use Rattle.cyc_core.specs.declared.books.Place.{Place}
 use Rattle.cyc_core.specs.declared.books.Place.TheVariants.{FirerHand, OldBank, NewBank, DrainerHand}
-use Rattle.cyc_core.specs.Tables.{lookup, cyclic_of, cyclics_of, IsOrdered}
+use Rattle.cyc_finder.specs.Sorted.{Rises}
+use Rattle.cyc_core.specs.Tables.{id_in, lookup, cyclic_of, cyclics_of}
 use Rattle.cyc_core.specs.Showing.{StandsAt}
-use Rattle.cyc_core.proofs.Table.{lookup_at, is_at_place}
+use Rattle.cyc_finder.proofs.RisingIds.{look_up_at, is_at_place}
 
 -- how often the id stands at a place
 times_at : Level → ℕ → Place → ℕ
@@ -139,14 +140,14 @@ cyclic_behind (Some e) c is = (e, refl, some_same (cyclic_of e) c is)
 pub unused_is : (index : ℕ) (xs : List Admitted) → list_any (λ (x : Admitted). eqb x.index index) xs ≡ false → (id : ℕ) (c : Cyclic) → cyclics_of xs id ≡ Some c → c.index ≢ index
 unused_is index xs none id c is same = let (e, found, made) = cyclic_behind (lookup id xs) c is in none_index index id xs e none found (ap (λ (x : Cyclic). x.index) made ∙ same)
 
-pub used_is : (index : ℕ) (xs : List Admitted) → IsOrdered xs → list_any (λ (x : Admitted). eqb x.index index) xs ≡ true → ((id : ℕ) (c : Cyclic) → cyclics_of xs id ≡ Some c → c.index ≢ index) → ⊥
+pub used_is : (index : ℕ) (xs : List Admitted) → Rises id_in xs → list_any (λ (x : Admitted). eqb x.index index) xs ≡ true → ((id : ℕ) (c : Cyclic) → cyclics_of xs id ≡ Some c → c.index ≢ index) → ⊥
 used_is index xs ordered any unused =
     let (place, in_range, at) = any_index index xs any in
     let d : Admitted = record { id = 0; index = 0; sent = 0; done = 0; lost = 0; count = 0 } in
     let e = get_or xs place d in
-    unused e.id (cyclic_of e) (ap (option_map cyclic_of) (lookup_at xs ordered e.id place (is_at_place xs place d in_range) d)) (at d)
+    unused e.id (cyclic_of e) (ap (option_map cyclic_of) (look_up_at id_in xs ordered e.id place (is_at_place id_in xs place d in_range) d)) (at d)
 
-pub test_unused : (b : Bool) (index : ℕ) (xs : List Admitted) → IsOrdered xs → b ≡ list_any (λ (x : Admitted). eqb x.index index) xs →
+pub test_unused : (b : Bool) (index : ℕ) (xs : List Admitted) → Rises id_in xs → b ≡ list_any (λ (x : Admitted). eqb x.index index) xs →
     (IsTrue (not b) → (id : ℕ) (c : Cyclic) → cyclics_of xs id ≡ Some c → c.index ≢ index) × (((id : ℕ) (c : Cyclic) → cyclics_of xs id ≡ Some c → c.index ≢ index) → IsTrue (not b))
 test_unused true index xs ordered e = (λ h. absurd (let wrong : ⊥ = cc in wrong), λ unused. absurd (used_is index xs ordered (sym e) unused))
 test_unused false index xs ordered e = (λ h. unused_is index xs (sym e), λ unused. refl)

@@ -15,8 +15,9 @@ use Rattle.cyc_level.proofs.Keeps.{keeps_law}
 use Rattle.cyc_level.proofs.Room.{few, new_fits}
 use Rattle.cyc_level.proofs.Maps.{hand_else}
 use Rattle.cyc_core.specs.declared.admitted.Admitted.{Admitted}
-use Rattle.cyc_core.specs.Tables.{Tables, cyclic_of, cyclics_of, level_of, IsOrdered, IsGap}
-use Rattle.cyc_core.proofs.Table.{lookup_at, is_at_place, ordered_insert}
+use Rattle.cyc_finder.specs.Sorted.{IsGap, Rises}
+use Rattle.cyc_core.specs.Tables.{id_in, Tables, cyclic_of, cyclics_of, level_of}
+use Rattle.cyc_finder.proofs.RisingIds.{look_up_at, is_at_place, rises_inserted}
 use Rattle.cyc_core.proofs.Changes.{level_admit}
 
 abbrev indexes : List Admitted → List ℕ
@@ -41,10 +42,10 @@ distinct_once (x ∷ xs) apart y = dite (ℕ_discrete y x.index)
     hand_most : times_in y (x.index ∷ []) ≤ 1
     hand_most = elim (eqb y x.index) as (λ b. cond {A = ℕ} b 1 0 + 0 ≤ 1) [ true ↦ omega arith | false ↦ omega arith ]
 
-module _ (t : Tables) (ordered : IsOrdered t.table) (law : Lawful (level_of t)) where
+module _ (t : Tables) (ordered : Rises id_in t.table) (law : Lawful (level_of t)) where
   -- each entry is the cyclic of its id
   entry_cyclic : (place : ℕ) (d : Admitted) → place < length t.table → cyclics_of t.table (get_or t.table place d).id ≡ Some (cyclic_of (get_or t.table place d))
-  entry_cyclic place d in_range = ap (option_map cyclic_of) (lookup_at t.table ordered (get_or t.table place d).id place (is_at_place t.table place d in_range) d)
+  entry_cyclic place d in_range = ap (option_map cyclic_of) (look_up_at id_in t.table ordered (get_or t.table place d).id place (is_at_place id_in t.table place d in_range) d)
 
   -- the table is no longer than the firing side's bank
   pub table_fits : length t.table ≤ cyclics
@@ -69,10 +70,10 @@ module _ (t : Tables) (ordered : IsOrdered t.table) (law : Lawful (level_of t)) 
       omega (arith, fits, most)
 
 -- there is room for one more entry where one more can be admitted
-pub admit_room : (t : Tables) (id index place : ℕ) (e : Admitted) → IsOrdered t.table → Lawful (level_of t) → IsGap t.table id place → e.id ≡ id → cyclic_of e ≡ admitted_cyclic index → Enabled (Admit id index) (level_of t) → length t.table < cyclics
+pub admit_room : (t : Tables) (id index place : ℕ) (e : Admitted) → Rises id_in t.table → Lawful (level_of t) → IsGap id_in t.table id place → e.id ≡ id → cyclic_of e ≡ admitted_cyclic index → Enabled (Admit id index) (level_of t) → length t.table < cyclics
 admit_room t id index place e ordered law gap same made may =
     let more : Tables = record t { table = insert t.table place e } in
     let lawful : Lawful (level_of more) = subst Lawful (sym (level_admit t id index place e gap same made)) (keeps_law (level_of t) law (Admit id index) may) in
-    let fits = table_fits more (ordered_insert t.table id place gap ordered e same) lawful in
+    let fits = table_fits more (rises_inserted id_in t.table id place gap ordered e same) lawful in
     let longer = length-insert t.table place e gap.in_range in
     omega (arith, fits, longer)

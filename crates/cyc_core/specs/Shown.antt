@@ -2,7 +2,8 @@
 use Rattle.std.specs.Prelude.{◌<◌, ◌≤◌, vec_capacity}
 use Rattle.std.specs.VecDeque.{deque_capacity}
 use Rattle.cyc_types.specs.Limits.{cyclics}
-use Rattle.cyc_core.specs.Tables.{Tables, level_of, IsOrdered}
+use Rattle.cyc_finder.specs.Sorted.{Rises}
+use Rattle.cyc_core.specs.Tables.{id_in, Tables, level_of}
 use Rattle.cyc_core.specs.Reached.{IsReached}
 use Rattle.cyc_core.specs.declared.level_core.LevelCore.TheInside.{Inside}
 
@@ -12,7 +13,7 @@ shown a = record { ceiling = a.ceiling; hard_bank = a.hard_bank; soft_bank = a.s
 -- the level is reached by enabled events, the table is ordered, and all memory is there
 pub record IsSound (a : Inside) : Type 0 where
   pub reached : IsReached (level_of (shown a))
-  pub ordered : IsOrdered a.table.items
+  pub ordered : Rises id_in a.table.items
   pub some_ceiling : 0 < a.ceiling
   pub table_room : cyclics ≤ vec_capacity a.table
   pub old_room : cyclics ≤ deque_capacity a.old_list

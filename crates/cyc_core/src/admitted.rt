@@ -1,3 +1,4 @@
+use cyc_finder::HasId;
 use cyc_types::{CyclicId, Index};
 
 /// An admitted cyclic with its counts.
@@ -9,4 +10,12 @@ pub struct Admitted {
     pub done: u64,
     pub lost: u64,
     pub count: u32,
+}
+
+impl HasId for Admitted {
+    ghost id_of = { λ entry. entry.id };
+
+    fn id(&self) -> CyclicId {
+        self.id
+    }
 }

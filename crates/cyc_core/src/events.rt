@@ -3,13 +3,14 @@ ghost use Rattle.std.specs.List.{FoldsTo, list_any};
 ghost use Rattle.cyc_level.specs.declared.Event.TheVariants.{Admit, Expire, Lose, Publish, Take, Finish, Mark, Clear, Switch, Follow};
 ghost use Rattle.cyc_level.specs.Level.{count, soft_list};
 ghost use Rattle.cyc_level.specs.Events.{Enabled, IsUnused, after};
-ghost use Rattle.cyc_core.specs.Tables.{level_of, lookup, IsAt};
+ghost use Rattle.cyc_core.specs.Tables.{level_of, lookup};
 ghost use Rattle.cyc_core.specs.Reached.{Happens};
 
 use crate::admitted::Admitted;
-use crate::level_core::{LevelCore, hint_at};
+use crate::level_core::LevelCore;
+use cyc_finder::hint_of;
 use cyc_level::Event;
-use cyc_types::{CyclicId, GREATEST_BANK, Index};
+use cyc_types::{CYCLICS, CyclicId, GREATEST_BANK, Index};
 use thiserror::Error;
 
 /// The event is not enabled.
@@ -28,6 +29,13 @@ fn has_index(table: &[Admitted], index: Index) -> bool
 {
     let number = index.number();
     table.iter().any(|entry| entry.index.number() == number)
+}
+
+/// Hints where each entry from this place on stands. Each hint is checked when it is used, so a wrong one would cost time alone.
+fn hint_from(place: usize, table: &[Admitted], hints: &mut [u8; CYCLICS as usize]) {
+    for (at, entry) in table.iter().enumerate().skip(place) {
+        hints[hint_of(entry.id)] = at.min(usize::from(u8::MAX)) as u8;
+    }
 }
 
 // What each event changes, where it is enabled.
@@ -50,7 +58,7 @@ impl LevelCore {
         let inserted = self.table.insert(place, entry);
         let fits = inserted.is_ok();
         prove!(fits);
-        self.hints[hint_at(id)] = place.min(usize::from(u8::MAX)) as u8;
+        hint_from(place, &self.table, &mut self.hints);
     }
 
     pub(crate) fn expire(&mut self, place: usize, mut entry: Admitted)
@@ -124,6 +132,7 @@ impl LevelCore {
             unreachable!()
         };
         self.table.remove(place);
+        hint_from(place, &self.table, &mut self.hints);
         self.marked = None;
     }
 

@@ -1,13 +1,14 @@
 ghost use Rattle.std.specs.Prelude.{◌≡◌, ℕ, ◌<◌, ◌≤◌, length, IfOk, IfErr, IfSome, IfNone, IsSome, Some, None, slice_get};
 ghost use Rattle.std.specs.Option.{option_map};
-ghost use Rattle.cyc_types.specs.Limits.{cyclics};
+ghost use Rattle.cyc_finder.specs.Sorted.{IsAt, IsGap};
 ghost use Rattle.cyc_level.specs.Level.{empty_level};
 ghost use Rattle.cyc_level.specs.Lawful.{Lawful};
 ghost use Rattle.cyc_level.specs.Conservation.{IsConserved};
-ghost use Rattle.cyc_core.specs.Tables.{cyclic_of, level_of, lookup, IsAt, IsGap, IsOrdered};
+ghost use Rattle.cyc_core.specs.Tables.{id_in, cyclic_of, level_of, lookup};
 ghost use Rattle.cyc_core.specs.Reached.{IsReached};
 
 use crate::admitted::Admitted;
+use cyc_finder::{hint_of, search_near};
 use cyc_types::{CYCLICS, Ceiling, CyclicId, Refusal};
 use std::alloc::Global;
 use std::collections::VecDeque;
@@ -27,15 +28,8 @@ pub struct LevelCore {
     pub(crate) old_list: VecDeque<CyclicId>,
     pub(crate) new_list: VecDeque<CyclicId>,
     pub(crate) drainer_hand: Option<CyclicId>,
-    // Where an entry was put in, by its id's low bits. It may have moved since, so each look is checked.
+    // Where an entry stands, by its id's low bits. Another may have these bits too, so each look is checked.
     pub(crate) hints: [u8; CYCLICS as usize],
-}
-
-/// Where the hint of an id stands.
-pub(crate) fn hint_at(id: CyclicId) -> usize
-    ensures { result < cyclics }
-{
-    (id.number() % u64::from(CYCLICS)) as usize
 }
 
 impl Model for LevelCore {
@@ -48,16 +42,6 @@ impl Model for LevelCore {
     ghost view = { shown };
 
     ghost invariant = { IsSound };
-}
-
-/// Where the entry of the id stands, or where it would stand.
-fn search(table: &[Admitted], id: CyclicId) -> Result<usize, usize>
-    requires { IsOrdered table.now }
-    ensures found { IfOk result (IsAt table.now id) }
-    ensures absent { IfErr result (IsGap table.now id) }
-{
-    let number = id.number();
-    table.binary_search_by_key(&number, |entry| entry.id.number())
 }
 
 impl LevelCore {
@@ -97,14 +81,10 @@ impl LevelCore {
 
     /// Where the entry of the id stands in the table, or where it would stand.
     pub(crate) fn search(&self, id: CyclicId) -> Result<usize, usize>
-        ensures found { IfOk result (IsAt self.now.table id) }
-        ensures absent { IfErr result (IsGap self.now.table id) }
+        ensures found { IfOk result (IsAt id_in self.now.table id) }
+        ensures absent { IfErr result (IsGap id_in self.now.table id) }
     {
-        let hint = usize::from(self.hints[hint_at(id)]);
-        if hint < self.table.len() && self.table[hint].id.number() == id.number() {
-            return Ok(hint);
-        }
-        search(&self.table, id)
+        search_near(&self.table, id, usize::from(self.hints[hint_of(id)]))
     }
 
     /// The entry of the id, where it is admitted.

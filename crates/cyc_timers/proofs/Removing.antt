@@ -1,5 +1,5 @@
 -- A table with one cyclic less.
-use Rattle.std.proofs.Common.{◌≡◌, ◌≢◌, ℕ, suc, ◌+◌, ◌-◌, ◌<◌, ◌≤◌, ◌⊎◌, inl, inr, List, ◌++◌, Option, Some, None, refl, sym, ap, ◌∙◌, arith, length, get_or, map, take, drop}
+use Rattle.std.proofs.Common.{◌≡◌, ◌≢◌, ℕ, suc, ◌+◌, ◌-◌, ◌<◌, inl, inr, List, ◌++◌, Option, Some, None, sym, ap, ◌∙◌, arith, length, get_or, map, take, drop}
 use Rattle.std.proofs.Math.ListN.{set}
 use Rattle.std.specs.Prelude.{remove}
 use Rattle.std.proofs.lemmas.Bool.{cases_lt}
@@ -7,9 +7,10 @@ use Rattle.std.proofs.lemmas.List.{get_or_default, length-set, get_or-set_other,
 use Rattle.std.proofs.lemmas.List.Edits.{length-remove, get_or-remove_below, get_or-remove_above}
 use Rattle.std.proofs.lemmas.List.Sums.{sum_by-set}
 use Rattle.cyc_expirations.specs.Expirations.{Expiration}
+use Rattle.cyc_finder.proofs.RisingIds.{rises_removed}
 use Rattle.cyc_timers.specs.declared.table.Place.{Place}
 use Rattle.cyc_timers.specs.declared.table.Record.{Record}
-use Rattle.cyc_timers.specs.Rows.{Row, joined, no_record, row_of, rows_of, IsTable}
+use Rattle.cyc_timers.specs.Rows.{Row, joined, no_record, id_in, row_of, rows_of, IsTable}
 use Rattle.cyc_timers.proofs.Tables.{Standing, no_place, map_same, apart_index, slot_changed, tally}
 
 -- where a place of the shorter list stood before
@@ -18,13 +19,12 @@ record Source (places : List Place) (k j : ℕ) : Type 0 where
   pub low : was < length places
   pub other : was ≢ k
   pub is : (d : Place) → get_or (remove places k) j d ≡ get_or places was d
-  pub side : (was ≡ j × j < k) ⊎ (was ≡ j + 1 × k ≤ j)
 
 source : (places : List Place) (k j : ℕ) → k < length places → j < length (remove places k) → Source places k j
 source places k j low_k low = (let l = length-remove places k low_k in
     elim (cases_lt j k) [
-      | inl less ↦ record { was = j; low = omega (arith, less, low_k); other = λ q. absurd (omega (arith, q, less)); is = λ d. get_or-remove_below places k d j less low_k; side = inl (refl, less) }
-      | inr more ↦ record { was = j + 1; low = omega (arith, l, low); other = λ q. absurd (omega (arith, q, more)); is = λ d. get_or-remove_above places k d j more low_k; side = inr (refl, more) }
+      | inl less ↦ record { was = j; low = omega (arith, less, low_k); other = λ q. absurd (omega (arith, q, less)); is = λ d. get_or-remove_below places k d j less low_k }
+      | inr more ↦ record { was = j + 1; low = omega (arith, l, low); other = λ q. absurd (omega (arith, q, more)); is = λ d. get_or-remove_above places k d j more low_k }
     ])
 
 module _ (slots : List (Option Expiration)) (records : List Record) (places : List Place) (k : ℕ) (r : Row) (s : Standing slots records places k r) (t : IsTable slots records places) where
@@ -48,13 +48,7 @@ module _ (slots : List (Option Expiration)) (records : List Record) (places : Li
 
   pub fewer_table : IsTable (set slots s.p.index None) records (remove places k)
   fewer_table = record {
-    rising = λ i j d less low.
-        (let b = from j low in let a = from i (omega (arith, less, low)) in
-        let up : a.was < b.was = elim a.side [
-          | inl (x, u) ↦ elim b.side [ inl (y, v) ↦ omega (arith, x, y, less) | inr (y, v) ↦ omega (arith, x, y, less) ]
-          | inr (x, u) ↦ elim b.side [ inl (y, v) ↦ omega (arith, x, y, u, v, less) | inr (y, v) ↦ omega (arith, x, y, less) ]
-        ] in
-        let h = t.rising a.was b.was d up b.low in let x = ap (λ (z : Place). z.id) (a.is d) in let y = ap (λ (z : Place). z.id) (b.is d) in omega (arith, h, x, y));
+    rising = rises_removed id_in places t.rising s.p.id k (record { in_range = s.low; has_id = λ d. ap id_in (s.is d) });
     named = λ j d low.
         (let o = from j low in let (m, holds) = t.named o.was d o.low in
         (m, ap (λ (z : Place). get_or (set slots s.p.index None) z.index None) (o.is d) ∙ get_or-set_other slots s.p.index (get_or places o.was d).index None None (far o.was o.low o.other d) ∙ holds ∙ ap (λ (z : Place). Some (record { moment = m; id = z.id })) (sym (o.is d))));

@@ -1,5 +1,5 @@
 -- Lemmas on a table: what a place, an index and the root have, and what a change at one index leaves.
-use Rattle.std.proofs.Common.{◌≡◌, ◌≢◌, ℕ, suc, ◌+◌, ◌<◌, ◌≤◌, ◌⊎◌, inl, inr, cond, List, [], ◌∷◌, Option, Some, None, refl, sym, ap, ◌∙◌, subst, arith, length, get_or, map, All, count_by, option_map}
+use Rattle.std.proofs.Common.{◌≡◌, ◌≢◌, ℕ, suc, ◌<◌, ◌≤◌, ◌⊎◌, inl, inr, cond, List, [], ◌∷◌, Option, Some, None, refl, sym, ap, ◌∙◌, subst, arith, length, get_or, map, All, count_by, option_map}
 use Rattle.std.proofs.Math.ListN.{set}
 use Rattle.std.specs.Prelude.{is_some, IfSome}
 use Rattle.cyc_heap.specs.Heap as heap
@@ -10,9 +10,10 @@ use Rattle.std.proofs.lemmas.List.Sums.{sum_by-set}
 use Rattle.cyc_types.specs.Series.{never}
 use Rattle.cyc_expirations.specs.Expirations.{Expiration, is_before, next_of}
 use Rattle.cyc_expirations.specs.Timers.{Timer, IsSound}
+use Rattle.cyc_finder.specs.Sorted.{IsAt, IsGap}
 use Rattle.cyc_timers.specs.declared.table.Place.{Place}
 use Rattle.cyc_timers.specs.declared.table.Record.{Record}
-use Rattle.cyc_timers.specs.Rows.{Row, no_record, moment_in, joined, row_of, rows_of, timers_of, IsTable, IsRow, IsRising, HasDistinctIndexes, IsFirstAt, IsRecordOf, at_moment, TableView, Cyclic, cyclic_of, cyclics_of, HasNo}
+use Rattle.cyc_timers.specs.Rows.{Row, no_record, id_in, moment_in, joined, row_of, rows_of, timers_of, IsTable, IsRow, IsRising, HasDistinctIndexes, IsFirstAt, IsRecordOf, at_moment, TableView, Cyclic, cyclic_of, cyclics_of, HasNo}
 
 abbrev pub no_place : Place
 no_place = record { id = 1; index = 0 }
@@ -317,41 +318,19 @@ standing_at slots records places k t low = standing slots records places k _ t (
 pub place_low : (v : TableView) (slots : List (Option Expiration)) (records : List Record) (places : List Place) (k : ℕ) → rows_of slots records places ≡ v.rows → k < length v.rows → k < length places
 place_low v slots records places k is low = (let l = length-map places (row_of slots records) in let e = ap length is in omega (arith, l, e, low))
 
--- the ids up to the middle are below
-pub ids_below : (places : List Place) → ((i j : ℕ) (d : Place) → i < j → j < length places → (get_or places i d).id < (get_or places j d).id) → (id m : ℕ) (p : Place) → m < length places →
-    p ≡ get_or places m p → p.id < id → (k : ℕ) (d : Place) → k < m + 1 → (get_or places k d).id < id
-ids_below places rising id m p low is less k d h = elim (cases_eq k m) [
-  | inl same ↦
-      (let e = ap (λ (x : Place). x.id) is in let f = ap (λ (x : Place). x.id) (ap (λ n. get_or places n d) same ∙ get_or_default places m d p low) in omega (arith, e, f, less))
-  | inr ne ↦
-      (let r = rising k m d (omega (arith, h, ne)) low in let e = ap (λ (x : Place). x.id) is in let f = ap (λ (x : Place). x.id) (get_or_default places m d p low) in omega (arith, r, e, f, less))
-]
+-- where the id stands its row is
+pub row_here : (slots : List (Option Expiration)) (records : List Record) (places : List Place) (id q : ℕ) → IsAt id_in places id q →
+    (r : Row) × IsRow (rows_of slots records places) q r × (r.timer.id ≡ id)
+row_here slots records places id q at =
+    (row_of slots records (get_or places q no_place), is_row slots records places q at.in_range, at.has_id no_place)
 
--- the ids from the middle on are not below
-pub ids_above : (places : List Place) → ((i j : ℕ) (d : Place) → i < j → j < length places → (get_or places i d).id < (get_or places j d).id) → (id m : ℕ) (p : Place) → m < length places →
-    p ≡ get_or places m p → id ≤ p.id → (k : ℕ) (d : Place) → m ≤ k → k < length places → id ≤ (get_or places k d).id
-ids_above places rising id m p low is above k d h low_k = elim (cases_eq k m) [
-  | inl same ↦
-      (let e = ap (λ (x : Place). x.id) is in let f = ap (λ (x : Place). x.id) (ap (λ n. get_or places n d) same ∙ get_or_default places m d p low) in omega (arith, e, f, above))
-  | inr ne ↦
-      (let r = rising m k d (omega (arith, h, ne)) low_k in let e = ap (λ (x : Place). x.id) is in let f = ap (λ (x : Place). x.id) (get_or_default places m d p low) in omega (arith, r, e, f, above))
-]
-
-pub id_here : (places : List Place) (k : ℕ) (p : Place) → p ≡ get_or places k p → k < length places → p.id ≡ (get_or places k no_place).id
-id_here places k p is low = ap (λ (x : Place). x.id) (is ∙ get_or_default places k p no_place low)
-
--- an id that is at neither side of a place, nor there
-pub absent : (rows : List Row) → IsRising rows → (id q : ℕ) → ((k : ℕ) (d : Row) → k < q → (get_or rows k d).timer.id < id) → ((k : ℕ) (d : Row) → q ≤ k → k < length rows → id ≤ (get_or rows k d).timer.id) →
-    ((d : Row) → q < length rows → (get_or rows q d).timer.id ≢ id) → HasNo id rows
-absent rows rising id q below above here k d low same = elim (cases_lt k q) [
-  | inl less ↦ let b = below k d less in absurd (omega (arith, b, same))
-  | inr more ↦ elim (cases_eq k q) [
-    | inl eq ↦ here d (let l = low in omega (arith, l, eq)) (ap (λ n. (get_or rows n d).timer.id) (sym eq) ∙ same)
-    | inr ne ↦
-        let low_q : q < length rows = omega (arith, more, low) in
-        let r = rising q k d (omega (arith, more, ne)) low in
-        let a = above q d (omega arith) low_q in
-        let h = here d low_q in
-        absurd (omega (arith, r, a, h, same))
-  ]
-]
+-- where the id would stand no row has it
+pub no_row : (slots : List (Option Expiration)) (records : List Record) (places : List Place) (id q : ℕ) → IsGap id_in places id q → HasNo id (rows_of slots records places)
+no_row slots records places id q gap k d low same =
+    let l = length-map places (row_of slots records) in
+    let low_k : k < length places = omega (arith, l, low) in
+    let at = ap (λ (x : Row). x.timer.id) (row_at slots records places k d low_k) in
+    elim (cases_lt k q) [
+      | inl less ↦ let b = gap.smaller_before k no_place less in absurd (omega (arith, b, at, same))
+      | inr more ↦ let a = gap.greater_after k no_place more low_k in absurd (omega (arith, a, at, same))
+    ]

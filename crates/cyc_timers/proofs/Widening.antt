@@ -8,9 +8,11 @@ use Rattle.std.proofs.lemmas.List.Edits.{length-insert, get_or-insert_below, get
 use Rattle.std.proofs.lemmas.List.Sums.{sum_by-set, sum_by-append}
 use Rattle.cyc_types.specs.Series.{never}
 use Rattle.cyc_expirations.specs.Expirations.{Expiration}
+use Rattle.cyc_finder.specs.Sorted.{IsGap}
+use Rattle.cyc_finder.proofs.RisingIds.{rises_inserted}
 use Rattle.cyc_timers.specs.declared.table.Place.{Place}
 use Rattle.cyc_timers.specs.declared.table.Record.{Record}
-use Rattle.cyc_timers.specs.Rows.{no_record, joined, row_of, rows_of, IsTable}
+use Rattle.cyc_timers.specs.Rows.{no_record, joined, id_in, row_of, rows_of, IsTable}
 use Rattle.cyc_timers.proofs.Tables.{no_place, slot_low, map_same, slot_changed, tally}
 
 -- what a wider table has at an index
@@ -63,8 +65,10 @@ pub resized : (records : List Record) (fill : Record) (n k m : ℕ) → length r
 resized records fill n k m long is = ap (λ xs. xs ++ replicate k fill) (take_all n records long) ∙ ap (λ j. records ++ replicate j fill) is
 
 module _ (slots : List (Option Expiration)) (records : List Record) (places : List Place) (t : IsTable slots records places) (id index m q : ℕ) (kept : Record)
-    (free : get_or slots index None ≡ None) (low_i : index < length slots) (low_q : q ≤ length places)
-    (below : (k : ℕ) → k < q → (get_or places k no_place).id < id) (above : (k : ℕ) → q ≤ k → k < length places → id < (get_or places k no_place).id) where
+    (free : get_or slots index None ≡ None) (low_i : index < length slots) (gap : IsGap id_in places id q) where
+  low_q : q ≤ length places
+  low_q = gap.in_range
+
   abbrev e : Option Expiration
   e = Some (record { moment = m; id = id })
 
@@ -93,29 +97,12 @@ module _ (slots : List (Option Expiration)) (records : List Record) (places : Li
   long_places : length (insert places q (record { id = id; index = index })) ≡ length places + 1
   long_places = length-insert places q p low_q
 
-  new_rising : (i j : ℕ) (d : Place) → i < j → j < length (insert places q (record { id = id; index = index })) → (get_or (insert places q (record { id = id; index = index })) i d).id < (get_or (insert places q (record { id = id; index = index })) j d).id
-  new_rising i j d less long = by (spot i) (spot j)
-    where
-      at : (k : ℕ) → k < length places → (get_or places k d).id ≡ (get_or places k no_place).id
-      at k low = ap (λ (x : Place). x.id) (get_or_default places k d no_place low)
-
-      by : Spot i → Spot j → (get_or (insert places q (record { id = id; index = index })) i d).id < (get_or (insert places q (record { id = id; index = index })) j d).id
-      by (before a x) (before b y) = let r = t.rising i j d less (omega (arith, b, low_q)) in let u = ap (λ (z : Place). z.id) (x d) in let v = ap (λ (z : Place). z.id) (y d) in omega (arith, u, v, r)
-      by (before a x) (here b y) = let r = below i a in let u = ap (λ (z : Place). z.id) (x d) in let v = ap (λ (z : Place). z.id) (y d) in let w = at i (omega (arith, a, low_q)) in omega (arith, u, v, r, w)
-      by (before a x) (after k b c y) = let n = long_places in let r = t.rising i k d (omega (arith, a, c)) (omega (arith, long, b, n)) in let u = ap (λ (z : Place). z.id) (x d) in let v = ap (λ (z : Place). z.id) (y d) in omega (arith, u, v, r)
-      by (here a x) (before b y) = absurd (omega (arith, a, b, less))
-      by (here a x) (here b y) = absurd (omega (arith, a, b, less))
-      by (here a x) (after k b c y) = let n = long_places in let low : k < length places = omega (arith, long, b, n) in let r = above k c low in let u = ap (λ (z : Place). z.id) (x d) in let v = ap (λ (z : Place). z.id) (y d) in let w = at k low in omega (arith, u, v, r, w)
-      by (after k a c x) (before b y) = absurd (omega (arith, a, b, c, less))
-      by (after k a c x) (here b y) = absurd (omega (arith, a, b, c, less))
-      by (after k a c x) (after l b f y) = let n = long_places in let r = t.rising k l d (omega (arith, a, b, less)) (omega (arith, long, b, n)) in let u = ap (λ (z : Place). z.id) (x d) in let v = ap (λ (z : Place). z.id) (y d) in omega (arith, u, v, r)
-
   some_is : (a b : Expiration) → Some a ≡ Some b → a ≡ b
   some_is a b h = cc
 
   pub new_table_is : m ≤ never → 0 < kept.interval → kept.interval ≤ never → IsTable (set slots index (Some (record { moment = m; id = id }))) (set records index kept) (insert places q (record { id = id; index = index }))
   new_table_is low_m some most = record {
-    rising = new_rising;
+    rising = rises_inserted id_in places id q gap t.rising p refl;
     named = λ k d low. named_at k d low (spot k);
     covered = λ i f h. elim (slot_changed slots index i e (Some f) low_i h) [
       | inl (same, is) ↦ (q, (let n = long_places in omega (arith, n, low_q)), λ d. ap (λ (x : Place). x.index) (get_or-insert_at places q p d low_q) ∙ sym same)

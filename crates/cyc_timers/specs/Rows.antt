@@ -5,6 +5,7 @@ use Rattle.cyc_types.specs.declared.firing.Sent.{Sent}
 use Rattle.cyc_types.specs.declared.level.Level.TheVariants.{Low}
 use Rattle.cyc_expirations.specs.Expirations.{Expiration, is_before, next_of}
 use Rattle.cyc_expirations.specs.Timers.{Timer}
+use Rattle.cyc_finder.specs.Sorted.{Rises}
 use Rattle.cyc_timers.specs.declared.table.Place.{Place}
 use Rattle.cyc_timers.specs.declared.table.Record.{Record}
 
@@ -108,11 +109,15 @@ rows_of slots records places = map (row_of slots records) places
 
 -- the ids of the rows rise
 abbrev pub IsRising : List Row → Type 0
-IsRising rows = (i j : ℕ) (d : Row) → i < j → j < length rows → (slice_index_or rows i d).timer.id < (slice_index_or rows j d).timer.id
+IsRising rows = Rises (λ r. r.timer.id) rows
+
+-- the id of a place
+abbrev pub id_in : Place → ℕ
+id_in place = place.id
 
 -- places, records and heap speak of the same cyclics
 pub record IsTable (slots : List (Option Expiration)) (records : List Record) (places : List Place) : Type 0 where
-  pub rising : (i j : ℕ) (d : Place) → i < j → j < length places → (slice_index_or places i d).id < (slice_index_or places j d).id
+  pub rising : Rises id_in places
   -- each place names an index that has the cyclic's expiration
   pub named : (k : ℕ) (d : Place) → k < length places → (m : ℕ) × (slice_index_or slots (slice_index_or places k d).index None ≡ Some (record { moment = m; id = (slice_index_or places k d).id }))
   -- each index in use has its place

@@ -5,6 +5,7 @@ ghost use Rattle.cyc_expirations.specs.Timers.{IsSound};
 ghost use Rattle.cyc_types.specs.declared.refusal.Refusal.TheVariants.{Memory};
 ghost use Rattle.cyc_timers.specs.Rows.{Row, TableView, new_table, timers_of, IsRow, IsRising, HasNo, HasDistinctIndexes, vacant_row, with_record, at_moment, IsRecordOf, IsFirstAt};
 
+use cyc_finder::{HasId, search};
 use cyc_heap::ExpiryHeap;
 use cyc_types::{CyclicId, Index, Interval, Level, Moment, Refusal, Sent};
 use std::alloc::Global;
@@ -32,6 +33,14 @@ pub struct Place {
     pub id: CyclicId,
     /// Its index on this CPU (`cyp_heap` holds indexes).
     pub index: Index,
+}
+
+impl HasId for Place {
+    ghost id_of = { λ place. place.id };
+
+    fn id(&self) -> CyclicId {
+        self.id
+    }
 }
 
 /// The cyclics of a CPU: the expirations in a heap, the records by index, and the indexes by rising id (`cyp_heap` and
@@ -127,30 +136,13 @@ impl Table {
         ensures size { self.new.size ≡ self.old.size }
         ensures room { self.new.room ≡ self.old.room }
     {
-        let place = self.place(id);
+        let Err(place) = search(&self.places, id) else {
+            unreachable!()
+        };
         let index = self.heap.insert(moment, id);
         self.records[index.number() as usize] = kept;
         let _ = self.places.insert(place, Place { id, index });
         index
-    }
-
-    /// The first place whose id is not below this one, by halving.
-    fn place(&self, id: CyclicId) -> usize
-        ensures bound { result ≤ length self.now.rows }
-        ensures below { (k : ℕ) (d : Row) → k < result → (slice_index_or self.now.rows k d).timer.id < id }
-        ensures above { (k : ℕ) (d : Row) → result ≤ k → k < length self.now.rows → id ≤ (slice_index_or self.now.rows k d).timer.id }
-    {
-        let mut low = 0;
-        let mut high = self.places.len();
-        while low < high {
-            let middle = low + (high - low) / 2;
-            if self.places[middle].id.number() < id.number() {
-                low = middle + 1;
-            } else {
-                high = middle;
-            }
-        }
-        low
     }
 
     /// The place of this id among the rows, or None where it is not here. O(log n), and takes no memory.
@@ -158,12 +150,7 @@ impl Table {
         ensures none { IfNone result (HasNo id self.now.rows) }
         ensures some { IfSome result (λ k. (r : Row) × IsRow self.now.rows k r × (r.timer.id ≡ id)) }
     {
-        let place = self.place(id);
-        if place < self.places.len() && self.places[place].id.number() == id.number() {
-            Some(place)
-        } else {
-            None
-        }
+        search(&self.places, id).ok()
     }
 
     /// What is kept of the cyclic at this place of `find`. O(1).

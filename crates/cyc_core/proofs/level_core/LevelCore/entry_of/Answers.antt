@@ -1,11 +1,11 @@
-use Rattle.cyc_core.specs.Tables.{level_of}
+use Rattle.cyc_core.specs.Tables.{id_in, level_of}
 use Rattle.cyc_core.specs.Shown.{shown}
-use Rattle.cyc_core.proofs.Table.{lookup_gap}
+use Rattle.cyc_finder.proofs.RisingIds.{look_up_gap}
 use Rattle.cyc_core.proofs.Changes.{read_entry, read_cyclic, read_id, none_some, reached_lawful}
 use Rattle.cyc_core.proofs.level_core.LevelCore.entry_of.Goals as goal
 
 pub unreachable-requires : goal.unreachable-requires
-unreachable-requires c = none_some _ (lookup_gap c.args.self.now.table c.args.id c.in_default.field-0 c.in_default.ensures.absent) c.requires
+unreachable-requires c = none_some _ (look_up_gap id_in c.args.self.now.table c.args.id c.in_default.field-0 c.in_default.ensures.absent) c.requires
 
 pub returns-clause-place : goal.returns-clause-place
 returns-clause-place c =

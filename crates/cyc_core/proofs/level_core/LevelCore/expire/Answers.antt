@@ -3,8 +3,9 @@ use Rattle.cyc_level.specs.declared.Event.TheVariants.{Expire}
 use Rattle.cyc_level.specs.Level.{Cyclic}
 use Rattle.cyc_level.specs.Events.{most_sent}
 use Rattle.cyc_core.specs.Shown.{shown}
-use Rattle.cyc_core.proofs.Table.{ordered_set}
+use Rattle.cyc_finder.proofs.RisingIds.{rises_set}
 use Rattle.cyc_core.proofs.Changes.{found_fact, entry_is_at, entry_cyclic, level_expire, sound_by}
+use Rattle.cyc_core.specs.Tables.{id_in}
 use Rattle.cyc_core.proofs.level_core.LevelCore.expire.Goals as goal
 
 pub overflow_add-entry : goal.overflow_add-entry
@@ -40,7 +41,7 @@ invariant_of-self c =
     let stands = rw (← c.self.view_is) at c.requires.place in
     let at = entry_is_at t.table c.args.place entry stands in
     let found = entry_cyclic t ordered c.args.place entry stands in
-    sound_by c.self.inside _ (Expire entry.id) c.self.invariant may (level_expire t ordered entry.id c.args.place at entry found refl _ _ refl refl c.then_some-self-inside.ensures may.0) (ordered_set t.table ordered entry.id c.args.place at _ refl) (omega arith) (omega arith) (omega arith)
+    sound_by c.self.inside _ (Expire entry.id) c.self.invariant may (level_expire t ordered entry.id c.args.place at entry found refl _ _ refl refl c.then_some-self-inside.ensures may.0) (rises_set id_in t.table ordered entry.id c.args.place at _ refl) (omega arith) (omega arith) (omega arith)
 
 pub returns : goal.returns
 returns c =

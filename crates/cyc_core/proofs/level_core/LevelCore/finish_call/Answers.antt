@@ -1,8 +1,9 @@
 use Rattle.std.proofs.Common.{arith, refl, subst}
 use Rattle.cyc_level.specs.declared.Event.TheVariants.{Finish}
-use Rattle.cyc_core.specs.Tables.{cyclic_of, level_of, IsAt}
+use Rattle.cyc_finder.specs.Sorted.{IsAt}
+use Rattle.cyc_core.specs.Tables.{id_in, cyclic_of, level_of}
 use Rattle.cyc_core.specs.Shown.{shown}
-use Rattle.cyc_core.proofs.Table.{ordered_set}
+use Rattle.cyc_finder.proofs.RisingIds.{rises_set}
 use Rattle.cyc_core.proofs.Changes.{entry_is_at, entry_of, held_cyclic, held_count, level_finish, sound_by, reached_lawful}
 use Rattle.cyc_core.proofs.level_core.LevelCore.finish_call.Goals as goal
 
@@ -20,7 +21,7 @@ overflow_add-entry c =
     let may = rw (← c.self.view_is) at c.requires in
     let entry = c.entry_of-place.result.1 in
     let stands = rw (← c.self.view_is) at c.entry_of-place.ensures.place in
-    let at = subst (λ i. IsAt t.table i c.entry_of-place.result.0) c.entry_of-place.ensures.id (entry_is_at t.table c.entry_of-place.result.0 entry stands) in
+    let at = subst (λ i. IsAt id_in t.table i c.entry_of-place.result.0) c.entry_of-place.ensures.id (entry_is_at t.table c.entry_of-place.result.0 entry stands) in
     let found = rw (← c.self.view_is) at c.entry_of-place.ensures.cyclic in
     let some = held_count (level_of t) law c.in-Some.id (cyclic_of entry) found c.in-Some.is in
     let even = law.conserved c.in-Some.id (cyclic_of entry) found in
@@ -34,7 +35,7 @@ overflow_sub-entry c =
     let may = rw (← c.self.view_is) at c.requires in
     let entry = c.entry_of-place.result.1 in
     let stands = rw (← c.self.view_is) at c.entry_of-place.ensures.place in
-    let at = subst (λ i. IsAt t.table i c.entry_of-place.result.0) c.entry_of-place.ensures.id (entry_is_at t.table c.entry_of-place.result.0 entry stands) in
+    let at = subst (λ i. IsAt id_in t.table i c.entry_of-place.result.0) c.entry_of-place.ensures.id (entry_is_at t.table c.entry_of-place.result.0 entry stands) in
     let found = rw (← c.self.view_is) at c.entry_of-place.ensures.cyclic in
     let some = held_count (level_of t) law c.in-Some.id (cyclic_of entry) found c.in-Some.is in
     omega (arith, some)
@@ -47,10 +48,10 @@ invariant_of-self c =
     let may = rw (← c.self.view_is) at c.requires in
     let entry = c.entry_of-place.result.1 in
     let stands = rw (← c.self.view_is) at c.entry_of-place.ensures.place in
-    let at = subst (λ i. IsAt t.table i c.entry_of-place.result.0) c.entry_of-place.ensures.id (entry_is_at t.table c.entry_of-place.result.0 entry stands) in
+    let at = subst (λ i. IsAt id_in t.table i c.entry_of-place.result.0) c.entry_of-place.ensures.id (entry_is_at t.table c.entry_of-place.result.0 entry stands) in
     let found = rw (← c.self.view_is) at c.entry_of-place.ensures.cyclic in
     let some = held_count (level_of t) law c.in-Some.id (cyclic_of entry) found c.in-Some.is in
-    sound_by c.self.inside _ Finish c.self.invariant may (level_finish t ordered c.in-Some.id c.entry_of-place.result.0 at entry found c.entry_of-place.ensures.id _ _ refl refl c.in-Some.is some c.then_some-self-inside.ensures) (ordered_set t.table ordered c.in-Some.id c.entry_of-place.result.0 at _ c.entry_of-place.ensures.id) (omega arith) (omega arith) (omega arith)
+    sound_by c.self.inside _ Finish c.self.invariant may (level_finish t ordered c.in-Some.id c.entry_of-place.result.0 at entry found c.entry_of-place.ensures.id _ _ refl refl c.in-Some.is some c.then_some-self-inside.ensures) (rises_set id_in t.table ordered c.in-Some.id c.entry_of-place.result.0 at _ c.entry_of-place.ensures.id) (omega arith) (omega arith) (omega arith)
 
 pub returns-in-Some : goal.returns-in-Some
 returns-in-Some c =
@@ -60,7 +61,7 @@ returns-in-Some c =
     let may = rw (← c.self.view_is) at c.requires in
     let entry = c.entry_of-place.result.1 in
     let stands = rw (← c.self.view_is) at c.entry_of-place.ensures.place in
-    let at = subst (λ i. IsAt t.table i c.entry_of-place.result.0) c.entry_of-place.ensures.id (entry_is_at t.table c.entry_of-place.result.0 entry stands) in
+    let at = subst (λ i. IsAt id_in t.table i c.entry_of-place.result.0) c.entry_of-place.ensures.id (entry_is_at t.table c.entry_of-place.result.0 entry stands) in
     let found = rw (← c.self.view_is) at c.entry_of-place.ensures.cyclic in
     let some = held_count (level_of t) law c.in-Some.id (cyclic_of entry) found c.in-Some.is in
     rw (← c.self.view_is) (level_finish t ordered c.in-Some.id c.entry_of-place.result.0 at entry found c.entry_of-place.ensures.id _ _ refl refl c.in-Some.is some c.then_some-self-inside.ensures)

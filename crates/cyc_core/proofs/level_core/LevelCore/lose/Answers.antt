@@ -2,9 +2,9 @@ use Rattle.std.proofs.Common.{◌≡◌, ◌<◌, arith, refl}
 use Rattle.cyc_level.specs.declared.Event.TheVariants.{Lose}
 use Rattle.cyc_level.specs.Level.{Cyclic}
 use Rattle.cyc_level.specs.Events.{most_sent}
-use Rattle.cyc_core.specs.Tables.{level_of}
+use Rattle.cyc_core.specs.Tables.{id_in, level_of}
 use Rattle.cyc_core.specs.Shown.{shown}
-use Rattle.cyc_core.proofs.Table.{ordered_set}
+use Rattle.cyc_finder.proofs.RisingIds.{rises_set}
 use Rattle.cyc_core.proofs.Changes.{found_fact, entry_is_at, entry_cyclic, level_lose, sound_by, reached_lawful}
 use Rattle.cyc_core.proofs.level_core.LevelCore.lose.Goals as goal
 
@@ -54,7 +54,7 @@ invariant_of-self c =
     let stands = rw (← c.self.view_is) at c.requires.place in
     let at = entry_is_at t.table c.args.place entry stands in
     let found = entry_cyclic t ordered c.args.place entry stands in
-    sound_by c.self.inside _ (Lose entry.id) c.self.invariant may (level_lose t ordered entry.id c.args.place at entry found refl _ refl refl) (ordered_set t.table ordered entry.id c.args.place at _ refl) (omega arith) (omega arith) (omega arith)
+    sound_by c.self.inside _ (Lose entry.id) c.self.invariant may (level_lose t ordered entry.id c.args.place at entry found refl _ refl refl) (rises_set id_in t.table ordered entry.id c.args.place at _ refl) (omega arith) (omega arith) (omega arith)
 
 pub returns : goal.returns
 returns c =

@@ -1,32 +1,33 @@
-use Rattle.std.proofs.Common.{◌<◌, arith, length, get_or, ap, sym, ◌∙◌, subst}
-use Rattle.cyc_timers.specs.Rows.{Row, TableView, IsRow, IsRising, row_of}
-use Rattle.cyc_timers.proofs.Tables.{is_row, row_at, no_place, rows_rise, id_here, absent, place_low}
-use Rattle.cyc_timers.proofs.table.Table.find.Goals.{else-place-len-via-then-place-len+else-number, else-place-len-via-else-place-len}
+use Rattle.std.proofs.Common.{◌≡◌, ℕ, subst, Result, Ok, Err, IfOk, IfErr}
+use Rattle.std.specs.Prelude.{IfSome, IfNone}
+use Rattle.std.specs.Result.{result_ok}
+use Rattle.cyc_finder.specs.Sorted.{IsAt, IsGap}
+use Rattle.cyc_timers.specs.Rows.{Row, TableView, IsRow, HasNo, id_in}
+use Rattle.cyc_timers.proofs.Tables.{row_here, no_row}
 use Rattle.cyc_timers.proofs.table.Table.find.Goals as goal
 
-pub returns-then-number-clause-some : goal.returns-then-number-clause-some
-returns-then-number-clause-some c =
-    let slots = c.self.inside.heap.slots in let records = c.self.inside.records.items in let places = c.self.inside.places.items in
-    let low : c.place-place.result < length places = omega arith in
-    let named = id_here places c.place-place.result c.index.result.now c.index.ensures low in (
-      row_of slots records (get_or places c.place-place.result no_place),
-      subst (λ (v : TableView). IsRow v.rows c.place-place.result (row_of slots records (get_or places c.place-place.result no_place))) c.self.view_is (is_row slots records places c.place-place.result low),
-      omega (arith, named),
-    )
+when_found : (r : Result ℕ ℕ) (P Q : ℕ → Type 0) → IfOk r P → ((k : ℕ) → P k → Q k) → IfSome (result_ok r) Q
+when_found (Ok k) P Q is to = to k is
+when_found (Err k) P Q is to = tt
 
-pub returns-else-place-len-clause-none : goal.returns-else-place-len-clause-none
-returns-else-place-len-clause-none c =
-    let slots = c.self.inside.heap.slots in let records = c.self.inside.records.items in let places = c.self.inside.places.items in
-    let p = c.place-place.ensures in
-    let is = ap (λ (v : TableView). v.rows) c.self.view_is in
-    absent c.args.self.now.rows (subst IsRising is (rows_rise slots records places c.self.invariant.0)) c.args.id c.place-place.result p.below p.above
-    (λ d low. elim c.else-place-len.branch [
-      | else-place-len-via-then-place-len+else-number w ↦
-          (let low' : c.place-place.result < length places = omega arith in
-          let named = id_here places c.place-place.result w.index.result.now w.index.ensures low' in
-          let at = ap (λ (x : Row). x.timer.id) (ap (λ xs. get_or xs c.place-place.result d) (sym is) ∙ row_at slots records places c.place-place.result d low') in
-          let n = w.number.ensures.value in let m = w.number-then-place-len.ensures.value in
-          λ q. w.if-number.false (omega (arith, named, at, n, m, q)))
-      | else-place-len-via-else-place-len w ↦
-          (let low' = place_low c.args.self.now slots records places c.place-place.result is low in let out = w.if-place-len.false in let n = c.len.ensures in λ q. absurd (omega (arith, low', out, n)))
-    ])
+when_absent : (r : Result ℕ ℕ) (P : ℕ → Type 0) (Q : Type 0) → IfErr r P → ((k : ℕ) → P k → Q) → IfNone (result_ok r) Q
+when_absent (Ok k) P Q is to = tt
+when_absent (Err k) P Q is to = to k is
+
+pub returns-clause-none : goal.returns-clause-none
+returns-clause-none c =
+    let slots = c.self.inside.heap.slots in let records = c.self.inside.records.items in
+    let places = c.self.inside.places.items in
+    rw c.ok.ensures.value
+    (when_absent c.search.result (IsGap id_in c.deref.result.now c.args.id) (HasNo c.args.id c.args.self.now.rows)
+    c.search.ensures.absent
+    (λ k gap. subst (λ (v : TableView). HasNo c.args.id v.rows) c.self.view_is
+    (no_row slots records places c.args.id k (subst (λ ys. IsGap id_in ys c.args.id k) c.deref.ensures.value gap))))
+
+pub returns-clause-some : goal.returns-clause-some
+returns-clause-some c =
+    let slots = c.self.inside.heap.slots in let records = c.self.inside.records.items in
+    let places = c.self.inside.places.items in
+    rw c.ok.ensures.value (when_found c.search.result (IsAt id_in c.deref.result.now c.args.id) _ c.search.ensures.found
+    (λ k at. subst (λ (v : TableView). (r : Row) × IsRow v.rows k r × (r.timer.id ≡ c.args.id)) c.self.view_is
+    (row_here slots records places c.args.id k (subst (λ ys. IsAt id_in ys c.args.id k) c.deref.ensures.value at))))

@@ -1,12 +1,22 @@
-use Rattle.std.proofs.Common.{◌<◌, ◌≤◌, ℕ, length, length-set, get_or, arith, ap, sym, ◌∙◌, subst, Some}
+use Rattle.std.proofs.Common.{◌<◌, length, length-set, get_or, arith, ap, sym, ◌∙◌, subst, Some}
 use Rattle.std.proofs.Math.ListN.{set}
 use Rattle.std.proofs.lemmas.List.{length-map}
 use Rattle.std.specs.Prelude.{insert}
 use Rattle.cyc_expirations.specs.Expirations.{Expiration}
-use Rattle.cyc_timers.specs.Rows.{Row, TableView, IsTable, row_of, rows_of, with_record, vacant_row}
-use Rattle.cyc_timers.proofs.Tables.{no_place, row_at}
+use Rattle.cyc_finder.specs.Sorted.{IsAt, IsGap}
+use Rattle.cyc_timers.specs.Rows.{Row, TableView, IsTable, HasNo, id_in, row_of, rows_of, with_record, vacant_row}
+use Rattle.cyc_timers.proofs.Tables.{row_at, row_here}
 use Rattle.cyc_timers.proofs.Widening.{fresh, new_table_is, new_rows}
 use Rattle.cyc_timers.proofs.table.Table.insert.Goals as goal
+
+pub unreachable-requires : goal.unreachable-requires
+unreachable-requires c =
+    let slots = c.self.inside.heap.slots in let records = c.self.inside.records.items in let places = c.self.inside.places.items in
+    let q = c.in_default.field-0 in
+    let at = subst (λ ys. IsAt id_in ys c.args.id q) c.deref.ensures.value c.in_default.ensures.found in
+    let (r, (low, is), same) = row_here slots records places c.args.id q at in
+    let none : HasNo c.args.id (rows_of slots records places) = subst (HasNo c.args.id) (sym (ap (λ (v : TableView). v.rows) c.self.view_is)) c.requires.absent in
+    none q r low (ap (λ (x : Row). x.timer.id) is ∙ same)
 
 pub invariant_of-self : goal.invariant_of-self
 invariant_of-self c =
@@ -14,13 +24,7 @@ invariant_of-self c =
     let t = c.self.invariant.0 in let caps = c.self.invariant in
     let rows = ap (λ (v : TableView). v.rows) c.self.view_is in let size = ap (λ (v : TableView). v.size) c.self.view_is in
     let long = ap length rows in let mapped = length-map places (row_of slots records) in
-    let q = c.place-place.result in let p = c.place-place.ensures in
-    let d0 = row_of slots records no_place in
-    let at = λ (k : ℕ) (low : k < length places). ap (λ (x : Row). x.timer.id) (ap (λ xs. get_or xs k d0) (sym rows) ∙ row_at slots records places k d0 low) in
-    let bound = p.bound in
-    let low_q : q ≤ length places = omega (arith, bound, long, mapped) in
-    let below = λ (k : ℕ) (h : k < q). (let b = p.below k d0 h in let a = at k (omega (arith, h, low_q)) in let r : (get_or places k no_place).id < c.args.id = omega (arith, a, b) in r) in
-    let above = λ (k : ℕ) (h : q ≤ k) (low : k < length places). (let low' : k < length c.args.self.now.rows = omega (arith, low, long, mapped) in let b = p.above k d0 h low' in let a = at k low in let n = c.requires.absent k d0 low' in let r : c.args.id < (get_or places k no_place).id = omega (arith, a, b, n) in r) in
+    let q = c.in-Err.place in let gap = subst (λ ys. IsGap id_in ys c.args.id q) c.deref.ensures.value c.in-Err.ensures.absent in
     let index = c.insert-index.result in let free = c.insert-index.ensures.free in let low_i = c.insert-index.ensures.below in
     let free_rows = c.requires.free in
     let ok = c.insert.ensures.succeeds (omega (arith, caps, free_rows, long, mapped, size)) in
@@ -31,7 +35,7 @@ invariant_of-self c =
       subst (λ ps. IsTable c.insert-index.new.self.slots (set records c.number.result c.args.kept) ps) (sym items)
           (subst (λ n. IsTable c.insert-index.new.self.slots (set records n c.args.kept) (insert places q (record { id = c.args.id; index = index }))) (sym numbered)
           (subst (λ xs. IsTable xs (set records index c.args.kept) (insert places q (record { id = c.args.id; index = index }))) (sym c.insert-index.ensures.slots)
-          (new_table_is slots records places t c.args.id index c.args.moment q c.args.kept free low_i low_q below above c.requires.moment c.requires.interval.0 c.requires.interval.1))),
+          (new_table_is slots records places t c.args.id index c.args.moment q c.args.kept free low_i gap c.requires.moment c.requires.interval.0 c.requires.interval.1))),
       omega (arith, caps, same_room),
       omega (arith, caps, same_room, grown),
       omega (arith, caps, same_room, s, l),
@@ -43,16 +47,10 @@ returns-clause-fresh c k d low same =
     let t = c.self.invariant.0 in let caps = c.self.invariant in
     let rows = ap (λ (v : TableView). v.rows) c.self.view_is in let size = ap (λ (v : TableView). v.size) c.self.view_is in
     let long = ap length rows in let mapped = length-map places (row_of slots records) in
-    let q = c.place-place.result in let p = c.place-place.ensures in
-    let d0 = row_of slots records no_place in
-    let at = λ (k : ℕ) (low : k < length places). ap (λ (x : Row). x.timer.id) (ap (λ xs. get_or xs k d0) (sym rows) ∙ row_at slots records places k d0 low) in
-    let bound = p.bound in
-    let low_q : q ≤ length places = omega (arith, bound, long, mapped) in
-    let below = λ (k : ℕ) (h : k < q). (let b = p.below k d0 h in let a = at k (omega (arith, h, low_q)) in let r : (get_or places k no_place).id < c.args.id = omega (arith, a, b) in r) in
-    let above = λ (k : ℕ) (h : q ≤ k) (low : k < length places). (let low' : k < length c.args.self.now.rows = omega (arith, low, long, mapped) in let b = p.above k d0 h low' in let a = at k low in let n = c.requires.absent k d0 low' in let r : c.args.id < (get_or places k no_place).id = omega (arith, a, b, n) in r) in
+    let q = c.in-Err.place in let gap = subst (λ ys. IsGap id_in ys c.args.id q) c.deref.ensures.value c.in-Err.ensures.absent in
     let index = c.insert-index.result in let free = c.insert-index.ensures.free in let low_i = c.insert-index.ensures.below in
     let low' : k < length places = omega (arith, low, long, mapped) in
-    fresh slots records places t c.args.id index c.args.moment q c.args.kept free low_i low_q below above k low'
+    fresh slots records places t c.args.id index c.args.moment q c.args.kept free low_i gap k low'
     (ap (λ (x : Row). x.index) (sym (ap (λ xs. get_or xs k d) (sym rows) ∙ row_at slots records places k d low')) ∙ same)
 
 pub returns-clause-rows : goal.returns-clause-rows
@@ -61,22 +59,16 @@ returns-clause-rows c =
     let t = c.self.invariant.0 in let caps = c.self.invariant in
     let rows = ap (λ (v : TableView). v.rows) c.self.view_is in let size = ap (λ (v : TableView). v.size) c.self.view_is in
     let long = ap length rows in let mapped = length-map places (row_of slots records) in
-    let q = c.place-place.result in let p = c.place-place.ensures in
-    let d0 = row_of slots records no_place in
-    let at = λ (k : ℕ) (low : k < length places). ap (λ (x : Row). x.timer.id) (ap (λ xs. get_or xs k d0) (sym rows) ∙ row_at slots records places k d0 low) in
-    let bound = p.bound in
-    let low_q : q ≤ length places = omega (arith, bound, long, mapped) in
-    let below = λ (k : ℕ) (h : k < q). (let b = p.below k d0 h in let a = at k (omega (arith, h, low_q)) in let r : (get_or places k no_place).id < c.args.id = omega (arith, a, b) in r) in
-    let above = λ (k : ℕ) (h : q ≤ k) (low : k < length places). (let low' : k < length c.args.self.now.rows = omega (arith, low, long, mapped) in let b = p.above k d0 h low' in let a = at k low in let n = c.requires.absent k d0 low' in let r : c.args.id < (get_or places k no_place).id = omega (arith, a, b, n) in r) in
+    let q = c.in-Err.place in let gap = subst (λ ys. IsGap id_in ys c.args.id q) c.deref.ensures.value c.in-Err.ensures.absent in
     let index = c.insert-index.result in let free = c.insert-index.ensures.free in let low_i = c.insert-index.ensures.below in
     let free_rows = c.requires.free in
     let ok = c.insert.ensures.succeeds (omega (arith, caps, free_rows, long, mapped, size)) in
     let items = rw ok at c.insert.ensures.items in (
       q,
-      bound,
+      (let within = gap.in_range in omega (arith, within, long, mapped)),
       ap (λ ps. rows_of c.insert-index.new.self.slots (set records c.number.result c.args.kept) ps) items
           ∙ ap (λ n. rows_of c.insert-index.new.self.slots (set records n c.args.kept) (insert places q (record { id = c.args.id; index = index }))) c.number.ensures.value
           ∙ ap (λ xs. rows_of xs (set records index c.args.kept) (insert places q (record { id = c.args.id; index = index }))) c.insert-index.ensures.slots
-          ∙ new_rows slots records places t c.args.id index c.args.moment q c.args.kept free low_i low_q below above
+          ∙ new_rows slots records places t c.args.id index c.args.moment q c.args.kept free low_i gap
           ∙ ap (λ xs. insert xs q (with_record c.args.moment c.args.kept (vacant_row c.args.id index))) rows,
     )

@@ -1,4 +1,4 @@
-use Rattle.std.proofs.Common.{◌≡◌, ℕ, sym, ap, ◌∙◌, Some, None, Option, get_or}
+use Rattle.std.proofs.Common.{◌≡◌, ℕ, sym, ap, ◌∙◌, Some, None, get_or}
 use Rattle.std.specs.Option.{option_map}
 use Rattle.cyc_heap.specs.Heap.{pair_of}
 use Rattle.cyc_timers.specs.declared.table.Place.{Place}

@@ -1,0 +1,3 @@
+pub mod RisingIds
+pub mod Few
+pub mod Entries

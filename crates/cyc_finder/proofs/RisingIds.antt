@@ -1,0 +1,193 @@
+-- What a look-up finds among things by rising id, and what an edit of the list does to it.
+use Rattle.std.proofs.Common.{◌≡◌, ℕ, zero, suc, ◌+◌, ◌-◌, ◌<◌, ◌≤◌, ◌≢◌, eqb, cond, List, [], ◌∷◌, length, get_or, set, Some}
+use Rattle.std.proofs.Common.{inl, inr, None, Result, Ok, Err, IfOk, IfErr, refl, sym, ap, ◌∙◌, subst, arith}
+use Rattle.std.specs.List.{insert, remove, slice_get}
+use Rattle.std.specs.List.Sorted.{IsSearchInRange, IsBinarySearchResult, IsNonDecreasingBy}
+use Rattle.std.specs.Ordering.{nat_cmp, ordering_index}
+use Rattle.std.proofs.lemmas.Cmp.{ranked}
+use Rattle.std.proofs.lemmas.List.{get_or_default}
+use Rattle.std.proofs.lemmas.Option.{slice_get_cases}
+use Rattle.std.proofs.lemmas.List.Edits.{length-insert, get_or-insert_below, get_or-insert_at, get_or-insert_above}
+use Rattle.std.proofs.lemmas.List.Edits.{length-remove, get_or-remove_below, get_or-remove_above}
+use Rattle.std.proofs.lemmas.Bool.Decides.{nat_tests}
+use Rattle.std.proofs.lemmas.Grind.{common_steps}
+use Rattle.cyc_finder.specs.Sorted.{look_up, Rises, IsAt, IsGap}
+
+module _ {T : Type 0} (id_of : T → ℕ) where
+  -- nothing before the place has the id
+  abbrev pub NoIdBefore : List T → ℕ → ℕ → Type 0
+  NoIdBefore xs id place = (j : ℕ) (d : T) → j < place → id_of (get_or xs j d) ≢ id
+
+  no_id_before_tail : (x : T) (xs : List T) (id i : ℕ) → NoIdBefore (x ∷ xs) id (suc i) → NoIdBefore xs id i
+  no_id_before_tail x xs id i none j d less = none (suc j) d (omega arith)
+
+  is_at_tail : (x : T) (xs : List T) (id i : ℕ) → IsAt id_of (x ∷ xs) id (suc i) → IsAt id_of xs id i
+  is_at_tail x xs id i at = record { in_range = omega (arith, at.in_range); has_id = at.has_id }
+
+  pub look_up_absent : (xs : List T) (id : ℕ) → NoIdBefore xs id (length xs) → look_up id_of id xs ≡ None
+  look_up_absent [] id none = refl
+  look_up_absent (x ∷ xs) id none =
+      let first = none 0 x (omega arith) in
+      let rest = look_up_absent xs id (no_id_before_tail x xs id _ none) in
+      grind (arith, nat_tests, first, rest)
+
+  pub look_up_present : (xs : List T) (id i : ℕ) (d : T) → IsAt id_of xs id i → NoIdBefore xs id i
+      → look_up id_of id xs ≡ Some (get_or xs i d)
+  look_up_present [] id i d at none = absurd (omega (arith, at.in_range))
+  look_up_present (x ∷ xs) id zero d at none = let here : id_of x ≡ id = at.has_id d in grind (arith, nat_tests, here)
+  look_up_present (x ∷ xs) id (suc i) d at none =
+      let first = none 0 x (omega arith) in
+      let rest = look_up_present xs id i d (is_at_tail x xs id i at) (no_id_before_tail x xs id i none) in
+      grind (arith, nat_tests, first, rest)
+
+  -- writing over the first thing of the id changes the look-up of that id alone
+  look_up_set : (xs : List T) (id i : ℕ) (e : T) → IsAt id_of xs id i → NoIdBefore xs id i → id_of e ≡ id → (q : ℕ)
+      → look_up id_of q (set xs i e) ≡ cond (eqb q id) (Some e) (look_up id_of q xs)
+  look_up_set [] id i e at none same q = absurd (omega (arith, at.in_range))
+  look_up_set (x ∷ xs) id zero e at none same q = let here : id_of x ≡ id = at.has_id e in grind (arith, nat_tests, here, same)
+  look_up_set (x ∷ xs) id (suc i) e at none same q =
+      let first = none 0 x (omega arith) in
+      let rest = look_up_set xs id i e (is_at_tail x xs id i at) (no_id_before_tail x xs id i none) same q in
+      grind (arith, nat_tests, first, rest)
+
+  -- so does a new thing before any of its id
+  look_up-insert : (xs : List T) (id i : ℕ) (e : T) → NoIdBefore xs id i → id_of e ≡ id → (q : ℕ)
+      → look_up id_of q (insert xs i e) ≡ cond (eqb q id) (Some e) (look_up id_of q xs)
+  look_up-insert xs id zero e none same q = grind (arith, nat_tests, same)
+  look_up-insert [] id (suc i) e none same q = grind (arith, nat_tests, same)
+  look_up-insert (x ∷ xs) id (suc i) e none same q =
+      let first = none 0 x (omega arith) in
+      let rest = look_up-insert xs id i e (no_id_before_tail x xs id i none) same q in
+      grind (arith, nat_tests, first, rest)
+
+  rises_tail : (x : T) (xs : List T) → Rises id_of (x ∷ xs) → Rises id_of xs
+  rises_tail x xs rises i j d less in_range = rises (suc i) (suc j) d (omega arith) (omega arith)
+
+  -- taking the thing of an id out changes the look-up of that id alone
+  look_up-remove : (xs : List T) → Rises id_of xs → (id i : ℕ) → IsAt id_of xs id i → (q : ℕ)
+      → look_up id_of q (remove xs i) ≡ cond (eqb q id) None (look_up id_of q xs)
+  look_up-remove [] rises id i at q = absurd (omega (arith, at.in_range))
+  look_up-remove (x ∷ xs) rises id zero at q =
+      let here : id_of x ≡ id = at.has_id x in
+      let gone : look_up id_of id xs ≡ None =
+      look_up_absent xs id (λ j d less same. let up = rises 0 (suc j) d (omega arith) (omega arith) in
+      omega (arith, up, here, same)) in
+      grind (arith, nat_tests, here, gone)
+  look_up-remove (x ∷ xs) rises id (suc i) at q =
+      let first : id_of x < id = (let up = rises 0 (suc i) x (omega arith) at.in_range in let here = at.has_id x in
+      omega (arith, up, here)) in
+      let rest = look_up-remove xs (rises_tail x xs rises) id i (is_at_tail x xs id i at) q in
+      grind (arith, nat_tests, first, rest)
+
+  module _ (xs : List T) (rises : Rises id_of xs) (id : ℕ) where
+    -- the comparisons with an id rise along the list, as a binary search asks
+    comparisons_rise : IsNonDecreasingBy (λ (x : T). ordering_index (nat_cmp (id_of x) id)) xs
+    comparisons_rise i j d le in_range =
+        let ids_rise : id_of (get_or xs i d) ≤ id_of (get_or xs j d) =
+        grind (arith, rises i j d, λ (same : i ≡ j). ap (λ (k : ℕ). id_of (get_or xs k d)) same) in
+        grind (arith, nat_tests)
+
+    -- a binary search ends at the thing of the id, or where it would stand
+    pub searched : (r : Result ℕ ℕ) → IsSearchInRange r (length xs) → IsBinarySearchResult (λ (x : T). nat_cmp (id_of x) id) xs r
+        → record { found : IfOk r (IsAt id_of xs id); absent : IfErr r (IsGap id_of xs id) }
+    searched (Ok at) in_range equal =
+        record { found = record { in_range = in_range; has_id = λ d. ranked _ id _ (sym (equal d)) }; absent = tt }
+    searched (Err at) in_range parted = record {
+      found = tt;
+      absent = record {
+        in_range = in_range;
+        smaller_before = λ j d less. ranked _ id _ (sym ((parted comparisons_rise).0 j d (omega arith) less));
+        greater_after = λ j d le less. ranked _ id _ (sym ((parted comparisons_rise).1 j d le less));
+      };
+    }
+
+  -- the thing at a place is that of its id
+  pub is_at_place : (xs : List T) (place : ℕ) (d : T) → place < length xs → IsAt id_of xs (id_of (get_or xs place d)) place
+  is_at_place xs place d in_range = record { in_range = in_range; has_id = λ e. ap id_of (get_or_default xs place e d in_range) }
+
+  -- what stands where the id stands
+  pub stands : (xs : List T) (id place : ℕ) → IsAt id_of xs id place → (x : T) × (slice_get xs place ≡ Some x) × (id_of x ≡ id)
+  stands xs id place at = elim (slice_get_cases xs place).1 [
+    | inl (x, within, is, same) ↦ (x, is, ap id_of (sym same) ∙ at.has_id x)
+    | inr (past, none) ↦ let low = at.in_range in absurd (omega (arith, past, low))
+  ]
+
+  module _ (xs : List T) (rises : Rises id_of xs) (id place : ℕ) (at : IsAt id_of xs id place) where
+    no_id_before_place : NoIdBefore xs id place
+    no_id_before_place j d less same = let up = rises j place d less at.in_range in let here = at.has_id d in
+        omega (arith, up, here, same)
+
+    -- the thing of the id is found at its place
+    pub look_up_at : (d : T) → look_up id_of id xs ≡ Some (get_or xs place d)
+    look_up_at d = look_up_present xs id place d at no_id_before_place
+
+    -- what is read there is found
+    pub look_up_read : (d : T) → d ≡ get_or xs place d → look_up id_of id xs ≡ Some d
+    look_up_read d read = look_up_at d ∙ ap Some (sym read)
+
+    pub look_up_written : (e : T) → id_of e ≡ id → (q : ℕ)
+        → look_up id_of q (set xs place e) ≡ cond (eqb q id) (Some e) (look_up id_of q xs)
+    look_up_written e same = look_up_set xs id place e at no_id_before_place same
+
+    pub rises_set : (e : T) → id_of e ≡ id → Rises id_of (set xs place e)
+    rises_set e same i j d less in_range =
+        let here = at.has_id d in
+        grind (arith, common_steps, rises i j d, rises i place d, rises place j d, at.in_range, here, same)
+
+    pub look_up_removed : (q : ℕ) → look_up id_of q (remove xs place) ≡ cond (eqb q id) None (look_up id_of q xs)
+    look_up_removed = look_up-remove xs rises id place at
+
+    pub rises_removed : Rises id_of (remove xs place)
+    rises_removed i j d less in_range =
+        let shorter = length-remove xs place at.in_range in
+        let below : (i : ℕ) → i < place → get_or (remove xs place) i d ≡ get_or xs i d =
+        λ i lt. get_or-remove_below xs place d i lt at.in_range in
+        let above : (i : ℕ) → place ≤ i → get_or (remove xs place) i d ≡ get_or xs (i + 1) d =
+        λ i le. get_or-remove_above xs place d i le at.in_range in
+        grind (
+          arith,
+          λ (lt : i < place). ap id_of (below i lt),
+          λ (le : place ≤ i). ap id_of (above i le),
+          λ (lt : j < place). ap id_of (below j lt),
+          λ (le : place ≤ j). ap id_of (above j le),
+          rises i j d,
+          rises i (j + 1) d,
+          rises (i + 1) (j + 1) d,
+          shorter,
+        )
+
+  module _ (xs : List T) (id place : ℕ) (gap : IsGap id_of xs id place) where
+    pub look_up_gap : look_up id_of id xs ≡ None
+    look_up_gap = look_up_absent xs id (λ j d less same.
+        let before = gap.smaller_before j d in let behind = gap.greater_after j d in grind (arith, before, behind, same, less))
+
+    pub look_up_inserted : (e : T) → id_of e ≡ id → (q : ℕ)
+        → look_up id_of q (insert xs place e) ≡ cond (eqb q id) (Some e) (look_up id_of q xs)
+    look_up_inserted e same =
+        look_up-insert xs id place e (λ j d less is. let before = gap.smaller_before j d less in omega (arith, before, is)) same
+
+    pub rises_inserted : Rises id_of xs → (e : T) → id_of e ≡ id → Rises id_of (insert xs place e)
+    rises_inserted rises e same i j d less in_range =
+        let new = insert xs place e in
+        let longer = length-insert xs place e gap.in_range in
+        let id_below : (i : ℕ) → i < place → id_of (get_or new i d) ≡ id_of (get_or xs i d) =
+        λ i below. ap id_of (get_or-insert_below xs place e d i below gap.in_range) in
+        let id_here : (i : ℕ) → i ≡ place → id_of (get_or new i d) ≡ id =
+        λ i here. rw here (ap id_of (get_or-insert_at xs place e d gap.in_range) ∙ same) in
+        let id_above : (i : ℕ) → place < i → id_of (get_or new i d) ≡ id_of (get_or xs (i - 1) d) =
+        λ i above. subst (λ q. id_of (get_or new q d) ≡ id_of (get_or xs (i - 1) d)) {x = i - 1 + 1} (omega arith)
+        (ap id_of (get_or-insert_above xs place e d (i - 1) (omega arith) gap.in_range)) in
+        grind (
+          arith,
+          id_below i,
+          id_here i,
+          id_above i,
+          id_below j,
+          id_here j,
+          id_above j,
+          rises i j d,
+          rises i (j - 1) d,
+          rises (i - 1) (j - 1) d,
+          gap.smaller_before i d,
+          gap.greater_after (j - 1) d,
+        )

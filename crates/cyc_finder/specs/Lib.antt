@@ -1,0 +1,3 @@
+pub mod Sorted
+pub mod Indexes
+pub mod Shown

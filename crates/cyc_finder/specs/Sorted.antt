@@ -1,0 +1,22 @@
+-- Things by rising id, and where an id stands among them.
+use Rattle.std.specs.Prelude.{◌≡◌, ℕ, ◌<◌, ◌≤◌, ◌==◌, Option, List, length, find, slice_index_or}
+
+-- the thing of an id: the finite map that such a list stands for
+abbrev pub look_up : {T : Type 0} → (T → ℕ) → ℕ → List T → Option T
+look_up id_of id things = find (λ thing. id_of thing == id) things
+
+-- each id is above the one before it
+abbrev pub Rises : {T : Type 0} → (T → ℕ) → List T → Type 0
+Rises {T} id_of things = (i j : ℕ) (d : T) → i < j → j < length things
+    → id_of (slice_index_or things i d) < id_of (slice_index_or things j d)
+
+-- the thing of the id stands at this place
+pub record IsAt {T : Type 0} (id_of : T → ℕ) (things : List T) (id place : ℕ) : Type 0 where
+  pub in_range : place < length things
+  pub has_id : (d : T) → id_of (slice_index_or things place d) ≡ id
+
+-- nothing has the id, and it would stand at this place
+pub record IsGap {T : Type 0} (id_of : T → ℕ) (things : List T) (id place : ℕ) : Type 0 where
+  pub in_range : place ≤ length things
+  pub smaller_before : (j : ℕ) (d : T) → j < place → id_of (slice_index_or things j d) < id
+  pub greater_after : (j : ℕ) (d : T) → place ≤ j → j < length things → id < id_of (slice_index_or things j d)
