@@ -1,10 +1,12 @@
--- What a soft interrupt does: the calls that it makes, and the way of the soft side that belongs to them.
-use Rattle.std.specs.Prelude.{◌≡◌, ℕ, ◌+◌, Bool, true, false, List, [], ◌∷◌, ◌++◌, Option, Some, None, map}
+-- What a soft interrupt does: the calls that it makes, the way of the soft side that belongs to them, and its answer.
+use Rattle.std.specs.Prelude.{◌≡◌, ℕ, ◌+◌, ◌<◌, ◌≤◌, ◌↔◌, Bool, true, false, IsTrue, List, [], ◌∷◌, ◌++◌, length, map, Option, Some, None, Result, IfOk, IfErr}
 use Rattle.std.specs.List.{FoldsTo}
 use Rattle.cyc_types.specs.Counting.{times}
 use Rattle.cyc_types.specs.Draining.{DrainCall, Takes, Finishes, hand_after}
 use Rattle.cyc_types.specs.Runs.{DrainGoes}
 use Rattle.cyc_types.specs.declared.draining.Finished.{Finished}
+use Rattle.cyc_soft.specs.declared.Ran.{Ran}
+use Rattle.cyc_soft.specs.declared.SoftRefused.{SoftRefused}
 
 -- a handler's call that was made: the cyclic, and what its finish found
 pub record Served : Type 0 where
@@ -43,3 +45,26 @@ pub record Serves {D C : Type 0} (step : D → DrainCall → D → Type 0) (held
   pub called_all : FoldsTo called calls (ids ran) calls'
   pub counted : (q : ℕ) → count calls' q ≡ count calls q + times q (ids ran)
   pub finished : (q : ℕ) → made drain' q ≡ made drain q + times q (ids ran)
+
+-- the last step of the soft side is a look that found nothing, and no cyclic is in hand
+abbrev pub EndsWithLook : {D : Type 0} → (D → DrainCall → D → Type 0) → (D → Option ℕ) → D → D → Type 0
+EndsWithLook {D} step held drain drain' = (before : D) × (way : List DrainCall)
+    × DrainGoes step drain way before × step before (Takes None) drain' × (held drain' ≡ None)
+
+-- What a soft interrupt with this budget answers, and what it has done (`cyclic_softint` of cyclic.c; that it has a budget, and
+-- that a handler may refuse, are our own rules).
+pub record IsSoftint {D C : Type 0} (step : D → DrainCall → D → Type 0) (held : D → Option ℕ) (made : D → ℕ → ℕ)
+    (called : C → ℕ → C → Type 0) (count : C → ℕ → ℕ) (may_refuse : C → ℕ → Type 0)
+    (budget : ℕ) (answer : Result Ran SoftRefused) (drain : D) (calls : C) (drain' : D) (calls' : C) : Type 0 where
+  -- the calls that were made, in order, and no other; no look after the last of them but the one that found nothing
+  pub served : IfOk answer (λ r. (ran : List Served) × (length ran ≡ r.calls)
+      × Serves step held made called count drain calls ran (last_look r.idle) drain' calls'
+      × (held drain' ≡ hand_left (held drain) ran))
+  -- it is idle exactly where it stopped before the budget
+  pub within : IfOk answer (λ r. (r.calls ≤ budget) × (IsTrue r.idle ↔ (r.calls < budget)))
+  pub idle : IfOk answer (λ r. IsTrue r.idle → EndsWithLook step held drain drain')
+  -- a handler refused that may refuse at that moment: its cyclic stays in hand, and the calls before it were made
+  pub refused : IfErr answer (λ e. (ran : List Served) × (at : C) × (length ran ≡ e.calls) × (e.calls < budget)
+      × Serves step held made called count drain calls ran (look_of (hand_left (held drain) ran) (Some e.id)) drain' at
+      × may_refuse at e.id × ((q : ℕ) → count calls' q ≡ count at q)
+      × (held drain' ≡ Some e.id))

@@ -1,11 +1,11 @@
 //! The soft interrupt: it takes cyclics from a level's buffer and calls their handlers.
 #![tactic(auto)]
 
-ghost use Rattle.std.specs.Prelude.{◌≡◌, ℕ, ◌+◌, ◌<◌, ◌≤◌, List, length, Some, None, Option, IfNone, IfOk, IfErr, IsTrue, ◌↔◌};
-ghost use Rattle.cyc_types.specs.Draining.{DrainCall, Takes};
+ghost use Rattle.std.specs.Prelude.{◌≡◌, ℕ, None, IfNone};
+ghost use Rattle.cyc_types.specs.Draining.{Takes};
 ghost use Rattle.cyc_types.specs.Levels.{level_of, at_level};
 ghost use Rattle.cyc_types.specs.Runs.{DrainGoes};
-ghost use Rattle.cyc_soft.specs.Serving.{Served, Serves, look_of, last_look, hand_left};
+ghost use Rattle.cyc_soft.specs.Serving.{IsSoftint, look_of};
 
 use cyc_types::calls::{Calls, Refused};
 use cyc_types::draining::Drain;
@@ -54,23 +54,7 @@ pub fn softint<D: Drain, C: Calls>(
     level: Soft,
     budget: u32,
 ) -> Result<Ran, SoftRefused>
-    // The calls that were made, each at this level, and no other; no look after the last of them but the one that found nothing.
-    ensures served { IfOk result (λ r. (ran : List Served) × (length ran ≡ r.calls)
-        × Serves D.step D.held D.made (at_level C.called (level_of level)) C.count drain.old calls.old ran (last_look r.idle) drain.new calls.new
-        × (D.held drain.new ≡ hand_left (D.held drain.old) ran)) }
-
-    // It is idle exactly where it stopped before the budget.
-    ensures budget { IfOk result (λ r. (r.calls ≤ budget) × (IsTrue r.idle ↔ (r.calls < budget))) }
-
-    // Where it is idle, its last step is a look that found nothing.
-    ensures idle { IfOk result (λ r. IsTrue r.idle → (before : D) × (way : List DrainCall)
-        × DrainGoes D.step drain.old way before × D.step before (Takes None) drain.new × (D.held drain.new ≡ None)) }
-
-    // A handler refused that may refuse at that moment: its cyclic stays in hand, and the calls before it were made.
-    ensures refused { IfErr result (λ e. (ran : List Served) × (at : C) × (length ran ≡ e.calls) × (e.calls < budget)
-        × Serves D.step D.held D.made (at_level C.called (level_of level)) C.count drain.old calls.old ran (look_of (hand_left (D.held drain.old) ran) (Some e.id)) drain.new at
-        × C.may_refuse at e.id × ((q : ℕ) → C.count calls.new q ≡ C.count at q)
-        × (D.held drain.new ≡ Some e.id)) }
+    ensures { IsSoftint D.step D.held D.made (at_level C.called (level_of level)) C.count C.may_refuse budget result drain.old calls.old drain.new calls.new }
 {
     for done in 0..budget {
         let Some(id) = in_hand(drain) else {

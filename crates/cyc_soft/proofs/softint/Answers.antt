@@ -4,11 +4,17 @@ use Rattle.cyc_soft.specs.Serving.{Served, look_of}
 use Rattle.cyc_soft.proofs.Rounds.{serves_look, serves_call, hand_more}
 use Rattle.cyc_soft.proofs.softint.Goals as goal
 
-pub returns-in_default-clause-served : goal.returns-in_default-clause-served
-returns-in_default-clause-served g c =
+pub returns-in_default : goal.returns-in_default
+returns-in_default g c =
     let (ran, long, s, hand) = c.loop-done.invariant in
     let found = c.in_default.ensures in
-    (ran, long, serves_look _ _ _ _ _ _ _ ran _ _ _ _ s found.still (_, found.none.1, refl), found.hand ∙ sym found.none.0 ∙ hand)
+    let less = c.loop-done-test.true in
+    record {
+      served = (ran, long, serves_look _ _ _ _ _ _ _ ran _ _ _ _ s found.still (_, found.none.1, refl), found.hand ∙ sym found.none.0 ∙ hand);
+      within = (omega (arith, less), ((λ yes. less), (λ few. refl)));
+      idle = λ yes. (c.loop-done.drain, _, s.way, found.none.1, found.hand);
+      refused = tt;
+    }
 
 pub loop-done-preserved : goal.loop-done-preserved
 loop-done-preserved g c =
@@ -26,9 +32,23 @@ loop-done-preserved g c =
       (rw found.hand at c.finish.ensures.hand) ∙ sym (hand_more _ ran one),
     )
 
-pub returns-in-Err-clause-refused : goal.returns-in-Err-clause-refused
-returns-in-Err-clause-refused g c =
+pub returns-in-Err : goal.returns-in-Err
+returns-in-Err g c =
     let (ran, long, s, hand) = c.loop-done.invariant in
     let found = c.in-Some.ensures in
     let way = subst (λ h. DrainGoes g.D.Drain.step c.loop-done.drain (look_of h (Some c.in-Some.id)) c.in_hand.new.drain) hand found.way in
-    (ran, c.loop-done.calls, long, c.loop-done-test.true, serves_look _ _ _ _ _ _ _ ran _ _ _ _ s found.still way, c.in-Err.ensures.refused, c.in-Err.ensures.kept, found.hand)
+    record {
+      served = tt;
+      within = tt;
+      idle = tt;
+      refused = (
+        ran,
+        c.loop-done.calls,
+        long,
+        c.loop-done-test.true,
+        serves_look _ _ _ _ _ _ _ ran _ _ _ _ s found.still way,
+        c.in-Err.ensures.refused,
+        c.in-Err.ensures.kept,
+        found.hand,
+      );
+    }
