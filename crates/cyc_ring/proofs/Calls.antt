@@ -12,7 +12,7 @@ use Rattle.ring_rule.specs.Rule.{HasItsTrail}
 use Rattle.ring_rule.specs.Steps.{ThisSeat}
 use Rattle.ring_rule.specs.Conservation.{EndsWithIts, StandsFor}
 use Rattle.cyc_ring.specs.Steps.{RaiseStands, DrainStands, RaiseStood, DrainStood, RaiseSteps, DrainSteps, MakesRaiseCall, MakesDrainCall}
-use Rattle.cyc_ring.specs.Seats.{TableSeat, MakesRaiseStep, MakesDrainStep}
+use Rattle.ring_steps.specs.Sides.{TableSeat, MakesRaiseStep, MakesDrainStep}
 
 pub raise_stands : (k : Setting) (v : SeatView) → v.role ≡ Raise → StandsFor k v → RaiseStands k v.raise_trail v.raise_places
 raise_stands k v role s = let own = subst (λ (r : Role). HasItsTrail s.0 v r) role s.1 in let ends = subst (λ (r : Role). EndsWithIts s.0 v r) role s.2 in (s.0, own.0, own.1, ends, s.3)

@@ -1,20 +1,19 @@
 -- What a level that stands says of the rows of a raise seat.
 use Rattle.std.proofs.Common.{◌≡◌, ◌≢◌, ℕ, ◌+◌, ◌*◌, ◌%◌, ◌^◌, ◌<◌, ◌≤◌, List, get_or, refl, sym, ap, ◌∙◌, subst, arith, eq-eqb, cond}
 use Rattle.std.specs.Prelude.{Option, Some}
-use Rattle.atomic_table.specs.Table.{Final, Seen}
 use Rattle.cyc_types.specs.Limits.{cyclics, last_id}
 use Rattle.cyc_level.specs.Level.{Cyclic, Level, in_hand}
 use Rattle.cyc_level.proofs.Keeps.{same_ceiling}
 use Rattle.ring_rule.specs.declared.RaiseStep.{RaiseStep}
 use Rattle.ring_rule.specs.declared.DrainStep.{DrainStep}
+use Rattle.ring_rule.specs.declared.Role.TheVariants.{Joint}
 use Rattle.ring_rule.specs.declared.SeatView.{SeatView}
 use Rattle.ring_rule.specs.declared.Setting.{Setting}
 use Rattle.ring_rule.specs.Words.{pend_word, mark_bit}
 use Rattle.ring_rule.specs.Trail.{open_stay, marked_of, made_calls, ended_calls}
 use Rattle.ring_rule.specs.Log.{RingStep, raise_side, drain_side, events_of, level_after, replay}
-use Rattle.ring_rule.specs.Rule.{joint_view, HasRaises, HasDrains, MeetsRule}
+use Rattle.ring_rule.specs.Rule.{joint_view, HasRaises, HasDrains, HasItsTrail}
 use Rattle.ring_rule.specs.Conservation.{LevelStands, AllStood}
-use Rattle.ring_rule.proofs.Stands.{closes}
 use Rattle.ring_rule.proofs.Stays.{behind, not_held}
 use Rattle.cyc_ring.specs.Rows.{HoldsStays}
 
@@ -59,10 +58,13 @@ module _ (k : Setting) (small : k.ceiling < 2 ^ 32) (log : List RingStep) (L : L
   pub unmarked_row : marked_of rs ≢ Some id → get_or pends i 0 < mark_bit
   unmarked_row not = let p = pend in let h = not_held id (marked_of rs) not in let c = L.lawful.below_ceiling id cyclic.0 cyclic.1 in let e = same_ceiling k.ceiling (events_of log) in omega (arith, p, h, c, e, small)
 
--- a ring that was closed with these words and the views of its two seats
+-- a ring that was closed with these pend words and the views of its two seats
 abbrev pub Ended : Setting → List ℕ → SeatView → SeatView → Type 0
-Ended k ws v w = (log : List RingStep) × (ws ≡ replay k.start log) × (HasRaises log v × HasDrains log w) × AllStood k log
+Ended k pends v w = (log : List RingStep) × (HasRaises log v × HasDrains log w) × AllStood k log × ((i : ℕ) → i < cyclics → get_or pends i 0 ≡ get_or (replay k.start log) (pend_word i) 0)
 
-pub ended : (x k : Setting) → x ≡ k → (seat : ℕ) (u v w : SeatView) → u ≡ joint_view v w → (ws : List ℕ) (values : List (Unit {0})) → Final (Seen (MeetsRule x) seat u) ws values → Ended k ws v w
-ended x k same seat u v w is ws values f = let c = closes x seat u (ap (λ (y : SeatView). y.role) is) ws values f in
-    subst (λ (y : Setting). Ended y ws v w) same (c.0, c.1, subst (λ (y : SeatView). HasRaises c.0 y × HasDrains c.0 y) is c.2, c.3)
+-- what the words give when they are closed with this view of both sides
+abbrev pub Given : Setting → List ℕ → SeatView → Type 0
+Given k pends u = (log : List RingStep) × HasItsTrail log u Joint × AllStood k log × ((i : ℕ) → i < cyclics → get_or pends i 0 ≡ get_or (replay k.start log) (pend_word i) 0)
+
+pub ended : (x k : Setting) → x ≡ k → (pends : List ℕ) (u v w : SeatView) → u ≡ joint_view v w → Given x pends u → Ended k pends v w
+ended x k same pends u v w is c = subst (λ (y : Setting). Ended y pends v w) same (c.0, subst (λ (y : SeatView). HasRaises c.0 y × HasDrains c.0 y) is c.1, c.2, c.3)

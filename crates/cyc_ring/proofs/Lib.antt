@@ -1,5 +1,3 @@
-pub mod Telling
-pub mod Places
 pub mod Learning
 pub mod Rows
 pub mod Balance

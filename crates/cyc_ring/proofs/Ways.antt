@@ -40,14 +40,14 @@ module _ (k : Setting) (t : List RaiseStep) (id : ℕ) where
   call_adds (Raises a answers.First) steps f = (ap (λ (l : List RaiseStep). raises_of id (l ++ t)) f.5 ∙ omega arith, ap (λ (l : List RaiseStep). losses_of id (l ++ t)) f.5 ∙ omega arith)
   call_adds (Marks a i) steps f = (ap (λ (l : List RaiseStep). raises_of id (l ++ t)) f.1 ∙ omega arith, ap (λ (l : List RaiseStep). losses_of id (l ++ t)) f.1 ∙ omega arith)
   call_adds (Polls a None) steps f = (ap (λ (l : List RaiseStep). raises_of id (l ++ t)) f.3 ∙ omega arith, ap (λ (l : List RaiseStep). losses_of id (l ++ t)) f.3 ∙ omega arith)
-  call_adds (Polls a (Some counts)) steps f = (ap (λ (l : List RaiseStep). raises_of id (l ++ t)) f.2 ∙ omega arith, ap (λ (l : List RaiseStep). losses_of id (l ++ t)) f.2 ∙ omega arith)
+  call_adds (Polls a (Some counts)) steps f = (ap (λ (l : List RaiseStep). raises_of id (l ++ t)) f.4 ∙ omega arith, ap (λ (l : List RaiseStep). losses_of id (l ++ t)) f.4 ∙ omega arith)
   call_adds (Expands a) steps f = (ap (λ (l : List RaiseStep). raises_of id (l ++ t)) f ∙ omega arith, ap (λ (l : List RaiseStep). losses_of id (l ++ t)) f ∙ omega arith)
   call_adds (Looks a) steps f = (ap (λ (l : List RaiseStep). raises_of id (l ++ t)) f.2 ∙ omega arith, ap (λ (l : List RaiseStep). losses_of id (l ++ t)) f.2 ∙ omega arith)
 
 raise_run : (way : List FiringCall) (e f : RaiseEnd) → FoldsTo (Taught RaiseEndCall end_view) e way f
     → IsSameRaiseSeat e.seat f.seat × ((id : ℕ) → raises_of id (raise_trail f.seat) ≡ raises_of id (raise_trail e.seat) + raised_by id way) × ((id : ℕ) → losses_of id (raise_trail f.seat) ≡ losses_of id (raise_trail e.seat) + lost_by id way)
 raise_run [] e f h = (
-  (ap (λ (x : RaiseEnd). x.seat.seat.table_id) (sym h), ap (λ (x : RaiseEnd). x.seat.setting) (sym h)),
+  (ap (λ (x : RaiseEnd). x.seat.side.seat.table_id) (sym h), ap (λ (x : RaiseEnd). x.seat.setting) (sym h)),
   (λ id. ap (λ (x : RaiseEnd). raises_of id (raise_trail x.seat)) (sym h) ∙ omega arith),
   (λ id. ap (λ (x : RaiseEnd). losses_of id (raise_trail x.seat)) (sym h) ∙ omega arith),
 )
@@ -76,7 +76,7 @@ call_makes start t id (Finishes j answer) steps f = let hand : drainer_hand_of t
 
 drain_run : (way : List DrainCall) (e f : DrainEnd) → FoldsTo DrainEndCall e way f → IsSameDrainSeat e.seat f.seat × ((id : ℕ) → end_made f id ≡ end_made e id + finished_by id way)
 drain_run [] e f h = (
-  (ap (λ (x : DrainEnd). x.seat.seat.table_id) (sym h), ap (λ (x : DrainEnd). x.seat.setting) (sym h)),
+  (ap (λ (x : DrainEnd). x.seat.side.seat.table_id) (sym h), ap (λ (x : DrainEnd). x.seat.setting) (sym h)),
   (λ id. ap (λ (x : DrainEnd). end_made x id) (sym h) ∙ omega arith),
 )
 drain_run (call ∷ way) e f (m, first, rest) = let b = drain_run way m f rest in let c = first.1 in (

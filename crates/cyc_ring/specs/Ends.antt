@@ -18,17 +18,17 @@ use Rattle.cyc_ring.specs.declared.ends.DrainEnd.{DrainEnd}
 
 -- the steps of a seat, the newest first
 abbrev pub raise_trail : RaiseSeat → List RaiseStep
-raise_trail r = r.seat.me.0.raise_trail
+raise_trail r = r.side.seat.me.0.raise_trail
 
 abbrev pub drain_trail : DrainSeat → List DrainStep
-drain_trail d = d.seat.me.0.drain_trail
+drain_trail d = d.side.seat.me.0.drain_trail
 
 -- what a seat knows
 abbrev pub raiser_view : RaiseSeat → SeatView
-raiser_view r = r.seat.me.0
+raiser_view r = r.side.seat.me.0
 
 abbrev pub drainer_view : DrainSeat → SeatView
-drainer_view d = d.seat.me.0
+drainer_view d = d.side.seat.me.0
 
 -- the one order of all steps that the two seats made: its sides are their trails, with the places
 abbrev pub IsOrderOf : List RingStep → RaiseSeat → DrainSeat → Type 0
@@ -36,17 +36,17 @@ IsOrderOf log r d = HasRaises log (raiser_view r) × HasDrains log (drainer_view
 
 -- the seat is one of this ring's
 abbrev pub IsRaiseSeatOf : Ring → RaiseSeat → Type 0
-IsRaiseSeatOf ring r = (r.seat.table_id ≡ ring.table.shared.table_id) × (r.setting ≡ ring.setting)
+IsRaiseSeatOf ring r = (r.side.seat.table_id ≡ ring.words.table.shared.table_id) × (r.setting ≡ ring.setting)
 
 abbrev pub IsDrainSeatOf : Ring → DrainSeat → Type 0
-IsDrainSeatOf ring d = (d.seat.table_id ≡ ring.table.shared.table_id) × (d.setting ≡ ring.setting)
+IsDrainSeatOf ring d = (d.side.seat.table_id ≡ ring.words.table.shared.table_id) × (d.setting ≡ ring.setting)
 
 -- two seats of the same ring
 abbrev pub IsSameRaiseSeat : RaiseSeat → RaiseSeat → Type 0
-IsSameRaiseSeat r r' = (r'.seat.table_id ≡ r.seat.table_id) × (r'.setting ≡ r.setting)
+IsSameRaiseSeat r r' = (r'.side.seat.table_id ≡ r.side.seat.table_id) × (r'.setting ≡ r.setting)
 
 abbrev pub IsSameDrainSeat : DrainSeat → DrainSeat → Type 0
-IsSameDrainSeat d d' = (d'.seat.table_id ≡ d.seat.table_id) × (d'.setting ≡ d.setting)
+IsSameDrainSeat d d' = (d'.side.seat.table_id ≡ d.side.seat.table_id) × (d'.setting ≡ d.setting)
 
 -- what the holder of a raise seat or of a raise end knows
 abbrev pub seat_view : RaiseSeat → FiringView

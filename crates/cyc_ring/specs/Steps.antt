@@ -60,8 +60,9 @@ module _ (k : Setting) (t : List RaiseStep) where
   RaiseSteps (Marks id pend) steps = (pend ≤ seen_pend id t) × (steps ≡ Marked id pend ∷ [])
   -- the load of the pend word found calls outstanding
   RaiseSteps (Polls id None) steps = (found : ℕ) × (0 < found % mark_bit) × (found % mark_bit ≤ seen_pend id t) × (steps ≡ Loaded id found ∷ [])
-  -- the load found none outstanding; then the store of 0
-  RaiseSteps (Polls id (Some counts)) steps = (found : ℕ) × (found % mark_bit ≡ 0) × (steps ≡ Cleared id ∷ Loaded id found ∷ [])
+  -- the load found none outstanding; then the store of 0. The answer is what this stay's calls sent and lost
+  RaiseSteps (Polls id (Some counts)) steps = (found index : ℕ) × (found % mark_bit ≡ 0)
+      × (open_stay id t ≡ Some record { index = index; sent = counts.sent; lost = counts.lost }) × (steps ≡ Cleared id ∷ Loaded id found ∷ [])
   -- the store of the hard bank
   RaiseSteps (Expands bank) steps = steps ≡ Switched bank ∷ []
   -- the load of the soft bank

@@ -4,11 +4,10 @@ ghost use Rattle.ring_rule.specs.Words.{mark_bit};
 ghost use Rattle.ring_rule.specs.Trail.{marked_of, made_calls, ended_calls};
 ghost use Rattle.cyc_ring.specs.Rows.{HoldsStays};
 
-use crate::plays::Whole;
 use crate::ring::Ring;
 use crate::seats::{DrainSeat, RaiseSeat, Stays};
-use crate::words::{INDEXES, MARK, pend_at};
 use cyc_types::{CyclicId, Index};
+use ring_steps::{INDEXES, MARK};
 use std::snapshot::Snapshot;
 
 /// What a closed ring says of the cyclic at one index.
@@ -35,12 +34,12 @@ pub struct Closed {
     pends: [u64; INDEXES],
     raiser: Snapshot<RaiseSeat>,
     drainer: Snapshot<DrainSeat>,
-    ghost rows: { HoldsStays stays.value.ids stays.value.sent stays.value.lost raiser.value.seat.me.0.raise_trail },
+    ghost rows: { HoldsStays stays.value.ids stays.value.sent stays.value.lost raiser.value.side.seat.me.0.raise_trail },
     ghost named: { (i : ℕ) → i < cyclics → slice_index stays.value.ids i ≤ last_id },
     ghost counted: { (i : ℕ) → i < cyclics → slice_index stays.value.ids i ≢ 0 → slice_index stays.value.lost i + slice_index pends i % mark_bit ≤ slice_index stays.value.sent i },
-    ghost finished: { (i : ℕ) → i < cyclics → slice_index stays.value.ids i ≢ 0 → made_calls (slice_index stays.value.ids i) drainer.value.seat.me.0.drain_trail + slice_index stays.value.lost i + slice_index pends i % mark_bit ≡ slice_index stays.value.sent i + ended_calls (slice_index stays.value.ids i) raiser.value.seat.me.0.raise_trail },
-    ghost marked: { (i : ℕ) → i < cyclics → slice_index stays.value.ids i ≢ 0 → marked_of raiser.value.seat.me.0.raise_trail ≡ Some (slice_index stays.value.ids i) → mark_bit ≤ slice_index pends i },
-    ghost unmarked: { (i : ℕ) → i < cyclics → slice_index stays.value.ids i ≢ 0 → marked_of raiser.value.seat.me.0.raise_trail ≢ Some (slice_index stays.value.ids i) → slice_index pends i < mark_bit },
+    ghost finished: { (i : ℕ) → i < cyclics → slice_index stays.value.ids i ≢ 0 → made_calls (slice_index stays.value.ids i) drainer.value.side.seat.me.0.drain_trail + slice_index stays.value.lost i + slice_index pends i % mark_bit ≡ slice_index stays.value.sent i + ended_calls (slice_index stays.value.ids i) raiser.value.side.seat.me.0.raise_trail },
+    ghost marked: { (i : ℕ) → i < cyclics → slice_index stays.value.ids i ≢ 0 → marked_of raiser.value.side.seat.me.0.raise_trail ≡ Some (slice_index stays.value.ids i) → mark_bit ≤ slice_index pends i },
+    ghost unmarked: { (i : ℕ) → i < cyclics → slice_index stays.value.ids i ≢ 0 → marked_of raiser.value.side.seat.me.0.raise_trail ≢ Some (slice_index stays.value.ids i) → slice_index pends i < mark_bit },
 }
 
 impl Ring {
@@ -60,9 +59,9 @@ impl Ring {
     {
         let known = Snapshot::of(&raiser);
         let done = Snapshot::of(&drainer);
-        let Ring { table, setting: _ } = self;
+        let Ring { words, setting: _ } = self;
         let RaiseSeat {
-            mut seat,
+            side: firing,
             setting: _,
             finder: _,
             stays,
@@ -71,20 +70,15 @@ impl Ring {
             next: _,
         } = raiser;
         let DrainSeat {
-            seat: other,
+            side: soft,
             setting: _,
             bank: _,
             mask: _,
             next: _,
             hand: _,
         } = drainer;
-        table.shared.join_seat::<Whole>(&mut seat, other);
-        let closed = table.close_with(seat);
-        let mut pends = [0u64; INDEXES];
-        for i in 0..INDEXES {
-            pends[i] = closed.word(pend_at(i));
-        }
-        closed.free();
+        let both = words.join(firing, soft);
+        let pends = words.close(both);
         Closed {
             stays,
             pends,

@@ -6,13 +6,12 @@ ghost use Rattle.ring_rule.specs.declared.DrainStep.TheVariants.{Took, Subtracte
 ghost use Rattle.ring_rule.specs.Words.{mark_bit, index_range, entry_id};
 ghost use Rattle.ring_rule.specs.Trail.{held_entry, producer_seen, consumer_index};
 ghost use Rattle.cyc_ring.specs.Steps.{MakesDrainCall};
-ghost use Rattle.cyc_ring.specs.Seats.{MakesDrainStep};
+ghost use Rattle.ring_steps.specs.Sides.{MakesDrainStep};
 ghost use Rattle.cyc_ring.specs.Ends.{IsDrainSeatOf, IsSameDrainSeat, drain_trail, drainer_view};
 
-use crate::plays::Served;
 use crate::ring::Ring;
 use crate::seats::DrainSeat;
-use crate::words::{APART, BUFFERS, ENTRY_BASE, MARK};
+use ring_steps::{ENTRY_BASE, MARK, Served};
 
 impl Ring {
     // The load of the buffer word at the consumer index: its entry comes into the hand.
@@ -23,10 +22,11 @@ impl Ring {
         requires more { (end : ℕ) × (producer_seen (drain_trail drainer.old) ≡ Some end) × (end ≢ drainer.old.next) }
         ensures own { IsSameDrainSeat drainer.old drainer.new }
         ensures named { IsId (entry_id result) }
-        ensures step { MakesDrainStep J.setting (Took result) drainer.old.seat drainer.new.seat }
+        ensures step { MakesDrainStep J.setting (Took result) drainer.old.side.seat drainer.new.side.seat }
     {
-        let word = BUFFERS + drainer.mask + (drainer.next as u64 * APART & drainer.mask);
-        let entry = self.load_entry::<J>(&mut drainer.seat, word as usize);
+        let entry = self
+            .words
+            .take::<J>(&mut drainer.side, drainer.mask, drainer.next);
         drainer.next = drainer.next.wrapping_add(1);
         drainer.hand = entry;
         entry
@@ -43,15 +43,17 @@ impl Ring {
         ensures call { MakesDrainCall self.now.setting (drainer_view drainer.old) (Takes result) (drainer_view drainer.new) }
     {
         loop {
-            let bank = self.load_hard_bank::<J>(&mut drainer.seat);
-            let end = self.load_producer::<J>(&mut drainer.seat, drainer.bank);
+            let bank = self.words.load_hard_bank::<J>(&mut drainer.side);
+            let end = self
+                .words
+                .load_producer::<J>(&mut drainer.side, drainer.bank);
             if end != drainer.next as u64 {
                 return Some(self.take_entry::<J>(drainer) / ENTRY_BASE);
             }
             if bank == drainer.bank {
                 return None;
             }
-            self.store_soft_bank::<J>(&mut drainer.seat, bank);
+            self.words.follow::<J>(&mut drainer.side, bank);
             drainer.bank = bank;
             drainer.mask = (1u64 << bank) - 1;
             drainer.next = drainer.setting.start;
@@ -65,9 +67,11 @@ impl Ring {
         requires hand { drainer.old.hand ≢ 0 }
         ensures own { IsSameDrainSeat drainer.old drainer.new }
         ensures outstanding { 0 < result % mark_bit }
-        ensures step { MakesDrainStep J.setting (Subtracted result) drainer.old.seat drainer.new.seat }
+        ensures step { MakesDrainStep J.setting (Subtracted result) drainer.old.side.seat drainer.new.side.seat }
     {
-        let found = self.subtract::<J>(&mut drainer.seat, (drainer.hand % ENTRY_BASE) as usize);
+        let found = self
+            .words
+            .subtract::<J>(&mut drainer.side, (drainer.hand % ENTRY_BASE) as usize);
         if found % MARK <= 1 {
             drainer.hand = 0;
         }

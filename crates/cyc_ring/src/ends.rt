@@ -3,8 +3,8 @@ ghost use Rattle.std.specs.Prelude.{◌≡◌};
 
 use crate::ring::Ring;
 use crate::seats::{DrainSeat, RaiseSeat};
-use crate::words::{ENTRY_BASE, MARK};
 use cyc_types::{CyclicId, Drain, Finished, Index, Raise, Raised, Sent};
+use ring_steps::{ENTRY_BASE, MARK};
 use std::marker::Brand;
 
 /// The firing side of a ring.
@@ -12,7 +12,7 @@ use std::marker::Brand;
 pub struct RaiseEnd<'a> {
     ring: &'a Ring,
     seat: RaiseSeat,
-    ghost own: { (seat.seat.table_id ≡ ring.now.table.shared.table_id) × (seat.setting ≡ ring.now.setting) },
+    ghost own: { (seat.side.seat.table_id ≡ ring.now.words.table.shared.table_id) × (seat.setting ≡ ring.now.setting) },
 }
 
 /// The soft side of a ring.
@@ -20,7 +20,7 @@ pub struct RaiseEnd<'a> {
 pub struct DrainEnd<'a> {
     ring: &'a Ring,
     seat: DrainSeat,
-    ghost own: { (seat.seat.table_id ≡ ring.now.table.shared.table_id) × (seat.setting ≡ ring.now.setting) },
+    ghost own: { (seat.side.seat.table_id ≡ ring.now.words.table.shared.table_id) × (seat.setting ≡ ring.now.setting) },
 }
 
 impl<'a> RaiseEnd<'a> {

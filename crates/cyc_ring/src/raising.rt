@@ -8,14 +8,13 @@ ghost use Rattle.ring_rule.specs.declared.RaiseStep.TheVariants.{Admitted, Loade
 ghost use Rattle.ring_rule.specs.Words.{mark_bit};
 ghost use Rattle.ring_rule.specs.Trail.{open_stay, seen_pend, marked_of, hard_bank_of, has_followed};
 ghost use Rattle.cyc_ring.specs.Steps.{MakesRaiseCall};
-ghost use Rattle.cyc_ring.specs.Seats.{MakesRaiseStep};
+ghost use Rattle.ring_steps.specs.Sides.{MakesRaiseStep};
 ghost use Rattle.cyc_ring.specs.Ends.{IsRaiseSeatOf, IsSameRaiseSeat, raise_trail, raiser_view};
 
-use crate::plays::Served;
 use crate::ring::Ring;
 use crate::seats::RaiseSeat;
-use crate::words::{APART, BUFFERS, ENTRY_BASE};
 use cyc_types::{CyclicId, Index, Raised};
+use ring_steps::{ENTRY_BASE, Served};
 
 impl Ring {
     // Begins a stay of the id at the index.
@@ -25,10 +24,10 @@ impl Ring {
         requires index { (index < bank_size raiser.old.bank) × (slice_index raiser.old.stays.value.ids index ≡ 0) }
         requires absent { open_stay id (raise_trail raiser.old) ≡ None }
         ensures own { IsSameRaiseSeat raiser.old raiser.new }
-        ensures step { MakesRaiseStep J.setting (Admitted id index) raiser.old.seat raiser.new.seat }
+        ensures step { MakesRaiseStep J.setting (Admitted id index) raiser.old.side.seat raiser.new.side.seat }
     {
         let at = index.number() as usize;
-        self.load_to_admit::<J>(&mut raiser.seat, at);
+        self.words.admit::<J>(&mut raiser.side, at);
         raiser.finder.insert(id, index);
         raiser.stays.ids[at] = id.number();
         raiser.stays.sent[at] = 0;
@@ -43,9 +42,9 @@ impl Ring {
         ensures own { IsSameRaiseSeat raiser.old raiser.new }
         ensures rows { raiser.new.stays ≡ raiser.old.stays }
         ensures bound { result % mark_bit ≤ seen_pend J.id (raise_trail raiser.old) }
-        ensures step { MakesRaiseStep J.setting (Loaded J.id result) raiser.old.seat raiser.new.seat }
+        ensures step { MakesRaiseStep J.setting (Loaded J.id result) raiser.old.side.seat raiser.new.side.seat }
     {
-        self.load::<J>(&mut raiser.seat, index)
+        self.words.load::<J>(&mut raiser.side, index)
     }
 
     // The `fetch_add` that marks the id at the index.
@@ -56,9 +55,9 @@ impl Ring {
         requires unmarked { marked_of (raise_trail raiser.old) ≡ None }
         ensures own { IsSameRaiseSeat raiser.old raiser.new }
         ensures bound { result ≤ seen_pend J.id (raise_trail raiser.old) }
-        ensures step { MakesRaiseStep J.setting (Marked J.id result) raiser.old.seat raiser.new.seat }
+        ensures step { MakesRaiseStep J.setting (Marked J.id result) raiser.old.side.seat raiser.new.side.seat }
     {
-        self.add_mark::<J>(&mut raiser.seat, index)
+        self.words.mark::<J>(&mut raiser.side, index)
     }
 
     // The store of 0 that ends the stay of the marked id at the index.
@@ -68,9 +67,9 @@ impl Ring {
         requires index { (index < cyclics) × (slice_index raiser.old.stays.value.ids index ≡ id) × (id ≢ 0) }
         requires alone { (marked_of (raise_trail raiser.old) ≡ Some id) × (seen_pend id (raise_trail raiser.old) ≡ 0) }
         ensures own { IsSameRaiseSeat raiser.old raiser.new }
-        ensures step { MakesRaiseStep J.setting (Cleared id) raiser.old.seat raiser.new.seat }
+        ensures step { MakesRaiseStep J.setting (Cleared id) raiser.old.side.seat raiser.new.side.seat }
     {
-        self.store_zero::<J>(&mut raiser.seat, index);
+        self.words.clear::<J>(&mut raiser.side, index);
         raiser.finder.remove(id);
         raiser.stays.ids[index] = 0;
     }
@@ -82,9 +81,9 @@ impl Ring {
         requires followed { has_followed (raise_trail raiser.old) ≡ true }
         requires bank { (raiser.old.bank < bank) × (bank ≤ greatest_bank) }
         ensures own { IsSameRaiseSeat raiser.old raiser.new }
-        ensures step { MakesRaiseStep J.setting (Switched bank) raiser.old.seat raiser.new.seat }
+        ensures step { MakesRaiseStep J.setting (Switched bank) raiser.old.side.seat raiser.new.side.seat }
     {
-        self.store_hard_bank::<J>(&mut raiser.seat, bank as u64);
+        self.words.switch::<J>(&mut raiser.side, bank as u64);
         raiser.bank = bank as u64;
         raiser.mask = (1u64 << bank) - 1;
         raiser.next = raiser.setting.start;
@@ -97,9 +96,9 @@ impl Ring {
         ensures own { IsSameRaiseSeat raiser.old raiser.new }
         ensures bank { raiser.new.bank ≡ raiser.old.bank }
         ensures followed { has_followed (raise_trail raiser.old) ≡ true → result ≡ hard_bank_of (raise_trail raiser.old) }
-        ensures step { MakesRaiseStep J.setting (LoadedSoftBank result) raiser.old.seat raiser.new.seat }
+        ensures step { MakesRaiseStep J.setting (LoadedSoftBank result) raiser.old.side.seat raiser.new.side.seat }
     {
-        self.load_soft_bank::<J>(&mut raiser.seat)
+        self.words.load_soft_bank::<J>(&mut raiser.side)
     }
 
     // One expiration of the id at the index: the pend is loaded before it is raised, and the entry is stored before it is
@@ -120,20 +119,21 @@ impl Ring {
     {
         let ceiling = raiser.setting.ceiling as u64;
         let entry = id.number() * ENTRY_BASE + index as u64;
-        let before = self.load_to_raise::<J>(&mut raiser.seat, index);
+        let before = self.words.load_to_raise::<J>(&mut raiser.side, index);
         raiser.stays.sent[index] += 1;
         if before == ceiling {
             raiser.stays.lost[index] += 1;
             return Raised::Lost;
         }
-        let found = self.add::<J>(&mut raiser.seat, index);
+        let found = self.words.add::<J>(&mut raiser.side, index);
         if found != 0 {
             return Raised::More;
         }
-        let word = BUFFERS + raiser.mask + (raiser.next as u64 * APART & raiser.mask);
-        self.store_entry::<J>(&mut raiser.seat, word as usize, entry);
+        self.words
+            .store::<J>(&mut raiser.side, raiser.mask, raiser.next, entry);
         raiser.next = raiser.next.wrapping_add(1);
-        self.publish::<J>(&mut raiser.seat, raiser.bank, raiser.next);
+        self.words
+            .publish::<J>(&mut raiser.side, raiser.bank, raiser.next);
         Raised::First
     }
 }

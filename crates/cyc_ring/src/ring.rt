@@ -1,41 +1,17 @@
-ghost use Rattle.std.specs.Prelude.{◌≡◌, ℕ, ◌<◌, ◌≤◌, ◌^◌, [], IfOk, IfErr, length, slice_index};
-ghost use Rattle.cyc_types.specs.Limits.{cyclics};
-ghost use Rattle.ring_rule.specs.Words.{word_count, first_word, hard_word, producer_word};
+ghost use Rattle.std.specs.Prelude.{◌≡◌};
 
-use crate::plays::Parts;
 use crate::seats::{DrainSeat, RaiseSeat};
-use crate::words::{HARD, PRODUCERS, WORDS};
-use atomic_table::Table;
 use cyc_types::{Ceiling, Refusal};
-use ring_rule::{RingRule, SeatView, Setting};
-use std::alloc::{AllocError, Global};
+use ring_rule::Setting;
+use ring_steps::Words;
+use std::alloc::Global;
 
 /// The words of one soft level.
 #[derive(Drop)]
 pub struct Ring {
-    pub(crate) table: Table<(), SeatView, Setting, RingRule, Global>,
+    pub(crate) words: Words,
     pub(crate) setting: Setting,
-    ghost wide: { table.shared.table_id.words ≡ word_count },
-    ghost no_slots: { table.shared.table_id.slots ≡ 0 },
-    ghost ranges: { (0 < setting.ceiling) × (setting.ceiling < 2 ^ 32) × (setting.start < 2 ^ 32) },
-    ghost key: { table.shared.key ≡ setting },
-}
-
-// The words of a new ring: both banks are 0, and each bank begins at `start`.
-fn first_words(alloc: Global, start: u32) -> Result<Vec<u64>, AllocError>
-    ensures { IfOk result (λ v. (length v.items ≡ word_count) × ((j : ℕ) → j < word_count → slice_index v.items j ≡ first_word start j)) }
-{
-    let mut words = Vec::with_capacity(alloc, WORDS)?;
-    for j in 0..WORDS {
-        words.push(if j < PRODUCERS {
-            0
-        } else if j < HARD {
-            start as u64
-        } else {
-            0
-        })?;
-    }
-    Ok(words)
+    ghost same: { words.setting ≡ setting },
 }
 
 impl Ring {
@@ -56,15 +32,14 @@ impl Ring {
         ensures empty { IfOk result (λ r. (raise_trail r.1 ≡ []) × (drain_trail r.2 ≡ [])) }
         ensures refused { IfErr result (λ e. e ≡ Memory) }
     {
-        let words = first_words(alloc, start)?;
+        let (words, both) = Words::open(alloc, ceiling, start)?;
         let setting = Setting {
             ceiling: ceiling.calls(),
             start,
         };
-        let (table, mut seat) = Table::of_words(alloc, words.as_slice(), &setting)?;
-        let other = table.shared.split_seat::<Parts>(&mut seat);
-        let raiser = RaiseSeat::new(alloc, seat, setting)?;
-        let drainer = DrainSeat::new(other, setting);
-        Ok((Ring { table, setting }, raiser, drainer))
+        let (firing, soft) = words.split(both);
+        let raiser = RaiseSeat::new(alloc, firing, setting)?;
+        let drainer = DrainSeat::new(soft, setting);
+        Ok((Ring { words, setting }, raiser, drainer))
     }
 }

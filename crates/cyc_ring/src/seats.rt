@@ -1,18 +1,16 @@
 ghost use Rattle.std.specs.Prelude.{◌≡◌, ◌≢◌, ℕ, ◌+◌, ◌-◌, ◌/◌, ◌%◌, ◌^◌, ◌<◌, ◌≤◌, [], None, slice_index, IfOk, IsSome};
 ghost use Rattle.cyc_types.specs.Limits.{cyclics, greatest_bank};
 ghost use Rattle.cyc_level.specs.Lawful.{IsId};
-ghost use Rattle.ring_rule.specs.declared.Role.TheVariants.{Raise, Drain};
 ghost use Rattle.ring_rule.specs.Words.{index_range, entry_id};
 ghost use Rattle.ring_rule.specs.Trail.{open_stay, firer_hand_of, hard_bank_of, producer_index, held_entry, consumer_index, soft_bank_of};
-ghost use Rattle.ring_finder.specs.Indexes.{index_of};
+ghost use Rattle.cyc_finder.specs.Indexes.{index_of};
 ghost use Rattle.cyc_ring.specs.Rows.{HoldsStays, stay_index, entry_in_hand};
 ghost use Rattle.cyc_ring.specs.Views.{IsSeenSound, IsBalanced};
 
-use crate::words::INDEXES;
-use atomic_table::Seat;
+use cyc_finder::Finder;
 use cyc_types::CyclicId;
-use ring_finder::Finder;
-use ring_rule::{SeatView, Setting};
+use ring_rule::Setting;
+use ring_steps::{FiringSide, INDEXES, SoftSide};
 use std::alloc::{AllocError, Global};
 
 /// For each index the id of its cyclic, 0 where it is free, and the counts of its stay. They stand in memory of their own, so
@@ -27,7 +25,7 @@ pub struct Stays {
 /// The seat of a ring's firing side: what it knows of each index, and its place in the buffer.
 #[derive(Drop)]
 pub struct RaiseSeat {
-    pub(crate) seat: Seat<(), SeatView>,
+    pub(crate) side: FiringSide,
     pub(crate) setting: Setting,
     pub(crate) finder: Finder,
     pub(crate) stays: Box<Stays>,
@@ -35,22 +33,20 @@ pub struct RaiseSeat {
     pub(crate) bank: u64,
     pub(crate) mask: u64,
     pub(crate) next: u32,
-    ghost role: { seat.me.0.role ≡ Raise },
-    ghost no_slots: { seat.me.1 ≡ [] },
-    ghost free_hand: { firer_hand_of seat.me.0.raise_trail ≡ None },
-    ghost bank_is: { (bank ≡ hard_bank_of seat.me.0.raise_trail) × (bank ≤ greatest_bank) × (mask + 1 ≡ 2 ^ bank) },
-    ghost next_is: { next ≡ producer_index setting.start seat.me.0.raise_trail % index_range },
+    ghost free_hand: { firer_hand_of side.seat.me.0.raise_trail ≡ None },
+    ghost bank_is: { (bank ≡ hard_bank_of side.seat.me.0.raise_trail) × (bank ≤ greatest_bank) × (mask + 1 ≡ 2 ^ bank) },
+    ghost next_is: { next ≡ producer_index setting.start side.seat.me.0.raise_trail % index_range },
     ghost ranges: { (0 < setting.ceiling) × (setting.ceiling < 2 ^ 32) × (setting.start < 2 ^ 32) },
-    ghost rows: { HoldsStays stays.value.ids stays.value.sent stays.value.lost seat.me.0.raise_trail },
-    ghost listed: { (id : ℕ) → index_of id finder ≡ stay_index (open_stay id seat.me.0.raise_trail) },
-    ghost seen: { IsSeenSound setting.ceiling seat.me.0.raise_trail },
-    ghost balanced: { IsBalanced seat.me.0.raise_trail },
+    ghost rows: { HoldsStays stays.value.ids stays.value.sent stays.value.lost side.seat.me.0.raise_trail },
+    ghost listed: { (id : ℕ) → index_of id finder ≡ stay_index (open_stay id side.seat.me.0.raise_trail) },
+    ghost seen: { IsSeenSound setting.ceiling side.seat.me.0.raise_trail },
+    ghost balanced: { IsBalanced side.seat.me.0.raise_trail },
 }
 
 /// The seat of a ring's soft side: its hand, and its place in the buffer.
 #[derive(Drop)]
 pub struct DrainSeat {
-    pub(crate) seat: Seat<(), SeatView>,
+    pub(crate) side: SoftSide,
     pub(crate) setting: Setting,
     // The bank that it drains, the bank's size less one, and the next index.
     pub(crate) bank: u64,
@@ -58,24 +54,22 @@ pub struct DrainSeat {
     pub(crate) next: u32,
     // The entry in hand, 0 where there is none.
     pub(crate) hand: u64,
-    ghost role: { seat.me.0.role ≡ Drain },
-    ghost no_slots: { seat.me.1 ≡ [] },
-    ghost bank_is: { (bank ≡ soft_bank_of seat.me.0.drain_trail) × (bank ≤ greatest_bank) × (mask + 1 ≡ 2 ^ bank) },
-    ghost next_is: { next ≡ consumer_index setting.start seat.me.0.drain_trail % index_range },
+    ghost bank_is: { (bank ≡ soft_bank_of side.seat.me.0.drain_trail) × (bank ≤ greatest_bank) × (mask + 1 ≡ 2 ^ bank) },
+    ghost next_is: { next ≡ consumer_index setting.start side.seat.me.0.drain_trail % index_range },
     ghost ranges: { (0 < setting.ceiling) × (setting.ceiling < 2 ^ 32) × (setting.start < 2 ^ 32) },
-    ghost hand_is: { held_entry seat.me.0.drain_trail ≡ entry_in_hand hand },
+    ghost hand_is: { held_entry side.seat.me.0.drain_trail ≡ entry_in_hand hand },
     ghost hand_named: { hand ≢ 0 → IsId (entry_id hand) },
 }
 
 impl RaiseSeat {
     pub(crate) fn new(
         alloc: Global,
-        seat: Seat<(), SeatView>,
+        side: FiringSide,
         setting: Setting,
     ) -> Result<RaiseSeat, AllocError>
-        requires seat { (seat.me.0.role ≡ Raise) × (seat.me.0.raise_trail ≡ []) × (seat.me.1 ≡ []) }
+        requires empty { side.seat.me.0.raise_trail ≡ [] }
         requires ranges { (0 < setting.ceiling) × (setting.ceiling < 2 ^ 32) × (setting.start < 2 ^ 32) }
-        ensures { IfOk result (λ r. (r.seat ≡ seat) × (r.setting ≡ setting)) }
+        ensures { IfOk result (λ r. (r.side ≡ side) × (r.setting ≡ setting)) }
     {
         let finder = Finder::new(alloc)?;
         let stays = Box::new(
@@ -87,7 +81,7 @@ impl RaiseSeat {
             },
         )?;
         Ok(RaiseSeat {
-            seat,
+            side,
             setting,
             finder,
             stays,
@@ -99,7 +93,7 @@ impl RaiseSeat {
 
     // The index at which the id is admitted.
     pub(crate) fn index_of(&self, id: CyclicId) -> usize
-        requires { open_stay id self.now.seat.me.0.raise_trail ≢ None }
+        requires { open_stay id self.now.side.seat.me.0.raise_trail ≢ None }
         ensures { (result < cyclics) × (slice_index self.now.stays.value.ids result ≡ id) }
     {
         match self.finder.find(id) {
@@ -110,13 +104,13 @@ impl RaiseSeat {
 }
 
 impl DrainSeat {
-    pub(crate) fn new(seat: Seat<(), SeatView>, setting: Setting) -> DrainSeat
-        requires seat { (seat.me.0.role ≡ Drain) × (seat.me.0.drain_trail ≡ []) × (seat.me.1 ≡ []) }
+    pub(crate) fn new(side: SoftSide, setting: Setting) -> DrainSeat
+        requires empty { side.seat.me.0.drain_trail ≡ [] }
         requires ranges { (0 < setting.ceiling) × (setting.ceiling < 2 ^ 32) × (setting.start < 2 ^ 32) }
-        ensures { (result.seat ≡ seat) × (result.setting ≡ setting) }
+        ensures { (result.side ≡ side) × (result.setting ≡ setting) }
     {
         DrainSeat {
-            seat,
+            side,
             setting,
             bank: 0,
             mask: 0,

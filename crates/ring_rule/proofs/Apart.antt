@@ -1,10 +1,9 @@
 -- The layout of a ring's words is one to one.
-use Rattle.std.proofs.Common.{◌≡◌, ◌≢◌, ℕ, suc, ◌+◌, ◌-◌, ◌*◌, ◌%◌, ◌^◌, ◌<◌, ◌≤◌, refl, sym, ap, ◌∙◌, pow_mono, pow_pos, mod-lt, mod-eq_of_lt, arith}
+use Rattle.std.proofs.Common.{◌≡◌, ◌≢◌, ℕ, suc, ◌+◌, ◌-◌, ◌*◌, ◌%◌, ◌^◌, ◌<◌, ◌≤◌, sym, ap, ◌∙◌, pow_mono, pow_pos, mod-lt, mod-eq_of_lt, arith}
 use Rattle.std.proofs.lemmas.Nat.{mul-mod_first}
 use native.Mathlib.Nat.{pow-suc}
 use Rattle.cyc_types.specs.Limits.{greatest_bank, cyclics}
-use Rattle.cyc_level.specs.Level.{bank_size}
-use Rattle.ring_rule.specs.Words.{spread, pend_word, place, producer_word}
+use Rattle.ring_rule.specs.Words.{spread, place}
 use Rattle.ring_rule.specs.Apart.{PendsAreApart, PlacesAreApart, BanksAreApart, WordsAreApart}
 use Rattle.ring_rule.proofs.Words.{pend_low, pend_distinct, place_high, place_low, turned_back, same_turn}
 

@@ -1,5 +1,5 @@
 -- The trails determine the log.
-use Rattle.std.proofs.Common.{◌≡◌, ℕ, zero, suc, ◌+◌, ◌<◌, ◌≤◌, cond, List, [], ◌∷◌, ◌++◌, length, refl, sym, ap, ◌∙◌, subst, arith, eq-eqb, ne_eqb, length-append}
+use Rattle.std.proofs.Common.{◌≡◌, ℕ, zero, suc, ◌+◌, ◌<◌, cond, List, [], ◌∷◌, ◌++◌, length, refl, sym, ap, ◌∙◌, subst, arith, eq-eqb, ne_eqb, length-append}
 use mathlib.Core.Option.{some, some-injective, some-ne-none}
 use lib.ListN.{get_elem?}
 use Rattle.cyc_level.specs.declared.Event.{Event}
@@ -10,7 +10,7 @@ use Rattle.ring_rule.specs.declared.RaiseStep.TheVariants.{Admitted, Loaded, Los
 use Rattle.ring_rule.specs.declared.DrainStep.{DrainStep}
 use Rattle.ring_rule.specs.declared.DrainStep.TheVariants.{LoadedHardBank, LoadedProducer, Took, Subtracted, Followed}
 use Rattle.ring_rule.specs.Trail.{raise_event, drain_event, raise_events, drain_events}
-use Rattle.ring_rule.specs.Log.{RingStep, of_raise, of_drain, raise_side, raise_places, drain_side, drain_places, step_event, events_of, IsTrue, AllTrue, StandsAt}
+use Rattle.ring_rule.specs.Log.{RingStep, of_raise, of_drain, raise_side, raise_places, drain_side, drain_places, events_of, IsTrue, AllTrue, StandsAt}
 use Rattle.ring_rule.specs.Laws.{placed, merged}
 
 -- the events of a log are those of its sides

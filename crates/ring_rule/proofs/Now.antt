@@ -14,7 +14,7 @@ use Rattle.ring_rule.specs.declared.RaiseStep.{RaiseStep}
 use Rattle.ring_rule.specs.declared.DrainStep.{DrainStep}
 use Rattle.ring_rule.specs.declared.Setting.{Setting}
 use Rattle.ring_rule.specs.Trail.{consumer_index}
-use Rattle.ring_rule.specs.Shown.{BankHolds, Shows, StillHolds}
+use Rattle.ring_rule.specs.Shown.{BankHolds, TrailsShow, StillHolds}
 use Rattle.ring_rule.specs.Log.{RingStep, raise_side, drain_side, events_of, level_after, replay}
 use Rattle.ring_rule.specs.Rule.{RingState, IsShown, AllShown, MeetsRule}
 use Rattle.ring_rule.proofs.Words.{pend_distinct}
@@ -25,7 +25,7 @@ pub record RingNow (k : Setting) (ws : List ℕ) (rs : List RaiseStep) (ds : Lis
   pub wide : length ws ≡ word_count
   pub law : Lawful l
   pub ceiling_is : l.ceiling ≡ k.ceiling
-  pub shows : Shows k.start ws rs ds l
+  pub shows : TrailsShow k.start ws rs ds l
   pub still : StillHolds k.start ws rs ds l
 
 pub shown_now : (k : Setting) (log : List RingStep) → AllShown k log → IsShown k log
@@ -59,7 +59,7 @@ module _ (l : Level) (law : Lawful l) where
   same_pend i j c d e f same = law.distinct_indexes i j c d e f (pend_distinct c.index d.index (admitted_low i c e) (admitted_low j d f) same)
 
 -- the soft side's list stands in its bank from the consumer index on
-pub softs_shown : (start : ℕ) (ws : List ℕ) (rs : List RaiseStep) (ds : List DrainStep) (l : Level) → Shows start ws rs ds l → BankHolds ws l.cyclics l.soft_bank (consumer_index start ds) (soft_list l)
+pub softs_shown : (start : ℕ) (ws : List ℕ) (rs : List RaiseStep) (ds : List DrainStep) (l : Level) → TrailsShow start ws rs ds l → BankHolds ws l.cyclics l.soft_bank (consumer_index start ds) (soft_list l)
 softs_shown start ws rs ds l sh = dite (ℕ_discrete l.hard_bank l.soft_bank)
     (λ e. let b : eqb l.hard_bank l.soft_bank ≡ true = eq-eqb l.hard_bank l.soft_bank e in
     subst (λ (x : ℕ × Bool). BankHolds ws l.cyclics x.0 (consumer_index start ds) (cond x.1 l.new_list l.old_list)) (λ z. (e z, sym b z))

@@ -10,7 +10,7 @@ use Rattle.ring_rule.specs.declared.SeatView.{SeatView}
 use Rattle.ring_rule.specs.declared.Setting.{Setting}
 use Rattle.ring_rule.specs.Words.{pend_word, first_word, producer_word, hard_word, soft_word, word_count}
 use Rattle.ring_rule.specs.Log.{replay}
-use Rattle.ring_rule.specs.Shown.{Shows, StillHolds}
+use Rattle.ring_rule.specs.Shown.{TrailsShow, StillHolds}
 use Rattle.ring_rule.specs.Rule.{opening_view, IsSeat, MeetsRule}
 use Rattle.ring_rule.proofs.Words.{pend_low}
 use Rattle.ring_rule.proofs.Seats.{as_wide}
@@ -22,7 +22,7 @@ module _ (k : Setting) (ws : List ℕ) (long : length ws ≡ word_count) (all : 
   ends : (j : ℕ) → producer_word 0 ≤ j → j < hard_word → get_or ws j 0 ≡ k.start % 2 ^ 32
   ends j from to = all j (omega arith) ∙ (ap (λ b. cond b 0 (cond (ltb j hard_word) k.start 0)) (le-ltb j (producer_word 0) from) ∙ (ap (λ b. cond b k.start 0) (lt-ltb j hard_word to) ∙ sym (mod-eq_of_lt small)))
 
-  opened_shown : Shows k.start ws [] [] (empty_level k.ceiling)
+  opened_shown : TrailsShow k.start ws [] [] (empty_level k.ceiling)
   opened_shown = record {
     hard_is = refl;
     soft_is = refl;
@@ -67,11 +67,12 @@ module _ (k : Setting) (ws : List ℕ) (long : length ws ≡ word_count) (all : 
     fits = (ceiling_fits, small);
     words = words_are;
     all_true = tt;
-    some_seat = (omega arith, omega arith);
+    firer = (opening_view, refl, tt);
+    drainer = (opening_view, refl, tt);
     seats = known;
     enabled = tt;
     shown = (
-      subst (λ (w : List ℕ). Shows k.start w [] [] (empty_level k.ceiling)) words_are opened_shown,
+      subst (λ (w : List ℕ). TrailsShow k.start w [] [] (empty_level k.ceiling)) words_are opened_shown,
       subst (λ (w : List ℕ). StillHolds k.start w [] [] (empty_level k.ceiling)) words_are opened_still,
     );
   }

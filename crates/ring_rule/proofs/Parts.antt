@@ -1,5 +1,5 @@
 -- The split of the seat of both sides, and the join of the two seats.
-use Rattle.std.proofs.Common.{◌≡◌, ℕ, zero, suc, ◌≢◌, ◌⊎◌, List, [], ◌∷◌, ◌++◌, length, set, sym, refl, ap, ◌∙◌, subst, inl, inr, ⊎_elim, arith, length-append}
+use Rattle.std.proofs.Common.{◌≡◌, ℕ, zero, suc, ◌≢◌, ◌⊎◌, List, [], ◌∷◌, ◌++◌, length, set, sym, refl, ap, ◌∙◌, subst, inl, inr, ⊎_elim}
 use Rattle.atomic_table.proofs.Lists.{at_set}
 use mathlib.Core.Option.{some, some-injective, some-ne-none}
 use lib.ListN.{get_elem?}
@@ -9,7 +9,7 @@ use Rattle.ring_rule.specs.declared.SeatView.{SeatView}
 use Rattle.ring_rule.specs.declared.Setting.{Setting}
 use Rattle.ring_rule.specs.Rule.{RingState, raise_view, drain_view, joint_view, spent_view, HasRaises, HasDrains, IsSeat, MeetsRule}
 use Rattle.ring_rule.specs.Moves.{SplitIsAllowed, JoinIsAllowed}
-use Rattle.ring_rule.proofs.Seats.{length_set}
+use Rattle.ring_rule.proofs.Seats.{length_set, at_here, other_stays, stays_before, at_last}
 
 at_end : (l : List SeatView) (a b : SeatView) (j : ℕ) → get_elem? (l ++ a ∷ []) j ≡ some b → (get_elem? l j ≡ some b) ⊎ ((length l ≡ j) × (a ≡ b))
 at_end [] a b zero e = inr (refl, some-injective a b e)
@@ -29,14 +29,15 @@ module _ (k : Setting) (s : RingState) (R : MeetsRule k s) where
     other j d ne Spent h = tt
 
     pub parted : MeetsRule k record { words = s.words; homes = s.homes; views = set s.views id (raise_view v) ++ drain_view v ∷ [] }
-    parted = let long = length_set s.views id (raise_view v) in let more = length-append (set s.views id (raise_view v)) (drain_view v ∷ []) in let some_seat = R.some_seat in record {
+    parted = let long = length_set s.views id (raise_view v) in let views : List SeatView = set s.views id (raise_view v) in record {
       log = R.log;
       raise_seat = R.raise_seat;
       drain_seat = length s.views;
       fits = R.fits;
       words = R.words;
       all_true = R.all_true;
-      some_seat = (omega (arith, long, more), omega (arith, long, more));
+      firer = (raise_view v, ap (λ (j : ℕ). get_elem? (views ++ drain_view v ∷ []) j) (sym whole.0) ∙ stays_before views id (drain_view v) (raise_view v) (at_here s.views id v (raise_view v) at), tt);
+      drainer = (drain_view v, ap (λ (j : ℕ). get_elem? (views ++ drain_view v ∷ []) j) (sym long) ∙ at_last views (drain_view v), tt);
       seats = λ j d e. ⊎_elim
           (λ h. ⊎_elim (λ (t : (j ≡ id) × (raise_view v ≡ d)). subst (λ (p : ℕ × SeatView). IsSeat R.log R.raise_seat (length s.views) p.0 p.1 p.1.role) (λ z. (sym t.0 z, t.1 z)) (whole.0, whole.2))
           (λ (t : (j ≢ id) × (get_elem? s.views j ≡ some d)). other j d t.0 d.role (R.seats j d t.1)) (at_set s.views id j (raise_view v) d h))
@@ -62,14 +63,15 @@ module _ (k : Setting) (s : RingState) (R : MeetsRule k s) where
     rest j d nt ni Spent h = tt
 
     pub joined : MeetsRule k record { words = s.words; homes = s.homes; views = set (set s.views id (joint_view v w)) o spent_view }
-    joined = let a = length_set s.views id (joint_view v w) in let b = length_set (set s.views id (joint_view v w)) o spent_view in let some_seat = R.some_seat in let m = mine.0 in record {
+    joined = let views : List SeatView = set s.views id (joint_view v w) in let here : get_elem? (set views o spent_view) id ≡ some (joint_view v w) = other_stays views o id spent_view (joint_view v w) (λ e. apart (sym e)) (at_here s.views id v (joint_view v w) at) in record {
       log = R.log;
       raise_seat = R.raise_seat;
       drain_seat = id;
       fits = R.fits;
       words = R.words;
       all_true = R.all_true;
-      some_seat = (omega (arith, a, b), omega (arith, a, b, m));
+      firer = (joint_view v w, ap (λ (j : ℕ). get_elem? (set views o spent_view) j) (sym mine.0) ∙ here, tt);
+      drainer = (joint_view v w, here, tt);
       seats = λ j d e. ⊎_elim
           (λ t. subst (λ (p : SeatView). IsSeat R.log R.raise_seat id j p p.role) t.1 tt)
           (λ h. ⊎_elim (λ (t : (j ≡ id) × (joint_view v w ≡ d)). subst (λ (p : ℕ × SeatView). IsSeat R.log R.raise_seat id p.0 p.1 p.1.role) (λ z. (sym t.0 z, t.1 z)) (mine.0, refl, mine.1, its.1))

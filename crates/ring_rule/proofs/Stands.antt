@@ -1,6 +1,6 @@
 -- The conservation theorem in every state, at every step, and at the closing.
-use Rattle.std.proofs.Common.{◌≡◌, ℕ, zero, suc, ◌+◌, ◌^◌, ◌<◌, List, [], ◌∷◌, length, set, sym, refl, ap, ◌∙◌, subst, arith}
-use mathlib.Core.Option.{some, some-ne-none}
+use Rattle.std.proofs.Common.{◌≡◌, ℕ, ◌+◌, ◌^◌, ◌<◌, List, [], ◌∷◌, length, sym, ap, ◌∙◌, subst, arith}
+use mathlib.Core.Option.{some}
 use lib.ListN.{get_elem?}
 use Rattle.atomic_table.specs.Table.{keeps}
 use Rattle.cyc_level.specs.Events.{AllEnabled}
@@ -12,9 +12,10 @@ use Rattle.ring_rule.specs.declared.Setting.{Setting}
 use Rattle.ring_rule.specs.Log.{RingStep, of_raise, of_drain, raise_side, drain_side, step_event, events_of, level_after, replay, AllTrue}
 use Rattle.ring_rule.specs.Rule.{RingState, HasItsTrail, IsSeat, AllShown, MeetsRule}
 use Rattle.ring_rule.specs.Conservation.{LevelStands, AllStood, EndsWithIts, StandsFor, Conserves}
-use Rattle.ring_rule.specs.Steps.{ThisSeat, with_raise_step, with_drain_step, IsAllowed, IsRaiseStep, IsDrainStep}
+use Rattle.ring_rule.specs.Steps.{ThisSeat, with_raise_step, with_drain_step, IsAllowed, IsRaiseStep, IsDrainStep, IsFiringStep, IsSoftStep}
 use Rattle.ring_rule.specs.Moves.{ClosingStands}
 use Rattle.ring_rule.proofs.Log.{rest_enabled}
+use Rattle.ring_rule.proofs.Seats.{at_here}
 use Rattle.ring_rule.proofs.Now.{log_now}
 use Rattle.ring_rule.proofs.Books.{booked, accounted, finished_stays}
 
@@ -48,11 +49,6 @@ module _ (k : Setting) (s : RingState) (R : MeetsRule k s) where
   pub conserves : Conserves k s
   conserves = record { log = R.log; words = R.words; trails = λ j v at. has_its_trail R.log R.raise_seat R.drain_seat j v v.role (R.seats j v at); stood = stood }
 
-pub at_here : (l : List SeatView) (i : ℕ) (v w : SeatView) → get_elem? l i ≡ some v → get_elem? (set l i w) i ≡ some w
-at_here [] i v w e = absurd (some-ne-none v (sym e))
-at_here (x ∷ xs) zero v w e = refl
-at_here (x ∷ xs) (suc i) v w e = at_here xs i v w e
-
 -- such a level stands for the seat j, which has the log's last step
 stands_for : (k : Setting) (s : RingState) (R : MeetsRule k s) (j : ℕ) (v : SeatView) → get_elem? s.views j ≡ some v → EndsWithIts R.log v v.role → StandsFor k v
 stands_for k s R j v at ends = (R.log, has_its_trail R.log R.raise_seat R.drain_seat j v v.role (R.seats j v at), ends, stood k s R)
@@ -61,15 +57,21 @@ one_longer : (m : List RingStep) (x : RingStep) (log : List RingStep) → m ≡ 
 one_longer m x log is = let e = ap length is in omega (arith, e)
 
 -- a step that extends the log is allowed, and tells that such a level stands at its place
-pub raise_allowed : (k : Setting) (slots seat : ℕ) (me : ThisSeat) (i : ℕ) (f : ℕ → ℕ) (tells : ℕ → ThisSeat → Type 0) → me.0.role ≡ Raise → IsRaiseStep k slots seat me i f tells → IsAllowed k slots seat me i f tells
+raise_allowed : (k : Setting) (slots seat : ℕ) (me : ThisSeat) (i : ℕ) (f : ℕ → ℕ) (tells : ℕ → ThisSeat → Type 0) → me.0.role ≡ Raise → IsRaiseStep k slots seat me i f tells → IsAllowed k slots seat me i f tells
 raise_allowed k slots seat me i f tells role A s R homes at small = let x = A s R homes at small in let w : SeatView = with_raise_step (length R.log) x.0 me.0 in
     let ends = subst (λ (r : Role). EndsWithIts x.1.0.log w r) (sym role) (one_longer x.1.0.log (of_raise x.0) R.log x.1.1) in
     (w, keeps, tt, x.1.0, (x.2, stands_for k _ x.1.0 seat w (at_here s.views seat me.0 w at) ends))
 
-pub drain_allowed : (k : Setting) (slots seat : ℕ) (me : ThisSeat) (i : ℕ) (f : ℕ → ℕ) (tells : ℕ → ThisSeat → Type 0) → me.0.role ≡ Drain → IsDrainStep k slots seat me i f tells → IsAllowed k slots seat me i f tells
+drain_allowed : (k : Setting) (slots seat : ℕ) (me : ThisSeat) (i : ℕ) (f : ℕ → ℕ) (tells : ℕ → ThisSeat → Type 0) → me.0.role ≡ Drain → IsDrainStep k slots seat me i f tells → IsAllowed k slots seat me i f tells
 drain_allowed k slots seat me i f tells role A s R homes at small = let x = A s R homes at small in let w : SeatView = with_drain_step (length R.log) x.0 me.0 in
     let ends = subst (λ (r : Role). EndsWithIts x.1.0.log w r) (sym role) (one_longer x.1.0.log (of_drain x.0) R.log x.1.1) in
     (w, keeps, tt, x.1.0, (x.2, stands_for k _ x.1.0 seat w (at_here s.views seat me.0 w at) ends))
+
+pub firing_step : (k : Setting) (slots seat : ℕ) (me : ThisSeat) (i : ℕ) (f : ℕ → ℕ) (tells : ℕ → ThisSeat → Type 0) → me.0.role ≡ Raise → IsRaiseStep k slots seat me i f tells → IsFiringStep k slots seat me i f tells
+firing_step k slots seat me i f tells role A = (A, raise_allowed k slots seat me i f tells role A)
+
+pub soft_step : (k : Setting) (slots seat : ℕ) (me : ThisSeat) (i : ℕ) (f : ℕ → ℕ) (tells : ℕ → ThisSeat → Type 0) → me.0.role ≡ Drain → IsDrainStep k slots seat me i f tells → IsSoftStep k slots seat me i f tells
+soft_step k slots seat me i f tells role A = (A, drain_allowed k slots seat me i f tells role A)
 
 -- a ring that was closed with the seat of both sides
 pub closes : ClosingStands

@@ -1,15 +1,12 @@
 -- What the rule says of the records.
-use Rattle.std.proofs.Common.{◌≡◌, ℕ, zero, suc, ◌+◌, ◌*◌, ◌%◌, ◌≤◌, ◌≢◌, List, [], ◌∷◌, ◌++◌, length, get_or, set, refl, sym, ap, ◌∙◌, subst, arith, length-append}
+use Rattle.std.proofs.Common.{◌≡◌, ℕ, suc, ◌+◌, ◌*◌, ◌≤◌, List, [], ◌∷◌, ◌++◌, length, get_or, refl, sym, ap, ◌∙◌, subst, arith, length-append}
 use Rattle.std.proofs.Math.ListN.{get_or-eq_default}
 use Rattle.std.proofs.lemmas.List.{append_cancel_right}
 use Rattle.std.proofs.lemmas.List.Elements.{All-nil, All-cons}
-use mathlib.Core.Option.{some, some-injective}
+use mathlib.Core.Option.{some}
 use lib.ListN.{get_elem?}
 use Rattle.std.specs.Prelude.{Option, Some, None, All}
-use Rattle.atomic_table.proofs.Lists.{at_set}
 use Rattle.cyc_level.specs.Level.{Cyclic, Level, count_in, in_hand, soft_list}
-use Rattle.cyc_level.specs.Lawful.{Lawful}
-use Rattle.cyc_level.specs.Events.{first_of}
 use Rattle.cyc_level.specs.Runs.{StayCounts}
 use Rattle.cyc_level.proofs.Maps.{some_same, some_of, not_none}
 use Rattle.ring_rule.specs.declared.Role.{Role}
@@ -20,20 +17,19 @@ use Rattle.ring_rule.specs.declared.DrainStep.{DrainStep}
 use Rattle.ring_rule.specs.declared.DrainStep.TheVariants.{LoadedHardBank, LoadedProducer, Took, Subtracted, Followed}
 use Rattle.ring_rule.specs.declared.SeatView.{SeatView}
 use Rattle.ring_rule.specs.declared.Setting.{Setting}
-use Rattle.ring_rule.specs.Words.{pend_word, mark_bit, index_range, producer_word, place, entry, entry_id, entry_index, word_count}
-use Rattle.ring_rule.specs.Trail.{open_stay, ended_calls, held_entry, id_in, made_calls, soft_bank_of, consumer_index}
-use Rattle.ring_rule.specs.Log.{RingStep, of_raise, of_drain, raise_side, raise_places, drain_side, drain_places, level_after, stay_word, held_word, words_after, replay, IsTrue, AllTrue, StandsAt}
-use Rattle.ring_rule.specs.Shown.{IsSameStay, Shows, StillHolds}
-use Rattle.ring_rule.specs.Rule.{RingState, HasRaises, HasDrains, IsSeat, MeetsRule}
+use Rattle.ring_rule.specs.Words.{pend_word, mark_bit, producer_word, place, entry_id}
+use Rattle.ring_rule.specs.Trail.{open_stay, ended_calls, held_entry, id_in, made_calls, consumer_index}
+use Rattle.ring_rule.specs.Log.{RingStep, of_raise, of_drain, raise_side, raise_places, drain_side, drain_places, level_after, stay_word, held_word, words_after, replay, AllTrue}
+use Rattle.ring_rule.specs.Shown.{IsSameStay}
+use Rattle.ring_rule.specs.Rule.{RingState, HasRaises, HasDrains, IsSeat, IsFiring, IsSoft, MeetsRule}
 use Rattle.ring_rule.specs.Conservation.{LevelStands, AllStood}
 use Rattle.ring_rule.specs.Steps.{with_raise_step, with_drain_step}
 use Rattle.ring_rule.specs.Laws.{ItsRecordsStand, EachRecordIsTrue, placed, merged, AreSeats, TrailsMakeTheLog, SidesAreTheTrails, RecordsComeAfter, NewRaiseIsTrue, NewDrainIsTrue, pend_of, RaiseFinds, DrainFinds, Finds, FoundIsShown}
 use Rattle.ring_rule.proofs.Words.{holds_end, first_some, first_held}
 use Rattle.ring_rule.proofs.Log.{firing_side, soft_side, raises_placed, drains_placed, whole, steps, gained_raise, gained_drain, grown, raise_stands, drain_stands}
-use Rattle.ring_rule.proofs.Seats.{as_wide}
-use Rattle.ring_rule.proofs.Stays.{behind, not_held}
+use Rattle.ring_rule.proofs.Seats.{as_wide, at_here, other_stays, soft_apart, firing_apart}
+use Rattle.ring_rule.proofs.Stays.{not_held}
 use Rattle.ring_rule.proofs.Now.{softs_shown}
-use Rattle.ring_rule.proofs.Stands.{at_here}
 
 stand_as : (start : ℕ) (log : List RingStep) (raise_seat drain_seat j : ℕ) (v : SeatView) (r : Role) → AllTrue start log → IsSeat log raise_seat drain_seat j v r → ItsRecordsStand start log v r
 stand_as start log a b j v Joint true h = (
@@ -58,30 +54,39 @@ module _ (k : Setting) (s : RingState) (R : MeetsRule k s) (i j : ℕ) (v w : Se
   pub drains_are : HasDrains R.log w
   drains_are = (subst (λ (r : Role). IsSeat R.log R.raise_seat R.drain_seat j w r) S.3 (R.seats j w S.2)).1
 
-  pub two_seats : j ≢ i
-  two_seats e = let same : w ≡ v = some-injective w v (sym S.2 ∙ (ap (λ (n : ℕ). get_elem? s.views n) e ∙ S.0)) in let x : Drain ≡ Raise = sym S.3 ∙ (ap (λ (u : SeatView). u.role) same ∙ S.1) in absurd (cc)
-
 pub make_the_log : TrailsMakeTheLog
 make_the_log k s R i j v w S = let a = raises_are k s R i j v w S in let b = drains_are k s R i j v w S in
     sym (whole R.log) ∙ ((λ z. merged (steps R.log z) (raises_placed R.log) (drains_placed R.log))
     ∙ (λ z. merged (length (sym a.0 z) + length (sym b.0 z)) (placed (sym a.1 z) (sym a.0 z)) (placed (sym b.1 z) (sym b.0 z))))
 
-other_stays : (l : List SeatView) (i j : ℕ) (u w : SeatView) → j ≢ i → get_elem? l j ≡ some w → get_elem? (set l i u) j ≡ some w
-other_stays [] i j u w ne e = e
-other_stays (x ∷ l) zero zero u w ne e = absurd (ne refl)
-other_stays (x ∷ l) zero (suc j) u w ne e = e
-other_stays (x ∷ l) (suc i) zero u w ne e = e
-other_stays (x ∷ l) (suc i) (suc j) u w ne e = other_stays l i j u w (λ z. ne (ap suc z)) e
+-- what a seat has that makes a side's steps, of whichever role
+raises_of : (log : List RingStep) (a b j : ℕ) (v : SeatView) (r : Role) → IsFiring r → IsSeat log a b j v r → HasRaises log v
+raises_of log a b j v Joint is h = h.2
+raises_of log a b j v Raise is h = h.1
+raises_of log a b j v Drain is h = absurd is
+raises_of log a b j v Spent is h = absurd is
 
+drains_of : (log : List RingStep) (a b j : ℕ) (v : SeatView) (r : Role) → IsSoft r → IsSeat log a b j v r → HasDrains log v
+drains_of log a b j v Joint is h = h.3
+drains_of log a b j v Raise is h = absurd is
+drains_of log a b j v Drain is h = h.1
+drains_of log a b j v Spent is h = absurd is
+
+-- what a state that keeps the rule says of a seat at its number
+module _ (k : Setting) (s : RingState) (R : MeetsRule k s) (j : ℕ) (v : SeatView) (at : get_elem? s.views j ≡ some v) where
+  its_raises : IsFiring v.role → HasRaises R.log v
+  its_raises is = raises_of R.log R.raise_seat R.drain_seat j v v.role is (R.seats j v at)
+
+  its_drains : IsSoft v.role → HasDrains R.log v
+  its_drains is = drains_of R.log R.raise_seat R.drain_seat j v v.role is (R.seats j v at)
+
+-- the seat's trail gains a record, and the other side's seat stays as it is
 pub new_raise : NewRaiseIsTrue
-new_raise k s s' R R' i j place v w x S gains = let v' : SeatView = with_raise_step place x v in
-    let S' : AreSeats s' i v' j w = (
-      ap (λ (l : List SeatView). get_elem? l i) gains ∙ at_here s.views i v v' S.0,
-      S.1,
-      ap (λ (l : List SeatView). get_elem? l j) gains ∙ other_stays s.views i j v' w (two_seats k s R i j v w S) S.2,
-      S.3,
-    ) in
-    let a = raises_are k s R i j v w S in let b = drains_are k s R i j v w S in let a' = raises_are k s' R' i j v' w S' in let b' = drains_are k s' R' i j v' w S' in
+new_raise k s s' R R' i place v x at role gains = let v' : SeatView = with_raise_step place x v in let j : ℕ = R.drain_seat in let w : SeatView = R.drainer.0 in let there = R.drainer.1 in let soft = R.drainer.2 in
+    let at' : get_elem? s'.views i ≡ some v' = ap (λ (l : List SeatView). get_elem? l i) gains ∙ at_here s.views i v v' at in
+    let there' : get_elem? s'.views j ≡ some w = ap (λ (l : List SeatView). get_elem? l j) gains ∙ other_stays s.views i j v' w (soft_apart s.views i j v w at there role soft) there in
+    let firing : IsFiring v.role = subst IsFiring (sym role) tt in
+    let a = its_raises k s R i v at firing in let b = its_drains k s R j w there soft in let a' = its_raises k s' R' i v' at' firing in let b' = its_drains k s' R' j w there' soft in
     let g = gained_raise R.log R'.log place x (λ z. placed ((sym a'.1 ∙ ap (λ (t : List ℕ). place ∷ t) a.1) z) ((sym a'.0 ∙ ap (λ (t : List RaiseStep). x ∷ t) a.0) z)) (λ z. placed ((sym b'.1 ∙ b.1) z) ((sym b'.0 ∙ b.0) z)) in (
       g.0,
       (subst (AllTrue k.start) g.1 R'.all_true).0,
@@ -89,14 +94,11 @@ new_raise k s s' R R' i j place v w x S gains = let v' : SeatView = with_raise_s
     )
 
 pub new_drain : NewDrainIsTrue
-new_drain k s s' R R' i j place v w x S gains = let w' : SeatView = with_drain_step place x w in
-    let S' : AreSeats s' i v j w' = (
-      ap (λ (l : List SeatView). get_elem? l i) gains ∙ other_stays s.views j i w' v (λ e. two_seats k s R i j v w S (sym e)) S.0,
-      S.1,
-      ap (λ (l : List SeatView). get_elem? l j) gains ∙ at_here s.views j w w' S.2,
-      S.3,
-    ) in
-    let a = raises_are k s R i j v w S in let b = drains_are k s R i j v w S in let a' = raises_are k s' R' i j v w' S' in let b' = drains_are k s' R' i j v w' S' in
+new_drain k s s' R R' i place v x at role gains = let v' : SeatView = with_drain_step place x v in let j : ℕ = R.raise_seat in let w : SeatView = R.firer.0 in let there = R.firer.1 in let firing = R.firer.2 in
+    let at' : get_elem? s'.views i ≡ some v' = ap (λ (l : List SeatView). get_elem? l i) gains ∙ at_here s.views i v v' at in
+    let there' : get_elem? s'.views j ≡ some w = ap (λ (l : List SeatView). get_elem? l j) gains ∙ other_stays s.views i j v' w (firing_apart s.views i j v w at there role firing) there in
+    let soft : IsSoft v.role = subst IsSoft (sym role) tt in
+    let a = its_raises k s R j w there firing in let b = its_drains k s R i v at soft in let a' = its_raises k s' R' j w there' firing in let b' = its_drains k s' R' i v' at' soft in
     let g = gained_drain R.log R'.log place x (λ z. placed ((sym a'.1 ∙ a.1) z) ((sym a'.0 ∙ a.0) z)) (λ z. placed ((sym b'.1 ∙ ap (λ (t : List ℕ). place ∷ t) b.1) z) ((sym b'.0 ∙ ap (λ (t : List DrainStep). x ∷ t) b.0) z)) in (
       g.0,
       (subst (AllTrue k.start) g.1 R'.all_true).0,

@@ -15,7 +15,7 @@ use Rattle.ring_rule.specs.declared.Setting.{Setting}
 use Rattle.ring_rule.specs.Words.{pend_word, mark_bit}
 use Rattle.ring_rule.specs.Trail.{open_stay, ended_stays, ended_calls, raises_of, losses_of, seen_pend, made_calls}
 use Rattle.ring_rule.specs.Log.{RingStep, raise_side, drain_side, events_of, level_after, replay, AllTrue, newest}
-use Rattle.ring_rule.specs.Shown.{Shows, StillHolds}
+use Rattle.ring_rule.specs.Shown.{TrailsShow, StillHolds}
 use Rattle.ring_rule.specs.Rule.{RingState, HasItsTrail}
 
 -- the book of each index in use: its expirations are the calls done, those that its pend word still counts and those
@@ -41,7 +41,7 @@ IsAccounted raise_trail drain_trail = (id : ℕ) → (pend : ℕ)
 pub record LevelStands (k : Setting) (log : List RingStep) : Type 0 where
   pub all_true : AllTrue k.start log
   pub enabled : AllEnabled k.ceiling (events_of log)
-  pub shows : Shows k.start (replay k.start log) (raise_side log) (drain_side log) (level_after k.ceiling log)
+  pub shows : TrailsShow k.start (replay k.start log) (raise_side log) (drain_side log) (level_after k.ceiling log)
   pub still : StillHolds k.start (replay k.start log) (raise_side log) (drain_side log) (level_after k.ceiling log)
   pub lawful : Lawful (level_after k.ceiling log)
   pub conserved : IsConserved (level_after k.ceiling log)

@@ -79,18 +79,20 @@ RecordsComeAfter = (k : Setting) (s s' : RingState) (R : MeetsRule k s) (R' : Me
     → (later : List RingStep) × (R'.log ≡ later ++ R.log) × (raise_side later ≡ raises) × (drain_side later ≡ drains)
     × All (λ place. length R.log ≤ place) raise_at × All (λ place. length R.log ≤ place) drain_at
 
--- whatever a play says: where the rule holds before and after the seat's trail gains a record, its place is the number of steps so far,
+-- whatever a play says: where the rule holds before and after a seat's trail gains a record, its place is the number of steps so far,
 -- it is true of the words before, and the words after are as the step leaves them
 abbrev pub NewRaiseIsTrue : Type 0
-NewRaiseIsTrue = (k : Setting) (s s' : RingState) (R : MeetsRule k s) (R' : MeetsRule k s') (i j place : ℕ) (v w : SeatView) (x : RaiseStep)
-    → AreSeats s i v j w
-    → s'.views ≡ slice_set s.views i (with_raise_step place x v)
+NewRaiseIsTrue = (k : Setting) (s s' : RingState) (R : MeetsRule k s) (R' : MeetsRule k s') (seat place : ℕ) (v : SeatView) (x : RaiseStep)
+    → get_elem? s.views seat ≡ some v
+    → v.role ≡ Raise
+    → s'.views ≡ slice_set s.views seat (with_raise_step place x v)
     → (place ≡ length R.log) × IsTrue k.start (of_raise x) R.log × (s'.words ≡ words_after k.start (of_raise x) R.log s.words)
 
 abbrev pub NewDrainIsTrue : Type 0
-NewDrainIsTrue = (k : Setting) (s s' : RingState) (R : MeetsRule k s) (R' : MeetsRule k s') (i j place : ℕ) (v w : SeatView) (x : DrainStep)
-    → AreSeats s i v j w
-    → s'.views ≡ slice_set s.views j (with_drain_step place x w)
+NewDrainIsTrue = (k : Setting) (s s' : RingState) (R : MeetsRule k s) (R' : MeetsRule k s') (seat place : ℕ) (v : SeatView) (x : DrainStep)
+    → get_elem? s.views seat ≡ some v
+    → v.role ≡ Drain
+    → s'.views ≡ slice_set s.views seat (with_drain_step place x v)
     → (place ≡ length R.log) × IsTrue k.start (of_drain x) R.log × (s'.words ≡ words_after k.start (of_drain x) R.log s.words)
 
 -- the pend word of an id: its outstanding calls, with the mark

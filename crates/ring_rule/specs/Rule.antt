@@ -1,5 +1,5 @@
 -- The ring's rule, which holds between any two atomic steps.
-use Rattle.std.specs.Prelude.{◌≡◌, ℕ, ◌<◌, List, [], ◌∷◌, length, ⊤}
+use Rattle.std.specs.Prelude.{◌≡◌, ℕ, ◌<◌, List, [], ◌∷◌, ⊤}
 use mathlib.Core.Option.{some}
 use lib.ListN.{get_elem?}
 use Rattle.atomic_table.specs.Table.{State}
@@ -10,7 +10,7 @@ use Rattle.ring_rule.specs.declared.SeatView.{SeatView}
 use Rattle.ring_rule.specs.declared.Setting.{Setting}
 use Rattle.ring_rule.specs.Words.{mark_bit, index_range}
 use Rattle.ring_rule.specs.Log.{RingStep, raise_side, raise_places, drain_side, drain_places, events_of, level_after, replay, AllTrue}
-use Rattle.ring_rule.specs.Shown.{Shows, StillHolds}
+use Rattle.ring_rule.specs.Shown.{TrailsShow, StillHolds}
 
 -- the words and the views of a ring's table; it has no slots
 abbrev pub RingState : Type 0
@@ -62,9 +62,26 @@ module _ (log : List RingStep) where
   IsSeat raise_seat drain_seat seat v Drain = (seat ≡ drain_seat) × HasDrains v
   IsSeat raise_seat drain_seat seat v Spent = ⊤
 
+-- a seat of this role makes the steps of the firing side, or those of the soft side; the seat of both sides may make either
+abbrev pub IsFiring : Role → Type 0
+IsFiring Joint = ⊤
+IsFiring Raise = ⊤
+IsFiring Drain = ⊥
+IsFiring Spent = ⊥
+
+abbrev pub IsSoft : Role → Type 0
+IsSoft Joint = ⊤
+IsSoft Raise = ⊥
+IsSoft Drain = ⊤
+IsSoft Spent = ⊥
+
+-- the table has a seat of such a role at this number
+abbrev pub HasSeat : (Role → Type 0) → List SeatView → ℕ → Type 0
+HasSeat Is views seat = (v : SeatView) × (get_elem? views seat ≡ some v) × Is v.role
+
 -- the words after the log and its two sides show the level after it
 abbrev pub IsShown : Setting → List RingStep → Type 0
-IsShown k log = Shows k.start (replay k.start log) (raise_side log) (drain_side log) (level_after k.ceiling log)
+IsShown k log = TrailsShow k.start (replay k.start log) (raise_side log) (drain_side log) (level_after k.ceiling log)
     × StillHolds k.start (replay k.start log) (raise_side log) (drain_side log) (level_after k.ceiling log)
 
 -- and so it was before each of its steps
@@ -72,8 +89,8 @@ abbrev pub AllShown : Setting → List RingStep → Type 0
 AllShown k [] = IsShown k []
 AllShown k (x ∷ log) = IsShown k (x ∷ log) × AllShown k log
 
--- there is one order of all steps that were made. The words are what it leaves, each record of it is true at its place, and each seat
--- has the records of its side. Its events are an enabled run, and after each step the words and both trails show the level that the
+-- there is one order of all steps that were made. The words are what it leaves, each record of it is true at its place, each side has
+-- a seat, and each seat has the records of its side. Its events are an enabled run, and after each step the words and both trails show the level that the
 -- run has reached
 pub record MeetsRule (k : Setting) (s : RingState) : Type 0 where
   pub log : List RingStep
@@ -82,7 +99,8 @@ pub record MeetsRule (k : Setting) (s : RingState) : Type 0 where
   pub fits : (k.ceiling < mark_bit) × (k.start < index_range)
   pub words : s.words ≡ replay k.start log
   pub all_true : AllTrue k.start log
-  pub some_seat : (raise_seat < length s.views) × (drain_seat < length s.views)
+  pub firer : HasSeat IsFiring s.views raise_seat
+  pub drainer : HasSeat IsSoft s.views drain_seat
   pub seats : (j : ℕ) (v : SeatView) → get_elem? s.views j ≡ some v → IsSeat log raise_seat drain_seat j v v.role
   pub enabled : AllEnabled k.ceiling (events_of log)
   pub shown : AllShown k log

@@ -32,28 +32,71 @@ module _ (words : List ℕ) (m : Cyclics) where
   IsHandStored bank i (Some e) None = ⊥
   IsHandStored bank i (Some e) (Some id) = HoldsEntry bank i id
 
--- where the new list begins in its bank: at the consumer index, or at the bank's first index until the soft side has followed
-abbrev pub new_list_start : ℕ → List DrainStep → Level → ℕ
-new_list_start start drain_trail l = if l.hard_bank == l.soft_bank then consumer_index start drain_trail else start
+-- what a firing side's trail says of a level
+pub record FiringSummary : Type 0 where
+  pub hard_bank : ℕ
+  pub firer_hand : Option ℕ
+  pub marked : Option ℕ
+  pub stays : ℕ → Option StayCounts
+  -- the calls of the stays that have ended
+  pub ended : ℕ → ℕ
+  -- the next index that it fills
+  pub producer : ℕ
 
--- each part of the level is what the words and the trails say
-pub record Shows (start : ℕ) (words : List ℕ) (raise_trail : List RaiseStep) (drain_trail : List DrainStep) (l : Level) : Type 0 where
-  pub hard_is : l.hard_bank ≡ hard_bank_of raise_trail
-  pub soft_is : l.soft_bank ≡ soft_bank_of drain_trail
+-- what a soft side's trail says of a level
+pub record SoftSummary : Type 0 where
+  pub soft_bank : ℕ
+  pub drainer_hand : Option ℕ
+  -- the finishes made
+  pub made : ℕ → ℕ
+  -- the next index that it takes
+  pub consumer : ℕ
+
+-- a load that is no event leaves the summary of its side
+abbrev pub firing_summary : ℕ → List RaiseStep → FiringSummary
+firing_summary start t = record {
+  hard_bank = hard_bank_of t;
+  firer_hand = firer_hand_of t;
+  marked = marked_of t;
+  stays = λ id. open_stay id t;
+  ended = λ id. ended_calls id t;
+  producer = producer_index start t;
+}
+
+abbrev pub soft_summary : ℕ → List DrainStep → SoftSummary
+soft_summary start t = record {
+  soft_bank = soft_bank_of t;
+  drainer_hand = drainer_hand_of t;
+  made = λ id. made_calls id t;
+  consumer = consumer_index start t;
+}
+
+-- where the new list begins in its bank: at the consumer index, or at the bank's first index until the soft side has followed
+abbrev pub new_list_start : ℕ → ℕ → Level → ℕ
+new_list_start start consumer l = if l.hard_bank == l.soft_bank then consumer else start
+
+-- each part of the level is what the words and the two sides say
+pub record Shows (start : ℕ) (words : List ℕ) (firing : FiringSummary) (soft : SoftSummary) (l : Level) : Type 0 where
+  pub hard_is : l.hard_bank ≡ firing.hard_bank
+  pub soft_is : l.soft_bank ≡ soft.soft_bank
   pub hard_shown : slice_index words hard_word ≡ l.hard_bank
   pub soft_shown : slice_index words soft_word ≡ l.soft_bank
-  pub firer_is : l.firer_hand ≡ firer_hand_of raise_trail
-  pub drainer_is : l.drainer_hand ≡ drainer_hand_of drain_trail
-  pub marked_is : l.marked ≡ marked_of raise_trail
-  pub stays : (id : ℕ) → IsSameStay (made_calls id drain_trail) (ended_calls id raise_trail) (open_stay id raise_trail) (l.cyclics id)
+  pub firer_is : l.firer_hand ≡ firing.firer_hand
+  pub drainer_is : l.drainer_hand ≡ soft.drainer_hand
+  pub marked_is : l.marked ≡ firing.marked
+  pub stays : (id : ℕ) → IsSameStay (soft.made id) (firing.ended id) (firing.stays id) (l.cyclics id)
   -- a pend word is the outstanding calls with the mark, and that of an unused index is 0
   pub pends : (id : ℕ) (c : Cyclic) → l.cyclics id ≡ Some c
       → slice_index words (pend_word c.index) ≡ c.count + mark_bit * in_hand id l.marked
   pub unused : (i : ℕ) → i < cyclics → ((id : ℕ) (c : Cyclic) → l.cyclics id ≡ Some c → c.index ≢ i) → slice_index words (pend_word i) ≡ 0
   -- each entry between the indexes is id * cyclics + index of an admitted id
-  pub new_held : BankHolds words l.cyclics l.hard_bank (new_list_start start drain_trail l) l.new_list
-  pub old_held : l.hard_bank ≢ l.soft_bank → BankHolds words l.cyclics l.soft_bank (consumer_index start drain_trail) l.old_list
-  pub produced : producer_index start raise_trail ≡ new_list_start start drain_trail l + length l.new_list
+  pub new_held : BankHolds words l.cyclics l.hard_bank (new_list_start start soft.consumer l) l.new_list
+  pub old_held : l.hard_bank ≢ l.soft_bank → BankHolds words l.cyclics l.soft_bank soft.consumer l.old_list
+  pub produced : firing.producer ≡ new_list_start start soft.consumer l + length l.new_list
+
+-- the words and the two trails show the level
+abbrev pub TrailsShow : ℕ → List ℕ → List RaiseStep → List DrainStep → Level → Type 0
+TrailsShow start words raises drains l = Shows start words (firing_summary start raises) (soft_summary start drains) l
 
 -- what the values that the two sides found say of the level still
 pub record StillHolds (start : ℕ) (words : List ℕ) (raise_trail : List RaiseStep) (drain_trail : List DrainStep) (l : Level) : Type 0 where

@@ -46,8 +46,8 @@ TellsAdmit id t me found me' = (found ≡ 0)
     × ((index : ℕ) → index < cyclics → t.word ≡ pend_word index → GainsRaiseStep (Admitted id index) me me')
 
 -- the load that begins a raise: at the ceiling the expiration is lost
-abbrev pub TellsRaiseLoad : ℕ → ℕ → Telling
-TellsRaiseLoad id ceiling t me found me' = (found ≤ seen_pend id me.0.raise_trail) × (found ≤ ceiling)
+abbrev pub TellsLoadToRaise : ℕ → ℕ → Telling
+TellsLoadToRaise id ceiling t me found me' = (found ≤ seen_pend id me.0.raise_trail) × (found ≤ ceiling)
     × (found ≡ ceiling → GainsRaiseStep (Lost id found) me me') × (found ≢ ceiling → GainsRaiseStep (Loaded id found) me me')
 
 -- the `fetch_add` of 1
@@ -79,18 +79,18 @@ abbrev pub TellsSwitch : Telling
 TellsSwitch t me found me' = GainsRaiseStep (Switched t.first) me me'
 
 -- the load of the soft bank: what was seen to have followed has still followed
-abbrev pub TellsSoftBank : Telling
-TellsSoftBank t me found me' = (has_followed me.0.raise_trail ≡ true → found ≡ hard_bank_of me.0.raise_trail)
+abbrev pub TellsLoadSoftBank : Telling
+TellsLoadSoftBank t me found me' = (has_followed me.0.raise_trail ≡ true → found ≡ hard_bank_of me.0.raise_trail)
     × GainsRaiseStep (LoadedSoftBank found) me me'
 
 -- the load of the hard bank
-abbrev pub TellsHardBank : Telling
-TellsHardBank t me found me' = (soft_bank_of me.0.drain_trail ≤ found) × (found ≤ greatest_bank)
+abbrev pub TellsLoadHardBank : Telling
+TellsLoadHardBank t me found me' = (soft_bank_of me.0.drain_trail ≤ found) × (found ≤ greatest_bank)
     × GainsDrainStep (LoadedHardBank found) me me'
 
 -- the load of a producer word
-abbrev pub TellsProducer : Telling
-TellsProducer t me found me' = GainsDrainStep (LoadedProducer found) me me'
+abbrev pub TellsLoadProducer : Telling
+TellsLoadProducer t me found me' = GainsDrainStep (LoadedProducer found) me me'
 
 -- the load of a buffer word found the entry of an id
 abbrev pub TellsTake : Telling
@@ -139,3 +139,11 @@ IsDrainStep k slots seat me i f tells = (s : RingState) (R : MeetsRule k s) → 
     → (x : DrainStep)
     × ExtendsByDrain k s R (stepped s i (f (slice_index s.words i)) seat me.1 (with_drain_step (length R.log) x me.0) keeps) x
     × tells (slice_index s.words i) (with_drain_step (length R.log) x me.0, me.1)
+
+-- and so it is allowed: what is said of each kind of step of the firing side
+abbrev pub IsFiringStep : Claim
+IsFiringStep k slots seat me i f tells = IsRaiseStep k slots seat me i f tells × IsAllowed k slots seat me i f tells
+
+-- the same of the soft side
+abbrev pub IsSoftStep : Claim
+IsSoftStep k slots seat me i f tells = IsDrainStep k slots seat me i f tells × IsAllowed k slots seat me i f tells

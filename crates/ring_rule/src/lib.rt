@@ -138,12 +138,12 @@ pub fn records_come_after()
     ensures { RecordsComeAfter }
 {}
 
-/// Whatever its play says, a record that the raise seat gains has the next place and is true of the words before it.
+/// Whatever its play says, a record that a raise seat gains has the next place and is true of the words before it.
 pub fn new_raise_is_true()
     ensures { NewRaiseIsTrue }
 {}
 
-/// The same of the drain seat.
+/// The same of a drain seat.
 pub fn new_drain_is_true()
     ensures { NewDrainIsTrue }
 {}

@@ -1,9 +1,9 @@
 //! The soft interrupt over a ring, and what its answer `idle` means there.
 #![tactic(auto)]
 
-ghost use Rattle.std.specs.Prelude.{◌≡◌, ℕ, ◌<◌, ◌≤◌, List, length, Some, None, IfOk, IfErr, IsTrue, ◌↔◌};
+ghost use Rattle.std.specs.Prelude.{IfOk, IsTrue};
 ghost use Rattle.cyc_types.specs.Levels.{level_of, at_level};
-ghost use Rattle.cyc_soft.specs.Serving.{Served, Serves, look_of, last_look, hand_left};
+ghost use Rattle.cyc_soft.specs.Serving.{IsSoftint};
 ghost use Rattle.cyc_ring.specs.Ends.{DrainEndCall, FoundIdle, end_hand, end_made};
 
 use cyc_ring::DrainEnd;
@@ -24,23 +24,10 @@ pub fn softint<C: Calls>(
     level: Soft,
     budget: u32,
 ) -> Result<Ran, SoftRefused>
-    // The calls that were made, each at this level, and no other.
-    ensures served { IfOk result (λ r. (ran : List Served) × (length ran ≡ r.calls)
-        × Serves DrainEndCall end_hand end_made (at_level C.called (level_of level)) C.count drain.old calls.old ran (last_look r.idle) drain.new calls.new
-        × (end_hand drain.new ≡ hand_left (end_hand drain.old) ran)) }
+    ensures did { IsSoftint DrainEndCall end_hand end_made (at_level C.called (level_of level)) C.count C.may_refuse budget result drain.old calls.old drain.new calls.new }
 
-    // It is idle exactly where it stopped before the budget.
-    ensures budget { IfOk result (λ r. (r.calls ≤ budget) × (IsTrue r.idle ↔ (r.calls < budget))) }
-
-    // Where it is idle it has looked, last: at the hard bank, which is the soft side's, and then at its producer word. So no
-    // cyclic is in hand.
-    ensures idle { IfOk result (λ r. IsTrue r.idle → FoundIdle drain.old drain.new × (end_hand drain.new ≡ None)) }
-
-    // A handler refused that may refuse at that moment: its cyclic stays in hand, and the calls before it were made.
-    ensures refused { IfErr result (λ e. (ran : List Served) × (at : C) × (length ran ≡ e.calls) × (e.calls < budget)
-        × Serves DrainEndCall end_hand end_made (at_level C.called (level_of level)) C.count drain.old calls.old ran (look_of (hand_left (end_hand drain.old) ran) (Some e.id)) drain.new at
-        × C.may_refuse at e.id × ((q : ℕ) → C.count calls.new q ≡ C.count at q)
-        × (end_hand drain.new ≡ Some e.id)) }
+    // Where it is idle it has looked, last: at the hard bank, which is the soft side's, and then at its producer word.
+    ensures found { IfOk result (λ r. IsTrue r.idle → FoundIdle drain.old drain.new) }
 {
     idle_is_found();
     cyc_soft::softint(drain, calls, level, budget)

@@ -1,12 +1,11 @@
-use Rattle.std.proofs.Common.{rules, ◌≡◌, ℕ, get_or, ◌+◌, ◌%◌, ◌^◌, ◌<◌, ◌≤◌, List, ◌∷◌, length, set, refl, sym, ap, ◌∙◌, subst, arith, pow_mono}
-use Rattle.std.specs.Prelude.{None}
+use Rattle.std.proofs.Common.{rules, ◌≡◌, ℕ, get_or, ◌%◌, ◌^◌, ◌<◌, ◌≤◌, List, ◌∷◌, length, set, refl, sym, ap, ◌∙◌, subst, arith, pow_mono}
 use Rattle.cyc_types.specs.Limits.{greatest_bank, cyclics}
 use Rattle.ring_rule.specs.declared.RaiseStep.{RaiseStep}
 use Rattle.ring_rule.specs.declared.RaiseStep.TheVariants.{Admitted}
 use Rattle.ring_rule.specs.Words.{index_range}
 use Rattle.ring_rule.specs.Trail.{open_stay, firer_hand_of, hard_bank_of, producer_index}
 use Rattle.ring_rule.specs.Steps.{ThisSeat}
-use Rattle.ring_finder.specs.Indexes.{index_of}
+use Rattle.cyc_finder.specs.Indexes.{index_of}
 use Rattle.cyc_ring.specs.Rows.{HoldsStays, stay_index}
 use Rattle.cyc_ring.specs.Views.{IsSeenSound, IsBalanced}
 use Rattle.cyc_ring.specs.declared.seats.Stays.{Stays}
@@ -17,7 +16,7 @@ use Rattle.cyc_ring.proofs.Balance.{balanced_admitted}
 use Rattle.cyc_ring.proofs.ring.Ring.admit_as.Goals as goal
 
 pub invariant_of-raiser : goal.invariant_of-raiser
-invariant_of-raiser g c = let r = c.args.raiser.now in let t : List RaiseStep = r.seat.me.0.raise_trail in let s' = c.load_to_admit.new.seat in let m = c.load_to_admit.ensures.1.1 in
+invariant_of-raiser g c = let r = c.args.raiser.now in let t : List RaiseStep = r.side.seat.me.0.raise_trail in let s' = c.admit.new.side.seat in let m = c.admit.ensures.1.1 in
     let id : ℕ = c.args.id in let i : ℕ = c.args.index in let n : ℕ = c.number.result in let at : ℕ = c.number-at.result in let is_id : n ≡ id = c.number.ensures.value in let is_at : at ≡ i = c.number-at.ensures.value in
     let x : RaiseStep = Admitted id i in let e : s'.me.0.raise_trail ≡ x ∷ t = ap (λ (m : ThisSeat). m.0.raise_trail) m ∙ (λ z. Admitted (c.requires.named.0 z) (is_at z) ∷ t) in
     let e' : s'.me.0.raise_trail ≡ Admitted n at ∷ t = e ∙ (λ z. Admitted (sym is_id z) (sym is_at z) ∷ t) in
@@ -27,8 +26,6 @@ invariant_of-raiser g c = let r = c.args.raiser.now in let t : List RaiseStep = 
     (c.deref_mut-2.ensures.value ∙ ap (λ (p : Stays). record { ids = set p.ids at n; sent = p.sent; lost = p.lost }) c.deref_mut.ensures.value) in
     let l1 : at < length st.ids = search rules in let l2 : at < length st.sent = search rules in let l3 : at < length st.lost = search rules in
     record {
-      role = ap (λ (m : ThisSeat). m.0.role) m ∙ r.role;
-      no_slots = ap (λ (m : ThisSeat). m.1) m ∙ r.no_slots;
       free_hand = ap firer_hand_of e ∙ r.free_hand;
       bank_is = (r.bank_is.0 ∙ ap hard_bank_of (sym e), r.bank_is.1, r.bank_is.2);
       next_is = r.next_is ∙ ap (λ (u : List RaiseStep). producer_index r.setting.start u % index_range) (sym e);

@@ -1,10 +1,10 @@
-use Rattle.std.proofs.Common.{rules, ◌≡◌, ℕ, get_or, ◌+◌, ◌%◌, ◌<◌, List, ◌∷◌, length, set, refl, sym, ap, ◌∙◌, subst}
+use Rattle.std.proofs.Common.{rules, ◌≡◌, ℕ, get_or, ◌%◌, ◌<◌, List, ◌∷◌, length, set, refl, sym, ap, ◌∙◌, subst}
 use Rattle.ring_rule.specs.declared.RaiseStep.{RaiseStep}
 use Rattle.ring_rule.specs.declared.RaiseStep.TheVariants.{Cleared}
 use Rattle.ring_rule.specs.Words.{index_range}
 use Rattle.ring_rule.specs.Trail.{open_stay, firer_hand_of, hard_bank_of, producer_index}
 use Rattle.ring_rule.specs.Steps.{ThisSeat}
-use Rattle.ring_finder.specs.Indexes.{index_of}
+use Rattle.cyc_finder.specs.Indexes.{index_of}
 use Rattle.cyc_ring.specs.Rows.{HoldsStays, stay_index}
 use Rattle.cyc_ring.specs.Views.{IsSeenSound, IsBalanced}
 use Rattle.cyc_ring.specs.declared.seats.Stays.{Stays}
@@ -14,16 +14,14 @@ use Rattle.cyc_ring.proofs.Learning.{sound_cleared}
 use Rattle.cyc_ring.proofs.Balance.{balanced_cleared}
 use Rattle.cyc_ring.proofs.ring.Ring.clear_as.Goals as goal
 
-pub store_zero-requires-clause-stay : goal.store_zero-requires-clause-stay
-store_zero-requires-clause-stay g c = let r = c.args.raiser.now in let i = c.requires.index in
-    (i.0, (record { index = c.args.index; sent = get_or r.stays.value.sent c.args.index 0; lost = get_or r.stays.value.lost c.args.index 0 }, ap (λ (x : ℕ). open_stay x r.seat.me.0.raise_trail) (c.requires.named.0 ∙ sym i.1) ∙ r.rows.used c.args.index i.0 (λ z. i.2 (sym i.1 ∙ z)), refl))
+pub clear-requires-clause-stay : goal.clear-requires-clause-stay
+clear-requires-clause-stay g c = let r = c.args.raiser.now in let i = c.requires.index in
+    (i.0, (record { index = c.args.index; sent = get_or r.stays.value.sent c.args.index 0; lost = get_or r.stays.value.lost c.args.index 0 }, ap (λ (x : ℕ). open_stay x r.side.seat.me.0.raise_trail) (c.requires.named.0 ∙ sym i.1) ∙ r.rows.used c.args.index i.0 (λ z. i.2 (sym i.1 ∙ z)), refl))
 
 pub invariant_of-raiser : goal.invariant_of-raiser
-invariant_of-raiser g c = let r = c.args.raiser.now in let t : List RaiseStep = r.seat.me.0.raise_trail in let s' = c.store_zero.new.seat in let m = c.store_zero.ensures.1.1 in let i : ℕ = c.args.index in
+invariant_of-raiser g c = let r = c.args.raiser.now in let t : List RaiseStep = r.side.seat.me.0.raise_trail in let s' = c.clear.new.side.seat in let m = c.clear.ensures.1.1 in let i : ℕ = c.args.index in
     let x : RaiseStep = Cleared c.args.id in let e : s'.me.0.raise_trail ≡ x ∷ t = ap (λ (m : ThisSeat). m.0.raise_trail) m ∙ ap (λ (y : ℕ). Cleared y ∷ t) c.requires.named.0 in
     let long : i < length r.stays.value.ids = search rules in record {
-      role = ap (λ (m : ThisSeat). m.0.role) m ∙ r.role;
-      no_slots = ap (λ (m : ThisSeat). m.1) m ∙ r.no_slots;
       free_hand = ap firer_hand_of e ∙ r.free_hand;
       bank_is = (r.bank_is.0 ∙ ap hard_bank_of (sym e), r.bank_is.1, r.bank_is.2);
       next_is = r.next_is ∙ ap (λ (u : List RaiseStep). producer_index r.setting.start u % index_range) (sym e);

@@ -1,20 +1,18 @@
-use Rattle.std.proofs.Common.{◌≡◌, ℕ, get_or, ◌+◌, ◌-◌, ◌*◌, ◌%◌, ◌^◌, ◌<◌, ◌≤◌, List, ◌∷◌, refl, sym, ap, ◌∙◌, subst, arith}
+use Rattle.std.proofs.Common.{◌≡◌, ℕ, ◌%◌, List, ◌∷◌, refl, sym, ap, ◌∙◌, subst}
 use Rattle.ring_rule.specs.declared.RaiseStep.{RaiseStep}
 use Rattle.ring_rule.specs.declared.RaiseStep.TheVariants.{LoadedSoftBank}
 use Rattle.ring_rule.specs.Words.{index_range}
 use Rattle.ring_rule.specs.Trail.{open_stay, firer_hand_of, hard_bank_of, producer_index}
 use Rattle.ring_rule.specs.Steps.{ThisSeat}
-use Rattle.ring_finder.specs.Indexes.{index_of}
+use Rattle.cyc_finder.specs.Indexes.{index_of}
 use Rattle.cyc_ring.specs.Rows.{HoldsStays, stay_index}
 use Rattle.cyc_ring.specs.Views.{IsSeenSound, IsBalanced}
 use Rattle.cyc_ring.proofs.Rows.{fits_same}
 use Rattle.cyc_ring.proofs.ring.Ring.look_as.Goals as goal
 
 pub invariant_of-raiser : goal.invariant_of-raiser
-invariant_of-raiser g c = let r = c.args.raiser.now in let t : List RaiseStep = r.seat.me.0.raise_trail in let s' = c.load_soft_bank.new.seat in let m = c.load_soft_bank.ensures.step.1.1 in
+invariant_of-raiser g c = let r = c.args.raiser.now in let t : List RaiseStep = r.side.seat.me.0.raise_trail in let s' = c.load_soft_bank.new.side.seat in let m = c.load_soft_bank.ensures.step.1.1 in
     let x : RaiseStep = LoadedSoftBank c.load_soft_bank.result in let e : s'.me.0.raise_trail ≡ x ∷ t = ap (λ (m : ThisSeat). m.0.raise_trail) m in record {
-      role = ap (λ (m : ThisSeat). m.0.role) m ∙ r.role;
-      no_slots = ap (λ (m : ThisSeat). m.1) m ∙ r.no_slots;
       free_hand = ap firer_hand_of e ∙ r.free_hand;
       bank_is = (r.bank_is.0 ∙ ap hard_bank_of (sym e), r.bank_is.1, r.bank_is.2);
       next_is = r.next_is ∙ ap (λ (u : List RaiseStep). producer_index r.setting.start u % index_range) (sym e);

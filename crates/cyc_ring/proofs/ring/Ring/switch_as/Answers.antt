@@ -1,10 +1,10 @@
-use Rattle.std.proofs.Common.{◌≡◌, ℕ, get_or, ◌+◌, ◌-◌, ◌*◌, ◌%◌, ◌^◌, ◌<◌, ◌≤◌, List, ◌∷◌, refl, sym, ap, ◌∙◌, subst, arith}
+use Rattle.std.proofs.Common.{◌≡◌, ℕ, ◌%◌, ◌^◌, ◌<◌, ◌≤◌, List, ◌∷◌, refl, sym, ap, ◌∙◌, subst, arith}
 use Rattle.ring_rule.specs.declared.RaiseStep.{RaiseStep}
 use Rattle.ring_rule.specs.declared.RaiseStep.TheVariants.{Switched}
 use Rattle.ring_rule.specs.Words.{index_range}
 use Rattle.ring_rule.specs.Trail.{open_stay, firer_hand_of, hard_bank_of, producer_index}
 use Rattle.ring_rule.specs.Steps.{ThisSeat}
-use Rattle.ring_finder.specs.Indexes.{index_of}
+use Rattle.cyc_finder.specs.Indexes.{index_of}
 use Rattle.cyc_ring.specs.Rows.{HoldsStays, stay_index}
 use Rattle.cyc_ring.specs.Views.{IsSeenSound, IsBalanced}
 use Rattle.cyc_ring.proofs.Rows.{fits_same}
@@ -14,10 +14,8 @@ use Rattle.cyc_types.specs.Limits.{greatest_bank}
 use Rattle.cyc_ring.proofs.ring.Ring.switch_as.Goals as goal
 
 pub invariant_of-raiser : goal.invariant_of-raiser
-invariant_of-raiser g c = let r = c.args.raiser.now in let t : List RaiseStep = r.seat.me.0.raise_trail in let s' = c.store_hard_bank.new.seat in let m = c.store_hard_bank.ensures.1.1 in
+invariant_of-raiser g c = let r = c.args.raiser.now in let t : List RaiseStep = r.side.seat.me.0.raise_trail in let s' = c.switch.new.side.seat in let m = c.switch.ensures.1.1 in
     let x : RaiseStep = Switched c.args.bank in let e : s'.me.0.raise_trail ≡ x ∷ t = ap (λ (m : ThisSeat). m.0.raise_trail) m in record {
-      role = ap (λ (m : ThisSeat). m.0.role) m ∙ r.role;
-      no_slots = ap (λ (m : ThisSeat). m.1) m ∙ r.no_slots;
       free_hand = ap firer_hand_of e ∙ r.free_hand;
       bank_is = (ap hard_bank_of (sym e), c.requires.bank.1, (let p : 0 < 2 ^ c.args.bank = pow_pos c.args.bank in let q : 2 ^ c.args.bank ≤ 2 ^ greatest_bank = pow_mono {i = c.args.bank} {j = greatest_bank} c.requires.bank.1 in let z : 2 ^ greatest_bank ≡ 256 = refl in omega (arith, p, q, z)));
       next_is = sym (mod-eq_of_lt (let w = r.ranges.2 in omega (arith, w))) ∙ ap (λ (u : List RaiseStep). producer_index r.setting.start u % index_range) (sym e);

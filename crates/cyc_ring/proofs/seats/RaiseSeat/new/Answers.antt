@@ -9,9 +9,7 @@ use Rattle.cyc_ring.proofs.Balance.{balanced_none}
 use Rattle.cyc_ring.proofs.seats.RaiseSeat.new.Goals as goal
 
 pub invariant_of-result : goal.invariant_of-result
-invariant_of-result c = let e = c.requires.seat.1 in record {
-  role = c.requires.seat.0;
-  no_slots = c.requires.seat.2;
+invariant_of-result c = let e = c.requires.empty in record {
   free_hand = ap firer_hand_of e;
   bank_is = (ap hard_bank_of (sym e), lit≤ tt, refl);
   next_is = sym (mod-eq_of_lt c.requires.ranges.2) ∙ ap (λ (t : List RaiseStep). producer_index c.args.setting.start t % 2 ^ 32) (sym e);

@@ -1,2 +1,0 @@
-pub mod Lookups
-pub mod Few

@@ -1,2 +1,0 @@
-pub mod Lookup
-pub mod Indexes

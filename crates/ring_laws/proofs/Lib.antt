@@ -1,0 +1,10 @@
+mod Admits
+mod LoadsToRaise
+mod Adds
+mod Stores
+mod Publishes
+mod Removals
+mod Banks
+mod Looks
+mod Takes
+mod Subtracts

@@ -1,5 +1,0 @@
-pub mod Adds
-pub mod Admits
-pub mod Publishes
-pub mod RaiseLoads
-pub mod Stores

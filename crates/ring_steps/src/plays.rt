@@ -1,0 +1,175 @@
+//! What each kind of atomic step tells the seat that makes it. Nothing here has a value: these types serve proofs alone.
+ghost use Rattle.std.specs.Prelude.{ℕ};
+ghost use Rattle.ring_rule.specs.declared.Setting.{Setting as TheSetting};
+ghost use Rattle.ring_rule.specs.Rule.{raise_view, drain_view, joint_view, spent_view};
+ghost use Rattle.ring_rule.specs.Steps.{AndStands, TellsAdmit, TellsLoadToRaise, TellsAdd, TellsStore, TellsPublish, TellsLoad, TellsMark, TellsClear, TellsSwitch, TellsLoadSoftBank, TellsLoadHardBank, TellsLoadProducer, TellsTake, TellsSubtract, TellsFollow};
+
+use atomic_table::{Join, Play, Split};
+use ring_rule::SeatView;
+use std::marker::{Brand, PhantomData};
+
+/// What a call knows and a step can't name: the id that it serves, and what is fixed of the ring.
+pub trait Served {
+    ghost id: { ℕ };
+
+    ghost setting: { TheSetting };
+}
+
+impl Served for Brand {
+    ghost id = { 0 };
+
+    ghost setting = { record { ceiling = 0; start = 0 } };
+}
+
+// The load that admits an id.
+pub(crate) struct Admit<J> {
+    of: PhantomData<J>,
+}
+
+impl<J: Served> Play<(), SeatView> for Admit<J> {
+    ghost then = { AndStands J.setting (TellsAdmit J.id) };
+}
+
+// The load that begins a raise.
+pub(crate) struct LoadToRaise<J> {
+    of: PhantomData<J>,
+}
+
+impl<J: Served> Play<(), SeatView> for LoadToRaise<J> {
+    ghost then = { AndStands J.setting (TellsLoadToRaise J.id J.setting.ceiling) };
+}
+
+// The `fetch_add` of 1.
+pub(crate) struct Add<J> {
+    of: PhantomData<J>,
+}
+
+impl<J: Served> Play<(), SeatView> for Add<J> {
+    ghost then = { AndStands J.setting (TellsAdd J.id) };
+}
+
+// The store of a buffer word.
+pub(crate) struct Store<J> {
+    of: PhantomData<J>,
+}
+
+impl<J: Served> Play<(), SeatView> for Store<J> {
+    ghost then = { AndStands J.setting TellsStore };
+}
+
+// The store of a producer word.
+pub(crate) struct Publish<J> {
+    of: PhantomData<J>,
+}
+
+impl<J: Served> Play<(), SeatView> for Publish<J> {
+    ghost then = { AndStands J.setting TellsPublish };
+}
+
+// The load of a pend word.
+pub(crate) struct Load<J> {
+    of: PhantomData<J>,
+}
+
+impl<J: Served> Play<(), SeatView> for Load<J> {
+    ghost then = { AndStands J.setting (TellsLoad J.id) };
+}
+
+// The `fetch_add` of the mark.
+pub(crate) struct Mark<J> {
+    of: PhantomData<J>,
+}
+
+impl<J: Served> Play<(), SeatView> for Mark<J> {
+    ghost then = { AndStands J.setting (TellsMark J.id) };
+}
+
+// The store of 0 that ends a stay.
+pub(crate) struct Clear<J> {
+    of: PhantomData<J>,
+}
+
+impl<J: Served> Play<(), SeatView> for Clear<J> {
+    ghost then = { AndStands J.setting (TellsClear J.id) };
+}
+
+// The store of the hard bank.
+pub(crate) struct Switch<J> {
+    of: PhantomData<J>,
+}
+
+impl<J: Served> Play<(), SeatView> for Switch<J> {
+    ghost then = { AndStands J.setting TellsSwitch };
+}
+
+// The load of the soft bank.
+pub(crate) struct LoadSoftBank<J> {
+    of: PhantomData<J>,
+}
+
+impl<J: Served> Play<(), SeatView> for LoadSoftBank<J> {
+    ghost then = { AndStands J.setting TellsLoadSoftBank };
+}
+
+// The load of the hard bank.
+pub(crate) struct LoadHardBank<J> {
+    of: PhantomData<J>,
+}
+
+impl<J: Served> Play<(), SeatView> for LoadHardBank<J> {
+    ghost then = { AndStands J.setting TellsLoadHardBank };
+}
+
+// The load of a producer word.
+pub(crate) struct LoadProducer<J> {
+    of: PhantomData<J>,
+}
+
+impl<J: Served> Play<(), SeatView> for LoadProducer<J> {
+    ghost then = { AndStands J.setting TellsLoadProducer };
+}
+
+// The load of a buffer word.
+pub(crate) struct Take<J> {
+    of: PhantomData<J>,
+}
+
+impl<J: Served> Play<(), SeatView> for Take<J> {
+    ghost then = { AndStands J.setting TellsTake };
+}
+
+// The `fetch_sub` of 1.
+pub(crate) struct Subtract<J> {
+    of: PhantomData<J>,
+}
+
+impl<J: Served> Play<(), SeatView> for Subtract<J> {
+    ghost then = { AndStands J.setting TellsSubtract };
+}
+
+// The store of the soft bank.
+pub(crate) struct Follow<J> {
+    of: PhantomData<J>,
+}
+
+impl<J: Served> Play<(), SeatView> for Follow<J> {
+    ghost then = { AndStands J.setting TellsFollow };
+}
+
+// The load of word 0 that gives each side its seat.
+pub(crate) struct Parts;
+
+impl Split<SeatView> for Parts {
+    ghost left = { raise_view };
+
+    ghost right = { drain_view };
+}
+
+// The load of word 0 that puts the two seats together.
+pub(crate) struct Whole;
+
+impl Join<SeatView> for Whole {
+    ghost both = { joint_view };
+
+    ghost spent = { spent_view };
+}

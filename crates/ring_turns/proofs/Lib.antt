@@ -1,2 +1,0 @@
-pub mod Banks
-pub mod Removals
