@@ -8,7 +8,7 @@ use Rattle.std.proofs.lemmas.Bool.{cases_lt, cases_eq}
 use Rattle.std.proofs.lemmas.Bool.Decides.{nat_tests}
 use Rattle.std.proofs.lemmas.List.{length-map, length-set, get_or-map, get_or-set_same, get_or-set_other, get_or_default}
 use Rattle.std.proofs.lemmas.List.Edits.{length-insert, length-remove, get_or-insert_below, get_or-insert_at, get_or-insert_above, get_or-remove_below, get_or-remove_above}
-use Rattle.cyc_types.specs.Series.{never, due}
+use Rattle.cyc_types.specs.Series.{never}
 use Rattle.cyc_types.specs.Firing.{FiringCall, Admits, Loads, Raises, Marks, Polls, Expands, Looks}
 use Rattle.cyc_types.specs.Runs.{Goes}
 use Rattle.cyc_types.specs.Draining.{DrainCall}
@@ -29,15 +29,13 @@ use Rattle.cyc_core.specs.Reached.{Happens}
 use Rattle.cyc_core.specs.Tables.{Tables, level_of}
 use Rattle.cyc_core.specs.FiringSide.{stay_of}
 use Rattle.cyc_expirations.specs.Expirations.{Expiration, all_after, expirations, times_of}
-use Rattle.cyc_expirations.specs.Timers.{Timer, HasDistinctIds}
-use Rattle.cyc_expirations.proofs.Dues.{due_later}
-use Rattle.cyc_expirations.proofs.Laws.{times_expirations}
-use Rattle.cyc_timers.specs.Rows.{Cyclic, no_counts, timers}
+use Rattle.cyc_expirations.specs.Timers.{Timer}
+use Rattle.cyc_timers.specs.Rows.{Cyclic, timers}
 use Rattle.cyc_cpu.specs.declared.removing.Removal.TheVariants.{Done, Kept}
 use Rattle.cyc_fire.specs.Acts.{AreRaises, is_of, timer_of}
 use Rattle.cyc_fire.specs.Shares.{share}
 use Rattle.cyc_fire.specs.Quiet.{OnlyLooks, LoadsThenLooks}
-use Rattle.cyc_cpu.specs.Cpu.{CpuView, Running, sides, Makes, Asks, Looked, Reserves, Widens, Places, IsCyclic, HasNoCyclic, AreAdmitted, HasRisingIds, IsRemoved, with_moment}
+use Rattle.cyc_cpu.specs.Cpu.{CpuView, Running, sides, Makes, Asks, Looked, Reserves, Widens, Places, IsCyclic, HasNoCyclic, AreAdmitted, HasRisingIds, with_moment}
 use Rattle.cyc_cpu.specs.Removal.{calls_at, EndGoes, Leaves}
 use Rattle.cyc_cpu.specs.Moving.{WhyNotTaken, Inquires}
 use Rattle.cyc_cpu.specs.Soft.{fires, firing_at, held_at, end_at, ServesAt, SoftKept, Interrupts}
@@ -286,8 +284,12 @@ module _ {C : Type 0} (called : C → ℕ → Level → C → Type 0) (count_of 
   stays_gone s t (Fire now (Ok r)) h not (early, kept, expired, next, makes) = fire_gone (at_level called level.High) count_of id s t now (expirations now (timers s.cpu.cyclics)) r.lost t.calls h makes (λ q. refl)
   stays_gone s t (Fire now (Err e)) h not (inl (late, is, same)) = (subst (λ (x : Running C Tables). IsGone id x.cpu) (sym same) h, ap (λ (x : Running C Tables). count_of x.calls id) same)
   stays_gone s t (Fire now (Err e)) h not (inr (early, kept, f)) = fire_gone (at_level called level.High) count_of id s t now f.made e.lost f.at h f.makes f.counted
-  stays_gone s t (SoftInterrupt soft budget (Ok r)) h not ((ran, many, serves, left, few, idle), kept) = soft_gone (at_level called (handler_level soft)) count_of id s t soft ran _ t.calls h serves (λ q. refl) kept
-  stays_gone s t (SoftInterrupt soft budget (Err e)) h not ((ran, at, many, few, serves, may, same, held), kept) = soft_gone (at_level called (handler_level soft)) count_of id s t soft ran _ at h serves same kept
+  stays_gone s t (SoftInterrupt soft budget (Ok r)) h not (did, kept) =
+      let (ran, many, serves, left) = did.served in
+      soft_gone (at_level called (handler_level soft)) count_of id s t soft ran _ t.calls h serves (λ q. refl) kept
+  stays_gone s t (SoftInterrupt soft budget (Err e)) h not (did, kept) =
+      let (ran, at, many, few, serves, may, same, held) = did.refused in
+      soft_gone (at_level called (handler_level soft)) count_of id s t soft ran _ at h serves same kept
   stays_gone s t (Add own level when now answer) h not r = quiet_gone s t (Add own level when now answer) h not r
   stays_gone s t (Place own level interval moment carried) h not r = quiet_gone s t (Place own level interval moment carried) h not r
   stays_gone s t (Reprogram j moment answer) h not r = quiet_gone s t (Reprogram j moment answer) h not r

@@ -1,5 +1,5 @@
 -- A soft interrupt that is idle leaves nothing in the lists of its level.
-use Rattle.std.proofs.Common.{◌≡◌, ◌==◌, List, [], ◌∷◌, None, subst, sym}
+use Rattle.std.proofs.Common.{◌==◌, List, [], ◌∷◌, None, subst, sym}
 use Rattle.std.specs.Prelude.{Result, Ok, Err, IfOk}
 use Rattle.std.specs.List.{FoldsTo}
 use Rattle.cyc_types.specs.Draining.{DrainCall, Takes, Finishes}

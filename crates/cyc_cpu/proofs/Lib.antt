@@ -4,7 +4,6 @@ pub mod Softs
 pub mod Idling
 pub mod Leaving
 pub mod Inquiring
-pub mod Staying
 pub mod Gone
 pub mod Following
 pub mod Off

@@ -1,5 +1,5 @@
 -- A cyclic that has left is a stay of neither end.
-use Rattle.std.proofs.Common.{◌≡◌, ◌≢◌, ℕ, Option, Some, None, List, [], ◌∷◌, inl, inr, refl, sym, ap, ◌∙◌, subst}
+use Rattle.std.proofs.Common.{◌≡◌, ℕ, Option, Some, None, List, [], ◌∷◌, inl, inr, refl, sym, ap, ◌∙◌, subst}
 use Rattle.std.specs.Prelude.{remove}
 use Rattle.cyc_types.specs.Firing.{FiringView, FiringCall, Stay, Loads, Marks, Polls}
 use Rattle.cyc_types.specs.Runs.{Goes}

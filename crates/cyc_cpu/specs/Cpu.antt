@@ -1,5 +1,5 @@
 -- What callers see of the firing side of one CPU.
-use Rattle.std.specs.Prelude.{◌≡◌, ◌≢◌, ℕ, zero, suc, ◌+◌, ◌^◌, nat_le, cond, insert, ◌<◌, ◌≤◌, max, List, map, length, slice_index_or, All, true, false, ◌⊎◌, Option, Some, None}
+use Rattle.std.specs.Prelude.{◌≡◌, ◌≢◌, ℕ, zero, suc, ◌+◌, ◌^◌, nat_le, cond, insert, ◌<◌, ◌≤◌, max, List, length, slice_index_or, All, true, false, ◌⊎◌, Option, Some, None}
 use Rattle.cyc_types.specs.Firing.{FiringView, FiringCall, Expands, Stay, IsAdmitted, seen_of}
 use Rattle.cyc_types.specs.Series.{never}
 use Rattle.cyc_types.specs.Limits.{cyclics as most_cyclics, greatest_bank}
@@ -8,7 +8,7 @@ use Rattle.cyc_types.specs.declared.level.Level.{Level}
 use Rattle.cyc_types.specs.declared.level.Level.TheVariants.{Low, Lock, High}
 use Rattle.cyc_types.specs.declared.refusal.Refusal.{Refusal}
 use Rattle.cyc_types.specs.declared.refusal.Refusal.TheVariants as why
-use Rattle.cyc_timers.specs.Rows.{Cyclic, timers}
+use Rattle.cyc_timers.specs.Rows.{Cyclic}
 use Rattle.cyc_fire.specs.Quiet.{asks_at, admits_at, OnlyLooks}
 use Rattle.cyc_fire.specs.Acts.{Sides}
 pub use Rattle.cyc_fire.specs.Made.{Makes, WhyStopped, HasCounts}
@@ -183,6 +183,7 @@ pub record Places {R : Type 0} (step : R → FiringCall → R → Type 0) (view 
   pub index : ℕ
   pub within : place ≤ length v.cyclics
   pub cyclics : w.cyclics ≡ insert v.cyclics place c
+  pub rising : HasRisingIds w.cyclics
   pub lock : Goes step view v.lock (admits_at Lock c.timer.level c.timer.id index) w.lock
   pub low : Goes step view v.low (admits_at Low c.timer.level c.timer.id index) w.low
   pub kept : SameCpu v w

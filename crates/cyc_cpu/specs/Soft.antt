@@ -1,5 +1,5 @@
 -- The soft interrupt of one level of a CPU whose levels no other thread uses.
-use Rattle.std.specs.Prelude.{◌≡◌, ℕ, ◌<◌, ◌≤◌, ◌↔◌, IsTrue, List, [], length, Option, Some, Result, Ok, Err}
+use Rattle.std.specs.Prelude.{◌≡◌, ℕ, List, [], Option, Result}
 use Rattle.cyc_types.specs.Draining.{DrainCall}
 use Rattle.cyc_types.specs.Levels.{at_level, level_of as handler_level}
 use Rattle.cyc_types.specs.declared.level.Level.{Level}
@@ -11,7 +11,7 @@ use Rattle.cyc_core.specs.FiringSide.{firing_view, Fires}
 use Rattle.cyc_core.specs.DrainingSide.{Drains, held_of, done_of}
 use Rattle.cyc_soft.specs.declared.Ran.{Ran}
 use Rattle.cyc_soft.specs.declared.SoftRefused.{SoftRefused}
-use Rattle.cyc_soft.specs.Serving.{Served, Serves, look_of, last_look, hand_left}
+use Rattle.cyc_soft.specs.Serving.{Served, Serves, IsSoftint}
 use Rattle.cyc_cpu.specs.Cpu.{CpuView, Running, SameCpu}
 
 -- the end of a soft level
@@ -58,22 +58,10 @@ pub record SoftKept {R : Type 0} (level : Soft) (v w : CpuView R) : Type 0 where
 abbrev pub HasEmptyLists : Tables → Type 0
 HasEmptyLists a = (a.old_list ≡ []) × (a.new_list ≡ [])
 
--- What a soft interrupt does at its level: it makes these calls, each counted and finished once, and is idle exactly where it
--- stopped before the budget. Or a handler refused that may refuse at that moment: its cyclic stays in hand.
-abbrev pub ServesWithin : {C : Type 0} → (C → ℕ → C → Type 0) → (C → ℕ → ℕ) → (C → ℕ → Type 0)
-    → ℕ → Result Ran SoftRefused → Tables → C → Tables → C → Type 0
-ServesWithin called count may_refuse budget (Ok r) a calls b calls' =
-    (ran : List Served) × (length ran ≡ r.calls)
-    × ServesAt called count a calls ran (last_look r.idle) b calls' × (held_at b ≡ hand_left (held_at a) ran)
-    × (r.calls ≤ budget) × (IsTrue r.idle ↔ (r.calls < budget))
-ServesWithin {C} called count may_refuse budget (Err e) a calls b calls' =
-    (ran : List Served) × (at : C) × (length ran ≡ e.calls) × (e.calls < budget)
-    × ServesAt called count a calls ran (look_of (hand_left (held_at a) ran) (Some e.id)) b at
-    × may_refuse at e.id × ((q : ℕ) → count calls' q ≡ count at q) × (held_at b ≡ Some e.id)
-
--- what a soft interrupt does to a CPU
+-- what a soft interrupt does to a CPU: at its level what any soft interrupt does, and nothing else
 abbrev pub Interrupts : {C : Type 0} → (C → ℕ → Level → C → Type 0) → (C → ℕ → ℕ) → (C → ℕ → Type 0)
     → Soft → ℕ → Result Ran SoftRefused → Running C Tables → Running C Tables → Type 0
 Interrupts called count may_refuse level budget answer s t =
-    ServesWithin (at_level called (handler_level level)) count may_refuse budget answer (end_at level s.cpu) s.calls (end_at level t.cpu) t.calls
+    IsSoftint drains held_at done_at (at_level called (handler_level level)) count may_refuse
+    budget answer (end_at level s.cpu) s.calls (end_at level t.cpu) t.calls
     × SoftKept level s.cpu t.cpu

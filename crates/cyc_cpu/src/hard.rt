@@ -105,6 +105,13 @@ impl<R: Raise> Hard<R> {
         self.table.len()
     }
 
+    /// The id of the cyclic whose removal is open.
+    pub fn removal(&self) -> Option<CyclicId>
+        ensures { result ≡ self.now.removal }
+    {
+        self.removal
+    }
+
     /// Makes every expiration that is due at `now`, in the order of their moments and ids (`cyclic_fire`). At high level the
     /// handler is called, at a soft level the pend is raised.
     ///

@@ -4,11 +4,13 @@
 //! promises of a fire is `cyc_expirations`' definition; how the ends do their part is in the traits' laws alone.
 #![tactic(auto)]
 
+mod asking;
 mod ending;
 mod ends;
 mod hard;
 mod levels;
 mod moving;
+mod next;
 mod removing;
 mod settling;
 mod soft;
@@ -17,4 +19,3 @@ pub use cyc_fire::{FireRefused, Fired, share_law};
 pub use hard::{Hard, Totals};
 pub use moving::Taken;
 pub use removing::{Removal, leaving_law};
-pub use settling::settled_law;

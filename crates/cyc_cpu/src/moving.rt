@@ -81,6 +81,7 @@ impl<R: Raise> Hard<R> {
             carried,
         };
         let index = self.table.insert(id, moment, kept);
+        self.table.law();
         admit_at(id, level, index, &mut self.lock, &mut self.low);
     }
 }

@@ -2,12 +2,8 @@ ghost use Rattle.std.specs.Prelude.{◌≡◌, ℕ, ◌+◌, ◌<◌};
 ghost use Rattle.std.specs.Bool.{OnTrue, OnFalse};
 ghost use Rattle.cyc_types.specs.Firing.{MayAsk, Sound, seen_of};
 ghost use Rattle.cyc_types.specs.declared.level.Level.TheVariants.{Low, Lock};
-ghost use Rattle.cyc_types.specs.declared.refusal.Refusal.TheVariants as why;
-ghost use Rattle.cyc_timers.specs.Rows.{Row, Cyclic, IsRow};
+ghost use Rattle.cyc_timers.specs.Rows.{Row, IsRow};
 ghost use Rattle.cyc_fire.specs.Quiet.{OnlyLoads};
-ghost use Rattle.cyc_cpu.specs.declared.moving.Taken.{Taken as TheTaken};
-ghost use Rattle.cyc_cpu.specs.Cpu.{CpuView, WhyNoRoom, Looked, Asks, Places};
-ghost use Rattle.cyc_cpu.specs.Moving.{IsSettled, Takes, WhyNotTaken};
 ghost use Rattle.cyc_cpu.specs.Calls.{Changes, AskSettled};
 
 use crate::ends::{both_followed, load_pend};
@@ -42,8 +38,8 @@ impl<R: Raise> Hard<R> {
     /// Whether no call of any cyclic is outstanding, both soft sides are on their firing side's bank, and no removal is open
     /// (our own). It asks for each cyclic. Takes no memory.
     ///
-    /// After true, nothing of this CPU is refused with Expanding, Busy or Pending until the next fire, removal or switch of
-    /// banks.
+    /// After true, nothing of this CPU is refused with Expanding, Busy or Pending until the next fire or switch of banks
+    /// (`settling_law` of cyc_cpu_laws).
     pub fn settled(&mut self) -> bool
         ensures { Changes R.step R.view self.old (AskSettled result) self.new }
     {
@@ -56,16 +52,3 @@ impl<R: Raise> Hard<R> {
         both_followed(&mut self.lock, &mut self.low)
     }
 }
-
-/// What is known of a CPU that has settled, until the next fire, removal or switch of banks: nothing is refused with
-/// Expanding, Busy or Pending, and asking, taking and placing leave it settled.
-///
-/// It does nothing when it runs: its clauses are the law.
-pub fn settled_law<R: Raise>()
-    ensures room { (more : ℕ) (v : CpuView R) → IsSettled R.view v → (WhyNoRoom R.view more v why.Expanding → ⊥) × ((removed : ℕ) → WhyNoRoom R.view more v (why.Busy removed) → ⊥) }
-    ensures taking { (id : ℕ) (v w : CpuView R) → IsSettled R.view v → (WhyNotTaken R.step R.view id v why.Pending w → ⊥) × ((removed : ℕ) → WhyNotTaken R.step R.view id v (why.Busy removed) w → ⊥) }
-    ensures looked { (v w : CpuView R) → IsSettled R.view v → Looked R.step R.view v w → IsSettled R.view w }
-    ensures asked { (id n : ℕ) (v w : CpuView R) → IsSettled R.view v → Asks R.step R.view id n v w → IsSettled R.view w }
-    ensures taken { (id : ℕ) (taken : TheTaken) (v w : CpuView R) → IsSettled R.view v → Takes R.step R.view id taken v w → IsSettled R.view w }
-    ensures placed { (c : Cyclic) (v w : CpuView R) → IsSettled R.view v → Places R.step R.view c v w → IsSettled R.view w }
-{}

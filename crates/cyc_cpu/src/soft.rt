@@ -1,13 +1,11 @@
-ghost use Rattle.std.specs.Prelude.{◌≡◌, List, None, IfOk, IsTrue};
+ghost use Rattle.std.specs.Prelude.{IfOk, IsTrue};
 ghost use Rattle.cyc_types.specs.Levels.{level_of, at_level};
-ghost use Rattle.cyc_types.specs.Draining.{DrainCall, Takes};
-ghost use Rattle.cyc_types.specs.Runs.{DrainGoes};
 ghost use Rattle.cyc_types.specs.Firing.{Sound};
-ghost use Rattle.cyc_core.specs.Tables.{Tables};
+ghost use Rattle.cyc_soft.specs.Serving.{IsSoftint};
 ghost use Rattle.cyc_fire.specs.Quiet.{KeepsStays};
 ghost use Rattle.cyc_cpu.specs.Cpu.{running};
 ghost use Rattle.cyc_cpu.specs.Calls.{Does, SoftInterrupt};
-ghost use Rattle.cyc_cpu.specs.Soft.{end_at, fires, drains, held_at, firing_at, HasEmptyLists, ServesWithin, Interrupts};
+ghost use Rattle.cyc_cpu.specs.Soft.{end_at, fires, drains, held_at, done_at, firing_at, HasEmptyLists, Interrupts};
 
 use crate::hard::Hard;
 use cyc_core::LevelCore;
@@ -21,9 +19,7 @@ fn serve<C: Calls>(
     level: Soft,
     budget: u32,
 ) -> Result<Ran, SoftRefused>
-    ensures served { ServesWithin (at_level C.called (level_of level)) C.count C.may_refuse budget result end.old calls.old end.new calls.new }
-    ensures idle { IfOk result (λ r. IsTrue r.idle → (before : Tables) × (way : List DrainCall)
-        × DrainGoes drains end.old way before × drains before (Takes None) end.new × (held_at end.new ≡ None)) }
+    ensures did { IsSoftint drains held_at done_at (at_level C.called (level_of level)) C.count C.may_refuse budget result end.old calls.old end.new calls.new }
     ensures empty { IfOk result (λ r. IsTrue r.idle → HasEmptyLists end.new) }
     ensures keeps { KeepsStays (firing_at end.old) (firing_at end.new) }
     ensures sound { Sound (firing_at end.new) }
@@ -45,12 +41,10 @@ impl Hard<LevelCore> {
         calls: &mut C,
         budget: u32,
     ) -> Result<Ran, SoftRefused>
-        // The calls that were made, each at this level, and no other, or those up to one that its handler refused; nothing else changed.
+        // What `cyc_soft::softint` does, each call at this level; and nothing else changed.
         ensures did { Does C.called C.count C.may_refuse fires firing_at (Interrupts C.called C.count C.may_refuse) (running calls.old self.old) (SoftInterrupt level budget result) (running calls.new self.new) }
 
-        // Where it is idle, its last step is a look that found nothing, and nothing waits at its level.
-        ensures idle { IfOk result (λ r. IsTrue r.idle → (before : Tables) × (way : List DrainCall)
-            × DrainGoes drains (end_at level self.old) way before × drains before (Takes None) (end_at level self.new) × (held_at (end_at level self.new) ≡ None)) }
+        // Where it is idle, nothing waits at its level.
         ensures empty { IfOk result (λ r. IsTrue r.idle → HasEmptyLists (end_at level self.new)) }
     {
         match level {

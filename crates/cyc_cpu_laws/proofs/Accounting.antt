@@ -1,6 +1,6 @@
 -- What calls on a CPU add up to: no call, one call, some calls and then others, and a run.
-use Rattle.std.proofs.Common.{◌≡◌, ℕ, ◌+◌, cond, true, false, Bool, take, length, List, [], ◌∷◌, refl, sym, ap, subst, ◌∙◌, arith, inl, inr}
-use Rattle.std.specs.Prelude.{Result, Ok, Err}
+use Rattle.std.proofs.Common.{◌≡◌, ℕ, ◌+◌, ◌≤◌, cond, true, false, Bool, take, length, List, [], ◌∷◌, refl, sym, ap, subst, ◌∙◌, arith, inl, inr}
+use Rattle.std.specs.Prelude.{Ok, Err}
 use Rattle.std.specs.List.{FoldsTo}
 use Rattle.std.proofs.Math.Seq.{take-append_seam}
 use Rattle.cyc_types.specs.Firing.{FiringView, FiringCall}
@@ -8,36 +8,51 @@ use Rattle.cyc_types.specs.Runs.{raised_by, lost_by}
 use Rattle.cyc_types.specs.Levels.{at_level}
 use Rattle.cyc_types.specs.declared.level.Level.{Level}
 use Rattle.cyc_types.specs.declared.level.Level.TheVariants.{Low, Lock, High}
-use Rattle.cyc_types.specs.declared.level.Soft.{Soft}
-use Rattle.cyc_soft.specs.declared.Ran.{Ran}
-use Rattle.cyc_soft.specs.declared.SoftRefused.{SoftRefused}
 use Rattle.cyc_expirations.specs.Expirations.{Expiration, expirations, times_of}
 use Rattle.cyc_expirations.specs.Timers.{Timer, HasDistinctIds}
 use Rattle.cyc_timers.specs.Rows.{no_counts, timers}
 use Rattle.cyc_fire.specs.declared.fire.FireRefused.{FireRefused}
 use Rattle.cyc_fire.specs.Acts.{is_of, timer_of}
 use Rattle.cyc_fire.specs.Shares.{share}
-use Rattle.cyc_cpu.specs.Cpu.{Running, Makes, sides}
+use Rattle.cyc_cpu.specs.Cpu.{CpuView, Running, SameCpu, Makes, sides}
 use Rattle.cyc_cpu.specs.Law.{IsLawful}
 use Rattle.cyc_cpu.specs.Calls.{CpuCall, Changes, Does, Stopped, no_interrupts, Fire, SoftInterrupt, Add, Place, Reprogram, AskPending, AskTotals, AskRoom, Reserve, Widen, BeginRemove, PollRemove, TakeNow, AskSettled}
 use Rattle.cyc_fire.proofs.Sharing.{raises_add_up, ids_add_up}
 use Rattle.cyc_cpu_laws.specs.Runs.{Steps}
-use Rattle.cyc_cpu_laws.specs.Accounts.{Account, nothing, both, made_by, account_of, account_in, expired_of, AddsUp, Proceeds}
+use Rattle.cyc_cpu_laws.specs.Accounts.{Account, nothing, both, made_by, account_of, account_in, KeepsLimits, Proceeds}
 use Rattle.cyc_cpu_laws.proofs.Stills.{still_raises, changes_still}
 use Rattle.cyc_cpu_laws.proofs.Shifts.{changes_shift, shift_sums}
 use Rattle.cyc_cpu_laws.proofs.Fires.{fired_expired, fired_lost}
-use Rattle.cyc_cpu_laws.proofs.Ways.{passes_none, passes_on}
+use Rattle.cyc_cpu_laws.proofs.Ways.{passes_none, passes_on, passes_ceiling}
+use Rattle.cyc_cpu_laws.specs.Passing.{Passes}
 
 -- an account of expirations alone
 abbrev of_fire : List Timer → List Expiration → Account
-of_fire ts made = record { fired = λ level id. share level ts made id; entered = λ id. no_counts; left = λ id. no_counts }
+of_fire ts made = record {
+  fired = λ level id. share level ts made id;
+  served = λ level. 0;
+  entered = λ id. no_counts;
+  left = λ id. no_counts;
+}
 
-none_made : (level : Level) (ts : List Timer) (id : ℕ) → share level ts [] id ≡ 0
+pub none_made : (level : Level) (ts : List Timer) (id : ℕ) → share level ts [] id ≡ 0
 none_made level ts id = either (is_of level (timer_of id ts))
   where
     either : (b : Bool) → cond b (times_of id []) 0 ≡ 0
     either true = refl
     either false = refl
+
+pub limits_none : {R : Type 0} (view : R → FiringView) (v : CpuView R) → KeepsLimits view v v
+limits_none view v = record { most = refl; lock_ceiling = refl; low_ceiling = refl; grows = omega arith }
+
+pub limits_on : {R : Type 0} (view : R → FiringView) (u v w : CpuView R) → KeepsLimits view u v → KeepsLimits view v w →
+    KeepsLimits view u w
+limits_on view u v w a b = record {
+  most = b.most ∙ a.most;
+  lock_ceiling = b.lock_ceiling ∙ a.lock_ceiling;
+  low_ceiling = b.low_ceiling ∙ a.low_ceiling;
+  grows = (let x = a.grows in let y = b.grows in omega (arith, x, y));
+}
 
 module _ {C R : Type 0} (called : C → ℕ → Level → C → Type 0) (count : C → ℕ → ℕ) (may_refuse : C → ℕ → Type 0)
     (step : R → FiringCall → R → Type 0) (view : R → FiringView) where
@@ -50,7 +65,7 @@ module _ {C R : Type 0} (called : C → ℕ → Level → C → Type 0) (count :
     called = λ id. omega arith;
     expired = λ id. omega arith;
     lost = λ id. omega arith;
-    most = refl;
+    limits = limits_none view s.cpu;
   }
 
   pub proceeds_on : (a b : Account) (s t u : Running C R) → Proceeds count step view a s t → Proceeds count step view b t u →
@@ -64,31 +79,45 @@ module _ {C R : Type 0} (called : C → ℕ → Level → C → Type 0) (count :
     called = λ id. (let x = p.called id in let y = q.called id in omega (arith, x, y));
     expired = λ id. (let x = p.expired id in let y = q.expired id in omega (arith, x, y));
     lost = λ id. (let x = p.lost id in let y = q.lost id in omega (arith, x, y));
-    most = q.most ∙ p.most;
+    limits = limits_on view s.cpu t.cpu u.cpu p.limits q.limits;
+  }
+
+  -- calls of the firing sides keep the ceilings
+  limits_of : (r l r' l' : ℕ → ℕ) (v w : CpuView R) → Passes step view r l v.lock w.lock → Passes step view r' l' v.low w.low →
+      w.most ≡ v.most → v.size ≤ w.size → KeepsLimits view v w
+  limits_of r l r' l' v w lock low most grows = record {
+    most = most;
+    lock_ceiling = passes_ceiling step view r l v.lock w.lock lock;
+    low_ceiling = passes_ceiling step view r' l' v.low w.low low;
+    grows = grows;
   }
 
   -- the expirations of a fire
   fired : (s t : Running C R) (now lost : ℕ) (made : List Expiration) (at : C) → HasDistinctIds (timers s.cpu.cyclics) →
-      t.cpu.most ≡ s.cpu.most → ((id : ℕ) → count t.calls id ≡ count at id) →
+      SameCpu s.cpu t.cpu → ((id : ℕ) → count t.calls id ≡ count at id) →
       Makes (at_level called High) count step view now made s.cpu.cyclics t.cpu.cyclics (sides s.calls s.cpu)
       (sides at t.cpu) lost → Proceeds count step view (of_fire (timers s.cpu.cyclics) made) s t
-  fired s t now lost made at distinct most same m =
+  fired s t now lost made at distinct kept same m =
       let ts = timers s.cpu.cyclics in
       let lock : (id : ℕ) → raised_by id m.acts.lock_way ≡ share Lock ts made id =
       λ id. raises_add_up id _ m.acts.lock_way m.acts.lock_raises ∙ ids_add_up id Lock ts made in
       let low : (id : ℕ) → raised_by id m.acts.low_way ≡ share Low ts made id =
       λ id. raises_add_up id _ m.acts.low_way m.acts.low_raises ∙ ids_add_up id Low ts made in
+      let at_lock : Passes step view (λ id. share Lock ts made id) (λ id. lost_by id m.acts.lock_way) s.cpu.lock t.cpu.lock =
+      record { way = m.acts.lock_way; goes = m.acts.lock_goes; raises = lock; losses = λ id. refl } in
+      let at_low : Passes step view (λ id. share Low ts made id) (λ id. lost_by id m.acts.low_way) s.cpu.low t.cpu.low =
+      record { way = m.acts.low_way; goes = m.acts.low_goes; raises = low; losses = λ id. refl } in
       record {
         lock_lost = λ id. lost_by id m.acts.lock_way;
         low_lost = λ id. lost_by id m.acts.low_way;
-        lock = record { way = m.acts.lock_way; goes = m.acts.lock_goes; raises = lock; losses = λ id. refl };
-        low = record { way = m.acts.low_way; goes = m.acts.low_goes; raises = low; losses = λ id. refl };
+        lock = at_lock;
+        low = at_low;
         called = λ id. (let a = same id in let b = m.acts.counted id in let c = ids_add_up id High ts made in
             omega (arith, a, b, c));
         expired = λ id. (let a = fired_expired id now made s.cpu.cyclics t.cpu.cyclics distinct m.timers_are in omega (arith, a));
         lost = λ id. (let a = fired_lost id now made m.acts.lock_way m.acts.low_way s.cpu.cyclics t.cpu.cyclics distinct
             m.timers_are m.losses_are (lock id) (low id) in omega (arith, a));
-        most = most;
+        limits = limits_of _ _ _ _ s.cpu t.cpu at_lock at_low kept.most (let e = kept.size in omega (arith, e));
       }
 
   -- the same under an equal list
@@ -108,26 +137,30 @@ module _ {C R : Type 0} (called : C → ℕ → Level → C → Type 0) (count :
       ∙ none_made level ts id in
       let sums : (id : ℕ) → _ =
       λ id. shift_sums call s.cpu.cyclics t.cpu.cyclics id (changes_shift step view s.cpu t.cpu call d) in
+      let at_lock : Passes step view (λ id. share Lock ts (made_by call s.cpu.cyclics) id) (λ id. 0) s.cpu.lock t.cpu.lock =
+      record {
+        way = st.lock.way;
+        goes = st.lock.goes;
+        raises = λ id. (still_raises s.cpu.size t.cpu.size id st.lock.way st.lock.still).0 ∙ sym (zero Lock id);
+        losses = λ id. (still_raises s.cpu.size t.cpu.size id st.lock.way st.lock.still).1;
+      } in
+      let at_low : Passes step view (λ id. share Low ts (made_by call s.cpu.cyclics) id) (λ id. 0) s.cpu.low t.cpu.low =
+      record {
+        way = st.low.way;
+        goes = st.low.goes;
+        raises = λ id. (still_raises s.cpu.size t.cpu.size id st.low.way st.low.still).0 ∙ sym (zero Low id);
+        losses = λ id. (still_raises s.cpu.size t.cpu.size id st.low.way st.low.still).1;
+      } in
       record {
         lock_lost = λ id. 0;
         low_lost = λ id. 0;
-        lock = record {
-          way = st.lock.way;
-          goes = st.lock.goes;
-          raises = λ id. (still_raises s.cpu.size t.cpu.size id st.lock.way st.lock.still).0 ∙ sym (zero Lock id);
-          losses = λ id. (still_raises s.cpu.size t.cpu.size id st.lock.way st.lock.still).1;
-        };
-        low = record {
-          way = st.low.way;
-          goes = st.low.goes;
-          raises = λ id. (still_raises s.cpu.size t.cpu.size id st.low.way st.low.still).0 ∙ sym (zero Low id);
-          losses = λ id. (still_raises s.cpu.size t.cpu.size id st.low.way st.low.still).1;
-        };
+        lock = at_lock;
+        low = at_low;
         called = λ id. (let a = ap (λ (c : C). count c id) same in let z = zero High id in omega (arith, a, z));
         expired = λ id. (let a = (sums id).0 in let x = zero Lock id in let y = zero Low id in let z = zero High id in
             omega (arith, a, x, y, z));
         lost = λ id. (let a = (sums id).1 in omega (arith, a));
-        most = st.most;
+        limits = limits_of _ _ _ _ s.cpu t.cpu at_lock at_low st.most st.grows;
       }
 
   nothing_fired : (s t : Running C R) (now : ℕ) (e : FireRefused) → t ≡ s → e.expired ≡ 0 →
@@ -148,7 +181,7 @@ module _ {C R : Type 0} (called : C → ℕ → Level → C → Type 0) (count :
         expired = λ id. (let x = none_made Lock (timers s.cpu.cyclics) id in let y = none_made Low (timers s.cpu.cyclics) id in
             let z = none_made High (timers s.cpu.cyclics) id in omega (arith, x, y, z));
         lost = λ id. omega arith;
-        most = refl;
+        limits = limits_none view s.cpu;
       }))
 
   front : (now : ℕ) (e : FireRefused) (s t : Running C R)
@@ -166,14 +199,14 @@ module _ {C R : Type 0} (called : C → ℕ → Level → C → Type 0) (count :
     expired,
     next,
     makes,
-  ) = fired s t now r.lost (expirations now (timers s.cpu.cyclics)) t.calls law.distinct kept.most (λ id. refl) makes
+  ) = fired s t now r.lost (expirations now (timers s.cpu.cyclics)) t.calls law.distinct kept (λ id. refl) makes
   proceeds_one s t (Fire now (Err e)) law (inl (
     late,
     is,
     same,
   )) = nothing_fired s t now e same (ap (λ (x : FireRefused). x.expired) is)
   proceeds_one s t (Fire now (Err e)) law (inr (early, kept, f)) =
-      made_is s t f.made _ (front now e s t f) (fired s t now e.lost f.made f.at law.distinct kept.most f.counted f.makes)
+      made_is s t f.made _ (front now e s t f) (fired s t now e.lost f.made f.at law.distinct kept f.counted f.makes)
   proceeds_one s t (SoftInterrupt soft budget answer) law d = absurd d
   proceeds_one s t (Add own level when now answer) law d = quiet s t (Add own level when now answer) refl d
   proceeds_one s t (Place own level interval moment carried) law d = quiet s t (Place own level interval moment carried) refl d
@@ -198,38 +231,3 @@ module _ {C R : Type 0} (called : C → ℕ → Level → C → Type 0) (count :
   proceeds_in s t (call ∷ way) law (m, (does, lawful), rest) =
       proceeds_on (account_of call s.cpu.cyclics) (account_in D m way t rest) s m t (proceeds_one s m call law does)
       (proceeds_in m t way lawful rest)
-
-  -- where soft interrupts that keep the cyclics are among the calls
-  module _ (interrupts : Soft → ℕ → Result Ran SoftRefused → Running C R → Running C R → Type 0)
-      (keeps : (soft : Soft) (budget : ℕ) (answer : Result Ran SoftRefused) (s t : Running C R) →
-      interrupts soft budget answer s t → t.cpu.cyclics ≡ s.cpu.cyclics) where
-    adds_one : (s t : Running C R) (call : CpuCall) → IsLawful view s.cpu →
-        Does called count may_refuse step view interrupts s call t → AddsUp (account_of call s.cpu.cyclics) s.cpu.cyclics t.cpu.cyclics
-    adds_one s t (SoftInterrupt soft budget answer) law d = λ id.
-        (let a = ap (expired_of id) (keeps soft budget answer s t d) in
-        let x = none_made Lock (timers s.cpu.cyclics) id in let y = none_made Low (timers s.cpu.cyclics) id in
-        let z = none_made High (timers s.cpu.cyclics) id in omega (arith, a, x, y, z))
-    adds_one s t (Fire now (Ok r)) law d = (proceeds_one s t (Fire now (Ok r)) law d).expired
-    adds_one s t (Fire now (Err e)) law d = (proceeds_one s t (Fire now (Err e)) law d).expired
-    adds_one s t (Add own level when now answer) law d = (proceeds_one s t (Add own level when now answer) law d).expired
-    adds_one s t (Place own level interval moment carried) law d =
-        (proceeds_one s t (Place own level interval moment carried) law d).expired
-    adds_one s t (Reprogram j moment answer) law d = (proceeds_one s t (Reprogram j moment answer) law d).expired
-    adds_one s t (AskPending j answer) law d = (proceeds_one s t (AskPending j answer) law d).expired
-    adds_one s t (AskTotals j answer) law d = (proceeds_one s t (AskTotals j answer) law d).expired
-    adds_one s t (AskRoom more answer) law d = (proceeds_one s t (AskRoom more answer) law d).expired
-    adds_one s t (Reserve more answer) law d = (proceeds_one s t (Reserve more answer) law d).expired
-    adds_one s t (Widen more) law d = (proceeds_one s t (Widen more) law d).expired
-    adds_one s t (BeginRemove j answer) law d = (proceeds_one s t (BeginRemove j answer) law d).expired
-    adds_one s t (PollRemove answer) law d = (proceeds_one s t (PollRemove answer) law d).expired
-    adds_one s t (TakeNow j answer) law d = (proceeds_one s t (TakeNow j answer) law d).expired
-    adds_one s t (AskSettled answer) law d = (proceeds_one s t (AskSettled answer) law d).expired
-
-    abbrev Among : Running C R → CpuCall → Running C R → Type 0
-    Among = Steps called count may_refuse step view interrupts
-
-    pub adds_in : (s t : Running C R) (way : List CpuCall) → IsLawful view s.cpu → (run : FoldsTo Among s way t) →
-        AddsUp (account_in Among s way t run) s.cpu.cyclics t.cpu.cyclics
-    adds_in s t [] law run id = let a = ap (λ (x : Running C R). expired_of id x.cpu.cyclics) run in omega (arith, a)
-    adds_in s t (call ∷ way) law (m, (does, lawful), rest) id =
-        let a = adds_one s m call law does id in let b = adds_in m t way lawful rest id in omega (arith, a, b)

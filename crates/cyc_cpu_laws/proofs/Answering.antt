@@ -1,8 +1,9 @@
--- What a receipt says of the calls, where one thread has both sides of the levels.
-use Rattle.std.proofs.Common.{◌≡◌, ◌≢◌, ℕ, ◌+◌, ◌==◌, Bool, true, cond, List, [], ◌∷◌, Option, Some, None, refl, sym, ap, subst, ◌∙◌, arith}
+-- What counts and receipts say of the calls, where one thread has both sides of the levels.
+use Rattle.std.proofs.Common.{◌≡◌, ◌≢◌, ℕ, ◌+◌, ◌==◌, All, get_or, Bool, true, cond, List, [], ◌∷◌, Option, Some, None, refl, sym, ap, subst, ◌∙◌, arith}
 use Rattle.std.specs.Prelude.{Ok}
 use Rattle.std.specs.Option.{option_map}
 use Rattle.std.proofs.lemmas.Bool.Decides.{nat_tests}
+use Rattle.std.proofs.lemmas.List.{get_or_default}
 use Rattle.cyc_types.specs.Firing.{FiringCall, Loads, Marks, Polls, Stay}
 use Rattle.cyc_types.specs.Runs.{Goes}
 use Rattle.cyc_types.specs.declared.firing.Sent.{Sent}
@@ -21,25 +22,32 @@ use Rattle.cyc_cpu.specs.Law.{IsLawful}
 use Rattle.cyc_cpu.specs.Soft.{fires, firing_at, done_at}
 use Rattle.cyc_cpu.specs.Calls.{CpuCall, Changes, BeginRemove, PollRemove, TakeNow}
 use Rattle.cyc_cpu_laws.specs.Accounts.{counts_of, left_by}
-use Rattle.cyc_cpu_laws.specs.Receipts.{Releases, HasCalls, done_by, AnswersCalls}
+use Rattle.cyc_cpu_laws.specs.Receipts.{Releases, HasCalls, done_by, pending_by, IsBalanced, AnswersCalls}
 
--- of a lawful stay with no call outstanding, each expiration is done or lost
+-- of a lawful stay, each expiration is done, outstanding or lost
 stay_done : (l : Level) (id : ℕ) (s : Stay) (o : Option Admission) → l.cyclics id ≡ o → Lawful l →
-    option_map stay_of o ≡ Some s → count_in o ≡ 0 → s.sent ≡ s.lost + done_in o
-stay_done l id s None is law e none = absurd (let wrong : None ≡ Some s = e in cc)
-stay_done l id s (Some a) is law e none =
+    option_map stay_of o ≡ Some s → s.sent ≡ s.lost + done_in o + count_in o
+stay_done l id s None is law e = absurd (let wrong : None ≡ Some s = e in cc)
+stay_done l id s (Some a) is law e =
     let same : stay_of a ≡ s = cc in
     let x = ap (λ (t : Stay). t.sent) same in let y = ap (λ (t : Stay). t.lost) same in
-    let z = law.conserved id a is in omega (arith, x, y, z, none)
+    let z = law.conserved id a is in omega (arith, x, y, z)
 
--- what a cyclic of this level has of calls, where its end has none outstanding
+-- what a cyclic of this level has of calls
+balanced_here : (soft : TheLevel) (a : Tables) (cs : List Cyclic) (k : ℕ) (c : Cyclic) (n : ℕ) → AreAdmitted soft (firing_at a) cs →
+    Lawful (level_of a) → IsCyclic cs k c → c.timer.level ≡ soft → HasCalls c.carried n →
+    c.timer.expired ≡ c.lost + (n + done_at a c.timer.id) + count (level_of a) c.timer.id
+balanced_here soft a cs k c n admitted law here at carried =
+    let (s, e, (sent, lost)) = admitted.here k c here at in
+    let d = stay_done (level_of a) c.timer.id s ((level_of a).cyclics c.timer.id) refl law e in
+    omega (arith, sent, lost, d, carried)
+
+-- where its end has none outstanding
 calls_here : (soft : TheLevel) (a : Tables) (cs : List Cyclic) (k : ℕ) (c : Cyclic) (n : ℕ) → AreAdmitted soft (firing_at a) cs →
     Lawful (level_of a) → IsCyclic cs k c → c.timer.level ≡ soft →
     count (level_of a) c.timer.id ≡ 0 → HasCalls c.carried n → c.timer.expired ≡ c.lost + (n + done_at a c.timer.id)
 calls_here soft a cs k c n admitted law here at none carried =
-    let (s, e, (sent, lost)) = admitted.here k c here at in
-    let d = stay_done (level_of a) c.timer.id s ((level_of a).cyclics c.timer.id) refl law e none in
-    omega (arith, sent, lost, d, carried)
+    let b = balanced_here soft a cs k c n admitted law here at carried in omega (arith, b, none)
 
 -- the way begins with a call that finds nothing outstanding
 abbrev FindsNone : ℕ → List FiringCall → Type 0
@@ -76,6 +84,12 @@ module _ (v w : CpuView Tables) (law : IsLawful firing_at v) (lock : Lawful (lev
   left_calls id way c l finds soft n carried =
       at_level id n way c l.place l.here l.named finds c.timer.level refl soft l.goes.0 l.goes.1 carried
 
+  balanced_at : (c : Cyclic) (k : ℕ) → IsCyclic v.cyclics k c → (own : TheLevel) → c.timer.level ≡ own → own ≢ High → (n : ℕ) →
+      HasCalls c.carried n → c.timer.expired ≡ c.lost + (n + done_by own v c.timer.id) + pending_by own v c.timer.id
+  balanced_at c k here Lock at soft n carried = balanced_here Lock v.lock v.cyclics k c n law.lock lock here at carried
+  balanced_at c k here Low at soft n carried = balanced_here Low v.low v.cyclics k c n law.low low here at carried
+  balanced_at c k here High at soft n carried = absurd (soft refl)
+
   own_counts : (id : ℕ) (s : Sent) (m : ℕ) → HasCalls s m → HasCalls (counts_of id s id) m
   own_counts id s m h = let yes : (id == id) ≡ true = grind (arith, nat_tests) in
       subst (λ (b : Bool). HasCalls (cond b s no_counts) m) (sym yes) h
@@ -106,3 +120,8 @@ module _ (v w : CpuView Tables) (law : IsLawful firing_at v) (lock : Lawful (lev
   answers_calls id (TakeNow own (Ok taken)) same (still, (c, counts, is, polled, l)) =
       answer id own _ c taken.sent (TakeNow own (Ok taken)) same refl is.3 is.4 (taken_none own counts) l
   answers_calls id call released d = absurd released
+
+pub all_balanced : (v : CpuView Tables) → IsLawful firing_at v → Lawful (level_of v.lock) → Lawful (level_of v.low) →
+    All (IsBalanced v) v.cyclics
+all_balanced v law lock low k d within =
+    balanced_at v v law lock low (get_or v.cyclics k d) k (within, get_or_default v.cyclics k (get_or v.cyclics k d) d within) (get_or v.cyclics k d).timer.level refl

@@ -3,6 +3,7 @@ pub mod Shifts
 pub mod Fires
 pub mod Ways
 pub mod Accounting
+pub mod Cores
 pub mod Staying
 pub mod Softs
 pub mod Departing

@@ -75,14 +75,10 @@ module _ {C : Type 0} (called : C → ℕ → TheLevel → C → Type 0) (count 
 
   pub interrupts_settle : (soft : Soft) (budget : ℕ) (answer : Result Ran SoftRefused) (s t : Running C Tables) →
       Interrupts called count may_refuse soft budget answer s t → IsSettled firing_at s.cpu → IsSettled firing_at t.cpu
-  interrupts_settle soft budget (Ok r) s t (
-    (ran, many, serves, left, few, idle),
-    kept,
-  ) h = served soft s.cpu t.cpu _ serves.way kept h
-  interrupts_settle soft budget (Err e) s t (
-    (ran, at, many, few, serves, may, same, held),
-    kept,
-  ) h = served soft s.cpu t.cpu _ serves.way kept h
+  interrupts_settle soft budget (Ok r) s t (did, kept) h = let (ran, many, serves, left) = did.served in
+      served soft s.cpu t.cpu _ serves.way kept h
+  interrupts_settle soft budget (Err e) s t (did, kept) h =
+      let (ran, at, many, few, serves, may, same, held) = did.refused in served soft s.cpu t.cpu _ serves.way kept h
 
   pub interrupts_size : (soft : Soft) (budget : ℕ) (answer : Result Ran SoftRefused) (s t : Running C Tables) →
       Interrupts called count may_refuse soft budget answer s t → t.cpu.size ≡ s.cpu.size

@@ -1,16 +1,20 @@
 -- What calls on a CPU add up to for each id.
-use Rattle.std.specs.Prelude.{◌≡◌, ℕ, ◌+◌, ◌==◌, cond, take, List, [], ◌∷◌, Some, Ok, Err, sum_by}
+use Rattle.std.specs.Prelude.{◌≡◌, ℕ, ◌+◌, ◌≤◌, ◌==◌, cond, take, List, [], ◌∷◌, Some, Result, Ok, Err, sum_by}
 use Rattle.std.specs.List.{FoldsTo}
 use Rattle.cyc_types.specs.Firing.{FiringView, FiringCall}
+use Rattle.cyc_types.specs.Levels.{level_of}
 use Rattle.cyc_types.specs.declared.firing.Sent.{Sent}
 use Rattle.cyc_types.specs.declared.level.Level.{Level}
 use Rattle.cyc_types.specs.declared.level.Level.TheVariants.{Low, Lock, High}
+use Rattle.cyc_soft.specs.declared.Ran.{Ran}
+use Rattle.cyc_soft.specs.declared.SoftRefused.{SoftRefused}
 use Rattle.cyc_expirations.specs.Expirations.{Expiration, expirations}
 use Rattle.cyc_timers.specs.Rows.{Cyclic, no_counts, timers}
+use Rattle.cyc_fire.specs.Acts.{same_level}
 use Rattle.cyc_fire.specs.Shares.{share}
 use Rattle.cyc_cpu.specs.declared.removing.Removal.TheVariants.{Done}
-use Rattle.cyc_cpu.specs.Cpu.{Running}
-use Rattle.cyc_cpu.specs.Calls.{CpuCall, Fire, Place, BeginRemove, PollRemove, TakeNow}
+use Rattle.cyc_cpu.specs.Cpu.{CpuView, Running}
+use Rattle.cyc_cpu.specs.Calls.{CpuCall, Fire, SoftInterrupt, Place, BeginRemove, PollRemove, TakeNow}
 use Rattle.cyc_cpu_laws.specs.Passing.{Passes}
 
 -- the expirations that a call made: those of a fire, up to one that was refused
@@ -35,15 +39,27 @@ left_by (PollRemove (Some r)) id = counts_of r.id (record { sent = r.sent; lost 
 left_by (TakeNow own (Ok taken)) id = counts_of own taken.sent id
 left_by call id = no_counts
 
--- what calls did to each id: its expirations at each level, the counts that it entered with and those that it left with
+-- the calls of handlers that a soft interrupt's answer tells
+abbrev pub told : Result Ran SoftRefused → ℕ
+told (Ok ran) = ran.calls
+told (Err refused) = refused.calls
+
+-- those that a call tells at each level
+abbrev pub served_by : CpuCall → Level → ℕ
+served_by (SoftInterrupt soft budget answer) level = cond (same_level level (level_of soft)) (told answer) 0
+served_by call level = 0
+
+-- what calls did: the expirations of each id at each level, the calls that soft interrupts tell at each level, and the counts
+-- that each id entered with and those that it left with
 pub record Account : Type 0 where
   pub fired : Level → ℕ → ℕ
+  pub served : Level → ℕ
   pub entered : ℕ → Sent
   pub left : ℕ → Sent
 
 -- no call
 abbrev pub nothing : Account
-nothing = record { fired = λ level id. 0; entered = λ id. no_counts; left = λ id. no_counts }
+nothing = record { fired = λ level id. 0; served = λ level. 0; entered = λ id. no_counts; left = λ id. no_counts }
 
 abbrev pub both_counts : (ℕ → Sent) → (ℕ → Sent) → ℕ → Sent
 both_counts a b id = record { sent = (a id).sent + (b id).sent; lost = (a id).lost + (b id).lost }
@@ -52,6 +68,7 @@ both_counts a b id = record { sent = (a id).sent + (b id).sent; lost = (a id).lo
 abbrev pub both : Account → Account → Account
 both a b = record {
   fired = λ level id. a.fired level id + b.fired level id;
+  served = λ level. a.served level + b.served level;
   entered = both_counts a.entered b.entered;
   left = both_counts a.left b.left;
 }
@@ -60,6 +77,7 @@ both a b = record {
 abbrev pub account_of : CpuCall → List Cyclic → Account
 account_of call cs = record {
   fired = λ level id. share level (timers cs) (made_by call cs) id;
+  served = served_by call;
   entered = entered_by call;
   left = left_by call;
 }
@@ -83,6 +101,18 @@ abbrev pub AddsUp : Account → List Cyclic → List Cyclic → Type 0
 AddsUp a cs cs' = (id : ℕ) → expired_of id cs' + (a.left id).sent
     ≡ expired_of id cs + (a.entered id).sent + (a.fired Lock id + a.fired Low id + a.fired High id)
 
+-- so do the losses, with those of the raises at the two ends
+abbrev pub LossesAddUp : Account → (ℕ → ℕ) → (ℕ → ℕ) → List Cyclic → List Cyclic → Type 0
+LossesAddUp a lock_lost low_lost cs cs' = (id : ℕ) → lost_of id cs' + (a.left id).lost
+    ≡ lost_of id cs + (a.entered id).lost + (lock_lost id + low_lost id)
+
+-- the ceilings and what a cyclic may expire at most are the same, and the size, which is that of both banks, is no smaller
+pub record KeepsLimits {R : Type 0} (view : R → FiringView) (v w : CpuView R) : Type 0 where
+  pub most : w.most ≡ v.most
+  pub lock_ceiling : (view w.lock).ceiling ≡ (view v.lock).ceiling
+  pub low_ceiling : (view w.low).ceiling ≡ (view v.low).ceiling
+  pub grows : v.size ≤ w.size
+
 -- A CPU came from s to t with this account. Each end was raised for its level's expirations, the handlers were called for the
 -- high ones, and nothing else was raised or called. The expirations of each id add up, and so do its losses.
 pub record Proceeds {C R : Type 0} (count : C → ℕ → ℕ) (step : R → FiringCall → R → Type 0) (view : R → FiringView) (a : Account)
@@ -94,6 +124,5 @@ pub record Proceeds {C R : Type 0} (count : C → ℕ → ℕ) (step : R → Fir
   pub low : Passes step view (a.fired Low) low_lost s.cpu.low t.cpu.low
   pub called : (id : ℕ) → count t.calls id ≡ count s.calls id + a.fired High id
   pub expired : AddsUp a s.cpu.cyclics t.cpu.cyclics
-  pub lost : (id : ℕ) → lost_of id t.cpu.cyclics + (a.left id).lost
-      ≡ lost_of id s.cpu.cyclics + (a.entered id).lost + (lock_lost id + low_lost id)
-  pub most : t.cpu.most ≡ s.cpu.most
+  pub lost : LossesAddUp a lock_lost low_lost s.cpu.cyclics t.cpu.cyclics
+  pub limits : KeepsLimits view s.cpu t.cpu

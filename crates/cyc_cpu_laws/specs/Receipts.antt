@@ -1,10 +1,11 @@
--- What a receipt, or what a move takes, says of the calls that were made.
+-- What a cyclic's counts, and with them a receipt or what a move takes, say of the calls that were made.
 use Rattle.std.specs.Prelude.{◌≡◌, ◌≢◌, ℕ, ◌+◌, Some, Ok}
+use Rattle.cyc_level.specs.Level.{count}
 use Rattle.cyc_types.specs.declared.firing.Sent.{Sent}
 use Rattle.cyc_types.specs.declared.level.Level.{Level}
 use Rattle.cyc_types.specs.declared.level.Level.TheVariants.{Low, Lock, High}
 use Rattle.cyc_timers.specs.Rows.{Cyclic}
-use Rattle.cyc_core.specs.Tables.{Tables}
+use Rattle.cyc_core.specs.Tables.{Tables, level_of}
 use Rattle.cyc_cpu.specs.declared.removing.Removal.TheVariants.{Done}
 use Rattle.cyc_cpu.specs.Cpu.{CpuView, IsCyclic}
 use Rattle.cyc_cpu.specs.Soft.{done_at}
@@ -27,6 +28,18 @@ abbrev pub done_by : Level → CpuView Tables → ℕ → ℕ
 done_by Low v id = done_at v.low id
 done_by Lock v id = done_at v.lock id
 done_by High v id = 0
+
+-- the calls of the id that are outstanding at its level: pending, in hand or kept for its removal
+abbrev pub pending_by : Level → CpuView Tables → ℕ → ℕ
+pending_by Low v id = count (level_of v.low) id
+pending_by Lock v id = count (level_of v.lock) id
+pending_by High v id = 0
+
+-- each expiration of a cyclic of a soft level was lost, or its call is outstanding, or it was made: here, or before the cyclic was
+-- carried in
+abbrev pub IsBalanced : CpuView Tables → Cyclic → Type 0
+IsBalanced v c = c.timer.level ≢ High → (n : ℕ) → HasCalls c.carried n →
+    c.timer.expired ≡ c.lost + (n + done_by c.timer.level v c.timer.id) + pending_by c.timer.level v c.timer.id
 
 -- what the call answers of the id: the calls that its cyclic carried in, and those that were done here
 pub record AnswersCalls (id : ℕ) (call : CpuCall) (v : CpuView Tables) : Type 0 where

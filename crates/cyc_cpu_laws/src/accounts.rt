@@ -6,7 +6,8 @@ ghost use Rattle.cyc_cpu.specs.Law.{IsLawful};
 ghost use Rattle.cyc_cpu.specs.Calls.{CpuCall, Does, no_interrupts};
 ghost use Rattle.cyc_cpu.specs.Soft.{fires, firing_at, Interrupts};
 ghost use Rattle.cyc_cpu_laws.specs.Runs.{Steps};
-ghost use Rattle.cyc_cpu_laws.specs.Accounts.{Account, nothing, both, account_of, account_in, AddsUp, Proceeds};
+ghost use Rattle.cyc_cpu_laws.specs.Accounts.{Account, nothing, both, account_of, account_in, Proceeds};
+ghost use Rattle.cyc_cpu_laws.specs.Cores.{CoreProceeds};
 
 use cyc_types::{Calls, Raise};
 
@@ -14,7 +15,7 @@ use cyc_types::{Calls, Raise};
 ///
 /// Each end was raised for an id as often as the fires' lists have it at that level, and no other call raised or called
 /// anything. What the CPU has of an id, with what its removals and moves answered, is what it had, with what was carried in
-/// and what expired and was lost since.
+/// and what expired and was lost since. The ceilings stay, and no size gets smaller.
 ///
 /// It does nothing when it runs: its clauses are the law.
 pub fn account_law<C: Calls, R: Raise>()
@@ -27,11 +28,21 @@ pub fn account_law<C: Calls, R: Raise>()
         → Proceeds C.count R.step R.view (account_in (Steps C.called C.count C.may_refuse R.step R.view no_interrupts) s way t run) s t }
 {}
 
-/// The expirations of each id add up on a CPU whose levels no other thread uses, where soft interrupts are among the calls.
+/// The same of a CPU whose levels no other thread uses, where soft interrupts are among the calls.
 ///
-/// It does nothing when it runs: its clause is the law.
+/// Calls of its two sides led each level from its first value to its last. They raised it for an id as often as the fires'
+/// lists have it at that level, and finished the calls that the soft interrupts' answers tell. The handlers were called for the
+/// high ones and by the soft interrupts, and by nothing else.
+///
+/// It does nothing when it runs: its clauses are the law.
 pub fn account_core_law<C: Calls>()
-    ensures { (s t : Running C Tables) (way : List CpuCall) → IsLawful firing_at s.cpu
+    ensures none { (s : Running C Tables) → CoreProceeds C.count nothing s s }
+    ensures one { (s t : Running C Tables) (call : CpuCall) → IsLawful firing_at s.cpu
+        → Does C.called C.count C.may_refuse fires firing_at (Interrupts C.called C.count C.may_refuse) s call t
+        → CoreProceeds C.count (account_of call s.cpu.cyclics) s t }
+    ensures joined { (a b : Account) (s t u : Running C Tables) → CoreProceeds C.count a s t → CoreProceeds C.count b t u
+        → CoreProceeds C.count (both a b) s u }
+    ensures run { (s t : Running C Tables) (way : List CpuCall) → IsLawful firing_at s.cpu
         → (run : FoldsTo (Steps C.called C.count C.may_refuse fires firing_at (Interrupts C.called C.count C.may_refuse)) s way t)
-        → AddsUp (account_in (Steps C.called C.count C.may_refuse fires firing_at (Interrupts C.called C.count C.may_refuse)) s way t run) s.cpu.cyclics t.cpu.cyclics }
+        → CoreProceeds C.count (account_in (Steps C.called C.count C.may_refuse fires firing_at (Interrupts C.called C.count C.may_refuse)) s way t run) s t }
 {}

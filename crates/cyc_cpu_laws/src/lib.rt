@@ -14,5 +14,5 @@ mod settling;
 pub use accounts::{account_core_law, account_law};
 pub use leaving::absence_law;
 pub use passing::passing_law;
-pub use receipts::receipt_law;
+pub use receipts::{balance_law, receipt_law};
 pub use settling::{settling_core_law, settling_law};

@@ -1,11 +1,11 @@
-ghost use Rattle.std.specs.Prelude.{ℕ};
+ghost use Rattle.std.specs.Prelude.{ℕ, All};
 ghost use Rattle.cyc_core.specs.Tables.{Tables, level_of};
 ghost use Rattle.cyc_level.specs.Lawful.{Lawful};
 ghost use Rattle.cyc_cpu.specs.Cpu.{CpuView};
 ghost use Rattle.cyc_cpu.specs.Law.{IsLawful};
 ghost use Rattle.cyc_cpu.specs.Soft.{fires, firing_at};
 ghost use Rattle.cyc_cpu.specs.Calls.{CpuCall, Changes};
-ghost use Rattle.cyc_cpu_laws.specs.Receipts.{Releases, AnswersCalls};
+ghost use Rattle.cyc_cpu_laws.specs.Receipts.{Releases, AnswersCalls, IsBalanced};
 
 /// Of a cyclic of a soft level, on a CPU whose levels no other thread uses, a receipt says the calls that were carried in
 /// and those that were done here; and so does what a move takes.
@@ -14,4 +14,12 @@ ghost use Rattle.cyc_cpu_laws.specs.Receipts.{Releases, AnswersCalls};
 pub fn receipt_law()
     ensures { (id : ℕ) (call : CpuCall) (v w : CpuView Tables) → IsLawful firing_at v → Lawful (level_of v.lock) → Lawful (level_of v.low)
         → Releases id call → Changes fires firing_at v call w → AnswersCalls id call v }
+{}
+
+/// The same of the counts that the CPU has: each expiration of a cyclic of a soft level was lost, or its call is outstanding or
+/// was made, here or before the cyclic was carried in.
+///
+/// It does nothing when it runs: its clause is the law.
+pub fn balance_law()
+    ensures { (v : CpuView Tables) → IsLawful firing_at v → Lawful (level_of v.lock) → Lawful (level_of v.low) → All (IsBalanced v) v.cyclics }
 {}

@@ -1,8 +1,14 @@
-use Rattle.cyc_cpu.specs.Soft.{fires, firing_at, Interrupts}
-use Rattle.cyc_cpu_laws.proofs.Accounting.{adds_in}
+use Rattle.cyc_cpu_laws.proofs.Cores.{core_proceeds_none, core_proceeds_one, core_proceeds_on, core_proceeds_in}
 use Rattle.cyc_cpu_laws.proofs.accounts.account_core_law.Goals as goal
 
-pub returns : goal.returns
-returns g c =
-    let called = g.C.Calls.called in let count = g.C.Calls.count in let may_refuse = g.C.Calls.may_refuse in
-    adds_in called count may_refuse fires firing_at (Interrupts called count may_refuse) (λ soft budget answer s t i. i.1.cyclics)
+pub returns-clause-none : goal.returns-clause-none
+returns-clause-none g c = core_proceeds_none g.C.Calls.called g.C.Calls.count g.C.Calls.may_refuse
+
+pub returns-clause-one : goal.returns-clause-one
+returns-clause-one g c = core_proceeds_one g.C.Calls.called g.C.Calls.count g.C.Calls.may_refuse
+
+pub returns-clause-joined : goal.returns-clause-joined
+returns-clause-joined g c = core_proceeds_on g.C.Calls.called g.C.Calls.count g.C.Calls.may_refuse
+
+pub returns-clause-run : goal.returns-clause-run
+returns-clause-run g c = core_proceeds_in g.C.Calls.called g.C.Calls.count g.C.Calls.may_refuse

@@ -1,1 +1,0 @@
-use Rattle.cyc_cpu.proofs.hard.Hard.pending.Goals as goal

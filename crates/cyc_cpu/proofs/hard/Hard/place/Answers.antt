@@ -8,7 +8,7 @@ use Rattle.cyc_timers.specs.Rows.{cyclic_of, cyclics_of, with_record, vacant_row
 use Rattle.cyc_cpu.specs.Cpu.{CpuView, HasNoCyclic, cyclic_with}
 use Rattle.cyc_fire.specs.Ends.{IsHard}
 use Rattle.cyc_fire.specs.Quiet.{admits_at}
-use Rattle.cyc_cpu.proofs.Cyclics.{no_row_of, cyclics_insert, not_removed}
+use Rattle.cyc_cpu.proofs.Cyclics.{no_row_of, cyclics_insert, not_removed, rising_cyclics}
 use Rattle.cyc_cpu.proofs.Entering.{hard_entered, may_admit}
 use Rattle.cyc_cpu.proofs.hard.Hard.place.Goals as goal
 
@@ -53,6 +53,7 @@ returns g c =
         index = c.insert-index.result;
         within = (let l = ap (λ (x : CpuView _). length x.cyclics) v in let m = length-map i.table.rows cyclic_of in omega (arith, bound, l, m));
         cyclics = ap cyclics_of rows ∙ cyclics_insert i.table.rows q u ∙ ap (λ (x : CpuView _). insert x.cyclics q (cyclic_with c.args.id c.args.level c.args.interval c.args.moment c.args.carried.sent c.args.carried.lost)) v;
+        rising = rising_cyclics c.insert-index.new.self.rows c.law.ensures.rising;
         lock = subst (λ (x : CpuView _). Goes g.R.Raise.step g.R.Raise.view x.lock (admits_at Lock c.args.level c.args.id c.insert-index.result) c.admit_at.new.lock) v e.lock;
         low = subst (λ (x : CpuView _). Goes g.R.Raise.step g.R.Raise.view x.low (admits_at Low c.args.level c.args.id c.insert-index.result) c.admit_at.new.low) v e.low;
         kept = record {

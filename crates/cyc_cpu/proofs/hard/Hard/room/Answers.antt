@@ -1,4 +1,4 @@
-use Rattle.std.proofs.Common.{◌≤◌, ◌<◌, ◌+◌, ◌≡◌, [], ◌∷◌, length, None, arith, ap, sym, ◌∙◌, subst, refl}
+use Rattle.std.proofs.Common.{[], ◌∷◌, arith, sym, subst, refl}
 use Rattle.std.proofs.lemmas.List.{length-map}
 use Rattle.cyc_timers.specs.Rows.{cyclic_of}
 use Rattle.cyc_cpu.specs.Cpu.{CpuView}

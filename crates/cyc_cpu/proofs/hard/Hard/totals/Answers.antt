@@ -1,1 +1,0 @@
-use Rattle.cyc_cpu.proofs.hard.Hard.totals.Goals as goal

@@ -1,0 +1,30 @@
+ghost use Rattle.std.specs.Prelude.{◌≡◌, ◌<◌, length};
+ghost use Rattle.std.specs.Bool.{OnTrue, OnFalse};
+ghost use Rattle.cyc_timers.specs.Rows.{Cyclic};
+
+use crate::hard::Hard;
+use cyc_types::{CyclicId, Raise};
+
+impl<R: Raise> Hard<R> {
+    ghost use Rattle.cyc_cpu.specs.Cpu.{IsCyclic, HasNoCyclic};
+    ghost use Rattle.cyc_cpu.specs.Removal.{HasCyclic};
+
+    /// Whether the cyclic is here, or its removal is open here. O(log n), and it asks nothing of the ends.
+    pub fn has(&self, id: CyclicId) -> bool
+        ensures here { OnTrue result (HasCyclic id self.now.cyclics) }
+        ensures none { OnFalse result (HasNoCyclic id self.now.cyclics) }
+    {
+        match self.table.find(id) {
+            Some(_place) => true,
+            None => false,
+        }
+    }
+
+    /// The id at this place among the ids here, which rise. O(1).
+    pub fn id_at(&self, place: usize) -> CyclicId
+        requires { place < length self.now.cyclics }
+        ensures { (c : Cyclic) → IsCyclic self.now.cyclics place c → result ≡ c.timer.id }
+    {
+        self.table.id_at(place)
+    }
+}
