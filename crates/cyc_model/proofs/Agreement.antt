@@ -42,7 +42,7 @@ CalmAct a = ActIs IsCalm a
 abbrev AllCalm : List Act → Type 0
 AllCalm acts = AllActs IsCalm acts
 
-acts_append : (Q : Event → Type 0) (xs ys : List Act) → AllActs Q xs → AllActs Q ys → AllActs Q (xs ++ ys)
+pub acts_append : (Q : Event → Type 0) (xs ys : List Act) → AllActs Q xs → AllActs Q ys → AllActs Q (xs ++ ys)
 acts_append Q [] ys h i = i
 acts_append Q (x ∷ xs) ys h i = (h.0, acts_append Q xs ys h.1 i)
 
@@ -154,7 +154,7 @@ agrees_here acts c calm h = agrees_onward c (happen acts c) (onward_acts acts c 
 -- ---- the cyclics get other moments and counts
 
 -- the function keeps the id and the level
-abbrev SameLevel : (Cyclic → Cyclic) → Type 0
+abbrev pub SameLevel : (Cyclic → Cyclic) → Type 0
 SameLevel f = (x : Cyclic) → ((f x).timer.id ≡ x.timer.id) × ((f x).timer.level ≡ x.timer.level)
 
 level_map : (f : Cyclic → Cyclic) → SameLevel f → (id : ℕ) (cs : List Cyclic) → level_in id (map f cs) ≡ level_in id cs
@@ -184,7 +184,7 @@ agrees_with c d lock low size own h = record {
     levels Low = low
     levels Lock = lock
 
-moment_same : (id moment : ℕ) → SameLevel (moment_at id moment)
+pub moment_same : (id moment : ℕ) → SameLevel (moment_at id moment)
 moment_same id moment x = by (is_of id x)
   where
     by : (b : Bool) → ((cond b (with_moment moment x) x).timer.id ≡ x.timer.id)
@@ -192,7 +192,7 @@ moment_same id moment x = by (is_of id x)
     by true = (refl, refl)
     by false = (refl, refl)
 
-fired_same : (now : ℕ) (made : List Expiration) (acts : List Act) → SameLevel (fired now made acts)
+pub fired_same : (now : ℕ) (made : List Expiration) (acts : List Act) → SameLevel (fired now made acts)
 unfolding timer_after
 fired_same now made acts x = (refl, refl)
 
@@ -316,7 +316,7 @@ past_clear n id level.Lock c = record { cyclics = refl; size = refl; lock = refl
     by j Low ne h = h
     by j Lock ne h = cleared_other c.lock.cyclics id j ne h
 
-high_is_not : (soft : Soft) → level.High ≢ as_level soft
+pub high_is_not : (soft : Soft) → level.High ≢ as_level soft
 high_is_not Low is = absurd (let no : level.High ≡ level.Low = is in cc)
 high_is_not Lock is = absurd (let no : level.High ≡ level.Lock = is in cc)
 

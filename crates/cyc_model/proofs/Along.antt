@@ -26,7 +26,7 @@ below l law id c is ne =
     let le = law.below_ceiling id c is in
     let far : c.count ≢ l.ceiling = λ same. ne (ap count_in is ∙ same) in omega (arith, le, far)
 
-can_of_all : (e : Event) (l : Level) → Lawful l → CanAsFiring e l → CanAsSoft e l → IsReady e l → Enabled e l
+pub can_of_all : (e : Event) (l : Level) → Lawful l → CanAsFiring e l → CanAsSoft e l → IsReady e l → Enabled e l
 can_of_all (Admit id index) l law firing soft ready = firing
 can_of_all (Expire id) l law firing soft ready =
     let c = some_of (l.cyclics id) ready.1 in (

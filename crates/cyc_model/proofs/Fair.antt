@@ -165,12 +165,12 @@ finish_keeps : (hand : Option ℕ) (l : Level) → (after_finish hand l).firer_h
 finish_keeps None l = refl
 finish_keeps (Some id) l = refl
 
-same_itself : (soft : Soft) → same_soft soft soft ≡ true
+pub same_itself : (soft : Soft) → same_soft soft soft ≡ true
 same_itself Low = refl
 same_itself Lock = refl
 
 -- the events of the level itself
-own_all : (n : ℕ) (soft : Soft) (es : List Event) → events_at n soft (map (At n soft) es) ≡ es
+pub own_all : (n : ℕ) (soft : Soft) (es : List Event) → events_at n soft (map (At n soft) es) ≡ es
 own_all n soft es = own_events n soft soft es ∙ ap (λ (b : Bool). cond b es []) (same_itself soft)
 
 finish_own : (n : ℕ) (soft : Soft) → event_at n soft (At n soft Finish) ≡ Finish ∷ []
@@ -178,7 +178,7 @@ finish_own n soft =
     ap (λ (b : Bool). cond (b && same_soft soft soft) (Finish ∷ []) []) (eq-eqb n n refl)
     ∙ ap (λ (b : Bool). cond b (Finish ∷ []) []) (same_itself soft)
 
-call_events : (n : ℕ) (soft : Soft) (looked : List Event) (id : ℕ) (rest : List Act)
+pub call_events : (n : ℕ) (soft : Soft) (looked : List Event) (id : ℕ) (rest : List Act)
     → events_at n soft (map (At n soft) looked ++ Call id ∷ At n soft Finish ∷ rest) ≡ looked ++ Finish ∷ events_at n soft rest
 call_events n soft looked id rest =
     events_append n soft (map (At n soft) looked) (Call id ∷ At n soft Finish ∷ rest)
@@ -228,7 +228,7 @@ other_as n soft other apart l rest none (Some id) =
     ∙ ap (λ es. es ++ events_at n other acts) (finish_none n soft other apart)
     ∙ none (after Finish (level_after (look l) l))
 
-serve_other : (n : ℕ) (soft other : Soft) → same_soft soft other ≡ false → (budget : ℕ) (l : Level)
+pub serve_other : (n : ℕ) (soft other : Soft) → same_soft soft other ≡ false → (budget : ℕ) (l : Level)
     → events_at n other (serve n soft budget l).acts ≡ []
 serve_other n soft other apart zero l = refl
 serve_other n soft other apart (suc budget) l =

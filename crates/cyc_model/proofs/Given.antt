@@ -170,7 +170,7 @@ rise_from : (low from high : ℕ) (ps : List Placed) → low ≤ from → RiseTo
 rise_from low from high [] le h = omega (arith, le, h)
 rise_from low from high (p ∷ ps) le h = (let a = h.0 in omega (arith, a, le), h.1)
 
-rise_append : (low high : ℕ) (place : Place) (ps : List Placed) → RiseTo low ps high
+pub rise_append : (low high : ℕ) (place : Place) (ps : List Placed) → RiseTo low ps high
     → RiseTo low (ps ++ record { id = high + 1; place = place } ∷ []) (high + 1)
 rise_append low high place [] h = (omega (arith, h), omega arith)
 rise_append low high place (p ∷ ps) h = (h.0, rise_append p.id high place ps h.1)
@@ -182,7 +182,7 @@ replaced_id id place p = by (p.id == id)
     by true = refl
     by false = refl
 
-rise_map : (low high id : ℕ) (place : Place) (ps : List Placed) → RiseTo low ps high
+pub rise_map : (low high id : ℕ) (place : Place) (ps : List Placed) → RiseTo low ps high
     → RiseTo low (map (replaced id place) ps) high
 rise_map low high id place [] h = h
 rise_map low high id place (p ∷ ps) h = (
@@ -195,7 +195,7 @@ rise_if : (b : Bool) (low high : ℕ) (p : Placed) (ps : List Placed) → low < 
 rise_if true low high p ps first h = (first, h)
 rise_if false low high p ps first h = rise_from low p.id high ps (omega (arith, first)) h
 
-rise_filter : (test : Placed → Bool) (low high : ℕ) (ps : List Placed) → RiseTo low ps high → RiseTo low (filter test ps) high
+pub rise_filter : (test : Placed → Bool) (low high : ℕ) (ps : List Placed) → RiseTo low ps high → RiseTo low (filter test ps) high
 rise_filter test low high [] h = h
 rise_filter test low high (p ∷ ps) h = rise_if (test p) low high p (filter test ps) h.0 (rise_filter test p.id high ps h.1)
 
@@ -432,7 +432,7 @@ start_most : (n ceiling : ℕ) → AllAtMost 0 (replicate n (new_cpu ceiling))
 start_most zero ceiling = tt
 start_most (suc n) ceiling = (tt, start_most n ceiling)
 
-start_given : (cpus ceiling names : ℕ) → AreGiven 0 (start cpus ceiling names)
+pub start_given : (cpus ceiling names : ℕ) → AreGiven 0 (start cpus ceiling names)
 start_given cpus ceiling names = record { many = omega arith; rise = omega arith; cyclics = start_most cpus ceiling }
 
 -- the same, with as many ids given as there are

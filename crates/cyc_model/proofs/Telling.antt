@@ -38,13 +38,13 @@ use Rattle.cyc_model.proofs.Ready.{ready_append}
 use Rattle.cyc_model.proofs.Local.{other_events, Local, SameLevels, same_low_lock, local_nothing, local_fire, local_serve, local_widen, local_place, local_enter, local_take, local_mark, local_clear, local_reprogram}
 
 -- a state with the same CPUs and calls
-abbrev Alike : State → State → Type 0
+abbrev pub Alike : State → State → Type 0
 Alike s t = (t.cpus ≡ s.cpus) × (t.called ≡ s.called)
 
 none_more : (n : ℕ) → n ≡ n + 0
 none_more n = omega arith
 
-told_alike : (s t : State) → Alike s t → Tells [] s t
+pub told_alike : (s t : State) → Alike s t → Tells [] s t
 told_alike s t same = record {
   as_many = ap length same.0;
   levels = λ n within soft. ap (λ (cs : List Cpu). level_at soft (slice_index_or cs n absent)) same.0;
@@ -52,7 +52,7 @@ told_alike s t same = record {
 }
 
 -- other books before the acts
-told_from : (acts : List Act) (s r t : State) → Alike s r → Tells acts r t → Tells acts s t
+pub told_from : (acts : List Act) (s r t : State) → Alike s r → Tells acts r t → Tells acts s t
 told_from acts s r t same h = record {
   as_many = h.as_many ∙ ap length same.0;
   levels = λ n within soft. h.levels n (subst (λ k. n < k) (sym (ap length same.0)) within) soft
@@ -61,14 +61,14 @@ told_from acts s r t same h = record {
 }
 
 -- and after them
-told_to : (acts : List Act) (s t u : State) → Tells acts s t → Alike t u → Tells acts s u
+pub told_to : (acts : List Act) (s t u : State) → Tells acts s t → Alike t u → Tells acts s u
 told_to acts s t u h same = record {
   as_many = ap length same.0 ∙ h.as_many;
   levels = λ n within soft. ap (λ (cs : List Cpu). level_at soft (slice_index_or cs n absent)) same.0 ∙ h.levels n within soft;
   called = λ id. ap (λ (f : ℕ → ℕ). f id) same.1 ∙ h.called id;
 }
 
-told_append : (xs ys : List Act) (s t u : State) → Tells xs s t → Tells ys t u → Tells (xs ++ ys) s u
+pub told_append : (xs ys : List Act) (s t u : State) → Tells xs s t → Tells ys t u → Tells (xs ++ ys) s u
 told_append xs ys s t u first next = record {
   as_many = next.as_many ∙ first.as_many;
   levels = λ n within soft. next.levels n (subst (λ k. n < k) (sym first.as_many) within) soft
@@ -78,7 +78,7 @@ told_append xs ys s t u first next = record {
   called = λ id. let a = first.called id in let b = next.called id in let c = calls_append id xs ys in omega (arith, a, b, c);
 }
 
-told_on : (n : ℕ) (f : Cpu → Here) → ((c : Cpu) → Local n c (f c)) → (s : State) → Tells (on n f s).acts s (on n f s).state
+pub told_on : (n : ℕ) (f : Cpu → Here) → ((c : Cpu) → Local n c (f c)) → (s : State) → Tells (on n f s).acts s (on n f s).state
 told_on n f local s = record {
   as_many = length-set s.cpus n (f (cpu_of n s)).cpu;
   levels = λ m within soft. dite (ℕ_discrete m n)
@@ -239,7 +239,7 @@ tells_bind indexes id n s = tells_then (move_unless_there (home_of id s == n) in
     (λ t. nothing (put_at id (On n true) t)) s
     (tells_move_unless (home_of id s == n) indexes id n s) (λ t. tells_alike t (put_at id (On n true) t) (refl, refl))
 
-kept_alike : (n : ℕ) (x : Option Cyclic) (s : State) → Alike s (keep_counts n x s)
+pub kept_alike : (n : ℕ) (x : Option Cyclic) (s : State) → Alike s (keep_counts n x s)
 kept_alike n None s = (refl, refl)
 kept_alike n (Some x) s = (refl, refl)
 

@@ -23,3 +23,6 @@ pub mod Laws
 pub mod Free
 pub mod Agreement
 pub mod Along
+pub mod Kept
+pub mod Enabled
+pub mod Numbers

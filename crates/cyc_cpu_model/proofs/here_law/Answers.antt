@@ -1,0 +1,8 @@
+use Rattle.cyc_cpu_model.proofs.Law.{is_here}
+use Rattle.cyc_cpu_model.proofs.Tied.{rises}
+use Rattle.cyc_cpu_model.proofs.here_law.Goals as goal
+
+pub returns : goal.returns
+returns g c = λ n online call s t h goes does.
+    is_here g.C.Calls.called g.C.Calls.count g.C.Calls.may_refuse n online call s t h.rising
+    (rises g.C.Calls.called g.C.Calls.count g.C.Calls.may_refuse call s t goes does h.rising) goes does

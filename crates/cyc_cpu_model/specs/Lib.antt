@@ -1,0 +1,4 @@
+pub mod Shown
+pub mod Here
+pub mod Answers
+pub mod Tied

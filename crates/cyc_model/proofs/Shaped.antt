@@ -1,0 +1,210 @@
+-- What holds of the acts of each call holds of the acts of each word.
+use Rattle.std.proofs.Common.{ℕ, ◌+◌, ◌==◌, Bool, true, false, cond, List, [], ◌∷◌, ◌++◌, length, Option, Some, None}
+use Rattle.std.specs.Prelude.{⊤}
+use Rattle.cyc_types.specs.declared.level.Level.{Level as CyclicLevel}
+use Rattle.cyc_types.specs.declared.level.Level.TheVariants as level
+use Rattle.cyc_level.specs.declared.Event.{Event}
+use Rattle.cyc_level.specs.declared.Event.TheVariants.{Admit, Expire, Lose, Mark, Clear}
+use Rattle.cyc_script.specs.declared.step.Step.{Step}
+use Rattle.cyc_script.specs.declared.step.Step.TheVariants.{Add, Omni, Bind, Unbind, Reprogram, Remove, Advance, Softint, Juggle, Offline, Online}
+use Rattle.cyc_model.specs.Acts.{Act, at_own}
+use Rattle.cyc_model.specs.Cpu.{Cyclic, Cpu, Here, happen, level_of, nothing_here, cyclic_of}
+use Rattle.cyc_model.specs.Serving.{level_at, serve}
+use Rattle.cyc_model.specs.Moving.{must_grow, bank_for, switch_here, widen_here, take_here, mark_here, clear_here}
+use Rattle.cyc_model.specs.Questions.{Questions}
+use Rattle.cyc_model.specs.State.{State, Outcome, Place, On, OnAll, Placed, on, cpu_of, each, nothing, followed_by, online_cpus, cpus_with, numbers}
+use Rattle.cyc_model.specs.Places.{id_of, given, put_at, keep_counts, is_bound, home_of, destination}
+use Rattle.cyc_model.specs.Add.{enter, added}
+use Rattle.cyc_model.specs.Omni.{component, everywhere}
+use Rattle.cyc_model.specs.Bind.{bring, move, move_unless_there, bind_id}
+use Rattle.cyc_model.specs.Remove.{clear_if, poll, begin, begun}
+use Rattle.cyc_model.specs.Softint.{interrupt, is_open, text_of_id, polled, poll_id, leaving_ids}
+use Rattle.cyc_model.specs.Juggle.{Turn, IsBound, IsPending, IsRefused, Moves, turn, take_turn, Juggled, juggle_each, juggled, single_ids}
+use Rattle.cyc_model.specs.Offline.{ids_on, retire, go_offline, retire_all, any_pending, last_part, leaving}
+use Rattle.cyc_model.specs.Online.{return_at, return_of, go_online, staying}
+use Rattle.cyc_model.specs.Script.{does, text_in}
+use Rattle.cyc_model.proofs.Agreement.{AllActs, acts_of_serve}
+
+-- an event that neither begins a stay nor is an expiration
+abbrev pub IsIdle : Event → Type 0
+IsIdle (Admit id index) = ⊥
+IsIdle (Expire id) = ⊥
+IsIdle (Lose id) = ⊥
+IsIdle _ = ⊤
+
+-- the step isn't an advance
+abbrev pub IsNoFire : Step → Type 0
+IsNoFire (Advance now) = ⊥
+IsNoFire _ = ⊤
+
+idle_own : (n : ℕ) (k : CyclicLevel) (e : Event) → IsIdle e → AllActs IsIdle (at_own n k e)
+idle_own n level.High e is = tt
+idle_own n level.Lock e is = (is, tt)
+idle_own n level.Low e is = (is, tt)
+
+-- P holds of acts between so many admissions before and after them
+module _ (indexes : ℕ → ℕ) (P : List Act → ℕ → ℕ → Type 0) (calm : (acts : List Act) (a : ℕ) → AllActs IsIdle acts → P acts a a)
+    (app : (xs ys : List Act) (a b c : ℕ) → P xs a b → P ys b c → P (xs ++ ys) a c)
+    (admit : (n id a : ℕ) (k : CyclicLevel) → P (at_own n k (Admit id (indexes a))) a (a + 1)) where
+  abbrev Shaped : (State → Outcome) → Type 0
+  Shaped f = (s : State) → P (f s).acts s.admissions (f s).state.admissions
+
+  none : (a : ℕ) → P [] a a
+  none a = calm [] a tt
+
+  shaped_then : (o : Outcome) (f : State → Outcome) (s : State) → P o.acts s.admissions o.state.admissions → Shaped f
+      → P (followed_by o f).acts s.admissions (followed_by o f).state.admissions
+  shaped_then o f s one next =
+      app o.acts (f o.state).acts s.admissions o.state.admissions (f o.state).state.admissions one (next o.state)
+
+  shaped_each : {A : Type 0} → (f : A → State → Outcome) → ((x : A) → Shaped (f x)) → (xs : List A) → Shaped (each f xs)
+  shaped_each f one [] s = none s.admissions
+  shaped_each f one (x ∷ xs) s = shaped_then (f x s) (each f xs) s (one x s) (shaped_each f one xs)
+
+  widened : (n more : ℕ) (c : Cpu) (a : ℕ) → P (widen_here n more c).acts a a
+  widened n more c a = by (must_grow more c)
+    where
+      by : (b : Bool) → P (cond b (switch_here n (bank_for (length c.cyclics + more)) c) (nothing_here c)).acts a a
+      by true = calm (switch_here n (bank_for (length c.cyclics + more)) c).acts a (tt, (tt, tt))
+      by false = none a
+
+  shaped_enter : (n : ℕ) (x : Cyclic) → Shaped (enter indexes n x)
+  shaped_enter n x s = app (widen_here n 1 (cpu_of n s)).acts (at_own n x.timer.level (Admit x.timer.id (indexes s.admissions)))
+      s.admissions s.admissions (s.admissions + 1) (widened n 1 (cpu_of n s) s.admissions)
+      (admit n x.timer.id s.admissions x.timer.level)
+
+  taken : (n id : ℕ) (c : Cpu) (a : ℕ) → P (take_here n id c).acts a a
+  taken n id c a = app (at_own n (level_of id c) (Mark id)) _ a a a
+      (calm (at_own n (level_of id c) (Mark id)) a (idle_own n (level_of id c) (Mark id) tt))
+      (calm _ a (idle_own n (level_of id (happen (at_own n (level_of id c) (Mark id)) c)) (Clear id) tt))
+
+  shaped_bring : (n : ℕ) (o : Option Cyclic) → Shaped (bring indexes n o)
+  shaped_bring n None s = none s.admissions
+  shaped_bring n (Some x) s = shaped_enter n x s
+
+  shaped_move : (id source target : ℕ) → Shaped (move indexes id source target)
+  shaped_move id source target s = shaped_then (on source (take_here source id) s)
+      (λ t. bring indexes target (cyclic_of id (cpu_of source s)) (put_at id (On target (is_bound id t)) t)) s
+      (taken source id (cpu_of source s) s.admissions)
+      (λ t. shaped_bring target (cyclic_of id (cpu_of source s)) (put_at id (On target (is_bound id t)) t))
+
+  shaped_unless : (there : Bool) (id n : ℕ) → Shaped (move_unless_there there indexes id n)
+  shaped_unless true id n s = none s.admissions
+  shaped_unless false id n s = shaped_move id (home_of id s) n s
+
+  shaped_bind : (id n : ℕ) → Shaped (bind_id indexes id n)
+  shaped_bind id n s = shaped_then (move_unless_there (home_of id s == n) indexes id n s)
+      (λ t. nothing (put_at id (On n true) t)) s
+      (shaped_unless (home_of id s == n) id n s) (λ t. none t.admissions)
+
+  -- a stay ends
+  shaped_ended : (n : ℕ) (f : Cpu → Here) → ((c : Cpu) (a : ℕ) → P (f c).acts a a) → (o : Option Cyclic) (s : State)
+      → P (on n f (keep_counts n o s)).acts s.admissions (on n f (keep_counts n o s)).state.admissions
+  shaped_ended n f own None s = own (cpu_of n s) s.admissions
+  shaped_ended n f own (Some x) s = own (cpu_of n s) s.admissions
+
+  cleared : (n id : ℕ) (c : Cpu) (a : ℕ) → P (clear_here n id c).acts a a
+  cleared n id c a = calm (at_own n (level_of id c) (Clear id)) a (idle_own n (level_of id c) (Clear id) tt)
+
+  shaped_poll : (q : Questions) (id n : ℕ) → Shaped (poll q id n)
+  shaped_poll q id n s = by (q.outstanding n id (cpu_of n s) == 0)
+    where
+      by : (b : Bool) → P (clear_if b id n s).acts s.admissions (clear_if b id n s).state.admissions
+      by true = shaped_ended n (clear_here n id) (cleared n id) (cyclic_of id (cpu_of n s)) s
+      by false = none s.admissions
+
+  shaped_begin : (q : Questions) (id n : ℕ) → Shaped (begin q id n)
+  shaped_begin q id n s = shaped_then (on n (mark_here n id) s) (poll q id n) s
+      (calm (at_own n (level_of id (cpu_of n s)) (Mark id)) s.admissions (idle_own n (level_of id (cpu_of n s)) (Mark id) tt))
+      (shaped_poll q id n)
+
+  shaped_begun : (q : Questions) (step : ℕ) (text : List ℕ) (id : ℕ) (ns : List ℕ) (o : Outcome) (a : ℕ)
+      → P o.acts a o.state.admissions
+      → P (begun q step text id ns o).acts a (begun q step text id ns o).state.admissions
+  shaped_begun q step text id [] o a h = h
+  shaped_begun q step text id (n ∷ ns) o a h = h
+
+  shaped_polled : (step : ℕ) (text : List ℕ) (id : ℕ) (ns : List ℕ) (o : Outcome) (a : ℕ) → P o.acts a o.state.admissions
+      → P (polled step text id ns o).acts a (polled step text id ns o).state.admissions
+  shaped_polled step text id [] o a h = h
+  shaped_polled step text id (n ∷ ns) o a h = h
+
+  shaped_poll_id : (q : Questions) (texts : List (List ℕ)) (step id : ℕ) → Shaped (poll_id q texts step id)
+  shaped_poll_id q texts step id s =
+      let o = each (poll q id) (numbers (is_open id) s) s in
+      shaped_polled step (text_of_id id texts s.names) id (cpus_with id o.state) o s.admissions
+      (shaped_each (poll q id) (shaped_poll q id) (numbers (is_open id) s) s)
+
+  shaped_turn : (source id : ℕ) (t : Turn) → Shaped (take_turn indexes source id t)
+  shaped_turn source id IsBound s = none s.admissions
+  shaped_turn source id IsPending s = none s.admissions
+  shaped_turn source id IsRefused s = none s.admissions
+  shaped_turn source id (Moves target) s = shaped_move id source target s
+
+  shaped_turns : (q : Questions) (source : ℕ) (ids : List ℕ) → Shaped (λ s. (juggle_each q indexes source ids s).outcome)
+  shaped_turns q source [] s = none s.admissions
+  shaped_turns q source (id ∷ ids) s =
+      let o = take_turn indexes source id (turn q source id s) s in
+      app o.acts (juggle_each q indexes source ids o.state).outcome.acts s.admissions o.state.admissions
+      (juggle_each q indexes source ids o.state).outcome.state.admissions
+      (shaped_turn source id (turn q source id s) s) (shaped_turns q source ids o.state)
+
+  shaped_retire_all : (n : ℕ) → Shaped (retire_all n)
+  shaped_retire_all n s = shaped_then (each (retire n) (ids_on n s) s) (on n (λ c. nothing_here (go_offline c))) s
+      (shaped_each (retire n) (λ id t. shaped_ended n (take_here n id) (taken n id) (cyclic_of id (cpu_of n t)) t) (ids_on n s) s)
+      (λ t. none t.admissions)
+
+  shaped_last : (b : Bool) (step n : ℕ) (o : Outcome) (a : ℕ) → P o.acts a o.state.admissions
+      → P (last_part b step n o).acts a (last_part b step n o).state.admissions
+  shaped_last true step n o a h = h
+  shaped_last false step n o a h =
+      app o.acts (retire_all n o.state).acts a o.state.admissions (retire_all n o.state).state.admissions h
+      (shaped_retire_all n o.state)
+
+  shaped_leaving : (q : Questions) (step n : ℕ) (ids : List ℕ) (j : Juggled) (a : ℕ)
+      → P j.outcome.acts a j.outcome.state.admissions
+      → P (leaving q step n ids j).acts a (leaving q step n ids j).state.admissions
+  shaped_leaving q step n (id ∷ ids) j a h = h
+  shaped_leaving q step n [] j a h = shaped_last (any_pending q n (ids_on n j.outcome.state) j.outcome.state) step n j.outcome a h
+
+  shaped_return : (n : ℕ) (p : Placed) → Shaped (return_of indexes n p)
+  shaped_return n p s = by p.place
+    where
+      by : (place : Place) → P (return_at indexes n p.id place s).acts s.admissions
+          (return_at indexes n p.id place s).state.admissions
+      by (On m bound) = none s.admissions
+      by (OnAll e) = admit n p.id s.admissions e.level
+
+  pub shaped_does : (q : Questions) (texts : List (List ℕ)) (step : ℕ) (x : Step) (s : State) → IsNoFire x
+      → P (does q texts indexes step x s).acts s.admissions (does q texts indexes step x s).state.admissions
+  shaped_does q texts step (Add a) s is = shaped_enter (destination None s) (added a s)
+      (given a.name (On (destination None s) false) s)
+  shaped_does q texts step (Omni a) s is =
+      shaped_each (λ n t. enter indexes n (component (s.last_id + 1) n (everywhere a) t.clock) t)
+      (λ n t. shaped_enter n (component (s.last_id + 1) n (everywhere a) t.clock) t) (online_cpus s)
+      (given a.name (OnAll (everywhere a)) s)
+  shaped_does q texts step (Bind b) s is = shaped_bind (id_of b.name s) b.cpu s
+  shaped_does q texts step (Unbind name) s is = none s.admissions
+  shaped_does q texts step (Reprogram r) s is = none s.admissions
+  shaped_does q texts step (Remove name) s is =
+      let id = id_of name s in let o = each (begin q id) (cpus_with id s) s in
+      shaped_begun q step (text_in texts name) id (cpus_with id o.state) o s.admissions
+      (shaped_each (begin q id) (shaped_begin q id) (cpus_with id s) s)
+  shaped_does q texts step (Advance now) s is = absurd is
+  shaped_does q texts step (Softint i) s is =
+      let t = (interrupt step i s).state in
+      app (interrupt step i s).acts (each (poll_id q texts step) (leaving_ids t) t).acts s.admissions s.admissions
+      (each (poll_id q texts step) (leaving_ids t) t).state.admissions
+      (calm (serve i.cpu i.level i.budget (level_at i.level (cpu_of i.cpu s))).acts s.admissions
+      (acts_of_serve IsIdle tt tt tt i.cpu i.level i.budget (level_at i.level (cpu_of i.cpu s))))
+      (shaped_each (poll_id q texts step) (shaped_poll_id q texts step) (leaving_ids t) t)
+  shaped_does q texts step (Juggle n) s is = shaped_turns q n (single_ids n s) s
+  shaped_does q texts step (Offline n) s is =
+      shaped_leaving q step n (single_ids n (juggled q indexes n s).outcome.state) (juggled q indexes n s) s.admissions
+      (shaped_turns q n (single_ids n s) s)
+  shaped_does q texts step (Online n) s is =
+      shaped_then (on n (widen_here n (length (staying s))) s)
+      (λ t. followed_by (each (return_of indexes n) (staying s) t) (on n (λ c. nothing_here (go_online c)))) s
+      (widened n (length (staying s)) (cpu_of n s) s.admissions)
+      (λ t. shaped_then (each (return_of indexes n) (staying s) t) (on n (λ c. nothing_here (go_online c))) t
+      (shaped_each (return_of indexes n) (shaped_return n) (staying s) t) (λ u. none u.admissions))
