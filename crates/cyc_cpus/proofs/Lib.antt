@@ -1,0 +1,5 @@
+pub mod Choices
+pub mod Spots
+pub mod Shifts
+pub mod Rounds
+pub mod Rooms

@@ -1,0 +1,4 @@
+pub mod Cpus
+pub mod Destination
+pub mod Shifting
+pub mod Reserving

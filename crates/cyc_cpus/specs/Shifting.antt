@@ -1,0 +1,41 @@
+-- One cyclic goes from a CPU to another (`cyclic_juggle_one_to`).
+use Rattle.std.specs.Prelude.{◌≡◌, ℕ, ◌<◌, List, [], ◌∷◌, ◌⊎◌, Option, Some, None, Result, Ok, Err}
+use Rattle.cyc_types.specs.Firing.{FiringView, FiringCall}
+use Rattle.cyc_types.specs.declared.refusal.Refusal.{Refusal}
+use Rattle.cyc_types.specs.declared.refusal.Refusal.TheVariants.{Busy, Pending}
+use Rattle.cyc_cpu.specs.declared.moving.Taken.{Taken}
+use Rattle.cyc_cpu.specs.Cpu.{CpuView, seen_at}
+use Rattle.cyc_cpu.specs.Removal.{HasCyclic}
+use Rattle.cyc_cpu.specs.Calls.{AskPending, Reserve, TakeNow, Widen, Place}
+use Rattle.cyc_cpus.specs.Cpus.{CpusView, IsCpu, CallOn, on, Works}
+
+-- the removal that is open on this CPU
+abbrev pub HasRemoval : {R : Type 0} → ℕ → Option ℕ → CpusView R → Type 0
+HasRemoval {R} n removal v = (cpu : CpuView R) × IsCpu n cpu v × (cpu.removal ≡ removal)
+
+-- a cyclic of this CPU can leave at once: no removal is open, and its load found no call outstanding
+pub record MayLeave {R : Type 0} (view : R → FiringView) (id : ℕ) (cpu : CpuView R) : Type 0 where
+  pub here : HasCyclic id cpu.cyclics
+  pub still : cpu.removal ≡ None
+  pub quiet : seen_at view id cpu ≡ 0
+
+-- the calls of a move: all that can be refused comes before the cyclic leaves
+abbrev pub moving : ℕ → ℕ → ℕ → Taken → List CallOn
+moving id source target taken =
+    on source (AskPending id (Some 0)) ∷ on target (Reserve 1 (Ok tt)) ∷ on source (TakeNow id (Ok taken)) ∷ on target (Widen 1)
+    ∷ on target (Place id taken.level taken.interval taken.moment taken.sent) ∷ []
+
+-- Why it doesn't: a removal is open at the source; then calls of it are outstanding; then the target has no room.
+abbrev pub WhyNotShifted : {R : Type 0} → (R → FiringCall → R → Type 0) → (R → FiringView) → ℕ → ℕ → ℕ → Refusal → CpusView R
+    → CpusView R → Type 0
+WhyNotShifted step view id source target e v w =
+    ((removed : ℕ) × HasRemoval source (Some removed) v × (e ≡ Busy removed) × (w ≡ v))
+    ⊎ (HasRemoval source None v × (n : ℕ) × (0 < n) × (e ≡ Pending)
+    × Works step view (on source (AskPending id (Some n)) ∷ []) v w)
+    ⊎ (HasRemoval source None v × Works step view (on source (AskPending id (Some 0)) ∷ on target (Reserve 1 (Err e)) ∷ []) v w)
+
+-- the cyclic goes with all that its CPU has of it, or stays
+abbrev pub Shifts : {R : Type 0} → (R → FiringCall → R → Type 0) → (R → FiringView) → ℕ → ℕ → ℕ → Result (Unit {0}) Refusal
+    → CpusView R → CpusView R → Type 0
+Shifts step view id source target (Ok done) v w = (taken : Taken) × Works step view (moving id source target taken) v w
+Shifts step view id source target (Err e) v w = WhyNotShifted step view id source target e v w

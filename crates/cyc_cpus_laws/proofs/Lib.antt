@@ -1,0 +1,9 @@
+pub mod Best
+pub mod Seen
+pub mod Quiet
+pub mod Settled
+pub mod Moves
+pub mod Refusing
+pub mod Calm
+pub mod Nowhere
+pub mod Lowering

@@ -1,0 +1,22 @@
+use Rattle.cyc_cpu.specs.Soft.{fires, firing_at, Interrupts}
+use Rattle.cyc_cpu_laws.proofs.Softs.{interrupts_size, interrupts_settle}
+use Rattle.cyc_cpus_laws.proofs.Settled.{settled_there, grows_there, at_once}
+use Rattle.cyc_cpus_laws.proofs.settling.settling_core_law.Goals as goal
+
+pub returns-clause-stays : goal.returns-clause-stays
+returns-clause-stays g c =
+    let called = g.C.Calls.called in let count = g.C.Calls.count in let may_refuse = g.C.Calls.may_refuse in
+    settled_there fires firing_at called count may_refuse (Interrupts called count may_refuse)
+    (interrupts_size called count may_refuse) (interrupts_settle called count may_refuse)
+
+pub returns-clause-grows : goal.returns-clause-grows
+returns-clause-grows g c =
+    let called = g.C.Calls.called in let count = g.C.Calls.count in let may_refuse = g.C.Calls.may_refuse in
+    grows_there fires firing_at called count may_refuse (Interrupts called count may_refuse)
+    (interrupts_size called count may_refuse) (interrupts_settle called count may_refuse)
+
+pub returns-clause-at_once : goal.returns-clause-at_once
+returns-clause-at_once g c =
+    let called = g.C.Calls.called in let count = g.C.Calls.count in let may_refuse = g.C.Calls.may_refuse in
+    at_once fires firing_at called count may_refuse (Interrupts called count may_refuse)
+    (interrupts_size called count may_refuse) (interrupts_settle called count may_refuse)

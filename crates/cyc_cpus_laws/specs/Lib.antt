@@ -1,0 +1,4 @@
+pub mod Destinations
+pub mod Gone
+pub mod Moved
+pub mod Runs

@@ -1,0 +1,155 @@
+ghost use Rattle.std.specs.Prelude.{◌≡◌, ℕ, ◌+◌, ◌<◌, ◌≤◌, ◌^◌, ◌++◌, ◌∷◌, [], All, length, slice_set, remove, Some, None, OnOk, OnErr, IfErr, IfNone, IfSome};
+ghost use Rattle.std.specs.List.{slice_get};
+ghost use Rattle.cyc_types.specs.declared.refusal.Refusal.TheVariants.{Memory};
+ghost use Rattle.cyc_places.specs.Places.{RecordsView, IsRecord, HasNoRecord, new_record, with_place, with_ended, ended_on, summed, no_counts, HasRisingIds, HaveCounts, IsReceiptOf};
+
+use crate::record::{CPUS, Place, Record};
+use cyc_finder::search;
+use cyc_types::{CyclicId, Level, Receipt, Refusal, Sent};
+use std::alloc::Global;
+use std::marker::Model;
+
+/// The records by rising id. A look-up takes O(log n), and nothing but `reserve` takes memory.
+#[derive(Drop)]
+pub struct Records {
+    list: Vec<Record>,
+}
+
+impl Model for Records {
+    ghost use Rattle.std.specs.Prelude.{vec_capacity};
+    ghost use Rattle.cyc_places.specs.Places.{RecordsView, HasRisingIds, HaveCounts};
+
+    ghost Value = { RecordsView };
+
+    ghost view = { λ r. record { list = r.list.items; room = vec_capacity r.list } };
+
+    ghost invariant = { λ r. HasRisingIds r.list.items × HaveCounts r.list.items };
+}
+
+impl Records {
+    /// No record.
+    pub fn new(alloc: Global) -> Records
+        ensures { result.list ≡ [] }
+    {
+        Records {
+            list: Vec::new(alloc),
+        }
+    }
+
+    /// Takes the memory of one more record, so that the next `push` takes none. Refuses with Memory alone.
+    pub fn reserve(&mut self) -> Result<(), Refusal>
+        ensures list { self.new.list ≡ self.old.list }
+        ensures ok { OnOk result (length self.new.list < self.new.room) }
+        ensures err { IfErr result (λ refusal. refusal ≡ Memory) }
+    {
+        self.list.reserve(1)?;
+        Ok(())
+    }
+
+    /// Puts in a record, with no ended stay, behind the others, whose ids are smaller. Takes no memory.
+    pub fn push(&mut self, id: CyclicId, level: Level, place: Place)
+        requires last { All (λ r. r.id < id) self.old.list }
+        requires reserved { length self.old.list < self.old.room }
+        ensures { self.new.list ≡ self.old.list ++ new_record id level place ∷ [] }
+    {
+        let pushed = self.list.push(Record {
+            id,
+            level,
+            place,
+            ended: [Sent { sent: 0, lost: 0 }; CPUS],
+        });
+        prove!(pushed.is_ok());
+    }
+
+    /// How many records there are.
+    pub fn len(&self) -> usize
+        ensures { result ≡ length self.now.list }
+    {
+        self.list.len()
+    }
+
+    /// The place of the record of this id. None where it has none. O(log n).
+    pub fn find(&self, id: CyclicId) -> Option<usize>
+        ensures none { IfNone result (HasNoRecord id self.now.list) }
+        ensures some { IfSome result (λ k. (r : Record) × IsRecord self.now.list k r × (r.id ≡ id)) }
+    {
+        search(&self.list, id).ok()
+    }
+
+    /// The record at a place.
+    pub fn at(&self, place: usize) -> &Record
+        requires { place < length self.now.list }
+        ensures { IsRecord self.now.list place result.now }
+    {
+        &self.list[place]
+    }
+
+    /// The cyclic of this record is now there.
+    pub fn set_place(&mut self, place: usize, there: Place)
+        requires { place < length self.old.list }
+        ensures { (r : Record) → IsRecord self.old.list place r → self.new.list ≡ slice_set self.old.list place (with_place there r) }
+    {
+        self.list[place].place = there;
+    }
+
+    /// A stay of the cyclic has ended on the CPU of this number with these counts.
+    pub fn add_ended(&mut self, place: usize, cpu: usize, counts: Sent)
+        requires here { place < length self.old.list }
+        requires cpu { cpu < CPUS }
+        requires counted { counts.lost ≤ counts.sent }
+        requires fits { (r : Record) → IsRecord self.old.list place r → ((ended_on cpu r).sent + counts.sent < 2 ^ 64) × ((ended_on cpu r).lost + counts.lost < 2 ^ 64) }
+        ensures { (r : Record) → IsRecord self.old.list place r
+            → self.new.list ≡ slice_set self.old.list place (with_ended cpu (summed (ended_on cpu r) counts) r) }
+    {
+        let record = &mut self.list[place];
+        let ended = record.ended[cpu];
+        record.ended[cpu] = Sent {
+            sent: ended.sent + counts.sent,
+            lost: ended.lost + counts.lost,
+        };
+    }
+
+    /// A stay of the cyclic begins on the CPU of this number, and takes on the counts that earlier ones left there, which it
+    /// gives.
+    pub fn take_ended(&mut self, place: usize, cpu: usize) -> Sent
+        requires here { place < length self.old.list }
+        requires cpu { cpu < CPUS }
+        ensures counts { (r : Record) → IsRecord self.old.list place r → result ≡ ended_on cpu r }
+        ensures list { (r : Record) → IsRecord self.old.list place r → self.new.list ≡ slice_set self.old.list place (with_ended cpu no_counts r) }
+    {
+        let record = &mut self.list[place];
+        let counts = record.ended[cpu];
+        record.ended[cpu] = Sent { sent: 0, lost: 0 };
+        counts
+    }
+
+    /// The removal of the cyclic has answered: its record goes. O(n) for the records above it.
+    pub fn remove(&mut self, place: usize)
+        requires { place < length self.old.list }
+        ensures { self.new.list ≡ remove self.old.list place }
+    {
+        self.list.remove(place);
+    }
+
+    /// The receipt of a cyclic all of whose stays have ended: the counts of all of them.
+    pub fn receipt(&self, place: usize) -> Receipt
+        requires { place < length self.now.list }
+        ensures { (r : Record) → IsRecord self.now.list place r → IsReceiptOf result r }
+    {
+        let record = &self.list[place];
+        Receipt {
+            id: record.id,
+            sent: record.ended_sent(),
+            lost: record.ended_lost(),
+        }
+    }
+
+    /// What is true of the records at any time: their ids rise, and of each it is known for 16 CPUs what its ended stays left. It
+    /// does nothing when it runs.
+    pub fn law(&self)
+        ensures rising { HasRisingIds self.now.list }
+        ensures counts { HaveCounts self.now.list }
+    {
+        let _ = self.list.len();
+    }
+}

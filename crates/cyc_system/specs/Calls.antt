@@ -1,0 +1,83 @@
+-- All that can happen to a system: its calls, each with its answer, and what each of them does.
+use Rattle.std.specs.Prelude.{◌≡◌, ℕ, [], ◌∷◌, Option, Some, None, Result, Ok, Err}
+use Rattle.cyc_types.specs.Firing.{FiringView, FiringCall}
+use Rattle.cyc_types.specs.declared.level.Level.{Level}
+use Rattle.cyc_types.specs.declared.level.Soft.{Soft}
+use Rattle.cyc_types.specs.declared.moment.When.{When}
+use Rattle.cyc_types.specs.declared.refusal.Refusal.{Refusal}
+use Rattle.cyc_soft.specs.declared.Ran.{Ran}
+use Rattle.cyc_soft.specs.declared.SoftRefused.{SoftRefused}
+use Rattle.cyc_model.specs.Refusals.{bad_now}
+use Rattle.cyc_fire.specs.declared.fire.Fired.{Fired}
+use Rattle.cyc_fire.specs.declared.fire.FireRefused.{FireRefused}
+use Rattle.cyc_cpu.specs.Cpu.{Running}
+use Rattle.cyc_cpu.specs.Calls.{Reprogram as CpuReprogram, Fire, SoftInterrupt as CpuSoftInterrupt}
+use Rattle.cyc_cpus.specs.Cpus.{on, running_cpus, RunsAt}
+use Rattle.cyc_system.specs.declared.interrupting.SoftFault.{SoftFault}
+use Rattle.cyc_system.specs.declared.interrupting.SoftFault.TheVariants.{Refused}
+use Rattle.cyc_system.specs.declared.interrupting.SoftFault.TheVariants as fault
+use Rattle.cyc_system.specs.System.{SystemView, RunningSystem}
+use Rattle.cyc_system.specs.Refusals.{Unless, ids_spent, no_cyclic, omnipresent, no_cpu, offline_cpu, no_component}
+use Rattle.cyc_system.specs.Adding.{OnlyWorks, Adds}
+use Rattle.cyc_system.specs.Binding.{HasHome, Unbinds, Binds}
+
+-- the calls on a system that can change anything, each with its parameters and its answer
+pub data SystemCall : Type 0 where
+  Add : Level → When → ℕ → Result ℕ Refusal → SystemCall
+  Bind : ℕ → Option ℕ → Result (Unit {0}) Refusal → SystemCall
+  Reprogram : ℕ → ℕ → Result (Unit {0}) Refusal → SystemCall
+  ReprogramOn : ℕ → ℕ → ℕ → Result (Unit {0}) Refusal → SystemCall
+  FireOne : ℕ → ℕ → Result Fired FireRefused → SystemCall
+  SoftInterrupt : ℕ → Soft → ℕ → Result Ran SoftFault → SystemCall
+
+-- the cyclic's CPU gave it another moment, and nothing else changed
+abbrev pub Reprograms : {R : Type 0} → (R → FiringCall → R → Type 0) → (R → FiringView)
+    → ℕ → ℕ → ℕ → Result (Unit {0}) Refusal → SystemView R → SystemView R → Type 0
+Reprograms step view id n moment answer s t =
+    (answer ≡ Ok tt) × OnlyWorks step view (on n (CpuReprogram id moment (Ok tt)) ∷ []) s t
+
+-- what a call does that reaches no handler: first the reasons for which it is refused, in their order
+abbrev pub Changes : {R : Type 0} → (R → FiringCall → R → Type 0) → (R → FiringView)
+    → SystemView R → SystemCall → SystemView R → Type 0
+Changes step view s (Add level when now answer) t =
+    Unless (bad_now now ∷ ids_spent s ∷ []) (λ e. Err e) answer s t (Adds step view level when now answer s t)
+Changes step view s (Bind id None answer) t =
+    Unless (no_cyclic id s ∷ omnipresent id s ∷ []) (λ e. Err e) answer s t (Unbinds id answer s t)
+Changes step view s (Bind id (Some n) answer) t =
+    Unless (no_cyclic id s ∷ omnipresent id s ∷ no_cpu n s ∷ offline_cpu n s ∷ []) (λ e. Err e) answer s t
+    (Binds step view id n answer s t)
+Changes step view s (Reprogram id moment answer) t = Unless (no_cyclic id s ∷ omnipresent id s ∷ []) (λ e. Err e) answer s t
+    ((n : ℕ) × HasHome id n s × Reprograms step view id n moment answer s t)
+Changes step view s (ReprogramOn id n moment answer) t =
+    Unless (no_cyclic id s ∷ no_cpu n s ∷ offline_cpu n s ∷ no_component id n s ∷ []) (λ e. Err e) answer s t
+    (Reprograms step view id n moment answer s t)
+Changes step view s (FireOne n now answer) t = ⊥
+Changes step view s (SoftInterrupt n level budget answer) t = ⊥
+
+-- a fire is refused for this reason, before its first expiration
+abbrev pub no_fire : Refusal → FireRefused
+no_fire e = record { why = e; expired = 0; lost = 0 }
+
+-- what a system answers where the CPU answered this
+abbrev pub of_cpu : Result Ran SoftRefused → Result Ran SoftFault
+of_cpu (Ok ran) = Ok ran
+of_cpu (Err e) = Err (Refused e)
+
+-- What each call does to a system and its handlers. `interrupts` is what a soft interrupt does to a CPU, where one thread has
+-- both sides of its levels.
+abbrev pub Does : {C R : Type 0} → (C → ℕ → Level → C → Type 0) → (C → ℕ → ℕ) → (C → ℕ → Type 0)
+    → (R → FiringCall → R → Type 0) → (R → FiringView)
+    → (Soft → ℕ → Result Ran SoftRefused → Running C R → Running C R → Type 0)
+    → RunningSystem C R → SystemCall → RunningSystem C R → Type 0
+Does called count may_refuse step view interrupts s (FireOne n now answer) t =
+    Unless (no_cpu n s.system ∷ offline_cpu n s.system ∷ []) (λ e. Err (no_fire e)) answer s t
+    (RunsAt called count may_refuse step view interrupts (running_cpus s.calls s.system.cpus) (on n (Fire now answer))
+    (running_cpus t.calls t.system.cpus)
+    × (t.system.records ≡ s.system.records) × (t.system.last ≡ s.system.last))
+Does called count may_refuse step view interrupts s (SoftInterrupt n level budget answer) t =
+    Unless (no_cpu n s.system ∷ []) (λ e. Err fault.NoCpu) answer s t
+    ((own : Result Ran SoftRefused) × (answer ≡ of_cpu own)
+    × RunsAt called count may_refuse step view interrupts (running_cpus s.calls s.system.cpus)
+    (on n (CpuSoftInterrupt level budget own)) (running_cpus t.calls t.system.cpus)
+    × (t.system.records ≡ s.system.records) × (t.system.last ≡ s.system.last))
+Does called count may_refuse step view interrupts s call t = Changes step view s.system call t.system × (t.calls ≡ s.calls)

@@ -1,0 +1,74 @@
+ghost use Rattle.std.specs.Prelude.{◌≡◌, ◌<◌, ◌+◌, length, IfNone, IfSome};
+ghost use Rattle.cyc_types.specs.Limits.{last_id};
+ghost use Rattle.cyc_cpu.specs.Cpu.{HasNoCyclic, MayWiden};
+ghost use Rattle.cyc_cpu.specs.Calls.{Reserve};
+ghost use Rattle.cyc_cpus.specs.Cpus.{OfCpu, on, DoesAt, Works};
+ghost use Rattle.cyc_system.specs.Adding.{entering};
+
+use crate::system::System;
+use cyc_cpus::Cpus;
+use cyc_places::Place;
+use cyc_types::{CyclicId, Interval, Level, Moment, Raise, Refusal, Sent, When};
+
+/// A CPU takes the memory of one more cyclic.
+fn reserve_at<R: Raise>(cpus: &mut Cpus<R>, number: u32) -> Result<(), Refusal>
+    requires { number < length cpus.old.cpus }
+    ensures { DoesAt R.step R.view cpus.old (on number (Reserve 1 result)) cpus.new }
+{
+    cpus.cpu_mut(number).reserve(1)
+}
+
+/// A CPU that has the memory grows where it must, and takes a cyclic that has not expired yet (`cyclic_add_here`).
+fn enter<R: Raise>(
+    cpus: &mut Cpus<R>,
+    number: u32,
+    id: CyclicId,
+    level: Level,
+    interval: Interval,
+    moment: Moment,
+)
+    requires number { number < length cpus.old.cpus }
+    requires room { OfCpu number (MayWiden R.view 1) cpus.old }
+    requires absent { OfCpu number (λ cpu. HasNoCyclic id cpu.cyclics) cpus.old }
+    ensures { Works R.step R.view (entering number id level interval moment) cpus.old cpus.new }
+{
+    cpus.cpu_mut(number).widen(1);
+    cpus.cpu_mut(number)
+        .place(id, level, interval, moment, Sent { sent: 0, lost: 0 });
+}
+
+impl<R: Raise> System<R> {
+    ghost use Rattle.cyc_system.specs.Calls.{Changes, Add};
+
+    /// Adds a cyclic, unbound, on the online CPU that has the fewest, and gives its id (`cyclic_add`; the choice is our own).
+    /// Its first expiration is what `when` says at `now`.
+    ///
+    /// Refuses with BadNow where `now` is never, then with IdsSpent where the last id was given. Then as `reserve` of one on
+    /// that CPU: Full, Busy, Expanding, Memory; no other CPU is tried. A refused call spends no id.
+    pub fn add(&mut self, level: Level, when: When, now: Moment) -> Result<CyclicId, Refusal>
+        ensures { Changes R.step R.view self.old (Add level when now result) self.new }
+    {
+        if now.nanoseconds() == Moment::NEVER.nanoseconds() {
+            return Err(Refusal::BadNow);
+        }
+        let Some(id) = CyclicId::new(self.last + 1) else {
+            return Err(Refusal::IdsSpent);
+        };
+        self.cpus.law();
+        let Some(target) = self.cpus.destination(None) else {
+            unreachable!()
+        };
+        reserve_at(&mut self.cpus, target)?;
+        self.records.reserve()?;
+        let interval = when.interval;
+        let first = when.first(now);
+        enter(&mut self.cpus, target, id, level, interval, first);
+        let place = Place::On {
+            cpu: target,
+            bound: false,
+        };
+        self.records.push(id, level, place);
+        self.last = id.number();
+        Ok(id)
+    }
+}

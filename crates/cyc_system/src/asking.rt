@@ -1,0 +1,44 @@
+ghost use Rattle.std.specs.Prelude.{◌≡◌, ◌≤◌, ◌<◌, length, IfNone, IfSome};
+ghost use Rattle.cyc_cpus.specs.Cpus.{OfCpu};
+
+use crate::system::System;
+use cyc_places::Place;
+use cyc_types::{CyclicId, Raise};
+
+/// Where a cyclic is.
+#[derive(Clone, Copy, Debug, PartialEq, Eq)]
+pub enum CpuOrOmni {
+    /// On the CPU of this number.
+    Cpu(u32),
+    /// On every online CPU.
+    Omni,
+}
+
+impl<R: Raise> System<R> {
+    ghost use Rattle.cyc_system.specs.System.{place_of};
+
+    /// How many cyclics the CPU has, with one whose removal is open. None where there is no such CPU.
+    pub fn len(&self, cpu: u32) -> Option<usize>
+        ensures none { IfNone result (length self.now.cpus.cpus ≤ cpu) }
+        ensures some { IfSome result (λ n. cpu < length self.now.cpus.cpus) }
+        ensures value { IfSome result (λ n. OfCpu cpu (λ own. n ≡ length own.cyclics) self.now.cpus) }
+    {
+        if cpu < self.cpus.count() {
+            Some(self.cpus.cpu(cpu).len())
+        } else {
+            None
+        }
+    }
+
+    /// Where the cyclic is. None where the id was not given, and once its removal has answered.
+    pub fn place_of(&self, id: CyclicId) -> Option<CpuOrOmni>
+        ensures { result ≡ place_of id self.now }
+    {
+        self.records.law();
+        let place = self.records.find(id)?;
+        match self.records.at(place).place {
+            Place::On { cpu, bound: _ } => Some(CpuOrOmni::Cpu(cpu)),
+            Place::Everywhere { when: _, skew: _ } => Some(CpuOrOmni::Omni),
+        }
+    }
+}

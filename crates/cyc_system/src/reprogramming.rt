@@ -1,0 +1,83 @@
+ghost use Rattle.std.specs.Prelude.{◌≡◌, ◌≢◌, ◌<◌, ◌&&◌, length, Ok, Some};
+ghost use Rattle.cyc_cpu.specs.Removal.{HasCyclic};
+ghost use Rattle.cyc_cpu.specs.Calls.{Reprogram as CpuReprogram};
+ghost use Rattle.cyc_cpus.specs.Cpus.{OfCpu, on, DoesAt};
+
+use crate::system::System;
+use cyc_cpus::Cpus;
+use cyc_places::Place;
+use cyc_types::{CyclicId, Moment, Raise, Refusal};
+
+/// A cyclic of the CPU gets another next expiration.
+fn reprogram_at<R: Raise>(cpus: &mut Cpus<R>, number: u32, id: CyclicId, moment: Moment)
+    requires number { number < length cpus.old.cpus }
+    requires here { OfCpu number (λ cpu. HasCyclic id cpu.cyclics) cpus.old }
+    requires still { OfCpu number (λ cpu. cpu.removal ≢ Some id) cpus.old }
+    ensures { DoesAt R.step R.view cpus.old (on number (CpuReprogram id moment (Ok tt))) cpus.new }
+{
+    let Ok(()) = cpus.cpu_mut(number).reprogram(id, moment) else {
+        unreachable!()
+    };
+}
+
+impl<R: Raise> System<R> {
+    ghost use Rattle.cyc_places.specs.declared.record.Record.{Record as TheRecord};
+    ghost use Rattle.cyc_system.specs.System.{has, is_omnipresent};
+    ghost use Rattle.cyc_system.specs.Refusals.{IsPresent};
+    ghost use Rattle.cyc_system.specs.Calls.{Changes, Reprogram, ReprogramOn};
+
+    /// Gives the cyclic another next expiration, and changes nothing else (`cyclic_reprogram`).
+    ///
+    /// Refuses with NoCyclic where there is no such cyclic or its removal is open, then with Omnipresent where it has several
+    /// components (our own; `reprogram_on` is for these). Takes no memory.
+    pub fn reprogram(&mut self, id: CyclicId, moment: Moment) -> Result<(), Refusal>
+        ensures { Changes R.step R.view self.old (Reprogram id moment result) self.new }
+    {
+        let Some(place) = self.present(id) else {
+            return Err(Refusal::NoCyclic);
+        };
+        match self.records.at(place).place {
+            Place::On { cpu, bound: _ } => {
+                reprogram_at(&mut self.cpus, cpu, id, moment);
+                Ok(())
+            }
+            Place::Everywhere { when: _, skew: _ } => Err(Refusal::Omnipresent),
+        }
+    }
+
+    /// Gives the component of an omnipresent cyclic on this CPU another next expiration, and changes nothing else
+    /// (`cyclic_reprogram`, which speaks of the CPU that it runs on).
+    ///
+    /// Refuses with NoCyclic where there is no such cyclic or its removal is open, then with NoCpu, then with Offline, then with
+    /// NoCyclic where the cyclic has no component there. Takes no memory.
+    pub fn reprogram_on(&mut self, id: CyclicId, cpu: u32, moment: Moment) -> Result<(), Refusal>
+        ensures { Changes R.step R.view self.old (ReprogramOn id cpu moment result) self.new }
+    {
+        let Some(place) = self.present(id) else {
+            return Err(Refusal::NoCyclic);
+        };
+        if cpu >= self.cpus.count() {
+            return Err(Refusal::NoCpu);
+        }
+        if !self.cpus.is_online(cpu) {
+            return Err(Refusal::Offline);
+        }
+        if !self.has_component(place, id, cpu) {
+            return Err(Refusal::NoCyclic);
+        }
+        reprogram_at(&mut self.cpus, cpu, id, moment);
+        Ok(())
+    }
+
+    /// Whether the cyclic, of which this is the place, is omnipresent and has a component on the CPU.
+    fn has_component(&self, place: usize, id: CyclicId, cpu: u32) -> bool
+        requires number { cpu < length self.now.cpus.cpus }
+        requires present { (r : TheRecord) × IsPresent id place r self.now }
+        ensures { result ≡ (is_omnipresent id self.now && has cpu id self.now.cpus) }
+    {
+        if !self.records.at(place).place.is_everywhere() {
+            return false;
+        }
+        self.cpus.cpu(cpu).has(id)
+    }
+}

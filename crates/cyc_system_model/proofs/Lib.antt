@@ -1,0 +1,11 @@
+mod Lists
+mod Cpus
+mod Asking
+mod Destinations
+mod Entering
+mod Adding
+mod Reprogramming
+mod Replacing
+mod Running
+mod Binding
+mod Keeping

@@ -1,0 +1,110 @@
+//! A cyclic that moves between two CPUs, each over two rings.
+ghost use Rattle.std.specs.Prelude.{◌≡◌, [], IfOk};
+ghost use Rattle.cyc_ring.specs.Ends.{IsRaiseSeatOf, IsDrainSeatOf, raise_trail, end_view};
+ghost use Rattle.cyc_cpu.specs.Cpu.{IsFresh};
+
+use crate::help::{id, two};
+use cyc_ring::{DrainEnd, DrainSeat, RaiseEnd, RaiseSeat, Ring};
+use cyc_soft::Ran;
+use cyc_system::{CpuOrOmni, System};
+use cyc_types::{Ceiling, CyclicId, Level, Moment, Raise, Refusal, Soft, Tally, When};
+use ring_soft::softint;
+use std::alloc::Global;
+use std::process::Abort;
+use std::test::Fail;
+
+/// A new ring of ceiling 2, and its two seats.
+fn open(alloc: Global) -> Result<(Ring, RaiseSeat, DrainSeat), Fail>
+    ensures own { IfOk result (λ r. IsRaiseSeatOf r.0 r.1 × IsDrainSeatOf r.0 r.2) }
+    ensures empty { IfOk result (λ r. raise_trail r.1 ≡ []) }
+{
+    let Some(ceiling) = Ceiling::new(2) else {
+        return Err(Fail::from("a ceiling"));
+    };
+    match Ring::open(alloc, ceiling, 0) {
+        Ok(opened) => Ok(opened),
+        Err(_) => Err(Fail::from("memory")),
+    }
+}
+
+/// The firing end of a new ring.
+fn raise_end<'a>(ring: &'a Ring, seat: RaiseSeat) -> RaiseEnd<'a>
+    requires own { IsRaiseSeatOf ring.now seat }
+    requires empty { raise_trail seat ≡ [] }
+    ensures { IsFresh (end_view result) }
+{
+    RaiseEnd::new(ring, seat)
+}
+
+fn add<R: Raise>(system: &mut System<R>) -> Result<CyclicId, Fail> {
+    let when = When::new(10, 10)?;
+    match system.add(Level::Low, when, Moment::new(0)?) {
+        Ok(id) => Ok(id),
+        Err(refusal) => Err(Fail::from(refusal)),
+    }
+}
+
+/// Fires a CPU: the expirations.
+fn fire<R: Raise>(
+    system: &mut System<R>,
+    tally: &mut Tally,
+    cpu: u32,
+    now: i64,
+) -> Result<u64, Fail> {
+    match system.fire_one(cpu, Moment::new(now)?, tally) {
+        Ok(fired) => Ok(fired.expired),
+        Err(refused) => Err(Fail::from(refused)),
+    }
+}
+
+fn bind<R: Raise>(system: &mut System<R>, id: CyclicId, cpu: u32) -> Result<(), Refusal> {
+    system.bind(id, Some(cpu))
+}
+
+/// The calls of a soft interrupt of the low level.
+fn interrupts(drain: &mut DrainEnd, tally: &mut Tally) -> Result<(u32, bool), Fail> {
+    match softint(drain, tally, Soft::Low, 8) {
+        Ok(Ran { calls, idle }) => Ok((calls, idle)),
+        Err(_) => Err(Fail::from("a handler")),
+    }
+}
+
+fn moves<R: Raise>(
+    rt: &impl Abort,
+    alloc: Global,
+    system: &mut System<R>,
+    first: &mut DrainEnd,
+    second: &mut DrainEnd,
+) -> Result<(), Fail> {
+    let mut tally = Tally::new(alloc, id(1)?, 1, u64::MAX)?;
+    let a = add(system)?;
+    assert_eq!(rt; fire(system, &mut tally, 0, 10)?, 1);
+    assert_eq!(rt; bind(system, a, 1), Err(Refusal::Pending));
+    assert_eq!(rt; interrupts(first, &mut tally)?, (1, true));
+    assert_eq!(rt; bind(system, a, 1), Ok(()));
+    assert_eq!(rt; system.place_of(a), Some(CpuOrOmni::Cpu(1)));
+    assert_eq!(rt; fire(system, &mut tally, 0, 20)?, 0);
+    assert_eq!(rt; fire(system, &mut tally, 1, 20)?, 1);
+    assert_eq!(rt; interrupts(first, &mut tally)?, (0, true));
+    assert_eq!(rt; interrupts(second, &mut tally)?, (1, true));
+    assert_eq!(rt; tally.count(a), Some(2));
+    Ok(())
+}
+
+#[test]
+fn a_cyclic_moves_from_rings_to_rings(rt: HostRuntime) -> Result<(), Fail> {
+    let alloc = rt.alloc();
+    let (lock, lock_seat, _) = open(alloc)?;
+    let (low, low_seat, low_drainer) = open(alloc)?;
+    let (other_lock, other_lock_seat, _) = open(alloc)?;
+    let (other_low, other_low_seat, other_drainer) = open(alloc)?;
+    let mut first = DrainEnd::new(&low, low_drainer);
+    let mut second = DrainEnd::new(&other_low, other_drainer);
+    let one = (raise_end(&lock, lock_seat), raise_end(&low, low_seat));
+    let other = (
+        raise_end(&other_lock, other_lock_seat),
+        raise_end(&other_low, other_low_seat),
+    );
+    let mut system = two(alloc, one, other)?;
+    moves(&rt, alloc, &mut system, &mut first, &mut second)
+}
