@@ -1,0 +1,27 @@
+use Rattle.std.proofs.Common.{subst, ap, to_z-of_z, to_z, of_z, w64, ℤ}
+use Rattle.cyc_cpu.specs.Soft.{fires, firing_at}
+use Rattle.cyclic_c.specs.Border.{Adds}
+use Rattle.cyclic_c.specs.declared.cpu.Cpu.{Cpu}
+use Rattle.cyclic_c.proofs.Passing.{through}
+use Rattle.cyclic_c.proofs.exports.cyclic_add.Goals as goal
+
+abbrev read : ℤ → ℤ
+read z = to_z w64 (of_z w64 z)
+
+pub returns : goal.returns
+returns c =
+    let answer = c.add-answer.result in let new = c.add-answer.new.cpu in let id = c.args.id in let level = c.args.level in
+    let start = c.args.start in let interval = c.args.interval in let now = c.args.now in
+    let old = c.deref_mut.result.now.hard in let same = c.deref_mut.ensures.value in
+    through _ _ _ _ _ _ c.in-Some.ensures.some c.put.ensures (
+      answer,
+      c.number_of_answer.ensures,
+      c.named_in.ensures,
+      (
+        subst (λ (v : Cpu). Adds fires firing_at id level start interval now answer v.hard new) same
+            (subst (λ (z : ℤ). Adds fires firing_at id level start interval z answer old new) (to_z-of_z c.ranges.now)
+            (subst (λ (z : ℤ). Adds fires firing_at id level start z (read now) answer old new) (to_z-of_z c.ranges.interval)
+            (subst (λ (z : ℤ). Adds fires firing_at id level z (read interval) (read now) answer old new) (to_z-of_z c.ranges.start) c.add-answer.ensures))),
+        ap (λ (v : Cpu). record v { hard = new }) same,
+      ),
+    )

@@ -1,0 +1,130 @@
+-- What each export does, with its answer as a number.
+use Rattle.std.specs.Prelude.{◌≡◌, ◌≢◌, ℕ, ◌<◌, ◌⊎◌, pos, ◌<ℤ◌, ℤ, Option, Some, None, Result, Ok, Err, IfSome, IfNone}
+use Rattle.cyc_types.specs.Firing.{FiringView, FiringCall}
+use Rattle.cyc_types.specs.declared.level.Soft.{Soft}
+use Rattle.cyc_types.specs.declared.receipt.Receipt.{Receipt}
+use Rattle.cyc_types.specs.declared.refusal.Refusal.TheVariants as why
+use Rattle.cyc_fire.specs.declared.fire.Fired.{Fired}
+use Rattle.cyc_fire.specs.declared.fire.FireRefused.{FireRefused}
+use Rattle.cyc_cpu.specs.declared.hard.Totals.{Totals}
+use Rattle.cyc_cpu.specs.declared.removing.Removal.{Removal}
+use Rattle.cyclic_c.specs.Numbers.{number_of, answer_of, id_in, soft_named}
+use Rattle.cyclic_c.specs.Opening.{IsNew}
+use Rattle.cyc_expirations.specs.Timers.{earliest}
+use Rattle.cyc_timers.specs.Rows.{timers}
+use Rattle.cyc_core.specs.Tables.{Tables}
+use Rattle.cyc_cpu.specs.Cpu.{CpuView}
+use Rattle.cyc_cpu.specs.Calls.{PollRemove, Changes}
+use Rattle.cyc_cpu.specs.Soft.{end_at, held_at, HasEmptyLists}
+use Rattle.cyc_cpu.specs.declared.removing.Removal.TheVariants.{Done, Kept}
+use Rattle.cyclic_c.specs.Border.{Reprograms, Adds, AsksPending, AsksTotals, BeginsRemoval, Takes, Finishes}
+use Rattle.cyclic_c.specs.Records.{IsFired, IsRefused, IsTotals, IsReceipt}
+use Rattle.cyclic_c.specs.declared.records.CyclicFired.{CyclicFired}
+use Rattle.cyclic_c.specs.declared.records.CyclicTotals.{CyclicTotals}
+use Rattle.cyclic_c.specs.declared.records.CyclicReceipt.{CyclicReceipt}
+use Rattle.cyclic_c.specs.declared.cpu.Cpu.{Cpu}
+use Rattle.cyclic_c.specs.declared.numbers.Denied.{Denied}
+use Rattle.cyclic_c.specs.declared.numbers.Denied.TheVariants.{Misused, Refused}
+
+-- an open: the handle has a new CPU, or is as it was
+abbrev pub Opens : ℕ → ℕ → ℕ → Option Cpu → Option Cpu → Type 0
+Opens ceiling most answer m n = ((answer ≡ 0) × (0 < ceiling) × (0 < most) × (m ≡ None) × (v : Cpu) × (n ≡ Some v) × IsNew ceiling most v)
+    ⊎ ((answer ≡ number_of Misused) × ((m ≢ None) ⊎ (ceiling ≡ 0) ⊎ (most ≡ 0)) × (n ≡ m))
+    ⊎ ((answer ≡ number_of (Refused why.Memory)) × (0 < ceiling) × (0 < most) × (m ≡ None) × (n ≡ None))
+
+-- a close: nothing is left in the handle
+abbrev pub Closes : ℕ → Option Cpu → Option Cpu → Type 0
+Closes answer None n = (answer ≡ number_of Misused) × (n ≡ None)
+Closes answer (Some v) n = (answer ≡ 0) × (n ≡ None)
+
+-- the CPU's own part of a call, which changes nothing else
+abbrev pub OnHard : (CpuView Tables → CpuView Tables → Type 0) → Cpu → Cpu → Type 0
+OnHard made v w = made v.hard w.hard × (w ≡ record v { hard = w.hard })
+
+-- the id that an answer's refusal names
+abbrev pub named_by : {A : Type 0} → Result A Denied → ℕ
+named_by (Ok a) = 0
+named_by (Err e) = id_in e
+
+-- the number that was found, else 0
+abbrev pub found_in : Result ℕ Denied → ℕ
+found_in (Ok n) = n
+found_in (Err e) = 0
+
+-- the counts that were found go out, and else the parameter stays
+abbrev pub WritesTotals : Result Totals Denied → CyclicTotals → CyclicTotals → Type 0
+WritesTotals (Ok t) old new = IsTotals t new
+WritesTotals (Err e) old new = new ≡ old
+
+-- the receipt, or one of no cyclic
+abbrev pub WritesReceipt : Option Receipt → CyclicReceipt → Type 0
+WritesReceipt (Some r) out = IsReceipt r out
+WritesReceipt None out = out.id ≡ 0
+
+-- the calls that a removal waits for
+abbrev pub kept_by : Result Removal Denied → ℕ
+kept_by (Ok (Kept n)) = n
+kept_by (Ok (Done r)) = 0
+kept_by (Err e) = 0
+
+-- the receipt of a removal that was done at once
+abbrev pub IsRemoved : Result Removal Denied → CyclicReceipt → Type 0
+IsRemoved (Ok (Done r)) out = IsReceipt r out
+IsRemoved (Ok (Kept n)) out = out.id ≡ 0
+IsRemoved (Err e) out = out.id ≡ 0
+
+-- the id, or 0 for none
+abbrev pub or_zero : Option ℕ → ℕ
+or_zero (Some id) = id
+or_zero None = 0
+
+-- the calls of a CPU over any firing ends, as part `on` of what a handle owns
+module _ {R X : Type 0} (step : R → FiringCall → R → Type 0) (view : R → FiringView)
+    (on : (CpuView R → CpuView R → Type 0) → X → X → Type 0) where
+  abbrev pub ReprogramsOut : ℕ → ℤ → ℕ → X → X → Type 0
+  ReprogramsOut id moment r v w = (answer : Result (Unit {0}) Denied) × (r ≡ answer_of answer) × on (Reprograms step view id moment answer) v w
+
+  abbrev pub AddsOut : ℕ → ℕ → ℤ → ℤ → ℤ → ℕ → ℕ → X → X → Type 0
+  AddsOut id level start interval now r busy v w =
+      (answer : Result (Unit {0}) Denied) × (r ≡ answer_of answer) × (busy ≡ named_by answer) × on (Adds step view id level start interval now answer) v w
+
+  abbrev pub PendingOut : ℕ → ℕ → ℕ → X → X → Type 0
+  PendingOut id r pending v w = (answer : Result ℕ Denied) × (r ≡ answer_of answer) × (pending ≡ found_in answer) × on (AsksPending step view id answer) v w
+
+  abbrev pub TotalsOut : ℕ → ℕ → CyclicTotals → CyclicTotals → X → X → Type 0
+  TotalsOut id r old new v w = (answer : Result Totals Denied) × (r ≡ answer_of answer) × WritesTotals answer old new × on (AsksTotals step view id answer) v w
+
+  abbrev pub PollsOut : ℕ → CyclicReceipt → X → X → Type 0
+  PollsOut r out v w = (r ≡ 0) × (answer : Option Receipt) × WritesReceipt answer out × on (λ a b. Changes step view a (PollRemove answer) b) v w
+
+  abbrev pub RemovesOut : ℕ → ℕ → ℕ → CyclicReceipt → ℕ → X → X → Type 0
+  RemovesOut id r kept receipt busy v w = (answer : Result Removal Denied) × (r ≡ answer_of answer)
+      × (kept ≡ kept_by answer) × IsRemoved answer receipt × (busy ≡ named_by answer) × on (BeginsRemoval step view id answer) v w
+
+  abbrev pub NextOut : ℕ → ℤ → X → X → Type 0
+  NextOut r moment v w = (r ≡ 0) × on (λ a b. (moment ≡ pos (earliest (timers a.cyclics))) × (b ≡ a)) v w
+
+-- A take: a number that is no soft level is refused; else the id of the call that is next goes out. Where there is one it is in
+-- the hand of its level, and where there is none nothing waits there.
+abbrev pub TakesOut : ℕ → ℕ → ℕ → ℕ → Cpu → Cpu → Type 0
+TakesOut level r old new v w = ((soft_named level ≡ None) × (r ≡ number_of Misused) × (new ≡ old) × (w ≡ v))
+    ⊎ ((soft : Soft) × (soft_named level ≡ Some soft) × (r ≡ 0) × (found : Option ℕ) × (new ≡ or_zero found) × Takes soft found v w
+    × IfSome found (λ id. held_at (end_at soft w.hard) ≡ Some id) × IfNone found (HasEmptyLists (end_at soft w.hard)))
+
+abbrev pub FinishesOut : ℕ → ℕ → Cpu → Cpu → Type 0
+FinishesOut level r v w = ((soft_named level ≡ None) × (r ≡ number_of Misused) × (w ≡ v))
+    ⊎ ((soft : Soft) × (soft_named level ≡ Some soft) × (answer : Result (Unit {0}) Denied) × (r ≡ answer_of answer) × Finishes soft answer v w)
+
+-- the number of a fire's answer
+abbrev pub fire_number : Result Fired FireRefused → ℕ
+fire_number (Ok r) = 0
+fire_number (Err e) = number_of (Refused e.why)
+
+abbrev pub WritesFired : Result Fired FireRefused → CyclicFired → Type 0
+WritesFired (Ok r) out = IsFired r out
+WritesFired (Err e) out = IsRefused e out
+
+-- a fire: a negative moment is refused; else it is a part of a fire of the CPU
+abbrev pub FiresOut : {X : Type 0} → (ℕ → Result Fired FireRefused → X → X → Type 0) → ℤ → ℕ → CyclicFired → CyclicFired → X → X → Type 0
+FiresOut part now r old new v w = ((now <ℤ pos 0) × (r ≡ number_of (Refused why.BadWhen)) × (new ≡ old) × (w ≡ v))
+    ⊎ ((m : ℕ) × (pos m ≡ now) × (answer : Result Fired FireRefused) × (r ≡ fire_number answer) × WritesFired answer new × part m answer v w)

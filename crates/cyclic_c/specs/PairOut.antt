@@ -1,0 +1,60 @@
+-- What the exports of a CPU between threads do.
+use Rattle.std.specs.Prelude.{◌≡◌, ℕ, ◌<◌, ◌⊎◌, Option, Some, None}
+use Rattle.cyc_types.specs.declared.draining.Finished.{Finished}
+use Rattle.cyc_ring.specs.Books.{IsBook, IsFree}
+use Rattle.cyc_ring.specs.declared.closed.Book.{Book}
+use Rattle.cyc_ring.specs.declared.closed.Closed.{Closed}
+use Rattle.cyclic_c.specs.Exports.{or_zero}
+use Rattle.cyclic_c.specs.Pair.{IsNewPair, IsClosedOf, SameRings}
+use Rattle.cyclic_c.specs.Records.{IsBookOut}
+use Rattle.cyclic_c.specs.Seats.{TakesSeat, FinishesSeat}
+use Rattle.cyclic_c.specs.declared.pair.Books.{Books}
+use Rattle.cyclic_c.specs.declared.pair.Firing.{Firing}
+use Rattle.cyclic_c.specs.declared.records.CyclicBook.{CyclicBook}
+use Rattle.cyclic_c.specs.declared.soft_side.SoftSide.{SoftSide}
+
+-- an open for three threads: 0 and three new handles, or nothing was opened; 1 for memory, 64 for what the caller owes
+abbrev pub OpensPair : ℕ → ℕ → ℕ → Option Firing → Option SoftSide → Option SoftSide → Option Firing → Option SoftSide → Option SoftSide → Type 0
+OpensPair ceiling most r f k w f' k' w' =
+    ((r ≡ 0) × (0 < ceiling) × (0 < most) × (f ≡ None) × (k ≡ None) × (w ≡ None)
+    × (hard : Firing) × (lock : SoftSide) × (low : SoftSide) × (f' ≡ Some hard) × (k' ≡ Some lock) × (w' ≡ Some low)
+    × IsNewPair ceiling hard.hard.lock lock × IsNewPair ceiling hard.hard.low low × (hard.hard.most ≡ most) × (hard.high ≡ None))
+    ⊎ (((r ≡ 1) ⊎ (r ≡ 64)) × (f' ≡ f) × (k' ≡ k) × (w' ≡ w))
+
+-- the three handles, where they are open, are of one open
+abbrev pub OneOpen : Option Firing → Option SoftSide → Option SoftSide → Type 0
+OneOpen f k w = (hard : Firing) (lock low : SoftSide) → f ≡ Some hard → k ≡ Some lock → w ≡ Some low → SameRings hard lock low
+
+-- a close: the books of the two rings with the seats that came back; or all are gone and there are no books; or nothing was done
+abbrev pub ClosesPair : ℕ → Option Firing → Option SoftSide → Option SoftSide → Option Books → Option Firing → Option SoftSide → Option SoftSide → Option Books → Type 0
+ClosesPair r f k w b f' k' w' b' =
+    ((r ≡ 0) × (f' ≡ None) × (k' ≡ None) × (w' ≡ None)
+    × (hard : Firing) × (lock : SoftSide) × (low : SoftSide) × (books : Books)
+    × (f ≡ Some hard) × (k ≡ Some lock) × (w ≡ Some low) × (b' ≡ Some books)
+    × IsClosedOf hard.hard.lock.seat lock.seat books.lock × IsClosedOf hard.hard.low.seat low.seat books.low)
+    ⊎ (((r ≡ 1) ⊎ (r ≡ 64)) × (f' ≡ None) × (k' ≡ None) × (w' ≡ None) × (b' ≡ b))
+    ⊎ ((r ≡ 64) × (f' ≡ f) × (k' ≡ k) × (w' ≡ w) × (b' ≡ b))
+
+abbrev pub TakesSoft : ℕ → ℕ → SoftSide → SoftSide → Type 0
+TakesSoft r id v w = (r ≡ 0) × (found : Option ℕ) × (id ≡ or_zero found) × TakesSeat found v.seat w.seat × (w.ring.value ≡ v.ring.value)
+
+-- 0 where a call was counted, 64 where none was in hand
+abbrev pub finish_number : Option Finished → ℕ
+finish_number (Some answer) = 0
+finish_number None = 64
+
+abbrev pub FinishesSoft : ℕ → SoftSide → SoftSide → Type 0
+FinishesSoft r v w = (answer : Option Finished) × (r ≡ finish_number answer) × FinishesSeat answer v.seat w.seat × (w.ring.value ≡ v.ring.value)
+
+-- the book at an index, or one of no cyclic where it is free
+abbrev pub IsBookAt : ℕ → Closed → CyclicBook → Type 0
+IsBookAt index c out = ((b : Book) × IsBook index b c × IsBookOut b out) ⊎ (IsFree index c × (out.id ≡ 0))
+
+abbrev pub BookOut : ℕ → ℕ → ℕ → CyclicBook → CyclicBook → Books → Books → Type 0
+BookOut level index r old new v w = ((r ≡ 64) × ((1 < level) ⊎ (255 < index)) × (new ≡ old) × (w ≡ v))
+    ⊎ ((r ≡ 0) × (w ≡ v) × (index < 256) × (((level ≡ 0) × IsBookAt index v.low new) ⊎ ((level ≡ 1) × IsBookAt index v.lock new)))
+
+-- a handle was given up
+abbrev pub ClosesHandle : {X : Type 0} → ℕ → Option X → Option X → Type 0
+ClosesHandle r None b' = (r ≡ 64) × (b' ≡ None)
+ClosesHandle r (Some b) b' = (r ≡ 0) × (b' ≡ None)

@@ -1,0 +1,212 @@
+ghost use Rattle.std.specs.Prelude.{◌≡◌};
+ghost use Rattle.cyclic_c.specs.Border.{Through};
+ghost use Rattle.cyclic_c.specs.Exports.{ReprogramsOut, AddsOut, PendingOut, TotalsOut, PollsOut, FiresOut, RemovesOut, NextOut};
+ghost use Rattle.cyclic_c.specs.Pair.{held_step, held_view, OnSide, FiresSide};
+
+use crate::asking::{begin_remove, pending_of, reprogram, totals_at};
+use crate::calling::add;
+use crate::exports::{MISUSED, kept_of, named_in, number_of_answer, removed_of};
+use crate::handle_firing::CyclicFiring;
+use crate::records::{
+    CyclicFired, CyclicReceipt, CyclicTotals, fired_of, receipt_of, stopped_of, totals_of,
+};
+use cyc_types::Moment;
+use std::alloc::Global;
+
+/// Adds a cyclic of this id, which no other cyclic here has; `busy` gets the id of an open removal that refused it, else 0.
+#[unsafe(no_mangle)]
+pub extern "C" fn cyclic_firing_add(
+    alloc: Global,
+    firing: &mut CyclicFiring,
+    id: u64,
+    level: u32,
+    start: i64,
+    interval: i64,
+    now: i64,
+    busy: &mut u64,
+) -> u32
+    ensures { Through firing.old.inner.held firing.new.inner.held result (AddsOut held_step held_view OnSide id level start interval now result busy.new) }
+{
+    let Some(mut open) = firing.take(alloc) else {
+        return MISUSED;
+    };
+    let answer = add(&mut open.hard, id, level, start, interval, now);
+    firing.put(open);
+    *busy = named_in(&answer);
+    number_of_answer(&answer)
+}
+
+/// Gives a cyclic another next expiration (`reprogram` of the CPU).
+#[unsafe(no_mangle)]
+pub extern "C" fn cyclic_firing_reprogram(
+    alloc: Global,
+    firing: &mut CyclicFiring,
+    id: u64,
+    moment: i64,
+) -> u32
+    ensures { Through firing.old.inner.held firing.new.inner.held result (ReprogramsOut held_step held_view OnSide id moment result) }
+{
+    let Some(mut open) = firing.take(alloc) else {
+        return MISUSED;
+    };
+    let answer = reprogram(&mut open.hard, id, moment);
+    firing.put(open);
+    number_of_answer(&answer)
+}
+
+/// Begins the removal of a cyclic. Done at once, `receipt` is written and `kept` is 0; else `kept` gets the calls that are
+/// outstanding. Where it is refused `kept` is 0, and `busy` gets the id of the open removal.
+#[unsafe(no_mangle)]
+pub extern "C" fn cyclic_firing_begin_remove(
+    alloc: Global,
+    firing: &mut CyclicFiring,
+    id: u64,
+    kept: &mut u32,
+    receipt: &mut CyclicReceipt,
+    busy: &mut u64,
+) -> u32
+    ensures { Through firing.old.inner.held firing.new.inner.held result (RemovesOut held_step held_view OnSide id result kept.new receipt.new busy.new) }
+{
+    let Some(mut open) = firing.take(alloc) else {
+        return MISUSED;
+    };
+    let answer = begin_remove(&mut open.hard, id);
+    firing.put(open);
+    *kept = kept_of(&answer);
+    *receipt = removed_of(&answer);
+    match answer {
+        Ok(_) => {
+            *busy = 0;
+            0
+        }
+        Err(denied) => {
+            *busy = denied.id();
+            denied.number()
+        }
+    }
+}
+
+/// Ends the open removal where its last call was made, and writes the receipt; else `receipt` gets the id 0.
+#[unsafe(no_mangle)]
+pub extern "C" fn cyclic_firing_poll_remove(
+    alloc: Global,
+    firing: &mut CyclicFiring,
+    receipt: &mut CyclicReceipt,
+) -> u32
+    ensures { Through firing.old.inner.held firing.new.inner.held result (PollsOut held_step held_view OnSide result receipt.new) }
+{
+    let Some(mut open) = firing.take(alloc) else {
+        return MISUSED;
+    };
+    let answer = open.hard.poll_remove();
+    firing.put(open);
+    *receipt = match answer {
+        Some(counts) => receipt_of(counts),
+        None => CyclicReceipt::NONE,
+    };
+    0
+}
+
+/// Makes the expirations that are due, up to the next high one, whose handler the caller is then to call before it goes on with
+/// the same moment.
+#[unsafe(no_mangle)]
+pub extern "C" fn cyclic_firing_fire(
+    alloc: Global,
+    firing: &mut CyclicFiring,
+    now: i64,
+    fired: &mut CyclicFired,
+) -> u32
+    ensures { Through firing.old.inner.held firing.new.inner.held result (FiresOut FiresSide now result fired.old fired.new) }
+{
+    let Some(mut open) = firing.take(alloc) else {
+        return MISUSED;
+    };
+    let moment = match Moment::new(now) {
+        Ok(moment) => moment,
+        Err(_negative) => {
+            firing.put(open);
+            return 2;
+        }
+    };
+    let answer = open.fire(moment);
+    firing.put(open);
+    match answer {
+        Ok(done) => {
+            *fired = fired_of(done);
+            0
+        }
+        Err(refused) => {
+            *fired = stopped_of(refused);
+            u32::from(refused.why.number())
+        }
+    }
+}
+
+/// The calls of the cyclic that are outstanding, 0 where it is refused.
+#[unsafe(no_mangle)]
+pub extern "C" fn cyclic_firing_pending(
+    alloc: Global,
+    firing: &mut CyclicFiring,
+    id: u64,
+    pending: &mut u32,
+) -> u32
+    ensures { Through firing.old.inner.held firing.new.inner.held result (PendingOut held_step held_view OnSide id result pending.new) }
+{
+    let Some(mut open) = firing.take(alloc) else {
+        return MISUSED;
+    };
+    let answer = pending_of(&mut open.hard, id);
+    firing.put(open);
+    match answer {
+        Ok(calls) => {
+            *pending = calls;
+            0
+        }
+        Err(denied) => {
+            *pending = 0;
+            denied.number()
+        }
+    }
+}
+
+/// The counts of the cyclic; `totals` is written where they are there.
+#[unsafe(no_mangle)]
+pub extern "C" fn cyclic_firing_totals(
+    alloc: Global,
+    firing: &mut CyclicFiring,
+    id: u64,
+    totals: &mut CyclicTotals,
+) -> u32
+    ensures { Through firing.old.inner.held firing.new.inner.held result (TotalsOut held_step held_view OnSide id result totals.old totals.new) }
+{
+    let Some(mut open) = firing.take(alloc) else {
+        return MISUSED;
+    };
+    let answer = totals_at(&mut open.hard, id);
+    firing.put(open);
+    match answer {
+        Ok(counts) => {
+            *totals = totals_of(counts);
+            0
+        }
+        Err(denied) => denied.number(),
+    }
+}
+
+/// The least expiration of the CPU, never where there is none.
+#[unsafe(no_mangle)]
+pub extern "C" fn cyclic_firing_next(
+    alloc: Global,
+    firing: &mut CyclicFiring,
+    moment: &mut i64,
+) -> u32
+    ensures { Through firing.old.inner.held firing.new.inner.held result (NextOut held_step held_view OnSide result moment.new) }
+{
+    let Some(open) = firing.take(alloc) else {
+        return MISUSED;
+    };
+    let next = open.hard.next();
+    firing.put(open);
+    *moment = next.nanoseconds() as i64;
+    0
+}

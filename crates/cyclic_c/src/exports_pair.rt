@@ -1,0 +1,191 @@
+ghost use Rattle.std.specs.Prelude.{◌≡◌};
+ghost use Rattle.cyclic_c.specs.Border.{Through};
+ghost use Rattle.cyclic_c.specs.PairOut.{OpensPair, ClosesPair, OneOpen, TakesSoft, FinishesSoft, BookOut, ClosesHandle};
+
+use crate::exports::MISUSED;
+use crate::handle_books::CyclicBooks;
+use crate::handle_firing::CyclicFiring;
+use crate::handle_soft::CyclicSoft;
+use crate::pair::{closed, opened};
+use crate::records::{CyclicBook, book_of};
+use cyc_types::{Ceiling, Index};
+use std::alloc::Global;
+
+/// Opens a CPU with no cyclic for three threads. Refuses with Misused where a handle is open, or `ceiling` or `most` is 0; then
+/// with Memory.
+#[unsafe(no_mangle)]
+pub extern "C" fn cyclic_open(
+    alloc: Global,
+    ceiling: u32,
+    most: u64,
+    firing: &mut CyclicFiring,
+    lock: &mut CyclicSoft,
+    low: &mut CyclicSoft,
+) -> u32
+    ensures { OpensPair ceiling most result firing.old.inner.held lock.old.inner.held low.old.inner.held firing.new.inner.held lock.new.inner.held low.new.inner.held }
+{
+    let Some(ceiling) = Ceiling::new(ceiling) else {
+        return MISUSED;
+    };
+    if most == 0 || firing.open || lock.open || low.open {
+        return MISUSED;
+    }
+    let Ok((hard, lock_soft, low_soft)) = opened(alloc, ceiling, most) else {
+        return 1;
+    };
+    let Ok(hard) = Box::new(alloc, hard) else {
+        return 1;
+    };
+    let Ok(lock_soft) = Box::new(alloc, lock_soft) else {
+        return 1;
+    };
+    let Ok(low_soft) = Box::new(alloc, low_soft) else {
+        return 1;
+    };
+    firing.put(hard);
+    lock.put(lock_soft);
+    low.put(low_soft);
+    0
+}
+
+/// Takes the three handles of one open back, and gives the books. Refuses with Misused where one of them is closed, or the books
+/// are open. Takes memory for the books: where that is refused, or another handle of the same open is about, the CPU is closed
+/// and its books are lost.
+#[unsafe(no_mangle)]
+pub extern "C" fn cyclic_close(
+    alloc: Global,
+    firing: &mut CyclicFiring,
+    lock: &mut CyclicSoft,
+    low: &mut CyclicSoft,
+    books: &mut CyclicBooks,
+) -> u32
+    requires { OneOpen firing.old.inner.held lock.old.inner.held low.old.inner.held }
+    ensures { ClosesPair result firing.old.inner.held lock.old.inner.held low.old.inner.held books.old.inner.held firing.new.inner.held lock.new.inner.held low.new.inner.held books.new.inner.held }
+{
+    if books.open || !firing.open || !lock.open || !low.open {
+        return MISUSED;
+    }
+    let Some(hard) = firing.take(alloc) else {
+        unreachable!()
+    };
+    let Some(lock_soft) = lock.take(alloc) else {
+        unreachable!()
+    };
+    let Some(low_soft) = low.take(alloc) else {
+        unreachable!()
+    };
+    let Some(done) = closed(
+        Box::into_inner(hard),
+        Box::into_inner(lock_soft),
+        Box::into_inner(low_soft),
+    ) else {
+        return MISUSED;
+    };
+    let Ok(done) = Box::new(alloc, done) else {
+        return 1;
+    };
+    books.put(done);
+    0
+}
+
+/// Takes the cyclic whose handler the caller is to call next; `id` gets 0 where no call waits.
+#[unsafe(no_mangle)]
+pub extern "C" fn cyclic_soft_take(alloc: Global, soft: &mut CyclicSoft, id: &mut u64) -> u32
+    ensures { Through soft.old.inner.held soft.new.inner.held result (TakesSoft result id.new) }
+{
+    let Some(mut open) = soft.take(alloc) else {
+        return MISUSED;
+    };
+    let found = open.take();
+    soft.put(open);
+    *id = match found {
+        Some(next) => next.number(),
+        None => 0,
+    };
+    0
+}
+
+/// Counts the call of the cyclic in hand, which the caller has made.
+#[unsafe(no_mangle)]
+pub extern "C" fn cyclic_soft_finish(alloc: Global, soft: &mut CyclicSoft) -> u32
+    ensures { Through soft.old.inner.held soft.new.inner.held result (FinishesSoft result) }
+{
+    let Some(mut open) = soft.take(alloc) else {
+        return MISUSED;
+    };
+    let answer = open.finish();
+    soft.put(open);
+    match answer {
+        Some(_finished) => 0,
+        None => MISUSED,
+    }
+}
+
+/// The book of the cyclic at an index of a soft level, 0 low and 1 lock; its id is 0 where none is. Refuses with Misused where
+/// the level or the index, which is below 256, is none.
+#[unsafe(no_mangle)]
+pub extern "C" fn cyclic_book(
+    alloc: Global,
+    books: &mut CyclicBooks,
+    level: u32,
+    index: u32,
+    book: &mut CyclicBook,
+) -> u32
+    ensures { Through books.old.inner.held books.new.inner.held result (BookOut level index result book.old book.new) }
+{
+    let Some(open) = books.take(alloc) else {
+        return MISUSED;
+    };
+    if level > 1 || index > 255 {
+        books.put(open);
+        return MISUSED;
+    }
+    let Some(index) = Index::new(index as u16) else {
+        unreachable!()
+    };
+    let found = if level == 0 {
+        open.low.book(index)
+    } else {
+        open.lock.book(index)
+    };
+    books.put(open);
+    *book = match found {
+        Some(found) => book_of(found),
+        None => CyclicBook::NONE,
+    };
+    0
+}
+
+/// Gives the memory of the books back. Refuses with Misused where they are closed.
+#[unsafe(no_mangle)]
+pub extern "C" fn cyclic_books_close(alloc: Global, books: &mut CyclicBooks) -> u32
+    ensures { ClosesHandle result books.old.inner.held books.new.inner.held }
+{
+    match books.take(alloc) {
+        Some(_closed) => 0,
+        None => MISUSED,
+    }
+}
+
+/// Gives up a firing side whose CPU is not to be closed: its memory is given back with the last handle of its open. Refuses with
+/// Misused where it is closed.
+#[unsafe(no_mangle)]
+pub extern "C" fn cyclic_firing_drop(alloc: Global, firing: &mut CyclicFiring) -> u32
+    ensures { ClosesHandle result firing.old.inner.held firing.new.inner.held }
+{
+    match firing.take(alloc) {
+        Some(_dropped) => 0,
+        None => MISUSED,
+    }
+}
+
+/// The same of a soft side.
+#[unsafe(no_mangle)]
+pub extern "C" fn cyclic_soft_drop(alloc: Global, soft: &mut CyclicSoft) -> u32
+    ensures { ClosesHandle result soft.old.inner.held soft.new.inner.held }
+{
+    match soft.take(alloc) {
+        Some(_dropped) => 0,
+        None => MISUSED,
+    }
+}

@@ -1,0 +1,50 @@
+ghost use Rattle.std.specs.Prelude.{◌≡◌, Some, None, IsSome, IfSome, IfNone, IsTrue, ◌↔◌};
+
+use crate::loose::Loose;
+use crate::pair::Books;
+use crate::sealed_books::SealedBooks;
+use std::alloc::Global;
+
+/// The books of a closed CPU as a program in C has it, or a closed handle. C copies none of it and changes none of it.
+#[repr(C)]
+#[derive(Drop)]
+pub struct CyclicBooks {
+    pub inner: SealedBooks,
+    pub open: bool,
+    pub ghost told: { IsTrue «open» ↔ IsSome inner.held },
+}
+
+impl CyclicBooks {
+    fn closed() -> CyclicBooks
+        ensures { result.inner.held ≡ None }
+    {
+        CyclicBooks {
+            inner: SealedBooks::none(),
+            open: false,
+        }
+    }
+
+    /// Takes it out of the handle, which is closed meanwhile. None where it is closed.
+    pub(crate) fn take(&mut self, alloc: Global) -> Option<Box<Books>>
+        ensures some { IfSome result (λ cpu. self.old.inner.held ≡ Some cpu.value) }
+        ensures none { IfNone result (self.old.inner.held ≡ None) }
+        ensures closed { self.new.inner.held ≡ None }
+    {
+        let CyclicBooks { inner, open } = std::mem::replace(self, CyclicBooks::closed());
+        if open {
+            Some(inner.into_loose(alloc).into_box())
+        } else {
+            None
+        }
+    }
+
+    /// Puts it into the handle.
+    pub(crate) fn put(&mut self, value: Box<Books>)
+        ensures { self.new.inner.held ≡ Some value.value }
+    {
+        *self = CyclicBooks {
+            inner: SealedBooks::of(Loose::of(value)),
+            open: true,
+        };
+    }
+}

@@ -1,0 +1,50 @@
+ghost use Rattle.std.specs.Prelude.{◌≡◌, Some, None, IsSome, IfSome, IfNone, IsTrue, ◌↔◌};
+
+use crate::loose::Loose;
+use crate::pair::Firing;
+use crate::sealed_firing::SealedFiring;
+use std::alloc::Global;
+
+/// The firing side of a CPU between threads as a program in C has it, or a closed handle. C copies none of it and changes none of it.
+#[repr(C)]
+#[derive(Drop)]
+pub struct CyclicFiring {
+    pub inner: SealedFiring,
+    pub open: bool,
+    pub ghost told: { IsTrue «open» ↔ IsSome inner.held },
+}
+
+impl CyclicFiring {
+    fn closed() -> CyclicFiring
+        ensures { result.inner.held ≡ None }
+    {
+        CyclicFiring {
+            inner: SealedFiring::none(),
+            open: false,
+        }
+    }
+
+    /// Takes it out of the handle, which is closed meanwhile. None where it is closed.
+    pub(crate) fn take(&mut self, alloc: Global) -> Option<Box<Firing>>
+        ensures some { IfSome result (λ cpu. self.old.inner.held ≡ Some cpu.value) }
+        ensures none { IfNone result (self.old.inner.held ≡ None) }
+        ensures closed { self.new.inner.held ≡ None }
+    {
+        let CyclicFiring { inner, open } = std::mem::replace(self, CyclicFiring::closed());
+        if open {
+            Some(inner.into_loose(alloc).into_box())
+        } else {
+            None
+        }
+    }
+
+    /// Puts it into the handle.
+    pub(crate) fn put(&mut self, value: Box<Firing>)
+        ensures { self.new.inner.held ≡ Some value.value }
+    {
+        *self = CyclicFiring {
+            inner: SealedFiring::of(Loose::of(value)),
+            open: true,
+        };
+    }
+}

@@ -1,0 +1,48 @@
+ghost use Rattle.std.specs.Prelude.{◌≡◌, Option, Some, None, IsSome};
+ghost use Rattle.cyclic_c.specs.Owns.{owned};
+ghost use Rattle.cyclic_c.specs.declared.pair.Books.{Books};
+ghost use Rattle.cyclic_c.specs.contracts.pair.Books as inner;
+
+use crate::loose::Loose;
+use crate::pair::Books;
+use std::alloc::Global;
+use std::marker::Model;
+use std::ptr::null_mut;
+
+/// The boxed books of a CPU, or none, as a pointer whose type nobody sees.
+#[repr(C)]
+#[derive(Drop)]
+pub struct SealedBooks {
+    at: *mut u8,
+    pub ghost held: { Option Books },
+}
+
+impl Model for SealedBooks {
+    ghost also_owns = { λ h. owned inner.the_row h.at h.held };
+}
+
+impl SealedBooks {
+    pub(crate) fn of(loose: Loose<Books, Global>) -> SealedBooks
+        ensures { result.held ≡ Some loose.value }
+    {
+        let Loose { at, alloc: _ } = loose;
+        SealedBooks { at: at as *mut u8 }
+    }
+
+    pub(crate) fn into_loose(self, alloc: Global) -> Loose<Books, Global>
+        requires { IsSome self.held }
+        ensures { self.held ≡ Some result.value }
+    {
+        let SealedBooks { at } = self;
+        Loose {
+            at: at as *mut Books,
+            alloc,
+        }
+    }
+
+    pub(crate) fn none() -> SealedBooks
+        ensures { result.held ≡ None }
+    {
+        SealedBooks { at: null_mut() }
+    }
+}

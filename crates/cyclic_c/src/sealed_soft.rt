@@ -1,0 +1,48 @@
+ghost use Rattle.std.specs.Prelude.{◌≡◌, Option, Some, None, IsSome};
+ghost use Rattle.cyclic_c.specs.Owns.{owned};
+ghost use Rattle.cyclic_c.specs.declared.soft_side.SoftSide.{SoftSide};
+ghost use Rattle.cyclic_c.specs.contracts.soft_side.SoftSide as inner;
+
+use crate::loose::Loose;
+use crate::soft_side::SoftSide;
+use std::alloc::Global;
+use std::marker::Model;
+use std::ptr::null_mut;
+
+/// A boxed soft side, or none, as a pointer whose type nobody sees.
+#[repr(C)]
+#[derive(Drop)]
+pub struct SealedSoft {
+    at: *mut u8,
+    pub ghost held: { Option SoftSide },
+}
+
+impl Model for SealedSoft {
+    ghost also_owns = { λ h. owned inner.the_row h.at h.held };
+}
+
+impl SealedSoft {
+    pub(crate) fn of(loose: Loose<SoftSide, Global>) -> SealedSoft
+        ensures { result.held ≡ Some loose.value }
+    {
+        let Loose { at, alloc: _ } = loose;
+        SealedSoft { at: at as *mut u8 }
+    }
+
+    pub(crate) fn into_loose(self, alloc: Global) -> Loose<SoftSide, Global>
+        requires { IsSome self.held }
+        ensures { self.held ≡ Some result.value }
+    {
+        let SealedSoft { at } = self;
+        Loose {
+            at: at as *mut SoftSide,
+            alloc,
+        }
+    }
+
+    pub(crate) fn none() -> SealedSoft
+        ensures { result.held ≡ None }
+    {
+        SealedSoft { at: null_mut() }
+    }
+}

@@ -1,0 +1,268 @@
+/*
+ * cyclic.h: the proved cyclic subsystem for programs in C and C++.
+ *
+ * Interval timers of one CPU, as in the illumos kernel: each cyclic expires from a start on, once an interval. At high level its
+ * handler is called as it expires. At the two soft levels its pend is raised, and a soft interrupt makes the calls afterwards.
+ *
+ * What stays proved on this side of the border: each function below answers and changes what its text here says; a call is never
+ * doubled and never lost uncounted; and once a removal has answered, no call of its cyclic is handed out. The proof speaks of
+ * this library's code. What the caller owes is said at each function; nothing checks it. The sentences that hold for all:
+ *
+ *   - A pointer is never null, and points to a value of its type that no other thread uses meanwhile.
+ *   - A handle is used by one thread at a time, and never copied. Only this library writes its fields.
+ *   - The program has malloc, realloc and free from one allocator, and links the file heap.c of the Rattle kit's libc (see
+ *     docs/embedding.md). No function here is called from a signal handler, or in the forked child of a process with threads.
+ *
+ * Moments and intervals are nanoseconds, from 0 to CYCLIC_NEVER, on any clock that never goes back. An id is a number that the
+ * caller gives to a cyclic, from 1 to CYCLIC_LAST_ID: as a place in its own table of handlers. It is the caller's to give
+ * no id twice.
+ *
+ * No function here calls a handler, waits or takes a lock; those that take memory say so. Every one answers 0 where it is done,
+ * and else the number of its refusal. A refused call changes nothing, where its text says nothing else.
+ */
+#ifndef CYCLIC_H
+#define CYCLIC_H
+
+#include <stdbool.h>
+#include <stdint.h>
+
+#ifdef __cplusplus
+extern "C" {
+#endif
+
+/* The refusals. */
+#define CYCLIC_MEMORY 1u          /* a growth of memory was refused */
+#define CYCLIC_BAD_WHEN 2u        /* a start or a moment is negative */
+#define CYCLIC_BAD_INTERVAL 3u    /* an interval is below 1 */
+#define CYCLIC_BAD_NOW 4u         /* the moment of a fire or an add is CYCLIC_NEVER */
+#define CYCLIC_FULL 5u            /* the CPU holds 256 cyclics */
+#define CYCLIC_EXPANDING 6u       /* a soft level has not followed the last doubling: take from both until they are idle */
+#define CYCLIC_BUSY 7u            /* a removal is open: poll it until it answers */
+#define CYCLIC_NO_CYCLIC 8u       /* there is no such cyclic, or its removal is open */
+#define CYCLIC_COUNT_SPENT 11u    /* the cyclic has expired as often as it may */
+#define CYCLIC_HANDLER_REFUSED 12u /* the handler of a cyclic is to be called: see cyclic_fire */
+#define CYCLIC_MISUSED 64u        /* the handle is closed or open where it should not be, an argument is out of its range, or
+                                     the call is out of turn */
+#define CYCLIC_TAKEN 65u          /* a cyclic here has this id */
+
+/* The moment that is never due (CY_INFINITY of sys/cyclic.h). As an interval it makes a one-shot. */
+#define CYCLIC_NEVER INT64_MAX
+/* The greatest id. */
+#define CYCLIC_LAST_ID ((UINT64_C(1) << 56) - 1)
+
+/* The levels (CY_LOW_LEVEL, CY_LOCK_LEVEL and CY_HIGH_LEVEL of sys/cyclic.h). The first two are the soft levels. */
+#define CYCLIC_LOW 0u
+#define CYCLIC_LOCK 1u
+#define CYCLIC_HIGH 2u
+
+/* A CPU. It begins as CYCLIC_CLOSED; its fields are the library's. */
+typedef struct cyclic_cpu {
+    void *held;
+    bool open;
+} cyclic_cpu;
+
+#define CYCLIC_CLOSED { 0, false }
+
+/* What a fire did. */
+typedef struct cyclic_fired {
+    uint64_t expired; /* the expirations that this call has made */
+    uint64_t lost;    /* those of them that were lost at the ceiling, and counted */
+    int64_t next;     /* the least expiration from now on, where the fire is done; else 0 */
+    uint64_t id;      /* the cyclic in front of which it stopped, 0 where it is done */
+} cyclic_fired;
+
+/* The counts of a cyclic. */
+typedef struct cyclic_totals_of {
+    uint64_t expired; /* its expirations */
+    uint64_t lost;    /* those of them that were lost at the ceiling */
+    uint32_t pending; /* its calls that are outstanding: pending, in hand, or kept for its removal */
+} cyclic_totals_of;
+
+/* What a removal answers. The calls that were made are expired - lost. */
+typedef struct cyclic_receipt {
+    uint64_t id;      /* the cyclic, 0 where no removal has answered */
+    uint64_t expired;
+    uint64_t lost;
+} cyclic_receipt;
+
+/*
+ * Opens a CPU with no cyclic. `ceiling` is the greatest pend of a cyclic at a soft level, from 1 on: an expiration that finds
+ * that many calls outstanding is lost, and counted. No cyclic expires more than `most` times, from 1 on.
+ * Takes memory. Refuses with CYCLIC_MISUSED where the handle is open, or a number is 0; then with CYCLIC_MEMORY.
+ */
+uint32_t cyclic_cpu_open(uint32_t ceiling, uint64_t most, cyclic_cpu *cpu);
+
+/*
+ * Closes the CPU and gives its memory back, also where calls are outstanding, which are then never handed out.
+ * Refuses with CYCLIC_MISUSED where it is closed.
+ */
+uint32_t cyclic_cpu_close(cyclic_cpu *cpu);
+
+/*
+ * Adds a cyclic of this id at this level (cyclic_add). It expires from `start` on, also where that has passed, once each
+ * `interval`; a start of 0 stands for the next multiple of the interval above `now`, the moment of this call.
+ * Takes memory where the CPU's size doubles, and then it switches both soft levels to a greater buffer.
+ * Refuses with CYCLIC_MISUSED where the level or the id is none, then CYCLIC_BAD_WHEN for the start, CYCLIC_BAD_INTERVAL,
+ * CYCLIC_BAD_WHEN for a negative `now`, CYCLIC_TAKEN, CYCLIC_BAD_NOW, CYCLIC_FULL, and where the size must double CYCLIC_BUSY,
+ * CYCLIC_EXPANDING and CYCLIC_MEMORY. `*busy` gets the id of the open removal where it is busy, else 0.
+ */
+uint32_t cyclic_add(cyclic_cpu *cpu, uint64_t id, uint32_t level, int64_t start, int64_t interval, int64_t now,
+                    uint64_t *busy);
+
+/*
+ * Gives the cyclic another next expiration, and changes nothing else (cyclic_reprogram).
+ * Refuses with CYCLIC_BAD_WHEN where the moment is negative, then with CYCLIC_NO_CYCLIC.
+ */
+uint32_t cyclic_reprogram(cyclic_cpu *cpu, uint64_t id, int64_t moment);
+
+/*
+ * Begins the removal of a cyclic (cyclic_remove): from now on it never expires. Where no call of it is outstanding it is done:
+ * `*receipt` has its counts, and `*kept` is 0. Else `*kept` gets those calls, the receipt's id is 0, and the removal is open
+ * until they are made: go on with cyclic_take and cyclic_finish, and poll it. One removal may be open.
+ * Refuses with CYCLIC_NO_CYCLIC, also for a cyclic whose removal has answered; then with CYCLIC_BUSY, and `*busy` gets the id
+ * of the open removal, which may be this one. Where it does not refuse so, `*busy` is 0.
+ */
+uint32_t cyclic_begin_remove(cyclic_cpu *cpu, uint64_t id, uint32_t *kept, cyclic_receipt *receipt, uint64_t *busy);
+
+/*
+ * Ends the open removal where the last of its calls was made: `*receipt` has its counts. Else the receipt's id is 0: calls are
+ * outstanding, or no removal is open. Once it has answered, no call of the cyclic is handed out.
+ */
+uint32_t cyclic_poll_remove(cyclic_cpu *cpu, cyclic_receipt *receipt);
+
+/*
+ * Makes the expirations that are due at `now`, in the order of their moments and ids (cyclic_fire), up to the next one at high
+ * level. Answers 0 where all were made; `fired->next` is the moment at which to fire next.
+ * Answers CYCLIC_HANDLER_REFUSED where it stops in front of a high one: `fired->id` is its cyclic. The caller then calls its
+ * handler, and calls cyclic_fire again with the same `now`, which counts that expiration and goes on. The counts of the
+ * parts of a fire add up to those of one fire.
+ * The caller owes: after this answer it has called the handler before it fires again, and meanwhile it makes no other call on
+ * this CPU.
+ * Refuses with CYCLIC_BAD_WHEN where `now` is negative, and `*fired` stays; with CYCLIC_BAD_NOW; and with CYCLIC_COUNT_SPENT
+ * at an expiration of a cyclic that has expired as often as it may, `fired->id`: those before it were made and are counted.
+ */
+uint32_t cyclic_fire(cyclic_cpu *cpu, int64_t now, cyclic_fired *fired);
+
+/*
+ * Takes the cyclic whose handler is to be called next at this soft level, in the order in which they were raised: `*id` is its
+ * id, or 0 where no call waits. The caller calls its handler and then cyclic_finish; a take before that answers the same.
+ * Refuses with CYCLIC_MISUSED where the level is no soft level, and `*id` stays.
+ */
+uint32_t cyclic_take(cyclic_cpu *cpu, uint32_t level, uint64_t *id);
+
+/*
+ * Counts the call that was taken at this soft level. The caller owes: its handler has been called once since the take.
+ * Refuses with CYCLIC_MISUSED where the level is no soft level, or nothing was taken there.
+ */
+uint32_t cyclic_finish(cyclic_cpu *cpu, uint32_t level);
+
+/*
+ * The calls of the cyclic that are outstanding, 0 at high level. Refuses with CYCLIC_NO_CYCLIC, and `*pending` is 0.
+ */
+uint32_t cyclic_pending(cyclic_cpu *cpu, uint64_t id, uint32_t *pending);
+
+/*
+ * The counts of the cyclic. Refuses with CYCLIC_NO_CYCLIC, and `*totals` stays.
+ */
+uint32_t cyclic_totals(cyclic_cpu *cpu, uint64_t id, cyclic_totals_of *totals);
+
+/*
+ * The least expiration of all cyclics, CYCLIC_NEVER where there is none: the moment at which to fire.
+ */
+uint32_t cyclic_next(cyclic_cpu *cpu, int64_t *moment);
+
+/*
+ * A CPU between three threads: one has the firing side, and one each soft side. Each handle is used by one thread at a time; calls
+ * on different handles run side by side, take no lock and wait for nothing. To wake a soft side after a fire is the caller's.
+ * A handle may go to another thread by a lock, a thread's start or join, or a sequentially consistent atomic.
+ */
+
+/* The firing side. It begins as CYCLIC_CLOSED; its fields are the library's. */
+typedef struct cyclic_firing {
+    void *held;
+    bool open;
+} cyclic_firing;
+
+/* The soft side of one level. It begins as CYCLIC_CLOSED; its fields are the library's. */
+typedef struct cyclic_soft {
+    void *held;
+    bool open;
+} cyclic_soft;
+
+/* The books of a closed CPU. They begin as CYCLIC_CLOSED; their fields are the library's. */
+typedef struct cyclic_books {
+    void *held;
+    bool open;
+} cyclic_books;
+
+/* What a closed CPU says of the cyclic at one index of a soft level: expired = done + pending + lost. */
+typedef struct cyclic_book_of {
+    uint64_t id;      /* the cyclic, 0 where none is */
+    uint64_t expired; /* its expirations */
+    uint64_t done;    /* the calls that are done */
+    uint64_t lost;    /* those of its expirations that were lost at the ceiling */
+    uint32_t pending; /* its calls that are outstanding */
+    bool removed;     /* its removal is open */
+} cyclic_book_of;
+
+/*
+ * Opens a CPU with no cyclic for three threads. As cyclic_cpu_open; refuses with CYCLIC_MISUSED where one of the handles is open.
+ * Takes all the memory that the soft levels will use.
+ */
+uint32_t cyclic_open(uint32_t ceiling, uint64_t most, cyclic_firing *firing, cyclic_soft *lock, cyclic_soft *low);
+
+/*
+ * Takes the three handles back, also where calls are outstanding, and gives the books. The caller owes: the three are of one
+ * cyclic_open, and no other thread uses one of them any more.
+ * Refuses with CYCLIC_MISUSED where one of them is closed or the books are open, and nothing is changed. Takes memory for
+ * the books: where that is refused (CYCLIC_MEMORY) the CPU is closed, and its books are lost.
+ */
+uint32_t cyclic_close(cyclic_firing *firing, cyclic_soft *lock, cyclic_soft *low, cyclic_books *books);
+
+/*
+ * The book of the cyclic at an index, from 0 to 255, of a soft level; its id is 0 where none is.
+ * Refuses with CYCLIC_MISUSED where the books are closed, or the level or the index is none, and `*book` stays.
+ */
+uint32_t cyclic_book(cyclic_books *books, uint32_t level, uint32_t index, cyclic_book_of *book);
+
+/* Gives the memory of the books back. Refuses with CYCLIC_MISUSED where they are closed. */
+uint32_t cyclic_books_close(cyclic_books *books);
+
+/*
+ * Gives up a side whose CPU is not to be closed. The memory is given back with the last of the three sides; there are no books.
+ * Refuses with CYCLIC_MISUSED where the handle is closed.
+ */
+uint32_t cyclic_firing_drop(cyclic_firing *firing);
+uint32_t cyclic_soft_drop(cyclic_soft *soft);
+
+/*
+ * The calls of the firing side, each as the one above without `firing` in its name. What is said of calls that are outstanding
+ * is what the loads of this call have found; the soft sides go on meanwhile.
+ */
+uint32_t cyclic_firing_add(cyclic_firing *firing, uint64_t id, uint32_t level, int64_t start, int64_t interval, int64_t now,
+                           uint64_t *busy);
+uint32_t cyclic_firing_reprogram(cyclic_firing *firing, uint64_t id, int64_t moment);
+uint32_t cyclic_firing_begin_remove(cyclic_firing *firing, uint64_t id, uint32_t *kept, cyclic_receipt *receipt, uint64_t *busy);
+uint32_t cyclic_firing_poll_remove(cyclic_firing *firing, cyclic_receipt *receipt);
+uint32_t cyclic_firing_fire(cyclic_firing *firing, int64_t now, cyclic_fired *fired);
+uint32_t cyclic_firing_pending(cyclic_firing *firing, uint64_t id, uint32_t *pending);
+uint32_t cyclic_firing_totals(cyclic_firing *firing, uint64_t id, cyclic_totals_of *totals);
+uint32_t cyclic_firing_next(cyclic_firing *firing, int64_t *moment);
+
+/*
+ * Takes the cyclic whose handler is to be called next: `*id` is its id, or 0 where no call waits. The caller calls its
+ * handler and then cyclic_soft_finish; a take before that answers the same.
+ */
+uint32_t cyclic_soft_take(cyclic_soft *soft, uint64_t *id);
+
+/*
+ * Counts the call that was taken. The caller owes: its handler has been called once since the take.
+ * Refuses with CYCLIC_MISUSED where nothing is in hand.
+ */
+uint32_t cyclic_soft_finish(cyclic_soft *soft);
+
+#ifdef __cplusplus
+}
+#endif
+
+#endif

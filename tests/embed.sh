@@ -1,0 +1,104 @@
+#!/usr/bin/env bash
+# Tries the proved facility inside programs in C, C++ and Rust: every function of include/cyclic.h with good and bad arguments,
+# under valgrind and the sanitizers, on one thread and between three, with each request for memory refused once; the Rust crate with its worked runs; and the
+# programs of docs/embedding.md. With EMBED_BUILT set it takes the library as it was built before.
+set -u
+cd "$(dirname "$0")/.."
+failed=0
+work=$(mktemp -d)
+trap 'rm -rf "$work"' EXIT
+
+if [ -z "${EMBED_BUILT:-}" ] && ! (cd crates/cyclic_c && rt lib) > "$work/lib" 2>&1; then
+  cat "$work/lib"
+  echo "embed: cyclic_c is not built"
+  exit 1
+fi
+archive=$PWD/crates/cyclic_c/out/libcyclic_c.a
+heap=$(dirname "$(dirname "$(readlink -f "$(command -v rt)")")")/c/liblibc_c.a
+
+# have COMMAND PACKAGE: whether it is there, else it is said and what needs it is skipped
+have() {
+  command -v "$1" > /dev/null && return 0
+  echo "embed: skipped what needs $1, which is not on this machine (Debian: apt-get install $2)"
+  return 1
+}
+
+# passes NAME COMMAND..: a run that has to end with 0, within two minutes
+passes() {
+  local name=$1
+  shift
+  if ! timeout 120 "$@" > "$work/out" 2>&1; then
+    echo "embed: $name failed"
+    tail -n 20 "$work/out"
+    failed=1
+  fi
+}
+
+# build OUTPUT SOURCE FLAG..: the warnings that a user may have switched on are errors
+build() {
+  local output=$1 source=$2
+  shift 2
+  passes "compiling $source $*" cc -std=${standard:-c99} -O2 -g -Wall -Wextra -Wpedantic -Werror -Iinclude "$@" "tests/embed/$source.c" -o "$work/$output" "$archive" "$heap"
+}
+
+if have cc gcc; then
+  passes "the header alone" cc -std=c99 -Wall -Wextra -Wpedantic -Werror -x c -fsyntax-only include/cyclic.h
+  build cpu cpu
+  passes cpu "$work/cpu"
+  have valgrind valgrind && passes "cpu under valgrind" valgrind -q --leak-check=full --error-exitcode=9 "$work/cpu"
+  build cpu_sane cpu -fsanitize=address,undefined -fno-sanitize-recover=all
+  passes "cpu with the sanitizers" "$work/cpu_sane"
+  build memory memory -Wl,--wrap=malloc,--wrap=realloc,--wrap=free
+  passes memory "$work/memory"
+  cat "$work/out"
+fi
+# block LANGUAGE: the one block of this language in docs/embedding.md
+block() {
+  sed -n '/^```'"$1"'$/,/^```$/p' docs/embedding.md | sed '/^```/d'
+}
+
+# says NAME WANTED: what the last run wrote
+says() {
+  if [ "$(cat "$work/out")" != "$2" ]; then
+    echo "embed: $1 wrote '$(head -c 300 "$work/out")'"
+    failed=1
+  fi
+}
+
+if have cc gcc; then
+  block c > "$work/page.c"
+  passes "the page's program in C" cc -std=c99 -Wall -Wextra -Wpedantic -Werror -Iinclude "$work/page.c" -o "$work/page" "$archive" "$heap"
+  passes "the page's program" "$work/page"
+  says "the page's program" 'high handler of cyclic 1
+high handler of cyclic 1
+high handler of cyclic 1
+next at 40
+low handler of cyclic 2'
+fi
+if have cc gcc; then
+  standard=c11
+  build pair pair -pthread
+  passes "pair, ten million hand-overs" "$work/pair" 10000000
+  cat "$work/out"
+  have valgrind valgrind && passes "pair under valgrind" valgrind -q --fair-sched=yes --leak-check=full --error-exitcode=9 "$work/pair" 2000
+  build pair_sane pair -pthread -fsanitize=address,undefined -fno-sanitize-recover=all
+  passes "pair with the sanitizers" "$work/pair_sane" 100000
+  build pair_threads pair -pthread -fsanitize=thread
+  passes "pair with the sanitizer of threads" "$work/pair_threads" 100000
+  passes "the ticker" env EMBED_BUILT=1 examples/embed/ticker 1
+fi
+if have c++ g++; then
+  passes "compiling cpu as C++" c++ -std=c++17 -Wall -Wextra -Wpedantic -Werror -Iinclude -x c++ tests/embed/cpu.c -x none -o "$work/cpu_cpp" "$archive" "$heap"
+  passes "cpu as C++" "$work/cpu_cpp"
+fi
+if have cargo cargo; then
+  passes "the Rust crate" env CARGO_TARGET_DIR="$work/target" cargo test --offline --quiet --manifest-path rust/cyclic/Cargo.toml
+  mkdir -p "$work/page_rs/src"
+  block rust > "$work/page_rs/src/main.rs"
+  printf '[package]\nname = "page"\nversion = "0.1.0"\nedition = "2024"\n[dependencies]\ncyclic = { path = "%s" }\n' "$PWD/rust/cyclic" > "$work/page_rs/Cargo.toml"
+  passes "the page's program in Rust" env CARGO_TARGET_DIR="$work/target" cargo run --offline --quiet --manifest-path "$work/page_rs/Cargo.toml"
+  says "the page's program in Rust" '3 high, 1 low, next at 40'
+  passes "the profiler" env CARGO_TARGET_DIR="$work/target" cargo run --offline --quiet --example profiler --manifest-path rust/cyclic/Cargo.toml -- 1
+fi
+[ "$failed" -eq 0 ] && echo "embed: all passed"
+exit "$failed"
