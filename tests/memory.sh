@@ -1,7 +1,12 @@
 #!/usr/bin/env bash
-# Runs the program with its Nth request for memory refused, for each N until a run meets none: `replay` of the first example,
-# `--help` and a wrong word. Each run ends with status 3 and 'fault 1', having written a prefix of what it writes with ample
-# memory, or as it ends with ample memory. It needs a C compiler, since it puts a shim before the C library.
+# Runs programs with their Nth request for memory refused, for each N until a run meets none. It needs a C compiler, since it
+# puts a shim before the C library.
+#
+# The program `cyclic`: `replay` of the first example, `--help` and a wrong word. Each run ends with status 3 and 'fault 1',
+# having written a prefix of what it writes with ample memory, or as it ends with ample memory.
+#
+# The program `refused_memory`: each call of the library that may ask for memory. Where a request of the call is refused, it
+# answers Memory, has changed nothing that can be seen, and made again it is done.
 set -u
 cd "$(dirname "$0")/.."
 ./cyclic replay < examples/first.json > /dev/null || exit 1
@@ -33,5 +38,27 @@ for word in replay --help wrong; do
     failed=1
   fi
   echo "memory: $word: $((n - 1)) requests refused in turn"
+done
+
+(cd crates/refused_memory && rt run -- Hard::add) > "$work/said" 2>&1 || { cat "$work/said"; exit 1; }
+program=crates/refused_memory/out/refused_memory
+for call in Tally::new ExpiryHeap::new ExpiryHeap::reserve LevelCore::new Ring::open Hard::new Hard::reserve Hard::add \
+  System::new System::add System::bind; do
+  refused=0
+  for ((n = 1; ; n++)); do
+    timeout 10 env FAIL_ALLOC="$n" LD_PRELOAD="$work/shim.so" "$program" "$call" > "$work/got" 2> /dev/null 9> "$work/refused"
+    status=$?
+    [ -s "$work/refused" ] || break
+    case "$status $(cat "$work/got")" in
+      '0 refused') refused=$((refused + 1)) ;;
+      '0 before' | '1 ') [ "$refused" -eq 0 ] || failed=1 ;;
+      *) echo "memory: $call, request $n: status $status, $(cat "$work/got")"; failed=1 ;;
+    esac
+  done
+  if [ "$status" -ne 0 ] || [ "$(cat "$work/got")" != done ] || [ "$refused" -eq 0 ]; then
+    echo "memory: $call: $(cat "$work/got") with ample memory"
+    failed=1
+  fi
+  echo "memory: $call: $refused requests refused in turn"
 done
 exit "$failed"

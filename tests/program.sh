@@ -158,5 +158,20 @@ for script in examples/*.json; do
   fi
 done
 
+# the same sources unproved
+if ! ./look replay < examples/first.json 2>/dev/null | cmp -s - examples/first.txt; then
+  echo 'program: ./look: other text than examples/first.txt'
+  failed=1
+fi
+
+# the pictures of runs, and the run that they are made of beside the program's
+tests/timeline.py || failed=1
+
+# the examples of the pages
+tests/pages.py || failed=1
+
+# what the start scripts say, when they build, and what a stop leaves
+tests/start.py || failed=1
+
 [ "$failed" -eq 0 ] && echo 'program: passed'
 exit "$failed"

@@ -1,0 +1,186 @@
+#!/usr/bin/env python3
+"""Tries the start scripts `cyclic` and `look` over a toolchain that only pretends: what they say, when they build, what a stop leaves.
+
+    tests/start.py
+
+In a scratch copy of the start scripts the program stands on two crates, and a third has no part in it. The pretended `rt` proves a
+crate by a file in its out/, and can be told to hang or to fail at a crate. Each fault is printed, and the status is then 1.
+"""
+import os
+import re
+import shutil
+import signal
+import subprocess
+import sys
+import tempfile
+import time
+
+TOP = os.path.join(os.path.dirname(os.path.abspath(__file__)), "..")
+RT = r"""#!/usr/bin/env bash
+cd "$FAKE" || exit 9
+echo "$*" >> calls
+prove() {
+    for name in low high cyclic; do
+        [ "$(cat hang 2> /dev/null)" != "$name" ] || { echo hangs >> calls; exec sleep 100; }
+        sum=$(cat kit "crates/$name/src/"* | sha256sum)
+        [ "$(cat "crates/$name/out/sum" 2> /dev/null)" != "$sum" ] || { echo "== $name"; continue; }
+        [ "$(cat fail 2> /dev/null)" != "$name" ] || { printf '== %s\nstatements std: many\nerror: %s\n' "$name" "$name"; exit 1; }
+        [ "$(cat slow 2> /dev/null)" != "$name" ] || sleep 0.6
+        echo "== $name"
+        echo "logic=proved functions=1"
+        mkdir -p "crates/$name/out" && echo "$sum" > "crates/$name/out/sum"
+    done
+    echo "== summary"
+}
+case "$1" in
+version) cat > /dev/null && cat kit ;;
+all) prove ;;
+run) [ ! -e unlinked ] || exit 2
+    printf '#!/bin/sh\necho ran "$@"; cat\n' > crates/cyclic/out/cyclic && chmod +x crates/cyclic/out/cyclic ;;
+try) shift; echo "look $*"; cat; exit 3 ;;
+esac
+"""
+FIRST = """cyclic: proving and building the program first: 3 crates, some minutes
+cyclic: for a look within a minute, at the same sources unproved: ./look replay < SCRIPT
+"""
+ALL = "".join(f"cyclic: proved {n} of 3: {name}, T\n" for n, name in enumerate(("low", "high", "cyclic"), 1))
+DONE = "cyclic: proved and built, T\n"
+STOPPED = "cyclic: stopped; the next start goes on from what is proved\n"
+
+
+class Start:
+    """A scratch copy, and what was seen to be wrong in it."""
+
+    def __init__(self, top):
+        self.top, self.faults = top, 0
+        for name in ("low", "high", "cyclic", "apart"):
+            self.write(f"crates/{name}/src/lib.rt", name)
+        self.write("crates/high/specs/Lib.antt", "")
+        self.write("crates.txt", "# lowest first\nlow: thiserror\napart staticlib: low\nhigh: low\ncyclic: high low\n")
+        self.write("examples/first.json", "{}")
+        self.write("kit", "kit 1")
+        self.write("bin/rt", RT)
+        os.chmod(f"{top}/bin/rt", 0o755)
+        for name in ("cyclic", "look"):
+            shutil.copy(f"{TOP}/{name}", top)
+        self.env = {**os.environ, "FAKE": top, "PATH": f"{top}/bin:{os.environ['PATH']}"}
+
+    def write(self, file, text):
+        os.makedirs(os.path.dirname(f"{self.top}/{file}") or self.top, exist_ok=True)
+        with open(f"{self.top}/{file}", "w", encoding="utf-8") as it:
+            it.write(text)
+
+    def calls(self):
+        """What the toolchain was asked for since the last time, the kit's line apart."""
+        with open(f"{self.top}/calls", encoding="utf-8") as it:
+            found = [line for line in it.read().splitlines() if line != "version"]
+        self.write("calls", "")
+        return found
+
+    def want(self, name, got, wanted):
+        if got != wanted:
+            print(f"start: {name}: {got!r}, and not {wanted!r}")
+            self.faults += 1
+
+    def run(self, name, status, said, calls, word="cyclic", out="ran replay x\nscript"):
+        """Runs a start script, and wants of it this status, these words on standard error and these calls of the toolchain."""
+        words = [f"{self.top}/{word}", "replay", "x"]
+        ran = subprocess.run(words, input="script", capture_output=True, text=True, env=self.env, timeout=60)
+        self.want(f"{name}, status", ran.returncode, status)
+        self.want(f"{name}, output", ran.stdout, out)
+        self.want(f"{name}, words", re.sub(r"\b\d+m\d\d\b", "T", ran.stderr), said)
+        self.want(f"{name}, calls", [re.sub(r"--jobs \d+", "--jobs", it) for it in self.calls()], calls)
+
+    def left(self):
+        """The processes that work in the scratch copy."""
+        found = []
+        for pid in filter(str.isdigit, os.listdir("/proc")):
+            try:
+                if os.readlink(f"/proc/{pid}/cwd").startswith(self.top):
+                    found.append(pid)
+            except OSError:
+                pass
+        return found
+
+    def stop(self, name, number):
+        """Starts the program, and stops it by a signal while a crate is being proved."""
+        self.write("hang", "high")
+        words = [f"{self.top}/cyclic", "replay"]
+        ran = subprocess.Popen(words, stdin=subprocess.DEVNULL, stderr=subprocess.PIPE, text=True, env=self.env)
+        for _ in range(200):
+            if "hangs" in open(f"{self.top}/calls", encoding="utf-8").read():
+                break
+            time.sleep(0.05)
+        ran.send_signal(number)
+        said = ran.communicate(timeout=20)[1]
+        self.want(f"{name}, status", ran.returncode, 128 + number)
+        self.want(f"{name}, words", said.endswith(STOPPED), True)
+        self.want(f"{name}, processes left", self.left(), [])
+        self.calls()
+        os.remove(f"{self.top}/hang")
+
+
+BUILDS = ["all check --jobs", "run -- replay"]
+STOPS = (signal.SIGINT, signal.SIGTERM, signal.SIGHUP)
+
+
+def at_last(names):
+    return "".join(f"cyclic: proved {n} of 3: {name}, T\n" for n, name in names)
+
+
+def tries(start):
+    start.write("calls", "")
+    start.run("first", 0, FIRST + ALL + DONE, BUILDS)
+    start.run("again", 0, "", [])
+    start.write("crates/apart/src/lib.rt", "other")
+    start.run("a crate apart", 0, "", [])
+    start.write("crates/high/src/more.rt", "more")
+    start.run("a new file", 0, FIRST + at_last([(2, "high")]) + DONE, BUILDS)
+    os.remove(f"{start.top}/crates/high/src/more.rt")
+    start.run("a file less", 0, FIRST + at_last([(2, "high")]) + DONE, BUILDS)
+    start.write("crates/high/specs/Lib.antt", "-- other")
+    start.run("a definition", 0, FIRST + DONE, BUILDS)
+    start.write("kit", "kit 2")
+    start.run("another kit", 0, FIRST + ALL + DONE, BUILDS)
+    start.write("crates/cyclic/out/cyclic", "#!/bin/sh\necho other\n")
+    start.run("another program", 0, FIRST + DONE, BUILDS)
+
+    start.write("crates/high/src/lib.rt", "wrong")
+    start.write("fail", "high")
+    for name in ("not proved", "not proved again"):
+        said = FIRST + "== low\n== high\nerror: high\ncyclic: the program was not proved\n"
+        start.run(name, 4, said, BUILDS[:1], out="")
+    os.remove(f"{start.top}/fail")
+    start.write("unlinked", "")
+    start.run("not linked", 4, FIRST + at_last([(2, "high")]) + "== low\n== high\n== cyclic\n== summary\n"
+              "cyclic: the program was not proved\n", BUILDS, out="")
+    os.remove(f"{start.top}/unlinked")
+    start.run("mended", 0, FIRST + DONE, BUILDS)
+
+    for number in STOPS:
+        start.write("kit", f"kit for {number}")
+        start.stop(number.name, number)
+        start.run(f"after {number.name}", 0, FIRST + at_last([(2, "high"), (3, "cyclic")]) + DONE, BUILDS)
+
+    start.write("kit", "a slow kit")
+    start.write("slow", "high")
+    start.env["CYCLIC_PATIENCE"] = "0.4"
+    slow = "cyclic: proved 1 of 3: low, T\ncyclic: still at work: high, T\n" + at_last([(2, "high"), (3, "cyclic")])
+    start.run("slow", 0, FIRST + slow + DONE, BUILDS)
+    start.run("a look", 3, "", ["try -- replay x"], word="look", out="look -- replay x\nscript")
+
+
+def main():
+    # a shell can't trap what was ignored when it began, as these are below nohup or in the background
+    for number in STOPS:
+        signal.signal(number, signal.SIG_DFL)
+    with tempfile.TemporaryDirectory(prefix="start-") as top:
+        start = Start(top)
+        tries(start)
+    if not start.faults:
+        print("start: passed")
+    return 1 if start.faults else 0
+
+
+if __name__ == "__main__":
+    sys.exit(main())
