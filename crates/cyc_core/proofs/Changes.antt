@@ -204,3 +204,7 @@ entry_cyclic t ordered place e is = read_cyclic t ordered e.id place (entry_is_a
 -- what was read at a place stands there
 pub read_entry : (xs : List Admitted) (place : ℕ) (e : Admitted) → place < length xs → e ≡ get_or xs place e → slice_get xs place ≡ Some e
 read_entry xs place e in_range read = slice_get-get_or xs place e in_range ∙ ap Some (sym read)
+
+-- what is read at a place for a change is the entry that stands there
+pub stood : (xs : List Admitted) (place : ℕ) (e kept : Admitted) → slice_get xs place ≡ Some e → place < length xs → kept ≡ get_or xs place kept → kept ≡ e
+stood xs place e kept stands in_range read = same_some (slice_get xs place) kept e (read_entry xs place kept in_range read) stands

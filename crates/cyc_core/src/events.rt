@@ -61,26 +61,26 @@ impl LevelCore {
         hint_from(place, &self.table, &mut self.hints);
     }
 
-    pub(crate) fn expire(&mut self, place: usize, mut entry: Admitted)
+    pub(crate) fn expire(&mut self, place: usize, entry: Admitted)
         requires place { slice_get self.old.table place ≡ Some entry }
         requires enabled { Enabled (Expire entry.id) (level_of self.old) }
         ensures { level_of self.new ≡ after (Expire entry.id) (level_of self.old) }
     {
+        let kept = &mut self.table[place];
+        kept.sent = entry.sent + 1;
+        kept.count = entry.count + 1;
         self.firer_hand = (entry.count == 0).then_some(entry.id);
-        entry.sent += 1;
-        entry.count += 1;
-        self.table[place] = entry;
     }
 
-    pub(crate) fn lose(&mut self, place: usize, mut entry: Admitted)
+    pub(crate) fn lose(&mut self, place: usize, entry: Admitted)
         requires place { slice_get self.old.table place ≡ Some entry }
         requires enabled { Enabled (Lose entry.id) (level_of self.old) }
         ensures { level_of self.new ≡ after (Lose entry.id) (level_of self.old) }
     {
         prove!(entry.count == self.ceiling);
-        entry.sent += 1;
-        entry.lost += 1;
-        self.table[place] = entry;
+        let kept = &mut self.table[place];
+        kept.sent = entry.sent + 1;
+        kept.lost = entry.lost + 1;
     }
 
     pub(crate) fn publish(&mut self)
@@ -109,11 +109,11 @@ impl LevelCore {
         ensures { level_of self.new ≡ after Finish (level_of self.old) }
     {
         if let Some(id) = self.drainer_hand {
-            let (place, mut entry) = self.entry_of(id);
+            let (place, entry) = self.entry_of(id);
             self.drainer_hand = (entry.count != 1).then_some(id);
-            entry.done += 1;
-            entry.count -= 1;
-            self.table[place] = entry;
+            let kept = &mut self.table[place];
+            kept.done = entry.done + 1;
+            kept.count = entry.count - 1;
         }
     }
 

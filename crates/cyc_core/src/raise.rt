@@ -35,10 +35,11 @@ impl Raise for LevelCore {
             self.lose(place, entry);
             return Raised::Lost;
         }
-        self.expire(place, entry);
         if count > 0 {
+            self.expire(place, entry);
             return Raised::More;
         }
+        self.expire(place, entry);
         self.publish();
         Raised::First
     }

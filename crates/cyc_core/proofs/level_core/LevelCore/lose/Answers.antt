@@ -1,11 +1,12 @@
-use Rattle.std.proofs.Common.{◌≡◌, ◌<◌, arith, refl}
+use Rattle.std.proofs.Common.{◌≡◌, ◌<◌, ◌+◌, ap, arith, refl}
 use Rattle.cyc_level.specs.declared.Event.TheVariants.{Lose}
 use Rattle.cyc_level.specs.Level.{Cyclic}
 use Rattle.cyc_level.specs.Events.{most_sent}
-use Rattle.cyc_core.specs.Tables.{id_in, level_of}
+use Rattle.cyc_core.specs.declared.admitted.Admitted.{Admitted}
+use Rattle.cyc_core.specs.Tables.{id_in, cyclic_of, level_of}
 use Rattle.cyc_core.specs.Shown.{shown}
 use Rattle.cyc_finder.proofs.RisingIds.{rises_set}
-use Rattle.cyc_core.proofs.Changes.{found_fact, entry_is_at, entry_cyclic, level_lose, sound_by, reached_lawful}
+use Rattle.cyc_core.proofs.Changes.{found_fact, entry_is_at, entry_cyclic, level_lose, sound_by, stood, reached_lawful}
 use Rattle.cyc_core.proofs.level_core.LevelCore.lose.Goals as goal
 
 pub prove-unreachable-requires : goal.prove-unreachable-requires
@@ -20,8 +21,8 @@ prove-unreachable-requires c =
     let fact = found_fact t ordered entry.id c.args.place at entry found refl (λ (x : Cyclic). (x.count ≡ t.ceiling) × (x.sent < most_sent)) may.2 in
     absurd (let apart = c.if-prove.true in omega (arith, fact, apart))
 
-pub overflow_add-entry : goal.overflow_add-entry
-overflow_add-entry c =
+pub overflow_add-kept : goal.overflow_add-kept
+overflow_add-kept c =
     let t = shown c.self.inside in
     let ordered = c.self.invariant.ordered in
     let entry = c.args.entry in
@@ -32,8 +33,8 @@ overflow_add-entry c =
     let fact = found_fact t ordered entry.id c.args.place at entry found refl (λ (x : Cyclic). (x.count ≡ t.ceiling) × (x.sent < most_sent)) may.2 in
     omega (arith, fact)
 
-pub overflow_add-entry-2 : goal.overflow_add-entry-2
-overflow_add-entry-2 c =
+pub overflow_add-kept-2 : goal.overflow_add-kept-2
+overflow_add-kept-2 c =
     let t = shown c.self.inside in
     let ordered = c.self.invariant.ordered in
     let entry = c.args.entry in
@@ -54,7 +55,11 @@ invariant_of-self c =
     let stands = rw (← c.self.view_is) at c.requires.place in
     let at = entry_is_at t.table c.args.place entry stands in
     let found = entry_cyclic t ordered c.args.place entry stands in
-    sound_by c.self.inside _ (Lose entry.id) c.self.invariant may (level_lose t ordered entry.id c.args.place at entry found refl _ refl refl) (rises_set id_in t.table ordered entry.id c.args.place at _ refl) (omega arith) (omega arith) (omega arith)
+    let kept = c.index_mut-kept.result.now in
+    let same = stood t.table c.args.place entry kept stands at.in_range c.index_mut-kept.ensures.value in
+    let named = ap (λ (x : Admitted). x.id) same in
+    let made = ap (λ (x : Admitted). cyclic_of (record x { sent = entry.sent + 1; lost = entry.lost + 1 })) same in
+    sound_by c.self.inside _ (Lose entry.id) c.self.invariant may (level_lose t ordered entry.id c.args.place at entry found refl _ named made) (rises_set id_in t.table ordered entry.id c.args.place at _ named) (omega arith) (omega arith) (omega arith)
 
 pub returns : goal.returns
 returns c =
@@ -65,4 +70,8 @@ returns c =
     let stands = rw (← c.self.view_is) at c.requires.place in
     let at = entry_is_at t.table c.args.place entry stands in
     let found = entry_cyclic t ordered c.args.place entry stands in
-    rw (← c.self.view_is) (level_lose t ordered entry.id c.args.place at entry found refl _ refl refl)
+    let kept = c.index_mut-kept.result.now in
+    let same = stood t.table c.args.place entry kept stands at.in_range c.index_mut-kept.ensures.value in
+    let named = ap (λ (x : Admitted). x.id) same in
+    let made = ap (λ (x : Admitted). cyclic_of (record x { sent = entry.sent + 1; lost = entry.lost + 1 })) same in
+    rw (← c.self.view_is) (level_lose t ordered entry.id c.args.place at entry found refl _ named made)

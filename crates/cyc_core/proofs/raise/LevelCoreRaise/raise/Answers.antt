@@ -104,7 +104,7 @@ publish-requires c =
     let ceil : c.self.inside.ceiling ≡ l.ceiling = ap (λ (t : Tables). t.ceiling) c.self.view_is in
     let below : entry.count < l.ceiling = (let most = facts.lawful.below_ceiling c.args.id (cyclic_of entry) facts.cyclic in let apart = c.if-count-self.false in omega (arith, most, apart, ceil)) in
     let may = can_expire l c.args.id (cyclic_of entry) facts.cyclic c.requires below in
-    let raised : level_of c.expire.new.self ≡ after (Expire c.args.id) l = c.expire.ensures ∙ ap (λ i. after (Expire i) l) facts.id in
+    let raised : level_of c.expire-2.new.self ≡ after (Expire c.args.id) l = c.expire-2.ensures ∙ ap (λ i. after (Expire i) l) facts.id in
     let none : entry.count ≡ 0 = omega (arith, c.if-count-gt0.false) in
     let published = subst (Enabled Publish) (sym raised) (can_publish l c.args.id (cyclic_of entry) facts.cyclic none) in
     published
@@ -117,11 +117,11 @@ returns-clause-step c =
     let ceil : c.self.inside.ceiling ≡ l.ceiling = ap (λ (t : Tables). t.ceiling) c.self.view_is in
     let below : entry.count < l.ceiling = (let most = facts.lawful.below_ceiling c.args.id (cyclic_of entry) facts.cyclic in let apart = c.if-count-self.false in omega (arith, most, apart, ceil)) in
     let may = can_expire l c.args.id (cyclic_of entry) facts.cyclic c.requires below in
-    let raised : level_of c.expire.new.self ≡ after (Expire c.args.id) l = c.expire.ensures ∙ ap (λ i. after (Expire i) l) facts.id in
+    let raised : level_of c.expire-2.new.self ≡ after (Expire c.args.id) l = c.expire-2.ensures ∙ ap (λ i. after (Expire i) l) facts.id in
     let none : entry.count ≡ 0 = omega (arith, c.if-count-gt0.false) in
     let published = subst (Enabled Publish) (sym raised) (can_publish l c.args.id (cyclic_of entry) facts.cyclic none) in
     let left : level_of c.publish.new.self ≡ after Publish (after (Expire c.args.id) l) = c.publish.ensures ∙ ap (after Publish) raised in
-    ((level_of c.expire.new.self, (may, raised), (level_of c.publish.new.self, (published, c.publish.ensures), refl)), ap (λ (x : Level). x.firer_hand) left)
+    ((level_of c.expire-2.new.self, (may, raised), (level_of c.publish.new.self, (published, c.publish.ensures), refl)), ap (λ (x : Level). x.firer_hand) left)
 
 pub returns-clause-learns : goal.returns-clause-learns
 returns-clause-learns c =
@@ -131,7 +131,7 @@ returns-clause-learns c =
     let ceil : c.self.inside.ceiling ≡ l.ceiling = ap (λ (t : Tables). t.ceiling) c.self.view_is in
     let below : entry.count < l.ceiling = (let most = facts.lawful.below_ceiling c.args.id (cyclic_of entry) facts.cyclic in let apart = c.if-count-self.false in omega (arith, most, apart, ceil)) in
     let may = can_expire l c.args.id (cyclic_of entry) facts.cyclic c.requires below in
-    let raised : level_of c.expire.new.self ≡ after (Expire c.args.id) l = c.expire.ensures ∙ ap (λ i. after (Expire i) l) facts.id in
+    let raised : level_of c.expire-2.new.self ≡ after (Expire c.args.id) l = c.expire-2.ensures ∙ ap (λ i. after (Expire i) l) facts.id in
     let none : entry.count ≡ 0 = omega (arith, c.if-count-gt0.false) in
     let left : level_of c.publish.new.self ≡ after Publish (after (Expire c.args.id) l) = c.publish.ensures ∙ ap (after Publish) raised in
     subst (λ (m : Level). Learns (firing_view l) (Raises c.args.id First) (firing_view m)) (sym left) (learns_first l c.args.id (cyclic_of entry) facts.cyclic none may.0)
@@ -144,7 +144,7 @@ returns-clause-sound c =
     let ceil : c.self.inside.ceiling ≡ l.ceiling = ap (λ (t : Tables). t.ceiling) c.self.view_is in
     let below : entry.count < l.ceiling = (let most = facts.lawful.below_ceiling c.args.id (cyclic_of entry) facts.cyclic in let apart = c.if-count-self.false in omega (arith, most, apart, ceil)) in
     let may = can_expire l c.args.id (cyclic_of entry) facts.cyclic c.requires below in
-    let raised : level_of c.expire.new.self ≡ after (Expire c.args.id) l = c.expire.ensures ∙ ap (λ i. after (Expire i) l) facts.id in
+    let raised : level_of c.expire-2.new.self ≡ after (Expire c.args.id) l = c.expire-2.ensures ∙ ap (λ i. after (Expire i) l) facts.id in
     let none : entry.count ≡ 0 = omega (arith, c.if-count-gt0.false) in
     let left : level_of c.publish.new.self ≡ after Publish (after (Expire c.args.id) l) = c.publish.ensures ∙ ap (after Publish) raised in
     subst (λ (m : Level). Sound (firing_view m)) (sym left) (sound_after (after (Expire c.args.id) l) Publish (keeps_law l facts.lawful (Expire c.args.id) may) facts.some_ceiling (can_publish l c.args.id (cyclic_of entry) facts.cyclic none))
