@@ -13,7 +13,7 @@ use Rattle.cyc_expirations.specs.Expirations.{Expiration, expirations, next_of, 
 use Rattle.cyc_expirations.specs.Timers.{Timer, IsSound}
 use Rattle.cyc_expirations.proofs.Firings.{Firing, Expires, fire_step, fire_left, fire_front}
 use Rattle.cyc_timers.specs.declared.table.Record.{Record}
-use Rattle.cyc_timers.specs.Rows.{Row, Cyclic, IsRow, IsRising, IsRecordOf, IsFirstAt, timers, timers_of, cyclic_of, cyclics_of, with_record}
+use Rattle.cyc_timers.specs.Rows.{Row, Cyclic, IsRow, IsRising, IsRecordOf, IsFirstAt, timers, timers_of, cyclic_of, cyclics_of, with_counts}
 use Rattle.cyc_fire.specs.Acts.{Sides, losses, lost_after, timer_of}
 use Rattle.cyc_fire.specs.Ends.{IsEnd, IsReady}
 use Rattle.cyc_fire.specs.Made.{Makes}
@@ -39,10 +39,9 @@ pub advances : (r : Row) (m n : ℕ) → Advances r (row_after r m n) n
 advances r m n = record { id = refl; level = refl; index = refl; expired = refl; lost = refl; carried = refl }
 
 -- the row that the code writes
-pub written : (r : Row) (m n : ℕ) (kept : Record) → IsRecordOf kept r →
-    with_record m (record { level = kept.level; interval = kept.interval; expired = kept.expired + 1; lost = kept.lost + n; carried = kept.carried }) r ≡ row_after r m n
+pub written : (r : Row) (m n : ℕ) (kept : Record) → IsRecordOf kept r → with_counts m (kept.expired + 1) (kept.lost + n) r ≡ row_after r m n
 written r m n kept (level, interval, expired, lost, carried) =
-    λ j. record { timer = record { id = r.timer.id; level = level j; interval = interval j; moment = m; expired = expired j + 1 }; lost = lost j + n; carried = carried j; index = r.index }
+    λ j. record { timer = record { id = r.timer.id; level = r.timer.level; interval = r.timer.interval; moment = m; expired = expired j + 1 }; lost = lost j + n; carried = r.carried; index = r.index }
 
 expires : (now : ℕ) (r : Row) (m n : ℕ) → Following r.timer.moment r.timer.interval now m → Expires now r.timer (row_after r m n).timer
 expires now r m n f = record { same_id = refl; same_level = refl; same_interval = refl; count = refl; step = f.due_is; as_next = f.next_is; follows = f.follows; later = f.later }
@@ -189,7 +188,7 @@ module _ {C R : Type 0} (called : C → ℕ → C → Type 0) (count : C → ℕ
       Turns now size most lock_marked low_marked rows0 s0 made rows s lost → IsRising rows0 → IsRow rows i r → IsFirstAt rows i → r.timer.moment ≡ mo → r.timer.id ≡ id → IsRecordOf kept r → mo ≤ now → now < never →
       kept.expired < most → Following mo kept.interval now m → One called count step view kept.level id s s' n → n ≤ 1 →
       (Sound (view s.lock) → Sound (view s'.lock)) → (Sound (view s.low) → Sound (view s'.low)) →
-      rows' ≡ set rows i (with_record m (record { level = kept.level; interval = kept.interval; expired = kept.expired + 1; lost = kept.lost + n; carried = kept.carried }) r) →
+      rows' ≡ set rows i (with_counts m (kept.expired + 1) (kept.lost + n) r) →
       Turns now size most lock_marked low_marked rows0 s0 (made ++ next_of r.timer ∷ []) rows' s' (lost + n)
   turn_written now size most lock_marked low_marked rows0 s0 made rows rows' s s' lost n m i mo id r kept t rising0 is first moment named of reached last less f o one sound_lock sound_low written_is =
       let f' = subst (λ x. Following x r.timer.interval now m) (sym moment) (subst (λ x. Following mo x now m) of.1 f) in
@@ -201,7 +200,7 @@ module _ {C R : Type 0} (called : C → ℕ → C → Type 0) (count : C → ℕ
 
 -- less is left after a turn
 pub less_left : (now : ℕ) (rows rows' : List Row) (n m i mo : ℕ) (r : Row) (kept : Record) → IsRow rows i r → IsFirstAt rows i → r.timer.moment ≡ mo → IsRecordOf kept r → Following mo kept.interval now m →
-    rows' ≡ set rows i (with_record m (record { level = kept.level; interval = kept.interval; expired = kept.expired + 1; lost = kept.lost + n; carried = kept.carried }) r) →
+    rows' ≡ set rows i (with_counts m (kept.expired + 1) (kept.lost + n) r) →
     length (expirations now (timers_of rows')) < length (expirations now (timers_of rows))
 less_left now rows rows' n m i mo r kept is first moment of f written_is =
     let f' = subst (λ x. Following x r.timer.interval now m) (sym moment) (subst (λ x. Following mo x now m) of.1 f) in

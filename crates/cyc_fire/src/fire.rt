@@ -10,7 +10,7 @@ ghost use Rattle.cyc_fire.specs.Ends.{IsReady};
 ghost use Rattle.cyc_fire.specs.Made.{Makes, WhyStopped};
 ghost use Rattle.cyc_fire.specs.Acts.{Sides, Acts, RaisedOnce, id_at, losses};
 
-use cyc_timers::{Record, Table};
+use cyc_timers::Table;
 use cyc_types::{
     Calls, CyclicId, Index, Interval, LATE, Level, Moment, Raise, Raised, Refusal, Refused, next,
 };
@@ -35,7 +35,7 @@ fn following(moment: Moment, interval: Interval, now: Moment) -> Moment
 {
     let following = moment.nanoseconds() + interval.nanoseconds();
     let now_is = now.nanoseconds();
-    if following < now_is && now_is - following > LATE {
+    if now_is.saturating_sub(following) > LATE {
         return next(moment, interval, now);
     }
     nearest_moment(following)
@@ -180,7 +180,6 @@ pub fn fire_all<C: Calls, R: Raise>(
         let level = kept.level;
         let interval = kept.interval;
         let before = kept.lost;
-        let carried = kept.carried;
         if count >= most {
             return Err(FireRefused {
                 why: Refusal::CountSpent(id),
@@ -198,14 +197,12 @@ pub fn fire_all<C: Calls, R: Raise>(
                 });
             }
         };
-        let after = Record {
-            level,
-            interval,
-            expired: count + 1,
-            lost: before + more,
-            carried,
-        };
-        table.expire_root(index, following(moment, interval, now), after);
+        table.expire_root(
+            index,
+            following(moment, interval, now),
+            count + 1,
+            before + more,
+        );
         expired += 1;
         lost += more;
     }

@@ -47,7 +47,7 @@ impl Word {
     fn id(self) -> CyclicId
         ensures { result ≡ self / cyclics }
     {
-        CyclicId::new(self.bits / BASE).unwrap()
+        CyclicId::new(self.bits / BASE).unwrap_or(CyclicId::LAST)
     }
 
     fn index(self) -> Index

@@ -13,7 +13,7 @@ use Rattle.cyc_expirations.specs.Timers.{Timer, IsSound}
 use Rattle.cyc_finder.specs.Sorted.{IsAt, IsGap}
 use Rattle.cyc_timers.specs.declared.table.Place.{Place}
 use Rattle.cyc_timers.specs.declared.table.Record.{Record}
-use Rattle.cyc_timers.specs.Rows.{Row, no_record, id_in, moment_in, joined, row_of, rows_of, timers_of, IsTable, IsRow, IsRising, HasDistinctIndexes, IsFirstAt, IsRecordOf, at_moment, TableView, Cyclic, cyclic_of, cyclics_of, HasNo}
+use Rattle.cyc_timers.specs.Rows.{Row, no_record, id_in, moment_in, joined, row_of, rows_of, timers_of, IsTable, IsRow, IsRising, HasDistinctIndexes, IsFirstAt, IsRecordOf, at_moment, with_record, with_counts, TableView, Cyclic, cyclic_of, cyclics_of, HasNo}
 
 abbrev pub no_place : Place
 no_place = record { id = 1; index = 0 }
@@ -180,6 +180,11 @@ kept_at slots records places k r s t i kept same is =
       ap (λ (x : Record). x.lost) at ∙ ap (λ (x : Row). x.lost) row,
       ap (λ (x : Record). x.carried) at ∙ ap (λ (x : Row). x.carried) row,
     )
+
+-- the row with other counts, where the rest of its record is kept
+pub counted : (r : Row) (m e l : ℕ) (kept : Record) → IsRecordOf kept r → with_record m (record kept { expired = e; lost = l }) r ≡ with_counts m e l r
+counted r m e l kept (level, interval, expired, lost, carried) =
+    λ j. record { timer = record { id = r.timer.id; level = level j; interval = interval j; moment = m; expired = e }; lost = l; carried = carried j; index = r.index }
 
 -- what is left of a slot that gets another moment
 pub moved : (slots new : List (Option Expiration)) (i m id n : ℕ) → get_or slots i None ≡ Some (record { moment = m; id = id }) →

@@ -79,6 +79,10 @@ HasNo id rows = All (λ r. r.timer.id ≢ id) rows
 abbrev pub with_record : ℕ → Record → Row → Row
 with_record m rec r = record { timer = record { id = r.timer.id; level = rec.level; interval = rec.interval; moment = m; expired = rec.expired }; lost = rec.lost; carried = rec.carried; index = r.index }
 
+-- the row with another moment and these counts
+abbrev pub with_counts : ℕ → ℕ → ℕ → Row → Row
+with_counts m expired lost r = record r { timer = record r.timer { moment = m; expired = expired }; lost = lost }
+
 -- the row with another moment
 abbrev pub at_moment : ℕ → Row → Row
 at_moment m r = record r { timer = record r.timer { moment = m } }

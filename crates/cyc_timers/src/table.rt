@@ -3,7 +3,7 @@ ghost use Rattle.cyc_types.specs.Limits.{cyclics};
 ghost use Rattle.cyc_types.specs.Series.{never};
 ghost use Rattle.cyc_expirations.specs.Timers.{IsSound};
 ghost use Rattle.cyc_types.specs.declared.refusal.Refusal.TheVariants.{Memory};
-ghost use Rattle.cyc_timers.specs.Rows.{Row, TableView, new_table, timers_of, IsRow, IsRising, HasNo, HasDistinctIndexes, vacant_row, with_record, at_moment, IsRecordOf, IsFirstAt};
+ghost use Rattle.cyc_timers.specs.Rows.{Row, TableView, new_table, timers_of, IsRow, IsRising, HasNo, HasDistinctIndexes, vacant_row, with_record, with_counts, at_moment, IsRecordOf, IsFirstAt};
 
 use cyc_finder::{HasId, search};
 use cyc_heap::ExpiryHeap;
@@ -223,19 +223,20 @@ impl Table {
         self.heap.root()
     }
 
-    /// Gives the cyclic that expires first, with the index of `root`, another next expiration and record (`cyclic_fire`).
-    /// O(log n), and takes no memory.
-    pub fn expire_root(&mut self, index: Index, moment: Moment, kept: Record)
+    /// Gives the cyclic that expires first, with the index of `root`, another next expiration, and other counts of those so far
+    /// and of those that were lost (`cyclic_fire`). O(log n), and takes no memory.
+    pub fn expire_root(&mut self, index: Index, moment: Moment, expired: u64, lost: u64)
         requires root { self.old.root ≡ Some index }
         requires moment { moment ≤ never }
-        requires interval { (0 < kept.interval) × (kept.interval ≤ never) }
         requires here { (k : ℕ) × (r : Row) × IsRow self.old.rows k r × (r.index ≡ index) }
-        ensures rows { (k : ℕ) (r : Row) → IsRow self.old.rows k r → r.index ≡ index → self.new.rows ≡ slice_set self.old.rows k (with_record moment kept r) }
+        ensures rows { (k : ℕ) (r : Row) → IsRow self.old.rows k r → r.index ≡ index → self.new.rows ≡ slice_set self.old.rows k (with_counts moment expired lost r) }
         ensures size { self.new.size ≡ self.old.size }
         ensures room { self.new.room ≡ self.old.room }
     {
         self.heap.lower_root(moment);
-        self.records[index.number() as usize] = kept;
+        let kept = &mut self.records[index.number() as usize];
+        kept.expired = expired;
+        kept.lost = lost;
     }
 
     /// The number of indexes, those in use and those that are free (`cyp_size`).

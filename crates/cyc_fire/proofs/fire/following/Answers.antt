@@ -2,13 +2,11 @@ use Rattle.std.proofs.Common.{◌≡◌, ◌<◌, ◌≤◌, ◌+◌, min, arith
 use Rattle.cyc_types.specs.Series.{late, never}
 use Rattle.cyc_expirations.proofs.Dues.{due_step}
 use Rattle.cyc_fire.proofs.Nexts.{next_step}
-use Rattle.cyc_fire.proofs.fire.following.Goals.{else-following-now_is-via-then-following-now_is+else-now_is-following-gt-LATE, else-following-now_is-via-else-following-now_is}
 use Rattle.cyc_fire.proofs.fire.following.Goals as goal
 
 pub returns-clause-due : goal.returns-clause-due
 returns-clause-due c =
-    let near : c.args.now ≤ c.args.moment + c.args.interval + late =
-    elim c.else-following-now_is.branch [ else-following-now_is-via-then-following-now_is+else-now_is-following-gt-LATE w ↦ omega arith | else-following-now_is-via-else-following-now_is w ↦ omega arith ] in
+    let near : c.args.now ≤ c.args.moment + c.args.interval + late = omega arith in
     let some : 0 < c.args.interval = omega arith in
     let is : c.nearest_moment.result ≡ min (c.args.moment + c.args.interval) never = omega arith in
     due_step c.args.moment c.args.interval c.args.now c.nearest_moment.result c.requires.due c.requires.now some is near

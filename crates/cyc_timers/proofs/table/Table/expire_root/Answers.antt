@@ -1,11 +1,13 @@
-use Rattle.std.proofs.Common.{◌≡◌, ℕ, sym, ap, ◌∙◌, subst, arith, length, length-set, Some}
+use Rattle.std.proofs.Common.{◌≡◌, ◌<◌, ◌≤◌, ℕ, sym, ap, ◌∙◌, subst, arith, length, length-set, Some}
 use Rattle.std.proofs.Math.ListN.{set}
-use Rattle.cyc_timers.specs.Rows.{Row, TableView, IsRow, IsTable, rows_of, with_record}
-use Rattle.cyc_timers.proofs.Tables.{standing, changed, table_changed, lowered}
+use Rattle.cyc_types.specs.Series.{never}
+use Rattle.cyc_timers.specs.declared.table.Record.{Record}
+use Rattle.cyc_timers.specs.Rows.{Row, TableView, IsRow, IsTable, rows_of, with_record, with_counts}
+use Rattle.cyc_timers.proofs.Tables.{standing, changed, table_changed, lowered, kept_at, counted}
 use Rattle.cyc_timers.proofs.table.Table.expire_root.Goals as goal
 
-pub index_mut-requires : goal.index_mut-requires
-index_mut-requires c =
+pub index_mut-kept-requires : goal.index_mut-kept-requires
+index_mut-kept-requires c =
     let (k, r, is, at) = c.requires.here in
     let t = c.self.invariant.0 in
     let s = standing c.self.inside.heap.slots c.self.inside.records.items c.self.inside.places.items k r t (subst (λ (v : TableView). IsRow v.rows k r) (sym c.self.view_is) is) in
@@ -22,10 +24,14 @@ invariant_of-self c =
     let same : s.p.index ≡ c.number.result = ap (λ (x : Row). x.index) (sym s.row) ∙ at ∙ sym c.number.ensures.value in
     let root = ap (λ (v : TableView). v.root) c.self.view_is ∙ c.requires.root in
     let low = lowered c.self.inside.heap.root slots c.lower_root.new.self.slots c.args.index s.p.index s.m s.p.id c.args.moment root (ap (λ (x : Row). x.index) (sym s.row) ∙ at) s.holds c.lower_root.ensures.slots in
+    let kept = c.index_mut-kept.result.now in
+    let after : Record = record kept { expired = c.args.expired; lost = c.args.lost } in
+    let below : c.number.result < length records = (let b = s.below in let l = t.long in omega (arith, same, b, l)) in
+    let intervals = subst (λ (x : Record). (0 < x.interval) × (x.interval ≤ never)) (sym c.index_mut-kept.ensures.value) (t.intervals c.number.result kept below) in
     let room = c.lower_root.ensures.room in let caps = c.self.invariant in (
-      subst (λ (n : ℕ). IsTable c.lower_root.new.self.slots (set records n c.args.kept) places) same
-          (subst (λ xs. IsTable xs (set records s.p.index c.args.kept) places) (sym low)
-          (table_changed slots records places k r s c.args.moment c.args.kept t c.requires.moment c.requires.interval.0 c.requires.interval.1)),
+      subst (λ (n : ℕ). IsTable c.lower_root.new.self.slots (set records n after) places) same
+          (subst (λ xs. IsTable xs (set records s.p.index after) places) (sym low)
+          (table_changed slots records places k r s c.args.moment after t c.requires.moment intervals.0 intervals.1)),
       omega (arith, room, caps),
       omega (arith, room, caps),
       (let l = ap length low in let m = length-set slots s.p.index (Some (record { moment = c.args.moment; id = s.p.id })) in omega (arith, room, caps, l, m)),
@@ -39,8 +45,12 @@ returns-clause-rows c k r is at =
     let same : s.p.index ≡ c.number.result = ap (λ (x : Row). x.index) (sym s.row) ∙ at ∙ sym c.number.ensures.value in
     let root = ap (λ (v : TableView). v.root) c.self.view_is ∙ c.requires.root in
     let low = lowered c.self.inside.heap.root slots c.lower_root.new.self.slots c.args.index s.p.index s.m s.p.id c.args.moment root (ap (λ (x : Row). x.index) (sym s.row) ∙ at) s.holds c.lower_root.ensures.slots in
-    ap (λ n. rows_of c.lower_root.new.self.slots (set records n c.args.kept) places) (sym same)
-    ∙ ap (λ xs. rows_of xs (set records s.p.index c.args.kept) places) low
-    ∙ changed slots records places k r s c.args.moment c.args.kept t
-    ∙ ap (λ (x : Row). set (rows_of slots records places) k (with_record c.args.moment c.args.kept x)) (sym s.row)
-    ∙ ap (λ (v : TableView). set v.rows k (with_record c.args.moment c.args.kept r)) c.self.view_is
+    let kept = c.index_mut-kept.result.now in
+    let after : Record = record kept { expired = c.args.expired; lost = c.args.lost } in
+    let of = kept_at slots records places k r s t c.number.result kept same c.index_mut-kept.ensures.value in
+    ap (λ n. rows_of c.lower_root.new.self.slots (set records n after) places) (sym same)
+    ∙ ap (λ xs. rows_of xs (set records s.p.index after) places) low
+    ∙ changed slots records places k r s c.args.moment after t
+    ∙ ap (λ (x : Row). set (rows_of slots records places) k (with_record c.args.moment after x)) (sym s.row)
+    ∙ ap (set (rows_of slots records places) k) (counted r c.args.moment c.args.expired c.args.lost kept of)
+    ∙ ap (λ (v : TableView). set v.rows k (with_counts c.args.moment c.args.expired c.args.lost r)) c.self.view_is
