@@ -27,4 +27,11 @@ impl<R: Raise> Hard<R> {
     {
         self.table.id_at(place)
     }
+
+    /// The most expirations of a cyclic here.
+    pub fn most(&self) -> u64
+        ensures { result ≡ self.now.most }
+    {
+        self.most
+    }
 }

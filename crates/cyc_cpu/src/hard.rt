@@ -4,7 +4,7 @@ ghost use Rattle.cyc_types.specs.Limits.{cyclics};
 ghost use Rattle.cyc_types.specs.declared.level.Level.TheVariants.{Low, Lock};
 ghost use Rattle.cyc_types.specs.Series.{never, first};
 ghost use Rattle.cyc_types.specs.declared.refusal.Refusal.TheVariants.{Memory, BadNow, NoCyclic};
-ghost use Rattle.cyc_expirations.specs.Timers.{earliest};
+ghost use Rattle.cyc_expirations.specs.Timers.{earliest, IsSound};
 ghost use Rattle.cyc_expirations.specs.Expirations.{Expiration, expirations};
 ghost use Rattle.cyc_timers.specs.Rows.{Cyclic, timers};
 ghost use Rattle.cyc_cpu.specs.Law.{IsLawful};
@@ -96,6 +96,13 @@ impl<R: Raise> Hard<R> {
         self.table.law();
         let _ = self.table.len();
         let _ = self.table.size();
+    }
+
+    /// Each cyclic as a fire takes it: its next expiration is a moment, and its interval is one. It does nothing when it runs.
+    pub fn timers_law(&self)
+        ensures { All IsSound (timers self.now.cyclics) }
+    {
+        self.table.law();
     }
 
     /// How many cyclics there are, with one whose removal is open.
