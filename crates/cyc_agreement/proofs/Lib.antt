@@ -1,0 +1,14 @@
+pub mod Spots
+pub mod Lists
+pub mod Who
+pub mod Refusing
+pub mod Recording
+pub mod Presence
+pub mod Shifted
+pub mod Replaced
+pub mod Given
+pub mod Entering
+pub mod Destinations
+pub mod Beginning
+pub mod Removals
+pub mod Holding
