@@ -1,0 +1,53 @@
+-- How an open removal ends.
+use Rattle.std.specs.Prelude.{◌≡◌, ◌≢◌, ℕ, not, List, [], ◌∷◌, map, Option, Some, None, Result, Ok, Err}
+use Rattle.std.specs.List.{FoldsTo}
+use Rattle.cyc_types.specs.Firing.{FiringView, FiringCall}
+use Rattle.cyc_types.specs.declared.receipt.Receipt.{Receipt}
+use Rattle.cyc_types.specs.declared.refusal.Refusal.{Refusal}
+use Rattle.cyc_types.specs.declared.refusal.Refusal.TheVariants.{NoCyclic}
+use Rattle.cyc_model.specs.Refusals.{when}
+use Rattle.cyc_cpu.specs.Calls.{PollRemove}
+use Rattle.cyc_cpus.specs.Cpus.{CpusView, numbers_from}
+use Rattle.cyc_agreement.specs.System.{SystemView, is_leaving_here, is_leaving}
+use Rattle.cyc_agreement.specs.Refusals.{Unless}
+use Rattle.cyc_removing.specs.Removing.{OnlyDoes, EndsStay, Answers, cpus_with}
+
+-- the numbers of the CPUs on which the removal of this id is open, rising
+abbrev pub leaving_cpus : {R : Type 0} → ℕ → CpusView R → List ℕ
+leaving_cpus id v = numbers_from 0 (map (is_leaving_here id) v.cpus)
+
+-- the CPU was asked whether the removal is done there
+abbrev pub PollsOn : {R : Type 0} → (R → FiringCall → R → Type 0) → (R → FiringView)
+    → ℕ → ℕ → Option Receipt → SystemView R → SystemView R → Type 0
+PollsOn step view id n (Some receipt) s t = EndsStay step view id n receipt (PollRemove (Some receipt)) s t
+PollsOn step view id n None s t = OnlyDoes step view n (PollRemove None) s t
+
+-- what a CPU answered
+pub record Polled : Type 0 where
+  pub cpu : ℕ
+  pub answer : Option Receipt
+
+-- these CPUs were asked, in order, and nothing was done on any other
+abbrev pub PollsEach : {R : Type 0} → (R → FiringCall → R → Type 0) → (R → FiringView)
+    → ℕ → List Polled → SystemView R → SystemView R → Type 0
+PollsEach step view id way s t = FoldsTo (λ u p w. PollsOn step view id p.cpu p.answer u w) s way t
+
+-- Every CPU on which the removal is open was asked, and where one has ended its counts are kept. The receipt comes when no
+-- CPU has the cyclic any more.
+abbrev pub Polls : {R : Type 0} → (R → FiringCall → R → Type 0) → (R → FiringView)
+    → ℕ → Result (Option Receipt) Refusal → SystemView R → SystemView R → Type 0
+Polls {R} step view id (Ok (Some receipt)) s t = (way : List Polled) × (u : SystemView R)
+    × (map (λ p. p.cpu) way ≡ leaving_cpus id s.cpus) × PollsEach step view id way s u × Answers id receipt u t
+Polls step view id (Ok None) s t = (way : List Polled) × (map (λ p. p.cpu) way ≡ leaving_cpus id s.cpus)
+    × PollsEach step view id way s t × (cpus_with id t.cpus ≢ [])
+Polls step view id (Err e) s t = ⊥
+
+-- no removal of this id is open
+abbrev pub not_leaving : {R : Type 0} → ℕ → SystemView R → Option Refusal
+not_leaving id s = when (not (is_leaving id s)) NoCyclic
+
+-- a poll of a removal, with the reason for which it is refused
+abbrev pub PollsRemoval : {R : Type 0} → (R → FiringCall → R → Type 0) → (R → FiringView)
+    → ℕ → Result (Option Receipt) Refusal → SystemView R → SystemView R → Type 0
+PollsRemoval step view id answer s t =
+    Unless (not_leaving id s ∷ []) (λ e. Err e) answer s t (Polls step view id answer s t)

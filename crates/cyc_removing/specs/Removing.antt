@@ -1,0 +1,100 @@
+-- How the removal of a cyclic begins on every CPU that has it (cyclic_remove).
+use Rattle.std.specs.Prelude.{◌≡◌, ◌≢◌, ℕ, ◌==◌, List, [], ◌∷◌, map, slice_set, remove, sum_by, Option, Result, Ok, Err}
+use Rattle.std.specs.List.{FoldsTo, list_any}
+use Rattle.cyc_types.specs.Firing.{FiringView, FiringCall}
+use Rattle.cyc_types.specs.declared.firing.Sent.{Sent}
+use Rattle.cyc_types.specs.declared.receipt.Receipt.{Receipt}
+use Rattle.cyc_types.specs.declared.refusal.Refusal.{Refusal}
+use Rattle.cyc_types.specs.declared.refusal.Refusal.TheVariants.{NoCyclic}
+use Rattle.cyc_model.specs.Refusals.{when, busy}
+use Rattle.cyc_cpu.specs.declared.removing.Removal.{Removal}
+use Rattle.cyc_cpu.specs.declared.removing.Removal.TheVariants.{Done, Kept}
+use Rattle.cyc_cpu.specs.Calls.{CpuCall, BeginRemove}
+use Rattle.cyc_places.specs.declared.record.Record.{Record}
+use Rattle.cyc_places.specs.Places.{IsRecord, IsReceiptOf, ended_on, summed, with_ended}
+use Rattle.cyc_cpus.specs.Cpus.{CpusView, on, numbers_from, DoesAt}
+use Rattle.cyc_agreement.specs.System.{SystemView, ids_of, removal_on, is_unknown}
+use Rattle.cyc_agreement.specs.Refusals.{Unless}
+use Rattle.cyc_removing.specs.declared.removing.SystemRemoval.{SystemRemoval}
+use Rattle.cyc_removing.specs.declared.removing.SystemRemoval.TheVariants as system
+
+-- the numbers of the CPUs that have the cyclic, rising
+abbrev pub cpus_with : {R : Type 0} → ℕ → CpusView R → List ℕ
+cpus_with id v = numbers_from 0 (map (λ cpu. list_any (λ own. own == id) (ids_of cpu)) v.cpus)
+
+-- ---- one CPU
+
+-- this was done on the CPU, and nothing else changed
+abbrev pub OnlyDoes : {R : Type 0} → (R → FiringCall → R → Type 0) → (R → FiringView)
+    → ℕ → CpuCall → SystemView R → SystemView R → Type 0
+OnlyDoes step view n call s t = DoesAt step view s.cpus (on n call) t.cpus × (t.records ≡ s.records) × (t.last ≡ s.last)
+
+-- the counts of the stay that the receipt is of
+abbrev pub counts_of : Receipt → Sent
+counts_of receipt = record { sent = receipt.sent; lost = receipt.lost }
+
+-- this call ended the cyclic's stay on the CPU, whose counts are kept beside those of earlier stays there
+abbrev pub EndsStay : {R : Type 0} → (R → FiringCall → R → Type 0) → (R → FiringView)
+    → ℕ → ℕ → Receipt → CpuCall → SystemView R → SystemView R → Type 0
+EndsStay step view id n receipt call s t = DoesAt step view s.cpus (on n call) t.cpus
+    × (k : ℕ) × (r : Record) × IsRecord s.records k r × (r.id ≡ id)
+    × (t.records ≡ slice_set s.records k (with_ended n (summed (ended_on n r) (counts_of receipt)) r)) × (t.last ≡ s.last)
+
+-- the removal begins on the CPU, and ends there at once where no call is outstanding (cyclic_remove_here)
+abbrev pub BeginsOn : {R : Type 0} → (R → FiringCall → R → Type 0) → (R → FiringView)
+    → ℕ → ℕ → Removal → SystemView R → SystemView R → Type 0
+BeginsOn step view id n (Done receipt) s t = EndsStay step view id n receipt (BeginRemove id (Ok (Done receipt))) s t
+BeginsOn step view id n (Kept kept) s t = OnlyDoes step view n (BeginRemove id (Ok (Kept kept))) s t
+
+-- ---- all CPUs
+
+-- what a removal found on a CPU as it began there
+pub record Begun : Type 0 where
+  pub cpu : ℕ
+  pub found : Removal
+
+-- it began on these CPUs, in order, and was done on no other
+abbrev pub BeginsEach : {R : Type 0} → (R → FiringCall → R → Type 0) → (R → FiringView)
+    → ℕ → List Begun → SystemView R → SystemView R → Type 0
+BeginsEach step view id way s t = FoldsTo (λ u b w. BeginsOn step view id b.cpu b.found u w) s way t
+
+-- the calls that are kept there
+abbrev pub kept_in : Removal → ℕ
+kept_in (Done receipt) = 0
+kept_in (Kept kept) = kept
+
+-- the removal is over: no CPU has the cyclic any more, its record goes, and the receipt has the counts of all its stays
+pub record Answers {R : Type 0} (id : ℕ) (receipt : Receipt) (s t : SystemView R) : Type 0 where
+  pub nowhere : cpus_with id s.cpus ≡ []
+  pub place : ℕ
+  pub own : Record
+  pub here : IsRecord s.records place own
+  pub named : own.id ≡ id
+  pub counts : IsReceiptOf receipt own
+  pub cpus : t.cpus ≡ s.cpus
+  pub records : t.records ≡ remove s.records place
+  pub last : t.last ≡ s.last
+
+-- The removal began on every CPU that has the cyclic. It is over at once where each of them found no call outstanding; else
+-- it stays open, with the calls that all of them keep.
+abbrev pub Removes : {R : Type 0} → (R → FiringCall → R → Type 0) → (R → FiringView)
+    → ℕ → Result SystemRemoval Refusal → SystemView R → SystemView R → Type 0
+Removes {R} step view id (Ok (system.Done receipt)) s t = (way : List Begun) × (u : SystemView R)
+    × (map (λ b. b.cpu) way ≡ cpus_with id s.cpus) × BeginsEach step view id way s u × Answers id receipt u t
+Removes step view id (Ok (system.Kept kept)) s t = (way : List Begun) × (map (λ b. b.cpu) way ≡ cpus_with id s.cpus)
+    × BeginsEach step view id way s t × (cpus_with id t.cpus ≢ []) × (kept ≡ sum_by (λ b. kept_in b.found) way)
+Removes step view id (Err e) s t = ⊥
+
+-- no cyclic has the id, or its removal has answered
+abbrev pub unknown_cyclic : {R : Type 0} → ℕ → SystemView R → Option Refusal
+unknown_cyclic id s = when (is_unknown id s) NoCyclic
+
+-- a removal is open on one of the CPUs that have the cyclic, in their order: its own too
+abbrev pub busy_on_each : {R : Type 0} → ℕ → SystemView R → List (Option Refusal)
+busy_on_each id s = map (λ n. busy (removal_on n s.cpus)) (cpus_with id s.cpus)
+
+-- the beginning of a removal, with the reasons for which it is refused
+abbrev pub BeginsRemoval : {R : Type 0} → (R → FiringCall → R → Type 0) → (R → FiringView)
+    → ℕ → Result SystemRemoval Refusal → SystemView R → SystemView R → Type 0
+BeginsRemoval step view id answer s t =
+    Unless (unknown_cyclic id s ∷ busy_on_each id s) (λ e. Err e) answer s t (Removes step view id answer s t)
