@@ -1,0 +1,12 @@
+pub mod Online
+pub mod Going
+pub mod Here
+pub mod Places
+pub mod Stepping
+pub mod Lists
+pub mod Stepped
+pub mod Walked
+pub mod Asking
+pub mod Retired
+pub mod Emptied
+pub mod Within

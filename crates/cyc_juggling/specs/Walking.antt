@@ -1,0 +1,51 @@
+-- The walk over a CPU's cyclics, from which some leave.
+use Rattle.std.specs.Prelude.{◌≡◌, ℕ, ◌+◌, true, false, Option, Some, None}
+use Rattle.std.specs.List.{slice_get}
+use Rattle.cyc_types.specs.Firing.{FiringView, FiringCall}
+use Rattle.cyc_types.specs.declared.refusal.JuggleReport.{JuggleReport}
+use Rattle.cyc_timers.specs.Rows.{Cyclic}
+use Rattle.cyc_cpu.specs.Cpu.{CpuView, IsCyclic, seen_at}
+use Rattle.cyc_places.specs.Places.{RecordsView}
+use Rattle.cyc_cpus.specs.Cpus.{CpusView}
+use Rattle.cyc_agreement.specs.System.{SystemView, ids_on, is_omnipresent}
+use Rattle.cyc_juggling.specs.declared.turning.Turn.{Turn}
+use Rattle.cyc_juggling.specs.declared.turning.Turn.TheVariants.{StaysBound, StaysPending, StaysRefused, Moves}
+use Rattle.cyc_juggling.specs.Juggling.{system_of, TakesTurn, counted}
+
+-- a cyclic of the source has its turn, unless it is omnipresent
+abbrev pub Visits : {R : Type 0} → (R → FiringCall → R → Type 0) → (R → FiringView) → ℕ → ℕ → Option Turn
+    → SystemView R → SystemView R → Type 0
+Visits step view source id None s t = (is_omnipresent id s ≡ true) × (t ≡ s)
+Visits step view source id (Some turn) s t = (is_omnipresent id s ≡ false) × TakesTurn step view source id turn s t
+
+-- a report has the turn where there was one
+abbrev pub counted_if : Option Turn → JuggleReport → JuggleReport
+counted_if None r = r
+counted_if (Some turn) r = counted turn r
+
+-- the place of the next cyclic
+abbrev pub next_place : Option Turn → ℕ → ℕ
+next_place None place = place + 1
+next_place (Some StaysBound) place = place + 1
+next_place (Some StaysPending) place = place + 1
+next_place (Some StaysRefused) place = place + 1
+next_place (Some Moves) place = place
+
+-- the cyclic at a place has its turn, whatever id was given last
+abbrev pub VisitsAt : {R : Type 0} → (R → FiringCall → R → Type 0) → (R → FiringView) → ℕ → ℕ → ℕ
+    → JuggleReport → JuggleReport → CpusView R → RecordsView → CpusView R → RecordsView → Type 0
+VisitsAt step view source place next before after v rs w qs = (id : ℕ) × (slice_get (ids_on source v) place ≡ Some id)
+    × (turn : Option Turn) × ((last : ℕ) → Visits step view source id turn (system_of v rs last) (system_of w qs last))
+    × (after ≡ counted_if turn before) × (next ≡ next_place turn place)
+
+-- all turns of a report
+abbrev pub all_turns : JuggleReport → ℕ
+all_turns r = r.moved + r.bound + r.pending + r.refused
+
+-- those after which the cyclic is where it was
+abbrev pub all_left : JuggleReport → ℕ
+all_left r = r.bound + r.pending + r.refused
+
+-- no call of a cyclic of the CPU was seen outstanding
+abbrev pub AreQuiet : {R : Type 0} → (R → FiringView) → CpuView R → Type 0
+AreQuiet view cpu = (k : ℕ) (c : Cyclic) → IsCyclic cpu.cyclics k c → seen_at view c.timer.id cpu ≡ 0
