@@ -1,0 +1,14 @@
+pub mod Components
+pub mod Quiet
+pub mod Numbers
+pub mod Entries
+pub mod Arriving
+pub mod Added
+pub mod Prefixes
+pub mod Rising
+pub mod Returned
+pub mod Bringing
+pub mod Rejoined
+pub mod Going
+pub mod Visits
+pub mod Regained

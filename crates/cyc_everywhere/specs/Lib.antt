@@ -1,0 +1,3 @@
+pub mod Omni
+pub mod Online
+pub mod Laws
