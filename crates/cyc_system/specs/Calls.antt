@@ -4,6 +4,8 @@ use Rattle.cyc_types.specs.Firing.{FiringView, FiringCall}
 use Rattle.cyc_types.specs.declared.level.Level.{Level}
 use Rattle.cyc_types.specs.declared.level.Soft.{Soft}
 use Rattle.cyc_types.specs.declared.moment.When.{When}
+use Rattle.cyc_types.specs.declared.receipt.Receipt.{Receipt}
+use Rattle.cyc_types.specs.declared.refusal.JuggleReport.{JuggleReport}
 use Rattle.cyc_types.specs.declared.refusal.Refusal.{Refusal}
 use Rattle.cyc_soft.specs.declared.Ran.{Ran}
 use Rattle.cyc_soft.specs.declared.SoftRefused.{SoftRefused}
@@ -16,17 +18,33 @@ use Rattle.cyc_cpus.specs.Cpus.{on, running_cpus, RunsAt}
 use Rattle.cyc_system.specs.declared.interrupting.SoftFault.{SoftFault}
 use Rattle.cyc_system.specs.declared.interrupting.SoftFault.TheVariants.{Refused}
 use Rattle.cyc_system.specs.declared.interrupting.SoftFault.TheVariants as fault
-use Rattle.cyc_system.specs.System.{SystemView, RunningSystem}
-use Rattle.cyc_system.specs.Refusals.{Unless, ids_spent, no_cyclic, omnipresent, no_cpu, offline_cpu, no_component}
-use Rattle.cyc_system.specs.Adding.{OnlyWorks, Adds}
-use Rattle.cyc_system.specs.Binding.{HasHome, Unbinds, Binds}
+use Rattle.cyc_agreement.specs.System.{SystemView, RunningSystem}
+use Rattle.cyc_agreement.specs.Refusals.{Unless, ids_spent, no_cyclic, omnipresent, no_cpu, offline_cpu, no_component}
+use Rattle.cyc_agreement.specs.Adding.{OnlyWorks, Adds}
+use Rattle.cyc_agreement.specs.Binding.{HasHome, Unbinds, Binds}
+use Rattle.cyc_removing.specs.declared.removing.SystemRemoval.{SystemRemoval}
+use Rattle.cyc_removing.specs.declared.totals.SystemTotals.{SystemTotals}
+use Rattle.cyc_removing.specs.Removing.{BeginsRemoval}
+use Rattle.cyc_removing.specs.Polling.{PollsRemoval}
+use Rattle.cyc_removing.specs.Counting.{AsksTotals}
+use Rattle.cyc_juggling.specs.Juggling.{Juggles}
+use Rattle.cyc_juggling.specs.Leaving.{GoesOffline}
+use Rattle.cyc_everywhere.specs.Omni.{AddsOmni}
+use Rattle.cyc_everywhere.specs.Online.{GoesOnline, online_cpu}
 
 -- the calls on a system that can change anything, each with its parameters and its answer
 pub data SystemCall : Type 0 where
   Add : Level → When → ℕ → Result ℕ Refusal → SystemCall
+  AddOmni : Level → When → ℕ → ℕ → Result ℕ Refusal → SystemCall
   Bind : ℕ → Option ℕ → Result (Unit {0}) Refusal → SystemCall
+  BeginRemove : ℕ → Result SystemRemoval Refusal → SystemCall
+  PollRemove : ℕ → Result (Option Receipt) Refusal → SystemCall
+  AskTotals : ℕ → Option SystemTotals → SystemCall
   Reprogram : ℕ → ℕ → Result (Unit {0}) Refusal → SystemCall
   ReprogramOn : ℕ → ℕ → ℕ → Result (Unit {0}) Refusal → SystemCall
+  Juggle : ℕ → Result JuggleReport Refusal → SystemCall
+  Offline : ℕ → Result (Unit {0}) Refusal → SystemCall
+  Online : ℕ → ℕ → Result (Unit {0}) Refusal → SystemCall
   FireOne : ℕ → ℕ → Result Fired FireRefused → SystemCall
   SoftInterrupt : ℕ → Soft → ℕ → Result Ran SoftFault → SystemCall
 
@@ -41,16 +59,25 @@ abbrev pub Changes : {R : Type 0} → (R → FiringCall → R → Type 0) → (R
     → SystemView R → SystemCall → SystemView R → Type 0
 Changes step view s (Add level when now answer) t =
     Unless (bad_now now ∷ ids_spent s ∷ []) (λ e. Err e) answer s t (Adds step view level when now answer s t)
+Changes step view s (AddOmni level when skew now answer) t =
+    Unless (bad_now now ∷ ids_spent s ∷ []) (λ e. Err e) answer s t (AddsOmni step view level when skew now answer s t)
 Changes step view s (Bind id None answer) t =
     Unless (no_cyclic id s ∷ omnipresent id s ∷ []) (λ e. Err e) answer s t (Unbinds id answer s t)
 Changes step view s (Bind id (Some n) answer) t =
     Unless (no_cyclic id s ∷ omnipresent id s ∷ no_cpu n s ∷ offline_cpu n s ∷ []) (λ e. Err e) answer s t
     (Binds step view id n answer s t)
+Changes step view s (BeginRemove id answer) t = BeginsRemoval step view id answer s t
+Changes step view s (PollRemove id answer) t = PollsRemoval step view id answer s t
+Changes step view s (AskTotals id answer) t = AsksTotals step view id answer s t
 Changes step view s (Reprogram id moment answer) t = Unless (no_cyclic id s ∷ omnipresent id s ∷ []) (λ e. Err e) answer s t
     ((n : ℕ) × HasHome id n s × Reprograms step view id n moment answer s t)
 Changes step view s (ReprogramOn id n moment answer) t =
     Unless (no_cyclic id s ∷ no_cpu n s ∷ offline_cpu n s ∷ no_component id n s ∷ []) (λ e. Err e) answer s t
     (Reprograms step view id n moment answer s t)
+Changes step view s (Juggle n answer) t = Juggles step view n answer s t
+Changes step view s (Offline n answer) t = GoesOffline step view n answer s t
+Changes step view s (Online n now answer) t =
+    Unless (no_cpu n s ∷ online_cpu n s ∷ bad_now now ∷ []) (λ e. Err e) answer s t (GoesOnline step view n now answer s t)
 Changes step view s (FireOne n now answer) t = ⊥
 Changes step view s (SoftInterrupt n level budget answer) t = ⊥
 

@@ -1,6 +1,3 @@
-pub mod System
-pub mod Refusals
-pub mod Adding
-pub mod Binding
-pub mod Agreement
+pub mod Asking
 pub mod Calls
+pub mod Splitting

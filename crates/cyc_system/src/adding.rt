@@ -3,7 +3,7 @@ ghost use Rattle.cyc_types.specs.Limits.{last_id};
 ghost use Rattle.cyc_cpu.specs.Cpu.{HasNoCyclic, MayWiden};
 ghost use Rattle.cyc_cpu.specs.Calls.{Reserve};
 ghost use Rattle.cyc_cpus.specs.Cpus.{OfCpu, on, DoesAt, Works};
-ghost use Rattle.cyc_system.specs.Adding.{entering};
+ghost use Rattle.cyc_agreement.specs.Adding.{entering};
 
 use crate::system::System;
 use cyc_cpus::Cpus;

@@ -15,7 +15,7 @@ pub enum CpuOrOmni {
 }
 
 impl<R: Raise> System<R> {
-    ghost use Rattle.cyc_system.specs.System.{place_of};
+    ghost use Rattle.cyc_system.specs.Asking.{place_of};
 
     /// How many cyclics the CPU has, with one whose removal is open. None where there is no such CPU.
     pub fn len(&self, cpu: u32) -> Option<usize>

@@ -2,7 +2,7 @@ ghost use Rattle.std.specs.Prelude.{◌≡◌, ◌≢◌, ◌<◌, ◌≤◌, le
 ghost use Rattle.cyc_cpu.specs.Cpu.{HasNoCyclic};
 ghost use Rattle.cyc_cpu.specs.Removal.{HasCyclic};
 ghost use Rattle.cyc_cpus.specs.Cpus.{OfCpu};
-ghost use Rattle.cyc_system.specs.Binding.{GoesTo};
+ghost use Rattle.cyc_agreement.specs.Binding.{GoesTo};
 
 use crate::system::System;
 use cyc_cpus::Cpus;

@@ -1,7 +1,7 @@
 ghost use Rattle.std.specs.Prelude.{◌≡◌, ◌<◌, length};
 ghost use Rattle.cyc_cpu.specs.Calls.{no_interrupts, Fire};
 ghost use Rattle.cyc_cpus.specs.Cpus.{on, running_cpus, RunsAt};
-ghost use Rattle.cyc_system.specs.System.{running_system};
+ghost use Rattle.cyc_agreement.specs.System.{running_system};
 
 use crate::system::System;
 use cyc_cpu::{FireRefused, Fired};

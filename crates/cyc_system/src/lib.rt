@@ -7,15 +7,21 @@
 mod adding;
 mod asking;
 mod binding;
+mod everywhere;
 mod finding;
 mod firing;
 mod interrupting;
 mod laws;
+mod moving;
+mod removing;
 mod reprogramming;
+mod splitting;
 mod system;
 
 pub use asking::CpuOrOmni;
 pub use cyc_cpu::{FireRefused, Fired};
+pub use cyc_removing::{SystemRemoval, SystemTotals};
 pub use interrupting::SoftFault;
-pub use laws::ids_law;
+pub use laws::{away_law, ids_law};
+pub use splitting::Desk;
 pub use system::System;

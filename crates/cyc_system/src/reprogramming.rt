@@ -22,8 +22,8 @@ fn reprogram_at<R: Raise>(cpus: &mut Cpus<R>, number: u32, id: CyclicId, moment:
 
 impl<R: Raise> System<R> {
     ghost use Rattle.cyc_places.specs.declared.record.Record.{Record as TheRecord};
-    ghost use Rattle.cyc_system.specs.System.{has, is_omnipresent};
-    ghost use Rattle.cyc_system.specs.Refusals.{IsPresent};
+    ghost use Rattle.cyc_agreement.specs.System.{has, is_omnipresent};
+    ghost use Rattle.cyc_agreement.specs.Refusals.{IsPresent};
     ghost use Rattle.cyc_system.specs.Calls.{Changes, Reprogram, ReprogramOn};
 
     /// Gives the cyclic another next expiration, and changes nothing else (`cyclic_reprogram`).

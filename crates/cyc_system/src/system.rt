@@ -2,7 +2,7 @@ ghost use Rattle.std.specs.Prelude.{◌≡◌, ◌-◌, ◌<◌, ◌≤◌, [], 
 ghost use Rattle.cyc_types.specs.declared.refusal.Refusal.TheVariants.{Memory};
 ghost use Rattle.cyc_cpu.specs.Cpu.{IsFresh};
 ghost use Rattle.cyc_cpus.specs.Cpus.{new_cpus};
-ghost use Rattle.cyc_system.specs.Agreement.{Agrees};
+ghost use Rattle.cyc_agreement.specs.Agreement.{Agrees};
 
 use cyc_cpus::Cpus;
 use cyc_places::Records;
@@ -22,15 +22,15 @@ pub struct System<R: Raise> {
 impl<R: Raise> Model for System<R> {
     ghost use Rattle.std.specs.Prelude.{◌≤◌};
     ghost use Rattle.cyc_types.specs.Limits.{last_id};
-    ghost use Rattle.cyc_system.specs.System.{SystemView};
+    ghost use Rattle.cyc_agreement.specs.System.{SystemView};
 
     ghost Value = { SystemView R };
 
-    ghost use Rattle.cyc_system.specs.Agreement.{Agrees};
+    ghost use Rattle.cyc_agreement.specs.Holding.{Holds};
 
     ghost view = { λ s. record { cpus = s.cpus; records = s.records.list; last = s.last } };
 
-    ghost invariant = { λ s. Agrees (record { cpus = s.cpus; records = s.records.list; last = s.last }) × (s.last ≤ last_id) };
+    ghost invariant = { λ s. Holds (record { cpus = s.cpus; records = s.records.list; last = s.last }) × (s.last ≤ last_id) };
 }
 
 impl<R: Raise + Drop> System<R> {

@@ -5,28 +5,34 @@ use Rattle.cyc_cpus.proofs.Spots.{of_cpu}
 use Rattle.cyc_places.specs.declared.record.Record.{Record}
 use Rattle.cyc_places.specs.declared.record.Place.TheVariants.{On}
 use Rattle.cyc_places.specs.Places.{new_record}
-use Rattle.cyc_system.specs.System.{SystemView}
-use Rattle.cyc_system.specs.Agreement.{Agrees}
+use Rattle.cyc_agreement.specs.System.{SystemView}
+use Rattle.cyc_agreement.specs.Holding.{Holds}
 use Rattle.cyc_system.specs.Calls.{Changes, Add}
-use Rattle.cyc_system.proofs.Destinations.{destination_fits, destination_is}
-use Rattle.cyc_system.proofs.Who.{same_changed, same_reserve, has_same, but_then, but_same}
-use Rattle.cyc_system.proofs.Given.{agrees_same}
-use Rattle.cyc_system.proofs.Entering.{online_low, not_given, none_here, below_next, entered, agrees_added, now_there, add_done, add_unrecorded}
-use Rattle.cyc_system.proofs.Lists.{among}
-use Rattle.cyc_system.proofs.Refusing.{not_never, not_spent}
+use Rattle.cyc_agreement.proofs.Destinations.{destination_fits, destination_is}
+use Rattle.cyc_agreement.proofs.Who.{same_changed, same_reserve, has_same, but_then, but_same}
+use Rattle.cyc_agreement.proofs.Holding.{holds_same, holds_given}
+use Rattle.cyc_agreement.proofs.Removals.{removals_kept, leaving_here}
+use Rattle.cyc_agreement.proofs.Entering.{online_low, not_given, none_here, below_next, entered, agrees_added, now_there}
+use Rattle.cyc_system.proofs.Added.{add_done, add_unrecorded}
+use Rattle.cyc_agreement.proofs.Lists.{among}
+use Rattle.cyc_agreement.proofs.Spots.{seen, get_last}
+use Rattle.cyc_cpu.specs.Calls.{Reserve}
+use Rattle.cyc_cpus.specs.Cpus.{on}
+use Rattle.cyc_agreement.specs.Adding.{entering}
+use Rattle.cyc_agreement.proofs.Refusing.{not_never, not_spent}
 use Rattle.cyc_system.proofs.system.System.add.Goals as goal
 
 pub unreachable-requires : goal.unreachable-requires
-unreachable-requires g c = let a = c.self.invariant.0 in
+unreachable-requires g c = let a = c.self.invariant.0.agrees in
     destination_is None c.self.inside.cpus a.some.0 a.some.1 refl (sym c.destination.ensures ∙ c.in_default-destination.is)
 
 pub reserve_at-requires : goal.reserve_at-requires
-reserve_at-requires g c = let a = c.self.invariant.0 in
+reserve_at-requires g c = let a = c.self.invariant.0.agrees in
     online_low _ c.in-Some-destination.target a (destination_fits None c.self.inside.cpus c.in-Some-destination.target (sym c.destination.ensures ∙ c.in-Some-destination.is)).0
 
 pub invariant_of-self : goal.invariant_of-self
 invariant_of-self g c = (
-  agrees_same _ c.reserve_at.new.cpus c.self.invariant.0
+  holds_same _ c.reserve_at.new.cpus c.self.invariant.0
       (same_changed c.in-Some-destination.target _ c.self.inside.cpus c.reserve_at.new.cpus c.reserve_at.ensures
       (same_reserve g.R.Raise.step g.R.Raise.view c.reserve_at.ensures.before c.reserve_at.ensures.after 1 c.reserve_at.result c.reserve_at.ensures.change)),
   c.self.invariant.1,
@@ -34,10 +40,10 @@ invariant_of-self g c = (
 
 pub invariant_of-self-in_err-reserve : goal.invariant_of-self-in_err-reserve
 invariant_of-self-in_err-reserve g c =
-    let done = agrees_same _ c.reserve_at.new.cpus c.self.invariant.0
+    let done = holds_same _ c.reserve_at.new.cpus c.self.invariant.0
     (same_changed c.in-Some-destination.target _ c.self.inside.cpus c.reserve_at.new.cpus c.reserve_at.ensures
     (same_reserve g.R.Raise.step g.R.Raise.view c.reserve_at.ensures.before c.reserve_at.ensures.after 1 c.reserve_at.result c.reserve_at.ensures.change)) in (
-      subst (λ rs. Agrees (record { cpus = c.reserve_at.new.cpus; records = rs; last = c.self.inside.last })) (sym c.reserve.ensures.list) done,
+      subst (λ rs. Holds (record { cpus = c.reserve_at.new.cpus; records = rs; last = c.self.inside.last })) (sym c.reserve.ensures.list) done,
       c.self.invariant.1,
     )
 
@@ -45,7 +51,7 @@ pub enter-requires-clause-number : goal.enter-requires-clause-number
 enter-requires-clause-number g c =
     let same = same_changed c.in-Some-destination.target _ c.self.inside.cpus c.reserve_at.new.cpus c.reserve_at.ensures
     (same_reserve g.R.Raise.step g.R.Raise.view c.reserve_at.ensures.before c.reserve_at.ensures.after 1 c.reserve_at.result c.reserve_at.ensures.change) in
-    let low = online_low _ c.in-Some-destination.target c.self.invariant.0 (destination_fits None c.self.inside.cpus c.in-Some-destination.target (sym c.destination.ensures ∙ c.in-Some-destination.is)).0 in
+    let low = online_low _ c.in-Some-destination.target c.self.invariant.0.agrees (destination_fits None c.self.inside.cpus c.in-Some-destination.target (sym c.destination.ensures ∙ c.in-Some-destination.is)).0 in
     subst (λ n. c.in-Some-destination.target < n) (sym same.long) low
 
 pub enter-requires-clause-room : goal.enter-requires-clause-room
@@ -58,13 +64,13 @@ enter-requires-clause-absent g c cpu at =
     let same = same_changed c.in-Some-destination.target _ c.self.inside.cpus c.reserve_at.new.cpus c.reserve_at.ensures
     (same_reserve g.R.Raise.step g.R.Raise.view c.reserve_at.ensures.before c.reserve_at.ensures.after 1 c.reserve_at.result c.reserve_at.ensures.change) in
     none_here c.reserve_at.new.cpus c.in-Some-destination.target c.in-Some.id cpu
-    (λ h. not_given _ c.in-Some.id c.in-Some-destination.target c.self.invariant.0 (omega (arith, next))
+    (λ h. not_given _ c.in-Some.id c.in-Some-destination.target c.self.invariant.0.agrees (omega (arith, next))
     (sym (has_same c.self.inside.cpus c.reserve_at.new.cpus same c.in-Some-destination.target c.in-Some.id) ∙ h)) at
 
 pub push-requires-clause-last : goal.push-requires-clause-last
 push-requires-clause-last g c = let next = c.in-Some.ensures.value in
     subst (λ (rs : _). (k : _) (d : Record) → k < length rs → (get_or rs k d).id < c.in-Some.id) (sym c.reserve.ensures.list)
-    (below_next _ c.in-Some.id c.self.invariant.0 (omega (arith, next)))
+    (below_next _ c.in-Some.id c.self.invariant.0.agrees (omega (arith, next)))
 
 pub invariant_of-self-2 : goal.invariant_of-self-2
 invariant_of-self-2 g c =
@@ -73,13 +79,21 @@ invariant_of-self-2 g c =
     let same = same_changed d _ c.self.inside.cpus c.reserve_at.new.cpus c.reserve_at.ensures
     (same_reserve g.R.Raise.step g.R.Raise.view c.reserve_at.ensures.before c.reserve_at.ensures.after 1 c.reserve_at.result c.reserve_at.ensures.change) in
     let (but, here, elsewhere) = entered g.R.Raise.step g.R.Raise.view d id c.args.level c.args.when.interval c.first-first.result c.reserve_at.new.cpus c.enter.new.cpus c.enter.ensures in
-    let done = agrees_added _ d id c.args.level c.enter.new.cpus c.self.invariant.0 c.in-Some.ensures.value fits.0
+    let done = agrees_added _ d id c.args.level c.enter.new.cpus c.self.invariant.0.agrees c.in-Some.ensures.value fits.0
     (but_then id c.self.inside.cpus c.reserve_at.new.cpus c.enter.new.cpus (but_same id c.self.inside.cpus c.reserve_at.new.cpus same) but) here
     (λ m ne. ap (λ ids. among id ids) (elsewhere m ne ∙ same.ids m)) in
     let records : c.push.new.self.list ≡ c.self.inside.records.list ++ new_record id c.args.level (On d false) ∷ [] =
     c.push.ensures ∙ ap (λ rs. rs ++ new_record id c.args.level (On d false) ∷ []) c.reserve.ensures.list in
     let last : c.number-self-inside.result ≡ id = c.number-self-inside.ensures.value in (
-      subst (λ (x : SystemView _). Agrees x) (λ i. record { cpus = c.enter.new.cpus; records = sym records i; last = sym last i }) done,
+      subst (λ (x : SystemView _). Holds x) (λ i. record { cpus = c.enter.new.cpus; records = sym records i; last = sym last i })
+          (holds_given (seen c.self.inside.cpus c.self.inside.records.list c.self.inside.last)
+          (seen c.enter.new.cpus (c.self.inside.records.list ++ new_record id c.args.level (On d false) ∷ []) id) id (new_record id c.args.level (On d false)) c.self.invariant.0 done
+          (but_then id c.self.inside.cpus c.reserve_at.new.cpus c.enter.new.cpus (but_same id c.self.inside.cpus c.reserve_at.new.cpus same) but)
+          (removals_kept g.R.Raise.step g.R.Raise.view c.self.inside.cpus c.enter.new.cpus
+          (on d (Reserve 1 (Ok tt)) ∷ entering d id c.args.level c.args.when.interval c.first-first.result) (tt, (tt, (tt, tt)))
+          (c.reserve_at.new.cpus, c.in_ok-reserve_at.ensures, c.enter.ensures))
+          (λ n e. not_given _ id n c.self.invariant.0.agrees (let next = c.in-Some.ensures.value in omega (arith, next)) (leaving_here g.R.Raise.view c.self.inside.cpus n id c.law.ensures e))
+          refl (λ n. done.single _ n _ (get_last c.self.inside.records.list (new_record id c.args.level (On d false))) refl)),
       (let v = c.number-self-inside.ensures.valid in v.1),
     )
 

@@ -1,8 +1,8 @@
 use Rattle.std.proofs.Common.{◌≡◌, ◌&&◌, sym, ◌∙◌, subst}
-use Rattle.cyc_system.specs.System.{SystemView, has, is_omnipresent}
-use Rattle.cyc_system.specs.Refusals.{IsPresent}
-use Rattle.cyc_system.proofs.Spots.{seen}
-use Rattle.cyc_system.proofs.Presence.{has_is, component_is}
+use Rattle.cyc_agreement.specs.System.{SystemView, has, is_omnipresent}
+use Rattle.cyc_agreement.specs.Refusals.{IsPresent}
+use Rattle.cyc_agreement.proofs.Spots.{seen}
+use Rattle.cyc_agreement.proofs.Presence.{has_is, component_is}
 use Rattle.cyc_system.proofs.system.System.has_component.Goals as goal
 
 pub returns : goal.returns

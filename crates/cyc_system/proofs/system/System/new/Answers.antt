@@ -1,9 +1,9 @@
 use Rattle.std.proofs.Common.{◌≡◌, ◌≤◌, ◌-◌, [], sym, subst, arith}
 use Rattle.cyc_types.specs.Limits.{last_id}
 use Rattle.cyc_cpus.specs.Cpus.{new_cpus}
-use Rattle.cyc_system.specs.System.{SystemView}
-use Rattle.cyc_system.specs.Agreement.{Agrees}
-use Rattle.cyc_system.proofs.Beginning.{agrees_new}
+use Rattle.cyc_agreement.specs.System.{SystemView}
+use Rattle.cyc_agreement.specs.Holding.{Holds}
+use Rattle.cyc_agreement.proofs.Holding.{holds_new}
 use Rattle.cyc_system.proofs.system.System.new.Goals as goal
 
 pub invariant_of-result : goal.invariant_of-result
@@ -12,4 +12,4 @@ invariant_of-result g c =
     let e : record { cpus = new_cpus c.args.most c.args.ends.items; records = []; last = c.number.result - 1 }
     ≡ record { cpus = c.in_ok-cpus.cpus; records = c.new-records.result.list; last = c.number.result - 1 } =
     λ i. record { cpus = sym c.in_ok-cpus.ensures.ok i; records = sym c.new-records.ensures i; last = c.number.result - 1 } in
-    (subst (λ (x : SystemView _). Agrees x) e (agrees_new c.args.most (c.number.result - 1) c.args.ends.items c.requires.some c.requires.few), low)
+    (subst (λ (x : SystemView _). Holds x) e (holds_new c.args.most (c.number.result - 1) c.args.ends.items c.requires.some c.requires.few), low)

@@ -2,8 +2,9 @@ use Rattle.std.proofs.Common.{Some, sym, ap, ◌∙◌}
 use Rattle.std.specs.Option.{option_map}
 use Rattle.std.proofs.lemmas.Option.{slice_get_within}
 use Rattle.cyc_places.specs.declared.record.Record.{Record}
-use Rattle.cyc_system.specs.System.{SystemView, place_of, whereabouts}
-use Rattle.cyc_system.proofs.Recording.{record_read, record_none}
+use Rattle.cyc_agreement.specs.System.{SystemView}
+use Rattle.cyc_system.specs.Asking.{place_of, whereabouts}
+use Rattle.cyc_agreement.proofs.Recording.{record_read, record_none}
 use Rattle.cyc_system.proofs.system.System.place_of.Goals as goal
 
 pub returns-in_err-place : goal.returns-in_err-place

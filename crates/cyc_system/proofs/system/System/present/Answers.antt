@@ -2,11 +2,11 @@ use Rattle.std.proofs.Common.{◌≡◌, Some, sym, ◌∙◌, subst}
 use Rattle.std.specs.Prelude.{IfNone}
 use Rattle.cyc_types.specs.declared.refusal.Refusal.TheVariants.{NoCyclic}
 use Rattle.cyc_places.specs.declared.record.Record.{Record}
-use Rattle.cyc_system.specs.System.{SystemView}
-use Rattle.cyc_system.specs.Refusals.{no_cyclic, IsPresent}
-use Rattle.cyc_system.proofs.Spots.{seen}
-use Rattle.cyc_system.proofs.Recording.{record_here, record_none}
-use Rattle.cyc_system.proofs.Presence.{is_absent, is_removed}
+use Rattle.cyc_agreement.specs.System.{SystemView}
+use Rattle.cyc_agreement.specs.Refusals.{no_cyclic, IsPresent}
+use Rattle.cyc_agreement.proofs.Spots.{seen}
+use Rattle.cyc_agreement.proofs.Recording.{record_here, record_none}
+use Rattle.cyc_agreement.proofs.Presence.{is_absent, is_removed}
 use Rattle.cyc_system.proofs.system.System.present.Goals as goal
 
 pub returns-in_err-place-clause-none : goal.returns-in_err-place-clause-none

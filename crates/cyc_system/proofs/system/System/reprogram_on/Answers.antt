@@ -1,10 +1,10 @@
 use Rattle.std.proofs.Common.{◌≡◌, ◌&&◌, sym, subst}
-use Rattle.cyc_system.specs.System.{SystemView, has, is_omnipresent}
-use Rattle.cyc_system.specs.Refusals.{IsPresent}
-use Rattle.cyc_system.proofs.Spots.{seen}
-use Rattle.cyc_system.proofs.Who.{same_changed, same_reprogram}
-use Rattle.cyc_system.proofs.Given.{agrees_same}
-use Rattle.cyc_system.proofs.Presence.{cyclic_here, not_leaving, component_has}
+use Rattle.cyc_agreement.specs.System.{SystemView, has, is_omnipresent}
+use Rattle.cyc_agreement.specs.Refusals.{IsPresent}
+use Rattle.cyc_agreement.proofs.Spots.{seen}
+use Rattle.cyc_agreement.proofs.Who.{same_changed, same_reprogram}
+use Rattle.cyc_agreement.proofs.Holding.{holds_same}
+use Rattle.cyc_agreement.proofs.Presence.{cyclic_here, not_leaving, component_has}
 use Rattle.cyc_system.proofs.system.System.reprogram_on.Goals as goal
 
 pub reprogram_at-requires-clause-here : goal.reprogram_at-requires-clause-here
@@ -21,7 +21,7 @@ reprogram_at-requires-clause-still g c cpu at =
 
 pub invariant_of-self : goal.invariant_of-self
 invariant_of-self g c = (
-  agrees_same _ c.reprogram_at.new.cpus c.self.invariant.0
+  holds_same _ c.reprogram_at.new.cpus c.self.invariant.0
       (same_changed c.args.cpu _ c.self.inside.cpus c.reprogram_at.new.cpus c.reprogram_at.ensures
       (same_reprogram g.R.Raise.step g.R.Raise.view c.reprogram_at.ensures.before c.reprogram_at.ensures.after c.args.id c.args.moment c.reprogram_at.ensures.change)),
   c.self.invariant.1,

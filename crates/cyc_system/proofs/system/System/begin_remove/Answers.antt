@@ -1,0 +1,4 @@
+use Rattle.cyc_system.proofs.system.System.begin_remove.Goals as goal
+
+pub invariant_of-self : goal.invariant_of-self
+invariant_of-self g c = (c.begin_remove.ensures.holds c.self.inside.last c.self.invariant.0, c.self.invariant.1)
