@@ -315,21 +315,21 @@ pub same_timers : (cs : List Timed) → timers (map shown cs) ≡ timed cs
 same_timers [] = refl
 same_timers (c ∷ cs) = ap (λ ts. c.timer ∷ ts) (same_timers cs)
 
-pub fires_here : {C : Type 0} (called : C → ℕ → C → Type 0) (count : C → ℕ
-    → ℕ) (n now lost : ℕ) (online : Bool) (v w : CpuView Tables) (t u : C)
-    → Makes called count fires seen now (expirations now (timed v.cyclics)) v.cyclics w.cyclics (record { calls = t; lock = v.lock; low = v.low })
+-- expirations of its cyclics that were made are made there
+pub fires_these : {C : Type 0} (called : C → ℕ → C → Type 0) (count : C → ℕ
+    → ℕ) (n now lost : ℕ) (online : Bool) (made : List Expiration) (v w : CpuView Tables) (t u : C)
+    → AllHere made (map shown v.cyclics)
+    → Makes called count fires seen now made v.cyclics w.cyclics (record { calls = t; lock = v.lock; low = v.low })
     (record { calls = u; lock = w.lock; low = w.low }) lost
     → SameCpu v w
-    → (shown_cpu online w ≡ (fire_here n now (shown_cpu online v)).cpu)
-    × ((id : ℕ) → count u id ≡ count t id + calls_of id (fire_here n now (shown_cpu online v)).acts)
-    × (lost ≡ losses_in (fire_here n now (shown_cpu online v)).acts)
-fires_here called count n now lost online v w t u m same =
+    → (shown_cpu online w ≡ (fire_these n now made (shown_cpu online v)).cpu)
+    × ((id : ℕ) → count u id ≡ count t id + calls_of id (fire_these n now made (shown_cpu online v)).acts)
+    × (lost ≡ losses_in (fire_these n now made (shown_cpu online v)).acts)
+fires_these called count n now lost online made v w t u here m same =
     let c = shown_cpu online v in
-    let made = expirations now (timed v.cyclics) in
     let ts = same_timers v.cyclics in
-    let dues : due_here now c ≡ made = ap (expirations now) ts in
     let d = expire_all n made c in
-    let does = all_do n made c (due_are_here now v.cyclics) in
+    let does = all_do n made c here in
     let lock = expired (ids_at Lock (timed v.cyclics) made) m.acts.lock_way v.lock w.lock m.acts.lock_goes m.acts.lock_raises in
     let low = expired (ids_at Low (timed v.cyclics) made) m.acts.low_way v.low w.low m.acts.low_goes m.acts.low_raises in
     let locks : at Lock made c ≡ ids_at Lock (timed v.cyclics) made = ap (λ xs. ids_at Lock xs made) ts in
@@ -358,19 +358,34 @@ fires_here called count n now lost online v w t u m same =
       lock = at_lock_level z;
       low = at_low_level z;
     } in (
-      cpu ∙ ap (λ ps. (fire_these n now ps c).cpu) (sym dues),
+      cpu,
       λ id.
           let counted = m.acts.counted id in
           let calls = does.calls id in
           let a = ap (times id) highs in
-          let b = ap (λ ps. calls_of id (fire_these n now ps c).acts) dues in
-          omega (arith, counted, calls, a, b),
+          omega (arith, counted, calls, a),
       (let is = m.lost_is in
           let all = does.lost in
           let a = ap (λ ids. lost_all (expiries ids c.lock)) locks in
           let b = ap (λ ids. lost_all (expiries ids c.low)) lows in
           let x = lock.lost in
           let y = low.lost in
-          let e = ap (λ ps. losses_in (fire_these n now ps c).acts) dues in
-          omega (arith, is, all, a, b, x, y, e)),
+          omega (arith, is, all, a, b, x, y)),
+    )
+
+pub fires_here : {C : Type 0} (called : C → ℕ → C → Type 0) (count : C → ℕ
+    → ℕ) (n now lost : ℕ) (online : Bool) (v w : CpuView Tables) (t u : C)
+    → Makes called count fires seen now (expirations now (timed v.cyclics)) v.cyclics w.cyclics (record { calls = t; lock = v.lock; low = v.low })
+    (record { calls = u; lock = w.lock; low = w.low }) lost
+    → SameCpu v w
+    → (shown_cpu online w ≡ (fire_here n now (shown_cpu online v)).cpu)
+    × ((id : ℕ) → count u id ≡ count t id + calls_of id (fire_here n now (shown_cpu online v)).acts)
+    × (lost ≡ losses_in (fire_here n now (shown_cpu online v)).acts)
+fires_here called count n now lost online v w t u m same =
+    let c = shown_cpu online v in
+    let dues : due_here now c ≡ expirations now (timed v.cyclics) = ap (expirations now) (same_timers v.cyclics) in
+    let r = fires_these called count n now lost online (expirations now (timed v.cyclics)) v w t u (due_are_here now v.cyclics) m same in (
+      r.0 ∙ ap (λ ps. (fire_these n now ps c).cpu) (sym dues),
+      λ id. r.1 id ∙ ap (λ ps. count t id + calls_of id (fire_these n now ps c).acts) (sym dues),
+      r.2 ∙ ap (λ ps. losses_in (fire_these n now ps c).acts) (sym dues),
     )

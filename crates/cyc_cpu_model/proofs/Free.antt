@@ -97,7 +97,7 @@ expiry_none n High id c = tt
 expiry_none n Lock id c = events_none n soft.Lock (raised id c.lock) (raised_none (count c.lock id == c.lock.ceiling) (count c.lock id == 0) id)
 expiry_none n Low id c = events_none n soft.Low (raised id c.low) (raised_none (count c.low id == c.low.ceiling) (count c.low id == 0) id)
 
-expire_none : (n : ℕ) (ps : List Expiration) (c : Cpu) → HasNoAdmit (expire_all n ps c).acts
+pub expire_none : (n : ℕ) (ps : List Expiration) (c : Cpu) → HasNoAdmit (expire_all n ps c).acts
 expire_none n [] c = tt
 expire_none n (p ∷ ps) c =
     no_more (expire_here n p.id c).acts (expire_all n ps (expire_here n p.id c).cpu).acts (expiry_none n (cyclic_level p.id c) p.id c)

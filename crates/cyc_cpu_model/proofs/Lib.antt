@@ -12,3 +12,4 @@ mod Tying
 mod Rising
 pub mod Law
 pub mod Tied
+pub mod Stopping

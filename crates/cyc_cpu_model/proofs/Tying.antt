@@ -19,19 +19,19 @@ use Rattle.cyc_expirations.specs.Expirations.{Expiration, after as timer_after}
 use Rattle.cyc_fire.specs.Acts.{same_level}
 use Rattle.cyc_model.specs.Acts.{Act, At, Call, same_soft, events_at}
 use Rattle.cyc_model.specs.Cpu.{Cyclic, Cpu, happen, nothing_here, is_of, level_of, others, with_moment}
-use Rattle.cyc_model.specs.Firing.{expiry, expire_all, fired, fire_here, due_here}
+use Rattle.cyc_model.specs.Firing.{expiry, expire_all, fired, fire_these, fire_here, due_here}
 use Rattle.cyc_model.specs.Serving.{level_after, level_at, serve_here}
 use Rattle.cyc_model.specs.Moving.{put_in, must_grow, bank_for, switch_here, moment_at, widen_here, place_here, take_here, mark_here, clear_here, reprogram_here}
 use Rattle.cyc_model.specs.Agreement.{as_level}
-use Rattle.cyc_model.proofs.Local.{local_fire, local_serve, local_widen}
+use Rattle.cyc_model.proofs.Local.{local_expire_all, local_serve, local_widen}
 use Rattle.cyc_cpu_model.specs.Tied.{HasOwn}
-use Rattle.cyc_cpu_model.proofs.Free.{IsNoAdmit, HasNoAdmit, fire_none, interrupt_none, widen_none}
+use Rattle.cyc_cpu_model.proofs.Free.{IsNoAdmit, HasNoAdmit, expire_none, interrupt_none, widen_none}
 use Rattle.cyc_cpu_model.proofs.Levels.{where_own, own_cpu}
 use Rattle.cyc_cpu_model.proofs.Leaving.{marked_cpu, mark_as, cleared_cpu, clear_as, own_marked, without, take_as}
 
 -- ---- what is admitted at a level
 
-abbrev Has : ℕ → Level → Type 0
+abbrev pub Has : ℕ → Level → Type 0
 Has id l = IsSome (l.cyclics id)
 
 some_map : (f : Admitted → Admitted) (o : Option Admitted) → IsSome (option_map f o) → IsSome o
@@ -57,7 +57,7 @@ finish_has None l q is = is
 finish_has (Some id) l q is = changed_has l.cyclics id cyclic_after_finish q is
 
 -- no event but an Admit makes it more
-event_has : (e : Event) (l : Level) (q : ℕ) → IsNoAdmit e → Has q (after e l) → Has q l
+pub event_has : (e : Event) (l : Level) (q : ℕ) → IsNoAdmit e → Has q (after e l) → Has q l
 event_has (Admit id index) l q none is = absurd none
 event_has (Expire id) l q none is = changed_has l.cyclics id cyclic_after_expire q is
 event_has (Lose id) l q none is = changed_has l.cyclics id cyclic_after_lose q is
@@ -190,7 +190,7 @@ expire_keep n (p ∷ ps) c =
 
 -- ---- each call keeps what is tied
 
-kept : (c d : Cpu) → ((q : ℕ) → level_of q d ≡ level_of q c) → ((soft : Soft) (q : ℕ) → Has q (level_at soft d)
+pub kept : (c d : Cpu) → ((q : ℕ) → level_of q d ≡ level_of q c) → ((soft : Soft) (q : ℕ) → Has q (level_at soft d)
     → Has q (level_at soft c))
     → ((id : ℕ) → d.removal ≡ Some id → c.removal ≡ Some id) → HasOwn c → HasOwn d
 kept c d levels fewer removal h = record {
@@ -198,17 +198,25 @@ kept c d levels fewer removal h = record {
   removed = λ id is high. h.removed id (removal id is) (sym (levels id) ∙ high);
 }
 
-same_cyclics : (c d : Cpu) → d.cyclics ≡ c.cyclics → (q : ℕ) → level_of q d ≡ level_of q c
+pub same_cyclics : (c d : Cpu) → d.cyclics ≡ c.cyclics → (q : ℕ) → level_of q d ≡ level_of q c
 same_cyclics c d same q = ap (λ ys. level_in (find (is_of q) ys)) same
 
-pub fire_ties : (n now : ℕ) (c : Cpu) → HasOwn c → HasOwn (fire_here n now c).cpu
-fire_ties n now c =
-    let d = expire_all n (due_here now c) c in
-    let k = expire_keep n (due_here now c) c in
-    kept c (fire_here n now c).cpu
-    (λ q. mapped_level (fired now (due_here now c) d.acts) q (fired_keeps now (due_here now c) d.acts) d.cpu.cyclics ∙ ap (λ ys. level_in (find (is_of q) ys)) k.0)
-    (λ soft q is. acts_have d.acts n soft (level_at soft c) q (fire_none n now c) (subst (Has q) ((local_fire n now c).levels soft) is))
+fired_level : (n now : ℕ) (made : List Expiration) (c : Cpu) (soft : Soft) → level_at soft (fire_these n now made c).cpu ≡ level_at soft (expire_all n made c).cpu
+fired_level n now made c soft.Low = refl
+fired_level n now made c soft.Lock = refl
+
+-- any expirations
+pub these_ties : (n now : ℕ) (made : List Expiration) (c : Cpu) → HasOwn c → HasOwn (fire_these n now made c).cpu
+these_ties n now made c =
+    let d = expire_all n made c in
+    let k = expire_keep n made c in
+    kept c (fire_these n now made c).cpu
+    (λ q. mapped_level (fired now made d.acts) q (fired_keeps now made d.acts) d.cpu.cyclics ∙ ap (λ ys. level_in (find (is_of q) ys)) k.0)
+    (λ soft q is. acts_have d.acts n soft (level_at soft c) q (expire_none n made c) (subst (Has q) (fired_level n now made c soft ∙ (local_expire_all n made c).levels soft) is))
     (λ id is. sym k.1 ∙ is)
+
+pub fire_ties : (n now : ℕ) (c : Cpu) → HasOwn c → HasOwn (fire_here n now c).cpu
+fire_ties n now c = these_ties n now (due_here now c) c
 
 pub serve_ties : (n : ℕ) (soft : Soft) (budget : ℕ) (c : Cpu) → HasOwn c → HasOwn (serve_here n soft budget c).cpu
 serve_ties n soft budget c =

@@ -34,12 +34,12 @@ pub fn answers_law<C: Calls>()
         → IsAnswered n call (shown_cpu online s.cpu) }
 {}
 
-/// From call to call the ids of such a CPU rise, what is admitted at a soft level is a cyclic of that level, and an open
-/// removal is of a cyclic of a soft level.
+/// From call to call, also over one that was stopped, the ids of such a CPU rise, what is admitted at a soft level is a cyclic of
+/// that level, and an open removal is of a cyclic of a soft level.
 ///
 /// It does nothing when it runs: its clauses are the law.
 pub fn tied_law<C: Calls>()
     ensures lawful { (v : CpuView Tables) → IsLawful firing_at v → IsTied v }
-    ensures kept { (call : CpuCall) (s t : Running C Tables) → (IsStopped call → ⊥)
+    ensures kept { (call : CpuCall) (s t : Running C Tables)
         → Does C.called C.count C.may_refuse fires firing_at (Interrupts C.called C.count C.may_refuse) s call t → IsTied s.cpu → IsTied t.cpu }
 {}

@@ -1,8 +1,9 @@
-use Rattle.cyc_cpu_model.proofs.Tied.{lawful_tied, tied}
+use Rattle.cyc_cpu_model.proofs.Tied.{lawful_tied}
+use Rattle.cyc_cpu_model.proofs.Stopping.{tied_always}
 use Rattle.cyc_cpu_model.proofs.tied_law.Goals as goal
 
 pub returns-clause-lawful : goal.returns-clause-lawful
 returns-clause-lawful g c = lawful_tied
 
 pub returns-clause-kept : goal.returns-clause-kept
-returns-clause-kept g c = λ call s t goes does h. tied g.C.Calls.called g.C.Calls.count g.C.Calls.may_refuse call s t goes does h
+returns-clause-kept g c = λ call s t does h. tied_always g.C.Calls.called g.C.Calls.count g.C.Calls.may_refuse call s t does h
