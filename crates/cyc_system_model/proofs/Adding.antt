@@ -17,8 +17,8 @@ use Rattle.cyc_places.specs.declared.record.Place.{Place as RecordPlace}
 use Rattle.cyc_places.specs.declared.record.Place.TheVariants as place
 use Rattle.cyc_places.specs.declared.record.Record.{Record}
 use Rattle.cyc_places.specs.Places.{IsRecord, no_counts, new_record, ended_on}
-use Rattle.cyc_system.specs.System.{SystemView}
-use Rattle.cyc_system.specs.Refusals as why
+use Rattle.cyc_agreement.specs.System.{SystemView}
+use Rattle.cyc_agreement.specs.Refusals as why
 use Rattle.cyc_system.specs.Calls.{Add, Changes}
 use Rattle.cyc_model.specs.Acts.{calls_of}
 use Rattle.cyc_model.specs.Cpu.{Cyclic}
@@ -44,7 +44,7 @@ use Rattle.cyc_system_model.proofs.Entering.{entered, unchanged, free_on, same_s
 -- ---- a new record
 
 -- the records of a system with one more
-one_more : (rs : List Record) (new : Record) (k : ℕ) (r : Record) → IsRecord (rs ++ new ∷ []) k r → IsRecord rs k r ⊎ (r ≡ new)
+pub one_more : (rs : List Record) (new : Record) (k : ℕ) (r : Record) → IsRecord (rs ++ new ∷ []) k r → IsRecord rs k r ⊎ (r ≡ new)
 one_more [] new zero r is = inr (same r new is)
   where
     same : (a b : Record) → Some b ≡ Some a → a ≡ b
@@ -57,7 +57,7 @@ new_ended : (n id : ℕ) (level : Level) (p : RecordPlace) → shown_counts (end
 new_ended n id level p = ap shown_counts (same_all 16 n no_counts)
 
 -- the new record has no ended stay, and no other changed
-ended_more : (s : State) (v : SystemView Tables) (id : ℕ) (level : Level) (p : RecordPlace) (k n : ℕ) (r : Record) → Shows s v → id ≡ s.last_id + 1
+pub ended_more : (s : State) (v : SystemView Tables) (id : ℕ) (level : Level) (p : RecordPlace) (k n : ℕ) (r : Record) → Shows s v → id ≡ s.last_id + 1
     → IsRecord v.records k r ⊎ (r ≡ new_record id level p) → s.ended r.id n ≡ shown_counts (ended_on n r)
 ended_more s v id level p k n r h gives (inl old) = h.ended k r old n
 ended_more s v id level p k n r h gives (inr new) =

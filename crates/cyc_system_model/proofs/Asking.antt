@@ -14,10 +14,10 @@ use Rattle.cyc_places.specs.declared.record.Place.{Place as RecordPlace}
 use Rattle.cyc_places.specs.declared.record.Place.TheVariants as place
 use Rattle.cyc_places.specs.declared.record.Record.{Record}
 use Rattle.cyc_places.specs.Places.{HasRisingIds, is_everywhere as everywhere_in}
-use Rattle.cyc_system.specs.System.{SystemView, ids_of, is_leaving_here, record_of, is_unknown as unknown_in, is_leaving as leaving_in, is_omnipresent as omnipresent_in}
-use Rattle.cyc_system.specs.Refusals as why
-use Rattle.cyc_system.specs.Binding.{HasHome}
-use Rattle.cyc_system.proofs.Recording.{record_here}
+use Rattle.cyc_agreement.specs.System.{SystemView, ids_of, is_leaving_here, record_of, is_unknown as unknown_in, is_leaving as leaving_in, is_omnipresent as omnipresent_in}
+use Rattle.cyc_agreement.specs.Refusals as why
+use Rattle.cyc_agreement.specs.Binding.{HasHome}
+use Rattle.cyc_agreement.proofs.Recording.{record_here}
 use Rattle.cyc_model.specs.Cpu.{Cpu, is_of, has_cyclic}
 use Rattle.cyc_model.specs.State.{State, Place, Placed, absent}
 use Rattle.cyc_model.specs.Places.{place_of, is_unknown, is_leaving, is_everywhere, is_omnipresent, home_at, home_of}
@@ -56,7 +56,7 @@ is_some_in : (o : Option Record) → is_some (place_in o) ≡ is_some o
 is_some_in None = refl
 is_some_in (Some r) = refl
 
-unknown_shown : (id : ℕ) (s : State) (v : SystemView Tables) → Shows s v → is_unknown id s ≡ unknown_in id v
+pub unknown_shown : (id : ℕ) (s : State) (v : SystemView Tables) → Shows s v → is_unknown id s ≡ unknown_in id v
 unknown_shown id s v h = ap (λ o. not (is_some o)) (place_shown id s v h) ∙ ap not (is_some_in (record_of id v))
 
 everywhere_shown : (level : Level) (p : RecordPlace) → is_everywhere (Some (shown_place level p)) ≡ everywhere_in p
@@ -86,12 +86,12 @@ any_leaving id (o ∷ os) [] long = absurd (omega (arith, long))
 any_leaving id (o ∷ os) (v ∷ vs) long =
     ap (λ b. option_map_or (λ own. own == id) v.removal false || b) (any_leaving id os vs (omega (arith, long)))
 
-leaving_shown : (id : ℕ) (s : State) (v : SystemView Tables) → Shows s v → length v.cpus.online ≡ length v.cpus.cpus
+pub leaving_shown : (id : ℕ) (s : State) (v : SystemView Tables) → Shows s v → length v.cpus.online ≡ length v.cpus.cpus
     → is_leaving id s ≡ leaving_in id v
 leaving_shown id s v h long =
     ap (λ cs. list_any (λ (c : Cpu). option_map_or (λ own. own == id) c.removal false) cs) h.cpus ∙ any_leaving id v.cpus.online v.cpus.cpus long
 
-online_at : (os : List Bool) (vs : List (CpuView Tables)) (n : ℕ) → length os ≡ length vs
+pub online_at : (os : List Bool) (vs : List (CpuView Tables)) (n : ℕ) → length os ≡ length vs
     → (get_or (shown_list os vs) n absent).online ≡ option_map_or (λ (o : Bool). o) (slice_get os n) false
 online_at [] [] zero long = refl
 online_at [] [] (suc n) long = refl
@@ -100,7 +100,7 @@ online_at (o ∷ os) [] n long = absurd (omega (arith, long))
 online_at (o ∷ os) (v ∷ vs) zero long = refl
 online_at (o ∷ os) (v ∷ vs) (suc n) long = online_at os vs n (omega (arith, long))
 
-any_id : (id : ℕ) (cs : List Timed) → list_any (is_of id) (map shown cs) ≡ list_any (λ own. own == id) (map (λ (c : Timed). c.timer.id) cs)
+pub any_id : (id : ℕ) (cs : List Timed) → list_any (is_of id) (map shown cs) ≡ list_any (λ own. own == id) (map (λ (c : Timed). c.timer.id) cs)
 any_id id [] = refl
 any_id id (c ∷ cs) = ap (λ b. (c.timer.id == id) || b) (any_id id cs)
 

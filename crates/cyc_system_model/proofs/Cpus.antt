@@ -121,7 +121,7 @@ pub record RanAt {C : Type 0} (count : C → ℕ → ℕ) (n : ℕ) (call : CpuC
   pub tied : AreTied t.cpus
   pub long : length t.cpus.online ≡ length t.cpus.cpus
 
-at_same : (n m : ℕ) (v w : CpusView Tables) (x y : CpuView Tables) → IsCpu n x v → w ≡ with_cpu v n y → (cpu : CpuView Tables) → m ≡ n
+pub at_same : (n m : ℕ) (v w : CpusView Tables) (x y : CpuView Tables) → IsCpu n x v → w ≡ with_cpu v n y → (cpu : CpuView Tables) → m ≡ n
     → IsCpu m cpu w → IsTied y → IsTied cpu
 at_same n m v w x y here rest cpu e is tie =
     let there : slice_get (slice_set v.cpus n y) n ≡ Some y = get_set_same v.cpus n y (slice_get_within v.cpus n x here) in

@@ -16,7 +16,7 @@ use Rattle.cyc_system_model.specs.Shown.{shown_list, shown_cpus}
 
 -- ---- the online CPUs
 
-same_numbers : (n : ℕ) (os : List Bool) (vs : List (CpuView Tables)) → length os ≡ length vs → numbers_from n (λ (c : Cpu). c.online) (shown_list os vs) ≡ online_from n os
+pub same_numbers : (n : ℕ) (os : List Bool) (vs : List (CpuView Tables)) → length os ≡ length vs → numbers_from n (λ (c : Cpu). c.online) (shown_list os vs) ≡ online_from n os
 same_numbers n [] vs long = refl
 same_numbers n (o ∷ os) [] long = absurd (omega (arith, long))
 same_numbers n (true ∷ os) (v ∷ vs) long = ap (λ ns. n ∷ ns) (same_numbers (n + 1) os vs (omega (arith, long)))

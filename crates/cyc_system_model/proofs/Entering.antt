@@ -12,7 +12,7 @@ use Rattle.cyc_level.specs.Events.{after}
 use Rattle.cyc_core.specs.Tables.{Tables}
 use Rattle.cyc_cpu.specs.Calls.{Widen, Place}
 use Rattle.cyc_cpus.specs.Cpus.{CpusView}
-use Rattle.cyc_system.specs.System.{SystemView}
+use Rattle.cyc_agreement.specs.System.{SystemView}
 use Rattle.cyc_places.specs.Places.{IsRecord}
 use Rattle.cyc_model.specs.Acts.{Act, calls_of, events_at}
 use Rattle.cyc_model.specs.Cpu.{Cyclic, Cpu}
@@ -28,7 +28,7 @@ use Rattle.cyc_system_model.specs.Shown.{shown_cpus, shown_record, Shows}
 use Rattle.cyc_system_model.proofs.Lists.{set_twice, set_get, get_set}
 use Rattle.cyc_system_model.proofs.Cpus.{cpu_at, DoneAt}
 
-can_append : (xs ys : List Event) (l : SoftLevel) → AllCanBeAdmitted xs l → AllCanBeAdmitted ys (level_after xs l)
+pub can_append : (xs ys : List Event) (l : SoftLevel) → AllCanBeAdmitted xs l → AllCanBeAdmitted ys (level_after xs l)
     → AllCanBeAdmitted (xs ++ ys) l
 can_append [] ys l first rest = rest
 can_append (x ∷ xs) ys l first rest = (first.0, can_append xs ys (after x l) first.1 rest)

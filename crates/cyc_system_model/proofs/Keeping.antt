@@ -1,210 +1,399 @@
--- Every call keeps what the laws ask of a system, and a new one has it.
-use Rattle.std.proofs.Common.{◌≡◌, ℕ, zero, suc, ◌<◌, ◌⊎◌, inl, inr, Bool, true, false, List, [], ◌∷◌, ◌++◌, length, map, Some, None, IsSome, refl, ap, sym, ◌∙◌, subst, arith}
-use Rattle.std.specs.Prelude.{slice_set, replicate, Result, Ok, Err}
-use Rattle.std.specs.List.{slice_get}
-use Rattle.std.proofs.lemmas.Option.{slice_get_within}
+-- What every call keeps of a system: what the laws here ask of one, and each CPU's bound on expirations.
+use Rattle.std.proofs.Common.{◌≡◌, ℕ, ◌+◌, ◌≤◌, inl, inr, Bool, true, false, cond, List, [], ◌∷◌, ◌++◌, length, map, Option, Some, None, option_map, refl, ap, sym, ◌∙◌, subst, arith}
+use Rattle.std.specs.Prelude.{slice_set, remove, Result, Ok, Err}
+use Rattle.std.specs.List.{slice_get, FoldsTo}
+use Rattle.std.proofs.lemmas.Option.{slice_get_within, slice_get-map}
+use Rattle.std.proofs.lemmas.List.{length-set}
 use mathlib.Core.Logic.{dite}
 use native.Mathlib.Decide.{ℕ_discrete}
-use Rattle.cyc_types.specs.declared.level.Level.{Level}
-use Rattle.cyc_types.specs.declared.level.Soft.{Soft}
-use Rattle.cyc_types.specs.declared.level.Soft.TheVariants as soft
-use Rattle.cyc_types.specs.declared.refusal.Refusal.{Refusal}
 use Rattle.cyc_types.specs.Series.{first}
-use Rattle.cyc_level.specs.Level.{Level as SoftLevel, empty_level}
-use Rattle.cyc_core.specs.Tables.{Tables, level_of}
-use Rattle.cyc_cpu.specs.Cpu.{CpuView}
+use Rattle.cyc_types.specs.declared.firing.Sent.{Sent}
+use Rattle.cyc_types.specs.declared.level.Level.{Level}
+use Rattle.cyc_types.specs.declared.receipt.Receipt.{Receipt}
+use Rattle.cyc_types.specs.declared.refusal.JuggleReport.{JuggleReport}
+use Rattle.cyc_types.specs.declared.refusal.Refusal.{Refusal}
+use Rattle.cyc_core.specs.Tables.{Tables}
+use Rattle.cyc_cpu.specs.declared.removing.Removal.{Removal}
+use Rattle.cyc_cpu.specs.declared.removing.Removal.TheVariants as on_cpu
+use Rattle.cyc_cpu.specs.Cpu.{CpuView, Running, running}
 use Rattle.cyc_cpu.specs.Soft.{fires, firing_at as seen, Interrupts}
-use Rattle.cyc_cpu.specs.Calls.{Fire, AskPending, Reserve, Reprogram as Reprogrammed, SoftInterrupt as CpuSoftInterrupt}
+use Rattle.cyc_cpu.specs.Calls.{CpuCall, Fire, AskPending, AskRoom, Reserve, Reprogram as Reprogrammed, TakeNow, Widen, SoftInterrupt as CpuSoftInterrupt, Does as CpuDoes}
+use Rattle.cyc_cpu.specs.Calls as cpu
+use Rattle.cyc_cpu.proofs.Calling.{changes_most, fire_keeps}
 use Rattle.cyc_places.specs.declared.record.Place.{Place as RecordPlace}
+use Rattle.cyc_places.specs.declared.record.Place.TheVariants as place
 use Rattle.cyc_places.specs.declared.record.Record.{Record}
-use Rattle.cyc_places.specs.Places.{IsRecord, HasRisingIds, with_place}
-use Rattle.cyc_cpus.specs.Cpus.{CpusView, CallOn, Works, on, new_cpu as new_view, running_cpus}
+use Rattle.cyc_places.specs.Places.{IsRecord, HasRisingIds, with_place, with_ended, ended_on, summed, no_counts, new_record}
+use Rattle.cyc_cpus.specs.Cpus.{CpusView, CallOn, Works, DoesAt, RunsAt, with_cpu, on, online_cpus, running_cpus}
 use Rattle.cyc_cpus.specs.Shifting.{moving}
-use Rattle.cyc_cpus.proofs.Spots.{get_set_same, get_set_other}
-use Rattle.cyc_system.specs.System.{SystemView, RunningSystem}
-use Rattle.cyc_system.specs.Agreement.{Agrees}
-use Rattle.cyc_system.specs.Adding.{OnlyWorks, entering}
-use Rattle.cyc_system.specs.Binding.{GoesTo, Records}
-use Rattle.cyc_system.specs.Calls.{SystemCall, Add, Bind, Reprogram, ReprogramOn, FireOne, SoftInterrupt, Changes, Does, of_cpu}
-use Rattle.cyc_system.proofs.Spots.{same_some, none_some}
-use Rattle.cyc_model.specs.Cpu.{new_cpu, level_of as cyclic_level}
-use Rattle.cyc_model.specs.Serving.{level_at}
-use Rattle.cyc_model.specs.Agreement.{as_level}
-use Rattle.cyc_model.specs.Script.{start}
-use Rattle.cyc_cpu_model.specs.Shown.{shown_cpu}
-use Rattle.cyc_cpu_model.specs.Tied.{IsTied}
-use Rattle.cyc_system_model.specs.Shown.{shown_list, AreTied, IsSystem, Shows}
-use Rattle.cyc_system_model.specs.Kept.{AreNew, new_system, IsStopped}
-use Rattle.cyc_system_model.proofs.Cpus.{ran_at, done_at}
+use Rattle.cyc_cpus.specs.Reserving.{rooms, reserves, ReservesEach}
+use Rattle.cyc_cpus.proofs.Spots.{get_set_same, get_set_other, cpu_beside}
+use Rattle.cyc_agreement.specs.System.{SystemView, RunningSystem, ids_on}
+use Rattle.cyc_agreement.specs.Agreement.{Agrees, most_on}
+use Rattle.cyc_agreement.proofs.Spots.{same_some, none_some}
+use Rattle.cyc_agreement.specs.Adding.{OnlyWorks, entering}
+use Rattle.cyc_agreement.specs.Binding.{GoesTo, Records}
+use Rattle.cyc_removing.specs.Removing.{counts_of, BeginsOn, Begun, Answers}
+use Rattle.cyc_removing.specs.declared.removing.SystemRemoval.TheVariants as system
+use Rattle.cyc_removing.specs.Polling.{PollsOn, Polled}
+use Rattle.cyc_removing.specs.Counting.{asked}
+use Rattle.cyc_juggling.specs.declared.turning.Turn.{Turn}
+use Rattle.cyc_juggling.specs.declared.turning.Turn.TheVariants as turn
+use Rattle.cyc_juggling.specs.Juggling.{TakesTurn, Turns, single_ids}
+use Rattle.cyc_juggling.specs.Leaving.{quiet, Retires, offline_at, Leaves}
+use Rattle.cyc_everywhere.specs.Omni.{entering_each}
+use Rattle.cyc_everywhere.specs.Online.{GoesOnline, staying, is_staying, returns, after_return, switched_on}
+use Rattle.cyc_system.specs.Calls.{SystemCall, Add, AddOmni, Bind, BeginRemove, PollRemove, AskTotals, Reprogram, ReprogramOn, Juggle, Offline, Online, FireOne, SoftInterrupt, Changes, Does}
+use Rattle.cyc_cpu_model.proofs.Stopping.{tied_always}
+use Rattle.cyc_system_model.specs.Shown.{IsSystem}
+use Rattle.cyc_system_model.proofs.Cpus.{at_same, done_at}
+use Rattle.cyc_system_model.proofs.Half.{Half, IsFull, half, whole, half_same, half_parts, half_cpus, half_done, half_put, half_more, half_gone, ended_full, taken_full, as_low}
 
--- ---- the CPUs
+abbrev SameMost : CpusView Tables → CpusView Tables → Type 0
+SameMost v w = (n : ℕ) → most_on n w ≡ most_on n v
 
-works_tied : (way : List CallOn) (v w : CpusView Tables) → length v.online ≡ length v.cpus → AreTied v → Works fires seen way v w → AreTied w
-works_tied [] v w long tied same = subst AreTied same tied
-works_tied (c ∷ way) v w long tied (u, did, rest) =
-    let d = done_at c.cpu c.call v u long tied did in
-    works_tied way u w d.long d.tied rest
+record Kept (v w : SystemView Tables) : Type 0 where
+  half : Half w
+  most : SameMost v.cpus w.cpus
 
--- ---- the records
+kept_same : (v w : SystemView Tables) → Half v → w ≡ v → Kept v w
+kept_same v w h same = record { half = half_same v w h same; most = λ n. ap (λ (x : SystemView Tables). most_on n x.cpus) same }
 
--- one record has another place
-rises_set : (rs : List Record) (k : ℕ) (r : Record) (p : RecordPlace) → HasRisingIds rs → IsRecord rs k r → HasRisingIds (slice_set rs k (with_place p r))
-rises_set rs k r p rising is i j a b less at_i at_j =
-    let (c, there, named) = back i a at_i in
-    let (d, here, known) = back j b at_j in
-    let below = rising i j c d less there here in
-    omega (arith, below, named, known)
+kept_then : (v u w : SystemView Tables) → Kept v u → Kept u w → Kept v w
+kept_then v u w a b = record { half = b.half; most = λ n. b.most n ∙ a.most n }
+
+kept_parts : (v u w : SystemView Tables) → Kept v u → w.cpus ≡ u.cpus → w.records ≡ u.records → w.last ≡ u.last → Kept v w
+kept_parts v u w k cpus records last = record {
+  half = half_parts u w k.half cpus records last;
+  most = λ n. ap (most_on n) cpus ∙ k.most n;
+}
+
+-- ---- calls on its CPUs
+
+most_set : (n m : ℕ) (x y : CpuView Tables) (v w : CpusView Tables) → slice_get v.cpus n ≡ Some x → w ≡ with_cpu v n y → y.most ≡ x.most → most_on m w ≡ most_on m v
+most_set n m x y v w here rest same = ap (most_on m) rest ∙ dite (ℕ_discrete m n) there
+    (λ ne. ap (option_map (λ (c : CpuView Tables). c.most)) (get_set_other v.cpus n m y ne))
   where
-    back : (i : ℕ) (a : Record) → IsRecord (slice_set rs k (with_place p r)) i a → (c : Record) × IsRecord rs i c × (c.id ≡ a.id)
-    back i a at = dite (ℕ_discrete i k) (λ e. at_same e)
-        (λ ne. (a, sym (get_set_other rs k i (with_place p r) ne) ∙ at, refl))
-      where
-        at_same : i ≡ k → (c : Record) × IsRecord rs i c × (c.id ≡ a.id)
-        at_same e = (
-          r,
-          subst (λ m. IsRecord rs m r) (sym e) is,
-          ap (λ (x : Record). x.id) (same_some
-              (sym (get_set_same rs k (with_place p r) (slice_get_within rs k r is))
-              ∙ subst (λ m. slice_get (slice_set rs k (with_place p r)) m ≡ Some a) e at)),
-        )
+    own : option_map (λ (c : CpuView Tables). c.most) (slice_get (slice_set v.cpus n y) n) ≡ option_map (λ (c : CpuView Tables). c.most) (slice_get v.cpus n)
+    own = ap (option_map (λ (c : CpuView Tables). c.most)) (get_set_same v.cpus n y (slice_get_within v.cpus n x here)) ∙ ap Some same
+        ∙ ap (option_map (λ (c : CpuView Tables). c.most)) (sym here)
 
-get_either : {A : Type 0} (xs : List A) (x : A) (i : ℕ) (r : A) → slice_get (xs ++ x ∷ []) i ≡ Some r
-    → (slice_get xs i ≡ Some r) ⊎ ((i ≡ length xs) × (r ≡ x))
-get_either [] x zero r e = inr (refl, sym (same_some e))
-get_either [] x (suc i) r e = absurd (none_some e)
-get_either (y ∷ ys) x zero r e = inl e
-get_either (y ∷ ys) x (suc i) r e = by (get_either ys x i r e)
-  where
-    by : (slice_get ys i ≡ Some r) ⊎ ((i ≡ length ys) × (r ≡ x)) → (slice_get ys i ≡ Some r) ⊎ ((suc i ≡ suc (length ys)) × (r ≡ x))
-    by (inl h) = inl h
-    by (inr (a, b)) = inr (ap suc a, b)
+    there : m ≡ n → most_on m (with_cpu v n y) ≡ most_on m v
+    there e = subst (λ k. most_on k (with_cpu v n y) ≡ most_on k v) (sym e) own
 
--- one more, with a greater id
-rises_more : (rs : List Record) (new : Record) → HasRisingIds rs → ((k : ℕ) (r : Record) → IsRecord rs k r → r.id < new.id) → HasRisingIds (rs ++ new ∷ [])
-rises_more rs new rising below i j a b less at_i at_j = pick (get_either rs new i a at_i) (get_either rs new j b at_j)
+kept_did : (c : CallOn) (v : SystemView Tables) (u : CpusView Tables) → Half v → DoesAt fires seen v.cpus c u → Kept v (record v { cpus = u })
+kept_did c v u h did = record {
+  half = half_done c.cpu c.call v u h (done_at c.cpu c.call v.cpus u h.long h.tied did);
+  most = λ m. most_set c.cpu m did.before did.after v.cpus u did.here did.rest (changes_most fires seen did.before did.after c.call did.change);
+}
+
+kept_works : (way : List CallOn) (v : SystemView Tables) (u : CpusView Tables) → Half v → Works fires seen way v.cpus u → Kept v (record v { cpus = u })
+kept_works [] v u h same = kept_same v (record v { cpus = u }) h (λ z. record v { cpus = sym same z })
+kept_works (c ∷ way) v u h (x, did, rest) =
+    let one = kept_did c v x h did in
+    kept_then v (record v { cpus = x }) (record v { cpus = u }) one (kept_works way (record v { cpus = x }) u one.half rest)
+
+kept_only : (way : List CallOn) (v w : SystemView Tables) → Half v → OnlyWorks fires seen way v w → Kept v w
+kept_only way v w h (works, records, last) = kept_parts v (record v { cpus = w.cpus }) w (kept_works way v w.cpus h works) refl records last
+
+-- ---- its records
+
+kept_put : (v : SystemView Tables) (k : ℕ) (r x : Record) → Half v → IsRecord v.records k r → x.id ≡ r.id → IsFull (length v.cpus.cpus) x
+    → Kept v (record v { records = slice_set v.records k x })
+kept_put v k r x h is same new = record { half = half_put v k r x h is same new; most = λ n. refl }
+
+kept_placed : (id : ℕ) (p : RecordPlace) (v u w : SystemView Tables) → Kept v u → w.cpus ≡ u.cpus → Records id p u w → Kept v w
+kept_placed id p v u w h cpus (k, r, is, named, records, last) =
+    kept_parts v (record u { records = slice_set u.records k (with_place p r) }) w
+    (kept_then v u (record u { records = slice_set u.records k (with_place p r) }) h (kept_put u k r (with_place p r) h.half is refl (h.half.full k r is))) cpus records last
+
+-- a stay that ended on a CPU
+kept_ended : (n : ℕ) (call : CpuCall) (counts : Sent) (k : ℕ) (r : Record) (v w : SystemView Tables) → Half v → DoesAt fires seen v.cpus (on n call) w.cpus
+    → IsRecord v.records k r → w.records ≡ slice_set v.records k (with_ended n (summed (ended_on n r) counts) r) → w.last ≡ v.last → Kept v w
+kept_ended n call counts k r v w h did is records last =
+    let one = kept_did (on n call) v w.cpus h did in
+    let new = with_ended n (summed (ended_on n r) counts) r in
+    let low = slice_get_within v.cpus.cpus n did.before did.here in
+    let many = as_low n call v w.cpus h did in
+    let full : IsFull (length w.cpus.cpus) new = ended_full n (length w.cpus.cpus) (summed (ended_on n r) counts) r
+    (omega (arith, low, many)) (subst (λ c. IsFull c r) (sym many) (h.full k r is)) in
+    kept_parts v (record v { cpus = w.cpus; records = slice_set v.records k new }) w
+    (kept_then v (record v { cpus = w.cpus }) (record v { cpus = w.cpus; records = slice_set v.records k new }) one
+    (kept_put (record v { cpus = w.cpus }) k r new one.half is refl full)) refl records last
+
+-- ---- adding
+
+kept_each : (answer : Result (Unit {0}) Refusal) (v : SystemView Tables) (u : CpusView Tables) → Half v → ReservesEach fires seen 1 answer v.cpus u → Kept v (record v { cpus = u })
+kept_each (Ok done) v u h (x, asked_all, taken) =
+    let one = kept_works (rooms 1 (online_cpus v.cpus)) v x h asked_all in
+    kept_then v (record v { cpus = x }) (record v { cpus = u }) one (kept_works (reserves 1 (online_cpus v.cpus)) (record v { cpus = x }) u one.half taken)
+kept_each (Err e) v u h (inl (before, n, stands, works)) = kept_works (rooms 1 before ++ on n (AskRoom 1 (Err e)) ∷ []) v u h works
+kept_each (Err e) v u h (inr (x, asked_all, (memory, before, n, stands, works))) =
+    let one = kept_works (rooms 1 (online_cpus v.cpus)) v x h asked_all in
+    kept_then v (record v { cpus = x }) (record v { cpus = u }) one
+    (kept_works (reserves 1 before ++ on n (Reserve 1 (Err e)) ∷ []) (record v { cpus = x }) u one.half works)
+
+kept_more : (v u w : SystemView Tables) (id : ℕ) (level : Level) (p : RecordPlace) → Kept v u → u.records ≡ v.records → u.last ≡ v.last → id ≡ v.last + 1
+    → w.cpus ≡ u.cpus → w.records ≡ v.records ++ new_record id level p ∷ [] → w.last ≡ id → Kept v w
+kept_more v u w id level p k same kept_last named cpus records last = record {
+  half = half_parts _ w (half_more u id level p k.half (named ∙ ap (λ n. n + 1) (sym kept_last))) cpus
+      (records ∙ ap (λ rs. rs ++ new_record id level p ∷ []) (sym same)) last;
+  most = λ n. ap (most_on n) cpus ∙ k.most n;
+}
+
+-- ---- moves
+
+kept_goes : (id home target : ℕ) (answer : Result (Unit {0}) Refusal) (v : SystemView Tables) (w : CpusView Tables) → Half v
+    → GoesTo fires seen id home target answer v.cpus w → Kept v (record v { cpus = w })
+kept_goes id home target answer v w h (inl (e, ok, same)) = kept_same v (record v { cpus = w }) h (λ z. record v { cpus = same z })
+kept_goes id home target (Ok done) v w h (inr (ne, (taken, works))) = kept_works (moving id home target taken) v w h works
+kept_goes id home target (Err e) v w h (inr (ne, inl (removed, open_there, why_is, same))) = kept_same v (record v { cpus = w }) h (λ z. record v { cpus = same z })
+kept_goes id home target (Err e) v w h (inr (ne, inr (inl (still, n, some, why_is, works)))) = kept_works (on home (AskPending id (Some n)) ∷ []) v w h works
+kept_goes id home target (Err e) v w h (inr (ne, inr (inr (still, works)))) =
+    kept_works (on home (AskPending id (Some 0)) ∷ on target (Reserve 1 (Err e)) ∷ []) v w h works
+
+kept_turn : (source id : ℕ) (t : Turn) (v w : SystemView Tables) → Half v → TakesTurn fires seen source id t v w → Kept v w
+kept_turn source id turn.StaysBound v w h (at, same) = kept_same v w h same
+kept_turn source id turn.StaysPending v w h (at, n, some, only) = kept_only (on source (AskPending id (Some n)) ∷ []) v w h only
+kept_turn source id turn.StaysRefused v w h (at, d, dest, e, only) =
+    kept_only (on source (AskPending id (Some 0)) ∷ on d (Reserve 1 (Err e)) ∷ []) v w h only
+kept_turn source id turn.Moves v w h (at, d, dest, (taken, works), records) =
+    kept_placed id (place.On d false) v (record v { cpus = w.cpus }) w (kept_works (moving id source d taken) v w.cpus h works) refl records
+
+kept_turns : (source : ℕ) (ids : List ℕ) (report : JuggleReport) (v w : SystemView Tables) → Half v → Turns fires seen source ids report v w → Kept v w
+kept_turns source [] report v w h (is, same) = kept_same v w h same
+kept_turns source (id ∷ ids) report v w h (t, u, rest, takes, counted, more) =
+    let one = kept_turn source id t v u h takes in
+    kept_then v u w one (kept_turns source ids rest u w one.half more)
+
+kept_retires : (n : ℕ) (ids : List ℕ) (v w : SystemView Tables) → Half v → FoldsTo (Retires fires seen n) v ids w → Kept v w
+kept_retires n [] v w h same = kept_same v w h (sym same)
+kept_retires n (id ∷ ids) v w h (u, (taken, did, k, r, is, named, records, last), rest) =
+    let one = kept_ended n (TakeNow id (Ok taken)) taken.sent k r v u h did is records last in
+    kept_then v u w one (kept_retires n ids u w one.half rest)
+
+-- which CPUs are online
+kept_switched : (n : ℕ) (b : Bool) (v : SystemView Tables) → Half v → Kept v (record v { cpus = record v.cpus { online = slice_set v.cpus.online n b } })
+kept_switched n b v h = record {
+  half = record {
+    long = length-set v.cpus.online n b ∙ h.long;
+    few = h.few;
+    tied = h.tied;
+    rising = h.rising;
+    full = h.full;
+    given = h.given;
+  };
+  most = λ m. refl;
+}
+
+kept_leaves : (n : ℕ) (report : JuggleReport) (answer : Result (Unit {0}) Refusal) (v w : SystemView Tables) → Half v → Leaves fires seen n report answer v w → Kept v w
+kept_leaves n report answer v w h (inl (left, is, same)) = kept_same v w h same
+kept_leaves n report answer v w h (inr (inl (none, is, (before, id, stands, found, some, only)))) = kept_only (quiet n before ++ on n (AskPending id (Some found)) ∷ []) v w h only
+kept_leaves n report answer v w h (inr (inr (none, is, (a, only, empty, retires, same)))) =
+    let one = kept_only (quiet n (ids_on n v.cpus)) v a h only in
+    let two = kept_retires n (ids_on n v.cpus) a empty one.half retires in
+    let all = kept_then v a empty one two in
+    kept_then v empty w all (kept_then empty (offline_at n empty) w (kept_switched n false empty all.half) (kept_same (offline_at n empty) w (kept_switched n false empty all.half).half same))
+
+-- ---- removals
+
+kept_begins : (id : ℕ) (way : List Begun) (v w : SystemView Tables) → Half v → FoldsTo (λ u b x. BeginsOn fires seen id b.cpu b.found u x) v way w → Kept v w
+kept_begins id [] v w h same = kept_same v w h (sym same)
+kept_begins id (b ∷ way) v w h (u, did, rest) =
+    let one = by b.found did in
+    kept_then v u w one (kept_begins id way u w one.half rest)
   where
-    pick : (slice_get rs i ≡ Some a) ⊎ ((i ≡ length rs) × (a ≡ new)) → (slice_get rs j ≡ Some b) ⊎ ((j ≡ length rs) × (b ≡ new)) → a.id < b.id
-    pick (inl there) (inl here) = rising i j a b less there here
-    pick (inl there) (inr (last, is)) = subst (λ (x : Record). a.id < x.id) (sym is) (below i a there)
-    pick (inr (last, is)) (inl here) = let low = slice_get_within rs j b here in absurd (omega (arith, low, less, last))
-    pick (inr (last, is)) (inr (end, same)) = absurd (omega (arith, less, last, end))
+    by : (found : Removal) → BeginsOn fires seen id b.cpu found v u → Kept v u
+    by (on_cpu.Done receipt) (did, k, r, is, named, records, last) =
+        kept_ended b.cpu (cpu.BeginRemove id (Ok (on_cpu.Done receipt))) (counts_of receipt) k r v u h did is records last
+    by (on_cpu.Kept left) (did, records, last) =
+        kept_parts v (record v { cpus = u.cpus }) u (kept_did (on b.cpu (cpu.BeginRemove id (Ok (on_cpu.Kept left)))) v u.cpus h did) refl records last
+
+kept_polls : (id : ℕ) (way : List Polled) (v w : SystemView Tables) → Half v → FoldsTo (λ u p x. PollsOn fires seen id p.cpu p.answer u x) v way w → Kept v w
+kept_polls id [] v w h same = kept_same v w h (sym same)
+kept_polls id (p ∷ way) v w h (u, did, rest) =
+    let one = by p.answer did in
+    kept_then v u w one (kept_polls id way u w one.half rest)
+  where
+    by : (answer : Option Receipt) → PollsOn fires seen id p.cpu answer v u → Kept v u
+    by (Some receipt) (did, k, r, is, named, records, last) =
+        kept_ended p.cpu (cpu.PollRemove (Some receipt)) (counts_of receipt) k r v u h did is records last
+    by None (did, records, last) =
+        kept_parts v (record v { cpus = u.cpus }) u (kept_did (on p.cpu (cpu.PollRemove None)) v u.cpus h did) refl records last
+
+kept_answers : (id : ℕ) (receipt : Receipt) (v u w : SystemView Tables) → Kept v u → Answers id receipt u w → Kept v w
+kept_answers id receipt v u w k a = record {
+  half = half_parts (record u { records = remove u.records a.place }) w (half_gone u a.place k.half) a.cpus a.records a.last;
+  most = λ n. ap (most_on n) a.cpus ∙ k.most n;
+}
+
+-- ---- a CPU that takes part again
+
+same_ids : (f : Record → Record) → ((r : Record) → (f r).id ≡ r.id) → (rs : List Record) → HasRisingIds rs → HasRisingIds (map f rs)
+same_ids f same rs rising i j a b less at_i at_j =
+    let (c, there, is) = back i a at_i in
+    let (d, here, e) = back j b at_j in
+    let low = rising i j c d less there here in
+    let x = same c in
+    let y = same d in
+    omega (arith, low, x, y, is, e)
+  where
+    of_map : (o : Option Record) (a : Record) → option_map f o ≡ Some a → (c : Record) × (o ≡ Some c) × (a.id ≡ (f c).id)
+    of_map None a is = absurd (none_some is)
+    of_map (Some c) a is = (c, refl, ap (λ (r : Record). r.id) (sym (same_some is)))
+
+    back : (i : ℕ) (a : Record) → IsRecord (map f rs) i a → (c : Record) × IsRecord rs i c × (a.id ≡ (f c).id)
+    back i a at = of_map (slice_get rs i) a (sym (slice_get-map f rs i) ∙ at)
+
+half_mapped : (f : Record → Record) → ((r : Record) → (f r).id ≡ r.id) → (v : SystemView Tables) → Half v
+    → ((r : Record) → IsFull (length v.cpus.cpus) r → IsFull (length v.cpus.cpus) (f r)) → Half (record v { records = map f v.records })
+half_mapped f same v h keeps = record {
+  long = h.long;
+  few = h.few;
+  tied = h.tied;
+  rising = same_ids f same v.records h.rising;
+  full = λ k a at. full_of k a (slice_get v.records k) refl (sym (slice_get-map f v.records k) ∙ at);
+  given = λ k a at. given_of k a (slice_get v.records k) refl (sym (slice_get-map f v.records k) ∙ at);
+}
+  where
+    full_of : (k : ℕ) (a : Record) (o : Option Record) → slice_get v.records k ≡ o → option_map f o ≡ Some a → IsFull (length v.cpus.cpus) a
+    full_of k a None at is = absurd (none_some is)
+    full_of k a (Some c) at is = subst (IsFull (length v.cpus.cpus)) (same_some is) (keeps c (h.full k c at))
+
+    given_of : (k : ℕ) (a : Record) (o : Option Record) → slice_get v.records k ≡ o → option_map f o ≡ Some a → a.id ≤ v.last
+    given_of k a None at is = absurd (none_some is)
+    given_of k a (Some c) at is =
+        let low = h.given k c at in
+        let x = same c in
+        let y = ap (λ (r : Record). r.id) (same_some is) in
+        omega (arith, low, x, y)
+
+returned_id : (n : ℕ) (v : CpusView Tables) (r : Record) → (after_return n v r).id ≡ r.id
+returned_id n v r = by (is_staying v r)
+  where
+    by : (b : Bool) → (cond b (with_ended n no_counts r) r).id ≡ r.id
+    by true = refl
+    by false = refl
+
+returned_full : (n cpus : ℕ) (v : CpusView Tables) (r : Record) → IsFull cpus r → IsFull cpus (after_return n v r)
+returned_full n cpus v r full = by (is_staying v r)
+  where
+    by : (b : Bool) → IsFull cpus (cond b (with_ended n no_counts r) r)
+    by true = taken_full n cpus r full
+    by false = full
+
+kept_online : (n now : ℕ) (answer : Result (Unit {0}) Refusal) (v w : SystemView Tables) → Half v → GoesOnline fires seen n now answer v w → Kept v w
+kept_online n now (Err e) v w h (why_not, only) = kept_only (on n (Reserve (length (staying v)) (Err e)) ∷ []) v w h only
+kept_online n now (Ok done) v w h ((u, works, cpus), records, last) =
+    let way = on n (Reserve (length (staying v)) (Ok tt)) ∷ on n (Widen (length (staying v))) ∷ returns n now (staying v) in
+    let one = kept_works way v u h works in
+    let two = kept_switched n true (record v { cpus = u }) one.half in
+    let both = kept_then v (record v { cpus = u }) (record v { cpus = switched_on n u }) one two in
+    record {
+      half = half_parts (record v { cpus = switched_on n u; records = map (after_return n v.cpus) v.records }) w
+          (half_mapped (after_return n v.cpus) (returned_id n v.cpus) (record v { cpus = switched_on n u }) both.half
+          (λ r full. returned_full n (length u.cpus) v.cpus r full)) cpus records last;
+      most = λ m. ap (most_on m) cpus ∙ both.most m;
+    }
 
 -- ---- each call
 
-abbrev Keeps : SystemView Tables → Type 0
-Keeps w = AreTied w.cpus × HasRisingIds w.records
-
-same_keeps : (v w : SystemView Tables) → IsSystem v → w ≡ v → Keeps w
-same_keeps v w sys same = subst Keeps (sym same) (sys.tied, sys.rising)
-
-only_keeps : (way : List CallOn) (v w : SystemView Tables) → IsSystem v → OnlyWorks fires seen way v w → Keeps w
-only_keeps way v w sys (works, records, last) = (works_tied way v.cpus w.cpus sys.agrees.long sys.tied works, subst HasRisingIds (sym records) sys.rising)
-
-placed_rises : (id : ℕ) (p : RecordPlace) (v w : SystemView Tables) → IsSystem v → Records id p v w → HasRisingIds w.records
-placed_rises id p v w sys (k, r, is, named, records, last) = subst HasRisingIds (sym records) (rises_set v.records k r p sys.rising is)
-
-goes_tied : (id home target : ℕ) (answer : Result (Unit {0}) Refusal) (v w : CpusView Tables) → length v.online ≡ length v.cpus → AreTied v
-    → GoesTo fires seen id home target answer v w → AreTied w
-goes_tied id home target answer v w long tied (inl (e, ok, same)) = subst AreTied (sym same) tied
-goes_tied id home target (Ok done) v w long tied (inr (ne, (taken, works))) = works_tied (moving id home target taken) v w long tied works
-goes_tied id home target (Err e) v w long tied (inr (ne, inl (removed, open_there, why_is, same))) = subst AreTied (sym same) tied
-goes_tied id home target (Err e) v w long tied (inr (ne, inr (inl (still, n, some, why_is, works)))) = works_tied (on home (AskPending id (Some n)) ∷ []) v w long tied works
-goes_tied id home target (Err e) v w long tied (inr (ne, inr (inr (still, works)))) = works_tied (on home (AskPending id (Some 0)) ∷ on target (Reserve 1 (Err e)) ∷ []) v w long tied works
-
-changes_keep : (call : SystemCall) (v w : SystemView Tables) → IsSystem v → Changes fires seen v call w → Keeps w
-changes_keep (Add level series now answer) v w sys (inl (e, some, said, same)) = same_keeps v w sys same
-changes_keep (Add level series now (Ok id)) v w sys (inr (none, (d, dest, named, works, records, last))) = (
-  works_tied (on d (Reserve 1 (Ok tt)) ∷ entering d id level series.interval (first series.start series.interval now)) v.cpus w.cpus sys.agrees.long sys.tied works,
-  subst HasRisingIds (sym records) (rises_more v.records _ sys.rising (λ k r is. let low = sys.agrees.given k r is in omega (arith, low, named))),
-)
-changes_keep (Add level series now (Err e)) v w sys (inr (none, (d, dest, inl only))) = only_keeps (on d (Reserve 1 (Err e)) ∷ []) v w sys only
-changes_keep (Add level series now (Err e)) v w sys (inr (none, (d, dest, inr (memory, only)))) = only_keeps (on d (Reserve 1 (Ok tt)) ∷ []) v w sys only
-changes_keep (Bind id None answer) v w sys (inl (e, some, said, same)) = same_keeps v w sys same
-changes_keep (Bind id None answer) v w sys (inr (none, (ok, n, home, cpus, records))) =
-    (subst AreTied (sym cpus) sys.tied, placed_rises id _ v w sys records)
-changes_keep (Bind id (Some n) answer) v w sys (inl (e, some, said, same)) = same_keeps v w sys same
-changes_keep (Bind id (Some n) (Ok done)) v w sys (inr (none, (home, at, goes, records))) =
-    (goes_tied id home n (Ok tt) v.cpus w.cpus sys.agrees.long sys.tied goes, placed_rises id _ v w sys records)
-changes_keep (Bind id (Some n) (Err e)) v w sys (inr (none, (home, at, goes, records, last))) =
-    (goes_tied id home n (Err e) v.cpus w.cpus sys.agrees.long sys.tied goes, subst HasRisingIds (sym records) sys.rising)
-changes_keep (Reprogram id moment answer) v w sys (inl (e, some, said, same)) = same_keeps v w sys same
-changes_keep (Reprogram id moment answer) v w sys (inr (none, (n, home, (ok, only)))) = only_keeps (on n (Reprogrammed id moment (Ok tt)) ∷ []) v w sys only
-changes_keep (ReprogramOn id n moment answer) v w sys (inl (e, some, said, same)) = same_keeps v w sys same
-changes_keep (ReprogramOn id n moment answer) v w sys (inr (none, (ok, only))) = only_keeps (on n (Reprogrammed id moment (Ok tt)) ∷ []) v w sys only
-changes_keep (FireOne n now answer) v w sys did = absurd did
-changes_keep (SoftInterrupt n level budget answer) v w sys did = absurd did
+changes_keep : (call : SystemCall) (v w : SystemView Tables) → Half v → Changes fires seen v call w → Kept v w
+changes_keep (Add level series now answer) v w h (inl (e, some, said, same)) = kept_same v w h same
+changes_keep (Add level series now (Ok id)) v w h (inr (none, (d, dest, named, works, records, last))) =
+    let way = on d (Reserve 1 (Ok tt)) ∷ entering d id level series.interval (first series.start series.interval now) in
+    kept_more v (record v { cpus = w.cpus }) w id level (place.On d false) (kept_works way v w.cpus h works) refl refl named refl records last
+changes_keep (Add level series now (Err e)) v w h (inr (none, (d, dest, inl only))) = kept_only (on d (Reserve 1 (Err e)) ∷ []) v w h only
+changes_keep (Add level series now (Err e)) v w h (inr (none, (d, dest, inr (memory, only)))) = kept_only (on d (Reserve 1 (Ok tt)) ∷ []) v w h only
+changes_keep (AddOmni level series skew now answer) v w h (inl (e, some, said, same)) = kept_same v w h same
+changes_keep (AddOmni level series skew now (Ok id)) v w h (inr (none, (named, (u, reserved, works), records, last))) =
+    let one = kept_each (Ok tt) v u h reserved in
+    let two = kept_works (entering_each (online_cpus v.cpus) id level series skew now) (record v { cpus = u }) w.cpus one.half works in
+    kept_more v (record v { cpus = w.cpus }) w id level (place.Everywhere series skew) (kept_then v (record v { cpus = u }) (record v { cpus = w.cpus }) one two) refl refl named refl records last
+changes_keep (AddOmni level series skew now (Err e)) v w h (inr (none, (inl each, records, last))) =
+    kept_parts v (record v { cpus = w.cpus }) w (kept_each (Err e) v w.cpus h each) refl records last
+changes_keep (AddOmni level series skew now (Err e)) v w h (inr (none, (inr (memory, each), records, last))) =
+    kept_parts v (record v { cpus = w.cpus }) w (kept_each (Ok tt) v w.cpus h each) refl records last
+changes_keep (Bind id None answer) v w h (inl (e, some, said, same)) = kept_same v w h same
+changes_keep (Bind id None answer) v w h (inr (none, (ok, n, home, cpus, records))) = kept_placed id _ v v w (kept_same v v h refl) cpus records
+changes_keep (Bind id (Some n) answer) v w h (inl (e, some, said, same)) = kept_same v w h same
+changes_keep (Bind id (Some n) (Ok done)) v w h (inr (none, (home, at, goes, records))) =
+    kept_placed id (place.On n true) v (record v { cpus = w.cpus }) w (kept_goes id home n (Ok tt) v w.cpus h goes) refl records
+changes_keep (Bind id (Some n) (Err e)) v w h (inr (none, (home, at, goes, records, last))) =
+    kept_parts v (record v { cpus = w.cpus }) w (kept_goes id home n (Err e) v w.cpus h goes) refl records last
+changes_keep (BeginRemove id answer) v w h (inl (e, some, said, same)) = kept_same v w h same
+changes_keep (BeginRemove id (Ok (system.Done receipt))) v w h (inr (none, (way, u, ns, each, answers))) =
+    kept_answers id receipt v u w (kept_begins id way v u h each) answers
+changes_keep (BeginRemove id (Ok (system.Kept left))) v w h (inr (none, (way, ns, each, some, sum))) = kept_begins id way v w h each
+changes_keep (BeginRemove id (Err e)) v w h (inr (none, did)) = absurd did
+changes_keep (PollRemove id answer) v w h (inl (e, some, said, same)) = kept_same v w h same
+changes_keep (PollRemove id (Ok (Some receipt))) v w h (inr (none, (way, u, ns, each, answers))) =
+    kept_answers id receipt v u w (kept_polls id way v u h each) answers
+changes_keep (PollRemove id (Ok None)) v w h (inr (none, (way, ns, each, some))) = kept_polls id way v w h each
+changes_keep (PollRemove id (Err e)) v w h (inr (none, did)) = absurd did
+changes_keep (AskTotals id (Some totals)) v w h (way, r, is, ns, only, adds) = kept_only (map (asked id) way) v w h only
+changes_keep (AskTotals id None) v w h (none, same) = kept_same v w h same
+changes_keep (Reprogram id moment answer) v w h (inl (e, some, said, same)) = kept_same v w h same
+changes_keep (Reprogram id moment answer) v w h (inr (none, (n, home, (ok, only)))) = kept_only (on n (Reprogrammed id moment (Ok tt)) ∷ []) v w h only
+changes_keep (ReprogramOn id n moment answer) v w h (inl (e, some, said, same)) = kept_same v w h same
+changes_keep (ReprogramOn id n moment answer) v w h (inr (none, (ok, only))) = kept_only (on n (Reprogrammed id moment (Ok tt)) ∷ []) v w h only
+changes_keep (Juggle n answer) v w h (inl (e, some, said, same)) = kept_same v w h same
+changes_keep (Juggle n answer) v w h (inr (none, (report, is, turns))) = kept_turns n (single_ids n v) report v w h turns
+changes_keep (Offline n answer) v w h (inl (e, some, said, same)) = kept_same v w h same
+changes_keep (Offline n answer) v w h (inr (none, (report, moved, turns, leaves))) =
+    let one = kept_turns n (single_ids n v) report v moved h turns in
+    kept_then v moved w one (kept_leaves n report answer moved w one.half leaves)
+changes_keep (Online n now answer) v w h (inl (e, some, said, same)) = kept_same v w h same
+changes_keep (Online n now answer) v w h (inr (none, did)) = kept_online n now answer v w h did
+changes_keep (FireOne n now answer) v w h did = absurd did
+changes_keep (SoftInterrupt n level budget answer) v w h did = absurd did
 
 module _ {C : Type 0} (called : C → ℕ → Level → C → Type 0) (count : C → ℕ → ℕ) (may_refuse : C → ℕ → Type 0) where
-  does_keep : (call : SystemCall) (s t : RunningSystem C Tables) → IsSystem s.system → (IsStopped call → ⊥)
-      → Does called count may_refuse fires seen (Interrupts called count may_refuse) s call t → Keeps t.system
-  does_keep (FireOne n now answer) s t sys goes (inl (e, some, said, same)) =
-      same_keeps s.system t.system sys (ap (λ (x : RunningSystem C Tables). x.system) same)
-  does_keep (FireOne n now (Err e)) s t sys goes (inr did) = absurd (goes tt)
-  does_keep (FireOne n now (Ok fired)) s t sys goes (inr (none, (did, records, last))) = (
-    (ran_at called count may_refuse n (Fire now (Ok fired)) (running_cpus s.calls s.system.cpus) (running_cpus t.calls t.system.cpus)
-        sys.agrees.long sys.tied (λ stopped. stopped) did).tied,
-    subst HasRisingIds (sym records) sys.rising,
-  )
-  does_keep (SoftInterrupt n level budget answer) s t sys goes (inl (e, some, said, same)) =
-      same_keeps s.system t.system sys (ap (λ (x : RunningSystem C Tables). x.system) same)
-  does_keep (SoftInterrupt n level budget (Err e)) s t sys goes (inr did) = absurd (goes tt)
-  does_keep (SoftInterrupt n level budget (Ok ran)) s t sys goes (inr (none, (Err e, answer, did, records, last))) =
-      absurd (let isnt : Ok ran ≡ of_cpu (Err e) = answer in cc)
-  does_keep (SoftInterrupt n level budget (Ok ran)) s t sys goes (inr (none, (Ok got, answer, did, records, last))) = (
-    (ran_at called count may_refuse n (CpuSoftInterrupt level budget (Ok got)) (running_cpus s.calls s.system.cpus) (running_cpus t.calls t.system.cpus)
-        sys.agrees.long sys.tied (λ stopped. stopped) did).tied,
-    subst HasRisingIds (sym records) sys.rising,
-  )
-  does_keep (Add level series now answer) s t sys goes (did, calls) = changes_keep (Add level series now answer) s.system t.system sys did
-  does_keep (Bind id cpu answer) s t sys goes (did, calls) = changes_keep (Bind id cpu answer) s.system t.system sys did
-  does_keep (Reprogram id moment answer) s t sys goes (did, calls) = changes_keep (Reprogram id moment answer) s.system t.system sys did
-  does_keep (ReprogramOn id n moment answer) s t sys goes (did, calls) = changes_keep (ReprogramOn id n moment answer) s.system t.system sys did
+  kept_ran : (n : ℕ) (call : CpuCall) (s t : RunningSystem C Tables) → Half s.system
+      → ((x y : Running C Tables) → CpuDoes called count may_refuse fires seen (Interrupts called count may_refuse) x call y → y.cpu.most ≡ x.cpu.most)
+      → RunsAt called count may_refuse fires seen (Interrupts called count may_refuse) (running_cpus s.calls s.system.cpus) (on n call) (running_cpus t.calls t.system.cpus)
+      → t.system.records ≡ s.system.records → t.system.last ≡ s.system.last → Kept s.system t.system
+  kept_ran n call s t h keeps_most did records last =
+      let x = did.before in
+      let y = did.after in
+      let v = s.system.cpus in
+      let w = t.system.cpus in
+      let after_tie = tied_always called count may_refuse call (running s.calls x) (running t.calls y) did.change (h.tied n x did.here) in
+      let many : length w.cpus ≡ length v.cpus = ap (λ (u : CpusView Tables). length u.cpus) did.rest ∙ length-set v.cpus n y in
+      record {
+        half = half_parts (record s.system { cpus = w }) t.system (half_cpus s.system w h
+            (λ m cpu is. dite (ℕ_discrete m n)
+            (λ e. at_same n m v w x y did.here did.rest cpu e is after_tie)
+            (λ ne. h.tied m cpu (cpu_beside n m cpu y v ne (subst (λ u. slice_get u.cpus m ≡ Some cpu) did.rest is))))
+            (ap (λ (u : CpusView Tables). length u.online) did.rest ∙ h.long ∙ sym many) many) refl records last;
+        most = λ m. most_set n m x y v w did.here did.rest (keeps_most (running s.calls x) (running t.calls y) did.change);
+      }
 
-  pub kept : (call : SystemCall) (s t : RunningSystem C Tables) → (IsStopped call → ⊥)
+  does_keep : (call : SystemCall) (s t : RunningSystem C Tables) → Half s.system
+      → Does called count may_refuse fires seen (Interrupts called count may_refuse) s call t → Kept s.system t.system
+  does_keep (FireOne n now answer) s t h (inl (e, some, said, same)) = kept_same s.system t.system h (ap (λ (x : RunningSystem C Tables). x.system) same)
+  does_keep (FireOne n now answer) s t h (inr (none, (did, records, last))) =
+      kept_ran n (Fire now answer) s t h (λ x y d. (fire_keeps called count may_refuse fires seen (Interrupts called count may_refuse) now x y answer d).most) did records last
+  does_keep (SoftInterrupt n level budget answer) s t h (inl (e, some, said, same)) = kept_same s.system t.system h (ap (λ (x : RunningSystem C Tables). x.system) same)
+  does_keep (SoftInterrupt n level budget answer) s t h (inr (none, (own, is, did, records, last))) =
+      kept_ran n (CpuSoftInterrupt level budget own) s t h (λ x y d. d.1.kept.most) did records last
+  does_keep (Add level series now answer) s t h (did, calls) = changes_keep (Add level series now answer) s.system t.system h did
+  does_keep (AddOmni level series skew now answer) s t h (did, calls) = changes_keep (AddOmni level series skew now answer) s.system t.system h did
+  does_keep (Bind id cpu answer) s t h (did, calls) = changes_keep (Bind id cpu answer) s.system t.system h did
+  does_keep (BeginRemove id answer) s t h (did, calls) = changes_keep (BeginRemove id answer) s.system t.system h did
+  does_keep (PollRemove id answer) s t h (did, calls) = changes_keep (PollRemove id answer) s.system t.system h did
+  does_keep (AskTotals id answer) s t h (did, calls) = changes_keep (AskTotals id answer) s.system t.system h did
+  does_keep (Reprogram id moment answer) s t h (did, calls) = changes_keep (Reprogram id moment answer) s.system t.system h did
+  does_keep (ReprogramOn id n moment answer) s t h (did, calls) = changes_keep (ReprogramOn id n moment answer) s.system t.system h did
+  does_keep (Juggle n answer) s t h (did, calls) = changes_keep (Juggle n answer) s.system t.system h did
+  does_keep (Offline n answer) s t h (did, calls) = changes_keep (Offline n answer) s.system t.system h did
+  does_keep (Online n now answer) s t h (did, calls) = changes_keep (Online n now answer) s.system t.system h did
+
+  pub kept : (call : SystemCall) (s t : RunningSystem C Tables)
       → Does called count may_refuse fires seen (Interrupts called count may_refuse) s call t → IsSystem s.system → Agrees t.system → IsSystem t.system
-  kept call s t goes did sys agrees =
-      let keeps = does_keep call s t sys goes did in
-      record { agrees = agrees; rising = keeps.1; tied = keeps.0 }
+  kept call s t did sys agrees = whole t.system (does_keep call s t (half s.system sys) did).half agrees
 
--- ---- a new system
-
-no_own : (online : Bool) (most ceiling : ℕ) (lock low : Tables) → level_of lock ≡ empty_level ceiling → level_of low ≡ empty_level ceiling
-    → (level : Soft) (id : ℕ) → IsSome ((level_at level (shown_cpu online (new_view most lock low))).cyclics id)
-    → cyclic_level id (shown_cpu online (new_view most lock low)) ≡ as_level level
-no_own online most ceiling lock low a b soft.Lock id is = absurd (let isnt : false ≡ true = subst (λ (l : SoftLevel). IsSome (l.cyclics id)) a is in cc)
-no_own online most ceiling lock low a b soft.Low id is = absurd (let isnt : false ≡ true = subst (λ (l : SoftLevel). IsSome (l.cyclics id)) b is in cc)
-
-new_tied : (most ceiling : ℕ) (lock low : Tables) → level_of lock ≡ empty_level ceiling → level_of low ≡ empty_level ceiling → IsTied (new_view most lock low)
-new_tied most ceiling lock low a b = record {
-  rising = λ i j d less high. absurd (omega (arith, high));
-  own = λ online. record { known = no_own online most ceiling lock low a b; removed = λ id is. absurd (none_some is) };
-}
-
-new_ties : (most ceiling : ℕ) (ends : List (Tables × Tables)) → AreNew ceiling ends → (n : ℕ) (cpu : CpuView Tables)
-    → slice_get (map (λ (e : Tables × Tables). new_view most e.0 e.1) ends) n ≡ Some cpu → IsTied cpu
-new_ties most ceiling [] all n cpu is = absurd (none_some is)
-new_ties most ceiling (e ∷ ends) all zero cpu is =
-    let own = all 0 e (omega arith) in
-    subst IsTied (same_some is) (new_tied most ceiling e.0 e.1 own.0 own.1)
-new_ties most ceiling (e ∷ ends) all (suc n) cpu is = new_ties most ceiling ends (λ k d low. all (suc k) d (omega (arith, low))) n cpu is
-
-new_shown : (most ceiling : ℕ) (ends : List (Tables × Tables)) → AreNew ceiling ends
-    → shown_list (replicate (length ends) true) (map (λ (e : Tables × Tables). new_view most e.0 e.1) ends) ≡ replicate (length ends) (new_cpu ceiling)
-new_shown most ceiling [] all = refl
-new_shown most ceiling (e ∷ ends) all =
-    let own = all 0 e (omega arith) in
-    let rest = new_shown most ceiling ends (λ k d low. all (suc k) d (omega (arith, low))) in
-    (λ z. record { online = true; cyclics = []; size = 1; removal = None; lock = own.0 z; low = own.1 z } ∷ rest z)
-
-pub begins : (most ceiling names : ℕ) (ends : List (Tables × Tables)) → AreNew ceiling ends → Agrees (new_system most ends)
-    → IsSystem (new_system most ends) × Shows (start (length ends) ceiling names) (new_system most ends)
-begins most ceiling names ends all agrees = (
-  record { agrees = agrees; rising = λ i j r q less a b. absurd (none_some a); tied = λ n cpu is. new_ties most ceiling ends all n cpu is },
-  record {
-    cpus = sym (new_shown most ceiling ends all);
-    placed = refl;
-    ended = λ k r is n. absurd (none_some is);
-    fresh = λ id n less. refl;
-    last = refl;
-  },
-)
+  pub most_kept : (call : SystemCall) (s t : RunningSystem C Tables)
+      → Does called count may_refuse fires seen (Interrupts called count may_refuse) s call t → IsSystem s.system
+      → (n : ℕ) → most_on n t.system.cpus ≡ most_on n s.system.cpus
+  most_kept call s t did sys = (does_keep call s t (half s.system sys) did).most

@@ -8,4 +8,18 @@ mod Reprogramming
 mod Replacing
 mod Running
 mod Binding
+mod Sums
+mod Half
+mod Ending
+mod Coming
+mod Removing
+mod Answering
+mod Removals
+mod Polling
+mod Counting
+mod Going
+mod Spreading
+mod Returning
 mod Keeping
+mod Beginning
+pub mod Advancing

@@ -1,5 +1,5 @@
 -- A system over levels that no other thread uses, as the definition of a script has it.
-use Rattle.std.specs.Prelude.{◌≡◌, ℕ, ◌<◌, Bool, List, [], ◌∷◌, map}
+use Rattle.std.specs.Prelude.{◌≡◌, ℕ, ◌<◌, ◌≤◌, Bool, List, [], ◌∷◌, length, map}
 use Rattle.cyc_types.specs.declared.firing.Sent.{Sent}
 use Rattle.cyc_types.specs.declared.level.Level.{Level}
 use Rattle.cyc_core.specs.Tables.{Tables}
@@ -7,10 +7,10 @@ use Rattle.cyc_cpu.specs.Cpu.{CpuView}
 use Rattle.cyc_places.specs.declared.record.Place.{Place as RecordPlace}
 use Rattle.cyc_places.specs.declared.record.Place.TheVariants as place
 use Rattle.cyc_places.specs.declared.record.Record.{Record}
-use Rattle.cyc_places.specs.Places.{IsRecord, HasRisingIds, ended_on}
+use Rattle.cyc_places.specs.Places.{IsRecord, HasRisingIds, ended_on, no_counts}
 use Rattle.cyc_cpus.specs.Cpus.{CpusView, IsCpu}
-use Rattle.cyc_system.specs.System.{SystemView}
-use Rattle.cyc_system.specs.Agreement.{Agrees}
+use Rattle.cyc_agreement.specs.System.{SystemView}
+use Rattle.cyc_agreement.specs.Agreement.{Agrees}
 use Rattle.cyc_model.specs.Cpu.{Cpu}
 use Rattle.cyc_model.specs.State.{State, Place, On, OnAll, Placed, Ended}
 use Rattle.cyc_cpu_model.specs.Shown.{shown_cpu}
@@ -50,9 +50,15 @@ pub record Shows (s : State) (v : SystemView Tables) : Type 0 where
 abbrev pub AreTied : CpusView Tables → Type 0
 AreTied v = (n : ℕ) (cpu : CpuView Tables) → IsCpu n cpu v → IsTied cpu
 
--- what is true of every system over plain levels: its CPUs and its records agree, the ids of these rise, and on each CPU the
--- cyclics are tied to its levels
+-- each of these records has the counts of 16 CPUs, and none of one that isn't among so many
+abbrev pub AllFull : ℕ → List Record → Type 0
+AllFull cpus rs = (k : ℕ) (r : Record) → IsRecord rs k r
+    → (length r.ended ≡ 16) × ((n : ℕ) → cpus ≤ n → ended_on n r ≡ no_counts)
+
+-- what is true of every system over plain levels: its CPUs and its records agree, the ids of these rise, they have ended stays
+-- on its CPUs alone, and on each CPU the cyclics are tied to its levels
 pub record IsSystem (v : SystemView Tables) : Type 0 where
   pub agrees : Agrees v
   pub rising : HasRisingIds v.records
+  pub full : AllFull (length v.cpus.cpus) v.records
   pub tied : AreTied v.cpus

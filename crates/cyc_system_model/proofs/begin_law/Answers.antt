@@ -1,4 +1,4 @@
-use Rattle.cyc_system_model.proofs.Keeping.{begins}
+use Rattle.cyc_system_model.proofs.Beginning.{begins}
 use Rattle.cyc_system_model.proofs.begin_law.Goals as goal
 
 pub returns : goal.returns
