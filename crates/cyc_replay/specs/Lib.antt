@@ -1,0 +1,6 @@
+pub mod Status
+pub mod Machine
+pub mod Words
+pub mod Runs
+pub mod SoFar
+pub mod Advancing
