@@ -43,7 +43,7 @@ done
 (cd crates/refused_memory && rt run -- Hard::add) > "$work/said" 2>&1 || { cat "$work/said"; exit 1; }
 program=crates/refused_memory/out/refused_memory
 for call in Tally::new ExpiryHeap::new ExpiryHeap::reserve LevelCore::new Ring::open Hard::new Hard::reserve Hard::add \
-  System::new System::add System::bind; do
+  System::new System::add System::add_omni System::bind System::online; do
   refused=0
   for ((n = 1; ; n++)); do
     timeout 10 env FAIL_ALLOC="$n" LD_PRELOAD="$work/shim.so" "$program" "$call" > "$work/got" 2> /dev/null 9> "$work/refused"

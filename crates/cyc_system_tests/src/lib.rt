@@ -3,9 +3,13 @@
 #![tactic(auto)]
 
 #[cfg(test)]
+mod everywhere;
+#[cfg(test)]
 mod handlers;
 #[cfg(test)]
 mod help;
+#[cfg(test)]
+mod leaving;
 #[cfg(test)]
 mod rings;
 #[cfg(test)]

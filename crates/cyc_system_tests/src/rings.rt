@@ -6,8 +6,10 @@ ghost use Rattle.cyc_cpu.specs.Cpu.{IsFresh};
 use crate::help::{id, two};
 use cyc_ring::{DrainEnd, DrainSeat, RaiseEnd, RaiseSeat, Ring};
 use cyc_soft::Ran;
-use cyc_system::{CpuOrOmni, System};
-use cyc_types::{Ceiling, CyclicId, Level, Moment, Raise, Refusal, Soft, Tally, When};
+use cyc_system::{CpuOrOmni, System, SystemRemoval, SystemTotals, away_law};
+use cyc_types::{
+    Ceiling, CyclicId, JuggleReport, Level, Moment, Raise, Refusal, Soft, Tally, When,
+};
 use ring_soft::softint;
 use std::alloc::Global;
 use std::process::Abort;
@@ -88,6 +90,37 @@ fn moves<R: Raise>(
     assert_eq!(rt; interrupts(first, &mut tally)?, (0, true));
     assert_eq!(rt; interrupts(second, &mut tally)?, (1, true));
     assert_eq!(rt; tally.count(a), Some(2));
+    leaves(rt, system, a)
+}
+
+/// The other calls of a system, of which one moves the cyclic back and one removes it.
+fn leaves<R: Raise>(rt: &impl Abort, system: &mut System<R>, a: CyclicId) -> Result<(), Fail> {
+    let now = Moment::new(20)?;
+    let when = When::new(0, 10)?;
+    let moved = JuggleReport {
+        moved: 1,
+        bound: 0,
+        pending: 0,
+        refused: 0,
+    };
+    assert_eq!(rt; system.bind(a, None), Ok(()));
+    assert_eq!(rt; system.juggle(1), Ok(moved));
+    assert_eq!(rt; system.place_of(a), Some(CpuOrOmni::Cpu(0)));
+    assert_eq!(rt; system.offline(1), Ok(()));
+    let everywhere = system.add_omni(Level::High, when, Moment::new(0)?, now);
+    assert_eq!(rt; everywhere, Ok(id(2)?));
+    assert_eq!(rt; system.online(1, now), Ok(()));
+    let totals = SystemTotals {
+        expired: 2,
+        lost: 0,
+        pending: 0,
+    };
+    assert_eq!(rt; system.totals(a), Some(totals));
+    assert_eq!(rt; system.poll_remove(a), Err(Refusal::NoCyclic));
+    let Ok(SystemRemoval::Done(receipt)) = system.begin_remove(a) else {
+        return Err(Fail::from("a removal"));
+    };
+    assert_eq!(rt; receipt.calls(), 2);
     Ok(())
 }
 
@@ -106,5 +139,10 @@ fn a_cyclic_moves_from_rings_to_rings(rt: HostRuntime) -> Result<(), Fail> {
         raise_end(&other_low, other_low_seat),
     );
     let mut system = two(alloc, one, other)?;
-    moves(&rt, alloc, &mut system, &mut first, &mut second)
+    moves(&rt, alloc, &mut system, &mut first, &mut second)?;
+    let (desk, hards) = system.split();
+    away_law::<Tally, RaiseEnd>();
+    let system = desk.unite(hards);
+    assert_eq!(&rt; (system.len(0), system.len(1)), (Some(1), Some(1)));
+    Ok(())
 }

@@ -2,8 +2,8 @@ use crate::handlers::Handlers;
 use crate::help::id;
 use cyc_core::LevelCore;
 use cyc_soft::{Ran, SoftRefused};
-use cyc_system::{CpuOrOmni, FireRefused, Fired, SoftFault, System};
-use cyc_types::{Level, Moment, Refusal, Soft, When};
+use cyc_system::{CpuOrOmni, FireRefused, Fired, SoftFault, System, SystemRemoval, SystemTotals};
+use cyc_types::{CyclicId, JuggleReport, Level, Moment, Receipt, Refusal, Soft, When};
 use std::process::Abort;
 use std::test::Fail;
 
@@ -12,6 +12,19 @@ use std::test::Fail;
 pub(crate) enum Step {
     /// Adds a cyclic of the level, with this start and interval, at this moment.
     Add(Level, i64, i64, i64),
+    /// Adds an omnipresent cyclic of the level, with this start, interval and skew, at this moment.
+    Omni(Level, i64, i64, i64, i64),
+    /// Begins the removal of the id, and asks for its end.
+    Remove(u64),
+    Poll(u64),
+    /// The counts of the id.
+    Totals(u64),
+    /// Moves the cyclics of a CPU away.
+    Juggle(u32),
+    /// Takes a CPU offline.
+    Offline(u32),
+    /// Takes a CPU back at this moment.
+    Online(u32, i64),
     /// Binds the id to a CPU, or to none.
     Bind(u64, Option<u32>),
     /// Gives the id this next expiration.
@@ -44,6 +57,14 @@ pub(crate) enum Answer {
     Ran(u32, bool),
     /// The id that was refused, and the handler calls before it.
     SoftRefused(u64, u32),
+    /// A receipt's expirations and losses.
+    Receipt(u128, u128),
+    /// The calls that a removal keeps.
+    Kept(u64),
+    /// Expirations, losses and outstanding calls.
+    Totals(u128, u128, u64),
+    /// Those that moved, are bound, have calls outstanding, and were refused.
+    Juggled(u32, u32, u32, u32),
     Place(CpuOrOmni),
     Len(usize),
     /// The id and the level.
@@ -58,9 +79,56 @@ fn done(answer: Result<(), Refusal>) -> Answer {
     }
 }
 
-fn add(system: &mut System<LevelCore>, level: Level, when: When, now: Moment) -> Answer {
-    match system.add(level, when, now) {
+fn given(answer: Result<CyclicId, Refusal>) -> Answer {
+    match answer {
         Ok(id) => Answer::Id(id.number()),
+        Err(refusal) => Answer::Refused(refusal),
+    }
+}
+
+fn receipt(receipt: Receipt) -> Answer {
+    Answer::Receipt(receipt.sent, receipt.lost)
+}
+
+fn remove(system: &mut System<LevelCore>, id: CyclicId) -> Answer {
+    match system.begin_remove(id) {
+        Ok(SystemRemoval::Done(all)) => receipt(all),
+        Ok(SystemRemoval::Kept(kept)) => Answer::Kept(kept),
+        Err(refusal) => Answer::Refused(refusal),
+    }
+}
+
+fn poll(system: &mut System<LevelCore>, id: CyclicId) -> Answer {
+    match system.poll_remove(id) {
+        Ok(Some(all)) => receipt(all),
+        Ok(None) => Answer::Nothing,
+        Err(refusal) => Answer::Refused(refusal),
+    }
+}
+
+fn totals(system: &mut System<LevelCore>, id: CyclicId) -> Answer {
+    match system.totals(id) {
+        Some(
+            SystemTotals {
+                expired,
+                lost,
+                pending,
+            },
+        ) => Answer::Totals(expired, lost, pending),
+        None => Answer::Nothing,
+    }
+}
+
+fn juggle(system: &mut System<LevelCore>, cpu: u32) -> Answer {
+    match system.juggle(cpu) {
+        Ok(
+            JuggleReport {
+                moved,
+                bound,
+                pending,
+                refused,
+            },
+        ) => Answer::Juggled(moved, bound, pending, refused),
         Err(refusal) => Answer::Refused(refusal),
     }
 }
@@ -118,7 +186,12 @@ fn change(system: &mut System<LevelCore>, step: Step) -> Result<Answer, Fail> {
     match step {
         Step::Add(level, start, interval, now) => {
             let when = When::new(start, interval)?;
-            Ok(add(system, level, when, Moment::new(now)?))
+            Ok(given(system.add(level, when, Moment::new(now)?)))
+        }
+        Step::Omni(level, start, interval, skew, now) => {
+            let when = When::new(start, interval)?;
+            let skew = Moment::new(skew)?;
+            Ok(given(system.add_omni(level, when, skew, Moment::new(now)?)))
         }
         Step::Bind(number, cpu) => Ok(done(system.bind(id(number)?, cpu))),
         Step::Reprogram(number, moment) => {
@@ -133,12 +206,27 @@ fn change(system: &mut System<LevelCore>, step: Step) -> Result<Answer, Fail> {
     }
 }
 
+/// Makes a call about the end of a cyclic, or about one CPU.
+fn shift(system: &mut System<LevelCore>, step: Step) -> Result<Answer, Fail> {
+    match step {
+        Step::Remove(number) => Ok(remove(system, id(number)?)),
+        Step::Poll(number) => Ok(poll(system, id(number)?)),
+        Step::Totals(number) => Ok(totals(system, id(number)?)),
+        Step::Juggle(cpu) => Ok(juggle(system, cpu)),
+        Step::Offline(cpu) => Ok(done(system.offline(cpu))),
+        Step::Online(cpu, now) => Ok(done(system.online(cpu, Moment::new(now)?))),
+        _ => Err(Fail::from("a call about a CPU")),
+    }
+}
+
 /// Makes the call.
 fn make(system: &mut System<LevelCore>, calls: &mut Handlers, step: Step) -> Result<Answer, Fail> {
     match step {
         Step::Fire(cpu, now) => Ok(fire(system, calls, cpu, Moment::new(now)?)),
         Step::Softint(cpu, level, budget) => Ok(softint(system, calls, cpu, level, budget)),
         Step::Place(_) | Step::Len(_) | Step::Call(_) => ask(system, calls, step),
+        Step::Remove(_) | Step::Poll(_) | Step::Totals(_) => shift(system, step),
+        Step::Juggle(_) | Step::Offline(_) | Step::Online(_, _) => shift(system, step),
         _ => change(system, step),
     }
 }

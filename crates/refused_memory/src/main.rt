@@ -27,6 +27,8 @@ fn made(alloc: Global, call: &str) -> Option<Seen> {
         "System::new" => Some(systems::new(alloc)),
         "System::add" => Some(systems::add(alloc)),
         "System::bind" => Some(systems::bind(alloc)),
+        "System::add_omni" => Some(systems::add_omni(alloc)),
+        "System::online" => Some(systems::online(alloc)),
         _ => None,
     }
 }

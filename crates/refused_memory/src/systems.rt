@@ -117,3 +117,65 @@ pub(crate) fn bind(alloc: Global) -> Seen {
         Err(_) => Seen::Before,
     }
 }
+
+/// Adds a high omnipresent cyclic, each 10 nanoseconds.
+fn put_everywhere(system: &mut System<LevelCore>) -> Result<CyclicId, Refusal> {
+    let when = When::new(10, 10)?;
+    let now = Moment::new(0)?;
+    system.add_omni(Level::High, when, now, now)
+}
+
+fn add_omni_on(system: &mut System<LevelCore>, first: CyclicId, second: CyclicId) -> Seen {
+    let Ok(_) = put_everywhere(system) else {
+        return Seen::Before;
+    };
+    let before = pictured(system, first, second);
+    match put_everywhere(system) {
+        Ok(_) => Seen::Done,
+        Err(why) => {
+            let as_before = pictured(system, first, second) == before;
+            refused(why, as_before, put_everywhere(system) == Ok(second))
+        }
+    }
+}
+
+/// `System::add_omni` to two CPUs whose sizes have to grow for it.
+pub(crate) fn add_omni(alloc: Global) -> Seen {
+    let (Some(first), Some(second)) = (CyclicId::new(1), CyclicId::new(2)) else {
+        return Seen::Wrong;
+    };
+    match two(alloc) {
+        Ok(mut system) => add_omni_on(&mut system, first, second),
+        Err(_) => Seen::Before,
+    }
+}
+
+fn online_on(
+    system: &mut System<LevelCore>,
+    first: CyclicId,
+    second: CyclicId,
+) -> Result<Seen, Refusal> {
+    let now = Moment::new(0)?;
+    system.offline(1)?;
+    put_everywhere(system)?;
+    put_everywhere(system)?;
+    let before = pictured(system, first, second);
+    match system.online(1, now) {
+        Ok(()) => Ok(Seen::Done),
+        Err(why) => {
+            let as_before = pictured(system, first, second) == before;
+            Ok(refused(why, as_before, system.online(1, now).is_ok()))
+        }
+    }
+}
+
+/// `System::online` of a CPU whose size has to grow for its components.
+pub(crate) fn online(alloc: Global) -> Seen {
+    let (Some(first), Some(second)) = (CyclicId::new(1), CyclicId::new(2)) else {
+        return Seen::Wrong;
+    };
+    match two(alloc) {
+        Ok(mut system) => online_on(&mut system, first, second).unwrap_or(Seen::Before),
+        Err(_) => Seen::Before,
+    }
+}
