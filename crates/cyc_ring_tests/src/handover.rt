@@ -1,10 +1,10 @@
-ghost use Rattle.std.specs.Prelude.{◌≤◌, IfOk};
+ghost use Rattle.std.specs.Prelude.{◌≤◌, length};
 ghost use Rattle.cyc_ring.specs.Ends.{IsRaiseSeatOf, IsDrainSeatOf};
 
 use crate::handlers::RefusesFirst;
 use crate::help::{Books, Counts, books, expect, id, open};
 use crate::play::{Call, Differs, play};
-use crate::rows::{SWITCHED, switched};
+use crate::rows::{Worked, worked_rings};
 use cyc_ring::{DrainSeat, Ring};
 use cyc_soft::{Ran, SoftRefused};
 use cyc_types::{CyclicId, Raised, Tally};
@@ -14,30 +14,36 @@ use std::alloc::Global;
 use std::test::Fail;
 use std::thread::{Threads, join};
 
-/// Makes the calls of the switch, those after the first `k` in a fresh thread.
+/// Makes these calls, those after the first `k` in a fresh thread.
 fn handed_over<R: Threads>(
     rt: &R,
     ring: &Ring,
     raiser: KnownSeat,
     drainer: DrainSeat,
+    calls: &[Call],
     k: usize,
 ) -> (KnownSeat, DrainSeat, [Differs; 2])
     requires own { IsRaiseSeatOf ring.now raiser.seat × IsDrainSeatOf ring.now drainer }
-    requires within { k ≤ 12 }
+    requires within { k ≤ length calls.now }
     ensures { IsRaiseSeatOf ring.now result.0.seat × IsDrainSeatOf ring.now result.1 }
 {
-    let (first, rest) = SWITCHED.split_at(k);
+    let (first, rest) = calls.split_at(k);
     let (raiser, drainer, before) = play(ring, raiser, drainer, first);
     let ((raiser, drainer, after), ()) = join(rt, || play(ring, raiser, drainer, rest), || ());
     (raiser, drainer, [before, after])
 }
 
 /// The calls that differ, and the books, where another thread goes on after the first `k` calls.
-fn closed_after<R: Threads>(rt: &R, alloc: Global, k: usize) -> Result<([Differs; 2], Books), Fail>
-    requires { k ≤ 12 }
+fn closed_after<R: Threads>(
+    rt: &R,
+    alloc: Global,
+    worked: &Worked,
+    k: usize,
+) -> Result<([Differs; 2], Books), Fail>
+    requires { k ≤ length worked.now.calls.now }
 {
-    let (ring, raiser, drainer) = open(alloc, 5, 0)?;
-    let (raiser, drainer, differs) = handed_over(rt, &ring, raiser, drainer, k);
+    let (ring, raiser, drainer) = open(alloc, worked.ceiling, worked.start)?;
+    let (raiser, drainer, differs) = handed_over(rt, &ring, raiser, drainer, worked.calls, k);
     let closed = ring.close(raiser.seat(), drainer);
     Ok((differs, books(&closed)))
 }
@@ -45,9 +51,11 @@ fn closed_after<R: Threads>(rt: &R, alloc: Global, k: usize) -> Result<([Differs
 // Wherever the two sides stop, another thread goes on with their seats, to the same answers and books.
 #[test]
 fn seats_go_on_in_another_thread(rt: HostRuntime) -> Result<(), Fail> {
-    for k in 0..13 {
-        let found = closed_after(&rt, rt.alloc(), k)?;
-        expect(&rt, found, ([None, None], switched()));
+    for worked in &worked_rings() {
+        for k in 0..worked.calls.len() + 1 {
+            let found = closed_after(&rt, rt.alloc(), worked, k)?;
+            expect(&rt, found, ([None, None], worked.books));
+        }
     }
     Ok(())
 }

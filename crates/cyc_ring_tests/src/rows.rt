@@ -120,7 +120,7 @@ fn answers_are_what_is_found_now(rt: HostRuntime) -> Result<(), Fail> {
 }
 
 // A switch of banks: the old bank is drained first.
-pub(crate) const SWITCHED: [Call; 12] = [
+const SWITCHED: [Call; 12] = [
     Admit(1, 0),
     Raise(1, Raised::First),
     Expand(1),
@@ -153,8 +153,60 @@ const SKIPPED: [Call; 14] = [
     Expand(8),
 ];
 
+/// A worked ring: its ceiling and start, the calls with their answers, and the books after them.
+#[derive(Clone, Copy)]
+pub(crate) struct Worked {
+    pub(crate) ceiling: u32,
+    pub(crate) start: u32,
+    pub(crate) calls: &'static [Call],
+    pub(crate) books: Books,
+}
+
+/// All worked rings, whole.
+pub(crate) fn worked_rings() -> [Worked; 5] {
+    let books = [
+        [Some(Counts::one_outstanding(1, 1)), None],
+        [Some(Counts::one_outstanding(2, 1)), None],
+        [None, None],
+        switched(),
+        [Some(Counts::done(1, 1, 0)), None],
+    ];
+    [
+        Worked {
+            ceiling: 2,
+            start: 4294967295,
+            calls: &AT_THE_CEILING,
+            books: books[0],
+        },
+        Worked {
+            ceiling: 2,
+            start: 0,
+            calls: &MARKED,
+            books: books[1],
+        },
+        Worked {
+            ceiling: 2,
+            start: 0,
+            calls: &FOUND,
+            books: books[2],
+        },
+        Worked {
+            ceiling: 5,
+            start: 0,
+            calls: &SWITCHED,
+            books: books[3],
+        },
+        Worked {
+            ceiling: 5,
+            start: 4294967295,
+            calls: &SKIPPED,
+            books: books[4],
+        },
+    ]
+}
+
 /// The books after a switch of banks.
-pub(crate) fn switched() -> Books {
+fn switched() -> Books {
     [
         Some(Counts::done(1, 2, 0)),
         Some(Counts::one_outstanding(2, 1)),
