@@ -1,14 +1,17 @@
 //! `soak_ring ROUNDS`: hands over expirations from one thread to another, with removals, new stays and all switches of banks,
 //! and compares, for each id, what was raised, what was called and what the closed rings say. A round is a new ring, on which
-//! the two threads stop once and go on. The sums go to standard error, since they differ from run to run.
+//! the two threads stop once after many calls, and then 200 times after a few, and others go on. The sums go to standard error,
+//! since they differ from run to run.
 #![tactic(auto)]
 
 mod ledger;
 mod rounds;
+mod stops;
 mod sums;
 
 use crate::ledger::{IDS, Ledger};
 use crate::rounds::both;
+use crate::stops::{Random, stop_often};
 use crate::sums::{Counts, Sums};
 use anyhow::{Context, Result, bail};
 use cyc_types::{Ceiling, CyclicId, Refusal, Tally};
@@ -27,11 +30,13 @@ fn round<R: Threads>(
     ceiling: Ceiling,
     start: u32,
     tally: Tally,
+    random: Random,
     sums: &mut Sums,
 ) -> Result<bool, Refusal> {
     let (ring, raiser, drainer) = open(alloc, ceiling, start)?;
     let (raiser, drainer) = both(rt, &ring, (raiser, Ledger::new()), (drainer, tally), CALLS);
-    let ((seat, ledger), (other, tally)) = both(rt, &ring, raiser, drainer, CALLS);
+    let (raiser, drainer) = both(rt, &ring, raiser, drainer, CALLS);
+    let ((seat, ledger), (other, tally)) = stop_often(rt, &ring, raiser, drainer, random);
     let closed = ring.close(seat.seat(), other);
     Ok(sums.add(&closed, &ledger, &tally))
 }
@@ -52,7 +57,7 @@ fn soak<R: Threads>(rt: &R, alloc: Global, rounds: u64, sums: &mut Sums) -> Resu
         let (ceiling, start) = setting(i);
         let ceiling = Ceiling::new(ceiling).context("a ceiling")?;
         let tally = Tally::new(alloc, first, IDS, u64::MAX)?;
-        if !round(rt, alloc, ceiling, start, tally, sums)? {
+        if !round(rt, alloc, ceiling, start, tally, Random::of(i), sums)? {
             return Ok(false);
         }
     }

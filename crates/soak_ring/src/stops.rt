@@ -1,0 +1,53 @@
+//! Rounds in which both threads stop again and again, wherever they are, and others go on with their seats.
+ghost use Rattle.std.specs.Prelude.{◌≡◌};
+ghost use Rattle.cyc_ring.specs.Ends.{IsRaiseSeatOf, IsDrainSeatOf};
+
+use crate::ledger::Ledger;
+use crate::rounds::both;
+use cyc_ring::{DrainSeat, Ring};
+use cyc_types::Tally;
+use ring_sides::firer::KnownSeat;
+use std::thread::Threads;
+
+/// The stops of a round.
+const STOPS: u64 = 200;
+
+/// Numbers that look random, the same for the same seed (xorshift).
+#[derive(Clone, Copy)]
+pub(crate) struct Random {
+    state: u64,
+}
+
+impl Random {
+    pub(crate) fn of(seed: u64) -> Random {
+        Random { state: seed | 1 }
+    }
+
+    fn next(&mut self) -> u64 {
+        let mut x = self.state;
+        x ^= x << 13;
+        x ^= x >> 7;
+        x ^= x << 17;
+        self.state = x;
+        x
+    }
+}
+
+/// Both threads stop so often, each time after a few calls, and two others go on.
+pub(crate) fn stop_often<R: Threads>(
+    rt: &R,
+    ring: &Ring,
+    raiser: (KnownSeat, Ledger),
+    drainer: (DrainSeat, Tally),
+    mut random: Random,
+) -> ((KnownSeat, Ledger), (DrainSeat, Tally))
+    requires { IsRaiseSeatOf ring.now raiser.0.seat × IsDrainSeatOf ring.now drainer.0 }
+    ensures { IsRaiseSeatOf ring.now result.0.0.seat × IsDrainSeatOf ring.now result.1.0 }
+{
+    let mut sides = (raiser, drainer);
+    for stop in 0..STOPS {
+        let (raiser, drainer) = sides;
+        sides = both(rt, ring, raiser, drainer, random.next() % 64);
+    }
+    sides
+}
