@@ -1,0 +1,5 @@
+pub mod Making
+pub mod Asking
+pub mod Taking
+pub mod Reading
+pub mod Balance

@@ -1,0 +1,95 @@
+-- What soft interrupts make, one and then others.
+use Rattle.std.proofs.Common.{◌≡◌, ℕ, List, [], ◌∷◌, ◌++◌, Option, Some, None, refl, sym, ap, subst, ◌∙◌, arith}
+use Rattle.std.specs.Prelude.{Bool, true, false, Result, Ok, Err, IsTrue, IfOk, IfErr}
+use Rattle.std.specs.List.{FoldsTo}
+use Rattle.cyc_types.specs.Counting.{times}
+use Rattle.cyc_types.specs.Draining.{DrainCall}
+use Rattle.cyc_types.specs.Runs.{finishes_of}
+use Rattle.cyc_types.proofs.Runs.{folds_on, finishes_on, finished_on}
+use Rattle.cyc_soft.specs.declared.Ran.{Ran}
+use Rattle.cyc_soft.specs.declared.SoftRefused.{SoftRefused}
+use Rattle.cyc_soft.specs.Serving.{Served, ids, look_of, last_look, hand_left, way_of, IsSoftint}
+use Rattle.cyc_soft.specs.Serving as soft
+use Rattle.cyc_soft.proofs.Rounds.{way_finishes}
+use Rattle.cyc_workers.specs.declared.draining.SoftSide.{SoftSide}
+use Rattle.cyc_workers.specs.declared.watch.Watch.{Watch}
+use Rattle.cyc_workers.specs.Draining.{Makes, Serves, IsRefused, HasDrained, has_looked}
+
+look_finishes : (hand found : Option ℕ) → finishes_of (look_of hand found) ≡ []
+look_finishes None found = refl
+look_finishes (Some id) found = refl
+
+last_finishes : (idle : Bool) → finishes_of (last_look idle) ≡ []
+last_finishes true = refl
+last_finishes false = refl
+
+no_more : (xs : List ℕ) → xs ++ [] ≡ xs
+no_more [] = refl
+no_more (x ∷ xs) = ap (λ ys. x ∷ ys) (no_more xs)
+
+abbrev watch : Bool → Watch
+watch b = record { told = b; looked = true }
+
+pub told_and_looked : (told : Bool) (w : Watch) → w ≡ record { told = told; looked = true } → w.told ≡ true → w ≡ has_looked
+told_and_looked told w e t = e ∙ ap (λ (b : Bool). watch b) (sym (ap (λ (x : Watch). x.told) e) ∙ t)
+
+module _ {D C : Type 0} (step : D → DrainCall → D → Type 0) (held : D → Option ℕ) (made : D → ℕ → ℕ)
+    (called : C → ℕ → C → Type 0) (count : C → ℕ → ℕ) (may_refuse : C → ℕ → Type 0) where
+  pub makes_none : (a : SoftSide D C) → Makes step made called count a a.drain a.calls
+  makes_none a = record { way = []; goes = refl; called_all = refl; counted = λ id. omega arith; finished = λ id. omega arith }
+
+  pub makes_on : (a b : SoftSide D C) (drain : D) (calls : C) → Makes step made called count a b.drain b.calls → Makes step made called count b drain calls →
+      Makes step made called count a drain calls
+  makes_on a b drain calls p q =
+      let on = finishes_on p.way q.way in
+      record {
+        way = p.way ++ q.way;
+        goes = folds_on step a.drain p.way b.drain q.way drain p.goes q.goes;
+        called_all = subst (λ xs. FoldsTo called a.calls xs calls) (sym on)
+            (folds_on called a.calls (finishes_of p.way) b.calls (finishes_of q.way) calls p.called_all q.called_all);
+        counted = λ id. (let x = p.counted id in let y = q.counted id in let z = finished_on id p.way q.way in omega (arith, x, y, z));
+        finished = λ id. (let x = p.finished id in let y = q.finished id in let z = finished_on id p.way q.way in omega (arith, x, y, z));
+      }
+
+  -- the calls of one soft interrupt
+  interrupt_makes : (a : SoftSide D C) (ran : List Served) (rest : List DrainCall) (drain : D) (calls : C) → finishes_of rest ≡ [] →
+      soft.Serves step held made called count a.drain a.calls ran rest drain calls → Makes step made called count a drain calls
+  interrupt_makes a ran rest drain calls none s =
+      let all = way_finishes (held a.drain) ran rest ∙ ap (λ xs. ids ran ++ xs) none ∙ no_more (ids ran) in
+      record {
+        way = way_of (held a.drain) ran rest;
+        goes = s.way;
+        called_all = subst (λ xs. FoldsTo called a.calls xs calls) (sym all) s.called_all;
+        counted = λ id. (let x = s.counted id in let y = ap (times id) all in omega (arith, x, y));
+        finished = λ id. (let x = s.finished id in let y = ap (times id) all in omega (arith, x, y));
+      }
+
+  pub served : (budget : ℕ) (answer : Result Ran SoftRefused) (a b : SoftSide D C) →
+      IsSoftint step held made called count may_refuse budget answer a.drain a.calls b.drain b.calls →
+      IfOk answer (λ r. Serves step held made called count r.idle a b)
+  served budget (Ok r) a b s = let x = s.served in
+      (interrupt_makes a x.0 (last_look r.idle) b.drain b.calls (last_finishes r.idle) x.2, λ idle. (s.idle idle).4)
+  served budget (Err e) a b s = tt
+
+  pub was_refused : (budget : ℕ) (answer : Result Ran SoftRefused) (a b : SoftSide D C) →
+      IsSoftint step held made called count may_refuse budget answer a.drain a.calls b.drain b.calls →
+      IfErr answer (λ r. IsRefused step held made called count may_refuse a r b)
+  was_refused budget (Ok r) a b s = tt
+  was_refused budget (Err e) a b s = let x = s.refused in let hand = hand_left (held a.drain) x.0 in
+      (x.1, interrupt_makes a x.0 (look_of hand (Some e.id)) b.drain x.1 (look_finishes hand (Some e.id)) x.4, x.5, x.6, x.7)
+
+  pub has_stopped : (a m b : SoftSide D C) (idle : Bool) (watch : Watch) → Makes step made called count a m.drain m.calls → Serves step held made called count idle m b →
+      idle ≡ true → watch ≡ has_looked →
+      HasDrained step held made called count may_refuse a (record { drain = b.drain; calls = b.calls; refused = None; watch = watch })
+  has_stopped a m b idle watch before s empty looked = record {
+    stopped = ((makes_on a m b.drain b.calls before s.0, (subst (λ x. IsTrue x → held b.drain ≡ None) empty s.1)), looked);
+    refused = tt;
+  }
+
+  pub has_refused : (a m b : SoftSide D C) (r : SoftRefused) (watch : Watch) → Makes step made called count a m.drain m.calls →
+      IsRefused step held made called count may_refuse m r b →
+      HasDrained step held made called count may_refuse a (record { drain = b.drain; calls = b.calls; refused = Some r; watch = watch })
+  has_refused a m b r watch before s = record {
+    stopped = tt;
+    refused = (s.0, makes_on a m b.drain s.0 before s.1, s.2, s.3, s.4);
+  }

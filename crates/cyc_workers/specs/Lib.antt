@@ -1,0 +1,5 @@
+pub mod Draining
+pub mod Settling
+pub mod Stepping
+pub mod Reporting
+pub mod Machine

@@ -1,0 +1,100 @@
+ghost use Rattle.std.specs.Prelude.{◌≡◌, IfOk, IfErr};
+ghost use Rattle.cyc_types.specs.Levels.{level_of, at_level};
+ghost use Rattle.cyc_workers.specs.Draining.{Serves, IsRefused, HasDrained};
+
+use crate::signals::Signals;
+use crate::watch::Watch;
+use crossbeam_utils::sync::Parker;
+use cyc_soft::{Ran, SoftRefused, softint};
+use cyc_types::{Calls, Drain, Soft};
+use std::snapshot::Snapshot;
+use std::sync::Wait;
+use std::thread::Promise;
+
+/// The most handler calls between two questions whether the worker is to stop.
+const BUDGET: u32 = 64;
+
+/// The soft side of a level, and the handlers of its calls.
+#[derive(Drop)]
+pub struct SoftSide<D, C> {
+    pub drain: D,
+    pub calls: C,
+}
+
+/// What a draining worker leaves.
+#[derive(Drop)]
+pub struct Drained<D, C> {
+    pub drain: D,
+    pub calls: C,
+    /// The handler that refused, which ended the worker.
+    pub refused: Option<SoftRefused>,
+    /// What it did last: where no handler refused, a look at the buffer after it was told to stop.
+    pub watch: Watch,
+}
+
+/// The promise of a draining worker.
+#[derive(Drop)]
+pub struct Drains<D, C> {
+    pub side: Snapshot<SoftSide<D, C>>,
+    pub level: Soft,
+}
+
+impl<D: Drain, C: Calls> Promise<Drained<D, C>> for Drains<D, C> {
+    ghost kept_by = { λ p r. HasDrained D.step D.held D.made (at_level C.called (level_of p.level)) C.count C.may_refuse p.side.value r };
+}
+
+/// One soft interrupt.
+fn serve<D: Drain, C: Calls>(side: &mut SoftSide<D, C>, level: Soft) -> Result<Ran, SoftRefused>
+    ensures ran { IfOk result (λ r. Serves D.step D.held D.made (at_level C.called (level_of level)) C.count r.idle side.old side.new) }
+    ensures refused { IfErr result (λ r. IsRefused D.step D.held D.made (at_level C.called (level_of level)) C.count C.may_refuse side.old r side.new) }
+{
+    softint(&mut side.drain, &mut side.calls, level, BUDGET)
+}
+
+/// Makes the calls of one soft level of a CPU (`cyclic_softint` of cyclic.c, as a thread), and sleeps where none is there.
+///
+/// It ends where it was told to stop and a look after that found nothing, or where a handler refused, which it tells the
+/// others. It must be unparked after each raise and after it was told to stop. It takes no memory.
+pub fn drain<W: Wait, D: Drain, C: Calls>(
+    rt: &W,
+    parker: &Parker,
+    signals: &Signals,
+    level: Soft,
+    side: SoftSide<D, C>,
+) -> Drained<D, C>
+    ensures { HasDrained D.step D.held D.made (at_level C.called (level_of level)) C.count C.may_refuse side result }
+{
+    let mut side = side;
+    let mut watch = Watch::new();
+    for _ in rt.forever() {
+        watch.ask(signals);
+        match serve(&mut side, level) {
+            Ok(ran) => {
+                if ran.idle {
+                    watch.found_none();
+                    if watch.told {
+                        return ended(side, None, watch);
+                    }
+                    watch.park(rt, parker);
+                }
+            }
+            Err(refused) => {
+                signals.refuse(refused.id);
+                return ended(side, Some(refused), watch);
+            }
+        }
+    }
+    unreachable!()
+}
+
+fn ended<D, C>(side: SoftSide<D, C>, refused: Option<SoftRefused>, watch: Watch) -> Drained<D, C>
+    ensures { result ≡ record { drain = side.drain; calls = side.calls; refused = refused; watch = watch } }
+{
+    let SoftSide { drain, calls } = side;
+    Drained {
+        drain,
+        calls,
+        refused,
+        watch,
+    }
+}
