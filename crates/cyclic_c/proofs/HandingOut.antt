@@ -24,7 +24,7 @@ told (Counted id) = 0
 counted_is : (j id : ℕ) → Counted j ≡ One id → ⊥
 counted_is j id e = subst (λ (g : Granted). elim g as (λ x. Type 0) [ Nothing ↦ ⊥ | One k ↦ ⊥ | Counted k ↦ Unit {0} ]) e tt
 
-handed_out : (high : Option ℕ) (ids : List ℕ) (left : Granted) → FoldsTo (at_level granted_called High) (grant high) ids left → IsHandedOut high ids
+pub handed_out : (high : Option ℕ) (ids : List ℕ) (left : Granted) → FoldsTo (at_level granted_called High) (grant high) ids left → IsHandedOut high ids
 unfolding told
 handed_out high [] left way = inl refl
 handed_out None (id ∷ ids) left (m, (e, f), rest) = absurd (nothing_is id e)

@@ -7,3 +7,6 @@ pub mod SealsFiring
 pub mod SealsSoftSide
 pub mod SealsBooks
 pub mod HandingOut
+pub mod Expiring
+pub mod Composing
+pub mod WholeFire

@@ -1,10 +1,13 @@
 -- What the exports of a CPU between threads do.
-use Rattle.std.specs.Prelude.{◌≡◌, ℕ, ◌<◌, ◌⊎◌, Option, Some, None}
+use Rattle.std.specs.Prelude.{◌≡◌, ◌≢◌, ℕ, ◌<◌, ◌⊎◌, Option, Some, None}
+use Rattle.cyc_types.specs.declared.refusal.Refusal.TheVariants as why
 use Rattle.cyc_types.specs.declared.draining.Finished.{Finished}
 use Rattle.cyc_ring.specs.Books.{IsBook, IsFree}
 use Rattle.cyc_ring.specs.declared.closed.Book.{Book}
 use Rattle.cyc_ring.specs.declared.closed.Closed.{Closed}
 use Rattle.cyclic_c.specs.Exports.{or_zero}
+use Rattle.cyclic_c.specs.Numbers.{number_of}
+use Rattle.cyclic_c.specs.declared.numbers.Denied.TheVariants.{Misused, Refused}
 use Rattle.cyclic_c.specs.Pair.{IsNewPair, IsClosedOf, SameRings}
 use Rattle.cyclic_c.specs.Records.{IsBookOut}
 use Rattle.cyclic_c.specs.Seats.{TakesSeat, FinishesSeat}
@@ -13,27 +16,34 @@ use Rattle.cyclic_c.specs.declared.pair.Firing.{Firing}
 use Rattle.cyclic_c.specs.declared.records.CyclicBook.{CyclicBook}
 use Rattle.cyclic_c.specs.declared.soft_side.SoftSide.{SoftSide}
 
--- an open for three threads: 0 and three new handles, or nothing was opened; 1 for memory, 64 for what the caller owes
+-- An open for three threads: three new handles; or the caller misused it, or there was no memory, and nothing was opened.
 abbrev pub OpensPair : ℕ → ℕ → ℕ → Option Firing → Option SoftSide → Option SoftSide → Option Firing → Option SoftSide → Option SoftSide → Type 0
 OpensPair ceiling most r f k w f' k' w' =
     ((r ≡ 0) × (0 < ceiling) × (0 < most) × (f ≡ None) × (k ≡ None) × (w ≡ None)
     × (hard : Firing) × (lock : SoftSide) × (low : SoftSide) × (f' ≡ Some hard) × (k' ≡ Some lock) × (w' ≡ Some low)
     × IsNewPair ceiling hard.hard.lock lock × IsNewPair ceiling hard.hard.low low × (hard.hard.most ≡ most) × (hard.high ≡ None))
-    ⊎ (((r ≡ 1) ⊎ (r ≡ 64)) × (f' ≡ f) × (k' ≡ k) × (w' ≡ w))
+    ⊎ ((r ≡ number_of Misused) × ((ceiling ≡ 0) ⊎ (most ≡ 0) ⊎ (f ≢ None) ⊎ (k ≢ None) ⊎ (w ≢ None)) × (f' ≡ f) × (k' ≡ k) × (w' ≡ w))
+    ⊎ ((r ≡ number_of (Refused why.Memory)) × (0 < ceiling) × (0 < most) × (f ≡ None) × (k ≡ None) × (w ≡ None)
+    × (f' ≡ None) × (k' ≡ None) × (w' ≡ None))
 
 -- the three handles, where they are open, are of one open
 abbrev pub OneOpen : Option Firing → Option SoftSide → Option SoftSide → Type 0
 OneOpen f k w = (hard : Firing) (lock low : SoftSide) → f ≡ Some hard → k ≡ Some lock → w ≡ Some low → SameRings hard lock low
 
--- a close: the books of the two rings with the seats that came back; or all are gone and there are no books; or nothing was done
+-- three open handles, and a place for the books
+abbrev pub CanClose : Option Firing → Option SoftSide → Option SoftSide → Option Books → Type 0
+CanClose f k w b = (f ≢ None) × (k ≢ None) × (w ≢ None) × (b ≡ None)
+
+-- A close: the books of the two rings with the seats that came back. Or nothing was done, since a handle is closed or there are
+-- books. Or all are gone without books: there was no memory for these, or another handle of the same open is about.
 abbrev pub ClosesPair : ℕ → Option Firing → Option SoftSide → Option SoftSide → Option Books → Option Firing → Option SoftSide → Option SoftSide → Option Books → Type 0
 ClosesPair r f k w b f' k' w' b' =
     ((r ≡ 0) × (f' ≡ None) × (k' ≡ None) × (w' ≡ None)
     × (hard : Firing) × (lock : SoftSide) × (low : SoftSide) × (books : Books)
     × (f ≡ Some hard) × (k ≡ Some lock) × (w ≡ Some low) × (b' ≡ Some books)
     × IsClosedOf hard.hard.lock.seat lock.seat books.lock × IsClosedOf hard.hard.low.seat low.seat books.low)
-    ⊎ (((r ≡ 1) ⊎ (r ≡ 64)) × (f' ≡ None) × (k' ≡ None) × (w' ≡ None) × (b' ≡ b))
-    ⊎ ((r ≡ 64) × (f' ≡ f) × (k' ≡ k) × (w' ≡ w) × (b' ≡ b))
+    ⊎ ((r ≡ number_of Misused) × ((f ≡ None) ⊎ (k ≡ None) ⊎ (w ≡ None) ⊎ (b ≢ None)) × (f' ≡ f) × (k' ≡ k) × (w' ≡ w) × (b' ≡ b))
+    ⊎ (((r ≡ number_of (Refused why.Memory)) ⊎ (r ≡ number_of Misused)) × CanClose f k w b × (f' ≡ None) × (k' ≡ None) × (w' ≡ None) × (b' ≡ None))
 
 abbrev pub TakesSoft : ℕ → ℕ → SoftSide → SoftSide → Type 0
 TakesSoft r id v w = (r ≡ 0) × (found : Option ℕ) × (id ≡ or_zero found) × TakesSeat found v.seat w.seat × (w.ring.value ≡ v.ring.value)

@@ -1,9 +1,13 @@
-ghost use Rattle.std.specs.Prelude.{ℕ, Option, Result};
+ghost use Rattle.std.specs.Prelude.{ℕ, ◌<◌, List, [], ◌∷◌, ◌++◌, All, Option, None, Result, Ok};
+ghost use Rattle.std.specs.List.{FoldsTo};
+ghost use Rattle.cyc_types.specs.Series.{never};
+ghost use Rattle.cyc_expirations.specs.Timers.{IsSound, HasDistinctIds};
+ghost use Rattle.cyc_timers.specs.Rows.{timers};
 ghost use Rattle.cyc_cpu.specs.Cpu.{CpuView};
 ghost use Rattle.cyc_fire.specs.declared.fire.Fired.{Fired};
 ghost use Rattle.cyc_fire.specs.declared.fire.FireRefused.{FireRefused};
 ghost use Rattle.cyclic_c.specs.Border.{Fires};
-ghost use Rattle.cyclic_c.specs.Parts.{IsPart};
+ghost use Rattle.cyclic_c.specs.Parts.{IsPart, IsPaused, MakesPart, paused, IsOneFire};
 
 use cyc_types::Raise;
 
@@ -13,4 +17,16 @@ use cyc_types::Raise;
 /// It does nothing when it runs: its clause is the law.
 pub fn parts_law<R: Raise>()
     ensures { (now : ℕ) (answer : Result Fired FireRefused) (high high' : Option ℕ) (v w : CpuView R) → Fires R.step R.view now answer high v high' w → IsPart now answer high v }
+{}
+
+/// A fire in parts is one fire: where a CPU is fired at one moment again and again, each time but the last stopping in front of a
+/// high cyclic, all that was due is made once, in order, the handlers are called for the cyclics that were handed out, in that
+/// order, and what the parts counted is what one fire counts.
+///
+/// It does nothing when it runs: its clause is the law.
+pub fn whole_fire_law<R: Raise>()
+    ensures { (now : ℕ) (parts : List (Result Fired FireRefused)) (last : Fired) (v w : CpuView R) → now < never → HasDistinctIds (timers v.cyclics)
+        → All IsSound (timers v.cyclics) → All IsPaused parts
+        → FoldsTo (MakesPart R.step R.view now) (paused None v) (parts ++ Ok last ∷ []) (paused None w)
+        → IsOneFire R.step R.view now parts last v w }
 {}

@@ -1,4 +1,4 @@
-use Rattle.std.proofs.Common.{ℕ, Some, inl, refl, ap, subst, ◌∙◌, arith}
+use Rattle.std.proofs.Common.{ℕ, Some, inl, inr, refl, ap, subst, ◌∙◌, arith}
 use Rattle.cyclic_c.specs.Pair.{IsNewPair}
 use Rattle.cyclic_c.proofs.Passing.{none_of}
 use Rattle.cyclic_c.proofs.exports_pair.cyclic_open.Goals as goal
@@ -23,3 +23,10 @@ returns c =
       made.2,
       made.3,
     )
+
+pub returns-in_default-new : goal.returns-in_default-new
+returns-in_default-new c =
+    let f = none_of _ _ c.args.firing.now.told c.if-firing.false in
+    let k = none_of _ _ c.args.lock.now.told c.if-lock.false in
+    let w = none_of _ _ c.args.low.now.told c.if-low.false in
+    inr (inr (refl, c.in-Some.ensures.valid.0 refl, (let some = c.if-most-eq0.false in omega (arith, some)), f, k, w, f, k, w))
