@@ -7,7 +7,7 @@ use Rattle.cyc_types.specs.declared.firing.Sent.{Sent}
 use Rattle.cyc_types.specs.declared.level.Level.{Level}
 use Rattle.cyc_places.specs.declared.record.Place.{Place}
 use Rattle.cyc_places.specs.declared.record.Record.{Record}
-use Rattle.cyc_places.specs.Places.{HasRisingIds, HaveCounts, AreCounts, new_record, no_counts}
+use Rattle.cyc_places.specs.Places.{HasRisingIds, HaveCounts, HaveAllCounts, AreCounts, new_record, no_counts}
 
 same_some : {A : Type 0} {x y : A} → Some x ≡ Some y → x ≡ y
 same_some {A = A} {x = x} {y = y} e = ap (λ (o : Option A). elim o [ None ↦ x | Some z ↦ z ]) e
@@ -52,6 +52,13 @@ module _ (rs : List Record) (id : ℕ) (level : Level) (place : Place) (last : (
       by : (slice_get rs k ≡ Some r) ⊎ ((k ≡ length rs) × (r ≡ new_record id level place)) → AreCounts r.ended
       by (inl p) = h k r p
       by (inr (e, f)) = subst (λ (x : Record). AreCounts x.ended) (sym f) (none_counted 16)
+
+  pub all_pushed : HaveAllCounts rs → HaveAllCounts (rs ++ new_record id level place ∷ [])
+  all_pushed h k r a = by (get_either rs (new_record id level place) k r a)
+    where
+      by : (slice_get rs k ≡ Some r) ⊎ ((k ≡ length rs) × (r ≡ new_record id level place)) → length r.ended ≡ 16
+      by (inl p) = h k r p
+      by (inr (e, f)) = ap (λ (x : Record). length x.ended) f
 
 -- no more was lost than was sent
 pub lost_le : (counts : List Sent) → AreCounts counts → sum_by (λ s. s.lost) counts ≤ sum_by (λ s. s.sent) counts

@@ -1,5 +1,5 @@
 -- What a system keeps of its cyclics beside what its CPUs have of them.
-use Rattle.std.specs.Prelude.{Bool, true, false, sum_by, ◌≤◌, ◌≡◌, ◌≢◌, ℕ, ◌+◌, ◌<◌, List, All, replicate, slice_set, slice_index_or, Some}
+use Rattle.std.specs.Prelude.{Bool, true, false, length, sum_by, ◌≤◌, ◌≡◌, ◌≢◌, ℕ, ◌+◌, ◌<◌, List, All, replicate, slice_set, slice_index_or, Some}
 use Rattle.std.specs.List.{slice_get}
 use Rattle.cyc_types.specs.declared.firing.Sent.{Sent}
 use Rattle.cyc_types.specs.declared.level.Level.{Level}
@@ -31,6 +31,10 @@ AreCounts counts = All (λ s. s.lost ≤ s.sent) counts
 
 abbrev pub HaveCounts : List Record → Type 0
 HaveCounts rs = (k : ℕ) (r : Record) → IsRecord rs k r → AreCounts r.ended
+
+-- each record has the counts of as many CPUs as a system can have
+abbrev pub HaveAllCounts : List Record → Type 0
+HaveAllCounts rs = (k : ℕ) (r : Record) → IsRecord rs k r → length r.ended ≡ 16
 
 -- the cyclic has a component on each online CPU
 abbrev pub is_everywhere : Place → Bool

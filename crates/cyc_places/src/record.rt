@@ -1,3 +1,5 @@
+//! What a system keeps of a cyclic.
+
 ghost use Rattle.std.specs.Prelude.{◌≡◌, ◌*◌, ◌^◌, ◌<◌, ◌≤◌, sum_by, length};
 
 use cyc_finder::HasId;

@@ -1,7 +1,9 @@
+//! The records by rising id.
+
 ghost use Rattle.std.specs.Prelude.{◌≡◌, ℕ, ◌+◌, ◌<◌, ◌≤◌, ◌^◌, ◌++◌, ◌∷◌, [], All, length, slice_set, remove, Some, None, OnOk, OnErr, IfErr, IfNone, IfSome};
 ghost use Rattle.std.specs.List.{slice_get};
 ghost use Rattle.cyc_types.specs.declared.refusal.Refusal.TheVariants.{Memory};
-ghost use Rattle.cyc_places.specs.Places.{RecordsView, IsRecord, HasNoRecord, new_record, with_place, with_ended, ended_on, summed, no_counts, HasRisingIds, HaveCounts, IsReceiptOf};
+ghost use Rattle.cyc_places.specs.Places.{RecordsView, IsRecord, HasNoRecord, new_record, with_place, with_ended, ended_on, summed, no_counts, HasRisingIds, HaveCounts, HaveAllCounts, IsReceiptOf};
 
 use crate::record::{CPUS, Place, Record};
 use cyc_finder::search;
@@ -17,13 +19,13 @@ pub struct Records {
 
 impl Model for Records {
     ghost use Rattle.std.specs.Prelude.{vec_capacity};
-    ghost use Rattle.cyc_places.specs.Places.{RecordsView, HasRisingIds, HaveCounts};
+    ghost use Rattle.cyc_places.specs.Places.{RecordsView, HasRisingIds, HaveCounts, HaveAllCounts};
 
     ghost Value = { RecordsView };
 
     ghost view = { λ r. record { list = r.list.items; room = vec_capacity r.list } };
 
-    ghost invariant = { λ r. HasRisingIds r.list.items × HaveCounts r.list.items };
+    ghost invariant = { λ r. HasRisingIds r.list.items × HaveCounts r.list.items × HaveAllCounts r.list.items };
 }
 
 impl Records {
@@ -149,6 +151,7 @@ impl Records {
     pub fn law(&self)
         ensures rising { HasRisingIds self.now.list }
         ensures counts { HaveCounts self.now.list }
+        ensures all { HaveAllCounts self.now.list }
     {
         let _ = self.list.len();
     }
