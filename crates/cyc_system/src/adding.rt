@@ -1,3 +1,5 @@
+//! A cyclic is added.
+
 ghost use Rattle.std.specs.Prelude.{◌≡◌, ◌<◌, ◌+◌, length, IfNone, IfSome};
 ghost use Rattle.cyc_types.specs.Limits.{last_id};
 ghost use Rattle.cyc_cpu.specs.Cpu.{HasNoCyclic, MayWiden};

@@ -1,3 +1,5 @@
+//! Questions to a system that change nothing.
+
 ghost use Rattle.std.specs.Prelude.{◌≡◌, ◌≤◌, ◌<◌, length, IfNone, IfSome};
 ghost use Rattle.cyc_cpus.specs.Cpus.{OfCpu};
 
@@ -15,6 +17,7 @@ pub enum CpuOrOmni {
 }
 
 impl<R: Raise> System<R> {
+    ghost use Rattle.cyc_agreement.specs.System.{removal_on};
     ghost use Rattle.cyc_system.specs.Asking.{place_of};
 
     /// How many cyclics the CPU has, with one whose removal is open. None where there is no such CPU.
@@ -39,6 +42,17 @@ impl<R: Raise> System<R> {
         match self.records.at(place).place {
             Place::On { cpu, bound: _ } => Some(CpuOrOmni::Cpu(cpu)),
             Place::Everywhere { when: _, skew: _ } => Some(CpuOrOmni::Omni),
+        }
+    }
+
+    /// The id whose removal is open on the CPU. None where no removal is, and where there is no such CPU.
+    pub fn removal(&self, cpu: u32) -> Option<CyclicId>
+        ensures { result ≡ removal_on cpu self.now.cpus }
+    {
+        if cpu < self.cpus.count() {
+            self.cpus.cpu(cpu).removal()
+        } else {
+            None
         }
     }
 }

@@ -1,3 +1,5 @@
+//! A cyclic is bound to a CPU, or no more.
+
 ghost use Rattle.std.specs.Prelude.{◌≡◌, ◌≢◌, ◌<◌, ◌≤◌, length};
 ghost use Rattle.cyc_cpu.specs.Cpu.{HasNoCyclic};
 ghost use Rattle.cyc_cpu.specs.Removal.{HasCyclic};

@@ -1,3 +1,5 @@
+//! Omnipresent cyclics, and CPUs that take part again.
+
 use crate::system::System;
 use cyc_types::{CyclicId, Level, Moment, Raise, Refusal, When};
 

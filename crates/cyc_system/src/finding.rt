@@ -1,3 +1,5 @@
+//! The record of a cyclic whose removal is not open.
+
 ghost use Rattle.std.specs.Prelude.{◌≡◌, Some, IfNone, IfSome};
 ghost use Rattle.cyc_types.specs.declared.refusal.Refusal.TheVariants.{NoCyclic};
 ghost use Rattle.cyc_places.specs.declared.record.Record.{Record as TheRecord};

@@ -1,3 +1,5 @@
+//! One CPU fires.
+
 ghost use Rattle.std.specs.Prelude.{◌≡◌, ◌<◌, length};
 ghost use Rattle.cyc_cpu.specs.Calls.{no_interrupts, Fire};
 ghost use Rattle.cyc_cpus.specs.Cpus.{on, running_cpus, RunsAt};

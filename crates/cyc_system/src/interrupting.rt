@@ -1,3 +1,5 @@
+//! The soft interrupt of one CPU.
+
 ghost use Rattle.std.specs.Prelude.{◌≡◌, ◌<◌, length};
 ghost use Rattle.cyc_cpu.specs.Soft.{fires, firing_at, Interrupts};
 ghost use Rattle.cyc_cpu.specs.Calls.{SoftInterrupt as CpuSoftInterrupt};

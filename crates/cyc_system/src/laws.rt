@@ -1,3 +1,5 @@
+//! Laws of a system: ids, and firing sides that are away.
+
 ghost use Rattle.std.specs.Prelude.{◌≡◌, ◌<◌, ◌≤◌, ℕ, Bool, List, length, Some, Result, Ok};
 ghost use Rattle.std.specs.List.{FoldsTo, slice_get};
 ghost use Rattle.cyc_types.specs.declared.level.Level.{Level as CyclicLevel};

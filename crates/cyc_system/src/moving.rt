@@ -1,3 +1,5 @@
+//! The cyclics of a CPU move to others, and a CPU goes offline.
+
 use crate::system::System;
 use cyc_types::{JuggleReport, Raise, Refusal};
 

@@ -1,3 +1,5 @@
+//! A cyclic is removed from all CPUs.
+
 use crate::system::System;
 use cyc_removing::{SystemRemoval, SystemTotals};
 use cyc_types::{CyclicId, Raise, Receipt, Refusal};

@@ -1,3 +1,5 @@
+//! A cyclic, or a component, gets another next expiration.
+
 ghost use Rattle.std.specs.Prelude.{◌≡◌, ◌≢◌, ◌<◌, ◌&&◌, length, Ok, Some};
 ghost use Rattle.cyc_cpu.specs.Removal.{HasCyclic};
 ghost use Rattle.cyc_cpu.specs.Calls.{Reprogram as CpuReprogram};

@@ -1,3 +1,5 @@
+//! The firing sides go, and come back.
+
 ghost use Rattle.std.specs.Prelude.{◌≡◌};
 
 use crate::system::System;
@@ -57,6 +59,13 @@ impl<R: Raise> System<R> {
 
 impl<R: Raise> Desk<R> {
     ghost use Rattle.cyc_system.specs.Splitting.{AllComeBack};
+
+    /// Which CPUs are online, by their numbers.
+    pub fn online(&self) -> &[bool]
+        ensures { result.now ≡ self.now.cpus.online }
+    {
+        self.online.as_slice()
+    }
 
     /// Takes the firing sides back, in the order in which they left: the system with what they are now. Whatever a fire or
     /// `settled` makes of them, `away_law` says that they may come back. Takes no memory.

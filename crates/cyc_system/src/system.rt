@@ -1,8 +1,11 @@
+//! The system: its opening, and what is true of it.
+
 ghost use Rattle.std.specs.Prelude.{◌≡◌, ◌-◌, ◌<◌, ◌≤◌, [], All, length, IfOk, IfErr};
 ghost use Rattle.cyc_types.specs.declared.refusal.Refusal.TheVariants.{Memory};
 ghost use Rattle.cyc_cpu.specs.Cpu.{IsFresh};
 ghost use Rattle.cyc_cpus.specs.Cpus.{new_cpus};
 ghost use Rattle.cyc_agreement.specs.Agreement.{Agrees};
+ghost use Rattle.cyc_removing.specs.Counts.{IsFit, AreLawful};
 
 use cyc_cpus::Cpus;
 use cyc_places::Records;
@@ -66,5 +69,16 @@ impl<R: Raise> System<R> {
         ensures { Agrees self.now }
     {
         self.cpus.law();
+    }
+
+    /// What is true of the parts of every system: the ids of its records rise, each record has the counts of 16 CPUs, and each CPU
+    /// is lawful. It does nothing when it runs.
+    pub fn fit_law(&self)
+        ensures fit { IsFit self.now }
+        ensures lawful { AreLawful R.view self.now }
+    {
+        self.cpus.law();
+        self.records.law();
+        let _count = self.cpus.count();
     }
 }
