@@ -16,11 +16,11 @@ use Rattle.cyc_places.specs.declared.record.Record.{Record}
 use Rattle.cyc_places.specs.Places.{HasRisingIds, is_everywhere as everywhere_in}
 use Rattle.cyc_agreement.specs.System.{SystemView, ids_of, is_leaving_here, record_of, is_unknown as unknown_in, is_leaving as leaving_in, is_omnipresent as omnipresent_in}
 use Rattle.cyc_agreement.specs.Refusals as why
-use Rattle.cyc_agreement.specs.Binding.{HasHome}
+use Rattle.cyc_agreement.specs.Binding.{HasPlace, HasHome}
 use Rattle.cyc_agreement.proofs.Recording.{record_here}
 use Rattle.cyc_model.specs.Cpu.{Cpu, is_of, has_cyclic}
 use Rattle.cyc_model.specs.State.{State, Place, Placed, absent}
-use Rattle.cyc_model.specs.Places.{place_of, is_unknown, is_leaving, is_everywhere, is_omnipresent, home_at, home_of}
+use Rattle.cyc_model.specs.Places.{place_of, is_unknown, is_leaving, is_everywhere, is_omnipresent, is_bound_at, is_bound, home_at, home_of}
 use Rattle.cyc_model.specs.Refusals.{when, or_else, no_cpu, offline_cpu, ids_spent}
 use Rattle.cyc_model.specs.Bind.{no_cyclic, omnipresent}
 use Rattle.cyc_model.specs.Reprogram.{no_component}
@@ -67,7 +67,7 @@ everywhere_of : (o : Option Record) → is_everywhere (place_in o) ≡ option_ma
 everywhere_of None = refl
 everywhere_of (Some r) = everywhere_shown r.level r.place
 
-omnipresent_shown : (id : ℕ) (s : State) (v : SystemView Tables) → Shows s v → is_omnipresent id s ≡ omnipresent_in id v
+pub omnipresent_shown : (id : ℕ) (s : State) (v : SystemView Tables) → Shows s v → is_omnipresent id s ≡ omnipresent_in id v
 omnipresent_shown id s v h = ap is_everywhere (place_shown id s v h) ∙ everywhere_of (record_of id v)
 
 -- the CPU of a cyclic that is on one
@@ -75,6 +75,13 @@ pub home_shown : (id n : ℕ) (s : State) (v : SystemView Tables) → Shows s v 
 home_shown id n s v h rising (bound, (k, r, is, named, at)) =
     ap home_at (place_shown id s v h ∙ ap place_in (record_here id k r v.records rising is named))
     ∙ ap (λ p. home_at (Some (shown_place r.level p))) at
+
+-- whether it is bound to it
+pub bound_shown : (id n : ℕ) (bound : Bool) (s : State) (v : SystemView Tables) → Shows s v → HasRisingIds v.records → HasPlace id n bound v
+    → is_bound id s ≡ bound
+bound_shown id n bound s v h rising (k, r, is, named, at) =
+    ap is_bound_at (place_shown id s v h ∙ ap place_in (record_here id k r v.records rising is named))
+    ∙ ap (λ p. is_bound_at (Some (shown_place r.level p))) at
 
 -- ---- the CPUs
 

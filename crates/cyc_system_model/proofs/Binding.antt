@@ -57,7 +57,7 @@ found_id id (c ∷ cs) y is = pick (eqb_tells c.timer.id id) (found_id id cs y)
         (sym (same_some (sym (ap (λ b. cond b (Some c) (find (is_of id) cs)) at) ∙ is))) ∙ same
     pick (inr (at, ne)) rest = rest (sym (ap (λ b. cond b (Some c) (find (is_of id) cs)) at) ∙ is)
 
-taken_is : (id : ℕ) (taken : Taken) (c : Cpu) → IsTakenOf id taken c
+pub taken_is : (id : ℕ) (taken : Taken) (c : Cpu) → IsTakenOf id taken c
     → cyclic_of id c ≡ Some (cyclic_with id taken.level taken.interval taken.moment taken.sent.sent taken.sent.lost)
 taken_is id taken c (y, found, level, interval, moment, sent, lost) = found ∙ ap Some (λ z. record {
   timer = record { id = found_id id c.cyclics y found z; level = sym level z; interval = sym interval z; moment = sym moment z; expired = sym sent z };
@@ -71,24 +71,26 @@ nil_right (x ∷ xs) = ap (λ ys. x ∷ ys) (nil_right xs)
 -- ---- a move
 
 -- what a move did to the CPUs
-record Went (id source target : ℕ) (x : Cyclic) (v w : CpusView Tables) : Type 0 where
-  index : ℕ
-  found : cyclic_of id (cpu_at v source) ≡ Some x
-  middle : List Cpu
-  left : middle ≡ slice_set (shown_cpus v) source (take_here source id (cpu_at v source)).cpu
-  cpus : shown_cpus w ≡ slice_set middle target (enter_here target index x (get_or middle target absent)).cpu
-  took : (q : ℕ) → calls_of q (take_here source id (cpu_at v source)).acts ≡ 0
-  came : (q : ℕ) → calls_of q (enter_here target index x (get_or middle target absent)).acts ≡ 0
-  free : (soft : Soft) → AllCanBeAdmitted (events_at target soft (enter_here target index x (get_or middle target absent)).acts)
+pub record Went (id source target : ℕ) (x : Cyclic) (v w : CpusView Tables) : Type 0 where
+  pub index : ℕ
+  pub found : cyclic_of id (cpu_at v source) ≡ Some x
+  pub middle : List Cpu
+  pub left : middle ≡ slice_set (shown_cpus v) source (take_here source id (cpu_at v source)).cpu
+  pub cpus : shown_cpus w ≡ slice_set middle target (enter_here target index x (get_or middle target absent)).cpu
+  pub took : (q : ℕ) → calls_of q (take_here source id (cpu_at v source)).acts ≡ 0
+  pub came : (q : ℕ) → calls_of q (enter_here target index x (get_or middle target absent)).acts ≡ 0
+  pub free : (soft : Soft) → AllCanBeAdmitted (events_at target soft (enter_here target index x (get_or middle target absent)).acts)
       (level_at soft (get_or middle target absent))
-  still : busy (cpu_at v source).removal ≡ None
-  quiet : outstanding_here id (cpu_at v source) ≡ 0
-  room : why_no_room 1 (cpu_at v target) ≡ None
+  pub still : busy (cpu_at v source).removal ≡ None
+  pub quiet : outstanding_here id (cpu_at v source) ≡ 0
+  pub room : why_no_room 1 (cpu_at v target) ≡ None
+  pub source_there : source < length (shown_cpus v)
+  pub target_there : target < length (shown_cpus v)
 
 busy_not : (id : ℕ) (c : Cpu) → why_not_taken id c ≡ None → busy c.removal ≡ None
 busy_not id c none = (both_none (busy c.removal) _ (both_none (when (not (has_cyclic id c)) NoCyclic) _ none).1).0
 
-went : (id source target : ℕ) (taken : Taken) (v w : CpusView Tables) → length v.online ≡ length v.cpus
+pub went : (id source target : ℕ) (taken : Taken) (v w : CpusView Tables) → length v.online ≡ length v.cpus
     → AreTied v → Works fires seen (moving id source target taken) v w
     → Went id source target (cyclic_with id taken.level taken.interval taken.moment taken.sent.sent taken.sent.lost) v w
 went id source target taken v w long ties (u1, ask, (u2, reserve, (u3, take, (u4, wide, (u5, put, same))))) =
@@ -112,6 +114,8 @@ went id source target taken v w long ties (u1, ask, (u2, reserve, (u3, take, (u4
       still = ap (λ cs. busy (get_or cs source absent).removal) (sym before) ∙ busy_not id (cpu_at u2 source) (t.answered tt).0;
       quiet = sym (a.answered tt).1;
       room = ap (λ cs. why_no_room 1 (get_or cs target absent)) (sym asked) ∙ r.answered tt;
+      source_there = a.within;
+      target_there = subst (λ cs. target < length cs) asked r.within;
     }
 
 -- the definition's move of a cyclic that was found, and the place to which it is bound after it
@@ -195,7 +199,7 @@ four_some e None None None None x is = absurd (let isnt : None ≡ Some e = is i
 abbrev bound_after : ℕ → ℕ → ℕ → Outcome → Outcome
 bound_after step id n o = told (accepted_line step) (followed_by o (λ t. nothing (put_at id (On n true) t)))
 
-is_less : (k : ℕ) → 0 < k → nat_lt 0 k ≡ true
+pub is_less : (k : ℕ) → 0 < k → nat_lt 0 k ≡ true
 is_less k some = grind (arith, nat_tests)
 
 module _ (id n : ℕ) (s : State) (v w : SystemView Tables) (sys : IsSystem v) (h : Shows s v) where

@@ -1,4 +1,4 @@
--- What every call keeps of a system: what the laws here ask of one, and each CPU's bound on expirations.
+-- What every call keeps of a system: what the laws here ask of one, each CPU's bound on expirations, and its memory.
 use Rattle.std.proofs.Common.{◌≡◌, ℕ, ◌+◌, ◌≤◌, inl, inr, Bool, true, false, cond, List, [], ◌∷◌, ◌++◌, length, map, Option, Some, None, option_map, refl, ap, sym, ◌∙◌, subst, arith}
 use Rattle.std.specs.Prelude.{slice_set, remove, Result, Ok, Err}
 use Rattle.std.specs.List.{slice_get, FoldsTo}
@@ -15,7 +15,7 @@ use Rattle.cyc_types.specs.declared.refusal.Refusal.{Refusal}
 use Rattle.cyc_core.specs.Tables.{Tables}
 use Rattle.cyc_cpu.specs.declared.removing.Removal.{Removal}
 use Rattle.cyc_cpu.specs.declared.removing.Removal.TheVariants as on_cpu
-use Rattle.cyc_cpu.specs.Cpu.{CpuView, Running, running}
+use Rattle.cyc_cpu.specs.Cpu.{CpuView, Running, SameCpu, running}
 use Rattle.cyc_cpu.specs.Soft.{fires, firing_at as seen, Interrupts}
 use Rattle.cyc_cpu.specs.Calls.{CpuCall, Fire, AskPending, AskRoom, Reserve, Reprogram as Reprogrammed, TakeNow, Widen, SoftInterrupt as CpuSoftInterrupt, Does as CpuDoes}
 use Rattle.cyc_cpu.specs.Calls as cpu
@@ -46,26 +46,34 @@ use Rattle.cyc_everywhere.specs.Online.{GoesOnline, staying, is_staying, returns
 use Rattle.cyc_system.specs.Calls.{SystemCall, Add, AddOmni, Bind, BeginRemove, PollRemove, AskTotals, Reprogram, ReprogramOn, Juggle, Offline, Online, FireOne, SoftInterrupt, Changes, Does}
 use Rattle.cyc_cpu_model.proofs.Stopping.{tied_always}
 use Rattle.cyc_system_model.specs.Shown.{IsSystem}
+use Rattle.cyc_system_model.specs.Room.{HaveAllRoom}
+use Rattle.cyc_system_model.proofs.Rooms.{room_same, room_set, room_did}
 use Rattle.cyc_system_model.proofs.Cpus.{at_same, done_at}
 use Rattle.cyc_system_model.proofs.Half.{Half, IsFull, half, whole, half_same, half_parts, half_cpus, half_done, half_put, half_more, half_gone, ended_full, taken_full, as_low}
 
 abbrev SameMost : CpusView Tables → CpusView Tables → Type 0
 SameMost v w = (n : ℕ) → most_on n w ≡ most_on n v
 
-record Kept (v w : SystemView Tables) : Type 0 where
-  half : Half w
+pub record Kept (v w : SystemView Tables) : Type 0 where
+  pub half : Half w
   most : SameMost v.cpus w.cpus
+  pub room : HaveAllRoom v.cpus → HaveAllRoom w.cpus
 
 kept_same : (v w : SystemView Tables) → Half v → w ≡ v → Kept v w
-kept_same v w h same = record { half = half_same v w h same; most = λ n. ap (λ (x : SystemView Tables). most_on n x.cpus) same }
+kept_same v w h same = record {
+  half = half_same v w h same;
+  most = λ n. ap (λ (x : SystemView Tables). most_on n x.cpus) same;
+  room = λ all. subst (λ (x : SystemView Tables). HaveAllRoom x.cpus) (sym same) all;
+}
 
 kept_then : (v u w : SystemView Tables) → Kept v u → Kept u w → Kept v w
-kept_then v u w a b = record { half = b.half; most = λ n. b.most n ∙ a.most n }
+kept_then v u w a b = record { half = b.half; most = λ n. b.most n ∙ a.most n; room = λ all. b.room (a.room all) }
 
 kept_parts : (v u w : SystemView Tables) → Kept v u → w.cpus ≡ u.cpus → w.records ≡ u.records → w.last ≡ u.last → Kept v w
 kept_parts v u w k cpus records last = record {
   half = half_parts u w k.half cpus records last;
   most = λ n. ap (most_on n) cpus ∙ k.most n;
+  room = λ all. subst HaveAllRoom (sym cpus) (k.room all);
 }
 
 -- ---- calls on its CPUs
@@ -85,6 +93,7 @@ kept_did : (c : CallOn) (v : SystemView Tables) (u : CpusView Tables) → Half v
 kept_did c v u h did = record {
   half = half_done c.cpu c.call v u h (done_at c.cpu c.call v.cpus u h.long h.tied did);
   most = λ m. most_set c.cpu m did.before did.after v.cpus u did.here did.rest (changes_most fires seen did.before did.after c.call did.change);
+  room = room_did c v.cpus u did;
 }
 
 kept_works : (way : List CallOn) (v : SystemView Tables) (u : CpusView Tables) → Half v → Works fires seen way v.cpus u → Kept v (record v { cpus = u })
@@ -93,14 +102,14 @@ kept_works (c ∷ way) v u h (x, did, rest) =
     let one = kept_did c v x h did in
     kept_then v (record v { cpus = x }) (record v { cpus = u }) one (kept_works way (record v { cpus = x }) u one.half rest)
 
-kept_only : (way : List CallOn) (v w : SystemView Tables) → Half v → OnlyWorks fires seen way v w → Kept v w
+pub kept_only : (way : List CallOn) (v w : SystemView Tables) → Half v → OnlyWorks fires seen way v w → Kept v w
 kept_only way v w h (works, records, last) = kept_parts v (record v { cpus = w.cpus }) w (kept_works way v w.cpus h works) refl records last
 
 -- ---- its records
 
 kept_put : (v : SystemView Tables) (k : ℕ) (r x : Record) → Half v → IsRecord v.records k r → x.id ≡ r.id → IsFull (length v.cpus.cpus) x
     → Kept v (record v { records = slice_set v.records k x })
-kept_put v k r x h is same new = record { half = half_put v k r x h is same new; most = λ n. refl }
+kept_put v k r x h is same new = record { half = half_put v k r x h is same new; most = λ n. refl; room = λ all. all }
 
 kept_placed : (id : ℕ) (p : RecordPlace) (v u w : SystemView Tables) → Kept v u → w.cpus ≡ u.cpus → Records id p u w → Kept v w
 kept_placed id p v u w h cpus (k, r, is, named, records, last) =
@@ -108,7 +117,7 @@ kept_placed id p v u w h cpus (k, r, is, named, records, last) =
     (kept_then v u (record u { records = slice_set u.records k (with_place p r) }) h (kept_put u k r (with_place p r) h.half is refl (h.half.full k r is))) cpus records last
 
 -- a stay that ended on a CPU
-kept_ended : (n : ℕ) (call : CpuCall) (counts : Sent) (k : ℕ) (r : Record) (v w : SystemView Tables) → Half v → DoesAt fires seen v.cpus (on n call) w.cpus
+pub kept_ended : (n : ℕ) (call : CpuCall) (counts : Sent) (k : ℕ) (r : Record) (v w : SystemView Tables) → Half v → DoesAt fires seen v.cpus (on n call) w.cpus
     → IsRecord v.records k r → w.records ≡ slice_set v.records k (with_ended n (summed (ended_on n r) counts) r) → w.last ≡ v.last → Kept v w
 kept_ended n call counts k r v w h did is records last =
     let one = kept_did (on n call) v w.cpus h did in
@@ -139,6 +148,7 @@ kept_more v u w id level p k same kept_last named cpus records last = record {
   half = half_parts _ w (half_more u id level p k.half (named ∙ ap (λ n. n + 1) (sym kept_last))) cpus
       (records ∙ ap (λ rs. rs ++ new_record id level p ∷ []) (sym same)) last;
   most = λ n. ap (most_on n) cpus ∙ k.most n;
+  room = λ all. subst HaveAllRoom (sym cpus) (k.room all);
 }
 
 -- ---- moves
@@ -152,7 +162,7 @@ kept_goes id home target (Err e) v w h (inr (ne, inr (inl (still, n, some, why_i
 kept_goes id home target (Err e) v w h (inr (ne, inr (inr (still, works)))) =
     kept_works (on home (AskPending id (Some 0)) ∷ on target (Reserve 1 (Err e)) ∷ []) v w h works
 
-kept_turn : (source id : ℕ) (t : Turn) (v w : SystemView Tables) → Half v → TakesTurn fires seen source id t v w → Kept v w
+pub kept_turn : (source id : ℕ) (t : Turn) (v w : SystemView Tables) → Half v → TakesTurn fires seen source id t v w → Kept v w
 kept_turn source id turn.StaysBound v w h (at, same) = kept_same v w h same
 kept_turn source id turn.StaysPending v w h (at, n, some, only) = kept_only (on source (AskPending id (Some n)) ∷ []) v w h only
 kept_turn source id turn.StaysRefused v w h (at, d, dest, e, only) =
@@ -160,20 +170,20 @@ kept_turn source id turn.StaysRefused v w h (at, d, dest, e, only) =
 kept_turn source id turn.Moves v w h (at, d, dest, (taken, works), records) =
     kept_placed id (place.On d false) v (record v { cpus = w.cpus }) w (kept_works (moving id source d taken) v w.cpus h works) refl records
 
-kept_turns : (source : ℕ) (ids : List ℕ) (report : JuggleReport) (v w : SystemView Tables) → Half v → Turns fires seen source ids report v w → Kept v w
+pub kept_turns : (source : ℕ) (ids : List ℕ) (report : JuggleReport) (v w : SystemView Tables) → Half v → Turns fires seen source ids report v w → Kept v w
 kept_turns source [] report v w h (is, same) = kept_same v w h same
 kept_turns source (id ∷ ids) report v w h (t, u, rest, takes, counted, more) =
     let one = kept_turn source id t v u h takes in
     kept_then v u w one (kept_turns source ids rest u w one.half more)
 
-kept_retires : (n : ℕ) (ids : List ℕ) (v w : SystemView Tables) → Half v → FoldsTo (Retires fires seen n) v ids w → Kept v w
+pub kept_retires : (n : ℕ) (ids : List ℕ) (v w : SystemView Tables) → Half v → FoldsTo (Retires fires seen n) v ids w → Kept v w
 kept_retires n [] v w h same = kept_same v w h (sym same)
 kept_retires n (id ∷ ids) v w h (u, (taken, did, k, r, is, named, records, last), rest) =
     let one = kept_ended n (TakeNow id (Ok taken)) taken.sent k r v u h did is records last in
     kept_then v u w one (kept_retires n ids u w one.half rest)
 
 -- which CPUs are online
-kept_switched : (n : ℕ) (b : Bool) (v : SystemView Tables) → Half v → Kept v (record v { cpus = record v.cpus { online = slice_set v.cpus.online n b } })
+pub kept_switched : (n : ℕ) (b : Bool) (v : SystemView Tables) → Half v → Kept v (record v { cpus = record v.cpus { online = slice_set v.cpus.online n b } })
 kept_switched n b v h = record {
   half = record {
     long = length-set v.cpus.online n b ∙ h.long;
@@ -184,6 +194,7 @@ kept_switched n b v h = record {
     given = h.given;
   };
   most = λ m. refl;
+  room = λ all. all;
 }
 
 kept_leaves : (n : ℕ) (report : JuggleReport) (answer : Result (Unit {0}) Refusal) (v w : SystemView Tables) → Half v → Leaves fires seen n report answer v w → Kept v w
@@ -225,6 +236,7 @@ kept_answers : (id : ℕ) (receipt : Receipt) (v u w : SystemView Tables) → Ke
 kept_answers id receipt v u w k a = record {
   half = half_parts (record u { records = remove u.records a.place }) w (half_gone u a.place k.half) a.cpus a.records a.last;
   most = λ n. ap (most_on n) a.cpus ∙ k.most n;
+  room = λ all. subst HaveAllRoom (sym a.cpus) (k.room all);
 }
 
 -- ---- a CPU that takes part again
@@ -294,6 +306,7 @@ kept_online n now (Ok done) v w h ((u, works, cpus), records, last) =
           (half_mapped (after_return n v.cpus) (returned_id n v.cpus) (record v { cpus = switched_on n u }) both.half
           (λ r full. returned_full n (length u.cpus) v.cpus r full)) cpus records last;
       most = λ m. ap (most_on m) cpus ∙ both.most m;
+      room = λ all. subst HaveAllRoom (sym cpus) (both.room all);
     }
 
 -- ---- each call
@@ -350,10 +363,10 @@ changes_keep (SoftInterrupt n level budget answer) v w h did = absurd did
 
 module _ {C : Type 0} (called : C → ℕ → Level → C → Type 0) (count : C → ℕ → ℕ) (may_refuse : C → ℕ → Type 0) where
   kept_ran : (n : ℕ) (call : CpuCall) (s t : RunningSystem C Tables) → Half s.system
-      → ((x y : Running C Tables) → CpuDoes called count may_refuse fires seen (Interrupts called count may_refuse) x call y → y.cpu.most ≡ x.cpu.most)
+      → ((x y : Running C Tables) → CpuDoes called count may_refuse fires seen (Interrupts called count may_refuse) x call y → SameCpu x.cpu y.cpu)
       → RunsAt called count may_refuse fires seen (Interrupts called count may_refuse) (running_cpus s.calls s.system.cpus) (on n call) (running_cpus t.calls t.system.cpus)
       → t.system.records ≡ s.system.records → t.system.last ≡ s.system.last → Kept s.system t.system
-  kept_ran n call s t h keeps_most did records last =
+  kept_ran n call s t h keeps did records last =
       let x = did.before in
       let y = did.after in
       let v = s.system.cpus in
@@ -366,17 +379,18 @@ module _ {C : Type 0} (called : C → ℕ → Level → C → Type 0) (count : C
             (λ e. at_same n m v w x y did.here did.rest cpu e is after_tie)
             (λ ne. h.tied m cpu (cpu_beside n m cpu y v ne (subst (λ u. slice_get u.cpus m ≡ Some cpu) did.rest is))))
             (ap (λ (u : CpusView Tables). length u.online) did.rest ∙ h.long ∙ sym many) many) refl records last;
-        most = λ m. most_set n m x y v w did.here did.rest (keeps_most (running s.calls x) (running t.calls y) did.change);
+        most = λ m. most_set n m x y v w did.here did.rest (keeps (running s.calls x) (running t.calls y) did.change).most;
+        room = room_set n x y v w did.here did.rest (room_same x y (keeps (running s.calls x) (running t.calls y) did.change));
       }
 
   does_keep : (call : SystemCall) (s t : RunningSystem C Tables) → Half s.system
       → Does called count may_refuse fires seen (Interrupts called count may_refuse) s call t → Kept s.system t.system
   does_keep (FireOne n now answer) s t h (inl (e, some, said, same)) = kept_same s.system t.system h (ap (λ (x : RunningSystem C Tables). x.system) same)
   does_keep (FireOne n now answer) s t h (inr (none, (did, records, last))) =
-      kept_ran n (Fire now answer) s t h (λ x y d. (fire_keeps called count may_refuse fires seen (Interrupts called count may_refuse) now x y answer d).most) did records last
+      kept_ran n (Fire now answer) s t h (λ x y d. fire_keeps called count may_refuse fires seen (Interrupts called count may_refuse) now x y answer d) did records last
   does_keep (SoftInterrupt n level budget answer) s t h (inl (e, some, said, same)) = kept_same s.system t.system h (ap (λ (x : RunningSystem C Tables). x.system) same)
   does_keep (SoftInterrupt n level budget answer) s t h (inr (none, (own, is, did, records, last))) =
-      kept_ran n (CpuSoftInterrupt level budget own) s t h (λ x y d. d.1.kept.most) did records last
+      kept_ran n (CpuSoftInterrupt level budget own) s t h (λ x y d. d.1.kept) did records last
   does_keep (Add level series now answer) s t h (did, calls) = changes_keep (Add level series now answer) s.system t.system h did
   does_keep (AddOmni level series skew now answer) s t h (did, calls) = changes_keep (AddOmni level series skew now answer) s.system t.system h did
   does_keep (Bind id cpu answer) s t h (did, calls) = changes_keep (Bind id cpu answer) s.system t.system h did
@@ -397,3 +411,8 @@ module _ {C : Type 0} (called : C → ℕ → Level → C → Type 0) (count : C
       → Does called count may_refuse fires seen (Interrupts called count may_refuse) s call t → IsSystem s.system
       → (n : ℕ) → most_on n t.system.cpus ≡ most_on n s.system.cpus
   most_kept call s t did sys = (does_keep call s t (half s.system sys) did).most
+
+  pub room_kept : (call : SystemCall) (s t : RunningSystem C Tables)
+      → Does called count may_refuse fires seen (Interrupts called count may_refuse) s call t → IsSystem s.system
+      → HaveAllRoom s.system.cpus → HaveAllRoom t.system.cpus
+  room_kept call s t did sys = (does_keep call s t (half s.system sys) did).room

@@ -20,6 +20,10 @@ mod Counting
 mod Going
 mod Spreading
 mod Returning
+mod Rooms
 mod Keeping
+mod Turning
+mod Juggling
+mod Leaving
 mod Beginning
 pub mod Advancing

@@ -4,3 +4,4 @@ pub mod Running
 pub mod Kept
 pub mod Advancing
 pub mod Removal
+pub mod Room

@@ -1,8 +1,9 @@
 -- What a call of a system over plain levels is as a word of a script.
-use Rattle.std.specs.Prelude.{◌≡◌, ℕ, ◌+◌, int_lt, ℤ, pos, false, List, [], ◌∷◌, length, Option, Some, None, Result}
+use Rattle.std.specs.Prelude.{◌≡◌, ℕ, ◌+◌, int_lt, ℤ, pos, ⊤, false, List, [], ◌∷◌, length, Option, Some, None, Result}
 use Rattle.cyc_types.specs.declared.level.Soft.{Soft}
 use Rattle.cyc_types.specs.declared.moment.When.{When}
 use Rattle.cyc_types.specs.declared.refusal.Refusal.{Refusal}
+use Rattle.cyc_types.specs.declared.refusal.Refusal.TheVariants.{Pending, Left}
 use Rattle.cyc_core.specs.Tables.{Tables}
 use Rattle.cyc_script.specs.declared.step.Step.{Step}
 use Rattle.cyc_agreement.specs.System.{SystemView}
@@ -43,6 +44,18 @@ pub record IsDone (x : Step) (s : State) (w : SystemView Tables) : Type 0 where
       → ComesTo given s (does plain texts indexes step x s) w
   pub quiet : (texts : List (List ℕ)) (indexes : ℕ → ℕ) (step : ℕ) → Gives indexes s.admissions given
       → (id : ℕ) → calls_of id (does plain texts indexes step x s).acts ≡ 0
+
+-- the same, and this is the line of a step of each number
+pub record IsDoneWith (line : ℕ → List ℕ) (x : Step) (s : State) (w : SystemView Tables) : Type 0 where
+  pub done : IsDone x s w
+  pub said : (texts : List (List ℕ)) (indexes : ℕ → ℕ) (step : ℕ) → Gives indexes s.admissions done.given
+      → (does plain texts indexes step x s).line ≡ line step
+
+-- a refusal that comes before anything is done: the others of an offline come after its cyclics had their turns
+abbrev pub IsAtOnce : Refusal → Type 0
+IsAtOnce Pending = ⊥
+IsAtOnce (Left report) = ⊥
+IsAtOnce e = ⊤
 
 -- ---- what a step asks for
 

@@ -4,7 +4,11 @@
 
 ghost use Rattle.std.specs.Prelude.{◌≡◌, ℕ, ◌+◌, List, [], ◌∷◌, ◌++◌, length, Option, Some, None, true, false, ◌<◌, Result, Ok, Err};
 ghost use Rattle.cyc_types.specs.declared.moment.When.{When};
+ghost use Rattle.cyc_types.specs.declared.refusal.JuggleReport.{JuggleReport};
 ghost use Rattle.cyc_types.specs.declared.refusal.Refusal.{Refusal};
+ghost use Rattle.cyc_types.specs.declared.refusal.Refusal.TheVariants as why;
+ghost use Rattle.cyc_types.specs.Refusals.{number_of};
+ghost use Rattle.cyc_text.specs.Lines.{accepted, refused, cyclics_left, moved};
 ghost use Rattle.cyc_core.specs.Tables.{Tables};
 ghost use Rattle.cyc_soft.specs.declared.Ran.{Ran};
 ghost use Rattle.cyc_fire.specs.declared.fire.Fired.{Fired};
@@ -21,7 +25,7 @@ ghost use Rattle.cyc_system.specs.declared.interrupting.SoftFault.{SoftFault};
 ghost use Rattle.cyc_system.specs.declared.interrupting.SoftFault.TheVariants as fault;
 ghost use Rattle.cyc_agreement.specs.System.{SystemView, RunningSystem, is_online};
 ghost use Rattle.cyc_agreement.specs.Agreement.{Agrees, most_on};
-ghost use Rattle.cyc_system.specs.Calls.{SystemCall, Changes, Does, Add, AddOmni, Bind, BeginRemove, PollRemove, AskTotals, Online, FireOne, SoftInterrupt, no_fire};
+ghost use Rattle.cyc_system.specs.Calls.{SystemCall, Changes, Does, Add, AddOmni, Bind, BeginRemove, PollRemove, AskTotals, Juggle, Offline, Online, FireOne, SoftInterrupt, no_fire};
 ghost use Rattle.cyc_model.specs.State.{State, each};
 ghost use Rattle.cyc_model.specs.Places.{id_of, is_unknown};
 ghost use Rattle.cyc_model.specs.Refusals.{first_refusal, no_cpu, offline_cpu};
@@ -34,11 +38,12 @@ ghost use Rattle.cyc_model.specs.Softint.{interrupt, text_of_id, poll_id, leavin
 ghost use Rattle.cyc_model.specs.Report.{counts_of};
 ghost use Rattle.cyc_model.specs.Questions.{plain};
 ghost use Rattle.cyc_system_model.specs.Removal.{told_by, told_in, answer_line, IsRemoved, IsKept, HavePolled, leaving_in, IsInterrupted};
+ghost use Rattle.cyc_system_model.specs.Room.{HaveAllRoom};
 ghost use Rattle.cyc_system_model.specs.Shown.{Shows, IsSystem};
 ghost use Rattle.cyc_system_model.specs.Kept.{AreNew, new_system};
 ghost use Rattle.cyc_system_model.specs.Running.{IsFired, IsServed};
 ghost use Rattle.cyc_system_model.specs.Advancing.{at_clock, HasFired, IsAdvanced};
-ghost use Rattle.cyc_system_model.specs.Words.{IsSeries, IsMoment, IsDone, IsRefusedFor, reprograms};
+ghost use Rattle.cyc_system_model.specs.Words.{IsSeries, IsMoment, IsDone, IsDoneWith, IsRefusedFor, IsAtOnce, reprograms};
 
 use cyc_types::Calls;
 
@@ -51,7 +56,8 @@ pub fn begin_law()
 {}
 
 /// Each call of a system, also a fire or a soft interrupt that was refused or stopped, keeps what the laws here ask of a system
-/// beside what each system's own law says of it; and each CPU's bound on the expirations of a cyclic.
+/// beside what each system's own law says of it; each CPU's bound on the expirations of a cyclic; and on each CPU the memory for
+/// as many cyclics as one can have.
 ///
 /// It does nothing when it runs: its clauses are the law.
 pub fn kept_law<C: Calls>()
@@ -61,6 +67,9 @@ pub fn kept_law<C: Calls>()
     ensures most { (call : SystemCall) (s t : RunningSystem C Tables)
         → Does C.called C.count C.may_refuse fires firing_at (Interrupts C.called C.count C.may_refuse) s call t
         → IsSystem s.system → (n : ℕ) → most_on n t.system.cpus ≡ most_on n s.system.cpus }
+    ensures room { (call : SystemCall) (s t : RunningSystem C Tables)
+        → Does C.called C.count C.may_refuse fires firing_at (Interrupts C.called C.count C.may_refuse) s call t
+        → IsSystem s.system → HaveAllRoom s.system.cpus → HaveAllRoom t.system.cpus }
 {}
 
 /// An `add` of a system is the word `add`: it gives the next id, and puts the cyclic where the definition puts it; or both are
@@ -146,6 +155,38 @@ pub fn online_law()
         → Changes fires firing_at v (Online n s.clock (Ok tt)) w → IsDone (steps.Online n) s w }
     ensures refused { (n : ℕ) (e : Refusal) (s : State) (v w : SystemView Tables) → IsSystem v → Shows s v
         → Changes fires firing_at v (Online n s.clock (Err e)) w → IsRefusedFor e (steps.Online n) s w }
+{}
+
+/// A `juggle` of a system whose CPUs have memory for as many cyclics as they can have is the word `juggle`: each cyclic of the CPU
+/// that is not omnipresent has the turn that it has there, and goes where it goes there; and its report is what the word's line
+/// tells. Or both are refused, for one reason.
+///
+/// It does nothing when it runs: its clauses are the law.
+pub fn juggle_law()
+    ensures accepted { (n : ℕ) (report : JuggleReport) (s : State) (v w : SystemView Tables) → IsSystem v → Shows s v
+        → HaveAllRoom v.cpus → Changes fires firing_at v (Juggle n (Ok report)) w
+        → IsDoneWith (λ step. moved step report) (steps.Juggle n) s w }
+    ensures refused { (n : ℕ) (e : Refusal) (s : State) (v w : SystemView Tables) → IsSystem v → Shows s v
+        → Changes fires firing_at v (Juggle n (Err e)) w → IsRefusedFor e (steps.Juggle n) s w }
+{}
+
+/// An `offline` of a system whose CPUs have memory for as many cyclics as they can have is the word `offline`: the cyclics of the
+/// CPU have their turns; then it is refused where one is left that is not omnipresent, with the report of the turns, and then
+/// where a component has calls outstanding, and what moved stays moved; or the components end, their counts are kept, and the CPU
+/// takes no further part. Or both are refused before that, for one reason.
+///
+/// It does nothing when it runs: its clauses are the law.
+pub fn offline_law()
+    ensures accepted { (n : ℕ) (s : State) (v w : SystemView Tables) → IsSystem v → Shows s v → HaveAllRoom v.cpus
+        → Changes fires firing_at v (Offline n (Ok tt)) w → IsDoneWith accepted (steps.Offline n) s w }
+    ensures left { (n : ℕ) (report : JuggleReport) (s : State) (v w : SystemView Tables) → IsSystem v → Shows s v
+        → HaveAllRoom v.cpus → Changes fires firing_at v (Offline n (Err (why.Left report))) w
+        → IsDoneWith (λ step. cyclics_left step report) (steps.Offline n) s w }
+    ensures pending { (n : ℕ) (s : State) (v w : SystemView Tables) → IsSystem v → Shows s v → HaveAllRoom v.cpus
+        → Changes fires firing_at v (Offline n (Err why.Pending)) w
+        → IsDoneWith (λ step. refused step (number_of why.Pending)) (steps.Offline n) s w }
+    ensures refused { (n : ℕ) (e : Refusal) (s : State) (v w : SystemView Tables) → IsSystem v → Shows s v → IsAtOnce e
+        → Changes fires firing_at v (Offline n (Err e)) w → IsRefusedFor e (steps.Offline n) s w }
 {}
 
 /// A `fire_one` of a system that is not stopped is the definition's fire of that CPU, of which the word `advance` makes one for
