@@ -116,3 +116,31 @@ fn a_component_with_calls_outstanding_keeps_its_cpu_online(rt: HostRuntime) -> R
     ];
     play(&rt, &mut system, &mut calls, &steps)
 }
+
+#[test]
+fn a_cpu_comes_back_when_its_levels_have_followed(rt: HostRuntime) -> Result<(), Fail> {
+    let alloc = rt.alloc();
+    let first = (level(alloc)?, level(alloc)?);
+    let second = (level(alloc)?, level(alloc)?);
+    let mut system = two(alloc, first, second)?;
+    let mut calls = Handlers::new(alloc, 0)?;
+    let steps = [
+        (Step::Omni(Level::High, 10, 10, 0, 0), Answer::Id(1)),
+        (Step::Omni(Level::High, 10, 10, 0, 0), Answer::Id(2)),
+        (Step::Offline(1), Answer::Done),
+        (Step::Softint(0, Soft::Low, 1), Answer::Ran(0, true)),
+        (Step::Softint(0, Soft::Lock, 1), Answer::Ran(0, true)),
+        (Step::Omni(Level::High, 10, 10, 0, 0), Answer::Id(3)),
+        (Step::Online(1, 0), Answer::Refused(Refusal::Expanding)),
+        (Step::Softint(1, Soft::Low, 1), Answer::Ran(0, true)),
+        (Step::Softint(1, Soft::Lock, 1), Answer::Ran(0, true)),
+        (Step::Online(1, 0), Answer::Done),
+        (Step::Fire(0, 10), Answer::Fired(3, 0, 20)),
+        (Step::Fire(1, 10), Answer::Fired(3, 0, 20)),
+        (Step::Online(1, 10), Answer::Refused(Refusal::Online)),
+        (Step::Totals(1), Answer::Totals(2, 0, 0)),
+        (Step::Totals(2), Answer::Totals(2, 0, 0)),
+        (Step::Totals(3), Answer::Totals(2, 0, 0)),
+    ];
+    play(&rt, &mut system, &mut calls, &steps)
+}

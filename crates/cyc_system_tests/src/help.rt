@@ -1,3 +1,5 @@
+//! Systems and ids for the tests.
+
 ghost use Rattle.std.specs.Prelude.{◌≡◌, IfOk};
 ghost use Rattle.cyc_core.specs.Tables.{level_of};
 ghost use Rattle.cyc_core.specs.FiringSide.{firing_view};
@@ -40,12 +42,26 @@ pub(crate) fn one<R: Raise + Drop>(
     requires lock { IsFresh (R.view lock) }
     requires low { IsFresh (R.view low) }
 {
+    bounded(alloc, lock, low, first, u64::MAX)
+}
+
+/// The same, whose cyclics expire at most so often.
+pub(crate) fn bounded<R: Raise + Drop>(
+    alloc: Global,
+    lock: R,
+    low: R,
+    first: u64,
+    most: u64,
+) -> Result<System<R>, Fail>
+    requires lock { IsFresh (R.view lock) }
+    requires low { IsFresh (R.view low) }
+{
     let first = id(first)?;
     let mut ends = Vec::new(alloc);
     let Ok(()) = ends.push((lock, low)) else {
         return Err(Fail::from("memory"));
     };
-    match System::new(alloc, ends, u64::MAX, first) {
+    match System::new(alloc, ends, most, first) {
         Ok(system) => Ok(system),
         Err(_) => Err(Fail::from("memory")),
     }

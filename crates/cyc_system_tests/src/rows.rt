@@ -1,3 +1,5 @@
+//! Worked rows of several CPUs.
+
 use crate::handlers::Handlers;
 use crate::help::{level, one, two};
 use crate::steps::{Answer, Step, play};
@@ -83,6 +85,42 @@ fn a_cyclic_with_calls_outstanding_is_not_bound_elsewhere(rt: HostRuntime) -> Re
             Step::Softint(2, Soft::Low, 8),
             Answer::Refused(Refusal::NoCpu),
         ),
+    ];
+    play(&rt, &mut system, &mut calls, &steps)
+}
+
+#[test]
+fn a_cpu_that_is_offline_takes_no_cyclic(rt: HostRuntime) -> Result<(), Fail> {
+    let alloc = rt.alloc();
+    let first = (level(alloc)?, level(alloc)?);
+    let second = (level(alloc)?, level(alloc)?);
+    let mut system = two(alloc, first, second)?;
+    let mut calls = Handlers::new(alloc, 0)?;
+    let steps = [
+        (Step::Add(Level::Low, 10, 10, 0), Answer::Id(1)),
+        (Step::Fire(0, 10), Answer::Fired(1, 0, 20)),
+        (Step::Bind(1, Some(1)), Answer::Refused(Refusal::Pending)),
+        (Step::Bind(1, Some(2)), Answer::Refused(Refusal::NoCpu)),
+        (Step::Softint(0, Soft::Low, 8), Answer::Ran(1, true)),
+        (Step::Bind(1, Some(1)), Answer::Done),
+        (Step::Offline(0), Answer::Done),
+        (Step::Bind(1, Some(0)), Answer::Refused(Refusal::Offline)),
+        (Step::Omni(Level::High, 10, 10, 0, 10), Answer::Id(2)),
+        (
+            Step::Bind(2, Some(1)),
+            Answer::Refused(Refusal::Omnipresent),
+        ),
+        (
+            Step::Reprogram(2, 50),
+            Answer::Refused(Refusal::Omnipresent),
+        ),
+        (Step::ReprogramOn(2, 1, 50), Answer::Done),
+        (
+            Step::ReprogramOn(2, 0, 50),
+            Answer::Refused(Refusal::Offline),
+        ),
+        (Step::Totals(1), Answer::Totals(1, 0, 0)),
+        (Step::Totals(2), Answer::Totals(0, 0, 0)),
     ];
     play(&rt, &mut system, &mut calls, &steps)
 }

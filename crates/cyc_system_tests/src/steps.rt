@@ -1,3 +1,5 @@
+//! Calls of a system as values, so that a worked row is a table.
+
 use crate::handlers::Handlers;
 use crate::help::id;
 use cyc_core::LevelCore;
