@@ -1,7 +1,10 @@
 -- A cyclic whose removal has answered.
 use Rattle.std.specs.Prelude.{◌≡◌, ℕ, ◌≤◌}
-use Rattle.cyc_core.specs.Tables.{Tables}
+use Rattle.cyc_level.specs.Lawful.{Lawful}
+use Rattle.cyc_core.specs.Tables.{Tables, level_of}
 use Rattle.cyc_cpu.specs.Cpu.{HasNoCyclic}
+use Rattle.cyc_cpu.specs.Law.{IsLawful}
+use Rattle.cyc_cpu.specs.Soft.{firing_at}
 use Rattle.cyc_cpu.specs.Gone.{IsGone}
 use Rattle.cyc_places.specs.Places.{HasNoRecord}
 use Rattle.cyc_cpus.specs.Cpus.{OfCpu}
@@ -24,3 +27,7 @@ pub record IsOverWhole (id : ℕ) (s : SystemView Tables) : Type 0 where
 
 abbrev pub StaysOverWhole : {C : Type 0} → (C → ℕ → ℕ) → ℕ → RunningSystem C Tables → RunningSystem C Tables → Type 0
 StaysOverWhole count id s t = IsOverWhole id t.system × (count t.calls id ≡ count s.calls id)
+
+-- every CPU is lawful, and so are its two levels, as they are between any two calls
+abbrev pub AreLevelsLawful : SystemView Tables → Type 0
+AreLevelsLawful s = (n : ℕ) → OfCpu n (λ cpu. IsLawful firing_at cpu × Lawful (level_of cpu.lock) × Lawful (level_of cpu.low)) s.cpus

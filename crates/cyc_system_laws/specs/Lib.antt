@@ -1,2 +1,4 @@
 pub mod Parts
 pub mod Gone
+pub mod Numbering
+pub mod Settling

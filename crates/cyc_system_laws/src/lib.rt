@@ -1,7 +1,14 @@
-//! Laws of a system over any of its calls: of what calls on its CPUs each one is made, and what follows once a removal has
-//! answered. The functions here do nothing when they run. Their clauses are the laws, so that they are proved.
+//! Laws of a system over any of its calls: of what calls on its CPUs each one is made, what follows once a removal has
+//! answered, which ids are given, and what holds while a CPU has settled. The functions here do nothing when they run. Their
+//! clauses are the laws, so that they are proved.
 #![tactic(auto)]
 
+mod leaving;
+mod numbering;
 mod parts;
+mod settling;
 
+pub use leaving::{removal_core_law, removal_law};
+pub use numbering::{numbers_core_law, numbers_law};
 pub use parts::parts_law;
+pub use settling::{calm_law, settled_law};

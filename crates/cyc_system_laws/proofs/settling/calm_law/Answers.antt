@@ -1,0 +1,7 @@
+use Rattle.cyc_system_laws.proofs.Calming.{run_settled}
+use Rattle.cyc_system_laws.proofs.settling.calm_law.Goals as goal
+
+pub returns : goal.returns
+returns g c n x y s t way at there settled not same run =
+    run_settled g.C.Calls.called g.C.Calls.count g.C.Calls.may_refuse g.R.Raise.step g.R.Raise.view n x y s t way at there
+    settled not same run

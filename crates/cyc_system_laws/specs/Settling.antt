@@ -1,0 +1,42 @@
+-- What holds of a system one of whose CPUs has settled.
+use Rattle.std.specs.Prelude.{◌≡◌, ◌≢◌, ℕ, ◌⊎◌, List, Some, None, Err}
+use Rattle.cyc_cpu_laws.specs.Settled.{IsUntil}
+use Rattle.cyc_cpus.specs.Cpus.{online_cpus}
+use Rattle.cyc_cpus.specs.Destination.{destination}
+use Rattle.cyc_cpus.specs.Reserving.{StandsAfter}
+use Rattle.cyc_agreement.specs.System.{SystemView}
+use Rattle.cyc_agreement.specs.Binding.{HasHome}
+use Rattle.cyc_removing.specs.Removing.{cpus_with}
+use Rattle.cyc_system.specs.Calls.{SystemCall, Add, AddOmni, Bind, BeginRemove, Juggle, Offline, Online, FireOne}
+
+-- the call was refused until something is done first: a soft side follows, a removal ends, or a call is made
+abbrev pub IsRefusedUntil : SystemCall → Type 0
+IsRefusedUntil (Add level when now (Err e)) = IsUntil e
+IsRefusedUntil (AddOmni level when skew now (Err e)) = IsUntil e
+IsRefusedUntil (Bind id (Some n) (Err e)) = IsUntil e
+IsRefusedUntil (BeginRemove id (Err e)) = IsUntil e
+IsRefusedUntil (Juggle n (Err e)) = IsUntil e
+IsRefusedUntil (Offline n (Err e)) = IsUntil e
+IsRefusedUntil (Online n now (Err e)) = IsUntil e
+IsRefusedUntil call = ⊥
+
+-- this number is among these
+abbrev pub IsAmong : ℕ → List ℕ → Type 0
+IsAmong n ns = (before : List ℕ) × StandsAfter before n ns
+
+-- the call asks this CPU: the one that gets a new cyclic, or all that are online; where a cyclic is and where it is to go; those
+-- that have it; or the one that is named
+abbrev pub Asks : {R : Type 0} → ℕ → SystemCall → SystemView R → Type 0
+Asks n (Add level when now answer) s = destination None s.cpus ≡ Some n
+Asks n (AddOmni level when skew now answer) s = IsAmong n (online_cpus s.cpus)
+Asks n (Bind id (Some m) answer) s = HasHome id n s ⊎ (n ≡ m)
+Asks n (BeginRemove id answer) s = IsAmong n (cpus_with id s.cpus)
+Asks n (Juggle m answer) s = n ≡ m
+Asks n (Offline m answer) s = n ≡ m
+Asks n (Online m now answer) s = n ≡ m
+Asks n call s = ⊥
+
+-- the call doesn't fire this CPU
+abbrev pub FiresNot : ℕ → SystemCall → Type 0
+FiresNot n (FireOne m now answer) = m ≢ n
+FiresNot n call = Unit {0}
