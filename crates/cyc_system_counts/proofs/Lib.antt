@@ -1,0 +1,10 @@
+pub mod Flow
+pub mod Idle
+pub mod Counted
+pub mod Found
+pub mod Counts
+pub mod Looked
+pub mod Kept
+pub mod Totals
+pub mod Given
+pub mod Spared

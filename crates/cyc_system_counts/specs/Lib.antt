@@ -1,0 +1,4 @@
+pub mod Sound
+pub mod Keeping
+pub mod Totalling
+pub mod Sparing

@@ -1,0 +1,25 @@
+//! The law of a cyclic that has lost nothing.
+
+ghost use Rattle.std.specs.Prelude.{◌≡◌, ℕ, List, All};
+ghost use Rattle.std.specs.List.{FoldsTo};
+ghost use Rattle.cyc_cpu.specs.Calls.{no_interrupts};
+ghost use Rattle.cyc_removing.specs.Counts.{all_expired, all_lost};
+ghost use Rattle.cyc_agreement.specs.System.{RunningSystem};
+ghost use Rattle.cyc_system.specs.Calls.{SystemCall};
+ghost use Rattle.cyc_system_counts.specs.Sound.{IsSound};
+ghost use Rattle.cyc_system_counts.specs.Keeping.{EndsRemoval};
+ghost use Rattle.cyc_system_counts.specs.Totalling.{Steps};
+ghost use Rattle.cyc_system_counts.specs.Sparing.{IsUnderEach};
+
+use cyc_types::{Calls, Raise};
+
+/// A cyclic that has expired no more often, on all CPUs together, than the least of all ceilings has lost nothing, wherever it
+/// went in the meantime.
+///
+/// It does nothing when it runs: its clause is the law.
+pub fn spared_law<C: Calls, R: Raise>()
+    ensures { (id : ℕ) (s t : RunningSystem C R) (way : List SystemCall)
+        → FoldsTo (Steps C.called C.count C.may_refuse R.step R.view no_interrupts) s way t → IsSound R.view s.system
+        → All (λ call. EndsRemoval id call → ⊥) way → all_lost id s.system ≡ 0
+        → IsUnderEach R.view (all_expired id t.system) t.system → all_lost id t.system ≡ 0 }
+{}
