@@ -3,3 +3,4 @@ pub mod Asking
 pub mod Taking
 pub mod Reading
 pub mod Balance
+pub mod Halting

@@ -1,10 +1,12 @@
 -- What a CPU in threads does, from the opening of its two rings to their closing.
-use Rattle.std.specs.Prelude.{◌≡◌, ℕ, ◌+◌, List, [], map, None}
+use Rattle.std.specs.Prelude.{◌≡◌, ℕ, ◌+◌, ◌⊎◌, List, [], map, None}
 use Rattle.std.specs.List.{FoldsTo}
 use Rattle.cyc_types.specs.Counting.{times}
 use Rattle.cyc_types.specs.Levels.{at_level}
 use Rattle.cyc_types.specs.declared.level.Level.{Level}
 use Rattle.cyc_types.specs.declared.level.Level.TheVariants.{Low, Lock}
+use Rattle.cyc_types.specs.declared.refusal.Refusal.{Refusal}
+use Rattle.cyc_types.specs.declared.refusal.Refusal.TheVariants.{Memory}
 use Rattle.cyc_cpu.specs.Cpu.{CpuView, running}
 use Rattle.cyc_cpu.specs.Law.{IsLawful}
 use Rattle.cyc_cpu.specs.Moving.{IsSettled}
@@ -16,6 +18,7 @@ use Rattle.cyc_workers.specs.declared.machine.Handlers.{Handlers}
 use Rattle.cyc_workers.specs.declared.machine.Seats.{Seats}
 use Rattle.cyc_workers.specs.declared.machine.Left.{Left}
 use Rattle.cyc_workers.specs.declared.machine.Ended.{Ended}
+use Rattle.cyc_workers.specs.Refusing.{WhyRefused}
 use Rattle.cyc_workers.specs.Stepping.{Takes}
 use Rattle.cyc_workers.specs.Reporting.{line_of, expired_in, lost_in}
 
@@ -48,14 +51,32 @@ pub record Leaves {C : Type 0} (called : C → ℕ → Level → C → Type 0) (
   pub lock : HasServed (at_level called Lock) count (seat_made l.lock.drain) calls.lock l.calls.lock
   pub low : HasServed (at_level called Low) count (seat_made l.low.drain) calls.low l.calls.low
 
+-- why the workers of a CPU over these rings left nothing: memory was refused, or they were
+abbrev pub WhyNotLeft : {C : Type 0} → (C → ℕ → Level → C → Type 0) → (C → ℕ → ℕ) → (C → ℕ → Type 0)
+    → ℕ → List Step → Seats → Seats → Handlers C → Refusal → Type 0
+WhyNotLeft called count may_refuse most steps lock low calls e = (e ≡ Memory) ⊎ ((lock_end low_end : RaiseEnd)
+    × (lock_end.seat ≡ lock.raise) × (low_end.seat ≡ low.raise)
+    × WhyRefused called count may_refuse RaiseEndCall end_view steps (running calls.high (new_cpu most lock_end low_end)) e)
+
+-- a firing end of this ceiling, on which nothing was done
+abbrev pub IsNewEnd : ℕ → RaiseEnd → Type 0
+IsNewEnd ceiling e = (raise_trail e.seat ≡ []) × ((end_view e).ceiling ≡ ceiling)
+
+-- why a run of a CPU in threads was refused: memory was refused, or its workers were, over two rings on which nothing was done
+abbrev pub WhyNotRun : {C : Type 0} → (C → ℕ → Level → C → Type 0) → (C → ℕ → ℕ) → (C → ℕ → Type 0)
+    → ℕ → ℕ → List Step → Handlers C → Refusal → Type 0
+WhyNotRun called count may_refuse ceiling most steps calls e = (e ≡ Memory) ⊎ ((lock_end low_end : RaiseEnd)
+    × IsNewEnd ceiling lock_end × IsNewEnd ceiling low_end
+    × WhyRefused called count may_refuse RaiseEndCall end_view steps (running calls.high (new_cpu most lock_end low_end)) e)
+
 -- What a run of a CPU in threads ends with: the same, of its two closed rings.
 pub record HasRun {C : Type 0} (called : C → ℕ → Level → C → Type 0) (count : C → ℕ → ℕ) (may_refuse : C → ℕ → Type 0)
     (ceiling most : ℕ) (steps : List Step) (calls : Handlers C) (e : Ended C) : Type 0 where
   -- at first: two rings on which nothing was done
   pub lock_end : RaiseEnd
   pub low_end : RaiseEnd
-  pub lock_empty : (raise_trail lock_end.seat ≡ []) × ((end_view lock_end).ceiling ≡ ceiling)
-  pub low_empty : (raise_trail low_end.seat ≡ []) × ((end_view low_end).ceiling ≡ ceiling)
+  pub lock_empty : IsNewEnd ceiling lock_end
+  pub low_empty : IsNewEnd ceiling low_end
   -- at last: the steps were taken, in order, on the closed rings, and nothing is outstanding
   pub last : CpuView RaiseEnd
   pub takes : Takes called count may_refuse RaiseEndCall end_view steps (running calls.high (new_cpu most lock_end low_end)) (running e.calls.high last)

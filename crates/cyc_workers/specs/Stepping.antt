@@ -1,16 +1,11 @@
 -- What the thread that leads a CPU does with it, while other threads drain its levels.
-use Rattle.std.specs.Prelude.{◌≡◌, ℕ, List, [], ◌∷◌, ◌++◌, All, Option, Some, None, Ok, ⊤}
+use Rattle.std.specs.Prelude.{◌≡◌, ℕ, List, [], ◌∷◌, ◌++◌, All, Ok, ⊤}
 use Rattle.std.specs.List.{FoldsTo}
 use Rattle.cyc_types.specs.Firing.{FiringView, FiringCall}
 use Rattle.cyc_types.specs.declared.level.Level.{Level}
 use Rattle.cyc_cpu.specs.Cpu.{Running}
 use Rattle.cyc_cpu.specs.Calls.{CpuCall, no_interrupts, Add, Fire, AskTotals, AskSettled}
 use Rattle.cyc_cpu_laws.specs.Runs.{Steps}
-use Rattle.cyc_types.specs.declared.refusal.Refusal.{Refusal}
-use Rattle.cyc_types.specs.declared.refusal.Refusal.TheVariants.{HandlerRefused}
-use Rattle.cyc_soft.specs.declared.SoftRefused.{SoftRefused}
-use Rattle.cyc_workers.specs.declared.stepping.Halt.{Halt}
-use Rattle.cyc_workers.specs.declared.stepping.Halt.TheVariants as halt
 use Rattle.cyc_workers.specs.declared.stepping.Step.{Step}
 use Rattle.cyc_workers.specs.declared.stepping.Step.TheVariants as step
 
@@ -40,10 +35,3 @@ pub record Takes {C R : Type 0} (called : C → ℕ → Level → C → Type 0) 
   pub goes : FoldsTo (Steps called count may_refuse step view no_interrupts) s way t
   pub taken : steps_of way ≡ steps
   pub only : All IsStepping way
-
--- why a run ended early: the refusal of a step comes first, then that of the lock level's handlers, then that of the low level's
-abbrev pub first_of : Halt → Option SoftRefused → Option SoftRefused → Refusal
-first_of (halt.Refused refusal) lock low = refusal
-first_of (halt.Told id) (Some refused) low = HandlerRefused refused.id
-first_of (halt.Told id) None (Some refused) = HandlerRefused refused.id
-first_of (halt.Told id) None None = HandlerRefused id

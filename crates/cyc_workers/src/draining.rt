@@ -1,3 +1,5 @@
+//! A draining worker: soft interrupts until it is told to stop.
+
 ghost use Rattle.std.specs.Prelude.{◌≡◌, IfOk, IfErr};
 ghost use Rattle.cyc_types.specs.Levels.{level_of, at_level};
 ghost use Rattle.cyc_workers.specs.Draining.{Serves, IsRefused, HasDrained};
@@ -58,7 +60,7 @@ fn serve<D: Drain, C: Calls>(side: &mut SoftSide<D, C>, level: Soft) -> Result<R
 pub fn drain<W: Wait, D: Drain, C: Calls>(
     rt: &W,
     parker: &Parker,
-    signals: &Signals,
+    signals: &Signals<C>,
     level: Soft,
     side: SoftSide<D, C>,
 ) -> Drained<D, C>

@@ -1,3 +1,5 @@
+//! A firing worker.
+
 ghost use Rattle.cyc_cpu.specs.Cpu.{running};
 ghost use Rattle.cyc_cpu.specs.Calls.{Fire, no_interrupts};
 ghost use Rattle.cyc_cpu_laws.specs.Runs.{Steps};

@@ -1,6 +1,8 @@
-ghost use Rattle.std.specs.Prelude.{◌≡◌, IfOk, []};
+//! One CPU in threads, from the opening of its rings to their closing.
+
+ghost use Rattle.std.specs.Prelude.{◌≡◌, IfOk, IfErr, []};
 ghost use Rattle.cyc_ring.specs.Ends.{IsRaiseSeatOf, IsDrainSeatOf, raise_trail, drain_trail};
-ghost use Rattle.cyc_workers.specs.Machine.{Leaves, HasRun};
+ghost use Rattle.cyc_workers.specs.Machine.{Leaves, HasRun, WhyNotLeft, WhyNotRun};
 
 use crate::draining::SoftSide;
 use crate::firing::FiringSide;
@@ -66,6 +68,7 @@ fn on_rings<W: Threads + Wait + Sync, C: Calls + Send + Drop>(
     ensures lock_left { IfOk result (λ l. IsRaiseSeatOf lock_ring.now l.lock.raise × IsDrainSeatOf lock_ring.now l.lock.drain) }
     ensures low_left { IfOk result (λ l. IsRaiseSeatOf low_ring.now l.low.raise × IsDrainSeatOf low_ring.now l.low.drain) }
     ensures left { IfOk result (λ l. Leaves C.called C.count C.may_refuse most steps.now lock low calls l) }
+    ensures refused { IfErr result (λ e. WhyNotLeft C.called C.count C.may_refuse most steps.now lock low calls e) }
 {
     let lock_end = RaiseEnd::new(lock_ring, lock.raise);
     let low_end = RaiseEnd::new(low_ring, low.raise);
@@ -122,7 +125,8 @@ pub fn run_cpu<W: Threads + Wait + Sync, C: Calls + Send + Drop>(
     steps: &[Step],
     calls: Handlers<C>,
 ) -> Result<Ended<C>, Refusal>
-    ensures { IfOk result (λ e. HasRun C.called C.count C.may_refuse ceiling most steps.now calls e) }
+    ensures ran { IfOk result (λ e. HasRun C.called C.count C.may_refuse ceiling most steps.now calls e) }
+    ensures refused { IfErr result (λ e. WhyNotRun C.called C.count C.may_refuse ceiling most steps.now calls e) }
 {
     let (lock_ring, lock_raise, lock_drain) = Ring::open(alloc, ceiling, start)?;
     let (low_ring, low_raise, low_drain) = Ring::open(alloc, ceiling, start)?;

@@ -1,3 +1,5 @@
+//! What a CPU counted of each cyclic.
+
 ghost use Rattle.std.specs.Prelude.{◌≡◌, ◌<◌, [], map, length, IfOk};
 ghost use Rattle.cyc_timers.specs.Rows.{Cyclic};
 ghost use Rattle.cyc_cpu.specs.Cpu.{IsCyclic, running};

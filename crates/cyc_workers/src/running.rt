@@ -1,10 +1,10 @@
-ghost use Rattle.std.specs.Prelude.{◌≡◌, IfOk, None, Ok};
-ghost use Rattle.cyc_types.specs.Levels.{at_level};
-ghost use Rattle.cyc_types.specs.declared.level.Level.TheVariants.{Low, Lock};
-ghost use Rattle.cyc_cpu.specs.Cpu.{running};
-ghost use Rattle.cyc_cpu.specs.Moving.{IsSettled};
-ghost use Rattle.cyc_workers.specs.Draining.{Makes};
-ghost use Rattle.cyc_workers.specs.Stepping.{Takes, first_of};
+//! The draining workers start, the steps are taken, and all are joined.
+
+ghost use Rattle.std.specs.Prelude.{◌≡◌, IfOk, IfErr, None, Some, Ok};
+ghost use Rattle.cyc_types.specs.declared.refusal.Refusal.TheVariants.{HandlerRefused, Memory};
+ghost use Rattle.cyc_soft.specs.declared.SoftRefused.{SoftRefused as RefusedCall};
+ghost use Rattle.cyc_workers.specs.Refusals.{first_of};
+ghost use Rattle.cyc_workers.specs.Refusing.{EndsEarly, Works};
 
 use crate::draining::{Drained, Drains, SoftSide, drain};
 use crate::firing::FiringSide;
@@ -39,11 +39,12 @@ fn start_draining<
     scope: &Scope<'s, E>,
     rt: &'s W,
     parker: Parker,
-    signals: &'s Signals,
+    signals: &'s Signals<C>,
     level: Soft,
     side: SoftSide<D, C>,
 ) -> Result<PromisedHandle<Drained<D, C>, Drains<D, C>>, Refusal>
-    ensures { IfOk result (λ h. (h.promise.side.value ≡ side) × (h.promise.level ≡ level)) }
+    ensures started { IfOk result (λ h. (h.promise.side.value ≡ side) × (h.promise.level ≡ level)) }
+    ensures refused { IfErr result (λ e. e ≡ Memory) }
 {
     let promise = Drains {
         side: Snapshot::of(&side),
@@ -57,7 +58,8 @@ fn start_draining<
 
 /// The soft side that a draining worker left, where no handler refused.
 fn soft_side<D: Drop, C: Drop>(left: Drained<D, C>) -> Result<SoftSide<D, C>, Refusal>
-    ensures { IfOk result (λ s. (left.refused ≡ None) × (s ≡ record { drain = left.drain; calls = left.calls })) }
+    ensures side { IfOk result (λ s. (left.refused ≡ None) × (s ≡ record { drain = left.drain; calls = left.calls })) }
+    ensures refused { IfErr result (λ e. (r : RefusedCall) × (left.refused ≡ Some r) × (e ≡ HandlerRefused r.id)) }
 {
     let Drained {
         drain,
@@ -94,6 +96,7 @@ fn all_sides<R: Raise + Drop, D: Drop, C: Drop>(
     ensures taken { IfOk result (λ s. taken ≡ Ok s.firing) }
     ensures lock { IfOk result (λ s. (lock.refused ≡ None) × (s.lock ≡ record { drain = lock.drain; calls = lock.calls })) }
     ensures low { IfOk result (λ s. (low.refused ≡ None) × (s.low ≡ record { drain = low.drain; calls = low.calls })) }
+    ensures refused { IfErr result (λ e. EndsEarly taken lock.refused low.refused e) }
 {
     match taken {
         Ok(firing) => {
@@ -118,14 +121,11 @@ fn work<
     rt: &'s W,
     parkers: (Parker, Parker),
     wakers: &'s Wakers,
-    signals: &'s Signals,
+    signals: &'s Signals<C>,
     sides: Sides<R, D, C>,
     steps: &[Step],
 ) -> Result<Sides<R, D, C>, Refusal>
-    ensures taken { IfOk result (λ t. Takes C.called C.count C.may_refuse R.step R.view steps.now (running sides.firing.calls sides.firing.hard) (running t.firing.calls t.firing.hard)) }
-    ensures settled { IfOk result (λ t. IsSettled R.view t.firing.hard) }
-    ensures lock { IfOk result (λ t. Makes D.step D.made (at_level C.called Lock) C.count sides.lock t.lock.drain t.lock.calls) }
-    ensures low { IfOk result (λ t. Makes D.step D.made (at_level C.called Low) C.count sides.low t.low.drain t.low.calls) }
+    ensures { Works C.called C.count C.may_refuse R.step R.view D.step D.made steps.now sides result }
 {
     let Sides { firing, lock, low } = sides;
     let (lock_parker, low_parker) = parkers;
@@ -137,6 +137,37 @@ fn work<
     let lock = lock.join(rt);
     let low = low.join(rt);
     all_sides(taken, lock, low)
+}
+
+/// Starts the two draining workers in a scope, and whatever the answer, has told them to stop and woken them before it waits for
+/// them.
+fn work_in_scope<
+    W: Threads + Wait + Sync,
+    R: Raise + Send + Drop,
+    D: Drain + Send + Drop,
+    C: Calls + Send + Drop,
+>(
+    rt: &W,
+    parkers: (Parker, Parker),
+    wakers: &Wakers,
+    signals: &Signals<C>,
+    sides: Sides<R, D, C>,
+    steps: &[Step],
+) -> Result<Sides<R, D, C>, Refusal>
+    ensures { Works C.called C.count C.may_refuse R.step R.view D.step D.made steps.now sides result }
+{
+    thread::scope(
+        thread::scope_env(),
+        rt,
+        |scope| -> Result<Sides<R, D, C>, Refusal>
+            ensures { Works C.called C.count C.may_refuse R.step R.view D.step D.made steps.entry.now sides result }
+        {
+            let left = work(scope, rt, parkers, wakers, signals, sides, steps);
+            signals.stop();
+            wakers.wake();
+            left
+        },
+    )
 }
 
 /// Takes these steps of a CPU while two threads of their own drain its soft levels, and waits until it has settled. A further
@@ -152,10 +183,7 @@ pub fn work_sides<
     D: Drain + Send + Drop,
     C: Calls + Send + Drop,
 >(rt: &W, alloc: Global, sides: Sides<R, D, C>, steps: &[Step]) -> Result<Sides<R, D, C>, Refusal>
-    ensures taken { IfOk result (λ t. Takes C.called C.count C.may_refuse R.step R.view steps.now (running sides.firing.calls sides.firing.hard) (running t.firing.calls t.firing.hard)) }
-    ensures settled { IfOk result (λ t. IsSettled R.view t.firing.hard) }
-    ensures lock { IfOk result (λ t. Makes D.step D.made (at_level C.called Lock) C.count sides.lock t.lock.drain t.lock.calls) }
-    ensures low { IfOk result (λ t. Makes D.step D.made (at_level C.called Low) C.count sides.low t.low.drain t.low.calls) }
+    ensures { Works C.called C.count C.may_refuse R.step R.view D.step D.made steps.now sides result }
 {
     let lock_parker = Parker::new(alloc)?;
     let low_parker = Parker::new(alloc)?;
@@ -165,21 +193,5 @@ pub fn work_sides<
     };
     let both_signals = Signals::new();
     let parkers = (lock_parker, low_parker);
-    let wakers = &both_wakers;
-    let signals = &both_signals;
-    thread::scope(
-        thread::scope_env(),
-        rt,
-        |scope| -> Result<Sides<R, D, C>, Refusal>
-            ensures taken { IfOk result (λ t. Takes C.called C.count C.may_refuse R.step R.view steps.entry.now (running sides.firing.calls sides.firing.hard) (running t.firing.calls t.firing.hard)) }
-            ensures settled { IfOk result (λ t. IsSettled R.view t.firing.hard) }
-            ensures lock { IfOk result (λ t. Makes D.step D.made (at_level C.called Lock) C.count sides.lock t.lock.drain t.lock.calls) }
-            ensures low { IfOk result (λ t. Makes D.step D.made (at_level C.called Low) C.count sides.low t.low.drain t.low.calls) }
-        {
-            let left = work(scope, rt, parkers, wakers, signals, sides, steps);
-            signals.stop();
-            wakers.wake();
-            left
-        },
-    )
+    work_in_scope(rt, parkers, &both_wakers, &both_signals, sides, steps)
 }

@@ -1,12 +1,15 @@
-ghost use Rattle.std.specs.Prelude.{List, Bool, IfNone};
+//! The wait until a CPU has settled.
+
+ghost use Rattle.std.specs.Prelude.{List, Bool, IfNone, IfSome};
 ghost use Rattle.std.specs.List.{FoldsTo};
 ghost use Rattle.cyc_cpu.specs.Moving.{IsSettled};
+ghost use Rattle.cyc_workers.specs.Refusals.{CanRefuse};
 ghost use Rattle.cyc_workers.specs.Settling.{Asks, Settles};
 
 use crate::signals::Signals;
 use crate::wakers::Wakers;
 use cyc_cpu::Hard;
-use cyc_types::{CyclicId, Raise};
+use cyc_types::{Calls, CyclicId, Raise};
 use std::sync::Wait;
 use std::thread;
 
@@ -22,14 +25,15 @@ fn ask<R: Raise>(hard: &mut Hard<R>) -> bool
 /// own rule). Between two questions it wakes the draining workers of both soft levels. The answer is None then, and else a cyclic
 /// whose handler refused before.
 /// It takes no memory.
-pub fn settle<W: Wait, R: Raise>(
+pub fn settle<W: Wait, R: Raise, C: Calls>(
     rt: &W,
     hard: &mut Hard<R>,
     wakers: &Wakers,
-    signals: &Signals,
+    signals: &Signals<C>,
 ) -> Option<CyclicId>
     ensures asked { Settles R.step R.view hard.old hard.new }
     ensures settled { IfNone result (IsSettled R.view hard.new) }
+    ensures refused { IfSome result (λ id. CanRefuse C.may_refuse id) }
 {
     for _ in rt.forever() {
         if ask(hard) {

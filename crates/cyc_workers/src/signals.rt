@@ -1,20 +1,37 @@
-use cyc_types::CyclicId;
-use std::sync::atomic::{AtomicBool, AtomicU64, Ordering};
+//! What the workers tell each other.
+
+ghost use Rattle.std.specs.Prelude.{IfSome};
+ghost use Rattle.cyc_workers.specs.Refusals.{CanRefuse};
+
+use cyc_types::{Calls, CyclicId};
+use std::marker::PhantomData;
+use std::sync::atomic::{AtomicBool, AtomicIn, Ordering, Rule};
+
+/// The rule of the number that tells of a refusal: it is 0, or that of a cyclic whose handler may refuse.
+pub struct Telling<C> {
+    of: PhantomData<C>,
+}
+
+impl<C: Calls> Rule for Telling<C> {
+    ghost use Rattle.std.specs.Prelude.{◌≡◌, ◌⊎◌};
+
+    ghost invariant = { λ n. (n ≡ 0) ⊎ CanRefuse C.may_refuse n };
+}
 
 /// What the workers of a run tell each other: that they are to stop, and that a handler refused.
 #[derive(Drop)]
-pub struct Signals {
+pub struct Signals<C: Calls> {
     stop: AtomicBool,
     // The id whose handler refused, 0 where none did.
-    refused: AtomicU64,
+    refused: AtomicIn<Telling<C>>,
 }
 
-impl Signals {
+impl<C: Calls> Signals<C> {
     /// Neither is told yet.
-    pub fn new() -> Signals {
+    pub fn new() -> Signals<C> {
         Signals {
             stop: AtomicBool::new(false),
-            refused: AtomicU64::new(0),
+            refused: AtomicIn::new(0),
         }
     }
 
@@ -29,12 +46,16 @@ impl Signals {
     }
 
     /// Tells that the handler of this cyclic refused.
-    pub fn refuse(&self, id: CyclicId) {
+    pub fn refuse(&self, id: CyclicId)
+        requires { CanRefuse C.may_refuse id }
+    {
         self.refused.store(id.number(), Ordering::SeqCst);
     }
 
     /// The cyclic whose handler refused; where several did, one of them.
-    pub fn refused(&self) -> Option<CyclicId> {
+    pub fn refused(&self) -> Option<CyclicId>
+        ensures { IfSome result (λ id. CanRefuse C.may_refuse id) }
+    {
         CyclicId::new(self.refused.load(Ordering::SeqCst))
     }
 }

@@ -1,16 +1,20 @@
-ghost use Rattle.std.specs.Prelude.{◌≡◌, ◌∷◌, [], List, IfOk, OnOk, Ok};
+//! The steps of a CPU in threads.
+
+ghost use Rattle.std.specs.Prelude.{◌≡◌, ◌∷◌, [], List, IfOk, IfErr, OnOk};
 ghost use Rattle.std.specs.Bool.{OnTrue};
 ghost use Rattle.cyc_cpu.specs.Cpu.{running};
 ghost use Rattle.cyc_cpu.specs.Calls.{Fire, no_interrupts};
 ghost use Rattle.cyc_cpu.specs.Moving.{IsSettled};
 ghost use Rattle.cyc_cpu_laws.specs.Runs.{Steps};
-ghost use Rattle.cyc_fire.specs.declared.fire.Fired.{Fired};
+ghost use Rattle.cyc_types.specs.declared.refusal.Refusal.TheVariants.{Memory};
+ghost use Rattle.cyc_workers.specs.Refusing.{StepHalts, WhyHalted, why_of};
 ghost use Rattle.cyc_workers.specs.Stepping.{Takes};
 
 use crate::firing::{AfterFire, Fires, FiringSide, fire};
 use crate::settling::settle;
 use crate::signals::Signals;
 use crate::wakers::Wakers;
+use cyc_fire::{FireRefused, Fired};
 use cyc_types::{Calls, CyclicId, Level, Moment, Raise, Refusal, When};
 use std::snapshot::Snapshot;
 use std::sync::Wait;
@@ -46,9 +50,10 @@ fn add<W: Wait, R: Raise, C: Calls>(
     side: &mut FiringSide<R, C>,
     step: (CyclicId, Level, When, Moment),
     wakers: &Wakers,
-    signals: &Signals,
+    signals: &Signals<C>,
 ) -> Result<(), Halt>
-    ensures { OnOk result (Takes C.called C.count C.may_refuse R.step R.view (Step.Add step.0 step.1 step.2 step.3 ∷ []) (running side.old.calls side.old.hard) (running side.new.calls side.new.hard)) }
+    ensures taken { OnOk result (Takes C.called C.count C.may_refuse R.step R.view (Step.Add step.0 step.1 step.2 step.3 ∷ []) (running side.old.calls side.old.hard) (running side.new.calls side.new.hard)) }
+    ensures halted { IfErr result (λ h. StepHalts C.called C.count C.may_refuse R.step R.view (Step.Add step.0 step.1 step.2 step.3) (running side.old.calls side.old.hard) h) }
 {
     let (id, level, when, now) = step;
     if let Some(id) = settle(rt, &mut side.hard, wakers, signals) {
@@ -65,7 +70,44 @@ fn add<W: Wait, R: Raise, C: Calls>(
     }
 }
 
-/// Starts a firing worker, and waits for what it leaves.
+/// Starts a firing worker, and waits for what it leaves. Refuses with Memory where no thread could be made.
+fn fire_in_thread<
+    's,
+    E,
+    W: Threads + Wait + Sync + 's,
+    R: Raise + Send + Drop + 's,
+    C: Calls + Send + Drop + 's,
+>(
+    scope: &Scope<'s, E>,
+    rt: &'s W,
+    side: FiringSide<R, C>,
+    now: Moment,
+    wakers: &'s Wakers,
+) -> Result<AfterFire<R, C>, Halt>
+    ensures fired { IfOk result (λ a. Steps C.called C.count C.may_refuse R.step R.view no_interrupts (running side.calls side.hard) (Fire now a.answer) (running a.calls a.hard)) }
+    ensures refused { IfErr result (λ h. h ≡ Halt.Refused Memory) }
+{
+    let promise = Fires {
+        side: Snapshot::of(&side),
+        now,
+    };
+    match scope.spawn_with(promise, move || fire(side, now, wakers)) {
+        Ok(child) => Ok(child.join(rt)),
+        Err(_) => Err(Halt::Refused(Refusal::Memory)),
+    }
+}
+
+/// Why a fire was refused.
+fn why(answer: &Result<Fired, FireRefused>) -> Option<Refusal>
+    ensures { result ≡ why_of answer.now }
+{
+    match answer {
+        Ok(_) => None,
+        Err(refused) => Some(refused.why),
+    }
+}
+
+/// Fires what is due, by a worker of its own.
 fn advance<
     's,
     E,
@@ -79,23 +121,16 @@ fn advance<
     now: Moment,
     wakers: &'s Wakers,
 ) -> Result<FiringSide<R, C>, Halt>
-    ensures { IfOk result (λ t. (fired : Fired) × Steps C.called C.count C.may_refuse R.step R.view no_interrupts (running side.calls side.hard) (Fire now (Ok fired)) (running t.calls t.hard)) }
+    ensures taken { IfOk result (λ t. Takes C.called C.count C.may_refuse R.step R.view (Step.Advance now ∷ []) (running side.calls side.hard) (running t.calls t.hard)) }
+    ensures halted { IfErr result (λ h. StepHalts C.called C.count C.may_refuse R.step R.view (Step.Advance now) (running side.calls side.hard) h) }
 {
-    let promise = Fires {
-        side: Snapshot::of(&side),
-        now,
-    };
-    let Ok(child) = scope.spawn_with(promise, move || fire(side, now, wakers)) else {
-        return Err(Halt::Refused(Refusal::Memory));
-    };
-    let AfterFire {
-        hard,
-        calls,
-        answer,
-    } = child.join(rt);
-    match answer {
-        Ok(_) => Ok(FiringSide { hard, calls }),
-        Err(refused) => Err(Halt::Refused(refused.why)),
+    let after = fire_in_thread(scope, rt, side, now, wakers)?;
+    match why(&after.answer) {
+        None => Ok(FiringSide {
+            hard: after.hard,
+            calls: after.calls,
+        }),
+        Some(why) => Err(Halt::Refused(why)),
     }
 }
 
@@ -112,9 +147,10 @@ fn take_step<
     side: FiringSide<R, C>,
     step: Step,
     wakers: &'s Wakers,
-    signals: &Signals,
+    signals: &Signals<C>,
 ) -> Result<FiringSide<R, C>, Halt>
-    ensures { IfOk result (λ t. Takes C.called C.count C.may_refuse R.step R.view (step ∷ []) (running side.calls side.hard) (running t.calls t.hard)) }
+    ensures taken { IfOk result (λ t. Takes C.called C.count C.may_refuse R.step R.view (step ∷ []) (running side.calls side.hard) (running t.calls t.hard)) }
+    ensures halted { IfErr result (λ h. StepHalts C.called C.count C.may_refuse R.step R.view step (running side.calls side.hard) h) }
 {
     match step {
         Step::Add {
@@ -147,10 +183,11 @@ pub fn take_steps<
     side: FiringSide<R, C>,
     steps: &[Step],
     wakers: &'s Wakers,
-    signals: &Signals,
+    signals: &Signals<C>,
 ) -> Result<FiringSide<R, C>, Halt>
     ensures taken { IfOk result (λ t. Takes C.called C.count C.may_refuse R.step R.view steps.now (running side.calls side.hard) (running t.calls t.hard)) }
     ensures settled { IfOk result (λ t. IsSettled R.view t.hard) }
+    ensures halted { IfErr result (λ h. WhyHalted C.called C.count C.may_refuse R.step R.view steps.now (running side.calls side.hard) h) }
 {
     let mut side = side;
     for i in 0..steps.len() {

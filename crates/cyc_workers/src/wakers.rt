@@ -1,3 +1,5 @@
+//! What wakes draining workers.
+
 use crossbeam_utils::sync::Unparker;
 
 /// What wakes the two draining workers of a CPU.

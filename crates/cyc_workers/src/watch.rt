@@ -1,7 +1,10 @@
+//! When a draining worker may park.
+
 ghost use Rattle.std.specs.Prelude.{◌≡◌, true, false};
 
 use crate::signals::Signals;
 use crossbeam_utils::sync::Parker;
+use cyc_types::Calls;
 use std::sync::Wait;
 
 /// What a draining worker did since it last asked whether it is to stop (our own rule). A raise wakes the worker after its entry
@@ -27,7 +30,7 @@ impl Watch {
     }
 
     /// Asks whether the worker is to stop. It has still to look after this.
-    pub(crate) fn ask(&mut self, signals: &Signals)
+    pub(crate) fn ask<C: Calls>(&mut self, signals: &Signals<C>)
         ensures { self.new.looked ≡ false }
     {
         self.told = signals.is_stopped();

@@ -1,3 +1,5 @@
+//! Handlers that count, and what a run left of them.
+
 use crate::help::{add, advance, ceiling, id};
 use cyc_types::{Level, Refusal, Tally};
 use cyc_workers::{Ended, Handlers, run_cpu};

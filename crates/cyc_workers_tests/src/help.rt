@@ -1,3 +1,5 @@
+//! Ids, moments and ceilings for the tests.
+
 use cyc_types::{Ceiling, CyclicId, Interval, Level, Moment, When};
 use cyc_workers::Step;
 use std::test::Fail;

@@ -1,4 +1,4 @@
-use Rattle.std.proofs.Common.{sym, ap, subst, ◌∙◌}
+use Rattle.std.proofs.Common.{sym, ap, subst, ◌∙◌, inr}
 use Rattle.std.specs.Prelude.{map}
 use Rattle.cyc_types.specs.Levels.{at_level}
 use Rattle.cyc_types.specs.declared.level.Level.TheVariants.{Low, Lock}
@@ -7,8 +7,11 @@ use Rattle.cyc_cpu.specs.Law.{IsLawful}
 use Rattle.cyc_ring.specs.declared.ends.RaiseEnd.{RaiseEnd}
 use Rattle.cyc_ring.specs.Ends.{end_view, RaiseEndCall, drain_trail}
 use Rattle.cyc_workers.specs.Reporting.{line_of}
+use Rattle.cyc_workers.specs.Refusing.{WhyRefused}
 use Rattle.cyc_workers.specs.Stepping.{Takes}
+use Rattle.cyc_workers.specs.Machine.{WhyNotLeft}
 use Rattle.cyc_workers.proofs.Taking.{takes_then}
+use Rattle.cyc_workers.proofs.Halting.{at_err}
 use Rattle.cyc_workers.proofs.Balance.{serves_seat, drains_same, raises_same, raise_seat_of, drain_seat_of}
 use Rattle.cyc_workers.proofs.machine.on_rings.Goals as goal
 
@@ -58,3 +61,15 @@ returns-clause-low_left g c = (
       c.new-3.ensures.0 (drains_same (at_level g.C.Calls.called Low) g.C.Calls.count (record { drain = c.new-3.result; calls = c.args.calls.low }) c.in_ok-firing.field-0.low.drain c.in_ok-firing.field-0.low.calls c.in_ok-firing.ensures.low)
       c.into_seat-4.ensures.seat,
 )
+
+pub returns-in_err-firing-clause-refused : goal.returns-in_err-firing-clause-refused
+returns-in_err-firing-clause-refused g c = at_err (λ e. WhyNotLeft g.C.Calls.called g.C.Calls.count g.C.Calls.may_refuse c.args.most c.args.steps.now c.args.lock c.args.low c.args.calls e)
+    c.from_residual-in_err-firing.result c.in_err-firing.field-0.0 c.from_residual-in_err-firing.ensures.1
+    (inr (
+      c.new-lock_end.result,
+      c.new-low_end.result,
+      c.new-lock_end.ensures.0,
+      c.new-low_end.ensures.0,
+      subst (λ (v : CpuView RaiseEnd). WhyRefused g.C.Calls.called g.C.Calls.count g.C.Calls.may_refuse RaiseEndCall end_view c.args.steps.now (running c.args.calls.high v) c.in_err-firing.field-0.0)
+          c.in_ok-hard.ensures.ok c.in_err-firing.ensures,
+    ))

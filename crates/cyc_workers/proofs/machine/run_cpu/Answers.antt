@@ -8,12 +8,13 @@ use Rattle.cyc_ring.specs.declared.seats.RaiseSeat.{RaiseSeat}
 use Rattle.cyc_ring.specs.declared.seats.DrainSeat.{DrainSeat}
 use Rattle.cyc_ring.specs.Ends.{raise_trail, drain_trail, seat_made}
 use Rattle.cyc_workers.specs.Reporting.{expired_in, lost_in}
-use Rattle.cyc_workers.specs.Machine.{HasServed}
+use Rattle.cyc_workers.specs.Machine.{HasServed, WhyNotRun}
 use Rattle.cyc_workers.proofs.Balance.{all_books, lines_expired, lines_lost}
+use Rattle.cyc_workers.proofs.Halting.{at_err, not_run}
 use Rattle.cyc_workers.proofs.machine.run_cpu.Goals as goal
 
-pub returns : goal.returns
-returns g c =
+pub returns-clause-ran : goal.returns-clause-ran
+returns-clause-ran g c =
     let l = c.in_ok-left.ensures.left in let left = c.in_ok-left.left in
     let lock_empty = ap raise_trail l.lock_own ∙ c.in_ok-lock_ring.ensures.empty.0 in
     let low_empty = ap raise_trail l.low_own ∙ c.in_ok-low_ring.ensures.empty.0 in
@@ -42,3 +43,12 @@ returns g c =
           let f = ap (lost_in id) l.lines ∙ lines_lost id l.last.cyclics in
           omega (arith, b, x, y, e, f));
     }
+
+pub returns-in_err-left-clause-refused : goal.returns-in_err-left-clause-refused
+returns-in_err-left-clause-refused g c = at_err (λ e. WhyNotRun g.C.Calls.called g.C.Calls.count g.C.Calls.may_refuse c.args.ceiling c.args.most c.args.steps.now c.args.calls e)
+    c.from_residual-in_err-left.result c.in_err-left.field-0.0 c.from_residual-in_err-left.ensures.1
+    (not_run g.C.Calls.called g.C.Calls.count g.C.Calls.may_refuse c.args.ceiling c.args.most c.args.steps.now
+    (record { raise = c.in_ok-lock_ring.lock_raise; drain = c.in_ok-lock_ring.lock_drain }) (record { raise = c.in_ok-low_ring.low_raise; drain = c.in_ok-low_ring.low_drain }) c.args.calls c.in_err-left.field-0.0
+    (c.in_ok-lock_ring.ensures.empty.0, ap (λ (k : Setting). k.ceiling) (c.in_ok-lock_ring.ensures.seats.0.1 ∙ c.in_ok-lock_ring.ensures.setting))
+    (c.in_ok-low_ring.ensures.empty.0, ap (λ (k : Setting). k.ceiling) (c.in_ok-low_ring.ensures.seats.0.1 ∙ c.in_ok-low_ring.ensures.setting))
+    c.in_err-left.ensures.refused)
