@@ -1,1 +1,2 @@
 pub mod Fired
+pub mod Settled

@@ -1,3 +1,5 @@
+//! Several CPUs fire at once.
+
 ghost use Rattle.std.specs.Prelude.{◌≡◌, ℕ, ◌<◌, IfOk, slice_index_or, vec_len};
 ghost use Rattle.cyc_cpu_workers.specs.Fired.{HasFired};
 ghost use Rattle.cyc_cpu_workers.specs.declared.firing.Led.{Led};

@@ -3,6 +3,8 @@
 
 mod firing;
 mod runs;
+mod settling;
 
 pub use firing::{Led, LedAfter, fire_all};
 pub use runs::{Run, run_cpus};
+pub use settling::{Lead, settle_all};

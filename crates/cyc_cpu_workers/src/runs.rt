@@ -1,3 +1,5 @@
+//! Several CPUs run side by side.
+
 ghost use Rattle.std.specs.Prelude.{◌≡◌, ℕ, ◌<◌, IfOk, Result, slice_index_or, vec_len};
 ghost use Rattle.cyc_types.specs.declared.refusal.Refusal.{Refusal};
 ghost use Rattle.cyc_workers.specs.Machine.{HasRun};
