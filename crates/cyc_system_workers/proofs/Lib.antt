@@ -1,0 +1,3 @@
+pub mod Together
+pub mod Questions
+pub mod Firings

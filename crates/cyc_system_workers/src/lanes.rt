@@ -1,0 +1,125 @@
+//! The CPUs of a system on their way into threads, and back.
+
+ghost use Rattle.std.specs.Prelude.{◌≡◌, ℕ, ◌<◌, map, length, slice_index_or, IfOk};
+ghost use Rattle.cyc_system_workers.specs.declared.lanes.Lane.{Lane as OneLane};
+ghost use Rattle.cyc_system_workers.specs.declared.lanes.LaneAfter.{LaneAfter as OneAfter};
+ghost use Rattle.cyc_system_workers.specs.Advancing.{LaneFires};
+
+use cyc_cpu::{FireRefused, Fired, Hard};
+use cyc_cpu_workers::Lead;
+use cyc_types::{Calls, Moment, Raise};
+use cyc_workers::{AfterFire, FiringSide, fire};
+use std::alloc::{AllocError, Global};
+use std::thread;
+use std::thread::Threads;
+
+/// A CPU on its way into a thread.
+#[derive(Drop)]
+pub struct Lane<R: Raise, C> {
+    pub hard: Hard<R>,
+    pub lead: Lead<C>,
+    pub online: bool,
+}
+
+/// A CPU that comes out of a thread, with what its fire answered: None where it was not online.
+#[derive(Drop)]
+pub struct LaneAfter<R: Raise, C> {
+    pub hard: Hard<R>,
+    pub lead: Lead<C>,
+    pub answer: Option<Result<Fired, FireRefused>>,
+}
+
+/// The CPUs with what leads them, each beside its own, by their numbers.
+pub(crate) fn gather<R: Raise + Drop, C: Drop>(
+    alloc: Global,
+    hards: Vec<Hard<R>>,
+    leads: Vec<Lead<C>>,
+    online: &[bool],
+) -> Result<Vec<Lane<R, C>>, AllocError>
+    requires leads { length leads.items ≡ length hards.items }
+    requires online { length online.now ≡ length hards.items }
+    ensures hards { IfOk result (λ v. map (λ l. l.hard) v.items ≡ hards.items) }
+    ensures leads { IfOk result (λ v. map (λ l. l.lead) v.items ≡ leads.items) }
+    ensures online { IfOk result (λ v. map (λ l. l.online) v.items ≡ online.now) }
+{
+    let mut lanes = Vec::with_capacity(alloc, online.len())?;
+    let mut rest = leads.into_iter();
+    for hard in hards {
+        let Some(lead) = rest.next() else {
+            unreachable!()
+        };
+        let up = online[lanes.len()];
+        lanes.push(Lane {
+            hard,
+            lead,
+            online: up,
+        })?;
+    }
+    Ok(lanes)
+}
+
+/// The CPUs, what leads them and the answers, apart, by the numbers.
+pub(crate) fn scatter<R: Raise + Drop, C: Drop>(
+    alloc: Global,
+    lanes: Vec<LaneAfter<R, C>>,
+) -> Result<
+    (
+        Vec<Hard<R>>,
+        Vec<Lead<C>>,
+        Vec<Option<Result<Fired, FireRefused>>>,
+    ),
+    AllocError,
+>
+    ensures hards { IfOk result (λ r. r.0.items ≡ map (λ l. l.hard) lanes.items) }
+    ensures leads { IfOk result (λ r. r.1.items ≡ map (λ l. l.lead) lanes.items) }
+    ensures answers { IfOk result (λ r. r.2.items ≡ map (λ l. l.answer) lanes.items) }
+{
+    let mut hards = Vec::with_capacity(alloc, lanes.len())?;
+    let mut leads = Vec::with_capacity(alloc, lanes.len())?;
+    let mut answers = Vec::with_capacity(alloc, lanes.len())?;
+    for lane in lanes {
+        let LaneAfter { hard, lead, answer } = lane;
+        hards.push(hard)?;
+        leads.push(lead)?;
+        answers.push(answer)?;
+    }
+    Ok((hards, leads, answers))
+}
+
+/// Fires a CPU that is online, and wakes its draining workers. Any other stays as it is.
+fn fire_lane<R: Raise, C: Calls>(lane: Lane<R, C>, now: Moment) -> LaneAfter<R, C>
+    ensures { LaneFires C.called C.count C.may_refuse R.step R.view now lane result }
+{
+    let Lane { hard, lead, online } = lane;
+    hard.law();
+    if !online {
+        return LaneAfter {
+            hard,
+            lead,
+            answer: None,
+        };
+    }
+    let Lead { calls, wakers } = lead;
+    let AfterFire {
+        hard,
+        calls,
+        answer,
+    } = fire(FiringSide { hard, calls }, now, &wakers);
+    LaneAfter {
+        hard,
+        lead: Lead { calls, wakers },
+        answer: Some(answer),
+    }
+}
+
+/// Fires the CPUs that are online, each in a thread of its own where one can be made, and waits for all.
+pub(crate) fn fire_lanes<W: Threads + Sync, R: Raise + Send + Drop, C: Calls + Send + Drop>(
+    rt: &W,
+    lanes: Vec<Lane<R, C>>,
+    now: Moment,
+) -> Result<Vec<LaneAfter<R, C>>, AllocError>
+    ensures len { IfOk result (λ v. length v.items ≡ length lanes.items) }
+    ensures each { IfOk result (λ v. (k : ℕ) (l : OneLane _ _) (a : OneAfter _ _) → k < length lanes.items → LaneFires C.called C.count C.may_refuse R.step R.view now (slice_index_or lanes.items k l) (slice_index_or v.items k a)) }
+{
+    thread::map_vec(rt, lanes, &|lane| fire_lane(lane, now))
+}

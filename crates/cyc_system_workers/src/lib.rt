@@ -1,0 +1,14 @@
+//! A system of CPUs in threads: all of them fire at once, and all of them settle.
+#![tactic(auto)]
+
+mod advancing;
+mod lanes;
+mod laws;
+mod settling;
+mod side;
+
+pub use advancing::{Advanced, advance};
+pub use lanes::{Lane, LaneAfter};
+pub use laws::advance_law;
+pub use settling::{Asked, settle};
+pub use side::SystemSide;
