@@ -10,6 +10,7 @@ use Rattle.cyc_model.specs.Questions.{plain}
 use Rattle.cyc_model.specs.State.{State, Outcome, Place, On, OnAll, cpu_of, nothing, each, numbers, cpus_with}
 use Rattle.cyc_model.specs.Places.{id_of, place_of, is_unknown, forgotten}
 use Rattle.cyc_model.specs.Refusals.{when, first_refusal, busy}
+use Rattle.cyc_model.specs.Report.{counts_of}
 use Rattle.cyc_model.specs.Remove.{busy_on_each, remove_refusal, poll, begin, answered, begun, with_answer, remove, ended_expired, ended_lost}
 use Rattle.cyc_model.specs.Softint.{softint_refusal, interrupt, is_open, text_of_id, polled, with_poll, poll_id, leaving_ids, poll_all, softint}
 use Rattle.cyc_model.proofs.Rising.{found, any_found}
@@ -23,7 +24,7 @@ use Rattle.cyc_model.proofs.Ending.{all_ended}
 use Rattle.cyc_model.proofs.Removing.{Begun, Steady, Removing, poll_turn, begin_turn, good_kept, good_answered, forgotten_gone, none_with, first_with}
 
 steady_refl : (s : State) → Good s → Steady s s
-steady_refl s g = record { base = g.base; placed = refl; last_id = refl }
+steady_refl s g = record { base = g.base; placed = refl; last_id = refl; counts = λ j. refl }
 
 -- ---- after a loop of begins, or of polls
 
@@ -84,6 +85,24 @@ module _ (id : ℕ) (s : State) (g : Good s) (o : Outcome) (goes : Goes o.acts s
       by [] is = well_answered step text is
       by (n ∷ ns) is = (goes, good_kept id s o.state g h n (first_with id n ns o.state is))
 
+-- no answer changes a count
+counts_begun : (id step : ℕ) (text : List ℕ) (o : Outcome) (s : State) → ((j : ℕ) → counts_of j o.state ≡ counts_of j s) → (j : ℕ)
+    → counts_of j (with_answer plain step text id o).state ≡ counts_of j s
+counts_begun id step text o s same j = by (cpus_with id o.state)
+  where
+    by : (ns : List ℕ) → counts_of j (begun plain step text id ns o).state ≡ counts_of j s
+    by [] = same j
+    by (n ∷ ns) = same j
+
+counts_polled : (id step : ℕ) (text : List ℕ) (o : Outcome) (s : State) → ((j : ℕ) → counts_of j o.state ≡ counts_of j s)
+    → (j : ℕ)
+    → counts_of j (with_poll step text id o).state ≡ counts_of j s
+counts_polled id step text o s same j = by (cpus_with id o.state)
+  where
+    by : (ns : List ℕ) → counts_of j (polled step text id ns o).state ≡ counts_of j s
+    by [] = same j
+    by (n ∷ ns) = same j
+
 -- ---- remove
 
 busy_each : (ns : List ℕ) (s : State) → first_refusal (busy_on_each plain ns s) ≡ None → (m : ℕ) → Has m ns
@@ -120,6 +139,11 @@ module _ (name : ℕ) (s : State) (g : Good s) (why : remove_refusal plain name 
   well_remove step text = well_begun (id_of name s) s g (each (begin plain (id_of name s)) (cpus_with (id_of name s) s) s)
       begins.goes begun_removal step text
 
+  pub counts_removed : (step : ℕ) (text : List ℕ) (j : ℕ) → counts_of j (remove plain step text name s).state ≡ counts_of j s
+  counts_removed step text = counts_begun (id_of name s) step text (each (begin plain (id_of name s)) (cpus_with
+      (id_of name s) s) s) s
+      begins.inv.counts
+
 -- ---- polls
 
 open_is : (id : ℕ) (c : Cpu) → is_open id c ≡ true → c.removal ≡ Some id
@@ -155,6 +179,10 @@ module _ (id : ℕ) (s : State) (g : Good s) where
       (λ n t within inv ready. poll_turn s id n t within inv ready) 0 (numbers (is_open id) s) s
       (numbers_rise (is_open id) 0 s.cpus)
       (λ m has. (numbers_pass (is_open id) m s has).0) (steady_refl s g) open_here
+
+  pub counts_poll : (texts : List (List ℕ)) (step j : ℕ) → counts_of j (poll_id plain texts step id s).state ≡ counts_of j s
+  counts_poll texts step = counts_polled id step (text_of_id id texts s.names) (each (poll plain id) (numbers
+      (is_open id) s) s) s polls.inv.counts
 
   -- the open removals of other ids stay so
   pub polls_others : (j k : ℕ) → j ≢ id → (cpu_of k s).removal ≡ Some j
@@ -202,6 +230,13 @@ well_polls texts step [] s g = well_nothing s g
 well_polls texts step (id ∷ ids) s g =
     well_then (poll_id plain texts step id s) (each (poll_id plain texts step) ids) s (well_poll id s g texts step)
     (λ h. well_polls texts step ids (poll_id plain texts step id s).state h)
+
+pub counts_polls : (texts : List (List ℕ)) (step : ℕ) (ids : List ℕ) (s : State) → Good s → (j : ℕ)
+    → counts_of j (each (poll_id plain texts step) ids s).state ≡ counts_of j s
+counts_polls texts step [] s g j = refl
+counts_polls texts step (id ∷ ids) s g j =
+    counts_polls texts step ids (poll_id plain texts step id s).state (well_poll id s g texts step).1 j
+    ∙ counts_poll id s g texts step j
 
 pub well_softint : (texts : List (List ℕ)) (step : ℕ) (i : SoftintStep) (s : State) → Good s → softint_refusal i s ≡ None
     → Well (softint plain texts step i s) s

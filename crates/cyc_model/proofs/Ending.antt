@@ -120,11 +120,11 @@ module _ (n id : ℕ) (f : Cpu → Here) (s : State) (within : n < length s.cpus
 
 -- ---- where no CPU has the cyclic, its ended stays have all of it
 
-nothing_here : (g : Cyclic → ℕ) (id : ℕ) (c : Cpu) → Whole c → found id c.cyclics ≡ None
+pub nothing_here : (g : Cyclic → ℕ) (id : ℕ) (c : Cpu) → Whole c → found id c.cyclics ≡ None
     → sum_by (λ x. cond (is_of id x) (g x) 0) c.cyclics ≡ 0
 nothing_here g id c w none = tally_found g 0 id c.cyclics w.rising ∙ ap (of_found g) none
 
-none_in_all : (f : Cpu → ℕ) (cs : List Cpu) → ((m : ℕ) → m < length cs → f (slice_index_or cs m absent) ≡ 0) → sum_by f cs ≡ 0
+pub none_in_all : (f : Cpu → ℕ) (cs : List Cpu) → ((m : ℕ) → m < length cs → f (slice_index_or cs m absent) ≡ 0) → sum_by f cs ≡ 0
 none_in_all f [] none = refl
 none_in_all f (c ∷ cs) none =
     let a = sum_by-cons f c cs in let b = none 0 (omega arith) in

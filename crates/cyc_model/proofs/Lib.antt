@@ -46,3 +46,8 @@ pub mod Rates
 pub mod Enabling
 pub mod Spare
 pub mod Choosing
+pub mod Still
+pub mod Growing
+pub mod Known
+pub mod Bounded
+pub mod Gone

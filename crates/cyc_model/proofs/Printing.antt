@@ -147,7 +147,7 @@ polls_tell_calls indexes cpus ceiling texts steps step i s some is why =
 
 -- ---- what follows a removal
 
-unknown_gone : (id : ℕ) (s : State) → is_unknown id s ≡ true → place_of id s ≡ None
+pub unknown_gone : (id : ℕ) (s : State) → is_unknown id s ≡ true → place_of id s ≡ None
 unknown_gone id s is = by (place_of id s) is
   where
     by : (o : Option Place) → not (is_some o) ≡ true → o ≡ None

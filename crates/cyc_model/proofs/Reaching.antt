@@ -103,13 +103,13 @@ start_cpu P ceiling new away zero n = away
 start_cpu P ceiling new away (suc k) zero = new
 start_cpu P ceiling new away (suc k) (suc n) = start_cpu P ceiling new away k n
 
-sum_of_none : (f : Cpu → ℕ) (ceiling k : ℕ) → f (new_cpu ceiling) ≡ 0 → sum_by f (replicate k (new_cpu ceiling)) ≡ 0
+pub sum_of_none : (f : Cpu → ℕ) (ceiling k : ℕ) → f (new_cpu ceiling) ≡ 0 → sum_by f (replicate k (new_cpu ceiling)) ≡ 0
 sum_of_none f ceiling zero none = refl
 sum_of_none f ceiling (suc k) none =
     let a = sum_by-cons f (new_cpu ceiling) (replicate k (new_cpu ceiling)) in let r = sum_of_none f ceiling k none
     in omega (arith, a, r, none)
 
-none_ended : (ns : List ℕ) → sum_by (λ n. 0) ns ≡ 0
+pub none_ended : (ns : List ℕ) → sum_by (λ n. 0) ns ≡ 0
 none_ended [] = refl
 none_ended (n ∷ ns) = let a = sum_by-cons (λ (m : ℕ). 0) n ns in let r = none_ended ns in omega (arith, a, r)
 
@@ -155,7 +155,7 @@ run_good indexes cpus ceiling texts steps some =
 
 -- ---- moves lose nothing
 
-safe_does : (texts : List (List ℕ)) (indexes : ℕ → ℕ) (step : ℕ) (x : Step) (s : State) → IsMove x → Good s
+pub safe_does : (texts : List (List ℕ)) (indexes : ℕ → ℕ) (step : ℕ) (x : Step) (s : State) → IsMove x → Good s
     → refusal_of plain x s ≡ None
     → Kept s (does plain texts indexes step x s).state
 safe_does texts indexes step (Add a) s is g why = absurd is

@@ -1,12 +1,12 @@
 -- remove and the polls of open removals keep a machine good.
-use Rattle.std.proofs.Common.{◌≡◌, ◌≢◌, ℕ, ◌<◌, ◌==◌, eqb-true, Bool, true, false, List, [], ◌∷◌, length, Option, Some, None, refl, ap, sym, ◌∙◌, subst, inl, inr, ⊎_elim, ◌⊎◌}
+use Rattle.std.proofs.Common.{◌≡◌, ◌≢◌, ℕ, ◌+◌, ◌<◌, ◌==◌, eqb-true, Bool, true, false, List, [], ◌∷◌, length, Option, Some, None, refl, ap, sym, ◌∙◌, subst, inl, inr, ⊎_elim, ◌⊎◌, arith}
 use Rattle.std.specs.Prelude.{IsSome, is_some, not}
 use Rattle.std.specs.Option.{option_map}
 use mathlib.Core.Logic.{dite}
 use native.Mathlib.Decide.{ℕ_discrete}
 use Rattle.cyc_types.specs.Series.{never}
 use Rattle.cyc_level.proofs.Maps.{none_some}
-use Rattle.cyc_model.specs.Cpu.{Cpu, has_cyclic, others}
+use Rattle.cyc_model.specs.Cpu.{Cpu, has_cyclic, level_of, others}
 use Rattle.cyc_model.specs.Moving.{mark_here, clear_here, moment_at}
 use Rattle.cyc_model.specs.Questions.{plain, outstanding_here}
 use Rattle.cyc_model.specs.State.{State, On, OnAll, Placed, on, cpu_of, nothing, cpus_with}
@@ -20,11 +20,17 @@ use Rattle.cyc_model.proofs.Stays.{none_and_some, cleared_cpu, done_clear}
 use Rattle.cyc_model.proofs.Leaves.{marked_same, done_mark}
 use Rattle.cyc_model.proofs.Shifts.{shift_mark, shift_clear}
 use Rattle.cyc_model.proofs.Placing.{entry, place_forgotten, place_forgotten_other}
-use Rattle.cyc_model.proofs.Base.{IsAt, Base, IsGone, goes_append, goes_nothing, goes_on, base_on, cpu_there, cpu_elsewhere}
+use Rattle.cyc_model.proofs.Base.{IsAt, Base, IsGone, goes_append, goes_nothing, goes_on, base_on, cpu_there, cpu_elsewhere, expired_on, lost_on, pending_on}
 use Rattle.cyc_model.proofs.Numbers.{Has, has_or_not, numbers_rise, numbers_pass, pass_numbers, Looped, looped}
 use Rattle.cyc_model.proofs.Numbers as turns
 use Rattle.cyc_model.proofs.Spread.{Stands, Good, has_number, found_or_not}
-use Rattle.cyc_model.proofs.Ending.{ended_goes, ended_base, ended_there, ended_elsewhere, ended_placed}
+use Rattle.cyc_model.proofs.Ending.{ended_goes, ended_base, ended_there, ended_elsewhere, ended_placed, ended_counts}
+use Rattle.cyc_model.proofs.Travels.{counts_same}
+use Rattle.cyc_model.proofs.Totals.{expired_in, lost_in, pending_in}
+use Rattle.cyc_model.proofs.Whole.{Done, calls_own, losses_own}
+use Rattle.cyc_model.specs.Acts.{calls_of, losses_of}
+use Rattle.cyc_model.specs.Report.{counts_of}
+use Rattle.cyc_level.specs.declared.Event.TheVariants.{Mark, Clear}
 
 some_mapped : {A B : Type 0} (f : A → B) (o : Option A) → is_some (option_map f o) ≡ is_some o
 some_mapped f None = refl
@@ -42,6 +48,44 @@ pub record Steady (r s : State) : Type 0 where
   pub base : Base None s
   pub placed : s.placed ≡ r.placed
   pub last_id : s.last_id ≡ r.last_id
+  pub counts : (j : ℕ) → counts_of j s ≡ counts_of j r
+
+pub same_counts : (j : ℕ) (t s : State) → (expired_in j t ≡ expired_in j s) × (t.called j ≡ s.called j) × (lost_in j t
+    ≡ lost_in j s)
+    × (pending_in j t ≡ pending_in j s) → counts_of j t ≡ counts_of j s
+same_counts j t s k = counts_same (expired_in j t) (t.called j) (lost_in j t) (pending_in j t)
+    (expired_in j s) (s.called j) (lost_in j s) (pending_in j s) k.0 k.1 k.2 k.3
+
+-- a removal that begins on a CPU changes no count
+module _ (n id : ℕ) (s : State) (within : n < length s.cpus) (b : Base None s) (done : Done n (λ j. 0) (cpu_of n s)
+    (mark_here n id (cpu_of n s))) where
+  marked_counts : (j : ℕ) → (expired_in j (on n (mark_here n id) s).state ≡ expired_in j s)
+      × ((on n (mark_here n id) s).state.called j ≡ s.called j) × (lost_in j (on n (mark_here n id) s).state ≡ lost_in j s)
+      × (pending_in j (on n (mark_here n id) s).state ≡ pending_in j s)
+  marked_counts j =
+      let c = cpu_of n s in let t = (on n (mark_here n id) s).state in
+      let e = expired_on n (mark_here n id) (λ k. 0) s within done None None b (shift_mark None n id c) j in
+      let l = lost_on n (mark_here n id) (λ k. 0) s within done None None b (shift_mark None n id c) j in
+      let p = pending_on n (mark_here n id) (λ k. 0) s within done j in
+      let a = calls_own n j (level_of id c) (Mark id) in let m = losses_own n j (level_of id c) (Mark id) refl in (
+        same_plain (expired_in j t) (expired_in j s) e,
+        plus (s.called j) (calls_of j (mark_here n id c).acts) a,
+        same_lost (lost_in j t) (lost_in j s) (losses_of j (mark_here n id c).acts) l m,
+        same_pending (pending_in j t) (pending_in j s) (calls_of j (mark_here n id c).acts) (losses_of j
+            (mark_here n id c).acts) p a m,
+      )
+    where
+      same_plain : (a c : ℕ) → a + 0 ≡ c + 0 + 0 → a ≡ c
+      same_plain a c h = omega (arith, h)
+
+      plus : (a c : ℕ) → c ≡ 0 → a + c ≡ a
+      plus a c h = omega (arith, h)
+
+      same_lost : (a c m : ℕ) → a + 0 ≡ c + 0 + m → m ≡ 0 → a ≡ c
+      same_lost a c m h i = omega (arith, h, i)
+
+      same_pending : (a q c m : ℕ) → a + c + m ≡ q + 0 → c ≡ 0 → m ≡ 0 → a ≡ q
+      same_pending a q c m h i k = omega (arith, h, i, k)
 
 -- ---- the stay of the cyclic ends on a CPU
 
@@ -60,12 +104,15 @@ module _ (r : State) (id n : ℕ) (s : State) (within : n < length s.cpus) (inv 
       (gone j ∙ ap (λ (k : ℕ). found k (others id c.cyclics)) e ∙ found_gone id c.cyclics) some)
       (λ ne. subst (λ o. IsSome o) (gone j ∙ found_others j id c.cyclics ne) some) in
       let there = ended_there n id (clear_here n id) s within b done shift less (local_clear n id) in
-      let placed = ended_placed n id (clear_here n id) s within b done shift less (local_clear n id) in record {
+      let placed = ended_placed n id (clear_here n id) s within b done shift less (local_clear n id) in
+      let k = λ (j : ℕ). ended_counts n id (clear_here n id) s within b done shift less (local_clear n id) j
+      (calls_own n j (level_of id c) (Clear id)) (losses_own n j (level_of id c) (Clear id) refl) in record {
         goes = ended_goes n id (clear_here n id) s within b done shift less (local_clear n id);
         inv = record {
           base = ended_base n id (clear_here n id) s within b done shift less (local_clear n id);
           placed = placed.0 ∙ inv.placed;
           last_id = placed.1 ∙ inv.last_id;
+          counts = λ j. same_counts j (clear id n s).state s (k j) ∙ inv.counts j;
         };
         own = subst (λ d. Begun id c d) (sym there) (record {
           either = inl (gone id ∙ found_gone id c.cyclics, (cleared_cpu n id c).1);
@@ -120,7 +167,12 @@ begin_turn r id n s within inv ready =
     let base = base_on n (mark_here n id) (λ j. 0) s within done None None b (shift_mark None n id c)
     (λ j some. b.homes n j (sym (ids j) ∙ some)) in
     let two = poll_turn r id n t (subst (λ k. n < k) (sym goes.tells.as_many) within)
-    (record { base = base; placed = inv.placed; last_id = inv.last_id })
+    (record {
+      base = base;
+      placed = inv.placed;
+      last_id = inv.last_id;
+      counts = λ j. same_counts j t s (marked_counts n id s within b done j) ∙ inv.counts j;
+    })
     (ap (λ (d : Cpu). d.removal) there ∙ (marked_same n id c).1) in record {
       goes = goes_append (on n (mark_here n id) s).acts (poll plain id n t).acts s t (poll plain id n t).state goes two.goes;
       inv = two.inv;

@@ -26,3 +26,4 @@ pub mod Along
 pub mod Kept
 pub mod Enabled
 pub mod Numbers
+pub mod Bounds

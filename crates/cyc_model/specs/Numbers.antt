@@ -69,3 +69,10 @@ NothingFollowsRemoval = (indexes : ℕ → ℕ) (cpus ceiling : ℕ) (texts : Li
     → 0 < cpus → s ≡ (run_on indexes cpus ceiling texts before).state → id ≤ s.last_id → is_unknown id s ≡ true
     → (calls_of id (steps_from plain texts indexes step after s).acts ≡ 0)
     × (is_unknown id (steps_from plain texts indexes step after s).state ≡ true)
+
+-- and what is told of it stays what it was: what its removal left. No cyclic has the id 0, of which nothing is ever told
+abbrev pub RemovedCountsStay : Type 0
+RemovedCountsStay = (indexes further : ℕ → ℕ) (cpus ceiling : ℕ) (texts others : List (List ℕ)) (before after : List Step)
+    (step id : ℕ) (s : State)
+    → 0 < cpus → s ≡ (run_on indexes cpus ceiling texts before).state → id ≤ s.last_id → is_unknown id s ≡ true
+    → counts_of id (steps_from plain others further step after s).state ≡ counts_of id s

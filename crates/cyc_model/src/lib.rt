@@ -14,7 +14,8 @@ ghost use Rattle.cyc_model.specs.Laws.{RefusedOrDone, ActsTellAll, TextTellsNoIn
 ghost use Rattle.cyc_model.specs.Along.{LevelsStayLawful};
 ghost use Rattle.cyc_model.specs.Agreement.{AllAgree, CpusAgree, FiringSideIsReady};
 ghost use Rattle.cyc_model.specs.Kept.{MovesLoseNothing, CyclicsAreAtHome};
-ghost use Rattle.cyc_model.specs.Numbers.{ReportsAddUp, RemovesTellCalls, PollsTellCalls, NothingFollowsRemoval};
+ghost use Rattle.cyc_model.specs.Numbers.{ReportsAddUp, RemovesTellCalls, PollsTellCalls, NothingFollowsRemoval, RemovedCountsStay};
+ghost use Rattle.cyc_model.specs.Bounds.{CountsStaySmall, ScriptsStayBelow};
 ghost use Rattle.cyc_model.specs.Enabled.{EventsAreEnabled, IndexesAreFound};
 ghost use Rattle.cyc_level.specs.Lawful.{Lawful};
 ghost use Rattle.cyc_types.specs.declared.level.Soft.{Soft};
@@ -99,6 +100,20 @@ pub fn removals_tell_calls()
 /// Once the removal of a cyclic has answered, no act of the run calls its handler, whatever steps follow, and its id stays unknown.
 pub fn nothing_follows_removal()
     ensures { NothingFollowsRemoval }
+{}
+
+/// Once the removal of a cyclic has answered, what the report counts of it stays what it was, whatever steps follow: what its
+/// removal told is what the report tells.
+pub fn removed_counts_stay()
+    ensures { RemovedCountsStay }
+{}
+
+/// After any steps over 1 to 16 CPUs each step has given one id at most, and brought each cyclic few expirations: in all, so in
+/// each stay, with what it carried from earlier ones; and its handler was called no more often. In a script, of at most 65,536
+/// steps, these numbers are below 2^50.
+pub fn counts_stay_small()
+    ensures few { CountsStaySmall }
+    ensures below { ScriptsStayBelow }
 {}
 
 /// Binding, unbinding, juggling, offline and online lose no cyclic, no call and no count: after any steps over any number of CPUs
