@@ -1,0 +1,10 @@
+pub mod Mosts
+pub mod Named
+pub mod Remembering
+pub mod Doing
+pub mod Taking
+pub mod Start
+pub mod Indexes
+pub mod Running
+pub mod Unrefused
+pub mod Grown

@@ -1,0 +1,15 @@
+//! The machine that runs a script over 1 to 16 CPUs.
+//!
+//! It is a system over plain levels, a clock, and a tally that counts the handlers' calls. The definitions here say when the
+//! definition's machine (`cyc_model`) shows it, and what it is that a word of a script was taken.
+#![tactic(auto)]
+
+mod beginning;
+mod fault;
+mod lines;
+mod machine;
+
+pub use beginning::begin;
+pub use fault::RunFault;
+pub use lines::write_answer;
+pub use machine::{Counted, Machine, counted_of, id_of, name_of, set_counted, set_id, set_name};
