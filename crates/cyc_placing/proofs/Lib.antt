@@ -1,0 +1,3 @@
+pub mod Series
+pub mod Moments
+pub mod Turns
