@@ -1,0 +1,9 @@
+pub mod Fired
+pub mod Advanced
+pub mod Unknown
+pub mod Begun
+pub mod Leaving
+pub mod Served
+pub mod Polled
+pub mod Asked
+pub mod Reported

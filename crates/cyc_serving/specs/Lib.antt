@@ -1,0 +1,3 @@
+pub mod Advancing
+pub mod Interrupting
+pub mod Removing

@@ -1,0 +1,63 @@
+//! What the report tells of a name.
+
+ghost use Rattle.std.specs.Prelude.{◌≡◌, ℕ};
+ghost use Rattle.cyc_types.specs.Tally.{tally_count};
+ghost use Rattle.cyc_model.specs.State.{State};
+ghost use Rattle.cyc_model.specs.Places.{id_of};
+ghost use Rattle.cyc_model.specs.Report.{counts_of};
+ghost use Rattle.cyc_script_machine.specs.Machine.{Holds, IsReached};
+
+use cyc_script_machine::{Machine, counted_of, id_of};
+use cyc_system_model::{kept_law, report_law};
+use cyc_text::Counts;
+use cyc_types::{CyclicId, Tally};
+
+/// The calls of an id's handler.
+fn called_by(tally: &Tally, id: CyclicId) -> u64
+    ensures { result ≡ tally_count tally.now id }
+{
+    tally.count(id).unwrap_or(0)
+}
+
+/// The counts of a name with no id.
+fn no_counts() -> Counts
+    ensures { result ≡ record { expired = 0; called = 0; lost = 0; pending = 0 } }
+{
+    Counts {
+        expired: 0,
+        called: 0,
+        lost: 0,
+        pending: 0,
+    }
+}
+
+/// The counts of a name's cyclic over all CPUs and all of its stays, with the calls of its handler, also once its removal has
+/// answered. All are 0 where no add of the name was accepted.
+pub fn name_counts(machine: &mut Machine, name: usize) -> Counts
+    ensures counts { (step : ℕ) (s : State) → IsReached step s → Holds s machine.old → result ≡ counts_of (id_of name s) s }
+    ensures holds { (s : State) → Holds s machine.old → Holds s machine.new }
+{
+    report_law();
+    kept_law::<Tally>();
+    let Some(id) = id_of(&machine.names, name) else {
+        return no_counts();
+    };
+    let called = u128::from(called_by(&machine.tally, id));
+    let answer = machine.system.totals(id);
+    machine.system.law();
+    let Some(totals) = answer else {
+        let counted = counted_of(&machine.counted, name);
+        return Counts {
+            expired: counted.expired,
+            called,
+            lost: counted.lost,
+            pending: 0,
+        };
+    };
+    Counts {
+        expired: totals.expired,
+        called,
+        lost: totals.lost,
+        pending: totals.pending,
+    }
+}
