@@ -1,7 +1,5 @@
 -- The exit status of the program after a fault. Our own rule.
-use Rattle.std.specs.Prelude.{◌≡◌, ℕ, ◌==◌, if◌then◌else◌, Bool, true, false, Result, Ok, Err}
-use Rattle.cyc_machine.specs.declared.fault.RunFault.{RunFault}
-use Rattle.cyc_machine.specs.declared.fault.RunFault.TheVariants as run_fault
+use Rattle.std.specs.Prelude.{ℕ, ◌==◌, if◌then◌else◌}
 use Rattle.cyc_input.specs.declared.fault.InputFault.{InputFault}
 use Rattle.cyc_input.specs.declared.fault.InputFault.TheVariants as input_fault
 use Rattle.cyc_types.specs.declared.refusal.Refusal.{Refusal}
@@ -25,14 +23,3 @@ status (Run why) = 3
 abbrev pub reading_fault : InputFault → Fault
 reading_fault input_fault.Memory = Memory
 reading_fault input_fault.Read = Read
-
--- whether a run stopped because its sink failed
-abbrev pub is_write : {A : Type 0} → Result A RunFault → Bool
-is_write (Ok x) = false
-is_write (Err (run_fault.Refused why)) = false
-is_write (Err run_fault.Write) = true
-
--- a run is refused for want of memory alone
-abbrev pub IsMemoryOrWrite : RunFault → Type 0
-IsMemoryOrWrite (run_fault.Refused why) = why ≡ refusal.Memory
-IsMemoryOrWrite run_fault.Write = Unit {0}

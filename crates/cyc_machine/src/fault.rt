@@ -1,25 +1,16 @@
+//! Why the program stopped, and its exit status.
+
 ghost use Rattle.std.specs.Prelude.{◌≡◌};
 ghost use Rattle.cyc_machine.specs.Status.{status, reading_fault};
 ghost use Rattle.cyc_machine.specs.declared.fault.Fault.TheVariants as fault;
-ghost use Rattle.cyc_machine.specs.declared.fault.RunFault.TheVariants as run_fault;
-ghost use Rattle.cyc_types.specs.declared.refusal.Refusal.TheVariants as refusal;
 
 use clap::error::ErrorKind;
 use cyc_input::InputFault;
-use cyc_text::PutFailed;
+use cyc_script_machine::RunFault;
 use cyc_types::Refusal;
 use std::alloc::AllocError;
 use std::error::Error;
 use std::fmt;
-
-/// Why a run of a script stopped.
-#[derive(Clone, Copy, Debug, Drop, PartialEq, Eq)]
-pub enum RunFault {
-    /// The run itself was refused.
-    Refused(Refusal),
-    /// The sink failed.
-    Write,
-}
 
 /// Why the program stopped. The text is what it prints on standard error.
 #[derive(Clone, Copy, Debug, Drop, PartialEq, Eq)]
@@ -35,20 +26,6 @@ pub enum Fault {
     /// The run stopped.
     Run(RunFault),
 }
-
-impl fmt::Display for RunFault {
-    fn fmt<W: fmt::Write>(&self, f: &mut fmt::Formatter<W>) -> fmt::Result {
-        match self {
-            RunFault::Refused(why) => {
-                let number = why.number();
-                write!(f, "fault {number}")
-            }
-            RunFault::Write => write!(f, "fault write"),
-        }
-    }
-}
-
-impl Error for RunFault {}
 
 impl fmt::Display for Fault {
     fn fmt<W: fmt::Write>(&self, f: &mut fmt::Formatter<W>) -> fmt::Result {
@@ -75,30 +52,6 @@ impl fmt::Display for Fault {
 }
 
 impl Error for Fault {}
-
-impl From<Refusal> for RunFault {
-    ghost from_gives = { λ why e. e ≡ run_fault.Refused why };
-
-    fn from(why: Refusal) -> RunFault {
-        RunFault::Refused(why)
-    }
-}
-
-impl From<AllocError> for RunFault {
-    ghost from_gives = { λ _ e. e ≡ run_fault.Refused refusal.Memory };
-
-    fn from(_e: AllocError) -> RunFault {
-        RunFault::Refused(Refusal::Memory)
-    }
-}
-
-impl From<PutFailed> for RunFault {
-    ghost from_gives = { λ _ e. e ≡ run_fault.Write };
-
-    fn from(_e: PutFailed) -> RunFault {
-        RunFault::Write
-    }
-}
 
 impl From<AllocError> for Fault {
     ghost from_gives = { λ _ e. e ≡ fault.Memory };

@@ -1,3 +1,5 @@
+//! The words that the program is called with.
+
 ghost use Rattle.std.specs.Prelude.{◌≡◌, length, OnOk};
 
 use crate::fault::Fault;

@@ -4,4 +4,6 @@
 #[cfg(test)]
 mod removals;
 #[cfg(test)]
+mod several;
+#[cfg(test)]
 mod tests;

@@ -1,3 +1,5 @@
+//! Scripts with their texts, and sinks that fail.
+
 ghost use Rattle.std.specs.Prelude.{◌≡◌, ◌<◌, None, false};
 
 use cyc_machine::{

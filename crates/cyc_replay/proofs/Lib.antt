@@ -1,14 +1,2 @@
-mod Series
-mod Moments
-mod Mosts
-mod Still
-mod Doing
-mod Named
-mod Taking
-mod Beginning
-mod Indexes
-mod Running
-mod Growing
-mod Unrefused
-mod Grown
-mod Fired
+pub mod Reading
+pub mod Running

@@ -1,230 +1,135 @@
--- A step more.
-use Rattle.std.proofs.Common.{◌≡◌, ℕ, zero, suc, ◌+◌, ◌<◌, ◌≤◌, List, [], ◌∷◌, ◌++◌, append_assoc, append-nil, length, get_or, take, drop, refl, ap, sym, ◌∙◌, subst, arith}
-use Rattle.std.proofs.lemmas.List.{length-append, length-take-le, take_more, take-append-drop}
-use Rattle.cyc_replay.specs.SoFar.{IsSoFar, AllSoFar}
-use Rattle.cyc_level.specs.declared.Event.{Event}
-use Rattle.cyc_level.specs.Level.{Level}
-use Rattle.cyc_level.specs.Events.{after}
+-- What the steps of a whole script did to the machine.
+use Rattle.std.proofs.Common.{◌≡◌, ℕ, zero, suc, ◌<◌, ◌≤◌, Bool, true, false, List, [], ◌∷◌, ◌++◌, length, get_or, refl, ap, sym}
+use Rattle.std.proofs.Common.{◌∙◌, subst, arith}
+use Rattle.std.proofs.lemmas.Bool.{ltb-true, ltb-false}
+use Rattle.std.proofs.lemmas.Option.{slice_get_within, get_or_from_slice_get}
+use Rattle.std.specs.Prelude.{nat_lt, slice_index_or}
+use Rattle.cyc_types.specs.declared.level.Soft.{Soft}
+use Rattle.cyc_types.specs.declared.level.Soft.TheVariants.{Low, Lock}
+use Rattle.cyc_level.specs.Level.{empty_level}
+use Rattle.cyc_core.specs.Tables.{Tables, level_of}
+use Rattle.cyc_cpu.specs.Cpu.{CpuView}
+use Rattle.cyc_cpus.specs.Cpus.{IsCpu}
+use Rattle.cyc_script.specs.declared.script.Script.{Script}
 use Rattle.cyc_script.specs.declared.step.Step.{Step}
 use Rattle.cyc_model.specs.Acts.{events_at}
-use Rattle.cyc_model.specs.Questions.{Questions, plain}
-use Rattle.cyc_model.specs.Serving.{level_after}
-use Rattle.cyc_model.specs.State.{State, Outcome, before, followed_by}
+use Rattle.cyc_model.specs.Cpu.{Cpu}
+use Rattle.cyc_model.specs.Serving.{level_at}
+use Rattle.cyc_model.specs.Questions.{plain}
+use Rattle.cyc_model.specs.State.{State, absent, cpu_of}
 use Rattle.cyc_model.specs.Laws.{level_on}
-use Rattle.cyc_model.specs.Free.{AllCanBeAdmitted}
-use Rattle.cyc_model.specs.Script.{word, steps_from, start, run_on}
-use Rattle.cyc_model.proofs.Events.{events_append}
+use Rattle.cyc_model.specs.Along.{IsSound}
+use Rattle.cyc_model.specs.Enabled.{CanBeDone}
+use Rattle.cyc_model.specs.Free.{AreFree, AllCanBeAdmitted}
+use Rattle.cyc_model.specs.Report.{reports}
+use Rattle.cyc_model.specs.Script.{start, names_of, no_indexes, run_on, run_of, text_on, text_of, text_with}
+use Rattle.cyc_model.proofs.Enabling.{events_are_enabled, new_level}
+use Rattle.cyc_model.proofs.Reaching.{well_steps, start_good, length_new}
 use Rattle.cyc_model.proofs.Telling.{tells_steps}
-use Rattle.cyc_model.proofs.Reaching.{length_new}
-use Rattle.cyc_system_model.specs.Words.{Gives}
-use Rattle.cyc_replay.specs.declared.machine.Machine.{Machine}
-use Rattle.cyc_replay.specs.Machine.{Holds, IsReached}
-use Rattle.cyc_replay.specs.Words.{Takes}
-use Rattle.cyc_replay.specs.Runs.{Runs, listed}
-use Rattle.cyc_replay.proofs.Indexes.{same_run, same_line}
+use Rattle.cyc_model.proofs.Unindexed.{text_bare}
+use Rattle.cyc_cpu_model.specs.Shown.{shown_cpu}
+use Rattle.cyc_system_model.specs.Shown.{shown_list, shown_cpus}
+use Rattle.cyc_script_machine.specs.declared.machine.Machine.{Machine}
+use Rattle.cyc_script_machine.specs.Machine.{Holds}
+use Rattle.cyc_script_machine.specs.Runs.{Runs, listed}
+use Rattle.cyc_script_machine.proofs.Indexes.{same_line}
+use Rattle.cyc_replay.specs.Replay.{HasRun, LevelsAreSound}
 
--- ---- lists of indexes
+-- ---- the CPUs of a machine
 
-at_first : (given more : List ℕ) (k : ℕ) → k < length given → listed given k ≡ listed (given ++ more) k
-at_first [] more k low = absurd (omega (arith, low))
-at_first (x ∷ given) more zero low = refl
-at_first (x ∷ given) more (suc k) low = at_first given more k (omega (arith, low))
+get_shown : (os : List Bool) (vs : List (CpuView Tables)) (n : ℕ) (o : Bool) (x : CpuView Tables) → length os ≡ length vs
+    → n < length vs → get_or (shown_list os vs) n absent ≡ shown_cpu (get_or os n o) (get_or vs n x)
+get_shown [] [] n o x long low = absurd (omega (arith, low))
+get_shown [] (v ∷ vs) n o x long low = absurd (omega (arith, long))
+get_shown (b ∷ os) [] n o x long low = absurd (omega (arith, long))
+get_shown (b ∷ os) (v ∷ vs) zero o x long low = refl
+get_shown (b ∷ os) (v ∷ vs) (suc n) o x long low = get_shown os vs n o x (omega (arith, long)) (omega (arith, low))
 
-at_length : (given : List ℕ) (x : ℕ) (more : List ℕ) → listed (given ++ x ∷ more) (length given) ≡ x
-at_length [] x more = refl
-at_length (y ∷ given) x more = at_length given x more
+long_shown : (os : List Bool) (vs : List (CpuView Tables)) → length os ≡ length vs → length (shown_list os vs) ≡ length vs
+long_shown [] [] long = refl
+long_shown [] (v ∷ vs) long = absurd (omega (arith, long))
+long_shown (b ∷ os) [] long = absurd (omega (arith, long))
+long_shown (b ∷ os) (v ∷ vs) long = let r = long_shown os vs (omega (arith, long)) in omega (arith, r)
 
-gives_more : (given more : List ℕ) (k : ℕ) → k ≡ length given → Gives (listed (given ++ more)) k more
-gives_more given [] k is = tt
-gives_more given (x ∷ more) k is =
-    let long = length-append given (x ∷ []) in (
-      ap (listed (given ++ x ∷ more)) is ∙ at_length given x more,
-      subst (λ xs. Gives (listed xs) (k + 1) more) (append_assoc given (x ∷ []) more) (gives_more (given ++ x ∷ []) more (k + 1) (omega (arith, long, is))),
-    )
+-- ---- a run of a whole script
 
--- ---- steps one after another
+-- a machine that has taken no step
+pub begun : (cpus ceiling : ℕ) (texts : List (List ℕ)) (names : ℕ) (m : Machine) → names ≡ length texts
+    → Holds (start cpus ceiling names) m → Runs cpus ceiling texts [] m
+begun cpus ceiling texts names m same held = record {
+  given = [];
+  holds = subst (λ k. Holds (start cpus ceiling k) m) same held;
+  admissions = refl;
+  free = λ n low soft. tt;
+}
 
-joined : (a b c : Outcome) → before a (before b c) ≡ before (before a b) c
-joined a b c = λ z. record { line = sym (append_assoc a.line b.line c.line) z; acts = sym (append_assoc a.acts b.acts c.acts) z; state = c.state }
+-- another machine that the definition's machine shows
+pub runs_shown : (cpus ceiling : ℕ) (texts : List (List ℕ)) (steps : List Step) (m n : Machine) → Runs cpus ceiling texts steps m
+    → ((s : State) → Holds s m → Holds s n) → Runs cpus ceiling texts steps n
+runs_shown cpus ceiling texts steps m n r shows = record {
+  given = r.given;
+  holds = shows (run_on (listed r.given) cpus ceiling texts steps).state r.holds;
+  admissions = r.admissions;
+  free = r.free;
+}
 
-pub steps_append : (q : Questions) (texts : List (List ℕ)) (indexes : ℕ → ℕ) (step : ℕ) (xs ys : List Step) (s : State)
-    → steps_from q texts indexes step (xs ++ ys) s
-    ≡ followed_by (steps_from q texts indexes step xs s) (steps_from q texts indexes (step + length xs) ys)
-steps_append q texts indexes step [] ys s = ap (λ k. steps_from q texts indexes k ys s) (none_more step)
-  where
-    none_more : (k : ℕ) → k ≡ k + 0
-    none_more k = omega arith
-steps_append q texts indexes step (x ∷ xs) ys s =
-    let o = word q texts indexes step x s in
-    let mid = steps_from q texts indexes (step + 1) xs o.state in
-    ap (before o) (steps_append q texts indexes (step + 1) xs ys o.state)
-    ∙ joined o mid (steps_from q texts indexes (step + 1 + length xs) ys mid.state)
-    ∙ ap (λ k. before (before o mid) (steps_from q texts indexes k ys mid.state)) (one_on step (length xs))
-  where
-    one_on : (k n : ℕ) → k + 1 + n ≡ k + suc n
-    one_on k n = omega arith
+module _ (script : Script) (m : Machine) (r : Runs script.cpus script.ceiling (names_of script) script.steps.items m) where
+  -- a level of a CPU, and one of no CPU
+  free_at : (n : ℕ) (soft : Soft) (b : Bool) → nat_lt n script.cpus ≡ b → AllCanBeAdmitted
+      (events_at n soft (run_on (listed r.given) script.cpus script.ceiling (names_of script) script.steps.items).acts)
+      (empty_level script.ceiling)
+  free_at n soft true is =
+      let within = ltb-true n script.cpus is in
+      subst (λ l. AllCanBeAdmitted
+      (events_at n soft (run_on (listed r.given) script.cpus script.ceiling (names_of script) script.steps.items).acts) l)
+      (new_level script.cpus n script.ceiling soft within) (r.free n within soft)
+  free_at n soft false is =
+      let low = script.cpus_in_range.0 in
+      let s = start script.cpus script.ceiling (length (names_of script)) in
+      let g = start_good script.cpus script.ceiling (length (names_of script)) (omega (arith, low)) in
+      subst (λ es. AllCanBeAdmitted es (empty_level script.ceiling))
+      (sym ((well_steps (names_of script) (listed r.given) 1 script.steps.items s g).0.outside n
+      (subst (λ k. k ≤ n) (sym (length_new script.cpus script.ceiling)) (ltb-false n script.cpus is)) soft)) tt
 
-alone : (o : Outcome) → before o (record { line = []; acts = []; state = o.state }) ≡ o
-alone o = λ z. record { line = append-nil o.line z; acts = append-nil o.acts z; state = o.state }
+  all_free : AreFree (listed r.given) script
+  unfolding run_of
+  all_free n soft = free_at n soft (nat_lt n script.cpus) refl
 
-module _ (cpus ceiling : ℕ) (texts : List (List ℕ)) (done : List Step) where
-  -- a step more
-  pub run_more : (f : ℕ → ℕ) (x : Step) → run_on f cpus ceiling texts (done ++ x ∷ [])
-      ≡ followed_by (run_on f cpus ceiling texts done) (word plain texts f (1 + length done) x)
-  run_more f x =
-      let s = start cpus ceiling (length texts) in
-      let mid = run_on f cpus ceiling texts done in
-      steps_append plain texts f 1 done (x ∷ []) s
-      ∙ ap (before mid) (alone (word plain texts f (1 + length done) x mid.state))
+  held : (n : ℕ) → n < script.cpus → (soft : Soft) → CanBeDone n soft (listed r.given) script
+  held n within soft = events_are_enabled (listed r.given) script all_free n within soft
 
-  -- all steps: those so far, and those that follow
-  pub run_rest : (f : ℕ → ℕ) (rest : List Step) → run_on f cpus ceiling texts (done ++ rest)
-      ≡ followed_by (run_on f cpus ceiling texts done) (steps_from plain texts f (1 + length done) rest)
-  run_rest f rest = steps_append plain texts f 1 done rest (start cpus ceiling (length texts))
-
--- ---- free indexes
-
-can_append : (xs ys : List Event) (l : Level) → AllCanBeAdmitted xs l → AllCanBeAdmitted ys (level_after xs l) → AllCanBeAdmitted (xs ++ ys) l
-can_append [] ys l first rest = rest
-can_append (x ∷ xs) ys l first rest = (first.0, can_append xs ys (after x l) first.1 rest)
-
-so_far_more : (xs : List Step) (x : Step) → AllSoFar xs → IsSoFar x → AllSoFar (xs ++ x ∷ [])
-so_far_more [] x all is = (is, tt)
-so_far_more (y ∷ xs) x all is = (all.0, so_far_more xs x all.1 is)
-
--- ---- the machine that steps so far led to
-
-module _ (cpus ceiling : ℕ) (texts : List (List ℕ)) (done : List Step) (m : Machine) (r : Runs cpus ceiling texts done m) where
-  pub reached_so : 0 < cpus → cpus ≤ 16 → (step : ℕ) → length done < step
-      → IsReached step (run_on (listed r.given) cpus ceiling texts done).state
-  reached_so some few step short = record {
-    indexes = listed r.given;
-    cpus = cpus;
-    ceiling = ceiling;
-    texts = texts;
-    steps = done;
-    some = some;
-    few = few;
-    short = short;
-    words = r.words;
-    is = refl;
-  }
-
-  module _ (x : Step) (line : List ℕ) (n : Machine)
-      (t : Takes texts (1 + length done) x line (run_on (listed r.given) cpus ceiling texts done).state n) where
-    given_then : List ℕ
-    given_then = r.given ++ t.given
-
-    -- the indexes of those so far are the same
-    same_so_far : run_on (listed r.given) cpus ceiling texts done ≡ run_on (listed (r.given ++ t.given)) cpus ceiling texts done
-    same_so_far = same_run cpus ceiling texts done (listed r.given) (listed (r.given ++ t.given))
-        (λ k low. at_first r.given t.given k (let a = r.admissions in omega (arith, low, a)))
-
-    pub runs_on : IsSoFar x → Runs cpus ceiling texts (done ++ x ∷ []) n
-    runs_on word_is =
-        let f = listed (r.given ++ t.given) in
-        let o = run_on (listed r.given) cpus ceiling texts done in
-        let s = start cpus ceiling (length texts) in
-        let c = t.comes f (gives_more r.given t.given o.state.admissions r.admissions) in
-        let w = word plain texts f (1 + length done) x o.state in
-        let is : run_on f cpus ceiling texts (done ++ x ∷ []) ≡ before o w =
-        run_more cpus ceiling texts done f x ∙ ap (λ (p : Outcome). followed_by p (word plain texts f (1 + length done) x)) (sym same_so_far) in
-        let long = length-append r.given t.given in
-        let was = r.admissions in let more = c.admissions in
-        record {
-          words = so_far_more done x r.words word_is;
-          given = r.given ++ t.given;
-          holds = subst (λ (p : Outcome). Holds p.state n) (sym is) c.holds;
-          admissions = ap (λ (p : Outcome). p.state.admissions) is ∙ omega (arith, long, was, more);
-          free = λ k low soft.
-              let inside = length_new cpus ceiling in
-              let level = (tells_steps plain texts (listed r.given) 1 done s).tells.levels k (omega (arith, low, inside)) soft in
-              subst (λ (p : Outcome). AllCanBeAdmitted (events_at k soft p.acts) (level_on k soft s)) (sym is)
-              (subst (λ es. AllCanBeAdmitted es (level_on k soft s)) (sym (events_append k soft o.acts w.acts))
-              (can_append (events_at k soft o.acts) (events_at k soft w.acts) (level_on k soft s) (r.free k low soft)
-              (subst (λ l. AllCanBeAdmitted (events_at k soft w.acts) l) level (c.free k soft))));
-        }
-
-    -- and its line is the one of any indexes
-    pub line_on : (f : ℕ → ℕ) → (run_on f cpus ceiling texts (done ++ x ∷ [])).line ≡ (run_on f cpus ceiling texts done).line ++ line
-    line_on f =
-        let g = listed (r.given ++ t.given) in
-        let o = run_on (listed r.given) cpus ceiling texts done in
-        same_line cpus ceiling texts (done ++ x ∷ []) f g
-        ∙ ap (λ (p : Outcome). p.line) (run_more cpus ceiling texts done g x)
-        ∙ ap (λ (p : Outcome). p.line ++ (word plain texts g (1 + length done) x p.state).line) (sym same_so_far)
-        ∙ ap (λ l. o.line ++ l) (sym (t.line_is g (gives_more r.given t.given o.state.admissions r.admissions)))
-        ∙ ap (λ l. l ++ line) (same_line cpus ceiling texts done (listed r.given) f)
-
--- ---- the line of a step
-
-line_left : (xs ys zs : List ℕ) → xs ++ ys ≡ xs ++ zs → ys ≡ zs
-line_left [] ys zs same = same
-line_left (x ∷ xs) ys zs same = line_left xs ys zs (ap tail same)
-  where
-    tail : List ℕ → List ℕ
-    tail [] = []
-    tail (w ∷ ws) = ws
-
--- it is the one that the definition's step has, whatever the indexes
-pub line_of : (cpus ceiling : ℕ) (texts : List (List ℕ)) (done : List Step) (m : Machine) (r : Runs cpus ceiling texts done m)
-    (x : Step) (line : List ℕ) (n : Machine) → Takes texts (1 + length done) x line (run_on (listed r.given) cpus ceiling texts done).state n
-    → (f : ℕ → ℕ) → line ≡ (word plain texts f (1 + length done) x (run_on f cpus ceiling texts done).state).line
-line_of cpus ceiling texts done m r x line n t f =
-    line_left (run_on f cpus ceiling texts done).line line _
-    (sym (line_on cpus ceiling texts done m r x line n t f) ∙ ap (λ (o : Outcome). o.line) (run_more cpus ceiling texts done f x))
-
--- the same where the step has this number
-pub takes_at : (cpus ceiling : ℕ) (texts : List (List ℕ)) (done : List Step) (step : ℕ) (x : Step) (line : List ℕ) (m n : Machine)
-    → IsSoFar x → 0 < cpus → cpus ≤ 16 → step ≡ 1 + length done → (r : Runs cpus ceiling texts done m)
-    → ((s : State) → IsReached step s → Holds s m → Takes texts step x line s n)
-    → ((f : ℕ → ℕ) → line ≡ (word plain texts f step x (run_on f cpus ceiling texts done).state).line) × Runs cpus ceiling texts (done ++ x ∷ []) n
-takes_at cpus ceiling texts done step x line m n word_is some few is r takes =
-    let s = (run_on (listed r.given) cpus ceiling texts done).state in
-    let t = takes s (reached_so cpus ceiling texts done m r some few step (omega (arith, is))) r.holds in
-    let u = subst (λ k. Takes texts k x line s n) is t in (
-      λ f. line_of cpus ceiling texts done m r x line n u f
-          ∙ ap (λ k. (word plain texts f k x (run_on f cpus ceiling texts done).state).line) (sym is),
-      runs_on cpus ceiling texts done m r x line n u word_is,
-    )
-
--- ---- a step among all
-
-module _ (steps : List Step) (i : ℕ) (x : Step) (low : i < length steps) (here : x ≡ get_or steps i x) where
-  pub take_on : take (i + 1) steps ≡ take i steps ++ x ∷ []
-  take_on = take_more steps i x low ∙ ap (λ y. take i steps ++ y ∷ []) (sym here)
-
-  pub number_on : (step : ℕ) → step ≡ i + 1 → step ≡ 1 + length (take i steps)
-  number_on step is = let long = length-take-le i steps (omega (arith, low)) in omega (arith, long, is)
-
-  -- the lines so far, the line of this step, and those that follow
-  pub whole_line : (cpus ceiling : ℕ) (texts : List (List ℕ)) (f : ℕ → ℕ) (step : ℕ) → step ≡ i + 1 → (rest : List ℕ)
-      × ((run_on f cpus ceiling texts steps).line ≡ ((run_on f cpus ceiling texts (take i steps)).line
-      ++ (word plain texts f step x (run_on f cpus ceiling texts (take i steps)).state).line) ++ rest)
-  whole_line cpus ceiling texts f step is =
-      let mid = run_on f cpus ceiling texts (take (i + 1) steps) in
-      let others = steps_from plain texts f (1 + length (take (i + 1) steps)) (drop (i + 1) steps) mid.state in (
-        others.line,
-        ap (λ xs. (run_on f cpus ceiling texts xs).line) (sym (take-append-drop (i + 1) steps))
-            ∙ ap (λ (o : Outcome). o.line) (run_rest cpus ceiling texts (take (i + 1) steps) f (drop (i + 1) steps))
-            ∙ ap (λ xs. (run_on f cpus ceiling texts xs).line ++ others.line) take_on
-            ∙ ap (λ (o : Outcome). o.line ++ others.line) (run_more cpus ceiling texts (take i steps) f x)
-            ∙ ap (λ k. ((run_on f cpus ceiling texts (take i steps)).line
-            ++ (word plain texts f k x (run_on f cpus ceiling texts (take i steps)).state).line) ++ others.line) (sym (number_on step is)),
+  -- the definition's level is the machine's own
+  levels : LevelsAreSound m
+  unfolding run_of
+  levels n cpu is =
+      let s = (run_on (listed r.given) script.cpus script.ceiling (names_of script) script.steps.items).state in
+      let agrees = r.holds.system.agrees in
+      let inside = slice_get_within m.system.cpus.cpus n cpu is in
+      let there : cpu_of n s ≡ shown_cpu (get_or m.system.cpus.online n true) cpu =
+      ap (λ cs. slice_index_or cs n absent) r.holds.shows.cpus
+      ∙ get_shown m.system.cpus.online m.system.cpus.cpus n true cpu agrees.long inside
+      ∙ ap (shown_cpu (get_or m.system.cpus.online n true)) (get_or_from_slice_get m.system.cpus.cpus n cpu cpu is) in
+      let long = long_shown m.system.cpus.online m.system.cpus.cpus agrees.long in
+      let has : length s.cpus ≡ length (shown_cpus m.system.cpus) = ap length r.holds.shows.cpus in
+      let many = (tells_steps plain (names_of script) (listed r.given) 1 script.steps.items
+      (start script.cpus script.ceiling (length (names_of script)))).tells.as_many in
+      let new = length_new script.cpus script.ceiling in
+      let within : n < script.cpus = omega (arith, inside, long, has, many, new) in
+      let sound : (soft : Soft) → IsSound (level_on n soft s) = λ soft. (held n within soft).end in (
+        subst (λ (c : Cpu). IsSound c.lock) there (sound Lock),
+        subst (λ (c : Cpu). IsSound c.low) there (sound Low),
       )
 
-  -- and with them
-  pub line_then : (cpus ceiling : ℕ) (texts : List (List ℕ)) (f : ℕ → ℕ) (step : ℕ) → step ≡ i + 1
-      → (run_on f cpus ceiling texts (take (i + 1) steps)).line ≡ (run_on f cpus ceiling texts (take i steps)).line
-      ++ (word plain texts f step x (run_on f cpus ceiling texts (take i steps)).state).line
-  line_then cpus ceiling texts f step is =
-      ap (λ xs. (run_on f cpus ceiling texts xs).line) take_on
-      ∙ ap (λ (o : Outcome). o.line) (run_more cpus ceiling texts (take i steps) f x)
-      ∙ ap (λ k. (run_on f cpus ceiling texts (take i steps)).line
-      ++ (word plain texts f k x (run_on f cpus ceiling texts (take i steps)).state).line) (sym (number_on step is))
+  pub has_run : HasRun script m
+  unfolding run_of
+  has_run = record { indexes = listed r.given; free = all_free; holds = r.holds; events = held; levels = levels }
 
--- each word is one of those so far
-pub so_far_at : (xs : List Step) (i : ℕ) (d : Step) → AllSoFar xs → i < length xs → IsSoFar (get_or xs i d)
-so_far_at [] i d all low = absurd (omega (arith, low))
-so_far_at (x ∷ xs) zero d all low = all.0
-so_far_at (x ∷ xs) (suc i) d all low = so_far_at xs i d all.1 (omega (arith, low))
+  -- the lines of the steps and the report of the machine's own run are the text of the script
+  pub whole_text : (run_on no_indexes script.cpus script.ceiling (names_of script) script.steps.items).line
+      ++ reports 0 (names_of script) (run_on (listed r.given) script.cpus script.ceiling (names_of script) script.steps.items).state
+      ≡ text_of script
+  unfolding text_with run_of
+  whole_text =
+      ap (λ line. line ++ reports 0 (names_of script) (run_on (listed r.given) script.cpus script.ceiling (names_of script) script.steps.items).state)
+      (same_line script.cpus script.ceiling (names_of script) script.steps.items no_indexes (listed r.given))
+      ∙ text_bare (listed r.given) script.cpus script.ceiling (names_of script) script.steps.items

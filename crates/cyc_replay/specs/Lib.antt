@@ -1,6 +1,1 @@
-pub mod Status
-pub mod Machine
-pub mod Words
-pub mod Runs
-pub mod SoFar
-pub mod Advancing
+pub mod Replay

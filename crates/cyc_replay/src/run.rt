@@ -1,18 +1,17 @@
 //! The steps of a script, one after another, with their lines.
 
-ghost use Rattle.std.specs.Prelude.{◌≡◌, ◌+◌, ◌++◌, ◌∷◌, [], ℕ, List, length, OnOk, IfErr, false};
+ghost use Rattle.std.specs.Prelude.{◌≡◌, ◌+◌, ◌≤◌, ◌++◌, ◌∷◌, [], ℕ, List, length, OnOk, IfErr, false};
 ghost use Rattle.cyc_text.specs.Puts.{Puts};
+ghost use Rattle.cyc_script.specs.Limits.{most_steps};
 ghost use Rattle.cyc_script.specs.declared.step.Step.{Step as TheStep};
 ghost use Rattle.cyc_model.specs.Questions.{plain};
 ghost use Rattle.cyc_model.specs.Script.{word, run_on, names_of, no_indexes};
-ghost use Rattle.cyc_replay.specs.Status.{is_write, IsMemoryOrWrite};
-ghost use Rattle.cyc_replay.specs.Runs.{Runs};
-ghost use Rattle.cyc_replay.specs.SoFar.{IsSoFar, AllSoFar};
+ghost use Rattle.cyc_script_machine.specs.Status.{is_write, IsMemoryOrWrite};
+ghost use Rattle.cyc_script_machine.specs.Runs.{Runs};
 
-use crate::fault::RunFault;
-use crate::machine::Machine;
 use crate::steps::take_step;
 use cyc_script::{Script, Step};
+use cyc_script_machine::{Machine, RunFault};
 use cyc_text::Sink;
 
 /// Takes a step of the script, and puts its line.
@@ -24,7 +23,7 @@ fn put_step<S: Sink>(
     step: u32,
     taken: &Step,
 ) -> Result<(), RunFault>
-    requires word { IsSoFar taken.now }
+    requires few { step ≤ most_steps }
     requires runs { (done : List TheStep) × (step ≡ 1 + length done) × Runs script.now.cpus script.now.ceiling (names_of script.now) done machine.old }
     requires whole { S.has_failed sink.old ≡ false }
     ensures text { (done : List TheStep) → step ≡ 1 + length done → Runs script.now.cpus script.now.ceiling (names_of script.now) done machine.old
@@ -35,20 +34,22 @@ fn put_step<S: Sink>(
     ensures write { S.has_failed sink.new ≡ is_write result }
     ensures memory { IfErr result IsMemoryOrWrite }
 {
-    let _names = &script.names;
-    take_step(machine, line, step, taken)?;
+    take_step(machine, script.names.as_slice(), line, step, taken)?;
     sink.put(line.as_bytes())?;
     Ok(())
 }
 
-/// Takes the steps of the script one after another, and puts their lines.
-pub(crate) fn put_steps<S: Sink>(
+/// Takes the steps of a script one after another on a machine that has taken none, and puts their lines.
+///
+/// At Ok the machine is the one that the definition's run of these steps leaves: its cyclics got indexes of their own, and each
+/// was free when its cyclic got it. The lines of a step are written into `line` first, which takes memory where they need more
+/// than it has; a word that brings cyclics to a CPU takes what the CPU needs for them.
+pub fn put_steps<S: Sink>(
     machine: &mut Machine,
     line: &mut String,
     sink: &mut S,
     script: &Script,
 ) -> Result<(), RunFault>
-    requires words { AllSoFar script.now.steps.items }
     requires runs { Runs script.now.cpus script.now.ceiling (names_of script.now) [] machine.old }
     requires whole { S.has_failed sink.old ≡ false }
     ensures text { Puts (S.written sink.old) (S.written sink.new) result

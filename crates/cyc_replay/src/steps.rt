@@ -1,19 +1,20 @@
-//! The steps of a script, one after another.
+//! The steps of a script.
 
-ghost use Rattle.std.specs.Prelude.{ℕ, List, string_bytes, OnOk, IfErr};
+ghost use Rattle.std.specs.Prelude.{◌≤◌, ℕ, List, map, string_bytes, OnOk, IfErr};
+ghost use Rattle.cyc_script.specs.Limits.{most_steps};
 ghost use Rattle.cyc_script.specs.declared.step.Step.TheVariants as steps;
 ghost use Rattle.cyc_model.specs.State.{State};
-ghost use Rattle.cyc_replay.specs.Status.{IsMemory};
-ghost use Rattle.cyc_replay.specs.Machine.{Holds, IsReached};
-ghost use Rattle.cyc_replay.specs.Words.{Takes};
-ghost use Rattle.cyc_replay.specs.SoFar.{IsSoFar};
+ghost use Rattle.cyc_script_machine.specs.Status.{IsMemory};
+ghost use Rattle.cyc_script_machine.specs.Machine.{Holds, IsReached};
+ghost use Rattle.cyc_script_machine.specs.Words.{Takes};
 
-use crate::adding::add_cyclic;
-use crate::fault::RunFault;
-use crate::lines::write_answer;
-use crate::machine::Machine;
-use crate::moving::{bind_cyclic, reprogram_cyclic, unbind_cyclic};
-use cyc_script::{Add, Bind, Name, Reprogram, Step};
+use cyc_placing::{
+    add_cyclic, add_omni, bind_cyclic, online_cpu, reprogram_cyclic, take_juggle, take_offline,
+    unbind_cyclic,
+};
+use cyc_script::{Add, Bind, Name, Omni, Reprogram, Step};
+use cyc_script_machine::{Machine, RunFault, write_answer};
+use cyc_serving::{take_advance, take_remove, take_softint};
 
 /// The word `add`.
 fn take_add(
@@ -22,11 +23,28 @@ fn take_add(
     step: u32,
     added: &Add,
 ) -> Result<(), RunFault>
+    requires few { step ≤ most_steps }
     ensures takes { OnOk result ((texts : List (List ℕ)) (s : State) → IsReached step s → Holds s machine.old
         → Takes texts step (steps.Add added.now) (string_bytes line.new) s machine.new) }
     ensures memory { IfErr result IsMemory }
 {
     let answer = add_cyclic(machine, added);
+    write_answer(line, step, answer)
+}
+
+/// The word `omni`.
+fn take_omni(
+    machine: &mut Machine,
+    line: &mut String,
+    step: u32,
+    added: &Omni,
+) -> Result<(), RunFault>
+    requires few { step ≤ most_steps }
+    ensures takes { OnOk result ((texts : List (List ℕ)) (s : State) → IsReached step s → Holds s machine.old
+        → Takes texts step (steps.Omni added.now) (string_bytes line.new) s machine.new) }
+    ensures memory { IfErr result IsMemory }
+{
+    let answer = add_omni(machine, added);
     write_answer(line, step, answer)
 }
 
@@ -75,23 +93,46 @@ fn take_reprogram(
     write_answer(line, step, answer)
 }
 
-/// Takes a step, and writes its line.
+/// The word `online`.
+fn take_online(
+    machine: &mut Machine,
+    line: &mut String,
+    step: u32,
+    cpu: u32,
+) -> Result<(), RunFault>
+    ensures takes { OnOk result ((texts : List (List ℕ)) (s : State) → IsReached step s → Holds s machine.old
+        → Takes texts step (steps.Online cpu) (string_bytes line.new) s machine.new) }
+    ensures memory { IfErr result IsMemory }
+{
+    let answer = online_cpu(machine, cpu);
+    write_answer(line, step, answer)
+}
+
+/// Takes a step, and writes its line, or its lines where removals were answered.
 pub(crate) fn take_step(
     machine: &mut Machine,
+    names: &[String],
     line: &mut String,
     step: u32,
     taken: &Step,
 ) -> Result<(), RunFault>
-    requires word { IsSoFar taken.now }
-    ensures takes { OnOk result ((texts : List (List ℕ)) (s : State) → IsReached step s → Holds s machine.old
-        → Takes texts step taken.now (string_bytes line.new) s machine.new) }
+    requires few { step ≤ most_steps }
+    requires reached { (s : State) × IsReached step s × Holds s machine.old }
+    ensures takes { OnOk result ((s : State) → IsReached step s → Holds s machine.old
+        → Takes (map string_bytes names.now) step taken.now (string_bytes line.new) s machine.new) }
     ensures memory { IfErr result IsMemory }
 {
     match taken {
         Step::Add(added) => take_add(machine, line, step, added),
+        Step::Omni(added) => take_omni(machine, line, step, added),
         Step::Bind(bound) => take_bind(machine, line, step, bound),
         Step::Unbind(name) => take_unbind(machine, line, step, *name),
         Step::Reprogram(reprogram) => take_reprogram(machine, line, step, reprogram),
-        _ => unreachable!(),
+        Step::Remove(name) => take_remove(machine, names, line, step, *name),
+        Step::Advance(moment) => take_advance(machine, line, step, *moment),
+        Step::Softint(softint) => take_softint(machine, names, line, step, softint),
+        Step::Juggle(cpu) => take_juggle(machine, line, step, *cpu),
+        Step::Offline(cpu) => take_offline(machine, line, step, *cpu),
+        Step::Online(cpu) => take_online(machine, line, step, *cpu),
     }
 }

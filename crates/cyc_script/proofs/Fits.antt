@@ -16,11 +16,10 @@ use Rattle.cyc_script.specs.declared.step.Step.{Step}
 use Rattle.cyc_script.specs.declared.step.Step.TheVariants.{Advance, Juggle, Offline, Online}
 use Rattle.cyc_script.specs.Names.{number_of}
 use Rattle.cyc_script.specs.Parameters.{shaped, at_most, whole_in, name_of, level_of, soft_of, whole_of, skew_of, unsigned_of}
-use Rattle.cyc_script.specs.SoFar.{runs_word}
 use Rattle.cyc_script.specs.Steps.{Fits, Reads, accepted}
 use Rattle.cyc_script.specs.WellFormed.{name_fits, names_after, moment_fits, moment_after}
 use Rattle.cyc_script.specs.Words.{Form, introduces, refers, advances, nameless, ◌>>=◌, add_of, omni_of, bind_of, unbind_of}
-use Rattle.cyc_script.specs.Words.{reprogram_of, remove_of, advance_of, softint_of, only_cpu, form_of, form_so_far, form_of_items}
+use Rattle.cyc_script.specs.Words.{reprogram_of, remove_of, advance_of, softint_of, only_cpu, form_of, form_of_items}
 use Rattle.cyc_script.proofs.WellFormed.{both}
 
 -- ---- forms
@@ -167,14 +166,10 @@ forms word parts =
 
 -- ---- items
 
-sound_so_far : (word : List ℕ) (parts : List Data) → AreSound (form_so_far word parts)
-unfolding form_so_far
-sound_so_far word parts = either (runs_word word (length parts)) _ _ (forms word parts) tt
-
 sound_items : (items : List Data) → AreSound (form_of_items items)
 unfolding form_of_items
 sound_items [] = tt
-sound_items (word ∷ parts) = and_then (shaped (as_str word)) _ λ w. sound_so_far w parts
+sound_items (word ∷ parts) = and_then (shaped (as_str word)) _ λ w. forms w parts
 
 -- ---- what a form is accepted as
 

@@ -11,7 +11,6 @@ use Rattle.cyc_types.specs.Series.{never}
 use Rattle.cyc_script.specs.declared.cause.Cause.{Cause}
 use Rattle.cyc_script.specs.declared.cause.Cause.TheVariants.{Shape}
 use Rattle.cyc_script.specs.Limits.{longest_name}
-use Rattle.cyc_script.specs.SoFar.{runs_level}
 
 -- where a part is missing, the step has not the form of a step
 abbrev pub shaped : {A : Type 0} → Option A → Result A Cause
@@ -69,17 +68,13 @@ name_of d = shaped (option_and_then name_in (as_str d))
 
 -- ---- levels
 
--- the word of a level that runs so far
-abbrev pub level_word : Data → Option (List ℕ)
-level_word d = option_and_then (λ word. if runs_level word then Some word else None) (as_str d)
-
 -- the level of a word
 abbrev pub level_in : List ℕ → Option Level
 level_in word = if bytes_eq word (codes "low") then Some level.Low else if bytes_eq word (codes "lock") then Some level.Lock else if bytes_eq word (codes "high") then Some level.High else None
 
 -- the level of a cyclic
 abbrev pub level_of : Data → Result Level Cause
-level_of d = shaped (option_and_then level_in (level_word d))
+level_of d = shaped (option_and_then level_in (as_str d))
 
 -- the soft level of a word
 abbrev pub soft_in : List ℕ → Option Soft
@@ -87,4 +82,4 @@ soft_in word = if bytes_eq word (codes "low") then Some soft.Low else if bytes_e
 
 -- the level of a soft interrupt
 abbrev pub soft_of : Data → Result Soft Cause
-soft_of d = shaped (option_and_then soft_in (level_word d))
+soft_of d = shaped (option_and_then soft_in (as_str d))

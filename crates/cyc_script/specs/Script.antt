@@ -12,7 +12,6 @@ use Rattle.cyc_script.specs.declared.script.Script.{Script}
 use Rattle.cyc_script.specs.declared.step.Step.{Step}
 use Rattle.cyc_script.specs.Limits.{most_bytes, most_cpus, most_steps}
 use Rattle.cyc_script.specs.Parameters.{number_in}
-use Rattle.cyc_script.specs.SoFar.{cpus_so_far}
 use Rattle.cyc_script.specs.Steps.{first_context, steps_of}
 use Rattle.cyc_script.specs.Words.{list_of, ◌>>=◌}
 
@@ -38,9 +37,9 @@ formed None = Err (ScriptShape 0)
 abbrev pub number_between : ℕ → ℕ → Data → Option ℕ
 number_between least most d = option_and_then (λ n. if nat_le least n then Some n else None) (number_in most d)
 
--- 1 to 16 CPUs, of which not more than the program runs so far
+-- 1 to 16 CPUs
 abbrev pub cpus_in : Data → Option ℕ
-cpus_in d = option_and_then (λ n. if nat_le n cpus_so_far then Some n else None) (number_between 1 most_cpus d)
+cpus_in d = number_between 1 most_cpus d
 
 -- the number of CPUs, which must be there
 unfoldable pub cpus_of : Data → Option ℕ

@@ -7,7 +7,6 @@ use Rattle.cyc_script.specs.declared.cause.Cause.TheVariants.{Shape}
 use Rattle.cyc_script.specs.declared.step.Step.{Step}
 use Rattle.cyc_script.specs.declared.step.Step.TheVariants.{Add, Omni, Bind, Unbind, Reprogram, Remove, Softint, Juggle, Offline, Online}
 use Rattle.cyc_script.specs.Parameters.{shaped, name_of, level_of, soft_of, whole_of, moment_of, skew_of, unsigned_of}
-use Rattle.cyc_script.specs.SoFar.{runs_word}
 
 -- a step whose name is still a text, and so a function of the name's number: it introduces a new name, refers to one that was
 -- introduced before, advances the clock to a moment, or has neither a name nor a moment
@@ -131,16 +130,12 @@ abbrev pub list_of : Items → List Data
 list_of no_items = []
 list_of (item d ds) = d ∷ list_of ds
 
--- the form of a step of this word, where it runs so far
-unfoldable pub form_so_far : List ℕ → List Data → Result Form Cause
-form_so_far word parts = if runs_word word (length parts) then form_of word parts else Err Shape
-
 -- the form of an array's items: a word and its parameters
 unfoldable pub form_of_items : List Data → Result Form Cause
 form_of_items [] = Err Shape
 form_of_items (word ∷ parts) = do
   w ← shaped (as_str word)
-  form_so_far w parts
+  form_of w parts
 
 -- the form of a step, which is an array
 unfoldable pub form_of_value : Data → Result Form Cause

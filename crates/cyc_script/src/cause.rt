@@ -1,3 +1,5 @@
+//! Why a step is refused, before its number is known.
+
 ghost use Rattle.std.specs.Prelude.{◌≡◌};
 ghost use Rattle.cyc_script.specs.declared.cause.Cause.TheVariants.{Memory};
 ghost use Rattle.cyc_script.specs.Answers.{refusal_at};

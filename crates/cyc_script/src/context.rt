@@ -1,3 +1,5 @@
+//! What the steps before one leave to it.
+
 use crate::names::Names;
 
 /// What the steps before one leave to it.

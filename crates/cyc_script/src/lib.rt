@@ -8,7 +8,6 @@ mod names;
 mod parameters;
 mod reader;
 mod script;
-mod so_far;
 mod step;
 mod words;
 

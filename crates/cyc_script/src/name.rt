@@ -1,3 +1,5 @@
+//! A name as its number.
+
 ghost use Rattle.std.specs.Prelude.{◌≡◌, ℕ, ◌<◌, ◌^◌};
 
 use std::marker::Model;

@@ -4,11 +4,10 @@ ghost use Rattle.std.specs.Prelude.{◌≡◌, map, option_map, ℕ, ◌≤◌, 
 ghost use Rattle.std.specs.List.{list_all};
 ghost use Rattle.serde_json.specs.View.{view};
 ghost use Rattle.cyc_script.specs.Answers.{Gives};
-ghost use Rattle.cyc_script.specs.Parameters.{number_in, whole_of, moment_of, skew_of, unsigned_of, is_name_byte, is_name, name_of, level_word, level_of, soft_of};
+ghost use Rattle.cyc_script.specs.Parameters.{number_in, whole_of, moment_of, skew_of, unsigned_of, is_name_byte, is_name, name_of, level_of, soft_of};
 
 use crate::cause::Cause;
-use crate::so_far;
-use cyc_types::{Level, Soft};
+use cyc_types::{Level, Moment, Soft};
 use serde_json::Value;
 
 /// The most bytes of a name.
@@ -39,11 +38,14 @@ pub(crate) fn moment(value: &Value) -> Result<u64, Cause>
     number(value, i64::MAX as u64 - 1).ok_or(Cause::Shape)
 }
 
-/// A skew, in nanoseconds.
-pub(crate) fn skew(value: &Value) -> Result<u64, Cause>
+/// A skew, at most never.
+pub(crate) fn skew(value: &Value) -> Result<Moment, Cause>
     ensures { result ≡ skew_of (view value.now) }
 {
-    number(value, i64::MAX as u64).ok_or(Cause::Shape)
+    match number(value, i64::MAX as u64) {
+        Some(nanoseconds) => Moment::new(nanoseconds as i64).map_err(|_| Cause::Shape),
+        None => Err(Cause::Shape),
+    }
 }
 
 /// The number of a CPU, or a budget.
@@ -92,23 +94,11 @@ pub(crate) fn name(value: &Value) -> Result<&str, Cause>
     Ok(text)
 }
 
-/// The word of a level that runs so far.
-fn level_word(value: &Value) -> Option<&str>
-    ensures { option_map (λ word. word.now) result ≡ level_word (view value.now) }
-{
-    let word = value.as_str()?;
-    if so_far::runs_level(word) {
-        Some(word)
-    } else {
-        None
-    }
-}
-
 /// The level of a cyclic.
 pub(crate) fn level(value: &Value) -> Result<Level, Cause>
     ensures { result ≡ level_of (view value.now) }
 {
-    let Some(word) = level_word(value) else {
+    let Some(word) = value.as_str() else {
         return Err(Cause::Shape);
     };
     if word == "low" {
@@ -127,7 +117,7 @@ pub(crate) fn level(value: &Value) -> Result<Level, Cause>
 pub(crate) fn soft(value: &Value) -> Result<Soft, Cause>
     ensures { result ≡ soft_of (view value.now) }
 {
-    let Some(word) = level_word(value) else {
+    let Some(word) = value.as_str() else {
         return Err(Cause::Shape);
     };
     if word == "low" {

@@ -13,7 +13,6 @@ ghost use Rattle.cyc_script.specs.Steps.{first_context, steps_of};
 use crate::context::Context;
 use crate::names::Names;
 use crate::script::Script;
-use crate::so_far::CPUS_SO_FAR;
 use crate::step::Step;
 use crate::{parameters, words};
 use cyc_types::{Ceiling, Refusal};
@@ -66,10 +65,7 @@ fn number_between(value: &Value, least: u32, most: u32) -> Option<u32>
 fn cpus_in(value: &Value) -> Option<u32>
     ensures { result ≡ cpus_in (view value.now) }
 {
-    match number_between(value, 1, MOST_CPUS) {
-        Some(n) if n <= CPUS_SO_FAR => Some(n),
-        _ => None,
-    }
+    number_between(value, 1, MOST_CPUS)
 }
 
 #[tactic(auto, unfolding(crate::specs::Script::cpus_of))]

@@ -1,3 +1,5 @@
+//! A script that was read.
+
 ghost use Rattle.std.specs.Prelude.{◌≤◌, length};
 ghost use Rattle.cyc_script.specs.Limits.{most_cpus};
 ghost use Rattle.cyc_script.specs.WellFormed.{IsWellFormed};

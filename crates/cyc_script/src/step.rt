@@ -1,7 +1,7 @@
 //! The steps of a script.
 
 use crate::name::Name;
-use cyc_types::{Level, Soft};
+use cyc_types::{Level, Moment, Soft};
 
 /// Adds a cyclic (`cyclic_add`).
 #[derive(Clone, Copy, Debug, PartialEq, Eq)]
@@ -27,8 +27,8 @@ pub struct Omni {
     pub start: i64,
     /// The interval in nanoseconds; the step is refused where it is below 1.
     pub interval: i64,
-    /// The nanoseconds by which each CPU's component starts after the one before it, below 2^63.
-    pub skew: u64,
+    /// By how much each CPU's component starts after the one before it.
+    pub skew: Moment,
 }
 
 /// Binds a cyclic to a CPU (`cyclic_bind`).

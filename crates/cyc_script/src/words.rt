@@ -4,12 +4,12 @@ ghost use Rattle.std.specs.Prelude.{◌≡◌, ℕ, ◌<◌, ◌^◌, length, ma
 ghost use Rattle.serde_json.specs.View.{view};
 ghost use Rattle.cyc_script.specs.Answers.{Gives};
 ghost use Rattle.cyc_script.specs.Steps.{Fits, Reads, step_of};
-ghost use Rattle.cyc_script.specs.Words.{add_of, omni_of, bind_of, unbind_of, reprogram_of, remove_of, advance_of, softint_of, only_cpu, form_of, form_so_far, form_of_items};
+ghost use Rattle.cyc_script.specs.Words.{add_of, omni_of, bind_of, unbind_of, reprogram_of, remove_of, advance_of, softint_of, only_cpu, form_of, form_of_items};
 
 use crate::cause::Cause;
 use crate::context::Context;
+use crate::parameters;
 use crate::step::{Add, Bind, Omni, Reprogram, Softint, Step};
-use crate::{parameters, so_far};
 use serde_json::Value;
 use std::alloc::Global;
 
@@ -176,22 +176,6 @@ fn step_of_word<'a>(
     }
 }
 
-#[tactic(auto, using(crate::proofs::Lists::length_map), unfolding(crate::specs::Words::form_so_far))]
-fn step_so_far<'a>(
-    alloc: Global,
-    context: &mut Context<'a>,
-    word: &str,
-    parts: &'a [Value],
-) -> Result<Step, Cause>
-    requires { length context.old.names < 2 ^ 32 }
-    ensures { Reads result context.old context.new (form_so_far word.now (map view parts.now)) }
-{
-    if !so_far::runs_word(word, parts.len()) {
-        return Err(Cause::Shape);
-    }
-    step_of_word(alloc, context, word, parts)
-}
-
 #[tactic(auto, unfolding(crate::specs::Words::form_of_items))]
 fn step_of_items<'a>(
     alloc: Global,
@@ -207,7 +191,7 @@ fn step_of_items<'a>(
     let Some(word) = first.as_str() else {
         return Err(Cause::Shape);
     };
-    step_so_far(alloc, context, word, rest)
+    step_of_word(alloc, context, word, rest)
 }
 
 /// Reads the step of a value after those before it, and takes note of the name that it introduces or the moment that it

@@ -1,4 +1,4 @@
--- What the definition of a step's form gives for each word, computed; also for the words that don't run so far.
+-- What the definition of a step's form gives for each word, computed.
 use Rattle.std.proofs.Common.{◌≡◌, ℕ, [], ◌∷◌, Ok, false, None, Some, refl}
 use Rattle.std.specs.Prelude.{⊤, codes, pos, negsuc, is_ok}
 use Rattle.serde_json.specs.Data.{Data, string, number, unsigned, negative}
@@ -6,12 +6,11 @@ use Rattle.cyc_types.specs.declared.level.Level.TheVariants as level
 use Rattle.cyc_types.specs.declared.level.Soft.TheVariants as soft
 use Rattle.cyc_script.specs.declared.step.Step.TheVariants.{Add, Omni, Bind, Unbind, Reprogram, Remove, Softint, Juggle, Offline}
 use Rattle.cyc_script.specs.Parameters.{is_name_byte}
-use Rattle.cyc_script.specs.SoFar.{runs_level}
 use Rattle.cyc_script.specs.Words.{introduces, refers, advances, nameless, form_of, add_of, omni_of, bind_of, unbind_of, reprogram_of, remove_of, advance_of, softint_of, only_cpu}
 
 -- what unfolds to compute a form
 unfoldable on_words : ⊤
-unfolding form_of add_of omni_of bind_of unbind_of reprogram_of remove_of advance_of softint_of only_cpu runs_level is_name_byte
+unfolding form_of add_of omni_of bind_of unbind_of reprogram_of remove_of advance_of softint_of only_cpu is_name_byte
 on_words = tt
 
 abbrev a : Data

@@ -10,13 +10,12 @@ use Rattle.cyc_types.specs.declared.refusal.Refusal.TheVariants.{ScriptSyntax, S
 use Rattle.cyc_script.specs.declared.step.Step.TheVariants.{Add, Advance, Softint}
 use Rattle.cyc_script.specs.Parameters.{is_name_byte}
 use Rattle.cyc_script.specs.Script.{script_of, json_of, content_of, has_keys, is_key, cpus_of, ceiling_of, values_of}
-use Rattle.cyc_script.specs.SoFar.{runs_word, runs_level}
 use Rattle.cyc_script.specs.Steps.{step_of, steps_of}
-use Rattle.cyc_script.specs.Words.{form_of_value, form_of_items, form_so_far, form_of, add_of, advance_of, softint_of}
+use Rattle.cyc_script.specs.Words.{form_of_value, form_of_items, form_of, add_of, advance_of, softint_of}
 
 -- what unfolds to compute a script
 unfoldable on_literals : ⊤
-unfolding serde_json_on_literals utf8_valid_len is_utf8 chars script_of json_of content_of has_keys is_key cpus_of ceiling_of values_of steps_of step_of form_of_value form_of_items form_so_far form_of add_of advance_of softint_of runs_word runs_level is_name_byte
+unfolding serde_json_on_literals utf8_valid_len is_utf8 chars script_of json_of content_of has_keys is_key cpus_of ceiling_of values_of steps_of step_of form_of_value form_of_items form_of add_of advance_of softint_of is_name_byte
 on_literals = tt
 
 first_script : script_of (codes "{\"cpus\":1,\"steps\":[[\"add\",\"a\",\"low\",5,10],[\"advance\",5],[\"softint\",0,\"low\",8]]}") ≡ Ok (record { cpus = 1; ceiling = 4294967295; names = codes "a" ∷ []; steps = Add (record { name = 0; level = level.Low; start = pos 5; interval = pos 10 }) ∷ Advance 5 ∷ Softint (record { cpu = 0; level = soft.Low; budget = 8 }) ∷ [] })

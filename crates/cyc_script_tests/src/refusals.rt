@@ -42,14 +42,12 @@ fn bytes_that_are_no_json(rt: HostRuntime) {
     }
 }
 
-static NO_SCRIPTS: [&str; 15] = [
+static NO_SCRIPTS: [&str; 13] = [
     "[]",
     "{}",
     "{\"cpus\":1}",
     "{\"steps\":[]}",
     "{\"cpus\":0,\"steps\":[]}",
-    "{\"cpus\":2,\"steps\":[]}",
-    "{\"cpus\":16,\"steps\":[]}",
     "{\"cpus\":17,\"steps\":[]}",
     "{\"cpus\":1.0,\"steps\":[]}",
     "{\"cpus\":\"1\",\"steps\":[]}",
@@ -68,7 +66,7 @@ fn objects_that_are_no_script(rt: HostRuntime) {
     }
 }
 
-static NO_STEPS: [&str; 24] = [
+static NO_STEPS: [&str; 38] = [
     "7",
     "[]",
     "[7]",
@@ -93,6 +91,20 @@ static NO_STEPS: [&str; 24] = [
     "[\"softint\",4294967296,\"low\",8]",
     "[\"softint\",0,\"low\",4294967296]",
     "[\"softint\",0,\"high\",8]",
+    "[\"omni\",\"a\",\"low\",1,1]",
+    "[\"omni\",\"a\",\"low\",1,1,-1]",
+    "[\"omni\",\"a\",\"low\",1,1,0,0]",
+    "[\"omni\",\"a\",\"soft\",1,1,0]",
+    "[\"bind\",\"a\"]",
+    "[\"bind\",\"a\",-1]",
+    "[\"bind\",\"a\",0,0]",
+    "[\"unbind\",\"a\",0]",
+    "[\"unbind\"]",
+    "[\"reprogram\",\"a\",1,-1]",
+    "[\"juggle\"]",
+    "[\"juggle\",\"0\"]",
+    "[\"offline\",4294967296]",
+    "[\"online\",0,0]",
 ];
 
 #[test]
@@ -103,26 +115,8 @@ fn steps_that_have_not_the_form_of_a_step(rt: HostRuntime) {
     }
 }
 
-static LATER_STEPS: [&str; 7] = [
-    "[\"omni\",\"a\",\"low\",1,1,0]",
-    "[\"bind\",\"a\",0]",
-    "[\"unbind\",\"a\"]",
-    "[\"reprogram\",\"a\",1,0]",
-    "[\"juggle\",0]",
-    "[\"offline\",0]",
-    "[\"online\",0]",
-];
-
-#[test]
-fn what_the_program_runs_later_has_not_the_form_of_a_step(rt: HostRuntime) {
-    for step in &LATER_STEPS {
-        let refused = refusal_of_steps(&rt, step);
-        assert_eq!(rt; refused, Some(ScriptShape(1)), "at {step}");
-    }
-}
-
 /// The steps of a script, each list with its refusal.
-const FAULTY_STEPS: [(&str, Option<Refusal>); 16] = [
+const FAULTY_STEPS: [(&str, Option<Refusal>); 21] = [
     ("[\"advance\",5],[\"advance\",4]", Some(TimeBack(2))),
     ("[\"advance\",5],[\"advance\",5]", None),
     (
@@ -166,6 +160,17 @@ const FAULTY_STEPS: [(&str, Option<Refusal>); 16] = [
         "[\"add\",\"abcdefghijklmnopqrstuvwxyzAZ09_-\",\"low\",1,1]",
         None,
     ),
+    (
+        "[\"omni\",\"a\",\"high\",1,1,9],[\"bind\",\"a\",4294967295],[\"unbind\",\"a\"],[\"reprogram\",\"a\",1,15],[\"juggle\",16],[\"offline\",0],[\"online\",0]",
+        None,
+    ),
+    (
+        "[\"omni\",\"a\",\"low\",1,1,0],[\"add\",\"a\",\"low\",1,1]",
+        Some(NameTwice(2)),
+    ),
+    ("[\"bind\",\"a\",0]", Some(NoName(1))),
+    ("[\"juggle\",0],[\"unbind\",\"a\"]", Some(NoName(2))),
+    ("[\"reprogram\",\"a\",1,0]", Some(NoName(1))),
 ];
 
 #[test]

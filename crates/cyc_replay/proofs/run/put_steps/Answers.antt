@@ -1,21 +1,19 @@
-use Rattle.std.proofs.Common.{◌≡◌, ℕ, ◌+◌, ◌<◌, length, get_or, take, ap, sym, ◌∙◌, subst, arith}
+use Rattle.std.proofs.Common.{◌≡◌, ◌<◌, length, get_or, take, sym, subst, arith}
 use Rattle.std.proofs.lemmas.Result.{err_from_is_err_and}
 use Rattle.std.proofs.KnownBytes.{Appends-trans}
 use Rattle.std.specs.Io.KnownBytes.{Appends}
 use Rattle.cyc_text.specs.Puts.{AppendsPrefix}
 use Rattle.cyc_text.proofs.Puts.{prefix_more, stops}
 use Rattle.cyc_model.specs.Script.{names_of, no_indexes}
-use Rattle.cyc_replay.specs.Runs.{Runs}
-use Rattle.cyc_replay.specs.SoFar.{IsSoFar}
-use Rattle.cyc_replay.proofs.Running.{take_on, number_on, whole_line, line_then, so_far_at}
+use Rattle.cyc_script_machine.specs.Runs.{Runs}
+use Rattle.cyc_script_machine.proofs.Running.{take_on, number_on, whole_line, line_then}
 use Rattle.cyc_replay.proofs.run.put_steps.Goals as goal
 
-pub put_step-requires-clause-word : goal.put_step-requires-clause-word
-put_step-requires-clause-word g c =
-    let steps = c.args.script.now.steps.items in let i = c.loop-taken.taken-index in let x = c.taken-item.result in
-    let low = subst (λ xs. i < length xs) c.deref-taken-items.ensures.value c.loop-taken-test.true in
-    let here = subst (λ xs. x ≡ get_or xs i x) c.deref-taken-items.ensures.value c.taken-item.is in
-    subst (λ y. IsSoFar y) (sym here) (so_far_at steps i x c.requires.words low)
+pub put_step-requires-clause-few : goal.put_step-requires-clause-few
+put_step-requires-clause-few g c =
+    let few = c.args.script.now.well_formed.few_steps in
+    let low = subst (λ xs. c.loop-taken.taken-index < length xs) c.deref-taken-items.ensures.value c.loop-taken-test.true in
+    let number = c.loop-taken.invariant.number in omega (arith, few, low, number)
 
 pub put_step-requires-clause-runs : goal.put_step-requires-clause-runs
 put_step-requires-clause-runs g c =

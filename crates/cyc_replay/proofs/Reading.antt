@@ -1,0 +1,13 @@
+-- A step that was taken over the names of a script.
+use Rattle.std.proofs.Common.{◌≡◌, ℕ, List, subst}
+use Rattle.cyc_script.specs.declared.step.Step.{Step}
+use Rattle.cyc_model.specs.State.{State}
+use Rattle.cyc_script_machine.specs.declared.machine.Machine.{Machine}
+use Rattle.cyc_script_machine.specs.Machine.{Holds, IsReached}
+use Rattle.cyc_script_machine.specs.Words.{Takes}
+
+-- the same over equal names
+pub takes_named : (read texts : List (List ℕ)) → read ≡ texts → (step : ℕ) (x : Step) (line : List ℕ) (m n : Machine)
+    → ((s : State) → IsReached step s → Holds s m → Takes read step x line s n)
+    → (s : State) → IsReached step s → Holds s m → Takes texts step x line s n
+takes_named read texts same step x line m n takes s reached held = subst (λ ts. Takes ts step x line s n) same (takes s reached held)

@@ -1,9 +1,0 @@
-use Rattle.std.proofs.Common.{◌≡◌, length, ℕ}
-use Rattle.cyc_system_model.specs.Kept.{AreNew}
-use Rattle.cyc_replay.proofs.begin.new_levels.Given as goal
-
-abbrev pub invariant-loop : goal.invariant-loop
-invariant-loop l = record {
-  long : length l.ends.items ≡ l.counter;
-  new : AreNew l.ceiling l.ends.items;
-}

@@ -1,0 +1,17 @@
+//! What holds of every machine that the steps of a script led to.
+
+ghost use Rattle.cyc_script.specs.declared.script.Script.{Script};
+ghost use Rattle.cyc_model.specs.Script.{names_of};
+ghost use Rattle.cyc_script_machine.specs.declared.machine.Machine.{Machine};
+ghost use Rattle.cyc_script_machine.specs.Runs.{Runs};
+ghost use Rattle.cyc_replay.specs.Replay.{HasRun};
+
+/// The conservation theorem of the machine that all steps of a script led to, as `put_steps` says of its own: the machine's
+/// cyclics got free indexes; at each soft level of each of its CPUs each event of its run was enabled when it happened, and the
+/// level was lawful and conserved before the first of them, after each, and at the end; and so are the machine's own levels.
+///
+/// It does nothing when it runs: its clause is the law.
+pub fn runs_are_sound()
+    ensures { (script : Script) (m : Machine) → Runs script.cpus script.ceiling (names_of script) script.steps.items m
+        → HasRun script m }
+{}
