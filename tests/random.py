@@ -1,13 +1,16 @@
 #!/usr/bin/env python3
-"""Runs the program on scripts made at random, and on damaged ones, and checks what needs no reference.
+"""Runs the program on scripts made at random, and on damaged ones.
 
     tests/random.py COUNT [SEED]
 
 Every other script is whole: it must be accepted. The others are damaged in one to four bytes: each is accepted, or refused as a
 script. An accepted one has status 0, nothing on standard error, lines of the right forms, and a report in which the expirations
-are those called, lost and pending. A refused one has status 2, no text, and one line 'script refused K', with 'step N' for 20 to
-23. The same seed makes the same scripts. The first faulty one is printed, and the status is 1.
+are those called, lost and pending; and where the script was not damaged its text is the one that `tools/timeline` works out by
+itself. A refused one has status 2, no text, and one line 'script refused K', with 'step N' for 20 to 23. The same seed makes the same
+scripts. The first faulty one is printed, and the status is 1.
 """
+import importlib.machinery
+import importlib.util
 import json
 import os
 import random
@@ -15,20 +18,36 @@ import re
 import subprocess
 import sys
 
-PROGRAM = os.path.join(os.path.dirname(os.path.abspath(__file__)), "..", "crates", "cyclic", "out", "cyclic")
+HERE = os.path.dirname(os.path.abspath(__file__))
+PROGRAM = os.path.join(HERE, "..", "crates", "cyclic", "out", "cyclic")
 NEVER = 2**63 - 1
 SECOND = 10**9
 REFUSED = re.compile(rb"script refused (?:19|2[0-3] step \d+)\n")
 LINE = re.compile(
-    rb"\d+ (?:ok|refused \d+|fired \d+ lost \d+|ran \d+ (?:idle|more)|kept \d+|removed [A-Za-z0-9_-]{1,32} \d+)\n")
+    rb"\d+ (?:ok|refused \d+|fired \d+ lost \d+|ran \d+ (?:idle|more)|kept \d+|removed [A-Za-z0-9_-]{1,32} \d+"
+    rb"|(?:left )?moved \d+ bound \d+ pending \d+ refused \d+)\n")
 REPORT = re.compile(rb"[A-Za-z0-9_-]{1,32} expired (\d+) called (\d+) lost (\d+) pending (\d+)\n")
 
 
+def timeline():
+    """The module of tools/timeline."""
+    loader = importlib.machinery.SourceFileLoader("timeline", os.path.join(HERE, "..", "tools", "timeline"))
+    sys.dont_write_bytecode = True
+    module = importlib.util.module_from_spec(importlib.util.spec_from_loader("timeline", loader))
+    loader.exec_module(module)
+    return module
+
+
 class Maker:
-    """Makes a script of all words that run. Moments are near the clock or far from it, so that no fire makes very many calls."""
+    """Makes a script of all words. Moments are near the clock or far from it, so that no fire makes very many calls."""
 
     def __init__(self, chance):
         self.chance, self.clock, self.names = chance, 0, []
+        self.cpus = chance.choice([1, 1, 2, 2, 3, 4, 16])
+
+    def cpu(self):
+        number = self.chance.choice([self.cpus, 15, 2**32 - 1]) if self.chance.random() < 0.03 else 0
+        return number or self.chance.randrange(self.cpus)
 
     def near(self):
         return min(self.clock + self.chance.randint(0, 2000), NEVER)
@@ -45,12 +64,16 @@ class Maker:
         letters = "abcXYZ019_-"
         return "".join(self.chance.choice(letters) for _ in range(self.chance.randint(1, 32))) + str(len(self.names))
 
+    def skew(self):
+        return self.chance.choice([0, 1, 7, 1000, NEVER])
+
     def add(self):
         name = self.name()[-32:]
         if name in self.names:
             return self.advance()
         self.names.append(name)
-        return ["add", name, self.chance.choice(["low", "lock", "high"]), self.moment(), self.interval()]
+        added = [name, self.chance.choice(["low", "lock", "high"]), self.moment(), self.interval()]
+        return ["add", *added] if self.chance.random() < 0.75 else ["omni", *added, self.skew()]
 
     def advance(self):
         jump = self.chance.random()
@@ -61,24 +84,28 @@ class Maker:
         return ["advance", self.clock]
 
     def softint(self):
-        cpu = 0 if self.chance.random() < 0.97 else self.chance.choice([1, 15, 2**32 - 1])
         budget = self.chance.choice([0, 1, 2, 8, 1000, 2**32 - 1])
-        return ["softint", cpu, self.chance.choice(["low", "lock"]), budget]
+        return ["softint", self.cpu(), self.chance.choice(["low", "lock"]), budget]
 
     def step(self):
         word = self.chance.random()
         if not self.names or word < 0.2:
             return self.add()
-        if word < 0.5:
+        if word < 0.45:
             return self.advance()
-        if word < 0.8:
+        if word < 0.7:
             return self.softint()
+        name = self.chance.choice(self.names)
+        if word < 0.78:
+            return ["remove", name]
+        if word < 0.84:
+            return ["reprogram", name, self.moment()] if self.chance.random() < 0.6 else ["reprogram", name, self.moment(), self.cpu()]
         if word < 0.9:
-            return ["remove", self.chance.choice(self.names)]
-        return ["reprogram", self.chance.choice(self.names), self.moment()]
+            return ["bind", name, self.cpu()] if self.chance.random() < 0.7 else ["unbind", name]
+        return [self.chance.choice(["juggle", "offline", "online"]), self.cpu()]
 
     def script(self):
-        whole = {"cpus": 1, "steps": [self.step() for _ in range(self.chance.choice([0, 3, 10, 30, 100]))]}
+        whole = {"cpus": self.cpus, "steps": [self.step() for _ in range(self.chance.choice([0, 3, 10, 30, 100, 300]))]}
         if self.chance.random() < 0.5:
             whole["ceiling"] = self.chance.choice([1, 2, 7, 2**32 - 1])
         return json.dumps(whole).encode()
@@ -118,13 +145,15 @@ def fault_of(text):
     return None
 
 
-def look(script, whole):
-    """What is wrong with the run of this script, or None."""
+def look(script, whole, run):
+    """What is wrong with the run of this script, or None. `run` is how tools/timeline runs one."""
     try:
         ran = subprocess.run([PROGRAM, "replay"], input=script, capture_output=True, timeout=100)
     except subprocess.TimeoutExpired:
         return "no end within 100 seconds"
     if ran.returncode == 0:
+        if whole and ran.stdout.decode().splitlines() != run(json.loads(script)).lines:
+            return f"another text than that of tools/timeline: {ran.stdout!r}"
         return "words on standard error" if ran.stderr else fault_of(ran.stdout)
     if whole or ran.returncode != 2 or ran.stdout or not REFUSED.fullmatch(ran.stderr):
         return f"status {ran.returncode}, text {ran.stdout[:80]!r}, words {ran.stderr[:80]!r}"
@@ -133,12 +162,13 @@ def look(script, whole):
 
 def main():
     count, seed = int(sys.argv[1]), int(sys.argv[2]) if len(sys.argv) > 2 else 1
+    run = timeline().Run
     for number in range(count):
         chance = random.Random(seed * 2**32 + number)
         script, whole = Maker(chance).script(), number % 2 == 0
         if not whole:
             script = damaged(script, chance)
-        fault = look(script, whole)
+        fault = look(script, whole, run)
         if fault:
             print(f"random: seed {seed}, script {number}: {fault}\n{script!r}")
             return 1
