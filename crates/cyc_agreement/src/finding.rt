@@ -1,3 +1,5 @@
+//! Where a removal is open.
+
 ghost use Rattle.std.specs.Prelude.{◌≡◌, ◌<◌, length};
 ghost use Rattle.std.specs.List.{list_any};
 ghost use Rattle.cyc_cpus.specs.Cpus.{OfCpu};

@@ -1,3 +1,5 @@
+//! What a level keeps of an admitted cyclic.
+
 use cyc_finder::HasId;
 use cyc_types::{CyclicId, Index};
 

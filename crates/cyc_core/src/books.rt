@@ -1,3 +1,5 @@
+//! The books of a level: what became of each cyclic's expirations.
+
 ghost use Rattle.std.specs.Prelude.{◌≡◌, ℕ, ◌+◌, ◌<◌, ◌↔◌, ◌==◌, Some, IfSome, IsSome};
 ghost use Rattle.std.specs.List.{list_any};
 ghost use Rattle.cyc_level.specs.Level.{count};

@@ -1,3 +1,5 @@
+//! The soft side of a plain level, as events of the level.
+
 ghost use Rattle.cyc_core.specs.Tables.{level_of};
 ghost use Rattle.cyc_core.specs.DrainingSide.{held_of, done_of, Drains};
 

@@ -1,3 +1,5 @@
+//! The events of a plain level, one function for each.
+
 ghost use Rattle.std.specs.Prelude.{◌≡◌, ◌≢◌, ℕ, ◌+◌, ◌<◌, ◌≤◌, ◌↔◌, ◌==◌, Some, None, IsTrue, IsOk, OnOk, OnErr, IfErr, IsSome, IsSomeAnd, slice_get, take, [], List};
 ghost use Rattle.std.specs.List.{FoldsTo, list_any};
 ghost use Rattle.cyc_level.specs.declared.Event.TheVariants.{Admit, Expire, Lose, Publish, Take, Finish, Mark, Clear, Switch, Follow};

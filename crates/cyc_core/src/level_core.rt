@@ -1,3 +1,5 @@
+//! One soft level as a plain object, and the laws that hold of it at any time.
+
 ghost use Rattle.std.specs.Prelude.{◌≡◌, ℕ, ◌<◌, ◌≤◌, length, IfOk, IfErr, IfSome, IfNone, IsSome, Some, None, slice_get};
 ghost use Rattle.std.specs.Option.{option_map};
 ghost use Rattle.cyc_finder.specs.Sorted.{IsAt, IsGap};

@@ -1,3 +1,5 @@
+//! The firing side of a plain level, as events of the level.
+
 ghost use Rattle.cyc_core.specs.Tables.{level_of};
 ghost use Rattle.cyc_core.specs.FiringSide.{firing_view, Fires};
 

@@ -1,3 +1,5 @@
+//! Events in turn, and lists of events that stop at one that is not enabled.
+
 use crate::level::{admit, apply, books, id, level, place, step};
 use cyc_core::{Event, NotEnabled, Place};
 use std::process::Abort;

@@ -1,3 +1,5 @@
+//! Worked levels, each with its books.
+
 use crate::level::{admit, apply, books, id, level, place};
 use cyc_core::{Books, Event, LevelCore, NotEnabledAt, Place};
 use std::process::Abort;

@@ -1,3 +1,5 @@
+//! Both sides of a level by their traits' calls.
+
 use crate::level::{admit, apply, id, level};
 use cyc_core::{Event, LevelCore};
 use cyc_types::{CyclicId, Drain, Finished};

@@ -1,3 +1,5 @@
+//! Questions to a CPU that ask nothing of its levels.
+
 ghost use Rattle.std.specs.Prelude.{◌≡◌, ◌<◌, length};
 ghost use Rattle.std.specs.Bool.{OnTrue, OnFalse};
 ghost use Rattle.cyc_timers.specs.Rows.{Cyclic};

@@ -1,3 +1,5 @@
+//! Calls on the end of a cyclic's level, of whichever level it is.
+
 ghost use Rattle.std.specs.Prelude.{◌≡◌, ◌≤◌, ◌^◌, ◌⊎◌, true, false};
 ghost use Rattle.std.specs.Bool.{OnTrue, OnFalse};
 ghost use Rattle.cyc_types.specs.Firing.{MayAsk, MayAdmit, Sound};

@@ -1,3 +1,5 @@
+//! The firing side of one CPU: opening it, taking memory, growing, adding and firing.
+
 ghost use Rattle.std.specs.Prelude.{◌≡◌, ◌≢◌, ℕ, ◌+◌, ◌<◌, ◌≤◌, ◌++◌, ◌∷◌, [], List, All, length, slice_set, None, Some, IfOk, IfErr, OnOk, OnErr, IfNone, IfSome, ◌⊎◌};
 ghost use Rattle.std.specs.Bool.{OnTrue, OnFalse};
 ghost use Rattle.cyc_types.specs.Limits.{cyclics};

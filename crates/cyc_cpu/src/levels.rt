@@ -1,3 +1,5 @@
+//! Laws of a CPU over plain levels.
+
 ghost use Rattle.std.specs.Prelude.{ℕ, List, All};
 ghost use Rattle.std.specs.List.{FoldsTo};
 ghost use Rattle.cyc_core.specs.Tables.{Tables, level_of};

@@ -1,3 +1,5 @@
+//! A cyclic leaves a CPU with its counts, or comes to one with them.
+
 ghost use Rattle.std.specs.Prelude.{◌≡◌, ◌≢◌, ℕ, ◌<◌, ◌≤◌, length, None, Some, IfOk, IfErr, OnOk, IfNone, IfSome};
 ghost use Rattle.std.specs.Bool.{OnTrue};
 ghost use Rattle.cyc_types.specs.Series.{never};

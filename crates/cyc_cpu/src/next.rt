@@ -1,3 +1,5 @@
+//! When the CPU's timer is to interrupt.
+
 ghost use Rattle.std.specs.Prelude.{◌≡◌};
 ghost use Rattle.cyc_expirations.specs.Timers.{earliest};
 ghost use Rattle.cyc_timers.specs.Rows.{timers};

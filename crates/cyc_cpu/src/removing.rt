@@ -1,3 +1,5 @@
+//! The removal of a cyclic: its beginning, its polls and its receipt.
+
 ghost use Rattle.std.specs.Prelude.{◌≡◌, ◌≤◌, ℕ};
 ghost use Rattle.cyc_cpu.specs.Cpu.{CpuView};
 ghost use Rattle.cyc_cpu.specs.Law.{IsLawful};

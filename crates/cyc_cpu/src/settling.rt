@@ -1,3 +1,5 @@
+//! Whether a CPU has settled.
+
 ghost use Rattle.std.specs.Prelude.{◌≡◌, ℕ, ◌+◌, ◌<◌};
 ghost use Rattle.std.specs.Bool.{OnTrue, OnFalse};
 ghost use Rattle.cyc_types.specs.Firing.{MayAsk, Sound, seen_of};

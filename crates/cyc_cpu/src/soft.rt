@@ -1,3 +1,5 @@
+//! The soft interrupt of a CPU whose levels one thread has.
+
 ghost use Rattle.std.specs.Prelude.{IfOk, IsTrue};
 ghost use Rattle.cyc_types.specs.Levels.{level_of, at_level};
 ghost use Rattle.cyc_types.specs.Firing.{Sound};

@@ -1,3 +1,5 @@
+//! The law of what calls add up to for each id.
+
 ghost use Rattle.std.specs.Prelude.{List};
 ghost use Rattle.std.specs.List.{FoldsTo};
 ghost use Rattle.cyc_core.specs.Tables.{Tables};

@@ -1,3 +1,5 @@
+//! The law of an id that has left a CPU.
+
 ghost use Rattle.std.specs.Prelude.{ℕ, List, All};
 ghost use Rattle.std.specs.List.{FoldsTo};
 ghost use Rattle.cyc_cpu.specs.Cpu.{Running};

@@ -1,3 +1,5 @@
+//! The law of an end's way from one value to another.
+
 ghost use Rattle.std.specs.Prelude.{◌≡◌, ℕ, ◌+◌, ◌≤◌};
 ghost use Rattle.cyc_types.specs.Firing.{FiringCall};
 ghost use Rattle.cyc_types.specs.Runs.{Taught, raises_of, losses_of};

@@ -1,3 +1,5 @@
+//! The law of what receipts and moves say of the calls.
+
 ghost use Rattle.std.specs.Prelude.{ℕ, All};
 ghost use Rattle.cyc_core.specs.Tables.{Tables, level_of};
 ghost use Rattle.cyc_level.specs.Lawful.{Lawful};

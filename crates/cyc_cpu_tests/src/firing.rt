@@ -1,3 +1,5 @@
+//! Worked fires, in order and with their counts.
+
 use crate::steps::{Answer, Bounds, FREE, Step, alone, id};
 use cyc_types::{Level, Refusal};
 use std::test::Fail;

@@ -1,3 +1,5 @@
+//! Worked moves from one CPU to another.
+
 ghost use Rattle.std.specs.Prelude.{◌≤◌};
 
 use crate::handlers::Handlers;

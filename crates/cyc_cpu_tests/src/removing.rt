@@ -1,3 +1,5 @@
+//! Worked removals.
+
 use crate::steps::{Answer, Bounds, FREE, Step, alone, id};
 use cyc_types::{Level, Refusal, Soft};
 use std::test::Fail;

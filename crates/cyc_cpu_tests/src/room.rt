@@ -1,3 +1,5 @@
+//! A CPU that grows until it is full.
+
 use crate::handlers::Handlers;
 use crate::steps::{Answer, FREE, Step, alone, cpu, play};
 use cyc_core::LevelCore;

@@ -1,3 +1,5 @@
+//! Worked soft interrupts.
+
 use crate::steps::{Answer, Bounds, FREE, Step, alone};
 use cyc_types::{Level, Soft};
 use std::test::Fail;

@@ -1,3 +1,5 @@
+//! Calls of a CPU as values, so that a worked row is a table.
+
 ghost use Rattle.std.specs.Prelude.{◌≡◌, IfOk};
 ghost use Rattle.cyc_core.specs.Tables.{level_of};
 ghost use Rattle.cyc_core.specs.FiringSide.{firing_view};

@@ -1,3 +1,5 @@
+//! Where a cyclic goes.
+
 ghost use Rattle.std.specs.Prelude.{◌≡◌, ◌<◌, length, IfSome};
 ghost use Rattle.cyc_cpus.specs.Destination.{destination, fewer};
 

@@ -1,3 +1,5 @@
+//! The CPUs by number, which of them are online, and the lending of one.
+
 ghost use Rattle.std.specs.Prelude.{◌≡◌, ◌<◌, ◌≤◌, ℕ, List, length, map, slice_set, true, All, Some, IfOk, IfErr};
 ghost use Rattle.std.specs.List.{slice_get};
 ghost use Rattle.std.specs.Borrow.{Lends, sem};

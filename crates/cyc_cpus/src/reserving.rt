@@ -1,3 +1,5 @@
+//! Memory on every online CPU.
+
 ghost use Rattle.std.specs.Prelude.{◌≡◌, ℕ, IfOk, IfErr, OnOk};
 ghost use Rattle.cyc_cpu.specs.Cpu.{HasRoom, MayWiden};
 ghost use Rattle.cyc_cpus.specs.Cpus.{OfCpu, IsOnline, online_cpus, Works};

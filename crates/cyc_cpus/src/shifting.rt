@@ -1,3 +1,5 @@
+//! The move of one cyclic.
+
 ghost use Rattle.std.specs.Prelude.{◌≡◌, ◌≢◌, ◌<◌, ◌≤◌, length, Ok, [], ◌∷◌};
 ghost use Rattle.cyc_cpu.specs.Cpu.{HasNoCyclic, MayWiden};
 ghost use Rattle.cyc_cpu.specs.Removal.{HasCyclic};

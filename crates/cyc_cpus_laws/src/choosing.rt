@@ -1,3 +1,5 @@
+//! The law of a destination.
+
 ghost use Rattle.std.specs.Prelude.{◌≡◌, ℕ, Option, Some, None};
 ghost use Rattle.cyc_cpus.specs.Cpus.{CpusView};
 ghost use Rattle.cyc_cpus.specs.Destination.{destination};

@@ -1,3 +1,5 @@
+//! The law of what leaves a CPU lawful.
+
 ghost use Rattle.std.specs.Prelude.{ℕ};
 ghost use Rattle.cyc_cpu.specs.Cpu.{CpuView, Asks, Looked, Reserves, MayWiden, Widens};
 ghost use Rattle.cyc_cpu.specs.Law.{IsLawful};

@@ -1,3 +1,5 @@
+//! The law of an id that has left all CPUs.
+
 ghost use Rattle.std.specs.Prelude.{ℕ, List, All};
 ghost use Rattle.std.specs.List.{FoldsTo};
 ghost use Rattle.cyc_level.specs.Lawful.{Lawful};

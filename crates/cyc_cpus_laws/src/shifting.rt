@@ -1,3 +1,5 @@
+//! The law of a move.
+
 ghost use Rattle.std.specs.Prelude.{◌≡◌, ◌≢◌, ℕ, Ok, Err};
 ghost use Rattle.cyc_types.specs.declared.refusal.Refusal.{Refusal as Reason};
 ghost use Rattle.cyc_core.specs.Tables.{Tables};

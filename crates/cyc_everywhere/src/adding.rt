@@ -1,3 +1,5 @@
+//! An omnipresent cyclic comes to every online CPU.
+
 ghost use Rattle.std.specs.Prelude.{◌≡◌, ◌<◌, ◌≤◌, ℕ, [], ◌∷◌, Err, length};
 ghost use Rattle.cyc_types.specs.Limits.{last_id};
 ghost use Rattle.cyc_types.specs.Series.{never};

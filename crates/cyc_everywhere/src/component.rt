@@ -1,3 +1,5 @@
+//! When the component on a CPU begins.
+
 ghost use Rattle.std.specs.Prelude.{◌≡◌, ◌<◌, ◌+◌, ◌*◌, min};
 ghost use Rattle.cyc_types.specs.Series.{never};
 ghost use Rattle.cyc_everywhere.specs.Omni.{component_first as first_on};

@@ -1,3 +1,5 @@
+//! Laws of omnipresent cyclics.
+
 ghost use Rattle.cyc_everywhere.specs.Laws.{EachHasItsComponent, OthersStay, AllCameBack, OtherCpusStay, NothingIsLost};
 
 use cyc_types::Raise;

@@ -1,3 +1,5 @@
+//! A CPU takes part again, with its components.
+
 ghost use Rattle.std.specs.Prelude.{◌≡◌, ◌<◌, ◌≤◌, ℕ, [], ◌∷◌, Err, length, filter, map, slice_set, true};
 ghost use Rattle.cyc_types.specs.Series.{never};
 ghost use Rattle.cyc_model.specs.Refusals.{bad_now};

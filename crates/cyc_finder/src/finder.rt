@@ -1,3 +1,5 @@
+//! The map from ids to indexes.
+
 ghost use Rattle.std.specs.Prelude.{◌≡◌, ℕ, ◌%◌, ◌<◌, cond, eqb, IfOk, IfSome, None, Some, length};
 ghost use Rattle.cyc_types.specs.Limits.{cyclics};
 ghost use Rattle.cyc_finder.specs.Indexes.{index_of, IsIndexed, IsForgotten};

@@ -1,3 +1,5 @@
+//! The look-up by id among things by rising id.
+
 ghost use Rattle.std.specs.Prelude.{◌≡◌, ℕ, IfOk, IfErr};
 ghost use Rattle.cyc_finder.specs.Sorted.{Rises, IsAt, IsGap};
 

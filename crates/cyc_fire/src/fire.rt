@@ -1,3 +1,5 @@
+//! One fire: every expiration that is due, in order.
+
 ghost use Rattle.std.specs.Prelude.{◌≡◌, ℕ, ◌+◌, ◌<◌, ◌≤◌, ◌++◌, ◌∷◌, [], length, min, All, List, Some, IfOk, IfErr, OnOk, OnErr, IfNone, IfSome};
 ghost use Rattle.cyc_types.specs.Series.{due, next, never};
 ghost use Rattle.cyc_types.specs.Firing.{MayRaise, Sound};

@@ -1,3 +1,5 @@
+//! An entry of the heap, and which of two expires first.
+
 ghost use Rattle.std.specs.Prelude.{◌≡◌, ◌+◌, ◌*◌, ◌/◌, ◌%◌, ◌<◌, ◌≤◌, ◌^◌, ◌↔◌, true, length, IfSome, IfNone, ℕ, ◌≢◌};
 ghost use Rattle.std.specs.Bool.{OnTrue, OnFalse};
 ghost use Rattle.cyc_types.specs.Limits.{cyclics};

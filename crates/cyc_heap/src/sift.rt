@@ -1,3 +1,5 @@
+//! How an entry finds its place in the heap.
+
 ghost use Rattle.std.specs.Prelude.{◌≡◌, ◌≢◌, ℕ, ◌+◌, ◌*◌, ◌<◌, ◌≤◌, ◌⊎◌, true, length, slice_set, vec_capacity, Some};
 ghost use Rattle.cyc_expirations.specs.Expirations.{is_before};
 ghost use Rattle.cyc_types.specs.Limits.{cyclics};

@@ -1,3 +1,5 @@
+//! Worked runs of a heap.
+
 use cyc_heap::ExpiryHeap;
 use cyc_types::{CyclicId, Index, Moment};
 use std::process::Abort;

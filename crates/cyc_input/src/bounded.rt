@@ -1,3 +1,5 @@
+//! A reader that is asked at most so often.
+
 ghost use Rattle.std.specs.Prelude.{◌≡◌, ◌≤◌, ◌<◌, false, true, is_ok, if◌then◌else◌, IsErr, IfErr, OnOk};
 ghost use Rattle.cyc_input.specs.Turns.{most_turns, turn_after, IsWithin, Gives};
 

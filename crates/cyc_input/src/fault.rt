@@ -1,3 +1,5 @@
+//! Why an input was not read.
+
 ghost use Rattle.std.specs.Prelude.{◌≡◌};
 ghost use Rattle.cyc_input.specs.declared.fault.InputFault.TheVariants as fault;
 

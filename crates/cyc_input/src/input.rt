@@ -1,3 +1,5 @@
+//! The reading of an input to its end, or to a bound.
+
 ghost use Rattle.std.specs.Prelude.{◌≡◌, ◌≤◌, ◌<◌, ◌++◌, ◌⊎◌, List, ℕ, length, vec_len, false, IfOk, OnErr, OnOk};
 ghost use Rattle.std.specs.Io.KnownBytes.{Consumes};
 ghost use Rattle.cyc_input.specs.Input.{most_bytes, IsComplete, GrowsBy, is_read_fault, LosesAtMost};

@@ -1,3 +1,5 @@
+//! Readers that fail, are interrupted, or have too much.
+
 use cyc_input::{BoundedReader, InputFault, read_input};
 use std::alloc::Global;
 use std::io;

@@ -1,3 +1,5 @@
+//! The juggle of a CPU: each of its cyclics has its turn.
+
 ghost use Rattle.std.specs.Prelude.{◌≡◌, ℕ, ◌<◌, ◌≤◌, length, true, Some, None};
 ghost use Rattle.cyc_cpus.specs.Destination.{destination};
 ghost use Rattle.cyc_agreement.specs.System.{is_online, removal_on};

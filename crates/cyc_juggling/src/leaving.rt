@@ -1,3 +1,5 @@
+//! A CPU goes offline.
+
 ghost use Rattle.std.specs.Prelude.{◌≡◌, ℕ};
 ghost use Rattle.cyc_agreement.specs.Agreement.{Agrees};
 ghost use Rattle.cyc_agreement.specs.Holding.{EndedWithin};

@@ -1,3 +1,5 @@
+//! Whether the cyclics of a CPU may leave it.
+
 ghost use Rattle.std.specs.Prelude.{◌≡◌, ℕ, ◌<◌, length, true, Some, None, IfErr, OnOk};
 ghost use Rattle.cyc_model.specs.Refusals.{first_refusal};
 ghost use Rattle.cyc_places.specs.Places.{RecordsView};

@@ -1,3 +1,5 @@
+//! The components of omnipresent cyclics leave a CPU.
+
 ghost use Rattle.std.specs.Prelude.{◌≡◌, ℕ, ◌<◌, length, [], true, Some, None};
 ghost use Rattle.std.specs.Bool.{OnTrue, OnFalse};
 ghost use Rattle.std.specs.List.{FoldsTo};

@@ -1,3 +1,5 @@
+//! The turn of one cyclic in a juggle.
+
 ghost use Rattle.std.specs.Prelude.{◌≡◌, ℕ, ◌+◌, ◌<◌, length, true, false, Some, None};
 ghost use Rattle.std.specs.List.{slice_get};
 ghost use Rattle.cyc_places.specs.declared.record.Place.TheVariants.{On};

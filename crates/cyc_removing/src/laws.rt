@@ -1,3 +1,5 @@
+//! Laws of removals.
+
 ghost use Rattle.std.specs.Prelude.{◌≡◌, ◌≢◌, ℕ, Option, Some, None, Result, Ok};
 ghost use Rattle.cyc_types.specs.declared.receipt.Receipt.{Receipt};
 ghost use Rattle.cyc_types.specs.declared.refusal.Refusal.{Refusal};

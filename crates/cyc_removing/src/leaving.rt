@@ -1,3 +1,5 @@
+//! A removal on one CPU, with its record.
+
 ghost use Rattle.std.specs.Prelude.{◌≡◌, ◌<◌, ◌≤◌, ◌^◌, ℕ, List, length, slice_set, true, Some, None, Option};
 ghost use Rattle.cyc_cpu.specs.declared.removing.Removal.{Removal as TheRemoval};
 ghost use Rattle.cyc_places.specs.declared.record.Record.{Record};

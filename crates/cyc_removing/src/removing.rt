@@ -1,3 +1,5 @@
+//! A removal on all CPUs: its beginning and its polls.
+
 ghost use Rattle.std.specs.Prelude.{◌≡◌, ◌≢◌, ℕ, ◌<◌, ◌≤◌, ◌^◌, ◌*◌, List, length, map, sum_by, remove, true, false, None, IfNone};
 ghost use Rattle.std.specs.Option.{option_map};
 ghost use Rattle.cyc_types.specs.declared.refusal.Refusal.TheVariants.{Busy};

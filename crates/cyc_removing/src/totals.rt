@@ -1,3 +1,5 @@
+//! The counts of a cyclic over all CPUs and all stays.
+
 ghost use Rattle.std.specs.Prelude.{◌≡◌, ◌<◌, ◌≤◌, ◌*◌, ◌^◌, ℕ, List, map, length, sum_by};
 ghost use Rattle.cyc_cpus.specs.Cpus.{Works};
 ghost use Rattle.cyc_places.specs.declared.record.Record.{Record};

@@ -1,3 +1,5 @@
+//! What a closed ring says of each cyclic.
+
 ghost use Rattle.std.specs.Prelude.{◌≡◌, ◌≢◌, ℕ, ◌+◌, ◌%◌, ◌<◌, ◌≤◌, Some, slice_index};
 ghost use Rattle.cyc_types.specs.Limits.{cyclics, last_id};
 ghost use Rattle.ring_rule.specs.Words.{mark_bit};

@@ -1,3 +1,5 @@
+//! What the holder of a firing seat knows.
+
 ghost use Rattle.std.specs.Prelude.{◌≡◌, Some};
 ghost use Rattle.cyc_types.specs.Firing.{MayAsk, Sound, sent_of};
 ghost use Rattle.cyc_ring.specs.Ends.{seat_view};

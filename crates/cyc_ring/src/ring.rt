@@ -1,3 +1,5 @@
+//! The ring: its opening, the calls of its two seats, and its closing.
+
 ghost use Rattle.std.specs.Prelude.{◌≡◌};
 
 use crate::seats::{DrainSeat, RaiseSeat};

@@ -1,3 +1,5 @@
+//! The seats of a ring's two sides.
+
 ghost use Rattle.std.specs.Prelude.{◌≡◌, ◌≢◌, ℕ, ◌+◌, ◌-◌, ◌/◌, ◌%◌, ◌^◌, ◌<◌, ◌≤◌, [], None, slice_index, IfOk, IsSome};
 ghost use Rattle.cyc_types.specs.Limits.{cyclics, greatest_bank};
 ghost use Rattle.cyc_level.specs.Lawful.{IsId};

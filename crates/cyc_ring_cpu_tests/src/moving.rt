@@ -1,3 +1,5 @@
+//! A cyclic moves between two CPUs over rings.
+
 ghost use Rattle.std.specs.Prelude.{◌≡◌, ◌-◌, ◌^◌, IfOk, OnOk};
 
 use crate::help::{Counts, add, cpu, expect, fire, id, interrupts, level, report};

@@ -1,3 +1,5 @@
+//! A CPU over rings: growing, soft interrupts and removals.
+
 use crate::help::{Counts, add, expect, fire, id, interrupts, report};
 use cyc_cpu::Hard;
 use cyc_ring::DrainEnd;

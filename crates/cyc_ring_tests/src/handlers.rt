@@ -1,3 +1,5 @@
+//! Handlers that refuse their first call.
+
 ghost use Rattle.std.specs.Prelude.{◌≡◌, ℕ, ◌+◌, ◌∷◌, [], OnOk, OnErr};
 ghost use Rattle.cyc_types.specs.Counting.{times};
 ghost use Rattle.cyc_types.specs.Tally.{tally_count, tally_called};

@@ -1,3 +1,5 @@
+//! Rings, ids and books for the tests.
+
 ghost use Rattle.std.specs.Prelude.{IfOk};
 ghost use Rattle.cyc_ring.specs.Ends.{IsRaiseSeatOf, IsDrainSeatOf};
 

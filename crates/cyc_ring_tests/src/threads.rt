@@ -1,3 +1,5 @@
+//! A firing and a draining thread on one ring.
+
 ghost use Rattle.cyc_ring.specs.Ends.{IsRaiseSeatOf, IsDrainSeatOf};
 
 use crate::help::{Counts, book, expect, id, open};

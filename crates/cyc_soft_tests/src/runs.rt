@@ -1,3 +1,5 @@
+//! Worked soft interrupts of a plain level.
+
 use crate::handlers::{Handlers, PerLevel};
 use cyc_core::{Event, LevelCore};
 use cyc_soft::{Ran, SoftRefused, softint};

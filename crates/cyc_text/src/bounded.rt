@@ -1,3 +1,5 @@
+//! A writer that is asked at most so often.
+
 ghost use Rattle.std.specs.Prelude.{◌≡◌, ◌≤◌, IsErrAnd};
 ghost use Rattle.std.specs.IoError.{error_kind};
 ghost use Rattle.std.specs.Io.{WritesAtMost};

@@ -1,3 +1,5 @@
+//! The lines of a text, to the byte.
+
 ghost use Rattle.std.specs.Prelude.{◌≡◌, OnOk, string_bytes};
 ghost use Rattle.cyc_text.specs.Lines.{accepted, refused, fired, ran, removed, kept, shared, moved, cyclics_left, reported};
 

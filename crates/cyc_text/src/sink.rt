@@ -1,3 +1,5 @@
+//! What takes bytes, and what it tells of them.
+
 ghost use Rattle.std.specs.Prelude.{◌≡◌, ℕ, List, Option, Bool, true, is_ok, if◌then◌else◌};
 ghost use Rattle.cyc_text.specs.Puts.{Puts};
 

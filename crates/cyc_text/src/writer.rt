@@ -1,3 +1,5 @@
+//! A sink over any writer.
+
 ghost use Rattle.std.specs.Prelude.{◌≡◌, ◌≤◌, length, false, IfOk};
 ghost use Rattle.std.specs.Io.KnownBytes.{WriteAppends};
 ghost use Rattle.cyc_text.specs.Puts.{Puts};

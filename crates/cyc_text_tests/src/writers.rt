@@ -1,3 +1,5 @@
+//! Writers that fail, are interrupted, or take a part.
+
 use cyc_text::{BoundedWriter, Out, Sink};
 use std::io;
 use std::io::{BufWriter, ErrorKind, Write};

@@ -1,3 +1,5 @@
+//! The cyclics of one CPU: the heap, the records and the look-up by id, shown as one list of rows.
+
 ghost use Rattle.std.specs.Prelude.{◌≡◌, ◌≢◌, ℕ, ◌+◌, ◌-◌, ◌<◌, ◌≤◌, max, length, slice_index_or, slice_set, Some, None, IfOk, IfErr, OnOk, OnErr, IfNone, IfSome, All, [], insert, remove};
 ghost use Rattle.cyc_types.specs.Limits.{cyclics};
 ghost use Rattle.cyc_types.specs.Series.{never};

@@ -1,3 +1,5 @@
+//! The handlers, and the law that each call of one keeps.
+
 ghost use Rattle.std.specs.Prelude.{◌≡◌, ℕ, ◌+◌, ◌∷◌, [], OnOk, OnErr};
 ghost use Rattle.cyc_types.specs.Counting.{times};
 

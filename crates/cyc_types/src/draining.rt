@@ -1,3 +1,5 @@
+//! The soft side of a level, as a trait.
+
 ghost use Rattle.std.specs.Prelude.{◌≡◌, ℕ, ◌+◌, Option, IsSome, Some, None, IfSome};
 ghost use Rattle.cyc_types.specs.Draining.{DrainCall, Takes, Finishes, hand_after, one_of};
 

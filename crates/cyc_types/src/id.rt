@@ -1,3 +1,5 @@
+//! The ids of cyclics.
+
 ghost use Rattle.std.specs.Prelude.{◌≡◌, ℕ, ◌+◌, ◌-◌, ◌<◌, ◌≤◌, ◌↔◌, IsSome, IfSome, IfNone};
 ghost use Rattle.cyc_types.specs.Limits.{last_id};
 

@@ -1,3 +1,5 @@
+//! The limits, each in one place.
+
 ghost use Rattle.std.specs.Prelude.{◌≡◌};
 ghost use Rattle.cyc_types.specs.Limits.{greatest_bank, cyclics, last_id};
 ghost use Rattle.cyc_types.specs.Series.{late};

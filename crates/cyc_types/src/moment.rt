@@ -1,3 +1,5 @@
+//! Moments, intervals, and the closed forms of a series of expirations.
+
 ghost use Rattle.std.specs.Prelude.{◌≡◌, ℕ, ◌+◌, ◌*◌, ◌-◌, ◌<◌, ◌≤◌, ◌^◌, ◌⊎◌, min, pos, ◌<ℤ◌, ◌≤ℤ◌, MatchResult};
 ghost use Rattle.cyc_types.specs.Series.{never, first, due, next, IsFirstAbove};
 ghost use Rattle.cyc_types.specs.declared.refusal.Refusal.TheVariants.{BadWhen, BadInterval};

@@ -1,3 +1,5 @@
+//! What a removal answers.
+
 ghost use Rattle.std.specs.Prelude.{◌≡◌, ◌-◌, ◌≤◌};
 
 use crate::id::CyclicId;

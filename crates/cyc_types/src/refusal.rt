@@ -1,3 +1,5 @@
+//! All refusals, with their numbers and texts, and the report of a juggle.
+
 ghost use Rattle.std.specs.Prelude.{◌≡◌};
 ghost use Rattle.cyc_types.specs.Refusals.{number_of};
 ghost use Rattle.cyc_types.specs.declared.refusal.Refusal.TheVariants.{Memory};

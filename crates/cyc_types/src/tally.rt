@@ -1,3 +1,5 @@
+//! Handlers that count their calls.
+
 ghost use Rattle.std.specs.Prelude.{◌≡◌, ℕ, ◌+◌, ◌∷◌, [], IfOk, OnOk, OnErr, IsErr, ◌↔◌};
 ghost use Rattle.cyc_types.specs.Counting.{times};
 ghost use Rattle.cyc_types.specs.Tally.{tally_count, tally_get, tally_called, TallyRefuses, tally_made};

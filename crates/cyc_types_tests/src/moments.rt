@@ -1,3 +1,5 @@
+//! Worked moments, intervals and series.
+
 use cyc_types::{Interval, Moment, Refusal, When, due, next};
 use std::process::Abort;
 

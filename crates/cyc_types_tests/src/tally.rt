@@ -1,3 +1,5 @@
+//! A tally's bounds.
+
 use cyc_types::{Calls, CyclicId, Level, Tally};
 use std::process::Abort;
 

@@ -1,3 +1,5 @@
+//! The texts of refusals.
+
 use cyc_types::{CyclicId, JuggleReport, Refusal};
 use std::alloc::{AllocError, AllocFailed};
 use std::process::Abort;

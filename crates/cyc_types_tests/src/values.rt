@@ -1,3 +1,5 @@
+//! Ids, ceilings and indexes at their bounds.
+
 use cyc_types::{CYCLICS, Ceiling, CyclicId, GREATEST_BANK, Index, LAST_ID, Level, Soft};
 
 fn id_of(number: u64) -> Option<u64> {

@@ -1,3 +1,5 @@
+//! Questions to a CPU from C, and another moment for a cyclic.
+
 ghost use Rattle.std.specs.Prelude.{◌≡◌};
 ghost use Rattle.cyclic_c.specs.Border.{AsksPending, AsksTotals, Reprograms, BeginsRemoval};
 

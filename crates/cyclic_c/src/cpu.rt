@@ -1,3 +1,5 @@
+//! A CPU with the calls that its user has in hand.
+
 ghost use Rattle.std.specs.Prelude.{◌≡◌};
 
 use cyc_core::LevelCore;

@@ -1,3 +1,5 @@
+//! The exports that open, close and drain a CPU on one thread.
+
 ghost use Rattle.std.specs.Prelude.{◌≡◌};
 ghost use Rattle.cyclic_c.specs.Border.{Through};
 ghost use Rattle.cyclic_c.specs.Exports.{Opens, Closes, ReprogramsOut, AddsOut, PendingOut, TotalsOut, PollsOut, TakesOut, FinishesOut, FiresOut, RemovesOut, NextOut, named_by, kept_by, IsRemoved, OnHard};

@@ -1,3 +1,5 @@
+//! The exports of the firing side.
+
 ghost use Rattle.std.specs.Prelude.{◌≡◌};
 ghost use Rattle.cyclic_c.specs.Border.{Through};
 ghost use Rattle.cyclic_c.specs.Exports.{ReprogramsOut, AddsOut, PendingOut, TotalsOut, PollsOut, FiresOut, RemovesOut, NextOut};

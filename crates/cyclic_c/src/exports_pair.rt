@@ -1,3 +1,5 @@
+//! The exports that open and close a CPU between threads.
+
 ghost use Rattle.std.specs.Prelude.{◌≡◌};
 ghost use Rattle.cyclic_c.specs.Border.{Through};
 ghost use Rattle.cyclic_c.specs.PairOut.{OpensPair, ClosesPair, OneOpen, TakesSoft, FinishesSoft, BookOut, ClosesHandle};

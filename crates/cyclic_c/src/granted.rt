@@ -1,3 +1,5 @@
+//! Handlers that the caller has already called.
+
 ghost use Rattle.std.specs.Prelude.{◌≡◌, ℕ, ◌+◌, ◌<◌, ◌∷◌, [], OnOk, OnErr, IsErr, ◌↔◌};
 ghost use Rattle.cyc_types.specs.Counting.{times};
 ghost use Rattle.cyclic_c.specs.Granted.{granted_count, granted_called, GrantedRefuses};

@@ -1,3 +1,5 @@
+//! The handle of a CPU on one thread.
+
 ghost use Rattle.std.specs.Prelude.{◌≡◌, Some, None, IsSome, IfSome, IfNone, IsTrue, ◌↔◌};
 
 use crate::cpu::Cpu;

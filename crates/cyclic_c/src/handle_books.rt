@@ -1,3 +1,5 @@
+//! The handle of the books.
+
 ghost use Rattle.std.specs.Prelude.{◌≡◌, Some, None, IsSome, IfSome, IfNone, IsTrue, ◌↔◌};
 
 use crate::loose::Loose;

@@ -1,3 +1,5 @@
+//! The handle of a soft side.
+
 ghost use Rattle.std.specs.Prelude.{◌≡◌, Some, None, IsSome, IfSome, IfNone, IsTrue, ◌↔◌};
 
 use crate::loose::Loose;

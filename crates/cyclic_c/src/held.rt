@@ -1,3 +1,5 @@
+//! The firing side of a ring whose soft side another thread has.
+
 ghost use Rattle.std.specs.Prelude.{◌≡◌, ◌≢◌, Some, None};
 ghost use Rattle.std.specs.Option.{ForSome};
 ghost use Rattle.cyc_ring.specs.Ends.{IsRaiseSeatOf};

@@ -1,4 +1,5 @@
-// A box as its pointer.
+//! A box as its pointer.
+
 ghost use Rattle.std.specs.Prelude.{◌≡◌};
 ghost use Rattle.std.specs.Box.Ownership.{box_owns};
 

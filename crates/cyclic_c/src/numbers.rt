@@ -1,3 +1,5 @@
+//! The refusals as numbers.
+
 ghost use Rattle.std.specs.Prelude.{◌≡◌, IsSome, IfSome};
 ghost use Rattle.cyclic_c.specs.Numbers.{number_of, answer_of, id_in, level_named, soft_named};
 ghost use Rattle.cyclic_c.specs.declared.numbers.Denied.TheVariants as denied;

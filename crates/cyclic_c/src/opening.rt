@@ -1,3 +1,5 @@
+//! The opening of a CPU over plain levels.
+
 ghost use Rattle.std.specs.Prelude.{◌≡◌, None, IfOk, IfErr};
 ghost use Rattle.cyc_types.specs.declared.refusal.Refusal.TheVariants.{Memory};
 ghost use Rattle.cyclic_c.specs.Opening.{IsNew};

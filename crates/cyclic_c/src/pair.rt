@@ -1,3 +1,5 @@
+//! A CPU between threads: its firing side, its soft sides and its books.
+
 ghost use Rattle.std.specs.Prelude.{◌≡◌, None, IfSome, IfOk, IfErr};
 ghost use Rattle.cyc_types.specs.declared.refusal.Refusal.TheVariants.{Memory};
 ghost use Rattle.cyclic_c.specs.Pair.{FiresSide, IsNewPair, IsClosedOf, SameRings};

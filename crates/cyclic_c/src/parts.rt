@@ -1,3 +1,5 @@
+//! The law that parts of a fire are one fire.
+
 ghost use Rattle.std.specs.Prelude.{ℕ, ◌<◌, List, [], ◌∷◌, ◌++◌, All, Option, None, Result, Ok};
 ghost use Rattle.std.specs.List.{FoldsTo};
 ghost use Rattle.cyc_types.specs.Series.{never};

@@ -1,3 +1,5 @@
+//! The records that cross the border.
+
 ghost use Rattle.std.specs.Prelude.{◌≡◌};
 ghost use Rattle.cyclic_c.specs.Records.{IsFired, IsRefused, IsTotals, IsReceipt, IsBookOut};
 

@@ -1,3 +1,5 @@
+//! Boxed books behind a pointer.
+
 ghost use Rattle.std.specs.Prelude.{◌≡◌, Option, Some, None, IsSome};
 ghost use Rattle.cyclic_c.specs.Owns.{owned};
 ghost use Rattle.cyclic_c.specs.declared.pair.Books.{Books};

@@ -1,3 +1,5 @@
+//! One soft side of a CPU between threads.
+
 ghost use Rattle.std.specs.Prelude.{◌≡◌, ◌≢◌, None};
 ghost use Rattle.std.specs.Option.{ForSome};
 ghost use Rattle.cyc_ring.specs.Ends.{IsDrainSeatOf};

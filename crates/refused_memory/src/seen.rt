@@ -1,3 +1,5 @@
+//! What came of a call that may ask for memory.
+
 use cyc_types::Refusal;
 use std::fmt::{self, Display, Formatter, Write};
 

@@ -1,3 +1,5 @@
+//! The words of a ring: opened, split, joined and closed.
+
 ghost use Rattle.std.specs.Prelude.{◌≡◌, ℕ, ◌<◌, ◌^◌, IfOk, length, slice_index};
 ghost use Rattle.ring_rule.specs.Words.{word_count, first_word};
 
