@@ -2,8 +2,7 @@
 #![tactic(auto)]
 
 use cyc_core::LevelCore;
-use cyc_script_machine::begin;
-use cyc_system::System;
+use cyc_script_machine::{System, begin};
 use cyc_types::{Ceiling, CyclicId, Level, Moment, Refusal, Soft, Tally, When};
 use std::alloc::Global;
 

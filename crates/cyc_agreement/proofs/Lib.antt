@@ -12,3 +12,6 @@ pub mod Destinations
 pub mod Beginning
 pub mod Removals
 pub mod Holding
+pub use Rattle.cyc_cpus.proofs.Choices
+pub use Rattle.cyc_cpus.proofs.Spots as CpuSpots
+pub use Rattle.cyc_cpus.proofs.Shifts

@@ -2,9 +2,9 @@
 use Rattle.std.proofs.Common.{◌≡◌, ◌≢◌, ℕ, inl, inr, true, false, Some, None, Ok, Err, List, [], ◌∷◌, ◌++◌, refl, sym, ap, ◌∙◌}
 use Rattle.std.specs.Option.{option_and_then}
 use Rattle.cyc_types.specs.Firing.{FiringView, FiringCall}
-use Rattle.cyc_cpu.specs.Cpu.{CpuView}
-use Rattle.cyc_cpu.specs.Law.{IsLawful}
-use Rattle.cyc_cpu.specs.Calls.{CpuCall, Changes, Fire, SoftInterrupt, Add, Place, Reprogram, AskPending, AskTotals, AskRoom, Reserve, Widen, BeginRemove, PollRemove, TakeNow, AskSettled}
+use Rattle.cyc_cpus.specs.Cpu.{CpuView}
+use Rattle.cyc_cpus.specs.Law.{IsLawful}
+use Rattle.cyc_cpus.specs.Calls.{CpuCall, Changes, Fire, SoftInterrupt, Add, Place, Reprogram, AskPending, AskTotals, AskRoom, Reserve, Widen, BeginRemove, PollRemove, TakeNow, AskSettled}
 use Rattle.cyc_cpus.specs.Cpus.{CpusView, CallOn, IsCpu, DoesAt, Works}
 use Rattle.std.specs.List.{slice_get, list_any}
 use Rattle.cyc_agreement.specs.System.{has, removal_on, is_leaving_here}

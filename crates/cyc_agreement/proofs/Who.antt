@@ -9,17 +9,17 @@ use mathlib.Core.Logic.{dite}
 use native.Mathlib.Decide.{ℕ_discrete}
 use Rattle.cyc_types.specs.Firing.{FiringView, FiringCall}
 use Rattle.cyc_types.specs.declared.refusal.Refusal.{Refusal}
-use Rattle.cyc_timers.specs.Rows.{Cyclic, timers}
-use Rattle.cyc_cpu.specs.Cpu.{CpuView, IsCyclic, with_moment, Asks, Looked, Reserves, Widens, Places}
-use Rattle.cyc_cpu.specs.Cpu.{Running}
-use Rattle.cyc_cpu.specs.Soft.{SoftKept}
-use Rattle.cyc_cpu.specs.Calls.{Changes, Does, Reserve, Fire, Reprogram}
+use Rattle.cyc_cpus.specs.Rows.{Cyclic, timers}
+use Rattle.cyc_cpus.specs.Cpu.{CpuView, IsCyclic, with_moment, Asks, Looked, Reserves, Widens, Places}
+use Rattle.cyc_cpus.specs.Cpu.{Running}
+use Rattle.cyc_cpus.specs.Soft.{SoftKept}
+use Rattle.cyc_cpus.specs.Calls.{Changes, Does, Reserve, Fire, Reprogram}
 use Rattle.cyc_types.specs.declared.level.Level.{Level}
 use Rattle.cyc_types.specs.declared.level.Soft.{Soft}
 use Rattle.cyc_soft.specs.declared.Ran.{Ran}
 use Rattle.cyc_soft.specs.declared.SoftRefused.{SoftRefused}
-use Rattle.cyc_fire.specs.declared.fire.Fired.{Fired}
-use Rattle.cyc_fire.specs.declared.fire.FireRefused.{FireRefused}
+use Rattle.cyc_cpus.specs.Fired.{Fired}
+use Rattle.cyc_cpus.specs.FireRefused.{FireRefused}
 use Rattle.cyc_expirations.specs.Expirations as expire
 use Rattle.cyc_expirations.specs.Expirations.{Expiration, expirations, all_after}
 use Rattle.cyc_expirations.specs.Timers.{Timer}

@@ -4,3 +4,7 @@ pub mod Holding
 pub mod Refusals
 pub mod Adding
 pub mod Binding
+pub use Rattle.cyc_cpus.specs.Cpus
+pub use Rattle.cyc_cpus.specs.Destination
+pub use Rattle.cyc_cpus.specs.Reserving
+pub use Rattle.cyc_cpus.specs.Shifting

@@ -4,4 +4,5 @@
 
 mod finding;
 
+pub use cyc_cpus::Cpus;
 pub use finding::{is_leaving, is_leaving_at};

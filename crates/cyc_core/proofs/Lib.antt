@@ -4,3 +4,5 @@ pub mod FiringLaws
 pub mod DrainingLaws
 pub mod PlaceLaws
 pub mod Idle
+pub use Rattle.cyc_level.proofs.Keeps
+pub use Rattle.cyc_level.proofs.Maps

@@ -4,3 +4,7 @@ pub mod FiringSide
 pub mod DrainingSide
 pub mod Showing
 pub mod Shown
+pub use Rattle.cyc_level.specs.declared.Event
+pub use Rattle.cyc_level.specs.Events
+pub use Rattle.cyc_level.specs.Lawful
+pub use Rattle.cyc_level.specs.Level

@@ -11,7 +11,7 @@ use Rattle.cyc_types.specs.Firing.{FiringView, FiringCall, Admits, Expands, Lear
 use Rattle.cyc_types.specs.Runs.{Goes}
 use Rattle.cyc_types.specs.declared.level.Level.{Level}
 use Rattle.cyc_types.specs.declared.level.Level.TheVariants as level
-use Rattle.cyc_timers.specs.Rows.{Row, IsRow, HasNo, cyclic_of}
+use Rattle.cyc_fire.specs.Rows.{Row, IsRow, HasNo, cyclic_of}
 use Rattle.cyc_cpu.specs.Cpu.{HasCounts}
 use Rattle.cyc_fire.specs.Acts.{same_level}
 use Rattle.cyc_fire.specs.Ends.{HasStay, HasRow, IsEnd, IsCounted, IsHard}

@@ -22,15 +22,15 @@ use Rattle.cyc_types.specs.declared.moment.When.{When}
 use Rattle.cyc_types.specs.declared.refusal.Refusal.{Refusal}
 use Rattle.cyc_types.specs.declared.refusal.Refusal.TheVariants as why
 use Rattle.cyc_types.specs.declared.level.Soft.TheVariants as soft_level
-use Rattle.cyc_level.specs.Level.{Cyclic as Admission, Level as Model, count, count_in, place_count}
-use Rattle.cyc_level.specs.Lawful.{Lawful, one_if_any}
-use Rattle.cyc_level.specs.declared.Event.TheVariants.{Clear}
+use Rattle.cyc_core.specs.Level.{Cyclic as Admission, Level as Model, count, count_in, place_count}
+use Rattle.cyc_core.specs.Lawful.{Lawful, one_if_any}
+use Rattle.cyc_core.specs.Event.TheVariants.{Clear}
 use Rattle.cyc_core.specs.Reached.{Happens}
 use Rattle.cyc_core.specs.Tables.{Tables, level_of}
 use Rattle.cyc_core.specs.FiringSide.{stay_of}
-use Rattle.cyc_expirations.specs.Expirations.{Expiration, all_after, expirations, times_of}
-use Rattle.cyc_expirations.specs.Timers.{Timer}
-use Rattle.cyc_timers.specs.Rows.{Cyclic, timers}
+use Rattle.cyc_fire.specs.Expirations.{Expiration, all_after, expirations, times_of}
+use Rattle.cyc_fire.specs.Timers.{Timer}
+use Rattle.cyc_fire.specs.Rows.{Cyclic, timers}
 use Rattle.cyc_cpu.specs.declared.removing.Removal.TheVariants.{Done, Kept}
 use Rattle.cyc_fire.specs.Acts.{AreRaises, is_of, timer_of}
 use Rattle.cyc_fire.specs.Shares.{share}

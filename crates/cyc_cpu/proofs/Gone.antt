@@ -10,10 +10,10 @@ use Rattle.cyc_types.specs.Firing.{FiringCall, Admits, Loads, Raises, Marks, Pol
 use Rattle.cyc_types.specs.Draining.{DrainCall, Takes, Finishes, hand_after}
 use Rattle.cyc_types.specs.Runs.{Goes, DrainGoes}
 use Rattle.cyc_types.specs.declared.firing.Raised.TheVariants.{First, More, Lost}
-use Rattle.cyc_level.specs.declared.Event.TheVariants.{Admit, Expire, Lose, Publish, Take, Finish, Mark, Clear, Switch, Follow}
-use Rattle.cyc_level.specs.Level.{Cyclic, Level, count, soft_list, times_in, in_hand}
-use Rattle.cyc_level.specs.Events.{admitted_cyclic, cyclic_after_expire, cyclic_after_lose, cyclic_after_finish, hand_after_expire, hand_after_finish, as_list, first_of, rest_of, after_finish}
-use Rattle.cyc_level.proofs.Maps.{hand_here, hand_else, times_append}
+use Rattle.cyc_core.specs.Event.TheVariants.{Admit, Expire, Lose, Publish, Take, Finish, Mark, Clear, Switch, Follow}
+use Rattle.cyc_core.specs.Level.{Cyclic, Level, count, soft_list, times_in, in_hand}
+use Rattle.cyc_core.specs.Events.{admitted_cyclic, cyclic_after_expire, cyclic_after_lose, cyclic_after_finish, hand_after_expire, hand_after_finish, as_list, first_of, rest_of, after_finish}
+use Rattle.cyc_core.proofs.Maps.{hand_here, hand_else, times_append}
 use Rattle.cyc_core.specs.Reached.{Happens}
 use Rattle.cyc_core.specs.Tables.{Tables, level_of}
 use Rattle.cyc_core.specs.FiringSide.{Fires}

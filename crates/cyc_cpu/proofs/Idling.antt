@@ -4,11 +4,11 @@ use Rattle.std.specs.Prelude.{Result, Ok, Err, IfOk}
 use Rattle.std.specs.List.{FoldsTo}
 use Rattle.cyc_types.specs.Draining.{DrainCall, Takes, Finishes}
 use Rattle.cyc_types.specs.Runs.{DrainGoes}
-use Rattle.cyc_level.specs.declared.Event.{Event}
-use Rattle.cyc_level.specs.declared.Event.TheVariants.{Finish}
-use Rattle.cyc_level.specs.Level.{Level}
-use Rattle.cyc_level.specs.Lawful.{Lawful}
-use Rattle.cyc_level.proofs.Keeps.{keeps_law}
+use Rattle.cyc_core.specs.Event.{Event}
+use Rattle.cyc_core.specs.Event.TheVariants.{Finish}
+use Rattle.cyc_core.specs.Level.{Level}
+use Rattle.cyc_core.specs.Lawful.{Lawful}
+use Rattle.cyc_core.proofs.Keeps.{keeps_law}
 use Rattle.cyc_core.specs.Reached.{Happens}
 use Rattle.cyc_core.specs.Tables.{Tables, level_of}
 use Rattle.cyc_core.specs.DrainingSide.{Drains, take_events}

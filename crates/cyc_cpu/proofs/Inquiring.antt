@@ -4,7 +4,7 @@ use Rattle.cyc_types.specs.Firing.{FiringView, FiringCall, Loads, Looks, Learns,
 use Rattle.cyc_types.specs.Runs.{Goes}
 use Rattle.cyc_types.specs.declared.level.Level.{Level}
 use Rattle.cyc_types.specs.declared.level.Level.TheVariants as level
-use Rattle.cyc_timers.specs.Rows.{Row, IsRow, IsRising, vacant_row}
+use Rattle.cyc_fire.specs.Rows.{Row, IsRow, IsRising, vacant_row}
 use Rattle.std.specs.Prelude.{is_some, ◌⊎◌}
 use Rattle.std.specs.Bool.{OnTrue, OnFalse}
 use Rattle.cyc_cpu.specs.Cpu.{CpuView}

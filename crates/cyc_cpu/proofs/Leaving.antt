@@ -12,7 +12,7 @@ use Rattle.cyc_types.specs.Runs.{Goes}
 use Rattle.cyc_types.specs.declared.firing.Sent.{Sent}
 use Rattle.cyc_types.specs.declared.level.Level.{Level}
 use Rattle.cyc_types.specs.declared.level.Level.TheVariants as level
-use Rattle.cyc_timers.specs.Rows.{Row, Cyclic, IsRow, IsRising, at_moment, cyclic_of, cyclics_of}
+use Rattle.cyc_fire.specs.Rows.{Row, Cyclic, IsRow, IsRising, at_moment, cyclic_of, cyclics_of}
 use Rattle.cyc_fire.specs.Acts.{same_level}
 use Rattle.cyc_fire.specs.Ends.{HasRow, IsEnd, IsCounted, IsHard}
 use Rattle.cyc_fire.specs.Quiet.{KeepsStays}

@@ -6,9 +6,9 @@ use Rattle.std.specs.List.{FoldsTo}
 use Rattle.cyc_types.specs.Firing.{FiringView, Stay}
 use Rattle.cyc_types.specs.Draining.{DrainCall, Takes, Finishes}
 use Rattle.cyc_types.specs.Runs.{DrainGoes}
-use Rattle.cyc_level.specs.declared.Event.TheVariants.{Take, Finish, Follow}
-use Rattle.cyc_level.specs.Level.{Cyclic, Level}
-use Rattle.cyc_level.specs.Events.{cyclic_after_finish, after_finish}
+use Rattle.cyc_core.specs.Event.TheVariants.{Take, Finish, Follow}
+use Rattle.cyc_core.specs.Level.{Cyclic, Level}
+use Rattle.cyc_core.specs.Events.{cyclic_after_finish, after_finish}
 use Rattle.cyc_core.specs.Reached.{Happens}
 use Rattle.cyc_core.specs.Tables.{Tables, level_of}
 use Rattle.cyc_core.specs.FiringSide.{stay_of, firing_view}

@@ -10,3 +10,6 @@ pub mod Losses
 pub mod Law
 pub mod Calls
 pub mod Gone
+pub use Rattle.cyc_fire.specs.declared.fire.FireRefused
+pub use Rattle.cyc_fire.specs.declared.fire.Fired
+pub use Rattle.cyc_fire.specs.Rows

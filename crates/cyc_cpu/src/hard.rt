@@ -6,17 +6,16 @@ ghost use Rattle.cyc_types.specs.Limits.{cyclics};
 ghost use Rattle.cyc_types.specs.declared.level.Level.TheVariants.{Low, Lock};
 ghost use Rattle.cyc_types.specs.Series.{never, first};
 ghost use Rattle.cyc_types.specs.declared.refusal.Refusal.TheVariants.{Memory, BadNow, NoCyclic};
-ghost use Rattle.cyc_expirations.specs.Timers.{earliest, IsSound};
-ghost use Rattle.cyc_expirations.specs.Expirations.{Expiration, expirations};
-ghost use Rattle.cyc_timers.specs.Rows.{Cyclic, timers};
+ghost use Rattle.cyc_fire.specs.Timers.{earliest, IsSound};
+ghost use Rattle.cyc_fire.specs.Expirations.{Expiration, expirations};
+ghost use Rattle.cyc_fire.specs.Rows.{Cyclic, timers};
 ghost use Rattle.cyc_cpu.specs.Law.{IsLawful};
 ghost use Rattle.cyc_cpu.specs.Losses.{IsSparedAt};
 ghost use Rattle.cyc_cpu.specs.Cpu.{running, seen_at, IsFresh, HasNoCyclic, Asks, MayWiden, Enters};
 ghost use Rattle.cyc_cpu.specs.Calls.{Changes, Does, no_interrupts, Fire, Add, Reprogram, AskPending, AskTotals, AskRoom, Reserve, Widen};
 
 use crate::ends::{both_followed, least_bank, load_pend, places_of};
-use cyc_fire::{FireRefused, Fired, fire_all};
-use cyc_timers::{Record, Table};
+use cyc_fire::{FireRefused, Fired, Record, Table, fire_all};
 use cyc_types::{CYCLICS, Calls, CyclicId, Interval, Level, Moment, Raise, Refusal, Sent, When};
 use std::alloc::Global;
 use std::marker::Model;
@@ -43,7 +42,7 @@ pub struct Hard<R: Raise> {
 }
 
 impl<R: Raise> Model for Hard<R> {
-    ghost use Rattle.cyc_timers.specs.Rows.{cyclics_of};
+    ghost use Rattle.cyc_fire.specs.Rows.{cyclics_of};
     ghost use Rattle.cyc_cpu.specs.Cpu.{CpuView};
     ghost use Rattle.cyc_fire.specs.Ends.{IsHard};
 

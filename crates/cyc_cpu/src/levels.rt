@@ -4,7 +4,7 @@ ghost use Rattle.std.specs.Prelude.{ℕ, List, All};
 ghost use Rattle.std.specs.List.{FoldsTo};
 ghost use Rattle.cyc_core.specs.Tables.{Tables, level_of};
 ghost use Rattle.cyc_core.specs.Reached.{IsReached};
-ghost use Rattle.cyc_level.specs.Lawful.{Lawful};
+ghost use Rattle.cyc_core.specs.Lawful.{Lawful};
 ghost use Rattle.cyc_cpu.specs.Cpu.{CpuView, Running};
 ghost use Rattle.cyc_cpu.specs.Calls.{CpuCall, Does};
 ghost use Rattle.cyc_cpu.specs.Soft.{fires, firing_at, Interrupts};

@@ -4,7 +4,7 @@ use Rattle.cyc_types.specs.Firing.{FiringView, FiringCall, Looks}
 use Rattle.cyc_types.specs.Runs.{Goes}
 use Rattle.cyc_types.specs.declared.refusal.Refusal.{Refusal}
 use Rattle.cyc_types.specs.declared.refusal.Refusal.TheVariants as why
-use Rattle.cyc_fire.specs.Quiet.{OnlyLooks}
+use Rattle.cyc_cpu.specs.Quiet.{OnlyLooks}
 use Rattle.cyc_cpu.specs.Cpu.{CpuView, Looked, HasRoom, WhyNotReserved}
 
 module _ {R : Type 0} (step : R → FiringCall → R → Type 0) (view : R → FiringView) where

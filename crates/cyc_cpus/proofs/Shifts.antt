@@ -7,7 +7,7 @@ use Rattle.cyc_cpu.specs.Calls.{Changes, AskPending}
 use Rattle.cyc_types.specs.Firing.{FiringView, FiringCall}
 use Rattle.cyc_types.specs.declared.refusal.Refusal.{Refusal}
 use Rattle.cyc_types.specs.declared.refusal.Refusal.TheVariants as why
-use Rattle.cyc_timers.specs.Rows.{Cyclic}
+use Rattle.cyc_cpu.specs.Rows.{Cyclic}
 use Rattle.std.specs.Prelude.{List}
 use Rattle.cyc_cpu.specs.Cpu.{CpuView, HasNoCyclic}
 use Rattle.cyc_cpu.specs.Removal.{HasCyclic}

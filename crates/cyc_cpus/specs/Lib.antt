@@ -3,3 +3,12 @@ pub mod Destination
 pub mod Shifting
 pub mod Reserving
 pub mod Ids
+pub use Rattle.cyc_cpu.specs.Calls
+pub use Rattle.cyc_cpu.specs.Cpu
+pub use Rattle.cyc_cpu.specs.FireRefused
+pub use Rattle.cyc_cpu.specs.Fired
+pub use Rattle.cyc_cpu.specs.Law
+pub use Rattle.cyc_cpu.specs.Removal
+pub use Rattle.cyc_cpu.specs.Rows
+pub use Rattle.cyc_cpu.specs.Soft
+pub use Rattle.cyc_cpu.specs.declared.moving.Taken

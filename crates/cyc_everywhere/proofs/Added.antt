@@ -9,8 +9,8 @@ use Rattle.cyc_model.specs.Refusals.{first_refusal, bad_now}
 use Rattle.cyc_places.specs.declared.record.Place.TheVariants.{Everywhere}
 use Rattle.cyc_places.specs.declared.record.Record.{Record}
 use Rattle.cyc_places.specs.Places.{new_record, no_counts}
-use Rattle.cyc_cpus.specs.Cpus.{CpusView, IsCpu, online_cpus, numbers_from, Works}
-use Rattle.cyc_cpus.specs.Reserving.{ReservesEach}
+use Rattle.cyc_agreement.specs.Cpus.{CpusView, IsCpu, online_cpus, numbers_from, Works}
+use Rattle.cyc_agreement.specs.Reserving.{ReservesEach}
 use Rattle.cyc_agreement.specs.System.{SystemView}
 use Rattle.cyc_agreement.specs.Agreement.{Agrees}
 use Rattle.cyc_agreement.specs.Refusals.{Unless, ids_spent}

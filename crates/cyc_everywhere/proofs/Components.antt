@@ -9,8 +9,8 @@ use native.Mathlib.Decide.{ℕ_discrete}
 use Rattle.cyc_types.specs.Firing.{FiringView, FiringCall}
 use Rattle.cyc_timers.specs.Rows.{Cyclic}
 use Rattle.cyc_cpu.specs.Cpu.{CpuView, HasRisingIds, Places}
-use Rattle.cyc_cpus.specs.Cpus.{CpusView, ChangesAt}
-use Rattle.cyc_cpus.proofs.Spots.{get_set_other, cpu_there}
+use Rattle.cyc_agreement.specs.Cpus.{CpusView, ChangesAt}
+use Rattle.cyc_agreement.proofs.CpuSpots.{get_set_other, cpu_there}
 use Rattle.cyc_agreement.proofs.Lists.{among, true_eq, false_ne, false_true}
 use Rattle.cyc_everywhere.specs.Laws.{Here, HasOne}
 

@@ -12,8 +12,8 @@ use Rattle.cyc_cpu.specs.Law.{IsLawful}
 use Rattle.cyc_cpu.specs.Calls.{Changes, Reserve, Widen}
 use Rattle.cyc_places.specs.declared.record.Record.{Record}
 use Rattle.cyc_places.specs.Places.{HasRisingIds, no_counts, with_ended}
-use Rattle.cyc_cpus.specs.Cpus.{CpusView, IsCpu, with_cpu, on, DoesAt, Works}
-use Rattle.cyc_cpus.proofs.Spots.{one_cpu, cpu_there, changed}
+use Rattle.cyc_agreement.specs.Cpus.{CpusView, IsCpu, with_cpu, on, DoesAt, Works}
+use Rattle.cyc_agreement.proofs.CpuSpots.{one_cpu, cpu_there, changed}
 use Rattle.cyc_agreement.specs.System.{SystemView, is_online}
 use Rattle.cyc_agreement.specs.Agreement.{Agrees}
 use Rattle.cyc_agreement.specs.Refusals.{Unless, no_cpu}

@@ -4,8 +4,8 @@ use Rattle.cyc_types.specs.Firing.{FiringView, FiringCall}
 use Rattle.cyc_types.specs.declared.refusal.Refusal.{Refusal}
 use Rattle.cyc_cpu.specs.Cpu.{CpuView}
 use Rattle.cyc_cpu.specs.Calls.{CpuCall, Changes, AskRoom, Reserve, Widen}
-use Rattle.cyc_cpus.specs.Cpus.{CpusView, CallOn, on, Works}
-use Rattle.cyc_cpus.specs.Reserving.{rooms, reserves, ReservesEach}
+use Rattle.cyc_agreement.specs.Cpus.{CpusView, CallOn, on, Works}
+use Rattle.cyc_agreement.specs.Reserving.{rooms, reserves, ReservesEach}
 use Rattle.cyc_everywhere.proofs.Components.{cyclics_on, are_same}
 use Rattle.cyc_agreement.proofs.Who.{SameIds, SameWho, same_none, same_then, same_changed, same_looked, same_reserve, same_widened}
 

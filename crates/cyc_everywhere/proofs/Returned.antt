@@ -17,8 +17,8 @@ use Rattle.cyc_places.specs.declared.record.Place.{Place}
 use Rattle.cyc_places.specs.declared.record.Place.TheVariants.{On, Everywhere}
 use Rattle.cyc_places.specs.declared.record.Record.{Record}
 use Rattle.cyc_places.specs.Places.{ended_on}
-use Rattle.cyc_cpus.specs.Cpus.{CpusView, IsCpu, with_cpu, ChangesAt, DoesAt, Works}
-use Rattle.cyc_cpus.proofs.Spots.{get_set_other, cpu_there, one_cpu, changed}
+use Rattle.cyc_agreement.specs.Cpus.{CpusView, IsCpu, with_cpu, ChangesAt, DoesAt, Works}
+use Rattle.cyc_agreement.proofs.CpuSpots.{get_set_other, cpu_there, one_cpu, changed}
 use Rattle.cyc_agreement.specs.System.{ids_of, ids_on, has, removal_on, is_everywhere, is_leaving_here}
 use Rattle.cyc_agreement.specs.Agreement.{most_on}
 use Rattle.cyc_agreement.proofs.Lists.{among, true_eq, false_ne, false_true}

@@ -10,7 +10,7 @@ use Rattle.cyc_cpu.specs.Cpu.{CpuView, IsCyclic, new_cyclic, cyclic_with}
 use Rattle.cyc_places.specs.declared.record.Place.TheVariants.{Everywhere}
 use Rattle.cyc_places.specs.declared.record.Record.{Record}
 use Rattle.cyc_places.specs.Places.{IsRecord, HasRisingIds, ended_on}
-use Rattle.cyc_cpus.specs.Cpus.{IsCpu, OfCpu}
+use Rattle.cyc_agreement.specs.Cpus.{IsCpu, OfCpu}
 use Rattle.cyc_agreement.specs.System.{SystemView, is_online}
 use Rattle.cyc_agreement.specs.Agreement.{Agrees}
 use Rattle.cyc_everywhere.specs.Omni.{component_first, AddsOmni}

@@ -12,7 +12,7 @@ use Rattle.cyc_places.specs.declared.record.Place.{Place}
 use Rattle.cyc_places.specs.declared.record.Place.TheVariants.{On, Everywhere}
 use Rattle.cyc_places.specs.declared.record.Record.{Record}
 use Rattle.cyc_places.specs.Places.{no_counts, ended_on, with_ended}
-use Rattle.cyc_cpus.specs.Cpus.{CpusView, CallOn, on, Works}
+use Rattle.cyc_agreement.specs.Cpus.{CpusView, CallOn, on, Works}
 use Rattle.cyc_agreement.specs.System.{SystemView, is_online, is_everywhere, is_leaving_here}
 use Rattle.cyc_agreement.specs.Adding.{OnlyWorks}
 use Rattle.cyc_everywhere.specs.Omni.{component_first}

@@ -5,7 +5,7 @@ ghost use Rattle.cyc_types.specs.Limits.{last_id};
 ghost use Rattle.cyc_types.specs.Series.{never};
 ghost use Rattle.cyc_model.specs.Refusals.{bad_now};
 ghost use Rattle.cyc_cpu.specs.Cpu.{HasNoCyclic, MayWiden};
-ghost use Rattle.cyc_cpus.specs.Cpus.{OfCpu, IsOnline, online_cpus, Works};
+ghost use Rattle.cyc_agreement.specs.Cpus.{OfCpu, IsOnline, online_cpus, Works};
 ghost use Rattle.cyc_agreement.specs.Adding.{entering};
 ghost use Rattle.cyc_agreement.specs.Holding.{Holds};
 ghost use Rattle.cyc_agreement.specs.System.{SystemView};
@@ -13,7 +13,7 @@ ghost use Rattle.cyc_agreement.specs.Refusals.{Unless, ids_spent};
 ghost use Rattle.cyc_everywhere.specs.Omni.{entering_each, AddsOmni, last_after};
 
 use crate::component::component_first;
-use cyc_cpus::Cpus;
+use cyc_agreement::Cpus;
 use cyc_places::{Place, Records};
 use cyc_types::{CyclicId, Interval, Level, Moment, Raise, Refusal, Sent, When};
 

@@ -6,15 +6,14 @@ ghost use Rattle.cyc_model.specs.Refusals.{bad_now};
 ghost use Rattle.cyc_cpu.specs.Calls.{MayPlace};
 ghost use Rattle.cyc_places.specs.declared.record.Record.{Record as TheRecord};
 ghost use Rattle.cyc_places.specs.Places.{IsRecord, HasRisingIds, HaveCounts, ended_on, no_counts, with_ended, is_everywhere};
-ghost use Rattle.cyc_cpus.specs.Cpus.{OfCpu, Works};
+ghost use Rattle.cyc_agreement.specs.Cpus.{OfCpu, Works};
 ghost use Rattle.cyc_agreement.specs.Holding.{Holds};
 ghost use Rattle.cyc_agreement.specs.System.{SystemView};
 ghost use Rattle.cyc_agreement.specs.Refusals.{Unless, no_cpu};
 ghost use Rattle.cyc_everywhere.specs.Online.{online_cpu, is_staying as is_staying_of, staying, return_at, returns, after_return, GoesOnline};
 
 use crate::component::component_first;
-use cyc_agreement::is_leaving;
-use cyc_cpus::Cpus;
+use cyc_agreement::{Cpus, is_leaving};
 use cyc_places::{Place, Record, Records};
 use cyc_types::{Moment, Raise, Refusal, When};
 

@@ -5,3 +5,6 @@ pub mod Making
 pub mod Stepping
 pub mod Sharing
 pub mod Sparing
+pub use Rattle.cyc_timers.proofs.Dues
+pub use Rattle.cyc_timers.proofs.Firings
+pub use Rattle.cyc_timers.proofs.Laws

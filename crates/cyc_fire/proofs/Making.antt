@@ -10,9 +10,9 @@ use Rattle.cyc_types.specs.Runs.{Goes, lost_by}
 use Rattle.cyc_types.proofs.Runs.{lost_on}
 use Rattle.cyc_types.specs.declared.firing.Raised.TheVariants.{First, More, Lost}
 use Rattle.cyc_types.specs.declared.level.Level.{Level}
-use Rattle.cyc_expirations.specs.Expirations.{Expiration, after, all_after}
-use Rattle.cyc_expirations.specs.Timers.{Timer, HasDistinctIds}
-use Rattle.cyc_expirations.proofs.Firings.{Firing}
+use Rattle.cyc_timers.specs.Expirations.{Expiration, after, all_after}
+use Rattle.cyc_timers.specs.Timers.{Timer, HasDistinctIds}
+use Rattle.cyc_timers.proofs.Firings.{Firing}
 use Rattle.cyc_timers.specs.Rows.{Row, Cyclic, IsRow, IsRising, no_counts, timers_of, cyclic_of, cyclics_of}
 use Rattle.cyc_fire.specs.Acts.{AreRaises, loss_in, losses, id_at, ids_at, is_at, is_of, same_level, timer_of, lost_after}
 use Rattle.cyc_fire.proofs.Readying.{Edits, edits}

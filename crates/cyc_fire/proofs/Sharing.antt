@@ -7,9 +7,9 @@ use Rattle.cyc_types.specs.Series.{due}
 use Rattle.cyc_types.specs.Firing.{FiringCall, Admits, Loads, Raises, Marks, Polls, Expands, Looks}
 use Rattle.cyc_types.specs.Runs.{raised_by}
 use Rattle.cyc_types.specs.declared.level.Level.{Level}
-use Rattle.cyc_expirations.specs.Expirations.{Expiration, expirations, times_of}
-use Rattle.cyc_expirations.specs.Timers.{Timer, HasDistinctIds}
-use Rattle.cyc_expirations.proofs.Laws.{times_expirations}
+use Rattle.cyc_timers.specs.Expirations.{Expiration, expirations, times_of}
+use Rattle.cyc_timers.specs.Timers.{Timer, HasDistinctIds}
+use Rattle.cyc_timers.proofs.Laws.{times_expirations}
 use Rattle.cyc_fire.specs.Acts.{AreRaises, ids_at, is_at, is_of, same_level, timer_of}
 use Rattle.cyc_fire.specs.Shares.{share}
 use Rattle.cyc_fire.proofs.Making.{found_at}

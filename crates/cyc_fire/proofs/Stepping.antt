@@ -9,9 +9,9 @@ use Rattle.cyc_types.specs.Series.{due, next, never}
 use Rattle.cyc_types.specs.Firing.{FiringView, FiringCall, Sound}
 use Rattle.cyc_types.specs.declared.level.Level.{Level}
 use Rattle.cyc_types.specs.declared.level.Level.TheVariants.{Low, Lock, High}
-use Rattle.cyc_expirations.specs.Expirations.{Expiration, expirations, next_of, is_before}
-use Rattle.cyc_expirations.specs.Timers.{Timer, IsSound}
-use Rattle.cyc_expirations.proofs.Firings.{Firing, Expires, fire_step, fire_left, fire_front}
+use Rattle.cyc_timers.specs.Expirations.{Expiration, expirations, next_of, is_before}
+use Rattle.cyc_timers.specs.Timers.{Timer, IsSound}
+use Rattle.cyc_timers.proofs.Firings.{Firing, Expires, fire_step, fire_left, fire_front}
 use Rattle.cyc_timers.specs.declared.table.Record.{Record}
 use Rattle.cyc_timers.specs.Rows.{Row, Cyclic, IsRow, IsRising, IsRecordOf, IsFirstAt, timers, timers_of, cyclic_of, cyclics_of, with_counts}
 use Rattle.cyc_fire.specs.Acts.{Sides, losses, lost_after, timer_of}

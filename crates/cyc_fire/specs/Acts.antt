@@ -8,8 +8,8 @@ use Rattle.cyc_types.specs.declared.firing.Raised.{Raised}
 use Rattle.cyc_types.specs.declared.firing.Raised.TheVariants.{First, More, Lost}
 use Rattle.cyc_types.specs.declared.level.Level.{Level}
 use Rattle.cyc_types.specs.declared.level.Level.TheVariants.{Low, Lock, High}
-use Rattle.cyc_expirations.specs.Expirations.{Expiration}
-use Rattle.cyc_expirations.specs.Timers.{Timer}
+use Rattle.cyc_timers.specs.Expirations.{Expiration}
+use Rattle.cyc_timers.specs.Timers.{Timer}
 
 -- what a fire acts on: the handlers and the two ends
 pub record Sides (C R : Type 0) : Type 0 where

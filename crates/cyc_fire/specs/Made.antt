@@ -4,8 +4,8 @@ use Rattle.cyc_types.specs.Firing.{FiringView, FiringCall}
 use Rattle.cyc_types.specs.declared.level.Level.TheVariants.{Low, Lock, High}
 use Rattle.cyc_types.specs.declared.refusal.Refusal.{Refusal}
 use Rattle.cyc_types.specs.declared.refusal.Refusal.TheVariants as why
-use Rattle.cyc_expirations.specs.Expirations.{Expiration, all_after}
-use Rattle.cyc_expirations.specs.Timers.{Timer}
+use Rattle.cyc_timers.specs.Expirations.{Expiration, all_after}
+use Rattle.cyc_timers.specs.Timers.{Timer}
 use Rattle.cyc_timers.specs.Rows.{Cyclic, timers}
 use Rattle.cyc_fire.specs.Acts.{Sides, Acts, ids_at, losses, lost_after, timer_of}
 

@@ -1,8 +1,8 @@
 -- What of a fire is one cyclic's.
 use Rattle.std.specs.Prelude.{ℕ, cond, List}
 use Rattle.cyc_types.specs.declared.level.Level.{Level}
-use Rattle.cyc_expirations.specs.Expirations.{Expiration, times_of}
-use Rattle.cyc_expirations.specs.Timers.{Timer}
+use Rattle.cyc_timers.specs.Expirations.{Expiration, times_of}
+use Rattle.cyc_timers.specs.Timers.{Timer}
 use Rattle.cyc_fire.specs.Acts.{is_of, timer_of}
 
 -- how many of these expirations the id has at this level: all of its own, where its cyclic is of the level

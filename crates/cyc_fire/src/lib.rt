@@ -6,5 +6,6 @@
 mod fire;
 mod law;
 
+pub use cyc_timers::{Record, Table};
 pub use fire::{FireRefused, Fired, fire_all};
 pub use law::share_law;

@@ -11,9 +11,9 @@ use Rattle.cyc_cpu.specs.Removal.{HasCyclic}
 use Rattle.cyc_places.specs.declared.record.Place.TheVariants.{On}
 use Rattle.cyc_places.specs.declared.record.Record.{Record}
 use Rattle.cyc_places.specs.Places.{IsRecord, HasRisingIds, with_place}
-use Rattle.cyc_cpus.specs.Cpus.{CpusView, IsCpu, on, Works}
-use Rattle.cyc_cpus.specs.Destination.{destination}
-use Rattle.cyc_cpus.specs.Shifting.{Shifts}
+use Rattle.cyc_agreement.specs.Cpus.{CpusView, IsCpu, on, Works}
+use Rattle.cyc_agreement.specs.Destination.{destination}
+use Rattle.cyc_agreement.specs.Shifting.{Shifts}
 use Rattle.cyc_agreement.specs.System.{SystemView, has, is_online, removal_on}
 use Rattle.cyc_agreement.specs.Agreement.{Agrees}
 use Rattle.cyc_agreement.specs.Binding.{GoesTo}

@@ -9,7 +9,7 @@ use Rattle.cyc_cpu.specs.Cpu.{CpuView, IsCyclic}
 use Rattle.cyc_cpu.specs.Law.{IsLawful}
 use Rattle.cyc_cpu.specs.Removal.{HasCyclic}
 use Rattle.cyc_timers.specs.Rows.{Cyclic}
-use Rattle.cyc_cpus.specs.Cpus.{CpusView, IsCpu}
+use Rattle.cyc_agreement.specs.Cpus.{CpusView, IsCpu}
 use Rattle.cyc_agreement.specs.System.{ids_on, has}
 use Rattle.cyc_agreement.proofs.Lists.{any_at, true_eq}
 use Rattle.cyc_agreement.proofs.Spots.{get_some, same_some}

@@ -8,9 +8,9 @@ use Rattle.cyc_model.specs.Refusals.{when, busy}
 use Rattle.cyc_cpu.specs.Calls.{AskPending, Reserve}
 use Rattle.cyc_places.specs.declared.record.Place.TheVariants.{On}
 use Rattle.cyc_places.specs.Places.{RecordsView}
-use Rattle.cyc_cpus.specs.Cpus.{CpusView, on, online_cpus}
-use Rattle.cyc_cpus.specs.Destination.{destination}
-use Rattle.cyc_cpus.specs.Shifting.{Shifts}
+use Rattle.cyc_agreement.specs.Cpus.{CpusView, on, online_cpus}
+use Rattle.cyc_agreement.specs.Destination.{destination}
+use Rattle.cyc_agreement.specs.Shifting.{Shifts}
 use Rattle.cyc_agreement.specs.System.{SystemView, ids_on, removal_on, is_omnipresent}
 use Rattle.cyc_agreement.specs.Refusals.{Unless, no_cpu, offline_cpu}
 use Rattle.cyc_agreement.specs.Adding.{OnlyWorks}

@@ -9,7 +9,7 @@ ghost use Rattle.cyc_juggling.specs.Leaving.{GoesOffline};
 use crate::juggling::move_away;
 use crate::refusing::may_leave;
 use crate::retiring::{any_pending, retire_all};
-use cyc_cpus::Cpus;
+use cyc_agreement::Cpus;
 use cyc_places::Records;
 use cyc_types::{Raise, Refusal};
 

@@ -5,13 +5,13 @@ ghost use Rattle.std.specs.List.{slice_get};
 ghost use Rattle.cyc_places.specs.declared.record.Place.TheVariants.{On};
 ghost use Rattle.cyc_places.specs.declared.record.Record.{Record};
 ghost use Rattle.cyc_places.specs.Places.{IsRecord};
-ghost use Rattle.cyc_cpus.specs.Destination.{destination};
+ghost use Rattle.cyc_agreement.specs.Destination.{destination};
 ghost use Rattle.cyc_agreement.specs.System.{has, ids_on, removal_on};
 ghost use Rattle.cyc_agreement.specs.Agreement.{Agrees};
 ghost use Rattle.cyc_juggling.specs.Juggling.{system_of, TakesTurn, counted};
 ghost use Rattle.cyc_juggling.specs.Walking.{Visits, VisitsAt, all_turns};
 
-use cyc_cpus::Cpus;
+use cyc_agreement::Cpus;
 use cyc_places::{Place, Records};
 use cyc_types::{CyclicId, JuggleReport, Raise, Refusal};
 

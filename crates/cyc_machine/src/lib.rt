@@ -12,9 +12,8 @@ pub use cyc_model::{
     events_are_enabled, indexes_are_found, moves_lose_nothing, nothing_follows_removal,
     removals_tell_calls, reports_add_up, text_tells_no_index,
 };
-pub use cyc_replay::{replay, run_script};
+pub use cyc_replay::{RunFault, replay, run_script};
 pub use cyc_script::{Add, Bind, Name, Omni, Reprogram, Script, Softint, Step, read_script};
-pub use cyc_script_machine::RunFault;
 pub use cyc_text::{BoundedWriter, Out, PutFailed, Sink};
 pub use fault::{Fault, status_of};
 pub use words::{Command, command_of};

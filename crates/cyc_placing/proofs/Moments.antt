@@ -5,9 +5,9 @@ use Rattle.cyc_types.specs.Tally.{TallyView, tally_count, tally_called, TallyRef
 use Rattle.cyc_types.specs.declared.refusal.Refusal.{Refusal}
 use Rattle.cyc_core.specs.Tables.{Tables}
 use Rattle.cyc_cpu.specs.Soft.{fires, firing_at, Interrupts}
-use Rattle.cyc_agreement.specs.System.{SystemView, running_system}
-use Rattle.cyc_system.specs.Calls.{Changes, Does}
-use Rattle.cyc_system_model.specs.Words.{reprograms}
+use Rattle.cyc_script_machine.specs.System.{SystemView, running_system}
+use Rattle.cyc_script_machine.specs.Calls.{Changes, Does}
+use Rattle.cyc_script_machine.specs.SystemWords.{reprograms}
 
 pub same_kept : (cpu : Option ℕ) (id moment : ℕ) (answer : Result (Unit {0}) Refusal) (tally : TallyView)
     (v w : SystemView Tables)

@@ -19,7 +19,7 @@ use Rattle.cyc_model.specs.Places.{id_of}
 use Rattle.cyc_model.specs.Bind.{no_cyclic}
 use Rattle.cyc_model.specs.Reprogram.{reprogram_refusal, cpu_refusals}
 use Rattle.cyc_model.specs.Refusals.{first_refusal, when, bad_when, magnitude}
-use Rattle.cyc_system_model.specs.Words.{IsSeries, IsMoment}
+use Rattle.cyc_script_machine.specs.SystemWords.{IsSeries, IsMoment}
 
 not_below : (n m : ℕ) → m < n + 1 → nat_lt n m ≡ false
 not_below n m h = grind (arith, nat_tests)

@@ -8,12 +8,12 @@ use Rattle.cyc_types.specs.Refusals.{number_of}
 use Rattle.cyc_core.specs.Tables.{Tables}
 use Rattle.cyc_text.specs.Lines.{accepted, refused, moved, cyclics_left}
 use Rattle.cyc_script.specs.declared.step.Step.TheVariants as steps
-use Rattle.cyc_agreement.specs.System.{SystemView}
+use Rattle.cyc_script_machine.specs.System.{SystemView}
 use Rattle.cyc_model.specs.Questions.{plain}
 use Rattle.cyc_model.specs.State.{State, Outcome, each}
 use Rattle.cyc_model.specs.Script.{refusal_of}
 use Rattle.cyc_model.proofs.Still.{still_juggle, still_offline}
-use Rattle.cyc_system_model.specs.Words.{IsDoneWith, IsRefusedFor, IsAtOnce}
+use Rattle.cyc_script_machine.specs.SystemWords.{IsDoneWith, IsRefusedFor, IsAtOnce}
 use Rattle.cyc_script_machine.specs.declared.machine.Machine.{Machine}
 use Rattle.cyc_script_machine.specs.Machine.{Holds, IsReached}
 use Rattle.cyc_script_machine.specs.Words.{Takes}

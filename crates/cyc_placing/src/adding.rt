@@ -9,8 +9,7 @@ ghost use Rattle.cyc_script_machine.specs.Machine.{Holds, IsReached};
 ghost use Rattle.cyc_script_machine.specs.Words.{Answers};
 
 use cyc_script::{Add, Omni};
-use cyc_script_machine::{Machine, set_id, set_name};
-use cyc_system_model::{add_law, kept_law, omni_law};
+use cyc_script_machine::{Machine, add_law, kept_law, omni_law, set_id, set_name};
 use cyc_types::{Refusal, Tally, When};
 
 /// The start and the interval of an add.

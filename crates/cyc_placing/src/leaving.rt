@@ -9,8 +9,7 @@ ghost use Rattle.cyc_script_machine.specs.Machine.{Holds, IsReached};
 ghost use Rattle.cyc_script_machine.specs.Words.{Takes};
 ghost use Rattle.cyc_placing.specs.Leaving.{Juggles, GoesOffline, juggle_line, why_line, offline_line};
 
-use cyc_script_machine::{Machine, RunFault};
-use cyc_system_model::{juggle_law, kept_law, offline_law};
+use cyc_script_machine::{Machine, RunFault, juggle_law, kept_law, offline_law};
 use cyc_text::{write_accepted, write_left, write_moved, write_refused};
 use cyc_types::{JuggleReport, Refusal, Tally};
 

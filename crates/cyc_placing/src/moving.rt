@@ -3,9 +3,9 @@
 ghost use Rattle.std.specs.Prelude.{◌≡◌, ℕ, true, pos, int_lt, IfOk, IfErr};
 ghost use Rattle.cyc_types.specs.declared.refusal.Refusal.TheVariants.{BadWhen};
 ghost use Rattle.cyc_cpu.specs.Soft.{fires, firing_at};
-ghost use Rattle.cyc_agreement.specs.Agreement.{Agrees};
-ghost use Rattle.cyc_system.specs.Calls.{Changes};
-ghost use Rattle.cyc_system_model.specs.Words.{reprograms};
+ghost use Rattle.cyc_script_machine.specs.Agreement.{Agrees};
+ghost use Rattle.cyc_script_machine.specs.Calls.{Changes};
+ghost use Rattle.cyc_script_machine.specs.SystemWords.{reprograms};
 ghost use Rattle.cyc_model.specs.State.{State};
 ghost use Rattle.cyc_script.specs.declared.step.Step.TheVariants as steps;
 ghost use Rattle.cyc_script_machine.specs.Machine.{Holds, IsReached};
@@ -13,9 +13,9 @@ ghost use Rattle.cyc_script_machine.specs.Words.{Answers};
 
 use cyc_core::LevelCore;
 use cyc_script::{Bind, Name, Reprogram};
-use cyc_script_machine::{Machine, id_of};
-use cyc_system::System;
-use cyc_system_model::{bind_law, kept_law, online_law, reprogram_law, unbind_law};
+use cyc_script_machine::{
+    Machine, System, bind_law, id_of, kept_law, online_law, reprogram_law, unbind_law,
+};
 use cyc_types::{CyclicId, Moment, Refusal, Tally};
 
 /// Binds the cyclic of a name to a CPU.

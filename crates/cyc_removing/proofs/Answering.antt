@@ -12,8 +12,8 @@ use Rattle.cyc_cpu.specs.Law.{IsLawful}
 use Rattle.cyc_cpu.specs.Calls.{Changes, AskTotals}
 use Rattle.cyc_places.specs.declared.record.Record.{Record}
 use Rattle.cyc_places.specs.Places.{summed}
-use Rattle.cyc_cpus.specs.Cpus.{CpusView, IsCpu, numbers_from, Works}
-use Rattle.cyc_cpus.proofs.Spots.{get_set_other}
+use Rattle.cyc_agreement.specs.Cpus.{CpusView, IsCpu, numbers_from, Works}
+use Rattle.cyc_agreement.proofs.CpuSpots.{get_set_other}
 use Rattle.cyc_agreement.specs.System.{SystemView, ids_of}
 use Rattle.cyc_agreement.proofs.Spots.{same_some}
 use Rattle.cyc_removing.specs.Counting.{Counted, asked, AddsUp, AsksTotals}

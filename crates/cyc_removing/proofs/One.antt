@@ -13,8 +13,8 @@ use Rattle.cyc_cpu.specs.Cpu.{CpuView, IsCyclic}
 use Rattle.cyc_cpu.specs.Removal.{HasCyclic}
 use Rattle.cyc_cpu.specs.Law.{IsLawful}
 use Rattle.cyc_cpu.specs.Calls.{Changes, BeginRemove, PollRemove}
-use Rattle.cyc_cpus.specs.Cpus.{CpusView, IsCpu}
-use Rattle.cyc_cpus.proofs.Shifts.{not_both}
+use Rattle.cyc_agreement.specs.Cpus.{CpusView, IsCpu}
+use Rattle.cyc_agreement.proofs.Shifts.{not_both}
 use Rattle.cyc_agreement.specs.System.{ids_of, has, removal_on, is_leaving_here}
 use Rattle.cyc_agreement.proofs.Spots.{same_some, none_some}
 use Rattle.cyc_agreement.proofs.Lists.{among, eq_true, true_eq, false_true}

@@ -16,8 +16,8 @@ use Rattle.cyc_cpu.specs.Removal.{Leaves}
 use Rattle.cyc_cpu.specs.Calls.{Changes, BeginRemove, PollRemove, AskTotals}
 use Rattle.cyc_places.specs.declared.record.Record.{Record}
 use Rattle.cyc_places.specs.Places.{IsRecord, with_ended, ended_on, summed}
-use Rattle.cyc_cpus.specs.Cpus.{CpusView, IsCpu, ChangesAt, Works}
-use Rattle.cyc_cpus.proofs.Spots.{get_set_other}
+use Rattle.cyc_agreement.specs.Cpus.{CpusView, IsCpu, ChangesAt, Works}
+use Rattle.cyc_agreement.proofs.CpuSpots.{get_set_other}
 use Rattle.cyc_agreement.specs.System.{SystemView, removal_on, record_of, is_leaving_here}
 use Rattle.cyc_agreement.proofs.Spots.{same_some, none_some}
 use Rattle.cyc_agreement.proofs.Lists.{false_ne}

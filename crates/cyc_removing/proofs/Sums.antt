@@ -21,8 +21,8 @@ use Rattle.cyc_cpu.specs.Removal.{IsReceipt}
 use Rattle.cyc_cpu.specs.Calls.{Changes, PollRemove}
 use Rattle.cyc_places.specs.declared.record.Record.{Record}
 use Rattle.cyc_places.specs.Places.{IsRecord, HasRisingIds, with_ended, ended_on, summed, no_counts}
-use Rattle.cyc_cpus.specs.Cpus.{CpusView, IsCpu}
-use Rattle.cyc_cpus.proofs.Spots.{get_set_same, get_set_other}
+use Rattle.cyc_agreement.specs.Cpus.{CpusView, IsCpu}
+use Rattle.cyc_agreement.proofs.CpuSpots.{get_set_same, get_set_other}
 use Rattle.cyc_agreement.specs.System.{SystemView, record_of}
 use Rattle.cyc_agreement.proofs.Spots.{same_some, none_some}
 use Rattle.cyc_agreement.proofs.Lists.{among, true_eq, false_ne, false_true}

@@ -10,8 +10,8 @@ use Rattle.cyc_types.specs.declared.firing.Sent.{Sent}
 use Rattle.cyc_cpu.specs.Cpu.{CpuView}
 use Rattle.cyc_places.specs.declared.record.Record.{Record}
 use Rattle.cyc_places.specs.Places.{IsRecord, with_ended, ended_on, no_counts}
-use Rattle.cyc_cpus.specs.Cpus.{CpusView, IsCpu, with_cpu}
-use Rattle.cyc_cpus.proofs.Spots.{get_set_same, get_set_other}
+use Rattle.cyc_agreement.specs.Cpus.{CpusView, IsCpu, with_cpu}
+use Rattle.cyc_agreement.proofs.CpuSpots.{get_set_same, get_set_other}
 use Rattle.cyc_agreement.specs.System.{ids_of, has}
 use Rattle.cyc_agreement.specs.Agreement.{most_on}
 use Rattle.cyc_agreement.proofs.Spots.{same_some, none_some}

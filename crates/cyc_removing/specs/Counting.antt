@@ -4,7 +4,7 @@ use Rattle.cyc_types.specs.Firing.{FiringView, FiringCall}
 use Rattle.cyc_cpu.specs.declared.hard.Totals.{Totals}
 use Rattle.cyc_cpu.specs.Calls.{AskTotals}
 use Rattle.cyc_places.specs.declared.record.Record.{Record}
-use Rattle.cyc_cpus.specs.Cpus.{CallOn, on}
+use Rattle.cyc_agreement.specs.Cpus.{CallOn, on}
 use Rattle.cyc_agreement.specs.System.{SystemView, record_of}
 use Rattle.cyc_agreement.specs.Adding.{OnlyWorks}
 use Rattle.cyc_removing.specs.declared.totals.SystemTotals.{SystemTotals}

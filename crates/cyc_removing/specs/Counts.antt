@@ -6,7 +6,7 @@ use Rattle.cyc_cpu.specs.Cpu.{CpuView}
 use Rattle.cyc_cpu.specs.Law.{IsLawful}
 use Rattle.cyc_places.specs.declared.record.Record.{Record}
 use Rattle.cyc_places.specs.Places.{IsRecord, HasRisingIds}
-use Rattle.cyc_cpus.specs.Cpus.{IsCpu}
+use Rattle.cyc_agreement.specs.Cpus.{IsCpu}
 use Rattle.cyc_agreement.specs.System.{SystemView, record_of}
 use Rattle.cyc_removing.specs.Laws.{cyclic_in}
 

@@ -12,7 +12,7 @@ use Rattle.cyc_cpu.specs.declared.removing.Removal.TheVariants.{Done, Kept}
 use Rattle.cyc_cpu.specs.Calls.{CpuCall, BeginRemove}
 use Rattle.cyc_places.specs.declared.record.Record.{Record}
 use Rattle.cyc_places.specs.Places.{IsRecord, IsReceiptOf, ended_on, summed, with_ended}
-use Rattle.cyc_cpus.specs.Cpus.{CpusView, on, numbers_from, DoesAt}
+use Rattle.cyc_agreement.specs.Cpus.{CpusView, on, numbers_from, DoesAt}
 use Rattle.cyc_agreement.specs.System.{SystemView, ids_of, removal_on, is_unknown}
 use Rattle.cyc_agreement.specs.Refusals.{Unless}
 use Rattle.cyc_removing.specs.declared.removing.SystemRemoval.{SystemRemoval}

@@ -11,7 +11,7 @@ ghost use Rattle.cyc_removing.specs.Polling.{PollsOn};
 ghost use Rattle.cyc_removing.specs.Leaving.{system, Owns, WithdrawsAt};
 
 use cyc_cpu::Removal;
-use cyc_cpus::Cpus;
+use cyc_agreement::Cpus;
 use cyc_places::Records;
 use cyc_types::{CyclicId, Raise, Receipt, Sent};
 

@@ -13,8 +13,7 @@ ghost use Rattle.cyc_removing.specs.Polling.{Polled, PollsEach, PollsRemoval, le
 ghost use Rattle.cyc_removing.specs.Leaving.{system, Owns, Withdraws};
 
 use crate::leaving::{begin_at, poll_at};
-use cyc_agreement::{is_leaving, is_leaving_at};
-use cyc_cpus::Cpus;
+use cyc_agreement::{Cpus, is_leaving, is_leaving_at};
 use cyc_places::Records;
 use cyc_types::{CyclicId, Raise, Receipt, Refusal};
 

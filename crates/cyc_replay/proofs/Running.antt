@@ -28,11 +28,11 @@ use Rattle.cyc_model.proofs.Reaching.{well_steps, start_good, length_new}
 use Rattle.cyc_model.proofs.Telling.{tells_steps}
 use Rattle.cyc_model.proofs.Unindexed.{text_bare}
 use Rattle.cyc_cpu_model.specs.Shown.{shown_cpu}
-use Rattle.cyc_system_model.specs.Shown.{shown_list, shown_cpus}
-use Rattle.cyc_script_machine.specs.declared.machine.Machine.{Machine}
-use Rattle.cyc_script_machine.specs.Machine.{Holds}
-use Rattle.cyc_script_machine.specs.Runs.{Runs, listed}
-use Rattle.cyc_script_machine.proofs.Indexes.{same_line}
+use Rattle.cyc_serving.specs.Shown.{shown_list, shown_cpus}
+use Rattle.cyc_serving.specs.ScriptMachine.{Machine}
+use Rattle.cyc_serving.specs.Machine.{Holds}
+use Rattle.cyc_serving.specs.Runs.{Runs, listed}
+use Rattle.cyc_serving.proofs.Indexes.{same_line}
 use Rattle.cyc_replay.specs.Replay.{HasRun, LevelsAreSound}
 
 -- ---- the CPUs of a machine

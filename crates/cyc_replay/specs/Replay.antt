@@ -9,8 +9,8 @@ use Rattle.cyc_model.specs.Along.{IsSound}
 use Rattle.cyc_model.specs.Enabled.{CanBeDone}
 use Rattle.cyc_model.specs.Free.{AreFree}
 use Rattle.cyc_model.specs.Script.{run_of}
-use Rattle.cyc_script_machine.specs.declared.machine.Machine.{Machine}
-use Rattle.cyc_script_machine.specs.Machine.{Holds}
+use Rattle.cyc_serving.specs.ScriptMachine.{Machine}
+use Rattle.cyc_serving.specs.Machine.{Holds}
 
 -- both soft levels of each CPU of the machine are lawful and conserved
 abbrev pub LevelsAreSound : Machine → Type 0

@@ -22,6 +22,7 @@ mod run;
 mod script;
 mod steps;
 
+pub use cyc_serving::RunFault;
 pub use law::runs_are_sound;
 pub use report::put_reports;
 pub use run::put_steps;

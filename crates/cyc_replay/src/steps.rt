@@ -4,17 +4,16 @@ ghost use Rattle.std.specs.Prelude.{◌≤◌, ℕ, List, map, string_bytes, OnO
 ghost use Rattle.cyc_script.specs.Limits.{most_steps};
 ghost use Rattle.cyc_script.specs.declared.step.Step.TheVariants as steps;
 ghost use Rattle.cyc_model.specs.State.{State};
-ghost use Rattle.cyc_script_machine.specs.Status.{IsMemory};
-ghost use Rattle.cyc_script_machine.specs.Machine.{Holds, IsReached};
-ghost use Rattle.cyc_script_machine.specs.Words.{Takes};
+ghost use Rattle.cyc_serving.specs.Status.{IsMemory};
+ghost use Rattle.cyc_serving.specs.Machine.{Holds, IsReached};
+ghost use Rattle.cyc_serving.specs.Words.{Takes};
 
 use cyc_placing::{
     add_cyclic, add_omni, bind_cyclic, online_cpu, reprogram_cyclic, take_juggle, take_offline,
     unbind_cyclic,
 };
 use cyc_script::{Add, Bind, Name, Omni, Reprogram, Step};
-use cyc_script_machine::{Machine, RunFault, write_answer};
-use cyc_serving::{take_advance, take_remove, take_softint};
+use cyc_serving::{Machine, RunFault, take_advance, take_remove, take_softint, write_answer};
 
 /// The word `add`.
 fn take_add(

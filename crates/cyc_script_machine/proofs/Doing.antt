@@ -17,8 +17,8 @@ use Rattle.cyc_script_machine.specs.declared.machine.Machine.{Machine}
 use Rattle.cyc_script_machine.specs.Machine.{Holds, Remembers, IsWide, IsReached, AllMost, number_of}
 use Rattle.cyc_script_machine.specs.Words.{Comes, Accepts, AcceptsWith, Answers}
 use Rattle.cyc_core.specs.Tables.{Tables}
-use Rattle.cyc_agreement.specs.System.{SystemView}
-use Rattle.cyc_agreement.specs.Agreement.{most_on}
+use Rattle.cyc_system_model.specs.System.{SystemView}
+use Rattle.cyc_system_model.specs.Agreement.{most_on}
 use Rattle.cyc_model.proofs.Known.{IsLasting}
 use Rattle.cyc_system_model.specs.Room.{HaveAllRoom}
 use Rattle.cyc_script_machine.proofs.Mosts.{most_kept}

@@ -15,14 +15,14 @@ use Rattle.cyc_cpu.proofs.Calling.{changes_most}
 use Rattle.cyc_cpus.specs.Cpus.{CpusView, IsCpu, ChangesAt, CallOn, on, Works, new_cpus}
 use Rattle.cyc_cpus.specs.Shifting.{moving}
 use Rattle.cyc_cpus.proofs.Spots.{one_cpu, cpu_there, cpu_beside}
-use Rattle.cyc_agreement.specs.System.{SystemView}
-use Rattle.cyc_agreement.specs.Adding.{entering}
-use Rattle.cyc_agreement.specs.Binding.{GoesTo}
+use Rattle.cyc_system_model.specs.System.{SystemView}
+use Rattle.cyc_system_model.specs.Adding.{entering}
+use Rattle.cyc_system_model.specs.Binding.{GoesTo}
 use Rattle.cyc_agreement.proofs.Spots.{same_some, none_some}
-use Rattle.cyc_agreement.specs.Agreement.{most_on}
+use Rattle.cyc_system_model.specs.Agreement.{most_on}
 use Rattle.std.specs.List.{slice_get}
 use Rattle.std.specs.Option.{option_map}
-use Rattle.cyc_system.specs.Calls.{Changes, Add, Bind}
+use Rattle.cyc_system_model.specs.Calls.{Changes, Add, Bind}
 use Rattle.cyc_system_model.specs.Words.{reprograms}
 use Rattle.cyc_script_machine.specs.Machine.{AllMost}
 

@@ -37,11 +37,11 @@ use Rattle.cyc_types.specs.Runs.{Goes}
 use Rattle.cyc_fire.specs.Quiet.{OnlyLooks}
 use Rattle.std.specs.Prelude.{Result, OnOk, IfErr}
 use Rattle.cyc_places.specs.Places.{IsRecord, HasRisingIds as RecordsRise}
-use Rattle.cyc_agreement.specs.System.{SystemView}
-use Rattle.cyc_agreement.specs.Agreement.{Agrees}
+use Rattle.cyc_system_model.specs.System.{SystemView}
+use Rattle.cyc_system_model.specs.Agreement.{Agrees}
 use Rattle.cyc_agreement.proofs.Spots.{same_some, none_some}
 use Rattle.cyc_model.specs.State.{State}
-use Rattle.cyc_system.specs.Splitting.{EachTwo, GoesOn, IsSameEnd, index_of, AllComeBack}
+use Rattle.cyc_system_model.specs.Splitting.{EachTwo, GoesOn, IsSameEnd, index_of, AllComeBack}
 use Rattle.cyc_system_model.specs.Room.{HaveAllRoom}
 use Rattle.cyc_system_model.specs.Shown.{shown_list, shown_record, AllFull}
 

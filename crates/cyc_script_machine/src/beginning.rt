@@ -4,7 +4,7 @@ ghost use Rattle.std.specs.Prelude.{◌≡◌, ◌≤◌, All, None, length, rep
 ghost use Rattle.cyc_types.specs.declared.refusal.Refusal.TheVariants.{Memory};
 ghost use Rattle.cyc_script.specs.Limits.{most_cpus, most_steps};
 ghost use Rattle.cyc_model.specs.Script.{start};
-ghost use Rattle.cyc_system.specs.Splitting.{EachTwo};
+ghost use Rattle.cyc_system_model.specs.Splitting.{EachTwo};
 ghost use Rattle.cyc_system_model.specs.Kept.{AreNew};
 ghost use Rattle.cyc_script_machine.specs.Machine.{Holds};
 ghost use Rattle.cyc_script_machine.specs.Beginning.{IsEmpty, HasReserved};
@@ -12,8 +12,7 @@ ghost use Rattle.cyc_script_machine.specs.Beginning.{IsEmpty, HasReserved};
 use crate::machine::{Counted, Machine};
 use cyc_core::LevelCore;
 use cyc_cpu::Hard;
-use cyc_system::System;
-use cyc_system_model::begin_law;
+use cyc_system_model::{System, begin_law};
 use cyc_types::{CYCLICS, Ceiling, CyclicId, Moment, Refusal, Tally};
 use std::alloc::Global;
 

@@ -10,6 +10,11 @@ mod lines;
 mod machine;
 
 pub use beginning::begin;
+pub use cyc_system_model::{
+    SoftFault, System, SystemRemoval, add_law, advance_law, bind_law, juggle_law, kept_law,
+    offline_law, omni_law, online_law, others_law, poll_law, remove_law, report_law, reprogram_law,
+    softint_law, unbind_law,
+};
 pub use fault::RunFault;
 pub use lines::write_answer;
 pub use machine::{Counted, Machine, counted_of, id_of, name_of, set_counted, set_id, set_name};

@@ -8,11 +8,11 @@ use Rattle.cyc_types.specs.declared.refusal.Refusal.TheVariants.{BadNow}
 use Rattle.cyc_core.specs.Tables.{Tables}
 use Rattle.cyc_script.specs.Limits.{most_steps}
 use Rattle.cyc_script.specs.declared.step.Step.TheVariants.{Advance}
-use Rattle.cyc_agreement.specs.System.{RunningSystem, running_system}
+use Rattle.cyc_script_machine.specs.System.{RunningSystem, running_system}
 use Rattle.cyc_model.specs.State.{State, Outcome, online_cpus}
 use Rattle.cyc_model.specs.Refusals.{when, bad_now}
 use Rattle.cyc_model.specs.Advance.{advance}
-use Rattle.cyc_system_model.specs.Advancing.{at_clock, HasFired, IsAdvanced}
+use Rattle.cyc_script_machine.specs.Advancing.{at_clock, HasFired, IsAdvanced}
 use Rattle.cyc_script_machine.specs.declared.machine.Machine.{Machine}
 use Rattle.cyc_script_machine.specs.Machine.{Holds, IsReached}
 use Rattle.cyc_script_machine.specs.Words.{Comes, Takes}

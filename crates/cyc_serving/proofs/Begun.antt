@@ -13,12 +13,12 @@ use Rattle.cyc_cpu.specs.Soft.{fires, firing_at}
 use mathlib.Core.Logic.{dite}
 use native.Mathlib.Decide.{ℕ_discrete}
 use Rattle.cyc_text.specs.declared.lines.Counts.{Counts}
-use Rattle.cyc_removing.specs.Removing.{cpus_with as cpus_with_in}
-use Rattle.cyc_removing.specs.declared.removing.SystemRemoval.{SystemRemoval}
-use Rattle.cyc_removing.specs.declared.removing.SystemRemoval.TheVariants.{Done, Kept}
+use Rattle.cyc_script_machine.specs.Removing.{cpus_with as cpus_with_in}
+use Rattle.cyc_script_machine.specs.SystemRemoval.{SystemRemoval}
+use Rattle.cyc_script_machine.specs.SystemRemoval.TheVariants.{Done, Kept}
 use Rattle.cyc_script.specs.declared.step.Step.TheVariants.{Remove}
-use Rattle.cyc_agreement.specs.System.{SystemView}
-use Rattle.cyc_system.specs.Calls.{Changes, BeginRemove}
+use Rattle.cyc_script_machine.specs.System.{SystemView}
+use Rattle.cyc_script_machine.specs.Calls.{Changes, BeginRemove}
 use Rattle.cyc_model.specs.Questions.{plain}
 use Rattle.cyc_model.specs.State.{State, cpus_with}
 use Rattle.cyc_model.specs.Places.{id_of, is_unknown}
@@ -27,9 +27,9 @@ use Rattle.cyc_model.specs.Remove.{busy_on_each, remove}
 use Rattle.cyc_model.specs.Report.{counts_of}
 use Rattle.cyc_model.proofs.Spread.{Good}
 use Rattle.cyc_model.specs.Script.{does, text_in, refusal_of}
-use Rattle.cyc_system_model.specs.Shown.{IsSystem}
-use Rattle.cyc_system_model.specs.Words.{Gives, IsDone, IsRefusedFor}
-use Rattle.cyc_system_model.specs.Removal.{told_by, IsRemoved, IsKept}
+use Rattle.cyc_script_machine.specs.Shown.{IsSystem}
+use Rattle.cyc_script_machine.specs.SystemWords.{Gives, IsDone, IsRefusedFor}
+use Rattle.cyc_script_machine.specs.Removal.{told_by, IsRemoved, IsKept}
 use Rattle.cyc_script_machine.specs.declared.machine.Machine.{Machine}
 use Rattle.cyc_script_machine.specs.Machine.{Holds, Remembers, IsReached, id_at, told_of, number_of as id_number}
 use Rattle.cyc_script_machine.specs.Runs.{listed}

@@ -22,9 +22,9 @@ use Rattle.cyc_cpu.specs.Cpu.{CpuView, running}
 use Rattle.cyc_cpu.specs.Calls.{Fire, no_interrupts, Does as DoesHere}
 use Rattle.cyc_cpu.specs.Soft.{fires, firing_at}
 use Rattle.cyc_cpus.specs.Cpus.{IsCpu}
-use Rattle.cyc_agreement.specs.System.{SystemView, RunningSystem, running_system, is_online}
+use Rattle.cyc_script_machine.specs.System.{SystemView, RunningSystem, running_system, is_online}
 use Rattle.cyc_agreement.proofs.Spots.{same_some, none_some}
-use Rattle.cyc_system.specs.Calls.{Does, FireOne, no_fire}
+use Rattle.cyc_script_machine.specs.Calls.{Does, FireOne, no_fire}
 use Rattle.cyc_model.specs.Acts.{calls_of}
 use Rattle.cyc_model.specs.Cpu.{Cyclic, Cpu}
 use Rattle.cyc_model.specs.Firing.{fire_here}
@@ -35,8 +35,8 @@ use Rattle.cyc_model.proofs.Totals.{expired_in}
 use Rattle.cyc_model.proofs.Numbers.{Has}
 use Rattle.cyc_model.proofs.Calm.{good_clock}
 use Rattle.cyc_cpu_model.specs.Shown.{shown}
-use Rattle.cyc_system_model.specs.Advancing.{at_clock, online_below, HasFired}
-use Rattle.cyc_system_model.specs.Shown.{shown_list, IsSystem}
+use Rattle.cyc_script_machine.specs.Advancing.{at_clock, online_below, HasFired}
+use Rattle.cyc_script_machine.specs.Shown.{shown_list, IsSystem}
 use Rattle.cyc_script_machine.specs.declared.machine.Machine.{Machine}
 use Rattle.cyc_script_machine.specs.Machine.{IsWide, AllMost, number_of}
 use Rattle.cyc_serving.specs.Advancing.{IsAdvancing}
@@ -46,7 +46,7 @@ use Rattle.cyc_script_machine.proofs.Unrefused.{IsFew, EachTimer, same_range, st
 use Rattle.cyc_model.proofs.Bounded.{numbers_few}
 use Rattle.cyc_model.proofs.Growing.{few_times, grows_fires}
 use Rattle.cyc_script_machine.proofs.Remembering.{SameNames, remembers_on}
-use Rattle.cyc_system_model.specs.Room.{HaveAllRoom}
+use Rattle.cyc_script_machine.specs.Room.{HaveAllRoom}
 use Rattle.cyc_script_machine.proofs.Grown.{few_timers, few_reached, many_reached}
 
 -- ---- what a fire keeps

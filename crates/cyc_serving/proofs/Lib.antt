@@ -7,3 +7,6 @@ pub mod Served
 pub mod Polled
 pub mod Asked
 pub mod Reported
+pub use Rattle.cyc_script_machine.proofs.Indexes
+pub use Rattle.cyc_script_machine.proofs.Running
+pub use Rattle.cyc_script_machine.proofs.Taking

@@ -7,7 +7,7 @@ use Rattle.cyc_soft.specs.declared.Ran.{Ran}
 use Rattle.cyc_text.specs.Lines.{ran, removed}
 use Rattle.cyc_script.specs.declared.step.Softint.{Softint as SoftintStep}
 use Rattle.cyc_script.specs.declared.step.Step.TheVariants.{Softint}
-use Rattle.cyc_agreement.specs.System.{RunningSystem, removal_on}
+use Rattle.cyc_script_machine.specs.System.{RunningSystem, removal_on}
 use Rattle.cyc_model.specs.Questions.{plain}
 use Rattle.cyc_model.specs.State.{State, Outcome, each, cpu_of}
 use Rattle.cyc_model.specs.Softint.{interrupt, leaving_ids, text_of_id, poll_id}
@@ -19,14 +19,14 @@ use Rattle.cyc_model.specs.Places.{is_unknown}
 use Rattle.cyc_model.specs.Report.{counts_of}
 use Rattle.cyc_text.specs.declared.lines.Counts.{Counts}
 use Rattle.cyc_cpu.specs.Soft.{fires, firing_at}
-use Rattle.cyc_system.specs.Calls.{Changes, PollRemove}
-use Rattle.cyc_agreement.specs.Agreement.{Agrees}
+use Rattle.cyc_script_machine.specs.Calls.{Changes, PollRemove}
+use Rattle.cyc_script_machine.specs.Agreement.{Agrees}
 use Rattle.cyc_agreement.proofs.Spots.{same_some, none_some}
 use mathlib.Core.Logic.{dite}
 use native.Mathlib.Decide.{ℕ_discrete}
 use Rattle.std.specs.Prelude.{slice_set, Ok, Err}
-use Rattle.cyc_system_model.specs.Shown.{Shows}
-use Rattle.cyc_system_model.specs.Removal.{HavePolled, IsInterrupted, answer_line, told_by}
+use Rattle.cyc_script_machine.specs.Shown.{Shows}
+use Rattle.cyc_script_machine.specs.Removal.{HavePolled, IsInterrupted, answer_line, told_by}
 use Rattle.cyc_script_machine.specs.declared.machine.Machine.{Machine}
 use Rattle.cyc_script_machine.specs.Machine.{Holds, Remembers, IsWide, id_at, name_at, told_of, number_of}
 use Rattle.cyc_script_machine.proofs.Doing.{Keeps}

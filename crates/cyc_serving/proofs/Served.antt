@@ -26,11 +26,11 @@ use Rattle.cyc_script.specs.declared.step.Softint.{Softint as SoftintStep}
 use Rattle.cyc_cpu.specs.Cpu.{CpuView}
 use Rattle.cyc_cpu.specs.Soft.{fires, firing_at, drains, end_at, Interrupts}
 use Rattle.cyc_cpus.specs.Cpus.{IsCpu}
-use Rattle.cyc_agreement.specs.System.{SystemView, RunningSystem, running_system, removal_on}
+use Rattle.cyc_script_machine.specs.System.{SystemView, RunningSystem, running_system, removal_on}
 use Rattle.cyc_agreement.proofs.Spots.{same_some, none_some}
-use Rattle.cyc_system.specs.Calls.{Does, SoftInterrupt}
-use Rattle.cyc_system.specs.declared.interrupting.SoftFault.{SoftFault}
-use Rattle.cyc_system.specs.declared.interrupting.SoftFault.TheVariants as fault
+use Rattle.cyc_script_machine.specs.Calls.{Does, SoftInterrupt}
+use Rattle.cyc_script_machine.specs.SoftFault.{SoftFault}
+use Rattle.cyc_script_machine.specs.SoftFault.TheVariants as fault
 use Rattle.cyc_model.specs.Agreement.{as_level}
 use Rattle.cyc_model.specs.Cpu.{Cyclic, Cpu, is_of, cyclic_of, level_of as level_in}
 use Rattle.cyc_model.specs.Acts.{calls_of}
@@ -41,9 +41,9 @@ use Rattle.cyc_model.specs.Softint.{interrupt, softint_refusal}
 use Rattle.cyc_model.proofs.Fit.{Fit, keeps_fit, in_hand_counts}
 use Rattle.cyc_model.proofs.Whole.{all_back}
 use Rattle.cyc_model.proofs.Spread.{Good}
-use Rattle.cyc_system_model.specs.Running.{IsServed}
+use Rattle.cyc_script_machine.specs.Running.{IsServed}
 use Rattle.cyc_cpu_model.specs.Shown.{shown_cpu}
-use Rattle.cyc_system_model.specs.Shown.{shown_list, Shows, IsSystem}
+use Rattle.cyc_script_machine.specs.Shown.{shown_list, Shows, IsSystem}
 use Rattle.cyc_script_machine.specs.declared.machine.Machine.{Machine}
 use Rattle.cyc_script_machine.specs.Machine.{Holds, IsReached, IsWide, AllMost}
 use Rattle.cyc_model.proofs.Gone.{gone_interrupt}

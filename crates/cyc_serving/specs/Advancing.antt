@@ -5,10 +5,10 @@ use Rattle.cyc_types.specs.Tally.{TallyView, tally_count}
 use Rattle.cyc_core.specs.Tables.{Tables}
 use Rattle.cyc_script.specs.Limits.{most_steps}
 use Rattle.cyc_model.specs.State.{State}
-use Rattle.cyc_agreement.specs.System.{RunningSystem, running_system}
-use Rattle.cyc_system_model.specs.Room.{HaveAllRoom}
-use Rattle.cyc_system_model.specs.Shown.{IsSystem}
-use Rattle.cyc_system_model.specs.Advancing.{at_clock, HasFired}
+use Rattle.cyc_script_machine.specs.System.{RunningSystem, running_system}
+use Rattle.cyc_script_machine.specs.Room.{HaveAllRoom}
+use Rattle.cyc_script_machine.specs.Shown.{IsSystem}
+use Rattle.cyc_script_machine.specs.Advancing.{at_clock, HasFired}
 use Rattle.cyc_script_machine.specs.declared.machine.Machine.{Machine}
 use Rattle.cyc_script_machine.specs.Machine.{IsReached, IsWide, AllMost, Remembers, number_of}
 

@@ -2,8 +2,8 @@
 use Rattle.std.specs.Prelude.{ℕ, ◌==◌, ◌-◌, if◌then◌else◌, List, slice_set, Option, Some, None, Result, Ok, Err}
 use Rattle.cyc_types.specs.declared.receipt.Receipt.{Receipt}
 use Rattle.cyc_types.specs.declared.refusal.Refusal.{Refusal}
-use Rattle.cyc_removing.specs.declared.removing.SystemRemoval.{SystemRemoval}
-use Rattle.cyc_removing.specs.declared.removing.SystemRemoval.TheVariants.{Done, Kept}
+use Rattle.cyc_script_machine.specs.SystemRemoval.{SystemRemoval}
+use Rattle.cyc_script_machine.specs.SystemRemoval.TheVariants.{Done, Kept}
 use Rattle.cyc_text.specs.Lines.{kept, removed}
 use Rattle.cyc_script_machine.specs.declared.machine.Counted.{Counted}
 

@@ -4,7 +4,7 @@ ghost use Rattle.std.specs.Prelude.{◌≡◌, ◌≤◌, ◌<◌, ◌+◌, ℕ,
 ghost use Rattle.cyc_types.specs.Series.{never};
 ghost use Rattle.cyc_types.specs.Tally.{TallyView};
 ghost use Rattle.cyc_core.specs.Tables.{Tables};
-ghost use Rattle.cyc_agreement.specs.System.{RunningSystem};
+ghost use Rattle.cyc_script_machine.specs.System.{RunningSystem};
 ghost use Rattle.cyc_text.specs.Lines.{fired as fired_line};
 ghost use Rattle.cyc_script.specs.Limits.{most_steps};
 ghost use Rattle.cyc_script.specs.declared.step.Step.TheVariants as steps;
@@ -16,9 +16,7 @@ ghost use Rattle.cyc_script_machine.specs.Words.{Comes, Takes};
 ghost use Rattle.cyc_serving.specs.Advancing.{IsAdvancing};
 
 use cyc_core::LevelCore;
-use cyc_script_machine::{Machine, RunFault, write_answer};
-use cyc_system::System;
-use cyc_system_model::{advance_law, kept_law};
+use cyc_script_machine::{Machine, RunFault, System, advance_law, kept_law, write_answer};
 use cyc_text::write_fired;
 use cyc_types::{Moment, Refusal, Tally};
 

@@ -7,27 +7,27 @@ ghost use Rattle.cyc_text.specs.Lines.{removed};
 ghost use Rattle.cyc_script.specs.Limits.{most_steps};
 ghost use Rattle.cyc_script.specs.declared.step.Softint.{Softint as SoftintStep};
 ghost use Rattle.cyc_script.specs.declared.step.Step.TheVariants as steps;
-ghost use Rattle.cyc_agreement.specs.System.{removal_on};
+ghost use Rattle.cyc_script_machine.specs.System.{removal_on};
 ghost use Rattle.cyc_model.specs.State.{State};
 ghost use Rattle.cyc_model.specs.Softint.{interrupt, leaving_ids, softint_refusal, text_of_id};
-ghost use Rattle.cyc_system_model.specs.Removal.{answer_line};
+ghost use Rattle.cyc_script_machine.specs.Removal.{answer_line};
 ghost use Rattle.cyc_script_machine.specs.Status.{IsMemory};
 ghost use Rattle.cyc_script_machine.specs.Machine.{Holds, IsReached, id_at, name_at};
 ghost use Rattle.cyc_script_machine.specs.Words.{Takes};
 ghost use Rattle.cyc_cpu.specs.Soft.{fires, firing_at};
-ghost use Rattle.cyc_agreement.specs.Agreement.{Agrees};
-ghost use Rattle.cyc_system.specs.Calls.{Changes, PollRemove};
+ghost use Rattle.cyc_script_machine.specs.Agreement.{Agrees};
+ghost use Rattle.cyc_script_machine.specs.Calls.{Changes, PollRemove};
 ghost use Rattle.cyc_serving.specs.Removing.{counted_by};
 ghost use Rattle.cyc_serving.specs.Interrupting.{HasServed, IsPolling};
 
 use crate::removing::{counted_in, name_text};
 use cyc_core::LevelCore;
-use cyc_removing::others_law;
 use cyc_script::Softint;
-use cyc_script_machine::{Counted, Machine, RunFault, id_of, name_of, set_counted, write_answer};
+use cyc_script_machine::{
+    Counted, Machine, RunFault, SoftFault, System, id_of, kept_law, name_of, others_law, poll_law,
+    set_counted, softint_law, write_answer,
+};
 use cyc_soft::Ran;
-use cyc_system::{SoftFault, System};
-use cyc_system_model::{kept_law, poll_law, softint_law};
 use cyc_text::write_ran;
 use cyc_types::{CyclicId, Receipt, Refusal, Soft, Tally};
 use std::alloc::AllocError;

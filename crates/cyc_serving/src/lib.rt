@@ -10,6 +10,7 @@ mod removing;
 mod reporting;
 
 pub use advancing::take_advance;
+pub use cyc_script_machine::{Machine, RunFault, begin, write_answer};
 pub use interrupting::take_softint;
 pub use removing::take_remove;
 pub use reporting::name_counts;

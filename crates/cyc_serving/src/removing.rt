@@ -10,10 +10,11 @@ ghost use Rattle.cyc_script_machine.specs.Machine.{Holds, IsReached};
 ghost use Rattle.cyc_script_machine.specs.Words.{Answers, Takes};
 ghost use Rattle.cyc_serving.specs.Removing.{begun_line, counted_by, counted_begun};
 
-use cyc_removing::SystemRemoval;
 use cyc_script::Name;
-use cyc_script_machine::{Counted, Machine, RunFault, id_of, set_counted, write_answer};
-use cyc_system_model::{kept_law, remove_law};
+use cyc_script_machine::{
+    Counted, Machine, RunFault, SystemRemoval, id_of, kept_law, remove_law, set_counted,
+    write_answer,
+};
 use cyc_text::{write_kept, write_removed};
 use cyc_types::{Receipt, Refusal, Tally};
 use std::alloc::AllocError;

@@ -7,8 +7,7 @@ ghost use Rattle.cyc_model.specs.Places.{id_of};
 ghost use Rattle.cyc_model.specs.Report.{counts_of};
 ghost use Rattle.cyc_script_machine.specs.Machine.{Holds, IsReached};
 
-use cyc_script_machine::{Machine, counted_of, id_of};
-use cyc_system_model::{kept_law, report_law};
+use cyc_script_machine::{Machine, counted_of, id_of, kept_law, report_law};
 use cyc_text::Counts;
 use cyc_types::{CyclicId, Tally};
 

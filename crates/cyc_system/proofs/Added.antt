@@ -10,8 +10,8 @@ use Rattle.cyc_model.specs.Refusals.{first_refusal, bad_now}
 use Rattle.cyc_cpu.specs.Calls.{Reserve}
 use Rattle.cyc_places.specs.declared.record.Place.TheVariants.{On}
 use Rattle.cyc_places.specs.Places.{new_record}
-use Rattle.cyc_cpus.specs.Cpus.{CpusView, on, DoesAt, Works}
-use Rattle.cyc_cpus.specs.Destination.{destination}
+use Rattle.cyc_agreement.specs.Cpus.{CpusView, on, DoesAt, Works}
+use Rattle.cyc_agreement.specs.Destination.{destination}
 use Rattle.cyc_agreement.specs.System.{SystemView}
 use Rattle.cyc_agreement.specs.Adding.{entering}
 use Rattle.cyc_agreement.specs.Refusals.{ids_spent}

@@ -21,9 +21,9 @@ use Rattle.cyc_cpu_laws.proofs.Shifts.{changes_shift, shift_sums}
 use Rattle.cyc_places.specs.declared.record.Place.TheVariants as stands
 use Rattle.cyc_places.specs.declared.record.Record.{Record}
 use Rattle.cyc_places.specs.Places.{IsRecord, ended_on, no_counts, summed, with_place, with_ended}
-use Rattle.cyc_cpus.specs.Cpus.{CpusView, IsCpu, CallOn, on, DoesAt, Works}
-use Rattle.cyc_cpus.specs.Shifting.{moving}
-use Rattle.cyc_cpus.proofs.Spots.{get_set_same, get_set_other}
+use Rattle.cyc_agreement.specs.Cpus.{CpusView, IsCpu, CallOn, on, DoesAt, Works}
+use Rattle.cyc_agreement.specs.Shifting.{moving}
+use Rattle.cyc_agreement.proofs.CpuSpots.{get_set_same, get_set_other}
 use Rattle.cyc_agreement.specs.System.{SystemView, has}
 use Rattle.cyc_agreement.specs.Agreement.{most_on}
 use Rattle.cyc_agreement.specs.Holding.{EndedWithin, Holds}

@@ -8,7 +8,7 @@ use Rattle.cyc_cpu.specs.Cpu.{CpuView}
 use Rattle.cyc_cpu.specs.Law.{IsLawful}
 use Rattle.cyc_cpu.specs.Calls.{AskPending}
 use Rattle.cyc_places.specs.Places.{HasRisingIds}
-use Rattle.cyc_cpus.specs.Cpus.{IsCpu, on}
+use Rattle.cyc_agreement.specs.Cpus.{IsCpu, on}
 use Rattle.cyc_agreement.specs.System.{SystemView, ids_on}
 use Rattle.cyc_agreement.specs.Agreement.{Agrees}
 use Rattle.cyc_agreement.specs.Holding.{Holds, EndedWithin}

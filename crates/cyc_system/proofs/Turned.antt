@@ -15,9 +15,9 @@ use Rattle.cyc_cpu.specs.Calls.{CpuCall, Changes, Fire, SoftInterrupt, Add, Plac
 use Rattle.cyc_places.specs.declared.record.Place.TheVariants as stands
 use Rattle.cyc_places.specs.declared.record.Record.{Record}
 use Rattle.cyc_places.specs.Places.{IsRecord, HasRisingIds, ended_on, summed, with_ended, with_place}
-use Rattle.cyc_cpus.specs.Cpus.{CpusView, IsCpu, CallOn, on, DoesAt, Works, with_cpu}
-use Rattle.cyc_cpus.specs.Shifting.{moving}
-use Rattle.cyc_cpus.proofs.Spots.{get_set_same, get_set_other}
+use Rattle.cyc_agreement.specs.Cpus.{CpusView, IsCpu, CallOn, on, DoesAt, Works, with_cpu}
+use Rattle.cyc_agreement.specs.Shifting.{moving}
+use Rattle.cyc_agreement.proofs.CpuSpots.{get_set_same, get_set_other}
 use Rattle.cyc_agreement.specs.System.{SystemView, ids_on, ids_of, has, removal_on, is_everywhere}
 use Rattle.cyc_agreement.specs.Agreement.{Agrees, Stands, most_on}
 use Rattle.cyc_agreement.specs.Holding.{LeaveWhole}

@@ -14,7 +14,7 @@ use Rattle.cyc_fire.specs.declared.fire.Fired.{Fired}
 use Rattle.cyc_fire.specs.declared.fire.FireRefused.{FireRefused}
 use Rattle.cyc_cpu.specs.Cpu.{Running}
 use Rattle.cyc_cpu.specs.Calls.{Reprogram as CpuReprogram, Fire, SoftInterrupt as CpuSoftInterrupt}
-use Rattle.cyc_cpus.specs.Cpus.{on, running_cpus, RunsAt}
+use Rattle.cyc_agreement.specs.Cpus.{on, running_cpus, RunsAt}
 use Rattle.cyc_system.specs.declared.interrupting.SoftFault.{SoftFault}
 use Rattle.cyc_system.specs.declared.interrupting.SoftFault.TheVariants.{Refused}
 use Rattle.cyc_system.specs.declared.interrupting.SoftFault.TheVariants as fault

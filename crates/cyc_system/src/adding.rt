@@ -4,11 +4,11 @@ ghost use Rattle.std.specs.Prelude.{◌≡◌, ◌<◌, ◌+◌, length, IfNone,
 ghost use Rattle.cyc_types.specs.Limits.{last_id};
 ghost use Rattle.cyc_cpu.specs.Cpu.{HasNoCyclic, MayWiden};
 ghost use Rattle.cyc_cpu.specs.Calls.{Reserve};
-ghost use Rattle.cyc_cpus.specs.Cpus.{OfCpu, on, DoesAt, Works};
+ghost use Rattle.cyc_agreement.specs.Cpus.{OfCpu, on, DoesAt, Works};
 ghost use Rattle.cyc_agreement.specs.Adding.{entering};
 
 use crate::system::System;
-use cyc_cpus::Cpus;
+use cyc_agreement::Cpus;
 use cyc_places::Place;
 use cyc_types::{CyclicId, Interval, Level, Moment, Raise, Refusal, Sent, When};
 

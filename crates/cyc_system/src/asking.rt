@@ -1,7 +1,7 @@
 //! Questions to a system that change nothing.
 
 ghost use Rattle.std.specs.Prelude.{◌≡◌, ◌≤◌, ◌<◌, length, IfNone, IfSome};
-ghost use Rattle.cyc_cpus.specs.Cpus.{OfCpu};
+ghost use Rattle.cyc_agreement.specs.Cpus.{OfCpu};
 
 use crate::system::System;
 use cyc_places::Place;

@@ -3,11 +3,11 @@
 ghost use Rattle.std.specs.Prelude.{◌≡◌, ◌≢◌, ◌<◌, ◌≤◌, length};
 ghost use Rattle.cyc_cpu.specs.Cpu.{HasNoCyclic};
 ghost use Rattle.cyc_cpu.specs.Removal.{HasCyclic};
-ghost use Rattle.cyc_cpus.specs.Cpus.{OfCpu};
+ghost use Rattle.cyc_agreement.specs.Cpus.{OfCpu};
 ghost use Rattle.cyc_agreement.specs.Binding.{GoesTo};
 
 use crate::system::System;
-use cyc_cpus::Cpus;
+use cyc_agreement::Cpus;
 use cyc_places::Place;
 use cyc_types::{CyclicId, Raise, Refusal};
 

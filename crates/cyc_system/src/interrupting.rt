@@ -3,12 +3,12 @@
 ghost use Rattle.std.specs.Prelude.{◌≡◌, ◌<◌, length};
 ghost use Rattle.cyc_cpu.specs.Soft.{fires, firing_at, Interrupts};
 ghost use Rattle.cyc_cpu.specs.Calls.{SoftInterrupt as CpuSoftInterrupt};
-ghost use Rattle.cyc_cpus.specs.Cpus.{on, running_cpus, RunsAt};
+ghost use Rattle.cyc_agreement.specs.Cpus.{on, running_cpus, RunsAt};
 ghost use Rattle.cyc_agreement.specs.System.{running_system};
 
 use crate::system::System;
 use cyc_core::LevelCore;
-use cyc_cpus::Cpus;
+use cyc_agreement::Cpus;
 use cyc_soft::{Ran, SoftRefused};
 use cyc_types::{Calls, Soft};
 

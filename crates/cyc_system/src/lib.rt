@@ -20,7 +20,7 @@ mod system;
 
 pub use asking::CpuOrOmni;
 pub use cyc_cpu::{FireRefused, Fired};
-pub use cyc_removing::{SystemRemoval, SystemTotals};
+pub use cyc_removing::{SystemRemoval, SystemTotals, others_law};
 pub use interrupting::SoftFault;
 pub use laws::{away_law, ids_law};
 pub use splitting::Desk;

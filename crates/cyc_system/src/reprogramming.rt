@@ -3,10 +3,10 @@
 ghost use Rattle.std.specs.Prelude.{◌≡◌, ◌≢◌, ◌<◌, ◌&&◌, length, Ok, Some};
 ghost use Rattle.cyc_cpu.specs.Removal.{HasCyclic};
 ghost use Rattle.cyc_cpu.specs.Calls.{Reprogram as CpuReprogram};
-ghost use Rattle.cyc_cpus.specs.Cpus.{OfCpu, on, DoesAt};
+ghost use Rattle.cyc_agreement.specs.Cpus.{OfCpu, on, DoesAt};
 
 use crate::system::System;
-use cyc_cpus::Cpus;
+use cyc_agreement::Cpus;
 use cyc_places::Place;
 use cyc_types::{CyclicId, Moment, Raise, Refusal};
 

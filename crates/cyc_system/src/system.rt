@@ -3,11 +3,11 @@
 ghost use Rattle.std.specs.Prelude.{◌≡◌, ◌-◌, ◌<◌, ◌≤◌, [], All, length, IfOk, IfErr};
 ghost use Rattle.cyc_types.specs.declared.refusal.Refusal.TheVariants.{Memory};
 ghost use Rattle.cyc_cpu.specs.Cpu.{IsFresh};
-ghost use Rattle.cyc_cpus.specs.Cpus.{new_cpus};
+ghost use Rattle.cyc_agreement.specs.Cpus.{new_cpus};
 ghost use Rattle.cyc_agreement.specs.Agreement.{Agrees};
 ghost use Rattle.cyc_removing.specs.Counts.{IsFit, AreLawful};
 
-use cyc_cpus::Cpus;
+use cyc_agreement::Cpus;
 use cyc_places::Records;
 use cyc_types::{CyclicId, Raise, Refusal};
 use std::alloc::Global;

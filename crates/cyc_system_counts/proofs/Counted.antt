@@ -24,16 +24,16 @@ use Rattle.cyc_places.specs.Places.{IsRecord, no_counts, summed, new_record, wit
 use Rattle.cyc_cpus.specs.Cpus.{CpusView, CallOn, on, Works, online_cpus}
 use Rattle.cyc_cpus.specs.Shifting.{moving}
 use Rattle.cyc_cpus.proofs.Spots.{get_set_same, get_set_other}
-use Rattle.cyc_agreement.specs.System.{SystemView, ids_on}
-use Rattle.cyc_agreement.specs.Adding.{OnlyWorks, Adds, entering}
-use Rattle.cyc_agreement.specs.Binding.{Records, Unbinds, Binds}
+use Rattle.cyc_system.specs.System.{SystemView, ids_on}
+use Rattle.cyc_system.specs.Adding.{OnlyWorks, Adds, entering}
+use Rattle.cyc_system.specs.Binding.{Records, Unbinds, Binds}
 use Rattle.cyc_agreement.proofs.Spots.{same_some}
-use Rattle.cyc_juggling.specs.declared.turning.Turn.{Turn}
-use Rattle.cyc_juggling.specs.declared.turning.Turn.TheVariants.{StaysBound, StaysPending, StaysRefused, Moves}
-use Rattle.cyc_juggling.specs.Juggling.{TakesTurn, Turns}
-use Rattle.cyc_juggling.specs.Leaving.{quiet, Retires, Leaves}
-use Rattle.cyc_everywhere.specs.Omni.{AddsOmni, entering_each}
-use Rattle.cyc_everywhere.specs.Online.{GoesOnline, staying, is_staying, returns, return_at, after_return}
+use Rattle.cyc_system.specs.Turn.{Turn}
+use Rattle.cyc_system.specs.Turn.TheVariants.{StaysBound, StaysPending, StaysRefused, Moves}
+use Rattle.cyc_system.specs.Juggling.{TakesTurn, Turns}
+use Rattle.cyc_system.specs.Leaving.{quiet, Retires, Leaves}
+use Rattle.cyc_system.specs.Omni.{AddsOmni, entering_each}
+use Rattle.cyc_system.specs.Online.{GoesOnline, staying, is_staying, returns, return_at, after_return}
 use Rattle.cyc_system_counts.proofs.Flow.{AllFixed, all_brought, all_taken, on_cpus, flows, flow_at, sum_set}
 use Rattle.cyc_system_counts.proofs.Idle.{AreIdle, idle_on, idle_quiet, idle_same, reserved_same, unreserved_same, unshifted_same}
 

@@ -15,11 +15,11 @@ use Rattle.cyc_timers.specs.Rows.{Cyclic}
 use Rattle.cyc_cpu.specs.Cpu.{CpuView, Running}
 use Rattle.cyc_places.specs.declared.record.Record.{Record}
 use Rattle.cyc_cpus.specs.Cpus.{IsCpu}
-use Rattle.cyc_agreement.specs.System.{SystemView, RunningSystem, has, ids_of}
+use Rattle.cyc_system.specs.System.{SystemView, RunningSystem, has, ids_of}
 use Rattle.cyc_agreement.proofs.Lists.{among}
 use Rattle.cyc_agreement.proofs.Recording.{found, record_none}
-use Rattle.cyc_removing.specs.Counts.{all_expired}
-use Rattle.cyc_removing.specs.Laws.{cyclic_in}
+use Rattle.cyc_system.specs.Counts.{all_expired}
+use Rattle.cyc_system.specs.Laws.{cyclic_in}
 use Rattle.cyc_removing.proofs.Sums.{sum_none, none_found}
 use Rattle.cyc_removing.proofs.Receipts.{begun_done, poll_done}
 use Rattle.cyc_system.specs.Calls.{SystemCall}

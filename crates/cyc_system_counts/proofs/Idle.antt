@@ -8,8 +8,8 @@ use Rattle.cyc_cpus.specs.Cpus.{CpusView, CallOn, on, Works}
 use Rattle.cyc_cpus.specs.Reserving.{rooms, reserves, ReservesEach}
 use Rattle.cyc_cpus.specs.Shifting.{WhyNotShifted}
 use Rattle.std.proofs.Common.{inl, inr}
-use Rattle.cyc_removing.specs.Counting.{Counted, asked}
-use Rattle.cyc_juggling.specs.Leaving.{quiet}
+use Rattle.cyc_system.specs.Counting.{Counted, asked}
+use Rattle.cyc_system.specs.Leaving.{quiet}
 use Rattle.cyc_system_counts.proofs.Flow.{Fixed, brought, taken_off, on_cpus, flow_at}
 
 abbrev pub IsIdle : CpuCall → Type 0

@@ -18,19 +18,19 @@ use Rattle.cyc_places.specs.declared.record.Record.{Record}
 use Rattle.cyc_places.specs.Places.{IsRecord, HasRisingIds, is_everywhere, ended_on}
 use Rattle.cyc_cpus.specs.Cpus.{CpusView, CallOn, on, Works, online_cpus}
 use Rattle.cyc_cpus.specs.Shifting.{moving}
-use Rattle.cyc_agreement.specs.System.{SystemView, ids_on, is_omnipresent}
-use Rattle.cyc_agreement.specs.Adding.{OnlyWorks, Adds, entering}
-use Rattle.cyc_agreement.specs.Binding.{Binds}
+use Rattle.cyc_system.specs.System.{SystemView, ids_on, is_omnipresent}
+use Rattle.cyc_system.specs.Adding.{OnlyWorks, Adds, entering}
+use Rattle.cyc_system.specs.Binding.{Binds}
 use Rattle.cyc_agreement.proofs.Lists.{false_ne}
 use Rattle.cyc_agreement.proofs.Spots.{same_some, none_some}
 use Rattle.cyc_agreement.proofs.Recording.{record_here}
 use Rattle.cyc_removing.proofs.Others.{begins_others, polls_others, asks_others}
-use Rattle.cyc_juggling.specs.declared.turning.Turn.{Turn}
-use Rattle.cyc_juggling.specs.declared.turning.Turn.TheVariants.{StaysBound, StaysPending, StaysRefused, Moves}
-use Rattle.cyc_juggling.specs.Juggling.{TakesTurn, Turns, single_ids}
-use Rattle.cyc_juggling.specs.Leaving.{quiet, Retires, Leaves}
-use Rattle.cyc_everywhere.specs.Omni.{AddsOmni, entering_each}
-use Rattle.cyc_everywhere.specs.Online.{GoesOnline, staying, is_staying, returns, return_at}
+use Rattle.cyc_system.specs.Turn.{Turn}
+use Rattle.cyc_system.specs.Turn.TheVariants.{StaysBound, StaysPending, StaysRefused, Moves}
+use Rattle.cyc_system.specs.Juggling.{TakesTurn, Turns, single_ids}
+use Rattle.cyc_system.specs.Leaving.{quiet, Retires, Leaves}
+use Rattle.cyc_system.specs.Omni.{AddsOmni, entering_each}
+use Rattle.cyc_system.specs.Online.{GoesOnline, staying, is_staying, returns, return_at}
 use Rattle.cyc_system.specs.Calls.{SystemCall, Changes, Add, AddOmni, Bind, BeginRemove, PollRemove, AskTotals, Reprogram, ReprogramOn, Juggle, Offline, Online, FireOne, SoftInterrupt}
 use Rattle.cyc_system_counts.specs.Sound.{IsSound}
 use Rattle.cyc_system_counts.specs.Keeping.{over_stays, TouchesStays}

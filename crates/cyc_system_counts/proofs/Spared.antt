@@ -28,12 +28,12 @@ use Rattle.cyc_cpu_laws.proofs.Ways.{passes_ceiling}
 use Rattle.cyc_cpu_laws.proofs.Accounting.{proceeds_one}
 use Rattle.cyc_cpus.specs.Cpus.{CpusView, IsCpu, ChangesAt}
 use Rattle.cyc_cpus.proofs.Spots.{one_cpu, cpu_there, cpu_stays}
-use Rattle.cyc_agreement.specs.System.{RunningSystem}
+use Rattle.cyc_system.specs.System.{RunningSystem}
 use Rattle.cyc_agreement.proofs.Lists.{eq_true, true_eq}
 use Rattle.cyc_agreement.proofs.Spots.{same_some, none_some}
 use Rattle.cyc_agreement.proofs.Who.{id_in, same_fired}
 use Rattle.cyc_agreement.proofs.Recording.{found}
-use Rattle.cyc_removing.specs.Counts.{all_expired, all_lost}
+use Rattle.cyc_system.specs.Counts.{all_expired, all_lost}
 use Rattle.cyc_removing.proofs.Sums.{sum_none}
 use Rattle.cyc_system.specs.Calls.{SystemCall, Changes, Does, Add, AddOmni, Bind, BeginRemove, PollRemove, AskTotals, Reprogram, ReprogramOn, Juggle, Offline, Online, FireOne, SoftInterrupt}
 use Rattle.cyc_system_counts.specs.Sound.{IsSound}

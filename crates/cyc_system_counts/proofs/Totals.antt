@@ -21,9 +21,9 @@ use Rattle.cyc_cpu_laws.specs.Accounts.{account_of, Proceeds, expired_of, lost_o
 use Rattle.cyc_cpu_laws.proofs.Accounting.{proceeds_one, none_made}
 use Rattle.cyc_cpu_laws.proofs.Ways.{passes_few}
 use Rattle.cyc_cpus.specs.Cpus.{ChangesAt}
-use Rattle.cyc_agreement.specs.System.{SystemView, RunningSystem}
+use Rattle.cyc_system.specs.System.{SystemView, RunningSystem}
 use Rattle.cyc_agreement.proofs.Recording.{found}
-use Rattle.cyc_removing.specs.Counts.{all_expired, all_lost}
+use Rattle.cyc_system.specs.Counts.{all_expired, all_lost}
 use Rattle.cyc_system.specs.Calls.{SystemCall, Changes, Does, Add, AddOmni, Bind, BeginRemove, PollRemove, AskTotals, Reprogram, ReprogramOn, Juggle, Offline, Online, FireOne, SoftInterrupt, no_fire}
 use Rattle.cyc_system_counts.specs.Sound.{IsSound}
 use Rattle.cyc_system_counts.specs.Keeping.{EndsRemoval}

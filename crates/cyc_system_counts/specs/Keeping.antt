@@ -4,10 +4,10 @@ use Rattle.std.specs.Option.{option_map, option_map_or}
 use Rattle.cyc_types.specs.declared.level.Level.{Level}
 use Rattle.cyc_timers.specs.Rows.{Cyclic}
 use Rattle.cyc_cpu.specs.declared.moving.Taken.{Taken}
-use Rattle.cyc_agreement.specs.System.{SystemView, record_of, is_unknown, is_omnipresent}
-use Rattle.cyc_removing.specs.declared.removing.SystemRemoval.TheVariants.{Done}
-use Rattle.cyc_removing.specs.Laws.{cyclic_in}
-use Rattle.cyc_removing.specs.Counts.{all_expired, all_lost}
+use Rattle.cyc_system.specs.System.{SystemView, record_of, is_unknown, is_omnipresent}
+use Rattle.cyc_system.specs.SystemRemoval.TheVariants.{Done}
+use Rattle.cyc_system.specs.Laws.{cyclic_in}
+use Rattle.cyc_system.specs.Counts.{all_expired, all_lost}
 use Rattle.cyc_system.specs.Calls.{SystemCall, Add, AddOmni, BeginRemove, PollRemove, Reprogram, ReprogramOn, Offline, Online}
 
 -- the stay of a cyclic on its CPU, with all that a move takes of it: level, interval, next expiration and counts

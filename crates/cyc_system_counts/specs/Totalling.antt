@@ -12,8 +12,8 @@ use Rattle.cyc_soft.specs.declared.SoftRefused.{SoftRefused}
 use Rattle.cyc_cpu.specs.Cpu.{Running}
 use Rattle.cyc_cpu.specs.Calls.{Fire}
 use Rattle.cyc_cpu_laws.specs.Accounts.{Account, account_of}
-use Rattle.cyc_removing.specs.declared.removing.SystemRemoval.TheVariants.{Done}
-use Rattle.cyc_agreement.specs.System.{SystemView, RunningSystem}
+use Rattle.cyc_system.specs.SystemRemoval.TheVariants.{Done}
+use Rattle.cyc_system.specs.System.{SystemView, RunningSystem}
 use Rattle.cyc_system.specs.Calls.{SystemCall, Changes, Does, FireOne, BeginRemove, PollRemove}
 use Rattle.cyc_system_counts.specs.Sound.{IsSound}
 

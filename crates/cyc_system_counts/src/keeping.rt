@@ -3,7 +3,7 @@
 ghost use Rattle.std.specs.Prelude.{ℕ, Result};
 ghost use Rattle.cyc_types.specs.declared.refusal.Refusal.{Refusal as Reason};
 ghost use Rattle.cyc_places.specs.Places.{HasRisingIds};
-ghost use Rattle.cyc_agreement.specs.System.{SystemView};
+ghost use Rattle.cyc_system.specs.System.{SystemView};
 ghost use Rattle.cyc_system.specs.Calls.{SystemCall, Changes, Reprogram, ReprogramOn};
 ghost use Rattle.cyc_system_counts.specs.Keeping.{SameCounts, SameStays, SameButMoments, SameRecord, EndsRemoval, TouchesStays, TouchesRecord};
 ghost use Rattle.cyc_system_counts.specs.Sound.{IsSound};

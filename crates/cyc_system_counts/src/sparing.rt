@@ -3,8 +3,8 @@
 ghost use Rattle.std.specs.Prelude.{◌≡◌, ℕ, List, All};
 ghost use Rattle.std.specs.List.{FoldsTo};
 ghost use Rattle.cyc_cpu.specs.Calls.{no_interrupts};
-ghost use Rattle.cyc_removing.specs.Counts.{all_expired, all_lost};
-ghost use Rattle.cyc_agreement.specs.System.{RunningSystem};
+ghost use Rattle.cyc_system.specs.Counts.{all_expired, all_lost};
+ghost use Rattle.cyc_system.specs.System.{RunningSystem};
 ghost use Rattle.cyc_system.specs.Calls.{SystemCall};
 ghost use Rattle.cyc_system_counts.specs.Sound.{IsSound};
 ghost use Rattle.cyc_system_counts.specs.Keeping.{EndsRemoval};

@@ -13,7 +13,7 @@ use Rattle.cyc_cpu_laws.proofs.Staying.{settled_one}
 use Rattle.cyc_cpu_laws.proofs.Stills.{changes_still}
 use Rattle.cyc_cpus.specs.Cpus.{CpusView, IsCpu, ChangesAt}
 use Rattle.cyc_cpus.proofs.Spots.{one_cpu, cpu_there, cpu_after}
-use Rattle.cyc_agreement.specs.System.{RunningSystem}
+use Rattle.cyc_system.specs.System.{RunningSystem}
 use Rattle.cyc_system.specs.Calls.{SystemCall, Changes, Does, Add, AddOmni, Bind, BeginRemove, PollRemove, AskTotals, Reprogram, ReprogramOn, Juggle, Offline, Online, FireOne, SoftInterrupt}
 use Rattle.cyc_system_laws.specs.Parts.{CpusCall, OnCpu, SetOnline, DoesPart}
 use Rattle.cyc_system_laws.specs.Settling.{FiresNot}

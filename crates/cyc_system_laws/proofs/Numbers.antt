@@ -7,7 +7,7 @@ use Rattle.cyc_types.specs.declared.level.Soft.{Soft}
 use Rattle.cyc_soft.specs.declared.Ran.{Ran}
 use Rattle.cyc_soft.specs.declared.SoftRefused.{SoftRefused}
 use Rattle.cyc_cpu.specs.Cpu.{Running}
-use Rattle.cyc_agreement.specs.System.{RunningSystem}
+use Rattle.cyc_system.specs.System.{RunningSystem}
 use Rattle.cyc_system.specs.Calls.{SystemCall, Does, Add, AddOmni}
 use Rattle.cyc_system.proofs.Numbers.{rises_along, given, omni_given}
 use Rattle.cyc_system_laws.specs.Numbering.{ids_given, Rise}

@@ -26,22 +26,22 @@ use Rattle.cyc_cpus.specs.Cpus.{CpusView, CallOn, on, DoesAt, Works, online_cpus
 use Rattle.cyc_cpus.specs.Reserving.{rooms, reserves, ReservesEach}
 use Rattle.cyc_cpus.specs.Shifting.{WhyNotShifted, moving}
 use Rattle.cyc_cpus.proofs.Spots.{get_set_same, get_set_other}
-use Rattle.cyc_agreement.specs.System.{SystemView, ids_on}
-use Rattle.cyc_agreement.specs.Adding.{OnlyWorks, Adds, entering}
-use Rattle.cyc_agreement.specs.Binding.{Records, GoesTo, Unbinds, Binds}
+use Rattle.cyc_system.specs.System.{SystemView, ids_on}
+use Rattle.cyc_system.specs.Adding.{OnlyWorks, Adds, entering}
+use Rattle.cyc_system.specs.Binding.{Records, GoesTo, Unbinds, Binds}
 use Rattle.cyc_agreement.proofs.Spots.{same_some, get_either}
-use Rattle.cyc_removing.specs.declared.removing.SystemRemoval.{SystemRemoval}
-use Rattle.cyc_removing.specs.declared.removing.SystemRemoval.TheVariants as over
-use Rattle.cyc_removing.specs.declared.totals.SystemTotals.{SystemTotals}
-use Rattle.cyc_removing.specs.Removing.{Begun, BeginsOn, BeginsEach, Removes, Answers}
-use Rattle.cyc_removing.specs.Polling.{Polled, PollsOn, PollsEach, Polls}
-use Rattle.cyc_removing.specs.Counting.{Counted, asked, AsksTotals}
-use Rattle.cyc_juggling.specs.declared.turning.Turn.{Turn}
-use Rattle.cyc_juggling.specs.declared.turning.Turn.TheVariants.{StaysBound, StaysPending, StaysRefused, Moves}
-use Rattle.cyc_juggling.specs.Juggling.{TakesTurn, Turns, single_ids}
-use Rattle.cyc_juggling.specs.Leaving.{quiet, Retires, Leaves}
-use Rattle.cyc_everywhere.specs.Omni.{AddsOmni, entering_each}
-use Rattle.cyc_everywhere.specs.Online.{GoesOnline, staying, is_staying, returns, return_at, after_return}
+use Rattle.cyc_system.specs.SystemRemoval.{SystemRemoval}
+use Rattle.cyc_system.specs.SystemRemoval.TheVariants as over
+use Rattle.cyc_system.specs.SystemTotals.{SystemTotals}
+use Rattle.cyc_system.specs.Removing.{Begun, BeginsOn, BeginsEach, Removes, Answers}
+use Rattle.cyc_system.specs.Polling.{Polled, PollsOn, PollsEach, Polls}
+use Rattle.cyc_system.specs.Counting.{Counted, asked, AsksTotals}
+use Rattle.cyc_system.specs.Turn.{Turn}
+use Rattle.cyc_system.specs.Turn.TheVariants.{StaysBound, StaysPending, StaysRefused, Moves}
+use Rattle.cyc_system.specs.Juggling.{TakesTurn, Turns, single_ids}
+use Rattle.cyc_system.specs.Leaving.{quiet, Retires, Leaves}
+use Rattle.cyc_system.specs.Omni.{AddsOmni, entering_each}
+use Rattle.cyc_system.specs.Online.{GoesOnline, staying, is_staying, returns, return_at, after_return}
 use Rattle.cyc_system.specs.Calls.{SystemCall, Changes, Add, AddOmni, Bind, BeginRemove, PollRemove, AskTotals, Reprogram, ReprogramOn, Juggle, Offline, Online, FireOne, SoftInterrupt}
 use Rattle.cyc_system_laws.specs.Parts.{OnCpu, SetOnline, DoesPart, IsWithout, IsMadeOf}
 

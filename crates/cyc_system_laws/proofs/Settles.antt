@@ -22,17 +22,17 @@ use Rattle.cyc_cpus.specs.Cpus.{CpusView, IsCpu, CallOn, on, ChangesAt, Works, o
 use Rattle.cyc_cpus.specs.Reserving.{rooms}
 use Rattle.cyc_cpus.specs.Shifting.{moving}
 use Rattle.cyc_cpus.proofs.Spots.{one_cpu, cpu_there, cpu_after}
-use Rattle.cyc_agreement.specs.System.{SystemView, removal_on, is_online, is_unknown}
-use Rattle.cyc_agreement.specs.Refusals.{no_cpu, offline_cpu, no_cyclic, omnipresent}
-use Rattle.cyc_agreement.specs.Binding.{Binds}
+use Rattle.cyc_system.specs.System.{SystemView, removal_on, is_online, is_unknown}
+use Rattle.cyc_system.specs.Refusals.{no_cpu, offline_cpu, no_cyclic, omnipresent}
+use Rattle.cyc_system.specs.Binding.{Binds}
 use Rattle.cyc_agreement.proofs.Spots.{same_some, none_some, get_some}
 use Rattle.cyc_agreement.proofs.Destinations.{destination_fits}
-use Rattle.cyc_removing.specs.Removing.{unknown_cyclic, cpus_with}
-use Rattle.cyc_juggling.specs.declared.turning.Turn.{Turn}
-use Rattle.cyc_juggling.specs.declared.turning.Turn.TheVariants.{StaysBound, StaysPending, StaysRefused, Moves}
-use Rattle.cyc_juggling.specs.Juggling.{TakesTurn, Turns, single_ids, last_cpu}
-use Rattle.cyc_juggling.specs.Leaving.{quiet, Leaves}
-use Rattle.cyc_everywhere.specs.Online.{online_cpu, staying}
+use Rattle.cyc_system.specs.Removing.{unknown_cyclic, cpus_with}
+use Rattle.cyc_system.specs.Turn.{Turn}
+use Rattle.cyc_system.specs.Turn.TheVariants.{StaysBound, StaysPending, StaysRefused, Moves}
+use Rattle.cyc_system.specs.Juggling.{TakesTurn, Turns, single_ids, last_cpu}
+use Rattle.cyc_system.specs.Leaving.{quiet, Leaves}
+use Rattle.cyc_system.specs.Online.{online_cpu, staying}
 use Rattle.cyc_system.specs.Calls.{SystemCall, Changes, Add, AddOmni, Bind, BeginRemove, Juggle, Offline, Online}
 use Rattle.cyc_system_laws.specs.Settling.{IsRefusedUntil, IsAmong, Asks}
 

@@ -18,7 +18,7 @@ use Rattle.cyc_cpu.proofs.Following.{stays_gone}
 use Rattle.cyc_cpu_laws.proofs.Shifts.{changes_shift, shift_away}
 use Rattle.cyc_cpu_laws.proofs.Fires.{no_share, no_cyclic, fired_away}
 use Rattle.cyc_cpus_laws.proofs.Nowhere.{unused_gone}
-use Rattle.cyc_agreement.specs.System.{SystemView, RunningSystem}
+use Rattle.cyc_system.specs.System.{SystemView, RunningSystem}
 use Rattle.cyc_system.specs.Calls.{SystemCall, Does as SystemDoes}
 use Rattle.cyc_system_laws.specs.Gone.{IsOver, StaysOver, IsOverWhole, StaysOverWhole, AreLevelsLawful}
 use Rattle.cyc_system_laws.proofs.Over.{run_away}

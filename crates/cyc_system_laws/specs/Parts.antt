@@ -5,7 +5,7 @@ use Rattle.cyc_types.specs.Firing.{FiringView, FiringCall}
 use Rattle.cyc_cpu.specs.Gone.{PutsNot}
 use Rattle.cyc_places.specs.Places.{HasNoRecord}
 use Rattle.cyc_cpus.specs.Cpus.{CpusView, CallOn, DoesAt}
-use Rattle.cyc_agreement.specs.System.{SystemView}
+use Rattle.cyc_system.specs.System.{SystemView}
 
 -- a call on one of the CPUs, or one of them goes online or offline
 pub data CpusCall : Type 0 where

@@ -4,9 +4,9 @@ use Rattle.cyc_cpu_laws.specs.Settled.{IsUntil}
 use Rattle.cyc_cpus.specs.Cpus.{online_cpus}
 use Rattle.cyc_cpus.specs.Destination.{destination}
 use Rattle.cyc_cpus.specs.Reserving.{StandsAfter}
-use Rattle.cyc_agreement.specs.System.{SystemView}
-use Rattle.cyc_agreement.specs.Binding.{HasHome}
-use Rattle.cyc_removing.specs.Removing.{cpus_with}
+use Rattle.cyc_system.specs.System.{SystemView}
+use Rattle.cyc_system.specs.Binding.{HasHome}
+use Rattle.cyc_system.specs.Removing.{cpus_with}
 use Rattle.cyc_system.specs.Calls.{SystemCall, Add, AddOmni, Bind, BeginRemove, Juggle, Offline, Online, FireOne}
 
 -- the call was refused until something is done first: a soft side follows, a removal ends, or a call is made

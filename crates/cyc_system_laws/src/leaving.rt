@@ -7,9 +7,9 @@ ghost use Rattle.cyc_core.specs.Tables.{Tables};
 ghost use Rattle.cyc_cpu.specs.Calls.{no_interrupts};
 ghost use Rattle.cyc_cpu.specs.Soft.{fires, firing_at, Interrupts};
 ghost use Rattle.cyc_places.specs.Places.{HasRisingIds};
-ghost use Rattle.cyc_removing.specs.declared.removing.SystemRemoval.TheVariants.{Done};
-ghost use Rattle.cyc_agreement.specs.System.{SystemView, RunningSystem};
-ghost use Rattle.cyc_agreement.specs.Agreement.{Agrees};
+ghost use Rattle.cyc_system.specs.SystemRemoval.TheVariants.{Done};
+ghost use Rattle.cyc_system.specs.System.{SystemView, RunningSystem};
+ghost use Rattle.cyc_system.specs.Agreement.{Agrees};
 ghost use Rattle.cyc_system.specs.Calls.{SystemCall, Changes, Does, BeginRemove, PollRemove};
 ghost use Rattle.cyc_system_laws.specs.Gone.{IsOver, StaysOver, IsOverWhole, StaysOverWhole, AreLevelsLawful};
 

@@ -5,7 +5,7 @@ ghost use Rattle.std.specs.List.{FoldsTo};
 ghost use Rattle.cyc_core.specs.Tables.{Tables};
 ghost use Rattle.cyc_cpu.specs.Calls.{no_interrupts};
 ghost use Rattle.cyc_cpu.specs.Soft.{fires, firing_at, Interrupts};
-ghost use Rattle.cyc_agreement.specs.System.{RunningSystem};
+ghost use Rattle.cyc_system.specs.System.{RunningSystem};
 ghost use Rattle.cyc_system.specs.Calls.{SystemCall, Does};
 ghost use Rattle.cyc_system_laws.specs.Numbering.{ids_given, Rise};
 

@@ -1,6 +1,6 @@
 //! The law of what calls on CPUs a call of a system is made of.
 
-ghost use Rattle.cyc_agreement.specs.System.{SystemView};
+ghost use Rattle.cyc_system.specs.System.{SystemView};
 ghost use Rattle.cyc_system.specs.Calls.{SystemCall, Changes};
 ghost use Rattle.cyc_system_laws.specs.Parts.{IsMadeOf};
 

@@ -6,7 +6,7 @@ ghost use Rattle.cyc_cpu.specs.Calls.{no_interrupts};
 ghost use Rattle.cyc_cpu.specs.Cpu.{CpuView};
 ghost use Rattle.cyc_cpu.specs.Moving.{IsSettled};
 ghost use Rattle.cyc_cpus.specs.Cpus.{IsCpu};
-ghost use Rattle.cyc_agreement.specs.System.{SystemView, RunningSystem};
+ghost use Rattle.cyc_system.specs.System.{SystemView, RunningSystem};
 ghost use Rattle.cyc_system.specs.Calls.{SystemCall, Changes, Does};
 ghost use Rattle.cyc_system_laws.specs.Settling.{IsRefusedUntil, Asks, FiresNot};
 

@@ -17,8 +17,8 @@ use Rattle.cyc_places.specs.declared.record.Place.{Place as RecordPlace}
 use Rattle.cyc_places.specs.declared.record.Place.TheVariants as place
 use Rattle.cyc_places.specs.declared.record.Record.{Record}
 use Rattle.cyc_places.specs.Places.{IsRecord, no_counts, new_record, ended_on}
-use Rattle.cyc_agreement.specs.System.{SystemView}
-use Rattle.cyc_agreement.specs.Refusals as why
+use Rattle.cyc_system.specs.System.{SystemView}
+use Rattle.cyc_system.specs.Refusals as why
 use Rattle.cyc_system.specs.Calls.{Add, Changes}
 use Rattle.cyc_model.specs.Acts.{calls_of}
 use Rattle.cyc_model.specs.Cpu.{Cyclic}

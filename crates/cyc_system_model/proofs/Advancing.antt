@@ -10,8 +10,8 @@ use Rattle.cyc_core.specs.Tables.{Tables}
 use Rattle.cyc_cpu.specs.Soft.{fires, firing_at as seen}
 use Rattle.cyc_cpu.specs.Calls.{no_interrupts}
 use Rattle.cyc_fire.specs.declared.fire.Fired.{Fired}
-use Rattle.cyc_agreement.specs.System.{SystemView, RunningSystem, is_online}
-use Rattle.cyc_agreement.specs.Refusals as why
+use Rattle.cyc_system.specs.System.{SystemView, RunningSystem, is_online}
+use Rattle.cyc_system.specs.Refusals as why
 use Rattle.cyc_system.specs.Calls.{Does, FireOne}
 use Rattle.cyc_text.specs.Lines.{fired as fired_line}
 use Rattle.cyc_model.specs.Acts.{Act, At, Call, calls_of, losses_in}

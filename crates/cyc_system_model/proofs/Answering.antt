@@ -9,10 +9,10 @@ use Rattle.cyc_cpu.specs.Cpu.{CpuView}
 use Rattle.cyc_places.specs.declared.record.Record.{Record}
 use Rattle.cyc_places.specs.Places.{IsRecord, HasRisingIds, ended_on}
 use Rattle.cyc_cpus.specs.Cpus.{numbers_from as online_from}
-use Rattle.cyc_agreement.specs.System.{SystemView, ids_of, is_leaving_here}
+use Rattle.cyc_system.specs.System.{SystemView, ids_of, is_leaving_here}
 use Rattle.cyc_agreement.proofs.Spots.{same_some, none_some}
-use Rattle.cyc_removing.specs.Removing.{cpus_with as cpus_with_in, Answers}
-use Rattle.cyc_removing.specs.Polling.{leaving_cpus}
+use Rattle.cyc_system.specs.Removing.{cpus_with as cpus_with_in, Answers}
+use Rattle.cyc_system.specs.Polling.{leaving_cpus}
 use Rattle.cyc_model.specs.Cpu.{Cpu, is_of, has_cyclic, cyclic_of}
 use Rattle.cyc_model.specs.Questions.{outstanding_here}
 use Rattle.cyc_model.specs.State.{State, Ended, Placed, absent, cpu_of, kept_if, numbers_from, numbers, cpus_with}

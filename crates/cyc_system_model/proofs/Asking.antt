@@ -14,9 +14,9 @@ use Rattle.cyc_places.specs.declared.record.Place.{Place as RecordPlace}
 use Rattle.cyc_places.specs.declared.record.Place.TheVariants as place
 use Rattle.cyc_places.specs.declared.record.Record.{Record}
 use Rattle.cyc_places.specs.Places.{HasRisingIds, is_everywhere as everywhere_in}
-use Rattle.cyc_agreement.specs.System.{SystemView, ids_of, is_leaving_here, record_of, is_unknown as unknown_in, is_leaving as leaving_in, is_omnipresent as omnipresent_in}
-use Rattle.cyc_agreement.specs.Refusals as why
-use Rattle.cyc_agreement.specs.Binding.{HasPlace, HasHome}
+use Rattle.cyc_system.specs.System.{SystemView, ids_of, is_leaving_here, record_of, is_unknown as unknown_in, is_leaving as leaving_in, is_omnipresent as omnipresent_in}
+use Rattle.cyc_system.specs.Refusals as why
+use Rattle.cyc_system.specs.Binding.{HasPlace, HasHome}
 use Rattle.cyc_agreement.proofs.Recording.{record_here}
 use Rattle.cyc_model.specs.Cpu.{Cpu, is_of, has_cyclic}
 use Rattle.cyc_model.specs.State.{State, Place, Placed, absent}

@@ -17,9 +17,9 @@ use Rattle.cyc_cpu.specs.Calls.{AskPending, Reserve, TakeNow, Widen, Place}
 use Rattle.cyc_places.specs.declared.record.Place.TheVariants as place
 use Rattle.cyc_cpus.specs.Cpus.{CpusView, Works}
 use Rattle.cyc_cpus.specs.Shifting.{moving}
-use Rattle.cyc_agreement.specs.System.{SystemView}
-use Rattle.cyc_agreement.specs.Refusals as why
-use Rattle.cyc_agreement.specs.Binding.{HasHome, Records, Binds}
+use Rattle.cyc_system.specs.System.{SystemView}
+use Rattle.cyc_system.specs.Refusals as why
+use Rattle.cyc_system.specs.Binding.{HasHome, Records, Binds}
 use Rattle.cyc_system.specs.Calls.{Changes, Bind}
 use Rattle.cyc_agreement.proofs.Spots.{same_some, none_some}
 use Rattle.cyc_model.specs.Acts.{Act, calls_of, events_at}

@@ -7,10 +7,10 @@ use Rattle.cyc_cpu.specs.Calls.{AskTotals}
 use Rattle.cyc_places.specs.declared.record.Record.{Record}
 use Rattle.cyc_places.specs.Places.{IsRecord}
 use Rattle.cyc_cpus.specs.Cpus.{CpusView, Works}
-use Rattle.cyc_agreement.specs.System.{SystemView}
+use Rattle.cyc_system.specs.System.{SystemView}
 use Rattle.cyc_agreement.proofs.Spots.{same_some, none_some, get_some}
-use Rattle.cyc_removing.specs.declared.totals.SystemTotals.{SystemTotals}
-use Rattle.cyc_removing.specs.Counting.{Counted, asked, AsksTotals}
+use Rattle.cyc_system.specs.SystemTotals.{SystemTotals}
+use Rattle.cyc_system.specs.Counting.{Counted, asked, AsksTotals}
 use Rattle.cyc_model.specs.Cpu.{Cyclic, Cpu, is_of, has_cyclic, cyclic_of}
 use Rattle.cyc_model.specs.Questions.{outstanding_here}
 use Rattle.cyc_model.specs.State.{State, absent, cpu_of, cpus_with}

@@ -12,10 +12,10 @@ use Rattle.cyc_script.specs.declared.step.Step.TheVariants as steps
 use Rattle.cyc_text.specs.Lines.{moved}
 use Rattle.cyc_cpu.specs.Cpu.{CpuView}
 use Rattle.cyc_cpu.specs.Soft.{fires, firing_at as seen}
-use Rattle.cyc_agreement.specs.System.{SystemView, ids_of, ids_on, removal_on}
-use Rattle.cyc_juggling.specs.declared.turning.Turn.{Turn as TurnThere}
-use Rattle.cyc_juggling.specs.declared.turning.Turn.TheVariants as there
-use Rattle.cyc_juggling.specs.Juggling.{Turns, MovesAway, counted as counted_there, single_ids as single_there, last_cpu as last_there, juggle_refusals}
+use Rattle.cyc_system.specs.System.{SystemView, ids_of, ids_on, removal_on}
+use Rattle.cyc_system.specs.Turn.{Turn as TurnThere}
+use Rattle.cyc_system.specs.Turn.TheVariants as there
+use Rattle.cyc_system.specs.Juggling.{Turns, MovesAway, counted as counted_there, single_ids as single_there, last_cpu as last_there, juggle_refusals}
 use Rattle.cyc_system.specs.Calls.{Changes, Juggle}
 use Rattle.cyc_model.specs.Cpu.{Cyclic, Cpu}
 use Rattle.cyc_model.specs.Questions.{plain}

@@ -28,21 +28,21 @@ use Rattle.cyc_cpus.specs.Cpus.{CpusView, CallOn, Works, DoesAt, RunsAt, with_cp
 use Rattle.cyc_cpus.specs.Shifting.{moving}
 use Rattle.cyc_cpus.specs.Reserving.{rooms, reserves, ReservesEach}
 use Rattle.cyc_cpus.proofs.Spots.{get_set_same, get_set_other, cpu_beside}
-use Rattle.cyc_agreement.specs.System.{SystemView, RunningSystem, ids_on}
-use Rattle.cyc_agreement.specs.Agreement.{Agrees, most_on}
+use Rattle.cyc_system.specs.System.{SystemView, RunningSystem, ids_on}
+use Rattle.cyc_system.specs.Agreement.{Agrees, most_on}
 use Rattle.cyc_agreement.proofs.Spots.{same_some, none_some}
-use Rattle.cyc_agreement.specs.Adding.{OnlyWorks, entering}
-use Rattle.cyc_agreement.specs.Binding.{GoesTo, Records}
-use Rattle.cyc_removing.specs.Removing.{counts_of, BeginsOn, Begun, Answers}
-use Rattle.cyc_removing.specs.declared.removing.SystemRemoval.TheVariants as system
-use Rattle.cyc_removing.specs.Polling.{PollsOn, Polled}
-use Rattle.cyc_removing.specs.Counting.{asked}
-use Rattle.cyc_juggling.specs.declared.turning.Turn.{Turn}
-use Rattle.cyc_juggling.specs.declared.turning.Turn.TheVariants as turn
-use Rattle.cyc_juggling.specs.Juggling.{TakesTurn, Turns, single_ids}
-use Rattle.cyc_juggling.specs.Leaving.{quiet, Retires, offline_at, Leaves}
-use Rattle.cyc_everywhere.specs.Omni.{entering_each}
-use Rattle.cyc_everywhere.specs.Online.{GoesOnline, staying, is_staying, returns, after_return, switched_on}
+use Rattle.cyc_system.specs.Adding.{OnlyWorks, entering}
+use Rattle.cyc_system.specs.Binding.{GoesTo, Records}
+use Rattle.cyc_system.specs.Removing.{counts_of, BeginsOn, Begun, Answers}
+use Rattle.cyc_system.specs.SystemRemoval.TheVariants as system
+use Rattle.cyc_system.specs.Polling.{PollsOn, Polled}
+use Rattle.cyc_system.specs.Counting.{asked}
+use Rattle.cyc_system.specs.Turn.{Turn}
+use Rattle.cyc_system.specs.Turn.TheVariants as turn
+use Rattle.cyc_system.specs.Juggling.{TakesTurn, Turns, single_ids}
+use Rattle.cyc_system.specs.Leaving.{quiet, Retires, offline_at, Leaves}
+use Rattle.cyc_system.specs.Omni.{entering_each}
+use Rattle.cyc_system.specs.Online.{GoesOnline, staying, is_staying, returns, after_return, switched_on}
 use Rattle.cyc_system.specs.Calls.{SystemCall, Add, AddOmni, Bind, BeginRemove, PollRemove, AskTotals, Reprogram, ReprogramOn, Juggle, Offline, Online, FireOne, SoftInterrupt, Changes, Does}
 use Rattle.cyc_cpu_model.proofs.Stopping.{tied_always}
 use Rattle.cyc_system_model.specs.Shown.{IsSystem}

@@ -13,9 +13,9 @@ use Rattle.cyc_cpu.specs.Cpu.{CpuView}
 use Rattle.cyc_cpu.specs.Soft.{fires, firing_at as seen}
 use Rattle.cyc_cpu.specs.Calls.{AskPending, TakeNow}
 use Rattle.cyc_cpus.specs.Cpus.{CpusView, Works, on as on_cpu}
-use Rattle.cyc_agreement.specs.System.{SystemView, ids_on as ids_there}
-use Rattle.cyc_juggling.specs.Juggling.{single_ids as single_there, juggle_refusals}
-use Rattle.cyc_juggling.specs.Leaving.{quiet, Retires, offline_at}
+use Rattle.cyc_system.specs.System.{SystemView, ids_on as ids_there}
+use Rattle.cyc_system.specs.Juggling.{single_ids as single_there, juggle_refusals}
+use Rattle.cyc_system.specs.Leaving.{quiet, Retires, offline_at}
 use Rattle.cyc_system.specs.Calls.{Changes, Offline as GoOffline}
 use Rattle.cyc_model.specs.Acts.{calls_of}
 use Rattle.cyc_model.specs.Cpu.{Cpu, cyclic_of, nothing_here}

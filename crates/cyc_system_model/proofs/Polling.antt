@@ -9,8 +9,8 @@ use Rattle.cyc_script.specs.declared.step.Softint.{Softint as SoftintStep}
 use Rattle.cyc_text.specs.Lines.{removed, ran}
 use Rattle.cyc_cpu.specs.Soft.{fires, firing_at as seen}
 use Rattle.cyc_places.specs.declared.record.Record.{Record}
-use Rattle.cyc_agreement.specs.System.{SystemView, RunningSystem, is_leaving as leaving_there}
-use Rattle.cyc_removing.specs.Polling.{Polled, PollsOn, PollsEach, PollsRemoval, leaving_cpus}
+use Rattle.cyc_system.specs.System.{SystemView, RunningSystem, is_leaving as leaving_there}
+use Rattle.cyc_system.specs.Polling.{Polled, PollsOn, PollsEach, PollsRemoval, leaving_cpus}
 use Rattle.cyc_model.specs.Acts.{calls_of}
 use Rattle.cyc_model.specs.Cpu.{Cpu, cyclic_of}
 use Rattle.cyc_model.specs.Questions.{plain, outstanding_here}

@@ -11,10 +11,10 @@ use Rattle.cyc_script.specs.declared.step.Step.TheVariants as steps
 use Rattle.cyc_text.specs.Lines.{kept, removed}
 use Rattle.cyc_cpu.specs.Cpu.{CpuView}
 use Rattle.cyc_cpu.specs.Soft.{fires, firing_at as seen}
-use Rattle.cyc_agreement.specs.System.{SystemView, removal_on}
-use Rattle.cyc_removing.specs.declared.removing.SystemRemoval.{SystemRemoval}
-use Rattle.cyc_removing.specs.declared.removing.SystemRemoval.TheVariants as system
-use Rattle.cyc_removing.specs.Removing.{cpus_with as cpus_with_in, Begun, BeginsOn, BeginsEach, BeginsRemoval, kept_in, unknown_cyclic, busy_on_each as busy_in}
+use Rattle.cyc_system.specs.System.{SystemView, removal_on}
+use Rattle.cyc_system.specs.SystemRemoval.{SystemRemoval}
+use Rattle.cyc_system.specs.SystemRemoval.TheVariants as system
+use Rattle.cyc_system.specs.Removing.{cpus_with as cpus_with_in, Begun, BeginsOn, BeginsEach, BeginsRemoval, kept_in, unknown_cyclic, busy_on_each as busy_in}
 use Rattle.cyc_model.specs.Acts.{calls_of}
 use Rattle.cyc_model.specs.Report.{counts_of}
 use Rattle.cyc_model.specs.Cpu.{Cyclic, has_cyclic, cyclic_of}

@@ -15,9 +15,9 @@ use Rattle.cyc_places.specs.declared.record.Place.TheVariants as place
 use Rattle.cyc_places.specs.declared.record.Record.{Record}
 use Rattle.cyc_places.specs.Places.{IsRecord, HasRisingIds, with_place, ended_on}
 use Rattle.cyc_cpus.proofs.Spots.{get_set_same, get_set_other}
-use Rattle.cyc_agreement.specs.System.{SystemView}
-use Rattle.cyc_agreement.specs.Refusals as why
-use Rattle.cyc_agreement.specs.Binding.{Records}
+use Rattle.cyc_system.specs.System.{SystemView}
+use Rattle.cyc_system.specs.Refusals as why
+use Rattle.cyc_system.specs.Binding.{Records}
 use Rattle.cyc_system.specs.Calls.{Changes, Bind}
 use Rattle.cyc_agreement.proofs.Spots.{same_some, none_some}
 use Rattle.cyc_model.specs.State.{State, On, Placed, Place}

@@ -22,10 +22,10 @@ use Rattle.cyc_places.specs.declared.record.Place.TheVariants as place
 use Rattle.cyc_places.specs.declared.record.Record.{Record}
 use Rattle.cyc_places.specs.Places.{IsRecord, HasRisingIds, is_everywhere as everywhere_in, ended_on, no_counts, with_ended}
 use Rattle.cyc_cpus.specs.Cpus.{CpusView, Works, on as on_cpu}
-use Rattle.cyc_agreement.specs.System.{SystemView, is_leaving as leaving_in}
-use Rattle.cyc_agreement.specs.Refusals as why
-use Rattle.cyc_everywhere.specs.Omni.{component_first}
-use Rattle.cyc_everywhere.specs.Online.{is_staying, staying as staying_in, returns, return_at as returns_at, after_return, online_cpu as online_there}
+use Rattle.cyc_system.specs.System.{SystemView, is_leaving as leaving_in}
+use Rattle.cyc_system.specs.Refusals as why
+use Rattle.cyc_system.specs.Omni.{component_first}
+use Rattle.cyc_system.specs.Online.{is_staying, staying as staying_in, returns, return_at as returns_at, after_return, online_cpu as online_there}
 use Rattle.cyc_system.specs.Calls.{Online as GoOnline, Changes}
 use Rattle.cyc_model.specs.Acts.{calls_of, events_at}
 use Rattle.cyc_model.specs.Cpu.{Cpu, nothing_here}

@@ -13,8 +13,8 @@ use Rattle.cyc_cpu.specs.Calls.{Fire, SoftInterrupt as CpuSoftInterrupt, no_inte
 use Rattle.cyc_cpus.specs.Cpus.{running_cpus}
 use Rattle.cyc_system.specs.declared.interrupting.SoftFault.{SoftFault}
 use Rattle.cyc_system.specs.declared.interrupting.SoftFault.TheVariants as fault
-use Rattle.cyc_agreement.specs.System.{SystemView, RunningSystem}
-use Rattle.cyc_agreement.specs.Refusals as why
+use Rattle.cyc_system.specs.System.{SystemView, RunningSystem}
+use Rattle.cyc_system.specs.Refusals as why
 use Rattle.cyc_system.specs.Calls.{Does, FireOne, SoftInterrupt, no_fire}
 use Rattle.cyc_agreement.proofs.Spots.{same_some, none_some}
 use Rattle.cyc_model.specs.Acts.{calls_of, calls_in, losses_in}

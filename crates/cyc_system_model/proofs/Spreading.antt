@@ -16,9 +16,9 @@ use Rattle.cyc_places.specs.declared.record.Place.TheVariants as place
 use Rattle.cyc_places.specs.Places.{IsRecord, no_counts, new_record}
 use Rattle.cyc_cpus.specs.Cpus.{CpusView, Works, on as on_cpu, online_cpus as online_in}
 use Rattle.cyc_cpus.specs.Reserving.{rooms, reserves}
-use Rattle.cyc_agreement.specs.System.{SystemView}
-use Rattle.cyc_agreement.specs.Refusals as why
-use Rattle.cyc_everywhere.specs.Omni.{entering_each, component_first}
+use Rattle.cyc_system.specs.System.{SystemView}
+use Rattle.cyc_system.specs.Refusals as why
+use Rattle.cyc_system.specs.Omni.{entering_each, component_first}
 use Rattle.cyc_system.specs.Calls.{AddOmni, Changes}
 use Rattle.cyc_model.specs.Acts.{calls_of, events_at}
 use Rattle.cyc_model.specs.Cpu.{Cpu}

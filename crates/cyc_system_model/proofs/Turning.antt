@@ -11,11 +11,11 @@ use Rattle.cyc_cpu.specs.Calls.{AskPending, Reserve}
 use Rattle.cyc_places.specs.declared.record.Place.TheVariants as place
 use Rattle.cyc_cpus.specs.Cpus.{on as on_cpu}
 use Rattle.cyc_cpus.specs.Destination.{destination as destination_in}
-use Rattle.cyc_agreement.specs.System.{SystemView}
-use Rattle.cyc_agreement.specs.Binding.{HasPlace, Records}
-use Rattle.cyc_juggling.specs.declared.turning.Turn.{Turn as TurnThere}
-use Rattle.cyc_juggling.specs.declared.turning.Turn.TheVariants as there
-use Rattle.cyc_juggling.specs.Juggling.{TakesTurn}
+use Rattle.cyc_system.specs.System.{SystemView}
+use Rattle.cyc_system.specs.Binding.{HasPlace, Records}
+use Rattle.cyc_system.specs.Turn.{Turn as TurnThere}
+use Rattle.cyc_system.specs.Turn.TheVariants as there
+use Rattle.cyc_system.specs.Juggling.{TakesTurn}
 use Rattle.cyc_model.specs.Acts.{calls_of, events_at}
 use Rattle.cyc_model.specs.Cpu.{Cyclic, cyclic_of}
 use Rattle.cyc_model.specs.Serving.{level_at}

@@ -1,7 +1,7 @@
 -- How far an advance of a system over plain levels has come: it fires the online CPUs by rising number.
 use Rattle.std.specs.Prelude.{◌≡◌, ℕ, ◌+◌, List, [], take}
 use Rattle.cyc_core.specs.Tables.{Tables}
-use Rattle.cyc_agreement.specs.System.{RunningSystem}
+use Rattle.cyc_system.specs.System.{RunningSystem}
 use Rattle.cyc_text.specs.Lines.{fired}
 use Rattle.cyc_model.specs.Acts.{calls_of, losses_in}
 use Rattle.cyc_model.specs.Firing.{fire_here}

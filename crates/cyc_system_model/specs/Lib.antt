@@ -5,3 +5,12 @@ pub mod Kept
 pub mod Advancing
 pub mod Removal
 pub mod Room
+pub use Rattle.cyc_system.specs.Adding
+pub use Rattle.cyc_system.specs.Agreement
+pub use Rattle.cyc_system.specs.Binding
+pub use Rattle.cyc_system.specs.Calls
+pub use Rattle.cyc_system.specs.Removing
+pub use Rattle.cyc_system.specs.declared.interrupting.SoftFault
+pub use Rattle.cyc_system.specs.Splitting
+pub use Rattle.cyc_system.specs.System
+pub use Rattle.cyc_system.specs.SystemRemoval

@@ -7,8 +7,8 @@ use Rattle.cyc_script.specs.declared.step.Softint.{Softint as SoftintStep}
 use Rattle.cyc_script.specs.declared.step.Step.TheVariants as steps
 use Rattle.cyc_text.specs.declared.lines.Counts.{Counts}
 use Rattle.cyc_text.specs.Lines.{kept, removed, ran}
-use Rattle.cyc_agreement.specs.System.{SystemView, RunningSystem, is_leaving}
-use Rattle.cyc_removing.specs.declared.totals.SystemTotals.{SystemTotals}
+use Rattle.cyc_system.specs.System.{SystemView, RunningSystem, is_leaving}
+use Rattle.cyc_system.specs.SystemTotals.{SystemTotals}
 use Rattle.cyc_model.specs.Acts.{calls_of}
 use Rattle.cyc_model.specs.Questions.{plain}
 use Rattle.cyc_model.specs.State.{State, each}

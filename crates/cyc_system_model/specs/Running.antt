@@ -4,7 +4,7 @@ use Rattle.cyc_core.specs.Tables.{Tables}
 use Rattle.cyc_soft.specs.declared.Ran.{Ran}
 use Rattle.cyc_fire.specs.declared.fire.Fired.{Fired}
 use Rattle.cyc_script.specs.declared.step.Softint.{Softint as SoftintStep}
-use Rattle.cyc_agreement.specs.System.{RunningSystem}
+use Rattle.cyc_system.specs.System.{RunningSystem}
 use Rattle.cyc_model.specs.Acts.{calls_of, calls_in, losses_in}
 use Rattle.cyc_model.specs.Firing.{due_here, fire_here}
 use Rattle.cyc_model.specs.Serving.{interrupt_here}

@@ -9,8 +9,8 @@ use Rattle.cyc_places.specs.declared.record.Place.TheVariants as place
 use Rattle.cyc_places.specs.declared.record.Record.{Record}
 use Rattle.cyc_places.specs.Places.{IsRecord, HasRisingIds, ended_on, no_counts}
 use Rattle.cyc_cpus.specs.Cpus.{CpusView, IsCpu}
-use Rattle.cyc_agreement.specs.System.{SystemView}
-use Rattle.cyc_agreement.specs.Agreement.{Agrees}
+use Rattle.cyc_system.specs.System.{SystemView}
+use Rattle.cyc_system.specs.Agreement.{Agrees}
 use Rattle.cyc_model.specs.Cpu.{Cpu}
 use Rattle.cyc_model.specs.State.{State, Place, On, OnAll, Placed, Ended}
 use Rattle.cyc_cpu_model.specs.Shown.{shown_cpu}

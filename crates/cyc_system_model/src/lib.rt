@@ -23,8 +23,8 @@ ghost use Rattle.cyc_script.specs.declared.step.Softint.{Softint as SoftintStep}
 ghost use Rattle.cyc_script.specs.declared.step.Step.TheVariants as steps;
 ghost use Rattle.cyc_system.specs.declared.interrupting.SoftFault.{SoftFault};
 ghost use Rattle.cyc_system.specs.declared.interrupting.SoftFault.TheVariants as fault;
-ghost use Rattle.cyc_agreement.specs.System.{SystemView, RunningSystem, is_online};
-ghost use Rattle.cyc_agreement.specs.Agreement.{Agrees, most_on};
+ghost use Rattle.cyc_system.specs.System.{SystemView, RunningSystem, is_online};
+ghost use Rattle.cyc_system.specs.Agreement.{Agrees, most_on};
 ghost use Rattle.cyc_system.specs.Calls.{SystemCall, Changes, Does, Add, AddOmni, Bind, BeginRemove, PollRemove, AskTotals, Juggle, Offline, Online, FireOne, SoftInterrupt, no_fire};
 ghost use Rattle.cyc_model.specs.State.{State, each};
 ghost use Rattle.cyc_model.specs.Places.{id_of, is_unknown};
@@ -32,8 +32,8 @@ ghost use Rattle.cyc_model.specs.Refusals.{first_refusal, no_cpu, offline_cpu};
 ghost use Rattle.cyc_model.specs.Script.{start};
 ghost use Rattle.cyc_model.specs.Softint.{softint_refusal};
 ghost use Rattle.cyc_types.specs.declared.receipt.Receipt.{Receipt};
-ghost use Rattle.cyc_removing.specs.declared.removing.SystemRemoval.TheVariants as removal;
-ghost use Rattle.cyc_removing.specs.declared.totals.SystemTotals.{SystemTotals};
+ghost use Rattle.cyc_system.specs.SystemRemoval.TheVariants as removal;
+ghost use Rattle.cyc_system.specs.SystemTotals.{SystemTotals};
 ghost use Rattle.cyc_model.specs.Softint.{interrupt, text_of_id, poll_id, leaving_ids};
 ghost use Rattle.cyc_model.specs.Report.{counts_of};
 ghost use Rattle.cyc_model.specs.Questions.{plain};
@@ -45,6 +45,7 @@ ghost use Rattle.cyc_system_model.specs.Running.{IsFired, IsServed};
 ghost use Rattle.cyc_system_model.specs.Advancing.{at_clock, HasFired, IsAdvanced};
 ghost use Rattle.cyc_system_model.specs.Words.{IsSeries, IsMoment, IsDone, IsDoneWith, IsRefusedFor, IsAtOnce, reprograms};
 
+pub use cyc_system::{SoftFault, System, SystemRemoval, others_law};
 use cyc_types::Calls;
 
 /// The machine before the first step of a script shows a new system over as many CPUs.

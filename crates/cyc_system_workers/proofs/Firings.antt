@@ -14,9 +14,9 @@ use Rattle.cyc_cpu.specs.Cpu.{CpuView, Running, running}
 use Rattle.cyc_cpu.specs.Calls.{Does, Fire, no_interrupts}
 use Rattle.cyc_cpus.specs.Cpus.{CpusView, numbers_from, online_cpus}
 use Rattle.cyc_places.specs.declared.record.Record.{Record}
-use Rattle.cyc_agreement.specs.Agreement.{Agrees}
-use Rattle.cyc_agreement.specs.System.{SystemView, is_online, running_system}
-use Rattle.cyc_agreement.specs.Refusals.{no_cpu, offline_cpu}
+use Rattle.cyc_system.specs.Agreement.{Agrees}
+use Rattle.cyc_system.specs.System.{SystemView, is_online, running_system}
+use Rattle.cyc_system.specs.Refusals.{no_cpu, offline_cpu}
 use Rattle.cyc_agreement.proofs.Presence.{cpu_clear}
 use Rattle.cyc_agreement.proofs.Spots.{get_some}
 use Rattle.cyc_cpu_workers.specs.declared.settling.Lead.{Lead}

@@ -1,7 +1,7 @@
 //! What an advance is as calls of the system.
 
 ghost use Rattle.std.specs.Prelude.{◌≡◌, ℕ, length};
-ghost use Rattle.cyc_agreement.specs.Agreement.{Agrees};
+ghost use Rattle.cyc_system.specs.Agreement.{Agrees};
 ghost use Rattle.cyc_system_workers.specs.declared.side.SystemSide.{SystemSide};
 ghost use Rattle.cyc_system_workers.specs.declared.advancing.Advanced.{Advanced};
 ghost use Rattle.cyc_system_workers.specs.Advancing.{AllFire};

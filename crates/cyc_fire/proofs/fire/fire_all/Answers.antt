@@ -1,8 +1,8 @@
 use Rattle.std.proofs.Common.{◌<◌, [], ◌∷◌, ◌++◌, length, refl, sym, ap, ◌∙◌, subst, arith, length-append}
 use Rattle.std.proofs.lemmas.List.Elements.{recursion_from_All}
-use Rattle.cyc_expirations.specs.Expirations.{next_of}
-use Rattle.cyc_expirations.specs.Timers.{Timer}
-use Rattle.cyc_expirations.proofs.Firings.{fire_start, fire_done, fire_bound}
+use Rattle.cyc_timers.specs.Expirations.{next_of}
+use Rattle.cyc_timers.specs.Timers.{Timer}
+use Rattle.cyc_timers.proofs.Firings.{fire_start, fire_done, fire_bound}
 use Rattle.cyc_timers.specs.Rows.{timers_of, cyclics_of}
 use Rattle.cyc_types.specs.Levels.{at_level}
 use Rattle.cyc_types.specs.declared.level.Level.TheVariants.{High}

@@ -1,7 +1,7 @@
 use Rattle.std.proofs.Common.{◌≡◌, ◌≤◌, List, length, All}
-use Rattle.cyc_expirations.specs.Expirations.{Expiration, expirations}
-use Rattle.cyc_expirations.specs.Timers.{IsSound}
-use Rattle.cyc_expirations.proofs.Firings.{Firing}
+use Rattle.cyc_timers.specs.Expirations.{Expiration, expirations}
+use Rattle.cyc_timers.specs.Timers.{IsSound}
+use Rattle.cyc_timers.proofs.Firings.{Firing}
 use Rattle.cyc_timers.specs.Rows.{timers_of, cyclics_of, IsRising}
 use Rattle.cyc_types.specs.Levels.{at_level}
 use Rattle.cyc_types.specs.declared.level.Level.TheVariants.{High}

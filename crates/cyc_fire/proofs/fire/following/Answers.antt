@@ -1,6 +1,6 @@
 use Rattle.std.proofs.Common.{◌≡◌, ◌<◌, ◌≤◌, ◌+◌, min, arith}
 use Rattle.cyc_types.specs.Series.{late, never}
-use Rattle.cyc_expirations.proofs.Dues.{due_step}
+use Rattle.cyc_timers.proofs.Dues.{due_step}
 use Rattle.cyc_fire.proofs.Nexts.{next_step}
 use Rattle.cyc_fire.proofs.fire.following.Goals as goal
 

@@ -1,5 +1,5 @@
 use Rattle.std.proofs.Common.{sym, ◌∙◌}
-use Rattle.cyc_expirations.proofs.Firings.{earliest_least}
+use Rattle.cyc_timers.proofs.Firings.{earliest_least}
 use Rattle.cyc_timers.specs.Rows.{timers_of}
 use Rattle.cyc_fire.proofs.Stepping.{timer_is, timer_low}
 use Rattle.cyc_fire.proofs.fire.next_moment.Goals as goal

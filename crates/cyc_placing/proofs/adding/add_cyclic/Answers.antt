@@ -3,8 +3,8 @@ use Rattle.std.specs.Prelude.{Ok, Err, slice_set}
 use Rattle.std.proofs.lemmas.Result.{err_from_is_err_and}
 use Rattle.std.proofs.lemmas.List.{map-set}
 use Rattle.cyc_script.specs.declared.step.Step.TheVariants as steps
-use Rattle.cyc_agreement.specs.System.{running_system}
-use Rattle.cyc_system.specs.Calls.{Changes, Add}
+use Rattle.cyc_script_machine.specs.System.{running_system}
+use Rattle.cyc_script_machine.specs.Calls.{Changes, Add}
 use Rattle.cyc_cpu.specs.Soft.{fires, firing_at}
 use Rattle.cyc_cpu_model.specs.Answers.{IsRefused}
 use Rattle.cyc_model.specs.Questions.{plain}

@@ -1,7 +1,7 @@
 use Rattle.std.proofs.Common.{◌≡◌, refl, subst}
 use Rattle.std.specs.Prelude.{Ok, Err}
-use Rattle.cyc_agreement.specs.System.{running_system}
-use Rattle.cyc_system.specs.Calls.{Changes, Juggle}
+use Rattle.cyc_script_machine.specs.System.{running_system}
+use Rattle.cyc_script_machine.specs.Calls.{Changes, Juggle}
 use Rattle.cyc_cpu.specs.Soft.{fires, firing_at}
 use Rattle.cyc_script_machine.proofs.Doing.{keeps}
 use Rattle.cyc_placing.proofs.Turns.{juggles}

@@ -2,10 +2,10 @@ use Rattle.std.proofs.Common.{◌≡◌, ℕ, arith, None, Some, refl, ap, sym, 
 use Rattle.std.specs.Prelude.{Ok, Err}
 use Rattle.std.proofs.lemmas.Result.{err_from_is_err_and}
 use Rattle.cyc_script.specs.declared.step.Step.TheVariants as steps
-use Rattle.cyc_agreement.specs.System.{running_system}
-use Rattle.cyc_system.specs.Calls.{Changes}
+use Rattle.cyc_script_machine.specs.System.{running_system}
+use Rattle.cyc_script_machine.specs.Calls.{Changes}
 use Rattle.cyc_cpu.specs.Soft.{fires, firing_at}
-use Rattle.cyc_system_model.specs.Words.{reprograms}
+use Rattle.cyc_script_machine.specs.SystemWords.{reprograms}
 use Rattle.cyc_cpu_model.specs.Answers.{IsRefused}
 use Rattle.cyc_model.specs.Questions.{plain}
 use Rattle.cyc_model.specs.Script.{refusal_of}

@@ -1,7 +1,7 @@
 use Rattle.std.proofs.Common.{rules, ◌≡◌, ◌-◌, ◌^◌, ap, sym, subst, ◌∙◌, refl, None, ℕ, length, All}
 use Rattle.cyc_types.specs.Tally.{tally_made}
-use Rattle.cyc_agreement.specs.Agreement.{Agrees}
-use Rattle.cyc_agreement.specs.System.{SystemView}
+use Rattle.cyc_system_model.specs.Agreement.{Agrees}
+use Rattle.cyc_system_model.specs.System.{SystemView}
 use Rattle.cyc_core.specs.Tables.{Tables}
 use Rattle.cyc_model.specs.Script.{start}
 use Rattle.cyc_system_model.specs.Shown.{Shows, IsSystem}

@@ -1,5 +1,5 @@
 use Rattle.std.proofs.Common.{sym}
-use Rattle.cyc_agreement.specs.System.{running_system}
+use Rattle.cyc_script_machine.specs.System.{running_system}
 use Rattle.cyc_serving.proofs.Fired.{many_here}
 use Rattle.cyc_serving.proofs.Advanced.{begins, fired_at, advanced}
 use Rattle.cyc_serving.proofs.advancing.advance_clock.Goals as goal

@@ -1,7 +1,7 @@
 use Rattle.std.proofs.Common.{◌≡◌, ℕ, ◌*◌, ◌^◌, ◌≤◌, length}
 use Rattle.cyc_types.specs.Tally.{TallyView}
 use Rattle.cyc_core.specs.Tables.{Tables}
-use Rattle.cyc_agreement.specs.System.{RunningSystem}
+use Rattle.cyc_script_machine.specs.System.{RunningSystem}
 use Rattle.cyc_model.specs.State.{State}
 use Rattle.cyc_serving.specs.Advancing.{IsAdvancing}
 use Rattle.cyc_serving.proofs.advancing.fire_all.Given as goal

@@ -1,9 +1,9 @@
 use Rattle.std.proofs.Common.{◌+◌, refl, sym, subst, arith}
 use Rattle.std.specs.Prelude.{Ok}
 use Rattle.cyc_types.specs.Tally.{tally_count}
-use Rattle.cyc_agreement.specs.System.{running_system}
-use Rattle.cyc_system.specs.Calls.{FireOne}
-use Rattle.cyc_system_model.specs.Advancing.{at_clock, HasFired}
+use Rattle.cyc_script_machine.specs.System.{running_system}
+use Rattle.cyc_script_machine.specs.Calls.{FireOne}
+use Rattle.cyc_script_machine.specs.Advancing.{at_clock, HasFired}
 use Rattle.cyc_script_machine.proofs.Remembering.{remembers_on}
 use Rattle.cyc_serving.proofs.Fired.{most_fired, wide_fired, passed, never_fire, low_here, passed_on}
 use Rattle.cyc_serving.proofs.advancing.fire_cpu.Goals as goal

@@ -2,8 +2,8 @@ use Rattle.std.proofs.Common.{◌≡◌, ℕ, List, Option, ◌++◌, ◌∷◌,
 use Rattle.std.specs.Prelude.{Ok, slice_set}
 use Rattle.cyc_serving.specs.Removing.{counted_by}
 use Rattle.cyc_cpu.specs.Soft.{fires, firing_at}
-use Rattle.cyc_agreement.specs.System.{running_system}
-use Rattle.cyc_system.specs.Calls.{Changes, PollRemove}
+use Rattle.cyc_script_machine.specs.System.{running_system}
+use Rattle.cyc_script_machine.specs.Calls.{Changes, PollRemove}
 use Rattle.cyc_model.specs.Softint.{interrupt}
 use Rattle.cyc_script_machine.specs.Machine.{id_at, name_at}
 use Rattle.cyc_script_machine.proofs.Doing.{keeps}

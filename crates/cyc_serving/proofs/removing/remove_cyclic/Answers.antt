@@ -1,6 +1,6 @@
 use Rattle.std.proofs.Common.{None, Some, refl, ap, sym, subst, ◌∙◌}
-use Rattle.cyc_agreement.specs.System.{running_system}
-use Rattle.cyc_system.specs.Calls.{Changes, BeginRemove}
+use Rattle.cyc_script_machine.specs.System.{running_system}
+use Rattle.cyc_script_machine.specs.Calls.{Changes, BeginRemove}
 use Rattle.cyc_cpu.specs.Soft.{fires, firing_at}
 use Rattle.cyc_model.specs.Places.{id_of}
 use Rattle.cyc_script_machine.specs.Machine.{id_at}

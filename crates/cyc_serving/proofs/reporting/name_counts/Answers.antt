@@ -1,8 +1,8 @@
 use Rattle.std.proofs.Common.{◌≡◌, ℕ, Option, Some, None, refl, ap, sym, ◌∙◌, subst, cond}
-use Rattle.cyc_agreement.specs.System.{running_system}
+use Rattle.cyc_script_machine.specs.System.{running_system}
 use Rattle.cyc_cpu.specs.Soft.{fires, firing_at}
-use Rattle.cyc_system.specs.Calls.{Changes, AskTotals}
-use Rattle.cyc_system_model.specs.Shown.{Shows}
+use Rattle.cyc_script_machine.specs.Calls.{Changes, AskTotals}
+use Rattle.cyc_script_machine.specs.Shown.{Shows}
 use Rattle.cyc_model.specs.Report.{counts_of}
 use Rattle.cyc_script_machine.specs.Machine.{id_at, counted_at}
 use Rattle.cyc_script_machine.proofs.Doing.{keeps, refuses}

@@ -3,7 +3,7 @@ use Rattle.std.specs.Prelude.{not, is_some}
 use Rattle.std.specs.Option.{option_map, option_map_or}
 use Rattle.cyc_places.specs.declared.record.Record.{Record}
 use Rattle.cyc_places.specs.Places.{is_everywhere}
-use Rattle.cyc_agreement.specs.System.{record_of}
+use Rattle.cyc_system.specs.System.{record_of}
 use Rattle.cyc_system_counts.specs.Keeping.{over_stays}
 use Rattle.cyc_system_counts.proofs.Looked.{look_kept}
 use Rattle.cyc_system_counts.proofs.Kept.{stays_kept, moments_kept}

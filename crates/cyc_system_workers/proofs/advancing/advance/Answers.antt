@@ -1,7 +1,7 @@
 use Rattle.std.proofs.Common.{sym, ap, ◌∙◌, length}
 use Rattle.std.specs.List.{slice_get}
 use Rattle.std.proofs.lemmas.List.{length-map}
-use Rattle.cyc_agreement.specs.System.{SystemView}
+use Rattle.cyc_system.specs.System.{SystemView}
 use Rattle.cyc_system_workers.specs.declared.lanes.Lane.{Lane}
 use Rattle.cyc_system_workers.specs.declared.lanes.LaneAfter.{LaneAfter}
 use Rattle.cyc_system_workers.proofs.Together.{comes_back, all_fire}

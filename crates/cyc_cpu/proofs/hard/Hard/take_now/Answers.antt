@@ -3,7 +3,7 @@ use Rattle.std.specs.Prelude.{remove}
 use Rattle.cyc_types.specs.Firing.{Loads, Marks, Polls, seen_of}
 use Rattle.cyc_types.specs.Runs.{Goes}
 use Rattle.cyc_types.specs.declared.level.Level.TheVariants.{Low, Lock}
-use Rattle.cyc_timers.specs.Rows.{cyclic_of, cyclics_of}
+use Rattle.cyc_fire.specs.Rows.{cyclic_of, cyclics_of}
 use Rattle.cyc_cpu.specs.Cpu.{CpuView, IsCyclic, HasNoCyclic}
 use Rattle.cyc_fire.specs.Ends.{IsHard}
 use Rattle.cyc_fire.specs.Quiet.{asks_at}

@@ -1,6 +1,6 @@
 use Rattle.std.proofs.Common.{◌≡◌, ◌<◌, ◌+◌, ◌^◌, length, arith, ap, sym, ◌∙◌, subst}
 use Rattle.std.proofs.lemmas.List.{length-map}
-use Rattle.cyc_timers.specs.Rows.{TableView, cyclic_of}
+use Rattle.cyc_fire.specs.Rows.{TableView, cyclic_of}
 use Rattle.cyc_cpu.specs.Cpu.{CpuView}
 use Rattle.cyc_fire.specs.Ends.{IsHard}
 use Rattle.cyc_cpu.proofs.Entering.{hard_expanded, pow_order}

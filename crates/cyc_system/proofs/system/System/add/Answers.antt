@@ -1,7 +1,7 @@
 use Rattle.std.proofs.Common.{◌≡◌, ◌<◌, ◌++◌, ◌∷◌, [], Ok, None, refl, sym, ap, ◌∙◌, subst, arith, length, false, get_or}
 use Rattle.std.proofs.lemmas.Result.{err_from_is_err_and}
 use Rattle.cyc_cpu.specs.Cpu.{MayWiden}
-use Rattle.cyc_cpus.proofs.Spots.{of_cpu}
+use Rattle.cyc_agreement.proofs.CpuSpots.{of_cpu}
 use Rattle.cyc_places.specs.declared.record.Record.{Record}
 use Rattle.cyc_places.specs.declared.record.Place.TheVariants.{On}
 use Rattle.cyc_places.specs.Places.{new_record}
@@ -17,7 +17,7 @@ use Rattle.cyc_system.proofs.Added.{add_done, add_unrecorded}
 use Rattle.cyc_agreement.proofs.Lists.{among}
 use Rattle.cyc_agreement.proofs.Spots.{seen, get_last}
 use Rattle.cyc_cpu.specs.Calls.{Reserve}
-use Rattle.cyc_cpus.specs.Cpus.{on}
+use Rattle.cyc_agreement.specs.Cpus.{on}
 use Rattle.cyc_agreement.specs.Adding.{entering}
 use Rattle.cyc_agreement.proofs.Refusing.{not_never, not_spent}
 use Rattle.cyc_system.proofs.system.System.add.Goals as goal

@@ -1,6 +1,6 @@
 use Rattle.std.proofs.Common.{◌≡◌, ◌≤◌, ◌-◌, [], sym, subst, arith}
 use Rattle.cyc_types.specs.Limits.{last_id}
-use Rattle.cyc_cpus.specs.Cpus.{new_cpus}
+use Rattle.cyc_agreement.specs.Cpus.{new_cpus}
 use Rattle.cyc_agreement.specs.System.{SystemView}
 use Rattle.cyc_agreement.specs.Holding.{Holds}
 use Rattle.cyc_agreement.proofs.Holding.{holds_new}
