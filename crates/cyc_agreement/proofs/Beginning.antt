@@ -1,5 +1,6 @@
 -- A new system agrees with its records, of which there is none.
-use Rattle.std.proofs.Common.{◌≡◌, ℕ, ◌<◌, ◌≤◌, Option, Some, None, List, [], length, replicate, zero, suc, option_map, true, false, refl, sym, ap, ◌∙◌, arith}
+use Rattle.std.proofs.Common.{◌≡◌, ℕ, ◌<◌, ◌≤◌, Option, Some, None, List, [], length, replicate, zero, suc, option_map, true}
+use Rattle.std.proofs.Common.{false, refl, sym, ap, ◌∙◌, arith}
 use Rattle.std.specs.List.{slice_get, list_any}
 use Rattle.std.specs.Option.{option_map_or}
 use Rattle.std.specs.Prelude.{◌==◌}
@@ -13,13 +14,15 @@ use Rattle.cyc_agreement.proofs.Spots.{none_some, same_some}
 false_true : false ≡ true → ⊥
 false_true e = cc
 
-no_ids : {R : Type 0} (most : ℕ) (o : Option (R × R)) → option_map_or ids_of (option_map (λ (e : R × R). new_cpu most e.0 e.1) o) [] ≡ []
+no_ids : {R : Type 0} (most : ℕ) (o : Option (R × R))
+    → option_map_or ids_of (option_map (λ (e : R × R). new_cpu most e.0 e.1) o) [] ≡ []
 no_ids most None = refl
 no_ids most (Some e) = refl
 
 pub none_has : {R : Type 0} (most : ℕ) (ends : List (R × R)) (n id : ℕ) → has n id (new_cpus most ends) ≡ false
 none_has {R} most ends n id = ap (λ (ids : List ℕ). list_any (λ own. own == id) ids)
-    (ap (λ o. option_map_or ids_of o []) (slice_get-map (λ (e : R × R). new_cpu most e.0 e.1) ends n) ∙ no_ids most (slice_get ends n))
+    (ap (λ o. option_map_or ids_of o []) (slice_get-map (λ (e : R × R). new_cpu most e.0 e.1) ends n)
+    ∙ no_ids most (slice_get ends n))
 
 its_most : {R : Type 0} (most : ℕ) (o : Option (R × R)) (a : ℕ)
     → option_map (λ cpu. cpu.most) (option_map (λ (e : R × R). new_cpu most e.0 e.1) o) ≡ Some a → most ≡ a

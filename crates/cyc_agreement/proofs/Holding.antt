@@ -1,5 +1,6 @@
 -- What every system keeps, after a call that opened no removal and ended no stay.
-use Rattle.std.proofs.Common.{◌≡◌, ◌≢◌, ℕ, ◌<◌, ◌≤◌, ◌⊎◌, inl, inr, true, Some, List, [], ◌∷◌, ◌++◌, length, slice_set, refl, sym, ap, ◌∙◌, subst, arith}
+use Rattle.std.proofs.Common.{◌≡◌, ◌≢◌, ℕ, ◌<◌, ◌≤◌, ◌⊎◌, inl, inr, true, Some, List, [], ◌∷◌, ◌++◌, length, slice_set, refl, sym}
+use Rattle.std.proofs.Common.{ap, ◌∙◌, subst, arith}
 use Rattle.std.specs.List.{slice_get}
 use Rattle.std.proofs.lemmas.Option.{slice_get_within}
 use mathlib.Core.Logic.{dite}
@@ -21,7 +22,8 @@ use Rattle.cyc_agreement.proofs.Who.{SameWho, SameBut, has_same}
 -- the cyclics that are leaving are where they were, and no other removal is open
 pub whole_kept : {R : Type 0} (v w : CpusView R) → ((n : ℕ) → removal_on n w ≡ removal_on n v)
     → ((m n id : ℕ) → removal_on m v ≡ Some id → has n id w ≡ true → has n id v ≡ true) → LeaveWhole v → LeaveWhole w
-whole_kept v w removals back whole m n id e h = let was = sym (removals m) ∙ e in removals n ∙ whole m n id was (back m n id was h)
+whole_kept v w removals back whole m n id e h = let was = sym (removals m) ∙ e in removals n
+    ∙ whole m n id was (back m n id was h)
 
 pub whole_same : {R : Type 0} (v w : CpusView R) → SameWho v w → LeaveWhole v → LeaveWhole w
 whole_same v w same whole = whole_kept v w same.removals (λ m n id e h. sym (has_same v w same n id) ∙ h) whole
@@ -33,12 +35,16 @@ pub within_kept : {R : Type 0} (s t : SystemView R) → ((n : ℕ) → most_on n
     → EndedWithin s → EndedWithin t
 within_kept s t most each within k n m r is e = by (each k n m r is (sym (most n) ∙ e))
   where
-    by : ((j : ℕ) × (q : Record) × IsRecord s.records j q × (ended_on n r ≡ ended_on n q)) ⊎ ((ended_on n r).sent ≤ m) → (ended_on n r).sent ≤ m
-    by (inl (j, q, at, same)) = let l = within j n m q at (sym (most n) ∙ e) in let f = ap (λ c. c.sent) same in omega (arith, l, f)
+    by : ((j : ℕ) × (q : Record) × IsRecord s.records j q × (ended_on n r ≡ ended_on n q)) ⊎ ((ended_on n r).sent ≤ m)
+        → (ended_on n r).sent ≤ m
+    by (inl (j, q, at, same)) = let l = within j n m q at (sym (most n) ∙ e) in let f = ap (λ c. c.sent) same in
+        omega (arith, l, f)
     by (inr few) = few
 
-pub within_same : {R : Type 0} (s t : SystemView R) → ((n : ℕ) → most_on n t.cpus ≡ most_on n s.cpus) → t.records ≡ s.records → EndedWithin s → EndedWithin t
-within_same s t most same within = within_kept s t most (λ k n m r is e. inl (k, r, subst (λ rs. IsRecord rs k r) same is, refl)) within
+pub within_same : {R : Type 0} (s t : SystemView R) → ((n : ℕ) → most_on n t.cpus ≡ most_on n s.cpus) → t.records ≡ s.records
+    → EndedWithin s → EndedWithin t
+within_same s t most same within = within_kept s t most (λ k n m r is e. inl (k, r, subst (λ rs. IsRecord rs k r) same is, refl))
+    within
 
 -- what holds where the CPUs have their cyclics and their removals, and the records are as they were
 pub holds_same : {R : Type 0} (s : SystemView R) (w : CpusView R) → Holds s → SameWho s.cpus w → Holds (record s { cpus = w })
@@ -58,12 +64,15 @@ holds_new {R} most last ends some few = record {
 }
 
 -- the cyclic of a new id is on these CPUs, which have the removals that they had
-pub holds_given : {R : Type 0} (s t : SystemView R) (id : ℕ) (r : Record) → Holds s → Agrees t → SameBut id s.cpus t.cpus → ((n : ℕ) → removal_on n t.cpus ≡ removal_on n s.cpus)
+pub holds_given : {R : Type 0} (s t : SystemView R) (id : ℕ) (r : Record) → Holds s → Agrees t → SameBut id s.cpus t.cpus
+    → ((n : ℕ) → removal_on n t.cpus ≡ removal_on n s.cpus)
     → ((n : ℕ) → removal_on n s.cpus ≢ Some id) → t.records ≡ s.records ++ r ∷ [] → ((n : ℕ) → ended_on n r ≡ no_counts) → Holds t
 holds_given s t id r h agrees but removals still records none = record {
   agrees = agrees;
-  whole = whole_kept s.cpus t.cpus removals (λ m n q e has_now. sym (but.others n q (λ same. still m (e ∙ ap Some same))) ∙ has_now) h.whole;
-  within = within_kept s t but.most (λ k n m q is e. by k n m q (get_either s.records r k q (subst (λ rs. IsRecord rs k q) records is))) h.within;
+  whole = whole_kept s.cpus t.cpus removals (λ m n q e has_now. sym (but.others n q (λ same. still m (e ∙ ap Some same)))
+      ∙ has_now) h.whole;
+  within = within_kept s t but.most (λ k n m q is e. by k n m q
+      (get_either s.records r k q (subst (λ rs. IsRecord rs k q) records is))) h.within;
 }
   where
     by : (k n m : ℕ) (q : Record) → (IsRecord s.records k q) ⊎ (q ≡ r)
@@ -72,12 +81,14 @@ holds_given s t id r h agrees but removals still records none = record {
     by k n m q (inr e) = inr (let z = ap (λ c. c.sent) (ap (λ p. ended_on n p) e ∙ none n) in omega (arith, z))
 
 -- a cyclic whose removal is not open has another place
-pub holds_moved : {R : Type 0} (s t : SystemView R) (k : ℕ) (r : Record) (place : Place) → Holds s → Agrees t → SameBut r.id s.cpus t.cpus
+pub holds_moved : {R : Type 0} (s t : SystemView R) (k : ℕ) (r : Record) (place : Place) → Holds s → Agrees t
+    → SameBut r.id s.cpus t.cpus
     → ((n : ℕ) → removal_on n t.cpus ≡ removal_on n s.cpus) → ((n : ℕ) → removal_on n s.cpus ≢ Some r.id)
     → IsRecord s.records k r → t.records ≡ slice_set s.records k (with_place place r) → Holds t
 holds_moved s t k r place h agrees but removals still here records = record {
   agrees = agrees;
-  whole = whole_kept s.cpus t.cpus removals (λ m n q e has_now. sym (but.others n q (λ same. still m (e ∙ ap Some same))) ∙ has_now) h.whole;
+  whole = whole_kept s.cpus t.cpus removals (λ m n q e has_now. sym (but.others n q (λ same. still m (e ∙ ap Some same)))
+      ∙ has_now) h.whole;
   within = within_kept s t but.most (λ j n m q is e. inl (by j n q (subst (λ rs. IsRecord rs j q) records is))) h.within;
 }
   where

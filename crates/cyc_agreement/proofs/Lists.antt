@@ -1,5 +1,6 @@
 -- Tests over a list from which an element went, or to which one came.
-use Rattle.std.proofs.Common.{◌≡◌, ◌≢◌, ℕ, zero, suc, ◌<◌, Bool, true, false, List, [], ◌∷◌, ◌++◌, length, get_or, map, take, drop, refl, sym, ap, ◌∙◌, arith, eq-eqb, ne_eqb}
+use Rattle.std.proofs.Common.{◌≡◌, ◌≢◌, ℕ, zero, suc, ◌<◌, Bool, true, false, List, [], ◌∷◌, ◌++◌, length, get_or, map, take}
+use Rattle.std.proofs.Common.{drop, refl, sym, ap, ◌∙◌, arith, eq-eqb, ne_eqb}
 use Rattle.std.specs.Prelude.{◌||◌, ◌==◌, insert, remove}
 use Rattle.std.specs.List.{list_any}
 use Rattle.std.proofs.lemmas.List.{take-append-drop, take-map, drop-map, map-append}
@@ -20,19 +21,24 @@ or_false a true c e = absurd (let odd : true ≡ false = e in cc)
 or_false a false c e = refl
 
 pub any_insert : {A : Type 0} (p : A → Bool) (xs : List A) (k : ℕ) (x : A) → list_any p (insert xs k x) ≡ (p x || list_any p xs)
-any_insert p xs k x = list_any-append p (take k xs) (x ∷ drop k xs) ∙ or_swap (list_any p (take k xs)) (p x) (list_any p (drop k xs))
+any_insert p xs k x = list_any-append p (take k xs) (x ∷ drop k xs)
+    ∙ or_swap (list_any p (take k xs)) (p x) (list_any p (drop k xs))
     ∙ ap (λ b. p x || b) (sym (list_any-append p (take k xs) (drop k xs)) ∙ ap (λ l. list_any p l) (take-append-drop k xs))
 
-pub any_remove : {A : Type 0} (p : A → Bool) (xs : List A) (k : ℕ) (d : A) → k < length xs → p (get_or xs k d) ≡ false → list_any p (remove xs k) ≡ list_any p xs
+pub any_remove : {A : Type 0} (p : A → Bool) (xs : List A) (k : ℕ) (d : A) → k < length xs → p (get_or xs k d) ≡ false
+    → list_any p (remove xs k) ≡ list_any p xs
 any_remove p [] k d low fails = absurd (omega (arith, low))
 any_remove p (x ∷ xs) zero d low fails = sym (or_false false (p x) (list_any p xs) fails)
 any_remove p (x ∷ xs) (suc k) d low fails = ap (λ b. p x || b) (any_remove p xs k d (omega (arith, low)) fails)
 
-pub any_none : {A : Type 0} (p : A → Bool) (xs : List A) → ((j : ℕ) (d : A) → j < length xs → p (get_or xs j d) ≡ false) → list_any p xs ≡ false
+pub any_none : {A : Type 0} (p : A → Bool) (xs : List A) → ((j : ℕ) (d : A) → j < length xs → p (get_or xs j d) ≡ false)
+    → list_any p xs ≡ false
 any_none p [] h = refl
-any_none p (x ∷ xs) h = ap (λ b. b || list_any p xs) (h 0 x (omega arith)) ∙ any_none p xs (λ j d low. h (suc j) d (omega (arith, low)))
+any_none p (x ∷ xs) h = ap (λ b. b || list_any p xs) (h 0 x (omega arith))
+    ∙ any_none p xs (λ j d low. h (suc j) d (omega (arith, low)))
 
-pub any_at : {A : Type 0} (p : A → Bool) (xs : List A) (k : ℕ) (d : A) → k < length xs → p (get_or xs k d) ≡ true → list_any p xs ≡ true
+pub any_at : {A : Type 0} (p : A → Bool) (xs : List A) (k : ℕ) (d : A) → k < length xs → p (get_or xs k d) ≡ true
+    → list_any p xs ≡ true
 any_at p [] k d low passes = absurd (omega (arith, low))
 any_at p (x ∷ xs) zero d low passes = ap (λ b. b || list_any p xs) passes
 any_at p (x ∷ xs) (suc k) d low passes = ap (λ b. p x || b) (any_at p xs k d (omega (arith, low)) passes) ∙ or_true (p x)
@@ -42,11 +48,13 @@ any_at p (x ∷ xs) (suc k) d low passes = ap (λ b. p x || b) (any_at p xs k d 
     or_true false = refl
 
 -- the place of one that passes
-pub any_place : {A : Type 0} (p : A → Bool) (xs : List A) → list_any p xs ≡ true → (k : ℕ) × (k < length xs) × ((d : A) → p (get_or xs k d) ≡ true)
+pub any_place : {A : Type 0} (p : A → Bool) (xs : List A) → list_any p xs ≡ true → (k : ℕ) × (k < length xs)
+    × ((d : A) → p (get_or xs k d) ≡ true)
 any_place p [] e = absurd (let odd : false ≡ true = e in cc)
 any_place p (x ∷ xs) e = by (p x) refl e (any_place p xs)
   where
-    by : (b : Bool) → p x ≡ b → (b || list_any p xs) ≡ true → (list_any p xs ≡ true → (k : ℕ) × (k < length xs) × ((d : _) → p (get_or xs k d) ≡ true))
+    by : (b : Bool) → p x ≡ b → (b || list_any p xs) ≡ true
+        → (list_any p xs ≡ true → (k : ℕ) × (k < length xs) × ((d : _) → p (get_or xs k d) ≡ true))
         → (k : ℕ) × (k < length (x ∷ xs)) × ((d : _) → p (get_or (x ∷ xs) k d) ≡ true)
     by true is e rest = (0, omega arith, λ d. is)
     by false is e rest = let (k, low, passes) = rest e in (suc k, omega (arith, low), passes)

@@ -1,5 +1,6 @@
 -- Where a cyclic is, and whether its removal is open.
-use Rattle.std.proofs.Common.{◌≡◌, ◌≢◌, ◌==◌, ℕ, zero, suc, ◌-◌, ◌<◌, ◌≤◌, Bool, true, false, not, Some, None, List, [], ◌∷◌, length, get_or, refl, sym, ap, ◌∙◌, arith}
+use Rattle.std.proofs.Common.{◌≡◌, ◌≢◌, ◌==◌, ℕ, zero, suc, ◌-◌, ◌<◌, ◌≤◌, Bool, true, false, not, Some, None, List, [], ◌∷◌}
+use Rattle.std.proofs.Common.{length, get_or, refl, sym, ap, ◌∙◌, arith}
 use Rattle.std.specs.Bool.{OnTrue, OnFalse}
 use Rattle.std.specs.Prelude.{◌||◌, ◌&&◌, nat_le, is_some}
 use Rattle.std.specs.List.{slice_get, list_any}
@@ -19,7 +20,8 @@ use Rattle.cyc_places.specs.Places.{IsRecord}
 use Rattle.cyc_agreement.specs.Agreement.{Agrees}
 use Rattle.cyc_agreement.specs.Binding.{HasPlace}
 use Rattle.cyc_agreement.proofs.Spots.{same_some}
-use Rattle.cyc_agreement.specs.System.{SystemView, is_everywhere, is_omnipresent, ids_of, has, is_leaving_here, is_leaving, is_unknown, record_of, is_online}
+use Rattle.cyc_agreement.specs.System.{SystemView, is_everywhere, is_omnipresent, ids_of, has, is_leaving_here, is_leaving}
+use Rattle.cyc_agreement.specs.System.{is_unknown, record_of, is_online}
 use Rattle.cyc_agreement.specs.Refusals.{no_cyclic, omnipresent, no_component, no_cpu, offline_cpu, IsPresent}
 use Rattle.cyc_agreement.proofs.Lists.{among, any_at, any_none, any_place, any_map, eq_true, true_eq, false_ne, false_true}
 use Rattle.cyc_agreement.proofs.Who.{ids_there, id_in}
@@ -28,18 +30,26 @@ use Rattle.cyc_agreement.proofs.Refusing.{not_when, is_when, not_le, le_true}
 -- a CPU that has a cyclic is there
 pub has_low : {R : Type 0} (v : CpusView R) (n id : ℕ) → has n id v ≡ true → n < length v.cpus
 has_low v n id h = dite (ℕ_discrete (length v.cpus - n) 0)
-    (λ z. absurd (false_true (sym (ap (λ o. among id (option_map_or ids_of o [])) (slice_get_past v.cpus n (omega (arith, z)))) ∙ h)))
+    (λ z. absurd (false_true (sym (ap (λ o. among id (option_map_or ids_of o [])) (slice_get_past v.cpus n (omega (arith, z))))
+    ∙ h)))
     (λ p. omega (arith, p))
 
 -- and the cyclic is there
-pub cyclic_here : {R : Type 0} (v : CpusView R) (n id : ℕ) (cpu : CpuView R) → has n id v ≡ true → IsCpu n cpu v → HasCyclic id cpu.cyclics
+pub cyclic_here : {R : Type 0} (v : CpusView R) (n id : ℕ) (cpu : CpuView R) → has n id v ≡ true → IsCpu n cpu v
+    → HasCyclic id cpu.cyclics
 cyclic_here v n id cpu h at =
     let (k, low, passes) = any_place (λ (c : Cyclic). c.timer.id == id) cpu.cyclics
     (sym (any_map id_in (λ own. own == id) cpu.cyclics) ∙ sym (ap (λ ids. among id ids) (ids_there v n cpu cpu at)) ∙ h) in
     by k low passes
   where
-    by : (k : ℕ) → k < length cpu.cyclics → ((d : Cyclic) → ((get_or cpu.cyclics k d).timer.id == id) ≡ true) → HasCyclic id cpu.cyclics
-    by k low passes = (k, one k cpu.cyclics low, (low, same k cpu.cyclics low), eq_true _ id (sym (ap (λ (c : Cyclic). c.timer.id == id) (same k cpu.cyclics low)) ∙ passes (one k cpu.cyclics low)))
+    by : (k : ℕ) → k < length cpu.cyclics → ((d : Cyclic) → ((get_or cpu.cyclics k d).timer.id == id) ≡ true)
+        → HasCyclic id cpu.cyclics
+    by k low passes = (
+      k,
+      one k cpu.cyclics low,
+      (low, same k cpu.cyclics low),
+      eq_true _ id (sym (ap (λ (c : Cyclic). c.timer.id == id) (same k cpu.cyclics low)) ∙ passes (one k cpu.cyclics low)),
+    )
       where
         one : (k : ℕ) (cs : List Cyclic) → k < length cs → Cyclic
         one k [] low = absurd (omega (arith, low))
@@ -52,14 +62,19 @@ cyclic_here v n id cpu h at =
         same (suc k) (c ∷ cs) low = same k cs (omega (arith, low))
 
 -- a cyclic that is on a CPU is among its ids
-pub has_here : {R : Type 0} (v : CpusView R) (n id : ℕ) (cpu : CpuView R) → IsCpu n cpu v → HasCyclic id cpu.cyclics → has n id v ≡ true
-has_here v n id cpu at (k, c, is, named) = ap (λ ids. among id ids) (ids_there v n cpu cpu at) ∙ any_map id_in (λ own. own == id) cpu.cyclics
+pub has_here : {R : Type 0} (v : CpusView R) (n id : ℕ) (cpu : CpuView R) → IsCpu n cpu v → HasCyclic id cpu.cyclics
+    → has n id v ≡ true
+has_here v n id cpu at (k, c, is, named) = ap (λ ids. among id ids) (ids_there v n cpu cpu at)
+    ∙ any_map id_in (λ own. own == id) cpu.cyclics
     ∙ any_at (λ (e : Cyclic). e.timer.id == id) cpu.cyclics k c is.0 (true_eq _ id (ap id_in is.1 ∙ named))
 
 -- the removal of the id is open on no CPU
-pub not_leaving : {R : Type 0} (v : CpusView R) (id : ℕ) → list_any (is_leaving_here id) v.cpus ≡ false → (n : ℕ) (cpu : CpuView R) → IsCpu n cpu v → cpu.removal ≢ Some id
-not_leaving v id none n cpu at e = false_true (sym none ∙ any_at (is_leaving_here id) v.cpus n cpu (slice_get_within v.cpus n cpu at)
-    (ap (is_leaving_here id) (get_or_from_slice_get v.cpus n cpu cpu at) ∙ ap (λ o. option_map_or (λ own. own == id) o false) e ∙ true_eq id id refl))
+pub not_leaving : {R : Type 0} (v : CpusView R) (id : ℕ) → list_any (is_leaving_here id) v.cpus ≡ false
+    → (n : ℕ) (cpu : CpuView R) → IsCpu n cpu v → cpu.removal ≢ Some id
+not_leaving v id none n cpu at e = false_true
+    (sym none ∙ any_at (is_leaving_here id) v.cpus n cpu (slice_get_within v.cpus n cpu at)
+    (ap (is_leaving_here id) (get_or_from_slice_get v.cpus n cpu cpu at) ∙ ap (λ o. option_map_or (λ own. own == id) o false) e
+    ∙ true_eq id id refl))
 
 or_false : (a b : Bool) → a ≡ false → b ≡ false → (a || b) ≡ false
 or_false a b p q = ap (λ x. x || b) p ∙ q
@@ -71,17 +86,22 @@ or_true : (a b : Bool) → b ≡ true → (a || b) ≡ true
 or_true true b p = refl
 or_true false b p = p
 
-pub is_present : {R : Type 0} (s : SystemView R) (id : ℕ) (r : Record) → record_of id s ≡ Some r → is_leaving id s ≡ false → no_cyclic id s ≡ None
-is_present s id r known still = not_when (is_unknown id s || is_leaving id s) NoCyclic (or_false (is_unknown id s) (is_leaving id s) (ap (λ o. not (is_some o)) known) still)
+pub is_present : {R : Type 0} (s : SystemView R) (id : ℕ) (r : Record) → record_of id s ≡ Some r → is_leaving id s ≡ false
+    → no_cyclic id s ≡ None
+is_present s id r known still = not_when (is_unknown id s || is_leaving id s) NoCyclic
+    (or_false (is_unknown id s) (is_leaving id s) (ap (λ o. not (is_some o)) known) still)
 
 pub is_absent : {R : Type 0} (s : SystemView R) (id : ℕ) → record_of id s ≡ None → no_cyclic id s ≡ Some NoCyclic
-is_absent s id none = is_when (is_unknown id s || is_leaving id s) NoCyclic (or_true_first (is_unknown id s) (is_leaving id s) (ap (λ o. not (is_some o)) none))
+is_absent s id none = is_when (is_unknown id s || is_leaving id s) NoCyclic
+    (or_true_first (is_unknown id s) (is_leaving id s) (ap (λ o. not (is_some o)) none))
 
 pub is_removed : {R : Type 0} (s : SystemView R) (id : ℕ) → is_leaving id s ≡ true → no_cyclic id s ≡ Some NoCyclic
-is_removed s id leaving = is_when (is_unknown id s || is_leaving id s) NoCyclic (or_true (is_unknown id s) (is_leaving id s) leaving)
+is_removed s id leaving = is_when (is_unknown id s || is_leaving id s) NoCyclic
+    (or_true (is_unknown id s) (is_leaving id s) leaving)
 
 -- what is known of a cyclic that is present, and is on one CPU
-module _ {R : Type 0} (s : SystemView R) (a : Agrees s) (id k : ℕ) (r q : Record) (p : IsPresent id k r s) (at : IsRecord s.records k q) where
+module _ {R : Type 0} (s : SystemView R) (a : Agrees s) (id k : ℕ) (r q : Record) (p : IsPresent id k r s)
+    (at : IsRecord s.records k q) where
   pub read_is : q ≡ r
   read_is = same_some (sym at ∙ p.here)
 
@@ -90,22 +110,27 @@ module _ {R : Type 0} (s : SystemView R) (a : Agrees s) (id k : ℕ) (r q : Reco
 
   pub single_clear : (n : ℕ) (bound : Bool) → q.place ≡ On n bound → omnipresent id s ≡ None
   single_clear n bound e = not_when (is_omnipresent id s) Omnipresent
-      (ap (λ o. option_map_or (λ (x : Record). is_everywhere x.place) o false) p.known ∙ ap (λ (x : Record). is_everywhere x.place) (sym read_is) ∙ ap is_everywhere e)
+      (ap (λ o. option_map_or (λ (x : Record). is_everywhere x.place) o false) p.known
+      ∙ ap (λ (x : Record). is_everywhere x.place) (sym read_is) ∙ ap is_everywhere e)
 
   pub omni_refused : (first : When) (skew : ℕ) → q.place ≡ Everywhere first skew → omnipresent id s ≡ Some Omnipresent
   omni_refused first skew e = is_when (is_omnipresent id s) Omnipresent
-      (ap (λ o. option_map_or (λ (x : Record). is_everywhere x.place) o false) p.known ∙ ap (λ (x : Record). is_everywhere x.place) (sym read_is) ∙ ap is_everywhere e)
+      (ap (λ o. option_map_or (λ (x : Record). is_everywhere x.place) o false) p.known
+      ∙ ap (λ (x : Record). is_everywhere x.place) (sym read_is) ∙ ap is_everywhere e)
 
   pub at_home : (n : ℕ) (bound : Bool) → q.place ≡ On n bound → has n id s.cpus ≡ true
-  at_home n bound e = ap (λ i. has n i s.cpus) (sym p.named) ∙ a.home k n bound r p.here (ap (λ (x : Record). x.place) (sym read_is) ∙ e)
+  at_home n bound e = ap (λ i. has n i s.cpus) (sym p.named)
+      ∙ a.home k n bound r p.here (ap (λ (x : Record). x.place) (sym read_is) ∙ e)
 
   pub home_is : (n : ℕ) (bound : Bool) → q.place ≡ On n bound → HasPlace id n bound s
   home_is n bound e = (k, q, at, ap (λ (x : Record). x.id) read_is ∙ p.named, e)
 
 -- what the CPU says of the id
-pub has_is : {R : Type 0} (v : CpusView R) (n id : ℕ) (cpu : CpuView R) (b : Bool) → IsCpu n cpu v → OnTrue b (HasCyclic id cpu.cyclics) → OnFalse b (HasNoCyclic id cpu.cyclics) → b ≡ has n id v
+pub has_is : {R : Type 0} (v : CpusView R) (n id : ℕ) (cpu : CpuView R) (b : Bool) → IsCpu n cpu v
+    → OnTrue b (HasCyclic id cpu.cyclics) → OnFalse b (HasNoCyclic id cpu.cyclics) → b ≡ has n id v
 has_is v n id cpu true at here none = sym (has_here v n id cpu at here)
-has_is v n id cpu false at here none = sym (ap (λ ids. among id ids) (ids_there v n cpu cpu at) ∙ any_map id_in (λ own. own == id) cpu.cyclics
+has_is v n id cpu false at here none = sym (ap (λ ids. among id ids) (ids_there v n cpu cpu at)
+    ∙ any_map id_in (λ own. own == id) cpu.cyclics
     ∙ any_none (λ (c : Cyclic). c.timer.id == id) cpu.cyclics (λ j d low. false_ne _ id (none j d low)))
 
 both_true : (a b : Bool) → a ≡ true → (a && b) ≡ b
@@ -116,22 +141,27 @@ both_false a b e = ap (λ x. x && b) e
 
 module _ {R : Type 0} (s : SystemView R) (id k n : ℕ) (r q : Record) (p : IsPresent id k r s) (at : IsRecord s.records k q) where
   omni_is : is_omnipresent id s ≡ is_everywhere q.place
-  omni_is = ap (λ o. option_map_or (λ (x : Record). is_everywhere x.place) o false) p.known ∙ ap (λ (x : Record). is_everywhere x.place) (same_some (sym p.here ∙ at))
+  omni_is = ap (λ o. option_map_or (λ (x : Record). is_everywhere x.place) o false) p.known
+      ∙ ap (λ (x : Record). is_everywhere x.place) (same_some (sym p.here ∙ at))
 
   pub component_not : is_everywhere q.place ≡ false → false ≡ (is_omnipresent id s && has n id s.cpus)
   component_not e = sym (both_false (is_omnipresent id s) (has n id s.cpus) (omni_is ∙ e))
 
-  pub component_is : (b : Bool) → is_everywhere q.place ≡ true → b ≡ has n id s.cpus → b ≡ (is_omnipresent id s && has n id s.cpus)
+  pub component_is : (b : Bool) → is_everywhere q.place ≡ true → b ≡ has n id s.cpus
+      → b ≡ (is_omnipresent id s && has n id s.cpus)
   component_is b e f = f ∙ sym (both_true (is_omnipresent id s) (has n id s.cpus) (omni_is ∙ e))
 
 -- the CPU has a component
-pub component_clear : {R : Type 0} (s : SystemView R) (id n : ℕ) (b : Bool) → b ≡ (is_omnipresent id s && has n id s.cpus) → b ≡ true → no_component id n s ≡ None
+pub component_clear : {R : Type 0} (s : SystemView R) (id n : ℕ) (b : Bool) → b ≡ (is_omnipresent id s && has n id s.cpus)
+    → b ≡ true → no_component id n s ≡ None
 component_clear s id n b is e = not_when (not (is_omnipresent id s && has n id s.cpus)) NoCyclic (ap not (sym is ∙ e))
 
-pub component_refused : {R : Type 0} (s : SystemView R) (id n : ℕ) (b : Bool) → b ≡ (is_omnipresent id s && has n id s.cpus) → b ≡ false → no_component id n s ≡ Some NoCyclic
+pub component_refused : {R : Type 0} (s : SystemView R) (id n : ℕ) (b : Bool) → b ≡ (is_omnipresent id s && has n id s.cpus)
+    → b ≡ false → no_component id n s ≡ Some NoCyclic
 component_refused s id n b is e = is_when (not (is_omnipresent id s && has n id s.cpus)) NoCyclic (ap not (sym is ∙ e))
 
-pub component_has : {R : Type 0} (s : SystemView R) (id n : ℕ) (b : Bool) → b ≡ (is_omnipresent id s && has n id s.cpus) → b ≡ true → has n id s.cpus ≡ true
+pub component_has : {R : Type 0} (s : SystemView R) (id n : ℕ) (b : Bool) → b ≡ (is_omnipresent id s && has n id s.cpus)
+    → b ≡ true → has n id s.cpus ≡ true
 component_has s id n b is e = by (is_omnipresent id s) (has n id s.cpus) (sym is ∙ e)
   where
     by : (x y : Bool) → (x && y) ≡ true → y ≡ true

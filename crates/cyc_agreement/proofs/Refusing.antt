@@ -16,7 +16,8 @@ pub is_when : (b : Bool) (e : Refusal) → b ≡ true → when b e ≡ Some e
 is_when b e h = ap (λ c. when c e) h
 
 -- the first reason does not hold
-pub passes : (o : Option Refusal) (whys : List (Option Refusal)) (r : Option Refusal) → o ≡ None → first_refusal whys ≡ r → first_refusal (o ∷ whys) ≡ r
+pub passes : (o : Option Refusal) (whys : List (Option Refusal)) (r : Option Refusal) → o ≡ None → first_refusal whys ≡ r
+    → first_refusal (o ∷ whys) ≡ r
 passes o whys r h rest = ap (λ p. or_else p (first_refusal whys)) h ∙ rest
 
 -- it holds

@@ -4,7 +4,8 @@ use Rattle.std.specs.Option.{option_and_then}
 use Rattle.cyc_types.specs.Firing.{FiringView, FiringCall}
 use Rattle.cyc_cpus.specs.Cpu.{CpuView}
 use Rattle.cyc_cpus.specs.Law.{IsLawful}
-use Rattle.cyc_cpus.specs.Calls.{CpuCall, Changes, Fire, SoftInterrupt, Add, Place, Reprogram, AskPending, AskTotals, AskRoom, Reserve, Widen, BeginRemove, PollRemove, TakeNow, AskSettled}
+use Rattle.cyc_cpus.specs.Calls.{CpuCall, Changes, Fire, SoftInterrupt, Add, Place, Reprogram, AskPending, AskTotals, AskRoom}
+use Rattle.cyc_cpus.specs.Calls.{Reserve, Widen, BeginRemove, PollRemove, TakeNow, AskSettled}
 use Rattle.cyc_cpus.specs.Cpus.{CpusView, CallOn, IsCpu, DoesAt, Works}
 use Rattle.std.specs.List.{slice_get, list_any}
 use Rattle.cyc_agreement.specs.System.{has, removal_on, is_leaving_here}
@@ -63,25 +64,31 @@ module _ {R : Type 0} (step : R → FiringCall → R → Type 0) (view : R → F
   removal_kept x y (Fire now answer) h d = absurd h
   removal_kept x y (SoftInterrupt level budget answer) h d = absurd h
 
-  removals_done : (v w : CpusView R) (c : CallOn) → IsSteady c.call → DoesAt step view v c w → (n : ℕ) → removal_on n w ≡ removal_on n v
+  removals_done : (v w : CpusView R) (c : CallOn) → IsSteady c.call → DoesAt step view v c w → (n : ℕ)
+      → removal_on n w ≡ removal_on n v
   removals_done v w c h d n = ap (λ u. removal_on n u) d.rest
-      ∙ kept_at v c.cpu d.before d.after d.here (λ o. option_and_then (λ cpu. cpu.removal) o) (removal_kept d.before d.after c.call h d.change) n
+      ∙ kept_at v c.cpu d.before d.after d.here (λ o. option_and_then (λ cpu. cpu.removal) o)
+      (removal_kept d.before d.after c.call h d.change) n
 
   -- over such calls each CPU has the removal open that it had
-  pub removals_kept : (v w : CpusView R) (way : List CallOn) → AreSteady way → Works step view way v w → (n : ℕ) → removal_on n w ≡ removal_on n v
+  pub removals_kept : (v w : CpusView R) (way : List CallOn) → AreSteady way → Works step view way v w → (n : ℕ)
+      → removal_on n w ≡ removal_on n v
   removals_kept v w [] h last n = ap (λ u. removal_on n u) (sym last)
   removals_kept v w (c ∷ way) h (u, does, rest) n = removals_kept u w way h.1 rest n ∙ removals_done v u c h.0 does n
 
 -- a removal that is open is of a cyclic that is there
-pub leaving_here : {R : Type 0} (view : R → FiringView) (v : CpusView R) (n id : ℕ) → ((m : ℕ) (cpu : CpuView R) → IsCpu m cpu v → IsLawful view cpu) → removal_on n v ≡ Some id → has n id v ≡ true
+pub leaving_here : {R : Type 0} (view : R → FiringView) (v : CpusView R) (n id : ℕ)
+    → ((m : ℕ) (cpu : CpuView R) → IsCpu m cpu v → IsLawful view cpu) → removal_on n v ≡ Some id → has n id v ≡ true
 leaving_here {R} view v n id lawful e = by (slice_get v.cpus n) refl e
   where
     by : (o : _) → slice_get v.cpus n ≡ o → option_and_then (λ (cpu : CpuView R). cpu.removal) o ≡ Some id → has n id v ≡ true
     by None at h = absurd (let odd : None ≡ Some id = h in cc)
-    by (Some cpu) at h = let (k, c, is, named, soft, never) = (lawful n cpu at).removed id h in has_here v n id cpu at (k, c, is, named)
+    by (Some cpu) at h = let (k, c, is, named, soft, never) = (lawful n cpu at).removed id h in
+        has_here v n id cpu at (k, c, is, named)
 
 -- the removal of the id is open on no CPU
-pub no_removal : {R : Type 0} (v : CpusView R) (id : ℕ) → list_any (is_leaving_here id) v.cpus ≡ false → (n : ℕ) → removal_on n v ≢ Some id
+pub no_removal : {R : Type 0} (v : CpusView R) (id : ℕ) → list_any (is_leaving_here id) v.cpus ≡ false → (n : ℕ)
+    → removal_on n v ≢ Some id
 no_removal {R} v id none n e = by (slice_get v.cpus n) refl e
   where
     by : (o : _) → slice_get v.cpus n ≡ o → option_and_then (λ (cpu : CpuView R). cpu.removal) o ≡ Some id → ⊥
@@ -89,7 +96,8 @@ no_removal {R} v id none n e = by (slice_get v.cpus n) refl e
     by (Some cpu) at h = not_leaving v id none n cpu at h
 
 -- a cyclic that went to a CPU, or stayed there
-pub goes_removals : {R : Type 0} (step : R → FiringCall → R → Type 0) (view : R → FiringView) (id home target : ℕ) (v w : CpusView R)
+pub goes_removals : {R : Type 0} (step : R → FiringCall → R → Type 0) (view : R → FiringView) (id home target : ℕ)
+    (v w : CpusView R)
     → GoesTo step view id home target (Ok tt) v w → (n : ℕ) → removal_on n w ≡ removal_on n v
 goes_removals step view id home target v w (inl (at, is, same)) n = ap (λ u. removal_on n u) same
 goes_removals step view id home target v w (inr (ne, (taken, works))) n =

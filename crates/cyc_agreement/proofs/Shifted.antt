@@ -1,5 +1,6 @@
 -- Which cyclics the CPUs have after a move.
-use Rattle.std.proofs.Common.{◌≡◌, ◌≢◌, ◌==◌, ℕ, zero, suc, ◌+◌, ◌-◌, ◌<◌, inl, inr, true, false, Ok, Err, List, [], ◌∷◌, length, get_or, map, refl, sym, ap, ◌∙◌, subst, arith}
+use Rattle.std.proofs.Common.{◌≡◌, ◌≢◌, ◌==◌, ℕ, zero, suc, ◌+◌, ◌-◌, ◌<◌, inl, inr, true, false, Ok, Err, List, [], ◌∷◌, length}
+use Rattle.std.proofs.Common.{get_or, map, refl, sym, ap, ◌∙◌, subst, arith}
 use Rattle.std.specs.Prelude.{remove}
 use Rattle.std.proofs.lemmas.List.{length-map, get_or-map}
 use Rattle.std.proofs.lemmas.List.Edits.{get_or-remove_below, get_or-remove_above, length-remove}
@@ -28,7 +29,8 @@ Rise ids = (i j : ℕ) → i < j → j < length ids → get_or ids i 0 < get_or 
 pub ids_rise : (cs : List Cyclic) → HasRisingIds cs → Rise (map Who.id_in cs)
 ids_rise cs h i j less low = by cs h low
   where
-    by : (cs : List Cyclic) → HasRisingIds cs → j < length (map Who.id_in cs) → get_or (map Who.id_in cs) i 0 < get_or (map Who.id_in cs) j 0
+    by : (cs : List Cyclic) → HasRisingIds cs → j < length (map Who.id_in cs)
+        → get_or (map Who.id_in cs) i 0 < get_or (map Who.id_in cs) j 0
     by [] h low = absurd (omega (arith, low))
     by (c ∷ cs) h low =
         let l = length-map (c ∷ cs) Who.id_in in
@@ -43,12 +45,15 @@ map_remove f (x ∷ xs) zero = refl
 map_remove f (x ∷ xs) (suc k) = ap (λ l. f x ∷ l) (map_remove f xs k)
 
 -- a cyclic that left is not among the others
-pub less_left : {R : Type 0} (step : R → FiringCall → R → Type 0) (view : R → FiringView) (x y : CpuView R) (id : ℕ) (way : List FiringCall) (c : Cyclic)
+pub less_left : {R : Type 0} (step : R → FiringCall → R → Type 0) (view : R → FiringView) (x y : CpuView R) (id : ℕ)
+    (way : List FiringCall) (c : Cyclic)
     → Rise (ids_of x) → Leaves step view id way c x y → Who.OneLess id x y
 less_left step view x y id way c rise l = record {
   was = any_at (λ own. own == id) (ids_of x) l.place 0 low (true_eq _ id at);
-  gone = ap (λ ids. among id ids) ids ∙ any_none (λ own. own == id) (remove (ids_of x) l.place) (λ j d less. false_ne _ id (other j d less));
-  others = λ q ne. ap (λ ids. among q ids) ids ∙ any_remove (λ own. own == q) (ids_of x) l.place 0 low (false_ne _ q (λ e. ne (sym e ∙ at)));
+  gone = ap (λ ids. among id ids) ids ∙ any_none (λ own. own == id) (remove (ids_of x) l.place)
+      (λ j d less. false_ne _ id (other j d less));
+  others = λ q ne. ap (λ ids. among q ids) ids
+      ∙ any_remove (λ own. own == q) (ids_of x) l.place 0 low (false_ne _ q (λ e. ne (sym e ∙ at)));
   removal = l.removal;
   most = l.most;
 }
@@ -86,19 +91,25 @@ pub record Moved {R : Type 0} (id source target : ℕ) (v w : CpusView R) : Type
   pub gone : has source id w ≡ false
   pub elsewhere : (m : ℕ) → m ≢ source → m ≢ target → has m id w ≡ has m id v
 
-module _ {R : Type 0} (step : R → FiringCall → R → Type 0) (view : R → FiringView) (id source target : ℕ) (v w : CpusView R) (apart : target ≢ source) (rise : Rise (ids_on source v)) where
+module _ {R : Type 0} (step : R → FiringCall → R → Type 0) (view : R → FiringView) (id source target : ℕ) (v w : CpusView R)
+    (apart : target ≢ source) (rise : Rise (ids_on source v)) where
   pub moved : (taken : Taken) → Works step view (moving id source target taken) v w → Moved id source target v w
   moved taken (a, asks, (b, reserves, (d, takes, (e, widens, (f, places, last))))) =
-      let same = Who.same_then v a b (Who.same_changed source _ v a asks (Who.same_asked step view asks.before asks.after id 0 asks.change.0))
-      (Who.same_changed target _ a b reserves (Who.same_reserve step view reserves.before reserves.after 1 (Ok tt) reserves.change)) in
+      let same = Who.same_then v a b (Who.same_changed source _ v a asks
+      (Who.same_asked step view asks.before asks.after id 0 asks.change.0))
+      (Who.same_changed target _ a b reserves (Who.same_reserve step view reserves.before reserves.after 1
+      (Ok tt) reserves.change)) in
       let (c, counts, is, polled, leaves) = takes.change.1 in
       let up = subst Rise (sym (same.ids source) ∙ Who.ids_there b source takes.before takes.after takes.here) rise in
-      let (but1, gone1, beside1) = Who.less_changed source id _ b d takes takes.change.0 (less_left step view takes.before takes.after id _ c up leaves) in
+      let (but1, gone1, beside1) = Who.less_changed source id _ b d takes takes.change.0
+      (less_left step view takes.before takes.after id _ c up leaves) in
       let wide = Who.same_changed target _ d e widens (Who.same_widened step view widens.before widens.after 1 widens.change.1) in
       let (but2, there2, beside2) = Who.more_changed target id _ e f places
-      (Who.placed step view places.before places.after (cyclic_with id taken.level taken.interval taken.moment taken.sent.sent taken.sent.lost) places.change.1) in
+      (Who.placed step view places.before places.after
+      (cyclic_with id taken.level taken.interval taken.moment taken.sent.sent taken.sent.lost) places.change.1) in
       subst (λ u. Moved id source target v u) last (record {
-        but = Who.but_then id v b f (Who.but_same id v b same) (Who.but_then id b d f but1 (Who.but_then id d e f (Who.but_same id d e wide) but2));
+        but = Who.but_then id v b f (Who.but_same id v b same)
+            (Who.but_then id b d f but1 (Who.but_then id d e f (Who.but_same id d e wide) but2));
         there = there2;
         gone = ap (λ ids. among id ids) (beside2 source (λ q. apart (sym q)) ∙ wide.ids source) ∙ gone1;
         elsewhere = λ m ns nt. ap (λ ids. among id ids) (beside2 m nt ∙ wide.ids m ∙ beside1 m ns ∙ same.ids m);
@@ -108,21 +119,28 @@ module _ {R : Type 0} (step : R → FiringCall → R → Type 0) (view : R → F
   pub unmoved : (e : Refusal) → WhyNotShifted step view id source target e v w → Who.SameWho v w
   unmoved e (inl (removed, open_is, is, same)) = subst (λ u. Who.SameWho v u) (sym same) (Who.same_none v)
   unmoved e (inr (inl (still, n, some, is, (a, asks, last)))) =
-      subst (λ u. Who.SameWho v u) last (Who.same_changed source _ v a asks (Who.same_asked step view asks.before asks.after id n asks.change.0))
+      subst (λ u. Who.SameWho v u) last (Who.same_changed source _ v a asks
+      (Who.same_asked step view asks.before asks.after id n asks.change.0))
   unmoved e (inr (inr (still, (a, asks, (b, reserves, last))))) = subst (λ u. Who.SameWho v u) last
-      (Who.same_then v a b (Who.same_changed source _ v a asks (Who.same_asked step view asks.before asks.after id 0 asks.change.0))
-      (Who.same_changed target _ a b reserves (Who.same_reserve step view reserves.before reserves.after 1 (Err e) reserves.change)))
+      (Who.same_then v a b (Who.same_changed source _ v a asks
+      (Who.same_asked step view asks.before asks.after id 0 asks.change.0))
+      (Who.same_changed target _ a b reserves (Who.same_reserve step view reserves.before reserves.after 1
+      (Err e) reserves.change)))
 
 -- all CPUs have one bound on expirations
-pub most_same : {R : Type 0} (s : SystemView R) (n m : ℕ) (x y : CpuView R) → Agrees s → IsCpu n x s.cpus → IsCpu m y s.cpus → x.most ≡ y.most
-most_same s n m x y a p q = a.most n m x.most y.most (ap (λ o. option_map (λ cpu. cpu.most) o) p) (ap (λ o. option_map (λ cpu. cpu.most) o) q)
+pub most_same : {R : Type 0} (s : SystemView R) (n m : ℕ) (x y : CpuView R) → Agrees s → IsCpu n x s.cpus → IsCpu m y s.cpus
+    → x.most ≡ y.most
+most_same s n m x y a p q = a.most n m x.most y.most (ap (λ o. option_map (λ cpu. cpu.most) o) p)
+    (ap (λ o. option_map (λ cpu. cpu.most) o) q)
 
 -- the ids of a lawful CPU rise
-pub rise_on : {R : Type 0} (view : R → FiringView) (v : CpusView R) (n : ℕ) (cpu : CpuView R) → IsCpu n cpu v → IsLawful view cpu → Rise (ids_on n v)
+pub rise_on : {R : Type 0} (view : R → FiringView) (v : CpusView R) (n : ℕ) (cpu : CpuView R) → IsCpu n cpu v → IsLawful view cpu
+    → Rise (ids_on n v)
 rise_on view v n cpu at law = subst Rise (sym (Who.ids_there v n cpu cpu at)) (ids_rise cpu.cyclics law.rising)
 
 -- a cyclic that went to a CPU is there and nowhere else
-pub went : {R : Type 0} (step : R → FiringCall → R → Type 0) (view : R → FiringView) (id home target : ℕ) (v w : CpusView R) → Rise (ids_on home v) → has home id v ≡ true
+pub went : {R : Type 0} (step : R → FiringCall → R → Type 0) (view : R → FiringView) (id home target : ℕ) (v w : CpusView R)
+    → Rise (ids_on home v) → has home id v ≡ true
     → ((m : ℕ) → m ≢ home → has m id v ≡ false) → GoesTo step view id home target (Ok tt) v w
     → Who.SameBut id v w × (has target id w ≡ true) × ((m : ℕ) → m ≢ target → has m id w ≡ false)
 went step view id home target v w rise here only (inl (at, is, same)) = (
@@ -138,7 +156,8 @@ went step view id home target v w rise here only (inr (ne, (taken, works))) =
     )
 
 -- one that was refused is where it was
-pub stayed : {R : Type 0} (step : R → FiringCall → R → Type 0) (view : R → FiringView) (id home target : ℕ) (v w : CpusView R) (e : Refusal) → Rise (ids_on home v)
+pub stayed : {R : Type 0} (step : R → FiringCall → R → Type 0) (view : R → FiringView) (id home target : ℕ) (v w : CpusView R)
+    (e : Refusal) → Rise (ids_on home v)
     → GoesTo step view id home target (Err e) v w → Who.SameWho v w
 stayed step view id home target v w e rise (inl (at, is, same)) = subst (λ u. Who.SameWho v u) (sym same) (Who.same_none v)
 stayed step view id home target v w e rise (inr (ne, why)) = unmoved step view id home target v w (λ q. ne (sym q)) rise e why

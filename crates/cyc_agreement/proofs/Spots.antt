@@ -1,5 +1,6 @@
 -- One place of a list.
-use Rattle.std.proofs.Common.{◌≡◌, ℕ, zero, suc, ◌<◌, ◌⊎◌, inl, inr, Option, Some, None, List, [], ◌∷◌, ◌++◌, length, refl, sym, ap, arith}
+use Rattle.std.proofs.Common.{◌≡◌, ℕ, zero, suc, ◌<◌, ◌⊎◌, inl, inr, Option, Some, None, List, [], ◌∷◌, ◌++◌, length, refl, sym}
+use Rattle.std.proofs.Common.{ap, arith}
 use Rattle.std.specs.List.{slice_get}
 use Rattle.cyc_places.specs.declared.record.Record.{Record}
 use Rattle.cyc_cpus.specs.Cpus.{CpusView}
@@ -21,7 +22,8 @@ get_front (y ∷ ys) x zero r e = e
 get_front (y ∷ ys) x (suc i) r e = get_front ys x i r e
 
 -- an element of a list that grew by one is an old one or the new one
-pub get_either : {A : Type 0} (xs : List A) (x : A) (i : ℕ) (r : A) → slice_get (xs ++ x ∷ []) i ≡ Some r → (slice_get xs i ≡ Some r) ⊎ (r ≡ x)
+pub get_either : {A : Type 0} (xs : List A) (x : A) (i : ℕ) (r : A) → slice_get (xs ++ x ∷ []) i ≡ Some r
+    → (slice_get xs i ≡ Some r) ⊎ (r ≡ x)
 get_either [] x zero r e = inr (sym (same_some e))
 get_either [] x (suc i) r e = absurd (none_some e)
 get_either (y ∷ ys) x zero r e = inl e

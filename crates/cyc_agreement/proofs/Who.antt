@@ -1,5 +1,6 @@
 -- Which cyclics the CPUs have after a call on one of them.
-use Rattle.std.proofs.Common.{◌≡◌, ◌≢◌, ℕ, ◌<◌, inl, inr, Bool, true, false, Option, Some, None, Result, Ok, Err, List, [], ◌∷◌, length, map, slice_set, option_map, refl, sym, ap, ◌∙◌, subst}
+use Rattle.std.proofs.Common.{◌≡◌, ◌≢◌, ℕ, ◌<◌, inl, inr, Bool, true, false, Option, Some, None, Result, Ok, Err, List, [], ◌∷◌}
+use Rattle.std.proofs.Common.{length, map, slice_set, option_map, refl, sym, ap, ◌∙◌, subst}
 use Rattle.std.specs.Prelude.{◌||◌, ◌==◌}
 use Rattle.std.specs.List.{slice_get, list_any}
 use Rattle.std.specs.Option.{option_map_or, option_and_then}
@@ -96,12 +97,14 @@ module _ {R : Type 0} (step : R → FiringCall → R → Type 0) (view : R → F
   same_reserve more (Err e) d = same_looked step view x y d.0
 
 -- a cyclic that stays where it is with another moment
-pub ids_set : (cs : List Cyclic) (k m : ℕ) (c : Cyclic) → IsCyclic cs k c → map id_in (slice_set cs k (with_moment m c)) ≡ map id_in cs
+pub ids_set : (cs : List Cyclic) (k m : ℕ) (c : Cyclic) → IsCyclic cs k c
+    → map id_in (slice_set cs k (with_moment m c)) ≡ map id_in cs
 ids_set cs k m c is = map-set id_in cs k (with_moment m c)
     ∙ ap (λ n. slice_set (map id_in cs) k n) (ap id_in (sym is.1) ∙ sym (get_or-map id_in cs k c c.timer.id is.0))
     ∙ set-get_or (map id_in cs) k c.timer.id
 
-pub same_reprogram : {R : Type 0} (step : R → FiringCall → R → Type 0) (view : R → FiringView) (x y : CpuView R) (id moment : ℕ) → Changes step view x (Reprogram id moment (Ok tt)) y → SameIds x y
+pub same_reprogram : {R : Type 0} (step : R → FiringCall → R → Type 0) (view : R → FiringView) (x y : CpuView R) (id moment : ℕ)
+    → Changes step view x (Reprogram id moment (Ok tt)) y → SameIds x y
 same_reprogram step view x y id moment (k, c, is, named, still, e) = record {
   ids = ap ids_of e ∙ ids_set x.cyclics k moment c is;
   removal = ap (λ (v : CpuView _). v.removal) e;
@@ -109,7 +112,8 @@ same_reprogram step view x y id moment (k, c, is, named, still, e) = record {
 }
 
 -- a fire moves cyclics to later moments, and takes none away
-ids_after : (now : ℕ) (made : List Expiration) (ts : List Timer) → map (λ (t : Timer). t.id) (all_after now made ts) ≡ map (λ (t : Timer). t.id) ts
+ids_after : (now : ℕ) (made : List Expiration) (ts : List Timer)
+    → map (λ (t : Timer). t.id) (all_after now made ts) ≡ map (λ (t : Timer). t.id) ts
 unfolding all_after expire.after
 ids_after now made [] = refl
 ids_after now made (t ∷ ts) = (λ i. t.id ∷ ids_after now made ts i)
@@ -118,12 +122,17 @@ ids_timers : (cs : List Cyclic) → map id_in cs ≡ map (λ (t : Timer). t.id) 
 ids_timers [] = refl
 ids_timers (c ∷ cs) = (λ i. c.timer.id ∷ ids_timers cs i)
 
-ids_fired : (now : ℕ) (made : List Expiration) (cs cs' : List Cyclic) → timers cs' ≡ all_after now made (timers cs) → map id_in cs' ≡ map id_in cs
-ids_fired now made cs cs' e = ids_timers cs' ∙ ap (λ ts. map (λ (t : Timer). t.id) ts) e ∙ ids_after now made (timers cs) ∙ sym (ids_timers cs)
+ids_fired : (now : ℕ) (made : List Expiration) (cs cs' : List Cyclic) → timers cs' ≡ all_after now made (timers cs)
+    → map id_in cs' ≡ map id_in cs
+ids_fired now made cs cs' e = ids_timers cs' ∙ ap (λ ts. map (λ (t : Timer). t.id) ts) e ∙ ids_after now made (timers cs)
+    ∙ sym (ids_timers cs)
 
-module _ {C R : Type 0} (called : C → ℕ → Level → C → Type 0) (count : C → ℕ → ℕ) (may_refuse : C → ℕ → Type 0) (step : R → FiringCall → R → Type 0)
-    (view : R → FiringView) (interrupts : Soft → ℕ → Result Ran SoftRefused → Running C R → Running C R → Type 0) (s t : Running C R) where
-  pub same_fired : (now : ℕ) (answer : Result Fired FireRefused) → Does called count may_refuse step view interrupts s (Fire now answer) t → SameIds s.cpu t.cpu
+module _ {C R : Type 0} (called : C → ℕ → Level → C → Type 0) (count : C → ℕ → ℕ) (may_refuse : C → ℕ → Type 0)
+    (step : R → FiringCall → R → Type 0)
+    (view : R → FiringView) (interrupts : Soft → ℕ → Result Ran SoftRefused → Running C R → Running C R → Type 0)
+    (s t : Running C R) where
+  pub same_fired : (now : ℕ) (answer : Result Fired FireRefused)
+      → Does called count may_refuse step view interrupts s (Fire now answer) t → SameIds s.cpu t.cpu
   same_fired now (Ok r) (nn, same, expired, next, makes) = record {
     ids = ids_fired now (expirations now (timers s.cpu.cyclics)) s.cpu.cyclics t.cpu.cyclics makes.timers_are;
     removal = same.removal;
@@ -203,7 +212,8 @@ module _ {R : Type 0} (v : CpusView R) (n : ℕ) (x y : CpuView R) (at : IsCpu n
   pub kept_at : {X : Type 0} (f : Option (CpuView R) → X) → f (Some y) ≡ f (Some x) → (m : ℕ)
       → f (slice_get (slice_set v.cpus n y) m) ≡ f (slice_get v.cpus m)
   kept_at f h m = dite (ℕ_discrete m n)
-      (λ e. ap (λ k. f (slice_get (slice_set v.cpus n y) k)) e ∙ ap f (get_set_same v.cpus n y within) ∙ h ∙ sym (ap f at) ∙ ap (λ k. f (slice_get v.cpus k)) (sym e))
+      (λ e. ap (λ k. f (slice_get (slice_set v.cpus n y) k)) e ∙ ap f (get_set_same v.cpus n y within) ∙ h ∙ sym (ap f at)
+      ∙ ap (λ k. f (slice_get v.cpus k)) (sym e))
       (λ ne. ap f (get_set_other v.cpus n m y ne))
 
   pub ids_there : ids_on n v ≡ ids_of x
@@ -252,7 +262,8 @@ module _ {R : Type 0} (v : CpusView R) (n : ℕ) (x y : CpuView R) (at : IsCpu n
   pub here_less : (id : ℕ) → OneLess id x y → has n id (with_cpu v n y) ≡ false
   here_less id s = ap (λ ids. among id ids) (ids_now v n x y at) ∙ s.gone
 
-pub less_changed : {R : Type 0} (n id : ℕ) (D : CpuView R → CpuView R → Type 0) (v w : CpusView R) (c : ChangesAt n D v w) → c.before.removal ≡ None → OneLess id c.before c.after
+pub less_changed : {R : Type 0} (n id : ℕ) (D : CpuView R → CpuView R → Type 0) (v w : CpusView R) (c : ChangesAt n D v w)
+    → c.before.removal ≡ None → OneLess id c.before c.after
     → SameBut id v w × (has n id w ≡ false) × ((m : ℕ) → m ≢ n → ids_on m w ≡ ids_on m v)
 less_changed n id D v w c still less = (
   subst (λ u. SameBut id v u) (sym c.rest) (but_less v n c.before c.after c.here id still less),
@@ -261,10 +272,12 @@ less_changed n id D v w c still less = (
 )
 
 -- a call on one CPU that keeps its cyclics keeps those of all
-pub same_changed : {R : Type 0} (n : ℕ) (D : CpuView R → CpuView R → Type 0) (v w : CpusView R) (c : ChangesAt n D v w) → SameIds c.before c.after → SameWho v w
+pub same_changed : {R : Type 0} (n : ℕ) (D : CpuView R → CpuView R → Type 0) (v w : CpusView R) (c : ChangesAt n D v w)
+    → SameIds c.before c.after → SameWho v w
 same_changed n D v w c same = subst (λ u. SameWho v u) (sym c.rest) (same_at v n c.before c.after c.here same)
 
-pub more_changed : {R : Type 0} (n id : ℕ) (D : CpuView R → CpuView R → Type 0) (v w : CpusView R) (c : ChangesAt n D v w) → OneMore id c.before c.after
+pub more_changed : {R : Type 0} (n id : ℕ) (D : CpuView R → CpuView R → Type 0) (v w : CpusView R) (c : ChangesAt n D v w)
+    → OneMore id c.before c.after
     → SameBut id v w × (has n id w ≡ true) × ((m : ℕ) → m ≢ n → ids_on m w ≡ ids_on m v)
 more_changed n id D v w c more = (
   subst (λ u. SameBut id v u) (sym c.rest) (but_more v n c.before c.after c.here id more),

@@ -1,5 +1,6 @@
-//! What is true of every system of CPUs: the CPUs and the records agree on where each cyclic is. Beside it what a new cyclic and one
-//! that goes to another CPU change, and why they are refused. The crates above show that each of their calls keeps the agreement.
+//! What is true of every system of CPUs: the CPUs and the records agree on where each cyclic is. Beside it what a new cyclic and
+//! one that goes to another CPU change, and why they are refused. The crates above show that each of their calls keeps the
+//! agreement.
 #![tactic(auto)]
 
 mod finding;

@@ -1,5 +1,7 @@
 -- What the fields show after an edit, and that each event leaves a reached level.
-use Rattle.std.proofs.Common.{◌≡◌, ◌≢◌, ℕ, zero, suc, ◌<◌, ◌≤◌, eqb, cond, Bool, true, false, not, List, [], ◌∷◌, ◌++◌, length, drop, get_or, set, Option, Some, None, IsSome, IsSomeAnd, refl, sym, ap, ◌∙◌, subst, arith, vec_capacity, option_to_list}
+use Rattle.std.proofs.Common.{◌≡◌, ◌≢◌, ℕ, zero, suc, ◌<◌, ◌≤◌, eqb, cond, Bool, true, false, not, List, [], ◌∷◌, ◌++◌, length}
+use Rattle.std.proofs.Common.{drop, get_or, set, Option, Some, None, IsSome, IsSomeAnd, refl, sym, ap, ◌∙◌, subst, arith}
+use Rattle.std.proofs.Common.{vec_capacity, option_to_list}
 use Rattle.std.specs.Prelude.{Result, Ok, Err, is_ok, OnErr, OnOk}
 use Rattle.std.specs.Bool.{then_some}
 use Rattle.std.specs.Option.{option_map}
@@ -12,7 +14,9 @@ use Rattle.std.proofs.lemmas.Option.{get_or_from_slice_get, slice_get-get_or, sl
 use Rattle.cyc_level.specs.declared.Event.{Event}
 use Rattle.cyc_level.specs.declared.Event.TheVariants.{Admit, Expire, Lose, Publish, Take, Finish, Clear, Switch}
 use Rattle.cyc_level.specs.Level.{Cyclic, Level, count, count_in, in_hand}
-use Rattle.cyc_level.specs.Events.{changed_at, admitted_cyclic, cyclic_after_expire, cyclic_after_lose, cyclic_after_finish, hand_after_expire, hand_after_finish, first_of, rest_of, as_list, Enabled, after, after_finish, reached, AllEnabled}
+use Rattle.cyc_level.specs.Events.{changed_at, admitted_cyclic, cyclic_after_expire, cyclic_after_lose, cyclic_after_finish}
+use Rattle.cyc_level.specs.Events.{hand_after_expire, hand_after_finish, first_of, rest_of, as_list, Enabled, after, after_finish}
+use Rattle.cyc_level.specs.Events.{reached, AllEnabled}
 use Rattle.cyc_level.specs.Lawful.{Lawful}
 use Rattle.cyc_level.proofs.Room.{placed_cyclic}
 use Rattle.cyc_level.proofs.Maps.{hand_here}
@@ -32,52 +36,66 @@ reached_lawful l (events, all, is) = subst Lawful (sym is) (always_lawful l.ceil
 pub reached_on : (l m : Level) (event : Event) → IsReached l → Enabled event l → m ≡ after event l → IsReached m
 reached_on l m event (events, all, is) may made =
     let on : m ≡ reached l.ceiling (event ∷ events) = made ∙ ap (after event) is in
-    let same : m.ceiling ≡ l.ceiling = ap (λ (x : Level). x.ceiling) on ∙ same_ceiling l.ceiling (event ∷ events) in
-    (event ∷ events, subst (λ (k : ℕ). AllEnabled k (event ∷ events)) (sym same) (subst (Enabled event) is may, all), on ∙ ap (λ (k : ℕ). reached k (event ∷ events)) (sym same))
+    let same : m.ceiling ≡ l.ceiling = ap (λ (x : Level). x.ceiling) on ∙ same_ceiling l.ceiling (event ∷ events) in (
+      event ∷ events,
+      subst (λ (k : ℕ). AllEnabled k (event ∷ events)) (sym same) (subst (Enabled event) is may, all),
+      on
+          ∙ ap (λ (k : ℕ). reached k (event ∷ events)) (sym same),
+    )
 
 -- fields that show what an enabled event leaves, with the memory that was there
-pub sound_by : (a b : Inside) (event : Event) → IsSound a → Enabled event (level_of (shown a)) → level_of (shown b) ≡ after event (level_of (shown a)) → Rises id_in b.table.items →
-    vec_capacity a.table ≤ vec_capacity b.table → deque_capacity a.old_list ≤ deque_capacity b.old_list → deque_capacity a.new_list ≤ deque_capacity b.new_list → IsSound b
+pub sound_by : (a b : Inside) (event : Event) → IsSound a → Enabled event (level_of (shown a))
+    → level_of (shown b) ≡ after event (level_of (shown a)) → Rises id_in b.table.items →
+    vec_capacity a.table ≤ vec_capacity b.table → deque_capacity a.old_list ≤ deque_capacity b.old_list
+    → deque_capacity a.new_list ≤ deque_capacity b.new_list → IsSound b
 sound_by a b event h may made ordered table old new = record {
   reached = reached_on (level_of (shown a)) (level_of (shown b)) event h.reached may made;
   ordered = ordered;
-  some_ceiling = (let same : b.ceiling ≡ a.ceiling = ap (λ (x : Level). x.ceiling) made ∙ ceiling_after event (level_of (shown a)) in let some = h.some_ceiling in omega (arith, same, some));
+  some_ceiling = (let same : b.ceiling ≡ a.ceiling = ap (λ (x : Level). x.ceiling) made
+      ∙ ceiling_after event (level_of (shown a)) in let some = h.some_ceiling in omega (arith, same, some));
   table_room = (let r = h.table_room in omega (arith, r, table));
   old_room = (let r = h.old_room in omega (arith, r, old));
   new_room = (let r = h.new_room in omega (arith, r, new));
 }
 
 -- the same, where the lists' memory is not what it was
-pub sound_roomy : (a b : Inside) (event : Event) → IsSound a → Enabled event (level_of (shown a)) → level_of (shown b) ≡ after event (level_of (shown a)) → Rises id_in b.table.items →
+pub sound_roomy : (a b : Inside) (event : Event) → IsSound a → Enabled event (level_of (shown a))
+    → level_of (shown b) ≡ after event (level_of (shown a)) → Rises id_in b.table.items →
     cyclics ≤ vec_capacity b.table → cyclics ≤ deque_capacity b.old_list → cyclics ≤ deque_capacity b.new_list → IsSound b
 sound_roomy a b event h may made ordered table old new = record {
   reached = reached_on (level_of (shown a)) (level_of (shown b)) event h.reached may made;
   ordered = ordered;
-  some_ceiling = (let same : b.ceiling ≡ a.ceiling = ap (λ (x : Level). x.ceiling) made ∙ ceiling_after event (level_of (shown a)) in let some = h.some_ceiling in omega (arith, same, some));
+  some_ceiling = (let same : b.ceiling ≡ a.ceiling = ap (λ (x : Level). x.ceiling) made
+      ∙ ceiling_after event (level_of (shown a)) in let some = h.some_ceiling in omega (arith, same, some));
   table_room = table;
   old_room = old;
   new_room = new;
 }
 
 -- a table that changed at one id shows a map that changed there
-pub cyclics_changed : (xs ys : List Admitted) (id : ℕ) (o : Option Admitted) (f : Option Cyclic → Option Cyclic) → ((q : ℕ) → lookup q ys ≡ cond (eqb q id) o (lookup q xs)) → option_map cyclic_of o ≡ f (cyclics_of xs id) →
+pub cyclics_changed : (xs ys : List Admitted) (id : ℕ) (o : Option Admitted) (f : Option Cyclic → Option Cyclic)
+    → ((q : ℕ) → lookup q ys ≡ cond (eqb q id) o (lookup q xs)) → option_map cyclic_of o ≡ f (cyclics_of xs id) →
     cyclics_of ys ≡ changed_at (cyclics_of xs) id f
 cyclics_changed xs ys id o f found same = λ z q. (ap (option_map cyclic_of) (found q) ∙ by q (eqb q id) refl) z
   where
-    by : (q : ℕ) (b : Bool) → eqb q id ≡ b → option_map cyclic_of (cond b o (lookup q xs)) ≡ cond b (f (cyclics_of xs q)) (cyclics_of xs q)
+    by : (q : ℕ) (b : Bool) → eqb q id ≡ b → option_map cyclic_of (cond b o (lookup q xs))
+        ≡ cond b (f (cyclics_of xs q)) (cyclics_of xs q)
     by q true e = same ∙ ap (λ (k : ℕ). f (cyclics_of xs k)) (let is : id ≡ q = grind (arith, nat_tests) in is)
     by q false e = refl
 
 hand_expired : (n id : ℕ) (hand : Option ℕ) → hand ≡ None → then_some (eqb n 0) id ≡ hand_after_expire n id hand
 hand_expired zero id hand free = refl
-hand_expired (suc n) id hand free = let no : eqb (suc n) 0 ≡ false = grind (arith, nat_tests) in ap (λ b. then_some b id) no ∙ sym free
+hand_expired (suc n) id hand free = let no : eqb (suc n) 0 ≡ false = grind (arith, nat_tests) in ap (λ b. then_some b id) no
+    ∙ sym free
 
 hand_finished : (n id : ℕ) → 0 < n → then_some (not (eqb n 1)) id ≡ hand_after_finish n (Some id)
 hand_finished zero id some = absurd (omega arith)
 hand_finished (suc zero) id some = refl
-hand_finished (suc (suc n)) id some = let no : eqb (suc (suc n)) 1 ≡ false = grind (arith, nat_tests) in ap (λ b. then_some (not b) id) no
+hand_finished (suc (suc n)) id some = let no : eqb (suc (suc n)) 1 ≡ false = grind (arith, nat_tests) in
+    ap (λ b. then_some (not b) id) no
 
-module _ (t : Tables) (ordered : Rises id_in t.table) (id place : ℕ) (at : IsAt id_in t.table id place) (c : Admitted) (read : c ≡ get_or t.table place c) where
+module _ (t : Tables) (ordered : Rises id_in t.table) (id place : ℕ) (at : IsAt id_in t.table id place) (c : Admitted)
+    (read : c ≡ get_or t.table place c) where
   -- the cyclic of the entry that was read
   pub read_cyclic : (level_of t).cyclics id ≡ Some (cyclic_of c)
   read_cyclic = ap (option_map cyclic_of) (look_up_read id_in t.table ordered id place at c read)
@@ -85,7 +103,8 @@ module _ (t : Tables) (ordered : Rises id_in t.table) (id place : ℕ) (at : IsA
   pub read_id : c.id ≡ id
   read_id = ap (λ (x : Admitted). x.id) read ∙ at.has_id c
 
-module _ (t : Tables) (ordered : Rises id_in t.table) (id place : ℕ) (at : IsAt id_in t.table id place) (c : Admitted) (found : (level_of t).cyclics id ≡ Some (cyclic_of c)) (found_id : c.id ≡ id) where
+module _ (t : Tables) (ordered : Rises id_in t.table) (id place : ℕ) (at : IsAt id_in t.table id place) (c : Admitted)
+    (found : (level_of t).cyclics id ≡ Some (cyclic_of c)) (found_id : c.id ≡ id) where
   found_count : count (level_of t) id ≡ c.count
   found_count = ap count_in found
 
@@ -93,38 +112,53 @@ module _ (t : Tables) (ordered : Rises id_in t.table) (id place : ℕ) (at : IsA
   pub found_fact : (P : Cyclic → Type 0) → IsSomeAnd ((level_of t).cyclics id) P → P (cyclic_of c)
   found_fact P h = subst (λ (o : Option Cyclic). IsSomeAnd o P) found h
 
-  written : (f : Cyclic → Cyclic) (d : Admitted) → d.id ≡ c.id → cyclic_of d ≡ f (cyclic_of c) → cyclics_of (set t.table place d) ≡ changed_at (cyclics_of t.table) id (option_map f)
-  written f d same made = cyclics_changed t.table (set t.table place d) id (Some d) (option_map f) (look_up_written id_in t.table ordered id place at d (same ∙ found_id)) (ap Some made ∙ sym (ap (option_map f) found))
+  written : (f : Cyclic → Cyclic) (d : Admitted) → d.id ≡ c.id → cyclic_of d ≡ f (cyclic_of c)
+      → cyclics_of (set t.table place d) ≡ changed_at (cyclics_of t.table) id (option_map f)
+  written f d same made = cyclics_changed t.table (set t.table place d) id (Some d) (option_map f)
+      (look_up_written id_in t.table ordered id place at d (same ∙ found_id)) (ap Some made ∙ sym (ap (option_map f) found))
 
-  pub level_expire : (d : Admitted) (hand : Option ℕ) → d.id ≡ c.id → cyclic_of d ≡ cyclic_after_expire (cyclic_of c) → hand ≡ then_some (eqb c.count 0) id → t.firer_hand ≡ None →
+  pub level_expire : (d : Admitted) (hand : Option ℕ) → d.id ≡ c.id → cyclic_of d ≡ cyclic_after_expire (cyclic_of c)
+      → hand ≡ then_some (eqb c.count 0) id → t.firer_hand ≡ None →
       level_of (record t { table = set t.table place d; firer_hand = hand }) ≡ after (Expire id) (level_of t)
   level_expire d hand same made is free =
-      let in_hand : hand ≡ hand_after_expire (count (level_of t) id) id t.firer_hand = is ∙ hand_expired c.count id t.firer_hand free ∙ ap (λ (n : ℕ). hand_after_expire n id t.firer_hand) (sym found_count) in
+      let in_hand : hand ≡ hand_after_expire (count (level_of t) id) id t.firer_hand = is
+      ∙ hand_expired c.count id t.firer_hand free ∙ ap (λ (n : ℕ). hand_after_expire n id t.firer_hand) (sym found_count) in
       let map = written cyclic_after_expire d same made in
       λ z. record (level_of t) { cyclics = map z; firer_hand = in_hand z }
 
-  pub level_lose : (d : Admitted) → d.id ≡ c.id → cyclic_of d ≡ cyclic_after_lose (cyclic_of c) → level_of (record t { table = set t.table place d }) ≡ after (Lose id) (level_of t)
+  pub level_lose : (d : Admitted) → d.id ≡ c.id → cyclic_of d ≡ cyclic_after_lose (cyclic_of c)
+      → level_of (record t { table = set t.table place d }) ≡ after (Lose id) (level_of t)
   level_lose d same made = let map = written cyclic_after_lose d same made in λ z. record (level_of t) { cyclics = map z }
 
-  pub level_finish : (d : Admitted) (hand : Option ℕ) → d.id ≡ c.id → cyclic_of d ≡ cyclic_after_finish (cyclic_of c) → t.drainer_hand ≡ Some id → 0 < c.count → hand ≡ then_some (not (eqb c.count 1)) id →
+  pub level_finish : (d : Admitted) (hand : Option ℕ) → d.id ≡ c.id → cyclic_of d ≡ cyclic_after_finish (cyclic_of c)
+      → t.drainer_hand ≡ Some id → 0 < c.count → hand ≡ then_some (not (eqb c.count 1)) id →
       level_of (record t { table = set t.table place d; drainer_hand = hand }) ≡ after Finish (level_of t)
   level_finish d hand same made holds some is =
-      let in_hand : hand ≡ hand_after_finish (count (level_of t) id) t.drainer_hand = is ∙ hand_finished c.count id some ∙ ap (λ (n : ℕ). hand_after_finish n (Some id)) (sym found_count) ∙ ap (hand_after_finish (count (level_of t) id)) (sym holds) in
+      let in_hand : hand ≡ hand_after_finish (count (level_of t) id) t.drainer_hand = is ∙ hand_finished c.count id some
+      ∙ ap (λ (n : ℕ). hand_after_finish n (Some id)) (sym found_count)
+      ∙ ap (hand_after_finish (count (level_of t) id)) (sym holds) in
       let map = written cyclic_after_finish d same made in
-      let one : level_of (record t { table = set t.table place d; drainer_hand = hand }) ≡ after_finish (Some id) (level_of t) = λ z. record (level_of t) { cyclics = map z; drainer_hand = in_hand z } in
+      let one : level_of (record t { table = set t.table place d; drainer_hand = hand }) ≡ after_finish (Some id) (level_of t) =
+      λ z. record (level_of t) { cyclics = map z; drainer_hand = in_hand z } in
       one ∙ ap (λ (o : Option ℕ). after_finish o (level_of t)) (sym holds)
 
-pub level_clear : (t : Tables) → Rises id_in t.table → (id place : ℕ) → IsAt id_in t.table id place → level_of (record t { table = remove t.table place; marked = None }) ≡ after (Clear id) (level_of t)
+pub level_clear : (t : Tables) → Rises id_in t.table → (id place : ℕ) → IsAt id_in t.table id place
+    → level_of (record t { table = remove t.table place; marked = None }) ≡ after (Clear id) (level_of t)
 level_clear t ordered id place at =
-    let map = cyclics_changed t.table (remove t.table place) id None (λ _. None) (look_up_removed id_in t.table ordered id place at) refl in
+    let map = cyclics_changed t.table (remove t.table place) id None (λ _. None)
+    (look_up_removed id_in t.table ordered id place at) refl in
     λ z. record (level_of t) { cyclics = map z; marked = None }
 
-pub level_admit : (t : Tables) (id index place : ℕ) (e : Admitted) → IsGap id_in t.table id place → e.id ≡ id → cyclic_of e ≡ admitted_cyclic index → level_of (record t { table = insert t.table place e }) ≡ after (Admit id index) (level_of t)
+pub level_admit : (t : Tables) (id index place : ℕ) (e : Admitted) → IsGap id_in t.table id place → e.id ≡ id
+    → cyclic_of e ≡ admitted_cyclic index → level_of (record t { table = insert t.table place e })
+    ≡ after (Admit id index) (level_of t)
 level_admit t id index place e gap same made =
-    let map = cyclics_changed t.table (insert t.table place e) id (Some e) (λ _. Some (admitted_cyclic index)) (look_up_inserted id_in t.table id place gap e same) (ap Some made) in
+    let map = cyclics_changed t.table (insert t.table place e) id (Some e) (λ _. Some (admitted_cyclic index))
+    (look_up_inserted id_in t.table id place gap e same) (ap Some made) in
     λ z. record (level_of t) { cyclics = map z }
 
-pub level_publish : (t : Tables) (id : ℕ) → t.firer_hand ≡ Some id → level_of (record t { firer_hand = None; new_list = t.new_list ++ id ∷ [] }) ≡ after Publish (level_of t)
+pub level_publish : (t : Tables) (id : ℕ) → t.firer_hand ≡ Some id
+    → level_of (record t { firer_hand = None; new_list = t.new_list ++ id ∷ [] }) ≡ after Publish (level_of t)
 level_publish t id holds = λ z. record (level_of t) { firer_hand = None; new_list = t.new_list ++ as_list (sym holds z) }
 
 popped_first : (xs ys : List ℕ) (r : Option ℕ) → xs ≡ option_to_list r ++ ys → ys ≡ drop 1 xs → r ≡ first_of xs
@@ -137,21 +171,37 @@ popped_rest : (xs ys : List ℕ) → ys ≡ drop 1 xs → ys ≡ rest_of xs
 popped_rest [] ys d = d
 popped_rest (z ∷ zs) ys d = d
 
-pub level_take_new : (t : Tables) (r : Option ℕ) (ys : List ℕ) → t.hard_bank ≡ t.soft_bank → t.new_list ≡ option_to_list r ++ ys → ys ≡ drop 1 t.new_list → level_of (record t { drainer_hand = r; new_list = ys }) ≡ after Take (level_of t)
+pub level_take_new : (t : Tables) (r : Option ℕ) (ys : List ℕ) → t.hard_bank ≡ t.soft_bank → t.new_list ≡ option_to_list r ++ ys
+    → ys ≡ drop 1 t.new_list → level_of (record t { drainer_hand = r; new_list = ys }) ≡ after Take (level_of t)
 level_take_new t r ys same items rest =
     let test : eqb t.hard_bank t.soft_bank ≡ true = grind (arith, nat_tests) in
     let first = popped_first t.new_list ys r items rest in
     let left = popped_rest t.new_list ys rest in
-    let one : level_of (record t { drainer_hand = r; new_list = ys }) ≡ record (level_of t) { drainer_hand = first_of t.new_list; new_list = rest_of t.new_list } = λ z. record (level_of t) { drainer_hand = first z; new_list = left z } in
-    one ∙ sym (ap (λ (b : Bool). record (level_of t) { old_list = cond b t.old_list (rest_of t.old_list); new_list = cond b (rest_of t.new_list) t.new_list; drainer_hand = first_of (cond b t.new_list t.old_list) }) test)
+    let one : level_of (record t { drainer_hand = r; new_list = ys })
+    ≡ record (level_of t) { drainer_hand = first_of t.new_list; new_list = rest_of t.new_list } =
+    λ z. record (level_of t) { drainer_hand = first z; new_list = left z } in
+    one ∙ sym (ap (λ (b : Bool). record (level_of t) {
+      old_list = cond b t.old_list (rest_of t.old_list);
+      new_list =
+          cond b (rest_of t.new_list) t.new_list;
+      drainer_hand = first_of (cond b t.new_list t.old_list);
+    }) test)
 
-pub level_take_old : (t : Tables) (r : Option ℕ) (ys : List ℕ) → t.hard_bank ≢ t.soft_bank → t.old_list ≡ option_to_list r ++ ys → ys ≡ drop 1 t.old_list → level_of (record t { drainer_hand = r; old_list = ys }) ≡ after Take (level_of t)
+pub level_take_old : (t : Tables) (r : Option ℕ) (ys : List ℕ) → t.hard_bank ≢ t.soft_bank → t.old_list ≡ option_to_list r ++ ys
+    → ys ≡ drop 1 t.old_list → level_of (record t { drainer_hand = r; old_list = ys }) ≡ after Take (level_of t)
 level_take_old t r ys differ items rest =
     let test : eqb t.hard_bank t.soft_bank ≡ false = grind (arith, nat_tests) in
     let first = popped_first t.old_list ys r items rest in
     let left = popped_rest t.old_list ys rest in
-    let one : level_of (record t { drainer_hand = r; old_list = ys }) ≡ record (level_of t) { drainer_hand = first_of t.old_list; old_list = rest_of t.old_list } = λ z. record (level_of t) { drainer_hand = first z; old_list = left z } in
-    one ∙ sym (ap (λ (b : Bool). record (level_of t) { old_list = cond b t.old_list (rest_of t.old_list); new_list = cond b (rest_of t.new_list) t.new_list; drainer_hand = first_of (cond b t.new_list t.old_list) }) test)
+    let one : level_of (record t { drainer_hand = r; old_list = ys })
+    ≡ record (level_of t) { drainer_hand = first_of t.old_list; old_list = rest_of t.old_list } =
+    λ z. record (level_of t) { drainer_hand = first z; old_list = left z } in
+    one ∙ sym (ap (λ (b : Bool). record (level_of t) {
+      old_list = cond b t.old_list (rest_of t.old_list);
+      new_list =
+          cond b (rest_of t.new_list) t.new_list;
+      drainer_hand = first_of (cond b t.new_list t.old_list);
+    }) test)
 
 some_entry : (o : Option Admitted) (c : Cyclic) → option_map cyclic_of o ≡ Some c → IsSome o
 some_entry None c is = absurd (let none : ⊥ = cc in none)
@@ -162,13 +212,17 @@ pub entry_of : (t : Tables) (id : ℕ) (c : Cyclic) → (level_of t).cyclics id 
 entry_of t id c is = some_entry (lookup id t.table) c is
 
 -- the cyclic in the drainer's hand is admitted, and calls of it are outstanding
-pub held_cyclic : (l : Level) → Lawful l → (id : ℕ) → l.drainer_hand ≡ Some id → (c : Cyclic) × (l.cyclics id ≡ Some c) × (0 < c.count)
-held_cyclic l law id holds = placed_cyclic l law id (let here = hand_here id in let same : in_hand id l.drainer_hand ≡ in_hand id (Some id) = ap (in_hand id) holds in omega (arith, here, same))
+pub held_cyclic : (l : Level) → Lawful l → (id : ℕ) → l.drainer_hand ≡ Some id → (c : Cyclic) × (l.cyclics id ≡ Some c)
+    × (0 < c.count)
+held_cyclic l law id holds = placed_cyclic l law id
+    (let here = hand_here id in let same : in_hand id l.drainer_hand ≡ in_hand id (Some id) = ap (in_hand id) holds in
+    omega (arith, here, same))
 
 pub same_some : {X : Type 0} (o : Option X) (x y : X) → o ≡ Some x → o ≡ Some y → x ≡ y
 same_some o x y e f = let same : x ≡ y = cc in same
 
-pub level_switch : (t : Tables) (bank : ℕ) (old new : List ℕ) → old ≡ t.new_list → new ≡ [] → level_of (record t { hard_bank = bank; old_list = old; new_list = new }) ≡ after (Switch bank) (level_of t)
+pub level_switch : (t : Tables) (bank : ℕ) (old new : List ℕ) → old ≡ t.new_list → new ≡ []
+    → level_of (record t { hard_bank = bank; old_list = old; new_list = new }) ≡ after (Switch bank) (level_of t)
 level_switch t bank old new is none = λ z. record (level_of t) { hard_bank = bank; old_list = is z; new_list = none z }
 
 pub err_fact : {T E : Type 0} (P : Type 0) (r : Result T E) → is_ok r ≡ false → OnErr r P → P
@@ -196,15 +250,23 @@ held_count l law id c is holds =
 
 -- the entry that stands at a place is that of its id
 pub entry_is_at : (xs : List Admitted) (place : ℕ) (e : Admitted) → slice_get xs place ≡ Some e → IsAt id_in xs e.id place
-entry_is_at xs place e is = record { in_range = slice_get_within xs place e is; has_id = λ d. ap (λ (x : Admitted). x.id) (get_or_from_slice_get xs place e d is) }
+entry_is_at xs place e is = record {
+  in_range = slice_get_within xs place e is;
+  has_id =
+      λ d. ap (λ (x : Admitted). x.id) (get_or_from_slice_get xs place e d is);
+}
 
-pub entry_cyclic : (t : Tables) → Rises id_in t.table → (place : ℕ) (e : Admitted) → slice_get t.table place ≡ Some e → (level_of t).cyclics e.id ≡ Some (cyclic_of e)
-entry_cyclic t ordered place e is = read_cyclic t ordered e.id place (entry_is_at t.table place e is) e (sym (get_or_from_slice_get t.table place e e is))
+pub entry_cyclic : (t : Tables) → Rises id_in t.table → (place : ℕ) (e : Admitted) → slice_get t.table place ≡ Some e
+    → (level_of t).cyclics e.id ≡ Some (cyclic_of e)
+entry_cyclic t ordered place e is = read_cyclic t ordered e.id place (entry_is_at t.table place e is) e
+    (sym (get_or_from_slice_get t.table place e e is))
 
 -- what was read at a place stands there
-pub read_entry : (xs : List Admitted) (place : ℕ) (e : Admitted) → place < length xs → e ≡ get_or xs place e → slice_get xs place ≡ Some e
+pub read_entry : (xs : List Admitted) (place : ℕ) (e : Admitted) → place < length xs → e ≡ get_or xs place e
+    → slice_get xs place ≡ Some e
 read_entry xs place e in_range read = slice_get-get_or xs place e in_range ∙ ap Some (sym read)
 
 -- what is read at a place for a change is the entry that stands there
-pub stood : (xs : List Admitted) (place : ℕ) (e kept : Admitted) → slice_get xs place ≡ Some e → place < length xs → kept ≡ get_or xs place kept → kept ≡ e
+pub stood : (xs : List Admitted) (place : ℕ) (e kept : Admitted) → slice_get xs place ≡ Some e → place < length xs
+    → kept ≡ get_or xs place kept → kept ≡ e
 stood xs place e kept stands in_range read = same_some (slice_get xs place) kept e (read_entry xs place kept in_range read) stands

@@ -1,5 +1,6 @@
 -- What the calls of the soft side find.
-use Rattle.std.proofs.Common.{◌≡◌, ◌≢◌, ℕ, zero, suc, ◌+◌, ◌-◌, ◌<◌, eqb, cond, Bool, true, false, Option, Some, None, refl, sym, ap, ◌∙◌, subst, arith}
+use Rattle.std.proofs.Common.{◌≡◌, ◌≢◌, ℕ, zero, suc, ◌+◌, ◌-◌, ◌<◌, eqb, cond, Bool, true, false, Option, Some, None, refl, sym}
+use Rattle.std.proofs.Common.{ap, ◌∙◌, subst, arith}
 use Rattle.std.specs.Prelude.{is_some, IfSome}
 use Rattle.std.specs.Option.{option_map}
 use Rattle.std.proofs.lemmas.Bool.Decides.{nat_tests}
@@ -31,7 +32,8 @@ module _ (l : Level) (law : Lawful l) (id : ℕ) (holds : l.drainer_hand ≡ Som
   -- one call fewer is outstanding
   left : count n id ≡ count l id - 1
   left = let (c, is, more) = its in
-      ap count_in (at_same l.cyclics id (option_map cyclic_after_finish) ∙ ap (option_map cyclic_after_finish) is) ∙ ap (λ (k : ℕ). k - 1) (sym (ap count_in is))
+      ap count_in (at_same l.cyclics id (option_map cyclic_after_finish) ∙ ap (option_map cyclic_after_finish) is)
+      ∙ ap (λ (k : ℕ). k - 1) (sym (ap count_in is))
 
   more_calls : (k : ℕ) → 0 < k → is_some (hand_after_finish k (Some id)) ≡ true → eqb (k - 1) 0 ≡ false
   more_calls zero pos is = absurd (omega (arith, pos))
@@ -47,18 +49,22 @@ module _ (l : Level) (law : Lawful l) (id : ℕ) (holds : l.drainer_hand ≡ Som
   hand_is = ap (hand_after_finish (count l id)) holds
 
   -- the hand says whether calls are left
-  pub finish_more : (m : Level) → m ≡ after Finish l → is_some m.drainer_hand ≡ true → (b : Bool) → More ≡ finished_at (count m id) b
+  pub finish_more : (m : Level) → m ≡ after Finish l → is_some m.drainer_hand ≡ true → (b : Bool)
+      → More ≡ finished_at (count m id) b
   finish_more m e is b =
       let same : m ≡ n = e ∙ finished in
       let hand = sym (ap (λ (x : Level). is_some x.drainer_hand) same ∙ ap is_some hand_is) ∙ is in
-      let test : eqb (count m id) 0 ≡ false = ap (λ (x : Level). eqb (count x id) 0) same ∙ ap (λ (k : ℕ). eqb k 0) left ∙ more_calls (count l id) some hand in
+      let test : eqb (count m id) 0 ≡ false = ap (λ (x : Level). eqb (count x id) 0) same ∙ ap (λ (k : ℕ). eqb k 0) left
+      ∙ more_calls (count l id) some hand in
       sym (ap (λ (t : Bool). cond t (cond b LastOfRemoval Last) More) test)
 
-  pub finish_last : (m : Level) → m ≡ after Finish l → is_some m.drainer_hand ≡ false → (b : Bool) → cond b LastOfRemoval Last ≡ finished_at (count m id) b
+  pub finish_last : (m : Level) → m ≡ after Finish l → is_some m.drainer_hand ≡ false → (b : Bool)
+      → cond b LastOfRemoval Last ≡ finished_at (count m id) b
   finish_last m e is b =
       let same : m ≡ n = e ∙ finished in
       let hand = sym (ap (λ (x : Level). is_some x.drainer_hand) same ∙ ap is_some hand_is) ∙ is in
-      let test : eqb (count m id) 0 ≡ true = ap (λ (x : Level). eqb (count x id) 0) same ∙ ap (λ (k : ℕ). eqb k 0) left ∙ no_calls (count l id) some hand in
+      let test : eqb (count m id) 0 ≡ true = ap (λ (x : Level). eqb (count x id) 0) same ∙ ap (λ (k : ℕ). eqb k 0) left
+      ∙ no_calls (count l id) some hand in
       sym (ap (λ (t : Bool). cond t (cond b LastOfRemoval Last) More) test)
 
   -- one finish more for the id in hand, and for no other
@@ -69,7 +75,8 @@ module _ (l : Level) (law : Lawful l) (id : ℕ) (holds : l.drainer_hand ≡ Som
       let moved : done_of m q ≡ done_of n q = ap (λ (x : Level). done_of x q) same in
       dite (ℕ_discrete q id)
       (λ is. let (c, there, more) = its in
-      let now : done_of n id ≡ c.done + 1 = ap done_in (at_same l.cyclics id (option_map cyclic_after_finish) ∙ ap (option_map cyclic_after_finish) there) in
+      let now : done_of n id ≡ c.done + 1 = ap done_in (at_same l.cyclics id (option_map cyclic_after_finish)
+      ∙ ap (option_map cyclic_after_finish) there) in
       let was : done_of l id ≡ c.done = ap done_in there in
       let now_q = ap (done_of n) is in let was_q = ap (done_of l) is in
       let here : one_of q (Some id) ≡ 1 = ap (λ (k : ℕ). one_of k (Some id)) is ∙ hand_one id in

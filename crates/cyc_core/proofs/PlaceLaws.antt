@@ -1,5 +1,6 @@
 -- An id with calls outstanding stands at exactly one place, and an index is that of one admitted cyclic.
-use Rattle.std.proofs.Common.{◌≡◌, ◌≢◌, ℕ, zero, suc, ◌<◌, ◌≤◌, eqb, cond, Bool, true, false, ◌||◌, List, [], ◌∷◌, length, get_or, Option, Some, None, refl, sym, ap, ◌∙◌, subst, arith}
+use Rattle.std.proofs.Common.{◌≡◌, ◌≢◌, ℕ, zero, suc, ◌<◌, ◌≤◌, eqb, cond, Bool, true, false, ◌||◌, List, [], ◌∷◌, length, get_or}
+use Rattle.std.proofs.Common.{Option, Some, None, refl, sym, ap, ◌∙◌, subst, arith}
 use Rattle.std.specs.Prelude.{IsTrue, not}
 use Rattle.std.specs.Option.{option_map}
 use Rattle.std.specs.List.{list_any}
@@ -65,21 +66,26 @@ module _ (l : Level) (law : Lawful l) (id : ℕ) where
   once = let p = law.one_place id in let o = once_le (count l id) in omega (arith, p, o)
 
   -- a place where it stands is the only one
-  pub the_place : (p : Place) → StandsAt l id p → (q : Place) → (Some p ≡ Some q → StandsAt l id q) × (StandsAt l id q → Some p ≡ Some q)
-  the_place p h q =
-      (λ e. subst (λ (r : Place). StandsAt l id r) (some_same p q e) h, λ k. ap Some (same_place l id once p q (stands_times l id p h) (stands_times l id q k)))
+  pub the_place : (p : Place) → StandsAt l id p → (q : Place) → (Some p ≡ Some q → StandsAt l id q)
+      × (StandsAt l id q → Some p ≡ Some q)
+  the_place p h q = (
+    λ e. subst (λ (r : Place). StandsAt l id r) (some_same p q e) h,
+    λ k. ap Some (same_place l id once p q (stands_times l id p h) (stands_times l id q k)),
+  )
 
   pub outstanding : (p : Place) → StandsAt l id p → 0 < count l id
   outstanding p h = by (count l id) refl
     where
       by : (n : ℕ) → count l id ≡ n → 0 < count l id
-      by zero e = let placed = place_times l id p (stands_times l id p h) in let one = law.one_place id in let none : one_if_any (count l id) ≡ 0 = ap one_if_any e in absurd (omega (arith, placed, one, none))
+      by zero e = let placed = place_times l id p (stands_times l id p h) in let one = law.one_place id in
+          let none : one_if_any (count l id) ≡ 0 = ap one_if_any e in absurd (omega (arith, placed, one, none))
       by (suc n) e = omega (arith, e)
 
   pub stands_and_owes : (p : Place) → StandsAt l id p → (true ≡ true → 0 < count l id) × (0 < count l id → true ≡ true)
   stands_and_owes p h = (λ _. outstanding p h, λ _. refl)
 
-  module _ (firer : l.firer_hand ≢ Some id) (drainer : l.drainer_hand ≢ Some id) (old : times_in id l.old_list ≡ 0) (new : times_in id l.new_list ≡ 0) where
+  module _ (firer : l.firer_hand ≢ Some id) (drainer : l.drainer_hand ≢ Some id) (old : times_in id l.old_list ≡ 0)
+      (new : times_in id l.new_list ≡ 0) where
     pub no_place : (q : Place) → StandsAt l id q → ⊥
     no_place FirerHand h = firer h
     no_place OldBank h = omega (arith, old, h)
@@ -95,59 +101,83 @@ module _ (l : Level) (law : Lawful l) (id : ℕ) where
         by false e = refl
 
     pub nothing_owed : count l id ≡ 0
-    nothing_owed = once_zero (count l id) (let f = empty_hand l.firer_hand firer in let d = empty_hand l.drainer_hand drainer in let one = law.one_place id in omega (arith, f, d, old, new, one))
+    nothing_owed = once_zero (count l id) (let f = empty_hand l.firer_hand firer in let d = empty_hand l.drainer_hand drainer in
+        let one = law.one_place id in omega (arith, f, d, old, new, one))
 
 -- whether an id stands in a list
 pub any_times : (id : ℕ) (xs : List ℕ) → list_any (λ (x : ℕ). eqb x id) xs ≡ true → 0 < times_in id xs
 any_times id [] e = absurd (let none : ⊥ = cc in none)
 any_times id (x ∷ xs) e = by (eqb x id) refl e (any_times id xs)
   where
-    by : (b : Bool) → eqb x id ≡ b → (b || list_any (λ (x : ℕ). eqb x id) xs) ≡ true → (list_any (λ (x : ℕ). eqb x id) xs ≡ true → 0 < times_in id xs) → 0 < times_in id (x ∷ xs)
-    by true is e later = let one : eqb id x ≡ true = grind (arith, nat_tests) in let sum = ap (λ (b : Bool). cond {A = ℕ} b 1 0) one in omega (arith, sum)
+    by : (b : Bool) → eqb x id ≡ b → (b || list_any (λ (x : ℕ). eqb x id) xs) ≡ true
+        → (list_any (λ (x : ℕ). eqb x id) xs ≡ true → 0 < times_in id xs) → 0 < times_in id (x ∷ xs)
+    by true is e later = let one : eqb id x ≡ true = grind (arith, nat_tests) in let sum =
+        ap (λ (b : Bool). cond {A = ℕ} b 1 0) one in omega (arith, sum)
     by false is e later = let rest = later e in omega (arith, rest)
 
 pub none_times : (id : ℕ) (xs : List ℕ) → list_any (λ (x : ℕ). eqb x id) xs ≡ false → times_in id xs ≡ 0
 none_times id [] e = refl
 none_times id (x ∷ xs) e = by (eqb x id) refl e (none_times id xs)
   where
-    by : (b : Bool) → eqb x id ≡ b → (b || list_any (λ (x : ℕ). eqb x id) xs) ≡ false → (list_any (λ (x : ℕ). eqb x id) xs ≡ false → times_in id xs ≡ 0) → times_in id (x ∷ xs) ≡ 0
+    by : (b : Bool) → eqb x id ≡ b → (b || list_any (λ (x : ℕ). eqb x id) xs) ≡ false
+        → (list_any (λ (x : ℕ). eqb x id) xs ≡ false → times_in id xs ≡ 0) → times_in id (x ∷ xs) ≡ 0
     by true is e later = absurd (let none : ⊥ = cc in none)
-    by false is e later = let no_one : eqb id x ≡ false = grind (arith, nat_tests) in let sum = ap (λ (b : Bool). cond {A = ℕ} b 1 0) no_one in let rest = later e in omega (arith, sum, rest)
+    by false is e later = let no_one : eqb id x ≡ false = grind (arith, nat_tests) in let sum =
+        ap (λ (b : Bool). cond {A = ℕ} b 1 0) no_one in let rest = later e in omega (arith, sum, rest)
 
 -- an index that no entry has is that of no entry that a look-up finds
-none_index : (index id : ℕ) (xs : List Admitted) (e : Admitted) → list_any (λ (x : Admitted). eqb x.index index) xs ≡ false → lookup id xs ≡ Some e → e.index ≢ index
+none_index : (index id : ℕ) (xs : List Admitted) (e : Admitted) → list_any (λ (x : Admitted). eqb x.index index) xs ≡ false
+    → lookup id xs ≡ Some e → e.index ≢ index
 none_index index id [] e none found same = let wrong : ⊥ = cc in wrong
-none_index index id (x ∷ xs) e none found same = by (eqb x.index index) (eqb x.id id) refl none found (λ n f. none_index index id xs e n f same)
+none_index index id (x ∷ xs) e none found same =
+    by (eqb x.index index) (eqb x.id id) refl none found (λ n f. none_index index id xs e n f same)
   where
-    by : (b f : Bool) → eqb x.index index ≡ b → (b || list_any (λ (x : Admitted). eqb x.index index) xs) ≡ false → cond f (Some x) (lookup id xs) ≡ Some e → (list_any (λ (x : Admitted). eqb x.index index) xs ≡ false → lookup id xs ≡ Some e → ⊥) → ⊥
+    by : (b f : Bool) → eqb x.index index ≡ b → (b || list_any (λ (x : Admitted). eqb x.index index) xs) ≡ false
+        → cond f (Some x) (lookup id xs) ≡ Some e
+        → (list_any (λ (x : Admitted). eqb x.index index) xs ≡ false → lookup id xs ≡ Some e → ⊥) → ⊥
     by true f is none found later = let wrong : ⊥ = cc in wrong
-    by false true is none found later = let here : x ≡ e = some_same x e found in let at : x.index ≡ e.index = ap (λ (y : Admitted). y.index) here in let wrong : ⊥ = grind (arith, nat_tests) in wrong
+    by false true is none found later = let here : x ≡ e = some_same x e found in let at : x.index ≡ e.index =
+        ap (λ (y : Admitted). y.index) here in let wrong : ⊥ = grind (arith, nat_tests) in wrong
     by false false is none found later = later none found
 
-any_index : (index : ℕ) (xs : List Admitted) → list_any (λ (x : Admitted). eqb x.index index) xs ≡ true → (place : ℕ) × (place < length xs) × ((d : Admitted) → (get_or xs place d).index ≡ index)
+any_index : (index : ℕ) (xs : List Admitted) → list_any (λ (x : Admitted). eqb x.index index) xs ≡ true → (place : ℕ)
+    × (place < length xs) × ((d : Admitted) → (get_or xs place d).index ≡ index)
 any_index index [] e = absurd (let none : ⊥ = cc in none)
 any_index index (x ∷ xs) e = by (eqb x.index index) refl e (any_index index xs)
   where
-    by : (b : Bool) → eqb x.index index ≡ b → (b || list_any (λ (x : Admitted). eqb x.index index) xs) ≡ true → (list_any (λ (x : Admitted). eqb x.index index) xs ≡ true → (place : ℕ) × (place < length xs) × ((d : Admitted) → (get_or xs place d).index ≡ index)) → (place : ℕ) × (place < length (x ∷ xs)) × ((d : Admitted) → (get_or (x ∷ xs) place d).index ≡ index)
+    by : (b : Bool) → eqb x.index index ≡ b → (b || list_any (λ (x : Admitted). eqb x.index index) xs) ≡ true
+        → (list_any (λ (x : Admitted). eqb x.index index) xs ≡ true → (place : ℕ) × (place < length xs)
+        × ((d : Admitted) → (get_or xs place d).index ≡ index)) → (place : ℕ) × (place < length (x ∷ xs))
+        × ((d : Admitted) → (get_or (x ∷ xs) place d).index ≡ index)
     by true is e later = (0, omega arith, λ d. grind (arith, nat_tests))
     by false is e later = let (place, in_range, at) = later e in (suc place, omega (arith, in_range), at)
 
-cyclic_behind : (o : Option Admitted) (c : Cyclic) → option_map cyclic_of o ≡ Some c → (e : Admitted) × (o ≡ Some e) × (cyclic_of e ≡ c)
+cyclic_behind : (o : Option Admitted) (c : Cyclic) → option_map cyclic_of o ≡ Some c → (e : Admitted) × (o ≡ Some e)
+    × (cyclic_of e ≡ c)
 cyclic_behind None c is = absurd (let none : ⊥ = cc in none)
 cyclic_behind (Some e) c is = (e, refl, some_same (cyclic_of e) c is)
 
 -- whether any entry has an index says whether it is used
-pub unused_is : (index : ℕ) (xs : List Admitted) → list_any (λ (x : Admitted). eqb x.index index) xs ≡ false → (id : ℕ) (c : Cyclic) → cyclics_of xs id ≡ Some c → c.index ≢ index
-unused_is index xs none id c is same = let (e, found, made) = cyclic_behind (lookup id xs) c is in none_index index id xs e none found (ap (λ (x : Cyclic). x.index) made ∙ same)
+pub unused_is : (index : ℕ) (xs : List Admitted) → list_any (λ (x : Admitted). eqb x.index index) xs ≡ false
+    → (id : ℕ) (c : Cyclic) → cyclics_of xs id ≡ Some c → c.index ≢ index
+unused_is index xs none id c is same = let (e, found, made) = cyclic_behind (lookup id xs) c is in
+    none_index index id xs e none found (ap (λ (x : Cyclic). x.index) made ∙ same)
 
-pub used_is : (index : ℕ) (xs : List Admitted) → Rises id_in xs → list_any (λ (x : Admitted). eqb x.index index) xs ≡ true → ((id : ℕ) (c : Cyclic) → cyclics_of xs id ≡ Some c → c.index ≢ index) → ⊥
+pub used_is : (index : ℕ) (xs : List Admitted) → Rises id_in xs → list_any (λ (x : Admitted). eqb x.index index) xs ≡ true
+    → ((id : ℕ) (c : Cyclic) → cyclics_of xs id ≡ Some c → c.index ≢ index) → ⊥
 used_is index xs ordered any unused =
     let (place, in_range, at) = any_index index xs any in
     let d : Admitted = record { id = 0; index = 0; sent = 0; done = 0; lost = 0; count = 0 } in
     let e = get_or xs place d in
-    unused e.id (cyclic_of e) (ap (option_map cyclic_of) (look_up_at id_in xs ordered e.id place (is_at_place id_in xs place d in_range) d)) (at d)
+    unused e.id (cyclic_of e) (ap (option_map cyclic_of)
+    (look_up_at id_in xs ordered e.id place (is_at_place id_in xs place d in_range) d)) (at d)
 
-pub test_unused : (b : Bool) (index : ℕ) (xs : List Admitted) → Rises id_in xs → b ≡ list_any (λ (x : Admitted). eqb x.index index) xs →
-    (IsTrue (not b) → (id : ℕ) (c : Cyclic) → cyclics_of xs id ≡ Some c → c.index ≢ index) × (((id : ℕ) (c : Cyclic) → cyclics_of xs id ≡ Some c → c.index ≢ index) → IsTrue (not b))
-test_unused true index xs ordered e = (λ h. absurd (let wrong : ⊥ = cc in wrong), λ unused. absurd (used_is index xs ordered (sym e) unused))
+pub test_unused : (b : Bool) (index : ℕ) (xs : List Admitted) → Rises id_in xs
+    → b ≡ list_any (λ (x : Admitted). eqb x.index index) xs →
+    (IsTrue (not b) → (id : ℕ) (c : Cyclic) → cyclics_of xs id ≡ Some c → c.index ≢ index)
+    × (((id : ℕ) (c : Cyclic) → cyclics_of xs id ≡ Some c → c.index ≢ index) → IsTrue (not b))
+test_unused true index xs ordered e = (
+  λ h. absurd (let wrong : ⊥ = cc in wrong),
+  λ unused. absurd (used_is index xs ordered (sym e) unused),
+)
 test_unused false index xs ordered e = (λ h. unused_is index xs (sym e), λ unused. refl)

@@ -38,5 +38,7 @@ finished_at left marked = if left == 0 then (if marked then LastOfRemoval else L
 
 -- a call of the soft side with its answer: its events happened, in this order, and the answer is what was found
 abbrev pub Drains : Level → DrainCall → Level → Type 0
-Drains l (Takes answer) m = FoldsTo Happens l (take_events l.old_list l.new_list (l.hard_bank == l.soft_bank)) m × (answer ≡ m.drainer_hand)
-Drains l (Finishes id answer) m = (l.drainer_hand ≡ Some id) × Happens l Finish m × (answer ≡ finished_at (count m id) (is_marked m.marked id))
+Drains l (Takes answer) m = FoldsTo Happens l (take_events l.old_list l.new_list (l.hard_bank == l.soft_bank)) m
+    × (answer ≡ m.drainer_hand)
+Drains l (Finishes id answer) m = (l.drainer_hand ≡ Some id) × Happens l Finish m
+    × (answer ≡ finished_at (count m id) (is_marked m.marked id))

@@ -16,7 +16,15 @@ stay_of c = record { index = c.index; sent = c.sent; lost = c.lost; seen = c.cou
 
 -- the firing side knows all of its level but what the soft side holds
 abbrev pub firing_view : Level → FiringView
-firing_view l = record { stays = λ id. option_map stay_of (l.cyclics id); marked = l.marked; bank = l.hard_bank; ceiling = l.ceiling; followed = l.hard_bank == l.soft_bank; hand_free = is_none l.firer_hand }
+firing_view l = record {
+  stays = λ id. option_map stay_of (l.cyclics id);
+  marked = l.marked;
+  bank = l.hard_bank;
+  ceiling =
+      l.ceiling;
+  followed = l.hard_bank == l.soft_bank;
+  hand_free = is_none l.firer_hand;
+}
 
 -- the events of a raise with this answer (cyclic_expire)
 abbrev pub raise_events : ℕ → Raised → List Event
@@ -24,7 +32,8 @@ raise_events id First = Expire id ∷ Publish ∷ []
 raise_events id More = Expire id ∷ []
 raise_events id Lost = Lose id ∷ []
 
--- a call of the firing side with its answer: its events happened, in this order, and the answer is what was found. The firer's hand is empty after each
+-- a call of the firing side with its answer: its events happened, in this order, and the answer is what was found. The firer's
+-- hand is empty after each
 abbrev pub Fires : Level → FiringCall → Level → Type 0
 Fires l (Admits id index) m = Happens l (Admit id index) m
 Fires l (Loads id pend) m = (pend ≡ count l id) × (m ≡ l)

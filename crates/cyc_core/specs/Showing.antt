@@ -9,7 +9,14 @@ use Rattle.cyc_core.specs.DrainingSide.{is_marked}
 
 -- the outstanding calls are pending, or kept where the cyclic is marked
 abbrev pub books_in : Bool → Cyclic → Books
-books_in marked c = record { sent = c.sent; done = c.done; pending = (if marked then 0 else c.count); kept = (if marked then c.count else 0); lost = c.lost }
+books_in marked c = record {
+  sent = c.sent;
+  done = c.done;
+  pending = (if marked then 0 else c.count);
+  kept =
+      (if marked then c.count else 0);
+  lost = c.lost;
+}
 
 -- the books of an admitted id
 abbrev pub books_of : Level → ℕ → Option Books

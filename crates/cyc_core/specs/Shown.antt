@@ -8,7 +8,18 @@ use Rattle.cyc_core.specs.Reached.{IsReached}
 use Rattle.cyc_core.specs.declared.level_core.LevelCore.TheInside.{Inside}
 
 abbrev pub shown : Inside → Tables
-shown a = record { ceiling = a.ceiling; hard_bank = a.hard_bank; soft_bank = a.soft_bank; table = a.table.items; marked = a.marked; firer_hand = a.firer_hand; old_list = a.old_list.items; new_list = a.new_list.items; drainer_hand = a.drainer_hand }
+shown a = record {
+  ceiling = a.ceiling;
+  hard_bank = a.hard_bank;
+  soft_bank = a.soft_bank;
+  table = a.table.items;
+  marked =
+      a.marked;
+  firer_hand = a.firer_hand;
+  old_list = a.old_list.items;
+  new_list = a.new_list.items;
+  drainer_hand = a.drainer_hand;
+}
 
 -- the level is reached by enabled events, the table is ordered, and all memory is there
 pub record IsSound (a : Inside) : Type 0 where

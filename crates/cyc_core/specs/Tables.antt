@@ -35,4 +35,16 @@ cyclics_of table = λ id. option_map cyclic_of (lookup id table)
 
 -- the level that the tables show
 abbrev pub level_of : Tables → Level
-level_of t = record { ceiling = t.ceiling; hard_bank = t.hard_bank; soft_bank = t.soft_bank; cyclics = cyclics_of t.table; marked = t.marked; firer_hand = t.firer_hand; old_list = t.old_list; new_list = t.new_list; drainer_hand = t.drainer_hand }
+level_of t = record {
+  ceiling = t.ceiling;
+  hard_bank = t.hard_bank;
+  soft_bank = t.soft_bank;
+  cyclics =
+      cyclics_of t.table;
+  marked = t.marked;
+  firer_hand = t.firer_hand;
+  old_list = t.old_list;
+  new_list = t.new_list;
+  drainer_hand =
+      t.drainer_hand;
+}

@@ -1,8 +1,10 @@
 //! The events of a plain level, one function for each.
 
-ghost use Rattle.std.specs.Prelude.{◌≡◌, ◌≢◌, ℕ, ◌+◌, ◌<◌, ◌≤◌, ◌↔◌, ◌==◌, Some, None, IsTrue, IsOk, OnOk, OnErr, IfErr, IsSome, IsSomeAnd, slice_get, take, [], List};
+ghost use Rattle.std.specs.Prelude.{◌≡◌, ◌≢◌, ℕ, ◌+◌, ◌<◌, ◌≤◌, ◌↔◌, ◌==◌, Some, None, IsTrue, IsOk, OnOk, OnErr, IfErr, IsSome};
+ghost use Rattle.std.specs.Prelude.{IsSomeAnd, slice_get, take, [], List};
 ghost use Rattle.std.specs.List.{FoldsTo, list_any};
-ghost use Rattle.cyc_level.specs.declared.Event.TheVariants.{Admit, Expire, Lose, Publish, Take, Finish, Mark, Clear, Switch, Follow};
+ghost use Rattle.cyc_level.specs.declared.Event.TheVariants.{Admit, Expire, Lose, Publish, Take, Finish, Mark, Clear, Switch};
+ghost use Rattle.cyc_level.specs.declared.Event.TheVariants.{Follow};
 ghost use Rattle.cyc_level.specs.Level.{count, soft_list};
 ghost use Rattle.cyc_level.specs.Events.{Enabled, IsUnused, after};
 ghost use Rattle.cyc_core.specs.Tables.{level_of, lookup};
@@ -287,7 +289,8 @@ impl LevelCore {
     pub fn apply(&mut self, events: &[Event]) -> Result<(), NotEnabledAt>
         ensures ok { OnOk result (FoldsTo Happens (level_of self.old) events.now (level_of self.new)) }
         ensures before { IfErr result (λ at. FoldsTo Happens (level_of self.old) (take at.0 events.now) (level_of self.new)) }
-        ensures first { IfErr result (λ at. IsSomeAnd (slice_get events.now at.0) (λ event. ¬ (Enabled event (level_of self.new)))) }
+        ensures first { IfErr result (λ at. IsSomeAnd (slice_get events.now at.0)
+            (λ event. ¬ (Enabled event (level_of self.new)))) }
     {
         for (at, event) in events.iter().enumerate() {
             if self.step(*event).is_err() {

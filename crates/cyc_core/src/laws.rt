@@ -8,5 +8,6 @@ ghost use Rattle.cyc_core.specs.DrainingSide.{Drains};
 
 /// A look that takes nothing leaves both lists empty. So a soft interrupt that ends idle leaves nothing in the buffer.
 pub fn idle_is_empty()
-    ensures { (before after : Level) → Lawful before → Drains before (Takes None) after → (after.old_list ≡ []) × (after.new_list ≡ []) }
+    ensures { (before after : Level) → Lawful before → Drains before (Takes None) after → (after.old_list ≡ [])
+        × (after.new_list ≡ []) }
 {}

@@ -21,50 +21,79 @@ use Rattle.cyc_types.specs.declared.refusal.Refusal.TheVariants as why
 use Rattle.cyc_cpu.specs.declared.removing.Removal.TheVariants.{Done, Kept}
 use Rattle.cyc_cpu.specs.Moving.{WhyNotTaken}
 use Rattle.cyc_cpu.specs.Cpu.{CpuView, Running, SameCpu, Makes, WhyStopped, Looked, WhyNotReserved, sides}
-use Rattle.cyc_cpu.specs.Calls.{CpuCall, Fire, SoftInterrupt, Add, Place, Reprogram, AskPending, AskTotals, AskRoom, Reserve, Widen, BeginRemove, PollRemove, TakeNow, AskSettled, Changes, Does, Stopped}
+use Rattle.cyc_cpu.specs.Calls.{CpuCall, Fire, SoftInterrupt, Add, Place, Reprogram, AskPending, AskTotals, AskRoom, Reserve}
+use Rattle.cyc_cpu.specs.Calls.{Widen, BeginRemove, PollRemove, TakeNow, AskSettled, Changes, Does, Stopped}
 
-module _ {C R : Type 0} (called : C → ℕ → Level → C → Type 0) (count : C → ℕ → ℕ) (may_refuse : C → ℕ → Type 0) (step : R → FiringCall → R → Type 0) (view : R → FiringView)
-    (interrupts : Soft → ℕ → Result Ran SoftRefused → Running C R → Running C R → Type 0) (now : ℕ) (s t : Running C R) (early : now ≢ never) (kept : SameCpu s.cpu t.cpu) where
+module _ {C R : Type 0} (called : C → ℕ → Level → C → Type 0) (count : C → ℕ → ℕ) (may_refuse : C → ℕ → Type 0)
+    (step : R → FiringCall → R → Type 0) (view : R → FiringView)
+    (interrupts : Soft → ℕ → Result Ran SoftRefused → Running C R → Running C R → Type 0) (now : ℕ) (s t : Running C R)
+    (early : now ≢ never) (kept : SameCpu s.cpu t.cpu) where
   -- a fire at a moment that is not never
-  pub fired : (answer : Result Fired FireRefused) → IfOk answer (λ r. r.expired ≡ length (expirations now (timers s.cpu.cyclics))) → IfOk answer (λ r. r.next ≡ earliest (timers t.cpu.cyclics))
-      → IfOk answer (λ r. Makes (at_level called High) count step view now (expirations now (timers s.cpu.cyclics)) s.cpu.cyclics t.cpu.cyclics (sides s.calls s.cpu) (sides t.calls t.cpu) r.lost)
+  pub fired : (answer : Result Fired FireRefused) → IfOk answer (λ r. r.expired ≡ length (expirations now (timers s.cpu.cyclics)))
+      → IfOk answer (λ r. r.next ≡ earliest (timers t.cpu.cyclics))
+      → IfOk answer (λ r. Makes (at_level called High) count step view now
+      (expirations now (timers s.cpu.cyclics)) s.cpu.cyclics t.cpu.cyclics (sides s.calls s.cpu) (sides t.calls t.cpu) r.lost)
       → IfErr answer (λ e. (made : List Expiration) × (last : Expiration) × (rest : List Expiration)
       × (expirations now (timers s.cpu.cyclics) ≡ made ++ last ∷ rest) × (length made ≡ e.expired) × (at : C)
-      × Makes (at_level called High) count step view now made s.cpu.cyclics t.cpu.cyclics (sides s.calls s.cpu) (sides at t.cpu) e.lost
+      × Makes (at_level called High) count step view now made s.cpu.cyclics t.cpu.cyclics (sides s.calls s.cpu)
+      (sides at t.cpu) e.lost
       × ((id : ℕ) → count t.calls id ≡ count at id)
       × WhyStopped may_refuse s.cpu.most at last (timers t.cpu.cyclics) e.why)
       → Does called count may_refuse step view interrupts s (Fire now answer) t
   fired (Ok r) expired next makes stopped = (early, kept, expired, next, makes)
   fired (Err e) expired next makes (made, last, rest, listed, long, at, m, counted, stops) =
-      inr (early, kept, record { made = made; last = last; rest = rest; listed = listed; expired = long; at = at; makes = m; counted = counted; stops = stops })
+      inr (
+        early,
+        kept,
+        record {
+          made = made;
+          last = last;
+          rest = rest;
+          listed = listed;
+          expired = long;
+          at = at;
+          makes =
+              m;
+          counted = counted;
+          stops = stops;
+        },
+      )
 
 -- why an add at a moment that is not never was refused
-pub not_added : {R : Type 0} (step : R → FiringCall → R → Type 0) (view : R → FiringView) (id now : ℕ) (level : Level) (when : When) (v w : CpuView R) (e : Refusal) → now ≢ never
+pub not_added : {R : Type 0} (step : R → FiringCall → R → Type 0) (view : R → FiringView) (id now : ℕ) (level : Level)
+    (when : When) (v w : CpuView R) (e : Refusal) → now ≢ never
     → Changes step view v (Add id level when now (Err e)) w → Looked step view v w × WhyNotReserved view 1 v w e
 not_added step view id now level when v w BadNow early d = absurd (early d.1)
 not_added step view id now level when v w e early d = (d.2, d.3)
 
 -- what refused a fire at a moment that is not never
-pub not_fired : {C R : Type 0} (called : C → ℕ → Level → C → Type 0) (count : C → ℕ → ℕ) (may_refuse : C → ℕ → Type 0) (step : R → FiringCall → R → Type 0) (view : R → FiringView)
-    (interrupts : Soft → ℕ → Result Ran SoftRefused → Running C R → Running C R → Type 0) (now : ℕ) (s t : Running C R) (e : FireRefused) → now ≢ never
-    → Does called count may_refuse step view interrupts s (Fire now (Err e)) t → Stopped (at_level called High) count may_refuse step view now e s t
+pub not_fired : {C R : Type 0} (called : C → ℕ → Level → C → Type 0) (count : C → ℕ → ℕ) (may_refuse : C → ℕ → Type 0)
+    (step : R → FiringCall → R → Type 0) (view : R → FiringView)
+    (interrupts : Soft → ℕ → Result Ran SoftRefused → Running C R → Running C R → Type 0) (now : ℕ) (s t : Running C R)
+    (e : FireRefused) → now ≢ never
+    → Does called count may_refuse step view interrupts s (Fire now (Err e)) t
+    → Stopped (at_level called High) count may_refuse step view now e s t
 not_fired called count may_refuse step view interrupts now s t e early (inl d) = absurd (early d.0)
 not_fired called count may_refuse step view interrupts now s t e early (inr d) = d.2
 
 -- what a cyclic may expire at most is the same for good
-not_taken_most : {R : Type 0} (step : R → FiringCall → R → Type 0) (view : R → FiringView) (id : ℕ) (v w : CpuView R) (e : Refusal) → WhyNotTaken step view id v e w → w.most ≡ v.most
+not_taken_most : {R : Type 0} (step : R → FiringCall → R → Type 0) (view : R → FiringView) (id : ℕ) (v w : CpuView R)
+    (e : Refusal) → WhyNotTaken step view id v e w → w.most ≡ v.most
 not_taken_most {R} step view id v w why.NoCyclic d = ap (λ (x : CpuView R). x.most) d.1
 not_taken_most {R} step view id v w (why.Busy removed) d = ap (λ (x : CpuView R). x.most) d.2
 not_taken_most step view id v w why.Pending (still, some, n, more, a) = a.kept.most
 not_taken_most step view id v w e d = absurd d
 
-not_added_most : {R : Type 0} (step : R → FiringCall → R → Type 0) (view : R → FiringView) (id now : ℕ) (level : Level) (when : When) (v w : CpuView R) (e : Refusal)
+not_added_most : {R : Type 0} (step : R → FiringCall → R → Type 0) (view : R → FiringView) (id now : ℕ) (level : Level)
+    (when : When) (v w : CpuView R) (e : Refusal)
     → Changes step view v (Add id level when now (Err e)) w → w.most ≡ v.most
 not_added_most {R} step view id now level when v w BadNow d = ap (λ (x : CpuView R). x.most) d.2
 not_added_most step view id now level when v w e d = d.2.kept.most
 
-pub changes_most : {R : Type 0} (step : R → FiringCall → R → Type 0) (view : R → FiringView) (v w : CpuView R) (call : CpuCall) → Changes step view v call w → w.most ≡ v.most
-changes_most step view v w (Add id level when now (Ok done)) (absent, early, a) = a.enters.kept.most ∙ a.widens.most ∙ a.reserves.most
+pub changes_most : {R : Type 0} (step : R → FiringCall → R → Type 0) (view : R → FiringView) (v w : CpuView R) (call : CpuCall)
+    → Changes step view v call w → w.most ≡ v.most
+changes_most step view v w (Add id level when now (Ok done)) (absent, early, a) = a.enters.kept.most ∙ a.widens.most
+    ∙ a.reserves.most
 changes_most step view v w (Add id level when now (Err e)) d = not_added_most step view id now level when v w e d
 changes_most step view v w (Place id level interval moment carried) d = d.1.kept.most
 changes_most {R} step view v w (Reprogram id moment (Ok done)) (k, c, here, named, still, is) = ap (λ (x : CpuView R). x.most) is
@@ -92,8 +121,10 @@ changes_most step view v w (Fire now answer) d = absurd d
 changes_most step view v w (SoftInterrupt level budget answer) d = absurd d
 
 -- a fire leaves all but the cyclics and the ends
-pub fire_keeps : {C R : Type 0} (called : C → ℕ → Level → C → Type 0) (count : C → ℕ → ℕ) (may_refuse : C → ℕ → Type 0) (step : R → FiringCall → R → Type 0) (view : R → FiringView)
-    (interrupts : Soft → ℕ → Result Ran SoftRefused → Running C R → Running C R → Type 0) (now : ℕ) (s t : Running C R) (answer : Result Fired FireRefused)
+pub fire_keeps : {C R : Type 0} (called : C → ℕ → Level → C → Type 0) (count : C → ℕ → ℕ) (may_refuse : C → ℕ → Type 0)
+    (step : R → FiringCall → R → Type 0) (view : R → FiringView)
+    (interrupts : Soft → ℕ → Result Ran SoftRefused → Running C R → Running C R → Type 0) (now : ℕ) (s t : Running C R)
+    (answer : Result Fired FireRefused)
     → Does called count may_refuse step view interrupts s (Fire now answer) t → SameCpu s.cpu t.cpu
 fire_keeps called count may_refuse step view interrupts now s t (Ok r) d = d.1
 fire_keeps called count may_refuse step view interrupts now s t (Err e) (inl (late, is, same)) =

@@ -1,7 +1,8 @@
 -- From rows to the cyclics that callers see.
 use Rattle.std.specs.Prelude.{insert}
 use Rattle.cyc_cpu.proofs.Entering.{no_row}
-use Rattle.std.proofs.Common.{◌≡◌, ◌≢◌, inl, inr, Some, ◌<◌, All, Option, get_or, ◌++◌, ◌∷◌, ℕ, List, take, drop, arith, length, ap, sym, subst, ◌∙◌}
+use Rattle.std.proofs.Common.{◌≡◌, ◌≢◌, inl, inr, Some, ◌<◌, All, Option, get_or, ◌++◌, ◌∷◌, ℕ, List, take, drop, arith, length}
+use Rattle.std.proofs.Common.{ap, sym, subst, ◌∙◌}
 use Rattle.std.proofs.Math.ListN.{set}
 use Rattle.std.proofs.lemmas.List.{length-map, get_or_default, get_or-map, map-set, map-append, take-map, drop-map}
 use Rattle.cyc_fire.specs.Rows.{Row, Cyclic, IsRow, IsRising, HasNo, cyclic_of, cyclics_of}
@@ -13,7 +14,10 @@ use Rattle.cyc_cpu.specs.Calls.{CpuCall, Changes}
 use Rattle.cyc_cpu.specs.Cpu.{CpuView, IsCyclic, HasNoCyclic, Asks, Looked, AreAdmitted, HasCounts, IsRemoved, HasRisingIds}
 
 pub is_cyclic : (rows : List Row) (k : ℕ) (r : Row) → IsRow rows k r → IsCyclic (cyclics_of rows) k (cyclic_of r)
-is_cyclic rows k r is = ((let l = length-map rows cyclic_of in let a = is.0 in omega (arith, l, a)), get_or-map cyclic_of rows k r (cyclic_of r) is.0 ∙ ap cyclic_of is.1)
+is_cyclic rows k r is = (
+  (let l = length-map rows cyclic_of in let a = is.0 in omega (arith, l, a)),
+  get_or-map cyclic_of rows k r (cyclic_of r) is.0 ∙ ap cyclic_of is.1,
+)
 
 pub no_cyclic : (id : ℕ) (rows : List Row) → HasNo id rows → HasNoCyclic id (cyclics_of rows)
 no_cyclic id rows none k d low same =
@@ -25,37 +29,45 @@ no_cyclic id rows none k d low same =
 pub cyclics_set : (rows : List Row) (i : ℕ) (u : Row) → cyclics_of (set rows i u) ≡ set (cyclics_of rows) i (cyclic_of u)
 cyclics_set rows i u = map-set cyclic_of rows i u
 
-pub asks_from : {R : Type 0} (step : R → FiringCall → R → Type 0) (view : R → FiringView) (id n : ℕ) (u v w : CpuView R) → u ≡ v → Asks step view id n u w → Asks step view id n v w
+pub asks_from : {R : Type 0} (step : R → FiringCall → R → Type 0) (view : R → FiringView) (id n : ℕ) (u v w : CpuView R) → u ≡ v
+    → Asks step view id n u w → Asks step view id n v w
 asks_from step view id n u v w is a = subst (λ x. Asks step view id n x w) is a
 
 -- what a call does to a CPU, by what is inside it
-pub changes_from : {R : Type 0} (step : R → FiringCall → R → Type 0) (view : R → FiringView) (call : CpuCall) (u v w : CpuView R) → u ≡ v → Changes step view u call w → Changes step view v call w
+pub changes_from : {R : Type 0} (step : R → FiringCall → R → Type 0) (view : R → FiringView) (call : CpuCall) (u v w : CpuView R)
+    → u ≡ v → Changes step view u call w → Changes step view v call w
 changes_from step view call u v w is a = subst (λ x. Changes step view x call w) is a
 
-pub looked_from : {R : Type 0} (step : R → FiringCall → R → Type 0) (view : R → FiringView) (u v w : CpuView R) → u ≡ v → Looked step view u w → Looked step view v w
+pub looked_from : {R : Type 0} (step : R → FiringCall → R → Type 0) (view : R → FiringView) (u v w : CpuView R) → u ≡ v
+    → Looked step view u w → Looked step view v w
 looked_from step view u v w is a = subst (λ x. Looked step view x w) is a
 
 pub no_row_of : (id : ℕ) (rows : List Row) → HasNoCyclic id (cyclics_of rows) → HasNo id rows
 no_row_of id rows none k d low same =
     let l = length-map rows cyclic_of in
-    none k (cyclic_of d) (omega (arith, l, low)) (ap (λ (c : Cyclic). c.timer.id) (get_or-map cyclic_of rows k d (cyclic_of d) low) ∙ same)
+    none k (cyclic_of d) (omega (arith, l, low))
+    (ap (λ (c : Cyclic). c.timer.id) (get_or-map cyclic_of rows k d (cyclic_of d) low) ∙ same)
 
 pub cyclics_insert : (rows : List Row) (q : ℕ) (u : Row) → cyclics_of (insert rows q u) ≡ insert (cyclics_of rows) q (cyclic_of u)
-cyclics_insert rows q u = map-append cyclic_of (take q rows) (u ∷ drop q rows) ∙ (λ j. sym (take-map cyclic_of q rows) j ++ (cyclic_of u ∷ sym (drop-map cyclic_of q rows) j))
+cyclics_insert rows q u = map-append cyclic_of (take q rows) (u ∷ drop q rows)
+    ∙ (λ j. sym (take-map cyclic_of q rows) j ++ (cyclic_of u ∷ sym (drop-map cyclic_of q rows) j))
 
 -- the row of a cyclic
-pub row_of_cyclic : (rows : List Row) (k : ℕ) (c : Cyclic) → IsCyclic (cyclics_of rows) k c → (r : Row) × IsRow rows k r × (cyclic_of r ≡ c)
+pub row_of_cyclic : (rows : List Row) (k : ℕ) (c : Cyclic) → IsCyclic (cyclics_of rows) k c → (r : Row) × IsRow rows k r
+    × (cyclic_of r ≡ c)
 row_of_cyclic rows k c is =
     let e : Row = record { timer = c.timer; lost = c.lost; carried = c.carried; index = 0 } in
     let low : k < length rows = (let l = length-map rows cyclic_of in let a = is.0 in omega (arith, l, a)) in
     (get_or rows k e, (low, get_or_default rows k (get_or rows k e) e low), sym (get_or-map cyclic_of rows k e c low) ∙ is.1)
 
-pub admitted_cyclics : (soft : Level) (size : ℕ) (marked : Option ℕ) (v : FiringView) (rows : List Row) → IsEnd soft size marked v rows → AreAdmitted soft v (cyclics_of rows)
+pub admitted_cyclics : (soft : Level) (size : ℕ) (marked : Option ℕ) (v : FiringView) (rows : List Row)
+    → IsEnd soft size marked v rows → AreAdmitted soft v (cyclics_of rows)
 admitted_cyclics soft size marked v rows ready = record {
   here = λ k c is at.
       let (r, row, same) = row_of_cyclic rows k c is in
       let (s, stay, (index, sent, lost)) = ready.here k r row (ap (λ (x : Cyclic). x.timer.level) same ∙ at) in
-      let a = ap (λ (x : Cyclic). x.timer.expired) same in let b = ap (λ (x : Cyclic). x.lost) same in let d = ap (λ (x : Cyclic). x.carried.sent) same in let e = ap (λ (x : Cyclic). x.carried.lost) same in
+      let a = ap (λ (x : Cyclic). x.timer.expired) same in let b = ap (λ (x : Cyclic). x.lost) same in let d =
+      ap (λ (x : Cyclic). x.carried.sent) same in let e = ap (λ (x : Cyclic). x.carried.lost) same in
       (s, ap v.stays (ap (λ (x : Cyclic). x.timer.id) (sym same)) ∙ stay, (omega (arith, sent, a, d), omega (arith, lost, b, e)));
   only = λ id s h. (let (k, r, row, named, at) = ready.only id s h in (k, cyclic_of r, is_cyclic rows k r row, named, at));
   over = ready.over;
@@ -79,16 +91,30 @@ counted_cyclics most rows counted k d low =
     subst (HasCounts most) (sym (get_or-map cyclic_of rows k e d low')) (counted k e low')
 
 -- the cyclic whose removal is open
-pub removed_cyclic : {R : Type 0} (view : R → FiringView) (size most : ℕ) (removal : Option ℕ) (lock low : R) (rows : List Row) (id : ℕ) → IsHard view size most removal lock low rows → removal ≡ Some id → IsRemoved id (cyclics_of rows)
+pub removed_cyclic : {R : Type 0} (view : R → FiringView) (size most : ℕ) (removal : Option ℕ) (lock low : R) (rows : List Row)
+    (id : ℕ) → IsHard view size most removal lock low rows → removal ≡ Some id → IsRemoved id (cyclics_of rows)
 removed_cyclic view size most removal lock low rows id h is = elim (h.is_open id is) [
-  | inl m ↦ (let (k, r, row, named, at) = h.ready.lock_end.marked_here id m in
-      (k, cyclic_of r, is_cyclic rows k r row, named, (λ q. absurd (let no : Lock ≡ High = sym at ∙ q in cc)), h.ready.lock_end.removed k r row (m ∙ ap Some (sym named))))
-  | inr m ↦ (let (k, r, row, named, at) = h.ready.low_end.marked_here id m in
-      (k, cyclic_of r, is_cyclic rows k r row, named, (λ q. absurd (let no : Low ≡ High = sym at ∙ q in cc)), h.ready.low_end.removed k r row (m ∙ ap Some (sym named))))
+  | inl m ↦ (let (k, r, row, named, at) = h.ready.lock_end.marked_here id m in (
+    k,
+    cyclic_of r,
+    is_cyclic rows k r row,
+    named,
+    (λ q. absurd (let no : Lock ≡ High = sym at ∙ q in cc)),
+    h.ready.lock_end.removed k r row (m ∙ ap Some (sym named)),
+  ))
+  | inr m ↦ (let (k, r, row, named, at) = h.ready.low_end.marked_here id m in (
+    k,
+    cyclic_of r,
+    is_cyclic rows k r row,
+    named,
+    (λ q. absurd (let no : Low ≡ High = sym at ∙ q in cc)),
+    h.ready.low_end.removed k r row (m ∙ ap Some (sym named)),
+  ))
 ]
 
 -- no removal is open of an id that is not here
-pub not_removed : {R : Type 0} (view : R → FiringView) (size most : ℕ) (removal : Option ℕ) (lock low : R) (rows : List Row) (id : ℕ) → IsHard view size most removal lock low rows → HasNo id rows → removal ≢ Some id
+pub not_removed : {R : Type 0} (view : R → FiringView) (size most : ℕ) (removal : Option ℕ) (lock low : R) (rows : List Row)
+    (id : ℕ) → IsHard view size most removal lock low rows → HasNo id rows → removal ≢ Some id
 not_removed view size most removal lock low rows id h none is = elim (h.is_open id is) [
   | inl m ↦ (let (k, r, row, named, at) = h.ready.lock_end.marked_here id m in absurd (no_row id rows k r none row named))
   | inr m ↦ (let (k, r, row, named, at) = h.ready.low_end.marked_here id m in absurd (no_row id rows k r none row named))

@@ -25,10 +25,12 @@ lawful_drained l m (Finishes id answer) (held, (on, is), found) law = subst Lawf
 
 lawful_served : (a b : Tables) (way : List DrainCall) → DrainGoes drains a way b → Lawful (level_of a) → Lawful (level_of b)
 lawful_served a b [] h law = subst (λ (t : Tables). Lawful (level_of t)) h law
-lawful_served a b (call ∷ way) (m, first, rest) law = lawful_served m b way rest (lawful_drained (level_of a) (level_of m) call first law)
+lawful_served a b (call ∷ way) (m, first, rest) law =
+    lawful_served m b way rest (lawful_drained (level_of a) (level_of m) call first law)
 
 -- the level whose last step is a look that found nothing
-pub emptied : (a before b : Tables) (way : List DrainCall) → Lawful (level_of a) → DrainGoes drains a way before → drains before (Takes None) b → HasEmptyLists b
+pub emptied : (a before b : Tables) (way : List DrainCall) → Lawful (level_of a) → DrainGoes drains a way before
+    → drains before (Takes None) b → HasEmptyLists b
 emptied a before b way law goes last = idle_empty (level_of before) (level_of b) (lawful_served a before way goes law) last
 
 pub on_ok : {A E : Type 0} (P Q : A → Type 0) (r : Result A E) → ((a : A) → P a → Q a) → IfOk r P → IfOk r Q

@@ -1,5 +1,6 @@
 -- What the loads of all cyclics leave, and what they tell.
-use Rattle.std.proofs.Common.{◌≡◌, ◌≢◌, ℕ, ◌+◌, ◌<◌, ◌≤◌, Bool, true, false, cond, eqb, Option, Some, None, List, [], ◌∷◌, map, refl, sym, ap, ◌∙◌, subst, arith, eq-eqb, ◌++◌, inl, inr, length, get_or}
+use Rattle.std.proofs.Common.{◌≡◌, ◌≢◌, ℕ, ◌+◌, ◌<◌, ◌≤◌, Bool, true, false, cond, eqb, Option, Some, None, List, [], ◌∷◌, map}
+use Rattle.std.proofs.Common.{refl, sym, ap, ◌∙◌, subst, arith, eq-eqb, ◌++◌, inl, inr, length, get_or}
 use Rattle.cyc_types.specs.Firing.{FiringView, FiringCall, Loads, Looks, Learns, Stay, MayAsk, edited, seen_in, seen_of}
 use Rattle.cyc_types.specs.Runs.{Goes}
 use Rattle.cyc_types.specs.declared.level.Level.{Level}
@@ -19,7 +20,8 @@ use Rattle.cyc_fire.proofs.Readying.{loads_keep, looks_keep, keeps_itself}
 use Rattle.cyc_cpu.proofs.Softs.{keeps_on}
 use Rattle.cyc_cpu.proofs.Leaving.{goes_here, goes_not, level_cases, one_row}
 
-seen_less : (b : Bool) (n : ℕ) (o : Option Stay) → (b ≡ true → n ≤ seen_in o) → seen_in (cond b (edited (λ s. record s { seen = n }) o) o) ≤ seen_in o
+seen_less : (b : Bool) (n : ℕ) (o : Option Stay) → (b ≡ true → n ≤ seen_in o)
+    → seen_in (cond b (edited (λ s. record s { seen = n }) o) o) ≤ seen_in o
 seen_less true n None h = omega arith
 seen_less true n (Some s) h = h refl
 seen_less false n o h = omega arith
@@ -30,7 +32,8 @@ same_id j id h = let e : j ≡ id = grind (arith, nat_tests) in e
 -- a load raises what was seen of no cyclic
 pub load_lowers : (v w : FiringView) (id n j : ℕ) → Learns v (Loads id n) w → seen_of j w ≤ seen_of j v
 load_lowers v w id n j l =
-    let a = seen_less (eqb j id) n (v.stays j) (λ on. let e = ap (λ i. seen_in (v.stays i)) (same_id j id on) in let f = l.0 in omega (arith, e, f)) in
+    let a = seen_less (eqb j id) n (v.stays j) (λ on. let e = ap (λ i. seen_in (v.stays i)) (same_id j id on) in let f = l.0 in
+    omega (arith, e, f)) in
     let e = ap (λ (x : FiringView). seen_of j x) l.1 in
     omega (arith, a, e)
 
@@ -42,57 +45,75 @@ seen_none false o h = absurd (let wrong : false ≡ true = h in cc)
 load_none : (v w : FiringView) (id : ℕ) → Learns v (Loads id 0) w → seen_of id w ≡ 0
 load_none v w id l = ap (λ (x : FiringView). seen_of id x) l.1 ∙ seen_none (eqb id id) (v.stays id) (eq-eqb id id refl)
 
-seen_some : (b : Bool) (n : ℕ) (o : Option Stay) (s : Stay) → b ≡ true → o ≡ Some s → seen_in (cond b (edited (λ s. record s { seen = n }) o) o) ≡ n
+seen_some : (b : Bool) (n : ℕ) (o : Option Stay) (s : Stay) → b ≡ true → o ≡ Some s
+    → seen_in (cond b (edited (λ s. record s { seen = n }) o) o) ≡ n
 seen_some true n (Some t) s on h = refl
 seen_some true n None s on h = absurd (let wrong : None ≡ Some s = h in cc)
 seen_some false n o s on h = absurd (let wrong : false ≡ true = on in cc)
 
 load_some : (v w : FiringView) (id n : ℕ) → MayAsk id v → Learns v (Loads id n) w → seen_of id w ≡ n
-load_some v w id n ((s, stay, _), free) l = ap (λ (x : FiringView). seen_of id x) l.1 ∙ seen_some (eqb id id) n (v.stays id) s (eq-eqb id id refl) stay
+load_some v w id n ((s, stay, _), free) l = ap (λ (x : FiringView). seen_of id x) l.1
+    ∙ seen_some (eqb id id) n (v.stays id) s (eq-eqb id id refl) stay
 
 pub may_ask_still : (v w : FiringView) (id : ℕ) → KeepsStays v w → MayAsk id v → MayAsk id w
 may_ask_still v w id k ((s, stay, _), free) = (let (t, there, i1, i2, i3) = k.to id s stay in ((t, there, tt), k.free ∙ free))
 
 module _ {R : Type 0} (step : R → FiringCall → R → Type 0) (view : R → FiringView) where
-  loads_keep_all : (e f : R) (asked : List (ℕ × ℕ)) → Goes step view e (map (λ a. Loads a.0 a.1) asked) f → KeepsStays (view e) (view f)
+  loads_keep_all : (e f : R) (asked : List (ℕ × ℕ)) → Goes step view e (map (λ a. Loads a.0 a.1) asked) f
+      → KeepsStays (view e) (view f)
   loads_keep_all e f [] g = subst (λ x. KeepsStays (view e) (view x)) g (keeps_itself (view e))
-  loads_keep_all e f (a ∷ asked) (m, (s, l), rest) = keeps_on (view e) (view m) (view f) (loads_keep (view e) (view m) a.0 a.1 l) (loads_keep_all m f asked rest)
+  loads_keep_all e f (a ∷ asked) (m, (s, l), rest) =
+      keeps_on (view e) (view m) (view f) (loads_keep (view e) (view m) a.0 a.1 l) (loads_keep_all m f asked rest)
 
   pub only_loads_keep : (e f : R) → OnlyLoads step view e f → KeepsStays (view e) (view f)
   only_loads_keep e f o = loads_keep_all e f o.0 o.1
 
   looks_keep_all : (e f : R) (answers : List Bool) → Goes step view e (map Looks answers) f → KeepsStays (view e) (view f)
   looks_keep_all e f [] g = subst (λ x. KeepsStays (view e) (view x)) g (keeps_itself (view e))
-  looks_keep_all e f (a ∷ answers) (m, (s, l), rest) = keeps_on (view e) (view m) (view f) (looks_keep (view e) (view m) a l) (looks_keep_all m f answers rest)
+  looks_keep_all e f (a ∷ answers) (m, (s, l), rest) =
+      keeps_on (view e) (view m) (view f) (looks_keep (view e) (view m) a l) (looks_keep_all m f answers rest)
 
   pub only_looks_keep : (e f : R) → OnlyLooks step view e f → KeepsStays (view e) (view f)
   only_looks_keep e f o = looks_keep_all e f o.0 o.1
 
-  pub looks_see : (e f : R) (answer : Bool) (id : ℕ) → Learns (view e) (Looks answer) (view f) → seen_of id (view f) ≡ seen_of id (view e)
+  pub looks_see : (e f : R) (answer : Bool) (id : ℕ) → Learns (view e) (Looks answer) (view f)
+      → seen_of id (view f) ≡ seen_of id (view e)
   looks_see e f answer id l = ap (λ (x : FiringView). seen_of id x) l.1
 
   -- one more question
-  pub asked_more : (soft own : Level) (id n : ℕ) (e f g : R) → OnlyLoads step view e f → Goes step view f (asks_at soft own id n) g → OnlyLoads step view e g
+  pub asked_more : (soft own : Level) (id n : ℕ) (e f g : R) → OnlyLoads step view e f
+      → Goes step view f (asks_at soft own id n) g → OnlyLoads step view e g
   asked_more soft own id n e f g (asked, went) goes = elim (level_cases own soft) [
-    | inl at ↦ (let one = goes_here step view soft own f g (Loads id n ∷ []) goes at in
-        ((asked ++ (id, n) ∷ []), subst (λ w. Goes step view e w g) (sym (map-append (λ (a : ℕ × ℕ). Loads a.0 a.1) asked ((id, n) ∷ []))) (goes_on step view e f g _ _ went one)))
-    | inr off ↦ (asked, subst (λ x. Goes step view e (map (λ a. Loads a.0 a.1) asked) x) (sym (goes_not step view soft own f g (Loads id n ∷ []) goes off)) went)
+    | inl at ↦ (let one = goes_here step view soft own f g (Loads id n ∷ []) goes at in (
+      (asked ++ (id, n) ∷ []),
+      subst (λ w. Goes step view e w g)
+          (sym (map-append (λ (a : ℕ × ℕ). Loads a.0 a.1) asked ((id, n) ∷ []))) (goes_on step view e f g _ _ went one),
+    ))
+    | inr off ↦ (
+      asked,
+      subst (λ x. Goes step view e (map (λ a. Loads a.0 a.1) asked) x)
+          (sym (goes_not step view soft own f g (Loads id n ∷ []) goes off)) went,
+    )
   ]
 
   -- the question raises what was seen of no cyclic
-  pub asked_lowers : (soft own : Level) (id n j : ℕ) (f g : R) → Goes step view f (asks_at soft own id n) g → seen_of j (view g) ≤ seen_of j (view f)
+  pub asked_lowers : (soft own : Level) (id n j : ℕ) (f g : R) → Goes step view f (asks_at soft own id n) g
+      → seen_of j (view g) ≤ seen_of j (view f)
   asked_lowers soft own id n j f g goes = elim (level_cases own soft) [
     | inl at ↦ (let (m, (s, l), last) = goes_here step view soft own f g (Loads id n ∷ []) goes at in
         let a = load_lowers (view f) (view m) id n j l in let b = ap (λ x. seen_of j (view x)) last in omega (arith, a, b))
-    | inr off ↦ (let b = ap (λ x. seen_of j (view x)) (goes_not step view soft own f g (Loads id n ∷ []) goes off) in omega (arith, b))
+    | inr off ↦ (let b = ap (λ x. seen_of j (view x)) (goes_not step view soft own f g (Loads id n ∷ []) goes off) in
+        omega (arith, b))
   ]
 
-  pub asked_none : (soft own : Level) (id : ℕ) (f g : R) → own ≡ soft → Goes step view f (asks_at soft own id 0) g → seen_of id (view g) ≡ 0
+  pub asked_none : (soft own : Level) (id : ℕ) (f g : R) → own ≡ soft → Goes step view f (asks_at soft own id 0) g
+      → seen_of id (view g) ≡ 0
   asked_none soft own id f g at goes =
       let (m, (s, l), last) = goes_here step view soft own f g (Loads id 0 ∷ []) goes at in
       ap (λ x. seen_of id (view x)) (sym last) ∙ load_none (view f) (view m) id l
 
-  pub asked_some : (soft own : Level) (id n : ℕ) (f g : R) → own ≡ soft → MayAsk id (view f) → Goes step view f (asks_at soft own id n) g → seen_of id (view g) ≡ n
+  pub asked_some : (soft own : Level) (id n : ℕ) (f g : R) → own ≡ soft → MayAsk id (view f)
+      → Goes step view f (asks_at soft own id n) g → seen_of id (view g) ≡ n
   asked_some soft own id n f g at may goes =
       let (m, (s, l), last) = goes_here step view soft own f g (Loads id n ∷ []) goes at in
       ap (λ x. seen_of id (view x)) (sym last) ∙ load_some (view f) (view m) id n may l
@@ -102,8 +123,10 @@ module _ {R : Type 0} (step : R → FiringCall → R → Type 0) (view : R → F
   quiet_in (Some t) h = h t refl
 
   -- an end whose every cyclic was found with nothing outstanding
-  pub quiet_end : (soft : Level) (size : ℕ) (marked : Option ℕ) (e f : R) (rows : List Row) → IsEnd soft size marked (view e) rows → KeepsStays (view e) (view f) →
-      ((k : ℕ) (r : Row) → IsRow rows k r → r.timer.level ≡ soft → seen_of r.timer.id (view f) ≡ 0) → (id : ℕ) → seen_of id (view f) ≡ 0
+  pub quiet_end : (soft : Level) (size : ℕ) (marked : Option ℕ) (e f : R) (rows : List Row) → IsEnd soft size marked (view e) rows
+      → KeepsStays (view e) (view f) →
+      ((k : ℕ) (r : Row) → IsRow rows k r → r.timer.level ≡ soft → seen_of r.timer.id (view f) ≡ 0) → (id : ℕ)
+      → seen_of id (view f) ≡ 0
   quiet_end soft size marked e f rows ready keep quiet id = quiet_in ((view f).stays id) (λ t h.
       (let (s, was) = keep.from id t h in let (k, r, is, named, at) = ready.only id s was in
       ap (λ i. seen_of i (view f)) (sym named) ∙ quiet k r is at))
@@ -119,7 +142,8 @@ pub on_true : (b : Bool) (P Q : Type 0) → (P → Q) → OnTrue b P → OnTrue 
 on_true true P Q f h = f h
 on_true false P Q f h = h
 
-pub inquires_from : {R : Type 0} (step : R → FiringCall → R → Type 0) (view : R → FiringView) (u v w : CpuView R) → u ≡ v → Inquires step view u w → Inquires step view v w
+pub inquires_from : {R : Type 0} (step : R → FiringCall → R → Type 0) (view : R → FiringView) (u v w : CpuView R) → u ≡ v
+    → Inquires step view u w → Inquires step view v w
 inquires_from step view u v w is a = subst (λ x. Inquires step view x w) is a
 
 seen_zero : (o : Option Stay) → ((t : Stay) → o ≡ Some t → ⊥) → seen_in o ≡ 0
@@ -127,23 +151,31 @@ seen_zero None h = refl
 seen_zero (Some t) h = absurd (h t refl)
 
 -- a cyclic is seen at the end of its level alone
-off_end : (soft : Level) (size : ℕ) (marked : Option ℕ) (v : FiringView) (rows : List Row) (i : ℕ) (r : Row) → IsEnd soft size marked v rows → IsRising rows → IsRow rows i r → r.timer.level ≢ soft → seen_of r.timer.id v ≡ 0
+off_end : (soft : Level) (size : ℕ) (marked : Option ℕ) (v : FiringView) (rows : List Row) (i : ℕ) (r : Row)
+    → IsEnd soft size marked v rows → IsRising rows → IsRow rows i r → r.timer.level ≢ soft → seen_of r.timer.id v ≡ 0
 off_end soft size marked v rows i r ready rising is off = seen_zero (v.stays r.timer.id) (λ t h.
-    (let (k, x, is_x, named, at) = ready.only r.timer.id t h in off (ap (λ (y : Row). y.timer.level) (sym (one_row rows i k r x rising is is_x named)) ∙ at)))
+    (let (k, x, is_x, named, at) = ready.only r.timer.id t h in
+    off (ap (λ (y : Row). y.timer.level) (sym (one_row rows i k r x rising is is_x named)) ∙ at)))
 
-module _ {R : Type 0} (step : R → FiringCall → R → Type 0) (view : R → FiringView) (size : ℕ) (rows : List Row) (i n : ℕ) (r : Row) (rising : IsRising rows) (is : IsRow rows i r) where
-  seen_here : (soft : Level) (marked : Option ℕ) (e f : R) → IsEnd soft size marked (view e) rows → Goes step view e (asks_at soft r.timer.level r.timer.id n) f → r.timer.level ≡ soft → seen_of r.timer.id (view f) ≡ n
+module _ {R : Type 0} (step : R → FiringCall → R → Type 0) (view : R → FiringView) (size : ℕ) (rows : List Row) (i n : ℕ)
+    (r : Row) (rising : IsRising rows) (is : IsRow rows i r) where
+  seen_here : (soft : Level) (marked : Option ℕ) (e f : R) → IsEnd soft size marked (view e) rows
+      → Goes step view e (asks_at soft r.timer.level r.timer.id n) f → r.timer.level ≡ soft → seen_of r.timer.id (view f) ≡ n
   seen_here soft marked e f ready goes at =
       let (s, stay, rest) = ready.here i r is at in
       asked_some step view soft r.timer.level r.timer.id n e f at ((s, stay, tt), ready.free) goes
 
-  seen_off : (soft : Level) (marked : Option ℕ) (e f : R) → IsEnd soft size marked (view e) rows → Goes step view e (asks_at soft r.timer.level r.timer.id n) f → r.timer.level ≢ soft → seen_of r.timer.id (view f) ≡ 0
+  seen_off : (soft : Level) (marked : Option ℕ) (e f : R) → IsEnd soft size marked (view e) rows
+      → Goes step view e (asks_at soft r.timer.level r.timer.id n) f → r.timer.level ≢ soft → seen_of r.timer.id (view f) ≡ 0
   seen_off soft marked e f ready goes off =
-      ap (λ x. seen_of r.timer.id (view x)) (goes_not step view soft r.timer.level e f (Loads r.timer.id n ∷ []) goes off) ∙ off_end soft size marked (view e) rows i r ready rising is off
+      ap (λ x. seen_of r.timer.id (view x)) (goes_not step view soft r.timer.level e f (Loads r.timer.id n ∷ []) goes off)
+      ∙ off_end soft size marked (view e) rows i r ready rising is off
 
   -- what was found is what is seen
-  pub seen_asked : (l : Level) (lock_marked low_marked : Option ℕ) (lock low lock' low' : R) → r.timer.level ≡ l → IsEnd level.Lock size lock_marked (view lock) rows → IsEnd level.Low size low_marked (view low) rows →
-      Goes step view lock (asks_at level.Lock r.timer.level r.timer.id n) lock' → Goes step view low (asks_at level.Low r.timer.level r.timer.id n) low' → (r.timer.level ≡ level.High → n ≡ 0) →
+  pub seen_asked : (l : Level) (lock_marked low_marked : Option ℕ) (lock low lock' low' : R) → r.timer.level ≡ l
+      → IsEnd level.Lock size lock_marked (view lock) rows → IsEnd level.Low size low_marked (view low) rows →
+      Goes step view lock (asks_at level.Lock r.timer.level r.timer.id n) lock'
+      → Goes step view low (asks_at level.Low r.timer.level r.timer.id n) low' → (r.timer.level ≡ level.High → n ≡ 0) →
       seen_of r.timer.id (view lock') + seen_of r.timer.id (view low') ≡ n
   seen_asked level.High m m' lock low lock' low' at a b goes goes' high =
       let x = seen_off level.Lock m lock lock' a goes (λ q. let no : level.High ≡ level.Lock = sym at ∙ q in absurd (cc)) in
@@ -164,12 +196,14 @@ some_not_none None h e = (let wrong : false ≡ true = h in cc)
 some_not_none (Some n) h e = (let wrong : Some n ≡ None = e in cc)
 
 module _ {R : Type 0} (step : R → FiringCall → R → Type 0) (view : R → FiringView) where
-  pub settled_either : (v w : CpuView R) (b : Bool) → Inquires step view v w → OnTrue b (IsSettled view w) → OnFalse b (IsSettled view w → ⊥) → Changes step view v (AskSettled b) w
+  pub settled_either : (v w : CpuView R) (b : Bool) → Inquires step view v w → OnTrue b (IsSettled view w)
+      → OnFalse b (IsSettled view w → ⊥) → Changes step view v (AskSettled b) w
   settled_either v w true i settled unsettled = (i, settled)
   settled_either v w false i settled unsettled = (i, unsettled)
 
 -- a soft side that has not followed
-pub no_settled : {R : Type 0} (view : R → FiringView) (w : CpuView R) (b : Bool) → OnFalse b (((view w.lock).followed ≡ false) ⊎ ((view w.low).followed ≡ false)) → OnFalse b (IsSettled view w → ⊥)
+pub no_settled : {R : Type 0} (view : R → FiringView) (w : CpuView R) (b : Bool)
+    → OnFalse b (((view w.lock).followed ≡ false) ⊎ ((view w.low).followed ≡ false)) → OnFalse b (IsSettled view w → ⊥)
 no_settled view w true h = h
 no_settled view w false (inl lock) = λ settled. (let yes = settled.followed.0 in let wrong : true ≡ false = sym yes ∙ lock in cc)
 no_settled view w false (inr low) = λ settled. (let yes = settled.followed.1 in let wrong : true ≡ false = sym yes ∙ low in cc)

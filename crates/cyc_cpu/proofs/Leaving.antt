@@ -1,5 +1,6 @@
 -- A cyclic that leaves its CPU, and a removal that stays open.
-use Rattle.std.proofs.Common.{◌≡◌, ◌≢◌, ℕ, ◌+◌, ◌-◌, ◌<◌, ◌^◌, ◌⊎◌, inl, inr, Bool, true, false, cond, eqb, Option, Some, None, List, [], ◌∷◌, refl, sym, ap, ◌∙◌, subst, arith, length, get_or, eq-eqb, suc, take, drop, ◌++◌}
+use Rattle.std.proofs.Common.{◌≡◌, ◌≢◌, ℕ, ◌+◌, ◌-◌, ◌<◌, ◌^◌, ◌⊎◌, inl, inr, Bool, true, false, cond, eqb, Option, Some, None}
+use Rattle.std.proofs.Common.{List, [], ◌∷◌, refl, sym, ap, ◌∙◌, subst, arith, length, get_or, eq-eqb, suc, take, drop, ◌++◌}
 use Rattle.std.specs.Prelude.{remove}
 use Rattle.std.proofs.Math.ListN.{set}
 use Rattle.std.proofs.lemmas.Bool.{cases_lt, cases_eq}
@@ -7,7 +8,8 @@ use Rattle.std.proofs.lemmas.Bool.Decides.{nat_tests}
 use Rattle.std.proofs.lemmas.List.{get_or_default, map-append, take-map, drop-map}
 use Rattle.std.proofs.lemmas.List.Edits.{length-remove, get_or-remove_below, get_or-remove_above}
 use Rattle.cyc_types.specs.Series.{never}
-use Rattle.cyc_types.specs.Firing.{FiringView, FiringCall, Loads, Marks, Polls, Learns, Sound, Stay, MayMark, MayPoll, edited, saw, seen_in, seen_of, sent_in, sent_of}
+use Rattle.cyc_types.specs.Firing.{FiringView, FiringCall, Loads, Marks, Polls, Learns, Sound, Stay, MayMark, MayPoll, edited}
+use Rattle.cyc_types.specs.Firing.{saw, seen_in, seen_of, sent_in, sent_of}
 use Rattle.cyc_types.specs.Runs.{Goes}
 use Rattle.cyc_types.specs.declared.firing.Sent.{Sent}
 use Rattle.cyc_types.specs.declared.level.Level.{Level}
@@ -19,31 +21,49 @@ use Rattle.cyc_fire.specs.Quiet.{KeepsStays}
 use Rattle.cyc_cpu.specs.Cpu.{CpuView, HasCounts}
 use Rattle.cyc_cpu.specs.Removal.{calls_at, HasPolled, Opens, Leaves, Waits, Ends, IsReceipt}
 use Rattle.cyc_types.specs.declared.receipt.Receipt.{Receipt}
-use Rattle.cyc_fire.proofs.Readying.{Keeps, row_cases, row_new, ids_apart, end_moved, counted_moved, end_kept, loads_keep, keeps_itself}
+use Rattle.cyc_fire.proofs.Readying.{Keeps, row_cases, row_new, ids_apart, end_moved, counted_moved, end_kept, loads_keep}
+use Rattle.cyc_fire.proofs.Readying.{keeps_itself}
 
 -- a row after one was taken out
-pub row_less : (rows : List Row) (k j : ℕ) (x : Row) → k < length rows → IsRow (remove rows k) j x → (i : ℕ) × (i ≢ k) × IsRow rows i x
+pub row_less : (rows : List Row) (k j : ℕ) (x : Row) → k < length rows → IsRow (remove rows k) j x → (i : ℕ) × (i ≢ k)
+    × IsRow rows i x
 row_less rows k j x low is =
     let n = length-remove rows k low in let long = is.0 in
     elim (cases_lt j k) [
-      | inl less ↦ (j, (λ q. absurd (omega (arith, q, less))), (omega (arith, less, low), sym (get_or-remove_below rows k x j less low) ∙ is.1))
-      | inr more ↦ (j + 1, (λ q. absurd (omega (arith, q, more))), (omega (arith, long, n), sym (get_or-remove_above rows k x j more low) ∙ is.1))
+      | inl less ↦ (
+        j,
+        (λ q. absurd (omega (arith, q, less))),
+        (omega (arith, less, low), sym (get_or-remove_below rows k x j less low) ∙ is.1),
+      )
+      | inr more ↦ (
+        j + 1,
+        (λ q. absurd (omega (arith, q, more))),
+        (omega (arith, long, n), sym (get_or-remove_above rows k x j more low) ∙ is.1),
+      )
     ]
 
-pub row_stays : (rows : List Row) (k i : ℕ) (x : Row) → k < length rows → i ≢ k → IsRow rows i x → (j : ℕ) × IsRow (remove rows k) j x
+pub row_stays : (rows : List Row) (k i : ℕ) (x : Row) → k < length rows → i ≢ k → IsRow rows i x → (j : ℕ)
+    × IsRow (remove rows k) j x
 row_stays rows k i x low ne is =
     let n = length-remove rows k low in let long = is.0 in
     elim (cases_lt i k) [
       | inl less ↦ (i, (omega (arith, less, low, n), get_or-remove_below rows k x i less low ∙ is.1))
-      | inr more ↦ (let s : (i - 1) + 1 ≡ i = omega (arith, more, ne) in
-          (i - 1, (omega (arith, long, n, more, ne), get_or-remove_above rows k x (i - 1) (omega (arith, more, ne)) low ∙ ap (λ m. get_or rows m x) s ∙ is.1)))
+      | inr more ↦ (let s : (i - 1) + 1 ≡ i = omega (arith, more, ne) in (
+        i - 1,
+        (
+          omega (arith, long, n, more, ne),
+          get_or-remove_above rows k x (i - 1) (omega (arith, more, ne)) low
+              ∙ ap (λ m. get_or rows m x) s ∙ is.1,
+        ),
+      ))
     ]
 
 same_row : (rows : List Row) (i k : ℕ) (r x : Row) → IsRow rows i r → IsRow rows k x → k ≡ i → x ≡ r
 same_row rows i k r x is_r is_x eq = sym is_x.1 ∙ ap (λ m. get_or rows m x) eq ∙ get_or_default rows i x r is_r.0 ∙ is_r.1
 
 -- one id, one row
-pub one_row : (rows : List Row) (i k : ℕ) (r x : Row) → IsRising rows → IsRow rows i r → IsRow rows k x → x.timer.id ≡ r.timer.id → x ≡ r
+pub one_row : (rows : List Row) (i k : ℕ) (r x : Row) → IsRising rows → IsRow rows i r → IsRow rows k x → x.timer.id ≡ r.timer.id
+    → x ≡ r
 one_row rows i k r x rising is_r is_x same = elim (cases_eq k i) [
   | inl eq ↦ same_row rows i k r x is_r is_x eq
   | inr ne ↦ absurd (ids_apart rows i k r x rising is_r is_x ne same)
@@ -67,7 +87,8 @@ other_id j id ne = grind (arith, nat_tests)
 
 pub sees_load : (v w : FiringView) (id n : ℕ) → Learns v (Loads id n) w → Sees v w id
 sees_load v w id n l = record {
-  others = λ j ne. ap (λ (x : FiringView). x.stays j) l.1 ∙ ap (λ b. cond b (edited (λ s. record s { seen = n }) (v.stays j)) (v.stays j)) (other_id j id ne);
+  others = λ j ne. ap (λ (x : FiringView). x.stays j) l.1
+      ∙ ap (λ b. cond b (edited (λ s. record s { seen = n }) (v.stays j)) (v.stays j)) (other_id j id ne);
   bank = ap (λ (x : FiringView). x.bank) l.1;
   ceiling = ap (λ (x : FiringView). x.ceiling) l.1;
   free = ap (λ (x : FiringView). x.hand_free) l.1;
@@ -85,7 +106,8 @@ pub clears_poll : (v w : FiringView) (id : ℕ) (counts : Sent) → Learns v (Po
 clears_poll v w id counts l =
     let none : Option Stay = None in
     record {
-      gone = ap (λ (x : FiringView). x.stays id) l.1 ∙ (let yes : eqb id id ≡ true = eq-eqb id id refl in ap (λ b. cond b none (v.stays id)) yes);
+      gone = ap (λ (x : FiringView). x.stays id) l.1
+          ∙ (let yes : eqb id id ≡ true = eq-eqb id id refl in ap (λ b. cond b none (v.stays id)) yes);
       marked = ap (λ (x : FiringView). x.marked) l.1;
       rest = record {
         others = λ j ne. ap (λ (x : FiringView). x.stays j) l.1 ∙ ap (λ b. cond b none (v.stays j)) (other_id j id ne);
@@ -96,12 +118,19 @@ clears_poll v w id counts l =
     }
 
 sees_on : (u v w : FiringView) (id : ℕ) → Sees u v id → Sees v w id → Sees u w id
-sees_on u v w id a b = record { others = λ j ne. b.others j ne ∙ a.others j ne; bank = b.bank ∙ a.bank; ceiling = b.ceiling ∙ a.ceiling; free = b.free ∙ a.free }
+sees_on u v w id a b = record {
+  others = λ j ne. b.others j ne ∙ a.others j ne;
+  bank = b.bank ∙ a.bank;
+  ceiling = b.ceiling
+      ∙ a.ceiling;
+  free = b.free ∙ a.free;
+}
 
 pub clears_after : (u v w : FiringView) (id : ℕ) → Sees u v id → Clears v w id → Clears u w id
 clears_after u v w id a c = record { gone = c.gone; marked = c.marked; rest = sees_on u v w id a c.rest }
 
-module _ (soft : Level) (size : ℕ) (marked : Option ℕ) (v : FiringView) (rows : List Row) (k : ℕ) (r : Row) (ready : IsEnd soft size marked v rows) (is : IsRow rows k r) where
+module _ (soft : Level) (size : ℕ) (marked : Option ℕ) (v : FiringView) (rows : List Row) (k : ℕ) (r : Row)
+    (ready : IsEnd soft size marked v rows) (is : IsRow rows k r) where
   -- the end that has cleared it
   pub end_left : (w : FiringView) → IsRising rows → Clears v w r.timer.id → Sound w → IsEnd soft size None w (remove rows k)
   end_left w rising c sound = record {
@@ -115,7 +144,8 @@ module _ (soft : Level) (size : ℕ) (marked : Option ℕ) (v : FiringView) (row
     only = λ id s h. elim (cases_eq id r.timer.id) [
       | inl same ↦ absurd (let no : None ≡ Some s = sym c.gone ∙ ap w.stays (sym same) ∙ h in cc)
       | inr ne ↦ (let (i, x, old, named, at) = ready.only id s (sym (c.rest.others id ne) ∙ h) in
-          let (j, is_x) = row_stays rows k i x is.0 (λ q. ne (sym named ∙ ap (λ (y : Row). y.timer.id) (same_row rows k i r x is old q))) old in
+          let (j, is_x) = row_stays rows k i x is.0
+          (λ q. ne (sym named ∙ ap (λ (y : Row). y.timer.id) (same_row rows k i r x is old q))) old in
           (j, x, is_x, named, at))
     ];
     over = λ id s h some. elim (cases_eq id r.timer.id) [
@@ -128,7 +158,8 @@ module _ (soft : Level) (size : ℕ) (marked : Option ℕ) (v : FiringView) (row
 
   stays_off : r.timer.level ≢ soft → (id : ℕ) → HasRow soft id rows → HasRow soft id (remove rows k)
   stays_off off id (i, x, old, named, at) =
-      let (j, is_x) = row_stays rows k i x is.0 (λ q. off (ap (λ (y : Row). y.timer.level) (sym (same_row rows k i r x is old q)) ∙ at)) old in
+      let (j, is_x) = row_stays rows k i x is.0
+      (λ q. off (ap (λ (y : Row). y.timer.level) (sym (same_row rows k i r x is old q)) ∙ at)) old in
       (j, x, is_x, named, at)
 
   -- the end of another level
@@ -172,14 +203,16 @@ same_no level.High level.Low ne = refl
 same_no level.High level.Lock ne = refl
 same_no level.High level.High ne = absurd (ne refl)
 
-module _ {R : Type 0} (step : R → FiringCall → R → Type 0) (view : R → FiringView) (soft own : Level) (e f : R) (way : List FiringCall) (goes : Goes step view e (calls_at soft own way) f) where
+module _ {R : Type 0} (step : R → FiringCall → R → Type 0) (view : R → FiringView) (soft own : Level) (e f : R)
+    (way : List FiringCall) (goes : Goes step view e (calls_at soft own way) f) where
   -- the end of the cyclic's level went the way
   pub goes_here : own ≡ soft → Goes step view e way f
   goes_here at = subst (λ w. Goes step view e w f) (ap (λ b. cond b way []) (same_yes soft own at)) goes
 
   -- another end did nothing
   pub goes_not : own ≢ soft → f ≡ e
-  goes_not off = let same : e ≡ f = subst (λ w. Goes step view e w f) (ap (λ b. cond b way []) (same_no soft own off)) goes in sym same
+  goes_not off = let same : e ≡ f = subst (λ w. Goes step view e w f) (ap (λ b. cond b way []) (same_no soft own off)) goes in
+      sym same
 
 -- an end after a cyclic has left: it was cleared at the end of its level, and the other is as it was, with no removal open
 pub record EndLeft {R : Type 0} (view : R → FiringView) (soft own : Level) (id : ℕ) (e f : R) : Type 0 where
@@ -188,33 +221,43 @@ pub record EndLeft {R : Type 0} (view : R → FiringView) (soft own : Level) (id
   pub same : own ≢ soft → f ≡ e
   pub unmarked : own ≢ soft → (view e).marked ≡ None
 
-module _ {R : Type 0} (step : R → FiringCall → R → Type 0) (view : R → FiringView) (soft own : Level) (id : ℕ) (counts : Sent) where
+module _ {R : Type 0} (step : R → FiringCall → R → Type 0) (view : R → FiringView) (soft own : Level) (id : ℕ)
+    (counts : Sent) where
   -- a removal that is done at once
-  pub begun_left : (e f : R) → Goes step view e (calls_at soft own (Marks id 0 ∷ Polls id (Some counts) ∷ [])) f → Sound (view f) → (own ≢ soft → (view e).marked ≡ None) → EndLeft view soft own id e f
+  pub begun_left : (e f : R) → Goes step view e (calls_at soft own (Marks id 0 ∷ Polls id (Some counts) ∷ [])) f → Sound (view f)
+      → (own ≢ soft → (view e).marked ≡ None) → EndLeft view soft own id e f
   begun_left e f goes sound unmarked = record {
     cleared = λ at. (let (m, (s1, l1), (n, (s2, l2), last)) = goes_here step view soft own e f _ goes at in
-        subst (λ x. Clears (view e) (view x) id) last (clears_after (view e) (view m) (view n) id (sees_mark (view e) (view m) id 0 l1) (clears_poll (view m) (view n) id counts l2)));
+        subst (λ x. Clears (view e) (view x) id) last
+        (clears_after (view e) (view m) (view n) id (sees_mark (view e) (view m) id 0 l1)
+        (clears_poll (view m) (view n) id counts l2)));
     sound = λ at. sound;
     same = goes_not step view soft own e f _ goes;
     unmarked = unmarked;
   }
 
   -- an open removal that ends
-  pub polled_left : (e f : R) → Goes step view e (calls_at soft own (Polls id (Some counts) ∷ [])) f → Sound (view f) → (own ≢ soft → (view e).marked ≡ None) → EndLeft view soft own id e f
+  pub polled_left : (e f : R) → Goes step view e (calls_at soft own (Polls id (Some counts) ∷ [])) f → Sound (view f)
+      → (own ≢ soft → (view e).marked ≡ None) → EndLeft view soft own id e f
   polled_left e f goes sound unmarked = record {
-    cleared = λ at. (let (n, (s2, l2), last) = goes_here step view soft own e f _ goes at in subst (λ x. Clears (view e) (view x) id) last (clears_poll (view e) (view n) id counts l2));
+    cleared = λ at. (let (n, (s2, l2), last) = goes_here step view soft own e f _ goes at in
+        subst (λ x. Clears (view e) (view x) id) last (clears_poll (view e) (view n) id counts l2));
     sound = λ at. sound;
     same = goes_not step view soft own e f _ goes;
     unmarked = unmarked;
   }
 
 -- a cyclic that is taken where nothing of it is outstanding
-pub taken_left : {R : Type 0} (step : R → FiringCall → R → Type 0) (view : R → FiringView) (soft own : Level) (id : ℕ) (counts : Sent) (e f : R) →
-    Goes step view e (calls_at soft own (Loads id 0 ∷ Marks id 0 ∷ Polls id (Some counts) ∷ [])) f → Sound (view f) → (own ≢ soft → (view e).marked ≡ None) → EndLeft view soft own id e f
+pub taken_left : {R : Type 0} (step : R → FiringCall → R → Type 0) (view : R → FiringView) (soft own : Level) (id : ℕ)
+    (counts : Sent) (e f : R) →
+    Goes step view e (calls_at soft own (Loads id 0 ∷ Marks id 0 ∷ Polls id (Some counts) ∷ [])) f → Sound (view f)
+    → (own ≢ soft → (view e).marked ≡ None) → EndLeft view soft own id e f
 taken_left step view soft own id counts e f goes sound unmarked = record {
   cleared = λ at. (let (a, (s0, l0), (m, (s1, l1), (n, (s2, l2), last))) = goes_here step view soft own e f _ goes at in
-      subst (λ x. Clears (view e) (view x) id) last (clears_after (view e) (view a) (view n) id (sees_load (view e) (view a) id 0 l0)
-      (clears_after (view a) (view m) (view n) id (sees_mark (view a) (view m) id 0 l1) (clears_poll (view m) (view n) id counts l2))));
+      subst (λ x. Clears (view e) (view x) id) last
+      (clears_after (view e) (view a) (view n) id (sees_load (view e) (view a) id 0 l0)
+      (clears_after (view a) (view m) (view n) id (sees_mark (view a) (view m) id 0 l1)
+      (clears_poll (view m) (view n) id counts l2))));
   sound = λ at. sound;
   same = goes_not step view soft own e f _ goes;
   unmarked = unmarked;
@@ -226,19 +269,28 @@ counted_left most rows k low counted j d long =
     let (i, ne, old) = row_less rows k j x low (long, get_or_default (remove rows k) j x d long) in
     subst (λ (y : Row). HasCounts most (cyclic_of y)) old.1 (counted i x old.0)
 
-module _ {R : Type 0} (view : R → FiringView) (size : ℕ) (rows : List Row) (k : ℕ) (r : Row) (rising : IsRising rows) (is : IsRow rows k r) where
-  end_after : (soft : Level) (e f : R) → IsEnd soft size (view e).marked (view e) rows → EndLeft view soft r.timer.level r.timer.id e f →
+module _ {R : Type 0} (view : R → FiringView) (size : ℕ) (rows : List Row) (k : ℕ) (r : Row) (rising : IsRising rows)
+    (is : IsRow rows k r) where
+  end_after : (soft : Level) (e f : R) → IsEnd soft size (view e).marked (view e) rows
+      → EndLeft view soft r.timer.level r.timer.id e f →
       IsEnd soft size (view f).marked (view f) (remove rows k) × ((view f).marked ≡ None)
   end_after soft e f ready h = elim (level_cases r.timer.level soft) [
-    | inl at ↦ (let c = h.cleared at in
-        (subst (λ m. IsEnd soft size m (view f) (remove rows k)) (sym c.marked) (end_left soft size (view e).marked (view e) rows k r ready is (view f) rising c (h.sound at)), c.marked))
-    | inr off ↦ (let eq = h.same off in
-        (subst (λ x. IsEnd soft size (view x).marked (view x) (remove rows k)) (sym eq) (end_off soft size (view e).marked (view e) rows k r ready is off), ap (λ x. (view x).marked) eq ∙ h.unmarked off))
+    | inl at ↦ (let c = h.cleared at in (
+      subst (λ m. IsEnd soft size m (view f) (remove rows k)) (sym c.marked)
+          (end_left soft size (view e).marked (view e) rows k r ready is (view f) rising c (h.sound at)),
+      c.marked,
+    ))
+    | inr off ↦ (let eq = h.same off in (
+      subst (λ x. IsEnd soft size (view x).marked (view x) (remove rows k)) (sym eq)
+          (end_off soft size (view e).marked (view e) rows k r ready is off),
+      ap (λ x. (view x).marked) eq ∙ h.unmarked off,
+    ))
   ]
 
   -- the CPU without a cyclic
   pub hard_left : (most : ℕ) (removal : Option ℕ) (lock low lock' low' : R) → IsHard view size most removal lock low rows →
-      EndLeft view level.Lock r.timer.level r.timer.id lock lock' → EndLeft view level.Low r.timer.level r.timer.id low low' → IsHard view size most None lock' low' (remove rows k)
+      EndLeft view level.Lock r.timer.level r.timer.id lock lock' → EndLeft view level.Low r.timer.level r.timer.id low low'
+      → IsHard view size most None lock' low' (remove rows k)
   hard_left most removal lock low lock' low' h a b =
       let (lock_end, no_lock) = end_after level.Lock lock lock' h.ready.lock_end a in
       let (low_end, no_low) = end_after level.Low low low' h.ready.low_end b in
@@ -255,12 +307,16 @@ no_mark None removal h none = refl
 no_mark (Some id) removal h none = absurd (let yes : removal ≡ Some id = h id refl in cc)
 
 -- an open removal is marked at the end of its cyclic's level, and at no other
-module _ {R : Type 0} (view : R → FiringView) (size most : ℕ) (removal : Option ℕ) (lock low : R) (rows : List Row) (k : ℕ) (r : Row)
-    (h : IsHard view size most removal lock low rows) (rising : IsRising rows) (is : IsRow rows k r) (removed : removal ≡ Some r.timer.id) where
+module _ {R : Type 0} (view : R → FiringView) (size most : ℕ) (removal : Option ℕ) (lock low : R) (rows : List Row) (k : ℕ)
+    (r : Row)
+    (h : IsHard view size most removal lock low rows) (rising : IsRising rows) (is : IsRow rows k r)
+    (removed : removal ≡ Some r.timer.id) where
   at_its_level : (level : Level) → HasRow level r.timer.id rows → r.timer.level ≡ level
-  at_its_level level (j, x, is_x, named, at) = ap (λ (y : Row). y.timer.level) (sym (one_row rows k j r x rising is is_x named)) ∙ at
+  at_its_level level (j, x, is_x, named, at) = ap (λ (y : Row). y.timer.level) (sym (one_row rows k j r x rising is is_x named))
+      ∙ at
 
-  marked_cases : ((r.timer.level ≡ level.Lock) × ((view lock).marked ≡ Some r.timer.id)) ⊎ ((r.timer.level ≡ level.Low) × ((view low).marked ≡ Some r.timer.id))
+  marked_cases : ((r.timer.level ≡ level.Lock) × ((view lock).marked ≡ Some r.timer.id))
+      ⊎ ((r.timer.level ≡ level.Low) × ((view low).marked ≡ Some r.timer.id))
   marked_cases = elim (h.is_open r.timer.id removed) [
     | inl m ↦ inl (at_its_level level.Lock (h.ready.lock_end.marked_here r.timer.id m), m)
     | inr m ↦ inr (at_its_level level.Low (h.ready.low_end.marked_here r.timer.id m), m)
@@ -284,7 +340,8 @@ module _ {R : Type 0} (view : R → FiringView) (size most : ℕ) (removal : Opt
     | inr (low_is, m) ↦ absurd (let no : level.Low ≡ level.High = sym low_is ∙ at in cc)
   ]
 
-  none_at : (o : Option ℕ) (level : Level) → ((id : ℕ) → o ≡ Some id → removal ≡ Some id) → ((id : ℕ) → o ≡ Some id → HasRow level id rows) → r.timer.level ≢ level → o ≡ None
+  none_at : (o : Option ℕ) (level : Level) → ((id : ℕ) → o ≡ Some id → removal ≡ Some id)
+      → ((id : ℕ) → o ≡ Some id → HasRow level id rows) → r.timer.level ≢ level → o ≡ None
   none_at None level to row off = refl
   none_at (Some id) level to row off =
       let same : id ≡ r.timer.id = (let a : removal ≡ Some id = to id refl in cc) in
@@ -297,11 +354,21 @@ module _ {R : Type 0} (view : R → FiringView) (size most : ℕ) (removal : Opt
   unmarked_low off = none_at (view low).marked level.Low h.low_marked h.ready.low_end.marked_here off
 
 unmarked_sound : (u : FiringView) (m : Option ℕ) → Sound (record u { marked = m }) → Sound u
-unmarked_sound u m s = record { some_ceiling = s.some_ceiling; capped = s.capped; owed = s.owed; apart = s.apart; inside = s.inside; greatest = s.greatest }
+unmarked_sound u m s = record {
+  some_ceiling = s.some_ceiling;
+  capped = s.capped;
+  owed = s.owed;
+  apart = s.apart;
+  inside =
+      s.inside;
+  greatest = s.greatest;
+}
 
 -- the end at which a removal is open from now on
-end_remarked : (soft : Level) (size : ℕ) (marked : Option ℕ) (u : FiringView) (rows : List Row) (id : ℕ) → IsEnd soft size marked u rows → Sound (record u { marked = Some id }) → HasRow soft id rows →
-    ((j : ℕ) (x : Row) → IsRow rows j x → x.timer.id ≡ id → x.timer.moment ≡ never) → IsEnd soft size (Some id) (record u { marked = Some id }) rows
+end_remarked : (soft : Level) (size : ℕ) (marked : Option ℕ) (u : FiringView) (rows : List Row) (id : ℕ)
+    → IsEnd soft size marked u rows → Sound (record u { marked = Some id }) → HasRow soft id rows →
+    ((j : ℕ) (x : Row) → IsRow rows j x → x.timer.id ≡ id → x.timer.moment ≡ never)
+    → IsEnd soft size (Some id) (record u { marked = Some id }) rows
 end_remarked soft size marked u rows id ready sound row still = record {
   sound = sound;
   free = ready.free;
@@ -314,15 +381,18 @@ end_remarked soft size marked u rows id ready sound row still = record {
   removed = λ j x is h. still j x is (let same : id ≡ x.timer.id = cc in sym same);
 }
 
-end_marks : (soft : Level) (size : ℕ) (marked : Option ℕ) (v w : FiringView) (rows : List Row) (id n : ℕ) → IsEnd soft size marked v rows → Learns v (Marks id n) w → Sound w → HasRow soft id rows →
+end_marks : (soft : Level) (size : ℕ) (marked : Option ℕ) (v w : FiringView) (rows : List Row) (id n : ℕ)
+    → IsEnd soft size marked v rows → Learns v (Marks id n) w → Sound w → HasRow soft id rows →
     ((j : ℕ) (x : Row) → IsRow rows j x → x.timer.id ≡ id → x.timer.moment ≡ never) → IsEnd soft size (Some id) w rows
 end_marks soft size marked v w rows id n ready l sound row still =
     let u = saw id n v in
     let s : Sound (record u { marked = Some id }) = subst Sound l.1 sound in
     subst (λ x. IsEnd soft size (Some id) x rows) (sym l.1)
-    (end_remarked soft size marked u rows id (end_kept soft size marked v u rows ready (loads_keep v u id n (l.0, refl)) (unmarked_sound u (Some id) s)) s row still)
+    (end_remarked soft size marked u rows id
+    (end_kept soft size marked v u rows ready (loads_keep v u id n (l.0, refl)) (unmarked_sound u (Some id) s)) s row still)
 
-module _ {R : Type 0} (step : R → FiringCall → R → Type 0) (view : R → FiringView) (size : ℕ) (rows : List Row) (k n : ℕ) (r : Row) (rising : IsRising rows) (is : IsRow rows k r) where
+module _ {R : Type 0} (step : R → FiringCall → R → Type 0) (view : R → FiringView) (size : ℕ) (rows : List Row) (k n : ℕ)
+    (r : Row) (rising : IsRising rows) (is : IsRow rows k r) where
   abbrev u : Row
   u = at_moment never r
 
@@ -335,31 +405,47 @@ module _ {R : Type 0} (step : R → FiringCall → R → Type 0) (view : R → F
     | inr (ne, old) ↦ absurd (ids_apart rows k j r x rising is old ne same)
   ]
 
-  end_opened : (soft : Level) (e f : R) → IsEnd soft size (view e).marked (view e) rows → (view e).marked ≡ None → Goes step view e (calls_at soft r.timer.level (Marks r.timer.id n ∷ [])) f → Sound (view f) →
-      IsEnd soft size (view f).marked (view f) (set rows k u) × (r.timer.level ≡ soft → (view f).marked ≡ Some r.timer.id) × (r.timer.level ≢ soft → (view f).marked ≡ None)
+  end_opened : (soft : Level) (e f : R) → IsEnd soft size (view e).marked (view e) rows → (view e).marked ≡ None
+      → Goes step view e (calls_at soft r.timer.level (Marks r.timer.id n ∷ [])) f → Sound (view f) →
+      IsEnd soft size (view f).marked (view f) (set rows k u) × (r.timer.level ≡ soft → (view f).marked ≡ Some r.timer.id)
+      × (r.timer.level ≢ soft → (view f).marked ≡ None)
   end_opened soft e f ready none goes sound =
-      let moved = end_moved soft size (view e).marked (view e) rows k r u ready is keeps (λ q. let no : None ≡ Some r.timer.id = sym none ∙ q in absurd (cc)) in
+      let moved = end_moved soft size (view e).marked (view e) rows k r u ready is keeps
+      (λ q. let no : None ≡ Some r.timer.id = sym none ∙ q in absurd (cc)) in
       elim (level_cases r.timer.level soft) [
         | inl at ↦
             (let (m, (s, l), last) = goes_here step view soft r.timer.level e f _ goes at in
             let l' = subst (λ x. Learns (view e) (Marks r.timer.id n) (view x)) last l in
-            let opened = end_marks soft size (view e).marked (view e) (view f) (set rows k u) r.timer.id n moved l' sound (k, u, row_new rows k u is.0, refl, at) never_now in
+            let opened = end_marks soft size (view e).marked (view e) (view f) (set rows k u) r.timer.id n moved l' sound
+            (k, u, row_new rows k u is.0, refl, at) never_now in
             let marked : (view f).marked ≡ Some r.timer.id = ap (λ (x : FiringView). x.marked) l'.1 in
             (subst (λ m. IsEnd soft size m (view f) (set rows k u)) (sym marked) opened, (λ q. marked), (λ off. absurd (off at))))
         | inr off ↦
-            (let eq = goes_not step view soft r.timer.level e f _ goes off in
-            (subst (λ x. IsEnd soft size (view x).marked (view x) (set rows k u)) (sym eq) moved, (λ q. absurd (off q)), (λ q. ap (λ x. (view x).marked) eq ∙ none)))
+            (let eq = goes_not step view soft r.timer.level e f _ goes off in (
+              subst (λ x. IsEnd soft size (view x).marked (view x) (set rows k u)) (sym eq) moved,
+              (λ q. absurd (off q)),
+              (λ q. ap (λ x. (view x).marked) eq ∙ none),
+            ))
       ]
 
   -- the CPU with a removal that stays open
-  pub hard_opened : (most : ℕ) (removal : Option ℕ) (lock low lock' low' : R) → IsHard view size most removal lock low rows → removal ≡ None → r.timer.level ≢ level.High →
-      Goes step view lock (calls_at level.Lock r.timer.level (Marks r.timer.id n ∷ [])) lock' → Goes step view low (calls_at level.Low r.timer.level (Marks r.timer.id n ∷ [])) low' →
+  pub hard_opened : (most : ℕ) (removal : Option ℕ) (lock low lock' low' : R) → IsHard view size most removal lock low rows
+      → removal ≡ None → r.timer.level ≢ level.High →
+      Goes step view lock (calls_at level.Lock r.timer.level (Marks r.timer.id n ∷ [])) lock'
+      → Goes step view low (calls_at level.Low r.timer.level (Marks r.timer.id n ∷ [])) low' →
       Sound (view lock') → Sound (view low') → IsHard view size most (Some r.timer.id) lock' low' (set rows k u)
   hard_opened most removal lock low lock' low' h none soft a b sound_lock sound_low =
-      let (lock_end, lock_yes, lock_no) = end_opened level.Lock lock lock' h.ready.lock_end (no_mark (view lock).marked removal h.lock_marked none) a sound_lock in
-      let (low_end, low_yes, low_no) = end_opened level.Low low low' h.ready.low_end (no_mark (view low).marked removal h.low_marked none) b sound_low in
+      let (lock_end, lock_yes, lock_no) = end_opened level.Lock lock lock' h.ready.lock_end
+      (no_mark (view lock).marked removal h.lock_marked none) a sound_lock in
+      let (low_end, low_yes, low_no) = end_opened level.Low low low' h.ready.low_end
+      (no_mark (view low).marked removal h.low_marked none) b sound_low in
       record {
-        ready = record { lock_end = lock_end; low_end = low_end; counted = counted_moved most rows k r u h.ready.counted is keeps };
+        ready = record {
+          lock_end = lock_end;
+          low_end = low_end;
+          counted =
+              counted_moved most rows k r u h.ready.counted is keeps;
+        };
         lock_marked = λ id q. elim (level_cases r.timer.level level.Lock) [
           | inl at ↦ sym (lock_yes at) ∙ q
           | inr off ↦ absurd (let no : None ≡ Some id = sym (lock_no off) ∙ q in cc)
@@ -382,39 +468,49 @@ module _ {R : Type 0} (step : R → FiringCall → R → Type 0) (view : R → F
       three level.Lock a b c = a refl
       three level.High a b c = c refl
 
-polled_keeps : {R : Type 0} (step : R → FiringCall → R → Type 0) (view : R → FiringView) (b : Bool) (id : ℕ) (e f : R) → Goes step view e (cond b (Polls id None ∷ []) []) f → KeepsStays (view e) (view f)
-polled_keeps step view true id e f (m, (stepped, (pend, some, few, saw)), last) = subst (λ x. KeepsStays (view e) (view x)) last (loads_keep (view e) (view m) id pend (few, saw))
+polled_keeps : {R : Type 0} (step : R → FiringCall → R → Type 0) (view : R → FiringView) (b : Bool) (id : ℕ) (e f : R)
+    → Goes step view e (cond b (Polls id None ∷ []) []) f → KeepsStays (view e) (view f)
+polled_keeps step view true id e f (m, (stepped, (pend, some, few, saw)), last) =
+    subst (λ x. KeepsStays (view e) (view x)) last (loads_keep (view e) (view m) id pend (few, saw))
 polled_keeps step view false id e f g = subst (λ x. KeepsStays (view e) (view x)) g (keeps_itself (view e))
 
 -- an end that may have been polled
-pub polls_keep : {R : Type 0} (step : R → FiringCall → R → Type 0) (view : R → FiringView) (l own : Level) (id : ℕ) (e f : R) → Goes step view e (calls_at l own (Polls id None ∷ [])) f → KeepsStays (view e) (view f)
+pub polls_keep : {R : Type 0} (step : R → FiringCall → R → Type 0) (view : R → FiringView) (l own : Level) (id : ℕ) (e f : R)
+    → Goes step view e (calls_at l own (Polls id None ∷ [])) f → KeepsStays (view e) (view f)
 polls_keep step view l own id e f g = polled_keeps step view (same_level l own) id e f g
 
-marked_stay : (b : Bool) (n : ℕ) (o : Option Stay) (s : Stay) → o ≡ Some s → (t : Stay) × (cond b (edited (λ s. record s { seen = n }) o) o ≡ Some t) × Unit {0}
+marked_stay : (b : Bool) (n : ℕ) (o : Option Stay) (s : Stay) → o ≡ Some s → (t : Stay)
+    × (cond b (edited (λ s. record s { seen = n }) o) o ≡ Some t) × Unit {0}
 marked_stay true n o s h = (record s { seen = n }, ap (edited (λ s. record s { seen = n })) h, tt)
 marked_stay false n o s h = (s, h, tt)
 
 -- a cyclic that was just marked may be polled
 pub may_poll : (v w : FiringView) (id n : ℕ) → MayMark id v → Learns v (Marks id n) w → MayPoll id w
 may_poll v w id n ((s, stay, _), none, free) l =
-    let (t, there, unit) = marked_stay (eqb id id) n (v.stays id) s stay in
-    ((t, ap (λ (x : FiringView). x.stays id) l.1 ∙ there, tt), ap (λ (x : FiringView). x.marked) l.1, ap (λ (x : FiringView). x.hand_free) l.1 ∙ free)
+    let (t, there, unit) = marked_stay (eqb id id) n (v.stays id) s stay in (
+      (t, ap (λ (x : FiringView). x.stays id) l.1 ∙ there, tt),
+      ap (λ (x : FiringView). x.marked) l.1,
+      ap (λ (x : FiringView). x.hand_free) l.1 ∙ free,
+    )
 
 pub cyclics_less : (rows : List Row) (k : ℕ) → cyclics_of (remove rows k) ≡ remove (cyclics_of rows) k
-cyclics_less rows k = map-append cyclic_of (take k rows) (drop (suc k) rows) ∙ (λ j. sym (take-map cyclic_of k rows) j ++ sym (drop-map cyclic_of (suc k) rows) j)
+cyclics_less rows k = map-append cyclic_of (take k rows) (drop (suc k) rows)
+    ∙ (λ j. sym (take-map cyclic_of k rows) j ++ sym (drop-map cyclic_of (suc k) rows) j)
 
 -- the view of a CPU in place of its fields
 module _ {R : Type 0} (step : R → FiringCall → R → Type 0) (view : R → FiringView) where
   pub opens_from : (id n : ℕ) (u v w : CpuView R) → u ≡ v → Opens step view id n u w → Opens step view id n v w
   opens_from id n u v w is a = subst (λ x. Opens step view id n x w) is a
 
-  pub leaves_from : (id : ℕ) (way : List FiringCall) (c : Cyclic) (u v w : CpuView R) → u ≡ v → Leaves step view id way c u w → Leaves step view id way c v w
+  pub leaves_from : (id : ℕ) (way : List FiringCall) (c : Cyclic) (u v w : CpuView R) → u ≡ v → Leaves step view id way c u w
+      → Leaves step view id way c v w
   leaves_from id way c u v w is a = subst (λ x. Leaves step view id way c x w) is a
 
   pub waits_from : (id : ℕ) (u v w : CpuView R) → u ≡ v → Waits step view id u w → Waits step view id v w
   waits_from id u v w is a = subst (λ x. Waits step view id x w) is a
 
-  pub ends_from : (receipt : Receipt) (id : ℕ) (c : Cyclic) (counts : Sent) (u v w : CpuView R) → u ≡ v → u.removal ≡ Some id → receipt.id ≡ id → IsReceipt receipt c → HasPolled view counts v c →
+  pub ends_from : (receipt : Receipt) (id : ℕ) (c : Cyclic) (counts : Sent) (u v w : CpuView R) → u ≡ v → u.removal ≡ Some id
+      → receipt.id ≡ id → IsReceipt receipt c → HasPolled view counts v c →
       Leaves step view id (Polls id (Some counts) ∷ []) c u w → Ends step view receipt v w
   ends_from receipt id c counts u v w is removed named counted polled leaves = record {
     was_open = sym (ap (λ (x : CpuView R). x.removal) is) ∙ removed ∙ ap Some (sym named);
@@ -422,14 +518,19 @@ module _ {R : Type 0} (step : R → FiringCall → R → Type 0) (view : R → F
     counts = counts;
     counted = counted;
     polled = polled;
-    leaves = leaves_from receipt.id (Polls receipt.id (Some counts) ∷ []) c u v w is (subst (λ q. Leaves step view q (Polls q (Some counts) ∷ []) c u w) (sym named) leaves);
+    leaves = leaves_from receipt.id (Polls receipt.id (Some counts) ∷ []) c u v w is
+        (subst (λ q. Leaves step view q (Polls q (Some counts) ∷ []) c u w) (sym named) leaves);
   }
 
 -- a cyclic that was just asked for may be marked, and what was found is what is seen of it
 pub may_mark : (v w : FiringView) (id n : ℕ) → MayMark id v → Learns v (Loads id n) w → MayMark id w
 may_mark v w id n ((s, stay, _), none, free) l =
-    let (t, there, unit) = marked_stay (eqb id id) n (v.stays id) s stay in
-    ((t, ap (λ (x : FiringView). x.stays id) l.1 ∙ there, tt), ap (λ (x : FiringView). x.marked) l.1 ∙ none, ap (λ (x : FiringView). x.hand_free) l.1 ∙ free)
+    let (t, there, unit) = marked_stay (eqb id id) n (v.stays id) s stay in (
+      (t, ap (λ (x : FiringView). x.stays id) l.1 ∙ there, tt),
+      ap (λ (x : FiringView). x.marked) l.1
+          ∙ none,
+      ap (λ (x : FiringView). x.hand_free) l.1 ∙ free,
+    )
 
 seen_stay : (n : ℕ) (o : Option Stay) (s : Stay) → o ≡ Some s → seen_in (edited (λ s. record s { seen = n }) o) ≡ n
 seen_stay n (Some t) s h = refl
@@ -438,7 +539,8 @@ seen_stay n None s h = absurd (let wrong : None ≡ Some s = h in cc)
 pub seen_now : (v w : FiringView) (id n : ℕ) → MayMark id v → Learns v (Loads id n) w → seen_of id w ≡ n
 seen_now v w id n ((s, stay, _), none, free) l =
     ap (λ (x : FiringView). seen_of id x) l.1
-    ∙ (let yes : eqb id id ≡ true = eq-eqb id id refl in ap (λ b. seen_in (cond b (edited (λ s. record s { seen = n }) (v.stays id)) (v.stays id))) yes)
+    ∙ (let yes : eqb id id ≡ true = eq-eqb id id refl in
+    ap (λ b. seen_in (cond b (edited (λ s. record s { seen = n }) (v.stays id)) (v.stays id))) yes)
     ∙ seen_stay n (v.stays id) s stay
 
 -- the counts that the end of a stay answered
@@ -461,29 +563,39 @@ module _ {R : Type 0} (step : R → FiringCall → R → Type 0) (view : R → F
   begun_sent (m, (s, l), (n, (s', l'), last)) = sym (sent_marked (view e) (view m) id 0 l) ∙ l'.0
 
   pub taken_sent : Goes step view e (Loads id 0 ∷ Marks id 0 ∷ Polls id (Some counts) ∷ []) f → sent_of id (view e) ≡ Some counts
-  taken_sent (k, (s, l), (m, (s', l'), (n, (s'', l''), last))) = sym (sent_loaded (view e) (view k) id 0 l) ∙ sym (sent_marked (view k) (view m) id 0 l') ∙ l''.0
+  taken_sent (k, (s, l), (m, (s', l'), (n, (s'', l''), last))) = sym (sent_loaded (view e) (view k) id 0 l)
+      ∙ sym (sent_marked (view k) (view m) id 0 l') ∙ l''.0
 
-stay_counts : (o : Option Stay) (s : Stay) (counts : Sent) → o ≡ Some s → sent_in o ≡ Some counts → (counts.sent ≡ s.sent) × (counts.lost ≡ s.lost)
+stay_counts : (o : Option Stay) (s : Stay) (counts : Sent) → o ≡ Some s → sent_in o ≡ Some counts → (counts.sent ≡ s.sent)
+    × (counts.lost ≡ s.lost)
 stay_counts o s counts h k =
     let is : Some (record { sent = s.sent; lost = s.lost }) ≡ Some counts = sym (ap sent_in h) ∙ k in
     let same : record { sent = s.sent; lost = s.lost } ≡ counts = cc in
     (ap (λ (x : Sent). x.sent) (sym same), ap (λ (x : Sent). x.lost) (sym same))
 
 -- what a cyclic that leaves has: what it carried in, and what the end of its stay answered
-pub has_polled : {R : Type 0} (step : R → FiringCall → R → Type 0) (view : R → FiringView) (size : ℕ) (lock_marked low_marked : Option ℕ) (lock low lock' low' : R) (rows : List Row) (k : ℕ) (r : Row) (counts : Sent) (way : List FiringCall)
+pub has_polled : {R : Type 0} (step : R → FiringCall → R → Type 0) (view : R → FiringView) (size : ℕ)
+    (lock_marked low_marked : Option ℕ) (lock low lock' low' : R) (rows : List Row) (k : ℕ) (r : Row) (counts : Sent)
+    (way : List FiringCall)
     → IsEnd level.Lock size lock_marked (view lock) rows → IsEnd level.Low size low_marked (view low) rows → IsRow rows k r
-    → Goes step view lock (calls_at level.Lock r.timer.level way) lock' → Goes step view low (calls_at level.Low r.timer.level way) low'
-    → ((e f : R) → Goes step view e way f → sent_of r.timer.id (view e) ≡ Some counts) → r.timer.level ≢ level.High → (r.timer.expired ≡ r.carried.sent + counts.sent) × (r.lost ≡ r.carried.lost + counts.lost)
-has_polled {R} step view size lock_marked low_marked lock low lock' low' rows k r counts way lock_end low_end is a b tells soft = by_level r.timer.level refl
+    → Goes step view lock (calls_at level.Lock r.timer.level way) lock'
+    → Goes step view low (calls_at level.Low r.timer.level way) low'
+    → ((e f : R) → Goes step view e way f → sent_of r.timer.id (view e) ≡ Some counts) → r.timer.level ≢ level.High
+    → (r.timer.expired ≡ r.carried.sent + counts.sent) × (r.lost ≡ r.carried.lost + counts.lost)
+has_polled {R} step view size lock_marked low_marked lock low lock' low' rows k r counts way lock_end low_end is a b tells soft =
+    by_level r.timer.level refl
   where
-    at_end : (own : Level) (marked : Option ℕ) (e f : R) → r.timer.level ≡ own → IsEnd own size marked (view e) rows → Goes step view e (calls_at own r.timer.level way) f
+    at_end : (own : Level) (marked : Option ℕ) (e f : R) → r.timer.level ≡ own → IsEnd own size marked (view e) rows
+        → Goes step view e (calls_at own r.timer.level way) f
         → (r.timer.expired ≡ r.carried.sent + counts.sent) × (r.lost ≡ r.carried.lost + counts.lost)
     at_end own marked e f at ready goes =
         let (s, stay, (index, sent, lost)) = ready.here k r is at in
-        let (x, y) = stay_counts ((view e).stays r.timer.id) s counts stay (tells e f (goes_here step view own r.timer.level e f way goes at)) in
+        let (x, y) = stay_counts ((view e).stays r.timer.id) s counts stay
+        (tells e f (goes_here step view own r.timer.level e f way goes at)) in
         (omega (arith, sent, x), omega (arith, lost, y))
 
-    by_level : (l : Level) → r.timer.level ≡ l → (r.timer.expired ≡ r.carried.sent + counts.sent) × (r.lost ≡ r.carried.lost + counts.lost)
+    by_level : (l : Level) → r.timer.level ≡ l → (r.timer.expired ≡ r.carried.sent + counts.sent)
+        × (r.lost ≡ r.carried.lost + counts.lost)
     by_level level.High at = absurd (soft at)
     by_level level.Lock at = at_end level.Lock lock_marked lock lock' at lock_end a
     by_level level.Low at = at_end level.Low low_marked low low' at low_end b

@@ -23,24 +23,32 @@ module _ {R : Type 0} (step : R → FiringCall → R → Type 0) (view : R → F
   polled_off (m, (s, l), last) = ap (λ x. (view x).stays id) (sym last) ∙ (clears_poll (view e) (view m) id counts l).gone
 
   begun_off : Goes step view e (Marks id 0 ∷ Polls id (Some counts) ∷ []) f → (view f).stays id ≡ None
-  begun_off (m, first, (n, (s, l), last)) = ap (λ x. (view x).stays id) (sym last) ∙ (clears_poll (view m) (view n) id counts l).gone
+  begun_off (m, first, (n, (s, l), last)) = ap (λ x. (view x).stays id) (sym last)
+      ∙ (clears_poll (view m) (view n) id counts l).gone
 
   taken_off : Goes step view e (Loads id 0 ∷ Marks id 0 ∷ Polls id (Some counts) ∷ []) f → (view f).stays id ≡ None
-  taken_off (k, first, (m, second, (n, (s, l), last))) = ap (λ x. (view x).stays id) (sym last) ∙ (clears_poll (view m) (view n) id counts l).gone
+  taken_off (k, first, (m, second, (n, (s, l), last))) = ap (λ x. (view x).stays id) (sym last)
+      ∙ (clears_poll (view m) (view n) id counts l).gone
 
-module _ {R : Type 0} (step : R → FiringCall → R → Type 0) (view : R → FiringView) (id : ℕ) (v w : CpuView R) (law : IsLawful view v) where
-  module _ (way : List FiringCall) (c : Cyclic) (l : Leaves step view id way c v w) (ends : (e f : R) → Goes step view e way f → (view f).stays id ≡ None) where
-    end_off : (own : Level) (e f : R) → AreAdmitted own (view e) v.cyclics → Goes step view e (calls_at own c.timer.level way) f → (view f).stays id ≡ None
+module _ {R : Type 0} (step : R → FiringCall → R → Type 0) (view : R → FiringView) (id : ℕ) (v w : CpuView R)
+    (law : IsLawful view v) where
+  module _ (way : List FiringCall) (c : Cyclic) (l : Leaves step view id way c v w) (ends : (e f : R) → Goes step view e way f
+      → (view f).stays id ≡ None) where
+    end_off : (own : Level) (e f : R) → AreAdmitted own (view e) v.cyclics → Goes step view e (calls_at own c.timer.level way) f
+        → (view f).stays id ≡ None
     end_off own e f admitted goes = elim (level_cases c.timer.level own) [
       | inl at ↦ ends e f (goes_here step view own c.timer.level e f way goes at)
-      | inr off ↦ ap (λ x. (view x).stays id) (goes_not step view own c.timer.level e f way goes off) ∙ none_there ((view e).stays id) (λ s h.
+      | inr off ↦ ap (λ x. (view x).stays id) (goes_not step view own c.timer.level e f way goes off)
+          ∙ none_there ((view e).stays id) (λ s h.
           (let (k, d, here, named, at) = admitted.only id s h in
-          off (ap (λ (y : Cyclic). y.timer.level) (sym (one_cyclic v.cyclics l.place k c d law.rising l.here here (named ∙ sym l.named))) ∙ at)))
+          off (ap (λ (y : Cyclic). y.timer.level) (sym
+          (one_cyclic v.cyclics l.place k c d law.rising l.here here (named ∙ sym l.named))) ∙ at)))
     ]
 
     left_off : IsOff view id w
     left_off = record {
-      no_cyclic = subst (λ cs. HasNoCyclic id cs) (sym l.cyclics) (subst (λ j. HasNoCyclic j (remove v.cyclics l.place)) l.named (none_left v.cyclics l.place c law.rising l.here));
+      no_cyclic = subst (λ cs. HasNoCyclic id cs) (sym l.cyclics)
+          (subst (λ j. HasNoCyclic j (remove v.cyclics l.place)) l.named (none_left v.cyclics l.place c law.rising l.here));
       lock = end_off level.Lock v.lock w.lock law.lock l.goes.0;
       low = end_off level.Low v.low w.low law.low l.goes.1;
     }
@@ -48,4 +56,6 @@ module _ {R : Type 0} (step : R → FiringCall → R → Type 0) (view : R → F
   pub has_left_off : HasLeft step view id v w → IsOff view id w
   has_left_off (inl (receipt, (c, counts, is, polled, l))) = left_off _ c l (begun_off step view id counts)
   has_left_off (inr (inr (taken, (c, counts, is, polled, l)))) = left_off _ c l (taken_off step view id counts)
-  has_left_off (inr (inl (receipt, same, e))) = left_off _ e.cyclic (subst (λ j. Leaves step view j (Polls j (Some e.counts) ∷ []) e.cyclic v w) same e.leaves) (polled_off step view id e.counts)
+  has_left_off (inr (inl (receipt, same, e))) =
+      left_off _ e.cyclic (subst (λ j. Leaves step view j (Polls j (Some e.counts) ∷ []) e.cyclic v w) same e.leaves)
+      (polled_off step view id e.counts)

@@ -1,5 +1,6 @@
 -- All that can happen to a CPU: its calls, each with its answer, and what each of them does.
-use Rattle.std.specs.Prelude.{◌≡◌, ◌≢◌, ℕ, ◌<◌, ◌≤◌, ◌⊎◌, ◌++◌, ◌∷◌, Bool, true, false, List, length, slice_set, Option, Some, None, Result, Ok, Err}
+use Rattle.std.specs.Prelude.{◌≡◌, ◌≢◌, ℕ, ◌<◌, ◌≤◌, ◌⊎◌, ◌++◌, ◌∷◌, Bool, true, false, List, length, slice_set, Option, Some}
+use Rattle.std.specs.Prelude.{None, Result, Ok, Err}
 use Rattle.cyc_types.specs.Series.{never, first}
 use Rattle.cyc_types.specs.Firing.{FiringView, FiringCall}
 use Rattle.cyc_types.specs.declared.firing.Sent.{Sent}
@@ -22,7 +23,8 @@ use Rattle.cyc_cpu.specs.declared.hard.Totals.{Totals}
 use Rattle.cyc_cpu.specs.declared.moving.Taken.{Taken}
 use Rattle.cyc_cpu.specs.declared.removing.Removal.{Removal}
 use Rattle.cyc_cpu.specs.Cpu.{CpuView, Running, IsCyclic, HasNoCyclic, SameCpu, sides, seen_at, with_moment, cyclic_with}
-use Rattle.cyc_cpu.specs.Cpu.{Makes, WhyStopped, Asks, Looked, HasRoom, WhyNoRoom, MayWiden, Reserves, WhyNotReserved, Widens, Places, Enters}
+use Rattle.cyc_cpu.specs.Cpu.{Makes, WhyStopped, Asks, Looked, HasRoom, WhyNoRoom, MayWiden, Reserves, WhyNotReserved, Widens}
+use Rattle.cyc_cpu.specs.Cpu.{Places, Enters}
 use Rattle.cyc_cpu.specs.Losses.{IsSparedAt}
 use Rattle.cyc_cpu.specs.Removal.{Begins, WhyNotBegun, Ends, Waits}
 use Rattle.cyc_cpu.specs.Moving.{Takes, WhyNotTaken, IsSettled, Inquires}
@@ -74,7 +76,8 @@ Changes step view v (Place id level interval moment carried) w =
 Changes {R} step view v (Reprogram id moment (Ok done)) w =
     (k : ℕ) × (c : Cyclic) × IsCyclic v.cyclics k c × (c.timer.id ≡ id) × (v.removal ≢ Some id)
     × (w ≡ record v { cyclics = slice_set v.cyclics k (with_moment moment c) })
-Changes step view v (Reprogram id moment (Err e)) w = (e ≡ NoCyclic) × (HasNoCyclic id v.cyclics ⊎ (v.removal ≡ Some id)) × (w ≡ v)
+Changes step view v (Reprogram id moment (Err e)) w = (e ≡ NoCyclic) × (HasNoCyclic id v.cyclics ⊎ (v.removal ≡ Some id))
+    × (w ≡ v)
 Changes step view v (AskPending id (Some n)) w = Asks step view id n v w × (seen_at view id w ≡ n)
 Changes step view v (AskPending id None) w = HasNoCyclic id v.cyclics × (w ≡ v)
 Changes step view v (AskTotals id (Some t)) w = (a : Asks step view id t.pending v w) × (seen_at view id w ≡ t.pending)

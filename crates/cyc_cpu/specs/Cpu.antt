@@ -1,5 +1,6 @@
 -- What callers see of the firing side of one CPU.
-use Rattle.std.specs.Prelude.{◌≡◌, ◌≢◌, ℕ, zero, suc, ◌+◌, ◌^◌, nat_le, cond, insert, ◌<◌, ◌≤◌, max, List, length, slice_index_or, All, true, false, ◌⊎◌, Option, Some, None}
+use Rattle.std.specs.Prelude.{◌≡◌, ◌≢◌, ℕ, zero, suc, ◌+◌, ◌^◌, nat_le, cond, insert, ◌<◌, ◌≤◌, max, List, length, slice_index_or}
+use Rattle.std.specs.Prelude.{All, true, false, ◌⊎◌, Option, Some, None}
 use Rattle.cyc_types.specs.Firing.{FiringView, FiringCall, Expands, Stay, IsAdmitted, seen_of}
 use Rattle.cyc_types.specs.Series.{never}
 use Rattle.cyc_types.specs.Limits.{cyclics as most_cyclics, greatest_bank}
@@ -68,8 +69,10 @@ HasNoCyclic id cs = All (λ c. c.timer.id ≢ id) cs
 
 -- the cyclics of a soft level are exactly those admitted at its end, which counts of each what it didn't carry in
 pub record AreAdmitted (soft : Level) (v : FiringView) (cs : List Cyclic) : Type 0 where
-  pub here : (k : ℕ) (c : Cyclic) → IsCyclic cs k c → c.timer.level ≡ soft → IsAdmitted c.timer.id v (λ s. (c.timer.expired ≡ c.carried.sent + s.sent) × (c.lost ≡ c.carried.lost + s.lost))
-  pub only : (id : ℕ) (s : Stay) → v.stays id ≡ Some s → (k : ℕ) × (c : Cyclic) × IsCyclic cs k c × (c.timer.id ≡ id) × (c.timer.level ≡ soft)
+  pub here : (k : ℕ) (c : Cyclic) → IsCyclic cs k c → c.timer.level ≡ soft
+      → IsAdmitted c.timer.id v (λ s. (c.timer.expired ≡ c.carried.sent + s.sent) × (c.lost ≡ c.carried.lost + s.lost))
+  pub only : (id : ℕ) (s : Stay) → v.stays id ≡ Some s → (k : ℕ) × (c : Cyclic) × IsCyclic cs k c × (c.timer.id ≡ id)
+      × (c.timer.level ≡ soft)
   -- a stay lost an expiration only after as many as the ceiling
   pub over : (id : ℕ) (s : Stay) → v.stays id ≡ Some s → 0 < s.lost → v.ceiling < s.sent
 
@@ -79,14 +82,16 @@ IsRemoved id cs = (k : ℕ) × (c : Cyclic) × IsCyclic cs k c × (c.timer.id �
 
 -- the ids of the cyclics rise
 abbrev pub HasRisingIds : List Cyclic → Type 0
-HasRisingIds cs = (i j : ℕ) (d : Cyclic) → i < j → j < length cs → (slice_index_or cs i d).timer.id < (slice_index_or cs j d).timer.id
+HasRisingIds cs = (i j : ℕ) (d : Cyclic) → i < j → j < length cs
+    → (slice_index_or cs i d).timer.id < (slice_index_or cs j d).timer.id
 
 -- the cyclic with another moment
 abbrev pub with_moment : ℕ → Cyclic → Cyclic
 with_moment m c = record c { timer = record c.timer { moment = m } }
 
 -- the cyclic was asked for at its end, which answered so many calls outstanding; nothing else was done
-pub record Asks {R : Type 0} (step : R → FiringCall → R → Type 0) (view : R → FiringView) (id n : ℕ) (v w : CpuView R) : Type 0 where
+pub record Asks {R : Type 0} (step : R → FiringCall → R → Type 0) (view : R → FiringView) (id n : ℕ)
+    (v w : CpuView R) : Type 0 where
   pub place : ℕ
   pub cyclic : Cyclic
   pub here : IsCyclic v.cyclics place cyclic
@@ -116,8 +121,10 @@ pub record HasRoom {R : Type 0} (view : R → FiringView) (more : ℕ) (v : CpuV
 -- why there is no room for so many more
 abbrev pub WhyNoRoom : {R : Type 0} → (R → FiringView) → ℕ → CpuView R → Refusal → Type 0
 WhyNoRoom view more v why.Full = most_cyclics < length v.cyclics + more
-WhyNoRoom view more v (why.Busy id) = (length v.cyclics + more ≤ most_cyclics) × (v.size < length v.cyclics + more) × (v.removal ≡ Some id)
-WhyNoRoom view more v why.Expanding = (length v.cyclics + more ≤ most_cyclics) × (v.size < length v.cyclics + more) × (v.removal ≡ None)
+WhyNoRoom view more v (why.Busy id) = (length v.cyclics + more ≤ most_cyclics) × (v.size < length v.cyclics + more)
+    × (v.removal ≡ Some id)
+WhyNoRoom view more v why.Expanding = (length v.cyclics + more ≤ most_cyclics) × (v.size < length v.cyclics + more)
+    × (v.removal ≡ None)
     × (((view v.lock).followed ≡ false) ⊎ ((view v.low).followed ≡ false))
 WhyNoRoom view more v e = ⊥
 
@@ -141,7 +148,8 @@ pub record MayWiden {R : Type 0} (view : R → FiringView) (more : ℕ) (v : Cpu
 
 -- the memory that so many more need was taken where it was not there, and no more; the ends were asked at most whether their
 -- soft sides have followed
-pub record Reserves {R : Type 0} (step : R → FiringCall → R → Type 0) (view : R → FiringView) (more : ℕ) (v w : CpuView R) : Type 0 where
+pub record Reserves {R : Type 0} (step : R → FiringCall → R → Type 0) (view : R → FiringView) (more : ℕ)
+    (v w : CpuView R) : Type 0 where
   pub lock : OnlyLooks step view v.lock w.lock
   pub low : OnlyLooks step view v.low w.low
   pub cyclics : w.cyclics ≡ v.cyclics
@@ -156,7 +164,8 @@ WhyNotReserved view more v w why.Memory = HasRoom view more w × (v.room < size_
 WhyNotReserved view more v w e = WhyNoRoom view more w e
 
 -- the size is what so many more need; where it grew, both ends were switched, once
-pub record Widens {R : Type 0} (step : R → FiringCall → R → Type 0) (view : R → FiringView) (more : ℕ) (v w : CpuView R) : Type 0 where
+pub record Widens {R : Type 0} (step : R → FiringCall → R → Type 0) (view : R → FiringView) (more : ℕ)
+    (v w : CpuView R) : Type 0 where
   pub size : w.size ≡ size_for v.size (length v.cyclics + more)
   -- it has an index for each of them
   pub enough : length v.cyclics + more ≤ w.size
@@ -171,14 +180,21 @@ pub record Widens {R : Type 0} (step : R → FiringCall → R → Type 0) (view 
 
 -- a cyclic with the counts that it carries in
 abbrev pub cyclic_with : ℕ → Level → ℕ → ℕ → ℕ → ℕ → Cyclic
-cyclic_with id level interval moment expired lost = record { timer = record { id = id; level = level; interval = interval; moment = moment; expired = expired }; lost = lost; carried = record { sent = expired; lost = lost } }
+cyclic_with id level interval moment expired lost =
+    record {
+      timer = record { id = id; level = level; interval = interval; moment = moment; expired = expired };
+      lost =
+          lost;
+      carried = record { sent = expired; lost = lost };
+    }
 
 -- a cyclic that has not expired yet
 abbrev pub new_cyclic : ℕ → Level → ℕ → ℕ → Cyclic
 new_cyclic id level interval moment = cyclic_with id level interval moment 0 0
 
 -- the cyclic stands at its place among the others, and is admitted at the end of its level
-pub record Places {R : Type 0} (step : R → FiringCall → R → Type 0) (view : R → FiringView) (c : Cyclic) (v w : CpuView R) : Type 0 where
+pub record Places {R : Type 0} (step : R → FiringCall → R → Type 0) (view : R → FiringView) (c : Cyclic)
+    (v w : CpuView R) : Type 0 where
   pub place : ℕ
   pub index : ℕ
   pub within : place ≤ length v.cyclics
@@ -189,5 +205,6 @@ pub record Places {R : Type 0} (step : R → FiringCall → R → Type 0) (view 
   pub kept : SameCpu v w
 
 -- a cyclic that has not expired yet was put in
-abbrev pub Enters : {R : Type 0} → (R → FiringCall → R → Type 0) → (R → FiringView) → ℕ → Level → ℕ → ℕ → CpuView R → CpuView R → Type 0
+abbrev pub Enters : {R : Type 0} → (R → FiringCall → R → Type 0) → (R → FiringView) → ℕ → Level → ℕ → ℕ → CpuView R → CpuView R
+    → Type 0
 Enters step view id level interval moment v w = Places step view (new_cyclic id level interval moment) v w

@@ -17,13 +17,16 @@ IsTaken taken c = (taken.level ≡ c.timer.level) × (taken.interval ≡ c.timer
 
 -- the cyclic has left with all its counts: its load found nothing outstanding, and then the mark and the poll
 abbrev pub Takes : {R : Type 0} → (R → FiringCall → R → Type 0) → (R → FiringView) → ℕ → Taken → CpuView R → CpuView R → Type 0
-Takes step view id taken v w = (c : Cyclic) × (counts : Sent) × IsTaken taken c × HasPolled view counts v c × Leaves step view id (Loads id 0 ∷ Marks id 0 ∷ Polls id (Some counts) ∷ []) c v w
+Takes step view id taken v w = (c : Cyclic) × (counts : Sent) × IsTaken taken c × HasPolled view counts v c
+    × Leaves step view id (Loads id 0 ∷ Marks id 0 ∷ Polls id (Some counts) ∷ []) c v w
 
 -- why a cyclic was not taken; where calls of it are outstanding it was asked for, and nothing else was done
-abbrev pub WhyNotTaken : {R : Type 0} → (R → FiringCall → R → Type 0) → (R → FiringView) → ℕ → CpuView R → Refusal → CpuView R → Type 0
+abbrev pub WhyNotTaken : {R : Type 0} → (R → FiringCall → R → Type 0) → (R → FiringView) → ℕ → CpuView R → Refusal → CpuView R
+    → Type 0
 WhyNotTaken step view id v why.NoCyclic w = HasNoCyclic id v.cyclics × (w ≡ v)
 WhyNotTaken step view id v (why.Busy removed) w = HasCyclic id v.cyclics × (v.removal ≡ Some removed) × (w ≡ v)
-WhyNotTaken step view id v why.Pending w = (v.removal ≡ None) × (0 < seen_at view id v) × (n : ℕ) × (0 < n) × Asks step view id n v w
+WhyNotTaken step view id v why.Pending w = (v.removal ≡ None) × (0 < seen_at view id v) × (n : ℕ) × (0 < n)
+    × Asks step view id n v w
 WhyNotTaken step view id v e w = ⊥
 
 -- no call is outstanding, both soft sides have followed, and no removal is open

@@ -21,11 +21,14 @@ abbrev pub calls_at : Level → Level → List FiringCall → List FiringCall
 calls_at level own way = cond (same_level level own) way []
 
 -- the end of the cyclic's level went this way, and nothing was done at the other
-abbrev pub EndGoes : {R : Type 0} → (R → FiringCall → R → Type 0) → (R → FiringView) → Level → List FiringCall → CpuView R → CpuView R → Type 0
-EndGoes step view own way v w = Goes step view v.lock (calls_at Lock own way) w.lock × Goes step view v.low (calls_at Low own way) w.low
+abbrev pub EndGoes : {R : Type 0} → (R → FiringCall → R → Type 0) → (R → FiringView) → Level → List FiringCall → CpuView R
+    → CpuView R → Type 0
+EndGoes step view own way v w = Goes step view v.lock (calls_at Lock own way) w.lock
+    × Goes step view v.low (calls_at Low own way) w.low
 
 -- this cyclic has left, and no other: the end of its level went this way, and no removal is open
-pub record Leaves {R : Type 0} (step : R → FiringCall → R → Type 0) (view : R → FiringView) (id : ℕ) (way : List FiringCall) (c : Cyclic) (v w : CpuView R) : Type 0 where
+pub record Leaves {R : Type 0} (step : R → FiringCall → R → Type 0) (view : R → FiringView) (id : ℕ) (way : List FiringCall)
+    (c : Cyclic) (v w : CpuView R) : Type 0 where
   pub place : ℕ
   pub here : IsCyclic v.cyclics place c
   pub named : c.timer.id ≡ id
@@ -37,7 +40,8 @@ pub record Leaves {R : Type 0} (step : R → FiringCall → R → Type 0) (view 
   pub most : w.most ≡ v.most
 
 -- the removal of this cyclic is open: so many calls of it are kept, and it never expires
-pub record Opens {R : Type 0} (step : R → FiringCall → R → Type 0) (view : R → FiringView) (id kept : ℕ) (v w : CpuView R) : Type 0 where
+pub record Opens {R : Type 0} (step : R → FiringCall → R → Type 0) (view : R → FiringView) (id kept : ℕ)
+    (v w : CpuView R) : Type 0 where
   pub place : ℕ
   pub cyclic : Cyclic
   pub here : IsCyclic v.cyclics place cyclic
@@ -63,11 +67,13 @@ IsReceipt receipt c = (receipt.id ≡ c.timer.id) × (receipt.sent ≡ c.timer.e
 
 -- a removal is done exactly where the mark found nothing outstanding (`cyclic_remove_here`)
 abbrev pub Begins : {R : Type 0} → (R → FiringCall → R → Type 0) → (R → FiringView) → ℕ → CpuView R → Removal → CpuView R → Type 0
-Begins step view id v (Done receipt) w = (c : Cyclic) × (counts : Sent) × IsReceipt receipt c × HasPolled view counts v c × Leaves step view id (Marks id 0 ∷ Polls id (Some counts) ∷ []) c v w
+Begins step view id v (Done receipt) w = (c : Cyclic) × (counts : Sent) × IsReceipt receipt c × HasPolled view counts v c
+    × Leaves step view id (Marks id 0 ∷ Polls id (Some counts) ∷ []) c v w
 Begins step view id v (Kept kept) w = Opens step view id kept v w
 
 -- the open removal has ended: the poll found nothing outstanding
-pub record Ends {R : Type 0} (step : R → FiringCall → R → Type 0) (view : R → FiringView) (receipt : Receipt) (v w : CpuView R) : Type 0 where
+pub record Ends {R : Type 0} (step : R → FiringCall → R → Type 0) (view : R → FiringView) (receipt : Receipt)
+    (v w : CpuView R) : Type 0 where
   pub was_open : v.removal ≡ Some receipt.id
   pub cyclic : Cyclic
   pub counts : Sent
@@ -76,7 +82,8 @@ pub record Ends {R : Type 0} (step : R → FiringCall → R → Type 0) (view : 
   pub leaves : Leaves step view receipt.id (Polls receipt.id (Some counts) ∷ []) cyclic v w
 
 -- the open removal of this cyclic goes on: the poll found calls outstanding
-pub record Waits {R : Type 0} (step : R → FiringCall → R → Type 0) (view : R → FiringView) (id : ℕ) (v w : CpuView R) : Type 0 where
+pub record Waits {R : Type 0} (step : R → FiringCall → R → Type 0) (view : R → FiringView) (id : ℕ)
+    (v w : CpuView R) : Type 0 where
   pub place : ℕ
   pub cyclic : Cyclic
   pub here : IsCyclic v.cyclics place cyclic

@@ -45,7 +45,8 @@ abbrev pub firing_at : Tables → FiringView
 firing_at a = firing_view (level_of a)
 
 -- these calls were made at one level, in order, and no other
-abbrev pub ServesAt : {C : Type 0} → (C → ℕ → C → Type 0) → (C → ℕ → ℕ) → Tables → C → List Served → List DrainCall → Tables → C → Type 0
+abbrev pub ServesAt : {C : Type 0} → (C → ℕ → C → Type 0) → (C → ℕ → ℕ) → Tables → C → List Served → List DrainCall → Tables → C
+    → Type 0
 ServesAt called count a calls ran rest b calls' = Serves drains held_at done_at called count a calls ran rest b calls'
 
 -- what a soft interrupt of one level leaves alone

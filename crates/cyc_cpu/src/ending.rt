@@ -14,7 +14,8 @@ use cyc_types::{CyclicId, Level, Raise};
 fn remove_from<R: Raise>(end: &mut R, id: CyclicId) -> u32
     requires { MayMark id (R.view end.old) }
     ensures kept { 0 < result → Goes R.step R.view end.old (Marks id result ∷ []) end.new }
-    ensures ended { result ≡ 0 → (counts : Counts) × Goes R.step R.view end.old (Marks id 0 ∷ Polls id (Some counts) ∷ []) end.new }
+    ensures ended { result ≡ 0 → (counts : Counts)
+        × Goes R.step R.view end.old (Marks id 0 ∷ Polls id (Some counts) ∷ []) end.new }
     ensures seen { result ≤ seen_of id (R.view end.old) }
     ensures sound { Sound (R.view end.new) }
 {
@@ -31,8 +32,10 @@ pub(crate) fn remove_at<R: Raise>(id: CyclicId, level: Level, lock: &mut R, low:
     requires lock { level ≡ Lock → MayMark id (R.view lock.old) }
     requires low { level ≡ Low → MayMark id (R.view low.old) }
     ensures high { level ≡ High → result ≡ 0 }
-    ensures kept { 0 < result → Goes R.step R.view lock.old (calls_at Lock level (Marks id result ∷ [])) lock.new × Goes R.step R.view low.old (calls_at Low level (Marks id result ∷ [])) low.new }
-    ensures ended { result ≡ 0 → (counts : Counts) × Goes R.step R.view lock.old (calls_at Lock level (Marks id 0 ∷ Polls id (Some counts) ∷ [])) lock.new
+    ensures kept { 0 < result → Goes R.step R.view lock.old (calls_at Lock level (Marks id result ∷ [])) lock.new
+        × Goes R.step R.view low.old (calls_at Low level (Marks id result ∷ [])) low.new }
+    ensures ended { result ≡ 0 → (counts : Counts)
+        × Goes R.step R.view lock.old (calls_at Lock level (Marks id 0 ∷ Polls id (Some counts) ∷ [])) lock.new
         × Goes R.step R.view low.old (calls_at Low level (Marks id 0 ∷ Polls id (Some counts) ∷ [])) low.new }
     ensures seen_lock { level ≡ Lock → result ≤ seen_of id (R.view lock.old) }
     ensures seen_low { level ≡ Low → result ≤ seen_of id (R.view low.old) }
@@ -63,7 +66,8 @@ fn poll_end<R: Raise>(end: &mut R, id: CyclicId) -> bool
 pub(crate) fn poll_at<R: Raise>(id: CyclicId, level: Level, lock: &mut R, low: &mut R) -> bool
     requires lock { level ≡ Lock → MayPoll id (R.view lock.old) }
     requires low { level ≡ Low → MayPoll id (R.view low.old) }
-    ensures ended { OnTrue result ((counts : Counts) × Goes R.step R.view lock.old (calls_at Lock level (Polls id (Some counts) ∷ [])) lock.new
+    ensures ended { OnTrue result ((counts : Counts)
+        × Goes R.step R.view lock.old (calls_at Lock level (Polls id (Some counts) ∷ [])) lock.new
         × Goes R.step R.view low.old (calls_at Low level (Polls id (Some counts) ∷ [])) low.new) }
     ensures waits { OnFalse result (Goes R.step R.view lock.old (calls_at Lock level (Polls id None ∷ [])) lock.new
         × Goes R.step R.view low.old (calls_at Low level (Polls id None ∷ [])) low.new) }
@@ -80,8 +84,10 @@ pub(crate) fn poll_at<R: Raise>(id: CyclicId, level: Level, lock: &mut R, low: &
 /// Ends the stay of the cyclic where its load finds no call outstanding, and says whether it did.
 fn take_from<R: Raise>(end: &mut R, id: CyclicId) -> bool
     requires { MayMark id (R.view end.old) }
-    ensures ended { OnTrue result ((counts : Counts) × Goes R.step R.view end.old (Loads id 0 ∷ Marks id 0 ∷ Polls id (Some counts) ∷ []) end.new) }
-    ensures pending { OnFalse result ((n : ℕ) × (0 < n) × (n ≤ seen_of id (R.view end.old)) × Goes R.step R.view end.old (Loads id n ∷ []) end.new) }
+    ensures ended { OnTrue result ((counts : Counts)
+        × Goes R.step R.view end.old (Loads id 0 ∷ Marks id 0 ∷ Polls id (Some counts) ∷ []) end.new) }
+    ensures pending { OnFalse result ((n : ℕ) × (0 < n) × (n ≤ seen_of id (R.view end.old))
+        × Goes R.step R.view end.old (Loads id n ∷ []) end.new) }
     ensures sound { Sound (R.view end.new) }
 {
     if end.load_pend(id) > 0 {
@@ -97,10 +103,12 @@ fn take_from<R: Raise>(end: &mut R, id: CyclicId) -> bool
 pub(crate) fn take_at<R: Raise>(id: CyclicId, level: Level, lock: &mut R, low: &mut R) -> bool
     requires lock { level ≡ Lock → MayMark id (R.view lock.old) }
     requires low { level ≡ Low → MayMark id (R.view low.old) }
-    ensures ended { OnTrue result ((counts : Counts) × Goes R.step R.view lock.old (calls_at Lock level (Loads id 0 ∷ Marks id 0 ∷ Polls id (Some counts) ∷ [])) lock.new
+    ensures ended { OnTrue result ((counts : Counts)
+        × Goes R.step R.view lock.old (calls_at Lock level (Loads id 0 ∷ Marks id 0 ∷ Polls id (Some counts) ∷ [])) lock.new
         × Goes R.step R.view low.old (calls_at Low level (Loads id 0 ∷ Marks id 0 ∷ Polls id (Some counts) ∷ [])) low.new) }
     ensures pending { OnFalse result ((n : ℕ) × (0 < n) × (n ≤ seen_of id (R.view lock.old) + seen_of id (R.view low.old))
-        × Goes R.step R.view lock.old (calls_at Lock level (Loads id n ∷ [])) lock.new × Goes R.step R.view low.old (calls_at Low level (Loads id n ∷ [])) low.new) }
+        × Goes R.step R.view lock.old (calls_at Lock level (Loads id n ∷ [])) lock.new
+        × Goes R.step R.view low.old (calls_at Low level (Loads id n ∷ [])) low.new) }
     ensures soft { OnFalse result (level ≢ High) }
     ensures sound_lock { Sound (R.view lock.old) → Sound (R.view lock.new) }
     ensures sound_low { Sound (R.view low.old) → Sound (R.view low.new) }

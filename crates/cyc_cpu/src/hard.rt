@@ -1,6 +1,7 @@
 //! The firing side of one CPU: opening it, taking memory, growing, adding and firing.
 
-ghost use Rattle.std.specs.Prelude.{◌≡◌, ◌≢◌, ℕ, ◌+◌, ◌<◌, ◌≤◌, ◌++◌, ◌∷◌, [], List, All, length, slice_set, None, Some, IfOk, IfErr, OnOk, OnErr, IfNone, IfSome, ◌⊎◌};
+ghost use Rattle.std.specs.Prelude.{◌≡◌, ◌≢◌, ℕ, ◌+◌, ◌<◌, ◌≤◌, ◌++◌, ◌∷◌, [], List, All, length, slice_set, None, Some, IfOk};
+ghost use Rattle.std.specs.Prelude.{IfErr, OnOk, OnErr, IfNone, IfSome, ◌⊎◌};
 ghost use Rattle.std.specs.Bool.{OnTrue, OnFalse};
 ghost use Rattle.cyc_types.specs.Limits.{cyclics};
 ghost use Rattle.cyc_types.specs.declared.level.Level.TheVariants.{Low, Lock};
@@ -12,7 +13,8 @@ ghost use Rattle.cyc_fire.specs.Rows.{Cyclic, timers};
 ghost use Rattle.cyc_cpu.specs.Law.{IsLawful};
 ghost use Rattle.cyc_cpu.specs.Losses.{IsSparedAt};
 ghost use Rattle.cyc_cpu.specs.Cpu.{running, seen_at, IsFresh, HasNoCyclic, Asks, MayWiden, Enters};
-ghost use Rattle.cyc_cpu.specs.Calls.{Changes, Does, no_interrupts, Fire, Add, Reprogram, AskPending, AskTotals, AskRoom, Reserve, Widen};
+ghost use Rattle.cyc_cpu.specs.Calls.{Changes, Does, no_interrupts, Fire, Add, Reprogram, AskPending, AskTotals, AskRoom};
+ghost use Rattle.cyc_cpu.specs.Calls.{Reserve, Widen};
 
 use crate::ends::{both_followed, least_bank, load_pend, places_of};
 use cyc_fire::{FireRefused, Fired, Record, Table, fire_all};
@@ -48,7 +50,16 @@ impl<R: Raise> Model for Hard<R> {
 
     ghost Value = { CpuView R };
 
-    ghost view = { λ h. record { cyclics = cyclics_of h.table.rows; removal = h.removal; size = h.table.size; room = h.table.room; most = h.most; lock = h.lock; low = h.low } };
+    ghost view = { λ h. record {
+      cyclics = cyclics_of h.table.rows;
+      removal = h.removal;
+      size = h.table.size;
+      room =
+          h.table.room;
+      most = h.most;
+      lock = h.lock;
+      low = h.low;
+    } };
 
     ghost invariant = { λ h. IsHard R.view h.table.size h.most h.removal h.lock h.low h.table.rows };
 }
@@ -59,7 +70,16 @@ impl<R: Raise + Drop> Hard<R> {
     pub fn new(alloc: Global, most: u64, lock: R, low: R) -> Result<Hard<R>, Refusal>
         requires lock { IsFresh (R.view lock) }
         requires low { IsFresh (R.view low) }
-        ensures ok { IfOk result (λ cpu. cpu ≡ record { cyclics = []; removal = None; size = 1; room = 1; most = most; lock = lock; low = low }) }
+        ensures ok { IfOk result (λ cpu. cpu ≡ record {
+          cyclics = [];
+          removal = None;
+          size = 1;
+          room = 1;
+          most = most;
+          lock =
+              lock;
+          low = low;
+        }) }
         ensures err { IfErr result (λ refusal. refusal ≡ Memory) }
     {
         let table = Table::new(alloc)?;
@@ -127,7 +147,8 @@ impl<R: Raise> Hard<R> {
     /// CountSpent, and one whose handler refuses with HandlerRefused; those before it were made. Takes no memory.
     pub fn fire<C: Calls>(&mut self, now: Moment, calls: &mut C) -> Result<Fired, FireRefused>
         // The whole list was made, or it was made up to an expiration that was refused; at the moment that is never, nothing.
-        ensures { Does C.called C.count C.may_refuse R.step R.view no_interrupts (running calls.old self.old) (Fire now result) (running calls.new self.new) }
+        ensures { Does C.called C.count C.may_refuse R.step R.view no_interrupts (running calls.old self.old) (Fire now result)
+            (running calls.new self.new) }
     {
         if now.nanoseconds() == Moment::NEVER.nanoseconds() {
             return Err(FireRefused {
@@ -188,7 +209,9 @@ impl<R: Raise> Hard<R> {
     /// What is kept of the cyclic, and its calls that are outstanding. None where the id is not here.
     fn ask(&mut self, id: CyclicId) -> Option<(Record, u32)>
         ensures none { IfNone result (HasNoCyclic id self.old.cyclics × (self.new ≡ self.old)) }
-        ensures some { IfSome result (λ a. (asks : Asks R.step R.view id a.1 self.old self.new) × (a.0.expired ≡ asks.cyclic.timer.expired) × (a.0.lost ≡ asks.cyclic.lost) × IsSparedAt R.view self.old asks.cyclic) }
+        ensures some { IfSome result (λ a. (asks : Asks R.step R.view id a.1 self.old self.new)
+            × (a.0.expired ≡ asks.cyclic.timer.expired) × (a.0.lost ≡ asks.cyclic.lost)
+            × IsSparedAt R.view self.old asks.cyclic) }
         ensures seen { IfSome result (λ a. seen_at R.view id self.new ≡ a.1) }
     {
         self.table.law();

@@ -19,8 +19,10 @@ fn all_quiet<R: Raise>(table: &Table, lock: &mut R, low: &mut R) -> bool
     requires low { (k : ℕ) (r : Row) → IsRow table.now.rows k r → r.timer.level ≡ Low → MayAsk r.timer.id (R.view low.old) }
     ensures lock { OnlyLoads R.step R.view lock.old lock.new }
     ensures low { OnlyLoads R.step R.view low.old low.new }
-    ensures quiet_lock { OnTrue result ((k : ℕ) (r : Row) → IsRow table.now.rows k r → r.timer.level ≡ Lock → seen_of r.timer.id (R.view lock.new) ≡ 0) }
-    ensures quiet_low { OnTrue result ((k : ℕ) (r : Row) → IsRow table.now.rows k r → r.timer.level ≡ Low → seen_of r.timer.id (R.view low.new) ≡ 0) }
+    ensures quiet_lock { OnTrue result ((k : ℕ) (r : Row) → IsRow table.now.rows k r → r.timer.level ≡ Lock
+        → seen_of r.timer.id (R.view lock.new) ≡ 0) }
+    ensures quiet_low { OnTrue result ((k : ℕ) (r : Row) → IsRow table.now.rows k r → r.timer.level ≡ Low
+        → seen_of r.timer.id (R.view low.new) ≡ 0) }
     ensures pending { OnFalse result ((id : ℕ) × (0 < seen_of id (R.view lock.new) + seen_of id (R.view low.new))) }
     ensures sound_lock { Sound (R.view lock.old) → Sound (R.view lock.new) }
     ensures sound_low { Sound (R.view low.old) → Sound (R.view low.new) }

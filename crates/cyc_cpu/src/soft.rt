@@ -21,7 +21,8 @@ fn serve<C: Calls>(
     level: Soft,
     budget: u32,
 ) -> Result<Ran, SoftRefused>
-    ensures did { IsSoftint drains held_at done_at (at_level C.called (level_of level)) C.count C.may_refuse budget result end.old calls.old end.new calls.new }
+    ensures did { IsSoftint drains held_at done_at (at_level C.called (level_of level)) C.count C.may_refuse budget result end.old
+        calls.old end.new calls.new }
     ensures empty { IfOk result (λ r. IsTrue r.idle → HasEmptyLists end.new) }
     ensures keeps { KeepsStays (firing_at end.old) (firing_at end.new) }
     ensures sound { Sound (firing_at end.new) }
@@ -44,7 +45,8 @@ impl Hard<LevelCore> {
         budget: u32,
     ) -> Result<Ran, SoftRefused>
         // What `cyc_soft::softint` does, each call at this level; and nothing else changed.
-        ensures did { Does C.called C.count C.may_refuse fires firing_at (Interrupts C.called C.count C.may_refuse) (running calls.old self.old) (SoftInterrupt level budget result) (running calls.new self.new) }
+        ensures did { Does C.called C.count C.may_refuse fires firing_at (Interrupts C.called C.count C.may_refuse)
+            (running calls.old self.old) (SoftInterrupt level budget result) (running calls.new self.new) }
 
         // Where it is idle, nothing waits at its level.
         ensures empty { IfOk result (λ r. IsTrue r.idle → HasEmptyLists (end_at level self.new)) }

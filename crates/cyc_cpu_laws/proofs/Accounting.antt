@@ -1,5 +1,6 @@
 -- What calls on a CPU add up to: no call, one call, some calls and then others, and a run.
-use Rattle.std.proofs.Common.{◌≡◌, ℕ, ◌+◌, ◌≤◌, cond, true, false, Bool, take, length, List, [], ◌∷◌, refl, sym, ap, subst, ◌∙◌, arith, inl, inr}
+use Rattle.std.proofs.Common.{◌≡◌, ℕ, ◌+◌, ◌≤◌, cond, true, false, Bool, take, length, List, [], ◌∷◌, refl, sym, ap, subst, ◌∙◌}
+use Rattle.std.proofs.Common.{arith, inl, inr}
 use Rattle.std.specs.Prelude.{Ok, Err}
 use Rattle.std.specs.List.{FoldsTo}
 use Rattle.std.proofs.Math.Seq.{take-append_seam}
@@ -16,7 +17,8 @@ use Rattle.cyc_fire.specs.Acts.{is_of, timer_of}
 use Rattle.cyc_fire.specs.Shares.{share}
 use Rattle.cyc_cpu.specs.Cpu.{CpuView, Running, SameCpu, Makes, sides}
 use Rattle.cyc_cpu.specs.Law.{IsLawful}
-use Rattle.cyc_cpu.specs.Calls.{CpuCall, Changes, Does, Stopped, no_interrupts, Fire, SoftInterrupt, Add, Place, Reprogram, AskPending, AskTotals, AskRoom, Reserve, Widen, BeginRemove, PollRemove, TakeNow, AskSettled}
+use Rattle.cyc_cpu.specs.Calls.{CpuCall, Changes, Does, Stopped, no_interrupts, Fire, SoftInterrupt, Add, Place, Reprogram}
+use Rattle.cyc_cpu.specs.Calls.{AskPending, AskTotals, AskRoom, Reserve, Widen, BeginRemove, PollRemove, TakeNow, AskSettled}
 use Rattle.cyc_fire.proofs.Sharing.{raises_add_up, ids_add_up}
 use Rattle.cyc_cpu_laws.specs.Runs.{Steps}
 use Rattle.cyc_cpu_laws.specs.Accounts.{Account, nothing, both, made_by, account_of, account_in, KeepsLimits, Proceeds}

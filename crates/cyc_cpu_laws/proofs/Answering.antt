@@ -1,5 +1,6 @@
 -- What counts and receipts say of the calls, where one thread has both sides of the levels.
-use Rattle.std.proofs.Common.{◌≡◌, ◌≢◌, ℕ, ◌+◌, ◌==◌, All, get_or, Bool, true, cond, List, [], ◌∷◌, Option, Some, None, refl, sym, ap, subst, ◌∙◌, arith}
+use Rattle.std.proofs.Common.{◌≡◌, ◌≢◌, ℕ, ◌+◌, ◌==◌, All, get_or, Bool, true, cond, List, [], ◌∷◌, Option, Some, None, refl, sym}
+use Rattle.std.proofs.Common.{ap, subst, ◌∙◌, arith}
 use Rattle.std.specs.Prelude.{Ok}
 use Rattle.std.specs.Option.{option_map}
 use Rattle.std.proofs.lemmas.Bool.Decides.{nat_tests}
@@ -34,7 +35,8 @@ stay_done l id s (Some a) is law e =
     let z = law.conserved id a is in omega (arith, x, y, z)
 
 -- what a cyclic of this level has of calls
-balanced_here : (soft : TheLevel) (a : Tables) (cs : List Cyclic) (k : ℕ) (c : Cyclic) (n : ℕ) → AreAdmitted soft (firing_at a) cs →
+balanced_here : (soft : TheLevel) (a : Tables) (cs : List Cyclic) (k : ℕ) (c : Cyclic) (n : ℕ) → AreAdmitted soft (firing_at a) cs
+    →
     Lawful (level_of a) → IsCyclic cs k c → c.timer.level ≡ soft → HasCalls c.carried n →
     c.timer.expired ≡ c.lost + (n + done_at a c.timer.id) + count (level_of a) c.timer.id
 balanced_here soft a cs k c n admitted law here at carried =
@@ -124,4 +126,5 @@ module _ (v w : CpuView Tables) (law : IsLawful firing_at v) (lock : Lawful (lev
 pub all_balanced : (v : CpuView Tables) → IsLawful firing_at v → Lawful (level_of v.lock) → Lawful (level_of v.low) →
     All (IsBalanced v) v.cyclics
 all_balanced v law lock low k d within =
-    balanced_at v v law lock low (get_or v.cyclics k d) k (within, get_or_default v.cyclics k (get_or v.cyclics k d) d within) (get_or v.cyclics k d).timer.level refl
+    balanced_at v v law lock low (get_or v.cyclics k d) k (within, get_or_default v.cyclics k (get_or v.cyclics k d) d within)
+    (get_or v.cyclics k d).timer.level refl

@@ -1,5 +1,6 @@
 -- What calls on a CPU add up to where no other thread uses its levels, and soft interrupts are among the calls.
-use Rattle.std.proofs.Common.{◌≡◌, ℕ, ◌+◌, List, [], ◌∷◌, ◌++◌, map, length, length-append, Option, Some, None, refl, sym, ap, subst, ◌∙◌, arith}
+use Rattle.std.proofs.Common.{◌≡◌, ℕ, ◌+◌, List, [], ◌∷◌, ◌++◌, map, length, length-append, Option, Some, None, refl, sym, ap}
+use Rattle.std.proofs.Common.{subst, ◌∙◌, arith}
 use Rattle.std.specs.Prelude.{Bool, true, false, Result, Ok, Err}
 use Rattle.std.specs.List.{FoldsTo}
 use Rattle.std.proofs.lemmas.List.{length-map}
@@ -23,7 +24,8 @@ use Rattle.cyc_timers.specs.Rows.{timers}
 use Rattle.cyc_cpu.specs.Cpu.{Running}
 use Rattle.cyc_cpu.specs.Law.{IsLawful}
 use Rattle.cyc_cpu.specs.Soft.{fires, drains, held_at, firing_at, end_at, ServesAt, SoftKept, Interrupts}
-use Rattle.cyc_cpu.specs.Calls.{CpuCall, Does, no_interrupts, Fire, SoftInterrupt, Add, Place, Reprogram, AskPending, AskTotals, AskRoom, Reserve, Widen, BeginRemove, PollRemove, TakeNow, AskSettled}
+use Rattle.cyc_cpu.specs.Calls.{CpuCall, Does, no_interrupts, Fire, SoftInterrupt, Add, Place, Reprogram, AskPending, AskTotals}
+use Rattle.cyc_cpu.specs.Calls.{AskRoom, Reserve, Widen, BeginRemove, PollRemove, TakeNow, AskSettled}
 use Rattle.cyc_cpu.proofs.Softs.{serving_keeps}
 use Rattle.cyc_cpu_laws.specs.Runs.{Steps}
 use Rattle.cyc_cpu_laws.specs.Passing.{Passes}

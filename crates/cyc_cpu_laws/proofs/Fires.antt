@@ -1,5 +1,6 @@
 -- What a fire adds to the counts of each id.
-use Rattle.std.proofs.Common.{◌≡◌, ◌≢◌, ℕ, suc, zero, ◌+◌, ◌<◌, ◌==◌, Bool, true, false, cond, List, [], ◌∷◌, map, length, get_or, Option, Some, None, refl, sym, ap, ◌∙◌, arith, sum_by}
+use Rattle.std.proofs.Common.{◌≡◌, ◌≢◌, ℕ, suc, zero, ◌+◌, ◌<◌, ◌==◌, Bool, true, false, cond, List, [], ◌∷◌, map, length, get_or}
+use Rattle.std.proofs.Common.{Option, Some, None, refl, sym, ap, ◌∙◌, arith, sum_by}
 use Rattle.std.proofs.lemmas.Bool.Decides.{nat_tests}
 use Rattle.std.proofs.lemmas.List.Sums.{sum_by-cons}
 use Rattle.cyc_types.specs.Firing.{FiringCall}
@@ -153,7 +154,8 @@ module _ (id now : ℕ) (made : List Expiration) (lock_way low_way : List Firing
   lost_pairs (c ∷ cs) [] distinct are losses = let l : 0 ≡ length (after now made c.timer ∷ map (after now made)
       (timers cs)) = ap length are in absurd (omega (arith, l))
   lost_pairs (c ∷ cs) (d ∷ cs') distinct are losses =
-      at (c.timer.id == id) refl (lost_pairs cs cs' (tail_distinct c.timer (timers cs) distinct) (ap rest_of are) (ap rest_of losses))
+      at (c.timer.id == id) refl (lost_pairs cs cs' (tail_distinct c.timer (timers cs) distinct) (ap rest_of are)
+      (ap rest_of losses))
     where
       named : d.timer.id ≡ c.timer.id
       named = ap (λ (xs : List Timer). (get_or xs 0 c.timer).id) are

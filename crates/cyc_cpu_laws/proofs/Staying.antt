@@ -1,8 +1,10 @@
 -- A CPU that has settled stays settled over any calls but a fire and a switch of banks, and no call on it is put off.
-use Rattle.std.proofs.Common.{◌≡◌, ◌≢◌, ℕ, suc, ◌<◌, ◌≤◌, All, Bool, true, false, cond, eqb, List, [], ◌∷◌, Option, Some, None, refl, sym, ap, subst, ◌∙◌, arith, inl, inr}
+use Rattle.std.proofs.Common.{◌≡◌, ◌≢◌, ℕ, suc, ◌<◌, ◌≤◌, All, Bool, true, false, cond, eqb, List, [], ◌∷◌, Option, Some, None}
+use Rattle.std.proofs.Common.{refl, sym, ap, subst, ◌∙◌, arith, inl, inr}
 use Rattle.std.specs.Prelude.{Result, Ok, Err}
 use Rattle.std.specs.List.{FoldsTo}
-use Rattle.cyc_types.specs.Firing.{FiringView, FiringCall, Admits, Loads, Raises, Marks, Polls, Expands, Looks, Learns, Stay, edited, seen_in, seen_of, saw}
+use Rattle.cyc_types.specs.Firing.{FiringView, FiringCall, Admits, Loads, Raises, Marks, Polls, Expands, Looks, Learns, Stay}
+use Rattle.cyc_types.specs.Firing.{edited, seen_in, seen_of, saw}
 use Rattle.cyc_types.specs.Runs.{Goes}
 use Rattle.cyc_types.specs.declared.level.Level.{Level}
 use Rattle.cyc_types.specs.declared.level.Level.TheVariants.{Low, Lock, High}
@@ -16,7 +18,8 @@ use Rattle.cyc_cpu.specs.declared.removing.Removal.TheVariants.{Done, Kept}
 use Rattle.cyc_cpu.specs.Cpu.{CpuView, Running, WhyNoRoom, WhyNotReserved}
 use Rattle.cyc_cpu.specs.Removal.{calls_at, Opens, WhyNotBegun}
 use Rattle.cyc_cpu.specs.Moving.{IsSettled, WhyNotTaken}
-use Rattle.cyc_cpu.specs.Calls.{CpuCall, Changes, Does, Fire, SoftInterrupt, Add, Place, Reprogram, AskPending, AskTotals, AskRoom, Reserve, Widen, BeginRemove, PollRemove, TakeNow, AskSettled}
+use Rattle.cyc_cpu.specs.Calls.{CpuCall, Changes, Does, Fire, SoftInterrupt, Add, Place, Reprogram, AskPending, AskTotals}
+use Rattle.cyc_cpu.specs.Calls.{AskRoom, Reserve, Widen, BeginRemove, PollRemove, TakeNow, AskSettled}
 use Rattle.cyc_cpu_laws.specs.Runs.{Steps}
 use Rattle.cyc_cpu_laws.specs.Settled.{IsNoFire, IsUntil, IsPutOff}
 use Rattle.cyc_cpu_laws.proofs.Stills.{IsStill, AreStill, changes_still}

@@ -1,6 +1,7 @@
 -- What every call but a fire and a soft interrupt does at the two ends: it raises nothing, and switches banks only where the
 -- size grows.
-use Rattle.std.proofs.Common.{◌≡◌, ℕ, ◌+◌, ◌<◌, ◌≤◌, ◌^◌, nat_le, Bool, true, false, cond, List, [], ◌∷◌, ◌++◌, map, length, Some, None, refl, sym, ap, ◌∙◌, arith, inl, inr}
+use Rattle.std.proofs.Common.{◌≡◌, ℕ, ◌+◌, ◌<◌, ◌≤◌, ◌^◌, nat_le, Bool, true, false, cond, List, [], ◌∷◌, ◌++◌, map, length, Some}
+use Rattle.std.proofs.Common.{None, refl, sym, ap, ◌∙◌, arith, inl, inr}
 use Rattle.std.specs.Prelude.{Ok, Err}
 use Rattle.std.proofs.lemmas.Bool.{cases_lt}
 use Rattle.std.proofs.lemmas.Bool.Decides.{nat_tests}
@@ -18,7 +19,8 @@ use Rattle.cyc_cpu.specs.Quiet.{OnlyLooks, LoadsThenLooks}
 use Rattle.cyc_cpu.specs.Removal.{calls_at, Leaves}
 use Rattle.cyc_cpu.specs.Cpu.{CpuView, Looked, Asks, Reserves, Widens, Places, size_for, bank_for}
 use Rattle.cyc_cpu.specs.Moving.{Inquires, WhyNotTaken}
-use Rattle.cyc_cpu.specs.Calls.{CpuCall, Changes, Fire, SoftInterrupt, Add, Place, Reprogram, AskPending, AskTotals, AskRoom, Reserve, Widen, BeginRemove, PollRemove, TakeNow, AskSettled}
+use Rattle.cyc_cpu.specs.Calls.{CpuCall, Changes, Fire, SoftInterrupt, Add, Place, Reprogram, AskPending, AskTotals, AskRoom}
+use Rattle.cyc_cpu.specs.Calls.{Reserve, Widen, BeginRemove, PollRemove, TakeNow, AskSettled}
 use Rattle.cyc_timers.specs.Rows.{Cyclic}
 
 -- a call that raises nothing, and switches banks only where the size grows from a to b

@@ -22,12 +22,16 @@ use cyc_types::{Calls, Raise};
 /// It does nothing when it runs: its clauses are the law.
 pub fn account_law<C: Calls, R: Raise>()
     ensures none { (s : Running C R) → Proceeds C.count R.step R.view nothing s s }
-    ensures one { (s t : Running C R) (call : CpuCall) → IsLawful R.view s.cpu → Does C.called C.count C.may_refuse R.step R.view no_interrupts s call t
+    ensures one { (s t : Running C R) (call : CpuCall) → IsLawful R.view s.cpu
+        → Does C.called C.count C.may_refuse R.step R.view no_interrupts s call t
         → Proceeds C.count R.step R.view (account_of call s.cpu.cyclics) s t }
-    ensures joined { (a b : Account) (s t u : Running C R) → Proceeds C.count R.step R.view a s t → Proceeds C.count R.step R.view b t u
+    ensures joined { (a b : Account) (s t u : Running C R) → Proceeds C.count R.step R.view a s t
+        → Proceeds C.count R.step R.view b t u
         → Proceeds C.count R.step R.view (both a b) s u }
-    ensures run { (s t : Running C R) (way : List CpuCall) → IsLawful R.view s.cpu → (run : FoldsTo (Steps C.called C.count C.may_refuse R.step R.view no_interrupts) s way t)
-        → Proceeds C.count R.step R.view (account_in (Steps C.called C.count C.may_refuse R.step R.view no_interrupts) s way t run) s t }
+    ensures run { (s t : Running C R) (way : List CpuCall) → IsLawful R.view s.cpu
+        → (run : FoldsTo (Steps C.called C.count C.may_refuse R.step R.view no_interrupts) s way t)
+        → Proceeds C.count R.step R.view (account_in (Steps C.called C.count C.may_refuse R.step R.view no_interrupts) s way t
+        run) s t }
 {}
 
 /// The same of a CPU whose levels no other thread uses, where soft interrupts are among the calls.
@@ -46,5 +50,6 @@ pub fn account_core_law<C: Calls>()
         → CoreProceeds C.count (both a b) s u }
     ensures run { (s t : Running C Tables) (way : List CpuCall) → IsLawful firing_at s.cpu
         → (run : FoldsTo (Steps C.called C.count C.may_refuse fires firing_at (Interrupts C.called C.count C.may_refuse)) s way t)
-        → CoreProceeds C.count (account_in (Steps C.called C.count C.may_refuse fires firing_at (Interrupts C.called C.count C.may_refuse)) s way t run) s t }
+        → CoreProceeds C.count (account_in (Steps C.called C.count C.may_refuse fires firing_at
+        (Interrupts C.called C.count C.may_refuse)) s way t run) s t }
 {}

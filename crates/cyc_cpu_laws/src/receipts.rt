@@ -14,7 +14,8 @@ ghost use Rattle.cyc_cpu_laws.specs.Receipts.{Releases, AnswersCalls, IsBalanced
 ///
 /// It does nothing when it runs: its clause is the law.
 pub fn receipt_law()
-    ensures { (id : ℕ) (call : CpuCall) (v w : CpuView Tables) → IsLawful firing_at v → Lawful (level_of v.lock) → Lawful (level_of v.low)
+    ensures { (id : ℕ) (call : CpuCall) (v w : CpuView Tables) → IsLawful firing_at v → Lawful (level_of v.lock)
+        → Lawful (level_of v.low)
         → Releases id call → Changes fires firing_at v call w → AnswersCalls id call v }
 {}
 
@@ -23,5 +24,6 @@ pub fn receipt_law()
 ///
 /// It does nothing when it runs: its clause is the law.
 pub fn balance_law()
-    ensures { (v : CpuView Tables) → IsLawful firing_at v → Lawful (level_of v.lock) → Lawful (level_of v.low) → All (IsBalanced v) v.cyclics }
+    ensures { (v : CpuView Tables) → IsLawful firing_at v → Lawful (level_of v.lock) → Lawful (level_of v.low)
+        → All (IsBalanced v) v.cyclics }
 {}

@@ -1,5 +1,6 @@
 -- What each call answers is what the definition says.
-use Rattle.std.proofs.Common.{◌≡◌, ℕ, ◌+◌, ◌<◌, ◌≤◌, ◌⊎◌, inl, inr, List, [], ◌∷◌, length, Bool, true, false, not, ◌==◌, Option, Some, None, refl, ap, sym, ◌∙◌, subst, arith}
+use Rattle.std.proofs.Common.{◌≡◌, ℕ, ◌+◌, ◌<◌, ◌≤◌, ◌⊎◌, inl, inr, List, [], ◌∷◌, length, Bool, true, false, not, ◌==◌, Option}
+use Rattle.std.proofs.Common.{Some, None, refl, ap, sym, ◌∙◌, subst, arith}
 use Rattle.std.specs.Prelude.{nat_lt, nat_le, ◌&&◌, Ok, Err}
 use Rattle.std.proofs.lemmas.Bool.Decides.{nat_tests}
 use Rattle.std.proofs.lemmas.List.{length-map}
@@ -23,7 +24,8 @@ use Rattle.cyc_cpu.specs.Removal.{HasCyclic, WhyNotBegun, IsReceipt, Waits}
 use Rattle.cyc_cpu.specs.Moving.{WhyNotTaken}
 use Rattle.cyc_cpu_model.specs.Tied.{IsTied}
 use Rattle.cyc_cpu.specs.Soft.{fires, firing_at as seen, Interrupts}
-use Rattle.cyc_cpu.specs.Calls.{CpuCall, Fire, SoftInterrupt, Add, Place, Reprogram, AskPending, AskTotals, AskRoom, Reserve, Widen, BeginRemove, PollRemove, TakeNow, AskSettled, Changes, Does}
+use Rattle.cyc_cpu.specs.Calls.{CpuCall, Fire, SoftInterrupt, Add, Place, Reprogram, AskPending, AskTotals, AskRoom, Reserve}
+use Rattle.cyc_cpu.specs.Calls.{Widen, BeginRemove, PollRemove, TakeNow, AskSettled, Changes, Does}
 use Rattle.cyc_model.specs.Cpu.{has_cyclic}
 use Rattle.cyc_model.specs.Questions.{outstanding_here}
 use Rattle.cyc_model.specs.Refusals.{first_refusal, or_else, only_if, when, busy, bad_now}
@@ -49,7 +51,8 @@ less_as m n is = grind (arith, nat_tests)
 
 -- the first reason that holds
 abbrev reason : Bool → Bool → Option ℕ → Bool → Option Refusal
-reason full grows removal followed = or_else (when full Full) (or_else (only_if grows (busy removal)) (or_else (only_if grows (when (not followed) Expanding)) None))
+reason full grows removal followed = or_else (when full Full)
+    (or_else (only_if grows (busy removal)) (or_else (only_if grows (when (not followed) Expanding)) None))
 
 no_reason : (full grows followed : Bool) (removal : Option ℕ) → full ≡ false → (grows ≡ true
     → (removal ≡ None) × (followed ≡ true)) → reason full grows removal followed ≡ None
@@ -91,19 +94,36 @@ record SameLevels (v w : CpuView Tables) : Type 0 where
   low : level_of w.low ≡ level_of v.low
 
 of_looked : (v w : CpuView Tables) → Looked fires seen v w → SameLevels v w
-of_looked v w l = record { cyclics = l.cyclics; size = l.kept.size; removal = l.kept.removal; lock = only_looked v.lock w.lock l.lock; low = only_looked v.low w.low l.low }
+of_looked v w l = record {
+  cyclics = l.cyclics;
+  size = l.kept.size;
+  removal = l.kept.removal;
+  lock =
+      only_looked v.lock w.lock l.lock;
+  low = only_looked v.low w.low l.low;
+}
 
 of_reserved : (more : ℕ) (v w : CpuView Tables) → Reserves fires seen more v w → SameLevels v w
-of_reserved more v w r = record { cyclics = r.cyclics; size = r.size; removal = r.removal; lock = only_looked v.lock w.lock r.lock; low = only_looked v.low w.low r.low }
+of_reserved more v w r = record {
+  cyclics = r.cyclics;
+  size = r.size;
+  removal = r.removal;
+  lock =
+      only_looked v.lock w.lock r.lock;
+  low = only_looked v.low w.low r.low;
+}
 
 abbrev why_in : ℕ → CpuView Tables → Option Refusal
-why_in more v = reason (nat_lt most_cyclics (length v.cyclics + more)) (nat_lt v.size (length v.cyclics + more)) v.removal (is_followed (level_of v.lock) (level_of v.low))
+why_in more v = reason (nat_lt most_cyclics (length v.cyclics + more)) (nat_lt v.size (length v.cyclics + more)) v.removal
+    (is_followed (level_of v.lock) (level_of v.low))
 
 why_shown : (more : ℕ) (online : Bool) (v w : CpuView Tables) → SameLevels v w
     → why_no_room more (shown_cpu online v) ≡ why_in more w
 why_shown more online v w s =
-    ap (λ m. reason (nat_lt most_cyclics (m + more)) (nat_lt v.size (m + more)) v.removal (is_followed (level_of v.lock) (level_of v.low))) (length-map v.cyclics shown)
-    ∙ sym (λ z. reason (nat_lt most_cyclics (length (s.cyclics z) + more)) (nat_lt (s.size z) (length (s.cyclics z) + more)) (s.removal z) (is_followed (s.lock z) (s.low z)))
+    ap (λ m. reason (nat_lt most_cyclics (m + more)) (nat_lt v.size (m + more)) v.removal
+    (is_followed (level_of v.lock) (level_of v.low))) (length-map v.cyclics shown)
+    ∙ sym (λ z. reason (nat_lt most_cyclics (length (s.cyclics z) + more)) (nat_lt (s.size z) (length (s.cyclics z) + more))
+    (s.removal z) (is_followed (s.lock z) (s.low z)))
 
 room_none : (more : ℕ) (w : CpuView Tables) → HasRoom seen more w → why_in more w ≡ None
 room_none more w r =
@@ -113,10 +133,13 @@ room_none more w r =
 room_some : (more : ℕ) (e : Refusal) (w : CpuView Tables) → WhyNoRoom seen more w e → why_in more w ≡ Some e
 room_some more Full w why = full_reason _ _ _ w.removal (far most_cyclics (length w.cyclics + more) why)
 room_some more (Busy id) w (fits, grows, is) =
-    busy_reason id _ _ _ w.removal (near most_cyclics (length w.cyclics + more) fits) (far w.size (length w.cyclics + more) grows) is
+    busy_reason id _ _ _ w.removal (near most_cyclics (length w.cyclics + more) fits)
+    (far w.size (length w.cyclics + more) grows) is
 room_some more Expanding w (fits, grows, still, behind) =
-    expanding_reason _ _ _ w.removal (near most_cyclics (length w.cyclics + more) fits) (far w.size (length w.cyclics + more) grows) still
-    (and_false ((level_of w.lock).hard_bank == (level_of w.lock).soft_bank) ((level_of w.low).hard_bank == (level_of w.low).soft_bank) behind)
+    expanding_reason _ _ _ w.removal (near most_cyclics (length w.cyclics + more) fits)
+    (far w.size (length w.cyclics + more) grows) still
+    (and_false ((level_of w.lock).hard_bank == (level_of w.lock).soft_bank)
+    ((level_of w.low).hard_bank == (level_of w.low).soft_bank) behind)
 room_some more e w why = absurd why
 
 not_reserved : (more : ℕ) (e : Refusal) (v w : CpuView Tables) → WhyNotReserved seen more v w e → IsRefused e (why_in more w)
@@ -180,11 +203,13 @@ begun_busy id has removal rest here is = λ z. first_refusal (when (not (here z)
 
 taken_none : (has pending : Bool) (removal : Option ℕ) → has ≡ true → removal ≡ None → pending ≡ false
     → first_refusal (when (not has) NoCyclic ∷ busy removal ∷ when pending Pending ∷ []) ≡ None
-taken_none has pending removal here still quiet = λ z. first_refusal (when (not (here z)) NoCyclic ∷ busy (still z) ∷ when (quiet z) Pending ∷ [])
+taken_none has pending removal here still quiet =
+    λ z. first_refusal (when (not (here z)) NoCyclic ∷ busy (still z) ∷ when (quiet z) Pending ∷ [])
 
 taken_pending : (has pending : Bool) (removal : Option ℕ) → has ≡ true → removal ≡ None → pending ≡ true
     → first_refusal (when (not has) NoCyclic ∷ busy removal ∷ when pending Pending ∷ []) ≡ Some Pending
-taken_pending has pending removal here still some = λ z. first_refusal (when (not (here z)) NoCyclic ∷ busy (still z) ∷ when (some z) Pending ∷ [])
+taken_pending has pending removal here still some =
+    λ z. first_refusal (when (not (here z)) NoCyclic ∷ busy (still z) ∷ when (some z) Pending ∷ [])
 
 has_at : (id : ℕ) (online : Bool) (v : CpuView Tables) → HasCyclic id v.cyclics → has_cyclic id (shown_cpu online v) ≡ true
 has_at id online v (k, x, is, named) = has_it id v.cyclics k x is named
@@ -197,17 +222,23 @@ not_begun id online e v why = absurd why
 
 not_taken : (id : ℕ) (online : Bool) (e : Refusal) (v w : CpuView Tables) → IsTied v
     → WhyNotTaken fires seen id v e w → why_not_taken id (shown_cpu online v) ≡ Some e
-not_taken id online NoCyclic v w law why = begun_none _ (busy v.removal ∷ when (nat_lt 0 (outstanding_here id (shown_cpu online v))) Pending ∷ []) (has_not id v.cyclics why.0)
-not_taken id online (Busy removed) v w law why = begun_busy removed _ v.removal (when (nat_lt 0 (outstanding_here id (shown_cpu online v))) Pending ∷ []) (has_at id online v why.0) why.1
+not_taken id online NoCyclic v w law why =
+    begun_none _ (busy v.removal ∷ when (nat_lt 0 (outstanding_here id (shown_cpu online v))) Pending ∷ [])
+    (has_not id v.cyclics why.0)
+not_taken id online (Busy removed) v w law why =
+    begun_busy removed _ v.removal (when (nat_lt 0 (outstanding_here id (shown_cpu online v))) Pending ∷ [])
+    (has_at id online v why.0) why.1
 not_taken id online Pending v w law (still, some, n, more, asks) =
     let is = asked_outstanding id n online v w law asks in
-    taken_pending _ _ v.removal (has_it id v.cyclics asks.place asks.cyclic asks.here asks.named) still (far 0 (outstanding_here id (shown_cpu online v)) (omega (arith, is, more)))
+    taken_pending _ _ v.removal (has_it id v.cyclics asks.place asks.cyclic asks.here asks.named) still
+    (far 0 (outstanding_here id (shown_cpu online v)) (omega (arith, is, more)))
 not_taken id online e v w law why = absurd why
 
 receipt_of : (id k : ℕ) (online : Bool) (receipt : Receipt) (x : Timed) (v : CpuView Tables) → IsTied v
     → IsCyclic v.cyclics k x → x.timer.id ≡ id → IsReceipt receipt x
     → IsReceiptOf id receipt (shown_cpu online v)
-receipt_of id k online receipt x v law is named r = (shown x, found_as id v.cyclics k x law.rising is named, r.0 ∙ named, r.1, r.2)
+receipt_of id k online receipt x v law is named r =
+    (shown x, found_as id v.cyclics k x law.rising is named, r.0 ∙ named, r.1, r.2)
 
 -- nothing is outstanding where its end found nothing
 none_outstanding : (id k : ℕ) (online : Bool) (x : Timed) (v : CpuView Tables) → IsTied v → IsCyclic v.cyclics k x
@@ -216,7 +247,8 @@ none_outstanding : (id k : ℕ) (online : Bool) (x : Timed) (v : CpuView Tables)
     → 0 ≡ count (level_of v.low) id)
     → outstanding_here id (shown_cpu online v) ≡ 0
 none_outstanding id k online x v law is named lock low =
-    sym (outstanding_is id 0 k x online v law is named (λ e. refl) (λ e. lock (ap (same_level Lock) e)) (λ e. low (ap (same_level Low) e)))
+    sym (outstanding_is id 0 k x online v law is named (λ e. refl) (λ e. lock (ap (same_level Lock) e))
+    (λ e. low (ap (same_level Low) e)))
 
 -- an end found some outstanding, of a cyclic of a soft level
 some_outstanding : (id k n : ℕ) (online : Bool) (x : Timed) (v : CpuView Tables) → IsTied v → IsCyclic v.cyclics k x
@@ -225,7 +257,8 @@ some_outstanding : (id k n : ℕ) (online : Bool) (x : Timed) (v : CpuView Table
     → n ≡ count (level_of v.low) id)
     → n ≡ outstanding_here id (shown_cpu online v)
 some_outstanding id k n online x v law is named soft lock low =
-    outstanding_is id n k x online v law is named (λ e. absurd (soft e)) (λ e. lock (ap (same_level Lock) e)) (λ e. low (ap (same_level Low) e))
+    outstanding_is id n k x online v law is named (λ e. absurd (soft e)) (λ e. lock (ap (same_level Lock) e))
+    (λ e. low (ap (same_level Low) e))
 
 -- ---- polls
 
@@ -238,8 +271,10 @@ waiting id online v w law is_open p = pick p.cyclic.timer.level refl
 
     pick : (level : CyclicLevel) → p.cyclic.timer.level ≡ level → 0 < outstanding_here id (shown_cpu online v)
     pick High at = absurd (soft at)
-    pick Lock at = let some = waits (same_level Lock p.cyclic.timer.level) id v.lock w.lock p.goes.0 (ap (same_level Lock) at) in omega (arith, some)
-    pick Low at = let some = waits (same_level Low p.cyclic.timer.level) id v.low w.low p.goes.1 (ap (same_level Low) at) in omega (arith, some)
+    pick Lock at = let some = waits (same_level Lock p.cyclic.timer.level) id v.lock w.lock p.goes.0 (ap (same_level Lock) at) in
+        omega (arith, some)
+    pick Low at = let some = waits (same_level Low p.cyclic.timer.level) id v.low w.low p.goes.1 (ap (same_level Low) at) in
+        omega (arith, some)
 
 -- ---- adds that were refused
 
@@ -270,25 +305,37 @@ answers called count_of may_refuse n online (Fire now (Err e)) s t law in_time g
 answers called count_of may_refuse n online (SoftInterrupt level budget (Ok r)) s t law in_time goes (did, kept) =
     let (ran, long, serves, left) = did.served in
     let (most, exactly) = did.within in
-    let f = serves_here (at_level called (handler_level level)) count_of level n budget r.calls r.idle online s.cpu t.cpu s.calls t.calls ran long serves left most exactly kept in
+    let f = serves_here (at_level called (handler_level level)) count_of level n budget r.calls r.idle online s.cpu t.cpu s.calls
+    t.calls ran long serves left most exactly kept in
     (f.2, f.3)
 answers called count_of may_refuse n online (SoftInterrupt level budget (Err e)) s t law in_time goes does = absurd (goes tt)
-answers called count_of may_refuse n online (Add id level series now (Ok done)) s t law in_time goes ((absent, early_now, adds), calls) =
+answers called count_of may_refuse n online (Add id level series now (Ok done)) s t law in_time goes
+    ((absent, early_now, adds), calls) =
     list_of (bad_now now) (why_no_room 1 (shown_cpu online s.cpu))
     ∙ early now (why_no_room 1 (shown_cpu online s.cpu)) (omega (arith, early_now, in_time))
     ∙ why_shown 1 online s.cpu adds.reserved (of_reserved 1 s.cpu adds.reserved adds.reserves)
     ∙ room_none 1 adds.reserved adds.allowed.room
-answers called count_of may_refuse n online (Add id level series now (Err e)) s t law in_time goes (d, calls) = not_added id level series now online e s.cpu t.cpu in_time d
+answers called count_of may_refuse n online (Add id level series now (Err e)) s t law in_time goes (d, calls) =
+    not_added id level series now online e s.cpu t.cpu in_time d
 answers called count_of may_refuse n online (Place id level interval moment carried) s t law in_time goes does = tt
-answers called count_of may_refuse n online (Reprogram id moment (Ok done)) s t law in_time goes ((k, x, is, named, still, e), calls) =
+answers called count_of may_refuse n online (Reprogram id moment (Ok done)) s t law in_time goes
+    ((k, x, is, named, still, e), calls) =
     (has_it id s.cpu.cyclics k x is named, still)
-answers called count_of may_refuse n online (Reprogram id moment (Err e)) s t law in_time goes ((is, inl none, same), calls) = (is, inl (has_not id s.cpu.cyclics none))
-answers called count_of may_refuse n online (Reprogram id moment (Err e)) s t law in_time goes ((is, inr removed, same), calls) = (is, inr removed)
+answers called count_of may_refuse n online (Reprogram id moment (Err e)) s t law in_time goes ((is, inl none, same), calls) =
+    (is, inl (has_not id s.cpu.cyclics none))
+answers called count_of may_refuse n online (Reprogram id moment (Err e)) s t law in_time goes ((is, inr removed, same), calls) =
+    (is, inr removed)
 answers called count_of may_refuse n online (AskPending id (Some m)) s t law in_time goes (d, calls) =
     (has_it id s.cpu.cyclics d.0.place d.0.cyclic d.0.here d.0.named, asked_outstanding id m online s.cpu t.cpu law d.0)
 answers called count_of may_refuse n online (AskPending id None) s t law in_time goes (d, calls) = has_not id s.cpu.cyclics d.0
-answers called count_of may_refuse n online (AskTotals id (Some totals)) s t law in_time goes ((a, pend, expired, lost, spared), calls) =
-    (shown a.cyclic, found_as id s.cpu.cyclics a.place a.cyclic law.rising a.here a.named, expired, lost, asked_outstanding id totals.pending online s.cpu t.cpu law a)
+answers called count_of may_refuse n online (AskTotals id (Some totals)) s t law in_time goes
+    ((a, pend, expired, lost, spared), calls) = (
+      shown a.cyclic,
+      found_as id s.cpu.cyclics a.place a.cyclic law.rising a.here a.named,
+      expired,
+      lost,
+      asked_outstanding id totals.pending online s.cpu t.cpu law a,
+    )
 answers called count_of may_refuse n online (AskTotals id None) s t law in_time goes (d, calls) = has_not id s.cpu.cyclics d.0
 answers called count_of may_refuse n online (AskRoom more (Ok done)) s t law in_time goes (d, calls) =
     why_shown more online s.cpu t.cpu (of_looked s.cpu t.cpu d.0) ∙ room_none more t.cpu d.1
@@ -299,13 +346,14 @@ answers called count_of may_refuse n online (Reserve more (Ok done)) s t law in_
 answers called count_of may_refuse n online (Reserve more (Err e)) s t law in_time goes (d, calls) =
     shown_refused e _ _ (why_shown more online s.cpu t.cpu (of_looked s.cpu t.cpu d.0)) (not_reserved more e s.cpu t.cpu d.1)
 answers called count_of may_refuse n online (Widen more) s t law in_time goes does = tt
-answers called count_of may_refuse n online (BeginRemove id (Ok (Done receipt))) s t law in_time goes ((still, (x, counts, is, polled, leaves)), calls) = (
-  begun _ s.cpu.removal (has_it id s.cpu.cyclics leaves.place x leaves.here leaves.named) still,
-  none_outstanding id leaves.place online x s.cpu law leaves.here leaves.named
-      (ends_at (same_level Lock x.timer.level) id counts s.cpu.lock t.cpu.lock leaves.goes.0)
-      (ends_at (same_level Low x.timer.level) id counts s.cpu.low t.cpu.low leaves.goes.1),
-  receipt_of id leaves.place online receipt x s.cpu law leaves.here leaves.named is,
-)
+answers called count_of may_refuse n online (BeginRemove id (Ok (Done receipt))) s t law in_time goes
+    ((still, (x, counts, is, polled, leaves)), calls) = (
+      begun _ s.cpu.removal (has_it id s.cpu.cyclics leaves.place x leaves.here leaves.named) still,
+      none_outstanding id leaves.place online x s.cpu law leaves.here leaves.named
+          (ends_at (same_level Lock x.timer.level) id counts s.cpu.lock t.cpu.lock leaves.goes.0)
+          (ends_at (same_level Low x.timer.level) id counts s.cpu.low t.cpu.low leaves.goes.1),
+      receipt_of id leaves.place online receipt x s.cpu law leaves.here leaves.named is,
+    )
 answers called count_of may_refuse n online (BeginRemove id (Ok (Kept kept))) s t law in_time goes ((still, opens), calls) =
     let x = opens.cyclic in (
       begun _ s.cpu.removal (has_it id s.cpu.cyclics opens.place x opens.here opens.named) still,
@@ -314,7 +362,8 @@ answers called count_of may_refuse n online (BeginRemove id (Ok (Kept kept))) s 
           (marks (same_level Lock x.timer.level) id kept s.cpu.lock t.cpu.lock opens.goes.0)
           (marks (same_level Low x.timer.level) id kept s.cpu.low t.cpu.low opens.goes.1),
     )
-answers called count_of may_refuse n online (BeginRemove id (Err e)) s t law in_time goes (d, calls) = not_begun id online e s.cpu d.0
+answers called count_of may_refuse n online (BeginRemove id (Err e)) s t law in_time goes (d, calls) =
+    not_begun id online e s.cpu d.0
 answers called count_of may_refuse n online (PollRemove (Some receipt)) s t law in_time goes (ends, calls) =
     let x = ends.cyclic in
     let l = ends.leaves in (
@@ -325,13 +374,17 @@ answers called count_of may_refuse n online (PollRemove (Some receipt)) s t law 
       receipt_of receipt.id l.place online receipt x s.cpu law l.here l.named ends.counted,
     )
 answers called count_of may_refuse n online (PollRemove None) s t law in_time goes (inl none, calls) = inl none.0
-answers called count_of may_refuse n online (PollRemove None) s t law in_time goes (inr (id, is_open, w), calls) = inr (id, is_open, waiting id online s.cpu t.cpu law is_open w)
-answers called count_of may_refuse n online (TakeNow id (Ok got)) s t law in_time goes ((still, (x, counts, is, polled, leaves)), calls) =
+answers called count_of may_refuse n online (PollRemove None) s t law in_time goes (inr (id, is_open, w), calls) =
+    inr (id, is_open, waiting id online s.cpu t.cpu law is_open w)
+answers called count_of may_refuse n online (TakeNow id (Ok got)) s t law in_time goes
+    ((still, (x, counts, is, polled, leaves)), calls) =
     let none = none_outstanding id leaves.place online x s.cpu law leaves.here leaves.named
     (takes (same_level Lock x.timer.level) id counts s.cpu.lock t.cpu.lock leaves.goes.0)
     (takes (same_level Low x.timer.level) id counts s.cpu.low t.cpu.low leaves.goes.1) in (
-      taken_none _ _ s.cpu.removal (has_it id s.cpu.cyclics leaves.place x leaves.here leaves.named) still (near 0 (outstanding_here id (shown_cpu online s.cpu)) (omega (arith, none))),
+      taken_none _ _ s.cpu.removal (has_it id s.cpu.cyclics leaves.place x leaves.here leaves.named) still
+          (near 0 (outstanding_here id (shown_cpu online s.cpu)) (omega (arith, none))),
       (shown x, found_as id s.cpu.cyclics leaves.place x law.rising leaves.here leaves.named, is.0, is.1, is.2, is.3, is.4),
     )
-answers called count_of may_refuse n online (TakeNow id (Err e)) s t law in_time goes (d, calls) = not_taken id online e s.cpu t.cpu law d
+answers called count_of may_refuse n online (TakeNow id (Err e)) s t law in_time goes (d, calls) =
+    not_taken id online e s.cpu t.cpu law d
 answers called count_of may_refuse n online (AskSettled b) s t law in_time goes does = tt

@@ -1,5 +1,6 @@
 -- The size grows, and a cyclic is put in.
-use Rattle.std.proofs.Common.{◌≡◌, ℕ, zero, suc, ◌+◌, ◌^◌, ◌<◌, ◌≤◌, length, map, Bool, true, false, cond, refl, ap, sym, ◌∙◌, subst, arith}
+use Rattle.std.proofs.Common.{◌≡◌, ℕ, zero, suc, ◌+◌, ◌^◌, ◌<◌, ◌≤◌, length, map, Bool, true, false, cond, refl, ap, sym, ◌∙◌}
+use Rattle.std.proofs.Common.{subst, arith}
 use Rattle.std.specs.Prelude.{nat_le, nat_lt}
 use Rattle.std.proofs.lemmas.Bool.Decides.{nat_tests}
 use Rattle.std.proofs.lemmas.List.{length-map}
@@ -14,7 +15,8 @@ use Rattle.cyc_cpu.specs.Cpu.{CpuView, HasRisingIds, Looked, Reserves, Widens, P
 use Rattle.cyc_cpu.specs.Calls.{Adds}
 use Rattle.cyc_cpu.specs.Soft.{fires, firing_at as seen}
 use Rattle.cyc_model.specs.Cpu.{Cpu, nothing_here}
-use Rattle.cyc_model.specs.Moving.{put_in, place_here, widen_here, enter_here, switch_here, least_bank as model_least, bank_for as model_bank}
+use Rattle.cyc_model.specs.Moving.{put_in, place_here, widen_here, enter_here, switch_here, least_bank as model_least}
+use Rattle.cyc_model.specs.Moving.{bank_for as model_bank}
 use Rattle.cyc_model.specs.Add.{new_cyclic}
 use Rattle.cyc_cpu_model.specs.Shown.{shown, shown_cpu}
 use Rattle.cyc_cpu_model.proofs.Lists.{put_shown}
@@ -33,11 +35,13 @@ shown_same online v w cyclics size removal lock low = λ z. record {
 }
 
 pub shown_looked : (online : Bool) (v w : CpuView Tables) → Looked fires seen v w → shown_cpu online w ≡ shown_cpu online v
-shown_looked online v w l = shown_same online v w l.cyclics l.kept.size l.kept.removal (only_looked v.lock w.lock l.lock) (only_looked v.low w.low l.low)
+shown_looked online v w l = shown_same online v w l.cyclics l.kept.size l.kept.removal (only_looked v.lock w.lock l.lock)
+    (only_looked v.low w.low l.low)
 
 pub shown_reserved : (online : Bool) (more : ℕ) (v w : CpuView Tables) → Reserves fires seen more v w
     → shown_cpu online w ≡ shown_cpu online v
-shown_reserved online more v w r = shown_same online v w r.cyclics r.size r.removal (only_looked v.lock w.lock r.lock) (only_looked v.low w.low r.low)
+shown_reserved online more v w r = shown_same online v w r.cyclics r.size r.removal (only_looked v.lock w.lock r.lock)
+    (only_looked v.low w.low r.low)
 
 -- ---- a cyclic is put in
 
@@ -55,7 +59,8 @@ placed n online x v w p rising =
       lock = lock z;
       low = low z;
     })
-    ∙ sym (own_cpu x.timer.level n (Admit x.timer.id p.index) (record (shown_cpu online v) { cyclics = put_in (shown x) (map shown v.cyclics) }))
+    ∙ sym (own_cpu x.timer.level n (Admit x.timer.id p.index)
+    (record (shown_cpu online v) { cyclics = put_in (shown x) (map shown v.cyclics) }))
 
 -- ---- the size grows
 
@@ -84,7 +89,12 @@ within_as : (size n : ℕ) → nat_lt size n ≡ false → n ≤ size
 within_as size n is = grind (arith, nat_tests)
 
 widened_as : (b : Bool) (n bank : ℕ) (c d : Cpu)
-    → d ≡ record c { size = cond b (2 ^ bank) c.size; lock = where_own b (Switch bank) c.lock; low = where_own b (Switch bank) c.low }
+    → d ≡ record c {
+      size = cond b (2 ^ bank) c.size;
+      lock = where_own b (Switch bank) c.lock;
+      low =
+          where_own b (Switch bank) c.low;
+    }
     → d ≡ (cond b (switch_here n bank c) (nothing_here c)).cpu
 widened_as true n bank c d is = is
 widened_as false n bank c d is = is
@@ -95,8 +105,10 @@ widened n more online v w wd =
     let needed = length v.cyclics + more in
     let long : length (map shown v.cyclics) ≡ length v.cyclics = length-map v.cyclics shown in
     let grows = nat_lt v.size needed in
-    let lock = grown_level grows (bank_for needed) v.lock w.lock (λ no. wd.kept_lock (within_as v.size needed no)) (λ yes. wd.lock (less_as v.size needed yes)) in
-    let low = grown_level grows (bank_for needed) v.low w.low (λ no. wd.kept_low (within_as v.size needed no)) (λ yes. wd.low (less_as v.size needed yes)) in
+    let lock = grown_level grows (bank_for needed) v.lock w.lock (λ no. wd.kept_lock (within_as v.size needed no))
+    (λ yes. wd.lock (less_as v.size needed yes)) in
+    let low = grown_level grows (bank_for needed) v.low w.low (λ no. wd.kept_low (within_as v.size needed no))
+    (λ yes. wd.low (less_as v.size needed yes)) in
     let size = wd.size ∙ grow_test v.size needed grows refl in
     let done = widened_as grows n (bank_for needed) (shown_cpu online v) (shown_cpu online w) (λ z. record {
       online = online;
@@ -107,8 +119,10 @@ widened n more online v w wd =
       low = low z;
     }) in
     done
-    ∙ ap (λ b. (cond grows (switch_here n b (shown_cpu online v)) (nothing_here (shown_cpu online v))).cpu) (sym (same_bank needed))
-    ∙ ap (λ m. (cond (nat_lt v.size (m + more)) (switch_here n (model_bank (m + more)) (shown_cpu online v)) (nothing_here (shown_cpu online v))).cpu) (sym long)
+    ∙ ap (λ b. (cond grows (switch_here n b (shown_cpu online v)) (nothing_here (shown_cpu online v))).cpu)
+    (sym (same_bank needed))
+    ∙ ap (λ m. (cond (nat_lt v.size (m + more)) (switch_here n (model_bank (m + more)) (shown_cpu online v))
+    (nothing_here (shown_cpu online v))).cpu) (sym long)
 
 -- ---- an add
 

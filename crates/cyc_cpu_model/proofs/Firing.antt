@@ -1,5 +1,6 @@
 -- A fire is what the definition says.
-use Rattle.std.proofs.Common.{◌≡◌, ◌≢◌, ℕ, zero, suc, ◌+◌, ◌<◌, List, [], ◌∷◌, ◌++◌, length, map, find, filter, get_or, Bool, true, false, cond, ◌==◌, eq-eqb, Option, Some, None, IsSome, refl, ap, sym, ◌∙◌, subst, arith}
+use Rattle.std.proofs.Common.{◌≡◌, ◌≢◌, ℕ, zero, suc, ◌+◌, ◌<◌, List, [], ◌∷◌, ◌++◌, length, map, find, filter, get_or, Bool}
+use Rattle.std.proofs.Common.{true, false, cond, ◌==◌, eq-eqb, Option, Some, None, IsSome, refl, ap, sym, ◌∙◌, subst, arith}
 use Rattle.std.specs.Prelude.{⊤}
 use Rattle.std.specs.Option.{option_map, option_map_or}
 use Rattle.std.proofs.lemmas.Bool.Decides.{nat_tests}
@@ -83,7 +84,8 @@ find_timer_at x o false = refl
 
 find_timer : (id : ℕ) (cs : List Cyclic) → timer_of id (timers cs) ≡ option_map (λ y. y.timer) (find (is_of id) cs)
 find_timer id [] = refl
-find_timer id (x ∷ cs) = ap (cond (x.timer.id == id) (Some x.timer)) (find_timer id cs) ∙ find_timer_at x (find (is_of id) cs) (x.timer.id == id)
+find_timer id (x ∷ cs) = ap (cond (x.timer.id == id) (Some x.timer)) (find_timer id cs)
+    ∙ find_timer_at x (find (is_of id) cs) (x.timer.id == id)
 
 of_level_at : (level : CyclicLevel) (o : Option Cyclic) → IsSome o → is_of_level level (option_map (λ y. y.timer) o)
     ≡ same_level level (option_map_or (λ y. y.timer.level) o High)
@@ -92,14 +94,17 @@ of_level_at level (Some x) some = refl
 
 of_level : (level : CyclicLevel) (p : Expiration) (c : Cpu) → IsSome (find (is_of p.id) c.cyclics)
     → is_at level (timers c.cyclics) p ≡ same_level level (cyclic_level p.id c)
-of_level level p c some = ap (is_of_level level) (find_timer p.id c.cyclics) ∙ of_level_at level (find (is_of p.id) c.cyclics) some
+of_level level p c some = ap (is_of_level level) (find_timer p.id c.cyclics)
+    ∙ of_level_at level (find (is_of p.id) c.cyclics) some
 
 -- the ids of the expirations of a level, where that of the first is known
 ids_as : (level : CyclicLevel) (p : Expiration) (ps : List Expiration) (ts : List Timer) (b : Bool) → is_at level ts p ≡ b
     → ids_at level ts (p ∷ ps) ≡ cond b (p.id ∷ ids_at level ts ps) (ids_at level ts ps)
-ids_as level p ps ts b is = ap (λ x. map (λ (q : Expiration). q.id) (cond x (p ∷ filter (is_at level ts) ps) (filter (is_at level ts) ps))) is ∙ pick b
+ids_as level p ps ts b is = ap (λ x. map (λ (q : Expiration). q.id)
+    (cond x (p ∷ filter (is_at level ts) ps) (filter (is_at level ts) ps))) is ∙ pick b
   where
-    pick : (b : Bool) → map (λ (q : Expiration). q.id) (cond b (p ∷ filter (is_at level ts) ps) (filter (is_at level ts) ps)) ≡ cond b (p.id ∷ ids_at level ts ps) (ids_at level ts ps)
+    pick : (b : Bool) → map (λ (q : Expiration). q.id) (cond b (p ∷ filter (is_at level ts) ps) (filter (is_at level ts) ps))
+        ≡ cond b (p.id ∷ ids_at level ts ps) (ids_at level ts ps)
     pick true = refl
     pick false = refl
 
@@ -114,7 +119,8 @@ pub record Does (ps : List Expiration) (c : Cpu) (d : Here) : Type 0 where
     lock = level_after (expiries (at Lock ps c) c.lock) c.lock;
     low = level_after (expiries (at Low ps c) c.low) c.low;
   }
-  pub each : (id : ℕ) → losses_of id d.acts ≡ lost_of id (expiries (at Lock ps c) c.lock) + lost_of id (expiries (at Low ps c) c.low)
+  pub each : (id : ℕ) → losses_of id d.acts ≡ lost_of id (expiries (at Lock ps c) c.lock) + lost_of id
+      (expiries (at Low ps c) c.low)
   pub lost : losses_in d.acts ≡ lost_all (expiries (at Lock ps c) c.lock) + lost_all (expiries (at Low ps c) c.low)
   pub calls : (id : ℕ) → calls_of id d.acts ≡ times id (at High ps c)
 
@@ -134,14 +140,18 @@ at_lock : (n : ℕ) (p : Expiration) (ps : List Expiration) (c : Cpu) (d : Here)
 at_lock n p ps c d some is r =
     let es = raised p.id c.lock in
     let l = level_after es c.lock in
-    let locks : at Lock (p ∷ ps) c ≡ p.id ∷ at Lock ps c = ids_as Lock p ps (timers c.cyclics) true (of_level Lock p c some ∙ ap (same_level Lock) is) in
-    let lows : at Low (p ∷ ps) c ≡ at Low ps c = ids_as Low p ps (timers c.cyclics) false (of_level Low p c some ∙ ap (same_level Low) is) in
-    let highs : at High (p ∷ ps) c ≡ at High ps c = ids_as High p ps (timers c.cyclics) false (of_level High p c some ∙ ap (same_level High) is) in
+    let locks : at Lock (p ∷ ps) c ≡ p.id ∷ at Lock ps c =
+    ids_as Lock p ps (timers c.cyclics) true (of_level Lock p c some ∙ ap (same_level Lock) is) in
+    let lows : at Low (p ∷ ps) c ≡ at Low ps c =
+    ids_as Low p ps (timers c.cyclics) false (of_level Low p c some ∙ ap (same_level Low) is) in
+    let highs : at High (p ∷ ps) c ≡ at High ps c =
+    ids_as High p ps (timers c.cyclics) false (of_level High p c some ∙ ap (same_level High) is) in
     let all : expiries (at Lock (p ∷ ps) c) c.lock ≡ es ++ expiries (at Lock ps c) l = ap (λ ids. expiries ids c.lock) locks in
     let same : expiries (at Low (p ∷ ps) c) c.low ≡ expiries (at Low ps c) c.low = ap (λ ids. expiries ids c.low) lows in
     let lock : level_after (expiries (at Lock ps c) l) l ≡ level_after (expiries (at Lock (p ∷ ps) c) c.lock) c.lock =
     sym (ap (λ xs. level_after xs c.lock) all ∙ level_append es (expiries (at Lock ps c) l) c.lock) in
-    let low : level_after (expiries (at Low ps c) c.low) c.low ≡ level_after (expiries (at Low (p ∷ ps) c) c.low) c.low = ap (λ xs. level_after xs c.low) (sym same) in
+    let low : level_after (expiries (at Low ps c) c.low) c.low ≡ level_after (expiries (at Low (p ∷ ps) c) c.low) c.low =
+    ap (λ xs. level_after xs c.low) (sym same) in
     record {
       cpu = r.cpu ∙ (λ z. record c { lock = lock z; low = low z });
       each = λ id.
@@ -175,14 +185,18 @@ at_low : (n : ℕ) (p : Expiration) (ps : List Expiration) (c : Cpu) (d : Here) 
 at_low n p ps c d some is r =
     let es = raised p.id c.low in
     let l = level_after es c.low in
-    let locks : at Lock (p ∷ ps) c ≡ at Lock ps c = ids_as Lock p ps (timers c.cyclics) false (of_level Lock p c some ∙ ap (same_level Lock) is) in
-    let lows : at Low (p ∷ ps) c ≡ p.id ∷ at Low ps c = ids_as Low p ps (timers c.cyclics) true (of_level Low p c some ∙ ap (same_level Low) is) in
-    let highs : at High (p ∷ ps) c ≡ at High ps c = ids_as High p ps (timers c.cyclics) false (of_level High p c some ∙ ap (same_level High) is) in
+    let locks : at Lock (p ∷ ps) c ≡ at Lock ps c =
+    ids_as Lock p ps (timers c.cyclics) false (of_level Lock p c some ∙ ap (same_level Lock) is) in
+    let lows : at Low (p ∷ ps) c ≡ p.id ∷ at Low ps c =
+    ids_as Low p ps (timers c.cyclics) true (of_level Low p c some ∙ ap (same_level Low) is) in
+    let highs : at High (p ∷ ps) c ≡ at High ps c =
+    ids_as High p ps (timers c.cyclics) false (of_level High p c some ∙ ap (same_level High) is) in
     let all : expiries (at Low (p ∷ ps) c) c.low ≡ es ++ expiries (at Low ps c) l = ap (λ ids. expiries ids c.low) lows in
     let same : expiries (at Lock (p ∷ ps) c) c.lock ≡ expiries (at Lock ps c) c.lock = ap (λ ids. expiries ids c.lock) locks in
     let low : level_after (expiries (at Low ps c) l) l ≡ level_after (expiries (at Low (p ∷ ps) c) c.low) c.low =
     sym (ap (λ xs. level_after xs c.low) all ∙ level_append es (expiries (at Low ps c) l) c.low) in
-    let lock : level_after (expiries (at Lock ps c) c.lock) c.lock ≡ level_after (expiries (at Lock (p ∷ ps) c) c.lock) c.lock = ap (λ xs. level_after xs c.lock) (sym same) in
+    let lock : level_after (expiries (at Lock ps c) c.lock) c.lock ≡ level_after (expiries (at Lock (p ∷ ps) c) c.lock) c.lock =
+    ap (λ xs. level_after xs c.lock) (sym same) in
     record {
       cpu = r.cpu ∙ (λ z. record c { lock = lock z; low = low z });
       each = λ id.
@@ -216,16 +230,20 @@ at_high : (n : ℕ) (p : Expiration) (ps : List Expiration) (c : Cpu) (d : Here)
     → cyclic_level p.id c ≡ High
     → Does ps c d → Does (p ∷ ps) c (acts_first (Call p.id ∷ []) d)
 at_high n p ps c d some is r =
-    let locks : at Lock (p ∷ ps) c ≡ at Lock ps c = ids_as Lock p ps (timers c.cyclics) false (of_level Lock p c some ∙ ap (same_level Lock) is) in
-    let lows : at Low (p ∷ ps) c ≡ at Low ps c = ids_as Low p ps (timers c.cyclics) false (of_level Low p c some ∙ ap (same_level Low) is) in
-    let highs : at High (p ∷ ps) c ≡ p.id ∷ at High ps c = ids_as High p ps (timers c.cyclics) true (of_level High p c some ∙ ap (same_level High) is) in
+    let locks : at Lock (p ∷ ps) c ≡ at Lock ps c =
+    ids_as Lock p ps (timers c.cyclics) false (of_level Lock p c some ∙ ap (same_level Lock) is) in
+    let lows : at Low (p ∷ ps) c ≡ at Low ps c =
+    ids_as Low p ps (timers c.cyclics) false (of_level Low p c some ∙ ap (same_level Low) is) in
+    let highs : at High (p ∷ ps) c ≡ p.id ∷ at High ps c =
+    ids_as High p ps (timers c.cyclics) true (of_level High p c some ∙ ap (same_level High) is) in
     let a : expiries (at Lock ps c) c.lock ≡ expiries (at Lock (p ∷ ps) c) c.lock = ap (λ ids. expiries ids c.lock) (sym locks) in
     let b : expiries (at Low ps c) c.low ≡ expiries (at Low (p ∷ ps) c) c.low = ap (λ ids. expiries ids c.low) (sym lows) in
     record {
       cpu = r.cpu ∙ (λ z. record c { lock = level_after (a z) c.lock; low = level_after (b z) c.low });
       each = λ id. let rest = r.each id in let x = ap (lost_of id) a in let y = ap (lost_of id) b in omega (arith, rest, x, y);
       lost = (let rest = r.lost in let x = ap lost_all a in let y = ap lost_all b in omega (arith, rest, x, y));
-      calls = λ id. let rest = r.calls id in let x = ap (times id) highs in let y = times_more id p.id (at High ps c) in omega (arith, rest, x, y);
+      calls = λ id. let rest = r.calls id in let x = ap (times id) highs in let y = times_more id p.id (at High ps c) in
+          omega (arith, rest, x, y);
     }
 
 one_more : (n : ℕ) (p : Expiration) (ps : List Expiration) (c : Cpu) (level : CyclicLevel) → cyclic_level p.id c ≡ level
@@ -241,7 +259,8 @@ one_more n p ps c Low is some rest =
 
 pub all_do : (n : ℕ) (ps : List Expiration) (c : Cpu) → AllHere ps c.cyclics → Does ps c (expire_all n ps c)
 all_do n [] c here = record { cpu = refl; each = λ id. refl; lost = refl; calls = λ id. refl }
-all_do n (p ∷ ps) c here = one_more n p ps c (cyclic_level p.id c) refl here.0 (λ e same. all_do n ps e (subst (AllHere ps) (sym same) here.1))
+all_do n (p ∷ ps) c here = one_more n p ps c (cyclic_level p.id c) refl here.0
+    (λ e same. all_do n ps e (subst (AllHere ps) (sym same) here.1))
 
 -- ---- each expiration is of a cyclic
 
@@ -279,12 +298,14 @@ pub all_here : (ps : List Expiration) (cs : List Cyclic) → ((id : ℕ) → fin
     → AllHere ps cs
 all_here [] cs none = tt
 all_here (p ∷ ps) cs none = (
-  some_or_none (find (is_of p.id) cs) (λ e. let zero_times = none p.id e in let one = ap one_if (eq-eqb p.id p.id refl) in let first = first_times p.id p ps in absurd (omega (arith, zero_times, one, first))),
+  some_or_none (find (is_of p.id) cs) (λ e. let zero_times = none p.id e in let one = ap one_if (eq-eqb p.id p.id refl) in
+      let first = first_times p.id p ps in absurd (omega (arith, zero_times, one, first))),
   all_here ps cs (λ id e. let zero_times = none id e in let first = first_times id p ps in omega (arith, zero_times, first)),
 )
 
 pub due_are_here : (now : ℕ) (cs : List Timed) → AllHere (expirations now (timed cs)) (map shown cs)
-due_are_here now cs = all_here (expirations now (timed cs)) (map shown cs) (λ id e. times_others now id (timed cs) (not_found id cs e))
+due_are_here now cs = all_here (expirations now (timed cs)) (map shown cs)
+    (λ id e. times_others now id (timed cs) (not_found id cs e))
 
 -- ---- the cyclics after it
 
@@ -345,8 +366,10 @@ fires_these called count n now lost online made v w t u here m same =
     let cyclics : map shown w.cyclics ≡ map (fired now made d.acts) d.cpu.cyclics =
     fired_shown now made d.acts m.acts.lock_way m.acts.low_way v.cyclics w.cyclics m.timers_are m.losses_are each
     ∙ ap (λ (x : Cpu). map (fired now made d.acts) x.cyclics) (sym does.cpu) in
-    let at_lock_level : level_of w.lock ≡ d.cpu.lock = lock.level ∙ ap (λ ids. level_after (expiries ids c.lock) c.lock) (sym locks) ∙ ap (λ (x : Cpu). x.lock) (sym does.cpu) in
-    let at_low_level : level_of w.low ≡ d.cpu.low = low.level ∙ ap (λ ids. level_after (expiries ids c.low) c.low) (sym lows) ∙ ap (λ (x : Cpu). x.low) (sym does.cpu) in
+    let at_lock_level : level_of w.lock ≡ d.cpu.lock = lock.level
+    ∙ ap (λ ids. level_after (expiries ids c.lock) c.lock) (sym locks) ∙ ap (λ (x : Cpu). x.lock) (sym does.cpu) in
+    let at_low_level : level_of w.low ≡ d.cpu.low = low.level ∙ ap (λ ids. level_after (expiries ids c.low) c.low) (sym lows)
+    ∙ ap (λ (x : Cpu). x.low) (sym does.cpu) in
     let size : w.size ≡ d.cpu.size = same.size ∙ ap (λ (x : Cpu). x.size) (sym does.cpu) in
     let removal : w.removal ≡ d.cpu.removal = same.removal ∙ ap (λ (x : Cpu). x.removal) (sym does.cpu) in
     let up : online ≡ d.cpu.online = ap (λ (x : Cpu). x.online) (sym does.cpu) in
@@ -375,7 +398,8 @@ fires_these called count n now lost online made v w t u here m same =
 
 pub fires_here : {C : Type 0} (called : C → ℕ → C → Type 0) (count : C → ℕ
     → ℕ) (n now lost : ℕ) (online : Bool) (v w : CpuView Tables) (t u : C)
-    → Makes called count fires seen now (expirations now (timed v.cyclics)) v.cyclics w.cyclics (record { calls = t; lock = v.lock; low = v.low })
+    → Makes called count fires seen now (expirations now (timed v.cyclics)) v.cyclics w.cyclics
+    (record { calls = t; lock = v.lock; low = v.low })
     (record { calls = u; lock = w.lock; low = w.low }) lost
     → SameCpu v w
     → (shown_cpu online w ≡ (fire_here n now (shown_cpu online v)).cpu)
@@ -384,7 +408,8 @@ pub fires_here : {C : Type 0} (called : C → ℕ → C → Type 0) (count : C �
 fires_here called count n now lost online v w t u m same =
     let c = shown_cpu online v in
     let dues : due_here now c ≡ expirations now (timed v.cyclics) = ap (expirations now) (same_timers v.cyclics) in
-    let r = fires_these called count n now lost online (expirations now (timed v.cyclics)) v w t u (due_are_here now v.cyclics) m same in (
+    let r = fires_these called count n now lost online (expirations now (timed v.cyclics)) v w t u
+    (due_are_here now v.cyclics) m same in (
       r.0 ∙ ap (λ ps. (fire_these n now ps c).cpu) (sym dues),
       λ id. r.1 id ∙ ap (λ ps. count t id + calls_of id (fire_these n now ps c).acts) (sym dues),
       r.2 ∙ ap (λ ps. losses_in (fire_these n now ps c).acts) (sym dues),

@@ -1,5 +1,6 @@
 -- The index that a cyclic gets is free.
-use Rattle.std.proofs.Common.{◌≡◌, ℕ, zero, suc, ◌+◌, ◌==◌, eq-eqb, length, Option, List, [], ◌∷◌, ◌++◌, map, Bool, true, false, cond, Some, None, refl, ap, sym, ◌∙◌, subst}
+use Rattle.std.proofs.Common.{◌≡◌, ℕ, zero, suc, ◌+◌, ◌==◌, eq-eqb, length, Option, List, [], ◌∷◌, ◌++◌, map, Bool, true, false}
+use Rattle.std.proofs.Common.{cond, Some, None, refl, ap, sym, ◌∙◌, subst}
 use Rattle.std.specs.Prelude.{⊤, ◌&&◌, is_some}
 use Rattle.cyc_types.specs.Firing.{Admits}
 use Rattle.cyc_types.specs.Runs.{Goes}
@@ -23,7 +24,8 @@ use Rattle.cyc_model.specs.Acts.{Act, At, Call, at_own, same_soft, events_at}
 use Rattle.cyc_model.specs.Cpu.{Cpu, nothing_here, then_here, level_of as cyclic_level}
 use Rattle.cyc_model.specs.Firing.{raised, expiry, expire_here, expire_all, due_here, fire_here}
 use Rattle.cyc_model.specs.Serving.{level_after, level_at, looks, look, Interrupt, after_look, serve, serve_here}
-use Rattle.cyc_model.specs.Moving.{bank_for, must_grow, switch_here, widen_here, place_here, enter_here, take_here, mark_here, clear_here}
+use Rattle.cyc_model.specs.Moving.{bank_for, must_grow, switch_here, widen_here, place_here, enter_here, take_here, mark_here}
+use Rattle.cyc_model.specs.Moving.{clear_here}
 use Rattle.cyc_model.specs.Add.{new_cyclic}
 use Rattle.cyc_model.specs.Free.{CanBeAdmitted, AllCanBeAdmitted}
 use Rattle.cyc_model.proofs.Events.{events_append}
@@ -94,13 +96,16 @@ raised_none false false id = (tt, tt)
 
 expiry_none : (n : ℕ) (level : CyclicLevel) (id : ℕ) (c : Cpu) → HasNoAdmit (expiry n level id c)
 expiry_none n High id c = tt
-expiry_none n Lock id c = events_none n soft.Lock (raised id c.lock) (raised_none (count c.lock id == c.lock.ceiling) (count c.lock id == 0) id)
-expiry_none n Low id c = events_none n soft.Low (raised id c.low) (raised_none (count c.low id == c.low.ceiling) (count c.low id == 0) id)
+expiry_none n Lock id c = events_none n soft.Lock (raised id c.lock)
+    (raised_none (count c.lock id == c.lock.ceiling) (count c.lock id == 0) id)
+expiry_none n Low id c = events_none n soft.Low (raised id c.low)
+    (raised_none (count c.low id == c.low.ceiling) (count c.low id == 0) id)
 
 pub expire_none : (n : ℕ) (ps : List Expiration) (c : Cpu) → HasNoAdmit (expire_all n ps c).acts
 expire_none n [] c = tt
 expire_none n (p ∷ ps) c =
-    no_more (expire_here n p.id c).acts (expire_all n ps (expire_here n p.id c).cpu).acts (expiry_none n (cyclic_level p.id c) p.id c)
+    no_more (expire_here n p.id c).acts (expire_all n ps (expire_here n p.id c).cpu).acts
+    (expiry_none n (cyclic_level p.id c) p.id c)
     (expire_none n ps (expire_here n p.id c).cpu)
 
 pub fire_none : (n now : ℕ) (c : Cpu) → HasNoAdmit (fire_here n now c).acts
@@ -128,12 +133,14 @@ after_none : (n : ℕ) (soft : Soft) (looked : List Event) (l : Level) (rest : L
     → (hand : Option ℕ) → HasNoAdmit (after_look n soft looked (record l { drainer_hand = hand }) rest).acts
 after_none n soft looked l rest none more None = events_none n soft looked none
 after_none n soft looked l rest none more (Some id) =
-    no_more (map (At n soft) looked) _ (events_none n soft looked none) (tt, more (after Finish (record l { drainer_hand = Some id })))
+    no_more (map (At n soft) looked) _ (events_none n soft looked none)
+    (tt, more (after Finish (record l { drainer_hand = Some id })))
 
 serve_none : (n : ℕ) (soft : Soft) (budget : ℕ) (l : Level) → HasNoAdmit (serve n soft budget l).acts
 serve_none n soft zero l = tt
 serve_none n soft (suc budget) l =
-    after_none n soft (look l) (level_after (look l) l) (serve n soft budget) (look_none l) (serve_none n soft budget) (level_after (look l) l).drainer_hand
+    after_none n soft (look l) (level_after (look l) l) (serve n soft budget) (look_none l) (serve_none n soft budget)
+    (level_after (look l) l).drainer_hand
 
 pub interrupt_none : (n : ℕ) (soft : Soft) (budget : ℕ) (c : Cpu) → HasNoAdmit (serve_here n soft budget c).acts
 interrupt_none n soft budget c = serve_none n soft budget (level_at soft c)
@@ -152,10 +159,12 @@ pub clear_none : (n id : ℕ) (c : Cpu) → HasNoAdmit (clear_here n id c).acts
 clear_none n id c = own_none n (cyclic_level id c) (Clear id) tt
 
 pub remove_none : (n id : ℕ) (c : Cpu) → HasNoAdmit (then_here (mark_here n id c) (clear_here n id)).acts
-remove_none n id c = no_more (mark_here n id c).acts (clear_here n id (mark_here n id c).cpu).acts (mark_none n id c) (clear_none n id (mark_here n id c).cpu)
+remove_none n id c = no_more (mark_here n id c).acts (clear_here n id (mark_here n id c).cpu).acts (mark_none n id c)
+    (clear_none n id (mark_here n id c).cpu)
 
 pub take_none : (n id : ℕ) (c : Cpu) → HasNoAdmit (take_here n id c).acts
-take_none n id c = no_more (at_own n (cyclic_level id c) (Mark id)) _ (own_none n (cyclic_level id c) (Mark id) tt) (own_none n _ (Clear id) tt)
+take_none n id c = no_more (at_own n (cyclic_level id c) (Mark id)) _ (own_none n (cyclic_level id c) (Mark id) tt)
+    (own_none n _ (Clear id) tt)
 
 -- ---- a cyclic that is put in
 
@@ -175,31 +184,41 @@ own_can : (n id index : ℕ) (level : CyclicLevel) (soft : Soft) (c : Cpu)
     → AllCanBeAdmitted (events_at n soft (at_own n level (Admit id index))) (level_at soft c)
 own_can n id index High soft c lock low = tt
 own_can n id index Lock soft.Lock c lock low =
-    subst (λ (b : Bool). AllCanBeAdmitted (cond (b && true) (Admit id index ∷ []) [] ++ []) c.lock) (sym (eq-eqb n n refl)) (lock refl, tt)
+    subst (λ (b : Bool). AllCanBeAdmitted (cond (b && true) (Admit id index ∷ []) [] ++ []) c.lock) (sym (eq-eqb n n refl))
+    (lock refl, tt)
 own_can n id index Lock soft.Low c lock low =
     subst (λ (b : Bool). AllCanBeAdmitted (cond (b && false) (Admit id index ∷ []) [] ++ []) c.low) (sym (eq-eqb n n refl)) tt
 own_can n id index Low soft.Lock c lock low =
     subst (λ (b : Bool). AllCanBeAdmitted (cond (b && false) (Admit id index ∷ []) [] ++ []) c.lock) (sym (eq-eqb n n refl)) tt
 own_can n id index Low soft.Low c lock low =
-    subst (λ (b : Bool). AllCanBeAdmitted (cond (b && true) (Admit id index ∷ []) [] ++ []) c.low) (sym (eq-eqb n n refl)) (low refl, tt)
+    subst (λ (b : Bool). AllCanBeAdmitted (cond (b && true) (Admit id index ∷ []) [] ++ []) c.low) (sym (eq-eqb n n refl))
+    (low refl, tt)
 
 pub place_free : (n : ℕ) (online : Bool) (x : Timed) (soft : Soft) (v w : CpuView Tables) (p : Places fires seen x v w)
-    → AllCanBeAdmitted (events_at n soft (place_here n p.index (shown x) (shown_cpu online v)).acts) (level_at soft (shown_cpu online v))
+    → AllCanBeAdmitted (events_at n soft (place_here n p.index (shown x) (shown_cpu online v)).acts)
+    (level_at soft (shown_cpu online v))
 place_free n online x soft v w p =
     own_can n x.timer.id p.index x.timer.level soft (shown_cpu online v)
     (λ e. enabled_at (same_level Lock x.timer.level) x.timer.id p.index v.lock w.lock p.lock (ap (same_level Lock) e))
     (λ e. enabled_at (same_level Low x.timer.level) x.timer.id p.index v.low w.low p.low (ap (same_level Low) e))
 
-pub add_free : (n id now : ℕ) (online : Bool) (level : CyclicLevel) (series : When) (soft : Soft) (v w : CpuView Tables) (a : Adds fires seen id level series now v w)
-    → AllCanBeAdmitted (events_at n soft (enter_here n a.enters.index (new_cyclic id level series.start series.interval now) (shown_cpu online v)).acts) (level_at soft (shown_cpu online v))
+pub add_free : (n id now : ℕ) (online : Bool) (level : CyclicLevel) (series : When) (soft : Soft) (v w : CpuView Tables)
+    (a : Adds fires seen id level series now v w)
+    → AllCanBeAdmitted (events_at n soft (enter_here n a.enters.index (new_cyclic id level series.start series.interval now)
+    (shown_cpu online v)).acts) (level_at soft (shown_cpu online v))
 add_free n id now online level series soft v w a =
     let c = shown_cpu online v in
     let x = new_cyclic id level series.start series.interval now in
     let wide = widen_here n 1 c in
     let is : shown_cpu online a.widened ≡ wide.cpu =
-    widened n 1 online a.reserved a.widened a.widens ∙ ap (λ (d : Cpu). (widen_here n 1 d).cpu) (shown_reserved online 1 v a.reserved a.reserves) in
-    let rest = subst (λ (d : Cpu). AllCanBeAdmitted (events_at n soft (place_here n a.enters.index x d).acts) (level_at soft d)) is
+    widened n 1 online a.reserved a.widened a.widens
+    ∙ ap (λ (d : Cpu). (widen_here n 1 d).cpu) (shown_reserved online 1 v a.reserved a.reserves) in
+    let rest = subst (λ (d : Cpu). AllCanBeAdmitted (events_at n soft (place_here n a.enters.index x d).acts) (level_at soft d))
+    is
     (place_free n online _ soft a.widened w a.enters) in
-    let there = subst (λ l. AllCanBeAdmitted (events_at n soft (place_here n a.enters.index x wide.cpu).acts) l) ((local_widen n 1 c).levels soft) rest in
-    subst (λ es. AllCanBeAdmitted es (level_at soft c)) (sym (events_append n soft wide.acts (place_here n a.enters.index x wide.cpu).acts))
-    (can_append (events_at n soft wide.acts) _ (level_at soft c) (none_admitted wide.acts n soft (level_at soft c) (widen_none n 1 c)) there)
+    let there = subst (λ l. AllCanBeAdmitted (events_at n soft (place_here n a.enters.index x wide.cpu).acts) l)
+    ((local_widen n 1 c).levels soft) rest in
+    subst (λ es. AllCanBeAdmitted es (level_at soft c))
+    (sym (events_append n soft wide.acts (place_here n a.enters.index x wide.cpu).acts))
+    (can_append (events_at n soft wide.acts) _ (level_at soft c)
+    (none_admitted wide.acts n soft (level_at soft c) (widen_none n 1 c)) there)

@@ -1,5 +1,6 @@
 -- A soft interrupt is what the definition says.
-use Rattle.std.proofs.Common.{◌≡◌, ℕ, zero, suc, ◌+◌, ◌-◌, ◌<◌, ◌≤◌, List, [], ◌∷◌, ◌++◌, length, map, Bool, true, false, cond, ◌==◌, ne_eqb, Option, Some, None, refl, ap, sym, ◌∙◌, subst, arith}
+use Rattle.std.proofs.Common.{◌≡◌, ℕ, zero, suc, ◌+◌, ◌-◌, ◌<◌, ◌≤◌, List, [], ◌∷◌, ◌++◌, length, map, Bool, true, false, cond}
+use Rattle.std.proofs.Common.{◌==◌, ne_eqb, Option, Some, None, refl, ap, sym, ◌∙◌, subst, arith}
 use Rattle.std.specs.Prelude.{is_some, IsTrue, ◌↔◌}
 use Rattle.std.specs.Option.{option_map, option_map_or}
 use Rattle.std.proofs.lemmas.List.{length-map}
@@ -23,7 +24,8 @@ use Rattle.cyc_cpu.specs.Soft.{drains, held_at, end_at, SoftKept, ServesAt}
 use Rattle.cyc_soft.specs.Serving.{Served, ids, way_of, last_look, hand_left}
 use Rattle.cyc_model.specs.Acts.{Act, At, Call, call_of, calls_of, calls_in}
 use Rattle.cyc_model.specs.Cpu.{Cpu, cpu_after, happen}
-use Rattle.cyc_model.specs.Serving.{level_after, level_at, looks, look, Interrupt, calling, found_nothing, serve, interrupt_here, serve_here}
+use Rattle.cyc_model.specs.Serving.{level_after, level_at, looks, look, Interrupt, calling, found_nothing, serve, interrupt_here}
+use Rattle.cyc_model.specs.Serving.{serve_here}
 use Rattle.cyc_model.proofs.Events.{calls_append}
 use Rattle.cyc_cpu_model.specs.Shown.{shown, shown_cpu}
 use Rattle.cyc_cpu_model.proofs.Raising.{folds}
@@ -71,15 +73,19 @@ left_hand zero id true = refl
 left_hand zero id false = refl
 left_hand (suc zero) id true = refl
 left_hand (suc zero) id false = refl
-left_hand (suc (suc n)) id marked = ap (λ b. hand_after (cond b (cond marked LastOfRemoval Last) More) (Some id)) (sym (ne_eqb (suc (suc n) - 1) 0 (λ e. absurd (omega arith))))
+left_hand (suc (suc n)) id marked = ap (λ b. hand_after (cond b (cond marked LastOfRemoval Last) More) (Some id))
+    (sym (ne_eqb (suc (suc n) - 1) 0 (λ e. absurd (omega arith))))
 
 finish_hand : (id : ℕ) (answer : Finished) (m k : Level) → m.drainer_hand ≡ Some id → k ≡ after Finish m
     → answer ≡ finished_at (count k id) (is_marked k.marked id) → k.drainer_hand ≡ hand_after answer (Some id)
 finish_hand id answer m k held is found =
     let done : k ≡ after_finish (Some id) m = is ∙ ap (λ h. after_finish h m) held in
-    let left : count k id ≡ count m id - 1 = ap (λ (x : Level). count x id) done ∙ (ap count_in (at_same m.cyclics id (option_map cyclic_after_finish)) ∙ one_less (m.cyclics id)) in
-    ap (λ (x : Level). x.drainer_hand) done ∙ (ap (hand_after_finish (count m id)) held ∙ (left_hand (count m id) id (is_marked k.marked id)
-    ∙ (ap (λ n. hand_after (finished_at n (is_marked k.marked id)) (Some id)) (sym left) ∙ ap (λ a. hand_after a (Some id)) (sym found))))
+    let left : count k id ≡ count m id - 1 = ap (λ (x : Level). count x id) done
+    ∙ (ap count_in (at_same m.cyclics id (option_map cyclic_after_finish)) ∙ one_less (m.cyclics id)) in
+    ap (λ (x : Level). x.drainer_hand) done ∙ (ap (hand_after_finish (count m id)) held
+    ∙ (left_hand (count m id) id (is_marked k.marked id)
+    ∙ (ap (λ n. hand_after (finished_at n (is_marked k.marked id)) (Some id)) (sym left)
+    ∙ ap (λ a. hand_after a (Some id)) (sym found))))
 
 -- ---- one look
 
@@ -103,7 +109,8 @@ looks_once l free =
 
 took : (l m : Level) (answer : Option ℕ) → l.drainer_hand ≡ None → Drains l (Takes answer) m → m ≡ level_after (look l) l
 took l m answer free (happened, is) =
-    folds (take_events l.old_list l.new_list (l.hard_bank == l.soft_bank)) l m happened ∙ ap (λ es. level_after es l) (sym (looks_once l free))
+    folds (take_events l.old_list l.new_list (l.hard_bank == l.soft_bank)) l m happened
+    ∙ ap (λ es. level_after es l) (sym (looks_once l free))
 
 -- ---- the calls one after another
 
@@ -128,12 +135,14 @@ stops : (n : ℕ) (soft : Soft) (budget : ℕ) (l m : Level) → m ≡ level_aft
 stops n soft budget l m is free =
     let none : (level_after (look l) l).drainer_hand ≡ None = ap (λ (x : Level). x.drainer_hand) (sym is) ∙ free in
     let so : serve n soft (suc budget) l ≡ found_nothing n soft (look l) =
-    ap (λ h. option_map_or (λ (id : ℕ). calling n soft (look l) id (serve n soft budget (after Finish (level_after (look l) l)))) h (found_nothing n soft (look l))) none in
+    ap (λ h. option_map_or (λ (id : ℕ). calling n soft (look l) id (serve n soft budget (after Finish (level_after (look l) l))))
+    h (found_nothing n soft (look l))) none in
     record {
       stopped = ap (λ (x : Interrupt). x.idle) so;
       calls = λ q. ap (λ (x : Interrupt). calls_of q x.acts) so ∙ events_call_none n q soft (look l);
       many = ap (λ (x : Interrupt). calls_in x.acts) so ∙ events_call_nothing n soft (look l);
-      cpu = λ c. ap (λ (x : Interrupt). happen x.acts (with_level soft l c)) so ∙ events_cpu soft n (look l) l c ∙ ap (λ x. with_level soft x c) (sym is);
+      cpu = λ c. ap (λ (x : Interrupt). happen x.acts (with_level soft l c)) so ∙ events_cpu soft n (look l) l c
+          ∙ ap (λ x. with_level soft x c) (sym is);
     }
 
 times_first : (id j : ℕ) (xs : List ℕ) → times id (j ∷ xs) ≡ call_of id (Call j) + times id xs
@@ -148,7 +157,8 @@ goes_on n soft budget called id idle l m k e is held done rest =
     let looked = map (At n soft) (look l) in
     let more = serve n soft budget k in
     let so : serve n soft (suc budget) l ≡ calling n soft (look l) id more =
-    ap (λ h. option_map_or (λ (j : ℕ). calling n soft (look l) j (serve n soft budget (after Finish (level_after (look l) l)))) h (found_nothing n soft (look l))) hand
+    ap (λ h. option_map_or (λ (j : ℕ). calling n soft (look l) j (serve n soft budget (after Finish (level_after (look l) l)))) h
+    (found_nothing n soft (look l))) hand
     ∙ ap (λ x. calling n soft (look l) id (serve n soft budget x)) (sym at) in
     record {
       stopped = ap (λ (x : Interrupt). x.idle) so ∙ rest.stopped;
@@ -198,12 +208,15 @@ interrupts n soft (suc budget) (s ∷ ran) idle (Some x) d e held fits left (k, 
     let after_it = finish_hand s.id s.answer l (level_of k) in_hand is found in
     let none : l ≡ level_after (look l) l = ap (λ es. level_after es l) (sym (looks_empty l s.id in_hand)) in
     goes_on n soft budget (ids ran) s.id idle l l (level_of k) (level_of e) none in_hand is
-    (interrupts n soft budget ran idle (hand_after s.answer (Some s.id)) k e after_it (fits_less idle (length (s ∷ ran)) (length ran) budget (omega arith) fits) left rest)
+    (interrupts n soft budget ran idle (hand_after s.answer (Some s.id)) k e after_it
+    (fits_less idle (length (s ∷ ran)) (length ran) budget (omega arith) fits) left rest)
 interrupts n soft (suc budget) (s ∷ ran) idle None d e held fits left (j, drained, (k, (in_hand, (on, is), found), rest)) =
     let l = level_of d in
     let after_it = finish_hand s.id s.answer (level_of j) (level_of k) in_hand is found in
-    goes_on n soft budget (ids ran) s.id idle l (level_of j) (level_of k) (level_of e) (took l (level_of j) (Some s.id) held drained) in_hand is
-    (interrupts n soft budget ran idle (hand_after s.answer (Some s.id)) k e after_it (fits_less idle (length (s ∷ ran)) (length ran) budget (omega arith) fits) left rest)
+    goes_on n soft budget (ids ran) s.id idle l (level_of j) (level_of k) (level_of e)
+    (took l (level_of j) (Some s.id) held drained) in_hand is
+    (interrupts n soft budget ran idle (hand_after s.answer (Some s.id)) k e after_it
+    (fits_less idle (length (s ∷ ran)) (length ran) budget (omega arith) fits) left rest)
 
 -- ---- the whole soft interrupt
 
@@ -229,8 +242,24 @@ idle_hand false ran hand d e way is = absurd (let no : false ≡ true = is in cc
 
 shown_at : (soft : Soft) (online : Bool) (v w : CpuView Tables) → SoftKept soft v w
     → shown_cpu online w ≡ with_level soft (level_of (end_at soft w)) (shown_cpu online v)
-shown_at Low online v w kept = λ z. record { online = online; cyclics = map shown (kept.cyclics z); size = kept.kept.size z; removal = kept.kept.removal z; lock = ap level_of kept.beside z; low = level_of w.low }
-shown_at Lock online v w kept = λ z. record { online = online; cyclics = map shown (kept.cyclics z); size = kept.kept.size z; removal = kept.kept.removal z; lock = level_of w.lock; low = ap level_of kept.beside z }
+shown_at Low online v w kept = λ z. record {
+  online = online;
+  cyclics = map shown (kept.cyclics z);
+  size =
+      kept.kept.size z;
+  removal = kept.kept.removal z;
+  lock = ap level_of kept.beside z;
+  low = level_of w.low;
+}
+shown_at Lock online v w kept = λ z. record {
+  online = online;
+  cyclics = map shown (kept.cyclics z);
+  size =
+      kept.kept.size z;
+  removal = kept.kept.removal z;
+  lock = level_of w.lock;
+  low = ap level_of kept.beside z;
+}
 
 same_here : (soft : Soft) (online : Bool) (v : CpuView Tables)
     → with_level soft (level_of (end_at soft v)) (shown_cpu online v) ≡ shown_cpu online v
@@ -254,11 +283,14 @@ serves_here called count soft n budget calls idle online v w t u ran long serves
     let c = shown_cpu online v in
     let d = end_at soft v in
     let e = end_at soft w in
-    let empty : idle ≡ true → hand_left (held_at d) ran ≡ None = λ is. sym left ∙ idle_hand idle ran (held_at d) d e serves.way is in
-    let i = interrupts n soft budget ran idle (held_at d) d e refl (fits_budget idle calls (length ran) budget long most exactly) empty serves.way in
+    let empty : idle ≡ true → hand_left (held_at d) ran ≡ None = λ is. sym left
+    ∙ idle_hand idle ran (held_at d) d e serves.way is in
+    let i = interrupts n soft budget ran idle (held_at d) d e refl
+    (fits_budget idle calls (length ran) budget long most exactly) empty serves.way in
     let l = level_here soft online v in
     let same : interrupt_here n soft budget c ≡ serve n soft budget (level_of d) = ap (serve n soft budget) l in (
-      shown_at soft online v w kept ∙ sym (i.cpu c) ∙ ap (happen (serve n soft budget (level_of d)).acts) (same_here soft online v)
+      shown_at soft online v w kept ∙ sym (i.cpu c)
+          ∙ ap (happen (serve n soft budget (level_of d)).acts) (same_here soft online v)
           ∙ ap (λ (x : Interrupt). happen x.acts c) (sym same),
       λ q.
           let counted = serves.counted q in

@@ -17,10 +17,12 @@ use Rattle.cyc_cpu.specs.Cpu.{CpuView, Running, HasRisingIds, Asks}
 use Rattle.cyc_cpu.specs.Removal.{Waits}
 use Rattle.cyc_cpu.specs.Moving.{Inquires, WhyNotTaken}
 use Rattle.cyc_cpu.specs.Soft.{fires, firing_at as seen, Interrupts}
-use Rattle.cyc_cpu.specs.Calls.{CpuCall, Fire, SoftInterrupt, Add, Place, Reprogram, AskPending, AskTotals, AskRoom, Reserve, Widen, BeginRemove, PollRemove, TakeNow, AskSettled, Changes, Does}
+use Rattle.cyc_cpu.specs.Calls.{CpuCall, Fire, SoftInterrupt, Add, Place, Reprogram, AskPending, AskTotals, AskRoom, Reserve}
+use Rattle.cyc_cpu.specs.Calls.{Widen, BeginRemove, PollRemove, TakeNow, AskSettled, Changes, Does}
 use Rattle.cyc_model.specs.Acts.{at_own, calls_of}
 use Rattle.cyc_model.specs.Cpu.{Cyclic, Cpu, here, nothing_here, then_here, level_of as cyclic_level}
-use Rattle.cyc_model.specs.Moving.{bank_for, must_grow, switch_here, widen_here, place_here, enter_here, take_here, mark_here, clear_here}
+use Rattle.cyc_model.specs.Moving.{bank_for, must_grow, switch_here, widen_here, place_here, enter_here, take_here, mark_here}
+use Rattle.cyc_model.specs.Moving.{clear_here}
 use Rattle.cyc_model.specs.Firing.{fire_here}
 use Rattle.cyc_model.specs.Serving.{serve_here, level_at}
 use Rattle.cyc_model.specs.Add.{new_cyclic}
@@ -30,7 +32,8 @@ use Rattle.cyc_cpu_model.specs.Here.{IsStopped, IsHere}
 use Rattle.cyc_cpu_model.proofs.Levels.{only_looked, loaded, asked_level, waiting_level, own_calls}
 use Rattle.cyc_cpu_model.proofs.Coming.{shown_same, shown_looked, shown_reserved, placed, widened, added}
 use Rattle.cyc_cpu_model.proofs.Leaving.{reprogrammed, opened, cleared, ended, taken}
-use Rattle.cyc_cpu_model.proofs.Free.{none_admitted, fire_none, interrupt_none, widen_none, mark_none, clear_none, remove_none, take_none, place_free, add_free}
+use Rattle.cyc_cpu_model.proofs.Free.{none_admitted, fire_none, interrupt_none, widen_none, mark_none, clear_none, remove_none}
+use Rattle.cyc_cpu_model.proofs.Free.{take_none, place_free, add_free}
 use Rattle.cyc_cpu_model.proofs.Firing.{fires_here}
 use Rattle.cyc_cpu_model.proofs.Interrupting.{serves_here}
 
@@ -115,38 +118,55 @@ pub is_here : {C : Type 0} (called : C → ℕ → Level → C → Type 0) (coun
     → Does called count may_refuse fires seen (Interrupts called count may_refuse) s call t → IsHere count n online call s t
 is_here called count may_refuse n online (Fire now (Ok r)) s t rising rises goes (early, kept, expired, next, makes) =
     let f = fires_here (at_level called High) count n now r.lost online s.cpu t.cpu s.calls t.calls makes kept in
-    record { index = 0; cpu = f.0; free = λ soft. none_admitted (fire_here n now (shown_cpu online s.cpu)).acts n soft (level_at soft (shown_cpu online s.cpu)) (fire_none n now (shown_cpu online s.cpu)); called = f.1 }
+    record {
+      index = 0;
+      cpu = f.0;
+      free = λ soft. none_admitted (fire_here n now (shown_cpu online s.cpu)).acts n soft
+          (level_at soft (shown_cpu online s.cpu)) (fire_none n now (shown_cpu online s.cpu));
+      called = f.1;
+    }
 is_here called count may_refuse n online (Fire now (Err e)) s t rising rises goes does = absurd (goes tt)
 is_here called count may_refuse n online (SoftInterrupt level budget (Ok r)) s t rising rises goes (did, kept) =
     let (ran, long, serves, left) = did.served in
     let (most, exactly) = did.within in
-    let f = serves_here (at_level called (handler_level level)) count level n budget r.calls r.idle online s.cpu t.cpu s.calls t.calls ran long serves left most exactly kept in
-    record { index = 0; cpu = f.0; free = λ soft. none_admitted (serve_here n level budget (shown_cpu online s.cpu)).acts n soft (level_at soft (shown_cpu online s.cpu)) (interrupt_none n level budget (shown_cpu online s.cpu)); called = f.1 }
+    let f = serves_here (at_level called (handler_level level)) count level n budget r.calls r.idle online s.cpu t.cpu s.calls
+    t.calls ran long serves left most exactly kept in
+    record {
+      index = 0;
+      cpu = f.0;
+      free = λ soft. none_admitted (serve_here n level budget (shown_cpu online s.cpu)).acts n soft
+          (level_at soft (shown_cpu online s.cpu)) (interrupt_none n level budget (shown_cpu online s.cpu));
+      called = f.1;
+    }
 is_here called count may_refuse n online (SoftInterrupt level budget (Err e)) s t rising rises goes does = absurd (goes tt)
-is_here called count may_refuse n online (Add id level series now (Ok done)) s t rising rises goes ((absent, early, adds), calls) = record {
-  index = adds.enters.index;
-  cpu = added n id now online level series s.cpu t.cpu adds rises;
-  free = λ soft. add_free n id now online level series soft s.cpu t.cpu adds;
-  called = λ q. quiet count s.calls t.calls q _ calls (enter_calls q n adds.enters.index (new_cyclic id level series.start series.interval now) (shown_cpu online s.cpu));
-}
+is_here called count may_refuse n online (Add id level series now (Ok done)) s t rising rises goes
+    ((absent, early, adds), calls) = record {
+      index = adds.enters.index;
+      cpu = added n id now online level series s.cpu t.cpu adds rises;
+      free = λ soft. add_free n id now online level series soft s.cpu t.cpu adds;
+      called = λ q. quiet count s.calls t.calls q _ calls
+          (enter_calls q n adds.enters.index (new_cyclic id level series.start series.interval now) (shown_cpu online s.cpu));
+    }
 is_here called count may_refuse n online (Add id level series now (Err e)) s t rising rises goes (d, calls) = record {
   index = 0;
   cpu = not_added online id level series now e s.cpu t.cpu d;
   free = λ soft. tt;
   called = λ q. nothing count s.calls t.calls q calls;
 }
-is_here called count may_refuse n online (Place id level interval moment carried) s t rising rises goes ((may, places), calls) = record {
-  index = places.index;
-  cpu = placed n online _ s.cpu t.cpu places rises;
-  free = λ soft. place_free n online _ soft s.cpu t.cpu places;
-  called = λ q. quiet count s.calls t.calls q _ calls (own_calls level n q (Admit id places.index));
-}
-is_here called count may_refuse n online (Reprogram id moment (Ok done)) s t rising rises goes ((k, x, is, named, still, e), calls) = record {
-  index = 0;
-  cpu = reprogrammed n id moment k online x s.cpu t.cpu rising is named e;
-  free = λ soft. tt;
-  called = λ q. nothing count s.calls t.calls q calls;
-}
+is_here called count may_refuse n online (Place id level interval moment carried) s t rising rises goes ((may, places), calls) =
+    record {
+      index = places.index;
+      cpu = placed n online _ s.cpu t.cpu places rises;
+      free = λ soft. place_free n online _ soft s.cpu t.cpu places;
+      called = λ q. quiet count s.calls t.calls q _ calls (own_calls level n q (Admit id places.index));
+    }
+is_here called count may_refuse n online (Reprogram id moment (Ok done)) s t rising rises goes
+    ((k, x, is, named, still, e), calls) = record {
+      index = 0;
+      cpu = reprogrammed n id moment k online x s.cpu t.cpu rising is named e;
+      free = λ soft. tt;
+      called = λ q. nothing count s.calls t.calls q calls;
+    }
 is_here called count may_refuse n online (Reprogram id moment (Err e)) s t rising rises goes (d, calls) = record {
   index = 0;
   cpu = same online s.cpu t.cpu d.2;
@@ -204,21 +224,26 @@ is_here called count may_refuse n online (Reserve more (Err e)) s t rising rises
 is_here called count may_refuse n online (Widen more) s t rising rises goes (d, calls) = record {
   index = 0;
   cpu = widened n more online s.cpu t.cpu d.1;
-  free = λ soft. none_admitted (widen_here n more (shown_cpu online s.cpu)).acts n soft (level_at soft (shown_cpu online s.cpu)) (widen_none n more (shown_cpu online s.cpu));
+  free = λ soft. none_admitted (widen_here n more (shown_cpu online s.cpu)).acts n soft (level_at soft (shown_cpu online s.cpu))
+      (widen_none n more (shown_cpu online s.cpu));
   called = λ q. quiet count s.calls t.calls q _ calls (widen_calls q n more (shown_cpu online s.cpu));
 }
-is_here called count may_refuse n online (BeginRemove id (Ok (Done receipt))) s t rising rises goes ((still, (x, counts, receipt_is, polled, leaves)), calls) = record {
-  index = 0;
-  cpu = ended n id online counts x s.cpu t.cpu rising leaves;
-  free = λ soft. none_admitted (then_here (mark_here n id (shown_cpu online s.cpu)) (clear_here n id)).acts n soft (level_at soft (shown_cpu online s.cpu)) (remove_none n id (shown_cpu online s.cpu));
-  called = λ q. quiet count s.calls t.calls q _ calls (remove_calls q n id (shown_cpu online s.cpu));
-}
-is_here called count may_refuse n online (BeginRemove id (Ok (Kept kept))) s t rising rises goes ((still, opens), calls) = record {
-  index = 0;
-  cpu = opened n id kept online s.cpu t.cpu rising opens;
-  free = λ soft. none_admitted (mark_here n id (shown_cpu online s.cpu)).acts n soft (level_at soft (shown_cpu online s.cpu)) (mark_none n id (shown_cpu online s.cpu));
-  called = λ q. quiet count s.calls t.calls q _ calls (own_calls (cyclic_level id (shown_cpu online s.cpu)) n q (Mark id));
-}
+is_here called count may_refuse n online (BeginRemove id (Ok (Done receipt))) s t rising rises goes
+    ((still, (x, counts, receipt_is, polled, leaves)), calls) = record {
+      index = 0;
+      cpu = ended n id online counts x s.cpu t.cpu rising leaves;
+      free = λ soft. none_admitted (then_here (mark_here n id (shown_cpu online s.cpu)) (clear_here n id)).acts n soft
+          (level_at soft (shown_cpu online s.cpu)) (remove_none n id (shown_cpu online s.cpu));
+      called = λ q. quiet count s.calls t.calls q _ calls (remove_calls q n id (shown_cpu online s.cpu));
+    }
+is_here called count may_refuse n online (BeginRemove id (Ok (Kept kept))) s t rising rises goes ((still, opens), calls) =
+    record {
+      index = 0;
+      cpu = opened n id kept online s.cpu t.cpu rising opens;
+      free = λ soft. none_admitted (mark_here n id (shown_cpu online s.cpu)).acts n soft (level_at soft (shown_cpu online s.cpu))
+          (mark_none n id (shown_cpu online s.cpu));
+      called = λ q. quiet count s.calls t.calls q _ calls (own_calls (cyclic_level id (shown_cpu online s.cpu)) n q (Mark id));
+    }
 is_here called count may_refuse n online (BeginRemove id (Err e)) s t rising rises goes (d, calls) = record {
   index = 0;
   cpu = same online s.cpu t.cpu d.1;
@@ -228,8 +253,10 @@ is_here called count may_refuse n online (BeginRemove id (Err e)) s t rising ris
 is_here called count may_refuse n online (PollRemove (Some receipt)) s t rising rises goes (ends, calls) = record {
   index = 0;
   cpu = cleared n receipt.id online ends.counts ends.cyclic s.cpu t.cpu rising ends.leaves;
-  free = λ soft. none_admitted (clear_here n receipt.id (shown_cpu online s.cpu)).acts n soft (level_at soft (shown_cpu online s.cpu)) (clear_none n receipt.id (shown_cpu online s.cpu));
-  called = λ q. quiet count s.calls t.calls q _ calls (own_calls (cyclic_level receipt.id (shown_cpu online s.cpu)) n q (Clear receipt.id));
+  free = λ soft. none_admitted (clear_here n receipt.id (shown_cpu online s.cpu)).acts n soft
+      (level_at soft (shown_cpu online s.cpu)) (clear_none n receipt.id (shown_cpu online s.cpu));
+  called = λ q. quiet count s.calls t.calls q _ calls
+      (own_calls (cyclic_level receipt.id (shown_cpu online s.cpu)) n q (Clear receipt.id));
 }
 is_here called count may_refuse n online (PollRemove None) s t rising rises goes (inl none, calls) = record {
   index = 0;
@@ -243,12 +270,14 @@ is_here called count may_refuse n online (PollRemove None) s t rising rises goes
   free = λ soft. tt;
   called = λ q. nothing count s.calls t.calls q calls;
 }
-is_here called count may_refuse n online (TakeNow id (Ok got)) s t rising rises goes ((still, (x, counts, taken_is, polled, leaves)), calls) = record {
-  index = 0;
-  cpu = taken n id online counts x s.cpu t.cpu rising still leaves;
-  free = λ soft. none_admitted (take_here n id (shown_cpu online s.cpu)).acts n soft (level_at soft (shown_cpu online s.cpu)) (take_none n id (shown_cpu online s.cpu));
-  called = λ q. quiet count s.calls t.calls q _ calls (take_calls q n id (shown_cpu online s.cpu));
-}
+is_here called count may_refuse n online (TakeNow id (Ok got)) s t rising rises goes
+    ((still, (x, counts, taken_is, polled, leaves)), calls) = record {
+      index = 0;
+      cpu = taken n id online counts x s.cpu t.cpu rising still leaves;
+      free = λ soft. none_admitted (take_here n id (shown_cpu online s.cpu)).acts n soft (level_at soft (shown_cpu online s.cpu))
+          (take_none n id (shown_cpu online s.cpu));
+      called = λ q. quiet count s.calls t.calls q _ calls (take_calls q n id (shown_cpu online s.cpu));
+    }
 is_here called count may_refuse n online (TakeNow id (Err e)) s t rising rises goes (d, calls) = record {
   index = 0;
   cpu = not_taken online id e s.cpu t.cpu d;

@@ -1,5 +1,6 @@
 -- A cyclic gets another moment, and a cyclic leaves.
-use Rattle.std.proofs.Common.{◌≡◌, ℕ, List, [], ◌∷◌, map, find, Bool, true, false, not, cond, Option, Some, None, refl, ap, sym, ◌∙◌, subst}
+use Rattle.std.proofs.Common.{◌≡◌, ℕ, List, [], ◌∷◌, map, find, Bool, true, false, not, cond, Option, Some, None, refl, ap, sym}
+use Rattle.std.proofs.Common.{◌∙◌, subst}
 use Rattle.std.specs.Prelude.{slice_set}
 use Rattle.std.specs.Option.{option_map_or}
 use Rattle.cyc_types.specs.Series.{never}
@@ -36,10 +37,13 @@ level_in o = option_map_or (λ y. y.timer.level) o High
 
 same_level_at : (id moment : ℕ) (y : Cyclic) (ys : List Cyclic) (b : Bool) → is_of id y ≡ b
     → level_in (find (is_of id) (map (moment_at id moment) ys)) ≡ level_in (find (is_of id) ys)
-    → level_in (cond (is_of id (cond b (with_moment moment y) y)) (Some (cond b (with_moment moment y) y)) (find (is_of id) (map (moment_at id moment) ys)))
+    → level_in (cond (is_of id (cond b (with_moment moment y) y)) (Some (cond b (with_moment moment y) y))
+    (find (is_of id) (map (moment_at id moment) ys)))
     ≡ level_in (cond b (Some y) (find (is_of id) ys))
-same_level_at id moment y ys true is rest = ap (λ b. level_in (cond b (Some (with_moment moment y)) (find (is_of id) (map (moment_at id moment) ys)))) is
-same_level_at id moment y ys false is rest = ap (λ b. level_in (cond b (Some y) (find (is_of id) (map (moment_at id moment) ys)))) is ∙ rest
+same_level_at id moment y ys true is rest =
+    ap (λ b. level_in (cond b (Some (with_moment moment y)) (find (is_of id) (map (moment_at id moment) ys)))) is
+same_level_at id moment y ys false is rest =
+    ap (λ b. level_in (cond b (Some y) (find (is_of id) (map (moment_at id moment) ys)))) is ∙ rest
 
 -- another moment changes no level
 level_moved : (id moment : ℕ) (ys : List Cyclic)
@@ -48,7 +52,8 @@ level_moved id moment [] = refl
 level_moved id moment (y ∷ ys) = same_level_at id moment y ys (is_of id y) refl (level_moved id moment ys)
 
 others_at : (id moment : ℕ) (y : Cyclic) (rest rest' : List Cyclic) (b : Bool) → is_of id y ≡ b → rest ≡ rest'
-    → cond (not (is_of id (cond b (with_moment moment y) y))) (cond b (with_moment moment y) y ∷ rest) rest ≡ cond (not b) (y ∷ rest') rest'
+    → cond (not (is_of id (cond b (with_moment moment y) y))) (cond b (with_moment moment y) y ∷ rest) rest
+    ≡ cond (not b) (y ∷ rest') rest'
 others_at id moment y rest rest' true is same = ap (λ b. cond (not b) (with_moment moment y ∷ rest) rest) is ∙ same
 others_at id moment y rest rest' false is same = ap (λ b. cond (not b) (y ∷ rest) rest) is ∙ ap (λ ys. y ∷ ys) same
 

@@ -1,5 +1,6 @@
 -- The cyclics of a CPU as the definition has them: one put in, one left out, one changed.
-use Rattle.std.proofs.Common.{◌≡◌, ◌≢◌, ℕ, zero, suc, ◌<◌, ◌≤◌, List, [], ◌∷◌, length, map, find, get_or, true, false, not, cond, eq-eqb, ne_eqb, Some, refl, ap, sym, ◌∙◌, subst, arith}
+use Rattle.std.proofs.Common.{◌≡◌, ◌≢◌, ℕ, zero, suc, ◌<◌, ◌≤◌, List, [], ◌∷◌, length, map, find, get_or, true, false, not, cond}
+use Rattle.std.proofs.Common.{eq-eqb, ne_eqb, Some, refl, ap, sym, ◌∙◌, subst, arith}
 use Rattle.std.specs.Prelude.{insert, remove, slice_set, nat_lt}
 use Rattle.std.proofs.lemmas.Bool.Decides.{nat_tests}
 use Rattle.cyc_timers.specs.Rows.{Cyclic as Timed}
@@ -80,11 +81,13 @@ pub find_shown : (cs : List Timed) (k : ℕ) (x : Timed) → HasRisingIds cs →
 find_shown [] k x rising is = absurd (let low = is.0 in omega (arith, low))
 find_shown (c ∷ cs) zero x rising is =
     let same = first_is c x cs is in
-    ap (λ b. cond b (Some (shown c)) (find (is_of x.timer.id) (map shown cs))) (named x.timer.id c (ap (λ (y : Timed). y.timer.id) same))
+    ap (λ b. cond b (Some (shown c)) (find (is_of x.timer.id) (map shown cs)))
+    (named x.timer.id c (ap (λ (y : Timed). y.timer.id) same))
     ∙ ap (λ y. Some (shown y)) same
 find_shown (c ∷ cs) (suc k) x rising is =
     let less = above_first c x cs k rising (rest_is c x cs k is) in
-    ap (λ b. cond b (Some (shown c)) (find (is_of x.timer.id) (map shown cs))) (not_named x.timer.id c (λ e. absurd (omega (arith, less, e))))
+    ap (λ b. cond b (Some (shown c)) (find (is_of x.timer.id) (map shown cs)))
+    (not_named x.timer.id c (λ e. absurd (omega (arith, less, e))))
     ∙ find_shown cs k x (rising_rest c cs rising) (rest_is c x cs k is)
 
 -- ---- one less
@@ -94,7 +97,8 @@ all_others : (id : ℕ) (cs : List Timed) → ((k : ℕ) (d : Timed) → k < len
     → others id (map shown cs) ≡ map shown cs
 all_others id [] none = refl
 all_others id (c ∷ cs) none =
-    ap (λ b. cond (not b) (shown c ∷ others id (map shown cs)) (others id (map shown cs))) (not_named id c (none 0 c (omega arith)))
+    ap (λ b. cond (not b) (shown c ∷ others id (map shown cs)) (others id (map shown cs)))
+    (not_named id c (none 0 c (omega arith)))
     ∙ ap (λ ys. shown c ∷ ys) (all_others id cs (λ k d low. none (suc k) d (omega (arith, low))))
 
 pub left_shown : (cs : List Timed) (k : ℕ) (x : Timed) → HasRisingIds cs → IsCyclic cs k x
@@ -102,12 +106,15 @@ pub left_shown : (cs : List Timed) (k : ℕ) (x : Timed) → HasRisingIds cs →
 left_shown [] k x rising is = absurd (let low = is.0 in omega (arith, low))
 left_shown (c ∷ cs) zero x rising is =
     let same = ap (λ (y : Timed). y.timer.id) (first_is c x cs is) in
-    sym (ap (λ b. cond (not b) (shown c ∷ others x.timer.id (map shown cs)) (others x.timer.id (map shown cs))) (named x.timer.id c same)
-    ∙ all_others x.timer.id cs (λ k d low. let less = first_below c cs rising k d low in λ e. absurd (omega (arith, less, same, e))))
+    sym (ap (λ b. cond (not b) (shown c ∷ others x.timer.id (map shown cs)) (others x.timer.id (map shown cs)))
+    (named x.timer.id c same)
+    ∙ all_others x.timer.id cs (λ k d low. let less = first_below c cs rising k d low in
+    λ e. absurd (omega (arith, less, same, e))))
 left_shown (c ∷ cs) (suc k) x rising is =
     let less = above_first c x cs k rising (rest_is c x cs k is) in
     ap (λ ys. shown c ∷ ys) (left_shown cs k x (rising_rest c cs rising) (rest_is c x cs k is))
-    ∙ sym (ap (λ b. cond (not b) (shown c ∷ others x.timer.id (map shown cs)) (others x.timer.id (map shown cs))) (not_named x.timer.id c (λ e. absurd (omega (arith, less, e)))))
+    ∙ sym (ap (λ b. cond (not b) (shown c ∷ others x.timer.id (map shown cs)) (others x.timer.id (map shown cs)))
+    (not_named x.timer.id c (λ e. absurd (omega (arith, less, e)))))
 
 -- ---- one with another moment
 
@@ -115,7 +122,8 @@ all_kept : (id moment : ℕ) (cs : List Timed) → ((k : ℕ) (d : Timed) → k 
     → map (moment_at id moment) (map shown cs) ≡ map shown cs
 all_kept id moment [] none = refl
 all_kept id moment (c ∷ cs) none =
-    ap (λ b. cond b (shown (with_moment moment c)) (shown c) ∷ map (moment_at id moment) (map shown cs)) (not_named id c (none 0 c (omega arith)))
+    ap (λ b. cond b (shown (with_moment moment c)) (shown c) ∷ map (moment_at id moment) (map shown cs))
+    (not_named id c (none 0 c (omega arith)))
     ∙ ap (λ ys. shown c ∷ ys) (all_kept id moment cs (λ k d low. none (suc k) d (omega (arith, low))))
 
 pub moved_shown : (cs : List Timed) (k moment : ℕ) (x : Timed) → HasRisingIds cs → IsCyclic cs k x
@@ -124,10 +132,14 @@ moved_shown [] k moment x rising is = absurd (let low = is.0 in omega (arith, lo
 moved_shown (c ∷ cs) zero moment x rising is =
     let same = first_is c x cs is in
     let id = ap (λ (y : Timed). y.timer.id) same in
-    sym (ap (λ b. cond b (shown (with_moment moment c)) (shown c) ∷ map (moment_at x.timer.id moment) (map shown cs)) (named x.timer.id c id)
+    sym (ap (λ b. cond b (shown (with_moment moment c)) (shown c) ∷ map (moment_at x.timer.id moment) (map shown cs))
+    (named x.timer.id c id)
     ∙ ap (λ y. shown (with_moment moment y) ∷ map (moment_at x.timer.id moment) (map shown cs)) same
-    ∙ ap (λ ys. shown (with_moment moment x) ∷ ys) (all_kept x.timer.id moment cs (λ k d low. let less = first_below c cs rising k d low in λ e. absurd (omega (arith, less, id, e)))))
+    ∙ ap (λ ys. shown (with_moment moment x) ∷ ys)
+    (all_kept x.timer.id moment cs (λ k d low. let less = first_below c cs rising k d low in
+    λ e. absurd (omega (arith, less, id, e)))))
 moved_shown (c ∷ cs) (suc k) moment x rising is =
     let less = above_first c x cs k rising (rest_is c x cs k is) in
     ap (λ ys. shown c ∷ ys) (moved_shown cs k moment x (rising_rest c cs rising) (rest_is c x cs k is))
-    ∙ sym (ap (λ b. cond b (shown (with_moment moment c)) (shown c) ∷ map (moment_at x.timer.id moment) (map shown cs)) (not_named x.timer.id c (λ e. absurd (omega (arith, less, e)))))
+    ∙ sym (ap (λ b. cond b (shown (with_moment moment c)) (shown c) ∷ map (moment_at x.timer.id moment) (map shown cs))
+    (not_named x.timer.id c (λ e. absurd (omega (arith, less, e)))))

@@ -1,5 +1,6 @@
 -- What a raise of a level that no other thread uses does to it, and what a list of raises does.
-use Rattle.std.proofs.Common.{◌≡◌, ℕ, zero, suc, ◌+◌, ◌<◌, List, [], ◌∷◌, ◌++◌, Bool, true, false, cond, ◌==◌, eq-eqb, ne_eqb, Option, None, IsSome, refl, ap, sym, ◌∙◌, subst, arith}
+use Rattle.std.proofs.Common.{◌≡◌, ℕ, zero, suc, ◌+◌, ◌<◌, List, [], ◌∷◌, ◌++◌, Bool, true, false, cond, ◌==◌, eq-eqb, ne_eqb}
+use Rattle.std.proofs.Common.{Option, None, IsSome, refl, ap, sym, ◌∙◌, subst, arith}
 use Rattle.std.specs.List.{FoldsTo}
 use Rattle.std.proofs.lemmas.Bool.Decides.{nat_tests}
 use Rattle.cyc_types.specs.Counting.{one_at}
@@ -77,12 +78,14 @@ fires_found id Lost l m ((j, (on, is), last), free) =
 fires_found id First l m ((j, (on, is), (k, (published, isk), last)), free) =
     let (c, isc, (below, room)) = some_and _ (l.cyclics id) on.2 in
     let few : count l id < l.ceiling = subst (λ (n : ℕ). n < l.ceiling) (sym (ap count_in isc)) below in
-    let some : IsSome (hand_after_expire (count l id) id l.firer_hand) = subst (λ (x : Level). IsSome x.firer_hand) is published in
+    let some : IsSome (hand_after_expire (count l id) id l.firer_hand) = subst (λ (x : Level). IsSome x.firer_hand) is published
+    in
     first_found (count l id) id l.firer_hand on.0 some ∙ sym (below_found (count l id) l.ceiling few)
 fires_found id More l m ((j, (on, is), last), free) =
     let (c, isc, (below, room)) = some_and _ (l.cyclics id) on.2 in
     let few : count l id < l.ceiling = subst (λ (n : ℕ). n < l.ceiling) (sym (ap count_in isc)) below in
-    more_found (count l id) id l.firer_hand (ap (λ (x : Level). x.firer_hand) (sym is) ∙ (ap (λ (x : Level). x.firer_hand) last ∙ free)) ∙ sym (below_found (count l id) l.ceiling few)
+    more_found (count l id) id l.firer_hand (ap (λ (x : Level). x.firer_hand) (sym is)
+    ∙ (ap (λ (x : Level). x.firer_hand) last ∙ free)) ∙ sym (below_found (count l id) l.ceiling few)
 
 events_as : (full none : Bool) (id : ℕ) → raise_events id (cond full Lost (cond none First More))
     ≡ cond full (Lose id ∷ []) (cond none (Expire id ∷ Publish ∷ []) (Expire id ∷ []))
@@ -144,11 +147,13 @@ expired (id ∷ ids) (Raises j a ∷ way) d e (x, (step, learns), rest) (same, m
     let one : lost_all (raised id l) ≡ loss_in (Raises j a) = ap lost_all (sym events) ∙ all_as a id ∙ renamed_loss id j a in
     record {
       level = on.level ∙ sym (level_append (raised id l) (expiries ids m) l);
-      lost = (let both = lost_all_append (raised id l) (expiries ids m) in let more_lost = on.lost in omega (arith, both, one, more_lost));
+      lost = (let both = lost_all_append (raised id l) (expiries ids m) in let more_lost = on.lost in
+          omega (arith, both, one, more_lost));
       each = λ q.
           let both = lost_of_append q (raised id l) (expiries ids m) in
           let more_lost = on.each q in
-          let first : lost_of q (raised id l) ≡ lost_in q (Raises j a) = ap (lost_of q) (sym events) ∙ each_as a id q ∙ ap (λ k. lost_in q (Raises k a)) (sym same) in
+          let first : lost_of q (raised id l) ≡ lost_in q (Raises j a) = ap (lost_of q) (sym events) ∙ each_as a id q
+          ∙ ap (λ k. lost_in q (Raises k a)) (sym same) in
           omega (arith, both, first, more_lost);
     }
 expired (id ∷ ids) (Admits j index ∷ way) d e goes are = absurd are.0

@@ -13,7 +13,8 @@ ids cs = map (λ c. c.timer.id) cs
 -- the same ids rise as well
 same_ids : (cs ds : List Cyclic) → ids ds ≡ ids cs → HasRisingIds cs → HasRisingIds ds
 same_ids cs ds same rising i j d less low =
-    let long : length ds ≡ length cs = sym (length-map ds (λ (c : Cyclic). c.timer.id)) ∙ ap length same ∙ length-map cs (λ (c : Cyclic). c.timer.id) in
+    let long : length ds ≡ length cs = sym (length-map ds (λ (c : Cyclic). c.timer.id)) ∙ ap length same
+    ∙ length-map cs (λ (c : Cyclic). c.timer.id) in
     let below : j < length cs = omega (arith, low, long) in
     let r = rising i j d less below in
     let a = at i (omega (arith, less, low)) (omega (arith, less, below)) in
@@ -21,7 +22,8 @@ same_ids cs ds same rising i j d less low =
     omega (arith, r, a, b)
   where
     at : (k : ℕ) → k < length ds → k < length cs → (get_or ds k d).timer.id ≡ (get_or cs k d).timer.id
-    at k low_d low_c = sym (get_or-map (λ (c : Cyclic). c.timer.id) ds k d d.timer.id low_d) ∙ ap (λ xs. get_or xs k d.timer.id) same
+    at k low_d low_c = sym (get_or-map (λ (c : Cyclic). c.timer.id) ds k d d.timer.id low_d)
+        ∙ ap (λ xs. get_or xs k d.timer.id) same
         ∙ get_or-map (λ (c : Cyclic). c.timer.id) cs k d d.timer.id low_c
 
 timer_ids : (cs : List Cyclic) → map (λ (t : Timer). t.id) (timers cs) ≡ ids cs
@@ -43,7 +45,8 @@ moved_ids : (cs : List Cyclic) (k moment : ℕ) (c : Cyclic) → IsCyclic cs k c
     → ids (slice_set cs k (with_moment moment c)) ≡ ids cs
 moved_ids [] k moment c is = refl
 moved_ids (x ∷ cs) zero moment c is = ap (λ (y : Cyclic). y.timer.id ∷ ids cs) (sym is.1)
-moved_ids (x ∷ cs) (suc k) moment c is = ap (λ xs. x.timer.id ∷ xs) (moved_ids cs k moment c (let low = is.0 in omega (arith, low), is.1))
+moved_ids (x ∷ cs) (suc k) moment c is =
+    ap (λ xs. x.timer.id ∷ xs) (moved_ids cs k moment c (let low = is.0 in omega (arith, low), is.1))
 
 pub rises_moved : (cs : List Cyclic) (k moment : ℕ) (c : Cyclic) → IsCyclic cs k c → HasRisingIds cs
     → HasRisingIds (slice_set cs k (with_moment moment c))
@@ -59,7 +62,8 @@ above_less m [] zero above j d low = above j d low
 above_less m [] (suc k) above j d low = above j d low
 above_less m (c ∷ cs) zero above j d low = above (suc j) d (omega (arith, low))
 above_less m (c ∷ cs) (suc k) above zero d low = above 0 d (omega arith)
-above_less m (c ∷ cs) (suc k) above (suc j) d low = above_less m cs k (λ i e less. above (suc i) e (omega (arith, less))) j d (omega (arith, low))
+above_less m (c ∷ cs) (suc k) above (suc j) d low =
+    above_less m cs k (λ i e less. above (suc i) e (omega (arith, less))) j d (omega (arith, low))
 
 first_above : (c : Cyclic) (cs : List Cyclic) → HasRisingIds (c ∷ cs) → AllAbove c.timer.id cs
 first_above c cs rising j d low = rising 0 (suc j) d (omega arith) (omega (arith, low))
@@ -76,4 +80,5 @@ pub rises_left : (cs : List Cyclic) (k : ℕ) → HasRisingIds cs → HasRisingI
 rises_left [] zero rising = rising
 rises_left [] (suc k) rising = rising
 rises_left (c ∷ cs) zero rising = rest_rising c cs rising
-rises_left (c ∷ cs) (suc k) rising = put_first c (remove cs k) (above_less c.timer.id cs k (first_above c cs rising)) (rises_left cs k (rest_rising c cs rising))
+rises_left (c ∷ cs) (suc k) rising = put_first c (remove cs k) (above_less c.timer.id cs k (first_above c cs rising))
+    (rises_left cs k (rest_rising c cs rising))

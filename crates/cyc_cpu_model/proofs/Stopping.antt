@@ -1,5 +1,6 @@
 -- A fire and a soft interrupt that were stopped keep what is tied.
-use Rattle.std.proofs.Common.{◌≡◌, ℕ, Bool, true, false, List, [], ◌∷◌, ◌++◌, map, Option, Some, None, IsSome, inl, inr, refl, ap, sym, ◌∙◌, subst}
+use Rattle.std.proofs.Common.{◌≡◌, ℕ, Bool, true, false, List, [], ◌∷◌, ◌++◌, map, Option, Some, None, IsSome, inl, inr, refl, ap}
+use Rattle.std.proofs.Common.{sym, ◌∙◌, subst}
 use Rattle.std.specs.Prelude.{⊤, ◌==◌, Ok, Err}
 use Rattle.std.specs.List.{FoldsTo}
 use Rattle.cyc_types.specs.Draining.{DrainCall, Takes, Finishes, hand_after}
@@ -41,14 +42,16 @@ first_here (p ∷ made) rest cs all = (all.0, first_here made rest cs all.1)
 
 module _ {C : Type 0} (called : C → ℕ → CyclicLevel → C → Type 0) (count : C → ℕ → ℕ) (may_refuse : C → ℕ → Type 0) where
   fire_stopped : (now : ℕ) (e : FireRefused) (s t : Running C Tables)
-      → Does called count may_refuse fires seen (Interrupts called count may_refuse) s (Fire now (Err e)) t → IsTied s.cpu → IsTied t.cpu
+      → Does called count may_refuse fires seen (Interrupts called count may_refuse) s (Fire now (Err e)) t → IsTied s.cpu
+      → IsTied t.cpu
   fire_stopped now e s t (inl (late, why, same)) h = subst (λ (x : Running C Tables). IsTied x.cpu) (sym same) h
   fire_stopped now e s t (inr (early, kept_cpu, stopped)) h = record {
     rising = rises_fired now stopped.made s.cpu.cyclics t.cpu.cyclics stopped.makes.timers_are h.rising;
     own = λ online.
         let here = first_here stopped.made (stopped.last ∷ stopped.rest) (map shown s.cpu.cyclics)
         (subst (λ ps. AllHere ps (map shown s.cpu.cyclics)) stopped.listed (due_are_here now s.cpu.cyclics)) in
-        let is = fires_these (at_level called High) count 0 now e.lost online stopped.made s.cpu t.cpu s.calls stopped.at here stopped.makes kept_cpu in
+        let is = fires_these (at_level called High) count 0 now e.lost online stopped.made s.cpu t.cpu s.calls stopped.at here
+        stopped.makes kept_cpu in
         subst HasOwn (sym is.0) (these_ties 0 now stopped.made (shown_cpu online s.cpu) (h.own online));
   }
 
@@ -75,7 +78,8 @@ happen_has (e ∷ es) l m q none (k, (enabled, after_it), rest) is =
 
 drain_has : (call : DrainCall) (l m : Level) (q : ℕ) → Drains l call m → Has q m → Has q l
 drain_has (Takes answer) l m q (happened, found) is =
-    happen_has (take_events l.old_list l.new_list (l.hard_bank == l.soft_bank)) l m q (take_none l.old_list l.new_list (l.hard_bank == l.soft_bank)) happened is
+    happen_has (take_events l.old_list l.new_list (l.hard_bank == l.soft_bank)) l m q
+    (take_none l.old_list l.new_list (l.hard_bank == l.soft_bank)) happened is
 drain_has (Finishes id answer) l m q (held, (enabled, after_it), found) is = event_has Finish l q tt (subst (Has q) after_it is)
 
 -- the soft side puts nothing in
@@ -93,14 +97,16 @@ fewer Lock Lock online v w q kept_it less is = less is
 
 module _ {C : Type 0} (called : C → ℕ → CyclicLevel → C → Type 0) (count : C → ℕ → ℕ) (may_refuse : C → ℕ → Type 0) where
   soft_stopped : (level : Soft) (budget : ℕ) (e : SoftRefused) (s t : Running C Tables)
-      → Does called count may_refuse fires seen (Interrupts called count may_refuse) s (SoftInterrupt level budget (Err e)) t → IsTied s.cpu → IsTied t.cpu
+      → Does called count may_refuse fires seen (Interrupts called count may_refuse) s (SoftInterrupt level budget (Err e)) t
+      → IsTied s.cpu → IsTied t.cpu
   soft_stopped level budget e s t (did, kept_it) h =
       let (ran, at, long, less, serves, may, counted, held) = did.refused in
       record {
         rising = subst HasRisingIds (sym kept_it.cyclics) h.rising;
         own = λ online. kept (shown_cpu online s.cpu) (shown_cpu online t.cpu)
             (same_cyclics (shown_cpu online s.cpu) (shown_cpu online t.cpu) (ap (map shown) kept_it.cyclics))
-            (λ soft q is. fewer level soft online s.cpu t.cpu q kept_it (way_has _ (end_at level s.cpu) (end_at level t.cpu) q serves.way) is)
+            (λ soft q is. fewer level soft online s.cpu t.cpu q kept_it
+            (way_has _ (end_at level s.cpu) (end_at level t.cpu) q serves.way) is)
             (λ id is. sym kept_it.kept.removal ∙ is) (h.own online);
       }
 

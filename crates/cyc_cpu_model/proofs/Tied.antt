@@ -1,5 +1,6 @@
 -- Every call keeps what is tied.
-use Rattle.std.proofs.Common.{◌≡◌, ◌≢◌, ℕ, suc, List, [], ◌∷◌, cond, map, find, Bool, true, false, Option, Some, None, IsSome, inl, inr, refl, ap, sym, ◌∙◌, subst, arith}
+use Rattle.std.proofs.Common.{◌≡◌, ◌≢◌, ℕ, suc, List, [], ◌∷◌, cond, map, find, Bool, true, false, Option, Some, None, IsSome}
+use Rattle.std.proofs.Common.{inl, inr, refl, ap, sym, ◌∙◌, subst, arith}
 use Rattle.std.specs.Prelude.{Ok, Err, slice_set}
 use Rattle.cyc_types.specs.Series.{never}
 use Rattle.cyc_types.specs.declared.level.Level.{Level}
@@ -23,7 +24,8 @@ use Rattle.cyc_cpu.specs.declared.removing.Removal.TheVariants.{Done, Kept}
 use Rattle.cyc_cpu.specs.Cpu.{CpuView, Running, HasNoCyclic, HasRisingIds, AreAdmitted, with_moment}
 use Rattle.cyc_cpu.specs.Law.{IsLawful}
 use Rattle.cyc_cpu.specs.Soft.{fires, firing_at as seen, Interrupts}
-use Rattle.cyc_cpu.specs.Calls.{CpuCall, Fire, SoftInterrupt, Add, Place, Reprogram, AskPending, AskTotals, AskRoom, Reserve, Widen, BeginRemove, PollRemove, TakeNow, AskSettled, Changes, Does}
+use Rattle.cyc_cpu.specs.Calls.{CpuCall, Fire, SoftInterrupt, Add, Place, Reprogram, AskPending, AskTotals, AskRoom, Reserve}
+use Rattle.cyc_cpu.specs.Calls.{Widen, BeginRemove, PollRemove, TakeNow, AskSettled, Changes, Does}
 use Rattle.cyc_model.specs.Cpu.{is_of, level_of as cyclic_level}
 use Rattle.cyc_model.specs.Moving.{widen_here, mark_here}
 use Rattle.cyc_model.specs.Add.{new_cyclic}
@@ -32,7 +34,8 @@ use Rattle.cyc_cpu_model.specs.Here.{here_of, IsStopped}
 use Rattle.cyc_cpu_model.specs.Tied.{HasOwn, IsTied}
 use Rattle.cyc_cpu_model.proofs.Lists.{not_named}
 use Rattle.cyc_cpu_model.proofs.Leaving.{level_found}
-use Rattle.cyc_cpu_model.proofs.Tying.{widen_keep, fire_ties, serve_ties, widen_ties, reprogram_ties, place_ties, mark_known, mark_ties, clear_ties, take_ties}
+use Rattle.cyc_cpu_model.proofs.Tying.{widen_keep, fire_ties, serve_ties, widen_ties, reprogram_ties, place_ties, mark_known}
+use Rattle.cyc_cpu_model.proofs.Tying.{mark_ties, clear_ties, take_ties}
 use Rattle.cyc_cpu_model.proofs.Law.{is_here}
 use Rattle.cyc_cpu_model.proofs.Rising.{rises_fired, rises_moved, rises_left}
 
@@ -63,24 +66,30 @@ pub rises : {C : Type 0} (called : C → ℕ → Level → C → Type 0) (count 
 rises called count may_refuse (Fire now (Ok r)) s t goes (early, kept, expired, next, makes) rising =
     rises_fired now (expirations now (timed s.cpu.cyclics)) s.cpu.cyclics t.cpu.cyclics makes.timers_are rising
 rises called count may_refuse (Fire now (Err e)) s t goes does rising = absurd (goes tt)
-rises called count may_refuse (SoftInterrupt level budget (Ok r)) s t goes (did, kept) rising = same_cyclics s.cpu t.cpu kept.cyclics rising
+rises called count may_refuse (SoftInterrupt level budget (Ok r)) s t goes (did, kept) rising =
+    same_cyclics s.cpu t.cpu kept.cyclics rising
 rises called count may_refuse (SoftInterrupt level budget (Err e)) s t goes does rising = absurd (goes tt)
-rises called count may_refuse (Add id level series now (Ok done)) s t goes ((absent, early, adds), calls) rising = adds.enters.rising
-rises called count may_refuse (Add id level series now (Err e)) s t goes (d, calls) rising = not_added id level series now e s.cpu t.cpu d rising
+rises called count may_refuse (Add id level series now (Ok done)) s t goes ((absent, early, adds), calls) rising =
+    adds.enters.rising
+rises called count may_refuse (Add id level series now (Err e)) s t goes (d, calls) rising =
+    not_added id level series now e s.cpu t.cpu d rising
 rises called count may_refuse (Place id level interval moment carried) s t goes ((may, places), calls) rising = places.rising
 rises called count may_refuse (Reprogram id moment (Ok done)) s t goes ((k, x, is, named, still, e), calls) rising =
-    same_cyclics (record s.cpu { cyclics = slice_set s.cpu.cyclics k (with_moment moment x) }) t.cpu (ap (λ (v : CpuView Tables). v.cyclics) e) (rises_moved s.cpu.cyclics k moment x is rising)
+    same_cyclics (record s.cpu { cyclics = slice_set s.cpu.cyclics k (with_moment moment x) }) t.cpu
+    (ap (λ (v : CpuView Tables). v.cyclics) e) (rises_moved s.cpu.cyclics k moment x is rising)
 rises called count may_refuse (Reprogram id moment (Err e)) s t goes (d, calls) rising = same_cpu s.cpu t.cpu d.2 rising
 rises called count may_refuse (AskPending id (Some m)) s t goes (d, calls) rising = same_cyclics s.cpu t.cpu d.0.cyclics rising
 rises called count may_refuse (AskPending id None) s t goes (d, calls) rising = same_cpu s.cpu t.cpu d.1 rising
-rises called count may_refuse (AskTotals id (Some totals)) s t goes (d, calls) rising = same_cyclics s.cpu t.cpu d.0.cyclics rising
+rises called count may_refuse (AskTotals id (Some totals)) s t goes (d, calls) rising =
+    same_cyclics s.cpu t.cpu d.0.cyclics rising
 rises called count may_refuse (AskTotals id None) s t goes (d, calls) rising = same_cpu s.cpu t.cpu d.1 rising
 rises called count may_refuse (AskRoom more (Ok done)) s t goes (d, calls) rising = same_cyclics s.cpu t.cpu d.0.cyclics rising
 rises called count may_refuse (AskRoom more (Err e)) s t goes (d, calls) rising = same_cyclics s.cpu t.cpu d.0.cyclics rising
 rises called count may_refuse (Reserve more (Ok done)) s t goes (d, calls) rising = same_cyclics s.cpu t.cpu d.0.cyclics rising
 rises called count may_refuse (Reserve more (Err e)) s t goes (d, calls) rising = same_cyclics s.cpu t.cpu d.0.cyclics rising
 rises called count may_refuse (Widen more) s t goes (d, calls) rising = same_cyclics s.cpu t.cpu d.1.cyclics rising
-rises called count may_refuse (BeginRemove id (Ok (Done receipt))) s t goes ((still, (x, counts, is, polled, leaves)), calls) rising =
+rises called count may_refuse (BeginRemove id (Ok (Done receipt))) s t goes
+    ((still, (x, counts, is, polled, leaves)), calls) rising =
     subst HasRisingIds (sym leaves.cyclics) (rises_left s.cpu.cyclics leaves.place rising)
 rises called count may_refuse (BeginRemove id (Ok (Kept kept))) s t goes ((still, opens), calls) rising =
     subst HasRisingIds (sym opens.cyclics) (rises_moved s.cpu.cyclics opens.place never opens.cyclic opens.here rising)
@@ -88,7 +97,8 @@ rises called count may_refuse (BeginRemove id (Err e)) s t goes (d, calls) risin
 rises called count may_refuse (PollRemove (Some receipt)) s t goes (ends, calls) rising =
     subst HasRisingIds (sym ends.leaves.cyclics) (rises_left s.cpu.cyclics ends.leaves.place rising)
 rises called count may_refuse (PollRemove None) s t goes (inl none, calls) rising = same_cpu s.cpu t.cpu none.1 rising
-rises called count may_refuse (PollRemove None) s t goes (inr (id, is_open, waits), calls) rising = same_cyclics s.cpu t.cpu waits.cyclics rising
+rises called count may_refuse (PollRemove None) s t goes (inr (id, is_open, waits), calls) rising =
+    same_cyclics s.cpu t.cpu waits.cyclics rising
 rises called count may_refuse (TakeNow id (Ok got)) s t goes ((still, (x, counts, is, polled, leaves)), calls) rising =
     subst HasRisingIds (sym leaves.cyclics) (rises_left s.cpu.cyclics leaves.place rising)
 rises called count may_refuse (TakeNow id (Err e)) s t goes (d, calls) rising = not_taken id e s.cpu t.cpu d rising
@@ -110,7 +120,8 @@ pub owns : {C : Type 0} (called : C → ℕ → Level → C → Type 0) (count :
     → HasOwn (shown_cpu online s.cpu) → HasOwn (here_of n index call (shown_cpu online s.cpu)).cpu
 owns called count may_refuse n index online (Fire now (Ok r)) s t rising goes does h = fire_ties n now (shown_cpu online s.cpu) h
 owns called count may_refuse n index online (Fire now (Err e)) s t rising goes does h = absurd (goes tt)
-owns called count may_refuse n index online (SoftInterrupt level budget (Ok r)) s t rising goes does h = serve_ties n level budget (shown_cpu online s.cpu) h
+owns called count may_refuse n index online (SoftInterrupt level budget (Ok r)) s t rising goes does h =
+    serve_ties n level budget (shown_cpu online s.cpu) h
 owns called count may_refuse n index online (SoftInterrupt level budget (Err e)) s t rising goes does h = absurd (goes tt)
 owns called count may_refuse n index online (Add id level series now (Ok done)) s t rising goes ((absent, early, adds), calls) h =
     let c = shown_cpu online s.cpu in
@@ -119,7 +130,8 @@ owns called count may_refuse n index online (Add id level series now (Ok done)) 
 owns called count may_refuse n index online (Add id level series now (Err e)) s t rising goes d h = h
 owns called count may_refuse n index online (Place id level interval moment carried) s t rising goes ((may, places), calls) h =
     place_ties n index _ (shown_cpu online s.cpu) (none_found id s.cpu.cyclics may.absent) h
-owns called count may_refuse n index online (Reprogram id moment (Ok done)) s t rising goes d h = reprogram_ties id moment (shown_cpu online s.cpu) h
+owns called count may_refuse n index online (Reprogram id moment (Ok done)) s t rising goes d h =
+    reprogram_ties id moment (shown_cpu online s.cpu) h
 owns called count may_refuse n index online (Reprogram id moment (Err e)) s t rising goes d h = h
 owns called count may_refuse n index online (AskPending id (Some m)) s t rising goes d h = h
 owns called count may_refuse n index online (AskPending id None) s t rising goes d h = h
@@ -136,9 +148,11 @@ owns called count may_refuse n index online (BeginRemove id (Ok (Kept kept))) s 
     mark_ties n id (shown_cpu online s.cpu)
     (λ high. opens.soft (sym (level_found online opens.place id opens.cyclic s.cpu rising opens.here opens.named) ∙ high)) h.known
 owns called count may_refuse n index online (BeginRemove id (Err e)) s t rising goes d h = h
-owns called count may_refuse n index online (PollRemove (Some receipt)) s t rising goes d h = clear_ties n receipt.id (shown_cpu online s.cpu) h.known
+owns called count may_refuse n index online (PollRemove (Some receipt)) s t rising goes d h =
+    clear_ties n receipt.id (shown_cpu online s.cpu) h.known
 owns called count may_refuse n index online (PollRemove None) s t rising goes d h = h
-owns called count may_refuse n index online (TakeNow id (Ok got)) s t rising goes ((still, takes), calls) h = take_ties n id (shown_cpu online s.cpu) still h.known
+owns called count may_refuse n index online (TakeNow id (Ok got)) s t rising goes ((still, takes), calls) h =
+    take_ties n id (shown_cpu online s.cpu) still h.known
 owns called count may_refuse n index online (TakeNow id (Err e)) s t rising goes d h = h
 owns called count may_refuse n index online (AskSettled b) s t rising goes d h = h
 
@@ -160,14 +174,16 @@ tied called count may_refuse call s t goes does h =
 pub lawful_tied : (v : CpuView Tables) → IsLawful seen v → IsTied v
 lawful_tied v law = record { rising = law.rising; own = λ online. record { known = known online; removed = removed online } }
   where
-    at_level : (online : Bool) (kind : Level) (l : Admissions) (q : ℕ) → AreAdmitted kind (firing_view l) v.cyclics → (o : Option Admitted) → l.cyclics q ≡ o → IsSome o
+    at_level : (online : Bool) (kind : Level) (l : Admissions) (q : ℕ) → AreAdmitted kind (firing_view l) v.cyclics
+        → (o : Option Admitted) → l.cyclics q ≡ o → IsSome o
         → cyclic_level q (shown_cpu online v) ≡ kind
     at_level online kind l q a None at some = absurd (let isnt : false ≡ true = some in cc)
     at_level online kind l q a (Some c) at some =
         let (k, x, is, named, level) = a.only q (stay_of c) (ap (option_map stay_of) at) in
         level_found online k q x v law.rising is named ∙ level
 
-    known : (online : Bool) (soft : Soft) (q : ℕ) → IsSome ((level_at soft (shown_cpu online v)).cyclics q) → cyclic_level q (shown_cpu online v) ≡ as_level soft
+    known : (online : Bool) (soft : Soft) (q : ℕ) → IsSome ((level_at soft (shown_cpu online v)).cyclics q)
+        → cyclic_level q (shown_cpu online v) ≡ as_level soft
     known online soft.Lock q is = at_level online kind.Lock (level_of v.lock) q law.lock ((level_of v.lock).cyclics q) refl is
     known online soft.Low q is = at_level online kind.Low (level_of v.low) q law.low ((level_of v.low).cyclics q) refl is
 

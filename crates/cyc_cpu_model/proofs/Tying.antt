@@ -1,5 +1,6 @@
 -- From call to call the cyclics of a CPU stay tied to its levels.
-use Rattle.std.proofs.Common.{◌≡◌, ◌≢◌, ℕ, ◌+◌, ◌==◌, List, [], ◌∷◌, ◌++◌, length, map, find, Bool, true, false, not, cond, Option, Some, None, IsSome, refl, ap, sym, ◌∙◌, subst, arith}
+use Rattle.std.proofs.Common.{◌≡◌, ◌≢◌, ℕ, ◌+◌, ◌==◌, List, [], ◌∷◌, ◌++◌, length, map, find, Bool, true, false, not, cond}
+use Rattle.std.proofs.Common.{Option, Some, None, IsSome, refl, ap, sym, ◌∙◌, subst, arith}
 use Rattle.std.specs.Prelude.{nat_lt, ◌&&◌}
 use Rattle.std.specs.Option.{option_map, option_map_or}
 use Rattle.std.proofs.lemmas.Bool.Decides.{nat_tests}
@@ -13,7 +14,8 @@ use Rattle.cyc_types.specs.Series.{never}
 use Rattle.cyc_level.specs.declared.Event.{Event}
 use Rattle.cyc_level.specs.declared.Event.TheVariants.{Admit, Expire, Lose, Publish, Take, Finish, Mark, Clear, Switch, Follow}
 use Rattle.cyc_level.specs.Level.{Cyclic as Admitted, Cyclics, Level}
-use Rattle.cyc_level.specs.Events.{after, after_finish, admitted_cyclic, changed_at, cyclic_after_expire, cyclic_after_lose, cyclic_after_finish}
+use Rattle.cyc_level.specs.Events.{after, after_finish, admitted_cyclic, changed_at, cyclic_after_expire, cyclic_after_lose}
+use Rattle.cyc_level.specs.Events.{cyclic_after_finish}
 use Rattle.cyc_level.proofs.Maps.{at_same, at_other, not_none}
 use Rattle.cyc_expirations.specs.Expirations.{Expiration, after as timer_after}
 use Rattle.cyc_fire.specs.Acts.{same_level}
@@ -21,7 +23,8 @@ use Rattle.cyc_model.specs.Acts.{Act, At, Call, same_soft, events_at}
 use Rattle.cyc_model.specs.Cpu.{Cyclic, Cpu, happen, nothing_here, is_of, level_of, others, with_moment}
 use Rattle.cyc_model.specs.Firing.{expiry, expire_all, fired, fire_these, fire_here, due_here}
 use Rattle.cyc_model.specs.Serving.{level_after, level_at, serve_here}
-use Rattle.cyc_model.specs.Moving.{put_in, must_grow, bank_for, switch_here, moment_at, widen_here, place_here, take_here, mark_here, clear_here, reprogram_here}
+use Rattle.cyc_model.specs.Moving.{put_in, must_grow, bank_for, switch_here, moment_at, widen_here, place_here, take_here}
+use Rattle.cyc_model.specs.Moving.{mark_here, clear_here, reprogram_here}
 use Rattle.cyc_model.specs.Agreement.{as_level}
 use Rattle.cyc_model.proofs.Local.{local_expire_all, local_serve, local_widen}
 use Rattle.cyc_cpu_model.specs.Tied.{HasOwn}
@@ -111,7 +114,8 @@ fired_keeps now made acts x = (refl, refl)
 moment_keeps : (id moment : ℕ) → KeepsLevels (moment_at id moment)
 moment_keeps id moment x = pick (is_of id x)
   where
-    pick : (b : Bool) → ((cond b (with_moment moment x) x).timer.id ≡ x.timer.id) × ((cond b (with_moment moment x) x).timer.level ≡ x.timer.level)
+    pick : (b : Bool) → ((cond b (with_moment moment x) x).timer.id ≡ x.timer.id)
+        × ((cond b (with_moment moment x) x).timer.level ≡ x.timer.level)
     pick true = (refl, refl)
     pick false = (refl, refl)
 
@@ -164,7 +168,8 @@ next_level y o o' false rest = rest
 put_beside : (x y : Cyclic) (ys : List Cyclic) (q : ℕ) (b : Bool) → q ≢ x.timer.id
     → level_in (find (is_of q) (put_in x ys)) ≡ level_in (find (is_of q) ys)
     → level_in (find (is_of q) (cond b (x ∷ y ∷ ys) (y ∷ put_in x ys))) ≡ level_in (find (is_of q) (y ∷ ys))
-put_beside x y ys q true ne rest = ap (λ c. level_in (cond c (Some x) (find (is_of q) (y ∷ ys)))) (other_id x.timer.id q (λ e. ne (sym e)))
+put_beside x y ys q true ne rest = ap (λ c. level_in (cond c (Some x) (find (is_of q) (y ∷ ys))))
+    (other_id x.timer.id q (λ e. ne (sym e)))
 put_beside x y ys q false ne rest = next_level y _ _ (is_of q y) rest
 
 put_other : (x : Cyclic) (ys : List Cyclic) (q : ℕ) → q ≢ x.timer.id
@@ -201,7 +206,8 @@ kept c d levels fewer removal h = record {
 pub same_cyclics : (c d : Cpu) → d.cyclics ≡ c.cyclics → (q : ℕ) → level_of q d ≡ level_of q c
 same_cyclics c d same q = ap (λ ys. level_in (find (is_of q) ys)) same
 
-fired_level : (n now : ℕ) (made : List Expiration) (c : Cpu) (soft : Soft) → level_at soft (fire_these n now made c).cpu ≡ level_at soft (expire_all n made c).cpu
+fired_level : (n now : ℕ) (made : List Expiration) (c : Cpu) (soft : Soft)
+    → level_at soft (fire_these n now made c).cpu ≡ level_at soft (expire_all n made c).cpu
 fired_level n now made c soft.Low = refl
 fired_level n now made c soft.Lock = refl
 
@@ -211,8 +217,10 @@ these_ties n now made c =
     let d = expire_all n made c in
     let k = expire_keep n made c in
     kept c (fire_these n now made c).cpu
-    (λ q. mapped_level (fired now made d.acts) q (fired_keeps now made d.acts) d.cpu.cyclics ∙ ap (λ ys. level_in (find (is_of q) ys)) k.0)
-    (λ soft q is. acts_have d.acts n soft (level_at soft c) q (expire_none n made c) (subst (Has q) (fired_level n now made c soft ∙ (local_expire_all n made c).levels soft) is))
+    (λ q. mapped_level (fired now made d.acts) q (fired_keeps now made d.acts) d.cpu.cyclics
+    ∙ ap (λ ys. level_in (find (is_of q) ys)) k.0)
+    (λ soft q is. acts_have d.acts n soft (level_at soft c) q (expire_none n made c)
+    (subst (Has q) (fired_level n now made c soft ∙ (local_expire_all n made c).levels soft) is))
     (λ id is. sym k.1 ∙ is)
 
 pub fire_ties : (n now : ℕ) (c : Cpu) → HasOwn c → HasOwn (fire_here n now c).cpu
@@ -223,7 +231,8 @@ serve_ties n soft budget c =
     let d = serve_here n soft budget c in
     let k = acts_keep d.acts c in
     kept c d.cpu (same_cyclics c d.cpu k.0)
-    (λ level q is. acts_have d.acts n level (level_at level c) q (interrupt_none n soft budget c) (subst (Has q) ((local_serve n soft budget c).levels level) is))
+    (λ level q is. acts_have d.acts n level (level_at level c) q (interrupt_none n soft budget c)
+    (subst (Has q) ((local_serve n soft budget c).levels level) is))
     (λ id is. sym k.1 ∙ is)
 
 pub widen_keep : (n more : ℕ) (c : Cpu)
@@ -240,7 +249,8 @@ widen_ties n more c =
     let d = widen_here n more c in
     let k = widen_keep n more c in
     kept c d.cpu (same_cyclics c d.cpu k.0)
-    (λ soft q is. acts_have d.acts n soft (level_at soft c) q (widen_none n more c) (subst (Has q) ((local_widen n more c).levels soft) is))
+    (λ soft q is. acts_have d.acts n soft (level_at soft c) q (widen_none n more c)
+    (subst (Has q) ((local_widen n more c).levels soft) is))
     (λ id is. sym k.1 ∙ is)
 
 pub reprogram_ties : (id moment : ℕ) (c : Cpu) → HasOwn c → HasOwn (reprogram_here id moment c).cpu
@@ -278,10 +288,12 @@ own_of High Lock is = absurd (let isnt : false ≡ true = is in cc)
 
 pub place_ties : (n index : ℕ) (x : Cyclic) (c : Cpu) → find (is_of x.timer.id) c.cyclics ≡ None → HasOwn c
     → HasOwn (place_here n index x c).cpu
-place_ties n index x c none h = subst HasOwn (sym (own_cpu x.timer.level n (Admit x.timer.id index) (record c { cyclics = put_in x c.cyclics }))) (record {
-  known = known;
-  removed = λ id is high. h.removed id is (sym (put_other x c.cyclics id (λ e. h.removed id is (ap (λ i. level_of i c) e ∙ absent_level x.timer.id c none))) ∙ high);
-})
+place_ties n index x c none h = subst HasOwn
+    (sym (own_cpu x.timer.level n (Admit x.timer.id index) (record c { cyclics = put_in x c.cyclics }))) (record {
+      known = known;
+      removed = λ id is high. h.removed id is (sym
+          (put_other x c.cyclics id (λ e. h.removed id is (ap (λ i. level_of i c) e ∙ absent_level x.timer.id c none))) ∙ high);
+    })
   where
     id : ℕ
     id = x.timer.id
@@ -293,17 +305,22 @@ place_ties n index x c none h = subst HasOwn (sym (own_cpu x.timer.level n (Admi
       low = where_own (same_level Low x.timer.level) (Admit x.timer.id index) c.low;
     }
 
-    beside : (soft : Soft) (q : ℕ) → Has q (level_at soft c) → q ≢ x.timer.id → level_in (find (is_of q) (put_in x c.cyclics)) ≡ as_level soft
+    beside : (soft : Soft) (q : ℕ) → Has q (level_at soft c) → q ≢ x.timer.id
+        → level_in (find (is_of q) (put_in x c.cyclics)) ≡ as_level soft
     beside soft q is ne = put_other x c.cyclics q ne ∙ h.known soft q is
 
     never_there : (soft : Soft) (q : ℕ) → Has q (level_at soft c) → q ≢ x.timer.id
-    never_there soft q is e = not_high soft (level_of q c) (ap (λ i. level_of i c) e ∙ absent_level x.timer.id c none) (h.known soft q is)
+    never_there soft q is e = not_high soft (level_of q c) (ap (λ i. level_of i c) e ∙ absent_level x.timer.id c none)
+        (h.known soft q is)
 
-    at_level : (soft : Soft) (kind : CyclicLevel) (q : ℕ) (own : Bool) → same_level kind x.timer.level ≡ own → kind ≡ as_level soft
-        → Has q (where_own own (Admit x.timer.id index) (level_at soft c)) → level_in (find (is_of q) (put_in x c.cyclics)) ≡ as_level soft
+    at_level : (soft : Soft) (kind : CyclicLevel) (q : ℕ) (own : Bool) → same_level kind x.timer.level ≡ own
+        → kind ≡ as_level soft
+        → Has q (where_own own (Admit x.timer.id index) (level_at soft c))
+        → level_in (find (is_of q) (put_in x c.cyclics)) ≡ as_level soft
     at_level soft kind q false at same is = beside soft q is (never_there soft q is)
     at_level soft kind q true at same is = dite (ℕ_discrete q x.timer.id)
-        (λ e. ap (λ i. level_in (find (is_of i) (put_in x c.cyclics))) e ∙ put_own x c.cyclics none ∙ own_of kind x.timer.level at ∙ same)
+        (λ e. ap (λ i. level_in (find (is_of i) (put_in x c.cyclics))) e ∙ put_own x c.cyclics none ∙ own_of kind x.timer.level at
+        ∙ same)
         (λ ne. beside soft q (admits true x.timer.id index q (level_at soft c) is ne) ne)
 
     known : (soft : Soft) (q : ℕ) → Has q (level_at soft (record c {
@@ -331,8 +348,10 @@ abbrev pub IsKnown : Cpu → Type 0
 IsKnown c = (soft : Soft) (id : ℕ) → Has id (level_at soft c) → level_of id c ≡ as_level soft
 
 marked_known : (id : ℕ) (c : Cpu) → IsKnown c → IsKnown (marked_cpu (level_of id c) id c)
-marked_known id c h soft.Lock q is = mapped_level (moment_at id never) q (moment_keeps id never) c.cyclics ∙ h soft.Lock q (mark_has (same_level Lock (level_of id c)) id q c.lock is)
-marked_known id c h soft.Low q is = mapped_level (moment_at id never) q (moment_keeps id never) c.cyclics ∙ h soft.Low q (mark_has (same_level Low (level_of id c)) id q c.low is)
+marked_known id c h soft.Lock q is = mapped_level (moment_at id never) q (moment_keeps id never) c.cyclics
+    ∙ h soft.Lock q (mark_has (same_level Lock (level_of id c)) id q c.lock is)
+marked_known id c h soft.Low q is = mapped_level (moment_at id never) q (moment_keeps id never) c.cyclics
+    ∙ h soft.Low q (mark_has (same_level Low (level_of id c)) id q c.low is)
 
 pub mark_known : (n id : ℕ) (c : Cpu) → IsKnown c → IsKnown (mark_here n id c).cpu
 mark_known n id c h = subst IsKnown (sym (mark_as n id (level_of id c) c refl)) (marked_known id c h)
@@ -340,7 +359,8 @@ mark_known n id c h = subst IsKnown (sym (mark_as n id (level_of id c) c refl)) 
 pub mark_ties : (n id : ℕ) (c : Cpu) → level_of id c ≢ High → IsKnown c → HasOwn (mark_here n id c).cpu
 mark_ties n id c soft_one h = subst HasOwn (sym (mark_as n id (level_of id c) c refl)) (record {
   known = marked_known id c h;
-  removed = λ i is high. soft_one (ap (λ j. level_of j c) (same_id i is) ∙ sym (mapped_level (moment_at id never) i (moment_keeps id never) c.cyclics) ∙ high);
+  removed = λ i is high. soft_one (ap (λ j. level_of j c) (same_id i is)
+      ∙ sym (mapped_level (moment_at id never) i (moment_keeps id never) c.cyclics) ∙ high);
 })
   where
     same_id : (i : ℕ) → Some id ≡ Some i → id ≡ i
@@ -350,7 +370,8 @@ mark_ties n id c soft_one h = subst HasOwn (sym (mark_as n id (level_of id c) c 
 cleared_other : (soft : Soft) (kind : CyclicLevel) (own : Bool) (id q : ℕ) (c : Cpu)
     → same_level kind (level_of id c) ≡ own → kind ≡ as_level soft → IsKnown c
     → Has q (where_own own (Clear id) (level_at soft c)) → q ≢ id
-cleared_other soft kind true id q c at same h is e = cleared_none id (level_at soft c) (subst (λ i. Has i (where_own true (Clear id) (level_at soft c))) e is)
+cleared_other soft kind true id q c at same h is e =
+    cleared_none id (level_at soft c) (subst (λ i. Has i (where_own true (Clear id) (level_at soft c))) e is)
 cleared_other soft kind false id q c at same h is e =
     let level : level_of id c ≡ kind = ap (λ i. level_of i c) (sym e) ∙ h soft q is ∙ sym same in
     let both : true ≡ false = sym (own_same kind) ∙ ap (same_level kind) (sym level) ∙ at in cc
@@ -373,13 +394,15 @@ clear_ties n id c h = subst HasOwn (sym (clear_as n id (level_of id c) c refl)) 
   removed = λ i is. absurd (let isnt : None ≡ Some i = is in cc);
 })
   where
-    known : (soft : Soft) (q : ℕ) → Has q (level_at soft (cleared_cpu (level_of id c) id c)) → level_in (find (is_of q) (others id c.cyclics)) ≡ as_level soft
+    known : (soft : Soft) (q : ℕ) → Has q (level_at soft (cleared_cpu (level_of id c) id c))
+        → level_in (find (is_of q) (others id c.cyclics)) ≡ as_level soft
     known soft.Lock q is = gone_known soft.Lock Lock id q c refl h is
     known soft.Low q is = gone_known soft.Low Low id q c refl h is
 
 pub take_ties : (n id : ℕ) (c : Cpu) → c.removal ≡ None → IsKnown c → HasOwn (take_here n id c).cpu
 take_ties n id c still h = subst HasOwn
-    (sym (take_as n id (level_of id c) c refl ∙ own_cpu (level_of id c) n (Clear id) (without id (own_marked (level_of id c) id c)))) (record {
+    (sym (take_as n id (level_of id c) c refl
+    ∙ own_cpu (level_of id c) n (Clear id) (without id (own_marked (level_of id c) id c)))) (record {
       known = known;
       removed = λ i is. absurd (let isnt : None ≡ Some i = sym still ∙ is in cc);
     })

@@ -5,7 +5,8 @@ use Rattle.cyc_types.specs.declared.refusal.Refusal.{Refusal}
 use Rattle.cyc_types.specs.declared.refusal.Refusal.TheVariants.{Memory, NoCyclic, Pending}
 use Rattle.cyc_cpu.specs.declared.moving.Taken.{Taken}
 use Rattle.cyc_cpu.specs.declared.removing.Removal.TheVariants.{Done, Kept}
-use Rattle.cyc_cpu.specs.Calls.{CpuCall, Fire, SoftInterrupt, Add, Reprogram, AskPending, AskTotals, AskRoom, Reserve, BeginRemove, PollRemove, TakeNow}
+use Rattle.cyc_cpu.specs.Calls.{CpuCall, Fire, SoftInterrupt, Add, Reprogram, AskPending, AskTotals, AskRoom, Reserve}
+use Rattle.cyc_cpu.specs.Calls.{BeginRemove, PollRemove, TakeNow}
 use Rattle.cyc_model.specs.Acts.{calls_in, losses_in}
 use Rattle.cyc_model.specs.Cpu.{Cyclic, Cpu, cyclic_of, has_cyclic}
 use Rattle.cyc_model.specs.Firing.{due_here, fire_here}
@@ -37,7 +38,8 @@ IsReceiptOf id receipt c = (x : Cyclic) × (cyclic_of id c ≡ Some x) × (recei
 
 -- and this all that there is of it
 abbrev pub IsTakenOf : ℕ → Taken → Cpu → Type 0
-IsTakenOf id taken c = (x : Cyclic) × (cyclic_of id c ≡ Some x) × (taken.level ≡ x.timer.level) × (taken.interval ≡ x.timer.interval)
+IsTakenOf id taken c = (x : Cyclic) × (cyclic_of id c ≡ Some x) × (taken.level ≡ x.timer.level)
+    × (taken.interval ≡ x.timer.interval)
     × (taken.moment ≡ x.timer.moment) × (taken.sent.sent ≡ x.timer.expired) × (taken.sent.lost ≡ x.lost)
 
 -- what the answers of a call say of the CPU before it
@@ -51,7 +53,8 @@ IsAnswered n (Reprogram id moment (Ok done)) c = (has_cyclic id c ≡ true) × (
 IsAnswered n (Reprogram id moment (Err e)) c = (e ≡ NoCyclic) × ((has_cyclic id c ≡ false) ⊎ (c.removal ≡ Some id))
 IsAnswered n (AskPending id (Some pend)) c = (has_cyclic id c ≡ true) × (pend ≡ outstanding_here id c)
 IsAnswered n (AskPending id None) c = has_cyclic id c ≡ false
-IsAnswered n (AskTotals id (Some t)) c = (x : Cyclic) × (cyclic_of id c ≡ Some x) × (t.expired ≡ x.timer.expired) × (t.lost ≡ x.lost)
+IsAnswered n (AskTotals id (Some t)) c = (x : Cyclic) × (cyclic_of id c ≡ Some x) × (t.expired ≡ x.timer.expired)
+    × (t.lost ≡ x.lost)
     × (t.pending ≡ outstanding_here id c)
 IsAnswered n (AskTotals id None) c = has_cyclic id c ≡ false
 IsAnswered n (AskRoom more (Ok done)) c = why_no_room more c ≡ None

@@ -43,7 +43,8 @@ IsInTime (Add id level when now answer) = now ≤ never
 IsInTime call = Unit {0}
 
 -- the call did on the CPU of this number just what the definition says, and its handlers were called as often
-pub record IsHere {C : Type 0} (count : C → ℕ → ℕ) (n : ℕ) (online : Bool) (call : CpuCall) (s t : Running C Tables) : Type 0 where
+pub record IsHere {C : Type 0} (count : C → ℕ → ℕ) (n : ℕ) (online : Bool) (call : CpuCall)
+    (s t : Running C Tables) : Type 0 where
   -- the index that a cyclic got which was put in
   pub index : ℕ
   pub cpu : shown_cpu online t.cpu ≡ (here_of n index call (shown_cpu online s.cpu)).cpu

@@ -1,5 +1,6 @@
 -- One CPU of several is asked after another.
-use Rattle.std.proofs.Common.{◌≡◌, ◌≢◌, ℕ, ◌+◌, ◌-◌, ◌<◌, ◌≤◌, List, [], ◌++◌, length, slice_set, Option, Some, None, refl, sym, ap, ◌∙◌, subst, arith}
+use Rattle.std.proofs.Common.{◌≡◌, ◌≢◌, ℕ, ◌+◌, ◌-◌, ◌<◌, ◌≤◌, List, [], ◌++◌, length, slice_set, Option, Some, None, refl, sym}
+use Rattle.std.proofs.Common.{ap, ◌∙◌, subst, arith}
 use Rattle.std.specs.Prelude.{IfNone}
 use Rattle.std.specs.List.{slice_get}
 use Rattle.std.proofs.lemmas.Option.{slice_get_read, slice_get-get_or, slice_get_within, slice_get_past, same_Some}
@@ -47,7 +48,8 @@ module _ {R : Type 0} (step : R → FiringCall → R → Type 0) (view : R → F
         dite (ℕ_discrete n k)
         (λ same.
         let low = slice_get_within v k b.before b.here in
-        let now : b.after ≡ y = same_Some b.after y (sym (get_set_same v k b.after low) ∙ sym (ap (λ i. slice_get (slice_set v k b.after) i) same) ∙ seen) in
+        let now : b.after ≡ y = same_Some b.after y (sym (get_set_same v k b.after low)
+        ∙ sym (ap (λ i. slice_get (slice_set v k b.after) i) same) ∙ seen) in
         subst (λ z. Settles step view x z) now
         (settles_then x b.before b.after (a.each n x b.before at (ap (λ i. slice_get v i) same ∙ b.here)) b.asked))
         (λ ne. a.each n x y at (sym (get_set_other v k n b.after ne) ∙ seen));

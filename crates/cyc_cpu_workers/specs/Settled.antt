@@ -7,7 +7,8 @@ use Rattle.cyc_cpu.specs.Moving.{IsSettled}
 use Rattle.cyc_workers.specs.Settling.{Settles}
 
 -- nothing was done to any of the CPUs but to ask it whether it has settled
-pub record AllAsked {R : Type 0} (step : R → FiringCall → R → Type 0) (view : R → FiringView) (v w : List (CpuView R)) : Type 0 where
+pub record AllAsked {R : Type 0} (step : R → FiringCall → R → Type 0) (view : R → FiringView)
+    (v w : List (CpuView R)) : Type 0 where
   pub long : length w ≡ length v
   pub each : (n : ℕ) (x y : CpuView R) → slice_get v n ≡ Some x → slice_get w n ≡ Some y → Settles step view x y
 
@@ -20,7 +21,8 @@ abbrev pub AllSettled : {R : Type 0} → (R → FiringView) → List (CpuView R)
 AllSettled {R} view w = (n : ℕ) (y : CpuView R) → slice_get w n ≡ Some y → IsSettled view y
 
 -- the CPU of this number alone was asked
-pub record AsksAt {R : Type 0} (step : R → FiringCall → R → Type 0) (view : R → FiringView) (k : ℕ) (v w : List (CpuView R)) : Type 0 where
+pub record AsksAt {R : Type 0} (step : R → FiringCall → R → Type 0) (view : R → FiringView) (k : ℕ)
+    (v w : List (CpuView R)) : Type 0 where
   pub before : CpuView R
   pub after : CpuView R
   pub here : slice_get v k ≡ Some before

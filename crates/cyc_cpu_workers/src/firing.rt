@@ -53,7 +53,8 @@ pub fn fire_all<W: Threads + Sync, R: Raise + Send + Drop, C: Calls + Send + Dro
     now: Moment,
 ) -> Result<Vec<LedAfter<R, C>>, AllocError>
     ensures len { IfOk result (λ v. vec_len v ≡ vec_len all) }
-    ensures each { IfOk result (λ v. (k : ℕ) (l : Led _ _) (a : LedAfter _ _) → k < vec_len all → HasFired C.called C.count C.may_refuse R.step R.view now (slice_index_or all.items k l) (slice_index_or v.items k a)) }
+    ensures each { IfOk result (λ v. (k : ℕ) (l : Led _ _) (a : LedAfter _ _) → k < vec_len all
+        → HasFired C.called C.count C.may_refuse R.step R.view now (slice_index_or all.items k l) (slice_index_or v.items k a)) }
 {
     thread::map_vec(rt, all, &|led| fire_one(led, now))
 }

@@ -51,7 +51,9 @@ pub fn run_cpus<W: Threads + Wait + Sync, C: Calls + Send + Drop>(
     runs: Vec<Run<C>>,
 ) -> Result<Vec<Result<Ended<C>, Refusal>>, AllocError>
     ensures len { IfOk result (λ v. vec_len v ≡ vec_len runs) }
-    ensures each { IfOk result (λ v. (k : ℕ) (r : Run _) (a : Result (Ended _) Refusal) → k < vec_len runs → IfOk (slice_index_or v.items k a) (λ e. HasRun C.called C.count C.may_refuse (slice_index_or runs.items k r).ceiling (slice_index_or runs.items k r).most (slice_index_or runs.items k r).steps.items (slice_index_or runs.items k r).calls e)) }
+    ensures each { IfOk result (λ v. (k : ℕ) (r : Run _) (a : Result (Ended _) Refusal) → k < vec_len runs
+        → IfOk (slice_index_or v.items k a) (λ e. HasRun C.called C.count C.may_refuse (slice_index_or runs.items k r).ceiling
+        (slice_index_or runs.items k r).most (slice_index_or runs.items k r).steps.items (slice_index_or runs.items k r).calls e)) }
 {
     thread::map_vec(rt, runs, &|run| run_one(rt, alloc, run))
 }

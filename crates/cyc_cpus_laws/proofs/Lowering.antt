@@ -1,5 +1,6 @@
 -- What asks or makes room leaves a CPU lawful.
-use Rattle.std.proofs.Common.{◌≡◌, ℕ, zero, suc, ◌+◌, ◌<◌, ◌≤◌, ◌^◌, nat_le, All, Bool, true, false, cond, eqb, List, [], ◌∷◌, map, length, Option, Some, None, refl, sym, ap, subst, ◌∙◌, arith, inl, inr}
+use Rattle.std.proofs.Common.{◌≡◌, ℕ, zero, suc, ◌+◌, ◌<◌, ◌≤◌, ◌^◌, nat_le, All, Bool, true, false, cond, eqb, List, [], ◌∷◌}
+use Rattle.std.proofs.Common.{map, length, Option, Some, None, refl, sym, ap, subst, ◌∙◌, arith, inl, inr}
 use Rattle.std.proofs.lemmas.Bool.Decides.{nat_tests}
 use Rattle.std.proofs.lemmas.Bool.{cases_lt}
 use Rattle.std.proofs.Math.Nat.{pow-le-pow_right}
@@ -14,7 +15,8 @@ use Rattle.cyc_timers.specs.Rows.{timers}
 use Rattle.cyc_expirations.specs.Expirations.{expirations, times_of}
 use Rattle.cyc_expirations.specs.Timers.{HasDistinctIds}
 use Rattle.cyc_cpu.specs.Losses.{IsSpared}
-use Rattle.cyc_cpu.specs.Cpu.{CpuView, AreAdmitted, HasCounts, HasRisingIds, IsRemoved, Asks, Looked, Reserves, MayWiden, Widens, bank_for, least_bank}
+use Rattle.cyc_cpu.specs.Cpu.{CpuView, AreAdmitted, HasCounts, HasRisingIds, IsRemoved, Asks, Looked, Reserves, MayWiden, Widens}
+use Rattle.cyc_cpu.specs.Cpu.{bank_for, least_bank}
 use Rattle.cyc_cpu.specs.Law.{IsLawful}
 
 -- a stay of the one is one of the other, of which no more was seen

@@ -8,7 +8,8 @@ use Rattle.cyc_types.specs.declared.level.Soft.{Soft}
 use Rattle.cyc_soft.specs.declared.Ran.{Ran}
 use Rattle.cyc_soft.specs.declared.SoftRefused.{SoftRefused}
 use Rattle.cyc_cpu.specs.Cpu.{CpuView, Running, running}
-use Rattle.cyc_cpu.specs.Calls.{CpuCall, Changes, Does, Fire, SoftInterrupt, Add, Place, Reprogram, AskPending, AskTotals, AskRoom, Reserve, Widen, BeginRemove, PollRemove, TakeNow, AskSettled}
+use Rattle.cyc_cpu.specs.Calls.{CpuCall, Changes, Does, Fire, SoftInterrupt, Add, Place, Reprogram, AskPending, AskTotals}
+use Rattle.cyc_cpu.specs.Calls.{AskRoom, Reserve, Widen, BeginRemove, PollRemove, TakeNow, AskSettled}
 use Rattle.cyc_cpus_laws.specs.Runs.{calls_on, DoesWithSome}
 use Rattle.cyc_cpus_laws.proofs.Seen.{sees}
 use Rattle.cyc_cpus.specs.Cpus.{CpusView, IsCpu, CallOn, ChangesAt, DoesAt, Works, RunningCpus, running_cpus, RunsAt}

@@ -30,15 +30,18 @@ pub record Arrives {R : Type 0} (id : ℕ) (ns : List ℕ) (v w : CpusView R) : 
   pub there : (n : ℕ) → among n ns ≡ true → has n id w ≡ true
   pub elsewhere : (n : ℕ) → among n ns ≡ false → ids_on n w ≡ ids_on n v
 
-module _ {R : Type 0} (step : R → FiringCall → R → Type 0) (view : R → FiringView) (id : ℕ) (level : Level) (when : When) (skew now : ℕ) where
-  pub arrives : (ns : List ℕ) (v w : CpusView R) → Works step view (entering_each ns id level when skew now) v w → Arrives id ns v w
+module _ {R : Type 0} (step : R → FiringCall → R → Type 0) (view : R → FiringView) (id : ℕ) (level : Level) (when : When)
+    (skew now : ℕ) where
+  pub arrives : (ns : List ℕ) (v w : CpusView R) → Works step view (entering_each ns id level when skew now) v w
+      → Arrives id ns v w
   arrives [] v w e = subst (λ u. Arrives id [] v u) e (record {
     but = but_same id v v (same_none v);
     there = λ n h. absurd (false_true h);
     elsewhere = λ n h. refl;
   })
   arrives (m ∷ ns) v w works =
-      let (u, first, rest) = between (DoesAt step view) v (entering m id level when.interval (component_first m when skew now)) (entering_each ns id level when skew now) w works in
+      let (u, first, rest) = between (DoesAt step view) v (entering m id level when.interval (component_first m when skew now))
+      (entering_each ns id level when skew now) w works in
       let (but, here, beside) = entered step view m id level when.interval (component_first m when skew now) v u first in
       let r = arrives ns u w rest in record {
         but = but_then id v u w but r.but;
@@ -51,7 +54,8 @@ module _ {R : Type 0} (step : R → FiringCall → R → Type 0) (view : R → F
       neither false b h = (refl, h)
       neither true b h = absurd (false_true (sym h))
 
-      by_there : (n : ℕ) (u : CpusView R) → has m id u ≡ true → Arrives id ns u w → (b : Bool) → among n ns ≡ b → ((m == n) || among n ns) ≡ true → has n id w ≡ true
+      by_there : (n : ℕ) (u : CpusView R) → has m id u ≡ true → Arrives id ns u w → (b : Bool) → among n ns ≡ b
+          → ((m == n) || among n ns) ≡ true → has n id w ≡ true
       by_there n u here r true e h = r.there n e
       by_there n u here r false e h = let same = eq_true m n (only (m == n) (among n ns) e h) in
           ap (λ ids. among id ids) (r.elsewhere n e) ∙ ap (λ k. has k id u) (sym same) ∙ here

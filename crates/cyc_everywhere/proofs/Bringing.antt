@@ -1,5 +1,6 @@
 -- The walk over the records by which components come back to a CPU.
-use Rattle.std.proofs.Common.{◌≡◌, ℕ, zero, suc, ◌+◌, ◌≤◌, Bool, true, false, cond, not, List, [], ◌∷◌, length, get_or, map, filter, take, slice_set, refl, sym, ap, ◌∙◌, subst, arith}
+use Rattle.std.proofs.Common.{◌≡◌, ℕ, zero, suc, ◌+◌, ◌≤◌, Bool, true, false, cond, not, List, [], ◌∷◌, length, get_or, map}
+use Rattle.std.proofs.Common.{filter, take, slice_set, refl, sym, ap, ◌∙◌, subst, arith}
 use Rattle.std.specs.Prelude.{◌||◌, ◌&&◌}
 use Rattle.std.specs.List.{slice_get, list_any}
 use Rattle.std.proofs.lemmas.List.{append-nil, take_all}
@@ -18,7 +19,8 @@ use Rattle.cyc_agreement.specs.System.{ids_of, is_leaving_here}
 use Rattle.cyc_agreement.proofs.Lists.{among, false_true}
 use Rattle.cyc_agreement.proofs.Entering.{none_here}
 use Rattle.cyc_everywhere.specs.Online.{is_staying, return_at, returns, after_return}
-use Rattle.cyc_everywhere.proofs.Prefixes.{changed_to, changed_none, changed_length, changed_all, changed_at, changed_set, changed_keep, passing_more, passing_count, passing_few, ids_in, not_before}
+use Rattle.cyc_everywhere.proofs.Prefixes.{changed_to, changed_none, changed_length, changed_all, changed_at, changed_set}
+use Rattle.cyc_everywhere.proofs.Prefixes.{changed_keep, passing_more, passing_count, passing_few, ids_in, not_before}
 use Rattle.cyc_everywhere.proofs.Returned.{AllEverywhere, Back, back, back_has, back_removals, leaving_same, returns_more}
 
 and_first : (a b : Bool) → (a && b) ≡ true → a ≡ true
@@ -33,12 +35,14 @@ pub all_everywhere : {R : Type 0} (v : CpusView R) (rs : List Record) → AllEve
 all_everywhere v [] = tt
 all_everywhere v (r ∷ rs) = by (is_staying v r) refl (all_everywhere v rs)
   where
-    by : (b : Bool) → is_staying v r ≡ b → AllEverywhere (filter (is_staying v) rs) → AllEverywhere (cond b (r ∷ filter (is_staying v) rs) (filter (is_staying v) rs))
+    by : (b : Bool) → is_staying v r ≡ b → AllEverywhere (filter (is_staying v) rs)
+        → AllEverywhere (cond b (r ∷ filter (is_staying v) rs) (filter (is_staying v) rs))
     by true e rest = (staying_everywhere v r e, rest)
     by false e rest = rest
 
 -- whether a cyclic stays depends on the removals alone
-pub staying_same : {R : Type 0} (v w : CpusView R) → ((id : ℕ) → list_any (is_leaving_here id) w.cpus ≡ list_any (is_leaving_here id) v.cpus)
+pub staying_same : {R : Type 0} (v w : CpusView R)
+    → ((id : ℕ) → list_any (is_leaving_here id) w.cpus ≡ list_any (is_leaving_here id) v.cpus)
     → (r : Record) → is_staying w r ≡ is_staying v r
 staying_same v w same r = ap (λ b. is_everywhere r.place && not b) (same r.id)
 
@@ -47,7 +51,8 @@ counts_at [] n h = omega arith
 counts_at (x ∷ xs) zero h = h 0 no_counts (omega arith)
 counts_at (x ∷ xs) (suc n) h = counts_at xs n (λ k d low. h (suc k) d (omega (arith, low)))
 
-module _ {R : Type 0} (step : R → FiringCall → R → Type 0) (view : R → FiringView) (n now : ℕ) (v : CpusView R) (rs : List Record) where
+module _ {R : Type 0} (step : R → FiringCall → R → Type 0) (view : R → FiringView) (n now : ℕ) (v : CpusView R)
+    (rs : List Record) where
   -- those below place k have come back
   pub record Bringing (k : ℕ) (w : CpusView R) (qs : List Record) : Type 0 where
     pub list : qs ≡ changed_to (after_return n v) k rs
@@ -72,16 +77,22 @@ module _ {R : Type 0} (step : R → FiringCall → R → Type 0) (view : R → F
   pub now_at : (k : ℕ) (w : CpusView R) (qs : List Record) (r : Record) → Bringing k w qs → IsRecord rs k r → IsRecord qs k r
   now_at k w qs r b is = ap (λ l. slice_get l k) b.list ∙ changed_at (after_return n v) k rs ∙ is
 
-  pub bringing_more : (k : ℕ) (w u : CpusView R) (qs ps : List Record) (r : Record) → Bringing k w qs → IsRecord rs k r → is_staying v r ≡ true
-      → Works step view (return_at n now r.id r.level (ended_on n r) r.place) w u → ps ≡ slice_set qs k (with_ended n no_counts r) → Bringing (k + 1) u ps
+  pub bringing_more : (k : ℕ) (w u : CpusView R) (qs ps : List Record) (r : Record) → Bringing k w qs → IsRecord rs k r
+      → is_staying v r ≡ true
+      → Works step view (return_at n now r.id r.level (ended_on n r) r.place) w u → ps ≡ slice_set qs k (with_ended n no_counts r)
+      → Bringing (k + 1) u ps
   bringing_more k w u qs ps r b is stays did list = record {
-    list = list ∙ (λ i. slice_set (b.list i) k (sym (ap (λ c. cond c (with_ended n no_counts r) r) stays) i)) ∙ changed_set (after_return n v) k rs r is;
+    list = list ∙ (λ i. slice_set (b.list i) k (sym (ap (λ c. cond c (with_ended n no_counts r) r) stays) i))
+        ∙ changed_set (after_return n v) k rs r is;
     works = subst (λ way. Works step view way v u)
-        (sym (ap (λ l. returns n now l) (passing_more (is_staying v) k rs r true is stays) ∙ returns_more step view n now (filter (is_staying v) (take k rs)) r))
-        (folds_on (DoesAt step view) v (returns n now (filter (is_staying v) (take k rs))) w (return_at n now r.id r.level (ended_on n r) r.place) u b.works did);
+        (sym (ap (λ l. returns n now l) (passing_more (is_staying v) k rs r true is stays)
+        ∙ returns_more step view n now (filter (is_staying v) (take k rs)) r))
+        (folds_on (DoesAt step view) v (returns n now (filter (is_staying v) (take k rs))) w
+        (return_at n now r.id r.level (ended_on n r) r.place) u b.works did);
   }
 
-  pub bringing_same : (k : ℕ) (w : CpusView R) (qs : List Record) (r : Record) → Bringing k w qs → IsRecord rs k r → is_staying v r ≡ false → Bringing (k + 1) w qs
+  pub bringing_same : (k : ℕ) (w : CpusView R) (qs : List Record) (r : Record) → Bringing k w qs → IsRecord rs k r
+      → is_staying v r ≡ false → Bringing (k + 1) w qs
   bringing_same k w qs r b is leaves = record {
     list = b.list ∙ changed_keep (after_return n v) k rs r is (ap (λ c. cond c (with_ended n no_counts r) r) leaves);
     works = subst (λ l. Works step view (returns n now l) v w)
@@ -96,7 +107,8 @@ module _ {R : Type 0} (step : R → FiringCall → R → Type 0) (view : R → F
   )
 
   module _ (x : CpuView R) (at : IsCpu n x v) where
-    pub still_staying : (k : ℕ) (w : CpusView R) (qs : List Record) → Bringing k w qs → (r : Record) → is_staying w r ≡ is_staying v r
+    pub still_staying : (k : ℕ) (w : CpusView R) (qs : List Record) → Bringing k w qs → (r : Record)
+        → is_staying w r ≡ is_staying v r
     still_staying k w qs b = let done = so_far k w qs b in staying_same v w
         (λ id. leaving_same id v.cpus w.cpus done.long (back_removals n (filter (is_staying v) (take k rs)) v w x at done))
 
@@ -105,8 +117,10 @@ module _ {R : Type 0} (step : R → FiringCall → R → Type 0) (view : R → F
     or_none false b e = e
 
     -- the next one may be placed
-    pub may_come : (k : ℕ) (w : CpusView R) (qs : List Record) (r : Record) (y : CpuView R) → Bringing k w qs → IsRecord rs k r → is_staying v r ≡ true → IsCpu n y w
-        → HasRisingIds rs → HaveCounts rs → x.cyclics ≡ [] → length (filter (is_staying v) rs) ≤ x.size → (ended_on n r).sent ≤ x.most
+    pub may_come : (k : ℕ) (w : CpusView R) (qs : List Record) (r : Record) (y : CpuView R) → Bringing k w qs → IsRecord rs k r
+        → is_staying v r ≡ true → IsCpu n y w
+        → HasRisingIds rs → HaveCounts rs → x.cyclics ≡ [] → length (filter (is_staying v) rs) ≤ x.size
+        → (ended_on n r).sent ≤ x.most
         → MayPlace r.id (ended_on n r) y
     may_come k w qs r y b is stays there rising counts empty room within =
         let done = so_far k w qs b in
@@ -115,9 +129,12 @@ module _ {R : Type 0} (step : R → FiringCall → R → Type 0) (view : R → F
         subst (λ cpu. MayPlace r.id (ended_on n r) cpu) same (record {
           absent = none_here w n r.id z (λ h. not_before (is_staying v) rs k r rising is
               (sym (back_has n (filter (is_staying v) (take k rs)) v w x at done r.id
-              ∙ or_none (among r.id (ids_in (filter (is_staying v) (take k rs)))) (among r.id (ids_of x)) (ap (λ cs. among r.id (map id_in cs)) empty)) ∙ h)) here;
-          free = (let many = gains.many in let none = ap (λ (cs : List Cyclic). length cs) empty in let next = passing_count (is_staying v) k rs r true is stays in
-              let few = passing_few (is_staying v) (k + 1) rs in let size = gains.size in omega (arith, many, none, next, few, size, room));
+              ∙ or_none (among r.id (ids_in (filter (is_staying v) (take k rs)))) (among r.id (ids_of x))
+              (ap (λ cs. among r.id (map id_in cs)) empty)) ∙ h)) here;
+          free = (let many = gains.many in let none = ap (λ (cs : List Cyclic). length cs) empty in let next =
+              passing_count (is_staying v) k rs r true is stays in
+              let few = passing_few (is_staying v) (k + 1) rs in let size = gains.size in
+              omega (arith, many, none, next, few, size, room));
           lost = counts_at r.ended n (counts k r is);
           most = (let most = gains.most in omega (arith, most, within));
         })

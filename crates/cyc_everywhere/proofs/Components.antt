@@ -1,5 +1,6 @@
 -- Which cyclics a CPU has after some came to it.
-use Rattle.std.proofs.Common.{◌≡◌, ◌≢◌, ℕ, zero, suc, ◌+◌, ◌-◌, ◌<◌, ◌≤◌, ◌⊎◌, inl, inr, Bool, true, false, cond, Some, None, List, [], ◌∷◌, length, get_or, find, refl, sym, ap, ◌∙◌, subst, arith}
+use Rattle.std.proofs.Common.{◌≡◌, ◌≢◌, ℕ, zero, suc, ◌+◌, ◌-◌, ◌<◌, ◌≤◌, ◌⊎◌, inl, inr, Bool, true, false, cond, Some, None}
+use Rattle.std.proofs.Common.{List, [], ◌∷◌, length, get_or, find, refl, sym, ap, ◌∙◌, subst, arith}
 use Rattle.std.specs.Prelude.{◌||◌, ◌==◌, insert}
 use Rattle.std.specs.List.{slice_get}
 use Rattle.std.specs.Option.{option_map_or}
@@ -30,7 +31,14 @@ module _ (cs : List Cyclic) (q : ℕ) (c : Cyclic) (low : q ≤ length cs) where
       (λ z. dite (ℕ_discrete k q)
       (λ e. inl (sym is.1 ∙ ap (λ m. get_or (insert cs q c) m d) e ∙ get_or-insert_at cs q c d low))
       (λ ne. let s : k ≡ (k - 1) + 1 = omega (arith, z, ne) in
-      inr (k - 1, ((omega (arith, long, n, s)), sym (ap (λ m. get_or (insert cs q c) m d) s ∙ get_or-insert_above cs q c d (k - 1) (omega (arith, z, ne)) low) ∙ is.1))))
+      inr (
+        k - 1,
+        (
+          (omega (arith, long, n, s)),
+          sym (ap (λ m. get_or (insert cs q c) m d) s ∙ get_or-insert_above cs q c d (k - 1) (omega (arith, z, ne)) low)
+              ∙ is.1,
+        ),
+      )))
       (λ p. inr (k, ((omega (arith, p, low)), sym (get_or-insert_below cs q c d k (omega (arith, p)) low) ∙ is.1)))
 
 same_default : (cs : List Cyclic) (k : ℕ) (d e : Cyclic) → k < length cs → get_or cs k d ≡ get_or cs k e
@@ -97,7 +105,8 @@ came_more i is cs ds a = record {
     by d (inl h) = inl h
     by d (inr e) = inr (or_right (i == d.timer.id) (among d.timer.id is) e)
 
-module _ {R : Type 0} (step : R → FiringCall → R → Type 0) (view : R → FiringView) (c : Cyclic) (x y : CpuView R) (p : Places step view c x y) where
+module _ {R : Type 0} (step : R → FiringCall → R → Type 0) (view : R → FiringView) (c : Cyclic) (x y : CpuView R)
+    (p : Places step view c x y) where
   pub came_placed : Came (c.timer.id ∷ []) x.cyclics y.cyclics
   came_placed = record {
     old = λ d h. subst (λ l. Here d l) (sym p.cyclics) (here_old x.cyclics p.place c p.within d h);
@@ -122,10 +131,12 @@ module _ {R : Type 0} (n : ℕ) (D : CpuView R → CpuView R → Type 0) (v w : 
   were_there = ap (λ o. option_map_or (λ cpu. cpu.cyclics) o []) c.here
 
   pub are_there : cyclics_on n w ≡ c.after.cyclics
-  are_there = ap (λ u. cyclics_on n u) c.rest ∙ ap (λ o. option_map_or (λ cpu. cpu.cyclics) o []) (cpu_there n c.before c.after v c.here)
+  are_there = ap (λ u. cyclics_on n u) c.rest
+      ∙ ap (λ o. option_map_or (λ cpu. cpu.cyclics) o []) (cpu_there n c.before c.after v c.here)
 
   pub are_beside : (m : ℕ) → m ≢ n → cyclics_on m w ≡ cyclics_on m v
-  are_beside m ne = ap (λ u. cyclics_on m u) c.rest ∙ ap (λ o. option_map_or (λ cpu. cpu.cyclics) o []) (get_set_other v.cpus n m c.after ne)
+  are_beside m ne = ap (λ u. cyclics_on m u) c.rest
+      ∙ ap (λ o. option_map_or (λ cpu. cpu.cyclics) o []) (get_set_other v.cpus n m c.after ne)
 
   pub are_same : c.after.cyclics ≡ c.before.cyclics → (m : ℕ) → cyclics_on m w ≡ cyclics_on m v
   are_same e m = dite (ℕ_discrete m n)
@@ -134,7 +145,8 @@ module _ {R : Type 0} (n : ℕ) (D : CpuView R → CpuView R → Type 0) (v w : 
 
 -- ---- finding a cyclic by its id
 
-pub find_one : (id : ℕ) (c : Cyclic) (cs : List Cyclic) → c.timer.id ≡ id → HasRisingIds cs → Here c cs → find (λ (e : Cyclic). e.timer.id == id) cs ≡ Some c
+pub find_one : (id : ℕ) (c : Cyclic) (cs : List Cyclic) → c.timer.id ≡ id → HasRisingIds cs → Here c cs
+    → find (λ (e : Cyclic). e.timer.id == id) cs ≡ Some c
 find_one id c [] named rising (k, is) = absurd (let low = is.0 in omega (arith, low))
 find_one id c (d ∷ cs) named rising (zero, is) = ap (λ x. cond x (Some d) (find (λ (e : Cyclic). e.timer.id == id) cs))
     (true_eq d.timer.id id (ap (λ (x : Cyclic). x.timer.id) is.1 ∙ named)) ∙ ap Some is.1
@@ -142,10 +154,14 @@ find_one id c (d ∷ cs) named rising (suc k, is) =
     let low = is.0 in
     let less = rising 0 (suc k) c (omega arith) low in
     let at = ap (λ (x : Cyclic). x.timer.id) is.1 in
-    ap (λ x. cond x (Some d) (find (λ (e : Cyclic). e.timer.id == id) cs)) (false_ne d.timer.id id (λ e. omega (arith, less, at, named, e)))
-    ∙ find_one id c cs named (λ i j e less low. rising (suc i) (suc j) e (omega (arith, less)) (omega (arith, low))) (k, (omega (arith, low), is.1))
+    ap (λ x. cond x (Some d) (find (λ (e : Cyclic). e.timer.id == id) cs))
+    (false_ne d.timer.id id (λ e. omega (arith, less, at, named, e)))
+    ∙ find_one id c cs named (λ i j e less low. rising (suc i) (suc j) e (omega (arith, less)) (omega (arith, low)))
+    (k, (omega (arith, low), is.1))
 
-pub find_none : (id : ℕ) (cs : List Cyclic) → ((d : Cyclic) → Here d cs → d.timer.id ≡ id → ⊥) → find (λ (e : Cyclic). e.timer.id == id) cs ≡ None
+pub find_none : (id : ℕ) (cs : List Cyclic) → ((d : Cyclic) → Here d cs → d.timer.id ≡ id → ⊥)
+    → find (λ (e : Cyclic). e.timer.id == id) cs ≡ None
 find_none id [] none = refl
-find_none id (d ∷ cs) none = ap (λ x. cond x (Some d) (find (λ (e : Cyclic). e.timer.id == id) cs)) (false_ne d.timer.id id (λ e. none d (0, (omega arith, refl)) e))
+find_none id (d ∷ cs) none = ap (λ x. cond x (Some d) (find (λ (e : Cyclic). e.timer.id == id) cs))
+    (false_ne d.timer.id id (λ e. none d (0, (omega arith, refl)) e))
     ∙ find_none id cs (λ e (k, is) same. none e (suc k, ((let low = is.0 in omega (arith, low)), is.1)) same)

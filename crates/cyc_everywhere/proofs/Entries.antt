@@ -1,5 +1,6 @@
 -- The components of a cyclic that comes to each online CPU.
-use Rattle.std.proofs.Common.{◌≡◌, ◌≢◌, ℕ, ◌+◌, ◌≤◌, Bool, true, false, Some, List, [], ◌∷◌, ◌++◌, drop, length, refl, sym, ap, ◌∙◌, subst, append_assoc, arith}
+use Rattle.std.proofs.Common.{◌≡◌, ◌≢◌, ℕ, ◌+◌, ◌≤◌, Bool, true, false, Some, List, [], ◌∷◌, ◌++◌, drop, length, refl, sym, ap}
+use Rattle.std.proofs.Common.{◌∙◌, subst, append_assoc, arith}
 use Rattle.std.specs.List.{slice_get}
 use Rattle.std.proofs.lemmas.List.{append-nil, length-set, drop_all}
 use Rattle.cyc_types.specs.Firing.{FiringView, FiringCall}
@@ -33,15 +34,18 @@ beside_then n u v w a b = record {
   others = λ m x ne is. a.others m x ne (b.others m x ne is);
 }
 
-module _ {R : Type 0} (step : R → FiringCall → R → Type 0) (view : R → FiringView) (id : ℕ) (level : Level) (when : When) (skew now : ℕ) where
+module _ {R : Type 0} (step : R → FiringCall → R → Type 0) (view : R → FiringView) (id : ℕ) (level : Level) (when : When)
+    (skew now : ℕ) where
   calls_more : (ns : List ℕ) (n : ℕ) → entering_each (ns ++ n ∷ []) id level when skew now
       ≡ entering_each ns id level when skew now ++ entering n id level when.interval (component_first n when skew now)
   calls_more [] n = append-nil _
   calls_more (m ∷ ns) n = ap (λ cs. entering m id level when.interval (component_first m when skew now) ++ cs) (calls_more ns n)
-      ∙ sym (append_assoc (entering m id level when.interval (component_first m when skew now)) (entering_each ns id level when skew now)
+      ∙ sym (append_assoc (entering m id level when.interval (component_first m when skew now))
+      (entering_each ns id level when skew now)
       (entering n id level when.interval (component_first n when skew now)))
 
-  entering_beside : (n interval moment : ℕ) (v w : CpusView R) → Works step view (entering n id level interval moment) v w → Beside n v w
+  entering_beside : (n interval moment : ℕ) (v w : CpusView R) → Works step view (entering n id level interval moment) v w
+      → Beside n v w
   entering_beside n interval moment v w (u, widens, (t, places, e)) =
       subst (λ x. Beside n v x) e (beside_then n v u t (beside_one n _ v u widens) (beside_one n _ u t places))
 
@@ -75,7 +79,8 @@ module _ {R : Type 0} (step : R → FiringCall → R → Type 0) (view : R → F
     before = r.before ++ n ∷ [];
     split = r.split ∙ ap (λ ns. r.before ++ ns) (numbers_at v.online n true (ap (λ xs. slice_get xs n) (sym r.online) ∙ here))
         ∙ sym (append_assoc r.before (n ∷ []) (numbers_from (n + 1) (drop (n + 1) v.online)));
-    works = subst (λ way. Works step view way v u) (sym (calls_more r.before n)) (folds_on (DoesAt step view) v _ w _ u r.works did);
+    works = subst (λ way. Works step view way v u) (sym (calls_more r.before n))
+        (folds_on (DoesAt step view) v _ w _ u r.works did);
     room = λ m low on x is. (let ne : m ≢ n = (λ e. absurd (omega (arith, e, low))) in
         r.room m (omega (arith, low)) (ap (λ xs. slice_get xs m) (sym b.online) ∙ on) x (b.others m x ne is));
     absent = λ m low x is. (let ne : m ≢ n = (λ e. absurd (omega (arith, e, low))) in

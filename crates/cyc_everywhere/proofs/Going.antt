@@ -1,5 +1,6 @@
 -- What an online did.
-use Rattle.std.proofs.Common.{◌≡◌, ℕ, ◌<◌, ◌≤◌, ◌⊎◌, inl, inr, false, cond, Some, None, Ok, Err, Result, List, [], ◌∷◌, length, map, filter, refl, sym, ap, ◌∙◌, subst, arith}
+use Rattle.std.proofs.Common.{◌≡◌, ℕ, ◌<◌, ◌≤◌, ◌⊎◌, inl, inr, false, cond, Some, None, Ok, Err, Result, List, [], ◌∷◌, length}
+use Rattle.std.proofs.Common.{map, filter, refl, sym, ap, ◌∙◌, subst, arith}
 use Rattle.std.proofs.lemmas.Option.{slice_get_within}
 use Rattle.cyc_types.specs.Firing.{FiringView, FiringCall}
 use Rattle.cyc_types.specs.Limits.{cyclics as most_cyclics}
@@ -30,33 +31,41 @@ use Rattle.cyc_everywhere.proofs.Bringing.{all_everywhere, staying_same}
 use Rattle.cyc_everywhere.proofs.Rejoined.{few_stay, none_offline, agrees_online, within_online, whole_online}
 
 -- no removal is open where no cyclic is
-still_empty : {R : Type 0} (view : R → FiringView) (x : CpuView R) → IsLawful view x → x.cyclics ≡ [] → (id : ℕ) → x.removal ≡ Some id → ⊥
+still_empty : {R : Type 0} (view : R → FiringView) (x : CpuView R) → IsLawful view x → x.cyclics ≡ [] → (id : ℕ)
+    → x.removal ≡ Some id → ⊥
 still_empty view x law empty id e = let (k, c, is, named, soft, moment) = law.removed id e in
     let low = is.0 in let none = ap (λ (cs : List Cyclic). length cs) empty in omega (arith, low, none)
 
 -- a CPU with no cyclic refuses so many for want of memory, or since its last switch is not over
-why_not : {R : Type 0} (step : R → FiringCall → R → Type 0) (view : R → FiringView) (k : ℕ) (x y : CpuView R) (e : Refusal) → IsLawful view x → x.cyclics ≡ []
+why_not : {R : Type 0} (step : R → FiringCall → R → Type 0) (view : R → FiringView) (k : ℕ) (x y : CpuView R) (e : Refusal)
+    → IsLawful view x → x.cyclics ≡ []
     → k ≤ most_cyclics → Looked step view x y → WhyNotReserved view k x y e → (e ≡ why.Expanding) ⊎ (e ≡ why.Memory)
 why_not step view k x y why.Memory law empty few looked h = inr refl
 why_not step view k x y why.Expanding law empty few looked h = inl refl
 why_not step view k x y why.Full law empty few looked h =
     let a = ap (λ (cs : List Cyclic). length cs) (looked.cyclics ∙ empty) in absurd (omega (arith, a, few, h))
-why_not step view k x y (why.Busy id) law empty few looked h = absurd (still_empty view x law empty id (sym looked.kept.removal ∙ h.2))
+why_not step view k x y (why.Busy id) law empty few looked h =
+    absurd (still_empty view x law empty id (sym looked.kept.removal ∙ h.2))
 why_not step view k x y e law empty few looked h = absurd h
 
 module _ {R : Type 0} (step : R → FiringCall → R → Type 0) (view : R → FiringView) (v : CpusView R) (rs : List Record) (n now : ℕ)
-    (rising : HasRisingIds rs) (lawful : (m : ℕ) (cpu : CpuView R) → IsCpu m cpu v → IsLawful view cpu) (x : CpuView R) (at : IsCpu n x v)
+    (rising : HasRisingIds rs) (lawful : (m : ℕ) (cpu : CpuView R) → IsCpu m cpu v → IsLawful view cpu) (x : CpuView R)
+    (at : IsCpu n x v)
     (off : is_online n v ≡ false) where
   -- the system before the call is of any last id
   module _ (last : ℕ) (a : Agrees (seen v rs last)) where
     pub empty : x.cyclics ≡ []
     empty = none_offline (seen v rs last) n x a off at
 
-    pub clear : bad_now now ≡ None → first_refusal (no_cpu n (seen v rs last) ∷ online_cpu n (seen v rs last) ∷ bad_now now ∷ []) ≡ None
-    clear now_is = passes (no_cpu n (seen v rs last)) (online_cpu n (seen v rs last) ∷ bad_now now ∷ []) None (cpu_clear (seen v rs last) n (slice_get_within v.cpus n x at))
-        (passes (online_cpu n (seen v rs last)) (bad_now now ∷ []) None (not_when (is_online n v) why.Online off) (passes (bad_now now) [] None now_is refl))
+    pub clear : bad_now now ≡ None → first_refusal (no_cpu n (seen v rs last) ∷ online_cpu n (seen v rs last) ∷ bad_now now ∷ [])
+        ≡ None
+    clear now_is = passes (no_cpu n (seen v rs last)) (online_cpu n (seen v rs last) ∷ bad_now now ∷ []) None
+        (cpu_clear (seen v rs last) n (slice_get_within v.cpus n x at))
+        (passes (online_cpu n (seen v rs last)) (bad_now now ∷ []) None (not_when (is_online n v) why.Online off)
+        (passes (bad_now now) [] None now_is refl))
 
-    pub reserve_refused : (k : ℕ) (y : CpuView R) (e : Refusal) → k ≡ length (filter (is_staying v) rs) → Changes step view x (Reserve k (Err e)) y
+    pub reserve_refused : (k : ℕ) (y : CpuView R) (e : Refusal) → k ≡ length (filter (is_staying v) rs)
+        → Changes step view x (Reserve k (Err e)) y
         → (e ≡ why.Expanding) ⊎ (e ≡ why.Memory)
     reserve_refused k y e is d = why_not step view k x y e (lawful n x at) empty
         (let few = few_stay view (seen v rs last) a rising lawful in omega (arith, few, is)) d.0 d.1
@@ -64,27 +73,41 @@ module _ {R : Type 0} (step : R → FiringCall → R → Type 0) (view : R → F
   same_refused : (k : ℕ) (y : CpuView R) (e : Refusal) → Changes step view x (Reserve k (Err e)) y → SameWho v (with_cpu v n y)
   same_refused k y e d = same_at v n x y at (same_reserve step view x y k (Err e) d)
 
-  pub holds_refused : (k : ℕ) (y : CpuView R) (e : Refusal) (last : ℕ) → Changes step view x (Reserve k (Err e)) y → Holds (seen v rs last) → Holds (seen (with_cpu v n y) rs last)
+  pub holds_refused : (k : ℕ) (y : CpuView R) (e : Refusal) (last : ℕ) → Changes step view x (Reserve k (Err e)) y
+      → Holds (seen v rs last) → Holds (seen (with_cpu v n y) rs last)
   holds_refused k y e last d h = holds_same (seen v rs last) (with_cpu v n y) h (same_refused k y e d)
 
   -- from one agreement the refusal is known for any last id
-  pub online_refused : (k : ℕ) (y : CpuView R) (e : Refusal) (answer : Result (Unit {0}) Refusal) (some last : ℕ) → Agrees (seen v rs some) → bad_now now ≡ None → answer ≡ Err e
+  pub online_refused : (k : ℕ) (y : CpuView R) (e : Refusal) (answer : Result (Unit {0}) Refusal) (some last : ℕ)
+      → Agrees (seen v rs some) → bad_now now ≡ None → answer ≡ Err e
       → k ≡ length (filter (is_staying v) rs) → Changes step view x (Reserve k (Err e)) y
-      → Unless {S = SystemView R} (no_cpu n (seen v rs last) ∷ online_cpu n (seen v rs last) ∷ bad_now now ∷ []) (λ e. Err e) answer (seen v rs last) (seen (with_cpu v n y) rs last)
+      → Unless {S = SystemView R} (no_cpu n (seen v rs last) ∷ online_cpu n (seen v rs last) ∷ bad_now now ∷ [])
+      (λ e. Err e) answer (seen v rs last) (seen (with_cpu v n y) rs last)
       (GoesOnline step view n now answer (seen v rs last) (seen (with_cpu v n y) rs last))
   online_refused k y e answer some last a now_is is many d =
-      subst (λ r. Unless {S = SystemView R} (no_cpu n (seen v rs last) ∷ online_cpu n (seen v rs last) ∷ bad_now now ∷ []) (λ e. Err e) r (seen v rs last) (seen (with_cpu v n y) rs last)
+      subst (λ r. Unless {S = SystemView R} (no_cpu n (seen v rs last) ∷ online_cpu n (seen v rs last) ∷ bad_now now ∷ [])
+      (λ e. Err e) r (seen v rs last) (seen (with_cpu v n y) rs last)
       (GoesOnline step view n now r (seen v rs last) (seen (with_cpu v n y) rs last))) (sym is)
       (inr (
         clear some a now_is,
         (
           reserve_refused some a k y e many d,
-          ((with_cpu v n y, subst (λ j. DoesAt step view v (on n (Reserve j (Err e))) (with_cpu v n y)) many (changed n (λ p q. Changes step view p (Reserve k (Err e)) q) x y v at d), refl), refl, refl),
+          (
+            (
+              with_cpu v n y,
+              subst (λ j. DoesAt step view v (on n (Reserve j (Err e))) (with_cpu v n y)) many
+                  (changed n (λ p q. Changes step view p (Reserve k (Err e)) q) x y v at d),
+              refl,
+            ),
+            refl,
+            refl,
+          ),
         ),
       ))
 
   -- the CPU has memory and its new size
-  module _ (k : ℕ) (many : k ≡ length (filter (is_staying v) rs)) (y p z : CpuView R) (reserved : Changes step view x (Reserve k (Ok tt)) y)
+  module _ (k : ℕ) (many : k ≡ length (filter (is_staying v) rs)) (y p z : CpuView R)
+      (reserved : Changes step view x (Reserve k (Ok tt)) y)
       (there : IsCpu n p (with_cpu v n y)) (widened : Changes step view p (Widen k) z) where
     first : DoesAt step view v (on n (Reserve k (Ok tt))) (with_cpu v n y)
     first = changed n _ x y v at reserved
@@ -110,7 +133,8 @@ module _ {R : Type 0} (step : R → FiringCall → R → Type 0) (view : R → F
     most_ready = widened.1.most ∙ ap (λ (cpu : CpuView R). cpu.most) same_cpu ∙ reserved.0.most
 
     staying_ready : (r : Record) → is_staying (with_cpu (with_cpu v n y) n z) r ≡ is_staying v r
-    staying_ready = staying_same v (with_cpu (with_cpu v n y) n z) (λ id. leaving_same id v.cpus (with_cpu (with_cpu v n y) n z).cpus same_ready.long same_ready.removals)
+    staying_ready = staying_same v (with_cpu (with_cpu v n y) n z)
+        (λ id. leaving_same id v.cpus (with_cpu (with_cpu v n y) n z).cpus same_ready.long same_ready.removals)
 
     pub same_staying : filter (is_staying (with_cpu (with_cpu v n y) n z)) rs ≡ filter (is_staying v) rs
     same_staying = same_passing (is_staying v) (is_staying (with_cpu (with_cpu v n y) n z)) staying_ready rs
@@ -119,27 +143,34 @@ module _ {R : Type 0} (step : R → FiringCall → R → Type 0) (view : R → F
     same_after = (λ i. map (λ (r : Record). cond (staying_ready r i) (with_ended n no_counts r) r) rs)
 
     pub room_ready : length (filter (is_staying (with_cpu (with_cpu v n y) n z)) rs) ≤ z.size
-    room_ready = (let e = widened.1.enough in let s = ap (λ (l : List Record). length l) same_staying in omega (arith, e, s, many))
+    room_ready = (let e = widened.1.enough in let s = ap (λ (l : List Record). length l) same_staying in
+        omega (arith, e, s, many))
 
     -- the components came, and the CPU takes part
-    module _ (w t : CpusView R) (qs : List Record) (works : Works step view (returns n now (filter (is_staying (with_cpu (with_cpu v n y) n z)) rs)) (with_cpu (with_cpu v n y) n z) w)
+    module _ (w t : CpusView R) (qs : List Record)
+        (works : Works step view (returns n now (filter (is_staying (with_cpu (with_cpu v n y) n z)) rs))
+        (with_cpu (with_cpu v n y) n z) w)
         (list : qs ≡ map (after_return n (with_cpu (with_cpu v n y) n z)) rs) (switch : t ≡ switched_on n w) where
       works_here : Works step view (returns n now (filter (is_staying v) rs)) (with_cpu (with_cpu v n y) n z) w
       works_here = subst (λ l. Works step view (returns n now l) (with_cpu (with_cpu v n y) n z) w) same_staying works
 
       pub low_after : n < length w.cpus
-      low_after = let b = back step view n now (filter (is_staying v) rs) (with_cpu (with_cpu v n y) n z) w (all_everywhere v rs) works_here in
+      low_after = let b = back step view n now (filter (is_staying v) rs) (with_cpu (with_cpu v n y) n z) w
+          (all_everywhere v rs) works_here in
           subst (λ m. n < m) (sym b.long) (slice_get_within (with_cpu (with_cpu v n y) n z).cpus n z at_ready)
 
       pub online_done : (some last : ℕ) → Agrees (seen v rs some) → bad_now now ≡ None
-          → Unless {S = SystemView R} {A = Result (Unit {0}) Refusal} (no_cpu n (seen v rs last) ∷ online_cpu n (seen v rs last) ∷ bad_now now ∷ []) (λ e. Err e) (Ok tt) (seen v rs last) (seen t qs last)
+          → Unless {S = SystemView R} {A = Result (Unit {0}) Refusal}
+          (no_cpu n (seen v rs last) ∷ online_cpu n (seen v rs last) ∷ bad_now now ∷ []) (λ e. Err e) (Ok tt) (seen v rs last)
+          (seen t qs last)
           (GoesOnline step view n now (Ok tt) (seen v rs last) (seen t qs last))
       online_done some last a now_is = inr (
         clear some a now_is,
         (
           (
             w,
-            subst (λ j. Works step view (on n (Reserve j (Ok tt)) ∷ on n (Widen j) ∷ returns n now (filter (is_staying v) rs)) v w) many
+            subst (λ j. Works step view (on n (Reserve j (Ok tt)) ∷ on n (Widen j) ∷ returns n now (filter (is_staying v) rs)) v
+                w) many
                 (with_cpu v n y, first, (with_cpu (with_cpu v n y) n z, second, works_here)),
             switch,
           ),
@@ -150,10 +181,14 @@ module _ {R : Type 0} (step : R → FiringCall → R → Type 0) (view : R → F
 
       pub holds_done : (last : ℕ) → Holds (seen v rs last) → Holds (seen t qs last)
       holds_done last h =
-          let done = back step view n now (filter (is_staying v) rs) (with_cpu (with_cpu v n y) n z) w (all_everywhere v rs) works_here in
+          let done = back step view n now (filter (is_staying v) rs) (with_cpu (with_cpu v n y) n z) w
+          (all_everywhere v rs) works_here in
           let none = empty_ready (empty last h.agrees) in
           subst (λ (g : SystemView R). Holds g) (λ i. seen (sym switch i) (sym (list ∙ same_after) i) last) (record {
-            agrees = agrees_online n (seen v rs last) (with_cpu (with_cpu v n y) n z) w h.agrees rising off same_ready z at_ready none done;
-            whole = whole_online n (seen v rs last) (with_cpu (with_cpu v n y) n z) w h.agrees rising off same_ready z at_ready none done h.whole;
-            within = within_online n (seen v rs last) (with_cpu (with_cpu v n y) n z) w h.agrees rising off same_ready z at_ready none done h.within;
+            agrees = agrees_online n (seen v rs last) (with_cpu (with_cpu v n y) n z) w h.agrees rising off same_ready z at_ready
+                none done;
+            whole = whole_online n (seen v rs last) (with_cpu (with_cpu v n y) n z) w h.agrees rising off same_ready z at_ready
+                none done h.whole;
+            within = within_online n (seen v rs last) (with_cpu (with_cpu v n y) n z) w h.agrees rising off same_ready z at_ready
+                none done h.within;
           })

@@ -7,7 +7,8 @@ use Rattle.cyc_cpu.specs.Calls.{CpuCall, Changes, AskRoom, Reserve, Widen}
 use Rattle.cyc_agreement.specs.Cpus.{CpusView, CallOn, on, Works}
 use Rattle.cyc_agreement.specs.Reserving.{rooms, reserves, ReservesEach}
 use Rattle.cyc_everywhere.proofs.Components.{cyclics_on, are_same}
-use Rattle.cyc_agreement.proofs.Who.{SameIds, SameWho, same_none, same_then, same_changed, same_looked, same_reserve, same_widened}
+use Rattle.cyc_agreement.proofs.Who.{SameIds, SameWho, same_none, same_then, same_changed, same_looked, same_reserve}
+use Rattle.cyc_agreement.proofs.Who.{same_widened}
 
 -- a question for room, the taking of memory, or a switch
 pub data Quiet : CpuCall → Type 0 where
@@ -57,7 +58,8 @@ unfolding AllQuiet
 one_quiet n call q = (q, tt)
 
 -- where memory was taken on each CPU, or was not, each has the cyclics that it had
-pub quiet_reserves : {R : Type 0} (step : R → FiringCall → R → Type 0) (view : R → FiringView) (more : ℕ) (answer : Result (Unit {0}) Refusal)
+pub quiet_reserves : {R : Type 0} (step : R → FiringCall → R → Type 0) (view : R → FiringView) (more : ℕ)
+    (answer : Result (Unit {0}) Refusal)
     (v w : CpusView R) → ReservesEach step view more answer v w → SameWho v w
 quiet_reserves step view more (Ok done) v w (asked, a, b) = same_then v asked w
     (quiet_works step view _ v asked (all_rooms more _) a) (quiet_works step view _ asked w (all_reserves more _) b)
@@ -77,11 +79,14 @@ module _ {R : Type 0} (step : R → FiringCall → R → Type 0) (view : R → F
   quiet_list x y _ (takes more (Err e)) d = d.0.cyclics
   quiet_list x y _ (grows more) d = d.1.cyclics
 
-  quiet_lists : (way : List CallOn) (v w : CpusView R) → AllQuiet way → Works step view way v w → (m : ℕ) → cyclics_on m w ≡ cyclics_on m v
+  quiet_lists : (way : List CallOn) (v w : CpusView R) → AllQuiet way → Works step view way v w → (m : ℕ)
+      → cyclics_on m w ≡ cyclics_on m v
   unfolding AllQuiet
   quiet_lists [] v w q e m = ap (λ u. cyclics_on m u) (sym e)
   quiet_lists (c ∷ cs) v w q (u, did, rest) m = quiet_lists cs u w q.1 rest m
       ∙ are_same c.cpu _ v u did (quiet_list did.before did.after c.call q.0 did.change) m
 
-  pub lists_reserved : (more : ℕ) (v w : CpusView R) → ReservesEach step view more (Ok tt) v w → (m : ℕ) → cyclics_on m w ≡ cyclics_on m v
-  lists_reserved more v w (asked, a, b) m = quiet_lists _ asked w (all_reserves more _) b m ∙ quiet_lists _ v asked (all_rooms more _) a m
+  pub lists_reserved : (more : ℕ) (v w : CpusView R) → ReservesEach step view more (Ok tt) v w → (m : ℕ)
+      → cyclics_on m w ≡ cyclics_on m v
+  lists_reserved more v w (asked, a, b) m = quiet_lists _ asked w (all_reserves more _) b m
+      ∙ quiet_lists _ v asked (all_rooms more _) a m

@@ -1,5 +1,6 @@
 -- A system still agrees with its records after a CPU took part again.
-use Rattle.std.proofs.Common.{◌≡◌, ◌≢◌, ℕ, zero, suc, ◌<◌, ◌≤◌, ◌⊎◌, inl, inr, Bool, true, false, cond, not, Option, Some, None, List, [], ◌∷◌, length, get_or, map, slice_set, refl, sym, ap, ◌∙◌, subst, arith}
+use Rattle.std.proofs.Common.{◌≡◌, ◌≢◌, ℕ, zero, suc, ◌<◌, ◌≤◌, ◌⊎◌, inl, inr, Bool, true, false, cond, not, Option, Some, None}
+use Rattle.std.proofs.Common.{List, [], ◌∷◌, length, get_or, map, slice_set, refl, sym, ap, ◌∙◌, subst, arith}
 use Rattle.std.specs.Prelude.{◌||◌, ◌&&◌, ◌==◌}
 use Rattle.std.specs.List.{slice_get, list_any}
 use Rattle.std.specs.Option.{option_map_or, option_and_then}
@@ -42,7 +43,8 @@ and_second true true e = absurd (false_true e)
 and_second false b e = absurd (false_true e)
 
 -- where a removal is open on a CPU, the CPU is there
-pub removal_at : {R : Type 0} (id : ℕ) (o : Option (CpuView R)) → option_and_then (λ cpu. cpu.removal) o ≡ Some id → (cpu : CpuView R) × (o ≡ Some cpu) × (cpu.removal ≡ Some id)
+pub removal_at : {R : Type 0} (id : ℕ) (o : Option (CpuView R)) → option_and_then (λ cpu. cpu.removal) o ≡ Some id
+    → (cpu : CpuView R) × (o ≡ Some cpu) × (cpu.removal ≡ Some id)
 removal_at id None e = absurd (none_some e)
 removal_at id (Some cpu) e = (cpu, refl, e)
 
@@ -52,7 +54,8 @@ not_open v r m stays e = let (cpu, at, is) = removal_at r.id (slice_get v.cpus m
     not_leaving v r.id (and_second (is_everywhere r.place) (list_any (is_leaving_here r.id) v.cpus) stays) m cpu at is
 
 -- an id that is leaving is leaving on some CPU
-pub open_on : {R : Type 0} (v : CpusView R) (id : ℕ) → list_any (is_leaving_here id) v.cpus ≡ true → (m : ℕ) × (removal_on m v ≡ Some id)
+pub open_on : {R : Type 0} (v : CpusView R) (id : ℕ) → list_any (is_leaving_here id) v.cpus ≡ true → (m : ℕ)
+    × (removal_on m v ≡ Some id)
 open_on {R} v id e =
     let (k, low, passes) = any_place (is_leaving_here id) v.cpus e in
     let (cpu, at) = get_some v.cpus k low in (
@@ -74,7 +77,8 @@ module _ {R : Type 0} (view : R → FiringView) (s : SystemView R) (a : Agrees s
   staying_on m q on h = let (k, r, is, named, stays) = found_in (is_staying s.cpus) q s.records h in
       ap (λ i. has m i s.cpus) (sym named) ∙ by r stays (a.everywhere k m r is (staying_everywhere s.cpus r stays) on)
     where
-      by : (r : Record) → is_staying s.cpus r ≡ true → (has m r.id s.cpus ≡ true) ⊎ ((j : ℕ) × (removal_on j s.cpus ≡ Some r.id)) → has m r.id s.cpus ≡ true
+      by : (r : Record) → is_staying s.cpus r ≡ true → (has m r.id s.cpus ≡ true) ⊎ ((j : ℕ) × (removal_on j s.cpus ≡ Some r.id))
+          → has m r.id s.cpus ≡ true
       by r stays (inl here) = here
       by r stays (inr (j, e)) = absurd (not_open s.cpus r j stays e)
 
@@ -82,17 +86,20 @@ module _ {R : Type 0} (view : R → FiringView) (s : SystemView R) (a : Agrees s
   pub few_stay : length (staying s) ≤ most_cyclics
   few_stay =
       let (m, on) = a.some in
-      let low : m < length s.cpus.cpus = subst (λ k. m < k) a.long (slice_get_within s.cpus.online m true (online_at s.cpus m on)) in
+      let low : m < length s.cpus.cpus = subst (λ k. m < k) a.long (slice_get_within s.cpus.online m true (online_at s.cpus m on))
+      in
       let (cpu, at) = get_some s.cpus.cpus m low in
       let law = lawful m cpu at in
-      let within = no_more (ids_in (staying s)) (ids_of cpu) (records_rise (is_staying s.cpus) s.records rising) (rises_of (ids_of cpu) (ids_rise cpu.cyclics law.rising))
+      let within = no_more (ids_in (staying s)) (ids_of cpu) (records_rise (is_staying s.cpus) s.records rising)
+      (rises_of (ids_of cpu) (ids_rise cpu.cyclics law.rising))
       (λ q h. sym (ap (λ ids. among q ids) (ids_there s.cpus m cpu cpu at)) ∙ staying_on m q on h) in
       let n = length-map (staying s) (λ (r : Record). r.id) in
       let c = length-map cpu.cyclics id_in in
       let few = law.few in let size = law.size in omega (arith, within, n, c, few, size)
 
 -- a CPU that is offline has no cyclic
-pub none_offline : {R : Type 0} (s : SystemView R) (n : ℕ) (cpu : CpuView R) → Agrees s → is_online n s.cpus ≡ false → IsCpu n cpu s.cpus → cpu.cyclics ≡ []
+pub none_offline : {R : Type 0} (s : SystemView R) (n : ℕ) (cpu : CpuView R) → Agrees s → is_online n s.cpus ≡ false
+    → IsCpu n cpu s.cpus → cpu.cyclics ≡ []
 none_offline s n cpu a off at = by cpu.cyclics (ids_there s.cpus n cpu cpu at)
   where
     by : (cs : List Cyclic) → ids_on n s.cpus ≡ map id_in cs → cs ≡ []
@@ -103,7 +110,8 @@ none_offline s n cpu a off at = by cpu.cyclics (ids_there s.cpus n cpu cpu at)
 
 -- ---- the records afterwards
 
-mapped_at : (f : Record → Record) (k : ℕ) (q : Record) (rs : List Record) → IsRecord (map f rs) k q → (r : Record) × IsRecord rs k r × (q ≡ f r)
+mapped_at : (f : Record → Record) (k : ℕ) (q : Record) (rs : List Record) → IsRecord (map f rs) k q → (r : Record)
+    × IsRecord rs k r × (q ≡ f r)
 mapped_at f k q [] e = absurd (none_some e)
 mapped_at f zero q (x ∷ rs) e = (x, refl, sym (same_some e))
 mapped_at f (suc k) q (x ∷ rs) e = mapped_at f k q rs e
@@ -137,7 +145,8 @@ turned n true r = record {
   other = λ m ne. get_or-set_other r.ended n m no_counts no_counts ne;
   left = λ e. absurd (false_true (sym e));
   less = λ m. dite (ℕ_discrete m n)
-      (λ e. let z : (ended_on m (with_ended n no_counts r)).sent ≡ 0 = ap (λ k. (ended_on k (with_ended n no_counts r)).sent) e ∙ ap (λ (c : Sent). c.sent) (set_there r.ended n) in omega (arith, z))
+      (λ e. let z : (ended_on m (with_ended n no_counts r)).sent ≡ 0 = ap (λ k. (ended_on k (with_ended n no_counts r)).sent) e
+      ∙ ap (λ (c : Sent). c.sent) (set_there r.ended n) in omega (arith, z))
       (λ ne. let z = ap (λ (c : Sent). c.sent) (get_or-set_other r.ended n m no_counts no_counts ne) in omega (arith, z));
 }
 turned n false r = record {
@@ -150,14 +159,16 @@ turned n false r = record {
   less = λ m. omega arith;
 }
 
-pub turned_at : {R : Type 0} (n : ℕ) (v : CpusView R) (rs : List Record) (k : ℕ) (q : Record) → IsRecord (map (after_return n v) rs) k q
+pub turned_at : {R : Type 0} (n : ℕ) (v : CpusView R) (rs : List Record) (k : ℕ) (q : Record)
+    → IsRecord (map (after_return n v) rs) k q
     → (r : Record) × IsRecord rs k r × Turned n (is_staying v r) r q
 turned_at n v rs k q is = let (r, at, same) = mapped_at (after_return n v) k q rs is in
     (r, at, subst (λ p. Turned n (is_staying v r) r p) (sym same) (turned n (is_staying v r) r))
 
 -- ---- the system afterwards
 
-module _ {R : Type 0} (n : ℕ) (s : SystemView R) (u w : CpusView R) (a : Agrees s) (rising : HasRisingIds s.records) (off : is_online n s.cpus ≡ false)
+module _ {R : Type 0} (n : ℕ) (s : SystemView R) (u w : CpusView R) (a : Agrees s) (rising : HasRisingIds s.records)
+    (off : is_online n s.cpus ≡ false)
     (same : SameWho s.cpus u) (x : CpuView R) (at : IsCpu n x u) (empty : x.cyclics ≡ []) (b : Back n (staying s) u w) where
   low : n < length s.cpus.cpus
   low = subst (λ k. n < k) same.long (slice_get_within u.cpus n x at)
@@ -167,7 +178,8 @@ module _ {R : Type 0} (n : ℕ) (s : SystemView R) (u w : CpusView R) (a : Agree
   or_none false q e = e
 
   has_here : (q : ℕ) → has n q w ≡ among q (ids_in (staying s))
-  has_here q = back_has n (staying s) u w x at b q ∙ or_none (among q (ids_in (staying s))) (among q (ids_of x)) (ap (λ cs. among q (map id_in cs)) empty)
+  has_here q = back_has n (staying s) u w x at b q
+      ∙ or_none (among q (ids_in (staying s))) (among q (ids_of x)) (ap (λ cs. among q (map id_in cs)) empty)
 
   has_there : (m q : ℕ) → m ≢ n → has m q w ≡ has m q s.cpus
   has_there m q ne = ap (λ ids. among q ids) (back_elsewhere n (staying s) u w x at b m ne) ∙ has_same s.cpus u same m q
@@ -191,7 +203,8 @@ module _ {R : Type 0} (n : ℕ) (s : SystemView R) (u w : CpusView R) (a : Agree
   online_here = ap (λ o. option_map_or (λ online. online) o false) (get_set_same w.online n true low_online)
 
   online_there : (m : ℕ) → m ≢ n → is_online m (switched_on n w) ≡ is_online m s.cpus
-  online_there m ne = ap (λ o. option_map_or (λ online. online) o false) (get_set_other w.online n m true ne ∙ ap (λ o. slice_get o m) as_before)
+  online_there m ne = ap (λ o. option_map_or (λ online. online) o false) (get_set_other w.online n m true ne
+      ∙ ap (λ o. slice_get o m) as_before)
 
   -- what is online was not this CPU
   not_this : (m : ℕ) → is_online m s.cpus ≡ true → m ≢ n
@@ -200,10 +213,12 @@ module _ {R : Type 0} (n : ℕ) (s : SystemView R) (u w : CpusView R) (a : Agree
   after : List Record
   after = map (after_return n s.cpus) s.records
 
-  by_known : (m q : ℕ) → has m q w ≡ true → (k : ℕ) × (r : Record) × IsRecord after k r × (r.id ≡ q) × Stands m r.place × (is_online m (switched_on n w) ≡ true)
+  by_known : (m q : ℕ) → has m q w ≡ true → (k : ℕ) × (r : Record) × IsRecord after k r × (r.id ≡ q) × Stands m r.place
+      × (is_online m (switched_on n w) ≡ true)
   unfolding after
   by_known m q h = dite (ℕ_discrete m n)
-      (λ e. let (k, r, is, named, stays) = found_in (is_staying s.cpus) q s.records (sym (has_here q) ∙ (ap (λ j. has j q w) (sym e) ∙ h)) in
+      (λ e. let (k, r, is, named, stays) = found_in (is_staying s.cpus) q s.records (sym (has_here q)
+      ∙ (ap (λ j. has j q w) (sym e) ∙ h)) in
       let t = turned n (is_staying s.cpus r) r in (
         k,
         after_return n s.cpus r,
@@ -234,7 +249,8 @@ module _ {R : Type 0} (n : ℕ) (s : SystemView R) (u w : CpusView R) (a : Agree
       let (j, y, at2, named, stands, on) = a.known m r.id here in
       ap (λ i. has m i w) t.id ∙ has_there m r.id (not_this m on) ∙ here
 
-  by_everywhere : (k m : ℕ) (q : Record) → IsRecord after k q → is_everywhere q.place ≡ true → is_online m (switched_on n w) ≡ true
+  by_everywhere : (k m : ℕ) (q : Record) → IsRecord after k q → is_everywhere q.place ≡ true
+      → is_online m (switched_on n w) ≡ true
       → (has m q.id w ≡ true) ⊎ ((j : ℕ) × (removal_on j w ≡ Some q.id))
   unfolding after
   by_everywhere k m q is p on =
@@ -244,9 +260,11 @@ module _ {R : Type 0} (n : ℕ) (s : SystemView R) (u w : CpusView R) (a : Agree
       (λ e. back_here r e t.id before every (list_any (is_leaving_here r.id) s.cpus.cpus) refl)
       (λ ne. there r t.id ne (a.everywhere k m r before every (sym (online_there m ne) ∙ on)))
     where
-      back_here : (r : Record) → m ≡ n → q.id ≡ r.id → IsRecord s.records k r → is_everywhere r.place ≡ true → (c : Bool) → list_any (is_leaving_here r.id) s.cpus.cpus ≡ c
+      back_here : (r : Record) → m ≡ n → q.id ≡ r.id → IsRecord s.records k r → is_everywhere r.place ≡ true → (c : Bool)
+          → list_any (is_leaving_here r.id) s.cpus.cpus ≡ c
           → (has m q.id w ≡ true) ⊎ ((j : ℕ) × (removal_on j w ≡ Some q.id))
-      back_here r e id before every true leaving = let (j, is) = open_on s.cpus r.id leaving in inr (j, removals j ∙ is ∙ ap Some (sym id))
+      back_here r e id before every true leaving = let (j, is) = open_on s.cpus r.id leaving in
+          inr (j, removals j ∙ is ∙ ap Some (sym id))
       back_here r e id before every false still = inl (ap (λ i. has m i w) id ∙ ap (λ j. has j r.id w) e ∙ has_here r.id
           ∙ is_in (is_staying s.cpus) k r s.records before (λ i. every i && not (still i)))
 
@@ -262,7 +280,8 @@ module _ {R : Type 0} (n : ℕ) (s : SystemView R) (u w : CpusView R) (a : Agree
       dite (ℕ_discrete m n)
       (λ e. ap (λ j. ended_on j q) e ∙ t.here (let (j, p, at2, named, stays) = found_in (is_staying s.cpus) r.id s.records
       (sym (has_here r.id) ∙ (ap (λ i. has i r.id w) (sym e) ∙ (ap (λ i. has m i w) (sym t.id) ∙ h))) in
-      let one : p ≡ r = same_some (sym at2 ∙ subst (λ i. IsRecord s.records i r) (sym (one_record s.records k j r p rising before at2 named)) before) in
+      let one : p ≡ r = same_some (sym at2 ∙ subst (λ i. IsRecord s.records i r)
+      (sym (one_record s.records k j r p rising before at2 named)) before) in
       ap (is_staying s.cpus) (sym one) ∙ stays))
       (λ ne. t.other m ne ∙ a.ended k m r before (sym (has_there m r.id ne) ∙ (ap (λ i. has m i w) (sym t.id) ∙ h)))
 
@@ -271,7 +290,8 @@ module _ {R : Type 0} (n : ℕ) (s : SystemView R) (u w : CpusView R) (a : Agree
   by_single k m q is p =
       let (r, before, t) = turned_at n s.cpus s.records k q is in
       let one : is_everywhere r.place ≡ false = ap is_everywhere (sym t.place) ∙ p in
-      ap (λ y. ended_on m y) (t.left (ap (λ c. c && not (list_any (is_leaving_here r.id) s.cpus.cpus)) one)) ∙ a.single k m r before one
+      ap (λ y. ended_on m y) (t.left (ap (λ c. c && not (list_any (is_leaving_here r.id) s.cpus.cpus)) one))
+      ∙ a.single k m r before one
 
   pub agrees_online : Agrees (record { cpus = switched_on n w; records = map (after_return n s.cpus) s.records; last = s.last })
   unfolding after
@@ -281,19 +301,22 @@ module _ {R : Type 0} (n : ℕ) (s : SystemView R) (u w : CpusView R) (a : Agree
     everywhere = by_everywhere;
     ended = by_ended;
     single = by_single;
-    given = λ k q is. (let (r, before, t) = turned_at n s.cpus s.records k q is in let l = a.given k r before in let e = t.id in omega (arith, l, e));
+    given = λ k q is. (let (r, before, t) = turned_at n s.cpus s.records k q is in let l = a.given k r before in let e = t.id in
+        omega (arith, l, e));
     few = subst (λ k. k ≤ 16) (sym long) a.few;
     long = length-set w.online n true ∙ ap (λ (o : List Bool). length o) as_before ∙ a.long ∙ sym long;
     some = (a.some.0, online_there a.some.0 (not_this a.some.0 a.some.1) ∙ a.some.1);
     most = λ m j c d e f. a.most m j c d (sym (most m) ∙ e) (sym (most j) ∙ f);
   }
 
-  pub within_online : EndedWithin s → EndedWithin (record { cpus = switched_on n w; records = map (after_return n s.cpus) s.records; last = 0 })
+  pub within_online : EndedWithin s → EndedWithin
+      (record { cpus = switched_on n w; records = map (after_return n s.cpus) s.records; last = 0 })
   within_online h k m bound q is e = let (r, before, t) = turned_at n s.cpus s.records k q is in
       let l = h k m bound r before (sym (most m) ∙ e) in let less = t.less m in omega (arith, l, less)
 
   pub whole_online : LeaveWhole s.cpus → LeaveWhole (switched_on n w)
   whole_online h m k q e there = dite (ℕ_discrete k n)
-      (λ same. let (j, r, is, named, stays) = found_in (is_staying s.cpus) q s.records (sym (has_here q) ∙ (ap (λ i. has i q w) (sym same) ∙ there)) in
+      (λ same. let (j, r, is, named, stays) = found_in (is_staying s.cpus) q s.records (sym (has_here q)
+      ∙ (ap (λ i. has i q w) (sym same) ∙ there)) in
       absurd (not_open s.cpus r m stays (sym (removals m) ∙ e ∙ ap Some (sym named))))
       (λ ne. removals k ∙ h m k q (sym (removals m) ∙ e) (sym (has_there k q ne) ∙ there))

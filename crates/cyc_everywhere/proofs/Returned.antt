@@ -1,5 +1,6 @@
 -- The components of omnipresent cyclics that came back to a CPU.
-use Rattle.std.proofs.Common.{◌≡◌, ◌≢◌, ℕ, suc, ◌+◌, Bool, true, false, Some, None, List, [], ◌∷◌, ◌++◌, length, refl, sym, ap, ◌∙◌, subst, append_assoc, arith}
+use Rattle.std.proofs.Common.{◌≡◌, ◌≢◌, ℕ, suc, ◌+◌, Bool, true, false, Some, None, List, [], ◌∷◌, ◌++◌, length, refl, sym, ap}
+use Rattle.std.proofs.Common.{◌∙◌, subst, append_assoc, arith}
 use Rattle.std.specs.Prelude.{◌||◌, ◌==◌}
 use Rattle.std.specs.List.{slice_get, list_any}
 use Rattle.std.specs.Option.{option_map, option_map_or, option_and_then}
@@ -54,7 +55,8 @@ or_swap true false c = refl
 or_swap false true c = refl
 or_swap false false c = refl
 
-gains_then : {R : Type 0} (r : Record) (rs : List Record) (x y z : CpuView R) → Gains (r ∷ []) x y → Gains rs y z → Gains (r ∷ rs) x z
+gains_then : {R : Type 0} (r : Record) (rs : List Record) (x y z : CpuView R) → Gains (r ∷ []) x y → Gains rs y z
+    → Gains (r ∷ rs) x z
 gains_then r rs x y z a b = record {
   ids = λ q. b.ids q ∙ ap (λ c. among q (ids_in rs) || c) (a.ids q ∙ ap (λ c. c || among q (ids_of x)) (or_none (r.id == q)))
       ∙ or_swap (among q (ids_in rs)) (r.id == q) (among q (ids_of x));
@@ -72,8 +74,10 @@ module _ {R : Type 0} (step : R → FiringCall → R → Type 0) (view : R → F
   gains_one : (r : Record) (c : Cyclic) (x y : CpuView R) → c.timer.id ≡ r.id → Places step view c x y → Gains (r ∷ []) x y
   gains_one r c x y named p = record {
     ids = λ q. dite (ℕ_discrete q c.timer.id)
-        (λ e. ap (λ k. among k (ids_of y)) e ∙ o.here ∙ sym (ap (λ b. (b || false) || among q (ids_of x)) (true_eq r.id q (sym (e ∙ named)))))
-        (λ ne. o.others q ne ∙ sym (ap (λ b. (b || false) || among q (ids_of x)) (false_ne r.id q (λ e. ne (sym e ∙ sym named)))));
+        (λ e. ap (λ k. among k (ids_of y)) e ∙ o.here
+        ∙ sym (ap (λ b. (b || false) || among q (ids_of x)) (true_eq r.id q (sym (e ∙ named)))))
+        (λ ne. o.others q ne ∙ sym (ap (λ b. (b || false) || among q (ids_of x))
+        (false_ne r.id q (λ e. ne (sym e ∙ sym named)))));
     many = (let e = ap (λ (cs : List Cyclic). length cs) p.cyclics ∙ length-insert x.cyclics p.place c p.within in e);
     size = p.kept.size;
     most = p.kept.most;
@@ -101,35 +105,51 @@ module _ {R : Type 0} (step : R → FiringCall → R → Type 0) (view : R → F
       → Works step view (return_at n now r.id r.level (ended_on n r) place) v w → Back n (r ∷ []) v w
   back_at n now r (On m bound) v w e works = absurd (false_true e)
   back_at n now r (Everywhere series skew) v w e (u, did, last) = subst (λ x. Back n (r ∷ []) v x) last
-      (back_one n r (cyclic_with r.id r.level series.interval (component_first n series skew now) (ended_on n r).sent (ended_on n r).lost) v u _ refl did did.change.1)
+      (back_one n r (cyclic_with r.id r.level series.interval (component_first n series skew now) (ended_on n r).sent
+      (ended_on n r).lost) v u _ refl did did.change.1)
 
 back_none : {R : Type 0} (n : ℕ) (v : CpusView R) → Back n [] v v
 back_none n v = record {
   online = refl;
   long = refl;
   others = λ m ne. refl;
-  cpu = λ x at. (x, at, record { ids = λ q. refl; many = (let e : length x.cyclics ≡ length x.cyclics + 0 = omega arith in e); size = refl; most = refl; removal = refl });
+  cpu = λ x at. (
+    x,
+    at,
+    record {
+      ids = λ q. refl;
+      many = (let e : length x.cyclics ≡ length x.cyclics + 0 = omega arith in e);
+      size = refl;
+      most = refl;
+      removal = refl;
+    },
+  );
 }
 
-back_then : {R : Type 0} (n : ℕ) (r : Record) (rs : List Record) (u v w : CpusView R) → Back n (r ∷ []) u v → Back n rs v w → Back n (r ∷ rs) u w
+back_then : {R : Type 0} (n : ℕ) (r : Record) (rs : List Record) (u v w : CpusView R) → Back n (r ∷ []) u v → Back n rs v w
+    → Back n (r ∷ rs) u w
 back_then n r rs u v w a b = record {
   online = b.online ∙ a.online;
   long = b.long ∙ a.long;
   others = λ m ne. b.others m ne ∙ a.others m ne;
-  cpu = λ x at. (let (y, here, first) = a.cpu x at in let (z, there, rest) = b.cpu y here in (z, there, gains_then r rs x y z first rest));
+  cpu = λ x at. (let (y, here, first) = a.cpu x at in let (z, there, rest) = b.cpu y here in
+      (z, there, gains_then r rs x y z first rest));
 }
 
 module _ {R : Type 0} (step : R → FiringCall → R → Type 0) (view : R → FiringView) (n now : ℕ) where
   pub back : (rs : List Record) (v w : CpusView R) → AllEverywhere rs → Works step view (returns n now rs) v w → Back n rs v w
   back [] v w all e = subst (λ u. Back n [] v u) e (back_none n v)
   back (r ∷ rs) v w all works =
-      let (u, first, rest) = between (DoesAt step view) v (return_at n now r.id r.level (ended_on n r) r.place) (returns n now rs) w works in
+      let (u, first, rest) = between (DoesAt step view) v (return_at n now r.id r.level (ended_on n r) r.place)
+      (returns n now rs) w works in
       back_then n r rs v u w (back_at step view n now r r.place v u all.0 first) (back rs u w all.1 rest)
 
-  pub returns_more : (rs : List Record) (r : Record) → returns n now (rs ++ r ∷ []) ≡ returns n now rs ++ return_at n now r.id r.level (ended_on n r) r.place
+  pub returns_more : (rs : List Record) (r : Record)
+      → returns n now (rs ++ r ∷ []) ≡ returns n now rs ++ return_at n now r.id r.level (ended_on n r) r.place
   returns_more [] r = append-nil _
   returns_more (q ∷ rs) r = ap (λ cs. return_at n now q.id q.level (ended_on n q) q.place ++ cs) (returns_more rs r)
-      ∙ sym (append_assoc (return_at n now q.id q.level (ended_on n q) q.place) (returns n now rs) (return_at n now r.id r.level (ended_on n r) r.place))
+      ∙ sym (append_assoc (return_at n now q.id q.level (ended_on n q) q.place) (returns n now rs)
+      (return_at n now r.id r.level (ended_on n r) r.place))
 
 -- what all CPUs keep
 module _ {R : Type 0} (n : ℕ) (rs : List Record) (v w : CpusView R) (x : CpuView R) (at : IsCpu n x v) (b : Back n rs v w) where
@@ -142,14 +162,16 @@ module _ {R : Type 0} (n : ℕ) (rs : List Record) (v w : CpusView R) (x : CpuVi
       (λ ne. ap (λ o. option_map_or f o none) (b.others m ne))
 
   pub back_removals : (m : ℕ) → removal_on m w ≡ removal_on m v
-  back_removals m = as_and (slice_get w.cpus m) ∙ kept (λ cpu. cpu.removal) None (λ y g. g.removal) m ∙ sym (as_and (slice_get v.cpus m))
+  back_removals m = as_and (slice_get w.cpus m) ∙ kept (λ cpu. cpu.removal) None (λ y g. g.removal) m
+      ∙ sym (as_and (slice_get v.cpus m))
     where
       as_and : (o : _) → option_and_then (λ (cpu : CpuView R). cpu.removal) o ≡ option_map_or (λ cpu. cpu.removal) o None
       as_and None = refl
       as_and (Some y) = refl
 
   pub back_most : (m : ℕ) → most_on m w ≡ most_on m v
-  back_most m = as_map (slice_get w.cpus m) ∙ kept (λ cpu. Some cpu.most) None (λ y g. ap Some g.most) m ∙ sym (as_map (slice_get v.cpus m))
+  back_most m = as_map (slice_get w.cpus m) ∙ kept (λ cpu. Some cpu.most) None (λ y g. ap Some g.most) m
+      ∙ sym (as_map (slice_get v.cpus m))
     where
       as_map : (o : _) → option_map (λ (cpu : CpuView R). cpu.most) o ≡ option_map_or (λ cpu. Some cpu.most) o None
       as_map None = refl
@@ -169,20 +191,26 @@ leaving_same id [] [] long same = refl
 leaving_same id [] (y ∷ ys) long same = absurd (omega (arith, long))
 leaving_same id (x ∷ xs) [] long same = absurd (omega (arith, long))
 leaving_same id (x ∷ xs) (y ∷ ys) long same =
-    (λ i. option_map_or (λ own. own == id) (same 0 i) false || leaving_same id xs ys (let e = long in omega (arith, e)) (λ m. same (suc m)) i)
+    (λ i. option_map_or (λ own. own == id) (same 0 i) false || leaving_same id xs ys (let e = long in omega (arith, e))
+    (λ m. same (suc m)) i)
 
 -- one component was placed
 module _ {R : Type 0} (step : R → FiringCall → R → Type 0) (view : R → FiringView) (n now : ℕ) where
-  by_place : (q : Record) (place : Place) (series : When) (skew : ℕ) (counts : Sent) (v : CpusView R) (x y : CpuView R) → place ≡ Everywhere series skew → IsCpu n x v
+  by_place : (q : Record) (place : Place) (series : When) (skew : ℕ) (counts : Sent) (v : CpusView R) (x y : CpuView R)
+      → place ≡ Everywhere series skew → IsCpu n x v
       → Changes step view x (PlaceCall q.id q.level series.interval (component_first n series skew now) counts) y
       → Works step view (return_at n now q.id q.level counts place) v (with_cpu v n y)
-  by_place q place series skew counts v x y is at did = subst (λ p. Works step view (return_at n now q.id q.level counts p) v (with_cpu v n y)) (sym is)
+  by_place q place series skew counts v x y is at did =
+      subst (λ p. Works step view (return_at n now q.id q.level counts p) v (with_cpu v n y)) (sym is)
       (with_cpu v n y, changed n _ x y v at did, refl)
 
-  pub one_back : (r q : Record) (series : When) (skew moment : ℕ) (counts : Sent) (v : CpusView R) (x y : CpuView R) → r ≡ q → q.place ≡ Everywhere series skew → IsCpu n x v
-      → moment ≡ component_first n series skew now → counts ≡ ended_on n q → Changes step view x (PlaceCall q.id q.level series.interval moment counts) y
+  pub one_back : (r q : Record) (series : When) (skew moment : ℕ) (counts : Sent) (v : CpusView R) (x y : CpuView R) → r ≡ q
+      → q.place ≡ Everywhere series skew → IsCpu n x v
+      → moment ≡ component_first n series skew now → counts ≡ ended_on n q
+      → Changes step view x (PlaceCall q.id q.level series.interval moment counts) y
       → Works step view (return_at n now r.id r.level (ended_on n r) r.place) v (with_cpu v n y)
   one_back r q series skew moment counts v x y same place at first ended did =
       subst (λ (z : Record). Works step view (return_at n now z.id z.level (ended_on n z) z.place) v (with_cpu v n y)) (sym same)
       (subst (λ c. Works step view (return_at n now q.id q.level c q.place) v (with_cpu v n y)) ended
-      (by_place q q.place series skew counts v x y place at (subst (λ m. Changes step view x (PlaceCall q.id q.level series.interval m counts) y) first did)))
+      (by_place q q.place series skew counts v x y place at
+      (subst (λ m. Changes step view x (PlaceCall q.id q.level series.interval m counts) y) first did)))

@@ -18,7 +18,8 @@ use Rattle.cyc_everywhere.specs.Laws.{Here, HasOne, new_component}
 use Rattle.cyc_everywhere.proofs.Numbers.{among_online}
 use Rattle.cyc_everywhere.proofs.Quiet.{lists_reserved}
 use Rattle.cyc_everywhere.proofs.Arriving.{between}
-use Rattle.cyc_everywhere.proofs.Components.{Came, came_none, came_then, came_more, came_placed, here_placed, one_of, cyclics_on, were_there, are_there, are_beside, are_same}
+use Rattle.cyc_everywhere.proofs.Components.{Came, came_none, came_then, came_more, came_placed, here_placed, one_of, cyclics_on}
+use Rattle.cyc_everywhere.proofs.Components.{were_there, are_there, are_beside, are_same}
 
 pub copies : ℕ → List ℕ → List ℕ
 copies id ns = map (λ n. id) ns
@@ -32,20 +33,23 @@ only_copies id q (n ∷ ns) e = by (id == q) refl (only_copies id q ns) e
     by true is rest h = sym (eq_true id q is)
     by false is rest h = rest h
 
-module _ {R : Type 0} (step : R → FiringCall → R → Type 0) (view : R → FiringView) (id : ℕ) (level : Level) (when : When) (skew now : ℕ) where
+module _ {R : Type 0} (step : R → FiringCall → R → Type 0) (view : R → FiringView) (id : ℕ) (level : Level) (when : When)
+    (skew now : ℕ) where
   -- what one CPU has of it after the walk
   pub record Visited (m : ℕ) (ns : List ℕ) (v w : CpusView R) : Type 0 where
     pub came : Came (copies id ns) (cyclics_on m v) (cyclics_on m w)
     pub here : among m ns ≡ true → Here (new_component m id level when skew now) (cyclics_on m w) × HasRisingIds (cyclics_on m w)
 
-  visit_one : (n m : ℕ) (v w : CpusView R) → Works step view (entering n id level when.interval (component_first n when skew now)) v w → Visited m (n ∷ []) v w
+  visit_one : (n m : ℕ) (v w : CpusView R)
+      → Works step view (entering n id level when.interval (component_first n when skew now)) v w → Visited m (n ∷ []) v w
   unfolding copies
   visit_one n m v w (u, widens, (t, places, e)) = dite (ℕ_discrete m n)
       (λ same. subst (λ k. Visited k (n ∷ []) v w) (sym same) (record {
         came = subst (λ l. Came (id ∷ []) l (cyclics_on n w)) before (subst (λ l. Came (id ∷ []) places.before.cyclics l) after
             (came_placed step view _ places.before places.after places.change.1));
         here = λ h. (
-          subst (λ l. Here (new_component n id level when skew now) l) after (here_placed step view _ places.before places.after places.change.1),
+          subst (λ l. Here (new_component n id level when skew now) l) after
+              (here_placed step view _ places.before places.after places.change.1),
           subst (λ l. HasRisingIds l) after places.change.1.rising,
         );
       }))
@@ -64,11 +68,17 @@ module _ {R : Type 0} (step : R → FiringCall → R → Type 0) (view : R → F
       after : places.after.cyclics ≡ cyclics_on n w
       after = sym (are_there n _ u t places) ∙ ap (λ x. cyclics_on n x) e
 
-  pub visit : (ns : List ℕ) (m : ℕ) (v w : CpusView R) → Works step view (entering_each ns id level when skew now) v w → Visited m ns v w
+  pub visit : (ns : List ℕ) (m : ℕ) (v w : CpusView R) → Works step view (entering_each ns id level when skew now) v w
+      → Visited m ns v w
   unfolding copies
-  visit [] m v w e = record { came = came_none (cyclics_on m v) (cyclics_on m w) (ap (λ x. cyclics_on m x) (sym e)); here = λ h. absurd (false_true h) }
+  visit [] m v w e = record {
+    came = came_none (cyclics_on m v) (cyclics_on m w) (ap (λ x. cyclics_on m x) (sym e));
+    here =
+        λ h. absurd (false_true h);
+  }
   visit (n ∷ ns) m v w works =
-      let (u, first, rest) = between (DoesAt step view) v (entering n id level when.interval (component_first n when skew now)) (entering_each ns id level when skew now) w works in
+      let (u, first, rest) = between (DoesAt step view) v (entering n id level when.interval (component_first n when skew now))
+      (entering_each ns id level when skew now) w works in
       let a = visit_one n m v u first in let b = visit ns m u w rest in record {
         came = came_then id (copies id ns) (cyclics_on m v) (cyclics_on m u) (cyclics_on m w) a.came b.came;
         here = λ h. by u a b (n == m) refl h;
@@ -76,11 +86,13 @@ module _ {R : Type 0} (step : R → FiringCall → R → Type 0) (view : R → F
     where
       by : (u : CpusView R) → Visited m (n ∷ []) v u → Visited m ns u w → (c : Bool) → (n == m) ≡ c → (c || among m ns) ≡ true
           → Here (new_component m id level when skew now) (cyclics_on m w) × HasRisingIds (cyclics_on m w)
-      by u a b true is h = let (here, rising) = a.here (ap (λ c. c || false) is) in (b.came.old (new_component m id level when skew now) here, b.came.rising rising)
+      by u a b true is h = let (here, rising) = a.here (ap (λ c. c || false) is) in
+          (b.came.old (new_component m id level when skew now) here, b.came.rising rising)
       by u a b false is h = b.here h
 
 -- what the laws of add_omni say
-module _ {R : Type 0} (step : R → FiringCall → R → Type 0) (view : R → FiringView) (s t : SystemView R) (level : Level) (when : When) (skew now id : ℕ)
+module _ {R : Type 0} (step : R → FiringCall → R → Type 0) (view : R → FiringView) (s t : SystemView R) (level : Level)
+    (when : When) (skew now id : ℕ)
     (did : AddsOmni step view level when skew now (Ok id) s t) (n : ℕ) where
   whole : Visited step view id level when skew now n (online_cpus s.cpus) did.1.0 t.cpus
   whole = visit step view id level when skew now (online_cpus s.cpus) n did.1.0 t.cpus did.1.2
@@ -90,10 +102,12 @@ module _ {R : Type 0} (step : R → FiringCall → R → Type 0) (view : R → F
 
   pub each_one : is_online n s.cpus ≡ true → OfCpu n (λ cpu. HasOne (new_component n id level when skew now) cpu.cyclics) t.cpus
   each_one on cpu at = let (here, rising) = whole.here (among_online s.cpus n ∙ on) in
-      subst (λ l. HasOne (new_component n id level when skew now) l) (ap (λ o. option_map_or (λ (c : CpuView R). c.cyclics) o []) at)
+      subst (λ l. HasOne (new_component n id level when skew now) l)
+      (ap (λ o. option_map_or (λ (c : CpuView R). c.cyclics) o []) at)
       (one_of (new_component n id level when skew now) (cyclics_on n t.cpus) rising here)
 
-  pub others_stay : (x y : CpuView R) → IsCpu n x s.cpus → IsCpu n y t.cpus → (d : Cyclic) → d.timer.id ≢ id → (Here d x.cyclics → Here d y.cyclics) × (Here d y.cyclics → Here d x.cyclics)
+  pub others_stay : (x y : CpuView R) → IsCpu n x s.cpus → IsCpu n y t.cpus → (d : Cyclic) → d.timer.id ≢ id
+      → (Here d x.cyclics → Here d y.cyclics) × (Here d y.cyclics → Here d x.cyclics)
   others_stay x y p q d ne = (
     λ h. subst (λ l. Here d l) after (whole.came.old d (subst (λ l. Here d l) (sym before) h)),
     λ h. by (whole.came.only d (subst (λ l. Here d l) (sym after) h)),

@@ -1,5 +1,6 @@
 -- How a CPU takes part again, with a component of each omnipresent cyclic (`cyclic_online`).
-use Rattle.std.specs.Prelude.{◌≡◌, ℕ, ◌&&◌, not, cond, Bool, true, List, [], ◌∷◌, ◌++◌, map, filter, length, slice_set, ◌⊎◌, Option, Result, Ok, Err}
+use Rattle.std.specs.Prelude.{◌≡◌, ℕ, ◌&&◌, not, cond, Bool, true, List, [], ◌∷◌, ◌++◌, map, filter, length, slice_set, ◌⊎◌}
+use Rattle.std.specs.Prelude.{Option, Result, Ok, Err}
 use Rattle.std.specs.List.{list_any}
 use Rattle.cyc_types.specs.Firing.{FiringView, FiringCall}
 use Rattle.cyc_types.specs.declared.firing.Sent.{Sent}

@@ -49,7 +49,8 @@ fn enter_each<R: Raise>(
     requires now { now < never }
     requires room { (n : ℕ) → IsOnline n cpus.old → OfCpu n (MayWiden R.view 1) cpus.old }
     requires absent { (n : ℕ) → OfCpu n (λ cpu. HasNoCyclic id cpu.cyclics) cpus.old }
-    ensures { Works R.step R.view (entering_each (online_cpus cpus.old) id level (record { start = start; interval = interval }) skew now) cpus.old cpus.new }
+    ensures { Works R.step R.view (entering_each (online_cpus cpus.old) id level
+        (record { start = start; interval = interval }) skew now) cpus.old cpus.new }
 {
     for number in 0..cpus.count() {
         if cpus.is_online(number) {
@@ -77,7 +78,8 @@ pub fn add_omni<R: Raise>(
 ) -> Result<CyclicId, Refusal>
     requires low { last ≤ last_id }
     requires holds { Holds (record { cpus = cpus.old; records = records.old.list; last = last }) }
-    ensures did { Unless {S = SystemView R} (bad_now now ∷ ids_spent (record { cpus = cpus.old; records = records.old.list; last = last }) ∷ [])
+    ensures did { Unless {S = SystemView R} (bad_now now ∷ ids_spent
+        (record { cpus = cpus.old; records = records.old.list; last = last }) ∷ [])
         (λ e. Err e) result (record { cpus = cpus.old; records = records.old.list; last = last })
         (record { cpus = cpus.new; records = records.new.list; last = last_after last result })
         (AddsOmni R.step R.view level when skew now result (record { cpus = cpus.old; records = records.old.list; last = last })

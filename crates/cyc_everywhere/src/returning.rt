@@ -10,7 +10,8 @@ ghost use Rattle.cyc_agreement.specs.Cpus.{OfCpu, Works};
 ghost use Rattle.cyc_agreement.specs.Holding.{Holds};
 ghost use Rattle.cyc_agreement.specs.System.{SystemView};
 ghost use Rattle.cyc_agreement.specs.Refusals.{Unless, no_cpu};
-ghost use Rattle.cyc_everywhere.specs.Online.{online_cpu, is_staying as is_staying_of, staying, return_at, returns, after_return, GoesOnline};
+ghost use Rattle.cyc_everywhere.specs.Online.{online_cpu, is_staying as is_staying_of, staying, return_at, returns, after_return};
+ghost use Rattle.cyc_everywhere.specs.Online.{GoesOnline};
 
 use crate::component::component_first;
 use cyc_agreement::{Cpus, is_leaving};
@@ -52,7 +53,8 @@ fn bring_back<R: Raise>(
     requires few { length cpus.old.cpus ≤ 16 }
     requires place { place < length records.old.list }
     requires everywhere { (r : TheRecord) → IsRecord records.old.list place r → is_everywhere r.place ≡ true }
-    requires fits { (r : TheRecord) → IsRecord records.old.list place r → OfCpu number (MayPlace r.id (ended_on number r)) cpus.old }
+    requires fits { (r : TheRecord) → IsRecord records.old.list place r
+        → OfCpu number (MayPlace r.id (ended_on number r)) cpus.old }
     ensures did { (r : TheRecord) → IsRecord records.old.list place r → Works R.step R.view
         (return_at number now r.id r.level (ended_on number r) r.place) cpus.old cpus.new }
     ensures list { (r : TheRecord) → IsRecord records.old.list place r
@@ -83,7 +85,8 @@ fn bring_all_back<R: Raise>(cpus: &mut Cpus<R>, records: &mut Records, number: u
     requires counts { HaveCounts records.old.list }
     requires empty { OfCpu number (λ cpu. cpu.cyclics ≡ []) cpus.old }
     requires room { OfCpu number (λ cpu. length (filter (is_staying_of cpus.old) records.old.list) ≤ cpu.size) cpus.old }
-    requires within { (k : ℕ) (r : TheRecord) → IsRecord records.old.list k r → OfCpu number (λ cpu. (ended_on number r).sent ≤ cpu.most) cpus.old }
+    requires within { (k : ℕ) (r : TheRecord) → IsRecord records.old.list k r
+        → OfCpu number (λ cpu. (ended_on number r).sent ≤ cpu.most) cpus.old }
     ensures did { Works R.step R.view (returns number now (filter (is_staying_of cpus.old) records.old.list)) cpus.old cpus.new }
     ensures list { records.new.list ≡ map (after_return number cpus.old) records.old.list }
 {
@@ -107,7 +110,8 @@ pub fn online<R: Raise>(
     now: Moment,
 ) -> Result<(), Refusal>
     requires holds { (last : ℕ) × Holds (record { cpus = cpus.old; records = records.old.list; last = last }) }
-    ensures did { (last : ℕ) → Unless {S = SystemView R} (no_cpu number (record { cpus = cpus.old; records = records.old.list; last = last })
+    ensures did { (last : ℕ) → Unless {S = SystemView R}
+        (no_cpu number (record { cpus = cpus.old; records = records.old.list; last = last })
         ∷ online_cpu number (record { cpus = cpus.old; records = records.old.list; last = last }) ∷ bad_now now ∷ [])
         (λ e. Err e) result (record { cpus = cpus.old; records = records.old.list; last = last })
         (record { cpus = cpus.new; records = records.new.list; last = last })

@@ -1,5 +1,6 @@
 -- The expirations of one fire, from the closed forms alone.
-use Rattle.std.specs.Prelude.{◌≡◌, ℕ, zero, suc, ◌+◌, ◌*◌, ◌==◌, nat_lt, nat_le, Bool, true, cond, ◌&&◌, ◌||◌, List, [], ◌∷◌, map, flat_map, count_by}
+use Rattle.std.specs.Prelude.{◌≡◌, ℕ, zero, suc, ◌+◌, ◌*◌, ◌==◌, nat_lt, nat_le, Bool, true, cond, ◌&&◌, ◌||◌, List, [], ◌∷◌, map}
+use Rattle.std.specs.Prelude.{flat_map, count_by}
 use Rattle.cyc_types.specs.Series.{due, next}
 use Rattle.cyc_expirations.specs.Timers.{Timer}
 
@@ -46,7 +47,11 @@ moment_after e t now j = cond (j == 0) e (cond (j == due e t now) (next e t now)
 
 -- a cyclic after these expirations of one fire
 unfoldable pub after : ℕ → List Expiration → Timer → Timer
-after now made t = record t { moment = moment_after t.moment t.interval now (times_of t.id made); expired = t.expired + times_of t.id made }
+after now made t = record t {
+  moment = moment_after t.moment t.interval now (times_of t.id made);
+  expired =
+      t.expired + times_of t.id made;
+}
 
 -- all cyclics after them
 unfoldable pub all_after : ℕ → List Expiration → List Timer → List Timer

@@ -13,7 +13,8 @@ pub record Timer : Type 0 where
 
 -- no two cyclics have one id
 abbrev pub HasDistinctIds : List Timer → Type 0
-HasDistinctIds ts = (i j : ℕ) (d : Timer) → i < length ts → j < length ts → (slice_index_or ts i d).id ≡ (slice_index_or ts j d).id → i ≡ j
+HasDistinctIds ts = (i j : ℕ) (d : Timer) → i < length ts → j < length ts
+    → (slice_index_or ts i d).id ≡ (slice_index_or ts j d).id → i ≡ j
 
 -- a cyclic's moment is a moment, and its interval an interval
 pub record IsSound (t : Timer) : Type 0 where

@@ -15,7 +15,8 @@ ghost use Rattle.cyc_expirations.specs.Expirations.{Expiration, expirations, due
 /// The list of a fire ascends by moment and then id, and has just the expirations of the cyclics that are due, each as often.
 pub fn order_law()
     ensures ascending { (now : ℕ) (ts : List Timer) → IsAscending (expirations now ts) }
-    ensures same { (now : ℕ) (ts : List Timer) (p : Expiration → Bool) → count_by p (expirations now ts) ≡ count_by p (flat_map (due_of now) ts) }
+    ensures same { (now : ℕ) (ts : List Timer) (p : Expiration → Bool)
+        → count_by p (expirations now ts) ≡ count_by p (flat_map (due_of now) ts) }
     ensures total { (now : ℕ) (ts : List Timer) → length (expirations now ts) ≡ sum_by (λ t. due t.moment t.interval now) ts }
 {}
 

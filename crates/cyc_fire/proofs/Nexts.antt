@@ -18,6 +18,7 @@ next_step e t now m h last some is = elim (cases_lt now (e + t)) [
       let q : (now - e) / t ≡ (now - (e + t)) / t + 1 = ap (λ n. n / t) split ∙ add-div_left (now - (e + t)) some in
       let same : m ≡ e + t = omega (arith, is) in
       let far : e + ((now - e) / t + 1) * t ≡ m + ((now - m) / t + 1) * t =
-      ap (λ n. e + (n + 1) * t) q ∙ (let p : e + ((now - (e + t)) / t + 1 + 1) * t ≡ (e + t) + ((now - (e + t)) / t + 1) * t = omega arith in p) ∙ ap (λ x. x + ((now - x) / t + 1) * t) (sym same) in
+      ap (λ n. e + (n + 1) * t) q ∙ (let p : e + ((now - (e + t)) / t + 1 + 1) * t ≡ (e + t) + ((now - (e + t)) / t + 1) * t =
+      omega arith in p) ∙ ap (λ x. x + ((now - x) / t + 1) * t) (sym same) in
       grind (arith, nat_tests)
 ]

@@ -1,5 +1,6 @@
 -- What the calls of a fire add up to for each id.
-use Rattle.std.proofs.Common.{◌≡◌, ℕ, ◌+◌, ◌<◌, ◌==◌, Bool, true, false, cond, eqb, List, [], ◌∷◌, refl, sym, ap, ◌∙◌, arith, length, get_or, filter, map}
+use Rattle.std.proofs.Common.{◌≡◌, ℕ, ◌+◌, ◌<◌, ◌==◌, Bool, true, false, cond, eqb, List, [], ◌∷◌, refl, sym, ap, ◌∙◌, arith}
+use Rattle.std.proofs.Common.{length, get_or, filter, map}
 use Rattle.std.proofs.lemmas.Bool.Decides.{nat_tests}
 use Rattle.std.proofs.lemmas.List.Sums.{sum_by-cons}
 use Rattle.cyc_types.specs.Counting.{times}
@@ -32,7 +33,8 @@ raises_add_up id (x ∷ ids) (Polls j i ∷ way) a = absurd a.0
 raises_add_up id (x ∷ ids) (Expands i ∷ way) a = absurd a.0
 raises_add_up id (x ∷ ids) (Looks i ∷ way) a = absurd a.0
 raises_add_up id (x ∷ ids) (Raises j i ∷ way) a =
-    ap (λ n. cond (eqb id j) 1 0 + n) (raises_add_up id ids way a.1) ∙ ap (λ (b : Bool). cond b 1 0 + times id ids) (test id j x a.0) ∙ sym (times_more id x ids)
+    ap (λ n. cond (eqb id j) 1 0 + n) (raises_add_up id ids way a.1)
+    ∙ ap (λ (b : Bool). cond b 1 0 + times id ids) (test id j x a.0) ∙ sym (times_more id x ids)
   where
     test : (id j x : ℕ) → j ≡ x → eqb id j ≡ (x == id)
     test id j x same = grind (arith, nat_tests)
@@ -49,12 +51,14 @@ one_more false false true n h = refl
 one_more false false false n h = refl
 
 kept : (b : Bool) (id : ℕ) (p : Expiration) (ps : List Expiration) →
-    times id (map (λ (q : Expiration). q.id) (cond b (p ∷ ps) ps)) ≡ cond b (cond (p.id == id) 1 0) 0 + times id (map (λ (q : Expiration). q.id) ps)
+    times id (map (λ (q : Expiration). q.id) (cond b (p ∷ ps) ps)) ≡ cond b (cond (p.id == id) 1 0) 0 + times id
+    (map (λ (q : Expiration). q.id) ps)
 kept true id p ps = times_more id p.id (map (λ (q : Expiration). q.id) ps)
 kept false id p ps = omega arith
 
 -- of the expirations of a level's cyclics an id has its own where its cyclic is of the level
-pub ids_add_up : (id : ℕ) (level : Level) (ts : List Timer) (made : List Expiration) → times id (ids_at level ts made) ≡ share level ts made id
+pub ids_add_up : (id : ℕ) (level : Level) (ts : List Timer) (made : List Expiration)
+    → times id (ids_at level ts made) ≡ share level ts made id
 ids_add_up id level ts [] = none (is_of level (timer_of id ts))
   where
     none : (b : Bool) → times_of id [] ≡ cond b 0 0
@@ -63,13 +67,16 @@ ids_add_up id level ts [] = none (is_of level (timer_of id ts))
 ids_add_up id level ts (p ∷ made) =
     let a = kept (is_at level ts p) id p (filter (is_at level ts) made) in
     let r = ids_add_up id level ts made in
-    let same : (p.id == id) ≡ true → is_at level ts p ≡ is_of level (timer_of id ts) = λ e. (let q : p.id ≡ id = grind (arith, nat_tests) in ap (λ j. is_of level (timer_of j ts)) q) in
-    a ∙ ap (λ n. cond (is_at level ts p) (cond (p.id == id) 1 0) 0 + n) r ∙ one_more (is_at level ts p) (is_of level (timer_of id ts)) (p.id == id) (times_of id made) same
+    let same : (p.id == id) ≡ true → is_at level ts p ≡ is_of level (timer_of id ts) =
+    λ e. (let q : p.id ≡ id = grind (arith, nat_tests) in ap (λ j. is_of level (timer_of j ts)) q) in
+    a ∙ ap (λ n. cond (is_at level ts p) (cond (p.id == id) 1 0) 0 + n) r
+    ∙ one_more (is_at level ts p) (is_of level (timer_of id ts)) (p.id == id) (times_of id made) same
     ∙ ap (λ n. cond (is_of level (timer_of id ts)) n 0) (sym (times_of_more id p made))
 
 -- in a whole fire a cyclic's share is what was due of it
 pub whole_share : (now : ℕ) (ts : List Timer) (level : Level) (i : ℕ) (d : Timer) → HasDistinctIds ts → i < length ts →
-    share level ts (expirations now ts) (get_or ts i d).id ≡ cond (same_level level (get_or ts i d).level) (due (get_or ts i d).moment (get_or ts i d).interval now) 0
+    share level ts (expirations now ts) (get_or ts i d).id ≡ cond (same_level level (get_or ts i d).level)
+    (due (get_or ts i d).moment (get_or ts i d).interval now) 0
 whole_share now ts level i d distinct low =
     ap (λ o. cond (is_of level o) (times_of (get_or ts i d).id (expirations now ts)) 0) (found_at ts i d distinct low)
     ∙ ap (λ n. cond (same_level level (get_or ts i d).level) n 0) (times_expirations now ts i d distinct low)

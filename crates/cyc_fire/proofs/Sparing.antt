@@ -7,7 +7,8 @@ use Rattle.cyc_fire.specs.Acts.{Sides}
 use Rattle.cyc_fire.proofs.Acting.{One}
 use Rattle.cyc_fire.proofs.Making.{same_end}
 
-pub none_high : {C R : Type 0} (called : C → ℕ → C → Type 0) (count : C → ℕ → ℕ) (step : R → FiringCall → R → Type 0) (view : R → FiringView) (id n : ℕ) (s s' : Sides C R) (l : Level)
+pub none_high : {C R : Type 0} (called : C → ℕ → C → Type 0) (count : C → ℕ → ℕ) (step : R → FiringCall → R → Type 0)
+    (view : R → FiringView) (id n : ℕ) (s s' : Sides C R) (l : Level)
     → One called count step view l id s s' n → l ≡ High → n ≡ 0
 none_high called count step view id n s s' High (a, eq) at =
     let k = (same_end step view s.lock s'.lock a.lock_way a.lock_raises a.lock_goes).1 in

@@ -84,7 +84,8 @@ losses (call ∷ way) = loss_in call + losses way
 
 -- the handlers of the ids `high` were called, the lock end was raised for the ids `locks` and the low end for the ids
 -- `lows`, each list in order; and nothing else was done to the three
-pub record Acts {C R : Type 0} (called : C → ℕ → C → Type 0) (count : C → ℕ → ℕ) (step : R → FiringCall → R → Type 0) (view : R → FiringView)
+pub record Acts {C R : Type 0} (called : C → ℕ → C → Type 0) (count : C → ℕ → ℕ) (step : R → FiringCall → R → Type 0)
+    (view : R → FiringView)
     (high locks lows : List ℕ) (s s' : Sides C R) : Type 0 where
   -- what each end did, call by call
   pub lock_way : List FiringCall
@@ -98,7 +99,8 @@ pub record Acts {C R : Type 0} (called : C → ℕ → C → Type 0) (count : C 
 
 -- an end was raised once for this id, and this many were lost
 abbrev pub RaisedOnce : {R : Type 0} → (R → FiringCall → R → Type 0) → (R → FiringView) → ℕ → R → R → ℕ → Type 0
-RaisedOnce step view id e f lost = (answer : Raised) × Taught step view e (Raises id answer) f × (lost ≡ loss_in (Raises id answer))
+RaisedOnce step view id e f lost = (answer : Raised) × Taught step view e (Raises id answer) f
+    × (lost ≡ loss_in (Raises id answer))
 
 -- the losses of an id after these calls of the two ends
 abbrev pub lost_after : List FiringCall → List FiringCall → ℕ → ℕ → ℕ

@@ -9,7 +9,8 @@ use Rattle.cyc_fire.specs.Made.{HasCounts}
 
 -- what an end has of a cyclic: its index, and the counts of its stay, which with those that it carried in are the cyclic's
 abbrev pub HasStay : FiringView → Row → Type 0
-HasStay v r = IsAdmitted r.timer.id v (λ s. (s.index ≡ r.index) × (r.timer.expired ≡ r.carried.sent + s.sent) × (r.lost ≡ r.carried.lost + s.lost))
+HasStay v r = IsAdmitted r.timer.id v (λ s. (s.index ≡ r.index) × (r.timer.expired ≡ r.carried.sent + s.sent)
+    × (r.lost ≡ r.carried.lost + s.lost))
 
 -- a cyclic of this level has the id
 abbrev pub HasRow : Level → ℕ → List Row → Type 0
@@ -35,13 +36,15 @@ abbrev pub IsCounted : ℕ → List Row → Type 0
 IsCounted most rows = All (λ r. HasCounts most (cyclic_of r)) rows
 
 -- both ends have the cyclics of their levels
-pub record IsReady {R : Type 0} (view : R → FiringView) (size most : ℕ) (lock_marked low_marked : Option ℕ) (lock low : R) (rows : List Row) : Type 0 where
+pub record IsReady {R : Type 0} (view : R → FiringView) (size most : ℕ) (lock_marked low_marked : Option ℕ) (lock low : R)
+    (rows : List Row) : Type 0 where
   pub lock_end : IsEnd Lock size lock_marked (view lock) rows
   pub low_end : IsEnd Low size low_marked (view low) rows
   pub counted : IsCounted most rows
 
 -- the firing side of a CPU: both ends are ready, and an open removal is marked at the end of its level
-pub record IsHard {R : Type 0} (view : R → FiringView) (size most : ℕ) (removal : Option ℕ) (lock low : R) (rows : List Row) : Type 0 where
+pub record IsHard {R : Type 0} (view : R → FiringView) (size most : ℕ) (removal : Option ℕ) (lock low : R)
+    (rows : List Row) : Type 0 where
   pub ready : IsReady view size most (view lock).marked (view low).marked lock low rows
   pub lock_marked : (id : ℕ) → (view lock).marked ≡ Some id → removal ≡ Some id
   pub low_marked : (id : ℕ) → (view low).marked ≡ Some id → removal ≡ Some id

@@ -19,9 +19,11 @@ pub record HasCounts (most : ℕ) (c : Cyclic) : Type 0 where
 
 -- these expirations of a fire at now were made: each cyclic stands where they leave it, the handlers of the high ones were
 -- called, the others were raised at their ends, and each id lost what its raises lost
-pub record Makes {C R : Type 0} (called : C → ℕ → C → Type 0) (count : C → ℕ → ℕ) (step : R → FiringCall → R → Type 0) (view : R → FiringView)
+pub record Makes {C R : Type 0} (called : C → ℕ → C → Type 0) (count : C → ℕ → ℕ) (step : R → FiringCall → R → Type 0)
+    (view : R → FiringView)
     (now : ℕ) (made : List Expiration) (cs cs' : List Cyclic) (s s' : Sides C R) (lost : ℕ) : Type 0 where
-  pub acts : Acts called count step view (ids_at High (timers cs) made) (ids_at Lock (timers cs) made) (ids_at Low (timers cs) made) s s'
+  pub acts : Acts called count step view (ids_at High (timers cs) made) (ids_at Lock (timers cs) made)
+      (ids_at Low (timers cs) made) s s'
   pub timers_are : timers cs' ≡ all_after now made (timers cs)
   pub carried_are : map (λ c. c.carried) cs' ≡ map (λ c. c.carried) cs
   pub losses_are : map (λ c. c.lost) cs' ≡ map (λ c. lost_after acts.lock_way acts.low_way c.timer.id c.lost) cs

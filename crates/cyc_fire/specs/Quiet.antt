@@ -23,7 +23,8 @@ OnlyLooks step view e f = (answers : List Bool) × Goes step view e (map Looks a
 
 -- an end of which nothing changed but what was seen
 pub record KeepsStays (v w : FiringView) : Type 0 where
-  pub to : (id : ℕ) (s : Stay) → v.stays id ≡ Some s → (t : Stay) × (w.stays id ≡ Some t) × (t.index ≡ s.index) × (t.sent ≡ s.sent) × (t.lost ≡ s.lost)
+  pub to : (id : ℕ) (s : Stay) → v.stays id ≡ Some s → (t : Stay) × (w.stays id ≡ Some t) × (t.index ≡ s.index)
+      × (t.sent ≡ s.sent) × (t.lost ≡ s.lost)
   pub from : (id : ℕ) (t : Stay) → w.stays id ≡ Some t → (s : Stay) × (v.stays id ≡ Some s)
   pub marked : w.marked ≡ v.marked
   pub bank : w.bank ≡ v.bank

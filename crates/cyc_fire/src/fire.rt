@@ -1,6 +1,7 @@
 //! One fire: every expiration that is due, in order.
 
-ghost use Rattle.std.specs.Prelude.{◌≡◌, ℕ, ◌+◌, ◌<◌, ◌≤◌, ◌++◌, ◌∷◌, [], length, min, All, List, Some, IfOk, IfErr, OnOk, OnErr, IfNone, IfSome};
+ghost use Rattle.std.specs.Prelude.{◌≡◌, ℕ, ◌+◌, ◌<◌, ◌≤◌, ◌++◌, ◌∷◌, [], length, min, All, List, Some, IfOk, IfErr, OnOk, OnErr};
+ghost use Rattle.std.specs.Prelude.{IfNone, IfSome};
 ghost use Rattle.cyc_types.specs.Series.{due, next, never};
 ghost use Rattle.cyc_types.specs.Firing.{MayRaise, Sound};
 ghost use Rattle.cyc_types.specs.Levels.{at_level};
@@ -66,8 +67,10 @@ pub fn expire_at<C: Calls, R: Raise>(
 ) -> Result<u64, Refused>
     requires lock { level ≡ Lock → MayRaise id (R.view lock.old) }
     requires low { level ≡ Low → MayRaise id (R.view low.old) }
-    ensures acts { IfOk result (λ lost. (a : Acts (at_level C.called High) C.count R.step R.view (id_at High level id) (id_at Lock level id) (id_at Low level id)
-        (record { calls = calls.old; lock = lock.old; low = low.old }) (record { calls = calls.new; lock = lock.new; low = low.new }))
+    ensures acts { IfOk result (λ lost. (a : Acts (at_level C.called High) C.count R.step R.view (id_at High level id)
+        (id_at Lock level id) (id_at Low level id)
+        (record { calls = calls.old; lock = lock.old; low = low.old })
+        (record { calls = calls.new; lock = lock.new; low = low.new }))
         × (lost ≡ losses a.lock_way + losses a.low_way)) }
     ensures few { IfOk result (λ lost. lost ≤ 1) }
     ensures sound_lock { Sound (R.view lock.old) → Sound (R.view lock.new) }
@@ -95,7 +98,8 @@ fn due_root(table: &Table, now: Moment) -> Option<(Index, Moment, CyclicId)>
     ensures none { IfNone result (All (λ t. now < t.moment) (timers_of table.now.rows)) }
     ensures due { IfSome result (λ found. found.1 ≤ now) }
     ensures root { IfSome result (λ found. table.now.root ≡ Some found.0) }
-    ensures first { IfSome result (λ found. (k : ℕ) × (r : Row) × IsRow table.now.rows k r × (r.index ≡ found.0) × (r.timer.moment ≡ found.1) × (r.timer.id ≡ found.2) × IsFirstAt table.now.rows k) }
+    ensures first { IfSome result (λ found. (k : ℕ) × (r : Row) × IsRow table.now.rows k r × (r.index ≡ found.0)
+        × (r.timer.moment ≡ found.1) × (r.timer.id ≡ found.2) × IsFirstAt table.now.rows k) }
 {
     let root = table.root()?;
     if root.1.nanoseconds() > now.nanoseconds() {
@@ -147,24 +151,29 @@ pub fn fire_all<C: Calls, R: Raise>(
     now: Moment,
 ) -> Result<Fired, FireRefused>
     requires now { now < never }
-    requires ready { IsReady R.view table.old.size most (R.view lock.old).marked (R.view low.old).marked lock.old low.old table.old.rows }
+    requires ready { IsReady R.view table.old.size most (R.view lock.old).marked
+        (R.view low.old).marked lock.old low.old table.old.rows }
 
     // The whole list was made, and no more.
     ensures expired { IfOk result (λ r. r.expired ≡ length (expirations now (timers_of table.old.rows))) }
     ensures next { IfOk result (λ r. r.next ≡ earliest (timers_of table.new.rows)) }
-    ensures made { IfOk result (λ r. Makes (at_level C.called High) C.count R.step R.view now (expirations now (timers_of table.old.rows)) (cyclics_of table.old.rows) (cyclics_of table.new.rows)
-        (record { calls = calls.old; lock = lock.old; low = low.old }) (record { calls = calls.new; lock = lock.new; low = low.new }) r.lost) }
+    ensures made { IfOk result (λ r. Makes (at_level C.called High) C.count R.step R.view now
+        (expirations now (timers_of table.old.rows)) (cyclics_of table.old.rows) (cyclics_of table.new.rows)
+        (record { calls = calls.old; lock = lock.old; low = low.old })
+        (record { calls = calls.new; lock = lock.new; low = low.new }) r.lost) }
 
     // The list was made up to an expiration that was refused.
     ensures refused { IfErr result (λ e. (made : List Expiration) × (last : Expiration) × (rest : List Expiration)
         × (expirations now (timers_of table.old.rows) ≡ made ++ last ∷ rest) × (length made ≡ e.expired) × (at : C)
         × Makes (at_level C.called High) C.count R.step R.view now made (cyclics_of table.old.rows) (cyclics_of table.new.rows)
-        (record { calls = calls.old; lock = lock.old; low = low.old }) (record { calls = at; lock = lock.new; low = low.new }) e.lost
+        (record { calls = calls.old; lock = lock.old; low = low.old })
+        (record { calls = at; lock = lock.new; low = low.new }) e.lost
         × ((id : ℕ) → C.count calls.new id ≡ C.count at id)
         × WhyStopped C.may_refuse most at last (timers_of table.new.rows) e.why) }
 
     // The CPU is ready for the next.
-    ensures ready { IsReady R.view table.new.size most (R.view lock.old).marked (R.view low.old).marked lock.new low.new table.new.rows }
+    ensures ready { IsReady R.view table.new.size most (R.view lock.old).marked
+        (R.view low.old).marked lock.new low.new table.new.rows }
     ensures size { table.new.size ≡ table.old.size }
     ensures room { table.new.room ≡ table.old.room }
 {

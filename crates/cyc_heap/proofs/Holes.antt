@@ -13,27 +13,33 @@ use Rattle.cyc_heap.proofs.Orders.{Writes}
 pub record IsLinkedBut (hole free : ℕ) (entries : List Entry) (positions : List ℕ) : Type 0 where
   pub same : length positions ≡ length entries
   pub low : free < length entries
-  pub up : (p : ℕ) → p < length entries → p ≢ hole → (index_at entries p < length entries) × (slice_index positions (index_at entries p) ≡ p) × (index_at entries p ≢ free)
-  pub down : (i : ℕ) → i < length entries → i ≢ free → (slice_index positions i < length entries) × (index_at entries (slice_index positions i) ≡ i) × (slice_index positions i ≢ hole)
+  pub up : (p : ℕ) → p < length entries → p ≢ hole → (index_at entries p < length entries)
+      × (slice_index positions (index_at entries p) ≡ p) × (index_at entries p ≢ free)
+  pub down : (i : ℕ) → i < length entries → i ≢ free → (slice_index positions i < length entries)
+      × (index_at entries (slice_index positions i) ≡ i) × (slice_index positions i ≢ hole)
 
 -- a write into the array is a write of its key
-pub keys_written : (entries : List Entry) (place : ℕ) (x : Entry) → place < length entries → Writes place (key x) (key_at entries) (key_at (set entries place x))
+pub keys_written : (entries : List Entry) (place : ℕ) (x : Entry) → place < length entries
+    → Writes place (key x) (key_at entries) (key_at (set entries place x))
 keys_written entries place x low = record {
   here = ap key (get_or-set_same entries place x nowhere low);
   rest = λ p ne. ap key (get_or-set_other entries place p x nowhere ne);
 }
 
 -- any place of a heap may become the hole
-pub links_opened : (entries : List Entry) (positions : List ℕ) (hole : ℕ) → hole < length entries → IsLinked entries positions → IsLinkedBut hole (index_at entries hole) entries positions
+pub links_opened : (entries : List Entry) (positions : List ℕ) (hole : ℕ) → hole < length entries → IsLinked entries positions
+    → IsLinkedBut hole (index_at entries hole) entries positions
 links_opened entries positions hole low linked = record {
   same = linked.same;
   low = (linked.up hole low).0;
-  up = λ p h ne. let (low_i, back) = linked.up p h in (low_i, back, λ q. ne (sym back ∙ ap (λ i. get_or positions i 0) q ∙ (linked.up hole low).1));
+  up = λ p h ne. let (low_i, back) = linked.up p h in
+      (low_i, back, λ q. ne (sym back ∙ ap (λ i. get_or positions i 0) q ∙ (linked.up hole low).1));
   down = λ i h ne. let (low_p, back) = linked.down i h in (low_p, back, λ q. ne (sym back ∙ ap (index_at entries) q));
 }
 
 -- an entry x is written at the place h, and the place at its index
-module _ (h : ℕ) (entries : List Entry) (positions : List ℕ) (x : Entry) (low_h : h < length entries) (low_x : index_of x < length positions) where
+module _ (h : ℕ) (entries : List Entry) (positions : List ℕ) (x : Entry) (low_h : h < length entries)
+    (low_x : index_of x < length positions) where
   pub entry_here : entry_at (set entries h x) h ≡ x
   entry_here = get_or-set_same entries h x nowhere low_h
 
@@ -59,7 +65,8 @@ module _ (h : ℕ) (entries : List Entry) (positions : List ℕ) (x : Entry) (lo
   long_positions = length-set positions (index_of x) h
 
   -- the entry comes from the place m, which is the hole afterwards
-  module _ (m free : ℕ) (low_m : m < length entries) (apart : m ≢ h) (is : entry_at entries m ≡ x) (linked : IsLinkedBut h free entries positions) where
+  module _ (m free : ℕ) (low_m : m < length entries) (apart : m ≢ h) (is : entry_at entries m ≡ x)
+      (linked : IsLinkedBut h free entries positions) where
     index_is : index_at entries m ≡ index_of x
     index_is = ap index_of is
 
@@ -78,13 +85,18 @@ module _ (h : ℕ) (entries : List Entry) (positions : List ℕ) (x : Entry) (lo
             ((omega (arith, s, l, low_x, long)), place_here (index_at (set entries h x) p) s ∙ sym eq, λ q. not_free (sym s ∙ q)))
         | inr off ↦ (let s = index_rest p off in let (low_i, back, bar) = linked.up p (omega (arith, low_p, l)) off in (
           (omega (arith, s, l, low_i)),
-          ap (λ i. get_or (set positions (index_of x) h) i 0) s ∙ place_rest (index_at entries p) (λ q. ne (sym back ∙ ap (λ i. get_or positions i 0) q ∙ place_is)) ∙ back,
+          ap (λ i. get_or (set positions (index_of x) h) i 0) s
+              ∙ place_rest (index_at entries p) (λ q. ne (sym back ∙ ap (λ i. get_or positions i 0) q ∙ place_is)) ∙ back,
           λ q. bar (sym s ∙ q),
         ))
       ];
       down = λ i low_i ne. let l = long_entries in elim (cases_eq i (index_of x)) [
-        | inl eq ↦ (let s = place_here i eq in
-            ((omega (arith, s, l, low_h)), index_here (get_or (set positions (index_of x) h) i 0) s ∙ sym eq, λ q. apart (sym q ∙ s)))
+        | inl eq ↦ (let s = place_here i eq in (
+          (omega (arith, s, l, low_h)),
+          index_here (get_or (set positions (index_of x) h) i 0) s
+              ∙ sym eq,
+          λ q. apart (sym q ∙ s),
+        ))
         | inr off ↦ (let s = place_rest i off in let (low_p, back, bar) = linked.down i (omega (arith, low_i, l)) ne in (
           (omega (arith, s, l, low_p)),
           ap (index_at (set entries h x)) s ∙ index_rest (get_or positions i 0) bar ∙ back,
@@ -97,16 +109,20 @@ module _ (h : ℕ) (entries : List Entry) (positions : List ℕ) (x : Entry) (lo
     pub moved_slot : (len : ℕ) → h < len → m < len → (i : ℕ) → i < length positions → i ≢ free →
         slot len (set entries h x) (get_or (set positions (index_of x) h) i 0) ≡ slot len entries (get_or positions i 0)
     moved_slot len in_h in_m i low_i ne = elim (cases_eq i (index_of x)) [
-      | inl eq ↦ ap (slot len (set entries h x)) (place_here i eq) ∙ slot_used len (set entries h x) h in_h ∙ ap (λ (e : Entry). Some (key e)) (entry_here ∙ sym is)
+      | inl eq ↦ ap (slot len (set entries h x)) (place_here i eq) ∙ slot_used len (set entries h x) h in_h
+          ∙ ap (λ (e : Entry). Some (key e)) (entry_here ∙ sym is)
           ∙ sym (slot_used len entries m in_m) ∙ ap (slot len entries) (sym (ap (λ i. get_or positions i 0) eq ∙ place_is))
       | inr off ↦ (let long = linked.same in let (low_p, back, bar) = linked.down i (omega (arith, low_i, long)) ne in
-          ap (slot len (set entries h x)) (place_rest i off) ∙ slot_kept len entries (set entries h x) (get_or positions i 0) (entry_rest (get_or positions i 0) bar))
+          ap (slot len (set entries h x)) (place_rest i off)
+          ∙ slot_kept len entries (set entries h x) (get_or positions i 0) (entry_rest (get_or positions i 0) bar))
     ]
 
     pub moved_slots : (len : ℕ) (v : Option Expiration) → h < len → m < len →
         set (slots len (set entries h x) (set positions (index_of x) h)) free v ≡ set (slots len entries positions) free v
-    moved_slots len v in_h in_m = same_lists (set (slots len (set entries h x) (set positions (index_of x) h)) free v) (set (slots len entries positions) free v)
-        (length-set (slots len (set entries h x) (set positions (index_of x) h)) free v ∙ length-slots len (set entries h x) (set positions (index_of x) h) ∙ long_positions
+    moved_slots len v in_h in_m = same_lists (set (slots len (set entries h x) (set positions (index_of x) h)) free v)
+        (set (slots len entries positions) free v)
+        (length-set (slots len (set entries h x) (set positions (index_of x) h)) free v
+        ∙ length-slots len (set entries h x) (set positions (index_of x) h) ∙ long_positions
         ∙ sym (length-slots len entries positions) ∙ sym (length-set (slots len entries positions) free v))
         (λ k d low_k.
         let l₁ = length-set (slots len (set entries h x) (set positions (index_of x) h)) free v in
@@ -117,7 +133,8 @@ module _ (h : ℕ) (entries : List Entry) (positions : List ℕ) (x : Entry) (lo
         let low_o : k < length positions = omega (arith, low_n, l₃) in
         elim (cases_eq k free) [
           | inl eq ↦ ap (λ i. get_or (set (slots len (set entries h x) (set positions (index_of x) h)) free v) i d) eq
-              ∙ get_or-set_same (slots len (set entries h x) (set positions (index_of x) h)) free v d (omega (arith, low_n, l₂, eq))
+              ∙ get_or-set_same (slots len (set entries h x) (set positions (index_of x) h)) free v d
+              (omega (arith, low_n, l₂, eq))
               ∙ sym (get_or-set_same (slots len entries positions) free v d (omega (arith, low_o, l₄, eq)))
               ∙ ap (λ i. get_or (set (slots len entries positions) free v) i d) (sym eq)
           | inr off ↦ get_or-set_other (slots len (set entries h x) (set positions (index_of x) h)) free k v d off
@@ -133,20 +150,31 @@ module _ (h : ℕ) (entries : List Entry) (positions : List ℕ) (x : Entry) (lo
     filled_linked = record {
       same = long_positions ∙ linked.same ∙ sym long_entries;
       up = λ p low_p. let l = long_entries in elim (cases_eq p h) [
-        | inl eq ↦ (let s = index_here p eq in let low = linked.low in ((omega (arith, s, l, low)), place_here (index_at (set entries h x) p) s ∙ sym eq))
-        | inr off ↦ (let s = index_rest p off in let (low_i, back, bar) = linked.up p (omega (arith, low_p, l)) off in
-            ((omega (arith, s, l, low_i)), ap (λ i. get_or (set positions (index_of x) h) i 0) s ∙ place_rest (index_at entries p) bar ∙ back))
+        | inl eq ↦ (let s = index_here p eq in let low = linked.low in
+            ((omega (arith, s, l, low)), place_here (index_at (set entries h x) p) s ∙ sym eq))
+        | inr off ↦ (let s = index_rest p off in let (low_i, back, bar) = linked.up p (omega (arith, low_p, l)) off in (
+          (omega (arith, s, l, low_i)),
+          ap (λ i. get_or (set positions (index_of x) h) i 0) s
+              ∙ place_rest (index_at entries p) bar ∙ back,
+        ))
       ];
       down = λ i low_i. let l = long_entries in elim (cases_eq i (index_of x)) [
-        | inl eq ↦ (let s = place_here i eq in ((omega (arith, s, l, low_h)), index_here (get_or (set positions (index_of x) h) i 0) s ∙ sym eq))
+        | inl eq ↦ (let s = place_here i eq in (
+          (omega (arith, s, l, low_h)),
+          index_here (get_or (set positions (index_of x) h) i 0) s ∙ sym eq,
+        ))
         | inr off ↦ (let s = place_rest i off in let (low_p, back, bar) = linked.down i (omega (arith, low_i, l)) off in
             ((omega (arith, s, l, low_p)), ap (index_at (set entries h x)) s ∙ index_rest (get_or positions i 0) bar ∙ back))
       ];
     }
 
-    pub filled_slots : (len : ℕ) → h < len → slots len (set entries h x) (set positions (index_of x) h) ≡ set (slots len entries positions) (index_of x) (Some (key x))
-    filled_slots len in_h = same_lists (slots len (set entries h x) (set positions (index_of x) h)) (set (slots len entries positions) (index_of x) (Some (key x)))
-        (length-slots len (set entries h x) (set positions (index_of x) h) ∙ long_positions ∙ sym (length-slots len entries positions) ∙ sym (length-set (slots len entries positions) (index_of x) (Some (key x))))
+    pub filled_slots : (len : ℕ) → h < len → slots len (set entries h x) (set positions (index_of x) h)
+        ≡ set (slots len entries positions) (index_of x) (Some (key x))
+    filled_slots len in_h = same_lists (slots len (set entries h x) (set positions (index_of x) h))
+        (set (slots len entries positions) (index_of x) (Some (key x)))
+        (length-slots len (set entries h x) (set positions (index_of x) h) ∙ long_positions
+        ∙ sym (length-slots len entries positions)
+        ∙ sym (length-set (slots len entries positions) (index_of x) (Some (key x))))
         (λ k d low_k.
         let l₂ = length-slots len (set entries h x) (set positions (index_of x) h) in
         let l₃ = long_positions in
@@ -155,11 +183,13 @@ module _ (h : ℕ) (entries : List Entry) (positions : List ℕ) (x : Entry) (lo
         let low_n : k < length (set positions (index_of x) h) = omega (arith, low_k, l₂) in
         let low_o : k < length positions = omega (arith, low_n, l₃) in
         slots_at len (set entries h x) (set positions (index_of x) h) k d low_n ∙ elim (cases_eq k (index_of x)) [
-          | inl eq ↦ ap (slot len (set entries h x)) (place_here k eq) ∙ slot_used len (set entries h x) h in_h ∙ ap (λ (e : Entry). Some (key e)) entry_here
+          | inl eq ↦ ap (slot len (set entries h x)) (place_here k eq) ∙ slot_used len (set entries h x) h in_h
+              ∙ ap (λ (e : Entry). Some (key e)) entry_here
               ∙ sym (get_or-set_same (slots len entries positions) (index_of x) (Some (key x)) d (omega (arith, low_x, l₄)))
               ∙ ap (λ i. get_or (set (slots len entries positions) (index_of x) (Some (key x))) i d) (sym eq)
           | inr off ↦ (let (low_p, back, bar) = linked.down k (omega (arith, low_o, long)) off in
-              ap (slot len (set entries h x)) (place_rest k off) ∙ slot_kept len entries (set entries h x) (get_or positions k 0) (entry_rest (get_or positions k 0) bar)
+              ap (slot len (set entries h x)) (place_rest k off)
+              ∙ slot_kept len entries (set entries h x) (get_or positions k 0) (entry_rest (get_or positions k 0) bar)
               ∙ sym (slots_at len entries positions k d low_o)
               ∙ sym (get_or-set_other (slots len entries positions) (index_of x) k (Some (key x)) d off))
         ])

@@ -1,5 +1,6 @@
 -- The places that the array shows are those by which it is linked.
-use Rattle.std.proofs.Common.{◌≡◌, ◌≢◌, ℕ, zero, suc, ◌<◌, inl, inr, List, [], ◌∷◌, length, map, get_or, cond, eqb, sym, ap, ◌∙◌, subst, arith, eq-eqb, ne_eqb}
+use Rattle.std.proofs.Common.{◌≡◌, ◌≢◌, ℕ, zero, suc, ◌<◌, inl, inr, List, [], ◌∷◌, length, map, get_or, cond, eqb, sym, ap, ◌∙◌}
+use Rattle.std.proofs.Common.{subst, arith, eq-eqb, ne_eqb}
 use Rattle.std.specs.List.{range_with_len}
 use Rattle.std.proofs.Math.ListN.{set}
 use Rattle.std.proofs.lemmas.Bool.{cases_eq}
@@ -9,7 +10,8 @@ use Rattle.cyc_heap.specs.declared.entry.Entry.{Entry}
 use Rattle.cyc_heap.specs.Array.{index_of, index_at, IsLinked, place_of, places}
 
 -- the first place of an index is the one where no place before it has the index
-first_place : (entries : List Entry) (i p : ℕ) → p < length entries → index_at entries p ≡ i → ((q : ℕ) → q < p → index_at entries q ≢ i) → place_of i entries ≡ p
+first_place : (entries : List Entry) (i p : ℕ) → p < length entries → index_at entries p ≡ i
+    → ((q : ℕ) → q < p → index_at entries q ≢ i) → place_of i entries ≡ p
 first_place [] i p low is first = absurd (omega (arith, low))
 first_place (e ∷ entries) i zero low is first = ap (λ b. cond b 0 (suc (place_of i entries))) (eq-eqb (index_of e) i is)
 first_place (e ∷ entries) i (suc p) low is first =
@@ -21,16 +23,19 @@ module _ (entries : List Entry) (positions : List ℕ) (linked : IsLinked entrie
   place_at i low =
       let (low_p, is) = linked.down i low in
       first_place entries i (get_or positions i 0) low_p is
-      (λ q less same. let back = (linked.up q (omega (arith, less, low_p))).1 in let at = ap (λ n. get_or positions n 0) same in omega (arith, less, back, at))
+      (λ q less same. let back = (linked.up q (omega (arith, less, low_p))).1 in let at = ap (λ n. get_or positions n 0) same in
+      omega (arith, less, back, at))
 
   -- so what links an array is no choice
   pub places_are : places entries ≡ positions
   unfolding places
-  places_are = same_lists (places entries) positions (length-map-range_with_len (λ i. place_of i entries) 0 (length entries) ∙ sym linked.same)
+  places_are = same_lists (places entries) positions (length-map-range_with_len (λ i. place_of i entries) 0 (length entries)
+      ∙ sym linked.same)
       (λ k d low. let l = length-map-range_with_len (λ i. place_of i entries) 0 (length entries) in
       let low_k : k < length entries = omega (arith, low, l) in
       let same = linked.same in
-      get_or-map-range_with_len (λ i. place_of i entries) 0 (length entries) k k d low_k (omega arith) ∙ place_at k low_k ∙ get_or_default positions k 0 d (omega (arith, low_k, same)))
+      get_or-map-range_with_len (λ i. place_of i entries) 0 (length entries) k k d low_k (omega arith) ∙ place_at k low_k
+      ∙ get_or_default positions k 0 d (omega (arith, low_k, same)))
 
   pub placed : IsLinked entries (places entries)
   placed = subst (IsLinked entries) (sym places_are) linked

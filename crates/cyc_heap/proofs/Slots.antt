@@ -10,7 +10,8 @@ pub length-slots : (len : ℕ) (entries : List Entry) (positions : List ℕ) →
 unfolding slots
 length-slots len entries positions = length-map positions (slot len entries)
 
-pub slots_at : (len : ℕ) (entries : List Entry) (positions : List ℕ) (k : ℕ) (d : Option Expiration) → k < length positions → get_or (slots len entries positions) k d ≡ slot len entries (get_or positions k 0)
+pub slots_at : (len : ℕ) (entries : List Entry) (positions : List ℕ) (k : ℕ) (d : Option Expiration) → k < length positions
+    → get_or (slots len entries positions) k d ≡ slot len entries (get_or positions k 0)
 unfolding slots
 slots_at len entries positions k d low = get_or-map (slot len entries) positions k 0 d low
 

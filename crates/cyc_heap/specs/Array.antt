@@ -1,5 +1,6 @@
 -- The array of a heap: its first entries are the heap, those after them have the free indexes.
-use Rattle.std.specs.Prelude.{◌≡◌, ◌≢◌, ℕ, suc, ◌+◌, ◌*◌, ◌/◌, ◌%◌, ◌<◌, ◌≤◌, ◌⊎◌, true, nat_lt, eqb, cond, List, [], ◌∷◌, length, map, count_by, slice_index, slice_index_or, Option, Some, None, is_some, if◌then◌else◌}
+use Rattle.std.specs.Prelude.{◌≡◌, ◌≢◌, ℕ, suc, ◌+◌, ◌*◌, ◌/◌, ◌%◌, ◌<◌, ◌≤◌, ◌⊎◌, true, nat_lt, eqb, cond, List, [], ◌∷◌, length}
+use Rattle.std.specs.Prelude.{map, count_by, slice_index, slice_index_or, Option, Some, None, is_some, if◌then◌else◌}
 use Rattle.std.specs.List.{range_with_len}
 use Rattle.cyc_types.specs.Limits.{cyclics}
 use Rattle.cyc_expirations.specs.Expirations.{Expiration, is_before}
@@ -69,7 +70,8 @@ IsBridged hole n f = (a c : ℕ) → IsChild a hole → IsChild hole c → c < n
 pub record IsLinked (entries : List Entry) (positions : List ℕ) : Type 0 where
   pub same : length positions ≡ length entries
   pub up : (p : ℕ) → p < length entries → (index_at entries p < length entries) × (slice_index positions (index_at entries p) ≡ p)
-  pub down : (i : ℕ) → i < length entries → (slice_index positions i < length entries) × (index_at entries (slice_index positions i) ≡ i)
+  pub down : (i : ℕ) → i < length entries → (slice_index positions i < length entries)
+      × (index_at entries (slice_index positions i) ≡ i)
 
 -- the first entries are a heap
 pub record IsHeap (len : ℕ) (entries : List Entry) (positions : List ℕ) : Type 0 where

@@ -1,6 +1,8 @@
 //! The heap of expirations, with a look-up by index.
 
-ghost use Rattle.std.specs.Prelude.{◌≡◌, ◌≢◌, ℕ, ◌+◌, ◌-◌, ◌*◌, ◌<◌, ◌≤◌, ◌↔◌, ◌++◌, max, length, replicate, slice_set, option_map, Some, None, IsSome, IfSome, IfNone, IfOk, IfErr, OnOk, OnErr, vec_len, vec_capacity};
+ghost use Rattle.std.specs.Prelude.{◌≡◌, ◌≢◌, ℕ, ◌+◌, ◌-◌, ◌*◌, ◌<◌, ◌≤◌, ◌↔◌, ◌++◌, max, length, replicate, slice_set};
+ghost use Rattle.std.specs.Prelude.{option_map, Some, None, IsSome, IfSome, IfNone, IfOk, IfErr, OnOk, OnErr, vec_len};
+ghost use Rattle.std.specs.Prelude.{vec_capacity};
 ghost use Rattle.cyc_types.specs.Limits.{cyclics};
 ghost use Rattle.cyc_types.specs.declared.refusal.Refusal.TheVariants.{Memory};
 ghost use Rattle.cyc_heap.specs.Array.{IsLinked, entry_at, index_of, places, slots};
@@ -31,9 +33,15 @@ impl Model for ExpiryHeap {
 
     ghost Value = { HeapView };
 
-    ghost view = { λ h. record { slots = slots h.len h.entries.items (places h.entries.items); root = root_of h.len h.entries.items; room = h.room } };
+    ghost view = { λ h. record {
+      slots = slots h.len h.entries.items (places h.entries.items);
+      root =
+          root_of h.len h.entries.items;
+      room = h.room;
+    } };
 
-    ghost invariant = { λ h. IsHeap h.len h.entries.items (places h.entries.items) × (h.room ≤ vec_capacity h.entries) × (length h.entries.items ≤ h.room) };
+    ghost invariant = { λ h. IsHeap h.len h.entries.items (places h.entries.items) × (h.room ≤ vec_capacity h.entries)
+        × (length h.entries.items ≤ h.room) };
 }
 
 impl ExpiryHeap {

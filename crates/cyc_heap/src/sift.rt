@@ -3,7 +3,8 @@
 ghost use Rattle.std.specs.Prelude.{◌≡◌, ◌≢◌, ℕ, ◌+◌, ◌*◌, ◌<◌, ◌≤◌, ◌⊎◌, true, length, slice_set, vec_capacity, Some};
 ghost use Rattle.cyc_expirations.specs.Expirations.{is_before};
 ghost use Rattle.cyc_types.specs.Limits.{cyclics};
-ghost use Rattle.cyc_heap.specs.Array.{key, key_at, index_of, index_at, IsLinked, IsOrdered, IsOrderedBut, IsBridged, places, slots};
+ghost use Rattle.cyc_heap.specs.Array.{key, key_at, index_of, index_at, IsLinked, IsOrdered, IsOrderedBut, IsBridged, places};
+ghost use Rattle.cyc_heap.specs.Array.{slots};
 
 use crate::entry::Entry;
 
@@ -37,7 +38,8 @@ fn sift(entries: &mut [Entry], len: usize, hole: usize, entry: Entry)
     ensures linked { IsLinked entries.new (places entries.new) }
     ensures order { IsOrdered len (key_at entries.new) }
     ensures length { length entries.new ≡ length entries.old }
-    ensures slots { slots len entries.new (places entries.new) ≡ slice_set (slots len entries.old (places entries.old)) (index_of entry) (Some (key entry)) }
+    ensures slots { slots len entries.new (places entries.new) ≡ slice_set (slots len entries.old (places entries.old))
+        (index_of entry) (Some (key entry)) }
 {
     let mut hole = hole;
     'up: while hole > 0 {
@@ -74,7 +76,8 @@ pub(crate) fn fill(entries: &mut Vec<Entry>, len: usize, hole: usize, entry: Ent
     ensures linked { IsLinked entries.new.items (places entries.new.items) }
     ensures order { IsOrdered len (key_at entries.new.items) }
     ensures length { length entries.new.items ≡ length entries.old.items }
-    ensures slots { slots len entries.new.items (places entries.new.items) ≡ slice_set (slots len entries.old.items (places entries.old.items)) (index_of entry) (Some (key entry)) }
+    ensures slots { slots len entries.new.items (places entries.new.items)
+        ≡ slice_set (slots len entries.old.items (places entries.old.items)) (index_of entry) (Some (key entry)) }
     ensures entries { vec_capacity entries.new ≡ vec_capacity entries.old }
 {
     sift(entries.as_mut_slice(), len, hole, entry);

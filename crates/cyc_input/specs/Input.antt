@@ -19,7 +19,8 @@ LosesAtMost most old new = (bytes : List ℕ) × (length bytes ≤ most) × Cons
 -- a turn put the bytes that it gave behind those before; true where the reader was at its end
 abbrev pub GrowsBy : Option (List ℕ) → Option (List ℕ) → List ℕ → List ℕ → Result Bool InputFault → Type 0
 GrowsBy old new before after (Ok ended) =
-    (given : List ℕ) × (after ≡ before ++ given) × (length after ≤ most_bytes) × Consumes old new given × (ended ≡ true → IsAtEnd new)
+    (given : List ℕ) × (after ≡ before ++ given) × (length after ≤ most_bytes) × Consumes old new given
+    × (ended ≡ true → IsAtEnd new)
 GrowsBy old new before after (Err e) = (given : List ℕ) × (length (before ++ given) ≤ most_bytes) × Consumes old new given
 
 -- whether a reading stopped because the reader was not read

@@ -1,5 +1,6 @@
 -- The CPUs and the records agree where all components have left the source and it is offline.
-use Rattle.std.proofs.Common.{◌≡◌, ◌≢◌, ◌==◌, ℕ, ◌<◌, ◌≤◌, ◌⊎◌, inl, inr, Bool, true, false, Some, None, List, [], length, sym, ap, ◌∙◌, subst, arith}
+use Rattle.std.proofs.Common.{◌≡◌, ◌≢◌, ◌==◌, ℕ, ◌<◌, ◌≤◌, ◌⊎◌, inl, inr, Bool, true, false, Some, None, List, [], length, sym}
+use Rattle.std.proofs.Common.{ap, ◌∙◌, subst, arith}
 use Rattle.std.specs.List.{slice_get}
 use Rattle.std.specs.Option.{option_map_or, option_and_then}
 use Rattle.std.proofs.lemmas.Option.{slice_get_within, get_or_from_slice_get}
@@ -29,9 +30,12 @@ placed_at v n id h =
     let (x, at) = get_some (ids_on n v) k low in
     (k, at ∙ ap Some (eq_true x id (ap (λ y. y == id) (sym (get_or_from_slice_get (ids_on n v) k x 0 at)) ∙ passes 0)))
 
-module _ {R : Type 0} (step : R → FiringCall → R → Type 0) (view : R → FiringView) (source : ℕ) (v : CpusView R) (rs : RecordsView) (done : ℕ) (w : CpusView R) (qs : RecordsView)
-    (i : Retired step view source v rs done w qs) (components : single_ids source (system_of v rs 0) ≡ []) (rising : HasRisingIds rs.list) (empty : ids_on source w ≡ [])
-    (low : source < length v.cpus) (still_first : removal_on source v ≡ None) (d last : ℕ) (chosen : destination (Some source) v ≡ Some d) (a : Agrees (system_of v rs last)) where
+module _ {R : Type 0} (step : R → FiringCall → R → Type 0) (view : R → FiringView) (source : ℕ) (v : CpusView R)
+    (rs : RecordsView) (done : ℕ) (w : CpusView R) (qs : RecordsView)
+    (i : Retired step view source v rs done w qs) (components : single_ids source (system_of v rs 0) ≡ [])
+    (rising : HasRisingIds rs.list) (empty : ids_on source w ≡ [])
+    (low : source < length v.cpus) (still_first : removal_on source v ≡ None) (d last : ℕ)
+    (chosen : destination (Some source) v ≡ Some d) (a : Agrees (system_of v rs last)) where
   abbrev t : SystemView R
   t = offline_at source (system_of w qs last)
 
@@ -42,7 +46,8 @@ module _ {R : Type 0} (step : R → FiringCall → R → Type 0) (view : R → F
   off = ap (λ o. option_map_or (λ online. online) o false) (get_set_same w.online source false low_online)
 
   up : (n : ℕ) → n ≢ source → is_online n t.cpus ≡ is_online n v
-  up n ne = ap (λ o. option_map_or (λ online. online) o false) (get_set_other w.online source n false ne ∙ ap (λ (xs : List Bool). slice_get xs n) i.online)
+  up n ne = ap (λ o. option_map_or (λ online. online) o false) (get_set_other w.online source n false ne
+      ∙ ap (λ (xs : List Bool). slice_get xs n) i.online)
 
   none_there : (id : ℕ) → has source id t.cpus ≡ true → ⊥
   none_there id h = false_true (sym (ap (λ ids. among id ids) empty) ∙ h)
@@ -69,7 +74,8 @@ module _ {R : Type 0} (step : R → FiringCall → R → Type 0) (view : R → F
   apart : (n : ℕ) (id : ℕ) → has n id t.cpus ≡ true → n ≢ source
   apart n id h e = none_there id (ap (λ m. has m id t.cpus) (sym e) ∙ h)
 
-  by_everywhere : (k n : ℕ) (r q : Record) → IsRecord rs.list k r → SameBeside source r q → n ≢ source → (has n r.id v ≡ true) ⊎ ((m : ℕ) × (removal_on m v ≡ Some r.id))
+  by_everywhere : (k n : ℕ) (r q : Record) → IsRecord rs.list k r → SameBeside source r q → n ≢ source → (has n r.id v ≡ true)
+      ⊎ ((m : ℕ) × (removal_on m v ≡ Some r.id))
       → (has n q.id t.cpus ≡ true) ⊎ ((m : ℕ) × (removal_on m t.cpus ≡ Some q.id))
   by_everywhere k n r q is same ne (inl h) = inl (has_same n q.id ne ∙ ap (λ id. has n id v) same.id ∙ h)
   by_everywhere k n r q is same ne (inr (m, open_is)) = inr (
@@ -81,7 +87,8 @@ module _ {R : Type 0} (step : R → FiringCall → R → Type 0) (view : R → F
 
   pub agrees_offline : Agrees (offline_at source (system_of w qs last))
   agrees_offline = record {
-    known = λ n id h. (let ne = apart n id h in let (k, r, is, named, stands, on) = a.known n id (sym (has_same n id ne) ∙ h) in let (q, at, same) = i.forth k r is in
+    known = λ n id h. (let ne = apart n id h in let (k, r, is, named, stands, on) = a.known n id (sym (has_same n id ne) ∙ h) in
+        let (q, at, same) = i.forth k r is in
         (k, q, at, same.id ∙ named, subst (λ p. Stands n p) (sym same.place) stands, up n ne ∙ on));
     home = λ k n bound q is place. (let (r, at, same) = back k q is in dite (ℕ_discrete n source)
         (λ e. absurd (not_home k bound r at (sym same.place ∙ place ∙ ap (λ m. On m bound) e)))

@@ -1,5 +1,6 @@
 -- Lists of ids up to a place, and from it on.
-use Rattle.std.proofs.Common.{◌≡◌, ℕ, zero, suc, ◌+◌, ◌-◌, ◌<◌, ◌≤◌, Bool, true, false, cond, Some, List, [], ◌∷◌, ◌++◌, length, filter, map, take, drop, refl, sym, ap, ◌∙◌, arith}
+use Rattle.std.proofs.Common.{◌≡◌, ℕ, zero, suc, ◌+◌, ◌-◌, ◌<◌, ◌≤◌, Bool, true, false, cond, Some, List, [], ◌∷◌, ◌++◌, length}
+use Rattle.std.proofs.Common.{filter, map, take, drop, refl, sym, ap, ◌∙◌, arith}
 use Rattle.std.specs.Prelude.{remove}
 use Rattle.std.specs.List.{slice_get}
 use Rattle.std.proofs.lemmas.List.{take-append-drop, length-drop, append-nil}
@@ -61,16 +62,20 @@ head_is : {A : Type 0} {x y : A} {xs ys : List A} → x ∷ xs ≡ y ∷ ys → 
 head_is {A} {x} {y} {xs} {ys} e = same_some (ap (λ (l : List A). slice_get l 0) e)
 
 -- where the rests agree, so do their first elements, and the rests after these
-pub first_at : {A : Type 0} (xs ys : List A) (k n : ℕ) (x : A) → drop k xs ≡ drop n ys → slice_get xs k ≡ Some x → slice_get ys n ≡ Some x
-first_at xs [] k n x e at = absurd (let odd : x ∷ drop (k + 1) xs ≡ [] = sym (drop_more xs k x at) ∙ e ∙ none_more [] n (omega arith) in cc)
+pub first_at : {A : Type 0} (xs ys : List A) (k n : ℕ) (x : A) → drop k xs ≡ drop n ys → slice_get xs k ≡ Some x
+    → slice_get ys n ≡ Some x
+first_at xs [] k n x e at = absurd (let odd : x ∷ drop (k + 1) xs ≡ [] = sym (drop_more xs k x at) ∙ e
+    ∙ none_more [] n (omega arith) in cc)
 first_at xs (y ∷ ys) k zero x e at = ap Some (sym (head_is (sym (drop_more xs k x at) ∙ e)))
 first_at xs (y ∷ ys) k (suc n) x e at = first_at xs ys k n x e at
 
-pub rest_after : {A : Type 0} (xs ys : List A) (k n : ℕ) (x : A) → drop k xs ≡ drop n ys → slice_get xs k ≡ Some x → drop (k + 1) xs ≡ drop (n + 1) ys
+pub rest_after : {A : Type 0} (xs ys : List A) (k n : ℕ) (x : A) → drop k xs ≡ drop n ys → slice_get xs k ≡ Some x
+    → drop (k + 1) xs ≡ drop (n + 1) ys
 rest_after xs ys k n x e at = tail_is (sym (drop_more xs k x at) ∙ e ∙ drop_more ys n x (first_at xs ys k n x e at))
 
 pub low_too : {A : Type 0} (xs ys : List A) (k n : ℕ) → drop k xs ≡ drop n ys → n < length ys → k < length xs
-low_too xs ys k n e low = let a = length-drop k xs in let b = length-drop n ys in let c = ap length e in omega (arith, a, b, c, low)
+low_too xs ys k n e low = let a = length-drop k xs in let b = length-drop n ys in let c = ap length e in
+    omega (arith, a, b, c, low)
 
 pub take_whole : {A : Type 0} (xs : List A) (k : ℕ) → drop k xs ≡ [] → take k xs ≡ xs
 take_whole xs k e = sym (append-nil (take k xs)) ∙ ap (λ l. take k xs ++ l) (sym e) ∙ take-append-drop k xs
@@ -81,11 +86,15 @@ pub filter_same : {A : Type 0} (p q : A → Bool) (xs : List A) → ((x : A) →
 filter_same p q [] same = refl
 filter_same p q (x ∷ xs) same = (λ i. cond (same x i) (x ∷ filter_same p q xs same i) (filter_same p q xs same i))
 
-pub filter_in : {A : Type 0} (p : A → Bool) (xs : List A) (k : ℕ) (x : A) → slice_get xs k ≡ Some x → p x ≡ true → filter p (take (k + 1) xs) ≡ filter p (take k xs) ++ x ∷ []
-filter_in p xs k x at e = ap (filter p) (take_more xs k x at) ∙ filter-append p (take k xs) (x ∷ []) ∙ ap (λ b. filter p (take k xs) ++ cond b (x ∷ []) []) e
+pub filter_in : {A : Type 0} (p : A → Bool) (xs : List A) (k : ℕ) (x : A) → slice_get xs k ≡ Some x → p x ≡ true
+    → filter p (take (k + 1) xs) ≡ filter p (take k xs) ++ x ∷ []
+filter_in p xs k x at e = ap (filter p) (take_more xs k x at) ∙ filter-append p (take k xs) (x ∷ [])
+    ∙ ap (λ b. filter p (take k xs) ++ cond b (x ∷ []) []) e
 
-pub filter_out : {A : Type 0} (p : A → Bool) (xs : List A) (k : ℕ) (x : A) → slice_get xs k ≡ Some x → p x ≡ false → filter p (take (k + 1) xs) ≡ filter p (take k xs)
-filter_out p xs k x at e = ap (filter p) (take_more xs k x at) ∙ filter-append p (take k xs) (x ∷ []) ∙ ap (λ b. filter p (take k xs) ++ cond b (x ∷ []) []) e
+pub filter_out : {A : Type 0} (p : A → Bool) (xs : List A) (k : ℕ) (x : A) → slice_get xs k ≡ Some x → p x ≡ false
+    → filter p (take (k + 1) xs) ≡ filter p (take k xs)
+filter_out p xs k x at e = ap (filter p) (take_more xs k x at) ∙ filter-append p (take k xs) (x ∷ [])
+    ∙ ap (λ b. filter p (take k xs) ++ cond b (x ∷ []) []) e
     ∙ append-nil (filter p (take k xs))
 
 pub length_more : {A : Type 0} (xs : List A) (x : A) → length (xs ++ x ∷ []) ≡ length xs + 1

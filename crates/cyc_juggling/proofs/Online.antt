@@ -1,5 +1,6 @@
 -- Another CPU is online exactly where there is a destination.
-use Rattle.std.proofs.Common.{◌≡◌, ◌≢◌, ℕ, zero, suc, ◌+◌, ◌<◌, Bool, true, false, cond, not, Option, Some, None, List, [], ◌∷◌, filter, length, is_some, refl, sym, ap, ◌∙◌, arith}
+use Rattle.std.proofs.Common.{◌≡◌, ◌≢◌, ℕ, zero, suc, ◌+◌, ◌<◌, Bool, true, false, cond, not, Option, Some, None, List, [], ◌∷◌}
+use Rattle.std.proofs.Common.{filter, length, is_some, refl, sym, ap, ◌∙◌, arith}
 use Rattle.std.specs.Prelude.{nat_le}
 use Rattle.std.specs.List.{slice_get}
 use Rattle.cyc_types.specs.declared.refusal.Refusal.TheVariants.{LastCpu, Busy}
@@ -35,12 +36,15 @@ all_pass m k (true ∷ xs) low = kept (is_not (Some m)) k (numbers_from (k + 1) 
 all_pass m k (false ∷ xs) low = all_pass m (k + 1) xs (omega (arith, low))
 
 -- all but one
-one_less : (k j m : ℕ) (xs : List Bool) → m ≡ k + j → slice_get xs j ≡ Some true → length (numbers_from k xs) ≡ suc (length (filter (is_not (Some m)) (numbers_from k xs)))
+one_less : (k j m : ℕ) (xs : List Bool) → m ≡ k + j → slice_get xs j ≡ Some true
+    → length (numbers_from k xs) ≡ suc (length (filter (is_not (Some m)) (numbers_from k xs)))
 one_less k j m [] e at = absurd (none_some at)
-one_less k zero m (true ∷ xs) e at = ap (λ ns. suc (length ns)) (sym (dropped (is_not (Some m)) k (numbers_from (k + 1) xs) (is_same m k (omega (arith, e)))
+one_less k zero m (true ∷ xs) e at = ap (λ ns. suc (length ns))
+    (sym (dropped (is_not (Some m)) k (numbers_from (k + 1) xs) (is_same m k (omega (arith, e)))
     ∙ all_pass m (k + 1) xs (omega (arith, e))))
 one_less k (suc j) m (true ∷ xs) e at = ap suc (one_less (k + 1) j m xs (omega (arith, e)) at)
-    ∙ ap (λ ns. suc (length ns)) (sym (kept (is_not (Some m)) k (numbers_from (k + 1) xs) (is_other m k (λ f. omega (arith, e, f)))))
+    ∙ ap (λ ns. suc (length ns)) (sym (kept (is_not (Some m)) k (numbers_from (k + 1) xs)
+    (is_other m k (λ f. omega (arith, e, f)))))
 one_less k zero m (false ∷ xs) e at = absurd (false_true (same_some at))
 one_less k (suc j) m (false ∷ xs) e at = one_less (k + 1) j m xs (omega (arith, e)) at
 
@@ -66,19 +70,23 @@ module _ {R : Type 0} (s : SystemView R) (source : ℕ) (on : is_online source s
 
   module _ (low : source < length s.cpus.cpus) where
     pub is_last : destination (Some source) s.cpus ≡ None → first_refusal (juggle_refusals source s) ≡ Some LastCpu
-    is_last e = passes _ (offline_cpu source s ∷ last_cpu s ∷ busy (removal_on source s.cpus) ∷ []) (Some LastCpu) (cpu_clear s source low)
+    is_last e = passes _ (offline_cpu source s ∷ last_cpu s ∷ busy (removal_on source s.cpus) ∷ []) (Some LastCpu)
+        (cpu_clear s source low)
         (passes _ (last_cpu s ∷ busy (removal_on source s.cpus) ∷ []) (Some LastCpu) (online_clear s source on)
         (stops _ (busy (removal_on source s.cpus) ∷ []) LastCpu (last_refused e)))
 
     pub is_busy : (d removed : ℕ) → destination (Some source) s.cpus ≡ Some d → removal_on source s.cpus ≡ Some removed
         → first_refusal (juggle_refusals source s) ≡ Some (Busy removed)
-    is_busy d removed e at = passes _ (offline_cpu source s ∷ last_cpu s ∷ busy (removal_on source s.cpus) ∷ []) (Some (Busy removed)) (cpu_clear s source low)
+    is_busy d removed e at = passes _ (offline_cpu source s ∷ last_cpu s ∷ busy (removal_on source s.cpus) ∷ [])
+        (Some (Busy removed)) (cpu_clear s source low)
         (passes _ (last_cpu s ∷ busy (removal_on source s.cpus) ∷ []) (Some (Busy removed)) (online_clear s source on)
-        (passes _ (busy (removal_on source s.cpus) ∷ []) (Some (Busy removed)) (last_clear d e) (stops _ [] (Busy removed) (ap busy at))))
+        (passes _ (busy (removal_on source s.cpus) ∷ []) (Some (Busy removed)) (last_clear d e)
+        (stops _ [] (Busy removed) (ap busy at))))
 
     pub is_clear : (d : ℕ) → destination (Some source) s.cpus ≡ Some d → removal_on source s.cpus ≡ None
         → first_refusal (juggle_refusals source s) ≡ None
-    is_clear d e at = passes _ (offline_cpu source s ∷ last_cpu s ∷ busy (removal_on source s.cpus) ∷ []) None (cpu_clear s source low)
+    is_clear d e at = passes _ (offline_cpu source s ∷ last_cpu s ∷ busy (removal_on source s.cpus) ∷ []) None
+        (cpu_clear s source low)
         (passes _ (last_cpu s ∷ busy (removal_on source s.cpus) ∷ []) None (online_clear s source on)
         (passes _ (busy (removal_on source s.cpus) ∷ []) None (last_clear d e) (passes _ [] None (ap busy at) refl)))
 
@@ -96,7 +104,8 @@ still_chosen : {R : Type 0} (v w : CpusView R) (ns : List ℕ) (d : ℕ) → few
 still_chosen v w [] d is = absurd (none_some is)
 still_chosen v w (n ∷ ns) d is = (fewer n (fewest ns w) w, refl)
 
-pub other_too : {R : Type 0} (v w : CpusView R) (source d : ℕ) → w.online ≡ v.online → destination (Some source) v ≡ Some d → (e : ℕ) × (destination (Some source) w ≡ Some e)
+pub other_too : {R : Type 0} (v w : CpusView R) (source d : ℕ) → w.online ≡ v.online → destination (Some source) v ≡ Some d
+    → (e : ℕ) × (destination (Some source) w ≡ Some e)
 other_too v w source d same is =
     let (e, chosen) = still_chosen v w (filter (is_not (Some source)) (numbers_from 0 v.online)) d is in
     (e, ap (λ online. fewest (filter (is_not (Some source)) (numbers_from 0 online)) w) same ∙ chosen)

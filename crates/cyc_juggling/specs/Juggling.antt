@@ -1,5 +1,6 @@
 -- How the cyclics of a CPU move to others (cyclic_juggle).
-use Rattle.std.specs.Prelude.{◌≡◌, ℕ, ◌+◌, ◌<◌, nat_le, not, true, false, List, [], ◌∷◌, filter, length, Option, Some, Result, Ok, Err}
+use Rattle.std.specs.Prelude.{◌≡◌, ℕ, ◌+◌, ◌<◌, nat_le, not, true, false, List, [], ◌∷◌, filter, length, Option, Some, Result, Ok}
+use Rattle.std.specs.Prelude.{Err}
 use Rattle.cyc_types.specs.Firing.{FiringView, FiringCall}
 use Rattle.cyc_types.specs.declared.refusal.JuggleReport.{JuggleReport}
 use Rattle.cyc_types.specs.declared.refusal.Refusal.{Refusal}

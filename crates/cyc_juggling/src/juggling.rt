@@ -24,9 +24,11 @@ pub(crate) fn move_away<R: Raise>(
     requires there { source < length cpus.old.cpus }
     requires still { removal_on source cpus.old ≡ None }
     requires other { (d : ℕ) × (destination (Some source) cpus.old ≡ Some d) }
-    ensures did { (last : ℕ) → MovesAway R.step R.view source result (system_of cpus.old records.old last) (system_of cpus.new records.new last) }
+    ensures did { (last : ℕ) → MovesAway R.step R.view source result (system_of cpus.old records.old last)
+        (system_of cpus.new records.new last) }
     ensures agrees { (last : ℕ) → Agrees (system_of cpus.old records.old last) → Agrees (system_of cpus.new records.new last) }
-    ensures within { (last : ℕ) → EndedWithin (system_of cpus.old records.old last) → EndedWithin (system_of cpus.new records.new last) }
+    ensures within { (last : ℕ) → EndedWithin (system_of cpus.old records.old last)
+        → EndedWithin (system_of cpus.new records.new last) }
     ensures left { (last : ℕ) → length (single_ids source (system_of cpus.new records.new last)) ≡ all_left result }
     ensures few { all_turns result ≤ 256 }
     ensures online { cpus.new.online ≡ cpus.old.online }
@@ -62,7 +64,8 @@ pub fn juggle<R: Raise>(
     source: u32,
 ) -> Result<JuggleReport, Refusal>
     requires { (last : ℕ) × Agrees (system_of cpus.old records.old last) }
-    ensures did { (last : ℕ) → Juggles R.step R.view source result (system_of cpus.old records.old last) (system_of cpus.new records.new last) }
+    ensures did { (last : ℕ) → Juggles R.step R.view source result (system_of cpus.old records.old last)
+        (system_of cpus.new records.new last) }
     ensures agrees { (last : ℕ) → Agrees (system_of cpus.old records.old last) → Agrees (system_of cpus.new records.new last) }
 {
     may_leave(cpus, source)?;

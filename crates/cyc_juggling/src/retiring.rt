@@ -22,7 +22,8 @@ use cyc_types::{CyclicId, Raise};
 /// Asks the CPU for each of its cyclics, by rising id up to the first of which calls are outstanding.
 pub(crate) fn any_pending<R: Raise>(cpus: &mut Cpus<R>, source: u32) -> bool
     requires { source < length cpus.old.cpus }
-    ensures some { OnTrue result ((records : RecordsView) (last : ℕ) → FindsPending R.step R.view source (system_of cpus.old records last) (system_of cpus.new records last)) }
+    ensures some { OnTrue result ((records : RecordsView) (last : ℕ)
+        → FindsPending R.step R.view source (system_of cpus.old records last) (system_of cpus.new records last)) }
     ensures none { OnFalse result (Works R.step R.view (quiet source (ids_on source cpus.old)) cpus.old cpus.new) }
     ensures quiet { OnFalse result (OfCpu source (AreQuiet R.view) cpus.new) }
 {
@@ -41,8 +42,10 @@ fn retire<R: Raise>(cpus: &mut Cpus<R>, records: &mut Records, source: u32, id: 
     requires few { source < 16 }
     requires leaves { OfCpu source (MayLeave R.view id) cpus.old }
     requires record { (k : ℕ) × (r : Record) × IsRecord records.old.list k r × (r.id ≡ id) × (ended_on source r ≡ no_counts) }
-    ensures did { (last : ℕ) → Retires R.step R.view source (system_of cpus.old records.old last) id (system_of cpus.new records.new last) }
-    ensures within { (last : ℕ) → EndedWithin (system_of cpus.old records.old last) → EndedWithin (system_of cpus.new records.new last) }
+    ensures did { (last : ℕ) → Retires R.step R.view source (system_of cpus.old records.old last) id
+        (system_of cpus.new records.new last) }
+    ensures within { (last : ℕ) → EndedWithin (system_of cpus.old records.old last)
+        → EndedWithin (system_of cpus.new records.new last) }
 {
     records.law();
     let Some(place) = records.find(id) else {
@@ -65,8 +68,10 @@ pub(crate) fn retire_all<R: Raise>(cpus: &mut Cpus<R>, records: &mut Records, so
     ensures did { (last : ℕ) → FoldsTo (Retires R.step R.view source) (system_of cpus.old records.old last)
         (ids_on source cpus.old) (system_of cpus.new records.new last) }
     ensures there { length cpus.new.cpus ≡ length cpus.old.cpus }
-    ensures agrees { (last : ℕ) → Agrees (system_of cpus.old records.old last) → Agrees (offline_at source (system_of cpus.new records.new last)) }
-    ensures within { (last : ℕ) → EndedWithin (system_of cpus.old records.old last) → EndedWithin (system_of cpus.new records.new last) }
+    ensures agrees { (last : ℕ) → Agrees (system_of cpus.old records.old last)
+        → Agrees (offline_at source (system_of cpus.new records.new last)) }
+    ensures within { (last : ℕ) → EndedWithin (system_of cpus.old records.old last)
+        → EndedWithin (system_of cpus.new records.new last) }
 {
     records.law();
     for _done in 0..cpus.cpu(source).len() {

@@ -40,7 +40,8 @@ fn go<R: Raise>(
     requires record { (r : Record) × IsRecord records.old.list place r × (r.id ≡ id) × (r.place ≡ On source false) }
     requires still { removal_on source cpus.old ≡ None }
     requires other { (d : ℕ) × (destination (Some source) cpus.old ≡ Some d) }
-    ensures did { (last : ℕ) → TakesTurn R.step R.view source id result (system_of cpus.old records.old last) (system_of cpus.new records.new last) }
+    ensures did { (last : ℕ) → TakesTurn R.step R.view source id result (system_of cpus.old records.old last)
+        (system_of cpus.new records.new last) }
     ensures agrees { (last : ℕ) → Agrees (system_of cpus.old records.old last) → Agrees (system_of cpus.new records.new last) }
 {
     cpus.law();
@@ -75,7 +76,8 @@ fn turn_of<R: Raise>(
     requires here { has source id cpus.old ≡ true }
     requires still { removal_on source cpus.old ≡ None }
     requires other { (d : ℕ) × (destination (Some source) cpus.old ≡ Some d) }
-    ensures did { (last : ℕ) → Visits R.step R.view source id result (system_of cpus.old records.old last) (system_of cpus.new records.new last) }
+    ensures did { (last : ℕ) → Visits R.step R.view source id result (system_of cpus.old records.old last)
+        (system_of cpus.new records.new last) }
     ensures agrees { (last : ℕ) → Agrees (system_of cpus.old records.old last) → Agrees (system_of cpus.new records.new last) }
 {
     records.law();

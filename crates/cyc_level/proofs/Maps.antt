@@ -39,7 +39,8 @@ module _ (m : Cyclics) (id : ℕ) (f : Option Cyclic → Option Cyclic) where
   pub at_other : (j : ℕ) → j ≢ id → changed_at m id f j ≡ m j
   at_other j ne = ap (λ b. cond b (f (m j)) (m j)) (ne_eqb j id ne)
 
-  pub at_cases : (P : ℕ → Option Cyclic → Type 0) → P id (f (m id)) → ((j : ℕ) → j ≢ id → P j (m j)) → (j : ℕ) → P j (changed_at m id f j)
+  pub at_cases : (P : ℕ → Option Cyclic → Type 0) → P id (f (m id)) → ((j : ℕ) → j ≢ id → P j (m j)) → (j : ℕ)
+      → P j (changed_at m id f j)
   at_cases P here there j = dite (ℕ_discrete j id)
       (λ e. subst (λ (k : ℕ). P k (changed_at m id f k)) (sym e) (subst (P id) (sym at_same) here))
       (λ ne. subst (P j) (sym (at_other j ne)) (there j ne))
@@ -50,8 +51,10 @@ module _ (m : Cyclics) (id : ℕ) (f : Cyclic → Cyclic) (same : (c : Cyclic) �
   was None d e = absurd (cc)
   was (Some c) d e = (c, refl, same c ∙ ap (λ (x : Cyclic). x.index) (some_same (f c) d e))
 
-  pub from_old : (j : ℕ) (d : Cyclic) → changed_at m id (option_map f) j ≡ Some d → (c : Cyclic) × (m j ≡ Some c) × (c.index ≡ d.index)
-  from_old j d e = at_cases m id (option_map f) (λ k o. o ≡ Some d → (c : Cyclic) × (m k ≡ Some c) × (c.index ≡ d.index)) (was (m id) d) (λ k _ h. (d, h, refl)) j e
+  pub from_old : (j : ℕ) (d : Cyclic) → changed_at m id (option_map f) j ≡ Some d → (c : Cyclic) × (m j ≡ Some c)
+      × (c.index ≡ d.index)
+  from_old j d e = at_cases m id (option_map f) (λ k o. o ≡ Some d → (c : Cyclic) × (m k ≡ Some c) × (c.index ≡ d.index))
+      (was (m id) d) (λ k _ h. (d, h, refl)) j e
 
 pub hand_here : (id : ℕ) → in_hand id (Some id) ≡ 1
 hand_here id = ap (λ b. cond b 1 0) (eq-eqb id id refl)

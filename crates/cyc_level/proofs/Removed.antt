@@ -6,7 +6,8 @@ use Rattle.cyc_level.specs.declared.Event.{Event}
 use Rattle.cyc_level.specs.declared.Event.TheVariants.{Admit, Expire, Lose, Publish, Take, Finish, Mark, Clear, Switch, Follow}
 use Rattle.cyc_level.specs.Level.{Cyclic, Level, count_in, place_count}
 use Rattle.cyc_level.specs.Lawful.{one_if_any, Lawful}
-use Rattle.cyc_level.specs.Events.{admitted_cyclic, cyclic_after_expire, cyclic_after_lose, cyclic_after_finish, after_finish, reached, AllEnabled}
+use Rattle.cyc_level.specs.Events.{admitted_cyclic, cyclic_after_expire, cyclic_after_lose, cyclic_after_finish, after_finish}
+use Rattle.cyc_level.specs.Events.{reached, AllEnabled}
 use Rattle.cyc_level.specs.Runs.{finishes, admissions, NothingFollowsClear}
 use Rattle.cyc_level.proofs.Keeps.{always_lawful}
 
@@ -34,25 +35,32 @@ module _ (ceiling id : ℕ) (earlier : List Event) where
   abbrev run : List Event → List Event
   run later = later ++ Clear id ∷ earlier
 
-  none_after : (later : List Event) → AllEnabled ceiling (run later) → admissions id later ≡ 0 → (reached ceiling (run later)).cyclics id ≡ None
+  none_after : (later : List Event) → AllEnabled ceiling (run later) → admissions id later ≡ 0
+      → (reached ceiling (run later)).cyclics id ≡ None
   none_after [] on z = ap (λ b. cond b None ((reached ceiling earlier).cyclics id)) (eq-eqb id id refl)
-  none_after (Admit a index ∷ es) on z = admitted_none (eqb id a) (admitted_cyclic index) ((reached ceiling (run es)).cyclics id) (admissions id es) z (none_after es on.1 (no_more (cond (eqb id a) 1 0) (admissions id es) z)) where
-    no_more : (m n : ℕ) → m + n ≡ 0 → n ≡ 0
-    no_more m n h = omega (arith, h)
-  none_after (Expire a ∷ es) on z = mapped_none cyclic_after_expire (eqb id a) ((reached ceiling (run es)).cyclics id) (none_after es on.1 z)
-  none_after (Lose a ∷ es) on z = mapped_none cyclic_after_lose (eqb id a) ((reached ceiling (run es)).cyclics id) (none_after es on.1 z)
+  none_after (Admit a index ∷ es) on z = admitted_none (eqb id a) (admitted_cyclic index) ((reached ceiling (run es)).cyclics id)
+      (admissions id es) z (none_after es on.1 (no_more (cond (eqb id a) 1 0) (admissions id es) z)) where
+        no_more : (m n : ℕ) → m + n ≡ 0 → n ≡ 0
+        no_more m n h = omega (arith, h)
+  none_after (Expire a ∷ es) on z = mapped_none cyclic_after_expire (eqb id a) ((reached ceiling (run es)).cyclics id)
+      (none_after es on.1 z)
+  none_after (Lose a ∷ es) on z = mapped_none cyclic_after_lose (eqb id a) ((reached ceiling (run es)).cyclics id)
+      (none_after es on.1 z)
   none_after (Publish ∷ es) on z = none_after es on.1 z
   none_after (Take ∷ es) on z = none_after es on.1 z
-  none_after (Finish ∷ es) on z = finished_none (reached ceiling (run es)).drainer_hand (reached ceiling (run es)) id (none_after es on.1 z)
+  none_after (Finish ∷ es) on z = finished_none (reached ceiling (run es)).drainer_hand (reached ceiling (run es)) id
+      (none_after es on.1 z)
   none_after (Mark a ∷ es) on z = none_after es on.1 z
   none_after (Clear a ∷ es) on z = cleared_none (eqb id a) ((reached ceiling (run es)).cyclics id) (none_after es on.1 z)
   none_after (Switch bank ∷ es) on z = none_after es on.1 z
   none_after (Follow ∷ es) on z = none_after es on.1 z
 
-  nowhere_after : (later : List Event) → AllEnabled ceiling (run later) → admissions id later ≡ 0 → place_count (reached ceiling (run later)) id ≡ 0
+  nowhere_after : (later : List Event) → AllEnabled ceiling (run later) → admissions id later ≡ 0
+      → place_count (reached ceiling (run later)) id ≡ 0
   nowhere_after es on z = stands_nowhere (reached ceiling (run es)) (always_lawful ceiling (run es) on) id (none_after es on z)
 
-  no_finish : (later : List Event) → AllEnabled ceiling (run later) → admissions id later ≡ 0 → finishes ceiling id (run later) ≡ finishes ceiling id earlier
+  no_finish : (later : List Event) → AllEnabled ceiling (run later) → admissions id later ≡ 0
+      → finishes ceiling id (run later) ≡ finishes ceiling id earlier
   no_finish [] on z = refl
   no_finish (Admit a index ∷ es) on z = no_finish es on.1 (no_more (cond (eqb id a) 1 0) (admissions id es) z) where
     no_more : (m n : ℕ) → m + n ≡ 0 → n ≡ 0
@@ -68,4 +76,5 @@ module _ (ceiling id : ℕ) (earlier : List Event) where
   no_finish (Follow ∷ es) on z = no_finish es on.1 z
 
 pub nothing_follows : NothingFollowsClear
-nothing_follows ceiling id later earlier on z = (nowhere_after ceiling id earlier later on z, no_finish ceiling id earlier later on z)
+nothing_follows ceiling id later earlier on z =
+    (nowhere_after ceiling id earlier later on z, no_finish ceiling id earlier later on z)

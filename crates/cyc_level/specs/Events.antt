@@ -1,5 +1,6 @@
 -- The ten events of a level: when each is enabled, and what it changes. Whatever it doesn't name stays.
-use Rattle.std.specs.Prelude.{◌≡◌, ◌≢◌, ℕ, zero, suc, ◌+◌, ◌-◌, ◌^◌, ◌<◌, ◌≤◌, ◌==◌, if◌then◌else◌, ⊤, Option, Some, None, IsSome, IsSomeAnd, List, [], ◌∷◌, ◌++◌}
+use Rattle.std.specs.Prelude.{◌≡◌, ◌≢◌, ℕ, zero, suc, ◌+◌, ◌-◌, ◌^◌, ◌<◌, ◌≤◌, ◌==◌, if◌then◌else◌, ⊤, Option, Some, None, IsSome}
+use Rattle.std.specs.Prelude.{IsSomeAnd, List, [], ◌∷◌, ◌++◌}
 use Rattle.std.specs.Option.{option_map}
 use Rattle.cyc_types.specs.Limits.{greatest_bank}
 use Rattle.cyc_level.specs.declared.Event.{Event}
@@ -92,7 +93,11 @@ after_take l = record l {
 -- the level after an event
 abbrev pub after : Event → Level → Level
 after (Admit id index) l = record l { cyclics = changed_at l.cyclics id (λ _. Some (admitted_cyclic index)) }
-after (Expire id) l = record l { cyclics = changed_at l.cyclics id (option_map cyclic_after_expire); firer_hand = hand_after_expire (count l id) id l.firer_hand }
+after (Expire id) l = record l {
+  cyclics = changed_at l.cyclics id (option_map cyclic_after_expire);
+  firer_hand =
+      hand_after_expire (count l id) id l.firer_hand;
+}
 after (Lose id) l = record l { cyclics = changed_at l.cyclics id (option_map cyclic_after_lose) }
 after Publish l = record l { firer_hand = None; new_list = l.new_list ++ as_list l.firer_hand }
 after Take l = after_take l

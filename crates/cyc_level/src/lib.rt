@@ -62,7 +62,8 @@ pub fn conservation()
 /// In every run, and for every id, admitted or not: the expirations of all its stays are the finished calls, the outstanding
 /// ones and the losses; and of each stay that has ended the expirations are its finished calls and its losses.
 pub fn conservation_over_stays()
-    ensures { (ceiling : ℕ) (events : List AnEvent) → AllEnabled ceiling events → (id : ℕ) → IsConservedOverStays ceiling events id }
+    ensures { (ceiling : ℕ) (events : List AnEvent) → AllEnabled ceiling events → (id : ℕ)
+        → IsConservedOverStays ceiling events id }
 {}
 
 /// Once the removal of a cyclic has answered, and until its id is admitted anew, the id stands in no place and no call of it

@@ -1,5 +1,6 @@
 -- What is done on a CPU keeps its cyclics and its size in agreement with its soft levels.
-use Rattle.std.proofs.Common.{◌≡◌, ◌≢◌, ℕ, zero, suc, ◌==◌, eq-eqb, ne_eqb, Bool, true, false, cond, List, [], ◌∷◌, ◌++◌, map, Option, Some, None, refl, ap, sym, ◌∙◌, subst}
+use Rattle.std.proofs.Common.{◌≡◌, ◌≢◌, ℕ, zero, suc, ◌==◌, eq-eqb, ne_eqb, Bool, true, false, cond, List, [], ◌∷◌, ◌++◌, map}
+use Rattle.std.proofs.Common.{Option, Some, None, refl, ap, sym, ◌∙◌, subst}
 use Rattle.std.specs.Prelude.{⊤, IsSome, is_some, not, nat_lt, find, replicate, slice_index_or, slice_set}
 use Rattle.std.specs.Option.{option_map, option_map_or}
 use mathlib.Core.Logic.{dite}
@@ -11,7 +12,8 @@ use Rattle.cyc_types.specs.declared.level.Level.TheVariants as level
 use Rattle.cyc_level.specs.declared.Event.{Event}
 use Rattle.cyc_level.specs.declared.Event.TheVariants.{Admit, Expire, Lose, Publish, Take, Finish, Mark, Clear, Switch, Follow}
 use Rattle.cyc_level.specs.Level.{Level, Cyclics, Cyclic as Admitted, bank_size, count}
-use Rattle.cyc_level.specs.Events.{after, after_finish, changed_at, admitted_cyclic, cyclic_after_expire, cyclic_after_lose, cyclic_after_finish}
+use Rattle.cyc_level.specs.Events.{after, after_finish, changed_at, admitted_cyclic, cyclic_after_expire, cyclic_after_lose}
+use Rattle.cyc_level.specs.Events.{cyclic_after_finish}
 use Rattle.cyc_expirations.specs.Expirations.{Expiration, after as timer_after}
 use Rattle.cyc_model.specs.Acts.{Act, At, Call, at_own}
 use Rattle.cyc_model.specs.Cpu.{Cyclic, Cpu, cpu_after, happen, here, is_of, level_of, others, new_cpu, with_moment}

@@ -1,5 +1,6 @@
 -- A removal that begins or is polled, on all CPUs of the cyclic, and its answer.
-use Rattle.std.proofs.Common.{◌≡◌, ◌≢◌, ℕ, ◌-◌, ◌==◌, eq-eqb, eqb-true, true, false, List, [], ◌∷◌, Option, Some, None, refl, ap, sym, ◌∙◌, subst, inl, ⊎_elim, arith}
+use Rattle.std.proofs.Common.{◌≡◌, ◌≢◌, ℕ, ◌-◌, ◌==◌, eq-eqb, eqb-true, true, false, List, [], ◌∷◌, Option, Some, None, refl, ap}
+use Rattle.std.proofs.Common.{sym, ◌∙◌, subst, inl, ⊎_elim, arith}
 use Rattle.std.specs.Prelude.{IsSome, is_some}
 use Rattle.std.specs.Option.{option_map_or}
 use Rattle.cyc_types.specs.declared.refusal.Refusal.TheVariants.{NoCyclic}
@@ -11,8 +12,10 @@ use Rattle.cyc_model.specs.State.{State, Outcome, Place, On, OnAll, cpu_of, noth
 use Rattle.cyc_model.specs.Places.{id_of, place_of, is_unknown, forgotten}
 use Rattle.cyc_model.specs.Refusals.{when, first_refusal, busy}
 use Rattle.cyc_model.specs.Report.{counts_of}
-use Rattle.cyc_model.specs.Remove.{busy_on_each, remove_refusal, poll, begin, answered, begun, with_answer, remove, ended_expired, ended_lost}
-use Rattle.cyc_model.specs.Softint.{softint_refusal, interrupt, is_open, text_of_id, polled, with_poll, poll_id, leaving_ids, poll_all, softint}
+use Rattle.cyc_model.specs.Remove.{busy_on_each, remove_refusal, poll, begin, answered, begun, with_answer, remove, ended_expired}
+use Rattle.cyc_model.specs.Remove.{ended_lost}
+use Rattle.cyc_model.specs.Softint.{softint_refusal, interrupt, is_open, text_of_id, polled, with_poll, poll_id, leaving_ids}
+use Rattle.cyc_model.specs.Softint.{poll_all, softint}
 use Rattle.cyc_model.proofs.Rising.{found, any_found}
 use Rattle.cyc_model.proofs.Stays.{none_and_some}
 use Rattle.cyc_model.proofs.Base.{IsAt, Goes, goes_nothing, goes_to}
@@ -21,7 +24,8 @@ use Rattle.cyc_model.proofs.Refusing.{none_first, not_busy}
 use Rattle.cyc_model.proofs.Spread.{Leaving, Good, has_number}
 use Rattle.cyc_model.proofs.Calm.{Well, well_then, well_nothing, well_interrupt}
 use Rattle.cyc_model.proofs.Ending.{all_ended}
-use Rattle.cyc_model.proofs.Removing.{Begun, Steady, Removing, poll_turn, begin_turn, good_kept, good_answered, forgotten_gone, none_with, first_with}
+use Rattle.cyc_model.proofs.Removing.{Begun, Steady, Removing, poll_turn, begin_turn, good_kept, good_answered, forgotten_gone}
+use Rattle.cyc_model.proofs.Removing.{none_with, first_with}
 
 steady_refl : (s : State) → Good s → Steady s s
 steady_refl s g = record { base = g.base; placed = refl; last_id = refl; counts = λ j. refl }

@@ -1,5 +1,6 @@
 -- Levels and CPUs with other indexes take the same acts.
-use Rattle.std.proofs.Common.{◌≡◌, ℕ, zero, suc, ◌+◌, ◌==◌, Bool, true, false, cond, List, [], ◌∷◌, ◌++◌, map, Option, Some, None, refl, ap, sym, ◌∙◌}
+use Rattle.std.proofs.Common.{◌≡◌, ℕ, zero, suc, ◌+◌, ◌==◌, Bool, true, false, cond, List, [], ◌∷◌, ◌++◌, map, Option, Some, None}
+use Rattle.std.proofs.Common.{refl, ap, sym, ◌∙◌}
 use Rattle.std.specs.Prelude.{is_some, length}
 use Rattle.cyc_types.specs.Series.{never}
 use Rattle.cyc_level.specs.Level.{bank_size}
@@ -12,13 +13,16 @@ use Rattle.cyc_types.specs.declared.level.Level.TheVariants as level
 use Rattle.cyc_level.specs.declared.Event.{Event}
 use Rattle.cyc_level.specs.declared.Event.TheVariants.{Admit, Expire, Lose, Publish, Take, Finish, Mark, Clear, Switch, Follow}
 use Rattle.cyc_level.specs.Level.{Cyclic as Admitted, Level, count, count_in}
-use Rattle.cyc_level.specs.Events.{after, after_finish, admitted_cyclic, cyclic_after_expire, cyclic_after_lose, cyclic_after_finish, hand_after_expire, hand_after_finish}
+use Rattle.cyc_level.specs.Events.{after, after_finish, admitted_cyclic, cyclic_after_expire, cyclic_after_lose}
+use Rattle.cyc_level.specs.Events.{cyclic_after_finish, hand_after_expire, hand_after_finish}
 use Rattle.cyc_expirations.specs.Expirations.{Expiration}
 use Rattle.cyc_model.specs.Acts.{Act, At, Call, at_own, call_of, calls_of, calls_in, loss_of, losses_of, is_loss, losses_in}
 use Rattle.cyc_model.specs.Cpu.{Cyclic, Cpu, Here, cpu_after, happen, here, nothing_here, acts_first, then_here, level_of, others}
 use Rattle.cyc_model.specs.Firing.{raised, expiry, expire_here, expire_all, due_here, fired, with_fired, fire_here}
-use Rattle.cyc_model.specs.Serving.{level_after, look, Interrupt, calling, found_nothing, after_look, looks, serve, interrupt_here, serve_here}
-use Rattle.cyc_model.specs.Moving.{must_grow, switch_here, bank_for, widen_here, place_here, enter_here, take_here, mark_here, clear_here, put_in, moment_at}
+use Rattle.cyc_model.specs.Serving.{level_after, look, Interrupt, calling, found_nothing, after_look, looks, serve}
+use Rattle.cyc_model.specs.Serving.{interrupt_here, serve_here}
+use Rattle.cyc_model.specs.Moving.{must_grow, switch_here, bank_for, widen_here, place_here, enter_here, take_here, mark_here}
+use Rattle.cyc_model.specs.Moving.{clear_here, put_in, moment_at}
 use Rattle.cyc_model.specs.Questions.{outstanding_here}
 
 -- each index k becomes relabel k

@@ -1,18 +1,23 @@
 -- A machine with other indexes takes the same steps.
-use Rattle.std.proofs.Common.{◌≡◌, ℕ, ◌+◌, ◌==◌, Bool, true, false, cond, List, [], ◌∷◌, ◌++◌, map, length, Option, Some, None, refl, ap, ◌∙◌}
+use Rattle.std.proofs.Common.{◌≡◌, ℕ, ◌+◌, ◌==◌, Bool, true, false, cond, List, [], ◌∷◌, ◌++◌, map, length, Option, Some, None}
+use Rattle.std.proofs.Common.{refl, ap, ◌∙◌}
 use Rattle.std.specs.Prelude.{◌||◌, ◌&&◌, not, nat_lt, nat_le, int_lt, pos, filter}
 use Rattle.std.specs.List.{list_any}
 use Rattle.std.specs.Option.{option_map_or}
 use Rattle.std.proofs.lemmas.List.{length-map}
 use Rattle.std.proofs.Math.ListN.{get_or-map}
-use Rattle.cyc_types.specs.declared.refusal.Refusal.TheVariants.{BadWhen, NoCyclic, NoCpu, Offline, Online as IsOnline, LastCpu, Pending}
+use Rattle.cyc_types.specs.declared.refusal.Refusal.TheVariants.{BadWhen, NoCyclic, NoCpu, Offline, Online as IsOnline, LastCpu}
+use Rattle.cyc_types.specs.declared.refusal.Refusal.TheVariants.{Pending}
 use Rattle.cyc_script.specs.declared.step.Step.{Step}
-use Rattle.cyc_script.specs.declared.step.Step.TheVariants.{Add, Omni, Bind, Unbind, Reprogram, Remove, Advance, Softint, Juggle, Offline as OfflineStep, Online}
+use Rattle.cyc_script.specs.declared.step.Step.TheVariants.{Add, Omni, Bind, Unbind, Reprogram, Remove, Advance, Softint, Juggle}
+use Rattle.cyc_script.specs.declared.step.Step.TheVariants.{Offline as OfflineStep, Online}
 use Rattle.cyc_model.specs.Cpu.{Cyclic, Cpu, cyclic_of, has_cyclic}
 use Rattle.cyc_model.specs.Questions.{plain, outstanding_here}
 use Rattle.cyc_model.specs.State.{State, Outcome, absent, cpu_of, kept_if, numbers_from, numbers, cpus_with, online_cpus}
-use Rattle.cyc_model.specs.Places.{id_of, is_leaving, is_unknown, is_omnipresent, home_of, destination, fewest, fewer, is_not, len_of}
-use Rattle.cyc_model.specs.Refusals.{first_refusal, when, busy, no_room, no_cpu, offline_cpu, last_cpu, bad_when, bad_now, ids_spent}
+use Rattle.cyc_model.specs.Places.{id_of, is_leaving, is_unknown, is_omnipresent, home_of, destination, fewest, fewer, is_not}
+use Rattle.cyc_model.specs.Places.{len_of}
+use Rattle.cyc_model.specs.Refusals.{first_refusal, when, busy, no_room, no_cpu, offline_cpu, last_cpu, bad_when, bad_now}
+use Rattle.cyc_model.specs.Refusals.{ids_spent}
 use Rattle.cyc_model.specs.Bind.{no_cyclic, omnipresent, pending, unless_there}
 use Rattle.cyc_model.specs.Reprogram.{cpu_refusals}
 use Rattle.cyc_model.specs.Remove.{all_cpus}

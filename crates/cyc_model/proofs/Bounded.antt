@@ -1,11 +1,13 @@
 -- How many ids and expirations the steps of a run can have brought.
-use Rattle.std.proofs.Common.{◌≡◌, ℕ, zero, suc, ◌+◌, ◌*◌, ◌<◌, ◌≤◌, ◌==◌, Bool, true, false, cond, List, [], ◌∷◌, length, sum_by, Option, Some, None, refl, ap, ◌∙◌, arith}
+use Rattle.std.proofs.Common.{◌≡◌, ℕ, zero, suc, ◌+◌, ◌*◌, ◌<◌, ◌≤◌, ◌==◌, Bool, true, false, cond, List, [], ◌∷◌, length, sum_by}
+use Rattle.std.proofs.Common.{Option, Some, None, refl, ap, ◌∙◌, arith}
 use Rattle.std.specs.Prelude.{slice_index_or, replicate}
 use Rattle.std.proofs.lemmas.List.Sums.{sum_by-cons}
 use Rattle.cyc_types.specs.declared.refusal.Refusal.{Refusal}
 use Rattle.cyc_text.specs.declared.lines.Counts.{Counts}
 use Rattle.cyc_script.specs.declared.step.Step.{Step}
-use Rattle.cyc_script.specs.declared.step.Step.TheVariants.{Add, Omni, Bind, Unbind, Reprogram, Remove, Advance, Softint, Juggle, Offline, Online}
+use Rattle.cyc_script.specs.declared.step.Step.TheVariants.{Add, Omni, Bind, Unbind, Reprogram, Remove, Advance, Softint, Juggle}
+use Rattle.cyc_script.specs.declared.step.Step.TheVariants.{Offline, Online}
 use Rattle.cyc_model.specs.Cpu.{Cyclic, Cpu, new_cpu}
 use Rattle.cyc_model.specs.Serving.{serve_here}
 use Rattle.cyc_model.specs.Questions.{plain}
@@ -28,7 +30,8 @@ use Rattle.cyc_model.proofs.Spread.{Good}
 use Rattle.cyc_model.proofs.Calm.{good_clock, well_interrupt}
 use Rattle.cyc_model.proofs.Answering.{counts_removed, counts_polls}
 use Rattle.cyc_model.proofs.Reaching.{safe_does, well_word, length_new, start_good, run_good, none_ended, sum_of_none}
-use Rattle.cyc_model.proofs.Still.{Still, still_bind, still_fires, still_enters, still_juggle, still_offline, still_online, still_remove, still_softint}
+use Rattle.cyc_model.proofs.Still.{Still, still_bind, still_fires, still_enters, still_juggle, still_offline, still_online}
+use Rattle.cyc_model.proofs.Still.{still_remove, still_softint}
 use Rattle.cyc_model.proofs.Growing.{grows_on, grows_enter, grows_reprogram, grows_fires}
 
 pub numbers_few : (test : Cpu → Bool) (k : ℕ) (cs : List Cpu) → length (numbers_from k test cs) ≤ length cs

@@ -1,5 +1,6 @@
 -- The words that move no cyclic: advance, reprogram, unbind, and the soft interrupt itself.
-use Rattle.std.proofs.Common.{◌≡◌, ℕ, ◌<◌, Bool, true, false, List, [], ◌∷◌, length, Option, Some, None, refl, ap, sym, ◌∙◌, subst, inl, inr}
+use Rattle.std.proofs.Common.{◌≡◌, ℕ, ◌<◌, Bool, true, false, List, [], ◌∷◌, length, Option, Some, None, refl, ap, sym, ◌∙◌}
+use Rattle.std.proofs.Common.{subst, inl, inr}
 use Rattle.std.specs.Prelude.{IsSome, is_some, int_lt, pos}
 use Rattle.std.specs.Option.{option_map}
 use mathlib.Core.Logic.{dite}
@@ -30,7 +31,8 @@ use Rattle.cyc_model.proofs.Serves.{done_serve, same_serve}
 use Rattle.cyc_model.proofs.Leaves.{done_reprogram}
 use Rattle.cyc_model.proofs.Shifts.{Shift, shift_fire, shift_serve, shift_reprogram}
 use Rattle.cyc_model.proofs.Placing.{place_put_same, place_put_other}
-use Rattle.cyc_model.proofs.Base.{IsAt, IsGone, Goes, goes_append, goes_nothing, goes_from, goes_on, base_on, cpu_there, cpu_elsewhere}
+use Rattle.cyc_model.proofs.Base.{IsAt, IsGone, Goes, goes_append, goes_nothing, goes_from, goes_on, base_on, cpu_there}
+use Rattle.cyc_model.proofs.Base.{cpu_elsewhere}
 use Rattle.cyc_model.proofs.Numbers.{Has, numbers_pass, not_leaving}
 use Rattle.cyc_model.proofs.Refusing.{none_first, is_cpu, is_cyclic, is_single, not_omnipresent, before_never}
 use Rattle.cyc_model.proofs.Spread.{Good, SameView, view_refl, spread_view, is_there}

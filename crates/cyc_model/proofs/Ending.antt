@@ -1,5 +1,6 @@
 -- A stay ends on a CPU, and its counts are kept.
-use Rattle.std.proofs.Common.{◌≡◌, ◌≢◌, ℕ, suc, ◌+◌, ◌<◌, cond, List, [], ◌∷◌, length, sum_by, Option, Some, None, refl, ap, sym, ◌∙◌, subst, arith}
+use Rattle.std.proofs.Common.{◌≡◌, ◌≢◌, ℕ, suc, ◌+◌, ◌<◌, cond, List, [], ◌∷◌, length, sum_by, Option, Some, None, refl, ap, sym}
+use Rattle.std.proofs.Common.{◌∙◌, subst, arith}
 use Rattle.std.specs.Prelude.{IsSome, slice_index_or}
 use Rattle.std.proofs.lemmas.List.Sums.{sum_by-cons}
 use Rattle.cyc_model.specs.Acts.{Act, calls_of, losses_of}
@@ -12,9 +13,11 @@ use Rattle.cyc_model.specs.Report.{expired_here, lost_here}
 use Rattle.cyc_model.proofs.Local.{Local}
 use Rattle.cyc_model.proofs.Rising.{found, tally_found, of_found}
 use Rattle.cyc_model.proofs.Whole.{Whole, Done, none_outstanding}
-use Rattle.cyc_model.proofs.Totals.{carried, expired_of, lost_of, expired_in, lost_in, pending_in, balanced_ended, kept_expired, kept_lost}
+use Rattle.cyc_model.proofs.Totals.{carried, expired_of, lost_of, expired_in, lost_in, pending_in, balanced_ended, kept_expired}
+use Rattle.cyc_model.proofs.Totals.{kept_lost}
 use Rattle.cyc_model.proofs.Shifts.{Shift}
-use Rattle.cyc_model.proofs.Base.{Base, Goes, goes_to, goes_on, base_on, cpu_there, cpu_elsewhere, expired_on, lost_on, pending_on}
+use Rattle.cyc_model.proofs.Base.{Base, Goes, goes_to, goes_on, base_on, cpu_there, cpu_elsewhere, expired_on, lost_on}
+use Rattle.cyc_model.proofs.Base.{pending_on}
 
 base_kept : (n : ℕ) (o : Option Cyclic) (s : State) → n < length s.cpus → Base o s → Base None (keep_counts n o s)
 base_kept n None s within b = b

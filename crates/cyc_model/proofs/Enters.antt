@@ -1,5 +1,6 @@
 -- A cyclic comes to a CPU: add and omni.
-use Rattle.std.proofs.Common.{◌≡◌, ◌≢◌, ℕ, zero, suc, ◌+◌, ◌<◌, Bool, true, false, cond, List, [], ◌∷◌, map, length, Option, Some, None, refl, ap, sym, ◌∙◌, subst, inl, ⊎_elim, arith}
+use Rattle.std.proofs.Common.{◌≡◌, ◌≢◌, ℕ, zero, suc, ◌+◌, ◌<◌, Bool, true, false, cond, List, [], ◌∷◌, map, length, Option, Some}
+use Rattle.std.proofs.Common.{None, refl, ap, sym, ◌∙◌, subst, inl, ⊎_elim, arith}
 use Rattle.std.specs.Prelude.{IsSome, is_some, int_lt, pos, slice_index_or}
 use mathlib.Core.Logic.{dite}
 use native.Mathlib.Decide.{ℕ_discrete}
@@ -25,8 +26,10 @@ use Rattle.cyc_model.proofs.Stays.{none_and_some, done_enter, entered_cyclics, e
 use Rattle.cyc_model.proofs.Totals.{carried, expired_of, lost_of}
 use Rattle.cyc_model.proofs.Shifts.{shift_enter}
 use Rattle.cyc_model.proofs.Placing.{place_given_new, place_given_old, place_given_other, place_new}
-use Rattle.cyc_model.proofs.Base.{IsAt, Base, IsGone, Goes, goes_from, goes_to, goes_on, base_on, cpu_there, cpu_elsewhere, gone_away}
-use Rattle.cyc_model.proofs.Numbers.{Has, has_or_not, numbers_rise, numbers_pass, pass_numbers, Turned, looped, destination_online}
+use Rattle.cyc_model.proofs.Base.{IsAt, Base, IsGone, Goes, goes_from, goes_to, goes_on, base_on, cpu_there, cpu_elsewhere}
+use Rattle.cyc_model.proofs.Base.{gone_away}
+use Rattle.cyc_model.proofs.Numbers.{Has, has_or_not, numbers_rise, numbers_pass, pass_numbers, Turned, looped}
+use Rattle.cyc_model.proofs.Numbers.{destination_online}
 use Rattle.cyc_model.proofs.Refusing.{none_first, room_grows, few_ids}
 use Rattle.cyc_model.proofs.Spread.{Stands, Good, Still, stands_still}
 use Rattle.cyc_model.proofs.Calm.{Well}

@@ -1,5 +1,6 @@
 -- A fire leaves a whole CPU whole.
-use Rattle.std.proofs.Common.{◌≡◌, ◌≢◌, ℕ, ◌+◌, ◌-◌, ◌*◌, ◌/◌, ◌<◌, ◌≤◌, ◌==◌, eq-eqb, Bool, true, false, cond, List, [], ◌∷◌, map, Option, Some, None, refl, ap, sym, ◌∙◌, subst, arith}
+use Rattle.std.proofs.Common.{◌≡◌, ◌≢◌, ℕ, ◌+◌, ◌-◌, ◌*◌, ◌/◌, ◌<◌, ◌≤◌, ◌==◌, eq-eqb, Bool, true, false, cond, List, [], ◌∷◌}
+use Rattle.std.proofs.Common.{map, Option, Some, None, refl, ap, sym, ◌∙◌, subst, arith}
 use Rattle.std.specs.Prelude.{⊤, IsSome, nat_lt}
 use Rattle.std.specs.Option.{option_map, option_map_or}
 use Rattle.std.proofs.lemmas.Bool.{lt-ltb}
@@ -23,7 +24,8 @@ use Rattle.cyc_model.proofs.Fair.{own_events}
 use Rattle.cyc_model.proofs.Local.{local_expire, local_expire_all, local_fire}
 use Rattle.cyc_model.proofs.Rising.{found, found_id, rising_map, found_map, length_mapped, times_cons, times_found, due_of_found}
 use Rattle.cyc_model.proofs.Fit.{Fit, AllRest, all_finishes, all_brings}
-use Rattle.cyc_model.proofs.Whole.{Whole, Same, same_happen, same_then, IsSteady, steady_events, RestAt, whole_onward, count_here, Done, done_then}
+use Rattle.cyc_model.proofs.Whole.{Whole, Same, same_happen, same_then, IsSteady, steady_events, RestAt, whole_onward, count_here}
+use Rattle.cyc_model.proofs.Whole.{Done, done_then}
 
 -- one where the ids are the same
 abbrev pub one_of : ℕ → ℕ → ℕ

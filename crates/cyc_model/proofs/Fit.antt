@@ -1,5 +1,6 @@
 -- What holds of a level whatever indexes its cyclics get.
-use Rattle.std.proofs.Common.{◌≡◌, ℕ, zero, suc, ◌+◌, ◌-◌, ◌<◌, ◌≤◌, ◌≢◌, eqb, eq-eqb, ne_eqb, Bool, true, false, cond, List, [], ◌∷◌, ◌++◌, sym, refl, ap, ◌∙◌, subst, arith}
+use Rattle.std.proofs.Common.{◌≡◌, ℕ, zero, suc, ◌+◌, ◌-◌, ◌<◌, ◌≤◌, ◌≢◌, eqb, eq-eqb, ne_eqb, Bool, true, false, cond, List, []}
+use Rattle.std.proofs.Common.{◌∷◌, ◌++◌, sym, refl, ap, ◌∙◌, subst, arith}
 use Rattle.std.specs.Prelude.{⊤, Option, Some, None}
 use Rattle.std.specs.Option.{option_map}
 use mathlib.Core.Logic.{dite}
@@ -7,9 +8,12 @@ use native.Mathlib.Decide.{ℕ_discrete}
 use Rattle.cyc_types.specs.Limits.{greatest_bank}
 use Rattle.cyc_level.specs.declared.Event.{Event}
 use Rattle.cyc_level.specs.declared.Event.TheVariants.{Admit, Expire, Lose, Publish, Take, Finish, Mark, Clear, Switch, Follow}
-use Rattle.cyc_level.specs.Level.{Cyclic, Cyclics, Level, empty_level, count_in, count, soft_list, times_in, in_hand, place_count, bank_size}
+use Rattle.cyc_level.specs.Level.{Cyclic, Cyclics, Level, empty_level, count_in, count, soft_list, times_in, in_hand, place_count}
+use Rattle.cyc_level.specs.Level.{bank_size}
 use Rattle.cyc_level.specs.Lawful.{IsId, one_if_any}
-use Rattle.cyc_level.specs.Events.{changed_at, admitted_cyclic, cyclic_after_expire, cyclic_after_lose, cyclic_after_finish, first_of, rest_of, as_list, hand_after_expire, hand_after_finish, after_finish, after, IsUnused}
+use Rattle.cyc_level.specs.Events.{changed_at, admitted_cyclic, cyclic_after_expire, cyclic_after_lose, cyclic_after_finish}
+use Rattle.cyc_level.specs.Events.{first_of, rest_of, as_list, hand_after_expire, hand_after_finish, after_finish, after}
+use Rattle.cyc_level.specs.Events.{IsUnused}
 use Rattle.cyc_level.proofs.Maps.{some_same, some_of, at_cases, hand_here, hand_else, times_append}
 use Rattle.cyc_level.proofs.Keeps.{once_pos, once_le}
 use Rattle.cyc_model.specs.Serving.{level_after}

@@ -1,5 +1,6 @@
 -- Each id that stands anywhere was given.
-use Rattle.std.proofs.Common.{◌≡◌, ℕ, zero, suc, ◌+◌, ◌≤◌, ◌<◌, ◌==◌, Bool, true, false, cond, List, [], ◌∷◌, ◌++◌, map, length, Option, Some, None, refl, sym, ◌∙◌, subst, arith}
+use Rattle.std.proofs.Common.{◌≡◌, ℕ, zero, suc, ◌+◌, ◌≤◌, ◌<◌, ◌==◌, Bool, true, false, cond, List, [], ◌∷◌, ◌++◌, map, length}
+use Rattle.std.proofs.Common.{Option, Some, None, refl, sym, ◌∙◌, subst, arith}
 use Rattle.std.specs.Prelude.{⊤, not, nat_lt, filter, find, slice_index_or, slice_set, replicate}
 use Rattle.cyc_types.specs.declared.refusal.Refusal.{Refusal}
 use Rattle.cyc_types.specs.declared.level.Soft.{Soft}
@@ -8,15 +9,20 @@ use Rattle.cyc_expirations.specs.Expirations.{Expiration, after}
 use Rattle.cyc_types.specs.Series.{never}
 use Rattle.cyc_level.specs.declared.Event.TheVariants.{Mark, Clear}
 use Rattle.cyc_script.specs.declared.step.Step.{Step}
-use Rattle.cyc_script.specs.declared.step.Step.TheVariants.{Add, Omni, Bind, Unbind, Reprogram, Remove, Advance, Softint, Juggle, Offline, Online}
+use Rattle.cyc_script.specs.declared.step.Step.TheVariants.{Add, Omni, Bind, Unbind, Reprogram, Remove, Advance, Softint, Juggle}
+use Rattle.cyc_script.specs.declared.step.Step.TheVariants.{Offline, Online}
 use Rattle.cyc_model.specs.Acts.{Act, At, Call, at_own}
-use Rattle.cyc_model.specs.Cpu.{Cyclic, Cpu, Here, cpu_after, happen, here, nothing_here, is_of, cyclic_of, others, new_cpu, level_of, with_moment}
+use Rattle.cyc_model.specs.Cpu.{Cyclic, Cpu, Here, cpu_after, happen, here, nothing_here, is_of, cyclic_of, others, new_cpu}
+use Rattle.cyc_model.specs.Cpu.{level_of, with_moment}
 use Rattle.cyc_model.specs.Firing.{expire_here, expire_all, due_here, fired, fire_here}
 use Rattle.cyc_model.specs.Serving.{serve_here}
-use Rattle.cyc_model.specs.Moving.{must_grow, widen_here, switch_here, place_here, put_in, enter_here, take_here, mark_here, clear_here, reprogram_here, moment_at, bank_for}
+use Rattle.cyc_model.specs.Moving.{must_grow, widen_here, switch_here, place_here, put_in, enter_here, take_here, mark_here}
+use Rattle.cyc_model.specs.Moving.{clear_here, reprogram_here, moment_at, bank_for}
 use Rattle.cyc_model.specs.Questions.{Questions}
-use Rattle.cyc_model.specs.State.{State, Outcome, Place, On, OnAll, Placed, Everywhere, each, on, absent, cpu_of, online_cpus, cpus_with, numbers}
-use Rattle.cyc_model.specs.Places.{id_of, destination, is_leaving, keep_counts, given, put_at, replaced, home_of, is_bound, forgotten}
+use Rattle.cyc_model.specs.State.{State, Outcome, Place, On, OnAll, Placed, Everywhere, each, on, absent, cpu_of, online_cpus}
+use Rattle.cyc_model.specs.State.{cpus_with, numbers}
+use Rattle.cyc_model.specs.Places.{id_of, destination, is_leaving, keep_counts, given, put_at, replaced, home_of, is_bound}
+use Rattle.cyc_model.specs.Places.{forgotten}
 use Rattle.cyc_model.specs.Refusals.{unless, magnitude}
 use Rattle.cyc_model.specs.Add.{enter, added}
 use Rattle.cyc_model.specs.Omni.{everywhere, component}
@@ -24,7 +30,8 @@ use Rattle.cyc_model.specs.Bind.{bring, move, move_unless_there, bind_id}
 use Rattle.cyc_model.specs.Reprogram.{cpu_meant}
 use Rattle.cyc_model.specs.Remove.{clear, clear_if, poll, begin, begun, remove_id}
 use Rattle.cyc_model.specs.Softint.{interrupt, polled, poll_id, text_of_id, is_open, leaving_ids}
-use Rattle.cyc_model.specs.Juggle.{Turn, IsBound, IsPending, IsRefused, Moves, turn, take_turn, Juggled, juggle_each, juggled, single_ids}
+use Rattle.cyc_model.specs.Juggle.{Turn, IsBound, IsPending, IsRefused, Moves, turn, take_turn, Juggled, juggle_each, juggled}
+use Rattle.cyc_model.specs.Juggle.{single_ids}
 use Rattle.cyc_model.specs.Offline.{retire, retire_all, go_offline, last_part, leaving, ids_on, any_pending}
 use Rattle.cyc_model.specs.Online.{return_at, return_of, return_all, go_online, staying, again, is_on_all}
 use Rattle.cyc_model.specs.Script.{refusal_of, does, word, steps_from, text_in, start}

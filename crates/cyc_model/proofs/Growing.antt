@@ -1,5 +1,6 @@
 -- How many expirations steps can bring.
-use Rattle.std.proofs.Common.{◌≡◌, ℕ, zero, suc, ◌+◌, ◌-◌, ◌*◌, ◌/◌, ◌<◌, ◌≤◌, Bool, true, false, cond, List, [], ◌∷◌, length, map, sum_by, Option, Some, None, refl, ap, sym, ◌∙◌, subst, inl, inr, arith}
+use Rattle.std.proofs.Common.{◌≡◌, ℕ, zero, suc, ◌+◌, ◌-◌, ◌*◌, ◌/◌, ◌<◌, ◌≤◌, Bool, true, false, cond, List, [], ◌∷◌, length}
+use Rattle.std.proofs.Common.{map, sum_by, Option, Some, None, refl, ap, sym, ◌∙◌, subst, inl, inr, arith}
 use Rattle.std.specs.Prelude.{slice_set, slice_index_or, nat_lt}
 use Rattle.std.proofs.lemmas.List.Sums.{sum_by-cons}
 use Rattle.std.proofs.lemmas.Bool.{ltb-false}
@@ -8,7 +9,8 @@ use Rattle.cyc_types.specs.Series.{never, late, due}
 use Rattle.cyc_expirations.specs.Expirations.{times_of}
 use Rattle.cyc_model.specs.Cpu.{Cyclic, Cpu, Here, is_of}
 use Rattle.cyc_model.specs.Firing.{due_here, fire_here}
-use Rattle.cyc_model.specs.Moving.{put_in, must_grow, bank_for, switch_here, widen_here, place_here, enter_here, moment_at, reprogram_here}
+use Rattle.cyc_model.specs.Moving.{put_in, must_grow, bank_for, switch_here, widen_here, place_here, enter_here, moment_at}
+use Rattle.cyc_model.specs.Moving.{reprogram_here}
 use Rattle.cyc_model.specs.State.{State, absent, cpu_of, on, each}
 use Rattle.cyc_model.specs.Report.{expired_here}
 use Rattle.cyc_model.proofs.Whole.{same_happen}

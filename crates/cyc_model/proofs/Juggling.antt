@@ -1,5 +1,6 @@
 -- bind and juggle keep a machine good, and lose nothing.
-use Rattle.std.proofs.Common.{◌≡◌, ◌≢◌, ℕ, ◌+◌, ◌<◌, ◌≤◌, ◌==◌, eq-eqb, ne_eqb, eqb-true, Bool, true, false, cond, List, [], ◌∷◌, map, length, Option, Some, None, refl, ap, sym, ◌∙◌, subst, inl, inr, ⊎_elim, ◌⊎◌, arith}
+use Rattle.std.proofs.Common.{◌≡◌, ◌≢◌, ℕ, ◌+◌, ◌<◌, ◌≤◌, ◌==◌, eq-eqb, ne_eqb, eqb-true, Bool, true, false, cond, List, [], ◌∷◌}
+use Rattle.std.proofs.Common.{map, length, Option, Some, None, refl, ap, sym, ◌∙◌, subst, inl, inr, ⊎_elim, ◌⊎◌, arith}
 use Rattle.std.specs.Prelude.{IsSome, is_some, not, nat_lt, nat_le, filter}
 use Rattle.std.proofs.lemmas.Bool.{ltb-false, leb-false}
 use mathlib.Core.Logic.{dite}
@@ -10,15 +11,19 @@ use Rattle.cyc_script.specs.declared.step.Bind.{Bind as BindStep}
 use Rattle.cyc_model.specs.Cpu.{Cyclic, Cpu}
 use Rattle.cyc_model.specs.Questions.{plain, outstanding_here}
 use Rattle.cyc_model.specs.State.{State, Outcome, Place, On, OnAll, cpu_of, nothing, followed_by, online_cpus}
-use Rattle.cyc_model.specs.Places.{id_of, place_of, put_at, home_of, home_at, is_bound, is_omnipresent, is_everywhere, destination}
+use Rattle.cyc_model.specs.Places.{id_of, place_of, put_at, home_of, home_at, is_bound, is_omnipresent, is_everywhere}
+use Rattle.cyc_model.specs.Places.{destination}
 use Rattle.cyc_model.specs.Refusals.{first_refusal, busy, no_cpu, offline_cpu, last_cpu, no_room}
-use Rattle.cyc_model.specs.Bind.{no_cyclic, omnipresent, pending, move, move_refusals, unless_there, bind_refusal, move_unless_there, bind, unbind_refusal, unbind}
-use Rattle.cyc_model.specs.Juggle.{Turn, IsBound, IsPending, IsRefused, Moves, turn, take_turn, juggle_each, single_ids, juggled, juggle_refusal, juggle}
+use Rattle.cyc_model.specs.Bind.{no_cyclic, omnipresent, pending, move, move_refusals, unless_there, bind_refusal}
+use Rattle.cyc_model.specs.Bind.{move_unless_there, bind, unbind_refusal, unbind}
+use Rattle.cyc_model.specs.Juggle.{Turn, IsBound, IsPending, IsRefused, Moves, turn, take_turn, juggle_each, single_ids, juggled}
+use Rattle.cyc_model.specs.Juggle.{juggle_refusal, juggle}
 use Rattle.cyc_model.specs.Kept.{Kept}
 use Rattle.cyc_model.proofs.Rising.{Rising, found, first_is, first_not}
 use Rattle.cyc_model.proofs.Base.{IsAt, Goes, goes_append, goes_nothing}
 use Rattle.cyc_model.proofs.Numbers.{Has, RiseFrom, has_above, pass_numbers, numbers_pass, numbers_rise, destination_online}
-use Rattle.cyc_model.proofs.Refusing.{none_first, not_when, not_busy, is_cpu, is_online, is_cyclic, is_single, not_omnipresent, nothing_pending, room_grows}
+use Rattle.cyc_model.proofs.Refusing.{none_first, not_when, not_busy, is_cpu, is_online, is_cyclic, is_single, not_omnipresent}
+use Rattle.cyc_model.proofs.Refusing.{nothing_pending, room_grows}
 use Rattle.cyc_model.proofs.Spread.{Good}
 use Rattle.cyc_model.proofs.Calm.{well_put, well_unbind}
 use Rattle.cyc_model.proofs.Travels.{kept_refl, kept_then, kept_put, Moved, moved}

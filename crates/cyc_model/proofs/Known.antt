@@ -1,9 +1,11 @@
 -- A cyclic is known until its removal answers.
-use Rattle.std.proofs.Common.{◌≡◌, ℕ, ◌+◌, ◌==◌, Bool, true, false, cond, List, [], ◌∷◌, map, find, Option, Some, None, refl, ap, sym, ◌∙◌}
+use Rattle.std.proofs.Common.{◌≡◌, ℕ, ◌+◌, ◌==◌, Bool, true, false, cond, List, [], ◌∷◌, map, find, Option, Some, None, refl, ap}
+use Rattle.std.proofs.Common.{sym, ◌∙◌}
 use Rattle.std.specs.Prelude.{⊤, not, IsSome, is_some}
 use Rattle.std.specs.Option.{option_map}
 use Rattle.cyc_script.specs.declared.step.Step.{Step}
-use Rattle.cyc_script.specs.declared.step.Step.TheVariants.{Add, Omni, Bind, Unbind, Reprogram, Remove, Advance, Softint, Juggle, Offline, Online}
+use Rattle.cyc_script.specs.declared.step.Step.TheVariants.{Add, Omni, Bind, Unbind, Reprogram, Remove, Advance, Softint, Juggle}
+use Rattle.cyc_script.specs.declared.step.Step.TheVariants.{Offline, Online}
 use Rattle.cyc_model.specs.Firing.{fire_here}
 use Rattle.cyc_model.specs.Questions.{plain}
 use Rattle.cyc_model.specs.State.{State, Outcome, Place, On, OnAll, Placed, on, each, online_cpus}

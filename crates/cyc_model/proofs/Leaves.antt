@@ -1,5 +1,6 @@
 -- A whole CPU stays whole where a removal begins, a cyclic leaves for another CPU, and one gets another moment.
-use Rattle.std.proofs.Common.{◌≡◌, ◌≢◌, ℕ, ◌+◌, eq-eqb, ne_eqb, Bool, cond, [], ◌∷◌, ◌++◌, length, map, Some, None, refl, ap, sym, ◌∙◌, subst, inl, inr, ⊎_elim, ◌⊎◌, arith}
+use Rattle.std.proofs.Common.{◌≡◌, ◌≢◌, ℕ, ◌+◌, eq-eqb, ne_eqb, Bool, cond, [], ◌∷◌, ◌++◌, length, map, Some, None, refl, ap, sym}
+use Rattle.std.proofs.Common.{◌∙◌, subst, inl, inr, ⊎_elim, ◌⊎◌, arith}
 use Rattle.std.specs.Prelude.{IsSome}
 use Rattle.std.specs.Option.{option_map}
 use Rattle.cyc_types.specs.Series.{never}
@@ -19,7 +20,8 @@ use Rattle.cyc_model.proofs.Events.{events_append, calls_append}
 use Rattle.cyc_model.proofs.Local.{local_take, local_mark, local_reprogram}
 use Rattle.cyc_model.proofs.Rising.{Rising, found, found_id, found_map, rising_map, length_mapped}
 use Rattle.cyc_model.proofs.Fit.{AllRest, all_finishes, all_brings}
-use Rattle.cyc_model.proofs.Whole.{Whole, same_happen, RestAt, fit_here, free_here, count_here, Done, own_cases, calls_own, losses_own, losses_append}
+use Rattle.cyc_model.proofs.Whole.{Whole, same_happen, RestAt, fit_here, free_here, count_here, Done, own_cases, calls_own}
+use Rattle.cyc_model.proofs.Whole.{losses_own, losses_append}
 use Rattle.cyc_model.proofs.Fires.{level_found, retimed_level, whole_retimed, some_mapped, is_some_mapped}
 use Rattle.cyc_model.proofs.Moves.{rest_own, own_level, books_own}
 use Rattle.cyc_model.proofs.Stays.{whole_gone, outstanding_at, not_marked}

@@ -1,5 +1,6 @@
 -- What is done on one CPU happens there, and is all that its levels see.
-use Rattle.std.proofs.Common.{◌≡◌, ◌≢◌, ℕ, zero, suc, ◌+◌, ◌&&◌, eq-eqb, ne_eqb, Bool, true, false, cond, List, [], ◌∷◌, ◌++◌, map, Option, Some, None, refl, ap, sym, ◌∙◌, subst}
+use Rattle.std.proofs.Common.{◌≡◌, ◌≢◌, ℕ, zero, suc, ◌+◌, ◌&&◌, eq-eqb, ne_eqb, Bool, true, false, cond, List, [], ◌∷◌, ◌++◌}
+use Rattle.std.proofs.Common.{map, Option, Some, None, refl, ap, sym, ◌∙◌, subst}
 use Rattle.std.specs.Prelude.{⊤, length}
 use Rattle.cyc_types.specs.declared.level.Soft.{Soft}
 use Rattle.cyc_types.specs.declared.level.Soft.TheVariants.{Low, Lock}
@@ -15,11 +16,14 @@ use Rattle.cyc_model.specs.Acts.{Act, At, Call, at_own, same_soft, event_at, eve
 use Rattle.cyc_model.specs.Cpu.{Cyclic, Cpu, Here, cpu_after, happen, here, nothing_here, then_here, level_of, others}
 use Rattle.cyc_model.specs.Firing.{raised, expiry, expire_here, expire_all, due_here, fire_here}
 use Rattle.cyc_model.specs.Serving.{level_after, look, Interrupt, after_look, serve, serve_here, level_at}
-use Rattle.cyc_model.specs.Moving.{bank_for, widen_here, must_grow, place_here, enter_here, take_here, mark_here, clear_here, reprogram_here}
+use Rattle.cyc_model.specs.Moving.{bank_for, widen_here, must_grow, place_here, enter_here, take_here, mark_here, clear_here}
+use Rattle.cyc_model.specs.Moving.{reprogram_here}
 use Rattle.cyc_model.proofs.Events.{level_append, events_append}
 use Rattle.cyc_model.specs.Agreement.{Agrees, AllReady}
-use Rattle.cyc_model.proofs.Agreement.{agrees_expire, agrees_fired, agrees_serve, agrees_switch, agrees_place, agrees_gone, agrees_own, agrees_moment}
-use Rattle.cyc_model.proofs.Ready.{ReadyAt, ready_append, ready_expire, ready_serve, ready_switch, ready_admit, ready_mark, ready_clear}
+use Rattle.cyc_model.proofs.Agreement.{agrees_expire, agrees_fired, agrees_serve, agrees_switch, agrees_place, agrees_gone}
+use Rattle.cyc_model.proofs.Agreement.{agrees_own, agrees_moment}
+use Rattle.cyc_model.proofs.Ready.{ReadyAt, ready_append, ready_expire, ready_serve, ready_switch, ready_admit, ready_mark}
+use Rattle.cyc_model.proofs.Ready.{ready_clear}
 use Rattle.cyc_model.proofs.Fair.{Fair, FairAt, fair_append, fair_own, fair_expiry, fair_serve_at, fair_switch}
 
 -- the act is of the CPU of this number

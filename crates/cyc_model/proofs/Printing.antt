@@ -1,5 +1,6 @@
 -- The numbers that are printed, and what follows a removal.
-use Rattle.std.proofs.Common.{◌≡◌, ◌≢◌, ℕ, ◌+◌, ◌<◌, ◌==◌, Bool, true, false, cond, List, [], ◌∷◌, ◌++◌, map, length, Option, Some, None, refl, ap, sym, ◌∙◌, subst, inl, inr, arith}
+use Rattle.std.proofs.Common.{◌≡◌, ◌≢◌, ℕ, ◌+◌, ◌<◌, ◌==◌, Bool, true, false, cond, List, [], ◌∷◌, ◌++◌, map, length, Option}
+use Rattle.std.proofs.Common.{Some, None, refl, ap, sym, ◌∙◌, subst, inl, inr, arith}
 use Rattle.std.specs.Prelude.{IsSome, is_some, not}
 use Rattle.std.specs.Option.{option_map}
 use Rattle.cyc_types.specs.declared.refusal.Refusal.TheVariants.{NoCyclic}
@@ -12,7 +13,8 @@ use Rattle.cyc_model.specs.Remove.{busy_on_each, begin, poll, clear_if, begun}
 use Rattle.cyc_model.specs.Softint.{is_open, text_of_id, polled, poll_id, leaving_ids, interrupt}
 use Rattle.cyc_model.specs.Script.{run_on, run_of, start, names_of}
 use Rattle.cyc_model.specs.Laws.{RiseTo}
-use Rattle.cyc_model.specs.Numbers.{ReportsAddUp, answer, answer_if_gone, poll_lines, RemovesTellCalls, PollsTellCalls, NothingFollowsRemoval}
+use Rattle.cyc_model.specs.Numbers.{ReportsAddUp, answer, answer_if_gone, poll_lines, RemovesTellCalls, PollsTellCalls}
+use Rattle.cyc_model.specs.Numbers.{NothingFollowsRemoval}
 use Rattle.cyc_model.proofs.Placing.{place_forgotten, entry}
 use Rattle.cyc_model.proofs.Base.{IsAt, IsGone}
 use Rattle.cyc_model.proofs.Numbers.{Has, RiseFrom, has_above}

@@ -1,5 +1,7 @@
 -- No stay of a script counts 2^64 expirations.
-use Rattle.std.proofs.Common.{◌≡◌, ℕ, zero, suc, ◌+◌, ◌-◌, ◌*◌, ◌/◌, ◌<◌, ◌≤◌, ◌==◌, ◌&&◌, eq-eqb, ne_eqb, Bool, true, false, cond, List, [], ◌∷◌, ◌++◌, map, length, Option, Some, None, refl, ap, sym, ◌∙◌, subst, inl, inr, arith}
+use Rattle.std.proofs.Common.{◌≡◌, ℕ, zero, suc, ◌+◌, ◌-◌, ◌*◌, ◌/◌, ◌<◌, ◌≤◌, ◌==◌, ◌&&◌, eq-eqb, ne_eqb, Bool, true, false}
+use Rattle.std.proofs.Common.{cond, List, [], ◌∷◌, ◌++◌, map, length, Option, Some, None, refl, ap, sym, ◌∙◌, subst, inl, inr}
+use Rattle.std.proofs.Common.{arith}
 use Rattle.std.specs.Prelude.{⊤, nat_lt}
 use Rattle.std.specs.Option.{option_map}
 use Rattle.std.proofs.lemmas.Bool.{ltb-false}
@@ -14,11 +16,13 @@ use Rattle.cyc_types.specs.declared.refusal.Refusal.{Refusal}
 use Rattle.cyc_level.specs.declared.Event.{Event}
 use Rattle.cyc_level.specs.declared.Event.TheVariants.{Admit, Expire, Lose, Publish, Take, Finish, Mark, Clear, Switch, Follow}
 use Rattle.cyc_level.specs.Level.{Level, Cyclic as Admitted, count}
-use Rattle.cyc_level.specs.Events.{after, after_finish, changed_at, admitted_cyclic, cyclic_after_expire, cyclic_after_lose, cyclic_after_finish, most_sent}
+use Rattle.cyc_level.specs.Events.{after, after_finish, changed_at, admitted_cyclic, cyclic_after_expire, cyclic_after_lose}
+use Rattle.cyc_level.specs.Events.{cyclic_after_finish, most_sent}
 use Rattle.cyc_level.proofs.Maps.{some_same, at_cases}
 use Rattle.cyc_expirations.specs.Expirations.{Expiration, times_of}
 use Rattle.cyc_script.specs.declared.step.Step.{Step}
-use Rattle.cyc_script.specs.declared.step.Step.TheVariants.{Add, Omni, Bind, Unbind, Reprogram, Remove, Advance, Softint, Juggle, Offline, Online}
+use Rattle.cyc_script.specs.declared.step.Step.TheVariants.{Add, Omni, Bind, Unbind, Reprogram, Remove, Advance, Softint, Juggle}
+use Rattle.cyc_script.specs.declared.step.Step.TheVariants.{Offline, Online}
 use Rattle.cyc_model.specs.Acts.{Act, At, Call, at_own, same_soft, events_at}
 use Rattle.cyc_model.specs.Cpu.{Cyclic, Cpu, level_of}
 use Rattle.cyc_model.specs.Firing.{raised, expiry, expire_here, expire_all, due_here, fire_here}

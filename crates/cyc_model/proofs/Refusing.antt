@@ -5,7 +5,8 @@ use Rattle.std.proofs.lemmas.Bool.{ltb-false, leb-false}
 use Rattle.cyc_types.specs.Limits.{cyclics as most_cyclics, last_id as greatest_id}
 use Rattle.cyc_types.specs.Series.{never}
 use Rattle.cyc_types.specs.declared.refusal.Refusal.{Refusal}
-use Rattle.cyc_types.specs.declared.refusal.Refusal.TheVariants.{Full, Expanding, IdsSpent, BadNow, NoCpu, Offline, NoCyclic, Omnipresent}
+use Rattle.cyc_types.specs.declared.refusal.Refusal.TheVariants.{Full, Expanding, IdsSpent, BadNow, NoCpu, Offline, NoCyclic}
+use Rattle.cyc_types.specs.declared.refusal.Refusal.TheVariants.{Omnipresent}
 use Rattle.cyc_model.specs.Cpu.{Cpu}
 use Rattle.cyc_model.specs.Moving.{must_grow}
 use Rattle.cyc_model.specs.Questions.{plain, has_followed}

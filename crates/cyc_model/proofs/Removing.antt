@@ -1,5 +1,6 @@
 -- remove and the polls of open removals keep a machine good.
-use Rattle.std.proofs.Common.{◌≡◌, ◌≢◌, ℕ, ◌+◌, ◌<◌, ◌==◌, eqb-true, Bool, true, false, List, [], ◌∷◌, length, Option, Some, None, refl, ap, sym, ◌∙◌, subst, inl, inr, ⊎_elim, ◌⊎◌, arith}
+use Rattle.std.proofs.Common.{◌≡◌, ◌≢◌, ℕ, ◌+◌, ◌<◌, ◌==◌, eqb-true, Bool, true, false, List, [], ◌∷◌, length, Option, Some, None}
+use Rattle.std.proofs.Common.{refl, ap, sym, ◌∙◌, subst, inl, inr, ⊎_elim, ◌⊎◌, arith}
 use Rattle.std.specs.Prelude.{IsSome, is_some, not}
 use Rattle.std.specs.Option.{option_map}
 use mathlib.Core.Logic.{dite}
@@ -20,7 +21,8 @@ use Rattle.cyc_model.proofs.Stays.{none_and_some, cleared_cpu, done_clear}
 use Rattle.cyc_model.proofs.Leaves.{marked_same, done_mark}
 use Rattle.cyc_model.proofs.Shifts.{shift_mark, shift_clear}
 use Rattle.cyc_model.proofs.Placing.{entry, place_forgotten, place_forgotten_other}
-use Rattle.cyc_model.proofs.Base.{IsAt, Base, IsGone, goes_append, goes_nothing, goes_on, base_on, cpu_there, cpu_elsewhere, expired_on, lost_on, pending_on}
+use Rattle.cyc_model.proofs.Base.{IsAt, Base, IsGone, goes_append, goes_nothing, goes_on, base_on, cpu_there, cpu_elsewhere}
+use Rattle.cyc_model.proofs.Base.{expired_on, lost_on, pending_on}
 use Rattle.cyc_model.proofs.Numbers.{Has, has_or_not, numbers_rise, numbers_pass, pass_numbers, Looped, looped}
 use Rattle.cyc_model.proofs.Numbers as turns
 use Rattle.cyc_model.proofs.Spread.{Stands, Good, has_number, found_or_not}

@@ -1,5 +1,6 @@
 -- offline keeps a machine good, and loses nothing.
-use Rattle.std.proofs.Common.{◌≡◌, ◌≢◌, ℕ, ◌+◌, ◌<◌, Bool, true, false, List, [], ◌∷◌, map, length, Option, Some, None, refl, ap, sym, ◌∙◌, subst, inl, inr, ⊎_elim, arith}
+use Rattle.std.proofs.Common.{◌≡◌, ◌≢◌, ℕ, ◌+◌, ◌<◌, Bool, true, false, List, [], ◌∷◌, map, length, Option, Some, None, refl, ap}
+use Rattle.std.proofs.Common.{sym, ◌∙◌, subst, inl, inr, ⊎_elim, arith}
 use Rattle.std.specs.Prelude.{IsSome, not, nat_lt}
 use Rattle.std.proofs.lemmas.Bool.{ltb-false}
 use mathlib.Core.Logic.{dite}
@@ -19,7 +20,8 @@ use Rattle.cyc_model.specs.State.{State, Outcome, Place, On, OnAll, Placed, on, 
 use Rattle.cyc_model.specs.Places.{place_of, home_at, is_omnipresent, is_everywhere}
 use Rattle.cyc_model.specs.Report.{counts_of}
 use Rattle.cyc_model.specs.Juggle.{juggled, single_ids}
-use Rattle.cyc_model.specs.Offline.{ids_on, retire, go_offline, retire_all, any_pending, last_part, leaving, offline_refusal, offline}
+use Rattle.cyc_model.specs.Offline.{ids_on, retire, go_offline, retire_all, any_pending, last_part, leaving, offline_refusal}
+use Rattle.cyc_model.specs.Offline.{offline}
 use Rattle.cyc_model.specs.Kept.{Kept}
 use Rattle.cyc_model.proofs.Events.{calls_append}
 use Rattle.cyc_model.proofs.Local.{local_take, local_nothing, same_low_lock}
@@ -32,7 +34,8 @@ use Rattle.cyc_model.proofs.Leaves.{marked_cpu, done_take, taken_cpu}
 use Rattle.cyc_model.proofs.Totals.{expired_in, lost_in, pending_in}
 use Rattle.cyc_model.proofs.Shifts.{Shift, shift_take, shift_same, take_losses}
 use Rattle.cyc_model.proofs.Placing.{entry}
-use Rattle.cyc_model.proofs.Base.{Base, Goes, goes_append, goes_nothing, goes_on, base_on, cpu_there, cpu_elsewhere, expired_on, lost_on, pending_on, gone_away}
+use Rattle.cyc_model.proofs.Base.{Base, Goes, goes_append, goes_nothing, goes_on, base_on, cpu_there, cpu_elsewhere, expired_on}
+use Rattle.cyc_model.proofs.Base.{lost_on, pending_on, gone_away}
 use Rattle.cyc_model.proofs.Numbers.{Has}
 use Rattle.cyc_model.proofs.Refusing.{neither}
 use Rattle.cyc_model.proofs.Spread.{Spread, Good}

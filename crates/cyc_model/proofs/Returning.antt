@@ -1,5 +1,6 @@
 -- online keeps a machine good, and loses nothing.
-use Rattle.std.proofs.Common.{◌≡◌, ◌≢◌, ℕ, suc, ◌+◌, ◌<◌, ◌≤◌, eq-eqb, ne_eqb, Bool, true, false, List, [], ◌∷◌, ◌++◌, map, length, Option, Some, None, refl, ap, sym, ◌∙◌, subst, inl, inr, ⊎_elim, ◌⊎◌, arith}
+use Rattle.std.proofs.Common.{◌≡◌, ◌≢◌, ℕ, suc, ◌+◌, ◌<◌, ◌≤◌, eq-eqb, ne_eqb, Bool, true, false, List, [], ◌∷◌, ◌++◌, map}
+use Rattle.std.proofs.Common.{length, Option, Some, None, refl, ap, sym, ◌∙◌, subst, inl, inr, ⊎_elim, ◌⊎◌, arith}
 use Rattle.std.specs.Prelude.{IsSome, is_some, not}
 use Rattle.std.specs.Option.{option_map}
 use mathlib.Core.Logic.{dite}
@@ -15,7 +16,8 @@ use Rattle.cyc_model.specs.Questions.{plain, has_followed}
 use Rattle.cyc_model.specs.State.{State, Outcome, Place, On, OnAll, Everywhere, Placed, on, cpu_of, each, followed_by}
 use Rattle.cyc_model.specs.Places.{place_of, home_at, is_everywhere, without_ended}
 use Rattle.cyc_model.specs.Refusals.{when, no_cpu, bad_now}
-use Rattle.cyc_model.specs.Online.{staying, online_cpu, no_room_for_all, online_refusal, again, return_at, return_of, go_online, return_all, online}
+use Rattle.cyc_model.specs.Online.{staying, online_cpu, no_room_for_all, online_refusal, again, return_at, return_of, go_online}
+use Rattle.cyc_model.specs.Online.{return_all, online}
 use Rattle.cyc_model.specs.Laws.{RiseTo}
 use Rattle.cyc_model.specs.Kept.{Kept}
 use Rattle.cyc_model.proofs.Local.{local_widen, local_place}
@@ -23,17 +25,20 @@ use Rattle.cyc_model.proofs.Rising.{found, first_is, put_same, put_other, length
 use Rattle.cyc_model.proofs.Whole.{Done, calls_own, losses_own}
 use Rattle.cyc_model.proofs.Moves.{CanGrow, done_widen, widened_cpu, widened_room, widened_calls, widened_losses}
 use Rattle.cyc_model.proofs.Stays.{done_place, placed_cyclics, placed_removal, placed_size}
-use Rattle.cyc_model.proofs.Totals.{carried, expired_of, lost_of, expired_in, lost_in, pending_in, balanced_again, again_expired, again_lost}
+use Rattle.cyc_model.proofs.Totals.{carried, expired_of, lost_of, expired_in, lost_in, pending_in, balanced_again, again_expired}
+use Rattle.cyc_model.proofs.Totals.{again_lost}
 use Rattle.cyc_model.proofs.Shifts.{Shift, shift_place, shift_widen}
 use Rattle.cyc_model.proofs.Placing.{entry, with_entry, place_known}
-use Rattle.cyc_model.proofs.Base.{IsAt, Base, Goes, goes_append, goes_nothing, goes_from, goes_to, goes_on, base_on, cpu_there, cpu_elsewhere, expired_on, lost_on, pending_on, gone_away}
+use Rattle.cyc_model.proofs.Base.{IsAt, Base, Goes, goes_append, goes_nothing, goes_from, goes_to, goes_on, base_on, cpu_there}
+use Rattle.cyc_model.proofs.Base.{cpu_elsewhere, expired_on, lost_on, pending_on, gone_away}
 use Rattle.cyc_model.proofs.Numbers.{not_leaving}
 use Rattle.cyc_model.proofs.Refusing.{none_first, not_when, not_not, only_none, is_cpu}
 use Rattle.cyc_model.proofs.Spread.{Spread, Good}
 use Rattle.cyc_model.proofs.Travels.{counts_same}
 use Rattle.cyc_model.proofs.Juggling.{Safe}
 use Rattle.cyc_model.proofs.Retiring.{SameCounts, switch_goes, switch_base, switch_there, switch_elsewhere, switch_counts}
-use Rattle.cyc_model.proofs.Staying.{Each, each_then, each_both, each_above, Stays, staying_all, staying_rise, does_stay, stays_closed, not_open, few_staying}
+use Rattle.cyc_model.proofs.Staying.{Each, each_then, each_both, each_above, Stays, staying_all, staying_rise, does_stay}
+use Rattle.cyc_model.proofs.Staying.{stays_closed, not_open, few_staying}
 
 -- ---- one component comes back
 

@@ -6,20 +6,23 @@ use Rattle.cyc_types.specs.declared.level.Level.TheVariants as level
 use Rattle.cyc_level.specs.declared.Event.{Event}
 use Rattle.cyc_level.specs.declared.Event.TheVariants.{Admit, Expire, Lose, Mark, Clear}
 use Rattle.cyc_script.specs.declared.step.Step.{Step}
-use Rattle.cyc_script.specs.declared.step.Step.TheVariants.{Add, Omni, Bind, Unbind, Reprogram, Remove, Advance, Softint, Juggle, Offline, Online}
+use Rattle.cyc_script.specs.declared.step.Step.TheVariants.{Add, Omni, Bind, Unbind, Reprogram, Remove, Advance, Softint, Juggle}
+use Rattle.cyc_script.specs.declared.step.Step.TheVariants.{Offline, Online}
 use Rattle.cyc_model.specs.Acts.{Act, at_own}
 use Rattle.cyc_model.specs.Cpu.{Cyclic, Cpu, Here, happen, level_of, nothing_here, cyclic_of}
 use Rattle.cyc_model.specs.Serving.{level_at, serve}
 use Rattle.cyc_model.specs.Moving.{must_grow, bank_for, switch_here, widen_here, take_here, mark_here, clear_here}
 use Rattle.cyc_model.specs.Questions.{Questions}
-use Rattle.cyc_model.specs.State.{State, Outcome, Place, On, OnAll, Placed, on, cpu_of, each, nothing, followed_by, online_cpus, cpus_with, numbers}
+use Rattle.cyc_model.specs.State.{State, Outcome, Place, On, OnAll, Placed, on, cpu_of, each, nothing, followed_by, online_cpus}
+use Rattle.cyc_model.specs.State.{cpus_with, numbers}
 use Rattle.cyc_model.specs.Places.{id_of, given, put_at, keep_counts, is_bound, home_of, destination}
 use Rattle.cyc_model.specs.Add.{enter, added}
 use Rattle.cyc_model.specs.Omni.{component, everywhere}
 use Rattle.cyc_model.specs.Bind.{bring, move, move_unless_there, bind_id}
 use Rattle.cyc_model.specs.Remove.{clear_if, poll, begin, begun}
 use Rattle.cyc_model.specs.Softint.{interrupt, is_open, text_of_id, polled, poll_id, leaving_ids}
-use Rattle.cyc_model.specs.Juggle.{Turn, IsBound, IsPending, IsRefused, Moves, turn, take_turn, Juggled, juggle_each, juggled, single_ids}
+use Rattle.cyc_model.specs.Juggle.{Turn, IsBound, IsPending, IsRefused, Moves, turn, take_turn, Juggled, juggle_each, juggled}
+use Rattle.cyc_model.specs.Juggle.{single_ids}
 use Rattle.cyc_model.specs.Offline.{ids_on, retire, go_offline, retire_all, any_pending, last_part, leaving}
 use Rattle.cyc_model.specs.Online.{return_at, return_of, go_online, staying}
 use Rattle.cyc_model.specs.Script.{does, text_in}

@@ -1,5 +1,6 @@
 -- What a call on a CPU does with the counts of its cyclics.
-use Rattle.std.proofs.Common.{◌≡◌, ◌≢◌, ℕ, ◌+◌, ◌<◌, ◌≤◌, ◌==◌, eq-eqb, ne_eqb, Bool, true, false, cond, List, Option, Some, None, refl, ap, sym, ◌∙◌, arith, length}
+use Rattle.std.proofs.Common.{◌≡◌, ◌≢◌, ℕ, ◌+◌, ◌<◌, ◌≤◌, ◌==◌, eq-eqb, ne_eqb, Bool, true, false, cond, List, Option, Some, None}
+use Rattle.std.proofs.Common.{refl, ap, sym, ◌∙◌, arith, length}
 use Rattle.std.specs.Option.{option_map}
 use mathlib.Core.Logic.{dite}
 use native.Mathlib.Decide.{ℕ_discrete}
@@ -12,9 +13,11 @@ use Rattle.cyc_model.specs.Acts.{Act, at_own, losses_of, loss_of}
 use Rattle.cyc_model.specs.Cpu.{Cyclic, Cpu, Here, level_of, others}
 use Rattle.cyc_model.specs.Firing.{due_here, fired, fire_here}
 use Rattle.cyc_model.specs.Serving.{level_at, serve, serve_here}
-use Rattle.cyc_model.specs.Moving.{widen_here, put_in, place_here, enter_here, take_here, moment_at, reprogram_here, mark_here, clear_here}
+use Rattle.cyc_model.specs.Moving.{widen_here, put_in, place_here, enter_here, take_here, moment_at, reprogram_here, mark_here}
+use Rattle.cyc_model.specs.Moving.{clear_here}
 use Rattle.cyc_model.proofs.Agreement.{acts_of_serve, moment_same, fired_same}
-use Rattle.cyc_model.proofs.Rising.{found, found_id, found_map, put_same, put_other, found_gone, found_others, of_found, times_found, due_of_found}
+use Rattle.cyc_model.proofs.Rising.{found, found_id, found_map, put_same, put_other, found_gone, found_others, of_found}
+use Rattle.cyc_model.proofs.Rising.{times_found, due_of_found}
 use Rattle.cyc_model.proofs.Whole.{Whole, Done, none_outstanding, losses_own, losses_append}
 use Rattle.cyc_model.proofs.Fires.{fired_cyclics}
 use Rattle.cyc_model.proofs.Serves.{same_serve, no_losses}

@@ -1,5 +1,6 @@
 -- How the cyclics of a machine are spread over its CPUs.
-use Rattle.std.proofs.Common.{◌≡◌, ◌≢◌, ℕ, zero, suc, ◌<◌, Bool, true, List, [], ◌∷◌, length, Option, Some, None, refl, ap, sym, ◌∙◌, subst, inl, inr, ⊎_elim, ◌⊎◌, arith}
+use Rattle.std.proofs.Common.{◌≡◌, ◌≢◌, ℕ, zero, suc, ◌<◌, Bool, true, List, [], ◌∷◌, length, Option, Some, None, refl, ap, sym}
+use Rattle.std.proofs.Common.{◌∙◌, subst, inl, inr, ⊎_elim, ◌⊎◌, arith}
 use Rattle.std.specs.Prelude.{IsSome, is_some, slice_index_or}
 use Rattle.cyc_model.specs.Cpu.{Cyclic, Cpu}
 use Rattle.cyc_model.specs.State.{State, On, OnAll, Everywhere, absent, cpu_of}

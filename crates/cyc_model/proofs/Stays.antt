@@ -1,5 +1,6 @@
 -- A whole CPU stays whole where a cyclic's stay begins, and where it ends.
-use Rattle.std.proofs.Common.{◌≡◌, ◌≢◌, ℕ, suc, ◌+◌, ◌≤◌, eq-eqb, ne_eqb, Bool, cond, length, Option, Some, None, refl, ap, sym, ◌∙◌, subst, inl, inr, ⊎_elim, ◌⊎◌, arith}
+use Rattle.std.proofs.Common.{◌≡◌, ◌≢◌, ℕ, suc, ◌+◌, ◌≤◌, eq-eqb, ne_eqb, Bool, cond, length, Option, Some, None, refl, ap, sym}
+use Rattle.std.proofs.Common.{◌∙◌, subst, inl, inr, ⊎_elim, ◌⊎◌, arith}
 use Rattle.std.specs.Prelude.{IsSome}
 use mathlib.Core.Logic.{dite}
 use native.Mathlib.Decide.{ℕ_discrete}
@@ -18,7 +19,8 @@ use Rattle.cyc_model.specs.Serving.{level_at}
 use Rattle.cyc_model.specs.Moving.{widen_here, put_in, place_here, enter_here, clear_here}
 use Rattle.cyc_model.specs.Agreement.{as_level}
 use Rattle.cyc_model.proofs.Local.{Local, local_place, local_enter, local_clear}
-use Rattle.cyc_model.proofs.Rising.{Rising, found, put_same, put_other, rising_put, length_put, found_others, rising_others, length_others}
+use Rattle.cyc_model.proofs.Rising.{Rising, found, put_same, put_other, rising_put, length_put, found_others, rising_others}
+use Rattle.cyc_model.proofs.Rising.{length_others}
 use Rattle.cyc_model.proofs.Whole.{Whole, same_happen, RestAt, fit_here, free_here, Done, done_then, no_level, not_admitted}
 use Rattle.cyc_model.proofs.Fires.{level_found}
 use Rattle.cyc_model.proofs.Spare.{spare_index}

@@ -14,7 +14,8 @@ use Rattle.cyc_model.specs.Moving.{widen_here}
 use Rattle.cyc_model.specs.Questions.{plain, outstanding_here}
 use Rattle.cyc_model.specs.Remove.{clear_if, poll, begin, begun, remove}
 use Rattle.cyc_model.specs.Softint.{interrupt, text_of_id, is_open, polled, poll_id, leaving_ids, softint}
-use Rattle.cyc_model.specs.Juggle.{Turn, IsBound, IsPending, IsRefused, Moves, turn, take_turn, Juggled, juggle_each, juggled, juggle, single_ids}
+use Rattle.cyc_model.specs.Juggle.{Turn, IsBound, IsPending, IsRefused, Moves, turn, take_turn, Juggled, juggle_each, juggled}
+use Rattle.cyc_model.specs.Juggle.{juggle, single_ids}
 use Rattle.cyc_model.specs.Offline.{ids_on, retire, retire_all, any_pending, last_part, leaving, offline}
 use Rattle.cyc_model.specs.Online.{staying, return_at, return_of, online}
 

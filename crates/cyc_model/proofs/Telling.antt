@@ -1,5 +1,6 @@
 -- The acts of each word tell all of it.
-use Rattle.std.proofs.Common.{◌≡◌, ℕ, zero, suc, ◌+◌, ◌<◌, ◌==◌, Bool, true, false, List, [], ◌∷◌, ◌++◌, length, Option, Some, None, refl, ap, sym, ◌∙◌, subst, arith}
+use Rattle.std.proofs.Common.{◌≡◌, ℕ, zero, suc, ◌+◌, ◌<◌, ◌==◌, Bool, true, false, List, [], ◌∷◌, ◌++◌, length, Option, Some}
+use Rattle.std.proofs.Common.{None, refl, ap, sym, ◌∙◌, subst, arith}
 use mathlib.Core.Logic.{dite}
 use native.Mathlib.Decide.{ℕ_discrete}
 use Rattle.std.proofs.lemmas.List.{get_or-set_same, get_or-set_other, length-set}
@@ -7,7 +8,8 @@ use Rattle.std.specs.Prelude.{slice_index_or, replicate}
 use Rattle.cyc_types.specs.declared.level.Soft.{Soft}
 use Rattle.cyc_types.specs.declared.level.Soft.TheVariants.{Low, Lock}
 use Rattle.cyc_script.specs.declared.step.Step.{Step}
-use Rattle.cyc_script.specs.declared.step.Step.TheVariants.{Add, Omni, Bind, Unbind, Reprogram, Remove, Advance, Softint, Juggle, Offline, Online}
+use Rattle.cyc_script.specs.declared.step.Step.TheVariants.{Add, Omni, Bind, Unbind, Reprogram, Remove, Advance, Softint, Juggle}
+use Rattle.cyc_script.specs.declared.step.Step.TheVariants.{Offline, Online}
 use Rattle.cyc_types.specs.declared.refusal.Refusal.{Refusal}
 use Rattle.cyc_model.specs.Acts.{Act, events_at, calls_of}
 use Rattle.cyc_model.specs.Cpu.{Cyclic, Cpu, Here, cyclic_of, new_cpu, nothing_here}
@@ -15,7 +17,8 @@ use Rattle.cyc_model.specs.Serving.{level_at, level_after, serve_here}
 use Rattle.cyc_model.specs.Firing.{fire_here}
 use Rattle.cyc_model.specs.Moving.{enter_here, take_here, widen_here, place_here, mark_here, clear_here, reprogram_here}
 use Rattle.cyc_model.specs.Questions.{Questions}
-use Rattle.cyc_model.specs.State.{State, Outcome, Place, On, OnAll, Placed, Everywhere, nothing, followed_by, each, on, cpu_of, absent, cpus_with, online_cpus, numbers}
+use Rattle.cyc_model.specs.State.{State, Outcome, Place, On, OnAll, Placed, Everywhere, nothing, followed_by, each, on, cpu_of}
+use Rattle.cyc_model.specs.State.{absent, cpus_with, online_cpus, numbers}
 use Rattle.cyc_model.specs.Places.{id_of, keep_counts, given, put_at, home_of, is_bound, forgotten, without_ended}
 use Rattle.cyc_model.specs.Refusals.{unless, magnitude}
 use Rattle.cyc_model.specs.Add.{enter, added}
@@ -24,7 +27,8 @@ use Rattle.cyc_model.specs.Bind.{bring, move, move_unless_there, bind_id}
 use Rattle.cyc_model.specs.Reprogram.{cpu_meant}
 use Rattle.cyc_model.specs.Remove.{clear, clear_if, poll, begin, begun, remove_id}
 use Rattle.cyc_model.specs.Softint.{interrupt, polled, poll_id, poll_all, is_open, text_of_id, leaving_ids}
-use Rattle.cyc_model.specs.Juggle.{Turn, IsBound, IsPending, IsRefused, Moves, turn, take_turn, Juggled, juggle_each, juggled, single_ids}
+use Rattle.cyc_model.specs.Juggle.{Turn, IsBound, IsPending, IsRefused, Moves, turn, take_turn, Juggled, juggle_each, juggled}
+use Rattle.cyc_model.specs.Juggle.{single_ids}
 use Rattle.cyc_model.specs.Offline.{retire, retire_all, go_offline, last_part, leaving, ids_on, any_pending}
 use Rattle.cyc_model.specs.Online.{return_at, return_of, return_all, go_online, staying, again}
 use Rattle.cyc_model.specs.Script.{refusal_of, does, word, steps_from, text_in, start}
@@ -35,7 +39,8 @@ use Rattle.cyc_model.specs.Agreement.{Agrees, AllAgree, CpusAgree, AllReady, Fir
 use Rattle.cyc_model.proofs.Agreement.{agrees_with, agree_at, agree_set}
 use Rattle.cyc_model.proofs.Fair.{Fair, fair_append}
 use Rattle.cyc_model.proofs.Ready.{ready_append}
-use Rattle.cyc_model.proofs.Local.{other_events, Local, SameLevels, same_low_lock, local_nothing, local_fire, local_serve, local_widen, local_place, local_enter, local_take, local_mark, local_clear, local_reprogram}
+use Rattle.cyc_model.proofs.Local.{other_events, Local, SameLevels, same_low_lock, local_nothing, local_fire, local_serve}
+use Rattle.cyc_model.proofs.Local.{local_widen, local_place, local_enter, local_take, local_mark, local_clear, local_reprogram}
 
 -- a state with the same CPUs and calls
 abbrev pub Alike : State → State → Type 0

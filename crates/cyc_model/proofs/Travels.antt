@@ -1,5 +1,6 @@
 -- A cyclic moves from one CPU to another, and nothing of it is lost.
-use Rattle.std.proofs.Common.{◌≡◌, ◌≢◌, ℕ, ◌+◌, ◌<◌, ◌==◌, Bool, true, false, cond, List, [], ◌∷◌, map, length, Option, Some, None, refl, ap, sym, ◌∙◌, subst, arith}
+use Rattle.std.proofs.Common.{◌≡◌, ◌≢◌, ℕ, ◌+◌, ◌<◌, ◌==◌, Bool, true, false, cond, List, [], ◌∷◌, map, length, Option, Some}
+use Rattle.std.proofs.Common.{None, refl, ap, sym, ◌∙◌, subst, arith}
 use Rattle.std.specs.Prelude.{IsSome, is_some}
 use mathlib.Core.Logic.{dite}
 use native.Mathlib.Decide.{ℕ_discrete}
@@ -27,9 +28,11 @@ use Rattle.cyc_model.proofs.Leaves.{marked_cpu, done_take, taken_cpu}
 use Rattle.cyc_model.proofs.Totals.{carried, expired_of, lost_of, expired_in, lost_in, pending_in}
 use Rattle.cyc_model.proofs.Shifts.{Shift, shift_take, shift_enter, take_losses, enter_losses}
 use Rattle.cyc_model.proofs.Placing.{place_put_same, place_put_other, place_known}
-use Rattle.cyc_model.proofs.Base.{IsAt, Base, IsGone, Goes, goes_append, goes_from, goes_on, base_on, cpu_there, cpu_elsewhere, expired_on, lost_on, pending_on}
+use Rattle.cyc_model.proofs.Base.{IsAt, Base, IsGone, Goes, goes_append, goes_from, goes_on, base_on, cpu_there, cpu_elsewhere}
+use Rattle.cyc_model.proofs.Base.{expired_on, lost_on, pending_on}
 use Rattle.cyc_model.proofs.Spread.{Spread, Good, stands_still, is_there}
-use Rattle.cyc_model.proofs.Enters.{enter_goes, enter_base, enter_there, enter_elsewhere, enter_same, enter_removal, enter_online, done_there}
+use Rattle.cyc_model.proofs.Enters.{enter_goes, enter_base, enter_there, enter_elsewhere, enter_same, enter_removal, enter_online}
+use Rattle.cyc_model.proofs.Enters.{done_there}
 
 -- ---- what is kept
 

@@ -1,5 +1,6 @@
 -- The words of a script, on a machine without its indexes, do the same; so no line tells of an index.
-use Rattle.std.proofs.Common.{◌≡◌, ℕ, zero, suc, ◌+◌, ◌-◌, ◌==◌, Bool, true, false, cond, List, [], ◌∷◌, ◌++◌, map, length, Option, Some, None, refl, ap, sym, ◌∙◌}
+use Rattle.std.proofs.Common.{◌≡◌, ℕ, zero, suc, ◌+◌, ◌-◌, ◌==◌, Bool, true, false, cond, List, [], ◌∷◌, ◌++◌, map, length}
+use Rattle.std.proofs.Common.{Option, Some, None, refl, ap, sym, ◌∙◌}
 use Rattle.std.specs.Prelude.{nat_lt, is_some, filter, sum_by, replicate}
 use Rattle.std.specs.List.{list_any}
 use Rattle.std.proofs.lemmas.List.{map-append, map-set}
@@ -7,7 +8,8 @@ use Rattle.std.proofs.lemmas.List.Sums.{sum_by-cons}
 use Rattle.cyc_types.specs.declared.refusal.Refusal.{Refusal}
 use Rattle.cyc_text.specs.Lines.{accepted, fired as fired_line, ran, kept, removed, reported}
 use Rattle.cyc_script.specs.declared.step.Step.{Step}
-use Rattle.cyc_script.specs.declared.step.Step.TheVariants.{Add, Omni, Bind, Unbind, Reprogram, Remove, Advance, Softint, Juggle, Offline as OfflineStep, Online}
+use Rattle.cyc_script.specs.declared.step.Step.TheVariants.{Add, Omni, Bind, Unbind, Reprogram, Remove, Advance, Softint, Juggle}
+use Rattle.cyc_script.specs.declared.step.Step.TheVariants.{Offline as OfflineStep, Online}
 use Rattle.cyc_script.specs.declared.step.Add.{Add as AddStep}
 use Rattle.cyc_script.specs.declared.step.Softint.{Softint as SoftintStep}
 use Rattle.cyc_model.specs.Cpu.{Cyclic, Cpu, Here, cyclic_of, new_cpu, nothing_here}
@@ -15,7 +17,8 @@ use Rattle.cyc_model.specs.Serving.{serve_here, interrupt_here}
 use Rattle.cyc_model.specs.Firing.{due_here, fire_here}
 use Rattle.cyc_model.specs.Moving.{enter_here, take_here, widen_here, place_here, mark_here, clear_here, reprogram_here}
 use Rattle.cyc_model.specs.Questions.{plain, outstanding_here}
-use Rattle.cyc_model.specs.State.{State, Outcome, Place, On, OnAll, Placed, Everywhere, nothing, told, before, followed_by, each, done_on, on, cpu_of, numbers, cpus_with, online_cpus}
+use Rattle.cyc_model.specs.State.{State, Outcome, Place, On, OnAll, Placed, Everywhere, nothing, told, before, followed_by, each}
+use Rattle.cyc_model.specs.State.{done_on, on, cpu_of, numbers, cpus_with, online_cpus}
 use Rattle.cyc_model.specs.Places.{id_of, is_bound, keep_counts, given, put_at, home_of, forgotten, without_ended, destination}
 use Rattle.cyc_model.specs.Refusals.{unless, magnitude}
 use Rattle.cyc_model.specs.Add.{one_admitted, enter, add_at, added, add}
@@ -24,14 +27,20 @@ use Rattle.cyc_model.specs.Bind.{bring, move, move_unless_there, bind_id}
 use Rattle.cyc_model.specs.Reprogram.{cpu_meant}
 use Rattle.cyc_model.specs.Remove.{clear_if, poll, begin, answered, begun, with_answer, remove_id}
 use Rattle.cyc_model.specs.Advance.{due_on, with_fired_line, advance}
-use Rattle.cyc_model.specs.Softint.{interrupt, with_ran_line, polled, with_poll, poll_id, poll_all, is_open, text_of_id, leaving_ids}
-use Rattle.cyc_model.specs.Juggle.{Turn, IsBound, IsPending, IsRefused, Moves, turn, turn_to, take_turn, Juggled, turn_first, and_the_rest, juggle_each, juggled, single_ids, with_moved_line}
+use Rattle.cyc_model.specs.Softint.{interrupt, with_ran_line, polled, with_poll, poll_id, poll_all, is_open, text_of_id}
+use Rattle.cyc_model.specs.Softint.{leaving_ids}
+use Rattle.cyc_model.specs.Juggle.{Turn, IsBound, IsPending, IsRefused, Moves, turn, turn_to, take_turn, Juggled, turn_first}
+use Rattle.cyc_model.specs.Juggle.{and_the_rest, juggle_each, juggled, single_ids, with_moved_line}
 use Rattle.cyc_model.specs.Offline.{retire, retire_all, go_offline, last_part, leaving, after_juggle, ids_on, any_pending}
 use Rattle.cyc_model.specs.Online.{return_at, return_of, return_all, go_online, staying, again}
 use Rattle.cyc_model.specs.Report.{expired_here, lost_here, counts_of, reports}
 use Rattle.cyc_model.specs.Script.{refusal_of, does, word, steps_from, text_in, no_indexes, start, run_on, with_report, text_on}
-use Rattle.cyc_model.proofs.Bare.{bare_act, bare_cpu, bare_here, calls_bare, calls_in_bare, losses_in_bare, fire_bare, idle_bare, serve_here_bare, widen_bare, place_bare, enter_bare_here, take_bare, mark_bare, clear_bare, outstanding_bare}
-use Rattle.cyc_model.proofs.BareMachine.{bare, bare_out, IsBare, at_bare, online_bare, with_bare, open_bare, all_bare, leaving_bare, cyclic_bare, out_bare, room_bare, target_bare, staying_bare, single_bare, ids_bare, refusal_bare}
+use Rattle.cyc_model.proofs.Bare.{bare_act, bare_cpu, bare_here, calls_bare, calls_in_bare, losses_in_bare, fire_bare, idle_bare}
+use Rattle.cyc_model.proofs.Bare.{serve_here_bare, widen_bare, place_bare, enter_bare_here, take_bare, mark_bare, clear_bare}
+use Rattle.cyc_model.proofs.Bare.{outstanding_bare}
+use Rattle.cyc_model.proofs.BareMachine.{bare, bare_out, IsBare, at_bare, online_bare, with_bare, open_bare, all_bare}
+use Rattle.cyc_model.proofs.BareMachine.{leaving_bare, cyclic_bare, out_bare, room_bare, target_bare, staying_bare, single_bare}
+use Rattle.cyc_model.proofs.BareMachine.{ids_bare, refusal_bare}
 
 -- each index k becomes relabel k
 module _ (relabel : ℕ → ℕ) where

@@ -1,5 +1,6 @@
 -- Cyclics that come to one CPU and leave it.
-use Rattle.std.specs.Prelude.{ℕ, zero, suc, ◌+◌, nat_lt, nat_le, cond, if◌then◌else◌, Bool, List, [], ◌∷◌, map, length, Some, None}
+use Rattle.std.specs.Prelude.{ℕ, zero, suc, ◌+◌, nat_lt, nat_le, cond, if◌then◌else◌, Bool, List, [], ◌∷◌, map, length, Some}
+use Rattle.std.specs.Prelude.{None}
 use Rattle.cyc_types.specs.Limits.{greatest_bank}
 use Rattle.cyc_types.specs.Series.{never}
 use Rattle.cyc_types.specs.declared.level.Soft.TheVariants.{Low, Lock}

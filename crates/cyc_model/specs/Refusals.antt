@@ -1,10 +1,12 @@
 -- Why a call is refused: the first reason that holds, in the order in which a call names them.
-use Rattle.std.specs.Prelude.{ℕ, ◌+◌, nat_lt, nat_le, cond, not, Bool, List, [], ◌∷◌, length, int_lt, ℤ, pos, negsuc, Option, Some, None}
+use Rattle.std.specs.Prelude.{ℕ, ◌+◌, nat_lt, nat_le, cond, not, Bool, List, [], ◌∷◌, length, int_lt, ℤ, pos, negsuc, Option}
+use Rattle.std.specs.Prelude.{Some, None}
 use Rattle.std.specs.Option.{option_map}
 use Rattle.cyc_types.specs.Limits.{cyclics as most_cyclics, last_id as greatest_id}
 use Rattle.cyc_types.specs.Series.{never}
 use Rattle.cyc_types.specs.declared.refusal.Refusal.{Refusal}
-use Rattle.cyc_types.specs.declared.refusal.Refusal.TheVariants.{BadWhen, BadInterval, BadNow, Full, Expanding, Busy, IdsSpent, NoCpu, Offline, LastCpu}
+use Rattle.cyc_types.specs.declared.refusal.Refusal.TheVariants.{BadWhen, BadInterval, BadNow, Full, Expanding, Busy, IdsSpent}
+use Rattle.cyc_types.specs.declared.refusal.Refusal.TheVariants.{NoCpu, Offline, LastCpu}
 use Rattle.cyc_types.specs.Refusals.{number_of}
 use Rattle.cyc_text.specs.Lines.{refused}
 use Rattle.cyc_model.specs.Cpu.{Cpu}

@@ -10,11 +10,13 @@
 
 ghost use Rattle.std.specs.Prelude.{ℕ};
 ghost use Rattle.cyc_model.specs.Script.{start};
-ghost use Rattle.cyc_model.specs.Laws.{RefusedOrDone, ActsTellAll, TextTellsNoIndex, IdsAreGivenOnce, HandsAreFree, SoftSideIsEnabled, level_on};
+ghost use Rattle.cyc_model.specs.Laws.{RefusedOrDone, ActsTellAll, TextTellsNoIndex, IdsAreGivenOnce, HandsAreFree};
+ghost use Rattle.cyc_model.specs.Laws.{SoftSideIsEnabled, level_on};
 ghost use Rattle.cyc_model.specs.Along.{LevelsStayLawful};
 ghost use Rattle.cyc_model.specs.Agreement.{AllAgree, CpusAgree, FiringSideIsReady};
 ghost use Rattle.cyc_model.specs.Kept.{MovesLoseNothing, CyclicsAreAtHome};
-ghost use Rattle.cyc_model.specs.Numbers.{ReportsAddUp, RemovesTellCalls, PollsTellCalls, NothingFollowsRemoval, RemovedCountsStay};
+ghost use Rattle.cyc_model.specs.Numbers.{ReportsAddUp, RemovesTellCalls, PollsTellCalls, NothingFollowsRemoval};
+ghost use Rattle.cyc_model.specs.Numbers.{RemovedCountsStay};
 ghost use Rattle.cyc_model.specs.Bounds.{CountsStaySmall, ScriptsStayBelow};
 ghost use Rattle.cyc_model.specs.Enabled.{EventsAreEnabled, IndexesAreFound};
 ghost use Rattle.cyc_level.specs.Lawful.{Lawful};
@@ -72,9 +74,10 @@ pub fn levels_stay_lawful()
     ensures run { LevelsStayLawful }
 {}
 
-/// Where the indexes are free, what a script does can be done: at every soft level of every CPU each event of the run is enabled when
-/// it happens, and the level is lawful and conserved before the first of them, after each, and at the end. Nothing else is asked:
-/// no cyclic expires while its removal is open, nor 2^64 times in a stay, and a CPU grows only where its soft levels have followed.
+/// Where the indexes are free, what a script does can be done: at every soft level of every CPU each event of the run is enabled
+/// when it happens, and the level is lawful and conserved before the first of them, after each, and at the end. Nothing else is
+/// asked: no cyclic expires while its removal is open, nor 2^64 times in a stay, and a CPU grows only where its soft levels have
+/// followed.
 pub fn events_are_enabled()
     ensures { EventsAreEnabled }
 {}
@@ -90,14 +93,15 @@ pub fn reports_add_up()
     ensures { ReportsAddUp }
 {}
 
-/// After any steps over any number of CPUs: the line of a removal that answers, at once or by a poll of a soft interrupt, gives all
-/// calls that were ever made of the cyclic, on all CPUs.
+/// After any steps over any number of CPUs: the line of a removal that answers, at once or by a poll of a soft interrupt, gives
+/// all calls that were ever made of the cyclic, on all CPUs.
 pub fn removals_tell_calls()
     ensures remove { RemovesTellCalls }
     ensures poll { PollsTellCalls }
 {}
 
-/// Once the removal of a cyclic has answered, no act of the run calls its handler, whatever steps follow, and its id stays unknown.
+/// Once the removal of a cyclic has answered, no act of the run calls its handler, whatever steps follow, and its id stays
+/// unknown.
 pub fn nothing_follows_removal()
     ensures { NothingFollowsRemoval }
 {}
@@ -117,8 +121,8 @@ pub fn counts_stay_small()
 {}
 
 /// Binding, unbinding, juggling, offline and online lose no cyclic, no call and no count: after any steps over any number of CPUs
-/// the same ids are known, each cyclic that is on one CPU is at home on one CPU with all that it had, and what the report counts of
-/// each id is what it was.
+/// the same ids are known, each cyclic that is on one CPU is at home on one CPU with all that it had, and what the report counts
+/// of each id is what it was.
 pub fn moves_lose_nothing()
     ensures kept { MovesLoseNothing }
     ensures home { CyclicsAreAtHome }

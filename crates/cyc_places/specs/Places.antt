@@ -1,5 +1,6 @@
 -- What a system keeps of its cyclics beside what its CPUs have of them.
-use Rattle.std.specs.Prelude.{Bool, true, false, length, sum_by, ◌≤◌, ◌≡◌, ◌≢◌, ℕ, ◌+◌, ◌<◌, List, All, replicate, slice_set, slice_index_or, Some}
+use Rattle.std.specs.Prelude.{Bool, true, false, length, sum_by, ◌≤◌, ◌≡◌, ◌≢◌, ℕ, ◌+◌, ◌<◌, List, All, replicate, slice_set}
+use Rattle.std.specs.Prelude.{slice_index_or, Some}
 use Rattle.std.specs.List.{slice_get}
 use Rattle.cyc_types.specs.declared.firing.Sent.{Sent}
 use Rattle.cyc_types.specs.declared.level.Level.{Level}

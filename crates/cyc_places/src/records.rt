@@ -1,9 +1,11 @@
 //! The records by rising id.
 
-ghost use Rattle.std.specs.Prelude.{◌≡◌, ℕ, ◌+◌, ◌<◌, ◌≤◌, ◌^◌, ◌++◌, ◌∷◌, [], All, length, slice_set, remove, Some, None, OnOk, OnErr, IfErr, IfNone, IfSome};
+ghost use Rattle.std.specs.Prelude.{◌≡◌, ℕ, ◌+◌, ◌<◌, ◌≤◌, ◌^◌, ◌++◌, ◌∷◌, [], All, length, slice_set, remove, Some, None, OnOk};
+ghost use Rattle.std.specs.Prelude.{OnErr, IfErr, IfNone, IfSome};
 ghost use Rattle.std.specs.List.{slice_get};
 ghost use Rattle.cyc_types.specs.declared.refusal.Refusal.TheVariants.{Memory};
-ghost use Rattle.cyc_places.specs.Places.{RecordsView, IsRecord, HasNoRecord, new_record, with_place, with_ended, ended_on, summed, no_counts, HasRisingIds, HaveCounts, HaveAllCounts, IsReceiptOf};
+ghost use Rattle.cyc_places.specs.Places.{RecordsView, IsRecord, HasNoRecord, new_record, with_place, with_ended, ended_on};
+ghost use Rattle.cyc_places.specs.Places.{summed, no_counts, HasRisingIds, HaveCounts, HaveAllCounts, IsReceiptOf};
 
 use crate::record::{CPUS, Place, Record};
 use cyc_finder::search;
@@ -89,7 +91,8 @@ impl Records {
     /// The cyclic of this record is now there.
     pub fn set_place(&mut self, place: usize, there: Place)
         requires { place < length self.old.list }
-        ensures { (r : Record) → IsRecord self.old.list place r → self.new.list ≡ slice_set self.old.list place (with_place there r) }
+        ensures { (r : Record) → IsRecord self.old.list place r
+            → self.new.list ≡ slice_set self.old.list place (with_place there r) }
     {
         self.list[place].place = there;
     }
@@ -99,7 +102,8 @@ impl Records {
         requires here { place < length self.old.list }
         requires cpu { cpu < CPUS }
         requires counted { counts.lost ≤ counts.sent }
-        requires fits { (r : Record) → IsRecord self.old.list place r → ((ended_on cpu r).sent + counts.sent < 2 ^ 64) × ((ended_on cpu r).lost + counts.lost < 2 ^ 64) }
+        requires fits { (r : Record) → IsRecord self.old.list place r → ((ended_on cpu r).sent + counts.sent < 2 ^ 64)
+            × ((ended_on cpu r).lost + counts.lost < 2 ^ 64) }
         ensures { (r : Record) → IsRecord self.old.list place r
             → self.new.list ≡ slice_set self.old.list place (with_ended cpu (summed (ended_on cpu r) counts) r) }
     {
@@ -117,7 +121,8 @@ impl Records {
         requires here { place < length self.old.list }
         requires cpu { cpu < CPUS }
         ensures counts { (r : Record) → IsRecord self.old.list place r → result ≡ ended_on cpu r }
-        ensures list { (r : Record) → IsRecord self.old.list place r → self.new.list ≡ slice_set self.old.list place (with_ended cpu no_counts r) }
+        ensures list { (r : Record) → IsRecord self.old.list place r
+            → self.new.list ≡ slice_set self.old.list place (with_ended cpu no_counts r) }
     {
         let record = &mut self.list[place];
         let counts = record.ended[cpu];

@@ -14,7 +14,8 @@ use cyc_types::{Refusal, Tally, When};
 
 /// The start and the interval of an add.
 fn series_of(added: &Add) -> Result<When, Refusal>
-    ensures ok { IfOk result (λ when. (pos when.start ≡ added.now.start) × (pos when.interval ≡ added.now.interval) × (0 < when.interval)) }
+    ensures ok { IfOk result (λ when. (pos when.start ≡ added.now.start) × (pos when.interval ≡ added.now.interval)
+        × (0 < when.interval)) }
     ensures err { IfErr result (λ why. first_refusal (bad_when added.now.start added.now.interval) ≡ Some why) }
 {
     When::new(added.start, added.interval)
@@ -22,7 +23,8 @@ fn series_of(added: &Add) -> Result<When, Refusal>
 
 /// Adds a cyclic, and gives the name its id.
 pub fn add_cyclic(machine: &mut Machine, added: &Add) -> Result<(), Refusal>
-    ensures { (step : ℕ) (s : State) → IsReached step s → step ≤ most_steps → Holds s machine.old → Answers (steps.Add added.now) result s machine.new }
+    ensures { (step : ℕ) (s : State) → IsReached step s → step ≤ most_steps → Holds s machine.old
+        → Answers (steps.Add added.now) result s machine.new }
 {
     add_law();
     kept_law::<Tally>();
@@ -38,7 +40,8 @@ pub fn add_cyclic(machine: &mut Machine, added: &Add) -> Result<(), Refusal>
 
 /// The start and the interval of an omni.
 fn series_everywhere(added: &Omni) -> Result<When, Refusal>
-    ensures ok { IfOk result (λ when. (pos when.start ≡ added.now.start) × (pos when.interval ≡ added.now.interval) × (0 < when.interval)) }
+    ensures ok { IfOk result (λ when. (pos when.start ≡ added.now.start) × (pos when.interval ≡ added.now.interval)
+        × (0 < when.interval)) }
     ensures err { IfErr result (λ why. first_refusal (bad_when added.now.start added.now.interval) ≡ Some why) }
 {
     When::new(added.start, added.interval)
@@ -46,7 +49,8 @@ fn series_everywhere(added: &Omni) -> Result<When, Refusal>
 
 /// Adds an omnipresent cyclic, and gives the name its id.
 pub fn add_omni(machine: &mut Machine, added: &Omni) -> Result<(), Refusal>
-    ensures { (step : ℕ) (s : State) → IsReached step s → step ≤ most_steps → Holds s machine.old → Answers (steps.Omni added.now) result s machine.new }
+    ensures { (step : ℕ) (s : State) → IsReached step s → step ≤ most_steps → Holds s machine.old
+        → Answers (steps.Omni added.now) result s machine.new }
 {
     omni_law();
     kept_law::<Tally>();

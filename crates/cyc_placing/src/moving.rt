@@ -20,7 +20,8 @@ use cyc_types::{CyclicId, Moment, Refusal, Tally};
 
 /// Binds the cyclic of a name to a CPU.
 pub fn bind_cyclic(machine: &mut Machine, bound: &Bind) -> Result<(), Refusal>
-    ensures { (step : ℕ) (s : State) → IsReached step s → Holds s machine.old → Answers (steps.Bind bound.now) result s machine.new }
+    ensures { (step : ℕ) (s : State) → IsReached step s → Holds s machine.old
+        → Answers (steps.Bind bound.now) result s machine.new }
 {
     bind_law();
     kept_law::<Tally>();
@@ -74,7 +75,8 @@ fn reprogram_at(
 
 /// Gives the cyclic of a name another next expiration, or its component on the CPU that the step names.
 pub fn reprogram_cyclic(machine: &mut Machine, reprogram: &Reprogram) -> Result<(), Refusal>
-    ensures { (step : ℕ) (s : State) → IsReached step s → Holds s machine.old → Answers (steps.Reprogram reprogram.now) result s machine.new }
+    ensures { (step : ℕ) (s : State) → IsReached step s → Holds s machine.old
+        → Answers (steps.Reprogram reprogram.now) result s machine.new }
 {
     reprogram_law();
     kept_law::<Tally>();

@@ -1,5 +1,6 @@
 -- What a removal does to one CPU.
-use Rattle.std.proofs.Common.{◌≡◌, ◌≢◌, ◌==◌, ℕ, ◌≤◌, inl, inr, true, false, Option, Some, None, Ok, Err, map, refl, sym, ap, ◌∙◌, subst}
+use Rattle.std.proofs.Common.{◌≡◌, ◌≢◌, ◌==◌, ℕ, ◌≤◌, inl, inr, true, false, Option, Some, None, Ok, Err, map, refl, sym, ap, ◌∙◌}
+use Rattle.std.proofs.Common.{subst}
 use Rattle.std.specs.Option.{option_map_or, option_and_then}
 use Rattle.cyc_types.specs.Series.{never}
 use Rattle.cyc_types.specs.Firing.{FiringView, FiringCall}
@@ -41,10 +42,12 @@ from_less id x y l still = record {
   most = l.most;
 }
 
-module _ {R : Type 0} (step : R → FiringCall → R → Type 0) (view : R → FiringView) (id : ℕ) (x y : CpuView R) (law : IsLawful view x) where
+module _ {R : Type 0} (step : R → FiringCall → R → Type 0) (view : R → FiringView) (id : ℕ) (x y : CpuView R)
+    (law : IsLawful view x) where
   -- a removal that was done at once
   pub less_done : (receipt : Receipt) → Changes step view x (BeginRemove id (Ok (Done receipt))) y → OneLess id x y
-  less_done receipt (still, (c, counts, is, polled, leaves)) = less_left step view x y id _ c (ids_rise x.cyclics law.rising) leaves
+  less_done receipt (still, (c, counts, is, polled, leaves)) =
+      less_left step view x y id _ c (ids_rise x.cyclics law.rising) leaves
 
   pub begun : (found : Removal) → Changes step view x (BeginRemove id (Ok found)) y → LeavesCpu id x y
   begun (Done receipt) d = from_less id x y (less_done receipt d) (λ q ne e. none_some (sym d.0 ∙ e))
@@ -78,16 +81,21 @@ module _ {R : Type 0} (step : R → FiringCall → R → Type 0) (view : R → F
   }
 
 -- what a CPU counts of a cyclic is bounded
-pub counts_fit : {R : Type 0} (view : R → FiringView) (x : CpuView R) (law : IsLawful view x) (k : ℕ) (c : Cyclic) → IsCyclic x.cyclics k c → c.timer.expired ≤ x.most
+pub counts_fit : {R : Type 0} (view : R → FiringView) (x : CpuView R) (law : IsLawful view x) (k : ℕ) (c : Cyclic)
+    → IsCyclic x.cyclics k c → c.timer.expired ≤ x.most
 counts_fit view x law k c (low, is) = subst (λ (d : Cyclic). d.timer.expired ≤ x.most) is (law.counted k c low).few
 
 module _ {R : Type 0} (step : R → FiringCall → R → Type 0) (view : R → FiringView) (id : ℕ) (x y : CpuView R) where
   -- the counts of a receipt are bounded
-  pub done_fits : (receipt : Receipt) → IsLawful view x → Changes step view x (BeginRemove id (Ok (Done receipt))) y → receipt.sent ≤ x.most
-  done_fits receipt law (still, (c, counts, is, polled, leaves)) = subst (λ n. n ≤ x.most) (sym is.1) (counts_fit view x law leaves.place c leaves.here)
+  pub done_fits : (receipt : Receipt) → IsLawful view x → Changes step view x (BeginRemove id (Ok (Done receipt))) y
+      → receipt.sent ≤ x.most
+  done_fits receipt law (still, (c, counts, is, polled, leaves)) =
+      subst (λ n. n ≤ x.most) (sym is.1) (counts_fit view x law leaves.place c leaves.here)
 
-  pub ended_fits : (receipt : Receipt) → IsLawful view x → Changes step view x (PollRemove (Some receipt)) y → receipt.sent ≤ x.most
-  ended_fits receipt law e = subst (λ n. n ≤ x.most) (sym e.counted.1) (counts_fit view x law e.leaves.place e.cyclic e.leaves.here)
+  pub ended_fits : (receipt : Receipt) → IsLawful view x → Changes step view x (PollRemove (Some receipt)) y
+      → receipt.sent ≤ x.most
+  ended_fits receipt law e = subst (λ n. n ≤ x.most) (sym e.counted.1)
+      (counts_fit view x law e.leaves.place e.cyclic e.leaves.here)
 
   -- where a cyclic is, and no removal is open, one begins
   pub is_begun : (e : Refusal) → x.removal ≡ None → HasCyclic id x.cyclics → Changes step view x (BeginRemove id (Err e)) y → ⊥
@@ -104,8 +112,10 @@ is_none None not = refl
 is_none (Some x) not = absurd (not x refl)
 
 -- a cyclic whose removal is open on a CPU is there
-pub open_here : {R : Type 0} (view : R → FiringView) (v : CpusView R) (n id : ℕ) (x : CpuView R) → IsLawful view x → IsCpu n x v → x.removal ≡ Some id → has n id v ≡ true
-open_here view v n id x law at open_is = let (k, c, is, named, soft, never_due) = law.removed id open_is in has_here v n id x at (k, c, is, named)
+pub open_here : {R : Type 0} (view : R → FiringView) (v : CpusView R) (n id : ℕ) (x : CpuView R) → IsLawful view x → IsCpu n x v
+    → x.removal ≡ Some id → has n id v ≡ true
+open_here view v n id x law at open_is = let (k, c, is, named, soft, never_due) = law.removed id open_is in
+    has_here v n id x at (k, c, is, named)
 
 -- whose removal is open
 pub is_leaving_open : {R : Type 0} (id : ℕ) (x : CpuView R) → is_leaving_here id x ≡ true → x.removal ≡ Some id

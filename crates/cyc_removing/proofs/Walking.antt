@@ -1,5 +1,6 @@
 -- A walk over the CPUs, with a call on each of which a test holds.
-use Rattle.std.proofs.Common.{◌≡◌, ◌==◌, ℕ, ◌+◌, ◌<◌, ◌≤◌, Bool, true, false, Some, List, [], ◌∷◌, ◌++◌, length, map, drop, option_map, refl, sym, ap, ◌∙◌, subst, append_assoc, arith}
+use Rattle.std.proofs.Common.{◌≡◌, ◌==◌, ℕ, ◌+◌, ◌<◌, ◌≤◌, Bool, true, false, Some, List, [], ◌∷◌, ◌++◌, length, map, drop}
+use Rattle.std.proofs.Common.{option_map, refl, sym, ap, ◌∙◌, subst, append_assoc, arith}
 use Rattle.std.specs.Prelude.{sum_by}
 use Rattle.std.specs.List.{slice_get, list_any, FoldsTo}
 use Rattle.std.specs.Option.{option_map_or, option_and_then}
@@ -24,22 +25,28 @@ use Rattle.cyc_removing.specs.Leaving.{system, Withdraws, WithdrawsAt}
 use Rattle.cyc_removing.proofs.Withdrawing.{withdraws_none, withdraws_then}
 
 -- the numbers from one on, where its test is known
-pub numbered : {R : Type 0} (test : CpuView R → Bool) (v : CpusView R) (n : ℕ) (x : CpuView R) (b : Bool) → IsCpu n x v → test x ≡ b
+pub numbered : {R : Type 0} (test : CpuView R → Bool) (v : CpusView R) (n : ℕ) (x : CpuView R) (b : Bool) → IsCpu n x v
+    → test x ≡ b
     → numbers_from n (drop n (map test v.cpus)) ≡ numbers_from n (b ∷ drop (n + 1) (map test v.cpus))
-numbered test v n x b at is = numbers_at (map test v.cpus) n b (slice_get-map test v.cpus n ∙ ap (λ o. option_map test o) at ∙ ap Some is)
+numbered test v n x b at is = numbers_at (map test v.cpus) n b (slice_get-map test v.cpus n ∙ ap (λ o. option_map test o) at
+    ∙ ap Some is)
 
 -- one more CPU
-pub grows : {R A : Type 0} (test : CpuView R → Bool) (cpu_of : A → ℕ) (v : CpusView R) (n : ℕ) (x : CpuView R) (way : List A) (a : A) → IsCpu n x v → test x ≡ true → cpu_of a ≡ n
-    → map cpu_of way ++ numbers_from n (drop n (map test v.cpus)) ≡ map cpu_of (way ++ a ∷ []) ++ numbers_from (n + 1) (drop (n + 1) (map test v.cpus))
+pub grows : {R A : Type 0} (test : CpuView R → Bool) (cpu_of : A → ℕ) (v : CpusView R) (n : ℕ) (x : CpuView R) (way : List A)
+    (a : A) → IsCpu n x v → test x ≡ true → cpu_of a ≡ n
+    → map cpu_of way ++ numbers_from n (drop n (map test v.cpus)) ≡ map cpu_of (way ++ a ∷ []) ++ numbers_from (n + 1)
+    (drop (n + 1) (map test v.cpus))
 grows test cpu_of v n x way a at is e = ap (λ ns. map cpu_of way ++ ns) (numbered test v n x true at is)
     ∙ ap (λ i. map cpu_of way ++ i ∷ numbers_from (n + 1) (drop (n + 1) (map test v.cpus))) (sym e)
     ∙ sym (append_assoc (map cpu_of way) (cpu_of a ∷ []) (numbers_from (n + 1) (drop (n + 1) (map test v.cpus))))
     ∙ ap (λ ns. ns ++ numbers_from (n + 1) (drop (n + 1) (map test v.cpus))) (sym (map-append cpu_of way (a ∷ [])))
 
-module _ {R A : Type 0} (On : A → SystemView R → SystemView R → Type 0) (cpu_of worth : A → ℕ) (test : CpuView R → Bool) (id place : ℕ) where
+module _ {R A : Type 0} (On : A → SystemView R → SystemView R → Type 0) (cpu_of worth : A → ℕ) (test : CpuView R → Bool)
+    (id place : ℕ) where
   -- so many CPUs were passed; what was done is worth so much
   pub record Walk (n total : ℕ) (v w : CpusView R) (rs rs' : List Record) : Type 0 where
-    pub did : (last : ℕ) → (way : List A) × (numbers_from 0 (map test v.cpus) ≡ map cpu_of way ++ numbers_from n (drop n (map test v.cpus)))
+    pub did : (last : ℕ) → (way : List A) × (numbers_from 0 (map test v.cpus) ≡ map cpu_of way ++ numbers_from n
+        (drop n (map test v.cpus)))
         × FoldsTo (λ s a t. On a s t) (system v rs last) way (system w rs' last) × (total ≡ sum_by worth way)
     pub withdraws : Withdraws id place v w rs rs'
     pub passed : (m : ℕ) → m < n → has m id w ≡ true → removal_on m w ≡ Some id
@@ -74,10 +81,12 @@ module _ {R A : Type 0} (On : A → SystemView R → SystemView R → Type 0) (c
       ahead = λ m low. l.elsewhere m (λ e. omega (arith, low, e)) ∙ k.ahead m (omega (arith, low));
     }
       where
-        by : (last : ℕ) → ((way : List A) × (numbers_from 0 (map test v.cpus) ≡ map cpu_of way ++ numbers_from n (drop n (map test v.cpus)))
+        by : (last : ℕ) → ((way : List A) × (numbers_from 0 (map test v.cpus) ≡ map cpu_of way ++ numbers_from n
+            (drop n (map test v.cpus)))
             × FoldsTo (λ s a t. On a s t) (system v rs last) way (system w rs' last) × (total ≡ sum_by worth way))
             → ((a : A) × (cpu_of a ≡ n) × (worth a ≡ more) × On a (system w rs' last) (system u ts last))
-            → (way : List A) × (numbers_from 0 (map test v.cpus) ≡ map cpu_of way ++ numbers_from (n + 1) (drop (n + 1) (map test v.cpus)))
+            → (way : List A) × (numbers_from 0 (map test v.cpus) ≡ map cpu_of way ++ numbers_from (n + 1)
+            (drop (n + 1) (map test v.cpus)))
             × FoldsTo (λ s a t. On a s t) (system v rs last) way (system u ts last) × (total + more ≡ sum_by worth way)
         by last (way, split, works, sum) (a, number, much, on) = (
           way ++ a ∷ [],
@@ -86,7 +95,8 @@ module _ {R A : Type 0} (On : A → SystemView R → SystemView R → Type 0) (c
           (let p = sum_by_push worth way a in omega (arith, sum, much, p)),
         )
 
-    pub walk_none : (x : CpuView R) → IsCpu n x w → test x ≡ false → (has n id w ≡ true → removal_on n w ≡ Some id) → Walk (n + 1) total v w rs rs'
+    pub walk_none : (x : CpuView R) → IsCpu n x w → test x ≡ false → (has n id w ≡ true → removal_on n w ≡ Some id)
+        → Walk (n + 1) total v w rs rs'
     walk_none x at is there = record {
       did = λ last. (let (way, split, works, sum) = k.did last in (
         way,
@@ -117,13 +127,17 @@ module _ {R A : Type 0} (On : A → SystemView R → SystemView R → Type 0) (c
     walk_left all m h = k.passed m (let low = has_low w m id h in omega (arith, low, all)) h
 
 -- the walk on which a removal begins
-abbrev pub BeginWalk : {R : Type 0} → (R → FiringCall → R → Type 0) → (R → FiringView) → (id place n total : ℕ) → (v w : CpusView R) → (rs rs' : List Record) → Type 0
-BeginWalk step view id place = Walk (λ (b : Begun) s t. BeginsOn step view id b.cpu b.found s t) (λ b. b.cpu) (λ b. kept_in b.found)
+abbrev pub BeginWalk : {R : Type 0} → (R → FiringCall → R → Type 0) → (R → FiringView) → (id place n total : ℕ)
+    → (v w : CpusView R) → (rs rs' : List Record) → Type 0
+BeginWalk step view id place = Walk (λ (b : Begun) s t. BeginsOn step view id b.cpu b.found s t) (λ b. b.cpu)
+    (λ b. kept_in b.found)
     (λ cpu. list_any (λ own. own == id) (ids_of cpu)) id place
 
 -- the walk on which it is polled
-abbrev pub PollWalk : {R : Type 0} → (R → FiringCall → R → Type 0) → (R → FiringView) → (id place n : ℕ) → (v w : CpusView R) → (rs rs' : List Record) → Type 0
-PollWalk step view id place n = Walk (λ (p : Polled) s t. PollsOn step view id p.cpu p.answer s t) (λ p. p.cpu) (λ p. 0) (is_leaving_here id) id place n 0
+abbrev pub PollWalk : {R : Type 0} → (R → FiringCall → R → Type 0) → (R → FiringView) → (id place n : ℕ) → (v w : CpusView R)
+    → (rs rs' : List Record) → Type 0
+PollWalk step view id place n = Walk (λ (p : Polled) s t. PollsOn step view id p.cpu p.answer s t) (λ p. p.cpu) (λ p. 0)
+    (is_leaving_here id) id place n 0
 
 -- the same of equal values
 pub along : {A B C : Type 0} (P : A → B → C → Type 0) (a b : A) (c d : B) (e f : C) → b ≡ a → d ≡ c → f ≡ e → P a c e → P b d f

@@ -10,8 +10,8 @@ ghost use Rattle.cyc_removing.specs.Removing.{BeginsOn, counts_of, kept_in};
 ghost use Rattle.cyc_removing.specs.Polling.{PollsOn};
 ghost use Rattle.cyc_removing.specs.Leaving.{system, Owns, WithdrawsAt};
 
-use cyc_cpu::Removal;
 use cyc_agreement::Cpus;
+use cyc_cpu::Removal;
 use cyc_places::Records;
 use cyc_types::{CyclicId, Raise, Receipt, Sent};
 
@@ -22,7 +22,8 @@ fn keep_counts(records: &mut Records, place: usize, number: u32, receipt: Receip
     requires fresh { (r : Record) × IsRecord records.old.list place r × (ended_on number r ≡ no_counts) }
     requires few { receipt.sent ≤ most }
     ensures { (r : Record) → IsRecord records.old.list place r
-        → records.new.list ≡ slice_set records.old.list place (with_ended number (summed (ended_on number r) (counts_of receipt)) r) }
+        → records.new.list ≡ slice_set records.old.list place
+        (with_ended number (summed (ended_on number r) (counts_of receipt)) r) }
 {
     let _most = most;
     let counts = Sent {

@@ -1,6 +1,7 @@
 //! A removal on all CPUs: its beginning and its polls.
 
-ghost use Rattle.std.specs.Prelude.{◌≡◌, ◌≢◌, ℕ, ◌<◌, ◌≤◌, ◌^◌, ◌*◌, List, length, map, sum_by, remove, true, false, None, IfNone};
+ghost use Rattle.std.specs.Prelude.{◌≡◌, ◌≢◌, ℕ, ◌<◌, ◌≤◌, ◌^◌, ◌*◌, List, length, map, sum_by, remove, true, false, None};
+ghost use Rattle.std.specs.Prelude.{IfNone};
 ghost use Rattle.std.specs.Option.{option_map};
 ghost use Rattle.cyc_types.specs.declared.refusal.Refusal.TheVariants.{Busy};
 ghost use Rattle.cyc_model.specs.Refusals.{first_refusal};
@@ -28,7 +29,8 @@ pub enum SystemRemoval {
 
 /// The first removal that is open on a CPU that has the cyclic.
 fn open_removal<R: Raise>(cpus: &Cpus<R>, id: CyclicId) -> Option<CyclicId>
-    ensures first { (records : List Record) (last : ℕ) → first_refusal (busy_on_each id (system cpus.now records last)) ≡ option_map (λ removed. Busy removed) result }
+    ensures first { (records : List Record) (last : ℕ)
+        → first_refusal (busy_on_each id (system cpus.now records last)) ≡ option_map (λ removed. Busy removed) result }
     ensures none { IfNone result ((n : ℕ) → has n id cpus.now ≡ true → removal_on n cpus.now ≡ None) }
 {
     for number in 0..cpus.count() {
@@ -105,7 +107,8 @@ pub fn begin_remove<R: Raise>(
     id: CyclicId,
 ) -> Result<SystemRemoval, Refusal>
     requires { (last : ℕ) × Holds (system cpus.old records.old.list last) }
-    ensures did { (last : ℕ) → BeginsRemoval R.step R.view id result (system cpus.old records.old.list last) (system cpus.new records.new.list last) }
+    ensures did { (last : ℕ) → BeginsRemoval R.step R.view id result (system cpus.old records.old.list last)
+        (system cpus.new records.new.list last) }
     ensures holds { (last : ℕ) → Holds (system cpus.old records.old.list last) → Holds (system cpus.new records.new.list last) }
 {
     records.law();
@@ -134,7 +137,8 @@ pub fn poll_remove<R: Raise>(
     id: CyclicId,
 ) -> Result<Option<Receipt>, Refusal>
     requires { (last : ℕ) × Holds (system cpus.old records.old.list last) }
-    ensures did { (last : ℕ) → PollsRemoval R.step R.view id result (system cpus.old records.old.list last) (system cpus.new records.new.list last) }
+    ensures did { (last : ℕ) → PollsRemoval R.step R.view id result (system cpus.old records.old.list last)
+        (system cpus.new records.new.list last) }
     ensures holds { (last : ℕ) → Holds (system cpus.old records.old.list last) → Holds (system cpus.new records.new.list last) }
 {
     records.law();

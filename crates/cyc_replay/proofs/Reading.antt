@@ -10,4 +10,5 @@ use Rattle.cyc_serving.specs.Words.{Takes}
 pub takes_named : (read texts : List (List ℕ)) → read ≡ texts → (step : ℕ) (x : Step) (line : List ℕ) (m n : Machine)
     → ((s : State) → IsReached step s → Holds s m → Takes read step x line s n)
     → (s : State) → IsReached step s → Holds s m → Takes texts step x line s n
-takes_named read texts same step x line m n takes s reached held = subst (λ ts. Takes ts step x line s n) same (takes s reached held)
+takes_named read texts same step x line m n takes s reached held =
+    subst (λ ts. Takes ts step x line s n) same (takes s reached held)

@@ -126,10 +126,12 @@ module _ (script : Script) (m : Machine) (r : Runs script.cpus script.ceiling (n
 
   -- the lines of the steps and the report of the machine's own run are the text of the script
   pub whole_text : (run_on no_indexes script.cpus script.ceiling (names_of script) script.steps.items).line
-      ++ reports 0 (names_of script) (run_on (listed r.given) script.cpus script.ceiling (names_of script) script.steps.items).state
+      ++ reports 0 (names_of script) (run_on (listed r.given) script.cpus script.ceiling
+      (names_of script) script.steps.items).state
       ≡ text_of script
   unfolding text_with run_of
   whole_text =
-      ap (λ line. line ++ reports 0 (names_of script) (run_on (listed r.given) script.cpus script.ceiling (names_of script) script.steps.items).state)
+      ap (λ line. line ++ reports 0 (names_of script)
+      (run_on (listed r.given) script.cpus script.ceiling (names_of script) script.steps.items).state)
       (same_line script.cpus script.ceiling (names_of script) script.steps.items no_indexes (listed r.given))
       ∙ text_bare (listed r.given) script.cpus script.ceiling (names_of script) script.steps.items

@@ -1,8 +1,8 @@
 //! The replay of a script over a system of 1 to 16 CPUs.
 //!
-//! `replay` is `run_script` without the machine that the run leaves, and that is `begin`, `put_steps` and `put_reports`, one after
-//! another: the contract of each names the machine, so what stands of the text, and what stands of the machine's levels, is said
-//! of one and the same run.
+//! `replay` is `run_script` without the machine that the run leaves, and that is `begin`, `put_steps` and `put_reports`, one
+//! after another: the contract of each names the machine, so what stands of the text, and what stands of the machine's levels, is
+//! said of one and the same run.
 //!
 //! What holds of every run of a script, and so of each replay, are laws of `cyc_model`. Their runs are over any indexes of the
 //! cyclics, and so over those that `run_script` names:

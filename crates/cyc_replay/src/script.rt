@@ -35,9 +35,9 @@ fn put_text<S: Sink>(
 /// Runs the steps of a script on one thread, and puts the text that tells of them: the lines of a step at once, and then those of
 /// the report one by one. Gives back the machine that the run left.
 ///
-/// The handler of every cyclic counts its call and does nothing else. It takes the memory of the machine before the first line, and
-/// that of a line where it first needs it: `Refused` comes with `Memory` alone. `Write` comes exactly where the sink has failed. What
-/// was put before a fault stays put: it is a prefix of the text.
+/// The handler of every cyclic counts its call and does nothing else. It takes the memory of the machine before the first line,
+/// and that of a line where it first needs it: `Refused` comes with `Memory` alone. `Write` comes exactly where the sink has
+/// failed. What was put before a fault stays put: it is a prefix of the text.
 pub fn run_script<S: Sink>(
     alloc: Global,
     script: &Script,

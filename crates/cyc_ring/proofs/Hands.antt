@@ -62,12 +62,15 @@ module _ (start : ℕ) (t : List DrainStep) where
   made_follows id (Followed bank ∷ LoadedProducer end ∷ Followed x ∷ xs) f = absurd f
 
   -- a take leaves what is made, and its answer is the hand
-  pub made_take : (steps : List DrainStep) (answer : Option ℕ) → DrainSteps start t (Takes answer) steps → (id : ℕ) → made_calls id (steps ++ t) ≡ made_calls id t
+  pub made_take : (steps : List DrainStep) (answer : Option ℕ) → DrainSteps start t (Takes answer) steps → (id : ℕ)
+      → made_calls id (steps ++ t) ≡ made_calls id t
   made_take steps None f id = ap (λ (l : List DrainStep). made_calls id (l ++ t)) f.2.4 ∙ made_follows id f.0 f.1
   made_take steps (Some x) f id = ap (λ (l : List DrainStep). made_calls id (l ++ t)) f.2.5 ∙ made_follows id f.0 f.1
 
-  pub hand_take : (steps : List DrainStep) (answer : Option ℕ) → held_entry t ≡ None → DrainSteps start t (Takes answer) steps → drainer_hand_of (steps ++ t) ≡ answer
-  hand_take steps None bare f = ap (λ (l : List DrainStep). drainer_hand_of (l ++ t)) f.2.4 ∙ (ap id_in (held_follows f.0 f.1) ∙ ap id_in bare)
+  pub hand_take : (steps : List DrainStep) (answer : Option ℕ) → held_entry t ≡ None → DrainSteps start t (Takes answer) steps
+      → drainer_hand_of (steps ++ t) ≡ answer
+  hand_take steps None bare f = ap (λ (l : List DrainStep). drainer_hand_of (l ++ t)) f.2.4
+      ∙ (ap id_in (held_follows f.0 f.1) ∙ ap id_in bare)
   hand_take steps (Some x) bare f = ap (λ (l : List DrainStep). drainer_hand_of (l ++ t)) f.2.5 ∙ ap Some (sym f.2.4)
 
 bare_of : (o : Option ℕ) → id_in o ≡ None → o ≡ None

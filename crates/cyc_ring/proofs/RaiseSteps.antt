@@ -1,5 +1,6 @@
 -- What the steps of a raise show, from the load of the pend word on.
-use Rattle.std.proofs.Common.{◌≡◌, ◌≢◌, ℕ, ◌+◌, ◌%◌, ◌^◌, ◌<◌, ◌≤◌, cond, List, [], ◌∷◌, refl, sym, ap, ◌∙◌, subst, arith, get_or, eq-eqb}
+use Rattle.std.proofs.Common.{◌≡◌, ◌≢◌, ℕ, ◌+◌, ◌%◌, ◌^◌, ◌<◌, ◌≤◌, cond, List, [], ◌∷◌, refl, sym, ap, ◌∙◌, subst, arith, get_or}
+use Rattle.std.proofs.Common.{eq-eqb}
 use Rattle.std.specs.Prelude.{Some}
 use Rattle.cyc_types.specs.Limits.{cyclics}
 use Rattle.cyc_level.specs.Runs.{StayCounts, one_more}
@@ -53,13 +54,22 @@ module _ {r : RaiseSeat} {k k' : Setting} {id id' x : ℕ} (b : Begun r k k' id 
   is_low before h = subst (λ (y : ℕ). before ≤ seen_pend y t) b.named.0 h
 
   -- the load found the ceiling
-  pub is_lost : (s1 : TableSeat) (before ceiling : ℕ) → ceiling ≡ r.setting.ceiling → before ≡ ceiling → (before ≡ k'.ceiling → MakesRaiseStep k' (Lost id' before) r.side.seat s1) → MakesRaiseStep k (Lost id before) r.side.seat s1
-  is_lost s1 before ceiling same full made = subst (λ (p : Setting × ℕ). MakesRaiseStep p.0 (Lost p.1 before) r.side.seat s1) (λ z. (b.named.1 z, b.named.0 z)) (made (full ∙ same ∙ ap (λ (s : Setting). s.ceiling) (b.own ∙ sym b.named.1)))
+  pub is_lost : (s1 : TableSeat) (before ceiling : ℕ) → ceiling ≡ r.setting.ceiling → before ≡ ceiling
+      → (before ≡ k'.ceiling → MakesRaiseStep k' (Lost id' before) r.side.seat s1)
+      → MakesRaiseStep k (Lost id before) r.side.seat s1
+  is_lost s1 before ceiling same full made =
+      subst (λ (p : Setting × ℕ). MakesRaiseStep p.0 (Lost p.1 before) r.side.seat s1) (λ z. (b.named.1 z, b.named.0 z))
+      (made (full ∙ same ∙ ap (λ (s : Setting). s.ceiling) (b.own ∙ sym b.named.1)))
 
-  pub is_below : (s1 : TableSeat) (before : ℕ) → (before ≤ seen_pend id' t) × (before ≤ k'.ceiling) → (before ≢ k'.ceiling → MakesRaiseStep k' (Loaded id' before) r.side.seat s1) → before ≢ r.setting.ceiling → Below r k id s1 before
-  is_below s1 before bound made differs = let ne : before ≢ k'.ceiling = λ e. differs (e ∙ ap (λ (s : Setting). s.ceiling) (b.named.1 ∙ sym b.own)) in
-      let most : before ≤ k.ceiling = subst (λ (y : Setting). before ≤ y.ceiling) b.named.1 bound.1 in let other : before ≢ k.ceiling = λ e. ne (e ∙ ap (λ (s : Setting). s.ceiling) (sym b.named.1)) in record {
-        step = subst (λ (p : Setting × ℕ). MakesRaiseStep p.0 (Loaded p.1 before) r.side.seat s1) (λ z. (b.named.1 z, b.named.0 z)) (made ne);
+  pub is_below : (s1 : TableSeat) (before : ℕ) → (before ≤ seen_pend id' t) × (before ≤ k'.ceiling)
+      → (before ≢ k'.ceiling → MakesRaiseStep k' (Loaded id' before) r.side.seat s1) → before ≢ r.setting.ceiling
+      → Below r k id s1 before
+  is_below s1 before bound made differs = let ne : before ≢ k'.ceiling =
+      λ e. differs (e ∙ ap (λ (s : Setting). s.ceiling) (b.named.1 ∙ sym b.own)) in
+      let most : before ≤ k.ceiling = subst (λ (y : Setting). before ≤ y.ceiling) b.named.1 bound.1 in
+      let other : before ≢ k.ceiling = λ e. ne (e ∙ ap (λ (s : Setting). s.ceiling) (sym b.named.1)) in record {
+        step = subst (λ (p : Setting × ℕ). MakesRaiseStep p.0 (Loaded p.1 before) r.side.seat s1)
+            (λ z. (b.named.1 z, b.named.0 z)) (made ne);
         low = is_low before bound.0;
         under = omega (arith, most, other);
       }
@@ -69,29 +79,38 @@ module _ {r : RaiseSeat} {k k' : Setting} {id id' x : ℕ} (b : Begun r k k' id 
     pub stay_below : open_stay id' s1.me.0.raise_trail ≡ Some (stay_at r x)
     stay_below = ap (λ (m : ThisSeat). open_stay id' m.0.raise_trail) w.step.1.1 ∙ stay_named
 
-    pub is_counted : (s2 : TableSeat) (found : ℕ) → found ≤ seen_pend id' s1.me.0.raise_trail → MakesRaiseStep k' (Added id' found) s1 s2 → Counted r k id s1 s2 before found
-    is_counted s2 found bound made = let f : found ≤ seen_pend id (Loaded id before ∷ t) = subst (λ (p : ℕ × List RaiseStep). found ≤ seen_pend p.0 p.1) (λ z. (b.named.0 z, (w.step.1.1 z).0.raise_trail)) bound in
-        let h : found ≤ before % 2 ^ 32 = subst (λ b. found ≤ cond b (before % 2 ^ 32) (seen_pend id t)) (eq-eqb id id refl) f in record {
+    pub is_counted : (s2 : TableSeat) (found : ℕ) → found ≤ seen_pend id' s1.me.0.raise_trail
+        → MakesRaiseStep k' (Added id' found) s1 s2 → Counted r k id s1 s2 before found
+    is_counted s2 found bound made = let f : found ≤ seen_pend id (Loaded id before ∷ t) =
+        subst (λ (p : ℕ × List RaiseStep). found ≤ seen_pend p.0 p.1) (λ z. (b.named.0 z, (w.step.1.1 z).0.raise_trail)) bound in
+        let h : found ≤ before % 2 ^ 32 = subst (λ b. found ≤ cond b (before % 2 ^ 32) (seen_pend id t)) (eq-eqb id id refl) f in
+        record {
           below = w;
           step = subst (λ (p : Setting × ℕ). MakesRaiseStep p.0 (Added p.1 found) s1 s2) (λ z. (b.named.1 z, b.named.0 z)) made;
           top = omega (arith, h);
         }
 
   -- and counts one more
-  pub stay_counted : (found before : ℕ) → open_stay id (Added id found ∷ Loaded id before ∷ t) ≡ Some record { index = x; sent = get_or r.stays.value.sent x 0 + 1; lost = get_or r.stays.value.lost x 0 + 0 }
-  stay_counted found before = ap (λ b. cond b (one_more 0 (open_stay id t)) (open_stay id t)) (eq-eqb id id refl) ∙ ap (one_more 0) stay_is
+  pub stay_counted : (found before : ℕ) → open_stay id (Added id found ∷ Loaded id before ∷ t)
+      ≡ Some record { index = x; sent = get_or r.stays.value.sent x 0 + 1; lost = get_or r.stays.value.lost x 0 + 0 }
+  stay_counted found before = ap (λ b. cond b (one_more 0 (open_stay id t)) (open_stay id t)) (eq-eqb id id refl)
+      ∙ ap (one_more 0) stay_is
 
   pub next_is : r.next ≡ producer_index k'.start t % index_range
   next_is = r.next_is ∙ ap (λ (s : Setting). producer_index s.start t % index_range) (b.own ∙ sym b.named.1)
 
   -- the index that is published next
   pub next_published : (r.next + 1) % index_range ≡ (producer_index k.start t + 1) % index_range
-  next_published = let h : r.next ≡ producer_index k.start t % 2 ^ 32 = r.next_is ∙ ap (λ (s : Setting). producer_index s.start t % 2 ^ 32) b.own in let z : (r.next + 1) % 2 ^ 32 ≡ (producer_index k.start t + 1) % 2 ^ 32 = omega (arith, h) in z
+  next_published = let h : r.next ≡ producer_index k.start t % 2 ^ 32 = r.next_is
+      ∙ ap (λ (s : Setting). producer_index s.start t % 2 ^ 32) b.own in
+      let z : (r.next + 1) % 2 ^ 32 ≡ (producer_index k.start t + 1) % 2 ^ 32 = omega (arith, h) in z
 
 -- the steps up to there, and the seat after them
-module _ {r : RaiseSeat} {k : Setting} {id : ℕ} {s1 s2 : TableSeat} {before found : ℕ} (a : Counted r k id s1 s2 before found) where
+module _ {r : RaiseSeat} {k : Setting} {id : ℕ} {s1 s2 : TableSeat} {before found : ℕ}
+    (a : Counted r k id s1 s2 before found) where
   pub counted_run : RaiseRun k r.side.seat (Added id found ∷ Loaded id before ∷ []) s2
-  counted_run = one_raise k (Added id found) r.side.seat (Loaded id before ∷ []) s1 s2 (one_raise k (Loaded id before) r.side.seat [] r.side.seat s1 (no_raise k r.side.seat r.side.role) a.below.step) a.step
+  counted_run = one_raise k (Added id found) r.side.seat (Loaded id before ∷ []) s1 s2
+      (one_raise k (Loaded id before) r.side.seat [] r.side.seat s1 (no_raise k r.side.seat r.side.role) a.below.step) a.step
 
   -- the places of both
   abbrev p1 : ℕ
@@ -100,7 +119,10 @@ module _ {r : RaiseSeat} {k : Setting} {id : ℕ} {s1 s2 : TableSeat} {before fo
   abbrev p2 : ℕ
   p2 = a.step.1.0
 
-  pub counted_me : s2.me ≡ (with_raise_step p2 (Added id found) (with_raise_step p1 (Loaded id before) r.side.seat.me.0), r.side.seat.me.1)
+  pub counted_me : s2.me ≡ (
+    with_raise_step p2 (Added id found) (with_raise_step p1 (Loaded id before) r.side.seat.me.0),
+    r.side.seat.me.1,
+  )
   counted_me = a.step.1.1 ∙ ap (λ (m : ThisSeat). (with_raise_step p2 (Added id found) m.0, m.1)) a.below.step.1.1
 
   pub counted_trail : s2.me.0.raise_trail ≡ Added id found ∷ Loaded id before ∷ r.side.seat.me.0.raise_trail
@@ -112,19 +134,27 @@ pub record PutIn (r : RaiseSeat) (k : Setting) (id x : ℕ) (s1 s2 s3 s4 : Table
   pub stored : MakesRaiseStep k (Stored (entry id x)) s2 s3
   pub published : MakesRaiseStep k (Published ((producer_index k.start r.side.seat.me.0.raise_trail + 1) % index_range)) s3 s4
 
-module _ {r : RaiseSeat} {k : Setting} {id x : ℕ} {s1 s2 s3 s4 : TableSeat} {before : ℕ} (p : PutIn r k id x s1 s2 s3 s4 before) where
+module _ {r : RaiseSeat} {k : Setting} {id x : ℕ} {s1 s2 s3 s4 : TableSeat} {before : ℕ}
+    (p : PutIn r k id x s1 s2 s3 s4 before) where
   -- the index that was published
   abbrev index : ℕ
   index = (producer_index k.start r.side.seat.me.0.raise_trail + 1) % index_range
 
   pub put_in_run : RaiseRun k r.side.seat (Published index ∷ Stored (entry id x) ∷ Added id 0 ∷ Loaded id before ∷ []) s4
-  put_in_run = one_raise k (Published index) r.side.seat (Stored (entry id x) ∷ Added id 0 ∷ Loaded id before ∷ []) s3 s4 (one_raise k (Stored (entry id x)) r.side.seat (Added id 0 ∷ Loaded id before ∷ []) s2 s3 (counted_run p.counted) p.stored) p.published
+  put_in_run = one_raise k (Published index) r.side.seat (Stored (entry id x) ∷ Added id 0 ∷ Loaded id before ∷ []) s3 s4
+      (one_raise k (Stored (entry id x)) r.side.seat (Added id 0 ∷ Loaded id before ∷ []) s2 s3 (counted_run p.counted) p.stored)
+      p.published
 
   abbrev at : ℕ → RaiseStep → ThisSeat → ThisSeat
   at place x m = (with_raise_step place x m.0, m.1)
 
-  pub put_in_me : s4.me ≡ at p.published.1.0 (Published index) (at p.stored.1.0 (Stored (entry id x)) (at p.counted.step.1.0 (Added id 0) (at p.counted.below.step.1.0 (Loaded id before) r.side.seat.me)))
-  put_in_me = p.published.1.1 ∙ (ap (at p.published.1.0 (Published index)) p.stored.1.1 ∙ ap (λ (m : ThisSeat). at p.published.1.0 (Published index) (at p.stored.1.0 (Stored (entry id x)) m)) (counted_me p.counted))
+  pub put_in_me : s4.me ≡ at p.published.1.0 (Published index)
+      (at p.stored.1.0 (Stored (entry id x)) (at p.counted.step.1.0 (Added id 0)
+      (at p.counted.below.step.1.0 (Loaded id before) r.side.seat.me)))
+  put_in_me = p.published.1.1 ∙ (ap (at p.published.1.0 (Published index)) p.stored.1.1
+      ∙ ap (λ (m : ThisSeat). at p.published.1.0 (Published index) (at p.stored.1.0 (Stored (entry id x)) m))
+      (counted_me p.counted))
 
-  pub put_in_trail : s4.me.0.raise_trail ≡ Published index ∷ Stored (entry id x) ∷ Added id 0 ∷ Loaded id before ∷ r.side.seat.me.0.raise_trail
+  pub put_in_trail : s4.me.0.raise_trail ≡ Published index ∷ Stored (entry id x) ∷ Added id 0 ∷ Loaded id before
+      ∷ r.side.seat.me.0.raise_trail
   put_in_trail = ap (λ (m : ThisSeat). m.0.raise_trail) put_in_me

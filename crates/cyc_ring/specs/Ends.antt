@@ -57,7 +57,8 @@ end_view e = seat_view e.seat
 
 -- a call at a raise end, with its answer
 abbrev pub RaiseEndCall : RaiseEnd → FiringCall → RaiseEnd → Type 0
-RaiseEndCall e call f = IsSameRaiseSeat e.seat f.seat × MakesRaiseCall e.seat.setting (raiser_view e.seat) call (raiser_view f.seat)
+RaiseEndCall e call f = IsSameRaiseSeat e.seat f.seat
+    × MakesRaiseCall e.seat.setting (raiser_view e.seat) call (raiser_view f.seat)
 
 -- the cyclic in the hand of a drain seat, and its finishes of each id
 abbrev pub seat_hand : DrainSeat → Option ℕ
@@ -75,8 +76,11 @@ end_made e id = seat_made e.seat id
 
 -- a call at a drain end, with its answer
 abbrev pub DrainEndCall : DrainEnd → DrainCall → DrainEnd → Type 0
-DrainEndCall e call f = IsSameDrainSeat e.seat f.seat × MakesDrainCall e.seat.setting (drainer_view e.seat) call (drainer_view f.seat)
+DrainEndCall e call f = IsSameDrainSeat e.seat f.seat
+    × MakesDrainCall e.seat.setting (drainer_view e.seat) call (drainer_view f.seat)
 
--- the trail gained, last, a load of the hard bank that found the soft side's bank, then a load of its producer word that found the consumer index
+-- the trail gained, last, a load of the hard bank that found the soft side's bank, then a load of its producer word that found
+-- the consumer index
 abbrev pub FoundIdle : DrainEnd → DrainEnd → Type 0
-FoundIdle e f = (before steps : List DrainStep) × FoundNone e.seat.setting.start (drain_trail e.seat) before steps × (drain_trail f.seat ≡ steps ++ drain_trail e.seat)
+FoundIdle e f = (before steps : List DrainStep) × FoundNone e.seat.setting.start (drain_trail e.seat) before steps
+    × (drain_trail f.seat ≡ steps ++ drain_trail e.seat)

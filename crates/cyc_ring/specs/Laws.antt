@@ -7,7 +7,8 @@ use Rattle.ring_rule.specs.declared.Setting.{Setting}
 use Rattle.ring_rule.specs.Trail.{open_stay, raises_of, losses_of, ended_calls, made_calls}
 use Rattle.ring_rule.specs.Log.{RingStep, raise_side, drain_side}
 use Rattle.ring_rule.specs.Conservation.{LevelStands}
-use Rattle.cyc_ring.specs.Ends.{raise_trail, end_view, RaiseEndCall, end_made, DrainEndCall, IsSameRaiseSeat, IsSameDrainSeat, FoundIdle}
+use Rattle.cyc_ring.specs.Ends.{raise_trail, end_view, RaiseEndCall, end_made, DrainEndCall, IsSameRaiseSeat, IsSameDrainSeat}
+use Rattle.cyc_ring.specs.Ends.{FoundIdle}
 use Rattle.cyc_ring.specs.declared.ends.RaiseEnd.{RaiseEnd}
 use Rattle.cyc_ring.specs.declared.ends.DrainEnd.{DrainEnd}
 
@@ -25,7 +26,8 @@ DrainWaysAddUp = (e f : DrainEnd) (way : List DrainCall) → DrainGoes DrainEndC
 
 -- the last take of a run answered None because it looked
 abbrev pub IdleIsFound : Type 0
-IdleIsFound = (e before f : DrainEnd) (way : List DrainCall) → DrainGoes DrainEndCall e way before → DrainEndCall before (Takes None) f
+IdleIsFound = (e before f : DrainEnd) (way : List DrainCall) → DrainGoes DrainEndCall e way before
+    → DrainEndCall before (Takes None) f
     → FoundIdle e f
 
 -- while no stay of the id is open, its finishes stay what they were when the last one ended

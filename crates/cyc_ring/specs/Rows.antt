@@ -7,7 +7,8 @@ use Rattle.ring_rule.specs.Trail.{open_stay}
 
 -- the rows of a raise seat, one for each index, hold the open stays. A row with the id 0 is free
 pub record HoldsStays (ids sent lost : List ℕ) (t : List RaiseStep) : Type 0 where
-  pub used : (i : ℕ) → i < cyclics → slice_index ids i ≢ 0 → open_stay (slice_index ids i) t ≡ Some record { index = i; sent = slice_index sent i; lost = slice_index lost i }
+  pub used : (i : ℕ) → i < cyclics → slice_index ids i ≢ 0
+      → open_stay (slice_index ids i) t ≡ Some record { index = i; sent = slice_index sent i; lost = slice_index lost i }
   pub only : (id : ℕ) (s : StayCounts) → open_stay id t ≡ Some s → (s.index < cyclics) × (slice_index ids s.index ≡ id) × (id ≢ 0)
   pub less : (i : ℕ) → i < cyclics → slice_index lost i ≤ slice_index sent i
 

@@ -4,7 +4,8 @@ use Rattle.cyc_types.specs.Firing.{Stay, FiringView}
 use Rattle.cyc_level.specs.Level.{bank_size}
 use Rattle.ring_rule.specs.declared.RaiseStep.{RaiseStep}
 use Rattle.cyc_level.specs.Runs.{StayCounts, stay_calls}
-use Rattle.ring_rule.specs.Trail.{open_stay, ended_calls, raises_of, losses_of, seen_pend, marked_of, firer_hand_of, hard_bank_of, has_followed}
+use Rattle.ring_rule.specs.Trail.{open_stay, ended_calls, raises_of, losses_of, seen_pend, marked_of, firer_hand_of, hard_bank_of}
+use Rattle.ring_rule.specs.Trail.{has_followed}
 
 -- an open stay, with the pend that was seen
 abbrev pub stay_with : ℕ → Option StayCounts → Option Stay

@@ -38,10 +38,18 @@ pub struct Closed {
     drainer: Snapshot<DrainSeat>,
     ghost rows: { HoldsStays stays.value.ids stays.value.sent stays.value.lost raiser.value.side.seat.me.0.raise_trail },
     ghost named: { (i : ℕ) → i < cyclics → slice_index stays.value.ids i ≤ last_id },
-    ghost counted: { (i : ℕ) → i < cyclics → slice_index stays.value.ids i ≢ 0 → slice_index stays.value.lost i + slice_index pends i % mark_bit ≤ slice_index stays.value.sent i },
-    ghost finished: { (i : ℕ) → i < cyclics → slice_index stays.value.ids i ≢ 0 → made_calls (slice_index stays.value.ids i) drainer.value.side.seat.me.0.drain_trail + slice_index stays.value.lost i + slice_index pends i % mark_bit ≡ slice_index stays.value.sent i + ended_calls (slice_index stays.value.ids i) raiser.value.side.seat.me.0.raise_trail },
-    ghost marked: { (i : ℕ) → i < cyclics → slice_index stays.value.ids i ≢ 0 → marked_of raiser.value.side.seat.me.0.raise_trail ≡ Some (slice_index stays.value.ids i) → mark_bit ≤ slice_index pends i },
-    ghost unmarked: { (i : ℕ) → i < cyclics → slice_index stays.value.ids i ≢ 0 → marked_of raiser.value.side.seat.me.0.raise_trail ≢ Some (slice_index stays.value.ids i) → slice_index pends i < mark_bit },
+    ghost counted: { (i : ℕ) → i < cyclics → slice_index stays.value.ids i ≢ 0
+        → slice_index stays.value.lost i + slice_index pends i % mark_bit ≤ slice_index stays.value.sent i },
+    ghost finished: { (i : ℕ) → i < cyclics → slice_index stays.value.ids i ≢ 0
+        → made_calls (slice_index stays.value.ids i) drainer.value.side.seat.me.0.drain_trail + slice_index stays.value.lost i
+        + slice_index pends i % mark_bit ≡ slice_index stays.value.sent i + ended_calls
+        (slice_index stays.value.ids i) raiser.value.side.seat.me.0.raise_trail },
+    ghost marked: { (i : ℕ) → i < cyclics → slice_index stays.value.ids i ≢ 0
+        → marked_of raiser.value.side.seat.me.0.raise_trail ≡ Some (slice_index stays.value.ids i)
+        → mark_bit ≤ slice_index pends i },
+    ghost unmarked: { (i : ℕ) → i < cyclics → slice_index stays.value.ids i ≢ 0
+        → marked_of raiser.value.side.seat.me.0.raise_trail ≢ Some (slice_index stays.value.ids i)
+        → slice_index pends i < mark_bit },
 }
 
 impl Ring {

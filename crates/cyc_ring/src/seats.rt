@@ -4,7 +4,8 @@ ghost use Rattle.std.specs.Prelude.{◌≡◌, ◌≢◌, ℕ, ◌+◌, ◌-◌,
 ghost use Rattle.cyc_types.specs.Limits.{cyclics, greatest_bank};
 ghost use Rattle.cyc_level.specs.Lawful.{IsId};
 ghost use Rattle.ring_rule.specs.Words.{index_range, entry_id};
-ghost use Rattle.ring_rule.specs.Trail.{open_stay, firer_hand_of, hard_bank_of, producer_index, held_entry, consumer_index, soft_bank_of};
+ghost use Rattle.ring_rule.specs.Trail.{open_stay, firer_hand_of, hard_bank_of, producer_index, held_entry, consumer_index};
+ghost use Rattle.ring_rule.specs.Trail.{soft_bank_of};
 ghost use Rattle.cyc_finder.specs.Indexes.{index_of};
 ghost use Rattle.cyc_ring.specs.Rows.{HoldsStays, stay_index, entry_in_hand};
 ghost use Rattle.cyc_ring.specs.Views.{IsSeenSound, IsBalanced};

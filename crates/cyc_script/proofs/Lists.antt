@@ -20,7 +20,8 @@ list_of_items_of (d ∷ ds) = ap (λ xs. d ∷ xs) (list_of_items_of ds)
 pub length_map : (vs : List Value) → length (map view vs) ≡ length vs
 length_map vs = length-map vs view
 
-pub known_keys : (es : List (String Global × Value)) → list_all is_key (keys_of (members_view es)) ≡ list_all (λ k. is_key (string_bytes k)) (map (λ e. e.0) es)
+pub known_keys : (es : List (String Global × Value))
+    → list_all is_key (keys_of (members_view es)) ≡ list_all (λ k. is_key (string_bytes k)) (map (λ e. e.0) es)
 known_keys [] = refl
 known_keys (e ∷ es) = ap (λ b. is_key (string_bytes e.0) && b) (known_keys es)
 

@@ -1,5 +1,6 @@
 -- The numbers of names after one more was introduced.
-use Rattle.std.proofs.Common.{◌≡◌, ℕ, ◌+◌, ◌≤◌, ◌++◌, ◌∷◌, [], List, Bool, true, false, cond, ltb, eqb, length, Some, None, refl, sym, ◌∙◌, subst, arith}
+use Rattle.std.proofs.Common.{◌≡◌, ℕ, ◌+◌, ◌≤◌, ◌++◌, ◌∷◌, [], List, Bool, true, false, cond, ltb, eqb, length, Some, None, refl}
+use Rattle.std.proofs.Common.{sym, ◌∙◌, subst, arith}
 use Rattle.std.specs.Prelude.{bytes_eq, is_some}
 use Rattle.std.specs.List.{position_or_len}
 use Rattle.std.proofs.lemmas.Bool.{false_from_ne_true}
@@ -11,11 +12,15 @@ use Rattle.std.proofs.Math.ListN.{length-append}
 use Rattle.cyc_script.specs.Names.{number_of}
 
 -- where the first passing element of a list stands, once one more is at its end
-at_end : (b : Bool) (a n m : ℕ) → a ≤ n → m ≡ n + 1 → cond (ltb (cond (eqb a n) (n + cond b 0 1) a) m) (Some (cond (eqb a n) (n + cond b 0 1) a)) None ≡ cond (ltb a n) (Some a) (cond b (Some n) None)
+at_end : (b : Bool) (a n m : ℕ) → a ≤ n → m ≡ n + 1
+    → cond (ltb (cond (eqb a n) (n + cond b 0 1) a) m) (Some (cond (eqb a n) (n + cond b 0 1) a)) None
+    ≡ cond (ltb a n) (Some a) (cond b (Some n) None)
 at_end true a n m h e = grind (arith, nat_tests)
 at_end false a n m h e = grind (arith, nat_tests)
 
-number_of_push : (q t : List ℕ) (names : List (List ℕ)) → number_of q (names ++ t ∷ []) ≡ cond (ltb (position_or_len (bytes_eq q) names) (length names)) (Some (position_or_len (bytes_eq q) names)) (cond (bytes_eq q t) (Some (length names)) None)
+number_of_push : (q t : List ℕ) (names : List (List ℕ))
+    → number_of q (names ++ t ∷ []) ≡ cond (ltb (position_or_len (bytes_eq q) names) (length names))
+    (Some (position_or_len (bytes_eq q) names)) (cond (bytes_eq q t) (Some (length names)) None)
 number_of_push q t names =
     let at = position_or_len_push (bytes_eq q) names t in
     let longer : length (names ++ t ∷ []) ≡ length names + 1 = length-append names (t ∷ []) in
@@ -23,18 +28,24 @@ number_of_push q t names =
     rw at (at_end (bytes_eq q t) a (length names) _ (prefix_len-le-length _ names) longer)
 
 -- a name that is known to be new
-is_new : (t : List ℕ) (names : List (List ℕ)) → is_some (number_of t names) ≡ false → ltb (position_or_len (bytes_eq t) names) (length names) ≡ false
-is_new t names none = elim (ltb (position_or_len (bytes_eq t) names) (length names)) as (λ b. is_some (cond b (Some (position_or_len (bytes_eq t) names)) None) ≡ false → b ≡ false) [ true ↦ λ e. e | false ↦ λ _. refl ] none
+is_new : (t : List ℕ) (names : List (List ℕ)) → is_some (number_of t names) ≡ false
+    → ltb (position_or_len (bytes_eq t) names) (length names) ≡ false
+is_new t names none = elim (ltb (position_or_len (bytes_eq t) names) (length names)) as
+    (λ b. is_some (cond b (Some (position_or_len (bytes_eq t) names)) None) ≡ false
+    → b ≡ false) [ true ↦ λ e. e | false ↦ λ _. refl ] none
 
 -- after a new name, each text has the number that it had, and the new name the next one
-pub number_of_introduced : (q t : List ℕ) (names : List (List ℕ)) → is_some (number_of t names) ≡ false → number_of q (names ++ t ∷ []) ≡ cond (bytes_eq t q) (Some (length names)) (number_of q names)
+pub number_of_introduced : (q t : List ℕ) (names : List (List ℕ)) → is_some (number_of t names) ≡ false
+    → number_of q (names ++ t ∷ []) ≡ cond (bytes_eq t q) (Some (length names)) (number_of q names)
 number_of_introduced q t names none = by_test (bytes_eq t q) refl where
   by_test : (b : Bool) → bytes_eq t q ≡ b → number_of q (names ++ t ∷ []) ≡ cond b (Some (length names)) (number_of q names)
   by_test true e =
       let same : t ≡ q = (bytes_eq-Decides t q).0 e in
       let itself : bytes_eq q t ≡ true = (bytes_eq-Decides q t).1 (sym same) in
-      let missing : ltb (position_or_len (bytes_eq q) names) (length names) ≡ false = is_new q names (subst (λ (x : List ℕ). is_some (number_of x names) ≡ false) same none) in
+      let missing : ltb (position_or_len (bytes_eq q) names) (length names) ≡ false =
+      is_new q names (subst (λ (x : List ℕ). is_some (number_of x names) ≡ false) same none) in
       number_of_push q t names ∙ rw (missing, itself) refl
   by_test false e =
-      let other : bytes_eq q t ≡ false = false_from_ne_true _ (λ y. absurd (grind (arith, (bytes_eq-Decides q t).0 y, (bytes_eq-Decides t q).1))) in
+      let other : bytes_eq q t ≡ false = false_from_ne_true _
+      (λ y. absurd (grind (arith, (bytes_eq-Decides q t).0 y, (bytes_eq-Decides t q).1))) in
       number_of_push q t names ∙ rw other refl

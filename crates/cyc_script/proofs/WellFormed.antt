@@ -1,12 +1,15 @@
 -- What a loop over the steps of a script can rest on.
-use Rattle.std.proofs.Common.{◌≡◌, ℕ, ◌+◌, ◌<◌, ◌≤◌, List, [], ◌∷◌, ◌++◌, Bool, true, false, length, drop, get_or, refl, ap, sym, ◌∙◌, arith}
+use Rattle.std.proofs.Common.{◌≡◌, ℕ, ◌+◌, ◌<◌, ◌≤◌, List, [], ◌∷◌, ◌++◌, Bool, true, false, length, drop, get_or, refl, ap, sym}
+use Rattle.std.proofs.Common.{◌∙◌, arith}
 use Rattle.std.specs.Prelude.{◌&&◌, All}
 use Rattle.std.proofs.lemmas.Bool.Decides.{nat_tests}
 use Rattle.std.proofs.lemmas.List.{at_drop_more}
 use Rattle.std.proofs.lemmas.List.Elements.{All-nil, All-cons}
 use Rattle.cyc_script.specs.declared.step.Step.{Step}
-use Rattle.cyc_script.specs.declared.step.Step.TheVariants.{Add, Omni, Bind, Unbind, Reprogram, Remove, Advance, Softint, Juggle, Offline, Online}
-use Rattle.cyc_script.specs.WellFormed.{names_after, names_after_all, name_fits, names_fit, moment_after, moment_after_all, moment_fits, moments_fit, IsWellFormed}
+use Rattle.cyc_script.specs.declared.step.Step.TheVariants.{Add, Omni, Bind, Unbind, Reprogram, Remove, Advance, Softint, Juggle}
+use Rattle.cyc_script.specs.declared.step.Step.TheVariants.{Offline, Online}
+use Rattle.cyc_script.specs.WellFormed.{names_after, names_after_all, name_fits, names_fit, moment_after, moment_after_all}
+use Rattle.cyc_script.specs.WellFormed.{moment_fits, moments_fit, IsWellFormed}
 
 and_first : (a b : Bool) → (a && b) ≡ true → a ≡ true
 and_first true b e = refl
@@ -21,39 +24,55 @@ both a b p q = rw (p, q) refl
 
 -- ---- one step more
 
-pub names_after_all_push : (names : ℕ) (steps : List Step) (step : Step) → names_after_all names (steps ++ step ∷ []) ≡ names_after (names_after_all names steps) step
+pub names_after_all_push : (names : ℕ) (steps : List Step) (step : Step)
+    → names_after_all names (steps ++ step ∷ []) ≡ names_after (names_after_all names steps) step
 names_after_all_push names [] step = refl
 names_after_all_push names (s ∷ steps) step = names_after_all_push (names_after names s) steps step
 
-pub names_fit_push : (names : ℕ) (steps : List Step) (step : Step) → names_fit names steps ≡ true → name_fits (names_after_all names steps) step ≡ true → names_fit names (steps ++ step ∷ []) ≡ true
+pub names_fit_push : (names : ℕ) (steps : List Step) (step : Step) → names_fit names steps ≡ true
+    → name_fits (names_after_all names steps) step ≡ true → names_fit names (steps ++ step ∷ []) ≡ true
 names_fit_push names [] step all one = both _ _ one refl
-names_fit_push names (s ∷ steps) step all one = both _ _ (and_first _ _ all) (names_fit_push (names_after names s) steps step (and_second (name_fits names s) _ all) one)
+names_fit_push names (s ∷ steps) step all one =
+    both _ _ (and_first _ _ all) (names_fit_push (names_after names s) steps step (and_second (name_fits names s) _ all) one)
 
-pub moment_after_all_push : (now : ℕ) (steps : List Step) (step : Step) → moment_after_all now (steps ++ step ∷ []) ≡ moment_after (moment_after_all now steps) step
+pub moment_after_all_push : (now : ℕ) (steps : List Step) (step : Step)
+    → moment_after_all now (steps ++ step ∷ []) ≡ moment_after (moment_after_all now steps) step
 moment_after_all_push now [] step = refl
 moment_after_all_push now (s ∷ steps) step = moment_after_all_push (moment_after now s) steps step
 
-pub moments_fit_push : (now : ℕ) (steps : List Step) (step : Step) → moments_fit now steps ≡ true → moment_fits (moment_after_all now steps) step ≡ true → moments_fit now (steps ++ step ∷ []) ≡ true
+pub moments_fit_push : (now : ℕ) (steps : List Step) (step : Step) → moments_fit now steps ≡ true
+    → moment_fits (moment_after_all now steps) step ≡ true → moments_fit now (steps ++ step ∷ []) ≡ true
 moments_fit_push now [] step all one = both _ _ one refl
-moments_fit_push now (s ∷ steps) step all one = both _ _ (and_first _ _ all) (moments_fit_push (moment_after now s) steps step (and_second (moment_fits now s) _ all) one)
+moments_fit_push now (s ∷ steps) step all one =
+    both _ _ (and_first _ _ all) (moments_fit_push (moment_after now s) steps step (and_second (moment_fits now s) _ all) one)
 
 -- ---- the step at an index, and those after it
 
-pub names_after_all_next : (names : ℕ) (steps : List Step) (i : ℕ) (step : Step) → i < length steps → step ≡ get_or steps i step → names_after_all names (drop i steps) ≡ names_after_all (names_after names step) (drop (i + 1) steps)
-names_after_all_next names steps i step h is = at_drop_more (names_after_all names) steps i step h ∙ ap (λ s. names_after_all (names_after names s) (drop (i + 1) steps)) (sym is)
+pub names_after_all_next : (names : ℕ) (steps : List Step) (i : ℕ) (step : Step) → i < length steps → step ≡ get_or steps i step
+    → names_after_all names (drop i steps) ≡ names_after_all (names_after names step) (drop (i + 1) steps)
+names_after_all_next names steps i step h is = at_drop_more (names_after_all names) steps i step h
+    ∙ ap (λ s. names_after_all (names_after names s) (drop (i + 1) steps)) (sym is)
 
-names_fit_at : (names : ℕ) (steps : List Step) (i : ℕ) (step : Step) → i < length steps → step ≡ get_or steps i step → names_fit names (drop i steps) ≡ (name_fits names step && names_fit (names_after names step) (drop (i + 1) steps))
-names_fit_at names steps i step h is = at_drop_more (names_fit names) steps i step h ∙ ap (λ s. name_fits names s && names_fit (names_after names s) (drop (i + 1) steps)) (sym is)
+names_fit_at : (names : ℕ) (steps : List Step) (i : ℕ) (step : Step) → i < length steps → step ≡ get_or steps i step
+    → names_fit names (drop i steps) ≡ (name_fits names step && names_fit (names_after names step) (drop (i + 1) steps))
+names_fit_at names steps i step h is = at_drop_more (names_fit names) steps i step h
+    ∙ ap (λ s. name_fits names s && names_fit (names_after names s) (drop (i + 1) steps)) (sym is)
 
-pub names_fit_next : (names : ℕ) (steps : List Step) (i : ℕ) (step : Step) → i < length steps → step ≡ get_or steps i step → names_fit names (drop i steps) ≡ true → (name_fits names step ≡ true) × (names_fit (names_after names step) (drop (i + 1) steps) ≡ true)
+pub names_fit_next : (names : ℕ) (steps : List Step) (i : ℕ) (step : Step) → i < length steps → step ≡ get_or steps i step
+    → names_fit names (drop i steps) ≡ true → (name_fits names step ≡ true)
+    × (names_fit (names_after names step) (drop (i + 1) steps) ≡ true)
 names_fit_next names steps i step h is all =
     let here = sym (names_fit_at names steps i step h is) ∙ all in
     (and_first _ _ here, and_second (name_fits names step) _ here)
 
-moments_fit_at : (now : ℕ) (steps : List Step) (i : ℕ) (step : Step) → i < length steps → step ≡ get_or steps i step → moments_fit now (drop i steps) ≡ (moment_fits now step && moments_fit (moment_after now step) (drop (i + 1) steps))
-moments_fit_at now steps i step h is = at_drop_more (moments_fit now) steps i step h ∙ ap (λ s. moment_fits now s && moments_fit (moment_after now s) (drop (i + 1) steps)) (sym is)
+moments_fit_at : (now : ℕ) (steps : List Step) (i : ℕ) (step : Step) → i < length steps → step ≡ get_or steps i step
+    → moments_fit now (drop i steps) ≡ (moment_fits now step && moments_fit (moment_after now step) (drop (i + 1) steps))
+moments_fit_at now steps i step h is = at_drop_more (moments_fit now) steps i step h
+    ∙ ap (λ s. moment_fits now s && moments_fit (moment_after now s) (drop (i + 1) steps)) (sym is)
 
-pub moments_fit_next : (now : ℕ) (steps : List Step) (i : ℕ) (step : Step) → i < length steps → step ≡ get_or steps i step → moments_fit now (drop i steps) ≡ true → (moment_fits now step ≡ true) × (moments_fit (moment_after now step) (drop (i + 1) steps) ≡ true)
+pub moments_fit_next : (now : ℕ) (steps : List Step) (i : ℕ) (step : Step) → i < length steps → step ≡ get_or steps i step
+    → moments_fit now (drop i steps) ≡ true → (moment_fits now step ≡ true)
+    × (moments_fit (moment_after now step) (drop (i + 1) steps) ≡ true)
 moments_fit_next now steps i step h is all =
     let here = sym (moments_fit_at now steps i step h is) ∙ all in
     (and_first _ _ here, and_second (moment_fits now step) _ here)
@@ -89,7 +108,8 @@ names_after_at_least names (Online cpu) = omega arith
 
 pub names_after_all_at_least : (names : ℕ) (steps : List Step) → names ≤ names_after_all names steps
 names_after_all_at_least names [] = omega arith
-names_after_all_at_least names (step ∷ steps) = omega (arith, names_after_at_least names step, names_after_all_at_least (names_after names step) steps)
+names_after_all_at_least names (step ∷ steps) =
+    omega (arith, names_after_at_least names step, names_after_all_at_least (names_after names step) steps)
 
 -- the name of a step, if it has one, is below this number
 abbrev pub NameBelow : ℕ → Step → Type 0
@@ -114,11 +134,13 @@ name_below names all (Juggle cpu) e h = tt
 name_below names all (Offline cpu) e h = tt
 name_below names all (Online cpu) e h = tt
 
-names_below : (names all : ℕ) (steps : List Step) → names_fit names steps ≡ true → names_after_all names steps ≤ all → All (NameBelow all) steps
+names_below : (names all : ℕ) (steps : List Step) → names_fit names steps ≡ true → names_after_all names steps ≤ all
+    → All (NameBelow all) steps
 names_below names all [] e h = All-nil (NameBelow all)
 names_below names all (step ∷ steps) e h =
     let later : names_after names step ≤ all = omega (arith, h, names_after_all_at_least (names_after names step) steps) in
-    All-cons (NameBelow all) step steps (name_below names all step (and_first _ _ e) later) (names_below (names_after names step) all steps (and_second (name_fits names step) _ e) h)
+    All-cons (NameBelow all) step steps (name_below names all step (and_first _ _ e) later)
+    (names_below (names_after names step) all steps (and_second (name_fits names step) _ e) h)
 
 -- each name that a step of a script has is one of the script's names
 pub all_names_below : (steps : List Step) (names : ℕ) → IsWellFormed steps names → All (NameBelow names) steps

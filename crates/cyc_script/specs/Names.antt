@@ -1,5 +1,6 @@
 -- The names that a script's steps introduce, and their numbers (our own format).
-use Rattle.std.specs.Prelude.{ℕ, List, [], ◌∷◌, ◌++◌, length, Option, is_some, ok_or, position, Result, Ok, Err, bytes_eq, if◌then◌else◌}
+use Rattle.std.specs.Prelude.{ℕ, List, [], ◌∷◌, ◌++◌, length, Option, is_some, ok_or, position, Result, Ok, Err, bytes_eq}
+use Rattle.std.specs.Prelude.{if◌then◌else◌}
 use Rattle.cyc_script.specs.declared.cause.Cause.{Cause}
 use Rattle.cyc_script.specs.declared.cause.Cause.TheVariants.{NameTwice, NoName}
 

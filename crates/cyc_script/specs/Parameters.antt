@@ -1,5 +1,6 @@
 -- The parameters of a step, each from its JSON value (our own format).
-use Rattle.std.specs.Prelude.{ℕ, ◌-◌, ◌&&◌, ◌||◌, ◌==◌, ℤ, pos, negsuc, List, length, codes, Bool, Option, Some, None, option_and_then, Result, Ok, Err, nat_le, bytes_eq, if◌then◌else◌}
+use Rattle.std.specs.Prelude.{ℕ, ◌-◌, ◌&&◌, ◌||◌, ◌==◌, ℤ, pos, negsuc, List, length, codes, Bool, Option, Some, None}
+use Rattle.std.specs.Prelude.{option_and_then, Result, Ok, Err, nat_le, bytes_eq, if◌then◌else◌}
 use Rattle.std.specs.List.{list_all}
 use Rattle.serde_json.specs.Data.{Data}
 use Rattle.serde_json.specs.Find.{as_number, as_i64, as_str}
@@ -52,7 +53,8 @@ unsigned_of d = shaped (number_in 4294967295 d)
 
 -- an ASCII letter, an ASCII digit, `_` or `-`
 unfoldable pub is_name_byte : ℕ → Bool
-is_name_byte b = (nat_le 97 b && nat_le b 122) || (nat_le 65 b && nat_le b 90) || (nat_le 48 b && nat_le b 57) || (b == 95) || (b == 45)
+is_name_byte b = (nat_le 97 b && nat_le b 122) || (nat_le 65 b && nat_le b 90) || (nat_le 48 b && nat_le b 57) || (b == 95) ||
+    (b == 45)
 
 -- a name has 1 to 32 such bytes
 abbrev pub is_name : List ℕ → Bool
@@ -70,7 +72,8 @@ name_of d = shaped (option_and_then name_in (as_str d))
 
 -- the level of a word
 abbrev pub level_in : List ℕ → Option Level
-level_in word = if bytes_eq word (codes "low") then Some level.Low else if bytes_eq word (codes "lock") then Some level.Lock else if bytes_eq word (codes "high") then Some level.High else None
+level_in word = if bytes_eq word (codes "low") then Some level.Low else if bytes_eq word (codes "lock") then Some level.Lock
+    else if bytes_eq word (codes "high") then Some level.High else None
 
 -- the level of a cyclic
 abbrev pub level_of : Data → Result Level Cause
@@ -78,7 +81,8 @@ level_of d = shaped (option_and_then level_in (as_str d))
 
 -- the soft level of a word
 abbrev pub soft_in : List ℕ → Option Soft
-soft_in word = if bytes_eq word (codes "low") then Some soft.Low else if bytes_eq word (codes "lock") then Some soft.Lock else None
+soft_in word = if bytes_eq word (codes "low") then Some soft.Low else if bytes_eq word (codes "lock") then Some soft.Lock
+    else None
 
 -- the level of a soft interrupt
 abbrev pub soft_of : Data → Result Soft Cause

@@ -1,5 +1,6 @@
 -- What a script is, as a function of its bytes, and the first refusal where they are none (our own format).
-use Rattle.std.specs.Prelude.{ℕ, ◌||◌, ◌==◌, List, [], ◌∷◌, length, map, codes, Bool, false, Option, Some, None, option_and_then, Result, Ok, Err, nat_lt, nat_le, bytes_eq, string_bytes, if◌then◌else◌}
+use Rattle.std.specs.Prelude.{ℕ, ◌||◌, ◌==◌, List, [], ◌∷◌, length, map, codes, Bool, false, Option, Some, None, option_and_then}
+use Rattle.std.specs.Prelude.{Result, Ok, Err, nat_lt, nat_le, bytes_eq, string_bytes, if◌then◌else◌}
 use Rattle.std.specs.List.{list_all}
 use Rattle.std.specs.Option.{option_map_or}
 use Rattle.std.specs.Str.Lossy.{utf8_valid_len}

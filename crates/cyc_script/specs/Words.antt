@@ -5,7 +5,8 @@ use Rattle.serde_json.specs.Find.{as_str, as_array}
 use Rattle.cyc_script.specs.declared.cause.Cause.{Cause}
 use Rattle.cyc_script.specs.declared.cause.Cause.TheVariants.{Shape}
 use Rattle.cyc_script.specs.declared.step.Step.{Step}
-use Rattle.cyc_script.specs.declared.step.Step.TheVariants.{Add, Omni, Bind, Unbind, Reprogram, Remove, Softint, Juggle, Offline, Online}
+use Rattle.cyc_script.specs.declared.step.Step.TheVariants.{Add, Omni, Bind, Unbind, Reprogram, Remove, Softint, Juggle, Offline}
+use Rattle.cyc_script.specs.declared.step.Step.TheVariants.{Online}
 use Rattle.cyc_script.specs.Parameters.{shaped, name_of, level_of, soft_of, whole_of, moment_of, skew_of, unsigned_of}
 
 -- a step whose name is still a text, and so a function of the name's number: it introduces a new name, refers to one that was

@@ -26,7 +26,8 @@ impl<'a> Model for Names<'a> {
 
     ghost view = { λ a. map string_bytes a.texts.items };
 
-    ghost invariant = { λ a. (q : List ℕ) → get_by (λ k. slice_cmp nat_cmp q k.now) a.numbers ≡ number_of q (map string_bytes a.texts.items) };
+    ghost invariant = { λ a. (q : List ℕ) → get_by (λ k. slice_cmp nat_cmp q k.now) a.numbers
+        ≡ number_of q (map string_bytes a.texts.items) };
 }
 
 impl<'a> Names<'a> {

@@ -4,7 +4,8 @@ ghost use Rattle.std.specs.Prelude.{◌≡◌, map, option_map, ℕ, ◌≤◌, 
 ghost use Rattle.std.specs.List.{list_all};
 ghost use Rattle.serde_json.specs.View.{view};
 ghost use Rattle.cyc_script.specs.Answers.{Gives};
-ghost use Rattle.cyc_script.specs.Parameters.{number_in, whole_of, moment_of, skew_of, unsigned_of, is_name_byte, is_name, name_of, level_of, soft_of};
+ghost use Rattle.cyc_script.specs.Parameters.{number_in, whole_of, moment_of, skew_of, unsigned_of, is_name_byte, is_name};
+ghost use Rattle.cyc_script.specs.Parameters.{name_of, level_of, soft_of};
 
 use crate::cause::Cause;
 use cyc_types::{Level, Moment, Soft};

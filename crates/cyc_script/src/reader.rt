@@ -7,7 +7,8 @@ ghost use Rattle.serde_json.specs.View.{view};
 ghost use Rattle.cyc_script.specs.Answers.{Answers};
 ghost use Rattle.cyc_script.specs.WellFormed.{IsWellFormed};
 ghost use Rattle.cyc_script.specs.Limits.{most_cpus, most_steps};
-ghost use Rattle.cyc_script.specs.Script.{content, number_between, cpus_in, cpus_of, ceiling_of, within_limit, values_of, is_key, has_keys, content_of, json_of, script_of};
+ghost use Rattle.cyc_script.specs.Script.{content, number_between, cpus_in, cpus_of, ceiling_of, within_limit, values_of, is_key};
+ghost use Rattle.cyc_script.specs.Script.{has_keys, content_of, json_of, script_of};
 ghost use Rattle.cyc_script.specs.Steps.{first_context, steps_of};
 
 use crate::context::Context;

@@ -4,7 +4,8 @@ ghost use Rattle.std.specs.Prelude.{◌≡◌, ℕ, ◌<◌, ◌^◌, length, ma
 ghost use Rattle.serde_json.specs.View.{view};
 ghost use Rattle.cyc_script.specs.Answers.{Gives};
 ghost use Rattle.cyc_script.specs.Steps.{Fits, Reads, step_of};
-ghost use Rattle.cyc_script.specs.Words.{add_of, omni_of, bind_of, unbind_of, reprogram_of, remove_of, advance_of, softint_of, only_cpu, form_of, form_of_items};
+ghost use Rattle.cyc_script.specs.Words.{add_of, omni_of, bind_of, unbind_of, reprogram_of, remove_of, advance_of, softint_of};
+ghost use Rattle.cyc_script.specs.Words.{only_cpu, form_of, form_of_items};
 
 use crate::cause::Cause;
 use crate::context::Context;

@@ -70,7 +70,8 @@ pub keeps : (s : State) (m : Machine) (w : SystemView Tables) → Holds s m → 
 keeps s m w h system most room = record { system = system; most = most_kept m.system.cpus w.cpus most h.most; room = room }
 
 -- what the definition comes to, where the step calls no handler
-pub done_comes : (x : Step) (s : State) (m n : Machine) → Holds s m → Keeps n.system → (done : IsDone x s n.system) → n.clock ≡ m.clock
+pub done_comes : (x : Step) (s : State) (m n : Machine) → Holds s m → Keeps n.system → (done : IsDone x s n.system)
+    → n.clock ≡ m.clock
     → n.tally ≡ m.tally → Leaves x s n
     → ((texts : List (List ℕ)) (indexes : ℕ → ℕ) (step : ℕ) → Remembers (does plain texts indexes step x s).state n)
     → (texts : List (List ℕ)) (indexes : ℕ → ℕ) (step : ℕ) → Gives indexes s.admissions done.given
@@ -101,7 +102,8 @@ done_comes x s m n h kept done clock tally leaves remembers texts indexes step g
 -- a step that calls no handler
 pub accepts : (x : Step) (s : State) (m n : Machine) → Holds s m → Keeps n.system → IsDone x s n.system → n.clock ≡ m.clock
     → n.tally ≡ m.tally → Leaves x s n
-    → ((texts : List (List ℕ)) (indexes : ℕ → ℕ) (step : ℕ) → Remembers (does plain texts indexes step x s).state n) → Accepts x s n
+    → ((texts : List (List ℕ)) (indexes : ℕ → ℕ) (step : ℕ) → Remembers (does plain texts indexes step x s).state n)
+    → Accepts x s n
 accepts x s m n h kept done clock tally leaves remembers = record {
   accepted = done.accepted;
   given = done.given;
@@ -143,7 +145,8 @@ answered step x (Err e) s m n r is h kept accepted refused clock tally same leav
     let why = refused e refl in (why.0, refuses s m n h kept why.1 clock tally same)
 
 -- one whose line tells more
-pub lasts_with : (line : ℕ → List ℕ) (step : ℕ) (x : Step) (s : State) (m n : Machine) → IsReached step s → IsLasting x → Holds s m
+pub lasts_with : (line : ℕ → List ℕ) (step : ℕ) (x : Step) (s : State) (m n : Machine) → IsReached step s → IsLasting x
+    → Holds s m
     → Keeps n.system → IsDoneWith line x s n.system → n.clock ≡ m.clock → n.tally ≡ m.tally → SameNames m n → Leaves x s n
     → AcceptsWith line x s n
 lasts_with line step x s m n r is h kept told clock tally same leaves = record {

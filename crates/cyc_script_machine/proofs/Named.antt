@@ -1,5 +1,6 @@
 -- The id of a name.
-use Rattle.std.proofs.Common.{◌≡◌, ℕ, ◌==◌, ne_eqb, true, cond, List, [], ◌∷◌, find, Option, Some, None, refl, ap, sym, ◌∙◌, subst, arith}
+use Rattle.std.proofs.Common.{◌≡◌, ℕ, ◌==◌, ne_eqb, true, cond, List, [], ◌∷◌, find, Option, Some, None, refl, ap, sym, ◌∙◌}
+use Rattle.std.proofs.Common.{subst, arith}
 use Rattle.std.specs.Prelude.{not, is_some, ◌||◌, slice_index_or}
 use Rattle.std.specs.Option.{option_map}
 use Rattle.std.proofs.Math.ListN.{get_or-map}

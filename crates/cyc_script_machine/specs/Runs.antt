@@ -1,4 +1,5 @@
--- What the steps of a script did to the machine: they are a run of the definition, with the indexes that the machine's cyclics got.
+-- What the steps of a script did to the machine: they are a run of the definition, with the indexes that the machine's cyclics
+-- got.
 use Rattle.std.specs.Prelude.{◌≡◌, ℕ, ◌<◌, List, length, slice_index_or}
 use Rattle.cyc_types.specs.declared.level.Soft.{Soft}
 use Rattle.cyc_script.specs.declared.step.Step.{Step}
@@ -19,4 +20,5 @@ pub record Runs (cpus ceiling : ℕ) (texts : List (List ℕ)) (steps : List Ste
   pub holds : Holds (run_on (listed given) cpus ceiling texts steps).state m
   pub admissions : (run_on (listed given) cpus ceiling texts steps).state.admissions ≡ length given
   pub free : (n : ℕ) → n < cpus → (soft : Soft) → AllCanBeAdmitted
-      (events_at n soft (run_on (listed given) cpus ceiling texts steps).acts) (level_on n soft (start cpus ceiling (length texts)))
+      (events_at n soft (run_on (listed given) cpus ceiling texts steps).acts)
+      (level_on n soft (start cpus ceiling (length texts)))

@@ -69,7 +69,8 @@ fn reserve_each(hards: &mut Vec<Hard<LevelCore>>) -> Result<(), Refusal>
 /// The system with that memory: from here on no cyclic that comes to a CPU is refused for want of memory there.
 fn with_room(system: System<LevelCore>) -> Result<System<LevelCore>, Refusal>
     requires empty { All IsEmpty system.cpus.cpus }
-    ensures cpus { IfOk result (λ wide. EachTwo HasReserved system.cpus.cpus wide.cpus.cpus × (wide.cpus.online ≡ system.cpus.online)) }
+    ensures cpus { IfOk result (λ wide. EachTwo HasReserved system.cpus.cpus wide.cpus.cpus
+        × (wide.cpus.online ≡ system.cpus.online)) }
     ensures rest { IfOk result (λ wide. (wide.records ≡ system.records) × (wide.last ≡ system.last)) }
     ensures err { IfErr result (λ refusal. refusal ≡ Memory) }
 {

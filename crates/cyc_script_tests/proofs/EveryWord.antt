@@ -6,7 +6,8 @@ use Rattle.cyc_types.specs.declared.level.Level.TheVariants as level
 use Rattle.cyc_types.specs.declared.level.Soft.TheVariants as soft
 use Rattle.cyc_script.specs.declared.step.Step.TheVariants.{Add, Omni, Bind, Unbind, Reprogram, Remove, Softint, Juggle, Offline}
 use Rattle.cyc_script.specs.Parameters.{is_name_byte}
-use Rattle.cyc_script.specs.Words.{introduces, refers, advances, nameless, form_of, add_of, omni_of, bind_of, unbind_of, reprogram_of, remove_of, advance_of, softint_of, only_cpu}
+use Rattle.cyc_script.specs.Words.{introduces, refers, advances, nameless, form_of, add_of, omni_of, bind_of, unbind_of}
+use Rattle.cyc_script.specs.Words.{reprogram_of, remove_of, advance_of, softint_of, only_cpu}
 
 -- what unfolds to compute a form
 unfoldable on_words : ⊤
@@ -22,11 +23,20 @@ low = string (codes "low")
 abbrev n : ℕ → Data
 n k = number (unsigned k)
 
-add : form_of (codes "add") (a ∷ low ∷ n 5 ∷ n 10 ∷ []) ≡ Ok (introduces (codes "a") (λ k. Add (record { name = k; level = level.Low; start = pos 5; interval = pos 10 })))
+add : form_of (codes "add") (a ∷ low ∷ n 5 ∷ n 10 ∷ [])
+    ≡ Ok (introduces (codes "a") (λ k. Add (record { name = k; level = level.Low; start = pos 5; interval = pos 10 })))
 unfolding on_words
 add = refl
 
-omni : form_of (codes "omni") (a ∷ low ∷ n 5 ∷ n 10 ∷ n 9223372036854775807 ∷ []) ≡ Ok (introduces (codes "a") (λ k. Omni (record { name = k; level = level.Low; start = pos 5; interval = pos 10; skew = 9223372036854775807 })))
+omni : form_of (codes "omni") (a ∷ low ∷ n 5 ∷ n 10 ∷ n 9223372036854775807 ∷ [])
+    ≡ Ok (introduces (codes "a") (λ k. Omni (record {
+      name = k;
+      level = level.Low;
+      start = pos 5;
+      interval = pos 10;
+      skew =
+          9223372036854775807;
+    })))
 unfolding on_words
 omni = refl
 
@@ -34,7 +44,8 @@ omni_with_a_negative_skew : is_ok (form_of (codes "omni") (a ∷ low ∷ n 5 ∷
 unfolding on_words
 omni_with_a_negative_skew = refl
 
-bind : form_of (codes "bind") (a ∷ n 4294967295 ∷ []) ≡ Ok (refers (codes "a") (λ k. Bind (record { name = k; cpu = 4294967295 })))
+bind : form_of (codes "bind") (a ∷ n 4294967295 ∷ [])
+    ≡ Ok (refers (codes "a") (λ k. Bind (record { name = k; cpu = 4294967295 })))
 unfolding on_words
 bind = refl
 
@@ -42,11 +53,13 @@ unbind : form_of (codes "unbind") (a ∷ []) ≡ Ok (refers (codes "a") Unbind)
 unfolding on_words
 unbind = refl
 
-reprogram : form_of (codes "reprogram") (a ∷ number (negative (negsuc 6)) ∷ []) ≡ Ok (refers (codes "a") (λ k. Reprogram (record { name = k; moment = negsuc 6; cpu = None })))
+reprogram : form_of (codes "reprogram") (a ∷ number (negative (negsuc 6)) ∷ [])
+    ≡ Ok (refers (codes "a") (λ k. Reprogram (record { name = k; moment = negsuc 6; cpu = None })))
 unfolding on_words
 reprogram = refl
 
-reprogram_on_a_cpu : form_of (codes "reprogram") (a ∷ n 50 ∷ n 1 ∷ []) ≡ Ok (refers (codes "a") (λ k. Reprogram (record { name = k; moment = pos 50; cpu = Some 1 })))
+reprogram_on_a_cpu : form_of (codes "reprogram") (a ∷ n 50 ∷ n 1 ∷ [])
+    ≡ Ok (refers (codes "a") (λ k. Reprogram (record { name = k; moment = pos 50; cpu = Some 1 })))
 unfolding on_words
 reprogram_on_a_cpu = refl
 
@@ -58,7 +71,8 @@ advance : form_of (codes "advance") (n 9223372036854775806 ∷ []) ≡ Ok (advan
 unfolding on_words
 advance = refl
 
-softint : form_of (codes "softint") (n 0 ∷ low ∷ n 4294967295 ∷ []) ≡ Ok (nameless (Softint (record { cpu = 0; level = soft.Low; budget = 4294967295 })))
+softint : form_of (codes "softint") (n 0 ∷ low ∷ n 4294967295 ∷ [])
+    ≡ Ok (nameless (Softint (record { cpu = 0; level = soft.Low; budget = 4294967295 })))
 unfolding on_words
 softint = refl
 

@@ -15,14 +15,32 @@ use Rattle.cyc_script.specs.Words.{form_of_value, form_of_items, form_of, add_of
 
 -- what unfolds to compute a script
 unfoldable on_literals : ⊤
-unfolding serde_json_on_literals utf8_valid_len is_utf8 chars script_of json_of content_of has_keys is_key cpus_of ceiling_of values_of steps_of step_of form_of_value form_of_items form_of add_of advance_of softint_of is_name_byte
+unfolding serde_json_on_literals utf8_valid_len is_utf8 chars script_of json_of content_of has_keys is_key cpus_of ceiling_of
+    values_of steps_of step_of form_of_value form_of_items form_of add_of advance_of softint_of is_name_byte
 on_literals = tt
 
-first_script : script_of (codes "{\"cpus\":1,\"steps\":[[\"add\",\"a\",\"low\",5,10],[\"advance\",5],[\"softint\",0,\"low\",8]]}") ≡ Ok (record { cpus = 1; ceiling = 4294967295; names = codes "a" ∷ []; steps = Add (record { name = 0; level = level.Low; start = pos 5; interval = pos 10 }) ∷ Advance 5 ∷ Softint (record { cpu = 0; level = soft.Low; budget = 8 }) ∷ [] })
+first_script : script_of (codes "{\"cpus\":1,\"steps\":[[\"add\",\"a\",\"low\",5,10],[\"advance\",5],[\"softint\",0,\"low\",8]]}")
+    ≡ Ok (record {
+      cpus = 1;
+      ceiling = 4294967295;
+      names = codes "a" ∷ [];
+      steps =
+          Add (record { name = 0; level = level.Low; start = pos 5; interval = pos 10 }) ∷ Advance 5 ∷ Softint
+          (record { cpu = 0; level = soft.Low; budget = 8 }) ∷ [];
+    })
 unfolding on_literals
 first_script = refl
 
-ceiling_script : script_of (codes "{\"cpus\":1,\"ceiling\":2,\"steps\":[[\"add\",\"a\",\"low\",1,1],[\"advance\",5],[\"softint\",0,\"low\",8]]}") ≡ Ok (record { cpus = 1; ceiling = 2; names = codes "a" ∷ []; steps = Add (record { name = 0; level = level.Low; start = pos 1; interval = pos 1 }) ∷ Advance 5 ∷ Softint (record { cpu = 0; level = soft.Low; budget = 8 }) ∷ [] })
+ceiling_script : script_of
+    (codes "{\"cpus\":1,\"ceiling\":2,\"steps\":[[\"add\",\"a\",\"low\",1,1],[\"advance\",5],[\"softint\",0,\"low\",8]]}")
+    ≡ Ok (record {
+      cpus = 1;
+      ceiling = 2;
+      names = codes "a" ∷ [];
+      steps =
+          Add (record { name = 0; level = level.Low; start = pos 1; interval = pos 1 }) ∷ Advance 5 ∷ Softint
+          (record { cpu = 0; level = soft.Low; budget = 8 }) ∷ [];
+    })
 unfolding on_literals
 ceiling_script = refl
 
@@ -38,7 +56,8 @@ back_in_time : script_of (codes "{\"cpus\":1,\"steps\":[[\"advance\",5],[\"advan
 unfolding on_literals
 back_in_time = refl
 
-the_same_name_twice : script_of (codes "{\"cpus\":1,\"steps\":[[\"add\",\"a\",\"low\",1,1],[\"add\",\"a\",\"low\",1,1]]}") ≡ Err (NameTwice 2)
+the_same_name_twice : script_of (codes "{\"cpus\":1,\"steps\":[[\"add\",\"a\",\"low\",1,1],[\"add\",\"a\",\"low\",1,1]]}")
+    ≡ Err (NameTwice 2)
 unfolding on_literals
 the_same_name_twice = refl
 

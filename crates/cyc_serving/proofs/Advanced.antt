@@ -45,7 +45,8 @@ begins step now s m few r h before fired = record {
   called = h.called;
   system = h.system;
   names = h.names;
-  remembers = remembers_on s s m (record m { clock = now }) h.remembers (record { names = refl; counted = refl; named = refl }) (omega arith)
+  remembers = remembers_on s s m (record m { clock = now }) h.remembers (record { names = refl; counted = refl; named = refl })
+      (omega arith)
       (λ id low gone. gone) (λ id low gone. refl);
   tally = h.tally;
   most = h.most;
@@ -76,7 +77,8 @@ advanced step k n expired lost now s first t a clock before d =
             let told = called_done [] (λ j. j) k (Advance now) s id (in_time now before) in
             omega (arith, now_called, was, told);
         names = still.names ∙ a.names;
-        remembers = remembers_does [] (λ j. j) k (Advance now) s t t tt (reached_good step s a.reached) (in_time now before) a.remembers
+        remembers = remembers_does [] (λ j. j) k (Advance now) s t t tt (reached_good step s a.reached)
+            (in_time now before) a.remembers
             (record { names = refl; counted = refl; named = refl }) (let last = still.last in omega (arith, last));
         tally = a.tally;
         most = a.most;
@@ -91,6 +93,8 @@ pub advance_taken : (texts : List (List ℕ)) (step now : ℕ) (line : List ℕ)
     → line ≡ (advance step now s).line → Comes [] s (advance step now s) t → Takes texts step (Advance now) line s t
 advance_taken texts step now line s t before same comes = record {
   given = [];
-  line_is = λ indexes gives. same ∙ ap (λ (o : Outcome). o.line) (sym (word_done texts indexes step (Advance now) s (in_time now before)));
-  comes = λ indexes gives. subst (λ o. Comes [] s o t) (sym (word_done texts indexes step (Advance now) s (in_time now before))) comes;
+  line_is = λ indexes gives. same ∙ ap (λ (o : Outcome). o.line)
+      (sym (word_done texts indexes step (Advance now) s (in_time now before)));
+  comes = λ indexes gives. subst (λ o. Comes [] s o t) (sym (word_done texts indexes step (Advance now) s (in_time now before)))
+      comes;
 }

@@ -1,5 +1,6 @@
 -- Which removals are open on the CPUs of a system.
-use Rattle.std.proofs.Common.{◌≡◌, ℕ, zero, suc, ◌+◌, ◌-◌, ◌^◌, ◌<◌, ◌≤◌, eq-eqb, ne_eqb, inl, inr, ◌⊎◌, ⊎_elim, Bool, true, false, List, [], ◌∷◌, length, map, min, Option, Some, None, refl, ap, sym, ◌∙◌, subst, arith}
+use Rattle.std.proofs.Common.{◌≡◌, ℕ, zero, suc, ◌+◌, ◌-◌, ◌^◌, ◌<◌, ◌≤◌, eq-eqb, ne_eqb, inl, inr, ◌⊎◌, ⊎_elim, Bool, true}
+use Rattle.std.proofs.Common.{false, List, [], ◌∷◌, length, map, min, Option, Some, None, refl, ap, sym, ◌∙◌, subst, arith}
 use Rattle.std.specs.Prelude.{IfNone, IfSome, IsSome, IsTrue, ◌↔◌, ◌||◌, not, Err}
 use Rattle.std.specs.Option.{option_and_then}
 use Rattle.std.specs.List.{slice_get, list_any}
@@ -18,10 +19,12 @@ use Rattle.cyc_script_machine.specs.Calls.{Changes, PollRemove}
 use Rattle.cyc_model.specs.Refusals.{when, or_else}
 
 -- a CPU with an open removal is there
-pub cpu_there : (n id : ℕ) (cpus : List (CpuView Tables)) → option_and_then (λ (c : CpuView Tables). c.removal) (slice_get cpus n) ≡ Some id → n < length cpus
+pub cpu_there : (n id : ℕ) (cpus : List (CpuView Tables))
+    → option_and_then (λ (c : CpuView Tables). c.removal) (slice_get cpus n) ≡ Some id → n < length cpus
 cpu_there n id cpus is = by (slice_get cpus n) refl is
   where
-    by : (o : Option (CpuView Tables)) → slice_get cpus n ≡ o → option_and_then (λ (c : CpuView Tables). c.removal) o ≡ Some id → n < length cpus
+    by : (o : Option (CpuView Tables)) → slice_get cpus n ≡ o → option_and_then (λ (c : CpuView Tables). c.removal) o ≡ Some id
+        → n < length cpus
     by None e h = absurd (none_some h)
     by (Some x) e h = slice_get_within cpus n x e
 
@@ -44,7 +47,8 @@ same_or_below n cpu h = grind (arith)
 
 pub one_cpu_more : (above cpu least own : ℕ) (v : CpusView Tables) → LeastBelow above cpu least v
     → (own < 2 ^ 64 - 1 → (removal_on cpu v ≡ Some own) × (above < own) × (own ≤ last_id))
-    → ((id : ℕ) → removal_on cpu v ≡ Some id → above < id → (own ≤ id) × (own ≤ last_id)) → LeastBelow above (cpu + 1) (min least own) v
+    → ((id : ℕ) → removal_on cpu v ≡ Some id → above < id → (own ≤ id) × (own ≤ last_id))
+    → LeastBelow above (cpu + 1) (min least own) v
 one_cpu_more above cpu least own v l here smaller = ⊎_elim
     (λ h. subst (λ k. LeastBelow above (cpu + 1) k v) (sym (min_left least own h)) (record {
       here = l.here;
@@ -62,11 +66,16 @@ one_cpu_more above cpu least own v l here smaller = ⊎_elim
 
 -- before the first CPU, and after the last
 pub none_below : (above : ℕ) (v : CpusView Tables) → LeastBelow above 0 (2 ^ 64 - 1) v
-none_below above v = record { here = λ less. absurd (omega (arith, less)); below = λ n id low is far. absurd (omega (arith, low)) }
+none_below above v = record {
+  here = λ less. absurd (omega (arith, less));
+  below =
+      λ n id low is far. absurd (omega (arith, low));
+}
 
 pub all_below : (above cpu least : ℕ) (v : CpusView Tables) → length v.cpus ≤ cpu → LeastBelow above cpu least v
     → (n id : ℕ) → removal_on n v ≡ Some id → above < id → (least ≤ id) × (least ≤ last_id)
-all_below above cpu least v all l n id is far = let low = cpu_there n id v.cpus is in l.below n id (omega (arith, low, all)) is far
+all_below above cpu least v all l n id is far = let low = cpu_there n id v.cpus is in
+    l.below n id (omega (arith, low, all)) is far
 
 -- the id of that number
 abbrev no_id : Option ℕ
@@ -82,21 +91,28 @@ module _ (above least : ℕ) (v : CpusView Tables)
   least_some n id is far =
       let b = (smallest n id is far).1 in let x = here (omega (arith, b)) in let a = x.1 in (omega (arith, a), b)
 
-  pub next_none : (o : Option ℕ) → IsSome o ↔ ((0 < least) × (least ≤ last_id)) → IfNone o ((n id : ℕ) → above < id → removal_on n v ≡ Some id → ⊥)
+  pub next_none : (o : Option ℕ) → IsSome o ↔ ((0 < least) × (least ≤ last_id))
+      → IfNone o ((n id : ℕ) → above < id → removal_on n v ≡ Some id → ⊥)
   next_none None valid = λ n id far is. no_some (valid.1 (least_some n id is far))
   next_none (Some id) valid = tt
 
   pub next_some : (o : Option ℕ) → IsSome o ↔ ((0 < least) × (least ≤ last_id)) → IfSome o (λ id. id ≡ least)
-      → IfSome o (λ next. (above < next) × ((n : ℕ) × (removal_on n v ≡ Some next)) × ((n id : ℕ) → above < id → removal_on n v ≡ Some id → next ≤ id))
+      → IfSome o (λ next. (above < next) × ((n : ℕ) × (removal_on n v ≡ Some next))
+      × ((n id : ℕ) → above < id → removal_on n v ≡ Some id → next ≤ id))
   next_some None valid is = tt
   next_some (Some next) valid is =
       let low = (valid.0 refl).1 in
-      let x = here (omega (arith, low)) in let far = x.1 in
-      (omega (arith, far, is), (x.0.0, x.0.1 ∙ ap Some (sym is)), λ n id above_it at. let a = (smallest n id at above_it).0 in omega (arith, a, is))
+      let x = here (omega (arith, low)) in let far = x.1 in (
+        omega (arith, far, is),
+        (x.0.0, x.0.1 ∙ ap Some (sym is)),
+        λ n id above_it at. let a = (smallest n id at above_it).0 in
+            omega (arith, a, is),
+      )
 
 -- ---- a poll of an open removal is not refused
 
-leaving_at : (id n : ℕ) (cpus : List (CpuView Tables)) → option_and_then (λ (c : CpuView Tables). c.removal) (slice_get cpus n) ≡ Some id
+leaving_at : (id n : ℕ) (cpus : List (CpuView Tables))
+    → option_and_then (λ (c : CpuView Tables). c.removal) (slice_get cpus n) ≡ Some id
     → list_any (is_leaving_here id) cpus ≡ true
 leaving_at id n [] is = absurd (none_some is)
 leaving_at id zero (c ∷ cpus) is = ap (λ b. b || list_any (is_leaving_here id) cpus) (leaving_is id c is)

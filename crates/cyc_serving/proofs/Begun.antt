@@ -1,5 +1,6 @@
 -- The beginning of a removal by the machine is that of the definition.
-use Rattle.std.proofs.Common.{◌≡◌, ◌≢◌, ℕ, zero, suc, true, ◌+◌, ◌++◌, append_assoc, length, inl, inr, arith, List, ◌∷◌, map, Some, ap, sym, ◌∙◌, [], subst, refl, None}
+use Rattle.std.proofs.Common.{◌≡◌, ◌≢◌, ℕ, zero, suc, true, ◌+◌, ◌++◌, append_assoc, length, inl, inr, arith, List, ◌∷◌, map}
+use Rattle.std.proofs.Common.{Some, ap, sym, ◌∙◌, [], subst, refl, None}
 use Rattle.std.proofs.lemmas.List.{length-append}
 use Rattle.std.specs.Prelude.{replicate, slice_set, Result, Ok, Err, IfOk}
 use Rattle.cyc_types.specs.declared.receipt.Receipt.{Receipt}
@@ -75,7 +76,8 @@ gives_more front [] k is = tt
 gives_more front (x ∷ more) k is =
     let long = length-append front (x ∷ []) in (
       ap (listed (front ++ x ∷ more)) is ∙ at_length front x more,
-      subst (λ xs. Gives (listed xs) (k + 1) more) (append_assoc front (x ∷ []) more) (gives_more (front ++ x ∷ []) more (k + 1) (omega (arith, long, is))),
+      subst (λ xs. Gives (listed xs) (k + 1) more) (append_assoc front (x ∷ []) more)
+          (gives_more (front ++ x ∷ []) more (k + 1) (omega (arith, long, is))),
     )
 
 blanks : ℕ → List ℕ
@@ -88,50 +90,66 @@ as_many (suc n) = ap suc (as_many n)
 
 -- ---- the machine after it
 
-module _ (name id : ℕ) (s : State) (m n : Machine) (g : Good s) (h : Holds s m) (kept : Keeps n.system) (clock : n.clock ≡ m.clock)
-    (tally : n.tally ≡ m.tally) (at : id_at m.names.items name ≡ Some id) (is_id : id_of name s ≡ id) (names : n.names.items ≡ m.names.items)
+module _ (name id : ℕ) (s : State) (m n : Machine) (g : Good s) (h : Holds s m) (kept : Keeps n.system)
+    (clock : n.clock ≡ m.clock)
+    (tally : n.tally ≡ m.tally) (at : id_at m.names.items name ≡ Some id) (is_id : id_of name s ≡ id)
+    (names : n.names.items ≡ m.names.items)
     (named : n.named.items ≡ m.named.items) where
   leaves : Leaves (Remove name) s n
   leaves = record {
     clock = λ texts indexes step. (still_remove step (text_in texts name) name s).clock;
-    names = λ texts indexes step. (still_remove step (text_in texts name) name s).names ∙ h.names ∙ sym (ap (map id_number) names);
+    names = λ texts indexes step. (still_remove step (text_in texts name) name s).names ∙ h.names
+        ∙ sym (ap (map id_number) names);
     last = λ texts indexes step. let last = (still_remove step (text_in texts name) name s).last in omega (arith, last);
   }
 
-  others_known : (texts : List (List ℕ)) (step j : ℕ) → j ≢ id → is_unknown j (remove plain step (text_in texts name) name s).state ≡ true → is_unknown j s ≡ true
+  others_known : (texts : List (List ℕ)) (step j : ℕ) → j ≢ id
+      → is_unknown j (remove plain step (text_in texts name) name s).state ≡ true → is_unknown j s ≡ true
   others_known texts step j ne gone = sym (unknown_removed step (text_in texts name) name j s (λ e. ne (e ∙ is_id))) ∙ gone
 
-  done_remembers : (receipt : Receipt) → n.counted.items ≡ slice_set m.counted.items name (counted_by receipt) → IsRemoved name receipt s n.system
+  done_remembers : (receipt : Receipt) → n.counted.items ≡ slice_set m.counted.items name (counted_by receipt)
+      → IsRemoved name receipt s n.system
       → (texts : List (List ℕ)) (indexes : ℕ → ℕ) (step : ℕ) → Remembers (remove plain step (text_in texts name) name s).state n
   done_remembers receipt counted b texts indexes step =
       let t = (remove plain step (text_in texts name) name s).state in
       let told = subst (λ i. counts_of i t ≡ told_by receipt (s.called i)) is_id (b.counts texts indexes step) in
-      remembers_ended s t m n name id (counted_by receipt) h.remembers at names named counted (let last = leaves.last texts indexes step in omega (arith, last))
+      remembers_ended s t m n name id (counted_by receipt) h.remembers at names named counted
+      (let last = leaves.last texts indexes step in omega (arith, last))
       (told ∙ (λ z. told_of (counted_by receipt) (sym (ap (λ (c : Counts). c.called) told) z)))
-      (λ j ne. others_known texts step j ne) (λ j ne low gone. counts_removed name s g b.done.accepted step (text_in texts name) j)
+      (λ j ne. others_known texts step j ne) (λ j ne low gone. counts_removed name s g b.done.accepted step
+      (text_in texts name) j)
 
-  kept_remembers : (waits : ℕ) → n.counted.items ≡ m.counted.items → IsKept name waits s n.system → (cpus_with_in id n.system.cpus ≢ [])
+  kept_remembers : (waits : ℕ) → n.counted.items ≡ m.counted.items → IsKept name waits s n.system
+      → (cpus_with_in id n.system.cpus ≢ [])
       → (texts : List (List ℕ)) (indexes : ℕ → ℕ) (step : ℕ) → Remembers (remove plain step (text_in texts name) name s).state n
   kept_remembers waits counted b some texts indexes step =
       let t = (remove plain step (text_in texts name) name s).state in
       let shows = (b.done.comes texts (listed (blanks s.admissions ++ b.done.given)) step
       (gives_more (blanks s.admissions) b.done.given s.admissions (as_many s.admissions))).shows in
-      remembers_on s t m n h.remembers (record { names = names; counted = counted; named = named }) (let last = leaves.last texts indexes step in omega (arith, last))
+      remembers_on s t m n h.remembers (record { names = names; counted = counted; named = named })
+      (let last = leaves.last texts indexes step in omega (arith, last))
       (λ j low gone. dite (ℕ_discrete j id)
       (λ e. absurd (still_known id t n.system shows kept.system.agrees some (subst (λ k. is_unknown k t ≡ true) e gone)))
       (λ ne. others_known texts step j ne gone))
       (λ j low gone. counts_removed name s g b.done.accepted step (text_in texts name) j)
 
   pub begun_answers : (answer : Result SystemRemoval Refusal) → n.counted.items ≡ counted_begun name answer m.counted.items
-      → Changes fires firing_at m.system (BeginRemove id answer) n.system → Begun name answer s n.system → Answers (Remove name) answer s n
-  begun_answers (Ok (Done receipt)) counted did b = accepts (Remove name) s m n h kept b.done clock tally leaves (done_remembers receipt counted b)
+      → Changes fires firing_at m.system (BeginRemove id answer) n.system → Begun name answer s n.system
+      → Answers (Remove name) answer s n
+  begun_answers (Ok (Done receipt)) counted did b =
+      accepts (Remove name) s m n h kept b.done clock tally leaves (done_remembers receipt counted b)
   begun_answers (Ok (Kept waits)) counted (inl (e, some, said, same)) b = absurd (let no : Ok (Kept waits) ≡ Err e = said in cc)
   begun_answers (Ok (Kept waits)) counted (inr (none, (way, ns, each_one, some, sums))) b =
       accepts (Remove name) s m n h kept b.done clock tally leaves (kept_remembers waits counted b some)
-  begun_answers (Err e) counted did b = (b.0, refuses s m n h kept b.1 clock tally (record { names = names; counted = counted; named = named }))
+  begun_answers (Err e) counted did b = (
+    b.0,
+    refuses s m n h kept b.1 clock tally
+        (record { names = names; counted = counted; named = named }),
+  )
 
 pub begun_says : (name : ℕ) (removal : SystemRemoval) (s : State) (w : SystemView Tables) → Begun name (Ok removal) s w
-    → (texts : List (List ℕ)) (indexes : ℕ → ℕ) (step : ℕ) → (does plain texts indexes step (Remove name) s).line ≡ begun_line step (text_in texts name) removal
+    → (texts : List (List ℕ)) (indexes : ℕ → ℕ) (step : ℕ)
+    → (does plain texts indexes step (Remove name) s).line ≡ begun_line step (text_in texts name) removal
 begun_says name (Done receipt) s w b texts indexes step = b.line texts indexes step
 begun_says name (Kept waits) s w b texts indexes step = b.line texts indexes step
 
@@ -150,10 +168,13 @@ pub remove_taken : (texts : List (List ℕ)) (step name : ℕ) (removal : System
     → Accepts (Remove name) s n
     → ((indexes : ℕ → ℕ) → (does plain texts indexes step (Remove name) s).line ≡ begun_line step (text_in texts name) removal)
     → line ≡ begun_line step (text_in texts name) removal → Takes texts step (Remove name) line s n
-remove_taken texts step name removal line s n done says same = done_takes texts step (Remove name) line s n done (λ indexes. same ∙ sym (says indexes))
+remove_taken texts step name removal line s n done says same =
+    done_takes texts step (Remove name) line s n done (λ indexes. same ∙ sym (says indexes))
 
 pub remove_refused : (texts : List (List ℕ)) (step name : ℕ) (e : Refusal) (line : List ℕ) (s : State) (n : Machine)
-    → IsRefused e (refusal_of plain (Remove name) s) × Holds s n → refused_as e ≢ refused_as Memory → line ≡ refused step (number_of e)
+    → IsRefused e (refusal_of plain (Remove name) s) × Holds s n → refused_as e ≢ refused_as Memory
+    → line ≡ refused step (number_of e)
     → Takes texts step (Remove name) line s n
 remove_refused texts step name e line s n (why, h) other same =
-    refused_takes texts step (Remove name) line e s n (truly_refused e (refusal_of plain (Remove name) s) (λ memory. other (ap refused_as memory)) why) same h
+    refused_takes texts step (Remove name) line e s n
+    (truly_refused e (refusal_of plain (Remove name) s) (λ memory. other (ap refused_as memory)) why) same h

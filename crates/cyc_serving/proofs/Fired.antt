@@ -1,5 +1,6 @@
 -- A fire of one CPU in an advance.
-use Rattle.std.proofs.Common.{◌≡◌, ℕ, zero, suc, ◌+◌, ◌*◌, ◌<◌, ◌≤◌, inl, inr, Bool, true, false, cond, List, [], ◌∷◌, length, map, take, Some, None, refl, ap, sym, ◌∙◌, subst, arith}
+use Rattle.std.proofs.Common.{◌≡◌, ℕ, zero, suc, ◌+◌, ◌*◌, ◌<◌, ◌≤◌, inl, inr, Bool, true, false, cond, List, [], ◌∷◌, length}
+use Rattle.std.proofs.Common.{map, take, Some, None, refl, ap, sym, ◌∙◌, subst, arith}
 use Rattle.std.specs.Prelude.{Result, Ok, Err, not, nat_le, slice_index_or}
 use Rattle.std.specs.List.{slice_get}
 use Rattle.std.proofs.lemmas.List.{get_or-set_other}
@@ -52,24 +53,30 @@ use Rattle.cyc_script_machine.proofs.Grown.{few_timers, few_reached, many_reache
 -- ---- what a fire keeps
 
 module _ (n now : ℕ) (s t : RunningSystem TallyView Tables) where
-  pub most_fired : (fired : Fired) → Does tally_called tally_count TallyRefuses fires firing_at no_interrupts s (FireOne n now (Ok fired)) t
+  pub most_fired : (fired : Fired) → Does tally_called tally_count TallyRefuses fires firing_at no_interrupts s
+      (FireOne n now (Ok fired)) t
       → AllMost s.system.cpus → AllMost t.system.cpus
   most_fired fired (inl (e, some, answer, same)) all = absurd (let isnt : Ok fired ≡ Err (no_fire e) = answer in cc)
-  most_fired fired (inr (none, (did, records, last))) all = most_changed n _ s.system.cpus t.system.cpus (λ x y d. d.1.most) did all
+  most_fired fired (inr (none, (did, records, last))) all =
+      most_changed n _ s.system.cpus t.system.cpus (λ x y d. d.1.most) did all
 
-  pub wide_fired : (fired : Fired) → Does tally_called tally_count TallyRefuses fires firing_at no_interrupts s (FireOne n now (Ok fired)) t
+  pub wide_fired : (fired : Fired) → Does tally_called tally_count TallyRefuses fires firing_at no_interrupts s
+      (FireOne n now (Ok fired)) t
       → IsWide s.calls → IsWide t.calls
   wide_fired fired (inl (e, some, answer, same)) w = absurd (let isnt : Ok fired ≡ Err (no_fire e) = answer in cc)
   wide_fired fired (inr (none, (did, records, last))) w =
-      still_wide s.calls t.calls (same_range (ids_at High (timers did.before.cyclics) (expirations now (timers did.before.cyclics))) s.calls t.calls did.change.4.acts.called_in_order) w
+      still_wide s.calls t.calls (same_range (ids_at High (timers did.before.cyclics)
+      (expirations now (timers did.before.cyclics))) s.calls t.calls did.change.4.acts.called_in_order) w
 
 -- ---- a CPU that is offline
 
 inside : (n k : ℕ) → n < k → nat_le k n ≡ false
 inside n k low = grind (arith, nat_tests)
 
-only_offline : (b : Bool) (n k : ℕ) (e : Refusal) → n < k → or_else (when (nat_le k n) NoCpu) (or_else (when (not b) Offline) None) ≡ Some e → (b ≡ false) × (e ≡ Offline)
-only_offline b n k e low is = by b (sym (ap (λ t. or_else (when t NoCpu) (or_else (when (not b) Offline) None)) (inside n k low)) ∙ is)
+only_offline : (b : Bool) (n k : ℕ) (e : Refusal) → n < k
+    → or_else (when (nat_le k n) NoCpu) (or_else (when (not b) Offline) None) ≡ Some e → (b ≡ false) × (e ≡ Offline)
+only_offline b n k e low is = by b (sym (ap (λ t. or_else (when t NoCpu) (or_else (when (not b) Offline) None)) (inside n k low))
+    ∙ is)
   where
     by : (b : Bool) → or_else (when (not b) Offline) None ≡ Some e → (b ≡ false) × (e ≡ Offline)
     by true h = absurd (none_some h)
@@ -79,12 +86,15 @@ offline_stops : (most : ℕ) (at : TallyView) (tm : Timer) (why : Refusal) → w
 offline_stops most at tm why is stops = subst (Stops TallyRefuses most at tm) is stops
 
 module _ (n now : ℕ) (e : FireRefused) (s t : RunningSystem TallyView Tables) (low : n < length s.system.cpus.cpus) where
-  pub passed : e.why ≡ Offline → Does tally_called tally_count TallyRefuses fires firing_at no_interrupts s (FireOne n now (Err e)) t
+  pub passed : e.why ≡ Offline → Does tally_called tally_count TallyRefuses fires firing_at no_interrupts s
+      (FireOne n now (Err e)) t
       → (is_online n s.system.cpus ≡ false) × (t ≡ s)
-  passed is (inl (r, some, answer, same)) = ((only_offline (is_online n s.system.cpus) n (length s.system.cpus.cpus) r low some).0, same)
+  passed is (inl (r, some, answer, same)) =
+      ((only_offline (is_online n s.system.cpus) n (length s.system.cpus.cpus) r low some).0, same)
   passed is (inr (none, (did, records, last))) = absurd (by did.change)
     where
-      by : DoesHere tally_called tally_count TallyRefuses fires firing_at no_interrupts (running s.calls did.before) (Fire now (Err e)) (running t.calls did.after) → ⊥
+      by : DoesHere tally_called tally_count TallyRefuses fires firing_at no_interrupts (running s.calls did.before)
+          (Fire now (Err e)) (running t.calls did.after) → ⊥
       by (inl (early, bad, same)) = let no : BadNow ≡ Offline = sym (ap (λ (x : FireRefused). x.why) bad) ∙ is in cc
       by (inr (late_enough, same, f)) = let (tm, found, stops) = f.stops in offline_stops did.before.most f.at tm e.why is stops
 
@@ -94,16 +104,19 @@ AllBelow : ℕ → List ℕ → Type 0
 AllBelow k [] = Unit {0}
 AllBelow k (n ∷ ns) = (n < k) × AllBelow k ns
 
-numbers_below : (test : Cpu → Bool) (from high : ℕ) (cs : List Cpu) → from + length cs ≤ high → AllBelow high (numbers_from from test cs)
+numbers_below : (test : Cpu → Bool) (from high : ℕ) (cs : List Cpu) → from + length cs ≤ high
+    → AllBelow high (numbers_from from test cs)
 unfolding AllBelow
 numbers_below test from high [] le = tt
 numbers_below test from high (c ∷ cs) le = by (test c) (numbers_below test (from + 1) high cs (omega (arith, le)))
   where
-    by : (b : Bool) → AllBelow high (numbers_from (from + 1) test cs) → AllBelow high (cond b (from ∷ numbers_from (from + 1) test cs) (numbers_from (from + 1) test cs))
+    by : (b : Bool) → AllBelow high (numbers_from (from + 1) test cs)
+        → AllBelow high (cond b (from ∷ numbers_from (from + 1) test cs) (numbers_from (from + 1) test cs))
     by true r = (omega (arith, le), r)
     by false r = r
 
-not_fired_yet : (n now : ℕ) (ns : List ℕ) (s : State) → AllBelow n ns → cpu_of n (each (λ k. on k (fire_here k now)) ns s).state ≡ cpu_of n s
+not_fired_yet : (n now : ℕ) (ns : List ℕ) (s : State) → AllBelow n ns
+    → cpu_of n (each (λ k. on k (fire_here k now)) ns s).state ≡ cpu_of n s
 unfolding AllBelow
 not_fired_yet n now [] s below = refl
 not_fired_yet n now (k ∷ ns) s below =
@@ -111,7 +124,8 @@ not_fired_yet n now (k ∷ ns) s below =
     ∙ get_or-set_other s.cpus k n (fire_here k now (cpu_of k s)).cpu absent (λ e. let low = below.0 in omega (arith, low, e))
 
 called_fires : (id now : ℕ) (ns : List ℕ) (s : State)
-    → (each (λ k. on k (fire_here k now)) ns s).state.called id ≡ s.called id + calls_of id (each (λ k. on k (fire_here k now)) ns s).acts
+    → (each (λ k. on k (fire_here k now)) ns s).state.called id
+    ≡ s.called id + calls_of id (each (λ k. on k (fire_here k now)) ns s).acts
 called_fires id now [] s = omega arith
 called_fires id now (k ∷ ns) s =
     let t = (on k (fire_here k now) s).state in
@@ -125,7 +139,11 @@ timers_shown (c ∷ cs) = ap (λ ts. c.timer ∷ ts) (timers_shown cs)
 
 few_more : (last a b : ℕ) (ts : List Timer) → a ≤ b → EachTimer (IsFew last a) ts → EachTimer (IsFew last b) ts
 few_more last a b [] le few = tt
-few_more last a b (t ∷ ts) le few = (let e = few.0.expired in record { given = few.0.given; id = few.0.id; expired = omega (arith, e, le) }, few_more last a b ts le few.1)
+few_more last a b (t ∷ ts) le few = (
+  let e = few.0.expired in
+      record { given = few.0.given; id = few.0.id; expired = omega (arith, e, le) },
+  few_more last a b ts le few.1,
+)
 
 has_low : (k high : ℕ) (ns : List ℕ) → AllBelow high ns → Has k ns → k < high
 unfolding AllBelow
@@ -143,7 +161,8 @@ take_low zero cs = omega arith
 take_low (suc n) [] = omega arith
 take_low (suc n) (c ∷ cs) = let r = take_low n cs in omega (arith, r)
 
-shown_at : (os : List Bool) (vs : List (CpuView Tables)) (n : ℕ) (x : CpuView Tables) → length os ≡ length vs → slice_get vs n ≡ Some x
+shown_at : (os : List Bool) (vs : List (CpuView Tables)) (n : ℕ) (x : CpuView Tables) → length os ≡ length vs
+    → slice_get vs n ≡ Some x
     → (slice_index_or (shown_list os vs) n absent).cyclics ≡ map shown x.cyclics
 shown_at os [] n x long is = absurd (none_some is)
 shown_at [] (v ∷ vs) n x long is = absurd (omega (arith, long))
@@ -156,7 +175,8 @@ why_of d (Err e) = e.why
 
 -- ---- no fire is refused
 
-module _ (step n expired lost : ℕ) (s : State) (first : RunningSystem TallyView Tables) (m : Machine) (a : IsAdvancing step n expired lost s first m)
+module _ (step n expired lost : ℕ) (s : State) (first : RunningSystem TallyView Tables) (m : Machine)
+    (a : IsAdvancing step n expired lost s first m)
     (low : n < length m.system.cpus.cpus) where
   low_ones : (k : ℕ) → Has k (online_below n (at_clock m.clock s)) → k < length s.cpus
   low_ones k has = has_low k (length s.cpus) (online_below n (at_clock m.clock s))
@@ -177,7 +197,8 @@ module _ (step n expired lost : ℕ) (s : State) (first : RunningSystem TallyVie
       omega (arith, books, grown, told, was, all, before, many, few, same, cut)
 
   -- the CPU has not fired
-  same_timers : (x : CpuView Tables) → IsCpu n x m.system.cpus → timers x.cyclics ≡ map (λ (c : Cyclic). c.timer) (cpu_of n s).cyclics
+  same_timers : (x : CpuView Tables) → IsCpu n x m.system.cpus
+      → timers x.cyclics ≡ map (λ (c : Cyclic). c.timer) (cpu_of n s).cyclics
   same_timers x here =
       let c = at_clock m.clock s in let ns = online_below n c in
       let still = not_fired_yet n m.clock ns c (numbers_below (λ (y : Cpu). y.online) 0 n (take n c.cpus) (take_low n c.cpus)) in
@@ -187,26 +208,32 @@ module _ (step n expired lost : ℕ) (s : State) (first : RunningSystem TallyVie
       ∙ ap (λ (y : Cpu). map (λ (z : Cyclic). z.timer) y.cyclics) still
 
   pub never_fire : (e : FireRefused) (t : RunningSystem TallyView Tables) → (e.why ≡ Offline → ⊥)
-      → Does tally_called tally_count TallyRefuses fires firing_at no_interrupts (running_system m.tally m.system) (FireOne n m.clock (Err e)) t → ⊥
+      → Does tally_called tally_count TallyRefuses fires firing_at no_interrupts (running_system m.tally m.system)
+      (FireOne n m.clock (Err e)) t → ⊥
   never_fire e t other (inl (r, some, answer, same)) =
       other (ap (why_of e) answer ∙ (only_offline (is_online n m.system.cpus) n (length m.system.cpus.cpus) r low some).1)
   never_fire e t other (inr (none, (did, records, last))) = by did.change
     where
-      by : DoesHere tally_called tally_count TallyRefuses fires firing_at no_interrupts (running m.tally did.before) (Fire m.clock (Err e)) (running t.calls did.after) → ⊥
+      by : DoesHere tally_called tally_count TallyRefuses fires firing_at no_interrupts (running m.tally did.before)
+          (Fire m.clock (Err e)) (running t.calls did.after) → ⊥
       by (inl (early, bad, same)) = let before = a.before in absurd (omega (arith, early, before))
       by (inr (late_enough, same, f)) =
           let ts = same_timers did.before did.here in
-          never_stopped m.clock 65535 (65536 * 16000000032) did.before did.after m.tally t.calls e f (omega arith) (a.most n did.before did.here) (omega arith)
+          never_stopped m.clock 65535 (65536 * 16000000032) did.before did.after m.tally t.calls e f (omega arith)
+          (a.most n did.before did.here) (omega arith)
           (subst (EachTimer (IsFew 65535 (65536 * 16000000032))) (sym ts)
-          (few_more 65535 (65535 * 16000000032) (65536 * 16000000032) (map (λ (c : Cyclic). c.timer) (cpu_of n s).cyclics) (omega arith) (few_timers step n s a.reached a.few)))
-          (λ id. subst (λ xs. times_of id (expirations m.clock xs) ≤ late + 2) (sym ts) (few_times id n m.clock s (reached_good step s a.reached)))
+          (few_more 65535 (65535 * 16000000032) (65536 * 16000000032) (map (λ (c : Cyclic). c.timer) (cpu_of n s).cyclics)
+          (omega arith) (few_timers step n s a.reached a.few)))
+          (λ id. subst (λ xs. times_of id (expirations m.clock xs) ≤ late + 2) (sym ts)
+          (few_times id n m.clock s (reached_good step s a.reached)))
           a.tally few_called
 
 -- ---- a CPU that is passed over
 
 length_fires : (now : ℕ) (ns : List ℕ) (s : State) → length (each (λ k. on k (fire_here k now)) ns s).state.cpus ≡ length s.cpus
 length_fires now [] s = refl
-length_fires now (k ∷ ns) s = length_fires now ns (on k (fire_here k now) s).state ∙ length-set s.cpus k (fire_here k now (cpu_of k s)).cpu
+length_fires now (k ∷ ns) s = length_fires now ns (on k (fire_here k now) s).state
+    ∙ length-set s.cpus k (fire_here k now (cpu_of k s)).cpu
 
 pub length_shown : (os : List Bool) (vs : List (CpuView Tables)) → length os ≡ length vs → length (shown_list os vs) ≡ length vs
 length_shown [] [] long = refl
@@ -214,17 +241,20 @@ length_shown [] (v ∷ vs) long = absurd (omega (arith, long))
 length_shown (o ∷ os) [] long = refl
 length_shown (o ∷ os) (v ∷ vs) long = ap suc (length_shown os vs (omega (arith, long)))
 
-pub many_here : (step n expired lost : ℕ) (s : State) (first : RunningSystem TallyView Tables) (m : Machine) → IsAdvancing step n expired lost s first m
+pub many_here : (step n expired lost : ℕ) (s : State) (first : RunningSystem TallyView Tables) (m : Machine)
+    → IsAdvancing step n expired lost s first m
     → length s.cpus ≡ length m.system.cpus.cpus
 many_here step n expired lost s first m a =
     sym (length_fires m.clock (online_below n (at_clock m.clock s)) (at_clock m.clock s))
     ∙ ap length a.fired.comes.shows.cpus ∙ length_shown m.system.cpus.online m.system.cpus.cpus a.system.agrees.long
 
-pub low_here : (step n expired lost : ℕ) (s : State) (first : RunningSystem TallyView Tables) (m : Machine) → IsAdvancing step n expired lost s first m
+pub low_here : (step n expired lost : ℕ) (s : State) (first : RunningSystem TallyView Tables) (m : Machine)
+    → IsAdvancing step n expired lost s first m
     → n < length m.system.cpus.cpus → n < length s.cpus
 low_here step n expired lost s first m a low = let e = many_here step n expired lost s first m a in omega (arith, low, e)
 
-pub passed_on : (step n expired lost : ℕ) (s : State) (first : RunningSystem TallyView Tables) (m t : Machine) → IsAdvancing step n expired lost s first m
+pub passed_on : (step n expired lost : ℕ) (s : State) (first : RunningSystem TallyView Tables) (m t : Machine)
+    → IsAdvancing step n expired lost s first m
     → running_system t.tally t.system ≡ running_system m.tally m.system → t.clock ≡ m.clock → SameNames m t
     → HasFired tally_count (n + 1) expired lost (at_clock m.clock s) first (running_system m.tally m.system)
     → IsAdvancing step (n + 1) (expired + 0) (lost + 0) s first t
@@ -237,9 +267,12 @@ passed_on step n expired lost s first m t a same clock names next =
       reached = a.reached;
       few = a.few;
       before = omega (arith, before, clock);
-      fired = subst (λ k. HasFired tally_count (n + 1) (expired + 0) k (at_clock t.clock s) first (running_system t.tally t.system)) (none lost)
-          (subst (λ k. HasFired tally_count (n + 1) k lost (at_clock t.clock s) first (running_system t.tally t.system)) (none expired)
-          (subst (λ k. HasFired tally_count (n + 1) expired lost (at_clock k s) first (running_system t.tally t.system)) (sym clock)
+      fired = subst (λ k. HasFired tally_count (n + 1) (expired + 0) k (at_clock t.clock s) first
+          (running_system t.tally t.system)) (none lost)
+          (subst (λ k. HasFired tally_count (n + 1) k lost (at_clock t.clock s) first (running_system t.tally t.system))
+          (none expired)
+          (subst (λ k. HasFired tally_count (n + 1) expired lost (at_clock k s) first (running_system t.tally t.system))
+          (sym clock)
           (subst (λ r. HasFired tally_count (n + 1) expired lost (at_clock m.clock s) first r) (sym same) next)));
       called = a.called;
       system = subst (λ v. IsSystem v) (sym system) a.system;

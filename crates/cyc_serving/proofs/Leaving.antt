@@ -1,5 +1,6 @@
 -- The ids whose removals are open, in the order in which they are polled.
-use Rattle.std.proofs.Common.{◌≡◌, ℕ, ◌+◌, ◌<◌, ◌≤◌, ◌==◌, eqb-true, inl, inr, ◌⊎◌, ⊎_elim, Bool, true, false, cond, List, [], ◌∷◌, ◌++◌, map, filter, find, Option, Some, None, refl, ap, sym, ◌∙◌, subst, arith}
+use Rattle.std.proofs.Common.{◌≡◌, ℕ, ◌+◌, ◌<◌, ◌≤◌, ◌==◌, eqb-true, inl, inr, ◌⊎◌, ⊎_elim, Bool, true, false, cond, List, []}
+use Rattle.std.proofs.Common.{◌∷◌, ◌++◌, map, filter, find, Option, Some, None, refl, ap, sym, ◌∙◌, subst, arith}
 use Rattle.std.specs.Prelude.{nat_le}
 use Rattle.std.specs.Option.{option_map}
 use Rattle.std.proofs.lemmas.Bool.Decides.{nat_tests}
@@ -49,7 +50,8 @@ one_up_to low last id [] rise less has least = absurd has
 one_up_to low last id (x ∷ xs) rise less has least =
     by (nat_le x last) refl (λ later. one_up_to (x + 1) last id xs rise.1 less later (λ k h. least k (inr h)))
   where
-    by : (b : Bool) → nat_le x last ≡ b → (Has id xs → up_to id xs ≡ up_to last xs ++ id ∷ []) → up_to id (x ∷ xs) ≡ cond b (x ∷ up_to last xs) (up_to last xs) ++ id ∷ []
+    by : (b : Bool) → nat_le x last ≡ b → (Has id xs → up_to id xs ≡ up_to last xs ++ id ∷ [])
+        → up_to id (x ∷ xs) ≡ cond b (x ∷ up_to last xs) (up_to last xs) ++ id ∷ []
     by true is more =
         let within = low_is x last is in
         let later : Has id xs = ⊎_elim (λ e. absurd (omega (arith, e, within, less))) (λ h. h) has in
@@ -57,7 +59,8 @@ one_up_to low last id (x ∷ xs) rise less has least =
         ∙ ap (λ ys. x ∷ ys) (more later)
     by false is more =
         let above = high_is x last is in let first = least x (inl refl) above in
-        let same : id ≡ x = ⊎_elim (λ e. e) (λ h. let far = has_above (x + 1) id xs rise.1 h in absurd (omega (arith, far, first))) has in
+        let same : id ≡ x = ⊎_elim (λ e. e) (λ h. let far = has_above (x + 1) id xs rise.1 h in
+        absurd (omega (arith, far, first))) has in
         ap (λ b. cond b (x ∷ up_to id xs) (up_to id xs)) (is_low x id (omega (arith, same)))
         ∙ ap (λ ys. x ∷ ys) (none_up_to (x + 1) id xs rise.1 (omega (arith, same)))
         ∙ ap (λ k. k ∷ []) (sym same)
@@ -70,19 +73,22 @@ placed_rise low high [] h = tt
 placed_rise low high (p ∷ ps) h = (let a = h.0 in omega (arith, a), placed_rise p.id high ps h.1)
 
 pub leaving_rise : (s : State) → Good s → RiseFrom 1 (leaving_ids s)
-leaving_rise s g = filter_rise (λ id. is_leaving id s) 1 (map (λ (p : Placed). p.id) s.placed) (placed_rise 0 s.last_id s.placed g.base.rise)
+leaving_rise s g = filter_rise (λ id. is_leaving id s) 1 (map (λ (p : Placed). p.id) s.placed)
+    (placed_rise 0 s.last_id s.placed g.base.rise)
 
 -- each is open on some CPU
 pub leaving_open : (s : State) (k : ℕ) → Has k (leaving_ids s) → (n : ℕ) × ((cpu_of n s).removal ≡ Some k)
 leaving_open s k has = leaving_where k s (filtered (λ id. is_leaving id s) k (map (λ (p : Placed). p.id) s.placed) has).1
 
 -- and one that is open is among them
-found_there : (k : ℕ) (p : Placed) (ps : List Placed) → find (λ (q : Placed). q.id == k) ps ≡ Some p → Has k (map (λ (q : Placed). q.id) ps)
+found_there : (k : ℕ) (p : Placed) (ps : List Placed) → find (λ (q : Placed). q.id == k) ps ≡ Some p
+    → Has k (map (λ (q : Placed). q.id) ps)
 found_there k p [] is = absurd (let no : None ≡ Some p = is in cc)
 found_there k p (q ∷ ps) is = by (q.id == k) refl is (found_there k p ps)
   where
     by : (b : Bool) → (q.id == k) ≡ b → cond b (Some q) (find (λ (r : Placed). r.id == k) ps) ≡ Some p
-        → (find (λ (r : Placed). r.id == k) ps ≡ Some p → Has k (map (λ (r : Placed). r.id) ps)) → (k ≡ q.id) ⊎ Has k (map (λ (r : Placed). r.id) ps)
+        → (find (λ (r : Placed). r.id == k) ps ≡ Some p → Has k (map (λ (r : Placed). r.id) ps)) → (k ≡ q.id)
+        ⊎ Has k (map (λ (r : Placed). r.id) ps)
     by true e at more = inl (sym (eqb-true q.id k e))
     by false e at more = inr (more at)
 

@@ -15,4 +15,5 @@ called t id n o is found = is ∙ (ap (λ x. unwrap_or x 0) found ∙ told (nat_
 
 -- the same counts
 pub same_counts : (a b : Counts) → a.expired ≡ b.expired → a.called ≡ b.called → a.lost ≡ b.lost → a.pending ≡ b.pending → a ≡ b
-same_counts a b expired calls lost pending = λ z. record { expired = expired z; called = calls z; lost = lost z; pending = pending z }
+same_counts a b expired calls lost pending =
+    λ z. record { expired = expired z; called = calls z; lost = lost z; pending = pending z }

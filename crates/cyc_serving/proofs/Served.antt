@@ -1,5 +1,6 @@
 -- A soft interrupt of the machine: the tally refuses none of its calls, and the machine after it is as the definition's.
-use Rattle.std.proofs.Common.{◌≡◌, ℕ, zero, suc, ◌+◌, ◌*◌, ◌^◌, ◌<◌, ◌≤◌, ◌==◌, eqb-true, inl, inr, Bool, true, false, cond, List, [], ◌∷◌, length, map, find, Option, Some, None, refl, ap, sym, ◌∙◌, subst, arith}
+use Rattle.std.proofs.Common.{◌≡◌, ℕ, zero, suc, ◌+◌, ◌*◌, ◌^◌, ◌<◌, ◌≤◌, ◌==◌, eqb-true, inl, inr, Bool, true, false, cond, List}
+use Rattle.std.proofs.Common.{[], ◌∷◌, length, map, find, Option, Some, None, refl, ap, sym, ◌∙◌, subst, arith}
 use Rattle.std.specs.Prelude.{⊤, nat_le, IsSome, Result, Ok, Err, slice_index_or}
 use Rattle.std.specs.Option.{option_map_or, option_and_then}
 use Rattle.std.specs.List.{slice_get, FoldsTo}
@@ -62,7 +63,11 @@ record Along (l m : Level) : Type 0 where
   back : (j : ℕ) → IsSome (m.cyclics j) → IsSome (l.cyclics j)
 
 along_same : (l m : Level) → l ≡ m → Fit l → Along l m
-along_same l m is fit = record { fit = subst (λ k. Fit k) is fit; back = λ j h. subst (λ (k : Level). IsSome (k.cyclics j)) (sym is) h }
+along_same l m is fit = record {
+  fit = subst (λ k. Fit k) is fit;
+  back =
+      λ j h. subst (λ (k : Level). IsSome (k.cyclics j)) (sym is) h;
+}
 
 along_then : (l m k : Level) → Along l m → (Fit m → Along m k) → Along l k
 along_then l m k one next = let two = next one.fit in record { fit = two.fit; back = λ j h. one.back j (two.back j h) }
@@ -104,7 +109,8 @@ drained : (call : DrainCall) (a b : Tables) → drains a call b → Fit (level_o
 drained (Looks answer) a b did fit = looked a.old_list a.new_list (a.hard_bank == a.soft_bank) (level_of a) (level_of b) did.0 fit
 drained (Finishes id answer) a b did fit = finished (level_of a) (level_of b) did.1 fit
 
-drained_all : (way : List DrainCall) (a b : Tables) → DrainGoes drains a way b → Fit (level_of a) → Along (level_of a) (level_of b)
+drained_all : (way : List DrainCall) (a b : Tables) → DrainGoes drains a way b → Fit (level_of a)
+    → Along (level_of a) (level_of b)
 drained_all [] a b is fit = along_same (level_of a) (level_of b) (ap level_of is) fit
 drained_all (call ∷ way) a b (c, did, rest) fit =
     along_then (level_of a) (level_of c) (level_of b) (drained call a c did fit) (drained_all way c b rest)
@@ -115,33 +121,41 @@ counted (Some c) some = refl
 
 -- ---- what is in hand has an id that was given
 
-at_soft_level : (soft : Soft) (o : Option Cyclic) → option_map_or (λ (x : Cyclic). x.timer.level) o High ≡ as_level soft → IsSome o
+at_soft_level : (soft : Soft) (o : Option Cyclic) → option_map_or (λ (x : Cyclic). x.timer.level) o High ≡ as_level soft
+    → IsSome o
 at_soft_level Low None is = absurd (cc)
 at_soft_level Lock None is = absurd (cc)
 at_soft_level Low (Some x) is = refl
 at_soft_level Lock (Some x) is = refl
 
-given_here : (last most id : ℕ) (cs : List Cyclic) → EachTimer (IsFew last most) (map (λ c. c.timer) cs) → IsSome (find (is_of id) cs)
+given_here : (last most id : ℕ) (cs : List Cyclic) → EachTimer (IsFew last most) (map (λ c. c.timer) cs)
+    → IsSome (find (is_of id) cs)
     → (0 < id) × (id ≤ last)
 given_here last most id [] all some = absurd (cc)
 given_here last most id (c ∷ cs) all some = by (is_of id c) refl (given_here last most id cs all.1) some
   where
-    by : (b : Bool) → is_of id c ≡ b → (IsSome (find (is_of id) cs) → (0 < id) × (id ≤ last)) → IsSome (cond b (Some c) (find (is_of id) cs)) → (0 < id) × (id ≤ last)
-    by true is later h = let e = eqb-true c.timer.id id is in let a = all.0.given in let b = all.0.id in (omega (arith, a, e), omega (arith, b, e))
+    by : (b : Bool) → is_of id c ≡ b → (IsSome (find (is_of id) cs) → (0 < id) × (id ≤ last))
+        → IsSome (cond b (Some c) (find (is_of id) cs)) → (0 < id) × (id ≤ last)
+    by true is later h = let e = eqb-true c.timer.id id is in let a = all.0.given in let b = all.0.id in
+        (omega (arith, a, e), omega (arith, b, e))
     by false is later h = later h
 
 -- the CPU of a number, as the definition has it
-shown_of : (os : List Bool) (vs : List (CpuView Tables)) (n : ℕ) (x : CpuView Tables) → length os ≡ length vs → slice_get vs n ≡ Some x
+shown_of : (os : List Bool) (vs : List (CpuView Tables)) (n : ℕ) (x : CpuView Tables) → length os ≡ length vs
+    → slice_get vs n ≡ Some x
     → (o : Bool) × (slice_index_or (shown_list os vs) n absent ≡ shown_cpu o x)
 shown_of os [] n x long is = absurd (none_some is)
 shown_of [] (v ∷ vs) n x long is = absurd (omega (arith, long))
 shown_of (o ∷ os) (v ∷ vs) zero x long is = (o, ap (shown_cpu o) (same_some is))
 shown_of (o ∷ os) (v ∷ vs) (suc n) x long is = shown_of os vs n x (omega (arith, long)) is
 
-level_shown : (soft : Soft) (s : State) (v : SystemView Tables) (n : ℕ) (x : CpuView Tables) → Shows s v → length v.cpus.online ≡ length v.cpus.cpus
+level_shown : (soft : Soft) (s : State) (v : SystemView Tables) (n : ℕ) (x : CpuView Tables) → Shows s v
+    → length v.cpus.online ≡ length v.cpus.cpus
     → IsCpu n x v.cpus → level_at soft (cpu_of n s) ≡ level_of (end_at soft x)
-level_shown Low s v n x h long is = ap (λ cs. (slice_index_or cs n absent).low) h.cpus ∙ ap (λ (c : Cpu). c.low) (shown_of v.cpus.online v.cpus.cpus n x long is).1
-level_shown Lock s v n x h long is = ap (λ cs. (slice_index_or cs n absent).lock) h.cpus ∙ ap (λ (c : Cpu). c.lock) (shown_of v.cpus.online v.cpus.cpus n x long is).1
+level_shown Low s v n x h long is = ap (λ cs. (slice_index_or cs n absent).low) h.cpus
+    ∙ ap (λ (c : Cpu). c.low) (shown_of v.cpus.online v.cpus.cpus n x long is).1
+level_shown Lock s v n x h long is = ap (λ cs. (slice_index_or cs n absent).lock) h.cpus
+    ∙ ap (λ (c : Cpu). c.lock) (shown_of v.cpus.online v.cpus.cpus n x long is).1
 
 -- the open removal on the CPU of a number
 removal_at : (os : List Bool) (vs : List (CpuView Tables)) (n : ℕ) → length os ≡ length vs
@@ -159,20 +173,23 @@ same_removal s v h long n = ap (λ cs. (slice_index_or cs n absent).removal) h.c
 
 -- ---- no call is refused
 
-module _ (step n budget : ℕ) (level : Soft) (s : State) (m : Machine) (low : step ≤ 65536) (fits : budget < 2 ^ 32) (r : IsReached step s) (h : Holds s m) where
+module _ (step n budget : ℕ) (level : Soft) (s : State) (m : Machine) (low : step ≤ 65536) (fits : budget < 2 ^ 32)
+    (r : IsReached step s) (h : Holds s m) where
   few_called : (id : ℕ) → tally_count m.tally id ≤ 65536 * 16000000032
   few_called id =
       let books = (reached_good step s r).base.books id in let few = (few_reached step s r low).1 id in let was = h.called id in
       omega (arith, books, few, was)
 
-  held_given : (x : CpuView Tables) (b : Tables) (way : List DrainCall) (id : ℕ) → IsCpu n x m.system.cpus → DrainGoes drains (end_at level x) way b
+  held_given : (x : CpuView Tables) (b : Tables) (way : List DrainCall) (id : ℕ) → IsCpu n x m.system.cpus
+      → DrainGoes drains (end_at level x) way b
       → (level_of b).drainer_hand ≡ Some id → (0 < id) × (id ≤ 65535)
   held_given x b way id here went held =
       let g = reached_good step s r in
       let same = level_shown level s m.system n x h.shows h.system.agrees.long here in
       let along = drained_all way (end_at level x) b went (subst (λ l. Fit l) same ((g.base.whole n).fit level)) in
       let some = along.back id (counted ((level_of b).cyclics id) (in_hand_counts (level_of b) along.fit id held)) in
-      let at : level_in id (cpu_of n s) ≡ as_level level = (g.base.whole n).back level id (subst (λ (l : Level). IsSome (l.cyclics id)) (sym same) some) in
+      let at : level_in id (cpu_of n s) ≡ as_level level =
+      (g.base.whole n).back level id (subst (λ (l : Level). IsSome (l.cyclics id)) (sym same) some) in
       given_here 65535 (65535 * 16000000032) id (cpu_of n s).cyclics (few_timers step n s r low)
       (at_soft_level level (cyclic_of id (cpu_of n s)) at)
 
@@ -180,7 +197,8 @@ module _ (step n budget : ℕ) (level : Soft) (s : State) (m : Machine) (low : s
       → Does tally_called tally_count TallyRefuses fires firing_at (Interrupts tally_called tally_count TallyRefuses)
       (running_system m.tally m.system) (SoftInterrupt n level budget (Err (fault.Refused e))) t → ⊥
   never_refused e t (inl (why, some, answer, same)) = absurd (let no : Err (fault.Refused e) ≡ Err fault.NoCpu = answer in cc)
-  never_refused e t (inr (none, (Ok ran, answer, did, records, last))) = absurd (let no : Err (fault.Refused e) ≡ Ok ran = answer in cc)
+  never_refused e t (inr (none, (Ok ran, answer, did, records, last))) =
+      absurd (let no : Err (fault.Refused e) ≡ Ok ran = answer in cc)
   never_refused e t (inr (none, (Err own, answer, did, records, last))) =
       let (ran, at, long, less, serves, may, same, held) = did.change.0.refused in
       let (given, last_id) = held_given did.before (end_at level did.after) _ own.id did.here serves.way held in
@@ -191,10 +209,12 @@ module _ (step n budget : ℕ) (level : Soft) (s : State) (m : Machine) (low : s
 
 -- ---- there is no such CPU
 
-long_shown : (s : State) (v : SystemView Tables) → Shows s v → length v.cpus.online ≡ length v.cpus.cpus → length s.cpus ≡ length v.cpus.cpus
+long_shown : (s : State) (v : SystemView Tables) → Shows s v → length v.cpus.online ≡ length v.cpus.cpus
+    → length s.cpus ≡ length v.cpus.cpus
 long_shown s v h long = ap length h.cpus ∙ length_shown v.cpus.online v.cpus.cpus long
 
-only_no_cpu : (o : Option Refusal) (b : Bool) (e : Refusal) → o ≡ when b NoCpu → or_else (when b NoCpu) None ≡ Some e → o ≡ Some NoCpu
+only_no_cpu : (o : Option Refusal) (b : Bool) (e : Refusal) → o ≡ when b NoCpu → or_else (when b NoCpu) None ≡ Some e
+    → o ≡ Some NoCpu
 only_no_cpu o true e is some = is
 only_no_cpu o false e is some = absurd (none_some some)
 
@@ -207,21 +227,29 @@ module _ (i : SoftintStep) (s : State) (m : Machine) (t : RunningSystem TallyVie
   pub no_cpu_there : Does tally_called tally_count TallyRefuses fires firing_at (Interrupts tally_called tally_count TallyRefuses)
       (running_system m.tally m.system) (SoftInterrupt i.cpu i.level i.budget (Err fault.NoCpu)) t
       → (softint_refusal i s ≡ Some NoCpu) × (t ≡ running_system m.tally m.system)
-  no_cpu_there (inl (e, some, answer, same)) = (only_no_cpu (softint_refusal i s) _ e (ap (λ k. when (nat_le k i.cpu) NoCpu) (long_shown s m.system h.shows h.system.agrees.long)) some, same)
+  no_cpu_there (inl (e, some, answer, same)) = (
+    only_no_cpu (softint_refusal i s) _ e (ap (λ k. when (nat_le k i.cpu) NoCpu)
+        (long_shown s m.system h.shows h.system.agrees.long)) some,
+    same,
+  )
   no_cpu_there (inr (none, (Ok ran, answer, did, records, last))) = absurd (let no : Err fault.NoCpu ≡ Ok ran = answer in cc)
-  no_cpu_there (inr (none, (Err own, answer, did, records, last))) = absurd (let no : Err fault.NoCpu ≡ Err (fault.Refused own) = answer in cc)
+  no_cpu_there (inr (none, (Err own, answer, did, records, last))) =
+      absurd (let no : Err fault.NoCpu ≡ Err (fault.Refused own) = answer in cc)
 
-  pub wide_served : (ran : Ran) → Does tally_called tally_count TallyRefuses fires firing_at (Interrupts tally_called tally_count TallyRefuses)
+  pub wide_served : (ran : Ran) → Does tally_called tally_count TallyRefuses fires firing_at
+      (Interrupts tally_called tally_count TallyRefuses)
       (running_system m.tally m.system) (SoftInterrupt i.cpu i.level i.budget (Ok ran)) t → IsWide t.calls
   wide_served ran (inl (e, some, answer, same)) = absurd (let no : Ok ran ≡ Err fault.NoCpu = answer in cc)
-  wide_served ran (inr (none, (Err own, answer, did, records, last))) = absurd (let no : Ok ran ≡ Err (fault.Refused own) = answer in cc)
+  wide_served ran (inr (none, (Err own, answer, did, records, last))) =
+      absurd (let no : Ok ran ≡ Err (fault.Refused own) = answer in cc)
   wide_served ran (inr (none, (Ok got, answer, did, records, last))) =
       let (served, long, serves, left) = did.change.0.served in
       still_wide m.tally t.calls (same_range (ids served) m.tally t.calls serves.called_all) h.tally
 
 -- ---- the machine after it
 
-pub served_holds : (step : ℕ) (i : SoftintStep) (made : Ran) (s : State) (m : Machine) (t : RunningSystem TallyView Tables) → Good s → Holds s m
+pub served_holds : (step : ℕ) (i : SoftintStep) (made : Ran) (s : State) (m : Machine) (t : RunningSystem TallyView Tables)
+    → Good s → Holds s m
     → IsServed tally_count i made s (running_system m.tally m.system) t → Keeps t.system → IsWide t.calls
     → Holds (interrupt step i s).state (record m { system = t.system; tally = t.calls })
 served_holds step i made s m t g h served kept wide = record {
@@ -229,11 +257,13 @@ served_holds step i made s m t g h served kept wide = record {
   shows = (served.comes step).shows;
   clock = h.clock;
   called = λ id. let a = served.called id in let b = h.called id in
-      let c : (interrupt step i s).state.called id ≡ s.called id + calls_of id (interrupt_here i.cpu i.level i.budget (cpu_of i.cpu s)).acts = refl in
+      let c : (interrupt step i s).state.called id
+      ≡ s.called id + calls_of id (interrupt_here i.cpu i.level i.budget (cpu_of i.cpu s)).acts = refl in
       omega (arith, a, b, c);
   names = h.names;
   remembers = remembers_on s (interrupt step i s).state m (record m { system = t.system; tally = t.calls }) h.remembers
-      (record { names = refl; counted = refl; named = refl }) (let same : s.last_id ≤ s.last_id = omega arith in same) (λ id low gone. gone)
+      (record { names = refl; counted = refl; named = refl }) (let same : s.last_id ≤ s.last_id = omega arith in same)
+      (λ id low gone. gone)
       (λ id low gone. gone_interrupt step i id s g (low, unknown_gone id s gone) served.accepted);
   tally = wide;
   most = kept.most;

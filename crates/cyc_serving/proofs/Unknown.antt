@@ -1,5 +1,6 @@
 -- Which cyclics are known once removals began, and once they were polled.
-use Rattle.std.proofs.Common.{◌≡◌, ◌≢◌, ℕ, zero, suc, ◌==◌, eq-eqb, eqb-true, Bool, true, false, cond, List, [], ◌∷◌, map, find, Option, Some, None, refl, ap, sym, ◌∙◌, subst}
+use Rattle.std.proofs.Common.{◌≡◌, ◌≢◌, ℕ, zero, suc, ◌==◌, eq-eqb, eqb-true, Bool, true, false, cond, List, [], ◌∷◌, map, find}
+use Rattle.std.proofs.Common.{Option, Some, None, refl, ap, sym, ◌∙◌, subst}
 use Rattle.std.specs.Prelude.{not, is_some}
 use Rattle.std.specs.Option.{option_map}
 use Rattle.std.specs.List.{slice_get}
@@ -45,27 +46,32 @@ placed_begins id (n ∷ ns) s = placed_begins id ns (begin plain id n s).state �
 -- ---- the other cyclics
 
 unknown_same : (j : ℕ) (s t : State) → t.placed ≡ s.placed → is_unknown j t ≡ is_unknown j s
-unknown_same j s t same = ap (λ ps. not (is_some (option_map (λ (p : Placed). p.place) (find (λ (p : Placed). p.id == j) ps)))) same
+unknown_same j s t same = ap (λ ps. not (is_some (option_map (λ (p : Placed). p.place) (find (λ (p : Placed). p.id == j) ps))))
+    same
 
 unknown_forgotten : (id j : ℕ) (t : State) → j ≢ id → is_unknown j (forgotten id t) ≡ is_unknown j t
 unknown_forgotten id j t ne = ap (λ o. not (is_some o)) (place_forgotten_other id j t ne)
 
-pub unknown_polled : (texts : List (List ℕ)) (step id j : ℕ) (s : State) → j ≢ id → is_unknown j (poll_id plain texts step id s).state ≡ is_unknown j s
+pub unknown_polled : (texts : List (List ℕ)) (step id j : ℕ) (s : State) → j ≢ id
+    → is_unknown j (poll_id plain texts step id s).state ≡ is_unknown j s
 unknown_polled texts step id j s ne =
     let o = each (poll plain id) (numbers (is_open id) s) s in
     by o (placed_polls id (numbers (is_open id) s) s) (cpus_with id o.state)
   where
-    by : (o : Outcome) → o.state.placed ≡ s.placed → (ns : List ℕ) → is_unknown j (polled step (text_of_id id texts s.names) id ns o).state ≡ is_unknown j s
+    by : (o : Outcome) → o.state.placed ≡ s.placed → (ns : List ℕ)
+        → is_unknown j (polled step (text_of_id id texts s.names) id ns o).state ≡ is_unknown j s
     by o same [] = unknown_forgotten id j o.state ne ∙ unknown_same j s o.state same
     by o same (n ∷ ns) = unknown_same j s o.state same
 
-pub unknown_removed : (step : ℕ) (text : List ℕ) (name j : ℕ) (s : State) → j ≢ id_of name s → is_unknown j (remove plain step text name s).state ≡ is_unknown j s
+pub unknown_removed : (step : ℕ) (text : List ℕ) (name j : ℕ) (s : State) → j ≢ id_of name s
+    → is_unknown j (remove plain step text name s).state ≡ is_unknown j s
 unknown_removed step text name j s ne =
     let id = id_of name s in
     let o = each (begin plain id) (cpus_with id s) s in
     by id ne o (placed_begins id (cpus_with id s) s) (cpus_with id o.state)
   where
-    by : (id : ℕ) → j ≢ id → (o : Outcome) → o.state.placed ≡ s.placed → (ns : List ℕ) → is_unknown j (begun plain step text id ns o).state ≡ is_unknown j s
+    by : (id : ℕ) → j ≢ id → (o : Outcome) → o.state.placed ≡ s.placed → (ns : List ℕ)
+        → is_unknown j (begun plain step text id ns o).state ≡ is_unknown j s
     by id ne o same [] = unknown_forgotten id j o.state ne ∙ unknown_same j s o.state same
     by id ne o same (n ∷ ns) = unknown_same j s o.state same
 
@@ -75,16 +81,20 @@ found_shown : (id k : ℕ) (rs : List Record) (r : Record) → slice_get rs k �
     → is_some (option_map (λ (p : Placed). p.place) (find (λ (p : Placed). p.id == id) (map shown_record rs))) ≡ true
 found_shown id k [] r is named = absurd (none_some is)
 found_shown id zero (q ∷ rs) r is named =
-    ap (λ b. is_some (option_map (λ (p : Placed). p.place) (cond b (Some (shown_record q)) (find (λ (p : Placed). p.id == id) (map shown_record rs)))))
+    ap (λ b. is_some (option_map (λ (p : Placed). p.place)
+    (cond b (Some (shown_record q)) (find (λ (p : Placed). p.id == id) (map shown_record rs)))))
     (eq-eqb q.id id (ap (λ (x : Record). x.id) (same_some is) ∙ named))
 found_shown id (suc k) (q ∷ rs) r is named = by (q.id == id) (found_shown id k rs r is named)
   where
-    by : (b : Bool) → is_some (option_map (λ (p : Placed). p.place) (find (λ (p : Placed). p.id == id) (map shown_record rs))) ≡ true
-        → is_some (option_map (λ (p : Placed). p.place) (cond b (Some (shown_record q)) (find (λ (p : Placed). p.id == id) (map shown_record rs)))) ≡ true
+    by : (b : Bool) → is_some (option_map (λ (p : Placed). p.place) (find (λ (p : Placed). p.id == id) (map shown_record rs)))
+        ≡ true
+        → is_some (option_map (λ (p : Placed). p.place)
+        (cond b (Some (shown_record q)) (find (λ (p : Placed). p.id == id) (map shown_record rs)))) ≡ true
     by true h = refl
     by false h = h
 
-pub still_known : (id : ℕ) (t : State) (w : SystemView Tables) → Shows t w → Agrees w → cpus_with_in id w.cpus ≢ [] → is_unknown id t ≡ true → ⊥
+pub still_known : (id : ℕ) (t : State) (w : SystemView Tables) → Shows t w → Agrees w → cpus_with_in id w.cpus ≢ []
+    → is_unknown id t ≡ true → ⊥
 still_known id t w h agrees some gone = some (nowhere id w.cpus (λ n. by n (has n id w.cpus) refl))
   where
     by : (n : ℕ) (b : Bool) → has n id w.cpus ≡ b → has n id w.cpus ≡ false
@@ -93,4 +103,5 @@ still_known id t w h agrees some gone = some (nowhere id w.cpus (λ n. by n (has
         let (k, r, here, named, stands, online) = agrees.known n id is in
         let known = found_shown id k w.records r here named in
         absurd (let no : false ≡ true =
-        sym (ap (λ ps. not (is_some (option_map (λ (p : Placed). p.place) (find (λ (p : Placed). p.id == id) ps)))) h.placed ∙ ap not known) ∙ gone in cc)
+        sym (ap (λ ps. not (is_some (option_map (λ (p : Placed). p.place) (find (λ (p : Placed). p.id == id) ps)))) h.placed
+        ∙ ap not known) ∙ gone in cc)

@@ -21,7 +21,8 @@ pub record HasServed (step : ℕ) (i : SoftintStep) (made : Ran) (s : State) (fi
 
 -- After the soft interrupt of this step, which s is before, the open removals of these ids were polled, in order, and these lines
 -- were written: the machine is now as the definition's.
-pub record IsPolling (texts : List (List ℕ)) (step : ℕ) (ids lines : List ℕ) (i : SoftintStep) (s : State) (m : Machine) : Type 0 where
+pub record IsPolling (texts : List (List ℕ)) (step : ℕ) (ids lines : List ℕ) (i : SoftintStep) (s : State)
+    (m : Machine) : Type 0 where
   pub reached : IsReached step s
   pub accepted : softint_refusal i s ≡ None
   pub polled : HavePolled texts step ids lines (interrupt step i s).state m.system

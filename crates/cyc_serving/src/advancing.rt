@@ -45,9 +45,11 @@ pub fn count_cpus(system: &System<LevelCore>) -> u32
 
 /// The CPU of this number fires at the machine's clock, where it is online. The tally refuses no call.
 fn fire_cpu(machine: &mut Machine, cpu: u32) -> Made
-    requires ready { (step expired lost : ℕ) × (s : State) × (first : RunningSystem TallyView Tables) × IsAdvancing step cpu expired lost s first machine.old }
+    requires ready { (step expired lost : ℕ) × (s : State) × (first : RunningSystem TallyView Tables)
+        × IsAdvancing step cpu expired lost s first machine.old }
     requires there { cpu < length machine.old.system.cpus.cpus }
-    ensures next { (step expired lost : ℕ) (s : State) (first : RunningSystem TallyView Tables) → IsAdvancing step cpu expired lost s first machine.old
+    ensures next { (step expired lost : ℕ) (s : State) (first : RunningSystem TallyView Tables)
+        → IsAdvancing step cpu expired lost s first machine.old
         → IsAdvancing step (cpu + 1) (expired + result.expired) (lost + result.lost) s first machine.new }
     ensures clock { machine.new.clock ≡ machine.old.clock }
     ensures many { length machine.new.system.cpus.cpus ≡ length machine.old.system.cpus.cpus }
@@ -77,7 +79,8 @@ fn fire_cpu(machine: &mut Machine, cpu: u32) -> Made
 
 /// The CPUs fire at the machine's clock, by rising number, where they are online. The tally refuses no call.
 fn fire_all(machine: &mut Machine) -> Made
-    requires ready { (step : ℕ) × (s : State) × (first : RunningSystem TallyView Tables) × IsAdvancing step 0 0 0 s first machine.old }
+    requires ready { (step : ℕ) × (s : State) × (first : RunningSystem TallyView Tables)
+        × IsAdvancing step 0 0 0 s first machine.old }
     ensures all { (step : ℕ) (s : State) (first : RunningSystem TallyView Tables) → IsAdvancing step 0 0 0 s first machine.old
         → IsAdvancing step (length machine.old.system.cpus.cpus) result.expired result.lost s first machine.new }
     ensures clock { machine.new.clock ≡ machine.old.clock }

@@ -1,6 +1,7 @@
 //! The word that runs a soft interrupt, and then polls the open removals.
 
-ghost use Rattle.std.specs.Prelude.{◌≡◌, ◌≢◌, ◌↔◌, ℕ, ◌<◌, ◌≤◌, ◌-◌, ◌^◌, ◌++◌, ◌∷◌, [], List, map, string_bytes, OnOk, IfErr, IfNone, IfSome, IsTrue, slice_set, Some, Ok};
+ghost use Rattle.std.specs.Prelude.{◌≡◌, ◌≢◌, ◌↔◌, ℕ, ◌<◌, ◌≤◌, ◌-◌, ◌^◌, ◌++◌, ◌∷◌, [], List, map, string_bytes, OnOk, IfErr};
+ghost use Rattle.std.specs.Prelude.{IfNone, IfSome, IsTrue, slice_set, Some, Ok};
 ghost use Rattle.cyc_types.specs.declared.refusal.Refusal.TheVariants.{NoCpu};
 ghost use Rattle.cyc_types.specs.Limits.{last_id};
 ghost use Rattle.cyc_text.specs.Lines.{removed};
@@ -70,7 +71,8 @@ fn open_above(system: &System<LevelCore>, cpu: u32, above: u64) -> u64
 
 /// The smallest number of an id above this one whose removal is open. The greatest number where there is none.
 fn least_open(system: &System<LevelCore>, above: u64) -> u64
-    ensures here { result < 2 ^ 64 - 1 → ((n : ℕ) × (removal_on n system.now.cpus ≡ Some result)) × (above < result) × (result ≤ last_id) }
+    ensures here { result < 2 ^ 64 - 1 → ((n : ℕ) × (removal_on n system.now.cpus ≡ Some result)) × (above < result)
+        × (result ≤ last_id) }
     ensures least { (n id : ℕ) → removal_on n system.now.cpus ≡ Some id → above < id → (result ≤ id) × (result ≤ last_id) }
 {
     system.law();
@@ -153,7 +155,8 @@ fn poll_removal(machine: &mut Machine, id: CyclicId) -> Option<Receipt>
     ensures polls { (texts : List (List ℕ)) (step : ℕ) (ids lines : List ℕ) (i : SoftintStep) (s : State)
         → IsPolling texts step ids lines i s machine.old
         → IsPolling texts step (ids ++ id ∷ []) (lines ++ answer_line step (text_of_id id texts s.names) result) i s machine.new }
-    ensures others { (n k : ℕ) → k ≢ id → (removal_on n machine.new.system.cpus ≡ Some k) ↔ (removal_on n machine.old.system.cpus ≡ Some k) }
+    ensures others { (n k : ℕ) → k ≢ id → (removal_on n machine.new.system.cpus ≡ Some k) ↔
+        (removal_on n machine.old.system.cpus ≡ Some k) }
 {
     poll_law::<Tally>();
     kept_law::<Tally>();
@@ -193,7 +196,8 @@ fn poll_one(
         → IsPolling (map string_bytes names.now) step ids lines i s machine.old
         → (more : List ℕ) × (string_bytes line.new ≡ string_bytes line.old ++ more)
         × IsPolling (map string_bytes names.now) step (ids ++ id ∷ []) (lines ++ more) i s machine.new) }
-    ensures others { (n k : ℕ) → k ≢ id → (removal_on n machine.new.system.cpus ≡ Some k) ↔ (removal_on n machine.old.system.cpus ≡ Some k) }
+    ensures others { (n k : ℕ) → k ≢ id → (removal_on n machine.new.system.cpus ≡ Some k) ↔
+        (removal_on n machine.old.system.cpus ≡ Some k) }
 {
     let Some(receipt) = poll_removal(machine, id) else {
         return Ok(());

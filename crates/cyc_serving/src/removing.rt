@@ -51,7 +51,8 @@ fn keep_begun(counted: &mut Vec<Counted>, name: usize, answer: Result<SystemRemo
 
 /// Begins the removal of a name's cyclic on every CPU that has it.
 fn remove_cyclic(machine: &mut Machine, name: Name) -> Result<SystemRemoval, Refusal>
-    ensures answers { (step : ℕ) (s : State) → IsReached step s → Holds s machine.old → Answers (steps.Remove name) result s machine.new }
+    ensures answers { (step : ℕ) (s : State) → IsReached step s → Holds s machine.old
+        → Answers (steps.Remove name) result s machine.new }
     ensures line { IfOk result (λ begun. (s : State) → Holds s machine.old → (texts : List (List ℕ)) (indexes : ℕ → ℕ) (step : ℕ)
         → (does plain texts indexes step (steps.Remove name) s).line ≡ begun_line step (text_in texts name) begun) }
 {
@@ -89,8 +90,8 @@ fn write_begun(
     }
 }
 
-/// The word `remove`: begins the removal of a name's cyclic on every CPU that has it, from when on it never expires. It answers at
-/// once, with all calls of the cyclic, or waits for the calls that are kept. It refuses as `System::begin_remove`, and with
+/// The word `remove`: begins the removal of a name's cyclic on every CPU that has it, from when on it never expires. It answers
+/// at once, with all calls of the cyclic, or waits for the calls that are kept. It refuses as `System::begin_remove`, and with
 /// NoCyclic where no add of the name was accepted.
 pub fn take_remove(
     machine: &mut Machine,

@@ -1,5 +1,6 @@
 -- What a soft interrupt does: the calls that it makes, the way of the soft side that belongs to them, and its answer.
-use Rattle.std.specs.Prelude.{◌≡◌, ℕ, ◌+◌, ◌<◌, ◌≤◌, ◌↔◌, Bool, true, false, IsTrue, List, [], ◌∷◌, ◌++◌, length, map, Option, Some, None, Result, IfOk, IfErr}
+use Rattle.std.specs.Prelude.{◌≡◌, ℕ, ◌+◌, ◌<◌, ◌≤◌, ◌↔◌, Bool, true, false, IsTrue, List, [], ◌∷◌, ◌++◌, length, map, Option}
+use Rattle.std.specs.Prelude.{Some, None, Result, IfOk, IfErr}
 use Rattle.std.specs.List.{FoldsTo}
 use Rattle.cyc_types.specs.Counting.{times}
 use Rattle.cyc_types.specs.Draining.{DrainCall, Takes, Finishes, hand_after}
@@ -35,11 +36,13 @@ hand_left hand (s ∷ ran) = hand_left (hand_after s.answer (Some s.id)) ran
 -- the way of the soft side: each call's look and finish, and then the rest
 abbrev pub way_of : Option ℕ → List Served → List DrainCall → List DrainCall
 way_of hand [] rest = rest
-way_of hand (s ∷ ran) rest = look_of hand (Some s.id) ++ Finishes s.id s.answer ∷ way_of (hand_after s.answer (Some s.id)) ran rest
+way_of hand (s ∷ ran) rest = look_of hand (Some s.id) ++ Finishes s.id s.answer ∷ way_of
+    (hand_after s.answer (Some s.id)) ran rest
 
 -- These calls were made, in order, and no other: the soft side went just their way, and for each id the handlers' counts and
 -- the finished calls have grown by the same.
-pub record Serves {D C : Type 0} (step : D → DrainCall → D → Type 0) (held : D → Option ℕ) (made : D → ℕ → ℕ) (called : C → ℕ → C → Type 0) (count : C → ℕ → ℕ)
+pub record Serves {D C : Type 0} (step : D → DrainCall → D → Type 0) (held : D → Option ℕ) (made : D → ℕ → ℕ) (called : C → ℕ → C
+    → Type 0) (count : C → ℕ → ℕ)
     (drain : D) (calls : C) (ran : List Served) (rest : List DrainCall) (drain' : D) (calls' : C) : Type 0 where
   pub way : DrainGoes step drain (way_of (held drain) ran rest) drain'
   pub called_all : FoldsTo called calls (ids ran) calls'

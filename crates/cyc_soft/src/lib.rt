@@ -54,7 +54,8 @@ pub fn softint<D: Drain, C: Calls>(
     level: Soft,
     budget: u32,
 ) -> Result<Ran, SoftRefused>
-    ensures { IsSoftint D.step D.held D.made (at_level C.called (level_of level)) C.count C.may_refuse budget result drain.old calls.old drain.new calls.new }
+    ensures { IsSoftint D.step D.held D.made (at_level C.called (level_of level)) C.count C.may_refuse budget result drain.old
+        calls.old drain.new calls.new }
 {
     for done in 0..budget {
         let Some(id) = in_hand(drain) else {

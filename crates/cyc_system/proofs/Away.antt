@@ -1,8 +1,10 @@
 -- What a fire and `settled` make of a firing side, which may come back.
-use Rattle.std.proofs.Common.{◌≡◌, ℕ, suc, length, ◌+◌, ◌≤◌, inl, inr, Bool, true, false, cond, Option, Some, None, Result, Ok, Err, List, [], ◌∷◌, map, option_map, refl, sym, ap, ◌∙◌, subst, arith, All}
+use Rattle.std.proofs.Common.{◌≡◌, ℕ, suc, length, ◌+◌, ◌≤◌, inl, inr, Bool, true, false, cond, Option, Some, None, Result, Ok}
+use Rattle.std.proofs.Common.{Err, List, [], ◌∷◌, map, option_map, refl, sym, ap, ◌∙◌, subst, arith, All}
 use Rattle.std.specs.Prelude.{eqb}
 use Rattle.std.specs.List.{slice_get}
-use Rattle.cyc_types.specs.Firing.{FiringView, FiringCall, Stay, Learns, Admits, Loads, Raises, Marks, Polls, Expands, Looks, edited, edit_stay}
+use Rattle.cyc_types.specs.Firing.{FiringView, FiringCall, Stay, Learns, Admits, Loads, Raises, Marks, Polls, Expands, Looks}
+use Rattle.cyc_types.specs.Firing.{edited, edit_stay}
 use Rattle.cyc_types.specs.Runs.{Goes, lost_by}
 use Rattle.cyc_types.specs.declared.firing.Raised.TheVariants.{First, More, Lost}
 use Rattle.cyc_types.specs.declared.level.Level.{Level}
@@ -29,7 +31,8 @@ each_same : {A : Type 0} (P : A → A → Type 0) → ((x : A) → P x x) → (x
 each_same P own [] = tt
 each_same P own (x ∷ xs) = (own x, each_same P own xs)
 
-each_then : {A : Type 0} (P Q S : A → A → Type 0) → ((x y z : A) → P x y → Q y z → S x z) → (xs ys zs : List A) → EachTwo P xs ys → EachTwo Q ys zs → EachTwo S xs zs
+each_then : {A : Type 0} (P Q S : A → A → Type 0) → ((x y z : A) → P x y → Q y z → S x z) → (xs ys zs : List A) → EachTwo P xs ys
+    → EachTwo Q ys zs → EachTwo S xs zs
 each_then P Q S then [] [] [] h k = tt
 each_then P Q S then [] [] (z ∷ zs) h k = absurd k
 each_then P Q S then [] (y ∷ ys) zs h k = absurd h
@@ -37,7 +40,8 @@ each_then P Q S then (x ∷ xs) [] zs h k = absurd h
 each_then P Q S then (x ∷ xs) (y ∷ ys) [] h k = absurd k
 each_then P Q S then (x ∷ xs) (y ∷ ys) (z ∷ zs) h k = (then x y z h.0 k.0, each_then P Q S then xs ys zs h.1 k.1)
 
-each_of : {A : Type 0} (P : A → A → Type 0) (xs ys : List A) → length ys ≡ length xs → ((n : ℕ) (x y : A) → slice_get xs n ≡ Some x → slice_get ys n ≡ Some y → P x y) → EachTwo P xs ys
+each_of : {A : Type 0} (P : A → A → Type 0) (xs ys : List A) → length ys ≡ length xs
+    → ((n : ℕ) (x y : A) → slice_get xs n ≡ Some x → slice_get ys n ≡ Some y → P x y) → EachTwo P xs ys
 each_of P [] [] long h = tt
 each_of P [] (y ∷ ys) long h = absurd (omega (arith, long))
 each_of P (x ∷ xs) [] long h = absurd (omega (arith, long))
@@ -86,8 +90,10 @@ edited_index f kept true (Some s) = ap Some (kept s)
 edited_index f kept false o = refl
 
 -- a stay whose index is kept
-end_edited : (id : ℕ) (f : Stay → Stay) (v w : FiringView) → ((s : Stay) → (f s).index ≡ s.index) → w ≡ edit_stay id f v → IsSameEnd v w
-end_edited id f v w kept e = subst (λ u. IsSameEnd v u) (sym e) (record { ceiling = refl; indexes = λ j. edited_index f kept (eqb j id) (v.stays j) })
+end_edited : (id : ℕ) (f : Stay → Stay) (v w : FiringView) → ((s : Stay) → (f s).index ≡ s.index) → w ≡ edit_stay id f v
+    → IsSameEnd v w
+end_edited id f v w kept e = subst (λ u. IsSameEnd v u) (sym e)
+    (record { ceiling = refl; indexes = λ j. edited_index f kept (eqb j id) (v.stays j) })
 
 -- the calls of a fire and of `settled`
 abbrev IsSteady : FiringCall → Type 0
@@ -105,8 +111,10 @@ AreSteady (call ∷ way) = IsSteady call × AreSteady way
 
 learns_end : (v w : FiringView) (call : FiringCall) → IsSteady call → Learns v call w → IsSameEnd v w
 learns_end v w (Raises id First) steady l = end_edited id (λ s. record s { sent = s.sent + 1; seen = 0 + 1 }) v w (λ s. refl) l
-learns_end v w (Raises id More) steady (pend, some, less, seen, l) = end_edited id (λ s. record s { sent = s.sent + 1; seen = pend + 1 }) v w (λ s. refl) l
-learns_end v w (Raises id Lost) steady l = end_edited id (λ s. record s { sent = s.sent + 1; lost = s.lost + 1; seen = v.ceiling }) v w (λ s. refl) l.1
+learns_end v w (Raises id More) steady (pend, some, less, seen, l) =
+    end_edited id (λ s. record s { sent = s.sent + 1; seen = pend + 1 }) v w (λ s. refl) l
+learns_end v w (Raises id Lost) steady l =
+    end_edited id (λ s. record s { sent = s.sent + 1; lost = s.lost + 1; seen = v.ceiling }) v w (λ s. refl) l.1
 learns_end v w (Loads id pend) steady l = end_edited id (λ s. record s { seen = pend }) v w (λ s. refl) l.1
 learns_end v w (Looks answer) steady l = subst (λ u. IsSameEnd v u) (sym l.1) (record { ceiling = refl; indexes = λ j. refl })
 learns_end v w (Admits id index) steady l = absurd steady
@@ -142,7 +150,8 @@ module _ {R : Type 0} (step : R → FiringCall → R → Type 0) (view : R → F
 
   inquired_end : (e f : R) → LoadsThenLooks step view e f → IsSameEnd (view e) (view f)
   inquired_end e f (m, (asked, loads), (answers, looks)) =
-      end_then (view e) (view m) (view f) (goes_end e m _ (loads_steady asked) loads) (goes_end m f _ (looks_steady answers) looks)
+      end_then (view e) (view m) (view f) (goes_end e m _ (loads_steady asked) loads)
+      (goes_end m f _ (looks_steady answers) looks)
 
 -- ---- a CPU
 
@@ -159,7 +168,8 @@ none_cons : {A : Type 0} {x : A} {xs : List A} → [] ≡ x ∷ xs → ⊥
 none_cons {A} {x} {xs} e = cc
 
 -- one cyclic after a fire
-fired_one : (lock low now most : ℕ) (made : List Expiration) (lost : ℕ → ℕ → ℕ) (c d : Cyclic) → ((id n : ℕ) → n ≤ lost id n) → d.timer ≡ expire.after now made c.timer
+fired_one : (lock low now most : ℕ) (made : List Expiration) (lost : ℕ → ℕ → ℕ) (c d : Cyclic) → ((id n : ℕ) → n ≤ lost id n)
+    → d.timer ≡ expire.after now made c.timer
     → d.carried ≡ c.carried → d.lost ≡ lost c.timer.id c.lost → HasCounts most c → IsSpared lock low d → GoesOn lock low c d
 unfolding expire.after
 fired_one lock low now most made lost c d more timer carried losses counts spared = record {
@@ -168,19 +178,23 @@ fired_one lock low now most made lost c d more timer carried losses counts spare
   interval = ap (λ (t : Timer). t.interval) timer;
   expired = (let e = ap (λ (t : Timer). t.expired) timer in omega (arith, e));
   lost = (let m = more c.timer.id c.lost in omega (arith, m, losses));
-  spared = λ none under. (let e = spared under in let f = ap (λ x. x.lost) carried in let g = counts.carried_lost in omega (arith, e, f, g, none));
+  spared = λ none under. (let e = spared under in let f = ap (λ x. x.lost) carried in let g = counts.carried_lost in
+      omega (arith, e, f, g, none));
 }
 
-fired_each : (lock low now most : ℕ) (made : List Expiration) (lost : ℕ → ℕ → ℕ) (cs ds : List Cyclic) → ((id n : ℕ) → n ≤ lost id n)
+fired_each : (lock low now most : ℕ) (made : List Expiration) (lost : ℕ → ℕ → ℕ) (cs ds : List Cyclic)
+    → ((id n : ℕ) → n ≤ lost id n)
     → timers ds ≡ all_after now made (timers cs) → map (λ (c : Cyclic). c.carried) ds ≡ map (λ (c : Cyclic). c.carried) cs
-    → map (λ (c : Cyclic). c.lost) ds ≡ map (λ (c : Cyclic). lost c.timer.id c.lost) cs → All (HasCounts most) cs → All (IsSpared lock low) ds
+    → map (λ (c : Cyclic). c.lost) ds ≡ map (λ (c : Cyclic). lost c.timer.id c.lost) cs → All (HasCounts most) cs
+    → All (IsSpared lock low) ds
     → EachTwo (GoesOn lock low) cs ds
 unfolding all_after
 fired_each lock low now most made lost [] [] more timer carried losses counts spared = tt
 fired_each lock low now most made lost [] (d ∷ ds) more timer carried losses counts spared = absurd (cons_none timer)
 fired_each lock low now most made lost (c ∷ cs) [] more timer carried losses counts spared = absurd (none_cons timer)
 fired_each lock low now most made lost (c ∷ cs) (d ∷ ds) more timer carried losses counts spared = (
-  fired_one lock low now most made lost c d more (cons_head timer) (cons_head carried) (cons_head losses) (counts 0 c (omega arith)) (spared 0 d (omega arith)),
+  fired_one lock low now most made lost c d more (cons_head timer) (cons_head carried) (cons_head losses)
+      (counts 0 c (omega arith)) (spared 0 d (omega arith)),
   fired_each lock low now most made lost cs ds more (cons_tail timer) (cons_tail carried) (cons_tail losses)
       (λ k x less. counts (suc k) x (omega (arith, less))) (λ k x less. spared (suc k) x (omega (arith, less))),
 )
@@ -208,15 +222,19 @@ module _ {R : Type 0} (view : R → FiringView) where
     low = end_then (view x.low) (view y.low) (view z.low) a.low b.low;
   }
 
-module _ {C R : Type 0} (called : C → ℕ → Level → C → Type 0) (count : C → ℕ → ℕ) (may_refuse : C → ℕ → Type 0) (step : R → FiringCall → R → Type 0) (view : R → FiringView) where
+module _ {C R : Type 0} (called : C → ℕ → Level → C → Type 0) (count : C → ℕ → ℕ) (may_refuse : C → ℕ → Type 0)
+    (step : R → FiringCall → R → Type 0) (view : R → FiringView) where
   -- so many expirations of a fire were made
-  back_made : (x y : CpuView R) (calling : C → ℕ → C → Type 0) (now lost : ℕ) (made : List Expiration) (a b : Sides C R) → IsLawful view x → IsLawful view y → SameCpu x y
+  back_made : (x y : CpuView R) (calling : C → ℕ → C → Type 0) (now lost : ℕ) (made : List Expiration) (a b : Sides C R)
+      → IsLawful view x → IsLawful view y → SameCpu x y
       → a.lock ≡ x.lock → a.low ≡ x.low → b.lock ≡ y.lock → b.low ≡ y.low
       → Makes calling count step view now made x.cyclics y.cyclics a b lost → ComesBack view x y
   back_made x y calling now lost made a b lawful after same al aw bl bw m = record {
     cyclics = fired_each (view x.lock).ceiling (view x.low).ceiling now x.most made
-        (λ id n. n + lost_by id m.acts.lock_way + lost_by id m.acts.low_way) x.cyclics y.cyclics (λ id n. omega arith) m.timers_are m.carried_are m.losses_are lawful.counted
-        (subst (λ n. All (IsSpared (view x.lock).ceiling n) y.cyclics) low.ceiling (subst (λ n. All (IsSpared n (view y.low).ceiling) y.cyclics) lock.ceiling after.spared));
+        (λ id n. n + lost_by id m.acts.lock_way + lost_by id m.acts.low_way) x.cyclics y.cyclics
+        (λ id n. omega arith) m.timers_are m.carried_are m.losses_are lawful.counted
+        (subst (λ n. All (IsSpared (view x.lock).ceiling n) y.cyclics) low.ceiling
+        (subst (λ n. All (IsSpared n (view y.low).ceiling) y.cyclics) lock.ceiling after.spared));
     removal = same.removal;
     size = same.size;
     most = same.most;
@@ -226,7 +244,8 @@ module _ {C R : Type 0} (called : C → ℕ → Level → C → Type 0) (count :
     where
       lock : IsSameEnd (view x.lock) (view y.lock)
       lock = subst (λ e. IsSameEnd (view e) (view y.lock)) al (subst (λ f. IsSameEnd (view a.lock) (view f)) bl
-          (goes_end step view a.lock b.lock m.acts.lock_way (raises_steady _ m.acts.lock_way m.acts.lock_raises) m.acts.lock_goes))
+          (goes_end step view a.lock b.lock m.acts.lock_way
+          (raises_steady _ m.acts.lock_way m.acts.lock_raises) m.acts.lock_goes))
 
       low : IsSameEnd (view x.low) (view y.low)
       low = subst (λ e. IsSameEnd (view e) (view y.low)) aw (subst (λ f. IsSameEnd (view a.low) (view f)) bw
@@ -234,13 +253,17 @@ module _ {C R : Type 0} (called : C → ℕ → Level → C → Type 0) (count :
 
   pub back_fired : (s t : Running C R) (now : ℕ) (answer : Result Fired FireRefused) → IsLawful view s.cpu → IsLawful view t.cpu
       → Does called count may_refuse step view no_interrupts s (Fire now answer) t → ComesBack view s.cpu t.cpu
-  back_fired s t now (Ok r) lawful after (nn, same, expired, next, makes) = back_made s.cpu t.cpu _ now r.lost _ _ _ lawful after same refl refl refl refl makes
-  back_fired s t now (Err e) lawful after (inl (is, what, same)) = subst (λ (u : Running C R). ComesBack view s.cpu u.cpu) (sym same) (back_same view s.cpu)
-  back_fired s t now (Err e) lawful after (inr (nn, same, stopped)) = back_made s.cpu t.cpu _ now e.lost _ _ _ lawful after same refl refl refl refl stopped.makes
+  back_fired s t now (Ok r) lawful after (nn, same, expired, next, makes) =
+      back_made s.cpu t.cpu _ now r.lost _ _ _ lawful after same refl refl refl refl makes
+  back_fired s t now (Err e) lawful after (inl (is, what, same)) =
+      subst (λ (u : Running C R). ComesBack view s.cpu u.cpu) (sym same) (back_same view s.cpu)
+  back_fired s t now (Err e) lawful after (inr (nn, same, stopped)) =
+      back_made s.cpu t.cpu _ now e.lost _ _ _ lawful after same refl refl refl refl stopped.makes
 
   back_inquired : (v w : CpuView R) → Inquires step view v w → ComesBack view v w
   back_inquired v w i = record {
-    cyclics = subst (λ cs. EachTwo (GoesOn (view v.lock).ceiling (view v.low).ceiling) v.cyclics cs) (sym i.cyclics) (each_same _ (goes_same (view v.lock).ceiling (view v.low).ceiling) v.cyclics);
+    cyclics = subst (λ cs. EachTwo (GoesOn (view v.lock).ceiling (view v.low).ceiling) v.cyclics cs) (sym i.cyclics)
+        (each_same _ (goes_same (view v.lock).ceiling (view v.low).ceiling) v.cyclics);
     removal = i.kept.removal;
     size = i.kept.size;
     most = i.kept.most;
@@ -258,6 +281,7 @@ module _ {C R : Type 0} (called : C → ℕ → Level → C → Type 0) (count :
   pub all_then : (xs ys zs : List (CpuView R)) → AllComeBack view xs ys → AllComeBack view ys zs → AllComeBack view xs zs
   all_then xs ys zs a b = each_then _ _ _ (back_then view) xs ys zs a b
 
-  pub all_of : (xs ys : List (CpuView R)) → length ys ≡ length xs → ((n : ℕ) (x y : CpuView R) → slice_get xs n ≡ Some x → slice_get ys n ≡ Some y → ComesBack view x y)
+  pub all_of : (xs ys : List (CpuView R)) → length ys ≡ length xs
+      → ((n : ℕ) (x y : CpuView R) → slice_get xs n ≡ Some x → slice_get ys n ≡ Some y → ComesBack view x y)
       → AllComeBack view xs ys
   all_of xs ys long h = each_of (ComesBack view) xs ys long h

@@ -18,30 +18,39 @@ use Rattle.cyc_system.proofs.Turned.{still_then, still_turn, still_turns, still_
 use Rattle.cyc_system.proofs.Fitting.{Fits, fits_within, fits_first, fits_turn, fits_retired, fits_calls, puts_quiet, puts_found}
 
 module _ {R : Type 0} (step : R → FiringCall → R → Type 0) (view : R → FiringView) (n : ℕ) where
-  fits_turns : (ids : List ℕ) (report : JuggleReport) (s t : SystemView R) → Turns step view n ids report s t → Fits step view n s → Fits step view n t
+  fits_turns : (ids : List ℕ) (report : JuggleReport) (s t : SystemView R) → Turns step view n ids report s t → Fits step view n s
+      → Fits step view n t
   fits_turns [] report s t (none, same) f = subst (Fits step view n) (sym same) f
   fits_turns (id ∷ ids) report s t (turn, u, rest, first, counted, more) f =
       fits_turns ids rest u t more (fits_turn step view n id turn s u first (still_turn step view n id turn s u first) f)
 
-  fits_retires : (ids : List ℕ) (s t : SystemView R) → FoldsTo (Retires step view n) s ids t → Fits step view n s → Fits step view n t
+  fits_retires : (ids : List ℕ) (s t : SystemView R) → FoldsTo (Retires step view n) s ids t → Fits step view n s
+      → Fits step view n t
   fits_retires [] s t e f = subst (Fits step view n) e f
-  fits_retires (id ∷ ids) s t (u, first, rest) f = fits_retires ids u t rest (fits_retired step view n id s u first (still_retired step view n id s u first).most f)
+  fits_retires (id ∷ ids) s t (u, first, rest) f =
+      fits_retires ids u t rest (fits_retired step view n id s u first (still_retired step view n id s u first).most f)
 
   -- the numbers of the CPUs that are online play no part
   fits_switched : (s t : SystemView R) → t ≡ offline_at n s → EndedWithin s → EndedWithin t
   fits_switched s t e h = subst EndedWithin (sym e) h
 
-  within_left : (report : JuggleReport) (answer : Result (Unit {0}) Refusal) (s t : SystemView R) → Leaves step view n report answer s t → Fits step view n s → EndedWithin t
+  within_left : (report : JuggleReport) (answer : Result (Unit {0}) Refusal) (s t : SystemView R)
+      → Leaves step view n report answer s t → Fits step view n s → EndedWithin t
   within_left report answer s t (inl (left, is, same)) f = fits_within step view n t (subst (Fits step view n) (sym same) f)
   within_left report answer s t (inr (inl (none, is, (before, id, after, found, some, only)))) f = fits_within step view n t
-      (fits_calls step view n s t (quiet n before ++ on n (AskPending id (Some found)) ∷ []) (puts_found step view n before id found) only
+      (fits_calls step view n s t (quiet n before ++ on n (AskPending id (Some found)) ∷ [])
+      (puts_found step view n before id found) only
       (still_left step view n report answer s t (inr (inl (none, is, (before, id, after, found, some, only))))).most f)
-  within_left report answer s t (inr (inr (none, is, (u, only, empty, each, off)))) f = fits_switched empty t off (fits_within step view n empty
+  within_left report answer s t (inr (inr (none, is, (u, only, empty, each, off)))) f =
+      fits_switched empty t off (fits_within step view n empty
       (fits_retires (ids_on n s.cpus) u empty each
-      (fits_calls step view n s u (quiet n (ids_on n s.cpus)) (puts_quiet step view n (ids_on n s.cpus)) only (still_asked step view n s u only).most f)))
+      (fits_calls step view n s u (quiet n (ids_on n s.cpus)) (puts_quiet step view n (ids_on n s.cpus)) only
+      (still_asked step view n s u only).most f)))
 
-  pub holds_juggled : (answer : Result JuggleReport Refusal) (s t : SystemView R) → Juggles step view n answer s t → Holds s → Agrees t → HasRisingIds s.records → HasRisingIds t.records
-      → ((m : ℕ) (cpu : CpuView R) → IsCpu m cpu s.cpus → IsLawful view cpu) → ((m : ℕ) (cpu : CpuView R) → IsCpu m cpu t.cpus → IsLawful view cpu) → Holds t
+  pub holds_juggled : (answer : Result JuggleReport Refusal) (s t : SystemView R) → Juggles step view n answer s t → Holds s
+      → Agrees t → HasRisingIds s.records → HasRisingIds t.records
+      → ((m : ℕ) (cpu : CpuView R) → IsCpu m cpu s.cpus → IsLawful view cpu)
+      → ((m : ℕ) (cpu : CpuView R) → IsCpu m cpu t.cpus → IsLawful view cpu) → Holds t
   holds_juggled answer s t (inl (e, why, is, same)) h agrees rising now first lawful = subst Holds (sym same) h
   holds_juggled answer s t (inr (clear, (report, is, turns))) h agrees rising now first lawful =
       let still = still_turns step view n (single_ids n s) report s t turns in record {
@@ -50,12 +59,16 @@ module _ {R : Type 0} (step : R → FiringCall → R → Type 0) (view : R → F
         within = fits_within step view n t (fits_turns (single_ids n s) report s t turns (fits_first step view n s h first));
       }
 
-  pub holds_offline : (answer : Result (Unit {0}) Refusal) (s t : SystemView R) → GoesOffline step view n answer s t → Holds s → Agrees t → HasRisingIds s.records → HasRisingIds t.records
-      → ((m : ℕ) (cpu : CpuView R) → IsCpu m cpu s.cpus → IsLawful view cpu) → ((m : ℕ) (cpu : CpuView R) → IsCpu m cpu t.cpus → IsLawful view cpu) → Holds t
+  pub holds_offline : (answer : Result (Unit {0}) Refusal) (s t : SystemView R) → GoesOffline step view n answer s t → Holds s
+      → Agrees t → HasRisingIds s.records → HasRisingIds t.records
+      → ((m : ℕ) (cpu : CpuView R) → IsCpu m cpu s.cpus → IsLawful view cpu)
+      → ((m : ℕ) (cpu : CpuView R) → IsCpu m cpu t.cpus → IsLawful view cpu) → Holds t
   holds_offline answer s t (inl (e, why, is, same)) h agrees rising now first lawful = subst Holds (sym same) h
   holds_offline answer s t (inr (clear, (report, moved, turns, leaves))) h agrees rising now first lawful =
-      let still = still_then step view s moved t (still_turns step view n (single_ids n s) report s moved turns) (still_left step view n report answer moved t leaves) in record {
+      let still = still_then step view s moved t (still_turns step view n (single_ids n s) report s moved turns)
+      (still_left step view n report answer moved t leaves) in record {
         agrees = agrees;
         whole = whole_still step view s t still agrees rising now lawful h.whole;
-        within = within_left report answer moved t leaves (fits_turns (single_ids n s) report s moved turns (fits_first step view n s h first));
+        within = within_left report answer moved t leaves
+            (fits_turns (single_ids n s) report s moved turns (fits_first step view n s h first));
       }

@@ -1,5 +1,6 @@
 -- No call takes an id back.
-use Rattle.std.proofs.Common.{◌∙◌, ◌≡◌, ℕ, ◌<◌, ◌≤◌, ◌⊎◌, inl, inr, Option, Some, None, Result, Ok, Err, List, [], ◌∷◌, sym, ap, arith}
+use Rattle.std.proofs.Common.{◌∙◌, ◌≡◌, ℕ, ◌<◌, ◌≤◌, ◌⊎◌, inl, inr, Option, Some, None, Result, Ok, Err, List, [], ◌∷◌, sym, ap}
+use Rattle.std.proofs.Common.{arith}
 use Rattle.std.specs.List.{FoldsTo}
 use Rattle.cyc_types.specs.Firing.{FiringView, FiringCall}
 use Rattle.cyc_types.specs.declared.level.Level.{Level}
@@ -29,7 +30,8 @@ use Rattle.cyc_juggling.specs.Juggling.{TakesTurn, Turns, single_ids}
 use Rattle.cyc_juggling.specs.Leaving.{Retires, Leaves}
 use Rattle.cyc_everywhere.specs.Omni.{AddsOmni}
 use Rattle.cyc_everywhere.specs.Online.{GoesOnline}
-use Rattle.cyc_system.specs.Calls.{SystemCall, Changes, Does, Add, AddOmni, Bind, BeginRemove, PollRemove, AskTotals, Reprogram, ReprogramOn, Juggle, Offline, Online, FireOne, SoftInterrupt}
+use Rattle.cyc_system.specs.Calls.{SystemCall, Changes, Does, Add, AddOmni, Bind, BeginRemove, PollRemove, AskTotals, Reprogram}
+use Rattle.cyc_system.specs.Calls.{ReprogramOn, Juggle, Offline, Online, FireOne, SoftInterrupt}
 
 stays : (a b : ℕ) → b ≡ a → a ≤ b
 stays a b e = omega (arith, e)
@@ -41,12 +43,15 @@ refused_or o refused answer s t G (inl (e, why, is, same)) goes = stays s.last t
 refused_or o refused answer s t G (inr (clear, g)) goes = goes g
 
 running_or : {C R A : Type 0} (o : Option Refusal) (refused : Refusal → A) (answer : A) (s t : RunningSystem C R) (G : Type 0)
-    → ((e : Refusal) × (o ≡ Some e) × (answer ≡ refused e) × (t ≡ s)) ⊎ ((o ≡ None) × G) → (G → s.system.last ≤ t.system.last) → s.system.last ≤ t.system.last
-running_or o refused answer s t G (inl (e, why, is, same)) goes = stays s.system.last t.system.last (ap (λ (x : RunningSystem _ _). x.system.last) same)
+    → ((e : Refusal) × (o ≡ Some e) × (answer ≡ refused e) × (t ≡ s)) ⊎ ((o ≡ None) × G) → (G → s.system.last ≤ t.system.last)
+    → s.system.last ≤ t.system.last
+running_or o refused answer s t G (inl (e, why, is, same)) goes =
+    stays s.system.last t.system.last (ap (λ (x : RunningSystem _ _). x.system.last) same)
 running_or o refused answer s t G (inr (clear, g)) goes = goes g
 
 module _ {R : Type 0} (step : R → FiringCall → R → Type 0) (view : R → FiringView) (s t : SystemView R) where
-  adds : (level : Level) (when : When) (now : ℕ) (answer : Result ℕ Refusal) → Adds step view level when now answer s t → s.last ≤ t.last
+  adds : (level : Level) (when : When) (now : ℕ) (answer : Result ℕ Refusal) → Adds step view level when now answer s t
+      → s.last ≤ t.last
   adds level when now (Ok id) (d, chosen, next, works, records, last) = omega (arith, next, last)
   adds level when now (Err e) (d, chosen, inl (works, records, last)) = stays s.last t.last last
   adds level when now (Err e) (d, chosen, inr (is, (works, records, last))) = stays s.last t.last last
@@ -55,7 +60,8 @@ module _ {R : Type 0} (step : R → FiringCall → R → Type 0) (view : R → F
   binds id n (Ok done) (home, has, goes, (k, r, here, named, records, last)) = stays s.last t.last last
   binds id n (Err e) (home, has, goes, records, last) = stays s.last t.last last
 
-  omni : (level : Level) (when : When) (skew now : ℕ) (answer : Result ℕ Refusal) → AddsOmni step view level when skew now answer s t → s.last ≤ t.last
+  omni : (level : Level) (when : When) (skew now : ℕ) (answer : Result ℕ Refusal)
+      → AddsOmni step view level when skew now answer s t → s.last ≤ t.last
   omni level when skew now (Ok id) (next, works, records, last) = omega (arith, next, last)
   omni level when skew now (Err e) (works, records, last) = stays s.last t.last last
 
@@ -78,7 +84,8 @@ module _ {R : Type 0} (step : R → FiringCall → R → Type 0) (view : R → F
   begins_each id [] s t e = ap (λ (x : SystemView R). x.last) (sym e)
   begins_each id (b ∷ way) s t (u, first, rest) = begins_each id way u t rest ∙ begins_on id b.cpu b.found s u first
 
-  begins : (id : ℕ) (answer : Result SystemRemoval Refusal) (s t : SystemView R) → Removes step view id answer s t → t.last ≡ s.last
+  begins : (id : ℕ) (answer : Result SystemRemoval Refusal) (s t : SystemView R) → Removes step view id answer s t
+      → t.last ≡ s.last
   begins id (Ok (over.Done receipt)) s t (way, u, cpus, each, answers) = answers.last ∙ begins_each id way s u each
   begins id (Ok (over.Kept kept)) s t (way, cpus, each, some, sum) = begins_each id way s t each
   begins id (Err e) s t d = absurd d
@@ -91,7 +98,8 @@ module _ {R : Type 0} (step : R → FiringCall → R → Type 0) (view : R → F
   polls_each id [] s t e = ap (λ (x : SystemView R). x.last) (sym e)
   polls_each id (p ∷ way) s t (u, first, rest) = polls_each id way u t rest ∙ polls_on id p.cpu p.answer s u first
 
-  polls : (id : ℕ) (answer : Result (Option Receipt) Refusal) (s t : SystemView R) → Polls step view id answer s t → t.last ≡ s.last
+  polls : (id : ℕ) (answer : Result (Option Receipt) Refusal) (s t : SystemView R) → Polls step view id answer s t
+      → t.last ≡ s.last
   polls id (Ok (Some receipt)) s t (way, u, cpus, each, answers) = answers.last ∙ polls_each id way s u each
   polls id (Ok None) s t (way, cpus, each, some) = polls_each id way s t each
   polls id (Err e) s t d = absurd d
@@ -110,7 +118,8 @@ module _ {R : Type 0} (step : R → FiringCall → R → Type 0) (view : R → F
   retires n [] s t e = ap (λ (x : SystemView R). x.last) (sym e)
   retires n (id ∷ ids) s t (u, (taken, does, k, r, here, named, records, last), rest) = retires n ids u t rest ∙ last
 
-  leaves : (n : ℕ) (report : JuggleReport) (answer : Result (Unit {0}) Refusal) (s t : SystemView R) → Leaves step view n report answer s t → t.last ≡ s.last
+  leaves : (n : ℕ) (report : JuggleReport) (answer : Result (Unit {0}) Refusal) (s t : SystemView R)
+      → Leaves step view n report answer s t → t.last ≡ s.last
   leaves n report answer s t (inl (left, is, same)) = ap (λ (x : SystemView R). x.last) same
   leaves n report answer s t (inr (inl (none, is, (before, id, after, found, some, (works, records, last))))) = last
   leaves n report answer s t (inr (inr (none, is, (asked, (works, records, last), empty, each, off)))) =
@@ -119,7 +128,8 @@ module _ {R : Type 0} (step : R → FiringCall → R → Type 0) (view : R → F
 module _ {R : Type 0} (step : R → FiringCall → R → Type 0) (view : R → FiringView) (s t : SystemView R) where
   changes : (call : SystemCall) → Changes step view s call t → s.last ≤ t.last
   changes (Add level when now answer) d = refused_or _ _ answer s t _ d (λ g. adds step view s t level when now answer g)
-  changes (AddOmni level when skew now answer) d = refused_or _ _ answer s t _ d (λ g. omni step view s t level when skew now answer g)
+  changes (AddOmni level when skew now answer) d =
+      refused_or _ _ answer s t _ d (λ g. omni step view s t level when skew now answer g)
   changes (Bind id None answer) d = refused_or _ _ answer s t _ d (λ g. stays s.last t.last (by g))
     where
       by : Unbinds id answer s t → t.last ≡ s.last
@@ -134,14 +144,17 @@ module _ {R : Type 0} (step : R → FiringCall → R → Type 0) (view : R → F
       (λ g. (let (report, is, moves) = g in stays s.last t.last (turns step view n (single_ids n s) report s t moves)))
   changes (Offline n answer) d = refused_or _ _ answer s t _ d
       (λ g. (let (report, moved, moves, rest) = g in
-      stays s.last t.last (leaves step view n report answer moved t rest ∙ turns step view n (single_ids n s) report s moved moves)))
+      stays s.last t.last (leaves step view n report answer moved t rest
+      ∙ turns step view n (single_ids n s) report s moved moves)))
   changes (Online n now answer) d = refused_or _ _ answer s t _ d (λ g. returns step view s t n now answer g)
   changes (FireOne n now answer) d = absurd d
   changes (SoftInterrupt n level budget answer) d = absurd d
 
-module _ {C R : Type 0} (called : C → ℕ → Level → C → Type 0) (count : C → ℕ → ℕ) (may_refuse : C → ℕ → Type 0) (step : R → FiringCall → R → Type 0)
+module _ {C R : Type 0} (called : C → ℕ → Level → C → Type 0) (count : C → ℕ → ℕ) (may_refuse : C → ℕ → Type 0)
+    (step : R → FiringCall → R → Type 0)
     (view : R → FiringView) (interrupts : Soft → ℕ → Result Ran SoftRefused → Running C R → Running C R → Type 0) where
-  rises : (s t : RunningSystem C R) (call : SystemCall) → Does called count may_refuse step view interrupts s call t → s.system.last ≤ t.system.last
+  rises : (s t : RunningSystem C R) (call : SystemCall) → Does called count may_refuse step view interrupts s call t
+      → s.system.last ≤ t.system.last
   rises s t (Add level when now answer) d = changes step view s.system t.system (Add level when now answer) d.0
   rises s t (AddOmni level when skew now answer) d = changes step view s.system t.system (AddOmni level when skew now answer) d.0
   rises s t (BeginRemove id answer) d = changes step view s.system t.system (BeginRemove id answer) d.0
@@ -156,16 +169,22 @@ module _ {C R : Type 0} (called : C → ℕ → Level → C → Type 0) (count :
   rises s t (FireOne n now answer) d = running_or _ _ answer s t _ d (λ g. stays s.system.last t.system.last g.2)
   rises s t (SoftInterrupt n level budget answer) d = running_or _ _ answer s t _ d (λ g. stays s.system.last t.system.last g.4)
 
-  pub rises_along : (s t : RunningSystem C R) (way : List SystemCall) → FoldsTo (Does called count may_refuse step view interrupts) s way t → s.system.last ≤ t.system.last
+  pub rises_along : (s t : RunningSystem C R) (way : List SystemCall)
+      → FoldsTo (Does called count may_refuse step view interrupts) s way t → s.system.last ≤ t.system.last
   rises_along s t [] e = stays s.system.last t.system.last (ap (λ (x : RunningSystem _ _). x.system.last) (sym e))
-  rises_along s t (call ∷ way) (u, first, rest) = let a = rises s u call first in let b = rises_along u t way rest in omega (arith, a, b)
+  rises_along s t (call ∷ way) (u, first, rest) = let a = rises s u call first in let b = rises_along u t way rest in
+      omega (arith, a, b)
 
-  pub given : (s t : RunningSystem C R) (level : Level) (when : When) (now id : ℕ) → Does called count may_refuse step view interrupts s (Add level when now (Ok id)) t
+  pub given : (s t : RunningSystem C R) (level : Level) (when : When) (now id : ℕ)
+      → Does called count may_refuse step view interrupts s (Add level when now (Ok id)) t
       → (s.system.last < id) × (id ≤ t.system.last)
   given s t level when now id (inl (e, why, is, same), calls) = (let odd : Ok id ≡ Err e = is in absurd (cc))
-  given s t level when now id (inr (clear, (d, chosen, next, works, records, last)), calls) = (omega (arith, next), stays id t.system.last last)
+  given s t level when now id (inr (clear, (d, chosen, next, works, records, last)), calls) =
+      (omega (arith, next), stays id t.system.last last)
 
-  pub omni_given : (s t : RunningSystem C R) (level : Level) (when : When) (skew now id : ℕ) → Does called count may_refuse step view interrupts s (AddOmni level when skew now (Ok id)) t
+  pub omni_given : (s t : RunningSystem C R) (level : Level) (when : When) (skew now id : ℕ)
+      → Does called count may_refuse step view interrupts s (AddOmni level when skew now (Ok id)) t
       → (s.system.last < id) × (id ≤ t.system.last)
   omni_given s t level when skew now id (inl (e, why, is, same), calls) = (let odd : Ok id ≡ Err e = is in absurd (cc))
-  omni_given s t level when skew now id (inr (clear, (next, works, records, last)), calls) = (omega (arith, next), stays id t.system.last last)
+  omni_given s t level when skew now id (inr (clear, (next, works, records, last)), calls) =
+      (omega (arith, next), stays id t.system.last last)

@@ -1,5 +1,6 @@
 -- What a juggle keeps beside the agreement: the removals, and where the omnipresent cyclics are.
-use Rattle.std.proofs.Common.{◌≡◌, ◌≢◌, ◌∙◌, ℕ, Result, zero, suc, ◌⊎◌, inl, inr, Bool, true, false, Some, None, Ok, Err, List, [], ◌∷◌, ◌++◌, map, slice_set, option_map, refl, sym, ap, subst, arith}
+use Rattle.std.proofs.Common.{◌≡◌, ◌≢◌, ◌∙◌, ℕ, Result, zero, suc, ◌⊎◌, inl, inr, Bool, true, false, Some, None, Ok, Err, List}
+use Rattle.std.proofs.Common.{[], ◌∷◌, ◌++◌, map, slice_set, option_map, refl, sym, ap, subst, arith}
 use Rattle.std.specs.Prelude.{◌||◌, ◌==◌, remove}
 use Rattle.std.specs.List.{FoldsTo, slice_get, list_any}
 use Rattle.std.proofs.lemmas.Option.{slice_get_within}
@@ -11,7 +12,8 @@ use Rattle.cyc_timers.specs.Rows.{Cyclic}
 use Rattle.cyc_cpu.specs.Cpu.{CpuView}
 use Rattle.cyc_cpu.specs.Gone.{PutsNot}
 use Rattle.cyc_cpu.specs.Law.{IsLawful}
-use Rattle.cyc_cpu.specs.Calls.{CpuCall, Changes, Fire, SoftInterrupt, Add, Place, Reprogram, AskPending, AskTotals, AskRoom, Reserve, Widen, BeginRemove, PollRemove, TakeNow, AskSettled}
+use Rattle.cyc_cpu.specs.Calls.{CpuCall, Changes, Fire, SoftInterrupt, Add, Place, Reprogram, AskPending, AskTotals, AskRoom}
+use Rattle.cyc_cpu.specs.Calls.{Reserve, Widen, BeginRemove, PollRemove, TakeNow, AskSettled}
 use Rattle.cyc_places.specs.declared.record.Place.TheVariants as stands
 use Rattle.cyc_places.specs.declared.record.Record.{Record}
 use Rattle.cyc_places.specs.Places.{IsRecord, HasRisingIds, ended_on, summed, with_ended, with_place}
@@ -50,7 +52,8 @@ any_less p (x ∷ xs) zero h = by (p x)
     by false = h
 any_less p (x ∷ xs) (suc k) h = by (p x) h (any_less p xs k)
   where
-    by : (b : Bool) → (b || list_any p (remove xs k)) ≡ true → (list_any p (remove xs k) ≡ true → list_any p xs ≡ true) → (b || list_any p xs) ≡ true
+    by : (b : Bool) → (b || list_any p (remove xs k)) ≡ true → (list_any p (remove xs k) ≡ true → list_any p xs ≡ true)
+        → (b || list_any p xs) ≡ true
     by true e rest = refl
     by false e rest = rest e
 
@@ -62,15 +65,19 @@ module _ {R : Type 0} (step : R → FiringCall → R → Type 0) (view : R → F
   same_ids : (x y : CpuView R) (id : ℕ) → y.cyclics ≡ x.cyclics → among id (ids_of y) ≡ true → among id (ids_of x) ≡ true
   same_ids x y id e h = ap (λ cs. among id (map id_in cs)) (sym e) ∙ h
 
-  less_ids : (x y : CpuView R) (id k : ℕ) → y.cyclics ≡ remove x.cyclics k → among id (ids_of y) ≡ true → among id (ids_of x) ≡ true
+  less_ids : (x y : CpuView R) (id k : ℕ) → y.cyclics ≡ remove x.cyclics k → among id (ids_of y) ≡ true
+      → among id (ids_of x) ≡ true
   less_ids x y id k e h = any_map id_in (λ own. own == id) x.cyclics
-      ∙ any_less (λ (c : Cyclic). c.timer.id == id) x.cyclics k (sym (any_map id_in (λ own. own == id) (remove x.cyclics k)) ∙ ap (λ cs. among id (map id_in cs)) (sym e) ∙ h)
+      ∙ any_less (λ (c : Cyclic). c.timer.id == id) x.cyclics k (sym (any_map id_in (λ own. own == id) (remove x.cyclics k))
+      ∙ ap (λ cs. among id (map id_in cs)) (sym e) ∙ h)
 
-  back_one : (x y : CpuView R) (call : CpuCall) (id : ℕ) → IsSteady call → PutsNot id call → Changes step view x call y → among id (ids_of y) ≡ true → among id (ids_of x) ≡ true
+  back_one : (x y : CpuView R) (call : CpuCall) (id : ℕ) → IsSteady call → PutsNot id call → Changes step view x call y
+      → among id (ids_of y) ≡ true → among id (ids_of x) ≡ true
   back_one x y (Place own level interval moment carried) id s p d h = any_map id_in (λ q. q == id) x.cyclics
       ∙ or_back (own == id) (list_any (λ (c : Cyclic). c.timer.id == id) x.cyclics) (false_ne own id p)
       (sym (any_insert (λ (c : Cyclic). c.timer.id == id) x.cyclics d.1.place _)
-      ∙ (ap (λ cs. list_any (λ (c : Cyclic). c.timer.id == id) cs) (sym d.1.cyclics) ∙ (sym (any_map id_in (λ q. q == id) y.cyclics) ∙ h)))
+      ∙ (ap (λ cs. list_any (λ (c : Cyclic). c.timer.id == id) cs) (sym d.1.cyclics)
+      ∙ (sym (any_map id_in (λ q. q == id) y.cyclics) ∙ h)))
   back_one x y (Reprogram own moment (Ok done)) id s p (k, c, is, named, still, e) h =
       ap (λ ids. among id ids) (sym (ap ids_of e ∙ ids_set x.cyclics k moment c is)) ∙ h
   back_one x y (Reprogram own moment (Err e)) id s p d h = same_ids x y id (ap (λ (v : CpuView R). v.cyclics) d.2) h
@@ -83,7 +90,8 @@ module _ {R : Type 0} (step : R → FiringCall → R → Type 0) (view : R → F
   back_one x y (Reserve more (Ok done)) id s p d h = same_ids x y id d.0.cyclics h
   back_one x y (Reserve more (Err e)) id s p d h = same_ids x y id d.0.cyclics h
   back_one x y (Widen more) id s p d h = same_ids x y id d.1.cyclics h
-  back_one x y (TakeNow own (Ok taken)) id s p (none, (c, counts, is, polled, leaves)) h = less_ids x y id leaves.place leaves.cyclics h
+  back_one x y (TakeNow own (Ok taken)) id s p (none, (c, counts, is, polled, leaves)) h =
+      less_ids x y id leaves.place leaves.cyclics h
   back_one x y (TakeNow own (Err e)) id s p d h = absurd s
   back_one x y (AskSettled true) id s p d h = same_ids x y id d.0.cyclics h
   back_one x y (AskSettled false) id s p d h = same_ids x y id d.0.cyclics h
@@ -116,21 +124,27 @@ module _ {R : Type 0} (step : R → FiringCall → R → Type 0) (view : R → F
   most_one x y (Fire now answer) s d = absurd s
   most_one x y (SoftInterrupt level budget answer) s d = absurd s
 
-  back_done : (v w : CpusView R) (c : CallOn) (id n : ℕ) → IsSteady c.call → PutsNot id c.call → DoesAt step view v c w → has n id w ≡ true → has n id v ≡ true
+  back_done : (v w : CpusView R) (c : CallOn) (id n : ℕ) → IsSteady c.call → PutsNot id c.call → DoesAt step view v c w
+      → has n id w ≡ true → has n id v ≡ true
   back_done v w c id n s p d h = dite (ℕ_discrete n c.cpu)
       (λ e. ap (λ k. has k id v) e ∙ (ap (λ ids. among id ids) (ids_there v c.cpu d.before d.after d.here)
       ∙ back_one d.before d.after c.call id s p d.change
-      (ap (λ ids. among id ids) (sym (ids_now v c.cpu d.before d.after d.here)) ∙ (ap (λ k. has k id (with_cpu v c.cpu d.after)) (sym e) ∙ (ap (λ u. has n id u) (sym d.rest) ∙ h)))))
-      (λ ne. ap (λ ids. among id ids) (sym (ids_elsewhere v c.cpu d.before d.after d.here n ne)) ∙ (ap (λ u. has n id u) (sym d.rest) ∙ h))
+      (ap (λ ids. among id ids) (sym (ids_now v c.cpu d.before d.after d.here))
+      ∙ (ap (λ k. has k id (with_cpu v c.cpu d.after)) (sym e) ∙ (ap (λ u. has n id u) (sym d.rest) ∙ h)))))
+      (λ ne. ap (λ ids. among id ids) (sym (ids_elsewhere v c.cpu d.before d.after d.here n ne))
+      ∙ (ap (λ u. has n id u) (sym d.rest) ∙ h))
 
-  pub has_back : (v w : CpusView R) (way : List CallOn) (id n : ℕ) → AreSteady way → Puts id way → Works step view way v w → has n id w ≡ true → has n id v ≡ true
+  pub has_back : (v w : CpusView R) (way : List CallOn) (id n : ℕ) → AreSteady way → Puts id way → Works step view way v w
+      → has n id w ≡ true → has n id v ≡ true
   has_back v w [] id n s p last h = ap (λ u. has n id u) last ∙ h
   has_back v w (c ∷ way) id n s p (u, does, rest) h = back_done v u c id n s.0 p.0 does (has_back u w way id n s.1 p.1 rest h)
 
-  pub mosts_kept : (v w : CpusView R) (way : List CallOn) → AreSteady way → Works step view way v w → (n : ℕ) → most_on n w ≡ most_on n v
+  pub mosts_kept : (v w : CpusView R) (way : List CallOn) → AreSteady way → Works step view way v w → (n : ℕ)
+      → most_on n w ≡ most_on n v
   mosts_kept v w [] s last n = ap (λ u. most_on n u) (sym last)
   mosts_kept v w (c ∷ way) s (u, d, rest) n = mosts_kept u w way s.1 rest n ∙ (ap (λ x. most_on n x) d.rest
-      ∙ kept_at v c.cpu d.before d.after d.here (λ o. option_map (λ cpu. cpu.most) o) (ap Some (most_one d.before d.after c.call s.0 d.change)) n)
+      ∙ kept_at v c.cpu d.before d.after d.here (λ o. option_map (λ cpu. cpu.most) o)
+      (ap Some (most_one d.before d.after c.call s.0 d.change)) n)
 
   -- ---- what turns keep
 
@@ -140,7 +154,8 @@ module _ {R : Type 0} (step : R → FiringCall → R → Type 0) (view : R → F
     pub rising : HasRisingIds s.records → HasRisingIds t.records
     -- an omnipresent cyclic was one, and has no CPU that it had not
     pub omni : HasRisingIds s.records → (k : ℕ) (r : Record) → IsRecord t.records k r → is_everywhere r.place ≡ true
-        → (j : ℕ) × (q : Record) × IsRecord s.records j q × (q.id ≡ r.id) × (is_everywhere q.place ≡ true) × ((n : ℕ) → has n r.id t.cpus ≡ true → has n r.id s.cpus ≡ true)
+        → (j : ℕ) × (q : Record) × IsRecord s.records j q × (q.id ≡ r.id) × (is_everywhere q.place ≡ true)
+        × ((n : ℕ) → has n r.id t.cpus ≡ true → has n r.id s.cpus ≡ true)
 
   pub still_then : (s t u : SystemView R) → StillHolds s t → StillHolds t u → StillHolds s u
   still_then s t u a b = record {
@@ -148,66 +163,102 @@ module _ {R : Type 0} (step : R → FiringCall → R → Type 0) (view : R → F
     most = λ n. b.most n ∙ a.most n;
     rising = λ h. b.rising (a.rising h);
     omni = λ h k r is e. (let (j, q, at, named, every, less) = b.omni (a.rising h) k r is e in
-        let (i, p, own, same, whole, before) = a.omni h j q at every in
-        (i, p, own, same ∙ named, whole, λ n now. ap (λ id. has n id s.cpus) (sym named) ∙ before n (ap (λ id. has n id t.cpus) named ∙ less n now)));
+        let (i, p, own, same, whole, before) = a.omni h j q at every in (
+          i,
+          p,
+          own,
+          same ∙ named,
+          whole,
+          λ n now. ap (λ id. has n id s.cpus) (sym named)
+              ∙ before n (ap (λ id. has n id t.cpus) named ∙ less n now),
+        ));
   }
 
   -- calls that put in nothing, and no record changed
-  pub still_calls : (s t : SystemView R) (way : List CallOn) → AreSteady way → ((id : ℕ) → Puts id way) → OnlyWorks step view way s t → StillHolds s t
+  pub still_calls : (s t : SystemView R) (way : List CallOn) → AreSteady way → ((id : ℕ) → Puts id way)
+      → OnlyWorks step view way s t → StillHolds s t
   still_calls s t way steady puts (works, records, last) = record {
     removals = removals_kept step view s.cpus t.cpus way steady works;
     most = mosts_kept s.cpus t.cpus way steady works;
     rising = λ h. subst HasRisingIds (sym records) h;
-    omni = λ h k r is every. (k, r, subst (λ rs. IsRecord rs k r) records is, refl, every, λ n now. has_back s.cpus t.cpus way r.id n steady (puts r.id) works now);
+    omni = λ h k r is every. (
+      k,
+      r,
+      subst (λ rs. IsRecord rs k r) records is,
+      refl,
+      every,
+      λ n now. has_back s.cpus t.cpus way r.id n steady (puts r.id) works now,
+    );
   }
 
   still_same : (s t : SystemView R) → t ≡ s → StillHolds s t
-  still_same s t e = still_calls s t [] tt (λ id. tt) (ap (λ (x : SystemView R). x.cpus) (sym e), ap (λ (x : SystemView R). x.records) e, ap (λ (x : SystemView R). x.last) e)
+  still_same s t e = still_calls s t [] tt (λ id. tt)
+      (ap (λ (x : SystemView R). x.cpus) (sym e), ap (λ (x : SystemView R). x.records) e, ap (λ (x : SystemView R). x.last) e)
 
   -- a record before it was changed
   pub was : (rs : List Record) (k j : ℕ) (r x q : Record) → IsRecord rs k r → x.id ≡ r.id → IsRecord (slice_set rs k x) j q
       → ((j ≡ k) × (q ≡ x)) ⊎ ((j ≢ k) × IsRecord rs j q)
   was rs k j r x q is same at = dite (ℕ_discrete j k)
-      (λ e. inl (e, same_some (sym at ∙ (ap (λ i. slice_get (slice_set rs k x) i) e ∙ get_set_same rs k x (slice_get_within rs k r is)))))
+      (λ e. inl (
+        e,
+        same_some (sym at ∙ (ap (λ i. slice_get (slice_set rs k x) i) e
+            ∙ get_set_same rs k x (slice_get_within rs k r is))),
+      ))
       (λ ne. inr (ne, sym (get_set_other rs k j x ne) ∙ at))
 
-  pub rising_set : (rs : List Record) (k : ℕ) (r x : Record) → IsRecord rs k r → x.id ≡ r.id → HasRisingIds rs → HasRisingIds (slice_set rs k x)
+  pub rising_set : (rs : List Record) (k : ℕ) (r x : Record) → IsRecord rs k r → x.id ≡ r.id → HasRisingIds rs
+      → HasRisingIds (slice_set rs k x)
   rising_set rs k r x is same h i j p q less at bt =
       let (p', pa, pe) = old i p (was rs k i r x p is same at) in let (q', qa, qe) = old j q (was rs k j r x q is same bt) in
       let l = h i j p' q' less pa qa in omega (arith, l, pe, qe)
     where
-      old : (m : ℕ) (a : Record) → ((m ≡ k) × (a ≡ x)) ⊎ ((m ≢ k) × IsRecord rs m a) → (b : Record) × IsRecord rs m b × (a.id ≡ b.id)
+      old : (m : ℕ) (a : Record) → ((m ≡ k) × (a ≡ x)) ⊎ ((m ≢ k) × IsRecord rs m a) → (b : Record) × IsRecord rs m b
+          × (a.id ≡ b.id)
       old m a (inl (e, f)) = (r, subst (λ n. IsRecord rs n r) (sym e) is, ap (λ (z : Record). z.id) f ∙ same)
       old m a (inr (ne, at)) = (a, at, refl)
 
-  still_moved : (s t : SystemView R) (id d source : ℕ) (taken : _) → Works step view (moving id source d taken) s.cpus t.cpus → Records id (stands.On d false) s t → StillHolds s t
+  still_moved : (s t : SystemView R) (id d source : ℕ) (taken : _) → Works step view (moving id source d taken) s.cpus t.cpus
+      → Records id (stands.On d false) s t → StillHolds s t
   still_moved s t id d source taken works (k, r, here, named, records, last) = record {
     removals = removals_kept step view s.cpus t.cpus (moving id source d taken) steady works;
     most = mosts_kept s.cpus t.cpus (moving id source d taken) steady works;
     rising = λ h. subst HasRisingIds (sym records) (rising_set s.records k r (with_place (stands.On d false) r) here refl h);
-    omni = λ h j q is every. omni h j q every (was s.records k j r (with_place (stands.On d false) r) q here refl (subst (λ rs. IsRecord rs j q) records is));
+    omni = λ h j q is every. omni h j q every
+        (was s.records k j r (with_place (stands.On d false) r) q here refl (subst (λ rs. IsRecord rs j q) records is));
   }
     where
       steady : AreSteady (moving id source d taken)
       steady = (tt, (tt, (tt, (tt, (tt, tt)))))
 
-      omni : HasRisingIds s.records → (j : ℕ) (q : Record) → is_everywhere q.place ≡ true → ((j ≡ k) × (q ≡ with_place (stands.On d false) r)) ⊎ ((j ≢ k) × IsRecord s.records j q)
-          → (i : ℕ) × (p : Record) × IsRecord s.records i p × (p.id ≡ q.id) × (is_everywhere p.place ≡ true) × ((n : ℕ) → has n q.id t.cpus ≡ true → has n q.id s.cpus ≡ true)
+      omni : HasRisingIds s.records → (j : ℕ) (q : Record) → is_everywhere q.place ≡ true
+          → ((j ≡ k) × (q ≡ with_place (stands.On d false) r)) ⊎ ((j ≢ k) × IsRecord s.records j q)
+          → (i : ℕ) × (p : Record) × IsRecord s.records i p × (p.id ≡ q.id) × (is_everywhere p.place ≡ true)
+          × ((n : ℕ) → has n q.id t.cpus ≡ true → has n q.id s.cpus ≡ true)
       omni h j q every (inl (e, f)) = absurd (false_true (sym (ap (λ (p : Record). is_everywhere p.place) f) ∙ every))
       omni h j q every (inr (ne, at)) =
-          let other : id ≢ q.id = λ same. ne (one_record s.records k j r q h here at (sym (named ∙ same))) in
-          (j, q, at, refl, every, λ n now. has_back s.cpus t.cpus (moving id source d taken) q.id n steady (tt, (tt, (tt, (tt, (other, tt))))) works now)
+          let other : id ≢ q.id = λ same. ne (one_record s.records k j r q h here at (sym (named ∙ same))) in (
+            j,
+            q,
+            at,
+            refl,
+            every,
+            λ n now. has_back s.cpus t.cpus (moving id source d taken) q.id n steady
+                (tt, (tt, (tt, (tt, (other, tt))))) works now,
+          )
 
   pub still_turn : (n id : ℕ) (turn : Turn) (s t : SystemView R) → TakesTurn step view n id turn s t → StillHolds s t
   still_turn n id StaysBound s t (place, same) = still_same s t same
-  still_turn n id StaysPending s t (place, found, some, only) = still_calls s t (on n (AskPending id (Some found)) ∷ []) (tt, tt) (λ q. (tt, tt)) only
+  still_turn n id StaysPending s t (place, found, some, only) =
+      still_calls s t (on n (AskPending id (Some found)) ∷ []) (tt, tt) (λ q. (tt, tt)) only
   still_turn n id StaysRefused s t (place, d, chosen, e, only) =
       still_calls s t (on n (AskPending id (Some 0)) ∷ on d (Reserve 1 (Err e)) ∷ []) (tt, (tt, tt)) (λ q. (tt, (tt, tt))) only
   still_turn n id Moves s t (place, d, chosen, (taken, works), records) = still_moved s t id d n taken works records
 
-  pub still_turns : (n : ℕ) (ids : List ℕ) (report : JuggleReport) (s t : SystemView R) → Turns step view n ids report s t → StillHolds s t
+  pub still_turns : (n : ℕ) (ids : List ℕ) (report : JuggleReport) (s t : SystemView R) → Turns step view n ids report s t
+      → StillHolds s t
   still_turns n [] report s t (none, same) = still_same s t same
-  still_turns n (id ∷ ids) report s t (turn, u, rest, first, counted, more) = still_then s u t (still_turn n id turn s u first) (still_turns n ids rest u t more)
+  still_turns n (id ∷ ids) report s t (turn, u, rest, first, counted, more) =
+      still_then s u t (still_turn n id turn s u first) (still_turns n ids rest u t more)
 
   -- a removal that was open on every CPU of its cyclic still is
   pub whole_still : (s t : SystemView R) → StillHolds s t → Agrees t → HasRisingIds s.records → HasRisingIds t.records
@@ -222,10 +273,12 @@ module _ {R : Type 0} (step : R → FiringCall → R → Type 0) (view : R → F
           alike (stands.On c bound) p x single = sym p ∙ x
           alike (stands.Everywhere first skew) p x single = absurd (false_true (sym single))
 
-      by : (k : ℕ) (r : Record) → IsRecord t.records k r → r.id ≡ id → Stands n r.place → (b : Bool) → is_everywhere r.place ≡ b → removal_on n t.cpus ≡ Some id
+      by : (k : ℕ) (r : Record) → IsRecord t.records k r → r.id ≡ id → Stands n r.place → (b : Bool) → is_everywhere r.place ≡ b
+          → removal_on n t.cpus ≡ Some id
       by k r is named there true every =
           let (j, q, at, same, whole_before, back) = h.omni rising k r is every in
-          h.removals n ∙ whole m n id (sym (h.removals m) ∙ e) (ap (λ i. has n i s.cpus) (sym named) ∙ back n (ap (λ i. has n i t.cpus) named ∙ here))
+          h.removals n ∙ whole m n id (sym (h.removals m) ∙ e) (ap (λ i. has n i s.cpus) (sym named)
+          ∙ back n (ap (λ i. has n i t.cpus) named ∙ here))
       by k r is named there false single =
           let (j, q, at, known, stands_m, up) = agrees.known m id (leaving_here view t.cpus m id lawful e) in
           let place = one_record t.records k j r q now is at (known ∙ sym named) in
@@ -243,9 +296,18 @@ module _ {R : Type 0} (step : R → FiringCall → R → Type 0) (view : R → F
       back : (i m : ℕ) → has m i t.cpus ≡ true → has m i s.cpus ≡ true
       back i m now = has_back s.cpus t.cpus (on n (TakeNow id (Ok taken)) ∷ []) i m (tt, tt) (tt, tt) (t.cpus, does, refl) now
 
-      by : (j : ℕ) (q : Record) → is_everywhere q.place ≡ true → ((j ≡ k) × (q ≡ with_ended n (summed (ended_on n r) taken.sent) r)) ⊎ ((j ≢ k) × IsRecord s.records j q)
-          → (i : ℕ) × (p : Record) × IsRecord s.records i p × (p.id ≡ q.id) × (is_everywhere p.place ≡ true) × ((m : ℕ) → has m q.id t.cpus ≡ true → has m q.id s.cpus ≡ true)
-      by j q every (inl (e, f)) = (k, r, here, sym (ap (λ (p : Record). p.id) f), sym (ap (λ (p : Record). is_everywhere p.place) f) ∙ every, λ m now. back q.id m now)
+      by : (j : ℕ) (q : Record) → is_everywhere q.place ≡ true
+          → ((j ≡ k) × (q ≡ with_ended n (summed (ended_on n r) taken.sent) r)) ⊎ ((j ≢ k) × IsRecord s.records j q)
+          → (i : ℕ) × (p : Record) × IsRecord s.records i p × (p.id ≡ q.id) × (is_everywhere p.place ≡ true)
+          × ((m : ℕ) → has m q.id t.cpus ≡ true → has m q.id s.cpus ≡ true)
+      by j q every (inl (e, f)) = (
+        k,
+        r,
+        here,
+        sym (ap (λ (p : Record). p.id) f),
+        sym (ap (λ (p : Record). is_everywhere p.place) f) ∙ every,
+        λ m now. back q.id m now,
+      )
       by j q every (inr (ne, at)) = (j, q, at, refl, every, λ m now. back q.id m now)
 
   pub still_retires : (n : ℕ) (ids : List ℕ) (s t : SystemView R) → FoldsTo (Retires step view n) s ids t → StillHolds s t
@@ -258,7 +320,14 @@ module _ {R : Type 0} (step : R → FiringCall → R → Type 0) (view : R → F
     removals = λ m. ap (λ (x : SystemView R). removal_on m x.cpus) e;
     most = λ m. ap (λ (x : SystemView R). most_on m x.cpus) e;
     rising = λ h. subst HasRisingIds (sym (ap (λ (x : SystemView R). x.records) e)) h;
-    omni = λ h k r is every. (k, r, subst (λ rs. IsRecord rs k r) (ap (λ (x : SystemView R). x.records) e) is, refl, every, λ m now. sym (ap (λ (x : SystemView R). has m r.id x.cpus) e) ∙ now);
+    omni = λ h k r is every. (
+      k,
+      r,
+      subst (λ rs. IsRecord rs k r) (ap (λ (x : SystemView R). x.records) e) is,
+      refl,
+      every,
+      λ m now. sym (ap (λ (x : SystemView R). has m r.id x.cpus) e) ∙ now,
+    );
   }
 
   outs_quiet : (id n : ℕ) (ids : List ℕ) → Puts id (quiet n ids)
@@ -274,11 +343,15 @@ module _ {R : Type 0} (step : R → FiringCall → R → Type 0) (view : R → F
   outs_found id n (x ∷ ids) q found = (tt, outs_found id n ids q found)
 
   pub still_asked : (n : ℕ) (s t : SystemView R) → OnlyWorks step view (quiet n (ids_on n s.cpus)) s t → StillHolds s t
-  still_asked n s t only = still_calls s t (quiet n (ids_on n s.cpus)) (steady_quiet n (ids_on n s.cpus)) (λ id. outs_quiet id n (ids_on n s.cpus)) only
+  still_asked n s t only = still_calls s t (quiet n (ids_on n s.cpus)) (steady_quiet n (ids_on n s.cpus))
+      (λ id. outs_quiet id n (ids_on n s.cpus)) only
 
-  pub still_left : (n : ℕ) (report : JuggleReport) (answer : Result (Unit {0}) Refusal) (s t : SystemView R) → Leaves step view n report answer s t → StillHolds s t
+  pub still_left : (n : ℕ) (report : JuggleReport) (answer : Result (Unit {0}) Refusal) (s t : SystemView R)
+      → Leaves step view n report answer s t → StillHolds s t
   still_left n report answer s t (inl (left, is, same)) = still_same s t same
   still_left n report answer s t (inr (inl (none, is, (before, id, after, found, some, only)))) =
-      still_calls s t (quiet n before ++ on n (AskPending id (Some found)) ∷ []) (steady_on (quiet n before) _ (steady_quiet n before) (tt, tt)) (λ q. outs_found q n before id found) only
+      still_calls s t (quiet n before ++ on n (AskPending id (Some found)) ∷ [])
+      (steady_on (quiet n before) _ (steady_quiet n before) (tt, tt)) (λ q. outs_found q n before id found) only
   still_left n report answer s t (inr (inr (none, is, (u, only, empty, each, off)))) =
-      still_then s u t (still_asked n s u only) (still_then u empty t (still_retires n (ids_on n s.cpus) u empty each) (still_switched n empty t off))
+      still_then s u t (still_asked n s u only)
+      (still_then u empty t (still_retires n (ids_on n s.cpus) u empty each) (still_switched n empty t off))

@@ -6,11 +6,12 @@ use cyc_types::{CyclicId, Level, Moment, Raise, Refusal, When};
 impl<R: Raise> System<R> {
     ghost use Rattle.cyc_system.specs.Calls.{Changes, AddOmni, Online};
 
-    /// Adds an omnipresent cyclic, which has a component on each online CPU, and gives its id (`cyclic_add_omni`). The component of
-    /// CPU `c` starts `c` times the skew after the start, and never later than never.
+    /// Adds an omnipresent cyclic, which has a component on each online CPU, and gives its id (`cyclic_add_omni`). The component
+    /// of CPU `c` starts `c` times the skew after the start, and never later than never.
     ///
-    /// Refuses with BadNow where `now` is never, then with IdsSpent where the last id was given; then, CPU by CPU in rising number,
-    /// with Full, Busy or Expanding; then with Memory. All memory is taken before the first CPU grows. A refused call spends no id.
+    /// Refuses with BadNow where `now` is never, then with IdsSpent where the last id was given; then, CPU by CPU in rising
+    /// number, with Full, Busy or Expanding; then with Memory. All memory is taken before the first CPU grows. A refused call
+    /// spends no id.
     pub fn add_omni(
         &mut self,
         level: Level,

@@ -6,8 +6,8 @@ ghost use Rattle.cyc_agreement.specs.Cpus.{on, running_cpus, RunsAt};
 ghost use Rattle.cyc_agreement.specs.System.{running_system};
 
 use crate::system::System;
-use cyc_cpu::{FireRefused, Fired};
 use cyc_agreement::Cpus;
+use cyc_cpu::{FireRefused, Fired};
 use cyc_types::{Calls, Moment, Raise, Refusal};
 
 /// A fire that is refused before its first expiration.
@@ -29,7 +29,8 @@ fn fire_at<C: Calls, R: Raise>(
     calls: &mut C,
 ) -> Result<Fired, FireRefused>
     requires { number < length cpus.old.cpus }
-    ensures { RunsAt C.called C.count C.may_refuse R.step R.view no_interrupts (running_cpus calls.old cpus.old) (on number (Fire now result)) (running_cpus calls.new cpus.new) }
+    ensures { RunsAt C.called C.count C.may_refuse R.step R.view no_interrupts (running_cpus calls.old cpus.old)
+        (on number (Fire now result)) (running_cpus calls.new cpus.new) }
 {
     cpus.cpu_mut(number).fire(now, calls)
 }
@@ -47,7 +48,8 @@ impl<R: Raise> System<R> {
         now: Moment,
         calls: &mut C,
     ) -> Result<Fired, FireRefused>
-        ensures { Does C.called C.count C.may_refuse R.step R.view no_interrupts (running_system calls.old self.old) (FireOne cpu now result) (running_system calls.new self.new) }
+        ensures { Does C.called C.count C.may_refuse R.step R.view no_interrupts (running_system calls.old self.old)
+            (FireOne cpu now result) (running_system calls.new self.new) }
     {
         if cpu >= self.cpus.count() {
             return Err(refused(Refusal::NoCpu));

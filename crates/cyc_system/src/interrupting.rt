@@ -7,8 +7,8 @@ ghost use Rattle.cyc_agreement.specs.Cpus.{on, running_cpus, RunsAt};
 ghost use Rattle.cyc_agreement.specs.System.{running_system};
 
 use crate::system::System;
-use cyc_core::LevelCore;
 use cyc_agreement::Cpus;
+use cyc_core::LevelCore;
 use cyc_soft::{Ran, SoftRefused};
 use cyc_types::{Calls, Soft};
 
@@ -30,7 +30,8 @@ fn softint_at<C: Calls>(
     budget: u32,
 ) -> Result<Ran, SoftRefused>
     requires { number < length cpus.old.cpus }
-    ensures { RunsAt C.called C.count C.may_refuse fires firing_at (Interrupts C.called C.count C.may_refuse) (running_cpus calls.old cpus.old) (on number (CpuSoftInterrupt level budget result)) (running_cpus calls.new cpus.new) }
+    ensures { RunsAt C.called C.count C.may_refuse fires firing_at (Interrupts C.called C.count C.may_refuse)
+        (running_cpus calls.old cpus.old) (on number (CpuSoftInterrupt level budget result)) (running_cpus calls.new cpus.new) }
 {
     cpus.cpu_mut(number).softint(level, calls, budget)
 }
@@ -49,7 +50,8 @@ impl System<LevelCore> {
         calls: &mut C,
         budget: u32,
     ) -> Result<Ran, SoftFault>
-        ensures { Does C.called C.count C.may_refuse fires firing_at (Interrupts C.called C.count C.may_refuse) (running_system calls.old self.old) (SoftInterrupt cpu level budget result) (running_system calls.new self.new) }
+        ensures { Does C.called C.count C.may_refuse fires firing_at (Interrupts C.called C.count C.may_refuse)
+            (running_system calls.old self.old) (SoftInterrupt cpu level budget result) (running_system calls.new self.new) }
     {
         if cpu >= self.cpus.count() {
             return Err(SoftFault::NoCpu);

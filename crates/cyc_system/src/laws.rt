@@ -20,9 +20,11 @@ use cyc_types::{Calls, Raise};
 ///
 /// It does nothing when it runs: its clauses are the law.
 pub fn ids_law<C: Calls, R: Raise>()
-    ensures run { (s t : RunningSystem C R) (way : List SystemCall) → FoldsTo (Does C.called C.count C.may_refuse R.step R.view no_interrupts) s way t → s.system.last ≤ t.system.last }
+    ensures run { (s t : RunningSystem C R) (way : List SystemCall)
+        → FoldsTo (Does C.called C.count C.may_refuse R.step R.view no_interrupts) s way t → s.system.last ≤ t.system.last }
     ensures given { (s t : RunningSystem C R) (level : CyclicLevel) (when : Series) (now id : ℕ)
-        → Does C.called C.count C.may_refuse R.step R.view no_interrupts s (Add level when now (Ok id)) t → (s.system.last < id) × (id ≤ t.system.last) }
+        → Does C.called C.count C.may_refuse R.step R.view no_interrupts s (Add level when now (Ok id)) t → (s.system.last < id)
+        × (id ≤ t.system.last) }
     ensures omnipresent { (s t : RunningSystem C R) (level : CyclicLevel) (when : Series) (skew now id : ℕ)
         → Does C.called C.count C.may_refuse R.step R.view no_interrupts s (AddOmni level when skew now (Ok id)) t
         → (s.system.last < id) × (id ≤ t.system.last) }
@@ -34,11 +36,14 @@ pub fn ids_law<C: Calls, R: Raise>()
 pub fn away_law<C: Calls, R: Raise>()
     ensures same { (x : CpuView R) → ComesBack R.view x x }
     ensures joined { (x y z : CpuView R) → ComesBack R.view x y → ComesBack R.view y z → ComesBack R.view x z }
-    ensures fired { (s t : Running C R) (now : ℕ) (answer : Result Fired FireRefused) → IsLawful R.view s.cpu → IsLawful R.view t.cpu
+    ensures fired { (s t : Running C R) (now : ℕ) (answer : Result Fired FireRefused) → IsLawful R.view s.cpu
+        → IsLawful R.view t.cpu
         → CpuDoes C.called C.count C.may_refuse R.step R.view no_interrupts s (Fire now answer) t → ComesBack R.view s.cpu t.cpu }
-    ensures settled { (v w : CpuView R) (answer : Bool) → CpuChanges R.step R.view v (AskSettled answer) w → ComesBack R.view v w }
+    ensures settled { (v w : CpuView R) (answer : Bool) → CpuChanges R.step R.view v (AskSettled answer) w
+        → ComesBack R.view v w }
     // All of them come back where each one does, at its place.
     ensures each { (xs ys : List (CpuView R)) → length ys ≡ length xs
-        → ((n : ℕ) (x y : CpuView R) → slice_get xs n ≡ Some x → slice_get ys n ≡ Some y → ComesBack R.view x y) → AllComeBack R.view xs ys }
+        → ((n : ℕ) (x y : CpuView R) → slice_get xs n ≡ Some x → slice_get ys n ≡ Some y → ComesBack R.view x y)
+        → AllComeBack R.view xs ys }
     ensures unused { (xs : List (CpuView R)) → AllComeBack R.view xs xs }
 {}

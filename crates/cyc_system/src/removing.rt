@@ -7,9 +7,9 @@ use cyc_types::{CyclicId, Raise, Receipt, Refusal};
 impl<R: Raise> System<R> {
     ghost use Rattle.cyc_system.specs.Calls.{Changes, BeginRemove, PollRemove, AskTotals};
 
-    /// Begins the removal of a cyclic on every CPU that has it (`cyclic_remove`): from now on it never expires. It is done at once
-    /// where no call of it is outstanding, and the receipt adds up all its stays on all CPUs. Else it stays open, with so many
-    /// calls, until `poll_remove` answers. The id is never given again.
+    /// Begins the removal of a cyclic on every CPU that has it (`cyclic_remove`): from now on it never expires. It is done at
+    /// once where no call of it is outstanding, and the receipt adds up all its stays on all CPUs. Else it stays open, with so
+    /// many calls, until `poll_remove` answers. The id is never given again.
     ///
     /// Refuses with NoCyclic where no cyclic has the id, then with Busy where a removal is open on a CPU that has the cyclic, its
     /// own too: that of the CPU with the smallest number. Takes no memory.
@@ -29,8 +29,8 @@ impl<R: Raise> System<R> {
         cyc_removing::poll_remove(&mut self.cpus, &mut self.records, id)
     }
 
-    /// The counts of a cyclic over all CPUs, with those of its stays that have ended, and its calls that are outstanding. None where
-    /// no cyclic has the id, and once its removal has answered. Takes no memory.
+    /// The counts of a cyclic over all CPUs, with those of its stays that have ended, and its calls that are outstanding. None
+    /// where no cyclic has the id, and once its removal has answered. Takes no memory.
     pub fn totals(&mut self, id: CyclicId) -> Option<SystemTotals>
         ensures { Changes R.step R.view self.old (AskTotals id result) self.new }
     {

@@ -3,8 +3,8 @@
 ghost use Rattle.std.specs.Prelude.{◌≡◌};
 
 use crate::system::System;
-use cyc_cpu::Hard;
 use cyc_agreement::Cpus;
+use cyc_cpu::Hard;
 use cyc_places::Records;
 use cyc_types::Raise;
 use std::marker::Model;
@@ -31,7 +31,8 @@ impl<R: Raise> Model for Desk<R> {
 
     ghost view = { λ d. record { cpus = d.left.value; records = d.records.list; last = d.last } };
 
-    ghost invariant = { λ d. Holds (record { cpus = d.left.value; records = d.records.list; last = d.last }) × (d.last ≤ last_id) × (d.online.items ≡ d.left.value.online) };
+    ghost invariant = { λ d. Holds (record { cpus = d.left.value; records = d.records.list; last = d.last }) × (d.last ≤ last_id)
+        × (d.online.items ≡ d.left.value.online) };
 }
 
 impl<R: Raise> System<R> {
@@ -71,7 +72,12 @@ impl<R: Raise> Desk<R> {
     /// `settled` makes of them, `away_law` says that they may come back. Takes no memory.
     pub fn unite(self, hards: Vec<Hard<R>>) -> System<R>
         requires { AllComeBack R.view self.cpus.cpus hards.items }
-        ensures { result ≡ record { cpus = record { cpus = hards.items; online = self.cpus.online }; records = self.records; last = self.last } }
+        ensures { result ≡ record {
+          cpus = record { cpus = hards.items; online = self.cpus.online };
+          records =
+              self.records;
+          last = self.last;
+        } }
     {
         let Desk {
             records,

@@ -50,7 +50,8 @@ impl<R: Raise + Drop> System<R> {
         requires some { 0 < length ends.items }
         requires few { length ends.items ≤ 16 }
         requires fresh { All (λ e. IsFresh (R.view e.0) × IsFresh (R.view e.1)) ends.items }
-        ensures ok { IfOk result (λ system. system ≡ record { cpus = new_cpus most ends.items; records = []; last = first_id - 1 }) }
+        ensures ok { IfOk result (λ system. system
+            ≡ record { cpus = new_cpus most ends.items; records = []; last = first_id - 1 }) }
         ensures err { IfErr result (λ refusal. refusal ≡ Memory) }
     {
         let records = Records::new(alloc);
@@ -71,8 +72,8 @@ impl<R: Raise> System<R> {
         self.cpus.law();
     }
 
-    /// What is true of the parts of every system: the ids of its records rise, each record has the counts of 16 CPUs, and each CPU
-    /// is lawful. It does nothing when it runs.
+    /// What is true of the parts of every system: the ids of its records rise, each record has the counts of 16 CPUs, and each
+    /// CPU is lawful. It does nothing when it runs.
     pub fn fit_law(&self)
         ensures fit { IsFit self.now }
         ensures lawful { AreLawful R.view self.now }

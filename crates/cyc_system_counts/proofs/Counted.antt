@@ -1,5 +1,6 @@
 -- No call changes the counts of an id but a fire and the answer of its removal.
-use Rattle.std.proofs.Common.{◌≡◌, ◌∙◌, ◌==◌, ℕ, suc, ◌+◌, ◌<◌, inl, inr, Bool, true, false, cond, Some, Result, Ok, Err, List, [], ◌∷◌, ◌++◌, length, map, filter, replicate, slice_set, refl, sym, ap, subst, arith}
+use Rattle.std.proofs.Common.{◌≡◌, ◌∙◌, ◌==◌, ℕ, suc, ◌+◌, ◌<◌, inl, inr, Bool, true, false, cond, Some, Result, Ok, Err, List}
+use Rattle.std.proofs.Common.{[], ◌∷◌, ◌++◌, length, map, filter, replicate, slice_set, refl, sym, ap, subst, arith}
 use Rattle.std.specs.Prelude.{sum_by, ◌&&◌}
 use Rattle.std.specs.List.{slice_get, FoldsTo}
 use Rattle.std.proofs.lemmas.List.{length-set}

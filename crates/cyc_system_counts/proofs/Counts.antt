@@ -1,5 +1,6 @@
 -- The counts of an id over all CPUs and all stays, over any call.
-use Rattle.std.proofs.Common.{◌≡◌, ◌∙◌, ℕ, ◌+◌, ◌<◌, ◌⊎◌, inl, inr, Bool, true, false, Option, Some, None, Result, Ok, Err, List, [], ◌∷◌, length, refl, sym, ap, subst, arith}
+use Rattle.std.proofs.Common.{◌≡◌, ◌∙◌, ℕ, ◌+◌, ◌<◌, ◌⊎◌, inl, inr, Bool, true, false, Option, Some, None, Result, Ok, Err, List}
+use Rattle.std.proofs.Common.{[], ◌∷◌, length, refl, sym, ap, subst, arith}
 use Rattle.std.specs.Prelude.{sum_by, nat_le}
 use Rattle.std.specs.Option.{option_map_or}
 use Rattle.std.proofs.lemmas.Bool.Decides.{nat_tests}
@@ -24,10 +25,12 @@ use Rattle.cyc_removing.proofs.Others.{begins_others, polls_others, asks_others}
 use Rattle.cyc_removing.proofs.Receipts.{begun_kept, poll_kept}
 use Rattle.cyc_system.specs.Juggling.{single_ids, last_cpu}
 use Rattle.cyc_system.specs.Online.{online_cpu}
-use Rattle.cyc_system.specs.Calls.{SystemCall, Changes, Add, AddOmni, Bind, BeginRemove, PollRemove, AskTotals, Reprogram, ReprogramOn, Juggle, Offline, Online, FireOne, SoftInterrupt}
+use Rattle.cyc_system.specs.Calls.{SystemCall, Changes, Add, AddOmni, Bind, BeginRemove, PollRemove, AskTotals, Reprogram}
+use Rattle.cyc_system.specs.Calls.{ReprogramOn, Juggle, Offline, Online, FireOne, SoftInterrupt}
 use Rattle.cyc_system_counts.specs.Keeping.{EndsRemoval, over_stays}
 use Rattle.cyc_system_counts.specs.Sound.{IsSound}
-use Rattle.cyc_system_counts.proofs.Counted.{all_of, binds_same, unbinds_same, reprograms_same, adds_same, omni_same, turns_same, turns_sixteen, leaves_same, online_same}
+use Rattle.cyc_system_counts.proofs.Counted.{all_of, binds_same, unbinds_same, reprograms_same, adds_same, omni_same, turns_same}
+use Rattle.cyc_system_counts.proofs.Counted.{turns_sixteen, leaves_same, online_same}
 use Rattle.cyc_system_counts.proofs.Found.{stays_found, records_found, untouched_stays}
 
 -- the number of a CPU that is there

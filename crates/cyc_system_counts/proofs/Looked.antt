@@ -1,5 +1,6 @@
 -- What no call changes of a record: its level, and whether its cyclic is omnipresent.
-use Rattle.std.proofs.Common.{◌≡◌, ◌≢◌, ◌∙◌, ◌==◌, ℕ, zero, suc, ◌⊎◌, inl, inr, Bool, true, false, cond, find, Option, Some, None, Result, Ok, Err, List, [], ◌∷◌, ◌++◌, map, slice_set, refl, sym, ap, subst}
+use Rattle.std.proofs.Common.{◌≡◌, ◌≢◌, ◌∙◌, ◌==◌, ℕ, zero, suc, ◌⊎◌, inl, inr, Bool, true, false, cond, find, Option, Some, None}
+use Rattle.std.proofs.Common.{Result, Ok, Err, List, [], ◌∷◌, ◌++◌, map, slice_set, refl, sym, ap, subst}
 use Rattle.std.specs.List.{slice_get, FoldsTo}
 use Rattle.std.specs.Option.{option_map_or}
 use Rattle.cyc_types.specs.Firing.{FiringView, FiringCall}
@@ -36,7 +37,8 @@ use Rattle.cyc_system.specs.Juggling.{TakesTurn, Turns, single_ids}
 use Rattle.cyc_system.specs.Leaving.{Retires, Leaves}
 use Rattle.cyc_system.specs.Omni.{AddsOmni}
 use Rattle.cyc_system.specs.Online.{GoesOnline, is_staying, after_return}
-use Rattle.cyc_system.specs.Calls.{SystemCall, Changes, Add, AddOmni, Bind, BeginRemove, PollRemove, AskTotals, Reprogram, ReprogramOn, Juggle, Offline, Online, FireOne, SoftInterrupt}
+use Rattle.cyc_system.specs.Calls.{SystemCall, Changes, Add, AddOmni, Bind, BeginRemove, PollRemove, AskTotals, Reprogram}
+use Rattle.cyc_system.specs.Calls.{ReprogramOn, Juggle, Offline, Online, FireOne, SoftInterrupt}
 use Rattle.cyc_system_counts.specs.Keeping.{TouchesRecord}
 
 -- a change that neither the test nor the measure sees

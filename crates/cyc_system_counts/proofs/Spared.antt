@@ -1,5 +1,6 @@
 -- Nothing is lost of an id whose expirations are at most every ceiling.
-use Rattle.std.proofs.Common.{◌≡◌, ◌∙◌, ◌==◌, ℕ, zero, suc, ◌≤◌, inl, inr, Bool, true, false, cond, All, Option, Some, None, Result, Ok, Err, List, [], ◌∷◌, map, refl, sym, ap, subst, arith}
+use Rattle.std.proofs.Common.{◌≡◌, ◌∙◌, ◌==◌, ℕ, zero, suc, ◌≤◌, inl, inr, Bool, true, false, cond, All, Option, Some, None}
+use Rattle.std.proofs.Common.{Result, Ok, Err, List, [], ◌∷◌, map, refl, sym, ap, subst, arith}
 use Rattle.std.specs.Prelude.{sum_by}
 use Rattle.std.specs.List.{slice_get, FoldsTo}
 use Rattle.std.specs.Option.{option_map, option_map_or}
@@ -35,7 +36,8 @@ use Rattle.cyc_agreement.proofs.Who.{id_in, same_fired}
 use Rattle.cyc_agreement.proofs.Recording.{found}
 use Rattle.cyc_system.specs.Counts.{all_expired, all_lost}
 use Rattle.cyc_removing.proofs.Sums.{sum_none}
-use Rattle.cyc_system.specs.Calls.{SystemCall, Changes, Does, Add, AddOmni, Bind, BeginRemove, PollRemove, AskTotals, Reprogram, ReprogramOn, Juggle, Offline, Online, FireOne, SoftInterrupt}
+use Rattle.cyc_system.specs.Calls.{SystemCall, Changes, Does, Add, AddOmni, Bind, BeginRemove, PollRemove, AskTotals, Reprogram}
+use Rattle.cyc_system.specs.Calls.{ReprogramOn, Juggle, Offline, Online, FireOne, SoftInterrupt}
 use Rattle.cyc_system_counts.specs.Sound.{IsSound}
 use Rattle.cyc_system_counts.specs.Keeping.{EndsRemoval}
 use Rattle.cyc_system_counts.specs.Totalling.{Steps, expirations_in}

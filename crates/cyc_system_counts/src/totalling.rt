@@ -15,8 +15,9 @@ ghost use Rattle.cyc_system_counts.specs.Totalling.{Steps, expirations_along, An
 
 use cyc_types::{Calls, Raise};
 
-/// Over any run of calls, the expirations of an id on all CPUs grow by just what the fires of the run made of it, until its removal
-/// answers; and no more of them are lost than were made. So a receipt says all expirations from the id's first call to its last.
+/// Over any run of calls, the expirations of an id on all CPUs grow by just what the fires of the run made of it, until its
+/// removal answers; and no more of them are lost than were made. So a receipt says all expirations from the id's first call to
+/// its last.
 ///
 /// It does nothing when it runs: its clauses are the law.
 pub fn expirations_law<C: Calls, R: Raise>()

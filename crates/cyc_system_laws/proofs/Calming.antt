@@ -7,14 +7,18 @@ use Rattle.cyc_types.specs.Firing.{FiringView, FiringCall}
 use Rattle.cyc_types.specs.declared.level.Level.{Level}
 use Rattle.cyc_cpu.specs.Cpu.{CpuView, running}
 use Rattle.cyc_cpu.specs.Moving.{IsSettled}
-use Rattle.cyc_cpu.specs.Calls.{CpuCall, Changes as CpuChanges, Does as CpuDoes, no_interrupts, Fire, SoftInterrupt as CpuSoftInterrupt, Add as CpuAdd, Place, Reprogram as CpuReprogram, AskPending, AskTotals as CpuAskTotals, AskRoom, Reserve, Widen, BeginRemove as CpuBegin, PollRemove as CpuPoll, TakeNow, AskSettled}
+use Rattle.cyc_cpu.specs.Calls.{CpuCall, Changes as CpuChanges, Does as CpuDoes, no_interrupts, Fire}
+use Rattle.cyc_cpu.specs.Calls.{SoftInterrupt as CpuSoftInterrupt, Add as CpuAdd, Place, Reprogram as CpuReprogram, AskPending}
+use Rattle.cyc_cpu.specs.Calls.{AskTotals as CpuAskTotals, AskRoom, Reserve, Widen, BeginRemove as CpuBegin}
+use Rattle.cyc_cpu.specs.Calls.{PollRemove as CpuPoll, TakeNow, AskSettled}
 use Rattle.cyc_cpu_laws.specs.Settled.{IsNoFire}
 use Rattle.cyc_cpu_laws.proofs.Staying.{settled_one}
 use Rattle.cyc_cpu_laws.proofs.Stills.{changes_still}
 use Rattle.cyc_cpus.specs.Cpus.{CpusView, IsCpu, ChangesAt}
 use Rattle.cyc_cpus.proofs.Spots.{one_cpu, cpu_there, cpu_after}
 use Rattle.cyc_system.specs.System.{RunningSystem}
-use Rattle.cyc_system.specs.Calls.{SystemCall, Changes, Does, Add, AddOmni, Bind, BeginRemove, PollRemove, AskTotals, Reprogram, ReprogramOn, Juggle, Offline, Online, FireOne, SoftInterrupt}
+use Rattle.cyc_system.specs.Calls.{SystemCall, Changes, Does, Add, AddOmni, Bind, BeginRemove, PollRemove, AskTotals, Reprogram}
+use Rattle.cyc_system.specs.Calls.{ReprogramOn, Juggle, Offline, Online, FireOne, SoftInterrupt}
 use Rattle.cyc_system_laws.specs.Parts.{CpusCall, OnCpu, SetOnline, DoesPart}
 use Rattle.cyc_system_laws.specs.Settling.{FiresNot}
 use Rattle.cyc_system_laws.proofs.Pieces.{made_of}

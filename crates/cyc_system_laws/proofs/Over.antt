@@ -1,5 +1,6 @@
 -- From the answer of its removal on an id is over.
-use Rattle.std.proofs.Common.{◌≡◌, ◌∙◌, ◌==◌, ℕ, zero, suc, ◌≤◌, inl, inr, Bool, true, false, cond, All, Option, Some, None, Result, Ok, Err, List, [], ◌∷◌, get_or, slice_set, refl, sym, ap, subst, arith}
+use Rattle.std.proofs.Common.{◌≡◌, ◌∙◌, ◌==◌, ℕ, zero, suc, ◌≤◌, inl, inr, Bool, true, false, cond, All, Option, Some, None}
+use Rattle.std.proofs.Common.{Result, Ok, Err, List, [], ◌∷◌, get_or, slice_set, refl, sym, ap, subst, arith}
 use Rattle.std.specs.List.{FoldsTo, slice_get}
 use Rattle.std.proofs.lemmas.List.{get_or_default}
 use mathlib.Core.Logic.{dite}
@@ -31,7 +32,8 @@ use Rattle.cyc_system.specs.Polling.{Polled, PollsOn, PollsRemoval}
 use Rattle.cyc_system.specs.Laws.{IsForgotten}
 use Rattle.cyc_removing.proofs.Forgetting.{was_there, begins_forgotten, polls_forgotten}
 use Rattle.cyc_removing.proofs.Folds.{folds_keep}
-use Rattle.cyc_system.specs.Calls.{SystemCall, Changes, Does, Add, AddOmni, Bind, BeginRemove, PollRemove, AskTotals, Reprogram, ReprogramOn, Juggle, Offline, Online, FireOne, SoftInterrupt}
+use Rattle.cyc_system.specs.Calls.{SystemCall, Changes, Does, Add, AddOmni, Bind, BeginRemove, PollRemove, AskTotals, Reprogram}
+use Rattle.cyc_system.specs.Calls.{ReprogramOn, Juggle, Offline, Online, FireOne, SoftInterrupt}
 use Rattle.cyc_system_laws.specs.Gone.{IsOver}
 use Rattle.cyc_system_laws.specs.Parts.{CpusCall, OnCpu, SetOnline, DoesPart, IsWithout}
 use Rattle.cyc_system_laws.proofs.Pieces.{made_of}

@@ -1,5 +1,6 @@
 -- Each call of a system is made of calls on its CPUs.
-use Rattle.std.proofs.Common.{◌≡◌, ◌≢◌, ◌∙◌, ℕ, zero, suc, ◌≤◌, ◌⊎◌, inl, inr, Bool, true, false, cond, All, Option, Some, None, Result, Ok, Err, List, [], ◌∷◌, ◌++◌, length, map, get_or, slice_set, refl, sym, ap, subst, arith}
+use Rattle.std.proofs.Common.{◌≡◌, ◌≢◌, ◌∙◌, ℕ, zero, suc, ◌≤◌, ◌⊎◌, inl, inr, Bool, true, false, cond, All, Option, Some, None}
+use Rattle.std.proofs.Common.{Result, Ok, Err, List, [], ◌∷◌, ◌++◌, length, map, get_or, slice_set, refl, sym, ap, subst, arith}
 use Rattle.std.specs.Prelude.{filter, remove}
 use Rattle.std.specs.List.{FoldsTo}
 use Rattle.std.proofs.lemmas.Option.{slice_get_within, slice_get-get_or, get_or_from_slice_get}
@@ -17,7 +18,8 @@ use Rattle.cyc_types.proofs.Runs.{folds_on}
 use Rattle.cyc_cpu.specs.declared.removing.Removal.{Removal}
 use Rattle.cyc_cpu.specs.declared.removing.Removal.TheVariants.{Done, Kept}
 use Rattle.cyc_cpu.specs.Gone.{PutsNot}
-use Rattle.cyc_cpu.specs.Calls.{CpuCall, BeginRemove as CpuBegin, PollRemove as CpuPoll, TakeNow, Reserve, Widen, AskRoom, AskPending, Reprogram as CpuReprogram}
+use Rattle.cyc_cpu.specs.Calls.{CpuCall, BeginRemove as CpuBegin, PollRemove as CpuPoll, TakeNow, Reserve, Widen, AskRoom}
+use Rattle.cyc_cpu.specs.Calls.{AskPending, Reprogram as CpuReprogram}
 use Rattle.cyc_places.specs.declared.record.Place.{Place}
 use Rattle.cyc_places.specs.declared.record.Place.TheVariants as stands
 use Rattle.cyc_places.specs.declared.record.Record.{Record}
@@ -42,7 +44,8 @@ use Rattle.cyc_system.specs.Juggling.{TakesTurn, Turns, single_ids}
 use Rattle.cyc_system.specs.Leaving.{quiet, Retires, Leaves}
 use Rattle.cyc_system.specs.Omni.{AddsOmni, entering_each}
 use Rattle.cyc_system.specs.Online.{GoesOnline, staying, is_staying, returns, return_at, after_return}
-use Rattle.cyc_system.specs.Calls.{SystemCall, Changes, Add, AddOmni, Bind, BeginRemove, PollRemove, AskTotals, Reprogram, ReprogramOn, Juggle, Offline, Online, FireOne, SoftInterrupt}
+use Rattle.cyc_system.specs.Calls.{SystemCall, Changes, Add, AddOmni, Bind, BeginRemove, PollRemove, AskTotals, Reprogram}
+use Rattle.cyc_system.specs.Calls.{ReprogramOn, Juggle, Offline, Online, FireOne, SoftInterrupt}
 use Rattle.cyc_system_laws.specs.Parts.{OnCpu, SetOnline, DoesPart, IsWithout, IsMadeOf}
 
 -- ---- records without an id
@@ -51,15 +54,19 @@ abbrev pub Unnamed : ℕ → List Record → Type 0
 Unnamed id rs = (k : ℕ) (r : Record) → IsRecord rs k r → r.id ≢ id
 
 pub unnamed : (id : ℕ) (rs : List Record) → HasNoRecord id rs → Unnamed id rs
-unnamed id rs none k r is same = none k r (slice_get_within rs k r is) (ap (λ (x : Record). x.id) (get_or_from_slice_get rs k r r is) ∙ same)
+unnamed id rs none k r is same = none k r (slice_get_within rs k r is)
+    (ap (λ (x : Record). x.id) (get_or_from_slice_get rs k r r is) ∙ same)
 
 pub no_record : (id : ℕ) (rs : List Record) → Unnamed id rs → HasNoRecord id rs
 no_record id rs none k d low = none k (get_or rs k d) (slice_get-get_or rs k d low)
 
 -- a record with another place or other counts
-unnamed_set : (id : ℕ) (rs : List Record) (k : ℕ) (r x : Record) → Unnamed id rs → IsRecord rs k r → x.id ≡ r.id → Unnamed id (slice_set rs k x)
+unnamed_set : (id : ℕ) (rs : List Record) (k : ℕ) (r x : Record) → Unnamed id rs → IsRecord rs k r → x.id ≡ r.id
+    → Unnamed id (slice_set rs k x)
 unnamed_set id rs k r x none is same j q at = dite (ℕ_discrete j k)
-    (λ e. λ named. none k r is (sym same ∙ (ap (λ (y : Record). y.id) (same_some (sym (get_set_same rs k x (slice_get_within rs k r is)) ∙ subst (λ i. IsRecord (slice_set rs k x) i q) e at)) ∙ named)))
+    (λ e. λ named. none k r is (sym same ∙ (ap (λ (y : Record). y.id)
+    (same_some (sym (get_set_same rs k x (slice_get_within rs k r is)) ∙ subst (λ i. IsRecord (slice_set rs k x) i q) e at))
+    ∙ named)))
     (λ ne. none j q (sym (get_set_other rs k j x ne) ∙ at))
 
 unnamed_push : (id : ℕ) (rs : List Record) (x : Record) → Unnamed id rs → x.id ≢ id → Unnamed id (rs ++ x ∷ [])
@@ -80,11 +87,14 @@ unnamed_remove : (id : ℕ) (rs : List Record) (k : ℕ) → Unnamed id rs → U
 unnamed_remove id [] zero none = none
 unnamed_remove id [] (suc k) none = none
 unnamed_remove id (x ∷ rs) zero none = unnamed_tail id x rs none
-unnamed_remove id (x ∷ rs) (suc k) none = unnamed_cons id x (remove rs k) (none zero x refl) (unnamed_remove id rs k (unnamed_tail id x rs none))
+unnamed_remove id (x ∷ rs) (suc k) none =
+    unnamed_cons id x (remove rs k) (none zero x refl) (unnamed_remove id rs k (unnamed_tail id x rs none))
 
-unnamed_map : (id : ℕ) (f : Record → Record) (rs : List Record) → ((r : Record) → (f r).id ≡ r.id) → Unnamed id rs → Unnamed id (map f rs)
+unnamed_map : (id : ℕ) (f : Record → Record) (rs : List Record) → ((r : Record) → (f r).id ≡ r.id) → Unnamed id rs
+    → Unnamed id (map f rs)
 unnamed_map id f [] same none = none
-unnamed_map id f (x ∷ rs) same none = unnamed_cons id (f x) (map f rs) (λ named. none zero x refl (sym (same x) ∙ named)) (unnamed_map id f rs same (unnamed_tail id x rs none))
+unnamed_map id f (x ∷ rs) same none = unnamed_cons id (f x) (map f rs) (λ named. none zero x refl (sym (same x) ∙ named))
+    (unnamed_map id f rs same (unnamed_tail id x rs none))
 
 unnamed_filter : (id : ℕ) (p : Record → Bool) (rs : List Record) → Unnamed id rs → Unnamed id (filter p rs)
 unnamed_filter id p [] none = none
@@ -120,18 +130,21 @@ outs_asked : (id own : ℕ) (way : List Counted) → Outs id (map (asked own) wa
 outs_asked id own [] = tt
 outs_asked id own (a ∷ way) = (tt, outs_asked id own way)
 
-outs_entering : (id : ℕ) (ns : List ℕ) (own : ℕ) (level : Level) (when : When) (skew now : ℕ) → own ≢ id → Outs id (entering_each ns own level when skew now)
+outs_entering : (id : ℕ) (ns : List ℕ) (own : ℕ) (level : Level) (when : When) (skew now : ℕ) → own ≢ id
+    → Outs id (entering_each ns own level when skew now)
 outs_entering id [] own level when skew now ne = tt
 outs_entering id (n ∷ ns) own level when skew now ne = (tt, (ne, outs_entering id ns own level when skew now ne))
 
-outs_return : (id n now own : ℕ) (level : Level) (counts : Sent) (place : Place) → own ≢ id → Outs id (return_at n now own level counts place)
+outs_return : (id n now own : ℕ) (level : Level) (counts : Sent) (place : Place) → own ≢ id
+    → Outs id (return_at n now own level counts place)
 outs_return id n now own level counts (stands.On m bound) ne = tt
 outs_return id n now own level counts (stands.Everywhere first skew) ne = (ne, tt)
 
 outs_returns : (id n now : ℕ) (rs : List Record) → Unnamed id rs → Outs id (returns n now rs)
 outs_returns id n now [] none = tt
 outs_returns id n now (r ∷ rs) none =
-    outs_on id (return_at n now r.id r.level _ r.place) (returns n now rs) (outs_return id n now r.id r.level _ r.place (none zero r refl)) (outs_returns id n now rs (unnamed_tail id r rs none))
+    outs_on id (return_at n now r.id r.level _ r.place) (returns n now rs)
+    (outs_return id n now r.id r.level _ r.place (none zero r refl)) (outs_returns id n now rs (unnamed_tail id r rs none))
 
 withouts : (id : ℕ) (way : List CallOn) → Outs id way → All (IsWithout id) (map OnCpu way)
 withouts id [] outs k d low = absurd (omega (arith, low))
@@ -144,7 +157,8 @@ all_cons P x xs p all (suc k) d low = all k d (omega (arith, low))
 
 all_on : {A : Type 0} (P : A → Type 0) (xs ys : List A) → All P xs → All P ys → All P (xs ++ ys)
 all_on P [] ys a b = b
-all_on P (x ∷ xs) ys a b = all_cons P x (xs ++ ys) (a zero x (omega arith)) (all_on P xs ys (λ j e less. a (suc j) e (omega (arith, less))) b)
+all_on P (x ∷ xs) ys a b = all_cons P x (xs ++ ys) (a zero x (omega arith))
+    (all_on P xs ys (λ j e less. a (suc j) e (omega (arith, less))) b)
 
 module _ {R : Type 0} (step : R → FiringCall → R → Type 0) (view : R → FiringView) where
   parts_of : (way : List CallOn) (v w : CpusView R) → Works step view way v w → FoldsTo (DoesPart step view) v (map OnCpu way) w
@@ -152,7 +166,14 @@ module _ {R : Type 0} (step : R → FiringCall → R → Type 0) (view : R → F
   parts_of (c ∷ way) v w (u, does, rest) = (u, does, parts_of way u w rest)
 
   pub made_none : (s : SystemView R) → IsMadeOf step view s s
-  made_none s = record { way = []; works = refl; without = λ id low none k d less. absurd (omega (arith, less)); unknown = λ id low none. none; last = omega arith }
+  made_none s = record {
+    way = [];
+    works = refl;
+    without = λ id low none k d less. absurd (omega (arith, less));
+    unknown =
+        λ id low none. none;
+    last = omega arith;
+  }
 
   made_same : (s t : SystemView R) → t ≡ s → IsMadeOf step view s t
   made_same s t e = subst (λ x. IsMadeOf step view s x) (sym e) (made_none s)
@@ -161,14 +182,16 @@ module _ {R : Type 0} (step : R → FiringCall → R → Type 0) (view : R → F
   made_then s t u a b = record {
     way = a.way ++ b.way;
     works = folds_on (DoesPart step view) s.cpus a.way t.cpus b.way u.cpus a.works b.works;
-    without = λ id low none. all_on (IsWithout id) a.way b.way (a.without id low none) (b.without id (let l = a.last in omega (arith, l, low)) (a.unknown id low none));
+    without = λ id low none. all_on (IsWithout id) a.way b.way (a.without id low none)
+        (b.without id (let l = a.last in omega (arith, l, low)) (a.unknown id low none));
     unknown = λ id low none. b.unknown id (let l = a.last in omega (arith, l, low)) (a.unknown id low none);
     last = (let x = a.last in let y = b.last in omega (arith, x, y));
   }
 
   -- calls on the CPUs, and a change of the records
   made_calls : (s t : SystemView R) (way : List CallOn) → Works step view way s.cpus t.cpus → s.last ≤ t.last
-      → ((id : ℕ) → id ≤ s.last → Unnamed id s.records → Outs id way) → ((id : ℕ) → id ≤ s.last → Unnamed id s.records → Unnamed id t.records) → IsMadeOf step view s t
+      → ((id : ℕ) → id ≤ s.last → Unnamed id s.records → Outs id way)
+      → ((id : ℕ) → id ≤ s.last → Unnamed id s.records → Unnamed id t.records) → IsMadeOf step view s t
   made_calls s t way works last outs none = record {
     way = map OnCpu way;
     works = parts_of way s.cpus t.cpus works;
@@ -180,16 +203,21 @@ module _ {R : Type 0} (step : R → FiringCall → R → Type 0) (view : R → F
   same_low : (a b : ℕ) → b ≡ a → a ≤ b
   same_low a b e = omega (arith, e)
 
-  same_records : (s t : SystemView R) → t.records ≡ s.records → (id : ℕ) → id ≤ s.last → Unnamed id s.records → Unnamed id t.records
+  same_records : (s t : SystemView R) → t.records ≡ s.records → (id : ℕ) → id ≤ s.last → Unnamed id s.records
+      → Unnamed id t.records
   same_records s t e id low none = subst (λ rs. Unnamed id rs) (sym e) none
 
   -- nothing but calls, none of which puts in anything
-  made_only : (s t : SystemView R) (way : List CallOn) → ((id : ℕ) → Outs id way) → OnlyWorks step view way s t → IsMadeOf step view s t
-  made_only s t way outs (works, records, last) = made_calls s t way works (same_low s.last t.last last) (λ id low none. outs id) (same_records s t records)
+  made_only : (s t : SystemView R) (way : List CallOn) → ((id : ℕ) → Outs id way) → OnlyWorks step view way s t
+      → IsMadeOf step view s t
+  made_only s t way outs (works, records, last) =
+      made_calls s t way works (same_low s.last t.last last) (λ id low none. outs id) (same_records s t records)
 
   -- a cyclic's record has another place
-  placed_records : (own : ℕ) (place : Place) (s t : SystemView R) → Records own place s t → (id : ℕ) → id ≤ s.last → Unnamed id s.records → Unnamed id t.records
-  placed_records own place s t (k, r, here, named, records, last) id low none = subst (λ rs. Unnamed id rs) (sym records) (unnamed_set id s.records k r _ none here refl)
+  placed_records : (own : ℕ) (place : Place) (s t : SystemView R) → Records own place s t → (id : ℕ) → id ≤ s.last
+      → Unnamed id s.records → Unnamed id t.records
+  placed_records own place s t (k, r, here, named, records, last) id low none =
+      subst (λ rs. Unnamed id rs) (sym records) (unnamed_set id s.records k r _ none here refl)
 
   -- the id of a record is another one
   named_not : (own : ℕ) (place : Place) (s t : SystemView R) → Records own place s t → (id : ℕ) → Unnamed id s.records → own ≢ id
@@ -198,123 +226,174 @@ module _ {R : Type 0} (step : R → FiringCall → R → Type 0) (view : R → F
   last_of : (own : ℕ) (place : Place) (s t : SystemView R) → Records own place s t → s.last ≤ t.last
   last_of own place s t (k, r, here, named, records, last) = same_low s.last t.last last
 
-  made_goes : (own home target : ℕ) (place : Place) (s t : SystemView R) → GoesTo step view own home target (Ok tt) s.cpus t.cpus → Records own place s t → IsMadeOf step view s t
+  made_goes : (own home target : ℕ) (place : Place) (s t : SystemView R) → GoesTo step view own home target (Ok tt) s.cpus t.cpus
+      → Records own place s t → IsMadeOf step view s t
   made_goes own home target place s t (inl (at, is, same)) records =
       made_calls s t [] (sym same) (last_of own place s t records) (λ id low none. tt) (placed_records own place s t records)
-  made_goes own home target place s t (inr (ne, (taken, works))) records = made_calls s t (moving own home target taken) works (last_of own place s t records)
-      (λ id low none. (tt, (tt, (tt, (tt, (named_not own place s t records id none, tt)))))) (placed_records own place s t records)
+  made_goes own home target place s t (inr (ne, (taken, works))) records =
+      made_calls s t (moving own home target taken) works (last_of own place s t records)
+      (λ id low none. (tt, (tt, (tt, (tt, (named_not own place s t records id none, tt))))))
+      (placed_records own place s t records)
 
-  made_unshifted : (own source target : ℕ) (e : Refusal) (s t : SystemView R) → WhyNotShifted step view own source target e s.cpus t.cpus → t.records ≡ s.records → t.last ≡ s.last
+  made_unshifted : (own source target : ℕ) (e : Refusal) (s t : SystemView R)
+      → WhyNotShifted step view own source target e s.cpus t.cpus → t.records ≡ s.records → t.last ≡ s.last
       → IsMadeOf step view s t
-  made_unshifted own source target e s t (inl (removed, is_open, is, same)) records last = made_only s t [] (λ id. tt) (sym same, records, last)
-  made_unshifted own source target e s t (inr (inl (still, n, some, is, works))) records last = made_only s t (on source (AskPending own (Some n)) ∷ []) (λ id. (tt, tt)) (works, records, last)
+  made_unshifted own source target e s t (inl (removed, is_open, is, same)) records last =
+      made_only s t [] (λ id. tt) (sym same, records, last)
+  made_unshifted own source target e s t (inr (inl (still, n, some, is, works))) records last =
+      made_only s t (on source (AskPending own (Some n)) ∷ []) (λ id. (tt, tt)) (works, records, last)
   made_unshifted own source target e s t (inr (inr (still, works))) records last =
-      made_only s t (on source (AskPending own (Some 0)) ∷ on target (Reserve 1 (Err e)) ∷ []) (λ id. (tt, (tt, tt))) (works, records, last)
+      made_only s t (on source (AskPending own (Some 0)) ∷ on target (Reserve 1 (Err e)) ∷ []) (λ id. (tt, (tt, tt)))
+      (works, records, last)
 
-  made_stays : (own home target : ℕ) (e : Refusal) (s t : SystemView R) → GoesTo step view own home target (Err e) s.cpus t.cpus → t.records ≡ s.records → t.last ≡ s.last → IsMadeOf step view s t
+  made_stays : (own home target : ℕ) (e : Refusal) (s t : SystemView R) → GoesTo step view own home target (Err e) s.cpus t.cpus
+      → t.records ≡ s.records → t.last ≡ s.last → IsMadeOf step view s t
   made_stays own home target e s t (inl (at, is, same)) records last = made_only s t [] (λ id. tt) (sym same, records, last)
   made_stays own home target e s t (inr (ne, why)) records last = made_unshifted own home target e s t why records last
 
-  made_adds : (s t : SystemView R) (level : Level) (when : When) (now : ℕ) (answer : Result ℕ Refusal) → Adds step view level when now answer s t → IsMadeOf step view s t
+  made_adds : (s t : SystemView R) (level : Level) (when : When) (now : ℕ) (answer : Result ℕ Refusal)
+      → Adds step view level when now answer s t → IsMadeOf step view s t
   made_adds s t level when now (Ok own) (d, chosen, next, works, records, last) = made_calls s t
-      (on d (Reserve 1 (Ok tt)) ∷ entering d own level when.interval (first when.start when.interval now)) works (omega (arith, next, last))
+      (on d (Reserve 1 (Ok tt)) ∷ entering d own level when.interval (first when.start when.interval now)) works
+      (omega (arith, next, last))
       (λ id low none. (tt, (tt, (λ same. absurd (omega (arith, next, low, same)), tt))))
-      (λ id low none. subst (λ rs. Unnamed id rs) (sym records) (unnamed_push id s.records _ none (λ same. absurd (omega (arith, next, low, same)))))
+      (λ id low none. subst (λ rs. Unnamed id rs) (sym records)
+      (unnamed_push id s.records _ none (λ same. absurd (omega (arith, next, low, same)))))
   made_adds s t level when now (Err e) (d, chosen, inl only) = made_only s t (on d (Reserve 1 (Err e)) ∷ []) (λ id. (tt, tt)) only
-  made_adds s t level when now (Err e) (d, chosen, inr (is, only)) = made_only s t (on d (Reserve 1 (Ok tt)) ∷ []) (λ id. (tt, tt)) only
+  made_adds s t level when now (Err e) (d, chosen, inr (is, only)) =
+      made_only s t (on d (Reserve 1 (Ok tt)) ∷ []) (λ id. (tt, tt)) only
 
   -- a system with other CPUs
   abbrev with_cpus : SystemView R → CpusView R → SystemView R
   with_cpus s v = record s { cpus = v }
 
-  made_reserved : (more : ℕ) (answer : Result (Unit {0}) Refusal) (s t : SystemView R) → ReservesEach step view more answer s.cpus t.cpus → t.records ≡ s.records → t.last ≡ s.last
+  made_reserved : (more : ℕ) (answer : Result (Unit {0}) Refusal) (s t : SystemView R)
+      → ReservesEach step view more answer s.cpus t.cpus → t.records ≡ s.records → t.last ≡ s.last
       → IsMadeOf step view s t
   made_reserved more (Ok done) s t (v, asks, takes) records last = made_then s (with_cpus s v) t
-      (made_only s (with_cpus s v) (rooms more (online_cpus s.cpus)) (λ id. outs_rooms id more (online_cpus s.cpus)) (asks, refl, refl))
-      (made_only (with_cpus s v) t (reserves more (online_cpus s.cpus)) (λ id. outs_reserves id more (online_cpus s.cpus)) (takes, records, last))
+      (made_only s (with_cpus s v) (rooms more (online_cpus s.cpus)) (λ id. outs_rooms id more (online_cpus s.cpus))
+      (asks, refl, refl))
+      (made_only (with_cpus s v) t (reserves more (online_cpus s.cpus)) (λ id. outs_reserves id more (online_cpus s.cpus))
+      (takes, records, last))
   made_reserved more (Err e) s t (inl (before, n, after, works)) records last =
-      made_only s t (rooms more before ++ on n (AskRoom more (Err e)) ∷ []) (λ id. outs_on id (rooms more before) (on n (AskRoom more (Err e)) ∷ []) (outs_rooms id more before) (tt, tt)) (works, records, last)
+      made_only s t (rooms more before ++ on n (AskRoom more (Err e)) ∷ [])
+      (λ id. outs_on id (rooms more before) (on n (AskRoom more (Err e)) ∷ []) (outs_rooms id more before) (tt, tt))
+      (works, records, last)
   made_reserved more (Err e) s t (inr (v, asks, (is, before, n, after, works))) records last = made_then s (with_cpus s v) t
-      (made_only s (with_cpus s v) (rooms more (online_cpus s.cpus)) (λ id. outs_rooms id more (online_cpus s.cpus)) (asks, refl, refl))
-      (made_only (with_cpus s v) t (reserves more before ++ on n (Reserve more (Err e)) ∷ []) (λ id. outs_on id (reserves more before) (on n (Reserve more (Err e)) ∷ []) (outs_reserves id more before) (tt, tt)) (works, records, last))
+      (made_only s (with_cpus s v) (rooms more (online_cpus s.cpus)) (λ id. outs_rooms id more (online_cpus s.cpus))
+      (asks, refl, refl))
+      (made_only (with_cpus s v) t (reserves more before ++ on n (Reserve more (Err e)) ∷ [])
+      (λ id. outs_on id (reserves more before) (on n (Reserve more (Err e)) ∷ []) (outs_reserves id more before) (tt, tt))
+      (works, records, last))
 
-  made_omni : (s t : SystemView R) (level : Level) (when : When) (skew now : ℕ) (answer : Result ℕ Refusal) → AddsOmni step view level when skew now answer s t → IsMadeOf step view s t
+  made_omni : (s t : SystemView R) (level : Level) (when : When) (skew now : ℕ) (answer : Result ℕ Refusal)
+      → AddsOmni step view level when skew now answer s t → IsMadeOf step view s t
   made_omni s t level when skew now (Ok own) (next, (v, reserved, works), records, last) = made_then s (with_cpus s v) t
       (made_reserved 1 (Ok tt) s (with_cpus s v) reserved refl refl)
       (made_calls (with_cpus s v) t (entering_each (online_cpus s.cpus) own level when skew now) works (omega (arith, next, last))
-      (λ id low none. outs_entering id (online_cpus s.cpus) own level when skew now (λ same. absurd (omega (arith, next, low, same))))
-      (λ id low none. subst (λ rs. Unnamed id rs) (sym records) (unnamed_push id s.records _ none (λ same. absurd (omega (arith, next, low, same))))))
+      (λ id low none. outs_entering id (online_cpus s.cpus) own level when skew now
+      (λ same. absurd (omega (arith, next, low, same))))
+      (λ id low none. subst (λ rs. Unnamed id rs) (sym records)
+      (unnamed_push id s.records _ none (λ same. absurd (omega (arith, next, low, same))))))
   made_omni s t level when skew now (Err e) (inl reserved, records, last) = made_reserved 1 (Err e) s t reserved records last
-  made_omni s t level when skew now (Err e) (inr (is, reserved), records, last) = made_reserved 1 (Ok tt) s t reserved records last
+  made_omni s t level when skew now (Err e) (inr (is, reserved), records, last) =
+      made_reserved 1 (Ok tt) s t reserved records last
 
-  made_binds : (id n : ℕ) (answer : Result (Unit {0}) Refusal) (s t : SystemView R) → Binds step view id n answer s t → IsMadeOf step view s t
+  made_binds : (id n : ℕ) (answer : Result (Unit {0}) Refusal) (s t : SystemView R) → Binds step view id n answer s t
+      → IsMadeOf step view s t
   made_binds id n (Ok done) s t (home, has, goes, records) = made_goes id home n (stands.On n true) s t goes records
   made_binds id n (Err e) s t (home, has, goes, records, last) = made_stays id home n e s t goes records last
 
-  made_unbinds : (id : ℕ) (answer : Result (Unit {0}) Refusal) (s t : SystemView R) → Unbinds id answer s t → IsMadeOf step view s t
+  made_unbinds : (id : ℕ) (answer : Result (Unit {0}) Refusal) (s t : SystemView R) → Unbinds id answer s t
+      → IsMadeOf step view s t
   made_unbinds id answer s t (is, n, home, cpus, records) =
-      made_calls s t [] (sym cpus) (last_of id (stands.On n false) s t records) (λ q low none. tt) (placed_records id (stands.On n false) s t records)
+      made_calls s t [] (sym cpus) (last_of id (stands.On n false) s t records) (λ q low none. tt)
+      (placed_records id (stands.On n false) s t records)
 
   -- ---- removals
 
-  made_ended : (n : ℕ) (call : CpuCall) (k : ℕ) (r x : Record) (s t : SystemView R) → ((id : ℕ) → PutsNot id call) → DoesAt step view s.cpus (on n call) t.cpus
+  made_ended : (n : ℕ) (call : CpuCall) (k : ℕ) (r x : Record) (s t : SystemView R) → ((id : ℕ) → PutsNot id call)
+      → DoesAt step view s.cpus (on n call) t.cpus
       → IsRecord s.records k r → x.id ≡ r.id → t.records ≡ slice_set s.records k x → t.last ≡ s.last → IsMadeOf step view s t
-  made_ended n call k r x s t outs does here same records last = made_calls s t (on n call ∷ []) (t.cpus, does, refl) (same_low s.last t.last last)
-      (λ id low none. (outs id, tt)) (λ id low none. subst (λ rs. Unnamed id rs) (sym records) (unnamed_set id s.records k r x none here same))
+  made_ended n call k r x s t outs does here same records last =
+      made_calls s t (on n call ∷ []) (t.cpus, does, refl) (same_low s.last t.last last)
+      (λ id low none. (outs id, tt)) (λ id low none. subst (λ rs. Unnamed id rs) (sym records)
+      (unnamed_set id s.records k r x none here same))
 
   begins_on : (id n : ℕ) (found : Removal) (s t : SystemView R) → BeginsOn step view id n found s t → IsMadeOf step view s t
-  begins_on id n (Done receipt) s t (does, k, r, here, named, records, last) = made_ended n (CpuBegin id (Ok (Done receipt))) k r _ s t (λ q. tt) does here refl records last
-  begins_on id n (Kept kept) s t (does, records, last) = made_only s t (on n (CpuBegin id (Ok (Kept kept))) ∷ []) (λ q. (tt, tt)) ((t.cpus, does, refl), records, last)
+  begins_on id n (Done receipt) s t (does, k, r, here, named, records, last) =
+      made_ended n (CpuBegin id (Ok (Done receipt))) k r _ s t (λ q. tt) does here refl records last
+  begins_on id n (Kept kept) s t (does, records, last) =
+      made_only s t (on n (CpuBegin id (Ok (Kept kept))) ∷ []) (λ q. (tt, tt)) ((t.cpus, does, refl), records, last)
 
   begins_each : (id : ℕ) (way : List Begun) (s t : SystemView R) → BeginsEach step view id way s t → IsMadeOf step view s t
   begins_each id [] s t e = made_same s t (sym e)
-  begins_each id (b ∷ way) s t (u, first, rest) = made_then s u t (begins_on id b.cpu b.found s u first) (begins_each id way u t rest)
+  begins_each id (b ∷ way) s t (u, first, rest) =
+      made_then s u t (begins_on id b.cpu b.found s u first) (begins_each id way u t rest)
 
   answers : (id : ℕ) (receipt : Receipt) (s t : SystemView R) → Answers id receipt s t → IsMadeOf step view s t
   answers id receipt s t a = made_calls s t [] (sym a.cpus) (same_low s.last t.last a.last) (λ q low none. tt)
       (λ q low none. subst (λ rs. Unnamed q rs) (sym a.records) (unnamed_remove q s.records a.place none))
 
-  begins : (id : ℕ) (answer : Result SystemRemoval Refusal) (s t : SystemView R) → Removes step view id answer s t → IsMadeOf step view s t
-  begins id (Ok (over.Done receipt)) s t (way, u, cpus, each, done) = made_then s u t (begins_each id way s u each) (answers id receipt u t done)
+  begins : (id : ℕ) (answer : Result SystemRemoval Refusal) (s t : SystemView R) → Removes step view id answer s t
+      → IsMadeOf step view s t
+  begins id (Ok (over.Done receipt)) s t (way, u, cpus, each, done) =
+      made_then s u t (begins_each id way s u each) (answers id receipt u t done)
   begins id (Ok (over.Kept kept)) s t (way, cpus, each, some, sum) = begins_each id way s t each
   begins id (Err e) s t d = absurd d
 
-  polls_on : (id n : ℕ) (answer : Option Receipt) (s t : SystemView R) → PollsOn step view id n answer s t → IsMadeOf step view s t
-  polls_on id n (Some receipt) s t (does, k, r, here, named, records, last) = made_ended n (CpuPoll (Some receipt)) k r _ s t (λ q. tt) does here refl records last
-  polls_on id n None s t (does, records, last) = made_only s t (on n (CpuPoll None) ∷ []) (λ q. (tt, tt)) ((t.cpus, does, refl), records, last)
+  polls_on : (id n : ℕ) (answer : Option Receipt) (s t : SystemView R) → PollsOn step view id n answer s t
+      → IsMadeOf step view s t
+  polls_on id n (Some receipt) s t (does, k, r, here, named, records, last) =
+      made_ended n (CpuPoll (Some receipt)) k r _ s t (λ q. tt) does here refl records last
+  polls_on id n None s t (does, records, last) =
+      made_only s t (on n (CpuPoll None) ∷ []) (λ q. (tt, tt)) ((t.cpus, does, refl), records, last)
 
   polls_each : (id : ℕ) (way : List Polled) (s t : SystemView R) → PollsEach step view id way s t → IsMadeOf step view s t
   polls_each id [] s t e = made_same s t (sym e)
-  polls_each id (p ∷ way) s t (u, first, rest) = made_then s u t (polls_on id p.cpu p.answer s u first) (polls_each id way u t rest)
+  polls_each id (p ∷ way) s t (u, first, rest) =
+      made_then s u t (polls_on id p.cpu p.answer s u first) (polls_each id way u t rest)
 
-  polls : (id : ℕ) (answer : Result (Option Receipt) Refusal) (s t : SystemView R) → Polls step view id answer s t → IsMadeOf step view s t
-  polls id (Ok (Some receipt)) s t (way, u, cpus, each, done) = made_then s u t (polls_each id way s u each) (answers id receipt u t done)
+  polls : (id : ℕ) (answer : Result (Option Receipt) Refusal) (s t : SystemView R) → Polls step view id answer s t
+      → IsMadeOf step view s t
+  polls id (Ok (Some receipt)) s t (way, u, cpus, each, done) =
+      made_then s u t (polls_each id way s u each) (answers id receipt u t done)
   polls id (Ok None) s t (way, cpus, each, some) = polls_each id way s t each
   polls id (Err e) s t d = absurd d
 
-  totals : (id : ℕ) (answer : Option SystemTotals) (s t : SystemView R) → AsksTotals step view id answer s t → IsMadeOf step view s t
-  totals id (Some found) s t (way, r, known, cpus, only, adds_up) = made_only s t (map (asked id) way) (λ q. outs_asked q id way) only
+  totals : (id : ℕ) (answer : Option SystemTotals) (s t : SystemView R) → AsksTotals step view id answer s t
+      → IsMadeOf step view s t
+  totals id (Some found) s t (way, r, known, cpus, only, adds_up) =
+      made_only s t (map (asked id) way) (λ q. outs_asked q id way) only
   totals id None s t (unknown, same) = made_same s t same
 
   -- ---- juggle and offline
 
   turns_one : (n id : ℕ) (turn : Turn) (s t : SystemView R) → TakesTurn step view n id turn s t → IsMadeOf step view s t
   turns_one n id StaysBound s t (place, same) = made_same s t same
-  turns_one n id StaysPending s t (place, found, some, only) = made_only s t (on n (AskPending id (Some found)) ∷ []) (λ q. (tt, tt)) only
-  turns_one n id StaysRefused s t (place, d, chosen, e, only) = made_only s t (on n (AskPending id (Some 0)) ∷ on d (Reserve 1 (Err e)) ∷ []) (λ q. (tt, (tt, tt))) only
-  turns_one n id Moves s t (place, d, chosen, (taken, works), records) = made_calls s t (moving id n d taken) works (last_of id (stands.On d false) s t records)
-      (λ q low none. (tt, (tt, (tt, (tt, (named_not id (stands.On d false) s t records q none, tt)))))) (placed_records id (stands.On d false) s t records)
+  turns_one n id StaysPending s t (place, found, some, only) =
+      made_only s t (on n (AskPending id (Some found)) ∷ []) (λ q. (tt, tt)) only
+  turns_one n id StaysRefused s t (place, d, chosen, e, only) =
+      made_only s t (on n (AskPending id (Some 0)) ∷ on d (Reserve 1 (Err e)) ∷ []) (λ q. (tt, (tt, tt))) only
+  turns_one n id Moves s t (place, d, chosen, (taken, works), records) =
+      made_calls s t (moving id n d taken) works (last_of id (stands.On d false) s t records)
+      (λ q low none. (tt, (tt, (tt, (tt, (named_not id (stands.On d false) s t records q none, tt))))))
+      (placed_records id (stands.On d false) s t records)
 
-  turns : (n : ℕ) (ids : List ℕ) (report : JuggleReport) (s t : SystemView R) → Turns step view n ids report s t → IsMadeOf step view s t
+  turns : (n : ℕ) (ids : List ℕ) (report : JuggleReport) (s t : SystemView R) → Turns step view n ids report s t
+      → IsMadeOf step view s t
   turns n [] report s t (none, same) = made_same s t same
-  turns n (id ∷ ids) report s t (turn, u, rest, first, counted, more) = made_then s u t (turns_one n id turn s u first) (turns n ids rest u t more)
+  turns n (id ∷ ids) report s t (turn, u, rest, first, counted, more) =
+      made_then s u t (turns_one n id turn s u first) (turns n ids rest u t more)
 
   retires : (n : ℕ) (ids : List ℕ) (s t : SystemView R) → FoldsTo (Retires step view n) s ids t → IsMadeOf step view s t
   retires n [] s t e = made_same s t (sym e)
   retires n (id ∷ ids) s t (u, (taken, does, k, r, here, named, records, last), rest) =
-      made_then s u t (made_ended n (TakeNow id (Ok taken)) k r _ s u (λ q. tt) does here refl records last) (retires n ids u t rest)
+      made_then s u t (made_ended n (TakeNow id (Ok taken)) k r _ s u (λ q. tt) does here refl records last)
+      (retires n ids u t rest)
 
-  made_switched : (n : ℕ) (online : Bool) (s t : SystemView R) → t.cpus ≡ record s.cpus { online = slice_set s.cpus.online n online } → t.records ≡ s.records → t.last ≡ s.last
+  made_switched : (n : ℕ) (online : Bool) (s t : SystemView R)
+      → t.cpus ≡ record s.cpus { online = slice_set s.cpus.online n online } → t.records ≡ s.records → t.last ≡ s.last
       → IsMadeOf step view s t
   made_switched n online s t cpus records last = record {
     way = SetOnline n online ∷ [];
@@ -324,14 +403,17 @@ module _ {R : Type 0} (step : R → FiringCall → R → Type 0) (view : R → F
     last = same_low s.last t.last last;
   }
 
-  leaves : (n : ℕ) (report : JuggleReport) (answer : Result (Unit {0}) Refusal) (s t : SystemView R) → Leaves step view n report answer s t → IsMadeOf step view s t
+  leaves : (n : ℕ) (report : JuggleReport) (answer : Result (Unit {0}) Refusal) (s t : SystemView R)
+      → Leaves step view n report answer s t → IsMadeOf step view s t
   leaves n report answer s t (inl (left, is, same)) = made_same s t same
   leaves n report answer s t (inr (inl (none, is, (before, id, after, found, some, only)))) =
-      made_only s t (quiet n before ++ on n (AskPending id (Some found)) ∷ []) (λ q. outs_on q (quiet n before) (on n (AskPending id (Some found)) ∷ []) (outs_quiet q n before) (tt, tt)) only
+      made_only s t (quiet n before ++ on n (AskPending id (Some found)) ∷ [])
+      (λ q. outs_on q (quiet n before) (on n (AskPending id (Some found)) ∷ []) (outs_quiet q n before) (tt, tt)) only
   leaves n report answer s t (inr (inr (none, is, (u, only, empty, each, off)))) =
       made_then s u t (made_only s u (quiet n (ids_on n s.cpus)) (λ q. outs_quiet q n (ids_on n s.cpus)) only)
       (made_then u empty t (retires n (ids_on n s.cpus) u empty each)
-      (made_switched n false empty t (ap (λ (x : SystemView R). x.cpus) off) (ap (λ (x : SystemView R). x.records) off) (ap (λ (x : SystemView R). x.last) off)))
+      (made_switched n false empty t (ap (λ (x : SystemView R). x.cpus) off) (ap (λ (x : SystemView R). x.records) off)
+      (ap (λ (x : SystemView R). x.last) off)))
 
   return_id : (n : ℕ) (v : CpusView R) (r : Record) → (after_return n v r).id ≡ r.id
   return_id n v r = by (is_staying v r)
@@ -340,35 +422,46 @@ module _ {R : Type 0} (step : R → FiringCall → R → Type 0) (view : R → F
       by true = refl
       by false = refl
 
-  made_returns : (n now : ℕ) (answer : Result (Unit {0}) Refusal) (s t : SystemView R) → GoesOnline step view n now answer s t → IsMadeOf step view s t
-  made_returns n now (Ok done) s t ((w, works, switched), records, last) = made_then s (record { cpus = w; records = t.records; last = t.last }) t
+  made_returns : (n now : ℕ) (answer : Result (Unit {0}) Refusal) (s t : SystemView R) → GoesOnline step view n now answer s t
+      → IsMadeOf step view s t
+  made_returns n now (Ok done) s t ((w, works, switched), records, last) =
+      made_then s (record { cpus = w; records = t.records; last = t.last }) t
       (made_calls s (record { cpus = w; records = t.records; last = t.last })
-      (on n (Reserve (length (staying s)) (Ok tt)) ∷ on n (Widen (length (staying s))) ∷ returns n now (staying s)) works (same_low s.last t.last last)
+      (on n (Reserve (length (staying s)) (Ok tt)) ∷ on n (Widen (length (staying s))) ∷ returns n now (staying s)) works
+      (same_low s.last t.last last)
       (λ id low none. (tt, (tt, outs_returns id n now (staying s) (unnamed_filter id (is_staying s.cpus) s.records none))))
-      (λ id low none. subst (λ rs. Unnamed id rs) (sym records) (unnamed_map id (after_return n s.cpus) s.records (return_id n s.cpus) none)))
+      (λ id low none. subst (λ rs. Unnamed id rs) (sym records)
+      (unnamed_map id (after_return n s.cpus) s.records (return_id n s.cpus) none)))
       (made_switched n true (record { cpus = w; records = t.records; last = t.last }) t switched refl refl)
-  made_returns n now (Err e) s t (why, only) = made_only s t (on n (Reserve (length (staying s)) (Err e)) ∷ []) (λ id. (tt, tt)) only
+  made_returns n now (Err e) s t (why, only) =
+      made_only s t (on n (Reserve (length (staying s)) (Err e)) ∷ []) (λ id. (tt, tt)) only
 
   -- ---- any call
 
   refused_or : {A : Type 0} (o : Option Refusal) (refused : Refusal → A) (answer : A) (s t : SystemView R) (G : Type 0)
-      → ((e : Refusal) × (o ≡ Some e) × (answer ≡ refused e) × (t ≡ s)) ⊎ ((o ≡ None) × G) → (G → IsMadeOf step view s t) → IsMadeOf step view s t
+      → ((e : Refusal) × (o ≡ Some e) × (answer ≡ refused e) × (t ≡ s)) ⊎ ((o ≡ None) × G) → (G → IsMadeOf step view s t)
+      → IsMadeOf step view s t
   refused_or o refused answer s t G (inl (e, why, is, same)) goes = made_same s t same
   refused_or o refused answer s t G (inr (clear, g)) goes = goes g
 
   pub made_of : (s t : SystemView R) (call : SystemCall) → Changes step view s call t → IsMadeOf step view s t
   made_of s t (Add level when now answer) d = refused_or _ _ answer s t _ d (λ g. made_adds s t level when now answer g)
-  made_of s t (AddOmni level when skew now answer) d = refused_or _ _ answer s t _ d (λ g. made_omni s t level when skew now answer g)
+  made_of s t (AddOmni level when skew now answer) d =
+      refused_or _ _ answer s t _ d (λ g. made_omni s t level when skew now answer g)
   made_of s t (Bind id None answer) d = refused_or _ _ answer s t _ d (λ g. made_unbinds id answer s t g)
   made_of s t (Bind id (Some n) answer) d = refused_or _ _ answer s t _ d (λ g. made_binds id n answer s t g)
   made_of s t (BeginRemove id answer) d = refused_or _ _ answer s t _ d (λ g. begins id answer s t g)
   made_of s t (PollRemove id answer) d = refused_or _ _ answer s t _ d (λ g. polls id answer s t g)
   made_of s t (AskTotals id answer) d = totals id answer s t d
-  made_of s t (Reprogram id moment answer) d = refused_or _ _ answer s t _ d (λ g. made_only s t (on g.0 (CpuReprogram id moment (Ok tt)) ∷ []) (λ q. (tt, tt)) (g.2.1))
-  made_of s t (ReprogramOn id n moment answer) d = refused_or _ _ answer s t _ d (λ g. made_only s t (on n (CpuReprogram id moment (Ok tt)) ∷ []) (λ q. (tt, tt)) (g.1))
-  made_of s t (Juggle n answer) d = refused_or _ _ answer s t _ d (λ g. (let (report, is, moves) = g in turns n (single_ids n s) report s t moves))
+  made_of s t (Reprogram id moment answer) d =
+      refused_or _ _ answer s t _ d (λ g. made_only s t (on g.0 (CpuReprogram id moment (Ok tt)) ∷ []) (λ q. (tt, tt)) (g.2.1))
+  made_of s t (ReprogramOn id n moment answer) d =
+      refused_or _ _ answer s t _ d (λ g. made_only s t (on n (CpuReprogram id moment (Ok tt)) ∷ []) (λ q. (tt, tt)) (g.1))
+  made_of s t (Juggle n answer) d = refused_or _ _ answer s t _ d
+      (λ g. (let (report, is, moves) = g in turns n (single_ids n s) report s t moves))
   made_of s t (Offline n answer) d = refused_or _ _ answer s t _ d
-      (λ g. (let (report, moved, moves, rest) = g in made_then s moved t (turns n (single_ids n s) report s moved moves) (leaves n report answer moved t rest)))
+      (λ g. (let (report, moved, moves, rest) = g in
+      made_then s moved t (turns n (single_ids n s) report s moved moves) (leaves n report answer moved t rest)))
   made_of s t (Online n now answer) d = refused_or _ _ answer s t _ d (λ g. made_returns n now answer s t g)
   made_of s t (FireOne n now answer) d = absurd d
   made_of s t (SoftInterrupt n level budget answer) d = absurd d

@@ -30,4 +30,5 @@ StaysOverWhole count id s t = IsOverWhole id t.system × (count t.calls id ≡ c
 
 -- every CPU is lawful, and so are its two levels, as they are between any two calls
 abbrev pub AreLevelsLawful : SystemView Tables → Type 0
-AreLevelsLawful s = (n : ℕ) → OfCpu n (λ cpu. IsLawful firing_at cpu × Lawful (level_of cpu.lock) × Lawful (level_of cpu.low)) s.cpus
+AreLevelsLawful s = (n : ℕ) → OfCpu n (λ cpu. IsLawful firing_at cpu × Lawful (level_of cpu.lock)
+    × Lawful (level_of cpu.low)) s.cpus

@@ -28,7 +28,8 @@ pub fn removal_law<C: Calls, R: Raise>()
         → FoldsTo (Does C.called C.count C.may_refuse R.step R.view no_interrupts) s way t → StaysOver C.count id s t }
 {}
 
-/// The same where no other thread uses the levels, and soft interrupts are among the calls: the id is at none of the levels either.
+/// The same where no other thread uses the levels, and soft interrupts are among the calls: the id is at none of the levels
+/// either.
 ///
 /// It does nothing when it runs: its clauses are the law.
 pub fn removal_core_law<C: Calls>()

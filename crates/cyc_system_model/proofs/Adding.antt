@@ -1,5 +1,6 @@
 -- An add of a system is what the definition says.
-use Rattle.std.proofs.Common.{◌≡◌, ℕ, zero, suc, ◌+◌, ◌⊎◌, inl, inr, false, List, [], ◌∷◌, ◌++◌, map, get_or, Option, Some, None, refl, ap, sym, ◌∙◌, subst, arith}
+use Rattle.std.proofs.Common.{◌≡◌, ℕ, zero, suc, ◌+◌, ◌⊎◌, inl, inr, false, List, [], ◌∷◌, ◌++◌, map, get_or, Option, Some, None}
+use Rattle.std.proofs.Common.{refl, ap, sym, ◌∙◌, subst, arith}
 use Rattle.std.specs.Prelude.{slice_set, Ok, Err, int_lt, pos}
 use Rattle.std.specs.Option.{option_map_or}
 use Rattle.std.proofs.lemmas.List.{map-append}
@@ -37,14 +38,16 @@ use Rattle.cyc_system_model.specs.Shown.{shown_cpus, shown_record, shown_counts,
 use Rattle.cyc_system_model.specs.Words.{IsSeries, IsDone, IsRefusedFor}
 use Rattle.cyc_system_model.proofs.Lists.{same_all}
 use Rattle.cyc_system_model.proofs.Cpus.{cpu_at, done_at}
-use Rattle.cyc_system_model.proofs.Asking.{same_ids_spent, no_memory_when, no_memory_else, some_refused, append_none, append_some, same_error, or_none}
+use Rattle.cyc_system_model.proofs.Asking.{same_ids_spent, no_memory_when, no_memory_else, some_refused, append_none, append_some}
+use Rattle.cyc_system_model.proofs.Asking.{same_error, or_none}
 use Rattle.cyc_system_model.proofs.Destinations.{destination_shown}
 use Rattle.cyc_system_model.proofs.Entering.{entered, unchanged, free_on, same_shown}
 
 -- ---- a new record
 
 -- the records of a system with one more
-pub one_more : (rs : List Record) (new : Record) (k : ℕ) (r : Record) → IsRecord (rs ++ new ∷ []) k r → IsRecord rs k r ⊎ (r ≡ new)
+pub one_more : (rs : List Record) (new : Record) (k : ℕ) (r : Record) → IsRecord (rs ++ new ∷ []) k r → IsRecord rs k r
+    ⊎ (r ≡ new)
 one_more [] new zero r is = inr (same r new is)
   where
     same : (a b : Record) → Some b ≡ Some a → a ≡ b
@@ -53,11 +56,13 @@ one_more [] new (suc k) r is = absurd (let isnt : None ≡ Some r = is in cc)
 one_more (x ∷ rs) new zero r is = inl is
 one_more (x ∷ rs) new (suc k) r is = one_more rs new k r is
 
-new_ended : (n id : ℕ) (level : Level) (p : RecordPlace) → shown_counts (ended_on n (new_record id level p)) ≡ record { expired = 0; lost = 0 }
+new_ended : (n id : ℕ) (level : Level) (p : RecordPlace)
+    → shown_counts (ended_on n (new_record id level p)) ≡ record { expired = 0; lost = 0 }
 new_ended n id level p = ap shown_counts (same_all 16 n no_counts)
 
 -- the new record has no ended stay, and no other changed
-pub ended_more : (s : State) (v : SystemView Tables) (id : ℕ) (level : Level) (p : RecordPlace) (k n : ℕ) (r : Record) → Shows s v → id ≡ s.last_id + 1
+pub ended_more : (s : State) (v : SystemView Tables) (id : ℕ) (level : Level) (p : RecordPlace) (k n : ℕ) (r : Record) → Shows s v
+    → id ≡ s.last_id + 1
     → IsRecord v.records k r ⊎ (r ≡ new_record id level p) → s.ended r.id n ≡ shown_counts (ended_on n r)
 ended_more s v id level p k n r h gives (inl old) = h.ended k r old n
 ended_more s v id level p k n r h gives (inr new) =
@@ -82,14 +87,16 @@ only_room : (a : AddStep) (series : When) (s : State) → IsSeries a.start a.int
     → add_refusal plain a s ≡ or_else (room_there s) None
 only_room a series s is none = late a series s is ∙ append_none (bad_now s.clock) (ids_spent s) (or_else (room_there s) None) none
 
-module _ (a : AddStep) (series : When) (s : State) (v w : SystemView Tables) (sys : IsSystem v) (h : Shows s v) (is : IsSeries a.start a.interval series) where
+module _ (a : AddStep) (series : When) (s : State) (v w : SystemView Tables) (sys : IsSystem v) (h : Shows s v)
+    (is : IsSeries a.start a.interval series) where
   asked : early a s ≡ or_else (bad_now s.clock) (or_else (why.ids_spent v) None)
   asked = ap (λ o. or_else (bad_now s.clock) (or_else o None)) (same_ids_spent s v h sys.agrees.long)
 
   room_at : (d : ℕ) → destination None s ≡ d → room_there s ≡ why_no_room 1 (cpu_at v.cpus d)
   room_at d dm = λ z. why_no_room 1 (get_or (h.cpus z) (dm z) absent)
 
-  pub add_accepted : (id : ℕ) → Changes fires seen v (Add a.level series s.clock (Ok id)) w → (id ≡ s.last_id + 1) × IsDone (steps.Add a) s w
+  pub add_accepted : (id : ℕ) → Changes fires seen v (Add a.level series s.clock (Ok id)) w → (id ≡ s.last_id + 1)
+      × IsDone (steps.Add a) s w
   add_accepted id (inl (e, some, answer, same)) = absurd (let isnt : Ok id ≡ Err e = answer in cc)
   add_accepted id (inr (none, (d, dest, named, (u1, reserve, (u2, wide, (u3, put, same))), records, last))) =
       let moment = first series.start series.interval s.clock in
@@ -99,11 +106,13 @@ module _ (a : AddStep) (series : When) (s : State) (v w : SystemView Tables) (sy
       let e = entered d id a.level series.interval moment no_counts u1 u2 u3 b p in
       let x : Cyclic = cyclic_with id a.level series.interval moment 0 0 in
       let before : shown_cpus u1 ≡ shown_cpus v.cpus = unchanged v.cpus u1 d r.cpus in
-      let dm : destination None s ≡ d = destination_shown None s v.cpus h.cpus sys.agrees.long ∙ ap (λ o. option_map_or (λ n. n) o 0) dest in
+      let dm : destination None s ≡ d = destination_shown None s v.cpus h.cpus sys.agrees.long
+      ∙ ap (λ o. option_map_or (λ n. n) o 0) dest in
       let gives : id ≡ s.last_id + 1 = named ∙ ap (λ n. n + 1) (sym h.last) in
       let is_x : added a s ≡ x = λ z. cyclic_with (sym gives z) a.level (is.2 z) (first (is.1 z) (is.2 z) s.clock) 0 0 in
       -- the CPUs after it, as the definition has them
-      let cs : shown_cpus w.cpus ≡ slice_set (shown_cpus v.cpus) d (enter_here d p.index x (get_or (shown_cpus v.cpus) d absent)).cpu =
+      let cs : shown_cpus w.cpus ≡ slice_set (shown_cpus v.cpus) d
+      (enter_here d p.index x (get_or (shown_cpus v.cpus) d absent)).cpu =
       ap shown_cpus (sym same) ∙ e.cpus ∙ ap (λ xs. slice_set xs d (enter_here d p.index x (get_or xs d absent)).cpu) before in
       let at_d : get_or s.cpus (destination None s) absent ≡ cpu_at u1 d = λ z. get_or ((h.cpus ∙ sym before) z) (dm z) absent in (
         gives,
@@ -112,23 +121,29 @@ module _ (a : AddStep) (series : When) (s : State) (v w : SystemView Tables) (sy
           given = p.index ∷ [];
           comes = λ texts indexes step at. record {
             shows = record {
-              cpus = sym (cs ∙ (λ z. slice_set (sym h.cpus z) (sym dm z) (enter_here (sym dm z) (sym at.0 z) (sym is_x z) (get_or (sym h.cpus z) (sym dm z) absent)).cpu));
-              placed = sym (ap (map shown_record) records ∙ map-append shown_record v.records (new_record id a.level (place.On d false) ∷ [])
+              cpus = sym (cs ∙ (λ z. slice_set (sym h.cpus z) (sym dm z)
+                  (enter_here (sym dm z) (sym at.0 z) (sym is_x z) (get_or (sym h.cpus z) (sym dm z) absent)).cpu));
+              placed = sym (ap (map shown_record) records
+                  ∙ map-append shown_record v.records (new_record id a.level (place.On d false) ∷ [])
                   ∙ (λ z. sym h.placed z ++ record { id = gives z; place = On (sym dm z) false } ∷ []));
               ended = λ k q there n. ended_more s v id a.level (place.On d false) k n q h gives
-                  (one_more v.records (new_record id a.level (place.On d false)) k q (subst (λ rs. IsRecord rs k q) records there));
+                  (one_more v.records (new_record id a.level (place.On d false)) k q
+                  (subst (λ rs. IsRecord rs k q) records there));
               fresh = λ i n less. h.fresh i n (omega (arith, less));
               last = sym (last ∙ gives);
             };
             admissions = refl;
-            free = free_on (destination None s) (enter_here (destination None s) (indexes s.admissions) (added a s) (get_or s.cpus (destination None s) absent)).acts s
-                (local_enter (destination None s) (indexes s.admissions) (added a s) (get_or s.cpus (destination None s) absent)).on
+            free = free_on (destination None s) (enter_here (destination None s) (indexes s.admissions) (added a s)
+                (get_or s.cpus (destination None s) absent)).acts s
+                (local_enter (destination None s) (indexes s.admissions) (added a s)
+                (get_or s.cpus (destination None s) absent)).on
                 (λ soft. subst (λ c. c) (λ z. AllCanBeAdmitted (events_at (sym dm z) soft
                 (enter_here (sym dm z) (sym at.0 z) (sym is_x z) (sym at_d z)).acts) (level_at soft (sym at_d z))) (e.free soft));
           };
           quiet = λ texts indexes step at q.
               let none_called = e.quiet q in
-              let same_acts : calls_of q (enter_here (destination None s) (indexes s.admissions) (added a s) (get_or s.cpus (destination None s) absent)).acts
+              let same_acts : calls_of q (enter_here (destination None s) (indexes s.admissions) (added a s)
+              (get_or s.cpus (destination None s) absent)).acts
               ≡ calls_of q (enter_here d p.index x (cpu_at u1 d)).acts =
               λ z. calls_of q (enter_here (dm z) (at.0 z) (is_x z) (at_d z)).acts in
               omega (arith, none_called, same_acts);
@@ -144,19 +159,24 @@ module _ (a : AddStep) (series : When) (s : State) (v w : SystemView Tables) (sy
 
   room_refused : (e : Refusal) (d : ℕ) → early a s ≡ None → destination None s ≡ d → IsRefused e (why_no_room 1 (cpu_at v.cpus d))
       → IsRefused e (add_refusal plain a s)
-  room_refused e d none dm refused = subst (IsRefused e) (sym (only_room a series s is none ∙ or_none (room_there s) ∙ room_at d dm)) refused
+  room_refused e d none dm refused = subst (IsRefused e)
+      (sym (only_room a series s is none ∙ or_none (room_there s) ∙ room_at d dm)) refused
 
   pub add_refused : (e : Refusal) → Changes fires seen v (Add a.level series s.clock (Err e)) w → IsRefusedFor e (steps.Add a) s w
-  add_refused e (inl (own, some, answer, same)) =
-      (early_refused e (asked ∙ some ∙ ap Some (sym (same_error ℕ e own (Err e) (Err own) refl refl answer))), subst (Shows s) (sym same) h)
+  add_refused e (inl (own, some, answer, same)) = (
+    early_refused e (asked ∙ some ∙ ap Some (sym (same_error ℕ e own (Err e) (Err own) refl refl answer))),
+    subst (Shows s) (sym same) h,
+  )
   add_refused e (inr (none, (d, dest, inl ((u, reserve, same), records, last)))) =
-      let dm : destination None s ≡ d = destination_shown None s v.cpus h.cpus sys.agrees.long ∙ ap (λ o. option_map_or (λ n. n) o 0) dest in
+      let dm : destination None s ≡ d = destination_shown None s v.cpus h.cpus sys.agrees.long
+      ∙ ap (λ o. option_map_or (λ n. n) o 0) dest in
       let r = done_at d (Reserve 1 (Err e)) v.cpus u sys.agrees.long sys.tied reserve in (
         room_refused e d (asked ∙ none) dm (r.answered tt),
         same_shown s v w h (ap shown_cpus (sym same) ∙ unchanged v.cpus u d r.cpus) records last,
       )
   add_refused e (inr (none, (d, dest, inr (memory, ((u, reserve, same), records, last))))) =
-      let dm : destination None s ≡ d = destination_shown None s v.cpus h.cpus sys.agrees.long ∙ ap (λ o. option_map_or (λ n. n) o 0) dest in
+      let dm : destination None s ≡ d = destination_shown None s v.cpus h.cpus sys.agrees.long
+      ∙ ap (λ o. option_map_or (λ n. n) o 0) dest in
       let r = done_at d (Reserve 1 (Ok tt)) v.cpus u sys.agrees.long sys.tied reserve in (
         subst (λ x. IsRefused x (add_refusal plain a s)) (sym memory) (room_refused Memory d (asked ∙ none) dm (r.answered tt)),
         same_shown s v w h (ap shown_cpus (sym same) ∙ unchanged v.cpus u d r.cpus) records last,

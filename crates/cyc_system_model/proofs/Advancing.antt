@@ -1,5 +1,6 @@
 -- The fires of an advance, CPU by CPU.
-use Rattle.std.proofs.Common.{◌≡◌, ℕ, suc, ◌+◌, ◌<◌, inl, inr, ⊎_elim, Bool, true, false, not, List, [], ◌∷◌, ◌++◌, length, take, Some, None, refl, ap, sym, ◌∙◌, subst, arith}
+use Rattle.std.proofs.Common.{◌≡◌, ℕ, suc, ◌+◌, ◌<◌, inl, inr, ⊎_elim, Bool, true, false, not, List, [], ◌∷◌, ◌++◌, length, take}
+use Rattle.std.proofs.Common.{Some, None, refl, ap, sym, ◌∙◌, subst, arith}
 use Rattle.std.specs.Prelude.{Ok}
 use Rattle.std.proofs.Math.Seq.{take-suc, take-length}
 use Rattle.std.proofs.lemmas.List.{length-take-le, get_or-set_other, length-set}
@@ -17,7 +18,8 @@ use Rattle.cyc_text.specs.Lines.{fired as fired_line}
 use Rattle.cyc_model.specs.Acts.{Act, At, Call, calls_of, losses_in}
 use Rattle.cyc_model.specs.Cpu.{Cpu}
 use Rattle.cyc_model.specs.Firing.{due_here, fire_here}
-use Rattle.cyc_model.specs.State.{State, Outcome, absent, cpu_of, kept_if, numbers_from, online_cpus, before, followed_by, on, each}
+use Rattle.cyc_model.specs.State.{State, Outcome, absent, cpu_of, kept_if, numbers_from, online_cpus, before, followed_by, on}
+use Rattle.cyc_model.specs.State.{each}
 use Rattle.cyc_model.specs.Refusals.{when, no_cpu, offline_cpu}
 use Rattle.cyc_model.specs.Advance.{due_on}
 use Rattle.cyc_model.proofs.Events.{calls_append}
@@ -66,12 +68,14 @@ not_below n m low has =
     let l = length-take-le n m.cpus (omega (arith, low)) in
     omega (arith, r, l)
 
-below_next : (n : ℕ) (m : State) → n < length m.cpus → online_below (n + 1) m ≡ online_below n m ++ kept_if (cpu_of n m).online n []
+below_next : (n : ℕ) (m : State) → n < length m.cpus
+    → online_below (n + 1) m ≡ online_below n m ++ kept_if (cpu_of n m).online n []
 below_next n m low =
     ap (λ j. numbers_from 0 (λ (c : Cpu). c.online) (take j m.cpus)) (one_more n)
     ∙ ap (numbers_from 0 (λ (c : Cpu). c.online)) (take-suc m.cpus n absent low)
     ∙ numbers_append 0 (λ c. c.online) (take n m.cpus) (cpu_of n m)
-    ∙ ap (λ j. online_below n m ++ kept_if (cpu_of n m).online j []) (zero_plus (length (take n m.cpus)) ∙ length-take-le n m.cpus (omega (arith, low)))
+    ∙ ap (λ j. online_below n m ++ kept_if (cpu_of n m).online j []) (zero_plus (length (take n m.cpus))
+    ∙ length-take-le n m.cpus (omega (arith, low)))
   where
     one_more : (j : ℕ) → j + 1 ≡ suc j
     one_more j = omega arith
@@ -81,14 +85,20 @@ below_next n m low =
 
 -- ---- outcomes in order
 
-pub each_append : {A : Type 0} → (f : A → State → Outcome) → (xs ys : List A) → (s : State) → each f (xs ++ ys) s ≡ followed_by (each f xs s) (each f ys)
+pub each_append : {A : Type 0} → (f : A → State → Outcome) → (xs ys : List A) → (s : State)
+    → each f (xs ++ ys) s ≡ followed_by (each f xs s) (each f ys)
 each_append f [] ys s = refl
 each_append f (x ∷ xs) ys s =
     let o = f x s in
     let p = each f xs o.state in
     let q = each f ys p.state in
     ap (before o) (each_append f xs ys o.state)
-    ∙ (λ z. record { line = sym (append_assoc o.line p.line q.line) z; acts = sym (append_assoc o.acts p.acts q.acts) z; state = q.state })
+    ∙ (λ z. record {
+      line = sym (append_assoc o.line p.line q.line) z;
+      acts = sym (append_assoc o.acts p.acts q.acts) z;
+      state =
+          q.state;
+    })
 
 losses_append : (xs ys : List Act) → losses_in (xs ++ ys) ≡ losses_in xs + losses_in ys
 losses_append [] ys = zero_plus (losses_in ys)
@@ -113,11 +123,13 @@ fires_admissions now (n ∷ ns) s = fires_admissions now ns (on n (fire_here n n
 
 fires_long : (now : ℕ) (ns : List ℕ) (s : State) → length (fires_at now ns s).state.cpus ≡ length s.cpus
 fires_long now [] s = refl
-fires_long now (n ∷ ns) s = fires_long now ns (on n (fire_here n now) s).state ∙ length-set s.cpus n (fire_here n now (cpu_of n s)).cpu
+fires_long now (n ∷ ns) s = fires_long now ns (on n (fire_here n now) s).state
+    ∙ length-set s.cpus n (fire_here n now (cpu_of n s)).cpu
 
 fires_none : (now : ℕ) (ns : List ℕ) (s : State) → HasNoAdmit (fires_at now ns s).acts
 fires_none now [] s = tt
-fires_none now (n ∷ ns) s = no_more (fire_here n now (cpu_of n s)).acts _ (fire_none n now (cpu_of n s)) (fires_none now ns (on n (fire_here n now) s).state)
+fires_none now (n ∷ ns) s = no_more (fire_here n now (cpu_of n s)).acts _ (fire_none n now (cpu_of n s))
+    (fires_none now ns (on n (fire_here n now) s).state)
 
 -- a CPU that didn't fire is as it was
 fires_beside : (now k : ℕ) (ns : List ℕ) (s : State) → (Has k ns → ⊥) → cpu_of k (fires_at now ns s).state ≡ cpu_of k s
@@ -142,7 +154,8 @@ each_free ns m s h = record {
 }
 
 module _ {C : Type 0} (called : C → ℕ → Level → C → Type 0) (count : C → ℕ → ℕ) (may_refuse : C → ℕ → Type 0) where
-  pub has_begun : (now : ℕ) (m : State) (s : RunningSystem C Tables) → Shows m s.system → HasFired count 0 0 0 (at_clock now m) s s
+  pub has_begun : (now : ℕ) (m : State) (s : RunningSystem C Tables) → Shows m s.system
+      → HasFired count 0 0 0 (at_clock now m) s s
   has_begun now m s h = record {
     comes = each_free [] (at_clock now m) s.system
         (record { cpus = h.cpus; placed = h.placed; ended = h.ended; fresh = h.fresh; last = h.last });
@@ -155,7 +168,8 @@ module _ {C : Type 0} (called : C → ℕ → Level → C → Type 0) (count : C
       no_more_calls n = omega arith
 
   pub has_fired : (n expired lost : ℕ) (fired : Fired) (m : State) (s t u : RunningSystem C Tables) → IsSystem t.system
-      → HasFired count n expired lost m s t → Does called count may_refuse fires seen no_interrupts t (FireOne n m.clock (Ok fired)) u
+      → HasFired count n expired lost m s t → Does called count may_refuse fires seen no_interrupts t
+      (FireOne n m.clock (Ok fired)) u
       → HasFired count (n + 1) (expired + fired.expired) (lost + fired.lost) m s u
   has_fired n expired lost fired m s t u sys h did =
       let ns = online_below n m in
@@ -168,7 +182,8 @@ module _ {C : Type 0} (called : C → ℕ → Level → C → Type 0) (count : C
       let long = fires_long m.clock ns m in
       let low : n < length m.cpus = omega (arith, there, long) in
       let same : cpu_of n o.state ≡ cpu_of n m = fires_beside m.clock n ns m (not_below n m low) in
-      let is_on : (cpu_of n m).online ≡ true = sym (ap (λ (c : Cpu). c.online) same) ∙ online_there n o.state (none_first (offline_cpu n o.state) [] is.1).0 in
+      let is_on : (cpu_of n m).online ≡ true = sym (ap (λ (c : Cpu). c.online) same)
+      ∙ online_there n o.state (none_first (offline_cpu n o.state) [] is.1).0 in
       let next : online_below (n + 1) m ≡ ns ++ n ∷ [] = below_next n m low ∙ ap (λ b. ns ++ kept_if b n []) is_on in
       let whole : fire_each (online_below (n + 1) m) m ≡ after_one ns n m = ap (λ ks. fire_each ks m) next ∙ one_after ns n m in
       let own = (fire_here n m.clock (cpu_of n o.state)).acts in
@@ -178,7 +193,8 @@ module _ {C : Type 0} (called : C → ℕ → Level → C → Type 0) (count : C
             (subst (λ c. Shows (on n (fire_here n c) o.state).state u.system) clock f.comes.shows));
         expired =
             let a = h.expired in
-            let b : fired.expired ≡ length (due_here m.clock (cpu_of n m)) = f.expired ∙ (λ z. length (due_here (clock z) (same z))) in
+            let b : fired.expired ≡ length (due_here m.clock (cpu_of n m)) = f.expired
+            ∙ (λ z. length (due_here (clock z) (same z))) in
             let c = ap (λ ks. due_on m.clock ks m) next in
             let d = sum_by-append (λ k. length (due_here m.clock (cpu_of k m))) ns (n ∷ []) in
             omega (arith, a, b, c, d);
@@ -191,7 +207,8 @@ module _ {C : Type 0} (called : C → ℕ → Level → C → Type 0) (count : C
             omega (arith, a, b, c, d, e);
         called = λ q.
             let a = h.called q in
-            let b : count u.calls q ≡ count t.calls q + calls_of q own = f.called q ∙ (λ z. count t.calls q + calls_of q (fire_here n (clock z) (cpu_of n o.state)).acts) in
+            let b : count u.calls q ≡ count t.calls q + calls_of q own = f.called q
+            ∙ (λ z. count t.calls q + calls_of q (fire_here n (clock z) (cpu_of n o.state)).acts) in
             let c = ap (λ (x : Outcome). calls_of q x.acts) whole in
             let d = calls_append q o.acts (own ++ []) in
             let e = calls_append q own [] in
@@ -205,8 +222,10 @@ module _ {C : Type 0} (called : C → ℕ → Level → C → Type 0) (count : C
       let ns = online_below n m in
       let o = fire_each ns m in
       let same : cpu_of n o.state ≡ cpu_of n m = fires_beside m.clock n ns m (not_below n m low) in
-      let asked : offline_cpu n o.state ≡ why.offline_cpu n t.system = same_offline o.state t.system h.comes.shows sys.agrees.long n in
-      let is_off : (cpu_of n m).online ≡ false = sym (ap (λ (c : Cpu). c.online) same) ∙ offline_then (cpu_of n o.state).online (is_online n t.system.cpus) off asked in
+      let asked : offline_cpu n o.state ≡ why.offline_cpu n t.system =
+      same_offline o.state t.system h.comes.shows sys.agrees.long n in
+      let is_off : (cpu_of n m).online ≡ false = sym (ap (λ (c : Cpu). c.online) same)
+      ∙ offline_then (cpu_of n o.state).online (is_online n t.system.cpus) off asked in
       let next : online_below (n + 1) m ≡ ns = below_next n m low ∙ ap (λ b. ns ++ kept_if b n []) is_off ∙ nil_right ns in
       subst (λ ks. HaveFired count ks expired lost m s t) (sym next) h
     where

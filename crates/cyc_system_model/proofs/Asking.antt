@@ -1,5 +1,6 @@
 -- Each question about a system is that about the machine that shows it.
-use Rattle.std.proofs.Common.{◌≡◌, ℕ, zero, suc, ◌==◌, Bool, true, false, cond, not, List, [], ◌∷◌, length, map, find, get_or, Option, Some, None, refl, ap, sym, ◌∙◌, subst, arith}
+use Rattle.std.proofs.Common.{◌≡◌, ℕ, zero, suc, ◌==◌, Bool, true, false, cond, not, List, [], ◌∷◌, length, map, find, get_or}
+use Rattle.std.proofs.Common.{Option, Some, None, refl, ap, sym, ◌∙◌, subst, arith}
 use Rattle.std.specs.Prelude.{◌||◌, ◌&&◌, is_some, nat_le, Result, Ok, Err}
 use Rattle.std.specs.List.{slice_get, list_any}
 use Rattle.std.specs.Option.{option_map, option_map_or}
@@ -14,13 +15,15 @@ use Rattle.cyc_places.specs.declared.record.Place.{Place as RecordPlace}
 use Rattle.cyc_places.specs.declared.record.Place.TheVariants as place
 use Rattle.cyc_places.specs.declared.record.Record.{Record}
 use Rattle.cyc_places.specs.Places.{HasRisingIds, is_everywhere as everywhere_in}
-use Rattle.cyc_system.specs.System.{SystemView, ids_of, is_leaving_here, record_of, is_unknown as unknown_in, is_leaving as leaving_in, is_omnipresent as omnipresent_in}
+use Rattle.cyc_system.specs.System.{SystemView, ids_of, is_leaving_here, record_of, is_unknown as unknown_in}
+use Rattle.cyc_system.specs.System.{is_leaving as leaving_in, is_omnipresent as omnipresent_in}
 use Rattle.cyc_system.specs.Refusals as why
 use Rattle.cyc_system.specs.Binding.{HasPlace, HasHome}
 use Rattle.cyc_agreement.proofs.Recording.{record_here}
 use Rattle.cyc_model.specs.Cpu.{Cpu, is_of, has_cyclic}
 use Rattle.cyc_model.specs.State.{State, Place, Placed, absent}
-use Rattle.cyc_model.specs.Places.{place_of, is_unknown, is_leaving, is_everywhere, is_omnipresent, is_bound_at, is_bound, home_at, home_of}
+use Rattle.cyc_model.specs.Places.{place_of, is_unknown, is_leaving, is_everywhere, is_omnipresent, is_bound_at, is_bound}
+use Rattle.cyc_model.specs.Places.{home_at, home_of}
 use Rattle.cyc_model.specs.Refusals.{when, or_else, no_cpu, offline_cpu, ids_spent}
 use Rattle.cyc_model.specs.Bind.{no_cyclic, omnipresent}
 use Rattle.cyc_model.specs.Reprogram.{no_component}
@@ -71,13 +74,15 @@ pub omnipresent_shown : (id : ℕ) (s : State) (v : SystemView Tables) → Shows
 omnipresent_shown id s v h = ap is_everywhere (place_shown id s v h) ∙ everywhere_of (record_of id v)
 
 -- the CPU of a cyclic that is on one
-pub home_shown : (id n : ℕ) (s : State) (v : SystemView Tables) → Shows s v → HasRisingIds v.records → HasHome id n v → home_of id s ≡ n
+pub home_shown : (id n : ℕ) (s : State) (v : SystemView Tables) → Shows s v → HasRisingIds v.records → HasHome id n v
+    → home_of id s ≡ n
 home_shown id n s v h rising (bound, (k, r, is, named, at)) =
     ap home_at (place_shown id s v h ∙ ap place_in (record_here id k r v.records rising is named))
     ∙ ap (λ p. home_at (Some (shown_place r.level p))) at
 
 -- whether it is bound to it
-pub bound_shown : (id n : ℕ) (bound : Bool) (s : State) (v : SystemView Tables) → Shows s v → HasRisingIds v.records → HasPlace id n bound v
+pub bound_shown : (id n : ℕ) (bound : Bool) (s : State) (v : SystemView Tables) → Shows s v → HasRisingIds v.records
+    → HasPlace id n bound v
     → is_bound id s ≡ bound
 bound_shown id n bound s v h rising (k, r, is, named, at) =
     ap is_bound_at (place_shown id s v h ∙ ap place_in (record_here id k r v.records rising is named))
@@ -86,7 +91,8 @@ bound_shown id n bound s v h rising (k, r, is, named, at) =
 -- ---- the CPUs
 
 any_leaving : (id : ℕ) (os : List Bool) (vs : List (CpuView Tables)) → length os ≡ length vs
-    → list_any (λ (c : Cpu). option_map_or (λ own. own == id) c.removal false) (shown_list os vs) ≡ list_any (is_leaving_here id) vs
+    → list_any (λ (c : Cpu). option_map_or (λ own. own == id) c.removal false) (shown_list os vs)
+    ≡ list_any (is_leaving_here id) vs
 any_leaving id [] [] long = refl
 any_leaving id [] (v ∷ vs) long = absurd (omega (arith, long))
 any_leaving id (o ∷ os) [] long = absurd (omega (arith, long))
@@ -96,7 +102,8 @@ any_leaving id (o ∷ os) (v ∷ vs) long =
 pub leaving_shown : (id : ℕ) (s : State) (v : SystemView Tables) → Shows s v → length v.cpus.online ≡ length v.cpus.cpus
     → is_leaving id s ≡ leaving_in id v
 leaving_shown id s v h long =
-    ap (λ cs. list_any (λ (c : Cpu). option_map_or (λ own. own == id) c.removal false) cs) h.cpus ∙ any_leaving id v.cpus.online v.cpus.cpus long
+    ap (λ cs. list_any (λ (c : Cpu). option_map_or (λ own. own == id) c.removal false) cs) h.cpus
+    ∙ any_leaving id v.cpus.online v.cpus.cpus long
 
 pub online_at : (os : List Bool) (vs : List (CpuView Tables)) (n : ℕ) → length os ≡ length vs
     → (get_or (shown_list os vs) n absent).online ≡ option_map_or (λ (o : Bool). o) (slice_get os n) false
@@ -107,7 +114,8 @@ online_at (o ∷ os) [] n long = absurd (omega (arith, long))
 online_at (o ∷ os) (v ∷ vs) zero long = refl
 online_at (o ∷ os) (v ∷ vs) (suc n) long = online_at os vs n (omega (arith, long))
 
-pub any_id : (id : ℕ) (cs : List Timed) → list_any (is_of id) (map shown cs) ≡ list_any (λ own. own == id) (map (λ (c : Timed). c.timer.id) cs)
+pub any_id : (id : ℕ) (cs : List Timed) → list_any (is_of id) (map shown cs)
+    ≡ list_any (λ own. own == id) (map (λ (c : Timed). c.timer.id) cs)
 any_id id [] = refl
 any_id id (c ∷ cs) = ap (λ b. (c.timer.id == id) || b) (any_id id cs)
 

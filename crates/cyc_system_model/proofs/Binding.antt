@@ -1,5 +1,6 @@
 -- A cyclic that is bound by a system goes where the definition says.
-use Rattle.std.proofs.Common.{◌≡◌, ◌≢◌, ℕ, ◌<◌, ◌==◌, ◌⊎◌, inl, inr, eq-eqb, ne_eqb, true, false, cond, not, List, [], ◌∷◌, ◌++◌, length, find, get_or, Option, Some, None, refl, ap, sym, ◌∙◌, subst, arith}
+use Rattle.std.proofs.Common.{◌≡◌, ◌≢◌, ℕ, ◌<◌, ◌==◌, ◌⊎◌, inl, inr, eq-eqb, ne_eqb, true, false, cond, not, List, [], ◌∷◌, ◌++◌}
+use Rattle.std.proofs.Common.{length, find, get_or, Option, Some, None, refl, ap, sym, ◌∙◌, subst, arith}
 use Rattle.std.specs.Prelude.{slice_set, nat_lt, Ok, Err}
 use Rattle.std.proofs.lemmas.Bool.Decides.{nat_tests, eqb_tells}
 use Rattle.std.proofs.lemmas.List.{get_or-set_other}
@@ -32,7 +33,8 @@ use Rattle.cyc_model.specs.State.{State, Outcome, On, absent, cpu_of, on, nothin
 use Rattle.cyc_model.specs.Places.{id_of, is_bound, home_of, put_at}
 use Rattle.cyc_model.specs.Refusals.{first_refusal, or_else, when, busy, no_cpu, offline_cpu}
 use Rattle.cyc_model.specs.Add.{cyclic_with}
-use Rattle.cyc_model.specs.Bind.{no_cyclic, omnipresent, pending, bring, move, move_refusals, unless_there, move_unless_there, bind_id, bind_id_refusal}
+use Rattle.cyc_model.specs.Bind.{no_cyclic, omnipresent, pending, bring, move, move_refusals, unless_there, move_unless_there}
+use Rattle.cyc_model.specs.Bind.{bind_id, bind_id_refusal}
 use Rattle.cyc_model.proofs.Events.{calls_append, events_append}
 use Rattle.cyc_model.proofs.Local.{local_enter, local_take, other_events}
 use Rattle.cyc_cpu_model.specs.Answers.{IsRefused, why_no_room, why_not_taken, IsTakenOf}
@@ -41,7 +43,8 @@ use Rattle.cyc_text.specs.Lines.{accepted as accepted_line}
 use Rattle.cyc_system_model.specs.Shown.{shown_cpus, Shows, AreTied, IsSystem}
 use Rattle.cyc_system_model.specs.Words.{Gives, ComesTo, IsDone, IsRefusedFor}
 use Rattle.cyc_system_model.proofs.Cpus.{cpu_at, cpu_is, done_at}
-use Rattle.cyc_system_model.proofs.Asking.{home_shown, same_no_cyclic, same_omnipresent, same_no_cpu, same_offline, no_memory_when, no_memory_else, some_refused, both_none, or_none, same_error}
+use Rattle.cyc_system_model.proofs.Asking.{home_shown, same_no_cyclic, same_omnipresent, same_no_cpu, same_offline}
+use Rattle.cyc_system_model.proofs.Asking.{no_memory_when, no_memory_else, some_refused, both_none, or_none, same_error}
 use Rattle.cyc_system_model.proofs.Entering.{entered, unchanged, same_shown}
 use Rattle.cyc_system_model.proofs.Replacing.{replaced_shows, replaced_twice}
 
@@ -60,7 +63,14 @@ found_id id (c ∷ cs) y is = pick (eqb_tells c.timer.id id) (found_id id cs y)
 pub taken_is : (id : ℕ) (taken : Taken) (c : Cpu) → IsTakenOf id taken c
     → cyclic_of id c ≡ Some (cyclic_with id taken.level taken.interval taken.moment taken.sent.sent taken.sent.lost)
 taken_is id taken c (y, found, level, interval, moment, sent, lost) = found ∙ ap Some (λ z. record {
-  timer = record { id = found_id id c.cyclics y found z; level = sym level z; interval = sym interval z; moment = sym moment z; expired = sym sent z };
+  timer = record {
+    id = found_id id c.cyclics y found z;
+    level = sym level z;
+    interval = sym interval z;
+    moment =
+        sym moment z;
+    expired = sym sent z;
+  };
   lost = sym lost z;
 })
 
@@ -79,7 +89,8 @@ pub record Went (id source target : ℕ) (x : Cyclic) (v w : CpusView Tables) : 
   pub cpus : shown_cpus w ≡ slice_set middle target (enter_here target index x (get_or middle target absent)).cpu
   pub took : (q : ℕ) → calls_of q (take_here source id (cpu_at v source)).acts ≡ 0
   pub came : (q : ℕ) → calls_of q (enter_here target index x (get_or middle target absent)).acts ≡ 0
-  pub free : (soft : Soft) → AllCanBeAdmitted (events_at target soft (enter_here target index x (get_or middle target absent)).acts)
+  pub free : (soft : Soft) → AllCanBeAdmitted
+      (events_at target soft (enter_here target index x (get_or middle target absent)).acts)
       (level_at soft (get_or middle target absent))
   pub still : busy (cpu_at v source).removal ≡ None
   pub quiet : outstanding_here id (cpu_at v source) ≡ 0
@@ -104,7 +115,8 @@ went id source target taken v w long ties (u1, ask, (u2, reserve, (u3, take, (u4
     let before : shown_cpus u2 ≡ shown_cpus v = unchanged u1 u2 target r.cpus ∙ asked in
     record {
       index = p.index;
-      found = ap (λ cs. cyclic_of id (get_or cs source absent)) (sym before) ∙ taken_is id taken (cpu_at u2 source) (t.answered tt).1;
+      found = ap (λ cs. cyclic_of id (get_or cs source absent)) (sym before)
+          ∙ taken_is id taken (cpu_at u2 source) (t.answered tt).1;
       middle = shown_cpus u3;
       left = t.cpus ∙ ap (λ cs. slice_set cs source (take_here source id (get_or cs source absent)).cpu) before;
       cpus = ap shown_cpus (sym same) ∙ e.cpus;
@@ -133,43 +145,55 @@ module _ (id source target : ℕ) (x : Cyclic) (s : State) (v w : SystemView Tab
   taking = (take_here source id (get_or s.cpus source absent)).acts
 
   abbrev coming : ℕ → List Act
-  coming index = (enter_here target index x (get_or (slice_set s.cpus source (take_here source id (get_or s.cpus source absent)).cpu) target absent)).acts
+  coming index = (enter_here target index x
+      (get_or (slice_set s.cpus source (take_here source id (get_or s.cpus source absent)).cpu) target absent)).acts
 
-  target_same : get_or (slice_set s.cpus source (take_here source id (get_or s.cpus source absent)).cpu) target absent ≡ get_or s.cpus target absent
+  target_same : get_or (slice_set s.cpus source (take_here source id (get_or s.cpus source absent)).cpu) target absent
+      ≡ get_or s.cpus target absent
   target_same = get_or-set_other s.cpus source target _ absent (λ e. ne (sym e))
 
-  can_enter : (index : ℕ) → index ≡ d.index → (soft : Soft) → AllCanBeAdmitted (events_at target soft (coming index)) (level_at soft (get_or s.cpus target absent))
+  can_enter : (index : ℕ) → index ≡ d.index → (soft : Soft)
+      → AllCanBeAdmitted (events_at target soft (coming index)) (level_at soft (get_or s.cpus target absent))
   can_enter index is soft = subst (λ c. AllCanBeAdmitted (events_at target soft (coming index)) (level_at soft c)) target_same
-      (subst (λ b. b) (λ z. AllCanBeAdmitted (events_at target soft (enter_here target (sym is z) x (get_or (middle_is z) target absent)).acts)
+      (subst (λ b. b) (λ z. AllCanBeAdmitted (events_at target soft
+      (enter_here target (sym is z) x (get_or (middle_is z) target absent)).acts)
       (level_at soft (get_or (middle_is z) target absent))) (d.free soft))
 
   can_all : (index : ℕ) → index ≡ d.index → (n : ℕ) (soft : Soft)
       → AllCanBeAdmitted (events_at n soft ((taking ++ coming index) ++ [])) (level_at soft (get_or s.cpus n absent))
-  can_all index is n soft = subst (λ acts. AllCanBeAdmitted (events_at n soft acts) (level_at soft (get_or s.cpus n absent))) (sym (nil_right (taking ++ coming index)))
-      (subst (λ es. AllCanBeAdmitted es (level_at soft (get_or s.cpus n absent))) (sym (events_append n soft taking (coming index))) (dite (ℕ_discrete n target) there elsewhere))
+  can_all index is n soft = subst (λ acts. AllCanBeAdmitted (events_at n soft acts) (level_at soft (get_or s.cpus n absent)))
+      (sym (nil_right (taking ++ coming index)))
+      (subst (λ es. AllCanBeAdmitted es (level_at soft (get_or s.cpus n absent)))
+      (sym (events_append n soft taking (coming index))) (dite (ℕ_discrete n target) there elsewhere))
     where
-      there : n ≡ target → AllCanBeAdmitted (events_at n soft taking ++ events_at n soft (coming index)) (level_at soft (get_or s.cpus n absent))
+      there : n ≡ target → AllCanBeAdmitted (events_at n soft taking ++ events_at n soft (coming index))
+          (level_at soft (get_or s.cpus n absent))
       there e = subst (λ es. AllCanBeAdmitted (es ++ events_at n soft (coming index)) (level_at soft (get_or s.cpus n absent)))
           (sym (other_events taking source n soft (local_take source id (get_or s.cpus source absent)).on (λ k. ne (sym k ∙ e))))
-          (subst (λ k. AllCanBeAdmitted (events_at k soft (coming index)) (level_at soft (get_or s.cpus k absent))) (sym e) (can_enter index is soft))
+          (subst (λ k. AllCanBeAdmitted (events_at k soft (coming index)) (level_at soft (get_or s.cpus k absent))) (sym e)
+          (can_enter index is soft))
 
-      elsewhere : n ≢ target → AllCanBeAdmitted (events_at n soft taking ++ events_at n soft (coming index)) (level_at soft (get_or s.cpus n absent))
+      elsewhere : n ≢ target → AllCanBeAdmitted (events_at n soft taking ++ events_at n soft (coming index))
+          (level_at soft (get_or s.cpus n absent))
       elsewhere other = subst (λ es. AllCanBeAdmitted (events_at n soft taking ++ es) (level_at soft (get_or s.cpus n absent)))
           (sym (other_events (coming index) target n soft (local_enter target index x _).on other))
           (subst (λ es. AllCanBeAdmitted es (level_at soft (get_or s.cpus n absent))) (sym (nil_right (events_at n soft taking)))
-          (none_admitted taking n soft (level_at soft (get_or s.cpus n absent)) (take_none source id (get_or s.cpus source absent))))
+          (none_admitted taking n soft (level_at soft (get_or s.cpus n absent))
+          (take_none source id (get_or s.cpus source absent))))
 
   went_comes : (indexes : ℕ → ℕ) (step : ℕ) → indexes s.admissions ≡ d.index
       → ComesTo (d.index ∷ []) s (told (accepted_line step) (went_to indexes id source target (Some x) s)) w
   went_comes indexes step is = record {
     shows = replaced_shows s _ v w h sys.rising id target true records
-        (sym (d.cpus ∙ (λ z. slice_set (middle_is z) target (enter_here target (sym is z) x (get_or (middle_is z) target absent)).cpu)))
+        (sym (d.cpus ∙ (λ z. slice_set (middle_is z) target
+        (enter_here target (sym is z) x (get_or (middle_is z) target absent)).cpu)))
         (replaced_twice id (On target true) _ s.placed) (λ i m. refl) refl;
     admissions = refl;
     free = can_all (indexes s.admissions) is;
   }
 
-  went_quiet : (indexes : ℕ → ℕ) → indexes s.admissions ≡ d.index → (q : ℕ) → calls_of q (went_to indexes id source target (Some x) s).acts ≡ 0
+  went_quiet : (indexes : ℕ → ℕ) → indexes s.admissions ≡ d.index → (q : ℕ)
+      → calls_of q (went_to indexes id source target (Some x) s).acts ≡ 0
   went_quiet indexes is q =
       let all = ap (λ acts. calls_of q acts) (nil_right (taking ++ coming (indexes s.admissions))) in
       let whole = calls_append q taking (coming (indexes s.admissions)) in
@@ -179,7 +203,8 @@ module _ (id source target : ℕ) (x : Cyclic) (s : State) (v w : SystemView Tab
 
 -- ---- the reasons for a refusal
 
-four_none : (a b c d x : Option Refusal) → or_else a (or_else b (or_else c (or_else d None))) ≡ None → or_else a (or_else b (or_else c (or_else d x))) ≡ x
+four_none : (a b c d x : Option Refusal) → or_else a (or_else b (or_else c (or_else d None))) ≡ None
+    → or_else a (or_else b (or_else c (or_else d x))) ≡ x
 four_none None None None None x none = refl
 four_none None None None (Some e) x none = absurd (let isnt : Some e ≡ None = none in cc)
 four_none None None (Some e) d x none = absurd (let isnt : Some e ≡ None = none in cc)
@@ -209,7 +234,8 @@ module _ (id n : ℕ) (s : State) (v w : SystemView Tables) (sys : IsSystem v) (
   abbrev moving_whys : Option Refusal
   moving_whys = first_refusal (unless_there (home_of id s == n) (move_refusals plain id (home_of id s) n s))
 
-  first_four : four ≡ or_else (why.no_cyclic id v) (or_else (why.omnipresent id v) (or_else (why.no_cpu n v) (or_else (why.offline_cpu n v) None)))
+  first_four : four ≡ or_else (why.no_cyclic id v)
+      (or_else (why.omnipresent id v) (or_else (why.no_cpu n v) (or_else (why.offline_cpu n v) None)))
   first_four = λ z. or_else (same_no_cyclic s v h sys.agrees.long id z) (or_else (same_omnipresent s v h sys.agrees.long id z)
       (or_else (same_no_cpu s v h sys.agrees.long n z) (or_else (same_offline s v h sys.agrees.long n z) None)))
 
@@ -223,10 +249,12 @@ module _ (id n : ℕ) (s : State) (v w : SystemView Tables) (sys : IsSystem v) (
   not_there home at ne = ne_eqb (home_of id s) n (λ e. ne (sym (home_shown id home s v h sys.rising at) ∙ e))
 
   abbrev from : ℕ → Option Refusal
-  from home = or_else (busy (cpu_of home s).removal) (or_else (pending plain home id s) (or_else (why_no_room 1 (cpu_of n s)) None))
+  from home = or_else (busy (cpu_of home s).removal)
+      (or_else (pending plain home id s) (or_else (why_no_room 1 (cpu_of n s)) None))
 
   from_home : (home : ℕ) → HasHome id home v → home ≢ n → moving_whys ≡ from home
-  from_home home at ne = ap (λ t. first_refusal (unless_there t (move_refusals plain id (home_of id s) n s))) (not_there home at ne)
+  from_home home at ne = ap (λ t. first_refusal (unless_there t (move_refusals plain id (home_of id s) n s)))
+      (not_there home at ne)
       ∙ ap (λ k. first_refusal (move_refusals plain id k n s)) (home_shown id home s v h sys.rising at)
 
   -- the CPU of a number, as the machine has it
@@ -234,18 +262,23 @@ module _ (id n : ℕ) (s : State) (v w : SystemView Tables) (sys : IsSystem v) (
   at_cpu k = ap (λ cs. get_or cs k absent) h.cpus
 
   none_pending : (home : ℕ) → outstanding_here id (cpu_at v.cpus home) ≡ 0 → pending plain home id s ≡ None
-  none_pending home quiet = ap (λ c. when (nat_lt 0 (outstanding_here id c)) Pending) (at_cpu home) ∙ ap (λ k. when (nat_lt 0 k) Pending) quiet
+  none_pending home quiet = ap (λ c. when (nat_lt 0 (outstanding_here id c)) Pending) (at_cpu home)
+      ∙ ap (λ k. when (nat_lt 0 k) Pending) quiet
 
-  pub binds : Binds fires seen id n (Ok tt) v w → first_refusal (no_cyclic id s ∷ omnipresent id s ∷ no_cpu n s ∷ offline_cpu n s ∷ []) ≡ None
-      → (bind_id_refusal plain id n s ≡ None) × (given : List ℕ) × ((indexes : ℕ → ℕ) (step : ℕ) → Gives indexes s.admissions given
-      → ComesTo given s (told (accepted_line step) (bind_id indexes id n s)) w × ((q : ℕ) → calls_of q (bind_id indexes id n s).acts ≡ 0))
+  pub binds : Binds fires seen id n (Ok tt) v w
+      → first_refusal (no_cyclic id s ∷ omnipresent id s ∷ no_cpu n s ∷ offline_cpu n s ∷ []) ≡ None
+      → (bind_id_refusal plain id n s ≡ None) × (given : List ℕ)
+      × ((indexes : ℕ → ℕ) (step : ℕ) → Gives indexes s.admissions given
+      → ComesTo given s (told (accepted_line step) (bind_id indexes id n s)) w
+      × ((q : ℕ) → calls_of q (bind_id indexes id n s).acts ≡ 0))
   binds (home, at, inl (e, ok, cpus), records) none =
       let there = is_there home at e in (
         only_moving none ∙ ap (λ t. first_refusal (unless_there t (move_refusals plain id (home_of id s) n s))) there,
         [],
         λ indexes step given. (
           subst (λ t. ComesTo [] s (bound_after step id n (move_unless_there t indexes id n s)) w) (sym there) (record {
-            shows = replaced_shows s _ v w h sys.rising id n true records (h.cpus ∙ ap shown_cpus (sym cpus)) refl (λ i m. refl) refl;
+            shows = replaced_shows s _ v w h sys.rising id n true records (h.cpus ∙ ap shown_cpus (sym cpus)) refl
+                (λ i m. refl) refl;
             admissions = omega arith;
             free = λ m soft. tt;
           }),
@@ -261,22 +294,26 @@ module _ (id n : ℕ) (s : State) (v w : SystemView Tables) (sys : IsSystem v) (
             (or_else (none_pending home d.quiet z) (or_else ((ap (why_no_room 1) (at_cpu n) ∙ d.room) z) None))),
         d.index ∷ [],
         λ indexes step given. (
-          subst (λ t. ComesTo (d.index ∷ []) s (bound_after step id n (move_unless_there t indexes id n s)) w) (sym (not_there home at ne))
+          subst (λ t. ComesTo (d.index ∷ []) s (bound_after step id n (move_unless_there t indexes id n s)) w)
+              (sym (not_there home at ne))
               (subst (λ k. ComesTo (d.index ∷ []) s (bound_after step id n (move indexes id k n s)) w) (sym hs)
               (subst (λ o. ComesTo (d.index ∷ []) s (told (accepted_line step) (went_to indexes id home n o s)) w) (sym found)
               (went_comes id home n x s v w sys h records ne d indexes step given.0))),
-          λ q. subst (λ t. calls_of q (bound_after step id n (move_unless_there t indexes id n s)).acts ≡ 0) (sym (not_there home at ne))
+          λ q. subst (λ t. calls_of q (bound_after step id n (move_unless_there t indexes id n s)).acts ≡ 0)
+              (sym (not_there home at ne))
               (subst (λ k. calls_of q (bound_after step id n (move indexes id k n s)).acts ≡ 0) (sym hs)
               (subst (λ o. calls_of q (went_to indexes id home n o s).acts ≡ 0) (sym found)
               (went_quiet id home n x s v w sys h records ne d indexes given.0 q))),
         ),
       )
 
-  pub not_bound : (e : Refusal) → Binds fires seen id n (Err e) v w → four ≡ None → IsRefused e (bind_id_refusal plain id n s) × Shows s w
+  pub not_bound : (e : Refusal) → Binds fires seen id n (Err e) v w → four ≡ None → IsRefused e (bind_id_refusal plain id n s)
+      × Shows s w
   not_bound e (home, at, inl (there, ok, cpus), records, last) none = absurd (let isnt : Err e ≡ Ok tt = ok in cc)
   not_bound e (home, at, inr (ne, inl (removed, (cpu, is, opened), why_is, same)), records, last) none = (
     subst (λ x. IsRefused x (bind_id_refusal plain id n s)) (sym why_is)
-        (only_moving none ∙ from_home home at ne ∙ ap (λ o. or_else o (or_else (pending plain home id s) (or_else (why_no_room 1 (cpu_of n s)) None)))
+        (only_moving none ∙ from_home home at ne
+        ∙ ap (λ o. or_else o (or_else (pending plain home id s) (or_else (why_no_room 1 (cpu_of n s)) None)))
         (ap (λ (c : Cpu). busy c.removal) (at_cpu home ∙ cpu_is v.cpus home cpu sys.agrees.long is) ∙ ap busy opened)),
     same_shown s v w h (ap shown_cpus same) records last,
   )
@@ -285,7 +322,8 @@ module _ (id n : ℕ) (s : State) (v w : SystemView Tables) (sys : IsSystem v) (
         subst (λ x. IsRefused x (bind_id_refusal plain id n s)) (sym why_is)
             (only_moving none ∙ from_home home at ne ∙ (λ z. or_else
             ((ap (λ (c : Cpu). busy c.removal) (at_cpu home ∙ cpu_is v.cpus home cpu sys.agrees.long is) ∙ ap busy still) z)
-            (or_else ((ap (λ c. when (nat_lt 0 (outstanding_here id c)) Pending) (at_cpu home) ∙ ap (λ m. when (nat_lt 0 m) Pending) (sym (a.answered tt).1)
+            (or_else ((ap (λ c. when (nat_lt 0 (outstanding_here id c)) Pending) (at_cpu home)
+            ∙ ap (λ m. when (nat_lt 0 m) Pending) (sym (a.answered tt).1)
             ∙ ap (λ b. when b Pending) (is_less k some)) z) (or_else (why_no_room 1 (cpu_of n s)) None)))),
         same_shown s v w h (ap shown_cpus (sym same) ∙ unchanged v.cpus u home a.cpus) records last,
       )
@@ -305,7 +343,8 @@ module _ (b : BindStep) (s : State) (v w : SystemView Tables) (sys : IsSystem v)
   pub bind_accepted : Changes fires seen v (Bind (id_of b.name s) (Some b.cpu) (Ok tt)) w → IsDone (steps.Bind b) s w
   bind_accepted (inl (e, some, answer, same)) = absurd (let isnt : Ok tt ≡ Err e = answer in cc)
   bind_accepted (inr (none, did)) =
-      let (accepted, given, comes) = binds (id_of b.name s) b.cpu s v w sys h did (first_four (id_of b.name s) b.cpu s v w sys h ∙ none) in
+      let (accepted, given, comes) = binds (id_of b.name s) b.cpu s v w sys h did (first_four (id_of b.name s) b.cpu s v w sys h
+      ∙ none) in
       record {
         accepted = accepted;
         given = given;
@@ -313,15 +352,19 @@ module _ (b : BindStep) (s : State) (v w : SystemView Tables) (sys : IsSystem v)
         quiet = λ texts indexes step at. (comes indexes step at).1;
       }
 
-  pub bind_refused : (e : Refusal) → Changes fires seen v (Bind (id_of b.name s) (Some b.cpu) (Err e)) w → IsRefusedFor e (steps.Bind b) s w
+  pub bind_refused : (e : Refusal) → Changes fires seen v (Bind (id_of b.name s) (Some b.cpu) (Err e)) w
+      → IsRefusedFor e (steps.Bind b) s w
   bind_refused e (inl (own, some, answer, same)) =
       let id = id_of b.name s in
       let is : four id b.cpu s v w sys h ≡ Some e = first_four id b.cpu s v w sys h ∙ some
       ∙ ap Some (sym (same_error (Unit {0}) e own (Err e) (Err own) refl refl answer)) in (
         some_refused e (four id b.cpu s v w sys h) (bind_id_refusal plain id b.cpu s) is
-            (no_memory_else (no_cyclic id s) _ (no_memory_when _ NoCyclic tt) (no_memory_else (omnipresent id s) _ (no_memory_when _ Omnipresent tt)
-            (no_memory_else (no_cpu b.cpu s) _ (no_memory_when _ NoCpu tt) (no_memory_else (offline_cpu b.cpu s) None (no_memory_when _ Offline tt) tt))))
+            (no_memory_else (no_cyclic id s) _ (no_memory_when _ NoCyclic tt)
+            (no_memory_else (omnipresent id s) _ (no_memory_when _ Omnipresent tt)
+            (no_memory_else (no_cpu b.cpu s) _ (no_memory_when _ NoCpu tt)
+            (no_memory_else (offline_cpu b.cpu s) None (no_memory_when _ Offline tt) tt))))
             (four_some e (no_cyclic id s) (omnipresent id s) (no_cpu b.cpu s) (offline_cpu b.cpu s) _ is),
         subst (Shows s) (sym same) h,
       )
-  bind_refused e (inr (none, did)) = not_bound (id_of b.name s) b.cpu s v w sys h e did (first_four (id_of b.name s) b.cpu s v w sys h ∙ none)
+  bind_refused e (inr (none, did)) = not_bound (id_of b.name s) b.cpu s v w sys h e did
+      (first_four (id_of b.name s) b.cpu s v w sys h ∙ none)

@@ -36,13 +36,16 @@ abbrev pub OwnAll : {A : Type 0} → (A → ℕ) → (A → Cpu → Type 0) → 
 OwnAll cpu Q [] s = Unit {0}
 OwnAll cpu Q (a ∷ way) s = Q a (cpu_of (cpu a) s) × OwnAll cpu Q way s
 
-pub record CameToAll {A : Type 0} (cpu : A → ℕ) (Q : A → Cpu → Type 0) (way : List A) (m : State) (o : Outcome) (w : SystemView Tables) : Type 0 where
+pub record CameToAll {A : Type 0} (cpu : A → ℕ) (Q : A → Cpu → Type 0) (way : List A) (m : State) (o : Outcome)
+    (w : SystemView Tables) : Type 0 where
   pub came : Came m o w
   pub own : OwnAll cpu Q way o.state
   pub beside : (k : ℕ) → (Has k (map cpu way) → ⊥) → cpu_of k o.state ≡ cpu_of k m
 
-module _ {A : Type 0} (f : ℕ → State → Outcome) (cpu : A → ℕ) (P : Cpu → Type 0) (Q : A → Cpu → Type 0) (R : SystemView Tables → A → SystemView Tables → Type 0)
-    (one : (a : A) (m : State) (v w : SystemView Tables) → Half v → Shows m v → P (cpu_of (cpu a) m) → R v a w → CameTo (cpu a) (Q a) m (f (cpu a) m) w) where
+module _ {A : Type 0} (f : ℕ → State → Outcome) (cpu : A → ℕ) (P : Cpu → Type 0) (Q : A → Cpu → Type 0) (R : SystemView Tables → A
+    → SystemView Tables → Type 0)
+    (one : (a : A) (m : State) (v w : SystemView Tables) → Half v → Shows m v → P (cpu_of (cpu a) m) → R v a w
+    → CameTo (cpu a) (Q a) m (f (cpu a) m) w) where
   pub all_come : (low : ℕ) (way : List A) (m : State) (v w : SystemView Tables) → RiseFrom low (map cpu way) → Half v → Shows m v
       → ((k : ℕ) → Has k (map cpu way) → P (cpu_of k m)) → FoldsTo R v way w → CameToAll cpu Q way m (each f (map cpu way) m) w
   all_come low [] m v w rise hv h ready same = record {
@@ -64,7 +67,8 @@ module _ {A : Type 0} (f : ℕ → State → Outcome) (cpu : A → ℕ) (P : Cpu
       let n = cpu a in
       let o = f n m in
       let first = one a m v u hv h (ready n (inl refl)) did in
-      let far : (k : ℕ) → Has k (map cpu way) → k ≢ n = λ k has e. let above = has_above (n + 1) k (map cpu way) rise.1 has in absurd (omega (arith, above, e)) in
+      let far : (k : ℕ) → Has k (map cpu way) → k ≢ n = λ k has e. let above = has_above (n + 1) k (map cpu way) rise.1 has in
+      absurd (omega (arith, above, e)) in
       let next = all_come (n + 1) way o.state u w rise.1 first.came.half first.came.shows
       (λ k has. subst P (sym (first.beside k (far k has))) (ready k (inr has))) rest in
       let p = each f (map cpu way) o.state in
@@ -73,7 +77,8 @@ module _ {A : Type 0} (f : ℕ → State → Outcome) (cpu : A → ℕ) (P : Cpu
           shows = next.came.shows;
           half = next.came.half;
           none = no_more o.acts p.acts first.came.none next.came.none;
-          quiet = λ q. let x = calls_append q o.acts p.acts in let y = first.came.quiet q in let z = next.came.quiet q in omega (arith, x, y, z);
+          quiet = λ q. let x = calls_append q o.acts p.acts in let y = first.came.quiet q in let z = next.came.quiet q in
+              omega (arith, x, y, z);
           called = λ q. next.came.called q ∙ first.came.called q;
           admissions = next.came.admissions ∙ first.came.admissions;
           names = next.came.names ∙ first.came.names;
@@ -85,7 +90,8 @@ module _ {A : Type 0} (f : ℕ → State → Outcome) (cpu : A → ℕ) (P : Cpu
       }
 
 -- a sum of what each of them has now
-pub sum_own : {A : Type 0} (cpu : A → ℕ) (left : A → ℕ) (f : Cpu → ℕ) (way : List A) (s : State) → OwnAll cpu (λ a c. f c ≡ left a) way s
+pub sum_own : {A : Type 0} (cpu : A → ℕ) (left : A → ℕ) (f : Cpu → ℕ) (way : List A) (s : State)
+    → OwnAll cpu (λ a c. f c ≡ left a) way s
     → sum_by (λ n. f (cpu_of n s)) (map cpu way) ≡ sum_by left way
 sum_own cpu left f [] s own = refl
 sum_own cpu left f (a ∷ way) s own =

@@ -1,5 +1,6 @@
 -- What a call on one CPU of a system is in the definition.
-use Rattle.std.proofs.Common.{◌≡◌, ℕ, zero, suc, ◌+◌, ◌<◌, Bool, true, List, [], ◌∷◌, length, get_or, Some, refl, ap, sym, ◌∙◌, subst, arith}
+use Rattle.std.proofs.Common.{◌≡◌, ℕ, zero, suc, ◌+◌, ◌<◌, Bool, true, List, [], ◌∷◌, length, get_or, Some, refl, ap, sym, ◌∙◌}
+use Rattle.std.proofs.Common.{subst, arith}
 use Rattle.std.specs.Prelude.{slice_set, slice_index_or}
 use Rattle.std.specs.List.{slice_get}
 use Rattle.std.proofs.lemmas.Option.{slice_get_within, get_or_from_slice_get}
@@ -11,7 +12,8 @@ use Rattle.cyc_types.specs.declared.level.Soft.{Soft}
 use Rattle.cyc_core.specs.Tables.{Tables}
 use Rattle.cyc_cpu.specs.Cpu.{CpuView, running}
 use Rattle.cyc_cpu.specs.Soft.{fires, firing_at as seen, Interrupts}
-use Rattle.cyc_cpu.specs.Calls.{CpuCall, Fire, SoftInterrupt, Add, Place, Reprogram, AskPending, AskTotals, AskRoom, Reserve, Widen, BeginRemove, PollRemove, TakeNow, AskSettled, Changes, Does}
+use Rattle.cyc_cpu.specs.Calls.{CpuCall, Fire, SoftInterrupt, Add, Place, Reprogram, AskPending, AskTotals, AskRoom, Reserve}
+use Rattle.cyc_cpu.specs.Calls.{Widen, BeginRemove, PollRemove, TakeNow, AskSettled, Changes, Does}
 use Rattle.cyc_cpus.specs.Cpus.{CpusView, IsCpu, with_cpu, on, DoesAt, RunningCpus, running_cpus, RunsAt}
 use Rattle.cyc_cpus.proofs.Spots.{cpu_beside, get_set_same}
 use Rattle.cyc_model.specs.Acts.{calls_of, events_at}
@@ -30,7 +32,8 @@ use Rattle.cyc_system_model.specs.Shown.{shown_list, shown_cpus, AreTied}
 
 -- ---- the shown CPUs by number
 
-get_shown : (os : List Bool) (vs : List (CpuView Tables)) (n : ℕ) (o : Bool) (x : CpuView Tables) → length os ≡ length vs → n < length vs
+get_shown : (os : List Bool) (vs : List (CpuView Tables)) (n : ℕ) (o : Bool) (x : CpuView Tables) → length os ≡ length vs
+    → n < length vs
     → get_or (shown_list os vs) n absent ≡ shown_cpu (get_or os n o) (get_or vs n x)
 get_shown [] [] n o x long low = absurd (omega (arith, low))
 get_shown [] (v ∷ vs) n o x long low = absurd (omega (arith, long))
@@ -38,19 +41,22 @@ get_shown (b ∷ os) [] n o x long low = absurd (omega (arith, long))
 get_shown (b ∷ os) (v ∷ vs) zero o x long low = refl
 get_shown (b ∷ os) (v ∷ vs) (suc n) o x long low = get_shown os vs n o x (omega (arith, long)) (omega (arith, low))
 
-set_shown : (os : List Bool) (vs : List (CpuView Tables)) (n : ℕ) (o : Bool) (y : CpuView Tables) → length os ≡ length vs → n < length vs
+set_shown : (os : List Bool) (vs : List (CpuView Tables)) (n : ℕ) (o : Bool) (y : CpuView Tables) → length os ≡ length vs
+    → n < length vs
     → shown_list os (slice_set vs n y) ≡ slice_set (shown_list os vs) n (shown_cpu (get_or os n o) y)
 set_shown [] [] n o y long low = absurd (omega (arith, low))
 set_shown [] (v ∷ vs) n o y long low = absurd (omega (arith, long))
 set_shown (b ∷ os) [] n o y long low = absurd (omega (arith, long))
 set_shown (b ∷ os) (v ∷ vs) zero o y long low = refl
-set_shown (b ∷ os) (v ∷ vs) (suc n) o y long low = ap (λ cs. shown_cpu b v ∷ cs) (set_shown os vs n o y (omega (arith, long)) (omega (arith, low)))
+set_shown (b ∷ os) (v ∷ vs) (suc n) o y long low =
+    ap (λ cs. shown_cpu b v ∷ cs) (set_shown os vs n o y (omega (arith, long)) (omega (arith, low)))
 
 -- the CPU of a number, as the definition has it
 abbrev pub cpu_at : CpusView Tables → ℕ → Cpu
 cpu_at v n = slice_index_or (shown_cpus v) n absent
 
-pub cpu_is : (v : CpusView Tables) (n : ℕ) (x : CpuView Tables) → length v.online ≡ length v.cpus → IsCpu n x v → cpu_at v n ≡ shown_cpu (get_or v.online n true) x
+pub cpu_is : (v : CpusView Tables) (n : ℕ) (x : CpuView Tables) → length v.online ≡ length v.cpus → IsCpu n x v
+    → cpu_at v n ≡ shown_cpu (get_or v.online n true) x
 cpu_is v n x long is =
     get_shown v.online v.cpus n true x long (slice_get_within v.cpus n x is)
     ∙ ap (shown_cpu (get_or v.online n true)) (get_or_from_slice_get v.cpus n x x is)
@@ -121,7 +127,8 @@ pub record RanAt {C : Type 0} (count : C → ℕ → ℕ) (n : ℕ) (call : CpuC
   pub tied : AreTied t.cpus
   pub long : length t.cpus.online ≡ length t.cpus.cpus
 
-pub at_same : (n m : ℕ) (v w : CpusView Tables) (x y : CpuView Tables) → IsCpu n x v → w ≡ with_cpu v n y → (cpu : CpuView Tables) → m ≡ n
+pub at_same : (n m : ℕ) (v w : CpusView Tables) (x y : CpuView Tables) → IsCpu n x v → w ≡ with_cpu v n y → (cpu : CpuView Tables)
+    → m ≡ n
     → IsCpu m cpu w → IsTied y → IsTied cpu
 at_same n m v w x y here rest cpu e is tie =
     let there : slice_get (slice_set v.cpus n y) n ≡ Some y = get_set_same v.cpus n y (slice_get_within v.cpus n x here) in
@@ -143,7 +150,8 @@ module _ {C : Type 0} (called : C → ℕ → Level → C → Type 0) (count : C
       let low = slice_get_within v.cpus n x d.here in
       let tie = ties n x d.here in
       let after_tie = tied called count may_refuse call (running s.calls x) (running t.calls y) goes d.change tie in
-      let h = is_here called count may_refuse n online call (running s.calls x) (running t.calls y) tie.rising after_tie.rising goes d.change in
+      let h = is_here called count may_refuse n online call (running s.calls x)
+      (running t.calls y) tie.rising after_tie.rising goes d.change in
       let c = cpu_is v n x long d.here in
       record {
         index = h.index;
@@ -151,7 +159,8 @@ module _ {C : Type 0} (called : C → ℕ → Level → C → Type 0) (count : C
         cpus = ap shown_cpus d.rest ∙ set_shown v.online v.cpus n true y long low
             ∙ ap (slice_set (shown_cpus v) n) (h.cpu ∙ ap (λ (e : Cpu). (here_of n h.index call e).cpu) (sym c));
         called = λ q. h.called q ∙ ap (λ (e : Cpu). count s.calls q + calls_of q (here_of n h.index call e).acts) (sym c);
-        free = λ soft. subst (λ (e : Cpu). AllCanBeAdmitted (events_at n soft (here_of n h.index call e).acts) (level_at soft e)) (sym c) (h.free soft);
+        free = λ soft. subst (λ (e : Cpu). AllCanBeAdmitted (events_at n soft (here_of n h.index call e).acts) (level_at soft e))
+            (sym c) (h.free soft);
         answered = λ in_time. subst (IsAnswered n call) (sym c)
             (answers called count may_refuse n online call (running s.calls x) (running t.calls y) tie in_time goes d.change);
         tied = λ m cpu is. dite (ℕ_discrete m n)
@@ -167,7 +176,8 @@ pub record DoneAt (n : ℕ) (call : CpuCall) (v w : CpusView Tables) : Type 0 wh
   pub within : n < length (shown_cpus v)
   pub cpus : shown_cpus w ≡ slice_set (shown_cpus v) n (here_of n index call (cpu_at v n)).cpu
   pub quiet : (q : ℕ) → calls_of q (here_of n index call (cpu_at v n)).acts ≡ 0
-  pub free : (soft : Soft) → AllCanBeAdmitted (events_at n soft (here_of n index call (cpu_at v n)).acts) (level_at soft (cpu_at v n))
+  pub free : (soft : Soft) → AllCanBeAdmitted (events_at n soft (here_of n index call (cpu_at v n)).acts)
+      (level_at soft (cpu_at v n))
   pub answered : IsInTime call → IsAnswered n call (cpu_at v n)
   pub tied : AreTied w
   pub long : length w.online ≡ length w.cpus
@@ -175,8 +185,10 @@ pub record DoneAt (n : ℕ) (call : CpuCall) (v w : CpusView Tables) : Type 0 wh
 pub done_at : (n : ℕ) (call : CpuCall) (v w : CpusView Tables) → length v.online ≡ length v.cpus → AreTied v
     → DoesAt fires seen v (on n call) w → DoneAt n call v w
 done_at n call v w long ties d =
-    let r = ran_at no_call no_count no_refusal n call (running_cpus tt v) (running_cpus tt w) long ties (no_stop call d.before d.after d.change)
-    (record { before = d.before; after = d.after; here = d.here; change = does_of call d.before d.after d.change; rest = d.rest }) in
+    let r = ran_at no_call no_count no_refusal n call (running_cpus tt v) (running_cpus tt w) long ties
+    (no_stop call d.before d.after d.change)
+    (record { before = d.before; after = d.after; here = d.here; change = does_of call d.before d.after d.change; rest = d.rest })
+    in
     record {
       index = r.index;
       within = r.within;

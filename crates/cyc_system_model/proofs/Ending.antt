@@ -1,5 +1,6 @@
 -- A stay of a cyclic ends on one CPU, and its counts are kept.
-use Rattle.std.proofs.Common.{◌≡◌, ◌≢◌, ℕ, zero, suc, ◌+◌, ◌-◌, ◌<◌, ◌==◌, ◌⊎◌, inl, inr, eq-eqb, ne_eqb, Bool, true, cond, List, [], ◌∷◌, length, map, Option, Some, None, IsSome, refl, ap, sym, ◌∙◌, subst, arith}
+use Rattle.std.proofs.Common.{◌≡◌, ◌≢◌, ℕ, zero, suc, ◌+◌, ◌-◌, ◌<◌, ◌==◌, ◌⊎◌, inl, inr, eq-eqb, ne_eqb, Bool, true, cond, List}
+use Rattle.std.proofs.Common.{[], ◌∷◌, length, map, Option, Some, None, IsSome, refl, ap, sym, ◌∙◌, subst, arith}
 use Rattle.std.specs.Prelude.{slice_set, ◌&&◌}
 use Rattle.std.specs.List.{slice_get}
 use Rattle.std.specs.Option.{option_map_or}
@@ -68,7 +69,8 @@ own_at v n h low =
 
 -- ---- the records
 
-map_set : {A B : Type 0} (f : A → B) (xs : List A) (k : ℕ) (r x : A) → slice_get xs k ≡ Some r → f x ≡ f r → map f (slice_set xs k x) ≡ map f xs
+map_set : {A B : Type 0} (f : A → B) (xs : List A) (k : ℕ) (r x : A) → slice_get xs k ≡ Some r → f x ≡ f r
+    → map f (slice_set xs k x) ≡ map f xs
 map_set f [] k r x is same = absurd (none_some is)
 map_set f (y ∷ ys) zero r x is same = ap (λ z. z ∷ map f ys) (same ∙ ap f (sym (same_some is)))
 map_set f (y ∷ ys) (suc k) r x is same = ap (λ zs. f y ∷ zs) (map_set f ys k r x is same)
@@ -76,7 +78,8 @@ map_set f (y ∷ ys) (suc k) r x is same = ap (λ zs. f y ∷ zs) (map_set f ys 
 abbrev counted : Bool → Ended → Cyclic → Ended
 counted b e x = cond b (record { expired = e.expired + x.timer.expired; lost = e.lost + x.lost }) e
 
-module _ (n id : ℕ) (x : Cyclic) (counts : Sent) (k : ℕ) (r : Record) (m : State) (v w : SystemView Tables) (h : Shows m v) (hv : Half v)
+module _ (n id : ℕ) (x : Cyclic) (counts : Sent) (k : ℕ) (r : Record) (m : State) (v w : SystemView Tables) (h : Shows m v)
+    (hv : Half v)
     (within : n < length v.cpus.cpus) (is : IsRecord v.records k r) (named : r.id ≡ id) (own : x.timer.id ≡ id)
     (sent : counts.sent ≡ x.timer.expired) (lost : counts.lost ≡ x.lost)
     (records : w.records ≡ slice_set v.records k (with_ended n (summed (ended_on n r) counts) r)) (last : w.last ≡ v.last) where
@@ -87,7 +90,8 @@ module _ (n id : ℕ) (x : Cyclic) (counts : Sent) (k : ℕ) (r : Record) (m : S
   unfolding new
   full_new = (
     length-set r.ended n (summed (ended_on n r) counts) ∙ (hv.full k r is).0,
-    λ j past. get_or-set_other r.ended n j (summed (ended_on n r) counts) no_counts (λ e. omega (arith, e, past, within)) ∙ (hv.full k r is).1 j past,
+    λ j past. get_or-set_other r.ended n j (summed (ended_on n r) counts) no_counts (λ e. omega (arith, e, past, within))
+        ∙ (hv.full k r is).1 j past,
   )
 
   other_ended : (q j : ℕ) → q ≢ id → (with_ended_in n x m).ended q j ≡ m.ended q j
@@ -116,7 +120,8 @@ module _ (n id : ℕ) (x : Cyclic) (counts : Sent) (k : ℕ) (r : Record) (m : S
   ended_either : (i : ℕ) (a : Record) → ((i ≡ k) × (a ≡ new)) ⊎ ((i ≢ k) × IsRecord v.records i a) → (j : ℕ)
       → (with_ended_in n x m).ended a.id j ≡ shown_counts (ended_on j a)
   unfolding new
-  ended_either i a (inl (e, at)) j = subst (λ (y : Record). (with_ended_in n x m).ended y.id j ≡ shown_counts (ended_on j y)) (sym at) (own_ended j)
+  ended_either i a (inl (e, at)) j = subst (λ (y : Record). (with_ended_in n x m).ended y.id j ≡ shown_counts (ended_on j y))
+      (sym at) (own_ended j)
   ended_either i a (inr (ne, at)) j = other_ended a.id j (apart i a ne at) ∙ h.ended i a at j
 
   -- the machine that keeps the counts shows the system that does
@@ -126,8 +131,10 @@ module _ (n id : ℕ) (x : Cyclic) (counts : Sent) (k : ℕ) (r : Record) (m : S
   ended_shows y cpus placed gives ended = record {
     cpus = cpus;
     placed = placed ∙ h.placed ∙ sym (ap (map shown_record) records ∙ map_set shown_record v.records k r new is refl);
-    ended = λ i a at j. ended a.id j ∙ ended_either i a (set_either v.records k i r new a is (subst (λ rs. IsRecord rs i a) records at)) j;
-    fresh = λ q j less. ended q j ∙ other_ended q j (λ e. let low = hv.given k r is in let l = h.last in omega (arith, less, e, low, l, gives, named))
+    ended = λ i a at j. ended a.id j ∙ ended_either i a
+        (set_either v.records k i r new a is (subst (λ rs. IsRecord rs i a) records at)) j;
+    fresh = λ q j less. ended q j ∙ other_ended q j (λ e. let low = hv.given k r is in let l = h.last in
+        omega (arith, less, e, low, l, gives, named))
         ∙ h.fresh q j (omega (arith, less, gives));
     last = gives ∙ h.last ∙ sym last;
   }

@@ -37,14 +37,17 @@ can_append (x ∷ xs) ys l first rest = (first.0, can_append xs ys (after x l) f
 pub record Entered (n index : ℕ) (x : Cyclic) (v w : CpusView Tables) : Type 0 where
   pub cpus : shown_cpus w ≡ slice_set (shown_cpus v) n (enter_here n index x (cpu_at v n)).cpu
   pub quiet : (q : ℕ) → calls_of q (enter_here n index x (cpu_at v n)).acts ≡ 0
-  pub free : (soft : Soft) → AllCanBeAdmitted (events_at n soft (enter_here n index x (cpu_at v n)).acts) (level_at soft (cpu_at v n))
+  pub free : (soft : Soft) → AllCanBeAdmitted (events_at n soft (enter_here n index x (cpu_at v n)).acts)
+      (level_at soft (cpu_at v n))
 
 -- the CPU of a number after one of that number was set
-pub at_set : (v w : CpusView Tables) (n : ℕ) (c : Cpu) → n < length (shown_cpus v) → shown_cpus w ≡ slice_set (shown_cpus v) n c → cpu_at w n ≡ c
+pub at_set : (v w : CpusView Tables) (n : ℕ) (c : Cpu) → n < length (shown_cpus v) → shown_cpus w ≡ slice_set (shown_cpus v) n c
+    → cpu_at w n ≡ c
 at_set v w n c low is = ap (λ cs. get_or cs n absent) is ∙ get_set (shown_cpus v) n c absent low
 
 -- the CPU grows where it must and takes the cyclic
-pub entered : (n id : ℕ) (level : Level) (interval moment : ℕ) (carried : Sent) (v u w : CpusView Tables) → (wide : DoneAt n (Widen 1) v u)
+pub entered : (n id : ℕ) (level : Level) (interval moment : ℕ) (carried : Sent) (v u w : CpusView Tables)
+    → (wide : DoneAt n (Widen 1) v u)
     → (p : DoneAt n (Place id level interval moment carried) u w)
     → Entered n p.index (cyclic_with id level interval moment carried.sent carried.lost) v w
 entered n id level interval moment carried v u w wide p =
@@ -63,14 +66,19 @@ entered n id level interval moment carried v u w wide p =
           let same = ap (λ d. calls_of q (place_here n p.index x d).acts) at in
           omega (arith, whole, first, rest, same);
       free = λ soft.
-          let rest = subst (λ (d : Cpu). AllCanBeAdmitted (events_at n soft (place_here n p.index x d).acts) (level_at soft d)) at (p.free soft) in
-          let there = subst (λ l. AllCanBeAdmitted (events_at n soft (place_here n p.index x grown.cpu).acts) l) ((local_widen n 1 c).levels soft) rest in
-          subst (λ es. AllCanBeAdmitted es (level_at soft c)) (sym (events_append n soft grown.acts (place_here n p.index x grown.cpu).acts))
-          (can_append (events_at n soft grown.acts) _ (level_at soft c) (none_admitted grown.acts n soft (level_at soft c) (widen_none n 1 c)) there);
+          let rest = subst (λ (d : Cpu). AllCanBeAdmitted (events_at n soft (place_here n p.index x d).acts) (level_at soft d)) at
+          (p.free soft) in
+          let there = subst (λ l. AllCanBeAdmitted (events_at n soft (place_here n p.index x grown.cpu).acts) l)
+          ((local_widen n 1 c).levels soft) rest in
+          subst (λ es. AllCanBeAdmitted es (level_at soft c))
+          (sym (events_append n soft grown.acts (place_here n p.index x grown.cpu).acts))
+          (can_append (events_at n soft grown.acts) _ (level_at soft c)
+          (none_admitted grown.acts n soft (level_at soft c) (widen_none n 1 c)) there);
     }
 
 -- a call that does nothing on its CPU leaves all as it was shown
-pub unchanged : (v w : CpusView Tables) (n : ℕ) → shown_cpus w ≡ slice_set (shown_cpus v) n (cpu_at v n) → shown_cpus w ≡ shown_cpus v
+pub unchanged : (v w : CpusView Tables) (n : ℕ) → shown_cpus w ≡ slice_set (shown_cpus v) n (cpu_at v n)
+    → shown_cpus w ≡ shown_cpus v
 unchanged v w n is = is ∙ set_get (shown_cpus v) n absent
 
 -- what happens on one CPU can happen on all of them, where it can there

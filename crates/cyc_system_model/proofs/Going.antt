@@ -36,12 +36,14 @@ pub goes_from : (s r : State) (o : Outcome) → Alike s r → Goes r o → Goes 
 goes_from s r o same g = record {
   tells = told_from o.acts s r o.state same g.tells;
   outside = λ m past soft. g.outside m (let l = ap length same.0 in omega (arith, past, l)) soft;
-  free = λ m soft. subst (λ (cs : List Cpu). AllCanBeAdmitted (events_at m soft o.acts) (level_at soft (slice_index_or cs m absent))) same.0 (g.free m soft);
+  free = λ m soft. subst (λ (cs : List Cpu). AllCanBeAdmitted (events_at m soft o.acts)
+      (level_at soft (slice_index_or cs m absent))) same.0 (g.free m soft);
   quiet = g.quiet;
 }
 
 -- and after it, or another line
-pub goes_to : (s : State) (o : Outcome) (line : List ℕ) (t : State) → Alike o.state t → Goes s o → Goes s (record { line = line; acts = o.acts; state = t })
+pub goes_to : (s : State) (o : Outcome) (line : List ℕ) (t : State) → Alike o.state t → Goes s o
+    → Goes s (record { line = line; acts = o.acts; state = t })
 goes_to s o line t same g = record {
   tells = told_to o.acts s o.state t g.tells same;
   outside = g.outside;
@@ -55,24 +57,32 @@ goes_then s o f one two = record {
   tells = told_append o.acts (f o.state).acts s o.state (f o.state).state one.tells two.tells;
   outside = λ m past soft. events_append m soft o.acts (f o.state).acts
       ∙ (λ z. one.outside m past soft z ++ two.outside m (let l = one.tells.as_many in omega (arith, past, l)) soft z);
-  free = λ m soft. subst (λ es. AllCanBeAdmitted es (level_at soft (cpu_of m s))) (sym (events_append m soft o.acts (f o.state).acts)) (both m soft);
-  quiet = λ q. let a = calls_append q o.acts (f o.state).acts in let b = one.quiet q in let c = two.quiet q in omega (arith, a, b, c);
+  free = λ m soft. subst (λ es. AllCanBeAdmitted es (level_at soft (cpu_of m s)))
+      (sym (events_append m soft o.acts (f o.state).acts)) (both m soft);
+  quiet = λ q. let a = calls_append q o.acts (f o.state).acts in let b = one.quiet q in let c = two.quiet q in
+      omega (arith, a, b, c);
 }
   where
-    both : (m : ℕ) (soft : Soft) → AllCanBeAdmitted (events_at m soft o.acts ++ events_at m soft (f o.state).acts) (level_at soft (cpu_of m s))
+    both : (m : ℕ) (soft : Soft) → AllCanBeAdmitted (events_at m soft o.acts ++ events_at m soft (f o.state).acts)
+        (level_at soft (cpu_of m s))
     both m soft = dite (ℕ_discrete (length s.cpus - m) 0)
         (λ past.
         let here = get_or_past s.cpus m absent (omega (arith, past)) in
         let l = one.tells.as_many in
         let there = get_or_past o.state.cpus m absent (omega (arith, past, l)) in
-        subst (λ es. AllCanBeAdmitted (es ++ events_at m soft (f o.state).acts) (level_at soft (cpu_of m s))) (sym (one.outside m (omega (arith, past)) soft))
-        (subst (λ c. AllCanBeAdmitted (events_at m soft (f o.state).acts) (level_at soft c)) (there ∙ sym here) (two.free m soft)))
-        (λ low. can_append (events_at m soft o.acts) (events_at m soft (f o.state).acts) (level_at soft (cpu_of m s)) (one.free m soft)
-        (subst (λ l. AllCanBeAdmitted (events_at m soft (f o.state).acts) l) (one.tells.levels m (omega (arith, low)) soft) (two.free m soft)))
+        subst (λ es. AllCanBeAdmitted (es ++ events_at m soft (f o.state).acts) (level_at soft (cpu_of m s)))
+        (sym (one.outside m (omega (arith, past)) soft))
+        (subst (λ c. AllCanBeAdmitted (events_at m soft (f o.state).acts) (level_at soft c)) (there ∙ sym here)
+        (two.free m soft)))
+        (λ low. can_append (events_at m soft o.acts) (events_at m soft (f o.state).acts) (level_at soft (cpu_of m s))
+        (one.free m soft)
+        (subst (λ l. AllCanBeAdmitted (events_at m soft (f o.state).acts) l) (one.tells.levels m (omega (arith, low)) soft)
+        (two.free m soft)))
 
 -- on one CPU
 pub goes_on : (n : ℕ) (f : Cpu → Here) (s : State) → ((c : Cpu) → Local n c (f c)) → n < length s.cpus
-    → ((soft : Soft) → AllCanBeAdmitted (events_at n soft (f (cpu_of n s)).acts) (level_at soft (cpu_of n s))) → ((q : ℕ) → calls_of q (f (cpu_of n s)).acts ≡ 0)
+    → ((soft : Soft) → AllCanBeAdmitted (events_at n soft (f (cpu_of n s)).acts) (level_at soft (cpu_of n s)))
+    → ((q : ℕ) → calls_of q (f (cpu_of n s)).acts ≡ 0)
     → Goes s (on n f s)
 goes_on n f s local low free quiet = record {
   tells = told_on n f local s;

@@ -1,5 +1,6 @@
 -- A system in the middle of a call: what holds of it also where its CPUs and its records don't agree yet.
-use Rattle.std.proofs.Common.{◌≡◌, ◌≢◌, ℕ, zero, suc, ◌+◌, ◌<◌, ◌≤◌, ◌⊎◌, inl, inr, List, [], ◌∷◌, ◌++◌, length, get_or, Some, refl, ap, sym, ◌∙◌, subst, arith}
+use Rattle.std.proofs.Common.{◌≡◌, ◌≢◌, ℕ, zero, suc, ◌+◌, ◌<◌, ◌≤◌, ◌⊎◌, inl, inr, List, [], ◌∷◌, ◌++◌, length, get_or, Some}
+use Rattle.std.proofs.Common.{refl, ap, sym, ◌∙◌, subst, arith}
 use Rattle.std.specs.Prelude.{slice_set, remove}
 use Rattle.std.specs.List.{slice_get}
 use Rattle.std.proofs.lemmas.Option.{slice_get_within}
@@ -35,7 +36,15 @@ pub record Half (v : SystemView Tables) : Type 0 where
   pub given : (k : ℕ) (r : Record) → IsRecord v.records k r → r.id ≤ v.last
 
 pub half : (v : SystemView Tables) → IsSystem v → Half v
-half v sys = record { long = sys.agrees.long; few = sys.agrees.few; tied = sys.tied; rising = sys.rising; full = sys.full; given = sys.agrees.given }
+half v sys = record {
+  long = sys.agrees.long;
+  few = sys.agrees.few;
+  tied = sys.tied;
+  rising = sys.rising;
+  full = sys.full;
+  given =
+      sys.agrees.given;
+}
 
 -- and a system again, where they do
 pub whole : (v : SystemView Tables) → Half v → Agrees v → IsSystem v
@@ -49,7 +58,8 @@ half_parts v w h cpus records last = half_same v w h (λ z. record { cpus = cpus
 
 -- ---- calls on its CPUs
 
-pub half_cpus : (v : SystemView Tables) (u : CpusView Tables) → Half v → AreTied u → length u.online ≡ length u.cpus → length u.cpus ≡ length v.cpus.cpus
+pub half_cpus : (v : SystemView Tables) (u : CpusView Tables) → Half v → AreTied u → length u.online ≡ length u.cpus
+    → length u.cpus ≡ length v.cpus.cpus
     → Half (record v { cpus = u })
 half_cpus v u h tied long same = record {
   long = long;
@@ -69,26 +79,32 @@ as_many n c v u long after cpus =
     let same = ap (λ cs. length cs) cpus ∙ length_set (shown_cpus v) n c in
     omega (arith, a, b, same)
 
-pub half_done : (n : ℕ) (call : CpuCall) (v : SystemView Tables) (u : CpusView Tables) → Half v → DoneAt n call v.cpus u → Half (record v { cpus = u })
+pub half_done : (n : ℕ) (call : CpuCall) (v : SystemView Tables) (u : CpusView Tables) → Half v → DoneAt n call v.cpus u
+    → Half (record v { cpus = u })
 half_done n call v u h d = half_cpus v u h d.tied d.long (as_many n _ v.cpus u h.long d.long d.cpus)
 
-pub half_ran : {C : Type 0} (count : C → ℕ → ℕ) (n : ℕ) (call : CpuCall) (v : SystemView Tables) (s t : RunningCpus C Tables) → Half v → s.cpus ≡ v.cpus
+pub half_ran : {C : Type 0} (count : C → ℕ → ℕ) (n : ℕ) (call : CpuCall) (v : SystemView Tables) (s t : RunningCpus C Tables)
+    → Half v → s.cpus ≡ v.cpus
     → RanAt count n call s t → Half (record v { cpus = t.cpus })
 half_ran count n call v s t h same d =
-    half_cpus v t.cpus h d.tied d.long (as_many n _ v.cpus t.cpus h.long d.long (d.cpus ∙ ap (λ (u : CpusView Tables). slice_set (shown_cpus u) n (here_of n d.index call (cpu_at u n)).cpu) same))
+    half_cpus v t.cpus h d.tied d.long (as_many n _ v.cpus t.cpus h.long d.long
+    (d.cpus ∙ ap (λ (u : CpusView Tables). slice_set (shown_cpus u) n (here_of n d.index call (cpu_at u n)).cpu) same))
 
-pub half_works : (way : List CallOn) (v : SystemView Tables) (u : CpusView Tables) → Half v → Works fires seen way v.cpus u → Half (record v { cpus = u })
+pub half_works : (way : List CallOn) (v : SystemView Tables) (u : CpusView Tables) → Half v → Works fires seen way v.cpus u
+    → Half (record v { cpus = u })
 half_works [] v u h same = half_parts v (record v { cpus = u }) h (sym same) refl refl
 half_works (c ∷ way) v u h (x, did, rest) =
     half_works way (record v { cpus = x }) u (half_done c.cpu c.call v x h (done_at c.cpu c.call v.cpus x h.long h.tied did)) rest
 
 pub half_only : (way : List CallOn) (v w : SystemView Tables) → Half v → OnlyWorks fires seen way v w → Half w
-half_only way v w h (works, records, last) = half_parts (record v { cpus = w.cpus }) w (half_works way v w.cpus h works) refl records last
+half_only way v w h (works, records, last) =
+    half_parts (record v { cpus = w.cpus }) w (half_works way v w.cpus h works) refl records last
 
 -- ---- its records
 
 -- one record of the same id in the place of another
-rises_set : (rs : List Record) (k : ℕ) (r x : Record) → HasRisingIds rs → IsRecord rs k r → x.id ≡ r.id → HasRisingIds (slice_set rs k x)
+rises_set : (rs : List Record) (k : ℕ) (r x : Record) → HasRisingIds rs → IsRecord rs k r → x.id ≡ r.id
+    → HasRisingIds (slice_set rs k x)
 rises_set rs k r x rising is same i j a b less at_i at_j =
     let (c, there, named) = back i a at_i in
     let (d, here, known) = back j b at_j in
@@ -112,13 +128,18 @@ rises_set rs k r x rising is same i j a b less at_i at_j =
 pub set_either : (rs : List Record) (k i : ℕ) (r x a : Record) → IsRecord rs k r → IsRecord (slice_set rs k x) i a
     → ((i ≡ k) × (a ≡ x)) ⊎ ((i ≢ k) × IsRecord rs i a)
 set_either rs k i r x a is at = dite (ℕ_discrete i k)
-    (λ e. inl (e, sym (same_some (sym (get_set_same rs k x (slice_get_within rs k r is)) ∙ subst (λ m. slice_get (slice_set rs k x) m ≡ Some a) e at))))
+    (λ e. inl (
+      e,
+      sym (same_some (sym (get_set_same rs k x (slice_get_within rs k r is))
+          ∙ subst (λ m. slice_get (slice_set rs k x) m ≡ Some a) e at)),
+    ))
     (λ ne. inr (ne, sym (get_set_other rs k i x ne) ∙ at))
 
 abbrev pub IsFull : ℕ → Record → Type 0
 IsFull cpus r = (length r.ended ≡ 16) × ((n : ℕ) → cpus ≤ n → ended_on n r ≡ no_counts)
 
-pub half_put : (v : SystemView Tables) (k : ℕ) (r x : Record) → Half v → IsRecord v.records k r → x.id ≡ r.id → IsFull (length v.cpus.cpus) x
+pub half_put : (v : SystemView Tables) (k : ℕ) (r x : Record) → Half v → IsRecord v.records k r → x.id ≡ r.id
+    → IsFull (length v.cpus.cpus) x
     → Half (record v { records = slice_set v.records k x })
 half_put v k r x h is same new = record {
   long = h.long;
@@ -134,7 +155,8 @@ half_put v k r x h is same new = record {
     full_either i a (inr (ne, there)) = h.full i a there
 
     given_either : (i : ℕ) (a : Record) → ((i ≡ k) × (a ≡ x)) ⊎ ((i ≢ k) × IsRecord v.records i a) → a.id ≤ v.last
-    given_either i a (inl (e, own)) = let low = h.given k r is in let named : a.id ≡ x.id = ap (λ (y : Record). y.id) own in omega (arith, low, named, same)
+    given_either i a (inl (e, own)) = let low = h.given k r is in let named : a.id ≡ x.id = ap (λ (y : Record). y.id) own in
+        omega (arith, low, named, same)
     given_either i a (inr (ne, there)) = h.given i a there
 
 get_either : {A : Type 0} (xs : List A) (x : A) (i : ℕ) (r : A) → slice_get (xs ++ x ∷ []) i ≡ Some r
@@ -144,15 +166,18 @@ get_either [] x (suc i) r e = absurd (none_some e)
 get_either (y ∷ ys) x zero r e = inl e
 get_either (y ∷ ys) x (suc i) r e = by (get_either ys x i r e)
   where
-    by : (slice_get ys i ≡ Some r) ⊎ ((i ≡ length ys) × (r ≡ x)) → (slice_get ys i ≡ Some r) ⊎ ((suc i ≡ suc (length ys)) × (r ≡ x))
+    by : (slice_get ys i ≡ Some r) ⊎ ((i ≡ length ys) × (r ≡ x)) → (slice_get ys i ≡ Some r)
+        ⊎ ((suc i ≡ suc (length ys)) × (r ≡ x))
     by (inl h) = inl h
     by (inr (a, b)) = inr (ap suc a, b)
 
 -- one more, with a greater id
-rises_more : (rs : List Record) (new : Record) → HasRisingIds rs → ((k : ℕ) (r : Record) → IsRecord rs k r → r.id < new.id) → HasRisingIds (rs ++ new ∷ [])
+rises_more : (rs : List Record) (new : Record) → HasRisingIds rs → ((k : ℕ) (r : Record) → IsRecord rs k r → r.id < new.id)
+    → HasRisingIds (rs ++ new ∷ [])
 rises_more rs new rising below i j a b less at_i at_j = pick (get_either rs new i a at_i) (get_either rs new j b at_j)
   where
-    pick : (slice_get rs i ≡ Some a) ⊎ ((i ≡ length rs) × (a ≡ new)) → (slice_get rs j ≡ Some b) ⊎ ((j ≡ length rs) × (b ≡ new)) → a.id < b.id
+    pick : (slice_get rs i ≡ Some a) ⊎ ((i ≡ length rs) × (a ≡ new)) → (slice_get rs j ≡ Some b) ⊎ ((j ≡ length rs) × (b ≡ new))
+        → a.id < b.id
     pick (inl there) (inl here) = rising i j a b less there here
     pick (inl there) (inr (last, is)) = subst (λ (x : Record). a.id < x.id) (sym is) (below i a there)
     pick (inr (last, is)) (inl here) = let low = slice_get_within rs j b here in absurd (omega (arith, low, less, last))
@@ -172,11 +197,13 @@ half_more v id level p h next = record {
   given = λ i a at. given_either i a (get_either v.records (new_record id level p) i a at);
 }
   where
-    full_either : (i : ℕ) (a : Record) → (slice_get v.records i ≡ Some a) ⊎ ((i ≡ length v.records) × (a ≡ new_record id level p)) → IsFull (length v.cpus.cpus) a
+    full_either : (i : ℕ) (a : Record) → (slice_get v.records i ≡ Some a) ⊎ ((i ≡ length v.records) × (a ≡ new_record id level p))
+        → IsFull (length v.cpus.cpus) a
     full_either i a (inl there) = h.full i a there
     full_either i a (inr (end, own)) = subst (IsFull (length v.cpus.cpus)) (sym own) (new_full (length v.cpus.cpus) id level p)
 
-    given_either : (i : ℕ) (a : Record) → (slice_get v.records i ≡ Some a) ⊎ ((i ≡ length v.records) × (a ≡ new_record id level p)) → a.id ≤ id
+    given_either : (i : ℕ) (a : Record) → (slice_get v.records i ≡ Some a)
+        ⊎ ((i ≡ length v.records) × (a ≡ new_record id level p)) → a.id ≤ id
     given_either i a (inl there) = let low = h.given i a there in omega (arith, low, next)
     given_either i a (inr (end, own)) = let named : a.id ≡ id = ap (λ (y : Record). y.id) own in omega (arith, named)
 
@@ -233,7 +260,8 @@ pub taken_full : (n cpus : ℕ) (r : Record) → IsFull cpus r → IsFull cpus (
 taken_full n cpus r full = (length-set r.ended n no_counts ∙ full.0, λ j past. set_default r.ended n j no_counts (full.1 j past))
 
 -- a call on one CPU leaves as many
-pub as_low : (n : ℕ) (call : CpuCall) (v : SystemView Tables) (u : CpusView Tables) → Half v → DoesAt fires seen v.cpus (on n call) u → length u.cpus ≡ length v.cpus.cpus
+pub as_low : (n : ℕ) (call : CpuCall) (v : SystemView Tables) (u : CpusView Tables) → Half v
+    → DoesAt fires seen v.cpus (on n call) u → length u.cpus ≡ length v.cpus.cpus
 as_low n call v u h did =
     let d = done_at n call v.cpus u h.long h.tied did in
     as_many n _ v.cpus u h.long d.long d.cpus

@@ -1,5 +1,6 @@
 -- A juggle of a system is what the definition says.
-use Rattle.std.proofs.Common.{◌≡◌, ℕ, zero, suc, ◌+◌, inl, inr, Bool, not, List, [], ◌∷◌, ◌++◌, length, map, filter, get_or, Some, None, refl, ap, sym, ◌∙◌, subst, arith}
+use Rattle.std.proofs.Common.{◌≡◌, ℕ, zero, suc, ◌+◌, inl, inr, Bool, not, List, [], ◌∷◌, ◌++◌, length, map, filter, get_or, Some}
+use Rattle.std.proofs.Common.{None, refl, ap, sym, ◌∙◌, subst, arith}
 use Rattle.std.specs.Prelude.{nat_le, Result, Ok, Err}
 use Rattle.std.specs.List.{slice_get}
 use Rattle.std.specs.Option.{option_map_or, option_and_then}
@@ -15,7 +16,8 @@ use Rattle.cyc_cpu.specs.Soft.{fires, firing_at as seen}
 use Rattle.cyc_system.specs.System.{SystemView, ids_of, ids_on, removal_on}
 use Rattle.cyc_system.specs.Turn.{Turn as TurnThere}
 use Rattle.cyc_system.specs.Turn.TheVariants as there
-use Rattle.cyc_system.specs.Juggling.{Turns, MovesAway, counted as counted_there, single_ids as single_there, last_cpu as last_there, juggle_refusals}
+use Rattle.cyc_system.specs.Juggling.{Turns, MovesAway, counted as counted_there, single_ids as single_there}
+use Rattle.cyc_system.specs.Juggling.{last_cpu as last_there, juggle_refusals}
 use Rattle.cyc_system.specs.Calls.{Changes, Juggle}
 use Rattle.cyc_model.specs.Cpu.{Cyclic, Cpu}
 use Rattle.cyc_model.specs.Questions.{plain}
@@ -26,7 +28,8 @@ use Rattle.cyc_cpu_model.specs.Shown.{shown}
 use Rattle.cyc_system_model.specs.Shown.{shown_list, Shows, IsSystem}
 use Rattle.cyc_system_model.specs.Words.{Gives, IsDoneWith, IsRefusedFor}
 use Rattle.cyc_system_model.specs.Room.{HaveAllRoom}
-use Rattle.cyc_system_model.proofs.Asking.{NoMemory, omnipresent_shown, same_no_cpu, same_offline, no_memory_when, no_memory_else, is_refused, same_error}
+use Rattle.cyc_system_model.proofs.Asking.{NoMemory, omnipresent_shown, same_no_cpu, same_offline, no_memory_when, no_memory_else}
+use Rattle.cyc_system_model.proofs.Asking.{is_refused, same_error}
 use Rattle.cyc_system_model.proofs.Removals.{no_memory_busy}
 use Rattle.cyc_system_model.proofs.Destinations.{same_numbers}
 use Rattle.cyc_system_model.proofs.Half.{Half, half}
@@ -49,7 +52,8 @@ gives_rest indexes k [] ys gives = subst (λ m. Gives indexes m ys) (none k) giv
   where
     none : (k : ℕ) → k ≡ k + 0
     none k = omega arith
-gives_rest indexes k (x ∷ xs) ys gives = subst (λ m. Gives indexes m ys) (next k (length xs)) (gives_rest indexes (k + 1) xs ys gives.1)
+gives_rest indexes k (x ∷ xs) ys gives =
+    subst (λ m. Gives indexes m ys) (next k (length xs)) (gives_rest indexes (k + 1) xs ys gives.1)
   where
     next : (a b : ℕ) → a + 1 + b ≡ a + suc b
     next a b = omega arith
@@ -90,12 +94,14 @@ all_turns source (id ∷ ids) report v w hv all (t, u, rest, takes, is, more) =
           let o = take_turn indexes source id (as_turn first.target t) s in
           let next = later.1 o.state indexes first.shows
           (subst (λ k. Gives indexes k later.0) (sym first.admissions) (gives_rest indexes s.admissions one.0 later.0 gives)) in
-          subst (λ x. JugglesTo report (one.0 ++ later.0) s (one_turn indexes source id x s (juggle_each plain indexes source ids)) w)
+          subst (λ x. JugglesTo report (one.0 ++ later.0) s
+          (one_turn indexes source id x s (juggle_each plain indexes source ids)) w)
           (sym first.is) (record {
             told = counted_as t first.target (juggle_each plain indexes source ids o.state).report rest next.told ∙ sym is;
             shows = next.shows;
             goes = goes_then s o (λ y. (juggle_each plain indexes source ids y).outcome) first.goes next.goes;
-            admissions = (let a = first.admissions in let b = next.admissions in let l = len_both one.0 later.0 in omega (arith, a, b, l));
+            admissions = (let a = first.admissions in let b = next.admissions in let l = len_both one.0 later.0 in
+                omega (arith, a, b, l));
           }),
     )
 
@@ -137,24 +143,28 @@ module _ (n : ℕ) (s : State) (v : SystemView Tables) (h : Shows s v) (hv : Hal
       (or_else (same_last z) (or_else (busy (same_removal z)) None)))
 
   pub no_memory : NoMemory (juggle_refusal plain n s)
-  no_memory = no_memory_else (no_cpu n s) _ (no_memory_when _ NoCpu tt) (no_memory_else (offline_cpu n s) _ (no_memory_when _ Offline tt)
+  no_memory = no_memory_else (no_cpu n s) _ (no_memory_when _ NoCpu tt)
+      (no_memory_else (offline_cpu n s) _ (no_memory_when _ Offline tt)
       (no_memory_else (last_cpu n s) _ (no_memory_when _ LastCpu tt)
       (no_memory_else (busy (cpu_of n s).removal) None (no_memory_busy (cpu_of n s).removal) tt)))
 
   -- the cyclics of the CPU
   pub same_ids : map (λ (x : Cyclic). x.timer.id) (cpu_of n s).cyclics ≡ ids_on n v.cpus
-  same_ids = ap (λ cs. map (λ (x : Cyclic). x.timer.id) (get_or cs n absent).cyclics) h.cpus ∙ ids_at v.cpus.online v.cpus.cpus n hv.long
+  same_ids = ap (λ cs. map (λ (x : Cyclic). x.timer.id) (get_or cs n absent).cyclics) h.cpus
+      ∙ ids_at v.cpus.online v.cpus.cpus n hv.long
 
   pub same_single : single_ids n s ≡ single_there n v
   same_single = λ z. filter (λ id. not (omnipresent_shown id s v h z)) (same_ids z)
 
   -- all that may leave have their turns
   pub juggles : (report : JuggleReport) (w : SystemView Tables) → HaveAllRoom v.cpus → MovesAway fires seen n report v w
-      → (given : List ℕ) × ((indexes : ℕ → ℕ) → Gives indexes s.admissions given → JugglesTo report given s (juggled plain indexes n s) w)
+      → (given : List ℕ) × ((indexes : ℕ → ℕ) → Gives indexes s.admissions given
+      → JugglesTo report given s (juggled plain indexes n s) w)
   juggles report w all turns =
       let f = all_turns n (single_there n v) report v w hv all turns in (
         f.0,
-        λ indexes gives. subst (λ ids. JugglesTo report f.0 s (juggle_each plain indexes n ids s) w) (sym same_single) (f.1 s indexes h gives),
+        λ indexes gives. subst (λ ids. JugglesTo report f.0 s (juggle_each plain indexes n ids s) w) (sym same_single)
+            (f.1 s indexes h gives),
       )
 
 -- ---- the word juggle

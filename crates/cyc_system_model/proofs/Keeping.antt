@@ -1,5 +1,6 @@
 -- What every call keeps of a system: what the laws here ask of one, each CPU's bound on expirations, and its memory.
-use Rattle.std.proofs.Common.{◌≡◌, ℕ, ◌+◌, ◌≤◌, inl, inr, Bool, true, false, cond, List, [], ◌∷◌, ◌++◌, length, map, Option, Some, None, option_map, refl, ap, sym, ◌∙◌, subst, arith}
+use Rattle.std.proofs.Common.{◌≡◌, ℕ, ◌+◌, ◌≤◌, inl, inr, Bool, true, false, cond, List, [], ◌∷◌, ◌++◌, length, map, Option, Some}
+use Rattle.std.proofs.Common.{None, option_map, refl, ap, sym, ◌∙◌, subst, arith}
 use Rattle.std.specs.Prelude.{slice_set, remove, Result, Ok, Err}
 use Rattle.std.specs.List.{slice_get, FoldsTo}
 use Rattle.std.proofs.lemmas.Option.{slice_get_within, slice_get-map}
@@ -17,7 +18,8 @@ use Rattle.cyc_cpu.specs.declared.removing.Removal.{Removal}
 use Rattle.cyc_cpu.specs.declared.removing.Removal.TheVariants as on_cpu
 use Rattle.cyc_cpu.specs.Cpu.{CpuView, Running, SameCpu, running}
 use Rattle.cyc_cpu.specs.Soft.{fires, firing_at as seen, Interrupts}
-use Rattle.cyc_cpu.specs.Calls.{CpuCall, Fire, AskPending, AskRoom, Reserve, Reprogram as Reprogrammed, TakeNow, Widen, SoftInterrupt as CpuSoftInterrupt, Does as CpuDoes}
+use Rattle.cyc_cpu.specs.Calls.{CpuCall, Fire, AskPending, AskRoom, Reserve, Reprogram as Reprogrammed, TakeNow, Widen}
+use Rattle.cyc_cpu.specs.Calls.{SoftInterrupt as CpuSoftInterrupt, Does as CpuDoes}
 use Rattle.cyc_cpu.specs.Calls as cpu
 use Rattle.cyc_cpu.proofs.Calling.{changes_most, fire_keeps}
 use Rattle.cyc_places.specs.declared.record.Place.{Place as RecordPlace}
@@ -43,13 +45,15 @@ use Rattle.cyc_system.specs.Juggling.{TakesTurn, Turns, single_ids}
 use Rattle.cyc_system.specs.Leaving.{quiet, Retires, offline_at, Leaves}
 use Rattle.cyc_system.specs.Omni.{entering_each}
 use Rattle.cyc_system.specs.Online.{GoesOnline, staying, is_staying, returns, after_return, switched_on}
-use Rattle.cyc_system.specs.Calls.{SystemCall, Add, AddOmni, Bind, BeginRemove, PollRemove, AskTotals, Reprogram, ReprogramOn, Juggle, Offline, Online, FireOne, SoftInterrupt, Changes, Does}
+use Rattle.cyc_system.specs.Calls.{SystemCall, Add, AddOmni, Bind, BeginRemove, PollRemove, AskTotals, Reprogram, ReprogramOn}
+use Rattle.cyc_system.specs.Calls.{Juggle, Offline, Online, FireOne, SoftInterrupt, Changes, Does}
 use Rattle.cyc_cpu_model.proofs.Stopping.{tied_always}
 use Rattle.cyc_system_model.specs.Shown.{IsSystem}
 use Rattle.cyc_system_model.specs.Room.{HaveAllRoom}
 use Rattle.cyc_system_model.proofs.Rooms.{room_same, room_set, room_did}
 use Rattle.cyc_system_model.proofs.Cpus.{at_same, done_at}
-use Rattle.cyc_system_model.proofs.Half.{Half, IsFull, half, whole, half_same, half_parts, half_cpus, half_done, half_put, half_more, half_gone, ended_full, taken_full, as_low}
+use Rattle.cyc_system_model.proofs.Half.{Half, IsFull, half, whole, half_same, half_parts, half_cpus, half_done, half_put}
+use Rattle.cyc_system_model.proofs.Half.{half_more, half_gone, ended_full, taken_full, as_low}
 
 abbrev SameMost : CpusView Tables → CpusView Tables → Type 0
 SameMost v w = (n : ℕ) → most_on n w ≡ most_on n v
@@ -78,47 +82,58 @@ kept_parts v u w k cpus records last = record {
 
 -- ---- calls on its CPUs
 
-most_set : (n m : ℕ) (x y : CpuView Tables) (v w : CpusView Tables) → slice_get v.cpus n ≡ Some x → w ≡ with_cpu v n y → y.most ≡ x.most → most_on m w ≡ most_on m v
+most_set : (n m : ℕ) (x y : CpuView Tables) (v w : CpusView Tables) → slice_get v.cpus n ≡ Some x → w ≡ with_cpu v n y
+    → y.most ≡ x.most → most_on m w ≡ most_on m v
 most_set n m x y v w here rest same = ap (most_on m) rest ∙ dite (ℕ_discrete m n) there
     (λ ne. ap (option_map (λ (c : CpuView Tables). c.most)) (get_set_other v.cpus n m y ne))
   where
-    own : option_map (λ (c : CpuView Tables). c.most) (slice_get (slice_set v.cpus n y) n) ≡ option_map (λ (c : CpuView Tables). c.most) (slice_get v.cpus n)
-    own = ap (option_map (λ (c : CpuView Tables). c.most)) (get_set_same v.cpus n y (slice_get_within v.cpus n x here)) ∙ ap Some same
+    own : option_map (λ (c : CpuView Tables). c.most) (slice_get (slice_set v.cpus n y) n)
+        ≡ option_map (λ (c : CpuView Tables). c.most) (slice_get v.cpus n)
+    own = ap (option_map (λ (c : CpuView Tables). c.most)) (get_set_same v.cpus n y (slice_get_within v.cpus n x here))
+        ∙ ap Some same
         ∙ ap (option_map (λ (c : CpuView Tables). c.most)) (sym here)
 
     there : m ≡ n → most_on m (with_cpu v n y) ≡ most_on m v
     there e = subst (λ k. most_on k (with_cpu v n y) ≡ most_on k v) (sym e) own
 
-kept_did : (c : CallOn) (v : SystemView Tables) (u : CpusView Tables) → Half v → DoesAt fires seen v.cpus c u → Kept v (record v { cpus = u })
+kept_did : (c : CallOn) (v : SystemView Tables) (u : CpusView Tables) → Half v → DoesAt fires seen v.cpus c u
+    → Kept v (record v { cpus = u })
 kept_did c v u h did = record {
   half = half_done c.cpu c.call v u h (done_at c.cpu c.call v.cpus u h.long h.tied did);
-  most = λ m. most_set c.cpu m did.before did.after v.cpus u did.here did.rest (changes_most fires seen did.before did.after c.call did.change);
+  most = λ m. most_set c.cpu m did.before did.after v.cpus u did.here did.rest
+      (changes_most fires seen did.before did.after c.call did.change);
   room = room_did c v.cpus u did;
 }
 
-kept_works : (way : List CallOn) (v : SystemView Tables) (u : CpusView Tables) → Half v → Works fires seen way v.cpus u → Kept v (record v { cpus = u })
+kept_works : (way : List CallOn) (v : SystemView Tables) (u : CpusView Tables) → Half v → Works fires seen way v.cpus u
+    → Kept v (record v { cpus = u })
 kept_works [] v u h same = kept_same v (record v { cpus = u }) h (λ z. record v { cpus = sym same z })
 kept_works (c ∷ way) v u h (x, did, rest) =
     let one = kept_did c v x h did in
     kept_then v (record v { cpus = x }) (record v { cpus = u }) one (kept_works way (record v { cpus = x }) u one.half rest)
 
 pub kept_only : (way : List CallOn) (v w : SystemView Tables) → Half v → OnlyWorks fires seen way v w → Kept v w
-kept_only way v w h (works, records, last) = kept_parts v (record v { cpus = w.cpus }) w (kept_works way v w.cpus h works) refl records last
+kept_only way v w h (works, records, last) =
+    kept_parts v (record v { cpus = w.cpus }) w (kept_works way v w.cpus h works) refl records last
 
 -- ---- its records
 
-kept_put : (v : SystemView Tables) (k : ℕ) (r x : Record) → Half v → IsRecord v.records k r → x.id ≡ r.id → IsFull (length v.cpus.cpus) x
+kept_put : (v : SystemView Tables) (k : ℕ) (r x : Record) → Half v → IsRecord v.records k r → x.id ≡ r.id
+    → IsFull (length v.cpus.cpus) x
     → Kept v (record v { records = slice_set v.records k x })
 kept_put v k r x h is same new = record { half = half_put v k r x h is same new; most = λ n. refl; room = λ all. all }
 
 kept_placed : (id : ℕ) (p : RecordPlace) (v u w : SystemView Tables) → Kept v u → w.cpus ≡ u.cpus → Records id p u w → Kept v w
 kept_placed id p v u w h cpus (k, r, is, named, records, last) =
     kept_parts v (record u { records = slice_set u.records k (with_place p r) }) w
-    (kept_then v u (record u { records = slice_set u.records k (with_place p r) }) h (kept_put u k r (with_place p r) h.half is refl (h.half.full k r is))) cpus records last
+    (kept_then v u (record u { records = slice_set u.records k (with_place p r) }) h
+    (kept_put u k r (with_place p r) h.half is refl (h.half.full k r is))) cpus records last
 
 -- a stay that ended on a CPU
-pub kept_ended : (n : ℕ) (call : CpuCall) (counts : Sent) (k : ℕ) (r : Record) (v w : SystemView Tables) → Half v → DoesAt fires seen v.cpus (on n call) w.cpus
-    → IsRecord v.records k r → w.records ≡ slice_set v.records k (with_ended n (summed (ended_on n r) counts) r) → w.last ≡ v.last → Kept v w
+pub kept_ended : (n : ℕ) (call : CpuCall) (counts : Sent) (k : ℕ) (r : Record) (v w : SystemView Tables) → Half v
+    → DoesAt fires seen v.cpus (on n call) w.cpus
+    → IsRecord v.records k r → w.records ≡ slice_set v.records k (with_ended n (summed (ended_on n r) counts) r) → w.last ≡ v.last
+    → Kept v w
 kept_ended n call counts k r v w h did is records last =
     let one = kept_did (on n call) v w.cpus h did in
     let new = with_ended n (summed (ended_on n r) counts) r in
@@ -132,17 +147,21 @@ kept_ended n call counts k r v w h did is records last =
 
 -- ---- adding
 
-kept_each : (answer : Result (Unit {0}) Refusal) (v : SystemView Tables) (u : CpusView Tables) → Half v → ReservesEach fires seen 1 answer v.cpus u → Kept v (record v { cpus = u })
+kept_each : (answer : Result (Unit {0}) Refusal) (v : SystemView Tables) (u : CpusView Tables) → Half v
+    → ReservesEach fires seen 1 answer v.cpus u → Kept v (record v { cpus = u })
 kept_each (Ok done) v u h (x, asked_all, taken) =
     let one = kept_works (rooms 1 (online_cpus v.cpus)) v x h asked_all in
-    kept_then v (record v { cpus = x }) (record v { cpus = u }) one (kept_works (reserves 1 (online_cpus v.cpus)) (record v { cpus = x }) u one.half taken)
-kept_each (Err e) v u h (inl (before, n, stands, works)) = kept_works (rooms 1 before ++ on n (AskRoom 1 (Err e)) ∷ []) v u h works
+    kept_then v (record v { cpus = x }) (record v { cpus = u }) one
+    (kept_works (reserves 1 (online_cpus v.cpus)) (record v { cpus = x }) u one.half taken)
+kept_each (Err e) v u h (inl (before, n, stands, works)) =
+    kept_works (rooms 1 before ++ on n (AskRoom 1 (Err e)) ∷ []) v u h works
 kept_each (Err e) v u h (inr (x, asked_all, (memory, before, n, stands, works))) =
     let one = kept_works (rooms 1 (online_cpus v.cpus)) v x h asked_all in
     kept_then v (record v { cpus = x }) (record v { cpus = u }) one
     (kept_works (reserves 1 before ++ on n (Reserve 1 (Err e)) ∷ []) (record v { cpus = x }) u one.half works)
 
-kept_more : (v u w : SystemView Tables) (id : ℕ) (level : Level) (p : RecordPlace) → Kept v u → u.records ≡ v.records → u.last ≡ v.last → id ≡ v.last + 1
+kept_more : (v u w : SystemView Tables) (id : ℕ) (level : Level) (p : RecordPlace) → Kept v u → u.records ≡ v.records
+    → u.last ≡ v.last → id ≡ v.last + 1
     → w.cpus ≡ u.cpus → w.records ≡ v.records ++ new_record id level p ∷ [] → w.last ≡ id → Kept v w
 kept_more v u w id level p k same kept_last named cpus records last = record {
   half = half_parts _ w (half_more u id level p k.half (named ∙ ap (λ n. n + 1) (sym kept_last))) cpus
@@ -155,10 +174,13 @@ kept_more v u w id level p k same kept_last named cpus records last = record {
 
 kept_goes : (id home target : ℕ) (answer : Result (Unit {0}) Refusal) (v : SystemView Tables) (w : CpusView Tables) → Half v
     → GoesTo fires seen id home target answer v.cpus w → Kept v (record v { cpus = w })
-kept_goes id home target answer v w h (inl (e, ok, same)) = kept_same v (record v { cpus = w }) h (λ z. record v { cpus = same z })
+kept_goes id home target answer v w h (inl (e, ok, same)) =
+    kept_same v (record v { cpus = w }) h (λ z. record v { cpus = same z })
 kept_goes id home target (Ok done) v w h (inr (ne, (taken, works))) = kept_works (moving id home target taken) v w h works
-kept_goes id home target (Err e) v w h (inr (ne, inl (removed, open_there, why_is, same))) = kept_same v (record v { cpus = w }) h (λ z. record v { cpus = same z })
-kept_goes id home target (Err e) v w h (inr (ne, inr (inl (still, n, some, why_is, works)))) = kept_works (on home (AskPending id (Some n)) ∷ []) v w h works
+kept_goes id home target (Err e) v w h (inr (ne, inl (removed, open_there, why_is, same))) =
+    kept_same v (record v { cpus = w }) h (λ z. record v { cpus = same z })
+kept_goes id home target (Err e) v w h (inr (ne, inr (inl (still, n, some, why_is, works)))) =
+    kept_works (on home (AskPending id (Some n)) ∷ []) v w h works
 kept_goes id home target (Err e) v w h (inr (ne, inr (inr (still, works)))) =
     kept_works (on home (AskPending id (Some 0)) ∷ on target (Reserve 1 (Err e)) ∷ []) v w h works
 
@@ -168,9 +190,11 @@ kept_turn source id turn.StaysPending v w h (at, n, some, only) = kept_only (on 
 kept_turn source id turn.StaysRefused v w h (at, d, dest, e, only) =
     kept_only (on source (AskPending id (Some 0)) ∷ on d (Reserve 1 (Err e)) ∷ []) v w h only
 kept_turn source id turn.Moves v w h (at, d, dest, (taken, works), records) =
-    kept_placed id (place.On d false) v (record v { cpus = w.cpus }) w (kept_works (moving id source d taken) v w.cpus h works) refl records
+    kept_placed id (place.On d false) v (record v { cpus = w.cpus }) w
+    (kept_works (moving id source d taken) v w.cpus h works) refl records
 
-pub kept_turns : (source : ℕ) (ids : List ℕ) (report : JuggleReport) (v w : SystemView Tables) → Half v → Turns fires seen source ids report v w → Kept v w
+pub kept_turns : (source : ℕ) (ids : List ℕ) (report : JuggleReport) (v w : SystemView Tables) → Half v
+    → Turns fires seen source ids report v w → Kept v w
 kept_turns source [] report v w h (is, same) = kept_same v w h same
 kept_turns source (id ∷ ids) report v w h (t, u, rest, takes, counted, more) =
     let one = kept_turn source id t v u h takes in
@@ -183,7 +207,8 @@ kept_retires n (id ∷ ids) v w h (u, (taken, did, k, r, is, named, records, las
     kept_then v u w one (kept_retires n ids u w one.half rest)
 
 -- which CPUs are online
-pub kept_switched : (n : ℕ) (b : Bool) (v : SystemView Tables) → Half v → Kept v (record v { cpus = record v.cpus { online = slice_set v.cpus.online n b } })
+pub kept_switched : (n : ℕ) (b : Bool) (v : SystemView Tables) → Half v
+    → Kept v (record v { cpus = record v.cpus { online = slice_set v.cpus.online n b } })
 kept_switched n b v h = record {
   half = record {
     long = length-set v.cpus.online n b ∙ h.long;
@@ -197,18 +222,22 @@ kept_switched n b v h = record {
   room = λ all. all;
 }
 
-kept_leaves : (n : ℕ) (report : JuggleReport) (answer : Result (Unit {0}) Refusal) (v w : SystemView Tables) → Half v → Leaves fires seen n report answer v w → Kept v w
+kept_leaves : (n : ℕ) (report : JuggleReport) (answer : Result (Unit {0}) Refusal) (v w : SystemView Tables) → Half v
+    → Leaves fires seen n report answer v w → Kept v w
 kept_leaves n report answer v w h (inl (left, is, same)) = kept_same v w h same
-kept_leaves n report answer v w h (inr (inl (none, is, (before, id, stands, found, some, only)))) = kept_only (quiet n before ++ on n (AskPending id (Some found)) ∷ []) v w h only
+kept_leaves n report answer v w h (inr (inl (none, is, (before, id, stands, found, some, only)))) =
+    kept_only (quiet n before ++ on n (AskPending id (Some found)) ∷ []) v w h only
 kept_leaves n report answer v w h (inr (inr (none, is, (a, only, empty, retires, same)))) =
     let one = kept_only (quiet n (ids_on n v.cpus)) v a h only in
     let two = kept_retires n (ids_on n v.cpus) a empty one.half retires in
     let all = kept_then v a empty one two in
-    kept_then v empty w all (kept_then empty (offline_at n empty) w (kept_switched n false empty all.half) (kept_same (offline_at n empty) w (kept_switched n false empty all.half).half same))
+    kept_then v empty w all (kept_then empty (offline_at n empty) w (kept_switched n false empty all.half)
+    (kept_same (offline_at n empty) w (kept_switched n false empty all.half).half same))
 
 -- ---- removals
 
-kept_begins : (id : ℕ) (way : List Begun) (v w : SystemView Tables) → Half v → FoldsTo (λ u b x. BeginsOn fires seen id b.cpu b.found u x) v way w → Kept v w
+kept_begins : (id : ℕ) (way : List Begun) (v w : SystemView Tables) → Half v
+    → FoldsTo (λ u b x. BeginsOn fires seen id b.cpu b.found u x) v way w → Kept v w
 kept_begins id [] v w h same = kept_same v w h (sym same)
 kept_begins id (b ∷ way) v w h (u, did, rest) =
     let one = by b.found did in
@@ -218,9 +247,11 @@ kept_begins id (b ∷ way) v w h (u, did, rest) =
     by (on_cpu.Done receipt) (did, k, r, is, named, records, last) =
         kept_ended b.cpu (cpu.BeginRemove id (Ok (on_cpu.Done receipt))) (counts_of receipt) k r v u h did is records last
     by (on_cpu.Kept left) (did, records, last) =
-        kept_parts v (record v { cpus = u.cpus }) u (kept_did (on b.cpu (cpu.BeginRemove id (Ok (on_cpu.Kept left)))) v u.cpus h did) refl records last
+        kept_parts v (record v { cpus = u.cpus }) u
+        (kept_did (on b.cpu (cpu.BeginRemove id (Ok (on_cpu.Kept left)))) v u.cpus h did) refl records last
 
-kept_polls : (id : ℕ) (way : List Polled) (v w : SystemView Tables) → Half v → FoldsTo (λ u p x. PollsOn fires seen id p.cpu p.answer u x) v way w → Kept v w
+kept_polls : (id : ℕ) (way : List Polled) (v w : SystemView Tables) → Half v
+    → FoldsTo (λ u p x. PollsOn fires seen id p.cpu p.answer u x) v way w → Kept v w
 kept_polls id [] v w h same = kept_same v w h (sym same)
 kept_polls id (p ∷ way) v w h (u, did, rest) =
     let one = by p.answer did in
@@ -241,7 +272,8 @@ kept_answers id receipt v u w k a = record {
 
 -- ---- a CPU that takes part again
 
-same_ids : (f : Record → Record) → ((r : Record) → (f r).id ≡ r.id) → (rs : List Record) → HasRisingIds rs → HasRisingIds (map f rs)
+same_ids : (f : Record → Record) → ((r : Record) → (f r).id ≡ r.id) → (rs : List Record) → HasRisingIds rs
+    → HasRisingIds (map f rs)
 same_ids f same rs rising i j a b less at_i at_j =
     let (c, there, is) = back i a at_i in
     let (d, here, e) = back j b at_j in
@@ -258,7 +290,8 @@ same_ids f same rs rising i j a b less at_i at_j =
     back i a at = of_map (slice_get rs i) a (sym (slice_get-map f rs i) ∙ at)
 
 half_mapped : (f : Record → Record) → ((r : Record) → (f r).id ≡ r.id) → (v : SystemView Tables) → Half v
-    → ((r : Record) → IsFull (length v.cpus.cpus) r → IsFull (length v.cpus.cpus) (f r)) → Half (record v { records = map f v.records })
+    → ((r : Record) → IsFull (length v.cpus.cpus) r → IsFull (length v.cpus.cpus) (f r))
+    → Half (record v { records = map f v.records })
 half_mapped f same v h keeps = record {
   long = h.long;
   few = h.few;
@@ -268,7 +301,8 @@ half_mapped f same v h keeps = record {
   given = λ k a at. given_of k a (slice_get v.records k) refl (sym (slice_get-map f v.records k) ∙ at);
 }
   where
-    full_of : (k : ℕ) (a : Record) (o : Option Record) → slice_get v.records k ≡ o → option_map f o ≡ Some a → IsFull (length v.cpus.cpus) a
+    full_of : (k : ℕ) (a : Record) (o : Option Record) → slice_get v.records k ≡ o → option_map f o ≡ Some a
+        → IsFull (length v.cpus.cpus) a
     full_of k a None at is = absurd (none_some is)
     full_of k a (Some c) at is = subst (IsFull (length v.cpus.cpus)) (same_some is) (keeps c (h.full k c at))
 
@@ -294,7 +328,8 @@ returned_full n cpus v r full = by (is_staying v r)
     by true = taken_full n cpus r full
     by false = full
 
-kept_online : (n now : ℕ) (answer : Result (Unit {0}) Refusal) (v w : SystemView Tables) → Half v → GoesOnline fires seen n now answer v w → Kept v w
+kept_online : (n now : ℕ) (answer : Result (Unit {0}) Refusal) (v w : SystemView Tables) → Half v
+    → GoesOnline fires seen n now answer v w → Kept v w
 kept_online n now (Err e) v w h (why_not, only) = kept_only (on n (Reserve (length (staying v)) (Err e)) ∷ []) v w h only
 kept_online n now (Ok done) v w h ((u, works, cpus), records, last) =
     let way = on n (Reserve (length (staying v)) (Ok tt)) ∷ on n (Widen (length (staying v))) ∷ returns n now (staying v) in
@@ -315,20 +350,26 @@ changes_keep : (call : SystemCall) (v w : SystemView Tables) → Half v → Chan
 changes_keep (Add level series now answer) v w h (inl (e, some, said, same)) = kept_same v w h same
 changes_keep (Add level series now (Ok id)) v w h (inr (none, (d, dest, named, works, records, last))) =
     let way = on d (Reserve 1 (Ok tt)) ∷ entering d id level series.interval (first series.start series.interval now) in
-    kept_more v (record v { cpus = w.cpus }) w id level (place.On d false) (kept_works way v w.cpus h works) refl refl named refl records last
-changes_keep (Add level series now (Err e)) v w h (inr (none, (d, dest, inl only))) = kept_only (on d (Reserve 1 (Err e)) ∷ []) v w h only
-changes_keep (Add level series now (Err e)) v w h (inr (none, (d, dest, inr (memory, only)))) = kept_only (on d (Reserve 1 (Ok tt)) ∷ []) v w h only
+    kept_more v (record v { cpus = w.cpus }) w id level (place.On d false)
+    (kept_works way v w.cpus h works) refl refl named refl records last
+changes_keep (Add level series now (Err e)) v w h (inr (none, (d, dest, inl only))) =
+    kept_only (on d (Reserve 1 (Err e)) ∷ []) v w h only
+changes_keep (Add level series now (Err e)) v w h (inr (none, (d, dest, inr (memory, only)))) =
+    kept_only (on d (Reserve 1 (Ok tt)) ∷ []) v w h only
 changes_keep (AddOmni level series skew now answer) v w h (inl (e, some, said, same)) = kept_same v w h same
 changes_keep (AddOmni level series skew now (Ok id)) v w h (inr (none, (named, (u, reserved, works), records, last))) =
     let one = kept_each (Ok tt) v u h reserved in
-    let two = kept_works (entering_each (online_cpus v.cpus) id level series skew now) (record v { cpus = u }) w.cpus one.half works in
-    kept_more v (record v { cpus = w.cpus }) w id level (place.Everywhere series skew) (kept_then v (record v { cpus = u }) (record v { cpus = w.cpus }) one two) refl refl named refl records last
+    let two = kept_works (entering_each (online_cpus v.cpus) id level series skew now)
+    (record v { cpus = u }) w.cpus one.half works in
+    kept_more v (record v { cpus = w.cpus }) w id level (place.Everywhere series skew)
+    (kept_then v (record v { cpus = u }) (record v { cpus = w.cpus }) one two) refl refl named refl records last
 changes_keep (AddOmni level series skew now (Err e)) v w h (inr (none, (inl each, records, last))) =
     kept_parts v (record v { cpus = w.cpus }) w (kept_each (Err e) v w.cpus h each) refl records last
 changes_keep (AddOmni level series skew now (Err e)) v w h (inr (none, (inr (memory, each), records, last))) =
     kept_parts v (record v { cpus = w.cpus }) w (kept_each (Ok tt) v w.cpus h each) refl records last
 changes_keep (Bind id None answer) v w h (inl (e, some, said, same)) = kept_same v w h same
-changes_keep (Bind id None answer) v w h (inr (none, (ok, n, home, cpus, records))) = kept_placed id _ v v w (kept_same v v h refl) cpus records
+changes_keep (Bind id None answer) v w h (inr (none, (ok, n, home, cpus, records))) =
+    kept_placed id _ v v w (kept_same v v h refl) cpus records
 changes_keep (Bind id (Some n) answer) v w h (inl (e, some, said, same)) = kept_same v w h same
 changes_keep (Bind id (Some n) (Ok done)) v w h (inr (none, (home, at, goes, records))) =
     kept_placed id (place.On n true) v (record v { cpus = w.cpus }) w (kept_goes id home n (Ok tt) v w.cpus h goes) refl records
@@ -337,7 +378,8 @@ changes_keep (Bind id (Some n) (Err e)) v w h (inr (none, (home, at, goes, recor
 changes_keep (BeginRemove id answer) v w h (inl (e, some, said, same)) = kept_same v w h same
 changes_keep (BeginRemove id (Ok (system.Done receipt))) v w h (inr (none, (way, u, ns, each, answers))) =
     kept_answers id receipt v u w (kept_begins id way v u h each) answers
-changes_keep (BeginRemove id (Ok (system.Kept left))) v w h (inr (none, (way, ns, each, some, sum))) = kept_begins id way v w h each
+changes_keep (BeginRemove id (Ok (system.Kept left))) v w h (inr (none, (way, ns, each, some, sum))) =
+    kept_begins id way v w h each
 changes_keep (BeginRemove id (Err e)) v w h (inr (none, did)) = absurd did
 changes_keep (PollRemove id answer) v w h (inl (e, some, said, same)) = kept_same v w h same
 changes_keep (PollRemove id (Ok (Some receipt))) v w h (inr (none, (way, u, ns, each, answers))) =
@@ -347,9 +389,11 @@ changes_keep (PollRemove id (Err e)) v w h (inr (none, did)) = absurd did
 changes_keep (AskTotals id (Some totals)) v w h (way, r, is, ns, only, adds) = kept_only (map (asked id) way) v w h only
 changes_keep (AskTotals id None) v w h (none, same) = kept_same v w h same
 changes_keep (Reprogram id moment answer) v w h (inl (e, some, said, same)) = kept_same v w h same
-changes_keep (Reprogram id moment answer) v w h (inr (none, (n, home, (ok, only)))) = kept_only (on n (Reprogrammed id moment (Ok tt)) ∷ []) v w h only
+changes_keep (Reprogram id moment answer) v w h (inr (none, (n, home, (ok, only)))) =
+    kept_only (on n (Reprogrammed id moment (Ok tt)) ∷ []) v w h only
 changes_keep (ReprogramOn id n moment answer) v w h (inl (e, some, said, same)) = kept_same v w h same
-changes_keep (ReprogramOn id n moment answer) v w h (inr (none, (ok, only))) = kept_only (on n (Reprogrammed id moment (Ok tt)) ∷ []) v w h only
+changes_keep (ReprogramOn id n moment answer) v w h (inr (none, (ok, only))) =
+    kept_only (on n (Reprogrammed id moment (Ok tt)) ∷ []) v w h only
 changes_keep (Juggle n answer) v w h (inl (e, some, said, same)) = kept_same v w h same
 changes_keep (Juggle n answer) v w h (inr (none, (report, is, turns))) = kept_turns n (single_ids n v) report v w h turns
 changes_keep (Offline n answer) v w h (inl (e, some, said, same)) = kept_same v w h same
@@ -363,15 +407,18 @@ changes_keep (SoftInterrupt n level budget answer) v w h did = absurd did
 
 module _ {C : Type 0} (called : C → ℕ → Level → C → Type 0) (count : C → ℕ → ℕ) (may_refuse : C → ℕ → Type 0) where
   kept_ran : (n : ℕ) (call : CpuCall) (s t : RunningSystem C Tables) → Half s.system
-      → ((x y : Running C Tables) → CpuDoes called count may_refuse fires seen (Interrupts called count may_refuse) x call y → SameCpu x.cpu y.cpu)
-      → RunsAt called count may_refuse fires seen (Interrupts called count may_refuse) (running_cpus s.calls s.system.cpus) (on n call) (running_cpus t.calls t.system.cpus)
+      → ((x y : Running C Tables) → CpuDoes called count may_refuse fires seen (Interrupts called count may_refuse) x call y
+      → SameCpu x.cpu y.cpu)
+      → RunsAt called count may_refuse fires seen (Interrupts called count may_refuse) (running_cpus s.calls s.system.cpus)
+      (on n call) (running_cpus t.calls t.system.cpus)
       → t.system.records ≡ s.system.records → t.system.last ≡ s.system.last → Kept s.system t.system
   kept_ran n call s t h keeps did records last =
       let x = did.before in
       let y = did.after in
       let v = s.system.cpus in
       let w = t.system.cpus in
-      let after_tie = tied_always called count may_refuse call (running s.calls x) (running t.calls y) did.change (h.tied n x did.here) in
+      let after_tie = tied_always called count may_refuse call (running s.calls x) (running t.calls y) did.change
+      (h.tied n x did.here) in
       let many : length w.cpus ≡ length v.cpus = ap (λ (u : CpusView Tables). length u.cpus) did.rest ∙ length-set v.cpus n y in
       record {
         half = half_parts (record s.system { cpus = w }) t.system (half_cpus s.system w h
@@ -385,26 +432,32 @@ module _ {C : Type 0} (called : C → ℕ → Level → C → Type 0) (count : C
 
   does_keep : (call : SystemCall) (s t : RunningSystem C Tables) → Half s.system
       → Does called count may_refuse fires seen (Interrupts called count may_refuse) s call t → Kept s.system t.system
-  does_keep (FireOne n now answer) s t h (inl (e, some, said, same)) = kept_same s.system t.system h (ap (λ (x : RunningSystem C Tables). x.system) same)
+  does_keep (FireOne n now answer) s t h (inl (e, some, said, same)) =
+      kept_same s.system t.system h (ap (λ (x : RunningSystem C Tables). x.system) same)
   does_keep (FireOne n now answer) s t h (inr (none, (did, records, last))) =
-      kept_ran n (Fire now answer) s t h (λ x y d. fire_keeps called count may_refuse fires seen (Interrupts called count may_refuse) now x y answer d) did records last
-  does_keep (SoftInterrupt n level budget answer) s t h (inl (e, some, said, same)) = kept_same s.system t.system h (ap (λ (x : RunningSystem C Tables). x.system) same)
+      kept_ran n (Fire now answer) s t h (λ x y d. fire_keeps called count may_refuse fires seen
+      (Interrupts called count may_refuse) now x y answer d) did records last
+  does_keep (SoftInterrupt n level budget answer) s t h (inl (e, some, said, same)) =
+      kept_same s.system t.system h (ap (λ (x : RunningSystem C Tables). x.system) same)
   does_keep (SoftInterrupt n level budget answer) s t h (inr (none, (own, is, did, records, last))) =
       kept_ran n (CpuSoftInterrupt level budget own) s t h (λ x y d. d.1.kept) did records last
   does_keep (Add level series now answer) s t h (did, calls) = changes_keep (Add level series now answer) s.system t.system h did
-  does_keep (AddOmni level series skew now answer) s t h (did, calls) = changes_keep (AddOmni level series skew now answer) s.system t.system h did
+  does_keep (AddOmni level series skew now answer) s t h (did, calls) =
+      changes_keep (AddOmni level series skew now answer) s.system t.system h did
   does_keep (Bind id cpu answer) s t h (did, calls) = changes_keep (Bind id cpu answer) s.system t.system h did
   does_keep (BeginRemove id answer) s t h (did, calls) = changes_keep (BeginRemove id answer) s.system t.system h did
   does_keep (PollRemove id answer) s t h (did, calls) = changes_keep (PollRemove id answer) s.system t.system h did
   does_keep (AskTotals id answer) s t h (did, calls) = changes_keep (AskTotals id answer) s.system t.system h did
   does_keep (Reprogram id moment answer) s t h (did, calls) = changes_keep (Reprogram id moment answer) s.system t.system h did
-  does_keep (ReprogramOn id n moment answer) s t h (did, calls) = changes_keep (ReprogramOn id n moment answer) s.system t.system h did
+  does_keep (ReprogramOn id n moment answer) s t h (did, calls) =
+      changes_keep (ReprogramOn id n moment answer) s.system t.system h did
   does_keep (Juggle n answer) s t h (did, calls) = changes_keep (Juggle n answer) s.system t.system h did
   does_keep (Offline n answer) s t h (did, calls) = changes_keep (Offline n answer) s.system t.system h did
   does_keep (Online n now answer) s t h (did, calls) = changes_keep (Online n now answer) s.system t.system h did
 
   pub kept : (call : SystemCall) (s t : RunningSystem C Tables)
-      → Does called count may_refuse fires seen (Interrupts called count may_refuse) s call t → IsSystem s.system → Agrees t.system → IsSystem t.system
+      → Does called count may_refuse fires seen (Interrupts called count may_refuse) s call t → IsSystem s.system
+      → Agrees t.system → IsSystem t.system
   kept call s t did sys agrees = whole t.system (does_keep call s t (half s.system sys) did).half agrees
 
   pub most_kept : (call : SystemCall) (s t : RunningSystem C Tables)

@@ -1,5 +1,6 @@
 -- A CPU that goes offline is what the definition says.
-use Rattle.std.proofs.Common.{◌≡◌, ◌≢◌, ℕ, zero, suc, ◌<◌, ◌||◌, inl, inr, Bool, true, false, List, [], ◌∷◌, ◌++◌, length, get_or, Option, Some, None, refl, ap, sym, ◌∙◌, subst, arith}
+use Rattle.std.proofs.Common.{◌≡◌, ◌≢◌, ℕ, zero, suc, ◌<◌, ◌||◌, inl, inr, Bool, true, false, List, [], ◌∷◌, ◌++◌, length, get_or}
+use Rattle.std.proofs.Common.{Option, Some, None, refl, ap, sym, ◌∙◌, subst, arith}
 use Rattle.std.specs.Prelude.{slice_set, nat_lt, Ok, Err}
 use Rattle.std.specs.List.{FoldsTo, list_any}
 use Rattle.cyc_types.specs.Refusals.{number_of}
@@ -59,11 +60,13 @@ none_out n (id ∷ ids) v w long ties (u, ask, rest) =
     let same = unchanged v u n a.cpus in
     let more = none_out n ids u w a.long a.tied rest in (
       more.0 ∙ same,
-      (λ z. nat_lt 0 (sym (a.answered tt).1 z) || list_any (λ i. nat_lt 0 (outstanding_here i (get_or (sym same z) n absent))) ids) ∙ more.1,
+      (λ z. nat_lt 0 (sym (a.answered tt).1 z) || list_any (λ i. nat_lt 0 (outstanding_here i (get_or (sym same z) n absent)))
+          ids) ∙ more.1,
     )
 
 -- it was asked up to one with calls outstanding
-some_out : (n : ℕ) (before : List ℕ) (id found : ℕ) (v w : CpusView Tables) → length v.online ≡ length v.cpus → AreTied v → 0 < found
+some_out : (n : ℕ) (before : List ℕ) (id found : ℕ) (v w : CpusView Tables) → length v.online ≡ length v.cpus → AreTied v
+    → 0 < found
     → Works fires seen (quiet n before ++ on_cpu n (AskPending id (Some found)) ∷ []) v w
     → (shown_cpus w ≡ shown_cpus v) × (has_out n v id ≡ true)
 some_out n [] id found v w long ties some (u, ask, same) =
@@ -90,7 +93,8 @@ record Retired (s : State) (o : Outcome) (w : SystemView Tables) : Type 0 where
   shows : Shows o.state w
   admissions : o.state.admissions ≡ s.admissions
 
-all_retire : (n : ℕ) (ids : List ℕ) (v w : SystemView Tables) → Half v → FoldsTo (Retires fires seen n) v ids w → (s : State) → Shows s v
+all_retire : (n : ℕ) (ids : List ℕ) (v w : SystemView Tables) → Half v → FoldsTo (Retires fires seen n) v ids w → (s : State)
+    → Shows s v
     → Retired s (each (retire n) ids s) w
 all_retire n [] v w hv same s h = record { goes = goes_alike s s (refl, refl); shows = subst (Shows s) same h; admissions = refl }
 all_retire n (id ∷ ids) v w hv (u, (taken, did, k, r, is, named, records, last), rest) s h =
@@ -99,10 +103,12 @@ all_retire n (id ∷ ids) v w hv (u, (taken, did, k, r, is, named, records, last
     let found : cyclic_of id (cpu_of n s) ≡ Some x =
     ap (λ cs. cyclic_of id (get_or cs n absent)) h.cpus ∙ taken_is id taken (cpu_at v.cpus n) (d.answered tt).1 in
     let o = on n (take_here n id) (with_ended n x s) in
-    let low : n < length v.cpus.cpus = (let a = d.within in let l = long_shown v.cpus.online v.cpus.cpus hv.long in omega (arith, a, l)) in
+    let low : n < length v.cpus.cpus = (let a = d.within in let l = long_shown v.cpus.online v.cpus.cpus hv.long in
+    omega (arith, a, l)) in
     let cpus : o.state.cpus ≡ shown_cpus u.cpus =
     ap (λ cs. slice_set cs n (take_here n id (get_or cs n absent)).cpu) h.cpus ∙ sym d.cpus in
-    let shows = ended_shows n id x taken.sent k r s v u h hv low is named refl refl refl records last o.state cpus refl refl (λ q j. refl) in
+    let shows = ended_shows n id x taken.sent k r s v u h hv low is named refl refl refl records last o.state cpus refl refl
+    (λ q j. refl) in
     let goes : Goes s o = goes_from s (with_ended n x s) o (refl, refl)
     (goes_on n (take_here n id) (with_ended n x s) (local_take n id) (subst (λ cs. n < length cs) (sym h.cpus) d.within)
     (λ soft. none_admitted (take_here n id (cpu_of n s)).acts n soft _ (take_none n id (cpu_of n s)))
@@ -127,7 +133,8 @@ switched_off (o ∷ os) (v ∷ vs) zero long = refl
 switched_off (o ∷ os) (v ∷ vs) (suc n) long = ap (λ cs. shown_cpu o v ∷ cs) (switched_off os vs n (omega (arith, long)))
 
 local_offline : (n : ℕ) (c : Cpu) → Local n c (nothing_here (go_offline c))
-local_offline n c = local_nothing n c (go_offline c) (same_low_lock c (go_offline c) refl refl) (λ h. agrees_with c (go_offline c) refl refl refl (λ id. refl) h)
+local_offline n c = local_nothing n c (go_offline c) (same_low_lock c (go_offline c) refl refl)
+    (λ h. agrees_with c (go_offline c) refl refl refl (λ id. refl) h)
 
 abbrev taken_off : ℕ → State → Outcome
 taken_off n s = on n (λ c. nothing_here (go_offline c)) s
@@ -161,16 +168,20 @@ at_once_busy None = tt
 at_once_busy (Some id) = tt
 
 all_at_once : (n : ℕ) (s : State) → AtOnce (juggle_refusal plain n s)
-all_at_once n s = at_once_else (no_cpu n s) _ (at_once_when _ NoCpu tt) (at_once_else (offline_cpu n s) _ (at_once_when _ Offline tt)
-    (at_once_else (last_cpu n s) _ (at_once_when _ LastCpu tt) (at_once_else (busy (cpu_of n s).removal) None (at_once_busy (cpu_of n s).removal) tt)))
+all_at_once n s = at_once_else (no_cpu n s) _ (at_once_when _ NoCpu tt)
+    (at_once_else (offline_cpu n s) _ (at_once_when _ Offline tt)
+    (at_once_else (last_cpu n s) _ (at_once_when _ LastCpu tt)
+    (at_once_else (busy (cpu_of n s).removal) None (at_once_busy (cpu_of n s).removal) tt)))
 
 -- ---- what follows the turns
 
-left_as : (step n : ℕ) (ids : List ℕ) (j : Juggled) → ids ≢ [] → leaving plain step n ids j ≡ told (cyclics_left step j.report) j.outcome
+left_as : (step n : ℕ) (ids : List ℕ) (j : Juggled) → ids ≢ []
+    → leaving plain step n ids j ≡ told (cyclics_left step j.report) j.outcome
 left_as step n [] j some = absurd (some refl)
 left_as step n (id ∷ ids) j some = refl
 
-emptied_as : (step n : ℕ) (ids : List ℕ) (b : Bool) (j : Juggled) → ids ≡ [] → any_pending plain n (ids_on n j.outcome.state) j.outcome.state ≡ b
+emptied_as : (step n : ℕ) (ids : List ℕ) (b : Bool) (j : Juggled) → ids ≡ []
+    → any_pending plain n (ids_on n j.outcome.state) j.outcome.state ≡ b
     → leaving plain step n ids j ≡ last_part b step n j.outcome
 emptied_as step n ids b j none is = ap (λ i. leaving plain step n i j) none ∙ ap (λ c. last_part c step n j.outcome) is
 
@@ -180,13 +191,16 @@ record DoesSo (given : List ℕ) (s : State) (o : Outcome) (w : SystemView Table
   quiet : (id : ℕ) → calls_of id o.acts ≡ 0
 
 -- the components end after the turns, and the CPU takes no further part
-retired_so : (n : ℕ) (given : List ℕ) (report : JuggleReport) (s : State) (j : Juggled) (m gone w : SystemView Tables) → JugglesTo report given s j m
-    → (ids : List ℕ) → ids_on n j.outcome.state ≡ ids → Retired j.outcome.state (each (retire n) ids j.outcome.state) gone → Half gone
+retired_so : (n : ℕ) (given : List ℕ) (report : JuggleReport) (s : State) (j : Juggled) (m gone w : SystemView Tables)
+    → JugglesTo report given s j m
+    → (ids : List ℕ) → ids_on n j.outcome.state ≡ ids → Retired j.outcome.state (each (retire n) ids j.outcome.state) gone
+    → Half gone
     → n < length s.cpus → w ≡ offline_at n gone → DoesSo given s (followed_by j.outcome (retire_all n)) w
 retired_so n given report s j m gone w d ids same r hg low is =
     let s1 = j.outcome.state in
     let o = each (retire n) ids s1 in
-    let low_now : n < length o.state.cpus = (let x = d.goes.tells.as_many in let y = r.goes.tells.as_many in omega (arith, low, x, y)) in
+    let low_now : n < length o.state.cpus = (let x = d.goes.tells.as_many in let y = r.goes.tells.as_many in
+    omega (arith, low, x, y)) in
     let goes = goes_then s j.outcome (λ t. followed_by (each (retire n) ids t) (taken_off n)) d.goes
     (goes_then s1 o (taken_off n) r.goes
     (goes_on n (λ c. nothing_here (go_offline c)) o.state (local_offline n) low_now (λ soft. tt) (λ q. refl))) in
@@ -203,7 +217,8 @@ module _ (n : ℕ) (s : State) (v w : SystemView Tables) (sys : IsSystem v) (h :
   -- where each step's outcome is so
   with_line : (given : List ℕ) (line : ℕ → List ℕ) (o : (ℕ → ℕ) → Outcome) → first_refusal (juggle_refusals n v) ≡ None
       → ((indexes : ℕ → ℕ) → Gives indexes s.admissions given → DoesSo given s (o indexes) w)
-      → ((indexes : ℕ → ℕ) (step : ℕ) → Gives indexes s.admissions given → offline plain indexes step n s ≡ told (line step) (o indexes))
+      → ((indexes : ℕ → ℕ) (step : ℕ) → Gives indexes s.admissions given
+      → offline plain indexes step n s ≡ told (line step) (o indexes))
       → IsDoneWith line (steps.Offline n) s w
   with_line given line o none does same = record {
     done = record {
@@ -211,8 +226,10 @@ module _ (n : ℕ) (s : State) (v w : SystemView Tables) (sys : IsSystem v) (h :
       given = given;
       comes = λ texts indexes step gives.
           let d = (does indexes gives).comes in
-          subst (λ p. ComesTo given s p w) (sym (same indexes step gives)) (record { shows = d.shows; admissions = d.admissions; free = d.free });
-      quiet = λ texts indexes step gives id. ap (λ (p : Outcome). calls_of id p.acts) (same indexes step gives) ∙ (does indexes gives).quiet id;
+          subst (λ p. ComesTo given s p w) (sym (same indexes step gives))
+          (record { shows = d.shows; admissions = d.admissions; free = d.free });
+      quiet = λ texts indexes step gives id. ap (λ (p : Outcome). calls_of id p.acts) (same indexes step gives)
+          ∙ (does indexes gives).quiet id;
     };
     said = λ texts indexes step gives. ap (λ (p : Outcome). p.line) (same indexes step gives);
   }
@@ -228,7 +245,8 @@ module _ (n : ℕ) (s : State) (v w : SystemView Tables) (sys : IsSystem v) (h :
   not_late : (e own : Refusal) → first_refusal (juggle_refusals n v) ≡ Some own → e ≡ own → IsAtOnce e
   not_late e own some same = subst AtOnce (same_whys n s v h (half v sys) ∙ some ∙ ap Some (sym same)) (all_at_once n s)
 
-  pub offline_refused : (e : Refusal) → IsAtOnce e → Changes fires seen v (GoOffline n (Err e)) w → IsRefusedFor e (steps.Offline n) s w
+  pub offline_refused : (e : Refusal) → IsAtOnce e → Changes fires seen v (GoOffline n (Err e)) w
+      → IsRefusedFor e (steps.Offline n) s w
   offline_refused e once (inl (own, some, answer, same)) = (
     is_refused e (juggle_refusal plain n s) (same_whys n s v h (half v sys) ∙ some
         ∙ ap Some (sym (same_error (Unit {0}) e own (Err e) (Err own) refl refl answer))) (no_memory n s v h (half v sys)),
@@ -238,7 +256,8 @@ module _ (n : ℕ) (s : State) (v w : SystemView Tables) (sys : IsSystem v) (h :
       absurd (subst IsAtOnce (same_error (Unit {0}) e (Left report) (Err e) (Err (Left report)) refl refl answer) once)
   offline_refused e once (inr (none, (report, m, turns, inr (inl (empty, answer, finds))))) =
       absurd (subst IsAtOnce (same_error (Unit {0}) e Pending (Err e) (Err Pending) refl refl answer) once)
-  offline_refused e once (inr (none, (report, m, turns, inr (inr (empty, answer, retires))))) = absurd (let isnt : Err e ≡ Ok tt = answer in cc)
+  offline_refused e once (inr (none, (report, m, turns, inr (inr (empty, answer, retires))))) =
+      absurd (let isnt : Err e ≡ Ok tt = answer in cc)
 
 abbrev report_in : JuggleReport → Refusal → JuggleReport
 report_in d (Left report) = report
@@ -253,18 +272,22 @@ module _ (n : ℕ) (s : State) (v w : SystemView Tables) (sys : IsSystem v) (h :
   offline_left report (inr (none, (own, m, turns, inl (some, answer, same)))) =
       let hv = half v sys in
       let hm = (kept_turns n (single_there n v) own v m hv turns).half in
-      let is : report ≡ own = ap (report_in report) (same_error (Unit {0}) (Left report) (Left own) (Err (Left report)) (Err (Left own)) refl refl answer) in
+      let is : report ≡ own = ap (report_in report)
+      (same_error (Unit {0}) (Left report) (Left own) (Err (Left report)) (Err (Left own)) refl refl answer) in
       let (given, j) = juggles n s v h hv own m all turns in
       with_line n s v w sys h given (λ step. cyclics_left step report) (λ indexes. (juggled plain indexes n s).outcome) none
-      (λ indexes gives. stays_so n s v w sys h given own m (juggled plain indexes n s) (j indexes gives) (λ shows. subst (Shows _) (sym same) shows))
+      (λ indexes gives. stays_so n s v w sys h given own m (juggled plain indexes n s) (j indexes gives)
+      (λ shows. subst (Shows _) (sym same) shows))
       (λ indexes step gives.
       let d = j indexes gives in
       let x = juggled plain indexes n s in
       left_as step n (single_ids n x.outcome.state) x (λ e. some (sym (same_single n x.outcome.state m d.shows hm) ∙ e))
       ∙ ap (λ r. told (cyclics_left step r) x.outcome) (d.told ∙ sym is))
   offline_left report (inr (none, (own, m, turns, inr (inl (empty, answer, finds))))) =
-      absurd (let isnt : Left report ≡ Pending = same_error (Unit {0}) (Left report) Pending (Err (Left report)) (Err Pending) refl refl answer in cc)
-  offline_left report (inr (none, (own, m, turns, inr (inr (empty, answer, retires))))) = absurd (let isnt : Err (Left report) ≡ Ok tt = answer in cc)
+      absurd (let isnt : Left report ≡ Pending =
+      same_error (Unit {0}) (Left report) Pending (Err (Left report)) (Err Pending) refl refl answer in cc)
+  offline_left report (inr (none, (own, m, turns, inr (inr (empty, answer, retires))))) =
+      absurd (let isnt : Err (Left report) ≡ Ok tt = answer in cc)
 
   -- a component has calls outstanding
   pub offline_pending : Changes fires seen v (GoOffline n (Err Pending)) w
@@ -272,29 +295,43 @@ module _ (n : ℕ) (s : State) (v w : SystemView Tables) (sys : IsSystem v) (h :
   offline_pending (inl (own, some, answer, same)) = absurd (not_late n s v w sys h Pending own some
       (same_error (Unit {0}) Pending own (Err Pending) (Err own) refl refl answer))
   offline_pending (inr (none, (own, m, turns, inl (some, answer, same)))) =
-      absurd (let isnt : Pending ≡ Left own = same_error (Unit {0}) Pending (Left own) (Err Pending) (Err (Left own)) refl refl answer in cc)
-  offline_pending (inr (none, (own, m, turns, inr (inl (empty, answer, (before, id, (rest, is), found, some, (works, records, last))))))) =
+      absurd (let isnt : Pending ≡ Left own = same_error (Unit {0}) Pending (Left own) (Err Pending)
+      (Err (Left own)) refl refl answer in cc)
+  offline_pending (inr (
+    none,
+    (
+      own,
+      m,
+      turns,
+      inr (inl (empty, answer, (before, id, (rest, is), found, some, (works, records, last)))),
+    ),
+  )) =
       let hv = half v sys in
       let hm = (kept_turns n (single_there n v) own v m hv turns).half in
       let out = some_out n before id found m.cpus w.cpus hm.long hm.tied some works in
       let any : list_any (has_out n m.cpus) (ids_there n m.cpus) ≡ true =
       ap (list_any (has_out n m.cpus)) is ∙ any_after (has_out n m.cpus) before rest id out.1 in
       let (given, j) = juggles n s v h hv own m all turns in
-      with_line n s v w sys h given (λ step. refused step (number_of Pending)) (λ indexes. (juggled plain indexes n s).outcome) none
+      with_line n s v w sys h given (λ step. refused step (number_of Pending))
+      (λ indexes. (juggled plain indexes n s).outcome) none
       (λ indexes gives. stays_so n s v w sys h given own m (juggled plain indexes n s) (j indexes gives)
       (λ shows. same_shown _ m w shows out.0 records last))
       (λ indexes step gives.
       let d = j indexes gives in
       let x = juggled plain indexes n s in
       emptied_as step n (single_ids n x.outcome.state) true x (same_single n x.outcome.state m d.shows hm ∙ empty)
-      ((λ z. list_any (λ i. nat_lt 0 (outstanding_here i (get_or (d.shows.cpus z) n absent))) (same_ids n x.outcome.state m d.shows hm z)) ∙ any))
-  offline_pending (inr (none, (own, m, turns, inr (inr (empty, answer, retires))))) = absurd (let isnt : Err Pending ≡ Ok tt = answer in cc)
+      ((λ z. list_any (λ i. nat_lt 0 (outstanding_here i (get_or (d.shows.cpus z) n absent)))
+      (same_ids n x.outcome.state m d.shows hm z)) ∙ any))
+  offline_pending (inr (none, (own, m, turns, inr (inr (empty, answer, retires))))) =
+      absurd (let isnt : Err Pending ≡ Ok tt = answer in cc)
 
   -- all have left
   pub offline_accepted : Changes fires seen v (GoOffline n (Ok tt)) w → IsDoneWith accepted (steps.Offline n) s w
   offline_accepted (inl (own, some, answer, same)) = absurd (let isnt : Ok tt ≡ Err own = answer in cc)
-  offline_accepted (inr (none, (own, m, turns, inl (some, answer, same)))) = absurd (let isnt : Ok tt ≡ Err (Left own) = answer in cc)
-  offline_accepted (inr (none, (own, m, turns, inr (inl (empty, answer, finds))))) = absurd (let isnt : Ok tt ≡ Err Pending = answer in cc)
+  offline_accepted (inr (none, (own, m, turns, inl (some, answer, same)))) =
+      absurd (let isnt : Ok tt ≡ Err (Left own) = answer in cc)
+  offline_accepted (inr (none, (own, m, turns, inr (inl (empty, answer, finds))))) =
+      absurd (let isnt : Ok tt ≡ Err Pending = answer in cc)
   offline_accepted (inr (none, (own, m, turns, inr (inr (empty, answer, (a, (works, records, last), gone, retires, same)))))) =
       let hv = half v sys in
       let hm = (kept_turns n (single_there n v) own v m hv turns).half in
@@ -308,9 +345,11 @@ module _ (n : ℕ) (s : State) (v w : SystemView Tables) (sys : IsSystem v) (h :
       let d = j indexes gives in
       let x = juggled plain indexes n s in
       retired_so n given own s x m gone w d (ids_there n m.cpus) (same_ids n x.outcome.state m d.shows hm)
-      (all_retire n (ids_there n m.cpus) a gone ha retires x.outcome.state (same_shown x.outcome.state m a d.shows asked.0 records last)) hg low same)
+      (all_retire n (ids_there n m.cpus) a gone ha retires x.outcome.state
+      (same_shown x.outcome.state m a d.shows asked.0 records last)) hg low same)
       (λ indexes step gives.
       let d = j indexes gives in
       let x = juggled plain indexes n s in
       emptied_as step n (single_ids n x.outcome.state) false x (same_single n x.outcome.state m d.shows hm ∙ empty)
-      ((λ z. list_any (λ i. nat_lt 0 (outstanding_here i (get_or (d.shows.cpus z) n absent))) (same_ids n x.outcome.state m d.shows hm z)) ∙ asked.1))
+      ((λ z. list_any (λ i. nat_lt 0 (outstanding_here i (get_or (d.shows.cpus z) n absent)))
+      (same_ids n x.outcome.state m d.shows hm z)) ∙ asked.1))

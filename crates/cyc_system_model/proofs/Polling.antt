@@ -1,5 +1,6 @@
 -- A poll of an open removal on all CPUs, and the polls of several.
-use Rattle.std.proofs.Common.{◌≡◌, ◌≢◌, ℕ, ◌-◌, ◌==◌, inl, inr, eqb-true, Bool, true, false, cond, List, [], ◌∷◌, ◌++◌, map, filter, Option, Some, None, refl, ap, sym, ◌∙◌, subst, arith}
+use Rattle.std.proofs.Common.{◌≡◌, ◌≢◌, ℕ, ◌-◌, ◌==◌, inl, inr, eqb-true, Bool, true, false, cond, List, [], ◌∷◌, ◌++◌, map}
+use Rattle.std.proofs.Common.{filter, Option, Some, None, refl, ap, sym, ◌∙◌, subst, arith}
 use Rattle.std.specs.Prelude.{Ok, Err}
 use Rattle.std.specs.Option.{option_map_or}
 use Rattle.cyc_types.specs.declared.receipt.Receipt.{Receipt}
@@ -48,17 +49,20 @@ if_none false id n s = tt
 
 each_none : (id : ℕ) (ns : List ℕ) (s : State) → HasNoAdmit (each (poll plain id) ns s).acts
 each_none id [] s = tt
-each_none id (n ∷ ns) s = no_more (poll plain id n s).acts _ (if_none (outstanding_here id (cpu_of n s) == 0) id n s) (each_none id ns (poll plain id n s).state)
+each_none id (n ∷ ns) s = no_more (poll plain id n s).acts _ (if_none (outstanding_here id (cpu_of n s) == 0) id n s)
+    (each_none id ns (poll plain id n s).state)
 
 polled_none : (step id : ℕ) (text ns : List ℕ) (o : Outcome) → HasNoAdmit o.acts → HasNoAdmit (polled step text id ns o).acts
 polled_none step id text [] o none = none
 polled_none step id text (n ∷ ns) o none = none
 
-polls_none : (texts : List (List ℕ)) (step : ℕ) (ids : List ℕ) (s : State) → HasNoAdmit (each (poll_id plain texts step) ids s).acts
+polls_none : (texts : List (List ℕ)) (step : ℕ) (ids : List ℕ) (s : State)
+    → HasNoAdmit (each (poll_id plain texts step) ids s).acts
 polls_none texts step [] s = tt
 polls_none texts step (id ∷ ids) s =
     let o = each (poll plain id) (numbers (is_open id) s) s in
-    no_more (poll_id plain texts step id s).acts _ (polled_none step id (text_of_id id texts s.names) (cpus_with id o.state) o (each_none id (numbers (is_open id) s) s))
+    no_more (poll_id plain texts step id s).acts _
+    (polled_none step id (text_of_id id texts s.names) (cpus_with id o.state) o (each_none id (numbers (is_open id) s) s))
     (polls_none texts step ids (poll_id plain texts step id s).state)
 
 -- ---- one removal
@@ -67,7 +71,8 @@ abbrev cpu_in : Polled → ℕ
 cpu_in p = p.cpu
 
 -- what a poll comes to
-pub record IsPolled (texts : List (List ℕ)) (step id : ℕ) (answer : Option Receipt) (m : State) (w : SystemView Tables) : Type 0 where
+pub record IsPolled (texts : List (List ℕ)) (step id : ℕ) (answer : Option Receipt) (m : State)
+    (w : SystemView Tables) : Type 0 where
   pub shows : Shows (poll_id plain texts step id m).state w
   pub line : (poll_id plain texts step id m).line ≡ answer_line step (text_of_id id texts m.names) answer
   pub names : (poll_id plain texts step id m).state.names ≡ m.names
@@ -82,12 +87,14 @@ module _ (texts : List (List ℕ)) (step id : ℕ) (m : State) (v w : SystemView
   abbrev text : List ℕ
   text = text_of_id id texts m.names
 
-  comes_all : (way : List Polled) (u : SystemView Tables) → map cpu_in way ≡ leaving_cpus id v.cpus → PollsEach fires seen id way v u
+  comes_all : (way : List Polled) (u : SystemView Tables) → map cpu_in way ≡ leaving_cpus id v.cpus
+      → PollsEach fires seen id way v u
       → CameToAll cpu_in (λ p c. Unit {0}) way m parts u
   comes_all way u ns did =
       let all : map cpu_in way ≡ numbers (is_open id) m = ns ∙ sym (same_open id m v h sys.agrees.long) in
       subst (λ ks. CameToAll cpu_in (λ p c. Unit {0}) way m (each (poll plain id) ks m) u) all
-      (all_come (poll plain id) cpu_in (λ c. c.removal ≡ Some id) (λ p c. Unit {0}) (λ x p y. PollsOn fires seen id p.cpu p.answer x y)
+      (all_come (poll plain id) cpu_in (λ c. c.removal ≡ Some id) (λ p c. Unit {0})
+      (λ x p y. PollsOn fires seen id p.cpu p.answer x y)
       (λ p n x y hx shows ready one. polls_on id p n x y hx shows ready one) 0 way m v u
       (subst (RiseFrom 0) (sym all) (numbers_rise (is_open id) 0 m.cpus)) (half v sys) h
       (λ k has. open_is id (cpu_of k m) (numbers_pass (is_open id) k m (subst (Has k) all has)).1) did)
@@ -101,7 +108,8 @@ module _ (texts : List (List ℕ)) (step id : ℕ) (m : State) (v w : SystemView
       let expired = all_expired id receipt parts.state u w c.shows c.half answers in
       let lost = all_lost id receipt parts.state u w c.shows c.half answers in
       record {
-        shows = subst (λ (o : Outcome). Shows o.state w) (sym is) (forgotten_shows id receipt parts.state u w c.shows c.half answers);
+        shows = subst (λ (o : Outcome). Shows o.state w) (sym is)
+            (forgotten_shows id receipt parts.state u w c.shows c.half answers);
         line = ap (λ (o : Outcome). o.line) is ∙ (λ z. removed step text (expired z - lost z));
         names = ap (λ (o : Outcome). o.state.names) is ∙ c.names;
         quiet = λ q. ap (λ (o : Outcome). calls_of q o.acts) is ∙ c.quiet q;
@@ -149,10 +157,13 @@ module _ (texts : List (List ℕ)) (step : ℕ) (m : State) where
     called = λ id. refl;
   }
 
-  one_more : (ids : List ℕ) (id : ℕ) → polls (ids ++ id ∷ []) ≡ before (polls ids) (before (poll_id plain texts step id (polls ids).state) (nothing (poll_id plain texts step id (polls ids).state).state))
+  one_more : (ids : List ℕ) (id : ℕ) → polls (ids ++ id ∷ [])
+      ≡ before (polls ids) (before (poll_id plain texts step id (polls ids).state)
+      (nothing (poll_id plain texts step id (polls ids).state).state))
   one_more ids id = each_append (poll_id plain texts step) ids (id ∷ []) m
 
-  pub polls_next : (ids lines : List ℕ) (id : ℕ) (answer : Option Receipt) (v w : SystemView Tables) → IsSystem v → HavePolled texts step ids lines m v
+  pub polls_next : (ids lines : List ℕ) (id : ℕ) (answer : Option Receipt) (v w : SystemView Tables) → IsSystem v
+      → HavePolled texts step ids lines m v
       → PollsRemoval fires seen id (Ok answer) v w
       → HavePolled texts step (ids ++ id ∷ []) (lines ++ answer_line step (text_of_id id texts m.names) answer) m w
   polls_next ids lines id answer v w sys h did =
@@ -163,10 +174,12 @@ module _ (texts : List (List ℕ)) (step : ℕ) (m : State) where
       record {
         comes = record {
           shows = subst (λ (x : Outcome). Shows x.state w) (sym is) p.shows;
-          admissions = (let a = ap (λ (x : Outcome). x.state.admissions) is in let b = p.admissions in let c = h.comes.admissions in omega (arith, a, b, c));
+          admissions = (let a = ap (λ (x : Outcome). x.state.admissions) is in let b = p.admissions in let c =
+              h.comes.admissions in omega (arith, a, b, c));
           free = λ n soft. none_admitted (polls (ids ++ id ∷ [])).acts n soft _ (polls_none texts step (ids ++ id ∷ []) m);
         };
-        said = ap (λ (x : Outcome). x.line) is ∙ ap (λ xs. o.line ++ xs) (nil_right q.line) ∙ (λ z. h.said z ++ (p.line ∙ ap (λ names. answer_line step (text_of_id id texts names) answer) h.names) z);
+        said = ap (λ (x : Outcome). x.line) is ∙ ap (λ xs. o.line ++ xs) (nil_right q.line)
+            ∙ (λ z. h.said z ++ (p.line ∙ ap (λ names. answer_line step (text_of_id id texts names) answer) h.names) z);
         names = ap (λ (x : Outcome). x.state.names) is ∙ p.names ∙ h.names;
         quiet = λ j.
             let a = ap (λ (x : Outcome). calls_of j x.acts) is in
@@ -178,8 +191,10 @@ module _ (texts : List (List ℕ)) (step : ℕ) (m : State) where
         called = λ j. ap (λ (x : Outcome). x.state.called j) is ∙ p.called j ∙ h.called j;
       }
 
-  pub polls_tell : (ids lines : List ℕ) (id : ℕ) (receipt : Receipt) (v w : SystemView Tables) → IsSystem v → HavePolled texts step ids lines m v
-      → PollsRemoval fires seen id (Ok (Some receipt)) v w → counts_of id (polls (ids ++ id ∷ [])).state ≡ told_by receipt (m.called id)
+  pub polls_tell : (ids lines : List ℕ) (id : ℕ) (receipt : Receipt) (v w : SystemView Tables) → IsSystem v
+      → HavePolled texts step ids lines m v
+      → PollsRemoval fires seen id (Ok (Some receipt)) v w
+      → counts_of id (polls (ids ++ id ∷ [])).state ≡ told_by receipt (m.called id)
   polls_tell ids lines id receipt v w sys h did =
       ap (λ (x : Outcome). counts_of id x.state) (one_more ids id)
       ∙ polled_counts texts step id (polls ids).state v w sys h.comes.shows receipt did ∙ ap (told_by receipt) (h.called id)
@@ -189,7 +204,8 @@ module _ (texts : List (List ℕ)) (step : ℕ) (m : State) where
 leaving_each : (id_test : ℕ → Bool) (own : ℕ → Bool) (rs : List Record) → ((id : ℕ) → id_test id ≡ own id)
     → filter id_test (map (λ (p : Placed). p.id) (map shown_record rs)) ≡ filter own (map (λ (r : Record). r.id) rs)
 leaving_each test own [] same = refl
-leaving_each test own (r ∷ rs) same = (λ z. cond (same r.id z) (r.id ∷ leaving_each test own rs same z) (leaving_each test own rs same z))
+leaving_each test own (r ∷ rs) same = (λ z. cond (same r.id z) (r.id ∷ leaving_each test own rs same z)
+    (leaving_each test own rs same z))
 
 pub same_leaving : (m : State) (v : SystemView Tables) → IsSystem v → Shows m v → leaving_ids m ≡ leaving_in v
 same_leaving m v sys h =
@@ -197,8 +213,10 @@ same_leaving m v sys h =
     ∙ leaving_each (λ id. is_leaving id m) (λ id. leaving_there id v) v.records (λ id. leaving_shown id m v h sys.agrees.long)
 
 module _ {C : Type 0} (count : C → ℕ → ℕ) where
-  pub interrupted : (texts : List (List ℕ)) (step : ℕ) (i : SoftintStep) (made : Ran) (lines : List ℕ) (m : State) (s t : RunningSystem C Tables) (w : SystemView Tables)
-      → IsServed count i made m s t → HavePolled texts step (leaving_ids (interrupt step i m).state) lines (interrupt step i m).state w
+  pub interrupted : (texts : List (List ℕ)) (step : ℕ) (i : SoftintStep) (made : Ran) (lines : List ℕ) (m : State)
+      (s t : RunningSystem C Tables) (w : SystemView Tables)
+      → IsServed count i made m s t → HavePolled texts step (leaving_ids (interrupt step i m).state) lines
+      (interrupt step i m).state w
       → IsInterrupted count texts step i made lines m s t w
   interrupted texts step i made lines m s t w served h =
       let o = interrupt step i m in
@@ -208,8 +226,10 @@ module _ {C : Type 0} (count : C → ℕ → ℕ) where
           shows = h.comes.shows;
           admissions = (let a = h.comes.admissions in let b = (served.comes step).admissions in omega (arith, a, b));
           free = λ n soft. none_admitted (o.acts ++ p.acts) n soft _
-              (no_more o.acts p.acts (interrupt_none i.cpu i.level i.budget (cpu_of i.cpu m)) (polls_none texts step (leaving_ids o.state) o.state));
+              (no_more o.acts p.acts (interrupt_none i.cpu i.level i.budget (cpu_of i.cpu m))
+              (polls_none texts step (leaving_ids o.state) o.state));
         };
         line = (λ z. ran step (sym served.calls z) (sym served.idle z) ++ h.said z);
-        called = λ id. let a = served.called id in let b = calls_append id o.acts p.acts in let c = h.quiet id in omega (arith, a, b, c);
+        called = λ id. let a = served.called id in let b = calls_append id o.acts p.acts in let c = h.quiet id in
+            omega (arith, a, b, c);
       }

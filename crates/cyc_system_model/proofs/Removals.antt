@@ -1,5 +1,6 @@
 -- A removal is the word remove.
-use Rattle.std.proofs.Common.{◌≡◌, ◌≢◌, ℕ, zero, suc, ◌+◌, ◌-◌, ◌<◌, inl, inr, Bool, true, false, List, [], ◌∷◌, length, map, sum_by, get_or, Option, Some, None, refl, ap, sym, ◌∙◌, subst, arith}
+use Rattle.std.proofs.Common.{◌≡◌, ◌≢◌, ℕ, zero, suc, ◌+◌, ◌-◌, ◌<◌, inl, inr, Bool, true, false, List, [], ◌∷◌, length, map}
+use Rattle.std.proofs.Common.{sum_by, get_or, Option, Some, None, refl, ap, sym, ◌∙◌, subst, arith}
 use Rattle.std.specs.Prelude.{is_some, Ok, Err}
 use Rattle.std.specs.List.{slice_get}
 use Rattle.std.specs.Option.{option_and_then}
@@ -14,7 +15,8 @@ use Rattle.cyc_cpu.specs.Soft.{fires, firing_at as seen}
 use Rattle.cyc_system.specs.System.{SystemView, removal_on}
 use Rattle.cyc_system.specs.SystemRemoval.{SystemRemoval}
 use Rattle.cyc_system.specs.SystemRemoval.TheVariants as system
-use Rattle.cyc_system.specs.Removing.{cpus_with as cpus_with_in, Begun, BeginsOn, BeginsEach, BeginsRemoval, kept_in, unknown_cyclic, busy_on_each as busy_in}
+use Rattle.cyc_system.specs.Removing.{cpus_with as cpus_with_in, Begun, BeginsOn, BeginsEach, BeginsRemoval, kept_in}
+use Rattle.cyc_system.specs.Removing.{unknown_cyclic, busy_on_each as busy_in}
 use Rattle.cyc_model.specs.Acts.{calls_of}
 use Rattle.cyc_model.specs.Report.{counts_of}
 use Rattle.cyc_model.specs.Cpu.{Cyclic, has_cyclic, cyclic_of}
@@ -69,7 +71,8 @@ no_memory_busy (Some id) = tt
 
 no_memory_each : (ns : List ℕ) (s : State) → NoMemory (first_refusal (busy_on_each plain ns s))
 no_memory_each [] s = tt
-no_memory_each (n ∷ ns) s = no_memory_else (busy (cpu_of n s).removal) _ (no_memory_busy (cpu_of n s).removal) (no_memory_each ns s)
+no_memory_each (n ∷ ns) s = no_memory_else (busy (cpu_of n s).removal) _ (no_memory_busy (cpu_of n s).removal)
+    (no_memory_each ns s)
 
 -- ---- on all CPUs
 
@@ -88,8 +91,10 @@ module _ (id : ℕ) (way : List Begun) (m : State) (v u : SystemView Tables) (h 
   all_ns = ns ∙ sym (same_with id m v h hv.long)
 
   begun_all : CameToAll cpu_in (λ b c. outstanding_here id c ≡ left_in b) way m parts u
-  begun_all = subst (λ ks. CameToAll cpu_in (λ b c. outstanding_here id c ≡ left_in b) way m (each (begin plain id) ks m) u) all_ns
-      (all_come (begin plain id) cpu_in (λ c. Unit {0}) (λ b c. outstanding_here id c ≡ left_in b) (λ x b y. BeginsOn fires seen id b.cpu b.found x y)
+  begun_all = subst (λ ks. CameToAll cpu_in (λ b c. outstanding_here id c ≡ left_in b) way m (each (begin plain id) ks m) u)
+      all_ns
+      (all_come (begin plain id) cpu_in (λ c. Unit {0}) (λ b c. outstanding_here id c ≡ left_in b)
+      (λ x b y. BeginsOn fires seen id b.cpu b.found x y)
       (λ b n x y hx shows ready did. begins_on id b n x y hx shows ready did) 0 way m v u
       (subst (RiseFrom 0) (sym all_ns) (numbers_rise (has_cyclic id) 0 m.cpus)) hv h (λ k has. tt) each_begins)
 
@@ -97,12 +102,14 @@ module _ (id : ℕ) (way : List Begun) (m : State) (v u : SystemView Tables) (h 
   came = begun_all.came
 
   -- a CPU that has no such cyclic now has no call of it
-  none_now : (i : ℕ) → i < length parts.state.cpus → has_cyclic id (cpu_of i parts.state) ≡ false → outstanding_here id (cpu_of i parts.state) ≡ 0
+  none_now : (i : ℕ) → i < length parts.state.cpus → has_cyclic id (cpu_of i parts.state) ≡ false
+      → outstanding_here id (cpu_of i parts.state) ≡ 0
   none_now i low none =
       let l = ap (λ cs. length cs) came.shows.cpus ∙ long_shown u.cpus.online u.cpus.cpus came.half.long in
       let same : cpu_of i parts.state ≡ cpu_at u.cpus i = ap (λ cs. get_or cs i absent) came.shows.cpus in
       ap (outstanding_here id) same ∙ none_out id (cpu_at u.cpus i) (own_at u i came.half (omega (arith, low, l)))
-      (ap (cyclic_of id) (sym same) ∙ not_found (found id (cpu_of i parts.state).cyclics) (sym (any_found id (cpu_of i parts.state).cyclics) ∙ none))
+      (ap (cyclic_of id) (sym same) ∙ not_found (found id (cpu_of i parts.state).cyclics)
+      (sym (any_found id (cpu_of i parts.state).cyclics) ∙ none))
     where
       not_found : (o : Option Cyclic) → is_some o ≡ false → o ≡ None
       not_found None is = refl
@@ -111,11 +118,14 @@ module _ (id : ℕ) (way : List Begun) (m : State) (v u : SystemView Tables) (h 
   -- the calls that are kept
   pub kept_is : kept_on plain id (cpus_with id parts.state) parts.state ≡ sum_by left_in way
   kept_is =
-      sum_numbers (λ n. outstanding_here id (cpu_of n parts.state)) (outstanding_here id) (has_cyclic id) 0 parts.state.cpus parts.state.cpus refl
+      sum_numbers (λ n. outstanding_here id (cpu_of n parts.state)) (outstanding_here id)
+      (has_cyclic id) 0 parts.state.cpus parts.state.cpus refl
       (λ i low. ap (λ j. outstanding_here id (cpu_of j parts.state)) (zero_plus i)) none_now
-      ∙ sym (sum_numbers (λ n. outstanding_here id (cpu_of n parts.state)) (outstanding_here id) (has_cyclic id) 0 m.cpus parts.state.cpus (sym came.as_many)
+      ∙ sym (sum_numbers (λ n. outstanding_here id (cpu_of n parts.state)) (outstanding_here id)
+      (has_cyclic id) 0 m.cpus parts.state.cpus (sym came.as_many)
       (λ i low. ap (λ j. outstanding_here id (cpu_of j parts.state)) (zero_plus i))
-      (λ i low none. none_now i low (ap (has_cyclic id) (begun_all.beside i (λ has. was_there i none (subst (λ ks. Has i ks) all_ns has))) ∙ none)))
+      (λ i low none. none_now i low (ap (has_cyclic id)
+      (begun_all.beside i (λ has. was_there i none (subst (λ ks. Has i ks) all_ns has))) ∙ none)))
       ∙ ap (λ ks. sum_by (λ n. outstanding_here id (cpu_of n parts.state)) ks) (sym all_ns)
       ∙ sum_own cpu_in left_in (outstanding_here id) way parts.state begun_all.own
     where
@@ -125,7 +135,8 @@ module _ (id : ℕ) (way : List Begun) (m : State) (v u : SystemView Tables) (h 
       was_there : (i : ℕ) → has_cyclic id (cpu_of i m) ≡ false → Has i (cpus_with id m) → ⊥
       was_there i none has = absurd (let isnt : true ≡ false = sym (numbers_pass (has_cyclic id) i m has).1 ∙ none in cc)
 
-begun_some : (step id : ℕ) (text ns : List ℕ) (o : Outcome) → ns ≢ [] → begun plain step text id ns o ≡ told (kept step (kept_on plain id ns o.state)) o
+begun_some : (step id : ℕ) (text ns : List ℕ) (o : Outcome) → ns ≢ []
+    → begun plain step text id ns o ≡ told (kept step (kept_on plain id ns o.state)) o
 begun_some step id text [] o some = absurd (some refl)
 begun_some step id text (n ∷ ns) o some = refl
 
@@ -133,13 +144,15 @@ module _ (name : ℕ) (m : State) (v w : SystemView Tables) (sys : IsSystem v) (
   abbrev own_id : ℕ
   own_id = id_of name m
 
-  pub remove_done : (receipt : Receipt) → BeginsRemoval fires seen (id_of name m) (Ok (system.Done receipt)) v w → IsRemoved name receipt m w
+  pub remove_done : (receipt : Receipt) → BeginsRemoval fires seen (id_of name m) (Ok (system.Done receipt)) v w
+      → IsRemoved name receipt m w
   remove_done receipt (inl (e, some, answer, same)) = absurd (let isnt : Ok (system.Done receipt) ≡ Err e = answer in cc)
   remove_done receipt (inr (none, (way, u, ns, begins, answers))) =
       let o = parts own_id way m v u h (half v sys) ns begins in
       let c = came own_id way m v u h (half v sys) ns begins in
       let there = nowhere own_id receipt o.state u w c.shows c.half answers in
-      let is : (step : ℕ) (text : List ℕ) → with_answer plain step text own_id o ≡ answered step text own_id o = λ step text. ap (λ ks. begun plain step text own_id ks o) there in
+      let is : (step : ℕ) (text : List ℕ) → with_answer plain step text own_id o ≡ answered step text own_id o =
+      λ step text. ap (λ ks. begun plain step text own_id ks o) there in
       let shows = forgotten_shows own_id receipt o.state u w c.shows c.half answers in
       let expired = all_expired own_id receipt o.state u w c.shows c.half answers in
       let lost = all_lost own_id receipt o.state u w c.shows c.half answers in
@@ -154,7 +167,8 @@ module _ (name : ℕ) (m : State) (v w : SystemView Tables) (sys : IsSystem v) (
           });
           quiet = λ texts indexes step at q. ap (λ (p : Outcome). calls_of q p.acts) (is step (text_in texts name)) ∙ c.quiet q;
         };
-        line = λ texts indexes step. ap (λ (p : Outcome). p.line) (is step (text_in texts name)) ∙ (λ z. removed step (text_in texts name) (expired z - lost z));
+        line = λ texts indexes step. ap (λ (p : Outcome). p.line) (is step (text_in texts name))
+            ∙ (λ z. removed step (text_in texts name) (expired z - lost z));
         counts = λ texts indexes step. ap (λ (p : Outcome). counts_of own_id p.state) (is step (text_in texts name))
             ∙ counts_left own_id receipt o.state u w c.shows c.half answers ∙ ap (told_by receipt) (c.called own_id);
       }
@@ -165,7 +179,8 @@ module _ (name : ℕ) (m : State) (v w : SystemView Tables) (sys : IsSystem v) (
       let o = parts own_id way m v w h (half v sys) ns begins in
       let c = came own_id way m v w h (half v sys) ns begins in
       let still : cpus_with own_id o.state ≢ [] = λ e. some (sym (same_with own_id o.state w c.shows c.half.long) ∙ e) in
-      let is : (step : ℕ) (text : List ℕ) → with_answer plain step text own_id o ≡ told (kept step (kept_on plain own_id (cpus_with own_id o.state) o.state)) o =
+      let is : (step : ℕ) (text : List ℕ) → with_answer plain step text own_id o
+      ≡ told (kept step (kept_on plain own_id (cpus_with own_id o.state) o.state)) o =
       λ step text. begun_some step own_id text (cpus_with own_id o.state) o still in
       record {
         done = record {
@@ -182,11 +197,14 @@ module _ (name : ℕ) (m : State) (v w : SystemView Tables) (sys : IsSystem v) (
             ∙ ap (kept step) (kept_is own_id way m v w h (half v sys) ns begins ∙ sym is_kept);
       }
 
-  pub remove_refused : (e : Refusal) → BeginsRemoval fires seen (id_of name m) (Err e) v w → IsRefusedFor e (steps.Remove name) m w
+  pub remove_refused : (e : Refusal) → BeginsRemoval fires seen (id_of name m) (Err e) v w
+      → IsRefusedFor e (steps.Remove name) m w
   remove_refused e (inl (own, some, answer, same)) = (
     is_refused e (remove_id_refusal plain own_id m)
-        (same_whys own_id m v h sys.agrees.long ∙ some ∙ ap Some (sym (same_error SystemRemoval e own (Err e) (Err own) refl refl answer)))
-        (no_memory_else (when (is_unknown own_id m) NoCyclic) _ (no_memory_when _ NoCyclic tt) (no_memory_each (cpus_with own_id m) m)),
+        (same_whys own_id m v h sys.agrees.long ∙ some
+        ∙ ap Some (sym (same_error SystemRemoval e own (Err e) (Err own) refl refl answer)))
+        (no_memory_else (when (is_unknown own_id m) NoCyclic) _ (no_memory_when _ NoCyclic tt)
+        (no_memory_each (cpus_with own_id m) m)),
     subst (Shows m) (sym same) h,
   )
   remove_refused e (inr (none, did)) = absurd did

@@ -1,5 +1,6 @@
 -- A cyclic that has another place.
-use Rattle.std.proofs.Common.{◌≡◌, ◌≢◌, ℕ, zero, suc, ◌==◌, ◌⊎◌, inl, inr, Bool, true, false, cond, List, [], ◌∷◌, map, Some, None, refl, ap, sym, ◌∙◌, subst, arith}
+use Rattle.std.proofs.Common.{◌≡◌, ◌≢◌, ℕ, zero, suc, ◌==◌, ◌⊎◌, inl, inr, Bool, true, false, cond, List, [], ◌∷◌, map, Some}
+use Rattle.std.proofs.Common.{None, refl, ap, sym, ◌∙◌, subst, arith}
 use Rattle.std.specs.Prelude.{slice_set, Ok, Err}
 use Rattle.std.specs.List.{slice_get}
 use Rattle.std.proofs.lemmas.Option.{slice_get_within}
@@ -26,7 +27,8 @@ use Rattle.cyc_model.specs.Refusals.{or_else}
 use Rattle.cyc_model.specs.Bind.{no_cyclic, omnipresent, unbind_refusal}
 use Rattle.cyc_system_model.specs.Shown.{shown_cpus, shown_record, shown_counts, Shows, IsSystem}
 use Rattle.cyc_system_model.specs.Words.{IsDone, IsRefusedFor}
-use Rattle.cyc_system_model.proofs.Asking.{home_shown, same_no_cyclic, same_omnipresent, no_memory_when, no_memory_else, is_refused, same_error}
+use Rattle.cyc_system_model.proofs.Asking.{home_shown, same_no_cyclic, same_omnipresent, no_memory_when, no_memory_else}
+use Rattle.cyc_system_model.proofs.Asking.{is_refused, same_error}
 
 -- ---- the records
 
@@ -62,7 +64,8 @@ replaced_shown id k n b r [] rising is named = absurd (none_some is)
 replaced_shown id zero n b r (x ∷ rs) rising is named =
     let same : x ≡ r = same_some is in
     let own : x.id ≡ id = ap (λ (q : Record). q.id) same ∙ named in
-    let rest = all_others id (On n b) rs (λ j q there. let less = rising 0 (suc j) x q (omega arith) refl there in λ e. absurd (omega (arith, less, e, own))) in
+    let rest = all_others id (On n b) rs (λ j q there. let less = rising 0 (suc j) x q (omega arith) refl there in
+    λ e. absurd (omega (arith, less, e, own))) in
     (λ z. (named_so id (On n b) (shown_record x) own ∙ ap (λ (q : Record). record { id = q.id; place = On n b }) same) z ∷ rest z)
 replaced_shown id (suc k) n b r (x ∷ rs) rising is named =
     let less = rising 0 (suc k) x r (omega arith) refl is in
@@ -71,8 +74,11 @@ replaced_shown id (suc k) n b r (x ∷ rs) rising is named =
 
 -- the ended stays are as they were
 ended_same : (s : State) (v : SystemView Tables) (k n : ℕ) (b : Bool) (r : Record) → Shows s v → IsRecord v.records k r
-    → (j : ℕ) (q : Record) → IsRecord (slice_set v.records k (with_place (place.On n b) r)) j q → (m : ℕ) → s.ended q.id m ≡ shown_counts (ended_on m q)
-ended_same s v k n b r h is j q there m = dite (ℕ_discrete j k) here_so (λ ne. h.ended j q (sym (get_set_other v.records k j (with_place (place.On n b) r) ne) ∙ there) m)
+    → (j : ℕ) (q : Record) → IsRecord (slice_set v.records k (with_place (place.On n b) r)) j q → (m : ℕ)
+    → s.ended q.id m ≡ shown_counts (ended_on m q)
+ended_same s v k n b r h is j q there m =
+    dite (ℕ_discrete j k) here_so (λ ne. h.ended j q (sym (get_set_other v.records k j (with_place (place.On n b) r) ne)
+    ∙ there) m)
   where
     here_so : j ≡ k → s.ended q.id m ≡ shown_counts (ended_on m q)
     here_so e =
@@ -87,19 +93,23 @@ pub replaced_shows : (s x : State) (v w : SystemView Tables) → Shows s v → H
     → ((i m : ℕ) → x.ended i m ≡ s.ended i m) → x.last_id ≡ s.last_id → Shows x w
 replaced_shows s x v w h rising id n b (k, r, is, named, records, last) cpus placed ended gives = record {
   cpus = cpus;
-  placed = placed ∙ ap (map (replaced id (On n b))) h.placed ∙ replaced_shown id k n b r v.records rising is named ∙ sym (ap (map shown_record) records);
+  placed = placed ∙ ap (map (replaced id (On n b))) h.placed ∙ replaced_shown id k n b r v.records rising is named
+      ∙ sym (ap (map shown_record) records);
   ended = λ j q there m. ended q.id m ∙ ended_same s v k n b r h is j q (subst (λ rs. IsRecord rs j q) records there) m;
   fresh = λ i m less. ended i m ∙ h.fresh i m (omega (arith, less, gives));
   last = gives ∙ h.last ∙ sym last;
 }
 
 -- a place that is replaced twice
-pub replaced_twice : (id : ℕ) (p o : Place) (ps : List Placed) → map (replaced id p) (map (replaced id o) ps) ≡ map (replaced id p) ps
+pub replaced_twice : (id : ℕ) (p o : Place) (ps : List Placed)
+    → map (replaced id p) (map (replaced id o) ps) ≡ map (replaced id p) ps
 replaced_twice id p o [] = refl
 replaced_twice id p o (q ∷ ps) = (λ z. once (eqb_tells q.id id) z ∷ replaced_twice id p o ps z)
   where
-    once : (((q.id == id) ≡ true) × (q.id ≡ id)) ⊎ (((q.id == id) ≡ false) × (q.id ≢ id)) → replaced id p (replaced id o q) ≡ replaced id p q
-    once (inl (is, same)) = ap (replaced id p) (named_so id o q same) ∙ named_so id p (record { id = q.id; place = o }) same ∙ sym (named_so id p q same)
+    once : (((q.id == id) ≡ true) × (q.id ≡ id)) ⊎ (((q.id == id) ≡ false) × (q.id ≢ id))
+        → replaced id p (replaced id o q) ≡ replaced id p q
+    once (inl (is, same)) = ap (replaced id p) (named_so id o q same) ∙ named_so id p (record { id = q.id; place = o }) same
+        ∙ sym (named_so id p q same)
     once (inr (is, ne)) = ap (replaced id p) (named_other id o q ne)
 
 -- ---- a cyclic that is bound no more
@@ -124,9 +134,11 @@ module _ (name : ℕ) (s : State) (v w : SystemView Tables) (sys : IsSystem v) (
     quiet = λ texts indexes step at q. refl;
   }
 
-  pub unbind_refused : (e : Refusal) → Changes fires seen v (Bind (id_of name s) None (Err e)) w → IsRefusedFor e (steps.Unbind name) s w
+  pub unbind_refused : (e : Refusal) → Changes fires seen v (Bind (id_of name s) None (Err e)) w
+      → IsRefusedFor e (steps.Unbind name) s w
   unbind_refused e (inl (own, some, answer, same)) = (
-    is_refused e (unbind_refusal name s) (same_whys ∙ some ∙ ap Some (sym (same_error (Unit {0}) e own (Err e) (Err own) refl refl answer)))
+    is_refused e (unbind_refusal name s) (same_whys ∙ some
+        ∙ ap Some (sym (same_error (Unit {0}) e own (Err e) (Err own) refl refl answer)))
         (no_memory_else (no_cyclic (id_of name s) s) _ (no_memory_when _ NoCyclic tt)
         (no_memory_else (omnipresent (id_of name s) s) None (no_memory_when _ Omnipresent tt) tt)),
     subst (Shows s) (sym same) h,

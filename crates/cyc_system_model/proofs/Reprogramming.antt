@@ -22,7 +22,8 @@ use Rattle.cyc_cpu_model.specs.Answers.{IsRefused}
 use Rattle.cyc_system_model.specs.Shown.{shown_cpus, Shows, IsSystem}
 use Rattle.cyc_system_model.specs.Words.{IsMoment, IsDone, IsRefusedFor, reprograms}
 use Rattle.cyc_system_model.proofs.Cpus.{cpu_at, done_at}
-use Rattle.cyc_system_model.proofs.Asking.{home_shown, same_no_cyclic, same_omnipresent, same_no_cpu, same_offline, same_no_component, no_memory_when, no_memory_else, is_refused, later, same_error}
+use Rattle.cyc_system_model.proofs.Asking.{home_shown, same_no_cyclic, same_omnipresent, same_no_cpu, same_offline}
+use Rattle.cyc_system_model.proofs.Asking.{same_no_component, no_memory_when, no_memory_else, is_refused, later, same_error}
 use Rattle.cyc_system_model.proofs.Entering.{same_shown}
 
 -- the CPUs of a system after another moment on one of them; nothing else changed
@@ -31,13 +32,15 @@ record Moved (n id moment : ℕ) (v w : SystemView Tables) : Type 0 where
   records : w.records ≡ v.records
   last : w.last ≡ v.last
 
-moved : (n id moment : ℕ) (v w : SystemView Tables) → IsSystem v → OnlyWorks fires seen (on_cpu n (CpuReprogram id moment (Ok tt)) ∷ []) v w
+moved : (n id moment : ℕ) (v w : SystemView Tables) → IsSystem v
+    → OnlyWorks fires seen (on_cpu n (CpuReprogram id moment (Ok tt)) ∷ []) v w
     → Moved n id moment v w
 moved n id moment v w sys ((u, did, same), records, last) =
     let r = done_at n (CpuReprogram id moment (Ok tt)) v.cpus u sys.agrees.long sys.tied did in
     record { cpus = ap shown_cpus (sym same) ∙ r.cpus; records = records; last = last }
 
-moved_shown : (n m id moment own : ℕ) (s : State) (v w : SystemView Tables) → Shows s v → m ≡ n → own ≡ moment → Moved n id moment v w
+moved_shown : (n m id moment own : ℕ) (s : State) (v w : SystemView Tables) → Shows s v → m ≡ n → own ≡ moment
+    → Moved n id moment v w
     → Shows (on m (reprogram_here id own) s).state w
 moved_shown n m id moment own s v w h here is d =
     let same = same_shown s v (record w { cpus = v.cpus }) h refl d.records d.last in
@@ -54,16 +57,20 @@ later_whys cpu id s = or_else (no_cyclic id s) (first_refusal (cpu_refusals cpu 
 
 module _ (id moment : ℕ) (s : State) (v w : SystemView Tables) (sys : IsSystem v) (h : Shows s v) where
   accepted : (cpu : Option ℕ) → Changes fires seen v (reprograms cpu id moment (Ok tt)) w
-      → (later_whys cpu id s ≡ None) × ((own : ℕ) → own ≡ moment → Shows (on (cpu_meant cpu id s) (reprogram_here id own) s).state w)
+      → (later_whys cpu id s ≡ None) × ((own : ℕ) → own ≡ moment
+      → Shows (on (cpu_meant cpu id s) (reprogram_here id own) s).state w)
   accepted None (inl (e, some, answer, same)) = absurd (let isnt : Ok tt ≡ Err e = answer in cc)
   accepted None (inr (none, (n, home, (ok, did)))) = (
-    (λ z. or_else (same_no_cyclic s v h sys.agrees.long id z) (or_else (same_omnipresent s v h sys.agrees.long id z) None)) ∙ none,
-    λ own is. moved_shown n (cpu_meant None id s) id moment own s v w h (home_shown id n s v h sys.rising home) is (moved n id moment v w sys did),
+    (λ z. or_else (same_no_cyclic s v h sys.agrees.long id z) (or_else (same_omnipresent s v h sys.agrees.long id z) None))
+        ∙ none,
+    λ own is. moved_shown n (cpu_meant None id s) id moment own s v w h (home_shown id n s v h sys.rising home) is
+        (moved n id moment v w sys did),
   )
   accepted (Some n) (inl (e, some, answer, same)) = absurd (let isnt : Ok tt ≡ Err e = answer in cc)
   accepted (Some n) (inr (none, (ok, did))) = (
     (λ z. or_else (same_no_cyclic s v h sys.agrees.long id z) (or_else (same_no_cpu s v h sys.agrees.long n z)
-        (or_else (same_offline s v h sys.agrees.long n z) (or_else (same_no_component s v h sys.agrees.long id n z) None)))) ∙ none,
+        (or_else (same_offline s v h sys.agrees.long n z) (or_else (same_no_component s v h sys.agrees.long id n z) None))))
+        ∙ none,
     λ own is. moved_shown n n id moment own s v w h refl is (moved n id moment v w sys did),
   )
 
@@ -71,28 +78,35 @@ module _ (id moment : ℕ) (s : State) (v w : SystemView Tables) (sys : IsSystem
       → IsRefused e (later_whys cpu id s) × Shows s w
   refused None e (inl (own, some, answer, same)) = (
     is_refused e (later_whys None id s)
-        ((λ z. or_else (same_no_cyclic s v h sys.agrees.long id z) (or_else (same_omnipresent s v h sys.agrees.long id z) None)) ∙ some
+        ((λ z. or_else (same_no_cyclic s v h sys.agrees.long id z) (or_else (same_omnipresent s v h sys.agrees.long id z) None))
+        ∙ some
         ∙ ap Some (sym (same_error (Unit {0}) e own (Err e) (Err own) refl refl answer)))
-        (no_memory_else (no_cyclic id s) _ (no_memory_when _ NoCyclic tt) (no_memory_else (omnipresent id s) None (no_memory_when _ Omnipresent tt) tt)),
+        (no_memory_else (no_cyclic id s) _ (no_memory_when _ NoCyclic tt)
+        (no_memory_else (omnipresent id s) None (no_memory_when _ Omnipresent tt) tt)),
     subst (Shows s) (sym same) h,
   )
   refused None e (inr (none, (n, home, (ok, did)))) = absurd (let isnt : Err e ≡ Ok tt = ok in cc)
   refused (Some n) e (inl (own, some, answer, same)) = (
     is_refused e (later_whys (Some n) id s)
         ((λ z. or_else (same_no_cyclic s v h sys.agrees.long id z) (or_else (same_no_cpu s v h sys.agrees.long n z)
-        (or_else (same_offline s v h sys.agrees.long n z) (or_else (same_no_component s v h sys.agrees.long id n z) None)))) ∙ some
+        (or_else (same_offline s v h sys.agrees.long n z) (or_else (same_no_component s v h sys.agrees.long id n z) None))))
+        ∙ some
         ∙ ap Some (sym (same_error (Unit {0}) e own (Err e) (Err own) refl refl answer)))
-        (no_memory_else (no_cyclic id s) _ (no_memory_when _ NoCyclic tt) (no_memory_else (no_cpu n s) _ (no_memory_when _ NoCpu tt)
-        (no_memory_else (offline_cpu n s) _ (no_memory_when _ Offline tt) (no_memory_else (no_component id n s) None (no_memory_when _ NoCyclic tt) tt)))),
+        (no_memory_else (no_cyclic id s) _ (no_memory_when _ NoCyclic tt)
+        (no_memory_else (no_cpu n s) _ (no_memory_when _ NoCpu tt)
+        (no_memory_else (offline_cpu n s) _ (no_memory_when _ Offline tt)
+        (no_memory_else (no_component id n s) None (no_memory_when _ NoCyclic tt) tt)))),
     subst (Shows s) (sym same) h,
   )
   refused (Some n) e (inr (none, (ok, did))) = absurd (let isnt : Err e ≡ Ok tt = ok in cc)
 
-module _ (r : ReprogramStep) (moment : ℕ) (s : State) (v w : SystemView Tables) (sys : IsSystem v) (h : Shows s v) (is : IsMoment r.moment moment) where
+module _ (r : ReprogramStep) (moment : ℕ) (s : State) (v w : SystemView Tables) (sys : IsSystem v) (h : Shows s v)
+    (is : IsMoment r.moment moment) where
   no_bad_when : when (int_lt r.moment (pos 0)) BadWhen ≡ None
   no_bad_when = ap (λ b. when b BadWhen) is.0
 
-  pub reprogram_accepted : Changes fires seen v (reprograms r.cpu (id_of r.name s) moment (Ok tt)) w → IsDone (steps.Reprogram r) s w
+  pub reprogram_accepted : Changes fires seen v (reprograms r.cpu (id_of r.name s) moment (Ok tt)) w
+      → IsDone (steps.Reprogram r) s w
   reprogram_accepted did =
       let (none, shows) = accepted (id_of r.name s) moment s v w sys h r.cpu did in
       record {

@@ -1,5 +1,6 @@
 -- The memory of a CPU: no call takes from it what it has.
-use Rattle.std.proofs.Common.{◌≡◌, ◌≢◌, ℕ, zero, suc, ◌+◌, ◌≤◌, ◌^◌, Bool, true, false, cond, inl, inr, length, Some, None, pow_mono, ap, sym, ◌∙◌, subst, arith}
+use Rattle.std.proofs.Common.{◌≡◌, ◌≢◌, ℕ, zero, suc, ◌+◌, ◌≤◌, ◌^◌, Bool, true, false, cond, inl, inr, length, Some, None}
+use Rattle.std.proofs.Common.{pow_mono, ap, sym, ◌∙◌, subst, arith}
 use Rattle.std.specs.Prelude.{nat_le, slice_set, Ok, Err}
 use Rattle.std.specs.List.{slice_get}
 use Rattle.std.proofs.lemmas.Option.{slice_get_within}
@@ -16,7 +17,8 @@ use Rattle.cyc_cpu.specs.declared.removing.Removal.TheVariants.{Done, Kept}
 use Rattle.cyc_cpu.specs.Cpu.{CpuView, SameCpu, Reserves, Widens, MayWiden, size_for, bank_for, least_bank}
 use Rattle.cyc_cpu.specs.Moving.{WhyNotTaken}
 use Rattle.cyc_cpu.specs.Soft.{fires, firing_at as seen}
-use Rattle.cyc_cpu.specs.Calls.{CpuCall, Fire, SoftInterrupt, Add, Place, Reprogram, AskPending, AskTotals, AskRoom, Reserve, Widen, BeginRemove, PollRemove, TakeNow, AskSettled, Changes}
+use Rattle.cyc_cpu.specs.Calls.{CpuCall, Fire, SoftInterrupt, Add, Place, Reprogram, AskPending, AskTotals, AskRoom, Reserve}
+use Rattle.cyc_cpu.specs.Calls.{Widen, BeginRemove, PollRemove, TakeNow, AskSettled, Changes}
 use Rattle.cyc_cpus.specs.Cpus.{CpusView, IsCpu, CallOn, with_cpu, on, DoesAt}
 use Rattle.cyc_cpus.proofs.Spots.{get_set_same, cpu_beside}
 use Rattle.cyc_agreement.proofs.Spots.{same_some}
@@ -54,7 +56,8 @@ module _ {R : Type 0} (step : R → FiringCall → R → Type 0) (view : R → F
       let size = d.size in
       (omega (arith, most, room), omega (arith, low, room, size))
 
-  room_not_added : (id now : ℕ) (level : Level) (when : When) (v w : CpuView R) (e : Refusal) → Changes step view v (Add id level when now (Err e)) w
+  room_not_added : (id now : ℕ) (level : Level) (when : When) (v w : CpuView R) (e : Refusal)
+      → Changes step view v (Add id level when now (Err e)) w
       → HasAllRoom v → HasAllRoom w
   room_not_added id now level when v w why.BadNow d h = room_equal v w d.2 h
   room_not_added id now level when v w e d h = room_same v w d.2.kept h
@@ -67,7 +70,8 @@ module _ {R : Type 0} (step : R → FiringCall → R → Type 0) (view : R → F
 
   pub changes_room : (v w : CpuView R) (call : CpuCall) → Changes step view v call w → HasAllRoom v → HasAllRoom w
   changes_room v w (Add id level when now (Ok done)) (absent, early, a) h =
-      room_same a.widened w a.enters.kept (room_widened 1 a.reserved a.widened a.allowed a.widens (room_reserved 1 v a.reserved a.reserves h))
+      room_same a.widened w a.enters.kept (room_widened 1 a.reserved a.widened a.allowed a.widens
+      (room_reserved 1 v a.reserved a.reserves h))
   changes_room v w (Add id level when now (Err e)) d h = room_not_added id now level when v w e d h
   changes_room v w (Place id level interval moment carried) d h = room_same v w d.1.kept h
   changes_room v w (Reprogram id moment (Ok done)) (k, c, here, named, still, is) h =
@@ -117,7 +121,8 @@ enough_for size n room low most = pick (nat_le n size)
     pick false = let top = bank in omega (arith, top, most)
 
 -- a CPU that has the memory for all is refused none
-never_wanting : (more : ℕ) (e : Refusal) (v w : CpuView Tables) → HasAllRoom v → Changes fires seen v (Reserve more (Err e)) w → e ≢ why.Memory
+never_wanting : (more : ℕ) (e : Refusal) (v w : CpuView Tables) → HasAllRoom v → Changes fires seen v (Reserve more (Err e)) w
+    → e ≢ why.Memory
 never_wanting more e v w h d is = wants (subst (λ x. Changes fires seen v (Reserve more (Err x)) w) is d)
   where
     wants : Changes fires seen v (Reserve more (Err why.Memory)) w → ⊥
@@ -127,7 +132,8 @@ never_wanting more e v w h d is = wants (subst (λ x. Changes fires seen v (Rese
 
 -- ---- the CPUs of a system
 
-pub room_set : (n : ℕ) (x y : CpuView Tables) (v w : CpusView Tables) → IsCpu n x v → w ≡ with_cpu v n y → (HasAllRoom x → HasAllRoom y)
+pub room_set : (n : ℕ) (x y : CpuView Tables) (v w : CpusView Tables) → IsCpu n x v → w ≡ with_cpu v n y
+    → (HasAllRoom x → HasAllRoom y)
     → HaveAllRoom v → HaveAllRoom w
 room_set n x y v w here rest keeps all m cpu is = dite (ℕ_discrete m n) there
     (λ ne. all m cpu (cpu_beside n m cpu y v ne (subst (λ u. IsCpu m cpu u) rest is)))
@@ -140,8 +146,10 @@ room_set n x y v w here rest keeps all m cpu is = dite (ℕ_discrete m n) there
         subst HasAllRoom same (keeps (all n x here))
 
 pub room_did : (c : CallOn) (v w : CpusView Tables) → DoesAt fires seen v c w → HaveAllRoom v → HaveAllRoom w
-room_did c v w did = room_set c.cpu did.before did.after v w did.here did.rest (changes_room fires seen did.before did.after c.call did.change)
+room_did c v w did = room_set c.cpu did.before did.after v w did.here did.rest
+    (changes_room fires seen did.before did.after c.call did.change)
 
 -- where the memory for all is there, a CPU that has no room lacks no memory
-pub no_want : (n more : ℕ) (e : Refusal) (v w : CpusView Tables) → HaveAllRoom v → DoesAt fires seen v (on n (Reserve more (Err e))) w → e ≢ why.Memory
+pub no_want : (n more : ℕ) (e : Refusal) (v w : CpusView Tables) → HaveAllRoom v
+    → DoesAt fires seen v (on n (Reserve more (Err e))) w → e ≢ why.Memory
 no_want n more e v w all did = never_wanting more e did.before did.after (all n did.before did.here) did.change

@@ -1,5 +1,6 @@
 -- An omnipresent cyclic of a system comes where the definition puts it.
-use Rattle.std.proofs.Common.{◌≡◌, ℕ, ◌+◌, ◌<◌, inl, inr, Bool, true, false, List, [], ◌∷◌, ◌++◌, length, map, get_or, Option, Some, None, refl, ap, sym, ◌∙◌, subst, arith}
+use Rattle.std.proofs.Common.{◌≡◌, ℕ, ◌+◌, ◌<◌, inl, inr, Bool, true, false, List, [], ◌∷◌, ◌++◌, length, map, get_or, Option}
+use Rattle.std.proofs.Common.{Some, None, refl, ap, sym, ◌∙◌, subst, arith}
 use Rattle.std.specs.Prelude.{slice_set, nat_lt, not, Ok, Err, int_lt, pos}
 use Rattle.std.proofs.lemmas.List.{map-append}
 use Rattle.cyc_types.specs.declared.level.Level.{Level}
@@ -38,7 +39,8 @@ use Rattle.cyc_system_model.specs.Shown.{shown_cpus, shown_record, Shows, AreTie
 use Rattle.cyc_system_model.specs.Words.{Gives, IsSeries, ComesTo, IsDone, IsRefusedFor}
 use Rattle.cyc_system_model.proofs.Cpus.{cpu_at, done_at}
 use Rattle.cyc_system_model.proofs.Destinations.{same_numbers}
-use Rattle.cyc_system_model.proofs.Asking.{same_ids_spent, NoMemory, no_memory_when, no_memory_else, some_refused, append_none, append_some, same_error}
+use Rattle.cyc_system_model.proofs.Asking.{same_ids_spent, NoMemory, no_memory_when, no_memory_else, some_refused, append_none}
+use Rattle.cyc_system_model.proofs.Asking.{append_some, same_error}
 use Rattle.cyc_text.specs.Lines.{accepted as accepted_line}
 use Rattle.cyc_system_model.proofs.Entering.{entered, unchanged, same_shown}
 use Rattle.cyc_system_model.proofs.Adding.{one_more, ended_more}
@@ -65,9 +67,11 @@ of_series level series skew = record { level = level; start = series.start; inte
 abbrev enters : (ℕ → ℕ) → ℕ → Everywhere → List ℕ → State → Outcome
 enters indexes id e ns s = each (λ n t. enter indexes n (component id n e t.clock) t) ns s
 
-all_enter : (id : ℕ) (level : Level) (series : When) (skew now : ℕ) (ns : List ℕ) (x y : CpusView Tables) → length x.online ≡ length x.cpus → AreTied x
+all_enter : (id : ℕ) (level : Level) (series : When) (skew now : ℕ) (ns : List ℕ) (x y : CpusView Tables)
+    → length x.online ≡ length x.cpus → AreTied x
     → Works fires seen (entering_each ns id level series skew now) x y
-    → (given_there : List ℕ) × ((s : State) (indexes : ℕ → ℕ) → s.cpus ≡ shown_cpus x → s.clock ≡ now → Gives indexes s.admissions given_there
+    → (given_there : List ℕ) × ((s : State) (indexes : ℕ → ℕ) → s.cpus ≡ shown_cpus x → s.clock ≡ now
+    → Gives indexes s.admissions given_there
     → Entered given_there s (enters indexes id (of_series level series skew) ns s) y)
 all_enter id level series skew now [] x y long tied same = (
   [],
@@ -89,13 +93,19 @@ all_enter id level series skew now (n ∷ ns) x y long tied (u1, wide, (u2, put,
       λ s indexes cpus clock gives.
           let o = enter indexes n (component id n e s.clock) s in
           let at : o.state.cpus ≡ shown_cpus u2 =
-          (λ z. slice_set (cpus z) n (enter_here n (gives.0 z) (component id n e (clock z)) (get_or (cpus z) n absent)).cpu) ∙ sym own.cpus in
+          (λ z. slice_set (cpus z) n (enter_here n (gives.0 z) (component id n e (clock z)) (get_or (cpus z) n absent)).cpu)
+          ∙ sym own.cpus in
           let low : n < length s.cpus = subst (λ cs. n < length cs) (sym cpus) b.within in
-          let free : (soft : Soft) → AllCanBeAdmitted (events_at n soft (enter_here n (indexes s.admissions) (component id n e s.clock) (cpu_of n s)).acts) (level_at soft (cpu_of n s)) =
-          λ soft. subst (λ c. c) (λ z. AllCanBeAdmitted (events_at n soft (enter_here n (sym gives.0 z) (component id n e (sym clock z)) (get_or (sym cpus z) n absent)).acts)
+          let free : (soft : Soft) → AllCanBeAdmitted
+          (events_at n soft (enter_here n (indexes s.admissions) (component id n e s.clock) (cpu_of n s)).acts)
+          (level_at soft (cpu_of n s)) =
+          λ soft. subst (λ c. c) (λ z. AllCanBeAdmitted
+          (events_at n soft (enter_here n (sym gives.0 z) (component id n e (sym clock z))
+          (get_or (sym cpus z) n absent)).acts)
           (level_at soft (get_or (sym cpus z) n absent))) (own.free soft) in
           let none : (q : ℕ) → calls_of q (enter_here n (indexes s.admissions) (component id n e s.clock) (cpu_of n s)).acts ≡ 0 =
-          λ q. (λ z. calls_of q (enter_here n (gives.0 z) (component id n e (clock z)) (get_or (cpus z) n absent)).acts) ∙ own.quiet q in
+          λ q. (λ z. calls_of q (enter_here n (gives.0 z) (component id n e (clock z)) (get_or (cpus z) n absent)).acts)
+          ∙ own.quiet q in
           let f = enter_here n (indexes s.admissions) (component id n e s.clock) in
           let one : Goes s o = goes_to s (on n f s) [] o.state (refl, refl)
           (goes_on n f s (local_enter n (indexes s.admissions) (component id n e s.clock)) low free none) in
@@ -115,10 +125,16 @@ all_enter id level series skew now (n ∷ ns) x y long tied (u1, wide, (u2, put,
 
 -- ---- room on each CPU
 
-all_rooms : (ns : List ℕ) (x y : CpusView Tables) → length x.online ≡ length x.cpus → AreTied x → Works fires seen (rooms 1 ns) x y
-    → (shown_cpus y ≡ shown_cpus x) × AreTied y × (length y.online ≡ length y.cpus) × (first_refusal (map (λ n. why_no_room 1 (cpu_at x n)) ns) ≡ None)
-all_rooms [] x y long tied same =
-    (ap shown_cpus (sym same), subst AreTied same tied, subst (λ (u : CpusView Tables). length u.online ≡ length u.cpus) same long, refl)
+all_rooms : (ns : List ℕ) (x y : CpusView Tables) → length x.online ≡ length x.cpus → AreTied x
+    → Works fires seen (rooms 1 ns) x y
+    → (shown_cpus y ≡ shown_cpus x) × AreTied y × (length y.online ≡ length y.cpus)
+    × (first_refusal (map (λ n. why_no_room 1 (cpu_at x n)) ns) ≡ None)
+all_rooms [] x y long tied same = (
+  ap shown_cpus (sym same),
+  subst AreTied same tied,
+  subst (λ (u : CpusView Tables). length u.online ≡ length u.cpus) same long,
+  refl,
+)
 all_rooms (n ∷ ns) x y long tied (u, did, rest) =
     let d = done_at n (AskRoom 1 (Ok tt)) x u long tied did in
     let same = unchanged x u n d.cpus in
@@ -129,10 +145,14 @@ all_rooms (n ∷ ns) x y long tied (u, did, rest) =
       (λ z. or_else (d.answered tt z) (first_refusal (map (λ k. why_no_room 1 (get_or (sym same z) k absent)) ns))) ∙ r.3,
     )
 
-all_reserved : (ns : List ℕ) (x y : CpusView Tables) → length x.online ≡ length x.cpus → AreTied x → Works fires seen (reserves 1 ns) x y
+all_reserved : (ns : List ℕ) (x y : CpusView Tables) → length x.online ≡ length x.cpus → AreTied x
+    → Works fires seen (reserves 1 ns) x y
     → (shown_cpus y ≡ shown_cpus x) × AreTied y × (length y.online ≡ length y.cpus)
-all_reserved [] x y long tied same =
-    (ap shown_cpus (sym same), subst AreTied same tied, subst (λ (u : CpusView Tables). length u.online ≡ length u.cpus) same long)
+all_reserved [] x y long tied same = (
+  ap shown_cpus (sym same),
+  subst AreTied same tied,
+  subst (λ (u : CpusView Tables). length u.online ≡ length u.cpus) same long,
+)
 all_reserved (n ∷ ns) x y long tied (u, did, rest) =
     let d = done_at n (Reserve 1 (Ok tt)) x u long tied did in
     let r = all_reserved ns u y d.long d.tied rest in
@@ -140,7 +160,8 @@ all_reserved (n ∷ ns) x y long tied (u, did, rest) =
 
 no_room_there : (before : List ℕ) (n : ℕ) (e : Refusal) (x y : CpusView Tables) → length x.online ≡ length x.cpus → AreTied x
     → Works fires seen (rooms 1 before ++ on_cpu n (AskRoom 1 (Err e)) ∷ []) x y
-    → (shown_cpus y ≡ shown_cpus x) × ((rest : List ℕ) → first_refusal (map (λ k. why_no_room 1 (cpu_at x k)) (before ++ n ∷ rest)) ≡ Some e)
+    → (shown_cpus y ≡ shown_cpus x) × ((rest : List ℕ)
+    → first_refusal (map (λ k. why_no_room 1 (cpu_at x k)) (before ++ n ∷ rest)) ≡ Some e)
 no_room_there [] n e x y long tied (u, did, last) =
     let d = done_at n (AskRoom 1 (Err e)) x u long tied did in (
       ap shown_cpus (sym last) ∙ unchanged x u n d.cpus,
@@ -151,7 +172,8 @@ no_room_there (b ∷ before) n e x y long tied (u, did, more) =
     let same = unchanged x u b d.cpus in
     let r = no_room_there before n e u y d.long d.tied more in (
       r.0 ∙ same,
-      λ rest. (λ z. or_else (d.answered tt z) (first_refusal (map (λ k. why_no_room 1 (get_or (sym same z) k absent)) (before ++ n ∷ rest)))) ∙ r.1 rest,
+      λ rest. (λ z. or_else (d.answered tt z) (first_refusal
+          (map (λ k. why_no_room 1 (get_or (sym same z) k absent)) (before ++ n ∷ rest)))) ∙ r.1 rest,
     )
 
 no_memory_there : (before : List ℕ) (n : ℕ) (e : Refusal) (x y : CpusView Tables) → length x.online ≡ length x.cpus → AreTied x
@@ -180,7 +202,8 @@ rooms_no_memory (n ∷ ns) x = no_memory_else (why_no_room 1 (cpu_at x n)) _ (ro
 
 -- ---- the word omni
 
-module _ (a : OmniStep) (series : When) (s : State) (v w : SystemView Tables) (sys : IsSystem v) (h : Shows s v) (is : IsSeries a.start a.interval series) where
+module _ (a : OmniStep) (series : When) (s : State) (v w : SystemView Tables) (sys : IsSystem v) (h : Shows s v)
+    (is : IsSeries a.start a.interval series) where
   same_online : online_cpus s ≡ online_in v.cpus
   same_online = ap (numbers_from 0 (λ (c : Cpu). c.online)) h.cpus ∙ same_numbers 0 v.cpus.online v.cpus.cpus sys.agrees.long
 
@@ -196,12 +219,14 @@ module _ (a : OmniStep) (series : When) (s : State) (v w : SystemView Tables) (s
   asked : early ≡ or_else (bad_now s.clock) (or_else (why.ids_spent v) None)
   asked = ap (λ o. or_else (bad_now s.clock) (or_else o None)) (same_ids_spent s v h sys.agrees.long)
 
-  late : omni_refusal plain a s ≡ or_else (bad_now s.clock) (or_else (ids_spent s) (first_refusal (no_room_on_each plain (s.last_id + 1) s)))
+  late : omni_refusal plain a s ≡ or_else (bad_now s.clock)
+      (or_else (ids_spent s) (first_refusal (no_room_on_each plain (s.last_id + 1) s)))
   late = append_none (when (int_lt a.start (pos 0)) BadWhen) (when (int_lt a.interval (pos 1)) BadInterval)
       (or_else (bad_now s.clock) (or_else (ids_spent s) (first_refusal (no_room_on_each plain (s.last_id + 1) s)))) is.0
 
   only_rooms : or_else (bad_now s.clock) (or_else (why.ids_spent v) None) ≡ None → omni_refusal plain a s ≡ rooms_in
-  only_rooms none = late ∙ append_none (bad_now s.clock) (ids_spent s) (first_refusal (no_room_on_each plain (s.last_id + 1) s)) (asked ∙ none) ∙ same_rooms
+  only_rooms none = late ∙ append_none (bad_now s.clock) (ids_spent s) (first_refusal (no_room_on_each plain (s.last_id + 1) s))
+      (asked ∙ none) ∙ same_rooms
 
   -- the cyclic, as the definition has it
   abbrev own : Everywhere
@@ -213,7 +238,8 @@ module _ (a : OmniStep) (series : When) (s : State) (v w : SystemView Tables) (s
   abbrev begun : State
   begun = given a.name (OnAll (everywhere a)) s
 
-  pub omni_accepted : (id : ℕ) → Changes fires seen v (AddOmni a.level series a.skew s.clock (Ok id)) w → (id ≡ s.last_id + 1) × IsDone (steps.Omni a) s w
+  pub omni_accepted : (id : ℕ) → Changes fires seen v (AddOmni a.level series a.skew s.clock (Ok id)) w → (id ≡ s.last_id + 1)
+      × IsDone (steps.Omni a) s w
   omni_accepted id (inl (e, some, answer, same)) = absurd (let isnt : Ok id ≡ Err e = answer in cc)
   omni_accepted id (inr (none, (named, (reserved, (asked_all, roomy, taken), works), records, last))) =
       let ns = online_in v.cpus in
@@ -235,21 +261,26 @@ module _ (a : OmniStep) (series : When) (s : State) (v w : SystemView Tables) (s
               subst (λ p. ComesTo f.0 s (told (accepted_line step) p) w) (sym (same indexes)) (record {
                 shows = record {
                   cpus = d.cpus;
-                  placed = d.books.placed ∙ sym (ap (map shown_record) records ∙ map-append shown_record v.records (new_record id a.level (place.Everywhere series a.skew) ∷ [])
+                  placed = d.books.placed ∙ sym (ap (map shown_record) records
+                      ∙ map-append shown_record v.records (new_record id a.level (place.Everywhere series a.skew) ∷ [])
                       ∙ (λ z. sym h.placed z ++ record { id = gives z; place = OnAll (sym own_is z) } ∷ []));
-                  ended = λ k q2 at_k n. d.books.ended q2.id n ∙ ended_more s v id a.level (place.Everywhere series a.skew) k n q2 h gives
-                      (one_more v.records (new_record id a.level (place.Everywhere series a.skew)) k q2 (subst (λ rs. IsRecord rs k q2) records at_k));
+                  ended = λ k q2 at_k n. d.books.ended q2.id n
+                      ∙ ended_more s v id a.level (place.Everywhere series a.skew) k n q2 h gives
+                      (one_more v.records (new_record id a.level (place.Everywhere series a.skew)) k q2
+                      (subst (λ rs. IsRecord rs k q2) records at_k));
                   fresh = λ i n less. d.books.ended i n ∙ h.fresh i n (let l = d.books.last in omega (arith, less, l));
                   last = d.books.last ∙ sym (last ∙ gives);
                 };
                 admissions = d.admissions;
                 free = (goes_from s begun (there indexes) (refl, refl) d.goes).free;
               });
-          quiet = λ texts indexes step at q2. subst (λ (p : Outcome). calls_of q2 p.acts ≡ 0) (sym (same indexes)) ((done indexes at).goes.quiet q2);
+          quiet = λ texts indexes step at q2. subst (λ (p : Outcome). calls_of q2 p.acts ≡ 0) (sym (same indexes))
+              ((done indexes at).goes.quiet q2);
         },
       )
 
-  pub omni_refused : (e : Refusal) → Changes fires seen v (AddOmni a.level series a.skew s.clock (Err e)) w → IsRefusedFor e (steps.Omni a) s w
+  pub omni_refused : (e : Refusal) → Changes fires seen v (AddOmni a.level series a.skew s.clock (Err e)) w
+      → IsRefusedFor e (steps.Omni a) s w
   omni_refused e (inl (why_is, some, answer, same)) =
       let said : early ≡ Some e = asked ∙ some ∙ ap Some (sym (same_error ℕ e why_is (Err e) (Err why_is) refl refl answer)) in (
         some_refused e early (omni_refusal plain a s) said
@@ -260,8 +291,10 @@ module _ (a : OmniStep) (series : When) (s : State) (v w : SystemView Tables) (s
       )
   omni_refused e (inr (none, (inl (inl (before, n, (rest, stands), works)), records, last))) =
       let r = no_room_there before n e v.cpus w.cpus sys.agrees.long sys.tied works in
-      let said : rooms_in ≡ Some e = ap (λ ns. first_refusal (map (λ k. why_no_room 1 (cpu_at v.cpus k)) ns)) stands ∙ r.1 rest in (
-        some_refused e rooms_in (omni_refusal plain a s) said (rooms_no_memory (online_in v.cpus) v.cpus) (only_rooms none ∙ said),
+      let said : rooms_in ≡ Some e = ap (λ ns. first_refusal (map (λ k. why_no_room 1 (cpu_at v.cpus k)) ns)) stands
+      ∙ r.1 rest in (
+        some_refused e rooms_in (omni_refusal plain a s) said (rooms_no_memory (online_in v.cpus) v.cpus) (only_rooms none
+            ∙ said),
         same_shown s v w h r.0 records last,
       )
   omni_refused e (inr (none, (inl (inr (x, roomy, (memory, before, n, stands, works))), records, last))) =

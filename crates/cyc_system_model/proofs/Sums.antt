@@ -1,5 +1,6 @@
 -- Sums over CPUs, over numbers of CPUs, and over what ended stays left.
-use Rattle.std.proofs.Common.{◌≡◌, ℕ, suc, ◌+◌, ◌<◌, ◌≤◌, eq-eqb, ne_eqb, Bool, true, false, cond, List, [], ◌∷◌, length, map, get_or, sum_by, Some, None, refl, ap, sym, ◌∙◌, arith}
+use Rattle.std.proofs.Common.{◌≡◌, ℕ, suc, ◌+◌, ◌<◌, ◌≤◌, eq-eqb, ne_eqb, Bool, true, false, cond, List, [], ◌∷◌, length, map}
+use Rattle.std.proofs.Common.{get_or, sum_by, Some, None, refl, ap, sym, ◌∙◌, arith}
 use Rattle.std.proofs.lemmas.List.Sums.{sum_by-cons}
 use mathlib.Core.Logic.{dite}
 use native.Mathlib.Decide.{ℕ_discrete}
@@ -24,7 +25,8 @@ tally_none g id (c ∷ cs) none =
     let b = by (is_of id c) none (λ e. tally_none g id cs e) in
     omega (arith, a, b)
   where
-    by : (b : Bool) → cond b (Some c) (found id cs) ≡ None → (found id cs ≡ None → tally g id cs ≡ 0) → cond b (g c) 0 + tally g id cs ≡ 0
+    by : (b : Bool) → cond b (Some c) (found id cs) ≡ None → (found id cs ≡ None → tally g id cs ≡ 0)
+        → cond b (g c) 0 + tally g id cs ≡ 0
     by true e rest = absurd (let isnt : Some c ≡ None = e in cc)
     by false e rest = let r = rest e in omega (arith, r)
 
@@ -38,7 +40,8 @@ later_rise : (c : Timed) (cs : List Timed) → HasRisingIds (c ∷ cs) → HasRi
 later_rise c cs rising i j d less low = rising (suc i) (suc j) d (omega (arith, less)) (omega (arith, low))
 
 -- the ids rise: it is what the one of them has
-pub tally_one : (g : Cyclic → ℕ) (id : ℕ) (cs : List Timed) (x : Cyclic) → HasRisingIds cs → found id (map shown cs) ≡ Some x → tally g id (map shown cs) ≡ g x
+pub tally_one : (g : Cyclic → ℕ) (id : ℕ) (cs : List Timed) (x : Cyclic) → HasRisingIds cs → found id (map shown cs) ≡ Some x
+    → tally g id (map shown cs) ≡ g x
 tally_one g id [] x rising is = absurd (let isnt : None ≡ Some x = is in cc)
 tally_one g id (c ∷ cs) x rising is = dite (ℕ_discrete c.timer.id id)
     (λ e.
@@ -106,7 +109,8 @@ pub sum_ended : (g : ℕ → ℕ) (f : Sent → ℕ) (k : ℕ) (cs : List Cpu) (
 sum_ended g f k [] xs long same past = sym (none_sum f xs (λ i. past i (omega arith)))
 sum_ended g f k (c ∷ cs) [] long same past = absurd (omega (arith, long))
 sum_ended g f k (c ∷ cs) (x ∷ xs) long same past =
-    let rest = sum_ended g f (k + 1) cs xs (omega (arith, long)) (λ i. ap g (next k i) ∙ same (suc i)) (λ i low. past (suc i) (omega (arith, low))) in
+    let rest = sum_ended g f (k + 1) cs xs (omega (arith, long)) (λ i. ap g (next k i) ∙ same (suc i))
+    (λ i low. past (suc i) (omega (arith, low))) in
     let a = sum_by-cons f x xs in
     let e = sum_by-cons g k (numbers_from (k + 1) (λ (d : Cpu). true) cs) in
     let own : g k ≡ f x = ap g (sym (zero_more k)) ∙ same 0 in

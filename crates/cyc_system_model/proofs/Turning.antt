@@ -1,5 +1,6 @@
 -- The turn of one cyclic of a juggle.
-use Rattle.std.proofs.Common.{◌≡◌, ◌≢◌, ℕ, ◌+◌, ◌<◌, true, false, cond, List, [], ◌∷◌, length, map, get_or, Option, Some, refl, ap, sym, ◌∙◌, subst, arith}
+use Rattle.std.proofs.Common.{◌≡◌, ◌≢◌, ℕ, ◌+◌, ◌<◌, true, false, cond, List, [], ◌∷◌, length, map, get_or, Option, Some, refl}
+use Rattle.std.proofs.Common.{ap, sym, ◌∙◌, subst, arith}
 use Rattle.std.specs.Prelude.{slice_set, nat_lt, is_some, Err}
 use Rattle.std.specs.Option.{option_map_or}
 use Rattle.cyc_types.specs.declared.level.Soft.{Soft}
@@ -109,7 +110,8 @@ module _ (source id target : ℕ) (x : Cyclic) (indexes : ℕ → ℕ) (s : Stat
   same_middle = ap (λ cs. slice_set cs source (take_here source id (get_or cs source absent)).cpu) h.cpus ∙ sym d.left
 
   took_goes : Goes s took
-  took_goes = goes_on source (take_here source id) s (local_take source id) (subst (λ cs. source < length cs) (sym h.cpus) d.source_there)
+  took_goes = goes_on source (take_here source id) s (local_take source id)
+      (subst (λ cs. source < length cs) (sym h.cpus) d.source_there)
       (λ soft. none_admitted (take_here source id (cpu_of source s)).acts source soft _ (take_none source id (cpu_of source s)))
       (λ q. ap (λ cs. calls_of q (take_here source id (get_or cs source absent)).acts) h.cpus ∙ d.took q)
 
@@ -119,7 +121,8 @@ module _ (source id target : ℕ) (x : Cyclic) (indexes : ℕ → ℕ) (s : Stat
       let low : target < length s.cpus = subst (λ cs. target < length cs) (sym h.cpus) d.target_there in
       omega (arith, l, low)
 
-  can_enter : (soft : Soft) → AllCanBeAdmitted (events_at target soft (enter_here target (indexes s.admissions) x (cpu_of target placed)).acts)
+  can_enter : (soft : Soft) → AllCanBeAdmitted
+      (events_at target soft (enter_here target (indexes s.admissions) x (cpu_of target placed)).acts)
       (level_at soft (cpu_of target placed))
   can_enter soft = subst (λ b. b) (λ z. AllCanBeAdmitted
       (events_at target soft (enter_here target (sym is z) x (get_or (sym same_middle z) target absent)).acts)
@@ -138,14 +141,16 @@ module _ (source id target : ℕ) (x : Cyclic) (indexes : ℕ → ℕ) (s : Stat
 
   moved_shows : HasPlace id source false v → Records id (place.On target false) v w → Shows moved.state w
   moved_shows at records = replaced_shows s moved.state v w h hv.rising id target false records
-      ((λ z. slice_set (same_middle z) target (enter_here target (is z) x (get_or (same_middle z) target absent)).cpu) ∙ sym d.cpus)
+      ((λ z. slice_set (same_middle z) target (enter_here target (is z) x (get_or (same_middle z) target absent)).cpu)
+      ∙ sym d.cpus)
       (ap (λ b. map (replaced id (On target b)) s.placed) (bound_shown id source false s v h hv.rising at))
       (λ i m. refl) refl
 
 -- ---- the turn
 
 -- what the definition's turn comes to
-pub record TurnsTo (source id : ℕ) (t : TurnThere) (given : List ℕ) (indexes : ℕ → ℕ) (s : State) (w : SystemView Tables) : Type 0 where
+pub record TurnsTo (source id : ℕ) (t : TurnThere) (given : List ℕ) (indexes : ℕ → ℕ) (s : State)
+    (w : SystemView Tables) : Type 0 where
   pub target : ℕ
   pub is : turn plain source id s ≡ as_turn target t
   pub shows : Shows (take_turn indexes source id (as_turn target t) s).state w
@@ -185,7 +190,8 @@ turned source id there.StaysRefused v w hv all (at, d, dest, e, ((u1, ask, (u2, 
     let asked = unchanged v.cpus u1 source a.cpus in
     let other : e ≢ Memory = no_want d 1 e u1 u2 (room_did (on_cpu source (AskPending id (Some 0))) v.cpus u1 ask all) reserve in
     let full : is_some (why_no_room 1 (cpu_at v.cpus d)) ≡ true =
-    ap (λ cs. is_some (why_no_room 1 (get_or cs d absent))) (sym asked) ∙ refused_some e (why_no_room 1 (cpu_at u1 d)) (r.answered tt) other in (
+    ap (λ cs. is_some (why_no_room 1 (get_or cs d absent))) (sym asked)
+    ∙ refused_some e (why_no_room 1 (cpu_at u1 d)) (r.answered tt) other in (
       [],
       λ s indexes h gives. record {
         target = d;
@@ -204,7 +210,8 @@ turned source id there.Moves v w hv all (at, d, dest, (taken, works), records) =
           record {
             target = d;
             is = turn_goes source id s v h hv at g.quiet d dest ∙ ap (λ o. cond (is_some o) IsTurnedAway (Moves d)) g.room;
-            shows = subst (λ (o : Outcome). Shows o.state w) (sym same) (moved_shows source id d x indexes s v w h hv g gives.0 at records);
+            shows = subst (λ (o : Outcome). Shows o.state w) (sym same)
+                (moved_shows source id d x indexes s v w h hv g gives.0 at records);
             goes = subst (Goes s) (sym same) (moved_goes source id d x indexes s v w h hv g gives.0);
             admissions = ap (λ (o : Outcome). o.state.admissions) same;
           },

@@ -34,7 +34,8 @@ abbrev pub HasFired : {C : Type 0} → (C → ℕ → ℕ) → (n expired lost :
 HasFired count n expired lost m s t = HaveFired count (online_below n m) expired lost m s t
 
 -- the system did what the word advance does at this moment, and the line of the word tells these two numbers
-pub record IsAdvanced {C : Type 0} (count : C → ℕ → ℕ) (now expired lost : ℕ) (m : State) (s t : RunningSystem C Tables) : Type 0 where
+pub record IsAdvanced {C : Type 0} (count : C → ℕ → ℕ) (now expired lost : ℕ) (m : State)
+    (s t : RunningSystem C Tables) : Type 0 where
   pub comes : (step : ℕ) → ComesTo [] m (advance step now m) t.system
   pub line : (step : ℕ) → (advance step now m).line ≡ fired step expired lost
   pub called : (step id : ℕ) → count t.calls id ≡ count s.calls id + calls_of id (advance step now m).acts

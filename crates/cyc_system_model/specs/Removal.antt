@@ -33,7 +33,8 @@ pub record IsRemoved (name : ℕ) (receipt : Receipt) (s : State) (w : SystemVie
       ≡ removed step (text_in texts name) (receipt.sent - receipt.lost)
   -- what is left to be told of it
   pub counts : (texts : List (List ℕ)) (indexes : ℕ → ℕ) (step : ℕ)
-      → counts_of (id_of name s) (does plain texts indexes step (steps.Remove name) s).state ≡ told_by receipt (s.called (id_of name s))
+      → counts_of (id_of name s) (does plain texts indexes step (steps.Remove name) s).state
+      ≡ told_by receipt (s.called (id_of name s))
 
 -- it waits for so many calls
 pub record IsKept (name waits : ℕ) (s : State) (w : SystemView Tables) : Type 0 where

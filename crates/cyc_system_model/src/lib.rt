@@ -2,7 +2,8 @@
 //! nothing: each one's contract is a law.
 #![tactic(auto)]
 
-ghost use Rattle.std.specs.Prelude.{◌≡◌, ℕ, ◌+◌, List, [], ◌∷◌, ◌++◌, length, Option, Some, None, true, false, ◌<◌, Result, Ok, Err};
+ghost use Rattle.std.specs.Prelude.{◌≡◌, ℕ, ◌+◌, List, [], ◌∷◌, ◌++◌, length, Option, Some, None, true, false, ◌<◌, Result, Ok};
+ghost use Rattle.std.specs.Prelude.{Err};
 ghost use Rattle.cyc_types.specs.declared.moment.When.{When};
 ghost use Rattle.cyc_types.specs.declared.refusal.JuggleReport.{JuggleReport};
 ghost use Rattle.cyc_types.specs.declared.refusal.Refusal.{Refusal};
@@ -25,7 +26,8 @@ ghost use Rattle.cyc_system.specs.declared.interrupting.SoftFault.{SoftFault};
 ghost use Rattle.cyc_system.specs.declared.interrupting.SoftFault.TheVariants as fault;
 ghost use Rattle.cyc_system.specs.System.{SystemView, RunningSystem, is_online};
 ghost use Rattle.cyc_system.specs.Agreement.{Agrees, most_on};
-ghost use Rattle.cyc_system.specs.Calls.{SystemCall, Changes, Does, Add, AddOmni, Bind, BeginRemove, PollRemove, AskTotals, Juggle, Offline, Online, FireOne, SoftInterrupt, no_fire};
+ghost use Rattle.cyc_system.specs.Calls.{SystemCall, Changes, Does, Add, AddOmni, Bind, BeginRemove, PollRemove, AskTotals};
+ghost use Rattle.cyc_system.specs.Calls.{Juggle, Offline, Online, FireOne, SoftInterrupt, no_fire};
 ghost use Rattle.cyc_model.specs.State.{State, each};
 ghost use Rattle.cyc_model.specs.Places.{id_of, is_unknown};
 ghost use Rattle.cyc_model.specs.Refusals.{first_refusal, no_cpu, offline_cpu};
@@ -37,7 +39,8 @@ ghost use Rattle.cyc_system.specs.SystemTotals.{SystemTotals};
 ghost use Rattle.cyc_model.specs.Softint.{interrupt, text_of_id, poll_id, leaving_ids};
 ghost use Rattle.cyc_model.specs.Report.{counts_of};
 ghost use Rattle.cyc_model.specs.Questions.{plain};
-ghost use Rattle.cyc_system_model.specs.Removal.{told_by, told_in, answer_line, IsRemoved, IsKept, HavePolled, leaving_in, IsInterrupted};
+ghost use Rattle.cyc_system_model.specs.Removal.{told_by, told_in, answer_line, IsRemoved, IsKept, HavePolled, leaving_in};
+ghost use Rattle.cyc_system_model.specs.Removal.{IsInterrupted};
 ghost use Rattle.cyc_system_model.specs.Room.{HaveAllRoom};
 ghost use Rattle.cyc_system_model.specs.Shown.{Shows, IsSystem};
 ghost use Rattle.cyc_system_model.specs.Kept.{AreNew, new_system};
@@ -158,9 +161,9 @@ pub fn online_law()
         → Changes fires firing_at v (Online n s.clock (Err e)) w → IsRefusedFor e (steps.Online n) s w }
 {}
 
-/// A `juggle` of a system whose CPUs have memory for as many cyclics as they can have is the word `juggle`: each cyclic of the CPU
-/// that is not omnipresent has the turn that it has there, and goes where it goes there; and its report is what the word's line
-/// tells. Or both are refused, for one reason.
+/// A `juggle` of a system whose CPUs have memory for as many cyclics as they can have is the word `juggle`: each cyclic of the
+/// CPU that is not omnipresent has the turn that it has there, and goes where it goes there; and its report is what the word's
+/// line tells. Or both are refused, for one reason.
 ///
 /// It does nothing when it runs: its clauses are the law.
 pub fn juggle_law()
@@ -204,8 +207,8 @@ pub fn fire_law<C: Calls>()
         → (answer ≡ Err (no_fire e)) × (t ≡ s) }
 {}
 
-/// The fires of all online CPUs, one after the other by rising number, are the word `advance`: the clock is set; each fire that is
-/// made, and each CPU that is passed over because it is offline, comes one CPU further; and after the last CPU the system did
+/// The fires of all online CPUs, one after the other by rising number, are the word `advance`: the clock is set; each fire that
+/// is made, and each CPU that is passed over because it is offline, comes one CPU further; and after the last CPU the system did
 /// what the word does, with the sums of what the fires made and lost.
 ///
 /// It does nothing when it runs: its clauses are the law.
@@ -241,9 +244,11 @@ pub fn softint_law<C: Calls>()
 ///
 /// It does nothing when it runs: its clauses are the law.
 pub fn poll_law<C: Calls>()
-    ensures begins { (texts : List (List ℕ)) (step : ℕ) (m : State) (v : SystemView Tables) → Shows m v → HavePolled texts step [] [] m v }
+    ensures begins { (texts : List (List ℕ)) (step : ℕ) (m : State) (v : SystemView Tables) → Shows m v
+        → HavePolled texts step [] [] m v }
     ensures polls { (texts : List (List ℕ)) (step : ℕ) (ids lines : List ℕ) (id : ℕ) (answer : Option Receipt) (m : State)
-        (v w : SystemView Tables) → IsSystem v → HavePolled texts step ids lines m v → Changes fires firing_at v (PollRemove id (Ok answer)) w
+        (v w : SystemView Tables) → IsSystem v → HavePolled texts step ids lines m v
+        → Changes fires firing_at v (PollRemove id (Ok answer)) w
         → HavePolled texts step (ids ++ id ∷ []) (lines ++ answer_line step (text_of_id id texts m.names) answer) m w }
     ensures counts { (texts : List (List ℕ)) (step : ℕ) (ids lines : List ℕ) (id : ℕ) (receipt : Receipt) (m : State)
         (v w : SystemView Tables) → IsSystem v → HavePolled texts step ids lines m v

@@ -1,5 +1,6 @@
 -- An advance is one fire after another.
-use Rattle.std.proofs.Common.{◌≡◌, ℕ, zero, suc, ◌+◌, ◌<◌, inr, Bool, true, false, not, List, [], ◌∷◌, ◌++◌, map, length, slice_set, Option, Some, None, Result, refl, sym, ap, ◌∙◌, subst, arith, append_assoc}
+use Rattle.std.proofs.Common.{◌≡◌, ℕ, zero, suc, ◌+◌, ◌<◌, inr, Bool, true, false, not, List, [], ◌∷◌, ◌++◌, map, length}
+use Rattle.std.proofs.Common.{slice_set, Option, Some, None, Result, refl, sym, ap, ◌∙◌, subst, arith, append_assoc}
 use Rattle.std.specs.List.{slice_get, FoldsTo}
 use Rattle.std.specs.Option.{option_map_or}
 use Rattle.std.proofs.lemmas.List.{length-append}
@@ -51,7 +52,8 @@ module _ {C R : Type 0} (called : C → ℕ → Level → C → Type 0) (count :
     pub after_is : slice_get leads' n ≡ Some after
     pub fires : FiresIf called count may_refuse step view up now (running before.calls x) answer (running after.calls y)
 
-  fires_one : (pre xs : List (CpuView R)) (x y : CpuView R) (l m : Lead C) (answer : Result Fired FireRefused) → slice_get online (length pre) ≡ Some true →
+  fires_one : (pre xs : List (CpuView R)) (x y : CpuView R) (l m : Lead C) (answer : Result Fired FireRefused)
+      → slice_get online (length pre) ≡ Some true →
       slice_get leads (length pre) ≡ Some l → slice_get leads' (length pre) ≡ Some m →
       Does called count may_refuse step view no_interrupts (running l.calls x) (Fire now answer) (running m.calls y) →
       D (sys (pre ++ x ∷ xs)) (record { cpu = length pre; answer = answer }) (sys (pre ++ y ∷ xs))
@@ -82,10 +84,13 @@ module _ {C R : Type 0} (called : C → ℕ → Level → C → Type 0) (count :
       }
 
   abbrev From : ℕ → List Bool → List (CpuView R) → List (CpuView R) → Type 0
-  From n ups cpus cpus' = (fires : List FireOn) × FoldsTo D (sys cpus) fires (sys cpus') × (map (λ f. f.cpu) fires ≡ numbers_from n ups)
+  From n ups cpus cpus' = (fires : List FireOn) × FoldsTo D (sys cpus) fires (sys cpus')
+      × (map (λ f. f.cpu) fires ≡ numbers_from n ups)
 
-  one_more : (up : Bool) (ups : List Bool) (pre xs ys : List (CpuView R)) (x y : CpuView R) → slice_get online (length pre) ≡ Some up → At (length pre) up x y →
-      From (length pre + 1) ups ((pre ++ y ∷ []) ++ xs) ((pre ++ y ∷ []) ++ ys) → From (length pre) (up ∷ ups) (pre ++ x ∷ xs) (pre ++ y ∷ ys)
+  one_more : (up : Bool) (ups : List Bool) (pre xs ys : List (CpuView R)) (x y : CpuView R)
+      → slice_get online (length pre) ≡ Some up → At (length pre) up x y →
+      From (length pre + 1) ups ((pre ++ y ∷ []) ++ xs) ((pre ++ y ∷ []) ++ ys)
+      → From (length pre) (up ∷ ups) (pre ++ x ∷ xs) (pre ++ y ∷ ys)
   one_more up ups pre xs ys x y on at rest = by up at.answer on at.fires
     where
       then : FoldsTo D (sys (pre ++ y ∷ xs)) rest.0 (sys (pre ++ y ∷ ys))
@@ -93,7 +98,8 @@ module _ {C R : Type 0} (called : C → ℕ → Level → C → Type 0) (count :
           (subst (λ cpus. FoldsTo D (sys ((pre ++ y ∷ []) ++ xs)) rest.0 (sys cpus)) (append_assoc pre (y ∷ []) ys) rest.1)
 
       by : (b : Bool) (o : Option (Result Fired FireRefused)) → slice_get online (length pre) ≡ Some b →
-          FiresIf called count may_refuse step view b now (running at.before.calls x) o (running at.after.calls y) → From (length pre) (b ∷ ups) (pre ++ x ∷ xs) (pre ++ y ∷ ys)
+          FiresIf called count may_refuse step view b now (running at.before.calls x) o (running at.after.calls y)
+          → From (length pre) (b ∷ ups) (pre ++ x ∷ xs) (pre ++ y ∷ ys)
       by true (Some answer) on f = (
         record { cpu = length pre; answer = answer } ∷ rest.0,
         (sys (pre ++ y ∷ xs), fires_one pre xs x y at.before at.after answer on at.before_is at.after_is f, then),
@@ -101,11 +107,17 @@ module _ {C R : Type 0} (called : C → ℕ → Level → C → Type 0) (count :
       )
       by true None on f = absurd f
       by false (Some answer) on f = absurd f
-      by false None on f = (rest.0, subst (λ (z : CpuView R). FoldsTo D (sys (pre ++ z ∷ xs)) rest.0 (sys (pre ++ y ∷ ys))) (ap (λ (r : Running C R). r.cpu) f) then, rest.2)
+      by false None on f = (
+        rest.0,
+        subst (λ (z : CpuView R). FoldsTo D (sys (pre ++ z ∷ xs)) rest.0 (sys (pre ++ y ∷ ys)))
+            (ap (λ (r : Running C R). r.cpu) f) then,
+        rest.2,
+      )
 
   from : (ups : List Bool) (pre xs ys : List (CpuView R)) → length xs ≡ length ups → length ys ≡ length ups →
       ((i : ℕ) → slice_get online (length pre + i) ≡ slice_get ups i) →
-      ((i : ℕ) (up : Bool) (x y : CpuView R) → slice_get ups i ≡ Some up → slice_get xs i ≡ Some x → slice_get ys i ≡ Some y → At (length pre + i) up x y) →
+      ((i : ℕ) (up : Bool) (x y : CpuView R) → slice_get ups i ≡ Some up → slice_get xs i ≡ Some x → slice_get ys i ≡ Some y
+      → At (length pre + i) up x y) →
       From (length pre) ups (pre ++ xs) (pre ++ ys)
   from [] pre [] [] a b on each = ([], refl, refl)
   from [] pre (x ∷ xs) ys a b on each = absurd (omega (arith, a))
@@ -116,7 +128,8 @@ module _ {C R : Type 0} (called : C → ℕ → Level → C → Type 0) (count :
       let long : length (pre ++ y ∷ []) ≡ length pre + 1 = length-append pre (y ∷ []) in
       let nil : length pre + 0 ≡ length pre = omega arith in
       let next = λ (i : ℕ). (let e : length (pre ++ y ∷ []) + i ≡ length pre + suc i = omega (arith, long) in e) in
-      one_more up ups pre xs ys x y (ap (slice_get online) (sym nil) ∙ on 0) (subst (λ n. At n up x y) nil (each 0 up x y refl refl refl))
+      one_more up ups pre xs ys x y (ap (slice_get online) (sym nil) ∙ on 0)
+      (subst (λ n. At n up x y) nil (each 0 up x y refl refl refl))
       (subst (λ n. From n ups ((pre ++ y ∷ []) ++ xs) ((pre ++ y ∷ []) ++ ys)) long
       (from ups (pre ++ y ∷ []) xs ys (omega (arith, a)) (omega (arith, b))
       (λ i. ap (slice_get online) (next i) ∙ on (suc i))
@@ -124,11 +137,13 @@ module _ {C R : Type 0} (called : C → ℕ → Level → C → Type 0) (count :
 
 module _ {C R : Type 0} (called : C → ℕ → Level → C → Type 0) (count : C → ℕ → ℕ) (may_refuse : C → ℕ → Type 0)
     (step : R → FiringCall → R → Type 0) (view : R → FiringView) where
-  pub are_fires : (now : ℕ) (a : SystemSide R C) (b : Advanced R C) → Agrees a.system → length a.leads.items ≡ length a.system.cpus.cpus →
+  pub are_fires : (now : ℕ) (a : SystemSide R C) (b : Advanced R C) → Agrees a.system
+      → length a.leads.items ≡ length a.system.cpus.cpus →
       AllFire called count may_refuse step view now a b → IsFires called count may_refuse step view now a b
   are_fires now a b agrees many f =
       let long = agrees.long in let long' = f.long in let leads' = f.long_leads in let answers = f.long_answers in
-      let made = from called count may_refuse step view a.leads.items b.side.leads.items now a.system.cpus.online a.system.records a.system.last
+      let made = from called count may_refuse step view a.leads.items b.side.leads.items now a.system.cpus.online a.system.records
+      a.system.last
       a.system.cpus.online [] a.system.cpus.cpus b.side.system.cpus.cpus (sym long) (f.long ∙ sym long)
       (λ i. ap (slice_get a.system.cpus.online) (let e : 0 + i ≡ i = omega arith in e))
       (λ i up x y p q r.
@@ -147,7 +162,13 @@ module _ {C R : Type 0} (called : C → ℕ → Level → C → Type 0) (count :
       }) in
       record {
         fires = made.0;
-        made = subst (λ (t : SystemView R). FoldsTo (FiresOne called count may_refuse step view a.leads.items b.side.leads.items now) a.system made.0 t)
-            (λ z. record { cpus = record { cpus = b.side.system.cpus.cpus; online = sym f.online z }; records = sym f.records z; last = sym f.last z }) made.1;
+        made = subst (λ (t : SystemView R). FoldsTo
+            (FiresOne called count may_refuse step view a.leads.items b.side.leads.items now) a.system made.0 t)
+            (λ z. record {
+              cpus = record { cpus = b.side.system.cpus.cpus; online = sym f.online z };
+              records =
+                  sym f.records z;
+              last = sym f.last z;
+            }) made.1;
         all = made.2;
       }

@@ -1,5 +1,6 @@
 -- Lanes beside each other, and what they make of a system.
-use Rattle.std.proofs.Common.{◌≡◌, ℕ, zero, suc, ◌<◌, Bool, true, false, List, [], ◌∷◌, map, length, slice_index_or, Option, Some, None, Result, sym, ap, ◌∙◌, subst, arith}
+use Rattle.std.proofs.Common.{◌≡◌, ℕ, zero, suc, ◌<◌, Bool, true, false, List, [], ◌∷◌, map, length, slice_index_or, Option, Some}
+use Rattle.std.proofs.Common.{None, Result, sym, ap, ◌∙◌, subst, arith}
 use Rattle.std.specs.List.{slice_get}
 use Rattle.std.proofs.lemmas.Option.{slice_get_within, same_Some, get_or_from_slice_get}
 use Rattle.std.proofs.lemmas.List.{length-map}
@@ -25,7 +26,8 @@ get_map f (a ∷ xs) zero x e = ap (λ y. Some (f y)) (same_Some a x e)
 get_map f (a ∷ xs) (suc n) x e = get_map f xs n x e
 
 -- the element of which this is made
-get_from : {A B : Type 0} (f : A → B) (xs : List A) (n : ℕ) (y : B) → slice_get (map f xs) n ≡ Some y → (x : A) × (slice_get xs n ≡ Some x) × (y ≡ f x)
+get_from : {A B : Type 0} (f : A → B) (xs : List A) (n : ℕ) (y : B) → slice_get (map f xs) n ≡ Some y → (x : A)
+    × (slice_get xs n ≡ Some x) × (y ≡ f x)
 get_from f xs n y e =
     let low = slice_get_within (map f xs) n y e in let long = length-map xs f in
     let x = get_some xs n (omega (arith, low, long)) in
@@ -38,18 +40,21 @@ module _ {C R : Type 0} (called : C → ℕ → Level → C → Type 0) (count :
   EachFires lanes after = (k : ℕ) (l : Lane R C) (a : LaneAfter R C) → k < length lanes →
       LaneFires called count may_refuse step view now (slice_index_or lanes k l) (slice_index_or after k a)
 
-  lane_at : (lanes : List (Lane R C)) (after : List (LaneAfter R C)) (n : ℕ) (l : Lane R C) (a : LaneAfter R C) → EachFires lanes after →
+  lane_at : (lanes : List (Lane R C)) (after : List (LaneAfter R C)) (n : ℕ) (l : Lane R C) (a : LaneAfter R C)
+      → EachFires lanes after →
       slice_get lanes n ≡ Some l → slice_get after n ≡ Some a → LaneFires called count may_refuse step view now l a
   lane_at lanes after n l a each at at' =
       subst (λ x. LaneFires called count may_refuse step view now l x) (get_or_from_slice_get after n a a at')
-      (subst (λ x. LaneFires called count may_refuse step view now x (slice_index_or after n a)) (get_or_from_slice_get lanes n l l at)
+      (subst (λ x. LaneFires called count may_refuse step view now x (slice_index_or after n a))
+      (get_or_from_slice_get lanes n l l at)
       (each n l a (slice_get_within lanes n l at)))
 
   back_if : (up : Bool) (s t : Running C R) (answer : Option (Result Fired FireRefused)) →
       ((x : CpuView R) → ComesBack view x x) →
       ((s t : Running C R) (now : ℕ) (answer : Result Fired FireRefused) → IsLawful view s.cpu → IsLawful view t.cpu →
       Does called count may_refuse step view no_interrupts s (Fire now answer) t → ComesBack view s.cpu t.cpu) →
-      IsLawful view s.cpu → IsLawful view t.cpu → FiresIf called count may_refuse step view up now s answer t → ComesBack view s.cpu t.cpu
+      IsLawful view s.cpu → IsLawful view t.cpu → FiresIf called count may_refuse step view up now s answer t
+      → ComesBack view s.cpu t.cpu
   back_if true s t (Some answer) same fired law law' f = fired s t now answer law law' f
   back_if true s t None same fired law law' f = absurd f
   back_if false s t (Some answer) same fired law law' f = absurd f
@@ -60,49 +65,69 @@ module _ {C R : Type 0} (called : C → ℕ → Level → C → Type 0) (count :
       ((x : CpuView R) → ComesBack view x x) →
       ((s t : Running C R) (now : ℕ) (answer : Result Fired FireRefused) → IsLawful view s.cpu → IsLawful view t.cpu →
       Does called count may_refuse step view no_interrupts s (Fire now answer) t → ComesBack view s.cpu t.cpu) →
-      (n : ℕ) (x y : CpuView R) → slice_get (map (λ (l : Lane R C). l.hard) lanes) n ≡ Some x → slice_get (map (λ (l : LaneAfter R C). l.hard) after) n ≡ Some y →
+      (n : ℕ) (x y : CpuView R) → slice_get (map (λ (l : Lane R C). l.hard) lanes) n ≡ Some x
+      → slice_get (map (λ (l : LaneAfter R C). l.hard) after) n ≡ Some y →
       ComesBack view x y
   comes_back lanes after each same fired n x y at at' =
-      let l = get_from (λ (l : Lane R C). l.hard) lanes n x at in let a = get_from (λ (l : LaneAfter R C). l.hard) after n y at' in
+      let l = get_from (λ (l : Lane R C). l.hard) lanes n x at in let a = get_from (λ (l : LaneAfter R C). l.hard) after n y at'
+      in
       let f = lane_at lanes after n l.0 a.0 each l.1 a.1 in
-      let back = back_if l.0.online (running l.0.lead.calls l.0.hard) (running a.0.lead.calls a.0.hard) a.0.answer same fired f.before f.after f.fires in
+      let back = back_if l.0.online (running l.0.lead.calls l.0.hard)
+      (running a.0.lead.calls a.0.hard) a.0.answer same fired f.before f.after f.fires in
       subst (λ z. ComesBack view z y) (sym l.2) (subst (λ z. ComesBack view l.0.hard z) (sym a.2) back)
 
   pub one_fires : (lanes : List (Lane R C)) (after : List (LaneAfter R C)) → EachFires lanes after →
       (n : ℕ) (up : Bool) (x y : CpuView R) (l m : Lead C) (answer : Option (Result Fired FireRefused)) →
       slice_get (map (λ (l : Lane R C). l.online) lanes) n ≡ Some up →
-      slice_get (map (λ (l : Lane R C). l.hard) lanes) n ≡ Some x → slice_get (map (λ (l : LaneAfter R C). l.hard) after) n ≡ Some y →
-      slice_get (map (λ (l : Lane R C). l.lead) lanes) n ≡ Some l → slice_get (map (λ (l : LaneAfter R C). l.lead) after) n ≡ Some m →
+      slice_get (map (λ (l : Lane R C). l.hard) lanes) n ≡ Some x
+      → slice_get (map (λ (l : LaneAfter R C). l.hard) after) n ≡ Some y →
+      slice_get (map (λ (l : Lane R C). l.lead) lanes) n ≡ Some l
+      → slice_get (map (λ (l : LaneAfter R C). l.lead) after) n ≡ Some m →
       slice_get (map (λ (l : LaneAfter R C). l.answer) after) n ≡ Some answer →
       FiresIf called count may_refuse step view up now (running l.calls x) answer (running m.calls y)
   one_fires lanes after each n up x y l m answer at_up at_x at_y at_l at_m at_answer =
-      let p = get_from (λ (l : Lane R C). l.hard) lanes n x at_x in let q = get_from (λ (l : LaneAfter R C). l.hard) after n y at_y in
+      let p = get_from (λ (l : Lane R C). l.hard) lanes n x at_x in let q =
+      get_from (λ (l : LaneAfter R C). l.hard) after n y at_y in
       let f = lane_at lanes after n p.0 q.0 each p.1 q.1 in
-      let up_is : p.0.online ≡ up = same_Some p.0.online up (sym (get_map (λ (l : Lane R C). l.online) lanes n p.0 p.1) ∙ at_up) in
+      let up_is : p.0.online ≡ up = same_Some p.0.online up (sym (get_map (λ (l : Lane R C). l.online) lanes n p.0 p.1) ∙ at_up)
+      in
       let l_is : p.0.lead ≡ l = same_Some p.0.lead l (sym (get_map (λ (l : Lane R C). l.lead) lanes n p.0 p.1) ∙ at_l) in
       let m_is : q.0.lead ≡ m = same_Some q.0.lead m (sym (get_map (λ (l : LaneAfter R C). l.lead) after n q.0 q.1) ∙ at_m) in
-      let answer_is : q.0.answer ≡ answer = same_Some q.0.answer answer (sym (get_map (λ (l : LaneAfter R C). l.answer) after n q.0 q.1) ∙ at_answer) in
+      let answer_is : q.0.answer ≡ answer = same_Some q.0.answer answer
+      (sym (get_map (λ (l : LaneAfter R C). l.answer) after n q.0 q.1) ∙ at_answer) in
       subst (λ u. FiresIf called count may_refuse step view u now (running l.calls x) answer (running m.calls y)) up_is
       (subst (λ o. FiresIf called count may_refuse step view p.0.online now (running l.calls x) o (running m.calls y)) answer_is
-      (subst (λ (z : Lead C). FiresIf called count may_refuse step view p.0.online now (running z.calls x) q.0.answer (running m.calls y)) l_is
-      (subst (λ (z : Lead C). FiresIf called count may_refuse step view p.0.online now (running p.0.lead.calls x) q.0.answer (running z.calls y)) m_is
-      (subst (λ z. FiresIf called count may_refuse step view p.0.online now (running p.0.lead.calls z) q.0.answer (running q.0.lead.calls y)) (sym p.2)
-      (subst (λ z. FiresIf called count may_refuse step view p.0.online now (running p.0.lead.calls p.0.hard) q.0.answer (running q.0.lead.calls z)) (sym q.2) f.fires)))))
+      (subst (λ (z : Lead C). FiresIf called count may_refuse step view p.0.online now (running z.calls x) q.0.answer
+      (running m.calls y)) l_is
+      (subst (λ (z : Lead C). FiresIf called count may_refuse step view p.0.online now (running p.0.lead.calls x) q.0.answer
+      (running z.calls y)) m_is
+      (subst (λ z. FiresIf called count may_refuse step view p.0.online now (running p.0.lead.calls z) q.0.answer
+      (running q.0.lead.calls y)) (sym p.2)
+      (subst (λ z. FiresIf called count may_refuse step view p.0.online now (running p.0.lead.calls p.0.hard) q.0.answer
+      (running q.0.lead.calls z)) (sym q.2) f.fires)))))
 
   -- all of them together
-  pub all_fire : (a : SystemSide R C) (b : Advanced R C) (lanes : List (Lane R C)) (after : List (LaneAfter R C)) → EachFires lanes after → length after ≡ length lanes →
-      b.side.system.records ≡ a.system.records → b.side.system.last ≡ a.system.last → b.side.system.cpus.online ≡ a.system.cpus.online →
-      map (λ (l : Lane R C). l.hard) lanes ≡ a.system.cpus.cpus → map (λ (l : Lane R C). l.lead) lanes ≡ a.leads.items → map (λ (l : Lane R C). l.online) lanes ≡ a.system.cpus.online →
-      b.side.system.cpus.cpus ≡ map (λ (l : LaneAfter R C). l.hard) after → b.side.leads.items ≡ map (λ (l : LaneAfter R C). l.lead) after →
+  pub all_fire : (a : SystemSide R C) (b : Advanced R C) (lanes : List (Lane R C)) (after : List (LaneAfter R C))
+      → EachFires lanes after → length after ≡ length lanes →
+      b.side.system.records ≡ a.system.records → b.side.system.last ≡ a.system.last
+      → b.side.system.cpus.online ≡ a.system.cpus.online →
+      map (λ (l : Lane R C). l.hard) lanes ≡ a.system.cpus.cpus → map (λ (l : Lane R C). l.lead) lanes ≡ a.leads.items
+      → map (λ (l : Lane R C). l.online) lanes ≡ a.system.cpus.online →
+      b.side.system.cpus.cpus ≡ map (λ (l : LaneAfter R C). l.hard) after
+      → b.side.leads.items ≡ map (λ (l : LaneAfter R C). l.lead) after →
       b.answers.items ≡ map (λ (l : LaneAfter R C). l.answer) after → AllFire called count may_refuse step view now a b
   all_fire a b lanes after each long records last online hards leads ups hards' leads' answers = record {
     records = records;
     last = last;
     online = online;
-    long = ap (λ l. length l) hards' ∙ length-map after (λ (l : LaneAfter R C). l.hard) ∙ long ∙ sym (length-map lanes (λ (l : Lane R C). l.hard)) ∙ ap (λ l. length l) hards;
-    long_leads = ap (λ l. length l) leads' ∙ length-map after (λ (l : LaneAfter R C). l.lead) ∙ long ∙ sym (length-map lanes (λ (l : Lane R C). l.lead)) ∙ ap (λ l. length l) leads;
-    long_answers = ap (λ l. length l) answers ∙ length-map after (λ (l : LaneAfter R C). l.answer) ∙ long ∙ sym (length-map lanes (λ (l : Lane R C). l.hard)) ∙ ap (λ l. length l) hards;
+    long = ap (λ l. length l) hards' ∙ length-map after (λ (l : LaneAfter R C). l.hard) ∙ long
+        ∙ sym (length-map lanes (λ (l : Lane R C). l.hard)) ∙ ap (λ l. length l) hards;
+    long_leads = ap (λ l. length l) leads' ∙ length-map after (λ (l : LaneAfter R C). l.lead) ∙ long
+        ∙ sym (length-map lanes (λ (l : Lane R C). l.lead)) ∙ ap (λ l. length l) leads;
+    long_answers = ap (λ l. length l) answers ∙ length-map after (λ (l : LaneAfter R C). l.answer) ∙ long
+        ∙ sym (length-map lanes (λ (l : Lane R C). l.hard)) ∙ ap (λ l. length l) hards;
     each = λ n up x y l m answer at_up at_x at_y at_l at_m at_answer. one_fires lanes after each n up x y l m answer
         (ap (λ z. slice_get z n) ups ∙ at_up) (ap (λ z. slice_get z n) hards ∙ at_x) (sym (ap (λ z. slice_get z n) hards') ∙ at_y)
-        (ap (λ z. slice_get z n) leads ∙ at_l) (sym (ap (λ z. slice_get z n) leads') ∙ at_m) (sym (ap (λ z. slice_get z n) answers) ∙ at_answer);
+        (ap (λ z. slice_get z n) leads ∙ at_l) (sym (ap (λ z. slice_get z n) leads') ∙ at_m)
+        (sym (ap (λ z. slice_get z n) answers) ∙ at_answer);
   }

@@ -19,9 +19,9 @@ pub struct Advanced<R: Raise, C> {
     pub answers: Vec<Option<Result<Fired, FireRefused>>>,
 }
 
-/// Makes every expiration that is due on each online CPU, all CPUs at once (`cyclic_fire` of cyclic.c runs on each CPU by itself):
-/// the firing sides leave the system, each fires in a thread of its own where one can be made, and all come back. Each CPU's
-/// draining workers are woken as it has fired.
+/// Makes every expiration that is due on each online CPU, all CPUs at once (`cyclic_fire` of cyclic.c runs on each CPU by
+/// itself): the firing sides leave the system, each fires in a thread of its own where one can be made, and all come back. Each
+/// CPU's draining workers are woken as it has fired.
 ///
 /// Its memory may be refused; the system is then dropped.
 pub fn advance<W: Threads + Sync, R: Raise + Send + Drop, C: Calls + Send + Drop>(

@@ -119,7 +119,8 @@ pub(crate) fn fire_lanes<W: Threads + Sync, R: Raise + Send + Drop, C: Calls + S
     now: Moment,
 ) -> Result<Vec<LaneAfter<R, C>>, AllocError>
     ensures len { IfOk result (λ v. length v.items ≡ length lanes.items) }
-    ensures each { IfOk result (λ v. (k : ℕ) (l : OneLane _ _) (a : OneAfter _ _) → k < length lanes.items → LaneFires C.called C.count C.may_refuse R.step R.view now (slice_index_or lanes.items k l) (slice_index_or v.items k a)) }
+    ensures each { IfOk result (λ v. (k : ℕ) (l : OneLane _ _) (a : OneAfter _ _) → k < length lanes.items
+        → LaneFires C.called C.count C.may_refuse R.step R.view now (slice_index_or lanes.items k l) (slice_index_or v.items k a)) }
 {
     thread::map_vec(rt, lanes, &|lane| fire_lane(lane, now))
 }

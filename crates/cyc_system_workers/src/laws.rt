@@ -14,6 +14,8 @@ use cyc_types::{Calls, Raise};
 ///
 /// It does nothing when it runs: its clause is the law.
 pub fn advance_law<C: Calls, R: Raise>()
-    ensures { (now : ℕ) (a : SystemSide R C) (b : Advanced R C) → Agrees a.system → length a.leads.items ≡ length a.system.cpus.cpus
-        → AllFire C.called C.count C.may_refuse R.step R.view now a b → IsFires C.called C.count C.may_refuse R.step R.view now a b }
+    ensures { (now : ℕ) (a : SystemSide R C) (b : Advanced R C) → Agrees a.system
+        → length a.leads.items ≡ length a.system.cpus.cpus
+        → AllFire C.called C.count C.may_refuse R.step R.view now a b
+        → IsFires C.called C.count C.may_refuse R.step R.view now a b }
 {}

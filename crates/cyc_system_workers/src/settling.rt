@@ -19,8 +19,8 @@ pub struct Asked<R: Raise, C> {
     pub refused: Option<CyclicId>,
 }
 
-/// Waits until every CPU of a system has settled, or a handler has refused: then no step of the system is put off. Nothing is done
-/// to it but to ask its CPUs. It takes no memory.
+/// Waits until every CPU of a system has settled, or a handler has refused: then no step of the system is put off. Nothing is
+/// done to it but to ask its CPUs. It takes no memory.
 pub fn settle<W: Wait, R: Raise, C: Calls>(
     rt: &W,
     side: SystemSide<R, C>,

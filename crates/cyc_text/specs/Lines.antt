@@ -13,7 +13,8 @@ refused step number = decimal step ++ (codes " refused " ++ (decimal number ++ c
 
 -- an advance of the clock: the expirations that it made, and those of them that were lost
 unfoldable pub fired : ℕ → ℕ → ℕ → List ℕ
-fired step expired lost = decimal step ++ (codes " fired " ++ (decimal expired ++ (codes " lost " ++ (decimal lost ++ codes "\n"))))
+fired step expired lost = decimal step ++ (codes " fired "
+    ++ (decimal expired ++ (codes " lost " ++ (decimal lost ++ codes "\n"))))
 
 -- a soft interrupt found nothing more to do, or used up its budget
 abbrev pub ending : Bool → List ℕ
@@ -33,7 +34,9 @@ kept step calls = decimal step ++ (codes " kept " ++ (decimal calls ++ codes "\n
 
 -- what became of the cyclics of a CPU, after a verb
 abbrev pub shared : ℕ → List ℕ → JuggleReport → List ℕ
-shared step verb r = decimal step ++ (verb ++ (decimal r.moved ++ (codes " bound " ++ (decimal r.bound ++ (codes " pending " ++ (decimal r.pending ++ (codes " refused " ++ (decimal r.refused ++ codes "\n"))))))))
+shared step verb r = decimal step ++ (verb
+    ++ (decimal r.moved ++ (codes " bound " ++ (decimal r.bound
+    ++ (codes " pending " ++ (decimal r.pending ++ (codes " refused " ++ (decimal r.refused ++ codes "\n"))))))))
 
 -- a juggle
 unfoldable pub moved : ℕ → JuggleReport → List ℕ
@@ -45,4 +48,6 @@ cyclics_left step r = shared step (codes " left moved ") r
 
 -- the report of a name: its expirations, and of them the calls made, lost and outstanding
 unfoldable pub reported : List ℕ → Counts → List ℕ
-reported name c = name ++ (codes " expired " ++ (decimal c.expired ++ (codes " called " ++ (decimal c.called ++ (codes " lost " ++ (decimal c.lost ++ (codes " pending " ++ (decimal c.pending ++ codes "\n"))))))))
+reported name c = name ++ (codes " expired "
+    ++ (decimal c.expired ++ (codes " called "
+    ++ (decimal c.called ++ (codes " lost " ++ (decimal c.lost ++ (codes " pending " ++ (decimal c.pending ++ codes "\n"))))))))

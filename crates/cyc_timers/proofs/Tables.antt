@@ -1,11 +1,13 @@
 -- Lemmas on a table: what a place, an index and the root have, and what a change at one index leaves.
-use Rattle.std.proofs.Common.{◌≡◌, ◌≢◌, ℕ, suc, ◌<◌, ◌≤◌, ◌⊎◌, inl, inr, cond, List, [], ◌∷◌, Option, Some, None, refl, sym, ap, ◌∙◌, subst, arith, length, get_or, map, All, count_by, option_map}
+use Rattle.std.proofs.Common.{◌≡◌, ◌≢◌, ℕ, suc, ◌<◌, ◌≤◌, ◌⊎◌, inl, inr, cond, List, [], ◌∷◌, Option, Some, None, refl, sym, ap}
+use Rattle.std.proofs.Common.{◌∙◌, subst, arith, length, get_or, map, All, count_by, option_map}
 use Rattle.std.proofs.Math.ListN.{set}
 use Rattle.std.specs.Prelude.{is_some, IfSome}
 use Rattle.cyc_heap.specs.Heap as heap
 use Rattle.cyc_heap.specs.Heap.{HeapView, IsLeast, with_moment}
 use Rattle.std.proofs.lemmas.Bool.{cases_lt, cases_eq}
-use Rattle.std.proofs.lemmas.List.{get_or_past, get_or-map, get_or_default, same_lists, length-map, length-set, get_or-set_same, get_or-set_other, set-get_or}
+use Rattle.std.proofs.lemmas.List.{get_or_past, get_or-map, get_or_default, same_lists, length-map, length-set, get_or-set_same}
+use Rattle.std.proofs.lemmas.List.{get_or-set_other, set-get_or}
 use Rattle.std.proofs.lemmas.List.Sums.{sum_by-set}
 use Rattle.cyc_types.specs.Series.{never}
 use Rattle.cyc_heap.specs.Expirations.{Expiration, is_before, next_of}
@@ -13,7 +15,9 @@ use Rattle.cyc_heap.specs.Timers.{Timer, IsSound}
 use Rattle.cyc_finder.specs.Sorted.{IsAt, IsGap}
 use Rattle.cyc_timers.specs.declared.table.Place.{Place}
 use Rattle.cyc_timers.specs.declared.table.Record.{Record}
-use Rattle.cyc_timers.specs.Rows.{Row, no_record, id_in, moment_in, joined, row_of, rows_of, timers_of, IsTable, IsRow, IsRising, HasDistinctIndexes, IsFirstAt, IsRecordOf, at_moment, with_record, with_counts, TableView, Cyclic, cyclic_of, cyclics_of, HasNo}
+use Rattle.cyc_timers.specs.Rows.{Row, no_record, id_in, moment_in, joined, row_of, rows_of, timers_of, IsTable, IsRow, IsRising}
+use Rattle.cyc_timers.specs.Rows.{HasDistinctIndexes, IsFirstAt, IsRecordOf, at_moment, with_record, with_counts, TableView}
+use Rattle.cyc_timers.specs.Rows.{Cyclic, cyclic_of, cyclics_of, HasNo}
 
 abbrev pub no_place : Place
 no_place = record { id = 1; index = 0 }
@@ -26,7 +30,8 @@ slot_low slots i e h = elim (cases_lt i (length slots)) [
 ]
 
 -- what stands at a place: its row is what heap and record of its index are together
-pub record Standing (slots : List (Option Expiration)) (records : List Record) (places : List Place) (k : ℕ) (r : Row) : Type 0 where
+pub record Standing (slots : List (Option Expiration)) (records : List Record) (places : List Place) (k : ℕ)
+    (r : Row) : Type 0 where
   pub p : Place
   pub low : k < length places
   pub is : (d : Place) → get_or places k d ≡ p
@@ -35,7 +40,8 @@ pub record Standing (slots : List (Option Expiration)) (records : List Record) (
   pub holds : get_or slots p.index None ≡ Some (record { moment = m; id = p.id })
   pub below : p.index < length slots
 
-pub standing : (slots : List (Option Expiration)) (records : List Record) (places : List Place) (k : ℕ) (r : Row) → IsTable slots records places → IsRow (rows_of slots records places) k r → Standing slots records places k r
+pub standing : (slots : List (Option Expiration)) (records : List Record) (places : List Place) (k : ℕ) (r : Row)
+    → IsTable slots records places → IsRow (rows_of slots records places) k r → Standing slots records places k r
 standing slots records places k r t is =
     let low : k < length places = (let l = length-map places (row_of slots records) in let w = is.0 in omega (arith, l, w)) in
     let (m, holds) = t.named k no_place low in
@@ -50,23 +56,28 @@ standing slots records places k r t is =
     }
 
 -- the row at a place
-pub row_at : (slots : List (Option Expiration)) (records : List Record) (places : List Place) (k : ℕ) (d : Row) → k < length places → get_or (rows_of slots records places) k d ≡ row_of slots records (get_or places k no_place)
+pub row_at : (slots : List (Option Expiration)) (records : List Record) (places : List Place) (k : ℕ) (d : Row)
+    → k < length places → get_or (rows_of slots records places) k d ≡ row_of slots records (get_or places k no_place)
 row_at slots records places k d low = get_or-map (row_of slots records) places k no_place d low
 
 -- different places have different ids, and so different indexes
-pub apart : (slots : List (Option Expiration)) (records : List Record) (places : List Place) (i j : ℕ) → IsTable slots records places → i < length places → j < length places → i ≢ j →
+pub apart : (slots : List (Option Expiration)) (records : List Record) (places : List Place) (i j : ℕ)
+    → IsTable slots records places → i < length places → j < length places → i ≢ j →
     (get_or places i no_place).id ≢ (get_or places j no_place).id
 apart slots records places i j t low_i low_j ne same = elim (cases_lt i j) [
   | inl less ↦ let r = t.rising i j no_place less low_j in absurd (omega (arith, r, same))
   | inr more ↦ let r = t.rising j i no_place (omega (arith, more, ne)) low_i in absurd (omega (arith, r, same))
 ]
 
-pub apart_index : (slots : List (Option Expiration)) (records : List Record) (places : List Place) (i j : ℕ) → IsTable slots records places → i < length places → j < length places → i ≢ j →
+pub apart_index : (slots : List (Option Expiration)) (records : List Record) (places : List Place) (i j : ℕ)
+    → IsTable slots records places → i < length places → j < length places → i ≢ j →
     (get_or places i no_place).index ≢ (get_or places j no_place).index
 apart_index slots records places i j t low_i low_j ne same =
     let (m, holds) = t.named i no_place low_i in
     let (n, holds') = t.named j no_place low_j in
-    let one : Some (record { moment = m; id = (get_or places i no_place).id }) ≡ Some (record { moment = n; id = (get_or places j no_place).id }) = sym holds ∙ ap (λ x. get_or slots x None) same ∙ holds' in
+    let one : Some (record { moment = m; id = (get_or places i no_place).id })
+    ≡ Some (record { moment = n; id = (get_or places j no_place).id }) = sym holds ∙ ap (λ x. get_or slots x None) same
+    ∙ holds' in
     apart slots records places i j t low_i low_j ne (id_of _ _ one)
   where
     id_of : (a b : Expiration) → Some a ≡ Some b → a.id ≡ b.id
@@ -77,12 +88,15 @@ apart_index slots records places i j t low_i low_j ne same =
         id_in (Some e) = e.id
 
 -- a list mapped two ways that agree at each element
-pub map_same : {X Y : Type 0} (f g : X → Y) (xs : List X) (d : X) → ((k : ℕ) → k < length xs → f (get_or xs k d) ≡ g (get_or xs k d)) → map f xs ≡ map g xs
+pub map_same : {X Y : Type 0} (f g : X → Y) (xs : List X) (d : X)
+    → ((k : ℕ) → k < length xs → f (get_or xs k d) ≡ g (get_or xs k d)) → map f xs ≡ map g xs
 map_same f g [] d h = refl
-map_same f g (x ∷ xs) d h = (let first = h 0 (omega arith) in let rest = map_same f g xs d (λ k low. h (suc k) (omega (arith, low))) in λ i. first i ∷ rest i)
+map_same f g (x ∷ xs) d h = (let first = h 0 (omega arith) in let rest =
+    map_same f g xs d (λ k low. h (suc k) (omega (arith, low))) in λ i. first i ∷ rest i)
 
 -- the rows after a change of the heap and the record at one index
-pub changed : (slots : List (Option Expiration)) (records : List Record) (places : List Place) (k : ℕ) (r : Row) (s : Standing slots records places k r) (m : ℕ) (kept : Record) → IsTable slots records places →
+pub changed : (slots : List (Option Expiration)) (records : List Record) (places : List Place) (k : ℕ) (r : Row)
+    (s : Standing slots records places k r) (m : ℕ) (kept : Record) → IsTable slots records places →
     rows_of (set slots s.p.index (Some (record { moment = m; id = s.p.id }))) (set records s.p.index kept) places
     ≡ set (rows_of slots records places) k (joined s.p.id s.p.index (Some (record { moment = m; id = s.p.id })) kept)
 changed slots records places k r s m kept t =
@@ -103,16 +117,20 @@ changed slots records places k r s m kept t =
           let there = get_or-set_same slots i e None s.below in
           let kept_there = get_or-set_same records i kept no_record (let l = t.long in let b = s.below in omega (arith, l, b)) in
           at ∙ ap f here ∙ (λ x. joined s.p.id i (there x) (kept_there x))
-          ∙ sym (get_or-set_same old k new d (let b = s.low in omega (arith, long_old, b))) ∙ ap (λ x. get_or (set old k new) x d) (sym same)
+          ∙ sym (get_or-set_same old k new d (let b = s.low in omega (arith, long_old, b)))
+          ∙ ap (λ x. get_or (set old k new) x d) (sym same)
       | inr ne ↦
           let p = get_or places j no_place in
-          let far : p.index ≢ i = λ q. apart_index slots records places j k t low s.low ne (q ∙ ap (λ (x : Place). x.index) (sym (s.is no_place))) in
-          at ∙ (λ x. joined p.id p.index (get_or-set_other slots i p.index e None far x) (get_or-set_other records i p.index kept no_record far x))
+          let far : p.index ≢ i = λ q. apart_index slots records places j k t low s.low ne
+          (q ∙ ap (λ (x : Place). x.index) (sym (s.is no_place))) in
+          at ∙ (λ x. joined p.id p.index (get_or-set_other slots i p.index e None far x)
+          (get_or-set_other records i p.index kept no_record far x))
           ∙ sym (row_at slots records places j d low) ∙ sym (get_or-set_other old k j new d ne)
     ])
 
 -- a slot after a change of one index
-pub slot_changed : (slots : List (Option Expiration)) (i j : ℕ) (o e : Option Expiration) → i < length slots → get_or (set slots i o) j None ≡ e → ((j ≡ i) × (o ≡ e)) ⊎ ((j ≢ i) × (get_or slots j None ≡ e))
+pub slot_changed : (slots : List (Option Expiration)) (i j : ℕ) (o e : Option Expiration) → i < length slots
+    → get_or (set slots i o) j None ≡ e → ((j ≡ i) × (o ≡ e)) ⊎ ((j ≢ i) × (get_or slots j None ≡ e))
 slot_changed slots i j o e low h = elim (cases_eq j i) [
   | inl same ↦ inl (same, sym (get_or-set_same slots i o None low) ∙ ap (λ x. get_or (set slots i o) x None) (sym same) ∙ h)
   | inr ne ↦ inr (ne, sym (get_or-set_other slots i j o None ne) ∙ h)
@@ -121,14 +139,16 @@ slot_changed slots i j o e low h = elim (cases_eq j i) [
 abbrev pub tally : Option Expiration → ℕ
 tally o = cond (is_some o) 1 0
 
-count_same : (slots : List (Option Expiration)) (i : ℕ) (e f : Expiration) → get_or slots i None ≡ Some e → count_by is_some (set slots i (Some f)) ≡ count_by is_some slots
+count_same : (slots : List (Option Expiration)) (i : ℕ) (e f : Expiration) → get_or slots i None ≡ Some e
+    → count_by is_some (set slots i (Some f)) ≡ count_by is_some slots
 count_same slots i e f h =
     let s = sum_by-set tally slots i (Some f) None (slot_low slots i e h) in
     let was : tally (get_or slots i None) ≡ 1 = ap tally h in
     omega (arith, s, was)
 
 -- a table stays one after such a change
-pub table_changed : (slots : List (Option Expiration)) (records : List Record) (places : List Place) (k : ℕ) (r : Row) (s : Standing slots records places k r) (m : ℕ) (kept : Record) → IsTable slots records places →
+pub table_changed : (slots : List (Option Expiration)) (records : List Record) (places : List Place) (k : ℕ) (r : Row)
+    (s : Standing slots records places k r) (m : ℕ) (kept : Record) → IsTable slots records places →
     m ≤ never → 0 < kept.interval → kept.interval ≤ never →
     IsTable (set slots s.p.index (Some (record { moment = m; id = s.p.id }))) (set records s.p.index kept) places
 table_changed slots records places k r s m kept t low_m some most =
@@ -138,26 +158,34 @@ table_changed slots records places k r s m kept t low_m some most =
       rising = t.rising;
       named = λ j d low. elim (cases_eq j k) [
         | inl same ↦
-            let here : get_or places j d ≡ s.p = ap (λ x. get_or places x d) same ∙ s.is d in
-            (m, ap (λ (p : Place). get_or (set slots i (Some new)) p.index None) here ∙ get_or-set_same slots i (Some new) None s.below ∙ ap (λ (p : Place). Some (record { moment = m; id = p.id })) (sym here))
+            let here : get_or places j d ≡ s.p = ap (λ x. get_or places x d) same ∙ s.is d in (
+              m,
+              ap (λ (p : Place). get_or (set slots i (Some new)) p.index None) here
+                  ∙ get_or-set_same slots i (Some new) None s.below
+                  ∙ ap (λ (p : Place). Some (record { moment = m; id = p.id })) (sym here),
+            )
         | inr ne ↦
             let (n, holds) = t.named j d low in
             let same_d = get_or_default places j d no_place low in
-            let far : (get_or places j d).index ≢ i = λ q. apart_index slots records places j k t low s.low ne (ap (λ (x : Place). x.index) (sym same_d) ∙ q ∙ ap (λ (x : Place). x.index) (sym (s.is no_place))) in
+            let far : (get_or places j d).index ≢ i =
+            λ q. apart_index slots records places j k t low s.low ne (ap (λ (x : Place). x.index) (sym same_d) ∙ q
+            ∙ ap (λ (x : Place). x.index) (sym (s.is no_place))) in
             (n, get_or-set_other slots i (get_or places j d).index (Some new) None far ∙ holds)
       ];
       covered = λ j e h. elim (slot_changed slots i j (Some new) (Some e) s.below h) [
         | inl (same, is) ↦ (k, s.low, λ d. ap (λ (x : Place). x.index) (s.is d) ∙ sym same)
         | inr (ne, is) ↦ t.covered j e is
       ];
-      long = (let a = length-set records i kept in let b = length-set slots i (Some new) in let c = t.long in omega (arith, a, b, c));
+      long = (let a = length-set records i kept in let b = length-set slots i (Some new) in let c = t.long in
+          omega (arith, a, b, c));
       len = count_same slots i _ new s.holds ∙ t.len;
       moments = λ j e h. elim (slot_changed slots i j (Some new) (Some e) s.below h) [
         | inl (same, is) ↦ subst (λ (x : Expiration). x.moment ≤ never) (some_is new e is) low_m
         | inr (ne, is) ↦ t.moments j e is
       ];
       intervals = λ j d low. elim (cases_eq j i) [
-        | inl same ↦ (let at = ap (λ x. get_or (set records i kept) x d) same ∙ get_or-set_same records i kept d (let l = t.long in let b = s.below in omega (arith, l, b)) in
+        | inl same ↦ (let at = ap (λ x. get_or (set records i kept) x d) same
+            ∙ get_or-set_same records i kept d (let l = t.long in let b = s.below in omega (arith, l, b)) in
             subst (λ (x : Record). (0 < x.interval) × (x.interval ≤ never)) (sym at) (some, most))
         | inr ne ↦ (let at = get_or-set_other records i j kept d ne in let l = length-set records i kept in
             subst (λ (x : Record). (0 < x.interval) × (x.interval ≤ never)) (sym at) (t.intervals j d (omega (arith, low, l))))
@@ -168,11 +196,13 @@ table_changed slots records places k r s m kept t low_m some most =
     some_is a b h = cc
 
 -- what is read at the index of a place is what is kept of its row
-pub kept_at : (slots : List (Option Expiration)) (records : List Record) (places : List Place) (k : ℕ) (r : Row) (s : Standing slots records places k r) → IsTable slots records places →
+pub kept_at : (slots : List (Option Expiration)) (records : List Record) (places : List Place) (k : ℕ) (r : Row)
+    (s : Standing slots records places k r) → IsTable slots records places →
     (i : ℕ) (kept : Record) → s.p.index ≡ i → kept ≡ get_or records i kept → IsRecordOf kept r
 kept_at slots records places k r s t i kept same is =
     let low : i < length records = (let l = t.long in let b = s.below in omega (arith, l, b, same)) in
-    let at : kept ≡ get_or records s.p.index no_record = is ∙ get_or_default records i kept no_record low ∙ ap (λ n. get_or records n no_record) (sym same) in
+    let at : kept ≡ get_or records s.p.index no_record = is ∙ get_or_default records i kept no_record low
+    ∙ ap (λ n. get_or records n no_record) (sym same) in
     let row = sym s.row in (
       ap (λ (x : Record). x.level) at ∙ ap (λ (x : Row). x.timer.level) row,
       ap (λ (x : Record). x.interval) at ∙ ap (λ (x : Row). x.timer.interval) row,
@@ -182,9 +212,16 @@ kept_at slots records places k r s t i kept same is =
     )
 
 -- the row with other counts, where the rest of its record is kept
-pub counted : (r : Row) (m e l : ℕ) (kept : Record) → IsRecordOf kept r → with_record m (record kept { expired = e; lost = l }) r ≡ with_counts m e l r
+pub counted : (r : Row) (m e l : ℕ) (kept : Record) → IsRecordOf kept r
+    → with_record m (record kept { expired = e; lost = l }) r ≡ with_counts m e l r
 counted r m e l kept (level, interval, expired, lost, carried) =
-    λ j. record { timer = record { id = r.timer.id; level = level j; interval = interval j; moment = m; expired = e }; lost = l; carried = carried j; index = r.index }
+    λ j. record {
+      timer = record { id = r.timer.id; level = level j; interval = interval j; moment = m; expired = e };
+      lost =
+          l;
+      carried = carried j;
+      index = r.index;
+    }
 
 -- what is left of a slot that gets another moment
 pub moved : (slots new : List (Option Expiration)) (i m id n : ℕ) → get_or slots i None ≡ Some (record { moment = m; id = id }) →
@@ -192,7 +229,8 @@ pub moved : (slots new : List (Option Expiration)) (i m id n : ℕ) → get_or s
 moved slots new i m id n h is = is ∙ ap (λ o. set slots i (option_map (heap.at_moment n) o)) h
 
 -- what is left of the slots where the root gets another moment
-pub lowered : (root : Option ℕ) (slots new : List (Option Expiration)) (found i m id n : ℕ) → root ≡ Some found → i ≡ found → get_or slots i None ≡ Some (record { moment = m; id = id }) →
+pub lowered : (root : Option ℕ) (slots new : List (Option Expiration)) (found i m id n : ℕ) → root ≡ Some found → i ≡ found
+    → get_or slots i None ≡ Some (record { moment = m; id = id }) →
     IfSome root (λ index. new ≡ with_moment slots index n) → new ≡ set slots i (Some (record { moment = n; id = id }))
 lowered root slots new found i m id n at same h is =
     let told : new ≡ with_moment slots found n = subst (λ o. IfSome o (λ index. new ≡ with_moment slots index n)) at is in
@@ -203,11 +241,17 @@ pub one_slot : (a b : Expiration) (o : Option Expiration) → o ≡ Some a → o
 one_slot a b o h k = cc
 
 -- the row of a place
-pub is_row : (slots : List (Option Expiration)) (records : List Record) (places : List Place) (k : ℕ) → k < length places → IsRow (rows_of slots records places) k (row_of slots records (get_or places k no_place))
-is_row slots records places k low = (let l = length-map places (row_of slots records) in omega (arith, l, low), row_at slots records places k _ low)
+pub is_row : (slots : List (Option Expiration)) (records : List Record) (places : List Place) (k : ℕ) → k < length places
+    → IsRow (rows_of slots records places) k (row_of slots records (get_or places k no_place))
+is_row slots records places k low = (
+  let l = length-map places (row_of slots records) in
+      omega (arith, l, low),
+  row_at slots records places k _ low,
+)
 
 -- the timer of a row
-pub timer_of_row : (rows : List Row) (k : ℕ) (d : Timer) (e : Row) → k < length rows → get_or (timers_of rows) k d ≡ (get_or rows k e).timer
+pub timer_of_row : (rows : List Row) (k : ℕ) (d : Timer) (e : Row) → k < length rows
+    → get_or (timers_of rows) k d ≡ (get_or rows k e).timer
 timer_of_row rows k d e low =
     let l = length-map rows cyclic_of in
     get_or-map (λ (c : Cyclic). c.timer) (cyclics_of rows) k (cyclic_of (get_or rows k e)) d (omega (arith, l, low))
@@ -217,18 +261,24 @@ pub timers_long : (rows : List Row) → length (timers_of rows) ≡ length rows
 timers_long rows = length-map (cyclics_of rows) (λ (c : Cyclic). c.timer) ∙ length-map rows cyclic_of
 
 -- the timer of a place
-pub timer_at : (slots : List (Option Expiration)) (records : List Record) (places : List Place) (k : ℕ) (d : Timer) → k < length places → get_or (timers_of (rows_of slots records places)) k d ≡ (row_of slots records (get_or places k no_place)).timer
+pub timer_at : (slots : List (Option Expiration)) (records : List Record) (places : List Place) (k : ℕ) (d : Timer)
+    → k < length places → get_or (timers_of (rows_of slots records places)) k d
+    ≡ (row_of slots records (get_or places k no_place)).timer
 timer_at slots records places k d low =
     let r = row_of slots records (get_or places k no_place) in
     let l = length-map places (row_of slots records) in
-    timer_of_row (rows_of slots records places) k d r (omega (arith, l, low)) ∙ ap (λ (x : Row). x.timer) (row_at slots records places k r low)
+    timer_of_row (rows_of slots records places) k d r (omega (arith, l, low))
+    ∙ ap (λ (x : Row). x.timer) (row_at slots records places k r low)
 
-rows_long : (slots : List (Option Expiration)) (records : List Record) (places : List Place) → length (timers_of (rows_of slots records places)) ≡ length places
+rows_long : (slots : List (Option Expiration)) (records : List Record) (places : List Place)
+    → length (timers_of (rows_of slots records places)) ≡ length places
 rows_long slots records places = timers_long (rows_of slots records places) ∙ length-map places (row_of slots records)
 
 -- what the heap says of its root, said of the rows
-pub root_is : (h : HeapView) (records : List Record) (places : List Place) → IsTable h.slots records places → (o : Option (ℕ × ℕ × ℕ)) → IfSome o (λ found. IsLeast h found.0 (record { moment = found.1; id = found.2 })) →
-    IfSome o (λ found. (k : ℕ) × (r : Row) × IsRow (rows_of h.slots records places) k r × (r.index ≡ found.0) × (r.timer.moment ≡ found.1) × (r.timer.id ≡ found.2) × IsFirstAt (rows_of h.slots records places) k)
+pub root_is : (h : HeapView) (records : List Record) (places : List Place) → IsTable h.slots records places
+    → (o : Option (ℕ × ℕ × ℕ)) → IfSome o (λ found. IsLeast h found.0 (record { moment = found.1; id = found.2 })) →
+    IfSome o (λ found. (k : ℕ) × (r : Row) × IsRow (rows_of h.slots records places) k r × (r.index ≡ found.0)
+    × (r.timer.moment ≡ found.1) × (r.timer.id ≡ found.2) × IsFirstAt (rows_of h.slots records places) k)
 root_is h records places t None is = tt
 root_is h records places t (Some found) is =
     let slots = h.slots in
@@ -251,14 +301,17 @@ root_is h records places t (Some found) is =
           let q = get_or places j no_place in
           let (n, there) = t.named j no_place low' in
           let before = is.least q.index (record { moment = n; id = q.id }) there in
-          let left : next_of (get_or (timers_of (rows_of slots records places)) k d) ≡ e = ap next_of (timer_at slots records places k d low) ∙ (λ i. record { moment = moment i; id = id i }) in
+          let left : next_of (get_or (timers_of (rows_of slots records places)) k d) ≡ e =
+          ap next_of (timer_at slots records places k d low) ∙ (λ i. record { moment = moment i; id = id i }) in
           let right : next_of (get_or (timers_of (rows_of slots records places)) j d) ≡ record { moment = n; id = q.id } =
           ap next_of (timer_at slots records places j d low') ∙ (λ i. record { moment = moment_in (there i); id = q.id }) in
-          ap (λ (x : Expiration). is_before x (next_of (get_or (timers_of (rows_of slots records places)) j d))) left ∙ ap (is_before e) right ∙ before,
+          ap (λ (x : Expiration). is_before x (next_of (get_or (timers_of (rows_of slots records places)) j d))) left
+          ∙ ap (is_before e) right ∙ before,
     )
 
 -- what is true of every table
-pub rows_rise : (slots : List (Option Expiration)) (records : List Record) (places : List Place) → IsTable slots records places → IsRising (rows_of slots records places)
+pub rows_rise : (slots : List (Option Expiration)) (records : List Record) (places : List Place) → IsTable slots records places
+    → IsRising (rows_of slots records places)
 rows_rise slots records places t i j d less low =
     let l = length-map places (row_of slots records) in
     let low_j : j < length places = omega (arith, l, low) in
@@ -267,16 +320,22 @@ rows_rise slots records places t i j d less low =
     let r = t.rising i j no_place less low_j in
     omega (arith, a, b, r)
 
-pub indexes_apart : (slots : List (Option Expiration)) (records : List Record) (places : List Place) → IsTable slots records places → HasDistinctIndexes (rows_of slots records places)
+pub indexes_apart : (slots : List (Option Expiration)) (records : List Record) (places : List Place)
+    → IsTable slots records places → HasDistinctIndexes (rows_of slots records places)
 indexes_apart slots records places t i j d low_i low_j same =
     let l = length-map places (row_of slots records) in
     let low_i' : i < length places = omega (arith, l, low_i) in
     let low_j' : j < length places = omega (arith, l, low_j) in
     let a = ap (λ (x : Row). x.index) (row_at slots records places i d low_i') in
     let b = ap (λ (x : Row). x.index) (row_at slots records places j d low_j') in
-    elim (cases_eq i j) [ inl eq ↦ eq | inr ne ↦ absurd (apart_index slots records places i j t low_i' low_j' ne (sym a ∙ same ∙ b)) ]
+    elim (cases_eq i j) [
+      | inl eq ↦ eq
+      | inr ne ↦ absurd
+          (apart_index slots records places i j t low_i' low_j' ne (sym a ∙ same ∙ b))
+    ]
 
-pub indexes_low : (slots : List (Option Expiration)) (records : List Record) (places : List Place) → IsTable slots records places → All (λ r. r.index < length slots) (rows_of slots records places)
+pub indexes_low : (slots : List (Option Expiration)) (records : List Record) (places : List Place) → IsTable slots records places
+    → All (λ r. r.index < length slots) (rows_of slots records places)
 indexes_low slots records places t k d low =
     let l = length-map places (row_of slots records) in
     let low' : k < length places = omega (arith, l, low) in
@@ -285,7 +344,8 @@ indexes_low slots records places t k d low =
     let a = ap (λ (x : Row). x.index) (row_at slots records places k d low') in
     omega (arith, a, b)
 
-pub timers_sound : (slots : List (Option Expiration)) (records : List Record) (places : List Place) → IsTable slots records places → All IsSound (timers_of (rows_of slots records places))
+pub timers_sound : (slots : List (Option Expiration)) (records : List Record) (places : List Place) → IsTable slots records places
+    → All IsSound (timers_of (rows_of slots records places))
 timers_sound slots records places t k d low =
     let low' : k < length places = (let l = rows_long slots records places in omega (arith, l, low)) in
     let p = get_or places k no_place in
@@ -297,40 +357,49 @@ timers_sound slots records places t k d low =
     subst IsSound (sym (timer_at slots records places k d low')) (record { moment = moment; some = i.0; most = i.1 })
 
 -- the rows where one cyclic gets another moment
-pub replaced : (slots new : List (Option Expiration)) (records : List Record) (places : List Place) (k : ℕ) (r : Row) (s : Standing slots records places k r) (m : ℕ) → IsTable slots records places →
+pub replaced : (slots new : List (Option Expiration)) (records : List Record) (places : List Place) (k : ℕ) (r : Row)
+    (s : Standing slots records places k r) (m : ℕ) → IsTable slots records places →
     new ≡ with_moment slots s.p.index m → rows_of new records places ≡ set (rows_of slots records places) k (at_moment m r)
 replaced slots new records places k r s m t is =
     let kept = get_or records s.p.index no_record in
     ap (λ xs. rows_of xs records places) (moved slots new s.p.index s.m s.p.id m s.holds is)
-    ∙ ap (λ xs. rows_of (set slots s.p.index (Some (record { moment = m; id = s.p.id }))) xs places) (sym (set-get_or records s.p.index no_record))
+    ∙ ap (λ xs. rows_of (set slots s.p.index (Some (record { moment = m; id = s.p.id }))) xs places)
+    (sym (set-get_or records s.p.index no_record))
     ∙ changed slots records places k r s m kept t
     ∙ ap (λ x. set (rows_of slots records places) k (at_moment m x)) (sym s.row)
 
-pub table_replaced : (slots new : List (Option Expiration)) (records : List Record) (places : List Place) (k : ℕ) (r : Row) (s : Standing slots records places k r) (m : ℕ) → IsTable slots records places → m ≤ never →
+pub table_replaced : (slots new : List (Option Expiration)) (records : List Record) (places : List Place) (k : ℕ) (r : Row)
+    (s : Standing slots records places k r) (m : ℕ) → IsTable slots records places → m ≤ never →
     new ≡ with_moment slots s.p.index m → IsTable new records places
 table_replaced slots new records places k r s m t low is =
     let kept = get_or records s.p.index no_record in
     let i = t.intervals s.p.index no_record (let l = t.long in let b = s.below in omega (arith, l, b)) in
     subst (λ xs. IsTable xs records places) (sym (moved slots new s.p.index s.m s.p.id m s.holds is))
-    (subst (λ xs. IsTable (set slots s.p.index (Some (record { moment = m; id = s.p.id }))) xs places) (set-get_or records s.p.index no_record)
+    (subst (λ xs. IsTable (set slots s.p.index (Some (record { moment = m; id = s.p.id }))) xs places)
+    (set-get_or records s.p.index no_record)
     (table_changed slots records places k r s m kept t low i.0 i.1))
 
 -- what stands at a place
-pub standing_at : (slots : List (Option Expiration)) (records : List Record) (places : List Place) (k : ℕ) → IsTable slots records places → k < length places →
+pub standing_at : (slots : List (Option Expiration)) (records : List Record) (places : List Place) (k : ℕ)
+    → IsTable slots records places → k < length places →
     Standing slots records places k (row_of slots records (get_or places k no_place))
 standing_at slots records places k t low = standing slots records places k _ t (is_row slots records places k low)
 
-pub place_low : (v : TableView) (slots : List (Option Expiration)) (records : List Record) (places : List Place) (k : ℕ) → rows_of slots records places ≡ v.rows → k < length v.rows → k < length places
-place_low v slots records places k is low = (let l = length-map places (row_of slots records) in let e = ap length is in omega (arith, l, e, low))
+pub place_low : (v : TableView) (slots : List (Option Expiration)) (records : List Record) (places : List Place) (k : ℕ)
+    → rows_of slots records places ≡ v.rows → k < length v.rows → k < length places
+place_low v slots records places k is low =
+    (let l = length-map places (row_of slots records) in let e = ap length is in omega (arith, l, e, low))
 
 -- where the id stands its row is
-pub row_here : (slots : List (Option Expiration)) (records : List Record) (places : List Place) (id q : ℕ) → IsAt id_in places id q →
+pub row_here : (slots : List (Option Expiration)) (records : List Record) (places : List Place) (id q : ℕ)
+    → IsAt id_in places id q →
     (r : Row) × IsRow (rows_of slots records places) q r × (r.timer.id ≡ id)
 row_here slots records places id q at =
     (row_of slots records (get_or places q no_place), is_row slots records places q at.in_range, at.has_id no_place)
 
 -- where the id would stand no row has it
-pub no_row : (slots : List (Option Expiration)) (records : List Record) (places : List Place) (id q : ℕ) → IsGap id_in places id q → HasNo id (rows_of slots records places)
+pub no_row : (slots : List (Option Expiration)) (records : List Record) (places : List Place) (id q : ℕ) → IsGap id_in places id q
+    → HasNo id (rows_of slots records places)
 no_row slots records places id q gap k d low same =
     let l = length-map places (row_of slots records) in
     let low_k : k < length places = omega (arith, l, low) in

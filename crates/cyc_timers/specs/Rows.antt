@@ -1,5 +1,6 @@
 -- The cyclics of one CPU in the order of their ids, with the index and the counts of each.
-use Rattle.std.specs.Prelude.{◌≡◌, ◌≢◌, ℕ, ◌<◌, ◌≤◌, List, [], map, length, count_by, slice_index_or, All, true, Option, Some, None, is_some}
+use Rattle.std.specs.Prelude.{◌≡◌, ◌≢◌, ℕ, ◌<◌, ◌≤◌, List, [], map, length, count_by, slice_index_or, All, true, Option, Some}
+use Rattle.std.specs.Prelude.{None, is_some}
 use Rattle.cyc_types.specs.Series.{never}
 use Rattle.cyc_types.specs.declared.firing.Sent.{Sent}
 use Rattle.cyc_types.specs.declared.level.Level.TheVariants.{Low}
@@ -61,7 +62,19 @@ moment_in (Some e) = e.moment
 
 -- what the heap and the record of an index are together, for the cyclic of this id
 abbrev pub joined : ℕ → ℕ → Option Expiration → Record → Row
-joined id index e r = record { timer = record { id = id; level = r.level; interval = r.interval; moment = moment_in e; expired = r.expired }; lost = r.lost; carried = r.carried; index = index }
+joined id index e r = record {
+  timer = record {
+    id = id;
+    level = r.level;
+    interval = r.interval;
+    moment = moment_in e;
+    expired =
+        r.expired;
+  };
+  lost = r.lost;
+  carried = r.carried;
+  index = index;
+}
 
 -- the table at first: no cyclic, and one index
 abbrev pub new_table : TableView
@@ -77,7 +90,19 @@ HasNo id rows = All (λ r. r.timer.id ≢ id) rows
 
 -- the row with another moment and the counts of this record
 abbrev pub with_record : ℕ → Record → Row → Row
-with_record m rec r = record { timer = record { id = r.timer.id; level = rec.level; interval = rec.interval; moment = m; expired = rec.expired }; lost = rec.lost; carried = rec.carried; index = r.index }
+with_record m rec r = record {
+  timer = record {
+    id = r.timer.id;
+    level = rec.level;
+    interval = rec.interval;
+    moment = m;
+    expired =
+        rec.expired;
+  };
+  lost = rec.lost;
+  carried = rec.carried;
+  index = r.index;
+}
 
 -- the row with another moment and these counts
 abbrev pub with_counts : ℕ → ℕ → ℕ → Row → Row
@@ -93,15 +118,18 @@ vacant_row id index = joined id index None no_record
 
 -- no two rows have one index
 abbrev pub HasDistinctIndexes : List Row → Type 0
-HasDistinctIndexes rows = (i j : ℕ) (d : Row) → i < length rows → j < length rows → (slice_index_or rows i d).index ≡ (slice_index_or rows j d).index → i ≡ j
+HasDistinctIndexes rows = (i j : ℕ) (d : Row) → i < length rows → j < length rows
+    → (slice_index_or rows i d).index ≡ (slice_index_or rows j d).index → i ≡ j
 
 -- what is kept of the row beside its id, index and moment
 abbrev pub IsRecordOf : Record → Row → Type 0
-IsRecordOf rec r = (rec.level ≡ r.timer.level) × (rec.interval ≡ r.timer.interval) × (rec.expired ≡ r.timer.expired) × (rec.lost ≡ r.lost) × (rec.carried ≡ r.carried)
+IsRecordOf rec r = (rec.level ≡ r.timer.level) × (rec.interval ≡ r.timer.interval) × (rec.expired ≡ r.timer.expired)
+    × (rec.lost ≡ r.lost) × (rec.carried ≡ r.carried)
 
 -- the row at this place expires no later than any
 abbrev pub IsFirstAt : List Row → ℕ → Type 0
-IsFirstAt rows i = (k : ℕ) (d : Timer) → k < length (timers_of rows) → is_before (next_of (slice_index_or (timers_of rows) i d)) (next_of (slice_index_or (timers_of rows) k d)) ≡ true
+IsFirstAt rows i = (k : ℕ) (d : Timer) → k < length (timers_of rows)
+    → is_before (next_of (slice_index_or (timers_of rows) i d)) (next_of (slice_index_or (timers_of rows) k d)) ≡ true
 
 -- the row of a place
 abbrev pub row_of : List (Option Expiration) → List Record → Place → Row
@@ -123,10 +151,14 @@ id_in place = place.id
 pub record IsTable (slots : List (Option Expiration)) (records : List Record) (places : List Place) : Type 0 where
   pub rising : Rises id_in places
   -- each place names an index that has the cyclic's expiration
-  pub named : (k : ℕ) (d : Place) → k < length places → (m : ℕ) × (slice_index_or slots (slice_index_or places k d).index None ≡ Some (record { moment = m; id = (slice_index_or places k d).id }))
+  pub named : (k : ℕ) (d : Place) → k < length places → (m : ℕ)
+      × (slice_index_or slots (slice_index_or places k d).index None
+      ≡ Some (record { moment = m; id = (slice_index_or places k d).id }))
   -- each index in use has its place
-  pub covered : (i : ℕ) (e : Expiration) → slice_index_or slots i None ≡ Some e → (k : ℕ) × (k < length places) × ((d : Place) → (slice_index_or places k d).index ≡ i)
+  pub covered : (i : ℕ) (e : Expiration) → slice_index_or slots i None ≡ Some e → (k : ℕ) × (k < length places)
+      × ((d : Place) → (slice_index_or places k d).index ≡ i)
   pub long : length records ≡ length slots
   pub len : count_by is_some slots ≡ length places
   pub moments : (i : ℕ) (e : Expiration) → slice_index_or slots i None ≡ Some e → e.moment ≤ never
-  pub intervals : (i : ℕ) (d : Record) → i < length records → (0 < (slice_index_or records i d).interval) × ((slice_index_or records i d).interval ≤ never)
+  pub intervals : (i : ℕ) (d : Record) → i < length records → (0 < (slice_index_or records i d).interval)
+      × ((slice_index_or records i d).interval ≤ never)

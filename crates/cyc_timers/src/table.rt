@@ -1,11 +1,13 @@
 //! The cyclics of one CPU: the heap, the records and the look-up by id, shown as one list of rows.
 
-ghost use Rattle.std.specs.Prelude.{◌≡◌, ◌≢◌, ℕ, ◌+◌, ◌-◌, ◌<◌, ◌≤◌, max, length, slice_index_or, slice_set, Some, None, IfOk, IfErr, OnOk, OnErr, IfNone, IfSome, All, [], insert, remove};
+ghost use Rattle.std.specs.Prelude.{◌≡◌, ◌≢◌, ℕ, ◌+◌, ◌-◌, ◌<◌, ◌≤◌, max, length, slice_index_or, slice_set, Some, None, IfOk};
+ghost use Rattle.std.specs.Prelude.{IfErr, OnOk, OnErr, IfNone, IfSome, All, [], insert, remove};
 ghost use Rattle.cyc_types.specs.Limits.{cyclics};
 ghost use Rattle.cyc_types.specs.Series.{never};
 ghost use Rattle.cyc_heap.specs.Timers.{IsSound};
 ghost use Rattle.cyc_types.specs.declared.refusal.Refusal.TheVariants.{Memory};
-ghost use Rattle.cyc_timers.specs.Rows.{Row, TableView, new_table, timers_of, IsRow, IsRising, HasNo, HasDistinctIndexes, vacant_row, with_record, with_counts, at_moment, IsRecordOf, IsFirstAt};
+ghost use Rattle.cyc_timers.specs.Rows.{Row, TableView, new_table, timers_of, IsRow, IsRising, HasNo, HasDistinctIndexes};
+ghost use Rattle.cyc_timers.specs.Rows.{vacant_row, with_record, with_counts, at_moment, IsRecordOf, IsFirstAt};
 
 use cyc_finder::{HasId, search};
 use cyc_heap::ExpiryHeap;
@@ -63,9 +65,16 @@ impl Model for Table {
 
     ghost Value = { TableView };
 
-    ghost view = { λ t. record { rows = rows_of t.heap.slots t.records.items t.places.items; root = t.heap.root; size = length t.heap.slots; room = t.heap.room } };
+    ghost view = { λ t. record {
+      rows = rows_of t.heap.slots t.records.items t.places.items;
+      root = t.heap.root;
+      size =
+          length t.heap.slots;
+      room = t.heap.room;
+    } };
 
-    ghost invariant = { λ t. IsTable t.heap.slots t.records.items t.places.items × (t.heap.room ≤ vec_capacity t.records) × (t.heap.room ≤ vec_capacity t.places) × (length t.heap.slots ≤ t.heap.room) };
+    ghost invariant = { λ t. IsTable t.heap.slots t.records.items t.places.items × (t.heap.room ≤ vec_capacity t.records)
+        × (t.heap.room ≤ vec_capacity t.places) × (length t.heap.slots ≤ t.heap.room) };
 }
 
 impl Record {
@@ -134,7 +143,8 @@ impl Table {
         requires interval { (0 < kept.interval) × (kept.interval ≤ never) }
         ensures below { result < self.old.size }
         ensures fresh { All (λ r. r.index ≢ result) self.old.rows }
-        ensures rows { (k : ℕ) × (k ≤ length self.old.rows) × (self.new.rows ≡ insert self.old.rows k (with_record moment kept (vacant_row id result))) }
+        ensures rows { (k : ℕ) × (k ≤ length self.old.rows)
+            × (self.new.rows ≡ insert self.old.rows k (with_record moment kept (vacant_row id result))) }
         ensures size { self.new.size ≡ self.old.size }
         ensures room { self.new.room ≡ self.old.room }
     {
@@ -196,7 +206,8 @@ impl Table {
     pub fn reprogram(&mut self, place: usize, moment: Moment)
         requires here { place < length self.old.rows }
         requires moment { moment ≤ never }
-        ensures rows { (r : Row) → IsRow self.old.rows place r → self.new.rows ≡ slice_set self.old.rows place (at_moment moment r) }
+        ensures rows { (r : Row) → IsRow self.old.rows place r
+            → self.new.rows ≡ slice_set self.old.rows place (at_moment moment r) }
         ensures size { self.new.size ≡ self.old.size }
         ensures room { self.new.room ≡ self.old.room }
     {
@@ -220,7 +231,8 @@ impl Table {
     pub fn root(&self) -> Option<(Index, Moment, CyclicId)>
         ensures none { IfNone result (self.now.rows ≡ []) }
         ensures root { IfSome result (λ found. self.now.root ≡ Some found.0) }
-        ensures first { IfSome result (λ found. (k : ℕ) × (r : Row) × IsRow self.now.rows k r × (r.index ≡ found.0) × (r.timer.moment ≡ found.1) × (r.timer.id ≡ found.2) × IsFirstAt self.now.rows k) }
+        ensures first { IfSome result (λ found. (k : ℕ) × (r : Row) × IsRow self.now.rows k r × (r.index ≡ found.0)
+            × (r.timer.moment ≡ found.1) × (r.timer.id ≡ found.2) × IsFirstAt self.now.rows k) }
     {
         self.heap.root()
     }
@@ -231,7 +243,8 @@ impl Table {
         requires root { self.old.root ≡ Some index }
         requires moment { moment ≤ never }
         requires here { (k : ℕ) × (r : Row) × IsRow self.old.rows k r × (r.index ≡ index) }
-        ensures rows { (k : ℕ) (r : Row) → IsRow self.old.rows k r → r.index ≡ index → self.new.rows ≡ slice_set self.old.rows k (with_counts moment expired lost r) }
+        ensures rows { (k : ℕ) (r : Row) → IsRow self.old.rows k r → r.index ≡ index
+            → self.new.rows ≡ slice_set self.old.rows k (with_counts moment expired lost r) }
         ensures size { self.new.size ≡ self.old.size }
         ensures room { self.new.room ≡ self.old.room }
     {

@@ -66,7 +66,8 @@ IsAdmitted id v P = (s : Stay) × (v.stays id ≡ Some s) × P s
 
 -- an id may be admitted that isn't, at an index of the bank that no other has
 abbrev pub MayAdmit : ℕ → ℕ → FiringView → Type 0
-MayAdmit id index v = (v.stays id ≡ None) × ((j : ℕ) (s : Stay) → v.stays j ≡ Some s → ¬ (s.index ≡ index)) × (index < 2 ^ v.bank) × (v.hand_free ≡ true)
+MayAdmit id index v = (v.stays id ≡ None) × ((j : ℕ) (s : Stay) → v.stays j ≡ Some s → ¬ (s.index ≡ index)) × (index < 2 ^ v.bank)
+    × (v.hand_free ≡ true)
 
 -- an admitted id may be asked for
 abbrev pub MayAsk : ℕ → FiringView → Type 0
@@ -112,7 +113,10 @@ saw id pend v = edit_stay id (λ s. record s { seen = pend }) v
 
 -- the id is admitted at this index, with all counts 0
 abbrev pub after_admit : ℕ → ℕ → FiringView → FiringView
-after_admit id index v = record v { stays = at_stay id (λ _. Some record { index = index; sent = 0; lost = 0; seen = 0 }) v.stays }
+after_admit id index v = record v {
+  stays =
+      at_stay id (λ _. Some record { index = index; sent = 0; lost = 0; seen = 0 }) v.stays;
+}
 
 -- an expiration found this pend below the ceiling and raised it
 abbrev pub after_expire : ℕ → ℕ → FiringView → FiringView

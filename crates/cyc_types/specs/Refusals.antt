@@ -1,7 +1,10 @@
 -- The numbers by which programs tell a refusal (our own rule).
 use Rattle.std.specs.Prelude.{ℕ}
 use Rattle.cyc_types.specs.declared.refusal.Refusal.{Refusal}
-use Rattle.cyc_types.specs.declared.refusal.Refusal.TheVariants.{Memory, BadWhen, BadInterval, BadNow, Full, Expanding, Busy, NoCyclic, Pending, IdsSpent, CountSpent, HandlerRefused, NoCpu, Offline, LastCpu, Omnipresent, Left, ScriptSyntax, ScriptShape, TimeBack, NameTwice, NoName, Online}
+use Rattle.cyc_types.specs.declared.refusal.Refusal.TheVariants.{Memory, BadWhen, BadInterval, BadNow, Full, Expanding, Busy}
+use Rattle.cyc_types.specs.declared.refusal.Refusal.TheVariants.{NoCyclic, Pending, IdsSpent, CountSpent, HandlerRefused, NoCpu}
+use Rattle.cyc_types.specs.declared.refusal.Refusal.TheVariants.{Offline, LastCpu, Omnipresent, Left, ScriptSyntax, ScriptShape}
+use Rattle.cyc_types.specs.declared.refusal.Refusal.TheVariants.{TimeBack, NameTwice, NoName, Online}
 
 -- the number of each refusal; none has 18
 abbrev pub number_of : Refusal → ℕ

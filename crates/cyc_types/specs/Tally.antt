@@ -1,4 +1,5 @@
-use Rattle.std.specs.Prelude.{◌≡◌, ℕ, ◌+◌, ◌-◌, ◌<◌, ◌≤◌, List, Option, None, cond, nat_lt, slice_get, slice_set, slice_index, length, replicate, ◌⊎◌}
+use Rattle.std.specs.Prelude.{◌≡◌, ℕ, ◌+◌, ◌-◌, ◌<◌, ◌≤◌, List, Option, None, cond, nat_lt, slice_get, slice_set, slice_index}
+use Rattle.std.specs.Prelude.{length, replicate, ◌⊎◌}
 use Rattle.cyc_types.specs.declared.level.Level.{Level}
 
 -- the counts of the ids from the first on

@@ -1,7 +1,8 @@
 //! The firing side of a level, as a trait.
 
 ghost use Rattle.std.specs.Prelude.{◌≡◌, ℕ, Option, Some, None};
-ghost use Rattle.cyc_types.specs.Firing.{FiringView, FiringCall, Admits, Loads, Raises, Marks, Polls, Expands, Looks, Learns, Sound, MayAdmit, MayAsk, MayRaise, MayMark, MayPoll, MayExpand, sent_of};
+ghost use Rattle.cyc_types.specs.Firing.{FiringView, FiringCall, Admits, Loads, Raises, Marks, Polls, Expands, Looks, Learns};
+ghost use Rattle.cyc_types.specs.Firing.{Sound, MayAdmit, MayAsk, MayRaise, MayMark, MayPoll, MayExpand, sent_of};
 
 use crate::id::CyclicId;
 use crate::level::Index;

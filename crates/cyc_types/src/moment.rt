@@ -79,7 +79,8 @@ impl Model for Interval {
 impl Interval {
     /// The interval of this many nanoseconds. A number below 1 is refused as `BadInterval`.
     pub fn new(nanoseconds: i64) -> Result<Interval, Refusal>
-        ensures { MatchResult result (λ interval. (pos interval ≡ nanoseconds) × (0 < interval)) (λ why. (nanoseconds <ℤ pos 1) × (why ≡ BadInterval)) }
+        ensures { MatchResult result (λ interval. (pos interval ≡ nanoseconds) × (0 < interval)) (λ why. (nanoseconds <ℤ pos 1)
+            × (why ≡ BadInterval)) }
     {
         if nanoseconds < 1 {
             return Err(Refusal::BadInterval);
@@ -126,7 +127,8 @@ impl When {
     pub fn first(self, now: Moment) -> Moment
         requires { now < never }
         ensures value { result ≡ first self.start self.interval now }
-        ensures multiple { self.start ≡ 0 → (k : ℕ) × IsFirstAbove 0 self.interval now k × (result ≡ min (k * self.interval) never) }
+        ensures multiple { self.start ≡ 0 → (k : ℕ) × IsFirstAbove 0 self.interval now k
+            × (result ≡ min (k * self.interval) never) }
     {
         if self.start != Moment::ZERO {
             return self.start;

@@ -10,5 +10,6 @@ module _ {R : Type 0} (step : R → FiringCall → R → Type 0) (view : R → F
   pub settles_none : (v : CpuView R) → Settles step view v v
   settles_none v = ([], refl)
 
-  pub settles_more : (v w x : CpuView R) (answer : Bool) → Settles step view v w → Asks step view w answer x → Settles step view v x
+  pub settles_more : (v w x : CpuView R) (answer : Bool) → Settles step view v w → Asks step view w answer x
+      → Settles step view v x
   settles_more v w x answer s a = (s.0 ++ answer ∷ [], folds_more (Asks step view) v s.0 w answer x s.1 a)

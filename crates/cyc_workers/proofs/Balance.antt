@@ -15,13 +15,15 @@ use Rattle.cyc_ring.specs.declared.ring.Ring.{Ring}
 use Rattle.cyc_ring.specs.declared.seats.RaiseSeat.{RaiseSeat}
 use Rattle.cyc_ring.specs.declared.seats.DrainSeat.{DrainSeat}
 use Rattle.cyc_ring.specs.Views.{stay_with}
-use Rattle.cyc_ring.specs.Ends.{raise_trail, drain_trail, end_view, RaiseEndCall, DrainEndCall, end_made, seat_made, IsSameRaiseSeat, IsSameDrainSeat, IsRaiseSeatOf, IsDrainSeatOf}
+use Rattle.cyc_ring.specs.Ends.{raise_trail, drain_trail, end_view, RaiseEndCall, DrainEndCall, end_made, seat_made}
+use Rattle.cyc_ring.specs.Ends.{IsSameRaiseSeat, IsSameDrainSeat, IsRaiseSeatOf, IsDrainSeatOf}
 use Rattle.cyc_ring.proofs.Ways.{raise_ways, drain_ways}
 use Rattle.cyc_timers.specs.Rows.{Cyclic, no_counts}
 use Rattle.cyc_cpu.specs.Cpu.{CpuView, Running, running}
 use Rattle.cyc_cpu.specs.Law.{IsLawful}
 use Rattle.cyc_cpu.specs.Moving.{IsSettled}
-use Rattle.cyc_cpu.specs.Calls.{CpuCall, no_interrupts, Fire, SoftInterrupt, Add, Place, Reprogram, AskPending, AskTotals, AskRoom, Reserve, Widen, BeginRemove, PollRemove, TakeNow, AskSettled}
+use Rattle.cyc_cpu.specs.Calls.{CpuCall, no_interrupts, Fire, SoftInterrupt, Add, Place, Reprogram, AskPending, AskTotals}
+use Rattle.cyc_cpu.specs.Calls.{AskRoom, Reserve, Widen, BeginRemove, PollRemove, TakeNow, AskSettled}
 use Rattle.cyc_cpu_laws.specs.Runs.{Steps}
 use Rattle.cyc_cpu_laws.specs.Passing.{Passes}
 use Rattle.cyc_cpu_laws.specs.Accounts.{Account, account_in, entered_by, left_by, expired_of, lost_of, Proceeds}
@@ -59,9 +61,16 @@ record IsWhole (a : Account) : Type 0 where
   pub entered_sent : (id : ℕ) → (a.entered id).sent ≡ 0
   pub entered_lost : (id : ℕ) → (a.entered id).lost ≡ 0
 
-whole : {C R : Type 0} (D : Running C R → CpuCall → Running C R → Type 0) (s : Running C R) (way : List CpuCall) (t : Running C R) (run : FoldsTo D s way t) →
+whole : {C R : Type 0} (D : Running C R → CpuCall → Running C R → Type 0) (s : Running C R) (way : List CpuCall) (t : Running C R)
+    (run : FoldsTo D s way t) →
     All IsStepping way → IsWhole (account_in D s way t run)
-whole D s [] t run only = record { left_sent = λ id. refl; left_lost = λ id. refl; entered_sent = λ id. refl; entered_lost = λ id. refl }
+whole D s [] t run only = record {
+  left_sent = λ id. refl;
+  left_lost = λ id. refl;
+  entered_sent = λ id. refl;
+  entered_lost =
+      λ id. refl;
+}
 whole D s (call ∷ way) t run only =
     let one = λ (id : ℕ). uncarried call (only 0 call (omega arith)) id in
     let rest = whole D run.0 way t run.2 (λ k d low. only (suc k) d (omega (arith, low))) in
@@ -78,7 +87,8 @@ none_pending pend seen None p z = p
 none_pending pend seen (Some s) p z = omega (arith, p, z)
 
 -- one level: the calls made and those lost are its raises
-level_books : (raised lost : ℕ → ℕ) (e f : RaiseEnd) (trail : List DrainStep) (id : ℕ) → Passes RaiseEndCall end_view raised lost e f → raise_trail e.seat ≡ [] →
+level_books : (raised lost : ℕ → ℕ) (e f : RaiseEnd) (trail : List DrainStep) (id : ℕ)
+    → Passes RaiseEndCall end_view raised lost e f → raise_trail e.seat ≡ [] →
     IsAccounted (raise_trail f.seat) trail → seen_of id (end_view f) ≡ 0 → made_calls id trail + lost id ≡ raised id
 level_books raised lost e f trail id p empty a z =
     let w = raise_ways e f p.way p.goes in
@@ -94,17 +104,21 @@ level_books raised lost e f trail id p empty a z =
 sum_lines : (f : Line → ℕ) (g : Cyclic → ℕ) → ((c : Cyclic) → f (line_of c) ≡ g c) → (from : ℕ) (cs : List Cyclic) →
     fold (λ a x. a + f x) from (map line_of cs) ≡ fold (λ a x. a + g x) from cs
 sum_lines f g same from [] = refl
-sum_lines f g same from (c ∷ cs) = ap (λ n. fold (λ a x. a + f x) (from + n) (map line_of cs)) (same c) ∙ sum_lines f g same (from + g c) cs
+sum_lines f g same from (c ∷ cs) = ap (λ n. fold (λ a x. a + f x) (from + n) (map line_of cs)) (same c)
+    ∙ sum_lines f g same (from + g c) cs
 
 pub lines_expired : (id : ℕ) (cs : List Cyclic) → expired_in id (map line_of cs) ≡ expired_of id cs
-lines_expired id cs = sum_lines (λ l. cond (l.id == id) l.expired 0) (λ c. cond (c.timer.id == id) c.timer.expired 0) (λ c. refl) 0 cs
+lines_expired id cs = sum_lines (λ l. cond (l.id == id) l.expired 0) (λ c. cond (c.timer.id == id) c.timer.expired 0)
+    (λ c. refl) 0 cs
 
 pub lines_lost : (id : ℕ) (cs : List Cyclic) → lost_in id (map line_of cs) ≡ lost_of id cs
 lines_lost id cs = sum_lines (λ l. cond (l.id == id) l.lost 0) (λ c. cond (c.timer.id == id) c.lost 0) (λ c. refl) 0 cs
 
 -- the calls of a draining worker are those that its ring's soft side finished
-pub serves_seat : {C : Type 0} (called : C → ℕ → C → Type 0) (count : C → ℕ → ℕ) (a : SoftSide DrainEnd C) (d : DrainEnd) (calls : C) (seat : DrainSeat) →
-    Makes DrainEndCall end_made called count a d calls → drain_trail a.drain.seat ≡ [] → seat ≡ d.seat → HasServed called count (seat_made seat) a.calls calls
+pub serves_seat : {C : Type 0} (called : C → ℕ → C → Type 0) (count : C → ℕ → ℕ) (a : SoftSide DrainEnd C) (d : DrainEnd)
+    (calls : C) (seat : DrainSeat) →
+    Makes DrainEndCall end_made called count a d calls → drain_trail a.drain.seat ≡ [] → seat ≡ d.seat
+    → HasServed called count (seat_made seat) a.calls calls
 serves_seat called count a d calls seat m empty same =
     let none = λ (id : ℕ). ap (made_calls id) empty in
     let now = λ (id : ℕ). ap (λ (x : DrainSeat). seat_made x id) same in
@@ -112,10 +126,12 @@ serves_seat called count a d calls seat m empty same =
       ids = finishes_of m.way;
       called_all = m.called_all;
       listed = λ id. (let x = m.finished id in let y = none id in let z = now id in omega (arith, x, y, z));
-      counted = λ id. (let w = m.counted id in let x = m.finished id in let y = none id in let z = now id in omega (arith, w, x, y, z));
+      counted = λ id. (let w = m.counted id in let x = m.finished id in let y = none id in let z = now id in
+          omega (arith, w, x, y, z));
     }
 
-pub drains_same : {C : Type 0} (called : C → ℕ → C → Type 0) (count : C → ℕ → ℕ) (a : SoftSide DrainEnd C) (d : DrainEnd) (calls : C) →
+pub drains_same : {C : Type 0} (called : C → ℕ → C → Type 0) (count : C → ℕ → ℕ) (a : SoftSide DrainEnd C) (d : DrainEnd)
+    (calls : C) →
     Makes DrainEndCall end_made called count a d calls → IsSameDrainSeat a.drain.seat d.seat
 drains_same called count a d calls m = (drain_ways a.drain d m.way m.goes).0
 
@@ -124,23 +140,30 @@ module _ {C : Type 0} (called : C → ℕ → Level → C → Type 0) (count : C
   D = Steps called count may_refuse RaiseEndCall end_view no_interrupts
 
   -- steps add up
-  proceeds : (steps : List Step) (s t : Running C RaiseEnd) → IsLawful end_view s.cpu → (k : Takes called count may_refuse RaiseEndCall end_view steps s t) →
+  proceeds : (steps : List Step) (s t : Running C RaiseEnd) → IsLawful end_view s.cpu
+      → (k : Takes called count may_refuse RaiseEndCall end_view steps s t) →
       Proceeds count RaiseEndCall end_view (account_in D s k.way t k.goes) s t
   proceeds steps s t law k = proceeds_in called count may_refuse RaiseEndCall end_view s t k.way law k.goes
 
   -- the ends stay those of their rings
-  pub raises_same : (steps : List Step) (s t : Running C RaiseEnd) → IsLawful end_view s.cpu → Takes called count may_refuse RaiseEndCall end_view steps s t →
+  pub raises_same : (steps : List Step) (s t : Running C RaiseEnd) → IsLawful end_view s.cpu
+      → Takes called count may_refuse RaiseEndCall end_view steps s t →
       IsSameRaiseSeat s.cpu.lock.seat t.cpu.lock.seat × IsSameRaiseSeat s.cpu.low.seat t.cpu.low.seat
   raises_same steps s t law k = let p = proceeds steps s t law k in
       ((raise_ways s.cpu.lock t.cpu.lock p.lock.way p.lock.goes).0, (raise_ways s.cpu.low t.cpu.low p.low.way p.low.goes).0)
 
   -- for each id the calls made and those lost are its expirations
-  pub all_books : (steps : List Step) (most : ℕ) (lock low : RaiseEnd) (calls calls' : C) (last : CpuView RaiseEnd) (lock_trail low_trail : List DrainStep) →
-      IsLawful end_view (new_cpu most lock low) → Takes called count may_refuse RaiseEndCall end_view steps (running calls (new_cpu most lock low)) (running calls' last) →
+  pub all_books : (steps : List Step) (most : ℕ) (lock low : RaiseEnd) (calls calls' : C) (last : CpuView RaiseEnd)
+      (lock_trail low_trail : List DrainStep) →
+      IsLawful end_view (new_cpu most lock low)
+      → Takes called count may_refuse RaiseEndCall end_view steps (running calls (new_cpu most lock low))
+      (running calls' last) →
       raise_trail lock.seat ≡ [] → raise_trail low.seat ≡ [] → IsSettled end_view last →
       IsAccounted (raise_trail last.lock.seat) lock_trail → IsAccounted (raise_trail last.low.seat) low_trail →
-      (id : ℕ) → count calls' id + made_calls id lock_trail + made_calls id low_trail + lost_of id last.cyclics ≡ count calls id + expired_of id last.cyclics
-  all_books steps most lock low calls calls' last lock_trail low_trail law k lock_empty low_empty settled lock_books low_books id =
+      (id : ℕ) → count calls' id + made_calls id lock_trail + made_calls id low_trail + lost_of id last.cyclics
+      ≡ count calls id + expired_of id last.cyclics
+  all_books steps most lock low calls calls' last lock_trail low_trail law k lock_empty low_empty settled lock_books low_books
+      id =
       let s : Running C RaiseEnd = running calls (new_cpu most lock low) in let t : Running C RaiseEnd = running calls' last in
       let p = proceeds steps s t law k in
       let w = whole D s k.way t k.goes k.only in
@@ -154,13 +177,15 @@ module _ {C : Type 0} (called : C → ℕ → Level → C → Type 0) (count : C
       omega (arith, a, b, high, e, l, x, x', y, y')
 
 -- the seats at last are their rings'
-pub raise_seat_of : (ring : Ring) (r0 r1 r2 r3 : RaiseSeat) → IsRaiseSeatOf ring r0 → r1 ≡ r0 → IsSameRaiseSeat r1 r2 → r3 ≡ r2 → IsRaiseSeatOf ring r3
+pub raise_seat_of : (ring : Ring) (r0 r1 r2 r3 : RaiseSeat) → IsRaiseSeatOf ring r0 → r1 ≡ r0 → IsSameRaiseSeat r1 r2 → r3 ≡ r2
+    → IsRaiseSeatOf ring r3
 raise_seat_of ring r0 r1 r2 r3 own from same to = (
   ap (λ (r : RaiseSeat). r.side.seat.table_id) to ∙ (same.0 ∙ (ap (λ (r : RaiseSeat). r.side.seat.table_id) from ∙ own.0)),
   ap (λ (r : RaiseSeat). r.setting) to ∙ (same.1 ∙ (ap (λ (r : RaiseSeat). r.setting) from ∙ own.1)),
 )
 
-pub drain_seat_of : (ring : Ring) (d0 d1 d2 d3 : DrainSeat) → IsDrainSeatOf ring d0 → d1 ≡ d0 → IsSameDrainSeat d1 d2 → d3 ≡ d2 → IsDrainSeatOf ring d3
+pub drain_seat_of : (ring : Ring) (d0 d1 d2 d3 : DrainSeat) → IsDrainSeatOf ring d0 → d1 ≡ d0 → IsSameDrainSeat d1 d2 → d3 ≡ d2
+    → IsDrainSeatOf ring d3
 drain_seat_of ring d0 d1 d2 d3 own from same to = (
   ap (λ (d : DrainSeat). d.side.seat.table_id) to ∙ (same.0 ∙ (ap (λ (d : DrainSeat). d.side.seat.table_id) from ∙ own.0)),
   ap (λ (d : DrainSeat). d.setting) to ∙ (same.1 ∙ (ap (λ (d : DrainSeat). d.setting) from ∙ own.1)),

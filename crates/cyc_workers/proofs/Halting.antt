@@ -55,24 +55,30 @@ same_some {A = A} {x = x} {y = y} e = ap (λ (o : Option A). elim o [ None ↦ x
 module _ {C R : Type 0} (called : C → ℕ → Level → C → Type 0) (count : C → ℕ → ℕ) (may_refuse : C → ℕ → Type 0)
     (step : R → FiringCall → R → Type 0) (view : R → FiringView) where
   -- a fire was made, or it was refused
-  pub fire_takes : (s t : Running C R) (now : ℕ) (answer : Result Fired FireRefused) → Steps called count may_refuse step view no_interrupts s (Fire now answer) t →
+  pub fire_takes : (s t : Running C R) (now : ℕ) (answer : Result Fired FireRefused)
+      → Steps called count may_refuse step view no_interrupts s (Fire now answer) t →
       why_of answer ≡ None → Takes called count may_refuse step view (steps.Advance now ∷ []) s t
   fire_takes s t now (Ok fired) d is = fires_takes called count may_refuse step view s t now (fired, d)
   fire_takes s t now (Err refused) d is = absurd (some_none is)
 
-  pub fire_halts : (s t : Running C R) (now : ℕ) (answer : Result Fired FireRefused) (why : Refusal) → Steps called count may_refuse step view no_interrupts s (Fire now answer) t →
+  pub fire_halts : (s t : Running C R) (now : ℕ) (answer : Result Fired FireRefused) (why : Refusal)
+      → Steps called count may_refuse step view no_interrupts s (Fire now answer) t →
       why_of answer ≡ Some why → StepHalts called count may_refuse step view (steps.Advance now) s (halt.Refused why)
   fire_halts s t now (Ok fired) why d is = absurd (some_none (sym is))
-  fire_halts s t now (Err refused) why d is = inr (s, takes_none called count may_refuse step view s, (refused, t, d, sym (same_some is)))
+  fire_halts s t now (Err refused) why d is =
+      inr (s, takes_none called count may_refuse step view s, (refused, t, d, sym (same_some is)))
 
   -- the id is here already
-  pub add_halts : (c : C) (u v : CpuView R) (id : ℕ) (level : Level) (when : When) (now : ℕ) → Settles step view u v → HasCyclic id v.cyclics →
+  pub add_halts : (c : C) (u v : CpuView R) (id : ℕ) (level : Level) (when : When) (now : ℕ) → Settles step view u v
+      → HasCyclic id v.cyclics →
       StepHalts called count may_refuse step view (steps.Add id level when now) (running c u) (halt.Refused NoCyclic)
-  add_halts c u v id level when now s here = inr (running c v, settles_takes called count may_refuse step view c u v s, (refl, here))
+  add_halts c u v id level when now s here =
+      inr (running c v, settles_takes called count may_refuse step view c u v s, (refl, here))
 
   -- a step of a list
   pub halts_at : (xs : List Step) (i : ℕ) (x : Step) (s t : Running C R) (h : Halt) → i < length xs → slice_index_or xs i x ≡ x →
-      Takes called count may_refuse step view (take i xs) s t → StepHalts called count may_refuse step view x t h → WhyHalted called count may_refuse step view xs s h
+      Takes called count may_refuse step view (take i xs) s t → StepHalts called count may_refuse step view x t h
+      → WhyHalted called count may_refuse step view xs s h
   halts_at xs i x s t (halt.Told id) low is p q = q
   halts_at xs i x s t (halt.Refused e) low is p (inl m) = inl m
   halts_at xs i x s t (halt.Refused e) low is p (inr q) = inr (record {
@@ -85,44 +91,57 @@ module _ {C R : Type 0} (called : C → ℕ → Level → C → Type 0) (count :
   })
 
   early : {A : Type 0} (taken : Result A Halt) (lock low : Option SoftRefused) (xs : List Step) (s : Running C R) (e : Refusal) →
-      IfErr taken (λ h. WhyHalted called count may_refuse step view xs s h) → IfSome lock (λ r. CanRefuse may_refuse r.id) → IfSome low (λ r. CanRefuse may_refuse r.id) →
+      IfErr taken (λ h. WhyHalted called count may_refuse step view xs s h) → IfSome lock (λ r. CanRefuse may_refuse r.id)
+      → IfSome low (λ r. CanRefuse may_refuse r.id) →
       EndsEarly taken lock low e → WhyRefused called count may_refuse step view xs s e
   early (Ok a) (Some r) low xs s e w p q is = inr (inr (r.id, is, p))
   early (Ok a) None (Some r) xs s e w p q is = inr (inr (r.id, is, q))
   early (Ok a) None None xs s e w p q is = absurd is
   early (Err (halt.Refused x)) lock low xs s e (inl m) p q is = inl (is ∙ m)
-  early (Err (halt.Refused x)) lock low xs s e (inr h) p q is = inr (inl (subst (λ y. IsHalted called count may_refuse step view xs s y) (sym is) h))
+  early (Err (halt.Refused x)) lock low xs s e (inr h) p q is =
+      inr (inl (subst (λ y. IsHalted called count may_refuse step view xs s y) (sym is) h))
   early (Err (halt.Told id)) (Some r) low xs s e w p q is = inr (inr (r.id, is, p))
   early (Err (halt.Told id)) None (Some r) xs s e w p q is = inr (inr (r.id, is, q))
   early (Err (halt.Told id)) None None xs s e w p q is = inr (inr (id, is, w))
 
-refuses : {D C : Type 0} (step : D → DrainCall → D → Type 0) (held : D → Option ℕ) (made : D → ℕ → ℕ) (called : C → ℕ → C → Type 0) (count : C → ℕ → ℕ)
-    (may_refuse : C → ℕ → Type 0) (a b : SoftSide D C) (o : Option SoftRefused) → IfSome o (λ r. IsRefused step held made called count may_refuse a r b) →
+refuses : {D C : Type 0} (step : D → DrainCall → D → Type 0) (held : D → Option ℕ) (made : D → ℕ → ℕ) (called : C → ℕ → C
+    → Type 0) (count : C → ℕ → ℕ)
+    (may_refuse : C → ℕ → Type 0) (a b : SoftSide D C) (o : Option SoftRefused)
+    → IfSome o (λ r. IsRefused step held made called count may_refuse a r b) →
     IfSome o (λ r. CanRefuse may_refuse r.id)
 refuses step held made called count may_refuse a b None p = tt
 refuses step held made called count may_refuse a b (Some r) p = (p.0, p.2)
 
 module _ {C R D : Type 0} (called : C → ℕ → Level → C → Type 0) (count : C → ℕ → ℕ) (may_refuse : C → ℕ → Type 0)
-    (step : R → FiringCall → R → Type 0) (view : R → FiringView) (soft_step : D → DrainCall → D → Type 0) (held : D → Option ℕ) (made : D → ℕ → ℕ) where
+    (step : R → FiringCall → R → Type 0) (view : R → FiringView) (soft_step : D → DrainCall → D → Type 0) (held : D → Option ℕ)
+    (made : D → ℕ → ℕ) where
   -- the calls of a worker that was stopped
-  makes : (level : Level) (a : SoftSide D C) (d : Drained D C) (b : SoftSide D C) → HasDrained soft_step held made (at_level called level) count may_refuse a d →
-      d.refused ≡ None → b ≡ record { drain = d.drain; calls = d.calls } → Makes soft_step made (at_level called level) count a b.drain b.calls
-  makes level a d b h none is = subst (λ (x : SoftSide D C). Makes soft_step made (at_level called level) count a x.drain x.calls) (sym is)
-      (subst (λ o. IfNone o (Serves soft_step held made (at_level called level) count true a (side_of d) × (d.watch ≡ has_looked))) none h.stopped).0.0
+  makes : (level : Level) (a : SoftSide D C) (d : Drained D C) (b : SoftSide D C)
+      → HasDrained soft_step held made (at_level called level) count may_refuse a d →
+      d.refused ≡ None → b ≡ record { drain = d.drain; calls = d.calls }
+      → Makes soft_step made (at_level called level) count a b.drain b.calls
+  makes level a d b h none is = subst (λ (x : SoftSide D C). Makes soft_step made (at_level called level) count a x.drain x.calls)
+      (sym is)
+      (subst (λ o. IfNone o (Serves soft_step held made (at_level called level) count true a (side_of d)
+      × (d.watch ≡ has_looked))) none h.stopped).0.0
 
   -- what all workers leave
-  pub works_all : (all : List Step) (a : Sides R D C) (taken : Result (FiringSide R C) Halt) (lock low : Drained D C) (answer : Result (Sides R D C) Refusal) →
-      IfOk taken (λ t. Takes called count may_refuse step view all (running a.firing.calls a.firing.hard) (running t.calls t.hard)) →
+  pub works_all : (all : List Step) (a : Sides R D C) (taken : Result (FiringSide R C) Halt) (lock low : Drained D C)
+      (answer : Result (Sides R D C) Refusal) →
+      IfOk taken (λ t. Takes called count may_refuse step view all (running a.firing.calls a.firing.hard)
+      (running t.calls t.hard)) →
       IfOk taken (λ t. IsSettled view t.hard) →
       IfErr taken (λ h. WhyHalted called count may_refuse step view all (running a.firing.calls a.firing.hard) h) →
-      HasDrained soft_step held made (at_level called Lock) count may_refuse a.lock lock → HasDrained soft_step held made (at_level called Low) count may_refuse a.low low →
+      HasDrained soft_step held made (at_level called Lock) count may_refuse a.lock lock
+      → HasDrained soft_step held made (at_level called Low) count may_refuse a.low low →
       IfOk answer (λ s. taken ≡ Ok s.firing) →
       IfOk answer (λ s. (lock.refused ≡ None) × (s.lock ≡ record { drain = lock.drain; calls = lock.calls })) →
       IfOk answer (λ s. (low.refused ≡ None) × (s.low ≡ record { drain = low.drain; calls = low.calls })) →
       IfErr answer (λ e. EndsEarly taken lock.refused low.refused e) →
       Works called count may_refuse step view soft_step made all a answer
   works_all all a taken lock low (Ok s) t z w h k first second third e = record {
-    taken = IfOk-at_ok (λ x. Takes called count may_refuse step view all (running a.firing.calls a.firing.hard) (running x.calls x.hard)) first t;
+    taken = IfOk-at_ok (λ x. Takes called count may_refuse step view all (running a.firing.calls a.firing.hard)
+        (running x.calls x.hard)) first t;
     settled = IfOk-at_ok (λ x. IsSettled view x.hard) first z;
     lock = makes Lock a.lock lock s.lock h second.0 second.1;
     low = makes Low a.low low s.low k third.0 third.1;
@@ -134,7 +153,8 @@ module _ {C R D : Type 0} (called : C → ℕ → Level → C → Type 0) (count
 
 -- what a joined worker promised
 pub joined : {C D : Type 0} (called : C → ℕ → Level → C → Type 0) (count : C → ℕ → ℕ) (may_refuse : C → ℕ → Type 0)
-    (soft_step : D → DrainCall → D → Type 0) (held : D → Option ℕ) (made : D → ℕ → ℕ) (soft soft' : Soft) (side side' : SoftSide D C) (r : Drained D C) →
+    (soft_step : D → DrainCall → D → Type 0) (held : D → Option ℕ) (made : D → ℕ → ℕ) (soft soft' : Soft)
+    (side side' : SoftSide D C) (r : Drained D C) →
     HasDrained soft_step held made (at_level called (level_of soft')) count may_refuse side' r → side' ≡ side → soft' ≡ soft →
     HasDrained soft_step held made (at_level called (level_of soft)) count may_refuse side r
 joined called count may_refuse soft_step held made soft soft' side side' r h same level =
@@ -142,8 +162,10 @@ joined called count may_refuse soft_step held made soft soft' side side' r h sam
     (subst (λ (x : Soft). HasDrained soft_step held made (at_level called (level_of x)) count may_refuse side' r) level h)
 
 -- why a run over two new rings was refused
-pub not_run : {C : Type 0} (called : C → ℕ → Level → C → Type 0) (count : C → ℕ → ℕ) (may_refuse : C → ℕ → Type 0) (ceiling most : ℕ) (xs : List Step)
-    (lock low : Seats) (calls : Handlers C) (e : Refusal) → (raise_trail lock.raise ≡ []) × (lock.raise.setting.ceiling ≡ ceiling) →
+pub not_run : {C : Type 0} (called : C → ℕ → Level → C → Type 0) (count : C → ℕ → ℕ) (may_refuse : C → ℕ → Type 0)
+    (ceiling most : ℕ) (xs : List Step)
+    (lock low : Seats) (calls : Handlers C) (e : Refusal) → (raise_trail lock.raise ≡ []) × (lock.raise.setting.ceiling ≡ ceiling)
+    →
     (raise_trail low.raise ≡ []) × (low.raise.setting.ceiling ≡ ceiling) →
     WhyNotLeft called count may_refuse most xs lock low calls e → WhyNotRun called count may_refuse ceiling most xs calls e
 not_run called count may_refuse ceiling most xs lock low calls e p q (inl m) = inl m

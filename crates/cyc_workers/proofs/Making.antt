@@ -38,7 +38,8 @@ module _ {D C : Type 0} (step : D → DrainCall → D → Type 0) (held : D → 
   pub makes_none : (a : SoftSide D C) → Makes step made called count a a.drain a.calls
   makes_none a = record { way = []; goes = refl; called_all = refl; counted = λ id. omega arith; finished = λ id. omega arith }
 
-  pub makes_on : (a b : SoftSide D C) (drain : D) (calls : C) → Makes step made called count a b.drain b.calls → Makes step made called count b drain calls →
+  pub makes_on : (a b : SoftSide D C) (drain : D) (calls : C) → Makes step made called count a b.drain b.calls
+      → Makes step made called count b drain calls →
       Makes step made called count a drain calls
   makes_on a b drain calls p q =
       let on = finishes_on p.way q.way in
@@ -47,12 +48,15 @@ module _ {D C : Type 0} (step : D → DrainCall → D → Type 0) (held : D → 
         goes = folds_on step a.drain p.way b.drain q.way drain p.goes q.goes;
         called_all = subst (λ xs. FoldsTo called a.calls xs calls) (sym on)
             (folds_on called a.calls (finishes_of p.way) b.calls (finishes_of q.way) calls p.called_all q.called_all);
-        counted = λ id. (let x = p.counted id in let y = q.counted id in let z = finished_on id p.way q.way in omega (arith, x, y, z));
-        finished = λ id. (let x = p.finished id in let y = q.finished id in let z = finished_on id p.way q.way in omega (arith, x, y, z));
+        counted = λ id. (let x = p.counted id in let y = q.counted id in let z = finished_on id p.way q.way in
+            omega (arith, x, y, z));
+        finished = λ id. (let x = p.finished id in let y = q.finished id in let z = finished_on id p.way q.way in
+            omega (arith, x, y, z));
       }
 
   -- the calls of one soft interrupt
-  interrupt_makes : (a : SoftSide D C) (ran : List Served) (rest : List DrainCall) (drain : D) (calls : C) → finishes_of rest ≡ [] →
+  interrupt_makes : (a : SoftSide D C) (ran : List Served) (rest : List DrainCall) (drain : D) (calls : C) → finishes_of rest ≡ []
+      →
       soft.Serves step held made called count a.drain a.calls ran rest drain calls → Makes step made called count a drain calls
   interrupt_makes a ran rest drain calls none s =
       let all = way_finishes (held a.drain) ran rest ∙ ap (λ xs. ids ran ++ xs) none ∙ no_more (ids ran) in
@@ -78,9 +82,11 @@ module _ {D C : Type 0} (step : D → DrainCall → D → Type 0) (held : D → 
   was_refused budget (Err e) a b s = let x = s.refused in let hand = hand_left (held a.drain) x.0 in
       (x.1, interrupt_makes a x.0 (look_of hand (Some e.id)) b.drain x.1 (look_finishes hand (Some e.id)) x.4, x.5, x.6, x.7)
 
-  pub has_stopped : (a m b : SoftSide D C) (idle : Bool) (watch : Watch) → Makes step made called count a m.drain m.calls → Serves step held made called count idle m b →
+  pub has_stopped : (a m b : SoftSide D C) (idle : Bool) (watch : Watch) → Makes step made called count a m.drain m.calls
+      → Serves step held made called count idle m b →
       idle ≡ true → watch ≡ has_looked →
-      HasDrained step held made called count may_refuse a (record { drain = b.drain; calls = b.calls; refused = None; watch = watch })
+      HasDrained step held made called count may_refuse a
+      (record { drain = b.drain; calls = b.calls; refused = None; watch = watch })
   has_stopped a m b idle watch before s empty looked = record {
     stopped = ((makes_on a m b.drain b.calls before s.0, (subst (λ x. IsTrue x → held b.drain ≡ None) empty s.1)), looked);
     refused = tt;
@@ -88,7 +94,8 @@ module _ {D C : Type 0} (step : D → DrainCall → D → Type 0) (held : D → 
 
   pub has_refused : (a m b : SoftSide D C) (r : SoftRefused) (watch : Watch) → Makes step made called count a m.drain m.calls →
       IsRefused step held made called count may_refuse m r b →
-      HasDrained step held made called count may_refuse a (record { drain = b.drain; calls = b.calls; refused = Some r; watch = watch })
+      HasDrained step held made called count may_refuse a
+      (record { drain = b.drain; calls = b.calls; refused = Some r; watch = watch })
   has_refused a m b r watch before s = record {
     stopped = tt;
     refused = (s.0, makes_on a m b.drain s.0 before s.1, s.2, s.3, s.4);

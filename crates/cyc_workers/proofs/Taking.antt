@@ -21,7 +21,8 @@ use Rattle.cyc_workers.specs.Stepping.{step_of, steps_of, IsStepping, Takes}
 
 pub steps_on : (xs ys : List CpuCall) → steps_of (xs ++ ys) ≡ steps_of xs ++ steps_of ys
 steps_on [] ys = refl
-steps_on (call ∷ xs) ys = ap (λ zs. step_of call ++ zs) (steps_on xs ys) ∙ sym (append_assoc (step_of call) (steps_of xs) (steps_of ys))
+steps_on (call ∷ xs) ys = ap (λ zs. step_of call ++ zs) (steps_on xs ys)
+    ∙ sym (append_assoc (step_of call) (steps_of xs) (steps_of ys))
 
 no_more : (xs : List Step) → xs ++ [] ≡ xs
 no_more [] = refl
@@ -46,10 +47,18 @@ module _ {C R : Type 0} (called : C → ℕ → Level → C → Type 0) (count :
     only = All-append IsStepping p.way q.way p.only q.only;
   }
 
-  pub takes_one : (s t : Running C R) (call : CpuCall) (xs : List Step) → D s call t → step_of call ++ [] ≡ xs → IsStepping call → T xs s t
-  takes_one s t call xs d is ours = record { way = call ∷ []; goes = (t, d, refl); taken = is; only = All-cons IsStepping call [] ours (All-nil IsStepping) }
+  pub takes_one : (s t : Running C R) (call : CpuCall) (xs : List Step) → D s call t → step_of call ++ [] ≡ xs → IsStepping call
+      → T xs s t
+  takes_one s t call xs d is ours = record {
+    way = call ∷ [];
+    goes = (t, d, refl);
+    taken = is;
+    only =
+        All-cons IsStepping call [] ours (All-nil IsStepping);
+  }
 
-  asked : (c : C) (v w : CpuView R) (answers : List Bool) → FoldsTo (Asks step view) v answers w → T [] (running c v) (running c w)
+  asked : (c : C) (v w : CpuView R) (answers : List Bool) → FoldsTo (Asks step view) v answers w
+      → T [] (running c v) (running c w)
   asked c v w [] e = subst (λ x. T [] (running c v) (running c x)) e (takes_none (running c v))
   asked c v w (answer ∷ answers) (m, a, rest) = takes_on [] [] (running c v) (running c m) (running c w)
       (takes_one (running c v) (running c m) (AskSettled answer) [] ((a.0, refl), a.1) refl tt) (asked c m w answers rest)
@@ -57,24 +66,29 @@ module _ {C R : Type 0} (called : C → ℕ → Level → C → Type 0) (count :
   pub settles_takes : (c : C) (v w : CpuView R) → Settles step view v w → T [] (running c v) (running c w)
   settles_takes c v w s = asked c v w s.0 s.1
 
-  pub adds_takes : (c : C) (u v w : CpuView R) (id : ℕ) (level : Level) (when : When) (now : ℕ) (answer : Result (Unit {0}) Refusal) →
+  pub adds_takes : (c : C) (u v w : CpuView R) (id : ℕ) (level : Level) (when : When) (now : ℕ)
+      (answer : Result (Unit {0}) Refusal) →
       Settles step view u v → Changes step view v (Add id level when now answer) w → IsLawful view w →
       T (steps.Add id level when now ∷ []) (running c u) (running c w)
-  adds_takes c u v w id level when now answer s a law = takes_on [] (steps.Add id level when now ∷ []) (running c u) (running c v) (running c w) (settles_takes c u v s)
-      (takes_one (running c v) (running c w) (Add id level when now answer) (steps.Add id level when now ∷ []) ((a, refl), law) refl tt)
+  adds_takes c u v w id level when now answer s a law =
+      takes_on [] (steps.Add id level when now ∷ []) (running c u) (running c v) (running c w) (settles_takes c u v s)
+      (takes_one (running c v) (running c w) (Add id level when now answer) (steps.Add id level when now ∷ [])
+      ((a, refl), law) refl tt)
 
   pub fires_takes : (s t : Running C R) (now : ℕ) → (fired : Fired) × D s (Fire now (Ok fired)) t → T (steps.Advance now ∷ []) s t
   fires_takes s t now f = takes_one s t (Fire now (Ok f.0)) (steps.Advance now ∷ []) f.1 refl tt
 
   -- one step more of a list
-  pub takes_next : (xs : List Step) (i : ℕ) (x : Step) (s t u : Running C R) → i < length xs → slice_index_or xs i x ≡ x → T (take i xs) s t →
+  pub takes_next : (xs : List Step) (i : ℕ) (x : Step) (s t u : Running C R) → i < length xs → slice_index_or xs i x ≡ x
+      → T (take i xs) s t →
       T (x ∷ []) t u → T (take (i + 1) xs) s u
   takes_next xs i x s t u low is p q = subst (λ ys. T ys s u) (sym (take_more xs i x low))
       (subst (λ y. T (take i xs ++ y ∷ []) s u) (sym is) (takes_on (take i xs) (x ∷ []) s t u p q))
 
   -- all of them, and then questions
   pub takes_all : (xs : List Step) (i : ℕ) (s t u : Running C R) → length xs ≤ i → T (take i xs) s t → T [] t u → T xs s u
-  takes_all xs i s t u far p q = subst (λ ys. T ys s u) (no_more (take i xs) ∙ take_all i xs far) (takes_on (take i xs) [] s t u p q)
+  takes_all xs i s t u far p q = subst (λ ys. T ys s u) (no_more (take i xs) ∙ take_all i xs far)
+      (takes_on (take i xs) [] s t u p q)
 
   -- steps, and then questions
   pub takes_then : (xs : List Step) (s t u : Running C R) → T xs s t → T [] t u → T xs s u

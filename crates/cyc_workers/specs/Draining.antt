@@ -10,7 +10,8 @@ use Rattle.cyc_workers.specs.declared.watch.Watch.{Watch}
 
 -- The soft side went a way of its calls, and the handlers of those that it finished were called, in order, and no other. For
 -- each id the handlers' counts and the finished calls have grown by the same.
-pub record Makes {D C : Type 0} (step : D → DrainCall → D → Type 0) (made : D → ℕ → ℕ) (called : C → ℕ → C → Type 0) (count : C → ℕ → ℕ)
+pub record Makes {D C : Type 0} (step : D → DrainCall → D → Type 0) (made : D → ℕ → ℕ) (called : C → ℕ → C → Type 0)
+    (count : C → ℕ → ℕ)
     (a : SoftSide D C) (drain : D) (calls : C) : Type 0 where
   pub way : List DrainCall
   pub goes : DrainGoes step a.drain way drain
@@ -19,14 +20,17 @@ pub record Makes {D C : Type 0} (step : D → DrainCall → D → Type 0) (made 
   pub finished : (id : ℕ) → made drain id ≡ made a.drain id + finished_by id way
 
 -- calls were made; where it is idle the hand is empty
-abbrev pub Serves : {D C : Type 0} → (D → DrainCall → D → Type 0) → (D → Option ℕ) → (D → ℕ → ℕ) → (C → ℕ → C → Type 0) → (C → ℕ → ℕ)
+abbrev pub Serves : {D C : Type 0} → (D → DrainCall → D → Type 0) → (D → Option ℕ) → (D → ℕ → ℕ) → (C → ℕ → C → Type 0)
+    → (C → ℕ → ℕ)
     → Bool → SoftSide D C → SoftSide D C → Type 0
 Serves step held made called count idle a b = Makes step made called count a b.drain b.calls × (IsTrue idle → held b.drain ≡ None)
 
 -- calls were made, and then a handler refused that may refuse at that moment: its cyclic is in hand, and no count changed
-abbrev pub IsRefused : {D C : Type 0} → (D → DrainCall → D → Type 0) → (D → Option ℕ) → (D → ℕ → ℕ) → (C → ℕ → C → Type 0) → (C → ℕ → ℕ)
+abbrev pub IsRefused : {D C : Type 0} → (D → DrainCall → D → Type 0) → (D → Option ℕ) → (D → ℕ → ℕ) → (C → ℕ → C → Type 0)
+    → (C → ℕ → ℕ)
     → (C → ℕ → Type 0) → SoftSide D C → SoftRefused → SoftSide D C → Type 0
-IsRefused {D} {C} step held made called count may_refuse a r b = (at : C) × Makes step made called count a b.drain at × may_refuse at r.id
+IsRefused {D} {C} step held made called count may_refuse a r b = (at : C) × Makes step made called count a b.drain at
+    × may_refuse at r.id
     × ((id : ℕ) → count b.calls id ≡ count at id) × (held b.drain ≡ Some r.id)
 
 -- it was told to stop, and has looked since
@@ -38,6 +42,7 @@ side_of b = record { drain = b.drain; calls = b.calls }
 
 -- what a draining worker leaves: it looked after it was told to stop, and found nothing; or a handler refused
 pub record HasDrained {D C : Type 0} (step : D → DrainCall → D → Type 0) (held : D → Option ℕ) (made : D → ℕ → ℕ)
-    (called : C → ℕ → C → Type 0) (count : C → ℕ → ℕ) (may_refuse : C → ℕ → Type 0) (a : SoftSide D C) (b : Drained D C) : Type 0 where
+    (called : C → ℕ → C → Type 0) (count : C → ℕ → ℕ) (may_refuse : C → ℕ → Type 0) (a : SoftSide D C)
+    (b : Drained D C) : Type 0 where
   pub stopped : IfNone b.refused (Serves step held made called count true a (side_of b) × (b.watch ≡ has_looked))
   pub refused : IfSome b.refused (λ r. IsRefused step held made called count may_refuse a r (side_of b))

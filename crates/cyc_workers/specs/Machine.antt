@@ -27,7 +27,8 @@ abbrev pub new_cpu : {R : Type 0} → ℕ → R → R → CpuView R
 new_cpu most lock low = record { cyclics = []; removal = None; size = 1; room = 1; most = most; lock = lock; low = low }
 
 -- the handlers were called for these ids, in order, and for no other; each id as often as the soft side of the ring finished it
-pub record HasServed {C : Type 0} (called : C → ℕ → C → Type 0) (count : C → ℕ → ℕ) (made : ℕ → ℕ) (calls calls' : C) : Type 0 where
+pub record HasServed {C : Type 0} (called : C → ℕ → C → Type 0) (count : C → ℕ → ℕ) (made : ℕ → ℕ)
+    (calls calls' : C) : Type 0 where
   pub ids : List ℕ
   pub called_all : FoldsTo called calls ids calls'
   pub listed : (id : ℕ) → times id ids ≡ made id
@@ -43,7 +44,8 @@ pub record Leaves {C : Type 0} (called : C → ℕ → Level → C → Type 0) (
   pub low_own : low_end.seat ≡ low_seats.raise
   pub lawful : IsLawful end_view (new_cpu most lock_end low_end)
   pub last : CpuView RaiseEnd
-  pub takes : Takes called count may_refuse RaiseEndCall end_view steps (running calls.high (new_cpu most lock_end low_end)) (running l.calls.high last)
+  pub takes : Takes called count may_refuse RaiseEndCall end_view steps (running calls.high (new_cpu most lock_end low_end))
+      (running l.calls.high last)
   pub settled : IsSettled end_view last
   pub lock_raise : l.lock.raise ≡ last.lock.seat
   pub low_raise : l.low.raise ≡ last.low.seat
@@ -79,7 +81,8 @@ pub record HasRun {C : Type 0} (called : C → ℕ → Level → C → Type 0) (
   pub low_empty : IsNewEnd ceiling low_end
   -- at last: the steps were taken, in order, on the closed rings, and nothing is outstanding
   pub last : CpuView RaiseEnd
-  pub takes : Takes called count may_refuse RaiseEndCall end_view steps (running calls.high (new_cpu most lock_end low_end)) (running e.calls.high last)
+  pub takes : Takes called count may_refuse RaiseEndCall end_view steps (running calls.high (new_cpu most lock_end low_end))
+      (running e.calls.high last)
   pub settled : IsSettled end_view last
   pub lock_ring : closed_raises e.lock ≡ raise_trail last.lock.seat
   pub low_ring : closed_raises e.low ≡ raise_trail last.low.seat

@@ -57,7 +57,8 @@ pub record IsHalted {C R : Type 0} (called : C → ℕ → Level → C → Type 
 -- why the steps ended before the last one
 abbrev pub WhyHalted : {C R : Type 0} → (C → ℕ → Level → C → Type 0) → (C → ℕ → ℕ) → (C → ℕ → Type 0)
     → (R → FiringCall → R → Type 0) → (R → FiringView) → List Step → Running C R → Halt → Type 0
-WhyHalted called count may_refuse step view all s (halt.Refused e) = (e ≡ Memory) ⊎ IsHalted called count may_refuse step view all s e
+WhyHalted called count may_refuse step view all s (halt.Refused e) = (e ≡ Memory)
+    ⊎ IsHalted called count may_refuse step view all s e
 WhyHalted called count may_refuse step view all s (halt.Told id) = CanRefuse may_refuse id
 
 -- a handler of a soft level refused, which may
@@ -81,7 +82,8 @@ EndsEarly (Ok a) None None e = ⊥
 pub record HasWorked {C R D : Type 0} (called : C → ℕ → Level → C → Type 0) (count : C → ℕ → ℕ) (may_refuse : C → ℕ → Type 0)
     (step : R → FiringCall → R → Type 0) (view : R → FiringView) (soft_step : D → DrainCall → D → Type 0) (made : D → ℕ → ℕ)
     (all : List Step) (a b : Sides R D C) : Type 0 where
-  pub taken : Takes called count may_refuse step view all (running a.firing.calls a.firing.hard) (running b.firing.calls b.firing.hard)
+  pub taken : Takes called count may_refuse step view all (running a.firing.calls a.firing.hard)
+      (running b.firing.calls b.firing.hard)
   pub settled : IsSettled view b.firing.hard
   pub lock : Makes soft_step made (at_level called Lock) count a.lock b.lock.drain b.lock.calls
   pub low : Makes soft_step made (at_level called Low) count a.low b.low.drain b.low.calls
@@ -90,6 +92,7 @@ pub record HasWorked {C R D : Type 0} (called : C → ℕ → Level → C → Ty
 abbrev pub Works : {C R D : Type 0} → (C → ℕ → Level → C → Type 0) → (C → ℕ → ℕ) → (C → ℕ → Type 0)
     → (R → FiringCall → R → Type 0) → (R → FiringView) → (D → DrainCall → D → Type 0) → (D → ℕ → ℕ)
     → List Step → Sides R D C → Result (Sides R D C) Refusal → Type 0
-Works called count may_refuse step view soft_step made all a (Ok b) = HasWorked called count may_refuse step view soft_step made all a b
+Works called count may_refuse step view soft_step made all a (Ok b) =
+    HasWorked called count may_refuse step view soft_step made all a b
 Works called count may_refuse step view soft_step made all a (Err e) =
     WhyRefused called count may_refuse step view all (running a.firing.calls a.firing.hard) e

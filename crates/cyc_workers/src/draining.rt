@@ -42,13 +42,16 @@ pub struct Drains<D, C> {
 }
 
 impl<D: Drain, C: Calls> Promise<Drained<D, C>> for Drains<D, C> {
-    ghost kept_by = { λ p r. HasDrained D.step D.held D.made (at_level C.called (level_of p.level)) C.count C.may_refuse p.side.value r };
+    ghost kept_by = { λ p r. HasDrained D.step D.held D.made
+        (at_level C.called (level_of p.level)) C.count C.may_refuse p.side.value r };
 }
 
 /// One soft interrupt.
 fn serve<D: Drain, C: Calls>(side: &mut SoftSide<D, C>, level: Soft) -> Result<Ran, SoftRefused>
-    ensures ran { IfOk result (λ r. Serves D.step D.held D.made (at_level C.called (level_of level)) C.count r.idle side.old side.new) }
-    ensures refused { IfErr result (λ r. IsRefused D.step D.held D.made (at_level C.called (level_of level)) C.count C.may_refuse side.old r side.new) }
+    ensures ran { IfOk result (λ r. Serves D.step D.held D.made
+        (at_level C.called (level_of level)) C.count r.idle side.old side.new) }
+    ensures refused { IfErr result (λ r. IsRefused D.step D.held D.made
+        (at_level C.called (level_of level)) C.count C.may_refuse side.old r side.new) }
 {
     softint(&mut side.drain, &mut side.calls, level, BUDGET)
 }

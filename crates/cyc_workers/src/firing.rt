@@ -35,7 +35,8 @@ pub struct Fires<R: Raise, C> {
 }
 
 impl<R: Raise, C: Calls> Promise<AfterFire<R, C>> for Fires<R, C> {
-    ghost kept_by = { λ p r. Steps C.called C.count C.may_refuse R.step R.view no_interrupts (running p.side.value.calls p.side.value.hard) (Fire p.now r.answer) (running r.calls r.hard) };
+    ghost kept_by = { λ p r. Steps C.called C.count C.may_refuse R.step R.view no_interrupts
+        (running p.side.value.calls p.side.value.hard) (Fire p.now r.answer) (running r.calls r.hard) };
 }
 
 /// Makes every expiration of a CPU that is due (`cyclic_fire` of cyclic.c, as a thread), and wakes the draining workers of its
@@ -45,7 +46,8 @@ pub fn fire<R: Raise, C: Calls>(
     now: Moment,
     wakers: &Wakers,
 ) -> AfterFire<R, C>
-    ensures { Steps C.called C.count C.may_refuse R.step R.view no_interrupts (running side.calls side.hard) (Fire now result.answer) (running result.calls result.hard) }
+    ensures { Steps C.called C.count C.may_refuse R.step R.view no_interrupts (running side.calls side.hard)
+        (Fire now result.answer) (running result.calls result.hard) }
 {
     let FiringSide {
         mut hard,

@@ -28,7 +28,8 @@ fn counts_at<R: Raise, C: Calls>(side: &mut FiringSide<R, C>, place: usize) -> L
     requires place { place < length side.old.hard.cyclics }
     requires settled { IsSettled R.view side.old.hard }
     ensures line { (c : Cyclic) → IsCyclic side.old.hard.cyclics place c → result ≡ line_of c }
-    ensures asked { Takes C.called C.count C.may_refuse R.step R.view [] (running side.old.calls side.old.hard) (running side.new.calls side.new.hard) }
+    ensures asked { Takes C.called C.count C.may_refuse R.step R.view [] (running side.old.calls side.old.hard)
+        (running side.new.calls side.new.hard) }
     ensures cyclics { side.new.hard.cyclics ≡ side.old.hard.cyclics }
     ensures settled { IsSettled R.view side.new.hard }
 {
@@ -52,7 +53,8 @@ pub fn report<R: Raise, C: Calls>(
 ) -> Result<Vec<Line>, AllocError>
     requires { IsSettled R.view side.old.hard }
     ensures lines { IfOk result (λ lines. lines.items ≡ map line_of side.old.hard.cyclics) }
-    ensures asked { Takes C.called C.count C.may_refuse R.step R.view [] (running side.old.calls side.old.hard) (running side.new.calls side.new.hard) }
+    ensures asked { Takes C.called C.count C.may_refuse R.step R.view [] (running side.old.calls side.old.hard)
+        (running side.new.calls side.new.hard) }
     ensures cyclics { side.new.hard.cyclics ≡ side.old.hard.cyclics }
     ensures settled { IsSettled R.view side.new.hard }
 {

@@ -174,8 +174,8 @@ fn work_in_scope<
 /// thread fires it at each advance.
 ///
 /// Refuses with Memory where a growth of memory was refused or no thread could be made, with NoCyclic where a step adds an id
-/// that is here already, with what a fire refuses, and with HandlerRefused where a handler did; that of a fire comes first, then that
-/// of the lock level, then that of the low level. Other refusals of an add are passed over. Whatever the answer, each thread
+/// that is here already, with what a fire refuses, and with HandlerRefused where a handler did; that of a fire comes first, then
+/// that of the lock level, then that of the low level. Other refusals of an add are passed over. Whatever the answer, each thread
 /// was told to stop, woken and joined.
 pub fn work_sides<
     W: Threads + Wait + Sync,

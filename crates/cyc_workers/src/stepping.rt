@@ -52,8 +52,10 @@ fn add<W: Wait, R: Raise, C: Calls>(
     wakers: &Wakers,
     signals: &Signals<C>,
 ) -> Result<(), Halt>
-    ensures taken { OnOk result (Takes C.called C.count C.may_refuse R.step R.view (Step.Add step.0 step.1 step.2 step.3 ∷ []) (running side.old.calls side.old.hard) (running side.new.calls side.new.hard)) }
-    ensures halted { IfErr result (λ h. StepHalts C.called C.count C.may_refuse R.step R.view (Step.Add step.0 step.1 step.2 step.3) (running side.old.calls side.old.hard) h) }
+    ensures taken { OnOk result (Takes C.called C.count C.may_refuse R.step R.view (Step.Add step.0 step.1 step.2 step.3 ∷ [])
+        (running side.old.calls side.old.hard) (running side.new.calls side.new.hard)) }
+    ensures halted { IfErr result (λ h. StepHalts C.called C.count C.may_refuse R.step R.view
+        (Step.Add step.0 step.1 step.2 step.3) (running side.old.calls side.old.hard) h) }
 {
     let (id, level, when, now) = step;
     if let Some(id) = settle(rt, &mut side.hard, wakers, signals) {
@@ -84,7 +86,8 @@ fn fire_in_thread<
     now: Moment,
     wakers: &'s Wakers,
 ) -> Result<AfterFire<R, C>, Halt>
-    ensures fired { IfOk result (λ a. Steps C.called C.count C.may_refuse R.step R.view no_interrupts (running side.calls side.hard) (Fire now a.answer) (running a.calls a.hard)) }
+    ensures fired { IfOk result (λ a. Steps C.called C.count C.may_refuse R.step R.view no_interrupts
+        (running side.calls side.hard) (Fire now a.answer) (running a.calls a.hard)) }
     ensures refused { IfErr result (λ h. h ≡ Halt.Refused Memory) }
 {
     let promise = Fires {
@@ -121,8 +124,10 @@ fn advance<
     now: Moment,
     wakers: &'s Wakers,
 ) -> Result<FiringSide<R, C>, Halt>
-    ensures taken { IfOk result (λ t. Takes C.called C.count C.may_refuse R.step R.view (Step.Advance now ∷ []) (running side.calls side.hard) (running t.calls t.hard)) }
-    ensures halted { IfErr result (λ h. StepHalts C.called C.count C.may_refuse R.step R.view (Step.Advance now) (running side.calls side.hard) h) }
+    ensures taken { IfOk result (λ t. Takes C.called C.count C.may_refuse R.step R.view (Step.Advance now ∷ [])
+        (running side.calls side.hard) (running t.calls t.hard)) }
+    ensures halted { IfErr result (λ h. StepHalts C.called C.count C.may_refuse R.step R.view (Step.Advance now)
+        (running side.calls side.hard) h) }
 {
     let after = fire_in_thread(scope, rt, side, now, wakers)?;
     match why(&after.answer) {
@@ -149,8 +154,10 @@ fn take_step<
     wakers: &'s Wakers,
     signals: &Signals<C>,
 ) -> Result<FiringSide<R, C>, Halt>
-    ensures taken { IfOk result (λ t. Takes C.called C.count C.may_refuse R.step R.view (step ∷ []) (running side.calls side.hard) (running t.calls t.hard)) }
-    ensures halted { IfErr result (λ h. StepHalts C.called C.count C.may_refuse R.step R.view step (running side.calls side.hard) h) }
+    ensures taken { IfOk result (λ t. Takes C.called C.count C.may_refuse R.step R.view (step ∷ []) (running side.calls side.hard)
+        (running t.calls t.hard)) }
+    ensures halted { IfErr result (λ h. StepHalts C.called C.count C.may_refuse R.step R.view step
+        (running side.calls side.hard) h) }
 {
     match step {
         Step::Add {
@@ -185,9 +192,11 @@ pub fn take_steps<
     wakers: &'s Wakers,
     signals: &Signals<C>,
 ) -> Result<FiringSide<R, C>, Halt>
-    ensures taken { IfOk result (λ t. Takes C.called C.count C.may_refuse R.step R.view steps.now (running side.calls side.hard) (running t.calls t.hard)) }
+    ensures taken { IfOk result (λ t. Takes C.called C.count C.may_refuse R.step R.view steps.now (running side.calls side.hard)
+        (running t.calls t.hard)) }
     ensures settled { IfOk result (λ t. IsSettled R.view t.hard) }
-    ensures halted { IfErr result (λ h. WhyHalted C.called C.count C.may_refuse R.step R.view steps.now (running side.calls side.hard) h) }
+    ensures halted { IfErr result (λ h. WhyHalted C.called C.count C.may_refuse R.step R.view steps.now
+        (running side.calls side.hard) h) }
 {
     let mut side = side;
     for i in 0..steps.len() {

@@ -1,5 +1,6 @@
 -- A fire at any point of its list: the expirations that are left are those of the cyclics as they stand.
-use Rattle.std.proofs.Common.{◌≡◌, ℕ, zero, suc, ◌+◌, ◌<◌, ◌≤◌, Bool, true, false, cond, List, [], ◌∷◌, ◌++◌, refl, sym, ap, ◌∙◌, subst, arith, length, inl, inr, get_or, All, append_assoc, append-nil, min, ◌*◌, ◌-◌, ◌/◌}
+use Rattle.std.proofs.Common.{◌≡◌, ℕ, zero, suc, ◌+◌, ◌<◌, ◌≤◌, Bool, true, false, cond, List, [], ◌∷◌, ◌++◌, refl, sym, ap, ◌∙◌}
+use Rattle.std.proofs.Common.{subst, arith, length, inl, inr, get_or, All, append_assoc, append-nil, min, ◌*◌, ◌-◌, ◌/◌}
 use Rattle.std.proofs.Math.ListN.{set}
 use Rattle.std.proofs.Math.Nat.{lt-div-mul-add}
 use Rattle.std.proofs.lemmas.List.Elements.{All-set, recursion_from_All, All-from_get_or}
@@ -13,12 +14,18 @@ use Rattle.cyc_expirations.specs.Expirations.{Expiration, is_before, expirations
 use Rattle.cyc_expirations.specs.Timers.{Timer, HasDistinctIds, IsSound}
 use Rattle.cyc_expirations.proofs.Order.{before_total, before_trans}
 use Rattle.cyc_expirations.proofs.Dues.{due_step, due_later, next_later}
-use Rattle.cyc_expirations.proofs.Firings.{IsLeastAt, Expires, Firing, fire_step, expirations_none, expirations_first, expirations_step}
+use Rattle.cyc_expirations.proofs.Firings.{IsLeastAt, Expires, Firing, fire_step, expirations_none, expirations_first}
+use Rattle.cyc_expirations.proofs.Firings.{expirations_step}
 use Rattle.cyc_fire.proofs.Nexts.{next_step}
 
 -- every list of cyclics has a first to expire
 least : (t : Timer) (ts : List Timer) → (i : ℕ) × (i < length (t ∷ ts)) × IsLeastAt (t ∷ ts) i
-least t [] = (0, omega arith, λ k d low. subst (λ n. is_before (next_of t) (next_of (get_or (t ∷ []) n d)) ≡ true) (let z : 0 ≡ k = omega (arith, low) in z) (itself t))
+least t [] = (
+  0,
+  omega arith,
+  λ k d low. subst (λ n. is_before (next_of t) (next_of (get_or (t ∷ []) n d)) ≡ true)
+      (let z : 0 ≡ k = omega (arith, low) in z) (itself t),
+)
   where
     itself : (x : Timer) → is_before (next_of x) (next_of x) ≡ true
     itself x = grind (arith, nat_tests)
@@ -29,18 +36,21 @@ least t (u ∷ us) =
     itself : (x : Timer) → is_before (next_of x) (next_of x) ≡ true
     itself x = grind (arith, nat_tests)
 
-    pick : (b : Bool) (i : ℕ) → is_before (next_of t) (next_of (get_or (u ∷ us) i t)) ≡ b → i < length (u ∷ us) → IsLeastAt (u ∷ us) i →
+    pick : (b : Bool) (i : ℕ) → is_before (next_of t) (next_of (get_or (u ∷ us) i t)) ≡ b → i < length (u ∷ us)
+        → IsLeastAt (u ∷ us) i →
         (j : ℕ) × (j < length (t ∷ u ∷ us)) × IsLeastAt (t ∷ u ∷ us) j
     pick true i is low first = (0, omega arith, at)
       where
         at : IsLeastAt (t ∷ u ∷ us) 0
         at zero d h = itself t
         at (suc k) d h = before_trans (next_of t) (next_of (get_or (u ∷ us) i t)) (next_of (get_or (u ∷ us) k d)) is
-            (subst (λ x. is_before (next_of x) (next_of (get_or (u ∷ us) k d)) ≡ true) (get_or_default (u ∷ us) i d t low) (first k d (omega (arith, h))))
+            (subst (λ x. is_before (next_of x) (next_of (get_or (u ∷ us) k d)) ≡ true) (get_or_default (u ∷ us) i d t low)
+            (first k d (omega (arith, h))))
     pick false i is low first = (suc i, omega (arith, low), at)
       where
         at : IsLeastAt (t ∷ u ∷ us) (suc i)
-        at zero d h = subst (λ x. is_before (next_of x) (next_of t) ≡ true) (get_or_default (u ∷ us) i t d low) (before_total (next_of t) (next_of (get_or (u ∷ us) i t)) is)
+        at zero d h = subst (λ x. is_before (next_of x) (next_of t) ≡ true) (get_or_default (u ∷ us) i t d low)
+            (before_total (next_of t) (next_of (get_or (u ∷ us) i t)) is)
         at (suc k) d h = first k d (omega (arith, h))
 
 -- the moment after one expiration of a cyclic that is due: the next of its series, or where it is late the first above now
@@ -63,7 +73,8 @@ skip_due : (e t now : ℕ) → e ≤ now → e + t + late < now → now < never 
 skip_due e t now h far last some = grind (arith, nat_tests)
 
 -- an expiration at a moment that is not skipped, or the one expiration of a cyclic that is late
-pub expires : (now : ℕ) (t : Timer) → t.moment ≤ now → now < never → IsSound t → (u : Timer) × Expires now t u × (u.moment ≤ never)
+pub expires : (now : ℕ) (t : Timer) → t.moment ≤ now → now < never → IsSound t → (u : Timer) × Expires now t u
+    × (u.moment ≤ never)
 expires now t reached last sound = elim (cases_lt (t.moment + t.interval + late) now) [
   | inl far ↦
       let e = t.moment in
@@ -74,7 +85,17 @@ expires now t reached last sound = elim (cases_lt (t.moment + t.interval + late)
       let same = next_later (next e v now) v now above in
       let z : next e v now ≤ never = next_few e v now sound.moment in (
         record t { moment = next e v now; expired = t.expired + 1 },
-        record { same_id = refl; same_level = refl; same_interval = refl; count = refl; step = omega (arith, one, none); as_next = sym same; follows = λ p. absurd (omega (arith, p, none)); later = omega (arith, above, reached) },
+        record {
+          same_id = refl;
+          same_level = refl;
+          same_interval = refl;
+          count = refl;
+          step = omega (arith, one, none);
+          as_next =
+              sym same;
+          follows = λ p. absurd (omega (arith, p, none));
+          later = omega (arith, above, reached);
+        },
         z,
       )
   | inr near ↦
@@ -83,7 +104,17 @@ expires now t reached last sound = elim (cases_lt (t.moment + t.interval + late)
       let d = due_step e v now (min (e + v) never) reached last sound.some refl (omega (arith, near)) in
       let n = next_step e v now (min (e + v) never) reached last sound.some refl in (
         record t { moment = min (e + v) never; expired = t.expired + 1 },
-        record { same_id = refl; same_level = refl; same_interval = refl; count = refl; step = d; as_next = n; follows = λ p. within e v now last p; later = omega (arith, (let b = sound.moment in b)) },
+        record {
+          same_id = refl;
+          same_level = refl;
+          same_interval = refl;
+          count = refl;
+          step = d;
+          as_next = n;
+          follows =
+              λ p. within e v now last p;
+          later = omega (arith, (let b = sound.moment in b));
+        },
         omega arith,
       )
 ]
@@ -99,12 +130,19 @@ expires now t reached last sound = elim (cases_lt (t.moment + t.interval + late)
     ]
 
 -- where a fire stands, it makes what is left of its list
-pub goes_through : (now : ℕ) (xs rest made done : List Expiration) (ts base cur : List Timer) → now < never → HasDistinctIds ts → HasDistinctIds base → All IsSound cur →
+pub goes_through : (now : ℕ) (xs rest made done : List Expiration) (ts base cur : List Timer) → now < never → HasDistinctIds ts
+    → HasDistinctIds base → All IsSound cur →
     Firing now made ts cur → Firing now done base cur → expirations now cur ≡ xs ++ rest →
     (end : List Timer) × Firing now (made ++ xs) ts end × Firing now (done ++ xs) base end × All IsSound end
-goes_through now [] rest made done ts base cur last apart other sound f g left =
-    (cur, subst (λ m. Firing now m ts cur) (sym (append-nil made)) f, subst (λ m. Firing now m base cur) (sym (append-nil done)) g, sound)
-goes_through now (x ∷ xs) rest made done ts base [] last apart other sound f g left = absurd (no_cons (sym left ∙ expirations_none now [] tt))
+goes_through now [] rest made done ts base cur last apart other sound f g left = (
+  cur,
+  subst (λ m. Firing now m ts cur) (sym (append-nil made)) f,
+  subst (λ m. Firing now m base cur)
+      (sym (append-nil done)) g,
+  sound,
+)
+goes_through now (x ∷ xs) rest made done ts base [] last apart other sound f g left =
+    absurd (no_cons (sym left ∙ expirations_none now [] tt))
   where
     no_cons : x ∷ xs ++ rest ≡ [] → ⊥
     no_cons e = let n = ap length e in omega (arith, n)
@@ -118,12 +156,26 @@ goes_through now (x ∷ xs) rest made done ts base (c ∷ cs) last apart other s
     let same : next_of t ≡ x = ap (first_or x) (sym head ∙ left) in
     let step = expirations_step now (c ∷ cs) i t u low is first e in
     let left' : expirations now (set (c ∷ cs) i u) ≡ xs ++ rest = ap rest_of (sym step ∙ left) in
-    let f' = subst (λ p. Firing now (made ++ p ∷ []) ts (set (c ∷ cs) i u)) same (fire_step now made ts (c ∷ cs) i t u f apart low is first e) in
-    let g' = subst (λ p. Firing now (done ++ p ∷ []) base (set (c ∷ cs) i u)) same (fire_step now done base (c ∷ cs) i t u g other low is first e) in
+    let f' = subst (λ p. Firing now (made ++ p ∷ []) ts (set (c ∷ cs) i u)) same
+    (fire_step now made ts (c ∷ cs) i t u f apart low is first e) in
+    let g' = subst (λ p. Firing now (done ++ p ∷ []) base (set (c ∷ cs) i u)) same
+    (fire_step now done base (c ∷ cs) i t u g other low is first e) in
     let s = sound i c low in
-    let sound' = All-set IsSound (c ∷ cs) i u (record { moment = few; some = subst (λ n. 0 < n) (sym e.same_interval) s.some; most = subst (λ n. n ≤ never) (sym e.same_interval) s.most }) sound in
-    let (end, a, b, z) = goes_through now xs rest (made ++ x ∷ []) (done ++ x ∷ []) ts base (set (c ∷ cs) i u) last apart other sound' f' g' left' in
-    (end, subst (λ m. Firing now m ts end) (append_assoc made (x ∷ []) xs) a, subst (λ m. Firing now m base end) (append_assoc done (x ∷ []) xs) b, z)
+    let sound' = All-set IsSound (c ∷ cs) i u
+    (record {
+      moment = few;
+      some = subst (λ n. 0 < n) (sym e.same_interval) s.some;
+      most =
+          subst (λ n. n ≤ never) (sym e.same_interval) s.most;
+    }) sound in
+    let (end, a, b, z) = goes_through now xs rest (made ++ x ∷ []) (done ++ x ∷ []) ts base
+    (set (c ∷ cs) i u) last apart other sound' f' g' left' in (
+      end,
+      subst (λ m. Firing now m ts end) (append_assoc made (x ∷ []) xs) a,
+      subst (λ m. Firing now m base end)
+          (append_assoc done (x ∷ []) xs) b,
+      z,
+    )
   where
     first_or : Expiration → List Expiration → Expiration
     first_or d [] = d
@@ -136,13 +188,16 @@ goes_through now (x ∷ xs) rest made done ts base (c ∷ cs) last apart other s
     no_sooner : (now : ℕ) (t u : Timer) → now < t.moment → is_before (next_of t) (next_of u) ≡ true → now < u.moment
     no_sooner now t u later h = grind (arith, nat_tests)
 
-    all_later : (i : ℕ) (t : Timer) → i < length (c ∷ cs) → t ≡ get_or (c ∷ cs) i t → IsLeastAt (c ∷ cs) i → now < t.moment → AllByRecursion (λ t. now < t.moment) (c ∷ cs)
-    all_later i t low is first later = recursion_from_All (λ t. now < t.moment) (c ∷ cs) (All-from_get_or (λ t. now < t.moment) (c ∷ cs) t (λ k h.
+    all_later : (i : ℕ) (t : Timer) → i < length (c ∷ cs) → t ≡ get_or (c ∷ cs) i t → IsLeastAt (c ∷ cs) i → now < t.moment
+        → AllByRecursion (λ t. now < t.moment) (c ∷ cs)
+    all_later i t low is first later = recursion_from_All (λ t. now < t.moment) (c ∷ cs)
+        (All-from_get_or (λ t. now < t.moment) (c ∷ cs) t (λ k h.
         let o = subst (λ x. is_before (next_of x) (next_of (get_or (c ∷ cs) k t)) ≡ true) (sym is) (first k t h) in
         no_sooner now t (get_or (c ∷ cs) k t) later o))
 
     due_now : (i : ℕ) (t : Timer) → i < length (c ∷ cs) → t ≡ get_or (c ∷ cs) i t → IsLeastAt (c ∷ cs) i → t.moment ≤ now
     due_now i t low is first = elim (cases_lt now t.moment) [
-      | inl later ↦ absurd (let n = ap length (sym (expirations_none now (c ∷ cs) (all_later i t low is first later)) ∙ left) in omega (arith, n))
+      | inl later ↦ absurd (let n = ap length (sym (expirations_none now (c ∷ cs) (all_later i t low is first later)) ∙ left) in
+          omega (arith, n))
       | inr here ↦ here
     ]

@@ -24,14 +24,16 @@ told (Counted id) = 0
 counted_is : (j id : ℕ) → Counted j ≡ One id → ⊥
 counted_is j id e = subst (λ (g : Granted). elim g as (λ x. Type 0) [ Nothing ↦ ⊥ | One k ↦ ⊥ | Counted k ↦ Unit {0} ]) e tt
 
-pub handed_out : (high : Option ℕ) (ids : List ℕ) (left : Granted) → FoldsTo (at_level granted_called High) (grant high) ids left → IsHandedOut high ids
+pub handed_out : (high : Option ℕ) (ids : List ℕ) (left : Granted) → FoldsTo (at_level granted_called High) (grant high) ids left
+    → IsHandedOut high ids
 unfolding told
 handed_out high [] left way = inl refl
 handed_out None (id ∷ ids) left (m, (e, f), rest) = absurd (nothing_is id e)
 handed_out (Some x) (id ∷ []) left (m, (e, f), rest) = inr (x, refl, ap (λ n. n ∷ []) (sym (ap told e)))
 handed_out (Some x) (id ∷ (j ∷ ids)) left (m, (e, f), (n, (g, h), rest)) = absurd (counted_is id j (sym f ∙ g))
 
-pub parts : {R : Type 0} (step : R → FiringCall → R → Type 0) (view : R → FiringView) (now : ℕ) (answer : Result Fired FireRefused)
+pub parts : {R : Type 0} (step : R → FiringCall → R → Type 0) (view : R → FiringView) (now : ℕ)
+    (answer : Result Fired FireRefused)
     (high high' : Option ℕ) (v w : CpuView R) → Fires step view now answer high v high' w → IsPart now answer high v
 parts step view now (Ok r) high high' v w (left, (soon, same, expired, next, makes), stopped) =
     (expired, handed_out high _ left makes.acts.called_in_order)

@@ -3,7 +3,8 @@ use Rattle.std.proofs.Common.{◌≡◌, ℕ, Bool, false, Option, Some, None, r
 use Rattle.std.specs.Prelude.{IsTrue, IsSome, ◌↔◌}
 use Rattle.cyclic_c.specs.Border.{Through}
 
-pub through : {X : Type 0} (m n : Option X) (v w : X) (r : ℕ) (made : X → X → Type 0) → m ≡ Some v → n ≡ Some w → made v w → Through m n r made
+pub through : {X : Type 0} (m n : Option X) (v w : X) (r : ℕ) (made : X → X → Type 0) → m ≡ Some v → n ≡ Some w → made v w
+    → Through m n r made
 through {X} m n v w r made e f h =
     subst (λ (x : Option X). Through x n r made) (sym e) (subst (λ (y : Option X). Through (Some v) y r made) (sym f) h)
 

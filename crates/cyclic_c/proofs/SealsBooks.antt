@@ -56,12 +56,14 @@ module _ {M : Type 1} {𝓤 : Ura M} {𝓛 : Logic 𝓤} {K : Type 0} {Γ : List
   sealed_out t d x is vs k =
       fsplit t $ fpick t (λ vss. fsplit t $ feq_l t (λ ev. fsplit t $ feq_l t (λ ep. drop t $
       rewrite t 0 (λ (m : Option R.Denot). ‵ (owned R d.at m)) is refl $
-      in_a_block t d.at (λ p. owned R p (Some x)) (fst∗ 𝓤 (never 𝓤) (sem 𝓛 (may_free (bare (lone R.mir)) null_ptr))) (λ b o e. k b o
+      in_a_block t d.at (λ p. owned R p (Some x)) (fst∗ 𝓤 (never 𝓤) (sem 𝓛 (may_free (bare (lone R.mir)) null_ptr)))
+      (λ b o e. k b o
       (subst (λ (p : Ptr). vs ≡ vstruct (of_list (ptr_val p ∷ [])) ∷ []) e
       (subst (λ (ps : List Val). vs ≡ vstruct (of_list (ps ++ [])) ∷ []) ep ev))))))
 
   pub sealed_in : K → (p : Ptr) (m : Option R.Denot)
       → Step K 𝓛 (‵ (Sealed.own_val (record { at = p; held = m }) (one (ptr_val p) ∷ [])) ∷ Γ) G (‵ (owned R p m) ∷ Γ) G
   sealed_in t p m = step (λ s. let v : Val = one (ptr_val p) in
-      nothing t $ feq_i t (List Val) (ptr_val p ∷ []) (ptr_val p ∷ []) refl $ fjoin t $ feq_i t (List Val) (v ∷ []) (v ∷ []) refl $ fjoin t $
+      nothing t $ feq_i t (List Val) (ptr_val p ∷ []) (ptr_val p ∷ []) refl $ fjoin t $ feq_i t (List Val) (v ∷ [])
+      (v ∷ []) refl $ fjoin t $
       fpack t (Valss (RawPtr ∷ [])) (within (shape sealed.the_type) (p, tt) (v ∷ [])) (ptr_val p ∷ [], tt) $ fjoin t $ s)

@@ -20,17 +20,20 @@ use Rattle.cyclic_c.specs.declared.granted.Granted.TheVariants.{Nothing, One, Co
 pub nothing_is : (id : ℕ) → Nothing ≡ One id → ⊥
 nothing_is id e = subst (λ (g : Granted). elim g as (λ x. Type 0) [ Nothing ↦ Unit {0} | One j ↦ ⊥ | Counted j ↦ ⊥ ]) e tt
 
-none_made : (level : Level) (ran : List Served) (left : Granted) → FoldsTo (at_level granted_called level) Nothing (ids ran) left → length ran ≡ 0
+none_made : (level : Level) (ran : List Served) (left : Granted) → FoldsTo (at_level granted_called level) Nothing (ids ran) left
+    → length ran ≡ 0
 none_made level [] left way = refl
 none_made level (s ∷ ran) left (m, (e, made), rest) = absurd (nothing_is s.id e)
 
 module _ (level : Soft) (a b : Tables) (left : Granted) where
   pub idle_of : (answer : Result Ran SoftRefused)
-      → IsSoftint drains held_at done_at (at_level granted_called (level_of level)) granted_count GrantedRefuses 1 answer a Nothing b left
+      → IsSoftint drains held_at done_at (at_level granted_called (level_of level)) granted_count GrantedRefuses 1 answer a
+      Nothing b left
       → IfOk answer (λ r. IsTrue r.idle → HasEmptyLists b) → IfNone (refused_at answer) (HasEmptyLists b)
   idle_of (Ok r) did empty =
       let (ran, same, serves, held) = did.served in
-      let none : r.calls < 1 = subst (λ n. n < 1) (same) (subst (λ n. n < 1) (sym (none_made (level_of level) ran left serves.called_all)) (lit< tt)) in
+      let none : r.calls < 1 = subst (λ n. n < 1) (same)
+      (subst (λ n. n < 1) (sym (none_made (level_of level) ran left serves.called_all)) (lit< tt)) in
       empty (did.within.1.1 none)
   idle_of (Err e) did empty = tt
 

@@ -1,5 +1,7 @@
 -- The parts of a fire, one after another, are one fire.
-use Rattle.std.proofs.Common.{◌≡◌, ◌≢◌, ℕ, suc, ◌+◌, ◌==◌, ◌<◌, Bool, true, false, cond, inl, inr, Option, Some, None, Result, Ok, Err, List, [], ◌∷◌, ◌++◌, All, length, map, sum_by, refl, sym, ap, ◌∙◌, subst, arith, append_assoc, append-nil, length-append, filter}
+use Rattle.std.proofs.Common.{◌≡◌, ◌≢◌, ℕ, suc, ◌+◌, ◌==◌, ◌<◌, Bool, true, false, cond, inl, inr, Option, Some, None, Result, Ok}
+use Rattle.std.proofs.Common.{Err, List, [], ◌∷◌, ◌++◌, All, length, map, sum_by, refl, sym, ap, ◌∙◌, subst, arith, append_assoc}
+use Rattle.std.proofs.Common.{append-nil, length-append, filter}
 use Rattle.std.specs.List.{FoldsTo, cons_option}
 use Rattle.std.proofs.lemmas.List.{append_cancel_left, length-map}
 use Rattle.std.proofs.lemmas.List.Sums.{sum_by-cons}
@@ -25,7 +27,8 @@ use Rattle.cyc_fire.proofs.Making.{same_id}
 use Rattle.cyc_cpu.specs.Cpu.{CpuView, SameCpu, sides}
 use Rattle.cyclic_c.specs.Border.{grant, stopped_at}
 use Rattle.cyclic_c.specs.Granted.{granted_called, granted_count, GrantedRefuses}
-use Rattle.cyclic_c.specs.Parts.{Paused, paused, MakesPart, IsPaused, IsOneFire, IsHandedOut, expired_of, lost_of, handed_out, notes, noted}
+use Rattle.cyclic_c.specs.Parts.{Paused, paused, MakesPart, IsPaused, IsOneFire, IsHandedOut, expired_of, lost_of, handed_out}
+use Rattle.cyclic_c.specs.Parts.{notes, noted}
 use Rattle.cyclic_c.specs.declared.granted.Granted.{Granted}
 use Rattle.cyclic_c.specs.declared.granted.Granted.TheVariants.{One}
 use Rattle.cyclic_c.proofs.HandingOut.{handed_out as handed_is}
@@ -40,7 +43,8 @@ pending (Some id) = id ∷ []
 -- the high cyclic in front of which a fire stopped comes next
 abbrev pub ComesNext : ℕ → Option ℕ → List Timer → Type 0
 ComesNext now None ts = Unit {0}
-ComesNext now (Some id) ts = (p : Expiration) × (rest : List Expiration) × (expirations now ts ≡ p ∷ rest) × (p.id ≡ id) × (is_at High ts p ≡ true)
+ComesNext now (Some id) ts = (p : Expiration) × (rest : List Expiration) × (expirations now ts ≡ p ∷ rest) × (p.id ≡ id)
+    × (is_at High ts p ≡ true)
 
 no_cons : {A : Type 0} (x : A) (xs : List A) → [] ≡ x ∷ xs → ⊥
 no_cons x xs e = cc
@@ -51,15 +55,18 @@ head_or d (p ∷ ps) = p
 
 -- ---- what a part calls
 
-one_at : (ts : List Timer) (p : Expiration) (rest : List Expiration) → is_at High ts p ≡ true → ids_at High ts (p ∷ rest) ≡ p.id ∷ ids_at High ts rest
-one_at ts p rest high = ap (λ b. map (λ (q : Expiration). q.id) (cond b (p ∷ filter (is_at High ts) rest) (filter (is_at High ts) rest))) high
+one_at : (ts : List Timer) (p : Expiration) (rest : List Expiration) → is_at High ts p ≡ true
+    → ids_at High ts (p ∷ rest) ≡ p.id ∷ ids_at High ts rest
+one_at ts p rest high = ap (λ b. map (λ (q : Expiration). q.id)
+    (cond b (p ∷ filter (is_at High ts) rest) (filter (is_at High ts) rest))) high
 
 first_is : (ts : List Timer) (p q : Expiration) (xs ys more : List Expiration) → p ∷ ys ≡ (q ∷ xs) ++ more → p ≡ q
 unfolding head_or
 first_is ts p q xs ys more e = ap (head_or p) e
 
 -- where it makes anything, it calls just the handler that was handed out
-calls_pending : (now : ℕ) (high : Option ℕ) (ts : List Timer) (q : Expiration) (xs more : List Expiration) → ComesNext now high ts → expirations now ts ≡ (q ∷ xs) ++ more →
+calls_pending : (now : ℕ) (high : Option ℕ) (ts : List Timer) (q : Expiration) (xs more : List Expiration) → ComesNext now high ts
+    → expirations now ts ≡ (q ∷ xs) ++ more →
     IsHandedOut high (ids_at High ts (q ∷ xs)) → ids_at High ts (q ∷ xs) ≡ pending high
 calls_pending now None ts q xs more next listed (inl none) = none
 calls_pending now None ts q xs more next listed (inr (id, e, is)) = absurd cc
@@ -75,24 +82,37 @@ calls_pending now (Some id) ts q xs more next listed (inr (j, e, is)) = is ∙ a
 
 writes : (level : Level) (ids more : List ℕ) → FoldsTo (at_level notes level) ids more (ids ++ more)
 writes level ids [] = sym (append-nil ids)
-writes level ids (id ∷ more) = (ids ++ id ∷ [], refl, subst (λ end. FoldsTo (at_level notes level) (ids ++ id ∷ []) more end) (append_assoc ids (id ∷ []) more) (writes level (ids ++ id ∷ []) more))
+writes level ids (id ∷ more) = (
+  ids ++ id ∷ [],
+  refl,
+  subst (λ end. FoldsTo (at_level notes level) (ids ++ id ∷ []) more end)
+      (append_assoc ids (id ∷ []) more) (writes level (ids ++ id ∷ []) more),
+)
 
 same_cpu : {R : Type 0} (v : CpuView R) → SameCpu v v
 same_cpu v = record { removal = refl; size = refl; room = refl; most = refl }
 
 cpu_then : {R : Type 0} (u v w : CpuView R) → SameCpu u v → SameCpu v w → SameCpu u w
-cpu_then u v w a b = record { removal = b.removal ∙ a.removal; size = b.size ∙ a.size; room = b.room ∙ a.room; most = b.most ∙ a.most }
+cpu_then u v w a b = record {
+  removal = b.removal ∙ a.removal;
+  size = b.size ∙ a.size;
+  room = b.room ∙ a.room;
+  most = b.most
+      ∙ a.most;
+}
 
 -- the cyclic that is found has the id
 found_id : (id : ℕ) (ts : List Timer) (t : Timer) → timer_of id ts ≡ Some t → t.id ≡ id
 found_id id [] t e = absurd cc
 found_id id (x ∷ xs) t e = here (x.id == id) refl e (found_id id xs t)
   where
-    here : (b : Bool) → (x.id == id) ≡ b → cond b (Some x) (timer_of id xs) ≡ Some t → (timer_of id xs ≡ Some t → t.id ≡ id) → t.id ≡ id
+    here : (b : Bool) → (x.id == id) ≡ b → cond b (Some x) (timer_of id xs) ≡ Some t → (timer_of id xs ≡ Some t → t.id ≡ id)
+        → t.id ≡ id
     here true is e rest = ap (λ (o : Option Timer). elim o [ None ↦ t.id | Some y ↦ y.id ]) (sym e) ∙ grind (arith, nat_tests)
     here false is e rest = rest e
 
-distinct_after : (now : ℕ) (made : List Expiration) (ts cur : List Timer) → cur ≡ all_after now made ts → HasDistinctIds ts → HasDistinctIds cur
+distinct_after : (now : ℕ) (made : List Expiration) (ts cur : List Timer) → cur ≡ all_after now made ts → HasDistinctIds ts
+    → HasDistinctIds cur
 unfolding all_after
 distinct_after now made ts cur is distinct i j d low_i low_j e =
     let long : length cur ≡ length ts = ap length is ∙ length-map ts (after now made) in
@@ -109,14 +129,17 @@ refused_is e id is = by_why e.why is
 
 module _ {R : Type 0} (step : R → FiringCall → R → Type 0) (view : R → FiringView) (now : ℕ) (soon : now < never) where
   -- a part, as handlers that write down would have it
-  as_noted : (high : Option ℕ) (xs : List Expiration) (ids : List ℕ) (x y : CpuView R) (left : Granted) (lost : ℕ) → ids_at High (timers x.cyclics) xs ≡ pending high →
-      Makes (at_level granted_called High) granted_count step view now xs x.cyclics y.cyclics (sides (grant high) x) (sides left y) lost →
+  as_noted : (high : Option ℕ) (xs : List Expiration) (ids : List ℕ) (x y : CpuView R) (left : Granted) (lost : ℕ)
+      → ids_at High (timers x.cyclics) xs ≡ pending high →
+      Makes (at_level granted_called High) granted_count step view now xs x.cyclics y.cyclics (sides (grant high) x)
+      (sides left y) lost →
       Makes (at_level notes High) noted step view now xs x.cyclics y.cyclics (sides ids x) (sides (ids ++ pending high) y) lost
   as_noted high xs ids x y left lost is m = record {
     acts = record {
       lock_way = m.acts.lock_way;
       low_way = m.acts.low_way;
-      called_in_order = subst (λ more. FoldsTo (at_level notes High) ids (ids_at High (timers x.cyclics) xs) (ids ++ more)) is (writes High ids (ids_at High (timers x.cyclics) xs));
+      called_in_order = subst (λ more. FoldsTo (at_level notes High) ids (ids_at High (timers x.cyclics) xs) (ids ++ more)) is
+          (writes High ids (ids_at High (timers x.cyclics) xs));
       counted = λ id. times_on id ids (pending high) ∙ sym (ap (λ more. times id ids + times id more) is);
       lock_goes = m.acts.lock_goes;
       low_goes = m.acts.low_goes;
@@ -143,7 +166,17 @@ module _ {R : Type 0} (step : R → FiringCall → R → Type 0) (view : R → F
     sound = sound;
     same = same_cpu v;
     makes = record {
-      acts = record { lock_way = []; low_way = []; called_in_order = refl; counted = λ id. omega arith; lock_goes = refl; low_goes = refl; lock_raises = tt; low_raises = tt };
+      acts = record {
+        lock_way = [];
+        low_way = [];
+        called_in_order = refl;
+        counted = λ id. omega arith;
+        lock_goes =
+            refl;
+        low_goes = refl;
+        lock_raises = tt;
+        low_raises = tt;
+      };
       timers_are = (fire_start now (timers v.cyclics)).is;
       carried_are = refl;
       losses_are = none_lost v.cyclics;
@@ -152,12 +185,14 @@ module _ {R : Type 0} (step : R → FiringCall → R → Type 0) (view : R → F
     next = tt;
   }
     where
-      none_lost : (cs : List Cyclic) → map (λ (c : Cyclic). c.lost) cs ≡ map (λ (c : Cyclic). lost_after [] [] c.timer.id c.lost) cs
+      none_lost : (cs : List Cyclic) → map (λ (c : Cyclic). c.lost) cs
+          ≡ map (λ (c : Cyclic). lost_after [] [] c.timer.id c.lost) cs
       none_lost [] = refl
       none_lost (c ∷ cs) = (let z : c.lost ≡ lost_after [] [] c.timer.id c.lost = omega arith in λ j. z j ∷ none_lost cs j)
 
   -- and after a part more
-  goes_on : (v : CpuView R) (made xs rest : List Expiration) (ids more : List ℕ) (lost lost' : ℕ) (s t : Paused R) → HasDistinctIds (timers v.cyclics) → Stands v made ids lost s →
+  goes_on : (v : CpuView R) (made xs rest : List Expiration) (ids more : List ℕ) (lost lost' : ℕ) (s t : Paused R)
+      → HasDistinctIds (timers v.cyclics) → Stands v made ids lost s →
       expirations now (timers s.cpu.cyclics) ≡ xs ++ rest → SameCpu s.cpu t.cpu →
       Makes (at_level notes High) noted step view now xs s.cpu.cyclics t.cpu.cyclics (sides ids s.cpu) (sides more t.cpu) lost' →
       (expirations now (timers t.cpu.cyclics) ≡ rest → ComesNext now t.high (timers t.cpu.cyclics)) →
@@ -165,38 +200,46 @@ module _ {R : Type 0} (step : R → FiringCall → R → Type 0) (view : R → F
   goes_on v made xs rest ids more lost lost' s t distinct at listed same m next =
       let ts = timers s.cpu.cyclics in
       let here = distinct_after now made (timers v.cyclics) ts at.firing.is distinct in
-      let (end, f, g, sound) = goes_through now xs rest made [] (timers v.cyclics) ts ts soon distinct here at.sound at.firing (fire_start now ts) listed in
+      let (end, f, g, sound) = goes_through now xs rest made [] (timers v.cyclics) ts ts soon distinct here at.sound at.firing
+      (fire_start now ts) listed in
       let is : end ≡ timers t.cpu.cyclics = g.is ∙ sym m.timers_are in
-      let left : expirations now (timers t.cpu.cyclics) ≡ rest = append_cancel_left xs (expirations now (timers t.cpu.cyclics)) rest
+      let left : expirations now (timers t.cpu.cyclics) ≡ rest =
+      append_cancel_left xs (expirations now (timers t.cpu.cyclics)) rest
       (ap (λ x. xs ++ expirations now x) (sym is) ∙ sym g.whole ∙ listed) in
       let f' = subst (λ x. Firing now (made ++ xs) (timers v.cyclics) x) is f in (
         record {
           firing = f';
           sound = subst (λ x. All IsSound x) is sound;
           same = cpu_then v s.cpu t.cpu at.same same;
-          makes = makes_more (at_level notes High) noted step view now made xs v.cyclics s.cpu.cyclics t.cpu.cyclics (sides [] v) (sides ids s.cpu) (sides more t.cpu) lost lost' (sym f'.is) at.makes m;
+          makes = makes_more (at_level notes High) noted step view now made xs v.cyclics s.cpu.cyclics t.cpu.cyclics (sides [] v)
+              (sides ids s.cpu) (sides more t.cpu) lost lost' (sym f'.is) at.makes m;
           next = next left;
         },
         left,
       )
 
   -- the last part makes all that is left
-  calls_all : (high : Option ℕ) (ts : List Timer) (xs : List Expiration) → ComesNext now high ts → expirations now ts ≡ xs → IsHandedOut high (ids_at High ts xs) → ids_at High ts xs ≡ pending high
+  calls_all : (high : Option ℕ) (ts : List Timer) (xs : List Expiration) → ComesNext now high ts → expirations now ts ≡ xs
+      → IsHandedOut high (ids_at High ts xs) → ids_at High ts xs ≡ pending high
   calls_all None ts [] next is h = refl
   calls_all (Some id) ts [] (p, rest, head, named, high) is h = absurd (no_cons p rest (sym is ∙ head))
   calls_all high ts (q ∷ xs) next is h = calls_pending now high ts q xs [] next (is ∙ sym (append-nil (q ∷ xs))) h
 
   -- a part that stops in front of another has made the call that was handed out
-  calls_front : (high : Option ℕ) (ts : List Timer) (xs : List Expiration) (last : Expiration) (rest : List Expiration) (at : Granted) → ComesNext now high ts →
-      expirations now ts ≡ xs ++ last ∷ rest → FoldsTo (at_level granted_called High) (grant high) (ids_at High ts xs) at → GrantedRefuses at last.id → ids_at High ts xs ≡ pending high
+  calls_front : (high : Option ℕ) (ts : List Timer) (xs : List Expiration) (last : Expiration) (rest : List Expiration)
+      (at : Granted) → ComesNext now high ts →
+      expirations now ts ≡ xs ++ last ∷ rest → FoldsTo (at_level granted_called High) (grant high) (ids_at High ts xs) at
+      → GrantedRefuses at last.id → ids_at High ts xs ≡ pending high
   unfolding head_or
   calls_front None ts [] last rest at next listed way refuses = refl
   calls_front (Some id) ts [] last rest at (p, more, head, named, high) listed way refuses =
       let same : p ≡ last = ap (head_or p) (sym head ∙ listed) in
       absurd (refuses (sym way ∙ ap One (sym named ∙ ap (λ (x : Expiration). x.id) same)))
-  calls_front high ts (q ∷ xs) last rest at next listed way refuses = calls_pending now high ts q xs (last ∷ rest) next listed (handed_is high (ids_at High ts (q ∷ xs)) at way)
+  calls_front high ts (q ∷ xs) last rest at next listed way refuses =
+      calls_pending now high ts q xs (last ∷ rest) next listed (handed_is high (ids_at High ts (q ∷ xs)) at way)
 
-  handed_first : (answer : Result Fired FireRefused) (parts : List (Result Fired FireRefused)) (high : Option ℕ) → high ≡ stopped_at answer → pending high ++ handed_out parts ≡ handed_out (answer ∷ parts)
+  handed_first : (answer : Result Fired FireRefused) (parts : List (Result Fired FireRefused)) (high : Option ℕ)
+      → high ≡ stopped_at answer → pending high ++ handed_out parts ≡ handed_out (answer ∷ parts)
   handed_first answer parts high is = joined high ∙ ap (λ h. cons_option h (handed_out parts)) is
     where
       joined : (h : Option ℕ) → pending h ++ handed_out parts ≡ cons_option h (handed_out parts)
@@ -205,67 +248,92 @@ module _ {R : Type 0} (step : R → FiringCall → R → Type 0) (view : R → F
 
   -- what the whole comes to
   abbrev Whole : CpuView R → CpuView R → ℕ → Fired → List ℕ → ℕ → Type 0
-  Whole v w expired last ids lost = (now ≢ never) × SameCpu v w × (expired ≡ length (expirations now (timers v.cyclics))) × (last.next ≡ earliest (timers w.cyclics))
-      × Makes (at_level notes High) noted step view now (expirations now (timers v.cyclics)) v.cyclics w.cyclics (sides [] v) (sides ids w) lost
+  Whole v w expired last ids lost = (now ≢ never) × SameCpu v w × (expired ≡ length (expirations now (timers v.cyclics)))
+      × (last.next ≡ earliest (timers w.cyclics))
+      × Makes (at_level notes High) noted step view now (expirations now (timers v.cyclics)) v.cyclics w.cyclics (sides [] v)
+      (sides ids w) lost
 
-  through : (v w : CpuView R) (parts : List (Result Fired FireRefused)) (last : Fired) (made : List Expiration) (ids : List ℕ) (lost : ℕ) (s : Paused R) →
-      HasDistinctIds (timers v.cyclics) → Stands v made ids lost s → All IsPaused parts → FoldsTo (MakesPart step view now) s (parts ++ Ok last ∷ []) (paused None w) →
-      Whole v w (length made + (sum_by expired_of parts + last.expired)) last (ids ++ (pending s.high ++ handed_out parts)) (lost + (sum_by lost_of parts + last.lost))
+  through : (v w : CpuView R) (parts : List (Result Fired FireRefused)) (last : Fired) (made : List Expiration) (ids : List ℕ)
+      (lost : ℕ) (s : Paused R) →
+      HasDistinctIds (timers v.cyclics) → Stands v made ids lost s → All IsPaused parts
+      → FoldsTo (MakesPart step view now) s (parts ++ Ok last ∷ []) (paused None w) →
+      Whole v w (length made + (sum_by expired_of parts + last.expired)) last (ids ++ (pending s.high ++ handed_out parts))
+      (lost + (sum_by lost_of parts + last.lost))
   through v w [] last made ids lost s distinct at stops (m, fires, end) =
       let (left, (later, same, expired, next, makes), stopped) = subst (λ x. MakesPart step view now s (Ok last) x) end fires in
       let ts = timers s.cpu.cyclics in
       let xs = expirations now ts in
       let calls = calls_all s.high ts xs at.next refl (handed_is s.high (ids_at High ts xs) left makes.acts.called_in_order) in
-      let (at', none) = goes_on v made xs [] ids (ids ++ pending s.high) lost last.lost s (paused None w) distinct at (sym (append-nil xs)) same
+      let (at', none) = goes_on v made xs [] ids (ids ++ pending s.high) lost last.lost s (paused None w) distinct at
+      (sym (append-nil xs)) same
       (as_noted s.high xs ids s.cpu w left last.lost calls makes) (λ e. tt) in
-      let whole : expirations now (timers v.cyclics) ≡ made ++ xs = at'.firing.whole ∙ ap (λ ys. (made ++ xs) ++ ys) none ∙ append-nil (made ++ xs) in
+      let whole : expirations now (timers v.cyclics) ≡ made ++ xs = at'.firing.whole ∙ ap (λ ys. (made ++ xs) ++ ys) none
+      ∙ append-nil (made ++ xs) in
       let long = ap length whole in
       let both = length-append made xs in
-      let ids_are : ids ++ pending s.high ≡ ids ++ (pending s.high ++ handed_out []) = ap (λ ys. ids ++ ys) (sym (append-nil (pending s.high))) in
+      let ids_are : ids ++ pending s.high ≡ ids ++ (pending s.high ++ handed_out []) =
+      ap (λ ys. ids ++ ys) (sym (append-nil (pending s.high))) in
       let lost_are : lost + last.lost ≡ lost + (sum_by lost_of [] + last.lost) = omega arith in (
         later,
         at'.same,
         omega (arith, long, both, expired),
         next,
-        subst (λ n. Makes (at_level notes High) noted step view now (expirations now (timers v.cyclics)) v.cyclics w.cyclics (sides [] v) (sides (ids ++ (pending s.high ++ handed_out [])) w) n) lost_are
-            (subst (λ ns. Makes (at_level notes High) noted step view now (expirations now (timers v.cyclics)) v.cyclics w.cyclics (sides [] v) (sides ns w) (lost + last.lost)) ids_are
-            (subst (λ ys. Makes (at_level notes High) noted step view now ys v.cyclics w.cyclics (sides [] v) (sides (ids ++ pending s.high) w) (lost + last.lost)) (sym whole) at'.makes)),
+        subst (λ n. Makes (at_level notes High) noted step view now (expirations now (timers v.cyclics)) v.cyclics w.cyclics
+            (sides [] v) (sides (ids ++ (pending s.high ++ handed_out [])) w) n) lost_are
+            (subst (λ ns. Makes (at_level notes High) noted step view now (expirations now (timers v.cyclics)) v.cyclics w.cyclics
+            (sides [] v) (sides ns w) (lost + last.lost)) ids_are
+            (subst (λ ys. Makes (at_level notes High) noted step view now ys v.cyclics w.cyclics (sides [] v)
+            (sides (ids ++ pending s.high) w) (lost + last.lost)) (sym whole) at'.makes)),
       )
-  through v w (Ok r ∷ parts) last made ids lost s distinct at stops way = absurd (let (id, e) = stops 0 (Ok r) (omega arith) in none_some e)
+  through v w (Ok r ∷ parts) last made ids lost s distinct at stops way =
+      absurd (let (id, e) = stops 0 (Ok r) (omega arith) in none_some e)
     where
       none_some : {A : Type 0} {x : A} → None ≡ Some x → ⊥
       none_some e = cc
-  through v w (Err e ∷ parts) last made ids lost s distinct at stops (m, (left, inl (never_is, is, kept), stopped), rest) = absurd (let z = never_is in omega (arith, z, soon))
+  through v w (Err e ∷ parts) last made ids lost s distinct at stops (m, (left, inl (never_is, is, kept), stopped), rest) =
+      absurd (let z = never_is in omega (arith, z, soon))
   through v w (Err e ∷ parts) last made ids lost s distinct at stops (m, (left, inr (later, same, st), stopped), rest) =
       let (id, paused_at) = stops 0 (Err e) (omega arith) in
       let ts = timers s.cpu.cyclics in
       let (t, found, why_is) = st.stops in
-      let (named, few, high, refuses) = subst (λ w. Stops GrantedRefuses s.cpu.most st.at t w) (refused_is e id paused_at) why_is in
+      let (named, few, high, refuses) = subst (λ w. Stops GrantedRefuses s.cpu.most st.at t w) (refused_is e id paused_at) why_is
+      in
       let last_is : st.last.id ≡ id = sym (found_id st.last.id (timers m.cpu.cyclics) t found) ∙ sym named in
-      let calls = calls_front s.high ts st.made st.last st.rest st.at at.next st.listed st.makes.acts.called_in_order (subst (λ n. GrantedRefuses st.at n) (sym last_is) refuses) in
+      let calls = calls_front s.high ts st.made st.last st.rest st.at at.next st.listed st.makes.acts.called_in_order
+      (subst (λ n. GrantedRefuses st.at n) (sym last_is) refuses) in
       let high_is : m.high ≡ Some id = stopped ∙ paused_at in
       let is_high : is_at High (timers m.cpu.cyclics) st.last ≡ true = ap (is_of High) found ∙ ap (same_level High) high in
-      let (at', left_is) = goes_on v made st.made (st.last ∷ st.rest) ids (ids ++ pending s.high) lost e.lost s m distinct at st.listed same
+      let (at', left_is) = goes_on v made st.made (st.last ∷ st.rest) ids
+      (ids ++ pending s.high) lost e.lost s m distinct at st.listed same
       (as_noted s.high st.made ids s.cpu m.cpu st.at e.lost calls st.makes)
       (λ left. subst (λ h. ComesNext now h (timers m.cpu.cyclics)) (sym high_is) (st.last, st.rest, left, last_is, is_high)) in
-      let (a, b, c, d, makes) = through v w parts last (made ++ st.made) (ids ++ pending s.high) (lost + e.lost) m distinct at' (λ k x h. stops (suc k) x (omega (arith, h))) rest in
+      let (a, b, c, d, makes) = through v w parts last (made ++ st.made) (ids ++ pending s.high) (lost + e.lost) m distinct at'
+      (λ k x h. stops (suc k) x (omega (arith, h))) rest in
       let both = length-append made st.made in
       let count = st.expired in
-      let ids_are : (ids ++ pending s.high) ++ (pending m.high ++ handed_out parts) ≡ ids ++ (pending s.high ++ handed_out (Err e ∷ parts)) =
-      append_assoc ids (pending s.high) (pending m.high ++ handed_out parts) ∙ ap (λ ys. ids ++ (pending s.high ++ ys)) (handed_first (Err e) parts m.high stopped) in
+      let ids_are : (ids ++ pending s.high) ++ (pending m.high ++ handed_out parts)
+      ≡ ids ++ (pending s.high ++ handed_out (Err e ∷ parts)) =
+      append_assoc ids (pending s.high) (pending m.high ++ handed_out parts)
+      ∙ ap (λ ys. ids ++ (pending s.high ++ ys)) (handed_first (Err e) parts m.high stopped) in
       let sum_lost : sum_by lost_of (Err e ∷ parts) ≡ e.lost + sum_by lost_of parts = sum_by-cons lost_of (Err e) parts in
-      let sum_expired : sum_by expired_of (Err e ∷ parts) ≡ e.expired + sum_by expired_of parts = sum_by-cons expired_of (Err e) parts in
-      let lost_are : (lost + e.lost) + (sum_by lost_of parts + last.lost) ≡ lost + (sum_by lost_of (Err e ∷ parts) + last.lost) = omega (arith, sum_lost) in (
+      let sum_expired : sum_by expired_of (Err e ∷ parts) ≡ e.expired + sum_by expired_of parts =
+      sum_by-cons expired_of (Err e) parts in
+      let lost_are : (lost + e.lost) + (sum_by lost_of parts + last.lost) ≡ lost + (sum_by lost_of (Err e ∷ parts) + last.lost) =
+      omega (arith, sum_lost) in (
         a,
         b,
         omega (arith, c, both, count, sum_expired),
         d,
-        subst (λ n. Makes (at_level notes High) noted step view now (expirations now (timers v.cyclics)) v.cyclics w.cyclics (sides [] v) (sides (ids ++ (pending s.high ++ handed_out (Err e ∷ parts))) w) n) lost_are
-            (subst (λ ns. Makes (at_level notes High) noted step view now (expirations now (timers v.cyclics)) v.cyclics w.cyclics (sides [] v) (sides ns w) ((lost + e.lost) + (sum_by lost_of parts + last.lost))) ids_are makes),
+        subst (λ n. Makes (at_level notes High) noted step view now (expirations now (timers v.cyclics)) v.cyclics w.cyclics
+            (sides [] v) (sides (ids ++ (pending s.high ++ handed_out (Err e ∷ parts))) w) n) lost_are
+            (subst (λ ns. Makes (at_level notes High) noted step view now (expirations now (timers v.cyclics)) v.cyclics w.cyclics
+            (sides [] v) (sides ns w) ((lost + e.lost) + (sum_by lost_of parts + last.lost))) ids_are makes),
       )
 
-  pub whole : (parts : List (Result Fired FireRefused)) (last : Fired) (v w : CpuView R) → HasDistinctIds (timers v.cyclics) → All IsSound (timers v.cyclics) → All IsPaused parts →
-      FoldsTo (MakesPart step view now) (paused None v) (parts ++ Ok last ∷ []) (paused None w) → IsOneFire step view now parts last v w
+  pub whole : (parts : List (Result Fired FireRefused)) (last : Fired) (v w : CpuView R) → HasDistinctIds (timers v.cyclics)
+      → All IsSound (timers v.cyclics) → All IsPaused parts →
+      FoldsTo (MakesPart step view now) (paused None v) (parts ++ Ok last ∷ []) (paused None w)
+      → IsOneFire step view now parts last v w
   whole parts last v w distinct sound stops way =
       let (a, b, c, d, makes) = through v w parts last [] [] 0 (paused None v) distinct (at_start v sound) stops way in
       let n : 0 + (sum_by lost_of parts + last.lost) ≡ sum_by lost_of parts + last.lost = omega arith in (
@@ -273,5 +341,6 @@ module _ {R : Type 0} (step : R → FiringCall → R → Type 0) (view : R → F
         b,
         omega (arith, c),
         d,
-        subst (λ l. Makes (at_level notes High) noted step view now (expirations now (timers v.cyclics)) v.cyclics w.cyclics (sides [] v) (sides (handed_out parts) w) l) n makes,
+        subst (λ l. Makes (at_level notes High) noted step view now (expirations now (timers v.cyclics)) v.cyclics w.cyclics
+            (sides [] v) (sides (handed_out parts) w) l) n makes,
       )

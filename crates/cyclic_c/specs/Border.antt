@@ -13,7 +13,8 @@ use Rattle.cyc_fire.specs.declared.fire.FireRefused.{FireRefused}
 use Rattle.cyc_cpu.specs.declared.hard.Totals.{Totals}
 use Rattle.cyc_cpu.specs.declared.removing.Removal.{Removal}
 use Rattle.cyc_cpu.specs.Cpu.{CpuView, running}
-use Rattle.cyc_cpu.specs.Calls.{Changes, Does, Add, Reprogram, AskPending, AskTotals, BeginRemove, Fire, SoftInterrupt, no_interrupts}
+use Rattle.cyc_cpu.specs.Calls.{Changes, Does, Add, Reprogram, AskPending, AskTotals, BeginRemove, Fire, SoftInterrupt}
+use Rattle.cyc_cpu.specs.Calls.{no_interrupts}
 use Rattle.cyc_cpu.specs.Soft.{fires, firing_at, Interrupts}
 use Rattle.cyclic_c.specs.Granted.{granted_count, granted_called, GrantedRefuses}
 use Rattle.cyclic_c.specs.Numbers.{number_of, level_named}
@@ -97,7 +98,8 @@ module _ {R : Type 0} (step : R → FiringCall → R → Type 0) (view : R → F
   -- an add: a cyclic here has the id, or it is an add of the CPU
   abbrev pub AddsAsked : Asked → Result (Unit {0}) Denied → CpuView R → CpuView R → Type 0
   AddsAsked a answer v w = ((n : ℕ) × (answer ≡ Err Taken) × Changes step view v (AskPending a.id (Some n)) w)
-      ⊎ ((given : Result (Unit {0}) Refusal) × (answer ≡ denied_of given) × Changes step view v (Add a.id a.level a.when a.now given) w)
+      ⊎ ((given : Result (Unit {0}) Refusal) × (answer ≡ denied_of given)
+      × Changes step view v (Add a.id a.level a.when a.now given) w)
 
   -- `cyclic_add`: the numbers are looked at first
   abbrev pub Adds : ℕ → ℕ → ℤ → ℤ → ℤ → Result (Unit {0}) Denied → CpuView R → CpuView R → Type 0
@@ -109,7 +111,8 @@ module _ {R : Type 0} (step : R → FiringCall → R → Type 0) (view : R → F
   -- goes up to the next high expiration.
   abbrev pub Fires : ℕ → Result Fired FireRefused → Option ℕ → CpuView R → Option ℕ → CpuView R → Type 0
   Fires now answer high v high' w = (left : Granted)
-      × Does granted_called granted_count GrantedRefuses step view no_interrupts (running (grant high) v) (Fire now answer) (running left w)
+      × Does granted_called granted_count GrantedRefuses step view no_interrupts (running (grant high) v) (Fire now answer)
+      (running left w)
       × (high' ≡ stopped_at answer)
 
 -- the same of a CPU on one thread, of which nothing else changes
@@ -140,7 +143,8 @@ refused_at (Err e) = Some e.id
 
 -- a take is a soft interrupt whose handlers refuse every call: it stops in front of the one that is next
 abbrev pub Takes : Soft → Option ℕ → Cpu → Cpu → Type 0
-Takes level found v w = (answer : Result Ran SoftRefused) × (found ≡ refused_at answer) × Interrupts1 level Nothing answer found v w
+Takes level found v w = (answer : Result Ran SoftRefused) × (found ≡ refused_at answer)
+    × Interrupts1 level Nothing answer found v w
 
 -- what a finish answers: the one call was counted, or nothing was in hand, or another
 abbrev pub finish_of : Result Ran SoftRefused → Result (Unit {0}) Denied → Type 0
@@ -150,4 +154,5 @@ finish_of (Err e) answer = answer ≡ Err (Refused (why.HandlerRefused e.id))
 -- a finish is a soft interrupt of one call whose handler grants the call that was taken
 abbrev pub Finishes : Soft → Result (Unit {0}) Denied → Cpu → Cpu → Type 0
 Finishes level answer v w = ((call_at level v ≡ None) × Denies Misused answer v w)
-    ⊎ ((id : ℕ) × (call_at level v ≡ Some id) × (ran : Result Ran SoftRefused) × finish_of ran answer × Interrupts1 level (One id) ran None v w)
+    ⊎ ((id : ℕ) × (call_at level v ≡ Some id) × (ran : Result Ran SoftRefused) × finish_of ran answer
+    × Interrupts1 level (One id) ran None v w)

@@ -28,7 +28,8 @@ use Rattle.cyclic_c.specs.declared.numbers.Denied.TheVariants.{Misused, Refused}
 
 -- an open: the handle has a new CPU, or is as it was
 abbrev pub Opens : ℕ → ℕ → ℕ → Option Cpu → Option Cpu → Type 0
-Opens ceiling most answer m n = ((answer ≡ 0) × (0 < ceiling) × (0 < most) × (m ≡ None) × (v : Cpu) × (n ≡ Some v) × IsNew ceiling most v)
+Opens ceiling most answer m n = ((answer ≡ 0) × (0 < ceiling) × (0 < most) × (m ≡ None) × (v : Cpu) × (n ≡ Some v)
+    × IsNew ceiling most v)
     ⊎ ((answer ≡ number_of Misused) × ((m ≢ None) ⊎ (ceiling ≡ 0) ⊎ (most ≡ 0)) × (n ≡ m))
     ⊎ ((answer ≡ number_of (Refused why.Memory)) × (0 < ceiling) × (0 < most) × (m ≡ None) × (n ≡ None))
 
@@ -82,20 +83,25 @@ or_zero None = 0
 module _ {R X : Type 0} (step : R → FiringCall → R → Type 0) (view : R → FiringView)
     (on : (CpuView R → CpuView R → Type 0) → X → X → Type 0) where
   abbrev pub ReprogramsOut : ℕ → ℤ → ℕ → X → X → Type 0
-  ReprogramsOut id moment r v w = (answer : Result (Unit {0}) Denied) × (r ≡ answer_of answer) × on (Reprograms step view id moment answer) v w
+  ReprogramsOut id moment r v w = (answer : Result (Unit {0}) Denied) × (r ≡ answer_of answer)
+      × on (Reprograms step view id moment answer) v w
 
   abbrev pub AddsOut : ℕ → ℕ → ℤ → ℤ → ℤ → ℕ → ℕ → X → X → Type 0
   AddsOut id level start interval now r busy v w =
-      (answer : Result (Unit {0}) Denied) × (r ≡ answer_of answer) × (busy ≡ named_by answer) × on (Adds step view id level start interval now answer) v w
+      (answer : Result (Unit {0}) Denied) × (r ≡ answer_of answer) × (busy ≡ named_by answer)
+      × on (Adds step view id level start interval now answer) v w
 
   abbrev pub PendingOut : ℕ → ℕ → ℕ → X → X → Type 0
-  PendingOut id r pending v w = (answer : Result ℕ Denied) × (r ≡ answer_of answer) × (pending ≡ found_in answer) × on (AsksPending step view id answer) v w
+  PendingOut id r pending v w = (answer : Result ℕ Denied) × (r ≡ answer_of answer) × (pending ≡ found_in answer)
+      × on (AsksPending step view id answer) v w
 
   abbrev pub TotalsOut : ℕ → ℕ → CyclicTotals → CyclicTotals → X → X → Type 0
-  TotalsOut id r old new v w = (answer : Result Totals Denied) × (r ≡ answer_of answer) × WritesTotals answer old new × on (AsksTotals step view id answer) v w
+  TotalsOut id r old new v w = (answer : Result Totals Denied) × (r ≡ answer_of answer) × WritesTotals answer old new
+      × on (AsksTotals step view id answer) v w
 
   abbrev pub PollsOut : ℕ → CyclicReceipt → X → X → Type 0
-  PollsOut r out v w = (r ≡ 0) × (answer : Option Receipt) × WritesReceipt answer out × on (λ a b. Changes step view a (PollRemove answer) b) v w
+  PollsOut r out v w = (r ≡ 0) × (answer : Option Receipt) × WritesReceipt answer out
+      × on (λ a b. Changes step view a (PollRemove answer) b) v w
 
   abbrev pub RemovesOut : ℕ → ℕ → ℕ → CyclicReceipt → ℕ → X → X → Type 0
   RemovesOut id r kept receipt busy v w = (answer : Result Removal Denied) × (r ≡ answer_of answer)
@@ -108,12 +114,14 @@ module _ {R X : Type 0} (step : R → FiringCall → R → Type 0) (view : R →
 -- the hand of its level, and where there is none nothing waits there.
 abbrev pub TakesOut : ℕ → ℕ → ℕ → ℕ → Cpu → Cpu → Type 0
 TakesOut level r old new v w = ((soft_named level ≡ None) × (r ≡ number_of Misused) × (new ≡ old) × (w ≡ v))
-    ⊎ ((soft : Soft) × (soft_named level ≡ Some soft) × (r ≡ 0) × (found : Option ℕ) × (new ≡ or_zero found) × Takes soft found v w
+    ⊎ ((soft : Soft) × (soft_named level ≡ Some soft) × (r ≡ 0) × (found : Option ℕ) × (new ≡ or_zero found)
+    × Takes soft found v w
     × IfSome found (λ id. held_at (end_at soft w.hard) ≡ Some id) × IfNone found (HasEmptyLists (end_at soft w.hard)))
 
 abbrev pub FinishesOut : ℕ → ℕ → Cpu → Cpu → Type 0
 FinishesOut level r v w = ((soft_named level ≡ None) × (r ≡ number_of Misused) × (w ≡ v))
-    ⊎ ((soft : Soft) × (soft_named level ≡ Some soft) × (answer : Result (Unit {0}) Denied) × (r ≡ answer_of answer) × Finishes soft answer v w)
+    ⊎ ((soft : Soft) × (soft_named level ≡ Some soft) × (answer : Result (Unit {0}) Denied) × (r ≡ answer_of answer)
+    × Finishes soft answer v w)
 
 -- the number of a fire's answer
 abbrev pub fire_number : Result Fired FireRefused → ℕ
@@ -125,6 +133,8 @@ WritesFired (Ok r) out = IsFired r out
 WritesFired (Err e) out = IsRefused e out
 
 -- a fire: a negative moment is refused; else it is a part of a fire of the CPU
-abbrev pub FiresOut : {X : Type 0} → (ℕ → Result Fired FireRefused → X → X → Type 0) → ℤ → ℕ → CyclicFired → CyclicFired → X → X → Type 0
+abbrev pub FiresOut : {X : Type 0} → (ℕ → Result Fired FireRefused → X → X → Type 0) → ℤ → ℕ → CyclicFired → CyclicFired → X → X
+    → Type 0
 FiresOut part now r old new v w = ((now <ℤ pos 0) × (r ≡ number_of (Refused why.BadWhen)) × (new ≡ old) × (w ≡ v))
-    ⊎ ((m : ℕ) × (pos m ≡ now) × (answer : Result Fired FireRefused) × (r ≡ fire_number answer) × WritesFired answer new × part m answer v w)
+    ⊎ ((m : ℕ) × (pos m ≡ now) × (answer : Result Fired FireRefused) × (r ≡ fire_number answer) × WritesFired answer new
+    × part m answer v w)

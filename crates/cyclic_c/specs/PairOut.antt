@@ -17,12 +17,14 @@ use Rattle.cyclic_c.specs.declared.records.CyclicBook.{CyclicBook}
 use Rattle.cyclic_c.specs.declared.soft_side.SoftSide.{SoftSide}
 
 -- An open for three threads: three new handles; or the caller misused it, or there was no memory, and nothing was opened.
-abbrev pub OpensPair : ℕ → ℕ → ℕ → Option Firing → Option SoftSide → Option SoftSide → Option Firing → Option SoftSide → Option SoftSide → Type 0
+abbrev pub OpensPair : ℕ → ℕ → ℕ → Option Firing → Option SoftSide → Option SoftSide → Option Firing → Option SoftSide
+    → Option SoftSide → Type 0
 OpensPair ceiling most r f k w f' k' w' =
     ((r ≡ 0) × (0 < ceiling) × (0 < most) × (f ≡ None) × (k ≡ None) × (w ≡ None)
     × (hard : Firing) × (lock : SoftSide) × (low : SoftSide) × (f' ≡ Some hard) × (k' ≡ Some lock) × (w' ≡ Some low)
     × IsNewPair ceiling hard.hard.lock lock × IsNewPair ceiling hard.hard.low low × (hard.hard.most ≡ most) × (hard.high ≡ None))
-    ⊎ ((r ≡ number_of Misused) × ((ceiling ≡ 0) ⊎ (most ≡ 0) ⊎ (f ≢ None) ⊎ (k ≢ None) ⊎ (w ≢ None)) × (f' ≡ f) × (k' ≡ k) × (w' ≡ w))
+    ⊎ ((r ≡ number_of Misused) × ((ceiling ≡ 0) ⊎ (most ≡ 0) ⊎ (f ≢ None) ⊎ (k ≢ None) ⊎ (w ≢ None)) × (f' ≡ f) × (k' ≡ k)
+    × (w' ≡ w))
     ⊎ ((r ≡ number_of (Refused why.Memory)) × (0 < ceiling) × (0 < most) × (f ≡ None) × (k ≡ None) × (w ≡ None)
     × (f' ≡ None) × (k' ≡ None) × (w' ≡ None))
 
@@ -36,17 +38,20 @@ CanClose f k w b = (f ≢ None) × (k ≢ None) × (w ≢ None) × (b ≡ None)
 
 -- A close: the books of the two rings with the seats that came back. Or nothing was done, since a handle is closed or there are
 -- books. Or all are gone without books: there was no memory for these, or another handle of the same open is about.
-abbrev pub ClosesPair : ℕ → Option Firing → Option SoftSide → Option SoftSide → Option Books → Option Firing → Option SoftSide → Option SoftSide → Option Books → Type 0
+abbrev pub ClosesPair : ℕ → Option Firing → Option SoftSide → Option SoftSide → Option Books → Option Firing → Option SoftSide
+    → Option SoftSide → Option Books → Type 0
 ClosesPair r f k w b f' k' w' b' =
     ((r ≡ 0) × (f' ≡ None) × (k' ≡ None) × (w' ≡ None)
     × (hard : Firing) × (lock : SoftSide) × (low : SoftSide) × (books : Books)
     × (f ≡ Some hard) × (k ≡ Some lock) × (w ≡ Some low) × (b' ≡ Some books)
     × IsClosedOf hard.hard.lock.seat lock.seat books.lock × IsClosedOf hard.hard.low.seat low.seat books.low)
     ⊎ ((r ≡ number_of Misused) × ((f ≡ None) ⊎ (k ≡ None) ⊎ (w ≡ None) ⊎ (b ≢ None)) × (f' ≡ f) × (k' ≡ k) × (w' ≡ w) × (b' ≡ b))
-    ⊎ (((r ≡ number_of (Refused why.Memory)) ⊎ (r ≡ number_of Misused)) × CanClose f k w b × (f' ≡ None) × (k' ≡ None) × (w' ≡ None) × (b' ≡ None))
+    ⊎ (((r ≡ number_of (Refused why.Memory)) ⊎ (r ≡ number_of Misused)) × CanClose f k w b × (f' ≡ None) × (k' ≡ None)
+    × (w' ≡ None) × (b' ≡ None))
 
 abbrev pub TakesSoft : ℕ → ℕ → SoftSide → SoftSide → Type 0
-TakesSoft r id v w = (r ≡ 0) × (found : Option ℕ) × (id ≡ or_zero found) × TakesSeat found v.seat w.seat × (w.ring.value ≡ v.ring.value)
+TakesSoft r id v w = (r ≡ 0) × (found : Option ℕ) × (id ≡ or_zero found) × TakesSeat found v.seat w.seat
+    × (w.ring.value ≡ v.ring.value)
 
 -- 0 where a call was counted, 64 where none was in hand
 abbrev pub finish_number : Option Finished → ℕ
@@ -54,7 +59,8 @@ finish_number (Some answer) = 0
 finish_number None = 64
 
 abbrev pub FinishesSoft : ℕ → SoftSide → SoftSide → Type 0
-FinishesSoft r v w = (answer : Option Finished) × (r ≡ finish_number answer) × FinishesSeat answer v.seat w.seat × (w.ring.value ≡ v.ring.value)
+FinishesSoft r v w = (answer : Option Finished) × (r ≡ finish_number answer) × FinishesSeat answer v.seat w.seat
+    × (w.ring.value ≡ v.ring.value)
 
 -- the book at an index, or one of no cyclic where it is free
 abbrev pub IsBookAt : ℕ → Closed → CyclicBook → Type 0

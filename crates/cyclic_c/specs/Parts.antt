@@ -23,7 +23,8 @@ IsHandedOut high ids = (ids ≡ []) ⊎ ((id : ℕ) × (high ≡ Some id) × (id
 abbrev pub IsPart : {R : Type 0} → ℕ → Result Fired FireRefused → Option ℕ → CpuView R → Type 0
 IsPart now (Ok r) high v = (r.expired ≡ length (expirations now (timers v.cyclics)))
     × IsHandedOut high (ids_at High (timers v.cyclics) (expirations now (timers v.cyclics)))
-IsPart now (Err e) high v = (made : List Expiration) × (rest : List Expiration) × (expirations now (timers v.cyclics) ≡ made ++ rest) × (e.expired ≡ length made)
+IsPart now (Err e) high v = (made : List Expiration) × (rest : List Expiration)
+    × (expirations now (timers v.cyclics) ≡ made ++ rest) × (e.expired ≡ length made)
     × IsHandedOut high (ids_at High (timers v.cyclics) made)
 
 -- a CPU, and the high cyclic in front of which its fire stopped

@@ -29,4 +29,5 @@ abbrev pub IsReceipt : Receipt → CyclicReceipt → Type 0
 IsReceipt r c = (c.id ≡ r.id) × (c.expired ≡ min r.sent greatest) × (c.lost ≡ min r.lost greatest)
 
 abbrev pub IsBookOut : Book → CyclicBook → Type 0
-IsBookOut b c = (c.id ≡ b.id) × (c.expired ≡ b.sent) × (c.done ≡ b.done) × (c.lost ≡ b.lost) × (c.pending ≡ b.count) × (c.removed ≡ b.marked)
+IsBookOut b c = (c.id ≡ b.id) × (c.expired ≡ b.sent) × (c.done ≡ b.done) × (c.lost ≡ b.lost) × (c.pending ≡ b.count)
+    × (c.removed ≡ b.marked)

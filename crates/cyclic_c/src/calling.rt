@@ -2,7 +2,8 @@
 
 ghost use Rattle.std.specs.Prelude.{◌≡◌, Some, None, IfSome, IfNone, IfOk, IfErr};
 ghost use Rattle.cyc_cpu.specs.Soft.{end_at, held_at, HasEmptyLists};
-ghost use Rattle.cyclic_c.specs.Border.{IsAsked, WhyNotAsked, AddsAsked, Adds, Fires, FiresCpu, refused_at, Takes, Finishes, grant, stopped_at, call_at, with_call};
+ghost use Rattle.cyclic_c.specs.Border.{IsAsked, WhyNotAsked, AddsAsked, Adds, Fires, FiresCpu, refused_at, Takes, Finishes};
+ghost use Rattle.cyclic_c.specs.Border.{grant, stopped_at, call_at, with_call};
 
 use crate::cpu::Cpu;
 use crate::granted::Granted;

@@ -2,7 +2,8 @@
 
 ghost use Rattle.std.specs.Prelude.{◌≡◌};
 ghost use Rattle.cyclic_c.specs.Border.{Through};
-ghost use Rattle.cyclic_c.specs.Exports.{Opens, Closes, ReprogramsOut, AddsOut, PendingOut, TotalsOut, PollsOut, TakesOut, FinishesOut, FiresOut, RemovesOut, NextOut, named_by, kept_by, IsRemoved, OnHard};
+ghost use Rattle.cyclic_c.specs.Exports.{Opens, Closes, ReprogramsOut, AddsOut, PendingOut, TotalsOut, PollsOut, TakesOut};
+ghost use Rattle.cyclic_c.specs.Exports.{FinishesOut, FiresOut, RemovesOut, NextOut, named_by, kept_by, IsRemoved, OnHard};
 ghost use Rattle.cyclic_c.specs.Border.{FiresCpu};
 ghost use Rattle.cyc_cpu.specs.Soft.{fires, firing_at};
 ghost use Rattle.cyclic_c.specs.Numbers.{answer_of};
@@ -95,7 +96,8 @@ pub extern "C" fn cyclic_add(
     now: i64,
     busy: &mut u64,
 ) -> u32
-    ensures { Through cpu.old.inner.held cpu.new.inner.held result (AddsOut fires firing_at OnHard id level start interval now result busy.new) }
+    ensures { Through cpu.old.inner.held cpu.new.inner.held result
+        (AddsOut fires firing_at OnHard id level start interval now result busy.new) }
 {
     let Some(mut open) = cpu.take(alloc) else {
         return MISUSED;
@@ -151,7 +153,8 @@ pub extern "C" fn cyclic_totals(
     id: u64,
     totals: &mut CyclicTotals,
 ) -> u32
-    ensures { Through cpu.old.inner.held cpu.new.inner.held result (TotalsOut fires firing_at OnHard id result totals.old totals.new) }
+    ensures { Through cpu.old.inner.held cpu.new.inner.held result
+        (TotalsOut fires firing_at OnHard id result totals.old totals.new) }
 {
     let Some(mut open) = cpu.take(alloc) else {
         return MISUSED;
@@ -272,7 +275,8 @@ pub extern "C" fn cyclic_begin_remove(
     receipt: &mut CyclicReceipt,
     busy: &mut u64,
 ) -> u32
-    ensures { Through cpu.old.inner.held cpu.new.inner.held result (RemovesOut fires firing_at OnHard id result kept.new receipt.new busy.new) }
+    ensures { Through cpu.old.inner.held cpu.new.inner.held result
+        (RemovesOut fires firing_at OnHard id result kept.new receipt.new busy.new) }
 {
     let Some(mut open) = cpu.take(alloc) else {
         return MISUSED;

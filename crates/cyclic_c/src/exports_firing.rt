@@ -27,7 +27,8 @@ pub extern "C" fn cyclic_firing_add(
     now: i64,
     busy: &mut u64,
 ) -> u32
-    ensures { Through firing.old.inner.held firing.new.inner.held result (AddsOut held_step held_view OnSide id level start interval now result busy.new) }
+    ensures { Through firing.old.inner.held firing.new.inner.held result
+        (AddsOut held_step held_view OnSide id level start interval now result busy.new) }
 {
     let Some(mut open) = firing.take(alloc) else {
         return MISUSED;
@@ -46,7 +47,8 @@ pub extern "C" fn cyclic_firing_reprogram(
     id: u64,
     moment: i64,
 ) -> u32
-    ensures { Through firing.old.inner.held firing.new.inner.held result (ReprogramsOut held_step held_view OnSide id moment result) }
+    ensures { Through firing.old.inner.held firing.new.inner.held result
+        (ReprogramsOut held_step held_view OnSide id moment result) }
 {
     let Some(mut open) = firing.take(alloc) else {
         return MISUSED;
@@ -67,7 +69,8 @@ pub extern "C" fn cyclic_firing_begin_remove(
     receipt: &mut CyclicReceipt,
     busy: &mut u64,
 ) -> u32
-    ensures { Through firing.old.inner.held firing.new.inner.held result (RemovesOut held_step held_view OnSide id result kept.new receipt.new busy.new) }
+    ensures { Through firing.old.inner.held firing.new.inner.held result
+        (RemovesOut held_step held_view OnSide id result kept.new receipt.new busy.new) }
 {
     let Some(mut open) = firing.take(alloc) else {
         return MISUSED;
@@ -95,7 +98,8 @@ pub extern "C" fn cyclic_firing_poll_remove(
     firing: &mut CyclicFiring,
     receipt: &mut CyclicReceipt,
 ) -> u32
-    ensures { Through firing.old.inner.held firing.new.inner.held result (PollsOut held_step held_view OnSide result receipt.new) }
+    ensures { Through firing.old.inner.held firing.new.inner.held result
+        (PollsOut held_step held_view OnSide result receipt.new) }
 {
     let Some(mut open) = firing.take(alloc) else {
         return MISUSED;
@@ -152,7 +156,8 @@ pub extern "C" fn cyclic_firing_pending(
     id: u64,
     pending: &mut u32,
 ) -> u32
-    ensures { Through firing.old.inner.held firing.new.inner.held result (PendingOut held_step held_view OnSide id result pending.new) }
+    ensures { Through firing.old.inner.held firing.new.inner.held result
+        (PendingOut held_step held_view OnSide id result pending.new) }
 {
     let Some(mut open) = firing.take(alloc) else {
         return MISUSED;
@@ -179,7 +184,8 @@ pub extern "C" fn cyclic_firing_totals(
     id: u64,
     totals: &mut CyclicTotals,
 ) -> u32
-    ensures { Through firing.old.inner.held firing.new.inner.held result (TotalsOut held_step held_view OnSide id result totals.old totals.new) }
+    ensures { Through firing.old.inner.held firing.new.inner.held result
+        (TotalsOut held_step held_view OnSide id result totals.old totals.new) }
 {
     let Some(mut open) = firing.take(alloc) else {
         return MISUSED;

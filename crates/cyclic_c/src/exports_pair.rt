@@ -24,7 +24,8 @@ pub extern "C" fn cyclic_open(
     lock: &mut CyclicSoft,
     low: &mut CyclicSoft,
 ) -> u32
-    ensures { OpensPair ceiling most result firing.old.inner.held lock.old.inner.held low.old.inner.held firing.new.inner.held lock.new.inner.held low.new.inner.held }
+    ensures { OpensPair ceiling most result firing.old.inner.held lock.old.inner.held low.old.inner.held firing.new.inner.held
+        lock.new.inner.held low.new.inner.held }
 {
     let Some(ceiling) = Ceiling::new(ceiling) else {
         return MISUSED;
@@ -62,7 +63,8 @@ pub extern "C" fn cyclic_close(
     books: &mut CyclicBooks,
 ) -> u32
     requires { OneOpen firing.old.inner.held lock.old.inner.held low.old.inner.held }
-    ensures { ClosesPair result firing.old.inner.held lock.old.inner.held low.old.inner.held books.old.inner.held firing.new.inner.held lock.new.inner.held low.new.inner.held books.new.inner.held }
+    ensures { ClosesPair result firing.old.inner.held lock.old.inner.held low.old.inner.held books.old.inner.held
+        firing.new.inner.held lock.new.inner.held low.new.inner.held books.new.inner.held }
 {
     if books.open || !firing.open || !lock.open || !low.open {
         return MISUSED;

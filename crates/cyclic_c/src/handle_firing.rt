@@ -7,7 +7,8 @@ use crate::pair::Firing;
 use crate::sealed_firing::SealedFiring;
 use std::alloc::Global;
 
-/// The firing side of a CPU between threads as a program in C has it, or a closed handle. C copies none of it and changes none of it.
+/// The firing side of a CPU between threads as a program in C has it, or a closed handle. C copies none of it and changes none of
+/// it.
 #[repr(C)]
 #[derive(Drop)]
 pub struct CyclicFiring {

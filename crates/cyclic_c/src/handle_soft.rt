@@ -7,7 +7,8 @@ use crate::sealed_soft::SealedSoft;
 use crate::soft_side::SoftSide;
 use std::alloc::Global;
 
-/// One soft side of a CPU between threads as a program in C has it, or a closed handle. C copies none of it and changes none of it.
+/// One soft side of a CPU between threads as a program in C has it, or a closed handle. C copies none of it and changes none of
+/// it.
 #[repr(C)]
 #[derive(Drop)]
 pub struct CyclicSoft {

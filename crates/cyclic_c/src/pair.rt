@@ -71,7 +71,8 @@ pub fn opened(
     ceiling: Ceiling,
     most: u64,
 ) -> Result<(Firing, SoftSide, SoftSide), Refusal>
-    ensures ok { IfOk result (λ r. IsNewPair ceiling r.0.hard.lock r.1 × IsNewPair ceiling r.0.hard.low r.2 × (r.0.hard.most ≡ most) × (r.0.high ≡ None)) }
+    ensures ok { IfOk result (λ r. IsNewPair ceiling r.0.hard.lock r.1 × IsNewPair ceiling r.0.hard.low r.2
+        × (r.0.hard.most ≡ most) × (r.0.high ≡ None)) }
     ensures err { IfErr result (λ e. e ≡ Memory) }
 {
     let (lock, lock_soft) = sides(alloc, ceiling)?;
@@ -83,7 +84,8 @@ pub fn opened(
 /// The books of a CPU whose three handles come back. None where another handle of a ring is still about.
 pub fn closed(firing: Firing, lock: SoftSide, low: SoftSide) -> Option<Books>
     requires { SameRings firing lock low }
-    ensures { IfSome result (λ b. IsClosedOf firing.hard.lock.seat lock.seat b.lock × IsClosedOf firing.hard.low.seat low.seat b.low) }
+    ensures { IfSome result (λ b. IsClosedOf firing.hard.lock.seat lock.seat b.lock
+        × IsClosedOf firing.hard.low.seat low.seat b.low) }
 {
     let Firing { hard, high: _ } = firing;
     let (lock_end, low_end) = hard.into_ends();

@@ -27,8 +27,8 @@ impl Display for Seen {
     }
 }
 
-/// What came of a call that was refused so: `as_before` says that nothing changed that can be seen, and `done` that the same call,
-/// made again, was not refused.
+/// What came of a call that was refused so: `as_before` says that nothing changed that can be seen, and `done` that the same
+/// call, made again, was not refused.
 pub(crate) fn refused(why: Refusal, as_before: bool, done: bool) -> Seen {
     if why == Refusal::Memory && as_before && done {
         Seen::Refused

@@ -10,8 +10,10 @@ use Rattle.cyc_level.specs.Runs.{StayCounts}
 use Rattle.ring_rule.specs.declared.Role.TheVariants.{Raise}
 use Rattle.ring_rule.specs.declared.Setting.{Setting}
 use Rattle.ring_rule.specs.Words.{pend_word, mark_bit, index_range, place, producer_word, hard_word, soft_word, entry}
-use Rattle.ring_rule.specs.Trail.{open_stay, firer_hand_of, marked_of, seen_pend, hard_bank_of, producer_index, stored_entry, has_followed}
-use Rattle.ring_rule.specs.Steps.{ThisSeat, IsFiringStep, TellsAdmit, TellsLoad, TellsLoadToRaise, TellsAdd, TellsStore, TellsPublish, TellsMark, TellsClear, TellsSwitch, TellsLoadSoftBank}
+use Rattle.ring_rule.specs.Trail.{open_stay, firer_hand_of, marked_of, seen_pend, hard_bank_of, producer_index, stored_entry}
+use Rattle.ring_rule.specs.Trail.{has_followed}
+use Rattle.ring_rule.specs.Steps.{ThisSeat, IsFiringStep, TellsAdmit, TellsLoad, TellsLoadToRaise, TellsAdd, TellsStore}
+use Rattle.ring_rule.specs.Steps.{TellsPublish, TellsMark, TellsClear, TellsSwitch, TellsLoadSoftBank}
 
 -- the load of the pend word of an unused index: the event Admit
 abbrev pub AdmitLaw : Type 0

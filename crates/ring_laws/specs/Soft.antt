@@ -6,7 +6,8 @@ use Rattle.ring_rule.specs.declared.Role.TheVariants.{Drain}
 use Rattle.ring_rule.specs.declared.Setting.{Setting}
 use Rattle.ring_rule.specs.Words.{pend_word, index_range, place, producer_word, hard_word, soft_word, entry_index}
 use Rattle.ring_rule.specs.Trail.{held_entry, soft_bank_of, consumer_index, producer_seen, bank_seen}
-use Rattle.ring_rule.specs.Steps.{ThisSeat, IsSoftStep, TellsLoadHardBank, TellsLoadProducer, TellsTake, TellsFollow, TellsSubtract}
+use Rattle.ring_rule.specs.Steps.{ThisSeat, IsSoftStep, TellsLoadHardBank, TellsLoadProducer, TellsTake, TellsFollow}
+use Rattle.ring_rule.specs.Steps.{TellsSubtract}
 
 -- the load of the hard bank: no event
 abbrev pub LoadHardBankLaw : Type 0

@@ -7,7 +7,8 @@
 //! nothing: each one's contract is a law.
 #![tactic(auto)]
 
-ghost use Rattle.ring_laws.specs.Firing.{AdmitLaw, LoadLaw, LoadToRaiseLaw, AddLaw, StoreLaw, PublishLaw, MarkLaw, ClearLaw, SwitchLaw, LoadSoftBankLaw};
+ghost use Rattle.ring_laws.specs.Firing.{AdmitLaw, LoadLaw, LoadToRaiseLaw, AddLaw, StoreLaw, PublishLaw, MarkLaw, ClearLaw};
+ghost use Rattle.ring_laws.specs.Firing.{SwitchLaw, LoadSoftBankLaw};
 ghost use Rattle.ring_laws.specs.Soft.{LoadHardBankLaw, LoadProducerLaw, TakeLaw, FollowLaw, SubtractLaw};
 
 /// The steps of the firing side: `admit` is the event Admit, `load_to_raise` Lose at the ceiling, `add` Expire, `publish`

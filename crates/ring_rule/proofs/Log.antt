@@ -1,16 +1,19 @@
 -- The trails determine the log.
-use Rattle.std.proofs.Common.{◌≡◌, ℕ, zero, suc, ◌+◌, ◌<◌, cond, List, [], ◌∷◌, ◌++◌, length, refl, sym, ap, ◌∙◌, subst, arith, eq-eqb, ne_eqb, length-append}
+use Rattle.std.proofs.Common.{◌≡◌, ℕ, zero, suc, ◌+◌, ◌<◌, cond, List, [], ◌∷◌, ◌++◌, length, refl, sym, ap, ◌∙◌, subst, arith}
+use Rattle.std.proofs.Common.{eq-eqb, ne_eqb, length-append}
 use mathlib.Core.Option.{some, some-injective, some-ne-none}
 use lib.ListN.{get_elem?}
 use Rattle.cyc_level.specs.declared.Event.{Event}
 use Rattle.cyc_level.specs.Events.{AllEnabled}
 use Rattle.cyc_level.specs.Runs.{firing_events, soft_events}
 use Rattle.ring_rule.specs.declared.RaiseStep.{RaiseStep}
-use Rattle.ring_rule.specs.declared.RaiseStep.TheVariants.{Admitted, Loaded, Lost, Added, Stored, Published, Marked, Cleared, Switched, LoadedSoftBank}
+use Rattle.ring_rule.specs.declared.RaiseStep.TheVariants.{Admitted, Loaded, Lost, Added, Stored, Published, Marked, Cleared}
+use Rattle.ring_rule.specs.declared.RaiseStep.TheVariants.{Switched, LoadedSoftBank}
 use Rattle.ring_rule.specs.declared.DrainStep.{DrainStep}
 use Rattle.ring_rule.specs.declared.DrainStep.TheVariants.{LoadedHardBank, LoadedProducer, Took, Subtracted, Followed}
 use Rattle.ring_rule.specs.Trail.{raise_event, drain_event, raise_events, drain_events}
-use Rattle.ring_rule.specs.Log.{RingStep, of_raise, of_drain, raise_side, raise_places, drain_side, drain_places, events_of, IsTrue, AllTrue, StandsAt}
+use Rattle.ring_rule.specs.Log.{RingStep, of_raise, of_drain, raise_side, raise_places, drain_side, drain_places, events_of}
+use Rattle.ring_rule.specs.Log.{IsTrue, AllTrue, StandsAt}
 use Rattle.ring_rule.specs.Laws.{placed, merged}
 
 -- the events of a log are those of its sides
@@ -100,18 +103,24 @@ drain_below [] = tt
 drain_below (of_raise z ∷ log) = weaken (length log) (drains_placed log) (drain_below log)
 drain_below (of_drain z ∷ log) = omega arith
 
-merge_raise : (n : ℕ) (x : RaiseStep) (a : List (ℕ × RaiseStep)) (b : List (ℕ × DrainStep)) → merged (suc n) ((n, x) ∷ a) b ≡ of_raise x ∷ merged n a b
+merge_raise : (n : ℕ) (x : RaiseStep) (a : List (ℕ × RaiseStep)) (b : List (ℕ × DrainStep))
+    → merged (suc n) ((n, x) ∷ a) b ≡ of_raise x ∷ merged n a b
 merge_raise n x a [] = refl
-merge_raise n x a (y ∷ b) = ap (λ c. cond c (of_raise x ∷ merged n a (y ∷ b)) (of_drain y.1 ∷ merged n ((n, x) ∷ a) b)) (eq-eqb n n refl)
+merge_raise n x a (y ∷ b) = ap (λ c. cond c (of_raise x ∷ merged n a (y ∷ b)) (of_drain y.1 ∷ merged n ((n, x) ∷ a) b))
+    (eq-eqb n n refl)
 
-merge_drain : (n : ℕ) (a : List (ℕ × RaiseStep)) (y : DrainStep) (b : List (ℕ × DrainStep)) → HeadBelow n a → merged (suc n) a ((n, y) ∷ b) ≡ of_drain y ∷ merged n a b
+merge_drain : (n : ℕ) (a : List (ℕ × RaiseStep)) (y : DrainStep) (b : List (ℕ × DrainStep)) → HeadBelow n a
+    → merged (suc n) a ((n, y) ∷ b) ≡ of_drain y ∷ merged n a b
 merge_drain n [] y b h = refl
-merge_drain n (x ∷ a) y b h = ap (λ c. cond c (of_raise x.1 ∷ merged n a ((n, y) ∷ b)) (of_drain y ∷ merged n (x ∷ a) b)) (ne_eqb x.0 n (λ e. omega (arith, e, h)))
+merge_drain n (x ∷ a) y b h = ap (λ c. cond c (of_raise x.1 ∷ merged n a ((n, y) ∷ b)) (of_drain y ∷ merged n (x ∷ a) b))
+    (ne_eqb x.0 n (λ e. omega (arith, e, h)))
 
 pub whole : (log : List RingStep) → merged (length log) (raises_placed log) (drains_placed log) ≡ log
 whole [] = refl
-whole (of_raise x ∷ log) = merge_raise (length log) x (raises_placed log) (drains_placed log) ∙ ap (λ l. of_raise x ∷ l) (whole log)
-whole (of_drain y ∷ log) = merge_drain (length log) (raises_placed log) y (drains_placed log) (raise_below log) ∙ ap (λ l. of_drain y ∷ l) (whole log)
+whole (of_raise x ∷ log) = merge_raise (length log) x (raises_placed log) (drains_placed log)
+    ∙ ap (λ l. of_raise x ∷ l) (whole log)
+whole (of_drain y ∷ log) = merge_drain (length log) (raises_placed log) y (drains_placed log) (raise_below log)
+    ∙ ap (λ l. of_drain y ∷ l) (whole log)
 
 pub sizes : (log : List RingStep) → length log ≡ length (raises_placed log) + length (drains_placed log)
 sizes [] = omega arith
@@ -125,55 +134,102 @@ steps (of_raise x ∷ log) = omega (arith, steps log)
 steps (of_drain x ∷ log) = omega (arith, steps log)
 
 pub same_log : (l m : List RingStep) → raises_placed l ≡ raises_placed m → drains_placed l ≡ drains_placed m → l ≡ m
-same_log l m e f = let long : length l ≡ length m = omega (arith, sizes l, sizes m, ap length e, ap length f) in sym (whole l) ∙ ((λ z. merged (long z) (e z) (f z)) ∙ whole m)
+same_log l m e f = let long : length l ≡ length m = omega (arith, sizes l, sizes m, ap length e, ap length f) in sym (whole l)
+    ∙ ((λ z. merged (long z) (e z) (f z)) ∙ whole m)
 
-pub gained_raise : (l m : List RingStep) (place : ℕ) (x : RaiseStep) → raises_placed m ≡ (place, x) ∷ raises_placed l → drains_placed m ≡ drains_placed l → (place ≡ length l) × (m ≡ of_raise x ∷ l)
+pub gained_raise : (l m : List RingStep) (place : ℕ) (x : RaiseStep) → raises_placed m ≡ (place, x) ∷ raises_placed l
+    → drains_placed m ≡ drains_placed l → (place ≡ length l) × (m ≡ of_raise x ∷ l)
 gained_raise l [] place x e f = absurd (omega (arith, ap length e))
-gained_raise l (of_raise z ∷ m) place x e f = let same : m ≡ l = same_log m l (ap rest_of e) f in let h : (length m, z) ≡ (place, x) = ap (first_or (place, x)) e in (sym (ap (λ p. p.0) h) ∙ ap length same, λ k. of_raise ((h k).1) ∷ same k)
-gained_raise l (of_drain z ∷ m) place x e f = let low : length m < length l = subst (λ t. HeadBelow (length l) t) (sym f) (drain_below l) in absurd (omega (arith, low, sizes m, sizes l, ap length e, ap length f))
+gained_raise l (of_raise z ∷ m) place x e f = let same : m ≡ l = same_log m l (ap rest_of e) f in
+    let h : (length m, z) ≡ (place, x) = ap (first_or (place, x)) e in
+    (sym (ap (λ p. p.0) h) ∙ ap length same, λ k. of_raise ((h k).1) ∷ same k)
+gained_raise l (of_drain z ∷ m) place x e f = let low : length m < length l =
+    subst (λ t. HeadBelow (length l) t) (sym f) (drain_below l) in
+    absurd (omega (arith, low, sizes m, sizes l, ap length e, ap length f))
 
-pub gained_drain : (l m : List RingStep) (place : ℕ) (x : DrainStep) → raises_placed m ≡ raises_placed l → drains_placed m ≡ (place, x) ∷ drains_placed l → (place ≡ length l) × (m ≡ of_drain x ∷ l)
+pub gained_drain : (l m : List RingStep) (place : ℕ) (x : DrainStep) → raises_placed m ≡ raises_placed l
+    → drains_placed m ≡ (place, x) ∷ drains_placed l → (place ≡ length l) × (m ≡ of_drain x ∷ l)
 gained_drain l [] place x e f = absurd (omega (arith, ap length f))
-gained_drain l (of_raise z ∷ m) place x e f = let low : length m < length l = subst (λ t. HeadBelow (length l) t) (sym e) (raise_below l) in absurd (omega (arith, low, sizes m, sizes l, ap length e, ap length f))
-gained_drain l (of_drain z ∷ m) place x e f = let same : m ≡ l = same_log m l e (ap rest_of f) in let h : (length m, z) ≡ (place, x) = ap (first_or (place, x)) f in (sym (ap (λ p. p.0) h) ∙ ap length same, λ k. of_drain ((h k).1) ∷ same k)
+gained_drain l (of_raise z ∷ m) place x e f = let low : length m < length l =
+    subst (λ t. HeadBelow (length l) t) (sym e) (raise_below l) in
+    absurd (omega (arith, low, sizes m, sizes l, ap length e, ap length f))
+gained_drain l (of_drain z ∷ m) place x e f = let same : m ≡ l = same_log m l e (ap rest_of f) in
+    let h : (length m, z) ≡ (place, x) = ap (first_or (place, x)) f in
+    (sym (ap (λ p. p.0) h) ∙ ap length same, λ k. of_drain ((h k).1) ∷ same k)
 
 -- trails that only grow are those of a log that only grows
-pub grown : (l m : List RingStep) (xs : List (ℕ × RaiseStep)) (ys : List (ℕ × DrainStep)) → raises_placed m ≡ xs ++ raises_placed l → drains_placed m ≡ ys ++ drains_placed l → (later : List RingStep) × (m ≡ later ++ l)
-grown l [] xs ys e f = let p = length-append xs (raises_placed l) in let q = length-append ys (drains_placed l) in let a = sizes l in let x = ap length e in let y = ap length f in
+pub grown : (l m : List RingStep) (xs : List (ℕ × RaiseStep)) (ys : List (ℕ × DrainStep))
+    → raises_placed m ≡ xs ++ raises_placed l → drains_placed m ≡ ys ++ drains_placed l → (later : List RingStep)
+    × (m ≡ later ++ l)
+grown l [] xs ys e f = let p = length-append xs (raises_placed l) in let q = length-append ys (drains_placed l) in let a =
+    sizes l in let x = ap length e in let y = ap length f in
     let none : length l ≡ 0 = omega (arith, p, q, a, x, y) in ([], sym (empty l none))
   where
     empty : (l : List RingStep) → length l ≡ 0 → l ≡ []
     empty [] z = refl
     empty (x ∷ l) z = absurd (omega (arith, z))
-grown l (of_raise z ∷ m) [] ys e f = let low : length m < length l = subst (λ t. HeadBelow (length l) t) (sym e) (raise_below l) in let q = length-append ys (drains_placed l) in
-    let a = sizes m in let b = sizes l in let x = ap length e in let y = ap length f in let none : length ys ≡ 0 = omega (arith, low, q, a, b, x, y) in
+grown l (of_raise z ∷ m) [] ys e f = let low : length m < length l = subst (λ t. HeadBelow (length l) t) (sym e) (raise_below l)
+    in let q = length-append ys (drains_placed l) in
+    let a = sizes m in let b = sizes l in let x = ap length e in let y = ap length f in let none : length ys ≡ 0 =
+    omega (arith, low, q, a, b, x, y) in
     ([], same_log (of_raise z ∷ m) l e (f ∙ ap (λ (t : List (ℕ × DrainStep)). t ++ drains_placed l) (bare ys none)))
   where
     bare : (t : List (ℕ × DrainStep)) → length t ≡ 0 → t ≡ []
     bare [] z = refl
     bare (x ∷ t) z = absurd (omega (arith, z))
-grown l (of_raise z ∷ m) (x ∷ xs) ys e f = let r = grown l m xs ys (ap rest_of e) f in (of_raise z ∷ r.0, ap (λ (t : List RingStep). of_raise z ∷ t) r.1)
-grown l (of_drain z ∷ m) xs [] e f = let low : length m < length l = subst (λ t. HeadBelow (length l) t) (sym f) (drain_below l) in let q = length-append xs (raises_placed l) in
-    let a = sizes m in let b = sizes l in let x = ap length e in let y = ap length f in let none : length xs ≡ 0 = omega (arith, low, q, a, b, x, y) in
+grown l (of_raise z ∷ m) (x ∷ xs) ys e f = let r = grown l m xs ys (ap rest_of e) f in
+    (of_raise z ∷ r.0, ap (λ (t : List RingStep). of_raise z ∷ t) r.1)
+grown l (of_drain z ∷ m) xs [] e f = let low : length m < length l = subst (λ t. HeadBelow (length l) t) (sym f) (drain_below l)
+    in let q = length-append xs (raises_placed l) in
+    let a = sizes m in let b = sizes l in let x = ap length e in let y = ap length f in let none : length xs ≡ 0 =
+    omega (arith, low, q, a, b, x, y) in
     ([], same_log (of_drain z ∷ m) l (e ∙ ap (λ (t : List (ℕ × RaiseStep)). t ++ raises_placed l) (bare xs none)) f)
   where
     bare : (t : List (ℕ × RaiseStep)) → length t ≡ 0 → t ≡ []
     bare [] z = refl
     bare (x ∷ t) z = absurd (omega (arith, z))
-grown l (of_drain z ∷ m) xs (y ∷ ys) e f = let r = grown l m xs ys e (ap rest_of f) in (of_drain z ∷ r.0, ap (λ (t : List RingStep). of_drain z ∷ t) r.1)
+grown l (of_drain z ∷ m) xs (y ∷ ys) e f = let r = grown l m xs ys e (ap rest_of f) in
+    (of_drain z ∷ r.0, ap (λ (t : List RingStep). of_drain z ∷ t) r.1)
 
 module _ (start : ℕ) where
-  further : (y : RingStep) (log : List RingStep) (place : ℕ) (x : RingStep) → StandsAt start log place x → StandsAt start (y ∷ log) place x
+  further : (y : RingStep) (log : List RingStep) (place : ℕ) (x : RingStep) → StandsAt start log place x
+      → StandsAt start (y ∷ log) place x
   further y log place x (later, earlier, is, long, true) = (y ∷ later, earlier, ap (λ l. y ∷ l) is, long, true)
 
-  pub raise_stands : (log : List RingStep) → AllTrue start log → (n : ℕ) (x : RaiseStep) → get_elem? (raise_side log) n ≡ some x → (place : ℕ) × (get_elem? (raise_places log) n ≡ some place) × StandsAt start log place (of_raise x)
+  pub raise_stands : (log : List RingStep) → AllTrue start log → (n : ℕ) (x : RaiseStep) → get_elem? (raise_side log) n ≡ some x
+      → (place : ℕ) × (get_elem? (raise_places log) n ≡ some place) × StandsAt start log place (of_raise x)
   raise_stands [] h n x e = absurd (some-ne-none x (sym e))
-  raise_stands (of_raise z ∷ log) h zero x e = let p : z ≡ x = some-injective z x e in (length log, refl, ([], log, (λ k. of_raise (p k) ∷ log), refl, subst (λ (q : RaiseStep). IsTrue start (of_raise q) log) p h.0))
-  raise_stands (of_raise z ∷ log) h (suc n) x e = let r = raise_stands log h.1 n x e in (r.0, r.1, further (of_raise z) log r.0 (of_raise x) r.2)
-  raise_stands (of_drain z ∷ log) h n x e = let r = raise_stands log h.1 n x e in (r.0, r.1, further (of_drain z) log r.0 (of_raise x) r.2)
+  raise_stands (of_raise z ∷ log) h zero x e = let p : z ≡ x = some-injective z x e in (
+    length log,
+    refl,
+    (
+      [],
+      log,
+      (λ k. of_raise (p k) ∷ log),
+      refl,
+      subst (λ (q : RaiseStep). IsTrue start (of_raise q) log) p h.0,
+    ),
+  )
+  raise_stands (of_raise z ∷ log) h (suc n) x e = let r = raise_stands log h.1 n x e in
+      (r.0, r.1, further (of_raise z) log r.0 (of_raise x) r.2)
+  raise_stands (of_drain z ∷ log) h n x e = let r = raise_stands log h.1 n x e in
+      (r.0, r.1, further (of_drain z) log r.0 (of_raise x) r.2)
 
-  pub drain_stands : (log : List RingStep) → AllTrue start log → (n : ℕ) (x : DrainStep) → get_elem? (drain_side log) n ≡ some x → (place : ℕ) × (get_elem? (drain_places log) n ≡ some place) × StandsAt start log place (of_drain x)
+  pub drain_stands : (log : List RingStep) → AllTrue start log → (n : ℕ) (x : DrainStep) → get_elem? (drain_side log) n ≡ some x
+      → (place : ℕ) × (get_elem? (drain_places log) n ≡ some place) × StandsAt start log place (of_drain x)
   drain_stands [] h n x e = absurd (some-ne-none x (sym e))
-  drain_stands (of_drain z ∷ log) h zero x e = let p : z ≡ x = some-injective z x e in (length log, refl, ([], log, (λ k. of_drain (p k) ∷ log), refl, subst (λ (q : DrainStep). IsTrue start (of_drain q) log) p h.0))
-  drain_stands (of_drain z ∷ log) h (suc n) x e = let r = drain_stands log h.1 n x e in (r.0, r.1, further (of_drain z) log r.0 (of_drain x) r.2)
-  drain_stands (of_raise z ∷ log) h n x e = let r = drain_stands log h.1 n x e in (r.0, r.1, further (of_raise z) log r.0 (of_drain x) r.2)
+  drain_stands (of_drain z ∷ log) h zero x e = let p : z ≡ x = some-injective z x e in (
+    length log,
+    refl,
+    (
+      [],
+      log,
+      (λ k. of_drain (p k) ∷ log),
+      refl,
+      subst (λ (q : DrainStep). IsTrue start (of_drain q) log) p h.0,
+    ),
+  )
+  drain_stands (of_drain z ∷ log) h (suc n) x e = let r = drain_stands log h.1 n x e in
+      (r.0, r.1, further (of_drain z) log r.0 (of_drain x) r.2)
+  drain_stands (of_raise z ∷ log) h n x e = let r = drain_stands log h.1 n x e in
+      (r.0, r.1, further (of_raise z) log r.0 (of_drain x) r.2)

@@ -1,5 +1,6 @@
 -- A ring that is opened keeps the rule.
-use Rattle.std.proofs.Common.{◌≡◌, ℕ, zero, suc, ◌%◌, ◌^◌, ◌<◌, ◌≤◌, ltb, cond, List, [], ◌∷◌, length, get_or, sym, refl, ap, ◌∙◌, subst, arith, mod-eq_of_lt, lt-ltb, le-ltb}
+use Rattle.std.proofs.Common.{◌≡◌, ℕ, zero, suc, ◌%◌, ◌^◌, ◌<◌, ◌≤◌, ltb, cond, List, [], ◌∷◌, length, get_or, sym, refl, ap, ◌∙◌}
+use Rattle.std.proofs.Common.{subst, arith, mod-eq_of_lt, lt-ltb, le-ltb}
 use Rattle.std.proofs.lemmas.List.{ext_get_or}
 use Rattle.std.proofs.lemmas.List.FromFn.{get_or-map-range_with_len}
 use mathlib.Core.Option.{some, some-injective, some-ne-none}
@@ -15,12 +16,14 @@ use Rattle.ring_rule.specs.Rule.{opening_view, IsSeat, MeetsRule}
 use Rattle.ring_rule.proofs.Words.{pend_low}
 use Rattle.ring_rule.proofs.Seats.{as_wide}
 
-module _ (k : Setting) (ws : List ℕ) (long : length ws ≡ word_count) (all : (j : ℕ) → j < word_count → get_or ws j 0 ≡ first_word k.start j) (small : k.start < 2 ^ 32) (ceiling_fits : k.ceiling < 2 ^ 32) where
+module _ (k : Setting) (ws : List ℕ) (long : length ws ≡ word_count) (all : (j : ℕ) → j < word_count
+    → get_or ws j 0 ≡ first_word k.start j) (small : k.start < 2 ^ 32) (ceiling_fits : k.ceiling < 2 ^ 32) where
   low : (j : ℕ) → j < producer_word 0 → get_or ws j 0 ≡ 0
   low j h = all j (omega arith) ∙ ap (λ b. cond b 0 (cond (ltb j hard_word) k.start 0)) (lt-ltb j (producer_word 0) h)
 
   ends : (j : ℕ) → producer_word 0 ≤ j → j < hard_word → get_or ws j 0 ≡ k.start % 2 ^ 32
-  ends j from to = all j (omega arith) ∙ (ap (λ b. cond b 0 (cond (ltb j hard_word) k.start 0)) (le-ltb j (producer_word 0) from) ∙ (ap (λ b. cond b k.start 0) (lt-ltb j hard_word to) ∙ sym (mod-eq_of_lt small)))
+  ends j from to = all j (omega arith) ∙ (ap (λ b. cond b 0 (cond (ltb j hard_word) k.start 0)) (le-ltb j (producer_word 0) from)
+      ∙ (ap (λ b. cond b k.start 0) (lt-ltb j hard_word to) ∙ sym (mod-eq_of_lt small)))
 
   opened_shown : TrailsShow k.start ws [] [] (empty_level k.ceiling)
   opened_shown = record {
@@ -53,10 +56,13 @@ module _ (k : Setting) (ws : List ℕ) (long : length ws ≡ word_count) (all : 
 
   -- the words are the first ones
   words_are : ws ≡ replay k.start []
-  words_are = ext_get_or 0 ws (replay k.start []) (long ∙ sym (as_wide k.start [])) (λ j less. let low : j < word_count = omega (arith, less, long) in all j low ∙ sym (get_or-map-range_with_len (first_word k.start) 0 word_count j j 0 low (omega arith)))
+  words_are = ext_get_or 0 ws (replay k.start []) (long ∙ sym (as_wide k.start []))
+      (λ j less. let low : j < word_count = omega (arith, less, long) in all j low
+      ∙ sym (get_or-map-range_with_len (first_word k.start) 0 word_count j j 0 low (omega arith)))
 
   known : (j : ℕ) (v : SeatView) → get_elem? (opening_view ∷ []) j ≡ some v → IsSeat [] 0 0 j v v.role
-  known zero v e = subst (λ (v : SeatView). IsSeat [] 0 0 0 v v.role) (some-injective opening_view v e) (refl, refl, (refl, refl), (refl, refl))
+  known zero v e = subst (λ (v : SeatView). IsSeat [] 0 0 0 v v.role) (some-injective opening_view v e)
+      (refl, refl, (refl, refl), (refl, refl))
   known (suc j) v e = absurd (some-ne-none v (sym e))
 
   pub opens : MeetsRule k (opening ws [] opening_view)

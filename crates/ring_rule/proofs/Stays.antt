@@ -15,20 +15,30 @@ pub behind : (m e : ℕ) (o : Option StayCounts) (p : Option Cyclic) (s : StayCo
     → (c : Cyclic) × (p ≡ Some c) × (s.index ≡ c.index) × (s.sent ≡ c.sent) × (s.lost ≡ c.lost) × (m ≡ c.done + e)
 behind m e None p s is h = let x : None ≡ Some s = is in absurd (cc)
 behind m e (Some t) None s is h = absurd h
-behind m e (Some t) (Some c) s is h = let same : t ≡ s = some_same t s is in
-    (c, refl, ap (λ (x : StayCounts). x.index) (sym same) ∙ h.0, ap (λ (x : StayCounts). x.sent) (sym same) ∙ h.1, ap (λ (x : StayCounts). x.lost) (sym same) ∙ h.2, h.3)
+behind m e (Some t) (Some c) s is h = let same : t ≡ s = some_same t s is in (
+  c,
+  refl,
+  ap (λ (x : StayCounts). x.index) (sym same) ∙ h.0,
+  ap (λ (x : StayCounts). x.sent) (sym same)
+      ∙ h.1,
+  ap (λ (x : StayCounts). x.lost) (sym same) ∙ h.2,
+  h.3,
+)
 
-pub same_if : (b : Bool) (m e : ℕ) (o o' : Option StayCounts) (p p' : Option Cyclic) → IsSameStay m e o p → IsSameStay m e o' p' → IsSameStay m e (cond b o' o) (cond b p' p)
+pub same_if : (b : Bool) (m e : ℕ) (o o' : Option StayCounts) (p p' : Option Cyclic) → IsSameStay m e o p → IsSameStay m e o' p'
+    → IsSameStay m e (cond b o' o) (cond b p' p)
 same_if true m e o o' p p' h h' = h'
 same_if false m e o o' p p' h h' = h
 
-pub same_expired : (m e : ℕ) (o : Option StayCounts) (p : Option Cyclic) → IsSameStay m e o p → IsSameStay m e (one_more 0 o) (option_map cyclic_after_expire p)
+pub same_expired : (m e : ℕ) (o : Option StayCounts) (p : Option Cyclic) → IsSameStay m e o p
+    → IsSameStay m e (one_more 0 o) (option_map cyclic_after_expire p)
 same_expired m e None None h = h
 same_expired m e None (Some c) h = h
 same_expired m e (Some s) None h = h
 same_expired m e (Some s) (Some c) h = let a = h.1 in let b = h.2 in (h.0, omega (arith, a), omega (arith, b), h.3)
 
-pub same_dropped : (m e : ℕ) (o : Option StayCounts) (p : Option Cyclic) → IsSameStay m e o p → IsSameStay m e (one_more 1 o) (option_map cyclic_after_lose p)
+pub same_dropped : (m e : ℕ) (o : Option StayCounts) (p : Option Cyclic) → IsSameStay m e o p
+    → IsSameStay m e (one_more 1 o) (option_map cyclic_after_lose p)
 same_dropped m e None None h = h
 same_dropped m e None (Some c) h = h
 same_dropped m e (Some s) None h = h

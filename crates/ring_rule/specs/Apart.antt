@@ -10,8 +10,8 @@ PendsAreApart = ((i j : ℕ) → i < cyclics → j < cyclics → pend_word i ≡
     × ((i : ℕ) → i < cyclics → pend_word i < cyclics)
     × ((word : ℕ) → word < cyclics → (i : ℕ) × (i < cyclics) × (pend_word i ≡ word))
 
--- two indexes share a buffer word of their bank exactly where they are equal modulo its size, and each of the bank's words is one of
--- some index
+-- two indexes share a buffer word of their bank exactly where they are equal modulo its size, and each of the bank's words is one
+-- of some index
 abbrev pub PlacesAreApart : Type 0
 PlacesAreApart = (bank : ℕ) → bank ≤ greatest_bank
     → ((i j : ℕ) → (place bank i ≡ place bank j) ↔ (i % bank_size bank ≡ j % bank_size bank))

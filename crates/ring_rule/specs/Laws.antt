@@ -1,5 +1,6 @@
 -- What the rule says of the records, whatever the plays say that made them.
-use Rattle.std.specs.Prelude.{◌≡◌, ◌≢◌, ℕ, zero, suc, ◌+◌, ◌*◌, ◌%◌, ◌≤◌, ◌==◌, if◌then◌else◌, Some, List, [], ◌∷◌, ◌++◌, length, slice_set, All, ⊤}
+use Rattle.std.specs.Prelude.{◌≡◌, ◌≢◌, ℕ, zero, suc, ◌+◌, ◌*◌, ◌%◌, ◌≤◌, ◌==◌, if◌then◌else◌, Some, List, [], ◌∷◌, ◌++◌, length}
+use Rattle.std.specs.Prelude.{slice_set, All, ⊤}
 use mathlib.Core.Option.{some}
 use lib.ListN.{get_elem?}
 use Rattle.cyc_level.specs.Level.{Cyclic, Level, count, soft_list, in_hand}
@@ -8,14 +9,16 @@ use Rattle.cyc_level.specs.Runs.{firing_events, soft_events}
 use Rattle.ring_rule.specs.declared.Role.{Role}
 use Rattle.ring_rule.specs.declared.Role.TheVariants.{Joint, Raise, Drain, Spent}
 use Rattle.ring_rule.specs.declared.RaiseStep.{RaiseStep}
-use Rattle.ring_rule.specs.declared.RaiseStep.TheVariants.{Admitted, Loaded, Lost, Added, Stored, Published, Marked, Cleared, Switched, LoadedSoftBank}
+use Rattle.ring_rule.specs.declared.RaiseStep.TheVariants.{Admitted, Loaded, Lost, Added, Stored, Published, Marked, Cleared}
+use Rattle.ring_rule.specs.declared.RaiseStep.TheVariants.{Switched, LoadedSoftBank}
 use Rattle.ring_rule.specs.declared.DrainStep.{DrainStep}
 use Rattle.ring_rule.specs.declared.DrainStep.TheVariants.{LoadedHardBank, LoadedProducer, Took, Subtracted, Followed}
 use Rattle.ring_rule.specs.declared.SeatView.{SeatView}
 use Rattle.ring_rule.specs.declared.Setting.{Setting}
 use Rattle.ring_rule.specs.Words.{mark_bit, index_range, entry, entry_id}
 use Rattle.ring_rule.specs.Trail.{consumer_index, drainer_hand_of, raise_events, drain_events}
-use Rattle.ring_rule.specs.Log.{RingStep, of_raise, of_drain, raise_side, drain_side, events_of, level_after, words_after, IsTrue, StandsAt}
+use Rattle.ring_rule.specs.Log.{RingStep, of_raise, of_drain, raise_side, drain_side, events_of, level_after, words_after, IsTrue}
+use Rattle.ring_rule.specs.Log.{StandsAt}
 use Rattle.ring_rule.specs.Rule.{RingState, MeetsRule}
 use Rattle.ring_rule.specs.Conservation.{AllStood}
 use Rattle.ring_rule.specs.Steps.{with_raise_step, with_drain_step}
@@ -61,16 +64,19 @@ AreSeats s i v j w = (get_elem? s.views i ≡ some v) × (v.role ≡ Raise) × (
 -- the two seats determine the log: there is no choice of an interleaving
 abbrev pub TrailsMakeTheLog : Type 0
 TrailsMakeTheLog = (k : Setting) (s : RingState) (R : MeetsRule k s) (i j : ℕ) (v w : SeatView) → AreSeats s i v j w
-    → R.log ≡ merged (length v.raise_trail + length w.drain_trail) (placed v.raise_places v.raise_trail) (placed w.drain_places w.drain_trail)
+    → R.log ≡ merged (length v.raise_trail + length w.drain_trail) (placed v.raise_places v.raise_trail)
+    (placed w.drain_places w.drain_trail)
 
 -- its events are those of the two trails
 abbrev pub SidesAreTheTrails : Type 0
-SidesAreTheTrails = (log : List RingStep) → (firing_events (events_of log) ≡ raise_events (raise_side log)) × (soft_events (events_of log) ≡ drain_events (drain_side log))
+SidesAreTheTrails = (log : List RingStep) → (firing_events (events_of log) ≡ raise_events (raise_side log))
+    × (soft_events (events_of log) ≡ drain_events (drain_side log))
 
--- where from one state to another each trail only grew, the log only grew: it gained these records, and each of them stands at a place
--- that is not below the log's length in the first state
+-- where from one state to another each trail only grew, the log only grew: it gained these records, and each of them stands at a
+-- place that is not below the log's length in the first state
 abbrev pub RecordsComeAfter : Type 0
-RecordsComeAfter = (k : Setting) (s s' : RingState) (R : MeetsRule k s) (R' : MeetsRule k s') (i j i' j' : ℕ) (v w v' w' : SeatView)
+RecordsComeAfter = (k : Setting) (s s' : RingState) (R : MeetsRule k s) (R' : MeetsRule k s') (i j i' j' : ℕ)
+    (v w v' w' : SeatView)
     → AreSeats s i v j w
     → AreSeats s' i' v' j' w'
     → (raises : List RaiseStep) (drains : List DrainStep) (raise_at drain_at : List ℕ)
@@ -79,17 +85,19 @@ RecordsComeAfter = (k : Setting) (s s' : RingState) (R : MeetsRule k s) (R' : Me
     → (later : List RingStep) × (R'.log ≡ later ++ R.log) × (raise_side later ≡ raises) × (drain_side later ≡ drains)
     × All (λ place. length R.log ≤ place) raise_at × All (λ place. length R.log ≤ place) drain_at
 
--- whatever a play says: where the rule holds before and after a seat's trail gains a record, its place is the number of steps so far,
--- it is true of the words before, and the words after are as the step leaves them
+-- whatever a play says: where the rule holds before and after a seat's trail gains a record, its place is the number of steps so
+-- far, it is true of the words before, and the words after are as the step leaves them
 abbrev pub NewRaiseIsTrue : Type 0
-NewRaiseIsTrue = (k : Setting) (s s' : RingState) (R : MeetsRule k s) (R' : MeetsRule k s') (seat place : ℕ) (v : SeatView) (x : RaiseStep)
+NewRaiseIsTrue = (k : Setting) (s s' : RingState) (R : MeetsRule k s) (R' : MeetsRule k s') (seat place : ℕ) (v : SeatView)
+    (x : RaiseStep)
     → get_elem? s.views seat ≡ some v
     → v.role ≡ Raise
     → s'.views ≡ slice_set s.views seat (with_raise_step place x v)
     → (place ≡ length R.log) × IsTrue k.start (of_raise x) R.log × (s'.words ≡ words_after k.start (of_raise x) R.log s.words)
 
 abbrev pub NewDrainIsTrue : Type 0
-NewDrainIsTrue = (k : Setting) (s s' : RingState) (R : MeetsRule k s) (R' : MeetsRule k s') (seat place : ℕ) (v : SeatView) (x : DrainStep)
+NewDrainIsTrue = (k : Setting) (s s' : RingState) (R : MeetsRule k s) (R' : MeetsRule k s') (seat place : ℕ) (v : SeatView)
+    (x : DrainStep)
     → get_elem? s.views seat ≡ some v
     → v.role ≡ Drain
     → s'.views ≡ slice_set s.views seat (with_drain_step place x v)
@@ -117,7 +125,8 @@ RaiseFinds l (LoadedSoftBank found) = found ≡ l.soft_bank
 abbrev pub DrainFinds : ℕ → Level → DrainStep → Type 0
 DrainFinds consumer l (LoadedHardBank found) = found ≡ l.hard_bank
 DrainFinds consumer l (LoadedProducer found) = found ≡ (consumer + length (soft_list l)) % index_range
-DrainFinds consumer l (Took e) = (id : ℕ) × (c : Cyclic) × (first_of (soft_list l) ≡ Some id) × (l.cyclics id ≡ Some c) × (e ≡ entry id c.index)
+DrainFinds consumer l (Took e) = (id : ℕ) × (c : Cyclic) × (first_of (soft_list l) ≡ Some id) × (l.cyclics id ≡ Some c)
+    × (e ≡ entry id c.index)
 DrainFinds consumer l (Subtracted found) = (id : ℕ) × (l.drainer_hand ≡ Some id) × (found ≡ pend_of l id)
 DrainFinds consumer l (Followed bank) = ⊤
 
@@ -127,7 +136,8 @@ Finds k log (of_drain x) = DrainFinds (consumer_index k.start (drain_side log)) 
 
 -- each step of the log found what the level just before it shows
 abbrev pub FoundIsShown : Type 0
-FoundIsShown = (k : Setting) (later earlier : List RingStep) (x : RingStep) → AllStood k (later ++ x ∷ earlier) → Finds k earlier x
+FoundIsShown = (k : Setting) (later earlier : List RingStep) (x : RingStep) → AllStood k (later ++ x ∷ earlier)
+    → Finds k earlier x
 
 -- the step admits the id
 abbrev pub IsAdmission : ℕ → RaiseStep → Type 0
@@ -149,9 +159,10 @@ abbrev pub NoneCalls : ℕ → List DrainStep → List DrainStep → Type 0
 NoneCalls id [] t = ⊤
 NoneCalls id (x ∷ steps) t = ¬ IsCall id x (steps ++ t) × NoneCalls id steps t
 
--- behind the step that ends a stay of the id, and until it is admitted anew, no step takes the id or finishes a call of it, and it is
--- not in the drainer's hand: so no handler's call of it begins
+-- behind the step that ends a stay of the id, and until it is admitted anew, no step takes the id or finishes a call of it, and
+-- it is not in the drainer's hand: so no handler's call of it begins
 abbrev pub NoCallFollowsRemoval : Type 0
-NoCallFollowsRemoval = (k : Setting) (later earlier : List RingStep) (id : ℕ) → AllStood k (later ++ of_raise (Cleared id) ∷ earlier)
+NoCallFollowsRemoval = (k : Setting) (later earlier : List RingStep) (id : ℕ)
+    → AllStood k (later ++ of_raise (Cleared id) ∷ earlier)
     → NoneAdmits id (raise_side later)
     → NoneCalls id (drain_side later) (drain_side earlier) × (drainer_hand_of (drain_side later ++ drain_side earlier) ≢ Some id)

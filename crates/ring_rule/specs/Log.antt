@@ -1,16 +1,20 @@
 -- The one order of all atomic steps of a ring: the log, the newest first. The place of a step is the number of steps before it.
-use Rattle.std.specs.Prelude.{◌≡◌, ℕ, ◌+◌, ◌-◌, ◌%◌, ◌^◌, Option, Some, None, List, [], ◌∷◌, ◌++◌, map, length, slice_index, slice_set, ⊤}
+use Rattle.std.specs.Prelude.{◌≡◌, ℕ, ◌+◌, ◌-◌, ◌%◌, ◌^◌, Option, Some, None, List, [], ◌∷◌, ◌++◌, map, length, slice_index}
+use Rattle.std.specs.Prelude.{slice_set, ⊤}
 use Rattle.std.specs.List.{range_with_len}
 use Rattle.cyc_level.specs.declared.Event.{Event}
 use Rattle.cyc_level.specs.Level.{Level}
 use Rattle.cyc_level.specs.Events.{reached}
 use Rattle.cyc_level.specs.Runs.{StayCounts}
 use Rattle.ring_rule.specs.declared.RaiseStep.{RaiseStep}
-use Rattle.ring_rule.specs.declared.RaiseStep.TheVariants.{Admitted, Loaded, Lost, Added, Stored, Published, Marked, Cleared, Switched, LoadedSoftBank}
+use Rattle.ring_rule.specs.declared.RaiseStep.TheVariants.{Admitted, Loaded, Lost, Added, Stored, Published, Marked, Cleared}
+use Rattle.ring_rule.specs.declared.RaiseStep.TheVariants.{Switched, LoadedSoftBank}
 use Rattle.ring_rule.specs.declared.DrainStep.{DrainStep}
 use Rattle.ring_rule.specs.declared.DrainStep.TheVariants.{LoadedHardBank, LoadedProducer, Took, Subtracted, Followed}
-use Rattle.ring_rule.specs.Words.{pend_word, mark_bit, place, producer_word, hard_word, soft_word, word_count, first_word, entry_index}
-use Rattle.ring_rule.specs.Trail.{open_stay, hard_bank_of, producer_index, held_entry, soft_bank_of, consumer_index, raise_event, drain_event}
+use Rattle.ring_rule.specs.Words.{pend_word, mark_bit, place, producer_word, hard_word, soft_word, word_count, first_word}
+use Rattle.ring_rule.specs.Words.{entry_index}
+use Rattle.ring_rule.specs.Trail.{open_stay, hard_bank_of, producer_index, held_entry, soft_bank_of, consumer_index, raise_event}
+use Rattle.ring_rule.specs.Trail.{drain_event}
 
 -- an atomic step of either side
 pub data RingStep : Type 0 where
@@ -152,7 +156,8 @@ module _ (start : ℕ) where
 
   -- the step stands at this place of the log, and is true there
   abbrev pub StandsAt : List RingStep → ℕ → RingStep → Type 0
-  StandsAt log place x = (later earlier : List RingStep) × (log ≡ later ++ x ∷ earlier) × (length earlier ≡ place) × IsTrue x earlier
+  StandsAt log place x = (later earlier : List RingStep) × (log ≡ later ++ x ∷ earlier) × (length earlier ≡ place)
+      × IsTrue x earlier
 
 -- the place of a side's newest step
 abbrev pub newest : List ℕ → ℕ

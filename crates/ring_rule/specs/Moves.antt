@@ -29,8 +29,8 @@ abbrev pub JoinIsAllowed : Type 0
 JoinIsAllowed = (k : Setting) (seat : ℕ) (v : SeatView) (other : ℕ) (w : SeatView) → v.role ≡ Raise → w.role ≡ Drain
     → Joins (MeetsRule k) seat v other w (joint_view v w) spent_view
 
--- the words of a table that was closed with the seat of both sides are what the log leaves whose sides are the trails of this seat, and
--- a level stood before and after each of its steps
+-- the words of a table that was closed with the seat of both sides are what the log leaves whose sides are the trails of this
+-- seat, and a level stood before and after each of its steps
 abbrev pub ClosingStands : Type 0
 ClosingStands = (k : Setting) (seat : ℕ) (v : SeatView) → v.role ≡ Joint → (words : List ℕ) (values : List (Unit {0}))
     → Final (Seen (MeetsRule k) seat v) words values

@@ -1,12 +1,16 @@
 -- The level that the words and the two trails show.
-use Rattle.std.specs.Prelude.{◌≡◌, ◌≢◌, ℕ, ◌+◌, ◌*◌, ◌%◌, ◌<◌, ◌≤◌, ◌==◌, if◌then◌else◌, true, Option, Some, None, List, [], ◌∷◌, length, slice_index, ⊤}
+use Rattle.std.specs.Prelude.{◌≡◌, ◌≢◌, ℕ, ◌+◌, ◌*◌, ◌%◌, ◌<◌, ◌≤◌, ◌==◌, if◌then◌else◌, true, Option, Some, None, List, [], ◌∷◌}
+use Rattle.std.specs.Prelude.{length, slice_index, ⊤}
 use Rattle.cyc_types.specs.Limits.{greatest_bank, cyclics}
 use Rattle.cyc_level.specs.Level.{Cyclic, Cyclics, Level, count, soft_list, in_hand}
 use Rattle.cyc_level.specs.Runs.{StayCounts}
 use Rattle.ring_rule.specs.declared.RaiseStep.{RaiseStep}
 use Rattle.ring_rule.specs.declared.DrainStep.{DrainStep}
-use Rattle.ring_rule.specs.Words.{pend_word, mark_bit, index_range, place, producer_word, hard_word, soft_word, entry, entry_id, entry_index}
-use Rattle.ring_rule.specs.Trail.{open_stay, ended_calls, firer_hand_of, marked_of, seen_pend, hard_bank_of, producer_index, stored_entry, has_followed, held_entry, drainer_hand_of, made_calls, soft_bank_of, consumer_index, producer_seen, bank_seen}
+use Rattle.ring_rule.specs.Words.{pend_word, mark_bit, index_range, place, producer_word, hard_word, soft_word, entry, entry_id}
+use Rattle.ring_rule.specs.Words.{entry_index}
+use Rattle.ring_rule.specs.Trail.{open_stay, ended_calls, firer_hand_of, marked_of, seen_pend, hard_bank_of, producer_index}
+use Rattle.ring_rule.specs.Trail.{stored_entry, has_followed, held_entry, drainer_hand_of, made_calls, soft_bank_of}
+use Rattle.ring_rule.specs.Trail.{consumer_index, producer_seen, bank_seen}
 
 -- the stay in the raise seat's trail is the level's. Of the finishes made, those of the stays that have ended are not
 -- this stay's
@@ -88,7 +92,8 @@ pub record Shows (start : ℕ) (words : List ℕ) (firing : FiringSummary) (soft
   -- a pend word is the outstanding calls with the mark, and that of an unused index is 0
   pub pends : (id : ℕ) (c : Cyclic) → l.cyclics id ≡ Some c
       → slice_index words (pend_word c.index) ≡ c.count + mark_bit * in_hand id l.marked
-  pub unused : (i : ℕ) → i < cyclics → ((id : ℕ) (c : Cyclic) → l.cyclics id ≡ Some c → c.index ≢ i) → slice_index words (pend_word i) ≡ 0
+  pub unused : (i : ℕ) → i < cyclics → ((id : ℕ) (c : Cyclic) → l.cyclics id ≡ Some c → c.index ≢ i)
+      → slice_index words (pend_word i) ≡ 0
   -- each entry between the indexes is id * cyclics + index of an admitted id
   pub new_held : BankHolds words l.cyclics l.hard_bank (new_list_start start soft.consumer l) l.new_list
   pub old_held : l.hard_bank ≢ l.soft_bank → BankHolds words l.cyclics l.soft_bank soft.consumer l.old_list
@@ -99,9 +104,11 @@ abbrev pub TrailsShow : ℕ → List ℕ → List RaiseStep → List DrainStep �
 TrailsShow start words raises drains l = Shows start words (firing_summary start raises) (soft_summary start drains) l
 
 -- what the values that the two sides found say of the level still
-pub record StillHolds (start : ℕ) (words : List ℕ) (raise_trail : List RaiseStep) (drain_trail : List DrainStep) (l : Level) : Type 0 where
+pub record StillHolds (start : ℕ) (words : List ℕ) (raise_trail : List RaiseStep) (drain_trail : List DrainStep)
+    (l : Level) : Type 0 where
   pub seen_is_enough : (id : ℕ) → count l id ≤ seen_pend id raise_trail
-  pub hand_stored : IsHandStored words l.cyclics l.hard_bank (producer_index start raise_trail) (stored_entry raise_trail) (firer_hand_of raise_trail)
+  pub hand_stored : IsHandStored words l.cyclics l.hard_bank (producer_index start raise_trail) (stored_entry raise_trail)
+      (firer_hand_of raise_trail)
   -- the banks that were never used
   pub fresh : (bank : ℕ) → l.hard_bank < bank → bank ≤ greatest_bank
       → slice_index words (producer_word bank) ≡ start % index_range

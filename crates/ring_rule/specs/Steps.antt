@@ -6,7 +6,8 @@ use Rattle.atomic_table.specs.Table.{Me, Step, Allows, keeps, stepped}
 use Rattle.cyc_types.specs.Limits.{greatest_bank, cyclics}
 use Rattle.cyc_level.specs.Lawful.{IsId}
 use Rattle.ring_rule.specs.declared.RaiseStep.{RaiseStep}
-use Rattle.ring_rule.specs.declared.RaiseStep.TheVariants.{Admitted, Loaded, Lost, Added, Stored, Published, Marked, Cleared, Switched, LoadedSoftBank}
+use Rattle.ring_rule.specs.declared.RaiseStep.TheVariants.{Admitted, Loaded, Lost, Added, Stored, Published, Marked, Cleared}
+use Rattle.ring_rule.specs.declared.RaiseStep.TheVariants.{Switched, LoadedSoftBank}
 use Rattle.ring_rule.specs.declared.DrainStep.{DrainStep}
 use Rattle.ring_rule.specs.declared.DrainStep.TheVariants.{LoadedHardBank, LoadedProducer, Took, Subtracted, Followed}
 use Rattle.ring_rule.specs.declared.SeatView.{SeatView}
@@ -28,8 +29,8 @@ with_raise_step place x v = record v { raise_trail = x ∷ v.raise_trail; raise_
 abbrev pub with_drain_step : ℕ → DrainStep → SeatView → SeatView
 with_drain_step place x v = record v { drain_trail = x ∷ v.drain_trail; drain_places = place ∷ v.drain_places }
 
--- the seat's trail gains this step, at some place, and nothing else changes. The rule leaves no choice of the place: it is the next
--- one in the order of all steps
+-- the seat's trail gains this step, at some place, and nothing else changes. The rule leaves no choice of the place: it is the
+-- next one in the order of all steps
 abbrev pub GainsRaiseStep : RaiseStep → ThisSeat → ThisSeat → Type 0
 GainsRaiseStep x me me' = (place : ℕ) × (me' ≡ (with_raise_step place x me.0, me.1))
 

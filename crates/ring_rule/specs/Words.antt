@@ -3,9 +3,9 @@ use Rattle.std.specs.Prelude.{ℕ, ◌+◌, ◌-◌, ◌*◌, ◌/◌, ◌%◌, 
 use Rattle.cyc_types.specs.Limits.{greatest_bank, cyclics}
 use Rattle.cyc_level.specs.Level.{bank_size}
 
--- which of so many words, a power of two, an index has. Nine is odd, so each word is some index's. Neighbours lie nine words apart,
--- and so from 32 words on never on one cache line of eight: one side writes at the one while the other side is at the other
--- (our own rule)
+-- which of so many words, a power of two, an index has. Nine is odd, so each word is some index's. Neighbours lie nine words
+-- apart, and so from 32 words on never on one cache line of eight: one side writes at the one while the other side is at the
+-- other (our own rule)
 abbrev pub spread : ℕ → ℕ → ℕ
 spread size index = index * 9 % size
 

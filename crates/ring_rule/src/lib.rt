@@ -7,7 +7,8 @@ ghost use Rattle.ring_rule.specs.declared.Setting.{Setting as TheSetting};
 ghost use Rattle.ring_rule.specs.Rule.{RingState, MeetsRule, opening_view};
 ghost use Rattle.ring_rule.specs.Conservation.{Conserves};
 ghost use Rattle.ring_rule.specs.Moves.{OpeningMeetsRule, SplitIsAllowed, JoinIsAllowed, ClosingStands};
-ghost use Rattle.ring_rule.specs.Laws.{EachRecordIsTrue, TrailsMakeTheLog, SidesAreTheTrails, RecordsComeAfter, NewRaiseIsTrue, NewDrainIsTrue, FoundIsShown, NoCallFollowsRemoval};
+ghost use Rattle.ring_rule.specs.Laws.{EachRecordIsTrue, TrailsMakeTheLog, SidesAreTheTrails, RecordsComeAfter, NewRaiseIsTrue};
+ghost use Rattle.ring_rule.specs.Laws.{NewDrainIsTrue, FoundIsShown, NoCallFollowsRemoval};
 ghost use Rattle.ring_rule.specs.Apart.{WordsAreApart};
 
 use atomic_table::TableRule;

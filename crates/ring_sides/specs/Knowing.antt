@@ -11,7 +11,8 @@ index_in (Some s) = Some s.index
 -- the table has the id of each index, 0 where it is free, and no stay has more raises than these
 pub record Lists (ids : List ℕ) (raises : ℕ) (stays : Stays) : Type 0 where
   pub used : (i : ℕ) → i < cyclics → slice_index ids i ≢ 0 → index_in (stays (slice_index ids i)) ≡ Some i
-  pub only : (id : ℕ) (s : Stay) → stays id ≡ Some s → (s.index < cyclics) × (slice_index ids s.index ≡ id) × (id ≢ 0) × (s.sent ≤ raises)
+  pub only : (id : ℕ) (s : Stay) → stays id ≡ Some s → (s.index < cyclics) × (slice_index ids s.index ≡ id) × (id ≢ 0)
+      × (s.sent ≤ raises)
 
 -- what is kept of the firing side is so
 pub record Knows (ids : List ℕ) (raises : ℕ) (marked : Option ℕ) (bank : ℕ) (followed : Bool) (v : FiringView) : Type 0 where

@@ -24,7 +24,8 @@ pub fn softint<C: Calls>(
     level: Soft,
     budget: u32,
 ) -> Result<Ran, SoftRefused>
-    ensures did { IsSoftint DrainEndCall end_hand end_made (at_level C.called (level_of level)) C.count C.may_refuse budget result drain.old calls.old drain.new calls.new }
+    ensures did { IsSoftint DrainEndCall end_hand end_made (at_level C.called (level_of level)) C.count C.may_refuse budget result
+        drain.old calls.old drain.new calls.new }
 
     // Where it is idle it has looked, last: at the hard bank, which is the soft side's, and then at its producer word.
     ensures found { IfOk result (λ r. IsTrue r.idle → FoundIdle drain.old drain.new) }

@@ -1,5 +1,6 @@
 -- Where the next index of a bank lies.
-use Rattle.std.proofs.Common.{◌≡◌, ℕ, ◌+◌, ◌-◌, ◌*◌, ◌%◌, ◌^◌, ◌<◌, ◌≤◌, refl, sym, ap, ◌∙◌, subst, arith, pow_mono, pow_pos, mod-lt}
+use Rattle.std.proofs.Common.{◌≡◌, ℕ, ◌+◌, ◌-◌, ◌*◌, ◌%◌, ◌^◌, ◌<◌, ◌≤◌, refl, sym, ap, ◌∙◌, subst, arith, pow_mono, pow_pos}
+use Rattle.std.proofs.Common.{mod-lt}
 use native.Mathlib.Nat.{mod-mod_of_dvd, dvd-mul_right}
 use Prim.Native.Nat.{◌∣◌}
 use lib.Pow.{pow-add}

@@ -5,9 +5,11 @@ ghost use Rattle.cyc_level.specs.Level.{bank_size};
 ghost use Rattle.cyc_level.specs.Events.{most_sent};
 ghost use Rattle.cyc_level.specs.Lawful.{IsId};
 ghost use Rattle.cyc_level.specs.Runs.{StayCounts};
-ghost use Rattle.ring_rule.specs.declared.RaiseStep.TheVariants.{Admitted, Loaded, Lost, Added, Stored, Published, Marked, Cleared, Switched, LoadedSoftBank};
+ghost use Rattle.ring_rule.specs.declared.RaiseStep.TheVariants.{Admitted, Loaded, Lost, Added, Stored, Published, Marked};
+ghost use Rattle.ring_rule.specs.declared.RaiseStep.TheVariants.{Cleared, Switched, LoadedSoftBank};
 ghost use Rattle.ring_rule.specs.Words.{mark_bit, index_range, entry};
-ghost use Rattle.ring_rule.specs.Trail.{open_stay, seen_pend, firer_hand_of, marked_of, hard_bank_of, producer_index, stored_entry, has_followed};
+ghost use Rattle.ring_rule.specs.Trail.{open_stay, seen_pend, firer_hand_of, marked_of, hard_bank_of, producer_index};
+ghost use Rattle.ring_rule.specs.Trail.{stored_entry, has_followed};
 ghost use Rattle.ring_steps.specs.Sides.{IsSeatOf, MakesRaiseStep};
 
 use crate::places::{HARD, MARK, PRODUCERS, SOFT, buffer_at, pend_at};
@@ -24,7 +26,8 @@ impl Words {
         requires own { IsSeatOf J.setting self.now side.old.seat }
         requires hand { firer_hand_of side.old.seat.me.0.raise_trail ≡ None }
         requires id { IsId J.id × (open_stay J.id side.old.seat.me.0.raise_trail ≡ None) }
-        requires index { (index < cyclics) × (index < bank_size (hard_bank_of side.old.seat.me.0.raise_trail)) × ((j : ℕ) (s : StayCounts) → open_stay j side.old.seat.me.0.raise_trail ≡ Some s → s.index ≢ index) }
+        requires index { (index < cyclics) × (index < bank_size (hard_bank_of side.old.seat.me.0.raise_trail))
+            × ((j : ℕ) (s : StayCounts) → open_stay j side.old.seat.me.0.raise_trail ≡ Some s → s.index ≢ index) }
         ensures { MakesRaiseStep J.setting (Admitted J.id index) side.old.seat side.new.seat }
     {
         firing_steps();
@@ -36,7 +39,8 @@ impl Words {
     /// The load of the pend word of an admitted id: its outstanding calls, with the mark.
     pub fn load<J: Served>(&self, side: &mut FiringSide, index: usize) -> u64
         requires own { IsSeatOf J.setting self.now side.old.seat }
-        requires stay { (index < cyclics) × ((s : StayCounts) × (open_stay J.id side.old.seat.me.0.raise_trail ≡ Some s) × (s.index ≡ index)) }
+        requires stay { (index < cyclics) × ((s : StayCounts) × (open_stay J.id side.old.seat.me.0.raise_trail ≡ Some s)
+            × (s.index ≡ index)) }
         ensures bound { result % mark_bit ≤ seen_pend J.id side.old.seat.me.0.raise_trail }
         ensures step { MakesRaiseStep J.setting (Loaded J.id result) side.old.seat side.new.seat }
     {
@@ -51,7 +55,8 @@ impl Words {
         requires own { IsSeatOf J.setting self.now side.old.seat }
         requires hand { firer_hand_of side.old.seat.me.0.raise_trail ≡ None }
         requires unmarked { marked_of side.old.seat.me.0.raise_trail ≢ Some J.id }
-        requires stay { (index < cyclics) × ((s : StayCounts) × (open_stay J.id side.old.seat.me.0.raise_trail ≡ Some s) × (s.index ≡ index) × (s.sent < most_sent)) }
+        requires stay { (index < cyclics) × ((s : StayCounts) × (open_stay J.id side.old.seat.me.0.raise_trail ≡ Some s)
+            × (s.index ≡ index) × (s.sent < most_sent)) }
         ensures bound { (result ≤ seen_pend J.id side.old.seat.me.0.raise_trail) × (result ≤ J.setting.ceiling) }
         ensures lost { result ≡ J.setting.ceiling → MakesRaiseStep J.setting (Lost J.id result) side.old.seat side.new.seat }
         ensures below { result ≢ J.setting.ceiling → MakesRaiseStep J.setting (Loaded J.id result) side.old.seat side.new.seat }
@@ -68,7 +73,8 @@ impl Words {
         requires hand { firer_hand_of side.old.seat.me.0.raise_trail ≡ None }
         requires unmarked { marked_of side.old.seat.me.0.raise_trail ≢ Some J.id }
         requires below { seen_pend J.id side.old.seat.me.0.raise_trail < J.setting.ceiling }
-        requires stay { (index < cyclics) × ((s : StayCounts) × (open_stay J.id side.old.seat.me.0.raise_trail ≡ Some s) × (s.index ≡ index) × (s.sent < most_sent)) }
+        requires stay { (index < cyclics) × ((s : StayCounts) × (open_stay J.id side.old.seat.me.0.raise_trail ≡ Some s)
+            × (s.index ≡ index) × (s.sent < most_sent)) }
         ensures bound { result ≤ seen_pend J.id side.old.seat.me.0.raise_trail }
         ensures step { MakesRaiseStep J.setting (Added J.id result) side.old.seat side.new.seat }
     {
@@ -82,9 +88,11 @@ impl Words {
     pub fn store<J: Served>(&self, side: &mut FiringSide, mask: u64, next: u32, value: u64)
         requires own { IsSeatOf J.setting self.now side.old.seat }
         requires hand { firer_hand_of side.old.seat.me.0.raise_trail ≡ Some J.id }
-        requires bank { (hard_bank_of side.old.seat.me.0.raise_trail ≤ greatest_bank) × (mask + 1 ≡ bank_size (hard_bank_of side.old.seat.me.0.raise_trail)) }
+        requires bank { (hard_bank_of side.old.seat.me.0.raise_trail ≤ greatest_bank)
+            × (mask + 1 ≡ bank_size (hard_bank_of side.old.seat.me.0.raise_trail)) }
         requires next { next ≡ producer_index J.setting.start side.old.seat.me.0.raise_trail % index_range }
-        requires value { (s : StayCounts) × (open_stay J.id side.old.seat.me.0.raise_trail ≡ Some s) × (value ≡ entry J.id s.index) }
+        requires value { (s : StayCounts) × (open_stay J.id side.old.seat.me.0.raise_trail ≡ Some s)
+            × (value ≡ entry J.id s.index) }
         ensures stored { IsSome (stored_entry side.new.seat.me.0.raise_trail) }
         ensures step { MakesRaiseStep J.setting (Stored value) side.old.seat side.new.seat }
     {
@@ -114,7 +122,8 @@ impl Words {
         requires own { IsSeatOf J.setting self.now side.old.seat }
         requires hand { firer_hand_of side.old.seat.me.0.raise_trail ≡ None }
         requires unmarked { marked_of side.old.seat.me.0.raise_trail ≡ None }
-        requires stay { (index < cyclics) × ((s : StayCounts) × (open_stay J.id side.old.seat.me.0.raise_trail ≡ Some s) × (s.index ≡ index)) }
+        requires stay { (index < cyclics) × ((s : StayCounts) × (open_stay J.id side.old.seat.me.0.raise_trail ≡ Some s)
+            × (s.index ≡ index)) }
         ensures bound { result ≤ seen_pend J.id side.old.seat.me.0.raise_trail }
         ensures step { MakesRaiseStep J.setting (Marked J.id result) side.old.seat side.new.seat }
     {
@@ -128,8 +137,10 @@ impl Words {
     pub fn clear<J: Served>(&self, side: &mut FiringSide, index: usize)
         requires own { IsSeatOf J.setting self.now side.old.seat }
         requires hand { firer_hand_of side.old.seat.me.0.raise_trail ≡ None }
-        requires alone { (marked_of side.old.seat.me.0.raise_trail ≡ Some J.id) × (seen_pend J.id side.old.seat.me.0.raise_trail ≡ 0) }
-        requires stay { (index < cyclics) × ((s : StayCounts) × (open_stay J.id side.old.seat.me.0.raise_trail ≡ Some s) × (s.index ≡ index)) }
+        requires alone { (marked_of side.old.seat.me.0.raise_trail ≡ Some J.id)
+            × (seen_pend J.id side.old.seat.me.0.raise_trail ≡ 0) }
+        requires stay { (index < cyclics) × ((s : StayCounts) × (open_stay J.id side.old.seat.me.0.raise_trail ≡ Some s)
+            × (s.index ≡ index)) }
         ensures { MakesRaiseStep J.setting (Cleared J.id) side.old.seat side.new.seat }
     {
         firing_steps();

@@ -2,7 +2,9 @@
 ghost use Rattle.std.specs.Prelude.{ℕ};
 ghost use Rattle.ring_rule.specs.declared.Setting.{Setting as TheSetting};
 ghost use Rattle.ring_rule.specs.Rule.{raise_view, drain_view, joint_view, spent_view};
-ghost use Rattle.ring_rule.specs.Steps.{AndStands, TellsAdmit, TellsLoadToRaise, TellsAdd, TellsStore, TellsPublish, TellsLoad, TellsMark, TellsClear, TellsSwitch, TellsLoadSoftBank, TellsLoadHardBank, TellsLoadProducer, TellsTake, TellsSubtract, TellsFollow};
+ghost use Rattle.ring_rule.specs.Steps.{AndStands, TellsAdmit, TellsLoadToRaise, TellsAdd, TellsStore, TellsPublish, TellsLoad};
+ghost use Rattle.ring_rule.specs.Steps.{TellsMark, TellsClear, TellsSwitch, TellsLoadSoftBank, TellsLoadHardBank};
+ghost use Rattle.ring_rule.specs.Steps.{TellsLoadProducer, TellsTake, TellsSubtract, TellsFollow};
 
 use atomic_table::{Join, Play, Split};
 use ring_rule::SeatView;

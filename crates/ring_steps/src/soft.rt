@@ -44,7 +44,8 @@ impl Words {
         requires own { IsSeatOf J.setting self.now side.old.seat }
         requires hand { held_entry side.old.seat.me.0.drain_trail ≡ None }
         requires more { (end : ℕ) × (producer_seen side.old.seat.me.0.drain_trail ≡ Some end) × (end ≢ next) }
-        requires bank { (soft_bank_of side.old.seat.me.0.drain_trail ≤ greatest_bank) × (mask + 1 ≡ bank_size (soft_bank_of side.old.seat.me.0.drain_trail)) }
+        requires bank { (soft_bank_of side.old.seat.me.0.drain_trail ≤ greatest_bank)
+            × (mask + 1 ≡ bank_size (soft_bank_of side.old.seat.me.0.drain_trail)) }
         requires next { next ≡ consumer_index J.setting.start side.old.seat.me.0.drain_trail % index_range }
         ensures named { IsId (entry_id result) }
         ensures step { MakesDrainStep J.setting (Took result) side.old.seat side.new.seat }
@@ -58,8 +59,10 @@ impl Words {
     /// The store of the soft bank, after the old bank was found empty and another hard bank before that.
     pub fn follow<J: Served>(&self, side: &mut SoftSide, bank: u64)
         requires own { IsSeatOf J.setting self.now side.old.seat }
-        requires bank { (bank_seen side.old.seat.me.0.drain_trail ≡ Some bank) × (bank ≢ soft_bank_of side.old.seat.me.0.drain_trail) }
-        requires empty { (end : ℕ) × (producer_seen side.old.seat.me.0.drain_trail ≡ Some end) × (end ≡ consumer_index J.setting.start side.old.seat.me.0.drain_trail % index_range) }
+        requires bank { (bank_seen side.old.seat.me.0.drain_trail ≡ Some bank)
+            × (bank ≢ soft_bank_of side.old.seat.me.0.drain_trail) }
+        requires empty { (end : ℕ) × (producer_seen side.old.seat.me.0.drain_trail ≡ Some end)
+            × (end ≡ consumer_index J.setting.start side.old.seat.me.0.drain_trail % index_range) }
         ensures { MakesDrainStep J.setting (Followed bank) side.old.seat side.new.seat }
     {
         soft_steps();

@@ -27,7 +27,8 @@ pub struct Words {
 
 // The words of a new ring: both banks are 0, and each bank begins at `start`.
 fn first_words(alloc: Global, start: u32) -> Result<Vec<u64>, AllocError>
-    ensures { IfOk result (λ v. (length v.items ≡ word_count) × ((j : ℕ) → j < word_count → slice_index v.items j ≡ first_word start j)) }
+    ensures { IfOk result (λ v. (length v.items ≡ word_count)
+        × ((j : ℕ) → j < word_count → slice_index v.items j ≡ first_word start j)) }
 {
     let mut words = Vec::with_capacity(alloc, WORDS)?;
     for j in 0..WORDS {
@@ -87,7 +88,8 @@ impl Words {
 
     /// Puts the two seats together, each with its side's trail.
     pub fn join(&self, firing: FiringSide, soft: SoftSide) -> BothSides
-        requires { (firing.seat.table_id ≡ self.now.table.shared.table_id) × (soft.seat.table_id ≡ self.now.table.shared.table_id) }
+        requires { (firing.seat.table_id ≡ self.now.table.shared.table_id)
+            × (soft.seat.table_id ≡ self.now.table.shared.table_id) }
         ensures own { result.seat.table_id ≡ firing.seat.table_id }
         ensures trails { result.seat.me.0 ≡ joint_view firing.seat.me.0 soft.seat.me.0 }
     {

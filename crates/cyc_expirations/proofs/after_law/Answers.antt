@@ -4,7 +4,9 @@ use Rattle.cyc_expirations.proofs.Laws.{times_expirations, moment_next, count_du
 use Rattle.cyc_expirations.proofs.after_law.Goals as goal
 
 pub returns-clause-moment : goal.returns-clause-moment
-returns-clause-moment c now ts distinct i d low = moment_next now (expirations now ts) (get_or ts i d) (times_expirations now ts i d distinct low)
+returns-clause-moment c now ts distinct i d low =
+    moment_next now (expirations now ts) (get_or ts i d) (times_expirations now ts i d distinct low)
 
 pub returns-clause-count : goal.returns-clause-count
-returns-clause-count c now ts distinct i d low = count_due now (expirations now ts) (get_or ts i d) (times_expirations now ts i d distinct low)
+returns-clause-count c now ts distinct i d low =
+    count_due now (expirations now ts) (get_or ts i d) (times_expirations now ts i d distinct low)

@@ -4,5 +4,7 @@ use Rattle.cyc_model.specs.Script.{does}
 use Rattle.cyc_model.proofs.refused_or_done.Goals as goal
 
 pub returns : goal.returns
-returns c = λ q texts indexes step x s.
-    (λ why e. ap (λ o. unless o step (does q texts indexes step x) s) e, λ e. ap (λ o. unless o step (does q texts indexes step x) s) e)
+returns c = λ q texts indexes step x s. (
+  λ why e. ap (λ o. unless o step (does q texts indexes step x) s) e,
+  λ e. ap (λ o. unless o step (does q texts indexes step x) s) e,
+)

@@ -10,7 +10,13 @@ returns-in_default g c =
     let found = c.in_default.ensures in
     let less = c.loop-done-test.true in
     record {
-      served = (ran, long, serves_look _ _ _ _ _ _ _ ran _ _ _ _ s found.still (_, found.none.1, refl), found.hand ∙ sym found.none.0 ∙ hand);
+      served = (
+        ran,
+        long,
+        serves_look _ _ _ _ _ _ _ ran _ _ _ _ s found.still (_, found.none.1, refl),
+        found.hand
+            ∙ sym found.none.0 ∙ hand,
+      );
       within = (omega (arith, less), ((λ yes. less), (λ few. refl)));
       idle = λ yes. (c.loop-done.drain, _, s.way, found.none.1, found.hand);
       refused = tt;
@@ -20,11 +26,13 @@ pub loop-done-preserved : goal.loop-done-preserved
 loop-done-preserved g c =
     let (ran, long, s, hand) = c.loop-done.invariant in
     let found = c.in-Some.ensures in
-    let way = subst (λ h. DrainGoes g.D.Drain.step c.loop-done.drain (look_of h (Some c.in-Some.id)) c.in_hand.new.drain) hand found.way in
+    let way = subst (λ h. DrainGoes g.D.Drain.step c.loop-done.drain (look_of h (Some c.in-Some.id)) c.in_hand.new.drain) hand
+    found.way in
     let one : Served = record { id = c.in-Some.id; answer = c.finish.result } in
     let longer : length (ran ++ one ∷ []) ≡ c.loop-done.done + 1 = simp length-append (omega (arith, long)) in
     let looked = serves_look _ _ _ _ _ _ _ ran _ _ _ _ s found.still way in
-    let called = subst (λ level. g.C.Calls.called c.loop-done.calls c.in-Some.id level c.call.new.self) c.from.ensures c.in-Ok.ensures.called in (
+    let called = subst (λ level. g.C.Calls.called c.loop-done.calls c.in-Some.id level c.call.new.self) c.from.ensures
+    c.in-Ok.ensures.called in (
       ran ++ one ∷ [],
       longer,
       serves_call _ _ _ _ _ _ _ ran _ _ c.in-Some.id c.finish.result _ _ looked called c.in-Ok.ensures.counted
@@ -36,7 +44,8 @@ pub returns-in-Err : goal.returns-in-Err
 returns-in-Err g c =
     let (ran, long, s, hand) = c.loop-done.invariant in
     let found = c.in-Some.ensures in
-    let way = subst (λ h. DrainGoes g.D.Drain.step c.loop-done.drain (look_of h (Some c.in-Some.id)) c.in_hand.new.drain) hand found.way in
+    let way = subst (λ h. DrainGoes g.D.Drain.step c.loop-done.drain (look_of h (Some c.in-Some.id)) c.in_hand.new.drain) hand
+    found.way in
     record {
       served = tt;
       within = tt;

@@ -12,7 +12,8 @@ returns-then-is_leaving_at g c =
     let low : c.loop-number.number < length v.cpus = omega arith in
     let (x, at) = get_some v.cpus c.loop-number.number low in
     sym (any_at (is_leaving_here c.args.id) v.cpus c.loop-number.number x low
-    (ap (is_leaving_here c.args.id) (get_or_from_slice_get v.cpus c.loop-number.number x x at) ∙ sym (c.is_leaving_at.ensures x at) ∙ c.if-is_leaving_at.true))
+    (ap (is_leaving_here c.args.id) (get_or_from_slice_get v.cpus c.loop-number.number x x at)
+    ∙ sym (c.is_leaving_at.ensures x at) ∙ c.if-is_leaving_at.true))
 
 pub loop-number-preserved : goal.loop-number-preserved
 loop-number-preserved g c =
@@ -21,4 +22,5 @@ loop-number-preserved g c =
     let (x, at) = get_some v.cpus c.loop-number.number low in
     list_any_more (is_leaving_here c.args.id) v.cpus c.loop-number.number x low
     ∙ ap (λ b. b || is_leaving_here c.args.id (get_or v.cpus c.loop-number.number x)) c.loop-number.invariant
-    ∙ ap (is_leaving_here c.args.id) (get_or_from_slice_get v.cpus c.loop-number.number x x at) ∙ sym (c.is_leaving_at.ensures x at) ∙ c.if-is_leaving_at.false
+    ∙ ap (is_leaving_here c.args.id) (get_or_from_slice_get v.cpus c.loop-number.number x x at)
+    ∙ sym (c.is_leaving_at.ensures x at) ∙ c.if-is_leaving_at.false

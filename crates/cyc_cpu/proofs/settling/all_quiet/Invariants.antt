@@ -10,8 +10,10 @@ abbrev pub invariant-loop-place : goal.invariant-loop-place
 invariant-loop-place g l = record {
   lock : OnlyLoads g.R.Raise.step g.R.Raise.view l.fn.lock l.lock;
   low : OnlyLoads g.R.Raise.step g.R.Raise.view l.fn.low l.low;
-  quiet_lock : (k : ℕ) (r : Row) → k < l.place → IsRow l.table.rows k r → r.timer.level ≡ Lock → seen_of r.timer.id (g.R.Raise.view l.lock) ≡ 0;
-  quiet_low : (k : ℕ) (r : Row) → k < l.place → IsRow l.table.rows k r → r.timer.level ≡ Low → seen_of r.timer.id (g.R.Raise.view l.low) ≡ 0;
+  quiet_lock : (k : ℕ) (r : Row) → k < l.place → IsRow l.table.rows k r → r.timer.level ≡ Lock
+      → seen_of r.timer.id (g.R.Raise.view l.lock) ≡ 0;
+  quiet_low : (k : ℕ) (r : Row) → k < l.place → IsRow l.table.rows k r → r.timer.level ≡ Low
+      → seen_of r.timer.id (g.R.Raise.view l.low) ≡ 0;
   sound_lock : Sound (g.R.Raise.view l.fn.lock) → Sound (g.R.Raise.view l.lock);
   sound_low : Sound (g.R.Raise.view l.fn.low) → Sound (g.R.Raise.view l.low);
 }

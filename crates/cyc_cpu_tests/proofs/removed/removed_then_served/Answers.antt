@@ -9,7 +9,9 @@ use Rattle.cyc_cpu_tests.proofs.removed.removed_then_served.Goals as goal
 
 pub returns : goal.returns
 returns g c =
-    let begun = subst (λ (r : Removal). Begins fires firing_at c.args.id c.args.cpu.now r c.begin_remove.new.self) c.in-Ok-Done.field-0-is c.in-Ok-Done.ensures.1 in
+    let begun = subst (λ (r : Removal). Begins fires firing_at c.args.id c.args.cpu.now r c.begin_remove.new.self)
+    c.in-Ok-Done.field-0-is c.in-Ok-Done.ensures.1 in
     let gone = c.removal_law.ensures.left c.args.id c.begin_remove.new.self (inl (c.in-Ok-Done._receipt, begun)) in
-    (c.removal_law.ensures.kept c.args.id (running c.args.calls.now c.begin_remove.new.self) (running c.softint-answer.new.calls c.softint-answer.new.self)
+    (c.removal_law.ensures.kept c.args.id (running c.args.calls.now c.begin_remove.new.self)
+    (running c.softint-answer.new.calls c.softint-answer.new.self)
     (SoftInterrupt Low c.args.budget c.softint-answer.result) gone tt c.softint-answer.ensures.did).1

@@ -16,5 +16,7 @@ returns-clause-asked g c = record {
 
 pub returns-clause-settled : goal.returns-clause-settled
 returns-clause-settled g c = if_none_then c.settle.result _ _
-    (λ s y at. subst (λ (x : CpuView _). IsSettled g.R.Raise.view x) (same_Some c.settle.new.hard y (sym (get_set_same c.args.all.now.items c.args.place c.settle.new.hard c.requires) ∙ at)) s)
+    (λ s y at. subst (λ (x : CpuView _). IsSettled g.R.Raise.view x)
+    (same_Some c.settle.new.hard y (sym (get_set_same c.args.all.now.items c.args.place c.settle.new.hard c.requires) ∙ at))
+    s)
     c.settle.ensures.settled

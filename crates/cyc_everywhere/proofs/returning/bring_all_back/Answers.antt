@@ -1,12 +1,14 @@
 use Rattle.std.proofs.Common.{◌<◌, ◌≤◌, ◌+◌, sym, ap, ◌∙◌, subst, arith}
 use Rattle.cyc_agreement.specs.Cpus.{CpusView}
 use Rattle.cyc_agreement.proofs.Spots.{get_some}
-use Rattle.cyc_everywhere.proofs.Bringing.{Bringing, bringing_start, bringing_more, bringing_same, bringing_done, so_far, many, old_at, now_at, still_staying, may_come}
+use Rattle.cyc_everywhere.proofs.Bringing.{Bringing, bringing_start, bringing_more, bringing_same, bringing_done, so_far, many}
+use Rattle.cyc_everywhere.proofs.Bringing.{old_at, now_at, still_staying, may_come}
 use Rattle.cyc_everywhere.proofs.returning.bring_all_back.Goals as goal
 use Rattle.cyc_everywhere.proofs.returning.bring_all_back.Goals.{then-is_staying, else-is_staying}
 
 pub loop-place-init : goal.loop-place-init
-loop-place-init g c = bringing_start g.R.Raise.step g.R.Raise.view c.args.number c.args.now c.args.cpus.now c.args.records.now.list
+loop-place-init g c = bringing_start g.R.Raise.step g.R.Raise.view c.args.number c.args.now c.args.cpus.now
+    c.args.records.now.list
 
 pub is_staying-requires : goal.is_staying-requires
 is_staying-requires g c = let e = many _ _ _ _ _ _ _ _ _ c.loop-place.invariant in
@@ -31,7 +33,8 @@ bring_back-requires-clause-fits g c r is y there =
     let old = old_at _ _ _ _ _ _ _ _ _ r i is in
     may_come _ _ _ _ _ _ x at _ _ _ r y i old
     (sym (still_staying _ _ _ _ _ _ x at _ _ _ i r) ∙ sym (c.is_staying.ensures r is) ∙ c.if-is_staying.true) there
-    c.requires.rising c.requires.counts (c.requires.empty x at) (c.requires.room x at) (c.requires.within c.loop-place.place r old x at)
+    c.requires.rising c.requires.counts (c.requires.empty x at) (c.requires.room x at)
+    (c.requires.within c.loop-place.place r old x at)
 
 pub loop-place-preserved : goal.loop-place-preserved
 loop-place-preserved g c =
@@ -44,16 +47,24 @@ loop-place-preserved g c =
     let is = now_at _ _ _ _ _ _ _ _ _ r i old in
     let same = sym (still_staying _ _ _ _ _ _ x at _ _ _ i r) ∙ sym (c.is_staying.ensures r is) in
     elim c.if-is_staying.branch [
-      | then-is_staying w ↦ subst (λ (u : CpusView _). Bringing g.R.Raise.step g.R.Raise.view c.args.number c.args.now v rs (k + 1) u c.if-is_staying.records.list) (sym w.cpus-is)
-          (bringing_more g.R.Raise.step g.R.Raise.view c.args.number c.args.now v rs k c.loop-place.cpus w.bring_back.new.cpus c.loop-place.records.list c.if-is_staying.records.list r i old
-          (same ∙ w.if-is_staying.true) (w.bring_back.ensures.did r is) (ap (λ q. q.list) w.records-is ∙ w.bring_back.ensures.list r is))
-      | else-is_staying w ↦ subst (λ (u : CpusView _). Bringing g.R.Raise.step g.R.Raise.view c.args.number c.args.now v rs (k + 1) u c.if-is_staying.records.list) (sym w.cpus-is)
-          (subst (λ l. Bringing g.R.Raise.step g.R.Raise.view c.args.number c.args.now v rs (k + 1) c.loop-place.cpus l) (sym (ap (λ q. q.list) w.records-is))
-          (bringing_same g.R.Raise.step g.R.Raise.view c.args.number c.args.now v rs k c.loop-place.cpus c.loop-place.records.list r i old (same ∙ w.if-is_staying.false)))
+      | then-is_staying w ↦ subst (λ (u : CpusView _). Bringing g.R.Raise.step g.R.Raise.view c.args.number c.args.now v rs
+          (k + 1) u c.if-is_staying.records.list) (sym w.cpus-is)
+          (bringing_more g.R.Raise.step g.R.Raise.view c.args.number c.args.now v rs k c.loop-place.cpus w.bring_back.new.cpus
+          c.loop-place.records.list c.if-is_staying.records.list r i old
+          (same ∙ w.if-is_staying.true) (w.bring_back.ensures.did r is) (ap (λ q. q.list) w.records-is
+          ∙ w.bring_back.ensures.list r is))
+      | else-is_staying w ↦ subst (λ (u : CpusView _). Bringing g.R.Raise.step g.R.Raise.view c.args.number c.args.now v rs
+          (k + 1) u c.if-is_staying.records.list) (sym w.cpus-is)
+          (subst (λ l. Bringing g.R.Raise.step g.R.Raise.view c.args.number c.args.now v rs (k + 1) c.loop-place.cpus l)
+          (sym (ap (λ q. q.list) w.records-is))
+          (bringing_same g.R.Raise.step g.R.Raise.view c.args.number c.args.now v rs k c.loop-place.cpus c.loop-place.records.list
+          r i old (same ∙ w.if-is_staying.false)))
     ]
 
 pub returns-clause-did : goal.returns-clause-did
-returns-clause-did g c = (bringing_done _ _ _ _ _ _ _ _ _ (let n = c.len-place-end.ensures in omega arith) c.loop-place.invariant).0
+returns-clause-did g c = (bringing_done _ _ _ _ _ _ _ _ _
+    (let n = c.len-place-end.ensures in omega arith) c.loop-place.invariant).0
 
 pub returns-clause-list : goal.returns-clause-list
-returns-clause-list g c = (bringing_done _ _ _ _ _ _ _ _ _ (let n = c.len-place-end.ensures in omega arith) c.loop-place.invariant).1
+returns-clause-list g c = (bringing_done _ _ _ _ _ _ _ _ _
+    (let n = c.len-place-end.ensures in omega arith) c.loop-place.invariant).1

@@ -15,10 +15,14 @@ invariant-loop-root g l = record {
   room : l.table.room ≡ l.fn.table.room;
   rising : IsRising l.table.rows;
   sound : All IsSound (timers_of l.table.rows);
-  ready : IsReady g.R.Raise.view l.table.size l.most (g.R.Raise.view l.fn.lock).marked (g.R.Raise.view l.fn.low).marked l.lock l.low l.table.rows;
-  made : (made : List Expiration) × (length made ≡ l.expired) × Firing l.now made (timers_of l.fn.table.rows) (timers_of l.table.rows)
-      × Makes (at_level g.C.Calls.called High) g.C.Calls.count g.R.Raise.step g.R.Raise.view l.now made (cyclics_of l.fn.table.rows) (cyclics_of l.table.rows)
-      (record { calls = l.fn.calls; lock = l.fn.lock; low = l.fn.low }) (record { calls = l.calls; lock = l.lock; low = l.low }) l.lost
+  ready : IsReady g.R.Raise.view l.table.size l.most (g.R.Raise.view l.fn.lock).marked
+      (g.R.Raise.view l.fn.low).marked l.lock l.low l.table.rows;
+  made : (made : List Expiration) × (length made ≡ l.expired)
+      × Firing l.now made (timers_of l.fn.table.rows) (timers_of l.table.rows)
+      × Makes (at_level g.C.Calls.called High) g.C.Calls.count g.R.Raise.step g.R.Raise.view l.now made
+      (cyclics_of l.fn.table.rows) (cyclics_of l.table.rows)
+      (record { calls = l.fn.calls; lock = l.fn.lock; low = l.fn.low })
+      (record { calls = l.calls; lock = l.lock; low = l.low }) l.lost
       × (l.lost ≤ length made);
 }
 

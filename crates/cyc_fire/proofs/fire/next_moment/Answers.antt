@@ -7,4 +7,5 @@ use Rattle.cyc_fire.proofs.fire.next_moment.Goals as goal
 pub returns-in-Some : goal.returns-in-Some
 returns-in-Some c =
     let (k, r, is, at, moment, named, first) = c.in-Some.ensures.first in
-    sym moment ∙ earliest_least (timers_of c.args.table.now.rows) k r.timer (timer_low c.args.table.now.rows k r is) (timer_is c.args.table.now.rows k r is) first c.requires
+    sym moment ∙ earliest_least (timers_of c.args.table.now.rows) k r.timer (timer_low c.args.table.now.rows k r is)
+    (timer_is c.args.table.now.rows k r is) first c.requires

@@ -27,10 +27,13 @@ loop-number-preserved c =
       least = omega (arith, least);
       most = omega (arith, test);
       linked = subst (λ (es : List Entry). IsLinked es (places es)) (sym new_es) (placed (es ++ x ∷ []) (ps ++ n ∷ []) linked);
-      slots = λ len low. ap (λ (es : List Entry). slots len es (places es)) new_es ∙ ap (slots len (es ++ x ∷ [])) (places_are (es ++ x ∷ []) (ps ++ n ∷ []) linked)
+      slots = λ len low. ap (λ (es : List Entry). slots len es (places es)) new_es
+          ∙ ap (slots len (es ++ x ∷ [])) (places_are (es ++ x ∷ []) (ps ++ n ∷ []) linked)
           ∙ pushed_slots es ps n x h.long index h.linked len (omega (arith, low, least))
           ∙ ap (λ (os : List (Option Expiration)). os ++ None ∷ []) (h.slots len low)
-          ∙ free_more (slots len c.args.entries.now.items (places c.args.entries.now.items)) (length c.args.entries.now.items) n least;
-      kept = λ p low. ap (λ (es : List Entry). entry_at es p) new_es ∙ get_or_append_left es (x ∷ []) nowhere p (let long = h.long in omega (arith, low, least, long)) ∙ h.kept p low;
+          ∙ free_more (slots len c.args.entries.now.items (places c.args.entries.now.items))
+          (length c.args.entries.now.items) n least;
+      kept = λ p low. ap (λ (es : List Entry). entry_at es p) new_es
+          ∙ get_or_append_left es (x ∷ []) nowhere p (let long = h.long in omega (arith, low, least, long)) ∙ h.kept p low;
       entries = omega (arith, more, was);
     }

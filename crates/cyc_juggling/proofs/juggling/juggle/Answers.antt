@@ -8,4 +8,7 @@ returns-in_err-may_leave-clause-did g c last =
     inl (c.in_err-may_leave.field-0.0, c.in_err-may_leave.ensures.err c.args.records.now last, e.1 ∙ ap Err e.2, refl)
 
 pub returns-clause-did : goal.returns-clause-did
-returns-clause-did g c last = inr (c.in_ok-may_leave.ensures.ok c.args.records.now last, (c.move_away.result, refl, c.move_away.ensures.did last))
+returns-clause-did g c last = inr (
+  c.in_ok-may_leave.ensures.ok c.args.records.now last,
+  (c.move_away.result, refl, c.move_away.ensures.did last),
+)

@@ -5,10 +5,13 @@ use Rattle.cyc_juggling.proofs.turning.visit.Goals as goal
 
 pub turn_of-requires-clause-here : goal.turn_of-requires-clause-here
 turn_of-requires-clause-here g c = let v = c.args.cpus.now in
-    has_at v c.args.source c.args.place c.id_at-id.result (id_there v c.args.source c.cpu.result.now c.cpu.ensures c.args.place c.id_at-id.result c.requires.here c.id_at-id.ensures)
+    has_at v c.args.source c.args.place c.id_at-id.result
+    (id_there v c.args.source c.cpu.result.now c.cpu.ensures c.args.place c.id_at-id.result c.requires.here
+    c.id_at-id.ensures)
 
 pub overflow_add-result : goal.overflow_add-result
-overflow_add-result g c = let few = few_ids c.args.cpus.now c.args.source c.cpu.result.now c.cpu.ensures g.R.Raise.view (c.law.ensures c.args.source c.cpu.result.now c.cpu.ensures) in
+overflow_add-result g c = let few = few_ids c.args.cpus.now c.args.source c.cpu.result.now c.cpu.ensures g.R.Raise.view
+    (c.law.ensures c.args.source c.cpu.result.now c.cpu.ensures) in
     let low = c.requires.here in omega (arith, few, low)
 
 pub returns-in_default-clause-did : goal.returns-in_default-clause-did
@@ -22,7 +25,9 @@ returns-in_default-clause-did g c = let v = c.args.cpus.now in (
 )
 
 pub overflow_add-result-in_default-turn : goal.overflow_add-result-in_default-turn
-overflow_add-result-in_default-turn g c = let few = few_ids c.args.cpus.now c.args.source c.cpu.result.now c.cpu.ensures g.R.Raise.view (c.law.ensures c.args.source c.cpu.result.now c.cpu.ensures) in
+overflow_add-result-in_default-turn g c = let few =
+    few_ids c.args.cpus.now c.args.source c.cpu.result.now c.cpu.ensures g.R.Raise.view
+    (c.law.ensures c.args.source c.cpu.result.now c.cpu.ensures) in
     let low = c.requires.here in omega (arith, few, low)
 
 pub returns-in-Moves-clause-did : goal.returns-in-Moves-clause-did

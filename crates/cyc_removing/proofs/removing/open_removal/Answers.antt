@@ -10,7 +10,8 @@ pub returns-in-Some-clause-first : goal.returns-in-Some-clause-first
 returns-in-Some-clause-first g c records last =
     let v = c.args.cpus.now in let n = c.loop-number.number in let x = c.cpu-cpu.result.now in
     c.loop-number.invariant.rest ∙ why_open c.args.id v n c.in-Some.removed x c.cpu-cpu.ensures
-    (tested v n c.args.id x c.has.result c.cpu-cpu.ensures c.has.ensures.here c.has.ensures.none ∙ c.if-has.true) (sym c.removal.ensures ∙ c.in-Some.is)
+    (tested v n c.args.id x c.has.result c.cpu-cpu.ensures c.has.ensures.here c.has.ensures.none ∙ c.if-has.true)
+    (sym c.removal.ensures ∙ c.in-Some.is)
 
 pub loop-number-preserved : goal.loop-number-preserved
 loop-number-preserved g c =
@@ -30,8 +31,10 @@ loop-number-preserved g c =
 
 pub returns-clause-first : goal.returns-clause-first
 returns-clause-first g c records last =
-    c.loop-number.invariant.rest ∙ why_none c.args.id c.args.cpus.now c.loop-number.number (let e = c.count-number-end.ensures.count in omega arith)
+    c.loop-number.invariant.rest ∙ why_none c.args.id c.args.cpus.now c.loop-number.number
+    (let e = c.count-number-end.ensures.count in omega arith)
 
 pub returns-clause-none : goal.returns-clause-none
 returns-clause-none g c n h =
-    c.loop-number.invariant.none n (let low = has_low c.args.cpus.now n c.args.id h in let e = c.count-number-end.ensures.count in omega arith) h
+    c.loop-number.invariant.none n (let low = has_low c.args.cpus.now n c.args.id h in let e = c.count-number-end.ensures.count in
+    omega arith) h

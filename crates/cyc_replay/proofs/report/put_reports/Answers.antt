@@ -1,4 +1,5 @@
-use Rattle.std.proofs.Common.{◌≡◌, ◌<◌, ◌≤◌, ◌+◌, ◌++◌, ◌∷◌, map, drop, length, get_or, append-nil, ap, sym, ◌∙◌, subst, arith, string_bytes, ℕ, List}
+use Rattle.std.proofs.Common.{◌≡◌, ◌<◌, ◌≤◌, ◌+◌, ◌++◌, ◌∷◌, map, drop, length, get_or, append-nil, ap, sym, ◌∙◌, subst, arith}
+use Rattle.std.proofs.Common.{string_bytes, ℕ, List}
 use Rattle.std.proofs.lemmas.List.{at_drop_more, drop_all}
 use Rattle.std.proofs.lemmas.Result.{err_from_is_err_and}
 use Rattle.std.specs.Io.KnownBytes.{Appends}

@@ -13,6 +13,7 @@ invariant-loop-name g l = record {
   holds : (s : State) → Holds s l.initial.machine → Holds s l.machine;
   whole : g.S.Sink.has_failed l.sink ≡ false;
   text : (step : ℕ) (s : State) → IsReached step s → Holds s l.initial.machine → (done : List ℕ)
-      × (reports 0 (names_of l.script) s ≡ done ++ reports l.name-index (map string_bytes (drop l.name-index l.script.names.items)) s)
+      × (reports 0 (names_of l.script) s ≡ done ++ reports l.name-index
+      (map string_bytes (drop l.name-index l.script.names.items)) s)
       × Appends (g.S.Sink.written l.initial.sink) (g.S.Sink.written l.sink) done;
 }

@@ -25,19 +25,23 @@ put_step-requires-clause-runs g c =
 
 pub returns-in_err-put_step-clause-text : goal.returns-in_err-put_step-clause-text
 returns-in_err-put_step-clause-text g c =
-    let script = c.args.script.now in let steps = script.steps.items in let i = c.loop-taken.taken-index in let x = c.taken-item.result in
+    let script = c.args.script.now in let steps = script.steps.items in let i = c.loop-taken.taken-index in let x =
+    c.taken-item.result in
     let low = subst (λ xs. i < length xs) c.deref-taken-items.ensures.value c.loop-taken-test.true in
     let here = subst (λ xs. x ≡ get_or xs i x) c.deref-taken-items.ensures.value c.taken-item.is in
     let number = c.loop-taken.invariant.number in
-    let put = c.in_err-put_step.ensures.text (take i steps) (number_on steps i x low here c.loop-taken.step number) c.loop-taken.invariant.runs in
+    let put = c.in_err-put_step.ensures.text (take i steps)
+    (number_on steps i x low here c.loop-taken.step number) c.loop-taken.invariant.runs in
     let whole = whole_line steps i x low here script.cpus script.ceiling (names_of script) no_indexes c.loop-taken.step number in
     let p = err_from_is_err_and c.from_residual.result c.from_residual.ensures.1 in
-    rw p.1 (subst (λ text. AppendsPrefix (g.S.Sink.written c.args.sink.now) (g.S.Sink.written c.put_step.new.sink) text) (sym whole.1)
+    rw p.1 (subst (λ text. AppendsPrefix (g.S.Sink.written c.args.sink.now) (g.S.Sink.written c.put_step.new.sink) text)
+    (sym whole.1)
     (stops _ _ _ whole.0 (prefix_more _ _ _ _ _ c.loop-taken.invariant.text put)))
 
 pub loop-taken-preserved : goal.loop-taken-preserved
 loop-taken-preserved g c =
-    let script = c.args.script.now in let steps = script.steps.items in let i = c.loop-taken.taken-index in let x = c.taken-item.result in
+    let script = c.args.script.now in let steps = script.steps.items in let i = c.loop-taken.taken-index in let x =
+    c.taken-item.result in
     let low = subst (λ xs. i < length xs) c.deref-taken-items.ensures.value c.loop-taken-test.true in
     let here = subst (λ xs. x ≡ get_or xs i x) c.deref-taken-items.ensures.value c.taken-item.is in
     let number = c.loop-taken.invariant.number in
@@ -45,7 +49,8 @@ loop-taken-preserved g c =
     record {
       number = omega (arith, number);
       whole = c.in_ok-put_step.ensures.write;
-      runs = subst (λ xs. Runs script.cpus script.ceiling (names_of script) xs c.put_step.new.machine) (sym (take_on steps i x low here))
+      runs = subst (λ xs. Runs script.cpus script.ceiling (names_of script) xs c.put_step.new.machine)
+          (sym (take_on steps i x low here))
           (c.in_ok-put_step.ensures.runs (take i steps) at c.loop-taken.invariant.runs);
       text = subst (λ text. Appends (g.S.Sink.written c.args.sink.now) (g.S.Sink.written c.put_step.new.sink) text)
           (sym (line_then steps i x low here script.cpus script.ceiling (names_of script) no_indexes c.loop-taken.step number))

@@ -17,9 +17,11 @@ returns-in_err-put_steps-clause-text g c =
 pub returns-clause-text : goal.returns-clause-text
 returns-clause-text g c =
     let script = c.args.script.now in let low = script.cpus_in_range.0 in let r = c.in_ok-put_steps.ensures.runs in
-    let reached = reached_so script.cpus script.ceiling (names_of script) script.steps.items c.put_steps.new.machine r (omega (arith, low))
+    let reached = reached_so script.cpus script.ceiling (names_of script) script.steps.items c.put_steps.new.machine r
+    (omega (arith, low))
     script.cpus_in_range.1 (1 + length script.steps.items) (omega arith) in
-    let P : List ℕ → Type 0 = λ text. Puts (g.S.Sink.written c.args.sink.now) (g.S.Sink.written c.put_reports.new.sink) c.put_reports.result text in
+    let P : List ℕ → Type 0 = λ text. Puts (g.S.Sink.written c.args.sink.now)
+    (g.S.Sink.written c.put_reports.new.sink) c.put_reports.result text in
     subst P (whole_text c.args.script.now c.put_steps.new.machine r)
     (more _ _ _ _ _ _ c.in_ok-put_steps.ensures.text (c.put_reports.ensures.text _ _ reached r.holds))
 
@@ -30,5 +32,6 @@ at_ok P (Err e) p = tt
 pub returns-clause-runs : goal.returns-clause-runs
 returns-clause-runs g c =
     let script = c.args.script.now in
-    at_ok _ c.put_reports.result (runs_shown script.cpus script.ceiling (names_of script) script.steps.items c.put_steps.new.machine
+    at_ok _ c.put_reports.result (runs_shown script.cpus script.ceiling
+    (names_of script) script.steps.items c.put_steps.new.machine
     c.put_reports.new.machine c.in_ok-put_steps.ensures.runs c.put_reports.ensures.holds)

@@ -13,5 +13,6 @@ invariant-loop-value l = record {
   names : names_fit 0 l.steps.items ≡ true;
   clock : moment_after_all 0 l.steps.items ≡ l.context.moment;
   moments : moments_fit 0 l.steps.items ≡ true;
-  rest : steps_of [] first_context (map view l.values) ≡ steps_of l.steps.items l.context (map view (drop l.value-index l.values));
+  rest : steps_of [] first_context (map view l.values) ≡ steps_of l.steps.items l.context
+      (map view (drop l.value-index l.values));
 }

@@ -7,7 +7,15 @@ use Rattle.cyc_serving.proofs.advancing.advance_clock.Goals as goal
 pub fire_all-requires : goal.fire_all-requires
 fire_all-requires c =
     let (step, s, few, r, h) = c.requires.reached in let m = c.args.machine.now in let first = running_system m.tally m.system in
-    record { ready = (step, s, first, begins step c.args.now s m few r h c.requires.before (c.advance_law.ensures.begins c.args.now s first h.shows)) }
+    record {
+      ready = (
+        step,
+        s,
+        first,
+        begins step c.args.now s m few r h c.requires.before
+            (c.advance_law.ensures.begins c.args.now s first h.shows),
+      );
+    }
 
 pub returns-clause-line : goal.returns-clause-line
 returns-clause-line c = λ step s few r h.

@@ -24,7 +24,8 @@ loop-id-preserved c =
     let (less, (n, at), least) = next in
     record {
       polling = λ i s p. subst (λ k. (lines : List ℕ) × (string_bytes c.poll_one.new.line ≡ string_bytes c.args.line.now ++ lines)
-          × IsPolling texts c.args.step (up_to k (leaving_ids (interrupt c.args.step i s).state)) lines i s c.poll_one.new.machine) (sym value)
+          × IsPolling texts c.args.step (up_to k (leaving_ids (interrupt c.args.step i s).state)) lines i s
+          c.poll_one.new.machine) (sym value)
           (polled_more texts c.args.step i s m p l.last id n less ((inv.ahead n id less).0 at)
           (λ j k above is. least j k above ((inv.ahead j k above).1 is))
           (string_bytes c.args.line.now) (string_bytes l.line) (string_bytes c.poll_one.new.line) l.machine c.poll_one.new.machine
@@ -44,6 +45,7 @@ returns c = record {
         lines,
         same,
         subst (λ ids. IsPolling texts c.args.step ids lines i s l.machine)
-            (all_last texts c.args.step i s m p l.last (λ n k above is. c.in_default.ensures.none n k above ((l.invariant.ahead n k above).1 is))) so_far,
+            (all_last texts c.args.step i s m p l.last
+            (λ n k above is. c.in_default.ensures.none n k above ((l.invariant.ahead n k above).1 is))) so_far,
       );
 }

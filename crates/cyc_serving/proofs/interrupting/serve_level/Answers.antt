@@ -14,14 +14,16 @@ use Rattle.cyc_serving.proofs.interrupting.serve_level.Goals as goal
 pub unreachable-requires : goal.unreachable-requires
 unreachable-requires c =
     let (step, s, few, r, h) = c.requires.reached in let fits = c.ranges.budget.fits in
-    never_refused step c.args.cpu c.args.budget c.args.level s c.args.machine.now few (omega (arith, fits)) r h c.in-Refused.field-0
+    never_refused step c.args.cpu c.args.budget c.args.level s c.args.machine.now few
+    (omega (arith, fits)) r h c.in-Refused.field-0
     (running_system c.softint-answer.new.calls c.softint-answer.new.self) (rw c.in-Refused.is at c.in-Err.ensures)
 
 pub returns-in-Ok-clause-some : goal.returns-in-Ok-clause-some
 returns-in-Ok-clause-some c = λ step s r h.
     let m = c.args.machine.now in
     let i : SoftintStep = record { cpu = c.args.cpu; level = c.args.level; budget = c.args.budget } in
-    let before = running_system m.tally m.system in let after = running_system c.softint-answer.new.calls c.softint-answer.new.self in
+    let before = running_system m.tally m.system in let after =
+    running_system c.softint-answer.new.calls c.softint-answer.new.self in
     let ran = c.in-Ok.ran in let did = c.in-Ok.ensures in
     let call = SoftInterrupt c.args.cpu c.args.level c.args.budget (Ok ran) in
     let served = c.softint_law.ensures.accepted i ran s before after h.system h.shows did in
@@ -30,7 +32,8 @@ returns-in-Ok-clause-some c = λ step s r h.
     record {
       reached = r;
       served = served;
-      holds = served_holds step i ran s m after (reached_good step s r) h served (keeps s m after.system h system most (c.kept_law.ensures.room call before after did h.system h.room))
+      holds = served_holds step i ran s m after (reached_good step s r) h served
+          (keeps s m after.system h system most (c.kept_law.ensures.room call before after did h.system h.room))
           (wide_served i s m after h ran did);
     }
 

@@ -6,7 +6,8 @@ use Rattle.cyc_serving.proofs.interrupting.take_softint.Goals as goal
 
 pub returns-clause-takes : goal.returns-clause-takes
 returns-clause-takes c = λ s r h.
-    let texts = map string_bytes c.args.names.now in let step = c.args.step in let i = c.args.softint.now in let ran = c.in-Some.ran in
+    let texts = map string_bytes c.args.names.now in let step = c.args.step in let i = c.args.softint.now in let ran =
+    c.in-Some.ran in
     let m = c.args.machine.now in let n = c.serve_level-served.new.machine in let t = c.poll_all.new.machine in
     let before = running_system m.tally m.system in let after = running_system n.tally n.system in
     let served = c.in-Some.ensures.some step s r h in

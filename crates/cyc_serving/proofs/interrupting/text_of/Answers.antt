@@ -14,5 +14,7 @@ pub returns : goal.returns
 returns c = λ s h.
     let m = c.args.machine.now in let name = c.name_of-name.result in let id = c.args.id in
     let same = c.name_of-name.ensures ∙ ap (λ xs. name_at xs id) c.deref.ensures.value in
-    sym (text_nameless s m id (map string_bytes c.args.names.now) h (subst (λ k. 0 < k) c.number-number.ensures.value c.number-number.ensures.valid.0)
-    (λ at. not_true (c.if-has_id.ensures.1 (ap (λ xs. id_at xs name) c.deref-2.ensures.value ∙ ap (id_at m.names.items) same ∙ at))))
+    sym (text_nameless s m id (map string_bytes c.args.names.now) h
+    (subst (λ k. 0 < k) c.number-number.ensures.value c.number-number.ensures.valid.0)
+    (λ at. not_true (c.if-has_id.ensures.1 (ap (λ xs. id_at xs name) c.deref-2.ensures.value ∙ ap (id_at m.names.items) same
+    ∙ at))))

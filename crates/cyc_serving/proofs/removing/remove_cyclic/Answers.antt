@@ -31,7 +31,8 @@ returns-clause-answers c = λ step s r h.
     let room = kept.room (BeginRemove id answer) before after (c.begin_remove-answer.ensures, refl) h.system h.room in
     let at = ap (id_at m.names.items) (sym c.number-place.ensures.value) ∙ sym (sym c.in-Some.is ∙ found) in
     let counted = c.keep_begun.ensures ∙ ap (λ k. counted_begun k answer m.counted.items) c.number-place.ensures.value in
-    begun_answers name id s m (record m { system = t; counted = c.keep_begun.new.counted }) (reached_good step s r) h (keeps s m t h system most room) refl refl at named refl refl answer counted c.begin_remove-answer.ensures
+    begun_answers name id s m (record m { system = t; counted = c.keep_begun.new.counted }) (reached_good step s r) h
+    (keeps s m t h system most room) refl refl at named refl refl answer counted c.begin_remove-answer.ensures
     (begun name (id_of name s) answer s m.system t (λ receipt. law.answered name receipt s m.system t h.system h.shows)
     (λ waits. law.kept name waits s m.system t h.system h.shows) (λ e. law.refused name e s m.system t h.system h.shows) did)
 
@@ -42,6 +43,8 @@ returns-clause-line c =
     let law = c.remove_law.ensures in
     begun_line_of name c.begin_remove-answer.result m t (λ s h.
     let named = same_id s m name c.number-place.result (Some id) h c.number-place.ensures.value (sym c.in-Some.is ∙ found) in
-    let did = subst (λ k. Changes fires firing_at m.system (BeginRemove k c.begin_remove-answer.result) t) (sym named) c.begin_remove-answer.ensures in
-    begun name (id_of name s) c.begin_remove-answer.result s m.system t (λ receipt. law.answered name receipt s m.system t h.system h.shows)
+    let did = subst (λ k. Changes fires firing_at m.system (BeginRemove k c.begin_remove-answer.result) t)
+    (sym named) c.begin_remove-answer.ensures in
+    begun name (id_of name s) c.begin_remove-answer.result s m.system t
+    (λ receipt. law.answered name receipt s m.system t h.system h.shows)
     (λ waits. law.kept name waits s m.system t h.system h.shows) (λ e. law.refused name e s m.system t h.system h.shows) did)

@@ -7,7 +7,8 @@ use Rattle.cyc_serving.proofs.removing.take_remove.Goals as goal
 
 pub returns-in-Err-clause-takes : goal.returns-in-Err-clause-takes
 returns-in-Err-clause-takes c = on_ok _ _ _ c.write_answer.result
-    (λ line other s r h. remove_refused (map string_bytes c.args.names.now) c.args.step c.args.name c.in-Err.why _ s c.remove_cyclic.new.machine
+    (λ line other s r h. remove_refused (map string_bytes c.args.names.now) c.args.step c.args.name c.in-Err.why _ s
+    c.remove_cyclic.new.machine
     (c.in-Err.ensures.answers c.args.step s r h) other line)
     c.write_answer.ensures.line c.write_answer.ensures.other
 

@@ -32,13 +32,15 @@ returns-in_default-answer-clause-counts c = λ step s r h.
 
 pub returns-in_default-answer-clause-holds : goal.returns-in_default-answer-clause-holds
 returns-in_default-answer-clause-holds c = λ s h.
-    let m = c.args.machine.now in let id = c.in-Some.id in let w = c.totals-answer.new.self in let did = c.in_default-answer.ensures in
+    let m = c.args.machine.now in let id = c.in-Some.id in let w = c.totals-answer.new.self in let did =
+    c.in_default-answer.ensures in
     let before = running_system m.tally m.system in let after = running_system m.tally w in
     let kept = c.kept_law.ensures in let call = AskTotals id None in
     let system = kept.system call before after (did, refl) h.system c.law.ensures in
     let same = (c.report_law.ensures.none id s m.system w h.system h.shows did).1 in
     refuses s m (record m { system = w }) h
-    (keeps s m w h system (kept.most call before after (did, refl) h.system) (kept.room call before after (did, refl) h.system h.room))
+    (keeps s m w h system (kept.most call before after (did, refl) h.system)
+    (kept.room call before after (did, refl) h.system h.room))
     (subst (λ v. Shows s v) (sym same) h.shows) refl refl (record { names = refl; counted = refl; named = refl })
 
 pub returns-clause-counts : goal.returns-clause-counts
@@ -53,11 +55,13 @@ returns-clause-counts c = λ step s r h.
 
 pub returns-clause-holds : goal.returns-clause-holds
 returns-clause-holds c = λ s h.
-    let m = c.args.machine.now in let id = c.in-Some.id in let w = c.totals-answer.new.self in let did = c.in-Some-answer.ensures in
+    let m = c.args.machine.now in let id = c.in-Some.id in let w = c.totals-answer.new.self in let did =
+    c.in-Some-answer.ensures in
     let before = running_system m.tally m.system in let after = running_system m.tally w in
     let kept = c.kept_law.ensures in let call = AskTotals id (Some c.in-Some-answer.totals) in
     let system = kept.system call before after (did, refl) h.system c.law.ensures in
     let shows = (c.report_law.ensures.some id c.in-Some-answer.totals s m.system w h.system h.shows did).0 in
     refuses s m (record m { system = w }) h
-    (keeps s m w h system (kept.most call before after (did, refl) h.system) (kept.room call before after (did, refl) h.system h.room))
+    (keeps s m w h system (kept.most call before after (did, refl) h.system)
+    (kept.room call before after (did, refl) h.system h.room))
     shows refl refl (record { names = refl; counted = refl; named = refl })

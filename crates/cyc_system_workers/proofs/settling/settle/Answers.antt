@@ -11,7 +11,8 @@ pub unite-system-requires : goal.unite-system-requires
 unite-system-requires g c =
     let left = c.split-desk.ensures.cpus ∙ sym (ap (λ (s : SystemView _). s.cpus.cpus) c.split-desk.ensures.desk) in
     let asked = c.settle_all-refused.ensures.asked in
-    c.away_law.ensures.each c.split-desk.result.0.cpus.cpus c.settle_all-refused.new.all.items (asked.long ∙ ap (λ l. length l) left) (λ n x y p q.
+    c.away_law.ensures.each c.split-desk.result.0.cpus.cpus c.settle_all-refused.new.all.items
+    (asked.long ∙ ap (λ l. length l) left) (λ n x y p q.
     settles_back g.R.Raise.step g.R.Raise.view c.away_law.ensures.same c.away_law.ensures.joined c.away_law.ensures.settled x y
     (asked.each n x y (ap (λ z. slice_get z n) left ∙ p) q))
 

@@ -8,5 +8,6 @@ loop-preserved g c =
     let (taken, split, appended) = c.loop.invariant in
     let n = c.in_ok-n.n in
     let rest = c.loop.rest.now in
-    let parts : rest ≡ take n rest ++ c.split_at.result.1.now = sym (take-append-drop n rest) ∙ ap (λ tail. take n rest ++ tail) (sym c.split_at.ensures.back) in
+    let parts : rest ≡ take n rest ++ c.split_at.result.1.now = sym (take-append-drop n rest)
+    ∙ ap (λ tail. take n rest ++ tail) (sym c.split_at.ensures.back) in
     turn _ _ _ _ taken rest (take n rest) _ split parts appended c.in_ok-n.ensures.bytes

@@ -7,20 +7,29 @@ use Rattle.cyc_workers.proofs.draining.drain.Goals as goal
 
 pub returns-then-watch : goal.returns-then-watch
 returns-then-watch g c =
-    subst (λ (d : Drained _ _). HasDrained g.D.Drain.step g.D.Drain.held g.D.Drain.made (at_level g.C.Calls.called (level_of c.args.level)) g.C.Calls.count g.C.Calls.may_refuse c.args.side d) (sym c.ended.ensures)
-    (has_stopped g.D.Drain.step g.D.Drain.held g.D.Drain.made (at_level g.C.Calls.called (level_of c.args.level)) g.C.Calls.count g.C.Calls.may_refuse
-    c.args.side c.loop.side c.serve.new.side c.in-Ok.ran.idle c.found_none.new.self c.loop.invariant c.in-Ok.ensures.ran c.if-ran.true (told_and_looked c.ask.new.self.told c.found_none.new.self c.found_none.ensures c.if-watch.true))
+    subst (λ (d : Drained _ _). HasDrained g.D.Drain.step g.D.Drain.held g.D.Drain.made
+    (at_level g.C.Calls.called (level_of c.args.level)) g.C.Calls.count g.C.Calls.may_refuse c.args.side d)
+    (sym c.ended.ensures)
+    (has_stopped g.D.Drain.step g.D.Drain.held g.D.Drain.made (at_level g.C.Calls.called (level_of c.args.level)) g.C.Calls.count
+    g.C.Calls.may_refuse
+    c.args.side c.loop.side c.serve.new.side c.in-Ok.ran.idle c.found_none.new.self c.loop.invariant c.in-Ok.ensures.ran
+    c.if-ran.true (told_and_looked c.ask.new.self.told c.found_none.new.self c.found_none.ensures c.if-watch.true))
 
 pub loop-preserved-then-ran : goal.loop-preserved-then-ran
-loop-preserved-then-ran g c = makes_on g.D.Drain.step g.D.Drain.held g.D.Drain.made (at_level g.C.Calls.called (level_of c.args.level)) g.C.Calls.count g.C.Calls.may_refuse
+loop-preserved-then-ran g c = makes_on g.D.Drain.step g.D.Drain.held g.D.Drain.made
+    (at_level g.C.Calls.called (level_of c.args.level)) g.C.Calls.count g.C.Calls.may_refuse
     c.args.side c.loop.side c.serve.new.side.drain c.serve.new.side.calls c.loop.invariant c.in-Ok.ensures.ran.0
 
 pub loop-preserved : goal.loop-preserved
-loop-preserved g c = makes_on g.D.Drain.step g.D.Drain.held g.D.Drain.made (at_level g.C.Calls.called (level_of c.args.level)) g.C.Calls.count g.C.Calls.may_refuse
+loop-preserved g c = makes_on g.D.Drain.step g.D.Drain.held g.D.Drain.made
+    (at_level g.C.Calls.called (level_of c.args.level)) g.C.Calls.count g.C.Calls.may_refuse
     c.args.side c.loop.side c.serve.new.side.drain c.serve.new.side.calls c.loop.invariant c.in-Ok.ensures.ran.0
 
 pub returns-in-Err : goal.returns-in-Err
 returns-in-Err g c =
-    subst (λ (d : Drained _ _). HasDrained g.D.Drain.step g.D.Drain.held g.D.Drain.made (at_level g.C.Calls.called (level_of c.args.level)) g.C.Calls.count g.C.Calls.may_refuse c.args.side d) (sym c.ended-in-Err.ensures)
-    (has_refused g.D.Drain.step g.D.Drain.held g.D.Drain.made (at_level g.C.Calls.called (level_of c.args.level)) g.C.Calls.count g.C.Calls.may_refuse
+    subst (λ (d : Drained _ _). HasDrained g.D.Drain.step g.D.Drain.held g.D.Drain.made
+    (at_level g.C.Calls.called (level_of c.args.level)) g.C.Calls.count g.C.Calls.may_refuse c.args.side d)
+    (sym c.ended-in-Err.ensures)
+    (has_refused g.D.Drain.step g.D.Drain.held g.D.Drain.made (at_level g.C.Calls.called (level_of c.args.level)) g.C.Calls.count
+    g.C.Calls.may_refuse
     c.args.side c.loop.side c.serve.new.side c.in-Err.refused c.ask.new.self c.loop.invariant c.in-Err.ensures.refused)

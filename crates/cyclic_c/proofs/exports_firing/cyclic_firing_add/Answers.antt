@@ -21,7 +21,8 @@ returns c =
         subst (λ (v : Firing). Adds held_step held_view id level start interval now answer v.hard new) same
             (subst (λ (z : ℤ). Adds held_step held_view id level start interval z answer old new) (to_z-of_z c.ranges.now)
             (subst (λ (z : ℤ). Adds held_step held_view id level start z (read now) answer old new) (to_z-of_z c.ranges.interval)
-            (subst (λ (z : ℤ). Adds held_step held_view id level z (read interval) (read now) answer old new) (to_z-of_z c.ranges.start) c.add-answer.ensures))),
+            (subst (λ (z : ℤ). Adds held_step held_view id level z (read interval) (read now) answer old new)
+            (to_z-of_z c.ranges.start) c.add-answer.ensures))),
         ap (λ (v : Firing). record v { hard = new }) same,
       ),
     )

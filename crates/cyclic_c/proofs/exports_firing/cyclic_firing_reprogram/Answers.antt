@@ -13,7 +13,8 @@ returns c =
       c.number_of_answer.ensures,
       (
         subst (λ (v : Firing). Reprograms held_step held_view c.args.id c.args.moment answer v.hard new) same
-            (subst (λ (z : ℤ). Reprograms held_step held_view c.args.id z answer c.deref_mut.result.now.hard new) (to_z-of_z c.ranges.moment) c.reprogram-answer.ensures),
+            (subst (λ (z : ℤ). Reprograms held_step held_view c.args.id z answer c.deref_mut.result.now.hard new)
+            (to_z-of_z c.ranges.moment) c.reprogram-answer.ensures),
         ap (λ (v : Firing). record v { hard = new }) same,
       ),
     )

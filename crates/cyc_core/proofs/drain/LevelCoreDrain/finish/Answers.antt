@@ -14,17 +14,25 @@ pub returns-then-is_some-clause-step : goal.returns-then-is_some-clause-step
 returns-then-is_some-clause-step c =
     let l = level_of c.args.self.now in
     let m = level_of c.finish_call.new.self in
-    let law : Lawful l = subst (λ (t : Tables). Lawful (level_of t)) c.self.view_is (reached_lawful (level_of (shown c.self.inside)) c.self.invariant.reached) in
+    let law : Lawful l = subst (λ (t : Tables). Lawful (level_of t)) c.self.view_is
+    (reached_lawful (level_of (shown c.self.inside)) c.self.invariant.reached) in
     let id = c.in-Some.id in
     let holds : l.drainer_hand ≡ Some id = ap (λ (t : Tables). t.drainer_hand) (sym c.self.view_is) ∙ c.in-Some.is in
-    let hand : is_some m.drainer_hand ≡ true = ap (λ (t : Tables). is_some t.drainer_hand) (sym c.self-2.view_is) ∙ sym c.is_some.ensures ∙ c.if-is_some.true in
-    holds_is l.drainer_hand id (λ (i : ℕ). Drains l (Finishes i More) m) holds (holds, (c.requires, c.finish_call.ensures), finish_more l law id holds m c.finish_call.ensures hand (is_marked m.marked id))
+    let hand : is_some m.drainer_hand ≡ true = ap (λ (t : Tables). is_some t.drainer_hand) (sym c.self-2.view_is)
+    ∙ sym c.is_some.ensures ∙ c.if-is_some.true in
+    holds_is l.drainer_hand id (λ (i : ℕ). Drains l (Finishes i More) m) holds (
+      holds,
+      (c.requires, c.finish_call.ensures),
+      finish_more l law id holds m c.finish_call.ensures hand
+          (is_marked m.marked id),
+    )
 
 pub returns-then-is_some-clause-made : goal.returns-then-is_some-clause-made
 returns-then-is_some-clause-made c =
     let l = level_of c.args.self.now in
     let m = level_of c.finish_call.new.self in
-    let law : Lawful l = subst (λ (t : Tables). Lawful (level_of t)) c.self.view_is (reached_lawful (level_of (shown c.self.inside)) c.self.invariant.reached) in
+    let law : Lawful l = subst (λ (t : Tables). Lawful (level_of t)) c.self.view_is
+    (reached_lawful (level_of (shown c.self.inside)) c.self.invariant.reached) in
     let id = c.in-Some.id in
     let holds : l.drainer_hand ≡ Some id = ap (λ (t : Tables). t.drainer_hand) (sym c.self.view_is) ∙ c.in-Some.is in
     made_one l law id holds m c.finish_call.ensures
@@ -33,18 +41,26 @@ pub returns-then-eq-clause-step : goal.returns-then-eq-clause-step
 returns-then-eq-clause-step c =
     let l = level_of c.args.self.now in
     let m = level_of c.finish_call.new.self in
-    let law : Lawful l = subst (λ (t : Tables). Lawful (level_of t)) c.self.view_is (reached_lawful (level_of (shown c.self.inside)) c.self.invariant.reached) in
+    let law : Lawful l = subst (λ (t : Tables). Lawful (level_of t)) c.self.view_is
+    (reached_lawful (level_of (shown c.self.inside)) c.self.invariant.reached) in
     let id = c.in-Some.id in
     let holds : l.drainer_hand ≡ Some id = ap (λ (t : Tables). t.drainer_hand) (sym c.self.view_is) ∙ c.in-Some.is in
-    let hand : is_some m.drainer_hand ≡ false = ap (λ (t : Tables). is_some t.drainer_hand) (sym c.self-2.view_is) ∙ sym c.is_some.ensures ∙ c.if-is_some.false in
+    let hand : is_some m.drainer_hand ≡ false = ap (λ (t : Tables). is_some t.drainer_hand) (sym c.self-2.view_is)
+    ∙ sym c.is_some.ensures ∙ c.if-is_some.false in
     let marked : is_marked m.marked id ≡ true = marked_is m.marked id (search rules) in
-    holds_is l.drainer_hand id (λ (i : ℕ). Drains l (Finishes i LastOfRemoval) m) holds (holds, (c.requires, c.finish_call.ensures), sym (ap (λ b. cond b LastOfRemoval Last) marked) ∙ finish_last l law id holds m c.finish_call.ensures hand (is_marked m.marked id))
+    holds_is l.drainer_hand id (λ (i : ℕ). Drains l (Finishes i LastOfRemoval) m) holds (
+      holds,
+      (c.requires, c.finish_call.ensures),
+      sym (ap (λ b. cond b LastOfRemoval Last) marked)
+          ∙ finish_last l law id holds m c.finish_call.ensures hand (is_marked m.marked id),
+    )
 
 pub returns-then-eq-clause-made : goal.returns-then-eq-clause-made
 returns-then-eq-clause-made c =
     let l = level_of c.args.self.now in
     let m = level_of c.finish_call.new.self in
-    let law : Lawful l = subst (λ (t : Tables). Lawful (level_of t)) c.self.view_is (reached_lawful (level_of (shown c.self.inside)) c.self.invariant.reached) in
+    let law : Lawful l = subst (λ (t : Tables). Lawful (level_of t)) c.self.view_is
+    (reached_lawful (level_of (shown c.self.inside)) c.self.invariant.reached) in
     let id = c.in-Some.id in
     let holds : l.drainer_hand ≡ Some id = ap (λ (t : Tables). t.drainer_hand) (sym c.self.view_is) ∙ c.in-Some.is in
     made_one l law id holds m c.finish_call.ensures
@@ -53,18 +69,26 @@ pub returns-clause-step : goal.returns-clause-step
 returns-clause-step c =
     let l = level_of c.args.self.now in
     let m = level_of c.finish_call.new.self in
-    let law : Lawful l = subst (λ (t : Tables). Lawful (level_of t)) c.self.view_is (reached_lawful (level_of (shown c.self.inside)) c.self.invariant.reached) in
+    let law : Lawful l = subst (λ (t : Tables). Lawful (level_of t)) c.self.view_is
+    (reached_lawful (level_of (shown c.self.inside)) c.self.invariant.reached) in
     let id = c.in-Some.id in
     let holds : l.drainer_hand ≡ Some id = ap (λ (t : Tables). t.drainer_hand) (sym c.self.view_is) ∙ c.in-Some.is in
-    let hand : is_some m.drainer_hand ≡ false = ap (λ (t : Tables). is_some t.drainer_hand) (sym c.self-2.view_is) ∙ sym c.is_some.ensures ∙ c.if-is_some.false in
+    let hand : is_some m.drainer_hand ≡ false = ap (λ (t : Tables). is_some t.drainer_hand) (sym c.self-2.view_is)
+    ∙ sym c.is_some.ensures ∙ c.if-is_some.false in
     let marked : is_marked m.marked id ≡ false = marked_not m.marked id (search rules) in
-    holds_is l.drainer_hand id (λ (i : ℕ). Drains l (Finishes i Last) m) holds (holds, (c.requires, c.finish_call.ensures), sym (ap (λ b. cond b LastOfRemoval Last) marked) ∙ finish_last l law id holds m c.finish_call.ensures hand (is_marked m.marked id))
+    holds_is l.drainer_hand id (λ (i : ℕ). Drains l (Finishes i Last) m) holds (
+      holds,
+      (c.requires, c.finish_call.ensures),
+      sym (ap (λ b. cond b LastOfRemoval Last) marked)
+          ∙ finish_last l law id holds m c.finish_call.ensures hand (is_marked m.marked id),
+    )
 
 pub returns-clause-made : goal.returns-clause-made
 returns-clause-made c =
     let l = level_of c.args.self.now in
     let m = level_of c.finish_call.new.self in
-    let law : Lawful l = subst (λ (t : Tables). Lawful (level_of t)) c.self.view_is (reached_lawful (level_of (shown c.self.inside)) c.self.invariant.reached) in
+    let law : Lawful l = subst (λ (t : Tables). Lawful (level_of t)) c.self.view_is
+    (reached_lawful (level_of (shown c.self.inside)) c.self.invariant.reached) in
     let id = c.in-Some.id in
     let holds : l.drainer_hand ≡ Some id = ap (λ (t : Tables). t.drainer_hand) (sym c.self.view_is) ∙ c.in-Some.is in
     made_one l law id holds m c.finish_call.ensures

@@ -18,5 +18,8 @@ loop-at-preserved c =
     let ok = c.is_err.ensures.negation ∙ ap not c.if-is_err.false in
     let enabled : Enabled event before = c.step.ensures.enabled.0 ok in
     let made : next ≡ after event before = ok_fact _ _ ok c.step.ensures.ok in
-    let more : take (c.loop-at.at + 1) events ≡ take c.loop-at.at events ++ event ∷ [] = take_more events c.loop-at.at event c.loop-at-test.true ∙ ap (λ e. take c.loop-at.at events ++ e ∷ []) (sym c.index-events-at.is) in
-    subst (λ xs. FoldsTo Happens l xs next) (sym more) (folds_more Happens l (take c.loop-at.at events) before event next c.loop-at.invariant (enabled, made))
+    let more : take (c.loop-at.at + 1) events ≡ take c.loop-at.at events ++ event ∷ [] =
+    take_more events c.loop-at.at event c.loop-at-test.true
+    ∙ ap (λ e. take c.loop-at.at events ++ e ∷ []) (sym c.index-events-at.is) in
+    subst (λ xs. FoldsTo Happens l xs next) (sym more)
+    (folds_more Happens l (take c.loop-at.at events) before event next c.loop-at.invariant (enabled, made))

@@ -10,4 +10,5 @@ pub returns-clause-lawful : goal.returns-clause-lawful
 returns-clause-lawful c = subst Lawful (ap level_of c.self.view_is) (reached_lawful _ c.self.invariant.reached)
 
 pub returns-clause-conserved : goal.returns-clause-conserved
-returns-clause-conserved c = subst IsConserved (ap level_of c.self.view_is) (conserved_level _ (reached_lawful _ c.self.invariant.reached))
+returns-clause-conserved c = subst IsConserved (ap level_of c.self.view_is)
+    (conserved_level _ (reached_lawful _ c.self.invariant.reached))

@@ -14,7 +14,8 @@ unreachable-requires c =
     let law = reached_lawful (level_of t) c.self.invariant.reached in
     let may = rw (← c.self.view_is) at c.requires in
     let gap = rw (← c.self.view_is) at c.in_default.ensures.absent in
-    none_some _ (ap (option_map cyclic_of) (look_up_gap id_in t.table c.args.id c.in_default.field-0 gap)) (law.marked_admitted c.args.id may.1)
+    none_some _ (ap (option_map cyclic_of) (look_up_gap id_in t.table c.args.id c.in_default.field-0 gap))
+    (law.marked_admitted c.args.id may.1)
 
 pub invariant_of-self : goal.invariant_of-self
 invariant_of-self c =
@@ -24,7 +25,9 @@ invariant_of-self c =
     let gone = c.remove.ensures.items in
     let made = (λ z. level_of (record t { table = gone z; marked = None })) ∙ level_clear t ordered c.args.id c.in-Ok.place at in
     let may = rw (← c.self.view_is) at c.requires in
-    sound_by c.self.inside _ (Clear c.args.id) c.self.invariant may made (subst (Rises id_in) (sym gone) (rises_removed id_in t.table ordered c.args.id c.in-Ok.place at)) (omega (arith, c.remove.ensures.capacity)) (omega arith) (omega arith)
+    sound_by c.self.inside _ (Clear c.args.id) c.self.invariant may made
+    (subst (Rises id_in) (sym gone) (rises_removed id_in t.table ordered c.args.id c.in-Ok.place at))
+    (omega (arith, c.remove.ensures.capacity)) (omega arith) (omega arith)
 
 pub returns : goal.returns
 returns c =

@@ -5,7 +5,8 @@ use Rattle.cyc_core.proofs.Changes.{read_entry, read_cyclic, read_id, none_some,
 use Rattle.cyc_core.proofs.level_core.LevelCore.entry_of.Goals as goal
 
 pub unreachable-requires : goal.unreachable-requires
-unreachable-requires c = none_some _ (look_up_gap id_in c.args.self.now.table c.args.id c.in_default.field-0 c.in_default.ensures.absent) c.requires
+unreachable-requires c = none_some _ (look_up_gap id_in c.args.self.now.table c.args.id c.in_default.field-0
+    c.in_default.ensures.absent) c.requires
 
 pub returns-clause-place : goal.returns-clause-place
 returns-clause-place c =

@@ -18,7 +18,8 @@ overflow_add-kept c =
     let stands = rw (← c.self.view_is) at c.requires.place in
     let at = entry_is_at t.table c.args.place entry stands in
     let found = entry_cyclic t ordered c.args.place entry stands in
-    let fact = found_fact t ordered entry.id c.args.place at entry found refl (λ (x : Cyclic). (x.count < t.ceiling) × (x.sent < most_sent)) may.2 in
+    let fact = found_fact t ordered entry.id c.args.place at entry found refl (λ (x : Cyclic). (x.count < t.ceiling)
+    × (x.sent < most_sent)) may.2 in
     omega (arith, fact)
 
 pub overflow_add-kept-2 : goal.overflow_add-kept-2
@@ -30,7 +31,8 @@ overflow_add-kept-2 c =
     let stands = rw (← c.self.view_is) at c.requires.place in
     let at = entry_is_at t.table c.args.place entry stands in
     let found = entry_cyclic t ordered c.args.place entry stands in
-    let fact = found_fact t ordered entry.id c.args.place at entry found refl (λ (x : Cyclic). (x.count < t.ceiling) × (x.sent < most_sent)) may.2 in
+    let fact = found_fact t ordered entry.id c.args.place at entry found refl (λ (x : Cyclic). (x.count < t.ceiling)
+    × (x.sent < most_sent)) may.2 in
     omega (arith, fact)
 
 pub invariant_of-self : goal.invariant_of-self
@@ -46,7 +48,9 @@ invariant_of-self c =
     let same = stood t.table c.args.place entry kept stands at.in_range c.index_mut-kept.ensures.value in
     let named = ap (λ (x : Admitted). x.id) same in
     let made = ap (λ (x : Admitted). cyclic_of (record x { sent = entry.sent + 1; count = entry.count + 1 })) same in
-    sound_by c.self.inside _ (Expire entry.id) c.self.invariant may (level_expire t ordered entry.id c.args.place at entry found refl _ _ named made c.then_some-self-inside.ensures may.0) (rises_set id_in t.table ordered entry.id c.args.place at _ named) (omega arith) (omega arith) (omega arith)
+    sound_by c.self.inside _ (Expire entry.id) c.self.invariant may
+    (level_expire t ordered entry.id c.args.place at entry found refl _ _ named made c.then_some-self-inside.ensures may.0)
+    (rises_set id_in t.table ordered entry.id c.args.place at _ named) (omega arith) (omega arith) (omega arith)
 
 pub returns : goal.returns
 returns c =
@@ -61,4 +65,5 @@ returns c =
     let same = stood t.table c.args.place entry kept stands at.in_range c.index_mut-kept.ensures.value in
     let named = ap (λ (x : Admitted). x.id) same in
     let made = ap (λ (x : Admitted). cyclic_of (record x { sent = entry.sent + 1; count = entry.count + 1 })) same in
-    rw (← c.self.view_is) (level_expire t ordered entry.id c.args.place at entry found refl _ _ named made c.then_some-self-inside.ensures may.0)
+    rw (← c.self.view_is) (level_expire t ordered entry.id c.args.place at entry found refl _ _ named made
+    c.then_some-self-inside.ensures may.0)

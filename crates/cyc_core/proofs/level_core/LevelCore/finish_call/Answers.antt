@@ -22,7 +22,8 @@ overflow_add-kept c =
     let may = rw (← c.self.view_is) at c.requires in
     let entry = c.entry_of-place.result.1 in
     let stands = rw (← c.self.view_is) at c.entry_of-place.ensures.place in
-    let at = subst (λ i. IsAt id_in t.table i c.entry_of-place.result.0) c.entry_of-place.ensures.id (entry_is_at t.table c.entry_of-place.result.0 entry stands) in
+    let at = subst (λ i. IsAt id_in t.table i c.entry_of-place.result.0) c.entry_of-place.ensures.id
+    (entry_is_at t.table c.entry_of-place.result.0 entry stands) in
     let found = rw (← c.self.view_is) at c.entry_of-place.ensures.cyclic in
     let some = held_count (level_of t) law c.in-Some.id (cyclic_of entry) found c.in-Some.is in
     let even = law.conserved c.in-Some.id (cyclic_of entry) found in
@@ -36,7 +37,8 @@ overflow_sub-kept c =
     let may = rw (← c.self.view_is) at c.requires in
     let entry = c.entry_of-place.result.1 in
     let stands = rw (← c.self.view_is) at c.entry_of-place.ensures.place in
-    let at = subst (λ i. IsAt id_in t.table i c.entry_of-place.result.0) c.entry_of-place.ensures.id (entry_is_at t.table c.entry_of-place.result.0 entry stands) in
+    let at = subst (λ i. IsAt id_in t.table i c.entry_of-place.result.0) c.entry_of-place.ensures.id
+    (entry_is_at t.table c.entry_of-place.result.0 entry stands) in
     let found = rw (← c.self.view_is) at c.entry_of-place.ensures.cyclic in
     let some = held_count (level_of t) law c.in-Some.id (cyclic_of entry) found c.in-Some.is in
     omega (arith, some)
@@ -49,14 +51,19 @@ invariant_of-self c =
     let may = rw (← c.self.view_is) at c.requires in
     let entry = c.entry_of-place.result.1 in
     let stands = rw (← c.self.view_is) at c.entry_of-place.ensures.place in
-    let at = subst (λ i. IsAt id_in t.table i c.entry_of-place.result.0) c.entry_of-place.ensures.id (entry_is_at t.table c.entry_of-place.result.0 entry stands) in
+    let at = subst (λ i. IsAt id_in t.table i c.entry_of-place.result.0) c.entry_of-place.ensures.id
+    (entry_is_at t.table c.entry_of-place.result.0 entry stands) in
     let found = rw (← c.self.view_is) at c.entry_of-place.ensures.cyclic in
     let some = held_count (level_of t) law c.in-Some.id (cyclic_of entry) found c.in-Some.is in
     let kept = c.index_mut-kept.result.now in
     let same = stood t.table c.entry_of-place.result.0 entry kept stands at.in_range c.index_mut-kept.ensures.value in
     let named = ap (λ (x : Admitted). x.id) same in
     let made = ap (λ (x : Admitted). cyclic_of (record x { done = entry.done + 1; count = entry.count - 1 })) same in
-    sound_by c.self.inside _ Finish c.self.invariant may (level_finish t ordered c.in-Some.id c.entry_of-place.result.0 at entry found c.entry_of-place.ensures.id _ _ named made c.in-Some.is some c.then_some-self-inside.ensures) (rises_set id_in t.table ordered c.in-Some.id c.entry_of-place.result.0 at _ (named ∙ c.entry_of-place.ensures.id)) (omega arith) (omega arith) (omega arith)
+    sound_by c.self.inside _ Finish c.self.invariant may
+    (level_finish t ordered c.in-Some.id c.entry_of-place.result.0 at entry found c.entry_of-place.ensures.id _ _ named made
+    c.in-Some.is some c.then_some-self-inside.ensures)
+    (rises_set id_in t.table ordered c.in-Some.id c.entry_of-place.result.0 at _ (named ∙ c.entry_of-place.ensures.id))
+    (omega arith) (omega arith) (omega arith)
 
 pub returns-in-Some : goal.returns-in-Some
 returns-in-Some c =
@@ -66,11 +73,13 @@ returns-in-Some c =
     let may = rw (← c.self.view_is) at c.requires in
     let entry = c.entry_of-place.result.1 in
     let stands = rw (← c.self.view_is) at c.entry_of-place.ensures.place in
-    let at = subst (λ i. IsAt id_in t.table i c.entry_of-place.result.0) c.entry_of-place.ensures.id (entry_is_at t.table c.entry_of-place.result.0 entry stands) in
+    let at = subst (λ i. IsAt id_in t.table i c.entry_of-place.result.0) c.entry_of-place.ensures.id
+    (entry_is_at t.table c.entry_of-place.result.0 entry stands) in
     let found = rw (← c.self.view_is) at c.entry_of-place.ensures.cyclic in
     let some = held_count (level_of t) law c.in-Some.id (cyclic_of entry) found c.in-Some.is in
     let kept = c.index_mut-kept.result.now in
     let same = stood t.table c.entry_of-place.result.0 entry kept stands at.in_range c.index_mut-kept.ensures.value in
     let named = ap (λ (x : Admitted). x.id) same in
     let made = ap (λ (x : Admitted). cyclic_of (record x { done = entry.done + 1; count = entry.count - 1 })) same in
-    rw (← c.self.view_is) (level_finish t ordered c.in-Some.id c.entry_of-place.result.0 at entry found c.entry_of-place.ensures.id _ _ named made c.in-Some.is some c.then_some-self-inside.ensures)
+    rw (← c.self.view_is) (level_finish t ordered c.in-Some.id c.entry_of-place.result.0 at entry found
+    c.entry_of-place.ensures.id _ _ named made c.in-Some.is some c.then_some-self-inside.ensures)

@@ -18,7 +18,8 @@ prove-unreachable-requires c =
     let stands = rw (← c.self.view_is) at c.requires.place in
     let at = entry_is_at t.table c.args.place entry stands in
     let found = entry_cyclic t ordered c.args.place entry stands in
-    let fact = found_fact t ordered entry.id c.args.place at entry found refl (λ (x : Cyclic). (x.count ≡ t.ceiling) × (x.sent < most_sent)) may.2 in
+    let fact = found_fact t ordered entry.id c.args.place at entry found refl (λ (x : Cyclic). (x.count ≡ t.ceiling)
+    × (x.sent < most_sent)) may.2 in
     absurd (let apart = c.if-prove.true in omega (arith, fact, apart))
 
 pub overflow_add-kept : goal.overflow_add-kept
@@ -30,7 +31,8 @@ overflow_add-kept c =
     let stands = rw (← c.self.view_is) at c.requires.place in
     let at = entry_is_at t.table c.args.place entry stands in
     let found = entry_cyclic t ordered c.args.place entry stands in
-    let fact = found_fact t ordered entry.id c.args.place at entry found refl (λ (x : Cyclic). (x.count ≡ t.ceiling) × (x.sent < most_sent)) may.2 in
+    let fact = found_fact t ordered entry.id c.args.place at entry found refl (λ (x : Cyclic). (x.count ≡ t.ceiling)
+    × (x.sent < most_sent)) may.2 in
     omega (arith, fact)
 
 pub overflow_add-kept-2 : goal.overflow_add-kept-2
@@ -42,7 +44,8 @@ overflow_add-kept-2 c =
     let stands = rw (← c.self.view_is) at c.requires.place in
     let at = entry_is_at t.table c.args.place entry stands in
     let found = entry_cyclic t ordered c.args.place entry stands in
-    let fact = found_fact t ordered entry.id c.args.place at entry found refl (λ (x : Cyclic). (x.count ≡ t.ceiling) × (x.sent < most_sent)) may.2 in
+    let fact = found_fact t ordered entry.id c.args.place at entry found refl (λ (x : Cyclic). (x.count ≡ t.ceiling)
+    × (x.sent < most_sent)) may.2 in
     let even = (reached_lawful (level_of t) c.self.invariant.reached).conserved entry.id _ found in
     omega (arith, fact, even)
 
@@ -59,7 +62,9 @@ invariant_of-self c =
     let same = stood t.table c.args.place entry kept stands at.in_range c.index_mut-kept.ensures.value in
     let named = ap (λ (x : Admitted). x.id) same in
     let made = ap (λ (x : Admitted). cyclic_of (record x { sent = entry.sent + 1; lost = entry.lost + 1 })) same in
-    sound_by c.self.inside _ (Lose entry.id) c.self.invariant may (level_lose t ordered entry.id c.args.place at entry found refl _ named made) (rises_set id_in t.table ordered entry.id c.args.place at _ named) (omega arith) (omega arith) (omega arith)
+    sound_by c.self.inside _ (Lose entry.id) c.self.invariant may
+    (level_lose t ordered entry.id c.args.place at entry found refl _ named made)
+    (rises_set id_in t.table ordered entry.id c.args.place at _ named) (omega arith) (omega arith) (omega arith)
 
 pub returns : goal.returns
 returns c =

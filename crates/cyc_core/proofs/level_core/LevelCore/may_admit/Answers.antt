@@ -12,7 +12,8 @@ pub returns-then-from-places : goal.returns-then-from-places
 returns-then-from-places c =
     let l = level_of c.args.self.now in
     let table_is : c.self.inside.table.items ≡ c.args.self.now.table = ap (λ (t : Tables). t.table) c.self.view_is in
-    let any = c.has_index.ensures ∙ ap (list_any (λ (x : Admitted). eqb x.index c.args.index)) (c.deref.ensures.value ∙ table_is) in
+    let any = c.has_index.ensures ∙ ap (list_any (λ (x : Admitted). eqb x.index c.args.index)) (c.deref.ensures.value ∙ table_is)
+    in
     let ordered = rw table_is at c.self.invariant.ordered in
     let test = test_unused c.has_index.result c.args.index c.args.self.now.table ordered any in
     let free : l.firer_hand ≡ None = search rules in

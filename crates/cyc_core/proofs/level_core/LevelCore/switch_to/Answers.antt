@@ -11,15 +11,20 @@ invariant_of-self c =
     let t = shown c.self.inside in
     let may = rw (← c.self.view_is) at c.requires in
     let old : c.swap.new.x.items ≡ t.new_list = ap (λ d. d.items) c.swap.ensures.x_after in
-    let new : c.swap.new.y.items ≡ [] = ap (λ d. d.items) c.swap.ensures.y_after ∙ (reached_lawful (level_of t) c.self.invariant.reached).old_empty may.1 in
-    let old_room : 256 ≤ deque_capacity c.swap.new.x = subst (λ d. 256 ≤ deque_capacity d) (sym c.swap.ensures.x_after) c.self.invariant.new_room in
-    let new_room : 256 ≤ deque_capacity c.swap.new.y = subst (λ d. 256 ≤ deque_capacity d) (sym c.swap.ensures.y_after) c.self.invariant.old_room in
-    sound_roomy c.self.inside _ (Switch c.args.bank) c.self.invariant may (level_switch t c.args.bank _ _ old new) c.self.invariant.ordered c.self.invariant.table_room old_room new_room
+    let new : c.swap.new.y.items ≡ [] = ap (λ d. d.items) c.swap.ensures.y_after
+    ∙ (reached_lawful (level_of t) c.self.invariant.reached).old_empty may.1 in
+    let old_room : 256 ≤ deque_capacity c.swap.new.x =
+    subst (λ d. 256 ≤ deque_capacity d) (sym c.swap.ensures.x_after) c.self.invariant.new_room in
+    let new_room : 256 ≤ deque_capacity c.swap.new.y =
+    subst (λ d. 256 ≤ deque_capacity d) (sym c.swap.ensures.y_after) c.self.invariant.old_room in
+    sound_roomy c.self.inside _ (Switch c.args.bank) c.self.invariant may
+    (level_switch t c.args.bank _ _ old new) c.self.invariant.ordered c.self.invariant.table_room old_room new_room
 
 pub returns : goal.returns
 returns c =
     let t = shown c.self.inside in
     let may = rw (← c.self.view_is) at c.requires in
     let old : c.swap.new.x.items ≡ t.new_list = ap (λ d. d.items) c.swap.ensures.x_after in
-    let new : c.swap.new.y.items ≡ [] = ap (λ d. d.items) c.swap.ensures.y_after ∙ (reached_lawful (level_of t) c.self.invariant.reached).old_empty may.1 in
+    let new : c.swap.new.y.items ≡ [] = ap (λ d. d.items) c.swap.ensures.y_after
+    ∙ (reached_lawful (level_of t) c.self.invariant.reached).old_empty may.1 in
     rw (← c.self.view_is) (level_switch t c.args.bank _ _ old new)

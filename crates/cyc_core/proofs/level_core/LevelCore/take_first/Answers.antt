@@ -10,7 +10,9 @@ invariant_of-self c =
     let may = rw (← c.self.view_is) at c.requires in
     let same : c.self.inside.hard_bank ≡ c.self.inside.soft_bank = c.if-self.true in
     let popped = c.pop_front-self-inside.ensures in
-    sound_by c.self.inside _ Take c.self.invariant may (level_take_new t _ _ same popped.items popped.rest) c.self.invariant.ordered (omega arith) (omega arith) (omega (arith, popped.capacity))
+    sound_by c.self.inside _ Take c.self.invariant may
+    (level_take_new t _ _ same popped.items popped.rest) c.self.invariant.ordered (omega arith) (omega arith)
+    (omega (arith, popped.capacity))
 
 pub invariant_of-self-2 : goal.invariant_of-self-2
 invariant_of-self-2 c =
@@ -18,4 +20,6 @@ invariant_of-self-2 c =
     let may = rw (← c.self.view_is) at c.requires in
     let differ : c.self.inside.hard_bank ≢ c.self.inside.soft_bank = c.if-self.false in
     let popped = c.pop_front-self-inside-2.ensures in
-    sound_by c.self.inside _ Take c.self.invariant may (level_take_old t _ _ differ popped.items popped.rest) c.self.invariant.ordered (omega arith) (omega (arith, popped.capacity)) (omega arith)
+    sound_by c.self.inside _ Take c.self.invariant may
+    (level_take_old t _ _ differ popped.items popped.rest) c.self.invariant.ordered (omega arith)
+    (omega (arith, popped.capacity)) (omega arith)

@@ -25,11 +25,13 @@ returns-clause-step c =
 pub returns-clause-learns : goal.returns-clause-learns
 returns-clause-learns c =
     let l = level_of c.args.self.now in
-    subst (λ (m : Level). Learns (firing_view l) (Admits c.args.id c.args.index) (firing_view m)) (sym c.begin_stay.ensures) (learns_admit l c.args.id c.args.index)
+    subst (λ (m : Level). Learns (firing_view l) (Admits c.args.id c.args.index) (firing_view m)) (sym c.begin_stay.ensures)
+    (learns_admit l c.args.id c.args.index)
 
 pub returns-clause-sound : goal.returns-clause-sound
 returns-clause-sound c =
     let l = level_of c.args.self.now in
     let valid : IsId c.args.id = search rules in
     let may = can_admit l c.args.id c.args.index valid c.requires in
-    subst (λ (m : Level). Sound (firing_view m)) (sym c.begin_stay.ensures) (sound_after l (Admit c.args.id c.args.index) c.conservation.ensures.lawful c.conservation.ensures.some_ceiling may)
+    subst (λ (m : Level). Sound (firing_view m)) (sym c.begin_stay.ensures)
+    (sound_after l (Admit c.args.id c.args.index) c.conservation.ensures.lawful c.conservation.ensures.some_ceiling may)

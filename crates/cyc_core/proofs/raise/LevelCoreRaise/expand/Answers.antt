@@ -11,10 +11,12 @@ pub returns-clause-learns : goal.returns-clause-learns
 returns-clause-learns c =
     let l = level_of c.args.self.now in
     let may = can_expand l c.args.bank c.requires in
-    subst (λ (m : Level). Learns (firing_view l) (Expands c.args.bank) (firing_view m)) (sym c.switch_to.ensures) (learns_expand l c.args.bank (let more = may.2 in let same = may.1 in omega (arith, more, same)))
+    subst (λ (m : Level). Learns (firing_view l) (Expands c.args.bank) (firing_view m)) (sym c.switch_to.ensures)
+    (learns_expand l c.args.bank (let more = may.2 in let same = may.1 in omega (arith, more, same)))
 
 pub returns-clause-sound : goal.returns-clause-sound
 returns-clause-sound c =
     let l = level_of c.args.self.now in
     let may = can_expand l c.args.bank c.requires in
-    subst (λ (m : Level). Sound (firing_view m)) (sym c.switch_to.ensures) (sound_after l (Switch c.args.bank) c.conservation.ensures.lawful c.conservation.ensures.some_ceiling may)
+    subst (λ (m : Level). Sound (firing_view m)) (sym c.switch_to.ensures)
+    (sound_after l (Switch c.args.bank) c.conservation.ensures.lawful c.conservation.ensures.some_ceiling may)

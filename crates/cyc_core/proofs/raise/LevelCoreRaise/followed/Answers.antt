@@ -10,4 +10,5 @@ use Rattle.cyc_core.proofs.raise.LevelCoreRaise.followed.Goals as goal
 pub returns-clause-sound : goal.returns-clause-sound
 returns-clause-sound c =
     let l = level_of (shown c.self.inside) in
-    subst (λ (t : Tables). Sound (firing_view (level_of t))) c.self.view_is (sound_level l (reached_lawful l c.self.invariant.reached) c.self.invariant.some_ceiling)
+    subst (λ (t : Tables). Sound (firing_view (level_of t))) c.self.view_is
+    (sound_level l (reached_lawful l c.self.invariant.reached) c.self.invariant.some_ceiling)

@@ -12,11 +12,14 @@ returns-clause-learns c =
     let l = level_of c.args.self.now in
     let entry = c.entry_of-entry.result.1 in
     let facts = c.entry_of-entry.ensures in
-    subst (λ (m : Level). Learns (firing_view l) (Marks c.args.id entry.count) (firing_view m)) (sym c.begin_removal.ensures) (learns_mark l c.args.id (cyclic_of entry) facts.cyclic)
+    subst (λ (m : Level). Learns (firing_view l) (Marks c.args.id entry.count) (firing_view m)) (sym c.begin_removal.ensures)
+    (learns_mark l c.args.id (cyclic_of entry) facts.cyclic)
 
 pub returns-clause-sound : goal.returns-clause-sound
 returns-clause-sound c =
     let l = level_of c.args.self.now in
     let entry = c.entry_of-entry.result.1 in
     let facts = c.entry_of-entry.ensures in
-    subst (λ (m : Level). Sound (firing_view m)) (sym c.begin_removal.ensures) (sound_after l (Mark c.args.id) facts.lawful facts.some_ceiling (can_mark l c.args.id (cyclic_of entry) facts.cyclic c.requires))
+    subst (λ (m : Level). Sound (firing_view m)) (sym c.begin_removal.ensures)
+    (sound_after l (Mark c.args.id) facts.lawful facts.some_ceiling
+    (can_mark l c.args.id (cyclic_of entry) facts.cyclic c.requires))

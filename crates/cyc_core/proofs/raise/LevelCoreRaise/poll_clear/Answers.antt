@@ -12,7 +12,8 @@ returns-clause-learns c =
     let l = level_of c.args.self.now in
     let entry = c.entry_of-entry.result.1 in
     let facts = c.entry_of-entry.ensures in
-    subst (λ (m : Level). Learns (firing_view l) (Polls c.args.id (Some (record { sent = entry.sent; lost = entry.lost }))) (firing_view m)) (sym c.end_stay.ensures) (learns_clear l c.args.id (cyclic_of entry) facts.cyclic)
+    subst (λ (m : Level). Learns (firing_view l) (Polls c.args.id (Some (record { sent = entry.sent; lost = entry.lost })))
+    (firing_view m)) (sym c.end_stay.ensures) (learns_clear l c.args.id (cyclic_of entry) facts.cyclic)
 
 pub returns-clause-sound : goal.returns-clause-sound
 returns-clause-sound c =
@@ -20,4 +21,6 @@ returns-clause-sound c =
     let entry = c.entry_of-entry.result.1 in
     let facts = c.entry_of-entry.ensures in
     let none : entry.count ≡ 0 = omega (arith, c.if-entry-gt0.false) in
-    subst (λ (m : Level). Sound (firing_view m)) (sym c.end_stay.ensures) (sound_after l (Clear c.args.id) facts.lawful facts.some_ceiling (can_clear l c.args.id (cyclic_of entry) facts.cyclic c.requires none))
+    subst (λ (m : Level). Sound (firing_view m)) (sym c.end_stay.ensures)
+    (sound_after l (Clear c.args.id) facts.lawful facts.some_ceiling
+    (can_clear l c.args.id (cyclic_of entry) facts.cyclic c.requires none))

@@ -10,9 +10,29 @@ pub returns : goal.returns
 returns g c =
     let e = c.fire_all.ensures in
     let i = c.self.inside in let n = c.fire_all.new in
-    let w : CpuView _ = record { cyclics = cyclics_of n.table.rows; removal = i.removal; size = n.table.size; room = n.table.room; most = i.most; lock = n.lock; low = n.low } in
-    let u : CpuView _ = record { cyclics = cyclics_of i.table.rows; removal = i.removal; size = i.table.size; room = i.table.room; most = i.most; lock = i.lock; low = i.low } in
+    let w : CpuView _ = record {
+      cyclics = cyclics_of n.table.rows;
+      removal = i.removal;
+      size = n.table.size;
+      room =
+          n.table.room;
+      most = i.most;
+      lock = n.lock;
+      low = n.low;
+    } in
+    let u : CpuView _ = record {
+      cyclics = cyclics_of i.table.rows;
+      removal = i.removal;
+      size = i.table.size;
+      room =
+          i.table.room;
+      most = i.most;
+      lock = i.lock;
+      low = i.low;
+    } in
     let early : c.args.now ≢ never = λ q. absurd (omega (arith, q)) in
-    subst (λ (v : CpuView _). Does g.C.Calls.called g.C.Calls.count g.C.Calls.may_refuse g.R.Raise.step g.R.Raise.view no_interrupts (running c.args.calls.now v) (Fire c.args.now c.fire_all.result) (running n.calls w)) c.self.view_is
-    (fired g.C.Calls.called g.C.Calls.count g.C.Calls.may_refuse g.R.Raise.step g.R.Raise.view no_interrupts c.args.now (running c.args.calls.now u) (running n.calls w) early
+    subst (λ (v : CpuView _). Does g.C.Calls.called g.C.Calls.count g.C.Calls.may_refuse g.R.Raise.step g.R.Raise.view
+    no_interrupts (running c.args.calls.now v) (Fire c.args.now c.fire_all.result) (running n.calls w)) c.self.view_is
+    (fired g.C.Calls.called g.C.Calls.count g.C.Calls.may_refuse g.R.Raise.step g.R.Raise.view no_interrupts c.args.now
+    (running c.args.calls.now u) (running n.calls w) early
     (record { removal = refl; size = e.size; room = e.room; most = refl }) c.fire_all.result e.expired e.next e.made e.refused)

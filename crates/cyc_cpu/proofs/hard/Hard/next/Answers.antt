@@ -10,5 +10,6 @@ pub returns-in-Some : goal.returns-in-Some
 returns-in-Some g c =
     let rows = c.self.inside.table.rows in
     let (k, r, is, at, moment, named, first) = c.in-Some.ensures.first in
-    sym moment ∙ earliest_least (timers_of rows) k r.timer (timer_low rows k r is) (timer_is rows k r is) first (λ i d low. (c.law.ensures.sound i d low).moment)
+    sym moment ∙ earliest_least (timers_of rows) k r.timer (timer_low rows k r is) (timer_is rows k r is) first
+    (λ i d low. (c.law.ensures.sound i d low).moment)
     ∙ ap (λ (v : CpuView _). earliest (timers v.cyclics)) c.self.view_is

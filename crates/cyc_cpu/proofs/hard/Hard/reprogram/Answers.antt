@@ -11,10 +11,14 @@ pub invariant_of-self : goal.invariant_of-self
 invariant_of-self g c =
     let (r, is, named) = c.in-Some.ensures.some in
     let i = c.self.inside in
-    let still : i.removal ≢ Some r.timer.id = λ q. c.if-is_removed.ensures.kept (sym (ap (λ (v : CpuView _). v.removal) c.self.view_is) ∙ q ∙ ap Some named) in
-    subst (λ xs. IsHard g.R.Raise.view c.reprogram.new.self.size i.most i.removal i.lock i.low xs) (sym (c.reprogram.ensures.rows r is))
-    (subst (λ n. IsHard g.R.Raise.view n i.most i.removal i.lock i.low (set i.table.rows c.in-Some.place (at_moment c.args.moment r))) (sym c.reprogram.ensures.size)
-    (hard_moved g.R.Raise.view i.table.size i.most i.removal i.lock i.low i.table.rows c.in-Some.place r (at_moment c.args.moment r) c.self.invariant is
+    let still : i.removal ≢ Some r.timer.id =
+    λ q. c.if-is_removed.ensures.kept (sym (ap (λ (v : CpuView _). v.removal) c.self.view_is) ∙ q ∙ ap Some named) in
+    subst (λ xs. IsHard g.R.Raise.view c.reprogram.new.self.size i.most i.removal i.lock i.low xs)
+    (sym (c.reprogram.ensures.rows r is))
+    (subst (λ n. IsHard g.R.Raise.view n i.most i.removal i.lock i.low
+    (set i.table.rows c.in-Some.place (at_moment c.args.moment r))) (sym c.reprogram.ensures.size)
+    (hard_moved g.R.Raise.view i.table.size i.most i.removal i.lock i.low i.table.rows c.in-Some.place r
+    (at_moment c.args.moment r) c.self.invariant is
     (record { id = refl; level = refl; index = refl; expired = refl; lost = refl; carried = refl }) still))
 
 pub returns-in-Some : goal.returns-in-Some
@@ -28,7 +32,9 @@ returns-in-Some g c =
       named,
       c.if-is_removed.ensures.kept,
       λ j. record {
-        cyclics = (ap cyclics_of (c.reprogram.ensures.rows r is) ∙ cyclics_set i.table.rows c.in-Some.place (at_moment c.args.moment r) ∙ ap (λ (x : CpuView _). set x.cyclics c.in-Some.place (with_moment c.args.moment (cyclic_of r))) v) j;
+        cyclics = (ap cyclics_of (c.reprogram.ensures.rows r is)
+            ∙ cyclics_set i.table.rows c.in-Some.place (at_moment c.args.moment r)
+            ∙ ap (λ (x : CpuView _). set x.cyclics c.in-Some.place (with_moment c.args.moment (cyclic_of r))) v) j;
         removal = ap (λ (x : CpuView _). x.removal) v j;
         size = (c.reprogram.ensures.size ∙ ap (λ (x : CpuView _). x.size) v) j;
         room = (c.reprogram.ensures.room ∙ ap (λ (x : CpuView _). x.room) v) j;
@@ -39,4 +45,9 @@ returns-in-Some g c =
     )
 
 pub returns-in-None : goal.returns-in-None
-returns-in-None g c = (refl, inl (subst (λ (x : CpuView _). HasNoCyclic c.args.id x.cyclics) c.self.view_is (no_cyclic c.args.id c.self.inside.table.rows c.in-None.ensures.none)), refl)
+returns-in-None g c = (
+  refl,
+  inl (subst (λ (x : CpuView _). HasNoCyclic c.args.id x.cyclics) c.self.view_is
+      (no_cyclic c.args.id c.self.inside.table.rows c.in-None.ensures.none)),
+  refl,
+)

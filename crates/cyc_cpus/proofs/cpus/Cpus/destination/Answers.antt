@@ -3,7 +3,8 @@ use Rattle.cyc_cpus.specs.Cpus.{numbers_from}
 use Rattle.cyc_cpus.specs.Destination.{is_not}
 use Rattle.cyc_cpus.proofs.Choices.{is_not_source, source_not_among, offline_not_among, best_taken, best_kept}
 use Rattle.cyc_cpus.proofs.cpus.Cpus.destination.Goals as goal
-use Rattle.cyc_cpus.proofs.cpus.Cpus.destination.Goals.{else-is_online-via-then-is_online+else-ne, else-is_online-via-else-is_online}
+use Rattle.cyc_cpus.proofs.cpus.Cpus.destination.Goals.{else-is_online-via-then-is_online+else-ne}
+use Rattle.cyc_cpus.proofs.cpus.Cpus.destination.Goals.{else-is_online-via-else-is_online}
 
 pub loop-number-preserved-then-ne : goal.loop-number-preserved-then-ne
 loop-number-preserved-then-ne g c =

@@ -1,4 +1,5 @@
-use Rattle.std.proofs.Common.{◌≡◌, ◌++◌, ◌-◌, ℕ, List, [], replicate, Option, None, is_some, count_by, length, sym, ap, ◌∙◌, arith}
+use Rattle.std.proofs.Common.{◌≡◌, ◌++◌, ◌-◌, ℕ, List, [], replicate, Option, None, is_some, count_by, length, sym, ap, ◌∙◌}
+use Rattle.std.proofs.Common.{arith}
 use Rattle.cyc_expirations.specs.Expirations.{Expiration}
 use Rattle.cyc_heap.specs.declared.entry.Entry.{Entry}
 use Rattle.cyc_heap.specs.Array.{IsLinked, places, slots}
@@ -14,7 +15,8 @@ none_linked entries none = placed entries [] (record {
   down = λ i low. let l = ap length none in absurd (omega (arith, low, l));
 })
 
-first_slots : (entries : List Entry) → entries ≡ [] → slots 0 entries (places entries) ++ replicate (1 - length entries) None ≡ new_heap.slots
+first_slots : (entries : List Entry) → entries ≡ []
+    → slots 0 entries (places entries) ++ replicate (1 - length entries) None ≡ new_heap.slots
 unfolding slots places
 first_slots entries e = ap (λ (es : List Entry). slots 0 es (places es) ++ replicate (1 - length es) None) e
 

@@ -19,14 +19,17 @@ invariant_of-self c =
     let room = c.self.invariant.2 in
     let cap = c.self.invariant.1 in
     let more = f.entries in
-    let reserved : c.args.size ≤ i.room = (let is = ap (λ (v : HeapView). v.room) c.self.view_is in let r = c.requires.reserved in omega (arith, is, r)) in (
+    let reserved : c.args.size ≤ i.room = (let is = ap (λ (v : HeapView). v.room) c.self.view_is in let r = c.requires.reserved in
+    omega (arith, is, r)) in (
       record {
         few = omega (arith, long, few, most);
         within = omega (arith, long, within);
         linked = f.linked;
         order = λ a b child low. (let l = child_low a b child in
-            subst₂ (λ x y. is_before (key x) (key y) ≡ true) (sym (f.kept a (omega (arith, l, low, within)))) (sym (f.kept b (omega (arith, low, within)))) (h.order a b child low));
-        count = ap (count_by is_some) (f.slots i.len within) ∙ count_free (slots i.len i.entries.items (places i.entries.items)) (c.args.size - length i.entries.items) ∙ h.count;
+            subst₂ (λ x y. is_before (key x) (key y) ≡ true) (sym (f.kept a (omega (arith, l, low, within))))
+            (sym (f.kept b (omega (arith, low, within)))) (h.order a b child low));
+        count = ap (count_by is_some) (f.slots i.len within)
+            ∙ count_free (slots i.len i.entries.items (places i.entries.items)) (c.args.size - length i.entries.items) ∙ h.count;
       },
       omega (arith, cap, more),
       omega (arith, long, room, reserved),
@@ -47,5 +50,6 @@ returns-clause-slots c =
 pub returns-clause-root : goal.returns-clause-root
 returns-clause-root c =
     let i = c.self.inside in
-    root_kept i.len i.entries.items c.add_free.new.entries.items (λ p low. c.add_free.ensures.kept p (let within = c.self.invariant.0.within in omega (arith, low, within)))
+    root_kept i.len i.entries.items c.add_free.new.entries.items
+    (λ p low. c.add_free.ensures.kept p (let within = c.self.invariant.0.within in omega (arith, low, within)))
     ∙ ap (λ (v : HeapView). v.root) c.self.view_is

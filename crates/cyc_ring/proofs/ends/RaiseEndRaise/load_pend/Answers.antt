@@ -12,12 +12,19 @@ use Rattle.ring_rule.specs.Trail.{seen_pend}
 use Rattle.cyc_ring.proofs.ends.RaiseEndRaise.load_pend.Goals as goal
 
 pub returns-clause-step : goal.returns-clause-step
-returns-clause-step c = let e = c.args.self.now in let s = e.seat.side.seat in let k = e.seat.setting in let t : List RaiseStep = s.me.0.raise_trail in let found : ℕ = c.load_as-found.result in let s' = c.load_as-found.new.raiser.side.seat in let named = c.index_of-index.ensures.1 in
-    let m : MakesRaiseStep k (Loaded c.args.id found) s s' = subst (λ (p : Setting × ℕ). MakesRaiseStep p.0 (Loaded p.1 found) s s') (λ z. (sym e.own.1 z, named z)) c.load_as-found.ensures.step in (
+returns-clause-step c = let e = c.args.self.now in let s = e.seat.side.seat in let k = e.seat.setting in let t : List RaiseStep =
+    s.me.0.raise_trail in let found : ℕ = c.load_as-found.result in let s' = c.load_as-found.new.raiser.side.seat in let named =
+    c.index_of-index.ensures.1 in
+    let m : MakesRaiseStep k (Loaded c.args.id found) s s' =
+    subst (λ (p : Setting × ℕ). MakesRaiseStep p.0 (Loaded p.1 found) s s')
+    (λ z. (sym e.own.1 z, named z)) c.load_as-found.ensures.step in (
       c.load_as-found.ensures.own,
-      raise_call k s s' (Loaded c.args.id found ∷ []) (Loads c.args.id (found % mark_bit)) (one_raise k (Loaded c.args.id found) s [] s s' (no_raise k s e.seat.side.role) m)
+      raise_call k s s' (Loaded c.args.id found ∷ []) (Loads c.args.id (found % mark_bit))
+          (one_raise k (Loaded c.args.id found) s [] s s' (no_raise k s e.seat.side.role) m)
           (found, refl, subst (λ (x : ℕ). found % mark_bit ≤ seen_pend x t) named c.load_as-found.ensures.bound, refl),
     )
 
 pub returns-clause-sound : goal.returns-clause-sound
-returns-clause-sound c = let r = c.load_as-found.new.raiser in sound_seat r.setting.ceiling r.stays.value.ids r.stays.value.sent r.stays.value.lost r.side.seat.me.0.raise_trail r.rows r.seen (let b = r.bank_is.0 in let m = r.bank_is.1 in omega (arith, b, m)) r.ranges.0
+returns-clause-sound c = let r = c.load_as-found.new.raiser in
+    sound_seat r.setting.ceiling r.stays.value.ids r.stays.value.sent r.stays.value.lost r.side.seat.me.0.raise_trail r.rows
+    r.seen (let b = r.bank_is.0 in let m = r.bank_is.1 in omega (arith, b, m)) r.ranges.0

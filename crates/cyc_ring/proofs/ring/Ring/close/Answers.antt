@@ -17,31 +17,45 @@ use Rattle.cyc_ring.proofs.Closing.{Ended, ended, counted_row, finished_row, nam
 use Rattle.cyc_ring.proofs.ring.Ring.close.Goals as goal
 
 pub invariant_of-result : goal.invariant_of-result
-invariant_of-result c = let r = c.args.raiser in let d = c.args.drainer in let pends : List ℕ = c.close-pends.result in let k = c.args.self.setting in
-    let C : Ended k pends r.side.seat.me.0 d.side.seat.me.0 = ended c.args.self.words.setting k c.args.self.same pends c.join-both.result.seat.me.0 r.side.seat.me.0 d.side.seat.me.0 c.join-both.ensures.trails c.close-pends.ensures in
+invariant_of-result c = let r = c.args.raiser in let d = c.args.drainer in let pends : List ℕ = c.close-pends.result in let k =
+    c.args.self.setting in
+    let C : Ended k pends r.side.seat.me.0 d.side.seat.me.0 =
+    ended c.args.self.words.setting k c.args.self.same pends c.join-both.result.seat.me.0 r.side.seat.me.0 d.side.seat.me.0
+    c.join-both.ensures.trails c.close-pends.ensures in
     let log : List RingStep = C.0 in let L : LevelStands k log = stands_now k log C.2 in
-    let read : (i : ℕ) → i < cyclics → get_or (replay k.start log) (pend_word i) 0 ≡ get_or pends i 0 = λ i low. sym (C.3 i low) in
-    let known : c.of-known.result.value.side.seat.me.0.raise_trail ≡ raise_side log = ap (λ (x : RaiseSeat). x.side.seat.me.0.raise_trail) c.of-known.ensures ∙ C.1.0.0 in
-    let done : c.of-done.result.value.side.seat.me.0.drain_trail ≡ drain_side log = ap (λ (x : DrainSeat). x.side.seat.me.0.drain_trail) c.of-done.ensures ∙ C.1.1.0 in
+    let read : (i : ℕ) → i < cyclics → get_or (replay k.start log) (pend_word i) 0 ≡ get_or pends i 0 =
+    λ i low. sym (C.3 i low) in
+    let known : c.of-known.result.value.side.seat.me.0.raise_trail ≡ raise_side log =
+    ap (λ (x : RaiseSeat). x.side.seat.me.0.raise_trail) c.of-known.ensures ∙ C.1.0.0 in
+    let done : c.of-done.result.value.side.seat.me.0.drain_trail ≡ drain_side log =
+    ap (λ (x : DrainSeat). x.side.seat.me.0.drain_trail) c.of-done.ensures ∙ C.1.1.0 in
     let small : k.ceiling < mark_bit = subst (λ (x : Setting). x.ceiling < mark_bit) c.requires.raiser.1 r.ranges.1 in
     let ids : List ℕ = r.stays.value.ids in let sent : List ℕ = r.stays.value.sent in let lost : List ℕ = r.stays.value.lost in
     let rows : HoldsStays ids sent lost (raise_side log) = subst (HoldsStays ids sent lost) C.1.0.0 r.rows in
     record {
       rows = subst (HoldsStays ids sent lost) (sym known) rows;
-      named = λ i low. dite (ℕ_discrete (get_or ids i 0) 0) (λ z. omega (arith, z)) (λ used. named_row k small log L ids sent lost pends rows read i low used);
+      named = λ i low. dite (ℕ_discrete (get_or ids i 0) 0) (λ z. omega (arith, z))
+          (λ used. named_row k small log L ids sent lost pends rows read i low used);
       counted = λ i low used. counted_row k small log L ids sent lost pends rows read i low used;
-      finished = λ i low used. subst (λ (p : List RaiseStep × List DrainStep). made_calls (get_or ids i 0) p.1 + get_or lost i 0 + get_or pends i 0 % mark_bit ≡ get_or sent i 0 + ended_calls (get_or ids i 0) p.0)
+      finished = λ i low used. subst (λ (p : List RaiseStep × List DrainStep). made_calls (get_or ids i 0) p.1 + get_or lost i 0
+          + get_or pends i 0 % mark_bit ≡ get_or sent i 0 + ended_calls (get_or ids i 0) p.0)
           (λ z. (sym known z, sym done z)) (finished_row k small log L ids sent lost pends rows read i low used);
       marked = λ i low used is. marked_row k small log L ids sent lost pends rows read i low used (ap marked_of (sym known) ∙ is);
-      unmarked = λ i low used not. unmarked_row k small log L ids sent lost pends rows read i low used (λ e. not (ap marked_of known ∙ e));
+      unmarked = λ i low used not. unmarked_row k small log L ids sent lost pends rows read i low used
+          (λ e. not (ap marked_of known ∙ e));
     }
 
 pub returns-clause-stands : goal.returns-clause-stands
 returns-clause-stands c = let r = c.args.raiser in let d = c.args.drainer in let k = c.args.self.setting in
-    let C : Ended k c.close-pends.result r.side.seat.me.0 d.side.seat.me.0 = ended c.args.self.words.setting k c.args.self.same c.close-pends.result c.join-both.result.seat.me.0 r.side.seat.me.0 d.side.seat.me.0 c.join-both.ensures.trails c.close-pends.ensures in
+    let C : Ended k c.close-pends.result r.side.seat.me.0 d.side.seat.me.0 =
+    ended c.args.self.words.setting k c.args.self.same c.close-pends.result c.join-both.result.seat.me.0 r.side.seat.me.0
+    d.side.seat.me.0 c.join-both.ensures.trails c.close-pends.ensures in
     (C.0, C.1, C.2)
 
 pub returns-clause-accounted : goal.returns-clause-accounted
 returns-clause-accounted c = let r = c.args.raiser in let d = c.args.drainer in let k = c.args.self.setting in
-    let C : Ended k c.close-pends.result r.side.seat.me.0 d.side.seat.me.0 = ended c.args.self.words.setting k c.args.self.same c.close-pends.result c.join-both.result.seat.me.0 r.side.seat.me.0 d.side.seat.me.0 c.join-both.ensures.trails c.close-pends.ensures in
-    subst (λ (p : List RaiseStep × List DrainStep). IsAccounted p.0 p.1) (λ z. (sym C.1.0.0 z, sym C.1.1.0 z)) ((stands_now k C.0 C.2).accounted)
+    let C : Ended k c.close-pends.result r.side.seat.me.0 d.side.seat.me.0 =
+    ended c.args.self.words.setting k c.args.self.same c.close-pends.result c.join-both.result.seat.me.0 r.side.seat.me.0
+    d.side.seat.me.0 c.join-both.ensures.trails c.close-pends.ensures in
+    subst (λ (p : List RaiseStep × List DrainStep). IsAccounted p.0 p.1) (λ z. (sym C.1.0.0 z, sym C.1.1.0 z))
+    ((stands_now k C.0 C.2).accounted)

@@ -11,13 +11,16 @@ use Rattle.cyc_ring.proofs.Rows.{fits_same}
 use Rattle.cyc_ring.proofs.ring.Ring.look_as.Goals as goal
 
 pub invariant_of-raiser : goal.invariant_of-raiser
-invariant_of-raiser g c = let r = c.args.raiser.now in let t : List RaiseStep = r.side.seat.me.0.raise_trail in let s' = c.load_soft_bank.new.side.seat in let m = c.load_soft_bank.ensures.step.1.1 in
-    let x : RaiseStep = LoadedSoftBank c.load_soft_bank.result in let e : s'.me.0.raise_trail ≡ x ∷ t = ap (λ (m : ThisSeat). m.0.raise_trail) m in record {
+invariant_of-raiser g c = let r = c.args.raiser.now in let t : List RaiseStep = r.side.seat.me.0.raise_trail in let s' =
+    c.load_soft_bank.new.side.seat in let m = c.load_soft_bank.ensures.step.1.1 in
+    let x : RaiseStep = LoadedSoftBank c.load_soft_bank.result in let e : s'.me.0.raise_trail ≡ x ∷ t =
+    ap (λ (m : ThisSeat). m.0.raise_trail) m in record {
       free_hand = ap firer_hand_of e ∙ r.free_hand;
       bank_is = (r.bank_is.0 ∙ ap hard_bank_of (sym e), r.bank_is.1, r.bank_is.2);
       next_is = r.next_is ∙ ap (λ (u : List RaiseStep). producer_index r.setting.start u % index_range) (sym e);
       ranges = r.ranges;
-      rows = subst (HoldsStays r.stays.value.ids r.stays.value.sent r.stays.value.lost) (sym e) (fits_same r.stays.value.ids r.stays.value.sent r.stays.value.lost t (x ∷ t) (λ id. refl) r.rows);
+      rows = subst (HoldsStays r.stays.value.ids r.stays.value.sent r.stays.value.lost) (sym e)
+          (fits_same r.stays.value.ids r.stays.value.sent r.stays.value.lost t (x ∷ t) (λ id. refl) r.rows);
       listed = subst (λ (u : List RaiseStep). (id : ℕ) → index_of id r.finder ≡ stay_index (open_stay id u)) (sym e) r.listed;
       seen = subst (IsSeenSound r.setting.ceiling) (sym e) r.seen;
       balanced = subst IsBalanced (sym e) r.balanced;

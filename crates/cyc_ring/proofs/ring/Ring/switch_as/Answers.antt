@@ -14,14 +14,26 @@ use Rattle.cyc_types.specs.Limits.{greatest_bank}
 use Rattle.cyc_ring.proofs.ring.Ring.switch_as.Goals as goal
 
 pub invariant_of-raiser : goal.invariant_of-raiser
-invariant_of-raiser g c = let r = c.args.raiser.now in let t : List RaiseStep = r.side.seat.me.0.raise_trail in let s' = c.switch.new.side.seat in let m = c.switch.ensures.1.1 in
-    let x : RaiseStep = Switched c.args.bank in let e : s'.me.0.raise_trail ≡ x ∷ t = ap (λ (m : ThisSeat). m.0.raise_trail) m in record {
+invariant_of-raiser g c = let r = c.args.raiser.now in let t : List RaiseStep = r.side.seat.me.0.raise_trail in let s' =
+    c.switch.new.side.seat in let m = c.switch.ensures.1.1 in
+    let x : RaiseStep = Switched c.args.bank in let e : s'.me.0.raise_trail ≡ x ∷ t = ap (λ (m : ThisSeat). m.0.raise_trail) m in
+    record {
       free_hand = ap firer_hand_of e ∙ r.free_hand;
-      bank_is = (ap hard_bank_of (sym e), c.requires.bank.1, (let p : 0 < 2 ^ c.args.bank = pow_pos c.args.bank in let q : 2 ^ c.args.bank ≤ 2 ^ greatest_bank = pow_mono {i = c.args.bank} {j = greatest_bank} c.requires.bank.1 in let z : 2 ^ greatest_bank ≡ 256 = refl in omega (arith, p, q, z)));
-      next_is = sym (mod-eq_of_lt (let w = r.ranges.2 in omega (arith, w))) ∙ ap (λ (u : List RaiseStep). producer_index r.setting.start u % index_range) (sym e);
+      bank_is = (
+        ap hard_bank_of (sym e),
+        c.requires.bank.1,
+        (let p : 0 < 2 ^ c.args.bank = pow_pos c.args.bank in
+            let q : 2 ^ c.args.bank ≤ 2 ^ greatest_bank = pow_mono {i = c.args.bank} {j = greatest_bank} c.requires.bank.1 in
+            let z : 2 ^ greatest_bank ≡ 256 = refl in omega (arith, p, q, z)),
+      );
+      next_is = sym (mod-eq_of_lt (let w = r.ranges.2 in omega (arith, w)))
+          ∙ ap (λ (u : List RaiseStep). producer_index r.setting.start u % index_range) (sym e);
       ranges = r.ranges;
-      rows = subst (HoldsStays r.stays.value.ids r.stays.value.sent r.stays.value.lost) (sym e) (fits_same r.stays.value.ids r.stays.value.sent r.stays.value.lost t (x ∷ t) (λ id. refl) r.rows);
+      rows = subst (HoldsStays r.stays.value.ids r.stays.value.sent r.stays.value.lost) (sym e)
+          (fits_same r.stays.value.ids r.stays.value.sent r.stays.value.lost t (x ∷ t) (λ id. refl) r.rows);
       listed = subst (λ (u : List RaiseStep). (id : ℕ) → index_of id r.finder ≡ stay_index (open_stay id u)) (sym e) r.listed;
-      seen = subst (IsSeenSound r.setting.ceiling) (sym e) (sound_expands r.setting.ceiling t r.seen c.args.bank (let b = r.bank_is.0 in let more = c.requires.bank.0 in omega (arith, b, more)));
+      seen = subst (IsSeenSound r.setting.ceiling) (sym e)
+          (sound_expands r.setting.ceiling t r.seen c.args.bank (let b = r.bank_is.0 in let more = c.requires.bank.0 in
+          omega (arith, b, more)));
       balanced = subst IsBalanced (sym e) r.balanced;
     }

@@ -12,9 +12,11 @@ pub invariant_of-result : goal.invariant_of-result
 invariant_of-result c = let e = c.requires.empty in record {
   free_hand = ap firer_hand_of e;
   bank_is = (ap hard_bank_of (sym e), lit≤ tt, refl);
-  next_is = sym (mod-eq_of_lt c.requires.ranges.2) ∙ ap (λ (t : List RaiseStep). producer_index c.args.setting.start t % 2 ^ 32) (sym e);
+  next_is = sym (mod-eq_of_lt c.requires.ranges.2)
+      ∙ ap (λ (t : List RaiseStep). producer_index c.args.setting.start t % 2 ^ 32) (sym e);
   ranges = c.requires.ranges;
-  rows = subst (λ (p : Stays × List RaiseStep). HoldsStays p.0.ids p.0.sent p.0.lost p.1) (λ z. (sym c.in_ok-stays.ensures.ok z, sym e z)) fits_none;
+  rows = subst (λ (p : Stays × List RaiseStep). HoldsStays p.0.ids p.0.sent p.0.lost p.1)
+      (λ z. (sym c.in_ok-stays.ensures.ok z, sym e z)) fits_none;
   listed = λ id. c.in_ok-finder.ensures id ∙ ap (λ (t : List RaiseStep). stay_index (open_stay id t)) (sym e);
   seen = subst (IsSeenSound c.args.setting.ceiling) (sym e) (λ id s x. absurd (cc));
   balanced = subst IsBalanced (sym e) balanced_none;

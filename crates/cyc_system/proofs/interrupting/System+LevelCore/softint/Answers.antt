@@ -4,7 +4,8 @@ use Rattle.cyc_system.proofs.interrupting.System+LevelCore.softint.Goals as goal
 
 pub invariant_of-self : goal.invariant_of-self
 invariant_of-self g c = (
-  holds_same _ c.softint_at.new.cpus c.self.invariant.0 (same_changed c.args.cpu _ c.self.inside.cpus c.softint_at.new.cpus c.softint_at.ensures
+  holds_same _ c.softint_at.new.cpus c.self.invariant.0
+      (same_changed c.args.cpu _ c.self.inside.cpus c.softint_at.new.cpus c.softint_at.ensures
       (same_served c.args.level c.softint_at.ensures.before c.softint_at.ensures.after c.softint_at.ensures.change.1)),
   c.self.invariant.1,
 )

@@ -11,5 +11,8 @@ invariant_of-result g c =
     let v = c.number.ensures.valid in let low : c.number.result - 1 ≤ last_id = omega (arith, v) in
     let e : record { cpus = new_cpus c.args.most c.args.ends.items; records = []; last = c.number.result - 1 }
     ≡ record { cpus = c.in_ok-cpus.cpus; records = c.new-records.result.list; last = c.number.result - 1 } =
-    λ i. record { cpus = sym c.in_ok-cpus.ensures.ok i; records = sym c.new-records.ensures i; last = c.number.result - 1 } in
-    (subst (λ (x : SystemView _). Holds x) e (holds_new c.args.most (c.number.result - 1) c.args.ends.items c.requires.some c.requires.few), low)
+    λ i. record { cpus = sym c.in_ok-cpus.ensures.ok i; records = sym c.new-records.ensures i; last = c.number.result - 1 } in (
+      subst (λ (x : SystemView _). Holds x) e
+          (holds_new c.args.most (c.number.result - 1) c.args.ends.items c.requires.some c.requires.few),
+      low,
+    )

@@ -13,11 +13,13 @@ pub returns-in_err-place-clause-none : goal.returns-in_err-place-clause-none
 returns-in_err-place-clause-none g c =
     subst (λ o. IfNone o (no_cyclic c.args.id c.args.self.now ≡ Some NoCyclic)) (sym c.from_residual.ensures)
     (subst (λ (s : SystemView _). no_cyclic c.args.id s ≡ Some NoCyclic) c.self.view_is
-    (is_absent (seen c.self.inside.cpus c.self.inside.records.list c.self.inside.last) c.args.id (record_none c.args.id c.self.inside.records.list c.in_err-place.ensures.none)))
+    (is_absent (seen c.self.inside.cpus c.self.inside.records.list c.self.inside.last) c.args.id
+    (record_none c.args.id c.self.inside.records.list c.in_err-place.ensures.none)))
 
 pub returns-then-is_leaving-clause-none : goal.returns-then-is_leaving-clause-none
 returns-then-is_leaving-clause-none g c = subst (λ (s : SystemView _). no_cyclic c.args.id s ≡ Some NoCyclic) c.self.view_is
-    (is_removed (seen c.self.inside.cpus c.self.inside.records.list c.self.inside.last) c.args.id (sym c.is_leaving.ensures ∙ c.if-is_leaving.true))
+    (is_removed (seen c.self.inside.cpus c.self.inside.records.list c.self.inside.last) c.args.id (sym c.is_leaving.ensures
+    ∙ c.if-is_leaving.true))
 
 pub returns-clause-some : goal.returns-clause-some
 returns-clause-some g c =

@@ -10,8 +10,10 @@ use Rattle.cyc_system.proofs.system.System.reprogram_on.Goals as goal
 pub reprogram_at-requires-clause-here : goal.reprogram_at-requires-clause-here
 reprogram_at-requires-clause-here g c cpu at =
     let s = seen c.self.inside.cpus c.self.inside.records.list c.self.inside.last in
-    let b = subst (λ (x : SystemView _). c.has_component.result ≡ (is_omnipresent c.args.id x && has c.args.cpu c.args.id x.cpus)) (sym c.self.view_is) c.has_component.ensures in
-    cyclic_here c.self.inside.cpus c.args.cpu c.args.id cpu (component_has s c.args.id c.args.cpu c.has_component.result b c.if-not-has_component.false) at
+    let b = subst (λ (x : SystemView _). c.has_component.result ≡ (is_omnipresent c.args.id x && has c.args.cpu c.args.id x.cpus))
+    (sym c.self.view_is) c.has_component.ensures in
+    cyclic_here c.self.inside.cpus c.args.cpu c.args.id cpu
+    (component_has s c.args.id c.args.cpu c.has_component.result b c.if-not-has_component.false) at
 
 pub reprogram_at-requires-clause-still : goal.reprogram_at-requires-clause-still
 reprogram_at-requires-clause-still g c cpu at =
@@ -23,6 +25,7 @@ pub invariant_of-self : goal.invariant_of-self
 invariant_of-self g c = (
   holds_same _ c.reprogram_at.new.cpus c.self.invariant.0
       (same_changed c.args.cpu _ c.self.inside.cpus c.reprogram_at.new.cpus c.reprogram_at.ensures
-      (same_reprogram g.R.Raise.step g.R.Raise.view c.reprogram_at.ensures.before c.reprogram_at.ensures.after c.args.id c.args.moment c.reprogram_at.ensures.change)),
+      (same_reprogram g.R.Raise.step g.R.Raise.view c.reprogram_at.ensures.before c.reprogram_at.ensures.after c.args.id
+      c.args.moment c.reprogram_at.ensures.change)),
   c.self.invariant.1,
 )

@@ -11,8 +11,11 @@ nothing p e = cc
 
 pub unreachable-requires : goal.unreachable-requires
 unreachable-requires c =
-    let slots = c.self.inside.heap.slots in let records = c.self.inside.records.items in let places = c.self.inside.places.items in
+    let slots = c.self.inside.heap.slots in let records = c.self.inside.records.items in let places =
+    c.self.inside.places.items in
     let t = c.self.invariant.0 in
-    let s = standing_at slots records places c.args.place t (place_low c.args.self.now slots records places c.args.place (ap (λ (v : TableView). v.rows) c.self.view_is) c.requires) in
+    let s = standing_at slots records places c.args.place t
+    (place_low c.args.self.now slots records places c.args.place (ap (λ (v : TableView). v.rows) c.self.view_is) c.requires)
+    in
     let holds = ap (λ (p : Place). get_or slots p.index None) (c.index.ensures ∙ s.is c.index.result.now) ∙ s.holds in
     nothing (s.m, s.p.id) (sym c.in-None.is ∙ c.at.ensures ∙ ap (option_map pair_of) holds)

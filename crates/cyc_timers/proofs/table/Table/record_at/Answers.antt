@@ -6,17 +6,24 @@ use Rattle.cyc_timers.proofs.table.Table.record_at.Goals as goal
 
 pub index-requires-2 : goal.index-requires-2
 index-requires-2 c =
-    let slots = c.self.inside.heap.slots in let records = c.self.inside.records.items in let places = c.self.inside.places.items in
+    let slots = c.self.inside.heap.slots in let records = c.self.inside.records.items in let places =
+    c.self.inside.places.items in
     let t = c.self.invariant.0 in
-    let s = standing_at slots records places c.args.place t (place_low c.args.self.now slots records places c.args.place (ap (λ (v : TableView). v.rows) c.self.view_is) c.requires) in
-    let same : c.number.result ≡ s.p.index = c.number.ensures.value ∙ ap (λ (p : Place). p.index) (c.index.ensures ∙ s.is c.index.result.now) in
+    let s = standing_at slots records places c.args.place t
+    (place_low c.args.self.now slots records places c.args.place (ap (λ (v : TableView). v.rows) c.self.view_is) c.requires)
+    in
+    let same : c.number.result ≡ s.p.index = c.number.ensures.value
+    ∙ ap (λ (p : Place). p.index) (c.index.ensures ∙ s.is c.index.result.now) in
     let below = s.below in let long = t.long in
     omega (arith, same, below, long)
 
 pub returns : goal.returns
 returns c r is =
-    let slots = c.self.inside.heap.slots in let records = c.self.inside.records.items in let places = c.self.inside.places.items in
+    let slots = c.self.inside.heap.slots in let records = c.self.inside.records.items in let places =
+    c.self.inside.places.items in
     let t = c.self.invariant.0 in
-    let s = standing slots records places c.args.place r t (subst (λ (v : TableView). IsRow v.rows c.args.place r) (sym c.self.view_is) is) in
-    let same : c.number.result ≡ s.p.index = c.number.ensures.value ∙ ap (λ (p : Place). p.index) (c.index.ensures ∙ s.is c.index.result.now) in
+    let s = standing slots records places c.args.place r t
+    (subst (λ (v : TableView). IsRow v.rows c.args.place r) (sym c.self.view_is) is) in
+    let same : c.number.result ≡ s.p.index = c.number.ensures.value
+    ∙ ap (λ (p : Place). p.index) (c.index.ensures ∙ s.is c.index.result.now) in
     kept_at slots records places c.args.place r s t _ _ (sym same) c.index-2.ensures

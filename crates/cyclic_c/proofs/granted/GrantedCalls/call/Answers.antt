@@ -9,12 +9,14 @@ some_id n id e h = subst (λ m. 0 < m) e h
 pub returns-then-told-number-clause-refused : goal.returns-then-told-number-clause-refused
 returns-then-told-number-clause-refused c = (
   λ t e. c.if-told-number.true
-      (((c.told.ensures c.args.id (some_id c.number.result c.args.id c.number.ensures.value c.number.ensures.valid.0)).1 e) ∙ sym c.number.ensures.value),
+      (((c.told.ensures c.args.id (some_id c.number.result c.args.id c.number.ensures.value c.number.ensures.valid.0)).1 e)
+      ∙ sym c.number.ensures.value),
   λ r. refl,
 )
 
 is_told : (c : goal.Else-told-number) → c.args.self.now ≡ One c.args.id
-is_told c = (c.told.ensures c.args.id (some_id c.number.result c.args.id c.number.ensures.value c.number.ensures.valid.0)).0 (c.if-told-number.false ∙ c.number.ensures.value)
+is_told c = (c.told.ensures c.args.id (some_id c.number.result c.args.id c.number.ensures.value c.number.ensures.valid.0)).0
+    (c.if-told-number.false ∙ c.number.ensures.value)
 
 pub returns-clause-called : goal.returns-clause-called
 returns-clause-called c = (is_told c, refl)

@@ -25,7 +25,8 @@ Empty = None
 
 pub none_spec : {M : Type 1} → statement M
 none_spec 𝓤 𝓛 𝓜 𝓡 wired =
-    let H = 𝓛.H in let 𝓣 = tables 𝓤 H 𝓜 𝓡 𝓡.env in let En = ended in let c = clauses 𝓛 𝓜.mem 𝓡.returns in let fn = code.function in
+    let H = 𝓛.H in let 𝓣 = tables 𝓤 H 𝓜 𝓡 𝓡.env in let En = ended in let c = clauses 𝓛 𝓜.mem 𝓡.returns in let fn =
+    code.function in
     let hs : Stays En.signature.params En.kept = tt in
     proved_at 𝓛 En hs c 𝓜 𝓡 tt #self fn (code.unfolded 𝓤 H 𝓜 𝓡 wired) (λ z are.
     let Post : Val → SProp 𝓤 = (walk_of 𝓛 En hs c).post z in
@@ -35,4 +36,5 @@ none_spec 𝓤 𝓛 𝓜 𝓡 wired =
     returns ! (look_at ! 0 refl) $ free_all ! refl $
     nothing ! $ sealed_in ! null_ptr None $
     use0 𝓛 (raw (fact 𝓤 (Empty ≡ None))) (fact_i 𝓤 (Empty ≡ None) (emp 𝓤) refl) $ nothing ! $
-    move ! (3 ∷ []) $ split ! $ keep ! (0 ∷ 2 ∷ 4 ∷ 3 ∷ []) $ by ! (leaves 𝓛 En hs c z (one vnull) (record { at = null_ptr; held = None }) tt tt)))
+    move ! (3 ∷ []) $ split ! $ keep ! (0 ∷ 2 ∷ 4 ∷ 3 ∷ []) $ by !
+    (leaves 𝓛 En hs c z (one vnull) (record { at = null_ptr; held = None }) tt tt)))

@@ -32,18 +32,32 @@ some_of (Some x) t = (x, refl)
 
 pub into_loose_spec : {M : Type 1} → statement M
 into_loose_spec 𝓤 𝓛 𝓜 𝓡 wired =
-    let H = 𝓛.H in let 𝓣 = tables 𝓤 H 𝓜 𝓡 𝓡.env in let En = ended in let c = clauses 𝓛 𝓜.mem 𝓡.returns in let fn = code.function in
-    let hs : Stays En.signature.params En.kept = (stay_dropped (plain (λ _. Sealed)) yes, (stay_dropped (plain (λ _. Z)) yes, tt)) in
-    proved_at 𝓛 En hs c 𝓜 𝓡 (Goes-blank 𝓛 0 (plain (λ _. Sealed)) yes (λ κs x f. tt), (Goes-blank 𝓛 0 (plain (λ _. Z)) yes (λ κs x f. tt), tt)) #self fn (code.unfolded 𝓤 H 𝓜 𝓡 wired) (λ z are.
-    let v = z.0.3.0 in let a = z.0.3.1.0 in let Post : Val → SProp 𝓤 = (walk_of 𝓛 En hs c).post z in let Run : List Val → SProp 𝓤 = λ ws. WpFn 𝓤 H 𝓣.C 𝓣.Λ fn ws Post in
-    qed 𝓛 ((‵ ftrue ⊛ ‵ (owns (types_at En.signature.params z.0.0) z.0.3 z.0.4)) ∷ raw (fact 𝓤 (IsSome v.held)) ∷ []) ∵ move ! (1 ∷ []) $ heard ! (IsSome v.held) (λ there.
+    let H = 𝓛.H in let 𝓣 = tables 𝓤 H 𝓜 𝓡 𝓡.env in let En = ended in let c = clauses 𝓛 𝓜.mem 𝓡.returns in let fn =
+    code.function in
+    let hs : Stays En.signature.params En.kept = (stay_dropped (plain (λ _. Sealed)) yes, (stay_dropped (plain (λ _. Z)) yes, tt))
+    in
+    proved_at 𝓛 En hs c 𝓜 𝓡 (
+      Goes-blank 𝓛 0 (plain (λ _. Sealed)) yes (λ κs x f. tt),
+      (Goes-blank 𝓛 0 (plain (λ _. Z)) yes (λ κs x f. tt), tt),
+    ) #self fn (code.unfolded 𝓤 H 𝓜 𝓡 wired) (λ z are.
+    let v = z.0.3.0 in let a = z.0.3.1.0 in let Post : Val → SProp 𝓤 = (walk_of 𝓛 En hs c).post z in let Run : List Val
+    → SProp 𝓤 = λ ws. WpFn 𝓤 H 𝓣.C 𝓣.Λ fn ws Post in
+    qed 𝓛 ((‵ ftrue ⊛ ‵ (owns (types_at En.signature.params z.0.0) z.0.3 z.0.4)) ∷ raw (fact 𝓤 (IsSome v.held)) ∷ []) ∵ move !
+    (1 ∷ []) $ heard ! (IsSome v.held) (λ there.
     let x = (some_of v.held there).0 in let is = (some_of v.held there).1 in
-    split ! $ move ! (1 ∷ []) $ fsplit ! $ sealed_out ! v x is z.0.4.0 (λ b o ws. move ! (1 ∷ []) $ fsplit ! $ handle_tells al ! a z.0.4.1.0 (λ h wa fits.
+    split ! $ move ! (1 ∷ []) $ fsplit ! $ sealed_out ! v x is z.0.4.0
+    (λ b o ws. move ! (1 ∷ []) $ fsplit ! $ handle_tells al ! a z.0.4.1.0 (λ h wa fits.
     let typed = loose_good R Z al.laws al.g b o h fits in
-    suffices ! (Run (one (vptr b o) ∷ h ∷ [])) (subst (λ (us : List Val). ent 𝓤 (Run (one (vptr b o) ∷ h ∷ [])) (Run us)) (sym (λ i. ws i ++ (wa i ++ []))) (id⊢ 𝓤 (Run (one (vptr b o) ∷ h ∷ [])))) $
-    enter ! 𝓣.C 𝓣.Λ fn (one (vptr b o) ∷ h ∷ []) Post $ alloc_all ! (λ l. pass_all ! refl (one_typed (block_ptr b o), (fits, tt)) $
+    suffices ! (Run (one (vptr b o) ∷ h ∷ []))
+    (subst (λ (us : List Val). ent 𝓤 (Run (one (vptr b o) ∷ h ∷ [])) (Run us)) (sym (λ i. ws i ++ (wa i ++ [])))
+    (id⊢ 𝓤 (Run (one (vptr b o) ∷ h ∷ [])))) $
+    enter ! 𝓣.C 𝓣.Λ fn (one (vptr b o) ∷ h ∷ []) Post $ alloc_all !
+    (λ l. pass_all ! refl (one_typed (block_ptr b o), (fits, tt)) $
     sets ! (of_opd ! (get_in ! (fld ! refl (stop !)) (sub ! 0 refl (whole !)))) refl (tt, tt) $
-    sets ! (of_opd ! (get ! refl)) refl (tt, tt) $ sets ! (agg ! (and_then ! (get ! refl) (and_then ! (get ! refl) (no_more !)))) refl typed $
+    sets ! (of_opd ! (get ! refl)) refl (tt, tt) $ sets ! (agg ! (and_then ! (get ! refl) (and_then ! (get ! refl) (no_more !))))
+    refl typed $
     returns ! (look_at ! 0 refl) $ free_all ! refl $ move ! (2 ∷ 0 ∷ []) $ loose_in R Z al.laws al.g ! b o h a x $
-    use0 𝓛 (raw (fact 𝓤 (v.held ≡ Some x))) (fact_i 𝓤 (v.held ≡ Some x) (emp 𝓤) is) $ nothing ! $ nothing ! $ fjoin ! $ nothing ! $ fjoin ! $
-    keep ! (4 ∷ 0 ∷ 2 ∷ 1 ∷ []) $ by ! (leaves 𝓛 En hs c z (both (vptr b o) h) (record { at = block_ptr b o; alloc = a; value = x }) (tt, (tt, tt)) (tt, (tt, tt))))))))
+    use0 𝓛 (raw (fact 𝓤 (v.held ≡ Some x))) (fact_i 𝓤 (v.held ≡ Some x) (emp 𝓤) is) $ nothing ! $ nothing ! $ fjoin ! $ nothing !
+    $ fjoin ! $
+    keep ! (4 ∷ 0 ∷ 2 ∷ 1 ∷ []) $ by ! (leaves 𝓛 En hs c z (both (vptr b o) h)
+    (record { at = block_ptr b o; alloc = a; value = x }) (tt, (tt, tt)) (tt, (tt, tt))))))))

@@ -5,8 +5,10 @@ use Rattle.ring_sides.proofs.firer.Firer.mark.Goals as goal
 
 pub mark-pend-requires : goal.mark-pend-requires
 mark-pend-requires c = let s = c.args.self.now in let k = s.known in
-    may_mark k.ids k.raises k.marked k.bank k.followed (end_view s.end) s.knows c.args.id _ c.in-Some.ensures.found.0 c.in-Some.ensures.found.1 (omega arith) c.in-None.is
+    may_mark k.ids k.raises k.marked k.bank k.followed
+    (end_view s.end) s.knows c.args.id _ c.in-Some.ensures.found.0 c.in-Some.ensures.found.1 (omega arith) c.in-None.is
 
 pub invariant_of-self-clause-knows : goal.invariant_of-self-clause-knows
 invariant_of-self-clause-knows c = let s = c.args.self.now in let k = s.known in
-    knows_mark k.ids k.raises k.marked k.bank k.followed (end_view s.end) (end_view c.mark-pend.new.self) s.knows c.args.id c.mark-pend.result c.mark-pend.ensures.learns
+    knows_mark k.ids k.raises k.marked k.bank k.followed (end_view s.end)
+    (end_view c.mark-pend.new.self) s.knows c.args.id c.mark-pend.result c.mark-pend.ensures.learns

@@ -5,4 +5,5 @@ use Rattle.ring_sides.proofs.firer.Firer.sent.Goals as goal
 
 pub sent-requires : goal.sent-requires
 sent-requires c = let s = c.args.self.now in let k = s.known in
-    may_ask k.ids k.raises k.marked k.bank k.followed (end_view s.end) s.knows c.args.id _ c.in-Some.ensures.found.0 c.in-Some.ensures.found.1 (omega arith)
+    may_ask k.ids k.raises k.marked k.bank k.followed
+    (end_view s.end) s.knows c.args.id _ c.in-Some.ensures.found.0 c.in-Some.ensures.found.1 (omega arith)

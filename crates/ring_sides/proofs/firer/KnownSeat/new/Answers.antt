@@ -8,7 +8,9 @@ use Rattle.ring_sides.proofs.firer.KnownSeat.new.Goals as goal
 pub invariant_of-result : goal.invariant_of-result
 invariant_of-result c = let k = c.new.result in let is = c.new.ensures in
     record {
-      knows = subst (λ (t : List RaiseStep). Knows k.ids k.raises k.marked k.bank k.followed (firing_view c.args.seat.setting.ceiling t))
+      knows = subst (λ (t : List RaiseStep). Knows k.ids k.raises k.marked k.bank k.followed
+          (firing_view c.args.seat.setting.ceiling t))
           (sym c.requires)
-          (knows_begin c.args.seat.setting.ceiling k.ids k.raises k.marked k.bank k.followed is.begins.0 is.begins.1 is.begins.2 is.begins.3 is.free);
+          (knows_begin c.args.seat.setting.ceiling k.ids k.raises k.marked k.bank k.followed is.begins.0 is.begins.1 is.begins.2
+          is.begins.3 is.free);
     }

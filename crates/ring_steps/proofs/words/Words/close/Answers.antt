@@ -7,7 +7,8 @@ use Rattle.ring_steps.proofs.words.Words.close.Goals as goal
 pub returns : goal.returns
 returns c = let k = c.args.self.setting in let ws : List ℕ = slots_items c.close_with-closed.result.words in
     let both = c.args.both in let v = both.seat.me.0 in
-    let E : Ended k ws v = ended c.closing_stands.ensures c.args.self.table.shared.key k c.args.self.key both.seat.id v both.role ws _
+    let E : Ended k ws v = ended c.closing_stands.ensures c.args.self.table.shared.key k c.args.self.key both.seat.id v both.role
+    ws _
     c.close_with-closed.ensures.values.2 in (
       E.0,
       E.2,
