@@ -28,7 +28,7 @@ number_of_push q t names =
     rw at (at_end (bytes_eq q t) a (length names) _ (prefix_len-le-length _ names) longer)
 
 -- a name that is known to be new
-is_new : (t : List ℕ) (names : List (List ℕ)) → is_some (number_of t names) ≡ false
+pub is_new : (t : List ℕ) (names : List (List ℕ)) → is_some (number_of t names) ≡ false
     → ltb (position_or_len (bytes_eq t) names) (length names) ≡ false
 is_new t names none = elim (ltb (position_or_len (bytes_eq t) names) (length names)) as
     (λ b. is_some (cond b (Some (position_or_len (bytes_eq t) names)) None) ≡ false

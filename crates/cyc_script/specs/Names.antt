@@ -1,8 +1,10 @@
 -- The names that a script's steps introduce, and their numbers (our own format).
-use Rattle.std.specs.Prelude.{ℕ, List, [], ◌∷◌, ◌++◌, length, Option, is_some, ok_or, position, Result, Ok, Err, bytes_eq}
-use Rattle.std.specs.Prelude.{if◌then◌else◌}
+use Rattle.std.specs.Prelude.{◌≡◌, ℕ, List, [], ◌∷◌, ◌++◌, length, All, true, Option, is_some, ok_or, position}
+use Rattle.std.specs.Prelude.{Result, Ok, Err, bytes_eq, if◌then◌else◌}
+use Rattle.std.specs.List.{AllPairs}
 use Rattle.cyc_script.specs.declared.cause.Cause.{Cause}
 use Rattle.cyc_script.specs.declared.cause.Cause.TheVariants.{NameTwice, NoName}
+use Rattle.cyc_script.specs.Parameters.{is_name}
 
 -- the number of a name, if it was introduced: its place in the order of introduction
 abbrev pub number_of : List ℕ → List (List ℕ) → Option ℕ
@@ -15,3 +17,8 @@ introduced text names = if is_some (number_of text names) then Err NameTwice els
 -- the number of a name that was introduced before
 abbrev pub referred : List ℕ → List (List ℕ) → Result ℕ Cause
 referred text names = ok_or (number_of text names) NoName
+
+-- the names of a script: each has 1 to 32 bytes of those that a name may have, and no two are equal
+pub record AreNames (names : List (List ℕ)) : Type 0 where
+  pub valid : All (λ text. is_name text ≡ true) names
+  pub distinct : AllPairs (λ earlier later. ¬ (earlier ≡ later)) names
