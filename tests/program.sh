@@ -149,6 +149,9 @@ fi
 # scripts made at random, whole and damaged
 tests/random.py 2000 1 || failed=1
 
+# scripts as great as they may be, with texts worked out in closed form
+tests/greatest.py || failed=1
+
 # each example that the program runs so far gives the text beside it
 for script in examples/*.json; do
   text=${script%.json}.txt
