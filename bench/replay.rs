@@ -1,6 +1,7 @@
 //! Times `cyclic replay` (the program, whose path is the argument) on scripts of 65,536 steps: one whose advances make millions
 //! of expirations, each called by a soft interrupt, and one of as many steps in which nothing expires. The second is what
-//! reading the script, running its steps and writing the lines cost alone.
+//! reading the script, running its steps and writing the lines cost alone. Then the same over 16 CPUs, with as many cyclics
+//! on each as on the one, and as many expirations at each of its fires.
 
 #[allow(dead_code)]
 mod timing;
@@ -20,33 +21,47 @@ const STEP: u64 = 100_000;
 /// The sizes of the CPU.
 const CYCLICS: [u64; 3] = [1, 16, 256];
 
-/// The steps that add so many low cyclics, the first of which begins at `start`, or where that is 0 after `APART`. Where the
-/// size of the CPU has grown, both soft interrupts follow before it can grow again.
-fn adds(cyclics: u64, start: u64) -> Vec<String> {
+/// The CPUs of the second table, the sizes of each of them, and the nanoseconds between two advances there.
+const CPUS: u64 = 16;
+const EACH: [u64; 3] = [4, 16, 256];
+const LONG_STEP: u64 = 250_000;
+
+/// The steps that add so many low cyclics to each CPU, the first of which begins at `start`, or where that is 0 after `APART`.
+/// An add goes to the CPU with the fewest. Where their sizes have grown, both soft interrupts of each follow before they can
+/// grow again.
+fn adds(cpus: u64, cyclics: u64, start: u64) -> Vec<String> {
     let interval = cyclics * APART;
     let mut steps = Vec::new();
     for cyclic in 1..=cyclics {
         if cyclic > 2 && (cyclic - 1).is_power_of_two() {
-            steps.push(r#"["softint",0,"low",1]"#.to_string());
-            steps.push(r#"["softint",0,"lock",1]"#.to_string());
+            for cpu in 0..cpus {
+                steps.push(format!(r#"["softint",{cpu},"low",1]"#));
+                steps.push(format!(r#"["softint",{cpu},"lock",1]"#));
+            }
         }
         let first = start + cyclic * APART;
-        steps.push(format!(r#"["add","c{cyclic}","low",{first},{interval}]"#));
+        for cpu in 0..cpus {
+            steps.push(format!(
+                r#"["add","c{cyclic}-{cpu}","low",{first},{interval}]"#
+            ));
+        }
     }
     steps
 }
 
-/// A script with these cyclics: after their adds an `advance` and a `softint` in turn.
-fn script(cyclics: u64, start: u64) -> String {
-    let mut steps = adds(cyclics, start);
+/// A script with so many cyclics on each CPU: after their adds an `advance` and a `softint` of each CPU in turn.
+fn script(cpus: u64, cyclics: u64, start: u64, step: u64) -> String {
+    let mut steps = adds(cpus, cyclics, start);
     let mut moment = 0;
     while steps.len() < STEPS {
-        moment += STEP;
+        moment += step;
         steps.push(format!(r#"["advance",{moment}]"#));
-        steps.push(r#"["softint",0,"low",4294967295]"#.to_string());
+        for cpu in 0..cpus {
+            steps.push(format!(r#"["softint",{cpu},"low",4294967295]"#));
+        }
     }
     steps.truncate(STEPS);
-    format!(r#"{{"cpus":1,"steps":[{}]}}"#, steps.join(","))
+    format!(r#"{{"cpus":{cpus},"steps":[{}]}}"#, steps.join(","))
 }
 
 /// The program on a script.
@@ -77,15 +92,23 @@ fn time(program: &str, script: &Path) -> f64 {
     start.elapsed().as_nanos() as f64
 }
 
-/// The row of the table for so many cyclics.
-fn row(program: &str, folder: &Path, cyclics: u64) {
+/// What the replays of a script with expirations and of the same with none took: the medians in milliseconds, and the
+/// nanoseconds of an expiration and its call.
+struct Measured {
+    expired: u64,
+    whole: f64,
+    alone: f64,
+    each: f64,
+}
+
+fn measure(program: &str, folder: &Path, cpus: u64, cyclics: u64, step: u64) -> Measured {
     let firing = folder.join("firing.json");
     let still = folder.join("still.json");
-    fs::write(&firing, script(cyclics, 0)).expect("a script");
-    fs::write(&still, script(cyclics, 1 << 62)).expect("a script");
-    let expired = expirations(program, &firing, cyclics);
+    fs::write(&firing, script(cpus, cyclics, 0, step)).expect("a script");
+    fs::write(&still, script(cpus, cyclics, 1 << 62, step)).expect("a script");
+    let expired = expirations(program, &firing, cpus * cyclics);
     assert!(expired > 3_000_000);
-    assert_eq!(expirations(program, &still, cyclics), 0);
+    assert_eq!(expirations(program, &still, cpus * cyclics), 0);
 
     let (mut whole, mut alone, mut each) = (Vec::new(), Vec::new(), Vec::new());
     for _ in 0..ROUNDS {
@@ -96,9 +119,39 @@ fn row(program: &str, folder: &Path, cyclics: u64) {
         each.push((firing - still) / expired as f64);
     }
     let [whole, alone, each] = [whole, alone, each].map(|mut times| timing::median(&mut times));
+    Measured {
+        expired,
+        whole,
+        alone,
+        each,
+    }
+}
+
+/// The row of the table for so many cyclics on one CPU.
+fn row(program: &str, folder: &Path, cyclics: u64) {
+    let Measured {
+        expired,
+        whole,
+        alone,
+        each,
+    } = measure(program, folder, 1, cyclics, STEP);
     println!(
         "| {cyclics} | {expired} | {whole:.0} | {alone:.0} | {:.2} | {each:.1} |",
         alone / whole
+    );
+}
+
+/// The row of the table for so many cyclics on each CPU.
+fn row_of_several(program: &str, folder: &Path, cyclics: u64) {
+    let one = measure(program, folder, 1, cyclics, LONG_STEP);
+    let all = measure(program, folder, CPUS, cyclics, LONG_STEP);
+    println!(
+        "| {cyclics} | {} | {:.1} | {} | {:.1} | {:.2} |",
+        one.expired,
+        one.each,
+        all.expired,
+        all.each,
+        all.each / one.each
     );
 }
 
@@ -106,12 +159,21 @@ fn main() {
     let mut arguments = std::env::args().skip(1);
     let program = arguments.next().expect("the path of the program");
     let folder = arguments.next().expect("a folder for the scripts");
+    let folder = Path::new(&folder);
     println!("`cyclic replay` of {STEPS} steps, with each expiration called:\n");
     println!(
         "| Cyclics | Expirations | Whole, ms | With no expiration, ms | Its share | An expiration and its call, ns |"
     );
     println!("|--:|--:|--:|--:|--:|--:|");
     for cyclics in CYCLICS {
-        row(&program, Path::new(&folder), cyclics);
+        row(&program, folder, cyclics);
+    }
+    println!("\nThe same over {CPUS} CPUs, against one with as many cyclics:\n");
+    println!(
+        "| Cyclics on each | Expirations on one CPU | Each, ns | On {CPUS} CPUs | Each, ns | Ratio |"
+    );
+    println!("|--:|--:|--:|--:|--:|--:|");
+    for cyclics in EACH {
+        row_of_several(&program, folder, cyclics);
     }
 }
