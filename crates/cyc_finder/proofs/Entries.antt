@@ -1,6 +1,6 @@
 -- What a finder says of each id, after an entry came or went.
 use Rattle.std.proofs.Common.{◌≡◌, ℕ, suc, ◌<◌, ◌≢◌, eqb, Bool, true, false, cond, List, [], ◌∷◌, ◌++◌, length, get_or, set}
-use Rattle.std.proofs.Common.{map, take, drop, sym, refl, ap, ◌∙◌, arith, eq-eqb, ne_eqb, ◌%◌, get_or-set_same}
+use Rattle.std.proofs.Common.{map, take, drop, sym, refl, ap, ◌∙◌, arith, eq-eqb, ne_eqb, get_or-set_same}
 use Rattle.std.proofs.Common.{get_or-set_other}
 use Rattle.std.specs.Prelude.{Option, Some, None}
 use Rattle.std.specs.Option.{option_map}
@@ -8,10 +8,9 @@ use Rattle.std.specs.List.{insert, remove}
 use Rattle.std.proofs.lemmas.List.{get_or-map, length-map, take-map, drop-map, map-append}
 use mathlib.Core.Logic.{dite}
 use native.Mathlib.Decide.{ℕ_discrete}
-use Rattle.cyc_types.specs.Limits.{cyclics}
 use Rattle.cyc_finder.specs.declared.finder.Entry.{Entry}
 use Rattle.cyc_finder.specs.Sorted.{look_up, Rises, IsAt, IsGap}
-use Rattle.cyc_finder.specs.Indexes.{id_in, index_in, index_of, IsIndexed, times, AreDistinct, Hinted, IsForgotten}
+use Rattle.cyc_finder.specs.Indexes.{id_in, index_in, index_of, IsIndexed, times, AreDistinct, Hinted, IsForgotten, hint_at}
 use Rattle.cyc_finder.proofs.RisingIds.{look_up_read, look_up_at, look_up_gap, look_up_inserted, look_up_removed, is_at_place}
 use Rattle.cyc_finder.proofs.Few.{times_at}
 
@@ -95,14 +94,14 @@ cond_false false x y e = refl
 -- the hints after an id came
 pub hinted_inserted : (xs ys : List Entry) (hs is : List ℕ) → Hinted xs hs is → (id index : ℕ)
     → ((j : ℕ) → index_of j ys ≡ cond (eqb j id) (Some index) (index_of j xs))
-    → (at : ℕ) → at ≡ id % cyclics → at < length hs → at < length is → index_of id xs ≡ None
+    → (at : ℕ) → at ≡ hint_at id → at < length hs → at < length is → index_of id xs ≡ None
     → Hinted ys (set hs at id) (set is at index)
 hinted_inserted xs ys hs is h id index told at place l1 l2 absent k used = dite (ℕ_discrete k at)
     (λ e.
     let a : get_or (set hs at id) k 0 ≡ id = ap (λ (x : ℕ). get_or (set hs at id) x 0) e ∙ get_or-set_same hs at id 0 l1 in
     let b : get_or (set is at index) k 0 ≡ index =
     ap (λ (x : ℕ). get_or (set is at index) x 0) e ∙ get_or-set_same is at index 0 l2 in (
-      ap (λ (x : ℕ). x % cyclics) a ∙ (sym place ∙ sym e),
+      ap hint_at a ∙ (sym place ∙ sym e),
       ap (λ (x : ℕ). index_of x ys) a
           ∙ (told id ∙ (cond_true (eqb id id) (Some index) (index_of id xs) (eq-eqb id id refl) ∙ ap Some (sym b))),
     ))
@@ -112,7 +111,7 @@ hinted_inserted xs ys hs is h id index told at place l1 l2 absent k used = dite 
     let o = h k (λ z. used (a ∙ z)) in
     let other : get_or hs k 0 ≢ id = λ e. let x : None ≡ Some (get_or is k 0) =
     sym absent ∙ (ap (λ (x : ℕ). index_of x xs) (sym e) ∙ o.1) in absurd (cc) in (
-      ap (λ (x : ℕ). x % cyclics) a ∙ o.0,
+      ap hint_at a ∙ o.0,
       ap (λ (x : ℕ). index_of x ys) a
           ∙ (told (get_or hs k 0)
           ∙ (cond_false (eqb (get_or hs k 0) id) (Some index) (index_of (get_or hs k 0) xs) (ne_eqb (get_or hs k 0) id other)
@@ -126,7 +125,7 @@ hinted_removed xs ys hs hs' is h id told gone k used =
     let g = gone k used in
     let o = h k (λ z. used (g.0 ∙ z)) in
     let other : get_or hs k 0 ≢ id = g.1 o.0 in (
-      ap (λ (x : ℕ). x % cyclics) g.0 ∙ o.0,
+      ap hint_at g.0 ∙ o.0,
       ap (λ (x : ℕ). index_of x ys) g.0
           ∙ (told (get_or hs k 0)
           ∙ (cond_false (eqb (get_or hs k 0) id) None (index_of (get_or hs k 0) xs) (ne_eqb (get_or hs k 0) id other) ∙ o.1)),

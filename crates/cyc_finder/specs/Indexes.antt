@@ -1,5 +1,5 @@
 -- The map from ids to indexes, as its entries by rising id.
-use Rattle.std.specs.Prelude.{◌≡◌, ℕ, ◌+◌, ◌%◌, ◌<◌, ◌≤◌, eqb, cond, Option, Some, List, [], ◌∷◌, slice_index}
+use Rattle.std.specs.Prelude.{◌≡◌, ℕ, ◌+◌, ◌/◌, ◌%◌, ◌<◌, ◌≤◌, eqb, cond, Option, Some, List, [], ◌∷◌, slice_index}
 use Rattle.std.specs.Option.{option_map}
 use Rattle.cyc_types.specs.Limits.{cyclics}
 use Rattle.cyc_finder.specs.declared.finder.Entry.{Entry}
@@ -28,12 +28,17 @@ times n (x ∷ xs) = cond (eqb n x) 1 0 + times n xs
 abbrev pub AreDistinct : ℕ → List ℕ → Type 0
 AreDistinct limit xs = (n : ℕ) → (times n xs ≤ 1) × (0 < times n xs → n < limit)
 
+-- where the hint of an id stands: 256 ids in a row mostly have each their own, and so have 256 that are 16 apart, as those of
+-- one of 16 CPUs are that get new cyclics in turn (our own rule)
+unfoldable pub hint_at : ℕ → ℕ
+hint_at id = (id + id / cyclics) % cyclics
+
 -- a hint that is not 0 is an id that belongs there, with its index
 abbrev pub Hinted : List Entry → List ℕ → List ℕ → Type 0
 Hinted entries hint_ids hint_indexes = (k : ℕ) → ¬ (slice_index hint_ids k ≡ 0)
-    → (slice_index hint_ids k % cyclics ≡ k) × (index_of (slice_index hint_ids k) entries ≡ Some (slice_index hint_indexes k))
+    → (hint_at (slice_index hint_ids k) ≡ k) × (index_of (slice_index hint_ids k) entries ≡ Some (slice_index hint_indexes k))
 
 -- no hint that belongs there gives the id, and the others stay
 abbrev pub IsForgotten : ℕ → List ℕ → List ℕ → Type 0
 IsForgotten id before after = (k : ℕ) → ¬ (slice_index after k ≡ 0)
-    → (slice_index after k ≡ slice_index before k) × ((slice_index before k % cyclics ≡ k) → ¬ (slice_index before k ≡ id))
+    → (slice_index after k ≡ slice_index before k) × ((hint_at (slice_index before k) ≡ k) → ¬ (slice_index before k ≡ id))

@@ -1,8 +1,8 @@
 //! The map from ids to indexes.
 
-ghost use Rattle.std.specs.Prelude.{◌≡◌, ℕ, ◌%◌, ◌<◌, cond, eqb, IfOk, IfSome, None, Some, length};
+ghost use Rattle.std.specs.Prelude.{◌≡◌, ℕ, ◌<◌, cond, eqb, IfOk, IfSome, None, Some, length};
 ghost use Rattle.cyc_types.specs.Limits.{cyclics};
-ghost use Rattle.cyc_finder.specs.Indexes.{index_of, IsIndexed, IsForgotten};
+ghost use Rattle.cyc_finder.specs.Indexes.{hint_at, index_of, IsIndexed, IsForgotten};
 
 use crate::sorted::{HasId, search};
 use cyc_types::{CYCLICS, CyclicId, Index};
@@ -27,12 +27,12 @@ impl HasId for Entry {
 /// The map from the ids of up to `CYCLICS` cyclics to their indexes, no two the same (our own; the kernel names a cyclic by its
 /// address). Contracts see its entries by rising id.
 ///
-/// In front of the entries is a table of hints, of which an id has one by its low bits: mostly the first look answers. Ids
+/// In front of the entries is a table of hints, of which each id has one: mostly the first look answers. Ids
 /// mostly rise, so a new one mostly goes to the end. No memory is taken after `Finder::new`.
 #[derive(Drop)]
 pub struct Finder {
     entries: Vec<Entry>,
-    // At an id's low bits the last id that came with them, or 0, and its index.
+    // At the place of an id's hint the last id that came with this place, or 0, and its index.
     hint_ids: Vec<u64>,
     hint_indexes: Vec<usize>,
 }
@@ -50,11 +50,15 @@ impl Model for Finder {
     ghost invariant = { IsFinder };
 }
 
-/// Where the hint of an id stands among `CYCLICS` hints: at its low bits.
+/// Where the hint of an id stands among `CYCLICS` hints: at its low bits, with those above them added, so that ids that are 16
+/// apart, as those of one of 16 CPUs often are, don't share one.
+#[tactic(auto, unfolding(crate::specs::Indexes::hint_at))]
 pub fn hint_of(id: CyclicId) -> usize
-    ensures { (result ≡ id % cyclics) × (result < cyclics) }
+    ensures { (result ≡ hint_at id) × (result < cyclics) }
 {
-    (id.number() % u64::from(CYCLICS)) as usize
+    let number = id.number();
+    let cyclics = u64::from(CYCLICS);
+    ((number + number / cyclics) % cyclics) as usize
 }
 
 // The hint gives the id no more.
