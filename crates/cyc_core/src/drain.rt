@@ -16,10 +16,12 @@ impl Drain for LevelCore {
 
     ghost step = { λ core call after. Drains (level_of core) call (level_of after) };
 
+    #[inline(always)]
     fn hand(&self) -> Option<CyclicId> {
         self.drainer_hand
     }
 
+    #[inline(always)]
     fn take(&mut self) -> Option<CyclicId> {
         if self.hard_bank != self.soft_bank && self.old_list.is_empty() {
             self.follow();
@@ -31,6 +33,7 @@ impl Drain for LevelCore {
         self.drainer_hand
     }
 
+    #[inline(always)]
     fn finish(&mut self) -> Finished {
         let Some(id) = self.drainer_hand else {
             unreachable!()

@@ -30,6 +30,7 @@ impl Raise for LevelCore {
         entry.count
     }
 
+    #[inline(always)]
     fn raise(&mut self, id: CyclicId) -> Raised {
         let (place, entry) = self.entry_of(id);
         let count = entry.count;

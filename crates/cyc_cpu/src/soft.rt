@@ -15,6 +15,7 @@ use cyc_soft::{Ran, SoftRefused};
 use cyc_types::{Calls, Raise, Soft};
 
 /// The soft interrupt of one level. What its firing side knows stays, but for what it saw of pends and of the banks.
+#[inline(always)]
 fn serve<C: Calls>(
     end: &mut LevelCore,
     calls: &mut C,
@@ -38,6 +39,7 @@ impl Hard<LevelCore> {
     /// calls. It stops after so many, or earlier where a look at the buffer found nothing, and then it is idle.
     ///
     /// A refused call stays the next one. Takes no memory.
+    #[inline(always)]
     pub fn softint<C: Calls>(
         &mut self,
         level: Soft,

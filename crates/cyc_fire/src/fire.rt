@@ -2,7 +2,8 @@
 
 ghost use Rattle.std.specs.Prelude.{◌≡◌, ℕ, ◌+◌, ◌<◌, ◌≤◌, ◌++◌, ◌∷◌, [], length, min, All, List, Some, IfOk, IfErr, OnOk, OnErr};
 ghost use Rattle.std.specs.Prelude.{IfNone, IfSome};
-ghost use Rattle.cyc_types.specs.Series.{due, next, never};
+ghost use Rattle.std.specs.Bool.{OnTrue, OnFalse};
+ghost use Rattle.cyc_types.specs.Series.{due, next, never, late};
 ghost use Rattle.cyc_types.specs.Firing.{MayRaise, Sound};
 ghost use Rattle.cyc_types.specs.Levels.{at_level};
 ghost use Rattle.cyc_types.specs.declared.level.Level.TheVariants.{Low, Lock, High};
@@ -26,6 +27,14 @@ fn nearest_moment(nanoseconds: u64) -> Moment
     Moment::new(nearest as i64).unwrap()
 }
 
+/// Whether the expiration after one that is due, an interval later, is more than a second late. Mostly the first look answers.
+fn is_late(passed: u64, interval: u64) -> bool
+    ensures late { OnTrue result (interval + late < passed) }
+    ensures near { OnFalse result (passed ≤ interval + late) }
+{
+    passed > LATE && passed - LATE > interval
+}
+
 /// The expiration after one that is due (the loop of `cyclic_fire`).
 fn following(moment: Moment, interval: Interval, now: Moment) -> Moment
     requires due { moment ≤ now }
@@ -36,15 +45,16 @@ fn following(moment: Moment, interval: Interval, now: Moment) -> Moment
     ensures later { moment ≤ result }
     ensures bound { result ≤ never }
 {
-    let following = moment.nanoseconds() + interval.nanoseconds();
-    let now_is = now.nanoseconds();
-    if now_is.saturating_sub(following) > LATE {
+    let passed = now.nanoseconds() - moment.nanoseconds();
+    let length = interval.nanoseconds();
+    if is_late(passed, length) {
         return next(moment, interval, now);
     }
-    nearest_moment(following)
+    nearest_moment(moment.nanoseconds() + length)
 }
 
 /// Raises a cyclic once, and says how many expirations were lost.
+#[inline(always)]
 fn raise_once<R: Raise>(end: &mut R, id: CyclicId) -> u64
     requires { MayRaise id (R.view end.old) }
     ensures raised { RaisedOnce R.step R.view id end.old end.new result }

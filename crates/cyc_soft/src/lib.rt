@@ -48,6 +48,7 @@ fn in_hand<D: Drain>(drain: &mut D) -> Option<CyclicId>
 /// It goes on with the cyclic in hand until no call of it is pending, then takes the next from the buffer. It stops after
 /// `budget` calls with no further look, or earlier where a look found nothing, and then it is idle. A call is counted as done
 /// only after its handler answered Ok: a refused call stays the next one. It takes no memory and does not wait.
+#[inline(always)]
 pub fn softint<D: Drain, C: Calls>(
     drain: &mut D,
     calls: &mut C,
