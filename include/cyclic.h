@@ -214,8 +214,8 @@ uint32_t cyclic_open(uint32_t ceiling, uint64_t most, cyclic_firing *firing, cyc
 /*
  * Takes the three handles back, also where calls are outstanding, and gives the books. The caller owes: the three are of one
  * cyclic_open, and no other thread uses one of them any more.
- * Refuses with CYCLIC_MISUSED where one of them is closed or the books are open, and nothing is changed. Takes memory for
- * the books: where that is refused (CYCLIC_MEMORY) the CPU is closed, and its books are lost.
+ * Refuses with CYCLIC_MISUSED where one of them is closed or the books are open; takes memory for the books, and refuses with
+ * CYCLIC_MEMORY where there is none. Then nothing is changed, and it may be called again.
  */
 uint32_t cyclic_close(cyclic_firing *firing, cyclic_soft *lock, cyclic_soft *low, cyclic_books *books);
 
@@ -254,6 +254,11 @@ uint32_t cyclic_firing_next(cyclic_firing *firing, int64_t *moment);
  * handler and then cyclic_soft_finish; a take before that answers the same.
  */
 uint32_t cyclic_soft_take(cyclic_soft *soft, uint64_t *id);
+
+/*
+ * The cyclic in hand, whose call was taken and is not finished: `*id` is its id, or 0 where none is. Changes nothing.
+ */
+uint32_t cyclic_soft_hand(cyclic_soft *soft, uint64_t *id);
 
 /*
  * Counts the call that was taken. The caller owes: its handler has been called once since the take.

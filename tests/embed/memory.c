@@ -1,4 +1,4 @@
-/* Refuses each request for memory in turn: an open and an add answer CYCLIC_MEMORY, change nothing and lose no block. The
+/* Refuses each request for memory in turn: an open, an add and a close answer CYCLIC_MEMORY, change nothing and lose no block. The
  * program is linked with --wrap for malloc, realloc and free. */
 #include <stdio.h>
 #include <stdlib.h>
@@ -100,9 +100,49 @@ static long adds(uint64_t cyclics)
     }
 }
 
+/* The requests of a close between threads, each refused once: the refused close has changed nothing, and is made again. */
+static long closes(void)
+{
+    for (long n = 1;; n++) {
+        cyclic_firing firing = CYCLIC_CLOSED;
+        cyclic_soft lock = CYCLIC_CLOSED, low = CYCLIC_CLOSED;
+        cyclic_books books = CYCLIC_CLOSED;
+        cyclic_book_of book;
+        cyclic_fired fired;
+        uint64_t busy, id;
+        uint32_t answer;
+        blocks = 0;
+        WANT(cyclic_open(3, 3, &firing, &lock, &low), 0);
+        WANT(cyclic_firing_add(&firing, 1, CYCLIC_LOW, 5, 5, 0, &busy), 0);
+        WANT(cyclic_firing_fire(&firing, 10, &fired), 0);
+        WANT(cyclic_soft_take(&low, &id), 0);
+        WANT(id, 1);
+        requests = 0;
+        refused_one = n;
+        answer = cyclic_close(&firing, &lock, &low, &books);
+        refused_one = 0;
+        if (answer != 0) {
+            WANT(answer, CYCLIC_MEMORY);
+            WANT(cyclic_book(&books, CYCLIC_LOW, 0, &book), CYCLIC_MISUSED);
+            WANT(cyclic_soft_hand(&low, &id), 0);
+            WANT(id, 1);
+            WANT(cyclic_soft_finish(&low), 0);
+            WANT(cyclic_close(&firing, &lock, &low, &books), 0);
+        }
+        WANT(cyclic_book(&books, CYCLIC_LOW, 0, &book), 0);
+        WANT(book.id, 1);
+        WANT(book.expired, 2);
+        WANT(book.done, answer == 0 ? 0 : 1);
+        WANT(cyclic_books_close(&books), 0);
+        WANT(blocks, 0);
+        if (answer == 0)
+            return n - 1;
+    }
+}
+
 int main(void)
 {
-    long opened = opens(), added = adds(20);
-    printf("memory: %ld requests of an open and %ld of 20 adds, each refused once\n", opened, added);
+    long opened = opens(), added = adds(20), closed = closes();
+    printf("memory: %ld requests of an open, %ld of 20 adds and %ld of a close, each refused once\n", opened, added, closed);
     return 0;
 }

@@ -34,6 +34,7 @@ static void every_answer(void)
     WANT(cyclic_close(&firing, &lock, &low, &books), CYCLIC_MISUSED);
     WANT(cyclic_soft_take(&lock, &id), CYCLIC_MISUSED);
     WANT(cyclic_soft_finish(&lock), CYCLIC_MISUSED);
+    WANT(cyclic_soft_hand(&lock, &id), CYCLIC_MISUSED);
     WANT(cyclic_book(&books, 0, 0, &book), CYCLIC_MISUSED);
     WANT(cyclic_books_close(&books), CYCLIC_MISUSED);
     WANT(cyclic_firing_add(&firing, 1, CYCLIC_LOW, 1, 1, 0, &busy), CYCLIC_MISUSED);
@@ -62,11 +63,17 @@ static void every_answer(void)
     WANT(cyclic_firing_add(&firing, 7, CYCLIC_LOW, 2, 10, 1, &busy), CYCLIC_EXPANDING);
     WANT(cyclic_firing_fire(&firing, 2, &fired), 0);
     WANT(cyclic_soft_finish(&low), CYCLIC_MISUSED);
+    WANT(cyclic_soft_hand(&low, &id), 0);
+    WANT(id, 0);
     WANT(cyclic_soft_take(&low, &id), 0);
+    WANT(id, 5);
+    WANT(cyclic_soft_hand(&low, &id), 0);
     WANT(id, 5);
     WANT(cyclic_soft_take(&low, &id), 0);
     WANT(id, 5);
     WANT(cyclic_soft_finish(&low), 0);
+    WANT(cyclic_soft_hand(&low, &id), 0);
+    WANT(id, 0);
     WANT(cyclic_soft_finish(&low), CYCLIC_MISUSED);
     WANT(cyclic_firing_totals(&firing, 5, &totals), 0);
     WANT(totals.expired, 1);

@@ -10,9 +10,10 @@ use Rattle.cyclic_c.specs.Numbers.{number_of}
 use Rattle.cyclic_c.specs.declared.numbers.Denied.TheVariants.{Misused, Refused}
 use Rattle.cyclic_c.specs.Pair.{IsNewPair, IsClosedOf, SameRings}
 use Rattle.cyclic_c.specs.Records.{IsBookOut}
-use Rattle.cyclic_c.specs.Seats.{TakesSeat, FinishesSeat}
+use Rattle.cyclic_c.specs.Seats.{TakesSeat, FinishesSeat, hand_in}
 use Rattle.cyclic_c.specs.declared.pair.Books.{Books}
 use Rattle.cyclic_c.specs.declared.pair.Firing.{Firing}
+use Rattle.cyclic_c.specs.declared.pair.Shelf.{Shelf}
 use Rattle.cyclic_c.specs.declared.records.CyclicBook.{CyclicBook}
 use Rattle.cyclic_c.specs.declared.soft_side.SoftSide.{SoftSide}
 
@@ -36,8 +37,13 @@ OneOpen f k w = (hard : Firing) (lock low : SoftSide) → f ≡ Some hard → k 
 abbrev pub CanClose : Option Firing → Option SoftSide → Option SoftSide → Option Books → Type 0
 CanClose f k w b = (f ≢ None) × (k ≢ None) × (w ≢ None) × (b ≡ None)
 
+-- the books that a handle owns, which stand on a shelf
+abbrev pub shelved : Option Shelf → Option Books
+shelved None = None
+shelved (Some s) = s.books
+
 -- A close: the books of the two rings with the seats that came back. Or nothing was done, since a handle is closed or there are
--- books. Or all are gone without books: there was no memory for these, or another handle of the same open is about.
+-- books, or since there was no memory for them. Or all are gone without books, since another handle of the same open is about.
 abbrev pub ClosesPair : ℕ → Option Firing → Option SoftSide → Option SoftSide → Option Books → Option Firing → Option SoftSide
     → Option SoftSide → Option Books → Type 0
 ClosesPair r f k w b f' k' w' b' =
@@ -46,12 +52,16 @@ ClosesPair r f k w b f' k' w' b' =
     × (f ≡ Some hard) × (k ≡ Some lock) × (w ≡ Some low) × (b' ≡ Some books)
     × IsClosedOf hard.hard.lock.seat lock.seat books.lock × IsClosedOf hard.hard.low.seat low.seat books.low)
     ⊎ ((r ≡ number_of Misused) × ((f ≡ None) ⊎ (k ≡ None) ⊎ (w ≡ None) ⊎ (b ≢ None)) × (f' ≡ f) × (k' ≡ k) × (w' ≡ w) × (b' ≡ b))
-    ⊎ (((r ≡ number_of (Refused why.Memory)) ⊎ (r ≡ number_of Misused)) × CanClose f k w b × (f' ≡ None) × (k' ≡ None)
-    × (w' ≡ None) × (b' ≡ None))
+    ⊎ ((r ≡ number_of (Refused why.Memory)) × CanClose f k w b × (f' ≡ f) × (k' ≡ k) × (w' ≡ w) × (b' ≡ b))
+    ⊎ ((r ≡ number_of Misused) × CanClose f k w b × (f' ≡ None) × (k' ≡ None) × (w' ≡ None) × (b' ≡ None))
 
 abbrev pub TakesSoft : ℕ → ℕ → SoftSide → SoftSide → Type 0
 TakesSoft r id v w = (r ≡ 0) × (found : Option ℕ) × (id ≡ or_zero found) × TakesSeat found v.seat w.seat
     × (w.ring.value ≡ v.ring.value)
+
+-- the cyclic in hand, of which nothing changes
+abbrev pub HandsSoft : ℕ → ℕ → SoftSide → SoftSide → Type 0
+HandsSoft r id v w = (r ≡ 0) × (id ≡ or_zero (hand_in v.seat)) × (w.seat ≡ v.seat) × (w.ring.value ≡ v.ring.value)
 
 -- 0 where a call was counted, 64 where none was in hand
 abbrev pub finish_number : Option Finished → ℕ

@@ -2,13 +2,14 @@
 
 ghost use Rattle.std.specs.Prelude.{◌≡◌};
 ghost use Rattle.cyclic_c.specs.Border.{Through};
-ghost use Rattle.cyclic_c.specs.PairOut.{OpensPair, ClosesPair, OneOpen, TakesSoft, FinishesSoft, BookOut, ClosesHandle};
+ghost use Rattle.cyclic_c.specs.PairOut.{OpensPair, ClosesPair, OneOpen, TakesSoft, FinishesSoft, HandsSoft, BookOut};
+ghost use Rattle.cyclic_c.specs.PairOut.{ClosesHandle, shelved};
 
 use crate::exports::MISUSED;
 use crate::handle_books::CyclicBooks;
 use crate::handle_firing::CyclicFiring;
 use crate::handle_soft::CyclicSoft;
-use crate::pair::{closed, opened};
+use crate::pair::{Shelf, closed, opened};
 use crate::records::{CyclicBook, book_of};
 use cyc_types::{Ceiling, Index};
 use std::alloc::Global;
@@ -52,8 +53,8 @@ pub extern "C" fn cyclic_open(
 }
 
 /// Takes the three handles of one open back, and gives the books. Refuses with Misused where one of them is closed, or the books
-/// are open. Takes memory for the books: where that is refused, or another handle of the same open is about, the CPU is closed
-/// and its books are lost.
+/// are open, then with Memory where there is none for the books: nothing is changed then, and it may be called again. Where
+/// another handle of the same open is about it answers Misused, and the CPU is closed without books.
 #[unsafe(no_mangle)]
 pub extern "C" fn cyclic_close(
     alloc: Global,
@@ -63,12 +64,16 @@ pub extern "C" fn cyclic_close(
     books: &mut CyclicBooks,
 ) -> u32
     requires { OneOpen firing.old.inner.held lock.old.inner.held low.old.inner.held }
-    ensures { ClosesPair result firing.old.inner.held lock.old.inner.held low.old.inner.held books.old.inner.held
-        firing.new.inner.held lock.new.inner.held low.new.inner.held books.new.inner.held }
+    ensures { ClosesPair result firing.old.inner.held lock.old.inner.held low.old.inner.held
+        (shelved books.old.inner.held) firing.new.inner.held lock.new.inner.held low.new.inner.held
+        (shelved books.new.inner.held) }
 {
     if books.open || !firing.open || !lock.open || !low.open {
         return MISUSED;
     }
+    let Ok(mut shelf) = Box::new(alloc, Shelf { books: None }) else {
+        return 1;
+    };
     let Some(hard) = firing.take(alloc) else {
         unreachable!()
     };
@@ -85,10 +90,8 @@ pub extern "C" fn cyclic_close(
     ) else {
         return MISUSED;
     };
-    let Ok(done) = Box::new(alloc, done) else {
-        return 1;
-    };
-    books.put(done);
+    shelf.books = Some(done);
+    books.put(shelf);
     0
 }
 
@@ -125,6 +128,23 @@ pub extern "C" fn cyclic_soft_finish(alloc: Global, soft: &mut CyclicSoft) -> u3
     }
 }
 
+/// The cyclic in hand, whose call was taken and is not finished; `id` gets 0 where none is.
+#[unsafe(no_mangle)]
+pub extern "C" fn cyclic_soft_hand(alloc: Global, soft: &mut CyclicSoft, id: &mut u64) -> u32
+    ensures { Through soft.old.inner.held soft.new.inner.held result (HandsSoft result id.new) }
+{
+    let Some(mut open) = soft.take(alloc) else {
+        return MISUSED;
+    };
+    let found = open.hand();
+    soft.put(open);
+    *id = match found {
+        Some(held) => held.number(),
+        None => 0,
+    };
+    0
+}
+
 /// The book of the cyclic at an index of a soft level, 0 low and 1 lock; its id is 0 where none is. Refuses with Misused where
 /// the level or the index, which is below 256, is none.
 #[unsafe(no_mangle)]
@@ -135,7 +155,8 @@ pub extern "C" fn cyclic_book(
     index: u32,
     book: &mut CyclicBook,
 ) -> u32
-    ensures { Through books.old.inner.held books.new.inner.held result (BookOut level index result book.old book.new) }
+    ensures { Through (shelved books.old.inner.held) (shelved books.new.inner.held) result
+        (BookOut level index result book.old book.new) }
 {
     let Some(open) = books.take(alloc) else {
         return MISUSED;
@@ -147,10 +168,13 @@ pub extern "C" fn cyclic_book(
     let Some(index) = Index::new(index as u16) else {
         unreachable!()
     };
+    let Some(shelf) = &open.books else {
+        unreachable!()
+    };
     let found = if level == 0 {
-        open.low.book(index)
+        shelf.low.book(index)
     } else {
-        open.lock.book(index)
+        shelf.lock.book(index)
     };
     books.put(open);
     *book = match found {
@@ -163,7 +187,7 @@ pub extern "C" fn cyclic_book(
 /// Gives the memory of the books back. Refuses with Misused where they are closed.
 #[unsafe(no_mangle)]
 pub extern "C" fn cyclic_books_close(alloc: Global, books: &mut CyclicBooks) -> u32
-    ensures { ClosesHandle result books.old.inner.held books.new.inner.held }
+    ensures { ClosesHandle result (shelved books.old.inner.held) (shelved books.new.inner.held) }
 {
     match books.take(alloc) {
         Some(_closed) => 0,

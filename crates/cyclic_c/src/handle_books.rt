@@ -1,9 +1,10 @@
 //! The handle of the books.
 
-ghost use Rattle.std.specs.Prelude.{◌≡◌, Some, None, IsSome, IfSome, IfNone, IsTrue, ◌↔◌};
+ghost use Rattle.std.specs.Prelude.{◌≡◌, ◌≢◌, Some, None, IsSome, IfSome, IfNone, IsTrue, ◌↔◌};
+ghost use Rattle.std.specs.Option.{ForSome};
 
 use crate::loose::Loose;
-use crate::pair::Books;
+use crate::pair::Shelf;
 use crate::sealed_books::SealedBooks;
 use std::alloc::Global;
 
@@ -14,6 +15,7 @@ pub struct CyclicBooks {
     pub inner: SealedBooks,
     pub open: bool,
     pub ghost told: { IsTrue «open» ↔ IsSome inner.held },
+    pub ghost filled: { ForSome inner.held (λ s. s.books ≢ None) },
 }
 
 impl CyclicBooks {
@@ -27,8 +29,9 @@ impl CyclicBooks {
     }
 
     /// Takes it out of the handle, which is closed meanwhile. None where it is closed.
-    pub(crate) fn take(&mut self, alloc: Global) -> Option<Box<Books>>
-        ensures some { IfSome result (λ cpu. self.old.inner.held ≡ Some cpu.value) }
+    pub(crate) fn take(&mut self, alloc: Global) -> Option<Box<Shelf>>
+        ensures some { IfSome result (λ shelf. self.old.inner.held ≡ Some shelf.value) }
+        ensures filled { IfSome result (λ shelf. shelf.value.books ≢ None) }
         ensures none { IfNone result (self.old.inner.held ≡ None) }
         ensures closed { self.new.inner.held ≡ None }
     {
@@ -41,11 +44,12 @@ impl CyclicBooks {
     }
 
     /// Puts it into the handle.
-    pub(crate) fn put(&mut self, value: Box<Books>)
-        ensures { self.new.inner.held ≡ Some value.value }
+    pub(crate) fn put(&mut self, shelf: Box<Shelf>)
+        requires { shelf.value.books ≢ None }
+        ensures { self.new.inner.held ≡ Some shelf.value }
     {
         *self = CyclicBooks {
-            inner: SealedBooks::of(Loose::of(value)),
+            inner: SealedBooks::of(Loose::of(shelf)),
             open: true,
         };
     }

@@ -28,6 +28,12 @@ pub struct Books {
     pub low: Closed,
 }
 
+/// A place for the books, whose memory is taken before the CPU is closed.
+#[derive(Drop)]
+pub struct Shelf {
+    pub books: Option<Books>,
+}
+
 /// The two sides of a new ring, which they share.
 fn sides(alloc: Global, ceiling: Ceiling) -> Result<(HeldEnd, SoftSide), Refusal>
     ensures ok { IfOk result (λ s. IsNewPair ceiling s.0 s.1) }

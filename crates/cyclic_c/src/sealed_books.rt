@@ -1,22 +1,22 @@
-//! Boxed books behind a pointer.
+//! A boxed shelf with books behind a pointer.
 
 ghost use Rattle.std.specs.Prelude.{◌≡◌, Option, Some, None, IsSome};
 ghost use Rattle.cyclic_c.specs.Owns.{owned};
-ghost use Rattle.cyclic_c.specs.declared.pair.Books.{Books};
-ghost use Rattle.cyclic_c.specs.contracts.pair.Books as inner;
+ghost use Rattle.cyclic_c.specs.declared.pair.Shelf.{Shelf};
+ghost use Rattle.cyclic_c.specs.contracts.pair.Shelf as inner;
 
 use crate::loose::Loose;
-use crate::pair::Books;
+use crate::pair::Shelf;
 use std::alloc::Global;
 use std::marker::Model;
 use std::ptr::null_mut;
 
-/// The boxed books of a CPU, or none, as a pointer whose type nobody sees.
+/// The boxed shelf of a CPU, or none, as a pointer whose type nobody sees.
 #[repr(C)]
 #[derive(Drop)]
 pub struct SealedBooks {
     at: *mut u8,
-    pub ghost held: { Option Books },
+    pub ghost held: { Option Shelf },
 }
 
 impl Model for SealedBooks {
@@ -24,20 +24,20 @@ impl Model for SealedBooks {
 }
 
 impl SealedBooks {
-    pub(crate) fn of(loose: Loose<Books, Global>) -> SealedBooks
+    pub(crate) fn of(loose: Loose<Shelf, Global>) -> SealedBooks
         ensures { result.held ≡ Some loose.value }
     {
         let Loose { at, alloc: _ } = loose;
         SealedBooks { at: at as *mut u8 }
     }
 
-    pub(crate) fn into_loose(self, alloc: Global) -> Loose<Books, Global>
+    pub(crate) fn into_loose(self, alloc: Global) -> Loose<Shelf, Global>
         requires { IsSome self.held }
         ensures { self.held ≡ Some result.value }
     {
         let SealedBooks { at } = self;
         Loose {
-            at: at as *mut Books,
+            at: at as *mut Shelf,
             alloc,
         }
     }

@@ -3,7 +3,7 @@
 ghost use Rattle.std.specs.Prelude.{◌≡◌, ◌≢◌, None};
 ghost use Rattle.std.specs.Option.{ForSome};
 ghost use Rattle.cyc_ring.specs.Ends.{IsDrainSeatOf};
-ghost use Rattle.cyclic_c.specs.Seats.{TakesSeat, FinishesSeat};
+ghost use Rattle.cyclic_c.specs.Seats.{TakesSeat, FinishesSeat, hand_in};
 
 use cyc_ring::{DrainEnd, DrainSeat, Ring};
 use cyc_types::{CyclicId, Drain, Finished};
@@ -34,6 +34,21 @@ impl SoftSide {
             Some(id) => Some(id),
             None => end.take(),
         };
+        self.seat = Some(end.into_seat());
+        found
+    }
+
+    /// The cyclic in hand, whose call was taken and is not finished.
+    pub fn hand(&mut self) -> Option<CyclicId>
+        ensures hand { result ≡ hand_in self.old.seat }
+        ensures seat { self.new.seat ≡ self.old.seat }
+        ensures ring { self.new.ring.value ≡ self.old.ring.value }
+    {
+        let Some(seat) = self.seat.take() else {
+            unreachable!()
+        };
+        let end = DrainEnd::new(&self.ring, seat);
+        let found = end.hand();
         self.seat = Some(end.into_seat());
         found
     }

@@ -20,7 +20,7 @@ mod sys;
 mod values;
 
 pub use cpu::Cpu;
-pub use sides::{FiringSide, SoftSide, close, open};
+pub use sides::{CloseRefused, FiringSide, SoftSide, close, open};
 pub use values::{
     Book, FireRefused, Fired, Id, Level, NEVER, Ran, Receipt, Refusal, Removal, Soft, Totals,
 };

@@ -5,6 +5,7 @@ use crate::values::{
     Book, FireRefused, Fired, Id, Level, NEVER, Ran, Receipt, Refusal, Removal, Soft, Totals, done,
 };
 use std::collections::BTreeMap;
+use std::fmt;
 use std::sync::Arc;
 
 const HANDLER_REFUSED: u32 = 12;
@@ -65,16 +66,45 @@ pub fn open(ceiling: u32, most: u64) -> Result<(FiringSide, SoftSide, SoftSide),
     ))
 }
 
+/// A close that was refused, with the sides, which are as they were: it may be tried again.
+pub struct CloseRefused {
+    pub why: Refusal,
+    pub firing: FiringSide,
+    pub lock: SoftSide,
+    pub low: SoftSide,
+}
+
+impl fmt::Debug for CloseRefused {
+    fn fmt(&self, f: &mut fmt::Formatter<'_>) -> fmt::Result {
+        let mut shown = f.debug_struct("CloseRefused");
+        shown.field("why", &self.why).finish_non_exhaustive()
+    }
+}
+
+impl From<Box<CloseRefused>> for Refusal {
+    fn from(refused: Box<CloseRefused>) -> Refusal {
+        refused.why
+    }
+}
+
 /// Closes a CPU whose three sides come back, also where calls are outstanding, and gives the book of each cyclic of a soft level.
-/// Refuses Misused where the sides are not of one open, and Memory.
+/// Refuses Misused where the sides are not of one open, and Memory where there is none for the books; then it gives the sides back.
 pub fn close(
     mut firing: FiringSide,
     mut lock: SoftSide,
     mut low: SoftSide,
-) -> Result<Vec<Book>, Refusal> {
+) -> Result<Vec<Book>, Box<CloseRefused>> {
+    let refused = |why, firing, lock, low| {
+        Err(Box::new(CloseRefused {
+            why,
+            firing,
+            lock,
+            low,
+        }))
+    };
     let one = Arc::ptr_eq(&firing.origin, &lock.origin) && Arc::ptr_eq(&firing.origin, &low.origin);
     if !one || lock.level != Soft::Lock || low.level != Soft::Low {
-        return Err(Refusal::Misused);
+        return refused(Refusal::Misused, firing, lock, low);
     }
     let mut books = sys::Handle::CLOSED;
     // The three handles are of one open.
@@ -86,7 +116,9 @@ pub fn close(
             &mut books,
         )
     };
-    done(answer, 0)?;
+    if let Err(why) = done(answer, 0) {
+        return refused(why, firing, lock, low);
+    }
     let mut all = Vec::new();
     for level in [Soft::Lock, Soft::Low] {
         for index in 0..256 {
@@ -238,6 +270,13 @@ impl FiringSide {
 }
 
 impl SoftSide {
+    /// The cyclic in hand: one whose handler panicked, whose call is the next.
+    pub fn hand(&mut self) -> Option<Id> {
+        let mut id = 0;
+        unsafe { sys::cyclic_soft_hand(&mut self.owned.raw, &mut id) };
+        (id != 0).then_some(Id(id))
+    }
+
     /// The level that it serves.
     pub fn level(&self) -> Soft {
         self.level

@@ -122,5 +122,6 @@ unsafe extern "C" {
     pub fn cyclic_firing_drop(firing: &mut Handle) -> u32;
     pub fn cyclic_soft_drop(soft: &mut Handle) -> u32;
     pub fn cyclic_soft_take(soft: &mut Handle, id: &mut u64) -> u32;
+    pub fn cyclic_soft_hand(soft: &mut Handle, id: &mut u64) -> u32;
     pub fn cyclic_soft_finish(soft: &mut Handle) -> u32;
 }

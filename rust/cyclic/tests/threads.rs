@@ -1,6 +1,6 @@
 //! A CPU between threads.
 
-use cyclic::{Book, Ran, Refusal, Soft, close, open};
+use cyclic::{Book, CloseRefused, Ran, Refusal, Soft, close, open};
 use std::sync::atomic::{AtomicBool, Ordering::SeqCst};
 use std::sync::mpsc;
 use std::thread;
@@ -37,7 +37,7 @@ fn the_old_bank_is_drained_first() {
         removed: false,
     };
     assert_eq!(
-        close(firing, lock, low),
+        close(firing, lock, low).map_err(Refusal::from),
         Ok(vec![book(a, 1, 0), book(b, 0, 1)])
     );
 }
@@ -91,6 +91,15 @@ fn the_sums_of_three_threads_are_exact() {
 fn sides_of_two_opens_are_refused() {
     let (first, lock, low) = open(1, 1).unwrap();
     let (second, other, _) = open(1, 1).unwrap();
-    assert_eq!(close(first, other, low), Err(Refusal::Misused));
-    drop((second, lock));
+    let refused = close(first, other, low).unwrap_err();
+    assert_eq!(refused.why, Refusal::Misused);
+    // The sides come back, and may be closed with their own.
+    let CloseRefused {
+        firing,
+        lock: other,
+        low,
+        ..
+    } = *refused;
+    assert_eq!(close(firing, lock, low).unwrap(), []);
+    drop((second, other));
 }

@@ -1,6 +1,7 @@
 use Rattle.std.proofs.Common.{Some, inl, refl, sym, ap, ◌∙◌}
 use Rattle.cyclic_c.specs.declared.pair.Firing.{Firing}
 use Rattle.cyclic_c.specs.declared.soft_side.SoftSide.{SoftSide}
+use Rattle.cyclic_c.specs.PairOut.{shelved}
 use Rattle.cyclic_c.proofs.exports_pair.cyclic_close.Goals as goal
 
 pub closed-requires : goal.closed-requires
@@ -24,7 +25,7 @@ returns c = inl (
   c.in-Some.ensures.some ∙ ap Some (sym c.into_inner.ensures),
   c.in-Some-take.ensures.some ∙ ap Some (sym c.into_inner-2.ensures),
   c.in-Some-take-2.ensures.some ∙ ap Some (sym c.into_inner-3.ensures),
-  c.put.ensures ∙ ap Some c.in-Ok.ensures.ok,
+  ap shelved c.put.ensures,
   c.in-Some-closed.ensures.0,
   c.in-Some-closed.ensures.1,
 )
