@@ -2,7 +2,6 @@
 
 ghost use Rattle.std.specs.Prelude.{◌≡◌, ◌*◌, ◌^◌, ◌<◌, ◌≤◌, sum_by, length};
 
-use cyc_finder::HasId;
 use cyc_types::{CyclicId, Level, Moment, Sent, When};
 
 /// The most CPUs of a system (our own rule).
@@ -44,15 +43,18 @@ pub struct Record {
     pub ended: [Sent; CPUS],
 }
 
-impl HasId for Record {
-    ghost id_of = { λ r. r.id };
-
-    fn id(&self) -> CyclicId {
-        self.id
-    }
-}
-
 impl Record {
+    /// What a box holds before a record is put in.
+    pub(crate) const VACANT: Record = Record {
+        id: CyclicId::LAST,
+        level: Level::High,
+        place: Place::On {
+            cpu: 0,
+            bound: false,
+        },
+        ended: [Sent { sent: 0, lost: 0 }; CPUS],
+    };
+
     /// All expirations of the stays that have ended.
     pub fn ended_sent(&self) -> u128
         ensures value { result ≡ sum_by (λ s. s.sent) self.now.ended }

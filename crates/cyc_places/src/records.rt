@@ -8,26 +8,38 @@ ghost use Rattle.cyc_places.specs.Places.{RecordsView, IsRecord, HasNoRecord, ne
 ghost use Rattle.cyc_places.specs.Places.{summed, no_counts, HasRisingIds, HaveCounts, HaveAllCounts, IsReceiptOf};
 
 use crate::record::{CPUS, Place, Record};
-use cyc_finder::search;
 use cyc_types::{CyclicId, Level, Receipt, Refusal, Sent};
 use std::alloc::Global;
+use std::collections::VecDeque;
 use std::marker::Model;
 
 /// The records by rising id. A look-up takes O(log n), and nothing but `reserve` takes memory.
+///
+/// Each record stands in a box of its own, so that a removal moves the boxes between it and the nearer end and no record. The
+/// box of a record that goes is kept for the next one.
 #[derive(Drop)]
 pub struct Records {
-    list: Vec<Record>,
+    list: VecDeque<Box<Record>>,
+    // Where there is one, the list has room for it.
+    spare: Option<Box<Record>>,
+    alloc: Global,
 }
 
 impl Model for Records {
-    ghost use Rattle.std.specs.Prelude.{vec_capacity};
+    ghost use Rattle.std.specs.Prelude.{◌<◌, ◌+◌, length, map, cond, is_some, IsSome};
+    ghost use Rattle.std.specs.VecDeque.{deque_len, deque_capacity};
     ghost use Rattle.cyc_places.specs.Places.{RecordsView, HasRisingIds, HaveCounts, HaveAllCounts};
 
     ghost Value = { RecordsView };
 
-    ghost view = { λ r. record { list = r.list.items; room = vec_capacity r.list } };
+    ghost view = { λ r. record {
+      list = map (λ kept. kept.value) r.list.items;
+      room = length r.list.items + cond (is_some r.spare) 1 0;
+    } };
 
-    ghost invariant = { λ r. HasRisingIds r.list.items × HaveCounts r.list.items × HaveAllCounts r.list.items };
+    ghost invariant = { λ r. HasRisingIds (map (λ kept. kept.value) r.list.items)
+        × HaveCounts (map (λ kept. kept.value) r.list.items)
+        × HaveAllCounts (map (λ kept. kept.value) r.list.items) × (IsSome r.spare → deque_len r.list < deque_capacity r.list) };
 }
 
 impl Records {
@@ -36,7 +48,9 @@ impl Records {
         ensures { result.list ≡ [] }
     {
         Records {
-            list: Vec::new(alloc),
+            list: VecDeque::new(alloc),
+            spare: None,
+            alloc,
         }
     }
 
@@ -47,6 +61,9 @@ impl Records {
         ensures err { IfErr result (λ refusal. refusal ≡ Memory) }
     {
         self.list.reserve(1)?;
+        if self.spare.is_none() {
+            self.spare = Some(Box::new(self.alloc, Record::VACANT)?);
+        }
         Ok(())
     }
 
@@ -56,13 +73,16 @@ impl Records {
         requires reserved { length self.old.list < self.old.room }
         ensures { self.new.list ≡ self.old.list ++ new_record id level place ∷ [] }
     {
-        let pushed = self.list.push(Record {
+        let Some(mut kept) = self.spare.take() else {
+            unreachable!()
+        };
+        *kept = Record {
             id,
             level,
             place,
             ended: [Sent { sent: 0, lost: 0 }; CPUS],
-        });
-        prove!(pushed.is_ok());
+        };
+        self.list.push_back_reserved(kept);
     }
 
     /// How many records there are.
@@ -77,7 +97,10 @@ impl Records {
         ensures none { IfNone result (HasNoRecord id self.now.list) }
         ensures some { IfSome result (λ k. (r : Record) × IsRecord self.now.list k r × (r.id ≡ id)) }
     {
-        search(&self.list, id).ok()
+        let number = id.number();
+        self.list
+            .binary_search_by_key(&number, |kept| kept.id.number())
+            .ok()
     }
 
     /// The record at a place.
@@ -130,12 +153,12 @@ impl Records {
         counts
     }
 
-    /// The removal of the cyclic has answered: its record goes. O(n) for the records above it.
+    /// The removal of the cyclic has answered: its record goes. It moves 8 bytes for each record between it and the nearer end.
     pub fn remove(&mut self, place: usize)
         requires { place < length self.old.list }
         ensures { self.new.list ≡ remove self.old.list place }
     {
-        self.list.remove(place);
+        self.spare = self.list.remove(place);
     }
 
     /// The receipt of a cyclic all of whose stays have ended: the counts of all of them.

@@ -1,16 +1,23 @@
-use Rattle.std.proofs.Common.{ℕ, ◌<◌, sym, ◌∙◌, subst, length, get_or}
+use Rattle.std.proofs.Common.{ℕ, IsSome, ◌≡◌, ◌<◌, ◌++◌, ◌∷◌, [], map, sym, ap, ◌∙◌, subst, length, get_or}
+use Rattle.std.specs.Box.{with_value}
+use Rattle.std.proofs.lemmas.List.{map_push}
 use Rattle.cyc_places.specs.declared.record.Record.{Record}
-use Rattle.cyc_places.specs.Places.{RecordsView, HasRisingIds, HaveCounts, HaveAllCounts}
-use Rattle.cyc_places.proofs.Counts.{chosen, rises_pushed, counts_pushed, all_pushed}
+use Rattle.cyc_places.specs.Places.{RecordsView, HasRisingIds, HaveCounts, HaveAllCounts, new_record}
+use Rattle.cyc_places.proofs.Counts.{rises_pushed, counts_pushed, all_pushed}
+use Rattle.cyc_places.proofs.Edits.{value}
 use Rattle.cyc_places.proofs.records.Records.push.Goals as goal
 
 pub invariant_of-self : goal.invariant_of-self
 invariant_of-self c =
-    let items = chosen _ _ _ _ (sym c.is_ok.ensures.value ∙ c.if-prove.false) c.push-pushed.ensures.items in
-    let rs = c.self.inside.list.items in
+    let new = new_record c.args.id c.args.level c.args.place in
+    let rs = map value c.self.inside.list.items in
+    let items : map value c.push_back_reserved.new.self.items ≡ rs ++ new ∷ []
+    = ap (map value) c.push_back_reserved.ensures.items
+    ∙ map_push value c.self.inside.list.items (with_value c.in-Some.kept new) in
     let last = subst (λ (v : RecordsView). (k : ℕ) (d : Record) → k < length v.list → (get_or v.list k d).id < c.args.id)
     (sym c.self.view_is) c.requires.last in (
       subst HasRisingIds (sym items) (rises_pushed rs c.args.id c.args.level c.args.place last c.self.invariant.0),
       subst HaveCounts (sym items) (counts_pushed rs c.args.id c.args.level c.args.place last c.self.invariant.1),
       subst HaveAllCounts (sym items) (all_pushed rs c.args.id c.args.level c.args.place last c.self.invariant.2),
+      λ there. absurd (let h = subst IsSome c.take.ensures.after there in cc),
     )
