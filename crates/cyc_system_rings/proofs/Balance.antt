@@ -1,0 +1,395 @@
+-- What a lead does adds up for each id.
+use Rattle.std.proofs.Common.{◌≡◌, ◌∙◌, ◌==◌, ℕ, ◌+◌, Bool, true, false, cond, inl, inr, Option, Some, None, Result, Ok, Err}
+use Rattle.std.proofs.Common.{List, [], ◌∷◌, get_or, slice_set, refl, sym, ap, subst, arith}
+use Rattle.std.specs.Prelude.{sum_by}
+use Rattle.std.specs.List.{slice_get, FoldsTo}
+use Rattle.std.specs.Option.{option_map_or}
+use Rattle.std.proofs.lemmas.Option.{slice_get_within, slice_get-get_or}
+use Rattle.cyc_types.specs.Firing.{FiringView, FiringCall}
+use Rattle.cyc_types.specs.Runs.{Goes, raised_by, lost_by}
+use Rattle.cyc_types.specs.declared.firing.Sent.{Sent}
+use Rattle.cyc_types.specs.declared.receipt.Receipt.{Receipt}
+use Rattle.cyc_types.specs.declared.level.Level.{Level}
+use Rattle.cyc_types.specs.declared.level.Level.TheVariants.{Low, Lock, High}
+use Rattle.cyc_fire.specs.declared.fire.Fired.{Fired}
+use Rattle.cyc_fire.specs.declared.fire.FireRefused.{FireRefused}
+use Rattle.cyc_timers.specs.Rows.{Cyclic, timers}
+use Rattle.cyc_cpu.specs.Cpu.{CpuView, Running, running, HasNoCyclic}
+use Rattle.cyc_cpu.specs.Calls.{CpuCall, Does as CpuDoes, Fire, AskSettled, no_interrupts}
+use Rattle.cyc_cpu_laws.specs.Accounts.{account_of, made_by, Proceeds, expired_of, lost_of}
+use Rattle.cyc_cpu_laws.proofs.Accounting.{proceeds_one}
+use Rattle.cyc_cpu_laws.proofs.Fires.{no_share, no_cyclic}
+use Rattle.cyc_cpu_laws.proofs.Ways.{passes_few}
+use Rattle.cyc_places.specs.Places.{HasNoRecord}
+use Rattle.cyc_cpus.specs.Cpus.{CpusView, IsCpu}
+use Rattle.cyc_agreement.proofs.Lists.{eq_true, true_eq}
+use Rattle.cyc_agreement.proofs.Spots.{same_some, none_some}
+use Rattle.cyc_agreement.proofs.Recording.{found}
+use Rattle.cyc_workers.specs.Settling.{Asks}
+use Rattle.cyc_cpu_workers.specs.Settled.{AllAsked}
+use Rattle.cyc_system.specs.SystemRemoval.TheVariants.{Done, Kept}
+use Rattle.cyc_system.specs.System.{SystemView, RunningSystem, running_system}
+use Rattle.cyc_system.specs.Laws.{cyclic_in}
+use Rattle.cyc_system.specs.Counts.{all_expired, all_lost}
+use Rattle.cyc_system.specs.Calls.{SystemCall, Changes, Does, Add, AddOmni, Bind, BeginRemove, PollRemove, AskTotals, Reprogram}
+use Rattle.cyc_system.specs.Calls.{ReprogramOn, Juggle, Offline, Online, FireOne, SoftInterrupt}
+use Rattle.cyc_removing.proofs.Receipts.{begun_done, poll_done}
+use Rattle.cyc_system_laws.specs.Gone.{IsOver}
+use Rattle.cyc_system_laws.proofs.Over.{begun_over, polled_over}
+use Rattle.cyc_system_laws.proofs.Stays.{stays_over}
+use Rattle.cyc_system_counts.specs.Sound.{IsSound}
+use Rattle.cyc_system_counts.specs.Keeping.{EndsRemoval}
+use Rattle.cyc_system_counts.proofs.Flow.{on_cpu, on_cpus, sum_set}
+use Rattle.cyc_system_counts.proofs.Found.{stays_found}
+use Rattle.cyc_system_counts.proofs.Counts.{counts_same}
+use Rattle.cyc_system_rings.specs.Leading.{Led, LeadCall, Make, AskAll, FiresOwn, AsksAll, Leads, LeadSteps}
+use Rattle.cyc_system_rings.specs.Rings.{counted_by, receipt_of, receipt_in, first_of}
+use Rattle.cyc_system_rings.proofs.Raising.{sums_same, raised_at, dropped_at, still_here, Same, changes_raise, asked_raise}
+
+abbrev sent : Sent → ℕ
+sent e = e.sent
+
+abbrev lost : Sent → ℕ
+lost e = e.lost
+
+-- a call that has no receipt for the id doesn't end its removal, and one that has one does
+no_end : (id own : ℕ) (r : Receipt) → cond (own == id) (Some r) None ≡ None → own ≡ id → ⊥
+no_end id own r e same = none_some (sym e ∙ ap (λ (b : Bool). cond b (Some r) None) (true_eq own id same))
+
+its_own : (id own : ℕ) (r q : Receipt) → cond (own == id) (Some r) None ≡ Some q → (own ≡ id) × (r ≡ q)
+its_own id own r q e = by (own == id) refl e
+  where
+    by : (b : Bool) → (own == id) ≡ b → cond b (Some r) None ≡ Some q → (own ≡ id) × (r ≡ q)
+    by true is e = (eq_true own id is, same_some e)
+    by false is e = absurd (none_some e)
+
+module _ {C R : Type 0} (called : C → ℕ → Level → C → Type 0) (count : C → ℕ → ℕ) (may_refuse : C → ℕ → Type 0)
+    (step : R → FiringCall → R → Type 0) (view : R → FiringView) (raised dropped : ℕ → R → ℕ)
+    (adds : (e f : R) (way : List FiringCall) → Goes step view e way f → (id : ℕ)
+    → (raised id f ≡ raised id e + raised_by id way) × (dropped id f ≡ dropped id e + lost_by id way)) (id : ℕ) where
+  abbrev up : SystemView R → ℕ
+  up s = sum_by (raised_at step view raised dropped adds id) s.cpus.cpus
+
+  abbrev down : SystemView R → ℕ
+  down s = sum_by (dropped_at step view raised dropped adds id) s.cpus.cpus
+
+  -- from s to t the id has come to these counts
+  pub record Even (s t : Led C R) (counts : Sent) : Type 0 where
+    pub expired : counts.sent + up s.system + counted_by count id s.calls
+        ≡ all_expired id s.system + up t.system + counted_by count id t.calls
+    pub losses : counts.lost + down s.system ≡ all_lost id s.system + down t.system
+
+  abbrev totals : SystemView R → Sent
+  totals t = record { sent = all_expired id t; lost = all_lost id t }
+
+  even_same : (s t : Led C R) → all_expired id t.system ≡ all_expired id s.system → all_lost id t.system ≡ all_lost id s.system
+      → Same step view raised dropped adds id s.system.cpus.cpus t.system.cpus.cpus → t.calls ≡ s.calls
+      → Even s t (totals t.system)
+  even_same s t a b (c, d) e = let f = ap (counted_by count id) e in
+      record { expired = omega (arith, a, c, f); losses = omega (arith, b, d) }
+
+  quietly : (s t : Led C R) (call : SystemCall) → IsSound view s.system → IsSound view t.system
+      → Changes step view s.system call t.system × (t.calls ≡ s.calls) → (EndsRemoval id call → ⊥)
+      → Even s t (totals t.system)
+  quietly s t call a b (d, same) still = even_same s t
+      (counts_same step view sent refl (λ x y. refl) id s.system t.system call a b d still)
+      (counts_same step view lost refl (λ x y. refl) id s.system t.system call a b d still)
+      (changes_raise step view raised dropped adds id s.system t.system call d) same
+
+  -- one CPU gained expirations: raises at its ends, and calls
+  gained : (n : ℕ) (s t : Led C R) (x y : CpuView R) (p q : C) → IsCpu n x s.system.cpus
+      → t.system.cpus.cpus ≡ slice_set s.system.cpus.cpus n y → t.system.records ≡ s.system.records
+      → slice_get s.calls n ≡ Some p → t.calls ≡ slice_set s.calls n q → IsSound view s.system → IsSound view t.system
+      → expired_of id y.cyclics + raised_at step view raised dropped adds id x + count p id
+      ≡ expired_of id x.cyclics + raised_at step view raised dropped adds id y + count q id
+      → lost_of id y.cyclics + dropped_at step view raised dropped adds id x
+      ≡ lost_of id x.cyclics + dropped_at step view raised dropped adds id y → Even s t (totals t.system)
+  gained n s t x y p q here cpus records at calls a b e l =
+      let x0 = stays_found view id (λ t. t.sent.sent) s.system a.lawful in
+      let x1 = stays_found view id (λ t. t.sent.sent) t.system b.lawful in
+      let y0 = stays_found view id (λ t. t.sent.lost) s.system a.lawful in
+      let y1 = stays_found view id (λ t. t.sent.lost) t.system b.lawful in
+      let c = sum_set (on_cpu (λ t. t.sent.sent) id) s.system.cpus.cpus n x y here in
+      let d = sum_set (on_cpu (λ t. t.sent.lost) id) s.system.cpus.cpus n x y here in
+      let c2 = ap (sum_by (on_cpu (λ t. t.sent.sent) id)) cpus in
+      let d2 = ap (sum_by (on_cpu (λ t. t.sent.lost) id)) cpus in
+      let r = ap (λ rs. option_map_or (λ r. sum_by (λ e. e.sent) r.ended) (found id rs) 0) records in
+      let m = ap (λ rs. option_map_or (λ r. sum_by (λ e. e.lost) r.ended) (found id rs) 0) records in
+      let u = sum_set (raised_at step view raised dropped adds id) s.system.cpus.cpus n x y here in
+      let v = sum_set (dropped_at step view raised dropped adds id) s.system.cpus.cpus n x y here in
+      let u2 = ap (sum_by (raised_at step view raised dropped adds id)) cpus in
+      let v2 = ap (sum_by (dropped_at step view raised dropped adds id)) cpus in
+      let h = sum_set (λ (k : C). count k id) s.calls n p q at in let h2 = ap (counted_by count id) calls in
+      record {
+        expired = omega (arith, x0, x1, c, c2, r, u, u2, h, h2, e);
+        losses = omega (arith, y0, y1, d, d2, m, v, v2, l);
+      }
+
+  -- a fire of one CPU
+  one_fire : (s t : Running C R) (now : ℕ) (answer : Result Fired FireRefused)
+      → Proceeds count step view (account_of (Fire now answer) s.cpu.cyclics) s t
+      → (expired_of id t.cpu.cyclics + raised_at step view raised dropped adds id s.cpu + count s.calls id
+      ≡ expired_of id s.cpu.cyclics + raised_at step view raised dropped adds id t.cpu + count t.calls id)
+      × (lost_of id t.cpu.cyclics + dropped_at step view raised dropped adds id s.cpu
+      ≡ lost_of id s.cpu.cyclics + dropped_at step view raised dropped adds id t.cpu)
+  one_fire s t now answer p =
+      let (a, b) = adds s.cpu.lock t.cpu.lock p.lock.way p.lock.goes id in
+      let (c, d) = adds s.cpu.low t.cpu.low p.low.way p.low.goes id in
+      let r = p.lock.raises id in let r2 = p.low.raises id in let l = p.lock.losses id in let l2 = p.low.losses id in
+      let e = p.expired id in let f = p.lost id in let h = p.called id in
+      (omega (arith, a, c, r, r2, e, h), omega (arith, b, d, l, l2, f))
+
+  fires_even : (n now : ℕ) (answer : Result Fired FireRefused) (s t : Led C R) → IsSound view s.system → IsSound view t.system
+      → FiresOwn called count may_refuse step view n now answer s t → Even s t (totals t.system)
+  fires_even n now answer s t a b f = by f.does
+    where
+      by : Does called count may_refuse step view no_interrupts (running_system f.before s.system) (FireOne n now answer)
+          (running_system f.after t.system) → Even s t (totals t.system)
+      by (inl (e, why, is, same)) =
+          let w = ap (λ (x : RunningSystem C R). x.system) same in
+          let c = ap (λ (x : RunningSystem C R). count x.calls id) same in
+          let h = sum_set (λ (k : C). count k id) s.calls n f.before f.after f.here in
+          let h2 = ap (counted_by count id) f.rest in
+          let p = ap (all_expired id) w in let q = ap (all_lost id) w in let u = ap up w in let v = ap down w in
+          record { expired = omega (arith, p, u, c, h, h2); losses = omega (arith, q, v) }
+      by (inr (clear, (runs, records, last))) =
+          let p = proceeds_one called count may_refuse step view (running f.before runs.before) (running f.after runs.after)
+          (Fire now answer) (a.lawful n runs.before runs.here) runs.change in
+          let (e, l) = one_fire (running f.before runs.before) (running f.after runs.after) now answer p in
+          gained n s t runs.before runs.after f.before f.after runs.here (ap (λ (v : CpusView R). v.cpus) runs.rest) records
+          f.here f.rest a b e l
+
+  -- CPUs that were asked have the same cyclics
+  asked_cyclics : (answers : List Bool) (x y : CpuView R) → FoldsTo (Asks step view) x answers y → y.cyclics ≡ x.cyclics
+  asked_cyclics [] x y e = ap (λ (z : CpuView R). z.cyclics) (sym e)
+  asked_cyclics (true ∷ answers) x y (z, (first, lawful), rest) = asked_cyclics answers z y rest ∙ first.0.cyclics
+  asked_cyclics (false ∷ answers) x y (z, (first, lawful), rest) = asked_cyclics answers z y rest ∙ first.0.cyclics
+
+  asks_even : (s t : Led C R) → AsksAll step view s t → Even s t (totals t.system)
+  asks_even s t a = even_same s t
+      (let x = sums_same (λ (cpu : CpuView R). option_map_or (λ (c : Cyclic). c.timer.expired) (cyclic_in id cpu) 0)
+      s.system.cpus.cpus t.system.cpus.cpus a.cpus.long (λ n x y p q. ap
+      (λ cs. option_map_or (λ (c : Cyclic). c.timer.expired) (cyclic_in id (record x { cyclics = cs })) 0) (same n x y p q)) in
+      let r = ap (λ rs. option_map_or (λ r. sum_by (λ e. e.sent) r.ended) (found id rs) 0) a.records in omega (arith, x, r))
+      (let x = sums_same (λ (cpu : CpuView R). option_map_or (λ (c : Cyclic). c.lost) (cyclic_in id cpu) 0)
+      s.system.cpus.cpus t.system.cpus.cpus a.cpus.long (λ n x y p q. ap
+      (λ cs. option_map_or (λ (c : Cyclic). c.lost) (cyclic_in id (record x { cyclics = cs })) 0) (same n x y p q)) in
+      let r = ap (λ rs. option_map_or (λ r. sum_by (λ e. e.lost) r.ended) (found id rs) 0) a.records in omega (arith, x, r))
+      (asked_raise step view raised dropped adds id s.system.cpus.cpus t.system.cpus.cpus a.cpus) a.calls
+    where
+      same : (n : ℕ) (x y : CpuView R) → slice_get s.system.cpus.cpus n ≡ Some x → slice_get t.system.cpus.cpus n ≡ Some y
+          → y.cyclics ≡ x.cyclics
+      same n x y p q = let w = a.cpus.each n x y p q in asked_cyclics w.0 x y w.1
+
+  -- one of a run, that doesn't end the removal of the id
+  step_even : (s t : Led C R) (call : LeadCall) → Leads called count may_refuse step view s call t → IsSound view s.system
+      → IsSound view t.system → receipt_of id call ≡ None → Even s t (totals t.system)
+  step_even s t (Make (Add level when now answer)) d a b none = quietly s t (Add level when now answer) a b d (λ x. x)
+  step_even s t (Make (AddOmni level when skew now answer)) d a b none = quietly s t (AddOmni level when skew now answer) a b d
+      (λ x. x)
+  step_even s t (Make (Bind own cpu answer)) d a b none = quietly s t (Bind own cpu answer) a b d (λ x. x)
+  step_even s t (Make (BeginRemove own (Ok (Done r)))) d a b none = quietly s t (BeginRemove own (Ok (Done r))) a b d
+      (no_end id own r none)
+  step_even s t (Make (BeginRemove own (Ok (Kept kept)))) d a b none = quietly s t (BeginRemove own (Ok (Kept kept))) a b d
+      (λ x. x)
+  step_even s t (Make (BeginRemove own (Err e))) d a b none = quietly s t (BeginRemove own (Err e)) a b d (λ x. x)
+  step_even s t (Make (PollRemove own (Ok (Some r)))) d a b none = quietly s t (PollRemove own (Ok (Some r))) a b d
+      (no_end id own r none)
+  step_even s t (Make (PollRemove own (Ok None))) d a b none = quietly s t (PollRemove own (Ok None)) a b d (λ x. x)
+  step_even s t (Make (PollRemove own (Err e))) d a b none = quietly s t (PollRemove own (Err e)) a b d (λ x. x)
+  step_even s t (Make (AskTotals own answer)) d a b none = quietly s t (AskTotals own answer) a b d (λ x. x)
+  step_even s t (Make (Reprogram own moment answer)) d a b none = quietly s t (Reprogram own moment answer) a b d (λ x. x)
+  step_even s t (Make (ReprogramOn own n moment answer)) d a b none = quietly s t (ReprogramOn own n moment answer) a b d
+      (λ x. x)
+  step_even s t (Make (Juggle n answer)) d a b none = quietly s t (Juggle n answer) a b d (λ x. x)
+  step_even s t (Make (Offline n answer)) d a b none = quietly s t (Offline n answer) a b d (λ x. x)
+  step_even s t (Make (Online n now answer)) d a b none = quietly s t (Online n now answer) a b d (λ x. x)
+  step_even s t (Make (FireOne n now answer)) d a b none = fires_even n now answer s t a b d
+  step_even s t (Make (SoftInterrupt n level budget answer)) d a b none = absurd d.0
+  step_even s t AskAll d a b none = asks_even s t d
+
+  -- ---- an id whose removal has answered
+
+  -- it is still over, and nothing of it was raised or called
+  record StillOver (s t : Led C R) : Type 0 where
+    pub is_over : IsOver id t.system
+    pub same : Same step view raised dropped adds id s.system.cpus.cpus t.system.cpus.cpus
+    pub uncalled : counted_by count id t.calls ≡ counted_by count id s.calls
+
+  abbrev no_calls : ℕ → ℕ → Level → ℕ → Type 0
+  no_calls c j level d = ⊥
+
+  -- a call that reaches no handler, with none
+  over_quiet : (s t : SystemView R) (call : SystemCall)
+      → Does {C = ℕ} no_calls (λ c j. 0) (λ c j. ⊥) step view no_interrupts (running_system 0 s) call (running_system 0 t)
+      → IsOver id s → IsOver id t
+  over_quiet s t call d a = (stays_over no_calls (λ c j. 0) (λ c j. ⊥) step view id (running_system 0 s) (running_system 0 t)
+      (call ∷ []) a (running_system 0 t, d, refl)).0
+
+  over_changed : (s t : Led C R) (call : SystemCall)
+      → Does {C = ℕ} no_calls (λ c j. 0) (λ c j. ⊥) step view no_interrupts (running_system 0 s.system) call
+      (running_system 0 t.system)
+      → Changes step view s.system call t.system → t.calls ≡ s.calls → IsOver id s.system → StillOver s t
+  over_changed s t call quiet d same a = record {
+    is_over = over_quiet s.system t.system call quiet a;
+    same = changes_raise step view raised dropped adds id s.system t.system call d;
+    uncalled = ap (counted_by count id) same;
+  }
+
+  over_fired : (n now : ℕ) (answer : Result Fired FireRefused) (s t : Led C R) → IsSound view s.system
+      → FiresOwn called count may_refuse step view n now answer s t → IsOver id s.system → StillOver s t
+  over_fired n now answer s t a f is_over =
+      let (still, same) = stays_over called count may_refuse step view id (running_system f.before s.system)
+      (running_system f.after t.system) (FireOne n now answer ∷ []) is_over (running_system f.after t.system, f.does, refl) in
+      let h = sum_set (λ (k : C). count k id) s.calls n f.before f.after f.here in
+      let h2 = ap (counted_by count id) f.rest in
+      record { is_over = still; same = by f.does; uncalled = omega (arith, h, h2, same) }
+    where
+      by : Does called count may_refuse step view no_interrupts (running_system f.before s.system) (FireOne n now answer)
+          (running_system f.after t.system) → Same step view raised dropped adds id s.system.cpus.cpus t.system.cpus.cpus
+      by (inl (e, why, is, same)) = let w = ap (λ (x : RunningSystem C R). x.system) same in (ap up w, ap down w)
+      by (inr (clear, (runs, records, last))) =
+          let x = running f.before runs.before in let y = running f.after runs.after in
+          let p = proceeds_one called count may_refuse step view x y (Fire now answer) (a.lawful n runs.before runs.here)
+          runs.change in
+          let none = no_cyclic id runs.before.cyclics (is_over.nowhere n runs.before runs.here) in
+          let made = made_by (Fire now answer) runs.before.cyclics in
+          let z = no_share Lock id (timers runs.before.cyclics) made none in
+          let z2 = no_share Low id (timers runs.before.cyclics) made none in
+          let (b, c) = adds runs.before.lock runs.after.lock p.lock.way p.lock.goes id in
+          let (d, e) = adds runs.before.low runs.after.low p.low.way p.low.goes id in
+          let r = p.lock.raises id in let r2 = p.low.raises id in let l = p.lock.losses id in let l2 = p.low.losses id in
+          let few = passes_few step view _ p.lock_lost _ _ p.lock id in
+          let few2 = passes_few step view _ p.low_lost _ _ p.low id in
+          let u = sum_set (raised_at step view raised dropped adds id) s.system.cpus.cpus n runs.before runs.after runs.here in
+          let v = sum_set (dropped_at step view raised dropped adds id) s.system.cpus.cpus n runs.before runs.after runs.here in
+          let cpus = ap (λ (w : CpusView R). w.cpus) runs.rest in
+          let u2 = ap (sum_by (raised_at step view raised dropped adds id)) cpus in
+          let v2 = ap (sum_by (dropped_at step view raised dropped adds id)) cpus in
+          (omega (arith, b, d, r, r2, z, z2, u, u2), omega (arith, c, e, l, l2, few, few2, z, z2, v, v2))
+
+  over_asked : (s t : Led C R) → AsksAll step view s t → IsOver id s.system → StillOver s t
+  over_asked s t a is_over = record {
+    is_over = record {
+      given = (let g = is_over.given in let l = a.last in omega (arith, g, l));
+      unknown = subst (λ rs. HasNoRecord id rs) (sym a.records) is_over.unknown;
+      nowhere = λ n y q. (let (x, p) = there n y q in let w = a.cpus.each n x y p q in
+          subst (λ cs. HasNoCyclic id cs) (sym (asked_cyclics w.0 x y w.1)) (is_over.nowhere n x p));
+    };
+    same = asked_raise step view raised dropped adds id s.system.cpus.cpus t.system.cpus.cpus a.cpus;
+    uncalled = ap (counted_by count id) a.calls;
+  }
+    where
+      there : (n : ℕ) (y : CpuView R) → slice_get t.system.cpus.cpus n ≡ Some y
+          → (x : CpuView R) × (slice_get s.system.cpus.cpus n ≡ Some x)
+      there n y q = (
+        get_or s.system.cpus.cpus n y,
+        slice_get-get_or s.system.cpus.cpus n y
+            (let low = slice_get_within t.system.cpus.cpus n y q in let e = a.cpus.long in omega (arith, low, e)),
+      )
+
+  step_over : (s t : Led C R) (call : LeadCall) → Leads called count may_refuse step view s call t → IsSound view s.system
+      → IsOver id s.system → StillOver s t
+  step_over s t (Make (Add level when now answer)) (d, e) a o = over_changed s t (Add level when now answer) (d, refl) d e o
+  step_over s t (Make (AddOmni level when skew now answer)) (d, e) a o = over_changed s t
+      (AddOmni level when skew now answer) (d, refl) d e o
+  step_over s t (Make (Bind own cpu answer)) (d, e) a o = over_changed s t (Bind own cpu answer) (d, refl) d e o
+  step_over s t (Make (BeginRemove own answer)) (d, e) a o = over_changed s t (BeginRemove own answer) (d, refl) d e o
+  step_over s t (Make (PollRemove own answer)) (d, e) a o = over_changed s t (PollRemove own answer) (d, refl) d e o
+  step_over s t (Make (AskTotals own answer)) (d, e) a o = over_changed s t (AskTotals own answer) (d, refl) d e o
+  step_over s t (Make (Reprogram own moment answer)) (d, e) a o = over_changed s t (Reprogram own moment answer) (d, refl) d e o
+  step_over s t (Make (ReprogramOn own n moment answer)) (d, e) a o = over_changed s t
+      (ReprogramOn own n moment answer) (d, refl) d e o
+  step_over s t (Make (Juggle n answer)) (d, e) a o = over_changed s t (Juggle n answer) (d, refl) d e o
+  step_over s t (Make (Offline n answer)) (d, e) a o = over_changed s t (Offline n answer) (d, refl) d e o
+  step_over s t (Make (Online n now answer)) (d, e) a o = over_changed s t (Online n now answer) (d, refl) d e o
+  step_over s t (Make (FireOne n now answer)) d a o = over_fired n now answer s t a d o
+  step_over s t (Make (SoftInterrupt n level budget answer)) (d, e) a o = absurd d
+  step_over s t AskAll d a o = over_asked s t d o
+
+  abbrev D : Led C R → LeadCall → Led C R → Type 0
+  D = LeadSteps called count may_refuse step view
+
+  run_over : (s t : Led C R) (way : List LeadCall) → FoldsTo D s way t → IsSound view s.system → IsOver id s.system
+      → Same step view raised dropped adds id s.system.cpus.cpus t.system.cpus.cpus
+      × (counted_by count id t.calls ≡ counted_by count id s.calls)
+  run_over s t [] run a o = (
+    (ap (λ (x : Led C R). up x.system) (sym run), ap (λ (x : Led C R). down x.system) (sym run)),
+    ap (λ (x : Led C R). counted_by count id x.calls) (sym run),
+  )
+  run_over s t (call ∷ way) (u, (d, sound), rest) a o =
+      let k = step_over s u call d a o in let ((p, q), h) = run_over u t way rest sound k.is_over in
+      ((p ∙ k.same.0, q ∙ k.same.1), h ∙ k.uncalled)
+
+  -- ---- a whole run
+
+  abbrev pub counts : List LeadCall → SystemView R → Sent
+  counts way t = option_map_or (λ r. record { sent = r.sent; lost = r.lost }) (receipt_in id way) (totals t)
+
+  -- the removal answers: its receipt has all counts
+  record Ends (s u : Led C R) (r : Receipt) : Type 0 where
+    pub is_over : IsOver id u.system
+    pub same : Same step view raised dropped adds id s.system.cpus.cpus u.system.cpus.cpus
+    pub uncalled : counted_by count id u.calls ≡ counted_by count id s.calls
+    pub expired : r.sent ≡ all_expired id s.system
+    pub losses : r.lost ≡ all_lost id s.system
+
+  begun_ends : (s u : Led C R) (r : Receipt) → Changes step view s.system (BeginRemove id (Ok (Done r))) u.system
+      → u.calls ≡ s.calls → IsSound view s.system → Ends s u r
+  begun_ends s u r d calls a = record {
+    is_over = begun_over step view id r s.system u.system a.agrees a.fit.rising d;
+    same = changes_raise step view raised dropped adds id s.system u.system (BeginRemove id (Ok (Done r))) d;
+    uncalled = ap (counted_by count id) calls;
+    expired = begun_done step view sent id (λ a b. refl) r s.system u.system a.fit a.lawful d (λ q sent lost. sent);
+    losses = begun_done step view lost id (λ a b. refl) r s.system u.system a.fit a.lawful d (λ q sent lost. lost);
+  }
+
+  polled_ends : (s u : Led C R) (r : Receipt) → Changes step view s.system (PollRemove id (Ok (Some r))) u.system
+      → u.calls ≡ s.calls → IsSound view s.system → Ends s u r
+  polled_ends s u r d calls a = record {
+    is_over = polled_over step view id r s.system u.system a.agrees a.fit.rising d;
+    same = changes_raise step view raised dropped adds id s.system u.system (PollRemove id (Ok (Some r))) d;
+    uncalled = ap (counted_by count id) calls;
+    expired = poll_done step view sent id (λ a b. refl) r s.system u.system a.fit a.lawful d (λ q sent lost. sent);
+    losses = poll_done step view lost id (λ a b. refl) r s.system u.system a.fit a.lawful d (λ q sent lost. lost);
+  }
+
+  ends : (s u : Led C R) (call : LeadCall) (r : Receipt) → Leads called count may_refuse step view s call u
+      → IsSound view s.system → receipt_of id call ≡ Some r → Ends s u r
+  ends s u (Make (BeginRemove own (Ok (Done q)))) r (d, calls) a e =
+      let (named, is) = its_own id own q r e in subst (Ends s u) is (begun_ends s u q
+      (subst (λ (j : ℕ). Changes step view s.system (BeginRemove j (Ok (Done q))) u.system) named d) calls a)
+  ends s u (Make (BeginRemove own (Ok (Kept kept)))) r d a e = absurd (none_some e)
+  ends s u (Make (BeginRemove own (Err why))) r d a e = absurd (none_some e)
+  ends s u (Make (PollRemove own (Ok (Some q)))) r (d, calls) a e =
+      let (named, is) = its_own id own q r e in subst (Ends s u) is (polled_ends s u q
+      (subst (λ (j : ℕ). Changes step view s.system (PollRemove j (Ok (Some q))) u.system) named d) calls a)
+  ends s u (Make (PollRemove own (Ok None))) r d a e = absurd (none_some e)
+  ends s u (Make (PollRemove own (Err why))) r d a e = absurd (none_some e)
+  ends s u (Make (Add level when now answer)) r d a e = absurd (none_some e)
+  ends s u (Make (AddOmni level when skew now answer)) r d a e = absurd (none_some e)
+  ends s u (Make (Bind own cpu answer)) r d a e = absurd (none_some e)
+  ends s u (Make (AskTotals own answer)) r d a e = absurd (none_some e)
+  ends s u (Make (Reprogram own moment answer)) r d a e = absurd (none_some e)
+  ends s u (Make (ReprogramOn own n moment answer)) r d a e = absurd (none_some e)
+  ends s u (Make (Juggle n answer)) r d a e = absurd (none_some e)
+  ends s u (Make (Offline n answer)) r d a e = absurd (none_some e)
+  ends s u (Make (Online n now answer)) r d a e = absurd (none_some e)
+  ends s u (Make (FireOne n now answer)) r d a e = absurd (none_some e)
+  ends s u (Make (SoftInterrupt n level budget answer)) r d a e = absurd (none_some e)
+  ends s u AskAll r d a e = absurd (none_some e)
+
+  pub run_even : (s t : Led C R) (way : List LeadCall) → FoldsTo D s way t → IsSound view s.system
+      → Even s t (counts way t.system)
+  run_even s t [] run a = subst (λ (x : Led C R). Even s x (totals x.system)) run
+      (even_same s s refl refl (refl, refl) refl)
+  run_even s t (call ∷ way) (u, (d, sound), rest) a = by (receipt_of id call) refl (run_even u t way rest sound)
+    where
+      by : (o : Option Receipt) → receipt_of id call ≡ o → Even u t (counts way t.system) → Even s t (option_map_or
+          (λ r. record { sent = r.sent; lost = r.lost }) (first_of o (receipt_in id way)) (totals t.system))
+      by None e y = let x = step_even s u call d a sound e in
+          let p = x.expired in let q = y.expired in let l = x.losses in let m = y.losses in
+          record { expired = omega (arith, p, q); losses = omega (arith, l, m) }
+      by (Some r) e y = let x = ends s u call r d a e in let ((p, q), h) = run_over u t way rest sound x.is_over in
+          let (b, c) = x.same in let k = x.uncalled in let m = x.expired in let n = x.losses in
+          record { expired = omega (arith, p, h, b, k, m); losses = omega (arith, q, c, n) }

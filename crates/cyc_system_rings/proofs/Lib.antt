@@ -1,0 +1,3 @@
+pub mod Raising
+pub mod Balance
+pub mod Closing

@@ -1,0 +1,7 @@
+//! Laws of a system in threads whose levels are rings: what its firing side did of each id, on all CPUs together, and what the
+//! rings made of that. The functions here do nothing when they run. Their clauses are the laws, so that they are proved.
+#![tactic(auto)]
+
+mod conserving;
+
+pub use conserving::conserved_law;
