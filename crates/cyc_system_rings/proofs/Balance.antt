@@ -1,6 +1,6 @@
 -- What a lead does adds up for each id.
-use Rattle.std.proofs.Common.{◌≡◌, ◌∙◌, ◌==◌, ℕ, ◌+◌, Bool, true, false, cond, inl, inr, Option, Some, None, Result, Ok, Err}
-use Rattle.std.proofs.Common.{List, [], ◌∷◌, get_or, slice_set, refl, sym, ap, subst, arith}
+use Rattle.std.proofs.Common.{◌≡◌, ◌∙◌, ◌==◌, ℕ, zero, suc, ◌+◌, ◌<◌, length, Bool, true, false, cond, inl, inr, Option, Some}
+use Rattle.std.proofs.Common.{None, Result, Ok, Err, List, [], ◌∷◌, get_or, slice_set, refl, sym, ap, subst, arith}
 use Rattle.std.specs.Prelude.{sum_by}
 use Rattle.std.specs.List.{slice_get, FoldsTo}
 use Rattle.std.specs.Option.{option_map_or}
@@ -15,10 +15,11 @@ use Rattle.cyc_fire.specs.declared.fire.Fired.{Fired}
 use Rattle.cyc_fire.specs.declared.fire.FireRefused.{FireRefused}
 use Rattle.cyc_timers.specs.Rows.{Cyclic, timers}
 use Rattle.cyc_cpu.specs.Cpu.{CpuView, Running, running, HasNoCyclic}
+use Rattle.cyc_cpu.specs.Law.{IsLawful}
 use Rattle.cyc_cpu.specs.Calls.{CpuCall, Does as CpuDoes, Fire, AskSettled, no_interrupts}
 use Rattle.cyc_cpu_laws.specs.Accounts.{account_of, made_by, Proceeds, expired_of, lost_of}
 use Rattle.cyc_cpu_laws.proofs.Accounting.{proceeds_one}
-use Rattle.cyc_cpu_laws.proofs.Fires.{no_share, no_cyclic}
+use Rattle.cyc_cpu_laws.proofs.Fires.{no_share, no_cyclic, fired_away}
 use Rattle.cyc_cpu_laws.proofs.Ways.{passes_few}
 use Rattle.cyc_places.specs.Places.{HasNoRecord}
 use Rattle.cyc_cpus.specs.Cpus.{CpusView, IsCpu}
@@ -33,6 +34,7 @@ use Rattle.cyc_system.specs.Laws.{cyclic_in}
 use Rattle.cyc_system.specs.Counts.{all_expired, all_lost}
 use Rattle.cyc_system.specs.Calls.{SystemCall, Changes, Does, Add, AddOmni, Bind, BeginRemove, PollRemove, AskTotals, Reprogram}
 use Rattle.cyc_system.specs.Calls.{ReprogramOn, Juggle, Offline, Online, FireOne, SoftInterrupt}
+use Rattle.cyc_removing.proofs.Sums.{sum_none}
 use Rattle.cyc_removing.proofs.Receipts.{begun_done, poll_done}
 use Rattle.cyc_system_laws.specs.Gone.{IsOver}
 use Rattle.cyc_system_laws.proofs.Over.{begun_over, polled_over}
@@ -42,9 +44,15 @@ use Rattle.cyc_system_counts.specs.Keeping.{EndsRemoval}
 use Rattle.cyc_system_counts.proofs.Flow.{on_cpu, on_cpus, sum_set}
 use Rattle.cyc_system_counts.proofs.Found.{stays_found}
 use Rattle.cyc_system_counts.proofs.Counts.{counts_same}
-use Rattle.cyc_system_rings.specs.Leading.{Led, LeadCall, Make, AskAll, FiresOwn, AsksAll, Leads, LeadSteps}
+use Rattle.cyc_cpu_workers.specs.declared.settling.Lead.{Lead}
+use Rattle.cyc_system_workers.specs.declared.side.SystemSide.{SystemSide}
+use Rattle.cyc_system_workers.specs.declared.advancing.Advanced.{Advanced}
+use Rattle.cyc_system_workers.specs.Advancing.{AllFire, FiresIf}
+use Rattle.cyc_system_workers.specs.Settling.{OnlyAsked}
+use Rattle.cyc_system_rings.specs.Leading.{LeadCall, Make, FireAll, AskAll, Leads, LeadSteps}
 use Rattle.cyc_system_rings.specs.Rings.{counted_by, receipt_of, receipt_in, first_of}
-use Rattle.cyc_system_rings.proofs.Raising.{sums_same, raised_at, dropped_at, still_here, Same, changes_raise, asked_raise}
+use Rattle.cyc_system_rings.proofs.Raising.{sums_same, sums_even, raised_at, dropped_at, Same, changes_raise, changes_long}
+use Rattle.cyc_system_rings.proofs.Raising.{asked_raise}
 
 abbrev sent : Sent → ℕ
 sent e = e.sent
@@ -74,56 +82,29 @@ module _ {C R : Type 0} (called : C → ℕ → Level → C → Type 0) (count :
   down s = sum_by (dropped_at step view raised dropped adds id) s.cpus.cpus
 
   -- from s to t the id has come to these counts
-  pub record Even (s t : Led C R) (counts : Sent) : Type 0 where
-    pub expired : counts.sent + up s.system + counted_by count id s.calls
-        ≡ all_expired id s.system + up t.system + counted_by count id t.calls
+  pub record Even (s t : SystemSide R C) (counts : Sent) : Type 0 where
+    pub expired : counts.sent + up s.system + counted_by count id s.leads.items
+        ≡ all_expired id s.system + up t.system + counted_by count id t.leads.items
     pub losses : counts.lost + down s.system ≡ all_lost id s.system + down t.system
 
   abbrev totals : SystemView R → Sent
   totals t = record { sent = all_expired id t; lost = all_lost id t }
 
-  even_same : (s t : Led C R) → all_expired id t.system ≡ all_expired id s.system → all_lost id t.system ≡ all_lost id s.system
-      → Same step view raised dropped adds id s.system.cpus.cpus t.system.cpus.cpus → t.calls ≡ s.calls
+  even_same : (s t : SystemSide R C) → all_expired id t.system ≡ all_expired id s.system
+      → all_lost id t.system ≡ all_lost id s.system
+      → Same step view raised dropped adds id s.system.cpus.cpus t.system.cpus.cpus → t.leads ≡ s.leads
       → Even s t (totals t.system)
-  even_same s t a b (c, d) e = let f = ap (counted_by count id) e in
+  even_same s t a b (c, d) e = let f : counted_by count id t.leads.items ≡ counted_by count id s.leads.items =
+      λ i. counted_by count id (e i).items in
       record { expired = omega (arith, a, c, f); losses = omega (arith, b, d) }
 
-  quietly : (s t : Led C R) (call : SystemCall) → IsSound view s.system → IsSound view t.system
-      → Changes step view s.system call t.system × (t.calls ≡ s.calls) → (EndsRemoval id call → ⊥)
+  quietly : (s t : SystemSide R C) (call : SystemCall) → IsSound view s.system → IsSound view t.system
+      → Changes step view s.system call t.system × (t.leads ≡ s.leads) → (EndsRemoval id call → ⊥)
       → Even s t (totals t.system)
   quietly s t call a b (d, same) still = even_same s t
       (counts_same step view sent refl (λ x y. refl) id s.system t.system call a b d still)
       (counts_same step view lost refl (λ x y. refl) id s.system t.system call a b d still)
       (changes_raise step view raised dropped adds id s.system t.system call d) same
-
-  -- one CPU gained expirations: raises at its ends, and calls
-  gained : (n : ℕ) (s t : Led C R) (x y : CpuView R) (p q : C) → IsCpu n x s.system.cpus
-      → t.system.cpus.cpus ≡ slice_set s.system.cpus.cpus n y → t.system.records ≡ s.system.records
-      → slice_get s.calls n ≡ Some p → t.calls ≡ slice_set s.calls n q → IsSound view s.system → IsSound view t.system
-      → expired_of id y.cyclics + raised_at step view raised dropped adds id x + count p id
-      ≡ expired_of id x.cyclics + raised_at step view raised dropped adds id y + count q id
-      → lost_of id y.cyclics + dropped_at step view raised dropped adds id x
-      ≡ lost_of id x.cyclics + dropped_at step view raised dropped adds id y → Even s t (totals t.system)
-  gained n s t x y p q here cpus records at calls a b e l =
-      let x0 = stays_found view id (λ t. t.sent.sent) s.system a.lawful in
-      let x1 = stays_found view id (λ t. t.sent.sent) t.system b.lawful in
-      let y0 = stays_found view id (λ t. t.sent.lost) s.system a.lawful in
-      let y1 = stays_found view id (λ t. t.sent.lost) t.system b.lawful in
-      let c = sum_set (on_cpu (λ t. t.sent.sent) id) s.system.cpus.cpus n x y here in
-      let d = sum_set (on_cpu (λ t. t.sent.lost) id) s.system.cpus.cpus n x y here in
-      let c2 = ap (sum_by (on_cpu (λ t. t.sent.sent) id)) cpus in
-      let d2 = ap (sum_by (on_cpu (λ t. t.sent.lost) id)) cpus in
-      let r = ap (λ rs. option_map_or (λ r. sum_by (λ e. e.sent) r.ended) (found id rs) 0) records in
-      let m = ap (λ rs. option_map_or (λ r. sum_by (λ e. e.lost) r.ended) (found id rs) 0) records in
-      let u = sum_set (raised_at step view raised dropped adds id) s.system.cpus.cpus n x y here in
-      let v = sum_set (dropped_at step view raised dropped adds id) s.system.cpus.cpus n x y here in
-      let u2 = ap (sum_by (raised_at step view raised dropped adds id)) cpus in
-      let v2 = ap (sum_by (dropped_at step view raised dropped adds id)) cpus in
-      let h = sum_set (λ (k : C). count k id) s.calls n p q at in let h2 = ap (counted_by count id) calls in
-      record {
-        expired = omega (arith, x0, x1, c, c2, r, u, u2, h, h2, e);
-        losses = omega (arith, y0, y1, d, d2, m, v, v2, l);
-      }
 
   -- a fire of one CPU
   one_fire : (s t : Running C R) (now : ℕ) (answer : Result Fired FireRefused)
@@ -139,25 +120,65 @@ module _ {C R : Type 0} (called : C → ℕ → Level → C → Type 0) (count :
       let e = p.expired id in let f = p.lost id in let h = p.called id in
       (omega (arith, a, c, r, r2, e, h), omega (arith, b, d, l, l2, f))
 
-  fires_even : (n now : ℕ) (answer : Result Fired FireRefused) (s t : Led C R) → IsSound view s.system → IsSound view t.system
-      → FiresOwn called count may_refuse step view n now answer s t → Even s t (totals t.system)
-  fires_even n now answer s t a b f = by f.does
+  -- a CPU in an advance
+  if_fired : (up : Bool) (now : ℕ) (s t : Running C R) (answer : Option (Result Fired FireRefused)) → IsLawful view s.cpu
+      → FiresIf called count may_refuse step view up now s answer t
+      → (expired_of id t.cpu.cyclics + raised_at step view raised dropped adds id s.cpu + count s.calls id
+      ≡ expired_of id s.cpu.cyclics + raised_at step view raised dropped adds id t.cpu + count t.calls id)
+      × (lost_of id t.cpu.cyclics + dropped_at step view raised dropped adds id s.cpu + 0
+      ≡ lost_of id s.cpu.cyclics + dropped_at step view raised dropped adds id t.cpu + 0)
+  if_fired true now s t (Some answer) law d =
+      let (a, b) = one_fire s t now answer (proceeds_one called count may_refuse step view s t (Fire now answer) law d) in
+      (a, omega (arith, b))
+  if_fired true now s t None law d = absurd d
+  if_fired false now s t (Some answer) law d = absurd d
+  if_fired false now s t None law e =
+      let x = ap (λ (r : Running C R). expired_of id r.cpu.cyclics) e in
+      let y = ap (λ (r : Running C R). raised_at step view raised dropped adds id r.cpu) e in
+      let z = ap (λ (r : Running C R). count r.calls id) e in
+      let p = ap (λ (r : Running C R). lost_of id r.cpu.cyclics) e in
+      let q = ap (λ (r : Running C R). dropped_at step view raised dropped adds id r.cpu) e in
+      (omega (arith, x, y, z), omega (arith, p, q))
+
+  -- something stands at each place below the length
+  stands : {A : Type 0} (xs : List A) (n : ℕ) → n < length xs → (x : A) × (slice_get xs n ≡ Some x)
+  stands [] n low = absurd (omega (arith, low))
+  stands (x ∷ xs) zero low = (x, refl)
+  stands (x ∷ xs) (suc n) low = stands xs n (omega (arith, low))
+
+  fires_even : (now : ℕ) (s : SystemSide R C) (b : Advanced R C) → IsSound view s.system → IsSound view b.side.system
+      → length s.leads.items ≡ length s.system.cpus.cpus → AllFire called count may_refuse step view now s b
+      → Even s b.side (totals b.side.system)
+  fires_even now s b sound after ready f =
+      let x0 = stays_found view id (λ t. t.sent.sent) s.system sound.lawful in
+      let x1 = stays_found view id (λ t. t.sent.sent) b.side.system after.lawful in
+      let y0 = stays_found view id (λ t. t.sent.lost) s.system sound.lawful in
+      let y1 = stays_found view id (λ t. t.sent.lost) b.side.system after.lawful in
+      let r = ap (λ rs. option_map_or (λ r. sum_by (λ e. e.sent) r.ended) (found id rs) 0) f.records in
+      let m = ap (λ rs. option_map_or (λ r. sum_by (λ e. e.lost) r.ended) (found id rs) 0) f.records in
+      let e = sums_even (on_cpu (λ t. t.sent.sent) id) (raised_at step view raised dropped adds id)
+      (λ (l : Lead C). count l.calls id) s.system.cpus.cpus b.side.system.cpus.cpus s.leads.items b.side.leads.items f.long
+      ready (f.long_leads ∙ ready) (λ n x y l m p q u v. (each n x y l m p q u v).0) in
+      let l = sums_even (on_cpu (λ t. t.sent.lost) id) (dropped_at step view raised dropped adds id)
+      (λ (l : Lead C). 0) s.system.cpus.cpus b.side.system.cpus.cpus s.leads.items b.side.leads.items f.long
+      ready (f.long_leads ∙ ready) (λ n x y l m p q u v. (each n x y l m p q u v).1) in
+      let z = sum_none (λ (l : Lead C). 0) s.leads.items (λ n x at. refl) in
+      let z2 = sum_none (λ (l : Lead C). 0) b.side.leads.items (λ n x at. refl) in
+      record { expired = omega (arith, x0, x1, r, e); losses = omega (arith, y0, y1, m, l, z, z2) }
     where
-      by : Does called count may_refuse step view no_interrupts (running_system f.before s.system) (FireOne n now answer)
-          (running_system f.after t.system) → Even s t (totals t.system)
-      by (inl (e, why, is, same)) =
-          let w = ap (λ (x : RunningSystem C R). x.system) same in
-          let c = ap (λ (x : RunningSystem C R). count x.calls id) same in
-          let h = sum_set (λ (k : C). count k id) s.calls n f.before f.after f.here in
-          let h2 = ap (counted_by count id) f.rest in
-          let p = ap (all_expired id) w in let q = ap (all_lost id) w in let u = ap up w in let v = ap down w in
-          record { expired = omega (arith, p, u, c, h, h2); losses = omega (arith, q, v) }
-      by (inr (clear, (runs, records, last))) =
-          let p = proceeds_one called count may_refuse step view (running f.before runs.before) (running f.after runs.after)
-          (Fire now answer) (a.lawful n runs.before runs.here) runs.change in
-          let (e, l) = one_fire (running f.before runs.before) (running f.after runs.after) now answer p in
-          gained n s t runs.before runs.after f.before f.after runs.here (ap (λ (v : CpusView R). v.cpus) runs.rest) records
-          f.here f.rest a b e l
+      each : (n : ℕ) (x y : CpuView R) (l m : Lead C) → slice_get s.system.cpus.cpus n ≡ Some x
+          → slice_get b.side.system.cpus.cpus n ≡ Some y → slice_get s.leads.items n ≡ Some l
+          → slice_get b.side.leads.items n ≡ Some m
+          → (expired_of id y.cyclics + raised_at step view raised dropped adds id x + count l.calls id
+          ≡ expired_of id x.cyclics + raised_at step view raised dropped adds id y + count m.calls id)
+          × (lost_of id y.cyclics + dropped_at step view raised dropped adds id x + 0
+          ≡ lost_of id x.cyclics + dropped_at step view raised dropped adds id y + 0)
+      each n x y l m p q u v =
+          let low = slice_get_within s.system.cpus.cpus n x p in let o = sound.agrees.long in let w = f.long_answers in
+          let (up, at) = stands s.system.cpus.online n (omega (arith, low, o)) in
+          let (answer, told) = stands b.answers.items n (omega (arith, low, w)) in
+          if_fired up now (running l.calls x) (running m.calls y) answer (sound.lawful n x p)
+          (f.each n up x y l m answer at p q u v told)
 
   -- CPUs that were asked have the same cyclics
   asked_cyclics : (answers : List Bool) (x y : CpuView R) → FoldsTo (Asks step view) x answers y → y.cyclics ≡ x.cyclics
@@ -165,7 +186,7 @@ module _ {C R : Type 0} (called : C → ℕ → Level → C → Type 0) (count :
   asked_cyclics (true ∷ answers) x y (z, (first, lawful), rest) = asked_cyclics answers z y rest ∙ first.0.cyclics
   asked_cyclics (false ∷ answers) x y (z, (first, lawful), rest) = asked_cyclics answers z y rest ∙ first.0.cyclics
 
-  asks_even : (s t : Led C R) → AsksAll step view s t → Even s t (totals t.system)
+  asks_even : (s t : SystemSide R C) → OnlyAsked step view s t → Even s t (totals t.system)
   asks_even s t a = even_same s t
       (let x = sums_same (λ (cpu : CpuView R). option_map_or (λ (c : Cyclic). c.timer.expired) (cyclic_in id cpu) 0)
       s.system.cpus.cpus t.system.cpus.cpus a.cpus.long (λ n x y p q. ap
@@ -175,46 +196,58 @@ module _ {C R : Type 0} (called : C → ℕ → Level → C → Type 0) (count :
       s.system.cpus.cpus t.system.cpus.cpus a.cpus.long (λ n x y p q. ap
       (λ cs. option_map_or (λ (c : Cyclic). c.lost) (cyclic_in id (record x { cyclics = cs })) 0) (same n x y p q)) in
       let r = ap (λ rs. option_map_or (λ r. sum_by (λ e. e.lost) r.ended) (found id rs) 0) a.records in omega (arith, x, r))
-      (asked_raise step view raised dropped adds id s.system.cpus.cpus t.system.cpus.cpus a.cpus) a.calls
+      (asked_raise step view raised dropped adds id s.system.cpus.cpus t.system.cpus.cpus a.cpus) a.leads
     where
       same : (n : ℕ) (x y : CpuView R) → slice_get s.system.cpus.cpus n ≡ Some x → slice_get t.system.cpus.cpus n ≡ Some y
           → y.cyclics ≡ x.cyclics
       same n x y p q = let w = a.cpus.each n x y p q in asked_cyclics w.0 x y w.1
 
   -- one of a run, that doesn't end the removal of the id
-  step_even : (s t : Led C R) (call : LeadCall) → Leads called count may_refuse step view s call t → IsSound view s.system
-      → IsSound view t.system → receipt_of id call ≡ None → Even s t (totals t.system)
-  step_even s t (Make (Add level when now answer)) d a b none = quietly s t (Add level when now answer) a b d (λ x. x)
-  step_even s t (Make (AddOmni level when skew now answer)) d a b none = quietly s t (AddOmni level when skew now answer) a b d
+  step_even : (s t : SystemSide R C) (call : LeadCall) → Leads called count may_refuse step view s call t → IsSound view s.system
+      → IsSound view t.system → length s.leads.items ≡ length s.system.cpus.cpus → receipt_of id call ≡ None
+      → Even s t (totals t.system)
+  step_even s t (Make (Add level when now answer)) d a b ready none = quietly s t (Add level when now answer) a b d (λ x. x)
+  step_even s t (Make (AddOmni level when skew now answer)) d a b ready none =
+      quietly s t (AddOmni level when skew now answer) a b d
       (λ x. x)
-  step_even s t (Make (Bind own cpu answer)) d a b none = quietly s t (Bind own cpu answer) a b d (λ x. x)
-  step_even s t (Make (BeginRemove own (Ok (Done r)))) d a b none = quietly s t (BeginRemove own (Ok (Done r))) a b d
+  step_even s t (Make (Bind own cpu answer)) d a b ready none = quietly s t (Bind own cpu answer) a b d (λ x. x)
+  step_even s t (Make (BeginRemove own (Ok (Done r)))) d a b ready none = quietly s t (BeginRemove own (Ok (Done r))) a b d
       (no_end id own r none)
-  step_even s t (Make (BeginRemove own (Ok (Kept kept)))) d a b none = quietly s t (BeginRemove own (Ok (Kept kept))) a b d
+  step_even s t (Make (BeginRemove own (Ok (Kept kept)))) d a b ready none = quietly s t (BeginRemove own (Ok (Kept kept))) a b d
       (λ x. x)
-  step_even s t (Make (BeginRemove own (Err e))) d a b none = quietly s t (BeginRemove own (Err e)) a b d (λ x. x)
-  step_even s t (Make (PollRemove own (Ok (Some r)))) d a b none = quietly s t (PollRemove own (Ok (Some r))) a b d
+  step_even s t (Make (BeginRemove own (Err e))) d a b ready none = quietly s t (BeginRemove own (Err e)) a b d (λ x. x)
+  step_even s t (Make (PollRemove own (Ok (Some r)))) d a b ready none = quietly s t (PollRemove own (Ok (Some r))) a b d
       (no_end id own r none)
-  step_even s t (Make (PollRemove own (Ok None))) d a b none = quietly s t (PollRemove own (Ok None)) a b d (λ x. x)
-  step_even s t (Make (PollRemove own (Err e))) d a b none = quietly s t (PollRemove own (Err e)) a b d (λ x. x)
-  step_even s t (Make (AskTotals own answer)) d a b none = quietly s t (AskTotals own answer) a b d (λ x. x)
-  step_even s t (Make (Reprogram own moment answer)) d a b none = quietly s t (Reprogram own moment answer) a b d (λ x. x)
-  step_even s t (Make (ReprogramOn own n moment answer)) d a b none = quietly s t (ReprogramOn own n moment answer) a b d
+  step_even s t (Make (PollRemove own (Ok None))) d a b ready none = quietly s t (PollRemove own (Ok None)) a b d (λ x. x)
+  step_even s t (Make (PollRemove own (Err e))) d a b ready none = quietly s t (PollRemove own (Err e)) a b d (λ x. x)
+  step_even s t (Make (AskTotals own answer)) d a b ready none = quietly s t (AskTotals own answer) a b d (λ x. x)
+  step_even s t (Make (Reprogram own moment answer)) d a b ready none = quietly s t (Reprogram own moment answer) a b d (λ x. x)
+  step_even s t (Make (ReprogramOn own n moment answer)) d a b ready none = quietly s t (ReprogramOn own n moment answer) a b d
       (λ x. x)
-  step_even s t (Make (Juggle n answer)) d a b none = quietly s t (Juggle n answer) a b d (λ x. x)
-  step_even s t (Make (Offline n answer)) d a b none = quietly s t (Offline n answer) a b d (λ x. x)
-  step_even s t (Make (Online n now answer)) d a b none = quietly s t (Online n now answer) a b d (λ x. x)
-  step_even s t (Make (FireOne n now answer)) d a b none = fires_even n now answer s t a b d
-  step_even s t (Make (SoftInterrupt n level budget answer)) d a b none = absurd d.0
-  step_even s t AskAll d a b none = asks_even s t d
+  step_even s t (Make (Juggle n answer)) d a b ready none = quietly s t (Juggle n answer) a b d (λ x. x)
+  step_even s t (Make (Offline n answer)) d a b ready none = quietly s t (Offline n answer) a b d (λ x. x)
+  step_even s t (Make (Online n now answer)) d a b ready none = quietly s t (Online n now answer) a b d (λ x. x)
+  step_even s t (Make (FireOne n now answer)) d a b ready none = absurd d.0
+  step_even s t (Make (SoftInterrupt n level budget answer)) d a b ready none = absurd d.0
+  step_even s t (FireAll now) (after, fires, same) a b ready none =
+      subst (λ (x : SystemSide R C). Even s x (totals x.system)) (sym same)
+      (fires_even now s after a (subst (λ (x : SystemSide R C). IsSound view x.system) same b) ready fires)
+  step_even s t AskAll d a b ready none = asks_even s t d
 
   -- ---- an id whose removal has answered
 
   -- it is still over, and nothing of it was raised or called
-  record StillOver (s t : Led C R) : Type 0 where
+  record StillOver (s t : SystemSide R C) : Type 0 where
     pub is_over : IsOver id t.system
     pub same : Same step view raised dropped adds id s.system.cpus.cpus t.system.cpus.cpus
-    pub uncalled : counted_by count id t.calls ≡ counted_by count id s.calls
+    pub uncalled : counted_by count id t.leads.items ≡ counted_by count id s.leads.items
+
+  -- a CPU has no cyclic of the id, and nothing of it was raised or called
+  record NoneFired (s t : Running C R) : Type 0 where
+    pub none : HasNoCyclic id t.cpu.cyclics
+    pub raised_same : raised_at step view raised dropped adds id t.cpu ≡ raised_at step view raised dropped adds id s.cpu
+    pub dropped_same : dropped_at step view raised dropped adds id t.cpu ≡ dropped_at step view raised dropped adds id s.cpu
+    pub uncalled : count t.calls id ≡ count s.calls id
 
   abbrev no_calls : ℕ → ℕ → Level → ℕ → Type 0
   no_calls c j level d = ⊥
@@ -226,49 +259,89 @@ module _ {C R : Type 0} (called : C → ℕ → Level → C → Type 0) (count :
   over_quiet s t call d a = (stays_over no_calls (λ c j. 0) (λ c j. ⊥) step view id (running_system 0 s) (running_system 0 t)
       (call ∷ []) a (running_system 0 t, d, refl)).0
 
-  over_changed : (s t : Led C R) (call : SystemCall)
+  over_changed : (s t : SystemSide R C) (call : SystemCall)
       → Does {C = ℕ} no_calls (λ c j. 0) (λ c j. ⊥) step view no_interrupts (running_system 0 s.system) call
       (running_system 0 t.system)
-      → Changes step view s.system call t.system → t.calls ≡ s.calls → IsOver id s.system → StillOver s t
+      → Changes step view s.system call t.system → t.leads ≡ s.leads → IsOver id s.system → StillOver s t
   over_changed s t call quiet d same a = record {
     is_over = over_quiet s.system t.system call quiet a;
     same = changes_raise step view raised dropped adds id s.system t.system call d;
-    uncalled = ap (counted_by count id) same;
+    uncalled = λ i. counted_by count id (same i).items;
   }
 
-  over_fired : (n now : ℕ) (answer : Result Fired FireRefused) (s t : Led C R) → IsSound view s.system
-      → FiresOwn called count may_refuse step view n now answer s t → IsOver id s.system → StillOver s t
-  over_fired n now answer s t a f is_over =
-      let (still, same) = stays_over called count may_refuse step view id (running_system f.before s.system)
-      (running_system f.after t.system) (FireOne n now answer ∷ []) is_over (running_system f.after t.system, f.does, refl) in
-      let h = sum_set (λ (k : C). count k id) s.calls n f.before f.after f.here in
-      let h2 = ap (counted_by count id) f.rest in
-      record { is_over = still; same = by f.does; uncalled = omega (arith, h, h2, same) }
+  -- a CPU without the id, in an advance
+  none_fired : (up : Bool) (now : ℕ) (s t : Running C R) (answer : Option (Result Fired FireRefused)) → IsLawful view s.cpu
+      → FiresIf called count may_refuse step view up now s answer t → HasNoCyclic id s.cpu.cyclics → NoneFired s t
+  none_fired true now s t (Some answer) law d none =
+      let p = proceeds_one called count may_refuse step view s t (Fire now answer) law d in
+      let gone = no_cyclic id s.cpu.cyclics none in let made = made_by (Fire now answer) s.cpu.cyclics in
+      let z = no_share Lock id (timers s.cpu.cyclics) made gone in
+      let z2 = no_share Low id (timers s.cpu.cyclics) made gone in
+      let z3 = no_share High id (timers s.cpu.cyclics) made gone in
+      let (b, c) = adds s.cpu.lock t.cpu.lock p.lock.way p.lock.goes id in
+      let (g, e) = adds s.cpu.low t.cpu.low p.low.way p.low.goes id in
+      let r = p.lock.raises id in let r2 = p.low.raises id in let l = p.lock.losses id in let l2 = p.low.losses id in
+      let few = passes_few step view _ p.lock_lost _ _ p.lock id in
+      let few2 = passes_few step view _ p.low_lost _ _ p.low id in let h = p.called id in record {
+        none = by answer d;
+        raised_same = omega (arith, b, g, r, r2, z, z2);
+        dropped_same = omega (arith, c, e, l, l2, few, few2, z, z2);
+        uncalled = omega (arith, h, z3);
+      }
     where
-      by : Does called count may_refuse step view no_interrupts (running_system f.before s.system) (FireOne n now answer)
-          (running_system f.after t.system) → Same step view raised dropped adds id s.system.cpus.cpus t.system.cpus.cpus
-      by (inl (e, why, is, same)) = let w = ap (λ (x : RunningSystem C R). x.system) same in (ap up w, ap down w)
-      by (inr (clear, (runs, records, last))) =
-          let x = running f.before runs.before in let y = running f.after runs.after in
-          let p = proceeds_one called count may_refuse step view x y (Fire now answer) (a.lawful n runs.before runs.here)
-          runs.change in
-          let none = no_cyclic id runs.before.cyclics (is_over.nowhere n runs.before runs.here) in
-          let made = made_by (Fire now answer) runs.before.cyclics in
-          let z = no_share Lock id (timers runs.before.cyclics) made none in
-          let z2 = no_share Low id (timers runs.before.cyclics) made none in
-          let (b, c) = adds runs.before.lock runs.after.lock p.lock.way p.lock.goes id in
-          let (d, e) = adds runs.before.low runs.after.low p.low.way p.low.goes id in
-          let r = p.lock.raises id in let r2 = p.low.raises id in let l = p.lock.losses id in let l2 = p.low.losses id in
-          let few = passes_few step view _ p.lock_lost _ _ p.lock id in
-          let few2 = passes_few step view _ p.low_lost _ _ p.low id in
-          let u = sum_set (raised_at step view raised dropped adds id) s.system.cpus.cpus n runs.before runs.after runs.here in
-          let v = sum_set (dropped_at step view raised dropped adds id) s.system.cpus.cpus n runs.before runs.after runs.here in
-          let cpus = ap (λ (w : CpusView R). w.cpus) runs.rest in
-          let u2 = ap (sum_by (raised_at step view raised dropped adds id)) cpus in
-          let v2 = ap (sum_by (dropped_at step view raised dropped adds id)) cpus in
-          (omega (arith, b, d, r, r2, z, z2, u, u2), omega (arith, c, e, l, l2, few, few2, z, z2, v, v2))
+      by : (answer : Result Fired FireRefused) → CpuDoes called count may_refuse step view no_interrupts s (Fire now answer) t
+          → HasNoCyclic id t.cpu.cyclics
+      by (Ok r) (early, kept, expired, next, makes) = fired_away id now _ s.cpu.cyclics t.cpu.cyclics makes.timers_are none
+      by (Err e) (inl (late, is, same)) = subst (λ (x : Running C R). HasNoCyclic id x.cpu.cyclics) (sym same) none
+      by (Err e) (inr (early, kept, f)) = fired_away id now _ s.cpu.cyclics t.cpu.cyclics f.makes.timers_are none
+  none_fired true now s t None law d none = absurd d
+  none_fired false now s t (Some answer) law d none = absurd d
+  none_fired false now s t None law e none = record {
+    none = subst (λ (x : Running C R). HasNoCyclic id x.cpu.cyclics) (sym e) none;
+    raised_same = ap (λ (r : Running C R). raised_at step view raised dropped adds id r.cpu) e;
+    dropped_same = ap (λ (r : Running C R). dropped_at step view raised dropped adds id r.cpu) e;
+    uncalled = ap (λ (r : Running C R). count r.calls id) e;
+  }
 
-  over_asked : (s t : Led C R) → AsksAll step view s t → IsOver id s.system → StillOver s t
+  over_fired : (now : ℕ) (s : SystemSide R C) (b : Advanced R C) → IsSound view s.system
+      → length s.leads.items ≡ length s.system.cpus.cpus → AllFire called count may_refuse step view now s b
+      → IsOver id s.system → StillOver s b.side
+  over_fired now s b sound ready f is_over = record {
+    is_over = record {
+      given = (let g = is_over.given in let l = f.last in omega (arith, g, l));
+      unknown = subst (λ rs. HasNoRecord id rs) (sym f.records) is_over.unknown;
+      nowhere = λ n y q. (let low = slice_get_within b.side.system.cpus.cpus n y q in let e = f.long in
+          let (x, p) = stands s.system.cpus.cpus n (omega (arith, low, e)) in let k = f.long_leads in
+          let (l, u) = stands s.leads.items n (omega (arith, low, e, ready)) in
+          let (m, v) = stands b.side.leads.items n (omega (arith, low, e, ready, k)) in (each n x y l m p q u v).none);
+    };
+    same = (
+      sums_same (raised_at step view raised dropped adds id) s.system.cpus.cpus b.side.system.cpus.cpus f.long
+          (λ n x y p q. (let low = slice_get_within s.system.cpus.cpus n x p in let k = f.long_leads in
+          let (l, u) = stands s.leads.items n (omega (arith, low, ready)) in
+          let (m, v) = stands b.side.leads.items n (omega (arith, low, ready, k)) in (each n x y l m p q u v).raised_same)),
+      sums_same (dropped_at step view raised dropped adds id) s.system.cpus.cpus b.side.system.cpus.cpus f.long
+          (λ n x y p q. (let low = slice_get_within s.system.cpus.cpus n x p in let k = f.long_leads in
+          let (l, u) = stands s.leads.items n (omega (arith, low, ready)) in
+          let (m, v) = stands b.side.leads.items n (omega (arith, low, ready, k)) in (each n x y l m p q u v).dropped_same)),
+    );
+    uncalled = sums_same (λ (l : Lead C). count l.calls id) s.leads.items b.side.leads.items f.long_leads
+        (λ n l m u v. (let low = slice_get_within s.leads.items n l u in let e = f.long in
+        let (x, p) = stands s.system.cpus.cpus n (omega (arith, low, ready)) in
+        let (y, q) = stands b.side.system.cpus.cpus n (omega (arith, low, ready, e)) in (each n x y l m p q u v).uncalled));
+  }
+    where
+      each : (n : ℕ) (x y : CpuView R) (l m : Lead C) → slice_get s.system.cpus.cpus n ≡ Some x
+          → slice_get b.side.system.cpus.cpus n ≡ Some y → slice_get s.leads.items n ≡ Some l
+          → slice_get b.side.leads.items n ≡ Some m → NoneFired (running l.calls x) (running m.calls y)
+      each n x y l m p q u v =
+          let low = slice_get_within s.system.cpus.cpus n x p in let o = sound.agrees.long in let w = f.long_answers in
+          let (up, at) = stands s.system.cpus.online n (omega (arith, low, o)) in
+          let (answer, told) = stands b.answers.items n (omega (arith, low, w)) in
+          none_fired up now (running l.calls x) (running m.calls y) answer (sound.lawful n x p)
+          (f.each n up x y l m answer at p q u v told) (is_over.nowhere n x p)
+
+  over_asked : (s t : SystemSide R C) → OnlyAsked step view s t → IsOver id s.system → StillOver s t
   over_asked s t a is_over = record {
     is_over = record {
       given = (let g = is_over.given in let l = a.last in omega (arith, g, l));
@@ -277,7 +350,7 @@ module _ {C R : Type 0} (called : C → ℕ → Level → C → Type 0) (count :
           subst (λ cs. HasNoCyclic id cs) (sym (asked_cyclics w.0 x y w.1)) (is_over.nowhere n x p));
     };
     same = asked_raise step view raised dropped adds id s.system.cpus.cpus t.system.cpus.cpus a.cpus;
-    uncalled = ap (counted_by count id) a.calls;
+    uncalled = λ i. counted_by count id (a.leads i).items;
   }
     where
       there : (n : ℕ) (y : CpuView R) → slice_get t.system.cpus.cpus n ≡ Some y
@@ -288,37 +361,55 @@ module _ {C R : Type 0} (called : C → ℕ → Level → C → Type 0) (count :
             (let low = slice_get_within t.system.cpus.cpus n y q in let e = a.cpus.long in omega (arith, low, e)),
       )
 
-  step_over : (s t : Led C R) (call : LeadCall) → Leads called count may_refuse step view s call t → IsSound view s.system
-      → IsOver id s.system → StillOver s t
-  step_over s t (Make (Add level when now answer)) (d, e) a o = over_changed s t (Add level when now answer) (d, refl) d e o
-  step_over s t (Make (AddOmni level when skew now answer)) (d, e) a o = over_changed s t
+  step_over : (s t : SystemSide R C) (call : LeadCall) → Leads called count may_refuse step view s call t → IsSound view s.system
+      → length s.leads.items ≡ length s.system.cpus.cpus → IsOver id s.system → StillOver s t
+  step_over s t (Make (Add level when now answer)) (d, e) a ready o = over_changed s t (Add level when now answer) (d, refl) d e o
+  step_over s t (Make (AddOmni level when skew now answer)) (d, e) a ready o = over_changed s t
       (AddOmni level when skew now answer) (d, refl) d e o
-  step_over s t (Make (Bind own cpu answer)) (d, e) a o = over_changed s t (Bind own cpu answer) (d, refl) d e o
-  step_over s t (Make (BeginRemove own answer)) (d, e) a o = over_changed s t (BeginRemove own answer) (d, refl) d e o
-  step_over s t (Make (PollRemove own answer)) (d, e) a o = over_changed s t (PollRemove own answer) (d, refl) d e o
-  step_over s t (Make (AskTotals own answer)) (d, e) a o = over_changed s t (AskTotals own answer) (d, refl) d e o
-  step_over s t (Make (Reprogram own moment answer)) (d, e) a o = over_changed s t (Reprogram own moment answer) (d, refl) d e o
-  step_over s t (Make (ReprogramOn own n moment answer)) (d, e) a o = over_changed s t
+  step_over s t (Make (Bind own cpu answer)) (d, e) a ready o = over_changed s t (Bind own cpu answer) (d, refl) d e o
+  step_over s t (Make (BeginRemove own answer)) (d, e) a ready o = over_changed s t (BeginRemove own answer) (d, refl) d e o
+  step_over s t (Make (PollRemove own answer)) (d, e) a ready o = over_changed s t (PollRemove own answer) (d, refl) d e o
+  step_over s t (Make (AskTotals own answer)) (d, e) a ready o = over_changed s t (AskTotals own answer) (d, refl) d e o
+  step_over s t (Make (Reprogram own moment answer)) (d, e) a ready o =
+      over_changed s t (Reprogram own moment answer) (d, refl) d e o
+  step_over s t (Make (ReprogramOn own n moment answer)) (d, e) a ready o = over_changed s t
       (ReprogramOn own n moment answer) (d, refl) d e o
-  step_over s t (Make (Juggle n answer)) (d, e) a o = over_changed s t (Juggle n answer) (d, refl) d e o
-  step_over s t (Make (Offline n answer)) (d, e) a o = over_changed s t (Offline n answer) (d, refl) d e o
-  step_over s t (Make (Online n now answer)) (d, e) a o = over_changed s t (Online n now answer) (d, refl) d e o
-  step_over s t (Make (FireOne n now answer)) d a o = over_fired n now answer s t a d o
-  step_over s t (Make (SoftInterrupt n level budget answer)) (d, e) a o = absurd d
-  step_over s t AskAll d a o = over_asked s t d o
+  step_over s t (Make (Juggle n answer)) (d, e) a ready o = over_changed s t (Juggle n answer) (d, refl) d e o
+  step_over s t (Make (Offline n answer)) (d, e) a ready o = over_changed s t (Offline n answer) (d, refl) d e o
+  step_over s t (Make (Online n now answer)) (d, e) a ready o = over_changed s t (Online n now answer) (d, refl) d e o
+  step_over s t (Make (FireOne n now answer)) (d, e) a ready o = absurd d
+  step_over s t (Make (SoftInterrupt n level budget answer)) (d, e) a ready o = absurd d
+  step_over s t (FireAll now) (after, fires, same) a ready o = subst (λ (x : SystemSide R C). StillOver s x) (sym same)
+      (over_fired now s after a ready fires o)
+  step_over s t AskAll d a ready o = over_asked s t d o
 
-  abbrev D : Led C R → LeadCall → Led C R → Type 0
+  abbrev D : SystemSide R C → LeadCall → SystemSide R C → Type 0
   D = LeadSteps called count may_refuse step view
 
-  run_over : (s t : Led C R) (way : List LeadCall) → FoldsTo D s way t → IsSound view s.system → IsOver id s.system
+  -- there is still something to lead each CPU
+  step_ready : (s t : SystemSide R C) (call : LeadCall) → Leads called count may_refuse step view s call t
+      → length s.leads.items ≡ length s.system.cpus.cpus → length t.leads.items ≡ length t.system.cpus.cpus
+  step_ready s t (Make call) (d, e) ready =
+      let a = changes_long step view s.system t.system call d in
+      let b : length t.leads.items ≡ length s.leads.items = λ i. length (e i).items in omega (arith, a, b, ready)
+  step_ready s t (FireAll now) (after, f, same) ready =
+      let a = f.long in let b = f.long_leads in
+      subst (λ (x : SystemSide R C). length x.leads.items ≡ length x.system.cpus.cpus) (sym same) (omega (arith, a, b, ready))
+  step_ready s t AskAll a ready = let b : length t.leads.items ≡ length s.leads.items = λ i. length (a.leads i).items in let c =
+      a.cpus.long in
+      omega (arith, b, c, ready)
+
+  run_over : (s t : SystemSide R C) (way : List LeadCall) → FoldsTo D s way t → IsSound view s.system
+      → length s.leads.items ≡ length s.system.cpus.cpus → IsOver id s.system
       → Same step view raised dropped adds id s.system.cpus.cpus t.system.cpus.cpus
-      × (counted_by count id t.calls ≡ counted_by count id s.calls)
-  run_over s t [] run a o = (
-    (ap (λ (x : Led C R). up x.system) (sym run), ap (λ (x : Led C R). down x.system) (sym run)),
-    ap (λ (x : Led C R). counted_by count id x.calls) (sym run),
+      × (counted_by count id t.leads.items ≡ counted_by count id s.leads.items)
+  run_over s t [] run a ready o = (
+    (ap (λ (x : SystemSide R C). up x.system) (sym run), ap (λ (x : SystemSide R C). down x.system) (sym run)),
+    ap (λ (x : SystemSide R C). counted_by count id x.leads.items) (sym run),
   )
-  run_over s t (call ∷ way) (u, (d, sound), rest) a o =
-      let k = step_over s u call d a o in let ((p, q), h) = run_over u t way rest sound k.is_over in
+  run_over s t (call ∷ way) (u, (d, sound), rest) a ready o =
+      let k = step_over s u call d a ready o in
+      let ((p, q), h) = run_over u t way rest sound (step_ready s u call d ready) k.is_over in
       ((p ∙ k.same.0, q ∙ k.same.1), h ∙ k.uncalled)
 
   -- ---- a whole run
@@ -327,34 +418,34 @@ module _ {C R : Type 0} (called : C → ℕ → Level → C → Type 0) (count :
   counts way t = option_map_or (λ r. record { sent = r.sent; lost = r.lost }) (receipt_in id way) (totals t)
 
   -- the removal answers: its receipt has all counts
-  record Ends (s u : Led C R) (r : Receipt) : Type 0 where
+  record Ends (s u : SystemSide R C) (r : Receipt) : Type 0 where
     pub is_over : IsOver id u.system
     pub same : Same step view raised dropped adds id s.system.cpus.cpus u.system.cpus.cpus
-    pub uncalled : counted_by count id u.calls ≡ counted_by count id s.calls
+    pub uncalled : counted_by count id u.leads.items ≡ counted_by count id s.leads.items
     pub expired : r.sent ≡ all_expired id s.system
     pub losses : r.lost ≡ all_lost id s.system
 
-  begun_ends : (s u : Led C R) (r : Receipt) → Changes step view s.system (BeginRemove id (Ok (Done r))) u.system
-      → u.calls ≡ s.calls → IsSound view s.system → Ends s u r
+  begun_ends : (s u : SystemSide R C) (r : Receipt) → Changes step view s.system (BeginRemove id (Ok (Done r))) u.system
+      → u.leads ≡ s.leads → IsSound view s.system → Ends s u r
   begun_ends s u r d calls a = record {
     is_over = begun_over step view id r s.system u.system a.agrees a.fit.rising d;
     same = changes_raise step view raised dropped adds id s.system u.system (BeginRemove id (Ok (Done r))) d;
-    uncalled = ap (counted_by count id) calls;
+    uncalled = λ i. counted_by count id (calls i).items;
     expired = begun_done step view sent id (λ a b. refl) r s.system u.system a.fit a.lawful d (λ q sent lost. sent);
     losses = begun_done step view lost id (λ a b. refl) r s.system u.system a.fit a.lawful d (λ q sent lost. lost);
   }
 
-  polled_ends : (s u : Led C R) (r : Receipt) → Changes step view s.system (PollRemove id (Ok (Some r))) u.system
-      → u.calls ≡ s.calls → IsSound view s.system → Ends s u r
+  polled_ends : (s u : SystemSide R C) (r : Receipt) → Changes step view s.system (PollRemove id (Ok (Some r))) u.system
+      → u.leads ≡ s.leads → IsSound view s.system → Ends s u r
   polled_ends s u r d calls a = record {
     is_over = polled_over step view id r s.system u.system a.agrees a.fit.rising d;
     same = changes_raise step view raised dropped adds id s.system u.system (PollRemove id (Ok (Some r))) d;
-    uncalled = ap (counted_by count id) calls;
+    uncalled = λ i. counted_by count id (calls i).items;
     expired = poll_done step view sent id (λ a b. refl) r s.system u.system a.fit a.lawful d (λ q sent lost. sent);
     losses = poll_done step view lost id (λ a b. refl) r s.system u.system a.fit a.lawful d (λ q sent lost. lost);
   }
 
-  ends : (s u : Led C R) (call : LeadCall) (r : Receipt) → Leads called count may_refuse step view s call u
+  ends : (s u : SystemSide R C) (call : LeadCall) (r : Receipt) → Leads called count may_refuse step view s call u
       → IsSound view s.system → receipt_of id call ≡ Some r → Ends s u r
   ends s u (Make (BeginRemove own (Ok (Done q)))) r (d, calls) a e =
       let (named, is) = its_own id own q r e in subst (Ends s u) is (begun_ends s u q
@@ -377,19 +468,22 @@ module _ {C R : Type 0} (called : C → ℕ → Level → C → Type 0) (count :
   ends s u (Make (Online n now answer)) r d a e = absurd (none_some e)
   ends s u (Make (FireOne n now answer)) r d a e = absurd (none_some e)
   ends s u (Make (SoftInterrupt n level budget answer)) r d a e = absurd (none_some e)
+  ends s u (FireAll now) r d a e = absurd (none_some e)
   ends s u AskAll r d a e = absurd (none_some e)
 
-  pub run_even : (s t : Led C R) (way : List LeadCall) → FoldsTo D s way t → IsSound view s.system
-      → Even s t (counts way t.system)
-  run_even s t [] run a = subst (λ (x : Led C R). Even s x (totals x.system)) run
+  pub run_even : (s t : SystemSide R C) (way : List LeadCall) → FoldsTo D s way t → IsSound view s.system
+      → length s.leads.items ≡ length s.system.cpus.cpus → Even s t (counts way t.system)
+  run_even s t [] run a ready = subst (λ (x : SystemSide R C). Even s x (totals x.system)) run
       (even_same s s refl refl (refl, refl) refl)
-  run_even s t (call ∷ way) (u, (d, sound), rest) a = by (receipt_of id call) refl (run_even u t way rest sound)
+  run_even s t (call ∷ way) (u, (d, sound), rest) a ready = by (receipt_of id call) refl
+      (run_even u t way rest sound (step_ready s u call d ready))
     where
       by : (o : Option Receipt) → receipt_of id call ≡ o → Even u t (counts way t.system) → Even s t (option_map_or
           (λ r. record { sent = r.sent; lost = r.lost }) (first_of o (receipt_in id way)) (totals t.system))
-      by None e y = let x = step_even s u call d a sound e in
+      by None e y = let x = step_even s u call d a sound ready e in
           let p = x.expired in let q = y.expired in let l = x.losses in let m = y.losses in
           record { expired = omega (arith, p, q); losses = omega (arith, l, m) }
-      by (Some r) e y = let x = ends s u call r d a e in let ((p, q), h) = run_over u t way rest sound x.is_over in
+      by (Some r) e y = let x = ends s u call r d a e in let ((p, q), h) =
+          run_over u t way rest sound (step_ready s u call d ready) x.is_over in
           let (b, c) = x.same in let k = x.uncalled in let m = x.expired in let n = x.losses in
           record { expired = omega (arith, p, h, b, k, m); losses = omega (arith, q, c, n) }

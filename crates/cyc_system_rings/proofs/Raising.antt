@@ -2,6 +2,7 @@
 use Rattle.std.proofs.Common.{◌≡◌, ◌∙◌, ℕ, zero, suc, ◌+◌, Some, None, List, [], ◌∷◌, length, refl, sym, ap, subst, arith}
 use Rattle.std.specs.Prelude.{sum_by, Bool, Ok, Err}
 use Rattle.std.specs.List.{slice_get, FoldsTo}
+use Rattle.std.proofs.lemmas.List.{length-set}
 use Rattle.std.proofs.lemmas.List.Sums.{sum_by-cons}
 use Rattle.cyc_types.specs.Firing.{FiringView, FiringCall}
 use Rattle.cyc_types.specs.Runs.{Goes, raised_by, lost_by}
@@ -27,6 +28,41 @@ sums_same h (x ∷ xs) [] e same = absurd (omega (arith, e))
 sums_same h (x ∷ xs) (y ∷ ys) e same =
     let a = sum_by-cons h x xs in let b = sum_by-cons h y ys in let c = same 0 x y refl refl in
     let d = sums_same h xs ys (omega (arith, e)) (λ n p q. same (suc n) p q) in omega (arith, a, b, c, d)
+
+-- lists of CPUs and of what leads them, before and after: what is so of each is so of all together
+pub sums_even : {A B : Type 0} (f g : A → ℕ) (h : B → ℕ) (xs ys : List A) (ls ms : List B) → length ys ≡ length xs
+    → length ls ≡ length xs → length ms ≡ length xs
+    → ((n : ℕ) (x y : A) (l m : B) → slice_get xs n ≡ Some x → slice_get ys n ≡ Some y → slice_get ls n ≡ Some l
+    → slice_get ms n ≡ Some m → f y + g x + h l ≡ f x + g y + h m)
+    → sum_by f ys + sum_by g xs + sum_by h ls ≡ sum_by f xs + sum_by g ys + sum_by h ms
+sums_even f g h [] [] [] [] a b c each = refl
+sums_even f g h [] (y ∷ ys) ls ms a b c each = absurd (omega (arith, a))
+sums_even f g h [] [] (l ∷ ls) ms a b c each = absurd (omega (arith, b))
+sums_even f g h [] [] [] (m ∷ ms) a b c each = absurd (omega (arith, c))
+sums_even f g h (x ∷ xs) [] ls ms a b c each = absurd (omega (arith, a))
+sums_even f g h (x ∷ xs) (y ∷ ys) [] ms a b c each = absurd (omega (arith, b))
+sums_even f g h (x ∷ xs) (y ∷ ys) (l ∷ ls) [] a b c each = absurd (omega (arith, c))
+sums_even f g h (x ∷ xs) (y ∷ ys) (l ∷ ls) (m ∷ ms) a b c each =
+    let rest = sums_even f g h xs ys ls ms (omega (arith, a)) (omega (arith, b)) (omega (arith, c))
+    (λ n x y l m p q r s. each (suc n) x y l m p q r s) in
+    let one = each 0 x y l m refl refl refl refl in
+    let p = sum_by-cons f y ys in let q = sum_by-cons g x xs in let r = sum_by-cons h l ls in
+    let t = sum_by-cons f x xs in let u = sum_by-cons g y ys in let v = sum_by-cons h m ms in
+    omega (arith, rest, one, p, q, r, t, u, v)
+
+module _ {R : Type 0} (step : R → FiringCall → R → Type 0) (view : R → FiringView) where
+  part_long : (p : CpusCall) (v w : CpusView R) → DoesPart step view v p w → length w.cpus ≡ length v.cpus
+  part_long (OnCpu c) v w d = ap (λ (u : CpusView R). length u.cpus) d.rest ∙ length-set v.cpus c.cpu d.after
+  part_long (SetOnline n online) v w e = ap (λ (u : CpusView R). length u.cpus) e
+
+  parts_long : (way : List CpusCall) (v w : CpusView R) → FoldsTo (DoesPart step view) v way w → length w.cpus ≡ length v.cpus
+  parts_long [] v w e = ap (λ (u : CpusView R). length u.cpus) (sym e)
+  parts_long (p ∷ way) v w (u, first, rest) = parts_long way u w rest ∙ part_long p v u first
+
+  -- no call makes a CPU come or go
+  pub changes_long : (s t : SystemView R) (call : SystemCall) → Changes step view s call t
+      → length t.cpus.cpus ≡ length s.cpus.cpus
+  changes_long s t call d = let m = made_of step view s t call d in parts_long m.way s.cpus t.cpus m.works
 
 module _ {R : Type 0} (step : R → FiringCall → R → Type 0) (view : R → FiringView) (raised dropped : ℕ → R → ℕ)
     (adds : (e f : R) (way : List FiringCall) → Goes step view e way f → (id : ℕ)

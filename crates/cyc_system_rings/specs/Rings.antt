@@ -15,7 +15,8 @@ use Rattle.cyc_system.specs.SystemRemoval.TheVariants.{Done}
 use Rattle.cyc_system.specs.System.{SystemView}
 use Rattle.cyc_system.specs.Counts.{all_expired, all_lost}
 use Rattle.cyc_system.specs.Calls.{SystemCall, BeginRemove, PollRemove}
-use Rattle.cyc_system_rings.specs.Leading.{Led, LeadCall, Make, AskAll}
+use Rattle.cyc_cpu_workers.specs.declared.settling.Lead.{Lead}
+use Rattle.cyc_system_rings.specs.Leading.{LeadCall, Make, FireAll, AskAll}
 
 -- the raises of an id at the two ends of a CPU since their rings were opened, and those that were lost
 abbrev pub raised_on : ℕ → CpuView RaiseEnd → ℕ
@@ -31,9 +32,9 @@ all_raised id s = sum_by (raised_on id) s.cpus.cpus
 abbrev pub all_dropped : ℕ → SystemView RaiseEnd → ℕ
 all_dropped id s = sum_by (dropped_on id) s.cpus.cpus
 
--- the calls of an id that all of these handlers had
-abbrev pub counted_by : {C : Type 0} → (C → ℕ → ℕ) → ℕ → List C → ℕ
-counted_by count id calls = sum_by (λ c. count c id) calls
+-- the calls of an id that the handlers of all high levels had
+abbrev pub counted_by : {C : Type 0} → (C → ℕ → ℕ) → ℕ → List (Lead C) → ℕ
+counted_by count id leads = sum_by (λ l. count l.calls id) leads
 
 -- ---- what is told of an id at the end of a run
 

@@ -1,6 +1,6 @@
 //! The law of conservation over all CPUs.
 
-ghost use Rattle.std.specs.Prelude.{◌≡◌, ℕ, ◌+◌, List};
+ghost use Rattle.std.specs.Prelude.{◌≡◌, ℕ, ◌+◌, List, length};
 ghost use Rattle.std.specs.List.{FoldsTo};
 ghost use Rattle.cyc_ring.specs.declared.ends.RaiseEnd.{RaiseEnd as AnEnd};
 ghost use Rattle.cyc_ring.specs.declared.closed.Closed.{Closed};
@@ -8,7 +8,8 @@ ghost use Rattle.cyc_ring.specs.Ends.{end_view, RaiseEndCall};
 ghost use Rattle.cyc_system.specs.System.{SystemView};
 ghost use Rattle.cyc_system.specs.Counts.{all_expired, all_lost};
 ghost use Rattle.cyc_system_counts.specs.Sound.{IsSound};
-ghost use Rattle.cyc_system_rings.specs.Leading.{Led, LeadCall, LeadSteps};
+ghost use Rattle.cyc_system_workers.specs.declared.side.SystemSide.{SystemSide};
+ghost use Rattle.cyc_system_rings.specs.Leading.{LeadCall, LeadSteps};
 ghost use Rattle.cyc_system_rings.specs.Rings.{all_raised, all_dropped, counted_by, counts_in, AreClosed, all_made};
 
 use cyc_types::Calls;
@@ -19,12 +20,14 @@ use cyc_types::Calls;
 ///
 /// It does nothing when it runs: its clauses are the law.
 pub fn conserved_law<C: Calls>()
-    ensures expired { (id : ℕ) (s t : Led C AnEnd) (way : List LeadCall)
+    ensures expired { (id : ℕ) (s t : SystemSide AnEnd C) (way : List LeadCall)
         → FoldsTo (LeadSteps C.called C.count C.may_refuse RaiseEndCall end_view) s way t → IsSound end_view s.system
-        → (counts_in id way t.system).sent + all_raised id s.system + counted_by C.count id s.calls
-        ≡ all_expired id s.system + all_raised id t.system + counted_by C.count id t.calls }
-    ensures lost { (id : ℕ) (s t : Led C AnEnd) (way : List LeadCall)
+        → length s.leads.items ≡ length s.system.cpus.cpus
+        → (counts_in id way t.system).sent + all_raised id s.system + counted_by C.count id s.leads.items
+        ≡ all_expired id s.system + all_raised id t.system + counted_by C.count id t.leads.items }
+    ensures lost { (id : ℕ) (s t : SystemSide AnEnd C) (way : List LeadCall)
         → FoldsTo (LeadSteps C.called C.count C.may_refuse RaiseEndCall end_view) s way t → IsSound end_view s.system
+        → length s.leads.items ≡ length s.system.cpus.cpus
         → (counts_in id way t.system).lost + all_dropped id s.system ≡ all_lost id s.system + all_dropped id t.system }
     // Where all CPUs have settled and the rings are closed, each raise was made or lost.
     ensures closed { (id : ℕ) (t : SystemView AnEnd) (rings : List Closed) → AreClosed t.cpus.cpus rings
