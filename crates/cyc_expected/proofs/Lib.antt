@@ -1,1 +1,2 @@
 mod Worked
+pub mod Moves
