@@ -44,7 +44,7 @@ events_of name clock (m ∷ ms) = if m.accepted
     then event_of name clock m.step ∷ events_of name (clock_after m.step clock) ms
     else events_of name clock ms
 
--- the expirations of a name in a script over so many CPUs, whose steps were met so: none before its `add` or `omni`, then those
--- that are due at each `advance`, until its `remove` is accepted
+-- the expirations of a name in a script over so many CPUs, whose steps were met so: none before its `add` or `omni`, then
+-- those that are due at each `advance`, until its `remove` is accepted
 abbrev pub expected : ℕ → List Met → ℕ → ℕ
 expected cpus way name = (told_by (events_of name 0 way) (untold cpus)).expired

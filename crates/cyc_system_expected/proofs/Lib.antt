@@ -1,0 +1,4 @@
+pub mod Fires
+pub mod Singles
+pub mod Runs
+pub mod Components
