@@ -1,11 +1,14 @@
 -- A CPU that has settled stays so over calls of its system, but for a fire and a growth of its size.
-use Rattle.std.proofs.Common.{◌≡◌, ◌∙◌, ℕ, suc, ◌≤◌, inl, inr, All, List, [], ◌∷◌, refl, sym, ap, subst, arith}
+use Rattle.std.proofs.Common.{◌≡◌, ◌∙◌, ℕ, suc, ◌≤◌, inl, inr, All, Result, List, [], ◌∷◌, refl, sym, ap, subst, arith}
 use Rattle.std.specs.List.{slice_get, FoldsTo}
 use mathlib.Core.Logic.{dite}
 use native.Mathlib.Decide.{ℕ_discrete}
 use Rattle.cyc_types.specs.Firing.{FiringView, FiringCall}
 use Rattle.cyc_types.specs.declared.level.Level.{Level}
-use Rattle.cyc_cpu.specs.Cpu.{CpuView, running}
+use Rattle.cyc_types.specs.declared.level.Soft.{Soft}
+use Rattle.cyc_soft.specs.declared.Ran.{Ran}
+use Rattle.cyc_soft.specs.declared.SoftRefused.{SoftRefused}
+use Rattle.cyc_cpu.specs.Cpu.{CpuView, Running, running}
 use Rattle.cyc_cpu.specs.Moving.{IsSettled}
 use Rattle.cyc_cpu.specs.Calls.{CpuCall, Changes as CpuChanges, Does as CpuDoes, no_interrupts, Fire}
 use Rattle.cyc_cpu.specs.Calls.{SoftInterrupt as CpuSoftInterrupt, Add as CpuAdd, Place, Reprogram as CpuReprogram, AskPending}
@@ -69,7 +72,7 @@ module _ {R : Type 0} (step : R → FiringCall → R → Type 0) (view : R → F
   calm_none : (x : CpuView R) → Calm x x
   calm_none x = record { grows = omega arith; settled = λ e h. h }
 
-  calms_same : (n : ℕ) (v w : CpusView R) → w.cpus ≡ v.cpus → Calms n v w
+  pub calms_same : (n : ℕ) (v w : CpusView R) → w.cpus ≡ v.cpus → Calms n v w
   calms_same n v w e x at = (x, ap (λ xs. slice_get xs n) e ∙ at, calm_none x)
 
   calm_on : (x y z : CpuView R) → Calm x y → Calm y z → Calm x z
@@ -79,7 +82,7 @@ module _ {R : Type 0} (step : R → FiringCall → R → Type 0) (view : R → F
         b.settled (omega (arith, p, q, e)) (a.settled (omega (arith, p, q, e)) h));
   }
 
-  calms_then : (n : ℕ) (u v w : CpusView R) → Calms n u v → Calms n v w → Calms n u w
+  pub calms_then : (n : ℕ) (u v w : CpusView R) → Calms n u v → Calms n v w → Calms n u w
   calms_then n u v w a b x at = (let (y, there, f) = a x at in let (z, last, g) = b y there in (z, last, calm_on x y z f g))
 
   calms_at : (n m : ℕ) (D : CpuView R → CpuView R → Type 0) (v w : CpusView R) (c : ChangesAt m D v w)
@@ -93,7 +96,7 @@ module _ {R : Type 0} (step : R → FiringCall → R → Type 0) (view : R → F
       ))
       (λ ne. (x, cpu_after m n D x v w ne c at, calm_none x))
 
-  parts_calm : (n : ℕ) (way : List CpusCall) (v w : CpusView R) → FoldsTo (DoesPart step view) v way w → Calms n v w
+  pub parts_calm : (n : ℕ) (way : List CpusCall) (v w : CpusView R) → FoldsTo (DoesPart step view) v way w → Calms n v w
   parts_calm n [] v w e = calms_same n v w (ap (λ (u : CpusView R). u.cpus) (sym e))
   parts_calm n (OnCpu c ∷ way) v w (u, d, rest) = calms_then n v u w
       (calms_at n c.cpu _ v u d (λ e. record {
@@ -106,9 +109,12 @@ module _ {R : Type 0} (step : R → FiringCall → R → Type 0) (view : R → F
       (calms_same n v u (ap (λ (z : CpusView R). z.cpus) e)) (parts_calm n way u w rest)
 
 module _ {C R : Type 0} (called : C → ℕ → Level → C → Type 0) (count : C → ℕ → ℕ) (may_refuse : C → ℕ → Type 0) (step : R
-    → FiringCall → R → Type 0) (view : R → FiringView) (n : ℕ) where
+    → FiringCall → R → Type 0) (view : R → FiringView)
+    (interrupts : Soft → ℕ → Result Ran SoftRefused → Running C R → Running C R → Type 0)
+    (serves : (s t : Running C R) (level : Soft) (budget : ℕ) (answer : Result Ran SoftRefused)
+    → interrupts level budget answer s t → Calm step view s.cpu t.cpu) (n : ℕ) where
   abbrev Call : RunningSystem C R → SystemCall → RunningSystem C R → Type 0
-  Call = Does called count may_refuse step view no_interrupts
+  Call = Does called count may_refuse step view interrupts
 
   abbrev Keeps : RunningSystem C R → RunningSystem C R → Type 0
   Keeps s t = Calms step view n s.system.cpus t.system.cpus
@@ -126,7 +132,9 @@ module _ {C R : Type 0} (called : C → ℕ → Level → C → Type 0) (count :
   call_calms s t (SoftInterrupt m level budget answer) not
       (inl (e, why, is, same)) = calms_same step view n s.system.cpus t.system.cpus
       (ap (λ (x : RunningSystem C R). x.system.cpus.cpus) same)
-  call_calms s t (SoftInterrupt m level budget answer) not (inr (clear, (own, is, runs, records, last))) = absurd runs.change
+  call_calms s t (SoftInterrupt m level budget answer) not (inr (clear, (own, is, runs, records, last))) =
+      calms_at step view n m _ s.system.cpus t.system.cpus runs
+      (λ e. serves (running s.calls runs.before) (running t.calls runs.after) level budget own runs.change)
   call_calms s t (Add level when now answer) not d = quietly s t (Add level when now answer) d.0
   call_calms s t (AddOmni level when skew now answer) not d = quietly s t (AddOmni level when skew now answer) d.0
   call_calms s t (Bind own cpu answer) not d = quietly s t (Bind own cpu answer) d.0

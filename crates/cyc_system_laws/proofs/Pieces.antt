@@ -151,7 +151,7 @@ withouts id [] outs k d low = absurd (omega (arith, low))
 withouts id (c ∷ way) outs zero d low = outs.0
 withouts id (c ∷ way) outs (suc k) d low = withouts id way outs.1 k d (omega (arith, low))
 
-all_cons : {A : Type 0} (P : A → Type 0) (x : A) (xs : List A) → P x → All P xs → All P (x ∷ xs)
+pub all_cons : {A : Type 0} (P : A → Type 0) (x : A) (xs : List A) → P x → All P xs → All P (x ∷ xs)
 all_cons P x xs p all zero d low = p
 all_cons P x xs p all (suc k) d low = all k d (omega (arith, low))
 
@@ -161,7 +161,8 @@ all_on P (x ∷ xs) ys a b = all_cons P x (xs ++ ys) (a zero x (omega arith))
     (all_on P xs ys (λ j e less. a (suc j) e (omega (arith, less))) b)
 
 module _ {R : Type 0} (step : R → FiringCall → R → Type 0) (view : R → FiringView) where
-  parts_of : (way : List CallOn) (v w : CpusView R) → Works step view way v w → FoldsTo (DoesPart step view) v (map OnCpu way) w
+  pub parts_of : (way : List CallOn) (v w : CpusView R) → Works step view way v w
+      → FoldsTo (DoesPart step view) v (map OnCpu way) w
   parts_of [] v w last = last
   parts_of (c ∷ way) v w (u, does, rest) = (u, does, parts_of way u w rest)
 

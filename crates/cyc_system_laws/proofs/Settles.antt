@@ -38,7 +38,7 @@ use Rattle.cyc_system.specs.Calls.{SystemCall, Changes, Add, AddOmni, Bind, Begi
 use Rattle.cyc_system_laws.specs.Settling.{IsRefusedUntil, IsAmong, Asks}
 
 -- the number of CPUs stays
-as_many : {R : Type 0} (step : R → FiringCall → R → Type 0) (view : R → FiringView) (way : List CallOn) (v w : CpusView R)
+pub as_many : {R : Type 0} (step : R → FiringCall → R → Type 0) (view : R → FiringView) (way : List CallOn) (v w : CpusView R)
     → Works step view way v w → length w.cpus ≡ length v.cpus
 as_many step view [] v w run = ap (λ (u : CpusView _). length u.cpus) (sym run)
 as_many step view (c ∷ way) v w (u, d, rest) = as_many step view way u w rest ∙ ap (λ (z : CpusView _). length z.cpus) d.rest
@@ -47,7 +47,7 @@ as_many step view (c ∷ way) v w (u, d, rest) = as_many step view way u w rest 
 -- ---- refusals
 
 -- the first of several is that of the first, or of the others
-first_of : (o : Option Refusal) (whys : List (Option Refusal)) (e : Refusal) → first_refusal (o ∷ whys) ≡ Some e
+pub first_of : (o : Option Refusal) (whys : List (Option Refusal)) (e : Refusal) → first_refusal (o ∷ whys) ≡ Some e
     → (o ≡ Some e) ⊎ (first_refusal whys ≡ Some e)
 first_of None whys e h = inr h
 first_of (Some x) whys e h = inl h
@@ -69,7 +69,7 @@ none_until (o ∷ whys) e p h until = by (first_of o whys e h) (none_until whys 
     by (inl own) rest = p.0 e own until
     by (inr others) rest = rest others until
 
-err_same : {A : Type 0} {x y : Refusal} → ◌≡◌ {A = Result A Refusal} (Err x) (Err y) → x ≡ y
+pub err_same : {A : Type 0} {x y : Refusal} → ◌≡◌ {A = Result A Refusal} (Err x) (Err y) → x ≡ y
 err_same {A = A} {x = x} {y = y} e = cc
 
 works_split : {R : Type 0} (step : R → FiringCall → R → Type 0) (view : R
@@ -80,16 +80,16 @@ works_split step view (x ∷ xs) ys v w (u, d, rest) = let (m, a, b) = works_spl
 
 module _ {R : Type 0} (step : R → FiringCall → R → Type 0) (view : R → FiringView) where
   -- a CPU of this number is there, and has not settled
-  abbrev NotSettled : ℕ → CpusView R → Type 0
+  abbrev pub NotSettled : ℕ → CpusView R → Type 0
   NotSettled n v = (cpu : CpuView R) × IsCpu n cpu v × (IsSettled view cpu → ⊥)
 
-  abbrev no_calls : Unit {0} → ℕ → Level → Unit {0} → Type 0
+  abbrev pub no_calls : Unit {0} → ℕ → Level → Unit {0} → Type 0
   no_calls a n level b = ⊥
 
-  abbrev no_count : Unit {0} → ℕ → ℕ
+  abbrev pub no_count : Unit {0} → ℕ → ℕ
   no_count a n = 0
 
-  abbrev no_refusal : Unit {0} → ℕ → Type 0
+  abbrev pub no_refusal : Unit {0} → ℕ → Type 0
   no_refusal a n = ⊥
 
   -- a CPU with a removal open
@@ -110,7 +110,7 @@ module _ {R : Type 0} (step : R → FiringCall → R → Type 0) (view : R → F
       )
 
   -- a CPU on which a call was refused until something is done first
-  refused_here : (n more : ℕ) (e : Refusal) (x y : CpuView R) → CpuChanges step view x (Reserve more (Err e)) y → IsUntil e
+  pub refused_here : (n more : ℕ) (e : Refusal) (x y : CpuView R) → CpuChanges step view x (Reserve more (Err e)) y → IsUntil e
       → IsSettled view x → ⊥
   refused_here n more e x y d until settled =
       never_put_off step view no_calls no_count no_refusal no_interrupts (λ soft budget answer s t h. absurd h)
@@ -124,7 +124,7 @@ module _ {R : Type 0} (step : R → FiringCall → R → Type 0) (view : R → F
       (λ soft budget answer s t h k. absurd h)
       (running tt x) (running tt y) (AskRoom more (Err e)) settled (d, refl) until
 
-  asks_settled : (own : ℕ) (answer : Option ℕ) (x y : CpuView R) → CpuChanges step view x (AskPending own answer) y
+  pub asks_settled : (own : ℕ) (answer : Option ℕ) (x y : CpuView R) → CpuChanges step view x (AskPending own answer) y
       → IsSettled view x → IsSettled view y
   asks_settled own (Some k) x y d settled =
       settled_one step view no_calls no_count no_refusal no_interrupts (λ soft budget answer s t h. absurd h)
@@ -132,7 +132,8 @@ module _ {R : Type 0} (step : R → FiringCall → R → Type 0) (view : R → F
       (running tt x) (running tt y) (AskPending own (Some k)) settled tt d.0.kept.size (d, refl)
   asks_settled own None x y d settled = subst (IsSettled view) (sym d.1) settled
 
-  pending_here : (own k : ℕ) (x y : CpuView R) → CpuChanges step view x (AskPending own (Some k)) y → 0 < k → IsSettled view x → ⊥
+  pub pending_here : (own k : ℕ) (x y : CpuView R) → CpuChanges step view x (AskPending own (Some k)) y → 0 < k
+      → IsSettled view x → ⊥
   pending_here own k x y d some settled = let none = (asks_settled own (Some k) x y d settled).seen own in let is = d.1 in
       omega (arith, none, is, some)
 
@@ -151,16 +152,16 @@ module _ {R : Type 0} (step : R → FiringCall → R → Type 0) (view : R → F
       (running tt x) (running tt y) (TakeNow own (Ok taken)) settled tt d.1.4.size (d, refl)
 
   -- a CPU that is there is there afterwards, and settled if it was
-  abbrev Rests : ℕ → CpusView R → CpusView R → Type 0
+  abbrev pub Rests : ℕ → CpusView R → CpusView R → Type 0
   Rests n v w = (x : CpuView R) → IsCpu n x v → (y : CpuView R) × IsCpu n y w × (IsSettled view x → IsSettled view y)
 
-  rests_same : (n : ℕ) (v w : CpusView R) → w ≡ v → Rests n v w
+  pub rests_same : (n : ℕ) (v w : CpusView R) → w ≡ v → Rests n v w
   rests_same n v w e x at = (x, subst (λ u. IsCpu n x u) (sym e) at, λ h. h)
 
-  rests_then : (n : ℕ) (u v w : CpusView R) → Rests n u v → Rests n v w → Rests n u w
+  pub rests_then : (n : ℕ) (u v w : CpusView R) → Rests n u v → Rests n v w → Rests n u w
   rests_then n u v w a b x at = (let (y, there, f) = a x at in let (z, last, g) = b y there in (z, last, λ h. g (f h)))
 
-  rests_at : (n m : ℕ) (D : CpuView R → CpuView R → Type 0) (v w : CpusView R) (c : ChangesAt m D v w)
+  pub rests_at : (n m : ℕ) (D : CpuView R → CpuView R → Type 0) (v w : CpusView R) (c : ChangesAt m D v w)
       → (n ≡ m → IsSettled view c.before → IsSettled view c.after) → Rests n v w
   rests_at n m D v w c keeps x at = dite (ℕ_discrete n m)
       (λ e. (
@@ -182,7 +183,7 @@ module _ {R : Type 0} (step : R → FiringCall → R → Type 0) (view : R → F
       (rests_at n m _ v u d (λ e. asks_settled own (Some 0) d.before d.after d.change)) (quiet_rest n m ids u w rest)
 
   -- a turn leaves its source settled
-  turn_rests : (n own : ℕ) (turn : Turn) (s t : SystemView R) → TakesTurn step view n own turn s t → Rests n s.cpus t.cpus
+  pub turn_rests : (n own : ℕ) (turn : Turn) (s t : SystemView R) → TakesTurn step view n own turn s t → Rests n s.cpus t.cpus
   turn_rests n own StaysBound s t (place, same) = rests_same n s.cpus t.cpus (ap (λ (u : SystemView R). u.cpus) same)
   turn_rests n own StaysPending s t (place, found, some, ((u, d, last), records, l)) =
       rests_then n s.cpus u t.cpus (rests_at n n _ s.cpus u d (λ e. asks_settled own (Some found) d.before d.after d.change))
@@ -206,7 +207,7 @@ module _ {R : Type 0} (step : R → FiringCall → R → Type 0) (view : R → F
       (turn_rests n own turn s u first) (turns_rest n ids rest u t more)
 
   -- as many CPUs after a turn
-  many_turn : (n own : ℕ) (turn : Turn) (s t : SystemView R) → TakesTurn step view n own turn s t
+  pub many_turn : (n own : ℕ) (turn : Turn) (s t : SystemView R) → TakesTurn step view n own turn s t
       → length t.cpus.cpus ≡ length s.cpus.cpus
   many_turn n own StaysBound s t (place, same) = ap (λ (u : SystemView R). length u.cpus.cpus) same
   many_turn n own StaysPending s t (place, found, some, only) = as_many step view
@@ -223,7 +224,7 @@ module _ {R : Type 0} (step : R → FiringCall → R → Type 0) (view : R → F
       ∙ many_turn n own turn s u first
 
   -- what is not settled later was not settled before
-  not_before : (n : ℕ) (v w : CpusView R) → length w.cpus ≡ length v.cpus → Rests n v w → NotSettled n w → NotSettled n v
+  pub not_before : (n : ℕ) (v w : CpusView R) → length w.cpus ≡ length v.cpus → Rests n v w → NotSettled n w → NotSettled n v
   not_before n v w long rests (y, there, not) =
       let low = slice_get_within w.cpus n y there in
       let (x, at) = get_some v.cpus n (omega (arith, low, long)) in

@@ -1,12 +1,20 @@
 -- What holds of a system one of whose CPUs has settled.
-use Rattle.std.specs.Prelude.{◌≡◌, ◌≢◌, ℕ, ◌⊎◌, List, Some, None, Err}
+use Rattle.std.specs.Prelude.{◌≡◌, ◌≢◌, ℕ, ◌⊎◌, true, List, [], ◌∷◌, ◌++◌, Some, None, Err}
+use Rattle.cyc_types.specs.Firing.{FiringView, FiringCall}
+use Rattle.cyc_types.specs.declared.refusal.JuggleReport.{JuggleReport}
+use Rattle.cyc_types.specs.declared.refusal.Refusal.{Refusal}
+use Rattle.cyc_cpu.specs.Cpu.{CpuView}
+use Rattle.cyc_cpu.specs.Moving.{IsSettled}
 use Rattle.cyc_cpu_laws.specs.Settled.{IsUntil}
-use Rattle.cyc_cpus.specs.Cpus.{online_cpus}
+use Rattle.cyc_cpus.specs.Cpus.{IsCpu, online_cpus}
 use Rattle.cyc_cpus.specs.Destination.{destination}
 use Rattle.cyc_cpus.specs.Reserving.{StandsAfter}
-use Rattle.cyc_system.specs.System.{SystemView}
+use Rattle.cyc_system.specs.System.{SystemView, is_online}
 use Rattle.cyc_system.specs.Binding.{HasHome}
 use Rattle.cyc_system.specs.Removing.{cpus_with}
+use Rattle.cyc_system.specs.Turn.{Turn}
+use Rattle.cyc_system.specs.Turn.TheVariants.{StaysRefused}
+use Rattle.cyc_system.specs.Juggling.{TakesTurn, Turns}
 use Rattle.cyc_system.specs.Calls.{SystemCall, Add, AddOmni, Bind, BeginRemove, Juggle, Offline, Online, FireOne}
 
 -- the call was refused until something is done first: a soft side follows, a removal ends, or a call is made
@@ -40,3 +48,22 @@ Asks n call s = ⊥
 abbrev pub FiresNot : ℕ → SystemCall → Type 0
 FiresNot n (FireOne m now answer) = m ≢ n
 FiresNot n call = Unit {0}
+
+-- ---- the turns of a juggle, and those with which a CPU begins to go offline
+module _ {R : Type 0} (step : R → FiringCall → R → Type 0) (view : R → FiringView) (n : ℕ) where
+  -- why a turn was refused, if it was
+  abbrev pub refusals_in : (id : ℕ) (turn : Turn) (s t : SystemView R) → TakesTurn step view n id turn s t → List Refusal
+  refusals_in id StaysRefused s t (place, d, chosen, e, only) = e ∷ []
+  refusals_in id turn s t takes = []
+
+  -- why each of the refused turns was, in order
+  abbrev pub refusals_of : (ids : List ℕ) (report : JuggleReport) (s t : SystemView R) → Turns step view n ids report s t
+      → List Refusal
+  refusals_of [] report s t turns = []
+  refusals_of (id ∷ ids) report s t (turn, u, rest, takes, counted, more) =
+      refusals_in id turn s u takes ++ refusals_of ids rest u t more
+
+-- every other CPU that is online had settled, and has not switched banks since: it has the same size
+abbrev pub AreSettledBeside : {R : Type 0} → (R → FiringView) → ℕ → SystemView R → SystemView R → Type 0
+AreSettledBeside {R} view n s t = (m : ℕ) (x y : CpuView R) → m ≢ n → is_online m s.cpus ≡ true → IsCpu m x s.cpus
+    → IsCpu m y t.cpus → IsSettled view x × (y.size ≡ x.size)

@@ -11,4 +11,4 @@ mod settling;
 pub use leaving::{removal_core_law, removal_law};
 pub use numbering::{numbers_core_law, numbers_law};
 pub use parts::parts_law;
-pub use settling::{calm_law, settled_law};
+pub use settling::{calm_core_law, calm_law, settled_law};
