@@ -5,6 +5,3 @@ pub mod Found
 pub mod Counts
 pub mod Looked
 pub mod Kept
-pub mod Totals
-pub mod Given
-pub mod Spared

@@ -1,4 +1,2 @@
 pub mod Sound
 pub mod Keeping
-pub mod Totalling
-pub mod Sparing

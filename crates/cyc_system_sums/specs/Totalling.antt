@@ -1,5 +1,6 @@
--- The expirations of an id in the calls of a system.
-use Rattle.std.specs.Prelude.{ℕ, ◌+◌, ◌⊎◌, List, [], ◌∷◌, Some, Result, Ok}
+-- The expirations of an id in the calls of a system, and those of them that were lost.
+use Rattle.std.specs.Prelude.{ℕ, ◌+◌, ◌⊎◌, List, [], ◌∷◌, Some, Result, Ok, Err}
+use mathlib.Core.Logic.{inl, inr}
 use Rattle.std.specs.List.{slice_get, FoldsTo}
 use Rattle.std.specs.Option.{option_map_or}
 use Rattle.cyc_types.specs.Firing.{FiringView, FiringCall}
@@ -9,8 +10,11 @@ use Rattle.cyc_types.specs.declared.level.Soft.{Soft}
 use Rattle.cyc_types.specs.declared.receipt.Receipt.{Receipt}
 use Rattle.cyc_soft.specs.declared.Ran.{Ran}
 use Rattle.cyc_soft.specs.declared.SoftRefused.{SoftRefused}
-use Rattle.cyc_cpu.specs.Cpu.{Running}
-use Rattle.cyc_cpu.specs.Calls.{Fire}
+use Rattle.cyc_cpu.specs.Cpu.{Running, running}
+use Rattle.cyc_cpu.specs.Calls.{Does as CpuDoes, Fire}
+use Rattle.cyc_types.specs.Runs.{lost_by}
+use Rattle.cyc_fire.specs.declared.fire.Fired.{Fired}
+use Rattle.cyc_fire.specs.declared.fire.FireRefused.{FireRefused}
 use Rattle.cyc_cpu_laws.specs.Accounts.{Account, account_of}
 use Rattle.cyc_system.specs.SystemRemoval.TheVariants.{Done}
 use Rattle.cyc_system.specs.System.{SystemView, RunningSystem}
@@ -40,6 +44,32 @@ abbrev pub expirations_along : {C R : Type 0} (D : RunningSystem C R → SystemC
     (s : RunningSystem C R) (way : List SystemCall) (t : RunningSystem C R) → FoldsTo D s way t → ℕ
 expirations_along D id s [] t run = 0
 expirations_along D id s (call ∷ way) t run = expirations_in id call s.system + expirations_along D id run.0 way t run.2
+
+module _ {C R : Type 0} (called : C → ℕ → Level → C → Type 0) (count : C → ℕ → ℕ) (may_refuse : C → ℕ → Type 0)
+    (step : R → FiringCall → R → Type 0) (view : R → FiringView)
+    (interrupts : Soft → ℕ → Result Ran SoftRefused → Running C R → Running C R → Type 0) (id : ℕ) where
+  -- the raises of an id in a fire of a CPU that its two ends answered as lost at the ceiling
+  abbrev pub losses_of_fire : (now : ℕ) (answer : Result Fired FireRefused) (s t : Running C R)
+      → CpuDoes called count may_refuse step view interrupts s (Fire now answer) t → ℕ
+  losses_of_fire now (Ok r) s t (early, kept, expired, next, makes) =
+      lost_by id makes.acts.lock_way + lost_by id makes.acts.low_way
+  losses_of_fire now (Err e) s t (inl never) = 0
+  losses_of_fire now (Err e) s t (inr (early, kept, stopped)) =
+      lost_by id stopped.makes.acts.lock_way + lost_by id stopped.makes.acts.low_way
+
+  -- those of a call: of the fire of one CPU
+  abbrev pub losses_in : (call : SystemCall) (s t : RunningSystem C R)
+      → Does called count may_refuse step view interrupts s call t → ℕ
+  losses_in (FireOne n now answer) s t (inl refused) = 0
+  losses_in (FireOne n now answer) s t (inr (clear, (runs, records, last))) =
+      losses_of_fire now answer (running s.calls runs.before) (running t.calls runs.after) runs.change
+  losses_in call s t d = 0
+
+  -- those over a run, on all CPUs
+  abbrev pub losses_along : (s : RunningSystem C R) (way : List SystemCall) (t : RunningSystem C R)
+      → FoldsTo (Steps called count may_refuse step view interrupts) s way t → ℕ
+  losses_along s [] t run = 0
+  losses_along s (call ∷ way) t run = losses_in call s run.0 run.1.0 + losses_along run.0 way t run.2
 
 -- the removal of this id answers with this receipt, as it begins or at a poll
 abbrev pub Answers : {R : Type 0} → (R → FiringCall → R → Type 0) → (R → FiringView) → ℕ → Receipt

@@ -11,13 +11,13 @@ ghost use Rattle.cyc_system.specs.System.{SystemView, RunningSystem};
 ghost use Rattle.cyc_system.specs.Calls.{SystemCall};
 ghost use Rattle.cyc_system_counts.specs.Sound.{IsSound};
 ghost use Rattle.cyc_system_counts.specs.Keeping.{EndsRemoval};
-ghost use Rattle.cyc_system_counts.specs.Totalling.{Steps, expirations_along, Answers};
+ghost use Rattle.cyc_system_sums.specs.Totalling.{Steps, expirations_along, losses_along, Answers};
 
 use cyc_types::{Calls, Raise};
 
 /// Over any run of calls, the expirations of an id on all CPUs grow by just what the fires of the run made of it, until its
-/// removal answers; and no more of them are lost than were made. So a receipt says all expirations from the id's first call to
-/// its last.
+/// removal answers, and its losses by just what they lost of it. So a receipt says all expirations from the id's first call to
+/// its last, and all of them that were lost.
 ///
 /// It does nothing when it runs: its clauses are the law.
 pub fn expirations_law<C: Calls, R: Raise>()
@@ -27,14 +27,19 @@ pub fn expirations_law<C: Calls, R: Raise>()
         + expirations_along (Steps C.called C.count C.may_refuse R.step R.view no_interrupts) id s way t run }
     ensures lost { (id : ℕ) (s t : RunningSystem C R) (way : List SystemCall)
         → (run : FoldsTo (Steps C.called C.count C.may_refuse R.step R.view no_interrupts) s way t) → IsSound R.view s.system
-        → All (λ call. EndsRemoval id call → ⊥) way → (all_lost id s.system ≤ all_lost id t.system)
-        × (all_lost id t.system ≤ all_lost id s.system
-        + expirations_along (Steps C.called C.count C.may_refuse R.step R.view no_interrupts) id s way t run) }
+        → All (λ call. EndsRemoval id call → ⊥) way → all_lost id t.system ≡ all_lost id s.system
+        + losses_along C.called C.count C.may_refuse R.step R.view no_interrupts id s way t run }
+    ensures few { (id : ℕ) (s t : RunningSystem C R) (way : List SystemCall)
+        → (run : FoldsTo (Steps C.called C.count C.may_refuse R.step R.view no_interrupts) s way t) → IsSound R.view s.system
+        → All (λ call. EndsRemoval id call → ⊥) way
+        → losses_along C.called C.count C.may_refuse R.step R.view no_interrupts id s way t run
+        ≤ expirations_along (Steps C.called C.count C.may_refuse R.step R.view no_interrupts) id s way t run }
     // The run begins before the id is given.
     ensures receipt { (id : ℕ) (s t : RunningSystem C R) (u : SystemView R) (way : List SystemCall) (receipt : Receipt)
         → (run : FoldsTo (Steps C.called C.count C.may_refuse R.step R.view no_interrupts) s way t) → IsSound R.view s.system
         → s.system.last < id → All (λ call. EndsRemoval id call → ⊥) way → Answers R.step R.view id receipt t.system u
-        → receipt.sent ≡ expirations_along (Steps C.called C.count C.may_refuse R.step R.view no_interrupts) id s way t run }
+        → (receipt.sent ≡ expirations_along (Steps C.called C.count C.may_refuse R.step R.view no_interrupts) id s way t run)
+        × (receipt.lost ≡ losses_along C.called C.count C.may_refuse R.step R.view no_interrupts id s way t run) }
 {}
 
 /// The same where no other thread uses the levels, and soft interrupts are among the calls.
@@ -46,9 +51,22 @@ pub fn expirations_core_law<C: Calls>()
         → IsSound firing_at s.system → All (λ call. EndsRemoval id call → ⊥) way → all_expired id t.system
         ≡ all_expired id s.system + expirations_along
         (Steps C.called C.count C.may_refuse fires firing_at (Interrupts C.called C.count C.may_refuse)) id s way t run }
+    ensures lost { (id : ℕ) (s t : RunningSystem C Tables) (way : List SystemCall)
+        → (run : FoldsTo (Steps C.called C.count C.may_refuse fires firing_at (Interrupts C.called C.count C.may_refuse)) s way t)
+        → IsSound firing_at s.system → All (λ call. EndsRemoval id call → ⊥) way → all_lost id t.system
+        ≡ all_lost id s.system + losses_along C.called C.count C.may_refuse fires firing_at
+        (Interrupts C.called C.count C.may_refuse) id s way t run }
+    ensures few { (id : ℕ) (s t : RunningSystem C Tables) (way : List SystemCall)
+        → (run : FoldsTo (Steps C.called C.count C.may_refuse fires firing_at (Interrupts C.called C.count C.may_refuse)) s way t)
+        → IsSound firing_at s.system → All (λ call. EndsRemoval id call → ⊥) way
+        → losses_along C.called C.count C.may_refuse fires firing_at (Interrupts C.called C.count C.may_refuse) id s way t run
+        ≤ expirations_along
+        (Steps C.called C.count C.may_refuse fires firing_at (Interrupts C.called C.count C.may_refuse)) id s way t run }
     ensures receipt { (id : ℕ) (s t : RunningSystem C Tables) (u : SystemView Tables) (way : List SystemCall) (receipt : Receipt)
         → (run : FoldsTo (Steps C.called C.count C.may_refuse fires firing_at (Interrupts C.called C.count C.may_refuse)) s way t)
         → IsSound firing_at s.system → s.system.last < id → All (λ call. EndsRemoval id call → ⊥) way
-        → Answers fires firing_at id receipt t.system u → receipt.sent ≡ expirations_along
-        (Steps C.called C.count C.may_refuse fires firing_at (Interrupts C.called C.count C.may_refuse)) id s way t run }
+        → Answers fires firing_at id receipt t.system u → (receipt.sent ≡ expirations_along
+        (Steps C.called C.count C.may_refuse fires firing_at (Interrupts C.called C.count C.may_refuse)) id s way t run)
+        × (receipt.lost ≡ losses_along C.called C.count C.may_refuse fires firing_at
+        (Interrupts C.called C.count C.may_refuse) id s way t run) }
 {}

@@ -18,15 +18,15 @@ use Rattle.cyc_cpus.specs.Cpus.{IsCpu}
 use Rattle.cyc_system.specs.System.{SystemView, RunningSystem, has, ids_of}
 use Rattle.cyc_agreement.proofs.Lists.{among}
 use Rattle.cyc_agreement.proofs.Recording.{found, record_none}
-use Rattle.cyc_system.specs.Counts.{all_expired}
+use Rattle.cyc_system.specs.Counts.{all_expired, all_lost}
 use Rattle.cyc_system.specs.Laws.{cyclic_in}
 use Rattle.cyc_removing.proofs.Sums.{sum_none, none_found}
 use Rattle.cyc_removing.proofs.Receipts.{begun_done, poll_done}
 use Rattle.cyc_system.specs.Calls.{SystemCall}
 use Rattle.cyc_system_counts.specs.Sound.{IsSound}
 use Rattle.cyc_system_counts.specs.Keeping.{EndsRemoval}
-use Rattle.cyc_system_counts.specs.Totalling.{expirations_along, Steps, Answers}
-use Rattle.cyc_system_counts.proofs.Totals.{run_grows, run_sound}
+use Rattle.cyc_system_sums.specs.Totalling.{expirations_along, losses_along, Steps, Answers}
+use Rattle.cyc_system_sums.proofs.Totals.{run_grows, run_sound}
 
 module _ {R : Type 0} (view : R → FiringView) (id : ℕ) (s : SystemView R) (sound : IsSound view s) (new : s.last < id) where
   nowhere : (n : ℕ) (b : Bool) → has n id s.cpus ≡ b → b ≡ false
@@ -44,6 +44,11 @@ module _ {R : Type 0} (view : R → FiringView) (id : ℕ) (s : SystemView R) (s
       (let given = sound.agrees.given k (get_or s.records k d) (slice_get-get_or s.records k d low) in
       omega (arith, given, same, new))))
 
+  pub no_losses_yet : all_lost id s ≡ 0
+  no_losses_yet =
+      let a = sum_none (λ cpu. option_map_or (λ c. c.lost) (cyclic_in id cpu) 0) s.cpus.cpus (none_here (λ c. c.lost)) in
+      let b = unrecorded (λ r. sum_by (λ e. e.lost) r.ended) in omega (arith, a, b)
+
   pub no_counts_yet : all_expired id s ≡ 0
   no_counts_yet =
       let a = sum_none (λ cpu. option_map_or (λ c. c.timer.expired) (cyclic_in id cpu) 0) s.cpus.cpus
@@ -52,11 +57,16 @@ module _ {R : Type 0} (view : R → FiringView) (id : ℕ) (s : SystemView R) (s
 
 -- what a receipt says
 pub receipt_all : {R : Type 0} (step : R → FiringCall → R → Type 0) (view : R → FiringView) (id : ℕ) (receipt : Receipt)
-    (s t : SystemView R) → IsSound view s → Answers step view id receipt s t → receipt.sent ≡ all_expired id s
-receipt_all step view id receipt s t sound (inl d) = begun_done step view (λ (e : Sent). e.sent) id
-    (λ a b. refl) receipt s t sound.fit sound.lawful d (λ r sent lost. sent)
-receipt_all step view id receipt s t sound (inr d) = poll_done step view (λ (e : Sent). e.sent) id
-    (λ a b. refl) receipt s t sound.fit sound.lawful d (λ r sent lost. sent)
+    (s t : SystemView R) → IsSound view s → Answers step view id receipt s t
+    → (receipt.sent ≡ all_expired id s) × (receipt.lost ≡ all_lost id s)
+receipt_all step view id receipt s t sound (inl d) = (
+  begun_done step view (λ (e : Sent). e.sent) id (λ a b. refl) receipt s t sound.fit sound.lawful d (λ r sent lost. sent),
+  begun_done step view (λ (e : Sent). e.lost) id (λ a b. refl) receipt s t sound.fit sound.lawful d (λ r sent lost. lost),
+)
+receipt_all step view id receipt s t sound (inr d) = (
+  poll_done step view (λ (e : Sent). e.sent) id (λ a b. refl) receipt s t sound.fit sound.lawful d (λ r sent lost. sent),
+  poll_done step view (λ (e : Sent). e.lost) id (λ a b. refl) receipt s t sound.fit sound.lawful d (λ r sent lost. lost),
+)
 
 module _ {C R : Type 0} (called : C → ℕ → Level → C → Type 0) (count : C → ℕ → ℕ) (may_refuse : C → ℕ → Type 0) (step : R
     → FiringCall → R → Type 0) (view : R → FiringView)
@@ -66,9 +76,12 @@ module _ {C R : Type 0} (called : C → ℕ → Level → C → Type 0) (count :
   pub receipt_along : (s t : RunningSystem C R) (u : SystemView R) (way : List SystemCall) (receipt : Receipt)
       (run : FoldsTo (Steps called count may_refuse step view interrupts) s way t) → IsSound view s.system
       → s.system.last < id → All (λ call. EndsRemoval id call → ⊥) way → Answers step view id receipt t.system u
-      → receipt.sent ≡ expirations_along (Steps called count may_refuse step view interrupts) id s way t run
+      → (receipt.sent ≡ expirations_along (Steps called count may_refuse step view interrupts) id s way t run)
+      × (receipt.lost ≡ losses_along called count may_refuse step view interrupts id s way t run)
   receipt_along s t u way receipt run sound new open_still answers =
-      let a = receipt_all step view id receipt t.system u
+      let (sent, lost) = receipt_all step view id receipt t.system u
       (run_sound called count may_refuse step view interrupts serves id s t way run sound) answers in
-      let b = (run_grows called count may_refuse step view interrupts serves id s t way run sound open_still).expired in
-      let c = no_counts_yet view id s.system sound new in omega (arith, a, b, c)
+      let g = run_grows called count may_refuse step view interrupts serves id s t way run sound open_still in
+      let a = g.expired in let b = g.lost in
+      let c = no_counts_yet view id s.system sound new in let e = no_losses_yet view id s.system sound new in
+      (omega (arith, sent, a, c), omega (arith, lost, b, e))

@@ -2,14 +2,16 @@
 
 ghost use Rattle.std.specs.Prelude.{◌≡◌, ℕ, List, All};
 ghost use Rattle.std.specs.List.{FoldsTo};
+ghost use Rattle.cyc_core.specs.Tables.{Tables};
 ghost use Rattle.cyc_cpu.specs.Calls.{no_interrupts};
+ghost use Rattle.cyc_cpu.specs.Soft.{fires, firing_at, Interrupts};
 ghost use Rattle.cyc_system.specs.Counts.{all_expired, all_lost};
 ghost use Rattle.cyc_system.specs.System.{RunningSystem};
 ghost use Rattle.cyc_system.specs.Calls.{SystemCall};
 ghost use Rattle.cyc_system_counts.specs.Sound.{IsSound};
 ghost use Rattle.cyc_system_counts.specs.Keeping.{EndsRemoval};
-ghost use Rattle.cyc_system_counts.specs.Totalling.{Steps};
-ghost use Rattle.cyc_system_counts.specs.Sparing.{IsUnderEach};
+ghost use Rattle.cyc_system_sums.specs.Totalling.{Steps};
+ghost use Rattle.cyc_system_sums.specs.Sparing.{IsUnderEach};
 
 use cyc_types::{Calls, Raise};
 
@@ -22,4 +24,14 @@ pub fn spared_law<C: Calls, R: Raise>()
         → FoldsTo (Steps C.called C.count C.may_refuse R.step R.view no_interrupts) s way t → IsSound R.view s.system
         → All (λ call. EndsRemoval id call → ⊥) way → all_lost id s.system ≡ 0
         → IsUnderEach R.view (all_expired id t.system) t.system → all_lost id t.system ≡ 0 }
+{}
+
+/// The same where no other thread uses the levels, and soft interrupts are among the calls.
+///
+/// It does nothing when it runs: its clause is the law.
+pub fn spared_core_law<C: Calls>()
+    ensures { (id : ℕ) (s t : RunningSystem C Tables) (way : List SystemCall)
+        → FoldsTo (Steps C.called C.count C.may_refuse fires firing_at (Interrupts C.called C.count C.may_refuse)) s way t
+        → IsSound firing_at s.system → All (λ call. EndsRemoval id call → ⊥) way
+        → all_lost id s.system ≡ 0 → IsUnderEach firing_at (all_expired id t.system) t.system → all_lost id t.system ≡ 0 }
 {}

@@ -1,4 +1,4 @@
--- What the fires of a run make of an id, on all CPUs.
+-- What the fires of a run make of an id and lose of it, on all CPUs.
 use Rattle.std.proofs.Common.{◌≡◌, ◌∙◌, ℕ, suc, ◌+◌, ◌≤◌, inl, inr, All, Option, Some, None, Result, Ok, Err, List, [], ◌∷◌, refl}
 use Rattle.std.proofs.Common.{sym, ap, subst, arith}
 use Rattle.std.specs.Prelude.{sum_by}
@@ -12,14 +12,17 @@ use Rattle.cyc_types.specs.declared.level.Soft.{Soft}
 use Rattle.cyc_types.specs.declared.refusal.Refusal.{Refusal}
 use Rattle.cyc_soft.specs.declared.Ran.{Ran}
 use Rattle.cyc_soft.specs.declared.SoftRefused.{SoftRefused}
+use Rattle.cyc_fire.proofs.Sharing.{raises_add_up, ids_add_up}
 use Rattle.cyc_fire.specs.declared.fire.Fired.{Fired}
 use Rattle.cyc_fire.specs.declared.fire.FireRefused.{FireRefused}
 use Rattle.cyc_timers.specs.Rows.{timers}
 use Rattle.cyc_cpu.specs.Cpu.{CpuView, Running, running}
 use Rattle.cyc_cpu.specs.Law.{IsLawful}
 use Rattle.cyc_cpu.specs.Calls.{Does as CpuDoes, Fire}
+use Rattle.cyc_expirations.specs.Expirations.{expirations}
 use Rattle.cyc_cpu_laws.specs.Accounts.{account_of, Proceeds, expired_of, lost_of}
 use Rattle.cyc_cpu_laws.proofs.Accounting.{proceeds_one, none_made}
+use Rattle.cyc_cpu_laws.proofs.Fires.{fired_lost}
 use Rattle.cyc_cpu_laws.proofs.Ways.{passes_few}
 use Rattle.cyc_cpus.specs.Cpus.{ChangesAt}
 use Rattle.cyc_system.specs.System.{SystemView, RunningSystem}
@@ -29,7 +32,8 @@ use Rattle.cyc_system.specs.Calls.{SystemCall, Changes, Does, Add, AddOmni, Bind
 use Rattle.cyc_system.specs.Calls.{ReprogramOn, Juggle, Offline, Online, FireOne, SoftInterrupt, no_fire}
 use Rattle.cyc_system_counts.specs.Sound.{IsSound}
 use Rattle.cyc_system_counts.specs.Keeping.{EndsRemoval}
-use Rattle.cyc_system_counts.specs.Totalling.{fired_in, expirations_in, expirations_along, Steps}
+use Rattle.cyc_system_sums.specs.Totalling.{fired_in, expirations_in, expirations_along, losses_of_fire, losses_in, losses_along}
+use Rattle.cyc_system_sums.specs.Totalling.{Steps}
 use Rattle.cyc_system_counts.proofs.Flow.{on_cpu, on_cpus, sum_set}
 use Rattle.cyc_system_counts.proofs.Found.{stays_found}
 use Rattle.cyc_system_counts.proofs.Counts.{counts_same}
@@ -41,7 +45,7 @@ abbrev lost : Sent → ℕ
 lost e = e.lost
 
 -- a fire that is refused before it begins makes nothing
-refused_none : {R : Type 0} (id n now : ℕ) (e : Refusal) (s : SystemView R)
+pub refused_none : {R : Type 0} (id n now : ℕ) (e : Refusal) (s : SystemView R)
     → expirations_in id (FireOne n now (Err (no_fire e))) s ≡ 0
 refused_none {R} id n now e s = by (slice_get s.cpus.cpus n)
   where
@@ -57,38 +61,56 @@ module _ {C R : Type 0} (called : C → ℕ → Level → C → Type 0) (count :
     (serves : (s t : Running C R) (level : Soft) (budget : ℕ) (answer : Result Ran SoftRefused)
     → interrupts level budget answer s t → t.cpu.cyclics ≡ s.cpu.cyclics) (id : ℕ) where
   -- a fire of one CPU
-  fire_here : (s t : Running C R) (now : ℕ) (answer : Result Fired FireRefused) → IsLawful view s.cpu
+  pub fire_here : (s t : Running C R) (now : ℕ) (answer : Result Fired FireRefused) → IsLawful view s.cpu
       → CpuDoes called count may_refuse step view interrupts s (Fire now answer) t
       → Proceeds count step view (account_of (Fire now answer) s.cpu.cyclics) s t
   fire_here s t now (Ok r) law d = proceeds_one called count may_refuse step view s t (Fire now (Ok r)) law d
   fire_here s t now (Err e) law d = proceeds_one called count may_refuse step view s t (Fire now (Err e)) law d
 
-  -- so many expirations, of which no more were lost
-  pub record Grows (made : ℕ) (s t : SystemView R) : Type 0 where
+  -- what it lost
+  pub lost_here : (s t : Running C R) (now : ℕ) (answer : Result Fired FireRefused) → IsLawful view s.cpu
+      → (d : CpuDoes called count may_refuse step view interrupts s (Fire now answer) t)
+      → lost_of id t.cpu.cyclics
+      ≡ lost_of id s.cpu.cyclics + losses_of_fire called count may_refuse step view interrupts id now answer s t d
+  lost_here s t now (Ok r) law (early, kept, expired, next, m) =
+      let ts = timers s.cpu.cyclics in let made = expirations now ts in
+      fired_lost id now made m.acts.lock_way m.acts.low_way s.cpu.cyclics t.cpu.cyclics law.distinct m.timers_are m.losses_are
+      (raises_add_up id _ m.acts.lock_way m.acts.lock_raises ∙ ids_add_up id Lock ts made)
+      (raises_add_up id _ m.acts.low_way m.acts.low_raises ∙ ids_add_up id Low ts made)
+  lost_here s t now (Err e) law (inl (late, is, same)) =
+      let x = ap (λ (u : Running C R). lost_of id u.cpu.cyclics) same in omega (arith, x)
+  lost_here s t now (Err e) law (inr (early, kept, f)) =
+      let ts = timers s.cpu.cyclics in let m = f.makes in
+      fired_lost id now f.made m.acts.lock_way m.acts.low_way s.cpu.cyclics t.cpu.cyclics law.distinct m.timers_are m.losses_are
+      (raises_add_up id _ m.acts.lock_way m.acts.lock_raises ∙ ids_add_up id Lock ts f.made)
+      (raises_add_up id _ m.acts.low_way m.acts.low_raises ∙ ids_add_up id Low ts f.made)
+
+  -- so many expirations, of which so many were lost
+  pub record Grows (made losses : ℕ) (s t : SystemView R) : Type 0 where
     pub expired : all_expired id t ≡ all_expired id s + made
-    pub more : all_lost id s ≤ all_lost id t
-    pub few : all_lost id t ≤ all_lost id s + made
+    pub lost : all_lost id t ≡ all_lost id s + losses
+    pub few : losses ≤ made
 
-  grows_same : (s t : SystemView R) → all_expired id t ≡ all_expired id s → all_lost id t ≡ all_lost id s → Grows 0 s t
-  grows_same s t a b = record { expired = omega (arith, a); more = omega (arith, b); few = omega (arith, b) }
+  grows_same : (s t : SystemView R) → all_expired id t ≡ all_expired id s → all_lost id t ≡ all_lost id s → Grows 0 0 s t
+  grows_same s t a b = record { expired = omega (arith, a); lost = omega (arith, b); few = omega arith }
 
-  grows_is : (made made' : ℕ) (s t : SystemView R) → made ≡ made' → Grows made s t → Grows made' s t
-  grows_is made made' s t e g = subst (λ n. Grows n s t) e g
+  grows_is : (made made' losses : ℕ) (s t : SystemView R) → made ≡ made' → Grows made losses s t → Grows made' losses s t
+  grows_is made made' losses s t e g = subst (λ n. Grows n losses s t) e g
 
-  pub grows_then : (a b : ℕ) (s t u : SystemView R) → Grows a s t → Grows b t u → Grows (a + b) s u
-  grows_then a b s t u g h = record {
+  pub grows_then : (a b l k : ℕ) (s t u : SystemView R) → Grows a l s t → Grows b k t u → Grows (a + b) (l + k) s u
+  grows_then a b l k s t u g h = record {
     expired = (let x = g.expired in let y = h.expired in omega (arith, x, y));
-    more = (let x = g.more in let y = h.more in omega (arith, x, y));
+    lost = (let x = g.lost in let y = h.lost in omega (arith, x, y));
     few = (let x = g.few in let y = h.few in omega (arith, x, y));
   }
 
   -- what one CPU gained
-  gained : (n : ℕ) (D : CpuView R → CpuView R → Type 0) (s t : RunningSystem C R) (made : ℕ)
+  gained : (n : ℕ) (D : CpuView R → CpuView R → Type 0) (s t : RunningSystem C R) (made losses : ℕ)
       (c : ChangesAt n D s.system.cpus t.system.cpus) → IsSound view s.system → IsSound view t.system
       → t.system.records ≡ s.system.records → expired_of id c.after.cyclics ≡ expired_of id c.before.cyclics + made
-      → lost_of id c.before.cyclics ≤ lost_of id c.after.cyclics
-      → lost_of id c.after.cyclics ≤ lost_of id c.before.cyclics + made → Grows made s.system t.system
-  gained n D s t made c a b records expired more few =
+      → lost_of id c.after.cyclics ≡ lost_of id c.before.cyclics + losses → losses ≤ made
+      → Grows made losses s.system t.system
+  gained n D s t made losses c a b records expired lost few =
       let x0 = stays_found view id (λ t. t.sent.sent) s.system a.lawful in
       let x1 = stays_found view id (λ t. t.sent.sent) t.system b.lawful in
       let y0 = stays_found view id (λ t. t.sent.lost) s.system a.lawful in
@@ -100,23 +122,23 @@ module _ {C R : Type 0} (called : C → ℕ → Level → C → Type 0) (count :
       let q = ap (λ rs. option_map_or (λ r. sum_by (λ e. e.lost) r.ended) (found id rs) 0) records in
       record {
         expired = omega (arith, x0, x1, x, x2, p, expired);
-        more = omega (arith, y0, y1, y, y2, q, more);
-        few = omega
-            (arith, y0, y1, y, y2, q, few);
+        lost = omega (arith, y0, y1, y, y2, q, lost);
+        few = few;
       }
 
   quietly : (s t : RunningSystem C R) (call : SystemCall) → IsSound view s.system → IsSound view t.system
-      → Changes step view s.system call t.system → (EndsRemoval id call → ⊥) → Grows 0 s.system t.system
+      → Changes step view s.system call t.system → (EndsRemoval id call → ⊥) → Grows 0 0 s.system t.system
   quietly s t call a b d open_still = grows_same s.system t.system
       (counts_same step view sent refl (λ x y. refl) id s.system t.system call a b d open_still)
       (counts_same step view lost refl (λ x y. refl) id s.system t.system call a b d open_still)
 
   fires_one : (n now : ℕ) (answer : Result Fired FireRefused) (s t : RunningSystem C R) → IsSound view s.system
       → IsSound view t.system
-      → Does called count may_refuse step view interrupts s (FireOne n now answer) t
-      → Grows (expirations_in id (FireOne n now answer) s.system) s.system t.system
+      → (d : Does called count may_refuse step view interrupts s (FireOne n now answer) t)
+      → Grows (expirations_in id (FireOne n now answer) s.system)
+      (losses_in called count may_refuse step view interrupts id (FireOne n now answer) s t d) s.system t.system
   fires_one n now answer s t a b (inl (e, why, is, same)) =
-      grows_is 0 _ s.system t.system (sym
+      grows_is 0 _ 0 s.system t.system (sym
       (ap (λ (r : Result Fired FireRefused). expirations_in id (FireOne n now r) s.system) is
       ∙ refused_none id n now e s.system))
       (grows_same s.system t.system (ap (λ (x : RunningSystem C R). all_expired id x.system) same)
@@ -131,12 +153,15 @@ module _ {C R : Type 0} (called : C → ℕ → Level → C → Type 0) (count :
       let l = p.lost id in let k = passes_few step view _ p.lock_lost _ _ p.lock id in
       let m = passes_few step view _ p.low_lost _ _ p.low id in
       let e = p.expired id in
-      grows_is made _ s.system t.system is
-      (gained n _ s t made runs a b records (omega (arith, e)) (omega (arith, l)) (omega (arith, l, k, m)))
+      let q = lost_here (running s.calls runs.before) (running t.calls runs.after) now answer
+      (a.lawful n runs.before runs.here) runs.change in
+      grows_is made _ _ s.system t.system is
+      (gained n _ s t made _ runs a b records (omega (arith, e)) q (omega (arith, l, k, m, q)))
 
   pub one_grows : (s t : RunningSystem C R) (call : SystemCall) → IsSound view s.system → IsSound view t.system
-      → (EndsRemoval id call → ⊥)
-      → Does called count may_refuse step view interrupts s call t → Grows (expirations_in id call s.system) s.system t.system
+      → (EndsRemoval id call → ⊥) → (d : Does called count may_refuse step view interrupts s call t)
+      → Grows (expirations_in id call s.system) (losses_in called count may_refuse step view interrupts id call s t d)
+      s.system t.system
   one_grows s t (FireOne n now answer) a b open_still d = fires_one n now answer s t a b d
   one_grows s t (SoftInterrupt n level budget answer) a b open_still (inl (e, why, is, same)) =
       grows_same s.system t.system (ap (λ (x : RunningSystem C R). all_expired id x.system) same)
@@ -144,7 +169,7 @@ module _ {C R : Type 0} (called : C → ℕ → Level → C → Type 0) (count :
   one_grows s t (SoftInterrupt n level budget answer) a b open_still (inr (clear, (own, is, runs, records, last))) =
       let e = serves (running s.calls runs.before) (running t.calls runs.after) level budget own runs.change in
       let x = ap (expired_of id) e in let y = ap (lost_of id) e in
-      gained n _ s t 0 runs a b records (omega (arith, x)) (omega (arith, y)) (omega (arith, y))
+      gained n _ s t 0 0 runs a b records (omega (arith, x)) (omega (arith, y)) (omega arith)
   one_grows s t (Add level when now answer) a b open_still d = quietly s t (Add level when now answer) a b d.0 open_still
   one_grows s t (AddOmni level when skew now answer) a b open_still d = quietly s t
       (AddOmni level when skew now answer) a b d.0 open_still
@@ -164,12 +189,13 @@ module _ {C R : Type 0} (called : C → ℕ → Level → C → Type 0) (count :
 
   pub run_grows : (s t : RunningSystem C R) (way : List SystemCall) (run : FoldsTo D s way t) → IsSound view s.system
       → All (λ call. EndsRemoval id call → ⊥) way
-      → Grows (expirations_along D id s way t run) s.system t.system
+      → Grows (expirations_along D id s way t run)
+      (losses_along called count may_refuse step view interrupts id s way t run) s.system t.system
   run_grows s t [] run a open_still = grows_same s.system t.system
       (ap (λ (x : RunningSystem C R). all_expired id x.system) (sym run))
       (ap (λ (x : RunningSystem C R). all_lost id x.system) (sym run))
   run_grows s t (call ∷ way) (u, (d, sound), rest) a open_still =
-      grows_then _ _ s.system u.system t.system (one_grows s u call a sound (open_still 0 call (omega arith)) d)
+      grows_then _ _ _ _ s.system u.system t.system (one_grows s u call a sound (open_still 0 call (omega arith)) d)
       (run_grows u t way rest sound (λ k e low. open_still (suc k) e (omega (arith, low))))
 
   pub run_sound : (s t : RunningSystem C R) (way : List SystemCall) → FoldsTo D s way t → IsSound view s.system

@@ -22,7 +22,7 @@ use Rattle.cyc_timers.specs.Rows.{Cyclic}
 use Rattle.cyc_cpu.specs.Cpu.{CpuView, Running, running, HasCounts}
 use Rattle.cyc_cpu.specs.Law.{IsLawful}
 use Rattle.cyc_cpu.specs.Losses.{IsUnder, IsSpared}
-use Rattle.cyc_cpu.specs.Calls.{CpuCall, Changes as CpuChanges, Does as CpuDoes, no_interrupts, Fire}
+use Rattle.cyc_cpu.specs.Calls.{CpuCall, Changes as CpuChanges, Does as CpuDoes, Fire}
 use Rattle.cyc_cpu_laws.specs.Accounts.{KeepsLimits}
 use Rattle.cyc_cpu_laws.proofs.Stills.{changes_still}
 use Rattle.cyc_cpu_laws.proofs.Ways.{passes_ceiling}
@@ -40,13 +40,13 @@ use Rattle.cyc_system.specs.Calls.{SystemCall, Changes, Does, Add, AddOmni, Bind
 use Rattle.cyc_system.specs.Calls.{ReprogramOn, Juggle, Offline, Online, FireOne, SoftInterrupt}
 use Rattle.cyc_system_counts.specs.Sound.{IsSound}
 use Rattle.cyc_system_counts.specs.Keeping.{EndsRemoval}
-use Rattle.cyc_system_counts.specs.Totalling.{Steps, expirations_in}
-use Rattle.cyc_system_counts.specs.Sparing.{IsUnderEach}
+use Rattle.cyc_system_sums.specs.Totalling.{Steps, expirations_in, losses_in}
+use Rattle.cyc_system_sums.specs.Sparing.{IsUnderEach}
 use Rattle.cyc_system_laws.specs.Parts.{CpusCall, OnCpu, SetOnline, DoesPart}
 use Rattle.cyc_system_laws.proofs.Pieces.{made_of}
 use Rattle.cyc_system_counts.proofs.Flow.{on_cpu, on_cpus, sum_set}
 use Rattle.cyc_system_counts.proofs.Found.{stays_found}
-use Rattle.cyc_system_counts.proofs.Totals.{one_grows, run_grows, Grows}
+use Rattle.cyc_system_sums.proofs.Totals.{one_grows, run_grows, Grows}
 
 -- one of those that are summed is at most the sum
 one_of_sum : {A : Type 0} (h : A → ℕ) (xs : List A) (n : ℕ) (x : A) → slice_get xs n ≡ Some x → h x ≤ sum_by h xs
@@ -120,15 +120,20 @@ module _ {R : Type 0} (step : R → FiringCall → R → Type 0) (view : R → F
       (keep_same v u (ap (λ (z : CpusView R). z.cpus) e)) (parts_ceilings way u w rest)
 
 module _ {C R : Type 0} (called : C → ℕ → Level → C → Type 0) (count : C → ℕ → ℕ) (may_refuse : C → ℕ → Type 0) (step : R
-    → FiringCall → R → Type 0) (view : R → FiringView) (id : ℕ) where
+    → FiringCall → R → Type 0) (view : R → FiringView)
+    (interrupts : Soft → ℕ → Result Ran SoftRefused → Running C R → Running C R → Type 0)
+    (serves : (s t : Running C R) (level : Soft) (budget : ℕ) (answer : Result Ran SoftRefused)
+    → interrupts level budget answer s t → t.cpu.cyclics ≡ s.cpu.cyclics)
+    (limits : (s t : Running C R) (level : Soft) (budget : ℕ) (answer : Result Ran SoftRefused) → IsLawful view s.cpu
+    → interrupts level budget answer s t → KeepsLimits view s.cpu t.cpu) (id : ℕ) where
   abbrev Call : RunningSystem C R → SystemCall → RunningSystem C R → Type 0
-  Call = Does called count may_refuse step view no_interrupts
+  Call = Does called count may_refuse step view interrupts
 
   abbrev Keep : RunningSystem C R → RunningSystem C R → Type 0
   Keep s t = KeepCeilings step view s.system.cpus t.system.cpus
 
   fire_ceilings : (s t : Running C R) (now : ℕ) (answer : Result Fired FireRefused) → IsLawful view s.cpu
-      → CpuDoes called count may_refuse step view no_interrupts s (Fire now answer) t → KeepsLimits view s.cpu t.cpu
+      → CpuDoes called count may_refuse step view interrupts s (Fire now answer) t → KeepsLimits view s.cpu t.cpu
   fire_ceilings s t now (Ok r) law d = (proceeds_one called count may_refuse step view s t (Fire now (Ok r)) law d).limits
   fire_ceilings s t now (Err e) law d = (proceeds_one called count may_refuse step view s t (Fire now (Err e)) law d).limits
 
@@ -146,7 +151,10 @@ module _ {C R : Type 0} (called : C → ℕ → Level → C → Type 0) (count :
   ceilings s t (SoftInterrupt n level budget answer) a
       (inl (e, why, is, same)) = keep_same step view s.system.cpus t.system.cpus
       (ap (λ (x : RunningSystem C R). x.system.cpus.cpus) same)
-  ceilings s t (SoftInterrupt n level budget answer) a (inr (clear, (own, is, runs, records, last))) = absurd runs.change
+  ceilings s t (SoftInterrupt n level budget answer) a (inr (clear, (own, is, runs, records, last))) =
+      let l = limits (running s.calls runs.before) (running t.calls runs.after) level budget own
+      (a.lawful n runs.before runs.here) runs.change in
+      keep_at step view n _ s.system.cpus t.system.cpus runs (l.lock_ceiling, l.low_ceiling)
   ceilings s t (Add level when now answer) a d = quietly s t (Add level when now answer) d.0
   ceilings s t (AddOmni level when skew now answer) a d = quietly s t (AddOmni level when skew now answer) d.0
   ceilings s t (Bind own cpu answer) a d = quietly s t (Bind own cpu answer) d.0
@@ -160,7 +168,7 @@ module _ {C R : Type 0} (called : C → ℕ → Level → C → Type 0) (count :
   ceilings s t (Online n now answer) a d = quietly s t (Online n now answer) d.0
 
   abbrev D : RunningSystem C R → SystemCall → RunningSystem C R → Type 0
-  D = Steps called count may_refuse step view no_interrupts
+  D = Steps called count may_refuse step view interrupts
 
   run_ceilings : (s t : RunningSystem C R) (way : List SystemCall) → IsSound view s.system → FoldsTo D s way t → Keep s t
   run_ceilings s t [] a run = keep_same step view s.system.cpus t.system.cpus
@@ -176,7 +184,7 @@ module _ {C R : Type 0} (called : C → ℕ → Level → C → Type 0) (count :
 
   -- a fire changes no count that was carried in
   carried : (s t : Running C R) (now : ℕ) (answer : Result Fired FireRefused)
-      → CpuDoes called count may_refuse step view no_interrupts s (Fire now answer) t
+      → CpuDoes called count may_refuse step view interrupts s (Fire now answer) t
       → map (λ (c : Cyclic). c.carried) t.cpu.cyclics ≡ map (λ (c : Cyclic). c.carried) s.cpu.cyclics
   carried s t now (Ok r) (early, kept, expired, next, makes) = makes.carried_are
   carried s t now (Err e) (inl (late, is, same)) = ap (λ (x : Running C R). map (λ (c : Cyclic). c.carried) x.cpu.cyclics) same
@@ -187,7 +195,7 @@ module _ {C R : Type 0} (called : C → ℕ → Level → C → Type 0) (count :
 
   -- a cyclic that is fired under the ceilings loses nothing
   fired_spared : (s t : Running C R) (now n : ℕ) (answer : Result Fired FireRefused) → IsLawful view s.cpu
-      → IsLawful view t.cpu → CpuDoes called count may_refuse step view no_interrupts s (Fire now answer) t
+      → IsLawful view t.cpu → CpuDoes called count may_refuse step view interrupts s (Fire now answer) t
       → lost_here s.cpu ≡ 0 → on_cpu (λ t. t.sent.sent) id t.cpu ≤ n → n ≤ (view t.cpu.lock).ceiling
       → n ≤ (view t.cpu.low).ceiling → lost_here t.cpu ≡ 0
   fired_spared s t now n answer law lawful d none few lock low = sum_none _ t.cpu.cyclics
@@ -198,7 +206,7 @@ module _ {C R : Type 0} (called : C → ℕ → Level → C → Type 0) (count :
       by k c at true is =
           (let own = eq_true c.timer.id id is in
           let (p, was, as_named) = some_before id_in s.cpu.cyclics t.cpu.cyclics k c
-          (same_fired called count may_refuse step view no_interrupts s t now answer d).ids at in
+          (same_fired called count may_refuse step view interrupts s t now answer d).ids at in
           let (q, here, as_carried) = some_before (λ (x : Cyclic). x.carried) s.cpu.cyclics t.cpu.cyclics k c
           (carried s t now answer d) at in
           let one = ap (λ (x : Cyclic). x.carried.lost) (same_some (sym was ∙ here)) in
@@ -215,9 +223,6 @@ module _ {C R : Type 0} (called : C → ℕ → Level → C → Type 0) (count :
           let same = spared (is_under (view t.cpu.lock).ceiling (view t.cpu.low).ceiling c.timer.level c.timer.expired
           (omega (arith, more, yours, few, lock)) (omega (arith, more, yours, few, low))) in
           omega (arith, same, new, one, old, less, mine, none))
-
-  serves : (s t : Running C R) (level : Soft) (budget : ℕ) (answer : Result Ran SoftRefused) → ⊥ → t.cpu.cyclics ≡ s.cpu.cyclics
-  serves s t level budget answer d = absurd d
 
   -- one call
   fire_spares : (n now : ℕ) (answer : Result Fired FireRefused) (s t : RunningSystem C R) → IsSound view s.system
@@ -242,15 +247,16 @@ module _ {C R : Type 0} (called : C → ℕ → Level → C → Type 0) (count :
       (omega (arith, y0, z, none)) (omega (arith, x, x1)) lock low in omega (arith, y0, y1, y, y2, q, none, spared)
 
   grown : (s t : RunningSystem C R) (call : SystemCall) → IsSound view s.system → IsSound view t.system
-      → (EndsRemoval id call → ⊥) → Call s call t
-      → Grows called count may_refuse step view no_interrupts serves id (expirations_in id call s.system) s.system t.system
-  grown s t call a b open_still d = one_grows called count may_refuse step view no_interrupts serves id s t call a b open_still d
+      → (EndsRemoval id call → ⊥) → (d : Call s call t)
+      → Grows called count may_refuse step view interrupts serves id (expirations_in id call s.system)
+      (losses_in called count may_refuse step view interrupts id call s t d) s.system t.system
+  grown s t call a b open_still d = one_grows called count may_refuse step view interrupts serves id s t call a b open_still d
 
   still : (s t : RunningSystem C R) (call : SystemCall) → IsSound view s.system → IsSound view t.system
       → (EndsRemoval id call → ⊥) → Call s call t → expirations_in id call s.system ≡ 0 → all_lost id s.system ≡ 0
       → all_lost id t.system ≡ 0
-  still s t call a b open_still d nothing none = let few = (grown s t call a b open_still d).few in
-      omega (arith, few, nothing, none)
+  still s t call a b open_still d nothing none = let g = grown s t call a b open_still d in let few = g.few in
+      let lost = g.lost in omega (arith, few, lost, nothing, none)
 
   one_spares : (s t : RunningSystem C R) (call : SystemCall) → IsSound view s.system → IsSound view t.system
       → (EndsRemoval id call → ⊥) → Call s call t → all_lost id s.system ≡ 0
@@ -282,7 +288,7 @@ module _ {C R : Type 0} (called : C → ℕ → Level → C → Type 0) (count :
   run_spares s t [] run a open_still none under = ap (λ (x : RunningSystem C R). all_lost id x.system) (sym run) ∙ none
   run_spares s t (call ∷ way) (u, (d, sound), rest) a open_still none under =
       let after : All (λ c. EndsRemoval id c → ⊥) way = λ k e low. open_still (suc k) e (omega (arith, low)) in
-      let more = (run_grows called count may_refuse step view no_interrupts serves id u t way rest sound after).expired in
+      let more = (run_grows called count may_refuse step view interrupts serves id u t way rest sound after).expired in
       let under_here = under_before (all_expired id u.system) (all_expired id t.system) u t (omega (arith, more))
       (run_ceilings u t way sound rest) under in
       run_spares u t way rest sound after (one_spares s u call a sound (open_still 0 call (omega arith)) d none under_here) under

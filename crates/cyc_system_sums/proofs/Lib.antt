@@ -1,0 +1,3 @@
+pub mod Totals
+pub mod Given
+pub mod Spared

@@ -1,0 +1,14 @@
+use Rattle.cyc_cpu.specs.Calls.{SoftInterrupt}
+use Rattle.cyc_cpu.specs.Soft.{fires, firing_at, Interrupts}
+use Rattle.cyc_cpu_laws.proofs.Cores.{core_proceeds_one}
+use Rattle.cyc_system_sums.proofs.Spared.{run_spares}
+use Rattle.cyc_system_sums.proofs.sparing.spared_core_law.Goals as goal
+
+pub returns : goal.returns
+returns g c id s t way run sound open_still none under =
+    let called = g.C.Calls.called in let count = g.C.Calls.count in let may_refuse = g.C.Calls.may_refuse in
+    run_spares called count may_refuse fires firing_at (Interrupts called count may_refuse)
+    (λ s t level budget answer d. d.1.cyclics)
+    (λ s t level budget answer law d.
+    (core_proceeds_one called count may_refuse s t (SoftInterrupt level budget answer) law d).limits)
+    id s t way run sound open_still none under
