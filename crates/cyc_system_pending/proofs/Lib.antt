@@ -1,0 +1,3 @@
+pub mod Outstanding
+pub mod Pends
+pub mod Balanced
