@@ -1,0 +1,49 @@
+use Rattle.std.proofs.Common.{◌≡◌, [], ◌∷◌, ◌++◌, List, length, sym, ap, subst, ◌∙◌, refl, arith}
+use Rattle.cyc_ring.specs.declared.ring.Ring.{Ring}
+use Rattle.cyc_workers.specs.declared.machine.Seats.{Seats}
+use Rattle.cyc_thread_rings.specs.declared.levels.Levels.{Levels}
+use Rattle.cyc_thread_rings.specs.Laid.{EachTwo}
+use Rattle.cyc_thread_rings.specs.Rings.{AreSeated, AreClosed}
+use Rattle.cyc_thread_rings.proofs.Each.{each_long, each_pushed, taken_all, taken_many, taken_none}
+use Rattle.cyc_thread_rings.proofs.closing.close_rings.Goals as goal
+
+-- both iterators gave an element
+both_given : (rs rs' : List (Levels Ring)) (ss ss' : List (Levels Seats)) (r : Levels Ring) (s : Levels Seats)
+    → EachTwo AreSeated rs ss →
+    rs ≡ r ∷ rs' → ss ≡ s ∷ ss' → AreSeated r s × EachTwo AreSeated rs' ss'
+both_given rs rs' ss ss' r s each e f = subst (λ (zs : List (Levels Seats)). EachTwo AreSeated (r ∷ rs') zs) f
+    (subst (λ (zs : List (Levels Ring)). EachTwo AreSeated zs ss) e each)
+
+pub unreachable-requires : goal.unreachable-requires
+unreachable-requires c =
+    let long = each_long AreSeated _ _ c.loop-own.invariant.seated in let more =
+    ap (λ (zs : List (Levels Seats)). length zs) c.in-Some.ensures.steps.0 in
+    let rings = c.loop-own.invariant.many_rings in let none = c.in_default.ensures.cases.0 in
+    omega (arith, long, more, rings, none)
+
+pub close_ring-requires : goal.close_ring-requires
+close_ring-requires c = (both_given _ _ _ _ c.in-Some-next.of_cpu c.in-Some.own c.loop-own.invariant.seated
+    c.in-Some-next.ensures.items c.in-Some.ensures.steps.0).0.0
+
+pub close_ring-requires-in-loop-own : goal.close_ring-requires-in-loop-own
+close_ring-requires-in-loop-own c = (both_given _ _ _ _ c.in-Some-next.of_cpu c.in-Some.own c.loop-own.invariant.seated
+    c.in-Some-next.ensures.items c.in-Some.ensures.steps.0).0.1
+
+pub loop-own-preserved : goal.loop-own-preserved
+loop-own-preserved c =
+    let inv = c.loop-own.invariant in let x = c.in-Some.own in let step = c.in-Some.ensures.steps in let ring =
+    c.in-Some-next.ensures in
+    record {
+      all = taken_all c.loop-own.yielded x _ _ _ step.0 inv.all;
+      many = taken_many _ _ x _ _ step.0 step.1 inv.many;
+      many_rings = taken_many _ _ c.in-Some-next.of_cpu _ _ ring.items ring.len inv.many_rings;
+      seated = (both_given _ _ _ _ c.in-Some-next.of_cpu x inv.seated ring.items step.0).1;
+      closed = each_pushed AreClosed c.loop-own.yielded c.loop-own.closed.items _ _ x
+          (record { lock = c.close_ring.result; low = c.close_ring-in-loop-own.result }) refl
+          c.in_ok-push.ensures.items inv.closed (c.close_ring.ensures, c.close_ring-in-loop-own.ensures);
+    }
+
+pub returns : goal.returns
+returns c = subst (λ (zs : List (Levels Seats)). EachTwo AreClosed zs c.loop-own.closed.items)
+    (taken_none c.loop-own.yielded _ _ _ c.in-None.ensures.steps.0 c.loop-own.invariant.many c.loop-own.invariant.all)
+    c.loop-own.invariant.closed

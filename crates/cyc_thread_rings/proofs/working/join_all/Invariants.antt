@@ -1,0 +1,15 @@
+use Rattle.std.proofs.Common.{◌≡◌, ◌++◌, length}
+use Rattle.std.specs.Vec.Iter.{into_iter_items, into_iter_len}
+use Rattle.cyc_types.specs.Levels.{level_of, at_level}
+use Rattle.cyc_workers.specs.Draining.{HasDrained}
+use Rattle.cyc_thread_rings.specs.Laid.{EachTwo}
+use Rattle.cyc_thread_rings.specs.Working.{HaveKept}
+use Rattle.cyc_thread_rings.proofs.working.join_all.Given as goal
+
+abbrev pub invariant-loop-of_cpu : goal.invariant-loop-of_cpu
+invariant-loop-of_cpu g l = record {
+  all : l.yielded ++ into_iter_items l.of_cpu-iterator ≡ l.fn.handles.items;
+  many : into_iter_len l.of_cpu-iterator ≡ length (into_iter_items l.of_cpu-iterator);
+  kept : EachTwo (HaveKept g.D.Drain.step g.D.Drain.held g.D.Drain.made g.C.Calls.called g.C.Calls.count g.C.Calls.may_refuse)
+      l.yielded l.drained.items;
+}

@@ -1,0 +1,4 @@
+pub mod Laid
+pub mod Rings
+pub mod Working
+pub mod Refusing

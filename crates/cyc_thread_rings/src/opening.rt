@@ -1,0 +1,56 @@
+//! All rings of a system are opened.
+
+ghost use Rattle.std.specs.Prelude.{◌≡◌, length, All, IfOk, IfErr};
+ghost use Rattle.cyc_types.specs.declared.refusal.Refusal.TheVariants.{Memory};
+ghost use Rattle.cyc_thread_rings.specs.Laid.{EachTwo};
+ghost use Rattle.cyc_thread_rings.specs.Rings.{IsSeated, AreSeated, IsNew, AreNew};
+
+use crate::levels::Levels;
+use cyc_ring::Ring;
+use cyc_types::{Ceiling, Refusal};
+use cyc_workers::Seats;
+use std::alloc::Global;
+
+/// The rings of a system by the numbers of its CPUs, and their seats.
+#[derive(Drop)]
+pub struct Opened {
+    pub rings: Vec<Levels<Ring>>,
+    pub seats: Vec<Levels<Seats>>,
+}
+
+/// Opens the ring of one soft level.
+fn open_ring(alloc: Global, ceiling: Ceiling, start: u32) -> Result<(Ring, Seats), Refusal>
+    ensures seated { IfOk result (λ r. IsSeated r.0 r.1) }
+    ensures new { IfOk result (λ r. IsNew ceiling r.1) }
+    ensures refused { IfErr result (λ e. e ≡ Memory) }
+{
+    let (ring, raise, drain) = Ring::open(alloc, ceiling, start)?;
+    Ok((ring, Seats { raise, drain }))
+}
+
+/// Opens two rings for each of so many CPUs. `ceiling` is the greatest pend, and the buffer indexes begin at `start`. Takes all
+/// the memory that they will use, and refuses with Memory alone.
+pub fn open_rings(
+    alloc: Global,
+    cpus: usize,
+    ceiling: Ceiling,
+    start: u32,
+) -> Result<Opened, Refusal>
+    ensures len { IfOk result (λ o. length o.seats.items ≡ cpus) }
+    ensures seated { IfOk result (λ o. EachTwo AreSeated o.rings.items o.seats.items) }
+    ensures new { IfOk result (λ o. All (AreNew ceiling) o.seats.items) }
+    ensures refused { IfErr result (λ e. e ≡ Memory) }
+{
+    let mut rings = Vec::with_capacity(alloc, cpus)?;
+    let mut seats = Vec::with_capacity(alloc, cpus)?;
+    for _ in 0..cpus {
+        let (lock_ring, lock) = open_ring(alloc, ceiling, start)?;
+        let (low_ring, low) = open_ring(alloc, ceiling, start)?;
+        rings.push(Levels {
+            lock: lock_ring,
+            low: low_ring,
+        })?;
+        seats.push(Levels { lock, low })?;
+    }
+    Ok(Opened { rings, seats })
+}

@@ -1,0 +1,84 @@
+//! What the threads of a run are given.
+
+ghost use Rattle.std.specs.Prelude.{◌≡◌, map, IfOk, IfErr};
+ghost use Rattle.cyc_types.specs.declared.refusal.Refusal.TheVariants.{Memory};
+ghost use Rattle.cyc_thread_rings.specs.Working.{sides_of};
+
+use crate::attaching::Attached;
+use crate::levels::Levels;
+use crate::working::Drainer;
+use crossbeam_utils::sync::Parker;
+use cyc_cpu_workers::Lead;
+use cyc_ring::{DrainEnd, RaiseEnd};
+use cyc_types::Refusal;
+use cyc_workers::Wakers;
+use std::alloc::Global;
+use std::sync::Arc;
+
+/// What the threads of a run are given, by the numbers of the CPUs.
+#[derive(Drop)]
+pub struct Prepared<'a, C> {
+    /// The firing ends of each CPU, that of its lock level first.
+    pub ends: Vec<(RaiseEnd<'a>, RaiseEnd<'a>)>,
+    /// What leads each CPU.
+    pub leads: Vec<Lead<C>>,
+    /// The draining workers of each CPU.
+    pub drainers: Vec<Levels<Drainer<DrainEnd<'a>, C>>>,
+    /// What wakes them, for the end of the run.
+    pub wakers: Vec<Arc<Wakers, Global>>,
+}
+
+/// Two beds, and what wakes those who sleep there.
+fn beds(alloc: Global) -> Result<(Levels<Parker>, Wakers), Refusal>
+    ensures { IfErr result (λ e. e ≡ Memory) }
+{
+    let lock = Parker::new(alloc)?;
+    let low = Parker::new(alloc)?;
+    let wakers = Wakers {
+        lock: lock.unparker().clone()?,
+        low: low.unparker().clone()?,
+    };
+    Ok((Levels { lock, low }, wakers))
+}
+
+/// What the threads of a run are given, over these ends. Its memory may be refused.
+pub fn prepare<'a, C: Drop>(
+    alloc: Global,
+    all: Vec<Attached<'a, C>>,
+) -> Result<Prepared<'a, C>, Refusal>
+    ensures ends { IfOk result (λ p. p.ends.items ≡ map (λ a. a.ends) all.entry.items) }
+    ensures leads { IfOk result (λ p. map (λ l. l.calls) p.leads.items ≡ map (λ a. a.high) all.entry.items) }
+    ensures drainers { IfOk result (λ p. map sides_of p.drainers.items ≡ map (λ a. a.soft) all.entry.items) }
+    ensures refused { IfErr result (λ e. e ≡ Memory) }
+{
+    let mut ends = Vec::with_capacity(alloc, all.len())?;
+    let mut leads = Vec::with_capacity(alloc, all.len())?;
+    let mut drainers = Vec::with_capacity(alloc, all.len())?;
+    let mut wakers = Vec::with_capacity(alloc, all.len())?;
+    for attached in all {
+        let (parkers, own) = beds(alloc)?;
+        let own = Arc::new(alloc, own)?;
+        wakers.push(Arc::try_clone(&own)?)?;
+        leads.push(Lead {
+            calls: attached.high,
+            wakers: own,
+        })?;
+        ends.push(attached.ends)?;
+        drainers.push(Levels {
+            lock: Drainer {
+                parker: parkers.lock,
+                side: attached.soft.lock,
+            },
+            low: Drainer {
+                parker: parkers.low,
+                side: attached.soft.low,
+            },
+        })?;
+    }
+    Ok(Prepared {
+        ends,
+        leads,
+        drainers,
+        wakers,
+    })
+}
