@@ -1,0 +1,5 @@
+mod Ready
+mod Taking
+mod Refusing
+mod Telling
+mod Quiet

@@ -1,0 +1,17 @@
+use Rattle.std.proofs.Common.{subst}
+use Rattle.std.specs.Prelude.{IfNone}
+use Rattle.cyc_cpu_workers.specs.Settled.{AllSettled}
+use Rattle.cyc_thread_steps.proofs.Ready.{polls_ready}
+use Rattle.cyc_thread_steps.proofs.Telling.{waited}
+use Rattle.cyc_thread_steps.proofs.waiting.wait.Goals as goal
+
+pub settle-side-requires : goal.settle-side-requires
+settle-side-requires g c = polls_ready g.C.Calls.called g.C.Calls.count g.C.Calls.may_refuse g.R.Raise.step g.R.Raise.view
+    c.poll_all.ensures.polled.0 c.args.progress c.poll_all.new.progress c.poll_all.ensures.polled.1 c.requires
+
+pub returns-clause-waited : goal.returns-clause-waited
+returns-clause-waited g c = waited g.R.Raise.step g.R.Raise.view c.args.progress c.poll_all.new.progress c.settle-side.result.side
+    c.poll_all.ensures.polled c.settle-side.ensures.asked
+    (subst (λ o. IfNone o (AllSettled g.R.Raise.view c.settle-side.result.side.system.cpus.cpus)) c.in_default-refused.is
+    c.settle-side.ensures.settled)
+    c.in_default.ensures.none c.sound.ensures

@@ -1,0 +1,55 @@
+-- What is reported of each name.
+use Rattle.std.specs.Prelude.{◌≡◌, ℕ, List, map, Option, Some, None}
+use Rattle.std.specs.List.{FoldsTo}
+use Rattle.cyc_types.specs.Firing.{FiringView, FiringCall}
+use Rattle.cyc_types.specs.declared.receipt.Receipt.{Receipt}
+use Rattle.cyc_system.specs.SystemTotals.{SystemTotals}
+use Rattle.cyc_system.specs.Calls.{AskTotals}
+use Rattle.cyc_thread_steps.specs.declared.named.Named.{Named}
+use Rattle.cyc_thread_steps.specs.declared.named.Named.TheVariants.{Nothing, Cyclic, Leaving, Removed}
+use Rattle.cyc_thread_steps.specs.declared.progress.Progress.{Progress}
+use Rattle.cyc_thread_steps.specs.declared.reporting.Line.{Line}
+use Rattle.cyc_thread_steps.specs.Calls.{CallsFor}
+
+-- the line of a name whose add was refused, and that of an id of which the system knows nothing
+abbrev pub no_line : Line
+no_line = record { expired = 0; lost = 0; pending = 0 }
+
+-- what a receipt has
+abbrev pub receipt_line : Receipt → Line
+receipt_line receipt = record { expired = receipt.sent; lost = receipt.lost; pending = 0 }
+
+-- what the system answered
+abbrev pub totals_line : Option SystemTotals → Line
+totals_line None = no_line
+totals_line (Some totals) = record { expired = totals.expired; lost = totals.lost; pending = totals.pending }
+
+-- a name and its line
+pub record Told : Type 0 where
+  pub named : Named
+  pub line : Line
+
+-- the system is asked for the totals of a cyclic that is here, and for nothing else
+abbrev pub Asks : {C R : Type 0} → (R → FiringCall → R → Type 0) → (R → FiringView)
+    → ℕ → Line → Progress R C → Progress R C → Type 0
+Asks step view id line s t =
+    (answer : Option SystemTotals) × CallsFor step view 0 (AskTotals id answer) s t × (line ≡ totals_line answer)
+
+-- the line of what a name has: its cyclic's totals, or what the receipt of its removal has
+abbrev pub TellsOf : {C R : Type 0} → (R → FiringCall → R → Type 0) → (R → FiringView)
+    → Named → Line → Progress R C → Progress R C → Type 0
+TellsOf step view Nothing line s t = (line ≡ no_line) × (t ≡ s)
+TellsOf step view (Cyclic id) line s t = Asks step view id line s t
+TellsOf step view (Leaving id) line s t = Asks step view id line s t
+TellsOf step view (Removed receipt) line s t = (line ≡ receipt_line receipt) × (t ≡ s)
+
+abbrev pub Tells : {C R : Type 0} → (R → FiringCall → R → Type 0) → (R → FiringView) → Progress R C → Told → Progress R C → Type 0
+Tells step view s told t = TellsOf step view told.named told.line s t
+
+-- a line for each name, in order
+pub record Reports {C R : Type 0} (step : R → FiringCall → R → Type 0) (view : R → FiringView) (lines : List Line)
+    (s t : Progress R C) : Type 0 where
+  pub all : List Told
+  pub tells : FoldsTo (Tells step view) s all t
+  pub names : map (λ told. told.named) all ≡ s.names
+  pub lines_are : map (λ told. told.line) all ≡ lines
