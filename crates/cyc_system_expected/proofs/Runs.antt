@@ -46,7 +46,7 @@ use Rattle.cyc_system_counts.specs.Sound.{IsSound}
 use Rattle.cyc_system_counts.specs.Keeping.{over_stays, stay_of}
 use Rattle.cyc_system_counts.proofs.Flow.{on_cpu, on_cpus}
 use Rattle.cyc_system_counts.proofs.Found.{stays_found}
-use Rattle.cyc_system_counts.proofs.Given.{receipt_all}
+use Rattle.cyc_system_sums.proofs.Given.{receipt_all}
 use Rattle.cyc_types.specs.declared.receipt.Receipt.{Receipt}
 use Rattle.cyc_system_rings.specs.Leading.{LeadCall, Make, FireAll, AskAll, Leads, LeadSteps}
 use Rattle.cyc_system_rings.proofs.Raising.{sums_same, changes_long}
@@ -381,7 +381,7 @@ module _ {C R : Type 0} (called : C → ℕ → Level → C → Type 0) (count :
       → Changes step view t.system (BeginRemove id (Ok (Done receipt))) after
       → receipt.sent ≡ (told_by (Begins when.start when.interval now ∷ events_in id way) told).expired
   receipt_from level when now before after s t way told receipt a d b ready run keeps done =
-      receipt_all step view id receipt t.system after (sound_at_end s t way b run) (inl done)
+      (receipt_all step view id receipt t.system after (sound_at_end s t way b run) (inl done)).0
       ∙ expected_from level when now before s t way told a d b ready run keeps
     where
       sound_at_end : (s t : SystemSide R C) (way : List LeadCall) → IsSound view s.system → FoldsTo D s way t
