@@ -1,0 +1,97 @@
+-- What each call of a lead keeps, and its fires and its waits, a whole run keeps.
+use Rattle.std.proofs.Common.{◌≡◌, ℕ, inl, inr, List, [], ◌∷◌, Option, Some, None, sym, subst}
+use Rattle.std.specs.Prelude.{ℤ, Bool, true, false}
+use Rattle.std.specs.List.{FoldsTo}
+use Rattle.cyc_types.specs.Firing.{FiringView, FiringCall}
+use Rattle.cyc_types.specs.declared.level.Level.{Level}
+use Rattle.cyc_types.specs.declared.moment.When.{When}
+use Rattle.cyc_script.specs.declared.step.Step.{Step}
+use Rattle.cyc_script.specs.declared.step.Step.TheVariants as steps
+use Rattle.cyc_system.specs.Calls.{SystemCall, PollRemove}
+use Rattle.cyc_thread_steps.specs.declared.named.Named.{Named}
+use Rattle.cyc_thread_steps.specs.declared.named.Named.TheVariants.{Nothing, Cyclic, Leaving, Removed}
+use Rattle.cyc_thread_steps.specs.declared.progress.Progress.{Progress}
+use Rattle.cyc_thread_steps.specs.declared.reporting.Line.{Line}
+use Rattle.cyc_thread_steps.specs.Named.{named_at, id_of}
+use Rattle.cyc_thread_steps.specs.Calls.{CallsFor, Poll, Polls, Settles, Waits, Fires}
+use Rattle.cyc_thread_steps.specs.Reporting.{Told, TellsOf, Tells, Reports}
+use Rattle.cyc_thread_steps.specs.Steps.{TakesSteps, Runs}
+use Rattle.cyc_thread_steps.specs.Words.{WithSeries, WithMoment, WithId, Does, Begins, waits_first}
+
+with_series : (start interval : ℤ) (P : When → Type 0) (Q N : Type 0) → WithSeries start interval P N
+    → ((when : When) → P when → Q) → (N → Q) → Q
+with_series start interval P Q N (inl (when, a, b, c, p)) go stop = go when p
+with_series start interval P Q N (inr (a, n)) go stop = stop n
+
+with_moment : (number : ℤ) (P : ℕ → Type 0) (Q N : Type 0) → WithMoment number P N → ((moment : ℕ) → P moment → Q) → (N → Q) → Q
+with_moment number P Q N (inl (moment, a, p)) go stop = go moment p
+with_moment number P Q N (inr (a, n)) go stop = stop n
+
+with_id : (o : Option ℕ) (P : ℕ → Type 0) (Q N : Type 0) → WithId o P N → ((id : ℕ) → P id → Q) → (N → Q) → Q
+with_id (Some id) P Q N p go stop = go id p
+with_id None P Q N n go stop = stop n
+
+module _ {C R : Type 0} (called : C → ℕ → Level → C → Type 0) (count : C → ℕ → ℕ) (may_refuse : C → ℕ → Type 0)
+    (step : R → FiringCall → R → Type 0) (view : R → FiringView) (K : Progress R C → Progress R C → Type 0)
+    (same : (s : Progress R C) → K s s) (joined : (s t u : Progress R C) → K s t → K t u → K s u)
+    (calls : (name : ℕ) (call : SystemCall) (s t : Progress R C) → CallsFor step view name call s t → K s t)
+    (settles : (s t : Progress R C) → Settles step view s t → K s t)
+    (fires : (now : ℕ) (s t : Progress R C) → Fires called count may_refuse step view now s t → K s t) where
+  is_same : (s t : Progress R C) → t ≡ s → K s t
+  is_same s t e = subst (λ (x : Progress R C). K s x) (sym e) (same s)
+
+  polls_all : (polls : List Poll) (s t : Progress R C) → FoldsTo (Polls step view) s polls t → K s t
+  polls_all [] s t e = is_same s t (sym e)
+  polls_all (p ∷ polls) s t (u, d, rest) =
+      joined s u t (calls p.name (PollRemove p.id p.answer) s u d.1) (polls_all polls u t rest)
+
+  waits_all : (s t : Progress R C) → Waits step view s t → K s t
+  waits_all s t (polls, u, p, q) = joined s u t (polls_all polls s u p) (settles u t q)
+
+  begins_all : (b : Bool) (s t : Progress R C) → Begins step view b s t → K s t
+  begins_all true s t w = waits_all s t w
+  begins_all false s t e = is_same s t e
+
+  does_all : (x : Step) (s t : Progress R C) → Does called count may_refuse step view x s t → K s t
+  does_all (steps.Add a) s t d = with_series a.start a.interval _ (K s t) (t ≡ s) d (λ when p. calls a.name _ s t p.1)
+      (is_same s t)
+  does_all (steps.Omni a) s t d = with_series a.start a.interval _ (K s t) (t ≡ s) d (λ when p. calls a.name _ s t p.1)
+      (is_same s t)
+  does_all (steps.Bind b) s t d = with_id (id_of (named_at s.names b.name)) _ (K s t) (t ≡ s) d (λ id p. calls b.name _ s t p.1)
+      (is_same s t)
+  does_all (steps.Unbind name) s t d = with_id (id_of (named_at s.names name)) _ (K s t) (t ≡ s) d (λ id p. calls name _ s t p.1)
+      (is_same s t)
+  does_all (steps.Reprogram r) s t d = with_moment r.moment _ (K s t) (t ≡ s) d
+      (λ moment q. with_id (id_of (named_at s.names r.name)) _ (K s t) (t ≡ s) q (λ id p. calls r.name _ s t p.1) (is_same s t))
+      (is_same s t)
+  does_all (steps.Remove name) s t d = with_id (id_of (named_at s.names name)) _ (K s t) (t ≡ s) d (λ id p. calls name _ s t p.1)
+      (is_same s t)
+  does_all (steps.Advance now) s t d = fires now s t d
+  does_all (steps.Softint i) s t d = is_same s t d
+  does_all (steps.Juggle n) s t d = calls 0 _ s t d.1
+  does_all (steps.Offline n) s t d = calls 0 _ s t d.1
+  does_all (steps.Online n) s t d = calls 0 _ s t d.1
+
+  steps_all : (all : List Step) (s t : Progress R C) → TakesSteps called count may_refuse step view s all t → K s t
+  steps_all [] s t e = is_same s t (sym e)
+  steps_all (x ∷ all) s t (u, d, rest) =
+      joined s u t (joined s d.0 u (begins_all (waits_first x) s d.0 d.1) (does_all x d.0 u d.2)) (steps_all all u t rest)
+
+  pub runs_all : (all : List Step) (s t : Progress R C) → Runs called count may_refuse step view s all t → K s t
+  runs_all all s t (u, p, q) = joined s u t (steps_all all s u p) (waits_all u t q)
+
+  tells_one : (told : Told) (s t : Progress R C) → Tells step view s told t → K s t
+  tells_one told s t d = by told.named told.line d
+    where
+      by : (n : Named) (line : Line) → TellsOf step view n line s t → K s t
+      by Nothing line (e, is) = is_same s t is
+      by (Cyclic id) line (answer, c, e) = calls 0 _ s t c
+      by (Leaving id) line (answer, c, e) = calls 0 _ s t c
+      by (Removed receipt) line (e, is) = is_same s t is
+
+  tells_all : (all : List Told) (s t : Progress R C) → FoldsTo (Tells step view) s all t → K s t
+  tells_all [] s t e = is_same s t (sym e)
+  tells_all (told ∷ all) s t (u, d, rest) = joined s u t (tells_one told s u d) (tells_all all u t rest)
+
+  pub reports_all : (lines : List Line) (s t : Progress R C) → Reports step view lines s t → K s t
+  reports_all lines s t r = tells_all r.all s t r.tells

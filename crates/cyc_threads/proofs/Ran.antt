@@ -1,0 +1,70 @@
+-- What a run adds up to.
+use Rattle.std.proofs.Common.{◌≡◌, ℕ, List, sym, ap, subst, ◌∙◌, inr, map, length}
+use Rattle.std.specs.Prelude.{All, flat_map, string_bytes}
+use Rattle.std.proofs.lemmas.List.{length-map}
+use Rattle.cyc_types.specs.declared.level.Level.{Level}
+use Rattle.cyc_types.specs.declared.refusal.Refusal.{Refusal}
+use Rattle.cyc_ring.specs.declared.closed.Closed.{Closed}
+use Rattle.cyc_script.specs.declared.script.Script.{Script}
+use Rattle.cyc_workers.specs.declared.machine.Handlers.{Handlers}
+use Rattle.cyc_workers.specs.declared.machine.Seats.{Seats}
+use Rattle.cyc_thread_rings.specs.declared.levels.Levels.{Levels}
+use Rattle.cyc_thread_rings.specs.declared.levels.Seated.{Seated}
+use Rattle.cyc_thread_rings.specs.Laid.{EachTwo, three, two}
+use Rattle.cyc_thread_rings.specs.Rings.{AreNew, AreClosed}
+use Rattle.cyc_thread_steps.specs.declared.reporting.Line.{Line}
+use Rattle.cyc_threads.specs.declared.running.Ended.{Ended}
+use Rattle.cyc_threads.specs.Reporting.{report_text}
+use Rattle.cyc_threads.specs.Running.{calls_of, HasPlayed, HasRun}
+use Rattle.cyc_threads.specs.Refusing.{WhyNotPlayed, WhyNotRun}
+
+pub many_all : {C : Type 0} (n : ℕ) (before : List (Seated C)) (seats : List (Levels Seats)) → map (λ s. s.seats) before ≡ seats
+    → length seats ≡ n → length before ≡ n
+many_all n before seats e long = sym (length-map before (λ s. s.seats)) ∙ ap (λ (x : List (Levels Seats)). length x) e ∙ long
+
+-- these handlers, put beside seats
+pub given_all : {C : Type 0} (before : List (Seated C)) (handlers : List (Handlers C)) (calls : List C)
+    → map (λ s. s.calls) before ≡ handlers →
+    flat_map three handlers ≡ calls → calls_of before ≡ calls
+given_all before handlers calls e f = ap (λ (x : List (Handlers _)). flat_map three x) e ∙ f
+
+pub new_all : {C : Type 0} (k : ℕ) (before : List (Seated C)) (seats : List (Levels Seats)) → map (λ s. s.seats) before ≡ seats
+    → All (AreNew k) seats →
+    All (AreNew k) (map (λ s. s.seats) before)
+new_all k before seats e new = subst (λ (x : List (Levels Seats)). All (AreNew k) x) (sym e) new
+
+module _ {C : Type 0} (called : C → ℕ → Level → C → Type 0) (count : C → ℕ → ℕ) (may_refuse : C → ℕ → Type 0) (script : Script)
+    (calls : List C)
+    (before : List (Seated C)) (handlers : List (Handlers C)) (seats : List (Levels Seats))
+    (own : map (λ s. s.calls) before ≡ handlers)
+    (laid : flat_map three handlers ≡ calls) (at : map (λ s. s.seats) before ≡ seats)
+    (new : All (AreNew script.ceiling) seats) where
+  pub not_ran : (e : Refusal) → WhyNotPlayed called count may_refuse script before e
+      → WhyNotRun called count may_refuse script calls e
+  not_ran e w = inr (before, given_all before handlers calls own laid, new_all script.ceiling before seats at new, w)
+
+  pub ran : (after : List (Seated C)) (lines : List Line) (text : List ℕ) (e : Ended C) (back : List (Handlers C))
+      (last : List (Levels Seats))
+      (closed : List (Levels Closed)) → length before ≡ script.cpus → HasPlayed called count may_refuse script before after lines
+      →
+      text ≡ report_text (map string_bytes script.names.items) lines → back ≡ map (λ s. s.calls) after
+      → e.calls.items ≡ flat_map three back →
+      last ≡ map (λ s. s.seats) after → EachTwo AreClosed last closed → e.rings.items ≡ flat_map two closed →
+      HasRun called count may_refuse script calls e text
+  ran after lines text e back last closed many played is same list left shut rings = record {
+    before = before;
+    after = after;
+    many = many;
+    given = given_all before handlers calls own laid;
+    back = list ∙ ap (λ (x : List (Handlers C)). flat_map three x) same;
+    new = new_all script.ceiling before seats at new;
+    lines = lines;
+    played = played;
+    text_is = is;
+    closed = record {
+      by_cpu = closed;
+      laid = rings;
+      closed =
+          subst (λ (x : List (Levels Seats)). EachTwo AreClosed x closed) left shut;
+    };
+  }

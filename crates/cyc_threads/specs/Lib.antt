@@ -1,0 +1,4 @@
+pub mod Reporting
+pub mod Running
+pub mod Refusing
+pub mod Working
