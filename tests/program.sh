@@ -55,6 +55,9 @@ expect name_twice 2 '' 'script refused 22 step 2' '{"cpus":1,"steps":[["add","a"
 expect no_name 2 '' 'script refused 23 step 1' '{"cpus":1,"steps":[["remove","a"]]}' replay
 expect at_never 2 '' 'script refused 20 step 1' '{"cpus":1,"steps":[["advance",9223372036854775807]]}' replay
 expect no_steps 0 '' '' '{"cpus":1,"steps":[]}' replay
+expect no_steps_in_threads 0 '' '' '{"cpus":1,"steps":[]}' run
+expect no_json_in_threads 2 '' 'script refused 19' '{"cpus":1,"steps":[' run
+expect a_removal_in_threads 0 $'a expired 100 called 100 lost 0 pending 0\n' '' '{"cpus":1,"steps":[["add","a","low",1,1],["advance",100],["remove","a"],["advance",200]]}' run
 
 # scripts that are refused, or as great as they may be
 first=$(cat crates/cyclic/stdin)
@@ -155,9 +158,19 @@ tests/greatest.py || failed=1
 # each example that the program runs so far gives the text beside it
 for script in examples/*.json; do
   text=${script%.json}.txt
-  if ! ./cyclic replay < "$script" 2>/dev/null | cmp -s - "$text"; then
+  case $script in */threads.json) word=run ;; *) word=replay ;; esac
+  if ! ./cyclic $word < "$script" 2>/dev/null | cmp -s - "$text"; then
     echo "program: $script: other text than $text"
     failed=1
+  fi
+done
+
+# a run in threads gives the same bytes whatever the schedule
+for _ in $(seq 100); do
+  if ! timeout 20 "$program" run < examples/threads.json 2> "$work/said" | cmp -s - examples/threads.txt; then
+    echo "program: examples/threads.json: another report, and '$(head -c 300 "$work/said")'"
+    failed=1
+    break
   fi
 done
 

@@ -109,6 +109,8 @@ def read(path):
 
 def examples(work, writes):
     for path in sorted(glob.glob(f"{TOP}/examples/*.json")):
+        if os.path.basename(path) == "threads.json":  # run by `cyclic run`, whose text tells no order to draw
+            continue
         script, beside = read(path), path[:-5] + ".svg"
         text = replayed(script)
         drawn = picture(script, text, work)[1].encode()

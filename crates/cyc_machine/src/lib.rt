@@ -15,5 +15,6 @@ pub use cyc_model::{
 pub use cyc_replay::{RunFault, replay, run_script};
 pub use cyc_script::{Add, Bind, Name, Omni, Reprogram, Script, Softint, Step, read_script};
 pub use cyc_text::{BoundedWriter, Out, PutFailed, Sink};
+pub use cyc_threads::{Ended, run};
 pub use fault::{Fault, status_of};
 pub use words::{Command, command_of};

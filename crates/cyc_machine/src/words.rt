@@ -11,12 +11,14 @@ use std::alloc::Global;
 pub enum Command {
     /// Replay a script on one thread.
     Replay,
+    /// Run a script in threads.
+    Run,
 }
 
 /// The command that the program's words ask for, without the program's own name.
 ///
-/// It is `Fault::Words` for all but the one word `replay`, which is exact: an option and a `--` before it are wrong words
-/// too. It is `Fault::Memory` only where memory was refused, which the parser takes.
+/// It is `Fault::Words` for all but the one word `replay` or `run`, which is exact: an option and a `--` before it are wrong
+/// words too. It is `Fault::Memory` only where memory was refused, which the parser takes.
 pub fn command_of(alloc: Global, words: &[&str]) -> Result<Command, Fault>
     ensures { OnOk result (length words.now ≡ 1) }
 {
@@ -34,6 +36,7 @@ pub fn command_of(alloc: Global, words: &[&str]) -> Result<Command, Fault>
     let matches = command.try_get_matches_from(words)?;
     match matches.get_str("command") {
         Some("replay") => Ok(Command::Replay),
+        Some("run") => Ok(Command::Run),
         _ => Err(Fault::Words),
     }
 }

@@ -301,12 +301,16 @@ fn is_replay(alloc: Global, words: &[&str]) -> bool {
     matches!(command_of(alloc, words), Ok(Command::Replay))
 }
 
+fn is_run(alloc: Global, words: &[&str]) -> bool {
+    matches!(command_of(alloc, words), Ok(Command::Run))
+}
+
 /// Whether the words are refused as no command.
 fn is_no_command(alloc: Global, words: &[&str]) -> bool {
     matches!(command_of(alloc, words), Err(Fault::Words))
 }
 
-static NO_WORDS: [&str; 11] = [
+static NO_WORDS: [&str; 13] = [
     "--",
     "--help",
     "-h",
@@ -317,7 +321,9 @@ static NO_WORDS: [&str; 11] = [
     "Replay",
     "--replay",
     "replay ",
-    "run",
+    "Run",
+    "--run",
+    "run ",
 ];
 
 static NO_PAIRS: [[&str; 2]; 5] = [
@@ -331,6 +337,7 @@ static NO_PAIRS: [[&str; 2]; 5] = [
 #[test]
 fn only_the_exact_word_is_a_command(rt: HostRuntime) {
     assert!(rt; is_replay(rt.alloc(), &["replay"]));
+    assert!(rt; is_run(rt.alloc(), &["run"]));
     assert!(rt; is_no_command(rt.alloc(), &[]));
     for word in &NO_WORDS {
         assert!(rt; is_no_command(rt.alloc(), &[*word]), "at {word}");

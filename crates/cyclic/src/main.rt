@@ -1,18 +1,21 @@
-//! `cyclic replay`: reads a script from standard input, runs it, and writes its text to standard output.
+//! `cyclic replay` and `cyclic run`: reads a script from standard input, runs it on one thread or in threads, and writes its text
+//! to standard output.
 #![tactic(auto)]
 
-ghost use Rattle.std.specs.Prelude.{◌≡◌, ◌≢◌};
+ghost use Rattle.std.specs.Prelude.{◌≡◌, ◌≢◌, ◌*◌, length, IfOk};
 ghost use Rattle.std.specs.IoError.{error_kind};
 
 use cyc_machine::{
     BoundedReader, BoundedWriter, Command, Fault, Out, RunFault, Script, command_of, read_input,
-    read_script, replay, status_of,
+    read_script, replay, run, status_of,
 };
-use cyc_types::Refusal;
+use cyc_types::{CyclicId, Refusal, Tally};
 use std::alloc::Global;
 use std::env::Env;
 use std::io::{BufWriter, ErrorKind, Write};
 use std::process::ExitCode;
+use std::sync::Wait;
+use std::thread::Threads;
 use std::{env, io};
 
 /// The fault where the words were not given: refused memory, or a word that is not UTF-8.
@@ -53,11 +56,42 @@ fn run_refused(why: Refusal) -> Fault {
     Fault::Run(RunFault::Refused(why))
 }
 
-/// Runs the script into the writer, and gives the writer back.
-fn run<W: Write + Drop>(alloc: Global, script: &Script, writer: W) -> Result<W, Fault> {
+/// Runs the script on one thread into the writer, and gives the writer back.
+fn replay_into<W: Write + Drop>(alloc: Global, script: &Script, writer: W) -> Result<W, Fault> {
     let mut out = Out::new(writer);
     match replay(alloc, script, &mut out) {
         Ok(()) => Ok(out.into_inner()),
+        Err(RunFault::Refused(why)) => Err(run_refused(why)),
+        Err(RunFault::Write) => Err(Fault::Run(RunFault::Write)),
+    }
+}
+
+/// Handlers that count the calls of all cyclics of the script: three for each CPU.
+fn tallies(alloc: Global, script: &Script) -> Result<Vec<Tally>, Fault>
+    ensures { IfOk result (λ calls. length calls.items ≡ 3 * script.now.cpus) }
+{
+    let Some(first) = CyclicId::new(1) else {
+        unreachable!()
+    };
+    let mut calls = Vec::new(alloc);
+    for _ in 0..3 * script.cpus {
+        let tally = Tally::new(alloc, first, script.names.len(), u64::MAX)?;
+        calls.push(tally).map_err(|_| Fault::Memory)?;
+    }
+    Ok(calls)
+}
+
+/// Runs the script in threads into the writer, and gives the writer back.
+fn run_into<R: Threads + Wait + Sync, W: Write + Drop>(
+    rt: &R,
+    alloc: Global,
+    script: &Script,
+    writer: W,
+) -> Result<W, Fault> {
+    let calls = tallies(alloc, script)?;
+    let mut out = Out::new(writer);
+    match run(rt, alloc, script, calls, &mut out) {
+        Ok(_ended) => Ok(out.into_inner()),
         Err(RunFault::Refused(why)) => Err(run_refused(why)),
         Err(RunFault::Write) => Err(Fault::Run(RunFault::Write)),
     }
@@ -69,13 +103,16 @@ fn flushed(ended: io::Result<()>) -> Result<(), Fault> {
 }
 
 /// Finds the faults in the order of the words, the reading, the script and the run.
-fn go<R: Env + AllocGlobal + Input + Print>(rt: &R) -> Result<(), Fault> {
-    let Command::Replay = command(rt)?;
+fn go<R: Env + AllocGlobal + Input + Print + Threads + Wait + Sync>(rt: &R) -> Result<(), Fault> {
+    let command = command(rt)?;
     let bytes = read_input(rt.alloc(), &mut BoundedReader::new(rt.reader()))?;
     let script = script(rt.alloc(), bytes.as_slice())?;
     let bounded = BoundedWriter::new(io::writer(rt));
     let writer = BufWriter::new(rt.alloc(), bounded).map_err(|_| Fault::Memory)?;
-    let mut writer = run(rt.alloc(), &script, writer)?;
+    let mut writer = match command {
+        Command::Replay => replay_into(rt.alloc(), &script, writer)?,
+        Command::Run => run_into(rt, rt.alloc(), &script, writer)?,
+    };
     flushed(writer.flush())
 }
 
