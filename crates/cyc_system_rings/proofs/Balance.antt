@@ -1,6 +1,6 @@
 -- What a lead does adds up for each id.
-use Rattle.std.proofs.Common.{◌≡◌, ◌∙◌, ◌==◌, ℕ, zero, suc, ◌+◌, ◌<◌, length, Bool, true, false, cond, inl, inr, Option, Some}
-use Rattle.std.proofs.Common.{None, Result, Ok, Err, List, [], ◌∷◌, get_or, slice_set, refl, sym, ap, subst, arith}
+use Rattle.std.proofs.Common.{◌≡◌, ◌∙◌, ◌==◌, ℕ, ◌+◌, length, Bool, true, false, cond, inl, inr, Option, Some}
+use Rattle.std.proofs.Common.{None, Result, Ok, Err, List, [], ◌∷◌, get_or, refl, sym, ap, subst, arith}
 use Rattle.std.specs.Prelude.{sum_by}
 use Rattle.std.specs.List.{slice_get, FoldsTo}
 use Rattle.std.specs.Option.{option_map_or}
@@ -16,20 +16,17 @@ use Rattle.cyc_fire.specs.declared.fire.FireRefused.{FireRefused}
 use Rattle.cyc_timers.specs.Rows.{Cyclic, timers}
 use Rattle.cyc_cpu.specs.Cpu.{CpuView, Running, running, HasNoCyclic}
 use Rattle.cyc_cpu.specs.Law.{IsLawful}
-use Rattle.cyc_cpu.specs.Calls.{CpuCall, Does as CpuDoes, Fire, AskSettled, no_interrupts}
+use Rattle.cyc_cpu.specs.Calls.{Does as CpuDoes, Fire, no_interrupts}
 use Rattle.cyc_cpu_laws.specs.Accounts.{account_of, made_by, Proceeds, expired_of, lost_of}
 use Rattle.cyc_cpu_laws.proofs.Accounting.{proceeds_one}
 use Rattle.cyc_cpu_laws.proofs.Fires.{no_share, no_cyclic, fired_away}
 use Rattle.cyc_cpu_laws.proofs.Ways.{passes_few}
 use Rattle.cyc_places.specs.Places.{HasNoRecord}
-use Rattle.cyc_cpus.specs.Cpus.{CpusView, IsCpu}
 use Rattle.cyc_agreement.proofs.Lists.{eq_true, true_eq}
 use Rattle.cyc_agreement.proofs.Spots.{same_some, none_some}
 use Rattle.cyc_agreement.proofs.Recording.{found}
-use Rattle.cyc_workers.specs.Settling.{Asks}
-use Rattle.cyc_cpu_workers.specs.Settled.{AllAsked}
 use Rattle.cyc_system.specs.SystemRemoval.TheVariants.{Done, Kept}
-use Rattle.cyc_system.specs.System.{SystemView, RunningSystem, running_system}
+use Rattle.cyc_system.specs.System.{SystemView, running_system}
 use Rattle.cyc_system.specs.Laws.{cyclic_in}
 use Rattle.cyc_system.specs.Counts.{all_expired, all_lost}
 use Rattle.cyc_system.specs.Calls.{SystemCall, Changes, Does, Add, AddOmni, Bind, BeginRemove, PollRemove, AskTotals, Reprogram}
@@ -41,7 +38,7 @@ use Rattle.cyc_system_laws.proofs.Over.{begun_over, polled_over}
 use Rattle.cyc_system_laws.proofs.Stays.{stays_over}
 use Rattle.cyc_system_counts.specs.Sound.{IsSound}
 use Rattle.cyc_system_counts.specs.Keeping.{EndsRemoval}
-use Rattle.cyc_system_counts.proofs.Flow.{on_cpu, on_cpus, sum_set}
+use Rattle.cyc_system_counts.proofs.Flow.{on_cpu}
 use Rattle.cyc_system_counts.proofs.Found.{stays_found}
 use Rattle.cyc_system_counts.proofs.Counts.{counts_same}
 use Rattle.cyc_cpu_workers.specs.declared.settling.Lead.{Lead}
@@ -51,8 +48,8 @@ use Rattle.cyc_system_workers.specs.Advancing.{AllFire, FiresIf}
 use Rattle.cyc_system_workers.specs.Settling.{OnlyAsked}
 use Rattle.cyc_system_rings.specs.Leading.{LeadCall, Make, FireAll, AskAll, Leads, LeadSteps}
 use Rattle.cyc_system_rings.specs.Rings.{counted_by, receipt_of, receipt_in, first_of}
-use Rattle.cyc_system_rings.proofs.Raising.{sums_same, sums_even, raised_at, dropped_at, Same, changes_raise, changes_long}
-use Rattle.cyc_system_rings.proofs.Raising.{asked_raise}
+use Rattle.cyc_system_rings.proofs.Raising.{sums_same, sums_even, stands, raised_at, dropped_at, Same, changes_raise}
+use Rattle.cyc_system_rings.proofs.Raising.{leads_long, asked_cyclics, asked_raise}
 
 abbrev sent : Sent → ℕ
 sent e = e.sent
@@ -140,12 +137,6 @@ module _ {C R : Type 0} (called : C → ℕ → Level → C → Type 0) (count :
       let q = ap (λ (r : Running C R). dropped_at step view raised dropped adds id r.cpu) e in
       (omega (arith, x, y, z), omega (arith, p, q))
 
-  -- something stands at each place below the length
-  stands : {A : Type 0} (xs : List A) (n : ℕ) → n < length xs → (x : A) × (slice_get xs n ≡ Some x)
-  stands [] n low = absurd (omega (arith, low))
-  stands (x ∷ xs) zero low = (x, refl)
-  stands (x ∷ xs) (suc n) low = stands xs n (omega (arith, low))
-
   fires_even : (now : ℕ) (s : SystemSide R C) (b : Advanced R C) → IsSound view s.system → IsSound view b.side.system
       → length s.leads.items ≡ length s.system.cpus.cpus → AllFire called count may_refuse step view now s b
       → Even s b.side (totals b.side.system)
@@ -180,12 +171,6 @@ module _ {C R : Type 0} (called : C → ℕ → Level → C → Type 0) (count :
           if_fired up now (running l.calls x) (running m.calls y) answer (sound.lawful n x p)
           (f.each n up x y l m answer at p q u v told)
 
-  -- CPUs that were asked have the same cyclics
-  asked_cyclics : (answers : List Bool) (x y : CpuView R) → FoldsTo (Asks step view) x answers y → y.cyclics ≡ x.cyclics
-  asked_cyclics [] x y e = ap (λ (z : CpuView R). z.cyclics) (sym e)
-  asked_cyclics (true ∷ answers) x y (z, (first, lawful), rest) = asked_cyclics answers z y rest ∙ first.0.cyclics
-  asked_cyclics (false ∷ answers) x y (z, (first, lawful), rest) = asked_cyclics answers z y rest ∙ first.0.cyclics
-
   asks_even : (s t : SystemSide R C) → OnlyAsked step view s t → Even s t (totals t.system)
   asks_even s t a = even_same s t
       (let x = sums_same (λ (cpu : CpuView R). option_map_or (λ (c : Cyclic). c.timer.expired) (cyclic_in id cpu) 0)
@@ -200,7 +185,7 @@ module _ {C R : Type 0} (called : C → ℕ → Level → C → Type 0) (count :
     where
       same : (n : ℕ) (x y : CpuView R) → slice_get s.system.cpus.cpus n ≡ Some x → slice_get t.system.cpus.cpus n ≡ Some y
           → y.cyclics ≡ x.cyclics
-      same n x y p q = let w = a.cpus.each n x y p q in asked_cyclics w.0 x y w.1
+      same n x y p q = let w = a.cpus.each n x y p q in asked_cyclics step view w.0 x y w.1
 
   -- one of a run, that doesn't end the removal of the id
   step_even : (s t : SystemSide R C) (call : LeadCall) → Leads called count may_refuse step view s call t → IsSound view s.system
@@ -347,7 +332,7 @@ module _ {C R : Type 0} (called : C → ℕ → Level → C → Type 0) (count :
       given = (let g = is_over.given in let l = a.last in omega (arith, g, l));
       unknown = subst (λ rs. HasNoRecord id rs) (sym a.records) is_over.unknown;
       nowhere = λ n y q. (let (x, p) = there n y q in let w = a.cpus.each n x y p q in
-          subst (λ cs. HasNoCyclic id cs) (sym (asked_cyclics w.0 x y w.1)) (is_over.nowhere n x p));
+          subst (λ cs. HasNoCyclic id cs) (sym (asked_cyclics step view w.0 x y w.1)) (is_over.nowhere n x p));
     };
     same = asked_raise step view raised dropped adds id s.system.cpus.cpus t.system.cpus.cpus a.cpus;
     uncalled = λ i. counted_by count id (a.leads i).items;
@@ -386,19 +371,6 @@ module _ {C R : Type 0} (called : C → ℕ → Level → C → Type 0) (count :
   abbrev D : SystemSide R C → LeadCall → SystemSide R C → Type 0
   D = LeadSteps called count may_refuse step view
 
-  -- there is still something to lead each CPU
-  step_ready : (s t : SystemSide R C) (call : LeadCall) → Leads called count may_refuse step view s call t
-      → length s.leads.items ≡ length s.system.cpus.cpus → length t.leads.items ≡ length t.system.cpus.cpus
-  step_ready s t (Make call) (d, e) ready =
-      let a = changes_long step view s.system t.system call d in
-      let b : length t.leads.items ≡ length s.leads.items = λ i. length (e i).items in omega (arith, a, b, ready)
-  step_ready s t (FireAll now) (after, f, same) ready =
-      let a = f.long in let b = f.long_leads in
-      subst (λ (x : SystemSide R C). length x.leads.items ≡ length x.system.cpus.cpus) (sym same) (omega (arith, a, b, ready))
-  step_ready s t AskAll a ready = let b : length t.leads.items ≡ length s.leads.items = λ i. length (a.leads i).items in let c =
-      a.cpus.long in
-      omega (arith, b, c, ready)
-
   run_over : (s t : SystemSide R C) (way : List LeadCall) → FoldsTo D s way t → IsSound view s.system
       → length s.leads.items ≡ length s.system.cpus.cpus → IsOver id s.system
       → Same step view raised dropped adds id s.system.cpus.cpus t.system.cpus.cpus
@@ -409,7 +381,7 @@ module _ {C R : Type 0} (called : C → ℕ → Level → C → Type 0) (count :
   )
   run_over s t (call ∷ way) (u, (d, sound), rest) a ready o =
       let k = step_over s u call d a ready o in
-      let ((p, q), h) = run_over u t way rest sound (step_ready s u call d ready) k.is_over in
+      let ((p, q), h) = run_over u t way rest sound (leads_long called count may_refuse step view s u call d ready) k.is_over in
       ((p ∙ k.same.0, q ∙ k.same.1), h ∙ k.uncalled)
 
   -- ---- a whole run
@@ -476,7 +448,7 @@ module _ {C R : Type 0} (called : C → ℕ → Level → C → Type 0) (count :
   run_even s t [] run a ready = subst (λ (x : SystemSide R C). Even s x (totals x.system)) run
       (even_same s s refl refl (refl, refl) refl)
   run_even s t (call ∷ way) (u, (d, sound), rest) a ready = by (receipt_of id call) refl
-      (run_even u t way rest sound (step_ready s u call d ready))
+      (run_even u t way rest sound (leads_long called count may_refuse step view s u call d ready))
     where
       by : (o : Option Receipt) → receipt_of id call ≡ o → Even u t (counts way t.system) → Even s t (option_map_or
           (λ r. record { sent = r.sent; lost = r.lost }) (first_of o (receipt_in id way)) (totals t.system))
@@ -484,6 +456,6 @@ module _ {C R : Type 0} (called : C → ℕ → Level → C → Type 0) (count :
           let p = x.expired in let q = y.expired in let l = x.losses in let m = y.losses in
           record { expired = omega (arith, p, q); losses = omega (arith, l, m) }
       by (Some r) e y = let x = ends s u call r d a e in let ((p, q), h) =
-          run_over u t way rest sound (step_ready s u call d ready) x.is_over in
+          run_over u t way rest sound (leads_long called count may_refuse step view s u call d ready) x.is_over in
           let (b, c) = x.same in let k = x.uncalled in let m = x.expired in let n = x.losses in
           record { expired = omega (arith, p, h, b, k, m); losses = omega (arith, q, c, n) }

@@ -1,15 +1,15 @@
 -- Rings that were closed over settled CPUs.
-use Rattle.std.proofs.Common.{◌≡◌, ℕ, ◌+◌, List, [], ◌∷◌, Option, Some, None, refl, sym, ap, ◌∙◌, arith}
+use Rattle.std.proofs.Common.{◌≡◌, ℕ, ◌+◌, List, [], ◌∷◌, Option, Some, None, refl, ap, ◌∙◌, arith}
 use Rattle.std.specs.Prelude.{sum_by}
 use Rattle.std.proofs.lemmas.List.Sums.{sum_by-cons}
 use Rattle.cyc_types.specs.Firing.{seen_of, seen_in}
 use Rattle.cyc_level.specs.Runs.{StayCounts}
-use Rattle.ring_rule.specs.Trail.{open_stay, seen_pend, made_calls, raises_of, losses_of}
-use Rattle.ring_rule.specs.Conservation.{IsPending, IsAccounted}
+use Rattle.ring_rule.specs.Trail.{open_stay, seen_pend, raises_of, losses_of}
+use Rattle.ring_rule.specs.Conservation.{IsPending}
 use Rattle.cyc_ring.specs.declared.ends.RaiseEnd.{RaiseEnd}
 use Rattle.cyc_ring.specs.declared.closed.Closed.{Closed}
 use Rattle.cyc_ring.specs.Views.{stay_with}
-use Rattle.cyc_ring.specs.Ends.{raise_trail, drain_trail, end_view}
+use Rattle.cyc_ring.specs.Ends.{raise_trail, end_view}
 use Rattle.cyc_ring.specs.Books.{closed_raises, closed_made}
 use Rattle.cyc_cpu.specs.Cpu.{CpuView}
 use Rattle.cyc_system_rings.specs.Rings.{raised_on, dropped_on, IsClosedOver, AreClosed, all_made}

@@ -1,3 +1,4 @@
 pub mod Beginning
+pub mod ByLevel
 pub mod Leading
 pub mod Rings

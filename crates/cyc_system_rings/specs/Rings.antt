@@ -14,9 +14,9 @@ use Rattle.cyc_cpu.specs.Moving.{IsSettled}
 use Rattle.cyc_system.specs.SystemRemoval.TheVariants.{Done}
 use Rattle.cyc_system.specs.System.{SystemView}
 use Rattle.cyc_system.specs.Counts.{all_expired, all_lost}
-use Rattle.cyc_system.specs.Calls.{SystemCall, BeginRemove, PollRemove}
+use Rattle.cyc_system.specs.Calls.{BeginRemove, PollRemove}
 use Rattle.cyc_cpu_workers.specs.declared.settling.Lead.{Lead}
-use Rattle.cyc_system_rings.specs.Leading.{LeadCall, Make, FireAll, AskAll}
+use Rattle.cyc_system_rings.specs.Leading.{LeadCall, Make}
 
 -- the raises of an id at the two ends of a CPU since their rings were opened, and those that were lost
 abbrev pub raised_on : ℕ → CpuView RaiseEnd → ℕ
@@ -44,9 +44,9 @@ receipt_of id (Make (BeginRemove own (Ok (Done receipt)))) = cond (own == id) (S
 receipt_of id (Make (PollRemove own (Ok (Some receipt)))) = cond (own == id) (Some receipt) None
 receipt_of id call = None
 
-abbrev pub first_of : Option Receipt → Option Receipt → Option Receipt
+abbrev pub first_of : {A : Type 0} → Option A → Option A → Option A
 first_of None later = later
-first_of (Some receipt) later = Some receipt
+first_of (Some x) later = Some x
 
 abbrev pub receipt_in : ℕ → List LeadCall → Option Receipt
 receipt_in id [] = None

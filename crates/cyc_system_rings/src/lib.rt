@@ -3,5 +3,7 @@
 #![tactic(auto)]
 
 mod conserving;
+mod leveling;
 
 pub use conserving::conserved_law;
+pub use leveling::conserved_by_level_law;

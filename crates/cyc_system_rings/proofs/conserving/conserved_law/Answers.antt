@@ -1,6 +1,4 @@
-use Rattle.cyc_types.specs.Firing.{FiringCall}
-use Rattle.cyc_types.specs.Runs.{Goes}
-use Rattle.std.proofs.Common.{ℕ, List}
+use Rattle.std.proofs.Common.{ℕ}
 use Rattle.ring_rule.specs.Trail.{raises_of, losses_of}
 use Rattle.cyc_ring.specs.declared.ends.RaiseEnd.{RaiseEnd}
 use Rattle.cyc_ring.specs.Ends.{raise_trail, end_view, RaiseEndCall}

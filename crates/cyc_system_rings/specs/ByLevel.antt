@@ -1,0 +1,66 @@
+-- What is so of each id at one level, over all CPUs.
+use Rattle.std.specs.Prelude.{◌≡◌, ℕ, ◌==◌, cond, sum_by, length, Bool, false, List, [], ◌∷◌, Option, Some, None, Ok}
+use Rattle.std.specs.List.{FoldsTo}
+use Rattle.std.specs.Option.{option_map_or}
+use Rattle.cyc_types.specs.declared.firing.Sent.{Sent}
+use Rattle.cyc_types.specs.declared.level.Level.{Level}
+use Rattle.cyc_types.specs.declared.level.Soft.{Soft}
+use Rattle.cyc_types.specs.declared.level.Soft.TheVariants.{Low, Lock}
+use Rattle.ring_rule.specs.Trail.{raises_of, losses_of}
+use Rattle.cyc_ring.specs.declared.ends.RaiseEnd.{RaiseEnd}
+use Rattle.cyc_ring.specs.Ends.{raise_trail, end_view, RaiseEndCall}
+use Rattle.cyc_timers.specs.Rows.{no_counts}
+use Rattle.cyc_fire.specs.Acts.{same_level}
+use Rattle.cyc_cpu.specs.Cpu.{CpuView}
+use Rattle.cyc_system.specs.System.{SystemView}
+use Rattle.cyc_system.specs.Calls.{Add, AddOmni}
+use Rattle.cyc_system_counts.specs.Sound.{IsSound}
+use Rattle.cyc_system_workers.specs.declared.side.SystemSide.{SystemSide}
+use Rattle.cyc_system_rings.specs.Beginning.{IsNewSystem}
+use Rattle.cyc_system_rings.specs.Leading.{LeadCall, Make, LeadSteps}
+use Rattle.cyc_system_rings.specs.Rings.{first_of, counts_in}
+
+-- ---- the level of an id
+
+-- the level with which a call gave this id
+abbrev pub level_given : ℕ → LeadCall → Option Level
+level_given id (Make (Add level when now (Ok own))) = cond (own == id) (Some level) None
+level_given id (Make (AddOmni level when skew now (Ok own))) = cond (own == id) (Some level) None
+level_given id call = None
+
+-- that with which one of these calls gave it
+abbrev pub level_in : ℕ → List LeadCall → Option Level
+level_in id [] = None
+level_in id (call ∷ way) = first_of (level_given id call) (level_in id way)
+
+abbrev pub is_own : Level → Option Level → Bool
+is_own level known = option_map_or (same_level level) known false
+
+-- what is told of the id at the end of a run, where this is its level; nothing at another
+abbrev pub counts_at : Level → ℕ → List LeadCall → SystemView RaiseEnd → Sent
+counts_at level id way t = cond (is_own level (level_in id way)) (counts_in id way t) no_counts
+
+-- ---- one soft level
+
+-- the firing end of a CPU
+abbrev pub end_of : {R : Type 0} → Soft → CpuView R → R
+end_of Low cpu = cpu.low
+end_of Lock cpu = cpu.lock
+
+-- the raises of an id at the ends of all CPUs, since their rings were opened; and those that were lost
+abbrev pub raised_at : Soft → ℕ → SystemView RaiseEnd → ℕ
+raised_at soft id s = sum_by (λ cpu. raises_of id (raise_trail (end_of {R = RaiseEnd} soft cpu).seat)) s.cpus.cpus
+
+abbrev pub dropped_at : Soft → ℕ → SystemView RaiseEnd → ℕ
+dropped_at soft id s = sum_by (λ cpu. losses_of id (raise_trail (end_of {R = RaiseEnd} soft cpu).seat)) s.cpus.cpus
+
+-- ---- a run from its beginning
+
+-- the lead made these calls, in order, from a new system on
+pub record LeadsFromNew {C : Type 0} (called : C → ℕ → Level → C → Type 0) (count : C → ℕ → ℕ) (may_refuse : C → ℕ → Type 0)
+    (s : SystemSide RaiseEnd C) (way : List LeadCall) (t : SystemSide RaiseEnd C) : Type 0 where
+  pub begins : IsNewSystem s.system
+  pub sound : IsSound end_view s.system
+  -- something leads each CPU
+  pub ready : length s.leads.items ≡ length s.system.cpus.cpus
+  pub run : FoldsTo (LeadSteps called count may_refuse RaiseEndCall end_view) s way t

@@ -1,0 +1,37 @@
+//! The law of conservation at each level.
+
+ghost use Rattle.std.specs.Prelude.{◌≡◌, ℕ, ◌+◌, List, None};
+ghost use Rattle.cyc_types.specs.Levels.{level_of};
+ghost use Rattle.cyc_types.specs.declared.level.Level.TheVariants.{High};
+ghost use Rattle.cyc_types.specs.declared.level.Soft.{Soft as Level};
+ghost use Rattle.cyc_ring.specs.declared.ends.RaiseEnd.{RaiseEnd as AnEnd};
+ghost use Rattle.cyc_timers.specs.Rows.{no_counts};
+ghost use Rattle.cyc_system_workers.specs.declared.side.SystemSide.{SystemSide};
+ghost use Rattle.cyc_system_rings.specs.Leading.{LeadCall};
+ghost use Rattle.cyc_system_rings.specs.Rings.{counted_by, counts_in};
+ghost use Rattle.cyc_system_rings.specs.ByLevel.{level_in, counts_at, raised_at, dropped_at};
+ghost use Rattle.cyc_system_rings.specs.ByLevel.{LeadsFromNew};
+
+use cyc_types::Calls;
+
+/// From a new system on, whatever the lead does, all that happens of an id happens at the level with which it was given: the
+/// raises at the ends of that level, or the calls of the high levels' handlers, grow by its expirations, and nothing of it is
+/// raised or called at another level. Its losses are those of the raises of its level; a cyclic of the high level loses none.
+///
+/// It does nothing when it runs: its clauses are the law.
+pub fn conserved_by_level_law<C: Calls>()
+    ensures raised { (id : ℕ) (soft : Level) (s t : SystemSide AnEnd C) (way : List LeadCall)
+        → LeadsFromNew C.called C.count C.may_refuse s way t
+        → raised_at soft id t.system ≡ raised_at soft id s.system + (counts_at (level_of soft) id way t.system).sent }
+    ensures lost { (id : ℕ) (soft : Level) (s t : SystemSide AnEnd C) (way : List LeadCall)
+        → LeadsFromNew C.called C.count C.may_refuse s way t
+        → dropped_at soft id t.system ≡ dropped_at soft id s.system + (counts_at (level_of soft) id way t.system).lost }
+    ensures called { (id : ℕ) (s t : SystemSide AnEnd C) (way : List LeadCall)
+        → LeadsFromNew C.called C.count C.may_refuse s way t
+        → counted_by C.count id t.leads.items ≡ counted_by C.count id s.leads.items + (counts_at High id way t.system).sent }
+    ensures kept { (id : ℕ) (s t : SystemSide AnEnd C) (way : List LeadCall)
+        → LeadsFromNew C.called C.count C.may_refuse s way t → (counts_at High id way t.system).lost ≡ 0 }
+    // Nothing is told of an id that was not given.
+    ensures ungiven { (id : ℕ) (s t : SystemSide AnEnd C) (way : List LeadCall)
+        → LeadsFromNew C.called C.count C.may_refuse s way t → level_in id way ≡ None → counts_in id way t.system ≡ no_counts }
+{}
