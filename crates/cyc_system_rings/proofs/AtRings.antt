@@ -1,20 +1,28 @@
 -- The law of each level, where the ends are those of rings.
-use Rattle.std.proofs.Common.{◌≡◌, ℕ, ◌+◌, None, List, arith}
+use Rattle.std.proofs.Common.{◌≡◌, ℕ, ◌+◌, None, List, ap, arith}
+use Rattle.std.specs.Prelude.{sum_by}
+use Rattle.cyc_types.specs.Levels.{level_of}
+use Rattle.cyc_types.specs.Levels as types
 use Rattle.cyc_types.specs.Firing.{FiringCall}
 use Rattle.cyc_types.specs.Runs.{Goes, raised_by, lost_by}
 use Rattle.cyc_types.specs.declared.level.Level.{Level}
 use Rattle.cyc_types.specs.declared.level.Level.TheVariants.{Low, Lock, High}
+use Rattle.cyc_types.specs.declared.level.Soft.{Soft}
 use Rattle.cyc_types.specs.declared.level.Soft.TheVariants as soft
 use Rattle.ring_rule.specs.Trail.{raises_of, losses_of}
 use Rattle.cyc_ring.specs.declared.ends.RaiseEnd.{RaiseEnd}
+use Rattle.cyc_ring.specs.declared.closed.Closed.{Closed}
 use Rattle.cyc_ring.specs.Ends.{raise_trail, end_view, RaiseEndCall}
 use Rattle.cyc_ring.proofs.Ways.{raise_ways}
 use Rattle.cyc_timers.specs.Rows.{no_counts}
+use Rattle.cyc_removing.proofs.Sums.{sum_none}
+use Rattle.cyc_system.specs.System.{SystemView}
 use Rattle.cyc_system_workers.specs.declared.side.SystemSide.{SystemSide}
 use Rattle.cyc_system_rings.specs.Leading.{LeadCall}
-use Rattle.cyc_system_rings.specs.Rings.{counted_by, counts_in}
-use Rattle.cyc_system_rings.specs.ByLevel.{level_in, counts_at, LeadsFromNew}
+use Rattle.cyc_system_rings.specs.Rings.{counted_by, counts_in, AreClosed}
+use Rattle.cyc_system_rings.specs.ByLevel.{level_in, counts_at, rings_of, made_at, AreServed, LeadsFromNew, HasNewEnds}
 use Rattle.cyc_system_rings.specs.ByLevel as by
+use Rattle.cyc_system_rings.proofs.Closing.{raised_on_end, dropped_on_end, level_closed, level_served}
 use Rattle.cyc_system_rings.proofs.Levels.{by_level, ungiven}
 
 abbrev raised : ℕ → RaiseEnd → ℕ
@@ -55,3 +63,38 @@ module _ {C : Type 0} (called : C → ℕ → Level → C → Type 0) (count : C
   pub none_given : level_in id way ≡ None → counts_in id way t.system ≡ no_counts
   none_given = ungiven called count may_refuse RaiseEndCall end_view raised dropped ends_add id s t way l.begins l.sound l.ready
       l.run
+
+-- at ends where nothing was done nothing was raised
+module _ (id : ℕ) (s : SystemView RaiseEnd) (new : HasNewEnds s) where
+  none_raised : (own : Soft) → by.raised_at own id s ≡ 0
+  none_raised soft.Lock = sum_none (raised_on_end soft.Lock id) s.cpus.cpus (λ n x at. ap (raises_of id) (new n x at).0)
+  none_raised soft.Low = sum_none (raised_on_end soft.Low id) s.cpus.cpus (λ n x at. ap (raises_of id) (new n x at).1)
+
+  none_dropped : (own : Soft) → by.dropped_at own id s ≡ 0
+  none_dropped soft.Lock = sum_none (dropped_on_end soft.Lock id) s.cpus.cpus (λ n x at. ap (losses_of id) (new n x at).0)
+  none_dropped soft.Low = sum_none (dropped_on_end soft.Low id) s.cpus.cpus (λ n x at. ap (losses_of id) (new n x at).1)
+
+module _ {C : Type 0} (called : C → ℕ → Level → C → Type 0) (count : C → ℕ → ℕ) (may_refuse : C → ℕ → Type 0) (id : ℕ)
+    (s t : SystemSide RaiseEnd C) (way : List LeadCall) (l : LeadsFromNew called count may_refuse s way t)
+    (new : HasNewEnds s.system) (rings : List Closed) (closed : AreClosed t.system.cpus.cpus rings) where
+  pub made_of : (own : Soft) → made_at own id rings + (counts_at (level_of own) id way t.system).lost
+      ≡ (counts_at (level_of own) id way t.system).sent
+  made_of soft.Lock =
+      let (a, b) = at_level called count may_refuse id s t way l Lock in
+      let c = level_closed soft.Lock id t.system.cpus.cpus rings closed in
+      let x = none_raised id s.system new soft.Lock in let y = none_dropped id s.system new soft.Lock in
+      omega (arith, a, b, c, x, y)
+  made_of soft.Low =
+      let (a, b) = at_level called count may_refuse id s t way l Low in
+      let c = level_closed soft.Low id t.system.cpus.cpus rings closed in
+      let x = none_raised id s.system new soft.Low in let y = none_dropped id s.system new soft.Low in
+      omega (arith, a, b, c, x, y)
+
+  pub served_of : (own : Soft) (before after : List C)
+      → AreServed (types.at_level called (level_of own)) count (rings_of own rings) before after
+      → sum_by (λ c. count c id) after + (counts_at (level_of own) id way t.system).lost
+      ≡ sum_by (λ c. count c id) before + (counts_at (level_of own) id way t.system).sent
+  served_of own before after served =
+      let a = made_of own in
+      let b = level_served (types.at_level called (level_of own)) count id (rings_of own rings) before after served in
+      omega (arith, a, b)

@@ -8,17 +8,21 @@ use Rattle.cyc_types.specs.declared.level.Soft.{Soft}
 use Rattle.cyc_types.specs.declared.level.Soft.TheVariants.{Low, Lock}
 use Rattle.ring_rule.specs.Trail.{raises_of, losses_of}
 use Rattle.cyc_ring.specs.declared.ends.RaiseEnd.{RaiseEnd}
+use Rattle.cyc_ring.specs.declared.closed.Closed.{Closed}
 use Rattle.cyc_ring.specs.Ends.{raise_trail, end_view, RaiseEndCall}
+use Rattle.cyc_ring.specs.Books.{closed_made}
 use Rattle.cyc_timers.specs.Rows.{no_counts}
 use Rattle.cyc_fire.specs.Acts.{same_level}
 use Rattle.cyc_cpu.specs.Cpu.{CpuView}
+use Rattle.cyc_cpus.specs.Cpus.{OfCpu}
+use Rattle.cyc_workers.specs.Machine.{HasServed}
 use Rattle.cyc_system.specs.System.{SystemView}
 use Rattle.cyc_system.specs.Calls.{Add, AddOmni}
 use Rattle.cyc_system_counts.specs.Sound.{IsSound}
 use Rattle.cyc_system_workers.specs.declared.side.SystemSide.{SystemSide}
 use Rattle.cyc_system_rings.specs.Beginning.{IsNewSystem}
 use Rattle.cyc_system_rings.specs.Leading.{LeadCall, Make, LeadSteps}
-use Rattle.cyc_system_rings.specs.Rings.{first_of, counts_in}
+use Rattle.cyc_system_rings.specs.Rings.{first_of, counts_in, all_made}
 
 -- ---- the level of an id
 
@@ -54,6 +58,23 @@ raised_at soft id s = sum_by (λ cpu. raises_of id (raise_trail (end_of {R = Rai
 abbrev pub dropped_at : Soft → ℕ → SystemView RaiseEnd → ℕ
 dropped_at soft id s = sum_by (λ cpu. losses_of id (raise_trail (end_of {R = RaiseEnd} soft cpu).seat)) s.cpus.cpus
 
+-- of rings by the numbers of their CPUs, the lock level's before the low level's: those of one level
+abbrev pub rings_of : Soft → List Closed → List Closed
+rings_of Lock (lock ∷ low ∷ rings) = lock ∷ rings_of Lock rings
+rings_of Low (lock ∷ low ∷ rings) = low ∷ rings_of Low rings
+rings_of soft rings = []
+
+-- the calls of an id that the soft sides of the level's rings made
+abbrev pub made_at : Soft → ℕ → List Closed → ℕ
+made_at soft id rings = all_made id (rings_of soft rings)
+
+-- each of these handlers was called for what the soft side of its own ring made, and for nothing else
+abbrev pub AreServed : {C : Type 0} → (C → ℕ → C → Type 0) → (C → ℕ → ℕ) → List Closed → List C → List C → Type 0
+AreServed called count [] [] [] = Unit {0}
+AreServed called count (ring ∷ rings) (c ∷ before) (d ∷ after) =
+    HasServed called count (closed_made ring) c d × AreServed called count rings before after
+AreServed called count rings before after = ⊥
+
 -- ---- a run from its beginning
 
 -- the lead made these calls, in order, from a new system on
@@ -64,3 +85,7 @@ pub record LeadsFromNew {C : Type 0} (called : C → ℕ → Level → C → Typ
   -- something leads each CPU
   pub ready : length s.leads.items ≡ length s.system.cpus.cpus
   pub run : FoldsTo (LeadSteps called count may_refuse RaiseEndCall end_view) s way t
+
+-- nothing was done at any firing end
+abbrev pub HasNewEnds : SystemView RaiseEnd → Type 0
+HasNewEnds s = (n : ℕ) → OfCpu n (λ cpu. (raise_trail cpu.lock.seat ≡ []) × (raise_trail cpu.low.seat ≡ [])) s.cpus

@@ -1,16 +1,18 @@
 //! The law of conservation at each level.
 
-ghost use Rattle.std.specs.Prelude.{◌≡◌, ℕ, ◌+◌, List, None};
-ghost use Rattle.cyc_types.specs.Levels.{level_of};
+ghost use Rattle.std.specs.Prelude.{◌≡◌, ℕ, ◌+◌, List, sum_by, None};
+ghost use Rattle.cyc_types.specs.Levels.{level_of, at_level};
 ghost use Rattle.cyc_types.specs.declared.level.Level.TheVariants.{High};
 ghost use Rattle.cyc_types.specs.declared.level.Soft.{Soft as Level};
 ghost use Rattle.cyc_ring.specs.declared.ends.RaiseEnd.{RaiseEnd as AnEnd};
+ghost use Rattle.cyc_ring.specs.declared.closed.Closed.{Closed};
 ghost use Rattle.cyc_timers.specs.Rows.{no_counts};
+ghost use Rattle.cyc_system.specs.System.{SystemView};
 ghost use Rattle.cyc_system_workers.specs.declared.side.SystemSide.{SystemSide};
 ghost use Rattle.cyc_system_rings.specs.Leading.{LeadCall};
-ghost use Rattle.cyc_system_rings.specs.Rings.{counted_by, counts_in};
-ghost use Rattle.cyc_system_rings.specs.ByLevel.{level_in, counts_at, raised_at, dropped_at};
-ghost use Rattle.cyc_system_rings.specs.ByLevel.{LeadsFromNew};
+ghost use Rattle.cyc_system_rings.specs.Rings.{counted_by, counts_in, AreClosed};
+ghost use Rattle.cyc_system_rings.specs.ByLevel.{level_in, counts_at, raised_at, dropped_at, rings_of, made_at, AreServed};
+ghost use Rattle.cyc_system_rings.specs.ByLevel.{LeadsFromNew, HasNewEnds};
 
 use cyc_types::Calls;
 
@@ -34,4 +36,24 @@ pub fn conserved_by_level_law<C: Calls>()
     // Nothing is told of an id that was not given.
     ensures ungiven { (id : ℕ) (s t : SystemSide AnEnd C) (way : List LeadCall)
         → LeadsFromNew C.called C.count C.may_refuse s way t → level_in id way ≡ None → counts_in id way t.system ≡ no_counts }
+{}
+
+/// Where all CPUs have settled and the rings are closed, the soft sides of the rings of an id's level made a call for each of its
+/// expirations that was not lost, and those of another level made none. As often the handlers of each level were called for it.
+/// The rings are new at first.
+///
+/// It does nothing when it runs: its clauses are the law.
+pub fn served_by_level_law<C: Calls>()
+    ensures closed { (id : ℕ) (soft : Level) (t : SystemView AnEnd) (rings : List Closed) → AreClosed t.cpus.cpus rings
+        → made_at soft id rings + dropped_at soft id t ≡ raised_at soft id t }
+    ensures made { (id : ℕ) (soft : Level) (s t : SystemSide AnEnd C) (way : List LeadCall) (rings : List Closed)
+        → LeadsFromNew C.called C.count C.may_refuse s way t → HasNewEnds s.system → AreClosed t.system.cpus.cpus rings
+        → made_at soft id rings + (counts_at (level_of soft) id way t.system).lost
+        ≡ (counts_at (level_of soft) id way t.system).sent }
+    ensures served { (id : ℕ) (soft : Level) (s t : SystemSide AnEnd C) (way : List LeadCall) (rings : List Closed)
+        (before after : List C) → LeadsFromNew C.called C.count C.may_refuse s way t → HasNewEnds s.system
+        → AreClosed t.system.cpus.cpus rings
+        → AreServed (at_level C.called (level_of soft)) C.count (rings_of soft rings) before after
+        → sum_by (λ c. C.count c id) after + (counts_at (level_of soft) id way t.system).lost
+        ≡ sum_by (λ c. C.count c id) before + (counts_at (level_of soft) id way t.system).sent }
 {}

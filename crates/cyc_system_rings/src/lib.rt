@@ -6,4 +6,4 @@ mod conserving;
 mod leveling;
 
 pub use conserving::conserved_law;
-pub use leveling::conserved_by_level_law;
+pub use leveling::{conserved_by_level_law, served_by_level_law};
