@@ -41,7 +41,7 @@ use Rattle.cyc_system_rings.specs.Leading.{LeadCall, Make, FireAll, AskAll, Lead
 use Rattle.cyc_system_rings.specs.Rings.{first_of, counted_by}
 use Rattle.cyc_system_rings.specs.ByLevel.{level_given, level_in, is_own}
 use Rattle.cyc_system_rings.proofs.Raising.{sums_same, stands, asked_cyclics, raised_end, dropped_end, SameEnds, changes_end}
-use Rattle.cyc_system_rings.proofs.Raising.{asked_end, leads_long}
+use Rattle.cyc_system_rings.proofs.Raising.{asked_end, leads_long, maps_same}
 use Rattle.cyc_system_rings.proofs.Elsewhere.{one_at, at_it, here, recorded, IsElsewhere, GivesNot, changes_elsewhere}
 
 -- where a sum is 0 each of its parts is
@@ -172,13 +172,18 @@ module _ {C R : Type 0} (called : C → ℕ → Level → C → Type 0) (count :
         let (l, u) = stands s.leads.items n (omega (arith, low, ready)) in
         let (m, v) = stands b.side.leads.items n (omega (arith, low, ready, k)) in same n x y l m p q u v))
 
+    leads_each : Each s b (deeds High) → (n : ℕ) (l m : Lead C) → slice_get s.leads.items n ≡ Some l
+        → slice_get b.side.leads.items n ≡ Some m → count m.calls id ≡ count l.calls id
+    leads_each same n l m u v =
+        let low = slice_get_within s.leads.items n l u in let e = f.long in
+        let (x, p) = stands s.system.cpus.cpus n (omega (arith, low, ready)) in
+        let (y, q) = stands b.side.system.cpus.cpus n (omega (arith, low, ready, e)) in same n x y l m p q u v
+
     deeds_as : (own : Level) → Each s b (deeds own) → all_deeds own b.side ≡ all_deeds own s
     deeds_as Low same = on_cpus_as (raised_end step view raised dropped adds id soft.Low) same
     deeds_as Lock same = on_cpus_as (raised_end step view raised dropped adds id soft.Lock) same
     deeds_as High same = sums_same (λ (l : Lead C). count l.calls id) s.leads.items b.side.leads.items f.long_leads
-        (λ n l m u v. (let low = slice_get_within s.leads.items n l u in let e = f.long in
-        let (x, p) = stands s.system.cpus.cpus n (omega (arith, low, ready)) in
-        let (y, q) = stands b.side.system.cpus.cpus n (omega (arith, low, ready, e)) in same n x y l m p q u v))
+        (leads_each same)
 
     drops_as : (own : Level) → Each s b (λ r. drops own r.cpu) → all_drops own b.side ≡ all_drops own s
     drops_as Low same = on_cpus_as (dropped_end step view raised dropped adds id soft.Low) same
@@ -215,17 +220,36 @@ module _ {C R : Type 0} (called : C → ℕ → Level → C → Type 0) (count :
       drops_same = ap (λ (x : Running C R). drops level x.cpu) e;
     }
 
+    -- each lead's handlers had as many calls of the id
+    abbrev pub SameCalls : Level → SystemSide R C → SystemSide R C → Type 0
+    SameCalls Low s t = Unit {0}
+    SameCalls Lock s t = Unit {0}
+    SameCalls High s t =
+        map (λ (l : Lead C). count l.calls id) t.leads.items ≡ map (λ (l : Lead C). count l.calls id) s.leads.items
+
+    calls_as : (own : Level) (s t : SystemSide R C) → t.leads ≡ s.leads → SameCalls own s t
+    calls_as Low s t same = tt
+    calls_as Lock s t same = tt
+    calls_as High s t same = λ i. map (λ (l : Lead C). count l.calls id) (same i).items
+
+    calls_on : (own : Level) (s t u : SystemSide R C) → SameCalls own s t → SameCalls own t u → SameCalls own s u
+    calls_on Low s t u a b = tt
+    calls_on Lock s t u a b = tt
+    calls_on High s t u a b = b ∙ a
+
     -- the id is still not at this level, and nothing of it was done there
     pub record IsApart (s t : SystemSide R C) : Type 0 where
       pub elsewhere : IsElsewhere level id t.system
       pub deeds_same : all_deeds level t ≡ all_deeds level s
       pub drops_same : all_drops level t ≡ all_drops level s
+      pub calls_same : SameCalls level s t
 
     apart_on : (s t u : SystemSide R C) → IsApart s t → IsApart t u → IsApart s u
     apart_on s t u a b = record {
       elsewhere = b.elsewhere;
       deeds_same = b.deeds_same ∙ a.deeds_same;
       drops_same = b.drops_same ∙ a.drops_same;
+      calls_same = calls_on level s t u a.calls_same b.calls_same;
     }
 
     makes_apart : (s t : SystemSide R C) (call : SystemCall) → IsSound view s.system → IsSound view t.system
@@ -238,6 +262,7 @@ module _ {C R : Type 0} (called : C → ℕ → Level → C → Type 0) (count :
           elsewhere = changes_elsewhere level id step view s.system t.system call a b d not o;
           deeds_same = p;
           drops_same = q;
+          calls_same = calls_as level s t same;
         }
 
     asks_apart : (s t : SystemSide R C) → OnlyAsked step view s t → IsElsewhere level id s.system → IsApart s t
@@ -253,6 +278,7 @@ module _ {C R : Type 0} (called : C → ℕ → Level → C → Type 0) (count :
           };
           deeds_same = p;
           drops_same = q;
+          calls_same = calls_as level s t a.leads;
         }
 
     fires_apart : (now : ℕ) (s : SystemSide R C) (b : Advanced R C) → IsSound view s.system
@@ -269,8 +295,15 @@ module _ {C R : Type 0} (called : C → ℕ → Level → C → Type 0) (count :
       };
       deeds_same = deeds_as now s b f ready level (λ n x y l m p q u v. (each n x y l m p q u v).deeds_same);
       drops_same = drops_as now s b f ready level (λ n x y l m p q u v. (each n x y l m p q u v).drops_same);
+      calls_same = same_calls level (λ n x y l m p q u v. (each n x y l m p q u v).deeds_same);
     }
       where
+        same_calls : (own : Level) → Each s b (deeds own) → SameCalls own s b.side
+        same_calls Low same = tt
+        same_calls Lock same = tt
+        same_calls High same = maps_same (λ (l : Lead C). count l.calls id) s.leads.items b.side.leads.items f.long_leads
+            (leads_each now s b f ready same)
+
         each : (n : ℕ) (x y : CpuView R) (l m : Lead C) → slice_get s.system.cpus.cpus n ≡ Some x
             → slice_get b.side.system.cpus.cpus n ≡ Some y → slice_get s.leads.items n ≡ Some l
             → slice_get b.side.leads.items n ≡ Some m → NoneFired (running l.calls x) (running m.calls y)
@@ -341,7 +374,7 @@ module _ {C R : Type 0} (called : C → ℕ → Level → C → Type 0) (count :
         → IsSound view s.system → length s.leads.items ≡ length s.system.cpus.cpus → IsBarred s way
         → IsElsewhere level id s.system → IsApart s t
     run_apart s t [] run a ready barred o = subst (λ (x : SystemSide R C). IsApart s x) run
-        (record { elsewhere = o; deeds_same = refl; drops_same = refl })
+        (record { elsewhere = o; deeds_same = refl; drops_same = refl; calls_same = calls_as level s s refl })
     run_apart s t (call ∷ way) (u, (d, sound), rest) a ready barred o =
         let (not, still) = barred_on s u call way d barred in
         let first = leads_apart s u call d a sound ready not o in

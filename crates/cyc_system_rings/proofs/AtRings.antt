@@ -1,6 +1,6 @@
 -- The law of each level, where the ends are those of rings.
 use Rattle.std.proofs.Common.{◌≡◌, ℕ, ◌+◌, None, List, ap, arith}
-use Rattle.std.specs.Prelude.{sum_by}
+use Rattle.std.specs.Prelude.{map, sum_by, cond, false}
 use Rattle.cyc_types.specs.Levels.{level_of}
 use Rattle.cyc_types.specs.Levels as types
 use Rattle.cyc_types.specs.Firing.{FiringCall}
@@ -15,15 +15,16 @@ use Rattle.cyc_ring.specs.declared.closed.Closed.{Closed}
 use Rattle.cyc_ring.specs.Ends.{raise_trail, end_view, RaiseEndCall}
 use Rattle.cyc_ring.proofs.Ways.{raise_ways}
 use Rattle.cyc_timers.specs.Rows.{no_counts}
+use Rattle.cyc_cpu_workers.specs.declared.settling.Lead.{Lead}
 use Rattle.cyc_removing.proofs.Sums.{sum_none}
 use Rattle.cyc_system.specs.System.{SystemView}
 use Rattle.cyc_system_workers.specs.declared.side.SystemSide.{SystemSide}
 use Rattle.cyc_system_rings.specs.Leading.{LeadCall}
 use Rattle.cyc_system_rings.specs.Rings.{counted_by, counts_in, AreClosed}
-use Rattle.cyc_system_rings.specs.ByLevel.{level_in, counts_at, rings_of, made_at, AreServed, LeadsFromNew, HasNewEnds}
+use Rattle.cyc_system_rings.specs.ByLevel.{level_in, is_own, counts_at, rings_of, made_at, AreServed, LeadsFromNew, HasNewEnds}
 use Rattle.cyc_system_rings.specs.ByLevel as by
-use Rattle.cyc_system_rings.proofs.Closing.{raised_on_end, dropped_on_end, level_closed, level_served}
-use Rattle.cyc_system_rings.proofs.Levels.{by_level, ungiven}
+use Rattle.cyc_system_rings.proofs.Closing.{raised_on_end, dropped_on_end, level_closed, level_served, none_served}
+use Rattle.cyc_system_rings.proofs.Levels.{by_level, uncalled, ungiven}
 
 abbrev raised : ℕ → RaiseEnd → ℕ
 raised id e = raises_of id (raise_trail e.seat)
@@ -60,6 +61,11 @@ module _ {C : Type 0} (called : C → ℕ → Level → C → Type 0) (count : C
   pub high_keeps : (counts_at High id way t.system).lost ≡ 0
   high_keeps = let (a, b) = at_level High in omega (arith, b)
 
+  pub not_called : is_own High (level_in id way) ≡ false
+      → map (λ (x : Lead C). count x.calls id) t.leads.items ≡ map (λ (x : Lead C). count x.calls id) s.leads.items
+  not_called = uncalled called count may_refuse RaiseEndCall end_view raised dropped ends_add id s t way l.begins l.sound
+      l.ready l.run
+
   pub none_given : level_in id way ≡ None → counts_in id way t.system ≡ no_counts
   none_given = ungiven called count may_refuse RaiseEndCall end_view raised dropped ends_add id s t way l.begins l.sound l.ready
       l.run
@@ -89,6 +95,15 @@ module _ {C : Type 0} (called : C → ℕ → Level → C → Type 0) (count : C
       let c = level_closed soft.Low id t.system.cpus.cpus rings closed in
       let x = none_raised id s.system new soft.Low in let y = none_dropped id s.system new soft.Low in
       omega (arith, a, b, c, x, y)
+
+  -- at another level than the id's
+  pub not_served : (own : Soft) (before after : List C)
+      → AreServed (types.at_level called (level_of own)) count (rings_of own rings) before after
+      → is_own (level_of own) (level_in id way) ≡ false → map (λ c. count c id) after ≡ map (λ c. count c id) before
+  not_served own before after served not =
+      let a = made_of own in
+      let b = ap (λ b. (cond b (counts_in id way t.system) no_counts).sent) not in
+      none_served (types.at_level called (level_of own)) count id (rings_of own rings) before after served (omega (arith, a, b))
 
   pub served_of : (own : Soft) (before after : List C)
       → AreServed (types.at_level called (level_of own)) count (rings_of own rings) before after

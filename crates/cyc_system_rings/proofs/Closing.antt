@@ -1,6 +1,6 @@
 -- Rings that were closed over settled CPUs.
 use Rattle.std.proofs.Common.{◌≡◌, ℕ, ◌+◌, List, [], ◌∷◌, Option, Some, None, refl, ap, ◌∙◌, arith}
-use Rattle.std.specs.Prelude.{sum_by}
+use Rattle.std.specs.Prelude.{map, sum_by}
 use Rattle.std.proofs.lemmas.List.Sums.{sum_by-cons}
 use Rattle.cyc_types.specs.Firing.{seen_of, seen_in}
 use Rattle.cyc_types.specs.declared.level.Soft.{Soft}
@@ -96,3 +96,17 @@ level_served called count id (ring ∷ rings) (c ∷ before) (d ∷ after) (one,
     let a = one.counted id in let r = level_served called count id rings before after rest in
     let x = sum_by-cons (λ c. count c id) c before in let y = sum_by-cons (λ c. count c id) d after in
     let m = sum_by-cons (made_by id) ring rings in omega (arith, a, r, x, y, m)
+
+-- where the rings made no call of the id, none of the handlers had one
+pub none_served : {C : Type 0} (called : C → ℕ → C → Type 0) (count : C → ℕ → ℕ) (id : ℕ) (rings : List Closed)
+    (before after : List C) → AreServed called count rings before after → all_made id rings ≡ 0
+    → map (λ c. count c id) after ≡ map (λ c. count c id) before
+none_served called count id [] [] [] s none = refl
+none_served called count id [] [] (d ∷ after) s none = absurd s
+none_served called count id [] (c ∷ before) after s none = absurd s
+none_served called count id (ring ∷ rings) [] after s none = absurd s
+none_served called count id (ring ∷ rings) (c ∷ before) [] s none = absurd s
+none_served called count id (ring ∷ rings) (c ∷ before) (d ∷ after) (one, rest) none =
+    let a = one.counted id in let m = sum_by-cons (made_by id) ring rings in
+    let r = none_served called count id rings before after rest (omega (arith, m, none)) in
+    let e : count d id ≡ count c id = omega (arith, a, m, none) in λ i. e i ∷ r i

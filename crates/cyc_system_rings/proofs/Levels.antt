@@ -1,6 +1,6 @@
 -- From a new system on, what is done of an id is done at the level with which it was given.
 use Rattle.std.proofs.Common.{◌≡◌, ℕ, ◌+◌, inr, length, false, cond, Option, Some, None, List, refl, ap, arith}
-use Rattle.std.specs.Prelude.{sum_by}
+use Rattle.std.specs.Prelude.{map, sum_by}
 use Rattle.std.specs.List.{FoldsTo}
 use Rattle.std.specs.Option.{option_map_or}
 use Rattle.cyc_types.specs.Firing.{FiringView, FiringCall}
@@ -11,6 +11,7 @@ use Rattle.cyc_types.specs.declared.level.Level.TheVariants.{Low, Lock, High}
 use Rattle.cyc_types.specs.declared.level.Soft.TheVariants as soft
 use Rattle.cyc_timers.specs.Rows.{Cyclic, no_counts}
 use Rattle.cyc_cpu.specs.Cpu.{CpuView}
+use Rattle.cyc_cpu_workers.specs.declared.settling.Lead.{Lead}
 use Rattle.cyc_removing.proofs.Sums.{sum_none}
 use Rattle.cyc_system.specs.System.{SystemView}
 use Rattle.cyc_system.specs.Laws.{cyclic_in}
@@ -71,6 +72,12 @@ module _ {C R : Type 0} (called : C → ℕ → Level → C → Type 0) (count :
       → (deeds_in level t ≡ deeds_in level s) × (drops_in level t ≡ drops_in level s)
   apart level not = let a = run_apart called count may_refuse step view raised dropped adds id level s t way run sound ready
       (inr not) (new_elsewhere id s.system begins level) in (a.deeds_same, a.drops_same)
+
+  -- not one of the high levels' handlers had a call of it
+  pub uncalled : is_own High (level_in id way) ≡ false
+      → map (λ (l : Lead C). count l.calls id) t.leads.items ≡ map (λ (l : Lead C). count l.calls id) s.leads.items
+  uncalled not = (run_apart called count may_refuse step view raised dropped adds id High s t way run sound ready
+      (inr not) (new_elsewhere id s.system begins High)).calls_same
 
   -- all levels together
   all_together : (told.sent + (deeds_in Lock s + deeds_in Low s) + deeds_in High s

@@ -1,6 +1,6 @@
 -- What each call of a system raises at the ends of its CPUs.
 use Rattle.std.proofs.Common.{◌≡◌, ◌∙◌, ℕ, zero, suc, ◌+◌, Some, List, [], ◌∷◌, length, refl, sym, ap, subst, arith}
-use Rattle.std.specs.Prelude.{sum_by, ◌<◌, Bool, true, false}
+use Rattle.std.specs.Prelude.{map, sum_by, ◌<◌, Bool, true, false}
 use Rattle.std.specs.List.{slice_get, FoldsTo}
 use Rattle.std.proofs.lemmas.List.{length-set}
 use Rattle.std.proofs.lemmas.List.Sums.{sum_by-cons}
@@ -33,6 +33,15 @@ sums_same h (x ∷ xs) [] e same = absurd (omega (arith, e))
 sums_same h (x ∷ xs) (y ∷ ys) e same =
     let a = sum_by-cons h x xs in let b = sum_by-cons h y ys in let c = same 0 x y refl refl in
     let d = sums_same h xs ys (omega (arith, e)) (λ n p q. same (suc n) p q) in omega (arith, a, b, c, d)
+
+pub maps_same : {A : Type 0} (h : A → ℕ) (xs ys : List A) → length ys ≡ length xs
+    → ((n : ℕ) (x y : A) → slice_get xs n ≡ Some x → slice_get ys n ≡ Some y → h y ≡ h x) → map h ys ≡ map h xs
+maps_same h [] [] e same = refl
+maps_same h [] (y ∷ ys) e same = absurd (omega (arith, e))
+maps_same h (x ∷ xs) [] e same = absurd (omega (arith, e))
+maps_same h (x ∷ xs) (y ∷ ys) e same =
+    let c = same 0 x y refl refl in let d = maps_same h xs ys (omega (arith, e)) (λ n p q. same (suc n) p q) in
+    λ i. c i ∷ d i
 
 -- two sums in one
 pub sum_both : {A : Type 0} (f g : A → ℕ) (xs : List A) → sum_by (λ x. f x + g x) xs ≡ sum_by f xs + sum_by g xs

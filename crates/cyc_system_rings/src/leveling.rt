@@ -1,6 +1,6 @@
 //! The law of conservation at each level.
 
-ghost use Rattle.std.specs.Prelude.{◌≡◌, ℕ, ◌+◌, List, sum_by, None};
+ghost use Rattle.std.specs.Prelude.{◌≡◌, ℕ, ◌+◌, false, List, map, sum_by, None};
 ghost use Rattle.cyc_types.specs.Levels.{level_of, at_level};
 ghost use Rattle.cyc_types.specs.declared.level.Level.TheVariants.{High};
 ghost use Rattle.cyc_types.specs.declared.level.Soft.{Soft as Level};
@@ -11,8 +11,8 @@ ghost use Rattle.cyc_system.specs.System.{SystemView};
 ghost use Rattle.cyc_system_workers.specs.declared.side.SystemSide.{SystemSide};
 ghost use Rattle.cyc_system_rings.specs.Leading.{LeadCall};
 ghost use Rattle.cyc_system_rings.specs.Rings.{counted_by, counts_in, AreClosed};
-ghost use Rattle.cyc_system_rings.specs.ByLevel.{level_in, counts_at, raised_at, dropped_at, rings_of, made_at, AreServed};
-ghost use Rattle.cyc_system_rings.specs.ByLevel.{LeadsFromNew, HasNewEnds};
+ghost use Rattle.cyc_system_rings.specs.ByLevel.{level_in, is_own, counts_at, raised_at, dropped_at, rings_of, made_at};
+ghost use Rattle.cyc_system_rings.specs.ByLevel.{AreServed, LeadsFromNew, HasNewEnds};
 
 use cyc_types::Calls;
 
@@ -33,6 +33,10 @@ pub fn conserved_by_level_law<C: Calls>()
         → counted_by C.count id t.leads.items ≡ counted_by C.count id s.leads.items + (counts_at High id way t.system).sent }
     ensures kept { (id : ℕ) (s t : SystemSide AnEnd C) (way : List LeadCall)
         → LeadsFromNew C.called C.count C.may_refuse s way t → (counts_at High id way t.system).lost ≡ 0 }
+    // No high level's handlers were called for an id of another level.
+    ensures uncalled { (id : ℕ) (s t : SystemSide AnEnd C) (way : List LeadCall)
+        → LeadsFromNew C.called C.count C.may_refuse s way t → is_own High (level_in id way) ≡ false
+        → map (λ l. C.count l.calls id) t.leads.items ≡ map (λ l. C.count l.calls id) s.leads.items }
     // Nothing is told of an id that was not given.
     ensures ungiven { (id : ℕ) (s t : SystemSide AnEnd C) (way : List LeadCall)
         → LeadsFromNew C.called C.count C.may_refuse s way t → level_in id way ≡ None → counts_in id way t.system ≡ no_counts }
@@ -56,4 +60,11 @@ pub fn served_by_level_law<C: Calls>()
         → AreServed (at_level C.called (level_of soft)) C.count (rings_of soft rings) before after
         → sum_by (λ c. C.count c id) after + (counts_at (level_of soft) id way t.system).lost
         ≡ sum_by (λ c. C.count c id) before + (counts_at (level_of soft) id way t.system).sent }
+    // No handlers of this level were called for an id of another.
+    ensures uncalled { (id : ℕ) (soft : Level) (s t : SystemSide AnEnd C) (way : List LeadCall) (rings : List Closed)
+        (before after : List C) → LeadsFromNew C.called C.count C.may_refuse s way t → HasNewEnds s.system
+        → AreClosed t.system.cpus.cpus rings
+        → AreServed (at_level C.called (level_of soft)) C.count (rings_of soft rings) before after
+        → is_own (level_of soft) (level_in id way) ≡ false
+        → map (λ c. C.count c id) after ≡ map (λ c. C.count c id) before }
 {}

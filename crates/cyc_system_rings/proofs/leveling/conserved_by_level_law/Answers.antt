@@ -1,6 +1,6 @@
 use Rattle.cyc_types.specs.declared.level.Level.TheVariants.{Low, Lock, High}
 use Rattle.cyc_types.specs.declared.level.Soft.TheVariants as soft
-use Rattle.cyc_system_rings.proofs.AtRings.{at_level, high_keeps, none_given}
+use Rattle.cyc_system_rings.proofs.AtRings.{at_level, high_keeps, not_called, none_given}
 use Rattle.cyc_system_rings.proofs.leveling.conserved_by_level_law.Goals as goal
 
 pub returns-clause-raised : goal.returns-clause-raised
@@ -25,3 +25,7 @@ returns-clause-kept g c id s t way l =
 
 pub returns-clause-ungiven : goal.returns-clause-ungiven
 returns-clause-ungiven g c id s t way l is = none_given g.C.Calls.called g.C.Calls.count g.C.Calls.may_refuse id s t way l is
+
+pub returns-clause-uncalled : goal.returns-clause-uncalled
+returns-clause-uncalled g c id s t way l other =
+    not_called g.C.Calls.called g.C.Calls.count g.C.Calls.may_refuse id s t way l other

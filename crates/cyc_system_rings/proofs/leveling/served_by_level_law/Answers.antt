@@ -1,5 +1,5 @@
 use Rattle.cyc_system_rings.proofs.Closing.{level_closed}
-use Rattle.cyc_system_rings.proofs.AtRings.{made_of, served_of}
+use Rattle.cyc_system_rings.proofs.AtRings.{made_of, not_served, served_of}
 use Rattle.cyc_system_rings.proofs.leveling.served_by_level_law.Goals as goal
 
 pub returns-clause-closed : goal.returns-clause-closed
@@ -12,3 +12,7 @@ returns-clause-made g c id soft s t way rings l new closed =
 pub returns-clause-served : goal.returns-clause-served
 returns-clause-served g c id soft s t way rings before after l new closed served =
     served_of g.C.Calls.called g.C.Calls.count g.C.Calls.may_refuse id s t way l new rings closed soft before after served
+
+pub returns-clause-uncalled : goal.returns-clause-uncalled
+returns-clause-uncalled g c id soft s t way rings before after l new closed served other =
+    not_served g.C.Calls.called g.C.Calls.count g.C.Calls.may_refuse id s t way l new rings closed soft before after served other
