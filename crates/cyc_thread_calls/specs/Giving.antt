@@ -1,0 +1,48 @@
+-- Which id the cyclic of a name got in a run in threads, read off the answers to its `add` or `omni`.
+use Rattle.std.specs.Prelude.{◌≡◌, ℕ, ◌==◌, if◌then◌else◌, Bool, false, List, [], ◌∷◌, Option, Some, None, Result, Ok, Err}
+use Rattle.std.specs.Option.{option_map_or}
+use Rattle.cyc_types.specs.Firing.{FiringView, FiringCall}
+use Rattle.cyc_types.specs.declared.level.Level.{Level}
+use Rattle.cyc_script.specs.declared.step.Step.{Step}
+use Rattle.cyc_script.specs.declared.step.Step.TheVariants as steps
+use Rattle.cyc_system.specs.Calls.{Add, AddOmni}
+use Rattle.cyc_system_rings.specs.Leading.{LeadCall, Make}
+use Rattle.cyc_thread_steps.specs.declared.progress.Progress.{Progress}
+use Rattle.cyc_thread_steps.specs.Words.{TakesStep}
+use Rattle.cyc_thread_steps.specs.Steps.{TakesSteps, Runs}
+use Rattle.cyc_thread_calls.specs.Leading.{call_of}
+
+-- the id that a call gave
+abbrev pub given_by : LeadCall → Option ℕ
+given_by (Make (Add level when now (Ok id))) = Some id
+given_by (Make (AddOmni level when skew now (Ok id))) = Some id
+given_by call = None
+
+-- the step introduces the name
+abbrev pub introduces : ℕ → Step → Bool
+introduces name (steps.Add a) = a.name == name
+introduces name (steps.Omni a) = a.name == name
+introduces name x = false
+
+-- the first of two ids, where there is one
+abbrev pub first_id : Option ℕ → Option ℕ → Option ℕ
+first_id None later = later
+first_id (Some id) later = Some id
+
+module _ {C R : Type 0} (called : C → ℕ → Level → C → Type 0) (count : C → ℕ → ℕ) (may_refuse : C → ℕ → Type 0)
+    (step : R → FiringCall → R → Type 0) (view : R → FiringView) (name : ℕ) where
+  -- the id that a step gave the name
+  abbrev pub id_in_step : (s : Progress R C) (x : Step) (t : Progress R C) → TakesStep called count may_refuse step view s x t
+      → Option ℕ
+  id_in_step s x t (u, begins, does) =
+      if introduces name x then option_map_or given_by (call_of called count may_refuse step view x u t does) None else None
+
+  abbrev pub id_in_steps : (s : Progress R C) (xs : List Step) (t : Progress R C)
+      → TakesSteps called count may_refuse step view s xs t → Option ℕ
+  id_in_steps s [] t takes = None
+  id_in_steps s (x ∷ xs) t (u, takes, rest) = first_id (id_in_step s x u takes) (id_in_steps u xs t rest)
+
+  -- the id that a run gave it: None where its `add` or `omni` was refused
+  abbrev pub id_given : (s : Progress R C) (xs : List Step) (t : Progress R C) → Runs called count may_refuse step view s xs t
+      → Option ℕ
+  id_given s xs t (u, takes, waits) = id_in_steps s xs u takes

@@ -1,0 +1,58 @@
+-- How the steps of a run in threads were met: which of them were accepted, read off the answers of their calls.
+use Rattle.std.specs.Prelude.{◌≡◌, ℕ, Bool, true, false, List, [], ◌∷◌}
+use Rattle.std.specs.Result.{is_ok}
+use Rattle.std.specs.Option.{option_map_or}
+use Rattle.cyc_types.specs.Firing.{FiringView, FiringCall}
+use Rattle.cyc_types.specs.declared.level.Level.{Level}
+use Rattle.cyc_script.specs.declared.step.Step.{Step}
+use Rattle.cyc_script.specs.declared.step.Step.TheVariants.{Softint}
+use Rattle.cyc_expected.specs.Expected.{Met}
+use Rattle.cyc_system.specs.Calls.{SystemCall, Add, AddOmni, Bind, BeginRemove, PollRemove, AskTotals, Reprogram, ReprogramOn}
+use Rattle.cyc_system.specs.Calls.{Juggle, Offline, Online, FireOne, SoftInterrupt}
+use Rattle.cyc_system_rings.specs.Leading.{LeadCall, Make, FireAll, AskAll}
+use Rattle.cyc_thread_steps.specs.declared.progress.Progress.{Progress}
+use Rattle.cyc_thread_steps.specs.Words.{Does, TakesStep}
+use Rattle.cyc_thread_steps.specs.Steps.{TakesSteps, Runs}
+use Rattle.cyc_thread_calls.specs.Leading.{call_of}
+
+-- the call was not refused
+abbrev pub is_accepted : SystemCall → Bool
+is_accepted (Add level when now answer) = is_ok answer
+is_accepted (AddOmni level when skew now answer) = is_ok answer
+is_accepted (Bind id cpu answer) = is_ok answer
+is_accepted (BeginRemove id answer) = is_ok answer
+is_accepted (PollRemove id answer) = is_ok answer
+is_accepted (AskTotals id answer) = true
+is_accepted (Reprogram id moment answer) = is_ok answer
+is_accepted (ReprogramOn id n moment answer) = is_ok answer
+is_accepted (Juggle n answer) = is_ok answer
+is_accepted (Offline n answer) = is_ok answer
+is_accepted (Online n now answer) = is_ok answer
+is_accepted (FireOne n now answer) = is_ok answer
+is_accepted (SoftInterrupt n level budget answer) = is_ok answer
+
+-- an advance or a question never is, where no fire was
+abbrev pub is_taken : LeadCall → Bool
+is_taken (Make call) = is_accepted call
+is_taken (FireAll now) = true
+is_taken AskAll = true
+
+module _ {C R : Type 0} (called : C → ℕ → Level → C → Type 0) (count : C → ℕ → ℕ) (may_refuse : C → ℕ → Type 0)
+    (step : R → FiringCall → R → Type 0) (view : R → FiringView) where
+  -- A step was accepted where its call was not refused; one that did nothing was not. A `softint` makes no call, and is never
+  -- refused.
+  abbrev pub accepted : (x : Step) (s t : Progress R C) → Does called count may_refuse step view x s t → Bool
+  accepted (Softint i) s t does = true
+  accepted x s t does = option_map_or is_taken (call_of called count may_refuse step view x s t does) false
+
+  -- the steps, and which of them were accepted
+  abbrev pub steps_met : (s : Progress R C) (xs : List Step) (t : Progress R C)
+      → TakesSteps called count may_refuse step view s xs t → List Met
+  steps_met s [] t takes = []
+  steps_met s (x ∷ xs) t ((u, (v, begins, does), rest)) =
+      record { step = x; accepted = accepted x v u does } ∷ steps_met u xs t rest
+
+  -- those of a run
+  abbrev pub way_of : (s : Progress R C) (xs : List Step) (t : Progress R C) → Runs called count may_refuse step view s xs t
+      → List Met
+  way_of s xs t (u, takes, waits) = steps_met s xs u takes
