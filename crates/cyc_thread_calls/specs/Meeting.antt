@@ -1,5 +1,5 @@
 -- How the steps of a run in threads were met: which of them were accepted, read off the answers of their calls.
-use Rattle.std.specs.Prelude.{◌≡◌, ℕ, Bool, true, false, List, [], ◌∷◌}
+use Rattle.std.specs.Prelude.{ℕ, Bool, true, false, List, [], ◌∷◌}
 use Rattle.std.specs.Result.{is_ok}
 use Rattle.std.specs.Option.{option_map_or}
 use Rattle.cyc_types.specs.Firing.{FiringView, FiringCall}
@@ -11,7 +11,7 @@ use Rattle.cyc_system.specs.Calls.{SystemCall, Add, AddOmni, Bind, BeginRemove, 
 use Rattle.cyc_system.specs.Calls.{Juggle, Offline, Online, FireOne, SoftInterrupt}
 use Rattle.cyc_system_rings.specs.Leading.{LeadCall, Make, FireAll, AskAll}
 use Rattle.cyc_thread_steps.specs.declared.progress.Progress.{Progress}
-use Rattle.cyc_thread_steps.specs.Words.{Does, TakesStep}
+use Rattle.cyc_thread_steps.specs.Words.{Does}
 use Rattle.cyc_thread_steps.specs.Steps.{TakesSteps, Runs}
 use Rattle.cyc_thread_calls.specs.Leading.{call_of}
 

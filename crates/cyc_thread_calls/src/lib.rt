@@ -1,3 +1,9 @@
 //! Laws of a run of a script in threads: as a run of calls of a system, and what its report says of each name. The functions here
 //! do nothing when they run. Their clauses are the laws, so that they are proved.
 #![tactic(auto)]
+
+mod leading;
+mod meeting;
+
+pub use leading::leading_law;
+pub use meeting::meeting_law;

@@ -1,0 +1,137 @@
+-- A run of a script in threads is a run of calls.
+use Rattle.std.proofs.Common.{◌≡◌, ℕ, zero, suc, inl, inr, List, [], ◌∷◌, ◌++◌, Option, Some, None, Result, Err, refl, sym}
+use Rattle.std.proofs.Common.{ap, ◌∙◌}
+use Rattle.std.specs.Prelude.{Bool, true, false}
+use Rattle.std.specs.List.{slice_get, FoldsTo}
+use Rattle.cyc_types.specs.Firing.{FiringView, FiringCall}
+use Rattle.cyc_types.specs.declared.level.Level.{Level}
+use Rattle.cyc_types.specs.declared.refusal.Refusal.{Refusal}
+use Rattle.cyc_types.proofs.Runs.{folds_on, folds_more}
+use Rattle.cyc_fire.specs.declared.fire.Fired.{Fired}
+use Rattle.cyc_fire.specs.declared.fire.FireRefused.{FireRefused}
+use Rattle.cyc_agreement.proofs.Spots.{same_some, none_some}
+use Rattle.cyc_script.specs.declared.step.Step.{Step}
+use Rattle.cyc_script.specs.declared.step.Step.TheVariants as steps
+use Rattle.cyc_system.specs.SystemRemoval.{SystemRemoval}
+use Rattle.cyc_system.specs.Calls.{SystemCall, Bind, BeginRemove, PollRemove, AskTotals}
+use Rattle.cyc_system_workers.specs.declared.side.SystemSide.{SystemSide}
+use Rattle.cyc_system_rings.specs.Leading.{LeadCall, Make, FireAll, AskAll}
+use Rattle.cyc_system_expected.specs.Events.{AcceptedSteps, AllAccepted}
+use Rattle.cyc_thread_steps.specs.declared.named.Named.{Named}
+use Rattle.cyc_thread_steps.specs.declared.named.Named.TheVariants.{Nothing, Cyclic, Leaving, Removed}
+use Rattle.cyc_thread_steps.specs.declared.progress.Progress.{Progress}
+use Rattle.cyc_thread_steps.specs.declared.reporting.Line.{Line}
+use Rattle.cyc_thread_steps.specs.Calls.{CallsFor, Poll, Polls, Waits, Fires, refusal_of, refusal_at}
+use Rattle.cyc_thread_steps.specs.Named.{named_at, id_of}
+use Rattle.cyc_thread_steps.specs.Words.{WithId, reprograms, Does, Begins, TakesStep, waits_first}
+use Rattle.cyc_thread_steps.specs.Steps.{TakesSteps, Runs}
+use Rattle.cyc_thread_steps.specs.Reporting.{Told, Tells, TellsOf, Reports}
+use Rattle.cyc_thread_calls.specs.Leading.{calls_in, poll_calls, wait_calls, begin_calls, call_with, told_calls_of, told_calls}
+use Rattle.cyc_thread_calls.specs.Leading.{call_of, step_calls, steps_calls, run_calls, all_calls}
+
+-- an answer that is there is that of its number
+at_number : (answers : List (Option (Result Fired FireRefused))) (n : ℕ) (a : Option (Result Fired FireRefused))
+    → slice_get answers n ≡ Some a → refusal_at answers n ≡ refusal_of a
+at_number [] n a e = absurd (none_some e)
+at_number (x ∷ xs) zero a e = ap refusal_of (same_some e)
+at_number (x ∷ xs) (suc n) a e = at_number xs n a e
+
+module _ {C R : Type 0} (called : C → ℕ → Level → C → Type 0) (count : C → ℕ → ℕ) (may_refuse : C → ℕ → Type 0)
+    (step : R → FiringCall → R → Type 0) (view : R → FiringView) where
+  abbrev D : SystemSide R C → LeadCall → SystemSide R C → Type 0
+  D = AcceptedSteps called count may_refuse step view
+
+  -- from the system of one to that of another by these calls
+  abbrev pub Goes : Progress R C → List LeadCall → Progress R C → Type 0
+  Goes s calls t = FoldsTo D s.side calls t.side
+
+  goes_none : (s t : Progress R C) → t ≡ s → Goes s [] t
+  goes_none s t e = ap (λ (p : Progress R C). p.side) (sym e)
+
+  goes_on : (s t u : Progress R C) (xs ys : List LeadCall) → Goes s xs t → Goes t ys u → Goes s (xs ++ ys) u
+  goes_on s t u xs ys a b = folds_on D s.side xs t.side ys u.side a b
+
+  goes_call : (name : ℕ) (call : SystemCall) (s t : Progress R C) → CallsFor step view name call s t → D s.side (Make call) t.side
+  goes_call name call s t c = ((c.did, c.leads), c.sound)
+
+  goes_one : (name : ℕ) (call : SystemCall) (s t : Progress R C) → CallsFor step view name call s t → Goes s (Make call ∷ []) t
+  goes_one name call s t c = (t.side, goes_call name call s t c, refl)
+
+  polls_go : (polls : List Poll) (s t : Progress R C) → FoldsTo (Polls step view) s polls t → Goes s (poll_calls polls) t
+  polls_go [] s t e = goes_none s t (sym e)
+  polls_go (p ∷ polls) s t (u, (here, did), rest) =
+      (u.side, goes_call p.name (PollRemove p.id p.answer) s u did, polls_go polls u t rest)
+
+  pub wait_goes : (s t : Progress R C) (w : Waits step view s t) → Goes s (wait_calls step view s t w) t
+  wait_goes s t (polls, u, run, q) =
+      folds_more D s.side (poll_calls polls) u.side AskAll t.side (polls_go polls s u run) (q.asked, q.sound)
+
+  pub begin_goes : (b : Bool) (s t : Progress R C) (w : Begins step view b s t) → Goes s (begin_calls step view b s t w) t
+  begin_goes false s t e = goes_none s t e
+  begin_goes true s t w = wait_goes s t w
+
+  with_goes : (Answer : Type 0) (call : ℕ → Result Answer Refusal → SystemCall) (name : ℕ) (s t : Progress R C) (id : Option ℕ)
+      (d : WithId id (λ own. (answer : Result Answer Refusal) × CallsFor step view name (call own answer) s t) (t ≡ s))
+      → Goes s (calls_in (call_with step view Answer call name s t id d)) t
+  with_goes Answer call name s t (Some id) (answer, did) = goes_one name (call id answer) s t did
+  with_goes Answer call name s t None e = goes_none s t e
+
+  not_refused : (a : Option (Result Fired FireRefused)) (e : FireRefused) → refusal_of a ≡ None → a ≡ Some (Err e) → ⊥
+  not_refused a e none is = none_some (sym none ∙ ap refusal_of is)
+
+  fires_go : (now : ℕ) (s t : Progress R C) → Fires called count may_refuse step view now s t → Goes s (FireAll now ∷ []) t
+  fires_go now s t f =
+      let all : AllAccepted f.after = λ n e is. not_refused (Some (Err e)) e
+      (sym (at_number f.after.answers.items n (Some (Err e)) is) ∙ f.accepted n) refl in
+      (t.side, (f.after, f.fired, all, f.side, f.sound), refl)
+
+  pub does_go : (x : Step) (s t : Progress R C) (d : Does called count may_refuse step view x s t)
+      → Goes s (calls_in (call_of called count may_refuse step view x s t d)) t
+  does_go (steps.Add a) s t (inl (when, starts, lasts, long, (answer, did))) = goes_one a.name _ s t did
+  does_go (steps.Add a) s t (inr (odd, e)) = goes_none s t e
+  does_go (steps.Omni a) s t (inl (when, starts, lasts, long, (answer, did))) = goes_one a.name _ s t did
+  does_go (steps.Omni a) s t (inr (odd, e)) = goes_none s t e
+  does_go (steps.Bind b) s t d = with_goes (Unit {0}) (λ id answer. Bind id (Some b.cpu) answer) b.name s t
+      (id_of (named_at s.names b.name)) d
+  does_go (steps.Unbind name) s t d = with_goes (Unit {0}) (λ id answer. Bind id None answer) name s t
+      (id_of (named_at s.names name)) d
+  does_go (steps.Reprogram r) s t (inl (moment, is, d)) =
+      with_goes (Unit {0}) (λ id answer. reprograms r.cpu id moment answer) r.name s t (id_of (named_at s.names r.name)) d
+  does_go (steps.Reprogram r) s t (inr (odd, e)) = goes_none s t e
+  does_go (steps.Remove name) s t d = with_goes SystemRemoval (λ id answer. BeginRemove id answer) name s t
+      (id_of (named_at s.names name)) d
+  does_go (steps.Advance now) s t f = fires_go now s t f
+  does_go (steps.Softint i) s t e = goes_none s t e
+  does_go (steps.Juggle n) s t (answer, did) = goes_one 0 _ s t did
+  does_go (steps.Offline n) s t (answer, did) = goes_one 0 _ s t did
+  does_go (steps.Online n) s t (answer, did) = goes_one 0 _ s t did
+
+  pub step_goes : (s : Progress R C) (x : Step) (t : Progress R C) (d : TakesStep called count may_refuse step view s x t)
+      → Goes s (step_calls called count may_refuse step view s x t d) t
+  step_goes s x t (u, b, d) = goes_on s u t _ _ (begin_goes (waits_first x) s u b) (does_go x u t d)
+
+  pub steps_go : (s : Progress R C) (xs : List Step) (t : Progress R C) (run : TakesSteps called count may_refuse step view s xs t)
+      → Goes s (steps_calls called count may_refuse step view s xs t run) t
+  steps_go s [] t e = goes_none s t (sym e)
+  steps_go s (x ∷ xs) t (u, d, rest) = goes_on s u t _ _ (step_goes s x u d) (steps_go u xs t rest)
+
+  pub run_goes : (s : Progress R C) (xs : List Step) (t : Progress R C) (run : Runs called count may_refuse step view s xs t)
+      → Goes s (run_calls called count may_refuse step view s xs t run) t
+  run_goes s xs t (u, taken, w) = goes_on s u t _ _ (steps_go s xs u taken) (wait_goes u t w)
+
+  told_goes : (named : Named) (line : Line) (s t : Progress R C) (d : TellsOf step view named line s t)
+      → Goes s (told_calls_of step view named line s t d) t
+  told_goes Nothing line s t (is, e) = goes_none s t e
+  told_goes (Cyclic id) line s t (answer, did, is) = goes_one 0 (AskTotals id answer) s t did
+  told_goes (Leaving id) line s t (answer, did, is) = goes_one 0 (AskTotals id answer) s t did
+  told_goes (Removed receipt) line s t (is, e) = goes_none s t e
+
+  pub all_told_go : (all : List Told) (s t : Progress R C) (d : FoldsTo (Tells step view) s all t)
+      → Goes s (told_calls step view all s t d) t
+  all_told_go [] s t e = goes_none s t (sym e)
+  all_told_go (told ∷ all) s t (u, d, rest) =
+      goes_on s u t _ _ (told_goes told.named told.line s u d) (all_told_go all u t rest)
+
+  pub all_go : (xs : List Step) (lines : List Line) (s t u : Progress R C) (run : Runs called count may_refuse step view s xs t)
+      (r : Reports step view lines t u) → Goes s (all_calls called count may_refuse step view xs lines s t u run r) u
+  all_go xs lines s t u run r = goes_on s t u _ _ (run_goes s xs t run) (all_told_go r.all t u r.tells)
