@@ -1,2 +1,4 @@
 pub mod Going
 pub mod Accepting
+pub mod Holding
+pub mod Names

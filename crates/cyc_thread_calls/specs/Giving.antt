@@ -24,25 +24,27 @@ introduces name (steps.Add a) = a.name == name
 introduces name (steps.Omni a) = a.name == name
 introduces name x = false
 
--- the first of two ids, where there is one
-abbrev pub first_id : Option ℕ → Option ℕ → Option ℕ
-first_id None later = later
-first_id (Some id) later = Some id
+-- the id that a step gave a name, by its call
+abbrev pub given_in : ℕ → Step → Option LeadCall → Option ℕ
+given_in name x call = if introduces name x then option_map_or given_by call None else None
+
+-- the later of two ids, where there is one
+abbrev pub later_id : Option ℕ → Option ℕ → Option ℕ
+later_id earlier None = earlier
+later_id earlier (Some id) = Some id
 
 module _ {C R : Type 0} (called : C → ℕ → Level → C → Type 0) (count : C → ℕ → ℕ) (may_refuse : C → ℕ → Type 0)
     (step : R → FiringCall → R → Type 0) (view : R → FiringView) (name : ℕ) where
-  -- the id that a step gave the name
   abbrev pub id_in_step : (s : Progress R C) (x : Step) (t : Progress R C) → TakesStep called count may_refuse step view s x t
       → Option ℕ
-  id_in_step s x t (u, begins, does) =
-      if introduces name x then option_map_or given_by (call_of called count may_refuse step view x u t does) None else None
+  id_in_step s x t (u, begins, does) = given_in name x (call_of called count may_refuse step view x u t does)
 
   abbrev pub id_in_steps : (s : Progress R C) (xs : List Step) (t : Progress R C)
       → TakesSteps called count may_refuse step view s xs t → Option ℕ
   id_in_steps s [] t takes = None
-  id_in_steps s (x ∷ xs) t (u, takes, rest) = first_id (id_in_step s x u takes) (id_in_steps u xs t rest)
+  id_in_steps s (x ∷ xs) t (u, takes, rest) = later_id (id_in_step s x u takes) (id_in_steps u xs t rest)
 
-  -- the id that a run gave it: None where its `add` or `omni` was refused
+  -- the id that a run gave a name, which a script introduces once: None where its `add` or `omni` was refused
   abbrev pub id_given : (s : Progress R C) (xs : List Step) (t : Progress R C) → Runs called count may_refuse step view s xs t
       → Option ℕ
   id_given s xs t (u, takes, waits) = id_in_steps s xs u takes

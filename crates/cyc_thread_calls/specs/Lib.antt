@@ -1,3 +1,4 @@
 pub mod Leading
 pub mod Meeting
 pub mod Giving
+pub mod Lines

@@ -2,8 +2,10 @@
 //! do nothing when they run. Their clauses are the laws, so that they are proved.
 #![tactic(auto)]
 
+mod giving;
 mod leading;
 mod meeting;
 
+pub use giving::giving_law;
 pub use leading::leading_law;
 pub use meeting::meeting_law;

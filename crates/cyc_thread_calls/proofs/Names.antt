@@ -1,0 +1,261 @@
+-- What each name has while a run takes its steps.
+use Rattle.std.proofs.Common.{◌≡◌, ◌≢◌, ◌∙◌, ℕ, ◌<◌, ◌≤◌, ◌==◌, inl, inr, List, [], ◌∷◌, ◌++◌, Option, Some, None, Result, Ok, Err}
+use Rattle.std.proofs.Common.{cond, refl, sym, ap, subst, arith, replicate}
+use Rattle.std.specs.Prelude.{Bool, true, false}
+use Rattle.std.specs.List.{FoldsTo}
+use Rattle.std.specs.Option.{option_map_or}
+use Rattle.std.proofs.lemmas.List.{append_assoc, append-nil}
+use Rattle.cyc_types.specs.Firing.{FiringView, FiringCall}
+use Rattle.cyc_types.specs.declared.level.Level.{Level}
+use Rattle.cyc_types.specs.declared.moment.When.{When}
+use Rattle.cyc_types.specs.declared.receipt.Receipt.{Receipt}
+use Rattle.cyc_types.specs.declared.refusal.Refusal.{Refusal}
+use Rattle.cyc_agreement.proofs.Lists.{true_eq, false_ne}
+use Rattle.cyc_script.specs.declared.step.Step.{Step}
+use Rattle.cyc_script.specs.declared.step.Step.TheVariants as steps
+use Rattle.cyc_system.specs.SystemRemoval.{SystemRemoval}
+use Rattle.cyc_system.specs.SystemRemoval.TheVariants.{Done, Kept}
+use Rattle.cyc_system.specs.Calls.{SystemCall, Changes, Add, AddOmni, Bind, BeginRemove, PollRemove}
+use Rattle.cyc_system_laws.proofs.Pieces.{made_of}
+use Rattle.cyc_system_rings.specs.Leading.{LeadCall, Make, FireAll, AskAll}
+use Rattle.cyc_system_rings.specs.Rings.{receipt_of, first_of}
+use Rattle.cyc_thread_steps.specs.declared.named.Named.{Named}
+use Rattle.cyc_thread_steps.specs.declared.named.Named.TheVariants.{Nothing, Cyclic, Leaving, Removed}
+use Rattle.cyc_thread_steps.specs.declared.progress.Progress.{Progress}
+use Rattle.cyc_thread_steps.specs.Named.{named_at, id_of, news, noted}
+use Rattle.cyc_thread_steps.specs.Calls.{CallsFor, Poll, Polls, Waits}
+use Rattle.cyc_thread_steps.specs.Words.{WithId, reprograms, Does, Begins, waits_first}
+use Rattle.cyc_thread_steps.specs.Steps.{TakesSteps, Runs}
+use Rattle.cyc_thread_calls.specs.Leading.{calls_in, poll_calls, wait_calls, begin_calls, call_with, call_of}
+use Rattle.cyc_thread_calls.specs.Leading.{steps_calls, run_calls}
+use Rattle.cyc_thread_calls.specs.Giving.{given_by, given_in, later_id, id_in_steps, id_given}
+use Rattle.cyc_thread_calls.proofs.Holding.{Fits, Holds, holds_first, holds_as, holds_quiet, holds_given, holds_changed}
+
+-- the receipt of one id is none of another
+receipt_else : (own id : ℕ) (receipt : Receipt) → own ≢ id → cond (id == own) (Some receipt) None ≡ None
+receipt_else own id receipt ne = ap (λ b. cond b (Some receipt) None) (false_ne id own (λ e. ne (sym e)))
+
+receipt_own : (id : ℕ) (receipt : Receipt) → cond (id == id) (Some receipt) None ≡ Some receipt
+receipt_own id receipt = ap (λ b. cond b (Some receipt) None) (true_eq id id refl)
+
+reprogram_tells : (cpu : Option ℕ) (id moment : ℕ) (answer : Result (Unit {0}) Refusal)
+    → news (reprograms cpu id moment answer) ≡ None
+reprogram_tells None id moment answer = refl
+reprogram_tells (Some n) id moment answer = refl
+
+reprogram_receipt : (cpu : Option ℕ) (id moment own : ℕ) (answer : Result (Unit {0}) Refusal)
+    → receipt_of own (Make (reprograms cpu id moment answer)) ≡ None
+reprogram_receipt None id moment own answer = refl
+reprogram_receipt (Some n) id moment own answer = refl
+
+module _ {C R : Type 0} (called : C → ℕ → Level → C → Type 0) (count : C → ℕ → ℕ) (may_refuse : C → ℕ → Type 0)
+    (step : R → FiringCall → R → Type 0) (view : R → FiringView) where
+  abbrev pub Held : (ℕ → Option ℕ) → List LeadCall → Progress R C → Type 0
+  Held g way p = Holds g way p.names p.side.system.last
+
+  same_held : (g : ℕ → Option ℕ) (way : List LeadCall) (s t : Progress R C) → t ≡ s → Held g way s → Held g (way ++ []) t
+  same_held g way s t e k = subst (λ w. Held g w t) (sym (append-nil way)) (subst (λ p. Held g way p) (sym e) k)
+
+  grows : (name : ℕ) (call : SystemCall) (s t : Progress R C) → CallsFor step view name call s t
+      → s.side.system.last ≤ t.side.system.last
+  grows name call s t c = (made_of step view s.side.system t.side.system call c.did).last
+
+  quiet : (g : ℕ → Option ℕ) (way : List LeadCall) (name : ℕ) (call : SystemCall) (s t : Progress R C)
+      → CallsFor step view name call s t → news call ≡ None → ((own : ℕ) → receipt_of own (Make call) ≡ None) → Held g way s
+      → Held g (way ++ Make call ∷ []) t
+  quiet g way name call s t c e none k = holds_quiet g way s.names s.side.system.last k (Make call) t.names t.side.system.last none
+      (c.told ∙ ap (λ o. noted name o s.names) e) (grows name call s t c)
+
+  given : (g h : ℕ → Option ℕ) (way : List LeadCall) (name id : ℕ) (call : SystemCall) (s t : Progress R C)
+      → CallsFor step view name call s t → news call ≡ Some (Cyclic id) → ((own : ℕ) → receipt_of own (Make call) ≡ None)
+      → (s.side.system.last < id) × (id ≤ t.side.system.last) → h name ≡ Some id → ((m : ℕ) → m ≢ name → h m ≡ g m)
+      → Held g way s → Held h (way ++ Make call ∷ []) t
+  given g h way name id call s t c e none (less, low) here there k =
+      holds_given g way s.names s.side.system.last k h (Make call) name id t.names t.side.system.last none
+      (c.told ∙ ap (λ o. noted name o s.names) e) less low here there
+
+  changed : (g : ℕ → Option ℕ) (way : List LeadCall) (name id : ℕ) (now : Named) (call : SystemCall) (s t : Progress R C)
+      → CallsFor step view name call s t → news call ≡ Some now → id_of (named_at s.names name) ≡ Some id
+      → ((own : ℕ) → own ≢ id → receipt_of own (Make call) ≡ None) → Fits (Some id) (Make call ∷ []) now
+      → Held g way s → Held g (way ++ Make call ∷ []) t
+  changed g way name id now call s t c e has others fits k =
+      holds_changed g way s.names s.side.system.last k (Make call) name id now t.names t.side.system.last has others fits
+      (c.told ∙ ap (λ o. noted name o s.names) e) (grows name call s t c)
+
+  -- ---- removals
+
+  begins : (g : ℕ → Option ℕ) (way : List LeadCall) (name id : ℕ) (answer : Result SystemRemoval Refusal) (s t : Progress R C)
+      → id_of (named_at s.names name) ≡ Some id → CallsFor step view name (BeginRemove id answer) s t → Held g way s
+      → Held g (way ++ Make (BeginRemove id answer) ∷ []) t
+  begins g way name id (Ok (Kept calls)) s t has c k =
+      changed g way name id (Leaving id) _ s t c refl has (λ own ne. refl) (refl, refl) k
+  begins g way name id (Ok (Done receipt)) s t has c k =
+      changed g way name id (Removed receipt) _ s t c refl has (λ own ne. receipt_else own id receipt ne)
+      (id, refl, ap (λ o. first_of o None) (receipt_own id receipt)) k
+  begins g way name id (Err e) s t has c k = quiet g way name _ s t c refl (λ own. refl) k
+
+  polls : (g : ℕ → Option ℕ) (way : List LeadCall) (name id : ℕ) (answer : Result (Option Receipt) Refusal) (s t : Progress R C)
+      → id_of (named_at s.names name) ≡ Some id → CallsFor step view name (PollRemove id answer) s t → Held g way s
+      → Held g (way ++ Make (PollRemove id answer) ∷ []) t
+  polls g way name id (Ok (Some receipt)) s t has c k =
+      changed g way name id (Removed receipt) _ s t c refl has (λ own ne. receipt_else own id receipt ne)
+      (id, refl, ap (λ o. first_of o None) (receipt_own id receipt)) k
+  polls g way name id (Ok None) s t has c k = quiet g way name _ s t c refl (λ own. refl) k
+  polls g way name id (Err e) s t has c k = quiet g way name _ s t c refl (λ own. refl) k
+
+  -- ---- adds
+
+  -- a name, and the others
+  here_given : (g : ℕ → Option ℕ) (name id : ℕ) → later_id (g name) (cond (name == name) (Some id) None) ≡ Some id
+  here_given g name id = ap (λ b. later_id (g name) (cond b (Some id) None)) (true_eq name name refl)
+
+  there_given : (g : ℕ → Option ℕ) (name id m : ℕ) → m ≢ name → later_id (g m) (cond (name == m) (Some id) None) ≡ g m
+  there_given g name id m ne = ap (λ b. later_id (g m) (cond b (Some id) None)) (false_ne name m (λ e. ne (sym e)))
+
+  none_given : (o : Option ℕ) (b : Bool) → later_id o (cond b None None) ≡ o
+  none_given o true = refl
+  none_given o false = refl
+
+  added : (g : ℕ → Option ℕ) (way : List LeadCall) (name : ℕ) (level : Level) (when : When) (now : ℕ) (answer : Result ℕ Refusal)
+      (s t : Progress R C) → CallsFor step view name (Add level when now answer) s t → Held g way s
+      → Held (λ n. later_id (g n) (cond (name == n) (option_map_or given_by (Some (Make (Add level when now answer))) None) None))
+      (way ++ Make (Add level when now answer) ∷ []) t
+  added g way name level when now (Ok id) s t c k =
+      given g _ way name id _ s t c refl (λ own. refl) (by c.did) (here_given g name id) (there_given g name id) k
+    where
+      by : Changes step view s.side.system (Add level when now (Ok id)) t.side.system
+          → (s.side.system.last < id) × (id ≤ t.side.system.last)
+      by (inl (e, why, is, same)) = absurd (let odd : Ok id ≡ Err e = is in cc)
+      by (inr (clear, (d, chosen, next, works, records, last))) = (omega (arith, next), omega (arith, last))
+  added g way name level when now (Err e) s t c k =
+      holds_as g _ _ t.names t.side.system.last (λ n. none_given (g n) (name == n)) (quiet g way name _ s t c refl (λ own. refl) k)
+
+  added_everywhere : (g : ℕ → Option ℕ) (way : List LeadCall) (name : ℕ) (level : Level) (when : When) (skew now : ℕ)
+      (answer : Result ℕ Refusal) (s t : Progress R C) → CallsFor step view name (AddOmni level when skew now answer) s t
+      → Held g way s → Held (λ n. later_id (g n)
+      (cond (name == n) (option_map_or given_by (Some (Make (AddOmni level when skew now answer))) None) None))
+      (way ++ Make (AddOmni level when skew now answer) ∷ []) t
+  added_everywhere g way name level when skew now (Ok id) s t c k =
+      given g _ way name id _ s t c refl (λ own. refl) (by c.did) (here_given g name id) (there_given g name id) k
+    where
+      by : Changes step view s.side.system (AddOmni level when skew now (Ok id)) t.side.system
+          → (s.side.system.last < id) × (id ≤ t.side.system.last)
+      by (inl (e, why, is, same)) = absurd (let odd : Ok id ≡ Err e = is in cc)
+      by (inr (clear, (next, works, records, last))) = (omega (arith, next), omega (arith, last))
+  added_everywhere g way name level when skew now (Err e) s t c k =
+      holds_as g _ _ t.names t.side.system.last (λ n. none_given (g n) (name == n)) (quiet g way name _ s t c refl (λ own. refl) k)
+
+  -- ---- steps
+
+  with_held : (Answer : Type 0) (call : ℕ → Result Answer Refusal → SystemCall) (g : ℕ → Option ℕ) (way : List LeadCall) (name : ℕ)
+      (s t : Progress R C)
+      → ((id : ℕ) (answer : Result Answer Refusal) → id_of (named_at s.names name) ≡ Some id
+      → CallsFor step view name (call id answer) s t → Held g way s → Held g (way ++ Make (call id answer) ∷ []) t)
+      → (id : Option ℕ) → id_of (named_at s.names name) ≡ id
+      → (d : WithId id (λ own. (answer : Result Answer Refusal) × CallsFor step view name (call own answer) s t) (t ≡ s))
+      → Held g way s → Held g (way ++ calls_in (call_with step view Answer call name s t id d)) t
+  with_held Answer call g way name s t each (Some id) has (answer, did) k = each id answer has did k
+  with_held Answer call g way name s t each None has e k = same_held g way s t e k
+
+  does_held : (g : ℕ → Option ℕ) (way : List LeadCall) (x : Step) (s t : Progress R C)
+      (d : Does called count may_refuse step view x s t) → Held g way s
+      → Held (λ n. later_id (g n) (given_in n x (call_of called count may_refuse step view x s t d)))
+      (way ++ calls_in (call_of called count may_refuse step view x s t d)) t
+  does_held g way (steps.Add a) s t (inl (when, starts, lasts, long, (answer, did))) k =
+      added g way a.name a.level when s.clock answer s t did k
+  does_held g way (steps.Add a) s t (inr (odd, e)) k =
+      holds_as g _ _ t.names t.side.system.last (λ n. none_given (g n) (a.name == n)) (same_held g way s t e k)
+  does_held g way (steps.Omni a) s t (inl (when, starts, lasts, long, (answer, did))) k =
+      added_everywhere g way a.name a.level when a.skew s.clock answer s t did k
+  does_held g way (steps.Omni a) s t (inr (odd, e)) k =
+      holds_as g _ _ t.names t.side.system.last (λ n. none_given (g n) (a.name == n)) (same_held g way s t e k)
+  does_held g way (steps.Bind b) s t d k =
+      with_held (Unit {0}) (λ id answer. Bind id (Some b.cpu) answer) g way b.name s t
+      (λ id answer has did held. quiet g way b.name _ s t did refl (λ own. refl) held) (id_of (named_at s.names b.name)) refl d k
+  does_held g way (steps.Unbind name) s t d k =
+      with_held (Unit {0}) (λ id answer. Bind id None answer) g way name s t
+      (λ id answer has did held. quiet g way name _ s t did refl (λ own. refl) held) (id_of (named_at s.names name)) refl d k
+  does_held g way (steps.Reprogram r) s t (inl (moment, is, d)) k =
+      with_held (Unit {0}) (λ id answer. reprograms r.cpu id moment answer) g way r.name s t
+      (λ id answer has did held. quiet g way r.name _ s t did (reprogram_tells r.cpu id moment answer)
+      (λ own. reprogram_receipt r.cpu id moment own answer) held) (id_of (named_at s.names r.name)) refl d k
+  does_held g way (steps.Reprogram r) s t (inr (odd, e)) k = same_held g way s t e k
+  does_held g way (steps.Remove name) s t d k =
+      with_held SystemRemoval (λ id answer. BeginRemove id answer) g way name s t
+      (λ id answer has did held. begins g way name id answer s t has did held) (id_of (named_at s.names name)) refl d k
+  does_held g way (steps.Advance now) s t f k =
+      holds_quiet g way s.names s.side.system.last k (FireAll now) t.names t.side.system.last (λ own. refl) f.names
+      (let a = ap (λ p. p.system.last) f.side in let b = f.fired.last in omega (arith, a, b))
+  does_held g way (steps.Softint i) s t e k = same_held g way s t e k
+  does_held g way (steps.Juggle n) s t (answer, did) k = quiet g way 0 _ s t did refl (λ own. refl) k
+  does_held g way (steps.Offline n) s t (answer, did) k = quiet g way 0 _ s t did refl (λ own. refl) k
+  does_held g way (steps.Online n) s t (answer, did) k = quiet g way 0 _ s t did refl (λ own. refl) k
+
+  polls_held : (all : List Poll) (g : ℕ → Option ℕ) (way : List LeadCall) (s t : Progress R C) → FoldsTo (Polls step view) s all t
+      → Held g way s → Held g (way ++ poll_calls all) t
+  polls_held [] g way s t e k = same_held g way s t (sym e) k
+  polls_held (p ∷ all) g way s t (u, (here, did), rest) k =
+      subst (λ w. Held g w t) (append_assoc way (Make (PollRemove p.id p.answer) ∷ []) (poll_calls all))
+      (polls_held all g (way ++ Make (PollRemove p.id p.answer) ∷ []) u t rest
+      (polls g way p.name p.id p.answer s u (ap id_of here) did k))
+
+  wait_held : (g : ℕ → Option ℕ) (way : List LeadCall) (s t : Progress R C) (w : Waits step view s t) → Held g way s
+      → Held g (way ++ wait_calls step view s t w) t
+  wait_held g way s t (all, u, run, q) k =
+      subst (λ w. Held g w t) (append_assoc way (poll_calls all) (AskAll ∷ []))
+      (holds_quiet g (way ++ poll_calls all) u.names u.side.system.last (polls_held all g way s u run k) AskAll
+      t.names t.side.system.last
+      (λ own. refl) q.names (let a = q.asked.last in omega (arith, a)))
+
+  begin_held : (g : ℕ → Option ℕ) (way : List LeadCall) (b : Bool) (s t : Progress R C) (w : Begins step view b s t) → Held g way s
+      → Held g (way ++ begin_calls step view b s t w) t
+  begin_held g way false s t e k = same_held g way s t e k
+  begin_held g way true s t w k = wait_held g way s t w k
+
+  steps_held : (xs : List Step) (g : ℕ → Option ℕ) (way : List LeadCall) (s t : Progress R C)
+      (run : TakesSteps called count may_refuse step view s xs t) → Held g way s
+      → Held (λ n. later_id (g n) (id_in_steps called count may_refuse step view n s xs t run))
+      (way ++ steps_calls called count may_refuse step view s xs t run) t
+  steps_held [] g way s t e k = same_held g way s t (sym e) k
+  steps_held (x ∷ xs) g way s t (u, (v, b, d), rest) k =
+      let before = begin_calls step view (waits_first x) s v b in
+      let own = calls_in (call_of called count may_refuse step view x v u d) in
+      let after = steps_calls called count may_refuse step view u xs t rest in
+      let h : ℕ → Option ℕ = λ n. later_id (g n) (given_in n x (call_of called count may_refuse step view x v u d)) in
+      let j : ℕ → Option ℕ = λ n. later_id (h n) (id_in_steps called count may_refuse step view n u xs t rest) in
+      let so : Held j (((way ++ before) ++ own) ++ after) t = steps_held xs h ((way ++ before) ++ own) u t rest
+      (does_held g (way ++ before) x v u d (begin_held g way (waits_first x) s v b k)) in
+      let e : (((way ++ before) ++ own) ++ after) ≡ way ++ ((before ++ own) ++ after) =
+      ap (λ w. w ++ after) (append_assoc way before own) ∙ append_assoc way (before ++ own) after in
+      holds_as j _ _ t.names t.side.system.last
+      (λ n. later_later (g n) (given_in n x (call_of called count may_refuse step view x v u d))
+      (id_in_steps called count may_refuse step view n u xs t rest))
+      (subst (λ w. Held j w t) e so)
+    where
+      later_later : (a b c : Option ℕ) → later_id a (later_id b c) ≡ later_id (later_id a b) c
+      later_later a b None = refl
+      later_later a b (Some id) = refl
+
+  -- after all steps and the wait at the end
+  pub run_held : (g : ℕ → Option ℕ) (way : List LeadCall) (s : Progress R C) (xs : List Step) (t : Progress R C)
+      (run : Runs called count may_refuse step view s xs t) → Held g way s
+      → Held (λ n. later_id (g n) (id_given called count may_refuse step view n s xs t run))
+      (way ++ run_calls called count may_refuse step view s xs t run) t
+  run_held g way s xs t (u, taken, w) k =
+      subst (λ z. Held (λ n. later_id (g n) (id_in_steps called count may_refuse step view n s xs u taken)) z t)
+      (append_assoc way (steps_calls called count may_refuse step view s xs u taken) (wait_calls step view u t w))
+      (wait_held (λ n. later_id (g n) (id_in_steps called count may_refuse step view n s xs u taken)) (way ++ steps_calls called count may_refuse step view s xs u taken) u t w (steps_held xs g way s u taken k))
+
+  -- from the beginning, where no name has anything
+  pub all_held : (n : ℕ) (s : Progress R C) (xs : List Step) (t : Progress R C)
+      (run : Runs called count may_refuse step view s xs t) → s.names ≡ replicate n Nothing
+      → Held (λ m. id_given called count may_refuse step view m s xs t run)
+      (run_calls called count may_refuse step view s xs t run) t
+  all_held n s xs t run none = holds_as _ _ _ t.names t.side.system.last
+      (λ m. first (id_given called count may_refuse step view m s xs t run))
+      (run_held (λ m. None) [] s xs t run
+      (subst (λ (l : List Named). Holds (λ m. None) [] l s.side.system.last) (sym none) (holds_first n s.side.system.last)))
+    where
+      first : (o : Option ℕ) → o ≡ later_id None o
+      first None = refl
+      first (Some id) = refl
