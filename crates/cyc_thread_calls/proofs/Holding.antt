@@ -45,15 +45,17 @@ Fits given way (Cyclic id) = (given ≡ Some id) × (receipt_in id way ≡ None)
 Fits given way (Leaving id) = (given ≡ Some id) × (receipt_in id way ≡ None)
 Fits given way (Removed receipt) = (id : ℕ) × (given ≡ Some id) × (receipt_in id way ≡ Some receipt)
 
--- of the names, with the last id that was given
-pub record Holds (given : ℕ → Option ℕ) (way : List LeadCall) (names : List Named) (last : ℕ) : Type 0 where
+-- of so many names, with the last id that was given
+pub record Holds (many : ℕ) (given : ℕ → Option ℕ) (way : List LeadCall) (names : List Named) (last : ℕ) : Type 0 where
+  pub long : length names ≡ many
   pub fits : (name : ℕ) → name < length names → Fits (given name) way (named_at names name)
   pub low : (name id : ℕ) → given name ≡ Some id → id ≤ last
   pub apart : (a b id : ℕ) → given a ≡ Some id → given b ≡ Some id → a ≡ b
   pub new : (id : ℕ) → last < id → receipt_in id way ≡ None
 
-pub holds_first : (n last : ℕ) → Holds (λ name. None) [] (replicate n Nothing) last
+pub holds_first : (n last : ℕ) → Holds n (λ name. None) [] (replicate n Nothing) last
 holds_first n last = record {
+  long = length-replicate n Nothing;
   fits = λ name low. subst (λ x. Fits None [] x) (sym (get_or-replicate n name Nothing Nothing (within name low))) refl;
   low = λ name id e. absurd (none_some e);
   apart = λ a b id e f. absurd (none_some e);
@@ -63,13 +65,14 @@ holds_first n last = record {
     within : (name : ℕ) → name < length (replicate n Nothing) → name < n
     within name low = subst (λ k. name < k) (length-replicate n Nothing) low
 
-pub holds_as : (g h : ℕ → Option ℕ) (way : List LeadCall) (names : List Named) (last : ℕ) → ((n : ℕ) → h n ≡ g n)
-    → Holds g way names last → Holds h way names last
-holds_as g h way names last same k =
-    subst (λ (f : ℕ → Option ℕ). Holds f way names last) (λ i n. sym (same n) i) k
+pub holds_as : (many : ℕ) (g h : ℕ → Option ℕ) (way : List LeadCall) (names : List Named) (last : ℕ) → ((n : ℕ) → h n ≡ g n)
+    → Holds many g way names last → Holds many h way names last
+holds_as many g h way names last same k =
+    subst (λ (f : ℕ → Option ℕ). Holds many f way names last) (λ i n. sym (same n) i) k
 
 -- a call that tells no id of a receipt, and changes no name
-module _ (g : ℕ → Option ℕ) (way : List LeadCall) (names : List Named) (last : ℕ) (k : Holds g way names last) where
+module _ (many : ℕ) (g : ℕ → Option ℕ) (way : List LeadCall) (names : List Named) (last : ℕ)
+    (k : Holds many g way names last) where
   fits_on : (o : Option ℕ) (named : Named) (c : LeadCall) → ((id : ℕ) → o ≡ Some id → receipt_of id c ≡ None) → Fits o way named
       → Fits o (way ++ c ∷ []) named
   fits_on o Nothing c none e = e
@@ -78,8 +81,9 @@ module _ (g : ℕ → Option ℕ) (way : List LeadCall) (names : List Named) (la
   fits_on o (Removed receipt) c none (id, e, r) = (id, e, receipt_kept id way (c ∷ []) receipt r)
 
   pub holds_quiet : (c : LeadCall) (names' : List Named) (last' : ℕ) → ((id : ℕ) → receipt_of id c ≡ None) → names' ≡ names
-      → last ≤ last' → Holds g (way ++ c ∷ []) names' last'
-  holds_quiet c names' last' none same grows = subst (λ (l : List Named). Holds g (way ++ c ∷ []) l last') (sym same) (record {
+      → last ≤ last' → Holds many g (way ++ c ∷ []) names' last'
+  holds_quiet c names' last' none same grows = subst (λ (l : List Named). Holds many g (way ++ c ∷ []) l last') (sym same) (record {
+    long = k.long;
     fits = λ name low. fits_on (g name) (named_at names name) c (λ id e. none id) (k.fits name low);
     low = λ name id e. (let a = k.low name id e in omega (arith, a, grows));
     apart = k.apart;
@@ -90,9 +94,10 @@ module _ (g : ℕ → Option ℕ) (way : List LeadCall) (names : List Named) (la
   pub holds_given : (h : ℕ → Option ℕ) (c : LeadCall) (name id : ℕ) (names' : List Named) (last' : ℕ)
       → ((own : ℕ) → receipt_of own c ≡ None)
       → names' ≡ slice_set names name (Cyclic id) → last < id → id ≤ last' → h name ≡ Some id → ((m : ℕ) → m ≢ name → h m ≡ g m)
-      → Holds h (way ++ c ∷ []) names' last'
+      → Holds many h (way ++ c ∷ []) names' last'
   holds_given h c name id names' last' none is less grows here there =
-      subst (λ (l : List Named). Holds h (way ++ c ∷ []) l last') (sym is) (record {
+      subst (λ (l : List Named). Holds many h (way ++ c ∷ []) l last') (sym is) (record {
+        long = length-set names name (Cyclic id) ∙ k.long;
         fits = fits;
         low = λ m own e. dite (ℕ_discrete m name)
             (λ same. (let a = same_some (sym here ∙ ap h (sym same) ∙ e) in omega (arith, a, grows)))
@@ -143,9 +148,10 @@ module _ (g : ℕ → Option ℕ) (way : List LeadCall) (names : List Named) (la
   pub holds_changed : (c : LeadCall) (name id : ℕ) (now : Named) (names' : List Named) (last' : ℕ)
       → id_of (named_at names name) ≡ Some id
       → ((own : ℕ) → own ≢ id → receipt_of own c ≡ None) → Fits (Some id) (c ∷ []) now
-      → names' ≡ slice_set names name now → last ≤ last' → Holds g (way ++ c ∷ []) names' last'
+      → names' ≡ slice_set names name now → last ≤ last' → Holds many g (way ++ c ∷ []) names' last'
   holds_changed c name id now names' last' has others goes is grows =
-      subst (λ (l : List Named). Holds g (way ++ c ∷ []) l last') (sym is) (record {
+      subst (λ (l : List Named). Holds many g (way ++ c ∷ []) l last') (sym is) (record {
+        long = length-set names name now ∙ k.long;
         fits = fits;
         low = λ m own e. (let a = k.low m own e in omega (arith, a, grows));
         apart = k.apart;

@@ -2,3 +2,5 @@ pub mod Going
 pub mod Accepting
 pub mod Holding
 pub mod Names
+pub mod Telling
+pub mod Lining

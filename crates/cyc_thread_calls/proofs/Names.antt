@@ -49,9 +49,9 @@ reprogram_receipt None id moment own answer = refl
 reprogram_receipt (Some n) id moment own answer = refl
 
 module _ {C R : Type 0} (called : C → ℕ → Level → C → Type 0) (count : C → ℕ → ℕ) (may_refuse : C → ℕ → Type 0)
-    (step : R → FiringCall → R → Type 0) (view : R → FiringView) where
+    (step : R → FiringCall → R → Type 0) (view : R → FiringView) (many : ℕ) where
   abbrev pub Held : (ℕ → Option ℕ) → List LeadCall → Progress R C → Type 0
-  Held g way p = Holds g way p.names p.side.system.last
+  Held g way p = Holds many g way p.names p.side.system.last
 
   same_held : (g : ℕ → Option ℕ) (way : List LeadCall) (s t : Progress R C) → t ≡ s → Held g way s → Held g (way ++ []) t
   same_held g way s t e k = subst (λ w. Held g w t) (sym (append-nil way)) (subst (λ p. Held g way p) (sym e) k)
@@ -63,7 +63,7 @@ module _ {C R : Type 0} (called : C → ℕ → Level → C → Type 0) (count :
   quiet : (g : ℕ → Option ℕ) (way : List LeadCall) (name : ℕ) (call : SystemCall) (s t : Progress R C)
       → CallsFor step view name call s t → news call ≡ None → ((own : ℕ) → receipt_of own (Make call) ≡ None) → Held g way s
       → Held g (way ++ Make call ∷ []) t
-  quiet g way name call s t c e none k = holds_quiet g way s.names s.side.system.last k (Make call) t.names t.side.system.last none
+  quiet g way name call s t c e none k = holds_quiet many g way s.names s.side.system.last k (Make call) t.names t.side.system.last none
       (c.told ∙ ap (λ o. noted name o s.names) e) (grows name call s t c)
 
   given : (g h : ℕ → Option ℕ) (way : List LeadCall) (name id : ℕ) (call : SystemCall) (s t : Progress R C)
@@ -71,7 +71,7 @@ module _ {C R : Type 0} (called : C → ℕ → Level → C → Type 0) (count :
       → (s.side.system.last < id) × (id ≤ t.side.system.last) → h name ≡ Some id → ((m : ℕ) → m ≢ name → h m ≡ g m)
       → Held g way s → Held h (way ++ Make call ∷ []) t
   given g h way name id call s t c e none (less, low) here there k =
-      holds_given g way s.names s.side.system.last k h (Make call) name id t.names t.side.system.last none
+      holds_given many g way s.names s.side.system.last k h (Make call) name id t.names t.side.system.last none
       (c.told ∙ ap (λ o. noted name o s.names) e) less low here there
 
   changed : (g : ℕ → Option ℕ) (way : List LeadCall) (name id : ℕ) (now : Named) (call : SystemCall) (s t : Progress R C)
@@ -79,7 +79,7 @@ module _ {C R : Type 0} (called : C → ℕ → Level → C → Type 0) (count :
       → ((own : ℕ) → own ≢ id → receipt_of own (Make call) ≡ None) → Fits (Some id) (Make call ∷ []) now
       → Held g way s → Held g (way ++ Make call ∷ []) t
   changed g way name id now call s t c e has others fits k =
-      holds_changed g way s.names s.side.system.last k (Make call) name id now t.names t.side.system.last has others fits
+      holds_changed many g way s.names s.side.system.last k (Make call) name id now t.names t.side.system.last has others fits
       (c.told ∙ ap (λ o. noted name o s.names) e) (grows name call s t c)
 
   -- ---- removals
@@ -128,7 +128,7 @@ module _ {C R : Type 0} (called : C → ℕ → Level → C → Type 0) (count :
       by (inl (e, why, is, same)) = absurd (let odd : Ok id ≡ Err e = is in cc)
       by (inr (clear, (d, chosen, next, works, records, last))) = (omega (arith, next), omega (arith, last))
   added g way name level when now (Err e) s t c k =
-      holds_as g _ _ t.names t.side.system.last (λ n. none_given (g n) (name == n)) (quiet g way name _ s t c refl (λ own. refl) k)
+      holds_as many g _ _ t.names t.side.system.last (λ n. none_given (g n) (name == n)) (quiet g way name _ s t c refl (λ own. refl) k)
 
   added_everywhere : (g : ℕ → Option ℕ) (way : List LeadCall) (name : ℕ) (level : Level) (when : When) (skew now : ℕ)
       (answer : Result ℕ Refusal) (s t : Progress R C) → CallsFor step view name (AddOmni level when skew now answer) s t
@@ -143,7 +143,7 @@ module _ {C R : Type 0} (called : C → ℕ → Level → C → Type 0) (count :
       by (inl (e, why, is, same)) = absurd (let odd : Ok id ≡ Err e = is in cc)
       by (inr (clear, (next, works, records, last))) = (omega (arith, next), omega (arith, last))
   added_everywhere g way name level when skew now (Err e) s t c k =
-      holds_as g _ _ t.names t.side.system.last (λ n. none_given (g n) (name == n)) (quiet g way name _ s t c refl (λ own. refl) k)
+      holds_as many g _ _ t.names t.side.system.last (λ n. none_given (g n) (name == n)) (quiet g way name _ s t c refl (λ own. refl) k)
 
   -- ---- steps
 
@@ -164,11 +164,11 @@ module _ {C R : Type 0} (called : C → ℕ → Level → C → Type 0) (count :
   does_held g way (steps.Add a) s t (inl (when, starts, lasts, long, (answer, did))) k =
       added g way a.name a.level when s.clock answer s t did k
   does_held g way (steps.Add a) s t (inr (odd, e)) k =
-      holds_as g _ _ t.names t.side.system.last (λ n. none_given (g n) (a.name == n)) (same_held g way s t e k)
+      holds_as many g _ _ t.names t.side.system.last (λ n. none_given (g n) (a.name == n)) (same_held g way s t e k)
   does_held g way (steps.Omni a) s t (inl (when, starts, lasts, long, (answer, did))) k =
       added_everywhere g way a.name a.level when a.skew s.clock answer s t did k
   does_held g way (steps.Omni a) s t (inr (odd, e)) k =
-      holds_as g _ _ t.names t.side.system.last (λ n. none_given (g n) (a.name == n)) (same_held g way s t e k)
+      holds_as many g _ _ t.names t.side.system.last (λ n. none_given (g n) (a.name == n)) (same_held g way s t e k)
   does_held g way (steps.Bind b) s t d k =
       with_held (Unit {0}) (λ id answer. Bind id (Some b.cpu) answer) g way b.name s t
       (λ id answer has did held. quiet g way b.name _ s t did refl (λ own. refl) held) (id_of (named_at s.names b.name)) refl d k
@@ -184,7 +184,7 @@ module _ {C R : Type 0} (called : C → ℕ → Level → C → Type 0) (count :
       with_held SystemRemoval (λ id answer. BeginRemove id answer) g way name s t
       (λ id answer has did held. begins g way name id answer s t has did held) (id_of (named_at s.names name)) refl d k
   does_held g way (steps.Advance now) s t f k =
-      holds_quiet g way s.names s.side.system.last k (FireAll now) t.names t.side.system.last (λ own. refl) f.names
+      holds_quiet many g way s.names s.side.system.last k (FireAll now) t.names t.side.system.last (λ own. refl) f.names
       (let a = ap (λ p. p.system.last) f.side in let b = f.fired.last in omega (arith, a, b))
   does_held g way (steps.Softint i) s t e k = same_held g way s t e k
   does_held g way (steps.Juggle n) s t (answer, did) k = quiet g way 0 _ s t did refl (λ own. refl) k
@@ -203,7 +203,7 @@ module _ {C R : Type 0} (called : C → ℕ → Level → C → Type 0) (count :
       → Held g (way ++ wait_calls step view s t w) t
   wait_held g way s t (all, u, run, q) k =
       subst (λ w. Held g w t) (append_assoc way (poll_calls all) (AskAll ∷ []))
-      (holds_quiet g (way ++ poll_calls all) u.names u.side.system.last (polls_held all g way s u run k) AskAll
+      (holds_quiet many g (way ++ poll_calls all) u.names u.side.system.last (polls_held all g way s u run k) AskAll
       t.names t.side.system.last
       (λ own. refl) q.names (let a = q.asked.last in omega (arith, a)))
 
@@ -227,7 +227,7 @@ module _ {C R : Type 0} (called : C → ℕ → Level → C → Type 0) (count :
       (does_held g (way ++ before) x v u d (begin_held g way (waits_first x) s v b k)) in
       let e : (((way ++ before) ++ own) ++ after) ≡ way ++ ((before ++ own) ++ after) =
       ap (λ w. w ++ after) (append_assoc way before own) ∙ append_assoc way (before ++ own) after in
-      holds_as j _ _ t.names t.side.system.last
+      holds_as many j _ _ t.names t.side.system.last
       (λ n. later_later (g n) (given_in n x (call_of called count may_refuse step view x v u d))
       (id_in_steps called count may_refuse step view n u xs t rest))
       (subst (λ w. Held j w t) e so)
@@ -247,14 +247,14 @@ module _ {C R : Type 0} (called : C → ℕ → Level → C → Type 0) (count :
       (wait_held (λ n. later_id (g n) (id_in_steps called count may_refuse step view n s xs u taken)) (way ++ steps_calls called count may_refuse step view s xs u taken) u t w (steps_held xs g way s u taken k))
 
   -- from the beginning, where no name has anything
-  pub all_held : (n : ℕ) (s : Progress R C) (xs : List Step) (t : Progress R C)
-      (run : Runs called count may_refuse step view s xs t) → s.names ≡ replicate n Nothing
+  pub all_held : (s : Progress R C) (xs : List Step) (t : Progress R C)
+      (run : Runs called count may_refuse step view s xs t) → s.names ≡ replicate many Nothing
       → Held (λ m. id_given called count may_refuse step view m s xs t run)
       (run_calls called count may_refuse step view s xs t run) t
-  all_held n s xs t run none = holds_as _ _ _ t.names t.side.system.last
+  all_held s xs t run none = holds_as many _ _ _ t.names t.side.system.last
       (λ m. first (id_given called count may_refuse step view m s xs t run))
       (run_held (λ m. None) [] s xs t run
-      (subst (λ (l : List Named). Holds (λ m. None) [] l s.side.system.last) (sym none) (holds_first n s.side.system.last)))
+      (subst (λ (l : List Named). Holds many (λ m. None) [] l s.side.system.last) (sym none) (holds_first many s.side.system.last)))
     where
       first : (o : Option ℕ) → o ≡ later_id None o
       first None = refl

@@ -5,7 +5,9 @@
 mod giving;
 mod leading;
 mod meeting;
+mod reporting;
 
 pub use giving::giving_law;
 pub use leading::leading_law;
 pub use meeting::meeting_law;
+pub use reporting::reported_law;

@@ -2,4 +2,4 @@ mod Ready
 mod Taking
 mod Refusing
 mod Telling
-mod Quiet
+pub mod Quiet

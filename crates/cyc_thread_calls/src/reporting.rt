@@ -1,0 +1,34 @@
+//! The law of what the report of a run says of each name.
+
+ghost use Rattle.std.specs.Prelude.{◌≡◌, ◌<◌, ℕ, List, Some, length, replicate};
+ghost use Rattle.std.specs.List.{slice_get};
+ghost use Rattle.cyc_ring.specs.declared.ends.RaiseEnd.{RaiseEnd as AnEnd};
+ghost use Rattle.cyc_ring.specs.Ends.{end_view, RaiseEndCall};
+ghost use Rattle.cyc_script.specs.declared.step.Step.{Step};
+ghost use Rattle.cyc_thread_steps.specs.declared.named.Named.TheVariants.{Nothing};
+ghost use Rattle.cyc_thread_steps.specs.declared.progress.Progress.{Progress};
+ghost use Rattle.cyc_thread_steps.specs.declared.reporting.Line.{Line};
+ghost use Rattle.cyc_thread_steps.specs.Steps.{Runs};
+ghost use Rattle.cyc_thread_steps.specs.Reporting.{Reports};
+ghost use Rattle.cyc_thread_calls.specs.Giving.{id_given};
+ghost use Rattle.cyc_thread_calls.specs.Leading.{all_calls};
+ghost use Rattle.cyc_thread_calls.specs.Lines.{line_in};
+
+use cyc_types::Calls;
+
+/// The report of a run that begins with so many names that have nothing has a line for each of them. It says what the calls of
+/// the run tell of the id that the name got: what its receipt has, where its removal has answered, and else what the system has
+/// of it on all CPUs at the end. Nothing is pending. The line of a name that got no id has zeros.
+///
+/// It does nothing when it runs: its clauses are the law.
+pub fn reported_law<C: Calls>()
+    ensures many { (n : ℕ) (xs : List Step) (lines : List Line) (s t u : Progress AnEnd C)
+        → Runs C.called C.count C.may_refuse RaiseEndCall end_view s xs t → Reports RaiseEndCall end_view lines t u
+        → s.names ≡ replicate n Nothing → length lines ≡ n }
+    ensures each { (n name : ℕ) (xs : List Step) (lines : List Line) (s t u : Progress AnEnd C)
+        (runs : Runs C.called C.count C.may_refuse RaiseEndCall end_view s xs t)
+        (reports : Reports RaiseEndCall end_view lines t u)
+        → s.names ≡ replicate n Nothing → name < n
+        → slice_get lines name ≡ Some (line_in (id_given C.called C.count C.may_refuse RaiseEndCall end_view name s xs t runs)
+        (all_calls C.called C.count C.may_refuse RaiseEndCall end_view xs lines s t u runs reports) u.side.system) }
+{}
