@@ -4,3 +4,4 @@ pub mod Holding
 pub mod Names
 pub mod Telling
 pub mod Lining
+pub mod Starting
