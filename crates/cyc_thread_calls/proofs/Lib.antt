@@ -5,3 +5,4 @@ pub mod Names
 pub mod Telling
 pub mod Lining
 pub mod Starting
+pub mod Closing

@@ -2,3 +2,4 @@ pub mod Leading
 pub mod Meeting
 pub mod Giving
 pub mod Lines
+pub mod Calling

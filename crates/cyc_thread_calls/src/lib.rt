@@ -2,11 +2,13 @@
 //! do nothing when they run. Their clauses are the laws, so that they are proved.
 #![tactic(auto)]
 
+mod calling;
 mod giving;
 mod leading;
 mod meeting;
 mod reporting;
 
+pub use calling::called_law;
 pub use giving::giving_law;
 pub use leading::leading_law;
 pub use meeting::meeting_law;
