@@ -6,3 +6,4 @@ pub mod Telling
 pub mod Lining
 pub mod Starting
 pub mod Closing
+pub mod Counted

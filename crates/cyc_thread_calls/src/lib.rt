@@ -6,10 +6,12 @@ mod calling;
 mod giving;
 mod leading;
 mod meeting;
+mod naming;
 mod reporting;
 
 pub use calling::called_law;
 pub use giving::giving_law;
 pub use leading::leading_law;
 pub use meeting::meeting_law;
+pub use naming::named_law;
 pub use reporting::reported_law;

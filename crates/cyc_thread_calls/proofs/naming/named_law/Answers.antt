@@ -1,0 +1,22 @@
+use Rattle.cyc_thread_calls.proofs.Counted.{named_line, line_few, line_called, none_elsewhere, none_ungiven}
+use Rattle.cyc_thread_calls.proofs.naming.named_law.Goals as goal
+
+pub returns-clause-line : goal.returns-clause-line
+returns-clause-line g c script calls e text r name low =
+    named_line g.C.Calls.called g.C.Calls.count g.C.Calls.may_refuse script calls e text r name low
+
+pub returns-clause-few : goal.returns-clause-few
+returns-clause-few g c script calls e text r name line at =
+    line_few g.C.Calls.called g.C.Calls.count g.C.Calls.may_refuse script calls e text r name line at
+
+pub returns-clause-called : goal.returns-clause-called
+returns-clause-called g c script calls e text r name id level line at given known =
+    line_called g.C.Calls.called g.C.Calls.count g.C.Calls.may_refuse script calls e text r name id level line at given known
+
+pub returns-clause-elsewhere : goal.returns-clause-elsewhere
+returns-clause-elsewhere g c script calls e text r id level other known ne =
+    none_elsewhere g.C.Calls.called g.C.Calls.count g.C.Calls.may_refuse script calls e text r id level other known ne
+
+pub returns-clause-ungiven : goal.returns-clause-ungiven
+returns-clause-ungiven g c script calls e text r id level none =
+    none_ungiven g.C.Calls.called g.C.Calls.count g.C.Calls.may_refuse script calls e text r id level none
