@@ -45,7 +45,7 @@ level_other High High ne = absurd (ne refl)
 
 module _ (id : ℕ) (way : List LeadCall) (t : SystemView RaiseEnd) where
   -- the counts of an id are those at its own level
-  own_counts : (level : Level) → level_in id way ≡ Some level → counts_at level id way t ≡ counts_in id way t
+  pub own_counts : (level : Level) → level_in id way ≡ Some level → counts_at level id way t ≡ counts_in id way t
   own_counts level e =
       ap (λ o. cond (is_own level o) (counts_in id way t) no_counts) e ∙ ap (λ b. cond b (counts_in id way t) no_counts)
       (level_same level)
@@ -79,7 +79,7 @@ module _ {C : Type 0} (called : C → ℕ → Level → C → Type 0) (count : C
       r.lines r.played.first r.played.last r.played.told r.played.runs r.played.reports r.played.begins.names_are low
 
   -- a line is that of its name
-  line_is : (name : ℕ) (line : Line) → slice_get r.lines name ≡ Some line → line ≡ line_in (id_named name) way last
+  pub line_is : (name : ℕ) (line : Line) → slice_get r.lines name ≡ Some line → line ≡ line_in (id_named name) way last
   line_is name line at =
       let many = as_many called count may_refuse RaiseEndCall end_view (length script.names.items) script.steps.items
       r.lines r.played.first r.played.last r.played.told r.played.runs r.played.reports r.played.begins.names_are in

@@ -7,3 +7,6 @@ pub mod Lining
 pub mod Starting
 pub mod Closing
 pub mod Counted
+pub mod Ends
+pub mod Sparing
+pub mod Spared

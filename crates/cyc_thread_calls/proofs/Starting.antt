@@ -90,16 +90,29 @@ beside {A} {B} f g xs ys e n x at = by (slice_get ys n) refl
 
 module _ {C : Type 0} (names k : ℕ) (all : List (Seated C)) (first : Progress RaiseEnd C) (b : IsAtFirst names all first)
     (new : All (AreNew k) (map (λ (s : Seated C). s.seats) all)) where
-  -- nothing was done at the ends of a CPU
-  pub new_trails : (n : ℕ) (e : RaiseEnd × RaiseEnd) → slice_get b.ends n ≡ Some e
-      → (raise_trail e.0.seat ≡ []) × (raise_trail e.1.seat ≡ [])
-  new_trails n e at =
+  -- the seats of the ends of a CPU are new
+  its_seats : (n : ℕ) (e : RaiseEnd × RaiseEnd) → slice_get b.ends n ≡ Some e
+      → (own : Seated C) × AreNew k own.seats × (seats_of_ends e ≡ firing_seats own)
+  its_seats n e at =
       let (s, here, same) = beside seats_of_ends firing_seats b.ends all b.own n e at in
       let there : slice_get (map (λ (x : Seated C). x.seats) all) n ≡ Some s.seats =
-      slice_get-map (λ (x : Seated C). x.seats) all n ∙ ap (option_map (λ (x : Seated C). x.seats)) here in
-      let own = subst (AreNew k) (get_or_from_slice_get (map (λ (x : Seated C). x.seats) all) n s.seats s.seats there)
-      (new n s.seats (slice_get_within (map (λ (x : Seated C). x.seats) all) n s.seats there)) in
+      slice_get-map (λ (x : Seated C). x.seats) all n ∙ ap (option_map (λ (x : Seated C). x.seats)) here in (
+        s,
+        subst (AreNew k) (get_or_from_slice_get (map (λ (x : Seated C). x.seats) all) n s.seats s.seats there)
+            (new n s.seats (slice_get_within (map (λ (x : Seated C). x.seats) all) n s.seats there)),
+        same,
+      )
+
+  -- nothing was done there, and their ceiling is this
+  pub new_trails : (n : ℕ) (e : RaiseEnd × RaiseEnd) → slice_get b.ends n ≡ Some e
+      → (raise_trail e.0.seat ≡ []) × (raise_trail e.1.seat ≡ [])
+  new_trails n e at = let (s, own, same) = its_seats n e at in
       (ap (λ p. raise_trail p.0) same ∙ own.0.0, ap (λ p. raise_trail p.1) same ∙ own.1.0)
+
+  pub new_ceilings : (n : ℕ) (e : RaiseEnd × RaiseEnd) → slice_get b.ends n ≡ Some e
+      → (e.0.seat.setting.ceiling ≡ k) × (e.1.seat.setting.ceiling ≡ k)
+  new_ceilings n e at = let (s, own, same) = its_seats n e at in
+      (ap (λ p. p.0.setting.ceiling) same ∙ own.0.2, ap (λ p. p.1.setting.ceiling) same ∙ own.1.2)
 
   many_ends : length b.ends ≡ length all
   many_ends = sym (length-map b.ends seats_of_ends) ∙ ap (λ (l : List (RaiseSeat × RaiseSeat)). length l) b.own

@@ -29,6 +29,10 @@ pub fn named_law<C: Calls>()
     ensures few { (script : OneScript) (calls : List C) (e : Ends C) (text : List ℕ)
         (r : HasRun C.called C.count C.may_refuse script calls e text) (name : ℕ) (line : OneLine)
         → slice_get r.lines name ≡ Some line → line.lost ≤ line.expired }
+    // What expired no more often than the greatest pend lost nothing.
+    ensures spared { (script : OneScript) (calls : List C) (e : Ends C) (text : List ℕ)
+        (r : HasRun C.called C.count C.may_refuse script calls e text) (name : ℕ) (line : OneLine)
+        → slice_get r.lines name ≡ Some line → line.expired ≤ script.ceiling → line.lost ≡ 0 }
     ensures called { (script : OneScript) (calls : List C) (e : Ends C) (text : List ℕ)
         (r : HasRun C.called C.count C.may_refuse script calls e text) (name id : ℕ) (level : OneLevel) (line : OneLine)
         → slice_get r.lines name ≡ Some line → id_of_name C.called C.count C.may_refuse script calls e text r name ≡ Some id

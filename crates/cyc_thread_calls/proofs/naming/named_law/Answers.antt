@@ -1,4 +1,5 @@
 use Rattle.cyc_thread_calls.proofs.Counted.{named_line, line_few, line_called, none_elsewhere, none_ungiven}
+use Rattle.cyc_thread_calls.proofs.Spared.{line_spared}
 use Rattle.cyc_thread_calls.proofs.naming.named_law.Goals as goal
 
 pub returns-clause-line : goal.returns-clause-line
@@ -8,6 +9,10 @@ returns-clause-line g c script calls e text r name low =
 pub returns-clause-few : goal.returns-clause-few
 returns-clause-few g c script calls e text r name line at =
     line_few g.C.Calls.called g.C.Calls.count g.C.Calls.may_refuse script calls e text r name line at
+
+pub returns-clause-spared : goal.returns-clause-spared
+returns-clause-spared g c script calls e text r name line at few =
+    line_spared g.C.Calls.called g.C.Calls.count g.C.Calls.may_refuse script calls e text r name line at few
 
 pub returns-clause-called : goal.returns-clause-called
 returns-clause-called g c script calls e text r name id level line at given known =
