@@ -10,3 +10,5 @@ pub mod Counted
 pub mod Ends
 pub mod Sparing
 pub mod Spared
+pub mod Leveled
+pub mod Worded

@@ -3,3 +3,4 @@ pub mod Meeting
 pub mod Giving
 pub mod Lines
 pub mod Calling
+pub mod Levels

@@ -11,13 +11,14 @@ ghost use Rattle.cyc_threads.specs.declared.running.Ended.{Ended as Ends};
 ghost use Rattle.cyc_threads.specs.Reporting.{counts_of};
 ghost use Rattle.cyc_threads.specs.Running.{HasRun};
 ghost use Rattle.cyc_thread_calls.specs.Calling.{calls_at, lead_calls, last_system, id_of_name};
+ghost use Rattle.cyc_thread_calls.specs.Levels.{level_named};
 ghost use Rattle.cyc_thread_calls.specs.Lines.{line_in};
 
 use cyc_types::Calls;
 
 /// What the report of a run in threads says of each name of its script: what its calls tell of the id that the name got. No more
-/// was lost than expired. As often as it says, the handlers of the level of that id were called for it, and no handler of another
-/// level was.
+/// was lost than expired. As often as it says, the handlers of the level of the name were called for that id, and no handler of
+/// another level was.
 ///
 /// It does nothing when it runs: its clauses are the law.
 pub fn named_law<C: Calls>()
@@ -36,11 +37,12 @@ pub fn named_law<C: Calls>()
     ensures called { (script : OneScript) (calls : List C) (e : Ends C) (text : List ℕ)
         (r : HasRun C.called C.count C.may_refuse script calls e text) (name id : ℕ) (level : OneLevel) (line : OneLine)
         → slice_get r.lines name ≡ Some line → id_of_name C.called C.count C.may_refuse script calls e text r name ≡ Some id
-        → level_in id (lead_calls C.called C.count C.may_refuse script calls e text r) ≡ Some level
+        → level_named name script.steps.items ≡ Some level
         → calls_at C.count level id r.after ≡ calls_at C.count level id r.before + (counts_of line).called }
     ensures elsewhere { (script : OneScript) (calls : List C) (e : Ends C) (text : List ℕ)
-        (r : HasRun C.called C.count C.may_refuse script calls e text) (id : ℕ) (level other : OneLevel)
-        → level_in id (lead_calls C.called C.count C.may_refuse script calls e text r) ≡ Some level → other ≢ level
+        (r : HasRun C.called C.count C.may_refuse script calls e text) (name id : ℕ) (level other : OneLevel)
+        → id_of_name C.called C.count C.may_refuse script calls e text r name ≡ Some id
+        → level_named name script.steps.items ≡ Some level → other ≢ level
         → calls_at C.count other id r.after ≡ calls_at C.count other id r.before }
     // For an id that the run gave nobody no handler was called.
     ensures ungiven { (script : OneScript) (calls : List C) (e : Ends C) (text : List ℕ)

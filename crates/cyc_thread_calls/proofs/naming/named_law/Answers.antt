@@ -1,4 +1,5 @@
-use Rattle.cyc_thread_calls.proofs.Counted.{named_line, line_few, line_called, none_elsewhere, none_ungiven}
+use Rattle.cyc_thread_calls.proofs.Counted.{named_line, line_few, none_ungiven}
+use Rattle.cyc_thread_calls.proofs.Worded.{word_called, word_elsewhere}
 use Rattle.cyc_thread_calls.proofs.Spared.{line_spared}
 use Rattle.cyc_thread_calls.proofs.naming.named_law.Goals as goal
 
@@ -16,11 +17,11 @@ returns-clause-spared g c script calls e text r name line at few =
 
 pub returns-clause-called : goal.returns-clause-called
 returns-clause-called g c script calls e text r name id level line at given known =
-    line_called g.C.Calls.called g.C.Calls.count g.C.Calls.may_refuse script calls e text r name id level line at given known
+    word_called g.C.Calls.called g.C.Calls.count g.C.Calls.may_refuse script calls e text r name id level line at given known
 
 pub returns-clause-elsewhere : goal.returns-clause-elsewhere
-returns-clause-elsewhere g c script calls e text r id level other known ne =
-    none_elsewhere g.C.Calls.called g.C.Calls.count g.C.Calls.may_refuse script calls e text r id level other known ne
+returns-clause-elsewhere g c script calls e text r name id level other given named ne =
+    word_elsewhere g.C.Calls.called g.C.Calls.count g.C.Calls.may_refuse script calls e text r name id level other given named ne
 
 pub returns-clause-ungiven : goal.returns-clause-ungiven
 returns-clause-ungiven g c script calls e text r id level none =
