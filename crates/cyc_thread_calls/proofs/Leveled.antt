@@ -40,20 +40,20 @@ level_on id (x ∷ xs) ys = ap (first_of (level_given id x)) (level_on id xs ys)
 pub level_kept : (id : ℕ) (xs ys : List LeadCall) (level : Level) → level_in id xs ≡ Some level → level_in id (xs ++ ys) ≡ Some level
 level_kept id xs ys level e = level_on id xs ys ∙ ap (λ o. first_of o (level_in id ys)) e
 
-level_later : (id : ℕ) (xs ys : List LeadCall) → level_in id xs ≡ None → level_in id (xs ++ ys) ≡ level_in id ys
+pub level_later : (id : ℕ) (xs ys : List LeadCall) → level_in id xs ≡ None → level_in id (xs ++ ys) ≡ level_in id ys
 level_later id xs ys e = level_on id xs ys ∙ ap (λ o. first_of o (level_in id ys)) e
 
 polls_none : (id : ℕ) (polls : List Poll) → level_in id (poll_calls polls) ≡ None
 polls_none id [] = refl
 polls_none id (p ∷ polls) = polls_none id polls
 
-not_some : (o : Option Level) → ((level : Level) → o ≡ Some level → ⊥) → o ≡ None
+pub not_some : (o : Option Level) → ((level : Level) → o ≡ Some level → ⊥) → o ≡ None
 not_some None no_one = refl
 not_some (Some level) no_one = absurd (no_one level refl)
 
 -- ---- the level of a name in a script
 
-both_true : (a b : Bool) → (a && b) ≡ true → (a ≡ true) × (b ≡ true)
+pub both_true : (a b : Bool) → (a && b) ≡ true → (a ≡ true) × (b ≡ true)
 both_true true b e = (refl, e)
 both_true false b e = absurd (let odd : false ≡ true = e in cc)
 
@@ -107,7 +107,7 @@ module _ {C R : Type 0} (called : C → ℕ → Level → C → Type 0) (count :
   all_grow [] s t e = let a = ap (λ (x : SystemSide R C). x.system.last) e in omega (arith, a)
   all_grow (call ∷ way) s t (u, d, rest) = let a = one_grows s u call d in let b = all_grow way u t rest in omega (arith, a, b)
 
-  own_level : (own id : ℕ) (level found : Level) → cond (own == id) (Some level) None ≡ Some found → own ≡ id
+  pub own_level : (own id : ℕ) (level found : Level) → cond (own == id) (Some level) None ≡ Some found → own ≡ id
   own_level own id level found e = by (own == id) refl e
     where
       by : (b : Bool) → (own == id) ≡ b → cond b (Some level) None ≡ Some found → own ≡ id
@@ -148,7 +148,7 @@ module _ {C R : Type 0} (called : C → ℕ → Level → C → Type 0) (count :
 
   -- ---- steps
 
-  begin_none : (id : ℕ) (b : Bool) (s t : Progress R C) (w : Begins step view b s t)
+  pub begin_none : (id : ℕ) (b : Bool) (s t : Progress R C) (w : Begins step view b s t)
       → level_in id (begin_calls step view b s t w) ≡ None
   begin_none id false s t w = refl
   begin_none id true s t (polls, u, run, settles) = level_on id (poll_calls polls) (AskAll ∷ [])

@@ -12,3 +12,4 @@ pub mod Sparing
 pub mod Spared
 pub mod Leveled
 pub mod Worded
+pub mod Owning

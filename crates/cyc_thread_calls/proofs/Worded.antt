@@ -1,6 +1,14 @@
 -- The calls of the handlers of a run, by the names of its script and their levels there.
-use Rattle.std.proofs.Common.{◌≡◌, ◌≢◌, ◌∙◌, ℕ, ◌+◌, ◌++◌, List, Option, Some, sym}
-use Rattle.std.specs.List.{slice_get}
+use Rattle.std.proofs.Common.{◌≡◌, ◌≢◌, ◌∙◌, ℕ, ◌<◌, ◌+◌, ◌++◌, List, [], ◌∷◌, Option, Some, None, length, refl, sym, ap, arith}
+use Rattle.std.specs.Prelude.{true}
+use Rattle.std.specs.List.{slice_get, FoldsTo}
+use Rattle.cyc_types.specs.Firing.{FiringView, FiringCall}
+use Rattle.cyc_system_rings.specs.Rings.{first_of}
+use Rattle.cyc_thread_steps.specs.declared.named.Named.{Named}
+use Rattle.cyc_thread_steps.specs.declared.named.Named.TheVariants.{Nothing, Cyclic, Leaving, Removed}
+use Rattle.cyc_thread_steps.specs.declared.progress.Progress.{Progress}
+use Rattle.cyc_thread_steps.specs.Reporting.{Told, Tells, TellsOf}
+use Rattle.cyc_thread_calls.proofs.Owning.{steps_named}
 use Rattle.cyc_types.specs.declared.level.Level.{Level}
 use Rattle.cyc_ring.specs.Ends.{end_view, RaiseEndCall}
 use Rattle.cyc_script.specs.declared.script.Script.{Script}
@@ -13,10 +21,33 @@ use Rattle.cyc_threads.specs.Reporting.{counts_of}
 use Rattle.cyc_threads.specs.Running.{HasRun}
 use Rattle.cyc_thread_calls.specs.Calling.{calls_at, lead_calls, id_of_name}
 use Rattle.cyc_thread_calls.specs.Giving.{id_given}
-use Rattle.cyc_thread_calls.specs.Leading.{steps_calls, run_calls, wait_calls, report_calls}
+use Rattle.cyc_thread_calls.specs.Leading.{steps_calls, run_calls, wait_calls, report_calls, told_calls_of, told_calls}
 use Rattle.cyc_thread_calls.specs.Levels.{level_named}
-use Rattle.cyc_thread_calls.proofs.Counted.{line_called, none_elsewhere}
-use Rattle.cyc_thread_calls.proofs.Leveled.{level_kept, steps_level}
+use Rattle.cyc_thread_calls.proofs.Counted.{line_called, none_elsewhere, none_ungiven}
+use Rattle.cyc_thread_calls.proofs.Leveled.{level_on, level_kept, level_later, not_some, begin_none, steps_level}
+
+-- more calls that give it no level
+level_first : (id : ℕ) (xs ys : List LeadCall) → level_in id ys ≡ None → level_in id (xs ++ ys) ≡ level_in id xs
+level_first id xs ys e = level_on id xs ys ∙ ap (λ o. first_of (level_in id xs) o) e ∙ by (level_in id xs)
+  where
+    by : (o : Option Level) → first_of o None ≡ o
+    by None = refl
+    by (Some level) = refl
+
+module _ {C R : Type 0} (step : R → FiringCall → R → Type 0) (view : R → FiringView) (id : ℕ) where
+  line_level : (named : Named) (line : Line) (s t : Progress R C) (d : TellsOf step view named line s t)
+      → level_in id (told_calls_of step view named line s t d) ≡ None
+  line_level Nothing line s t d = refl
+  line_level (Cyclic own) line s t (answer, did, is) = refl
+  line_level (Leaving own) line s t (answer, did, is) = refl
+  line_level (Removed receipt) line s t d = refl
+
+  report_level : (all : List Told) (s t : Progress R C) (d : FoldsTo (Tells step view) s all t)
+      → level_in id (told_calls step view all s t d) ≡ None
+  report_level [] s t e = refl
+  report_level (told ∷ all) s t (u, d, rest) =
+      level_later id (told_calls_of step view told.named told.line s u d) (told_calls step view all u t rest)
+      (line_level told.named told.line s u d) ∙ report_level all u t rest
 
 module _ {C : Type 0} (called : C → ℕ → Level → C → Type 0) (count : C → ℕ → ℕ) (may_refuse : C → ℕ → Type 0) (script : Script)
     (calls : List C) (e : Ended C) (text : List ℕ) (r : HasRun called count may_refuse script calls e text) where
@@ -66,3 +97,34 @@ module _ {C : Type 0} (called : C → ℕ → Level → C → Type 0) (count : C
       → calls_at count other id r.after ≡ calls_at count other id r.before
   word_elsewhere name id level other given named ne =
       none_elsewhere called count may_refuse script calls e text r id level other (known_level name id level given named) ne
+
+  -- an id that is no name's was given by no call
+  pub own_name : (id : ℕ) (level : Level) → level_in id way ≡ Some level
+      → (name : ℕ) × (name < length script.names.items) × (id_named name ≡ Some id)
+  own_name id level is = by r.played.runs is
+    where
+      by : (run : Runs called count may_refuse RaiseEndCall end_view r.played.first script.steps.items r.played.last)
+          → level_in id (run_calls called count may_refuse RaiseEndCall end_view r.played.first script.steps.items r.played.last run
+          ++ report_calls RaiseEndCall end_view r.lines r.played.last r.played.told r.played.reports) ≡ Some level
+          → (name : ℕ) × (name < length script.names.items)
+          × (id_given called count may_refuse RaiseEndCall end_view name r.played.first script.steps.items r.played.last run
+          ≡ Some id)
+      by (u, taken, waits) is =
+          let steps = steps_calls called count may_refuse RaiseEndCall end_view r.played.first script.steps.items u taken in
+          let wait = wait_calls RaiseEndCall end_view u r.played.last waits in
+          let report = report_calls RaiseEndCall end_view r.lines r.played.last r.played.told r.played.reports in
+          let at : level_in id steps ≡ Some level =
+          sym (level_first id steps wait (begin_none called count may_refuse RaiseEndCall end_view id true u r.played.last waits))
+          ∙ sym (level_first id (steps ++ wait) report
+          (report_level RaiseEndCall end_view id r.played.reports.all r.played.last r.played.told r.played.reports.tells))
+          ∙ is in
+          let (name, low, given) = steps_named called count may_refuse RaiseEndCall end_view script.steps.items id 0 level
+          r.played.first u taken script.well_formed.names_in_order at in
+          let many = script.well_formed.names_introduced in
+          (name, omega (arith, low, many), given)
+
+  -- for an id that no name got no handler was called
+  pub none_called : (id : ℕ) (level : Level) → ((name : ℕ) → name < length script.names.items → id_named name ≡ Some id → ⊥)
+      → calls_at count level id r.after ≡ calls_at count level id r.before
+  none_called id level nobody = none_ungiven called count may_refuse script calls e text r id level
+      (not_some (level_in id way) (λ found is. (let (name, low, given) = own_name id found is in nobody name low given)))

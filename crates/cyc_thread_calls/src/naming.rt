@@ -1,11 +1,9 @@
 //! The law of the lines of a run, by name.
 
-ghost use Rattle.std.specs.Prelude.{◌≡◌, ◌≢◌, ◌<◌, ◌≤◌, ◌+◌, ℕ, List, Some, None, length};
+ghost use Rattle.std.specs.Prelude.{◌≡◌, ◌≢◌, ◌<◌, ◌≤◌, ◌+◌, ℕ, List, Some, length};
 ghost use Rattle.std.specs.List.{slice_get};
 ghost use Rattle.cyc_types.specs.declared.level.Level.{Level as OneLevel};
 ghost use Rattle.cyc_script.specs.declared.script.Script.{Script as OneScript};
-ghost use Rattle.cyc_system_rings.specs.ByLevel.{level_in};
-ghost use Rattle.cyc_thread_steps.specs.Reporting.{no_line};
 ghost use Rattle.cyc_thread_steps.specs.declared.reporting.Line.{Line as OneLine};
 ghost use Rattle.cyc_threads.specs.declared.running.Ended.{Ended as Ends};
 ghost use Rattle.cyc_threads.specs.Reporting.{counts_of};
@@ -44,9 +42,10 @@ pub fn named_law<C: Calls>()
         → id_of_name C.called C.count C.may_refuse script calls e text r name ≡ Some id
         → level_named name script.steps.items ≡ Some level → other ≢ level
         → calls_at C.count other id r.after ≡ calls_at C.count other id r.before }
-    // For an id that the run gave nobody no handler was called.
+    // For an id that no name got no handler was called.
     ensures ungiven { (script : OneScript) (calls : List C) (e : Ends C) (text : List ℕ)
         (r : HasRun C.called C.count C.may_refuse script calls e text) (id : ℕ) (level : OneLevel)
-        → level_in id (lead_calls C.called C.count C.may_refuse script calls e text r) ≡ None
+        → ((name : ℕ) → name < length script.names.items
+        → id_of_name C.called C.count C.may_refuse script calls e text r name ≡ Some id → ⊥)
         → calls_at C.count level id r.after ≡ calls_at C.count level id r.before }
 {}

@@ -1,5 +1,5 @@
-use Rattle.cyc_thread_calls.proofs.Counted.{named_line, line_few, none_ungiven}
-use Rattle.cyc_thread_calls.proofs.Worded.{word_called, word_elsewhere}
+use Rattle.cyc_thread_calls.proofs.Counted.{named_line, line_few}
+use Rattle.cyc_thread_calls.proofs.Worded.{word_called, word_elsewhere, none_called}
 use Rattle.cyc_thread_calls.proofs.Spared.{line_spared}
 use Rattle.cyc_thread_calls.proofs.naming.named_law.Goals as goal
 
@@ -24,5 +24,5 @@ returns-clause-elsewhere g c script calls e text r name id level other given nam
     word_elsewhere g.C.Calls.called g.C.Calls.count g.C.Calls.may_refuse script calls e text r name id level other given named ne
 
 pub returns-clause-ungiven : goal.returns-clause-ungiven
-returns-clause-ungiven g c script calls e text r id level none =
-    none_ungiven g.C.Calls.called g.C.Calls.count g.C.Calls.may_refuse script calls e text r id level none
+returns-clause-ungiven g c script calls e text r id level nobody =
+    none_called g.C.Calls.called g.C.Calls.count g.C.Calls.may_refuse script calls e text r id level nobody
