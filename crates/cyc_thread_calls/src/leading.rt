@@ -1,6 +1,6 @@
 //! The law that a run of a script in threads is a run of calls that lead a system.
 
-ghost use Rattle.std.specs.Prelude.{List};
+ghost use Rattle.std.specs.Prelude.{ℕ, List};
 ghost use Rattle.std.specs.List.{FoldsTo};
 ghost use Rattle.cyc_script.specs.declared.step.Step.{Step};
 ghost use Rattle.cyc_thread_steps.specs.declared.progress.Progress.{Progress};
@@ -8,6 +8,13 @@ ghost use Rattle.cyc_thread_steps.specs.declared.reporting.Line.{Line};
 ghost use Rattle.cyc_thread_steps.specs.Steps.{Runs};
 ghost use Rattle.cyc_thread_steps.specs.Reporting.{Reports};
 ghost use Rattle.cyc_system_expected.specs.Events.{AcceptedSteps};
+ghost use Rattle.cyc_ring.specs.Ends.{end_view, RaiseEndCall};
+ghost use Rattle.cyc_script.specs.declared.script.Script.{Script as OneScript};
+ghost use Rattle.cyc_system_rings.specs.ByLevel.{LeadsFromNew, HasNewEnds};
+ghost use Rattle.cyc_system_rings.specs.Rings.{AreClosed};
+ghost use Rattle.cyc_threads.specs.declared.running.Ended.{Ended as Ends};
+ghost use Rattle.cyc_threads.specs.Running.{HasRun};
+ghost use Rattle.cyc_thread_calls.specs.Calling.{lead_calls, last_system};
 ghost use Rattle.cyc_thread_calls.specs.Leading.{all_calls};
 
 use cyc_types::{Calls, Raise};
@@ -22,4 +29,24 @@ pub fn leading_law<C: Calls, R: Raise>()
         (runs : Runs C.called C.count C.may_refuse R.step R.view s xs t) (reports : Reports R.step R.view lines t u)
         → FoldsTo (AcceptedSteps C.called C.count C.may_refuse R.step R.view) s.side
         (all_calls C.called C.count C.may_refuse R.step R.view xs lines s t u runs reports) u.side }
+{}
+
+/// From its opening to its closing a run of a script in threads is such calls of a new system over new rings. At the end all CPUs
+/// have settled, and the rings that come back were closed over them.
+///
+/// It does nothing when it runs: its clauses are the law.
+pub fn opened_law<C: Calls>()
+    ensures new { (script : OneScript) (calls : List C) (e : Ends C) (text : List ℕ)
+        (r : HasRun C.called C.count C.may_refuse script calls e text)
+        → LeadsFromNew C.called C.count C.may_refuse r.played.first.side
+        (lead_calls C.called C.count C.may_refuse script calls e text r) r.played.told.side }
+    ensures accepted { (script : OneScript) (calls : List C) (e : Ends C) (text : List ℕ)
+        (r : HasRun C.called C.count C.may_refuse script calls e text)
+        → FoldsTo (AcceptedSteps C.called C.count C.may_refuse RaiseEndCall end_view) r.played.first.side
+        (lead_calls C.called C.count C.may_refuse script calls e text r) r.played.told.side }
+    ensures ends { (script : OneScript) (calls : List C) (e : Ends C) (text : List ℕ)
+        (r : HasRun C.called C.count C.may_refuse script calls e text) → HasNewEnds r.played.first.side.system }
+    ensures closed { (script : OneScript) (calls : List C) (e : Ends C) (text : List ℕ)
+        (r : HasRun C.called C.count C.may_refuse script calls e text)
+        → AreClosed (last_system C.called C.count C.may_refuse script calls e text r).cpus.cpus e.rings.items }
 {}

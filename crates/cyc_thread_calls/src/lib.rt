@@ -10,8 +10,8 @@ mod naming;
 mod reporting;
 
 pub use calling::called_law;
-pub use giving::giving_law;
-pub use leading::leading_law;
+pub use giving::{giving_law, owned_law};
+pub use leading::{leading_law, opened_law};
 pub use meeting::meeting_law;
 pub use naming::named_law;
 pub use reporting::reported_law;
