@@ -10,7 +10,8 @@ use Rattle.cyc_thread_calls.specs.Meeting.{steps_met}
 
 module _ {C R : Type 0} (called : C → ℕ → Level → C → Type 0) (count : C → ℕ → ℕ) (may_refuse : C → ℕ → Type 0)
     (step : R → FiringCall → R → Type 0) (view : R → FiringView) where
-  pub each_met : (s : Progress R C) (xs : List Step) (t : Progress R C) (run : TakesSteps called count may_refuse step view s xs t)
+  pub each_met : (s : Progress R C) (xs : List Step) (t : Progress R C)
+      (run : TakesSteps called count may_refuse step view s xs t)
       → map (λ (m : Met). m.step) (steps_met called count may_refuse step view s xs t run) ≡ xs
   each_met s [] t e = refl
   each_met s (x ∷ xs) t (u, (v, begins, does), rest) = ap (λ (ys : List Step). x ∷ ys) (each_met u xs t rest)

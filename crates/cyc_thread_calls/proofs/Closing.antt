@@ -117,7 +117,8 @@ module _ {C : Type 0} (called : C → ℕ → Level → C → Type 0) (count : C
   all_lead [] s t e = e
   all_lead (call ∷ way) s t (u, d, rest) = (u, one_leads s u call d, all_lead way u t rest)
 
-  module _ (script : Script) (calls : List C) (e : Ended C) (text : List ℕ) (r : HasRun called count may_refuse script calls e text)
+  module _ (script : Script) (calls : List C) (e : Ended C) (text : List ℕ)
+      (r : HasRun called count may_refuse script calls e text)
     where
       abbrev way : List LeadCall
       way = lead_calls called count may_refuse script calls e text r
@@ -135,7 +136,8 @@ module _ {C : Type 0} (called : C → ℕ → Level → C → Type 0) (count : C
       pub from_new : LeadsFromNew called count may_refuse r.played.first.side way r.played.told.side
       from_new = record {
         begins = record {
-          empty = λ n cpu at. (let (e, is, here) = is_new _ script.ceiling r.before r.played.first r.played.begins r.new n cpu at in
+          empty = λ n cpu at. (let (e, is, here) = is_new _ script.ceiling r.before r.played.first r.played.begins r.new n cpu at
+              in
               ap (λ (x : CpuView RaiseEnd). x.cyclics) is);
           records = r.played.begins.records;
           last = r.played.begins.last;
@@ -148,28 +150,34 @@ module _ {C : Type 0} (called : C → ℕ → Level → C → Type 0) (count : C
       pub new_ends : HasNewEnds r.played.first.side.system
       new_ends n cpu at =
           let (e, is, here) = is_new _ script.ceiling r.before r.played.first r.played.begins r.new n cpu at in
-          let (a, b) = new_trails _ script.ceiling r.before r.played.first r.played.begins r.new n e here in
-          (ap (λ (x : CpuView RaiseEnd). raise_trail x.lock.seat) is ∙ a, ap (λ (x : CpuView RaiseEnd). raise_trail x.low.seat) is ∙ b)
+          let (a, b) = new_trails _ script.ceiling r.before r.played.first r.played.begins r.new n e here in (
+            ap (λ (x : CpuView RaiseEnd). raise_trail x.lock.seat) is ∙ a,
+            ap (λ
+                (x : CpuView RaiseEnd). raise_trail x.low.seat) is ∙ b,
+          )
 
       pub run_closed : AreClosed r.played.told.side.system.cpus.cpus e.rings.items
       run_closed = subst (λ (l : List Closed). AreClosed r.played.told.side.system.cpus.cpus l) (sym r.closed.laid)
           (closed_all r.played.told.side.system.cpus.cpus r.after r.closed.by_cpu
           (each_same firing_seats seats_on r.after r.played.told.side.system.cpus.cpus r.played.ends.firing)
           (lines_quiet RaiseEndCall end_view r.played.reports.all r.played.last r.played.told r.played.reports.tells
-          (run_rests called count may_refuse RaiseEndCall end_view r.played.first script.steps.items r.played.last r.played.runs)).0
+          (run_rests called count may_refuse RaiseEndCall end_view r.played.first script.steps.items r.played.last
+          r.played.runs)).0
           r.closed.closed)
 
       -- as often as a level's rings made calls of an id
       pub rings_made : (own : Soft) (id : ℕ) → made_at own id e.rings.items
           + (counts_at (level_of own) id way r.played.told.side.system).lost
           ≡ (counts_at (level_of own) id way r.played.told.side.system).sent
-      rings_made own id = made_of called count may_refuse id r.played.first.side r.played.told.side way from_new new_ends e.rings.items
+      rings_made own id = made_of called count may_refuse id r.played.first.side r.played.told.side way from_new new_ends
+          e.rings.items
           run_closed own
 
       high_led : (id : ℕ) (all : List (Seated C)) (s : SystemSide RaiseEnd C)
           → map (λ l. l.calls) s.leads.items ≡ map (λ (x : Seated C). x.calls.high) all
           → counted_by count id s.leads.items ≡ calls_at count High id all
-      high_led id all s same = sum_mapped (λ l. l.calls) (λ c. count c id) s.leads.items ∙ ap (λ l. sum_by (λ c. count c id) l) same
+      high_led id all s same = sum_mapped (λ l. l.calls) (λ c. count c id) s.leads.items
+          ∙ ap (λ l. sum_by (λ c. count c id) l) same
 
       -- the calls of an id that the handlers of a level had
       pub handlers_called : (level : Level) (id : ℕ) → calls_at count level id r.after

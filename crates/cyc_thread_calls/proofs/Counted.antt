@@ -74,8 +74,10 @@ module _ {C : Type 0} (called : C → ℕ → Level → C → Type 0) (count : C
   abbrev id_named : ℕ → Option ℕ
   id_named = id_of_name called count may_refuse script calls e text r
 
-  pub named_line : (name : ℕ) → name < length script.names.items → slice_get r.lines name ≡ Some (line_in (id_named name) way last)
-  named_line name low = each_line called count may_refuse RaiseEndCall end_view (length script.names.items) name script.steps.items
+  pub named_line : (name : ℕ) → name < length script.names.items → slice_get r.lines name
+      ≡ Some (line_in (id_named name) way last)
+  named_line name low = each_line called count may_refuse RaiseEndCall end_view
+      (length script.names.items) name script.steps.items
       r.lines r.played.first r.played.last r.played.told r.played.runs r.played.reports r.played.begins.names_are low
 
   -- a line is that of its name
@@ -108,11 +110,13 @@ module _ {C : Type 0} (called : C → ℕ → Level → C → Type 0) (count : C
     where
       by : (o : Option ℕ) → line ≡ line_in o way last → line.lost ≤ line.expired
       by None is = let a = ap (λ (l : Line). l.lost) is in omega (arith, a)
-      by (Some id) is = let few = few_lost id in let a = ap (λ (l : Line). l.lost) is in let b = ap (λ (l : Line). l.expired) is in
+      by (Some id) is = let few = few_lost id in let a = ap (λ (l : Line). l.lost) is in let b = ap (λ
+          (l : Line). l.expired) is in
           omega (arith, few, a, b)
 
   pub line_called : (name id : ℕ) (level : Level) (line : Line) → slice_get r.lines name ≡ Some line → id_named name ≡ Some id
-      → level_in id way ≡ Some level → calls_at count level id r.after ≡ calls_at count level id r.before + (counts_of line).called
+      → level_in id way ≡ Some level → calls_at count level id r.after ≡ calls_at count level id r.before +
+      (counts_of line).called
   line_called name id level line at given known =
       let is = line_is name line at ∙ ap (λ o. line_in o way last) given in
       let same = own_counts id way last level known in

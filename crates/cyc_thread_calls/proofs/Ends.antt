@@ -112,7 +112,8 @@ module _ {R : Type 0} (step : R → FiringCall → R → Type 0) (view : R → F
         (changed_all s.system u.system call d all)
     led_all (FireAll now ∷ way) s t sound many (u, ((b, f, is), after), rest) all =
         led_all way u t after (let x = f.long in let y = f.long_leads in
-        subst (λ (z : SystemSide R C). length z.leads.items ≡ length z.system.cpus.cpus) (sym is) (omega (arith, x, y, many))) rest
+        subst (λ (z : SystemSide R C). length z.leads.items ≡ length z.system.cpus.cpus) (sym is) (omega
+        (arith, x, y, many))) rest
         (subst (λ (z : SystemSide R C). OfAll z.system.cpus.cpus) (sym is) (fired_all now s b sound many f all))
     led_all (AskAll ∷ way) s t sound many (u, (a, after), rest) all =
         led_all way u t after (let x = a.cpus.long in let y : length u.leads.items ≡ length s.leads.items =

@@ -110,7 +110,8 @@ module _ {C R : Type 0} (called : C → ℕ → Level → C → Type 0) (count :
       → Goes s (step_calls called count may_refuse step view s x t d) t
   step_goes s x t (u, b, d) = goes_on s u t _ _ (begin_goes (waits_first x) s u b) (does_go x u t d)
 
-  pub steps_go : (s : Progress R C) (xs : List Step) (t : Progress R C) (run : TakesSteps called count may_refuse step view s xs t)
+  pub steps_go : (s : Progress R C) (xs : List Step) (t : Progress R C)
+      (run : TakesSteps called count may_refuse step view s xs t)
       → Goes s (steps_calls called count may_refuse step view s xs t run) t
   steps_go s [] t e = goes_none s t (sym e)
   steps_go s (x ∷ xs) t (u, d, rest) = goes_on s u t _ _ (step_goes s x u d) (steps_go u xs t rest)

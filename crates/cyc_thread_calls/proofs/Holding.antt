@@ -82,13 +82,14 @@ module _ (many : ℕ) (g : ℕ → Option ℕ) (way : List LeadCall) (names : Li
 
   pub holds_quiet : (c : LeadCall) (names' : List Named) (last' : ℕ) → ((id : ℕ) → receipt_of id c ≡ None) → names' ≡ names
       → last ≤ last' → Holds many g (way ++ c ∷ []) names' last'
-  holds_quiet c names' last' none same grows = subst (λ (l : List Named). Holds many g (way ++ c ∷ []) l last') (sym same) (record {
-    long = k.long;
-    fits = λ name low. fits_on (g name) (named_at names name) c (λ id e. none id) (k.fits name low);
-    low = λ name id e. (let a = k.low name id e in omega (arith, a, grows));
-    apart = k.apart;
-    new = λ id less. receipt_none id way (c ∷ []) (k.new id (omega (arith, less, grows))) (one_none id c (none id));
-  })
+  holds_quiet c names' last' none same grows = subst (λ (l : List Named). Holds many g (way ++ c ∷ []) l last') (sym same)
+      (record {
+        long = k.long;
+        fits = λ name low. fits_on (g name) (named_at names name) c (λ id e. none id) (k.fits name low);
+        low = λ name id e. (let a = k.low name id e in omega (arith, a, grows));
+        apart = k.apart;
+        new = λ id less. receipt_none id way (c ∷ []) (k.new id (omega (arith, less, grows))) (one_none id c (none id));
+      })
 
   -- a name gets an id
   pub holds_given : (h : ℕ → Option ℕ) (c : LeadCall) (name id : ℕ) (names' : List Named) (last' : ℕ)
@@ -107,7 +108,8 @@ module _ (many : ℕ) (g : ℕ → Option ℕ) (way : List LeadCall) (names : Li
             (λ ne. absurd (clash a b own same ne e f)))
             (λ ne. dite (ℕ_discrete b name) (λ also. absurd (clash b a own also ne f e))
             (λ nor. k.apart a b own (sym (there a ne) ∙ e) (sym (there b nor) ∙ f)));
-        new = λ own high. receipt_none own way (c ∷ []) (k.new own (omega (arith, high, less, grows))) (one_none own c (none own));
+        new = λ own high. receipt_none own way (c ∷ []) (k.new own (omega (arith, high, less, grows))) (one_none own c
+            (none own));
       })
     where
       clash : (a b own : ℕ) → a ≡ name → b ≢ name → h a ≡ Some own → h b ≡ Some own → ⊥

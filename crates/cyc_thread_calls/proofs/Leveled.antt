@@ -37,7 +37,8 @@ level_on id (x ∷ xs) ys = ap (first_of (level_given id x)) (level_on id xs ys)
     by None b c = refl
     by (Some r) b c = refl
 
-pub level_kept : (id : ℕ) (xs ys : List LeadCall) (level : Level) → level_in id xs ≡ Some level → level_in id (xs ++ ys) ≡ Some level
+pub level_kept : (id : ℕ) (xs ys : List LeadCall) (level : Level) → level_in id xs ≡ Some level
+    → level_in id (xs ++ ys) ≡ Some level
 level_kept id xs ys level e = level_on id xs ys ∙ ap (λ o. first_of o (level_in id ys)) e
 
 pub level_later : (id : ℕ) (xs ys : List LeadCall) → level_in id xs ≡ None → level_in id (xs ++ ys) ≡ level_in id ys
@@ -222,8 +223,10 @@ module _ {C R : Type 0} (called : C → ℕ → Level → C → Type 0) (count :
           → later_id (given_in name x (call_of called count may_refuse step view x v u d)) o ≡ Some id
           → SameLevel name id (x ∷ xs) ((before ++ own) ++ after)
       by later (Some found) there e =
-          let (level, there_in, there_named) = later (both_true (name_fits k x) (names_fit (names_after k x) xs) fit).1 (there ∙ e) in
-          let high = (given_within after u.side t.side id level (steps_go called count may_refuse step view u xs t rest) there_in).0 in
+          let (level, there_in, there_named) = later (both_true (name_fits k x) (names_fit (names_after k x) xs) fit).1
+          (there ∙ e) in
+          let high = (given_within after u.side t.side id level
+          (steps_go called count may_refuse step view u xs t rest) there_in).0 in
           let none = not_some (level_in id (before ++ own)) (λ early at.
           (let low = (given_within (before ++ own) s.side u.side id early
           (step_goes called count may_refuse step view s x u (v, b, d)) at).1 in omega (arith, high, low))) in (

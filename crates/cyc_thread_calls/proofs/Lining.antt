@@ -1,5 +1,6 @@
 -- The line of each name is what the calls of the run told of its id.
-use Rattle.std.proofs.Common.{◌≡◌, ◌∙◌, ℕ, zero, suc, ◌<◌, List, [], ◌∷◌, ◌++◌, Option, Some, None, map, length, get_or, refl, sym, ap}
+use Rattle.std.proofs.Common.{◌≡◌, ◌∙◌, ℕ, zero, suc, ◌<◌, List, [], ◌∷◌, ◌++◌, Option, Some, None, map, length, get_or, refl}
+use Rattle.std.proofs.Common.{sym, ap}
 use Rattle.std.proofs.Common.{arith, replicate}
 use Rattle.std.specs.List.{slice_get, FoldsTo}
 use Rattle.std.specs.Option.{option_map_or}
@@ -62,7 +63,8 @@ module _ (given : Option ℕ) (way more : List LeadCall) (t : SystemView RaiseEn
     (none : (id : ℕ) → receipt_in id more ≡ None) where
   line_here : (id : ℕ) → given ≡ Some id → receipt_in id way ≡ None
       → record { expired = all_expired id t; lost = all_lost id t; pending = 0 } ≡ line_in given (way ++ more) t
-  line_here id e r = ap (told_line id t) (sym (receipt_none id way more r (none id))) ∙ ap (λ o. line_in o (way ++ more) t) (sym e)
+  line_here id e r = ap (told_line id t) (sym (receipt_none id way more r (none id)))
+      ∙ ap (λ o. line_in o (way ++ more) t) (sym e)
 
   fit_line : (named : Named) → Fits given way named → line_at named t ≡ line_in given (way ++ more) t
   fit_line Nothing e = ap (λ o. line_in o (way ++ more) t) (sym e)

@@ -1,5 +1,6 @@
 -- What each name has while a run takes its steps.
-use Rattle.std.proofs.Common.{◌≡◌, ◌≢◌, ◌∙◌, ℕ, ◌<◌, ◌≤◌, ◌==◌, inl, inr, List, [], ◌∷◌, ◌++◌, Option, Some, None, Result, Ok, Err}
+use Rattle.std.proofs.Common.{◌≡◌, ◌≢◌, ◌∙◌, ℕ, ◌<◌, ◌≤◌, ◌==◌, inl, inr, List, [], ◌∷◌, ◌++◌, Option, Some, None, Result, Ok}
+use Rattle.std.proofs.Common.{Err}
 use Rattle.std.proofs.Common.{cond, refl, sym, ap, subst, arith, replicate}
 use Rattle.std.specs.Prelude.{Bool, true, false}
 use Rattle.std.specs.List.{FoldsTo}
@@ -63,7 +64,8 @@ module _ {C R : Type 0} (called : C → ℕ → Level → C → Type 0) (count :
   quiet : (g : ℕ → Option ℕ) (way : List LeadCall) (name : ℕ) (call : SystemCall) (s t : Progress R C)
       → CallsFor step view name call s t → news call ≡ None → ((own : ℕ) → receipt_of own (Make call) ≡ None) → Held g way s
       → Held g (way ++ Make call ∷ []) t
-  quiet g way name call s t c e none k = holds_quiet many g way s.names s.side.system.last k (Make call) t.names t.side.system.last none
+  quiet g way name call s t c e none k = holds_quiet many g way s.names s.side.system.last k
+      (Make call) t.names t.side.system.last none
       (c.told ∙ ap (λ o. noted name o s.names) e) (grows name call s t c)
 
   given : (g h : ℕ → Option ℕ) (way : List LeadCall) (name id : ℕ) (call : SystemCall) (s t : Progress R C)
@@ -128,7 +130,8 @@ module _ {C R : Type 0} (called : C → ℕ → Level → C → Type 0) (count :
       by (inl (e, why, is, same)) = absurd (let odd : Ok id ≡ Err e = is in cc)
       by (inr (clear, (d, chosen, next, works, records, last))) = (omega (arith, next), omega (arith, last))
   added g way name level when now (Err e) s t c k =
-      holds_as many g _ _ t.names t.side.system.last (λ n. none_given (g n) (name == n)) (quiet g way name _ s t c refl (λ own. refl) k)
+      holds_as many g _ _ t.names t.side.system.last (λ n. none_given (g n) (name == n)) (quiet g way name _ s t c refl
+      (λ own. refl) k)
 
   added_everywhere : (g : ℕ → Option ℕ) (way : List LeadCall) (name : ℕ) (level : Level) (when : When) (skew now : ℕ)
       (answer : Result ℕ Refusal) (s t : Progress R C) → CallsFor step view name (AddOmni level when skew now answer) s t
@@ -143,11 +146,13 @@ module _ {C R : Type 0} (called : C → ℕ → Level → C → Type 0) (count :
       by (inl (e, why, is, same)) = absurd (let odd : Ok id ≡ Err e = is in cc)
       by (inr (clear, (next, works, records, last))) = (omega (arith, next), omega (arith, last))
   added_everywhere g way name level when skew now (Err e) s t c k =
-      holds_as many g _ _ t.names t.side.system.last (λ n. none_given (g n) (name == n)) (quiet g way name _ s t c refl (λ own. refl) k)
+      holds_as many g _ _ t.names t.side.system.last (λ n. none_given (g n) (name == n)) (quiet g way name _ s t c refl
+      (λ own. refl) k)
 
   -- ---- steps
 
-  with_held : (Answer : Type 0) (call : ℕ → Result Answer Refusal → SystemCall) (g : ℕ → Option ℕ) (way : List LeadCall) (name : ℕ)
+  with_held : (Answer : Type 0) (call : ℕ → Result Answer Refusal → SystemCall) (g : ℕ
+      → Option ℕ) (way : List LeadCall) (name : ℕ)
       (s t : Progress R C)
       → ((id : ℕ) (answer : Result Answer Refusal) → id_of (named_at s.names name) ≡ Some id
       → CallsFor step view name (call id answer) s t → Held g way s → Held g (way ++ Make (call id answer) ∷ []) t)
@@ -207,7 +212,8 @@ module _ {C R : Type 0} (called : C → ℕ → Level → C → Type 0) (count :
       t.names t.side.system.last
       (λ own. refl) q.names (let a = q.asked.last in omega (arith, a)))
 
-  begin_held : (g : ℕ → Option ℕ) (way : List LeadCall) (b : Bool) (s t : Progress R C) (w : Begins step view b s t) → Held g way s
+  begin_held : (g : ℕ → Option ℕ) (way : List LeadCall) (b : Bool) (s t : Progress R C) (w : Begins step view b s t)
+      → Held g way s
       → Held g (way ++ begin_calls step view b s t w) t
   begin_held g way false s t e k = same_held g way s t e k
   begin_held g way true s t w k = wait_held g way s t w k
@@ -244,7 +250,8 @@ module _ {C R : Type 0} (called : C → ℕ → Level → C → Type 0) (count :
   run_held g way s xs t (u, taken, w) k =
       subst (λ z. Held (λ n. later_id (g n) (id_in_steps called count may_refuse step view n s xs u taken)) z t)
       (append_assoc way (steps_calls called count may_refuse step view s xs u taken) (wait_calls step view u t w))
-      (wait_held (λ n. later_id (g n) (id_in_steps called count may_refuse step view n s xs u taken)) (way ++ steps_calls called count may_refuse step view s xs u taken) u t w (steps_held xs g way s u taken k))
+      (wait_held (λ n. later_id (g n) (id_in_steps called count may_refuse step view n s xs u taken))
+      (way ++ steps_calls called count may_refuse step view s xs u taken) u t w (steps_held xs g way s u taken k))
 
   -- from the beginning, where no name has anything
   pub all_held : (s : Progress R C) (xs : List Step) (t : Progress R C)
@@ -254,7 +261,8 @@ module _ {C R : Type 0} (called : C → ℕ → Level → C → Type 0) (count :
   all_held s xs t run none = holds_as many _ _ _ t.names t.side.system.last
       (λ m. first (id_given called count may_refuse step view m s xs t run))
       (run_held (λ m. None) [] s xs t run
-      (subst (λ (l : List Named). Holds many (λ m. None) [] l s.side.system.last) (sym none) (holds_first many s.side.system.last)))
+      (subst (λ (l : List Named). Holds many (λ m. None) [] l s.side.system.last) (sym none)
+      (holds_first many s.side.system.last)))
     where
       first : (o : Option ℕ) → o ≡ later_id None o
       first None = refl

@@ -1,5 +1,6 @@
 -- Each id that a run gave is that of a name.
-use Rattle.std.proofs.Common.{◌≡◌, ◌∙◌, ℕ, ◌<◌, ◌≤◌, ◌+◌, ◌==◌, inl, inr, List, [], ◌∷◌, ◌++◌, Option, Some, None, Result, Ok, Err}
+use Rattle.std.proofs.Common.{◌≡◌, ◌∙◌, ℕ, ◌<◌, ◌≤◌, ◌+◌, ◌==◌, inl, inr, List, [], ◌∷◌, ◌++◌, Option, Some, None, Result, Ok}
+use Rattle.std.proofs.Common.{Err}
 use Rattle.std.proofs.Common.{refl, sym, ap, arith}
 use Rattle.std.specs.Prelude.{true, cond}
 use Rattle.std.specs.Option.{option_map_or}
@@ -117,7 +118,8 @@ module _ {C R : Type 0} (called : C → ℕ → Level → C → Type 0) (count :
   does_next k id level (steps.Offline n) s t d fit e = absurd (none_some e)
   does_next k id level (steps.Online n) s t d fit e = absurd (none_some e)
 
-  abbrev pub HasName : ℕ → ℕ → (xs : List Step) (s t : Progress R C) → TakesSteps called count may_refuse step view s xs t → Type 0
+  abbrev pub HasName : ℕ → ℕ → (xs : List Step) (s t : Progress R C) → TakesSteps called count may_refuse step view s xs t
+      → Type 0
   HasName k id xs s t run = (name : ℕ) × (name < names_after_all k xs)
       × (id_in_steps called count may_refuse step view name s xs t run ≡ Some id)
 

@@ -48,7 +48,8 @@ module _ (ceiling id : ℕ) (end_at : CpuView RaiseEnd → RaiseEnd) where
   dropped cpu = losses_of id (raise_trail (end_at cpu).seat)
 
   -- of ends that spare, on all CPUs
-  ends_spare : (xs : List (CpuView RaiseEnd)) → ((n : ℕ) (x : CpuView RaiseEnd) → slice_get xs n ≡ Some x → IsSpare ceiling (end_at x))
+  ends_spare : (xs : List (CpuView RaiseEnd)) → ((n : ℕ) (x : CpuView RaiseEnd) → slice_get xs n ≡ Some x
+      → IsSpare ceiling (end_at x))
       → sum_by raised xs ≤ ceiling → sum_by dropped xs ≡ 0
   ends_spare xs spare few = sum_none dropped xs (λ n x at. not_lost (dropped x)
       (λ some. (let a = (spare n x at).spare id some in let b = one_of_sum raised xs n x at in omega (arith, a, b, few))))
@@ -67,7 +68,8 @@ module _ {C : Type 0} (called : C → ℕ → Level → C → Type 0) (count : C
     spare = λ id some. (let a = ap (losses_of id) none in absurd (omega (arith, a, some)));
   }
 
-  spare_first : OfAll RaiseEndCall end_view (IsSpare script.ceiling) (goes_spare script.ceiling) r.played.first.side.system.cpus.cpus
+  spare_first : OfAll RaiseEndCall end_view (IsSpare script.ceiling)
+      (goes_spare script.ceiling) r.played.first.side.system.cpus.cpus
   spare_first n cpu at =
       let (x, is, here) = is_new _ script.ceiling r.before r.played.first r.played.begins r.new n cpu at in
       let (a, b) = new_trails _ script.ceiling r.before r.played.first r.played.begins r.new n x here in
@@ -81,7 +83,8 @@ module _ {C : Type 0} (called : C → ℕ → Level → C → Type 0) (count : C
       led_all RaiseEndCall end_view (IsSpare script.ceiling) (goes_spare script.ceiling) called count may_refuse way
       r.played.first.side r.played.told.side l.sound l.ready l.run spare_first
 
-  spared_at : (level : Level) (id : ℕ) → (counts_at level id way last).sent ≤ script.ceiling → (counts_at level id way last).lost ≡ 0
+  spared_at : (level : Level) (id : ℕ) → (counts_at level id way last).sent ≤ script.ceiling
+      → (counts_at level id way last).lost ≡ 0
   spared_at Low id few =
       let (a, b) = at_level called count may_refuse id r.played.first.side r.played.told.side way
       (from_new called count may_refuse script calls e text r) Low in

@@ -1,5 +1,6 @@
 -- No end lost an expiration of an id that it raised no more often than its ceiling.
-use Rattle.std.proofs.Common.{◌≡◌, ◌∙◌, ℕ, ◌<◌, ◌≤◌, ◌+◌, ◌-◌, List, [], ◌∷◌, Option, Some, None, refl, ap, subst, arith, eq-eqb, ne_eqb}
+use Rattle.std.proofs.Common.{◌≡◌, ◌∙◌, ℕ, ◌<◌, ◌≤◌, ◌+◌, List, [], ◌∷◌, Option, Some, None, refl, ap, subst, arith}
+use Rattle.std.proofs.Common.{eq-eqb, ne_eqb}
 use Rattle.std.specs.Prelude.{cond}
 use Rattle.cyc_types.specs.Firing.{FiringCall, Admits, Loads, Raises, Marks, Polls, Expands, Looks, Learns, seen_in}
 use Rattle.cyc_types.specs.declared.firing.Raised.TheVariants.{First, More, Lost}

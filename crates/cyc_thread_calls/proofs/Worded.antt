@@ -63,7 +63,8 @@ module _ {C : Type 0} (called : C → ℕ → Level → C → Type 0) (count : C
   its_level name id given = by r.played.runs given
     where
       by : (run : Runs called count may_refuse RaiseEndCall end_view r.played.first script.steps.items r.played.last)
-          → id_given called count may_refuse RaiseEndCall end_view name r.played.first script.steps.items r.played.last run ≡ Some id
+          → id_given called count may_refuse RaiseEndCall end_view name r.played.first script.steps.items r.played.last run
+          ≡ Some id
           → (level : Level) × (level_in id (run_calls called count may_refuse RaiseEndCall end_view r.played.first
           script.steps.items r.played.last run ++ report_calls RaiseEndCall end_view r.lines r.played.last r.played.told
           r.played.reports) ≡ Some level) × (level_named name script.steps.items ≡ Some level)
@@ -74,7 +75,8 @@ module _ {C : Type 0} (called : C → ℕ → Level → C → Type 0) (count : C
             level_kept id (steps_calls called count may_refuse RaiseEndCall end_view r.played.first script.steps.items u taken
                 ++ wait_calls RaiseEndCall end_view u r.played.last waits)
                 (report_calls RaiseEndCall end_view r.lines r.played.last r.played.told r.played.reports) level
-                (level_kept id (steps_calls called count may_refuse RaiseEndCall end_view r.played.first script.steps.items u taken)
+                (level_kept id (steps_calls called count may_refuse RaiseEndCall end_view r.played.first script.steps.items u
+                taken)
                 (wait_calls RaiseEndCall end_view u r.played.last waits) level here),
             named,
           )
@@ -89,7 +91,8 @@ module _ {C : Type 0} (called : C → ℕ → Level → C → Type 0) (count : C
       → level_named name script.steps.items ≡ Some level
       → calls_at count level id r.after ≡ calls_at count level id r.before + (counts_of line).called
   word_called name id level line at given named =
-      line_called called count may_refuse script calls e text r name id level line at given (known_level name id level given named)
+      line_called called count may_refuse script calls e text r name id level line at given
+      (known_level name id level given named)
 
   -- and those of another level were not
   pub word_elsewhere : (name id : ℕ) (level other : Level) → id_named name ≡ Some id
@@ -104,7 +107,8 @@ module _ {C : Type 0} (called : C → ℕ → Level → C → Type 0) (count : C
   own_name id level is = by r.played.runs is
     where
       by : (run : Runs called count may_refuse RaiseEndCall end_view r.played.first script.steps.items r.played.last)
-          → level_in id (run_calls called count may_refuse RaiseEndCall end_view r.played.first script.steps.items r.played.last run
+          → level_in id (run_calls called count may_refuse RaiseEndCall end_view r.played.first script.steps.items r.played.last
+          run
           ++ report_calls RaiseEndCall end_view r.lines r.played.last r.played.told r.played.reports) ≡ Some level
           → (name : ℕ) × (name < length script.names.items)
           × (id_given called count may_refuse RaiseEndCall end_view name r.played.first script.steps.items r.played.last run

@@ -25,7 +25,8 @@ abbrev pub calls_at : {C : Type 0} → (C → ℕ → ℕ) → Level → ℕ →
 calls_at {C} count level id all = sum_by (λ c. count c id) (map (λ s. handlers_at level s.calls) all)
 
 module _ {C : Type 0} (called : C → ℕ → Level → C → Type 0) (count : C → ℕ → ℕ) (may_refuse : C → ℕ → Type 0)
-    (script : Script) (calls : List C) (e : Ended C) (text : List ℕ) (r : HasRun called count may_refuse script calls e text) where
+    (script : Script) (calls : List C) (e : Ended C) (text : List ℕ)
+    (r : HasRun called count may_refuse script calls e text) where
   -- what led the run, from its first step to the last line of its report
   abbrev pub lead_calls : List LeadCall
   lead_calls = all_calls called count may_refuse RaiseEndCall end_view script.steps.items r.lines r.played.first r.played.last

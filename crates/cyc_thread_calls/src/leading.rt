@@ -19,9 +19,9 @@ ghost use Rattle.cyc_thread_calls.specs.Leading.{all_calls};
 
 use cyc_types::{Calls, Raise};
 
-/// A run of a script in threads with its report is, to its system, the calls that its steps made, one after another: the polls and
-/// the questions of each wait, the call of each step, an advance of all online CPUs for each `advance`, and the totals that were
-/// asked for the report. No fire of it was refused, and the system is sound after each of them.
+/// A run of a script in threads with its report is, to its system, the calls that its steps made, one after another: the polls
+/// and the questions of each wait, the call of each step, an advance of all online CPUs for each `advance`, and the totals that
+/// were asked for the report. No fire of it was refused, and the system is sound after each of them.
 ///
 /// It does nothing when it runs: its clause is the law.
 pub fn leading_law<C: Calls, R: Raise>()
