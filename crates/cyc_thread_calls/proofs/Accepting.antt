@@ -1,12 +1,17 @@
 -- Each step of a run is met.
-use Rattle.std.proofs.Common.{◌≡◌, ℕ, List, [], ◌∷◌, map, refl, ap}
+use Rattle.std.proofs.Common.{◌≡◌, ℕ, inl, inr, List, [], ◌∷◌, ◌==◌, map, refl, sym, ap}
 use Rattle.cyc_types.specs.Firing.{FiringView, FiringCall}
 use Rattle.cyc_types.specs.declared.level.Level.{Level}
 use Rattle.cyc_script.specs.declared.step.Step.{Step}
+use Rattle.cyc_script.specs.declared.step.Step.TheVariants as steps
+use Rattle.std.specs.Prelude.{Bool, true, false, cond, Option, Some, None, Ok, Err, is_some}
+use Rattle.cyc_thread_steps.specs.Words.{Does}
+use Rattle.cyc_thread_calls.specs.Giving.{given_in, introduces}
+use Rattle.cyc_thread_calls.specs.Leading.{call_of}
 use Rattle.cyc_expected.specs.Expected.{Met}
 use Rattle.cyc_thread_steps.specs.declared.progress.Progress.{Progress}
 use Rattle.cyc_thread_steps.specs.Steps.{TakesSteps}
-use Rattle.cyc_thread_calls.specs.Meeting.{steps_met}
+use Rattle.cyc_thread_calls.specs.Meeting.{accepted, steps_met}
 
 module _ {C R : Type 0} (called : C → ℕ → Level → C → Type 0) (count : C → ℕ → ℕ) (may_refuse : C → ℕ → Type 0)
     (step : R → FiringCall → R → Type 0) (view : R → FiringView) where
@@ -15,3 +20,31 @@ module _ {C R : Type 0} (called : C → ℕ → Level → C → Type 0) (count :
       → map (λ (m : Met). m.step) (steps_met called count may_refuse step view s xs t run) ≡ xs
   each_met s [] t e = refl
   each_met s (x ∷ xs) t (u, (v, begins, does), rest) = ap (λ (ys : List Step). x ∷ ys) (each_met u xs t rest)
+
+  one_given : (b : Bool) (id : ℕ) → b ≡ true → true ≡ is_some (cond b (Some id) None)
+  one_given b id e = ap (λ c. is_some (cond c (Some id) None)) (sym e)
+
+  none_given : (b : Bool) → false ≡ is_some (cond {A = Option ℕ} b None None)
+  none_given true = refl
+  none_given false = refl
+
+  -- a step that introduces a name was accepted where it gave it an id
+  pub given_met : (x : Step) (s t : Progress R C) (d : Does called count may_refuse step view x s t) (name : ℕ)
+      → introduces name x ≡ true
+      → accepted called count may_refuse step view x s t d
+      ≡ is_some (given_in name x (call_of called count may_refuse step view x s t d))
+  given_met (steps.Add a) s t (inl (when, starts, lasts, long, (Ok id, did))) name e = one_given (a.name == name) id e
+  given_met (steps.Add a) s t (inl (when, starts, lasts, long, (Err why, did))) name e = none_given (a.name == name)
+  given_met (steps.Add a) s t (inr nothing) name e = none_given (a.name == name)
+  given_met (steps.Omni a) s t (inl (when, starts, lasts, long, (Ok id, did))) name e = one_given (a.name == name) id e
+  given_met (steps.Omni a) s t (inl (when, starts, lasts, long, (Err why, did))) name e = none_given (a.name == name)
+  given_met (steps.Omni a) s t (inr nothing) name e = none_given (a.name == name)
+  given_met (steps.Bind b) s t d name e = absurd (let odd : false ≡ true = e in cc)
+  given_met (steps.Unbind own) s t d name e = absurd (let odd : false ≡ true = e in cc)
+  given_met (steps.Reprogram r) s t d name e = absurd (let odd : false ≡ true = e in cc)
+  given_met (steps.Remove own) s t d name e = absurd (let odd : false ≡ true = e in cc)
+  given_met (steps.Advance now) s t d name e = absurd (let odd : false ≡ true = e in cc)
+  given_met (steps.Softint i) s t d name e = absurd (let odd : false ≡ true = e in cc)
+  given_met (steps.Juggle n) s t d name e = absurd (let odd : false ≡ true = e in cc)
+  given_met (steps.Offline n) s t d name e = absurd (let odd : false ≡ true = e in cc)
+  given_met (steps.Online n) s t d name e = absurd (let odd : false ≡ true = e in cc)

@@ -1,18 +1,24 @@
 //! The law of how the steps were met.
 
-ghost use Rattle.std.specs.Prelude.{◌≡◌, List, map};
+ghost use Rattle.std.specs.Prelude.{◌≡◌, ℕ, List, map, true, is_some};
 ghost use Rattle.std.specs.List.{FoldsTo};
 ghost use Rattle.cyc_script.specs.declared.step.Step.{Step};
 ghost use Rattle.cyc_thread_steps.specs.declared.progress.Progress.{Progress};
 ghost use Rattle.cyc_thread_steps.specs.Steps.{Runs};
-ghost use Rattle.cyc_thread_calls.specs.Meeting.{way_of};
+ghost use Rattle.cyc_thread_steps.specs.Words.{Does};
+ghost use Rattle.cyc_thread_calls.specs.Giving.{given_in, introduces};
+ghost use Rattle.cyc_thread_calls.specs.Leading.{call_of};
+ghost use Rattle.cyc_thread_calls.specs.Meeting.{accepted, way_of};
 
 use cyc_types::{Calls, Raise};
 
-/// Each step of a run is met, in order.
+/// Each step of a run is met, in order. One that introduces a name was accepted just where it gave the name an id.
 ///
-/// It does nothing when it runs: its clause is the law.
+/// It does nothing when it runs: its clauses are the law.
 pub fn meeting_law<C: Calls, R: Raise>()
-    ensures { (xs : List Step) (s t : Progress R C) (runs : Runs C.called C.count C.may_refuse R.step R.view s xs t)
+    ensures all { (xs : List Step) (s t : Progress R C) (runs : Runs C.called C.count C.may_refuse R.step R.view s xs t)
         → map (λ m. m.step) (way_of C.called C.count C.may_refuse R.step R.view s xs t runs) ≡ xs }
+    ensures given { (x : Step) (s t : Progress R C) (does : Does C.called C.count C.may_refuse R.step R.view x s t) (name : ℕ)
+        → introduces name x ≡ true → accepted C.called C.count C.may_refuse R.step R.view x s t does
+        ≡ is_some (given_in name x (call_of C.called C.count C.may_refuse R.step R.view x s t does)) }
 {}
