@@ -1,9 +1,9 @@
 -- An omnipresent cyclic, while its CPUs stay online.
-use Rattle.std.proofs.Common.{◌≡◌, ◌≢◌, ◌∙◌, ◌==◌, ℕ, zero, suc, ◌+◌, ◌<◌, ◌≤◌, inl, inr, All, Bool, true, false, cond, Option}
-use Rattle.std.proofs.Common.{Some, None, Result, Ok, Err, List, [], ◌∷◌, ◌++◌, find, map, length, get_or, refl, sym, ap, subst}
+use Rattle.std.proofs.Common.{◌≡◌, ◌≢◌, ◌∙◌, ◌==◌, ℕ, suc, ◌+◌, ◌<◌, ◌≤◌, inl, inr, All, Bool, true, false, cond, Option}
+use Rattle.std.proofs.Common.{Some, None, Ok, Err, List, [], ◌∷◌, map, length, get_or, refl, sym, ap, subst}
 use Rattle.std.proofs.Common.{arith}
-use Rattle.std.specs.Prelude.{sum_by, not}
-use Rattle.std.specs.List.{slice_get, FoldsTo}
+use Rattle.std.specs.Prelude.{sum_by}
+use Rattle.std.specs.List.{FoldsTo}
 use Rattle.std.specs.Option.{option_map, option_map_or}
 use Rattle.std.proofs.lemmas.List.Sums.{sum_by-cons}
 use Rattle.std.proofs.lemmas.Option.{slice_get-get_or}
@@ -17,13 +17,12 @@ use Rattle.cyc_types.specs.declared.refusal.Refusal.TheVariants.{Omnipresent}
 use Rattle.cyc_model.specs.Refusals.{first_refusal, when as if_so}
 use Rattle.cyc_model.specs.State.{Everywhere}
 use Rattle.cyc_timers.specs.Rows.{Cyclic}
-use Rattle.cyc_cpu.specs.declared.moving.Taken.{Taken}
 use Rattle.cyc_cpu.specs.Cpu.{CpuView}
 use Rattle.cyc_cpu.specs.Calls.{Reserve}
 use Rattle.cyc_places.specs.declared.record.Record.{Record}
 use Rattle.cyc_places.specs.declared.record.Place.TheVariants as stands
 use Rattle.cyc_places.specs.Places.{is_everywhere, new_record}
-use Rattle.cyc_cpus.specs.Cpus.{CpusView, CallOn, on, online_cpus, numbers_from}
+use Rattle.cyc_cpus.specs.Cpus.{on, online_cpus, numbers_from}
 use Rattle.cyc_agreement.proofs.Lists.{true_eq}
 use Rattle.cyc_agreement.proofs.Spots.{none_some}
 use Rattle.cyc_agreement.proofs.Recording.{found, record_none}
@@ -42,10 +41,10 @@ use Rattle.cyc_system_workers.specs.Advancing.{AllFire}
 use Rattle.cyc_system_workers.specs.Settling.{OnlyAsked}
 use Rattle.cyc_system_laws.proofs.Pieces.{made_of}
 use Rattle.cyc_expected.specs.Course.{component_first, components_from, due_of, next_of, Event, Begins, BeginsOnAll, IsSet}
-use Rattle.cyc_expected.specs.Course.{IsSetOn, Ends, Fires, Passes, Course, OnEach, Told, told_after, told_by}
+use Rattle.cyc_expected.specs.Course.{IsSetOn, Ends, Fires, Course, OnEach, Told, told_after, told_by}
 use Rattle.cyc_system_counts.specs.Sound.{IsSound}
-use Rattle.cyc_system_counts.specs.Keeping.{over_stays, stay_of, EndsRemoval, TouchesStays, TouchesRecord}
-use Rattle.cyc_system_counts.proofs.Flow.{AllFixed, all_brought, all_taken, on_cpus, flows}
+use Rattle.cyc_system_counts.specs.Keeping.{over_stays, EndsRemoval, TouchesStays, TouchesRecord}
+use Rattle.cyc_system_counts.proofs.Flow.{AllFixed, all_brought, all_taken, flows}
 use Rattle.cyc_system_counts.proofs.Idle.{idle_same, reserved_same}
 use Rattle.cyc_system_counts.proofs.Found.{stays_found}
 use Rattle.cyc_system_counts.proofs.Counts.{counts_same}
@@ -55,7 +54,6 @@ use Rattle.cyc_system_sums.proofs.Given.{no_counts_yet}
 use Rattle.cyc_system_rings.specs.Leading.{LeadCall, Make, FireAll, AskAll}
 use Rattle.cyc_system_expected.specs.Events.{given_everywhere, if_own, event_in, events_in, AllAccepted, AcceptedSteps}
 use Rattle.cyc_system_expected.specs.Events.{KeepsComponents}
-use Rattle.cyc_system_expected.proofs.Fires.{later}
 use Rattle.cyc_system_expected.proofs.Singles.{ok_err, of_stay, no_stays, find_end}
 use Rattle.cyc_system_expected.proofs.Runs.{neither, all_fired, all_asked, others_pass, add_next, omni_next, refused_begin}
 use Rattle.cyc_system_expected.proofs.Runs.{refused_poll, refused_set, refused_set_on, sound_after, step_ready}
@@ -65,7 +63,7 @@ abbrev pub of_moments : (ℕ → ℕ → ℕ) → ℕ → List (Option ℕ) → 
 of_moments k interval moments = sum_by (λ m. option_map_or (λ x. k x interval) m 0) moments
 
 -- the measure that doesn't look at counts
-abbrev blind : (ℕ → ℕ → ℕ) → ℕ → ℕ → ℕ → ℕ
+abbrev pub blind : (ℕ → ℕ → ℕ) → ℕ → ℕ → ℕ → ℕ
 blind k m i e = k m i
 
 sum_next : (k : ℕ → ℕ → ℕ) (now i : ℕ) (ms : List (Option ℕ))
@@ -178,7 +176,7 @@ module _ {C R : Type 0} (called : C → ℕ → Level → C → Type 0) (count :
     pub course : t.course ≡ OnEach everywhere moments
     pub so : IsOnEach step view id everywhere.interval moments t.expired s
 
-  plus_on : (f g : Cyclic → ℕ) (cpus : List (CpuView R))
+  pub plus_on : (f g : Cyclic → ℕ) (cpus : List (CpuView R))
       → sum_by (λ cpu. option_map_or (λ c. f c + g c) (cyclic_in id cpu) 0) cpus
       ≡ sum_by (λ cpu. option_map_or f (cyclic_in id cpu) 0) cpus + sum_by (λ cpu. option_map_or g (cyclic_in id cpu) 0) cpus
   plus_on f g [] = refl
@@ -239,7 +237,7 @@ module _ {C R : Type 0} (called : C → ℕ → Level → C → Type 0) (count :
   pass own event t ne = others_pass called count may_refuse step view id own event t ne
 
   -- one that is omnipresent has no single next expiration
-  set_single : (own moment : ℕ) (s t : SystemView R) → Changes step view s (Reprogram own moment (Ok tt)) t
+  pub set_single : (own moment : ℕ) (s t : SystemView R) → Changes step view s (Reprogram own moment (Ok tt)) t
       → is_omnipresent own s ≡ true → ⊥
   set_single own moment s t (inl (why, whys, is, same)) omni = ok_err is
   set_single own moment s t (inr (clear, rest)) omni =

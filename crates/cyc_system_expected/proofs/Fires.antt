@@ -1,5 +1,5 @@
 -- What a whole fire makes of a measure of an id's cyclics.
-use Rattle.std.proofs.Common.{◌≡◌, ◌∙◌, ◌==◌, ℕ, zero, suc, ◌+◌, ◌<◌, Bool, true, false, cond, find, Option, Some, None, List, []}
+use Rattle.std.proofs.Common.{◌≡◌, ◌∙◌, ◌==◌, ℕ, suc, ◌+◌, ◌<◌, Bool, true, false, cond, find, Some, None, List, []}
 use Rattle.std.proofs.Common.{◌∷◌, map, length, get_or, refl, sym, ap, arith}
 use Rattle.std.specs.Prelude.{sum_by}
 use Rattle.std.specs.List.{slice_get}

@@ -2,3 +2,12 @@ pub mod Fires
 pub mod Singles
 pub mod Runs
 pub mod Components
+pub mod Walks
+pub mod Beside
+pub mod Quiet
+pub mod Firing
+pub mod Spread
+pub mod Spreading
+pub mod Courses
+pub mod Everywhere
+pub mod WholeRun

@@ -1,5 +1,5 @@
 -- A run that leads a system, from the call that gives an id.
-use Rattle.std.proofs.Common.{◌≡◌, ◌≢◌, ◌∙◌, ◌==◌, ℕ, zero, suc, ◌+◌, ◌<◌, find, inl, inr, All, Bool, true, false, cond, Option}
+use Rattle.std.proofs.Common.{◌≡◌, ◌≢◌, ◌∙◌, ◌==◌, ℕ, zero, suc, ◌+◌, ◌<◌, inl, inr, All, Bool, true, false, cond, Option}
 use Rattle.std.proofs.Common.{Some, None, Result, Ok, Err, List, [], ◌∷◌, length, refl, sym, ap, subst, arith}
 use Rattle.std.specs.Prelude.{sum_by, not, ◌&&◌}
 use Rattle.std.specs.List.{slice_get, FoldsTo}
@@ -8,7 +8,6 @@ use Rattle.std.proofs.lemmas.Option.{slice_get_within}
 use Rattle.cyc_types.specs.Firing.{FiringView, FiringCall}
 use Rattle.cyc_types.specs.Series.{first, due, next}
 use Rattle.cyc_types.specs.declared.level.Level.{Level}
-use Rattle.cyc_types.specs.declared.level.Level.TheVariants.{High}
 use Rattle.cyc_types.specs.declared.moment.When.{When}
 use Rattle.cyc_types.specs.declared.refusal.Refusal.{Refusal}
 use Rattle.cyc_types.specs.declared.refusal.Refusal.TheVariants.{NoCyclic}
@@ -20,15 +19,13 @@ use Rattle.cyc_fire.specs.declared.fire.FireRefused.{FireRefused}
 use Rattle.cyc_model.specs.Refusals.{first_refusal, or_else, when as if_so}
 use Rattle.cyc_cpu.specs.Cpu.{CpuView, Running, running}
 use Rattle.cyc_cpu.specs.Law.{IsLawful}
-use Rattle.cyc_cpus.specs.Cpus.{CpusView}
-use Rattle.cyc_agreement.proofs.Lists.{among, eq_true, true_eq, false_ne}
-use Rattle.cyc_agreement.proofs.Spots.{same_some, none_some}
+use Rattle.cyc_agreement.proofs.Lists.{among, true_eq, false_ne}
+use Rattle.cyc_agreement.proofs.Spots.{none_some}
 use Rattle.cyc_agreement.proofs.Recording.{found}
 use Rattle.cyc_removing.proofs.Sums.{none_found}
 use Rattle.cyc_places.specs.declared.record.Record.{Record}
 use Rattle.cyc_places.specs.Places.{is_everywhere}
 use Rattle.cyc_workers.specs.Settling.{Asks}
-use Rattle.cyc_cpu_workers.specs.declared.settling.Lead.{Lead}
 use Rattle.cyc_system.specs.System.{SystemView, has, ids_of, is_online, is_omnipresent}
 use Rattle.cyc_system.specs.Laws.{cyclic_in}
 use Rattle.cyc_system.specs.Counts.{all_expired}
@@ -44,14 +41,14 @@ use Rattle.cyc_expected.specs.Course.{IsSet, IsSetOn, Ends, Fires, Leaves, Retur
 use Rattle.cyc_expected.specs.Course.{told_by}
 use Rattle.cyc_system_counts.specs.Sound.{IsSound}
 use Rattle.cyc_system_counts.specs.Keeping.{over_stays, stay_of}
-use Rattle.cyc_system_counts.proofs.Flow.{on_cpu, on_cpus}
+use Rattle.cyc_system_counts.proofs.Flow.{on_cpu}
 use Rattle.cyc_system_counts.proofs.Found.{stays_found}
 use Rattle.cyc_system_sums.proofs.Given.{receipt_all}
 use Rattle.cyc_types.specs.declared.receipt.Receipt.{Receipt}
-use Rattle.cyc_system_rings.specs.Leading.{LeadCall, Make, FireAll, AskAll, Leads, LeadSteps}
+use Rattle.cyc_system_rings.specs.Leading.{LeadCall, Make, FireAll, AskAll}
 use Rattle.cyc_system_rings.proofs.Raising.{sums_same, changes_long}
 use Rattle.cyc_system_expected.specs.Events.{given_everywhere, if_own, event_in, events_in, AllAccepted, AcceptedSteps, KeepsIt}
-use Rattle.cyc_system_expected.proofs.Fires.{sums_into, weigh, later, fired_later, none_weigh}
+use Rattle.cyc_system_expected.proofs.Fires.{sums_into, later, fired_later, none_weigh}
 use Rattle.cyc_system_expected.proofs.Singles.{ok_err, of_stay, IsSingle, single_kept, single_added, single_set}
 
 -- of two reasons neither holds
@@ -60,7 +57,7 @@ neither None b e = (refl, e)
 neither (Some why) b e = absurd (none_some (sym e))
 
 -- a reason that doesn't hold
-not_so : (b : Bool) (why : Refusal) → if_so (not b) why ≡ None → b ≡ true
+pub not_so : (b : Bool) (why : Refusal) → if_so (not b) why ≡ None → b ≡ true
 not_so true why e = refl
 not_so false why e = absurd (none_some (sym e))
 
@@ -85,7 +82,7 @@ module _ {C R : Type 0} (called : C → ℕ → Level → C → Type 0) (count :
   -- ---- an advance
 
   -- a CPU in it
-  if_fired : (now : ℕ) (k : ℕ → ℕ → ℕ → ℕ) (up : Bool) (s t : Running C R) (answer : Option (Result Fired FireRefused))
+  pub if_fired : (now : ℕ) (k : ℕ → ℕ → ℕ → ℕ) (up : Bool) (s t : Running C R) (answer : Option (Result Fired FireRefused))
       → IsLawful view s.cpu → FiresIf called count may_refuse step view up now s answer t
       → ((e : FireRefused) → answer ≡ Some (Err e) → ⊥) → (up ≡ false → cyclic_in id s.cpu ≡ None)
       → on_cpu (of_stay k) id t.cpu ≡ on_cpu (of_stay (later id now k)) id s.cpu
@@ -100,8 +97,9 @@ module _ {C R : Type 0} (called : C → ℕ → Level → C → Type 0) (count :
       let z : on_cpu (of_stay (later id now k)) id s.cpu ≡ 0 = none_weigh id (later id now k) s.cpu.cyclics (off refl) in
       omega (arith, x, y, z)
 
-  no_cyclic_off : (n : ℕ) (x : CpuView R) (up has' : Bool) (s : SystemView R) → IsSound view s → slice_get s.cpus.cpus n ≡ Some x
-      → slice_get s.cpus.online n ≡ Some up → up ≡ false → has n id s.cpus ≡ has' → cyclic_in id x ≡ None
+  pub no_cyclic_off : (n : ℕ) (x : CpuView R) (up has' : Bool) (s : SystemView R) → IsSound view s
+      → slice_get s.cpus.cpus n ≡ Some x → slice_get s.cpus.online n ≡ Some up → up ≡ false → has n id s.cpus ≡ has'
+      → cyclic_in id x ≡ None
   no_cyclic_off n x up false s sound p at off e = none_found x.cyclics id
       (sym (ap (λ o. among id (option_map_or ids_of o [])) p) ∙ e)
   no_cyclic_off n x up true s sound p at off e = (let (k, r, is, named, stand, on) = sound.agrees.known n id e in
@@ -129,7 +127,7 @@ module _ {C R : Type 0} (called : C → ℕ → Level → C → Type 0) (count :
       (λ e is. accepted n e (told ∙ ap (λ (o : Option (Result Fired FireRefused)). Some o) is))
       (λ off. no_cyclic_off n x up (has n id s.system.cpus) s.system sound p at off refl))) in omega (arith, x, y, z)
 
-  fires_single : (now m i e : ℕ) (s : SystemSide R C) (b : Advanced R C) → IsSound view s.system → IsSound view b.side.system
+  pub fires_single : (now m i e : ℕ) (s : SystemSide R C) (b : Advanced R C) → IsSound view s.system → IsSound view b.side.system
       → length s.leads.items ≡ length s.system.cpus.cpus → AllFire called count may_refuse step view now s b → AllAccepted b
       → IsSingle step view id m i e s.system → IsSingle step view id (next m i now) i (e + due m i now) b.side.system
   fires_single now m i e s b sound after ready f accepted h = record {
@@ -145,7 +143,7 @@ module _ {C R : Type 0} (called : C → ℕ → Level → C → Type 0) (count :
 
   -- ---- a question
 
-  asked_cyclics : (answers : List Bool) (x y : CpuView R) → FoldsTo (Asks step view) x answers y → y.cyclics ≡ x.cyclics
+  pub asked_cyclics : (answers : List Bool) (x y : CpuView R) → FoldsTo (Asks step view) x answers y → y.cyclics ≡ x.cyclics
   asked_cyclics [] x y e = ap (λ (z : CpuView R). z.cyclics) (sym e)
   asked_cyclics (true ∷ answers) x y (z, (first, lawful), rest) = asked_cyclics answers z y rest ∙ first.0.cyclics
   asked_cyclics (false ∷ answers) x y (z, (first, lawful), rest) = asked_cyclics answers z y rest ∙ first.0.cyclics
@@ -159,7 +157,7 @@ module _ {C R : Type 0} (called : C → ℕ → Level → C → Type 0) (count :
       (let w = a.cpus.each n x y p q in ap (λ cs. sum_by (λ c. cond (c.timer.id == id) (of_stay k (stay_of c)) 0) cs)
       (asked_cyclics w.0 x y w.1))) in omega (arith, x, y, z)
 
-  asks_single : (m i e : ℕ) (s t : SystemSide R C) → IsSound view s.system → IsSound view t.system → OnlyAsked step view s t
+  pub asks_single : (m i e : ℕ) (s t : SystemSide R C) → IsSound view s.system → IsSound view t.system → OnlyAsked step view s t
       → IsSingle step view id m i e s.system → IsSingle step view id m i e t.system
   asks_single m i e s t sound after a h = record {
     stays = λ k. all_asked k s t sound after a ∙ h.stays k;
@@ -182,7 +180,7 @@ module _ {C R : Type 0} (called : C → ℕ → Level → C → Type 0) (count :
   pub others_pass : (own : ℕ) (event : Event) (t : Told) → own ≢ id → told_after (if_own own id event) t ≡ t
   others_pass own event t ne = ap (λ (b : Bool). told_after (cond b event Passes) t) (false_ne own id ne)
 
-  its_own : (own : ℕ) (event : Event) (t : Told) → own ≡ id → told_after (if_own own id event) t ≡ told_after event t
+  pub its_own : (own : ℕ) (event : Event) (t : Told) → own ≡ id → told_after (if_own own id event) t ≡ told_after event t
   its_own own event t e = ap (λ (b : Bool). told_after (cond b event Passes) t) (true_eq own id e)
 
   -- what a CPU's coming and going is to a cyclic that is on one CPU
@@ -249,7 +247,7 @@ module _ {C R : Type 0} (called : C → ℕ → Level → C → Type 0) (count :
   as_it_was : (s t : SystemView R) → t ≡ s → untouched s t
   as_it_was s t same m i e h = subst (λ (x : SystemView R). IsSingle step view id m i e x) (sym same) h
 
-  make_told : (s t : SystemView R) (call : SystemCall) (told : Told) → IsSound view s → IsSound view t
+  pub make_told : (s t : SystemView R) (call : SystemCall) (told : Told) → IsSound view s → IsSound view t
       → Changes step view s call t → KeepsIt id (Make call) → IsTold told s
       → IsTold (told_after (event_in id (Make call)) told) t
   make_told s t (Add level when now (Ok own)) told a b d keeps h =

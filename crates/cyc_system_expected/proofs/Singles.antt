@@ -1,33 +1,30 @@
 -- A cyclic that is on one CPU, wherever that is.
-use Rattle.std.proofs.Common.{◌≡◌, ◌≢◌, ◌∙◌, ◌==◌, ℕ, zero, suc, ◌+◌, ◌<◌, ◌≤◌, inl, inr, Bool, true, false, cond, Option, Some}
-use Rattle.std.proofs.Common.{None, Result, Ok, Err, List, [], ◌∷◌, ◌++◌, find, length, get_or, slice_set, refl, sym, ap, subst}
+use Rattle.std.proofs.Common.{◌≡◌, ◌∙◌, ◌==◌, ℕ, ◌<◌, ◌≤◌, inl, inr, Bool, true, false, cond, Some}
+use Rattle.std.proofs.Common.{None, Ok, Err, List, [], ◌∷◌, ◌++◌, find, get_or, refl, sym, ap}
 use Rattle.std.proofs.Common.{arith}
-use Rattle.std.specs.Prelude.{sum_by, ◌&&◌, not}
-use Rattle.std.specs.List.{slice_get, FoldsTo}
+use Rattle.std.specs.Prelude.{sum_by}
 use Rattle.std.specs.Option.{option_map_or}
 use Rattle.std.proofs.lemmas.List.Sums.{sum_by-set, get_or-le-sum_by}
 use Rattle.std.proofs.lemmas.Option.{slice_get_within, slice_get-get_or, get_or_from_slice_get}
 use Rattle.cyc_types.specs.Firing.{FiringView, FiringCall}
-use Rattle.cyc_types.specs.Series.{first, due, next}
+use Rattle.cyc_types.specs.Series.{first}
 use Rattle.cyc_types.specs.declared.firing.Sent.{Sent}
 use Rattle.cyc_types.specs.declared.level.Level.{Level}
 use Rattle.cyc_types.specs.declared.moment.When.{When}
-use Rattle.cyc_types.specs.declared.refusal.Refusal.{Refusal}
 use Rattle.cyc_timers.specs.Rows.{Cyclic}
-use Rattle.cyc_model.specs.Refusals.{or_else}
 use Rattle.cyc_cpu.specs.declared.moving.Taken.{Taken}
 use Rattle.cyc_cpu.specs.Cpu.{CpuView, IsCyclic, with_moment}
-use Rattle.cyc_cpu.specs.Calls.{Changes as CpuChanges, Reserve, Widen, Reprogram as CpuReprogram}
+use Rattle.cyc_cpu.specs.Calls.{Changes as CpuChanges, Reserve, Reprogram as CpuReprogram}
 use Rattle.cyc_places.specs.declared.record.Record.{Record}
 use Rattle.cyc_places.specs.declared.record.Place.TheVariants as stands
 use Rattle.cyc_places.specs.Places.{is_everywhere, new_record}
-use Rattle.cyc_cpus.specs.Cpus.{CpusView, IsCpu, on}
-use Rattle.cyc_agreement.proofs.Lists.{among, eq_true, true_eq, false_ne}
-use Rattle.cyc_agreement.proofs.Spots.{same_some, none_some}
+use Rattle.cyc_cpus.specs.Cpus.{IsCpu, on}
+use Rattle.cyc_agreement.proofs.Lists.{among, eq_true, true_eq}
+use Rattle.cyc_agreement.proofs.Spots.{none_some}
 use Rattle.cyc_agreement.proofs.Recording.{found, record_none}
 use Rattle.cyc_removing.proofs.Sums.{sum_none, none_found}
 use Rattle.cyc_system.specs.System.{SystemView, has, ids_of, is_omnipresent}
-use Rattle.cyc_system.specs.Adding.{entering, OnlyWorks}
+use Rattle.cyc_system.specs.Adding.{entering}
 use Rattle.cyc_system.specs.Laws.{cyclic_in}
 use Rattle.cyc_system.specs.Counts.{all_expired}
 use Rattle.cyc_system.specs.Calls.{SystemCall, Changes, Add, Reprogram}
@@ -37,7 +34,7 @@ use Rattle.cyc_system_counts.specs.Keeping.{stay_of, over_stays, EndsRemoval, To
 use Rattle.cyc_system_counts.proofs.Flow.{on_cpu, on_cpus, flows, sum_set}
 use Rattle.cyc_system_counts.proofs.Found.{stays_found}
 use Rattle.cyc_system_counts.proofs.Counts.{counts_same}
-use Rattle.cyc_system_counts.proofs.Kept.{stays_kept, moments_kept}
+use Rattle.cyc_system_counts.proofs.Kept.{stays_kept}
 use Rattle.cyc_system_counts.proofs.Looked.{look_kept}
 use Rattle.cyc_system_sums.proofs.Given.{no_counts_yet}
 
@@ -50,10 +47,10 @@ abbrev pub of_stay : (ℕ → ℕ → ℕ → ℕ) → Taken → ℕ
 of_stay k a = k a.moment a.interval a.sent.sent
 
 -- it is 0 at these numbers alone
-abbrev only_at : ℕ → ℕ → ℕ → ℕ → ℕ → ℕ → ℕ
+abbrev pub only_at : ℕ → ℕ → ℕ → ℕ → ℕ → ℕ → ℕ
 only_at a b c x y z = cond (x == a) (cond (y == b) (cond (z == c) 0 1) 1) 1
 
-only_there : (a b c x y z : ℕ) → only_at a b c x y z ≡ 0 → (x ≡ a) × (y ≡ b) × (z ≡ c)
+pub only_there : (a b c x y z : ℕ) → only_at a b c x y z ≡ 0 → (x ≡ a) × (y ≡ b) × (z ≡ c)
 only_there a b c x y z e = by (x == a) (y == b) (z == c) refl refl refl e
   where
     by : (p q r : Bool) → (x == a) ≡ p → (y == b) ≡ q → (z == c) ≡ r → cond {A = ℕ} p (cond q (cond r 0 1) 1) 1 ≡ 0
@@ -63,7 +60,7 @@ only_there a b c x y z e = by (x == a) (y == b) (z == c) refl refl refl e
     by true false r' p q r e = absurd (omega (arith, e))
     by false q' r' p q r e = absurd (omega (arith, e))
 
-only_here : (a b c : ℕ) → only_at a b c a b c ≡ 0
+pub only_here : (a b c : ℕ) → only_at a b c a b c ≡ 0
 only_here a b c = ap (λ (p : Bool). cond {A = ℕ} p (cond (b == b) (cond (c == c) 0 1) 1) 1) (true_eq a a refl)
     ∙ (ap (λ (p : Bool). cond {A = ℕ} p (cond (c == c) 0 1) 1) (true_eq b b refl)
     ∙ ap (λ (p : Bool). cond {A = ℕ} p 0 1) (true_eq c c refl))

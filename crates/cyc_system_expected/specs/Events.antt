@@ -1,18 +1,19 @@
 -- What the calls that lead a system are to the cyclic of one id.
-use Rattle.std.specs.Prelude.{◌≡◌, ◌≢◌, ℕ, ◌==◌, ⊤, if◌then◌else◌, List, map, Some, None, Result, Ok, Err}
+use Rattle.std.specs.Prelude.{◌≡◌, ◌≢◌, ℕ, ◌==◌, ◌<◌, ⊤, if◌then◌else◌, List, map, Some, Ok, Err}
 use Rattle.std.specs.List.{slice_get}
 use Rattle.cyc_types.specs.Firing.{FiringView, FiringCall}
+use Rattle.cyc_types.specs.Series.{never}
 use Rattle.cyc_types.specs.declared.level.Level.{Level}
 use Rattle.cyc_types.specs.declared.moment.When.{When}
 use Rattle.cyc_fire.specs.declared.fire.FireRefused.{FireRefused}
 use Rattle.cyc_model.specs.State.{Everywhere}
 use Rattle.cyc_expected.specs.Course.{Event, Begins, BeginsOnAll, IsSet, IsSetOn, Ends, Fires, Leaves, Returns, Passes}
-use Rattle.cyc_system.specs.Calls.{SystemCall, Add, AddOmni, BeginRemove, PollRemove, Reprogram, ReprogramOn, Offline, Online}
+use Rattle.cyc_system.specs.Calls.{Add, AddOmni, BeginRemove, PollRemove, Reprogram, ReprogramOn, Offline, Online}
 use Rattle.cyc_system_workers.specs.declared.side.SystemSide.{SystemSide}
 use Rattle.cyc_system_workers.specs.declared.advancing.Advanced.{Advanced}
 use Rattle.cyc_system_workers.specs.Advancing.{AllFire}
 use Rattle.cyc_system_counts.specs.Sound.{IsSound}
-use Rattle.cyc_system_rings.specs.Leading.{LeadCall, Make, FireAll, AskAll, Leads, LeadSteps}
+use Rattle.cyc_system_rings.specs.Leading.{LeadCall, Make, FireAll, LeadSteps}
 
 abbrev pub if_own : ℕ → ℕ → Event → Event
 if_own own id event = if own == id then event else Passes
@@ -47,6 +48,11 @@ abbrev pub AcceptedSteps : {C R : Type 0} → (C → ℕ → Level → C → Typ
 AcceptedSteps {C} {R} called count may_refuse step view s (FireAll now) t = (after : Advanced R C)
     × AllFire called count may_refuse step view now s after × AllAccepted after × (t ≡ after.side) × IsSound view t.system
 AcceptedSteps called count may_refuse step view s call t = LeadSteps called count may_refuse step view s call t
+
+-- an advance stays below never, at which every fire is refused
+abbrev pub IsBeforeNever : LeadCall → Type 0
+IsBeforeNever (FireAll now) = now < never
+IsBeforeNever call = ⊤
 
 -- the call doesn't begin the removal of this id, nor ask whether it is over
 abbrev pub KeepsIt : ℕ → LeadCall → Type 0

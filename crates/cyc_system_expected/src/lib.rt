@@ -3,5 +3,7 @@
 #![tactic(auto)]
 
 mod expecting;
+mod whole;
 
 pub use expecting::{expected_everywhere_law, expected_law};
+pub use whole::whole_run_law;
