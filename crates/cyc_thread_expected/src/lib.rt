@@ -1,0 +1,7 @@
+//! Laws of the report of a script in threads: each name has expired as often as the closed form says. The functions here do
+//! nothing when they run. Their clauses are the laws, so that they are proved.
+#![tactic(auto)]
+
+mod telling;
+
+pub use telling::telling_law;
