@@ -5,3 +5,6 @@ pub mod Rising
 pub mod Owned
 pub mod Idle
 pub mod Said
+pub mod Early
+pub mod Expecting
+pub mod Lined

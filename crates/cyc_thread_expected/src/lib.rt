@@ -2,6 +2,8 @@
 //! nothing when they run. Their clauses are the laws, so that they are proved.
 #![tactic(auto)]
 
+mod reporting;
 mod telling;
 
+pub use reporting::report_law;
 pub use telling::telling_law;

@@ -1,0 +1,10 @@
+use Rattle.cyc_thread_expected.proofs.Lined.{lines_many, is_reported}
+use Rattle.cyc_thread_expected.proofs.reporting.report_law.Goals as goal
+
+pub returns-clause-many : goal.returns-clause-many
+returns-clause-many g c script calls e text r =
+    lines_many g.C.Calls.called g.C.Calls.count g.C.Calls.may_refuse script calls e text r
+
+pub returns-clause-each : goal.returns-clause-each
+returns-clause-each g c script calls e text r name line at =
+    is_reported g.C.Calls.called g.C.Calls.count g.C.Calls.may_refuse script calls e text r name line at
