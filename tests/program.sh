@@ -145,12 +145,17 @@ if ${CC:-cc} -shared -fPIC -O1 -o "$work/shim.so" tests/shim.c 2> /dev/null; the
   want '' 'fault read'
   interrupted reads_always_interrupted INTERRUPT=0 3
   tests/memory.sh || failed=1
+  # runs in threads that end early
+  tests/early.sh || failed=1
 else
-  echo 'program: no C compiler: interrupted reads and writes, and refused memory, are not tried'
+  echo 'program: no C compiler: interrupted reads and writes, refused memory, and early ends in threads are not tried'
 fi
 
 # scripts made at random, whole and damaged
 tests/random.py 2000 1 || failed=1
+
+# scripts made at random, in threads, with reports worked out in closed form
+tests/threads.py 500 1 || failed=1
 
 # scripts as great as they may be, with texts worked out in closed form
 tests/greatest.py || failed=1
