@@ -9,14 +9,17 @@ are those called, lost and pending; and where the script was not damaged its tex
 itself. A refused one has status 2, no text, and one line 'script refused K', with 'step N' for 20 to 23. The same seed makes the same
 scripts. The first faulty one is printed, and the status is 1.
 """
+import os
+import sys
+
+# this folder has a random.py that is not the library's
+sys.path = [it for it in sys.path if os.path.abspath(it or ".") != os.path.dirname(os.path.abspath(__file__))]
 import importlib.machinery
 import importlib.util
 import json
-import os
 import random
 import re
 import subprocess
-import sys
 
 HERE = os.path.dirname(os.path.abspath(__file__))
 PROGRAM = os.path.join(HERE, "..", "crates", "cyclic", "out", "cyclic")

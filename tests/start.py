@@ -7,11 +7,14 @@ In a scratch copy of the start scripts the program stands on two crates, and a t
 crate by a file in its out/, and can be told to hang or to fail at a crate. Each fault is printed, and the status is then 1.
 """
 import os
+import sys
+
+# this folder has a random.py that is not the library's
+sys.path = [it for it in sys.path if os.path.abspath(it or ".") != os.path.dirname(os.path.abspath(__file__))]
 import re
 import shutil
 import signal
 import subprocess
-import sys
 import tempfile
 import time
 

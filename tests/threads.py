@@ -9,16 +9,17 @@ script's words alone. Its losses depend on the schedule, so for them there is a 
 the first expirations of a cyclic on a CPU, as many as the ceiling, are not lost. All others are called, and nothing is pending. This
 shares no code with the program. The same seed makes the same scripts. The first faulty one is printed, and the status is 1.
 """
-import json
 import os
-import re
-import subprocess
 import sys
 
-HERE = os.path.dirname(os.path.abspath(__file__))
-sys.path = [it for it in sys.path if os.path.abspath(it or ".") != HERE]  # tests/random.py is not the module of this name
-import random  # noqa: E402
+# this folder has a random.py that is not the library's
+sys.path = [it for it in sys.path if os.path.abspath(it or ".") != os.path.dirname(os.path.abspath(__file__))]
+import json
+import random
+import re
+import subprocess
 
+HERE = os.path.dirname(os.path.abspath(__file__))
 PROGRAM = os.path.join(HERE, "..", "crates", "cyclic", "out", "cyclic")
 NEVER = 2**63 - 1
 SECOND = 10**9

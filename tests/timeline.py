@@ -8,15 +8,18 @@ The picture of each example is the one that stands beside it. The scripts of SEV
 is worked out by hand. Of scripts made at random (tests/random.py) the program writes the text: so the run that the picture is made of,
 which shares no code with the program, comes to the same lines.
 """
+import os
+import sys
+
+# this folder has a random.py that is not the library's
+sys.path = [it for it in sys.path if os.path.abspath(it or ".") != os.path.dirname(os.path.abspath(__file__))]
 import glob
 import importlib.machinery
 import importlib.util
 import json
-import os
 import random
 import re
 import subprocess
-import sys
 import tempfile
 import xml.etree.ElementTree
 
