@@ -1,7 +1,7 @@
 #!/usr/bin/env bash
-# Runs in threads that end early, or meet a refusal: an output that nobody takes, a script that is refused in its middle, a thread or
-# memory that is refused, a signal. Each has the status and the words of the program, is over within its time, and leaves no thread and
-# no process behind. It needs a C compiler, since it puts a shim before the C library.
+# Runs in threads that end early, or meet a refusal: an output that nobody takes, a script that is refused in its middle, a thread
+# or memory that is refused, a signal. Each has the status and the words of the program, is over within its time, and leaves no
+# thread and no process behind. It needs a C compiler, since it puts a shim before the C library.
 set -u
 cd "$(dirname "$0")/.."
 ./cyclic replay < examples/first.json > /dev/null || exit 1
@@ -69,13 +69,13 @@ go "$work/script" >> "$work/got"
 say a_script_cut_in_its_middle "$?" 2 'script refused 19'
 grep -q '^0 made' "$work/left" && [ ! -s "$work/got" ] || { echo "early: a refused script started threads, or wrote"; failed=1; }
 
-# none of it: the report has no line of this name, or it stands there as wanted, or with no expiration (its add was refused)
+# partly: each line of the last report is the wanted one, or one of a name whose add was refused
 sed 's/expired .*/expired 0 called 0 lost 0 pending 0/' examples/threads.txt > "$work/none"
 partly() { paste -d'\n' - "$work/none" examples/threads.txt < "$work/got" | awk 'NR % 3 == 1 { line = $0; ok = 0 }
   $0 == line { ok++ } NR % 3 == 0 && ok < 2 { exit 1 }'; }
 
-# each thread, and each request for memory, is refused in turn. A thread of an `advance` that can't be made is done without. Where memory
-# is refused to a step alone, the report is that of the other steps.
+# Each thread, and each request for memory, is refused in turn. A thread of an `advance` that can't be made is done without. Where
+# memory is refused to a step alone, the report is that of the other steps.
 refuse() {
   local n status
   for ((n = 1; ; n++)); do

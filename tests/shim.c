@@ -5,7 +5,7 @@
  *     FAIL_THREAD=N   the Nth thread is refused; then a byte is written to descriptor 9
  *     INTERRUPT=FD    every read of and write to this descriptor is interrupted
  *     HALF=FD         every other one is interrupted, and each of the others moves one byte
- *     LEFT=1          at the end the threads that were made are counted on descriptor 7, with those that don't end within a second
+ *     LEFT=1          at the end descriptor 7 gets the number of threads made, and of those that don't end within a second
  */
 #define _GNU_SOURCE
 #include <dlfcn.h>

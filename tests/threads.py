@@ -3,11 +3,12 @@
 
     tests/threads.py COUNT [SEED]
 
-The scripts have 1 to 16 CPUs, all words but `offline`, ceilings from 1 on, and between any two removals a word at which a run waits
-until each CPU has settled. So the report tells the same expirations whatever the schedule: each name's are summed up here from the
-script's words alone. Its losses depend on the schedule, so for them there is a bound: between two moments at which nothing is pending,
-the first expirations of a cyclic on a CPU, as many as the ceiling, are not lost. All others are called, and nothing is pending. This
-shares no code with the program. The same seed makes the same scripts. The first faulty one is printed, and the status is 1.
+The scripts have 1 to 16 CPUs, all words but `offline`, ceilings from 1 on, and between any two removals a word at which a run
+waits until each CPU has settled. So the report tells the same expirations whatever the schedule: each name's are summed up here
+from the script's words alone. Its losses depend on the schedule, so for them there is a bound: between two moments at which
+nothing is pending, the first expirations of a cyclic on a CPU, as many as the ceiling, are not lost. All others are called or
+lost, and nothing is pending. This shares no code with the program. The same seed makes the same scripts. The first faulty one is
+printed, and the status is 1.
 """
 import os
 import sys
@@ -103,7 +104,7 @@ def expected(script):
 
 
 class Maker:
-    """Makes a script. Moments are near the clock, or so far that a fire makes one expiration, so that no script makes very many."""
+    """Makes a script. Moments are near the clock, or so far that a fire makes one expiration, so none makes very many."""
 
     def __init__(self, chance):
         self.chance, self.clock, self.names, self.removed = chance, 0, [], False
@@ -116,14 +117,17 @@ class Maker:
 
     def moment(self):
         far = [0, -1, -2**63, min(self.clock + 4 * SECOND, NEVER), NEVER - self.chance.randint(1, 50), NEVER]
-        return self.chance.choice(far) if self.chance.random() < 0.1 else min(self.clock + self.chance.randint(0, self.longest), NEVER)
+        if self.chance.random() < 0.1:
+            return self.chance.choice(far)
+        return min(self.clock + self.chance.randint(0, self.longest), NEVER)
 
     def interval(self):
         far = [0, -1, 10**6, SECOND, 2**62, NEVER]
         return self.chance.choice(far) if self.chance.random() < 0.1 else self.chance.randint(1, 20)
 
     def add(self):
-        self.names.append("".join(self.chance.choice("abcXYZ019_-") for _ in range(self.chance.randint(1, 28))) + f"{len(self.names):04}")
+        name = "".join(self.chance.choice("abcXYZ019_-") for _ in range(self.chance.randint(1, 28)))
+        self.names.append(f"{name}{len(self.names):04}")
         added = [self.names[-1], self.chance.choice(["low", "lock", "high"]), self.moment(), self.interval()]
         return ["add", *added] if self.chance.random() < 0.7 else ["omni", *added, self.chance.choice([0, 1, 7, 1000, NEVER])]
 
@@ -142,7 +146,8 @@ class Maker:
             return ["softint", self.cpu(), self.chance.choice(["low", "lock"]), self.chance.choice([0, 1, 8, GREATEST])]
         name = self.chance.choice(self.names)
         if word < 0.7:
-            return ["reprogram", name, self.moment()] if self.chance.random() < 0.6 else ["reprogram", name, self.moment(), self.cpu()]
+            moved = ["reprogram", name, self.moment()]
+            return moved if self.chance.random() < 0.6 else [*moved, self.cpu()]
         if word < 0.85:
             return ["bind", name, self.cpu()] if self.chance.random() < 0.7 else ["unbind", name]
         return [self.chance.choice(["juggle", "juggle", "online"]), self.cpu()]
