@@ -6,4 +6,6 @@ mod removals;
 #[cfg(test)]
 mod several;
 #[cfg(test)]
+mod stopping;
+#[cfg(test)]
 mod tests;

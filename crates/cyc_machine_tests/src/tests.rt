@@ -96,7 +96,8 @@ static RUNS: [(&str, &str, &str); 17] = [
     ),
 ];
 
-fn script_of<R: AllocGlobal + Abort>(rt: &R, text: &str) -> Script {
+/// The script of this text.
+pub(crate) fn script_of<R: AllocGlobal + Abort>(rt: &R, text: &str) -> Script {
     let script = read_script(rt.alloc(), text.as_bytes()).ok();
     script.expect(rt, "a script")
 }
@@ -233,7 +234,7 @@ impl Sink for Stops {
 }
 
 /// How the replay of a script ends on a sink that fails after so many puts and so many bytes of the next, and what it wrote.
-fn stopped(
+pub(crate) fn stopped(
     alloc: Global,
     script: &Script,
     puts: u32,
