@@ -3,6 +3,8 @@
 
     tests/greatest.py [--compare]
 
+The first is run in threads too.
+
 Each text is worked out here: how often a cyclic expires up to a moment is a quotient, what a level loses is what its pend would
 have above the ceiling, and which CPU is empty says where a juggle goes. Between the advances the CPUs go offline one after
 another, bound cyclics and such with calls outstanding stay, and removals wait for their calls. With --compare the text is also
@@ -235,6 +237,11 @@ def timeline_text(script):
     return "".join(f"{line}\n" for line in module.Run(json.loads(script)).lines)
 
 
+def report_of(made):
+    """What a run in threads writes of a script whose calls are all made: the report alone."""
+    return "".join(f"{line}\n" for line in made.lines[-len(made.report):])
+
+
 def differs(name, found, wanted):
     if found == wanted:
         return False
@@ -250,6 +257,9 @@ def main():
         wanted = made.text()
         ran = subprocess.run([PROGRAM, "replay"], input=made.json(), capture_output=True, timeout=60)
         failed |= ran.returncode != 0 or differs(make.__name__, ran.stdout.decode(), wanted)
+        if make is full_cpus:
+            ran = subprocess.run([PROGRAM, "run"], input=made.json(), capture_output=True, timeout=60)
+            failed |= ran.returncode != 0 or differs("full_cpus in threads", ran.stdout.decode(), report_of(made))
         if "--compare" in sys.argv:
             failed |= differs(f"{make.__name__} by tools/timeline", timeline_text(made.json()), wanted)
     if not failed:

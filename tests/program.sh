@@ -42,108 +42,126 @@ expect() {
   ran "$name" "$status" "$@" < <(printf '%s' "$input")
 }
 
+# refuse NAME WORDS INPUT: a script that both commands refuse
+refuse() {
+  expect "$1, replay" 2 '' "$2" "$3" replay
+  expect "$1, run" 2 '' "$2" "$3" run
+}
+
 usage='usage: cyclic replay|run'
 expect no_word 1 '' "$usage" ''
 expect other_word 1 '' "$usage" '' help
 expect option 1 '' "$usage" '' --help
 expect two_words 1 '' "$usage" '' replay x
 expect end_of_options 1 '' "$usage" '' -- replay
-expect not_json 2 '' 'script refused 19' '{"cpus":1,"steps":[' replay
-expect no_cpus 2 '' 'script refused 20 step 0' '{"cpus":0,"steps":[]}' replay
-expect time_back 2 '' 'script refused 21 step 2' '{"cpus":1,"steps":[["advance",5],["advance",4]]}' replay
-expect name_twice 2 '' 'script refused 22 step 2' '{"cpus":1,"steps":[["add","a","low",1,1],["add","a","low",1,1]]}' replay
-expect no_name 2 '' 'script refused 23 step 1' '{"cpus":1,"steps":[["remove","a"]]}' replay
-expect at_never 2 '' 'script refused 20 step 1' '{"cpus":1,"steps":[["advance",9223372036854775807]]}' replay
+refuse not_json 'script refused 19' '{"cpus":1,"steps":['
+refuse no_cpus 'script refused 20 step 0' '{"cpus":0,"steps":[]}'
+refuse time_back 'script refused 21 step 2' '{"cpus":1,"steps":[["advance",5],["advance",4]]}'
+refuse name_twice 'script refused 22 step 2' '{"cpus":1,"steps":[["add","a","low",1,1],["add","a","low",1,1]]}'
+refuse no_name 'script refused 23 step 1' '{"cpus":1,"steps":[["remove","a"]]}'
+refuse at_never 'script refused 20 step 1' '{"cpus":1,"steps":[["advance",9223372036854775807]]}'
 expect no_steps 0 '' '' '{"cpus":1,"steps":[]}' replay
 expect no_steps_in_threads 0 '' '' '{"cpus":1,"steps":[]}' run
-expect no_json_in_threads 2 '' 'script refused 19' '{"cpus":1,"steps":[' run
 expect a_removal_in_threads 0 $'a expired 100 called 100 lost 0 pending 0\n' '' '{"cpus":1,"steps":[["add","a","low",1,1],["advance",100],["remove","a"],["advance",200]]}' run
 
 # scripts that are refused, or as great as they may be
 first=$(cat crates/cyclic/stdin)
 for ((n = 0; n < ${#first}; n++)); do
-  expect "first_$n" 2 '' 'script refused 19' "${first:0:n}" replay
+  refuse "first_$n" 'script refused 19' "${first:0:n}"
 done
-step() { expect "$1" "$2" "$3" "$4" '{"cpus":1,"steps":['"$5"']}' replay; }
+step() { refuse "$1" "$2" '{"cpus":1,"steps":['"$3"']}'; }
 nested=$(printf '[%.0s' {1..200})$(printf ']%.0s' {1..200})
-step nested_arrays 2 '' 'script refused 19' "$nested"
-step past_never 2 '' 'script refused 20 step 1' '["add","a","low",9223372036854775808,1]'
-step form_before_name 2 '' 'script refused 20 step 2' '["add","a","low",1,1],["add","a","low",1]'
-step name_before_time 2 '' 'script refused 23 step 2' '["advance",5],["remove","z"],["advance",4]'
-step name_of_33 2 '' 'script refused 20 step 1' '["add","abcdefghijklmnopqrstuvwxyz0123456","low",1,1]'
-step empty_name 2 '' 'script refused 20 step 1' '["add","","low",1,1]'
-step spaced_name 2 '' 'script refused 20 step 1' '["add","a b","low",1,1]'
-step name_of_32 0 $'1 ok\nabcdefghijklmnopqrstuvwxyz012345 expired 0 called 0 lost 0 pending 0\n' '' \
-  '["add","abcdefghijklmnopqrstuvwxyz012345","low",1,1]'
+step nested_arrays 'script refused 19' "$nested"
+step past_never 'script refused 20 step 1' '["add","a","low",9223372036854775808,1]'
+step form_before_name 'script refused 20 step 2' '["add","a","low",1,1],["add","a","low",1]'
+step name_before_time 'script refused 23 step 2' '["advance",5],["remove","z"],["advance",4]'
+step name_of_33 'script refused 20 step 1' '["add","abcdefghijklmnopqrstuvwxyz0123456","low",1,1]'
+step empty_name 'script refused 20 step 1' '["add","","low",1,1]'
+step spaced_name 'script refused 20 step 1' '["add","a b","low",1,1]'
+longest='{"cpus":1,"steps":[["add","abcdefghijklmnopqrstuvwxyz012345","low",1,1]]}'
+report=$'abcdefghijklmnopqrstuvwxyz012345 expired 0 called 0 lost 0 pending 0\n'
+expect name_of_32 0 $'1 ok\n'"$report" '' "$longest" replay
+expect name_of_32_in_threads 0 "$report" '' "$longest" run
 for head in '"cpus":17' '"cpus":1,"ceiling":0' '"cpus":1,"ceiling":4294967296' '"cpus":1,"more":1'; do
-  expect "$head" 2 '' 'script refused 20 step 0' "{$head,\"steps\":[]}" replay
+  refuse "$head" 'script refused 20 step 0' "{$head,\"steps\":[]}"
 done
-want '' 'script refused 19'
-printf '%s' "$first" | sed 's/"a"/"\xff"/' > "$work/script"
-ran no_utf8 2 replay < "$work/script"
-head -c 16777216 /dev/zero | tr '\0' ' ' > "$work/script"
-ran as_many_bytes_as_may_be 2 replay < "$work/script"
-want '' 'script refused 20 step 0'
-printf ' ' >> "$work/script"
-ran one_byte_more 2 replay < "$work/script"
-
-# a reading stops one byte after the last that a script may have
-printf ' ' >> "$work/script"
-{ ran two_bytes_more 2 replay; left=$(wc -c); } < "$work/script"
-[ "$left" -eq 1 ] || { echo "program: two_bytes_more: $left bytes are left"; failed=1; }
-ran endless 2 replay < <(tr '\0' ' ' < /dev/zero)
+printf '%s' "$first" | sed 's/"a"/"\xff"/' > "$work/no_utf8"
+head -c 16777216 /dev/zero | tr '\0' ' ' > "$work/greatest"
+head -c 16777217 /dev/zero | tr '\0' ' ' > "$work/longer"
+head -c 16777218 /dev/zero | tr '\0' ' ' > "$work/longest"
 
 # steps COUNT: a script of so many steps
 steps() { printf '{"cpus":1,"steps":['; yes '["advance",0]' | head -n "$1" | paste -sd,; printf ']}'; }
-ran one_step_more 2 replay < <(steps 65537)
-want '' ''
-seq 65536 | sed 's/$/ fired 0 lost 0/' > "$work/text"
-ran as_many_steps_as_may_be 0 replay < <(steps 65536)
+steps 65536 > "$work/steps"
+steps 65537 > "$work/one_step_more"
 
-# an input that is not read
-want '' 'fault read'
-ran a_directory 3 replay < /tmp
-ran a_closed_input 3 replay <&-
-
-# an output that is not written: closed, a full device, a pipe that nobody reads
-want '' 'fault write'
-: > "$work/got"
-timeout 20 "$program" replay < examples/first.json 2> "$work/said" >&-
-say a_closed_output "$?" 3
-if [ -e /dev/full ]; then
-  timeout 20 "$program" replay < examples/first.json 2> "$work/said" > /dev/full
-  say a_full_device "$?" 3
-  timeout 20 "$program" replay < <(steps 65536) 2> "$work/said" > /dev/full
-  say a_full_device_and_a_long_text "$?" 3
-  want '' ''
-  : > "$work/said"
-  timeout 20 "$program" replay < examples/first.json > /dev/full 2>&1
-  say nowhere_to_say_it "$?" 3
-  want '' 'fault write'
-fi
 mkfifo "$work/pipe"
-sleep 20 < "$work/pipe" & reader=$!
-exec 8> "$work/pipe"
-kill "$reader"
-wait "$reader" 2> /dev/null
-timeout 20 "$program" replay < examples/first.json 2> "$work/said" >&8
-say a_pipe_that_nobody_reads "$?" 3
-exec 8>&-
+for word in replay run; do
+  want '' 'script refused 19'
+  ran "no_utf8, $word" 2 "$word" < "$work/no_utf8"
+  ran "as_many_bytes_as_may_be, $word" 2 "$word" < "$work/greatest"
+  want '' 'script refused 20 step 0'
+  ran "one_byte_more, $word" 2 "$word" < "$work/longer"
+
+  # a reading stops one byte after the last that a script may have
+  { ran "two_bytes_more, $word" 2 "$word"; left=$(wc -c); } < "$work/longest"
+  [ "$left" -eq 1 ] || { echo "program: two_bytes_more, $word: $left bytes are left"; failed=1; }
+  ran "endless, $word" 2 "$word" < <(tr '\0' ' ' < /dev/zero)
+
+  ran "one_step_more, $word" 2 "$word" < "$work/one_step_more"
+  want '' ''
+  [ "$word" = run ] || seq 65536 | sed 's/$/ fired 0 lost 0/' > "$work/text"
+  ran "as_many_steps_as_may_be, $word" 0 "$word" < "$work/steps"
+
+  # an input that is not read
+  want '' 'fault read'
+  ran "a_directory, $word" 3 "$word" < /tmp
+  ran "a_closed_input, $word" 3 "$word" <&-
+
+  # an output that is not written: closed, a full device, a pipe that nobody reads
+  want '' 'fault write'
+  : > "$work/got"
+  timeout 20 "$program" "$word" < examples/threads.json 2> "$work/said" >&-
+  say "a_closed_output, $word" "$?" 3
+  if [ -e /dev/full ]; then
+    timeout 20 "$program" "$word" < examples/threads.json 2> "$work/said" > /dev/full
+    say "a_full_device, $word" "$?" 3
+    want '' ''
+    : > "$work/said"
+    timeout 20 "$program" "$word" < examples/threads.json > /dev/full 2>&1
+    say "nowhere_to_say_it, $word" "$?" 3
+    want '' 'fault write'
+  fi
+  sleep 20 < "$work/pipe" & reader=$!
+  exec 8> "$work/pipe"
+  kill "$reader"
+  wait "$reader" 2> /dev/null
+  timeout 20 "$program" "$word" < examples/threads.json 2> "$work/said" >&8
+  say "a_pipe_that_nobody_reads, $word" "$?" 3
+  exec 8>&-
+done
+if [ -e /dev/full ]; then
+  timeout 20 "$program" replay < "$work/steps" 2> "$work/said" > /dev/full
+  say a_full_device_and_a_long_text "$?" 3
+fi
 
 # reads and writes that are interrupted, and requests for memory that are refused; these put a shim before the C library
 if ${CC:-cc} -shared -fPIC -O1 -o "$work/shim.so" tests/shim.c 2> /dev/null; then
   interrupted() {
-    timeout 20 env "$2" LD_PRELOAD="$work/shim.so" "$program" replay < examples/first.json > "$work/got" 2> "$work/said"
-    say "$1" "$?" "$3"
+    timeout 20 env "$2" LD_PRELOAD="$work/shim.so" "$program" "$word" < "$script" > "$work/got" 2> "$work/said"
+    say "$1, $word" "$?" "$3"
   }
-  cp examples/first.txt "$work/text"
-  : > "$work/words"
-  interrupted reads_interrupted_every_other_time HALF=0 0
-  interrupted writes_interrupted_every_other_time HALF=1 0
-  want '' 'fault write'
-  interrupted writes_always_interrupted INTERRUPT=1 3
-  want '' 'fault read'
-  interrupted reads_always_interrupted INTERRUPT=0 3
+  for word in replay run; do
+    case $word in run) script=examples/threads.json ;; *) script=examples/first.json ;; esac
+    cp "${script%.json}.txt" "$work/text"
+    : > "$work/words"
+    interrupted reads_interrupted_every_other_time HALF=0 0
+    interrupted writes_interrupted_every_other_time HALF=1 0
+    want '' 'fault write'
+    interrupted writes_always_interrupted INTERRUPT=1 3
+    want '' 'fault read'
+    interrupted reads_always_interrupted INTERRUPT=0 3
+  done
   tests/memory.sh || failed=1
   # runs in threads that end early
   tests/early.sh || failed=1
