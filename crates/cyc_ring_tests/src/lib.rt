@@ -5,6 +5,8 @@
 #[cfg(test)]
 mod banks;
 #[cfg(test)]
+mod elsewhere;
+#[cfg(test)]
 mod handlers;
 #[cfg(test)]
 mod handover;

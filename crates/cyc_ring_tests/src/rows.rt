@@ -73,11 +73,7 @@ const MARKED: [Call; 9] = [
 
 #[test]
 fn a_call_is_kept_for_an_open_removal(rt: HostRuntime) -> Result<(), Fail> {
-    let kept = Counts {
-        marked: true,
-        ..Counts::one_outstanding(1, 1)
-    };
-    for (n, first) in [(3, kept), (9, Counts::one_outstanding(2, 1))] {
+    for (n, first) in [(3, kept()), (9, Counts::one_outstanding(2, 1))] {
         let (calls, _) = MARKED.split_at(n);
         let found = closed_after(rt.alloc(), 2, 0, calls)?;
         expect(&rt, found, (None, [Some(first), None]));
@@ -203,6 +199,35 @@ pub(crate) fn worked_rings() -> [Worked; 5] {
             books: books[4],
         },
     ]
+}
+
+/// The first so many calls of a worked ring of ceiling 2, and the book after them.
+fn early(start: u32, calls: &'static [Call], count: usize, first: Option<Counts>) -> Worked {
+    let (calls, _) = calls.split_at(count.min(calls.len()));
+    Worked {
+        ceiling: 2,
+        start,
+        calls,
+        books: [first, None],
+    }
+}
+
+/// Worked rings that are closed before all their calls are made: after the first calls at the ceiling, after the removal there,
+/// and while a removal is open.
+pub(crate) fn closed_early() -> [Worked; 3] {
+    [
+        early(4294967295, &AT_THE_CEILING, 9, Some(Counts::done(1, 3, 1))),
+        early(4294967295, &AT_THE_CEILING, 17, None),
+        early(0, &MARKED, 3, Some(kept())),
+    ]
+}
+
+/// The book of a cyclic of which a call is kept for its removal.
+fn kept() -> Counts {
+    Counts {
+        marked: true,
+        ..Counts::one_outstanding(1, 1)
+    }
 }
 
 /// The books after a switch of banks.
