@@ -66,7 +66,7 @@ impl<R: Raise> Model for Hard<R> {
 
 impl<R: Raise + Drop> Hard<R> {
     /// A CPU with no cyclic and of size 1, over the ends of its lock and its low level. No cyclic expires more than `most`
-    /// times. Refuses with Memory alone; the ends are then dropped.
+    /// times. Takes the memory of one cyclic. Refuses with Memory alone; the ends are then dropped.
     pub fn new(alloc: Global, most: u64, lock: R, low: R) -> Result<Hard<R>, Refusal>
         requires lock { IsFresh (R.view lock) }
         requires low { IsFresh (R.view low) }

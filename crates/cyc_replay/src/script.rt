@@ -58,7 +58,7 @@ pub fn run_script<S: Sink>(
     Ok(machine)
 }
 
-/// Runs a script, as `run_script` does, and lets its machine go.
+/// Runs a script, as `run_script` does and with as much memory, and lets its machine go.
 pub fn replay<S: Sink>(alloc: Global, script: &Script, sink: &mut S) -> Result<(), RunFault>
     requires { S.has_failed sink.old ≡ false }
     ensures text { Puts (S.written sink.old) (S.written sink.new) result (text_of script.now) }

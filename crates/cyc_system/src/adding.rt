@@ -46,7 +46,8 @@ impl<R: Raise> System<R> {
     /// Its first expiration is what `when` says at `now`.
     ///
     /// Refuses with BadNow where `now` is never, then with IdsSpent where the last id was given. Then as `reserve` of one on
-    /// that CPU: Full, Busy, Expanding, Memory; no other CPU is tried. A refused call spends no id.
+    /// that CPU: Full, Busy, Expanding, Memory; no other CPU is tried. Takes the memory of one more cyclic there, where its size
+    /// grows, and of a record. A refused call spends no id.
     pub fn add(&mut self, level: Level, when: When, now: Moment) -> Result<CyclicId, Refusal>
         ensures { Changes R.step R.view self.old (Add level when now result) self.new }
     {

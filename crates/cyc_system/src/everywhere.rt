@@ -10,8 +10,8 @@ impl<R: Raise> System<R> {
     /// of CPU `c` starts `c` times the skew after the start, and never later than never.
     ///
     /// Refuses with BadNow where `now` is never, then with IdsSpent where the last id was given; then, CPU by CPU in rising
-    /// number, with Full, Busy or Expanding; then with Memory. All memory is taken before the first CPU grows. A refused call
-    /// spends no id.
+    /// number, with Full, Busy or Expanding; then with Memory. All memory, that of one more cyclic on each online CPU and of a record,
+    /// is taken before the first CPU grows. A refused call spends no id.
     pub fn add_omni(
         &mut self,
         level: Level,
@@ -39,7 +39,7 @@ impl<R: Raise> System<R> {
     /// open, which begins again from its start and carries the counts that it left here.
     ///
     /// Refuses with NoCpu, then with Online where the CPU takes part already, then with BadNow where `now` is never, then with
-    /// Expanding where its last switch of banks is not over, then with Memory.
+    /// Expanding where its last switch of banks is not over, then with Memory, which it takes for all those components.
     pub fn online(&mut self, cpu: u32, now: Moment) -> Result<(), Refusal>
         ensures { Changes R.step R.view self.old (Online cpu now result) self.new }
     {

@@ -40,7 +40,7 @@ impl<R: Raise + Drop> System<R> {
     /// A system with no cyclic, over these ends: for each CPU, of which all are online, that of its lock and that of its low
     /// level. No cyclic expires more than `most` times on a CPU. The first id to be given is `first_id`.
     ///
-    /// Refuses with Memory alone; the ends are then dropped.
+    /// Takes the memory of the list of CPUs, and of one cyclic on each. Refuses with Memory alone; the ends are then dropped.
     pub fn new(
         alloc: Global,
         ends: Vec<(R, R)>,
