@@ -6,8 +6,9 @@
 Every other script is whole: it must be accepted. The others are damaged in one to four bytes: each is accepted, or refused as a
 script. An accepted one has status 0, nothing on standard error, lines of the right forms, and a report in which the expirations
 are those called, lost and pending; and where the script was not damaged its text is the one that `tools/timeline` works out by
-itself. A refused one has status 2, no text, and one line 'script refused K', with 'step N' for 20 to 23. The same seed makes the same
-scripts. The first faulty one is printed, and the status is 1.
+itself. A refused one has status 2, no text, and one line 'script refused K', with 'step N' for 20 to 23. Every fourth pair of scripts
+is run in threads too: refused in the same words, or accepted with a report of the same names, in which nothing is pending. The same
+seed makes the same scripts. The first faulty one is printed, and the status is 1.
 """
 import os
 import sys
@@ -163,6 +164,22 @@ def look(script, whole, run):
     return None
 
 
+def look_in_threads(script):
+    """What is wrong with the run of this script in threads, beside its replay, or None."""
+    try:
+        replayed, ran = (subprocess.run([PROGRAM, word], input=script, capture_output=True, timeout=100) for word in ("replay", "run"))
+    except subprocess.TimeoutExpired:
+        return "in threads: no end within 100 seconds"
+    reports = [[REPORT.fullmatch(line) for line in it.stdout.splitlines(keepends=True)] for it in (replayed, ran)]
+    names = [[counts[0].split()[0] for counts in report if counts] for report in reports]
+    if (ran.returncode, ran.stderr, names[1]) != (replayed.returncode, replayed.stderr, names[0]) or None in reports[1]:
+        return f"in threads: status {ran.returncode}, words {ran.stderr[:80]!r}, text {ran.stdout[:300]!r}"
+    for expired, called, lost, pending in (map(int, counts.groups()) for counts in reports[1]):
+        if expired != called + lost or pending:
+            return f"in threads: a report {ran.stdout!r}"
+    return None
+
+
 def main():
     count, seed = int(sys.argv[1]), int(sys.argv[2]) if len(sys.argv) > 2 else 1
     run = timeline().Run
@@ -171,7 +188,7 @@ def main():
         script, whole = Maker(chance).script(), number % 2 == 0
         if not whole:
             script = damaged(script, chance)
-        fault = look(script, whole, run)
+        fault = look(script, whole, run) or (look_in_threads(script) if number % 8 < 2 else None)
         if fault:
             print(f"random: seed {seed}, script {number}: {fault}\n{script!r}")
             return 1
