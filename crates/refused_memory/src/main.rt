@@ -5,16 +5,22 @@
 
 mod cpus;
 mod levels;
+mod moves;
+mod running;
+mod scripts;
 mod seen;
 mod systems;
 
+use crate::moves::Move;
 use crate::seen::Seen;
 use anyhow::{Result, bail};
-use std::alloc::Global;
 use std::env;
+use std::sync::Wait;
+use std::thread::Threads;
 
 /// What came of the call of this name. None where there is no such call.
-fn made(alloc: Global, call: &str) -> Option<Seen> {
+fn made<R: AllocGlobal + Threads + Wait + Sync>(rt: &R, call: &str) -> Option<Seen> {
+    let alloc = rt.alloc();
     match call {
         "Tally::new" => Some(levels::tally(alloc)),
         "LevelCore::new" => Some(levels::level(alloc)),
@@ -29,6 +35,14 @@ fn made(alloc: Global, call: &str) -> Option<Seen> {
         "System::bind" => Some(systems::bind(alloc)),
         "System::add_omni" => Some(systems::add_omni(alloc)),
         "System::online" => Some(systems::online(alloc)),
+        "command_of" => Some(scripts::command(alloc)),
+        "read_input" => Some(scripts::input(alloc)),
+        "read_script" => Some(scripts::reading(alloc)),
+        "replay" => Some(scripts::replaying(alloc)),
+        "run" => Some(running::running(rt, alloc)),
+        "System::juggle_of_two" => Some(moves::juggle_of_two(alloc)),
+        "System::juggle" => Some(moves::leaving(alloc, Move::Juggle)),
+        "System::offline" => Some(moves::leaving(alloc, Move::Offline)),
         _ => None,
     }
 }
@@ -37,7 +51,7 @@ fn main(rt: HostRuntime) -> Result<()> {
     let Some(call) = env::args(&rt)?.nth(1) else {
         bail!("which call?");
     };
-    let Some(seen) = made(rt.alloc(), call.as_str()) else {
+    let Some(seen) = made(&rt, call.as_str()) else {
         bail!("there is no such call");
     };
     println!(rt; "{seen}")?;

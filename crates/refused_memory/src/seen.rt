@@ -10,6 +10,8 @@ pub(crate) enum Seen {
     Before,
     /// The call was refused memory, changed nothing that can be seen, and made again it was done.
     Refused,
+    /// It went on without a step that was refused memory, and made again it was done.
+    Without,
     /// It was refused no memory, and done.
     Done,
     /// It answered or changed what it must not.
@@ -21,6 +23,7 @@ impl Display for Seen {
         f.write_str(match self {
             Seen::Before => "before",
             Seen::Refused => "refused",
+            Seen::Without => "without",
             Seen::Done => "done",
             Seen::Wrong => "wrong",
         })

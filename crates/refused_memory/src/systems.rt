@@ -1,4 +1,5 @@
-//! The calls of a system of two CPUs.
+//! Systems of two and three CPUs, and the calls of a system.
+ghost use Rattle.std.specs.Prelude.{◌≡◌, ◌+◌, All, length, IfOk};
 ghost use Rattle.cyc_core.specs.Tables.{level_of};
 ghost use Rattle.cyc_core.specs.FiringSide.{firing_view};
 ghost use Rattle.cyc_cpu.specs.Cpu.{IsFresh};
@@ -31,10 +32,38 @@ fn over(
 }
 
 /// A system of two CPUs.
-fn two(alloc: Global) -> Result<System<LevelCore>, Refusal> {
+pub(crate) fn two(alloc: Global) -> Result<System<LevelCore>, Refusal> {
     let first = (level(alloc)?, level(alloc)?);
     let second = (level(alloc)?, level(alloc)?);
     over(alloc, first, second)
+}
+
+/// Puts the two ends of a CPU behind those before.
+fn push_ends(
+    mut ends: Vec<(LevelCore, LevelCore)>,
+    pair: (LevelCore, LevelCore),
+) -> Result<Vec<(LevelCore, LevelCore)>, Refusal>
+    requires before { All (λ e. IsFresh (firing_view (level_of e.0)) × IsFresh (firing_view (level_of e.1))) ends.items }
+    requires lock { IsFresh (firing_view (level_of pair.0)) }
+    requires low { IsFresh (firing_view (level_of pair.1)) }
+    ensures fresh { IfOk result
+        (λ r. All (λ e. IsFresh (firing_view (level_of e.0)) × IsFresh (firing_view (level_of e.1))) r.items) }
+    ensures many { IfOk result (λ r. length r.items ≡ length ends.items + 1) }
+{
+    ends.push(pair)?;
+    Ok(ends)
+}
+
+/// A system of three CPUs.
+pub(crate) fn three(alloc: Global) -> Result<System<LevelCore>, Refusal> {
+    let Some(id) = CyclicId::new(1) else {
+        return Err(Refusal::IdsSpent);
+    };
+    let mut ends = Vec::new(alloc);
+    for _ in 0..3u32 {
+        ends = push_ends(ends, (level(alloc)?, level(alloc)?))?;
+    }
+    System::new(alloc, ends, u64::MAX, id)
 }
 
 /// Adds a low cyclic that begins at 10, each 10 nanoseconds.
