@@ -125,6 +125,12 @@ impl<'a, const APART: usize, const SPREAD: usize> Raiser<'a, APART, SPREAD> {
         self.ring.word(pend_word::<SPREAD>(index)).load(SeqCst) % MARK
     }
 
+    /// Whether no call of the ids from 1 to `ids` is outstanding, and the soft side is on this side's bank.
+    pub fn is_settled(&self, ids: u16) -> bool {
+        (1..=u64::from(ids)).all(|id| self.load_pend(id) == 0)
+            && self.ring.word(SOFT).load(SeqCst) == self.bank as u64
+    }
+
     /// So many raises, the ids from 1 to `ids` round, each where its calls are done.
     pub fn raise_done(&mut self, ids: u16, turns: u64) {
         let mut id = 1;
@@ -182,8 +188,13 @@ impl<'a, const APART: usize, const SPREAD: usize> Drainer<'a, APART, SPREAD> {
         self.hand != 0 || self.take()
     }
 
-    /// Whether it was the last call of its cyclic.
-    fn finish(&mut self) -> bool {
+    /// The id of the cyclic in hand, which is taken where the hand is empty.
+    pub fn in_hand(&mut self) -> Option<u64> {
+        self.has_taken().then(|| self.hand / 256)
+    }
+
+    /// The call of the cyclic in hand is done. Whether it was its last.
+    pub fn finish(&mut self) -> bool {
         let found = self
             .ring
             .word(pend_word::<SPREAD>(self.hand as usize % 256))
