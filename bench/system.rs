@@ -1,5 +1,6 @@
 //! Times calls of a proved system of 16 CPUs (`crates/bench_system`) at several numbers of cyclics.
 
+#[allow(dead_code)]
 mod timing;
 
 /// So many operations on a system of so many cyclics.

@@ -170,13 +170,14 @@ impl Bench<'_> {
     }
 
     /// Expirations a second over each buffer.
-    fn buffers(&self, what: &str, advances: fn(u64) -> Advances) {
+    fn buffers(&self, kind: &str, what: &str, advances: fn(u64) -> Advances) {
         let title = format!("A run in threads, {what}, millions of expirations a second");
+        let proved = format!("Rattle, {kind} advances");
         let columns = [
             "Rust",
             "`Mutex<VecDeque>`",
             "`channel`",
-            "Rattle",
+            &proved,
             "Time of Rattle to Rust",
         ];
         timing::head(&title, "CPUs, level", &columns);
@@ -230,7 +231,11 @@ fn main() {
             .get(2)
             .map_or(ROUNDS, |text| text.parse().expect("a number")),
     };
-    bench.buffers("4 advances of 500,000 expirations on each CPU", long);
-    bench.buffers("advances of 16 expirations on each CPU", short);
+    bench.buffers(
+        "long",
+        "4 advances of 500,000 expirations on each CPU",
+        long,
+    );
+    bench.buffers("short", "advances of 16 expirations on each CPU", short);
     bench.starts();
 }
