@@ -1,8 +1,9 @@
-//! Times the fires of a proved CPU (`crates/bench_cpu`) against heaps of plain Rust that make the same expirations. The handler
-//! of each expiration counts the calls of its cyclic.
+//! Times the fires of a proved CPU (`crates/bench_cpu`) against heaps and a wheel of plain Rust that make the same expirations. The
+//! handler of each expiration counts the calls of its cyclic.
 
 mod heaps;
 mod timing;
+mod wheel;
 
 use heaps::{FIRES, Fires};
 
@@ -43,7 +44,9 @@ impl Tally {
 }
 
 fn table(title: &str, proved: &str, fire: Run) {
-    timing::head(title, heaps::WHAT, &heaps::columns(proved));
+    let [indexes, keys, library, proved, ratio] = heaps::columns(proved);
+    let columns = [indexes, keys, library, "Wheel, ns", proved, ratio];
+    timing::head(title, heaps::WHAT, &columns);
     for (count, step) in FIRES {
         let intervals = heaps::spread(count);
         let run = Fires::new(&intervals, step);
@@ -64,11 +67,16 @@ fn table(title: &str, proved: &str, fire: Run) {
             run.by_library(|id| tally.call(id));
             tally.folded()
         };
+        let wheel = || {
+            let mut tally = Tally::new(count);
+            run.by_wheel(|id| tally.call(id));
+            tally.folded()
+        };
         // The call reads the intervals and keeps nothing.
         let proved = || unsafe { fire(intervals.as_ptr(), count, step, run.fires) };
-        let sides: [timing::Side; 4] = [&indexes, &keys, &library, &proved];
+        let sides: [timing::Side; 5] = [&indexes, &keys, &library, &wheel, &proved];
         let times = timing::medians(heaps::ROUNDS, expirations, sides);
-        timing::row(&heaps::what(count, step), &times, times[3] / times[0]);
+        timing::row(&heaps::what(count, step), &times, times[4] / times[0]);
     }
 }
 
