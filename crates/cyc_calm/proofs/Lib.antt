@@ -11,3 +11,4 @@ pub mod Walking
 pub mod Beginning
 pub mod Spacing
 pub mod Whole
+pub mod Reports

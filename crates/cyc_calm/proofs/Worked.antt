@@ -1,7 +1,8 @@
 -- The definitions, computed on worked scripts.
 use Rattle.std.proofs.Common.{◌≡◌, ℕ, zero, suc, ◌<◌, ◌≤◌, arith, sym, subst, Bool, true, false, Some, None, List, [], ◌∷◌}
-use Rattle.std.proofs.Common.{map, refl}
-use Rattle.std.specs.Prelude.{pos, negsuc, ℤ}
+use Rattle.std.proofs.Common.{◌++◌, map, refl}
+use Rattle.std.specs.Prelude.{pos, negsuc, ℤ, codes}
+use Rattle.std.specs.Fmt.{digits}
 use Rattle.cyc_types.specs.declared.level.Level.TheVariants as level
 use Rattle.cyc_script.specs.declared.step.Step.{Step}
 use Rattle.cyc_script.specs.declared.step.Step.TheVariants.{Add, Remove, Advance, Juggle, Offline, Online}
@@ -9,7 +10,9 @@ use Rattle.cyc_model.proofs.Steps.{add, omni, reprogram, reprogram_on}
 use Rattle.cyc_expected.specs.Expected.{Met, expected}
 use Rattle.cyc_agreement.proofs.Spots.{same_some}
 use Rattle.cyc_calm.specs.Calm.{IsStep, Parts, AreParted, AreCalm}
+use Rattle.cyc_text.specs.Lines.{reported}
 use Rattle.cyc_calm.specs.Way.{calm_way}
+use Rattle.cyc_calm.specs.Text.{calm_counts, report_from}
 
 -- which steps are accepted
 abbrev taken : ℕ → List Step → List Bool
@@ -34,6 +37,13 @@ a_start_of_0_is_the_first_multiple = refl
 
 each_component_starts_later : expected 4 (calm_way 4 four) 3 ≡ 77
 each_component_starts_later = refl
+
+-- the bytes of its report, with these names
+its_report : report_from (calm_counts 4 four) 0 (codes "a" ∷ codes "b" ∷ codes "c" ∷ codes "o" ∷ [])
+    ≡ codes "a expired 20 called 20 lost 0 pending 0\n" ++ codes "b expired 10 called 10 lost 0 pending 0\n"
+    ++ codes "c expired 28 called 28 lost 0 pending 0\n" ++ codes "o expired 77 called 77 lost 0 pending 0\n"
+unfolding reported digits
+its_report = refl
 
 -- a step is refused for its numbers
 abbrev start_of : ℤ → ℤ → Step

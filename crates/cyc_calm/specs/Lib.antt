@@ -1,3 +1,5 @@
 pub mod Calm
 pub mod Way
 pub mod Memory
+pub mod Runs
+pub mod Text

@@ -3,5 +3,7 @@
 #![tactic(auto)]
 
 mod running;
+mod texts;
 
 pub use running::{calm_expected_law, calm_run_law};
+pub use texts::calm_text_law;
