@@ -12,18 +12,18 @@ use Rattle.cyc_script.specs.declared.step.Reprogram.{Reprogram as ReprogramStep}
 use Rattle.cyc_script.specs.declared.step.Step.TheVariants as steps
 use Rattle.cyc_script.specs.WellFormed.{names_after, names_after_all}
 use Rattle.cyc_expected.specs.Calm.{OnlyMoves}
-use Rattle.cyc_system.specs.System.{SystemView}
-use Rattle.cyc_system.specs.Calls.{Changes, Online}
-use Rattle.cyc_system_counts.specs.Sound.{IsSound}
-use Rattle.cyc_system_rings.specs.Leading.{LeadCall, Make, FireAll, AskAll}
-use Rattle.cyc_thread_steps.specs.declared.named.Named.{Named}
-use Rattle.cyc_thread_steps.specs.declared.named.Named.TheVariants.{Nothing, Cyclic, Leaving, Removed}
-use Rattle.cyc_thread_steps.specs.declared.progress.Progress.{Progress}
-use Rattle.cyc_thread_steps.specs.Calls.{CallsFor}
-use Rattle.cyc_thread_steps.specs.Named.{named_at, id_of, is_leaving, NoneLeaves}
-use Rattle.cyc_thread_steps.specs.Words.{Does, WithId, reprograms}
-use Rattle.cyc_thread_calls.specs.Leading.{call_with}
-use Rattle.cyc_thread_calls.specs.Meeting.{accepted, is_taken as is_done}
+use Rattle.cyc_thread_expected.specs.System.{SystemView}
+use Rattle.cyc_thread_expected.specs.Calls.{Changes, Online}
+use Rattle.cyc_thread_expected.specs.Sound.{IsSound}
+use Rattle.cyc_thread_expected.specs.SystemRingsLeading.{LeadCall, Make, FireAll, AskAll}
+use Rattle.cyc_thread_expected.specs.Named.{Named}
+use Rattle.cyc_thread_expected.specs.Named.TheVariants.{Nothing, Cyclic, Leaving, Removed}
+use Rattle.cyc_thread_expected.specs.Progress.{Progress}
+use Rattle.cyc_thread_expected.specs.ThreadStepsCalls.{CallsFor}
+use Rattle.cyc_thread_expected.specs.ThreadStepsNamed.{named_at, id_of, is_leaving, NoneLeaves}
+use Rattle.cyc_thread_expected.specs.Words.{Does, WithId, reprograms}
+use Rattle.cyc_thread_expected.specs.Leading.{call_with}
+use Rattle.cyc_thread_expected.specs.Meeting.{accepted, is_taken as is_done}
 use Rattle.cyc_calm.specs.Way.{Standing, Absent, OnOne, OnAll, may_reprogram, is_taken, after_step}
 use Rattle.cyc_calm.specs.Memory.{NoMemoryRefused}
 use Rattle.cyc_calm.proofs.Keeping.{AllStill}

@@ -11,15 +11,15 @@ use Rattle.cyc_cpu.specs.Cpu.{CpuView}
 use Rattle.cyc_places.specs.declared.record.Record.{Record}
 use Rattle.cyc_places.specs.Places.{HasRisingIds, HasNoRecord}
 use Rattle.cyc_cpus.specs.Cpus.{CpusView, new_cpu}
-use Rattle.cyc_agreement.proofs.Spots.{none_some, same_some}
-use Rattle.cyc_cpu_workers.specs.declared.settling.Lead.{Lead}
-use Rattle.cyc_thread_rings.specs.declared.levels.Seated.{Seated}
-use Rattle.cyc_thread_rings.specs.Rings.{seats_of_ends, firing_seats}
-use Rattle.cyc_thread_steps.specs.declared.named.Named.{Named}
-use Rattle.cyc_thread_steps.specs.declared.named.Named.TheVariants.{Nothing}
-use Rattle.cyc_thread_steps.specs.declared.progress.Progress.{Progress}
-use Rattle.cyc_thread_steps.specs.Named.{named_at, id_of, is_leaving}
-use Rattle.cyc_threads.specs.Running.{IsAtFirst, most}
+use Rattle.cyc_thread_expected.proofs.Spots.{none_some, same_some}
+use Rattle.cyc_thread_expected.specs.Lead.{Lead}
+use Rattle.cyc_thread_expected.specs.Seated.{Seated}
+use Rattle.cyc_thread_expected.specs.Rings.{seats_of_ends, firing_seats}
+use Rattle.cyc_thread_expected.specs.Named.{Named}
+use Rattle.cyc_thread_expected.specs.Named.TheVariants.{Nothing}
+use Rattle.cyc_thread_expected.specs.Progress.{Progress}
+use Rattle.cyc_thread_expected.specs.ThreadStepsNamed.{named_at, id_of, is_leaving}
+use Rattle.cyc_thread_expected.specs.Running.{IsAtFirst, most}
 use Rattle.cyc_calm.specs.Way.{Absent}
 use Rattle.cyc_calm.proofs.Fitting.{Is, Fits}
 use Rattle.cyc_calm.proofs.Waiting.{IsCalmNow}

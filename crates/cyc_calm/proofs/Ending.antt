@@ -16,24 +16,24 @@ use Rattle.cyc_fire.specs.declared.fire.Fired.{Fired}
 use Rattle.cyc_fire.specs.declared.fire.FireRefused.{FireRefused}
 use Rattle.cyc_cpu.specs.Cpu.{CpuView, running}
 use Rattle.cyc_places.specs.Places.{HasNoRecord}
-use Rattle.cyc_agreement.proofs.Refusing.{not_when, passes}
-use Rattle.cyc_agreement.proofs.Spots.{none_some, get_some}
-use Rattle.cyc_system.specs.System.{SystemView, removal_on, is_unknown}
-use Rattle.cyc_system.specs.SystemRemoval.{SystemRemoval}
-use Rattle.cyc_system.specs.SystemRemoval.TheVariants.{Done, Kept}
-use Rattle.cyc_system.specs.Removing.{unknown_cyclic, busy_on_each, cpus_with}
-use Rattle.cyc_system.specs.Calls.{Changes, BeginRemove}
-use Rattle.cyc_system_workers.specs.declared.side.SystemSide.{SystemSide}
-use Rattle.cyc_system_workers.specs.declared.advancing.Advanced.{Advanced}
-use Rattle.cyc_system_workers.specs.Advancing.{AllFire, FiresIf}
-use Rattle.cyc_thread_steps.specs.declared.named.Named.{Named}
-use Rattle.cyc_thread_steps.specs.declared.named.Named.TheVariants.{Nothing, Cyclic, Leaving, Removed}
-use Rattle.cyc_thread_steps.specs.declared.progress.Progress.{Progress}
-use Rattle.cyc_thread_steps.specs.Calls.{CallsFor, Fires}
-use Rattle.cyc_thread_steps.specs.Named.{named_at, id_of, is_leaving, NoneLeaves}
-use Rattle.cyc_thread_steps.specs.Words.{WithId}
-use Rattle.cyc_thread_calls.specs.Leading.{call_with}
-use Rattle.cyc_thread_calls.specs.Meeting.{is_taken as is_done}
+use Rattle.cyc_thread_expected.proofs.Refusing.{not_when, passes}
+use Rattle.cyc_thread_expected.proofs.Spots.{none_some, get_some}
+use Rattle.cyc_thread_expected.specs.System.{SystemView, removal_on, is_unknown}
+use Rattle.cyc_thread_expected.specs.SystemRemoval.{SystemRemoval}
+use Rattle.cyc_thread_expected.specs.SystemRemoval.TheVariants.{Done, Kept}
+use Rattle.cyc_thread_expected.specs.Removing.{unknown_cyclic, busy_on_each, cpus_with}
+use Rattle.cyc_thread_expected.specs.Calls.{Changes, BeginRemove}
+use Rattle.cyc_thread_expected.specs.SystemSide.{SystemSide}
+use Rattle.cyc_thread_expected.specs.Advanced.{Advanced}
+use Rattle.cyc_thread_expected.specs.Advancing.{AllFire, FiresIf}
+use Rattle.cyc_thread_expected.specs.Named.{Named}
+use Rattle.cyc_thread_expected.specs.Named.TheVariants.{Nothing, Cyclic, Leaving, Removed}
+use Rattle.cyc_thread_expected.specs.Progress.{Progress}
+use Rattle.cyc_thread_expected.specs.ThreadStepsCalls.{CallsFor, Fires}
+use Rattle.cyc_thread_expected.specs.ThreadStepsNamed.{named_at, id_of, is_leaving, NoneLeaves}
+use Rattle.cyc_thread_expected.specs.Words.{WithId}
+use Rattle.cyc_thread_expected.specs.Leading.{call_with}
+use Rattle.cyc_thread_expected.specs.Meeting.{is_taken as is_done}
 use Rattle.cyc_calm.specs.Way.{Standing, Absent, OnOne, OnAll, is_here, with_standing}
 use Rattle.cyc_calm.proofs.Keeping.{AllStill, begun_given}
 use Rattle.cyc_calm.proofs.Fitting.{Is, IsThere, Fits, fits_set, standing_here, standing_beside, name_low, is_kept}

@@ -14,20 +14,20 @@ use Rattle.cyc_places.specs.declared.record.Place.{Place}
 use Rattle.cyc_places.specs.declared.record.Record.{Record}
 use Rattle.cyc_places.specs.Places.{HasRisingIds, HasNoRecord, is_everywhere, new_record}
 use Rattle.cyc_types.specs.declared.level.Level.{Level}
-use Rattle.cyc_agreement.proofs.Lists.{true_eq, false_ne}
-use Rattle.cyc_agreement.proofs.Spots.{get_last, none_some}
-use Rattle.cyc_agreement.proofs.Recording.{found, record_here}
-use Rattle.cyc_system.specs.System.{SystemView, record_of, is_unknown, is_omnipresent}
-use Rattle.cyc_system.specs.Calls.{SystemCall, Changes}
-use Rattle.cyc_system_laws.proofs.Pieces.{made_of}
-use Rattle.cyc_system_counts.specs.Keeping.{TouchesRecord}
-use Rattle.cyc_system_counts.proofs.Looked.{look_kept}
-use Rattle.cyc_system_rings.proofs.Raising.{changes_long}
-use Rattle.cyc_thread_steps.specs.declared.named.Named.{Named}
-use Rattle.cyc_thread_steps.specs.declared.named.Named.TheVariants.{Nothing, Cyclic, Leaving, Removed}
-use Rattle.cyc_thread_steps.specs.declared.progress.Progress.{Progress}
-use Rattle.cyc_thread_steps.specs.Calls.{CallsFor, IsReady}
-use Rattle.cyc_thread_steps.specs.Named.{named_at, id_of}
+use Rattle.cyc_thread_expected.proofs.Lists.{true_eq, false_ne}
+use Rattle.cyc_thread_expected.proofs.Spots.{get_last, none_some}
+use Rattle.cyc_thread_expected.proofs.Recording.{found, record_here}
+use Rattle.cyc_thread_expected.specs.System.{SystemView, record_of, is_unknown, is_omnipresent}
+use Rattle.cyc_thread_expected.specs.Calls.{SystemCall, Changes}
+use Rattle.cyc_thread_expected.proofs.Pieces.{made_of}
+use Rattle.cyc_thread_expected.specs.Keeping.{TouchesRecord}
+use Rattle.cyc_thread_expected.proofs.Looked.{look_kept}
+use Rattle.cyc_thread_expected.proofs.Raising.{changes_long}
+use Rattle.cyc_thread_expected.specs.Named.{Named}
+use Rattle.cyc_thread_expected.specs.Named.TheVariants.{Nothing, Cyclic, Leaving, Removed}
+use Rattle.cyc_thread_expected.specs.Progress.{Progress}
+use Rattle.cyc_thread_expected.specs.ThreadStepsCalls.{CallsFor, IsReady}
+use Rattle.cyc_thread_expected.specs.ThreadStepsNamed.{named_at, id_of}
 use Rattle.cyc_calm.specs.Way.{Standing, Absent, OnOne, OnAll, with_standing}
 
 -- ---- the names

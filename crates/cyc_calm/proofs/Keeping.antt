@@ -20,21 +20,21 @@ use Rattle.cyc_cpus.specs.Cpus.{CpusView, IsCpu, CallOn, on, ChangesAt, Works, o
 use Rattle.cyc_cpus.specs.Reserving.{rooms, reserves, ReservesEach}
 use Rattle.cyc_cpus.specs.Shifting.{WhyNotShifted, moving}
 use Rattle.cyc_cpus.proofs.Spots.{one_cpu, cpu_there, cpu_beside}
-use Rattle.cyc_removing.proofs.Folds.{folds_keep}
-use Rattle.cyc_system.specs.System.{SystemView}
+use Rattle.cyc_thread_expected.proofs.Folds.{folds_keep}
+use Rattle.cyc_thread_expected.specs.System.{SystemView}
 use Rattle.cyc_types.specs.Series.{first}
-use Rattle.cyc_system.specs.Adding.{Adds, entering}
-use Rattle.cyc_system.specs.Binding.{GoesTo, Binds}
-use Rattle.cyc_system.specs.SystemRemoval.{SystemRemoval}
-use Rattle.cyc_system.specs.SystemRemoval.TheVariants as over
-use Rattle.cyc_system.specs.Removing.{Begun, BeginsOn, BeginsEach, Removes}
-use Rattle.cyc_system.specs.Polling.{Polled, PollsOn, PollsEach, Polls}
-use Rattle.cyc_system.specs.Turn.{Turn}
-use Rattle.cyc_system.specs.Turn.TheVariants.{StaysBound, StaysPending, StaysRefused, Moves}
-use Rattle.cyc_system.specs.Juggling.{TakesTurn, Turns, single_ids}
-use Rattle.cyc_system.specs.Omni.{AddsOmni, entering_each}
-use Rattle.cyc_system.specs.Calls.{SystemCall, Changes, Add, AddOmni, Bind, BeginRemove, PollRemove, Reprogram, ReprogramOn}
-use Rattle.cyc_system.specs.Calls.{Juggle}
+use Rattle.cyc_thread_expected.specs.Adding.{Adds, entering}
+use Rattle.cyc_thread_expected.specs.Binding.{GoesTo, Binds}
+use Rattle.cyc_thread_expected.specs.SystemRemoval.{SystemRemoval}
+use Rattle.cyc_thread_expected.specs.SystemRemoval.TheVariants as over
+use Rattle.cyc_thread_expected.specs.Removing.{Begun, BeginsOn, BeginsEach, Removes}
+use Rattle.cyc_thread_expected.specs.Polling.{Polled, PollsOn, PollsEach, Polls}
+use Rattle.cyc_thread_expected.specs.Turn.{Turn}
+use Rattle.cyc_thread_expected.specs.Turn.TheVariants.{StaysBound, StaysPending, StaysRefused, Moves}
+use Rattle.cyc_thread_expected.specs.Juggling.{TakesTurn, Turns, single_ids}
+use Rattle.cyc_thread_expected.specs.Omni.{AddsOmni, entering_each}
+use Rattle.cyc_thread_expected.specs.Calls.{SystemCall, Changes, Add, AddOmni, Bind, BeginRemove, PollRemove, Reprogram, ReprogramOn}
+use Rattle.cyc_thread_expected.specs.Calls.{Juggle}
 
 -- no removal is open on any CPU
 abbrev pub AllStill : {R : Type 0} → CpusView R → Type 0

@@ -16,21 +16,21 @@ use Rattle.cyc_cpu.specs.Cpu.{CpuView}
 use Rattle.cyc_places.specs.declared.record.Record.{Record}
 use Rattle.cyc_places.specs.Places.{is_everywhere}
 use Rattle.cyc_cpus.specs.Cpus.{CpusView}
-use Rattle.cyc_agreement.proofs.Lists.{any_none, eq_true}
-use Rattle.cyc_agreement.proofs.Refusing.{not_when, is_when, passes, stops, not_le, le_true}
-use Rattle.cyc_agreement.proofs.Spots.{none_some, same_some}
-use Rattle.cyc_system.specs.System.{SystemView, has as has_on, removal_on, is_online, is_leaving_here}
-use Rattle.cyc_system.specs.System.{is_leaving as is_leaving_id}
-use Rattle.cyc_system.specs.System.{is_unknown, is_omnipresent, record_of}
-use Rattle.cyc_system.specs.Refusals.{no_cyclic, omnipresent, no_cpu, offline_cpu, no_component}
-use Rattle.cyc_system.specs.Online.{online_cpu}
-use Rattle.cyc_system.specs.Calls.{SystemCall, Changes, Bind, Reprogram, ReprogramOn, Juggle, Online}
-use Rattle.cyc_system_counts.specs.Keeping.{TouchesRecord}
-use Rattle.cyc_system_counts.specs.Sound.{IsSound}
-use Rattle.cyc_thread_steps.specs.declared.progress.Progress.{Progress}
-use Rattle.cyc_thread_steps.specs.Calls.{CallsFor}
-use Rattle.cyc_thread_steps.specs.Named.{NoneLeaves}
-use Rattle.cyc_thread_steps.specs.Words.{WithId, reprograms}
+use Rattle.cyc_thread_expected.proofs.Lists.{any_none, eq_true}
+use Rattle.cyc_thread_expected.proofs.Refusing.{not_when, is_when, passes, stops, not_le, le_true}
+use Rattle.cyc_thread_expected.proofs.Spots.{none_some, same_some}
+use Rattle.cyc_thread_expected.specs.System.{SystemView, has as has_on, removal_on, is_online, is_leaving_here}
+use Rattle.cyc_thread_expected.specs.System.{is_leaving as is_leaving_id}
+use Rattle.cyc_thread_expected.specs.System.{is_unknown, is_omnipresent, record_of}
+use Rattle.cyc_thread_expected.specs.Refusals.{no_cyclic, omnipresent, no_cpu, offline_cpu, no_component}
+use Rattle.cyc_thread_expected.specs.Online.{online_cpu}
+use Rattle.cyc_thread_expected.specs.Calls.{SystemCall, Changes, Bind, Reprogram, ReprogramOn, Juggle, Online}
+use Rattle.cyc_thread_expected.specs.Keeping.{TouchesRecord}
+use Rattle.cyc_thread_expected.specs.Sound.{IsSound}
+use Rattle.cyc_thread_expected.specs.Progress.{Progress}
+use Rattle.cyc_thread_expected.specs.ThreadStepsCalls.{CallsFor}
+use Rattle.cyc_thread_expected.specs.ThreadStepsNamed.{NoneLeaves}
+use Rattle.cyc_thread_expected.specs.Words.{WithId, reprograms}
 use Rattle.cyc_calm.specs.Way.{Standing}
 use Rattle.cyc_calm.proofs.Keeping.{AllStill, IsMove, keeps_call, last_move, quiet_move}
 use Rattle.cyc_calm.proofs.Fitting.{IsThere, Fits, fits_same}

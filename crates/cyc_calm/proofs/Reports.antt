@@ -11,13 +11,13 @@ use Rattle.cyc_text.specs.declared.lines.Counts.{Counts}
 use Rattle.cyc_text.specs.Lines.{reported}
 use Rattle.cyc_script.specs.declared.script.Script.{Script}
 use Rattle.cyc_expected.specs.Expected.{Met, expected}
-use Rattle.cyc_thread_steps.specs.declared.progress.Progress.{Progress}
-use Rattle.cyc_thread_steps.specs.declared.reporting.Line.{Line}
-use Rattle.cyc_thread_steps.specs.Reporting.{Told, Reports}
-use Rattle.cyc_threads.specs.Reporting.{counts_of, report_text}
-use Rattle.cyc_threads.specs.declared.running.Ended.{Ended}
-use Rattle.cyc_threads.specs.Running.{HasRun}
-use Rattle.cyc_thread_calls.specs.Meeting.{way_of}
+use Rattle.cyc_thread_expected.specs.Progress.{Progress}
+use Rattle.cyc_thread_expected.specs.Line.{Line}
+use Rattle.cyc_thread_expected.specs.Reporting.{Told, Reports}
+use Rattle.cyc_thread_expected.specs.ThreadsReporting.{counts_of, report_text}
+use Rattle.cyc_thread_expected.specs.Ended.{Ended}
+use Rattle.cyc_thread_expected.specs.Running.{HasRun}
+use Rattle.cyc_thread_expected.specs.Meeting.{way_of}
 use Rattle.cyc_thread_expected.specs.Reported.{IsReported}
 use Rattle.cyc_thread_expected.proofs.Lined.{is_reported}
 use Rattle.cyc_calm.specs.Calm.{IsCalm}

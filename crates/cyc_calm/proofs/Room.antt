@@ -12,26 +12,26 @@ use Rattle.cyc_types.specs.declared.level.Level.{Level}
 use Rattle.cyc_types.specs.declared.moment.When.{When}
 use Rattle.cyc_types.specs.declared.refusal.Refusal.{Refusal}
 use Rattle.cyc_types.specs.declared.refusal.Refusal.TheVariants as why
-use Rattle.cyc_timers.specs.Rows.{Cyclic}
+use Rattle.cyc_thread_expected.specs.Rows.{Cyclic}
 use Rattle.cyc_model.specs.Refusals.{first_refusal, bad_now}
 use Rattle.cyc_cpu.specs.Cpu.{CpuView, HasRisingIds, running}
 use Rattle.cyc_cpu.specs.Moving.{IsSettled}
 use Rattle.cyc_cpu.specs.Calls.{Changes as CpuChanges, AskRoom, Reserve, no_interrupts}
-use Rattle.cyc_cpu_laws.specs.Settled.{IsUntil}
-use Rattle.cyc_cpu_laws.proofs.Staying.{settled_one, never_put_off}
+use Rattle.cyc_thread_expected.specs.CpuLawsSettled.{IsUntil}
+use Rattle.cyc_thread_expected.proofs.Staying.{settled_one, never_put_off}
 use Rattle.cyc_places.specs.declared.record.Record.{Record}
 use Rattle.cyc_places.specs.Places.{HasNoRecord}
 use Rattle.cyc_cpus.specs.Cpus.{CpusView, IsCpu, on, ChangesAt, Works}
 use Rattle.cyc_cpus.specs.Reserving.{rooms}
 use Rattle.cyc_cpus.proofs.Spots.{one_cpu, cpu_there, cpu_beside}
-use Rattle.cyc_agreement.proofs.Presence.{has_here}
-use Rattle.cyc_agreement.proofs.Refusing.{passes, not_never, not_spent}
-use Rattle.cyc_agreement.proofs.Spots.{none_some}
-use Rattle.cyc_system.specs.System.{SystemView}
-use Rattle.cyc_system.specs.Refusals.{ids_spent}
-use Rattle.cyc_system.specs.Calls.{Changes, Add, AddOmni}
-use Rattle.cyc_system_laws.proofs.Settles.{refused_here}
-use Rattle.cyc_system_counts.specs.Sound.{IsSound}
+use Rattle.cyc_thread_expected.proofs.Presence.{has_here}
+use Rattle.cyc_thread_expected.proofs.Refusing.{passes, not_never, not_spent}
+use Rattle.cyc_thread_expected.proofs.Spots.{none_some}
+use Rattle.cyc_thread_expected.specs.System.{SystemView}
+use Rattle.cyc_thread_expected.specs.Refusals.{ids_spent}
+use Rattle.cyc_thread_expected.specs.Calls.{Changes, Add, AddOmni}
+use Rattle.cyc_thread_expected.proofs.Settles.{refused_here}
+use Rattle.cyc_thread_expected.specs.Sound.{IsSound}
 
 -- ids that rise from above 0 are above their places
 ids_high : (cs : List Cyclic) → HasRisingIds cs → ((j : ℕ) (d : Cyclic) → j < length cs → 0 < (get_or cs j d).timer.id)

@@ -4,7 +4,7 @@ use Rattle.std.proofs.Common.{arith}
 use Rattle.cyc_script.specs.declared.script.Script.{Script}
 use Rattle.cyc_script.specs.declared.step.Step.{Step}
 use Rattle.cyc_script.specs.declared.step.Step.TheVariants as steps
-use Rattle.cyc_agreement.proofs.Spots.{same_some}
+use Rattle.cyc_thread_expected.proofs.Spots.{same_some}
 use Rattle.cyc_calm.specs.Calm.{IsStep, Parts, AreParted, IsCalm}
 use Rattle.cyc_calm.proofs.Agreeing.{Spaced}
 

@@ -19,17 +19,17 @@ use Rattle.cyc_script.specs.declared.step.Step.TheVariants as steps
 use Rattle.cyc_script.specs.WellFormed.{names_after}
 use Rattle.cyc_expected.specs.Calm.{OnlyMoves}
 use Rattle.cyc_places.specs.declared.record.Place.TheVariants.{On, Everywhere}
-use Rattle.cyc_agreement.proofs.Spots.{same_some}
-use Rattle.cyc_system.specs.Calls.{SystemCall, Changes, Add, AddOmni}
-use Rattle.cyc_system_counts.specs.Keeping.{TouchesRecord}
-use Rattle.cyc_thread_steps.specs.declared.named.Named.{Named}
-use Rattle.cyc_thread_steps.specs.declared.named.Named.TheVariants.{Cyclic}
-use Rattle.cyc_thread_steps.specs.declared.progress.Progress.{Progress}
-use Rattle.cyc_thread_steps.specs.Calls.{CallsFor}
-use Rattle.cyc_thread_steps.specs.Named.{named_at, is_leaving, NoneLeaves}
-use Rattle.cyc_thread_steps.specs.Words.{Does}
-use Rattle.cyc_thread_calls.specs.Leading.{call_of, calls_in}
-use Rattle.cyc_thread_calls.specs.Meeting.{accepted}
+use Rattle.cyc_thread_expected.proofs.Spots.{same_some}
+use Rattle.cyc_thread_expected.specs.Calls.{SystemCall, Changes, Add, AddOmni}
+use Rattle.cyc_thread_expected.specs.Keeping.{TouchesRecord}
+use Rattle.cyc_thread_expected.specs.Named.{Named}
+use Rattle.cyc_thread_expected.specs.Named.TheVariants.{Cyclic}
+use Rattle.cyc_thread_expected.specs.Progress.{Progress}
+use Rattle.cyc_thread_expected.specs.ThreadStepsCalls.{CallsFor}
+use Rattle.cyc_thread_expected.specs.ThreadStepsNamed.{named_at, is_leaving, NoneLeaves}
+use Rattle.cyc_thread_expected.specs.Words.{Does}
+use Rattle.cyc_thread_expected.specs.Leading.{call_of, calls_in}
+use Rattle.cyc_thread_expected.specs.Meeting.{accepted}
 use Rattle.cyc_calm.specs.Way.{Standing, OnOne, OnAll, is_series, is_moment, is_taken, after_step}
 use Rattle.cyc_calm.specs.Way.{with_standing}
 use Rattle.cyc_calm.specs.Memory.{NoMemoryRefused}

@@ -8,15 +8,15 @@ use Rattle.cyc_types.specs.Series.{never}
 use Rattle.cyc_types.specs.declared.receipt.Receipt.{Receipt}
 use Rattle.cyc_types.specs.declared.refusal.Refusal.{Refusal}
 use Rattle.cyc_places.specs.Places.{HasNoRecord}
-use Rattle.cyc_cpu_workers.specs.Settled.{AllSettled}
-use Rattle.cyc_system.specs.System.{SystemView}
-use Rattle.cyc_system.specs.Calls.{PollRemove}
-use Rattle.cyc_system_counts.specs.Sound.{IsSound}
-use Rattle.cyc_thread_steps.specs.declared.named.Named.{Named}
-use Rattle.cyc_thread_steps.specs.declared.named.Named.TheVariants.{Leaving, Removed}
-use Rattle.cyc_thread_steps.specs.declared.progress.Progress.{Progress}
-use Rattle.cyc_thread_steps.specs.Calls.{CallsFor, Poll, Polls, Settles, Waits}
-use Rattle.cyc_thread_steps.specs.Named.{named_at, id_of, NoneLeaves}
+use Rattle.cyc_thread_expected.specs.Settled.{AllSettled}
+use Rattle.cyc_thread_expected.specs.System.{SystemView}
+use Rattle.cyc_thread_expected.specs.Calls.{PollRemove}
+use Rattle.cyc_thread_expected.specs.Sound.{IsSound}
+use Rattle.cyc_thread_expected.specs.Named.{Named}
+use Rattle.cyc_thread_expected.specs.Named.TheVariants.{Leaving, Removed}
+use Rattle.cyc_thread_expected.specs.Progress.{Progress}
+use Rattle.cyc_thread_expected.specs.ThreadStepsCalls.{CallsFor, Poll, Polls, Settles, Waits}
+use Rattle.cyc_thread_expected.specs.ThreadStepsNamed.{named_at, id_of, NoneLeaves}
 use Rattle.cyc_calm.specs.Way.{Standing, Absent, OnOne, OnAll}
 use Rattle.cyc_calm.proofs.Keeping.{AllStill, polled_given}
 use Rattle.cyc_calm.proofs.Room.{few_cyclics, AllHaveRoom}

@@ -11,13 +11,13 @@ use Rattle.cyc_script.specs.declared.step.Step.{Step}
 use Rattle.cyc_script.specs.declared.step.Step.TheVariants as steps
 use Rattle.cyc_script.specs.WellFormed.{names_fit, names_after_all, moments_fit}
 use Rattle.cyc_expected.specs.Calm.{AgreeButMoves}
-use Rattle.cyc_agreement.proofs.Lists.{eq_true}
-use Rattle.cyc_thread_steps.specs.declared.progress.Progress.{Progress}
-use Rattle.cyc_thread_steps.specs.Named.{named_at, id_of}
-use Rattle.cyc_thread_steps.specs.Words.{Does}
-use Rattle.cyc_thread_steps.specs.Steps.{TakesSteps, Runs}
-use Rattle.cyc_thread_calls.specs.Leading.{call_of, calls_in, wait_calls, step_calls, steps_calls, run_calls}
-use Rattle.cyc_thread_calls.specs.Meeting.{steps_met, way_of}
+use Rattle.cyc_thread_expected.proofs.Lists.{eq_true}
+use Rattle.cyc_thread_expected.specs.Progress.{Progress}
+use Rattle.cyc_thread_expected.specs.ThreadStepsNamed.{named_at, id_of}
+use Rattle.cyc_thread_expected.specs.Words.{Does}
+use Rattle.cyc_thread_expected.specs.Steps.{TakesSteps, Runs}
+use Rattle.cyc_thread_expected.specs.Leading.{call_of, calls_in, wait_calls, step_calls, steps_calls, run_calls}
+use Rattle.cyc_thread_expected.specs.Meeting.{steps_met, way_of}
 use Rattle.cyc_calm.specs.Way.{Standing, Absent, is_taken, after_step, taken_from, calm_way}
 use Rattle.cyc_calm.specs.Memory.{NoMemoryRefused}
 use Rattle.cyc_calm.proofs.Fitting.{Fits}

@@ -8,7 +8,7 @@ use Rattle.cyc_script.specs.declared.step.Step.{Step}
 use Rattle.cyc_script.specs.declared.step.Step.TheVariants.{Add, Remove, Advance, Juggle, Offline, Online}
 use Rattle.cyc_model.proofs.Steps.{add, omni, reprogram, reprogram_on}
 use Rattle.cyc_expected.specs.Expected.{Met, expected}
-use Rattle.cyc_agreement.proofs.Spots.{same_some}
+use Rattle.cyc_thread_expected.proofs.Spots.{same_some}
 use Rattle.cyc_calm.specs.Calm.{IsStep, Parts, AreParted, AreCalm}
 use Rattle.cyc_text.specs.Lines.{reported}
 use Rattle.cyc_calm.specs.Way.{calm_way}

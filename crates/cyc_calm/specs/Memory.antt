@@ -1,8 +1,8 @@
 -- A run without refused memory.
 use Rattle.std.specs.Prelude.{◌≢◌, ⊤, List, [], ◌∷◌, Err}
 use Rattle.cyc_types.specs.declared.refusal.Refusal.TheVariants.{Memory}
-use Rattle.cyc_system.specs.Calls.{SystemCall, Add, AddOmni, Bind, Online}
-use Rattle.cyc_system_rings.specs.Leading.{LeadCall, Make}
+use Rattle.cyc_thread_expected.specs.Calls.{SystemCall, Add, AddOmni, Bind, Online}
+use Rattle.cyc_thread_expected.specs.SystemRingsLeading.{LeadCall, Make}
 
 -- memory was not refused to the call: of those of a script only these ask for it, beside the single moves of a juggle
 abbrev pub IsGivenMemory : SystemCall → Type 0

@@ -3,10 +3,10 @@ use Rattle.std.specs.Prelude.{ℕ, List}
 use Rattle.cyc_types.specs.declared.level.Level.{Level}
 use Rattle.cyc_ring.specs.Ends.{end_view, RaiseEndCall}
 use Rattle.cyc_script.specs.declared.script.Script.{Script}
-use Rattle.cyc_system_rings.specs.Leading.{LeadCall}
-use Rattle.cyc_threads.specs.declared.running.Ended.{Ended}
-use Rattle.cyc_threads.specs.Running.{HasRun}
-use Rattle.cyc_thread_calls.specs.Leading.{run_calls}
+use Rattle.cyc_thread_expected.specs.SystemRingsLeading.{LeadCall}
+use Rattle.cyc_thread_expected.specs.Ended.{Ended}
+use Rattle.cyc_thread_expected.specs.Running.{HasRun}
+use Rattle.cyc_thread_expected.specs.Leading.{run_calls}
 
 module _ {C : Type 0} (called : C → ℕ → Level → C → Type 0) (count : C → ℕ → ℕ) (may_refuse : C → ℕ → Type 0)
     (script : Script) (calls : List C) (e : Ended C) (text : List ℕ)

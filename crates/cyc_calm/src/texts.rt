@@ -2,8 +2,8 @@
 
 ghost use Rattle.std.specs.Prelude.{◌≡◌, ℕ, List};
 ghost use Rattle.cyc_script.specs.declared.script.Script.{Script as AnyScript};
-ghost use Rattle.cyc_threads.specs.declared.running.Ended.{Ended as AnyEnd};
-ghost use Rattle.cyc_threads.specs.Running.{HasRun};
+ghost use Rattle.cyc_thread_expected.specs.Ended.{Ended as AnyEnd};
+ghost use Rattle.cyc_thread_expected.specs.Running.{HasRun};
 ghost use Rattle.cyc_calm.specs.Calm.{IsCalm};
 ghost use Rattle.cyc_calm.specs.Memory.{NoMemoryRefused};
 ghost use Rattle.cyc_calm.specs.Runs.{calls_of_run};

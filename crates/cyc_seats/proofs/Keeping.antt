@@ -12,13 +12,13 @@ use Rattle.cyc_ring.specs.Ends.{end_view, RaiseEndCall}
 use Rattle.cyc_ring.proofs.Ways.{raise_ways}
 use Rattle.cyc_cpu.specs.Cpu.{CpuView, Running, running}
 use Rattle.cyc_cpu.specs.Calls.{CpuCall, Changes, Does, Fire, AskSettled, no_interrupts}
-use Rattle.cyc_cpu_laws.proofs.Stills.{changes_still}
+use Rattle.cyc_system_laws.proofs.Stills.{changes_still}
 use Rattle.cyc_cpus.specs.Cpus.{CpusView, ChangesAt}
-use Rattle.cyc_workers.specs.Settling.{Asks}
-use Rattle.cyc_cpu_workers.specs.Settled.{AllAsked}
-use Rattle.cyc_system.specs.System.{SystemView}
-use Rattle.cyc_system.specs.Splitting.{EachTwo}
-use Rattle.cyc_system.specs.Calls.{SystemCall, Changes as SystemChanges}
+use Rattle.cyc_system_workers.specs.WorkersSettling.{Asks}
+use Rattle.cyc_system_workers.specs.Settled.{AllAsked}
+use Rattle.cyc_system_workers.specs.System.{SystemView}
+use Rattle.cyc_system_workers.specs.Splitting.{EachTwo}
+use Rattle.cyc_system_workers.specs.Calls.{SystemCall, Changes as SystemChanges}
 use Rattle.cyc_system_laws.specs.Parts.{CpusCall, OnCpu, SetOnline, DoesPart}
 use Rattle.cyc_system_laws.proofs.Pieces.{made_of}
 use Rattle.cyc_system_workers.specs.declared.side.SystemSide.{SystemSide}

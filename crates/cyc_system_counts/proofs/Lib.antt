@@ -5,3 +5,16 @@ pub mod Found
 pub mod Counts
 pub mod Looked
 pub mod Kept
+pub use Rattle.cyc_agreement.proofs.Lists
+pub use Rattle.cyc_agreement.proofs.Spots
+pub use Rattle.cyc_agreement.proofs.Who
+pub use Rattle.cyc_agreement.proofs.Recording
+pub use Rattle.cyc_removing.proofs.Sums
+pub use Rattle.cyc_removing.proofs.Receipts
+pub use Rattle.cyc_removing.proofs.Folds
+pub use Rattle.cyc_removing.proofs.Others
+pub use Rattle.cyc_removing.proofs.Where
+pub use Rattle.cyc_removing.proofs.One
+pub use Rattle.cyc_agreement.proofs.Presence
+pub use Rattle.cyc_removing.proofs.Forgetting
+pub use Rattle.cyc_removing.proofs.Answering

@@ -1,2 +1,12 @@
 pub mod Sound
 pub mod Keeping
+pub use Rattle.cyc_removing.specs.Counts
+pub use Rattle.cyc_agreement.specs.System
+pub use Rattle.cyc_system.specs.Calls
+pub use Rattle.cyc_removing.specs.declared.removing.SystemRemoval
+pub use Rattle.cyc_removing.specs.Laws
+pub use Rattle.cyc_removing.specs.Removing
+pub use Rattle.cyc_removing.specs.Polling
+pub use Rattle.cyc_removing.specs.Counting
+pub use Rattle.cyc_system.specs.declared.interrupting.SoftFault
+pub use Rattle.cyc_removing.specs.declared.totals.SystemTotals

@@ -21,23 +21,23 @@ use Rattle.cyc_places.specs.declared.record.Record.{Record}
 use Rattle.cyc_places.specs.Places.{IsRecord}
 use Rattle.cyc_cpus.specs.Cpus.{CpusView, CallOn, DoesAt}
 use Rattle.cyc_cpus.proofs.Spots.{get_set_other}
-use Rattle.cyc_agreement.proofs.Lists.{among, any_at, eq_true, true_eq, false_ne}
-use Rattle.cyc_agreement.proofs.Recording.{found}
-use Rattle.cyc_agreement.proofs.Removals.{IsSteady, removals_kept}
-use Rattle.cyc_agreement.proofs.Spots.{none_some, same_some}
-use Rattle.cyc_agreement.proofs.Who.{kept_at}
-use Rattle.cyc_removing.proofs.Folds.{find_set, find_remove, folds_keep}
-use Rattle.cyc_removing.proofs.Others.{at_place}
-use Rattle.cyc_system.specs.System.{SystemView, has, ids_on, removal_on, is_omnipresent}
-use Rattle.cyc_system.specs.Juggling.{single_ids}
-use Rattle.cyc_system.specs.Laws.{cyclic_in, cyclic_on}
-use Rattle.cyc_system.specs.Removing.{Begun, BeginsOn, BeginsRemoval}
-use Rattle.cyc_system.specs.Polling.{Polled, PollsOn, PollsRemoval}
-use Rattle.cyc_system.specs.SystemRemoval.{SystemRemoval}
-use Rattle.cyc_system.specs.SystemRemoval.TheVariants as over
-use Rattle.cyc_system.specs.Calls.{SystemCall, Changes, Add, AddOmni, Bind, BeginRemove, PollRemove, AskTotals, Reprogram}
-use Rattle.cyc_system.specs.Calls.{ReprogramOn, Juggle, Offline, Online, FireOne, SoftInterrupt}
-use Rattle.cyc_system_counts.proofs.Idle.{IsIdle}
+use Rattle.cyc_system_rings.proofs.Lists.{among, any_at, eq_true, true_eq, false_ne}
+use Rattle.cyc_system_rings.proofs.Recording.{found}
+use Rattle.cyc_system_rings.proofs.Removals.{IsSteady, removals_kept}
+use Rattle.cyc_system_rings.proofs.Spots.{none_some, same_some}
+use Rattle.cyc_system_rings.proofs.Who.{kept_at}
+use Rattle.cyc_system_rings.proofs.Folds.{find_set, find_remove, folds_keep}
+use Rattle.cyc_system_rings.proofs.Others.{at_place}
+use Rattle.cyc_system_rings.specs.System.{SystemView, has, ids_on, removal_on, is_omnipresent}
+use Rattle.cyc_juggling.specs.Juggling.{single_ids}
+use Rattle.cyc_system_rings.specs.Laws.{cyclic_in, cyclic_on}
+use Rattle.cyc_system_rings.specs.Removing.{Begun, BeginsOn, BeginsRemoval}
+use Rattle.cyc_system_rings.specs.Polling.{Polled, PollsOn, PollsRemoval}
+use Rattle.cyc_system_rings.specs.SystemRemoval.{SystemRemoval}
+use Rattle.cyc_system_rings.specs.SystemRemoval.TheVariants as over
+use Rattle.cyc_system_rings.specs.Calls.{SystemCall, Changes, Add, AddOmni, Bind, BeginRemove, PollRemove, AskTotals, Reprogram}
+use Rattle.cyc_system_rings.specs.Calls.{ReprogramOn, Juggle, Offline, Online, FireOne, SoftInterrupt}
+use Rattle.cyc_system_rings.proofs.Idle.{IsIdle}
 use Rattle.cyc_system_expected.proofs.Walks.{May, Needs, Keeps, kept}
 
 -- ---- lists

@@ -23,33 +23,33 @@ use Rattle.cyc_places.specs.declared.record.Record.{Record}
 use Rattle.cyc_places.specs.declared.record.Place.TheVariants as stands
 use Rattle.cyc_places.specs.Places.{is_everywhere, new_record}
 use Rattle.cyc_cpus.specs.Cpus.{on, online_cpus, numbers_from}
-use Rattle.cyc_agreement.proofs.Lists.{true_eq}
-use Rattle.cyc_agreement.proofs.Spots.{none_some}
-use Rattle.cyc_agreement.proofs.Recording.{found, record_none}
-use Rattle.cyc_system.specs.System.{SystemView, is_omnipresent}
-use Rattle.cyc_system.specs.SystemRemoval.TheVariants.{Done, Kept}
-use Rattle.cyc_system.specs.Laws.{cyclic_in}
-use Rattle.cyc_system.specs.Counts.{all_expired}
-use Rattle.cyc_system.specs.Refusals.{no_cyclic, omnipresent}
-use Rattle.cyc_system.specs.Omni.{entering_each, component_first as cpu_first}
-use Rattle.cyc_system.specs.Online.{staying}
-use Rattle.cyc_system.specs.Calls.{SystemCall, Changes, Add, AddOmni, Bind, BeginRemove, PollRemove, AskTotals, Reprogram}
-use Rattle.cyc_system.specs.Calls.{ReprogramOn, Juggle, Offline, Online, FireOne, SoftInterrupt}
-use Rattle.cyc_system_workers.specs.declared.side.SystemSide.{SystemSide}
-use Rattle.cyc_system_workers.specs.declared.advancing.Advanced.{Advanced}
-use Rattle.cyc_system_workers.specs.Advancing.{AllFire}
-use Rattle.cyc_system_workers.specs.Settling.{OnlyAsked}
-use Rattle.cyc_system_laws.proofs.Pieces.{made_of}
+use Rattle.cyc_system_rings.proofs.Lists.{true_eq}
+use Rattle.cyc_system_rings.proofs.Spots.{none_some}
+use Rattle.cyc_system_rings.proofs.Recording.{found, record_none}
+use Rattle.cyc_system_rings.specs.System.{SystemView, is_omnipresent}
+use Rattle.cyc_system_rings.specs.SystemRemoval.TheVariants.{Done, Kept}
+use Rattle.cyc_system_rings.specs.Laws.{cyclic_in}
+use Rattle.cyc_system_rings.specs.Counts.{all_expired}
+use Rattle.cyc_system_rings.specs.Refusals.{no_cyclic, omnipresent}
+use Rattle.cyc_everywhere.specs.Omni.{entering_each, component_first as cpu_first}
+use Rattle.cyc_everywhere.specs.Online.{staying}
+use Rattle.cyc_system_rings.specs.Calls.{SystemCall, Changes, Add, AddOmni, Bind, BeginRemove, PollRemove, AskTotals, Reprogram}
+use Rattle.cyc_system_rings.specs.Calls.{ReprogramOn, Juggle, Offline, Online, FireOne, SoftInterrupt}
+use Rattle.cyc_system_rings.specs.SystemSide.{SystemSide}
+use Rattle.cyc_system_rings.specs.Advanced.{Advanced}
+use Rattle.cyc_system_rings.specs.Advancing.{AllFire}
+use Rattle.cyc_system_rings.specs.SystemWorkersSettling.{OnlyAsked}
+use Rattle.cyc_system_rings.proofs.Pieces.{made_of}
 use Rattle.cyc_expected.specs.Course.{component_first, components_from, due_of, next_of, Event, Begins, BeginsOnAll, IsSet}
 use Rattle.cyc_expected.specs.Course.{IsSetOn, Ends, Fires, Course, OnEach, Told, told_after, told_by}
-use Rattle.cyc_system_counts.specs.Sound.{IsSound}
-use Rattle.cyc_system_counts.specs.Keeping.{over_stays, EndsRemoval, TouchesStays, TouchesRecord}
-use Rattle.cyc_system_counts.proofs.Flow.{AllFixed, all_brought, all_taken, flows}
-use Rattle.cyc_system_counts.proofs.Idle.{idle_same, reserved_same}
-use Rattle.cyc_system_counts.proofs.Found.{stays_found}
-use Rattle.cyc_system_counts.proofs.Counts.{counts_same}
-use Rattle.cyc_system_counts.proofs.Kept.{stays_kept}
-use Rattle.cyc_system_counts.proofs.Looked.{look_kept}
+use Rattle.cyc_system_rings.specs.Sound.{IsSound}
+use Rattle.cyc_system_rings.specs.Keeping.{over_stays, EndsRemoval, TouchesStays, TouchesRecord}
+use Rattle.cyc_system_rings.proofs.Flow.{AllFixed, all_brought, all_taken, flows}
+use Rattle.cyc_system_rings.proofs.Idle.{idle_same, reserved_same}
+use Rattle.cyc_system_rings.proofs.Found.{stays_found}
+use Rattle.cyc_system_rings.proofs.Counts.{counts_same}
+use Rattle.cyc_system_rings.proofs.Kept.{stays_kept}
+use Rattle.cyc_system_rings.proofs.Looked.{look_kept}
 use Rattle.cyc_system_sums.proofs.Given.{no_counts_yet}
 use Rattle.cyc_system_rings.specs.Leading.{LeadCall, Make, FireAll, AskAll}
 use Rattle.cyc_system_expected.specs.Events.{given_everywhere, if_own, event_in, events_in, AllAccepted, AcceptedSteps}

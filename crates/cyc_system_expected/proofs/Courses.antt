@@ -9,18 +9,18 @@ use Rattle.cyc_types.specs.declared.level.Level.{Level}
 use Rattle.cyc_types.specs.declared.moment.When.{When}
 use Rattle.cyc_types.specs.declared.receipt.Receipt.{Receipt}
 use Rattle.cyc_types.specs.declared.refusal.Refusal.TheVariants.{NoCyclic}
-use Rattle.cyc_removing.proofs.Others.{begins_others, polls_others}
-use Rattle.cyc_removing.proofs.Where.{open_somewhere}
-use Rattle.cyc_system.specs.System.{SystemView, removal_on, is_leaving}
-use Rattle.cyc_system.specs.Laws.{IsUntouched}
-use Rattle.cyc_system.specs.Polling.{PollsRemoval, not_leaving}
-use Rattle.cyc_system.specs.SystemRemoval.TheVariants.{Done, Kept}
-use Rattle.cyc_system.specs.Calls.{SystemCall, Changes, Add, AddOmni, Bind, BeginRemove, PollRemove, AskTotals, Reprogram}
-use Rattle.cyc_system.specs.Calls.{ReprogramOn, Juggle, Offline, Online, FireOne, SoftInterrupt}
+use Rattle.cyc_system_rings.proofs.Others.{begins_others, polls_others}
+use Rattle.cyc_system_rings.proofs.Where.{open_somewhere}
+use Rattle.cyc_system_rings.specs.System.{SystemView, removal_on, is_leaving}
+use Rattle.cyc_system_rings.specs.Laws.{IsUntouched}
+use Rattle.cyc_system_rings.specs.Polling.{PollsRemoval, not_leaving}
+use Rattle.cyc_system_rings.specs.SystemRemoval.TheVariants.{Done, Kept}
+use Rattle.cyc_system_rings.specs.Calls.{SystemCall, Changes, Add, AddOmni, Bind, BeginRemove, PollRemove, AskTotals, Reprogram}
+use Rattle.cyc_system_rings.specs.Calls.{ReprogramOn, Juggle, Offline, Online, FireOne, SoftInterrupt}
 use Rattle.cyc_expected.specs.Course.{components_from, Event, Begins, BeginsOnAll, IsSet, IsSetOn, Ends, Passes}
 use Rattle.cyc_expected.specs.Course.{Course, Idle, Single, OnEach, Told, told_after}
-use Rattle.cyc_system_counts.specs.Sound.{IsSound}
-use Rattle.cyc_system_counts.specs.Keeping.{EndsRemoval}
+use Rattle.cyc_system_rings.specs.Sound.{IsSound}
+use Rattle.cyc_system_rings.specs.Keeping.{EndsRemoval}
 use Rattle.cyc_system_rings.specs.Leading.{Make}
 use Rattle.cyc_system_expected.specs.Events.{given_everywhere, event_in, KeepsIt}
 use Rattle.cyc_system_expected.proofs.Singles.{ok_err, IsSingle, single_added}

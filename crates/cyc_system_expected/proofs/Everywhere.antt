@@ -6,17 +6,17 @@ use native.Mathlib.Decide.{ℕ_discrete}
 use Rattle.cyc_types.specs.Firing.{FiringView, FiringCall}
 use Rattle.cyc_types.specs.declared.level.Level.{Level}
 use Rattle.cyc_types.specs.declared.moment.When.{When}
-use Rattle.cyc_removing.proofs.Others.{begins_others, polls_others}
-use Rattle.cyc_system.specs.System.{SystemView, is_omnipresent}
-use Rattle.cyc_system.specs.Laws.{IsUntouched}
+use Rattle.cyc_system_rings.proofs.Others.{begins_others, polls_others}
+use Rattle.cyc_system_rings.specs.System.{SystemView, is_omnipresent}
+use Rattle.cyc_system_rings.specs.Laws.{IsUntouched}
 use Rattle.std.specs.Option.{option_map_or, option_map}
-use Rattle.cyc_system.specs.SystemRemoval.TheVariants.{Done, Kept}
-use Rattle.cyc_system.specs.Calls.{SystemCall, Changes, Add, AddOmni, Bind, BeginRemove, PollRemove, AskTotals, Reprogram}
-use Rattle.cyc_system.specs.Calls.{ReprogramOn, Juggle, Offline, Online, FireOne, SoftInterrupt}
+use Rattle.cyc_system_rings.specs.SystemRemoval.TheVariants.{Done, Kept}
+use Rattle.cyc_system_rings.specs.Calls.{SystemCall, Changes, Add, AddOmni, Bind, BeginRemove, PollRemove, AskTotals, Reprogram}
+use Rattle.cyc_system_rings.specs.Calls.{ReprogramOn, Juggle, Offline, Online, FireOne, SoftInterrupt}
 use Rattle.cyc_expected.specs.Course.{Event, Begins, BeginsOnAll, IsSet, IsSetOn, Ends, OnEach, Told, told_after}
-use Rattle.cyc_system_laws.proofs.Pieces.{made_of}
-use Rattle.cyc_system_counts.specs.Sound.{IsSound}
-use Rattle.cyc_system_counts.specs.Keeping.{EndsRemoval, TouchesRecord}
+use Rattle.cyc_system_rings.proofs.Pieces.{made_of}
+use Rattle.cyc_system_rings.specs.Sound.{IsSound}
+use Rattle.cyc_system_rings.specs.Keeping.{EndsRemoval, TouchesRecord}
 use Rattle.cyc_system_rings.specs.Leading.{Make}
 use Rattle.cyc_system_rings.proofs.Raising.{changes_long}
 use Rattle.cyc_system_expected.specs.Events.{given_everywhere, if_own, event_in}

@@ -9,7 +9,7 @@ use Rattle.cyc_expirations.specs.Timers.{Timer, HasDistinctIds}
 use Rattle.cyc_expirations.specs.Expirations.{Expiration, expirations, times_of, after, all_after}
 use Rattle.cyc_expirations.proofs.Laws.{times_expirations, moment_next, count_due}
 use Rattle.cyc_timers.specs.Rows.{Cyclic, timers}
-use Rattle.cyc_agreement.proofs.Spots.{none_some}
+use Rattle.cyc_system_rings.proofs.Spots.{none_some}
 
 -- a sum over lists whose elements are measured alike
 pub sums_into : {A : Type 0} (f g : A → ℕ) (xs ys : List A) → length ys ≡ length xs

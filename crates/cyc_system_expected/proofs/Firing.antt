@@ -14,22 +14,22 @@ use Rattle.cyc_fire.specs.declared.fire.Fired.{Fired}
 use Rattle.cyc_fire.specs.declared.fire.FireRefused.{FireRefused}
 use Rattle.cyc_cpu.specs.Cpu.{CpuView, Running, running}
 use Rattle.cyc_cpu.specs.Calls.{no_interrupts}
-use Rattle.cyc_workers.specs.Settling.{Asks}
-use Rattle.cyc_agreement.proofs.Lists.{among}
-use Rattle.cyc_agreement.proofs.Presence.{has_low}
-use Rattle.cyc_agreement.proofs.Recording.{found}
-use Rattle.cyc_agreement.proofs.Spots.{none_some, get_some}
-use Rattle.cyc_agreement.proofs.Who.{SameIds, same_fired}
-use Rattle.cyc_removing.proofs.Sums.{sum_none, none_found, cyclic_found}
-use Rattle.cyc_system.specs.System.{SystemView, has, ids_of, removal_on}
-use Rattle.cyc_system.specs.Laws.{cyclic_in}
-use Rattle.cyc_system.specs.Counts.{all_expired}
-use Rattle.cyc_system_workers.specs.declared.side.SystemSide.{SystemSide}
-use Rattle.cyc_system_workers.specs.declared.advancing.Advanced.{Advanced}
-use Rattle.cyc_system_workers.specs.Advancing.{AllFire, FiresIf}
-use Rattle.cyc_system_workers.specs.Settling.{OnlyAsked}
-use Rattle.cyc_system_counts.specs.Sound.{IsSound}
-use Rattle.cyc_system_counts.proofs.Flow.{on_cpu}
+use Rattle.cyc_system_rings.specs.Settling.{Asks}
+use Rattle.cyc_system_rings.proofs.Lists.{among}
+use Rattle.cyc_system_rings.proofs.Presence.{has_low}
+use Rattle.cyc_system_rings.proofs.Recording.{found}
+use Rattle.cyc_system_rings.proofs.Spots.{none_some, get_some}
+use Rattle.cyc_system_rings.proofs.Who.{SameIds, same_fired}
+use Rattle.cyc_system_rings.proofs.Sums.{sum_none, none_found, cyclic_found}
+use Rattle.cyc_system_rings.specs.System.{SystemView, has, ids_of, removal_on}
+use Rattle.cyc_system_rings.specs.Laws.{cyclic_in}
+use Rattle.cyc_system_rings.specs.Counts.{all_expired}
+use Rattle.cyc_system_rings.specs.SystemSide.{SystemSide}
+use Rattle.cyc_system_rings.specs.Advanced.{Advanced}
+use Rattle.cyc_system_rings.specs.Advancing.{AllFire, FiresIf}
+use Rattle.cyc_system_rings.specs.SystemWorkersSettling.{OnlyAsked}
+use Rattle.cyc_system_rings.specs.Sound.{IsSound}
+use Rattle.cyc_system_rings.proofs.Flow.{on_cpu}
 use Rattle.cyc_system_expected.specs.Events.{AllAccepted}
 use Rattle.cyc_system_expected.proofs.Fires.{later}
 use Rattle.cyc_system_expected.proofs.Singles.{of_stay}

@@ -11,3 +11,5 @@ pub mod Spreading
 pub mod Courses
 pub mod Everywhere
 pub mod WholeRun
+pub use Rattle.cyc_system_rings.proofs.AtRings
+pub use Rattle.cyc_system_rings.proofs.Raising

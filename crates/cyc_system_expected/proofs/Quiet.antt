@@ -20,26 +20,26 @@ use Rattle.cyc_places.specs.declared.record.Record.{Record}
 use Rattle.cyc_places.specs.Places.{IsRecord, is_everywhere}
 use Rattle.cyc_cpus.specs.Cpus.{CpusView, IsCpu, ChangesAt, numbers_from}
 use Rattle.cyc_cpus.proofs.Spots.{get_set_other}
-use Rattle.cyc_agreement.proofs.Lists.{among}
-use Rattle.cyc_agreement.proofs.Presence.{is_absent, is_removed, has_low}
-use Rattle.cyc_agreement.proofs.Removals.{no_removal}
-use Rattle.cyc_agreement.proofs.Spots.{same_some, none_some, get_some}
-use Rattle.cyc_agreement.proofs.Who.{ids_now, ids_elsewhere, removal_now}
-use Rattle.cyc_removing.proofs.One.{LeavesCpu, begun, polled, is_leaving_open}
-use Rattle.cyc_removing.proofs.Folds.{Known, folds_known}
-use Rattle.cyc_removing.proofs.Others.{polls_elsewhere}
-use Rattle.cyc_system.specs.System.{SystemView, has, ids_of, removal_on, is_leaving_here, record_of}
-use Rattle.cyc_system.specs.Refusals.{no_cyclic}
-use Rattle.cyc_system.specs.Juggling.{single_ids}
-use Rattle.cyc_system.specs.Online.{is_staying}
-use Rattle.cyc_system.specs.Laws.{IsUntouched}
-use Rattle.cyc_system.specs.Removing.{Begun, BeginsOn, BeginsRemoval, cpus_with}
-use Rattle.cyc_system.specs.Polling.{Polled, PollsOn, PollsRemoval}
-use Rattle.cyc_system.specs.SystemRemoval.TheVariants as over
-use Rattle.cyc_system.specs.Calls.{SystemCall, Changes, Add, AddOmni, Bind, BeginRemove, PollRemove, AskTotals, Reprogram}
-use Rattle.cyc_system.specs.Calls.{ReprogramOn, Juggle, Offline, Online, FireOne, SoftInterrupt}
-use Rattle.cyc_system_counts.specs.Sound.{IsSound}
-use Rattle.cyc_system_counts.specs.Keeping.{TouchesRecord}
+use Rattle.cyc_system_rings.proofs.Lists.{among}
+use Rattle.cyc_system_rings.proofs.Presence.{is_absent, is_removed, has_low}
+use Rattle.cyc_system_rings.proofs.Removals.{no_removal}
+use Rattle.cyc_system_rings.proofs.Spots.{same_some, none_some, get_some}
+use Rattle.cyc_system_rings.proofs.Who.{ids_now, ids_elsewhere, removal_now}
+use Rattle.cyc_system_rings.proofs.One.{LeavesCpu, begun, polled, is_leaving_open}
+use Rattle.cyc_system_rings.proofs.Folds.{Known, folds_known}
+use Rattle.cyc_system_rings.proofs.Others.{polls_elsewhere}
+use Rattle.cyc_system_rings.specs.System.{SystemView, has, ids_of, removal_on, is_leaving_here, record_of}
+use Rattle.cyc_system_rings.specs.Refusals.{no_cyclic}
+use Rattle.cyc_juggling.specs.Juggling.{single_ids}
+use Rattle.cyc_everywhere.specs.Online.{is_staying}
+use Rattle.cyc_system_rings.specs.Laws.{IsUntouched}
+use Rattle.cyc_system_rings.specs.Removing.{Begun, BeginsOn, BeginsRemoval, cpus_with}
+use Rattle.cyc_system_rings.specs.Polling.{Polled, PollsOn, PollsRemoval}
+use Rattle.cyc_system_rings.specs.SystemRemoval.TheVariants as over
+use Rattle.cyc_system_rings.specs.Calls.{SystemCall, Changes, Add, AddOmni, Bind, BeginRemove, PollRemove, AskTotals, Reprogram}
+use Rattle.cyc_system_rings.specs.Calls.{ReprogramOn, Juggle, Offline, Online, FireOne, SoftInterrupt}
+use Rattle.cyc_system_rings.specs.Sound.{IsSound}
+use Rattle.cyc_system_rings.specs.Keeping.{TouchesRecord}
 use Rattle.cyc_system_expected.proofs.Singles.{ok_err}
 use Rattle.cyc_system_expected.proofs.Beside.{IsPlain, removals_same, HereNeeds, here_may, here_same, has_same, single_has}
 use Rattle.cyc_system_expected.proofs.Beside.{on_has, in_filter, found_at, SameHere}

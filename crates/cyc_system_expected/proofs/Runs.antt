@@ -11,7 +11,7 @@ use Rattle.cyc_types.specs.declared.level.Level.{Level}
 use Rattle.cyc_types.specs.declared.moment.When.{When}
 use Rattle.cyc_types.specs.declared.refusal.Refusal.{Refusal}
 use Rattle.cyc_types.specs.declared.refusal.Refusal.TheVariants.{NoCyclic}
-use Rattle.cyc_system.specs.SystemRemoval.TheVariants.{Done, Kept}
+use Rattle.cyc_system_rings.specs.SystemRemoval.TheVariants.{Done, Kept}
 use mathlib.Core.Logic.{dite}
 use native.Mathlib.Decide.{ℕ_discrete}
 use Rattle.cyc_fire.specs.declared.fire.Fired.{Fired}
@@ -19,30 +19,30 @@ use Rattle.cyc_fire.specs.declared.fire.FireRefused.{FireRefused}
 use Rattle.cyc_model.specs.Refusals.{first_refusal, or_else, when as if_so}
 use Rattle.cyc_cpu.specs.Cpu.{CpuView, Running, running}
 use Rattle.cyc_cpu.specs.Law.{IsLawful}
-use Rattle.cyc_agreement.proofs.Lists.{among, true_eq, false_ne}
-use Rattle.cyc_agreement.proofs.Spots.{none_some}
-use Rattle.cyc_agreement.proofs.Recording.{found}
-use Rattle.cyc_removing.proofs.Sums.{none_found}
+use Rattle.cyc_system_rings.proofs.Lists.{among, true_eq, false_ne}
+use Rattle.cyc_system_rings.proofs.Spots.{none_some}
+use Rattle.cyc_system_rings.proofs.Recording.{found}
+use Rattle.cyc_system_rings.proofs.Sums.{none_found}
 use Rattle.cyc_places.specs.declared.record.Record.{Record}
 use Rattle.cyc_places.specs.Places.{is_everywhere}
-use Rattle.cyc_workers.specs.Settling.{Asks}
-use Rattle.cyc_system.specs.System.{SystemView, has, ids_of, is_online, is_omnipresent}
-use Rattle.cyc_system.specs.Laws.{cyclic_in}
-use Rattle.cyc_system.specs.Counts.{all_expired}
-use Rattle.cyc_system.specs.Refusals.{no_cyclic, no_cpu, offline_cpu, no_component}
-use Rattle.cyc_system.specs.Calls.{SystemCall, Changes, Add, AddOmni, Bind, BeginRemove, PollRemove, AskTotals, Reprogram}
-use Rattle.cyc_system.specs.Calls.{ReprogramOn, Juggle, Offline, Online, FireOne, SoftInterrupt}
-use Rattle.cyc_system_workers.specs.declared.side.SystemSide.{SystemSide}
-use Rattle.cyc_system_workers.specs.declared.advancing.Advanced.{Advanced}
-use Rattle.cyc_system_workers.specs.Advancing.{AllFire, FiresIf}
-use Rattle.cyc_system_workers.specs.Settling.{OnlyAsked}
+use Rattle.cyc_system_rings.specs.Settling.{Asks}
+use Rattle.cyc_system_rings.specs.System.{SystemView, has, ids_of, is_online, is_omnipresent}
+use Rattle.cyc_system_rings.specs.Laws.{cyclic_in}
+use Rattle.cyc_system_rings.specs.Counts.{all_expired}
+use Rattle.cyc_system_rings.specs.Refusals.{no_cyclic, no_cpu, offline_cpu, no_component}
+use Rattle.cyc_system_rings.specs.Calls.{SystemCall, Changes, Add, AddOmni, Bind, BeginRemove, PollRemove, AskTotals, Reprogram}
+use Rattle.cyc_system_rings.specs.Calls.{ReprogramOn, Juggle, Offline, Online, FireOne, SoftInterrupt}
+use Rattle.cyc_system_rings.specs.SystemSide.{SystemSide}
+use Rattle.cyc_system_rings.specs.Advanced.{Advanced}
+use Rattle.cyc_system_rings.specs.Advancing.{AllFire, FiresIf}
+use Rattle.cyc_system_rings.specs.SystemWorkersSettling.{OnlyAsked}
 use Rattle.cyc_expected.specs.Course.{component_first, with_component, with_moment, due_of, next_of, Event, Begins, BeginsOnAll}
 use Rattle.cyc_expected.specs.Course.{IsSet, IsSetOn, Ends, Fires, Leaves, Returns, Passes, Course, Single, Told, told_after}
 use Rattle.cyc_expected.specs.Course.{told_by}
-use Rattle.cyc_system_counts.specs.Sound.{IsSound}
-use Rattle.cyc_system_counts.specs.Keeping.{over_stays, stay_of}
-use Rattle.cyc_system_counts.proofs.Flow.{on_cpu}
-use Rattle.cyc_system_counts.proofs.Found.{stays_found}
+use Rattle.cyc_system_rings.specs.Sound.{IsSound}
+use Rattle.cyc_system_rings.specs.Keeping.{over_stays, stay_of}
+use Rattle.cyc_system_rings.proofs.Flow.{on_cpu}
+use Rattle.cyc_system_rings.proofs.Found.{stays_found}
 use Rattle.cyc_system_sums.proofs.Given.{receipt_all}
 use Rattle.cyc_types.specs.declared.receipt.Receipt.{Receipt}
 use Rattle.cyc_system_rings.specs.Leading.{LeadCall, Make, FireAll, AskAll}

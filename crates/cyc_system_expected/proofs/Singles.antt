@@ -19,23 +19,23 @@ use Rattle.cyc_places.specs.declared.record.Record.{Record}
 use Rattle.cyc_places.specs.declared.record.Place.TheVariants as stands
 use Rattle.cyc_places.specs.Places.{is_everywhere, new_record}
 use Rattle.cyc_cpus.specs.Cpus.{IsCpu, on}
-use Rattle.cyc_agreement.proofs.Lists.{among, eq_true, true_eq}
-use Rattle.cyc_agreement.proofs.Spots.{none_some}
-use Rattle.cyc_agreement.proofs.Recording.{found, record_none}
-use Rattle.cyc_removing.proofs.Sums.{sum_none, none_found}
-use Rattle.cyc_system.specs.System.{SystemView, has, ids_of, is_omnipresent}
-use Rattle.cyc_system.specs.Adding.{entering}
-use Rattle.cyc_system.specs.Laws.{cyclic_in}
-use Rattle.cyc_system.specs.Counts.{all_expired}
-use Rattle.cyc_system.specs.Calls.{SystemCall, Changes, Add, Reprogram}
-use Rattle.cyc_system_laws.proofs.Pieces.{made_of}
-use Rattle.cyc_system_counts.specs.Sound.{IsSound}
-use Rattle.cyc_system_counts.specs.Keeping.{stay_of, over_stays, EndsRemoval, TouchesStays, TouchesRecord}
-use Rattle.cyc_system_counts.proofs.Flow.{on_cpu, on_cpus, flows, sum_set}
-use Rattle.cyc_system_counts.proofs.Found.{stays_found}
-use Rattle.cyc_system_counts.proofs.Counts.{counts_same}
-use Rattle.cyc_system_counts.proofs.Kept.{stays_kept}
-use Rattle.cyc_system_counts.proofs.Looked.{look_kept}
+use Rattle.cyc_system_rings.proofs.Lists.{among, eq_true, true_eq}
+use Rattle.cyc_system_rings.proofs.Spots.{none_some}
+use Rattle.cyc_system_rings.proofs.Recording.{found, record_none}
+use Rattle.cyc_system_rings.proofs.Sums.{sum_none, none_found}
+use Rattle.cyc_system_rings.specs.System.{SystemView, has, ids_of, is_omnipresent}
+use Rattle.cyc_system_rings.specs.Adding.{entering}
+use Rattle.cyc_system_rings.specs.Laws.{cyclic_in}
+use Rattle.cyc_system_rings.specs.Counts.{all_expired}
+use Rattle.cyc_system_rings.specs.Calls.{SystemCall, Changes, Add, Reprogram}
+use Rattle.cyc_system_rings.proofs.Pieces.{made_of}
+use Rattle.cyc_system_rings.specs.Sound.{IsSound}
+use Rattle.cyc_system_rings.specs.Keeping.{stay_of, over_stays, EndsRemoval, TouchesStays, TouchesRecord}
+use Rattle.cyc_system_rings.proofs.Flow.{on_cpu, on_cpus, flows, sum_set}
+use Rattle.cyc_system_rings.proofs.Found.{stays_found}
+use Rattle.cyc_system_rings.proofs.Counts.{counts_same}
+use Rattle.cyc_system_rings.proofs.Kept.{stays_kept}
+use Rattle.cyc_system_rings.proofs.Looked.{look_kept}
 use Rattle.cyc_system_sums.proofs.Given.{no_counts_yet}
 
 -- an answer is no refusal

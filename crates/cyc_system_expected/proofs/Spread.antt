@@ -24,27 +24,27 @@ use Rattle.cyc_places.specs.declared.record.Record.{Record}
 use Rattle.cyc_places.specs.Places.{is_everywhere, new_record, with_place}
 use Rattle.cyc_cpus.specs.Cpus.{CpusView}
 use Rattle.cyc_cpus.proofs.Spots.{get_set_same, get_set_other, cpu_there}
-use Rattle.cyc_agreement.proofs.Lists.{true_eq}
-use Rattle.cyc_agreement.proofs.Recording.{found, record_none}
-use Rattle.cyc_agreement.proofs.Removals.{leaving_here}
-use Rattle.cyc_agreement.proofs.Spots.{same_some, none_some, get_some}
-use Rattle.cyc_removing.proofs.Sums.{cyclic_found}
-use Rattle.cyc_removing.proofs.Where.{open_somewhere}
+use Rattle.cyc_system_rings.proofs.Lists.{true_eq}
+use Rattle.cyc_system_rings.proofs.Recording.{found, record_none}
+use Rattle.cyc_system_rings.proofs.Removals.{leaving_here}
+use Rattle.cyc_system_rings.proofs.Spots.{same_some, none_some, get_some}
+use Rattle.cyc_system_rings.proofs.Sums.{cyclic_found}
+use Rattle.cyc_system_rings.proofs.Where.{open_somewhere}
 use Rattle.cyc_everywhere.proofs.Visits.{each_one}
 use Rattle.cyc_everywhere.proofs.Regained.{all_back}
-use Rattle.cyc_system.specs.System.{SystemView, has, removal_on, is_online, is_leaving_here, is_omnipresent}
-use Rattle.cyc_system.specs.Refusals.{omnipresent}
-use Rattle.cyc_system.specs.Laws.{cyclic_in, cyclic_on}
-use Rattle.cyc_system.specs.Omni.{component_first as cpu_first}
-use Rattle.cyc_system.specs.Online.{online_cpu}
-use Rattle.cyc_system.specs.Calls.{SystemCall, Changes, Add, AddOmni, Bind, BeginRemove, PollRemove, AskTotals, Reprogram}
-use Rattle.cyc_system.specs.Calls.{ReprogramOn, Juggle, Offline, Online, FireOne, SoftInterrupt}
-use Rattle.cyc_system_laws.proofs.Pieces.{made_of}
+use Rattle.cyc_system_rings.specs.System.{SystemView, has, removal_on, is_online, is_leaving_here, is_omnipresent}
+use Rattle.cyc_system_rings.specs.Refusals.{omnipresent}
+use Rattle.cyc_system_rings.specs.Laws.{cyclic_in, cyclic_on}
+use Rattle.cyc_everywhere.specs.Omni.{component_first as cpu_first}
+use Rattle.cyc_everywhere.specs.Online.{online_cpu}
+use Rattle.cyc_system_rings.specs.Calls.{SystemCall, Changes, Add, AddOmni, Bind, BeginRemove, PollRemove, AskTotals, Reprogram}
+use Rattle.cyc_system_rings.specs.Calls.{ReprogramOn, Juggle, Offline, Online, FireOne, SoftInterrupt}
+use Rattle.cyc_system_rings.proofs.Pieces.{made_of}
 use Rattle.cyc_expected.specs.Course.{component_first, components_from}
-use Rattle.cyc_system_counts.specs.Sound.{IsSound}
-use Rattle.cyc_system_counts.specs.Keeping.{TouchesRecord}
-use Rattle.cyc_system_counts.proofs.Counts.{within}
-use Rattle.cyc_system_counts.proofs.Looked.{look_kept}
+use Rattle.cyc_system_rings.specs.Sound.{IsSound}
+use Rattle.cyc_system_rings.specs.Keeping.{TouchesRecord}
+use Rattle.cyc_system_rings.proofs.Counts.{within}
+use Rattle.cyc_system_rings.proofs.Looked.{look_kept}
 use Rattle.cyc_system_rings.proofs.Raising.{changes_long}
 use Rattle.cyc_system_expected.specs.Events.{given_everywhere}
 use Rattle.cyc_system_expected.proofs.Singles.{ok_err, find_end}

@@ -12,18 +12,18 @@ use Rattle.cyc_types.specs.declared.level.Level.{Level}
 use Rattle.cyc_types.specs.declared.moment.When.{When}
 use Rattle.cyc_timers.specs.Rows.{Cyclic}
 use Rattle.cyc_cpu.specs.Cpu.{CpuView, HasRisingIds}
-use Rattle.cyc_agreement.proofs.Recording.{found}
-use Rattle.cyc_agreement.proofs.Spots.{none_some, get_some}
-use Rattle.cyc_system.specs.Laws.{cyclic_in, cyclic_on}
-use Rattle.cyc_system.specs.Counts.{all_expired}
-use Rattle.cyc_system_workers.specs.declared.side.SystemSide.{SystemSide}
-use Rattle.cyc_system_workers.specs.declared.advancing.Advanced.{Advanced}
-use Rattle.cyc_system_workers.specs.Advancing.{AllFire}
-use Rattle.cyc_system_workers.specs.Settling.{OnlyAsked}
-use Rattle.cyc_system_counts.specs.Keeping.{stay_of}
-use Rattle.cyc_system_counts.specs.Sound.{IsSound}
-use Rattle.cyc_system_counts.proofs.Flow.{on_cpu}
-use Rattle.cyc_system_counts.proofs.Found.{sum_found}
+use Rattle.cyc_system_rings.proofs.Recording.{found}
+use Rattle.cyc_system_rings.proofs.Spots.{none_some, get_some}
+use Rattle.cyc_system_rings.specs.Laws.{cyclic_in, cyclic_on}
+use Rattle.cyc_system_rings.specs.Counts.{all_expired}
+use Rattle.cyc_system_rings.specs.SystemSide.{SystemSide}
+use Rattle.cyc_system_rings.specs.Advanced.{Advanced}
+use Rattle.cyc_system_rings.specs.Advancing.{AllFire}
+use Rattle.cyc_system_rings.specs.SystemWorkersSettling.{OnlyAsked}
+use Rattle.cyc_system_rings.specs.Keeping.{stay_of}
+use Rattle.cyc_system_rings.specs.Sound.{IsSound}
+use Rattle.cyc_system_rings.proofs.Flow.{on_cpu}
+use Rattle.cyc_system_rings.proofs.Found.{sum_found}
 use Rattle.cyc_system_expected.specs.Events.{AllAccepted}
 use Rattle.cyc_system_expected.proofs.Fires.{later}
 use Rattle.cyc_system_expected.proofs.Singles.{of_stay, only_at, only_there, only_here}

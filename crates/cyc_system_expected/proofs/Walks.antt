@@ -19,21 +19,21 @@ use Rattle.cyc_places.specs.Places.{ended_on, no_counts}
 use Rattle.cyc_cpus.specs.Cpus.{CpusView, CallOn, on, DoesAt, Works, online_cpus}
 use Rattle.cyc_cpus.specs.Reserving.{rooms, reserves, ReservesEach}
 use Rattle.cyc_cpus.specs.Shifting.{WhyNotShifted, moving}
-use Rattle.cyc_agreement.proofs.Spots.{none_some}
-use Rattle.cyc_system.specs.System.{SystemView, ids_on, removal_on}
-use Rattle.cyc_system.specs.Adding.{Adds, entering}
-use Rattle.cyc_system.specs.Binding.{Binds}
-use Rattle.cyc_system.specs.Refusals.{no_cyclic, omnipresent, no_cpu, offline_cpu, no_component}
-use Rattle.cyc_system.specs.Turn.{Turn}
-use Rattle.cyc_system.specs.Turn.TheVariants.{StaysBound, StaysPending, StaysRefused, Moves}
-use Rattle.cyc_system.specs.Juggling.{TakesTurn, Turns, single_ids, last_cpu}
-use Rattle.cyc_system.specs.Leaving.{quiet, Retires}
-use Rattle.cyc_system.specs.Omni.{AddsOmni, entering_each, component_first}
-use Rattle.cyc_system.specs.Online.{staying, returns, return_at, switched_on}
-use Rattle.cyc_system.specs.Counting.{asked}
-use Rattle.cyc_system.specs.Calls.{SystemCall, Changes, Add, AddOmni, Bind, BeginRemove, PollRemove, AskTotals, Reprogram}
-use Rattle.cyc_system.specs.Calls.{ReprogramOn, Juggle, Offline, Online, FireOne, SoftInterrupt}
-use Rattle.cyc_system_counts.proofs.Idle.{IsIdle, AreIdle, idle_on, idle_rooms, idle_reserves, idle_quiet, idle_asked}
+use Rattle.cyc_system_rings.proofs.Spots.{none_some}
+use Rattle.cyc_system_rings.specs.System.{SystemView, ids_on, removal_on}
+use Rattle.cyc_system_rings.specs.Adding.{Adds, entering}
+use Rattle.cyc_system_rings.specs.Binding.{Binds}
+use Rattle.cyc_system_rings.specs.Refusals.{no_cyclic, omnipresent, no_cpu, offline_cpu, no_component}
+use Rattle.cyc_juggling.specs.declared.turning.Turn.{Turn}
+use Rattle.cyc_juggling.specs.declared.turning.Turn.TheVariants.{StaysBound, StaysPending, StaysRefused, Moves}
+use Rattle.cyc_juggling.specs.Juggling.{TakesTurn, Turns, single_ids, last_cpu}
+use Rattle.cyc_juggling.specs.Leaving.{quiet, Retires}
+use Rattle.cyc_everywhere.specs.Omni.{AddsOmni, entering_each, component_first}
+use Rattle.cyc_everywhere.specs.Online.{staying, returns, return_at, switched_on}
+use Rattle.cyc_system_rings.specs.Counting.{asked}
+use Rattle.cyc_system_rings.specs.Calls.{SystemCall, Changes, Add, AddOmni, Bind, BeginRemove, PollRemove, AskTotals, Reprogram}
+use Rattle.cyc_system_rings.specs.Calls.{ReprogramOn, Juggle, Offline, Online, FireOne, SoftInterrupt}
+use Rattle.cyc_system_rings.proofs.Idle.{IsIdle, AreIdle, idle_on, idle_rooms, idle_reserves, idle_quiet, idle_asked}
 use Rattle.cyc_system_expected.proofs.Runs.{neither}
 
 -- no removal is open where none is the reason of a refusal

@@ -14,36 +14,36 @@ use Rattle.cyc_types.specs.declared.level.Level.{Level}
 use Rattle.cyc_types.specs.declared.receipt.Receipt.{Receipt}
 use Rattle.cyc_types.specs.declared.refusal.Refusal.{Refusal}
 use Rattle.cyc_types.specs.declared.refusal.Refusal.TheVariants.{NoCyclic}
-use Rattle.cyc_ring.specs.declared.ends.RaiseEnd.{RaiseEnd}
-use Rattle.cyc_ring.specs.Ends.{end_view, RaiseEndCall}
+use Rattle.cyc_system_rings.specs.RaiseEnd.{RaiseEnd}
+use Rattle.cyc_system_rings.specs.Ends.{end_view, RaiseEndCall}
 use Rattle.cyc_model.specs.State.{Everywhere}
 use Rattle.cyc_cpus.specs.Cpus.{new_cpu, new_cpus}
 use Rattle.cyc_model.specs.Refusals.{when as if_so}
 use Rattle.cyc_places.specs.declared.record.Record.{Record}
-use Rattle.cyc_agreement.proofs.Lists.{eq_true, true_eq}
-use Rattle.cyc_agreement.proofs.Recording.{found}
-use Rattle.cyc_agreement.proofs.Spots.{none_some, same_some}
-use Rattle.cyc_removing.proofs.Sums.{sum_none, none_found}
-use Rattle.cyc_removing.proofs.Where.{leaving_somewhere}
-use Rattle.cyc_system.specs.System.{SystemView, has, ids_of, removal_on, is_leaving, is_unknown, record_of}
-use Rattle.cyc_system.specs.Counts.{all_expired, all_lost}
-use Rattle.cyc_system.specs.Laws.{cyclic_in}
-use Rattle.cyc_system.specs.Polling.{not_leaving}
-use Rattle.cyc_system.specs.Removing.{unknown_cyclic}
-use Rattle.cyc_system.specs.SystemRemoval.TheVariants.{Done}
-use Rattle.cyc_system.specs.Calls.{SystemCall, Changes, Add, AddOmni, Bind, BeginRemove, PollRemove, AskTotals, Reprogram}
-use Rattle.cyc_system.specs.Calls.{ReprogramOn, Juggle, Offline, Online, FireOne, SoftInterrupt}
-use Rattle.cyc_system_workers.specs.declared.side.SystemSide.{SystemSide}
-use Rattle.cyc_system_workers.specs.declared.advancing.Advanced.{Advanced}
-use Rattle.cyc_system_workers.specs.Advancing.{AllFire}
-use Rattle.cyc_system_workers.specs.Settling.{OnlyAsked}
-use Rattle.cyc_system_laws.proofs.Pieces.{made_of}
-use Rattle.cyc_agreement.proofs.Lists.{among}
+use Rattle.cyc_system_rings.proofs.Lists.{eq_true, true_eq}
+use Rattle.cyc_system_rings.proofs.Recording.{found}
+use Rattle.cyc_system_rings.proofs.Spots.{none_some, same_some}
+use Rattle.cyc_system_rings.proofs.Sums.{sum_none, none_found}
+use Rattle.cyc_system_rings.proofs.Where.{leaving_somewhere}
+use Rattle.cyc_system_rings.specs.System.{SystemView, has, ids_of, removal_on, is_leaving, is_unknown, record_of}
+use Rattle.cyc_system_rings.specs.Counts.{all_expired, all_lost}
+use Rattle.cyc_system_rings.specs.Laws.{cyclic_in}
+use Rattle.cyc_system_rings.specs.Polling.{not_leaving}
+use Rattle.cyc_system_rings.specs.Removing.{unknown_cyclic}
+use Rattle.cyc_system_rings.specs.SystemRemoval.TheVariants.{Done}
+use Rattle.cyc_system_rings.specs.Calls.{SystemCall, Changes, Add, AddOmni, Bind, BeginRemove, PollRemove, AskTotals, Reprogram}
+use Rattle.cyc_system_rings.specs.Calls.{ReprogramOn, Juggle, Offline, Online, FireOne, SoftInterrupt}
+use Rattle.cyc_system_rings.specs.SystemSide.{SystemSide}
+use Rattle.cyc_system_rings.specs.Advanced.{Advanced}
+use Rattle.cyc_system_rings.specs.Advancing.{AllFire}
+use Rattle.cyc_system_rings.specs.SystemWorkersSettling.{OnlyAsked}
+use Rattle.cyc_system_rings.proofs.Pieces.{made_of}
+use Rattle.cyc_system_rings.proofs.Lists.{among}
 use Rattle.cyc_expected.specs.Course.{due_of, next_of, Event, Begins, BeginsOnAll, IsSet, IsSetOn, Ends, Fires, Leaves, Returns}
 use Rattle.cyc_expected.specs.Course.{Passes, Course, Idle, Single, OnEach, Told, untold, told_after, told_by}
-use Rattle.cyc_system_counts.specs.Sound.{IsSound}
-use Rattle.cyc_system_counts.specs.Keeping.{EndsRemoval}
-use Rattle.cyc_system_counts.proofs.Counts.{counts_same}
+use Rattle.cyc_system_rings.specs.Sound.{IsSound}
+use Rattle.cyc_system_rings.specs.Keeping.{EndsRemoval}
+use Rattle.cyc_system_rings.proofs.Counts.{counts_same}
 use Rattle.cyc_system_sums.proofs.Given.{no_counts_yet, receipt_all}
 use Rattle.cyc_system_rings.specs.Leading.{LeadCall, Make, FireAll, AskAll}
 use Rattle.cyc_system_rings.specs.Rings.{receipt_of, first_of, receipt_in, counts_in}

@@ -8,11 +8,11 @@ use Rattle.cyc_types.specs.declared.moment.When.{When}
 use Rattle.cyc_fire.specs.declared.fire.FireRefused.{FireRefused}
 use Rattle.cyc_model.specs.State.{Everywhere}
 use Rattle.cyc_expected.specs.Course.{Event, Begins, BeginsOnAll, IsSet, IsSetOn, Ends, Fires, Leaves, Returns, Passes}
-use Rattle.cyc_system.specs.Calls.{Add, AddOmni, BeginRemove, PollRemove, Reprogram, ReprogramOn, Offline, Online}
-use Rattle.cyc_system_workers.specs.declared.side.SystemSide.{SystemSide}
-use Rattle.cyc_system_workers.specs.declared.advancing.Advanced.{Advanced}
-use Rattle.cyc_system_workers.specs.Advancing.{AllFire}
-use Rattle.cyc_system_counts.specs.Sound.{IsSound}
+use Rattle.cyc_system_rings.specs.Calls.{Add, AddOmni, BeginRemove, PollRemove, Reprogram, ReprogramOn, Offline, Online}
+use Rattle.cyc_system_rings.specs.SystemSide.{SystemSide}
+use Rattle.cyc_system_rings.specs.Advanced.{Advanced}
+use Rattle.cyc_system_rings.specs.Advancing.{AllFire}
+use Rattle.cyc_system_rings.specs.Sound.{IsSound}
 use Rattle.cyc_system_rings.specs.Leading.{LeadCall, Make, FireAll, LeadSteps}
 
 abbrev pub if_own : ℕ → ℕ → Event → Event

@@ -2,13 +2,13 @@
 
 ghost use Rattle.std.specs.Prelude.{◌≡◌, ℕ, All, List, [], length};
 ghost use Rattle.std.specs.List.{FoldsTo};
-ghost use Rattle.cyc_ring.specs.declared.ends.RaiseEnd.{RaiseEnd as AnEnd};
-ghost use Rattle.cyc_ring.specs.Ends.{end_view, RaiseEndCall};
+ghost use Rattle.cyc_system_rings.specs.RaiseEnd.{RaiseEnd as AnEnd};
+ghost use Rattle.cyc_system_rings.specs.Ends.{end_view, RaiseEndCall};
 ghost use Rattle.cyc_cpus.specs.Cpus.{new_cpus};
 ghost use Rattle.cyc_expected.specs.Course.{untold, told_by};
-ghost use Rattle.cyc_system.specs.System.{SystemView};
-ghost use Rattle.cyc_system_workers.specs.declared.side.SystemSide.{SystemSide};
-ghost use Rattle.cyc_system_counts.specs.Sound.{IsSound};
+ghost use Rattle.cyc_system_rings.specs.System.{SystemView};
+ghost use Rattle.cyc_system_rings.specs.SystemSide.{SystemSide};
+ghost use Rattle.cyc_system_rings.specs.Sound.{IsSound};
 ghost use Rattle.cyc_system_rings.specs.Leading.{LeadCall};
 ghost use Rattle.cyc_system_rings.specs.Rings.{counts_in};
 ghost use Rattle.cyc_system_expected.specs.Events.{events_in, AcceptedSteps, IsBeforeNever};

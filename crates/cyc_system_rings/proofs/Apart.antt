@@ -22,15 +22,15 @@ use Rattle.cyc_fire.specs.Shares.{share}
 use Rattle.cyc_cpu.specs.Cpu.{CpuView, Running, running}
 use Rattle.cyc_cpu.specs.Law.{IsLawful}
 use Rattle.cyc_cpu.specs.Calls.{Does as CpuDoes, Fire, no_interrupts}
-use Rattle.cyc_cpu_laws.specs.Accounts.{made_by, account_of, Proceeds}
-use Rattle.cyc_cpu_laws.proofs.Accounting.{proceeds_one}
-use Rattle.cyc_cpu_laws.proofs.Ways.{passes_few}
-use Rattle.cyc_cpu_workers.specs.declared.settling.Lead.{Lead}
-use Rattle.cyc_agreement.proofs.Lists.{eq_true, false_ne}
-use Rattle.cyc_agreement.proofs.Spots.{same_some, none_some}
-use Rattle.cyc_removing.proofs.Sums.{sum_none}
+use Rattle.cyc_system_laws.specs.Accounts.{made_by, account_of, Proceeds}
+use Rattle.cyc_system_laws.proofs.Accounting.{proceeds_one}
+use Rattle.cyc_system_laws.proofs.Ways.{passes_few}
+use Rattle.cyc_system_workers.specs.Lead.{Lead}
+use Rattle.cyc_system_counts.proofs.Lists.{eq_true, false_ne}
+use Rattle.cyc_system_counts.proofs.Spots.{same_some, none_some}
+use Rattle.cyc_system_counts.proofs.Sums.{sum_none}
 use Rattle.cyc_system_laws.proofs.Pieces.{made_of}
-use Rattle.cyc_system.specs.Calls.{SystemCall, Changes, Add, AddOmni}
+use Rattle.cyc_system_counts.specs.Calls.{SystemCall, Changes, Add, AddOmni}
 use Rattle.cyc_system_counts.specs.Sound.{IsSound}
 use Rattle.cyc_system_counts.proofs.Flow.{weigh}
 use Rattle.cyc_system_workers.specs.declared.side.SystemSide.{SystemSide}

@@ -15,9 +15,9 @@ use Rattle.cyc_ring.specs.declared.closed.Closed.{Closed}
 use Rattle.cyc_ring.specs.Ends.{raise_trail, end_view, RaiseEndCall}
 use Rattle.cyc_ring.proofs.Ways.{raise_ways}
 use Rattle.cyc_timers.specs.Rows.{no_counts}
-use Rattle.cyc_cpu_workers.specs.declared.settling.Lead.{Lead}
-use Rattle.cyc_removing.proofs.Sums.{sum_none}
-use Rattle.cyc_system.specs.System.{SystemView}
+use Rattle.cyc_system_workers.specs.Lead.{Lead}
+use Rattle.cyc_system_counts.proofs.Sums.{sum_none}
+use Rattle.cyc_system_counts.specs.System.{SystemView}
 use Rattle.cyc_system_workers.specs.declared.side.SystemSide.{SystemSide}
 use Rattle.cyc_system_rings.specs.Leading.{LeadCall}
 use Rattle.cyc_system_rings.specs.Rings.{counted_by, counts_in, AreClosed}

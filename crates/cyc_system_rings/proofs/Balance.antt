@@ -17,22 +17,22 @@ use Rattle.cyc_timers.specs.Rows.{Cyclic, timers}
 use Rattle.cyc_cpu.specs.Cpu.{CpuView, Running, running, HasNoCyclic}
 use Rattle.cyc_cpu.specs.Law.{IsLawful}
 use Rattle.cyc_cpu.specs.Calls.{Does as CpuDoes, Fire, no_interrupts}
-use Rattle.cyc_cpu_laws.specs.Accounts.{account_of, made_by, Proceeds, expired_of, lost_of}
-use Rattle.cyc_cpu_laws.proofs.Accounting.{proceeds_one}
-use Rattle.cyc_cpu_laws.proofs.Fires.{no_share, no_cyclic, fired_away}
-use Rattle.cyc_cpu_laws.proofs.Ways.{passes_few}
+use Rattle.cyc_system_laws.specs.Accounts.{account_of, made_by, Proceeds, expired_of, lost_of}
+use Rattle.cyc_system_laws.proofs.Accounting.{proceeds_one}
+use Rattle.cyc_system_laws.proofs.Fires.{no_share, no_cyclic, fired_away}
+use Rattle.cyc_system_laws.proofs.Ways.{passes_few}
 use Rattle.cyc_places.specs.Places.{HasNoRecord}
-use Rattle.cyc_agreement.proofs.Lists.{eq_true, true_eq}
-use Rattle.cyc_agreement.proofs.Spots.{same_some, none_some}
-use Rattle.cyc_agreement.proofs.Recording.{found}
-use Rattle.cyc_system.specs.SystemRemoval.TheVariants.{Done, Kept}
-use Rattle.cyc_system.specs.System.{SystemView, running_system}
-use Rattle.cyc_system.specs.Laws.{cyclic_in}
-use Rattle.cyc_system.specs.Counts.{all_expired, all_lost}
-use Rattle.cyc_system.specs.Calls.{SystemCall, Changes, Does, Add, AddOmni, Bind, BeginRemove, PollRemove, AskTotals, Reprogram}
-use Rattle.cyc_system.specs.Calls.{ReprogramOn, Juggle, Offline, Online, FireOne, SoftInterrupt}
-use Rattle.cyc_removing.proofs.Sums.{sum_none}
-use Rattle.cyc_removing.proofs.Receipts.{begun_done, poll_done}
+use Rattle.cyc_system_counts.proofs.Lists.{eq_true, true_eq}
+use Rattle.cyc_system_counts.proofs.Spots.{same_some, none_some}
+use Rattle.cyc_system_counts.proofs.Recording.{found}
+use Rattle.cyc_system_counts.specs.SystemRemoval.TheVariants.{Done, Kept}
+use Rattle.cyc_system_counts.specs.System.{SystemView, running_system}
+use Rattle.cyc_system_counts.specs.Laws.{cyclic_in}
+use Rattle.cyc_system_counts.specs.Counts.{all_expired, all_lost}
+use Rattle.cyc_system_counts.specs.Calls.{SystemCall, Changes, Does, Add, AddOmni, Bind, BeginRemove, PollRemove, AskTotals, Reprogram}
+use Rattle.cyc_system_counts.specs.Calls.{ReprogramOn, Juggle, Offline, Online, FireOne, SoftInterrupt}
+use Rattle.cyc_system_counts.proofs.Sums.{sum_none}
+use Rattle.cyc_system_counts.proofs.Receipts.{begun_done, poll_done}
 use Rattle.cyc_system_laws.specs.Gone.{IsOver}
 use Rattle.cyc_system_laws.proofs.Over.{begun_over, polled_over}
 use Rattle.cyc_system_laws.proofs.Stays.{stays_over}
@@ -41,7 +41,7 @@ use Rattle.cyc_system_counts.specs.Keeping.{EndsRemoval}
 use Rattle.cyc_system_counts.proofs.Flow.{on_cpu}
 use Rattle.cyc_system_counts.proofs.Found.{stays_found}
 use Rattle.cyc_system_counts.proofs.Counts.{counts_same}
-use Rattle.cyc_cpu_workers.specs.declared.settling.Lead.{Lead}
+use Rattle.cyc_system_workers.specs.Lead.{Lead}
 use Rattle.cyc_system_workers.specs.declared.side.SystemSide.{SystemSide}
 use Rattle.cyc_system_workers.specs.declared.advancing.Advanced.{Advanced}
 use Rattle.cyc_system_workers.specs.Advancing.{AllFire, FiresIf}

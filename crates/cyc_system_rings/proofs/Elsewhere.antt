@@ -24,30 +24,30 @@ use Rattle.cyc_cpu.specs.Cpu.{CpuView, with_moment}
 use Rattle.cyc_cpu.specs.Gone.{PutsNot}
 use Rattle.cyc_cpu.specs.Calls.{CpuCall, Reserve, Widen, AskPending, TakeNow, Reprogram as CpuReprogram}
 use Rattle.cyc_cpu.specs.Calls.{BeginRemove as CpuBeginRemove, PollRemove as CpuPollRemove}
-use Rattle.cyc_cpu_laws.proofs.Shifts.{Shifts, changes_shift}
+use Rattle.cyc_system_laws.proofs.Shifts.{Shifts, changes_shift}
 use Rattle.cyc_places.specs.declared.record.Place.{Place}
 use Rattle.cyc_places.specs.declared.record.Place.TheVariants as stands
 use Rattle.cyc_places.specs.declared.record.Record.{Record}
 use Rattle.cyc_places.specs.Places.{IsRecord, HasRisingIds, HasNoRecord, ended_on}
 use Rattle.cyc_cpus.specs.Cpus.{CpusView, CallOn, DoesAt, on, online_cpus}
 use Rattle.cyc_cpus.specs.Shifting.{moving}
-use Rattle.cyc_system.specs.System.{SystemView, ids_on}
-use Rattle.cyc_system.specs.SystemRemoval.{SystemRemoval}
-use Rattle.cyc_system.specs.SystemRemoval.TheVariants as over
-use Rattle.cyc_system.specs.Adding.{OnlyWorks, entering}
-use Rattle.cyc_system.specs.Removing.{Begun, BeginsOn, BeginsRemoval}
-use Rattle.cyc_system.specs.Polling.{Polled, PollsOn, PollsRemoval}
-use Rattle.cyc_system.specs.Turn.{Turn}
-use Rattle.cyc_system.specs.Turn.TheVariants.{StaysBound, StaysPending, StaysRefused, Moves}
-use Rattle.cyc_system.specs.Juggling.{TakesTurn, Turns, single_ids}
-use Rattle.cyc_system.specs.Leaving.{quiet, Retires, Leaves}
-use Rattle.cyc_system.specs.Omni.{entering_each}
-use Rattle.cyc_system.specs.Online.{GoesOnline, staying, is_staying, returns, return_at}
-use Rattle.cyc_system.specs.Calls.{SystemCall, Changes, Add, AddOmni, Bind, BeginRemove, PollRemove, AskTotals, Reprogram}
-use Rattle.cyc_system.specs.Calls.{ReprogramOn, Juggle, Offline, Online, FireOne, SoftInterrupt}
-use Rattle.cyc_agreement.proofs.Lists.{eq_true, false_ne}
-use Rattle.cyc_agreement.proofs.Recording.{found, record_here, record_none}
-use Rattle.cyc_removing.proofs.Folds.{folds_keep}
+use Rattle.cyc_system_counts.specs.System.{SystemView, ids_on}
+use Rattle.cyc_system_counts.specs.SystemRemoval.{SystemRemoval}
+use Rattle.cyc_system_counts.specs.SystemRemoval.TheVariants as over
+use Rattle.cyc_system_workers.specs.Adding.{OnlyWorks, entering}
+use Rattle.cyc_system_counts.specs.Removing.{Begun, BeginsOn, BeginsRemoval}
+use Rattle.cyc_system_counts.specs.Polling.{Polled, PollsOn, PollsRemoval}
+use Rattle.cyc_juggling.specs.declared.turning.Turn.{Turn}
+use Rattle.cyc_juggling.specs.declared.turning.Turn.TheVariants.{StaysBound, StaysPending, StaysRefused, Moves}
+use Rattle.cyc_juggling.specs.Juggling.{TakesTurn, Turns, single_ids}
+use Rattle.cyc_juggling.specs.Leaving.{quiet, Retires, Leaves}
+use Rattle.cyc_everywhere.specs.Omni.{entering_each}
+use Rattle.cyc_everywhere.specs.Online.{GoesOnline, staying, is_staying, returns, return_at}
+use Rattle.cyc_system_counts.specs.Calls.{SystemCall, Changes, Add, AddOmni, Bind, BeginRemove, PollRemove, AskTotals, Reprogram}
+use Rattle.cyc_system_counts.specs.Calls.{ReprogramOn, Juggle, Offline, Online, FireOne, SoftInterrupt}
+use Rattle.cyc_system_counts.proofs.Lists.{eq_true, false_ne}
+use Rattle.cyc_system_counts.proofs.Recording.{found, record_here, record_none}
+use Rattle.cyc_system_counts.proofs.Folds.{folds_keep}
 use Rattle.cyc_system_laws.proofs.Over.{begun_over, polled_over}
 use Rattle.cyc_system_counts.specs.Keeping.{TouchesStays, TouchesRecord, stay_of}
 use Rattle.cyc_system_counts.specs.Sound.{IsSound}

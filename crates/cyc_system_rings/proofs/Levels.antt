@@ -11,12 +11,12 @@ use Rattle.cyc_types.specs.declared.level.Level.TheVariants.{Low, Lock, High}
 use Rattle.cyc_types.specs.declared.level.Soft.TheVariants as soft
 use Rattle.cyc_timers.specs.Rows.{Cyclic, no_counts}
 use Rattle.cyc_cpu.specs.Cpu.{CpuView}
-use Rattle.cyc_cpu_workers.specs.declared.settling.Lead.{Lead}
-use Rattle.cyc_removing.proofs.Sums.{sum_none}
-use Rattle.cyc_system.specs.System.{SystemView}
-use Rattle.cyc_system.specs.Laws.{cyclic_in}
-use Rattle.cyc_system.specs.Counts.{all_expired, all_lost}
-use Rattle.cyc_agreement.proofs.Recording.{found}
+use Rattle.cyc_system_workers.specs.Lead.{Lead}
+use Rattle.cyc_system_counts.proofs.Sums.{sum_none}
+use Rattle.cyc_system_counts.specs.System.{SystemView}
+use Rattle.cyc_system_counts.specs.Laws.{cyclic_in}
+use Rattle.cyc_system_counts.specs.Counts.{all_expired, all_lost}
+use Rattle.cyc_system_counts.proofs.Recording.{found}
 use Rattle.cyc_system_counts.specs.Sound.{IsSound}
 use Rattle.cyc_system_counts.proofs.Flow.{weigh}
 use Rattle.cyc_system_workers.specs.declared.side.SystemSide.{SystemSide}

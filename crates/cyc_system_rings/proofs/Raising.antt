@@ -11,12 +11,12 @@ use Rattle.cyc_types.specs.declared.level.Soft.{Soft}
 use Rattle.cyc_types.specs.declared.level.Soft.TheVariants.{Low, Lock}
 use Rattle.cyc_cpu.specs.Cpu.{CpuView}
 use Rattle.cyc_cpu.specs.Calls.{CpuCall, Changes as CpuChanges, AskSettled}
-use Rattle.cyc_cpu_laws.proofs.Stills.{still_raises, changes_still}
+use Rattle.cyc_system_laws.proofs.Stills.{still_raises, changes_still}
 use Rattle.cyc_cpus.specs.Cpus.{CpusView}
-use Rattle.cyc_workers.specs.Settling.{Asks}
-use Rattle.cyc_cpu_workers.specs.Settled.{AllAsked}
-use Rattle.cyc_system.specs.System.{SystemView}
-use Rattle.cyc_system.specs.Calls.{SystemCall, Changes}
+use Rattle.cyc_system_workers.specs.WorkersSettling.{Asks}
+use Rattle.cyc_system_workers.specs.Settled.{AllAsked}
+use Rattle.cyc_system_counts.specs.System.{SystemView}
+use Rattle.cyc_system_counts.specs.Calls.{SystemCall, Changes}
 use Rattle.cyc_system_laws.specs.Parts.{CpusCall, OnCpu, SetOnline, DoesPart}
 use Rattle.cyc_system_laws.proofs.Pieces.{made_of}
 use Rattle.cyc_system_counts.proofs.Flow.{sum_set}

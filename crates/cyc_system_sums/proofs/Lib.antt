@@ -1,3 +1,15 @@
 pub mod Totals
 pub mod Given
 pub mod Spared
+pub use Rattle.cyc_system_counts.proofs.Lists
+pub use Rattle.cyc_system_counts.proofs.Presence
+pub use Rattle.cyc_system_counts.proofs.Spots
+pub use Rattle.cyc_system_counts.proofs.Who
+pub use Rattle.cyc_system_counts.proofs.Forgetting
+pub use Rattle.cyc_system_counts.proofs.Sums
+pub use Rattle.cyc_system_laws.proofs.Over
+pub use Rattle.cyc_system_laws.proofs.Accounting
+pub use Rattle.cyc_system_laws.proofs.Cores
+pub use Rattle.cyc_system_laws.proofs.Stills
+pub use Rattle.cyc_system_laws.proofs.Pieces
+pub use Rattle.cyc_system_counts.proofs.Flow

@@ -23,21 +23,21 @@ use Rattle.cyc_cpu.specs.Cpu.{CpuView, Running, running, HasCounts}
 use Rattle.cyc_cpu.specs.Law.{IsLawful}
 use Rattle.cyc_cpu.specs.Losses.{IsUnder, IsSpared}
 use Rattle.cyc_cpu.specs.Calls.{CpuCall, Changes as CpuChanges, Does as CpuDoes, Fire}
-use Rattle.cyc_cpu_laws.specs.Accounts.{KeepsLimits}
-use Rattle.cyc_cpu_laws.proofs.Stills.{changes_still}
-use Rattle.cyc_cpu_laws.proofs.Ways.{passes_ceiling}
-use Rattle.cyc_cpu_laws.proofs.Accounting.{proceeds_one}
+use Rattle.cyc_system_laws.specs.Accounts.{KeepsLimits}
+use Rattle.cyc_system_laws.proofs.Stills.{changes_still}
+use Rattle.cyc_system_laws.proofs.Ways.{passes_ceiling}
+use Rattle.cyc_system_laws.proofs.Accounting.{proceeds_one}
 use Rattle.cyc_cpus.specs.Cpus.{CpusView, IsCpu, ChangesAt}
 use Rattle.cyc_cpus.proofs.Spots.{one_cpu, cpu_there, cpu_stays}
-use Rattle.cyc_system.specs.System.{RunningSystem}
-use Rattle.cyc_agreement.proofs.Lists.{eq_true, true_eq}
-use Rattle.cyc_agreement.proofs.Spots.{same_some, none_some}
-use Rattle.cyc_agreement.proofs.Who.{id_in, same_fired}
-use Rattle.cyc_agreement.proofs.Recording.{found}
-use Rattle.cyc_system.specs.Counts.{all_expired, all_lost}
-use Rattle.cyc_removing.proofs.Sums.{sum_none}
-use Rattle.cyc_system.specs.Calls.{SystemCall, Changes, Does, Add, AddOmni, Bind, BeginRemove, PollRemove, AskTotals, Reprogram}
-use Rattle.cyc_system.specs.Calls.{ReprogramOn, Juggle, Offline, Online, FireOne, SoftInterrupt}
+use Rattle.cyc_system_counts.specs.System.{RunningSystem}
+use Rattle.cyc_system_counts.proofs.Lists.{eq_true, true_eq}
+use Rattle.cyc_system_counts.proofs.Spots.{same_some, none_some}
+use Rattle.cyc_system_counts.proofs.Who.{id_in, same_fired}
+use Rattle.cyc_system_counts.proofs.Recording.{found}
+use Rattle.cyc_system_counts.specs.Counts.{all_expired, all_lost}
+use Rattle.cyc_system_counts.proofs.Sums.{sum_none}
+use Rattle.cyc_system_counts.specs.Calls.{SystemCall, Changes, Does, Add, AddOmni, Bind, BeginRemove, PollRemove, AskTotals, Reprogram}
+use Rattle.cyc_system_counts.specs.Calls.{ReprogramOn, Juggle, Offline, Online, FireOne, SoftInterrupt}
 use Rattle.cyc_system_counts.specs.Sound.{IsSound}
 use Rattle.cyc_system_counts.specs.Keeping.{EndsRemoval}
 use Rattle.cyc_system_sums.specs.Totalling.{Steps, expirations_in, losses_in}

@@ -20,16 +20,16 @@ use Rattle.cyc_cpu.specs.Cpu.{CpuView, Running, running}
 use Rattle.cyc_cpu.specs.Law.{IsLawful}
 use Rattle.cyc_cpu.specs.Calls.{Does as CpuDoes, Fire}
 use Rattle.cyc_expirations.specs.Expirations.{expirations}
-use Rattle.cyc_cpu_laws.specs.Accounts.{account_of, Proceeds, expired_of, lost_of}
-use Rattle.cyc_cpu_laws.proofs.Accounting.{proceeds_one, none_made}
-use Rattle.cyc_cpu_laws.proofs.Fires.{fired_lost}
-use Rattle.cyc_cpu_laws.proofs.Ways.{passes_few}
+use Rattle.cyc_system_laws.specs.Accounts.{account_of, Proceeds, expired_of, lost_of}
+use Rattle.cyc_system_laws.proofs.Accounting.{proceeds_one, none_made}
+use Rattle.cyc_system_laws.proofs.Fires.{fired_lost}
+use Rattle.cyc_system_laws.proofs.Ways.{passes_few}
 use Rattle.cyc_cpus.specs.Cpus.{ChangesAt}
-use Rattle.cyc_system.specs.System.{SystemView, RunningSystem}
-use Rattle.cyc_agreement.proofs.Recording.{found}
-use Rattle.cyc_system.specs.Counts.{all_expired, all_lost}
-use Rattle.cyc_system.specs.Calls.{SystemCall, Changes, Does, Add, AddOmni, Bind, BeginRemove, PollRemove, AskTotals, Reprogram}
-use Rattle.cyc_system.specs.Calls.{ReprogramOn, Juggle, Offline, Online, FireOne, SoftInterrupt, no_fire}
+use Rattle.cyc_system_counts.specs.System.{SystemView, RunningSystem}
+use Rattle.cyc_system_counts.proofs.Recording.{found}
+use Rattle.cyc_system_counts.specs.Counts.{all_expired, all_lost}
+use Rattle.cyc_system_counts.specs.Calls.{SystemCall, Changes, Does, Add, AddOmni, Bind, BeginRemove, PollRemove, AskTotals, Reprogram}
+use Rattle.cyc_system_counts.specs.Calls.{ReprogramOn, Juggle, Offline, Online, FireOne, SoftInterrupt, no_fire}
 use Rattle.cyc_system_counts.specs.Sound.{IsSound}
 use Rattle.cyc_system_counts.specs.Keeping.{EndsRemoval}
 use Rattle.cyc_system_sums.specs.Totalling.{fired_in, expirations_in, expirations_along, losses_of_fire, losses_in, losses_along}

@@ -15,10 +15,10 @@ use Rattle.cyc_cpu.specs.Calls.{Does as CpuDoes, Fire}
 use Rattle.cyc_types.specs.Runs.{lost_by}
 use Rattle.cyc_fire.specs.declared.fire.Fired.{Fired}
 use Rattle.cyc_fire.specs.declared.fire.FireRefused.{FireRefused}
-use Rattle.cyc_cpu_laws.specs.Accounts.{Account, account_of}
-use Rattle.cyc_system.specs.SystemRemoval.TheVariants.{Done}
-use Rattle.cyc_system.specs.System.{SystemView, RunningSystem}
-use Rattle.cyc_system.specs.Calls.{SystemCall, Changes, Does, FireOne, BeginRemove, PollRemove}
+use Rattle.cyc_system_laws.specs.Accounts.{Account, account_of}
+use Rattle.cyc_system_counts.specs.SystemRemoval.TheVariants.{Done}
+use Rattle.cyc_system_counts.specs.System.{SystemView, RunningSystem}
+use Rattle.cyc_system_counts.specs.Calls.{SystemCall, Changes, Does, FireOne, BeginRemove, PollRemove}
 use Rattle.cyc_system_counts.specs.Sound.{IsSound}
 
 -- the expirations of an id at its level, whichever this is

@@ -5,12 +5,12 @@ use Rattle.cyc_types.specs.declared.level.Level.{Level}
 use Rattle.cyc_script.specs.declared.step.Step.{Step}
 use Rattle.cyc_script.specs.declared.step.Step.TheVariants as steps
 use Rattle.std.specs.Prelude.{Bool, true, false, cond, Option, Some, None, Ok, Err, is_some}
-use Rattle.cyc_thread_steps.specs.Words.{Does}
+use Rattle.cyc_threads.specs.Words.{Does}
 use Rattle.cyc_thread_calls.specs.Giving.{given_in, introduces}
 use Rattle.cyc_thread_calls.specs.Leading.{call_of}
 use Rattle.cyc_expected.specs.Expected.{Met}
-use Rattle.cyc_thread_steps.specs.declared.progress.Progress.{Progress}
-use Rattle.cyc_thread_steps.specs.Steps.{TakesSteps}
+use Rattle.cyc_threads.specs.Progress.{Progress}
+use Rattle.cyc_threads.specs.Steps.{TakesSteps}
 use Rattle.cyc_thread_calls.specs.Meeting.{accepted, steps_met}
 
 module _ {C R : Type 0} (called : C → ℕ → Level → C → Type 0) (count : C → ℕ → ℕ) (may_refuse : C → ℕ → Type 0)

@@ -17,20 +17,20 @@ use Rattle.cyc_ring.specs.Ends.{end_view, RaiseEndCall, raise_trail, drain_trail
 use Rattle.cyc_cpu.specs.Cpu.{CpuView}
 use Rattle.cyc_cpu.specs.Moving.{IsSettled}
 use Rattle.cyc_script.specs.declared.script.Script.{Script}
-use Rattle.cyc_workers.specs.Machine.{HasServed}
-use Rattle.cyc_workers.specs.declared.machine.Seats.{Seats}
-use Rattle.cyc_system_workers.specs.declared.side.SystemSide.{SystemSide}
-use Rattle.cyc_system_counts.specs.Sound.{IsSound}
-use Rattle.cyc_system_rings.specs.Leading.{LeadCall, Make, FireAll, AskAll, LeadSteps}
-use Rattle.cyc_system_rings.specs.Rings.{AreClosed, IsClosedOver, counted_by}
-use Rattle.cyc_system_rings.specs.ByLevel.{counts_at, made_at, rings_of, AreServed, LeadsFromNew, HasNewEnds}
-use Rattle.cyc_system_rings.proofs.AtRings.{at_level as each_level, high_keeps, made_of, served_of}
+use Rattle.cyc_threads.specs.Machine.{HasServed}
+use Rattle.cyc_threads.specs.Seats.{Seats}
+use Rattle.cyc_threads.specs.SystemSide.{SystemSide}
+use Rattle.cyc_threads.specs.Sound.{IsSound}
+use Rattle.cyc_system_expected.specs.Leading.{LeadCall, Make, FireAll, AskAll, LeadSteps}
+use Rattle.cyc_system_expected.specs.Rings.{AreClosed, IsClosedOver, counted_by}
+use Rattle.cyc_system_expected.specs.ByLevel.{counts_at, made_at, rings_of, AreServed, LeadsFromNew, HasNewEnds}
+use Rattle.cyc_system_expected.proofs.AtRings.{at_level as each_level, high_keeps, made_of, served_of}
 use Rattle.cyc_system_expected.specs.Events.{AcceptedSteps}
-use Rattle.cyc_thread_rings.specs.declared.levels.Levels.{Levels}
-use Rattle.cyc_thread_rings.specs.declared.levels.Seated.{Seated}
-use Rattle.cyc_thread_rings.specs.Laid.{EachTwo, two}
-use Rattle.cyc_thread_rings.specs.Rings.{IsClosed, AreClosed as AreLeft, firing_seats, seats_on}
-use Rattle.cyc_thread_steps.proofs.Quiet.{lines_quiet}
+use Rattle.cyc_threads.specs.Levels.{Levels}
+use Rattle.cyc_threads.specs.Seated.{Seated}
+use Rattle.cyc_threads.specs.Laid.{EachTwo, two}
+use Rattle.cyc_threads.specs.Rings.{IsClosed, AreClosed as AreLeft, firing_seats, seats_on}
+use Rattle.cyc_threads.proofs.Quiet.{lines_quiet}
 use Rattle.cyc_threads.specs.declared.running.Ended.{Ended}
 use Rattle.cyc_threads.specs.Running.{HasRun, HaveServed}
 use Rattle.cyc_threads.proofs.Playing.{each_same}

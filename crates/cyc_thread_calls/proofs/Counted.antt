@@ -11,14 +11,14 @@ use Rattle.cyc_timers.specs.Rows.{no_counts}
 use Rattle.cyc_fire.specs.Acts.{same_level}
 use Rattle.cyc_ring.specs.declared.ends.RaiseEnd.{RaiseEnd}
 use Rattle.cyc_ring.specs.Ends.{end_view, RaiseEndCall}
-use Rattle.cyc_agreement.proofs.Spots.{same_some}
+use Rattle.cyc_threads.proofs.Spots.{same_some}
 use Rattle.cyc_script.specs.declared.script.Script.{Script}
-use Rattle.cyc_system.specs.System.{SystemView}
-use Rattle.cyc_system_rings.specs.Leading.{LeadCall}
-use Rattle.cyc_system_rings.specs.Rings.{counts_in}
-use Rattle.cyc_system_rings.specs.ByLevel.{level_in, counts_at, is_own}
-use Rattle.cyc_system_rings.proofs.AtRings.{high_keeps, none_given}
-use Rattle.cyc_thread_steps.specs.declared.reporting.Line.{Line}
+use Rattle.cyc_threads.specs.System.{SystemView}
+use Rattle.cyc_system_expected.specs.Leading.{LeadCall}
+use Rattle.cyc_system_expected.specs.Rings.{counts_in}
+use Rattle.cyc_system_expected.specs.ByLevel.{level_in, counts_at, is_own}
+use Rattle.cyc_system_expected.proofs.AtRings.{high_keeps, none_given}
+use Rattle.cyc_threads.specs.Line.{Line}
 use Rattle.cyc_threads.specs.declared.running.Ended.{Ended}
 use Rattle.cyc_threads.specs.Reporting.{counts_of}
 use Rattle.cyc_threads.specs.Running.{HasRun}

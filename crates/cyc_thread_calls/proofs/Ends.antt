@@ -8,23 +8,23 @@ use Rattle.cyc_types.specs.Runs.{Goes}
 use Rattle.cyc_types.specs.declared.level.Level.{Level}
 use Rattle.cyc_fire.specs.declared.fire.Fired.{Fired}
 use Rattle.cyc_fire.specs.declared.fire.FireRefused.{FireRefused}
-use Rattle.cyc_agreement.proofs.Spots.{same_some, none_some, get_some}
+use Rattle.cyc_threads.proofs.Spots.{same_some, none_some, get_some}
 use Rattle.cyc_cpu.specs.Cpu.{CpuView, Running, running}
 use Rattle.cyc_cpu.specs.Calls.{CpuCall, Changes as CpuChanges, Does, Fire, AskSettled, no_interrupts}
-use Rattle.cyc_cpu_laws.proofs.Stills.{changes_still}
+use Rattle.cyc_threads.proofs.Stills.{changes_still}
 use Rattle.cyc_cpus.specs.Cpus.{CpusView}
-use Rattle.cyc_workers.specs.Settling.{Asks}
-use Rattle.cyc_cpu_workers.specs.Settled.{AllAsked}
-use Rattle.cyc_system.specs.System.{SystemView}
-use Rattle.cyc_system.specs.Calls.{SystemCall, Changes}
-use Rattle.cyc_system_counts.specs.Sound.{IsSound}
-use Rattle.cyc_system_laws.specs.Parts.{CpusCall, OnCpu, SetOnline, DoesPart}
-use Rattle.cyc_system_laws.proofs.Pieces.{made_of}
-use Rattle.cyc_system_workers.specs.declared.side.SystemSide.{SystemSide}
-use Rattle.cyc_system_workers.specs.declared.advancing.Advanced.{Advanced}
-use Rattle.cyc_system_workers.specs.Advancing.{AllFire, FiresIf}
-use Rattle.cyc_system_rings.specs.Leading.{LeadCall, Make, FireAll, AskAll, LeadSteps}
-use Rattle.cyc_system_rings.proofs.Raising.{changes_long}
+use Rattle.cyc_threads.specs.Settling.{Asks}
+use Rattle.cyc_threads.specs.Settled.{AllAsked}
+use Rattle.cyc_threads.specs.System.{SystemView}
+use Rattle.cyc_threads.specs.Calls.{SystemCall, Changes}
+use Rattle.cyc_threads.specs.Sound.{IsSound}
+use Rattle.cyc_threads.specs.Parts.{CpusCall, OnCpu, SetOnline, DoesPart}
+use Rattle.cyc_threads.proofs.Pieces.{made_of}
+use Rattle.cyc_threads.specs.SystemSide.{SystemSide}
+use Rattle.cyc_threads.specs.Advanced.{Advanced}
+use Rattle.cyc_threads.specs.Advancing.{AllFire, FiresIf}
+use Rattle.cyc_system_expected.specs.Leading.{LeadCall, Make, FireAll, AskAll, LeadSteps}
+use Rattle.cyc_system_expected.proofs.Raising.{changes_long}
 
 module _ {R : Type 0} (step : R → FiringCall → R → Type 0) (view : R → FiringView) (P : R → Type 0)
     (goes_on : (e f : R) (way : List FiringCall) → Goes step view e way f → P e → P f) where

@@ -9,23 +9,23 @@ use Rattle.cyc_types.specs.declared.refusal.Refusal.{Refusal}
 use Rattle.cyc_types.proofs.Runs.{folds_on, folds_more}
 use Rattle.cyc_fire.specs.declared.fire.Fired.{Fired}
 use Rattle.cyc_fire.specs.declared.fire.FireRefused.{FireRefused}
-use Rattle.cyc_agreement.proofs.Spots.{same_some, none_some}
+use Rattle.cyc_threads.proofs.Spots.{same_some, none_some}
 use Rattle.cyc_script.specs.declared.step.Step.{Step}
 use Rattle.cyc_script.specs.declared.step.Step.TheVariants as steps
-use Rattle.cyc_system.specs.SystemRemoval.{SystemRemoval}
-use Rattle.cyc_system.specs.Calls.{SystemCall, Bind, BeginRemove, PollRemove, AskTotals}
-use Rattle.cyc_system_workers.specs.declared.side.SystemSide.{SystemSide}
-use Rattle.cyc_system_rings.specs.Leading.{LeadCall, Make, FireAll, AskAll}
+use Rattle.cyc_threads.specs.SystemRemoval.{SystemRemoval}
+use Rattle.cyc_threads.specs.Calls.{SystemCall, Bind, BeginRemove, PollRemove, AskTotals}
+use Rattle.cyc_threads.specs.SystemSide.{SystemSide}
+use Rattle.cyc_system_expected.specs.Leading.{LeadCall, Make, FireAll, AskAll}
 use Rattle.cyc_system_expected.specs.Events.{AcceptedSteps, AllAccepted}
-use Rattle.cyc_thread_steps.specs.declared.named.Named.{Named}
-use Rattle.cyc_thread_steps.specs.declared.named.Named.TheVariants.{Nothing, Cyclic, Leaving, Removed}
-use Rattle.cyc_thread_steps.specs.declared.progress.Progress.{Progress}
-use Rattle.cyc_thread_steps.specs.declared.reporting.Line.{Line}
-use Rattle.cyc_thread_steps.specs.Calls.{CallsFor, Poll, Polls, Waits, Fires, refusal_of, refusal_at}
-use Rattle.cyc_thread_steps.specs.Named.{named_at, id_of}
-use Rattle.cyc_thread_steps.specs.Words.{WithId, reprograms, Does, Begins, TakesStep, waits_first}
-use Rattle.cyc_thread_steps.specs.Steps.{TakesSteps, Runs}
-use Rattle.cyc_thread_steps.specs.Reporting.{Told, Tells, TellsOf, Reports}
+use Rattle.cyc_threads.specs.Named.{Named}
+use Rattle.cyc_threads.specs.Named.TheVariants.{Nothing, Cyclic, Leaving, Removed}
+use Rattle.cyc_threads.specs.Progress.{Progress}
+use Rattle.cyc_threads.specs.Line.{Line}
+use Rattle.cyc_threads.specs.ThreadStepsCalls.{CallsFor, Poll, Polls, Waits, Fires, refusal_of, refusal_at}
+use Rattle.cyc_threads.specs.ThreadStepsNamed.{named_at, id_of}
+use Rattle.cyc_threads.specs.Words.{WithId, reprograms, Does, Begins, TakesStep, waits_first}
+use Rattle.cyc_threads.specs.Steps.{TakesSteps, Runs}
+use Rattle.cyc_threads.specs.ThreadStepsReporting.{Told, Tells, TellsOf, Reports}
 use Rattle.cyc_thread_calls.specs.Leading.{calls_in, poll_calls, wait_calls, begin_calls, call_with, told_calls_of, told_calls}
 use Rattle.cyc_thread_calls.specs.Leading.{call_of, step_calls, steps_calls, run_calls, all_calls}
 

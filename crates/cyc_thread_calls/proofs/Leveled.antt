@@ -5,22 +5,22 @@ use Rattle.std.specs.Prelude.{Bool, true, false, cond, ◌&&◌}
 use Rattle.std.specs.List.{FoldsTo}
 use Rattle.cyc_types.specs.Firing.{FiringView, FiringCall}
 use Rattle.cyc_types.specs.declared.level.Level.{Level}
-use Rattle.cyc_agreement.proofs.Lists.{true_eq, eq_true, false_ne}
-use Rattle.cyc_agreement.proofs.Spots.{same_some, none_some}
+use Rattle.cyc_threads.proofs.Lists.{true_eq, eq_true, false_ne}
+use Rattle.cyc_threads.proofs.Spots.{same_some, none_some}
 use Rattle.cyc_script.specs.declared.step.Step.{Step}
 use Rattle.cyc_script.specs.declared.step.Step.TheVariants as steps
 use Rattle.cyc_script.specs.WellFormed.{name_fits, names_after, names_fit}
-use Rattle.cyc_system.specs.Calls.{Changes, Add, AddOmni}
-use Rattle.cyc_system_laws.proofs.Pieces.{made_of}
-use Rattle.cyc_system_workers.specs.declared.side.SystemSide.{SystemSide}
-use Rattle.cyc_system_rings.specs.Leading.{LeadCall, Make, FireAll, AskAll}
-use Rattle.cyc_system_rings.specs.Rings.{first_of}
-use Rattle.cyc_system_rings.specs.ByLevel.{level_given, level_in}
+use Rattle.cyc_threads.specs.Calls.{Changes, Add, AddOmni}
+use Rattle.cyc_threads.proofs.Pieces.{made_of}
+use Rattle.cyc_threads.specs.SystemSide.{SystemSide}
+use Rattle.cyc_system_expected.specs.Leading.{LeadCall, Make, FireAll, AskAll}
+use Rattle.cyc_system_expected.specs.Rings.{first_of}
+use Rattle.cyc_system_expected.specs.ByLevel.{level_given, level_in}
 use Rattle.cyc_system_expected.specs.Events.{AcceptedSteps}
-use Rattle.cyc_thread_steps.specs.declared.progress.Progress.{Progress}
-use Rattle.cyc_thread_steps.specs.Calls.{Poll}
-use Rattle.cyc_thread_steps.specs.Words.{Does, Begins, waits_first}
-use Rattle.cyc_thread_steps.specs.Steps.{TakesSteps}
+use Rattle.cyc_threads.specs.Progress.{Progress}
+use Rattle.cyc_threads.specs.ThreadStepsCalls.{Poll}
+use Rattle.cyc_threads.specs.Words.{Does, Begins, waits_first}
+use Rattle.cyc_threads.specs.Steps.{TakesSteps}
 use Rattle.cyc_thread_calls.specs.Leading.{calls_in, poll_calls, begin_calls, call_of, steps_calls}
 use Rattle.cyc_thread_calls.specs.Giving.{given_in, later_id, id_in_steps}
 use Rattle.cyc_thread_calls.specs.Levels.{level_by, level_named}

@@ -13,3 +13,16 @@ pub mod Spared
 pub mod Leveled
 pub mod Worded
 pub mod Owning
+pub use Rattle.cyc_system_expected.proofs.WholeRun
+pub use Rattle.cyc_threads.proofs.Lists
+pub use Rattle.cyc_threads.proofs.Spots
+pub use Rattle.cyc_threads.proofs.Pieces
+pub use Rattle.cyc_system_expected.proofs.Singles
+pub use Rattle.cyc_threads.proofs.Recording
+pub use Rattle.cyc_threads.proofs.Looked
+pub use Rattle.cyc_system_expected.proofs.Raising
+pub use Rattle.cyc_threads.proofs.Folds
+pub use Rattle.cyc_threads.proofs.Staying
+pub use Rattle.cyc_threads.proofs.Presence
+pub use Rattle.cyc_threads.proofs.Refusing
+pub use Rattle.cyc_threads.proofs.Settles

@@ -10,22 +10,22 @@ use Rattle.cyc_types.specs.declared.level.Level.{Level}
 use Rattle.cyc_types.specs.declared.receipt.Receipt.{Receipt}
 use Rattle.cyc_ring.specs.declared.ends.RaiseEnd.{RaiseEnd}
 use Rattle.cyc_script.specs.declared.step.Step.{Step}
-use Rattle.cyc_system.specs.System.{SystemView}
-use Rattle.cyc_system.specs.Counts.{all_expired, all_lost}
-use Rattle.cyc_system_rings.specs.Leading.{LeadCall}
-use Rattle.cyc_system_rings.specs.Rings.{receipt_in}
-use Rattle.cyc_system_counts.specs.Sound.{IsSound}
-use Rattle.cyc_thread_steps.specs.declared.named.Named.{Named}
-use Rattle.cyc_thread_steps.specs.declared.named.Named.TheVariants.{Nothing, Cyclic, Leaving, Removed}
-use Rattle.cyc_thread_steps.specs.declared.progress.Progress.{Progress}
-use Rattle.cyc_thread_steps.specs.declared.reporting.Line.{Line}
-use Rattle.cyc_thread_steps.specs.Named.{named_at}
-use Rattle.cyc_thread_steps.specs.Steps.{Runs}
-use Rattle.cyc_thread_steps.specs.Reporting.{Told, Tells, TellsOf, Reports}
+use Rattle.cyc_threads.specs.System.{SystemView}
+use Rattle.cyc_threads.specs.Counts.{all_expired, all_lost}
+use Rattle.cyc_system_expected.specs.Leading.{LeadCall}
+use Rattle.cyc_system_expected.specs.Rings.{receipt_in}
+use Rattle.cyc_threads.specs.Sound.{IsSound}
+use Rattle.cyc_threads.specs.Named.{Named}
+use Rattle.cyc_threads.specs.Named.TheVariants.{Nothing, Cyclic, Leaving, Removed}
+use Rattle.cyc_threads.specs.Progress.{Progress}
+use Rattle.cyc_threads.specs.Line.{Line}
+use Rattle.cyc_threads.specs.ThreadStepsNamed.{named_at}
+use Rattle.cyc_threads.specs.Steps.{Runs}
+use Rattle.cyc_threads.specs.ThreadStepsReporting.{Told, Tells, TellsOf, Reports}
 use Rattle.cyc_thread_calls.specs.Leading.{told_calls_of, told_calls, report_calls, run_calls, all_calls}
 use Rattle.cyc_thread_calls.specs.Giving.{id_given}
 use Rattle.cyc_thread_calls.specs.Lines.{line_in, settled_line}
-use Rattle.cyc_thread_steps.proofs.Quiet.{Rests}
+use Rattle.cyc_threads.proofs.Quiet.{Rests}
 use Rattle.cyc_thread_calls.proofs.Holding.{Fits, receipt_none, receipt_kept}
 use Rattle.cyc_thread_calls.proofs.Names.{all_held}
 use Rattle.cyc_thread_calls.proofs.Telling.{line_at, report_is}

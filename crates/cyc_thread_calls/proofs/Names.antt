@@ -11,22 +11,22 @@ use Rattle.cyc_types.specs.declared.level.Level.{Level}
 use Rattle.cyc_types.specs.declared.moment.When.{When}
 use Rattle.cyc_types.specs.declared.receipt.Receipt.{Receipt}
 use Rattle.cyc_types.specs.declared.refusal.Refusal.{Refusal}
-use Rattle.cyc_agreement.proofs.Lists.{true_eq, false_ne}
+use Rattle.cyc_threads.proofs.Lists.{true_eq, false_ne}
 use Rattle.cyc_script.specs.declared.step.Step.{Step}
 use Rattle.cyc_script.specs.declared.step.Step.TheVariants as steps
-use Rattle.cyc_system.specs.SystemRemoval.{SystemRemoval}
-use Rattle.cyc_system.specs.SystemRemoval.TheVariants.{Done, Kept}
-use Rattle.cyc_system.specs.Calls.{SystemCall, Changes, Add, AddOmni, Bind, BeginRemove, PollRemove}
-use Rattle.cyc_system_laws.proofs.Pieces.{made_of}
-use Rattle.cyc_system_rings.specs.Leading.{LeadCall, Make, FireAll, AskAll}
-use Rattle.cyc_system_rings.specs.Rings.{receipt_of, first_of}
-use Rattle.cyc_thread_steps.specs.declared.named.Named.{Named}
-use Rattle.cyc_thread_steps.specs.declared.named.Named.TheVariants.{Nothing, Cyclic, Leaving, Removed}
-use Rattle.cyc_thread_steps.specs.declared.progress.Progress.{Progress}
-use Rattle.cyc_thread_steps.specs.Named.{named_at, id_of, news, noted}
-use Rattle.cyc_thread_steps.specs.Calls.{CallsFor, Poll, Polls, Waits}
-use Rattle.cyc_thread_steps.specs.Words.{WithId, reprograms, Does, Begins, waits_first}
-use Rattle.cyc_thread_steps.specs.Steps.{TakesSteps, Runs}
+use Rattle.cyc_threads.specs.SystemRemoval.{SystemRemoval}
+use Rattle.cyc_threads.specs.SystemRemoval.TheVariants.{Done, Kept}
+use Rattle.cyc_threads.specs.Calls.{SystemCall, Changes, Add, AddOmni, Bind, BeginRemove, PollRemove}
+use Rattle.cyc_threads.proofs.Pieces.{made_of}
+use Rattle.cyc_system_expected.specs.Leading.{LeadCall, Make, FireAll, AskAll}
+use Rattle.cyc_system_expected.specs.Rings.{receipt_of, first_of}
+use Rattle.cyc_threads.specs.Named.{Named}
+use Rattle.cyc_threads.specs.Named.TheVariants.{Nothing, Cyclic, Leaving, Removed}
+use Rattle.cyc_threads.specs.Progress.{Progress}
+use Rattle.cyc_threads.specs.ThreadStepsNamed.{named_at, id_of, news, noted}
+use Rattle.cyc_threads.specs.ThreadStepsCalls.{CallsFor, Poll, Polls, Waits}
+use Rattle.cyc_threads.specs.Words.{WithId, reprograms, Does, Begins, waits_first}
+use Rattle.cyc_threads.specs.Steps.{TakesSteps, Runs}
 use Rattle.cyc_thread_calls.specs.Leading.{calls_in, poll_calls, wait_calls, begin_calls, call_with, call_of}
 use Rattle.cyc_thread_calls.specs.Leading.{steps_calls, run_calls}
 use Rattle.cyc_thread_calls.specs.Giving.{given_by, given_in, later_id, id_in_steps, id_given}

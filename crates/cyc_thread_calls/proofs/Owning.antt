@@ -7,21 +7,21 @@ use Rattle.std.specs.Option.{option_map_or}
 use Rattle.cyc_types.specs.Firing.{FiringView, FiringCall}
 use Rattle.cyc_types.specs.declared.level.Level.{Level}
 use Rattle.cyc_types.specs.declared.refusal.Refusal.{Refusal}
-use Rattle.cyc_agreement.proofs.Lists.{eq_true, false_ne}
-use Rattle.cyc_agreement.proofs.Spots.{none_some}
+use Rattle.cyc_threads.proofs.Lists.{eq_true, false_ne}
+use Rattle.cyc_threads.proofs.Spots.{none_some}
 use Rattle.cyc_script.specs.declared.step.Step.{Step}
 use Rattle.cyc_script.specs.declared.step.Step.TheVariants as steps
 use Rattle.cyc_script.specs.WellFormed.{name_fits, names_after, names_fit, names_after_all}
-use Rattle.cyc_system.specs.SystemRemoval.{SystemRemoval}
-use Rattle.cyc_system.specs.Calls.{SystemCall, Bind, BeginRemove}
-use Rattle.cyc_system_rings.specs.Leading.{LeadCall, Make}
-use Rattle.cyc_system_rings.specs.Rings.{first_of}
-use Rattle.cyc_system_rings.specs.ByLevel.{level_given, level_in}
-use Rattle.cyc_thread_steps.specs.declared.progress.Progress.{Progress}
-use Rattle.cyc_thread_steps.specs.Calls.{CallsFor}
-use Rattle.cyc_thread_steps.specs.Named.{named_at, id_of}
-use Rattle.cyc_thread_steps.specs.Words.{WithId, reprograms, Does, waits_first}
-use Rattle.cyc_thread_steps.specs.Steps.{TakesSteps}
+use Rattle.cyc_threads.specs.SystemRemoval.{SystemRemoval}
+use Rattle.cyc_threads.specs.Calls.{SystemCall, Bind, BeginRemove}
+use Rattle.cyc_system_expected.specs.Leading.{LeadCall, Make}
+use Rattle.cyc_system_expected.specs.Rings.{first_of}
+use Rattle.cyc_system_expected.specs.ByLevel.{level_given, level_in}
+use Rattle.cyc_threads.specs.Progress.{Progress}
+use Rattle.cyc_threads.specs.ThreadStepsCalls.{CallsFor}
+use Rattle.cyc_threads.specs.ThreadStepsNamed.{named_at, id_of}
+use Rattle.cyc_threads.specs.Words.{WithId, reprograms, Does, waits_first}
+use Rattle.cyc_threads.specs.Steps.{TakesSteps}
 use Rattle.cyc_thread_calls.specs.Leading.{calls_in, begin_calls, call_with, call_of, steps_calls}
 use Rattle.cyc_thread_calls.specs.Giving.{given_by, given_in, later_id, id_in_steps}
 use Rattle.cyc_thread_calls.proofs.Leveled.{level_on, level_later, both_true, begin_none, own_level}

@@ -9,16 +9,16 @@ use Rattle.cyc_types.specs.declared.level.Level.TheVariants.{Low, Lock, High}
 use Rattle.ring_rule.specs.Trail.{raises_of, losses_of}
 use Rattle.cyc_ring.specs.declared.ends.RaiseEnd.{RaiseEnd}
 use Rattle.cyc_ring.specs.Ends.{end_view, RaiseEndCall, raise_trail}
-use Rattle.cyc_agreement.proofs.Spots.{same_some, none_some}
+use Rattle.cyc_threads.proofs.Spots.{same_some, none_some}
 use Rattle.cyc_cpu.specs.Cpu.{CpuView}
-use Rattle.cyc_removing.proofs.Sums.{sum_none}
+use Rattle.cyc_threads.proofs.Sums.{sum_none}
 use Rattle.cyc_script.specs.declared.script.Script.{Script}
-use Rattle.cyc_system.specs.System.{SystemView}
-use Rattle.cyc_system_rings.specs.Leading.{LeadCall}
-use Rattle.cyc_system_rings.specs.Rings.{counts_in}
-use Rattle.cyc_system_rings.specs.ByLevel.{level_in, counts_at}
-use Rattle.cyc_system_rings.proofs.AtRings.{at_level, high_keeps, none_given}
-use Rattle.cyc_thread_steps.specs.declared.reporting.Line.{Line}
+use Rattle.cyc_threads.specs.System.{SystemView}
+use Rattle.cyc_system_expected.specs.Leading.{LeadCall}
+use Rattle.cyc_system_expected.specs.Rings.{counts_in}
+use Rattle.cyc_system_expected.specs.ByLevel.{level_in, counts_at}
+use Rattle.cyc_system_expected.proofs.AtRings.{at_level, high_keeps, none_given}
+use Rattle.cyc_threads.specs.Line.{Line}
 use Rattle.cyc_threads.specs.declared.running.Ended.{Ended}
 use Rattle.cyc_threads.specs.Running.{HasRun}
 use Rattle.cyc_thread_calls.specs.Calling.{lead_calls, last_system, id_of_name}

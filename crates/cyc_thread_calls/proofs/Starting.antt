@@ -13,18 +13,18 @@ use Rattle.cyc_ring.specs.declared.ends.RaiseEnd.{RaiseEnd}
 use Rattle.cyc_ring.specs.declared.seats.RaiseSeat.{RaiseSeat}
 use Rattle.cyc_ring.specs.Views.{firing_view}
 use Rattle.cyc_ring.specs.Ends.{end_view, raise_trail}
-use Rattle.cyc_agreement.proofs.Beginning.{agrees_new}
-use Rattle.cyc_agreement.proofs.Spots.{same_some, none_some}
+use Rattle.cyc_threads.proofs.Beginning.{agrees_new}
+use Rattle.cyc_threads.proofs.Spots.{same_some, none_some}
 use Rattle.cyc_cpu.specs.Cpu.{CpuView, AreAdmitted}
 use Rattle.cyc_cpu.specs.Law.{IsLawful}
 use Rattle.cyc_cpus.specs.Cpus.{CpusView, IsCpu, new_cpu, new_cpus}
-use Rattle.cyc_system.specs.System.{SystemView}
-use Rattle.cyc_system.specs.Agreement.{Agrees}
-use Rattle.cyc_system_counts.specs.Sound.{IsSound}
-use Rattle.cyc_thread_rings.specs.declared.levels.Seated.{Seated}
-use Rattle.cyc_thread_rings.specs.Rings.{AreNew, seats_of_ends, firing_seats}
-use Rattle.cyc_thread_steps.specs.declared.progress.Progress.{Progress}
-use Rattle.cyc_thread_steps.specs.Calls.{IsReady}
+use Rattle.cyc_threads.specs.System.{SystemView}
+use Rattle.cyc_threads.specs.Agreement.{Agrees}
+use Rattle.cyc_threads.specs.Sound.{IsSound}
+use Rattle.cyc_threads.specs.Seated.{Seated}
+use Rattle.cyc_threads.specs.Rings.{AreNew, seats_of_ends, firing_seats}
+use Rattle.cyc_threads.specs.Progress.{Progress}
+use Rattle.cyc_threads.specs.ThreadStepsCalls.{IsReady}
 use Rattle.cyc_threads.specs.Running.{IsAtFirst, most}
 
 -- ---- one CPU

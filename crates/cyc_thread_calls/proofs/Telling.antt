@@ -5,30 +5,30 @@ use Rattle.std.specs.Prelude.{Bool, true, false, sum_by}
 use Rattle.std.specs.List.{FoldsTo}
 use Rattle.std.specs.Option.{option_map_or}
 use Rattle.cyc_types.specs.Firing.{FiringView, FiringCall}
-use Rattle.cyc_agreement.proofs.Lists.{among}
-use Rattle.cyc_agreement.proofs.Recording.{record_here}
-use Rattle.cyc_agreement.proofs.Spots.{none_some}
+use Rattle.cyc_threads.proofs.Lists.{among}
+use Rattle.cyc_threads.proofs.Recording.{record_here}
+use Rattle.cyc_threads.proofs.Spots.{none_some}
 use Rattle.cyc_cpus.specs.Cpus.{IsCpu}
 use Rattle.cyc_cpu.specs.Cpu.{CpuView}
 use Rattle.cyc_timers.specs.Rows.{Cyclic}
 use Rattle.cyc_types.specs.declared.firing.Sent.{Sent}
 use Rattle.cyc_places.specs.declared.record.Record.{Record}
-use Rattle.cyc_removing.proofs.Answering.{totals_all}
-use Rattle.cyc_removing.proofs.Sums.{sum_none, none_found}
-use Rattle.cyc_system.specs.SystemTotals.{SystemTotals}
-use Rattle.cyc_system.specs.System.{SystemView, has, ids_of, record_of}
-use Rattle.cyc_system.specs.Counts.{all_expired, all_lost}
-use Rattle.cyc_system.specs.Laws.{cyclic_in}
-use Rattle.cyc_system.specs.Calls.{Changes, AskTotals}
-use Rattle.cyc_system_counts.specs.Sound.{IsSound}
-use Rattle.cyc_system_counts.specs.Keeping.{SameCounts}
-use Rattle.cyc_system_counts.proofs.Counts.{counts_same}
-use Rattle.cyc_thread_steps.specs.declared.named.Named.{Named}
-use Rattle.cyc_thread_steps.specs.declared.named.Named.TheVariants.{Nothing, Cyclic as Here, Leaving, Removed}
-use Rattle.cyc_thread_steps.specs.declared.progress.Progress.{Progress}
-use Rattle.cyc_thread_steps.specs.declared.reporting.Line.{Line}
-use Rattle.cyc_thread_steps.specs.Reporting.{Told, Tells, TellsOf, Asks, Reports, no_line, receipt_line, totals_line}
-use Rattle.cyc_thread_steps.proofs.Quiet.{Rests, lines_quiet}
+use Rattle.cyc_threads.proofs.Answering.{totals_all}
+use Rattle.cyc_threads.proofs.Sums.{sum_none, none_found}
+use Rattle.cyc_threads.specs.SystemTotals.{SystemTotals}
+use Rattle.cyc_threads.specs.System.{SystemView, has, ids_of, record_of}
+use Rattle.cyc_threads.specs.Counts.{all_expired, all_lost}
+use Rattle.cyc_threads.specs.Laws.{cyclic_in}
+use Rattle.cyc_threads.specs.Calls.{Changes, AskTotals}
+use Rattle.cyc_threads.specs.Sound.{IsSound}
+use Rattle.cyc_threads.specs.Keeping.{SameCounts}
+use Rattle.cyc_threads.proofs.Counts.{counts_same}
+use Rattle.cyc_threads.specs.Named.{Named}
+use Rattle.cyc_threads.specs.Named.TheVariants.{Nothing, Cyclic as Here, Leaving, Removed}
+use Rattle.cyc_threads.specs.Progress.{Progress}
+use Rattle.cyc_threads.specs.Line.{Line}
+use Rattle.cyc_threads.specs.ThreadStepsReporting.{Told, Tells, TellsOf, Asks, Reports, no_line, receipt_line, totals_line}
+use Rattle.cyc_threads.proofs.Quiet.{Rests, lines_quiet}
 
 -- the line of what a name has, by the counts of a system
 abbrev pub line_at : {R : Type 0} → Named → SystemView R → Line

@@ -3,19 +3,19 @@ use Rattle.std.proofs.Common.{◌≡◌, ◌≢◌, ◌∙◌, ℕ, ◌<◌, ◌
 use Rattle.std.specs.Prelude.{true}
 use Rattle.std.specs.List.{slice_get, FoldsTo}
 use Rattle.cyc_types.specs.Firing.{FiringView, FiringCall}
-use Rattle.cyc_system_rings.specs.Rings.{first_of}
-use Rattle.cyc_thread_steps.specs.declared.named.Named.{Named}
-use Rattle.cyc_thread_steps.specs.declared.named.Named.TheVariants.{Nothing, Cyclic, Leaving, Removed}
-use Rattle.cyc_thread_steps.specs.declared.progress.Progress.{Progress}
-use Rattle.cyc_thread_steps.specs.Reporting.{Told, Tells, TellsOf}
+use Rattle.cyc_system_expected.specs.Rings.{first_of}
+use Rattle.cyc_threads.specs.Named.{Named}
+use Rattle.cyc_threads.specs.Named.TheVariants.{Nothing, Cyclic, Leaving, Removed}
+use Rattle.cyc_threads.specs.Progress.{Progress}
+use Rattle.cyc_threads.specs.ThreadStepsReporting.{Told, Tells, TellsOf}
 use Rattle.cyc_thread_calls.proofs.Owning.{steps_named}
 use Rattle.cyc_types.specs.declared.level.Level.{Level}
 use Rattle.cyc_ring.specs.Ends.{end_view, RaiseEndCall}
 use Rattle.cyc_script.specs.declared.script.Script.{Script}
-use Rattle.cyc_system_rings.specs.Leading.{LeadCall}
-use Rattle.cyc_system_rings.specs.ByLevel.{level_in}
-use Rattle.cyc_thread_steps.specs.declared.reporting.Line.{Line}
-use Rattle.cyc_thread_steps.specs.Steps.{Runs}
+use Rattle.cyc_system_expected.specs.Leading.{LeadCall}
+use Rattle.cyc_system_expected.specs.ByLevel.{level_in}
+use Rattle.cyc_threads.specs.Line.{Line}
+use Rattle.cyc_threads.specs.Steps.{Runs}
 use Rattle.cyc_threads.specs.declared.running.Ended.{Ended}
 use Rattle.cyc_threads.specs.Reporting.{counts_of}
 use Rattle.cyc_threads.specs.Running.{HasRun}

@@ -5,10 +5,10 @@ use Rattle.cyc_types.specs.declared.level.Level.TheVariants.{Low, Lock, High}
 use Rattle.cyc_ring.specs.declared.ends.RaiseEnd.{RaiseEnd}
 use Rattle.cyc_ring.specs.Ends.{end_view, RaiseEndCall}
 use Rattle.cyc_script.specs.declared.script.Script.{Script}
-use Rattle.cyc_system.specs.System.{SystemView}
-use Rattle.cyc_system_rings.specs.Leading.{LeadCall}
-use Rattle.cyc_workers.specs.declared.machine.Handlers.{Handlers}
-use Rattle.cyc_thread_rings.specs.declared.levels.Seated.{Seated}
+use Rattle.cyc_threads.specs.System.{SystemView}
+use Rattle.cyc_system_expected.specs.Leading.{LeadCall}
+use Rattle.cyc_threads.specs.Handlers.{Handlers}
+use Rattle.cyc_threads.specs.Seated.{Seated}
 use Rattle.cyc_threads.specs.declared.running.Ended.{Ended}
 use Rattle.cyc_threads.specs.Running.{HasRun}
 use Rattle.cyc_thread_calls.specs.Giving.{id_given}

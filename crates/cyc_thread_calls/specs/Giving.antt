@@ -5,11 +5,11 @@ use Rattle.cyc_types.specs.Firing.{FiringView, FiringCall}
 use Rattle.cyc_types.specs.declared.level.Level.{Level}
 use Rattle.cyc_script.specs.declared.step.Step.{Step}
 use Rattle.cyc_script.specs.declared.step.Step.TheVariants as steps
-use Rattle.cyc_system.specs.Calls.{Add, AddOmni}
-use Rattle.cyc_system_rings.specs.Leading.{LeadCall, Make}
-use Rattle.cyc_thread_steps.specs.declared.progress.Progress.{Progress}
-use Rattle.cyc_thread_steps.specs.Words.{TakesStep}
-use Rattle.cyc_thread_steps.specs.Steps.{TakesSteps, Runs}
+use Rattle.cyc_threads.specs.Calls.{Add, AddOmni}
+use Rattle.cyc_system_expected.specs.Leading.{LeadCall, Make}
+use Rattle.cyc_threads.specs.Progress.{Progress}
+use Rattle.cyc_threads.specs.Words.{TakesStep}
+use Rattle.cyc_threads.specs.Steps.{TakesSteps, Runs}
 use Rattle.cyc_thread_calls.specs.Leading.{call_of}
 
 -- the id that a call gave

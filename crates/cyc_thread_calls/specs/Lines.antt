@@ -2,11 +2,11 @@
 use Rattle.std.specs.Prelude.{ℕ, List, Option, Some, None}
 use Rattle.cyc_ring.specs.declared.ends.RaiseEnd.{RaiseEnd}
 use Rattle.cyc_types.specs.declared.firing.Sent.{Sent}
-use Rattle.cyc_system.specs.System.{SystemView}
-use Rattle.cyc_system_rings.specs.Leading.{LeadCall}
-use Rattle.cyc_system_rings.specs.Rings.{counts_in}
-use Rattle.cyc_thread_steps.specs.declared.reporting.Line.{Line}
-use Rattle.cyc_thread_steps.specs.Reporting.{no_line}
+use Rattle.cyc_threads.specs.System.{SystemView}
+use Rattle.cyc_system_expected.specs.Leading.{LeadCall}
+use Rattle.cyc_system_expected.specs.Rings.{counts_in}
+use Rattle.cyc_threads.specs.Line.{Line}
+use Rattle.cyc_threads.specs.ThreadStepsReporting.{no_line}
 
 -- these counts, and nothing pending
 abbrev pub settled_line : Sent → Line

@@ -3,9 +3,9 @@
 ghost use Rattle.std.specs.Prelude.{◌≡◌, ℕ, List, map, true, is_some};
 ghost use Rattle.std.specs.List.{FoldsTo};
 ghost use Rattle.cyc_script.specs.declared.step.Step.{Step};
-ghost use Rattle.cyc_thread_steps.specs.declared.progress.Progress.{Progress};
-ghost use Rattle.cyc_thread_steps.specs.Steps.{Runs};
-ghost use Rattle.cyc_thread_steps.specs.Words.{Does};
+ghost use Rattle.cyc_threads.specs.Progress.{Progress};
+ghost use Rattle.cyc_threads.specs.Steps.{Runs};
+ghost use Rattle.cyc_threads.specs.Words.{Does};
 ghost use Rattle.cyc_thread_calls.specs.Giving.{given_in, introduces};
 ghost use Rattle.cyc_thread_calls.specs.Leading.{call_of};
 ghost use Rattle.cyc_thread_calls.specs.Meeting.{accepted, way_of};

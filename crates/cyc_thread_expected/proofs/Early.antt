@@ -11,19 +11,19 @@ use Rattle.cyc_types.specs.declared.refusal.Refusal.{Refusal}
 use Rattle.cyc_script.specs.WellFormed.{moment_fits, moment_after, moments_fit}
 use Rattle.cyc_script.specs.declared.step.Step.{Step}
 use Rattle.cyc_script.specs.declared.step.Step.TheVariants as steps
-use Rattle.cyc_system.specs.SystemRemoval.{SystemRemoval}
-use Rattle.cyc_system.specs.Calls.{SystemCall, Bind, BeginRemove, PollRemove}
-use Rattle.cyc_system_rings.specs.Leading.{LeadCall, Make, FireAll, AskAll}
-use Rattle.cyc_system_expected.specs.Events.{IsBeforeNever}
-use Rattle.cyc_thread_steps.specs.declared.named.Named.{Named}
-use Rattle.cyc_thread_steps.specs.declared.named.Named.TheVariants.{Nothing, Cyclic, Leaving, Removed}
-use Rattle.cyc_thread_steps.specs.declared.progress.Progress.{Progress}
-use Rattle.cyc_thread_steps.specs.declared.reporting.Line.{Line}
-use Rattle.cyc_thread_steps.specs.Named.{named_at, id_of}
-use Rattle.cyc_thread_steps.specs.Calls.{CallsFor, Poll, Waits}
-use Rattle.cyc_thread_steps.specs.Words.{WithId, reprograms, Does, Begins, waits_first}
-use Rattle.cyc_thread_steps.specs.Steps.{TakesSteps, Runs}
-use Rattle.cyc_thread_steps.specs.Reporting.{Told, Tells, TellsOf, Reports}
+use Rattle.cyc_thread_calls.specs.SystemRemoval.{SystemRemoval}
+use Rattle.cyc_thread_calls.specs.Calls.{SystemCall, Bind, BeginRemove, PollRemove}
+use Rattle.cyc_thread_calls.specs.SystemRingsLeading.{LeadCall, Make, FireAll, AskAll}
+use Rattle.cyc_thread_calls.specs.Events.{IsBeforeNever}
+use Rattle.cyc_thread_calls.specs.Named.{Named}
+use Rattle.cyc_thread_calls.specs.Named.TheVariants.{Nothing, Cyclic, Leaving, Removed}
+use Rattle.cyc_thread_calls.specs.Progress.{Progress}
+use Rattle.cyc_thread_calls.specs.Line.{Line}
+use Rattle.cyc_thread_calls.specs.ThreadStepsNamed.{named_at, id_of}
+use Rattle.cyc_thread_calls.specs.ThreadStepsCalls.{CallsFor, Poll, Waits}
+use Rattle.cyc_thread_calls.specs.Words.{WithId, reprograms, Does, Begins, waits_first}
+use Rattle.cyc_thread_calls.specs.Steps.{TakesSteps, Runs}
+use Rattle.cyc_thread_calls.specs.ThreadStepsReporting.{Told, Tells, TellsOf, Reports}
 use Rattle.cyc_thread_calls.specs.Leading.{calls_in, poll_calls, wait_calls, begin_calls, call_with, call_of, steps_calls}
 use Rattle.cyc_thread_calls.specs.Leading.{told_calls_of, told_calls, all_calls}
 use Rattle.cyc_thread_expected.proofs.Rising.{and_left, and_right}

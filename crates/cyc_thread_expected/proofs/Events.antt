@@ -14,12 +14,12 @@ use Rattle.cyc_script.specs.declared.step.Step.TheVariants as steps
 use Rattle.cyc_model.specs.Refusals.{magnitude}
 use Rattle.cyc_expected.specs.Course.{Event, Begins, BeginsOnAll, IsSet, IsSetOn, Ends, Passes, Told, told_after, told_by}
 use Rattle.cyc_expected.specs.Expected.{Met, event_of, events_of, clock_after, reprogrammed}
-use Rattle.cyc_system.specs.SystemRemoval.{SystemRemoval}
-use Rattle.cyc_system.specs.Calls.{Add, AddOmni, BeginRemove}
-use Rattle.cyc_system.specs.Calls.{Offline, Online}
-use Rattle.cyc_system_rings.specs.Leading.{LeadCall, Make}
-use Rattle.cyc_system_expected.specs.Events.{event_in, events_in}
-use Rattle.cyc_thread_steps.specs.Words.{reprograms}
+use Rattle.cyc_thread_calls.specs.SystemRemoval.{SystemRemoval}
+use Rattle.cyc_thread_calls.specs.Calls.{Add, AddOmni, BeginRemove}
+use Rattle.cyc_thread_calls.specs.Calls.{Offline, Online}
+use Rattle.cyc_thread_calls.specs.SystemRingsLeading.{LeadCall, Make}
+use Rattle.cyc_thread_calls.specs.Events.{event_in, events_in}
+use Rattle.cyc_thread_calls.specs.Words.{reprograms}
 use Rattle.cyc_thread_calls.specs.Leading.{calls_in}
 use Rattle.cyc_thread_calls.specs.Meeting.{is_taken}
 

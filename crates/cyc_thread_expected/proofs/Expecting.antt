@@ -7,19 +7,19 @@ use Rattle.cyc_script.specs.declared.step.Step.{Step}
 use Rattle.cyc_script.specs.WellFormed.{IsWellFormed}
 use Rattle.cyc_expected.specs.Course.{Told, untold, told_by}
 use Rattle.cyc_expected.specs.Expected.{events_of, expected}
-use Rattle.cyc_system_counts.specs.Sound.{IsSound}
-use Rattle.cyc_thread_steps.specs.declared.named.Named.TheVariants.{Nothing}
-use Rattle.cyc_thread_steps.specs.declared.progress.Progress.{Progress}
-use Rattle.cyc_thread_steps.specs.declared.reporting.Line.{Line}
-use Rattle.cyc_thread_steps.specs.Steps.{Runs}
-use Rattle.cyc_thread_steps.specs.Reporting.{Reports}
+use Rattle.cyc_thread_calls.specs.Sound.{IsSound}
+use Rattle.cyc_thread_calls.specs.Named.TheVariants.{Nothing}
+use Rattle.cyc_thread_calls.specs.Progress.{Progress}
+use Rattle.cyc_thread_calls.specs.Line.{Line}
+use Rattle.cyc_thread_calls.specs.Steps.{Runs}
+use Rattle.cyc_thread_calls.specs.ThreadStepsReporting.{Reports}
 use Rattle.cyc_thread_calls.specs.Leading.{all_calls}
 use Rattle.cyc_thread_calls.specs.Meeting.{way_of}
 use Rattle.cyc_thread_calls.specs.Giving.{id_given}
 use Rattle.cyc_thread_calls.specs.Lines.{line_in}
 use Rattle.cyc_thread_calls.proofs.Going.{all_go}
-use Rattle.cyc_system_expected.specs.Beginning.{IsEmpty}
-use Rattle.cyc_system_expected.proofs.WholeRun.{whole_run}
+use Rattle.cyc_thread_calls.specs.Beginning.{IsEmpty}
+use Rattle.cyc_thread_calls.proofs.WholeRun.{whole_run}
 use Rattle.cyc_thread_expected.proofs.Early.{all_early}
 use Rattle.cyc_thread_expected.proofs.Said.{calls_tell, unnamed_tells}
 

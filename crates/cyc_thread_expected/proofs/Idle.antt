@@ -7,7 +7,7 @@ use Rattle.cyc_types.specs.Firing.{FiringView, FiringCall}
 use Rattle.cyc_types.specs.declared.level.Level.{Level}
 use Rattle.cyc_types.specs.declared.moment.When.{When}
 use Rattle.cyc_types.specs.declared.refusal.Refusal.{Refusal}
-use Rattle.cyc_agreement.proofs.Spots.{none_some}
+use Rattle.cyc_thread_calls.proofs.Spots.{none_some}
 use Rattle.cyc_script.specs.declared.step.Step.{Step}
 use Rattle.cyc_script.specs.declared.step.Step.TheVariants as steps
 use Rattle.cyc_model.specs.Refusals.{magnitude}
@@ -16,11 +16,11 @@ use Rattle.cyc_expected.specs.Course.{Event, Begins, BeginsOnAll, IsSet, IsSetOn
 use Rattle.cyc_expected.specs.Course.{Idle, Told, next_of, due_of, with_moment, with_component, component_first}
 use Rattle.cyc_expected.specs.Course.{told_after, told_by}
 use Rattle.cyc_expected.specs.Expected.{events_of, reprogrammed}
-use Rattle.cyc_system.specs.Calls.{Add, AddOmni}
-use Rattle.cyc_system_rings.specs.Leading.{Make}
-use Rattle.cyc_thread_steps.specs.declared.progress.Progress.{Progress}
-use Rattle.cyc_thread_steps.specs.Words.{Does}
-use Rattle.cyc_thread_steps.specs.Steps.{TakesSteps}
+use Rattle.cyc_thread_calls.specs.Calls.{Add, AddOmni}
+use Rattle.cyc_thread_calls.specs.SystemRingsLeading.{Make}
+use Rattle.cyc_thread_calls.specs.Progress.{Progress}
+use Rattle.cyc_thread_calls.specs.Words.{Does}
+use Rattle.cyc_thread_calls.specs.Steps.{TakesSteps}
 use Rattle.cyc_thread_calls.specs.Leading.{call_of}
 use Rattle.cyc_thread_calls.specs.Meeting.{accepted, steps_met}
 use Rattle.cyc_thread_calls.specs.Giving.{given_by, later_id, introduces, id_in_steps}

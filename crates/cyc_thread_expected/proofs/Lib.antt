@@ -8,3 +8,14 @@ pub mod Said
 pub mod Early
 pub mod Expecting
 pub mod Lined
+pub use Rattle.cyc_thread_calls.proofs.Spots
+pub use Rattle.cyc_thread_calls.proofs.Lists
+pub use Rattle.cyc_thread_calls.proofs.Recording
+pub use Rattle.cyc_thread_calls.proofs.Pieces
+pub use Rattle.cyc_thread_calls.proofs.Looked
+pub use Rattle.cyc_thread_calls.proofs.Raising
+pub use Rattle.cyc_thread_calls.proofs.Folds
+pub use Rattle.cyc_thread_calls.proofs.Staying
+pub use Rattle.cyc_thread_calls.proofs.Presence
+pub use Rattle.cyc_thread_calls.proofs.Refusing
+pub use Rattle.cyc_thread_calls.proofs.Settles

@@ -9,15 +9,15 @@ use Rattle.cyc_ring.specs.Ends.{end_view, RaiseEndCall}
 use Rattle.cyc_cpus.specs.Cpus.{CpusView, new_cpu}
 use Rattle.cyc_script.specs.declared.script.Script.{Script}
 use Rattle.cyc_expected.specs.Expected.{Met, expected}
-use Rattle.cyc_system_counts.specs.Sound.{IsSound}
-use Rattle.cyc_system_expected.proofs.WholeRun.{empty_new}
-use Rattle.cyc_thread_rings.specs.declared.levels.Seated.{Seated}
-use Rattle.cyc_thread_rings.specs.Rings.{seats_of_ends, firing_seats}
-use Rattle.cyc_thread_steps.specs.declared.progress.Progress.{Progress}
-use Rattle.cyc_thread_steps.specs.declared.reporting.Line.{Line}
-use Rattle.cyc_threads.specs.declared.running.Ended.{Ended}
-use Rattle.cyc_threads.specs.Reporting.{counts_of}
-use Rattle.cyc_threads.specs.Running.{most, IsAtFirst, HasRun}
+use Rattle.cyc_thread_calls.specs.Sound.{IsSound}
+use Rattle.cyc_thread_calls.proofs.WholeRun.{empty_new}
+use Rattle.cyc_thread_calls.specs.Seated.{Seated}
+use Rattle.cyc_thread_calls.specs.Rings.{seats_of_ends, firing_seats}
+use Rattle.cyc_thread_calls.specs.Progress.{Progress}
+use Rattle.cyc_thread_calls.specs.Line.{Line}
+use Rattle.cyc_thread_calls.specs.Ended.{Ended}
+use Rattle.cyc_thread_calls.specs.Reporting.{counts_of}
+use Rattle.cyc_thread_calls.specs.Running.{most, IsAtFirst, HasRun}
 use Rattle.cyc_thread_calls.specs.Meeting.{way_of}
 use Rattle.cyc_thread_calls.specs.Lines.{line_in}
 use Rattle.cyc_thread_calls.proofs.Lining.{as_many}

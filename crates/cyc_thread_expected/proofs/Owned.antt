@@ -3,14 +3,14 @@ use Rattle.std.proofs.Common.{◌≡◌, ◌≢◌, ◌==◌, ◌∙◌, ℕ, �
 use Rattle.std.proofs.Common.{None, refl, sym, arith}
 use Rattle.cyc_types.specs.Firing.{FiringView, FiringCall}
 use Rattle.cyc_types.specs.declared.level.Level.{Level}
-use Rattle.cyc_agreement.proofs.Lists.{eq_true, true_eq, false_ne}
-use Rattle.cyc_agreement.proofs.Spots.{same_some, none_some}
+use Rattle.cyc_thread_calls.proofs.Lists.{eq_true, true_eq, false_ne}
+use Rattle.cyc_thread_calls.proofs.Spots.{same_some, none_some}
 use Rattle.cyc_script.specs.declared.step.Step.{Step}
 use Rattle.cyc_script.specs.declared.step.Step.TheVariants as steps
 use Rattle.cyc_script.specs.WellFormed.{name_fits, names_fit}
-use Rattle.cyc_thread_steps.specs.declared.progress.Progress.{Progress}
-use Rattle.cyc_thread_steps.specs.Words.{waits_first}
-use Rattle.cyc_thread_steps.specs.Steps.{TakesSteps}
+use Rattle.cyc_thread_calls.specs.Progress.{Progress}
+use Rattle.cyc_thread_calls.specs.Words.{waits_first}
+use Rattle.cyc_thread_calls.specs.Steps.{TakesSteps}
 use Rattle.cyc_thread_calls.specs.Leading.{call_of}
 use Rattle.cyc_thread_calls.specs.Giving.{later_id, id_in_steps}
 use Rattle.cyc_thread_expected.proofs.Meets.{given, AllGive}

@@ -1,12 +1,12 @@
 -- Which name has which id, over the calls of a run.
 use Rattle.std.proofs.Common.{◌≡◌, ◌==◌, ◌∙◌, ℕ, zero, suc, ◌⊎◌, inl, inr, List, [], ◌∷◌, Some, Ok}
 use Rattle.std.proofs.Common.{slice_set, refl, sym, ap}
-use Rattle.cyc_agreement.proofs.Spots.{same_some, none_some}
-use Rattle.cyc_system.specs.SystemRemoval.TheVariants.{Done, Kept}
-use Rattle.cyc_system.specs.Calls.{SystemCall, Add, AddOmni, BeginRemove, PollRemove}
-use Rattle.cyc_thread_steps.specs.declared.named.Named.{Named}
-use Rattle.cyc_thread_steps.specs.declared.named.Named.TheVariants.{Nothing, Cyclic, Leaving, Removed}
-use Rattle.cyc_thread_steps.specs.Named.{named_at, id_of, news, noted}
+use Rattle.cyc_thread_calls.proofs.Spots.{same_some, none_some}
+use Rattle.cyc_thread_calls.specs.SystemRemoval.TheVariants.{Done, Kept}
+use Rattle.cyc_thread_calls.specs.Calls.{SystemCall, Add, AddOmni, BeginRemove, PollRemove}
+use Rattle.cyc_thread_calls.specs.Named.{Named}
+use Rattle.cyc_thread_calls.specs.Named.TheVariants.{Nothing, Cyclic, Leaving, Removed}
+use Rattle.cyc_thread_calls.specs.ThreadStepsNamed.{named_at, id_of, news, noted}
 
 -- what one name has after one of them got something else
 set_at : (names : List Named) (j m : ℕ) (x : Named) → (named_at (slice_set names j x) m ≡ named_at names m)

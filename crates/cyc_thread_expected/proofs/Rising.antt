@@ -7,21 +7,21 @@ use Rattle.cyc_types.specs.Firing.{FiringView, FiringCall}
 use Rattle.cyc_types.specs.declared.level.Level.{Level}
 use Rattle.cyc_types.specs.declared.moment.When.{When}
 use Rattle.cyc_types.specs.declared.refusal.Refusal.{Refusal}
-use Rattle.cyc_agreement.proofs.Lists.{eq_true}
-use Rattle.cyc_agreement.proofs.Spots.{same_some, none_some}
+use Rattle.cyc_thread_calls.proofs.Lists.{eq_true}
+use Rattle.cyc_thread_calls.proofs.Spots.{same_some, none_some}
 use Rattle.cyc_script.specs.declared.step.Step.{Step}
 use Rattle.cyc_script.specs.declared.step.Step.TheVariants as steps
 use Rattle.cyc_script.specs.WellFormed.{names_after, name_fits, names_fit}
-use Rattle.cyc_system.specs.System.{SystemView}
-use Rattle.cyc_system.specs.Calls.{SystemCall, Changes, Add, AddOmni, Bind, BeginRemove, PollRemove}
-use Rattle.cyc_system_laws.proofs.Pieces.{made_of}
-use Rattle.cyc_system_rings.specs.Leading.{LeadCall, Make}
-use Rattle.cyc_system_expected.proofs.Singles.{ok_err}
-use Rattle.cyc_thread_steps.specs.declared.progress.Progress.{Progress}
-use Rattle.cyc_thread_steps.specs.Named.{named_at, id_of}
-use Rattle.cyc_thread_steps.specs.Calls.{CallsFor, Poll, Polls}
-use Rattle.cyc_thread_steps.specs.Words.{WithId, reprograms, Does, Begins, waits_first}
-use Rattle.cyc_thread_steps.specs.Steps.{TakesSteps}
+use Rattle.cyc_thread_calls.specs.System.{SystemView}
+use Rattle.cyc_thread_calls.specs.Calls.{SystemCall, Changes, Add, AddOmni, Bind, BeginRemove, PollRemove}
+use Rattle.cyc_thread_calls.proofs.Pieces.{made_of}
+use Rattle.cyc_thread_calls.specs.SystemRingsLeading.{LeadCall, Make}
+use Rattle.cyc_thread_calls.proofs.Singles.{ok_err}
+use Rattle.cyc_thread_calls.specs.Progress.{Progress}
+use Rattle.cyc_thread_calls.specs.ThreadStepsNamed.{named_at, id_of}
+use Rattle.cyc_thread_calls.specs.ThreadStepsCalls.{CallsFor, Poll, Polls}
+use Rattle.cyc_thread_calls.specs.Words.{WithId, reprograms, Does, Begins, waits_first}
+use Rattle.cyc_thread_calls.specs.Steps.{TakesSteps}
 use Rattle.cyc_thread_calls.specs.Leading.{call_of}
 use Rattle.cyc_thread_calls.specs.Giving.{given_by}
 use Rattle.cyc_thread_expected.proofs.Meets.{Gives, AllGive}

@@ -7,14 +7,14 @@ use Rattle.cyc_script.specs.declared.step.Step.{Step}
 use Rattle.cyc_script.specs.WellFormed.{IsWellFormed}
 use Rattle.cyc_expected.specs.Course.{Told, untold, told_by}
 use Rattle.cyc_expected.specs.Expected.{events_of, expected}
-use Rattle.cyc_system_expected.specs.Events.{events_in}
-use Rattle.cyc_thread_steps.specs.declared.named.Named.{Named}
-use Rattle.cyc_thread_steps.specs.declared.named.Named.TheVariants.{Nothing, Cyclic, Leaving, Removed}
-use Rattle.cyc_thread_steps.specs.declared.progress.Progress.{Progress}
-use Rattle.cyc_thread_steps.specs.declared.reporting.Line.{Line}
-use Rattle.cyc_thread_steps.specs.Named.{named_at}
-use Rattle.cyc_thread_steps.specs.Steps.{Runs}
-use Rattle.cyc_thread_steps.specs.Reporting.{Told as Reported, Tells, TellsOf, Reports}
+use Rattle.cyc_thread_calls.specs.Events.{events_in}
+use Rattle.cyc_thread_calls.specs.Named.{Named}
+use Rattle.cyc_thread_calls.specs.Named.TheVariants.{Nothing, Cyclic, Leaving, Removed}
+use Rattle.cyc_thread_calls.specs.Progress.{Progress}
+use Rattle.cyc_thread_calls.specs.Line.{Line}
+use Rattle.cyc_thread_calls.specs.ThreadStepsNamed.{named_at}
+use Rattle.cyc_thread_calls.specs.Steps.{Runs}
+use Rattle.cyc_thread_calls.specs.ThreadStepsReporting.{Told as Reported, Tells, TellsOf, Reports}
 use Rattle.cyc_thread_calls.specs.Leading.{wait_calls, steps_calls, told_calls_of, told_calls, report_calls, all_calls}
 use Rattle.cyc_thread_calls.specs.Meeting.{way_of}
 use Rattle.cyc_thread_calls.specs.Giving.{id_given}

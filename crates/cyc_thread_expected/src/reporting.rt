@@ -4,10 +4,10 @@ ghost use Rattle.std.specs.Prelude.{◌≡◌, ℕ, List, length, Some};
 ghost use Rattle.std.specs.List.{slice_get};
 ghost use Rattle.cyc_ring.specs.Ends.{end_view, RaiseEndCall};
 ghost use Rattle.cyc_script.specs.declared.script.Script.{Script};
-ghost use Rattle.cyc_thread_steps.specs.declared.reporting.Line.{Line};
-ghost use Rattle.cyc_threads.specs.declared.running.Ended.{Ended};
-ghost use Rattle.cyc_threads.specs.Reporting.{counts_of};
-ghost use Rattle.cyc_threads.specs.Running.{HasRun};
+ghost use Rattle.cyc_thread_calls.specs.Line.{Line};
+ghost use Rattle.cyc_thread_calls.specs.Ended.{Ended};
+ghost use Rattle.cyc_thread_calls.specs.Reporting.{counts_of};
+ghost use Rattle.cyc_thread_calls.specs.Running.{HasRun};
 ghost use Rattle.cyc_thread_calls.specs.Meeting.{way_of};
 ghost use Rattle.cyc_thread_expected.specs.Reported.{IsReported};
 

@@ -11,14 +11,14 @@ use Rattle.cyc_cpu.specs.declared.hard.Totals.{Totals}
 use Rattle.cyc_cpu.specs.Cpu.{CpuView}
 use Rattle.cyc_cpu.specs.Moving.{IsSettled}
 use Rattle.cyc_cpu.specs.Calls.{Changes as CpuChanges, AskTotals as CpuTotals}
-use Rattle.cyc_workers.proofs.Reading.{totals_settled}
-use Rattle.cyc_cpu_workers.specs.Settled.{AllSettled}
+use Rattle.cyc_system_workers.proofs.Reading.{totals_settled}
+use Rattle.cyc_system_workers.specs.Settled.{AllSettled}
 use Rattle.cyc_cpus.specs.Cpus.{CpusView, IsCpu, with_cpu, on, DoesAt, Works}
 use Rattle.cyc_cpus.proofs.Spots.{one_cpu, cpu_there, cpu_beside}
-use Rattle.cyc_system.specs.System.{SystemView}
-use Rattle.cyc_system.specs.SystemTotals.{SystemTotals}
-use Rattle.cyc_system.specs.Counting.{Counted, asked}
-use Rattle.cyc_system.specs.Calls.{Changes, AskTotals}
+use Rattle.cyc_system_workers.specs.System.{SystemView}
+use Rattle.cyc_system_counts.specs.SystemTotals.{SystemTotals}
+use Rattle.cyc_system_counts.specs.Counting.{Counted, asked}
+use Rattle.cyc_system_workers.specs.Calls.{Changes, AskTotals}
 use Rattle.cyc_thread_steps.specs.declared.named.Named.{Named}
 use Rattle.cyc_thread_steps.specs.declared.named.Named.TheVariants.{Nothing, Cyclic, Leaving, Removed}
 use Rattle.cyc_thread_steps.specs.declared.progress.Progress.{Progress}

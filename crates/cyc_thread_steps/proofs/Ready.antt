@@ -8,10 +8,10 @@ use Rattle.cyc_types.specs.declared.level.Level.{Level}
 use Rattle.cyc_types.specs.declared.moment.When.{When}
 use Rattle.cyc_script.specs.declared.step.Step.{Step}
 use Rattle.cyc_script.specs.declared.step.Step.TheVariants as steps
-use Rattle.cyc_cpu_workers.specs.declared.settling.Lead.{Lead}
+use Rattle.cyc_system_workers.specs.Lead.{Lead}
 use Rattle.cyc_cpus.specs.Cpus.{CpusView}
-use Rattle.cyc_system.specs.System.{SystemView}
-use Rattle.cyc_system.specs.Calls.{SystemCall, Changes, PollRemove}
+use Rattle.cyc_system_workers.specs.System.{SystemView}
+use Rattle.cyc_system_workers.specs.Calls.{SystemCall, Changes, PollRemove}
 use Rattle.cyc_system_laws.specs.Parts.{CpusCall, OnCpu, SetOnline, DoesPart, IsMadeOf}
 use Rattle.cyc_system_laws.proofs.Pieces.{made_of}
 use Rattle.cyc_system_workers.specs.declared.side.SystemSide.{SystemSide}

@@ -9,13 +9,13 @@ use Rattle.cyc_types.specs.Firing.{FiringView, FiringCall}
 use Rattle.cyc_types.specs.declared.receipt.Receipt.{Receipt}
 use Rattle.cyc_types.specs.declared.refusal.Refusal.{Refusal}
 use Rattle.cyc_types.proofs.Runs.{folds_more}
-use Rattle.cyc_system.specs.Calls.{PollRemove}
+use Rattle.cyc_system_workers.specs.Calls.{PollRemove}
 use Rattle.cyc_thread_steps.specs.declared.named.Named.{Named}
 use Rattle.cyc_thread_steps.specs.declared.named.Named.TheVariants.{Leaving, Nothing}
 use Rattle.cyc_thread_steps.specs.declared.progress.Progress.{Progress}
 use Rattle.cyc_thread_steps.specs.declared.reporting.Line.{Line}
 use Rattle.cyc_thread_steps.specs.Named.{named_at, is_leaving, NoneLeaves, news, noted}
-use Rattle.cyc_cpu_workers.specs.Settled.{AllSettled}
+use Rattle.cyc_system_workers.specs.Settled.{AllSettled}
 use Rattle.cyc_system_workers.specs.declared.side.SystemSide.{SystemSide}
 use Rattle.cyc_system_workers.specs.Settling.{OnlyAsked}
 use Rattle.cyc_system_counts.specs.Sound.{IsSound}

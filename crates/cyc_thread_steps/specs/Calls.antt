@@ -7,8 +7,8 @@ use Rattle.cyc_types.specs.declared.receipt.Receipt.{Receipt}
 use Rattle.cyc_types.specs.declared.refusal.Refusal.{Refusal}
 use Rattle.cyc_fire.specs.declared.fire.Fired.{Fired}
 use Rattle.cyc_fire.specs.declared.fire.FireRefused.{FireRefused}
-use Rattle.cyc_cpu_workers.specs.Settled.{AllSettled}
-use Rattle.cyc_system.specs.Calls.{SystemCall, Changes, PollRemove}
+use Rattle.cyc_system_workers.specs.Settled.{AllSettled}
+use Rattle.cyc_system_workers.specs.Calls.{SystemCall, Changes, PollRemove}
 use Rattle.cyc_system_counts.specs.Sound.{IsSound}
 use Rattle.cyc_system_workers.specs.declared.advancing.Advanced.{Advanced}
 use Rattle.cyc_system_workers.specs.declared.side.SystemSide.{SystemSide}

@@ -3,3 +3,22 @@ pub mod Calls
 pub mod Words
 pub mod Steps
 pub mod Reporting
+pub use Rattle.cyc_system_counts.specs.Sound
+pub use Rattle.cyc_system_workers.specs.Calls as SystemCalls
+pub use Rattle.cyc_system_workers.specs.declared.side.SystemSide
+pub use Rattle.cyc_system_workers.specs.System
+pub use Rattle.cyc_system_counts.specs.SystemRemoval
+pub use Rattle.cyc_system_counts.specs.Counts
+pub use Rattle.cyc_system_counts.specs.SystemTotals
+pub use Rattle.cyc_system_counts.specs.Laws
+pub use Rattle.cyc_system_counts.specs.Keeping
+pub use Rattle.cyc_system_laws.specs.Parts
+pub use Rattle.cyc_system_workers.specs.declared.advancing.Advanced
+pub use Rattle.cyc_system_workers.specs.Advancing
+pub use Rattle.cyc_system_workers.specs.Agreement
+pub use Rattle.cyc_system_workers.specs.Adding
+pub use Rattle.cyc_system_workers.specs.Binding
+pub use Rattle.cyc_system_counts.specs.Removing
+pub use Rattle.cyc_system_counts.specs.Polling
+pub use Rattle.cyc_system_laws.specs.Settled
+pub use Rattle.cyc_system_workers.specs.Refusals

@@ -1,7 +1,7 @@
 -- What the names of a script have while it runs (our own rule).
 use Rattle.std.specs.Prelude.{◌≡◌, ℕ, Bool, true, false, List, slice_set, slice_index_or, Option, Some, None, Ok}
-use Rattle.cyc_system.specs.SystemRemoval.TheVariants.{Done, Kept}
-use Rattle.cyc_system.specs.Calls.{SystemCall, Add, AddOmni, BeginRemove, PollRemove}
+use Rattle.cyc_system_counts.specs.SystemRemoval.TheVariants.{Done, Kept}
+use Rattle.cyc_system_workers.specs.Calls.{SystemCall, Add, AddOmni, BeginRemove, PollRemove}
 use Rattle.cyc_thread_steps.specs.declared.named.Named.{Named}
 use Rattle.cyc_thread_steps.specs.declared.named.Named.TheVariants.{Nothing, Cyclic, Leaving, Removed}
 

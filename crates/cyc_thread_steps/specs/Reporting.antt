@@ -3,8 +3,8 @@ use Rattle.std.specs.Prelude.{◌≡◌, ℕ, List, map, Option, Some, None}
 use Rattle.std.specs.List.{FoldsTo}
 use Rattle.cyc_types.specs.Firing.{FiringView, FiringCall}
 use Rattle.cyc_types.specs.declared.receipt.Receipt.{Receipt}
-use Rattle.cyc_system.specs.SystemTotals.{SystemTotals}
-use Rattle.cyc_system.specs.Calls.{AskTotals}
+use Rattle.cyc_system_counts.specs.SystemTotals.{SystemTotals}
+use Rattle.cyc_system_workers.specs.Calls.{AskTotals}
 use Rattle.cyc_thread_steps.specs.declared.named.Named.{Named}
 use Rattle.cyc_thread_steps.specs.declared.named.Named.TheVariants.{Nothing, Cyclic, Leaving, Removed}
 use Rattle.cyc_thread_steps.specs.declared.progress.Progress.{Progress}

@@ -9,7 +9,7 @@ use Rattle.cyc_script.specs.declared.step.Step.{Step}
 use Rattle.cyc_script.specs.declared.step.Step.TheVariants as steps
 use Rattle.cyc_thread_steps.specs.declared.halt.Halt.{Halt}
 use Rattle.cyc_thread_steps.specs.declared.halt.Halt.TheVariants as halt
-use Rattle.cyc_workers.specs.Refusals.{CanRefuse}
+use Rattle.cyc_system_workers.specs.WorkersRefusals.{CanRefuse}
 use Rattle.cyc_system_workers.specs.declared.advancing.Advanced.{Advanced}
 use Rattle.cyc_system_workers.specs.Advancing.{AllFire}
 use Rattle.cyc_thread_steps.specs.declared.progress.Progress.{Progress}

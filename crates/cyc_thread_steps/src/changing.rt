@@ -3,14 +3,14 @@
 ghost use Rattle.cyc_script.specs.declared.step.Step.TheVariants as steps;
 ghost use Rattle.std.specs.Prelude.{◌≡◌, Option, Result};
 ghost use Rattle.cyc_types.specs.declared.refusal.Refusal.{Refusal as AnyRefusal};
-ghost use Rattle.cyc_system.specs.Calls.{Changes};
+ghost use Rattle.cyc_system_workers.specs.Calls.{Changes};
 ghost use Rattle.cyc_thread_steps.specs.Named.{named_at, id_of};
 ghost use Rattle.cyc_thread_steps.specs.Words.{Does, reprograms};
 
 use crate::named::Named;
 use crate::progress::{Progress, sound};
 use cyc_script::{Bind, Name, Reprogram};
-use cyc_system::System;
+use cyc_system_workers::System;
 use cyc_types::{Calls, CyclicId, Moment, Raise, Refusal};
 
 /// The id of a name's cyclic. Once that is removed there is none: a call for it would be refused, and change nothing.

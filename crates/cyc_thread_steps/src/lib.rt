@@ -15,6 +15,7 @@ mod reporting;
 mod stepping;
 mod waiting;
 
+pub use cyc_system_workers::{System, SystemSide};
 pub use halt::Halt;
 pub use named::{Named, Names};
 pub use progress::{Progress, begin};

@@ -5,8 +5,7 @@ ghost use Rattle.cyc_thread_steps.specs.declared.named.Named.TheVariants as name
 ghost use Rattle.cyc_system_counts.specs.Sound.{IsSound};
 
 use crate::named::Names;
-use cyc_system::System;
-use cyc_system_workers::SystemSide;
+use cyc_system_workers::{System, SystemSide};
 use cyc_types::{Moment, Raise};
 use std::alloc::{AllocError, Global};
 

@@ -2,7 +2,7 @@
 
 ghost use Rattle.std.specs.Prelude.{◌≡◌, Result};
 ghost use Rattle.cyc_script.specs.declared.step.Step.TheVariants as steps;
-ghost use Rattle.cyc_system.specs.Calls.{BeginRemove};
+ghost use Rattle.cyc_system_workers.specs.Calls.{BeginRemove};
 ghost use Rattle.cyc_thread_steps.specs.Named.{news, noted};
 ghost use Rattle.cyc_thread_steps.specs.Words.{Does};
 
@@ -11,7 +11,7 @@ use crate::named::{Named, Names};
 use crate::progress::{Progress, sound};
 use crate::waiting::wake_all;
 use cyc_script::Name;
-use cyc_system::SystemRemoval;
+use cyc_system_workers::SystemRemoval;
 use cyc_types::{Calls, CyclicId, Raise, Refusal};
 
 /// The name has what the beginning of its cyclic's removal answered.

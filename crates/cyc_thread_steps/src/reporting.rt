@@ -1,13 +1,13 @@
 //! What is reported of each name.
 
 ghost use Rattle.std.specs.Prelude.{◌≡◌, All, IfOk};
-ghost use Rattle.cyc_cpu_workers.specs.Settled.{AllSettled};
+ghost use Rattle.cyc_system_workers.specs.Settled.{AllSettled};
 ghost use Rattle.cyc_thread_steps.specs.Named.{named_at};
 ghost use Rattle.cyc_thread_steps.specs.Reporting.{Asks, TellsOf, Reports, no_line, receipt_line, totals_line};
 
 use crate::named::Named;
 use crate::progress::{Progress, sound};
-use cyc_system::SystemTotals;
+use cyc_system_workers::SystemTotals;
 use cyc_types::{CyclicId, Raise, Receipt};
 use std::alloc::{AllocError, Global};
 

@@ -4,8 +4,8 @@ ghost use Rattle.std.specs.Prelude.{◌≡◌, List, length, Option, Result, IfN
 ghost use Rattle.std.specs.List.{FoldsTo};
 ghost use Rattle.cyc_types.specs.declared.receipt.Receipt.{Receipt};
 ghost use Rattle.cyc_types.specs.declared.refusal.Refusal.{Refusal};
-ghost use Rattle.cyc_system.specs.Calls.{PollRemove};
-ghost use Rattle.cyc_workers.specs.Refusals.{CanRefuse};
+ghost use Rattle.cyc_system_workers.specs.Calls.{PollRemove};
+ghost use Rattle.cyc_system_workers.specs.WorkersRefusals.{CanRefuse};
 ghost use Rattle.cyc_thread_steps.specs.Calls.{CallsFor, Poll, Polls, Waits, IsReady};
 ghost use Rattle.cyc_thread_steps.specs.Named.{NoneLeaves};
 ghost use Rattle.cyc_thread_steps.specs.Steps.{IsTold};
@@ -13,10 +13,8 @@ ghost use Rattle.cyc_thread_steps.specs.Steps.{IsTold};
 use crate::halt::Halt;
 use crate::named::Named;
 use crate::progress::{Progress, sound};
-use cyc_cpu_workers::Lead;
-use cyc_system_workers::{Asked, settle};
+use cyc_system_workers::{Asked, Lead, Signals, settle};
 use cyc_types::{Calls, CyclicId, Raise};
-use cyc_workers::Signals;
 use std::sync::Wait;
 use std::thread;
 

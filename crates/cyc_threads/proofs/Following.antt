@@ -7,7 +7,7 @@ use Rattle.cyc_types.specs.declared.level.Level.{Level}
 use Rattle.cyc_types.specs.declared.moment.When.{When}
 use Rattle.cyc_script.specs.declared.step.Step.{Step}
 use Rattle.cyc_script.specs.declared.step.Step.TheVariants as steps
-use Rattle.cyc_system.specs.Calls.{SystemCall, PollRemove}
+use Rattle.cyc_thread_steps.specs.SystemCalls.{SystemCall, PollRemove}
 use Rattle.cyc_thread_steps.specs.declared.named.Named.{Named}
 use Rattle.cyc_thread_steps.specs.declared.named.Named.TheVariants.{Nothing, Cyclic, Leaving, Removed}
 use Rattle.cyc_thread_steps.specs.declared.progress.Progress.{Progress}

@@ -5,3 +5,19 @@ pub mod Playing
 pub mod Texts
 pub mod Played
 pub mod Ran
+pub use Rattle.cyc_thread_steps.proofs.Quiet
+pub use Rattle.cyc_thread_steps.proofs.Spots
+pub use Rattle.cyc_thread_steps.proofs.Lists
+pub use Rattle.cyc_thread_steps.proofs.Pieces
+pub use Rattle.cyc_thread_steps.proofs.Recording
+pub use Rattle.cyc_thread_steps.proofs.Answering
+pub use Rattle.cyc_thread_steps.proofs.Sums
+pub use Rattle.cyc_thread_steps.proofs.Counts
+pub use Rattle.cyc_thread_steps.proofs.Stills
+pub use Rattle.cyc_thread_steps.proofs.Beginning
+pub use Rattle.cyc_thread_steps.proofs.Looked
+pub use Rattle.cyc_thread_steps.proofs.Folds
+pub use Rattle.cyc_thread_steps.proofs.Staying
+pub use Rattle.cyc_thread_steps.proofs.Presence
+pub use Rattle.cyc_thread_steps.proofs.AgreementRefusing as Refusing
+pub use Rattle.cyc_thread_steps.proofs.Settles

@@ -4,13 +4,13 @@ use Rattle.cyc_types.specs.declared.level.Level.{Level}
 use Rattle.cyc_ring.specs.declared.ends.RaiseEnd.{RaiseEnd}
 use Rattle.cyc_ring.specs.Ends.{end_view, RaiseEndCall}
 use Rattle.cyc_script.specs.declared.step.Step.{Step}
-use Rattle.cyc_system.specs.Calls.{SystemCall}
-use Rattle.cyc_system_workers.specs.declared.side.SystemSide.{SystemSide}
+use Rattle.cyc_thread_steps.specs.SystemCalls.{SystemCall}
+use Rattle.cyc_thread_steps.specs.SystemSide.{SystemSide}
 use Rattle.cyc_seats.specs.Seats.{HaveSameSeats}
 use Rattle.cyc_seats.proofs.Keeping.{same_all, then_all, called_all, asked_all, fired_all, same_long}
 use Rattle.cyc_thread_steps.specs.declared.progress.Progress.{Progress}
 use Rattle.cyc_thread_steps.specs.declared.reporting.Line.{Line}
-use Rattle.cyc_system_counts.specs.Sound.{IsSound}
+use Rattle.cyc_thread_steps.specs.Sound.{IsSound}
 use Rattle.cyc_thread_steps.specs.Calls.{IsReady, CallsFor, Settles, Fires}
 use Rattle.cyc_thread_steps.specs.Reporting.{Reports}
 use Rattle.cyc_thread_steps.specs.Steps.{Runs}

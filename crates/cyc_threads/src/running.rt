@@ -9,7 +9,7 @@ ghost use Rattle.cyc_ring.specs.Ends.{end_view, RaiseEndCall};
 ghost use Rattle.cyc_thread_rings.specs.Laid.{EachTwo};
 ghost use Rattle.cyc_thread_rings.specs.Rings.{AreSeated, AreNew, soft_seats, soft_seats_on};
 ghost use Rattle.cyc_thread_steps.specs.declared.progress.Progress.{Progress as OneProgress};
-ghost use Rattle.cyc_system_counts.specs.Sound.{IsSound};
+ghost use Rattle.cyc_thread_steps.specs.Sound.{IsSound};
 ghost use Rattle.cyc_thread_steps.specs.Calls.{IsReady};
 ghost use Rattle.cyc_thread_steps.specs.Reporting.{Reports};
 ghost use Rattle.cyc_threads.specs.Running.{IsAtLast, HasRun, HasPlayed};
@@ -21,13 +21,12 @@ use crate::working::{Worked, work_all};
 use cyc_ring::{Closed, DrainEnd, RaiseEnd, Ring};
 use cyc_script::Script;
 use cyc_script_machine::RunFault;
-use cyc_system_workers::SystemSide;
 use cyc_text::Sink;
 use cyc_thread_rings::{
     Levels, Opened, Prepared, Seated, attach, by_cpu, close_rings, in_one, in_pairs, leave_all,
     open_rings, prepare, seat_all, unseat_all,
 };
-use cyc_thread_steps::{Line, Progress, report};
+use cyc_thread_steps::{Line, Progress, SystemSide, report};
 use cyc_types::{Calls, Refusal};
 use std::alloc::Global;
 use std::sync::Wait;

@@ -1,6 +1,6 @@
 use Rattle.cyc_cpu.specs.Calls.{SoftInterrupt}
 use Rattle.cyc_cpu.specs.Soft.{fires, firing_at, Interrupts}
-use Rattle.cyc_cpu_laws.proofs.Cores.{core_proceeds_one}
+use Rattle.cyc_system_laws.proofs.Cores.{core_proceeds_one}
 use Rattle.cyc_system_sums.proofs.Spared.{run_spares}
 use Rattle.cyc_system_sums.proofs.sparing.spared_core_law.Goals as goal
 

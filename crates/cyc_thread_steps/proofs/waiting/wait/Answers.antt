@@ -1,6 +1,6 @@
 use Rattle.std.proofs.Common.{subst}
 use Rattle.std.specs.Prelude.{IfNone}
-use Rattle.cyc_cpu_workers.specs.Settled.{AllSettled}
+use Rattle.cyc_system_workers.specs.Settled.{AllSettled}
 use Rattle.cyc_thread_steps.proofs.Ready.{polls_ready}
 use Rattle.cyc_thread_steps.proofs.Telling.{waited}
 use Rattle.cyc_thread_steps.proofs.waiting.wait.Goals as goal

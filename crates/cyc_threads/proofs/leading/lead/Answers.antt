@@ -1,6 +1,6 @@
 use Rattle.std.proofs.Common.{sym, subst}
-use Rattle.cyc_system_counts.specs.Sound.{IsSound}
-use Rattle.cyc_system_workers.specs.declared.side.SystemSide.{SystemSide}
+use Rattle.cyc_thread_steps.specs.Sound.{IsSound}
+use Rattle.cyc_thread_steps.specs.SystemSide.{SystemSide}
 use Rattle.cyc_threads.proofs.leading.lead.Goals as goal
 
 pub returns-clause-sound : goal.returns-clause-sound
