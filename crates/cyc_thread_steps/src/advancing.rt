@@ -57,8 +57,7 @@ fn moment_of(nanoseconds: u64) -> Moment
     Moment::new(nanoseconds as i64).unwrap_or(Moment::NEVER)
 }
 
-/// The word `advance`: sets the clock, and all online CPUs fire at once, each in a thread of its own. It ends when all of them
-/// have.
+/// The word `advance`: sets the clock, and all online CPUs fire, side by side. It ends when all of them have.
 ///
 /// Refuses with Memory where memory or a thread was refused, and then with the refusal of the smallest CPU whose fire was.
 pub(crate) fn advance_clock<W: Threads + Sync, R: Raise + Send + Drop, C: Calls + Send + Drop>(

@@ -102,7 +102,7 @@ fn take_step<W: Threads + Wait + Sync, R: Raise + Send + Drop, C: Calls + Send +
 /// Takes the steps of a script, one after another, and then waits until no removal is open and every CPU has settled.
 ///
 /// Each word is one call of the system, at the clock; a refused one changes nothing and the steps go on, also where memory was
-/// refused. An `advance` starts a thread for each online CPU and ends when these have ended; a `softint` does nothing, since
+/// refused. An `advance` fires all online CPUs side by side and ends when they have; a `softint` does nothing, since
 /// other threads drain the levels all the while. Every other word but `remove` waits first until each open removal has answered
 /// and each CPU has settled, and wakes the draining workers between two questions.
 ///

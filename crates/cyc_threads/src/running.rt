@@ -130,8 +130,8 @@ fn run_script<W: Threads + Wait + Sync, C: Calls + Send + Drop>(
 
 /// Runs a script in threads, and puts the report: for each name a line `NAME expired E called C lost L pending 0`.
 ///
-/// Two threads for each CPU drain its soft levels from the start to the end, and each advance starts a thread for each online
-/// CPU.
+/// Two threads for each CPU drain its soft levels from the start to the end, and each advance fires all online CPUs side by
+/// side: one in the calling thread, each other in a thread of its own where one can be made.
 /// `calls` has the handlers of CPU after CPU: firing, lock, low; each worker calls its own, and they come back in that order,
 /// with the rings of CPU after CPU: lock, low. All memory is taken before the first byte is put.
 ///
