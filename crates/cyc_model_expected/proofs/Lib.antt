@@ -1,0 +1,10 @@
+pub mod Seen
+pub mod Counts
+pub mod Fires
+pub mod Stopped
+pub mod Running
+pub mod Goes
+pub mod Naming
+pub mod Follows
+pub mod Whole
+pub mod Lines

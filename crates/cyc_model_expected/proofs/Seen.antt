@@ -1,0 +1,170 @@
+-- What steps leave as it is of every CPU, and which of them open or end no removal.
+use Rattle.std.proofs.Common.{◌≡◌, ℕ, zero, suc, Bool, true, false, cond, List, [], ◌∷◌, map, length, Option, Some, None, refl}
+use Rattle.std.proofs.Common.{ap, sym, ◌∙◌, ◌==◌}
+use Rattle.std.specs.Prelude.{slice_set, slice_index_or, ◌||◌, ◌+◌}
+use Rattle.std.specs.List.{list_any}
+use Rattle.std.specs.Option.{option_map_or}
+use Rattle.cyc_script.specs.declared.step.Bind.{Bind as BindStep}
+use Rattle.cyc_level.specs.declared.Event.TheVariants.{Mark, Clear}
+use Rattle.cyc_model.specs.Acts.{at_own}
+use Rattle.cyc_model.specs.Cpu.{Cpu, Cyclic, Here, here, cyclic_of, level_of, others}
+use Rattle.cyc_model.specs.Moving.{must_grow, bank_for, switch_here, widen_here, place_here, enter_here, take_here}
+use Rattle.cyc_model.specs.State.{State, Outcome, Place, On, OnAll, absent, cpu_of, on, each}
+use Rattle.cyc_model.specs.Places.{id_of, is_leaving, home_of, put_at, is_bound, keep_counts}
+use Rattle.cyc_model.specs.Questions.{plain}
+use Rattle.cyc_model.specs.Add.{enter}
+use Rattle.cyc_model.specs.Bind.{bring, move, move_unless_there, bind}
+use Rattle.cyc_model.specs.Juggle.{Turn, IsBound, IsPending, IsRefused, Moves, turn, take_turn, juggle_each, juggled, single_ids}
+use Rattle.cyc_model.specs.Juggle.{juggle}
+use Rattle.cyc_model.specs.Offline.{ids_on, retire, retire_all, any_pending, last_part, leaving, offline, go_offline}
+use Rattle.cyc_model.specs.Online.{staying, return_at, return_of, online, go_online}
+use Rattle.cyc_model.proofs.Whole.{same_happen}
+
+-- something of each CPU
+abbrev pub seen : {A : Type 0} → (Cpu → A) → State → List A
+seen p s = map p s.cpus
+
+set_same : {A : Type 0} (p : Cpu → A) (cs : List Cpu) (n : ℕ) (d : Cpu) → p d ≡ p (slice_index_or cs n absent)
+    → map p (slice_set cs n d) ≡ map p cs
+set_same p [] n d e = refl
+set_same p (c ∷ cs) zero d e = ap (λ a. a ∷ map p cs) e
+set_same p (c ∷ cs) (suc n) d e = ap (λ rest. p c ∷ rest) (set_same p cs n d e)
+
+pub on_same : {A : Type 0} (p : Cpu → A) (n : ℕ) (f : Cpu → Here) (s : State) → p (f (cpu_of n s)).cpu ≡ p (cpu_of n s)
+    → seen p (on n f s).state ≡ seen p s
+on_same p n f s e = set_same p s.cpus n (f (cpu_of n s)).cpu e
+
+pub each_same : {A B : Type 0} (p : Cpu → A) (f : B → State → Outcome)
+    → ((x : B) (s : State) → seen p (f x s).state ≡ seen p s) → (xs : List B) (s : State)
+    → seen p (each f xs s).state ≡ seen p s
+each_same p f one [] s = refl
+each_same p f one (x ∷ xs) s = each_same p f one xs (f x s).state ∙ one x s
+
+at_map : {A : Type 0} (p : Cpu → A) (cs : List Cpu) (n : ℕ)
+    → slice_index_or (map p cs) n (p absent) ≡ p (slice_index_or cs n absent)
+at_map p [] n = refl
+at_map p (c ∷ cs) zero = refl
+at_map p (c ∷ cs) (suc n) = at_map p cs n
+
+pub seen_at : {A : Type 0} (p : Cpu → A) (s t : State) → seen p t ≡ seen p s → (m : ℕ) → p (cpu_of m t) ≡ p (cpu_of m s)
+seen_at p s t e m = sym (at_map p t.cpus m) ∙ (ap (λ list. slice_index_or list m (p absent)) e ∙ at_map p s.cpus m)
+
+-- ---- open removals
+
+abbrev pub removal_of : Cpu → Option ℕ
+removal_of c = c.removal
+
+any_map : (id : ℕ) (cs : List Cpu) → list_any (λ c. option_map_or (λ busy. busy == id) c.removal false) cs
+    ≡ list_any (λ r. option_map_or (λ busy. busy == id) r false) (map removal_of cs)
+any_map id [] = refl
+any_map id (c ∷ cs) = ap (λ b. option_map_or (λ busy. busy == id) c.removal false || b) (any_map id cs)
+
+pub same_leaving : (id : ℕ) (s t : State) → seen removal_of t ≡ seen removal_of s → is_leaving id t ≡ is_leaving id s
+same_leaving id s t e = any_map id t.cpus ∙ (ap (list_any (λ r. option_map_or (λ busy. busy == id) r false)) e
+    ∙ sym (any_map id s.cpus))
+
+abbrev Keeps : (State → Outcome) → Type 0
+Keeps f = (s : State) → seen removal_of (f s).state ≡ seen removal_of s
+
+removal_widened : (n more : ℕ) (c : Cpu) → (widen_here n more c).cpu.removal ≡ c.removal
+removal_widened n more c = by (must_grow more c)
+  where
+    by : (b : Bool) → (cond b (switch_here n (bank_for (length c.cyclics + more)) c) (record { acts = []; cpu = c })).cpu.removal
+        ≡ c.removal
+    by true = refl
+    by false = refl
+
+removal_placed : (n index : ℕ) (x : Cyclic) (c : Cpu) → (place_here n index x c).cpu.removal ≡ c.removal
+removal_placed n index x c = (same_happen (place_here n index x c).acts _).removal
+
+removal_taken : (n id : ℕ) (c : Cpu) → (take_here n id c).cpu.removal ≡ c.removal
+removal_taken n id c =
+    let d = (here (at_own n (level_of id c) (Mark id)) c).cpu in
+    (same_happen (at_own n (level_of id d) (Clear id)) (record d { cyclics = others id d.cyclics })).removal
+    ∙ (same_happen (at_own n (level_of id c) (Mark id)) c).removal
+
+pub keeps_enter : (indexes : ℕ → ℕ) (n : ℕ) (x : Cyclic) → Keeps (enter indexes n x)
+keeps_enter indexes n x s = on_same removal_of n (enter_here n (indexes s.admissions) x) s
+    (removal_placed n (indexes s.admissions) x (widen_here n 1 (cpu_of n s)).cpu ∙ removal_widened n 1 (cpu_of n s))
+
+keeps_bring : (indexes : ℕ → ℕ) (target : ℕ) (o : Option Cyclic) → Keeps (bring indexes target o)
+keeps_bring indexes target None s = refl
+keeps_bring indexes target (Some x) s = keeps_enter indexes target x s
+
+keeps_move : (indexes : ℕ → ℕ) (id source target : ℕ) → Keeps (move indexes id source target)
+keeps_move indexes id source target s =
+    let t = (on source (take_here source id) s).state in
+    keeps_bring indexes target (cyclic_of id (cpu_of source s)) (put_at id (On target (is_bound id t)) t)
+    ∙ on_same removal_of source (take_here source id) s (removal_taken source id (cpu_of source s))
+
+keeps_unless : (there : Bool) (indexes : ℕ → ℕ) (id n : ℕ) → Keeps (move_unless_there there indexes id n)
+keeps_unless true indexes id n s = refl
+keeps_unless false indexes id n s = keeps_move indexes id (home_of id s) n s
+
+pub keeps_bind : (indexes : ℕ → ℕ) (step : ℕ) (b : BindStep) → Keeps (bind indexes step b)
+keeps_bind indexes step b s =
+    let id = id_of b.name s in keeps_unless (home_of id s == b.cpu) indexes id b.cpu s
+
+keeps_turn : (indexes : ℕ → ℕ) (source id : ℕ) (t : Turn) → Keeps (take_turn indexes source id t)
+keeps_turn indexes source id IsBound s = refl
+keeps_turn indexes source id IsPending s = refl
+keeps_turn indexes source id IsRefused s = refl
+keeps_turn indexes source id (Moves target) s = keeps_move indexes id source target s
+
+keeps_turns : (indexes : ℕ → ℕ) (source : ℕ) (ids : List ℕ) (s : State)
+    → seen removal_of (juggle_each plain indexes source ids s).outcome.state ≡ seen removal_of s
+keeps_turns indexes source [] s = refl
+keeps_turns indexes source (id ∷ ids) s =
+    let t = turn plain source id s in
+    keeps_turns indexes source ids (take_turn indexes source id t s).state ∙ keeps_turn indexes source id t s
+
+pub keeps_juggle : (indexes : ℕ → ℕ) (step n : ℕ) → Keeps (juggle plain indexes step n)
+keeps_juggle indexes step n s = keeps_turns indexes n (single_ids n s) s
+
+keeps_counts : (n : ℕ) (o : Option Cyclic) (s : State) → seen removal_of (keep_counts n o s) ≡ seen removal_of s
+keeps_counts n None s = refl
+keeps_counts n (Some x) s = refl
+
+cpu_counts : (n m : ℕ) (o : Option Cyclic) (s : State) → cpu_of m (keep_counts n o s) ≡ cpu_of m s
+cpu_counts n m None s = refl
+cpu_counts n m (Some x) s = refl
+
+keeps_retire : (n id : ℕ) → Keeps (retire n id)
+keeps_retire n id s =
+    let r = keep_counts n (cyclic_of id (cpu_of n s)) s in
+    on_same removal_of n (take_here n id) r (removal_taken n id (cpu_of n r))
+    ∙ keeps_counts n (cyclic_of id (cpu_of n s)) s
+
+keeps_retired : (n : ℕ) → Keeps (retire_all n)
+keeps_retired n s =
+    let t = (each (retire n) (ids_on n s) s).state in
+    on_same removal_of n (λ c. record { acts = []; cpu = go_offline c }) t refl
+    ∙ each_same removal_of (retire n) (keeps_retire n) (ids_on n s) s
+
+pub keeps_offline : (indexes : ℕ → ℕ) (step n : ℕ) → Keeps (offline plain indexes step n)
+keeps_offline indexes step n s = by (single_ids n (juggled plain indexes n s).outcome.state)
+  where
+    moved : seen removal_of (juggled plain indexes n s).outcome.state ≡ seen removal_of s
+    moved = keeps_turns indexes n (single_ids n s) s
+
+    last : (b : Bool) → seen removal_of (last_part b step n (juggled plain indexes n s).outcome).state ≡ seen removal_of s
+    last true = moved
+    last false = keeps_retired n (juggled plain indexes n s).outcome.state ∙ moved
+
+    by : (ids : List ℕ) → seen removal_of (leaving plain step n ids (juggled plain indexes n s)).state ≡ seen removal_of s
+    by (id ∷ ids) = moved
+    by [] = last (any_pending plain n (ids_on n (juggled plain indexes n s).outcome.state)
+        (juggled plain indexes n s).outcome.state)
+
+keeps_return : (indexes : ℕ → ℕ) (n id : ℕ) (place : Place) → Keeps (return_at indexes n id place)
+keeps_return indexes n id (On m bound) s = refl
+keeps_return indexes n id (OnAll e) s = on_same removal_of n (place_here n (indexes s.admissions) _) s
+    (removal_placed n (indexes s.admissions) _ (cpu_of n s))
+
+pub keeps_online : (indexes : ℕ → ℕ) (step n : ℕ) → Keeps (online indexes step n)
+keeps_online indexes step n s =
+    let t = (on n (widen_here n (length (staying s))) s).state in
+    let u = (each (return_of indexes n) (staying s) t).state in
+    on_same removal_of n (λ c. record { acts = []; cpu = go_online c }) u refl
+    ∙ (each_same removal_of (return_of indexes n) (λ p v. keeps_return indexes n p.id p.place v) (staying s) t
+    ∙ on_same removal_of n (widen_here n (length (staying s))) s (removal_widened n (length (staying s)) (cpu_of n s)))

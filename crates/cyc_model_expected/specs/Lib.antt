@@ -1,0 +1,3 @@
+pub mod Way
+pub mod Told
+pub mod Alone

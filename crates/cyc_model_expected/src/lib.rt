@@ -1,0 +1,14 @@
+//! How often the report of a script says that each name has expired, in closed form: laws of the model of a script. The functions
+//! here do nothing when they run. Their clauses are the laws, so that they are proved.
+#![tactic(auto)]
+
+ghost use Rattle.cyc_model_expected.specs.Told.{MetAsTold};
+ghost use Rattle.cyc_model_expected.specs.Alone.{ExpiredAsExpected};
+
+/// Of each name that a script gives to no omnipresent cyclic, whatever indexes its cyclics get: the expirations that its report
+/// tells are those of the closed form, read off the script's words and which of them were accepted in that very run: a step that
+/// was not has a line that says so, and an `offline` that was has the line of an accepted step.
+pub fn expired_as_expected()
+    ensures met { MetAsTold }
+    ensures expired { ExpiredAsExpected }
+{}
