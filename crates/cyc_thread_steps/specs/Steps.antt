@@ -38,7 +38,7 @@ abbrev pub Runs : {C R : Type 0} → (C → ℕ → Level → C → Type 0) → 
 Runs {C} {R} called count may_refuse step view s all t =
     (u : Progress R C) × TakesSteps called count may_refuse step view s all u × Waits step view u t
 
--- why an `advance` to this moment ends a run: memory or a thread for it was refused, or the fire of a CPU was, and that of none
+-- why an `advance` to this moment ends a run: memory for it was refused, or the fire of a CPU was, and that of none
 -- with a smaller number
 abbrev pub AdvanceHalts : {C R : Type 0} → (C → ℕ → Level → C → Type 0) → (C → ℕ → ℕ) → (C → ℕ → Type 0)
     → (R → FiringCall → R → Type 0) → (R → FiringView) → ℕ → Progress R C → Halt → Type 0

@@ -59,7 +59,7 @@ fn moment_of(nanoseconds: u64) -> Moment
 
 /// The word `advance`: sets the clock, and all online CPUs fire, side by side. It ends when all of them have.
 ///
-/// Refuses with Memory where memory or a thread was refused, and then with the refusal of the smallest CPU whose fire was.
+/// Refuses with Memory where memory was refused, and then with the refusal of the smallest CPU whose fire was.
 pub(crate) fn advance_clock<W: Threads + Sync, R: Raise + Send + Drop, C: Calls + Send + Drop>(
     rt: &W,
     alloc: Global,

@@ -14,6 +14,6 @@ pub enum Halt {
         /// Why.
         why: Refusal,
     },
-    /// Memory alone: a growth of memory for an `advance` was refused, or a thread.
+    /// Memory alone: a growth of memory for an `advance` was refused.
     Refused(Refusal),
 }
