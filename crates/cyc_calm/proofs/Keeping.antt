@@ -33,7 +33,8 @@ use Rattle.cyc_thread_expected.specs.Turn.{Turn}
 use Rattle.cyc_thread_expected.specs.Turn.TheVariants.{StaysBound, StaysPending, StaysRefused, Moves}
 use Rattle.cyc_thread_expected.specs.Juggling.{TakesTurn, Turns, single_ids}
 use Rattle.cyc_thread_expected.specs.Omni.{AddsOmni, entering_each}
-use Rattle.cyc_thread_expected.specs.Calls.{SystemCall, Changes, Add, AddOmni, Bind, BeginRemove, PollRemove, Reprogram, ReprogramOn}
+use Rattle.cyc_thread_expected.specs.Calls.{SystemCall, Changes, Add, AddOmni, Bind, BeginRemove, PollRemove, Reprogram}
+use Rattle.cyc_thread_expected.specs.Calls.{ReprogramOn}
 use Rattle.cyc_thread_expected.specs.Calls.{Juggle}
 
 -- no removal is open on any CPU

@@ -30,7 +30,8 @@ use Rattle.cyc_system_sums.proofs.Who.{ids_there}
 use Rattle.cyc_system_sums.specs.Counts.{all_expired, all_lost, AreLawful}
 use Rattle.cyc_system_sums.proofs.Forgetting.{begins_forgotten, polls_forgotten}
 use Rattle.cyc_system_sums.proofs.Sums.{sum_none}
-use Rattle.cyc_system_sums.specs.Calls.{SystemCall, Changes, Does, Add, AddOmni, Bind, BeginRemove, PollRemove, AskTotals, Reprogram}
+use Rattle.cyc_system_sums.specs.Calls.{SystemCall, Changes, Does, Add, AddOmni, Bind, BeginRemove, PollRemove, AskTotals}
+use Rattle.cyc_system_sums.specs.Calls.{Reprogram}
 use Rattle.cyc_system_sums.specs.Calls.{ReprogramOn, Juggle, Offline, Online, FireOne, SoftInterrupt}
 use Rattle.cyc_system_sums.specs.Gone.{AreLevelsLawful}
 use Rattle.cyc_system_sums.proofs.Over.{at_one}

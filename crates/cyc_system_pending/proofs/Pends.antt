@@ -29,7 +29,8 @@ use Rattle.cyc_system_sums.proofs.Stills.{still_raises, changes_still}
 use Rattle.cyc_cpus.specs.Cpus.{CpusView, IsCpu, ChangesAt}
 use Rattle.cyc_cpus.proofs.Spots.{get_set_same, get_set_other}
 use Rattle.cyc_system_sums.specs.System.{SystemView, RunningSystem}
-use Rattle.cyc_system_sums.specs.Calls.{SystemCall, Changes, Does, no_fire, Add, AddOmni, Bind, BeginRemove, PollRemove, AskTotals}
+use Rattle.cyc_system_sums.specs.Calls.{SystemCall, Changes, Does, no_fire, Add, AddOmni, Bind, BeginRemove, PollRemove}
+use Rattle.cyc_system_sums.specs.Calls.{AskTotals}
 use Rattle.cyc_system_sums.specs.Calls.{Reprogram, ReprogramOn, Juggle, Offline, Online, FireOne, SoftInterrupt}
 use Rattle.cyc_system_sums.specs.Parts.{CpusCall, OnCpu, SetOnline, DoesPart}
 use Rattle.cyc_system_sums.proofs.Over.{at_one}

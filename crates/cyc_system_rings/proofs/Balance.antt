@@ -29,7 +29,8 @@ use Rattle.cyc_system_counts.specs.SystemRemoval.TheVariants.{Done, Kept}
 use Rattle.cyc_system_counts.specs.System.{SystemView, running_system}
 use Rattle.cyc_system_counts.specs.Laws.{cyclic_in}
 use Rattle.cyc_system_counts.specs.Counts.{all_expired, all_lost}
-use Rattle.cyc_system_counts.specs.Calls.{SystemCall, Changes, Does, Add, AddOmni, Bind, BeginRemove, PollRemove, AskTotals, Reprogram}
+use Rattle.cyc_system_counts.specs.Calls.{SystemCall, Changes, Does, Add, AddOmni, Bind, BeginRemove, PollRemove, AskTotals}
+use Rattle.cyc_system_counts.specs.Calls.{Reprogram}
 use Rattle.cyc_system_counts.specs.Calls.{ReprogramOn, Juggle, Offline, Online, FireOne, SoftInterrupt}
 use Rattle.cyc_system_counts.proofs.Sums.{sum_none}
 use Rattle.cyc_system_counts.proofs.Receipts.{begun_done, poll_done}

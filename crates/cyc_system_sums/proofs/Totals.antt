@@ -28,7 +28,8 @@ use Rattle.cyc_cpus.specs.Cpus.{ChangesAt}
 use Rattle.cyc_system_counts.specs.System.{SystemView, RunningSystem}
 use Rattle.cyc_system_counts.proofs.Recording.{found}
 use Rattle.cyc_system_counts.specs.Counts.{all_expired, all_lost}
-use Rattle.cyc_system_counts.specs.Calls.{SystemCall, Changes, Does, Add, AddOmni, Bind, BeginRemove, PollRemove, AskTotals, Reprogram}
+use Rattle.cyc_system_counts.specs.Calls.{SystemCall, Changes, Does, Add, AddOmni, Bind, BeginRemove, PollRemove, AskTotals}
+use Rattle.cyc_system_counts.specs.Calls.{Reprogram}
 use Rattle.cyc_system_counts.specs.Calls.{ReprogramOn, Juggle, Offline, Online, FireOne, SoftInterrupt, no_fire}
 use Rattle.cyc_system_counts.specs.Sound.{IsSound}
 use Rattle.cyc_system_counts.specs.Keeping.{EndsRemoval}

@@ -8,7 +8,8 @@ use Rattle.cyc_types.specs.declared.refusal.Refusal.{Refusal}
 use Rattle.cyc_script.specs.declared.step.Step.{Step}
 use Rattle.cyc_script.specs.declared.step.Step.TheVariants as steps
 use Rattle.cyc_system_counts.specs.SystemRemoval.{SystemRemoval}
-use Rattle.cyc_system_workers.specs.Calls.{SystemCall, Add, AddOmni, Bind, BeginRemove, Reprogram, ReprogramOn, Juggle, Offline, Online}
+use Rattle.cyc_system_workers.specs.Calls.{SystemCall, Add, AddOmni, Bind, BeginRemove, Reprogram, ReprogramOn, Juggle, Offline}
+use Rattle.cyc_system_workers.specs.Calls.{Online}
 use Rattle.cyc_thread_steps.specs.declared.progress.Progress.{Progress}
 use Rattle.cyc_thread_steps.specs.Named.{named_at, id_of}
 use Rattle.cyc_thread_steps.specs.Calls.{CallsFor, Waits, Fires}
