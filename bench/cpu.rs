@@ -1,93 +1,24 @@
 //! Times the fires of a proved CPU (`crates/bench_cpu`) against heaps and a wheel of plain Rust that make the same expirations. The
 //! handler of each expiration counts the calls of its cyclic.
 
+mod counted;
 mod heaps;
 mod timing;
 mod wheel;
-
-use heaps::{FIRES, Fires};
-
-/// A run of so many fires, so many nanoseconds apart: the calls of each handler, folded into one number.
-type Run = unsafe extern "C" fn(intervals: *const u64, count: usize, step: u64, fires: u64) -> u64;
 
 unsafe extern "C" {
     fn bench_fire_high(intervals: *const u64, count: usize, step: u64, fires: u64) -> u64;
     fn bench_fire_low(intervals: *const u64, count: usize, step: u64, fires: u64) -> u64;
 }
 
-/// The calls of each id, as the proved side counts them.
-struct Tally {
-    most: u64,
-    counts: Vec<u64>,
-}
-
-impl Tally {
-    fn new(count: usize) -> Tally {
-        Tally {
-            most: u64::MAX,
-            counts: vec![0; count],
-        }
-    }
-
-    fn call(&mut self, id: u64) {
-        let count = &mut self.counts[id as usize - 1];
-        assert!(*count < self.most, "the handler refuses no call here");
-        *count += 1;
-    }
-
-    /// The counts, folded into one number.
-    fn folded(&self) -> u64 {
-        self.counts.iter().fold(0, |all: u64, count| {
-            all.wrapping_mul(31).wrapping_add(*count)
-        })
-    }
-}
-
-fn table(title: &str, proved: &str, fire: Run) {
-    let [indexes, keys, library, proved, ratio] = heaps::columns(proved);
-    let columns = [indexes, keys, library, "Wheel, ns", proved, ratio];
-    timing::head(title, heaps::WHAT, &columns);
-    for (count, step) in FIRES {
-        let intervals = heaps::spread(count);
-        let run = Fires::new(&intervals, step);
-        let mut expirations = 0;
-        run.by_indexes(|_| expirations += 1);
-        let indexes = || {
-            let mut tally = Tally::new(count);
-            run.by_indexes(|id| tally.call(id));
-            tally.folded()
-        };
-        let keys = || {
-            let mut tally = Tally::new(count);
-            run.by_keys(|id| tally.call(id));
-            tally.folded()
-        };
-        let library = || {
-            let mut tally = Tally::new(count);
-            run.by_library(|id| tally.call(id));
-            tally.folded()
-        };
-        let wheel = || {
-            let mut tally = Tally::new(count);
-            run.by_wheel(|id| tally.call(id));
-            tally.folded()
-        };
-        // The call reads the intervals and keeps nothing.
-        let proved = || unsafe { fire(intervals.as_ptr(), count, step, run.fires) };
-        let sides: [timing::Side; 5] = [&indexes, &keys, &library, &wheel, &proved];
-        let times = timing::medians(heaps::ROUNDS, expirations, sides);
-        timing::row(&heaps::what(count, step), &times, times[4] / times[0]);
-    }
-}
-
 fn main() {
-    table(
+    counted::table(
         "An expiration of a fire, at high level",
         "`fire`, ns",
         bench_fire_high,
     );
     println!();
-    table(
+    counted::table(
         "An expiration of a fire, at low level, and its call by the soft interrupt",
         "`fire` and `softint`, ns",
         bench_fire_low,

@@ -25,8 +25,7 @@ fn main() {
     for (count, step) in FIRES {
         let intervals = heaps::spread(count);
         let run = Fires::new(&intervals, step);
-        let mut expirations = 0;
-        run.by_indexes(|_| expirations += 1);
+        let expirations = run.expirations();
         let indexes = || {
             let mut order = 0;
             run.by_indexes(|id| call(&mut order, id));

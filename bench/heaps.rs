@@ -82,6 +82,13 @@ impl<'a> Fires<'a> {
         }
     }
 
+    /// How many expirations the fires make.
+    pub fn expirations(self) -> u64 {
+        let mut expirations = 0;
+        self.by_indexes(|_| expirations += 1);
+        expirations
+    }
+
     pub fn by_indexes(self, mut handler: impl FnMut(u64)) {
         let mut cyclics: Vec<Cyclic> = (1..)
             .zip(self.intervals)

@@ -2,12 +2,10 @@
 
 use crate::sys;
 use crate::values::{
-    FireRefused, Fired, Id, Level, NEVER, Ran, Receipt, Refusal, Removal, Soft, Totals, done,
+    FireRefused, Fired, Id, LAST_ID, Level, NEVER, Ran, Receipt, Refusal, Removal, Soft, Totals,
+    done, whole_fire,
 };
 use std::collections::BTreeMap;
-
-const HANDLER_REFUSED: u32 = 12;
-const LAST_ID: u64 = (1 << 56) - 1;
 
 type Handler<'h> = Box<dyn FnMut() + 'h>;
 
@@ -92,15 +90,9 @@ impl<'h> Cpu<'h> {
 
     /// The receipt, where there is one, and its handler is dropped.
     fn answered(&mut self, receipt: &sys::Receipt) -> Option<Receipt> {
-        if receipt.id == 0 {
-            return None;
-        }
+        let told = Receipt::told(receipt)?;
         self.handlers.remove(&receipt.id);
-        Some(Receipt {
-            id: Id(receipt.id),
-            expired: receipt.expired,
-            lost: receipt.lost,
-        })
+        Some(told)
     }
 
     /// Makes the expirations that are due at `now`, in the order of their moments and ids; the handlers of high cyclics are
@@ -108,25 +100,11 @@ impl<'h> Cpu<'h> {
     ///
     /// Where a high handler panics, its call is counted as made by the next fire.
     pub fn fire(&mut self, now: i64) -> Result<Fired, FireRefused> {
-        let (mut expired, mut lost) = (0, 0);
-        loop {
-            let mut part = sys::Fired::default();
-            let answer = unsafe { sys::cyclic_fire(&mut self.raw, now, &mut part) };
-            expired += part.expired;
-            lost += part.lost;
-            if answer == HANDLER_REFUSED {
-                self.call(part.id);
-                continue;
-            }
-            return match done(answer, part.id) {
-                Ok(()) => Ok(Fired {
-                    expired,
-                    lost,
-                    next: part.next,
-                }),
-                Err(why) => Err(FireRefused { why, expired, lost }),
-            };
-        }
+        whole_fire(
+            self,
+            |cpu, part| unsafe { sys::cyclic_fire(&mut cpu.raw, now, part) },
+            Cpu::call,
+        )
     }
 
     /// The soft interrupt of one level: at most `budget` handler calls, until no call waits.

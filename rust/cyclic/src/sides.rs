@@ -2,14 +2,12 @@
 
 use crate::sys;
 use crate::values::{
-    Book, FireRefused, Fired, Id, Level, NEVER, Ran, Receipt, Refusal, Removal, Soft, Totals, done,
+    Book, FireRefused, Fired, Id, LAST_ID, Level, NEVER, Ran, Receipt, Refusal, Removal, Soft,
+    Totals, done, whole_fire,
 };
 use std::collections::BTreeMap;
 use std::fmt;
 use std::sync::Arc;
-
-const HANDLER_REFUSED: u32 = 12;
-const LAST_ID: u64 = (1 << 56) - 1;
 
 /// What the handles of one open have in common: it tells them from those of another.
 struct Origin;
@@ -203,40 +201,22 @@ impl FiringSide {
     }
 
     fn answered(&mut self, receipt: &sys::Receipt) -> Option<Receipt> {
-        if receipt.id == 0 {
-            return None;
-        }
+        let told = Receipt::told(receipt)?;
         self.high.remove(&receipt.id);
-        Some(Receipt {
-            id: Id(receipt.id),
-            expired: receipt.expired,
-            lost: receipt.lost,
-        })
+        Some(told)
     }
 
     /// As `Cpu::fire`.
     pub fn fire(&mut self, now: i64) -> Result<Fired, FireRefused> {
-        let (mut expired, mut lost) = (0, 0);
-        loop {
-            let mut part = sys::Fired::default();
-            let answer = unsafe { sys::cyclic_firing_fire(&mut self.owned.raw, now, &mut part) };
-            expired += part.expired;
-            lost += part.lost;
-            if answer == HANDLER_REFUSED {
-                if let Some(handler) = self.high.get_mut(&part.id) {
+        whole_fire(
+            self,
+            |side, part| unsafe { sys::cyclic_firing_fire(&mut side.owned.raw, now, part) },
+            |side, id| {
+                if let Some(handler) = side.high.get_mut(&id) {
                     handler();
                 }
-                continue;
-            }
-            return match done(answer, part.id) {
-                Ok(()) => Ok(Fired {
-                    expired,
-                    lost,
-                    next: part.next,
-                }),
-                Err(why) => Err(FireRefused { why, expired, lost }),
-            };
-        }
+            },
+        )
     }
 
     /// As `Cpu::pending`: what one load has found.

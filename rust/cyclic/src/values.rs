@@ -1,10 +1,17 @@
 //! What goes into the calls and comes out of them.
 
+use crate::sys;
 use std::error::Error;
 use std::fmt;
 
 /// The moment that is never due, in nanoseconds. As an interval it makes a one-shot.
 pub const NEVER: i64 = i64::MAX;
+
+/// The greatest number of a cyclic.
+pub(crate) const LAST_ID: u64 = (1 << 56) - 1;
+
+/// What a part of a fire answers that has stopped in front of a high handler.
+const HANDLER_REFUSED: u32 = 12;
 
 /// The number of a cyclic. No CPU gives one twice.
 #[derive(Clone, Copy, Debug, PartialEq, Eq, PartialOrd, Ord, Hash)]
@@ -115,6 +122,33 @@ pub(crate) fn done(answer: u32, id: u64) -> Result<(), Refusal> {
     }
 }
 
+/// A whole fire of a side: each part goes up to the next high cyclic, whose handler is then called.
+pub(crate) fn whole_fire<S>(
+    side: &mut S,
+    part: impl Fn(&mut S, &mut sys::Fired) -> u32,
+    call: impl Fn(&mut S, u64),
+) -> Result<Fired, FireRefused> {
+    let (mut expired, mut lost) = (0, 0);
+    loop {
+        let mut fired = sys::Fired::default();
+        let answer = part(side, &mut fired);
+        expired += fired.expired;
+        lost += fired.lost;
+        if answer == HANDLER_REFUSED {
+            call(side, fired.id);
+            continue;
+        }
+        return match done(answer, fired.id) {
+            Ok(()) => Ok(Fired {
+                expired,
+                lost,
+                next: fired.next,
+            }),
+            Err(why) => Err(FireRefused { why, expired, lost }),
+        };
+    }
+}
+
 /// What a fire did.
 #[derive(Clone, Copy, Debug, Default, PartialEq, Eq)]
 pub struct Fired {
@@ -165,6 +199,15 @@ pub struct Receipt {
 }
 
 impl Receipt {
+    /// What the library tells, where it tells of a receipt.
+    pub(crate) fn told(raw: &sys::Receipt) -> Option<Receipt> {
+        (raw.id != 0).then_some(Receipt {
+            id: Id(raw.id),
+            expired: raw.expired,
+            lost: raw.lost,
+        })
+    }
+
     /// The calls that were made.
     pub fn calls(&self) -> u64 {
         self.expired - self.lost
