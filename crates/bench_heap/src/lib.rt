@@ -2,7 +2,7 @@
 #![tactic(auto)]
 
 use cyc_heap::ExpiryHeap;
-use cyc_types::{CyclicId, Index, Moment, Refusal};
+use cyc_types::{CYCLICS, CyclicId, Index, Moment, Refusal};
 use std::alloc::Global;
 
 /// Stands for a handler: it is called, and folds the ids in the order of the calls into one number.
@@ -14,7 +14,7 @@ fn call(order: &mut u64, id: u64) {
 /// A heap in which each index has the moment of its first expiration, which is its interval.
 fn started(alloc: Global, intervals: &[u64]) -> Result<ExpiryHeap, Refusal> {
     let mut heap = ExpiryHeap::new(alloc)?;
-    if intervals.len() > 256 {
+    if intervals.len() > usize::from(CYCLICS) {
         return Err(Refusal::Full);
     }
     heap.reserve(intervals.len())?;

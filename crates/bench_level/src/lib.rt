@@ -2,17 +2,20 @@
 #![tactic(auto)]
 
 ghost use Rattle.std.specs.Prelude.{◌≡◌, ◌+◌, ◌-◌, ◌<◌, ◌≤◌, ◌^◌, IfOk};
+ghost use Rattle.cyc_types.specs.Limits.{cyclics};
 ghost use Rattle.cyc_core.specs.Tables.{level_of};
 ghost use Rattle.cyc_core.specs.FiringSide.{firing_view};
 ghost use Rattle.bench_level.specs.Ready.{IsReady, IsFilled};
 
 use cyc_core::LevelCore;
-use cyc_types::{Ceiling, CyclicId, Drain, Finished, GREATEST_BANK, Index, Raise, Refusal};
+use cyc_types::{
+    CYCLICS, Ceiling, CyclicId, Drain, Finished, GREATEST_BANK, Index, Raise, Refusal,
+};
 use std::alloc::Global;
 
 /// Admits the next id at its index.
 fn admit_next(core: &mut LevelCore, index: u16)
-    requires index { index < 256 }
+    requires index { index < cyclics }
     requires filled { IsFilled index (firing_view (level_of core.old)) }
     ensures { IsFilled (index + 1) (firing_view (level_of core.new)) }
 {
@@ -23,7 +26,7 @@ fn admit_next(core: &mut LevelCore, index: u16)
 
 /// A level in its greatest bank with the ids from 1 to `ids` admitted.
 fn filled(alloc: Global, ceiling: Ceiling, ids: u16) -> Result<LevelCore, Refusal>
-    requires { ids ≤ 256 }
+    requires { ids ≤ cyclics }
     ensures { IfOk result (λ core. IsFilled ids (firing_view (level_of core))) }
 {
     let mut core = LevelCore::new(alloc, ceiling)?;
@@ -90,13 +93,13 @@ fn hand_overs(core: &mut LevelCore, ids: u16, turns: u64) -> u64
     last
 }
 
-/// A level with `ids` cyclics, from 1 to 256, and `turns` hand-overs on it. 0 where memory is refused.
+/// A level with `ids` cyclics, from 1 to `CYCLICS`, and `turns` hand-overs on it. 0 where memory is refused.
 #[unsafe(no_mangle)]
 pub extern "C" fn rattle_hand_overs(alloc: Global, ids: u16, turns: u64) -> u64 {
     let Some(ceiling) = Ceiling::new(u32::MAX) else {
         return 0;
     };
-    if ids == 0 || ids > 256 {
+    if ids == 0 || ids > CYCLICS {
         return 0;
     }
     match filled(alloc, ceiling, ids) {

@@ -3,25 +3,23 @@
 #![tactic(auto)]
 
 ghost use Rattle.std.specs.Prelude.{◌≡◌, ◌<◌, ◌≤◌};
+ghost use Rattle.cyc_types.specs.Limits.{cyclics};
 ghost use Rattle.cyc_ring.specs.Ends.{end_view};
 ghost use Rattle.bench_turns.specs.Ready.{IsReady};
 
 use anyhow::{Context, Result, bail};
 use bench_turns::{fill, raise_done, serve_until};
 use cyc_ring::{DrainEnd, RaiseEnd, Ring};
-use cyc_types::Ceiling;
+use cyc_types::{CYCLICS, Ceiling};
 use std::env::{self, Env};
 use std::thread::{Threads, join};
 use std::time::Instant;
 
-/// The cyclics of the ring.
-const IDS: u16 = 256;
-
 /// Raises so many times, the ids round, each where its calls are done.
 fn raise_all(mut raise: RaiseEnd<'_>, count: u64)
-    requires { IsReady 256 0 (end_view raise) }
+    requires { IsReady cyclics 0 (end_view raise) }
 {
-    raise_done(&mut raise, IDS, count);
+    raise_done(&mut raise, CYCLICS, count);
 }
 
 /// Makes so many calls.
@@ -31,7 +29,7 @@ fn serve_all(mut drain: DrainEnd<'_>, count: u64) -> u64 {
 
 /// Both at once. The answer is how many calls were made.
 fn both<R: Threads>(rt: &R, raise: RaiseEnd<'_>, drain: DrainEnd<'_>, count: u64) -> u64
-    requires { IsReady 256 0 (end_view raise) }
+    requires { IsReady cyclics 0 (end_view raise) }
 {
     let (_, made) = join(rt, || raise_all(raise, count), || serve_all(drain, count));
     made
@@ -51,7 +49,7 @@ fn main(rt: HostRuntime) -> Result<()> {
     let (ring, raiser, drainer) = Ring::open(rt.alloc(), ceiling, 0)?;
     let mut raise = RaiseEnd::new(&ring, raiser);
     let drain = DrainEnd::new(&ring, drainer);
-    fill(&mut raise, IDS);
+    fill(&mut raise, CYCLICS);
     let start = Instant::now(&rt)?;
     let made = both(&rt, raise, drain, count);
     let spent = start.elapsed(&rt)?;

@@ -3,6 +3,7 @@
 
 ghost use Rattle.std.specs.Prelude.{◌≡◌, ◌+◌, ◌-◌, ◌<◌, ◌≤◌, ◌^◌, IsSome};
 ghost use Rattle.std.specs.Bool.{OnTrue};
+ghost use Rattle.cyc_types.specs.Limits.{cyclics};
 ghost use Rattle.bench_turns.specs.Ready.{IsNew, IsReady, IsFilled};
 
 use cyc_types::{CyclicId, Drain, Finished, GREATEST_BANK, Index, Raise};
@@ -10,7 +11,7 @@ use std::hint;
 
 /// Admits the next id at its index.
 fn admit_next<R: Raise>(raise: &mut R, index: u16)
-    requires index { index < 256 }
+    requires index { index < cyclics }
     requires filled { IsFilled index (R.view raise.old) }
     ensures { IsFilled (index + 1) (R.view raise.new) }
 {
@@ -21,7 +22,7 @@ fn admit_next<R: Raise>(raise: &mut R, index: u16)
 
 /// Switches a new level to its greatest bank, and admits the ids from 1 to `ids` there.
 pub fn fill<R: Raise>(raise: &mut R, ids: u16)
-    requires few { ids ≤ 256 }
+    requires few { ids ≤ cyclics }
     requires new { IsNew (R.view raise.old) }
     ensures { IsFilled ids (R.view raise.new) }
 {

@@ -5,7 +5,7 @@ ghost use Rattle.cyc_ring.specs.Ends.{IsRaiseSeatOf, seat_view, end_view};
 ghost use Rattle.ring_sides.specs.Knowing.{Knows};
 
 use cyc_ring::{RaiseEnd, RaiseSeat, Ring};
-use cyc_types::{CyclicId, GREATEST_BANK, Index, Raise, Raised, Sent};
+use cyc_types::{CYCLICS, CyclicId, GREATEST_BANK, Index, Raise, Raised, Sent};
 
 /// What a call requires does not hold.
 #[derive(Clone, Copy, Debug, PartialEq, Eq)]
@@ -18,7 +18,7 @@ const MOST_RAISES: u64 = 1_000_000_000;
 #[derive(Clone, Copy)]
 pub struct Known {
     // The id at each index, 0 where it is free.
-    ids: [u64; 256],
+    ids: [u64; CYCLICS as usize],
     // The raises of all ids.
     raises: u64,
     marked: Option<CyclicId>,
@@ -51,7 +51,7 @@ impl Known {
         ensures free { (i : ℕ) → i < cyclics → slice_index result.ids i ≡ 0 }
     {
         Known {
-            ids: [0; 256],
+            ids: [0; CYCLICS as usize],
             raises: 0,
             marked: None,
             bank: 0,
@@ -64,7 +64,7 @@ impl Known {
         ensures found { IfSome result (λ i. (i < cyclics) × (slice_index self.now.ids i ≡ id)) }
         ensures absent { IfNone result ((i : ℕ) → i < cyclics → slice_index self.now.ids i ≢ id) }
     {
-        for i in 0..256 {
+        for i in 0..usize::from(CYCLICS) {
             if self.ids[i] == id.number() {
                 return Some(i);
             }
