@@ -1,6 +1,8 @@
 //! What the benchmark of the heap calls from Rust: a whole run of expirations over `ExpiryHeap`.
 #![tactic(auto)]
 
+pub mod queue;
+
 use cyc_heap::ExpiryHeap;
 use cyc_types::{CYCLICS, CyclicId, Index, Moment, Refusal};
 use std::alloc::Global;
