@@ -1,5 +1,5 @@
--- What each word makes of a cyclic that is on one CPU.
-use Rattle.std.proofs.Common.{◌≡◌, ◌≢◌, ℕ, ◌+◌, ◌<◌, Bool, true, false, cond, List, [], ◌∷◌, map, refl}
+-- What each word leaves of a cyclic that it does not touch, and what it makes of one that is on one CPU.
+use Rattle.std.proofs.Common.{◌≡◌, ◌≢◌, ℕ, ◌+◌, ◌<◌, ◌≤◌, Bool, true, false, cond, List, [], ◌∷◌, map, refl}
 use Rattle.std.proofs.Common.{ap, sym, ◌∙◌, subst, eq-eqb, arith, Option, Some, None, inl, inr}
 use Rattle.std.specs.Prelude.{is_some, ⊤}
 use Rattle.std.specs.Option.{option_map}
@@ -18,7 +18,7 @@ use Rattle.cyc_model.specs.State.{State, Outcome, On, OnAll, Place, absent, cpu_
 use Rattle.cyc_model.specs.Places.{id_of, place_of, is_leaving, is_everywhere, home_of, home_at, destination}
 use Rattle.cyc_model.specs.Places.{given, forgotten}
 use Rattle.cyc_model.specs.Refusals.{magnitude}
-use Rattle.cyc_model.specs.Add.{added, enter}
+use Rattle.cyc_model.specs.Add.{added}
 use Rattle.cyc_model.specs.Omni.{everywhere}
 use Rattle.cyc_model.specs.Remove.{begin, poll, begun}
 use Rattle.cyc_model.specs.Reprogram.{cpu_meant}
@@ -27,7 +27,7 @@ use Rattle.cyc_model.specs.Kept.{Kept}
 use Rattle.cyc_model.specs.Script.{refusal_of, does, text_in}
 use Rattle.cyc_model.proofs.Agreement.{moment_same}
 use Rattle.cyc_model.proofs.Rising.{found, found_map, found_id, put_same, due_of_found}
-use Rattle.cyc_model.proofs.Placing.{place_given_new, place_given_other, place_forgotten_other, place_new, entry}
+use Rattle.cyc_model.proofs.Placing.{place_given_new, place_given_other, place_forgotten_other, place_new}
 use Rattle.cyc_model.proofs.Serves.{same_serve}
 use Rattle.cyc_model.proofs.Totals.{expired_in}
 use Rattle.cyc_model.proofs.Base.{IsAt, gone_away}
@@ -38,13 +38,14 @@ use Rattle.cyc_model.proofs.Calm.{good_clock}
 use Rattle.cyc_model.proofs.Juggling.{filtered}
 use Rattle.cyc_model.proofs.Staying.{not_open}
 use Rattle.cyc_model.proofs.Reaching.{safe_does}
-use Rattle.cyc_model_expected.proofs.Seen.{seen, on_same, removal_of, same_leaving, keeps_enter, keeps_bind, keeps_juggle}
-use Rattle.cyc_model_expected.proofs.Seen.{keeps_offline, keeps_online, each_same}
+use Rattle.cyc_model_expected.proofs.Seen.{seen, on_same, removal_of, removal_alike, same_leaving, keeps_enter, keeps_enters}
+use Rattle.cyc_model_expected.proofs.Seen.{keeps_bind, keeps_juggle}
+use Rattle.cyc_model_expected.proofs.Seen.{keeps_offline, keeps_online}
 use Rattle.cyc_model_expected.proofs.Counts.{cyclics_entered}
 use Rattle.cyc_model_expected.proofs.Fires.{all_fired, due_at, sum_one, Later}
 use Rattle.cyc_model_expected.proofs.Running.{Running, found_in, runs_alike, runs_there, runs_known, found_enter, found_enters}
-use Rattle.cyc_model_expected.proofs.Running.{place_enters, found_moment, Left, left_poll, left_begin, left_each}
-use Rattle.cyc_model.specs.Omni.{component}
+use Rattle.cyc_model_expected.proofs.Running.{place_enters, found_moment, Left, left_same, left_then, left_poll, left_begin}
+use Rattle.cyc_model_expected.proofs.Running.{left_each}
 
 -- a step that is nothing to the cyclic of this id
 abbrev pub IsOther : ℕ → State → Step → Type 0
@@ -53,8 +54,101 @@ IsOther id s (Remove name) = id ≢ id_of name s
 IsOther id s (Advance now) = ⊥
 IsOther id s _ = ⊤
 
-place_kept : (id : ℕ) (s t : State) → t.placed ≡ s.placed → place_of id t ≡ place_of id s
-place_kept id s t same = ap (λ ps. option_map (λ p. p.place) (entry id ps)) same
+-- nor does it move cyclics, or take a CPU away or bring one back
+abbrev pub IsFixed : Step → Type 0
+IsFixed (Bind b) = ⊥
+IsFixed (Unbind name) = ⊥
+IsFixed (Juggle n) = ⊥
+IsFixed (Offline n) = ⊥
+IsFixed (Online n) = ⊥
+IsFixed x = ⊤
+
+-- it takes no CPU away and brings none back
+abbrev pub IsHere : Step → Type 0
+IsHere (Offline n) = ⊥
+IsHere (Online n) = ⊥
+IsHere x = ⊤
+
+module _ (texts : List (List ℕ)) (f : ℕ → ℕ) (step id : ℕ) where
+  left_forgotten : (j : ℕ) (s t : State) → id ≢ j → Left id s t → Left id s (forgotten j t)
+  left_forgotten j s t ne h = left_then id s t (forgotten j t) h
+      (record { found_ = refl; shut = λ no. no; place = place_forgotten_other j id t ne })
+
+  left_polled : (j : ℕ) (s : State) → id ≢ j → Left id s (poll_id plain texts step j s).state
+  left_polled j s ne =
+      let o = each (poll plain j) (numbers (is_open j) s) s in
+      by o (left_each id (poll plain j) (λ n u. left_poll id j n u ne) (numbers (is_open j) s) s) (cpus_with j o.state)
+    where
+      by : (o : Outcome) → Left id s o.state → (ns : List ℕ)
+          → Left id s (polled step (text_of_id j texts s.names) j ns o).state
+      by o h [] = left_forgotten j s o.state ne h
+      by o h (n ∷ ns) = h
+
+  left_polls : (ids : List ℕ) (s : State) → ((j : ℕ) → Has j ids → id ≢ j)
+      → Left id s (each (poll_id plain texts step) ids s).state
+  left_polls [] s ne = left_same id s
+  left_polls (j ∷ ids) s ne =
+      let t = (poll_id plain texts step j s).state in
+      left_then id s t (each (poll_id plain texts step) ids t).state (left_polled j s (ne j (inl refl)))
+      (left_polls ids t (λ i has. ne i (inr has)))
+
+  -- what a step leaves of a cyclic to which it is nothing
+  pub left_does : (x : Step) (s : State) → IsOther id s x → IsFixed x → id ≤ s.last_id → is_leaving id s ≡ false
+      → Left id s (does plain texts f step x s).state
+  left_does (Add a) s is fixed low shut =
+      let n = destination None s in let u = given a.name (On n false) s in
+      let t = (does plain texts f step (Add a) s).state in
+      let new : id ≢ s.last_id + 1 = λ e. absurd (omega (arith, low, e)) in record {
+        found_ = found_enter id f n (added a s) u (λ e. new (sym e));
+        shut = λ no. same_leaving id s t (keeps_enter removal_of removal_alike f n (added a s) u) ∙ no;
+        place = place_given_other a.name (On n false) s id new;
+      }
+  left_does (Omni a) s is fixed low shut =
+      let u = given a.name (OnAll (everywhere a)) s in
+      let t = (does plain texts f step (Omni a) s).state in
+      let new : id ≢ s.last_id + 1 = λ e. absurd (omega (arith, low, e)) in record {
+        found_ = found_enters id f (s.last_id + 1) (everywhere a) (online_cpus u) u (λ e. new (sym e));
+        shut = λ no. same_leaving id s t
+            (keeps_enters removal_of removal_alike f (s.last_id + 1) (everywhere a) (online_cpus u) u) ∙ no;
+        place = place_enters id f (s.last_id + 1) (everywhere a) (online_cpus u) u
+            ∙ place_given_other a.name (OnAll (everywhere a)) s id new;
+      }
+  left_does (Bind b) s is fixed low shut = absurd fixed
+  left_does (Unbind name) s is fixed low shut = absurd fixed
+  left_does (Reprogram q) s is fixed low shut =
+      let n = cpu_meant q.cpu (id_of q.name s) s in
+      let h = reprogram_here (id_of q.name s) (magnitude q.moment) in
+      let t = (does plain texts f step (Reprogram q) s).state in record {
+        found_ = on_same (found_in id) n h s (found_moment id (id_of q.name s) (magnitude q.moment) (cpu_of n s).cyclics is);
+        shut = λ no. same_leaving id s t (on_same removal_of n h s refl) ∙ no;
+        place = refl;
+      }
+  left_does (Remove name) s is fixed low shut =
+      let j = id_of name s in
+      let o = each (begin plain j) (cpus_with j s) s in
+      by o (left_each id (begin plain j) (λ n u. left_begin id j n u is) (cpus_with j s) s) (cpus_with j o.state)
+    where
+      by : (o : Outcome) → Left id s o.state → (ns : List ℕ)
+          → Left id s (begun plain step (text_in texts name) (id_of name s) ns o).state
+      by o h [] = left_forgotten (id_of name s) s o.state is h
+      by o h (n ∷ ns) = h
+  left_does (Advance now) s is fixed low shut = absurd is
+  left_does (Softint i) s is fixed low shut =
+      let o = interrupt step i s in
+      let same = same_serve i.cpu i.budget i.level (cpu_of i.cpu s) in
+      let shut2 = same_leaving id s o.state (on_same removal_of i.cpu (serve_here i.cpu i.level i.budget) s same.removal)
+      ∙ shut in
+      left_then id s o.state (does plain texts f step (Softint i) s).state (record {
+        found_ = on_same (found_in id) i.cpu (serve_here i.cpu i.level i.budget) s (ap (found id) same.cyclics);
+        shut = λ no. shut2;
+        place = refl;
+      })
+      (left_polls (leaving_ids o.state) o.state
+      (λ j has e. let l = (filtered (λ i. is_leaving i o.state) j (map (λ p. p.id) o.state.placed) has).1 in
+      let no : false ≡ true = sym shut2 ∙ (ap (λ i. is_leaving i o.state) e ∙ l) in cc))
+  left_does (Juggle n) s is fixed low shut = absurd fixed
+  left_does (Offline n) s is fixed low shut = absurd fixed
+  left_does (Online n) s is fixed low shut = absurd fixed
 
 module _ (texts : List (List ℕ)) (f : ℕ → ℕ) (step id moment interval : ℕ) where
   abbrev Runs : State → Type 0
@@ -65,83 +159,26 @@ module _ (texts : List (List ℕ)) (f : ℕ → ℕ) (step id moment interval : 
       let c = kept.cyclics id r.single in
       runs_alike id moment interval s t r (same_leaving id s t same ∙ r.stays) c.0 c.1
 
-  runs_left : (s t : State) → Left id s t → Runs s → Runs t
-  runs_left s t h r = runs_there id moment interval s t r (h.shut r.stays) (place_kept id s t h.placed) h.found_
-
-  runs_forgotten : (j : ℕ) (t : State) → id ≢ j → Runs t → Runs (forgotten j t)
-  runs_forgotten j t ne r = runs_there id moment interval t (forgotten j t) r r.stays (place_forgotten_other j id t ne) refl
-
-  runs_polled : (j : ℕ) (s : State) → id ≢ j → Runs s → Runs (poll_id plain texts step j s).state
-  runs_polled j s ne r =
-      let o = each (poll plain j) (numbers (is_open j) s) s in
-      by o (runs_left s o.state (left_each id (poll plain j) (λ n u. left_poll id j n u ne) (numbers (is_open j) s) s) r)
-      (cpus_with j o.state)
-    where
-      by : (o : Outcome) → Runs o.state → (ns : List ℕ) → Runs (polled step (text_of_id j texts s.names) j ns o).state
-      by o h [] = runs_forgotten j o.state ne h
-      by o h (n ∷ ns) = h
-
-  runs_polls : (ids : List ℕ) (s : State) → ((j : ℕ) → Has j ids → id ≢ j) → Runs s
-      → Runs (each (poll_id plain texts step) ids s).state
-  runs_polls [] s ne r = r
-  runs_polls (j ∷ ids) s ne r = runs_polls ids (poll_id plain texts step j s).state (λ i has. ne i (inr has))
-      (runs_polled j s (ne j (inl refl)) r)
+  runs_left : (x : Step) (s : State) → Good s → IsOther id s x → IsFixed x → Runs s
+      → Runs (does plain texts f step x s).state
+  runs_left x s g is fixed r =
+      let h = left_does texts f step id x s is fixed (runs_known id moment interval s g r).2 r.stays in
+      runs_there id moment interval s (does plain texts f step x s).state r (h.shut r.stays) h.place h.found_
 
   pub runs_does : (x : Step) (s : State) (g : Good s) → refusal_of plain x s ≡ None → IsOther id s x → Runs s
       → Runs (does plain texts f step x s).state
-  runs_does (Add a) s g why is r =
-      let n = destination None s in let u = given a.name (On n false) s in
-      let t = (does plain texts f step (Add a) s).state in
-      let k = runs_known id moment interval s g r in let le = k.2 in
-      let new : id ≢ s.last_id + 1 = λ e. absurd (omega (arith, le, e)) in
-      runs_there id moment interval s t r
-      (same_leaving id s t (keeps_enter f n (added a s) u) ∙ r.stays)
-      (place_given_other a.name (On n false) s id new)
-      (found_enter id f n (added a s) u (λ e. new (sym e)))
-  runs_does (Omni a) s g why is r =
-      let u = given a.name (OnAll (everywhere a)) s in
-      let t = (does plain texts f step (Omni a) s).state in
-      let k = runs_known id moment interval s g r in let le = k.2 in
-      let new : id ≢ s.last_id + 1 = λ e. absurd (omega (arith, le, e)) in
-      runs_there id moment interval s t r
-      (same_leaving id s t (each_same removal_of (λ n v. enter f n (component (s.last_id + 1) n (everywhere a) v.clock) v)
-      (λ n v. keeps_enter f n (component (s.last_id + 1) n (everywhere a) v.clock) v) (online_cpus u) u) ∙ r.stays)
-      (place_enters id f (s.last_id + 1) (everywhere a) (online_cpus u) u
-      ∙ place_given_other a.name (OnAll (everywhere a)) s id new)
-      (found_enters id f (s.last_id + 1) (everywhere a) (online_cpus u) u (λ e. new (sym e)))
+  runs_does (Add a) s g why is r = runs_left (Add a) s g is tt r
+  runs_does (Omni a) s g why is r = runs_left (Omni a) s g is tt r
   runs_does (Bind b) s g why is r = runs_kept s (does plain texts f step (Bind b) s).state
-      (safe_does texts f step (Bind b) s tt g why) (keeps_bind f step b s) r
+      (safe_does texts f step (Bind b) s tt g why) (keeps_bind removal_of removal_alike f step b s) r
   runs_does (Unbind name) s g why is r = runs_kept s (does plain texts f step (Unbind name) s).state
       (safe_does texts f step (Unbind name) s tt g why) refl r
-  runs_does (Reprogram q) s g why is r =
-      let n = cpu_meant q.cpu (id_of q.name s) s in
-      let h = reprogram_here (id_of q.name s) (magnitude q.moment) in
-      let t = (does plain texts f step (Reprogram q) s).state in
-      runs_there id moment interval s t r
-      (same_leaving id s t (on_same removal_of n h s refl) ∙ r.stays) refl
-      (on_same (found_in id) n h s (found_moment id (id_of q.name s) (magnitude q.moment) (cpu_of n s).cyclics is))
-  runs_does (Remove name) s g why is r =
-      let j = id_of name s in
-      let o = each (begin plain j) (cpus_with j s) s in
-      by o (runs_left s o.state (left_each id (begin plain j) (λ n u. left_begin id j n u is) (cpus_with j s) s) r)
-      (cpus_with j o.state)
-    where
-      by : (o : Outcome) → Runs o.state → (ns : List ℕ)
-          → Runs (begun plain step (text_in texts name) (id_of name s) ns o).state
-      by o h [] = runs_forgotten (id_of name s) o.state is h
-      by o h (n ∷ ns) = h
+  runs_does (Reprogram q) s g why is r = runs_left (Reprogram q) s g is tt r
+  runs_does (Remove name) s g why is r = runs_left (Remove name) s g is tt r
   runs_does (Advance now) s g why is r = absurd is
-  runs_does (Softint i) s g why is r =
-      let o = interrupt step i s in
-      let same = same_serve i.cpu i.budget i.level (cpu_of i.cpu s) in
-      let h = runs_there id moment interval s o.state r
-      (same_leaving id s o.state (on_same removal_of i.cpu (serve_here i.cpu i.level i.budget) s same.removal) ∙ r.stays) refl
-      (on_same (found_in id) i.cpu (serve_here i.cpu i.level i.budget) s (ap (found id) same.cyclics)) in
-      runs_polls (leaving_ids o.state) o.state
-      (λ j has e. let l = (filtered (λ i. is_leaving i o.state) j (map (λ p. p.id) o.state.placed) has).1 in
-      let no : false ≡ true = sym h.stays ∙ (ap (λ i. is_leaving i o.state) e ∙ l) in cc) h
+  runs_does (Softint i) s g why is r = runs_left (Softint i) s g is tt r
   runs_does (Juggle n) s g why is r = runs_kept s (does plain texts f step (Juggle n) s).state
-      (safe_does texts f step (Juggle n) s tt g why) (keeps_juggle f step n s) r
+      (safe_does texts f step (Juggle n) s tt g why) (keeps_juggle removal_of removal_alike f step n s) r
   runs_does (Offline n) s g why is r = runs_kept s (does plain texts f step (Offline n) s).state
       (safe_does texts f step (Offline n) s tt g why) (keeps_offline f step n s) r
   runs_does (Online n) s g why is r = runs_kept s (does plain texts f step (Online n) s).state
@@ -169,7 +206,8 @@ runs_moment id moment interval new s g r =
       interval_is = r.interval_is;
     }
 
-place_fires : (id now : ℕ) (ns : List ℕ) (s : State) → place_of id (each (λ n. on n (fire_here n now)) ns s).state ≡ place_of id s
+pub place_fires : (id now : ℕ) (ns : List ℕ) (s : State)
+    → place_of id (each (λ n. on n (fire_here n now)) ns s).state ≡ place_of id s
 place_fires id now [] s = refl
 place_fires id now (n ∷ ns) s = place_fires id now ns (on n (fire_here n now) s).state
 
@@ -219,7 +257,7 @@ runs_fired id moment interval now s g before r =
         absurd (ne (same_home m (home_of id s) (place_of id s) (g.base.homes m id (ap is_some is)) at r.single))
 
 -- an id that is new is nowhere, and no removal of it is open
-new_shut : (s : State) → Good s → is_leaving (s.last_id + 1) s ≡ false
+pub new_shut : (s : State) → Good s → is_leaving (s.last_id + 1) s ≡ false
 new_shut s g = not_open (s.last_id + 1) s (λ m is. none_and_some ⊥ (found (s.last_id + 1) (cpu_of m s).cyclics)
     (gone_away None s g.base (s.last_id + 1) (place_new s g.base.rise) m) ((g.base.whole m).held (s.last_id + 1) is))
 
@@ -239,7 +277,7 @@ runs_added texts f step a s g =
     let within = (numbers_pass (λ (c : Cpu). c.online) n s dest.0).0 in
     let none = gone_away None s g.base id (place_new s g.base.rise) n in
     record {
-      stays = same_leaving id s t (keeps_enter f n x u) ∙ new_shut s g;
+      stays = same_leaving id s t (keeps_enter removal_of removal_alike f n x u) ∙ new_shut s g;
       single = ap is_everywhere place;
       it = x;
       here = ap (λ o. found id (cpu_of (home_at o) t).cyclics) place

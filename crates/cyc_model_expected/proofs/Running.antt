@@ -133,25 +133,25 @@ module _ (id : ℕ) where
       → is_leaving id (on n f s).state ≡ false
   shut_on n f s e shut = shut_set s.cpus n (f (cpu_of n s)).cpu shut e
 
-  -- a removal of another id leaves both, on one CPU
+  -- the id's cyclics, its place, and that no removal of it is open are as they were
   pub record Left (s t : State) : Type 0 where
     pub found_ : seen (found_in id) t ≡ seen (found_in id) s
     pub shut : is_leaving id s ≡ false → is_leaving id t ≡ false
-    pub placed : t.placed ≡ s.placed
+    pub place : place_of id t ≡ place_of id s
 
   pub left_same : (s : State) → Left s s
-  left_same s = record { found_ = refl; shut = λ h. h; placed = refl }
+  left_same s = record { found_ = refl; shut = λ h. h; place = refl }
 
   pub left_then : (s t u : State) → Left s t → Left t u → Left s u
   left_then s t u one two = record {
     found_ = two.found_ ∙ one.found_;
     shut = λ h. two.shut (one.shut h);
-    placed = two.placed ∙ one.placed;
+    place = two.place ∙ one.place;
   }
 
   left_counts : (n : ℕ) (o : Option Cyclic) (s : State) → Left s (keep_counts n o s)
   left_counts n None s = left_same s
-  left_counts n (Some x) s = record { found_ = refl; shut = λ h. h; placed = refl }
+  left_counts n (Some x) s = record { found_ = refl; shut = λ h. h; place = refl }
 
   left_clear : (j n : ℕ) (s : State) → id ≢ j → Left s (clear j n s).state
   left_clear j n s ne =
@@ -162,7 +162,7 @@ module _ (id : ℕ) where
         shut = shut_on n (clear_here n j) r
             (ap (λ o. option_map_or (λ busy. busy == id) o false) (same_happen (at_own n (level_of j c) (Clear j))
             (record c { cyclics = others j c.cyclics; removal = None })).removal);
-        placed = refl;
+        place = refl;
       })
 
   pub left_poll : (j n : ℕ) (s : State) → id ≢ j → Left s (poll plain j n s).state
@@ -182,7 +182,7 @@ module _ (id : ℕ) where
             (ap (λ o. option_map_or (λ busy. busy == id) o false) (same_happen (at_own n (level_of j c) (Mark j))
             (record c { cyclics = map (moment_at j never) c.cyclics; removal = Some j })).removal
             ∙ ne_eqb j id (λ e. ne (sym e)));
-        placed = refl;
+        place = refl;
       }) (left_poll j n t ne)
 
   pub left_each : {A : Type 0} → (f : A → State → Outcome) → ((x : A) (s : State) → Left s (f x s).state) → (xs : List A)

@@ -15,8 +15,8 @@ use Rattle.cyc_model.specs.Questions.{plain}
 use Rattle.cyc_model.specs.State.{State, Outcome, On, OnAll, Place, cpu_of, each, numbers, online_cpus, cpus_with}
 use Rattle.cyc_model.specs.Places.{id_of, place_of, is_leaving, destination, given, forgotten}
 use Rattle.cyc_model.specs.Refusals.{magnitude}
-use Rattle.cyc_model.specs.Add.{added, enter}
-use Rattle.cyc_model.specs.Omni.{component, everywhere}
+use Rattle.cyc_model.specs.Add.{added}
+use Rattle.cyc_model.specs.Omni.{everywhere}
 use Rattle.cyc_model.specs.Remove.{begin, poll, begun}
 use Rattle.cyc_model.specs.Reprogram.{cpu_meant}
 use Rattle.cyc_model.specs.Softint.{interrupt, is_open, leaving_ids, text_of_id, polled, poll_id}
@@ -34,16 +34,8 @@ use Rattle.cyc_model.proofs.Answering.{begun_removal, open_removal, well_poll}
 use Rattle.cyc_model.proofs.Staying.{leaving_where}
 use Rattle.cyc_model.proofs.Printing.{polls_keep}
 use Rattle.cyc_model.proofs.Reaching.{well_does}
-use Rattle.cyc_model_expected.proofs.Seen.{
-  seen,
-  on_same,
-  each_same,
-  removal_of,
-  same_leaving,
-  keeps_enter,
-  keeps_bind,
-  keeps_juggle,
-}
+use Rattle.cyc_model_expected.proofs.Seen.{seen, on_same, removal_of, removal_alike, same_leaving, keeps_enter, keeps_enters}
+use Rattle.cyc_model_expected.proofs.Seen.{keeps_bind, keeps_juggle}
 use Rattle.cyc_model_expected.proofs.Seen.{keeps_offline, keeps_online}
 use Rattle.cyc_model_expected.proofs.Fires.{all_fired}
 
@@ -169,14 +161,13 @@ module _ (texts : List (List ℕ)) (f : ℕ → ℕ) (step : ℕ) (id : ℕ) whe
       → Stopped id (does plain texts f step x s).state
   leaving_does (Add a) s g why leaves =
       let n = destination None s in let r = given a.name (On n false) s in
-      open_kept s (does plain texts f step (Add a) s).state (keeps_enter f n (added a s) r) leaves
+      open_kept s (does plain texts f step (Add a) s).state (keeps_enter removal_of removal_alike f n (added a s) r) leaves
   leaving_does (Omni a) s g why leaves =
       let r = given a.name (OnAll (everywhere a)) s in
       open_kept s (does plain texts f step (Omni a) s).state
-      (each_same removal_of (λ n u. enter f n (component (s.last_id + 1) n (everywhere a) u.clock) u)
-      (λ n u. keeps_enter f n (component (s.last_id + 1) n (everywhere a) u.clock) u) (online_cpus r) r) leaves
+      (keeps_enters removal_of removal_alike f (s.last_id + 1) (everywhere a) (online_cpus r) r) leaves
   leaving_does (Bind b) s g why leaves =
-      open_kept s (does plain texts f step (Bind b) s).state (keeps_bind f step b s) leaves
+      open_kept s (does plain texts f step (Bind b) s).state (keeps_bind removal_of removal_alike f step b s) leaves
   leaving_does (Unbind name) s g why leaves = inr leaves
   leaving_does (Reprogram r) s g why leaves =
       let n = cpu_meant r.cpu (id_of r.name s) s in
@@ -197,7 +188,7 @@ module _ (texts : List (List ℕ)) (f : ℕ → ℕ) (step : ℕ) (id : ℕ) whe
       (open_kept s o.state (on_same removal_of i.cpu (serve_here i.cpu i.level i.budget) s
       (same_serve i.cpu i.budget i.level (cpu_of i.cpu s)).removal) leaves)
   leaving_does (Juggle n) s g why leaves =
-      open_kept s (does plain texts f step (Juggle n) s).state (keeps_juggle f step n s) leaves
+      open_kept s (does plain texts f step (Juggle n) s).state (keeps_juggle removal_of removal_alike f step n s) leaves
   leaving_does (Offline n) s g why leaves =
       open_kept s (does plain texts f step (Offline n) s).state (keeps_offline f step n s) leaves
   leaving_does (Online n) s g why leaves =
