@@ -40,7 +40,7 @@ abbrev pub AllWithin : ℕ → List Step → Type 0
 AllWithin names [] = ⊤
 AllWithin names (x ∷ xs) = IsWithin names x × AllWithin names xs
 
-both_true : (a b : Bool) → (a && b) ≡ true → (a ≡ true) × (b ≡ true)
+pub both_true : (a b : Bool) → (a && b) ≡ true → (a ≡ true) × (b ≡ true)
 both_true true b e = (refl, e)
 both_true false b e = absurd (cc)
 

@@ -6,7 +6,7 @@ use Rattle.std.proofs.lemmas.List.{length-map}
 use Rattle.cyc_types.specs.declared.refusal.Refusal.{Refusal}
 use Rattle.cyc_script.specs.declared.step.Step.{Step}
 use Rattle.cyc_model.specs.Questions.{plain}
-use Rattle.cyc_model.specs.State.{State, numbers_from}
+use Rattle.cyc_model.specs.State.{State, numbers_from, absent}
 use Rattle.cyc_model.specs.Cpu.{new_cpu}
 use Rattle.cyc_model.specs.Places.{id_of}
 use Rattle.cyc_model.specs.Refusals.{unless}
@@ -17,8 +17,9 @@ use Rattle.cyc_model.proofs.Reaching.{start_good, none_ended, sum_of_none}
 use Rattle.cyc_expected.specs.Course.{Told, Idle, told_after, told_by, untold}
 use Rattle.cyc_expected.specs.Expected.{event_of, events_of, clock_after}
 use Rattle.cyc_model_expected.specs.Way.{is_done, way_from}
-use Rattle.cyc_model_expected.specs.Alone.{IsAlone, ExpiredAsExpected}
+use Rattle.cyc_model_expected.specs.Expired.{ExpiredAsExpected}
 use Rattle.cyc_model_expected.proofs.Naming.{Ready, ready_does, names_last, AllWithin, all_within}
+use Rattle.cyc_model_expected.proofs.Ups.{Ups, ups_does}
 use Rattle.cyc_model_expected.proofs.Follows.{Follows, follows_does, undone, clock_does}
 
 module _ (texts : List (List ℕ)) (f : ℕ → ℕ) (name : ℕ) where
@@ -32,14 +33,15 @@ module _ (texts : List (List ℕ)) (f : ℕ → ℕ) (name : ℕ) where
 
   -- what the other steps come to
   abbrev Rest : ℕ → List Step → Type 0
-  Rest step xs = (t : State) (v : Told) → Ready t → AllWithin (length t.names) xs → Follows name t v.course v.expired
+  Rest step xs = (t : State) (v : Told) → Ready t → AllWithin (length t.names) xs → Ups v.online t
+      → Follows name t v.course v.expired
       → left step xs t ≡ told step xs t.clock t v
 
-  follows_steps : (xs : List Step) (step : ℕ) (s : State) (u : Told) → Ready s → AllWithin (length s.names) xs → IsAlone name xs
-      → Follows name s u.course u.expired → left step xs s ≡ told step xs s.clock s u
-  follows_steps [] step s u h in_ alone c = c.expired_is
-  follows_steps (x ∷ xs) step s u h in_ alone c =
-      by (λ t v ready within k. follows_steps xs (step + 1) t v ready within alone.1 k) (refusal_of plain x s) refl
+  follows_steps : (xs : List Step) (step : ℕ) (s : State) (u : Told) → Ready s → AllWithin (length s.names) xs
+      → Ups u.online s → Follows name s u.course u.expired → left step xs s ≡ told step xs s.clock s u
+  follows_steps [] step s u h in_ ups c = c.expired_is
+  follows_steps (x ∷ xs) step s u h in_ ups c =
+      by (λ t v ready within up k. follows_steps xs (step + 1) t v ready within up k) (refusal_of plain x s) refl
     where
       -- what is told after the step, by whether it was done
       done : Rest (step + 1) xs → (b : Bool) → refusal_of plain x s ≡ None → is_done x (does plain texts f step x s).state ≡ b
@@ -52,13 +54,14 @@ module _ (texts : List (List ℕ)) (f : ℕ → ℕ) (name : ℕ) where
           let v = told_after (event_of name s.clock x) u in
           rest t v (ready_does texts f step s h x in_.0 why)
           (subst (λ n. AllWithin n xs) (sym (names_last texts f step s h x)) in_.1)
-          (follows_does texts f step name s h x why in_.0 alone.0 u c)
+          (ups_does texts f step s h.good name x why is u ups)
+          (follows_does texts f step name s h x why is in_.0 u ups c)
           ∙ ap (λ clock. told (step + 1) xs clock t v) (clock_does texts f step name s h x)
       done rest false why is =
           let t = (does plain texts f step x s).state in
-          let k = undone texts f step name s h x why is u c in
+          let k = undone texts f step name s h x why is u ups c in
           rest t u (ready_does texts f step s h x in_.0 why)
-          (subst (λ n. AllWithin n xs) (sym (names_last texts f step s h x)) in_.1) k.0
+          (subst (λ n. AllWithin n xs) (sym (names_last texts f step s h x)) in_.1) k.2 k.0
           ∙ ap (λ clock. told (step + 1) xs clock t u) k.1
 
       by : Rest (step + 1) xs → (o : Option Refusal) → refusal_of plain x s ≡ o
@@ -69,7 +72,7 @@ module _ (texts : List (List ℕ)) (f : ℕ → ℕ) (name : ℕ) where
           (events_of name s.clock (way_from f texts (step + 1) xs (unless o step (does plain texts f step x) s).state)))
           u).expired
       by rest None why = done rest (is_done x (does plain texts f step x s).state) why refl
-      by rest (Some r) why = rest s u h in_.1 c
+      by rest (Some r) why = rest s u h in_.1 ups c
 
 -- ---- the machine as it begins
 
@@ -95,6 +98,19 @@ start_ready cpus ceiling names some = record {
   fresh = λ id above. start_expired cpus ceiling names id;
 }
 
+up_at : (ceiling cpus m : ℕ) → slice_index_or (replicate cpus true) m false
+    ≡ (slice_index_or (replicate cpus (new_cpu ceiling)) m absent).online
+up_at ceiling zero m = refl
+up_at ceiling (suc cpus) zero = refl
+up_at ceiling (suc cpus) (suc m) = up_at ceiling cpus m
+
+as_many_ups : (ceiling cpus : ℕ) → length (replicate cpus true) ≡ length (replicate cpus (new_cpu ceiling))
+as_many_ups ceiling zero = refl
+as_many_ups ceiling (suc cpus) = ap suc (as_many_ups ceiling cpus)
+
+start_ups : (cpus ceiling names : ℕ) → Ups (replicate cpus true) (start cpus ceiling names)
+start_ups cpus ceiling names = record { long = as_many_ups ceiling cpus; up = up_at ceiling cpus }
+
 start_follows : (cpus ceiling names name : ℕ) → Follows name (start cpus ceiling names) Idle 0
 start_follows cpus ceiling names name = record {
   course_is = let z = no_id names name in inl (omega (arith, z), refl);
@@ -103,7 +119,7 @@ start_follows cpus ceiling names name = record {
 
 pub expired_as_expected : ExpiredAsExpected
 unfolding run_of
-expired_as_expected indexes script name alone =
+expired_as_expected indexes script name =
     let cpus = script.cpus_in_range.0 in
     let texts = names_of script in
     let names = length texts in
@@ -113,5 +129,6 @@ expired_as_expected indexes script name alone =
     let within = all_within names 0 script.steps.items script.well_formed.names_in_order (omega (arith, introduced, few)) in
     follows_steps texts indexes name script.steps.items 1 (start script.cpus script.ceiling names) (untold script.cpus)
     (start_ready script.cpus script.ceiling names some)
-    (subst (λ n. AllWithin n script.steps.items) (sym (length_names names)) within.1) alone
+    (subst (λ n. AllWithin n script.steps.items) (sym (length_names names)) within.1)
+    (start_ups script.cpus script.ceiling names)
     (start_follows script.cpus script.ceiling names name)

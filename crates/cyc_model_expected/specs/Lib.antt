@@ -1,3 +1,3 @@
 pub mod Way
 pub mod Told
-pub mod Alone
+pub mod Expired

@@ -1,7 +1,5 @@
 -- The report of a script tells of each name what is expected of it.
-use Rattle.std.specs.Prelude.{◌≡◌, ◌≢◌, ℕ, ⊤, List, [], ◌∷◌}
-use Rattle.cyc_script.specs.declared.step.Step.{Step}
-use Rattle.cyc_script.specs.declared.step.Step.TheVariants.{Omni}
+use Rattle.std.specs.Prelude.{◌≡◌, ℕ}
 use Rattle.cyc_script.specs.declared.script.Script.{Script}
 use Rattle.cyc_model.specs.Places.{id_of}
 use Rattle.cyc_model.specs.Report.{counts_of}
@@ -9,21 +7,11 @@ use Rattle.cyc_model.specs.Script.{run_of}
 use Rattle.cyc_expected.specs.Expected.{expected}
 use Rattle.cyc_model_expected.specs.Way.{way_of}
 
--- the step gives the name to no omnipresent cyclic
-abbrev pub IsNoOmni : ℕ → Step → Type 0
-IsNoOmni name (Omni a) = a.name ≢ name
-IsNoOmni name _ = ⊤
-
--- nor does any of these: the name is that of a cyclic on one CPU, if of any
-abbrev pub IsAlone : ℕ → List Step → Type 0
-IsAlone name [] = ⊤
-IsAlone name (x ∷ xs) = IsNoOmni name x × IsAlone name xs
-
 -- the expirations that the report tells of the name
 abbrev pub told_of : ℕ → (ℕ → ℕ) → Script → ℕ
 told_of name indexes script = (counts_of (id_of name (run_of indexes script).state) (run_of indexes script).state).expired
 
 -- whatever indexes its cyclics get, and which of its steps were accepted is read off the same run
 abbrev pub ExpiredAsExpected : Type 0
-ExpiredAsExpected = (indexes : ℕ → ℕ) (script : Script) (name : ℕ) → IsAlone name script.steps.items
+ExpiredAsExpected = (indexes : ℕ → ℕ) (script : Script) (name : ℕ)
     → told_of name indexes script ≡ expected script.cpus (way_of indexes script) name
