@@ -3,7 +3,7 @@
 use crate::tests::written;
 
 /// Scripts, each with its text.
-static RUNS: [(&str, &str, &str); 21] = [
+static RUNS: [(&str, &str, &str); 28] = [
     (
         "bound_cyclics_are_left",
         "{\"cpus\":2,\"steps\":[[\"add\",\"a\",\"high\",10,10],[\"add\",\"b\",\"high\",10,10],[\"add\",\"c\",\"high\",10,10],[\"bind\",\"a\",0],[\"offline\",0],[\"unbind\",\"a\"],[\"offline\",0],[\"softint\",1,\"low\",1],[\"softint\",1,\"lock\",1],[\"offline\",0],[\"offline\",1],[\"offline\",0]]}",
@@ -108,6 +108,41 @@ static RUNS: [(&str, &str, &str); 21] = [
         "a_refused_move_leaves_no_mark",
         "{\"cpus\":2,\"steps\":[[\"add\",\"a\",\"low\",10,10],[\"advance\",10],[\"bind\",\"a\",1],[\"advance\",20],[\"softint\",0,\"low\",8],[\"bind\",\"a\",1],[\"advance\",30],[\"softint\",1,\"low\",8]]}",
         "1 ok\n2 fired 1 lost 0\n3 refused 9\n4 fired 1 lost 0\n5 ran 2 idle\n6 ok\n7 fired 1 lost 0\n8 ran 1 idle\na expired 3 called 3 lost 0 pending 0\n",
+    ),
+    (
+        "a_one_shot_without_a_start_never_fires",
+        "{\"cpus\":1,\"steps\":[[\"add\",\"a\",\"high\",0,9223372036854775807],[\"advance\",9223372036854775806]]}",
+        "1 ok\n2 fired 0 lost 0\na expired 0 called 0 lost 0 pending 0\n",
+    ),
+    (
+        "no_budget_is_no_look",
+        "{\"cpus\":1,\"steps\":[[\"add\",\"a\",\"low\",1,10],[\"add\",\"b\",\"low\",2,10],[\"softint\",0,\"lock\",1],[\"softint\",0,\"low\",0],[\"add\",\"c\",\"low\",3,10],[\"softint\",0,\"low\",1],[\"add\",\"d\",\"low\",3,10],[\"advance\",1],[\"softint\",0,\"low\",1],[\"softint\",0,\"low\",1]]}",
+        "1 ok\n2 ok\n3 ran 0 idle\n4 ran 0 more\n5 refused 6\n6 ran 0 idle\n7 ok\n8 fired 1 lost 0\n9 ran 1 more\n10 ran 0 idle\na expired 1 called 1 lost 0 pending 0\nb expired 0 called 0 lost 0 pending 0\nc expired 0 called 0 lost 0 pending 0\nd expired 0 called 0 lost 0 pending 0\n",
+    ),
+    (
+        "a_removal_is_named_before_the_banks",
+        "{\"cpus\":1,\"steps\":[[\"add\",\"a\",\"low\",1,10],[\"add\",\"b\",\"low\",100,10],[\"advance\",1],[\"remove\",\"a\"],[\"add\",\"c\",\"high\",5,10],[\"softint\",0,\"low\",8],[\"add\",\"d\",\"high\",5,10],[\"add\",\"e\",\"high\",5,10],[\"softint\",0,\"lock\",1],[\"add\",\"f\",\"high\",5,10],[\"add\",\"g\",\"low\",100,10]]}",
+        "1 ok\n2 ok\n3 fired 1 lost 0\n4 kept 1\n5 refused 7\n6 ran 1 idle\n6 removed a 1\n7 ok\n8 refused 6\n9 ran 0 idle\n10 ok\n11 ok\na expired 1 called 1 lost 0 pending 0\nb expired 0 called 0 lost 0 pending 0\nc expired 0 called 0 lost 0 pending 0\nd expired 0 called 0 lost 0 pending 0\ne expired 0 called 0 lost 0 pending 0\nf expired 0 called 0 lost 0 pending 0\ng expired 0 called 0 lost 0 pending 0\n",
+    ),
+    (
+        "high_cyclics_use_indexes_too",
+        "{\"cpus\":1,\"steps\":[[\"add\",\"a\",\"high\",1,10],[\"add\",\"b\",\"high\",2,10],[\"add\",\"c\",\"high\",3,10],[\"softint\",0,\"low\",8],[\"add\",\"d\",\"high\",3,10],[\"softint\",0,\"lock\",8],[\"add\",\"e\",\"high\",3,10]]}",
+        "1 ok\n2 ok\n3 refused 6\n4 ran 0 idle\n5 refused 6\n6 ran 0 idle\n7 ok\na expired 0 called 0 lost 0 pending 0\nb expired 0 called 0 lost 0 pending 0\nc expired 0 called 0 lost 0 pending 0\nd expired 0 called 0 lost 0 pending 0\ne expired 0 called 0 lost 0 pending 0\n",
+    ),
+    (
+        "the_refusals_of_a_bind",
+        "{\"cpus\":3,\"steps\":[[\"add\",\"a\",\"low\",1,10],[\"add\",\"b\",\"low\",1,10],[\"offline\",2],[\"omni\",\"p\",\"low\",1,10,0],[\"advance\",1],[\"bind\",\"p\",9],[\"bind\",\"a\",2],[\"bind\",\"a\",1],[\"softint\",0,\"low\",8],[\"bind\",\"a\",1],[\"remove\",\"p\"],[\"bind\",\"a\",1],[\"bind\",\"p\",9]]}",
+        "1 ok\n2 ok\n3 ok\n4 ok\n5 fired 4 lost 0\n6 refused 16\n7 refused 14\n8 refused 9\n9 ran 2 idle\n10 refused 6\n11 kept 1\n12 refused 7\n13 refused 8\na expired 1 called 1 lost 0 pending 0\nb expired 1 called 0 lost 0 pending 1\np expired 2 called 1 lost 0 pending 1\n",
+    ),
+    (
+        "the_refusals_of_an_offline",
+        "{\"cpus\":2,\"steps\":[[\"add\",\"a\",\"low\",1,10],[\"offline\",9],[\"juggle\",9],[\"online\",9],[\"offline\",1],[\"advance\",1],[\"remove\",\"a\"],[\"offline\",0],[\"juggle\",0],[\"juggle\",1],[\"online\",1],[\"offline\",0]]}",
+        "1 ok\n2 refused 13\n3 refused 13\n4 refused 13\n5 ok\n6 fired 1 lost 0\n7 kept 1\n8 refused 15\n9 refused 15\n10 refused 14\n11 ok\n12 refused 7\na expired 1 called 0 lost 0 pending 1\n",
+    ),
+    (
+        "one_that_is_leaving_needs_no_room_on_a_cpu_that_returns",
+        "{\"cpus\":2,\"steps\":[[\"omni\",\"a\",\"high\",10,10,0],[\"omni\",\"b\",\"high\",10,10,0],[\"offline\",1],[\"softint\",0,\"low\",1],[\"softint\",0,\"lock\",1],[\"omni\",\"c\",\"low\",10,10,0],[\"advance\",10],[\"remove\",\"c\"],[\"online\",1],[\"advance\",20],[\"softint\",0,\"low\",8]]}",
+        "1 ok\n2 ok\n3 ok\n4 ran 0 idle\n5 ran 0 idle\n6 ok\n7 fired 3 lost 0\n8 kept 1\n9 ok\n10 fired 6 lost 0\n11 ran 1 idle\n11 removed c 1\na expired 4 called 4 lost 0 pending 0\nb expired 4 called 4 lost 0 pending 0\nc expired 1 called 1 lost 0 pending 0\n",
     ),
 ];
 

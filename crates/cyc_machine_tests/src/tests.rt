@@ -168,14 +168,15 @@ fn filled(alloc: Global, last: &str) -> Result<String, AllocError> {
     Ok(script)
 }
 
-/// The text of that script, with these lines of its last steps.
-fn filled_text(alloc: Global, last: &str) -> Result<String, AllocError> {
+/// The text of that script, with these lines of its last steps, and this report of the first cyclic.
+fn filled_text(alloc: Global, last: &str, first: &str) -> Result<String, AllocError> {
     let mut text = String::new(alloc);
     for k in 0..256u32 {
         push_add_text(&mut text, k)?;
     }
     text.push_str(last)?;
-    for k in 0..257u32 {
+    text.push_str(first)?;
+    for k in 1..257u32 {
         push_report(&mut text, k)?;
     }
     Ok(text)
@@ -183,15 +184,23 @@ fn filled_text(alloc: Global, last: &str) -> Result<String, AllocError> {
 
 #[test]
 fn a_cpu_holds_256_cyclics_and_another_after_a_removal(rt: HostRuntime) {
-    for (last, lines) in [
-        ("[\"add\",\"c256\",\"low\",1,1]", "769 refused 5\n"),
+    let never = "c0 expired 0 called 0 lost 0 pending 0\n";
+    for (last, lines, first) in [
+        ("[\"add\",\"c256\",\"low\",1,1]", "769 refused 5\n", never),
         (
             "[\"remove\",\"c0\"],[\"add\",\"c256\",\"low\",1,1]",
             "769 removed c0 0\n770 ok\n",
+            never,
+        ),
+        // while a removal is open it is full too, and that is named first
+        (
+            "[\"reprogram\",\"c0\",0],[\"advance\",0],[\"remove\",\"c0\"],[\"add\",\"c256\",\"low\",1,1],[\"softint\",0,\"low\",8]",
+            "769 ok\n770 fired 1 lost 0\n771 kept 1\n772 refused 5\n773 ran 1 idle\n773 removed c0 1\n",
+            "c0 expired 1 called 1 lost 0 pending 0\n",
         ),
     ] {
         let script = filled(rt.alloc(), last).expect(&rt, "a script");
-        let text = filled_text(rt.alloc(), lines).expect(&rt, "a text");
+        let text = filled_text(rt.alloc(), lines, first).expect(&rt, "a text");
         let written = written(&rt, script.as_str());
         assert_eq!(rt; written.as_slice(), text.as_bytes(), "{last}");
     }
