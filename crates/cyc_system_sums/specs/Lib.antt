@@ -1,5 +1,6 @@
 pub mod Totalling
 pub mod Sparing
+pub mod Kinds
 pub use Rattle.cyc_system_counts.specs.SoftFault
 pub use Rattle.cyc_system_counts.specs.Counts
 pub use Rattle.cyc_system_counts.specs.System

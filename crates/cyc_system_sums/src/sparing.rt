@@ -1,12 +1,12 @@
-//! The law of a cyclic that has lost nothing.
+//! Laws of a cyclic that has lost nothing.
 
-ghost use Rattle.std.specs.Prelude.{◌≡◌, ℕ, List, All};
+ghost use Rattle.std.specs.Prelude.{◌≡◌, ℕ, ◌<◌, List, All};
 ghost use Rattle.std.specs.List.{FoldsTo};
 ghost use Rattle.cyc_core.specs.Tables.{Tables};
 ghost use Rattle.cyc_cpu.specs.Calls.{no_interrupts};
 ghost use Rattle.cyc_cpu.specs.Soft.{fires, firing_at, Interrupts};
 ghost use Rattle.cyc_system_counts.specs.Counts.{all_expired, all_lost};
-ghost use Rattle.cyc_system_counts.specs.System.{RunningSystem};
+ghost use Rattle.cyc_system_counts.specs.System.{RunningSystem, SystemView};
 ghost use Rattle.cyc_system_counts.specs.Calls.{SystemCall};
 ghost use Rattle.cyc_system_counts.specs.Sound.{IsSound};
 ghost use Rattle.cyc_system_counts.specs.Keeping.{EndsRemoval};
@@ -34,4 +34,12 @@ pub fn spared_core_law<C: Calls>()
         → FoldsTo (Steps C.called C.count C.may_refuse fires firing_at (Interrupts C.called C.count C.may_refuse)) s way t
         → IsSound firing_at s.system → All (λ call. EndsRemoval id call → ⊥) way
         → all_lost id s.system ≡ 0 → IsUnderEach firing_at (all_expired id t.system) t.system → all_lost id t.system ≡ 0 }
+{}
+
+/// An id that was not given yet has neither expired nor lost anything. So a run that begins before an id is given has no premise
+/// left to find.
+///
+/// It does nothing when it runs: its clause is the law.
+pub fn unused_law<R: Raise>()
+    ensures { (id : ℕ) (s : SystemView R) → IsSound R.view s → s.last < id → (all_expired id s ≡ 0) × (all_lost id s ≡ 0) }
 {}

@@ -1,0 +1,40 @@
+//! Laws of what a fire and a soft interrupt keep of each cyclic.
+
+ghost use Rattle.std.specs.Prelude.{ℕ, Result};
+ghost use Rattle.cyc_types.specs.declared.level.Soft.{Soft};
+ghost use Rattle.cyc_core.specs.Tables.{Tables};
+ghost use Rattle.cyc_fire.specs.declared.fire.Fired.{Fired};
+ghost use Rattle.cyc_fire.specs.declared.fire.FireRefused.{FireRefused};
+ghost use Rattle.cyc_soft.specs.declared.Ran.{Ran};
+ghost use Rattle.cyc_cpu.specs.Calls.{no_interrupts};
+ghost use Rattle.cyc_cpu.specs.Soft.{fires, firing_at, Interrupts};
+ghost use Rattle.cyc_system_counts.specs.SoftFault.{SoftFault};
+ghost use Rattle.cyc_system_counts.specs.System.{RunningSystem};
+ghost use Rattle.cyc_system_counts.specs.Calls.{Does, FireOne, SoftInterrupt};
+ghost use Rattle.cyc_system_counts.specs.Sound.{IsSound};
+ghost use Rattle.cyc_system_counts.specs.Keeping.{SameStays};
+ghost use Rattle.cyc_system_sums.specs.Kinds.{SameKinds};
+
+use cyc_types::{Calls, Raise};
+
+/// A fire, one that was refused or stopped too, changes next expirations and counts alone: of each cyclic, wherever it is, the
+/// level and the interval stay, and none comes or goes.
+///
+/// It does nothing when it runs: its clause is the law.
+pub fn fires_law<C: Calls, R: Raise>()
+    ensures { (id n now : ℕ) (answer : Result Fired FireRefused) (s t : RunningSystem C R) → IsSound R.view s.system
+        → IsSound R.view t.system
+        → Does C.called C.count C.may_refuse R.step R.view no_interrupts s (FireOne n now answer) t
+        → SameKinds id s.system t.system }
+{}
+
+/// A soft interrupt keeps all of each cyclic: its level, its interval, its next expiration and its counts.
+///
+/// It does nothing when it runs: its clause is the law.
+pub fn interrupts_law<C: Calls>()
+    ensures { (id n budget : ℕ) (level : Soft) (answer : Result Ran SoftFault) (s t : RunningSystem C Tables)
+        → IsSound firing_at s.system → IsSound firing_at t.system
+        → Does C.called C.count C.may_refuse fires firing_at (Interrupts C.called C.count C.may_refuse) s
+        (SoftInterrupt n level budget answer) t
+        → SameStays id s.system t.system }
+{}
