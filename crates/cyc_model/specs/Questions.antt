@@ -1,5 +1,5 @@
 -- What a call must ask of a CPU before it knows what to do.
-use Rattle.std.specs.Prelude.{ℕ, ◌+◌, ◌==◌, ◌&&◌, Bool, true, Option, None}
+use Rattle.std.specs.Prelude.{ℕ, ◌+◌, ◌==◌, ◌&&◌, Bool, Option}
 use Rattle.cyc_level.specs.Level.{count}
 use Rattle.cyc_model.specs.Cpu.{Cpu}
 
@@ -26,12 +26,4 @@ plain = record {
   followed = λ n id c. has_followed c;
   outstanding = λ n id c. outstanding_here id c;
   removal = λ n c. c.removal;
-}
-
--- where the soft sides have done all that there was to do
-abbrev pub settled : Questions
-settled = record {
-  followed = λ n id c. true;
-  outstanding = λ n id c. 0;
-  removal = λ n c. None;
 }
