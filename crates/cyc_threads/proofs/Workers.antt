@@ -18,8 +18,9 @@ use Rattle.cyc_script.specs.declared.step.Step.{Step}
 use Rattle.cyc_workers.specs.declared.draining.SoftSide.{SoftSide}
 use Rattle.cyc_workers.specs.declared.draining.Drained.{Drained}
 use Rattle.cyc_workers.specs.declared.draining.Drains.{Drains}
-use Rattle.cyc_workers.specs.Draining.{Makes, Serves, HasDrained, IsRefused, side_of, has_looked}
+use Rattle.cyc_workers.specs.Draining.{Makes, HasLooked, HasDrained, IsRefused, side_of}
 use Rattle.cyc_workers.specs.Refusing.{HandlerRefuses}
+use Rattle.cyc_workers.proofs.Making.{looked_makes}
 use Rattle.cyc_workers.proofs.Halting.{joined}
 use Rattle.cyc_thread_rings.specs.declared.levels.Levels.{Levels}
 use Rattle.cyc_thread_rings.specs.declared.refusing.Fire.{Fire}
@@ -89,9 +90,8 @@ module _ {C D : Type 0} (called : C → ℕ → Level → C → Type 0) (count :
   makes_one : (level : Level) (a : SoftSide D C) (d : Drained D C)
       → HasDrained soft_step held made (at_level called level) count may_refuse a d → d.refused ≡ None →
       Makes soft_step made (at_level called level) count a d.drain d.calls
-  makes_one level a d h none =
-      (subst (λ o. IfNone o (Serves soft_step held made (at_level called level) count true a (side_of d)
-      × (d.watch ≡ has_looked))) none h.stopped).0.0
+  makes_one level a d h none = looked_makes soft_step held made (at_level called level) count may_refuse a d
+      (subst (λ o. IfNone o (HasLooked soft_step held made (at_level called level) count a d)) none h.stopped)
 
   makes_all : (n : ℕ) (sides : List (Levels (SoftSide D C))) (ds : List (Levels (Drained D C))) → EachTwo Both sides ds
       → first_in (refusals_from n None ds) ≡ None →

@@ -34,11 +34,12 @@ use Rattle.cyc_workers.specs.declared.running.Sides.{Sides}
 use Rattle.cyc_workers.specs.declared.firing.FiringSide.{FiringSide}
 use Rattle.cyc_workers.specs.declared.draining.SoftSide.{SoftSide}
 use Rattle.cyc_workers.specs.declared.draining.Drained.{Drained}
-use Rattle.cyc_workers.specs.Draining.{Makes, Serves, IsRefused, HasDrained, side_of, has_looked}
+use Rattle.cyc_workers.specs.Draining.{Makes, IsRefused, HasLooked, HasDrained, side_of}
 use Rattle.cyc_workers.specs.Refusals.{CanRefuse}
 use Rattle.cyc_workers.specs.Refusing.{why_of, StepHalts, IsHalted, WhyHalted, WhyRefused, EndsEarly, HasWorked, Works}
 use Rattle.cyc_workers.specs.Settling.{Settles}
 use Rattle.cyc_workers.specs.Stepping.{Takes}
+use Rattle.cyc_workers.proofs.Making.{looked_makes}
 use Rattle.cyc_workers.proofs.Taking.{takes_none, takes_then, settles_takes, fires_takes}
 
 -- what the exit of a `?` returns
@@ -122,8 +123,8 @@ module _ {C R D : Type 0} (called : C → ℕ → Level → C → Type 0) (count
       → Makes soft_step made (at_level called level) count a b.drain b.calls
   makes level a d b h none is = subst (λ (x : SoftSide D C). Makes soft_step made (at_level called level) count a x.drain x.calls)
       (sym is)
-      (subst (λ o. IfNone o (Serves soft_step held made (at_level called level) count true a (side_of d)
-      × (d.watch ≡ has_looked))) none h.stopped).0.0
+      (looked_makes soft_step held made (at_level called level) count may_refuse a d
+      (subst (λ o. IfNone o (HasLooked soft_step held made (at_level called level) count a d)) none h.stopped))
 
   -- what all workers leave
   pub works_all : (all : List Step) (a : Sides R D C) (taken : Result (FiringSide R C) Halt) (lock low : Drained D C)

@@ -8,12 +8,13 @@ use Rattle.cyc_types.specs.Runs.{finishes_of}
 use Rattle.cyc_types.proofs.Runs.{folds_on, finishes_on, finished_on}
 use Rattle.cyc_soft.specs.declared.Ran.{Ran}
 use Rattle.cyc_soft.specs.declared.SoftRefused.{SoftRefused}
-use Rattle.cyc_soft.specs.Serving.{Served, ids, look_of, last_look, hand_left, way_of, IsSoftint}
+use Rattle.cyc_soft.specs.Serving.{Served, ids, look_of, last_look, hand_left, way_of, IsSoftint, EndsWithLook}
 use Rattle.cyc_soft.specs.Serving as soft
 use Rattle.cyc_soft.proofs.Rounds.{way_finishes}
 use Rattle.cyc_workers.specs.declared.draining.SoftSide.{SoftSide}
+use Rattle.cyc_workers.specs.declared.draining.Drained.{Drained}
 use Rattle.cyc_workers.specs.declared.watch.Watch.{Watch}
-use Rattle.cyc_workers.specs.Draining.{Makes, Serves, IsRefused, HasDrained, has_looked}
+use Rattle.cyc_workers.specs.Draining.{Makes, Serves, IsRefused, HasLooked, HasDrained}
 
 look_finishes : (hand found : Option ℕ) → finishes_of (look_of hand found) ≡ []
 look_finishes None found = refl
@@ -26,12 +27,6 @@ last_finishes false = refl
 no_more : (xs : List ℕ) → xs ++ [] ≡ xs
 no_more [] = refl
 no_more (x ∷ xs) = ap (λ ys. x ∷ ys) (no_more xs)
-
-abbrev watch : Bool → Watch
-watch b = record { told = b; looked = true }
-
-pub told_and_looked : (told : Bool) (w : Watch) → w ≡ record { told = told; looked = true } → w.told ≡ true → w ≡ has_looked
-told_and_looked told w e t = e ∙ ap (λ (b : Bool). watch b) (sym (ap (λ (x : Watch). x.told) e) ∙ t)
 
 module _ {D C : Type 0} (step : D → DrainCall → D → Type 0) (held : D → Option ℕ) (made : D → ℕ → ℕ)
     (called : C → ℕ → C → Type 0) (count : C → ℕ → ℕ) (may_refuse : C → ℕ → Type 0) where
@@ -72,7 +67,7 @@ module _ {D C : Type 0} (step : D → DrainCall → D → Type 0) (held : D → 
       IsSoftint step held made called count may_refuse budget answer a.drain a.calls b.drain b.calls →
       IfOk answer (λ r. Serves step held made called count r.idle a b)
   served budget (Ok r) a b s = let x = s.served in
-      (interrupt_makes a x.0 (last_look r.idle) b.drain b.calls (last_finishes r.idle) x.2, λ idle. (s.idle idle).4)
+      (interrupt_makes a x.0 (last_look r.idle) b.drain b.calls (last_finishes r.idle) x.2, s.idle)
   served budget (Err e) a b s = tt
 
   pub was_refused : (budget : ℕ) (answer : Result Ran SoftRefused) (a b : SoftSide D C) →
@@ -82,17 +77,29 @@ module _ {D C : Type 0} (step : D → DrainCall → D → Type 0) (held : D → 
   was_refused budget (Err e) a b s = let x = s.refused in let hand = hand_left (held a.drain) x.0 in
       (x.1, interrupt_makes a x.0 (look_of hand (Some e.id)) b.drain x.1 (look_finishes hand (Some e.id)) x.4, x.5, x.6, x.7)
 
-  pub has_stopped : (a m b : SoftSide D C) (idle : Bool) (watch : Watch) → Makes step made called count a m.drain m.calls
+  -- it asked at m, was told to stop, and looked in vain
+  pub has_stopped : (a m b : SoftSide D C) (idle : Bool) (watch : Watch D C) → Makes step made called count a m.drain m.calls
       → Serves step held made called count idle m b →
-      idle ≡ true → watch ≡ has_looked →
+      idle ≡ true → watch.told ≡ true → watch.asked.value ≡ m →
       HasDrained step held made called count may_refuse a
       (record { drain = b.drain; calls = b.calls; refused = None; watch = watch })
-  has_stopped a m b idle watch before s empty looked = record {
-    stopped = ((makes_on a m b.drain b.calls before s.0, (subst (λ x. IsTrue x → held b.drain ≡ None) empty s.1)), looked);
+  has_stopped a m b idle watch before s empty told asked = record {
+    stopped = record {
+      told = told;
+      before = subst (λ (x : SoftSide D C). Makes step made called count a x.drain x.calls) (sym asked) before;
+      since = subst (λ (x : SoftSide D C). Makes step made called count x b.drain b.calls) (sym asked) s.0;
+      last = subst (λ (x : SoftSide D C). EndsWithLook step held x.drain b.drain) (sym asked)
+          (subst (λ x. IsTrue x → EndsWithLook step held m.drain b.drain) empty s.1 refl);
+    };
     refused = tt;
   }
 
-  pub has_refused : (a m b : SoftSide D C) (r : SoftRefused) (watch : Watch) → Makes step made called count a m.drain m.calls →
+  -- the calls before its last question, and those since
+  pub looked_makes : (a : SoftSide D C) (b : Drained D C) → HasLooked step held made called count a b
+      → Makes step made called count a b.drain b.calls
+  looked_makes a b l = makes_on a b.watch.asked.value b.drain b.calls l.before l.since
+
+  pub has_refused : (a m b : SoftSide D C) (r : SoftRefused) (watch : Watch D C) → Makes step made called count a m.drain m.calls →
       IsRefused step held made called count may_refuse m r b →
       HasDrained step held made called count may_refuse a
       (record { drain = b.drain; calls = b.calls; refused = Some r; watch = watch })

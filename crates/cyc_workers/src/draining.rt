@@ -30,8 +30,9 @@ pub struct Drained<D, C> {
     pub calls: C,
     /// The handler that refused, which ended the worker.
     pub refused: Option<SoftRefused>,
-    /// What it did last: where no handler refused, a look at the buffer after it was told to stop.
-    pub watch: Watch,
+    /// Its last question whether it is to stop. Where no handler refused, a look at the buffer was the last thing that it did
+    /// after this.
+    pub watch: Watch<D, C>,
 }
 
 /// The promise of a draining worker.
@@ -70,17 +71,15 @@ pub fn drain<W: Wait, D: Drain, C: Calls>(
     ensures { HasDrained D.step D.held D.made (at_level C.called (level_of level)) C.count C.may_refuse side result }
 {
     let mut side = side;
-    let mut watch = Watch::new();
     for _ in rt.forever() {
-        watch.ask(signals);
+        let watch = Watch::ask(signals, &side);
         match serve(&mut side, level) {
             Ok(ran) => {
                 if ran.idle {
-                    watch.found_none();
-                    if watch.told {
+                    if watch.is_told() {
                         return ended(side, None, watch);
                     }
-                    watch.park(rt, parker);
+                    watch.park(rt, parker, &side);
                 }
             }
             Err(refused) => {
@@ -92,7 +91,11 @@ pub fn drain<W: Wait, D: Drain, C: Calls>(
     unreachable!()
 }
 
-fn ended<D, C>(side: SoftSide<D, C>, refused: Option<SoftRefused>, watch: Watch) -> Drained<D, C>
+fn ended<D, C>(
+    side: SoftSide<D, C>,
+    refused: Option<SoftRefused>,
+    watch: Watch<D, C>,
+) -> Drained<D, C>
     ensures { result ≡ record { drain = side.drain; calls = side.calls; refused = refused; watch = watch } }
 {
     let SoftSide { drain, calls } = side;

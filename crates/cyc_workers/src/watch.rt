@@ -1,53 +1,56 @@
-//! When a draining worker may park.
+//! When a draining worker may park, and when it may end.
 
-ghost use Rattle.std.specs.Prelude.{◌≡◌, true, false};
+ghost use Rattle.std.specs.Prelude.{◌≡◌, false};
+ghost use Rattle.cyc_soft.specs.Serving.{EndsWithLook};
 
+use crate::draining::SoftSide;
 use crate::signals::Signals;
 use crossbeam_utils::sync::Parker;
-use cyc_types::Calls;
+use cyc_types::{Calls, Drain};
+use std::snapshot::Snapshot;
 use std::sync::Wait;
 
-/// What a draining worker did since it last asked whether it is to stop (our own rule). A raise wakes the worker after its entry
-/// stands in the buffer, so a worker that asks, looks at the buffer, and only then parks misses none; and one that ends has
-/// looked once more after it was told to stop.
-#[derive(Clone, Copy, Debug, PartialEq, Eq)]
-pub struct Watch {
+/// The last question of a draining worker whether it is to stop, and its soft side at that moment (our own rule). A raise wakes
+/// the worker after its entry stands in the buffer, so a worker that asks, looks at the buffer, and only then parks misses none;
+/// and one that ends has looked once more after it was told to stop.
+pub struct Watch<D, C> {
     /// It was told to stop.
-    pub told: bool,
-    /// It looked since, and found the buffer empty.
-    pub looked: bool,
+    told: bool,
+    /// What it had done before it asked.
+    asked: Snapshot<SoftSide<D, C>>,
 }
 
-impl Watch {
-    /// Nothing was asked yet.
-    pub(crate) fn new() -> Watch
-        ensures { result ≡ record { told = false; looked = false } }
+impl<D, C> Drop for Watch<D, C> {
+    fn drop(self) {
+        let Self { told: _, asked: _ } = self;
+    }
+}
+
+impl<D: Drain, C: Calls> Watch<D, C> {
+    /// Asks whether the worker is to stop. It has still to look after this.
+    pub(crate) fn ask(signals: &Signals<C>, side: &SoftSide<D, C>) -> Watch<D, C>
+        ensures { result.asked.value ≡ side.now }
     {
+        let told = signals.is_stopped();
         Watch {
-            told: false,
-            looked: false,
+            told,
+            asked: Snapshot::of(side),
         }
     }
 
-    /// Asks whether the worker is to stop. It has still to look after this.
-    pub(crate) fn ask<C: Calls>(&mut self, signals: &Signals<C>)
-        ensures { self.new.looked ≡ false }
+    /// Whether it was told to stop.
+    pub(crate) fn is_told(&self) -> bool
+        ensures { result ≡ self.now.told }
     {
-        self.told = signals.is_stopped();
-        self.looked = false;
-    }
-
-    /// The worker looked, and found the buffer empty.
-    pub(crate) fn found_none(&mut self)
-        ensures { self.new ≡ record { told = self.old.told; looked = true } }
-    {
-        self.looked = true;
+        self.told
     }
 
     /// Sleeps until it is unparked.
-    pub(crate) fn park<W: Wait>(&self, rt: &W, parker: &Parker)
-        requires { self.now ≡ record { told = false; looked = true } }
+    pub(crate) fn park<W: Wait>(&self, rt: &W, parker: &Parker, side: &SoftSide<D, C>)
+        requires goes_on { self.now.told ≡ false }
+        requires looked { EndsWithLook D.step D.held self.now.asked.value.drain side.now.drain }
     {
+        let _ = side;
         parker.park(rt);
     }
 }
