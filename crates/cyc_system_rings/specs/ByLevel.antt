@@ -15,7 +15,7 @@ use Rattle.cyc_timers.specs.Rows.{no_counts}
 use Rattle.cyc_fire.specs.Acts.{same_level}
 use Rattle.cyc_cpu.specs.Cpu.{CpuView}
 use Rattle.cyc_cpus.specs.Cpus.{OfCpu}
-use Rattle.cyc_system_workers.specs.Machine.{HasServed}
+use Rattle.cyc_system_workers.specs.Serving.{HasServed}
 use Rattle.cyc_system_counts.specs.System.{SystemView}
 use Rattle.cyc_system_counts.specs.Calls.{Add, AddOmni}
 use Rattle.cyc_system_counts.specs.Sound.{IsSound}

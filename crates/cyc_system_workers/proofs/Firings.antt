@@ -20,7 +20,7 @@ use Rattle.cyc_system.specs.System.{SystemView, is_online, running_system}
 use Rattle.cyc_system.specs.Refusals.{no_cpu, offline_cpu}
 use Rattle.cyc_agreement.proofs.Presence.{cpu_clear}
 use Rattle.cyc_agreement.proofs.Spots.{get_some}
-use Rattle.cyc_cpu_workers.specs.declared.settling.Lead.{Lead}
+use Rattle.cyc_workers.specs.declared.settling.Lead.{Lead}
 use Rattle.cyc_system_workers.specs.declared.side.SystemSide.{SystemSide}
 use Rattle.cyc_system_workers.specs.declared.advancing.Advanced.{Advanced}
 use Rattle.cyc_system_workers.specs.Advancing.{FiresIf, AllFire}

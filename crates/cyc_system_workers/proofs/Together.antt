@@ -13,7 +13,7 @@ use Rattle.cyc_cpu.specs.Law.{IsLawful}
 use Rattle.cyc_cpu.specs.Calls.{Does, Fire, no_interrupts}
 use Rattle.cyc_agreement.proofs.Spots.{get_some}
 use Rattle.cyc_system.specs.Splitting.{ComesBack}
-use Rattle.cyc_cpu_workers.specs.declared.settling.Lead.{Lead}
+use Rattle.cyc_workers.specs.declared.settling.Lead.{Lead}
 use Rattle.cyc_system_workers.specs.declared.side.SystemSide.{SystemSide}
 use Rattle.cyc_system_workers.specs.declared.lanes.Lane.{Lane}
 use Rattle.cyc_system_workers.specs.declared.lanes.LaneAfter.{LaneAfter}

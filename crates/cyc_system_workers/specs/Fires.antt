@@ -9,7 +9,7 @@ use Rattle.cyc_cpu.specs.Calls.{no_interrupts}
 use Rattle.cyc_cpus.specs.Cpus.{online_cpus}
 use Rattle.cyc_system.specs.System.{SystemView, running_system}
 use Rattle.cyc_system.specs.Calls.{Does, FireOne}
-use Rattle.cyc_cpu_workers.specs.declared.settling.Lead.{Lead}
+use Rattle.cyc_workers.specs.declared.settling.Lead.{Lead}
 use Rattle.cyc_system_workers.specs.declared.side.SystemSide.{SystemSide}
 use Rattle.cyc_system_workers.specs.declared.advancing.Advanced.{Advanced}
 

@@ -1,11 +1,11 @@
 pub mod Advancing
 pub mod Fires
 pub mod Settling
-pub use Rattle.cyc_cpu_workers.specs.declared.settling.Lead
-pub use Rattle.cyc_workers.specs.Machine
+pub use Rattle.cyc_workers.specs.declared.settling.Lead
+pub use Rattle.cyc_workers.specs.Serving
 pub use Rattle.cyc_agreement.specs.Adding
 pub use Rattle.cyc_workers.specs.Settling as WorkersSettling
-pub use Rattle.cyc_cpu_workers.specs.Settled
+pub use Rattle.cyc_workers.specs.Settled
 pub use Rattle.cyc_agreement.specs.Refusals
 pub use Rattle.cyc_agreement.specs.Binding
 pub use Rattle.cyc_agreement.specs.System

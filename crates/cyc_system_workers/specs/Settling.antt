@@ -1,7 +1,7 @@
 -- What becomes of a system in threads whose CPUs are asked whether they have settled.
 use Rattle.std.specs.Prelude.{◌≡◌}
 use Rattle.cyc_types.specs.Firing.{FiringView, FiringCall}
-use Rattle.cyc_cpu_workers.specs.Settled.{AllAsked}
+use Rattle.cyc_workers.specs.Settled.{AllAsked}
 use Rattle.cyc_system_workers.specs.declared.side.SystemSide.{SystemSide}
 
 -- its CPUs were asked, and nothing else of it changed

@@ -6,9 +6,8 @@ ghost use Rattle.cyc_system_workers.specs.declared.lanes.LaneAfter.{LaneAfter as
 ghost use Rattle.cyc_system_workers.specs.Advancing.{LaneFires};
 
 use cyc_cpu::{FireRefused, Fired, Hard};
-use cyc_cpu_workers::Lead;
 use cyc_types::{Calls, Moment, Raise};
-use cyc_workers::{AfterFire, FiringSide, fire};
+use cyc_workers::{AfterFire, FiringSide, Lead, fire};
 use std::alloc::{AllocError, Global};
 use std::thread;
 use std::thread::Threads;

@@ -8,9 +8,8 @@ mod settling;
 mod side;
 
 pub use advancing::{Advanced, advance};
-pub use cyc_cpu_workers::Lead;
 pub use cyc_system::{System, SystemRemoval, SystemTotals};
-pub use cyc_workers::Signals;
+pub use cyc_workers::{Lead, Signals};
 pub use lanes::{Lane, LaneAfter};
 pub use laws::advance_law;
 pub use settling::{Asked, settle};

@@ -2,14 +2,13 @@
 
 ghost use Rattle.std.specs.Prelude.{◌≡◌, length, IfNone, IfSome};
 ghost use Rattle.cyc_workers.specs.Refusals.{CanRefuse};
-ghost use Rattle.cyc_cpu_workers.specs.Settled.{AllSettled};
+ghost use Rattle.cyc_workers.specs.Settled.{AllSettled};
 ghost use Rattle.cyc_system_workers.specs.Settling.{OnlyAsked};
 
 use crate::side::SystemSide;
-use cyc_cpu_workers::settle_all;
 use cyc_system::away_law;
 use cyc_types::{Calls, CyclicId, Raise};
-use cyc_workers::Signals;
+use cyc_workers::{Signals, settle_all};
 use std::sync::Wait;
 
 /// The firing side of a system whose CPUs were asked whether they have settled, and a cyclic whose handler refused before.

@@ -17,7 +17,7 @@ use Rattle.cyc_ring.specs.Ends.{end_view, RaiseEndCall, raise_trail, drain_trail
 use Rattle.cyc_cpu.specs.Cpu.{CpuView}
 use Rattle.cyc_cpu.specs.Moving.{IsSettled}
 use Rattle.cyc_script.specs.declared.script.Script.{Script}
-use Rattle.cyc_threads.specs.Machine.{HasServed}
+use Rattle.cyc_threads.specs.Serving.{HasServed}
 use Rattle.cyc_threads.specs.Seats.{Seats}
 use Rattle.cyc_threads.specs.SystemSide.{SystemSide}
 use Rattle.cyc_threads.specs.Sound.{IsSound}

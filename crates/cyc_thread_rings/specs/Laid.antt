@@ -1,6 +1,6 @@
 -- Lists that say something of each CPU.
 use Rattle.std.specs.Prelude.{List, [], ◌∷◌}
-use Rattle.cyc_workers.specs.declared.machine.Handlers.{Handlers}
+use Rattle.cyc_workers.specs.declared.cpu.Handlers.{Handlers}
 use Rattle.cyc_thread_rings.specs.declared.levels.Levels.{Levels}
 
 -- two lists are of one length, and this holds of each two elements at one place

@@ -6,9 +6,8 @@ ghost use Rattle.cyc_thread_rings.specs.Rings.{firing_seats, seats_on, soft_seat
 use crate::attaching::{Attached, detach};
 use crate::levels::{Levels, Seated};
 use cyc_cpu::Hard;
-use cyc_cpu_workers::Lead;
 use cyc_ring::{DrainEnd, RaiseEnd};
-use cyc_workers::SoftSide;
+use cyc_workers::{Lead, SoftSide};
 use std::alloc::{AllocError, Global};
 
 /// What one CPU leaves: the seats of its two rings, and its handlers.

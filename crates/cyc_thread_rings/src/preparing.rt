@@ -8,10 +8,9 @@ use crate::attaching::Attached;
 use crate::levels::Levels;
 use crate::working::Drainer;
 use crossbeam_utils::sync::Parker;
-use cyc_cpu_workers::Lead;
 use cyc_ring::{DrainEnd, RaiseEnd};
 use cyc_types::Refusal;
-use cyc_workers::Wakers;
+use cyc_workers::{Lead, Wakers};
 use std::alloc::Global;
 use std::sync::Arc;
 

@@ -9,7 +9,7 @@ use Rattle.cyc_ring.specs.declared.ends.RaiseEnd.{RaiseEnd}
 use Rattle.cyc_ring.specs.declared.ends.DrainEnd.{DrainEnd}
 use Rattle.cyc_ring.specs.Ends.{end_view, end_made, RaiseEndCall, DrainEndCall}
 use Rattle.cyc_cpu.specs.Cpu.{IsFresh}
-use Rattle.cyc_cpu_workers.specs.declared.settling.Lead.{Lead}
+use Rattle.cyc_workers.specs.declared.settling.Lead.{Lead}
 use Rattle.cyc_cpus.specs.Cpus.{CpusView, new_cpu, new_cpus}
 use Rattle.cyc_script.specs.declared.script.Script.{Script}
 use Rattle.cyc_seats.specs.Seats.{HaveSameSeats}

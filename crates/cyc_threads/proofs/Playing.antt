@@ -15,8 +15,8 @@ use Rattle.cyc_ring.specs.Ends.{end_view, end_made, seat_made, DrainEndCall, rai
 use Rattle.cyc_cpu.specs.Cpu.{CpuView, IsFresh}
 use Rattle.cyc_cpus.specs.Cpus.{new_cpu}
 use Rattle.cyc_workers.specs.declared.draining.SoftSide.{SoftSide}
-use Rattle.cyc_workers.specs.Machine.{HasServed}
-use Rattle.cyc_workers.proofs.Balance.{serves_seat, drains_same, raise_seat_of, drain_seat_of}
+use Rattle.cyc_workers.specs.Serving.{HasServed}
+use Rattle.cyc_workers.proofs.Seating.{serves_seat, drains_same, raise_seat_of, drain_seat_of}
 use Rattle.cyc_seats.specs.Seats.{HasSameSeats, HaveSameSeats}
 use Rattle.cyc_thread_rings.specs.declared.levels.Levels.{Levels}
 use Rattle.cyc_thread_rings.specs.declared.levels.Seated.{Seated}

@@ -6,8 +6,8 @@ use Rattle.cyc_types.specs.declared.level.Level.{Level}
 use Rattle.cyc_types.specs.declared.refusal.Refusal.{Refusal}
 use Rattle.cyc_ring.specs.declared.closed.Closed.{Closed}
 use Rattle.cyc_script.specs.declared.script.Script.{Script}
-use Rattle.cyc_workers.specs.declared.machine.Handlers.{Handlers}
-use Rattle.cyc_workers.specs.declared.machine.Seats.{Seats}
+use Rattle.cyc_workers.specs.declared.cpu.Handlers.{Handlers}
+use Rattle.cyc_workers.specs.declared.cpu.Seats.{Seats}
 use Rattle.cyc_thread_rings.specs.declared.levels.Levels.{Levels}
 use Rattle.cyc_thread_rings.specs.declared.levels.Seated.{Seated}
 use Rattle.cyc_thread_rings.specs.Laid.{EachTwo, three, two}

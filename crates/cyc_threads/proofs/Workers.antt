@@ -19,9 +19,9 @@ use Rattle.cyc_workers.specs.declared.draining.SoftSide.{SoftSide}
 use Rattle.cyc_workers.specs.declared.draining.Drained.{Drained}
 use Rattle.cyc_workers.specs.declared.draining.Drains.{Drains}
 use Rattle.cyc_workers.specs.Draining.{Makes, HasLooked, HasDrained, IsRefused, side_of}
-use Rattle.cyc_workers.specs.Refusing.{HandlerRefuses}
+use Rattle.cyc_workers.specs.Refusals.{HandlerRefuses}
 use Rattle.cyc_workers.proofs.Making.{looked_makes}
-use Rattle.cyc_workers.proofs.Halting.{joined}
+use Rattle.cyc_workers.proofs.Joining.{joined}
 use Rattle.cyc_thread_rings.specs.declared.levels.Levels.{Levels}
 use Rattle.cyc_thread_rings.specs.declared.refusing.Fire.{Fire}
 use Rattle.cyc_thread_rings.specs.Laid.{EachTwo}

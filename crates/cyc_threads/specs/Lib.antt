@@ -10,7 +10,7 @@ pub use Rattle.cyc_thread_steps.specs.Reporting as ThreadStepsReporting
 pub use Rattle.cyc_thread_steps.specs.Words
 pub use Rattle.cyc_thread_steps.specs.SystemCalls as Calls
 pub use Rattle.cyc_thread_steps.specs.System
-pub use Rattle.cyc_workers.specs.declared.machine.Handlers
+pub use Rattle.cyc_workers.specs.declared.cpu.Handlers
 pub use Rattle.cyc_thread_rings.specs.declared.levels.Seated
 pub use Rattle.cyc_thread_steps.specs.SystemRemoval
 pub use Rattle.cyc_thread_steps.specs.Calls as ThreadStepsCalls
@@ -22,12 +22,12 @@ pub use Rattle.cyc_thread_steps.specs.SystemTotals
 pub use Rattle.cyc_thread_steps.specs.Laws
 pub use Rattle.cyc_thread_steps.specs.Keeping
 pub use Rattle.cyc_workers.specs.Settling
-pub use Rattle.cyc_cpu_workers.specs.Settled
+pub use Rattle.cyc_workers.specs.Settled
 pub use Rattle.cyc_thread_steps.specs.Parts
 pub use Rattle.cyc_thread_steps.specs.Advanced
 pub use Rattle.cyc_thread_steps.specs.Advancing
-pub use Rattle.cyc_workers.specs.Machine
-pub use Rattle.cyc_workers.specs.declared.machine.Seats
+pub use Rattle.cyc_workers.specs.Serving
+pub use Rattle.cyc_workers.specs.declared.cpu.Seats
 pub use Rattle.cyc_thread_rings.specs.declared.levels.Levels
 pub use Rattle.cyc_thread_rings.specs.Laid
 pub use Rattle.cyc_thread_rings.specs.Rings
@@ -38,4 +38,4 @@ pub use Rattle.cyc_thread_steps.specs.Removing
 pub use Rattle.cyc_thread_steps.specs.Polling
 pub use Rattle.cyc_thread_steps.specs.Settled as CpuLawsSettled
 pub use Rattle.cyc_thread_steps.specs.Refusals
-pub use Rattle.cyc_cpu_workers.specs.declared.settling.Lead
+pub use Rattle.cyc_workers.specs.declared.settling.Lead

@@ -9,7 +9,7 @@ use Rattle.cyc_script.specs.declared.script.Script.{Script}
 use Rattle.cyc_script_machine.specs.declared.fault.RunFault.{RunFault}
 use Rattle.cyc_script_machine.specs.declared.fault.RunFault.TheVariants as run_fault
 use Rattle.cyc_text.specs.Puts.{AppendsPrefix}
-use Rattle.cyc_workers.specs.Refusing.{HandlerRefuses}
+use Rattle.cyc_workers.specs.Refusals.{HandlerRefuses}
 use Rattle.cyc_thread_rings.specs.declared.levels.Seated.{Seated}
 use Rattle.cyc_thread_rings.specs.Rings.{AreNew}
 use Rattle.cyc_thread_steps.specs.declared.halt.Halt.TheVariants as halt

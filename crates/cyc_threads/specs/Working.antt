@@ -13,7 +13,7 @@ use Rattle.cyc_workers.specs.declared.draining.Drained.{Drained}
 use Rattle.cyc_thread_steps.specs.declared.halt.Halt.{Halt}
 use Rattle.cyc_thread_steps.specs.declared.halt.Halt.TheVariants as halt
 use Rattle.cyc_workers.specs.Draining.{Makes}
-use Rattle.cyc_workers.specs.Refusing.{HandlerRefuses}
+use Rattle.cyc_workers.specs.Refusals.{HandlerRefuses}
 use Rattle.cyc_thread_rings.specs.declared.levels.Levels.{Levels}
 use Rattle.cyc_thread_rings.specs.Laid.{EachTwo}
 use Rattle.cyc_thread_rings.specs.Refusing.{refusals_from, first_in}

@@ -9,9 +9,9 @@ ghost use Rattle.cyc_thread_steps.specs.Calls.{IsReady};
 ghost use Rattle.cyc_thread_steps.specs.declared.named.Named.TheVariants.{Nothing};
 ghost use Rattle.cyc_threads.specs.Running.{most};
 
-use cyc_cpu_workers::Lead;
 use cyc_thread_steps::{Progress, System, SystemSide, begin};
 use cyc_types::{CyclicId, Raise, Refusal};
+use cyc_workers::Lead;
 use std::alloc::Global;
 
 /// No cyclic expires so often in a run.

@@ -1,6 +1,6 @@
 pub mod Making
 pub mod Asking
-pub mod Taking
+pub mod Asked
 pub mod Reading
-pub mod Balance
-pub mod Halting
+pub mod Seating
+pub mod Joining

@@ -1,7 +1,5 @@
 pub mod Draining
+pub mod Serving
 pub mod Settling
-pub mod Stepping
+pub mod Settled
 pub mod Refusals
-pub mod Refusing
-pub mod Reporting
-pub mod Machine

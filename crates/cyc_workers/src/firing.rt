@@ -5,8 +5,7 @@ ghost use Rattle.cyc_cpu.specs.Calls.{Fire, no_interrupts};
 ghost use Rattle.cyc_cpu_laws.specs.Runs.{Steps};
 
 use crate::wakers::Wakers;
-use cyc_cpu::Hard;
-use cyc_fire::{FireRefused, Fired};
+use cyc_cpu::{FireRefused, Fired, Hard};
 use cyc_types::{Calls, Moment, Raise};
 use std::snapshot::Snapshot;
 use std::thread::Promise;

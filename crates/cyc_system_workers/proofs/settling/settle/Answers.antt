@@ -2,7 +2,7 @@ use Rattle.std.proofs.Common.{List, sym, ap, subst, ◌∙◌, length}
 use Rattle.std.specs.Prelude.{IfNone}
 use Rattle.std.specs.List.{slice_get}
 use Rattle.cyc_cpu.specs.Cpu.{CpuView}
-use Rattle.cyc_cpu_workers.specs.Settled.{AllSettled}
+use Rattle.cyc_workers.specs.Settled.{AllSettled}
 use Rattle.cyc_system.specs.System.{SystemView}
 use Rattle.cyc_system_workers.proofs.Questions.{settles_back}
 use Rattle.cyc_system_workers.proofs.settling.settle.Goals as goal

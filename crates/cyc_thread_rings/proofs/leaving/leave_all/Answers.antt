@@ -1,5 +1,5 @@
 use Rattle.std.proofs.Common.{sym, ◌∙◌}
-use Rattle.cyc_cpu_workers.specs.declared.settling.Lead.{Lead}
+use Rattle.cyc_workers.specs.declared.settling.Lead.{Lead}
 use Rattle.cyc_thread_rings.specs.declared.levels.Seated.{Seated}
 use Rattle.cyc_thread_rings.specs.Rings.{firing_seats, seats_on, soft_seats, soft_seats_on}
 use Rattle.cyc_thread_rings.proofs.Each.{taken_all, taken_many, map_more, map_shift, more_left, all_given}

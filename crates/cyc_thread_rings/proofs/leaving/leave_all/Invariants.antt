@@ -1,6 +1,6 @@
 use Rattle.std.proofs.Common.{◌≡◌, ◌++◌, map, length}
 use Rattle.std.specs.Vec.Iter.{into_iter_items, into_iter_len}
-use Rattle.cyc_cpu_workers.specs.declared.settling.Lead.{Lead}
+use Rattle.cyc_workers.specs.declared.settling.Lead.{Lead}
 use Rattle.cyc_thread_rings.specs.declared.levels.Seated.{Seated}
 use Rattle.cyc_thread_rings.specs.Rings.{firing_seats, seats_on, soft_seats, soft_seats_on}
 use Rattle.cyc_thread_rings.proofs.leaving.leave_all.Given as goal

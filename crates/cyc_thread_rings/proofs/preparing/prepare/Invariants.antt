@@ -1,6 +1,6 @@
 use Rattle.std.proofs.Common.{◌≡◌, ◌++◌, map, length}
 use Rattle.std.specs.Vec.Iter.{into_iter_items, into_iter_len}
-use Rattle.cyc_cpu_workers.specs.declared.settling.Lead.{Lead}
+use Rattle.cyc_workers.specs.declared.settling.Lead.{Lead}
 use Rattle.cyc_thread_rings.specs.declared.attaching.Attached.{Attached}
 use Rattle.cyc_thread_rings.specs.Working.{sides_of}
 use Rattle.cyc_thread_rings.proofs.preparing.prepare.Given as goal

@@ -1,7 +1,7 @@
 use Rattle.std.proofs.Common.{◌≡◌, ℕ, ap, ◌∙◌, map, length, arith}
 use Rattle.std.specs.Prelude.{replicate}
-use Rattle.cyc_cpu_workers.specs.declared.settling.Lead.{Lead}
-use Rattle.cyc_workers.proofs.Halting.{at_err}
+use Rattle.cyc_workers.specs.declared.settling.Lead.{Lead}
+use Rattle.cyc_workers.proofs.Joining.{at_err}
 use Rattle.cyc_thread_rings.specs.Working.{sides_of}
 use Rattle.cyc_thread_steps.specs.declared.named.Named.TheVariants.{Nothing}
 use Rattle.cyc_threads.specs.Refusing.{WhyNotPlayed}

@@ -1,6 +1,6 @@
 use Rattle.std.proofs.Common.{◌∙◌, map}
 use Rattle.std.specs.Prelude.{string_bytes}
-use Rattle.cyc_workers.proofs.Halting.{at_err}
+use Rattle.cyc_workers.proofs.Joining.{at_err}
 use Rattle.cyc_threads.specs.Refusing.{WhyNotRun}
 use Rattle.cyc_threads.specs.Reporting.{report_text}
 use Rattle.cyc_threads.proofs.Ran.{many_all, not_ran, ran}

@@ -1,2 +1,0 @@
-pub mod Fired
-pub mod Settled
