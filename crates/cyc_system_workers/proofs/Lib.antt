@@ -1,4 +1,5 @@
 pub mod Together
+pub mod Beside
 pub mod Questions
 pub mod Firings
 pub use Rattle.cyc_agreement.proofs.Presence

@@ -1,8 +1,8 @@
 -- Lanes beside each other, and what they make of a system.
-use Rattle.std.proofs.Common.{◌≡◌, ℕ, zero, suc, ◌<◌, Bool, true, false, List, [], ◌∷◌, map, length, slice_index_or, Option, Some}
+use Rattle.std.proofs.Common.{◌≡◌, ℕ, zero, suc, Bool, true, false, List, [], ◌∷◌, map, length, Option, Some}
 use Rattle.std.proofs.Common.{None, Result, sym, ap, ◌∙◌, subst, arith}
 use Rattle.std.specs.List.{slice_get}
-use Rattle.std.proofs.lemmas.Option.{slice_get_within, same_Some, get_or_from_slice_get}
+use Rattle.std.proofs.lemmas.Option.{slice_get_within, same_Some}
 use Rattle.std.proofs.lemmas.List.{length-map}
 use Rattle.cyc_types.specs.Firing.{FiringView, FiringCall}
 use Rattle.cyc_types.specs.declared.level.Level.{Level}
@@ -19,6 +19,7 @@ use Rattle.cyc_system_workers.specs.declared.lanes.Lane.{Lane}
 use Rattle.cyc_system_workers.specs.declared.lanes.LaneAfter.{LaneAfter}
 use Rattle.cyc_system_workers.specs.declared.advancing.Advanced.{Advanced}
 use Rattle.cyc_system_workers.specs.Advancing.{FiresIf, LaneFires, AllFire}
+use Rattle.cyc_system_workers.specs.Starting.{Beside}
 
 get_map : {A B : Type 0} (f : A → B) (xs : List A) (n : ℕ) (x : A) → slice_get xs n ≡ Some x → slice_get (map f xs) n ≡ Some (f x)
 get_map f [] n x e = let low = slice_get_within [] n x e in absurd (omega (arith, low))
@@ -37,17 +38,7 @@ module _ {C R : Type 0} (called : C → ℕ → Level → C → Type 0) (count :
     (step : R → FiringCall → R → Type 0) (view : R → FiringView) (now : ℕ) where
   -- each lane fires
   abbrev pub EachFires : List (Lane R C) → List (LaneAfter R C) → Type 0
-  EachFires lanes after = (k : ℕ) (l : Lane R C) (a : LaneAfter R C) → k < length lanes →
-      LaneFires called count may_refuse step view now (slice_index_or lanes k l) (slice_index_or after k a)
-
-  lane_at : (lanes : List (Lane R C)) (after : List (LaneAfter R C)) (n : ℕ) (l : Lane R C) (a : LaneAfter R C)
-      → EachFires lanes after →
-      slice_get lanes n ≡ Some l → slice_get after n ≡ Some a → LaneFires called count may_refuse step view now l a
-  lane_at lanes after n l a each at at' =
-      subst (λ x. LaneFires called count may_refuse step view now l x) (get_or_from_slice_get after n a a at')
-      (subst (λ x. LaneFires called count may_refuse step view now x (slice_index_or after n a))
-      (get_or_from_slice_get lanes n l l at)
-      (each n l a (slice_get_within lanes n l at)))
+  EachFires = Beside (LaneFires called count may_refuse step view now)
 
   back_if : (up : Bool) (s t : Running C R) (answer : Option (Result Fired FireRefused)) →
       ((x : CpuView R) → ComesBack view x x) →
@@ -71,7 +62,7 @@ module _ {C R : Type 0} (called : C → ℕ → Level → C → Type 0) (count :
   comes_back lanes after each same fired n x y at at' =
       let l = get_from (λ (l : Lane R C). l.hard) lanes n x at in let a = get_from (λ (l : LaneAfter R C). l.hard) after n y at'
       in
-      let f = lane_at lanes after n l.0 a.0 each l.1 a.1 in
+      let f = each.each n l.0 a.0 l.1 a.1 in
       let back = back_if l.0.online (running l.0.lead.calls l.0.hard)
       (running a.0.lead.calls a.0.hard) a.0.answer same fired f.before f.after f.fires in
       subst (λ z. ComesBack view z y) (sym l.2) (subst (λ z. ComesBack view l.0.hard z) (sym a.2) back)
@@ -88,7 +79,7 @@ module _ {C R : Type 0} (called : C → ℕ → Level → C → Type 0) (count :
   one_fires lanes after each n up x y l m answer at_up at_x at_y at_l at_m at_answer =
       let p = get_from (λ (l : Lane R C). l.hard) lanes n x at_x in let q =
       get_from (λ (l : LaneAfter R C). l.hard) after n y at_y in
-      let f = lane_at lanes after n p.0 q.0 each p.1 q.1 in
+      let f = each.each n p.0 q.0 p.1 q.1 in
       let up_is : p.0.online ≡ up = same_Some p.0.online up (sym (get_map (λ (l : Lane R C). l.online) lanes n p.0 p.1) ∙ at_up)
       in
       let l_is : p.0.lead ≡ l = same_Some p.0.lead l (sym (get_map (λ (l : Lane R C). l.lead) lanes n p.0 p.1) ∙ at_l) in
@@ -108,7 +99,7 @@ module _ {C R : Type 0} (called : C → ℕ → Level → C → Type 0) (count :
 
   -- all of them together
   pub all_fire : (a : SystemSide R C) (b : Advanced R C) (lanes : List (Lane R C)) (after : List (LaneAfter R C))
-      → EachFires lanes after → length after ≡ length lanes →
+      → EachFires lanes after →
       b.side.system.records ≡ a.system.records → b.side.system.last ≡ a.system.last
       → b.side.system.cpus.online ≡ a.system.cpus.online →
       map (λ (l : Lane R C). l.hard) lanes ≡ a.system.cpus.cpus → map (λ (l : Lane R C). l.lead) lanes ≡ a.leads.items
@@ -116,15 +107,15 @@ module _ {C R : Type 0} (called : C → ℕ → Level → C → Type 0) (count :
       b.side.system.cpus.cpus ≡ map (λ (l : LaneAfter R C). l.hard) after
       → b.side.leads.items ≡ map (λ (l : LaneAfter R C). l.lead) after →
       b.answers.items ≡ map (λ (l : LaneAfter R C). l.answer) after → AllFire called count may_refuse step view now a b
-  all_fire a b lanes after each long records last online hards leads ups hards' leads' answers = record {
+  all_fire a b lanes after each records last online hards leads ups hards' leads' answers = record {
     records = records;
     last = last;
     online = online;
-    long = ap (λ l. length l) hards' ∙ length-map after (λ (l : LaneAfter R C). l.hard) ∙ long
+    long = ap (λ l. length l) hards' ∙ length-map after (λ (l : LaneAfter R C). l.hard) ∙ each.long
         ∙ sym (length-map lanes (λ (l : Lane R C). l.hard)) ∙ ap (λ l. length l) hards;
-    long_leads = ap (λ l. length l) leads' ∙ length-map after (λ (l : LaneAfter R C). l.lead) ∙ long
+    long_leads = ap (λ l. length l) leads' ∙ length-map after (λ (l : LaneAfter R C). l.lead) ∙ each.long
         ∙ sym (length-map lanes (λ (l : Lane R C). l.lead)) ∙ ap (λ l. length l) leads;
-    long_answers = ap (λ l. length l) answers ∙ length-map after (λ (l : LaneAfter R C). l.answer) ∙ long
+    long_answers = ap (λ l. length l) answers ∙ length-map after (λ (l : LaneAfter R C). l.answer) ∙ each.long
         ∙ sym (length-map lanes (λ (l : Lane R C). l.hard)) ∙ ap (λ l. length l) hards;
     each = λ n up x y l m answer at_up at_x at_y at_l at_m at_answer. one_fires lanes after each n up x y l m answer
         (ap (λ z. slice_get z n) ups ∙ at_up) (ap (λ z. slice_get z n) hards ∙ at_x) (sym (ap (λ z. slice_get z n) hards') ∙ at_y)

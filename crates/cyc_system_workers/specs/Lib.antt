@@ -1,6 +1,7 @@
 pub mod Advancing
 pub mod Fires
 pub mod Settling
+pub mod Starting
 pub use Rattle.cyc_workers.specs.declared.settling.Lead
 pub use Rattle.cyc_workers.specs.Serving
 pub use Rattle.cyc_agreement.specs.Adding

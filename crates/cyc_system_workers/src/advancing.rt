@@ -3,12 +3,14 @@
 ghost use Rattle.std.specs.Prelude.{◌≡◌, length, IfOk};
 ghost use Rattle.cyc_system_workers.specs.Advancing.{AllFire};
 
-use crate::lanes::{fire_lanes, gather, scatter};
+use crate::firing::fire_lanes;
+use crate::lanes::{gather, scatter};
 use crate::side::SystemSide;
 use cyc_cpu::{FireRefused, Fired};
 use cyc_system::away_law;
 use cyc_types::{Calls, Moment, Raise};
 use std::alloc::{AllocError, Global};
+use std::sync::Wait;
 use std::thread::Threads;
 
 /// The firing side of a system after an advance, and by the numbers of its CPUs what their fires answered: None where a CPU is
@@ -20,11 +22,11 @@ pub struct Advanced<R: Raise, C> {
 }
 
 /// Makes every expiration that is due on each online CPU, all CPUs at once (`cyclic_fire` of cyclic.c runs on each CPU by
-/// itself): the firing sides leave the system, each fires in a thread of its own where one can be made, and all come back. Each
-/// CPU's draining workers are woken as it has fired.
+/// itself): the firing sides leave the system, each fires in a thread of its own, and all come back once these threads have
+/// ended. No thread is started for a CPU that is not online. Each CPU's draining workers are woken as it has fired.
 ///
-/// Its memory may be refused; the system is then dropped.
-pub fn advance<W: Threads + Sync, R: Raise + Send + Drop, C: Calls + Send + Drop>(
+/// A thread or its memory may be refused; the threads that were started have ended then, and the system is dropped.
+pub fn advance<W: Threads + Wait, R: Raise + Send + Drop, C: Calls + Send + Drop>(
     rt: &W,
     alloc: Global,
     side: SystemSide<R, C>,
@@ -38,7 +40,7 @@ pub fn advance<W: Threads + Sync, R: Raise + Send + Drop, C: Calls + Send + Drop
     away_law::<C, R>();
     let (desk, hards) = system.split();
     let lanes = gather(alloc, hards, leads, desk.online())?;
-    let lanes = fire_lanes(rt, lanes, now)?;
+    let lanes = fire_lanes(rt, alloc, lanes, now)?;
     let (hards, leads, answers) = scatter(alloc, lanes)?;
     let system = desk.unite(hards);
     Ok(Advanced {

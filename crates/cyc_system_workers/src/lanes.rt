@@ -1,16 +1,11 @@
 //! The CPUs of a system on their way into threads, and back.
 
-ghost use Rattle.std.specs.Prelude.{◌≡◌, ℕ, ◌<◌, map, length, slice_index_or, IfOk};
-ghost use Rattle.cyc_system_workers.specs.declared.lanes.Lane.{Lane as OneLane};
-ghost use Rattle.cyc_system_workers.specs.declared.lanes.LaneAfter.{LaneAfter as OneAfter};
-ghost use Rattle.cyc_system_workers.specs.Advancing.{LaneFires};
+ghost use Rattle.std.specs.Prelude.{◌≡◌, map, length, IfOk};
 
 use cyc_cpu::{FireRefused, Fired, Hard};
-use cyc_types::{Calls, Moment, Raise};
-use cyc_workers::{AfterFire, FiringSide, Lead, fire};
+use cyc_types::Raise;
+use cyc_workers::Lead;
 use std::alloc::{AllocError, Global};
-use std::thread;
-use std::thread::Threads;
 
 /// A CPU on its way into a thread.
 #[derive(Drop)]
@@ -83,43 +78,4 @@ pub(crate) fn scatter<R: Raise + Drop, C: Drop>(
         answers.push(answer)?;
     }
     Ok((hards, leads, answers))
-}
-
-/// Fires a CPU that is online, and wakes its draining workers. Any other stays as it is.
-fn fire_lane<R: Raise, C: Calls>(lane: Lane<R, C>, now: Moment) -> LaneAfter<R, C>
-    ensures { LaneFires C.called C.count C.may_refuse R.step R.view now lane result }
-{
-    let Lane { hard, lead, online } = lane;
-    hard.law();
-    if !online {
-        return LaneAfter {
-            hard,
-            lead,
-            answer: None,
-        };
-    }
-    let Lead { calls, wakers } = lead;
-    let AfterFire {
-        hard,
-        calls,
-        answer,
-    } = fire(FiringSide { hard, calls }, now, &wakers);
-    LaneAfter {
-        hard,
-        lead: Lead { calls, wakers },
-        answer: Some(answer),
-    }
-}
-
-/// Fires the CPUs that are online, each in a thread of its own where one can be made, and waits for all.
-pub(crate) fn fire_lanes<W: Threads + Sync, R: Raise + Send + Drop, C: Calls + Send + Drop>(
-    rt: &W,
-    lanes: Vec<Lane<R, C>>,
-    now: Moment,
-) -> Result<Vec<LaneAfter<R, C>>, AllocError>
-    ensures len { IfOk result (λ v. length v.items ≡ length lanes.items) }
-    ensures each { IfOk result (λ v. (k : ℕ) (l : OneLane _ _) (a : OneAfter _ _) → k < length lanes.items
-        → LaneFires C.called C.count C.may_refuse R.step R.view now (slice_index_or lanes.items k l) (slice_index_or v.items k a)) }
-{
-    thread::map_vec(rt, lanes, &|lane| fire_lane(lane, now))
 }

@@ -1,7 +1,8 @@
-//! A system of CPUs in threads: all of them fire at once, and all of them settle.
+//! A system of CPUs in threads: all that are online fire at once, each in a thread of its own, and all of them settle.
 #![tactic(auto)]
 
 mod advancing;
+mod firing;
 mod lanes;
 mod laws;
 mod settling;

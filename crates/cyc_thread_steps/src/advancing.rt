@@ -11,6 +11,7 @@ use cyc_cpu::{FireRefused, Fired};
 use cyc_system_workers::{Advanced, advance};
 use cyc_types::{Calls, Moment, Raise, Refusal};
 use std::alloc::Global;
+use std::sync::Wait;
 use std::thread::Threads;
 
 /// Why the fire of a CPU was refused.
@@ -57,10 +58,10 @@ fn moment_of(nanoseconds: u64) -> Moment
     Moment::new(nanoseconds as i64).unwrap_or(Moment::NEVER)
 }
 
-/// The word `advance`: sets the clock, and all online CPUs fire, side by side. It ends when all of them have.
+/// The word `advance`: sets the clock, and all online CPUs fire, each in a thread of its own. It ends when these have ended.
 ///
-/// Refuses with Memory where memory was refused, and then with the refusal of the smallest CPU whose fire was.
-pub(crate) fn advance_clock<W: Threads + Sync, R: Raise + Send + Drop, C: Calls + Send + Drop>(
+/// Refuses with Memory where memory or a thread was refused, and then with the refusal of the smallest CPU whose fire was.
+pub(crate) fn advance_clock<W: Threads + Wait, R: Raise + Send + Drop, C: Calls + Send + Drop>(
     rt: &W,
     alloc: Global,
     progress: Progress<R, C>,

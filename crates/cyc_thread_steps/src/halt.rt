@@ -14,6 +14,6 @@ pub enum Halt {
         /// Why.
         why: Refusal,
     },
-    /// Memory alone: a growth of memory for an `advance` was refused.
+    /// Memory alone: a thread of an `advance`, or memory for it, was refused.
     Refused(Refusal),
 }

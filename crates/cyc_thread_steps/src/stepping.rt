@@ -52,7 +52,7 @@ fn begin_step<W: Wait, R: Raise + Drop, C: Calls + Drop>(
 }
 
 /// The call of a step.
-fn do_step<W: Threads + Sync, R: Raise + Send + Drop, C: Calls + Send + Drop>(
+fn do_step<W: Threads + Wait, R: Raise + Send + Drop, C: Calls + Send + Drop>(
     rt: &W,
     alloc: Global,
     progress: Progress<R, C>,
@@ -102,12 +102,12 @@ fn take_step<W: Threads + Wait + Sync, R: Raise + Send + Drop, C: Calls + Send +
 /// Takes the steps of a script, one after another, and then waits until no removal is open and every CPU has settled.
 ///
 /// Each word is one call of the system, at the clock; a refused one changes nothing and the steps go on, also where memory
-/// was refused. An `advance` fires all online CPUs side by side and ends when they have; a `softint` does nothing, since
-/// other threads drain the levels all the while. Every other word but `remove` waits first until each open removal has
-/// answered and each CPU has settled, and wakes the draining workers between two questions.
+/// was refused. An `advance` fires all online CPUs, each in a thread of its own, and ends when they have; a `softint` does
+/// nothing, since other threads drain the levels all the while. Every other word but `remove` waits first until each open
+/// removal has answered and each CPU has settled, and wakes the draining workers between two questions.
 ///
-/// It ends early where memory for an `advance` was refused, or a fire was, and where a handler of a draining worker refused;
-/// what it had is then dropped.
+/// It ends early where memory or a thread for an `advance` was refused, or a fire was, and where a handler of a draining worker
+/// refused; what it had is then dropped.
 #[tactic(auto, using(crate::proofs::Taking::reached_first, crate::proofs::Taking::reached_next, crate::proofs::Taking::reached_before, crate::proofs::Taking::reached_runs, crate::proofs::Taking::reached_halts))]
 pub fn take_steps<W: Threads + Wait + Sync, R: Raise + Send + Drop, C: Calls + Send + Drop>(
     rt: &W,

@@ -26,7 +26,7 @@ pub record FireRefuses {C : Type 0} (called : C → ℕ → Level → C → Type
   pub begins : IsAtFirst (length script.names.items) before first
   pub halted : IsHalted called count may_refuse RaiseEndCall end_view first script.steps.items (halt.Fired cpu e)
 
--- memory or a draining thread was refused; or a handler of a soft level refused, which may; or a fire was
+-- memory or a thread was refused; or a handler of a soft level refused, which may; or a fire was
 abbrev pub WhyNotPlayed : {C : Type 0} → (C → ℕ → Level → C → Type 0) → (C → ℕ → ℕ) → (C → ℕ → Type 0)
     → Script → List (Seated C) → Refusal → Type 0
 WhyNotPlayed called count may_refuse script before e =

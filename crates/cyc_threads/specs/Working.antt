@@ -46,7 +46,7 @@ pub record HasWorked {C R D : Type 0} (called : C → ℕ → Level → C → Ty
   pub runs : Runs called count may_refuse step view a steps b.lead
   pub makes : EachTwo (HaveMade soft_step made called count) sides b.soft.items
 
--- why the workers were refused: memory or a draining thread was, or a fire, or a handler of a soft level
+-- why the workers were refused: memory or a thread was, or a fire, or a handler of a soft level
 abbrev pub WhyRefused : {C R : Type 0} → (C → ℕ → Level → C → Type 0) → (C → ℕ → ℕ) → (C → ℕ → Type 0)
     → (R → FiringCall → R → Type 0) → (R → FiringView) → List Step → Progress R C → Refusal → Type 0
 WhyRefused called count may_refuse step view steps a e =

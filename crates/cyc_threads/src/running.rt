@@ -130,12 +130,12 @@ fn run_script<W: Threads + Wait + Sync, C: Calls + Send + Drop>(
 
 /// Runs a script in threads, and puts the report: for each name a line `NAME expired E called C lost L pending 0`.
 ///
-/// Two threads for each CPU drain its soft levels from the start to the end, and each advance fires all online CPUs side by
-/// side: one in the calling thread, each other in a thread of its own where one can be made.
+/// Two threads for each CPU drain its soft levels from the start to the end, and each advance starts one for each online CPU,
+/// which fires it, and ends once these have ended.
 /// `calls` has the handlers of CPU after CPU: firing, lock, low; each worker calls its own, and they come back in that order,
 /// with the rings of CPU after CPU: lock, low. All memory is taken before the first byte is put.
 ///
-/// `Refused` comes with Memory where memory or a draining thread was refused, and with HandlerRefused where a handler did:
+/// `Refused` comes with Memory where memory or a thread was refused, and with HandlerRefused where a handler did:
 /// that of the smallest CPU, firing before lock before low. Nothing is put then, and the handlers are dropped. `Write` comes
 /// exactly where the sink has failed.
 pub fn run<W: Threads + Wait + Sync, C: Calls + Send + Drop, S: Sink>(

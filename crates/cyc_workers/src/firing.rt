@@ -7,8 +7,6 @@ ghost use Rattle.cyc_cpu_laws.specs.Runs.{Steps};
 use crate::wakers::Wakers;
 use cyc_cpu::{FireRefused, Fired, Hard};
 use cyc_types::{Calls, Moment, Raise};
-use std::snapshot::Snapshot;
-use std::thread::Promise;
 
 /// The firing side of a CPU, and the handlers of its high level.
 #[derive(Drop)]
@@ -24,18 +22,6 @@ pub struct AfterFire<R: Raise, C> {
     pub calls: C,
     /// What the fire answered.
     pub answer: Result<Fired, FireRefused>,
-}
-
-/// The promise of a firing worker.
-#[derive(Drop)]
-pub struct Fires<R: Raise, C> {
-    pub side: Snapshot<FiringSide<R, C>>,
-    pub now: Moment,
-}
-
-impl<R: Raise, C: Calls> Promise<AfterFire<R, C>> for Fires<R, C> {
-    ghost kept_by = { λ p r. Steps C.called C.count C.may_refuse R.step R.view no_interrupts
-        (running p.side.value.calls p.side.value.hard) (Fire p.now r.answer) (running r.calls r.hard) };
 }
 
 /// Makes every expiration of a CPU that is due (`cyclic_fire` of cyclic.c, as a thread), and wakes the draining workers of its

@@ -12,7 +12,7 @@ mod watch;
 
 pub use cpu::{Handlers, Seats};
 pub use draining::{Drained, Drains, SoftSide, drain};
-pub use firing::{AfterFire, Fires, FiringSide, fire};
+pub use firing::{AfterFire, FiringSide, fire};
 pub use settling::{Lead, settle, settle_all};
 pub use signals::Signals;
 pub use wakers::Wakers;

@@ -13,11 +13,11 @@ unite-system-requires g c =
     let left = c.in_ok-lanes.ensures.hards ∙ c.split-desk.ensures.cpus
     ∙ sym (ap (λ (s : SystemView _). s.cpus.cpus) c.split-desk.ensures.desk) in
     let back = c.in_ok-hards.ensures.hards in
-    let long = ap (λ l. length l) back ∙ length-map after (λ (l : LaneAfter _ _). l.hard) ∙ c.in_ok-lanes-2.ensures.len
+    let long = ap (λ l. length l) back ∙ length-map after (λ (l : LaneAfter _ _). l.hard) ∙ c.in_ok-lanes-2.ensures.long
     ∙ sym (length-map lanes (λ (l : Lane _ _). l.hard)) ∙ ap (λ l. length l) left in
     c.away_law.ensures.each c.split-desk.result.0.cpus.cpus c.in_ok-hards.hards.items long (λ n x y p q.
     comes_back g.C.Calls.called g.C.Calls.count g.C.Calls.may_refuse g.R.Raise.step g.R.Raise.view c.args.now lanes after
-    c.in_ok-lanes-2.ensures.each
+    c.in_ok-lanes-2.ensures
     c.away_law.ensures.same c.away_law.ensures.fired n x y (ap (λ z. slice_get z n) left ∙ p) (sym (ap (λ z. slice_get z n) back)
     ∙ q))
 
@@ -27,7 +27,7 @@ returns g c =
     let desk = c.split-desk.ensures.desk in let united = c.unite-system.ensures in
     all_fire g.C.Calls.called g.C.Calls.count g.C.Calls.may_refuse g.R.Raise.step g.R.Raise.view c.args.now c.args.side
     (record { side = record { system = c.unite-system.result; leads = c.in_ok-hards.leads }; answers = c.in_ok-hards.answers })
-    lanes after c.in_ok-lanes-2.ensures.each c.in_ok-lanes-2.ensures.len
+    lanes after c.in_ok-lanes-2.ensures
     (ap (λ (s : SystemView _). s.records) united ∙ ap (λ (s : SystemView _). s.records) desk)
     (ap (λ (s : SystemView _). s.last) united ∙ ap (λ (s : SystemView _). s.last) desk)
     (ap (λ (s : SystemView _). s.cpus.online) united ∙ ap (λ (s : SystemView _). s.cpus.online) desk)

@@ -1,0 +1,80 @@
+-- Two lists beside each other.
+use Rattle.std.proofs.Common.{◌≡◌, ℕ, zero, suc, ◌+◌, List, [], ◌∷◌, ◌++◌, length, Some, refl, sym, ap, ◌∙◌, subst, arith}
+use Rattle.std.proofs.Common.{append_assoc, append-nil}
+use Rattle.std.specs.List.{slice_get}
+use Rattle.std.proofs.lemmas.List.{length-append}
+use Rattle.std.proofs.lemmas.Option.{slice_get_within, same_Some}
+use Rattle.cyc_agreement.proofs.Spots.{get_some}
+use Rattle.cyc_types.specs.Firing.{FiringView, FiringCall}
+use Rattle.cyc_types.specs.declared.level.Level.{Level}
+use Rattle.cyc_system_workers.specs.declared.lanes.Lane.{Lane}
+use Rattle.cyc_system_workers.specs.declared.lanes.LaneAfter.{LaneAfter}
+use Rattle.cyc_system_workers.specs.declared.firing.Started.{Started}
+use Rattle.cyc_system_workers.specs.declared.firing.Started.TheVariants.{Fires, Stays}
+use Rattle.cyc_system_workers.specs.Advancing.{LaneFires}
+use Rattle.cyc_system_workers.specs.Starting.{Beside, Owes, Keeps}
+
+module _ {A B : Type 0} (P : A → B → Type 0) where
+  at_more : (xs : List A) (ys : List B) (x : A) (y : B) → length ys ≡ length xs →
+      ((n : ℕ) (a : A) (b : B) → slice_get xs n ≡ Some a → slice_get ys n ≡ Some b → P a b) → P x y →
+      (n : ℕ) (a : A) (b : B) → slice_get (xs ++ x ∷ []) n ≡ Some a → slice_get (ys ++ y ∷ []) n ≡ Some b → P a b
+  at_more [] [] x y long each p zero a b e f = subst (λ z. P z b) (same_Some x a e) (subst (λ z. P x z) (same_Some y b f) p)
+  at_more [] [] x y long each p (suc n) a b e f = let low = slice_get_within [] n a e in absurd (omega (arith, low))
+  at_more [] (w ∷ ys) x y long each p n a b e f = absurd (omega (arith, long))
+  at_more (z ∷ xs) [] x y long each p n a b e f = absurd (omega (arith, long))
+  at_more (z ∷ xs) (w ∷ ys) x y long each p zero a b e f = each 0 a b e f
+  at_more (z ∷ xs) (w ∷ ys) x y long each p (suc n) a b e f =
+      at_more xs ys x y (omega (arith, long)) (λ m. each (suc m)) p n a b e f
+
+  -- one element more of each
+  pub beside_pushed : (xs : List A) (ys ys' : List B) (x : A) (y : B) → ys' ≡ ys ++ y ∷ [] → Beside P xs ys → P x y
+      → Beside P (xs ++ x ∷ []) ys'
+  beside_pushed xs ys ys' x y is was p = subst (Beside P (xs ++ x ∷ [])) (sym is) (record {
+    long = let a = length-append xs (x ∷ []) in let b = length-append ys (y ∷ []) in let c = was.long in omega (arith, a, b, c);
+    each = at_more xs ys x y was.long was.each p;
+  })
+
+  pub beside_none : Beside P [] []
+  beside_none = record { long = refl; each = λ n x y e f. (let low = slice_get_within [] n x e in absurd (omega (arith, low))) }
+
+-- an iterator gave one element
+pub given_all : {A : Type 0} (ys : List A) (x : A) (rest rest' all : List A) → rest ≡ x ∷ rest' → ys ++ rest ≡ all
+    → (ys ++ x ∷ []) ++ rest' ≡ all
+given_all ys x rest rest' all e f = append_assoc ys (x ∷ []) rest' ∙ ap (λ (zs : List _). ys ++ zs) (sym e) ∙ f
+
+pub given_many : {A : Type 0} (n m : ℕ) (x : A) (rest rest' : List A) → rest ≡ x ∷ rest' → n + 1 ≡ m → m ≡ length rest
+    → n ≡ length rest'
+given_many n m x rest rest' e f g = let h = ap (λ (zs : List _). length zs) e in omega (arith, f, g, h)
+
+-- an iterator gave none
+pub given_none : {A : Type 0} (ys rest all : List A) (n : ℕ) → n ≡ 0 → n ≡ length rest → ys ++ rest ≡ all → ys ≡ all
+given_none ys [] all n e f g = sym (append-nil ys) ∙ g
+given_none ys (x ∷ rest) all n e f g = absurd (omega (arith, e, f))
+
+-- one after the other
+pub beside_then : {A B C : Type 0} (P : A → B → Type 0) (Q : B → C → Type 0) (S : A → C → Type 0)
+    → ((x : A) (y : B) (z : C) → P x y → Q y z → S x z) →
+    (xs : List A) (ys : List B) (zs : List C) → Beside P xs ys → Beside Q ys zs → Beside S xs zs
+beside_then P Q S f xs ys zs p q = record {
+  long = q.long ∙ p.long;
+  each = λ n x z at_x at_z. (let low = slice_get_within xs n x at_x in let long = p.long in
+      let y = get_some ys n (omega (arith, low, long)) in f x y.0 z (p.each n x y.0 at_x y.1) (q.each n y.0 z y.1 at_z));
+}
+
+module _ {C R : Type 0} (called : C → ℕ → Level → C → Type 0) (count : C → ℕ → ℕ) (may_refuse : C → ℕ → Type 0)
+    (step : R → FiringCall → R → Type 0) (view : R → FiringView) (now : ℕ) where
+  -- what was begun on a CPU came to its end
+  kept : (lane : Lane R C) (started : Started R C) (after : LaneAfter R C)
+      → Owes called count may_refuse step view now lane started
+      → Keeps called count may_refuse step view started after → LaneFires called count may_refuse step view now lane after
+  kept lane (Fires child) after owes keeps =
+      subst (λ n. LaneFires called count may_refuse step view n lane after) owes.1
+      (subst (λ l. LaneFires called count may_refuse step view child.promise.now l after) owes.0 keeps)
+  kept lane (Stays left) after owes keeps = subst (LaneFires called count may_refuse step view now lane) (sym keeps) owes
+
+  pub all_kept : (lanes : List (Lane R C)) (started : List (Started R C)) (after : List (LaneAfter R C)) →
+      Beside (Owes called count may_refuse step view now) lanes started
+      → Beside (Keeps called count may_refuse step view) started after
+      → Beside (LaneFires called count may_refuse step view now) lanes after
+  all_kept = beside_then (Owes called count may_refuse step view now) (Keeps called count may_refuse step view)
+      (LaneFires called count may_refuse step view now) kept

@@ -1,0 +1,31 @@
+use Rattle.std.proofs.Common.{[], sym, subst, rules}
+use Rattle.cyc_system_workers.specs.Starting.{Beside, Keeps}
+use Rattle.cyc_system_workers.proofs.Beside.{beside_none, beside_pushed, given_all, given_many, given_none}
+use Rattle.cyc_system_workers.proofs.firing.join_all.Goals as goal
+
+pub loop-one-init : goal.loop-one-init
+loop-one-init g c =
+    let gives = c.into_iter-one-iterator.ensures.into_iter_gives in
+    let keeps = Keeps g.C.Calls.called g.C.Calls.count g.C.Calls.may_refuse g.R.Raise.step g.R.Raise.view in
+    record {
+      all = gives.0;
+      many = search rules;
+      kept = subst (Beside keeps []) (sym c.in_ok-after.ensures.items) (beside_none keeps);
+    }
+
+pub loop-one-preserved : goal.loop-one-preserved
+loop-one-preserved g c =
+    let inv = c.loop-one.invariant in let one = c.in-Some.one in let step = c.in-Some.ensures.steps in
+    record {
+      all = given_all c.loop-one.yielded one _ _ _ step.0 inv.all;
+      many = given_many _ _ one _ _ step.0 step.1 inv.many;
+      kept = beside_pushed (Keeps g.C.Calls.called g.C.Calls.count g.C.Calls.may_refuse g.R.Raise.step g.R.Raise.view)
+          c.loop-one.yielded c.loop-one.after.items _ one c.join.result c.in_ok-push.ensures.items inv.kept c.join.ensures;
+    }
+
+pub returns : goal.returns
+returns g c = subst
+    (λ zs. Beside (Keeps g.C.Calls.called g.C.Calls.count g.C.Calls.may_refuse g.R.Raise.step g.R.Raise.view) zs
+    c.loop-one.after.items)
+    (given_none c.loop-one.yielded _ _ _ c.in-None.ensures.steps.0 c.loop-one.invariant.many c.loop-one.invariant.all)
+    c.loop-one.invariant.kept

@@ -1,0 +1,32 @@
+use Rattle.std.proofs.Common.{[], sym, subst, rules}
+use Rattle.cyc_system_workers.specs.Starting.{Beside, Owes}
+use Rattle.cyc_system_workers.proofs.Beside.{beside_none, beside_pushed, given_all, given_many, given_none}
+use Rattle.cyc_system_workers.proofs.firing.start_all.Goals as goal
+
+pub loop-lane-init : goal.loop-lane-init
+loop-lane-init g c =
+    let gives = c.into_iter-lane-iterator.ensures.into_iter_gives in
+    let owes = Owes g.C.Calls.called g.C.Calls.count g.C.Calls.may_refuse g.R.Raise.step g.R.Raise.view c.args.now in
+    record {
+      all = gives.0;
+      many = search rules;
+      begun = subst (Beside owes []) (sym c.in_ok-started.ensures.items) (beside_none owes);
+    }
+
+pub loop-lane-preserved : goal.loop-lane-preserved
+loop-lane-preserved g c =
+    let inv = c.loop-lane.invariant in let lane = c.in-Some.lane in let step = c.in-Some.ensures.steps in
+    record {
+      all = given_all c.loop-lane.yielded lane _ _ _ step.0 inv.all;
+      many = given_many _ _ lane _ _ step.0 step.1 inv.many;
+      begun = beside_pushed (Owes g.C.Calls.called g.C.Calls.count g.C.Calls.may_refuse g.R.Raise.step g.R.Raise.view c.args.now)
+          c.loop-lane.yielded c.loop-lane.started.items _ lane c.in_ok-start.field-0 c.in_ok-push.ensures.items inv.begun
+          c.in_ok-start.ensures;
+    }
+
+pub returns : goal.returns
+returns g c = subst
+    (λ zs. Beside (Owes g.C.Calls.called g.C.Calls.count g.C.Calls.may_refuse g.R.Raise.step g.R.Raise.view c.args.now) zs
+    c.loop-lane.started.items)
+    (given_none c.loop-lane.yielded _ _ _ c.in-None.ensures.steps.0 c.loop-lane.invariant.many c.loop-lane.invariant.all)
+    c.loop-lane.invariant.begun

@@ -1,0 +1,12 @@
+use Rattle.std.proofs.Common.{◌≡◌, ◌++◌, length}
+use Rattle.std.specs.Vec.Iter.{into_iter_items, into_iter_len}
+use Rattle.cyc_system_workers.specs.Starting.{Beside, Owes}
+use Rattle.cyc_system_workers.proofs.firing.start_all.Given as goal
+
+abbrev pub invariant-loop-lane : goal.invariant-loop-lane
+invariant-loop-lane g l = record {
+  all : l.yielded ++ into_iter_items l.lane-iterator ≡ l.fn.lanes.items;
+  many : into_iter_len l.lane-iterator ≡ length (into_iter_items l.lane-iterator);
+  begun : Beside (Owes g.C.Calls.called g.C.Calls.count g.C.Calls.may_refuse g.R.Raise.step g.R.Raise.view l.fn.now)
+      l.yielded l.started.items;
+}
