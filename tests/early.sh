@@ -74,27 +74,40 @@ sed 's/expired .*/expired 0 called 0 lost 0 pending 0/' examples/threads.txt > "
 partly() { paste -d'\n' - "$work/none" examples/threads.txt < "$work/got" | awk 'NR % 3 == 1 { line = $0; ok = 0 }
   $0 == line { ok++ } NR % 3 == 0 && ok < 2 { exit 1 }'; }
 
-# Each thread, and each request for memory, is refused in turn. A thread of an `advance` that can't be made is done without. Where
-# memory is refused to a step alone, the report is that of the other steps.
+# refuse VARIABLE SCRIPT REPORT: each thread, or each request for memory, is refused in turn. The run ends with a fault of memory
+# and writes nothing; where memory is refused to a step alone, the report is that of the other steps.
 refuse() {
-  local n status
+  local variable=$1 script=$2 report=$3 n status
   for ((n = 1; ; n++)); do
-    go examples/threads.json "$1=$n" > "$work/got"
+    go "$script" "$variable=$n" > "$work/got"
     status=$?
     [ -s "$work/refused" ] || break
-    if [ "$status" -eq 0 ] && partly; then
-      say "$1=$n" "$status" 0 ''
+    if [ "$variable" = FAIL_ALLOC ] && [ "$status" -eq 0 ] && partly; then
+      say "$variable=$n" "$status" 0 ''
     else
-      [ ! -s "$work/got" ] || { echo "early: $1=$n: it wrote '$(cat "$work/got")'"; failed=1; }
-      say "$1=$n" "$status" 3 'fault 1'
+      [ ! -s "$work/got" ] || { echo "early: $variable=$n: it wrote '$(cat "$work/got")'"; failed=1; }
+      say "$variable=$n" "$status" 3 'fault 1'
     fi
   done
-  say "$1" "$status" 0 ''
-  cmp -s "$work/got" examples/threads.txt || { echo "early: $1: another report"; failed=1; }
-  echo "early: $1: $((n - 1)) refused in turn"
+  say "$variable" "$status" 0 ''
+  cmp -s "$work/got" "$report" || { echo "early: $variable: another report"; failed=1; }
+  echo "early: $variable: $((n - 1)) refused in turn"
 }
-refuse FAIL_THREAD
-refuse FAIL_ALLOC
+
+# made NAME COUNT: the last run made so many threads
+made() { grep -q "^$2 made" "$work/left" || { echo "early: $1: $(cat "$work/left"), and $2 were wanted"; failed=1; }; }
+
+refuse FAIL_ALLOC examples/threads.json examples/threads.txt
+refuse FAIL_THREAD examples/threads.json examples/threads.txt
+made four_cpus_and_two_advances $((8 + 4 + 4))
+script 1 '["add","a","high",1,1],["advance",3],["advance",5]'
+echo 'a expired 5 called 5 lost 0 pending 0' > "$work/report"
+refuse FAIL_THREAD "$work/script" "$work/report"
+made one_cpu_and_two_advances $((2 + 1 + 1))
+script 2 '["omni","a","high",1,1,0],["advance",9],["offline",1],["advance",99],["online",1],["advance",100]'
+echo 'a expired 209 called 209 lost 0 pending 0' > "$work/report"
+refuse FAIL_THREAD "$work/script" "$work/report"
+made a_cpu_that_is_offline_for_one_advance $((4 + 2 + 1 + 2))
 
 # a signal in the middle of a run
 script 4 "[\"omni\",\"a\",\"low\",1,1,0],$(lines '["advance",&]' 60000)"

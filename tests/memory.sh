@@ -10,7 +10,7 @@
 # The program `refused_memory`: each call of the library that may ask for memory. Where a request of the call is refused, it
 # answers Memory, has changed nothing that can be seen, and made again it is done. A juggle and an offline count a cyclic as refused:
 # each stands where it was or at its destination, with its counts and its next expiration. A run may go on without a
-# step or a move, or fire a CPU in the thread that leads.
+# step or a move where memory is refused to it, and ends where a thread is.
 set -u
 cd "$(dirname "$0")/.."
 ./cyclic replay < examples/first.json > /dev/null || exit 1
@@ -69,7 +69,7 @@ for variable in FAIL_ALLOC FAIL_THREAD; do
     [ -s "$work/refused" ] || break
     if is_fault "$status"; then
       ended=$((ended + 1))
-    elif [ "$status" -ne 0 ] || [ -s "$work/said" ] || ! is_report; then
+    elif [ "$variable" = FAIL_THREAD ] || [ "$status" -ne 0 ] || [ -s "$work/said" ] || ! is_report; then
       echo "memory: run, $variable=$n: status $status, wrote '$(cat "$work/got")' and '$(cat "$work/said")'"
       failed=1
     elif cmp -s examples/threads.txt "$work/got"; then
