@@ -250,31 +250,14 @@ impl<F: Firing> Cpu<F> {
 /// In which threads the CPUs fire at an advance.
 #[derive(Clone, Copy, PartialEq, Eq)]
 pub enum Starts {
-    /// Half of them in a new thread, and so on with each half, as the program does: a thread fewer than CPUs.
-    Halves,
-    /// A new thread for each.
+    /// Each in a new thread, as the program does.
     Each,
     /// All in the thread that leads, one after another.
     None,
 }
 
-fn fire_halves<F: Firing>(cpus: &mut [Cpu<F>], now: u64) {
-    match cpus {
-        [] => (),
-        [cpu] => cpu.fire(now),
-        _ => {
-            let (first, second) = cpus.split_at_mut(cpus.len() / 2);
-            thread::scope(|scope| {
-                scope.spawn(|| fire_halves(first, now));
-                fire_halves(second, now);
-            });
-        }
-    }
-}
-
 fn fire_all<F: Firing>(cpus: &mut [Cpu<F>], now: u64, starts: Starts) {
     match starts {
-        Starts::Halves => fire_halves(cpus, now),
         Starts::Each => thread::scope(|scope| {
             for cpu in cpus {
                 scope.spawn(move || cpu.fire(now));

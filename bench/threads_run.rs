@@ -33,16 +33,16 @@ fn long(_cpus: u64) -> Advances {
     (4, 500_000)
 }
 
-/// Many short advances: fewer where they start threads.
-fn short(cpus: u64) -> Advances {
-    (if cpus == 1 { 40_000 } else { 4_000 }, 16)
+/// Many short advances.
+fn short(_cpus: u64) -> Advances {
+    (4_000, 16)
 }
 
 const LEVELS: [(Level, &str); 2] = [(Level::High, "high"), (Level::Low, "low")];
 
-/// The plain Rust over each buffer, and with each way to start threads.
+/// The plain Rust over each buffer, and with and without a thread for each CPU.
 const BUFFERS: [&str; 3] = ["words", "lock", "channel"];
-const STARTS: [&str; 3] = ["none", "words", "each"];
+const STARTS: [&str; 2] = ["none", "words"];
 
 /// The program, a folder for its scripts, and how many rounds a row takes.
 struct Bench<'a> {
@@ -119,10 +119,9 @@ fn run_twin(arguments: &[String]) {
         advances: numbers[3],
     };
     let calls = match arguments[0].as_str() {
-        "words" => machine::run(work, Starts::Halves, machine::over_words),
-        "lock" => machine::run(work, Starts::Halves, machine::over_lock),
-        "channel" => machine::run(work, Starts::Halves, machine::over_channel),
-        "each" => machine::run(work, Starts::Each, machine::over_words),
+        "words" => machine::run(work, Starts::Each, machine::over_words),
+        "lock" => machine::run(work, Starts::Each, machine::over_lock),
+        "channel" => machine::run(work, Starts::Each, machine::over_channel),
         _ => machine::run(work, Starts::None, machine::over_words),
     };
     println!("{calls}");
@@ -198,22 +197,20 @@ impl Bench<'_> {
         println!();
     }
 
-    /// What a short advance costs with each way to start threads.
+    /// What a short advance costs, and what of it is the start of threads.
     fn starts(&self) {
         let title = "An advance of 16 expirations of high level on each CPU, microseconds";
         let columns = [
             "Rust, no thread started",
-            "Rust, a thread fewer than CPUs",
             "Rust, a thread for each CPU",
             "Rattle",
-            "Rattle to a thread fewer",
+            "Rattle to a thread for each CPU",
         ];
         timing::head(title, "CPUs", &columns);
         for cpus in CPUS {
             let (count, each) = short(cpus);
             let times = self.measure(work(cpus, Level::High, (count, each)), "high", &STARTS);
-            let each =
-                [times[1], times[2], times[3], times[0]].map(|time| time / count as f64 / 1e3);
+            let each = [times[1], times[2], times[0]].map(|time| time / count as f64 / 1e3);
             timing::row(&cpus.to_string(), &each, times[0] / times[2]);
         }
     }
