@@ -15,3 +15,5 @@ pub mod Holding
 pub use Rattle.cyc_cpus.proofs.Choices
 pub use Rattle.cyc_cpus.proofs.Spots as CpuSpots
 pub use Rattle.cyc_cpus.proofs.Shifts
+pub use Rattle.cyc_cpus.proofs.Inquiring
+pub use Rattle.cyc_cpus.proofs.Rooms

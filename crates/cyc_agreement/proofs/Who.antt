@@ -17,13 +17,13 @@ use Rattle.cyc_cpus.specs.Soft.{SoftKept}
 use Rattle.cyc_cpus.specs.Calls.{Changes, Does, Reserve, Fire, Reprogram}
 use Rattle.cyc_types.specs.declared.level.Level.{Level}
 use Rattle.cyc_types.specs.declared.level.Soft.{Soft}
-use Rattle.cyc_soft.specs.declared.Ran.{Ran}
-use Rattle.cyc_soft.specs.declared.SoftRefused.{SoftRefused}
+use Rattle.cyc_cpus.specs.Ran.{Ran}
+use Rattle.cyc_cpus.specs.SoftRefused.{SoftRefused}
 use Rattle.cyc_cpus.specs.Fired.{Fired}
 use Rattle.cyc_cpus.specs.FireRefused.{FireRefused}
-use Rattle.cyc_expirations.specs.Expirations as expire
-use Rattle.cyc_expirations.specs.Expirations.{Expiration, expirations, all_after}
-use Rattle.cyc_expirations.specs.Timers.{Timer}
+use Rattle.cyc_model.specs.Expirations as expire
+use Rattle.cyc_model.specs.Expirations.{Expiration, expirations, all_after}
+use Rattle.cyc_model.specs.Timers.{Timer}
 use Rattle.cyc_cpus.specs.Cpus.{CpusView, IsCpu, with_cpu, ChangesAt}
 use Rattle.cyc_agreement.specs.System.{ids_of, ids_on, has, removal_on}
 use Rattle.cyc_agreement.specs.Agreement.{most_on}

@@ -5,5 +5,5 @@
 
 mod finding;
 
-pub use cyc_cpus::Cpus;
+pub use cyc_cpus::{Cpus, Removal};
 pub use finding::{is_leaving, is_leaving_at};

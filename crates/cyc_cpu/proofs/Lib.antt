@@ -9,3 +9,4 @@ pub mod Following
 pub mod Off
 pub mod Lawful
 pub mod Calling
+pub use Rattle.cyc_fire.proofs.Sharing

@@ -13,3 +13,16 @@ pub mod Gone
 pub use Rattle.cyc_fire.specs.declared.fire.FireRefused
 pub use Rattle.cyc_fire.specs.declared.fire.Fired
 pub use Rattle.cyc_fire.specs.Rows
+pub use Rattle.cyc_soft.specs.declared.Ran
+pub use Rattle.cyc_soft.specs.declared.SoftRefused
+pub use Rattle.cyc_core.specs.Tables
+pub use Rattle.cyc_core.specs.FiringSide
+pub use Rattle.cyc_core.specs.DrainingSide
+pub use Rattle.cyc_core.specs.Reached
+pub use Rattle.cyc_fire.specs.Made
+pub use Rattle.cyc_fire.specs.Expirations
+pub use Rattle.cyc_fire.specs.Timers
+pub use Rattle.cyc_core.specs.Lawful
+pub use Rattle.cyc_core.specs.Level
+pub use Rattle.cyc_core.specs.Event
+pub use Rattle.cyc_core.specs.Events

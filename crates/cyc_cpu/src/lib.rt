@@ -15,6 +15,7 @@ mod removing;
 mod settling;
 mod soft;
 
+pub use cyc_core::LevelCore;
 pub use cyc_fire::{FireRefused, Fired, share_law};
 pub use hard::{Hard, Totals};
 pub use moving::Taken;

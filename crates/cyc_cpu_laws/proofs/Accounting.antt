@@ -9,17 +9,17 @@ use Rattle.cyc_types.specs.Runs.{raised_by, lost_by}
 use Rattle.cyc_types.specs.Levels.{at_level}
 use Rattle.cyc_types.specs.declared.level.Level.{Level}
 use Rattle.cyc_types.specs.declared.level.Level.TheVariants.{Low, Lock, High}
-use Rattle.cyc_expirations.specs.Expirations.{Expiration, expirations, times_of}
-use Rattle.cyc_expirations.specs.Timers.{Timer, HasDistinctIds}
-use Rattle.cyc_timers.specs.Rows.{no_counts, timers}
-use Rattle.cyc_fire.specs.declared.fire.FireRefused.{FireRefused}
-use Rattle.cyc_fire.specs.Acts.{is_of, timer_of}
-use Rattle.cyc_fire.specs.Shares.{share}
+use Rattle.cyc_cpu.specs.Expirations.{Expiration, expirations, times_of}
+use Rattle.cyc_cpu.specs.Timers.{Timer, HasDistinctIds}
+use Rattle.cyc_cpu.specs.Rows.{no_counts, timers}
+use Rattle.cyc_cpu.specs.FireRefused.{FireRefused}
+use Rattle.cyc_cpu.specs.Acts.{is_of, timer_of}
+use Rattle.cyc_cpu.specs.Shares.{share}
 use Rattle.cyc_cpu.specs.Cpu.{CpuView, Running, SameCpu, Makes, sides}
 use Rattle.cyc_cpu.specs.Law.{IsLawful}
 use Rattle.cyc_cpu.specs.Calls.{CpuCall, Changes, Does, Stopped, no_interrupts, Fire, SoftInterrupt, Add, Place, Reprogram}
 use Rattle.cyc_cpu.specs.Calls.{AskPending, AskTotals, AskRoom, Reserve, Widen, BeginRemove, PollRemove, TakeNow, AskSettled}
-use Rattle.cyc_fire.proofs.Sharing.{raises_add_up, ids_add_up}
+use Rattle.cyc_cpu.proofs.Sharing.{raises_add_up, ids_add_up}
 use Rattle.cyc_cpu_laws.specs.Runs.{Steps}
 use Rattle.cyc_cpu_laws.specs.Accounts.{Account, nothing, both, made_by, account_of, account_in, KeepsLimits, Proceeds}
 use Rattle.cyc_cpu_laws.proofs.Stills.{still_raises, changes_still}

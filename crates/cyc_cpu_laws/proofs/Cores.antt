@@ -14,13 +14,13 @@ use Rattle.cyc_types.specs.declared.level.Level.TheVariants as level
 use Rattle.cyc_types.specs.declared.level.Soft.{Soft}
 use Rattle.cyc_types.specs.declared.level.Soft.TheVariants.{Low, Lock}
 use Rattle.cyc_types.proofs.Runs.{folds_on, raised_on, lost_on, finishes_on, finished_on}
-use Rattle.cyc_core.specs.Tables.{Tables}
+use Rattle.cyc_cpu.specs.Tables.{Tables}
 use Rattle.cyc_soft.specs.declared.Ran.{Ran}
 use Rattle.cyc_soft.specs.declared.SoftRefused.{SoftRefused}
 use Rattle.cyc_soft.specs.Serving.{Served, ids, look_of, last_look, way_of}
 use Rattle.cyc_soft.proofs.Rounds.{way_finishes}
-use Rattle.cyc_fire.specs.Shares.{share}
-use Rattle.cyc_timers.specs.Rows.{timers}
+use Rattle.cyc_cpu.specs.Shares.{share}
+use Rattle.cyc_cpu.specs.Rows.{timers}
 use Rattle.cyc_cpu.specs.Cpu.{Running}
 use Rattle.cyc_cpu.specs.Law.{IsLawful}
 use Rattle.cyc_cpu.specs.Soft.{fires, drains, held_at, firing_at, end_at, ServesAt, SoftKept, Interrupts}

@@ -5,8 +5,8 @@ use Rattle.std.specs.List.{FoldsTo}
 use Rattle.cyc_types.specs.Firing.{FiringView, FiringCall, Stay}
 use Rattle.cyc_types.specs.declared.level.Level.{Level}
 use Rattle.cyc_types.specs.declared.level.Level.TheVariants.{Low, Lock, High}
-use Rattle.cyc_timers.specs.Rows.{Cyclic, timers}
-use Rattle.cyc_fire.specs.Shares.{share}
+use Rattle.cyc_cpu.specs.Rows.{Cyclic, timers}
+use Rattle.cyc_cpu.specs.Shares.{share}
 use Rattle.cyc_cpu.specs.Cpu.{CpuView, Running, HasNoCyclic, AreAdmitted}
 use Rattle.cyc_cpu.specs.Law.{IsLawful}
 use Rattle.cyc_cpu.specs.Gone.{IsOff, PutsNot}

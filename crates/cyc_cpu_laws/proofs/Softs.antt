@@ -11,13 +11,13 @@ use Rattle.cyc_types.specs.Runs.{DrainGoes}
 use Rattle.cyc_types.specs.declared.level.Level.{Level as TheLevel}
 use Rattle.cyc_types.specs.declared.level.Soft.{Soft}
 use Rattle.cyc_types.specs.declared.level.Soft.TheVariants.{Low, Lock}
-use Rattle.cyc_level.specs.declared.Event.TheVariants.{Take, Finish, Follow}
-use Rattle.cyc_level.specs.Level.{Cyclic, Level}
-use Rattle.cyc_level.specs.Events.{cyclic_after_finish, after_finish}
-use Rattle.cyc_core.specs.Reached.{Happens}
-use Rattle.cyc_core.specs.Tables.{Tables, level_of}
-use Rattle.cyc_core.specs.FiringSide.{stay_of, firing_view}
-use Rattle.cyc_core.specs.DrainingSide.{take_events, Drains}
+use Rattle.cyc_cpu.specs.Event.TheVariants.{Take, Finish, Follow}
+use Rattle.cyc_cpu.specs.Level.{Cyclic, Level}
+use Rattle.cyc_cpu.specs.Events.{cyclic_after_finish, after_finish}
+use Rattle.cyc_cpu.specs.Reached.{Happens}
+use Rattle.cyc_cpu.specs.Tables.{Tables, level_of}
+use Rattle.cyc_cpu.specs.FiringSide.{stay_of, firing_view}
+use Rattle.cyc_cpu.specs.DrainingSide.{take_events, Drains}
 use Rattle.cyc_soft.specs.declared.Ran.{Ran}
 use Rattle.cyc_soft.specs.declared.SoftRefused.{SoftRefused}
 use Rattle.cyc_cpu.specs.Cpu.{CpuView, Running}

@@ -14,14 +14,14 @@ use Rattle.cyc_types.specs.declared.refusal.Refusal.{Refusal}
 use Rattle.cyc_types.specs.declared.refusal.Refusal.TheVariants as why
 use Rattle.cyc_types.proofs.Runs.{goes_on}
 use Rattle.cyc_cpu.specs.declared.removing.Removal.TheVariants.{Done, Kept}
-use Rattle.cyc_fire.specs.Acts.{same_level}
+use Rattle.cyc_cpu.specs.Acts.{same_level}
 use Rattle.cyc_cpu.specs.Quiet.{OnlyLooks, LoadsThenLooks}
 use Rattle.cyc_cpu.specs.Removal.{calls_at, Leaves}
 use Rattle.cyc_cpu.specs.Cpu.{CpuView, Looked, Asks, Reserves, Widens, Places, size_for, bank_for}
 use Rattle.cyc_cpu.specs.Moving.{Inquires, WhyNotTaken}
 use Rattle.cyc_cpu.specs.Calls.{CpuCall, Changes, Fire, SoftInterrupt, Add, Place, Reprogram, AskPending, AskTotals, AskRoom}
 use Rattle.cyc_cpu.specs.Calls.{Reserve, Widen, BeginRemove, PollRemove, TakeNow, AskSettled}
-use Rattle.cyc_timers.specs.Rows.{Cyclic}
+use Rattle.cyc_cpu.specs.Rows.{Cyclic}
 
 -- a call that raises nothing, and switches banks only where the size grows from a to b
 abbrev pub IsStill : ℕ → ℕ → FiringCall → Type 0

@@ -8,10 +8,10 @@ use Rattle.cyc_types.specs.declared.level.Level.{Level}
 use Rattle.cyc_types.specs.declared.level.Level.TheVariants.{Low, Lock, High}
 use Rattle.cyc_soft.specs.declared.Ran.{Ran}
 use Rattle.cyc_soft.specs.declared.SoftRefused.{SoftRefused}
-use Rattle.cyc_expirations.specs.Expirations.{Expiration, expirations}
-use Rattle.cyc_timers.specs.Rows.{Cyclic, no_counts, timers}
-use Rattle.cyc_fire.specs.Acts.{same_level}
-use Rattle.cyc_fire.specs.Shares.{share}
+use Rattle.cyc_cpu.specs.Expirations.{Expiration, expirations}
+use Rattle.cyc_cpu.specs.Rows.{Cyclic, no_counts, timers}
+use Rattle.cyc_cpu.specs.Acts.{same_level}
+use Rattle.cyc_cpu.specs.Shares.{share}
 use Rattle.cyc_cpu.specs.declared.removing.Removal.TheVariants.{Done}
 use Rattle.cyc_cpu.specs.Cpu.{CpuView, Running}
 use Rattle.cyc_cpu.specs.Calls.{CpuCall, Fire, SoftInterrupt, Place, BeginRemove, PollRemove, TakeNow}

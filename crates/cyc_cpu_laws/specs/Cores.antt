@@ -5,7 +5,7 @@ use Rattle.cyc_types.specs.Draining.{DrainCall}
 use Rattle.cyc_types.specs.Firing.{FiringCall}
 use Rattle.cyc_types.specs.Runs.{Taught, raised_by, lost_by, finishes_of, finished_by}
 use Rattle.cyc_types.specs.declared.level.Level.TheVariants.{Low, Lock, High}
-use Rattle.cyc_core.specs.Tables.{Tables}
+use Rattle.cyc_cpu.specs.Tables.{Tables}
 use Rattle.cyc_cpu.specs.Cpu.{Running}
 use Rattle.cyc_cpu.specs.Soft.{fires, drains, firing_at}
 use Rattle.cyc_cpu_laws.specs.Accounts.{Account, AddsUp, LossesAddUp, KeepsLimits}

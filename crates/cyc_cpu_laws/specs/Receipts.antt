@@ -1,11 +1,11 @@
 -- What a cyclic's counts, and with them a receipt or what a move takes, say of the calls that were made.
 use Rattle.std.specs.Prelude.{◌≡◌, ◌≢◌, ℕ, ◌+◌, Some, Ok}
-use Rattle.cyc_level.specs.Level.{count}
+use Rattle.cyc_cpu.specs.Level.{count}
 use Rattle.cyc_types.specs.declared.firing.Sent.{Sent}
 use Rattle.cyc_types.specs.declared.level.Level.{Level}
 use Rattle.cyc_types.specs.declared.level.Level.TheVariants.{Low, Lock, High}
-use Rattle.cyc_timers.specs.Rows.{Cyclic}
-use Rattle.cyc_core.specs.Tables.{Tables, level_of}
+use Rattle.cyc_cpu.specs.Rows.{Cyclic}
+use Rattle.cyc_cpu.specs.Tables.{Tables, level_of}
 use Rattle.cyc_cpu.specs.declared.removing.Removal.TheVariants.{Done}
 use Rattle.cyc_cpu.specs.Cpu.{CpuView, IsCyclic}
 use Rattle.cyc_cpu.specs.Soft.{done_at}

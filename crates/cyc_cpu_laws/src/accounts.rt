@@ -2,7 +2,7 @@
 
 ghost use Rattle.std.specs.Prelude.{List};
 ghost use Rattle.std.specs.List.{FoldsTo};
-ghost use Rattle.cyc_core.specs.Tables.{Tables};
+ghost use Rattle.cyc_cpu.specs.Tables.{Tables};
 ghost use Rattle.cyc_cpu.specs.Cpu.{Running};
 ghost use Rattle.cyc_cpu.specs.Law.{IsLawful};
 ghost use Rattle.cyc_cpu.specs.Calls.{CpuCall, Does, no_interrupts};

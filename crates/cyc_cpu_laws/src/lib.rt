@@ -12,6 +12,7 @@ mod receipts;
 mod settling;
 
 pub use accounts::{account_core_law, account_law};
+pub use cyc_cpu::{FireRefused, Fired, Hard, LevelCore};
 pub use leaving::absence_law;
 pub use passing::passing_law;
 pub use receipts::{balance_law, receipt_law};

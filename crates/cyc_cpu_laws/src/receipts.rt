@@ -1,8 +1,8 @@
 //! The law of what receipts and moves say of the calls.
 
 ghost use Rattle.std.specs.Prelude.{ℕ, All};
-ghost use Rattle.cyc_core.specs.Tables.{Tables, level_of};
-ghost use Rattle.cyc_level.specs.Lawful.{Lawful};
+ghost use Rattle.cyc_cpu.specs.Tables.{Tables, level_of};
+ghost use Rattle.cyc_cpu.specs.Lawful.{Lawful};
 ghost use Rattle.cyc_cpu.specs.Cpu.{CpuView};
 ghost use Rattle.cyc_cpu.specs.Law.{IsLawful};
 ghost use Rattle.cyc_cpu.specs.Soft.{fires, firing_at};

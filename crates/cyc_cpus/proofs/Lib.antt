@@ -3,3 +3,4 @@ pub mod Spots
 pub mod Shifts
 pub mod Rounds
 pub mod Rooms
+pub use Rattle.cyc_cpu.proofs.Inquiring

@@ -5,8 +5,8 @@ use Rattle.std.specs.List.{slice_get, FoldsTo}
 use Rattle.cyc_types.specs.Firing.{FiringView, FiringCall}
 use Rattle.cyc_types.specs.declared.level.Level.{Level}
 use Rattle.cyc_types.specs.declared.level.Soft.{Soft}
-use Rattle.cyc_soft.specs.declared.Ran.{Ran}
-use Rattle.cyc_soft.specs.declared.SoftRefused.{SoftRefused}
+use Rattle.cyc_cpu.specs.Ran.{Ran}
+use Rattle.cyc_cpu.specs.SoftRefused.{SoftRefused}
 use Rattle.cyc_cpu.specs.Cpu.{CpuView, Running, running}
 use Rattle.cyc_cpu.specs.Calls.{CpuCall, Changes, Does}
 

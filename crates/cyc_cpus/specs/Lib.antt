@@ -12,3 +12,9 @@ pub use Rattle.cyc_cpu.specs.Removal
 pub use Rattle.cyc_cpu.specs.Rows
 pub use Rattle.cyc_cpu.specs.Soft
 pub use Rattle.cyc_cpu.specs.declared.moving.Taken
+pub use Rattle.cyc_cpu.specs.Ran
+pub use Rattle.cyc_cpu.specs.SoftRefused
+pub use Rattle.cyc_cpu.specs.declared.removing.Removal as CpuRemoval
+pub use Rattle.cyc_cpu.specs.declared.hard.Totals
+pub use Rattle.cyc_cpu.specs.Acts
+pub use Rattle.cyc_cpu.specs.Moving

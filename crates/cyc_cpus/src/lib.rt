@@ -7,3 +7,4 @@ mod reserving;
 mod shifting;
 
 pub use cpus::Cpus;
+pub use cyc_cpu::Removal;

@@ -10,7 +10,7 @@ use Rattle.cyc_types.specs.declared.level.Level.TheVariants.{Low, Lock, High}
 use Rattle.cyc_level.specs.Level.{Cyclic, Level as SoftLevel, count, count_in}
 use Rattle.cyc_core.specs.Tables.{Tables, level_of}
 use Rattle.cyc_core.specs.FiringSide.{stay_of}
-use Rattle.cyc_fire.specs.Quiet.{asks_at, admits_at}
+use Rattle.cyc_cpu.specs.Quiet.{asks_at, admits_at}
 use Rattle.cyc_cpu.specs.Cpu.{CpuView}
 use Rattle.cyc_cpu.specs.Removal.{EndGoes}
 use Rattle.cyc_cpu.specs.Soft.{fires, firing_at}

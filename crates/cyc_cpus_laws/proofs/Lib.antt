@@ -7,3 +7,11 @@ pub mod Refusing
 pub mod Calm
 pub mod Nowhere
 pub mod Lowering
+pub use Rattle.cyc_cpu_laws.proofs.Staying
+pub use Rattle.cyc_cpu_laws.proofs.Stills
+pub use Rattle.cyc_cpu_laws.proofs.Ways
+pub use Rattle.cyc_cpu_laws.proofs.Accounting
+pub use Rattle.cyc_cpu_laws.proofs.Fires
+pub use Rattle.cyc_cpu_laws.proofs.Cores
+pub use Rattle.cyc_cpu_laws.proofs.Shifts
+pub use Rattle.cyc_cpu_laws.proofs.Softs

@@ -9,9 +9,9 @@ use Rattle.cyc_types.specs.Firing.{FiringView, FiringCall, Stay, Loads, Looks, E
 use Rattle.cyc_types.specs.Runs.{Goes}
 use Rattle.cyc_types.specs.declared.level.Level.{Level}
 use Rattle.cyc_types.specs.declared.level.Level.TheVariants.{Low, Lock}
-use Rattle.cyc_timers.specs.Rows.{Cyclic}
-use Rattle.cyc_fire.specs.Acts.{same_level}
-use Rattle.cyc_timers.specs.Rows.{timers}
+use Rattle.cyc_cpu.specs.Rows.{Cyclic}
+use Rattle.cyc_cpu.specs.Acts.{same_level}
+use Rattle.cyc_cpu.specs.Rows.{timers}
 use Rattle.cyc_expirations.specs.Expirations.{expirations, times_of}
 use Rattle.cyc_expirations.specs.Timers.{HasDistinctIds}
 use Rattle.cyc_cpu.specs.Losses.{IsSpared}

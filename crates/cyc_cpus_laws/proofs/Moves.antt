@@ -3,7 +3,7 @@ use Rattle.std.proofs.Common.{◌≡◌, ◌≢◌, ℕ, Some, Ok, sym, ap, subs
 use Rattle.std.specs.Prelude.{insert, remove}
 use Rattle.std.specs.List.{slice_get}
 use Rattle.cyc_types.specs.Firing.{FiringView, FiringCall}
-use Rattle.cyc_timers.specs.Rows.{Cyclic}
+use Rattle.cyc_cpu.specs.Rows.{Cyclic}
 use Rattle.cyc_cpu.specs.declared.moving.Taken.{Taken}
 use Rattle.cyc_cpu.specs.Cpu.{CpuView, IsCyclic, cyclic_with}
 use Rattle.cyc_cpu.specs.Moving.{IsTaken}

@@ -5,7 +5,7 @@ use Rattle.cyc_types.specs.declared.level.Level.{Level}
 use Rattle.cyc_types.specs.declared.level.Level.TheVariants.{Low, Lock, High}
 use Rattle.cyc_level.specs.Level.{count}
 use Rattle.cyc_core.specs.Tables.{Tables, level_of}
-use Rattle.cyc_timers.specs.Rows.{Cyclic}
+use Rattle.cyc_cpu.specs.Rows.{Cyclic}
 use Rattle.cyc_cpu.specs.Cpu.{CpuView, IsCyclic, SameCpu}
 use Rattle.cyc_cpus.specs.Cpus.{CpusView, IsCpu}
 

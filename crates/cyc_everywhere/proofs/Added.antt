@@ -6,7 +6,7 @@ use Rattle.cyc_types.specs.declared.level.Level.{Level}
 use Rattle.cyc_types.specs.declared.moment.When.{When}
 use Rattle.cyc_types.specs.declared.refusal.Refusal.{Refusal}
 use Rattle.cyc_types.specs.declared.refusal.Refusal.TheVariants.{Memory}
-use Rattle.cyc_model.specs.Refusals.{first_refusal, bad_now}
+use Rattle.cyc_agreement.specs.ModelRefusals.{first_refusal, bad_now}
 use Rattle.cyc_places.specs.declared.record.Place.TheVariants.{Everywhere}
 use Rattle.cyc_places.specs.declared.record.Record.{Record}
 use Rattle.cyc_places.specs.Places.{new_record, no_counts}
@@ -23,8 +23,8 @@ use Rattle.cyc_agreement.proofs.Holding.{holds_same, holds_given}
 use Rattle.cyc_agreement.proofs.Removals.{AreSteady, removals_kept, leaving_here}
 use Rattle.cyc_agreement.proofs.Entering.{not_given}
 use Rattle.cyc_agreement.proofs.Who.{but_same, but_then}
-use Rattle.cyc_cpu.specs.Cpu.{CpuView}
-use Rattle.cyc_cpu.specs.Law.{IsLawful}
+use Rattle.cyc_agreement.specs.Cpu.{CpuView}
+use Rattle.cyc_agreement.specs.Law.{IsLawful}
 use Rattle.cyc_everywhere.proofs.Quiet.{quiet_reserves}
 use Rattle.cyc_everywhere.proofs.Arriving.{arrives, agrees_omni}
 

@@ -8,8 +8,8 @@ use Rattle.std.proofs.lemmas.List.Edits.{length-insert, get_or-insert_below, get
 use mathlib.Core.Logic.{dite}
 use native.Mathlib.Decide.{ℕ_discrete}
 use Rattle.cyc_types.specs.Firing.{FiringView, FiringCall}
-use Rattle.cyc_timers.specs.Rows.{Cyclic}
-use Rattle.cyc_cpu.specs.Cpu.{CpuView, HasRisingIds, Places}
+use Rattle.cyc_agreement.specs.Rows.{Cyclic}
+use Rattle.cyc_agreement.specs.Cpu.{CpuView, HasRisingIds, Places}
 use Rattle.cyc_agreement.specs.Cpus.{CpusView, ChangesAt}
 use Rattle.cyc_agreement.proofs.CpuSpots.{get_set_other, cpu_there}
 use Rattle.cyc_agreement.proofs.Lists.{among, true_eq, false_ne, false_true}

@@ -7,7 +7,7 @@ use Rattle.cyc_types.specs.Firing.{FiringView, FiringCall}
 use Rattle.cyc_types.specs.declared.level.Level.{Level}
 use Rattle.cyc_types.specs.declared.moment.When.{When}
 use Rattle.cyc_types.proofs.Runs.{folds_on}
-use Rattle.cyc_cpu.specs.Cpu.{CpuView, HasNoCyclic, MayWiden}
+use Rattle.cyc_agreement.specs.Cpu.{CpuView, HasNoCyclic, MayWiden}
 use Rattle.cyc_agreement.specs.Cpus.{CpusView, IsCpu, OfCpu, IsOnline, online_cpus, numbers_from, DoesAt, Works, ChangesAt}
 use Rattle.cyc_agreement.proofs.Choices.{numbers_at}
 use Rattle.cyc_agreement.proofs.CpuSpots.{cpu_beside}

@@ -6,11 +6,11 @@ use Rattle.cyc_types.specs.Firing.{FiringView, FiringCall}
 use Rattle.cyc_types.specs.Limits.{cyclics as most_cyclics}
 use Rattle.cyc_types.specs.declared.refusal.Refusal.{Refusal}
 use Rattle.cyc_types.specs.declared.refusal.Refusal.TheVariants as why
-use Rattle.cyc_timers.specs.Rows.{Cyclic}
-use Rattle.cyc_model.specs.Refusals.{first_refusal, bad_now}
-use Rattle.cyc_cpu.specs.Cpu.{CpuView, Looked, WhyNotReserved}
-use Rattle.cyc_cpu.specs.Law.{IsLawful}
-use Rattle.cyc_cpu.specs.Calls.{Changes, Reserve, Widen}
+use Rattle.cyc_agreement.specs.Rows.{Cyclic}
+use Rattle.cyc_agreement.specs.ModelRefusals.{first_refusal, bad_now}
+use Rattle.cyc_agreement.specs.Cpu.{CpuView, Looked, WhyNotReserved}
+use Rattle.cyc_agreement.specs.Law.{IsLawful}
+use Rattle.cyc_agreement.specs.Calls.{Changes, Reserve, Widen}
 use Rattle.cyc_places.specs.declared.record.Record.{Record}
 use Rattle.cyc_places.specs.Places.{HasRisingIds, no_counts, with_ended}
 use Rattle.cyc_agreement.specs.Cpus.{CpusView, IsCpu, with_cpu, on, DoesAt, Works}

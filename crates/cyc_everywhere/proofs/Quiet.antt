@@ -2,8 +2,8 @@
 use Rattle.std.proofs.Common.{◌≡◌, sym, ap, ◌∙◌, ℕ, Ok, Err, inl, inr, Result, List, [], ◌∷◌, ◌++◌, subst}
 use Rattle.cyc_types.specs.Firing.{FiringView, FiringCall}
 use Rattle.cyc_types.specs.declared.refusal.Refusal.{Refusal}
-use Rattle.cyc_cpu.specs.Cpu.{CpuView}
-use Rattle.cyc_cpu.specs.Calls.{CpuCall, Changes, AskRoom, Reserve, Widen}
+use Rattle.cyc_agreement.specs.Cpu.{CpuView}
+use Rattle.cyc_agreement.specs.Calls.{CpuCall, Changes, AskRoom, Reserve, Widen}
 use Rattle.cyc_agreement.specs.Cpus.{CpusView, CallOn, on, Works}
 use Rattle.cyc_agreement.specs.Reserving.{rooms, reserves, ReservesEach}
 use Rattle.cyc_everywhere.proofs.Components.{cyclics_on, are_same}

@@ -11,9 +11,9 @@ use native.Mathlib.Decide.{ℕ_discrete}
 use Rattle.cyc_types.specs.Firing.{FiringView}
 use Rattle.cyc_types.specs.Limits.{cyclics as most_cyclics}
 use Rattle.cyc_types.specs.declared.firing.Sent.{Sent}
-use Rattle.cyc_cpu.specs.Cpu.{CpuView}
-use Rattle.cyc_cpu.specs.Law.{IsLawful}
-use Rattle.cyc_timers.specs.Rows.{Cyclic}
+use Rattle.cyc_agreement.specs.Cpu.{CpuView}
+use Rattle.cyc_agreement.specs.Law.{IsLawful}
+use Rattle.cyc_agreement.specs.Rows.{Cyclic}
 use Rattle.cyc_places.specs.declared.record.Place.{Place}
 use Rattle.cyc_places.specs.declared.record.Place.TheVariants.{On, Everywhere}
 use Rattle.cyc_places.specs.declared.record.Record.{Record}

@@ -7,8 +7,8 @@ use native.Mathlib.Decide.{ℕ_discrete}
 use Rattle.cyc_types.specs.Firing.{FiringView, FiringCall}
 use Rattle.cyc_types.specs.declared.level.Level.{Level}
 use Rattle.cyc_types.specs.declared.moment.When.{When}
-use Rattle.cyc_timers.specs.Rows.{Cyclic}
-use Rattle.cyc_cpu.specs.Cpu.{CpuView, HasRisingIds}
+use Rattle.cyc_agreement.specs.Rows.{Cyclic}
+use Rattle.cyc_agreement.specs.Cpu.{CpuView, HasRisingIds}
 use Rattle.cyc_agreement.specs.Cpus.{CpusView, IsCpu, OfCpu, online_cpus, DoesAt, Works}
 use Rattle.cyc_agreement.specs.System.{SystemView, is_online}
 use Rattle.cyc_agreement.specs.Adding.{entering}

@@ -1,3 +1,4 @@
 pub mod Omni
 pub mod Online
 pub mod Laws
+pub use Rattle.cyc_agreement.specs.Rows

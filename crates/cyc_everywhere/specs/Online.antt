@@ -7,8 +7,8 @@ use Rattle.cyc_types.specs.declared.firing.Sent.{Sent}
 use Rattle.cyc_types.specs.declared.level.Level.{Level}
 use Rattle.cyc_types.specs.declared.refusal.Refusal.{Refusal}
 use Rattle.cyc_types.specs.declared.refusal.Refusal.TheVariants.{Memory, Expanding, Online}
-use Rattle.cyc_model.specs.Refusals.{when}
-use Rattle.cyc_cpu.specs.Calls.{Reserve, Widen, Place as PlaceCall}
+use Rattle.cyc_agreement.specs.ModelRefusals.{when}
+use Rattle.cyc_agreement.specs.Calls.{Reserve, Widen, Place as PlaceCall}
 use Rattle.cyc_places.specs.declared.record.Place.{Place}
 use Rattle.cyc_places.specs.declared.record.Place.TheVariants.{On, Everywhere}
 use Rattle.cyc_places.specs.declared.record.Record.{Record}

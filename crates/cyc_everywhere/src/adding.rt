@@ -3,8 +3,8 @@
 ghost use Rattle.std.specs.Prelude.{◌≡◌, ◌<◌, ◌≤◌, ℕ, [], ◌∷◌, Err, length};
 ghost use Rattle.cyc_types.specs.Limits.{last_id};
 ghost use Rattle.cyc_types.specs.Series.{never};
-ghost use Rattle.cyc_model.specs.Refusals.{bad_now};
-ghost use Rattle.cyc_cpu.specs.Cpu.{HasNoCyclic, MayWiden};
+ghost use Rattle.cyc_agreement.specs.ModelRefusals.{bad_now};
+ghost use Rattle.cyc_agreement.specs.Cpu.{HasNoCyclic, MayWiden};
 ghost use Rattle.cyc_agreement.specs.Cpus.{OfCpu, IsOnline, online_cpus, Works};
 ghost use Rattle.cyc_agreement.specs.Adding.{entering};
 ghost use Rattle.cyc_agreement.specs.Holding.{Holds};

@@ -2,8 +2,8 @@
 
 ghost use Rattle.std.specs.Prelude.{◌≡◌, ◌<◌, ◌≤◌, ℕ, [], ◌∷◌, Err, length, filter, map, slice_set, true};
 ghost use Rattle.cyc_types.specs.Series.{never};
-ghost use Rattle.cyc_model.specs.Refusals.{bad_now};
-ghost use Rattle.cyc_cpu.specs.Calls.{MayPlace};
+ghost use Rattle.cyc_agreement.specs.ModelRefusals.{bad_now};
+ghost use Rattle.cyc_agreement.specs.Calls.{MayPlace};
 ghost use Rattle.cyc_places.specs.declared.record.Record.{Record as TheRecord};
 ghost use Rattle.cyc_places.specs.Places.{IsRecord, HasRisingIds, HaveCounts, ended_on, no_counts, with_ended, is_everywhere};
 ghost use Rattle.cyc_agreement.specs.Cpus.{OfCpu, Works};

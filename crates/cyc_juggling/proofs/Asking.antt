@@ -8,10 +8,10 @@ use native.Mathlib.Decide.{ℕ_discrete}
 use Rattle.cyc_types.specs.Firing.{FiringView, FiringCall}
 use Rattle.cyc_types.specs.declared.level.Level.TheVariants.{Low, Lock}
 use Rattle.cyc_types.proofs.Runs.{folds_more}
-use Rattle.cyc_timers.specs.Rows.{Cyclic}
-use Rattle.cyc_cpu.specs.Cpu.{CpuView, IsCyclic, Asks, seen_at}
-use Rattle.cyc_cpu.specs.Calls.{Changes, AskPending}
-use Rattle.cyc_cpu.proofs.Inquiring.{asked_lowers}
+use Rattle.cyc_agreement.specs.Rows.{Cyclic}
+use Rattle.cyc_agreement.specs.Cpu.{CpuView, IsCyclic, Asks, seen_at}
+use Rattle.cyc_agreement.specs.Calls.{Changes, AskPending}
+use Rattle.cyc_agreement.proofs.Inquiring.{asked_lowers}
 use Rattle.cyc_places.specs.Places.{RecordsView}
 use Rattle.cyc_agreement.specs.Cpus.{CpusView, IsCpu, OfCpu, with_cpu, CallOn, on, DoesAt, Works}
 use Rattle.cyc_agreement.proofs.CpuSpots.{of_cpu, cpu_there, changed}

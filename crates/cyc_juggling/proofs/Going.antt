@@ -5,10 +5,10 @@ use Rattle.std.specs.Option.{option_and_then}
 use Rattle.cyc_types.specs.Firing.{FiringView, FiringCall}
 use Rattle.cyc_types.specs.declared.refusal.Refusal.{Refusal}
 use Rattle.cyc_types.specs.declared.refusal.Refusal.TheVariants as why
-use Rattle.cyc_cpu.specs.Cpu.{CpuView, HasNoCyclic}
-use Rattle.cyc_cpu.specs.Calls.{AskPending, Reserve}
-use Rattle.cyc_cpu.specs.Law.{IsLawful}
-use Rattle.cyc_cpu.specs.Removal.{HasCyclic}
+use Rattle.cyc_agreement.specs.Cpu.{CpuView, HasNoCyclic}
+use Rattle.cyc_agreement.specs.Calls.{AskPending, Reserve}
+use Rattle.cyc_agreement.specs.Law.{IsLawful}
+use Rattle.cyc_agreement.specs.CpuRemoval.{HasCyclic}
 use Rattle.cyc_places.specs.declared.record.Place.TheVariants.{On}
 use Rattle.cyc_places.specs.declared.record.Record.{Record}
 use Rattle.cyc_places.specs.Places.{IsRecord, HasRisingIds, with_place}

@@ -4,7 +4,7 @@ use Rattle.std.proofs.Common.{filter, length, is_some, refl, sym, ap, ◌∙◌,
 use Rattle.std.specs.Prelude.{nat_le}
 use Rattle.std.specs.List.{slice_get}
 use Rattle.cyc_types.specs.declared.refusal.Refusal.TheVariants.{LastCpu, Busy}
-use Rattle.cyc_model.specs.Refusals.{first_refusal, busy}
+use Rattle.cyc_agreement.specs.ModelRefusals.{first_refusal, busy}
 use Rattle.cyc_agreement.specs.Cpus.{CpusView, numbers_from, online_cpus}
 use Rattle.cyc_agreement.specs.Destination.{is_not, fewer, fewest, destination}
 use Rattle.cyc_agreement.specs.System.{SystemView, is_online, removal_on}

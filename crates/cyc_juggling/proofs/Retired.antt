@@ -13,13 +13,13 @@ use Rattle.cyc_types.specs.Runs.{Goes}
 use Rattle.cyc_types.specs.declared.firing.Sent.{Sent}
 use Rattle.cyc_types.specs.declared.level.Level.TheVariants.{Low, Lock}
 use Rattle.cyc_types.proofs.Runs.{folds_more}
-use Rattle.cyc_timers.specs.Rows.{Cyclic}
-use Rattle.cyc_fire.specs.Acts.{same_level}
-use Rattle.cyc_cpu.specs.Cpu.{CpuView, IsCyclic, seen_at}
-use Rattle.cyc_cpu.specs.declared.moving.Taken.{Taken}
-use Rattle.cyc_cpu.specs.Moving.{Takes}
-use Rattle.cyc_cpu.specs.Calls.{TakeNow}
-use Rattle.cyc_cpu.proofs.Inquiring.{load_lowers}
+use Rattle.cyc_agreement.specs.Rows.{Cyclic}
+use Rattle.cyc_agreement.specs.Acts.{same_level}
+use Rattle.cyc_agreement.specs.Cpu.{CpuView, IsCyclic, seen_at}
+use Rattle.cyc_agreement.specs.Taken.{Taken}
+use Rattle.cyc_agreement.specs.Moving.{Takes}
+use Rattle.cyc_agreement.specs.Calls.{TakeNow}
+use Rattle.cyc_agreement.proofs.Inquiring.{load_lowers}
 use Rattle.cyc_places.specs.declared.record.Record.{Record}
 use Rattle.cyc_places.specs.Places.{RecordsView, IsRecord, HasRisingIds, ended_on, no_counts, summed, with_ended}
 use Rattle.cyc_agreement.specs.Cpus.{CpusView, IsCpu, OfCpu, with_cpu, on, DoesAt}

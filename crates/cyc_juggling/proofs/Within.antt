@@ -8,9 +8,9 @@ use mathlib.Core.Logic.{dite}
 use native.Mathlib.Decide.{ℕ_discrete}
 use Rattle.cyc_types.specs.Firing.{FiringView, FiringCall}
 use Rattle.cyc_types.specs.declared.firing.Sent.{Sent}
-use Rattle.cyc_cpu.specs.Cpu.{CpuView}
-use Rattle.cyc_cpu.specs.declared.moving.Taken.{Taken}
-use Rattle.cyc_cpu.specs.Calls.{TakeNow}
+use Rattle.cyc_agreement.specs.Cpu.{CpuView}
+use Rattle.cyc_agreement.specs.Taken.{Taken}
+use Rattle.cyc_agreement.specs.Calls.{TakeNow}
 use Rattle.cyc_places.specs.declared.record.Record.{Record}
 use Rattle.cyc_places.specs.Places.{RecordsView, IsRecord, ended_on, no_counts, summed, with_ended}
 use Rattle.cyc_agreement.specs.Cpus.{CpusView, on, DoesAt}

@@ -5,8 +5,8 @@ use Rattle.cyc_types.specs.Firing.{FiringView, FiringCall}
 use Rattle.cyc_types.specs.declared.refusal.JuggleReport.{JuggleReport}
 use Rattle.cyc_types.specs.declared.refusal.Refusal.{Refusal}
 use Rattle.cyc_types.specs.declared.refusal.Refusal.TheVariants.{LastCpu}
-use Rattle.cyc_model.specs.Refusals.{when, busy}
-use Rattle.cyc_cpu.specs.Calls.{AskPending, Reserve}
+use Rattle.cyc_agreement.specs.ModelRefusals.{when, busy}
+use Rattle.cyc_agreement.specs.Calls.{AskPending, Reserve}
 use Rattle.cyc_places.specs.declared.record.Place.TheVariants.{On}
 use Rattle.cyc_places.specs.Places.{RecordsView}
 use Rattle.cyc_agreement.specs.Cpus.{CpusView, on, online_cpus}

@@ -5,8 +5,8 @@ use Rattle.cyc_types.specs.Firing.{FiringView, FiringCall}
 use Rattle.cyc_types.specs.declared.refusal.JuggleReport.{JuggleReport}
 use Rattle.cyc_types.specs.declared.refusal.Refusal.{Refusal}
 use Rattle.cyc_types.specs.declared.refusal.Refusal.TheVariants.{Pending, Left}
-use Rattle.cyc_cpu.specs.declared.moving.Taken.{Taken}
-use Rattle.cyc_cpu.specs.Calls.{AskPending, TakeNow}
+use Rattle.cyc_agreement.specs.Taken.{Taken}
+use Rattle.cyc_agreement.specs.Calls.{AskPending, TakeNow}
 use Rattle.cyc_places.specs.declared.record.Record.{Record}
 use Rattle.cyc_places.specs.Places.{IsRecord, ended_on, summed, with_ended}
 use Rattle.cyc_agreement.specs.Cpus.{CallOn, on, DoesAt}

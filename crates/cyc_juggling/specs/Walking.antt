@@ -3,8 +3,8 @@ use Rattle.std.specs.Prelude.{◌≡◌, ℕ, ◌+◌, true, false, Option, Some
 use Rattle.std.specs.List.{slice_get}
 use Rattle.cyc_types.specs.Firing.{FiringView, FiringCall}
 use Rattle.cyc_types.specs.declared.refusal.JuggleReport.{JuggleReport}
-use Rattle.cyc_timers.specs.Rows.{Cyclic}
-use Rattle.cyc_cpu.specs.Cpu.{CpuView, IsCyclic, seen_at}
+use Rattle.cyc_agreement.specs.Rows.{Cyclic}
+use Rattle.cyc_agreement.specs.Cpu.{CpuView, IsCyclic, seen_at}
 use Rattle.cyc_places.specs.Places.{RecordsView}
 use Rattle.cyc_agreement.specs.Cpus.{CpusView}
 use Rattle.cyc_agreement.specs.System.{SystemView, ids_on, is_omnipresent}

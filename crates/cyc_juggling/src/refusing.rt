@@ -1,7 +1,7 @@
 //! Whether the cyclics of a CPU may leave it.
 
 ghost use Rattle.std.specs.Prelude.{◌≡◌, ℕ, ◌<◌, length, true, Some, None, IfErr, OnOk};
-ghost use Rattle.cyc_model.specs.Refusals.{first_refusal};
+ghost use Rattle.cyc_agreement.specs.ModelRefusals.{first_refusal};
 ghost use Rattle.cyc_places.specs.Places.{RecordsView};
 ghost use Rattle.cyc_agreement.specs.Destination.{destination};
 ghost use Rattle.cyc_agreement.specs.System.{is_online, removal_on};

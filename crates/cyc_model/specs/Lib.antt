@@ -27,3 +27,5 @@ pub mod Kept
 pub mod Enabled
 pub mod Numbers
 pub mod Bounds
+pub use Rattle.cyc_expirations.specs.Expirations
+pub use Rattle.cyc_expirations.specs.Timers

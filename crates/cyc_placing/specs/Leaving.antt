@@ -9,7 +9,7 @@ use Rattle.cyc_script.specs.declared.step.Step.TheVariants as steps
 use Rattle.cyc_model.specs.Questions.{plain}
 use Rattle.cyc_model.specs.State.{State}
 use Rattle.cyc_model.specs.Script.{refusal_of}
-use Rattle.cyc_cpu_model.specs.Answers.{IsRefused}
+use Rattle.cyc_script_machine.specs.Answers.{IsRefused}
 use Rattle.cyc_script_machine.specs.declared.machine.Machine.{Machine}
 use Rattle.cyc_script_machine.specs.Machine.{Holds}
 use Rattle.cyc_script_machine.specs.Words.{AcceptsWith}

@@ -7,10 +7,10 @@ use Rattle.std.specs.Option.{option_map_or}
 use Rattle.std.proofs.lemmas.List.Sums.{sum_by-cons}
 use Rattle.cyc_types.specs.Firing.{FiringView, FiringCall}
 use Rattle.cyc_types.specs.declared.firing.Sent.{Sent}
-use Rattle.cyc_cpu.specs.declared.hard.Totals.{Totals}
-use Rattle.cyc_cpu.specs.Cpu.{CpuView}
-use Rattle.cyc_cpu.specs.Law.{IsLawful}
-use Rattle.cyc_cpu.specs.Calls.{Changes, AskTotals}
+use Rattle.cyc_agreement.specs.Totals.{Totals}
+use Rattle.cyc_agreement.specs.Cpu.{CpuView}
+use Rattle.cyc_agreement.specs.Law.{IsLawful}
+use Rattle.cyc_agreement.specs.Calls.{Changes, AskTotals}
 use Rattle.cyc_places.specs.declared.record.Record.{Record}
 use Rattle.cyc_places.specs.Places.{summed}
 use Rattle.cyc_agreement.specs.Cpus.{CpusView, IsCpu, numbers_from, Works}

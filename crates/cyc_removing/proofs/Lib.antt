@@ -13,3 +13,9 @@ pub mod Forgetting
 pub mod Sums
 pub mod Receipts
 pub mod Answering
+pub use Rattle.cyc_agreement.proofs.Spots
+pub use Rattle.cyc_agreement.proofs.Lists
+pub use Rattle.cyc_agreement.proofs.Recording
+pub use Rattle.cyc_agreement.proofs.Who
+pub use Rattle.cyc_agreement.proofs.Presence
+pub use Rattle.cyc_agreement.proofs.CpuSpots as CpusSpots

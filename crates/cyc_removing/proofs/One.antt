@@ -7,13 +7,13 @@ use Rattle.cyc_types.specs.Firing.{FiringView, FiringCall}
 use Rattle.cyc_types.specs.declared.receipt.Receipt.{Receipt}
 use Rattle.cyc_types.specs.declared.refusal.Refusal.{Refusal}
 use Rattle.cyc_types.specs.declared.refusal.Refusal.TheVariants as why
-use Rattle.cyc_timers.specs.Rows.{Cyclic}
-use Rattle.cyc_cpu.specs.declared.removing.Removal.{Removal}
-use Rattle.cyc_cpu.specs.declared.removing.Removal.TheVariants.{Done, Kept}
-use Rattle.cyc_cpu.specs.Cpu.{CpuView, IsCyclic}
-use Rattle.cyc_cpu.specs.Removal.{HasCyclic}
-use Rattle.cyc_cpu.specs.Law.{IsLawful}
-use Rattle.cyc_cpu.specs.Calls.{Changes, BeginRemove, PollRemove}
+use Rattle.cyc_agreement.specs.Rows.{Cyclic}
+use Rattle.cyc_agreement.specs.Removal.{Removal}
+use Rattle.cyc_agreement.specs.Removal.TheVariants.{Done, Kept}
+use Rattle.cyc_agreement.specs.Cpu.{CpuView, IsCyclic}
+use Rattle.cyc_agreement.specs.CpuRemoval.{HasCyclic}
+use Rattle.cyc_agreement.specs.Law.{IsLawful}
+use Rattle.cyc_agreement.specs.Calls.{Changes, BeginRemove, PollRemove}
 use Rattle.cyc_agreement.specs.Cpus.{CpusView, IsCpu}
 use Rattle.cyc_agreement.proofs.Shifts.{not_both}
 use Rattle.cyc_agreement.specs.System.{ids_of, has, removal_on, is_leaving_here}

@@ -8,9 +8,9 @@ use mathlib.Core.Logic.{dite}
 use native.Mathlib.Decide.{ℕ_discrete}
 use Rattle.cyc_types.specs.declared.refusal.Refusal.{Refusal}
 use Rattle.cyc_types.specs.declared.refusal.Refusal.TheVariants.{Busy}
-use Rattle.cyc_model.specs.Refusals.{first_refusal, or_else, busy}
-use Rattle.cyc_cpu.specs.Cpu.{CpuView, HasNoCyclic}
-use Rattle.cyc_cpu.specs.Removal.{HasCyclic}
+use Rattle.cyc_agreement.specs.ModelRefusals.{first_refusal, or_else, busy}
+use Rattle.cyc_agreement.specs.Cpu.{CpuView, HasNoCyclic}
+use Rattle.cyc_agreement.specs.CpuRemoval.{HasCyclic}
 use Rattle.cyc_agreement.specs.Cpus.{CpusView, IsCpu, numbers_from}
 use Rattle.cyc_agreement.specs.System.{ids_of, has, removal_on}
 use Rattle.cyc_agreement.proofs.Lists.{among}

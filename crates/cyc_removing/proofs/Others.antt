@@ -8,13 +8,13 @@ use Rattle.cyc_types.specs.Series.{never}
 use Rattle.cyc_types.specs.Firing.{FiringView, FiringCall}
 use Rattle.cyc_types.specs.declared.receipt.Receipt.{Receipt}
 use Rattle.cyc_types.specs.declared.refusal.Refusal.{Refusal}
-use Rattle.cyc_timers.specs.Rows.{Cyclic}
-use Rattle.cyc_cpu.specs.declared.hard.Totals.{Totals}
-use Rattle.cyc_cpu.specs.declared.removing.Removal.{Removal}
-use Rattle.cyc_cpu.specs.declared.removing.Removal.TheVariants.{Done, Kept}
-use Rattle.cyc_cpu.specs.Cpu.{CpuView, IsCyclic, with_moment}
-use Rattle.cyc_cpu.specs.Removal.{Leaves}
-use Rattle.cyc_cpu.specs.Calls.{Changes, BeginRemove, PollRemove, AskTotals}
+use Rattle.cyc_agreement.specs.Rows.{Cyclic}
+use Rattle.cyc_agreement.specs.Totals.{Totals}
+use Rattle.cyc_agreement.specs.Removal.{Removal}
+use Rattle.cyc_agreement.specs.Removal.TheVariants.{Done, Kept}
+use Rattle.cyc_agreement.specs.Cpu.{CpuView, IsCyclic, with_moment}
+use Rattle.cyc_agreement.specs.CpuRemoval.{Leaves}
+use Rattle.cyc_agreement.specs.Calls.{Changes, BeginRemove, PollRemove, AskTotals}
 use Rattle.cyc_places.specs.declared.record.Record.{Record}
 use Rattle.cyc_places.specs.Places.{IsRecord, with_ended, ended_on, summed}
 use Rattle.cyc_agreement.specs.Cpus.{CpusView, IsCpu, ChangesAt, Works}

@@ -8,10 +8,10 @@ use Rattle.std.proofs.lemmas.Option.{slice_get-map}
 use Rattle.cyc_types.specs.Firing.{FiringView, FiringCall}
 use Rattle.cyc_types.specs.declared.firing.Sent.{Sent}
 use Rattle.cyc_types.specs.declared.receipt.Receipt.{Receipt}
-use Rattle.cyc_cpu.specs.declared.removing.Removal.{Removal}
-use Rattle.cyc_cpu.specs.declared.removing.Removal.TheVariants.{Done, Kept}
-use Rattle.cyc_cpu.specs.Cpu.{CpuView}
-use Rattle.cyc_cpu.specs.Law.{IsLawful}
+use Rattle.cyc_agreement.specs.Removal.{Removal}
+use Rattle.cyc_agreement.specs.Removal.TheVariants.{Done, Kept}
+use Rattle.cyc_agreement.specs.Cpu.{CpuView}
+use Rattle.cyc_agreement.specs.Law.{IsLawful}
 use Rattle.cyc_places.specs.declared.record.Record.{Record}
 use Rattle.cyc_places.specs.Places.{summed}
 use Rattle.cyc_agreement.specs.Cpus.{IsCpu}

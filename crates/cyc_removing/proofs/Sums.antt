@@ -13,13 +13,13 @@ use Rattle.cyc_types.specs.Series.{never}
 use Rattle.cyc_types.specs.Firing.{FiringView, FiringCall}
 use Rattle.cyc_types.specs.declared.firing.Sent.{Sent}
 use Rattle.cyc_types.specs.declared.receipt.Receipt.{Receipt}
-use Rattle.cyc_timers.specs.Rows.{Cyclic}
-use Rattle.cyc_cpu.specs.declared.removing.Removal.{Removal}
-use Rattle.cyc_cpu.specs.declared.removing.Removal.TheVariants.{Done, Kept}
-use Rattle.cyc_cpu.specs.Cpu.{CpuView, IsCyclic, HasRisingIds as HaveRisingIds, with_moment}
-use Rattle.cyc_cpu.specs.Law.{IsLawful}
-use Rattle.cyc_cpu.specs.Removal.{IsReceipt}
-use Rattle.cyc_cpu.specs.Calls.{Changes, PollRemove}
+use Rattle.cyc_agreement.specs.Rows.{Cyclic}
+use Rattle.cyc_agreement.specs.Removal.{Removal}
+use Rattle.cyc_agreement.specs.Removal.TheVariants.{Done, Kept}
+use Rattle.cyc_agreement.specs.Cpu.{CpuView, IsCyclic, HasRisingIds as HaveRisingIds, with_moment}
+use Rattle.cyc_agreement.specs.Law.{IsLawful}
+use Rattle.cyc_agreement.specs.CpuRemoval.{IsReceipt}
+use Rattle.cyc_agreement.specs.Calls.{Changes, PollRemove}
 use Rattle.cyc_places.specs.declared.record.Record.{Record}
 use Rattle.cyc_places.specs.Places.{IsRecord, HasRisingIds, with_ended, ended_on, summed, no_counts}
 use Rattle.cyc_agreement.specs.Cpus.{CpusView, IsCpu}

@@ -4,7 +4,7 @@ use Rattle.std.specs.Prelude.{sum_by, is_some, remove}
 use Rattle.cyc_types.specs.Firing.{FiringView, FiringCall}
 use Rattle.cyc_types.specs.declared.receipt.Receipt.{Receipt}
 use Rattle.cyc_types.specs.declared.refusal.Refusal.TheVariants.{NoCyclic, Busy}
-use Rattle.cyc_model.specs.Refusals.{first_refusal}
+use Rattle.cyc_agreement.specs.ModelRefusals.{first_refusal}
 use Rattle.cyc_places.specs.declared.record.Record.{Record}
 use Rattle.cyc_places.specs.Places.{IsRecord, IsReceiptOf, HasRisingIds, HasNoRecord}
 use Rattle.cyc_agreement.specs.Cpus.{CpusView}

@@ -11,7 +11,7 @@ use mathlib.Core.Logic.{dite}
 use native.Mathlib.Decide.{ℕ_discrete}
 use Rattle.cyc_types.proofs.Runs.{folds_more}
 use Rattle.cyc_types.specs.Firing.{FiringView, FiringCall}
-use Rattle.cyc_cpu.specs.Cpu.{CpuView}
+use Rattle.cyc_agreement.specs.Cpu.{CpuView}
 use Rattle.cyc_places.specs.declared.record.Record.{Record}
 use Rattle.cyc_places.specs.Places.{IsRecord}
 use Rattle.cyc_agreement.specs.Cpus.{CpusView, IsCpu, numbers_from}

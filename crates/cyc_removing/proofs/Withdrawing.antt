@@ -8,7 +8,7 @@ use Rattle.std.proofs.lemmas.List.{length-set, get_or-set_other}
 use mathlib.Core.Logic.{dite}
 use native.Mathlib.Decide.{ℕ_discrete}
 use Rattle.cyc_types.specs.declared.firing.Sent.{Sent}
-use Rattle.cyc_cpu.specs.Cpu.{CpuView}
+use Rattle.cyc_agreement.specs.Cpu.{CpuView}
 use Rattle.cyc_places.specs.declared.record.Record.{Record}
 use Rattle.cyc_places.specs.Places.{IsRecord, with_ended, ended_on, no_counts}
 use Rattle.cyc_agreement.specs.Cpus.{CpusView, IsCpu, with_cpu}

@@ -5,8 +5,8 @@ use Rattle.cyc_types.specs.Firing.{FiringView, FiringCall}
 use Rattle.cyc_types.specs.declared.receipt.Receipt.{Receipt}
 use Rattle.cyc_types.specs.declared.refusal.Refusal.{Refusal}
 use Rattle.cyc_types.specs.declared.refusal.Refusal.TheVariants.{NoCyclic}
-use Rattle.cyc_model.specs.Refusals.{when}
-use Rattle.cyc_cpu.specs.Calls.{PollRemove}
+use Rattle.cyc_agreement.specs.ModelRefusals.{when}
+use Rattle.cyc_agreement.specs.Calls.{PollRemove}
 use Rattle.cyc_agreement.specs.Cpus.{CpusView, numbers_from}
 use Rattle.cyc_agreement.specs.System.{SystemView, is_leaving_here, is_leaving}
 use Rattle.cyc_agreement.specs.Refusals.{Unless}

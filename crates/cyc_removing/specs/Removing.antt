@@ -6,10 +6,10 @@ use Rattle.cyc_types.specs.declared.firing.Sent.{Sent}
 use Rattle.cyc_types.specs.declared.receipt.Receipt.{Receipt}
 use Rattle.cyc_types.specs.declared.refusal.Refusal.{Refusal}
 use Rattle.cyc_types.specs.declared.refusal.Refusal.TheVariants.{NoCyclic}
-use Rattle.cyc_model.specs.Refusals.{when, busy}
-use Rattle.cyc_cpu.specs.declared.removing.Removal.{Removal}
-use Rattle.cyc_cpu.specs.declared.removing.Removal.TheVariants.{Done, Kept}
-use Rattle.cyc_cpu.specs.Calls.{CpuCall, BeginRemove}
+use Rattle.cyc_agreement.specs.ModelRefusals.{when, busy}
+use Rattle.cyc_agreement.specs.Removal.{Removal}
+use Rattle.cyc_agreement.specs.Removal.TheVariants.{Done, Kept}
+use Rattle.cyc_agreement.specs.Calls.{CpuCall, BeginRemove}
 use Rattle.cyc_places.specs.declared.record.Record.{Record}
 use Rattle.cyc_places.specs.Places.{IsRecord, IsReceiptOf, ended_on, summed, with_ended}
 use Rattle.cyc_agreement.specs.Cpus.{CpusView, on, numbers_from, DoesAt}

@@ -1,7 +1,7 @@
 //! A removal on one CPU, with its record.
 
 ghost use Rattle.std.specs.Prelude.{◌≡◌, ◌<◌, ◌≤◌, ◌^◌, ℕ, List, length, slice_set, true, Some, None, Option};
-ghost use Rattle.cyc_cpu.specs.declared.removing.Removal.{Removal as TheRemoval};
+ghost use Rattle.cyc_agreement.specs.Removal.{Removal as TheRemoval};
 ghost use Rattle.cyc_places.specs.declared.record.Record.{Record};
 ghost use Rattle.cyc_places.specs.Places.{IsRecord, ended_on, no_counts, summed, with_ended};
 ghost use Rattle.cyc_types.specs.declared.receipt.Receipt.{Receipt as TheReceipt};
@@ -10,8 +10,7 @@ ghost use Rattle.cyc_removing.specs.Removing.{BeginsOn, counts_of, kept_in};
 ghost use Rattle.cyc_removing.specs.Polling.{PollsOn};
 ghost use Rattle.cyc_removing.specs.Leaving.{system, Owns, WithdrawsAt};
 
-use cyc_agreement::Cpus;
-use cyc_cpu::Removal;
+use cyc_agreement::{Cpus, Removal};
 use cyc_places::Records;
 use cyc_types::{CyclicId, Raise, Receipt, Sent};
 

@@ -4,7 +4,7 @@ ghost use Rattle.std.specs.Prelude.{◌≡◌, ◌≢◌, ℕ, ◌<◌, ◌≤�
 ghost use Rattle.std.specs.Prelude.{IfNone};
 ghost use Rattle.std.specs.Option.{option_map};
 ghost use Rattle.cyc_types.specs.declared.refusal.Refusal.TheVariants.{Busy};
-ghost use Rattle.cyc_model.specs.Refusals.{first_refusal};
+ghost use Rattle.cyc_agreement.specs.ModelRefusals.{first_refusal};
 ghost use Rattle.cyc_places.specs.declared.record.Record.{Record};
 ghost use Rattle.cyc_places.specs.Places.{IsRecord, IsReceiptOf};
 ghost use Rattle.cyc_agreement.specs.System.{has, removal_on};

@@ -2,8 +2,8 @@
 use Rattle.std.specs.Prelude.{ℕ, ◌<◌}
 use Rattle.cyc_types.specs.declared.level.Soft.{Soft}
 use Rattle.cyc_core.specs.Tables.{Tables, level_of}
-use Rattle.cyc_cpu.specs.Cpu.{CpuView}
-use Rattle.cyc_cpus.specs.Cpus.{IsCpu}
+use Rattle.cyc_placing.specs.Cpu.{CpuView}
+use Rattle.cyc_placing.specs.Cpus.{IsCpu}
 use Rattle.cyc_script.specs.declared.script.Script.{Script}
 use Rattle.cyc_model.specs.Along.{IsSound}
 use Rattle.cyc_model.specs.Enabled.{CanBeDone}

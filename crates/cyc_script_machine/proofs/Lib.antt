@@ -8,3 +8,6 @@ pub mod Indexes
 pub mod Running
 pub mod Unrefused
 pub mod Grown
+pub use Rattle.cyc_system_model.proofs.One
+pub use Rattle.cyc_system_model.proofs.Where
+pub use Rattle.cyc_system_model.proofs.Spots

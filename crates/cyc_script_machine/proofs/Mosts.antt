@@ -8,17 +8,17 @@ use Rattle.cyc_types.specs.declared.level.Level.{Level}
 use Rattle.cyc_types.specs.declared.moment.When.{When}
 use Rattle.cyc_types.specs.declared.refusal.Refusal.{Refusal}
 use Rattle.cyc_core.specs.Tables.{Tables}
-use Rattle.cyc_cpu.specs.Cpu.{CpuView}
-use Rattle.cyc_cpu.specs.Soft.{fires, firing_at}
-use Rattle.cyc_cpu.specs.Calls.{AskPending, Reserve, Reprogram as CpuReprogram}
-use Rattle.cyc_cpu.proofs.Calling.{changes_most}
-use Rattle.cyc_cpus.specs.Cpus.{CpusView, IsCpu, ChangesAt, CallOn, on, Works, new_cpus}
-use Rattle.cyc_cpus.specs.Shifting.{moving}
-use Rattle.cyc_cpus.proofs.Spots.{one_cpu, cpu_there, cpu_beside}
+use Rattle.cyc_system_model.specs.Cpu.{CpuView}
+use Rattle.cyc_system_model.specs.Soft.{fires, firing_at}
+use Rattle.cyc_system_model.specs.CpuCalls.{AskPending, Reserve, Reprogram as CpuReprogram}
+use Rattle.cyc_system_model.proofs.Calling.{changes_most}
+use Rattle.cyc_system_model.specs.Cpus.{CpusView, IsCpu, ChangesAt, CallOn, on, Works, new_cpus}
+use Rattle.cyc_system_model.specs.Shifting.{moving}
+use Rattle.cyc_system_model.proofs.CpusSpots.{one_cpu, cpu_there, cpu_beside}
 use Rattle.cyc_system_model.specs.System.{SystemView}
 use Rattle.cyc_system_model.specs.Adding.{entering}
 use Rattle.cyc_system_model.specs.Binding.{GoesTo}
-use Rattle.cyc_agreement.proofs.Spots.{same_some, none_some}
+use Rattle.cyc_system_model.proofs.Spots.{same_some, none_some}
 use Rattle.cyc_system_model.specs.Agreement.{most_on}
 use Rattle.std.specs.List.{slice_get}
 use Rattle.std.specs.Option.{option_map}

@@ -10,8 +10,8 @@ use Rattle.cyc_types.specs.Tally.{TallyView, tally_made, tally_count}
 use Rattle.cyc_level.specs.Level.{Level, empty_level}
 use Rattle.cyc_core.specs.FiringSide.{firing_view}
 use Rattle.cyc_core.specs.Tables.{Tables, level_of}
-use Rattle.cyc_cpu.specs.Cpu.{IsFresh}
-use Rattle.cyc_cpu.specs.Soft.{firing_at}
+use Rattle.cyc_system_model.specs.Cpu.{IsFresh}
+use Rattle.cyc_system_model.specs.Soft.{firing_at}
 use Rattle.cyc_model.specs.Script.{start}
 use Rattle.cyc_system_model.specs.Shown.{Shows, IsSystem}
 use Rattle.cyc_system_model.specs.Kept.{AreNew}
@@ -26,21 +26,21 @@ use mathlib.Core.Logic.{dite}
 use native.Mathlib.Decide.{ℕ_discrete}
 use Rattle.cyc_types.specs.declared.refusal.Refusal.{Refusal}
 use Rattle.cyc_types.specs.declared.refusal.Refusal.TheVariants.{Memory}
-use Rattle.cyc_cpu.specs.Cpu.{CpuView, size_for, HasRisingIds}
-use Rattle.cyc_cpu.specs.Calls.{Reserve, Changes}
-use Rattle.cyc_cpu.specs.Soft.{fires}
-use Rattle.cyc_cpus.specs.Cpus.{new_cpus}
-use Rattle.cyc_cpus.proofs.Rooms.{only_memory}
-use Rattle.cyc_cpu_model.specs.Shown.{shown, shown_cpu}
-use Rattle.cyc_cpu_model.specs.Tied.{IsTied, HasOwn}
+use Rattle.cyc_system_model.specs.Cpu.{CpuView, size_for, HasRisingIds}
+use Rattle.cyc_system_model.specs.CpuCalls.{Reserve, Changes}
+use Rattle.cyc_system_model.specs.Soft.{fires}
+use Rattle.cyc_system_model.specs.Cpus.{new_cpus}
+use Rattle.cyc_system_model.proofs.CpusRooms.{only_memory}
+use Rattle.cyc_system_model.specs.CpuModelShown.{shown, shown_cpu}
+use Rattle.cyc_system_model.specs.Tied.{IsTied, HasOwn}
 use Rattle.cyc_types.specs.Firing.{Looks}
 use Rattle.cyc_types.specs.Runs.{Goes}
-use Rattle.cyc_fire.specs.Quiet.{OnlyLooks}
+use Rattle.cyc_system_model.specs.Quiet.{OnlyLooks}
 use Rattle.std.specs.Prelude.{Result, OnOk, IfErr}
-use Rattle.cyc_places.specs.Places.{IsRecord, HasRisingIds as RecordsRise}
+use Rattle.cyc_system_model.specs.Places.{IsRecord, HasRisingIds as RecordsRise}
 use Rattle.cyc_system_model.specs.System.{SystemView}
 use Rattle.cyc_system_model.specs.Agreement.{Agrees}
-use Rattle.cyc_agreement.proofs.Spots.{same_some, none_some}
+use Rattle.cyc_system_model.proofs.Spots.{same_some, none_some}
 use Rattle.cyc_model.specs.State.{State}
 use Rattle.cyc_system_model.specs.Splitting.{EachTwo, GoesOn, IsSameEnd, index_of, AllComeBack}
 use Rattle.cyc_system_model.specs.Room.{HaveAllRoom}

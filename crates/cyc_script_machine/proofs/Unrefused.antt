@@ -14,14 +14,14 @@ use Rattle.cyc_types.specs.declared.refusal.Refusal.TheVariants.{CountSpent, Han
 use Rattle.cyc_core.specs.Tables.{Tables}
 use Rattle.cyc_expirations.specs.Expirations.{Expiration, expirations, times_of, after, all_after}
 use Rattle.cyc_expirations.specs.Timers.{Timer}
-use Rattle.cyc_timers.specs.Rows.{timers}
-use Rattle.cyc_fire.specs.Acts.{ids_at, is_of as is_of_level, timer_of}
-use Rattle.cyc_fire.specs.Made.{Stops}
-use Rattle.cyc_fire.specs.declared.fire.FireRefused.{FireRefused}
-use Rattle.cyc_fire.proofs.Sharing.{ids_add_up}
-use Rattle.cyc_cpu.specs.Cpu.{CpuView, running}
-use Rattle.cyc_cpu.specs.Calls.{Stopped}
-use Rattle.cyc_cpu.specs.Soft.{fires, firing_at}
+use Rattle.cyc_system_model.specs.Rows.{timers}
+use Rattle.cyc_system_model.specs.Acts.{ids_at, is_of as is_of_level, timer_of}
+use Rattle.cyc_system_model.specs.Made.{Stops}
+use Rattle.cyc_system_model.specs.FireRefused.{FireRefused}
+use Rattle.cyc_system_model.proofs.Sharing.{ids_add_up}
+use Rattle.cyc_system_model.specs.Cpu.{CpuView, running}
+use Rattle.cyc_system_model.specs.CpuCalls.{Stopped}
+use Rattle.cyc_system_model.specs.Soft.{fires, firing_at}
 use Rattle.cyc_script.specs.Limits.{most_steps}
 use Rattle.cyc_script_machine.specs.Machine.{IsWide}
 

@@ -15,3 +15,6 @@ pub use Rattle.cyc_system_model.specs.SoftFault
 pub use Rattle.cyc_system_model.specs.System
 pub use Rattle.cyc_system_model.specs.SystemRemoval
 pub use Rattle.cyc_system_model.specs.Words as SystemWords
+pub use Rattle.cyc_system_model.specs.Answers
+pub use Rattle.cyc_system_model.specs.CpuModelShown
+pub use Rattle.cyc_system_model.specs.Cpus

@@ -11,8 +11,7 @@ ghost use Rattle.cyc_script_machine.specs.Beginning.{IsEmpty, HasReserved};
 
 use crate::machine::{Counted, Machine};
 use cyc_core::LevelCore;
-use cyc_cpu::Hard;
-use cyc_system_model::{System, begin_law};
+use cyc_system_model::{Hard, System, begin_law};
 use cyc_types::{CYCLICS, Ceiling, CyclicId, Moment, Refusal, Tally};
 use std::alloc::Global;
 

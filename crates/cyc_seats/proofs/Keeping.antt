@@ -10,10 +10,10 @@ use Rattle.cyc_fire.specs.declared.fire.FireRefused.{FireRefused}
 use Rattle.cyc_ring.specs.declared.ends.RaiseEnd.{RaiseEnd}
 use Rattle.cyc_ring.specs.Ends.{end_view, RaiseEndCall}
 use Rattle.cyc_ring.proofs.Ways.{raise_ways}
-use Rattle.cyc_cpu.specs.Cpu.{CpuView, Running, running}
-use Rattle.cyc_cpu.specs.Calls.{CpuCall, Changes, Does, Fire, AskSettled, no_interrupts}
+use Rattle.cyc_system_laws.specs.Cpu.{CpuView, Running, running}
+use Rattle.cyc_system_laws.specs.Calls.{CpuCall, Changes, Does, Fire, AskSettled, no_interrupts}
 use Rattle.cyc_system_laws.proofs.Stills.{changes_still}
-use Rattle.cyc_cpus.specs.Cpus.{CpusView, ChangesAt}
+use Rattle.cyc_system_laws.specs.Cpus.{CpusView, ChangesAt}
 use Rattle.cyc_system_workers.specs.WorkersSettling.{Asks}
 use Rattle.cyc_system_workers.specs.Settled.{AllAsked}
 use Rattle.cyc_system_workers.specs.System.{SystemView}

@@ -2,7 +2,7 @@
 use Rattle.std.specs.Prelude.{List}
 use Rattle.cyc_ring.specs.declared.ends.RaiseEnd.{RaiseEnd}
 use Rattle.cyc_ring.specs.Ends.{IsSameRaiseSeat}
-use Rattle.cyc_cpu.specs.Cpu.{CpuView}
+use Rattle.cyc_system_laws.specs.Cpu.{CpuView}
 use Rattle.cyc_system_workers.specs.Splitting.{EachTwo}
 
 -- the CPU has the seats of the same two rings

@@ -3,7 +3,7 @@
 ghost use Rattle.std.specs.Prelude.{◌≡◌, ℕ, List, length};
 ghost use Rattle.cyc_ring.specs.declared.ends.RaiseEnd.{RaiseEnd};
 ghost use Rattle.cyc_ring.specs.Ends.{end_view, RaiseEndCall};
-ghost use Rattle.cyc_cpu.specs.Cpu.{CpuView};
+ghost use Rattle.cyc_system_laws.specs.Cpu.{CpuView};
 ghost use Rattle.cyc_system_workers.specs.Settled.{AllAsked};
 ghost use Rattle.cyc_system_workers.specs.System.{SystemView};
 ghost use Rattle.cyc_system_workers.specs.Calls.{SystemCall, Changes};

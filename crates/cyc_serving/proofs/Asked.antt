@@ -11,10 +11,10 @@ use Rattle.cyc_types.specs.declared.refusal.Refusal.TheVariants.{NoCyclic}
 use Rattle.cyc_core.specs.Tables.{Tables}
 use Rattle.cyc_cpu.specs.Cpu.{CpuView}
 use Rattle.cyc_cpu.specs.Soft.{fires, firing_at}
-use Rattle.cyc_cpus.specs.Cpus.{CpusView}
+use Rattle.cyc_script_machine.specs.Cpus.{CpusView}
 use Rattle.cyc_script_machine.specs.System.{SystemView, removal_on, is_leaving_here}
-use Rattle.cyc_agreement.proofs.Spots.{none_some}
-use Rattle.cyc_removing.proofs.One.{leaving_is}
+use Rattle.cyc_script_machine.proofs.Spots.{none_some}
+use Rattle.cyc_script_machine.proofs.One.{leaving_is}
 use Rattle.cyc_script_machine.specs.Calls.{Changes, PollRemove}
 use Rattle.cyc_model.specs.Refusals.{when, or_else}
 

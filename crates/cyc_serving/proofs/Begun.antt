@@ -9,7 +9,7 @@ use Rattle.cyc_types.specs.declared.refusal.Refusal.TheVariants.{NoCyclic, Memor
 use Rattle.cyc_types.specs.Refusals.{number_of}
 use Rattle.cyc_core.specs.Tables.{Tables}
 use Rattle.cyc_text.specs.Lines.{refused}
-use Rattle.cyc_cpu_model.specs.Answers.{IsRefused}
+use Rattle.cyc_script_machine.specs.Answers.{IsRefused}
 use Rattle.cyc_cpu.specs.Soft.{fires, firing_at}
 use mathlib.Core.Logic.{dite}
 use native.Mathlib.Decide.{ℕ_discrete}

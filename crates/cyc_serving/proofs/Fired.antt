@@ -14,7 +14,7 @@ use Rattle.cyc_types.specs.declared.level.Level.TheVariants.{High}
 use Rattle.cyc_core.specs.Tables.{Tables}
 use Rattle.cyc_expirations.specs.Expirations.{times_of, expirations}
 use Rattle.cyc_expirations.specs.Timers.{Timer}
-use Rattle.cyc_timers.specs.Rows.{timers, Cyclic as Timed}
+use Rattle.cyc_fire.specs.Rows.{timers, Cyclic as Timed}
 use Rattle.cyc_fire.specs.Acts.{ids_at}
 use Rattle.cyc_fire.specs.declared.fire.Fired.{Fired}
 use Rattle.cyc_fire.specs.declared.fire.FireRefused.{FireRefused}
@@ -22,9 +22,9 @@ use Rattle.cyc_fire.specs.Made.{Stops}
 use Rattle.cyc_cpu.specs.Cpu.{CpuView, running}
 use Rattle.cyc_cpu.specs.Calls.{Fire, no_interrupts, Does as DoesHere}
 use Rattle.cyc_cpu.specs.Soft.{fires, firing_at}
-use Rattle.cyc_cpus.specs.Cpus.{IsCpu}
+use Rattle.cyc_script_machine.specs.Cpus.{IsCpu}
 use Rattle.cyc_script_machine.specs.System.{SystemView, RunningSystem, running_system, is_online}
-use Rattle.cyc_agreement.proofs.Spots.{same_some, none_some}
+use Rattle.cyc_script_machine.proofs.Spots.{same_some, none_some}
 use Rattle.cyc_script_machine.specs.Calls.{Does, FireOne, no_fire}
 use Rattle.cyc_model.specs.Acts.{calls_of}
 use Rattle.cyc_model.specs.Cpu.{Cyclic, Cpu}
@@ -35,7 +35,7 @@ use Rattle.cyc_model.proofs.Events.{calls_append}
 use Rattle.cyc_model.proofs.Totals.{expired_in}
 use Rattle.cyc_model.proofs.Numbers.{Has}
 use Rattle.cyc_model.proofs.Calm.{good_clock}
-use Rattle.cyc_cpu_model.specs.Shown.{shown}
+use Rattle.cyc_script_machine.specs.CpuModelShown.{shown}
 use Rattle.cyc_script_machine.specs.Advancing.{at_clock, online_below, HasFired}
 use Rattle.cyc_script_machine.specs.Shown.{shown_list, IsSystem}
 use Rattle.cyc_script_machine.specs.declared.machine.Machine.{Machine}

@@ -22,7 +22,7 @@ use Rattle.cyc_text.specs.declared.lines.Counts.{Counts}
 use Rattle.cyc_cpu.specs.Soft.{fires, firing_at}
 use Rattle.cyc_script_machine.specs.Calls.{Changes, PollRemove}
 use Rattle.cyc_script_machine.specs.Agreement.{Agrees}
-use Rattle.cyc_agreement.proofs.Spots.{same_some, none_some}
+use Rattle.cyc_script_machine.proofs.Spots.{same_some, none_some}
 use mathlib.Core.Logic.{dite}
 use native.Mathlib.Decide.{ℕ_discrete}
 use Rattle.std.specs.Prelude.{slice_set, Ok, Err}

@@ -26,9 +26,9 @@ use Rattle.cyc_soft.specs.declared.SoftRefused.{SoftRefused}
 use Rattle.cyc_script.specs.declared.step.Softint.{Softint as SoftintStep}
 use Rattle.cyc_cpu.specs.Cpu.{CpuView}
 use Rattle.cyc_cpu.specs.Soft.{fires, firing_at, drains, end_at, Interrupts}
-use Rattle.cyc_cpus.specs.Cpus.{IsCpu}
+use Rattle.cyc_script_machine.specs.Cpus.{IsCpu}
 use Rattle.cyc_script_machine.specs.System.{SystemView, RunningSystem, running_system, removal_on}
-use Rattle.cyc_agreement.proofs.Spots.{same_some, none_some}
+use Rattle.cyc_script_machine.proofs.Spots.{same_some, none_some}
 use Rattle.cyc_script_machine.specs.Calls.{Does, SoftInterrupt}
 use Rattle.cyc_script_machine.specs.SoftFault.{SoftFault}
 use Rattle.cyc_script_machine.specs.SoftFault.TheVariants as fault
@@ -43,7 +43,7 @@ use Rattle.cyc_model.proofs.Fit.{Fit, keeps_fit, in_hand_counts}
 use Rattle.cyc_model.proofs.Whole.{all_back}
 use Rattle.cyc_model.proofs.Spread.{Good}
 use Rattle.cyc_script_machine.specs.Running.{IsServed}
-use Rattle.cyc_cpu_model.specs.Shown.{shown_cpu}
+use Rattle.cyc_script_machine.specs.CpuModelShown.{shown_cpu}
 use Rattle.cyc_script_machine.specs.Shown.{shown_list, Shows, IsSystem}
 use Rattle.cyc_script_machine.specs.declared.machine.Machine.{Machine}
 use Rattle.cyc_script_machine.specs.Machine.{Holds, IsReached, IsWide, AllMost}

@@ -9,9 +9,9 @@ use Rattle.cyc_places.specs.declared.record.Record.{Record}
 use Rattle.cyc_places.specs.Places.{IsRecord}
 use Rattle.cyc_script_machine.specs.System.{SystemView, has}
 use Rattle.cyc_script_machine.specs.Agreement.{Agrees}
-use Rattle.cyc_agreement.proofs.Spots.{same_some, none_some}
+use Rattle.cyc_script_machine.proofs.Spots.{same_some, none_some}
 use Rattle.cyc_script_machine.specs.Removing.{cpus_with as cpus_with_in}
-use Rattle.cyc_removing.proofs.Where.{nowhere}
+use Rattle.cyc_script_machine.proofs.Where.{nowhere}
 use Rattle.cyc_model.specs.Cpu.{Cyclic, cyclic_of}
 use Rattle.cyc_model.specs.Moving.{mark_here}
 use Rattle.cyc_model.specs.Questions.{plain, outstanding_here}

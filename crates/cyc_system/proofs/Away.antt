@@ -9,20 +9,20 @@ use Rattle.cyc_types.specs.Runs.{Goes, lost_by}
 use Rattle.cyc_types.specs.declared.firing.Raised.TheVariants.{First, More, Lost}
 use Rattle.cyc_types.specs.declared.level.Level.{Level}
 use Rattle.cyc_types.specs.declared.level.Level.TheVariants as at
-use Rattle.cyc_fire.specs.declared.fire.Fired.{Fired}
-use Rattle.cyc_fire.specs.declared.fire.FireRefused.{FireRefused}
-use Rattle.cyc_fire.specs.Acts.{Sides, AreRaises}
-use Rattle.cyc_fire.specs.Made.{Makes, HasCounts}
-use Rattle.cyc_fire.specs.Quiet.{LoadsThenLooks}
-use Rattle.cyc_expirations.specs.Expirations as expire
-use Rattle.cyc_expirations.specs.Expirations.{Expiration, expirations, times_of, all_after}
-use Rattle.cyc_expirations.specs.Timers.{Timer}
-use Rattle.cyc_timers.specs.Rows.{Cyclic, timers}
-use Rattle.cyc_cpu.specs.Cpu.{CpuView, Running, SameCpu}
-use Rattle.cyc_cpu.specs.Law.{IsLawful}
-use Rattle.cyc_cpu.specs.Losses.{IsUnder, IsSpared}
-use Rattle.cyc_cpu.specs.Moving.{Inquires}
-use Rattle.cyc_cpu.specs.Calls.{Changes, Does, Fire, AskSettled, no_interrupts}
+use Rattle.cyc_cpu_laws.specs.Fired.{Fired}
+use Rattle.cyc_cpu_laws.specs.FireRefused.{FireRefused}
+use Rattle.cyc_cpu_laws.specs.Acts.{Sides, AreRaises}
+use Rattle.cyc_cpu_laws.specs.Made.{Makes, HasCounts}
+use Rattle.cyc_cpu_laws.specs.Quiet.{LoadsThenLooks}
+use Rattle.cyc_cpu_laws.specs.Expirations as expire
+use Rattle.cyc_cpu_laws.specs.Expirations.{Expiration, expirations, times_of, all_after}
+use Rattle.cyc_cpu_laws.specs.Timers.{Timer}
+use Rattle.cyc_everywhere.specs.Rows.{Cyclic, timers}
+use Rattle.cyc_cpu_laws.specs.Cpu.{CpuView, Running, SameCpu}
+use Rattle.cyc_cpu_laws.specs.Law.{IsLawful}
+use Rattle.cyc_cpu_laws.specs.Losses.{IsUnder, IsSpared}
+use Rattle.cyc_cpu_laws.specs.Moving.{Inquires}
+use Rattle.cyc_cpu_laws.specs.Calls.{Changes, Does, Fire, AskSettled, no_interrupts}
 use Rattle.cyc_system.specs.Splitting.{EachTwo, GoesOn, IsSameEnd, ComesBack, AllComeBack}
 
 -- ---- two lists

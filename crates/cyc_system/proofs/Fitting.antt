@@ -12,12 +12,12 @@ use mathlib.Core.Logic.{dite}
 use native.Mathlib.Decide.{ℕ_discrete}
 use Rattle.cyc_types.specs.Firing.{FiringView, FiringCall}
 use Rattle.cyc_types.specs.declared.firing.Sent.{Sent}
-use Rattle.cyc_timers.specs.Rows.{Cyclic}
-use Rattle.cyc_fire.specs.Made.{HasCounts}
-use Rattle.cyc_cpu.specs.declared.moving.Taken.{Taken}
-use Rattle.cyc_cpu.specs.Cpu.{CpuView, HasNoCyclic, HasRisingIds}
-use Rattle.cyc_cpu.specs.Law.{IsLawful}
-use Rattle.cyc_cpu.specs.Calls.{AskPending, Reserve, TakeNow}
+use Rattle.cyc_everywhere.specs.Rows.{Cyclic}
+use Rattle.cyc_cpu_laws.specs.Made.{HasCounts}
+use Rattle.cyc_cpu_laws.specs.Taken.{Taken}
+use Rattle.cyc_cpu_laws.specs.Cpu.{CpuView, HasNoCyclic, HasRisingIds}
+use Rattle.cyc_cpu_laws.specs.Law.{IsLawful}
+use Rattle.cyc_cpu_laws.specs.Calls.{AskPending, Reserve, TakeNow}
 use Rattle.cyc_cpu_laws.specs.Accounts.{expired_of, entered_by, left_by}
 use Rattle.cyc_cpu_laws.proofs.Shifts.{changes_shift, shift_sums}
 use Rattle.cyc_places.specs.declared.record.Place.TheVariants as stands

@@ -5,3 +5,19 @@ pub mod Returned
 pub mod Turned
 pub mod Fitting
 pub mod Left
+pub use Rattle.cyc_removing.proofs.Folds
+pub use Rattle.cyc_removing.proofs.One
+pub use Rattle.cyc_removing.proofs.Where
+pub use Rattle.cyc_removing.proofs.Forgetting
+pub use Rattle.cyc_agreement.proofs.Spots
+pub use Rattle.cyc_agreement.proofs.Recording
+pub use Rattle.cyc_agreement.proofs.Lists
+pub use Rattle.cyc_agreement.proofs.Presence
+pub use Rattle.cyc_agreement.proofs.Who
+pub use Rattle.cyc_agreement.proofs.Destinations
+pub use Rattle.cyc_agreement.proofs.CpuSpots as CpusSpots
+pub use Rattle.cyc_agreement.proofs.Rooms
+pub use Rattle.cyc_removing.proofs.Others
+pub use Rattle.cyc_removing.proofs.Receipts
+pub use Rattle.cyc_removing.proofs.Sums
+pub use Rattle.cyc_removing.proofs.Answering

@@ -9,11 +9,11 @@ use Rattle.cyc_types.specs.declared.refusal.JuggleReport.{JuggleReport}
 use Rattle.cyc_types.specs.declared.refusal.Refusal.{Refusal}
 use Rattle.cyc_soft.specs.declared.Ran.{Ran}
 use Rattle.cyc_soft.specs.declared.SoftRefused.{SoftRefused}
-use Rattle.cyc_model.specs.Refusals.{bad_now}
-use Rattle.cyc_fire.specs.declared.fire.Fired.{Fired}
-use Rattle.cyc_fire.specs.declared.fire.FireRefused.{FireRefused}
-use Rattle.cyc_cpu.specs.Cpu.{Running}
-use Rattle.cyc_cpu.specs.Calls.{Reprogram as CpuReprogram, Fire, SoftInterrupt as CpuSoftInterrupt}
+use Rattle.cyc_agreement.specs.ModelRefusals.{bad_now}
+use Rattle.cyc_cpu_laws.specs.Fired.{Fired}
+use Rattle.cyc_cpu_laws.specs.FireRefused.{FireRefused}
+use Rattle.cyc_cpu_laws.specs.Cpu.{Running}
+use Rattle.cyc_cpu_laws.specs.Calls.{Reprogram as CpuReprogram, Fire, SoftInterrupt as CpuSoftInterrupt}
 use Rattle.cyc_agreement.specs.Cpus.{on, running_cpus, RunsAt}
 use Rattle.cyc_system.specs.declared.interrupting.SoftFault.{SoftFault}
 use Rattle.cyc_system.specs.declared.interrupting.SoftFault.TheVariants.{Refused}

@@ -18,3 +18,8 @@ pub use Rattle.cyc_agreement.specs.System
 pub use Rattle.cyc_removing.specs.declared.removing.SystemRemoval
 pub use Rattle.cyc_removing.specs.declared.totals.SystemTotals
 pub use Rattle.cyc_juggling.specs.declared.turning.Turn
+pub use Rattle.cyc_agreement.specs.ModelRefusals
+pub use Rattle.cyc_agreement.specs.Cpus
+pub use Rattle.cyc_agreement.specs.Shifting
+pub use Rattle.cyc_agreement.specs.Destination
+pub use Rattle.cyc_agreement.specs.Reserving

@@ -2,9 +2,9 @@
 use Rattle.std.specs.Prelude.{◌≡◌, ℕ, ◌≤◌, List, [], ◌∷◌, Option}
 use Rattle.std.specs.Option.{option_map}
 use Rattle.cyc_types.specs.Firing.{FiringView}
-use Rattle.cyc_timers.specs.Rows.{Cyclic}
-use Rattle.cyc_cpu.specs.Cpu.{CpuView}
-use Rattle.cyc_cpu.specs.Losses.{IsUnder}
+use Rattle.cyc_everywhere.specs.Rows.{Cyclic}
+use Rattle.cyc_cpu_laws.specs.Cpu.{CpuView}
+use Rattle.cyc_cpu_laws.specs.Losses.{IsUnder}
 
 -- two lists are of one length, and this holds of each two elements at one place
 abbrev pub EachTwo : {A : Type 0} → (A → A → Type 0) → List A → List A → Type 0

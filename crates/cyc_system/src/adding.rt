@@ -2,8 +2,8 @@
 
 ghost use Rattle.std.specs.Prelude.{◌≡◌, ◌<◌, ◌+◌, length, IfNone, IfSome};
 ghost use Rattle.cyc_types.specs.Limits.{last_id};
-ghost use Rattle.cyc_cpu.specs.Cpu.{HasNoCyclic, MayWiden};
-ghost use Rattle.cyc_cpu.specs.Calls.{Reserve};
+ghost use Rattle.cyc_cpu_laws.specs.Cpu.{HasNoCyclic, MayWiden};
+ghost use Rattle.cyc_cpu_laws.specs.Calls.{Reserve};
 ghost use Rattle.cyc_agreement.specs.Cpus.{OfCpu, on, DoesAt, Works};
 ghost use Rattle.cyc_agreement.specs.Adding.{entering};
 

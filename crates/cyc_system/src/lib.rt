@@ -19,7 +19,7 @@ mod splitting;
 mod system;
 
 pub use asking::CpuOrOmni;
-pub use cyc_cpu::{FireRefused, Fired};
+pub use cyc_cpu_laws::{FireRefused, Fired};
 pub use cyc_removing::{SystemRemoval, SystemTotals, others_law};
 pub use interrupting::SoftFault;
 pub use laws::{away_law, ids_law};

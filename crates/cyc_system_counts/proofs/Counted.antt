@@ -22,13 +22,13 @@ use Rattle.cyc_places.specs.declared.record.Place.{Place}
 use Rattle.cyc_places.specs.declared.record.Place.TheVariants as stands
 use Rattle.cyc_places.specs.declared.record.Record.{Record}
 use Rattle.cyc_places.specs.Places.{IsRecord, no_counts, summed, new_record, with_place, with_ended, ended_on, is_everywhere}
-use Rattle.cyc_cpus.specs.Cpus.{CpusView, CallOn, on, Works, online_cpus}
-use Rattle.cyc_cpus.specs.Shifting.{moving}
-use Rattle.cyc_cpus.proofs.Spots.{get_set_same, get_set_other}
+use Rattle.cyc_system.specs.Cpus.{CpusView, CallOn, on, Works, online_cpus}
+use Rattle.cyc_system.specs.Shifting.{moving}
+use Rattle.cyc_system.proofs.CpusSpots.{get_set_same, get_set_other}
 use Rattle.cyc_system.specs.System.{SystemView, ids_on}
 use Rattle.cyc_system.specs.Adding.{OnlyWorks, Adds, entering}
 use Rattle.cyc_system.specs.Binding.{Records, Unbinds, Binds}
-use Rattle.cyc_agreement.proofs.Spots.{same_some}
+use Rattle.cyc_system.proofs.Spots.{same_some}
 use Rattle.cyc_system.specs.Turn.{Turn}
 use Rattle.cyc_system.specs.Turn.TheVariants.{StaysBound, StaysPending, StaysRefused, Moves}
 use Rattle.cyc_system.specs.Juggling.{TakesTurn, Turns}

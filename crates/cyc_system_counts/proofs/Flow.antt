@@ -11,9 +11,9 @@ use Rattle.cyc_cpu.specs.declared.moving.Taken.{Taken}
 use Rattle.cyc_cpu.specs.Cpu.{CpuView, with_moment, cyclic_with}
 use Rattle.cyc_cpu.specs.Moving.{IsTaken}
 use Rattle.cyc_cpu.specs.Calls.{CpuCall, Changes, Place, TakeNow, Reprogram, AskPending, AskTotals, AskRoom, Reserve, Widen}
-use Rattle.cyc_cpus.specs.Cpus.{CpusView, CallOn, DoesAt, Works}
-use Rattle.cyc_agreement.proofs.Lists.{eq_true}
-use Rattle.cyc_agreement.proofs.Spots.{same_some, none_some}
+use Rattle.cyc_system.specs.Cpus.{CpusView, CallOn, DoesAt, Works}
+use Rattle.cyc_system.proofs.Lists.{eq_true}
+use Rattle.cyc_system.proofs.Spots.{same_some, none_some}
 use Rattle.cyc_system_counts.specs.Keeping.{stay_of}
 
 pub sum_set : {A : Type 0} (h : A → ℕ) (xs : List A) (n : ℕ) (x y : A) → slice_get xs n ≡ Some x

@@ -13,11 +13,11 @@ use Rattle.cyc_cpu.specs.Cpu.{CpuView, HasRisingIds as HaveRisingIds}
 use Rattle.cyc_places.specs.declared.record.Record.{Record}
 use Rattle.cyc_places.specs.Places.{HasRisingIds}
 use Rattle.cyc_system.specs.System.{SystemView}
-use Rattle.cyc_agreement.proofs.Lists.{eq_true, false_ne}
-use Rattle.cyc_agreement.proofs.Recording.{found}
+use Rattle.cyc_system.proofs.Lists.{eq_true, false_ne}
+use Rattle.cyc_system.proofs.Recording.{found}
 use Rattle.cyc_system.specs.Counts.{AreLawful}
 use Rattle.cyc_system.specs.Laws.{cyclic_in, IsUntouched}
-use Rattle.cyc_removing.proofs.Sums.{sum_none}
+use Rattle.cyc_system.proofs.Sums.{sum_none}
 use Rattle.cyc_system_counts.specs.Keeping.{stay_of, over_stays}
 use Rattle.cyc_system_counts.proofs.Flow.{on_cpu, on_cpus}
 

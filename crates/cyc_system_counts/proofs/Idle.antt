@@ -4,9 +4,9 @@ use Rattle.cyc_types.specs.Firing.{FiringView, FiringCall}
 use Rattle.cyc_types.specs.declared.refusal.Refusal.{Refusal}
 use Rattle.cyc_cpu.specs.declared.moving.Taken.{Taken}
 use Rattle.cyc_cpu.specs.Calls.{CpuCall, AskPending, AskTotals, AskRoom, Reserve, Widen}
-use Rattle.cyc_cpus.specs.Cpus.{CpusView, CallOn, on, Works}
-use Rattle.cyc_cpus.specs.Reserving.{rooms, reserves, ReservesEach}
-use Rattle.cyc_cpus.specs.Shifting.{WhyNotShifted}
+use Rattle.cyc_system.specs.Cpus.{CpusView, CallOn, on, Works}
+use Rattle.cyc_system.specs.Reserving.{rooms, reserves, ReservesEach}
+use Rattle.cyc_system.specs.Shifting.{WhyNotShifted}
 use Rattle.std.proofs.Common.{inl, inr}
 use Rattle.cyc_system.specs.Counting.{Counted, asked}
 use Rattle.cyc_system.specs.Leaving.{quiet}

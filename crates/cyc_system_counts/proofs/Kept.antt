@@ -17,15 +17,15 @@ use Rattle.cyc_places.specs.declared.record.Place.{Place}
 use Rattle.cyc_places.specs.declared.record.Place.TheVariants as stands
 use Rattle.cyc_places.specs.declared.record.Record.{Record}
 use Rattle.cyc_places.specs.Places.{IsRecord, HasRisingIds, is_everywhere, ended_on}
-use Rattle.cyc_cpus.specs.Cpus.{CpusView, CallOn, on, Works, online_cpus}
-use Rattle.cyc_cpus.specs.Shifting.{moving}
+use Rattle.cyc_system.specs.Cpus.{CpusView, CallOn, on, Works, online_cpus}
+use Rattle.cyc_system.specs.Shifting.{moving}
 use Rattle.cyc_system.specs.System.{SystemView, ids_on, is_omnipresent}
 use Rattle.cyc_system.specs.Adding.{OnlyWorks, Adds, entering}
 use Rattle.cyc_system.specs.Binding.{Binds}
-use Rattle.cyc_agreement.proofs.Lists.{false_ne}
-use Rattle.cyc_agreement.proofs.Spots.{same_some, none_some}
-use Rattle.cyc_agreement.proofs.Recording.{record_here}
-use Rattle.cyc_removing.proofs.Others.{begins_others, polls_others, asks_others}
+use Rattle.cyc_system.proofs.Lists.{false_ne}
+use Rattle.cyc_system.proofs.Spots.{same_some, none_some}
+use Rattle.cyc_system.proofs.Recording.{record_here}
+use Rattle.cyc_system.proofs.Others.{begins_others, polls_others, asks_others}
 use Rattle.cyc_system.specs.Turn.{Turn}
 use Rattle.cyc_system.specs.Turn.TheVariants.{StaysBound, StaysPending, StaysRefused, Moves}
 use Rattle.cyc_system.specs.Juggling.{TakesTurn, Turns, single_ids}

@@ -16,21 +16,21 @@ use Rattle.cyc_places.specs.declared.record.Place.{Place}
 use Rattle.cyc_places.specs.declared.record.Place.TheVariants as stands
 use Rattle.cyc_places.specs.declared.record.Record.{Record}
 use Rattle.cyc_places.specs.Places.{IsRecord, HasRisingIds, new_record, no_counts, with_place, with_ended, is_everywhere}
-use Rattle.cyc_cpus.specs.Cpus.{CpusView}
+use Rattle.cyc_system.specs.Cpus.{CpusView}
 use Rattle.cyc_system.specs.System.{SystemView, ids_on}
 use Rattle.cyc_system.specs.Adding.{Adds}
 use Rattle.cyc_system.specs.Binding.{Records, HasPlace, Binds}
-use Rattle.cyc_agreement.proofs.Lists.{false_ne}
-use Rattle.cyc_agreement.proofs.Spots.{same_some}
-use Rattle.cyc_agreement.proofs.Recording.{found, one_record}
+use Rattle.cyc_system.proofs.Lists.{false_ne}
+use Rattle.cyc_system.proofs.Spots.{same_some}
+use Rattle.cyc_system.proofs.Recording.{found, one_record}
 use Rattle.cyc_system.specs.SystemRemoval.{SystemRemoval}
 use Rattle.cyc_system.specs.SystemRemoval.TheVariants as over
 use Rattle.cyc_system.specs.Removing.{Begun, BeginsOn, BeginsRemoval}
 use Rattle.cyc_system.specs.Polling.{Polled, PollsOn, PollsRemoval}
 use Rattle.cyc_system.specs.Laws.{IsUntouched}
-use Rattle.cyc_removing.proofs.Others.{begins_others, polls_others, asks_others}
-use Rattle.cyc_removing.proofs.Forgetting.{rising_set}
-use Rattle.cyc_removing.proofs.Folds.{folds_keep}
+use Rattle.cyc_system.proofs.Others.{begins_others, polls_others, asks_others}
+use Rattle.cyc_system.proofs.Forgetting.{rising_set}
+use Rattle.cyc_system.proofs.Folds.{folds_keep}
 use Rattle.cyc_system.specs.Turn.{Turn}
 use Rattle.cyc_system.specs.Turn.TheVariants.{StaysBound, StaysPending, StaysRefused, Moves}
 use Rattle.cyc_system.specs.Juggling.{TakesTurn, Turns, single_ids}

@@ -14,20 +14,20 @@ use Rattle.cyc_cpu.specs.Cpu.{CpuView, running}
 use Rattle.cyc_cpu.specs.Law.{IsLawful}
 use Rattle.cyc_cpu.specs.Moving.{IsSettled}
 use Rattle.cyc_cpu.specs.Calls.{Changes as CpuChanges, no_interrupts, BeginRemove as CpuBegin}
-use Rattle.cyc_cpu_laws.proofs.Staying.{settled_one, never_put_off}
+use Rattle.cyc_cpus_laws.proofs.Staying.{settled_one, never_put_off}
 use Rattle.cyc_cpus.specs.Cpus.{CpusView, IsCpu, on, DoesAt, numbers_from}
 use Rattle.cyc_cpus.proofs.Spots.{get_set_same, get_set_other}
 use Rattle.cyc_system.specs.System.{SystemView, ids_of, has}
-use Rattle.cyc_agreement.proofs.Lists.{among, false_true}
-use Rattle.cyc_agreement.proofs.Spots.{same_some, get_some}
-use Rattle.cyc_agreement.proofs.Presence.{has_low}
-use Rattle.cyc_agreement.proofs.Who.{ids_there}
+use Rattle.cyc_system.proofs.Lists.{among, false_true}
+use Rattle.cyc_system.proofs.Spots.{same_some, get_some}
+use Rattle.cyc_system.proofs.Presence.{has_low}
+use Rattle.cyc_system.proofs.Who.{ids_there}
 use Rattle.cyc_system.specs.SystemRemoval.TheVariants as over
 use Rattle.cyc_system.specs.Removing.{Begun, BeginsOn, cpus_with}
 use Rattle.cyc_system.specs.Counts.{AreLawful}
-use Rattle.cyc_removing.proofs.Folds.{folds_known, Known}
-use Rattle.cyc_removing.proofs.One.{less_done}
-use Rattle.cyc_removing.proofs.Where.{nowhere}
+use Rattle.cyc_system.proofs.Folds.{folds_known, Known}
+use Rattle.cyc_system.proofs.One.{less_done}
+use Rattle.cyc_system.proofs.Where.{nowhere}
 use Rattle.cyc_system.specs.Calls.{Changes, BeginRemove}
 use Rattle.cyc_system_laws.specs.Settling.{IsAmong}
 use Rattle.cyc_system_laws.proofs.Settles.{NotSettled, rests_at, not_before, no_calls, no_count, no_refusal}

@@ -22,16 +22,16 @@ use Rattle.cyc_cpus.specs.Cpus.{CpusView, IsCpu, OfCpu, ChangesAt, with_cpu}
 use Rattle.cyc_cpus.proofs.Spots.{one_cpu, cpu_there, cpu_beside}
 use Rattle.cyc_system.specs.System.{SystemView, RunningSystem}
 use Rattle.cyc_system.specs.Agreement.{Agrees}
-use Rattle.cyc_agreement.proofs.Lists.{true_eq, false_true}
-use Rattle.cyc_agreement.proofs.Spots.{none_some}
-use Rattle.cyc_agreement.proofs.Presence.{has_here}
-use Rattle.cyc_agreement.proofs.Recording.{found}
+use Rattle.cyc_system.proofs.Lists.{true_eq, false_true}
+use Rattle.cyc_system.proofs.Spots.{none_some}
+use Rattle.cyc_system.proofs.Presence.{has_here}
+use Rattle.cyc_system.proofs.Recording.{found}
 use Rattle.cyc_system.specs.SystemRemoval.TheVariants as over
 use Rattle.cyc_system.specs.Removing.{Begun, BeginsOn, BeginsRemoval, Answers, counts_of}
 use Rattle.cyc_system.specs.Polling.{Polled, PollsOn, PollsRemoval}
 use Rattle.cyc_system.specs.Laws.{IsForgotten}
-use Rattle.cyc_removing.proofs.Forgetting.{was_there, begins_forgotten, polls_forgotten}
-use Rattle.cyc_removing.proofs.Folds.{folds_keep}
+use Rattle.cyc_system.proofs.Forgetting.{was_there, begins_forgotten, polls_forgotten}
+use Rattle.cyc_system.proofs.Folds.{folds_keep}
 use Rattle.cyc_system.specs.Calls.{SystemCall, Changes, Does, Add, AddOmni, Bind, BeginRemove, PollRemove, AskTotals, Reprogram}
 use Rattle.cyc_system.specs.Calls.{ReprogramOn, Juggle, Offline, Online, FireOne, SoftInterrupt}
 use Rattle.cyc_system_laws.specs.Gone.{IsOver}

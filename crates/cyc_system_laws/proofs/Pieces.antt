@@ -31,7 +31,7 @@ use Rattle.cyc_cpus.proofs.Spots.{get_set_same, get_set_other}
 use Rattle.cyc_system.specs.System.{SystemView, ids_on}
 use Rattle.cyc_system.specs.Adding.{OnlyWorks, Adds, entering}
 use Rattle.cyc_system.specs.Binding.{Records, GoesTo, Unbinds, Binds}
-use Rattle.cyc_agreement.proofs.Spots.{same_some, get_either}
+use Rattle.cyc_system.proofs.Spots.{same_some, get_either}
 use Rattle.cyc_system.specs.SystemRemoval.{SystemRemoval}
 use Rattle.cyc_system.specs.SystemRemoval.TheVariants as over
 use Rattle.cyc_system.specs.SystemTotals.{SystemTotals}

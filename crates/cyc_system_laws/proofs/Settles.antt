@@ -13,12 +13,12 @@ use Rattle.cyc_types.specs.declared.level.Level.{Level}
 use Rattle.cyc_types.specs.declared.refusal.JuggleReport.{JuggleReport}
 use Rattle.cyc_types.specs.declared.refusal.Refusal.{Refusal}
 use Rattle.cyc_types.specs.declared.refusal.Refusal.TheVariants as why
-use Rattle.cyc_model.specs.Refusals.{first_refusal, when, busy, bad_now}
+use Rattle.cyc_system.specs.ModelRefusals.{first_refusal, when, busy, bad_now}
 use Rattle.cyc_cpu.specs.Cpu.{CpuView, running}
 use Rattle.cyc_cpu.specs.Moving.{IsSettled}
 use Rattle.cyc_cpu.specs.Calls.{Changes as CpuChanges, no_interrupts, AskPending, AskRoom, Reserve, TakeNow}
-use Rattle.cyc_cpu_laws.specs.Settled.{IsUntil}
-use Rattle.cyc_cpu_laws.proofs.Staying.{settled_one, never_put_off}
+use Rattle.cyc_cpus_laws.specs.Settled.{IsUntil}
+use Rattle.cyc_cpus_laws.proofs.Staying.{settled_one, never_put_off}
 use Rattle.cyc_cpus.specs.Cpus.{CpusView, IsCpu, CallOn, on, ChangesAt, Works, online_cpus}
 use Rattle.cyc_cpus.specs.Reserving.{rooms}
 use Rattle.cyc_cpus.specs.Shifting.{moving}
@@ -26,8 +26,8 @@ use Rattle.cyc_cpus.proofs.Spots.{one_cpu, cpu_there, cpu_after}
 use Rattle.cyc_system.specs.System.{SystemView, removal_on, is_online, is_unknown}
 use Rattle.cyc_system.specs.Refusals.{no_cpu, offline_cpu, no_cyclic, omnipresent}
 use Rattle.cyc_system.specs.Binding.{Binds}
-use Rattle.cyc_agreement.proofs.Spots.{same_some, none_some, get_some}
-use Rattle.cyc_agreement.proofs.Destinations.{destination_fits}
+use Rattle.cyc_system.proofs.Spots.{same_some, none_some, get_some}
+use Rattle.cyc_system.proofs.Destinations.{destination_fits}
 use Rattle.cyc_system.specs.Removing.{unknown_cyclic, cpus_with}
 use Rattle.cyc_system.specs.Turn.{Turn}
 use Rattle.cyc_system.specs.Turn.TheVariants.{StaysBound, StaysPending, StaysRefused, Moves}

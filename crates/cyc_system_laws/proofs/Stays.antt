@@ -4,20 +4,20 @@ use Rattle.std.specs.List.{FoldsTo}
 use Rattle.cyc_types.specs.Firing.{FiringView, FiringCall}
 use Rattle.cyc_types.specs.declared.level.Level.{Level}
 use Rattle.cyc_types.specs.declared.level.Level.TheVariants.{High}
-use Rattle.cyc_core.specs.Tables.{Tables}
+use Rattle.cyc_cpu.specs.Tables.{Tables}
 use Rattle.cyc_expirations.specs.Expirations.{expirations}
-use Rattle.cyc_timers.specs.Rows.{timers}
-use Rattle.cyc_fire.specs.declared.fire.Fired.{Fired}
-use Rattle.cyc_fire.specs.declared.fire.FireRefused.{FireRefused}
-use Rattle.cyc_fire.proofs.Sharing.{ids_add_up}
+use Rattle.cyc_cpus_laws.specs.Rows.{timers}
+use Rattle.cyc_cpu.specs.Fired.{Fired}
+use Rattle.cyc_cpu.specs.FireRefused.{FireRefused}
+use Rattle.cyc_cpu.proofs.Sharing.{ids_add_up}
 use Rattle.cyc_cpu.specs.Cpu.{CpuView, Running, running, HasNoCyclic}
 use Rattle.cyc_cpu.specs.Gone.{IsGone, PutsNot}
 use Rattle.cyc_cpu.specs.Soft.{fires, firing_at, Interrupts}
 use Rattle.cyc_cpu.specs.Calls.{CpuCall, Changes, Does, no_interrupts, Fire, SoftInterrupt, Add, Place, Reprogram, AskPending}
 use Rattle.cyc_cpu.specs.Calls.{AskTotals, AskRoom, Reserve, Widen, BeginRemove, PollRemove, TakeNow, AskSettled}
 use Rattle.cyc_cpu.proofs.Following.{stays_gone}
-use Rattle.cyc_cpu_laws.proofs.Shifts.{changes_shift, shift_away}
-use Rattle.cyc_cpu_laws.proofs.Fires.{no_share, no_cyclic, fired_away}
+use Rattle.cyc_cpus_laws.proofs.Shifts.{changes_shift, shift_away}
+use Rattle.cyc_cpus_laws.proofs.Fires.{no_share, no_cyclic, fired_away}
 use Rattle.cyc_cpus_laws.proofs.Nowhere.{unused_gone}
 use Rattle.cyc_system.specs.System.{SystemView, RunningSystem}
 use Rattle.cyc_system.specs.Calls.{SystemCall, Does as SystemDoes}

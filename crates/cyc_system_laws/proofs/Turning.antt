@@ -10,20 +10,20 @@ use Rattle.cyc_types.specs.declared.refusal.JuggleReport.{JuggleReport}
 use Rattle.cyc_types.specs.declared.refusal.Refusal.{Refusal}
 use Rattle.cyc_types.specs.declared.refusal.Refusal.TheVariants.{Left}
 use Rattle.cyc_types.specs.declared.refusal.Refusal.TheVariants as why
-use Rattle.cyc_model.specs.Refusals.{first_refusal, when, busy}
+use Rattle.cyc_system.specs.ModelRefusals.{first_refusal, when, busy}
 use Rattle.cyc_types.proofs.Runs.{folds_on}
 use Rattle.cyc_cpu.specs.Cpu.{CpuView}
 use Rattle.cyc_cpu.specs.Moving.{IsSettled}
 use Rattle.cyc_cpu.specs.Calls.{AskPending, Reserve}
-use Rattle.cyc_cpu_laws.specs.Settled.{IsUntil}
+use Rattle.cyc_cpus_laws.specs.Settled.{IsUntil}
 use Rattle.cyc_cpus.specs.Cpus.{CpusView, OfCpu, CallOn, on, DoesAt, Works, online_cpus}
 use Rattle.cyc_cpus.specs.Destination.{destination}
 use Rattle.cyc_cpus.specs.Shifting.{moving}
 use Rattle.cyc_cpus.proofs.Spots.{one_cpu}
 use Rattle.cyc_system.specs.System.{SystemView, is_online, removal_on}
 use Rattle.cyc_system.specs.Refusals.{no_cpu, offline_cpu}
-use Rattle.cyc_agreement.proofs.Spots.{get_some, same_some, none_some}
-use Rattle.cyc_agreement.proofs.Destinations.{destination_fits}
+use Rattle.cyc_system.proofs.Spots.{get_some, same_some, none_some}
+use Rattle.cyc_system.proofs.Destinations.{destination_fits}
 use Rattle.cyc_system.specs.Turn.{Turn}
 use Rattle.cyc_system.specs.Turn.TheVariants.{StaysBound, StaysPending, StaysRefused, Moves}
 use Rattle.cyc_system.specs.Juggling.{TakesTurn, Turns, single_ids, MovesAway, last_cpu, juggle_refusals}

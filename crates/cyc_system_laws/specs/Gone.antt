@@ -1,7 +1,7 @@
 -- A cyclic whose removal has answered.
 use Rattle.std.specs.Prelude.{◌≡◌, ℕ, ◌≤◌}
-use Rattle.cyc_level.specs.Lawful.{Lawful}
-use Rattle.cyc_core.specs.Tables.{Tables, level_of}
+use Rattle.cyc_cpus_laws.specs.Lawful.{Lawful}
+use Rattle.cyc_cpu.specs.Tables.{Tables, level_of}
 use Rattle.cyc_cpu.specs.Cpu.{HasNoCyclic}
 use Rattle.cyc_cpu.specs.Law.{IsLawful}
 use Rattle.cyc_cpu.specs.Soft.{firing_at}

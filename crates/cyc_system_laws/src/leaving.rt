@@ -3,7 +3,7 @@
 ghost use Rattle.std.specs.Prelude.{ℕ, List, Some, Ok};
 ghost use Rattle.std.specs.List.{FoldsTo};
 ghost use Rattle.cyc_types.specs.declared.receipt.Receipt.{Receipt};
-ghost use Rattle.cyc_core.specs.Tables.{Tables};
+ghost use Rattle.cyc_cpu.specs.Tables.{Tables};
 ghost use Rattle.cyc_cpu.specs.Calls.{no_interrupts};
 ghost use Rattle.cyc_cpu.specs.Soft.{fires, firing_at, Interrupts};
 ghost use Rattle.cyc_places.specs.Places.{HasRisingIds};

@@ -2,7 +2,7 @@
 
 ghost use Rattle.std.specs.Prelude.{List};
 ghost use Rattle.std.specs.List.{FoldsTo};
-ghost use Rattle.cyc_core.specs.Tables.{Tables};
+ghost use Rattle.cyc_cpu.specs.Tables.{Tables};
 ghost use Rattle.cyc_cpu.specs.Calls.{no_interrupts};
 ghost use Rattle.cyc_cpu.specs.Soft.{fires, firing_at, Interrupts};
 ghost use Rattle.cyc_system.specs.System.{RunningSystem};

@@ -10,7 +10,7 @@ use Rattle.cyc_types.specs.declared.refusal.Refusal.TheVariants.{Offline}
 use Rattle.cyc_core.specs.Tables.{Tables}
 use Rattle.cyc_cpu.specs.Soft.{fires, firing_at as seen}
 use Rattle.cyc_cpu.specs.Calls.{no_interrupts}
-use Rattle.cyc_fire.specs.declared.fire.Fired.{Fired}
+use Rattle.cyc_cpu.specs.Fired.{Fired}
 use Rattle.cyc_system.specs.System.{SystemView, RunningSystem, is_online}
 use Rattle.cyc_system.specs.Refusals as why
 use Rattle.cyc_system.specs.Calls.{Does, FireOne}

@@ -9,9 +9,9 @@ use Rattle.cyc_core.specs.Tables.{Tables}
 use Rattle.cyc_cpu.specs.Cpu.{CpuView}
 use Rattle.cyc_places.specs.declared.record.Record.{Record}
 use Rattle.cyc_places.specs.Places.{IsRecord, HasRisingIds, ended_on}
-use Rattle.cyc_cpus.specs.Cpus.{numbers_from as online_from}
+use Rattle.cyc_system.specs.Cpus.{numbers_from as online_from}
 use Rattle.cyc_system.specs.System.{SystemView, ids_of, is_leaving_here}
-use Rattle.cyc_agreement.proofs.Spots.{same_some, none_some}
+use Rattle.cyc_system.proofs.Spots.{same_some, none_some}
 use Rattle.cyc_system.specs.Removing.{cpus_with as cpus_with_in, Answers}
 use Rattle.cyc_system.specs.Polling.{leaving_cpus}
 use Rattle.cyc_model.specs.Cpu.{Cpu, is_of, has_cyclic, cyclic_of}

@@ -8,7 +8,7 @@ use Rattle.cyc_types.specs.Limits.{last_id as greatest_id}
 use Rattle.cyc_types.specs.declared.level.Level.{Level}
 use Rattle.cyc_types.specs.declared.refusal.Refusal.{Refusal}
 use Rattle.cyc_types.specs.declared.refusal.Refusal.TheVariants.{Memory, NoCyclic, Omnipresent, NoCpu, Offline, IdsSpent}
-use Rattle.cyc_timers.specs.Rows.{Cyclic as Timed}
+use Rattle.cyc_cpu_model.specs.Rows.{Cyclic as Timed}
 use Rattle.cyc_core.specs.Tables.{Tables}
 use Rattle.cyc_cpu.specs.Cpu.{CpuView}
 use Rattle.cyc_places.specs.declared.record.Place.{Place as RecordPlace}
@@ -19,7 +19,7 @@ use Rattle.cyc_system.specs.System.{SystemView, ids_of, is_leaving_here, record_
 use Rattle.cyc_system.specs.System.{is_leaving as leaving_in, is_omnipresent as omnipresent_in}
 use Rattle.cyc_system.specs.Refusals as why
 use Rattle.cyc_system.specs.Binding.{HasPlace, HasHome}
-use Rattle.cyc_agreement.proofs.Recording.{record_here}
+use Rattle.cyc_system.proofs.Recording.{record_here}
 use Rattle.cyc_model.specs.Cpu.{Cpu, is_of, has_cyclic}
 use Rattle.cyc_model.specs.State.{State, Place, Placed, absent}
 use Rattle.cyc_model.specs.Places.{place_of, is_unknown, is_leaving, is_everywhere, is_omnipresent, is_bound_at, is_bound}

@@ -7,9 +7,9 @@ use Rattle.cyc_types.specs.declared.level.Soft.TheVariants as soft
 use Rattle.cyc_level.specs.Level.{Level as SoftLevel, empty_level}
 use Rattle.cyc_core.specs.Tables.{Tables, level_of}
 use Rattle.cyc_cpu.specs.Cpu.{CpuView}
-use Rattle.cyc_cpus.specs.Cpus.{new_cpu as new_view}
+use Rattle.cyc_system.specs.Cpus.{new_cpu as new_view}
 use Rattle.cyc_system.specs.Agreement.{Agrees}
-use Rattle.cyc_agreement.proofs.Spots.{same_some, none_some}
+use Rattle.cyc_system.proofs.Spots.{same_some, none_some}
 use Rattle.cyc_model.specs.Cpu.{new_cpu, level_of as cyclic_level}
 use Rattle.cyc_model.specs.Serving.{level_at}
 use Rattle.cyc_model.specs.Agreement.{as_level}

@@ -16,13 +16,13 @@ use Rattle.cyc_cpu.specs.declared.moving.Taken.{Taken}
 use Rattle.cyc_cpu.specs.Soft.{fires, firing_at as seen}
 use Rattle.cyc_cpu.specs.Calls.{AskPending, Reserve, TakeNow, Widen, Place}
 use Rattle.cyc_places.specs.declared.record.Place.TheVariants as place
-use Rattle.cyc_cpus.specs.Cpus.{CpusView, Works}
-use Rattle.cyc_cpus.specs.Shifting.{moving}
+use Rattle.cyc_system.specs.Cpus.{CpusView, Works}
+use Rattle.cyc_system.specs.Shifting.{moving}
 use Rattle.cyc_system.specs.System.{SystemView}
 use Rattle.cyc_system.specs.Refusals as why
 use Rattle.cyc_system.specs.Binding.{HasHome, Records, Binds}
 use Rattle.cyc_system.specs.Calls.{Changes, Bind}
-use Rattle.cyc_agreement.proofs.Spots.{same_some, none_some}
+use Rattle.cyc_system.proofs.Spots.{same_some, none_some}
 use Rattle.cyc_model.specs.Acts.{Act, calls_of, events_at}
 use Rattle.cyc_model.specs.Cpu.{Cyclic, Cpu, is_of, cyclic_of, has_cyclic}
 use Rattle.cyc_model.specs.Serving.{level_at}

@@ -7,9 +7,9 @@ use Rattle.cyc_cpu.specs.Soft.{fires, firing_at as seen}
 use Rattle.cyc_cpu.specs.Calls.{AskTotals}
 use Rattle.cyc_places.specs.declared.record.Record.{Record}
 use Rattle.cyc_places.specs.Places.{IsRecord}
-use Rattle.cyc_cpus.specs.Cpus.{CpusView, Works}
+use Rattle.cyc_system.specs.Cpus.{CpusView, Works}
 use Rattle.cyc_system.specs.System.{SystemView}
-use Rattle.cyc_agreement.proofs.Spots.{same_some, none_some, get_some}
+use Rattle.cyc_system.proofs.Spots.{same_some, none_some, get_some}
 use Rattle.cyc_system.specs.SystemTotals.{SystemTotals}
 use Rattle.cyc_system.specs.Counting.{Counted, asked, AsksTotals}
 use Rattle.cyc_model.specs.Cpu.{Cyclic, Cpu, is_of, has_cyclic, cyclic_of}

@@ -7,9 +7,9 @@ use Rattle.std.specs.Option.{option_map_or}
 use Rattle.std.proofs.lemmas.List.{length-map}
 use Rattle.cyc_core.specs.Tables.{Tables}
 use Rattle.cyc_cpu.specs.Cpu.{CpuView}
-use Rattle.cyc_cpus.specs.Cpus.{CpusView, numbers_from as online_from, online_cpus as online_in}
-use Rattle.cyc_cpus.specs.Destination.{destination as destination_in, fewest as fewest_in, fewer as fewer_in, len_of as len_in}
-use Rattle.cyc_cpus.specs.Destination.{is_not as is_not_in}
+use Rattle.cyc_system.specs.Cpus.{CpusView, numbers_from as online_from, online_cpus as online_in}
+use Rattle.cyc_system.specs.Destination.{destination as destination_in, fewest as fewest_in, fewer as fewer_in, len_of as len_in}
+use Rattle.cyc_system.specs.Destination.{is_not as is_not_in}
 use Rattle.cyc_model.specs.Cpu.{Cpu}
 use Rattle.cyc_model.specs.State.{State, absent, numbers_from, online_cpus}
 use Rattle.cyc_model.specs.Places.{destination, fewest, fewer, len_of, is_not}

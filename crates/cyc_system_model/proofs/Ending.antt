@@ -17,7 +17,7 @@ use Rattle.cyc_core.specs.Tables.{Tables}
 use Rattle.cyc_places.specs.declared.record.Record.{Record}
 use Rattle.cyc_places.specs.Places.{IsRecord, ended_on, no_counts, summed, with_ended}
 use Rattle.cyc_system.specs.System.{SystemView}
-use Rattle.cyc_agreement.proofs.Spots.{same_some, none_some, get_some}
+use Rattle.cyc_system.proofs.Spots.{same_some, none_some, get_some}
 use Rattle.cyc_model.specs.Acts.{at_own}
 use Rattle.cyc_model.specs.Cpu.{Cyclic, Cpu, cyclic_of, level_of, happen}
 use Rattle.cyc_model.specs.Moving.{mark_here}

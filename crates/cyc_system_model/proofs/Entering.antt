@@ -11,7 +11,7 @@ use Rattle.cyc_level.specs.Level.{Level as SoftLevel}
 use Rattle.cyc_level.specs.Events.{after}
 use Rattle.cyc_core.specs.Tables.{Tables}
 use Rattle.cyc_cpu.specs.Calls.{Widen, Place}
-use Rattle.cyc_cpus.specs.Cpus.{CpusView}
+use Rattle.cyc_system.specs.Cpus.{CpusView}
 use Rattle.cyc_system.specs.System.{SystemView}
 use Rattle.cyc_places.specs.Places.{IsRecord}
 use Rattle.cyc_model.specs.Acts.{Act, calls_of, events_at}

@@ -15,12 +15,12 @@ use Rattle.cyc_cpu.specs.Calls.{CpuCall}
 use Rattle.cyc_places.specs.declared.record.Place.{Place as RecordPlace}
 use Rattle.cyc_places.specs.declared.record.Record.{Record}
 use Rattle.cyc_places.specs.Places.{IsRecord, HasRisingIds, ended_on, no_counts, with_ended, new_record}
-use Rattle.cyc_cpus.specs.Cpus.{CpusView, CallOn, on, DoesAt, Works, RunningCpus}
-use Rattle.cyc_cpus.proofs.Spots.{get_set_same, get_set_other}
+use Rattle.cyc_system.specs.Cpus.{CpusView, CallOn, on, DoesAt, Works, RunningCpus}
+use Rattle.cyc_system.proofs.CpusSpots.{get_set_same, get_set_other}
 use Rattle.cyc_system.specs.System.{SystemView}
 use Rattle.cyc_system.specs.Agreement.{Agrees}
 use Rattle.cyc_system.specs.Adding.{OnlyWorks}
-use Rattle.cyc_agreement.proofs.Spots.{same_some, none_some}
+use Rattle.cyc_system.proofs.Spots.{same_some, none_some}
 use Rattle.cyc_system_model.specs.Shown.{shown_cpus, AllFull, AreTied, IsSystem}
 use Rattle.cyc_system_model.proofs.Lists.{same_all, length_set}
 use Rattle.cyc_model.specs.Cpu.{Cpu}

@@ -26,13 +26,13 @@ use Rattle.cyc_places.specs.declared.record.Place.{Place as RecordPlace}
 use Rattle.cyc_places.specs.declared.record.Place.TheVariants as place
 use Rattle.cyc_places.specs.declared.record.Record.{Record}
 use Rattle.cyc_places.specs.Places.{IsRecord, HasRisingIds, with_place, with_ended, ended_on, summed, no_counts, new_record}
-use Rattle.cyc_cpus.specs.Cpus.{CpusView, CallOn, Works, DoesAt, RunsAt, with_cpu, on, online_cpus, running_cpus}
-use Rattle.cyc_cpus.specs.Shifting.{moving}
-use Rattle.cyc_cpus.specs.Reserving.{rooms, reserves, ReservesEach}
-use Rattle.cyc_cpus.proofs.Spots.{get_set_same, get_set_other, cpu_beside}
+use Rattle.cyc_system.specs.Cpus.{CpusView, CallOn, Works, DoesAt, RunsAt, with_cpu, on, online_cpus, running_cpus}
+use Rattle.cyc_system.specs.Shifting.{moving}
+use Rattle.cyc_system.specs.Reserving.{rooms, reserves, ReservesEach}
+use Rattle.cyc_system.proofs.CpusSpots.{get_set_same, get_set_other, cpu_beside}
 use Rattle.cyc_system.specs.System.{SystemView, RunningSystem, ids_on}
 use Rattle.cyc_system.specs.Agreement.{Agrees, most_on}
-use Rattle.cyc_agreement.proofs.Spots.{same_some, none_some}
+use Rattle.cyc_system.proofs.Spots.{same_some, none_some}
 use Rattle.cyc_system.specs.Adding.{OnlyWorks, entering}
 use Rattle.cyc_system.specs.Binding.{GoesTo, Records}
 use Rattle.cyc_system.specs.Removing.{counts_of, BeginsOn, Begun, Answers}

@@ -13,7 +13,7 @@ use Rattle.cyc_text.specs.Lines.{accepted, refused, cyclics_left}
 use Rattle.cyc_cpu.specs.Cpu.{CpuView}
 use Rattle.cyc_cpu.specs.Soft.{fires, firing_at as seen}
 use Rattle.cyc_cpu.specs.Calls.{AskPending, TakeNow}
-use Rattle.cyc_cpus.specs.Cpus.{CpusView, Works, on as on_cpu}
+use Rattle.cyc_system.specs.Cpus.{CpusView, Works, on as on_cpu}
 use Rattle.cyc_system.specs.System.{SystemView, ids_on as ids_there}
 use Rattle.cyc_system.specs.Juggling.{single_ids as single_there, juggle_refusals}
 use Rattle.cyc_system.specs.Leaving.{quiet, Retires, offline_at}

@@ -27,3 +27,10 @@ mod Juggling
 mod Leaving
 mod Beginning
 pub mod Advancing
+pub use Rattle.cyc_system.proofs.Spots
+pub use Rattle.cyc_system.proofs.One
+pub use Rattle.cyc_system.proofs.Where
+pub use Rattle.cyc_system.proofs.CpusSpots as CpusSpots
+pub use Rattle.cyc_system.proofs.Rooms as CpusRooms
+pub use Rattle.cyc_cpu.proofs.Calling
+pub use Rattle.cyc_cpu.proofs.Sharing

@@ -13,7 +13,7 @@ use Rattle.cyc_cpu.specs.Calls.{BeginRemove, PollRemove}
 use Rattle.cyc_places.specs.declared.record.Record.{Record}
 use Rattle.cyc_places.specs.Places.{IsRecord, summed, ended_on, with_ended}
 use Rattle.cyc_system.specs.System.{SystemView}
-use Rattle.cyc_agreement.proofs.Spots.{same_some, none_some}
+use Rattle.cyc_system.proofs.Spots.{same_some, none_some}
 use Rattle.cyc_system.specs.Removing.{counts_of, BeginsOn, Begun, kept_in}
 use Rattle.cyc_system.specs.Polling.{PollsOn, Polled}
 use Rattle.cyc_model.specs.Acts.{calls_of}

@@ -15,12 +15,12 @@ use Rattle.cyc_cpu.specs.Soft.{fires, firing_at as seen}
 use Rattle.cyc_places.specs.declared.record.Place.TheVariants as place
 use Rattle.cyc_places.specs.declared.record.Record.{Record}
 use Rattle.cyc_places.specs.Places.{IsRecord, HasRisingIds, with_place, ended_on}
-use Rattle.cyc_cpus.proofs.Spots.{get_set_same, get_set_other}
+use Rattle.cyc_system.proofs.CpusSpots.{get_set_same, get_set_other}
 use Rattle.cyc_system.specs.System.{SystemView}
 use Rattle.cyc_system.specs.Refusals as why
 use Rattle.cyc_system.specs.Binding.{Records}
 use Rattle.cyc_system.specs.Calls.{Changes, Bind}
-use Rattle.cyc_agreement.proofs.Spots.{same_some, none_some}
+use Rattle.cyc_system.proofs.Spots.{same_some, none_some}
 use Rattle.cyc_model.specs.State.{State, On, Placed, Place}
 use Rattle.cyc_model.specs.Places.{id_of, replaced}
 use Rattle.cyc_model.specs.Refusals.{or_else}

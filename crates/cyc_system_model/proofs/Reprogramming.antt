@@ -8,7 +8,7 @@ use Rattle.cyc_script.specs.declared.step.Reprogram.{Reprogram as ReprogramStep}
 use Rattle.cyc_script.specs.declared.step.Step.TheVariants as steps
 use Rattle.cyc_cpu.specs.Soft.{fires, firing_at as seen}
 use Rattle.cyc_cpu.specs.Calls.{Reprogram as CpuReprogram}
-use Rattle.cyc_cpus.specs.Cpus.{on as on_cpu}
+use Rattle.cyc_system.specs.Cpus.{on as on_cpu}
 use Rattle.cyc_system.specs.System.{SystemView}
 use Rattle.cyc_system.specs.Calls.{Changes}
 use Rattle.cyc_system.specs.Adding.{OnlyWorks}

@@ -23,7 +23,7 @@ use Rattle.cyc_places.specs.declared.record.Place.{Place as RecordPlace}
 use Rattle.cyc_places.specs.declared.record.Place.TheVariants as place
 use Rattle.cyc_places.specs.declared.record.Record.{Record}
 use Rattle.cyc_places.specs.Places.{IsRecord, HasRisingIds, is_everywhere as everywhere_in, ended_on, no_counts, with_ended}
-use Rattle.cyc_cpus.specs.Cpus.{CpusView, Works, on as on_cpu}
+use Rattle.cyc_system.specs.Cpus.{CpusView, Works, on as on_cpu}
 use Rattle.cyc_system.specs.System.{SystemView, is_leaving as leaving_in}
 use Rattle.cyc_system.specs.Refusals as why
 use Rattle.cyc_system.specs.Omni.{component_first}
@@ -57,7 +57,7 @@ use Rattle.cyc_system_model.proofs.Asking.{online_at, same_no_cpu, leaving_shown
 use Rattle.cyc_system_model.proofs.Asking.{same_error}
 use Rattle.cyc_system_model.proofs.Entering.{unchanged, same_shown}
 use Rattle.cyc_system_model.proofs.Going.{Goes, goes_alike, goes_from, goes_to, goes_then, goes_on}
-use Rattle.cyc_agreement.proofs.Spots.{same_some, none_some}
+use Rattle.cyc_system.proofs.Spots.{same_some, none_some}
 
 -- ---- the cyclics that return
 

@@ -19,9 +19,9 @@ use Rattle.cyc_cpu.specs.Moving.{WhyNotTaken}
 use Rattle.cyc_cpu.specs.Soft.{fires, firing_at as seen}
 use Rattle.cyc_cpu.specs.Calls.{CpuCall, Fire, SoftInterrupt, Add, Place, Reprogram, AskPending, AskTotals, AskRoom, Reserve}
 use Rattle.cyc_cpu.specs.Calls.{Widen, BeginRemove, PollRemove, TakeNow, AskSettled, Changes}
-use Rattle.cyc_cpus.specs.Cpus.{CpusView, IsCpu, CallOn, with_cpu, on, DoesAt}
-use Rattle.cyc_cpus.proofs.Spots.{get_set_same, cpu_beside}
-use Rattle.cyc_agreement.proofs.Spots.{same_some}
+use Rattle.cyc_system.specs.Cpus.{CpusView, IsCpu, CallOn, with_cpu, on, DoesAt}
+use Rattle.cyc_system.proofs.CpusSpots.{get_set_same, cpu_beside}
+use Rattle.cyc_system.proofs.Spots.{same_some}
 use Rattle.cyc_system_model.specs.Room.{HasAllRoom, HaveAllRoom}
 
 -- ---- one CPU

@@ -5,18 +5,18 @@ use Rattle.cyc_types.specs.declared.level.Level.{Level}
 use Rattle.cyc_types.specs.declared.refusal.Refusal.{Refusal}
 use Rattle.cyc_core.specs.Tables.{Tables}
 use Rattle.cyc_soft.specs.declared.Ran.{Ran}
-use Rattle.cyc_fire.specs.declared.fire.Fired.{Fired}
-use Rattle.cyc_fire.specs.declared.fire.FireRefused.{FireRefused}
+use Rattle.cyc_cpu.specs.Fired.{Fired}
+use Rattle.cyc_cpu.specs.FireRefused.{FireRefused}
 use Rattle.cyc_script.specs.declared.step.Softint.{Softint as SoftintStep}
 use Rattle.cyc_cpu.specs.Soft.{fires, firing_at as seen, Interrupts}
 use Rattle.cyc_cpu.specs.Calls.{Fire, SoftInterrupt as CpuSoftInterrupt, no_interrupts}
-use Rattle.cyc_cpus.specs.Cpus.{running_cpus}
+use Rattle.cyc_system.specs.Cpus.{running_cpus}
 use Rattle.cyc_system.specs.declared.interrupting.SoftFault.{SoftFault}
 use Rattle.cyc_system.specs.declared.interrupting.SoftFault.TheVariants as fault
 use Rattle.cyc_system.specs.System.{SystemView, RunningSystem}
 use Rattle.cyc_system.specs.Refusals as why
 use Rattle.cyc_system.specs.Calls.{Does, FireOne, SoftInterrupt, no_fire}
-use Rattle.cyc_agreement.proofs.Spots.{same_some, none_some}
+use Rattle.cyc_system.proofs.Spots.{same_some, none_some}
 use Rattle.cyc_model.specs.Acts.{calls_of, calls_in, losses_in}
 use Rattle.cyc_model.specs.Cpu.{Cpu, Here}
 use Rattle.cyc_model.specs.Firing.{due_here, fire_here}

@@ -15,8 +15,8 @@ use Rattle.cyc_cpu.specs.Soft.{fires, firing_at as seen}
 use Rattle.cyc_cpu.specs.Calls.{AskRoom, Reserve, Widen, Place}
 use Rattle.cyc_places.specs.declared.record.Place.TheVariants as place
 use Rattle.cyc_places.specs.Places.{IsRecord, no_counts, new_record}
-use Rattle.cyc_cpus.specs.Cpus.{CpusView, Works, on as on_cpu, online_cpus as online_in}
-use Rattle.cyc_cpus.specs.Reserving.{rooms, reserves}
+use Rattle.cyc_system.specs.Cpus.{CpusView, Works, on as on_cpu, online_cpus as online_in}
+use Rattle.cyc_system.specs.Reserving.{rooms, reserves}
 use Rattle.cyc_system.specs.System.{SystemView}
 use Rattle.cyc_system.specs.Refusals as why
 use Rattle.cyc_system.specs.Omni.{entering_each, component_first}

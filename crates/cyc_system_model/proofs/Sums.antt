@@ -5,7 +5,7 @@ use Rattle.std.proofs.lemmas.List.Sums.{sum_by-cons}
 use mathlib.Core.Logic.{dite}
 use native.Mathlib.Decide.{ℕ_discrete}
 use Rattle.cyc_types.specs.declared.firing.Sent.{Sent}
-use Rattle.cyc_timers.specs.Rows.{Cyclic as Timed}
+use Rattle.cyc_cpu_model.specs.Rows.{Cyclic as Timed}
 use Rattle.cyc_cpu.specs.Cpu.{HasNoCyclic, HasRisingIds}
 use Rattle.cyc_places.specs.Places.{no_counts}
 use Rattle.cyc_model.specs.Cpu.{Cyclic, Cpu, is_of}

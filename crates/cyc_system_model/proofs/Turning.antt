@@ -10,8 +10,8 @@ use Rattle.cyc_core.specs.Tables.{Tables}
 use Rattle.cyc_cpu.specs.Soft.{fires, firing_at as seen}
 use Rattle.cyc_cpu.specs.Calls.{AskPending, Reserve}
 use Rattle.cyc_places.specs.declared.record.Place.TheVariants as place
-use Rattle.cyc_cpus.specs.Cpus.{on as on_cpu}
-use Rattle.cyc_cpus.specs.Destination.{destination as destination_in}
+use Rattle.cyc_system.specs.Cpus.{on as on_cpu}
+use Rattle.cyc_system.specs.Destination.{destination as destination_in}
 use Rattle.cyc_system.specs.System.{SystemView}
 use Rattle.cyc_system.specs.Binding.{HasPlace, Records}
 use Rattle.cyc_system.specs.Turn.{Turn as TurnThere}

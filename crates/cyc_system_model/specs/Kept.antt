@@ -2,7 +2,7 @@
 use Rattle.std.specs.Prelude.{◌≡◌, ℕ, List, [], All}
 use Rattle.cyc_level.specs.Level.{empty_level}
 use Rattle.cyc_core.specs.Tables.{Tables, level_of}
-use Rattle.cyc_cpus.specs.Cpus.{new_cpus}
+use Rattle.cyc_system.specs.Cpus.{new_cpus}
 use Rattle.cyc_system.specs.System.{SystemView}
 
 -- the lock and the low level of each CPU are new

@@ -14,3 +14,17 @@ pub use Rattle.cyc_system.specs.declared.interrupting.SoftFault
 pub use Rattle.cyc_system.specs.Splitting
 pub use Rattle.cyc_system.specs.System
 pub use Rattle.cyc_system.specs.SystemRemoval
+pub use Rattle.cyc_cpu_model.specs.Answers
+pub use Rattle.cyc_cpu_model.specs.Shown as CpuModelShown
+pub use Rattle.cyc_cpu_model.specs.Tied
+pub use Rattle.cyc_system.specs.Cpus
+pub use Rattle.cyc_system.specs.Shifting
+pub use Rattle.cyc_places.specs.Places
+pub use Rattle.cyc_cpu.specs.Cpu
+pub use Rattle.cyc_cpu.specs.Soft
+pub use Rattle.cyc_cpu.specs.Calls as CpuCalls
+pub use Rattle.cyc_cpu.specs.Quiet
+pub use Rattle.cyc_cpu_model.specs.Rows
+pub use Rattle.cyc_cpu.specs.Acts
+pub use Rattle.cyc_cpu.specs.Made
+pub use Rattle.cyc_cpu.specs.FireRefused

@@ -2,7 +2,7 @@
 use Rattle.std.specs.Prelude.{ℕ, ◌≤◌}
 use Rattle.cyc_types.specs.Limits.{cyclics as most_cyclics}
 use Rattle.cyc_cpu.specs.Cpu.{CpuView}
-use Rattle.cyc_cpus.specs.Cpus.{CpusView, IsCpu}
+use Rattle.cyc_system.specs.Cpus.{CpusView, IsCpu}
 
 -- the CPU has memory for as many cyclics as one can have, and for the indexes that it has: it takes none any more
 abbrev pub HasAllRoom : {R : Type 0} → CpuView R → Type 0

@@ -2,7 +2,7 @@
 use Rattle.std.specs.Prelude.{◌≡◌, ℕ, ◌+◌, [], ◌∷◌, length, None}
 use Rattle.cyc_core.specs.Tables.{Tables}
 use Rattle.cyc_soft.specs.declared.Ran.{Ran}
-use Rattle.cyc_fire.specs.declared.fire.Fired.{Fired}
+use Rattle.cyc_cpu.specs.Fired.{Fired}
 use Rattle.cyc_script.specs.declared.step.Softint.{Softint as SoftintStep}
 use Rattle.cyc_system.specs.System.{RunningSystem}
 use Rattle.cyc_model.specs.Acts.{calls_of, calls_in, losses_in}

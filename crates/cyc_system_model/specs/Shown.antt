@@ -8,7 +8,7 @@ use Rattle.cyc_places.specs.declared.record.Place.{Place as RecordPlace}
 use Rattle.cyc_places.specs.declared.record.Place.TheVariants as place
 use Rattle.cyc_places.specs.declared.record.Record.{Record}
 use Rattle.cyc_places.specs.Places.{IsRecord, HasRisingIds, ended_on, no_counts}
-use Rattle.cyc_cpus.specs.Cpus.{CpusView, IsCpu}
+use Rattle.cyc_system.specs.Cpus.{CpusView, IsCpu}
 use Rattle.cyc_system.specs.System.{SystemView}
 use Rattle.cyc_system.specs.Agreement.{Agrees}
 use Rattle.cyc_model.specs.Cpu.{Cpu}

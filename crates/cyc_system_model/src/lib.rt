@@ -12,8 +12,8 @@ ghost use Rattle.cyc_types.specs.Refusals.{number_of};
 ghost use Rattle.cyc_text.specs.Lines.{accepted, refused, cyclics_left, moved};
 ghost use Rattle.cyc_core.specs.Tables.{Tables};
 ghost use Rattle.cyc_soft.specs.declared.Ran.{Ran};
-ghost use Rattle.cyc_fire.specs.declared.fire.Fired.{Fired};
-ghost use Rattle.cyc_fire.specs.declared.fire.FireRefused.{FireRefused};
+ghost use Rattle.cyc_cpu.specs.Fired.{Fired};
+ghost use Rattle.cyc_cpu.specs.FireRefused.{FireRefused};
 ghost use Rattle.cyc_cpu.specs.Soft.{fires, firing_at, Interrupts};
 ghost use Rattle.cyc_cpu.specs.Calls.{no_interrupts};
 ghost use Rattle.cyc_script.specs.declared.step.Add.{Add as AddStep};
@@ -48,6 +48,7 @@ ghost use Rattle.cyc_system_model.specs.Running.{IsFired, IsServed};
 ghost use Rattle.cyc_system_model.specs.Advancing.{at_clock, HasFired, IsAdvanced};
 ghost use Rattle.cyc_system_model.specs.Words.{IsSeries, IsMoment, IsDone, IsDoneWith, IsRefusedFor, IsAtOnce, reprograms};
 
+pub use cyc_cpu::Hard;
 pub use cyc_system::{SoftFault, System, SystemRemoval, others_law};
 use cyc_types::Calls;
 

@@ -13,8 +13,8 @@ use Rattle.cyc_cpu.specs.Moving.{IsSettled}
 use Rattle.cyc_cpu.specs.Calls.{Changes as CpuChanges, AskTotals as CpuTotals}
 use Rattle.cyc_system_workers.proofs.Reading.{totals_settled}
 use Rattle.cyc_system_workers.specs.Settled.{AllSettled}
-use Rattle.cyc_cpus.specs.Cpus.{CpusView, IsCpu, with_cpu, on, DoesAt, Works}
-use Rattle.cyc_cpus.proofs.Spots.{one_cpu, cpu_there, cpu_beside}
+use Rattle.cyc_system_counts.specs.Cpus.{CpusView, IsCpu, with_cpu, on, DoesAt, Works}
+use Rattle.cyc_system_counts.proofs.CpusSpots.{one_cpu, cpu_there, cpu_beside}
 use Rattle.cyc_system_workers.specs.System.{SystemView}
 use Rattle.cyc_system_counts.specs.SystemTotals.{SystemTotals}
 use Rattle.cyc_system_counts.specs.Counting.{Counted, asked}

@@ -9,7 +9,7 @@ use Rattle.cyc_types.specs.declared.moment.When.{When}
 use Rattle.cyc_script.specs.declared.step.Step.{Step}
 use Rattle.cyc_script.specs.declared.step.Step.TheVariants as steps
 use Rattle.cyc_system_workers.specs.Lead.{Lead}
-use Rattle.cyc_cpus.specs.Cpus.{CpusView}
+use Rattle.cyc_system_counts.specs.Cpus.{CpusView}
 use Rattle.cyc_system_workers.specs.System.{SystemView}
 use Rattle.cyc_system_workers.specs.Calls.{SystemCall, Changes, PollRemove}
 use Rattle.cyc_system_laws.specs.Parts.{CpusCall, OnCpu, SetOnline, DoesPart, IsMadeOf}

@@ -3,7 +3,7 @@ use Rattle.std.proofs.Common.{◌≡◌, ◌≢◌, ℕ, suc, ◌+◌, ◌-◌, 
 use Rattle.std.proofs.Common.{mod-eq_of_lt, arith}
 use Rattle.std.proofs.lemmas.Nat.{mul-mod_first}
 use native.Mathlib.Nat.{pow-suc}
-use Rattle.cyc_types.specs.Limits.{greatest_bank, cyclics}
+use Rattle.cyc_level.specs.Limits.{greatest_bank, cyclics}
 use Rattle.ring_rule.specs.Words.{spread, place}
 use Rattle.ring_rule.specs.Apart.{PendsAreApart, PlacesAreApart, BanksAreApart, WordsAreApart}
 use Rattle.ring_rule.proofs.Words.{pend_low, pend_distinct, place_high, place_low, turned_back, same_turn}

@@ -9,7 +9,7 @@ use Rattle.cyc_level.specs.Level.{Cyclic, Level, soft_list}
 use Rattle.cyc_level.specs.Lawful.{Lawful}
 use Rattle.cyc_level.specs.Events.{AllEnabled}
 use Rattle.cyc_level.proofs.Keeps.{always_lawful, same_ceiling}
-use Rattle.cyc_types.specs.Limits.{greatest_bank, cyclics}
+use Rattle.cyc_level.specs.Limits.{greatest_bank, cyclics}
 use Rattle.ring_rule.specs.Words.{pend_word, word_count}
 use Rattle.ring_rule.specs.declared.RaiseStep.{RaiseStep}
 use Rattle.ring_rule.specs.declared.DrainStep.{DrainStep}

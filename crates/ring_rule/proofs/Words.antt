@@ -9,7 +9,7 @@ use Rattle.std.specs.Option.{option_map}
 use Rattle.cyc_level.specs.Level.{Cyclic, Cyclics}
 use Rattle.cyc_level.specs.Events.{changed_at, first_of}
 use Rattle.cyc_level.proofs.Maps.{some_same, at_cases}
-use Rattle.cyc_types.specs.Limits.{greatest_bank, cyclics}
+use Rattle.cyc_level.specs.Limits.{greatest_bank, cyclics}
 use Rattle.ring_rule.specs.Words.{spread, pend_word, place, producer_word, entry}
 use Rattle.ring_rule.specs.Shown.{HoldsEntry, BankHolds, IsHandStored}
 

@@ -1,6 +1,6 @@
 -- No two uses of a ring share a word, and no word of a bank or of the pend words is unused.
 use Rattle.std.specs.Prelude.{◌≡◌, ◌≢◌, ℕ, ◌+◌, ◌-◌, ◌%◌, ◌<◌, ◌≤◌, ◌↔◌}
-use Rattle.cyc_types.specs.Limits.{greatest_bank, cyclics}
+use Rattle.cyc_level.specs.Limits.{greatest_bank, cyclics}
 use Rattle.cyc_level.specs.Level.{bank_size}
 use Rattle.ring_rule.specs.Words.{pend_word, place, producer_word}
 

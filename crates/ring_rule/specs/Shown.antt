@@ -1,7 +1,7 @@
 -- The level that the words and the two trails show.
 use Rattle.std.specs.Prelude.{◌≡◌, ◌≢◌, ℕ, ◌+◌, ◌*◌, ◌%◌, ◌<◌, ◌≤◌, ◌==◌, if◌then◌else◌, true, Option, Some, None, List, [], ◌∷◌}
 use Rattle.std.specs.Prelude.{length, slice_index, ⊤}
-use Rattle.cyc_types.specs.Limits.{greatest_bank, cyclics}
+use Rattle.cyc_level.specs.Limits.{greatest_bank, cyclics}
 use Rattle.cyc_level.specs.Level.{Cyclic, Cyclics, Level, count, soft_list, in_hand}
 use Rattle.cyc_level.specs.Runs.{StayCounts}
 use Rattle.ring_rule.specs.declared.RaiseStep.{RaiseStep}

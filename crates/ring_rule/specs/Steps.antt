@@ -3,7 +3,7 @@ use Rattle.std.specs.Prelude.{◌≡◌, ◌≢◌, ℕ, ◌%◌, ◌^◌, ◌<�
 use mathlib.Core.Option.{some}
 use lib.ListN.{get_elem?}
 use Rattle.atomic_table.specs.Table.{Me, Step, Allows, keeps, stepped}
-use Rattle.cyc_types.specs.Limits.{greatest_bank, cyclics}
+use Rattle.cyc_level.specs.Limits.{greatest_bank, cyclics}
 use Rattle.cyc_level.specs.Lawful.{IsId}
 use Rattle.ring_rule.specs.declared.RaiseStep.{RaiseStep}
 use Rattle.ring_rule.specs.declared.RaiseStep.TheVariants.{Admitted, Loaded, Lost, Added, Stored, Published, Marked, Cleared}

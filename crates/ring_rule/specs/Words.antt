@@ -1,6 +1,6 @@
 -- The words of a ring: one table of 64-bit words for each CPU and soft level, and where each of them lies in it.
 use Rattle.std.specs.Prelude.{ℕ, ◌+◌, ◌-◌, ◌*◌, ◌/◌, ◌%◌, ◌^◌, nat_lt, if◌then◌else◌}
-use Rattle.cyc_types.specs.Limits.{greatest_bank, cyclics}
+use Rattle.cyc_level.specs.Limits.{greatest_bank, cyclics}
 use Rattle.cyc_level.specs.Level.{bank_size}
 
 -- which of so many words, a power of two, an index has. Nine is odd, so each word is some index's. Neighbours lie nine words

@@ -1,7 +1,7 @@
 use Rattle.std.proofs.Common.{◌≡◌, ◌≤◌, false, Some, Err, [], length, filter, refl, ap, ◌∙◌, subst, arith}
 use Rattle.std.specs.Option.{option_map}
 use Rattle.std.proofs.lemmas.Result.{err_from_is_err_and}
-use Rattle.cyc_cpu.specs.Cpu.{CpuView, MayWiden}
+use Rattle.cyc_agreement.specs.Cpu.{CpuView, MayWiden}
 use Rattle.cyc_agreement.specs.Cpus.{with_cpu}
 use Rattle.cyc_agreement.proofs.CpuSpots.{one_cpu, cpu_there, of_cpu}
 use Rattle.cyc_agreement.proofs.Presence.{online_read}

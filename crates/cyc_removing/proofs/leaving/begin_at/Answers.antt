@@ -1,8 +1,8 @@
 use Rattle.std.proofs.Common.{◌+◌, ◌≤◌, arith, Ok, refl, sym, ap, ◌∙◌, subst}
-use Rattle.cyc_cpu.specs.declared.removing.Removal.TheVariants.{Done, Kept}
+use Rattle.cyc_agreement.specs.Removal.TheVariants.{Done, Kept}
 use Rattle.cyc_types.specs.declared.firing.Sent.{Sent}
-use Rattle.cyc_cpu.specs.Cpu.{CpuView}
-use Rattle.cyc_cpu.specs.Calls.{Changes, BeginRemove}
+use Rattle.cyc_agreement.specs.Cpu.{CpuView}
+use Rattle.cyc_agreement.specs.Calls.{Changes, BeginRemove}
 use Rattle.cyc_agreement.proofs.CpuSpots.{changed, one_cpu}
 use Rattle.cyc_agreement.proofs.Presence.{cyclic_here}
 use Rattle.cyc_removing.specs.Removing.{counts_of}

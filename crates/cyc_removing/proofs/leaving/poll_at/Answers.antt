@@ -1,7 +1,7 @@
 use Rattle.std.proofs.Common.{◌+◌, ◌≤◌, arith, Some, None, refl, sym, ap, ◌∙◌, subst}
 use Rattle.cyc_types.specs.declared.firing.Sent.{Sent}
-use Rattle.cyc_cpu.specs.Cpu.{CpuView}
-use Rattle.cyc_cpu.specs.Calls.{Changes, PollRemove}
+use Rattle.cyc_agreement.specs.Cpu.{CpuView}
+use Rattle.cyc_agreement.specs.Calls.{Changes, PollRemove}
 use Rattle.cyc_agreement.proofs.CpuSpots.{changed, one_cpu}
 use Rattle.cyc_removing.specs.Removing.{counts_of}
 use Rattle.cyc_places.specs.Places.{ended_on, summed}

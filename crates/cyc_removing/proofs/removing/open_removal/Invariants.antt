@@ -1,6 +1,6 @@
 use Rattle.std.proofs.Common.{◌≡◌, ℕ, ◌<◌, ◌==◌, true, None, map, drop}
 use Rattle.std.specs.List.{list_any}
-use Rattle.cyc_model.specs.Refusals.{first_refusal, busy}
+use Rattle.cyc_agreement.specs.ModelRefusals.{first_refusal, busy}
 use Rattle.cyc_agreement.specs.Cpus.{numbers_from}
 use Rattle.cyc_agreement.specs.System.{has, removal_on, ids_of}
 use Rattle.cyc_removing.specs.Removing.{cpus_with}

@@ -1,5 +1,5 @@
 use Rattle.std.proofs.Common.{◌+◌, sym, ap, ◌∙◌, subst, arith}
-use Rattle.cyc_cpu.specs.Calls.{Changes, AskTotals}
+use Rattle.cyc_agreement.specs.Calls.{Changes, AskTotals}
 use Rattle.cyc_agreement.specs.Cpus.{with_cpu}
 use Rattle.cyc_agreement.proofs.Holding.{holds_same}
 use Rattle.cyc_removing.specs.declared.totals.SystemTotals.{SystemTotals}

@@ -1,7 +1,7 @@
 use Rattle.std.proofs.Common.{◌≡◌, ap, sym, ◌∙◌, subst}
 use Rattle.std.specs.Prelude.{All}
 use Rattle.cyc_core.specs.Tables.{Tables}
-use Rattle.cyc_cpu.specs.Soft.{firing_at}
+use Rattle.cyc_system_model.specs.Soft.{firing_at}
 use Rattle.cyc_system_model.specs.System.{SystemView}
 use Rattle.cyc_system_model.specs.Splitting.{EachTwo, AllComeBack}
 use Rattle.cyc_script_machine.specs.Beginning.{IsEmpty, HasReserved}
