@@ -79,11 +79,12 @@ module _ {C R : Type 0} (called : C → ℕ → Level → C → Type 0) (count :
   not_refused : (a : Option (Result Fired FireRefused)) (e : FireRefused) → refusal_of a ≡ None → a ≡ Some (Err e) → ⊥
   not_refused a e none is = none_some (sym none ∙ ap refusal_of is)
 
+  pub accepted_fires : (now : ℕ) (s t : Progress R C) (f : Fires called count may_refuse step view now s t) → AllAccepted f.after
+  accepted_fires now s t f n e is = not_refused (Some (Err e)) e
+      (sym (at_number f.after.answers.items n (Some (Err e)) is) ∙ f.accepted n) refl
+
   fires_go : (now : ℕ) (s t : Progress R C) → Fires called count may_refuse step view now s t → Goes s (FireAll now ∷ []) t
-  fires_go now s t f =
-      let all : AllAccepted f.after = λ n e is. not_refused (Some (Err e)) e
-      (sym (at_number f.after.answers.items n (Some (Err e)) is) ∙ f.accepted n) refl in
-      (t.side, (f.after, f.fired, all, f.side, f.sound), refl)
+  fires_go now s t f = (t.side, (f.after, f.fired, accepted_fires now s t f, f.side, f.sound), refl)
 
   pub does_go : (x : Step) (s t : Progress R C) (d : Does called count may_refuse step view x s t)
       → Goes s (calls_in (call_of called count may_refuse step view x s t d)) t

@@ -131,7 +131,7 @@ module _ (many : ℕ) (g : ℕ → Option ℕ) (way : List LeadCall) (names : Li
           (fits_on (g m) (named_at names m) c (λ own e. none own) (k.fits m (within m low)))))
 
   -- the id of a name
-  its_id : (o : Option ℕ) (named : Named) (id : ℕ) → id_of named ≡ Some id → Fits o way named
+  pub its_id : (o : Option ℕ) (named : Named) (id : ℕ) → id_of named ≡ Some id → Fits o way named
       → (o ≡ Some id) × (receipt_in id way ≡ None)
   its_id o Nothing id e f = absurd (none_some e)
   its_id o (Cyclic own) id e (p, q) = (p ∙ e, subst (λ j. receipt_in j way ≡ None) (same_some e) q)
@@ -139,7 +139,7 @@ module _ (many : ℕ) (g : ℕ → Option ℕ) (way : List LeadCall) (names : Li
   its_id o (Removed receipt) id e f = absurd (none_some e)
 
   -- a name with an id is among the names
-  its_place : (names : List Named) (name id : ℕ) → id_of (named_at names name) ≡ Some id → name < length names
+  pub its_place : (names : List Named) (name id : ℕ) → id_of (named_at names name) ≡ Some id → name < length names
   its_place names name id e = by (cases_lt name (length names))
     where
       by : (name < length names) ⊎ (length names ≤ name) → name < length names

@@ -13,6 +13,7 @@ pub mod Spared
 pub mod Leveled
 pub mod Worded
 pub mod Owning
+pub mod Polled
 pub use Rattle.cyc_system_expected.proofs.WholeRun
 pub use Rattle.cyc_threads.proofs.Lists
 pub use Rattle.cyc_threads.proofs.Spots

@@ -86,7 +86,7 @@ module _ {C R : Type 0} (called : C → ℕ → Level → C → Type 0) (count :
 
   -- ---- removals
 
-  begins : (g : ℕ → Option ℕ) (way : List LeadCall) (name id : ℕ) (answer : Result SystemRemoval Refusal) (s t : Progress R C)
+  pub begins : (g : ℕ → Option ℕ) (way : List LeadCall) (name id : ℕ) (answer : Result SystemRemoval Refusal) (s t : Progress R C)
       → id_of (named_at s.names name) ≡ Some id → CallsFor step view name (BeginRemove id answer) s t → Held g way s
       → Held g (way ++ Make (BeginRemove id answer) ∷ []) t
   begins g way name id (Ok (Kept calls)) s t has c k =
@@ -96,7 +96,7 @@ module _ {C R : Type 0} (called : C → ℕ → Level → C → Type 0) (count :
       (id, refl, ap (λ o. first_of o None) (receipt_own id receipt)) k
   begins g way name id (Err e) s t has c k = quiet g way name _ s t c refl (λ own. refl) k
 
-  polls : (g : ℕ → Option ℕ) (way : List LeadCall) (name id : ℕ) (answer : Result (Option Receipt) Refusal) (s t : Progress R C)
+  pub polls : (g : ℕ → Option ℕ) (way : List LeadCall) (name id : ℕ) (answer : Result (Option Receipt) Refusal) (s t : Progress R C)
       → id_of (named_at s.names name) ≡ Some id → CallsFor step view name (PollRemove id answer) s t → Held g way s
       → Held g (way ++ Make (PollRemove id answer) ∷ []) t
   polls g way name id (Ok (Some receipt)) s t has c k =
@@ -162,7 +162,7 @@ module _ {C R : Type 0} (called : C → ℕ → Level → C → Type 0) (count :
   with_held Answer call g way name s t each (Some id) has (answer, did) k = each id answer has did k
   with_held Answer call g way name s t each None has e k = same_held g way s t e k
 
-  does_held : (g : ℕ → Option ℕ) (way : List LeadCall) (x : Step) (s t : Progress R C)
+  pub does_held : (g : ℕ → Option ℕ) (way : List LeadCall) (x : Step) (s t : Progress R C)
       (d : Does called count may_refuse step view x s t) → Held g way s
       → Held (λ n. later_id (g n) (given_in n x (call_of called count may_refuse step view x s t d)))
       (way ++ calls_in (call_of called count may_refuse step view x s t d)) t
@@ -204,7 +204,7 @@ module _ {C R : Type 0} (called : C → ℕ → Level → C → Type 0) (count :
       (polls_held all g (way ++ Make (PollRemove p.id p.answer) ∷ []) u t rest
       (polls g way p.name p.id p.answer s u (ap id_of here) did k))
 
-  wait_held : (g : ℕ → Option ℕ) (way : List LeadCall) (s t : Progress R C) (w : Waits step view s t) → Held g way s
+  pub wait_held : (g : ℕ → Option ℕ) (way : List LeadCall) (s t : Progress R C) (w : Waits step view s t) → Held g way s
       → Held g (way ++ wait_calls step view s t w) t
   wait_held g way s t (all, u, run, q) k =
       subst (λ w. Held g w t) (append_assoc way (poll_calls all) (AskAll ∷ []))
@@ -212,7 +212,7 @@ module _ {C R : Type 0} (called : C → ℕ → Level → C → Type 0) (count :
       t.names t.side.system.last
       (λ own. refl) q.names (let a = q.asked.last in omega (arith, a)))
 
-  begin_held : (g : ℕ → Option ℕ) (way : List LeadCall) (b : Bool) (s t : Progress R C) (w : Begins step view b s t)
+  pub begin_held : (g : ℕ → Option ℕ) (way : List LeadCall) (b : Bool) (s t : Progress R C) (w : Begins step view b s t)
       → Held g way s
       → Held g (way ++ begin_calls step view b s t w) t
   begin_held g way false s t e k = same_held g way s t e k

@@ -4,6 +4,7 @@ pub mod Giving
 pub mod Lines
 pub mod Calling
 pub mod Levels
+pub mod Answering
 pub use Rattle.cyc_threads.specs.Line
 pub use Rattle.cyc_threads.specs.declared.running.Ended
 pub use Rattle.cyc_threads.specs.Reporting

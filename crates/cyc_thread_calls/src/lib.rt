@@ -2,6 +2,7 @@
 //! do nothing when they run. Their clauses are the laws, so that they are proved.
 #![tactic(auto)]
 
+mod answering;
 mod calling;
 mod giving;
 mod leading;
@@ -9,6 +10,7 @@ mod meeting;
 mod naming;
 mod reporting;
 
+pub use answering::answering_law;
 pub use calling::called_law;
 pub use giving::{giving_law, owned_law};
 pub use leading::{leading_law, opened_law};

@@ -14,6 +14,8 @@ pub use Rattle.cyc_system_laws.proofs.Stills
 pub use Rattle.cyc_system_workers.proofs.Beginning
 pub use Rattle.cyc_system_counts.proofs.Looked
 pub use Rattle.cyc_system_counts.proofs.Folds
+pub use Rattle.cyc_system_counts.proofs.Others
+pub use Rattle.cyc_system_counts.proofs.Where
 pub use Rattle.cyc_system_laws.proofs.Staying
 pub use Rattle.cyc_system_workers.proofs.Presence
 pub use Rattle.cyc_system_workers.proofs.Refusing as AgreementRefusing

@@ -17,6 +17,8 @@ pub use Rattle.cyc_thread_steps.proofs.Stills
 pub use Rattle.cyc_thread_steps.proofs.Beginning
 pub use Rattle.cyc_thread_steps.proofs.Looked
 pub use Rattle.cyc_thread_steps.proofs.Folds
+pub use Rattle.cyc_thread_steps.proofs.Others
+pub use Rattle.cyc_thread_steps.proofs.Where
 pub use Rattle.cyc_thread_steps.proofs.Staying
 pub use Rattle.cyc_thread_steps.proofs.Presence
 pub use Rattle.cyc_thread_steps.proofs.AgreementRefusing as Refusing
