@@ -2,6 +2,7 @@ pub mod Totals
 pub mod Given
 pub mod Spared
 pub mod Lasting
+pub mod Components
 pub use Rattle.cyc_system_counts.proofs.Lists
 pub use Rattle.cyc_system_counts.proofs.Presence
 pub use Rattle.cyc_system_counts.proofs.Spots

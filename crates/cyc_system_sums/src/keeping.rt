@@ -1,7 +1,8 @@
-//! Laws of what a fire and a soft interrupt keep of each cyclic.
+//! Laws of what a fire and a soft interrupt keep of each cyclic, and a CPU that goes offline of those on all CPUs.
 
-ghost use Rattle.std.specs.Prelude.{ℕ, Result};
+ghost use Rattle.std.specs.Prelude.{◌≡◌, ◌≢◌, true, ℕ, Result};
 ghost use Rattle.cyc_types.specs.declared.level.Soft.{Soft};
+ghost use Rattle.cyc_types.specs.declared.refusal.Refusal.{Refusal as Reason};
 ghost use Rattle.cyc_core.specs.Tables.{Tables};
 ghost use Rattle.cyc_fire.specs.declared.fire.Fired.{Fired};
 ghost use Rattle.cyc_fire.specs.declared.fire.FireRefused.{FireRefused};
@@ -9,8 +10,9 @@ ghost use Rattle.cyc_soft.specs.declared.Ran.{Ran};
 ghost use Rattle.cyc_cpu.specs.Calls.{no_interrupts};
 ghost use Rattle.cyc_cpu.specs.Soft.{fires, firing_at, Interrupts};
 ghost use Rattle.cyc_system_counts.specs.SoftFault.{SoftFault};
-ghost use Rattle.cyc_system_counts.specs.System.{RunningSystem};
-ghost use Rattle.cyc_system_counts.specs.Calls.{Does, FireOne, SoftInterrupt};
+ghost use Rattle.cyc_system_counts.specs.System.{SystemView, RunningSystem, is_omnipresent};
+ghost use Rattle.cyc_system_counts.specs.Laws.{cyclic_on};
+ghost use Rattle.cyc_system_counts.specs.Calls.{Changes, Does, FireOne, Offline, SoftInterrupt};
 ghost use Rattle.cyc_system_counts.specs.Sound.{IsSound};
 ghost use Rattle.cyc_system_counts.specs.Keeping.{SameStays};
 ghost use Rattle.cyc_system_sums.specs.Kinds.{SameKinds};
@@ -37,4 +39,14 @@ pub fn interrupts_law<C: Calls>()
         → Does C.called C.count C.may_refuse fires firing_at (Interrupts C.called C.count C.may_refuse) s
         (SoftInterrupt n level budget answer) t
         → SameStays id s.system t.system }
+{}
+
+/// A CPU that goes offline touches no component of an omnipresent cyclic but its own: on every other CPU the cyclic has the level,
+/// the interval, the next expiration, the expirations and the losses that it had, whatever the call answers and whichever cyclics
+/// moved there.
+///
+/// It does nothing when it runs: its clause is the law.
+pub fn offlines_law<R: Raise>()
+    ensures { (id n m : ℕ) (answer : Result (Unit {0}) Reason) (s t : SystemView R) → is_omnipresent id s ≡ true → m ≢ n
+        → Changes R.step R.view s (Offline n answer) t → cyclic_on m id t.cpus ≡ cyclic_on m id s.cpus }
 {}

@@ -1,12 +1,12 @@
 //! Laws of what a system's calls add up to for a cyclic, over all CPUs: what the fires of a run make of it and lose, what a
-//! fire and a soft interrupt keep of it, what a receipt says, and where nothing of it is lost. The functions here do nothing when
-//! they run. Their clauses are the laws, so that they are proved.
+//! fire, a soft interrupt and a CPU that goes offline keep of it, what a receipt says, and where nothing of it is lost. The
+//! functions here do nothing when they run. Their clauses are the laws, so that they are proved.
 #![tactic(auto)]
 
 mod keeping;
 mod sparing;
 mod totalling;
 
-pub use keeping::{fires_law, interrupts_law};
+pub use keeping::{fires_law, interrupts_law, offlines_law};
 pub use sparing::{spared_core_law, spared_law, unused_law};
 pub use totalling::{expirations_core_law, expirations_law};
