@@ -1,10 +1,9 @@
 -- What a call of a system keeps of each CPU: the removal that is open there, and the cyclic of an id that it doesn't touch.
 use Rattle.std.proofs.Common.{◌≡◌, ◌≢◌, ◌∙◌, ◌==◌, ℕ, zero, suc, inl, inr, Bool, true, false, cond, find, filter, Option}
-use Rattle.std.proofs.Common.{Some, None, Result, Ok, Err, List, [], ◌∷◌, ◌++◌, take, drop, map, slice_set, refl, sym, ap}
-use Rattle.std.specs.Prelude.{is_some, not, insert, ◌||◌}
+use Rattle.std.proofs.Common.{Some, None, Result, Ok, Err, List, [], ◌∷◌, map, slice_set, refl, sym, ap}
+use Rattle.std.specs.Prelude.{is_some, not, ◌||◌}
 use Rattle.std.specs.List.{slice_get, FoldsTo}
 use Rattle.std.specs.Option.{option_and_then, option_map_or}
-use Rattle.std.proofs.lemmas.List.{take-append-drop}
 use Rattle.std.proofs.lemmas.Option.{slice_get_within, get_or_from_slice_get}
 use mathlib.Core.Logic.{dite}
 use native.Mathlib.Decide.{ℕ_discrete}
@@ -38,28 +37,10 @@ use Rattle.cyc_system_rings.specs.SystemRemoval.TheVariants as over
 use Rattle.cyc_system_rings.specs.Calls.{SystemCall, Changes, Add, AddOmni, Bind, BeginRemove, PollRemove, AskTotals, Reprogram}
 use Rattle.cyc_system_rings.specs.Calls.{ReprogramOn, Juggle, Offline, Online, FireOne, SoftInterrupt}
 use Rattle.cyc_system_rings.proofs.Idle.{IsIdle}
+use Rattle.cyc_system_sums.proofs.Components.{find_insert}
 use Rattle.cyc_system_expected.proofs.Walks.{May, Needs, Keeps, kept}
 
 -- ---- lists
-
-first_found : {A : Type 0} → Option A → Option A → Option A
-first_found None o = o
-first_found (Some x) o = Some x
-
-find_on : {A : Type 0} (p : A → Bool) (xs ys : List A) → find p (xs ++ ys) ≡ first_found (find p xs) (find p ys)
-unfolding first_found
-find_on p [] ys = refl
-find_on p (x ∷ xs) ys = by (p x) (find_on p xs ys)
-  where
-    by : (b : Bool) → find p (xs ++ ys) ≡ first_found (find p xs) (find p ys)
-        → cond b (Some x) (find p (xs ++ ys)) ≡ first_found (cond b (Some x) (find p xs)) (find p ys)
-    by true rest = refl
-    by false rest = rest
-
-find_insert : {A : Type 0} (p : A → Bool) (xs : List A) (k : ℕ) (x : A) → p x ≡ false → find p (insert xs k x) ≡ find p xs
-find_insert p xs k x fails = find_on p (take k xs) (x ∷ drop k xs)
-    ∙ (ap (λ b. first_found (find p (take k xs)) (cond b (Some x) (find p (drop k xs)))) fails
-    ∙ (sym (find_on p (take k xs) (drop k xs)) ∙ ap (find p) (take-append-drop k xs)))
 
 pub in_filter : {A : Type 0} (p : A → Bool) (xs : List A) (k : ℕ) (x : A) → slice_get (filter p xs) k ≡ Some x
     → (j : ℕ) × (slice_get xs j ≡ Some x) × (p x ≡ true)

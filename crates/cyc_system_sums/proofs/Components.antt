@@ -32,7 +32,7 @@ use Rattle.cyc_system_counts.proofs.Others.{at_place}
 
 -- ---- lists
 
-find_insert : {A : Type 0} (p : A → Bool) (xs : List A) (k : ℕ) (x : A) → p x ≡ false → find p (insert xs k x) ≡ find p xs
+pub find_insert : {A : Type 0} (p : A → Bool) (xs : List A) (k : ℕ) (x : A) → p x ≡ false → find p (insert xs k x) ≡ find p xs
 find_insert p xs k x fails = find-append p (take k xs) (x ∷ drop k xs)
     ∙ (ap (λ b. option_or (find p (take k xs)) (cond b (Some x) (find p (drop k xs)))) fails
     ∙ (sym (find-append p (take k xs) (drop k xs)) ∙ ap (find p) (take-append-drop k xs)))
