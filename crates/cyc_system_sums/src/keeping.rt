@@ -41,9 +41,9 @@ pub fn interrupts_law<C: Calls>()
         → SameStays id s.system t.system }
 {}
 
-/// A CPU that goes offline touches no component of an omnipresent cyclic but its own: on every other CPU the cyclic has the level,
-/// the interval, the next expiration, the expirations and the losses that it had, whatever the call answers and whichever cyclics
-/// moved there.
+/// A CPU that goes offline touches no component of an omnipresent cyclic but its own: on every other CPU the cyclic has the
+/// level, the interval, the next expiration, the expirations and the losses that it had, whatever the call answers and whichever
+/// cyclics moved there.
 ///
 /// It does nothing when it runs: its clause is the law.
 pub fn offlines_law<R: Raise>()
