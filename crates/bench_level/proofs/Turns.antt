@@ -13,7 +13,7 @@ use Rattle.cyc_types.specs.declared.firing.Raised.{Raised}
 use Rattle.cyc_types.specs.declared.firing.Raised.TheVariants.{First, More, Lost}
 use Rattle.cyc_types.proofs.RunStays.{learns_stay}
 use Rattle.cyc_level.specs.declared.Event.TheVariants.{Take, Follow}
-use Rattle.cyc_level.specs.Level.{Cyclic, Cyclics, Level, empty_level}
+use Rattle.cyc_level.specs.Level.{AdmittedCyclic, Cyclics, SoftLevel, empty_level}
 use Rattle.cyc_level.specs.Events.{after_finish, changed_at, cyclic_after_finish}
 use Rattle.cyc_level.proofs.Maps.{at_cases, none_some, some_same}
 use Rattle.cyc_core.specs.Reached.{Happens}
@@ -36,10 +36,10 @@ may_admit n v low f = (
     absent (Some s) is = let most = (f.only (n + 1) s is).0 in absurd (omega (arith, most))
 
 -- the empty level in the greatest bank
-pub expand_fills : (ceiling : ℕ) (l : Level) (v : FiringView) → l ≡ empty_level ceiling → Learns (firing_view l) (Expands 8) v
+pub expand_fills : (ceiling : ℕ) (l : SoftLevel) (v : FiringView) → l ≡ empty_level ceiling → Learns (firing_view l) (Expands 8) v
     → IsFilled 0 v
 expand_fills ceiling l v e is = subst (λ (x : FiringView). IsFilled 0 x) (sym is)
-    (subst (λ (x : Level). IsFilled 0 (record (firing_view x) { bank = 8; followed = false })) (sym e) (record {
+    (subst (λ (x : SoftLevel). IsFilled 0 (record (firing_view x) { bank = 8; followed = false })) (sym e) (record {
       bank = refl;
       ready = record { free = refl; unmarked = refl; stays = λ id some few. absurd (omega arith) };
       only = λ id s here. absurd (cc);
@@ -112,34 +112,34 @@ may_raise n most id v r some few low =
     ((s, here, omega (arith, sent, low)), (λ e. none_some ⊥ id v.marked r.unmarked e), r.free)
 
 -- the firing side sees the same before and after
-abbrev Same : Level → Level → Type 0
+abbrev Same : SoftLevel → SoftLevel → Type 0
 Same l m = (m.cyclics ≡ l.cyclics) × (m.marked ≡ l.marked) × (m.firer_hand ≡ l.firer_hand)
 
-same_as : (l m : Level) → l ≡ m → Same l m
+same_as : (l m : SoftLevel) → l ≡ m → Same l m
 same_as l m e = (
-  ap (λ (x : Level). x.cyclics) (sym e),
-  ap (λ (x : Level). x.marked) (sym e),
-  ap (λ (x : Level). x.firer_hand)
+  ap (λ (x : SoftLevel). x.cyclics) (sym e),
+  ap (λ (x : SoftLevel). x.marked) (sym e),
+  ap (λ (x : SoftLevel). x.firer_hand)
       (sym e),
 )
 
-same_on : (l m k : Level) → Same l m → Same m k → Same l k
+same_on : (l m k : SoftLevel) → Same l m → Same m k → Same l k
 same_on l m k a b = (b.0 ∙ a.0, b.1 ∙ a.1, b.2 ∙ a.2)
 
-took : (l m : Level) → Happens l Take m → Same l m
-took l m h = subst (λ (x : Level). Same l x) (sym h.1) (refl, refl, refl)
+took : (l m : SoftLevel) → Happens l Take m → Same l m
+took l m h = subst (λ (x : SoftLevel). Same l x) (sym h.1) (refl, refl, refl)
 
-followed : (l m : Level) → Happens l Follow m → Same l m
-followed l m h = subst (λ (x : Level). Same l x) (sym h.1) (refl, refl, refl)
+followed : (l m : SoftLevel) → Happens l Follow m → Same l m
+followed l m h = subst (λ (x : SoftLevel). Same l x) (sym h.1) (refl, refl, refl)
 
-looked : (old new : List ℕ) (b : Bool) (l m : Level) → FoldsTo Happens l (take_events old new b) m → Same l m
+looked : (old new : List ℕ) (b : Bool) (l m : SoftLevel) → FoldsTo Happens l (take_events old new b) m → Same l m
 looked old (x ∷ xs) true l m (j, h, e) = same_on l j m (took l j h) (same_as j m e)
 looked old [] true l m e = same_as l m e
 looked (x ∷ xs) new false l m (j, h, e) = same_on l j m (took l j h) (same_as j m e)
 looked [] (x ∷ xs) false l m (j, h, (k, i, e)) = same_on l j m (followed l j h) (same_on j k m (took j k i) (same_as k m e))
 looked [] [] false l m (j, h, e) = same_on l j m (followed l j h) (same_as j m e)
 
-same_ready : (n most : ℕ) (l m : Level) → Same l m → IsReady n most (firing_view l) → IsReady n most (firing_view m)
+same_ready : (n most : ℕ) (l m : SoftLevel) → Same l m → IsReady n most (firing_view l) → IsReady n most (firing_view m)
 same_ready n most l m s r = record {
   free = subst (λ (h : Option ℕ). is_none h ≡ true) (sym s.2) r.free;
   unmarked = s.1 ∙ r.unmarked;
@@ -147,23 +147,23 @@ same_ready n most l m s r = record {
       × (t.sent ≤ most)) (sym s.0) r.stays;
 }
 
-pub take_ready : (n most : ℕ) (l m : Level) (answer : Option ℕ) → IsReady n most (firing_view l) → Drains l (Takes answer) m
+pub take_ready : (n most : ℕ) (l m : SoftLevel) (answer : Option ℕ) → IsReady n most (firing_view l) → Drains l (Takes answer) m
     → IsReady n most (firing_view m)
 take_ready n most l m answer r d = same_ready n most l m (looked l.old_list l.new_list _ l m d.0) r
 
 -- a finish leaves the expirations of each cyclic
-finish_in : (o : Option Cyclic) (s : Stay) → option_map stay_of o ≡ Some s → (t : Stay)
+finish_in : (o : Option AdmittedCyclic) (s : Stay) → option_map stay_of o ≡ Some s → (t : Stay)
     × (option_map stay_of (option_map cyclic_after_finish o) ≡ Some t) × (t.sent ≡ s.sent)
 finish_in None s e = absurd (cc)
 finish_in (Some c) s e = (stay_of (cyclic_after_finish c), refl, ap (λ (x : Stay). x.sent) (some_same _ s e))
 
-finish_stays : (l : Level) (id j : ℕ) (s : Stay) → option_map stay_of (l.cyclics j) ≡ Some s →
+finish_stays : (l : SoftLevel) (id j : ℕ) (s : Stay) → option_map stay_of (l.cyclics j) ≡ Some s →
     (t : Stay) × (option_map stay_of (changed_at l.cyclics id (option_map cyclic_after_finish) j) ≡ Some t) × (t.sent ≡ s.sent)
 finish_stays l id j s e = at_cases l.cyclics id (option_map cyclic_after_finish)
     (λ k o. option_map stay_of (l.cyclics k) ≡ Some s → (t : Stay) × (option_map stay_of o ≡ Some t) × (t.sent ≡ s.sent))
     (finish_in (l.cyclics id) s) (λ k _ h. (s, h, refl)) j e
 
-finish_view : (n most : ℕ) (l : Level) (id : ℕ) → IsReady n most (firing_view l)
+finish_view : (n most : ℕ) (l : SoftLevel) (id : ℕ) → IsReady n most (firing_view l)
     → IsReady n most (firing_view (after_finish (Some id) l))
 finish_view n most l id r = record {
   free = r.free;
@@ -174,13 +174,13 @@ finish_view n most l id r = record {
       (t, there, omega (arith, low, same));
 }
 
-pub finish_ready : (n most : ℕ) (l m : Level) (id : ℕ) (answer : Finished) → IsReady n most (firing_view l)
+pub finish_ready : (n most : ℕ) (l m : SoftLevel) (id : ℕ) (answer : Finished) → IsReady n most (firing_view l)
     → Drains l (Finishes id answer) m → IsReady n most (firing_view m)
 finish_ready n most l m id answer r (hand, h, a) =
-    subst (λ (x : Level). IsReady n most (firing_view x)) (sym h.1)
+    subst (λ (x : SoftLevel). IsReady n most (firing_view x)) (sym h.1)
     (subst (λ (o : Option ℕ). IsReady n most (firing_view (after_finish o l))) (sym hand) (finish_view n most l id r))
 
-pub finish_hand : (n most : ℕ) (l m : Level) (hand : Option ℕ) (answer : Finished) → IsSome hand → IsReady n most (firing_view l)
+pub finish_hand : (n most : ℕ) (l m : SoftLevel) (hand : Option ℕ) (answer : Finished) → IsSome hand → IsReady n most (firing_view l)
     →
     IfSome hand (λ id. Drains l (Finishes id answer) m) → IsReady n most (firing_view m)
 finish_hand n most l m None answer some r d = absurd (cc)

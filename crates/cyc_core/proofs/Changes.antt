@@ -13,7 +13,7 @@ use Rattle.std.specs.List.{slice_get}
 use Rattle.std.proofs.lemmas.Option.{get_or_from_slice_get, slice_get-get_or, slice_get_within}
 use Rattle.cyc_level.specs.declared.Event.{Event}
 use Rattle.cyc_level.specs.declared.Event.TheVariants.{Admit, Expire, Lose, Publish, Take, Finish, Clear, Switch}
-use Rattle.cyc_level.specs.Level.{Cyclic, Level, count, count_in, in_hand}
+use Rattle.cyc_level.specs.Level.{AdmittedCyclic, SoftLevel, count, count_in, in_hand}
 use Rattle.cyc_level.specs.Events.{changed_at, admitted_cyclic, cyclic_after_expire, cyclic_after_lose, cyclic_after_finish}
 use Rattle.cyc_level.specs.Events.{hand_after_expire, hand_after_finish, first_of, rest_of, as_list, Enabled, after, after_finish}
 use Rattle.cyc_level.specs.Events.{reached, AllEnabled}
@@ -29,14 +29,14 @@ use Rattle.cyc_core.specs.Reached.{IsReached}
 use Rattle.cyc_core.specs.Shown.{shown, IsSound}
 use Rattle.cyc_finder.proofs.RisingIds.{look_up_read, look_up_written, look_up_removed, look_up_inserted}
 
-pub reached_lawful : (l : Level) → IsReached l → Lawful l
+pub reached_lawful : (l : SoftLevel) → IsReached l → Lawful l
 reached_lawful l (events, all, is) = subst Lawful (sym is) (always_lawful l.ceiling events all)
 
 -- one more enabled event
-pub reached_on : (l m : Level) (event : Event) → IsReached l → Enabled event l → m ≡ after event l → IsReached m
+pub reached_on : (l m : SoftLevel) (event : Event) → IsReached l → Enabled event l → m ≡ after event l → IsReached m
 reached_on l m event (events, all, is) may made =
     let on : m ≡ reached l.ceiling (event ∷ events) = made ∙ ap (after event) is in
-    let same : m.ceiling ≡ l.ceiling = ap (λ (x : Level). x.ceiling) on ∙ same_ceiling l.ceiling (event ∷ events) in (
+    let same : m.ceiling ≡ l.ceiling = ap (λ (x : SoftLevel). x.ceiling) on ∙ same_ceiling l.ceiling (event ∷ events) in (
       event ∷ events,
       subst (λ (k : ℕ). AllEnabled k (event ∷ events)) (sym same) (subst (Enabled event) is may, all),
       on
@@ -51,7 +51,7 @@ pub sound_by : (a b : Inside) (event : Event) → IsSound a → Enabled event (l
 sound_by a b event h may made ordered table old new = record {
   reached = reached_on (level_of (shown a)) (level_of (shown b)) event h.reached may made;
   ordered = ordered;
-  some_ceiling = (let same : b.ceiling ≡ a.ceiling = ap (λ (x : Level). x.ceiling) made
+  some_ceiling = (let same : b.ceiling ≡ a.ceiling = ap (λ (x : SoftLevel). x.ceiling) made
       ∙ ceiling_after event (level_of (shown a)) in let some = h.some_ceiling in omega (arith, same, some));
   table_room = (let r = h.table_room in omega (arith, r, table));
   old_room = (let r = h.old_room in omega (arith, r, old));
@@ -65,7 +65,7 @@ pub sound_roomy : (a b : Inside) (event : Event) → IsSound a → Enabled event
 sound_roomy a b event h may made ordered table old new = record {
   reached = reached_on (level_of (shown a)) (level_of (shown b)) event h.reached may made;
   ordered = ordered;
-  some_ceiling = (let same : b.ceiling ≡ a.ceiling = ap (λ (x : Level). x.ceiling) made
+  some_ceiling = (let same : b.ceiling ≡ a.ceiling = ap (λ (x : SoftLevel). x.ceiling) made
       ∙ ceiling_after event (level_of (shown a)) in let some = h.some_ceiling in omega (arith, same, some));
   table_room = table;
   old_room = old;
@@ -73,7 +73,7 @@ sound_roomy a b event h may made ordered table old new = record {
 }
 
 -- a table that changed at one id shows a map that changed there
-pub cyclics_changed : (xs ys : List Admitted) (id : ℕ) (o : Option Admitted) (f : Option Cyclic → Option Cyclic)
+pub cyclics_changed : (xs ys : List Admitted) (id : ℕ) (o : Option Admitted) (f : Option AdmittedCyclic → Option AdmittedCyclic)
     → ((q : ℕ) → lookup q ys ≡ cond (eqb q id) o (lookup q xs)) → option_map cyclic_of o ≡ f (cyclics_of xs id) →
     cyclics_of ys ≡ changed_at (cyclics_of xs) id f
 cyclics_changed xs ys id o f found same = λ z q. (ap (option_map cyclic_of) (found q) ∙ by q (eqb q id) refl) z
@@ -109,10 +109,10 @@ module _ (t : Tables) (ordered : Rises id_in t.table) (id place : ℕ) (at : IsA
   found_count = ap count_in found
 
   -- what holds of the cyclic holds of the entry
-  pub found_fact : (P : Cyclic → Type 0) → IsSomeAnd ((level_of t).cyclics id) P → P (cyclic_of c)
-  found_fact P h = subst (λ (o : Option Cyclic). IsSomeAnd o P) found h
+  pub found_fact : (P : AdmittedCyclic → Type 0) → IsSomeAnd ((level_of t).cyclics id) P → P (cyclic_of c)
+  found_fact P h = subst (λ (o : Option AdmittedCyclic). IsSomeAnd o P) found h
 
-  written : (f : Cyclic → Cyclic) (d : Admitted) → d.id ≡ c.id → cyclic_of d ≡ f (cyclic_of c)
+  written : (f : AdmittedCyclic → AdmittedCyclic) (d : Admitted) → d.id ≡ c.id → cyclic_of d ≡ f (cyclic_of c)
       → cyclics_of (set t.table place d) ≡ changed_at (cyclics_of t.table) id (option_map f)
   written f d same made = cyclics_changed t.table (set t.table place d) id (Some d) (option_map f)
       (look_up_written id_in t.table ordered id place at d (same ∙ found_id)) (ap Some made ∙ sym (ap (option_map f) found))
@@ -203,16 +203,16 @@ level_take_old t r ys differ items rest =
       drainer_hand = first_of (cond b t.new_list t.old_list);
     }) test)
 
-some_entry : (o : Option Admitted) (c : Cyclic) → option_map cyclic_of o ≡ Some c → IsSome o
+some_entry : (o : Option Admitted) (c : AdmittedCyclic) → option_map cyclic_of o ≡ Some c → IsSome o
 some_entry None c is = absurd (let none : ⊥ = cc in none)
 some_entry (Some e) c is = refl
 
 -- an admitted id has an entry
-pub entry_of : (t : Tables) (id : ℕ) (c : Cyclic) → (level_of t).cyclics id ≡ Some c → IsSome (lookup id t.table)
+pub entry_of : (t : Tables) (id : ℕ) (c : AdmittedCyclic) → (level_of t).cyclics id ≡ Some c → IsSome (lookup id t.table)
 entry_of t id c is = some_entry (lookup id t.table) c is
 
 -- the cyclic in the drainer's hand is admitted, and calls of it are outstanding
-pub held_cyclic : (l : Level) → Lawful l → (id : ℕ) → l.drainer_hand ≡ Some id → (c : Cyclic) × (l.cyclics id ≡ Some c)
+pub held_cyclic : (l : SoftLevel) → Lawful l → (id : ℕ) → l.drainer_hand ≡ Some id → (c : AdmittedCyclic) × (l.cyclics id ≡ Some c)
     × (0 < c.count)
 held_cyclic l law id holds = placed_cyclic l law id
     (let here = hand_here id in let same : in_hand id l.drainer_hand ≡ in_hand id (Some id) = ap (in_hand id) holds in
@@ -241,11 +241,11 @@ pub none_is_some : {X : Type 0} (o : Option X) (x : X) → o ≡ None → o ≡ 
 none_is_some o x none some = let wrong : ⊥ = cc in wrong
 
 -- the cyclic in the drainer's hand has calls outstanding
-pub held_count : (l : Level) → Lawful l → (id : ℕ) (c : Cyclic) → l.cyclics id ≡ Some c → l.drainer_hand ≡ Some id → 0 < c.count
+pub held_count : (l : SoftLevel) → Lawful l → (id : ℕ) (c : AdmittedCyclic) → l.cyclics id ≡ Some c → l.drainer_hand ≡ Some id → 0 < c.count
 held_count l law id c is holds =
     let (d, there, some) = held_cyclic l law id holds in
     let same : d ≡ c = same_some _ d c there is in
-    let count = ap (λ (x : Cyclic). x.count) same in
+    let count = ap (λ (x : AdmittedCyclic). x.count) same in
     omega (arith, some, count)
 
 -- the entry that stands at a place is that of its id

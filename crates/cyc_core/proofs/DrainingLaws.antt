@@ -9,18 +9,18 @@ use native.Mathlib.Decide.{ℕ_discrete}
 use Rattle.cyc_types.specs.Draining.{one_of}
 use Rattle.cyc_types.specs.declared.draining.Finished.TheVariants.{More, Last, LastOfRemoval}
 use Rattle.cyc_level.specs.declared.Event.TheVariants.{Take, Finish, Follow}
-use Rattle.cyc_level.specs.Level.{Cyclic, Level, count, count_in}
+use Rattle.cyc_level.specs.Level.{AdmittedCyclic, SoftLevel, count, count_in}
 use Rattle.cyc_level.specs.Events.{cyclic_after_finish, hand_after_finish, after, after_finish}
 use Rattle.cyc_level.specs.Lawful.{Lawful}
 use Rattle.cyc_level.proofs.Maps.{at_same, at_other}
 use Rattle.cyc_core.specs.DrainingSide.{done_in, done_of, is_marked, finished_at}
 use Rattle.cyc_core.proofs.Changes.{held_cyclic}
 
-module _ (l : Level) (law : Lawful l) (id : ℕ) (holds : l.drainer_hand ≡ Some id) where
-  abbrev n : Level
+module _ (l : SoftLevel) (law : Lawful l) (id : ℕ) (holds : l.drainer_hand ≡ Some id) where
+  abbrev n : SoftLevel
   n = after_finish (Some id) l
 
-  its : (c : Cyclic) × (l.cyclics id ≡ Some c) × (0 < c.count)
+  its : (c : AdmittedCyclic) × (l.cyclics id ≡ Some c) × (0 < c.count)
   its = held_cyclic l law id holds
 
   some : 0 < count l id
@@ -49,30 +49,30 @@ module _ (l : Level) (law : Lawful l) (id : ℕ) (holds : l.drainer_hand ≡ Som
   hand_is = ap (hand_after_finish (count l id)) holds
 
   -- the hand says whether calls are left
-  pub finish_more : (m : Level) → m ≡ after Finish l → is_some m.drainer_hand ≡ true → (b : Bool)
+  pub finish_more : (m : SoftLevel) → m ≡ after Finish l → is_some m.drainer_hand ≡ true → (b : Bool)
       → More ≡ finished_at (count m id) b
   finish_more m e is b =
       let same : m ≡ n = e ∙ finished in
-      let hand = sym (ap (λ (x : Level). is_some x.drainer_hand) same ∙ ap is_some hand_is) ∙ is in
-      let test : eqb (count m id) 0 ≡ false = ap (λ (x : Level). eqb (count x id) 0) same ∙ ap (λ (k : ℕ). eqb k 0) left
+      let hand = sym (ap (λ (x : SoftLevel). is_some x.drainer_hand) same ∙ ap is_some hand_is) ∙ is in
+      let test : eqb (count m id) 0 ≡ false = ap (λ (x : SoftLevel). eqb (count x id) 0) same ∙ ap (λ (k : ℕ). eqb k 0) left
       ∙ more_calls (count l id) some hand in
       sym (ap (λ (t : Bool). cond t (cond b LastOfRemoval Last) More) test)
 
-  pub finish_last : (m : Level) → m ≡ after Finish l → is_some m.drainer_hand ≡ false → (b : Bool)
+  pub finish_last : (m : SoftLevel) → m ≡ after Finish l → is_some m.drainer_hand ≡ false → (b : Bool)
       → cond b LastOfRemoval Last ≡ finished_at (count m id) b
   finish_last m e is b =
       let same : m ≡ n = e ∙ finished in
-      let hand = sym (ap (λ (x : Level). is_some x.drainer_hand) same ∙ ap is_some hand_is) ∙ is in
-      let test : eqb (count m id) 0 ≡ true = ap (λ (x : Level). eqb (count x id) 0) same ∙ ap (λ (k : ℕ). eqb k 0) left
+      let hand = sym (ap (λ (x : SoftLevel). is_some x.drainer_hand) same ∙ ap is_some hand_is) ∙ is in
+      let test : eqb (count m id) 0 ≡ true = ap (λ (x : SoftLevel). eqb (count x id) 0) same ∙ ap (λ (k : ℕ). eqb k 0) left
       ∙ no_calls (count l id) some hand in
       sym (ap (λ (t : Bool). cond t (cond b LastOfRemoval Last) More) test)
 
   -- one finish more for the id in hand, and for no other
-  pub made_one : (m : Level) → m ≡ after Finish l → (q : ℕ) → done_of m q ≡ done_of l q + one_of q l.drainer_hand
+  pub made_one : (m : SoftLevel) → m ≡ after Finish l → (q : ℕ) → done_of m q ≡ done_of l q + one_of q l.drainer_hand
   made_one m e q =
       let same : m ≡ n = e ∙ finished in
       let one : one_of q l.drainer_hand ≡ one_of q (Some id) = ap (one_of q) holds in
-      let moved : done_of m q ≡ done_of n q = ap (λ (x : Level). done_of x q) same in
+      let moved : done_of m q ≡ done_of n q = ap (λ (x : SoftLevel). done_of x q) same in
       dite (ℕ_discrete q id)
       (λ is. let (c, there, more) = its in
       let now : done_of n id ≡ c.done + 1 = ap done_in (at_same l.cyclics id (option_map cyclic_after_finish)
@@ -107,8 +107,8 @@ marked_not (Some m) id ne = by (eqb m id) refl
 pub holds_is : (o : Option ℕ) (id : ℕ) (P : ℕ → Type 0) → o ≡ Some id → P id → IfSome o P
 holds_is o id P e h = subst (λ (x : Option ℕ). IfSome x P) (sym e) h
 
-pub done_after_take : (l : Level) (q : ℕ) → done_of (after Take l) q ≡ done_of l q
+pub done_after_take : (l : SoftLevel) (q : ℕ) → done_of (after Take l) q ≡ done_of l q
 done_after_take l q = refl
 
-pub done_after_follow : (l : Level) (q : ℕ) → done_of (after Follow l) q ≡ done_of l q
+pub done_after_follow : (l : SoftLevel) (q : ℕ) → done_of (after Follow l) q ≡ done_of l q
 done_after_follow l q = refl

@@ -10,7 +10,7 @@ use Rattle.cyc_types.specs.Firing.{MayExpand}
 use Rattle.cyc_types.specs.declared.firing.Raised.TheVariants.{First, More, Lost}
 use Rattle.cyc_level.specs.declared.Event.{Event}
 use Rattle.cyc_level.specs.declared.Event.TheVariants.{Admit, Expire, Lose, Publish, Mark, Clear, Switch}
-use Rattle.cyc_level.specs.Level.{Cyclic, Level, count, count_in}
+use Rattle.cyc_level.specs.Level.{AdmittedCyclic, SoftLevel, count, count_in}
 use Rattle.cyc_level.specs.Events.{changed_at, admitted_cyclic, cyclic_after_expire, cyclic_after_lose, hand_after_expire}
 use Rattle.cyc_level.specs.Events.{Enabled, after, most_sent}
 use Rattle.cyc_level.specs.Lawful.{Lawful, IsId}
@@ -22,12 +22,12 @@ pub free_hand : (o : Option ℕ) → is_none o ≡ true → o ≡ None
 free_hand None e = refl
 free_hand (Some x) e = absurd (let none : ⊥ = cc in none)
 
-stay_behind : (o : Option Cyclic) (s : Stay) → option_map stay_of o ≡ Some s → (c : Cyclic) × (o ≡ Some c) × (stay_of c ≡ s)
+stay_behind : (o : Option AdmittedCyclic) (s : Stay) → option_map stay_of o ≡ Some s → (c : AdmittedCyclic) × (o ≡ Some c) × (stay_of c ≡ s)
 stay_behind None s e = absurd (let none : ⊥ = cc in none)
 stay_behind (Some c) s e = (c, refl, (let same : stay_of c ≡ s = cc in same))
 
 -- what is known is sound
-pub sound_level : (l : Level) → Lawful l → 0 < l.ceiling → Sound (firing_view l)
+pub sound_level : (l : SoftLevel) → Lawful l → 0 < l.ceiling → Sound (firing_view l)
 sound_level l law some = record {
   some_ceiling = some;
   capped = λ id s e. let (c, is, same) = stay_behind (l.cyclics id) s e in
@@ -43,11 +43,11 @@ sound_level l law some = record {
 }
 
 -- what is known after an enabled event is sound
-pub sound_after : (l : Level) (event : Event) → Lawful l → 0 < l.ceiling → Enabled event l → Sound (firing_view (after event l))
+pub sound_after : (l : SoftLevel) (event : Event) → Lawful l → 0 < l.ceiling → Enabled event l → Sound (firing_view (after event l))
 sound_after l event law some may = sound_level (after event l) (keeps_law l law event may)
     (let same = ceiling_after event l in omega (arith, same, some))
 
-pub can_admit : (l : Level) (id index : ℕ) → IsId id → MayAdmit id index (firing_view l) → Enabled (Admit id index) l
+pub can_admit : (l : SoftLevel) (id index : ℕ) → IsId id → MayAdmit id index (firing_view l) → Enabled (Admit id index) l
 can_admit l id index valid (absent, unused, below, free) = (
   free_hand l.firer_hand free,
   valid,
@@ -56,12 +56,12 @@ can_admit l id index valid (absent, unused, below, free) = (
   below,
 )
   where
-    none_behind : (o : Option Cyclic) → option_map stay_of o ≡ None → o ≡ None
+    none_behind : (o : Option AdmittedCyclic) → option_map stay_of o ≡ None → o ≡ None
     none_behind None e = refl
     none_behind (Some c) e = absurd (let none : ⊥ = cc in none)
 
 -- an admission
-pub learns_admit : (l : Level) (id index : ℕ) → Learns (firing_view l) (Admits id index) (firing_view (after (Admit id index) l))
+pub learns_admit : (l : SoftLevel) (id index : ℕ) → Learns (firing_view l) (Admits id index) (firing_view (after (Admit id index) l))
 learns_admit l id index = λ z. record (firing_view l) { stays = λ j. at j (eqb j id) z }
   where
     at : (j : ℕ) (b : Bool) → option_map stay_of (cond b (Some (admitted_cyclic index)) (l.cyclics j))
@@ -70,7 +70,7 @@ learns_admit l id index = λ z. record (firing_view l) { stays = λ j. at j (eqb
     at j false = refl
 
 -- the end of a stay
-pub learns_clear : (l : Level) (id : ℕ) (c : Cyclic) → l.cyclics id ≡ Some c
+pub learns_clear : (l : SoftLevel) (id : ℕ) (c : AdmittedCyclic) → l.cyclics id ≡ Some c
     → Learns (firing_view l) (Polls id (Some (record { sent = c.sent; lost = c.lost }))) (firing_view (after (Clear id) l))
 learns_clear l id c is = (
   ap (λ o. sent_in (option_map stay_of o)) is,
@@ -82,17 +82,17 @@ learns_clear l id c is = (
     at j false = refl
 
 -- a switch of banks
-pub learns_expand : (l : Level) (bank : ℕ) → l.soft_bank < bank
+pub learns_expand : (l : SoftLevel) (bank : ℕ) → l.soft_bank < bank
     → Learns (firing_view l) (Expands bank) (firing_view (after (Switch bank) l))
 learns_expand l bank more = let apart : eqb bank l.soft_bank ≡ false = grind (arith, nat_tests) in
     ap (λ (b : Bool). record (firing_view l) { bank = bank; followed = b }) apart
 
-module _ (l : Level) (id : ℕ) (c : Cyclic) (is : l.cyclics id ≡ Some c) where
+module _ (l : SoftLevel) (id : ℕ) (c : AdmittedCyclic) (is : l.cyclics id ≡ Some c) where
   pub seen_is : seen_of id (firing_view l) ≡ c.count
   seen_is = ap (λ o. seen_in (option_map stay_of o)) is
 
   -- a change of the cyclic, as the firing side sees it
-  stays_edit : (f : Cyclic → Cyclic) (h : Stay → Stay) → stay_of (f c) ≡ h (stay_of c) → (j : ℕ) →
+  stays_edit : (f : AdmittedCyclic → AdmittedCyclic) (h : Stay → Stay) → stay_of (f c) ≡ h (stay_of c) → (j : ℕ) →
       option_map stay_of (changed_at l.cyclics id (option_map f) j)
       ≡ cond (eqb j id) (stay_edited h (option_map stay_of (l.cyclics j))) (option_map stay_of (l.cyclics j))
   stays_edit f h same j = by (eqb j id) refl
@@ -175,7 +175,7 @@ module _ (l : Level) (id : ℕ) (c : Cyclic) (is : l.cyclics id ≡ Some c) wher
   can_lose ((s, there, room), unmarked, free) full = (
     free_hand l.firer_hand free,
     unmarked,
-    is_some_and (λ (x : Cyclic). (x.count ≡ l.ceiling) × (x.sent < most_sent))
+    is_some_and (λ (x : AdmittedCyclic). (x.count ≡ l.ceiling) × (x.sent < most_sent))
         (l.cyclics id) c is (full, (let e = same_sent s there in omega (arith, e, room))),
   )
 
@@ -183,7 +183,7 @@ module _ (l : Level) (id : ℕ) (c : Cyclic) (is : l.cyclics id ≡ Some c) wher
   can_expire ((s, there, room), unmarked, free) below = (
     free_hand l.firer_hand free,
     unmarked,
-    is_some_and (λ (x : Cyclic). (x.count < l.ceiling) × (x.sent < most_sent))
+    is_some_and (λ (x : AdmittedCyclic). (x.count < l.ceiling) × (x.sent < most_sent))
         (l.cyclics id) c is (below, (let e = same_sent s there in omega (arith, e, room))),
   )
 
@@ -196,6 +196,6 @@ module _ (l : Level) (id : ℕ) (c : Cyclic) (is : l.cyclics id ≡ Some c) wher
   pub can_clear : MayPoll id (firing_view l) → c.count ≡ 0 → Enabled (Clear id) l
   can_clear (_, marked, free) none = (free_hand l.firer_hand free, marked, ap count_in is ∙ none)
 
-pub can_expand : (l : Level) (bank : ℕ) → MayExpand bank (firing_view l) → Enabled (Switch bank) l
+pub can_expand : (l : SoftLevel) (bank : ℕ) → MayExpand bank (firing_view l) → Enabled (Switch bank) l
 can_expand l bank (more, most, followed, free) =
     (free_hand l.firer_hand free, (let same : l.hard_bank ≡ l.soft_bank = grind (arith, nat_tests) in same), more, most)

@@ -5,7 +5,7 @@ use Rattle.std.specs.Prelude.{IsTrue, not}
 use Rattle.std.specs.Option.{option_map}
 use Rattle.std.specs.List.{list_any}
 use Rattle.std.proofs.lemmas.Bool.Decides.{nat_tests}
-use Rattle.cyc_level.specs.Level.{Cyclic, Level, count, times_in, in_hand, place_count}
+use Rattle.cyc_level.specs.Level.{AdmittedCyclic, SoftLevel, count, times_in, in_hand, place_count}
 use Rattle.cyc_level.specs.Lawful.{Lawful, one_if_any}
 use Rattle.cyc_level.proofs.Keeps.{once_le, once_zero}
 use Rattle.cyc_level.proofs.Maps.{hand_here, some_same}
@@ -18,7 +18,7 @@ use Rattle.cyc_core.specs.Showing.{StandsAt}
 use Rattle.cyc_finder.proofs.RisingIds.{look_up_at, is_at_place}
 
 -- how often the id stands at a place
-times_at : Level → ℕ → Place → ℕ
+times_at : SoftLevel → ℕ → Place → ℕ
 times_at l id FirerHand = in_hand id l.firer_hand
 times_at l id OldBank = times_in id l.old_list
 times_at l id NewBank = times_in id l.new_list
@@ -27,7 +27,7 @@ times_at l id DrainerHand = in_hand id l.drainer_hand
 in_the_hand : (id : ℕ) (hand : Option ℕ) → hand ≡ Some id → 0 < in_hand id hand
 in_the_hand id hand is = let here = hand_here id in let same = ap (in_hand id) is in omega (arith, here, same)
 
-stands_times : (l : Level) (id : ℕ) (p : Place) → StandsAt l id p → 0 < times_at l id p
+stands_times : (l : SoftLevel) (id : ℕ) (p : Place) → StandsAt l id p → 0 < times_at l id p
 unfolding times_at
 stands_times l id FirerHand h = in_the_hand id l.firer_hand h
 stands_times l id OldBank h = h
@@ -35,7 +35,7 @@ stands_times l id NewBank h = h
 stands_times l id DrainerHand h = in_the_hand id l.drainer_hand h
 
 -- standing once in all is standing at one place
-same_place : (l : Level) (id : ℕ) → place_count l id ≤ 1 → (p q : Place) → 0 < times_at l id p → 0 < times_at l id q → p ≡ q
+same_place : (l : SoftLevel) (id : ℕ) → place_count l id ≤ 1 → (p q : Place) → 0 < times_at l id p → 0 < times_at l id q → p ≡ q
 unfolding times_at
 same_place l id once FirerHand FirerHand h k = refl
 same_place l id once FirerHand OldBank h k = absurd (omega (arith, once, h, k))
@@ -54,14 +54,14 @@ same_place l id once DrainerHand OldBank h k = absurd (omega (arith, once, h, k)
 same_place l id once DrainerHand NewBank h k = absurd (omega (arith, once, h, k))
 same_place l id once DrainerHand DrainerHand h k = refl
 
-place_times : (l : Level) (id : ℕ) (p : Place) → 0 < times_at l id p → 0 < place_count l id
+place_times : (l : SoftLevel) (id : ℕ) (p : Place) → 0 < times_at l id p → 0 < place_count l id
 unfolding times_at
 place_times l id FirerHand h = omega (arith, h)
 place_times l id OldBank h = omega (arith, h)
 place_times l id NewBank h = omega (arith, h)
 place_times l id DrainerHand h = omega (arith, h)
 
-module _ (l : Level) (law : Lawful l) (id : ℕ) where
+module _ (l : SoftLevel) (law : Lawful l) (id : ℕ) where
   once : place_count l id ≤ 1
   once = let p = law.one_place id in let o = once_le (count l id) in omega (arith, p, o)
 
@@ -152,19 +152,19 @@ any_index index (x ∷ xs) e = by (eqb x.index index) refl e (any_index index xs
     by true is e later = (0, omega arith, λ d. grind (arith, nat_tests))
     by false is e later = let (place, in_range, at) = later e in (suc place, omega (arith, in_range), at)
 
-cyclic_behind : (o : Option Admitted) (c : Cyclic) → option_map cyclic_of o ≡ Some c → (e : Admitted) × (o ≡ Some e)
+cyclic_behind : (o : Option Admitted) (c : AdmittedCyclic) → option_map cyclic_of o ≡ Some c → (e : Admitted) × (o ≡ Some e)
     × (cyclic_of e ≡ c)
 cyclic_behind None c is = absurd (let none : ⊥ = cc in none)
 cyclic_behind (Some e) c is = (e, refl, some_same (cyclic_of e) c is)
 
 -- whether any entry has an index says whether it is used
 pub unused_is : (index : ℕ) (xs : List Admitted) → list_any (λ (x : Admitted). eqb x.index index) xs ≡ false
-    → (id : ℕ) (c : Cyclic) → cyclics_of xs id ≡ Some c → c.index ≢ index
+    → (id : ℕ) (c : AdmittedCyclic) → cyclics_of xs id ≡ Some c → c.index ≢ index
 unused_is index xs none id c is same = let (e, found, made) = cyclic_behind (lookup id xs) c is in
-    none_index index id xs e none found (ap (λ (x : Cyclic). x.index) made ∙ same)
+    none_index index id xs e none found (ap (λ (x : AdmittedCyclic). x.index) made ∙ same)
 
 pub used_is : (index : ℕ) (xs : List Admitted) → Rises id_in xs → list_any (λ (x : Admitted). eqb x.index index) xs ≡ true
-    → ((id : ℕ) (c : Cyclic) → cyclics_of xs id ≡ Some c → c.index ≢ index) → ⊥
+    → ((id : ℕ) (c : AdmittedCyclic) → cyclics_of xs id ≡ Some c → c.index ≢ index) → ⊥
 used_is index xs ordered any unused =
     let (place, in_range, at) = any_index index xs any in
     let d : Admitted = record { id = 0; index = 0; sent = 0; done = 0; lost = 0; count = 0 } in
@@ -174,8 +174,8 @@ used_is index xs ordered any unused =
 
 pub test_unused : (b : Bool) (index : ℕ) (xs : List Admitted) → Rises id_in xs
     → b ≡ list_any (λ (x : Admitted). eqb x.index index) xs →
-    (IsTrue (not b) → (id : ℕ) (c : Cyclic) → cyclics_of xs id ≡ Some c → c.index ≢ index)
-    × (((id : ℕ) (c : Cyclic) → cyclics_of xs id ≡ Some c → c.index ≢ index) → IsTrue (not b))
+    (IsTrue (not b) → (id : ℕ) (c : AdmittedCyclic) → cyclics_of xs id ≡ Some c → c.index ≢ index)
+    × (((id : ℕ) (c : AdmittedCyclic) → cyclics_of xs id ≡ Some c → c.index ≢ index) → IsTrue (not b))
 test_unused true index xs ordered e = (
   λ h. absurd (let wrong : ⊥ = cc in wrong),
   λ unused. absurd (used_is index xs ordered (sym e) unused),

@@ -6,18 +6,18 @@ use Rattle.cyc_types.specs.declared.draining.Finished.{Finished}
 use Rattle.cyc_types.specs.declared.draining.Finished.TheVariants.{More, Last, LastOfRemoval}
 use Rattle.cyc_level.specs.declared.Event.{Event}
 use Rattle.cyc_level.specs.declared.Event.TheVariants.{Take, Finish, Follow}
-use Rattle.cyc_level.specs.Level.{Cyclic, Level, count}
+use Rattle.cyc_level.specs.Level.{AdmittedCyclic, SoftLevel, count}
 use Rattle.cyc_core.specs.Reached.{Happens}
 
-abbrev pub held_of : Level → Option ℕ
+abbrev pub held_of : SoftLevel → Option ℕ
 held_of l = l.drainer_hand
 
-abbrev pub done_in : Option Cyclic → ℕ
+abbrev pub done_in : Option AdmittedCyclic → ℕ
 done_in None = 0
 done_in (Some c) = c.done
 
 -- the finished calls of the present stay
-abbrev pub done_of : Level → ℕ → ℕ
+abbrev pub done_of : SoftLevel → ℕ → ℕ
 done_of l id = done_in (l.cyclics id)
 
 -- the events of a look at the buffer, by the old list, the new list and whether the banks are equal (cyclic_softint)
@@ -37,7 +37,7 @@ abbrev pub finished_at : ℕ → Bool → Finished
 finished_at left marked = if left == 0 then (if marked then LastOfRemoval else Last) else More
 
 -- a call of the soft side with its answer: its events happened, in this order, and the answer is what was found
-abbrev pub Drains : Level → DrainCall → Level → Type 0
+abbrev pub Drains : SoftLevel → DrainCall → SoftLevel → Type 0
 Drains l (Takes answer) m = FoldsTo Happens l (take_events l.old_list l.new_list (l.hard_bank == l.soft_bank)) m
     × (answer ≡ m.drainer_hand)
 Drains l (Finishes id answer) m = (l.drainer_hand ≡ Some id) × Happens l Finish m

@@ -7,15 +7,15 @@ use Rattle.cyc_types.specs.declared.firing.Raised.{Raised}
 use Rattle.cyc_types.specs.declared.firing.Raised.TheVariants.{First, More, Lost}
 use Rattle.cyc_level.specs.declared.Event.{Event}
 use Rattle.cyc_level.specs.declared.Event.TheVariants.{Admit, Expire, Lose, Publish, Mark, Clear, Switch}
-use Rattle.cyc_level.specs.Level.{Cyclic, Level, count}
+use Rattle.cyc_level.specs.Level.{AdmittedCyclic, SoftLevel, count}
 use Rattle.cyc_core.specs.Reached.{Happens}
 
 -- the pend that is seen is the pend
-abbrev pub stay_of : Cyclic → Stay
+abbrev pub stay_of : AdmittedCyclic → Stay
 stay_of c = record { index = c.index; sent = c.sent; lost = c.lost; seen = c.count }
 
 -- the firing side knows all of its level but what the soft side holds
-abbrev pub firing_view : Level → FiringView
+abbrev pub firing_view : SoftLevel → FiringView
 firing_view l = record {
   stays = λ id. option_map stay_of (l.cyclics id);
   marked = l.marked;
@@ -34,7 +34,7 @@ raise_events id Lost = Lose id ∷ []
 
 -- a call of the firing side with its answer: its events happened, in this order, and the answer is what was found. The firer's
 -- hand is empty after each
-abbrev pub Fires : Level → FiringCall → Level → Type 0
+abbrev pub Fires : SoftLevel → FiringCall → SoftLevel → Type 0
 Fires l (Admits id index) m = Happens l (Admit id index) m
 Fires l (Loads id pend) m = (pend ≡ count l id) × (m ≡ l)
 Fires l (Raises id answer) m = FoldsTo Happens l (raise_events id answer) m × (m.firer_hand ≡ None)

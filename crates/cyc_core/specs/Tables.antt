@@ -2,7 +2,7 @@
 use Rattle.std.specs.Prelude.{ℕ, Option, List}
 use Rattle.std.specs.Option.{option_map}
 use Rattle.cyc_finder.specs.Sorted.{look_up}
-use Rattle.cyc_level.specs.Level.{Cyclic, Cyclics, Level}
+use Rattle.cyc_level.specs.Level.{AdmittedCyclic, Cyclics, SoftLevel}
 use Rattle.cyc_core.specs.declared.admitted.Admitted.{Admitted}
 
 -- the level's state, with its admitted cyclics in a table
@@ -26,7 +26,7 @@ abbrev pub lookup : ℕ → List Admitted → Option Admitted
 lookup id table = look_up id_in id table
 
 -- the cyclic that an entry stands for
-abbrev pub cyclic_of : Admitted → Cyclic
+abbrev pub cyclic_of : Admitted → AdmittedCyclic
 cyclic_of entry = record { index = entry.index; sent = entry.sent; done = entry.done; lost = entry.lost; count = entry.count }
 
 -- the finite map that a table stands for
@@ -34,7 +34,7 @@ abbrev pub cyclics_of : List Admitted → Cyclics
 cyclics_of table = λ id. option_map cyclic_of (lookup id table)
 
 -- the level that the tables show
-abbrev pub level_of : Tables → Level
+abbrev pub level_of : Tables → SoftLevel
 level_of t = record {
   ceiling = t.ceiling;
   hard_bank = t.hard_bank;

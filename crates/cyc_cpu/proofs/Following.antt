@@ -16,7 +16,7 @@ use Rattle.cyc_types.specs.Runs.{Goes}
 use Rattle.cyc_types.specs.Draining.{DrainCall}
 use Rattle.cyc_soft.specs.Serving.{Served}
 use Rattle.cyc_types.specs.declared.firing.Sent.{Sent}
-use Rattle.cyc_types.specs.Levels.{at_level, level_of as handler_level}
+use Rattle.cyc_types.specs.Levels.{at_level, as_level}
 use Rattle.cyc_types.specs.declared.level.Level.{Level}
 use Rattle.cyc_types.specs.declared.level.Level.TheVariants as level
 use Rattle.cyc_types.specs.declared.level.Soft.{Soft}
@@ -24,7 +24,7 @@ use Rattle.cyc_types.specs.declared.moment.When.{When}
 use Rattle.cyc_types.specs.declared.refusal.Refusal.{Refusal}
 use Rattle.cyc_types.specs.declared.refusal.Refusal.TheVariants as why
 use Rattle.cyc_types.specs.declared.level.Soft.TheVariants as soft_level
-use Rattle.cyc_core.specs.Level.{Cyclic as Admission, Level as Model, count, count_in, place_count}
+use Rattle.cyc_core.specs.Level.{AdmittedCyclic, SoftLevel as Model, count, count_in, place_count}
 use Rattle.cyc_core.specs.Lawful.{Lawful, one_if_any}
 use Rattle.cyc_core.specs.Event.TheVariants.{Clear}
 use Rattle.cyc_core.specs.Reached.{Happens}
@@ -330,10 +330,10 @@ module _ {C : Type 0} (called : C → ℕ → Level → C → Type 0) (count_of 
       fire_gone (at_level called level.High) count_of id s t now f.made e.lost f.at h f.makes f.counted
   stays_gone s t (SoftInterrupt soft budget (Ok r)) h not (did, kept) =
       let (ran, many, serves, left) = did.served in
-      soft_gone (at_level called (handler_level soft)) count_of id s t soft ran _ t.calls h serves (λ q. refl) kept
+      soft_gone (at_level called (as_level soft)) count_of id s t soft ran _ t.calls h serves (λ q. refl) kept
   stays_gone s t (SoftInterrupt soft budget (Err e)) h not (did, kept) =
       let (ran, at, many, few, serves, may, same, held) = did.refused in
-      soft_gone (at_level called (handler_level soft)) count_of id s t soft ran _ at h serves same kept
+      soft_gone (at_level called (as_level soft)) count_of id s t soft ran _ at h serves same kept
   stays_gone s t (Add own level when now answer) h not r = quiet_gone s t (Add own level when now answer) h not r
   stays_gone s t (Place own level interval moment carried) h not r =
       quiet_gone s t (Place own level interval moment carried) h not r
@@ -388,7 +388,7 @@ none_left cs k c rising (within, is) j d low same =
 -- the level at which the stay ended
 cleared : (id : ℕ) (l m : Model) → place_count l id ≡ one_if_any (count l id) → Happens l (Clear id) m → IsAbsent id m
 cleared id l m once ((free, marked, none), is) =
-    let nothing : Option Admission = None in
+    let nothing : Option AdmittedCyclic = None in
     subst (IsAbsent id) (sym is) (record {
       not_admitted =
           (let yes : eqb id id ≡ true = eq-eqb id id refl in ap (λ b. cond b nothing (l.cyclics id)) yes);
@@ -411,7 +411,7 @@ taken_absent : (id : ℕ) (counts : Sent) (a b : Tables) → place_count (level_
 taken_absent id counts a b once (m, ((pend, is), learns), rest) =
     marked_absent id counts m b (subst (λ (x : Model). place_count x id ≡ one_if_any (count x id)) (sym is) once) rest
 
-not_stays : (o : Option Admission) → ((c : Admission) → o ≡ Some c → ⊥) → o ≡ None
+not_stays : (o : Option AdmittedCyclic) → ((c : AdmittedCyclic) → o ≡ Some c → ⊥) → o ≡ None
 not_stays None never_there = refl
 not_stays (Some c) never_there = absurd (never_there c refl)
 

@@ -12,7 +12,7 @@ use Rattle.cyc_types.specs.Draining.{DrainCall, Takes, Finishes, hand_after}
 use Rattle.cyc_types.specs.Runs.{Goes, DrainGoes}
 use Rattle.cyc_types.specs.declared.firing.Raised.TheVariants.{First, More, Lost}
 use Rattle.cyc_core.specs.Event.TheVariants.{Admit, Expire, Lose, Publish, Take, Finish, Mark, Clear, Switch, Follow}
-use Rattle.cyc_core.specs.Level.{Cyclic, Level, count, soft_list, times_in, in_hand}
+use Rattle.cyc_core.specs.Level.{AdmittedCyclic, SoftLevel, count, soft_list, times_in, in_hand}
 use Rattle.cyc_core.specs.Events.{admitted_cyclic, cyclic_after_expire, cyclic_after_lose, cyclic_after_finish, hand_after_expire}
 use Rattle.cyc_core.specs.Events.{hand_after_finish, as_list, first_of, rest_of, after_finish}
 use Rattle.cyc_core.proofs.Maps.{hand_here, hand_else, times_append}
@@ -25,14 +25,14 @@ use Rattle.cyc_cpu.specs.Gone.{IsAbsent}
 use Rattle.cyc_cpu.specs.Soft.{fires, drains, firing_at}
 
 -- the same, place by place
-pub record Off (id : ℕ) (l : Level) : Type 0 where
+pub record Off (id : ℕ) (l : SoftLevel) : Type 0 where
   pub none : l.cyclics id ≡ None
   pub firer : in_hand id l.firer_hand ≡ 0
   pub old : times_in id l.old_list ≡ 0
   pub new : times_in id l.new_list ≡ 0
   pub drainer : in_hand id l.drainer_hand ≡ 0
 
-pub off_of : (id : ℕ) (l : Level) → IsAbsent id l → Off id l
+pub off_of : (id : ℕ) (l : SoftLevel) → IsAbsent id l → Off id l
 off_of id l h =
     let p = h.nowhere in
     record {
@@ -44,27 +44,27 @@ off_of id l h =
           omega (arith, p);
     }
 
-pub absent_of : (id : ℕ) (l : Level) → Off id l → IsAbsent id l
+pub absent_of : (id : ℕ) (l : SoftLevel) → Off id l → IsAbsent id l
 absent_of id l h = let a = h.firer in let b = h.old in let c = h.new in let d = h.drainer in
     record { not_admitted = h.none; nowhere = omega (arith, a, b, c, d) }
 
 other : (id a : ℕ) → id ≢ a → eqb id a ≡ false
 other id a ne = grind (arith, nat_tests)
 
-mapped_none : (f : Cyclic → Cyclic) (b : Bool) (o : Option Cyclic) → o ≡ None → cond b (option_map f o) o ≡ None
+mapped_none : (f : AdmittedCyclic → AdmittedCyclic) (b : Bool) (o : Option AdmittedCyclic) → o ≡ None → cond b (option_map f o) o ≡ None
 mapped_none f true o e = ap (option_map f) e
 mapped_none f false o e = e
 
-cleared_none : (b : Bool) (o : Option Cyclic) → o ≡ None → cond b None o ≡ None
+cleared_none : (b : Bool) (o : Option AdmittedCyclic) → o ≡ None → cond b None o ≡ None
 cleared_none true o e = refl
 cleared_none false o e = e
 
-none_and : (P : Cyclic → Type 0) (o : Option Cyclic) → o ≡ None → IsSomeAnd o P → ⊥
+none_and : (P : AdmittedCyclic → Type 0) (o : Option AdmittedCyclic) → o ≡ None → IsSomeAnd o P → ⊥
 none_and P None e h = h
 none_and P (Some c) e h = let wrong : Some c ≡ None = e in cc
 
 -- an admitted id is another
-admitted_other : (id a : ℕ) (l : Level) (P : Cyclic → Type 0) → Off id l → IsSomeAnd (l.cyclics a) P → id ≢ a
+admitted_other : (id a : ℕ) (l : SoftLevel) (P : AdmittedCyclic → Type 0) → Off id l → IsSomeAnd (l.cyclics a) P → id ≢ a
 admitted_other id a l P h some same = none_and P (l.cyclics a) (ap l.cyclics (sym same) ∙ h.none) some
 
 expired_hand : (id a n : ℕ) (hand : Option ℕ) → id ≢ a → in_hand id hand ≡ 0 → in_hand id (hand_after_expire n a hand) ≡ 0
@@ -97,7 +97,7 @@ held_other : (id a : ℕ) (hand : Option ℕ) → in_hand id hand ≡ 0 → hand
 held_other id a hand h is same = let here = hand_here id in let e = ap (in_hand id) (is ∙ ap Some (sym same)) in
     omega (arith, here, e, h)
 
-module _ (id : ℕ) (l m : Level) (h : Off id l) where
+module _ (id : ℕ) (l m : SoftLevel) (h : Off id l) where
   off_admit : (a index : ℕ) → id ≢ a → Happens l (Admit a index) m → Off id m
   off_admit a index ne (enabled, is) = subst (Off id) (sym is) (record {
     none = ap (λ b. cond b (Some (admitted_cyclic index)) (l.cyclics id)) (other id a ne) ∙ h.none;
@@ -197,7 +197,7 @@ abbrev pub AreSpared : ℕ → List FiringCall → Type 0
 AreSpared id [] = Unit {0}
 AreSpared id (call ∷ way) = Spared id call × AreSpared id way
 
-off_fires : (id : ℕ) (l m : Level) (call : FiringCall) → Spared id call → Off id l → Fires l call m → Off id m
+off_fires : (id : ℕ) (l m : SoftLevel) (call : FiringCall) → Spared id call → Off id l → Fires l call m → Off id m
 off_fires id l m (Admits j index) ne h f = off_admit id l m h j index ne f
 off_fires id l m (Loads j pend) ne h f = subst (Off id) (sym f.1) h
 off_fires id l m (Raises j First) ne h ((a, first, (b, second, last)), empty) =
@@ -216,7 +216,7 @@ off_goes id a b [] spared g h = subst (λ (t : Tables). Off id (level_of t)) g h
 off_goes id a b (call ∷ way) spared (m, (step, learns), rest) h =
     off_goes id m b way spared.1 rest (off_fires id (level_of a) (level_of m) call spared.0 h step)
 
-off_looked : (id : ℕ) (l m : Level) (old new : List ℕ) (b : Bool) → Off id l → FoldsTo Happens l (take_events old new b) m
+off_looked : (id : ℕ) (l m : SoftLevel) (old new : List ℕ) (b : Bool) → Off id l → FoldsTo Happens l (take_events old new b) m
     → Off id m
 off_looked id l m old (x ∷ xs) true h (k, first, last) = off_same id k m (off_take id l k h first) last
 off_looked id l m old [] true h last = off_same id l m h last
@@ -225,7 +225,7 @@ off_looked id l m [] (x ∷ xs) false h (k, first, (n, second, last)) =
     off_same id n m (off_take id k n (off_follow id l k h first) second) last
 off_looked id l m [] [] false h (k, first, last) = off_same id k m (off_follow id l k h first) last
 
-off_drains : (id : ℕ) (l m : Level) (call : DrainCall) → Off id l → Drains l call m → Off id m
+off_drains : (id : ℕ) (l m : SoftLevel) (call : DrainCall) → Off id l → Drains l call m → Off id m
 off_drains id l m (Takes answer) h d = off_looked id l m l.old_list l.new_list (eqb l.hard_bank l.soft_bank) h d.0
 off_drains id l m (Finishes a answer) h d = off_finish id l m h d.1
 

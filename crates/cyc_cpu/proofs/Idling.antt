@@ -6,7 +6,7 @@ use Rattle.cyc_types.specs.Draining.{DrainCall, Takes, Finishes}
 use Rattle.cyc_types.specs.Runs.{DrainGoes}
 use Rattle.cyc_core.specs.Event.{Event}
 use Rattle.cyc_core.specs.Event.TheVariants.{Finish}
-use Rattle.cyc_core.specs.Level.{Level}
+use Rattle.cyc_core.specs.Level.{SoftLevel}
 use Rattle.cyc_core.specs.Lawful.{Lawful}
 use Rattle.cyc_core.proofs.Keeps.{keeps_law}
 use Rattle.cyc_core.specs.Reached.{Happens}
@@ -15,11 +15,11 @@ use Rattle.cyc_core.specs.DrainingSide.{Drains, take_events}
 use Rattle.cyc_core.proofs.Idle.{idle_empty}
 use Rattle.cyc_cpu.specs.Soft.{drains, HasEmptyLists}
 
-lawful_on : (l m : Level) (events : List Event) → FoldsTo Happens l events m → Lawful l → Lawful m
+lawful_on : (l m : SoftLevel) (events : List Event) → FoldsTo Happens l events m → Lawful l → Lawful m
 lawful_on l m [] h law = subst Lawful h law
 lawful_on l m (e ∷ events) (k, (on, is), rest) law = lawful_on k m events rest (subst Lawful (sym is) (keeps_law l law e on))
 
-lawful_drained : (l m : Level) (call : DrainCall) → Drains l call m → Lawful l → Lawful m
+lawful_drained : (l m : SoftLevel) (call : DrainCall) → Drains l call m → Lawful l → Lawful m
 lawful_drained l m (Takes answer) h law = lawful_on l m (take_events l.old_list l.new_list (l.hard_bank == l.soft_bank)) h.0 law
 lawful_drained l m (Finishes id answer) (held, (on, is), found) law = subst Lawful (sym is) (keeps_law l law Finish on)
 

@@ -7,7 +7,7 @@ use Rattle.cyc_types.specs.Firing.{FiringView, Stay}
 use Rattle.cyc_types.specs.Draining.{DrainCall, Takes, Finishes}
 use Rattle.cyc_types.specs.Runs.{DrainGoes}
 use Rattle.cyc_core.specs.Event.TheVariants.{Take, Finish, Follow}
-use Rattle.cyc_core.specs.Level.{Cyclic, Level}
+use Rattle.cyc_core.specs.Level.{AdmittedCyclic, SoftLevel}
 use Rattle.cyc_core.specs.Events.{cyclic_after_finish, after_finish}
 use Rattle.cyc_core.specs.Reached.{Happens}
 use Rattle.cyc_core.specs.Tables.{Tables, level_of}
@@ -28,7 +28,7 @@ keeps_on u v w a b = record {
   free = b.free ∙ a.free;
 }
 
-finish_to : (b : Bool) (o : Option Cyclic) (s : Stay) → option_map stay_of o ≡ Some s →
+finish_to : (b : Bool) (o : Option AdmittedCyclic) (s : Stay) → option_map stay_of o ≡ Some s →
     (t : Stay) × (option_map stay_of (cond b (option_map cyclic_after_finish o) o) ≡ Some t) × (t.index ≡ s.index)
     × (t.sent ≡ s.sent) × (t.lost ≡ s.lost)
 finish_to true (Some c) s h = let e : stay_of c ≡ s = cc in (
@@ -41,13 +41,13 @@ finish_to true (Some c) s h = let e : stay_of c ≡ s = cc in (
 finish_to true None s h = absurd (let no : None ≡ Some s = h in cc)
 finish_to false o s h = (s, h, refl, refl, refl)
 
-finish_from : (b : Bool) (o : Option Cyclic) (t : Stay)
+finish_from : (b : Bool) (o : Option AdmittedCyclic) (t : Stay)
     → option_map stay_of (cond b (option_map cyclic_after_finish o) o) ≡ Some t → (s : Stay) × (option_map stay_of o ≡ Some s)
 finish_from true (Some c) t h = (stay_of c, refl)
 finish_from true None t h = absurd (let no : None ≡ Some t = h in cc)
 finish_from false o t h = (t, h)
 
-finish_keeps : (l : Level) (hand : Option ℕ) → KeepsStays (firing_view l) (firing_view (after_finish hand l))
+finish_keeps : (l : SoftLevel) (hand : Option ℕ) → KeepsStays (firing_view l) (firing_view (after_finish hand l))
 finish_keeps l None = keeps_itself (firing_view l)
 finish_keeps l (Some id) = record {
   to = λ j s h. finish_to (eqb j id) (l.cyclics j) s h;
@@ -58,12 +58,12 @@ finish_keeps l (Some id) = record {
   free = refl;
 }
 
-taken : (l m : Level) → Happens l Take m → KeepsStays (firing_view l) (firing_view m)
-taken l m (enabled, is) = subst (λ (x : Level). KeepsStays (firing_view l) (firing_view x)) (sym is)
+taken : (l m : SoftLevel) → Happens l Take m → KeepsStays (firing_view l) (firing_view m)
+taken l m (enabled, is) = subst (λ (x : SoftLevel). KeepsStays (firing_view l) (firing_view x)) (sym is)
     (keeps_itself (firing_view l))
 
-followed : (l m : Level) → Happens l Follow m → KeepsStays (firing_view l) (firing_view m)
-followed l m (enabled, is) = subst (λ (x : Level). KeepsStays (firing_view l) (firing_view x)) (sym is)
+followed : (l m : SoftLevel) → Happens l Follow m → KeepsStays (firing_view l) (firing_view m)
+followed l m (enabled, is) = subst (λ (x : SoftLevel). KeepsStays (firing_view l) (firing_view x)) (sym is)
     (record {
       to = λ id s h. (s, h, refl, refl, refl);
       from = λ id t h. (t, h);
@@ -74,14 +74,14 @@ followed l m (enabled, is) = subst (λ (x : Level). KeepsStays (firing_view l) (
           refl;
     })
 
-finished : (l m : Level) → Happens l Finish m → KeepsStays (firing_view l) (firing_view m)
-finished l m (enabled, is) = subst (λ (x : Level). KeepsStays (firing_view l) (firing_view x)) (sym is)
+finished : (l m : SoftLevel) → Happens l Finish m → KeepsStays (firing_view l) (firing_view m)
+finished l m (enabled, is) = subst (λ (x : SoftLevel). KeepsStays (firing_view l) (firing_view x)) (sym is)
     (finish_keeps l l.drainer_hand)
 
-at_end : (l m : Level) → l ≡ m → KeepsStays (firing_view l) (firing_view m)
-at_end l m e = subst (λ (x : Level). KeepsStays (firing_view l) (firing_view x)) e (keeps_itself (firing_view l))
+at_end : (l m : SoftLevel) → l ≡ m → KeepsStays (firing_view l) (firing_view m)
+at_end l m e = subst (λ (x : SoftLevel). KeepsStays (firing_view l) (firing_view x)) e (keeps_itself (firing_view l))
 
-looked : (l m : Level) (old new : List ℕ) (b : Bool) → FoldsTo Happens l (take_events old new b) m
+looked : (l m : SoftLevel) (old new : List ℕ) (b : Bool) → FoldsTo Happens l (take_events old new b) m
     → KeepsStays (firing_view l) (firing_view m)
 looked l m old (x ∷ xs) true (k, first, rest) = keeps_on _ _ _ (taken l k first) (at_end k m rest)
 looked l m old [] true h = at_end l m h
@@ -90,7 +90,7 @@ looked l m [] (x ∷ xs) false (k, first, (n, second, rest)) =
     keeps_on _ _ _ (followed l k first) (keeps_on _ _ _ (taken k n second) (at_end n m rest))
 looked l m [] [] false (k, first, rest) = keeps_on _ _ _ (followed l k first) (at_end k m rest)
 
-drained : (l m : Level) (call : DrainCall) → Drains l call m → KeepsStays (firing_view l) (firing_view m)
+drained : (l m : SoftLevel) (call : DrainCall) → Drains l call m → KeepsStays (firing_view l) (firing_view m)
 drained l m (Takes answer) h = looked l m l.old_list l.new_list (eqb l.hard_bank l.soft_bank) h.0
 drained l m (Finishes id answer) h = finished l m h.1
 

@@ -27,7 +27,7 @@ use Rattle.cyc_cpu.specs.Cpu.{Makes, WhyStopped, Asks, Looked, HasRoom, WhyNoRoo
 use Rattle.cyc_cpu.specs.Cpu.{Places, Enters}
 use Rattle.cyc_cpu.specs.Losses.{IsSparedAt}
 use Rattle.cyc_cpu.specs.Removal.{Begins, WhyNotBegun, Ends, Waits}
-use Rattle.cyc_cpu.specs.Moving.{Takes, WhyNotTaken, IsSettled, Inquires}
+use Rattle.cyc_cpu.specs.Moving.{TakesNow, WhyNotTaken, IsSettled, Inquires}
 
 -- the calls on a CPU that can change anything, each with its parameters and its answer
 pub data CpuCall : Type 0 where
@@ -93,7 +93,7 @@ Changes step view v (BeginRemove id (Err e)) w = WhyNotBegun id v e × (w ≡ v)
 Changes step view v (PollRemove (Some receipt)) w = Ends step view receipt v w
 Changes step view v (PollRemove None) w =
     ((v.removal ≡ None) × (w ≡ v)) ⊎ ((id : ℕ) × (v.removal ≡ Some id) × Waits step view id v w)
-Changes step view v (TakeNow id (Ok taken)) w = (v.removal ≡ None) × Takes step view id taken v w
+Changes step view v (TakeNow id (Ok taken)) w = (v.removal ≡ None) × TakesNow step view id taken v w
 Changes step view v (TakeNow id (Err e)) w = WhyNotTaken step view id v e w
 Changes step view v (AskSettled true) w = Inquires step view v w × IsSettled view w
 Changes step view v (AskSettled false) w = Inquires step view v w × (IsSettled view w → ⊥)

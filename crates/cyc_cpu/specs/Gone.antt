@@ -2,17 +2,17 @@
 use Rattle.std.specs.Prelude.{◌≡◌, ◌≢◌, ℕ, ◌⊎◌, None}
 use Rattle.cyc_types.specs.declared.receipt.Receipt.{Receipt}
 use Rattle.cyc_types.specs.Firing.{FiringView, FiringCall}
-use Rattle.cyc_core.specs.Level.{Level, place_count}
+use Rattle.cyc_core.specs.Level.{SoftLevel, place_count}
 use Rattle.cyc_core.specs.Tables.{Tables, level_of}
 use Rattle.cyc_cpu.specs.declared.removing.Removal.TheVariants.{Done}
 use Rattle.cyc_cpu.specs.Cpu.{CpuView, Running, HasNoCyclic}
 use Rattle.cyc_cpu.specs.declared.moving.Taken.{Taken}
 use Rattle.cyc_cpu.specs.Removal.{Begins, Ends}
-use Rattle.cyc_cpu.specs.Moving.{Takes}
+use Rattle.cyc_cpu.specs.Moving.{TakesNow}
 use Rattle.cyc_cpu.specs.Calls.{CpuCall, Add, Place}
 
 -- the id is not admitted at the level, and stands in no place of it
-pub record IsAbsent (id : ℕ) (l : Level) : Type 0 where
+pub record IsAbsent (id : ℕ) (l : SoftLevel) : Type 0 where
   pub not_admitted : l.cyclics id ≡ None
   pub nowhere : place_count l id ≡ 0
 
@@ -27,7 +27,7 @@ abbrev pub HasLeft : {R : Type 0} → (R → FiringCall → R → Type 0) → (R
     → ℕ → CpuView R → CpuView R → Type 0
 HasLeft step view id v w = ((receipt : Receipt) × Begins step view id v (Done receipt) w)
     ⊎ ((receipt : Receipt) × (receipt.id ≡ id) × Ends step view receipt v w)
-    ⊎ ((taken : Taken) × Takes step view id taken v w)
+    ⊎ ((taken : Taken) × TakesNow step view id taken v w)
 
 -- no cyclic of the CPU has the id, and it is a stay of neither end
 pub record IsOff {R : Type 0} (view : R → FiringView) (id : ℕ) (v : CpuView R) : Type 0 where

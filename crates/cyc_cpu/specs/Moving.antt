@@ -16,8 +16,8 @@ IsTaken taken c = (taken.level ≡ c.timer.level) × (taken.interval ≡ c.timer
     × (taken.sent.sent ≡ c.timer.expired) × (taken.sent.lost ≡ c.lost)
 
 -- the cyclic has left with all its counts: its load found nothing outstanding, and then the mark and the poll
-abbrev pub Takes : {R : Type 0} → (R → FiringCall → R → Type 0) → (R → FiringView) → ℕ → Taken → CpuView R → CpuView R → Type 0
-Takes step view id taken v w = (c : Cyclic) × (counts : Sent) × IsTaken taken c × HasPolled view counts v c
+abbrev pub TakesNow : {R : Type 0} → (R → FiringCall → R → Type 0) → (R → FiringView) → ℕ → Taken → CpuView R → CpuView R → Type 0
+TakesNow step view id taken v w = (c : Cyclic) × (counts : Sent) × IsTaken taken c × HasPolled view counts v c
     × Leaves step view id (Loads id 0 ∷ Marks id 0 ∷ Polls id (Some counts) ∷ []) c v w
 
 -- why a cyclic was not taken; where calls of it are outstanding it was asked for, and nothing else was done

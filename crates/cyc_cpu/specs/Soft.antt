@@ -1,7 +1,7 @@
 -- The soft interrupt of one level of a CPU whose levels no other thread uses.
 use Rattle.std.specs.Prelude.{◌≡◌, ℕ, List, [], Option, Result}
 use Rattle.cyc_types.specs.Draining.{DrainCall}
-use Rattle.cyc_types.specs.Levels.{at_level, level_of as handler_level}
+use Rattle.cyc_types.specs.Levels.{at_level, as_level}
 use Rattle.cyc_types.specs.declared.level.Level.{Level}
 use Rattle.cyc_types.specs.declared.level.Soft.{Soft}
 use Rattle.cyc_types.specs.declared.level.Soft.TheVariants.{Low, Lock}
@@ -63,6 +63,6 @@ HasEmptyLists a = (a.old_list ≡ []) × (a.new_list ≡ [])
 abbrev pub Interrupts : {C : Type 0} → (C → ℕ → Level → C → Type 0) → (C → ℕ → ℕ) → (C → ℕ → Type 0)
     → Soft → ℕ → Result Ran SoftRefused → Running C Tables → Running C Tables → Type 0
 Interrupts called count may_refuse level budget answer s t =
-    IsSoftint drains held_at done_at (at_level called (handler_level level)) count may_refuse
+    IsSoftint drains held_at done_at (at_level called (as_level level)) count may_refuse
     budget answer (end_at level s.cpu) s.calls (end_at level t.cpu) t.calls
     × SoftKept level s.cpu t.cpu

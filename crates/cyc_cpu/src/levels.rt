@@ -17,7 +17,7 @@ use cyc_types::Calls;
 impl Hard<LevelCore> {
     /// The conservation theorem of both soft levels: each is one that enabled events reached, and so lawful. It does nothing
     /// when it runs.
-    pub fn conservation(&self)
+    pub fn levels_conservation(&self)
         ensures lock_reached { IsReached (level_of self.now.lock) }
         ensures low_reached { IsReached (level_of self.now.low) }
         ensures lock_lawful { Lawful (level_of self.now.lock) }
@@ -43,6 +43,6 @@ impl Hard<LevelCore> {
             → StaysGone C.count id s t }
     {
         self.law();
-        self.conservation();
+        self.levels_conservation();
     }
 }

@@ -1,7 +1,7 @@
 //! The soft interrupt of a CPU whose levels one thread has.
 
 ghost use Rattle.std.specs.Prelude.{IfOk, IsTrue};
-ghost use Rattle.cyc_types.specs.Levels.{level_of, at_level};
+ghost use Rattle.cyc_types.specs.Levels.{as_level, at_level};
 ghost use Rattle.cyc_types.specs.Firing.{Sound};
 ghost use Rattle.cyc_soft.specs.Serving.{IsSoftint};
 ghost use Rattle.cyc_fire.specs.Quiet.{KeepsStays};
@@ -22,7 +22,7 @@ fn serve<C: Calls>(
     level: Soft,
     budget: u32,
 ) -> Result<Ran, SoftRefused>
-    ensures did { IsSoftint drains held_at done_at (at_level C.called (level_of level)) C.count C.may_refuse budget result end.old
+    ensures did { IsSoftint drains held_at done_at (at_level C.called (as_level level)) C.count C.may_refuse budget result end.old
         calls.old end.new calls.new }
     ensures empty { IfOk result (λ r. IsTrue r.idle → HasEmptyLists end.new) }
     ensures keeps { KeepsStays (firing_at end.old) (firing_at end.new) }

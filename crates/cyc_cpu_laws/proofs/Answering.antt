@@ -8,9 +8,9 @@ use Rattle.std.proofs.lemmas.List.{get_or_default}
 use Rattle.cyc_types.specs.Firing.{FiringCall, Loads, Marks, Polls, Stay}
 use Rattle.cyc_types.specs.Runs.{Goes}
 use Rattle.cyc_types.specs.declared.firing.Sent.{Sent}
-use Rattle.cyc_types.specs.declared.level.Level.{Level as TheLevel}
+use Rattle.cyc_types.specs.declared.level.Level.{Level}
 use Rattle.cyc_types.specs.declared.level.Level.TheVariants.{Low, Lock, High}
-use Rattle.cyc_cpu.specs.Level.{Cyclic as Admission, Level, count, count_in}
+use Rattle.cyc_cpu.specs.Level.{AdmittedCyclic, SoftLevel, count, count_in}
 use Rattle.cyc_cpu.specs.Lawful.{Lawful}
 use Rattle.cyc_cpu.specs.Tables.{Tables, level_of}
 use Rattle.cyc_cpu.specs.FiringSide.{stay_of}
@@ -26,7 +26,7 @@ use Rattle.cyc_cpu_laws.specs.Accounts.{counts_of, left_by}
 use Rattle.cyc_cpu_laws.specs.Receipts.{Releases, HasCalls, done_by, pending_by, IsBalanced, AnswersCalls}
 
 -- of a lawful stay, each expiration is done, outstanding or lost
-stay_done : (l : Level) (id : ℕ) (s : Stay) (o : Option Admission) → l.cyclics id ≡ o → Lawful l →
+stay_done : (l : SoftLevel) (id : ℕ) (s : Stay) (o : Option AdmittedCyclic) → l.cyclics id ≡ o → Lawful l →
     option_map stay_of o ≡ Some s → s.sent ≡ s.lost + done_in o + count_in o
 stay_done l id s None is law e = absurd (let wrong : None ≡ Some s = e in cc)
 stay_done l id s (Some a) is law e =
@@ -35,7 +35,7 @@ stay_done l id s (Some a) is law e =
     let z = law.conserved id a is in omega (arith, x, y, z)
 
 -- what a cyclic of this level has of calls
-balanced_here : (soft : TheLevel) (a : Tables) (cs : List Cyclic) (k : ℕ) (c : Cyclic) (n : ℕ) → AreAdmitted soft (firing_at a) cs
+balanced_here : (soft : Level) (a : Tables) (cs : List Cyclic) (k : ℕ) (c : Cyclic) (n : ℕ) → AreAdmitted soft (firing_at a) cs
     →
     Lawful (level_of a) → IsCyclic cs k c → c.timer.level ≡ soft → HasCalls c.carried n →
     c.timer.expired ≡ c.lost + (n + done_at a c.timer.id) + count (level_of a) c.timer.id
@@ -45,7 +45,7 @@ balanced_here soft a cs k c n admitted law here at carried =
     omega (arith, sent, lost, d, carried)
 
 -- where its end has none outstanding
-calls_here : (soft : TheLevel) (a : Tables) (cs : List Cyclic) (k : ℕ) (c : Cyclic) (n : ℕ) → AreAdmitted soft (firing_at a) cs →
+calls_here : (soft : Level) (a : Tables) (cs : List Cyclic) (k : ℕ) (c : Cyclic) (n : ℕ) → AreAdmitted soft (firing_at a) cs →
     Lawful (level_of a) → IsCyclic cs k c → c.timer.level ≡ soft →
     count (level_of a) c.timer.id ≡ 0 → HasCalls c.carried n → c.timer.expired ≡ c.lost + (n + done_at a c.timer.id)
 calls_here soft a cs k c n admitted law here at none carried =
@@ -67,7 +67,7 @@ polled_none id counts a b (m, ((sent, ((free, marked, none), is)), learns), last
 module _ (v w : CpuView Tables) (law : IsLawful firing_at v) (lock : Lawful (level_of v.lock))
     (low : Lawful (level_of v.low)) where
   at_level : (id n : ℕ) (way : List FiringCall) (c : Cyclic) (k : ℕ) → IsCyclic v.cyclics k c → c.timer.id ≡ id →
-      FindsNone id way → (own : TheLevel) → c.timer.level ≡ own → own ≢ High →
+      FindsNone id way → (own : Level) → c.timer.level ≡ own → own ≢ High →
       Goes fires firing_at v.lock (calls_at Lock own way) w.lock → Goes fires firing_at v.low (calls_at Low own way) w.low →
       HasCalls c.carried n → c.timer.expired ≡ c.lost + (n + done_by own v id)
   at_level id n way c k here named finds Lock at soft goes_lock goes_low carried =
@@ -86,7 +86,7 @@ module _ (v w : CpuView Tables) (law : IsLawful firing_at v) (lock : Lawful (lev
   left_calls id way c l finds soft n carried =
       at_level id n way c l.place l.here l.named finds c.timer.level refl soft l.goes.0 l.goes.1 carried
 
-  balanced_at : (c : Cyclic) (k : ℕ) → IsCyclic v.cyclics k c → (own : TheLevel) → c.timer.level ≡ own → own ≢ High → (n : ℕ) →
+  balanced_at : (c : Cyclic) (k : ℕ) → IsCyclic v.cyclics k c → (own : Level) → c.timer.level ≡ own → own ≢ High → (n : ℕ) →
       HasCalls c.carried n → c.timer.expired ≡ c.lost + (n + done_by own v c.timer.id) + pending_by own v c.timer.id
   balanced_at c k here Lock at soft n carried = balanced_here Lock v.lock v.cyclics k c n law.lock lock here at carried
   balanced_at c k here Low at soft n carried = balanced_here Low v.low v.cyclics k c n law.low low here at carried

@@ -7,7 +7,7 @@ use Rattle.std.proofs.lemmas.List.{length-map}
 use Rattle.cyc_types.specs.Counting.{times}
 use Rattle.cyc_types.specs.Draining.{DrainCall}
 use Rattle.cyc_types.specs.Firing.{FiringCall}
-use Rattle.cyc_types.specs.Levels.{at_level, level_of}
+use Rattle.cyc_types.specs.Levels.{at_level, as_level}
 use Rattle.cyc_types.specs.Runs.{Goes, DrainGoes, raised_by, lost_by, finishes_of, finished_by}
 use Rattle.cyc_types.specs.declared.level.Level.{Level}
 use Rattle.cyc_types.specs.declared.level.Level.TheVariants as level
@@ -220,7 +220,7 @@ module _ {C : Type 0} (called : C → ℕ → Level → C → Type 0) (count : C
 
   interrupted : (soft : Soft) (budget : ℕ) (answer : Result Ran SoftRefused) (s t : Running C Tables) (at : C)
       (ran : List Served) (rest : List DrainCall) →
-      ServesAt (at_level called (level_of soft)) count (end_at soft s.cpu) s.calls ran rest (end_at soft t.cpu) at →
+      ServesAt (at_level called (as_level soft)) count (end_at soft s.cpu) s.calls ran rest (end_at soft t.cpu) at →
       finishes_of rest ≡ [] → length ran ≡ told answer → ((q : ℕ) → count t.calls q ≡ count at q) →
       SoftKept soft s.cpu t.cpu → CoreProceeds count (account_of (SoftInterrupt soft budget answer) s.cpu.cyclics) s t
   interrupted Low budget answer s t at ran rest serves none long same kept =

@@ -2,7 +2,7 @@
 use Rattle.std.specs.Prelude.{◌≡◌, ℕ, ◌+◌, ◌≤◌, ◌==◌, cond, take, List, [], ◌∷◌, Some, Result, Ok, Err, sum_by}
 use Rattle.std.specs.List.{FoldsTo}
 use Rattle.cyc_types.specs.Firing.{FiringView, FiringCall}
-use Rattle.cyc_types.specs.Levels.{level_of}
+use Rattle.cyc_types.specs.Levels.{as_level}
 use Rattle.cyc_types.specs.declared.firing.Sent.{Sent}
 use Rattle.cyc_types.specs.declared.level.Level.{Level}
 use Rattle.cyc_types.specs.declared.level.Level.TheVariants.{Low, Lock, High}
@@ -46,7 +46,7 @@ told (Err refused) = refused.calls
 
 -- those that a call tells at each level
 abbrev pub served_by : CpuCall → Level → ℕ
-served_by (SoftInterrupt soft budget answer) level = cond (same_level level (level_of soft)) (told answer) 0
+served_by (SoftInterrupt soft budget answer) level = cond (same_level level (as_level soft)) (told answer) 0
 served_by call level = 0
 
 -- what calls did: the expirations of each id at each level, the calls that soft interrupts tell at each level, and the counts

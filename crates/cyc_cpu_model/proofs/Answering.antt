@@ -4,16 +4,16 @@ use Rattle.std.proofs.Common.{Some, None, refl, ap, sym, ◌∙◌, subst, arith
 use Rattle.std.specs.Prelude.{nat_lt, nat_le, ◌&&◌, Ok, Err}
 use Rattle.std.proofs.lemmas.Bool.Decides.{nat_tests}
 use Rattle.std.proofs.lemmas.List.{length-map}
-use Rattle.cyc_types.specs.Levels.{at_level, level_of as handler_level}
+use Rattle.cyc_types.specs.Levels.{at_level, as_level}
 use Rattle.cyc_types.specs.Limits.{cyclics as most_cyclics}
 use Rattle.cyc_types.specs.Series.{never}
-use Rattle.cyc_types.specs.declared.level.Level.{Level as CyclicLevel}
+use Rattle.cyc_types.specs.declared.level.Level.{Level}
 use Rattle.cyc_types.specs.declared.level.Level.TheVariants.{Low, Lock, High}
 use Rattle.cyc_types.specs.declared.moment.When.{When}
 use Rattle.cyc_types.specs.declared.receipt.Receipt.{Receipt}
 use Rattle.cyc_types.specs.declared.refusal.Refusal.{Refusal}
 use Rattle.cyc_types.specs.declared.refusal.Refusal.TheVariants.{Memory, BadNow, Full, Expanding, Busy, NoCyclic, Pending}
-use Rattle.cyc_level.specs.Level.{Level, count}
+use Rattle.cyc_level.specs.Level.{SoftLevel, count}
 use Rattle.cyc_expirations.specs.Expirations.{expirations}
 use Rattle.cyc_core.specs.Tables.{Tables, level_of}
 use Rattle.cyc_timers.specs.Rows.{Cyclic as Timed}
@@ -82,7 +82,7 @@ and_false false b x = refl
 and_false true b (inl x) = absurd (let no : true ≡ false = x in cc)
 and_false true b (inr y) = y
 
-abbrev is_followed : Level → Level → Bool
+abbrev is_followed : SoftLevel → SoftLevel → Bool
 is_followed lock low = (lock.hard_bank == lock.soft_bank) && (low.hard_bank == low.soft_bank)
 
 -- what the CPU is after it was looked at
@@ -269,7 +269,7 @@ waiting id online v w law is_open p = pick p.cyclic.timer.level refl
     soft : p.cyclic.timer.level ≡ High → ⊥
     soft high = (law.own online).removed id is_open (level_found online p.place id p.cyclic v law.rising p.here p.named ∙ high)
 
-    pick : (level : CyclicLevel) → p.cyclic.timer.level ≡ level → 0 < outstanding_here id (shown_cpu online v)
+    pick : (level : Level) → p.cyclic.timer.level ≡ level → 0 < outstanding_here id (shown_cpu online v)
     pick High at = absurd (soft at)
     pick Lock at = let some = waits (same_level Lock p.cyclic.timer.level) id v.lock w.lock p.goes.0 (ap (same_level Lock) at) in
         omega (arith, some)
@@ -278,7 +278,7 @@ waiting id online v w law is_open p = pick p.cyclic.timer.level refl
 
 -- ---- adds that were refused
 
-not_added : (id : ℕ) (level : CyclicLevel) (series : When) (now : ℕ) (online : Bool) (e : Refusal) (v w : CpuView Tables)
+not_added : (id : ℕ) (level : Level) (series : When) (now : ℕ) (online : Bool) (e : Refusal) (v w : CpuView Tables)
     → now ≤ never
     → Changes fires seen v (Add id level series now (Err e)) w
     → IsRefused e (first_refusal (bad_now now ∷ why_no_room 1 (shown_cpu online v) ∷ []))
@@ -293,7 +293,7 @@ not_added id level series now online e v w most d =
 
 -- ---- each call
 
-pub answers : {C : Type 0} (called : C → ℕ → CyclicLevel → C → Type 0) (count_of : C → ℕ → ℕ) (may_refuse : C → ℕ
+pub answers : {C : Type 0} (called : C → ℕ → Level → C → Type 0) (count_of : C → ℕ → ℕ) (may_refuse : C → ℕ
     → Type 0) (n : ℕ) (online : Bool)
     (call : CpuCall) (s t : Running C Tables) → IsTied s.cpu → IsInTime call → (IsStopped call → ⊥)
     → Does called count_of may_refuse fires seen (Interrupts called count_of may_refuse) s call t
@@ -305,7 +305,7 @@ answers called count_of may_refuse n online (Fire now (Err e)) s t law in_time g
 answers called count_of may_refuse n online (SoftInterrupt level budget (Ok r)) s t law in_time goes (did, kept) =
     let (ran, long, serves, left) = did.served in
     let (most, exactly) = did.within in
-    let f = serves_here (at_level called (handler_level level)) count_of level n budget r.calls r.idle online s.cpu t.cpu s.calls
+    let f = serves_here (at_level called (as_level level)) count_of level n budget r.calls r.idle online s.cpu t.cpu s.calls
     t.calls ran long serves left most exactly kept in
     (f.2, f.3)
 answers called count_of may_refuse n online (SoftInterrupt level budget (Err e)) s t law in_time goes does = absurd (goes tt)

@@ -4,7 +4,7 @@ use Rattle.std.proofs.Common.{subst, arith}
 use Rattle.std.specs.Prelude.{nat_le, nat_lt}
 use Rattle.std.proofs.lemmas.Bool.Decides.{nat_tests}
 use Rattle.std.proofs.lemmas.List.{length-map}
-use Rattle.cyc_types.specs.declared.level.Level.{Level as CyclicLevel}
+use Rattle.cyc_types.specs.declared.level.Level.{Level}
 use Rattle.cyc_types.specs.declared.level.Level.TheVariants.{Low, Lock}
 use Rattle.cyc_types.specs.declared.moment.When.{When}
 use Rattle.cyc_level.specs.declared.Event.TheVariants.{Admit, Switch}
@@ -126,7 +126,7 @@ widened n more online v w wd =
 
 -- ---- an add
 
-pub added : (n id now : ℕ) (online : Bool) (level : CyclicLevel) (when : When) (v w : CpuView Tables)
+pub added : (n id now : ℕ) (online : Bool) (level : Level) (when : When) (v w : CpuView Tables)
     → (a : Adds fires seen id level when now v w)
     → HasRisingIds w.cyclics → shown_cpu online w
     ≡ (enter_here n a.enters.index (new_cyclic id level when.start when.interval now) (shown_cpu online v)).cpu

@@ -7,17 +7,17 @@ use Rattle.std.specs.Option.{option_map_or}
 use Rattle.cyc_types.specs.Firing.{Loads, Marks, Polls}
 use Rattle.cyc_types.specs.Runs.{Goes}
 use Rattle.cyc_types.specs.declared.firing.Sent.{Sent}
-use Rattle.cyc_types.specs.declared.level.Level.{Level as CyclicLevel}
+use Rattle.cyc_types.specs.declared.level.Level.{Level}
 use Rattle.cyc_types.specs.declared.level.Level.TheVariants.{Low, Lock, High}
-use Rattle.cyc_level.specs.Level.{Cyclic as Admitted, count, count_in}
+use Rattle.cyc_level.specs.Level.{AdmittedCyclic, count, count_in}
 use Rattle.cyc_core.specs.Tables.{Tables, level_of}
 use Rattle.cyc_timers.specs.Rows.{Cyclic as Timed}
 use Rattle.cyc_cpu.specs.Cpu.{CpuView, IsCyclic, HasNoCyclic, HasRisingIds}
 use Rattle.cyc_cpu_model.specs.Tied.{HasOwn, IsTied}
 use Rattle.cyc_cpu.specs.Soft.{fires, firing_at as seen}
-use Rattle.cyc_model.specs.Cpu.{Cyclic, Cpu, is_of, level_of as level_of_id}
+use Rattle.cyc_model.specs.Cpu.{Cyclic, Cpu, is_of, handler_level_of}
 use Rattle.cyc_model.specs.Serving.{level_at}
-use Rattle.cyc_model.specs.Agreement.{as_level}
+use Rattle.cyc_types.specs.Levels.{as_level}
 use Rattle.cyc_types.specs.declared.level.Soft.{Soft}
 use Rattle.cyc_types.specs.declared.level.Soft.TheVariants as soft
 use Rattle.cyc_model.specs.Questions.{outstanding_here}
@@ -55,14 +55,14 @@ found_as id cs k x rising is same = subst (λ i. find (is_of i) (map shown cs) �
 
 -- ---- the calls that are outstanding
 
-none_at : (id : ℕ) (soft : Soft) (level : CyclicLevel) (c : Cpu) → HasOwn c → level_of_id id c ≡ level
+none_at : (id : ℕ) (soft : Soft) (level : Level) (c : Cpu) → HasOwn c → handler_level_of id c ≡ level
     → (level ≡ as_level soft → ⊥)
-    → (o : Option Admitted) → (level_at soft c).cyclics id ≡ o → count_in o ≡ 0
+    → (o : Option AdmittedCyclic) → (level_at soft c).cyclics id ≡ o → count_in o ≡ 0
 none_at id soft level c h is other None at = refl
 none_at id soft level c h is other (Some x) at = absurd (other (sym is ∙ h.known soft id (ap is_some at)))
 
 -- a cyclic of another level has no call outstanding at this one
-none_here : (id : ℕ) (soft : Soft) (level : CyclicLevel) (c : Cpu) → HasOwn c → level_of_id id c ≡ level
+none_here : (id : ℕ) (soft : Soft) (level : Level) (c : Cpu) → HasOwn c → handler_level_of id c ≡ level
     → (level ≡ as_level soft → ⊥) → count (level_at soft c) id ≡ 0
 none_here id soft level c h is other = none_at id soft level c h is other ((level_at soft c).cyclics id) refl
 
@@ -74,7 +74,7 @@ pub outstanding_is : (id n k : ℕ) (x : Timed) (online : Bool) (v : CpuView Tab
     → n ≡ outstanding_here id (shown_cpu online v)
 outstanding_is id n k x online v tied is same high lock low = pick x.timer.level refl
   where
-    found : level_of_id id (shown_cpu online v) ≡ x.timer.level
+    found : handler_level_of id (shown_cpu online v) ≡ x.timer.level
     found = ap (λ (o : Option Cyclic). option_map_or (λ y. y.timer.level) o High) (found_as id v.cyclics k x tied.rising is same)
 
     none_lock : (x.timer.level ≡ Lock → ⊥) → count (level_of v.lock) id ≡ 0
@@ -83,7 +83,7 @@ outstanding_is id n k x online v tied is same high lock low = pick x.timer.level
     none_low : (x.timer.level ≡ Low → ⊥) → count (level_of v.low) id ≡ 0
     none_low other = none_here id soft.Low x.timer.level (shown_cpu online v) (tied.own online) found other
 
-    pick : (level : CyclicLevel) → x.timer.level ≡ level → n ≡ outstanding_here id (shown_cpu online v)
+    pick : (level : Level) → x.timer.level ≡ level → n ≡ outstanding_here id (shown_cpu online v)
     pick High at =
         let a = high at in
         let b = none_lock (λ e. let both : High ≡ Lock = sym at ∙ e in cc) in

@@ -8,7 +8,7 @@ use Rattle.std.proofs.lemmas.List.Sums.{sum_by-append}
 use Rattle.cyc_types.specs.Counting.{times}
 use Rattle.cyc_types.specs.Firing.{FiringCall}
 use Rattle.cyc_types.specs.Runs.{lost_by}
-use Rattle.cyc_types.specs.declared.level.Level.{Level as CyclicLevel}
+use Rattle.cyc_types.specs.declared.level.Level.{Level}
 use Rattle.cyc_types.specs.declared.level.Level.TheVariants.{Low, Lock, High}
 use Rattle.cyc_types.specs.declared.level.Soft.{Soft}
 use Rattle.cyc_types.specs.declared.level.Soft.TheVariants as soft
@@ -24,7 +24,7 @@ use Rattle.cyc_fire.specs.Made.{Makes}
 use Rattle.cyc_cpu.specs.Cpu.{CpuView, SameCpu}
 use Rattle.cyc_cpu.specs.Soft.{fires, firing_at as seen}
 use Rattle.cyc_model.specs.Acts.{Act, At, Call, call_of, calls_of, losses_of, losses_in}
-use Rattle.cyc_model.specs.Cpu.{Cyclic, Cpu, Here, happen, here, then_here, acts_first, timers, is_of, level_of as cyclic_level}
+use Rattle.cyc_model.specs.Cpu.{Cyclic, Cpu, Here, happen, here, then_here, acts_first, timers, is_of, handler_level_of}
 use Rattle.cyc_model.specs.Firing.{raised, expiry, expire_all, due_here, fired, fire_these, fire_here}
 use Rattle.cyc_model.specs.Serving.{level_after}
 use Rattle.cyc_model.proofs.Events.{level_append, calls_append}
@@ -87,18 +87,18 @@ find_timer id [] = refl
 find_timer id (x ∷ cs) = ap (cond (x.timer.id == id) (Some x.timer)) (find_timer id cs)
     ∙ find_timer_at x (find (is_of id) cs) (x.timer.id == id)
 
-of_level_at : (level : CyclicLevel) (o : Option Cyclic) → IsSome o → is_of_level level (option_map (λ y. y.timer) o)
+of_level_at : (level : Level) (o : Option Cyclic) → IsSome o → is_of_level level (option_map (λ y. y.timer) o)
     ≡ same_level level (option_map_or (λ y. y.timer.level) o High)
 of_level_at level None some = absurd (let no : false ≡ true = some in cc)
 of_level_at level (Some x) some = refl
 
-of_level : (level : CyclicLevel) (p : Expiration) (c : Cpu) → IsSome (find (is_of p.id) c.cyclics)
-    → is_at level (timers c.cyclics) p ≡ same_level level (cyclic_level p.id c)
+of_level : (level : Level) (p : Expiration) (c : Cpu) → IsSome (find (is_of p.id) c.cyclics)
+    → is_at level (timers c.cyclics) p ≡ same_level level (handler_level_of p.id c)
 of_level level p c some = ap (is_of_level level) (find_timer p.id c.cyclics)
     ∙ of_level_at level (find (is_of p.id) c.cyclics) some
 
 -- the ids of the expirations of a level, where that of the first is known
-ids_as : (level : CyclicLevel) (p : Expiration) (ps : List Expiration) (ts : List Timer) (b : Bool) → is_at level ts p ≡ b
+ids_as : (level : Level) (p : Expiration) (ps : List Expiration) (ts : List Timer) (b : Bool) → is_at level ts p ≡ b
     → ids_at level ts (p ∷ ps) ≡ cond b (p.id ∷ ids_at level ts ps) (ids_at level ts ps)
 ids_as level p ps ts b is = ap (λ x. map (λ (q : Expiration). q.id)
     (cond x (p ∷ filter (is_at level ts) ps) (filter (is_at level ts) ps))) is ∙ pick b
@@ -110,7 +110,7 @@ ids_as level p ps ts b is = ap (λ x. map (λ (q : Expiration). q.id)
 
 -- ---- all expirations of a fire
 
-abbrev pub at : CyclicLevel → List Expiration → Cpu → List ℕ
+abbrev pub at : Level → List Expiration → Cpu → List ℕ
 at level ps c = ids_at level (timers c.cyclics) ps
 
 -- what these expirations do on the CPU: each level's in order, and the handlers' calls
@@ -125,7 +125,7 @@ pub record Does (ps : List Expiration) (c : Cpu) (d : Here) : Type 0 where
   pub calls : (id : ℕ) → calls_of id d.acts ≡ times id (at High ps c)
 
 -- one expiration before others
-step_as : (n : ℕ) (p : Expiration) (ps : List Expiration) (c e : Cpu) (level : CyclicLevel) → cyclic_level p.id c ≡ level
+step_as : (n : ℕ) (p : Expiration) (ps : List Expiration) (c e : Cpu) (level : Level) → handler_level_of p.id c ≡ level
     → happen (expiry n level p.id c) c ≡ e
     → Does (p ∷ ps) c (acts_first (expiry n level p.id c) (expire_all n ps e)) → Does (p ∷ ps) c (expire_all n (p ∷ ps) c)
 step_as n p ps c e level is leads does =
@@ -134,7 +134,7 @@ step_as n p ps c e level is leads does =
     ∙ ap (λ x. acts_first (expiry n level p.id c) (expire_all n ps x)) leads)) does
 
 at_lock : (n : ℕ) (p : Expiration) (ps : List Expiration) (c : Cpu) (d : Here) → IsSome (find (is_of p.id) c.cyclics)
-    → cyclic_level p.id c ≡ Lock
+    → handler_level_of p.id c ≡ Lock
     → Does ps (record c { lock = level_after (raised p.id c.lock) c.lock }) d
     → Does (p ∷ ps) c (acts_first (map (At n soft.Lock) (raised p.id c.lock)) d)
 at_lock n p ps c d some is r =
@@ -179,7 +179,7 @@ at_lock n p ps c d some is r =
     }
 
 at_low : (n : ℕ) (p : Expiration) (ps : List Expiration) (c : Cpu) (d : Here) → IsSome (find (is_of p.id) c.cyclics)
-    → cyclic_level p.id c ≡ Low
+    → handler_level_of p.id c ≡ Low
     → Does ps (record c { low = level_after (raised p.id c.low) c.low }) d
     → Does (p ∷ ps) c (acts_first (map (At n soft.Low) (raised p.id c.low)) d)
 at_low n p ps c d some is r =
@@ -227,7 +227,7 @@ times_more : (id j : ℕ) (ids : List ℕ) → times id (j ∷ ids) ≡ call_of 
 times_more id j ids = let whole = sum_by-append (λ (c : ℕ). cond (c == id) 1 0) (j ∷ []) ids in omega (arith, whole)
 
 at_high : (n : ℕ) (p : Expiration) (ps : List Expiration) (c : Cpu) (d : Here) → IsSome (find (is_of p.id) c.cyclics)
-    → cyclic_level p.id c ≡ High
+    → handler_level_of p.id c ≡ High
     → Does ps c d → Does (p ∷ ps) c (acts_first (Call p.id ∷ []) d)
 at_high n p ps c d some is r =
     let locks : at Lock (p ∷ ps) c ≡ at Lock ps c =
@@ -246,7 +246,7 @@ at_high n p ps c d some is r =
           omega (arith, rest, x, y);
     }
 
-one_more : (n : ℕ) (p : Expiration) (ps : List Expiration) (c : Cpu) (level : CyclicLevel) → cyclic_level p.id c ≡ level
+one_more : (n : ℕ) (p : Expiration) (ps : List Expiration) (c : Cpu) (level : Level) → handler_level_of p.id c ≡ level
     → IsSome (find (is_of p.id) c.cyclics) → ((e : Cpu) → e.cyclics ≡ c.cyclics → Does ps e (expire_all n ps e))
     → Does (p ∷ ps) c (expire_all n (p ∷ ps) c)
 one_more n p ps c High is some rest = step_as n p ps c c High is refl (at_high n p ps c (expire_all n ps c) some is (rest c refl))
@@ -259,7 +259,7 @@ one_more n p ps c Low is some rest =
 
 pub all_do : (n : ℕ) (ps : List Expiration) (c : Cpu) → AllHere ps c.cyclics → Does ps c (expire_all n ps c)
 all_do n [] c here = record { cpu = refl; each = λ id. refl; lost = refl; calls = λ id. refl }
-all_do n (p ∷ ps) c here = one_more n p ps c (cyclic_level p.id c) refl here.0
+all_do n (p ∷ ps) c here = one_more n p ps c (handler_level_of p.id c) refl here.0
     (λ e same. all_do n ps e (subst (AllHere ps) (sym same) here.1))
 
 -- ---- each expiration is of a cyclic

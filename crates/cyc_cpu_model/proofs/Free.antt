@@ -6,12 +6,12 @@ use Rattle.cyc_types.specs.Firing.{Admits}
 use Rattle.cyc_types.specs.Runs.{Goes}
 use Rattle.cyc_types.specs.declared.level.Soft.{Soft}
 use Rattle.cyc_types.specs.declared.level.Soft.TheVariants as soft
-use Rattle.cyc_types.specs.declared.level.Level.{Level as CyclicLevel}
+use Rattle.cyc_types.specs.declared.level.Level.{Level}
 use Rattle.cyc_types.specs.declared.level.Level.TheVariants.{Low, Lock, High}
 use Rattle.cyc_types.specs.declared.moment.When.{When}
 use Rattle.cyc_level.specs.declared.Event.{Event}
 use Rattle.cyc_level.specs.declared.Event.TheVariants.{Admit, Expire, Lose, Publish, Take, Finish, Mark, Clear, Switch, Follow}
-use Rattle.cyc_level.specs.Level.{Level, count}
+use Rattle.cyc_level.specs.Level.{SoftLevel, count}
 use Rattle.cyc_level.specs.Events.{Enabled, after}
 use Rattle.cyc_expirations.specs.Expirations.{Expiration}
 use Rattle.cyc_core.specs.Tables.{Tables, level_of}
@@ -21,7 +21,7 @@ use Rattle.cyc_cpu.specs.Cpu.{CpuView, Places}
 use Rattle.cyc_cpu.specs.Calls.{Adds}
 use Rattle.cyc_cpu.specs.Soft.{fires, firing_at as seen}
 use Rattle.cyc_model.specs.Acts.{Act, At, Call, at_own, same_soft, events_at}
-use Rattle.cyc_model.specs.Cpu.{Cpu, nothing_here, then_here, level_of as cyclic_level}
+use Rattle.cyc_model.specs.Cpu.{Cpu, nothing_here, then_here, handler_level_of}
 use Rattle.cyc_model.specs.Firing.{raised, expiry, expire_here, expire_all, due_here, fire_here}
 use Rattle.cyc_model.specs.Serving.{level_after, level_at, looks, look, Interrupt, after_look, serve, serve_here}
 use Rattle.cyc_model.specs.Moving.{bank_for, must_grow, switch_here, widen_here, place_here, enter_here, take_here, mark_here}
@@ -44,7 +44,7 @@ HasNoAdmit [] = ⊤
 HasNoAdmit (At m level e ∷ acts) = IsNoAdmit e × HasNoAdmit acts
 HasNoAdmit (Call id ∷ acts) = HasNoAdmit acts
 
-can_none : (e : Event) (l : Level) → IsNoAdmit e → CanBeAdmitted e l
+can_none : (e : Event) (l : SoftLevel) → IsNoAdmit e → CanBeAdmitted e l
 can_none (Admit id index) l is = absurd is
 can_none (Expire id) l is = tt
 can_none (Lose id) l is = tt
@@ -56,12 +56,12 @@ can_none (Clear id) l is = tt
 can_none (Switch bank) l is = tt
 can_none Follow l is = tt
 
-first_none : (b : Bool) (e : Event) (es : List Event) (l : Level) → IsNoAdmit e → ((m : Level) → AllCanBeAdmitted es m)
+first_none : (b : Bool) (e : Event) (es : List Event) (l : SoftLevel) → IsNoAdmit e → ((m : SoftLevel) → AllCanBeAdmitted es m)
     → AllCanBeAdmitted (cond b (e ∷ []) [] ++ es) l
 first_none true e es l is rest = (can_none e l is, rest (after e l))
 first_none false e es l is rest = rest l
 
-pub none_admitted : (acts : List Act) (n : ℕ) (soft : Soft) (l : Level) → HasNoAdmit acts
+pub none_admitted : (acts : List Act) (n : ℕ) (soft : Soft) (l : SoftLevel) → HasNoAdmit acts
     → AllCanBeAdmitted (events_at n soft acts) l
 none_admitted [] n soft l none = tt
 none_admitted (At m level e ∷ acts) n soft l none =
@@ -73,7 +73,7 @@ no_more [] ys first rest = rest
 no_more (At m level e ∷ xs) ys first rest = (first.0, no_more xs ys first.1 rest)
 no_more (Call id ∷ xs) ys first rest = no_more xs ys first rest
 
-own_none : (n : ℕ) (level : CyclicLevel) (e : Event) → IsNoAdmit e → HasNoAdmit (at_own n level e)
+own_none : (n : ℕ) (level : Level) (e : Event) → IsNoAdmit e → HasNoAdmit (at_own n level e)
 own_none n High e is = tt
 own_none n Lock e is = (is, tt)
 own_none n Low e is = (is, tt)
@@ -94,7 +94,7 @@ raised_none true empty id = (tt, tt)
 raised_none false true id = (tt, (tt, tt))
 raised_none false false id = (tt, tt)
 
-expiry_none : (n : ℕ) (level : CyclicLevel) (id : ℕ) (c : Cpu) → HasNoAdmit (expiry n level id c)
+expiry_none : (n : ℕ) (level : Level) (id : ℕ) (c : Cpu) → HasNoAdmit (expiry n level id c)
 expiry_none n High id c = tt
 expiry_none n Lock id c = events_none n soft.Lock (raised id c.lock)
     (raised_none (count c.lock id == c.lock.ceiling) (count c.lock id == 0) id)
@@ -105,7 +105,7 @@ pub expire_none : (n : ℕ) (ps : List Expiration) (c : Cpu) → HasNoAdmit (exp
 expire_none n [] c = tt
 expire_none n (p ∷ ps) c =
     no_more (expire_here n p.id c).acts (expire_all n ps (expire_here n p.id c).cpu).acts
-    (expiry_none n (cyclic_level p.id c) p.id c)
+    (expiry_none n (handler_level_of p.id c) p.id c)
     (expire_none n ps (expire_here n p.id c).cpu)
 
 pub fire_none : (n now : ℕ) (c : Cpu) → HasNoAdmit (fire_here n now c).acts
@@ -121,22 +121,22 @@ looks_none (x ∷ xs) [] false = (tt, tt)
 looks_none (x ∷ xs) (y ∷ ys) true = (tt, tt)
 looks_none (x ∷ xs) (y ∷ ys) false = (tt, tt)
 
-look_none : (l : Level) → AllNone (look l)
+look_none : (l : SoftLevel) → AllNone (look l)
 look_none l = pick (is_some l.drainer_hand)
   where
     pick : (b : Bool) → AllNone (cond b [] (looks l.old_list l.new_list (l.hard_bank == l.soft_bank)))
     pick true = tt
     pick false = looks_none l.old_list l.new_list (l.hard_bank == l.soft_bank)
 
-after_none : (n : ℕ) (soft : Soft) (looked : List Event) (l : Level) (rest : Level → Interrupt) → AllNone looked
-    → ((m : Level) → HasNoAdmit (rest m).acts)
+after_none : (n : ℕ) (soft : Soft) (looked : List Event) (l : SoftLevel) (rest : SoftLevel → Interrupt) → AllNone looked
+    → ((m : SoftLevel) → HasNoAdmit (rest m).acts)
     → (hand : Option ℕ) → HasNoAdmit (after_look n soft looked (record l { drainer_hand = hand }) rest).acts
 after_none n soft looked l rest none more None = events_none n soft looked none
 after_none n soft looked l rest none more (Some id) =
     no_more (map (At n soft) looked) _ (events_none n soft looked none)
     (tt, more (after Finish (record l { drainer_hand = Some id })))
 
-serve_none : (n : ℕ) (soft : Soft) (budget : ℕ) (l : Level) → HasNoAdmit (serve n soft budget l).acts
+serve_none : (n : ℕ) (soft : Soft) (budget : ℕ) (l : SoftLevel) → HasNoAdmit (serve n soft budget l).acts
 serve_none n soft zero l = tt
 serve_none n soft (suc budget) l =
     after_none n soft (look l) (level_after (look l) l) (serve n soft budget) (look_none l) (serve_none n soft budget)
@@ -153,22 +153,22 @@ widen_none n more c = pick (must_grow more c)
     pick false = tt
 
 pub mark_none : (n id : ℕ) (c : Cpu) → HasNoAdmit (mark_here n id c).acts
-mark_none n id c = own_none n (cyclic_level id c) (Mark id) tt
+mark_none n id c = own_none n (handler_level_of id c) (Mark id) tt
 
 pub clear_none : (n id : ℕ) (c : Cpu) → HasNoAdmit (clear_here n id c).acts
-clear_none n id c = own_none n (cyclic_level id c) (Clear id) tt
+clear_none n id c = own_none n (handler_level_of id c) (Clear id) tt
 
 pub remove_none : (n id : ℕ) (c : Cpu) → HasNoAdmit (then_here (mark_here n id c) (clear_here n id)).acts
 remove_none n id c = no_more (mark_here n id c).acts (clear_here n id (mark_here n id c).cpu).acts (mark_none n id c)
     (clear_none n id (mark_here n id c).cpu)
 
 pub take_none : (n id : ℕ) (c : Cpu) → HasNoAdmit (take_here n id c).acts
-take_none n id c = no_more (at_own n (cyclic_level id c) (Mark id)) _ (own_none n (cyclic_level id c) (Mark id) tt)
+take_none n id c = no_more (at_own n (handler_level_of id c) (Mark id)) _ (own_none n (handler_level_of id c) (Mark id) tt)
     (own_none n _ (Clear id) tt)
 
 -- ---- a cyclic that is put in
 
-can_append : (xs ys : List Event) (l : Level) → AllCanBeAdmitted xs l → AllCanBeAdmitted ys (level_after xs l)
+can_append : (xs ys : List Event) (l : SoftLevel) → AllCanBeAdmitted xs l → AllCanBeAdmitted ys (level_after xs l)
     → AllCanBeAdmitted (xs ++ ys) l
 can_append [] ys l first rest = rest
 can_append (x ∷ xs) ys l first rest = (first.0, can_append xs ys (after x l) first.1 rest)
@@ -179,7 +179,7 @@ enabled_at : (own : Bool) (id index : ℕ) (d e : Tables) → Goes fires seen d 
 enabled_at true id index d e (x, (step, learns), last) is = step.0
 enabled_at false id index d e goes is = absurd (let isnt : false ≡ true = is in cc)
 
-own_can : (n id index : ℕ) (level : CyclicLevel) (soft : Soft) (c : Cpu)
+own_can : (n id index : ℕ) (level : Level) (soft : Soft) (c : Cpu)
     → (level ≡ Lock → Enabled (Admit id index) c.lock) → (level ≡ Low → Enabled (Admit id index) c.low)
     → AllCanBeAdmitted (events_at n soft (at_own n level (Admit id index))) (level_at soft c)
 own_can n id index High soft c lock low = tt
@@ -202,7 +202,7 @@ place_free n online x soft v w p =
     (λ e. enabled_at (same_level Lock x.timer.level) x.timer.id p.index v.lock w.lock p.lock (ap (same_level Lock) e))
     (λ e. enabled_at (same_level Low x.timer.level) x.timer.id p.index v.low w.low p.low (ap (same_level Low) e))
 
-pub add_free : (n id now : ℕ) (online : Bool) (level : CyclicLevel) (series : When) (soft : Soft) (v w : CpuView Tables)
+pub add_free : (n id now : ℕ) (online : Bool) (level : Level) (series : When) (soft : Soft) (v w : CpuView Tables)
     (a : Adds fires seen id level series now v w)
     → AllCanBeAdmitted (events_at n soft (enter_here n a.enters.index (new_cyclic id level series.start series.interval now)
     (shown_cpu online v)).acts) (level_at soft (shown_cpu online v))

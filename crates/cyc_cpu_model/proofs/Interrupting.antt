@@ -14,7 +14,7 @@ use Rattle.cyc_types.specs.declared.level.Soft.{Soft}
 use Rattle.cyc_types.specs.declared.level.Soft.TheVariants.{Low, Lock}
 use Rattle.cyc_level.specs.declared.Event.{Event}
 use Rattle.cyc_level.specs.declared.Event.TheVariants.{Finish}
-use Rattle.cyc_level.specs.Level.{Cyclic as Admitted, Level, count, count_in}
+use Rattle.cyc_level.specs.Level.{AdmittedCyclic, SoftLevel, count, count_in}
 use Rattle.cyc_level.specs.Events.{after, after_finish, cyclic_after_finish, hand_after_finish}
 use Rattle.cyc_level.proofs.Maps.{at_same}
 use Rattle.cyc_core.specs.Tables.{Tables, level_of}
@@ -33,16 +33,16 @@ use Rattle.cyc_cpu_model.proofs.Firing.{lock_events, low_events, events_call_non
 
 -- ---- one soft level of a CPU
 
-abbrev pub with_level : Soft → Level → Cpu → Cpu
+abbrev pub with_level : Soft → SoftLevel → Cpu → Cpu
 with_level Low l c = record c { low = l }
 with_level Lock l c = record c { lock = l }
 
-events_cpu : (soft : Soft) (n : ℕ) (es : List Event) (l : Level) (c : Cpu)
+events_cpu : (soft : Soft) (n : ℕ) (es : List Event) (l : SoftLevel) (c : Cpu)
     → happen (map (At n soft) es) (with_level soft l c) ≡ with_level soft (level_after es l) c
 events_cpu Low n es l c = low_events n es (record c { low = l })
 events_cpu Lock n es l c = lock_events n es (record c { lock = l })
 
-finish_cpu : (soft : Soft) (n : ℕ) (l : Level) (c : Cpu)
+finish_cpu : (soft : Soft) (n : ℕ) (l : SoftLevel) (c : Cpu)
     → cpu_after (At n soft Finish) (with_level soft l c) ≡ with_level soft (after Finish l) c
 finish_cpu Low n l c = refl
 finish_cpu Lock n l c = refl
@@ -64,7 +64,7 @@ events_call_nothing n soft (e ∷ es) = let r = events_call_nothing n soft es in
 
 -- ---- the hand after a finish
 
-one_less : (o : Option Admitted) → count_in (option_map cyclic_after_finish o) ≡ count_in o - 1
+one_less : (o : Option AdmittedCyclic) → count_in (option_map cyclic_after_finish o) ≡ count_in o - 1
 one_less None = refl
 one_less (Some c) = refl
 
@@ -76,13 +76,13 @@ left_hand (suc zero) id false = refl
 left_hand (suc (suc n)) id marked = ap (λ b. hand_after (cond b (cond marked LastOfRemoval Last) More) (Some id))
     (sym (ne_eqb (suc (suc n) - 1) 0 (λ e. absurd (omega arith))))
 
-finish_hand : (id : ℕ) (answer : Finished) (m k : Level) → m.drainer_hand ≡ Some id → k ≡ after Finish m
+finish_hand : (id : ℕ) (answer : Finished) (m k : SoftLevel) → m.drainer_hand ≡ Some id → k ≡ after Finish m
     → answer ≡ finished_at (count k id) (is_marked k.marked id) → k.drainer_hand ≡ hand_after answer (Some id)
 finish_hand id answer m k held is found =
     let done : k ≡ after_finish (Some id) m = is ∙ ap (λ h. after_finish h m) held in
-    let left : count k id ≡ count m id - 1 = ap (λ (x : Level). count x id) done
+    let left : count k id ≡ count m id - 1 = ap (λ (x : SoftLevel). count x id) done
     ∙ (ap count_in (at_same m.cyclics id (option_map cyclic_after_finish)) ∙ one_less (m.cyclics id)) in
-    ap (λ (x : Level). x.drainer_hand) done ∙ (ap (hand_after_finish (count m id)) held
+    ap (λ (x : SoftLevel). x.drainer_hand) done ∙ (ap (hand_after_finish (count m id)) held
     ∙ (left_hand (count m id) id (is_marked k.marked id)
     ∙ (ap (λ n. hand_after (finished_at n (is_marked k.marked id)) (Some id)) (sym left)
     ∙ ap (λ a. hand_after a (Some id)) (sym found))))
@@ -99,15 +99,15 @@ same_looks (x ∷ xs) [] false = refl
 same_looks (x ∷ xs) (y ∷ ys) true = refl
 same_looks (x ∷ xs) (y ∷ ys) false = refl
 
-looks_empty : (l : Level) (id : ℕ) → l.drainer_hand ≡ Some id → look l ≡ []
+looks_empty : (l : SoftLevel) (id : ℕ) → l.drainer_hand ≡ Some id → look l ≡ []
 looks_empty l id held = ap (λ h. cond (is_some h) [] (looks l.old_list l.new_list (l.hard_bank == l.soft_bank))) held
 
-looks_once : (l : Level) → l.drainer_hand ≡ None → look l ≡ take_events l.old_list l.new_list (l.hard_bank == l.soft_bank)
+looks_once : (l : SoftLevel) → l.drainer_hand ≡ None → look l ≡ take_events l.old_list l.new_list (l.hard_bank == l.soft_bank)
 looks_once l free =
     ap (λ h. cond (is_some h) [] (looks l.old_list l.new_list (l.hard_bank == l.soft_bank))) free
     ∙ same_looks l.old_list l.new_list (l.hard_bank == l.soft_bank)
 
-took : (l m : Level) (answer : Option ℕ) → l.drainer_hand ≡ None → Drains l (Takes answer) m → m ≡ level_after (look l) l
+took : (l m : SoftLevel) (answer : Option ℕ) → l.drainer_hand ≡ None → Drains l (Takes answer) m → m ≡ level_after (look l) l
 took l m answer free (happened, is) =
     folds (take_events l.old_list l.new_list (l.hard_bank == l.soft_bank)) l m happened
     ∙ ap (λ es. level_after es l) (sym (looks_once l free))
@@ -115,7 +115,7 @@ took l m answer free (happened, is) =
 -- ---- the calls one after another
 
 -- the definition makes these calls, stops so, and leaves this level
-pub record Interrupts (n : ℕ) (soft : Soft) (budget : ℕ) (called : List ℕ) (idle : Bool) (l m : Level) : Type 0 where
+pub record Interrupts (n : ℕ) (soft : Soft) (budget : ℕ) (called : List ℕ) (idle : Bool) (l m : SoftLevel) : Type 0 where
   pub stopped : (serve n soft budget l).idle ≡ idle
   pub calls : (q : ℕ) → calls_of q (serve n soft budget l).acts ≡ times q called
   pub many : calls_in (serve n soft budget l).acts ≡ length called
@@ -130,10 +130,10 @@ fits_less : (idle : Bool) (m n b : ℕ) → m ≡ n + 1 → FitsBudget idle m (s
 fits_less true m n b is fits = omega arith
 fits_less false m n b is fits = omega arith
 
-stops : (n : ℕ) (soft : Soft) (budget : ℕ) (l m : Level) → m ≡ level_after (look l) l → m.drainer_hand ≡ None
+stops : (n : ℕ) (soft : Soft) (budget : ℕ) (l m : SoftLevel) → m ≡ level_after (look l) l → m.drainer_hand ≡ None
     → Interrupts n soft (suc budget) [] true l m
 stops n soft budget l m is free =
-    let none : (level_after (look l) l).drainer_hand ≡ None = ap (λ (x : Level). x.drainer_hand) (sym is) ∙ free in
+    let none : (level_after (look l) l).drainer_hand ≡ None = ap (λ (x : SoftLevel). x.drainer_hand) (sym is) ∙ free in
     let so : serve n soft (suc budget) l ≡ found_nothing n soft (look l) =
     ap (λ h. option_map_or (λ (id : ℕ). calling n soft (look l) id (serve n soft budget (after Finish (level_after (look l) l))))
     h (found_nothing n soft (look l))) none in
@@ -148,11 +148,11 @@ stops n soft budget l m is free =
 times_first : (id j : ℕ) (xs : List ℕ) → times id (j ∷ xs) ≡ call_of id (Call j) + times id xs
 times_first id j xs = let whole = sum_by-append (λ (c : ℕ). cond (c == id) 1 0) (j ∷ []) xs in omega (arith, whole)
 
-goes_on : (n : ℕ) (soft : Soft) (budget : ℕ) (called : List ℕ) (id : ℕ) (idle : Bool) (l m k e : Level)
+goes_on : (n : ℕ) (soft : Soft) (budget : ℕ) (called : List ℕ) (id : ℕ) (idle : Bool) (l m k e : SoftLevel)
     → m ≡ level_after (look l) l → m.drainer_hand ≡ Some id
     → k ≡ after Finish m → Interrupts n soft budget called idle k e → Interrupts n soft (suc budget) (id ∷ called) idle l e
 goes_on n soft budget called id idle l m k e is held done rest =
-    let hand : (level_after (look l) l).drainer_hand ≡ Some id = ap (λ (x : Level). x.drainer_hand) (sym is) ∙ held in
+    let hand : (level_after (look l) l).drainer_hand ≡ Some id = ap (λ (x : SoftLevel). x.drainer_hand) (sym is) ∙ held in
     let at : k ≡ after Finish (level_after (look l) l) = done ∙ ap (after Finish) is in
     let looked = map (At n soft) (look l) in
     let more = serve n soft budget k in
@@ -199,7 +199,7 @@ interrupts n soft zero [] true hand d e held fits left way = absurd (omega arith
 interrupts n soft (suc budget) [] true hand d e held fits left (j, drained, last) =
     let free : (level_of d).drainer_hand ≡ None = held ∙ left refl in
     let same : level_of e ≡ level_of j = ap level_of (sym last) in
-    subst (λ (x : Level). Interrupts n soft (suc budget) [] true (level_of d) x) (sym same)
+    subst (λ (x : SoftLevel). Interrupts n soft (suc budget) [] true (level_of d) x) (sym same)
     (stops n soft budget (level_of d) (level_of j) (took (level_of d) (level_of j) None free drained) (sym drained.1))
 interrupts n soft zero (s ∷ ran) true hand d e held fits left way = absurd (omega arith)
 interrupts n soft zero (s ∷ ran) false hand d e held fits left way = absurd (omega arith)

@@ -7,7 +7,7 @@ use Rattle.cyc_types.specs.declared.level.Level.TheVariants.{Low, Lock, High}
 use Rattle.cyc_types.specs.declared.moment.When.{When}
 use Rattle.cyc_types.specs.declared.refusal.Refusal.{Refusal}
 use Rattle.cyc_types.specs.declared.refusal.Refusal.TheVariants.{BadNow, NoCyclic, Busy, Pending}
-use Rattle.cyc_types.specs.Levels.{level_of as handler_level}
+use Rattle.cyc_types.specs.Levels.{as_level}
 use Rattle.cyc_level.specs.declared.Event.TheVariants.{Admit, Mark, Clear}
 use Rattle.cyc_core.specs.Tables.{Tables, level_of}
 use Rattle.cyc_fire.specs.Acts.{same_level}
@@ -20,7 +20,7 @@ use Rattle.cyc_cpu.specs.Soft.{fires, firing_at as seen, Interrupts}
 use Rattle.cyc_cpu.specs.Calls.{CpuCall, Fire, SoftInterrupt, Add, Place, Reprogram, AskPending, AskTotals, AskRoom, Reserve}
 use Rattle.cyc_cpu.specs.Calls.{Widen, BeginRemove, PollRemove, TakeNow, AskSettled, Changes, Does}
 use Rattle.cyc_model.specs.Acts.{at_own, calls_of}
-use Rattle.cyc_model.specs.Cpu.{Cyclic, Cpu, here, nothing_here, then_here, level_of as cyclic_level}
+use Rattle.cyc_model.specs.Cpu.{Cyclic, Cpu, here, nothing_here, then_here, handler_level_of}
 use Rattle.cyc_model.specs.Moving.{bank_for, must_grow, switch_here, widen_here, place_here, enter_here, take_here, mark_here}
 use Rattle.cyc_model.specs.Moving.{clear_here}
 use Rattle.cyc_model.specs.Firing.{fire_here}
@@ -91,16 +91,16 @@ remove_calls : (q n id : ℕ) (c : Cpu) → calls_of q (then_here (mark_here n i
 remove_calls q n id c =
     let d = (mark_here n id c).cpu in
     let whole = calls_append q (mark_here n id c).acts (clear_here n id d).acts in
-    let first = own_calls (cyclic_level id c) n q (Mark id) in
-    let rest = own_calls (cyclic_level id d) n q (Clear id) in
+    let first = own_calls (handler_level_of id c) n q (Mark id) in
+    let rest = own_calls (handler_level_of id d) n q (Clear id) in
     omega (arith, whole, first, rest)
 
 take_calls : (q n id : ℕ) (c : Cpu) → calls_of q (take_here n id c).acts ≡ 0
 take_calls q n id c =
-    let d = (here (at_own n (cyclic_level id c) (Mark id)) c).cpu in
-    let whole = calls_append q (at_own n (cyclic_level id c) (Mark id)) (at_own n (cyclic_level id d) (Clear id)) in
-    let first = own_calls (cyclic_level id c) n q (Mark id) in
-    let rest = own_calls (cyclic_level id d) n q (Clear id) in
+    let d = (here (at_own n (handler_level_of id c) (Mark id)) c).cpu in
+    let whole = calls_append q (at_own n (handler_level_of id c) (Mark id)) (at_own n (handler_level_of id d) (Clear id)) in
+    let first = own_calls (handler_level_of id c) n q (Mark id) in
+    let rest = own_calls (handler_level_of id d) n q (Clear id) in
     omega (arith, whole, first, rest)
 
 quiet : {C : Type 0} (count : C → ℕ → ℕ) (t u : C) (q m : ℕ) → u ≡ t → m ≡ 0 → count u q ≡ count t q + m
@@ -129,7 +129,7 @@ is_here called count may_refuse n online (Fire now (Err e)) s t rising rises goe
 is_here called count may_refuse n online (SoftInterrupt level budget (Ok r)) s t rising rises goes (did, kept) =
     let (ran, long, serves, left) = did.served in
     let (most, exactly) = did.within in
-    let f = serves_here (at_level called (handler_level level)) count level n budget r.calls r.idle online s.cpu t.cpu s.calls
+    let f = serves_here (at_level called (as_level level)) count level n budget r.calls r.idle online s.cpu t.cpu s.calls
     t.calls ran long serves left most exactly kept in
     record {
       index = 0;
@@ -242,7 +242,7 @@ is_here called count may_refuse n online (BeginRemove id (Ok (Kept kept))) s t r
       cpu = opened n id kept online s.cpu t.cpu rising opens;
       free = λ soft. none_admitted (mark_here n id (shown_cpu online s.cpu)).acts n soft (level_at soft (shown_cpu online s.cpu))
           (mark_none n id (shown_cpu online s.cpu));
-      called = λ q. quiet count s.calls t.calls q _ calls (own_calls (cyclic_level id (shown_cpu online s.cpu)) n q (Mark id));
+      called = λ q. quiet count s.calls t.calls q _ calls (own_calls (handler_level_of id (shown_cpu online s.cpu)) n q (Mark id));
     }
 is_here called count may_refuse n online (BeginRemove id (Err e)) s t rising rises goes (d, calls) = record {
   index = 0;
@@ -256,7 +256,7 @@ is_here called count may_refuse n online (PollRemove (Some receipt)) s t rising 
   free = λ soft. none_admitted (clear_here n receipt.id (shown_cpu online s.cpu)).acts n soft
       (level_at soft (shown_cpu online s.cpu)) (clear_none n receipt.id (shown_cpu online s.cpu));
   called = λ q. quiet count s.calls t.calls q _ calls
-      (own_calls (cyclic_level receipt.id (shown_cpu online s.cpu)) n q (Clear receipt.id));
+      (own_calls (handler_level_of receipt.id (shown_cpu online s.cpu)) n q (Clear receipt.id));
 }
 is_here called count may_refuse n online (PollRemove None) s t rising rises goes (inl none, calls) = record {
   index = 0;

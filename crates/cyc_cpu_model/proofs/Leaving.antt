@@ -6,7 +6,7 @@ use Rattle.std.specs.Option.{option_map_or}
 use Rattle.cyc_types.specs.Series.{never}
 use Rattle.cyc_types.specs.Firing.{FiringCall, Loads, Marks, Polls}
 use Rattle.cyc_types.specs.declared.firing.Sent.{Sent}
-use Rattle.cyc_types.specs.declared.level.Level.{Level as CyclicLevel}
+use Rattle.cyc_types.specs.declared.level.Level.{Level}
 use Rattle.cyc_types.specs.declared.level.Level.TheVariants.{Low, Lock, High}
 use Rattle.cyc_level.specs.declared.Event.TheVariants.{Mark, Clear}
 use Rattle.cyc_core.specs.Tables.{Tables}
@@ -16,7 +16,7 @@ use Rattle.cyc_cpu.specs.Cpu.{CpuView, HasRisingIds, IsCyclic, with_moment as ti
 use Rattle.cyc_cpu.specs.Removal.{Leaves, Opens}
 use Rattle.cyc_cpu.specs.Soft.{fires, firing_at as seen}
 use Rattle.cyc_model.specs.Acts.{at_own}
-use Rattle.cyc_model.specs.Cpu.{Cyclic, Cpu, happen, is_of, level_of as cyclic_level, others, with_moment}
+use Rattle.cyc_model.specs.Cpu.{Cyclic, Cpu, happen, is_of, handler_level_of, others, with_moment}
 use Rattle.cyc_model.specs.Moving.{moment_at, take_here, reprogram_here, mark_here, clear_here}
 use Rattle.cyc_cpu_model.specs.Shown.{shown, shown_cpu}
 use Rattle.cyc_cpu_model.proofs.Lists.{find_shown, left_shown, moved_shown}
@@ -25,14 +25,14 @@ use Rattle.cyc_cpu_model.proofs.Levels.{marked_level, cleared_level, ended_level
 -- the level of the cyclic of this id
 pub level_found : (online : Bool) (k id : ℕ) (x : Timed) (v : CpuView Tables) → HasRisingIds v.cyclics
     → IsCyclic v.cyclics k x → x.timer.id ≡ id
-    → cyclic_level id (shown_cpu online v) ≡ x.timer.level
+    → handler_level_of id (shown_cpu online v) ≡ x.timer.level
 level_found online k id x v rising is named =
     ap (λ (o : Option Cyclic). option_map_or (λ y. y.timer.level) o High)
     (subst (λ i. find (is_of i) (map shown v.cyclics) ≡ Some (shown x)) named (find_shown v.cyclics k x rising is))
 
 -- ---- another moment
 
-abbrev level_in : Option Cyclic → CyclicLevel
+abbrev level_in : Option Cyclic → Level
 level_in o = option_map_or (λ y. y.timer.level) o High
 
 same_level_at : (id moment : ℕ) (y : Cyclic) (ys : List Cyclic) (b : Bool) → is_of id y ≡ b
@@ -73,7 +73,7 @@ reprogrammed n id moment k online x v w rising is named e =
 
 -- ---- a removal begins
 
-abbrev pub marked_cpu : CyclicLevel → ℕ → Cpu → Cpu
+abbrev pub marked_cpu : Level → ℕ → Cpu → Cpu
 marked_cpu level id c = record c {
   cyclics = map (moment_at id never) c.cyclics;
   removal = Some id;
@@ -82,7 +82,7 @@ marked_cpu level id c = record c {
 }
 
 -- what the mark leaves, where the level is known
-pub mark_as : (n id : ℕ) (level : CyclicLevel) (c : Cpu) → cyclic_level id c ≡ level
+pub mark_as : (n id : ℕ) (level : Level) (c : Cpu) → handler_level_of id c ≡ level
     → (mark_here n id c).cpu ≡ marked_cpu level id c
 mark_as n id level c is =
     ap (λ l. happen (at_own n l (Mark id)) (record c { cyclics = map (moment_at id never) c.cyclics; removal = Some id })) is
@@ -102,7 +102,7 @@ opened n id kept online v w rising o =
 
 -- ---- a removal ends
 
-abbrev pub cleared_cpu : CyclicLevel → ℕ → Cpu → Cpu
+abbrev pub cleared_cpu : Level → ℕ → Cpu → Cpu
 cleared_cpu level id c = record c {
   cyclics = others id c.cyclics;
   removal = None;
@@ -110,7 +110,7 @@ cleared_cpu level id c = record c {
   low = where_own (same_level Low level) (Clear id) c.low;
 }
 
-pub clear_as : (n id : ℕ) (level : CyclicLevel) (c : Cpu) → cyclic_level id c ≡ level
+pub clear_as : (n id : ℕ) (level : Level) (c : Cpu) → handler_level_of id c ≡ level
     → (clear_here n id c).cpu ≡ cleared_cpu level id c
 clear_as n id level c is =
     ap (λ l. happen (at_own n l (Clear id)) (record c { cyclics = others id c.cyclics; removal = None })) is
@@ -151,7 +151,7 @@ ended n id online counts x v w rising l =
 
 -- ---- a move takes it
 
-abbrev pub own_marked : CyclicLevel → ℕ → Cpu → Cpu
+abbrev pub own_marked : Level → ℕ → Cpu → Cpu
 own_marked level id c = record c {
   lock = where_own (same_level Lock level) (Mark id) c.lock;
   low = where_own (same_level Low level) (Mark id) c.low;
@@ -160,10 +160,10 @@ own_marked level id c = record c {
 abbrev pub without : ℕ → Cpu → Cpu
 without id c = record c { cyclics = others id c.cyclics }
 
-pub take_as : (n id : ℕ) (level : CyclicLevel) (c : Cpu) → cyclic_level id c ≡ level
+pub take_as : (n id : ℕ) (level : Level) (c : Cpu) → handler_level_of id c ≡ level
     → (take_here n id c).cpu ≡ happen (at_own n level (Clear id)) (without id (own_marked level id c))
 take_as n id level c is =
-    ap (λ d. happen (at_own n (cyclic_level id d) (Clear id)) (without id d))
+    ap (λ d. happen (at_own n (handler_level_of id d) (Clear id)) (without id d))
     (ap (λ l. happen (at_own n l (Mark id)) c) is ∙ own_cpu level n (Mark id) c)
     ∙ ap (λ l. happen (at_own n l (Clear id)) (without id (own_marked level id c))) is
 

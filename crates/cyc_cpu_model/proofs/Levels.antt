@@ -3,11 +3,11 @@ use Rattle.std.proofs.Common.{◌≡◌, ℕ, List, [], ◌∷◌, map, Bool, tr
 use Rattle.cyc_types.specs.Firing.{Admits, Loads, Marks, Polls, Expands, Looks}
 use Rattle.cyc_types.specs.Runs.{Taught, Goes}
 use Rattle.cyc_types.specs.declared.firing.Sent.{Sent}
-use Rattle.cyc_types.specs.declared.level.Level.{Level as CyclicLevel}
+use Rattle.cyc_types.specs.declared.level.Level.{Level}
 use Rattle.cyc_types.specs.declared.level.Level.TheVariants.{Low, Lock, High}
 use Rattle.cyc_level.specs.declared.Event.{Event}
 use Rattle.cyc_level.specs.declared.Event.TheVariants.{Admit, Mark, Clear, Switch}
-use Rattle.cyc_level.specs.Level.{Level}
+use Rattle.cyc_level.specs.Level.{SoftLevel}
 use Rattle.cyc_level.specs.Events.{after}
 use Rattle.cyc_core.specs.Tables.{Tables, level_of}
 use Rattle.cyc_fire.specs.Acts.{same_level}
@@ -31,7 +31,7 @@ loaded [] d e goes = ap level_of (sym goes)
 loaded (a ∷ asked) d e (x, (step, learns), rest) = loaded asked x e rest ∙ step.1
 
 -- the level where an event happened at it, and else as it was
-abbrev pub where_own : Bool → Event → Level → Level
+abbrev pub where_own : Bool → Event → SoftLevel → SoftLevel
 where_own own event l = cond own (after event l) l
 
 pub asked_level : (own : Bool) (id pend : ℕ) (d e : Tables) → Goes fires seen d (cond own (Loads id pend ∷ []) []) e
@@ -86,7 +86,7 @@ grown_level true bank d e kept grew = (grew refl).0.1
 -- ---- one event on a CPU
 
 -- an event at the level of a cyclic changes that level
-pub own_cpu : (level : CyclicLevel) (n : ℕ) (event : Event) (c : Cpu) → happen (at_own n level event) c ≡ record c {
+pub own_cpu : (level : Level) (n : ℕ) (event : Event) (c : Cpu) → happen (at_own n level event) c ≡ record c {
   lock = where_own (same_level Lock level) event c.lock;
   low = where_own (same_level Low level) event c.low;
 }
@@ -95,7 +95,7 @@ own_cpu Lock n event c = refl
 own_cpu Low n event c = refl
 
 -- it calls no handler
-pub own_calls : (level : CyclicLevel) (n id : ℕ) (event : Event) → calls_of id (at_own n level event) ≡ 0
+pub own_calls : (level : Level) (n id : ℕ) (event : Event) → calls_of id (at_own n level event) ≡ 0
 own_calls High n id event = refl
 own_calls Lock n id event = refl
 own_calls Low n id event = refl

@@ -10,13 +10,13 @@ use Rattle.cyc_types.specs.declared.firing.Raised.{Raised}
 use Rattle.cyc_types.specs.declared.firing.Raised.TheVariants.{First, More, Lost}
 use Rattle.cyc_level.specs.declared.Event.{Event}
 use Rattle.cyc_level.specs.declared.Event.TheVariants.{Expire, Lose, Publish}
-use Rattle.cyc_level.specs.Level.{Level, count, count_in}
+use Rattle.cyc_level.specs.Level.{SoftLevel, count, count_in}
 use Rattle.cyc_level.specs.Events.{hand_after_expire}
 use Rattle.cyc_level.proofs.Maps.{some_and, not_none}
 use Rattle.cyc_core.specs.Reached.{Happens}
 use Rattle.cyc_core.specs.FiringSide.{Fires, raise_events}
 use Rattle.cyc_core.specs.Tables.{Tables, level_of}
-use Rattle.cyc_fire.specs.Acts.{AreRaises, loss_in, losses as losses_in_way}
+use Rattle.cyc_fire.specs.Acts.{AreRaises, loss_in, way_losses as losses_in_way}
 use Rattle.cyc_cpu.specs.Soft.{fires, firing_at as seen}
 use Rattle.cyc_model.specs.Acts.{loss_of, is_loss}
 use Rattle.cyc_model.specs.Firing.{raised}
@@ -24,7 +24,7 @@ use Rattle.cyc_model.specs.Serving.{level_after}
 use Rattle.cyc_model.proofs.Events.{level_append}
 
 -- the events of the expirations of these ids at one level, in order
-abbrev pub expiries : List ℕ → Level → List Event
+abbrev pub expiries : List ℕ → SoftLevel → List Event
 expiries [] l = []
 expiries (id ∷ ids) l = raised id l ++ expiries ids (level_after (raised id l) l)
 
@@ -50,7 +50,7 @@ lost_all_append (x ∷ xs) ys = let r = lost_all_append xs ys in omega (arith, r
 found_at : Bool → ℕ → Raised
 found_at full n = cond full Lost (cond (n == 0) First More)
 
-found : ℕ → Level → Raised
+found : ℕ → SoftLevel → Raised
 found id l = found_at (count l id == l.ceiling) (count l id)
 
 lost_found : (n ceiling : ℕ) → n ≡ ceiling → Lost ≡ found_at (n == ceiling) n
@@ -70,7 +70,7 @@ more_found zero id hand none = absurd (cc)
 more_found (suc n) id hand none = ap (λ b. cond b First More) (sym (ne_eqb (suc n) 0 (λ e. absurd (omega arith))))
 
 -- the answer is what the level shows
-fires_found : (id : ℕ) (a : Raised) (l m : Level) → Fires l (Raises id a) m → a ≡ found id l
+fires_found : (id : ℕ) (a : Raised) (l m : SoftLevel) → Fires l (Raises id a) m → a ≡ found id l
 unfolding found found_at
 fires_found id Lost l m ((j, (on, is), last), free) =
     let (c, isc, (full, room)) = some_and _ (l.cyclics id) on.2 in
@@ -78,14 +78,14 @@ fires_found id Lost l m ((j, (on, is), last), free) =
 fires_found id First l m ((j, (on, is), (k, (published, isk), last)), free) =
     let (c, isc, (below, room)) = some_and _ (l.cyclics id) on.2 in
     let few : count l id < l.ceiling = subst (λ (n : ℕ). n < l.ceiling) (sym (ap count_in isc)) below in
-    let some : IsSome (hand_after_expire (count l id) id l.firer_hand) = subst (λ (x : Level). IsSome x.firer_hand) is published
+    let some : IsSome (hand_after_expire (count l id) id l.firer_hand) = subst (λ (x : SoftLevel). IsSome x.firer_hand) is published
     in
     first_found (count l id) id l.firer_hand on.0 some ∙ sym (below_found (count l id) l.ceiling few)
 fires_found id More l m ((j, (on, is), last), free) =
     let (c, isc, (below, room)) = some_and _ (l.cyclics id) on.2 in
     let few : count l id < l.ceiling = subst (λ (n : ℕ). n < l.ceiling) (sym (ap count_in isc)) below in
-    more_found (count l id) id l.firer_hand (ap (λ (x : Level). x.firer_hand) (sym is)
-    ∙ (ap (λ (x : Level). x.firer_hand) last ∙ free)) ∙ sym (below_found (count l id) l.ceiling few)
+    more_found (count l id) id l.firer_hand (ap (λ (x : SoftLevel). x.firer_hand) (sym is)
+    ∙ (ap (λ (x : SoftLevel). x.firer_hand) last ∙ free)) ∙ sym (below_found (count l id) l.ceiling few)
 
 events_as : (full none : Bool) (id : ℕ) → raise_events id (cond full Lost (cond none First More))
     ≡ cond full (Lose id ∷ []) (cond none (Expire id ∷ Publish ∷ []) (Expire id ∷ []))
@@ -94,16 +94,16 @@ events_as false true id = refl
 events_as false false id = refl
 
 -- its events are those of the definition
-raise_as : (id : ℕ) (a : Raised) (l m : Level) → Fires l (Raises id a) m → raise_events id a ≡ raised id l
+raise_as : (id : ℕ) (a : Raised) (l m : SoftLevel) → Fires l (Raises id a) m → raise_events id a ≡ raised id l
 unfolding found found_at
 raise_as id a l m fires =
     ap (raise_events id) (fires_found id a l m fires) ∙ events_as (count l id == l.ceiling) (count l id == 0) id
 
-pub folds : (es : List Event) (l m : Level) → FoldsTo Happens l es m → m ≡ level_after es l
+pub folds : (es : List Event) (l m : SoftLevel) → FoldsTo Happens l es m → m ≡ level_after es l
 folds [] l m is = sym is
 folds (e ∷ es) l m (j, (on, is), rest) = folds es j m rest ∙ ap (level_after es) is
 
-raise_level : (id : ℕ) (a : Raised) (l m : Level) → Fires l (Raises id a) m → m ≡ level_after (raised id l) l
+raise_level : (id : ℕ) (a : Raised) (l m : SoftLevel) → Fires l (Raises id a) m → m ≡ level_after (raised id l) l
 raise_level id a l m fires = folds (raise_events id a) l m fires.0 ∙ ap (λ es. level_after es l) (raise_as id a l m fires)
 
 all_as : (a : Raised) (id : ℕ) → lost_all (raise_events id a) ≡ loss_in (Raises id a)
@@ -122,7 +122,7 @@ each_as Lost id j = swapped id j
 -- ---- a list of raises
 
 -- these raises were these expirations
-pub record Expired (ids : List ℕ) (way : List FiringCall) (l m : Level) : Type 0 where
+pub record Expired (ids : List ℕ) (way : List FiringCall) (l m : SoftLevel) : Type 0 where
   pub level : m ≡ level_after (expiries ids l) l
   pub lost : lost_all (expiries ids l) ≡ losses_in_way way
   pub each : (id : ℕ) → lost_of id (expiries ids l) ≡ lost_by id way
@@ -142,7 +142,7 @@ expired (id ∷ ids) (Raises j a ∷ way) d e (x, (step, learns), rest) (same, m
     let fired = subst (λ (k : ℕ). Fires l (Raises k a) (level_of x)) same step in
     let at : level_of x ≡ level_after (raised id l) l = raise_level id a l (level_of x) fired in
     let m = level_after (raised id l) l in
-    let on = subst (λ (k : Level). Expired ids way k (level_of e)) at (expired ids way x e rest more) in
+    let on = subst (λ (k : SoftLevel). Expired ids way k (level_of e)) at (expired ids way x e rest more) in
     let events = raise_as id a l (level_of x) fired in
     let one : lost_all (raised id l) ≡ loss_in (Raises j a) = ap lost_all (sym events) ∙ all_as a id ∙ renamed_loss id j a in
     record {

@@ -6,13 +6,13 @@ use Rattle.std.specs.List.{FoldsTo}
 use Rattle.cyc_types.specs.Draining.{DrainCall, Takes, Finishes, hand_after}
 use Rattle.cyc_types.specs.Runs.{DrainGoes}
 use Rattle.cyc_types.specs.Levels.{at_level}
-use Rattle.cyc_types.specs.declared.level.Level.{Level as CyclicLevel}
+use Rattle.cyc_types.specs.declared.level.Level.{Level}
 use Rattle.cyc_types.specs.declared.level.Level.TheVariants.{High}
 use Rattle.cyc_types.specs.declared.level.Soft.{Soft}
 use Rattle.cyc_types.specs.declared.level.Soft.TheVariants.{Low, Lock}
 use Rattle.cyc_level.specs.declared.Event.{Event}
 use Rattle.cyc_level.specs.declared.Event.TheVariants.{Finish}
-use Rattle.cyc_level.specs.Level.{Level}
+use Rattle.cyc_level.specs.Level.{SoftLevel}
 use Rattle.cyc_core.specs.Tables.{Tables, level_of}
 use Rattle.cyc_core.specs.DrainingSide.{Drains, take_events}
 use Rattle.cyc_core.specs.Reached.{Happens}
@@ -24,7 +24,7 @@ use Rattle.cyc_soft.specs.Serving.{Served, way_of, look_of, hand_left}
 use Rattle.cyc_cpu.specs.Cpu.{CpuView, Running, HasRisingIds}
 use Rattle.cyc_cpu.specs.Soft.{fires, firing_at as seen, drains, end_at, SoftKept, Interrupts}
 use Rattle.cyc_cpu.specs.Calls.{CpuCall, Fire, SoftInterrupt, Does, Stopped}
-use Rattle.cyc_model.specs.Cpu.{Cyclic, level_of as cyclic_level}
+use Rattle.cyc_model.specs.Cpu.{Cyclic, handler_level_of}
 use Rattle.cyc_model.specs.Serving.{level_at}
 use Rattle.cyc_cpu_model.specs.Shown.{shown, shown_cpu}
 use Rattle.cyc_cpu_model.specs.Tied.{HasOwn, IsTied}
@@ -40,7 +40,7 @@ first_here : (made rest : List Expiration) (cs : List Cyclic) → AllHere (made 
 first_here [] rest cs all = tt
 first_here (p ∷ made) rest cs all = (all.0, first_here made rest cs all.1)
 
-module _ {C : Type 0} (called : C → ℕ → CyclicLevel → C → Type 0) (count : C → ℕ → ℕ) (may_refuse : C → ℕ → Type 0) where
+module _ {C : Type 0} (called : C → ℕ → Level → C → Type 0) (count : C → ℕ → ℕ) (may_refuse : C → ℕ → Type 0) where
   fire_stopped : (now : ℕ) (e : FireRefused) (s t : Running C Tables)
       → Does called count may_refuse fires seen (Interrupts called count may_refuse) s (Fire now (Err e)) t → IsTied s.cpu
       → IsTied t.cpu
@@ -71,12 +71,12 @@ take_none (x ∷ xs) [] false = (tt, tt)
 take_none (x ∷ xs) (y ∷ ys) true = (tt, tt)
 take_none (x ∷ xs) (y ∷ ys) false = (tt, tt)
 
-happen_has : (es : List Event) (l m : Level) (q : ℕ) → NoAdmits es → FoldsTo Happens l es m → Has q m → Has q l
+happen_has : (es : List Event) (l m : SoftLevel) (q : ℕ) → NoAdmits es → FoldsTo Happens l es m → Has q m → Has q l
 happen_has [] l m q none same is = subst (Has q) (sym same) is
 happen_has (e ∷ es) l m q none (k, (enabled, after_it), rest) is =
     event_has e l q none.0 (subst (Has q) after_it (happen_has es k m q none.1 rest is))
 
-drain_has : (call : DrainCall) (l m : Level) (q : ℕ) → Drains l call m → Has q m → Has q l
+drain_has : (call : DrainCall) (l m : SoftLevel) (q : ℕ) → Drains l call m → Has q m → Has q l
 drain_has (Takes answer) l m q (happened, found) is =
     happen_has (take_events l.old_list l.new_list (l.hard_bank == l.soft_bank)) l m q
     (take_none l.old_list l.new_list (l.hard_bank == l.soft_bank)) happened is
@@ -95,7 +95,7 @@ fewer Low Lock online v w q kept_it less is = subst (λ (x : Tables). Has q (lev
 fewer Lock Low online v w q kept_it less is = subst (λ (x : Tables). Has q (level_of x)) kept_it.beside is
 fewer Lock Lock online v w q kept_it less is = less is
 
-module _ {C : Type 0} (called : C → ℕ → CyclicLevel → C → Type 0) (count : C → ℕ → ℕ) (may_refuse : C → ℕ → Type 0) where
+module _ {C : Type 0} (called : C → ℕ → Level → C → Type 0) (count : C → ℕ → ℕ) (may_refuse : C → ℕ → Type 0) where
   soft_stopped : (level : Soft) (budget : ℕ) (e : SoftRefused) (s t : Running C Tables)
       → Does called count may_refuse fires seen (Interrupts called count may_refuse) s (SoftInterrupt level budget (Err e)) t
       → IsTied s.cpu → IsTied t.cpu

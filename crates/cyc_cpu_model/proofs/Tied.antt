@@ -13,10 +13,10 @@ use Rattle.cyc_types.specs.declared.level.Level.TheVariants as kind
 use Rattle.cyc_types.specs.declared.level.Soft.{Soft}
 use Rattle.cyc_types.specs.declared.level.Soft.TheVariants as soft
 use Rattle.std.specs.Option.{option_map}
-use Rattle.cyc_level.specs.Level.{Cyclic as Admitted, Level as Admissions}
+use Rattle.cyc_level.specs.Level.{AdmittedCyclic, SoftLevel as Admissions}
 use Rattle.cyc_core.specs.FiringSide.{stay_of, firing_view}
 use Rattle.cyc_model.specs.Serving.{level_at}
-use Rattle.cyc_model.specs.Agreement.{as_level}
+use Rattle.cyc_types.specs.Levels.{as_level}
 use Rattle.cyc_expirations.specs.Expirations.{expirations}
 use Rattle.cyc_core.specs.Tables.{Tables, level_of}
 use Rattle.cyc_timers.specs.Rows.{Cyclic as Timed, timers as timed}
@@ -26,7 +26,7 @@ use Rattle.cyc_cpu.specs.Law.{IsLawful}
 use Rattle.cyc_cpu.specs.Soft.{fires, firing_at as seen, Interrupts}
 use Rattle.cyc_cpu.specs.Calls.{CpuCall, Fire, SoftInterrupt, Add, Place, Reprogram, AskPending, AskTotals, AskRoom, Reserve}
 use Rattle.cyc_cpu.specs.Calls.{Widen, BeginRemove, PollRemove, TakeNow, AskSettled, Changes, Does}
-use Rattle.cyc_model.specs.Cpu.{is_of, level_of as cyclic_level}
+use Rattle.cyc_model.specs.Cpu.{is_of, handler_level_of}
 use Rattle.cyc_model.specs.Moving.{widen_here, mark_here}
 use Rattle.cyc_model.specs.Add.{new_cyclic}
 use Rattle.cyc_cpu_model.specs.Shown.{shown, shown_cpu}
@@ -175,19 +175,19 @@ pub lawful_tied : (v : CpuView Tables) → IsLawful seen v → IsTied v
 lawful_tied v law = record { rising = law.rising; own = λ online. record { known = known online; removed = removed online } }
   where
     at_level : (online : Bool) (kind : Level) (l : Admissions) (q : ℕ) → AreAdmitted kind (firing_view l) v.cyclics
-        → (o : Option Admitted) → l.cyclics q ≡ o → IsSome o
-        → cyclic_level q (shown_cpu online v) ≡ kind
+        → (o : Option AdmittedCyclic) → l.cyclics q ≡ o → IsSome o
+        → handler_level_of q (shown_cpu online v) ≡ kind
     at_level online kind l q a None at some = absurd (let isnt : false ≡ true = some in cc)
     at_level online kind l q a (Some c) at some =
         let (k, x, is, named, level) = a.only q (stay_of c) (ap (option_map stay_of) at) in
         level_found online k q x v law.rising is named ∙ level
 
     known : (online : Bool) (soft : Soft) (q : ℕ) → IsSome ((level_at soft (shown_cpu online v)).cyclics q)
-        → cyclic_level q (shown_cpu online v) ≡ as_level soft
+        → handler_level_of q (shown_cpu online v) ≡ as_level soft
     known online soft.Lock q is = at_level online kind.Lock (level_of v.lock) q law.lock ((level_of v.lock).cyclics q) refl is
     known online soft.Low q is = at_level online kind.Low (level_of v.low) q law.low ((level_of v.low).cyclics q) refl is
 
-    removed : (online : Bool) (id : ℕ) → v.removal ≡ Some id → cyclic_level id (shown_cpu online v) ≢ High
+    removed : (online : Bool) (id : ℕ) → v.removal ≡ Some id → handler_level_of id (shown_cpu online v) ≢ High
     removed online id is high =
         let (k, x, here, named, other, never_due) = law.removed id is in
         other (sym (level_found online k id x v law.rising here named) ∙ high)

@@ -8,24 +8,24 @@ use mathlib.Core.Logic.{dite}
 use native.Mathlib.Decide.{ℕ_discrete}
 use Rattle.cyc_types.specs.declared.level.Soft.{Soft}
 use Rattle.cyc_types.specs.declared.level.Soft.TheVariants as soft
-use Rattle.cyc_types.specs.declared.level.Level.{Level as CyclicLevel}
+use Rattle.cyc_types.specs.declared.level.Level.{Level}
 use Rattle.cyc_types.specs.declared.level.Level.TheVariants.{Low, Lock, High}
 use Rattle.cyc_types.specs.Series.{never}
 use Rattle.cyc_level.specs.declared.Event.{Event}
 use Rattle.cyc_level.specs.declared.Event.TheVariants.{Admit, Expire, Lose, Publish, Take, Finish, Mark, Clear, Switch, Follow}
-use Rattle.cyc_level.specs.Level.{Cyclic as Admitted, Cyclics, Level}
+use Rattle.cyc_level.specs.Level.{AdmittedCyclic, Cyclics, SoftLevel}
 use Rattle.cyc_level.specs.Events.{after, after_finish, admitted_cyclic, changed_at, cyclic_after_expire, cyclic_after_lose}
 use Rattle.cyc_level.specs.Events.{cyclic_after_finish}
 use Rattle.cyc_level.proofs.Maps.{at_same, at_other, not_none}
 use Rattle.cyc_expirations.specs.Expirations.{Expiration, after as timer_after}
 use Rattle.cyc_fire.specs.Acts.{same_level}
 use Rattle.cyc_model.specs.Acts.{Act, At, Call, same_soft, events_at}
-use Rattle.cyc_model.specs.Cpu.{Cyclic, Cpu, happen, nothing_here, is_of, level_of, others, with_moment}
+use Rattle.cyc_model.specs.Cpu.{Cyclic, Cpu, happen, nothing_here, is_of, handler_level_of, others, with_moment}
 use Rattle.cyc_model.specs.Firing.{expiry, expire_all, fired, fire_these, fire_here, due_here}
 use Rattle.cyc_model.specs.Serving.{level_after, level_at, serve_here}
 use Rattle.cyc_model.specs.Moving.{put_in, must_grow, bank_for, switch_here, moment_at, widen_here, place_here, take_here}
 use Rattle.cyc_model.specs.Moving.{mark_here, clear_here, reprogram_here}
-use Rattle.cyc_model.specs.Agreement.{as_level}
+use Rattle.cyc_types.specs.Levels.{as_level}
 use Rattle.cyc_model.proofs.Local.{local_expire_all, local_serve, local_widen}
 use Rattle.cyc_cpu_model.specs.Tied.{HasOwn}
 use Rattle.cyc_cpu_model.proofs.Free.{IsNoAdmit, HasNoAdmit, expire_none, interrupt_none, widen_none}
@@ -34,14 +34,14 @@ use Rattle.cyc_cpu_model.proofs.Leaving.{marked_cpu, mark_as, cleared_cpu, clear
 
 -- ---- what is admitted at a level
 
-abbrev pub Has : ℕ → Level → Type 0
+abbrev pub Has : ℕ → SoftLevel → Type 0
 Has id l = IsSome (l.cyclics id)
 
-some_map : (f : Admitted → Admitted) (o : Option Admitted) → IsSome (option_map f o) → IsSome o
+some_map : (f : AdmittedCyclic → AdmittedCyclic) (o : Option AdmittedCyclic) → IsSome (option_map f o) → IsSome o
 some_map f None is = is
 some_map f (Some c) is = refl
 
-changed_has : (m : Cyclics) (id : ℕ) (f : Admitted → Admitted) (q : ℕ) → IsSome (changed_at m id (option_map f) q) → IsSome (m q)
+changed_has : (m : Cyclics) (id : ℕ) (f : AdmittedCyclic → AdmittedCyclic) (q : ℕ) → IsSome (changed_at m id (option_map f) q) → IsSome (m q)
 changed_has m id f q is = pick (q == id) is
   where
     pick : (b : Bool) → IsSome (cond b (option_map f (m q)) (m q)) → IsSome (m q)
@@ -55,12 +55,12 @@ gone_has m id q is = pick (q == id) is
     pick true some = absurd (let isnt : false ≡ true = some in cc)
     pick false some = some
 
-finish_has : (hand : Option ℕ) (l : Level) (q : ℕ) → Has q (after_finish hand l) → Has q l
+finish_has : (hand : Option ℕ) (l : SoftLevel) (q : ℕ) → Has q (after_finish hand l) → Has q l
 finish_has None l q is = is
 finish_has (Some id) l q is = changed_has l.cyclics id cyclic_after_finish q is
 
 -- no event but an Admit makes it more
-pub event_has : (e : Event) (l : Level) (q : ℕ) → IsNoAdmit e → Has q (after e l) → Has q l
+pub event_has : (e : Event) (l : SoftLevel) (q : ℕ) → IsNoAdmit e → Has q (after e l) → Has q l
 event_has (Admit id index) l q none is = absurd none
 event_has (Expire id) l q none is = changed_has l.cyclics id cyclic_after_expire q is
 event_has (Lose id) l q none is = changed_has l.cyclics id cyclic_after_lose q is
@@ -72,13 +72,13 @@ event_has (Clear id) l q none is = gone_has l.cyclics id q is
 event_has (Switch bank) l q none is = is
 event_has Follow l q none is = is
 
-first_has : (b : Bool) (e : Event) (es : List Event) (l : Level) (q : ℕ) → IsNoAdmit e → ((m : Level)
+first_has : (b : Bool) (e : Event) (es : List Event) (l : SoftLevel) (q : ℕ) → IsNoAdmit e → ((m : SoftLevel)
     → Has q (level_after es m) → Has q m)
     → Has q (level_after (cond b (e ∷ []) [] ++ es) l) → Has q l
 first_has true e es l q none rest is = event_has e l q none (rest (after e l) is)
 first_has false e es l q none rest is = rest l is
 
-acts_have : (acts : List Act) (n : ℕ) (soft : Soft) (l : Level) (q : ℕ) → HasNoAdmit acts
+acts_have : (acts : List Act) (n : ℕ) (soft : Soft) (l : SoftLevel) (q : ℕ) → HasNoAdmit acts
     → Has q (level_after (events_at n soft acts) l) → Has q l
 acts_have [] n soft l q none is = is
 acts_have (At m level e ∷ acts) n soft l q none is =
@@ -87,7 +87,7 @@ acts_have (Call id ∷ acts) n soft l q none is = acts_have acts n soft l q none
 
 -- ---- the levels of cyclics
 
-abbrev level_in : Option Cyclic → CyclicLevel
+abbrev level_in : Option Cyclic → Level
 level_in o = option_map_or (λ y. y.timer.level) o High
 
 -- a change that keeps ids and levels
@@ -189,13 +189,13 @@ expire_keep : (n : ℕ) (ps : List Expiration) (c : Cpu)
     → ((expire_all n ps c).cpu.cyclics ≡ c.cyclics) × ((expire_all n ps c).cpu.removal ≡ c.removal)
 expire_keep n [] c = (refl, refl)
 expire_keep n (p ∷ ps) c =
-    let first = acts_keep (expiry n (level_of p.id c) p.id c) c in
-    let rest = expire_keep n ps (happen (expiry n (level_of p.id c) p.id c) c) in
+    let first = acts_keep (expiry n (handler_level_of p.id c) p.id c) c in
+    let rest = expire_keep n ps (happen (expiry n (handler_level_of p.id c) p.id c) c) in
     (rest.0 ∙ first.0, rest.1 ∙ first.1)
 
 -- ---- each call keeps what is tied
 
-pub kept : (c d : Cpu) → ((q : ℕ) → level_of q d ≡ level_of q c) → ((soft : Soft) (q : ℕ) → Has q (level_at soft d)
+pub kept : (c d : Cpu) → ((q : ℕ) → handler_level_of q d ≡ handler_level_of q c) → ((soft : Soft) (q : ℕ) → Has q (level_at soft d)
     → Has q (level_at soft c))
     → ((id : ℕ) → d.removal ≡ Some id → c.removal ≡ Some id) → HasOwn c → HasOwn d
 kept c d levels fewer removal h = record {
@@ -203,7 +203,7 @@ kept c d levels fewer removal h = record {
   removed = λ id is high. h.removed id (removal id is) (sym (levels id) ∙ high);
 }
 
-pub same_cyclics : (c d : Cpu) → d.cyclics ≡ c.cyclics → (q : ℕ) → level_of q d ≡ level_of q c
+pub same_cyclics : (c d : Cpu) → d.cyclics ≡ c.cyclics → (q : ℕ) → handler_level_of q d ≡ handler_level_of q c
 same_cyclics c d same q = ap (λ ys. level_in (find (is_of q) ys)) same
 
 fired_level : (n now : ℕ) (made : List Expiration) (c : Cpu) (soft : Soft)
@@ -264,18 +264,18 @@ reprogram_ties id moment c = kept c (reprogram_here id moment c).cpu
 
 -- ---- a cyclic comes
 
-admits : (own : Bool) (id index q : ℕ) (l : Level) → Has q (where_own own (Admit id index) l) → q ≢ id → Has q l
+admits : (own : Bool) (id index q : ℕ) (l : SoftLevel) → Has q (where_own own (Admit id index) l) → q ≢ id → Has q l
 admits false id index q l is ne = is
 admits true id index q l is ne = subst (λ o. IsSome o) (at_other l.cyclics id (λ _. Some (admitted_cyclic index)) q ne) is
 
-absent_level : (id : ℕ) (c : Cpu) → find (is_of id) c.cyclics ≡ None → level_of id c ≡ High
+absent_level : (id : ℕ) (c : Cpu) → find (is_of id) c.cyclics ≡ None → handler_level_of id c ≡ High
 absent_level id c none = ap level_in none
 
-not_high : (soft : Soft) (level : CyclicLevel) → level ≡ High → level ≡ as_level soft → ⊥
+not_high : (soft : Soft) (level : Level) → level ≡ High → level ≡ as_level soft → ⊥
 not_high soft.Low level high is = let both : High ≡ Low = sym high ∙ is in cc
 not_high soft.Lock level high is = let both : High ≡ Lock = sym high ∙ is in cc
 
-own_of : (kind level : CyclicLevel) → same_level kind level ≡ true → level ≡ kind
+own_of : (kind level : Level) → same_level kind level ≡ true → level ≡ kind
 own_of Low Low is = refl
 own_of Lock Lock is = refl
 own_of High High is = refl
@@ -292,7 +292,7 @@ place_ties n index x c none h = subst HasOwn
     (sym (own_cpu x.timer.level n (Admit x.timer.id index) (record c { cyclics = put_in x c.cyclics }))) (record {
       known = known;
       removed = λ id is high. h.removed id is (sym
-          (put_other x c.cyclics id (λ e. h.removed id is (ap (λ i. level_of i c) e ∙ absent_level x.timer.id c none))) ∙ high);
+          (put_other x c.cyclics id (λ e. h.removed id is (ap (λ i. handler_level_of i c) e ∙ absent_level x.timer.id c none))) ∙ high);
     })
   where
     id : ℕ
@@ -310,10 +310,10 @@ place_ties n index x c none h = subst HasOwn
     beside soft q is ne = put_other x c.cyclics q ne ∙ h.known soft q is
 
     never_there : (soft : Soft) (q : ℕ) → Has q (level_at soft c) → q ≢ x.timer.id
-    never_there soft q is e = not_high soft (level_of q c) (ap (λ i. level_of i c) e ∙ absent_level x.timer.id c none)
+    never_there soft q is e = not_high soft (handler_level_of q c) (ap (λ i. handler_level_of i c) e ∙ absent_level x.timer.id c none)
         (h.known soft q is)
 
-    at_level : (soft : Soft) (kind : CyclicLevel) (q : ℕ) (own : Bool) → same_level kind x.timer.level ≡ own
+    at_level : (soft : Soft) (kind : Level) (q : ℕ) (own : Bool) → same_level kind x.timer.level ≡ own
         → kind ≡ as_level soft
         → Has q (where_own own (Admit x.timer.id index) (level_at soft c))
         → level_in (find (is_of q) (put_in x c.cyclics)) ≡ as_level soft
@@ -333,33 +333,33 @@ place_ties n index x c none h = subst HasOwn
 
 -- ---- a cyclic is marked, and leaves
 
-mark_has : (own : Bool) (id q : ℕ) (l : Level) → Has q (where_own own (Mark id) l) → Has q l
+mark_has : (own : Bool) (id q : ℕ) (l : SoftLevel) → Has q (where_own own (Mark id) l) → Has q l
 mark_has true id q l is = is
 mark_has false id q l is = is
 
-clear_has : (own : Bool) (id q : ℕ) (l : Level) → Has q (where_own own (Clear id) l) → Has q l
+clear_has : (own : Bool) (id q : ℕ) (l : SoftLevel) → Has q (where_own own (Clear id) l) → Has q l
 clear_has true id q l is = gone_has l.cyclics id q is
 clear_has false id q l is = is
 
-cleared_none : (id : ℕ) (l : Level) → Has id (where_own true (Clear id) l) → ⊥
+cleared_none : (id : ℕ) (l : SoftLevel) → Has id (where_own true (Clear id) l) → ⊥
 cleared_none id l is = not_none ((after (Clear id) l).cyclics id) is (at_same l.cyclics id (λ _. None))
 
 abbrev pub IsKnown : Cpu → Type 0
-IsKnown c = (soft : Soft) (id : ℕ) → Has id (level_at soft c) → level_of id c ≡ as_level soft
+IsKnown c = (soft : Soft) (id : ℕ) → Has id (level_at soft c) → handler_level_of id c ≡ as_level soft
 
-marked_known : (id : ℕ) (c : Cpu) → IsKnown c → IsKnown (marked_cpu (level_of id c) id c)
+marked_known : (id : ℕ) (c : Cpu) → IsKnown c → IsKnown (marked_cpu (handler_level_of id c) id c)
 marked_known id c h soft.Lock q is = mapped_level (moment_at id never) q (moment_keeps id never) c.cyclics
-    ∙ h soft.Lock q (mark_has (same_level Lock (level_of id c)) id q c.lock is)
+    ∙ h soft.Lock q (mark_has (same_level Lock (handler_level_of id c)) id q c.lock is)
 marked_known id c h soft.Low q is = mapped_level (moment_at id never) q (moment_keeps id never) c.cyclics
-    ∙ h soft.Low q (mark_has (same_level Low (level_of id c)) id q c.low is)
+    ∙ h soft.Low q (mark_has (same_level Low (handler_level_of id c)) id q c.low is)
 
 pub mark_known : (n id : ℕ) (c : Cpu) → IsKnown c → IsKnown (mark_here n id c).cpu
-mark_known n id c h = subst IsKnown (sym (mark_as n id (level_of id c) c refl)) (marked_known id c h)
+mark_known n id c h = subst IsKnown (sym (mark_as n id (handler_level_of id c) c refl)) (marked_known id c h)
 
-pub mark_ties : (n id : ℕ) (c : Cpu) → level_of id c ≢ High → IsKnown c → HasOwn (mark_here n id c).cpu
-mark_ties n id c soft_one h = subst HasOwn (sym (mark_as n id (level_of id c) c refl)) (record {
+pub mark_ties : (n id : ℕ) (c : Cpu) → handler_level_of id c ≢ High → IsKnown c → HasOwn (mark_here n id c).cpu
+mark_ties n id c soft_one h = subst HasOwn (sym (mark_as n id (handler_level_of id c) c refl)) (record {
   known = marked_known id c h;
-  removed = λ i is high. soft_one (ap (λ j. level_of j c) (same_id i is)
+  removed = λ i is high. soft_one (ap (λ j. handler_level_of j c) (same_id i is)
       ∙ sym (mapped_level (moment_at id never) i (moment_keeps id never) c.cyclics) ∙ high);
 })
   where
@@ -367,53 +367,53 @@ mark_ties n id c soft_one h = subst HasOwn (sym (mark_as n id (level_of id c) c 
     same_id i is = cc
 
 -- what stands at a level from which the id was cleared is another cyclic
-cleared_other : (soft : Soft) (kind : CyclicLevel) (own : Bool) (id q : ℕ) (c : Cpu)
-    → same_level kind (level_of id c) ≡ own → kind ≡ as_level soft → IsKnown c
+cleared_other : (soft : Soft) (kind : Level) (own : Bool) (id q : ℕ) (c : Cpu)
+    → same_level kind (handler_level_of id c) ≡ own → kind ≡ as_level soft → IsKnown c
     → Has q (where_own own (Clear id) (level_at soft c)) → q ≢ id
 cleared_other soft kind true id q c at same h is e =
     cleared_none id (level_at soft c) (subst (λ i. Has i (where_own true (Clear id) (level_at soft c))) e is)
 cleared_other soft kind false id q c at same h is e =
-    let level : level_of id c ≡ kind = ap (λ i. level_of i c) (sym e) ∙ h soft q is ∙ sym same in
+    let level : handler_level_of id c ≡ kind = ap (λ i. handler_level_of i c) (sym e) ∙ h soft q is ∙ sym same in
     let both : true ≡ false = sym (own_same kind) ∙ ap (same_level kind) (sym level) ∙ at in cc
   where
-    own_same : (k : CyclicLevel) → same_level k k ≡ true
+    own_same : (k : Level) → same_level k k ≡ true
     own_same Low = refl
     own_same Lock = refl
     own_same High = refl
 
-gone_known : (soft : Soft) (kind : CyclicLevel) (id q : ℕ) (c : Cpu) → kind ≡ as_level soft → IsKnown c
-    → Has q (where_own (same_level kind (level_of id c)) (Clear id) (level_at soft c))
+gone_known : (soft : Soft) (kind : Level) (id q : ℕ) (c : Cpu) → kind ≡ as_level soft → IsKnown c
+    → Has q (where_own (same_level kind (handler_level_of id c)) (Clear id) (level_at soft c))
     → level_in (find (is_of q) (others id c.cyclics)) ≡ as_level soft
 gone_known soft kind id q c same h is =
-    other_level id q c.cyclics (cleared_other soft kind (same_level kind (level_of id c)) id q c refl same h is)
-    ∙ h soft q (clear_has (same_level kind (level_of id c)) id q (level_at soft c) is)
+    other_level id q c.cyclics (cleared_other soft kind (same_level kind (handler_level_of id c)) id q c refl same h is)
+    ∙ h soft q (clear_has (same_level kind (handler_level_of id c)) id q (level_at soft c) is)
 
 pub clear_ties : (n id : ℕ) (c : Cpu) → IsKnown c → HasOwn (clear_here n id c).cpu
-clear_ties n id c h = subst HasOwn (sym (clear_as n id (level_of id c) c refl)) (record {
+clear_ties n id c h = subst HasOwn (sym (clear_as n id (handler_level_of id c) c refl)) (record {
   known = known;
   removed = λ i is. absurd (let isnt : None ≡ Some i = is in cc);
 })
   where
-    known : (soft : Soft) (q : ℕ) → Has q (level_at soft (cleared_cpu (level_of id c) id c))
+    known : (soft : Soft) (q : ℕ) → Has q (level_at soft (cleared_cpu (handler_level_of id c) id c))
         → level_in (find (is_of q) (others id c.cyclics)) ≡ as_level soft
     known soft.Lock q is = gone_known soft.Lock Lock id q c refl h is
     known soft.Low q is = gone_known soft.Low Low id q c refl h is
 
 pub take_ties : (n id : ℕ) (c : Cpu) → c.removal ≡ None → IsKnown c → HasOwn (take_here n id c).cpu
 take_ties n id c still h = subst HasOwn
-    (sym (take_as n id (level_of id c) c refl
-    ∙ own_cpu (level_of id c) n (Clear id) (without id (own_marked (level_of id c) id c)))) (record {
+    (sym (take_as n id (handler_level_of id c) c refl
+    ∙ own_cpu (handler_level_of id c) n (Clear id) (without id (own_marked (handler_level_of id c) id c)))) (record {
       known = known;
       removed = λ i is. absurd (let isnt : None ≡ Some i = sym still ∙ is in cc);
     })
   where
-    marked : IsKnown (own_marked (level_of id c) id c)
-    marked soft.Lock q is = h soft.Lock q (mark_has (same_level Lock (level_of id c)) id q c.lock is)
-    marked soft.Low q is = h soft.Low q (mark_has (same_level Low (level_of id c)) id q c.low is)
+    marked : IsKnown (own_marked (handler_level_of id c) id c)
+    marked soft.Lock q is = h soft.Lock q (mark_has (same_level Lock (handler_level_of id c)) id q c.lock is)
+    marked soft.Low q is = h soft.Low q (mark_has (same_level Low (handler_level_of id c)) id q c.low is)
 
-    known : (soft : Soft) (q : ℕ) → Has q (level_at soft (record (without id (own_marked (level_of id c) id c)) {
-      lock = where_own (same_level Lock (level_of id c)) (Clear id) (own_marked (level_of id c) id c).lock;
-      low = where_own (same_level Low (level_of id c)) (Clear id) (own_marked (level_of id c) id c).low;
+    known : (soft : Soft) (q : ℕ) → Has q (level_at soft (record (without id (own_marked (handler_level_of id c) id c)) {
+      lock = where_own (same_level Lock (handler_level_of id c)) (Clear id) (own_marked (handler_level_of id c) id c).lock;
+      low = where_own (same_level Low (handler_level_of id c)) (Clear id) (own_marked (handler_level_of id c) id c).low;
     })) → level_in (find (is_of q) (others id c.cyclics)) ≡ as_level soft
-    known soft.Lock q is = gone_known soft.Lock Lock id q (own_marked (level_of id c) id c) refl marked is
-    known soft.Low q is = gone_known soft.Low Low id q (own_marked (level_of id c) id c) refl marked is
+    known soft.Lock q is = gone_known soft.Lock Lock id q (own_marked (handler_level_of id c) id c) refl marked is
+    known soft.Low q is = gone_known soft.Low Low id q (own_marked (handler_level_of id c) id c) refl marked is

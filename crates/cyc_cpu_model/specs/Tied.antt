@@ -4,15 +4,15 @@ use Rattle.cyc_types.specs.declared.level.Soft.{Soft}
 use Rattle.cyc_types.specs.declared.level.Level.TheVariants.{High}
 use Rattle.cyc_core.specs.Tables.{Tables}
 use Rattle.cyc_cpu.specs.Cpu.{CpuView, HasRisingIds}
-use Rattle.cyc_model.specs.Cpu.{Cpu, level_of}
+use Rattle.cyc_model.specs.Cpu.{Cpu, handler_level_of}
 use Rattle.cyc_model.specs.Serving.{level_at}
-use Rattle.cyc_model.specs.Agreement.{as_level}
+use Rattle.cyc_types.specs.Levels.{as_level}
 use Rattle.cyc_cpu_model.specs.Shown.{shown_cpu}
 
 -- what is admitted at a soft level is a cyclic of that level, and an open removal is of a cyclic of a soft level
 pub record HasOwn (c : Cpu) : Type 0 where
-  pub known : (soft : Soft) (id : ℕ) → IsSome ((level_at soft c).cyclics id) → level_of id c ≡ as_level soft
-  pub removed : (id : ℕ) → c.removal ≡ Some id → level_of id c ≢ High
+  pub known : (soft : Soft) (id : ℕ) → IsSome ((level_at soft c).cyclics id) → handler_level_of id c ≡ as_level soft
+  pub removed : (id : ℕ) → c.removal ≡ Some id → handler_level_of id c ≢ High
 
 -- the same of a CPU, whose ids rise
 pub record IsTied (v : CpuView Tables) : Type 0 where

@@ -7,7 +7,7 @@ use Rattle.cyc_types.specs.Runs.{Goes}
 use Rattle.cyc_types.specs.declared.firing.Sent.{Sent}
 use Rattle.cyc_types.specs.declared.level.Level.{Level}
 use Rattle.cyc_types.specs.declared.level.Level.TheVariants.{Low, Lock, High}
-use Rattle.cyc_level.specs.Level.{Cyclic, Level as SoftLevel, count, count_in}
+use Rattle.cyc_level.specs.Level.{AdmittedCyclic, SoftLevel, count, count_in}
 use Rattle.cyc_core.specs.Tables.{Tables, level_of}
 use Rattle.cyc_core.specs.FiringSide.{stay_of}
 use Rattle.cyc_cpu.specs.Quiet.{asks_at, admits_at}
@@ -17,7 +17,7 @@ use Rattle.cyc_cpu.specs.Soft.{fires, firing_at}
 use Rattle.cyc_cpus_laws.specs.Moved.{outstanding}
 
 -- what the firing side sees of a pend is the pend
-seen_count : (o : Option Cyclic) → count_in o ≡ seen_in (option_map stay_of o)
+seen_count : (o : Option AdmittedCyclic) → count_in o ≡ seen_in (option_map stay_of o)
 seen_count None = refl
 seen_count (Some c) = refl
 

@@ -5,7 +5,7 @@ use Rattle.std.specs.Option.{option_map}
 use mathlib.Core.Logic.{dite}
 use native.Mathlib.Decide.{ℕ_discrete}
 use Rattle.cyc_types.specs.declared.level.Level.{Level}
-use Rattle.cyc_level.specs.Level.{Cyclic as Admission, count_in}
+use Rattle.cyc_level.specs.Level.{AdmittedCyclic, count_in}
 use Rattle.cyc_level.specs.Lawful.{Lawful, one_if_any}
 use Rattle.cyc_core.specs.Tables.{Tables, level_of}
 use Rattle.cyc_core.specs.FiringSide.{stay_of}
@@ -18,7 +18,7 @@ use Rattle.cyc_cpus.specs.Cpus.{IsCpu, CallOn, RunningCpus, RunsAt}
 use Rattle.cyc_cpus.proofs.Spots.{one_cpu, cpu_there, cpu_beside}
 use Rattle.cyc_cpus_laws.specs.Gone.{IsNowhere, StaysNowhere}
 
-none_there : (o : Option Admission) → ((c : Admission) → o ≡ Some c → ⊥) → o ≡ None
+none_there : (o : Option AdmittedCyclic) → ((c : AdmittedCyclic) → o ≡ Some c → ⊥) → o ≡ None
 none_there None never_some = refl
 none_there (Some c) never_some = absurd (never_some c refl)
 

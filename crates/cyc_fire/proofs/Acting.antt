@@ -6,7 +6,7 @@ use Rattle.cyc_types.specs.Firing.{FiringView, FiringCall, Raises}
 use Rattle.cyc_types.specs.declared.level.Level.{Level}
 use Rattle.cyc_types.specs.declared.level.Level.TheVariants.{Low, Lock, High}
 use Rattle.cyc_types.proofs.Runs.{folds_on, times_on, goes_on}
-use Rattle.cyc_fire.specs.Acts.{Sides, Acts, RaisedOnce, AreRaises, losses, id_at}
+use Rattle.cyc_fire.specs.Acts.{Sides, Acts, RaisedOnce, AreRaises, way_losses, id_at}
 
 raises_on : (xs ys : List ℕ) (way more : List FiringCall) → AreRaises xs way → AreRaises ys more
     → AreRaises (xs ++ ys) (way ++ more)
@@ -15,7 +15,7 @@ raises_on [] ys (call ∷ way) more a b = absurd a
 raises_on (x ∷ xs) ys [] more a b = absurd a
 raises_on (x ∷ xs) ys (call ∷ way) more a b = (a.0, raises_on xs ys way more a.1 b)
 
-pub losses_on : (way more : List FiringCall) → losses (way ++ more) ≡ losses way + losses more
+pub losses_on : (way more : List FiringCall) → way_losses (way ++ more) ≡ way_losses way + way_losses more
 losses_on [] more = omega arith
 losses_on (call ∷ way) more = omega (arith, losses_on way more)
 
@@ -52,7 +52,7 @@ module _ {C R : Type 0} (called : C → ℕ → C → Type 0) (count : C → ℕ
 
   pub act_high : (id : ℕ) (c c' : C) (k w : R) → called c id c' → ((q : ℕ) → count c' q ≡ count c q + times q (id ∷ [])) →
       (a : Acts called count step view (id ∷ []) [] [] (record { calls = c; lock = k; low = w })
-      (record { calls = c'; lock = k; low = w })) × (0 ≡ losses a.lock_way + losses a.low_way)
+      (record { calls = c'; lock = k; low = w })) × (0 ≡ way_losses a.lock_way + way_losses a.low_way)
   act_high id c c' k w h n = (
     record {
       lock_way = [];
@@ -70,7 +70,7 @@ module _ {C R : Type 0} (called : C → ℕ → C → Type 0) (count : C → ℕ
 
   pub act_lock : (id : ℕ) (c : C) (k k' w : R) (n : ℕ) → RaisedOnce step view id k k' n →
       (a : Acts called count step view [] (id ∷ []) [] (record { calls = c; lock = k; low = w })
-      (record { calls = c; lock = k'; low = w })) × (n ≡ losses a.lock_way + losses a.low_way)
+      (record { calls = c; lock = k'; low = w })) × (n ≡ way_losses a.lock_way + way_losses a.low_way)
   act_lock id c k k' w n (answer, taught, is) = (
     record {
       lock_way = Raises id answer ∷ [];
@@ -87,7 +87,7 @@ module _ {C R : Type 0} (called : C → ℕ → C → Type 0) (count : C → ℕ
 
   pub act_low : (id : ℕ) (c : C) (k w w' : R) (n : ℕ) → RaisedOnce step view id w w' n →
       (a : Acts called count step view [] [] (id ∷ []) (record { calls = c; lock = k; low = w })
-      (record { calls = c; lock = k; low = w' })) × (n ≡ losses a.lock_way + losses a.low_way)
+      (record { calls = c; lock = k; low = w' })) × (n ≡ way_losses a.lock_way + way_losses a.low_way)
   act_low id c k w w' n (answer, taught, is) = (
     record {
       lock_way = [];
@@ -107,7 +107,7 @@ module _ {C R : Type 0} (called : C → ℕ → C → Type 0) (count : C → ℕ
     (view : R → FiringView) where
   abbrev pub One : Level → ℕ → Sides C R → Sides C R → ℕ → Type 0
   One l id s s' n = (a : Acts called count step view (id_at High l id) (id_at Lock l id) (id_at Low l id) s s')
-      × (n ≡ losses a.lock_way + losses a.low_way)
+      × (n ≡ way_losses a.lock_way + way_losses a.low_way)
 
   pub one_high : (l : Level) (id : ℕ) (c c' : C) (k w : R) → l ≡ High → called c id c'
       → ((q : ℕ) → count c' q ≡ count c q + times q (id ∷ [])) →

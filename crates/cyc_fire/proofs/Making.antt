@@ -15,14 +15,14 @@ use Rattle.cyc_timers.specs.Expirations.{Expiration, after, all_after}
 use Rattle.cyc_timers.specs.Timers.{Timer, HasDistinctIds}
 use Rattle.cyc_timers.proofs.Firings.{Firing}
 use Rattle.cyc_timers.specs.Rows.{Row, Cyclic, IsRow, IsRising, no_counts, timers_of, cyclic_of, cyclics_of}
-use Rattle.cyc_fire.specs.Acts.{AreRaises, loss_in, losses, id_at, ids_at, is_at, is_of, same_level, timer_of, lost_after}
+use Rattle.cyc_fire.specs.Acts.{AreRaises, loss_in, way_losses, id_at, ids_at, is_at, is_of, same_level, timer_of, lost_after}
 use Rattle.cyc_fire.proofs.Readying.{Edits, edits}
 use Rattle.cyc_timers.proofs.Tables.{timer_of_row, timers_long}
 
 -- an end that was raised once for the id
 pub raised_edits : {R : Type 0} (step : R → FiringCall → R → Type 0) (view : R → FiringView) (id : ℕ) (e f : R)
     (way : List FiringCall) (n : ℕ) →
-    AreRaises (id ∷ []) way → Goes step view e way f → n ≡ losses way → Edits (view e) (view f) id n
+    AreRaises (id ∷ []) way → Goes step view e way f → n ≡ way_losses way → Edits (view e) (view f) id n
 raised_edits step view id e f [] n a g is = absurd a
 raised_edits step view id e f (Admits j x ∷ way) n a g is = absurd a.0
 raised_edits step view id e f (Loads j x ∷ way) n a g is = absurd a.0
@@ -38,12 +38,12 @@ raised_edits step view id e f (Raises j x ∷ []) n a (m, (stepped, learns), las
 
 -- an end that was not
 pub same_end : {R : Type 0} (step : R → FiringCall → R → Type 0) (view : R → FiringView) (e f : R) (way : List FiringCall)
-    → AreRaises [] way → Goes step view e way f → (f ≡ e) × (losses way ≡ 0)
+    → AreRaises [] way → Goes step view e way f → (f ≡ e) × (way_losses way ≡ 0)
 same_end step view e f [] a g = (sym g, refl)
 same_end step view e f (c ∷ way) a g = absurd a
 
 -- the losses of the id that was raised, and of any other
-pub losses_same : (b : Bool) (id : ℕ) (way : List FiringCall) → AreRaises (cond b (id ∷ []) []) way → lost_by id way ≡ losses way
+pub losses_same : (b : Bool) (id : ℕ) (way : List FiringCall) → AreRaises (cond b (id ∷ []) []) way → lost_by id way ≡ way_losses way
 losses_same false id [] a = refl
 losses_same false id (c ∷ way) a = absurd a
 losses_same true id [] a = absurd a

@@ -16,7 +16,7 @@ use Rattle.cyc_timers.proofs.Firings.{Firing, Expires, fire_step, fire_left, fir
 use Rattle.cyc_timers.specs.declared.table.Record.{Record}
 use Rattle.cyc_timers.specs.Rows.{Row, Cyclic, IsRow, IsRising, IsRecordOf, IsFirstAt, timers, timers_of, cyclic_of, cyclics_of}
 use Rattle.cyc_timers.specs.Rows.{with_counts}
-use Rattle.cyc_fire.specs.Acts.{Sides, losses, lost_after, timer_of}
+use Rattle.cyc_fire.specs.Acts.{Sides, way_losses, lost_after, timer_of}
 use Rattle.cyc_fire.specs.Ends.{IsEnd, IsReady}
 use Rattle.cyc_fire.specs.Made.{Makes}
 use Rattle.cyc_fire.proofs.Sparing.{none_high}
@@ -264,7 +264,7 @@ module _ {C R : Type 0} (called : C → ℕ → C → Type 0) (count : C → ℕ
           timers_are = firing'.is;
           carried_are = carried_set rows i r u is adv.carried ∙ t.makes.carried_are;
           losses_are = losts ∙ (λ j. map (λ (x : Cyclic). lost_after (sym e1 j) (sym e2 j) x.timer.id x.lost) (cyclics_of rows0));
-          lost_is = (let a = ap losses e1 in let b = ap losses e2 in let x = losses_on t.makes.acts.lock_way o.0.lock_way in
+          lost_is = (let a = ap way_losses e1 in let b = ap way_losses e2 in let x = losses_on t.makes.acts.lock_way o.0.lock_way in
               let y = losses_on t.makes.acts.low_way o.0.low_way in
               let z = t.makes.lost_is in let w = o.1 in omega (arith, a, b, x, y, z, w));
         };

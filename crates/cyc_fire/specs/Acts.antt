@@ -78,9 +78,9 @@ loss_in (Expands bank) = 0
 loss_in (Looks answer) = 0
 
 -- the raises that were lost at the ceiling, of whatever id
-abbrev pub losses : List FiringCall → ℕ
-losses [] = 0
-losses (call ∷ way) = loss_in call + losses way
+abbrev pub way_losses : List FiringCall → ℕ
+way_losses [] = 0
+way_losses (call ∷ way) = loss_in call + way_losses way
 
 -- the handlers of the ids `high` were called, the lock end was raised for the ids `locks` and the low end for the ids
 -- `lows`, each list in order; and nothing else was done to the three

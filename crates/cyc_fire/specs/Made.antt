@@ -7,7 +7,7 @@ use Rattle.cyc_types.specs.declared.refusal.Refusal.TheVariants as why
 use Rattle.cyc_timers.specs.Expirations.{Expiration, all_after}
 use Rattle.cyc_timers.specs.Timers.{Timer}
 use Rattle.cyc_timers.specs.Rows.{Cyclic, timers}
-use Rattle.cyc_fire.specs.Acts.{Sides, Acts, ids_at, losses, lost_after, timer_of}
+use Rattle.cyc_fire.specs.Acts.{Sides, Acts, ids_at, way_losses, lost_after, timer_of}
 
 -- the counts of a cyclic: those that it carried in are among them, and at high level it loses nothing here
 pub record HasCounts (most : ℕ) (c : Cyclic) : Type 0 where
@@ -27,7 +27,7 @@ pub record Makes {C R : Type 0} (called : C → ℕ → C → Type 0) (count : C
   pub timers_are : timers cs' ≡ all_after now made (timers cs)
   pub carried_are : map (λ c. c.carried) cs' ≡ map (λ c. c.carried) cs
   pub losses_are : map (λ c. c.lost) cs' ≡ map (λ c. lost_after acts.lock_way acts.low_way c.timer.id c.lost) cs
-  pub lost_is : lost ≡ losses acts.lock_way + losses acts.low_way
+  pub lost_is : lost ≡ way_losses acts.lock_way + way_losses acts.low_way
 
 -- what the refusal of an expiration of this cyclic says: first that it has expired as often as it may, and then its handler
 abbrev pub Stops : {C : Type 0} → (C → ℕ → Type 0) → ℕ → C → Timer → Refusal → Type 0

@@ -12,7 +12,7 @@ ghost use Rattle.cyc_timers.specs.Expirations.{Expiration, expirations};
 ghost use Rattle.cyc_timers.specs.Rows.{Row, IsRow, timers_of, cyclics_of, IsFirstAt};
 ghost use Rattle.cyc_fire.specs.Ends.{IsReady};
 ghost use Rattle.cyc_fire.specs.Made.{Makes, WhyStopped};
-ghost use Rattle.cyc_fire.specs.Acts.{Sides, Acts, RaisedOnce, id_at, losses};
+ghost use Rattle.cyc_fire.specs.Acts.{Sides, Acts, RaisedOnce, id_at, way_losses};
 
 use cyc_timers::Table;
 use cyc_types::{
@@ -81,7 +81,7 @@ pub fn expire_at<C: Calls, R: Raise>(
         (id_at Lock level id) (id_at Low level id)
         (record { calls = calls.old; lock = lock.old; low = low.old })
         (record { calls = calls.new; lock = lock.new; low = low.new }))
-        × (lost ≡ losses a.lock_way + losses a.low_way)) }
+        × (lost ≡ way_losses a.lock_way + way_losses a.low_way)) }
     ensures few { IfOk result (λ lost. lost ≤ 1) }
     ensures sound_lock { Sound (R.view lock.old) → Sound (R.view lock.new) }
     ensures sound_low { Sound (R.view low.old) → Sound (R.view low.new) }

@@ -7,19 +7,19 @@ use Rattle.std.proofs.lemmas.Bool.{cases_eq}
 use Rattle.std.proofs.lemmas.List.{same_lists, get_or_default}
 use Rattle.std.proofs.lemmas.List.FromFn.{length-map-range_with_len, get_or-map-range_with_len}
 use Rattle.cyc_heap.specs.declared.entry.Entry.{Entry}
-use Rattle.cyc_heap.specs.Array.{index_of, index_at, IsLinked, place_of, places}
+use Rattle.cyc_heap.specs.Array.{index_of, index_at, IsLinked, position_of, places}
 
 -- the first place of an index is the one where no place before it has the index
 first_place : (entries : List Entry) (i p : ℕ) → p < length entries → index_at entries p ≡ i
-    → ((q : ℕ) → q < p → index_at entries q ≢ i) → place_of i entries ≡ p
+    → ((q : ℕ) → q < p → index_at entries q ≢ i) → position_of i entries ≡ p
 first_place [] i p low is first = absurd (omega (arith, low))
-first_place (e ∷ entries) i zero low is first = ap (λ b. cond b 0 (suc (place_of i entries))) (eq-eqb (index_of e) i is)
+first_place (e ∷ entries) i zero low is first = ap (λ b. cond b 0 (suc (position_of i entries))) (eq-eqb (index_of e) i is)
 first_place (e ∷ entries) i (suc p) low is first =
-    ap (λ b. cond b 0 (suc (place_of i entries))) (ne_eqb (index_of e) i (first 0 (omega arith)))
+    ap (λ b. cond b 0 (suc (position_of i entries))) (ne_eqb (index_of e) i (first 0 (omega arith)))
     ∙ ap suc (first_place entries i p (omega (arith, low)) is (λ q less. first (suc q) (omega (arith, less))))
 
 module _ (entries : List Entry) (positions : List ℕ) (linked : IsLinked entries positions) where
-  place_at : (i : ℕ) → i < length entries → place_of i entries ≡ get_or positions i 0
+  place_at : (i : ℕ) → i < length entries → position_of i entries ≡ get_or positions i 0
   place_at i low =
       let (low_p, is) = linked.down i low in
       first_place entries i (get_or positions i 0) low_p is
@@ -29,12 +29,12 @@ module _ (entries : List Entry) (positions : List ℕ) (linked : IsLinked entrie
   -- so what links an array is no choice
   pub places_are : places entries ≡ positions
   unfolding places
-  places_are = same_lists (places entries) positions (length-map-range_with_len (λ i. place_of i entries) 0 (length entries)
+  places_are = same_lists (places entries) positions (length-map-range_with_len (λ i. position_of i entries) 0 (length entries)
       ∙ sym linked.same)
-      (λ k d low. let l = length-map-range_with_len (λ i. place_of i entries) 0 (length entries) in
+      (λ k d low. let l = length-map-range_with_len (λ i. position_of i entries) 0 (length entries) in
       let low_k : k < length entries = omega (arith, low, l) in
       let same = linked.same in
-      get_or-map-range_with_len (λ i. place_of i entries) 0 (length entries) k k d low_k (omega arith) ∙ place_at k low_k
+      get_or-map-range_with_len (λ i. position_of i entries) 0 (length entries) k k d low_k (omega arith) ∙ place_at k low_k
       ∙ get_or_default positions k 0 d (omega (arith, low_k, same)))
 
   pub placed : IsLinked entries (places entries)

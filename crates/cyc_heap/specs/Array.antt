@@ -30,13 +30,13 @@ abbrev pub index_at : List Entry → ℕ → ℕ
 index_at entries p = index_of (entry_at entries p)
 
 -- the first place of an index
-abbrev pub place_of : ℕ → List Entry → ℕ
-place_of i [] = 0
-place_of i (e ∷ entries) = cond (eqb (index_of e) i) 0 (suc (place_of i entries))
+abbrev pub position_of : ℕ → List Entry → ℕ
+position_of i [] = 0
+position_of i (e ∷ entries) = cond (eqb (index_of e) i) 0 (suc (position_of i entries))
 
 -- the place of each index, which the array doesn't keep: it is looked up by a walk (`cyclic_remove_here` of cyclic.c)
 unfoldable pub places : List Entry → List ℕ
-places entries = map (λ i. place_of i entries) (range_with_len 0 (length entries))
+places entries = map (λ i. position_of i entries) (range_with_len 0 (length entries))
 
 -- what an index at this place has: an expiration where the place is in the heap
 abbrev pub slot : ℕ → List Entry → ℕ → Option Expiration

@@ -17,7 +17,7 @@ use Rattle.cyc_agreement.specs.Rows.{Cyclic}
 use Rattle.cyc_agreement.specs.Acts.{same_level}
 use Rattle.cyc_agreement.specs.Cpu.{CpuView, IsCyclic, seen_at}
 use Rattle.cyc_agreement.specs.Taken.{Taken}
-use Rattle.cyc_agreement.specs.Moving.{Takes}
+use Rattle.cyc_agreement.specs.Moving.{TakesNow}
 use Rattle.cyc_agreement.specs.Calls.{TakeNow}
 use Rattle.cyc_agreement.proofs.Inquiring.{load_lowers}
 use Rattle.cyc_places.specs.declared.record.Record.{Record}
@@ -60,7 +60,7 @@ module _ {R : Type 0} (step : R → FiringCall → R → Type 0) (view : R → F
       let h = ap (λ r. seen_of j (view r)) last in
       omega (arith, a, b, c, d, g, h)
 
-  pub taken_lowers : (id j : ℕ) (taken : Taken) (x y : CpuView R) → Takes step view id taken x y
+  pub taken_lowers : (id j : ℕ) (taken : Taken) (x y : CpuView R) → TakesNow step view id taken x y
       → seen_at view j y ≤ seen_at view j x
   taken_lowers id j taken x y (c, counts, is, polled, l) =
       let lock = end_lowers (same_level Lock c.timer.level) id j counts x.lock y.lock l.goes.0 in

@@ -5,7 +5,7 @@ use Rattle.std.specs.Prelude.{Option, Some, None, IsSome}
 use Rattle.cyc_level.specs.declared.Event.{Event}
 use Rattle.cyc_level.specs.declared.Event.TheVariants.{Admit, Expire, Lose, Publish, Take, Finish, Mark, Clear, Switch, Follow}
 use Rattle.std.specs.Option.{option_map}
-use Rattle.cyc_level.specs.Level.{Cyclic, Cyclics, Level, empty_level, bank_size, count_in, count, soft_list, times_in, in_hand}
+use Rattle.cyc_level.specs.Level.{AdmittedCyclic, Cyclics, SoftLevel, empty_level, bank_size, count_in, count, soft_list, times_in, in_hand}
 use Rattle.cyc_level.specs.Level.{place_count}
 use Rattle.cyc_level.specs.Lawful.{IsId, one_if_any, Lawful}
 use Rattle.cyc_level.specs.Events.{changed_at, admitted_cyclic, cyclic_after_expire, cyclic_after_lose, cyclic_after_finish}
@@ -76,16 +76,16 @@ nothing_taken : (b : Bool) → cond {A = List ℕ} b [] [] ≡ []
 nothing_taken true = refl
 nothing_taken false = refl
 
-changed_all : (f : Cyclic → Cyclic) (P Q : Cyclic → Type 0) → ((c : Cyclic) → P c → Q (f c)) → (o : Option Cyclic)
-    → ((c : Cyclic) → o ≡ Some c → P c) → (d : Cyclic) → option_map f o ≡ Some d → Q d
+changed_all : (f : AdmittedCyclic → AdmittedCyclic) (P Q : AdmittedCyclic → Type 0) → ((c : AdmittedCyclic) → P c → Q (f c)) → (o : Option AdmittedCyclic)
+    → ((c : AdmittedCyclic) → o ≡ Some c → P c) → (d : AdmittedCyclic) → option_map f o ≡ Some d → Q d
 changed_all f P Q g None h d e = absurd (cc)
 changed_all f P Q g (Some c) h d e = subst Q (some_same (f c) d e) (g c (h c refl))
 
-still_some : (f : Cyclic → Cyclic) (o : Option Cyclic) → IsSome o → IsSome (option_map f o)
+still_some : (f : AdmittedCyclic → AdmittedCyclic) (o : Option AdmittedCyclic) → IsSome o → IsSome (option_map f o)
 still_some f None h = h
 still_some f (Some c) h = refl
 
-cleared_old : (m : Cyclics) (id j : ℕ) (d : Cyclic) → changed_at m id (λ _. None) j ≡ Some d → (j ≢ id) × (m j ≡ Some d)
+cleared_old : (m : Cyclics) (id j : ℕ) (d : AdmittedCyclic) → changed_at m id (λ _. None) j ≡ Some d → (j ≢ id) × (m j ≡ Some d)
 cleared_old m id j d e = at_cases m id (λ _. None) (λ k o. o ≡ Some d → (k ≢ id) × (m k ≡ Some d)) (λ n. absurd (cc))
     (λ k ne h. (ne, h)) j e
 
@@ -93,23 +93,23 @@ listed_times : (j : ℕ) (h : Option ℕ) → times_in j (as_list h) ≡ in_hand
 listed_times j None = refl
 listed_times j (Some x) = omega arith
 
-called_count : (o : Option Cyclic) → one_if_any (count_in o - 1) ≡ one_if_any (count_in (option_map cyclic_after_finish o))
+called_count : (o : Option AdmittedCyclic) → one_if_any (count_in o - 1) ≡ one_if_any (count_in (option_map cyclic_after_finish o))
 called_count None = refl
 called_count (Some c) = refl
 
-module _ (l : Level) (law : Lawful l) where
+module _ (l : SoftLevel) (law : Lawful l) where
   -- one cyclic's numbers change, and perhaps the hands
-  renumbered : (f : Cyclic → Cyclic) (id : ℕ) (firer drainer : Option ℕ) → ((c : Cyclic) → c.index ≡ (f c).index)
-      → ((c : Cyclic) → l.cyclics id ≡ Some c → ((f c).sent ≡ (f c).done + (f c).count + (f c).lost) × ((f c).count ≤ l.ceiling))
+  renumbered : (f : AdmittedCyclic → AdmittedCyclic) (id : ℕ) (firer drainer : Option ℕ) → ((c : AdmittedCyclic) → c.index ≡ (f c).index)
+      → ((c : AdmittedCyclic) → l.cyclics id ≡ Some c → ((f c).sent ≡ (f c).done + (f c).count + (f c).lost) × ((f c).count ≤ l.ceiling))
       → (in_hand id firer + times_in id l.old_list + times_in id l.new_list + in_hand id drainer
       ≡ one_if_any (count_in (option_map f (l.cyclics id))))
       → ((j : ℕ) → j ≢ id → in_hand j firer + in_hand j drainer ≡ in_hand j l.firer_hand + in_hand j l.drainer_hand)
       → Lawful (record l { cyclics = changed_at l.cyclics id (option_map f); firer_hand = firer; drainer_hand = drainer })
   renumbered f id firer drainer same numbers here there = record {
-    conserved = at_cases l.cyclics id (option_map f) (λ j o. (c : Cyclic) → o ≡ Some c → c.sent ≡ c.done + c.count + c.lost)
+    conserved = at_cases l.cyclics id (option_map f) (λ j o. (c : AdmittedCyclic) → o ≡ Some c → c.sent ≡ c.done + c.count + c.lost)
         (changed_all f (λ c. l.cyclics id ≡ Some c) (λ c. c.sent ≡ c.done + c.count + c.lost) (λ c e. (numbers c e).0)
         (l.cyclics id) (λ c e. e)) (λ j _. law.conserved j);
-    below_ceiling = at_cases l.cyclics id (option_map f) (λ j o. (c : Cyclic) → o ≡ Some c → c.count ≤ l.ceiling)
+    below_ceiling = at_cases l.cyclics id (option_map f) (λ j o. (c : AdmittedCyclic) → o ≡ Some c → c.count ≤ l.ceiling)
         (changed_all f (λ c. l.cyclics id ≡ Some c) (λ c. c.count ≤ l.ceiling) (λ c e. (numbers c e).1) (l.cyclics id) (λ c e. e))
         (λ j _. law.below_ceiling j);
     one_place = at_cases l.cyclics id (option_map f)
@@ -150,23 +150,23 @@ module _ (l : Level) (law : Lawful l) where
   }
 
   admits : (id index : ℕ) → Enabled (Admit id index) l → Lawful (after (Admit id index) l)
-  admits id index on = let c0 : Cyclic = admitted_cyclic index in let f : Option Cyclic → Option Cyclic = λ _. Some c0 in
-      let fresh : (j : ℕ) (d : Cyclic) → changed_at l.cyclics id f j ≡ Some d → ((j ≡ id) × (c0 ≡ d))
+  admits id index on = let c0 : AdmittedCyclic = admitted_cyclic index in let f : Option AdmittedCyclic → Option AdmittedCyclic = λ _. Some c0 in
+      let fresh : (j : ℕ) (d : AdmittedCyclic) → changed_at l.cyclics id f j ≡ Some d → ((j ≡ id) × (c0 ≡ d))
       ⊎ ((j ≢ id) × (l.cyclics j ≡ Some d)) =
       λ j d e. at_cases l.cyclics id f (λ k o. o ≡ Some d → ((k ≡ id) × (c0 ≡ d)) ⊎ ((k ≢ id) × (l.cyclics k ≡ Some d)))
       (λ h. inl (refl, some_same c0 d h)) (λ k ne h. inr (ne, h)) j e in record {
-        conserved = λ j d e. ⊎_elim (λ t. subst (λ (c : Cyclic). c.sent ≡ c.done + c.count + c.lost) t.1 refl)
+        conserved = λ j d e. ⊎_elim (λ t. subst (λ (c : AdmittedCyclic). c.sent ≡ c.done + c.count + c.lost) t.1 refl)
             (λ t. law.conserved j d t.1) (fresh j d e);
-        below_ceiling = λ j d e. ⊎_elim (λ t. subst (λ (c : Cyclic). c.count ≤ l.ceiling) t.1 (omega arith))
+        below_ceiling = λ j d e. ⊎_elim (λ t. subst (λ (c : AdmittedCyclic). c.count ≤ l.ceiling) t.1 (omega arith))
             (λ t. law.below_ceiling j d t.1) (fresh j d e);
         one_place = at_cases l.cyclics id f (λ j o. place_count l j ≡ one_if_any (count_in o)) (law.one_place id
             ∙ ap (λ o. one_if_any (count_in o)) on.2) (λ j _. law.one_place j);
         distinct_indexes = λ a b c d ea eb e. ⊎_elim
-            (λ s. ⊎_elim (λ t. s.0 ∙ sym t.0) (λ t. absurd (on.3 b d t.1 (sym e ∙ ap (λ (x : Cyclic). x.index) (sym s.1))))
+            (λ s. ⊎_elim (λ t. s.0 ∙ sym t.0) (λ t. absurd (on.3 b d t.1 (sym e ∙ ap (λ (x : AdmittedCyclic). x.index) (sym s.1))))
             (fresh b d eb))
-            (λ s. ⊎_elim (λ t. absurd (on.3 a c s.1 (e ∙ ap (λ (x : Cyclic). x.index) (sym t.1))))
+            (λ s. ⊎_elim (λ t. absurd (on.3 a c s.1 (e ∙ ap (λ (x : AdmittedCyclic). x.index) (sym t.1))))
             (λ t. law.distinct_indexes a b c d s.1 t.1 e) (fresh b d eb)) (fresh a c ea);
-        in_hard_bank = λ j d e. ⊎_elim (λ t. subst (λ (c : Cyclic). c.index < bank_size l.hard_bank) t.1 on.4)
+        in_hard_bank = λ j d e. ⊎_elim (λ t. subst (λ (c : AdmittedCyclic). c.index < bank_size l.hard_bank) t.1 on.4)
             (λ t. law.in_hard_bank j d t.1) (fresh j d e);
         in_soft_bank = λ j d e t. ⊎_elim (λ s. let none : count l id ≡ 0 = ap count_in on.2 in let p : place_count l id ≡ 0 =
             law.one_place id ∙ ap one_if_any none in
@@ -181,13 +181,13 @@ module _ (l : Level) (law : Lawful l) where
       }
 
   expires : (id : ℕ) → Enabled (Expire id) l → Lawful (after (Expire id) l)
-  expires id on = let x = some_and (λ (c : Cyclic). (c.count < l.ceiling) × (c.sent < 2 ^ 64 - 1)) (l.cyclics id) on.2 in
-      let c : Cyclic = x.0 in let is : l.cyclics id ≡ Some c = x.1 in let n : ℕ = count l id in let hand : Option ℕ =
+  expires id on = let x = some_and (λ (c : AdmittedCyclic). (c.count < l.ceiling) × (c.sent < 2 ^ 64 - 1)) (l.cyclics id) on.2 in
+      let c : AdmittedCyclic = x.0 in let is : l.cyclics id ≡ Some c = x.1 in let n : ℕ = count l id in let hand : Option ℕ =
       hand_after_expire n id l.firer_hand in
       let is_n : n ≡ c.count = ap count_in is in let empty : in_hand id l.firer_hand ≡ 0 = ap (in_hand id) on.0 in
       renumbered cyclic_after_expire id hand l.drainer_hand (λ d. refl)
       (λ d e. let same : c ≡ d = some_same c d (sym is ∙ e) in let sums = law.conserved id d e in let less : d.count < l.ceiling =
-      subst (λ (x : Cyclic). x.count < l.ceiling) same x.2.0 in (omega (arith, sums), omega (arith, less)))
+      subst (λ (x : AdmittedCyclic). x.count < l.ceiling) same x.2.0 in (omega (arith, sums), omega (arith, less)))
       (let p = law.one_place id in let r = raised_here id n l.firer_hand on.0 in
       let q : in_hand id hand + times_in id l.old_list + times_in id l.new_list + in_hand id l.drainer_hand ≡ 1 =
       omega (arith, p, r, empty) in
@@ -197,8 +197,8 @@ module _ (l : Level) (law : Lawful l) where
       omega (arith, a, b))
 
   loses : (id : ℕ) → Enabled (Lose id) l → Lawful (after (Lose id) l)
-  loses id on = let x = some_and (λ (c : Cyclic). (c.count ≡ l.ceiling) × (c.sent < 2 ^ 64 - 1)) (l.cyclics id) on.2 in
-      let c : Cyclic = x.0 in let is : l.cyclics id ≡ Some c = x.1 in
+  loses id on = let x = some_and (λ (c : AdmittedCyclic). (c.count ≡ l.ceiling) × (c.sent < 2 ^ 64 - 1)) (l.cyclics id) on.2 in
+      let c : AdmittedCyclic = x.0 in let is : l.cyclics id ≡ Some c = x.1 in
       renumbered cyclic_after_lose id l.firer_hand l.drainer_hand (λ d. refl)
       (λ d e. let sums = law.conserved id d e in (omega (arith, sums), law.below_ceiling id d e))
       (law.one_place id ∙ (ap (λ o. one_if_any (count_in o)) is
@@ -319,11 +319,11 @@ pub always_lawful : (ceiling : ℕ) (es : List Event) → AllEnabled ceiling es 
 always_lawful ceiling [] on = empty_lawful ceiling
 always_lawful ceiling (e ∷ es) on = keeps_law (reached ceiling es) (always_lawful ceiling es on.1) e on.0
 
-finished_ceiling : (h : Option ℕ) (l : Level) → (after_finish h l).ceiling ≡ l.ceiling
+finished_ceiling : (h : Option ℕ) (l : SoftLevel) → (after_finish h l).ceiling ≡ l.ceiling
 finished_ceiling None l = refl
 finished_ceiling (Some id) l = refl
 
-pub ceiling_after : (e : Event) (l : Level) → (after e l).ceiling ≡ l.ceiling
+pub ceiling_after : (e : Event) (l : SoftLevel) → (after e l).ceiling ≡ l.ceiling
 ceiling_after (Admit id index) l = refl
 ceiling_after (Expire id) l = refl
 ceiling_after (Lose id) l = refl

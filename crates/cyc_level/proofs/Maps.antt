@@ -4,7 +4,7 @@ use Rattle.std.specs.Prelude.{Option, Some, None, is_some, IsSome, IsSomeAnd}
 use mathlib.Core.Logic.{dite}
 use native.Mathlib.Decide.{ℕ_discrete}
 use Rattle.std.specs.Option.{option_map}
-use Rattle.cyc_level.specs.Level.{Cyclic, Cyclics, times_in, in_hand}
+use Rattle.cyc_level.specs.Level.{AdmittedCyclic, Cyclics, times_in, in_hand}
 use Rattle.cyc_level.specs.Events.{changed_at}
 
 pub some_same : {A : Type 0} (a b : A) → Some a ≡ Some b → a ≡ b
@@ -32,28 +32,28 @@ some_and P (Some a) h = (a, refl, h)
 pub is_some_and : {A : Type 0} (P : A → Type 0) (o : Option A) (a : A) → o ≡ Some a → P a → IsSomeAnd o P
 is_some_and P o a e h = subst (λ o. IsSomeAnd o P) (sym e) h
 
-module _ (m : Cyclics) (id : ℕ) (f : Option Cyclic → Option Cyclic) where
+module _ (m : Cyclics) (id : ℕ) (f : Option AdmittedCyclic → Option AdmittedCyclic) where
   pub at_same : changed_at m id f id ≡ f (m id)
   at_same = ap (λ b. cond b (f (m id)) (m id)) (eq-eqb id id refl)
 
   pub at_other : (j : ℕ) → j ≢ id → changed_at m id f j ≡ m j
   at_other j ne = ap (λ b. cond b (f (m j)) (m j)) (ne_eqb j id ne)
 
-  pub at_cases : (P : ℕ → Option Cyclic → Type 0) → P id (f (m id)) → ((j : ℕ) → j ≢ id → P j (m j)) → (j : ℕ)
+  pub at_cases : (P : ℕ → Option AdmittedCyclic → Type 0) → P id (f (m id)) → ((j : ℕ) → j ≢ id → P j (m j)) → (j : ℕ)
       → P j (changed_at m id f j)
   at_cases P here there j = dite (ℕ_discrete j id)
       (λ e. subst (λ (k : ℕ). P k (changed_at m id f k)) (sym e) (subst (P id) (sym at_same) here))
       (λ ne. subst (P j) (sym (at_other j ne)) (there j ne))
 
 -- a change that keeps the index
-module _ (m : Cyclics) (id : ℕ) (f : Cyclic → Cyclic) (same : (c : Cyclic) → c.index ≡ (f c).index) where
-  was : (o : Option Cyclic) (d : Cyclic) → option_map f o ≡ Some d → (c : Cyclic) × (o ≡ Some c) × (c.index ≡ d.index)
+module _ (m : Cyclics) (id : ℕ) (f : AdmittedCyclic → AdmittedCyclic) (same : (c : AdmittedCyclic) → c.index ≡ (f c).index) where
+  was : (o : Option AdmittedCyclic) (d : AdmittedCyclic) → option_map f o ≡ Some d → (c : AdmittedCyclic) × (o ≡ Some c) × (c.index ≡ d.index)
   was None d e = absurd (cc)
-  was (Some c) d e = (c, refl, same c ∙ ap (λ (x : Cyclic). x.index) (some_same (f c) d e))
+  was (Some c) d e = (c, refl, same c ∙ ap (λ (x : AdmittedCyclic). x.index) (some_same (f c) d e))
 
-  pub from_old : (j : ℕ) (d : Cyclic) → changed_at m id (option_map f) j ≡ Some d → (c : Cyclic) × (m j ≡ Some c)
+  pub from_old : (j : ℕ) (d : AdmittedCyclic) → changed_at m id (option_map f) j ≡ Some d → (c : AdmittedCyclic) × (m j ≡ Some c)
       × (c.index ≡ d.index)
-  from_old j d e = at_cases m id (option_map f) (λ k o. o ≡ Some d → (c : Cyclic) × (m k ≡ Some c) × (c.index ≡ d.index))
+  from_old j d e = at_cases m id (option_map f) (λ k o. o ≡ Some d → (c : AdmittedCyclic) × (m k ≡ Some c) × (c.index ≡ d.index))
       (was (m id) d) (λ k _ h. (d, h, refl)) j e
 
 pub hand_here : (id : ℕ) → in_hand id (Some id) ≡ 1

@@ -4,31 +4,31 @@ use Rattle.std.specs.Prelude.{Option, Some, None}
 use Rattle.std.specs.Option.{option_map}
 use Rattle.cyc_level.specs.declared.Event.{Event}
 use Rattle.cyc_level.specs.declared.Event.TheVariants.{Admit, Expire, Lose, Publish, Take, Finish, Mark, Clear, Switch, Follow}
-use Rattle.cyc_level.specs.Level.{Cyclic, Level, count_in, place_count}
+use Rattle.cyc_level.specs.Level.{AdmittedCyclic, SoftLevel, count_in, place_count}
 use Rattle.cyc_level.specs.Lawful.{one_if_any, Lawful}
 use Rattle.cyc_level.specs.Events.{admitted_cyclic, cyclic_after_expire, cyclic_after_lose, cyclic_after_finish, after_finish}
 use Rattle.cyc_level.specs.Events.{reached, AllEnabled}
 use Rattle.cyc_level.specs.Runs.{finishes, admissions, NothingFollowsClear}
 use Rattle.cyc_level.proofs.Keeps.{always_lawful}
 
-mapped_none : (f : Cyclic → Cyclic) (b : Bool) (o : Option Cyclic) → o ≡ None → cond b (option_map f o) o ≡ None
+mapped_none : (f : AdmittedCyclic → AdmittedCyclic) (b : Bool) (o : Option AdmittedCyclic) → o ≡ None → cond b (option_map f o) o ≡ None
 mapped_none f true o e = ap (option_map f) e
 mapped_none f false o e = e
 
-cleared_none : (b : Bool) (o : Option Cyclic) → o ≡ None → cond b None o ≡ None
+cleared_none : (b : Bool) (o : Option AdmittedCyclic) → o ≡ None → cond b None o ≡ None
 cleared_none true o e = refl
 cleared_none false o e = e
 
-admitted_none : (b : Bool) (c : Cyclic) (o : Option Cyclic) (n : ℕ) → cond b 1 0 + n ≡ 0 → o ≡ None → cond b (Some c) o ≡ None
+admitted_none : (b : Bool) (c : AdmittedCyclic) (o : Option AdmittedCyclic) (n : ℕ) → cond b 1 0 + n ≡ 0 → o ≡ None → cond b (Some c) o ≡ None
 admitted_none true c o n h e = absurd (omega (arith, h))
 admitted_none false c o n h e = e
 
-finished_none : (h : Option ℕ) (l : Level) (id : ℕ) → l.cyclics id ≡ None → (after_finish h l).cyclics id ≡ None
+finished_none : (h : Option ℕ) (l : SoftLevel) (id : ℕ) → l.cyclics id ≡ None → (after_finish h l).cyclics id ≡ None
 finished_none None l id e = e
 finished_none (Some a) l id e = mapped_none cyclic_after_finish (eqb id a) (l.cyclics id) e
 
 -- an id that isn't admitted stands nowhere
-stands_nowhere : (l : Level) → Lawful l → (id : ℕ) → l.cyclics id ≡ None → place_count l id ≡ 0
+stands_nowhere : (l : SoftLevel) → Lawful l → (id : ℕ) → l.cyclics id ≡ None → place_count l id ≡ 0
 stands_nowhere l law id e = law.one_place id ∙ ap (λ o. one_if_any (count_in o)) e
 
 module _ (ceiling id : ℕ) (earlier : List Event) where

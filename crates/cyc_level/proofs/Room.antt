@@ -4,7 +4,7 @@ use Rattle.std.proofs.Common.{◌∙◌, subst, arith, eq-eqb, ne_eqb}
 use Rattle.std.specs.Prelude.{Option, Some, None}
 use mathlib.Core.Logic.{dite}
 use native.Mathlib.Decide.{ℕ_discrete}
-use Rattle.cyc_level.specs.Level.{Cyclic, Level, bank_size, count, count_in, times_in, in_hand, place_count}
+use Rattle.cyc_level.specs.Level.{AdmittedCyclic, SoftLevel, bank_size, count, count_in, times_in, in_hand, place_count}
 use Rattle.cyc_level.specs.Lawful.{one_if_any, Lawful}
 use Rattle.cyc_level.specs.Events.{as_list}
 use Rattle.cyc_level.specs.Conservation.{IsConserved}
@@ -49,18 +49,18 @@ few (suc n) xs low once = let ys : List ℕ = without n xs in
     (λ y. let l = without_times n y xs in let o = once y in omega (arith, l, o)) in
     let a = without_long n xs in let b = once n in omega (arith, a, b, h)
 
-abbrev index_in : Option Cyclic → ℕ
+abbrev index_in : Option AdmittedCyclic → ℕ
 index_in None = 0
 index_in (Some c) = c.index
 
-module _ (l : Level) (law : Lawful l) where
+module _ (l : SoftLevel) (law : Lawful l) where
   abbrev spot : ℕ → ℕ
   spot id = index_in (l.cyclics id)
 
   -- the cyclic of an id that stands in a place
-  pub placed_cyclic : (id : ℕ) → 0 < place_count l id → (c : Cyclic) × (l.cyclics id ≡ Some c) × (0 < c.count)
+  pub placed_cyclic : (id : ℕ) → 0 < place_count l id → (c : AdmittedCyclic) × (l.cyclics id ≡ Some c) × (0 < c.count)
   placed_cyclic id h = cases (l.cyclics id) refl where
-    cases : (o : Option Cyclic) → l.cyclics id ≡ o → (c : Cyclic) × (l.cyclics id ≡ Some c) × (0 < c.count)
+    cases : (o : Option AdmittedCyclic) → l.cyclics id ≡ o → (c : AdmittedCyclic) × (l.cyclics id ≡ Some c) × (0 < c.count)
     cases None e = let p = law.one_place id in let z : one_if_any (count l id) ≡ 0 = ap (λ o. one_if_any (count_in o)) e in
         absurd (omega (arith, p, z, h))
     cases (Some c) e = (
@@ -101,7 +101,7 @@ module _ (l : Level) (law : Lawful l) where
 
   -- ids that stand in bank_size, each with an index below n, are at most n
   pub roomy : (n : ℕ) (xs : List ℕ) → ((id : ℕ) → times_in id xs ≤ place_count l id)
-      → ((id : ℕ) (c : Cyclic) → l.cyclics id ≡ Some c → 0 < times_in id xs → c.index < n) → length xs ≤ n
+      → ((id : ℕ) (c : AdmittedCyclic) → l.cyclics id ≡ Some c → 0 < times_in id xs → c.index < n) → length xs ≤ n
   roomy n xs less low = let s = length_map xs in let h = few n (map spot xs)
       (λ y p. let r = spots xs less y p in let g = less r.0 in let q = r.1 in let c = placed_cyclic r.0 (omega (arith, g, q)) in
       subst (λ (i : ℕ). i < n) (sym (ap index_in c.1) ∙ r.2) (low r.0 c.0 c.1 q)) (spots_once xs less) in

@@ -5,7 +5,7 @@ use Rattle.std.specs.Option.{option_map}
 use Rattle.cyc_types.specs.Limits.{greatest_bank}
 use Rattle.cyc_level.specs.declared.Event.{Event}
 use Rattle.cyc_level.specs.declared.Event.TheVariants.{Admit, Expire, Lose, Publish, Take, Finish, Mark, Clear, Switch, Follow}
-use Rattle.cyc_level.specs.Level.{Cyclic, Cyclics, Level, empty_level, bank_size, count, soft_list}
+use Rattle.cyc_level.specs.Level.{AdmittedCyclic, Cyclics, SoftLevel, empty_level, bank_size, count, soft_list}
 use Rattle.cyc_level.specs.Lawful.{IsId}
 
 -- the greatest number of expirations that a stay can count (our own rule)
@@ -13,23 +13,23 @@ abbrev pub most_sent : ℕ
 most_sent = 2 ^ 64 - 1
 
 -- the map with another entry at one id
-abbrev pub changed_at : Cyclics → ℕ → (Option Cyclic → Option Cyclic) → Cyclics
+abbrev pub changed_at : Cyclics → ℕ → (Option AdmittedCyclic → Option AdmittedCyclic) → Cyclics
 changed_at m id f = λ j. if j == id then f (m j) else m j
 
 -- a cyclic whose stay begins (cyclic_add_here)
-abbrev pub admitted_cyclic : ℕ → Cyclic
+abbrev pub admitted_cyclic : ℕ → AdmittedCyclic
 admitted_cyclic index = record { index = index; sent = 0; done = 0; lost = 0; count = 0 }
 
 -- one more expiration, whose call is outstanding (cyclic_expire raises cy_pend)
-abbrev pub cyclic_after_expire : Cyclic → Cyclic
+abbrev pub cyclic_after_expire : AdmittedCyclic → AdmittedCyclic
 cyclic_after_expire c = record { index = c.index; sent = c.sent + 1; done = c.done; lost = c.lost; count = c.count + 1 }
 
 -- one more expiration, lost at the ceiling (cyclic_expire where cy_pend is UINT32_MAX)
-abbrev pub cyclic_after_lose : Cyclic → Cyclic
+abbrev pub cyclic_after_lose : AdmittedCyclic → AdmittedCyclic
 cyclic_after_lose c = record { index = c.index; sent = c.sent + 1; done = c.done; lost = c.lost + 1; count = c.count }
 
 -- one outstanding call is done (cyclic_softint lowers cy_pend)
-abbrev pub cyclic_after_finish : Cyclic → Cyclic
+abbrev pub cyclic_after_finish : AdmittedCyclic → AdmittedCyclic
 cyclic_after_finish c = record { index = c.index; sent = c.sent; done = c.done + 1; lost = c.lost; count = c.count - 1 }
 
 -- the firer's hand after an Expire of the id, which had this count: the id comes into it from 0
@@ -55,11 +55,11 @@ abbrev pub as_list : Option ℕ → List ℕ
 as_list None = []
 as_list (Some id) = id ∷ []
 
-abbrev pub IsUnused : Level → ℕ → Type 0
-IsUnused l index = (id : ℕ) (c : Cyclic) → l.cyclics id ≡ Some c → c.index ≢ index
+abbrev pub IsUnused : SoftLevel → ℕ → Type 0
+IsUnused l index = (id : ℕ) (c : AdmittedCyclic) → l.cyclics id ≡ Some c → c.index ≢ index
 
 -- when an event can happen. Each event of the firing side but Publish needs an empty firer's hand
-abbrev pub Enabled : Event → Level → Type 0
+abbrev pub Enabled : Event → SoftLevel → Type 0
 Enabled (Admit id index) l = (l.firer_hand ≡ None) × IsId id × (l.cyclics id ≡ None) × IsUnused l index
     × (index < bank_size l.hard_bank)
 Enabled (Expire id) l = (l.firer_hand ≡ None) × (l.marked ≢ Some id)
@@ -75,7 +75,7 @@ Enabled (Switch bank) l = (l.firer_hand ≡ None) × (l.hard_bank ≡ l.soft_ban
 Enabled Follow l = (l.hard_bank ≢ l.soft_bank) × (l.old_list ≡ [])
 
 -- one call of the id in the drainer's hand is done
-abbrev pub after_finish : Option ℕ → Level → Level
+abbrev pub after_finish : Option ℕ → SoftLevel → SoftLevel
 after_finish None l = l
 after_finish (Some id) l = record l {
   cyclics = changed_at l.cyclics id (option_map cyclic_after_finish);
@@ -83,7 +83,7 @@ after_finish (Some id) l = record l {
 }
 
 -- the first id of the soft side's list goes into the drainer's hand
-abbrev pub after_take : Level → Level
+abbrev pub after_take : SoftLevel → SoftLevel
 after_take l = record l {
   old_list = (if l.hard_bank == l.soft_bank then l.old_list else rest_of l.old_list);
   new_list = (if l.hard_bank == l.soft_bank then rest_of l.new_list else l.new_list);
@@ -91,7 +91,7 @@ after_take l = record l {
 }
 
 -- the level after an event
-abbrev pub after : Event → Level → Level
+abbrev pub after : Event → SoftLevel → SoftLevel
 after (Admit id index) l = record l { cyclics = changed_at l.cyclics id (λ _. Some (admitted_cyclic index)) }
 after (Expire id) l = record l {
   cyclics = changed_at l.cyclics id (option_map cyclic_after_expire);
@@ -108,7 +108,7 @@ after (Switch bank) l = record l { hard_bank = bank; old_list = l.new_list; new_
 after Follow l = record l { soft_bank = l.hard_bank }
 
 -- the level after a list of events, the newest first
-abbrev pub reached : ℕ → List Event → Level
+abbrev pub reached : ℕ → List Event → SoftLevel
 reached ceiling [] = empty_level ceiling
 reached ceiling (event ∷ events) = after event (reached ceiling events)
 

@@ -6,7 +6,7 @@
 
 ghost use Rattle.std.specs.Prelude.{ℕ, List};
 ghost use Rattle.cyc_level.specs.declared.Event.{Event as AnEvent};
-ghost use Rattle.cyc_level.specs.Level.{Level};
+ghost use Rattle.cyc_level.specs.Level.{SoftLevel};
 ghost use Rattle.cyc_level.specs.Lawful.{Lawful};
 ghost use Rattle.cyc_level.specs.Events.{Enabled, after, reached, AllEnabled};
 ghost use Rattle.cyc_level.specs.Conservation.{IsConserved};
@@ -45,7 +45,7 @@ pub enum Event {
 
 /// Each enabled event leads from a lawful level to a lawful level.
 pub fn each_event_is_lawful()
-    ensures { (event : AnEvent) (level : Level) → Lawful level → Enabled event level → Lawful (after event level) }
+    ensures { (event : AnEvent) (level : SoftLevel) → Lawful level → Enabled event level → Lawful (after event level) }
 {}
 
 /// Every reached level is lawful.
@@ -55,13 +55,13 @@ pub fn every_reached_level_is_lawful()
 
 /// In every reached level each admitted cyclic's expirations are its finished calls, its outstanding ones and those lost; an
 /// id with calls outstanding stands in exactly one place; no list is longer than its bank.
-pub fn conservation()
+pub fn level_conservation()
     ensures { (ceiling : ℕ) (events : List AnEvent) → AllEnabled ceiling events → IsConserved (reached ceiling events) }
 {}
 
 /// In every run, and for every id, admitted or not: the expirations of all its stays are the finished calls, the outstanding
 /// ones and the losses; and of each stay that has ended the expirations are its finished calls and its losses.
-pub fn conservation_over_stays()
+pub fn stay_conservation()
     ensures { (ceiling : ℕ) (events : List AnEvent) → AllEnabled ceiling events → (id : ℕ)
         → IsConservedOverStays ceiling events id }
 {}

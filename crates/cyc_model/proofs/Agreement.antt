@@ -7,22 +7,22 @@ use mathlib.Core.Logic.{dite}
 use native.Mathlib.Decide.{ℕ_discrete}
 use Rattle.cyc_types.specs.declared.level.Soft.{Soft}
 use Rattle.cyc_types.specs.declared.level.Soft.TheVariants.{Low, Lock}
-use Rattle.cyc_types.specs.declared.level.Level.{Level as CyclicLevel}
+use Rattle.cyc_types.specs.declared.level.Level.{Level}
 use Rattle.cyc_types.specs.declared.level.Level.TheVariants as level
 use Rattle.cyc_level.specs.declared.Event.{Event}
 use Rattle.cyc_level.specs.declared.Event.TheVariants.{Admit, Expire, Lose, Publish, Take, Finish, Mark, Clear, Switch, Follow}
-use Rattle.cyc_level.specs.Level.{Level, Cyclics, Cyclic as Admitted, bank_size, count}
+use Rattle.cyc_level.specs.Level.{SoftLevel, Cyclics, AdmittedCyclic, bank_size, count}
 use Rattle.cyc_level.specs.Events.{after, after_finish, changed_at, admitted_cyclic, cyclic_after_expire, cyclic_after_lose}
 use Rattle.cyc_level.specs.Events.{cyclic_after_finish}
 use Rattle.cyc_expirations.specs.Expirations.{Expiration, after as timer_after}
 use Rattle.cyc_model.specs.Acts.{Act, At, Call, at_own}
-use Rattle.cyc_model.specs.Cpu.{Cyclic, Cpu, cpu_after, happen, here, is_of, level_of, others, new_cpu, with_moment}
+use Rattle.cyc_model.specs.Cpu.{Cyclic, Cpu, cpu_after, happen, here, is_of, handler_level_of, others, new_cpu, with_moment}
 use Rattle.cyc_model.specs.Firing.{raised, expiry, expire_here, fired}
 use Rattle.cyc_model.specs.Serving.{level_at, level_after, looks, look, Interrupt, after_look, serve, serve_here}
 use Rattle.cyc_model.specs.Moving.{switch_here, place_here, put_in, moment_at}
 use Rattle.cyc_model.specs.State.{absent}
-use Rattle.cyc_model.specs.Agreement.{as_level, Agrees, AllAgree}
-
+use Rattle.cyc_types.specs.Levels.{as_level}
+use Rattle.cyc_model.specs.Agreement.{Agrees, AllAgree}
 -- an event that neither ends a stay nor leaves a bank
 abbrev IsCalm : Event → Type 0
 IsCalm (Clear id) = ⊥
@@ -50,7 +50,7 @@ acts_append Q (x ∷ xs) ys h i = (h.0, acts_append Q xs ys h.1 i)
 
 -- ---- what is admitted stays so
 
-changed_some : (m : Cyclics) (id : ℕ) (f : Option Admitted → Option Admitted) (j : ℕ)
+changed_some : (m : Cyclics) (id : ℕ) (f : Option AdmittedCyclic → Option AdmittedCyclic) (j : ℕ)
     → (IsSome (m j) → IsSome (f (m j))) → IsSome (m j) → IsSome (changed_at m id f j)
 changed_some m id f j one h = by (j == id)
   where
@@ -58,20 +58,20 @@ changed_some m id f j one h = by (j == id)
     by true = one h
     by false = h
 
-mapped_some : (f : Admitted → Admitted) (o : Option Admitted) → IsSome o → IsSome (option_map f o)
+mapped_some : (f : AdmittedCyclic → AdmittedCyclic) (o : Option AdmittedCyclic) → IsSome o → IsSome (option_map f o)
 mapped_some f None h = h
 mapped_some f (Some c) h = refl
 
-finish_some : (hand : Option ℕ) (l : Level) (j : ℕ) → IsSome (l.cyclics j) → IsSome ((after_finish hand l).cyclics j)
+finish_some : (hand : Option ℕ) (l : SoftLevel) (j : ℕ) → IsSome (l.cyclics j) → IsSome ((after_finish hand l).cyclics j)
 finish_some None l j h = h
 finish_some (Some id) l j h =
     changed_some l.cyclics id (option_map cyclic_after_finish) j (mapped_some cyclic_after_finish (l.cyclics j)) h
 
-finish_bank : (hand : Option ℕ) (l : Level) → (after_finish hand l).hard_bank ≡ l.hard_bank
+finish_bank : (hand : Option ℕ) (l : SoftLevel) → (after_finish hand l).hard_bank ≡ l.hard_bank
 finish_bank None l = refl
 finish_bank (Some id) l = refl
 
-stays_admitted : (e : Event) (l : Level) (j : ℕ) → IsCalm e → IsSome (l.cyclics j) → IsSome ((after e l).cyclics j)
+stays_admitted : (e : Event) (l : SoftLevel) (j : ℕ) → IsCalm e → IsSome (l.cyclics j) → IsSome ((after e l).cyclics j)
 stays_admitted (Admit id index) l j calm h = changed_some l.cyclics id (λ o. Some (admitted_cyclic index)) j (λ i. refl) h
 stays_admitted (Expire id) l j calm h =
     changed_some l.cyclics id (option_map cyclic_after_expire) j (mapped_some cyclic_after_expire (l.cyclics j)) h
@@ -85,7 +85,7 @@ stays_admitted (Clear id) l j calm h = absurd calm
 stays_admitted (Switch bank) l j calm h = h
 stays_admitted Follow l j calm h = h
 
-same_bank : (e : Event) (l : Level) → IsCalm e → (after e l).hard_bank ≡ l.hard_bank
+same_bank : (e : Event) (l : SoftLevel) → IsCalm e → (after e l).hard_bank ≡ l.hard_bank
 same_bank (Admit id index) l calm = refl
 same_bank (Expire id) l calm = refl
 same_bank (Lose id) l calm = refl
@@ -140,7 +140,7 @@ onward_acts (a ∷ acts) c calm =
     }
 
 -- the level of an id among these cyclics
-abbrev level_in : ℕ → List Cyclic → CyclicLevel
+abbrev level_in : ℕ → List Cyclic → Level
 level_in id cs = option_map_or (λ x. x.timer.level) (find (is_of id) cs) level.High
 
 agrees_onward : (c d : Cpu) → Onward c d → Agrees c → Agrees d
@@ -176,9 +176,9 @@ level_map f same id (x ∷ xs) =
 pub agrees_with : (c d : Cpu) → d.lock ≡ c.lock → d.low ≡ c.low → d.size ≡ c.size
     → ((id : ℕ) → level_in id d.cyclics ≡ level_in id c.cyclics) → Agrees c → Agrees d
 agrees_with c d lock low size own h = record {
-  one_bank = ap (λ (l : Level). l.hard_bank) low ∙ h.one_bank ∙ sym (ap (λ (l : Level). l.hard_bank) lock);
-  size = size ∙ h.size ∙ ap (λ (l : Level). bank_size l.hard_bank) (sym lock);
-  admitted = λ id soft is. subst (λ (l : Level). IsSome (l.cyclics id)) (sym (levels soft))
+  one_bank = ap (λ (l : SoftLevel). l.hard_bank) low ∙ h.one_bank ∙ sym (ap (λ (l : SoftLevel). l.hard_bank) lock);
+  size = size ∙ h.size ∙ ap (λ (l : SoftLevel). bank_size l.hard_bank) (sym lock);
+  admitted = λ id soft is. subst (λ (l : SoftLevel). IsSome (l.cyclics id)) (sym (levels soft))
       (h.admitted id soft (sym (own id) ∙ is));
 }
   where
@@ -201,10 +201,10 @@ fired_same now made acts x = (refl, refl)
 -- ---- one comes, or goes
 
 -- the level of an id among these, where the test says whether the first has it
-abbrev seen : Bool → ℕ → Cyclic → List Cyclic → CyclicLevel
+abbrev seen : Bool → ℕ → Cyclic → List Cyclic → Level
 seen b id y ys = option_map_or (λ z. z.timer.level) (cond b (Some y) (find (is_of id) ys)) level.High
 
-module _ (P : CyclicLevel → Type 0) (id : ℕ) where
+module _ (P : Level → Type 0) (id : ℕ) where
   into_same : (x : Cyclic) (xs : List Cyclic) → x.timer.id ≡ id → P x.timer.level → P (level_in id (x ∷ xs))
   into_same x xs e h = subst (λ (b : Bool). P (seen b id x xs)) (sym (eq-eqb x.timer.id id e)) h
 
@@ -245,15 +245,15 @@ module _ (P : CyclicLevel → Type 0) (id : ℕ) where
       (λ e. into_same x (others gone xs) e (from_same x xs e (h (λ s. ne (e ∙ s)))))
       (λ n. into_rest x (others gone xs) n (level_others gone high xs (λ far. from_rest x xs n (h far))))))
 
-calm_own : (n : ℕ) (l : CyclicLevel) (e : Event) → IsCalm e → AllCalm (at_own n l e)
+calm_own : (n : ℕ) (l : Level) (e : Event) → IsCalm e → AllCalm (at_own n l e)
 calm_own n level.High e calm = tt
 calm_own n level.Lock e calm = (calm, tt)
 calm_own n level.Low e calm = (calm, tt)
 
-changed_here : (m : Cyclics) (id : ℕ) (f : Option Admitted → Option Admitted) → IsSome (f (m id)) → IsSome (changed_at m id f id)
+changed_here : (m : Cyclics) (id : ℕ) (f : Option AdmittedCyclic → Option AdmittedCyclic) → IsSome (f (m id)) → IsSome (changed_at m id f id)
 changed_here m id f h = subst (λ (b : Bool). IsSome (cond b (f (m id)) (m id))) (sym (eq-eqb id id refl)) h
 
-admitted_own : (n id index : ℕ) (l : CyclicLevel) (soft : Soft) (c : Cpu) → l ≡ as_level soft
+admitted_own : (n id index : ℕ) (l : Level) (soft : Soft) (c : Cpu) → l ≡ as_level soft
     → IsSome ((level_at soft (happen (at_own n l (Admit id index)) c)).cyclics id)
 admitted_own n id index level.Low Low c is = changed_here c.low.cyclics id (λ o. Some (admitted_cyclic index)) refl
 admitted_own n id index level.Lock Lock c is = changed_here c.lock.cyclics id (λ o. Some (admitted_cyclic index)) refl
@@ -277,7 +277,7 @@ agrees_place n index x c h = record {
       (admitted_own n x.timer.id index x.timer.level soft with_it i))
       c.cyclics
       (λ i. on.admitted id soft
-      (subst (λ (l : Level). IsSome (l.cyclics id)) (sym (same_at c (put_in x c.cyclics) c.removal soft))
+      (subst (λ (l : SoftLevel). IsSome (l.cyclics id)) (sym (same_at c (put_in x c.cyclics) c.removal soft))
       (h.admitted id soft i)))
       (ap (level_in id) (sym on.cyclics) ∙ is);
 }
@@ -303,7 +303,7 @@ record Past (id : ℕ) (c d : Cpu) : Type 0 where
 cleared_other : (m : Cyclics) (id j : ℕ) → j ≢ id → IsSome (m j) → IsSome (changed_at m id (λ o. None) j)
 cleared_other m id j ne h = subst (λ (b : Bool). IsSome (cond b None (m j))) (sym (ne_eqb j id ne)) h
 
-past_clear : (n id : ℕ) (l : CyclicLevel) (c : Cpu) → Past id c (happen (at_own n l (Clear id)) c)
+past_clear : (n id : ℕ) (l : Level) (c : Cpu) → Past id c (happen (at_own n l (Clear id)) c)
 past_clear n id level.High c = record { cyclics = refl; size = refl; lock = refl; low = refl; admitted = λ j soft ne h. h }
 past_clear n id level.Low c = record { cyclics = refl; size = refl; lock = refl; low = refl; admitted = by }
   where
@@ -322,7 +322,7 @@ pub high_is_not : (soft : Soft) → level.High ≢ as_level soft
 high_is_not Low is = absurd (let no : level.High ≡ level.Low = is in cc)
 high_is_not Lock is = absurd (let no : level.High ≡ level.Lock = is in cc)
 
-pub agrees_gone : (n id : ℕ) (l : CyclicLevel) (r : Option ℕ) (c : Cpu) → Agrees c
+pub agrees_gone : (n id : ℕ) (l : Level) (r : Option ℕ) (c : Cpu) → Agrees c
     → Agrees (here (at_own n l (Clear id)) (record c { cyclics = others id c.cyclics; removal = r })).cpu
 agrees_gone n id l r c h = record {
   one_bank = past.low ∙ h.one_bank ∙ sym past.lock;
@@ -330,7 +330,7 @@ agrees_gone n id l r c h = record {
   admitted = λ j soft is. level_others (λ k. k ≡ as_level soft → IsSome ((level_at soft after_it).cyclics j)) j id
       (λ no. absurd (high_is_not soft no)) c.cyclics
       (λ far i. past.admitted j soft far
-      (subst (λ (m : Level). IsSome (m.cyclics j)) (sym (same_at c (others id c.cyclics) r soft))
+      (subst (λ (m : SoftLevel). IsSome (m.cyclics j)) (sym (same_at c (others id c.cyclics) r soft))
       (h.admitted j soft i)))
       (ap (level_in j) (sym past.cyclics) ∙ is);
 }
@@ -346,7 +346,7 @@ agrees_gone n id l r c h = record {
 
 -- ---- the calls whose acts are calm, and a switch of both banks
 
-calm_raised : (n : ℕ) (soft : Soft) (id : ℕ) (l : Level) → AllCalm (map (At n soft) (raised id l))
+calm_raised : (n : ℕ) (soft : Soft) (id : ℕ) (l : SoftLevel) → AllCalm (map (At n soft) (raised id l))
 calm_raised n soft id l = by (count l id == l.ceiling) (count l id == 0)
   where
     by : (a b : Bool)
@@ -355,13 +355,13 @@ calm_raised n soft id l = by (count l id == l.ceiling) (count l id == 0)
     by false true = (tt, (tt, tt))
     by false false = (tt, tt)
 
-calm_expiry : (n : ℕ) (l : CyclicLevel) (id : ℕ) (c : Cpu) → AllCalm (expiry n l id c)
+calm_expiry : (n : ℕ) (l : Level) (id : ℕ) (c : Cpu) → AllCalm (expiry n l id c)
 calm_expiry n level.High id c = (tt, tt)
 calm_expiry n level.Lock id c = calm_raised n Lock id c.lock
 calm_expiry n level.Low id c = calm_raised n Low id c.low
 
 pub agrees_expire : (n id : ℕ) (c : Cpu) → Agrees c → Agrees (expire_here n id c).cpu
-agrees_expire n id c h = agrees_here (expiry n (level_of id c) id c) c (calm_expiry n (level_of id c) id c) h
+agrees_expire n id c h = agrees_here (expiry n (handler_level_of id c) id c) c (calm_expiry n (handler_level_of id c) id c) h
 
 pub agrees_fired : (now : ℕ) (made : List Expiration) (acts : List Act) (c : Cpu) → Agrees c
     → Agrees (record c { cyclics = map (fired now made acts) c.cyclics })
@@ -377,7 +377,7 @@ module _ (Q : Event → Type 0) (take : Q Take) (finish : Q Finish) (follow : Q 
   acts_of_looks n soft [] (y ∷ ys) false = (follow, (take, tt))
   acts_of_looks n soft [] [] false = (follow, tt)
 
-  acts_of_look : (n : ℕ) (soft : Soft) (l : Level) → AllActs Q (map (At n soft) (look l))
+  acts_of_look : (n : ℕ) (soft : Soft) (l : SoftLevel) → AllActs Q (map (At n soft) (look l))
   acts_of_look n soft l =
       by (is_some l.drainer_hand) (acts_of_looks n soft l.old_list l.new_list (l.hard_bank == l.soft_bank))
     where
@@ -386,14 +386,14 @@ module _ (Q : Event → Type 0) (take : Q Take) (finish : Q Finish) (follow : Q 
       by true all = tt
       by false all = all
 
-  acts_after : (n : ℕ) (soft : Soft) (looked : List Event) (l : Level) (rest : Level → Interrupt)
-      → AllActs Q (map (At n soft) looked) → ((m : Level) → AllActs Q (rest m).acts)
+  acts_after : (n : ℕ) (soft : Soft) (looked : List Event) (l : SoftLevel) (rest : SoftLevel → Interrupt)
+      → AllActs Q (map (At n soft) looked) → ((m : SoftLevel) → AllActs Q (rest m).acts)
       → (hand : Option ℕ) → AllActs Q (after_look n soft looked (record l { drainer_hand = hand }) rest).acts
   acts_after n soft looked l rest all more None = all
   acts_after n soft looked l rest all more (Some id) =
       acts_append Q (map (At n soft) looked) _ all (tt, (finish, more (after Finish (record l { drainer_hand = Some id }))))
 
-  pub acts_of_serve : (n : ℕ) (soft : Soft) (budget : ℕ) (l : Level) → AllActs Q (serve n soft budget l).acts
+  pub acts_of_serve : (n : ℕ) (soft : Soft) (budget : ℕ) (l : SoftLevel) → AllActs Q (serve n soft budget l).acts
   acts_of_serve n soft zero l = tt
   acts_of_serve n soft (suc budget) l =
       acts_after n soft (look l) (level_after (look l) l) (serve n soft budget) (acts_of_look n soft l)
@@ -406,11 +406,11 @@ agrees_serve n soft budget c h = agrees_here (serve n soft budget (level_at soft
 pub agrees_switch : (n bank : ℕ) (c : Cpu) → Agrees c → Agrees (switch_here n bank c).cpu
 agrees_switch n bank c h = record { one_bank = refl; size = refl; admitted = by }
   where
-    by : (id : ℕ) (soft : Soft) → level_of id c ≡ as_level soft → IsSome ((level_at soft (switch_here n bank c).cpu).cyclics id)
+    by : (id : ℕ) (soft : Soft) → handler_level_of id c ≡ as_level soft → IsSome ((level_at soft (switch_here n bank c).cpu).cyclics id)
     by id Low is = h.admitted id Low is
     by id Lock is = h.admitted id Lock is
 
-pub agrees_own : (n : ℕ) (l : CyclicLevel) (id : ℕ) (c : Cpu) → Agrees c → Agrees (here (at_own n l (Mark id)) c).cpu
+pub agrees_own : (n : ℕ) (l : Level) (id : ℕ) (c : Cpu) → Agrees c → Agrees (here (at_own n l (Mark id)) c).cpu
 agrees_own n l id c h = agrees_here (at_own n l (Mark id)) c (calm_own n l (Mark id) tt) h
 
 pub agrees_moment : (id moment : ℕ) (r : Option ℕ) (c : Cpu) → Agrees c

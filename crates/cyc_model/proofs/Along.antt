@@ -4,7 +4,7 @@ use Rattle.cyc_types.specs.declared.level.Soft.{Soft}
 use Rattle.cyc_types.specs.declared.level.Soft.TheVariants.{Low, Lock}
 use Rattle.cyc_level.specs.declared.Event.{Event}
 use Rattle.cyc_level.specs.declared.Event.TheVariants.{Admit, Expire, Lose, Publish, Take, Finish, Mark, Clear, Switch, Follow}
-use Rattle.cyc_level.specs.Level.{Level, Cyclic, count, count_in}
+use Rattle.cyc_level.specs.Level.{SoftLevel, AdmittedCyclic, count, count_in}
 use Rattle.cyc_level.specs.Lawful.{Lawful}
 use Rattle.cyc_level.specs.Events.{Enabled, after, most_sent}
 use Rattle.cyc_level.proofs.Maps.{some_of, is_some_and}
@@ -21,12 +21,12 @@ use Rattle.cyc_model.specs.Agreement.{IsReady, AllReady}
 use Rattle.cyc_model.proofs.Telling.{tells_steps, fair_steps, ready_steps}
 use Rattle.std.specs.Prelude.{slice_index_or, replicate}
 
-below : (l : Level) → Lawful l → (id : ℕ) (c : Cyclic) → l.cyclics id ≡ Some c → count l id ≢ l.ceiling → c.count < l.ceiling
+below : (l : SoftLevel) → Lawful l → (id : ℕ) (c : AdmittedCyclic) → l.cyclics id ≡ Some c → count l id ≢ l.ceiling → c.count < l.ceiling
 below l law id c is ne =
     let le = law.below_ceiling id c is in
     let far : c.count ≢ l.ceiling = λ same. ne (ap count_in is ∙ same) in omega (arith, le, far)
 
-pub can_of_all : (e : Event) (l : Level) → Lawful l → CanAsFiring e l → CanAsSoft e l → IsReady e l → Enabled e l
+pub can_of_all : (e : Event) (l : SoftLevel) → Lawful l → CanAsFiring e l → CanAsSoft e l → IsReady e l → Enabled e l
 can_of_all (Admit id index) l law firing soft ready = firing
 can_of_all (Expire id) l law firing soft ready =
     let c = some_of (l.cyclics id) ready.1 in (
@@ -50,11 +50,11 @@ can_of_all (Clear id) l law firing soft ready = (ready, firing.0, firing.1)
 can_of_all (Switch bank) l law firing soft ready = (ready, firing.0, firing.1, firing.2)
 can_of_all Follow l law firing soft ready = soft
 
-sound : (l : Level) → Lawful l → IsSound l
+sound : (l : SoftLevel) → Lawful l → IsSound l
 sound l law = (law, conserved_level l law)
 
 -- the laws hold all along these events, and after them
-along : (es : List Event) (l : Level) → Lawful l → AllCanAsFiring es l → AllCanAsSoft es l → AllReady es l
+along : (es : List Event) (l : SoftLevel) → Lawful l → AllCanAsFiring es l → AllCanAsSoft es l → AllReady es l
     → AllAlong es l × IsSound (level_after es l)
 along [] l law firing soft ready = (sound l law, sound l law)
 along (e ∷ es) l law firing soft ready =

@@ -9,7 +9,7 @@ use Rattle.cyc_script.specs.declared.step.Softint.{Softint as SoftintStep}
 use Rattle.cyc_model.specs.Cpu.{Cpu, has_cyclic}
 use Rattle.cyc_model.specs.Questions.{plain}
 use Rattle.cyc_model.specs.State.{State, Outcome, Place, On, OnAll, cpu_of, nothing, each, numbers, cpus_with}
-use Rattle.cyc_model.specs.Places.{id_of, place_of, is_unknown, forgotten}
+use Rattle.cyc_model.specs.Places.{id_of, placement_of, is_unknown, forgotten}
 use Rattle.cyc_model.specs.Refusals.{when, first_refusal, busy}
 use Rattle.cyc_model.specs.Report.{counts_of}
 use Rattle.cyc_model.specs.Remove.{busy_on_each, remove_refusal, poll, begin, answered, begun, with_answer, remove, ended_expired}
@@ -162,12 +162,12 @@ is_opened id c is = ap (λ o. option_map_or (λ busy. busy == id) o false) is �
 
 -- where a removal is open, it is open wherever the cyclic is
 all_leaving : (id k : ℕ) (s : State) → Good s → (cpu_of k s).removal ≡ Some id → Leaving id s
-all_leaving id k s g is = by (place_of id s) refl (g.base.homes k id held)
+all_leaving id k s g is = by (placement_of id s) refl (g.base.homes k id held)
   where
     held : IsSome (found id (cpu_of k s).cyclics)
     held = (g.base.whole k).held id is
 
-    by : (o : Option Place) → place_of id s ≡ o → IsAt k (place_of id s) → Leaving id s
+    by : (o : Option Place) → placement_of id s ≡ o → IsAt k (placement_of id s) → Leaving id s
     by None at here = absurd (subst (λ p. IsAt k p) at here)
     by (Some (On m bound)) at here = λ n some.
         let a = subst (λ p. IsAt k p) at here in let b = subst (λ p. IsAt n p) at (g.base.homes n id some) in

@@ -8,16 +8,16 @@ use Rattle.std.specs.Option.{option_map, option_map_or}
 use Rattle.std.proofs.lemmas.List.{map-append}
 use Rattle.cyc_types.specs.declared.level.Soft.{Soft}
 use Rattle.cyc_types.specs.declared.level.Soft.TheVariants.{Low, Lock}
-use Rattle.cyc_types.specs.declared.level.Level.{Level as CyclicLevel}
+use Rattle.cyc_types.specs.declared.level.Level.{Level}
 use Rattle.cyc_types.specs.declared.level.Level.TheVariants as level
 use Rattle.cyc_level.specs.declared.Event.{Event}
 use Rattle.cyc_level.specs.declared.Event.TheVariants.{Admit, Expire, Lose, Publish, Take, Finish, Mark, Clear, Switch, Follow}
-use Rattle.cyc_level.specs.Level.{Cyclic as Admitted, Level, count, count_in}
+use Rattle.cyc_level.specs.Level.{AdmittedCyclic, SoftLevel, count, count_in}
 use Rattle.cyc_level.specs.Events.{after, after_finish, admitted_cyclic, cyclic_after_expire, cyclic_after_lose}
 use Rattle.cyc_level.specs.Events.{cyclic_after_finish, hand_after_expire, hand_after_finish}
 use Rattle.cyc_expirations.specs.Expirations.{Expiration}
 use Rattle.cyc_model.specs.Acts.{Act, At, Call, at_own, call_of, calls_of, calls_in, loss_of, losses_of, is_loss, losses_in}
-use Rattle.cyc_model.specs.Cpu.{Cyclic, Cpu, Here, cpu_after, happen, here, nothing_here, acts_first, then_here, level_of, others}
+use Rattle.cyc_model.specs.Cpu.{Cyclic, Cpu, Here, cpu_after, happen, here, nothing_here, acts_first, then_here, handler_level_of, others}
 use Rattle.cyc_model.specs.Firing.{raised, expiry, expire_here, expire_all, due_here, fired, with_fired, fire_here}
 use Rattle.cyc_model.specs.Serving.{level_after, look, Interrupt, calling, found_nothing, after_look, looks, serve}
 use Rattle.cyc_model.specs.Serving.{interrupt_here, serve_here}
@@ -28,11 +28,11 @@ use Rattle.cyc_model.specs.Questions.{outstanding_here}
 -- each index k becomes relabel k
 module _ (relabel : ℕ → ℕ) where
   -- the cyclic of a level with the other index
-  abbrev pub without_index : Admitted → Admitted
+  abbrev pub without_index : AdmittedCyclic → AdmittedCyclic
   without_index c = record c { index = relabel c.index }
 
   -- the level without the indexes of its cyclics
-  abbrev pub bare_level : Level → Level
+  abbrev pub bare_level : SoftLevel → SoftLevel
   bare_level l = record l { cyclics = λ id. option_map without_index (l.cyclics id) }
 
   -- the event without its index
@@ -60,27 +60,27 @@ module _ (relabel : ℕ → ℕ) where
 
   -- ---- one level
 
-  count_in_same : (o : Option Admitted) → count_in (option_map without_index o) ≡ count_in o
+  count_in_same : (o : Option AdmittedCyclic) → count_in (option_map without_index o) ≡ count_in o
   count_in_same None = refl
   count_in_same (Some c) = refl
 
-  pub count_same : (l : Level) (id : ℕ) → count (bare_level l) id ≡ count l id
+  pub count_same : (l : SoftLevel) (id : ℕ) → count (bare_level l) id ≡ count l id
   count_same l id = count_in_same (l.cyclics id)
 
-  edited : (b : Bool) (f : Admitted → Admitted) → ((c : Admitted) → without_index (f c) ≡ f (without_index c))
-      → (o : Option Admitted)
+  edited : (b : Bool) (f : AdmittedCyclic → AdmittedCyclic) → ((c : AdmittedCyclic) → without_index (f c) ≡ f (without_index c))
+      → (o : Option AdmittedCyclic)
       → option_map without_index (cond b (option_map f o) o)
       ≡ cond b (option_map f (option_map without_index o)) (option_map without_index o)
   edited true f same None = refl
   edited true f same (Some c) = ap Some (same c)
   edited false f same o = refl
 
-  replaced : (b : Bool) (p : Option Admitted) (o : Option Admitted)
+  replaced : (b : Bool) (p : Option AdmittedCyclic) (o : Option AdmittedCyclic)
       → option_map without_index (cond b p o) ≡ cond b (option_map without_index p) (option_map without_index o)
   replaced true p o = refl
   replaced false p o = refl
 
-  finished : (l : Level) (hand : Option ℕ) → bare_level (after_finish hand l) ≡ after_finish hand (bare_level l)
+  finished : (l : SoftLevel) (hand : Option ℕ) → bare_level (after_finish hand l) ≡ after_finish hand (bare_level l)
   finished l None = refl
   finished l (Some id) = λ z. record (bare_level l) {
     cyclics = λ j. edited (j == id) cyclic_after_finish (λ c. refl) (l.cyclics j) z;
@@ -88,7 +88,7 @@ module _ (relabel : ℕ → ℕ) where
   }
 
   -- the level after an event
-  bare_after : (e : Event) (l : Level) → bare_level (after e l) ≡ after (bare_event e) (bare_level l)
+  bare_after : (e : Event) (l : SoftLevel) → bare_level (after e l) ≡ after (bare_event e) (bare_level l)
   bare_after (Admit id index) l =
       λ z. record (bare_level l) { cyclics = λ j. replaced (j == id) (Some (admitted_cyclic index)) (l.cyclics j) z }
   bare_after (Expire id) l = λ z. record (bare_level l) {
@@ -106,7 +106,7 @@ module _ (relabel : ℕ → ℕ) where
   bare_after (Switch bank) l = refl
   bare_after Follow l = refl
 
-  bare_level_after : (es : List Event) (l : Level) → bare_level (level_after es l)
+  bare_level_after : (es : List Event) (l : SoftLevel) → bare_level (level_after es l)
       ≡ level_after (map bare_event es) (bare_level l)
   bare_level_after [] l = refl
   bare_level_after (e ∷ es) l =
@@ -160,7 +160,7 @@ module _ (relabel : ℕ → ℕ) where
       ap (λ k. k + losses_in (map bare_act acts)) (is_loss_bare e) ∙ ap (λ k. is_loss e + k) (losses_in_bare acts)
   losses_in_bare (Call j ∷ acts) = losses_in_bare acts
 
-  own_bare : (n : ℕ) (l : CyclicLevel) (e : Event) → map bare_act (at_own n l e) ≡ at_own n l (bare_event e)
+  own_bare : (n : ℕ) (l : Level) (e : Event) → map bare_act (at_own n l e) ≡ at_own n l (bare_event e)
   own_bare n level.High e = refl
   own_bare n level.Lock e = refl
   own_bare n level.Low e = refl
@@ -210,23 +210,23 @@ module _ (relabel : ℕ → ℕ) where
   raised_are_bare false true id = refl
   raised_are_bare false false id = refl
 
-  raised_same : (id : ℕ) (l : Level) → raised id (bare_level l) ≡ raised id l
+  raised_same : (id : ℕ) (l : SoftLevel) → raised id (bare_level l) ≡ raised id l
   raised_same id l =
       ap (λ n. cond (n == l.ceiling) (Lose id ∷ []) (cond (n == 0) (Expire id ∷ Publish ∷ []) (Expire id ∷ []))) (count_same l id)
 
-  raised_bare : (n : ℕ) (soft : Soft) (id : ℕ) (l : Level)
+  raised_bare : (n : ℕ) (soft : Soft) (id : ℕ) (l : SoftLevel)
       → map bare_act (map (At n soft) (raised id l)) ≡ map (At n soft) (raised id (bare_level l))
   raised_bare n soft id l =
       map_are_bare n soft (raised id l) (raised_are_bare (count l id == l.ceiling) (count l id == 0) id)
       ∙ ap (map (At n soft)) (sym (raised_same id l))
 
-  expiry_bare : (n : ℕ) (l : CyclicLevel) (id : ℕ) (c : Cpu) → map bare_act (expiry n l id c) ≡ expiry n l id (bare_cpu c)
+  expiry_bare : (n : ℕ) (l : Level) (id : ℕ) (c : Cpu) → map bare_act (expiry n l id c) ≡ expiry n l id (bare_cpu c)
   expiry_bare n level.High id c = refl
   expiry_bare n level.Lock id c = raised_bare n Lock id c.lock
   expiry_bare n level.Low id c = raised_bare n Low id c.low
 
   expire_bare : (n id : ℕ) (c : Cpu) → bare_here (expire_here n id c) ≡ expire_here n id (bare_cpu c)
-  expire_bare n id c = here_as (expiry n (level_of id c) id c) _ c (expiry_bare n (level_of id c) id c)
+  expire_bare n id c = here_as (expiry n (handler_level_of id c) id c) _ c (expiry_bare n (handler_level_of id c) id c)
 
   expire_all_bare : (n : ℕ) (ps : List Expiration) (c : Cpu) → bare_here (expire_all n ps c) ≡ expire_all n ps (bare_cpu c)
   expire_all_bare n [] c = refl
@@ -258,7 +258,7 @@ module _ (relabel : ℕ → ℕ) where
   looks_are_bare None [] (y ∷ ys) false = refl
   looks_are_bare None [] [] false = refl
 
-  look_are_bare : (l : Level) → AreBare (look l)
+  look_are_bare : (l : SoftLevel) → AreBare (look l)
   look_are_bare l = looks_are_bare l.drainer_hand l.old_list l.new_list (l.hard_bank == l.soft_bank)
 
   abbrev bare_interrupt : Interrupt → Interrupt
@@ -272,8 +272,8 @@ module _ (relabel : ℕ → ℕ) where
     idle = r.idle;
   }
 
-  look_bare : (n : ℕ) (soft : Soft) (looked : List Event) (l : Level) (rest : Level → Interrupt) → AreBare looked
-      → ((m : Level) → bare_interrupt (rest m) ≡ rest (bare_level m)) → (hand : Option ℕ)
+  look_bare : (n : ℕ) (soft : Soft) (looked : List Event) (l : SoftLevel) (rest : SoftLevel → Interrupt) → AreBare looked
+      → ((m : SoftLevel) → bare_interrupt (rest m) ≡ rest (bare_level m)) → (hand : Option ℕ)
       → bare_interrupt (option_map_or (λ id. calling n soft looked id (rest (after Finish l))) hand (found_nothing n soft looked))
       ≡ option_map_or (λ id. calling n soft looked id (rest (after Finish (bare_level l)))) hand (found_nothing n soft looked)
   look_bare n soft looked l rest same more None = λ z. record { acts = map_are_bare n soft looked same z; idle = true }
@@ -281,7 +281,7 @@ module _ (relabel : ℕ → ℕ) where
       calling_bare n soft looked id (rest (after Finish l)) same
       ∙ ap (calling n soft looked id) (more (after Finish l) ∙ ap rest (bare_after Finish l))
 
-  serve_bare : (n : ℕ) (soft : Soft) (budget : ℕ) (l : Level) → bare_interrupt (serve n soft budget l)
+  serve_bare : (n : ℕ) (soft : Soft) (budget : ℕ) (l : SoftLevel) → bare_interrupt (serve n soft budget l)
       ≡ serve n soft budget (bare_level l)
   serve_bare n soft zero l = refl
   serve_bare n soft (suc budget) l =
@@ -328,23 +328,23 @@ module _ (relabel : ℕ → ℕ) where
 
   pub take_bare : (n id : ℕ) (c : Cpu) → bare_here (take_here n id c) ≡ take_here n id (bare_cpu c)
   take_bare n id c =
-      then_bare (here (at_own n (level_of id c) (Mark id)) c) _
-      (λ d. here (at_own n (level_of id d) (Clear id)) (record d { cyclics = others id d.cyclics }))
-      (λ d. here (at_own n (level_of id d) (Clear id)) (record d { cyclics = others id d.cyclics }))
-      (here_as (at_own n (level_of id c) (Mark id)) _ c (own_bare n (level_of id c) (Mark id)))
-      (λ d. here_as (at_own n (level_of id d) (Clear id)) _ (record d { cyclics = others id d.cyclics })
-      (own_bare n (level_of id d) (Clear id)))
+      then_bare (here (at_own n (handler_level_of id c) (Mark id)) c) _
+      (λ d. here (at_own n (handler_level_of id d) (Clear id)) (record d { cyclics = others id d.cyclics }))
+      (λ d. here (at_own n (handler_level_of id d) (Clear id)) (record d { cyclics = others id d.cyclics }))
+      (here_as (at_own n (handler_level_of id c) (Mark id)) _ c (own_bare n (handler_level_of id c) (Mark id)))
+      (λ d. here_as (at_own n (handler_level_of id d) (Clear id)) _ (record d { cyclics = others id d.cyclics })
+      (own_bare n (handler_level_of id d) (Clear id)))
 
   pub mark_bare : (n id : ℕ) (c : Cpu) → bare_here (mark_here n id c) ≡ mark_here n id (bare_cpu c)
   mark_bare n id c =
-      here_as (at_own n (level_of id c) (Mark id)) _
+      here_as (at_own n (handler_level_of id c) (Mark id)) _
       (record c { cyclics = map (moment_at id never) c.cyclics; removal = Some id })
-      (own_bare n (level_of id c) (Mark id))
+      (own_bare n (handler_level_of id c) (Mark id))
 
   pub clear_bare : (n id : ℕ) (c : Cpu) → bare_here (clear_here n id c) ≡ clear_here n id (bare_cpu c)
   clear_bare n id c =
-      here_as (at_own n (level_of id c) (Clear id)) _ (record c { cyclics = others id c.cyclics; removal = None })
-      (own_bare n (level_of id c) (Clear id))
+      here_as (at_own n (handler_level_of id c) (Clear id)) _ (record c { cyclics = others id c.cyclics; removal = None })
+      (own_bare n (handler_level_of id c) (Clear id))
 
   pub outstanding_bare : (id : ℕ) (c : Cpu) → outstanding_here id (bare_cpu c) ≡ outstanding_here id c
   outstanding_bare id c = λ z. count_same c.lock id z + count_same c.low id z

@@ -11,7 +11,7 @@ use Rattle.cyc_model.specs.Acts.{Act, events_at, calls_of, losses_of}
 use Rattle.cyc_model.specs.Cpu.{Cyclic, Cpu, Here}
 use Rattle.cyc_model.specs.Questions.{outstanding_here}
 use Rattle.cyc_model.specs.State.{State, Outcome, Place, On, OnAll, on, absent, cpu_of, nothing, followed_by}
-use Rattle.cyc_model.specs.Places.{place_of}
+use Rattle.cyc_model.specs.Places.{placement_of}
 use Rattle.cyc_model.specs.Remove.{ended_expired, ended_lost}
 use Rattle.cyc_model.specs.Report.{expired_here, lost_here}
 use Rattle.cyc_model.specs.Laws.{level_on, Tells, RiseTo}
@@ -34,14 +34,14 @@ IsAt n (Some (OnAll e)) = ⊤
 -- the machine, with a cyclic on its way perhaps
 pub record Base (way : Option Cyclic) (s : State) : Type 0 where
   pub whole : (n : ℕ) → Whole (cpu_of n s)
-  pub homes : (n id : ℕ) → IsSome (found id (cpu_of n s).cyclics) → IsAt n (place_of id s)
+  pub homes : (n id : ℕ) → IsSome (found id (cpu_of n s).cyclics) → IsAt n (placement_of id s)
   pub rise : RiseTo 0 s.placed s.last_id
   pub few : s.last_id ≤ greatest_id
   pub books : (id : ℕ) → Balanced id way s
 
 -- the removal of the id has answered
 abbrev pub IsGone : ℕ → State → Type 0
-IsGone id s = (id ≤ s.last_id) × (place_of id s ≡ None)
+IsGone id s = (id ≤ s.last_id) × (placement_of id s ≡ None)
 
 -- what the acts of a word do
 pub record Goes (acts : List Act) (s t : State) : Type 0 where
@@ -111,7 +111,7 @@ goes_from acts s r t h cpus called gone = record {
 }
 
 -- an id that is gone is on no CPU
-pub gone_away : (way : Option Cyclic) (s : State) → Base way s → (id : ℕ) → place_of id s ≡ None → (n : ℕ)
+pub gone_away : (way : Option Cyclic) (s : State) → Base way s → (id : ℕ) → placement_of id s ≡ None → (n : ℕ)
     → found id (cpu_of n s).cyclics ≡ None
 gone_away way s b id none n = by (found id (cpu_of n s).cyclics) refl
   where
@@ -197,13 +197,13 @@ module _ (n : ℕ) (f : Cpu → Here) (made : ℕ → ℕ) (s : State) (within :
       totals sp sp2 cp dp calls losses m a b = omega (arith, a, b)
 
   pub base_on : (way to : Option Cyclic) → Base way s → Shift way to made (cpu_of n s) (f (cpu_of n s))
-      → ((id : ℕ) → IsSome (found id (f (cpu_of n s)).cpu.cyclics) → IsAt n (place_of id s)) → Base to (on n f s).state
+      → ((id : ℕ) → IsSome (found id (f (cpu_of n s)).cpu.cyclics) → IsAt n (placement_of id s)) → Base to (on n f s).state
   base_on way to b shift ids = record {
     whole = λ m. dite (ℕ_discrete m n)
         (λ e. subst (λ k. Whole (cpu_of k (on n f s).state)) (sym e) (subst (λ c. Whole c) (sym cpu_there) done.whole))
         (λ ne. subst (λ c. Whole c) (sym (cpu_elsewhere m ne)) (b.whole m));
     homes = λ m id some. dite (ℕ_discrete m n)
-        (λ e. subst (λ k. IsAt k (place_of id s)) (sym e) (ids id (subst (λ c. IsSome (found id c.cyclics)) cpu_there
+        (λ e. subst (λ k. IsAt k (placement_of id s)) (sym e) (ids id (subst (λ c. IsSome (found id c.cyclics)) cpu_there
         (subst (λ k. IsSome (found id (cpu_of k (on n f s).state).cyclics)) e some))))
         (λ ne. b.homes m id (subst (λ c. IsSome (found id c.cyclics)) (cpu_elsewhere m ne) some));
     rise = b.rise;

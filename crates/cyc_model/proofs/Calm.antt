@@ -15,7 +15,7 @@ use Rattle.cyc_model.specs.Firing.{due_here, fired, fire_here}
 use Rattle.cyc_model.specs.Serving.{serve_here}
 use Rattle.cyc_model.specs.Moving.{moment_at, reprogram_here}
 use Rattle.cyc_model.specs.State.{State, Outcome, Place, On, OnAll, on, cpu_of, each, nothing, followed_by, online_cpus}
-use Rattle.cyc_model.specs.Places.{id_of, place_of, put_at, home_of, home_at, is_everywhere}
+use Rattle.cyc_model.specs.Places.{id_of, placement_of, put_at, home_of, home_at, is_everywhere}
 use Rattle.cyc_model.specs.Refusals.{when, first_refusal, no_cpu, offline_cpu, magnitude}
 use Rattle.cyc_model.specs.Bind.{no_cyclic, omnipresent, unbind_refusal, unbind}
 use Rattle.cyc_model.specs.Reprogram.{no_component, cpu_refusals, reprogram_refusal, cpu_meant, reprogram}
@@ -142,12 +142,12 @@ view_reprogram id moment c = record {
   online = refl;
 }
 
-meant_there : (cpu : Option ℕ) (id : ℕ) (s : State) → Good s → IsSome (place_of id s)
+meant_there : (cpu : Option ℕ) (id : ℕ) (s : State) → Good s → IsSome (placement_of id s)
     → first_refusal (cpu_refusals cpu id s) ≡ None
     → cpu_meant cpu id s < length s.cpus
 meant_there None id s g known h =
     let all = (none_first (omnipresent id s) [] h).0 in
-    let at = is_single (place_of id s) known (not_omnipresent id s all) in
+    let at = is_single (placement_of id s) known (not_omnipresent id s all) in
     subst (λ o. home_at o < length s.cpus) (sym at.2) (is_there s g.spread id at.0 at.1 at.2)
 meant_there (Some n) id s g known h = is_cpu n s (none_first (no_cpu n s) (offline_cpu n s ∷ no_component id n s ∷ []) h).0
 
@@ -167,14 +167,14 @@ well_reprogram step r s g why =
 
 -- ---- a cyclic that is on one CPU is put down as on it again
 
-put_gone : (id : ℕ) (place : Place) (s : State) (j : ℕ) → IsSome (place_of id s) → IsGone j s → IsGone j (put_at id place s)
+put_gone : (id : ℕ) (place : Place) (s : State) (j : ℕ) → IsSome (placement_of id s) → IsGone j s → IsGone j (put_at id place s)
 put_gone id place s j known gone = (
   gone.0,
-  place_put_other id j place s (λ e. let n : IsSome (place_of j s) = ap (λ (k : ℕ). is_some (place_of k s)) e ∙ known in
+  place_put_other id j place s (λ e. let n : IsSome (placement_of j s) = ap (λ (k : ℕ). is_some (placement_of k s)) e ∙ known in
       absurd (let no : true ≡ false = sym n ∙ ap is_some gone.1 in cc)) ∙ gone.1,
 )
 
-pub well_put : (id n : ℕ) (bound was : Bool) (s : State) → Good s → place_of id s ≡ Some (On n was)
+pub well_put : (id n : ℕ) (bound was : Bool) (s : State) → Good s → placement_of id s ≡ Some (On n was)
     → Well (nothing (put_at id (On n bound) s)) s
 well_put id n bound was s g at =
     let t = put_at id (On n bound) s in (
@@ -183,8 +183,8 @@ well_put id n bound was s g at =
         base = record {
           whole = g.base.whole;
           homes = λ m j some. dite (ℕ_discrete j id)
-              (λ e. subst (λ o. IsAt m o) (sym (ap (λ (k : ℕ). place_of k t) e ∙ place_put_same id (On n bound) s (On n was) at))
-              (subst (λ o. IsAt m o) (ap (λ (k : ℕ). place_of k s) e ∙ at) (g.base.homes m j some)))
+              (λ e. subst (λ o. IsAt m o) (sym (ap (λ (k : ℕ). placement_of k t) e ∙ place_put_same id (On n bound) s (On n was) at))
+              (subst (λ o. IsAt m o) (ap (λ (k : ℕ). placement_of k s) e ∙ at) (g.base.homes m j some)))
               (λ ne. subst (λ o. IsAt m o) (sym (place_put_other id j (On n bound) s ne)) (g.base.homes m j some));
           rise = rise_map 0 s.last_id id (On n bound) s.placed g.base.rise;
           few = g.base.few;
@@ -194,14 +194,14 @@ well_put id n bound was s g at =
           some = g.spread.some;
           there = g.spread.there;
           home = λ j m b is. dite (ℕ_discrete j id)
-              (λ e. let same : Some (On n bound) ≡ Some (On m b) = sym (ap (λ (k : ℕ). place_of k t) e
+              (λ e. let same : Some (On n bound) ≡ Some (On m b) = sym (ap (λ (k : ℕ). placement_of k t) e
               ∙ place_put_same id (On n bound) s (On n was) at) ∙ is in
-              let there = g.spread.home j n was (ap (λ (k : ℕ). place_of k s) e ∙ at) in
+              let there = g.spread.home j n was (ap (λ (k : ℕ). placement_of k s) e ∙ at) in
               subst (λ k. IsSome (found j (cpu_of k s).cyclics)) (ap (λ o. home_at o) same) there)
               (λ ne. g.spread.home j m b (sym (place_put_other id j (On n bound) s ne) ∙ is));
           stands = λ j e is. dite (ℕ_discrete j id)
               (λ same. absurd (let no : Some (On n bound) ≡ Some (OnAll e) =
-              sym (ap (λ (k : ℕ). place_of k t) same ∙ place_put_same id (On n bound) s (On n was) at) ∙ is in
+              sym (ap (λ (k : ℕ). placement_of k t) same ∙ place_put_same id (On n bound) s (On n was) at) ∙ is in
               let no2 : false ≡ true = ap is_everywhere no in cc))
               (λ ne. g.spread.stands j e (sym (place_put_other id j (On n bound) s ne) ∙ is));
         };
@@ -213,7 +213,7 @@ well_unbind step name s g why =
     let id = id_of name s in
     let one = none_first (no_cyclic id s) (omnipresent id s ∷ []) why in
     let known = is_cyclic id s one.0 in
-    let at = is_single (place_of id s) known.0 (not_omnipresent id s (none_first (omnipresent id s) [] one.1).0) in
+    let at = is_single (placement_of id s) known.0 (not_omnipresent id s (none_first (omnipresent id s) [] one.1).0) in
     let home : home_of id s ≡ at.0 = ap home_at at.2 in
     let o = subst (λ n. Well (nothing (put_at id (On n false) s)) s) (sym home) (well_put id at.0 false at.1 s g at.2) in
     (o.0, o.1)

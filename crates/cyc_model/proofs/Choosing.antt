@@ -5,18 +5,18 @@ use Rattle.std.specs.Prelude.{⊤, nat_lt}
 use Rattle.std.proofs.lemmas.Bool.{ltb-true, ltb-false}
 use Rattle.cyc_types.specs.declared.level.Soft.{Soft}
 use Rattle.cyc_types.specs.declared.level.Soft.TheVariants.{Low, Lock}
-use Rattle.cyc_types.specs.declared.level.Level.{Level as CyclicLevel}
+use Rattle.cyc_types.specs.declared.level.Level.{Level}
 use Rattle.cyc_types.specs.declared.level.Level.TheVariants as level
 use Rattle.cyc_types.specs.declared.refusal.Refusal.{Refusal}
 use Rattle.cyc_level.specs.declared.Event.{Event}
 use Rattle.cyc_level.specs.declared.Event.TheVariants.{Admit, Expire, Lose, Publish, Take, Finish, Mark, Clear, Switch, Follow}
-use Rattle.cyc_level.specs.Level.{Level, empty_level, count}
+use Rattle.cyc_level.specs.Level.{SoftLevel, empty_level, count}
 use Rattle.cyc_expirations.specs.Expirations.{Expiration}
 use Rattle.cyc_script.specs.declared.step.Step.{Step}
 use Rattle.cyc_script.specs.declared.step.Step.TheVariants.{Add, Omni, Bind, Unbind, Reprogram, Remove, Advance, Softint, Juggle}
 use Rattle.cyc_script.specs.declared.step.Step.TheVariants.{Offline, Online}
 use Rattle.cyc_model.specs.Acts.{Act, At, Call, at_own, same_soft, events_at}
-use Rattle.cyc_model.specs.Cpu.{Cpu, level_of}
+use Rattle.cyc_model.specs.Cpu.{Cpu, handler_level_of}
 use Rattle.cyc_model.specs.Firing.{raised, expiry, expire_here, expire_all, due_here, fire_here}
 use Rattle.cyc_model.specs.Questions.{plain}
 use Rattle.cyc_model.specs.Serving.{level_after}
@@ -105,12 +105,12 @@ idle_no_admit (At n soft e ∷ acts) h = (one e h.0, idle_no_admit acts h.1)
     one (Switch bank) is = tt
     one Follow is = tt
 
-fresh_own : (n id a : ℕ) (k : CyclicLevel) → Fresh a (at_own n k (Admit id a)) (a + 1)
+fresh_own : (n id a : ℕ) (k : Level) → Fresh a (at_own n k (Admit id a)) (a + 1)
 fresh_own n id a level.High = omega arith
 fresh_own n id a level.Lock = (omega arith, omega arith)
 fresh_own n id a level.Low = (omega arith, omega arith)
 
-raised_no_admit : (n : ℕ) (soft : Soft) (id : ℕ) (l : Level) → AllActs IsNoAdmit (map (At n soft) (raised id l))
+raised_no_admit : (n : ℕ) (soft : Soft) (id : ℕ) (l : SoftLevel) → AllActs IsNoAdmit (map (At n soft) (raised id l))
 raised_no_admit n soft id l = by (count l id == l.ceiling) (count l id == 0)
   where
     by : (a b : Bool) → AllActs IsNoAdmit
@@ -119,7 +119,7 @@ raised_no_admit n soft id l = by (count l id == l.ceiling) (count l id == 0)
     by false true = (tt, (tt, tt))
     by false false = (tt, tt)
 
-expiry_no_admit : (n id : ℕ) (k : CyclicLevel) (c : Cpu) → AllActs IsNoAdmit (expiry n k id c)
+expiry_no_admit : (n id : ℕ) (k : Level) (c : Cpu) → AllActs IsNoAdmit (expiry n k id c)
 expiry_no_admit n id level.High c = (tt, tt)
 expiry_no_admit n id level.Lock c = raised_no_admit n Lock id c.lock
 expiry_no_admit n id level.Low c = raised_no_admit n Low id c.low
@@ -127,7 +127,7 @@ expiry_no_admit n id level.Low c = raised_no_admit n Low id c.low
 all_no_admit : (n : ℕ) (ps : List Expiration) (c : Cpu) → AllActs IsNoAdmit (expire_all n ps c).acts
 all_no_admit n [] c = tt
 all_no_admit n (p ∷ ps) c = acts_append IsNoAdmit (expire_here n p.id c).acts (expire_all n ps (expire_here n p.id c).cpu).acts
-    (expiry_no_admit n p.id (level_of p.id c) c) (all_no_admit n ps (expire_here n p.id c).cpu)
+    (expiry_no_admit n p.id (handler_level_of p.id c) c) (all_no_admit n ps (expire_here n p.id c).cpu)
 
 fresh_fires : (now : ℕ) (ns : List ℕ) (s : State) → Fresh s.admissions (each (λ n. on n (fire_here n now)) ns s).acts
     (each (λ n. on n (fire_here n now)) ns s).state.admissions
@@ -228,24 +228,24 @@ filled_same k i f low high (At n soft e ∷ acts) past fresh =
 abbrev seen_first : Bool → Event → List Event
 seen_first b e = cond b (e ∷ []) []
 
-rest_tail : (b : Bool) (e : Event) (es : List Event) (l : Level) → AllRest (seen_first b e ++ es) l
+rest_tail : (b : Bool) (e : Event) (es : List Event) (l : SoftLevel) → AllRest (seen_first b e ++ es) l
     → AllRest es (level_after (seen_first b e) l)
 rest_tail true e es l h = h.1
 rest_tail false e es l h = h
 
-ready_tail : (b : Bool) (e : Event) (es : List Event) (l : Level) → AllReady (seen_first b e ++ es) l
+ready_tail : (b : Bool) (e : Event) (es : List Event) (l : SoftLevel) → AllReady (seen_first b e ++ es) l
     → AllReady es (level_after (seen_first b e) l)
 ready_tail true e es l h = h.1
 ready_tail false e es l h = h
 
-admit_cons : (b : Bool) (e : Event) (es : List Event) (l : Level) → (b ≡ true → CanBeAdmitted e l)
+admit_cons : (b : Bool) (e : Event) (es : List Event) (l : SoftLevel) → (b ≡ true → CanBeAdmitted e l)
     → AllCanBeAdmitted es (level_after (seen_first b e) l) → AllCanBeAdmitted (seen_first b e ++ es) l
 admit_cons true e es l first rest = (first refl, rest)
 admit_cons false e es l first rest = rest
 
 -- an event admits with an index, or has none
 admit_or_not : (e : Event) → ((id : ℕ) × (k : ℕ) × (e ≡ Admit id k))
-    ⊎ (((f : ℕ → ℕ) → bare_event f e ≡ e) × ((l : Level) → CanBeAdmitted e l))
+    ⊎ (((f : ℕ → ℕ) → bare_event f e ≡ e) × ((l : SoftLevel) → CanBeAdmitted e l))
 admit_or_not (Admit id k) = inl (id, k, refl)
 admit_or_not (Expire id) = inr ((λ f. refl), (λ l. tt))
 admit_or_not (Lose id) = inr ((λ f. refl), (λ l. tt))
@@ -276,18 +276,18 @@ seen_parts m s n soft is = by (m == n) refl is
 
 module _ (cpus : ℕ) where
   -- whatever the indexes, the rest of what the acts ask holds at each level
-  abbrev AllowsAny : List Act → (ℕ → Soft → Level) → Type 0
+  abbrev AllowsAny : List Act → (ℕ → Soft → SoftLevel) → Type 0
   AllowsAny acts levels = (f : ℕ → ℕ) (n : ℕ) → n < cpus → (soft : Soft)
       → AllRest (events_at n soft (filled f acts)) (levels n soft) × AllReady (events_at n soft (filled f acts)) (levels n soft)
 
-  abbrev Admits : (ℕ → ℕ) → List Act → (ℕ → Soft → Level) → Type 0
+  abbrev Admits : (ℕ → ℕ) → List Act → (ℕ → Soft → SoftLevel) → Type 0
   Admits f acts levels = (n : ℕ) → n < cpus → (soft : Soft) → AllCanBeAdmitted (events_at n soft (filled f acts)) (levels n soft)
 
   abbrev sees : ℕ → Soft → ℕ → Soft → Bool
   sees m s n soft = (m == n) && same_soft s soft
 
   -- an index for one admission
-  index_for : (m : ℕ) (s : Soft) (id k : ℕ) (acts : List Act) (levels : ℕ → Soft → Level)
+  index_for : (m : ℕ) (s : Soft) (id k : ℕ) (acts : List Act) (levels : ℕ → Soft → SoftLevel)
       → AllowsAny (At m s (Admit id k) ∷ acts) levels
       → (i : ℕ) × (m < cpus → CanBeAdmitted (Admit id i) (levels m s))
   index_for m s id k acts levels any = by (nat_lt m cpus) refl
@@ -305,7 +305,7 @@ module _ (cpus : ℕ) where
           (levels m s)) own h.1).0 in
           (r.2.index, λ within. (y, r.0, r.1, r.2.unused, r.2.below))
 
-  choose : (low high : ℕ) (acts : List Act) (levels : ℕ → Soft → Level) → Fresh low acts high → AllowsAny acts levels
+  choose : (low high : ℕ) (acts : List Act) (levels : ℕ → Soft → SoftLevel) → Fresh low acts high → AllowsAny acts levels
       → (f : ℕ → ℕ) × Admits f acts levels
   choose low high [] levels fresh any = (λ k. 0, λ n within soft. tt)
   choose low high (Call j ∷ acts) levels fresh any =
@@ -318,7 +318,7 @@ module _ (cpus : ℕ) where
       fresh in
       let i = index_for m s id k acts levels any2 in
       let here : (f : ℕ → ℕ) → chosen k i.0 f k ≡ i.0 = λ f. ap (λ (b : Bool). cond b i.0 (f k)) (eq-eqb k k refl) in
-      let next : ℕ → Soft → Level = λ n soft. level_after (seen_first (sees m s n soft) (Admit id i.0)) (levels n soft) in
+      let next : ℕ → Soft → SoftLevel = λ n soft. level_after (seen_first (sees m s n soft) (Admit id i.0)) (levels n soft) in
       let r = choose (k + 1) high acts next fresh2.1
       (λ f n within soft.
       let h = any2 (chosen k i.0 f) n within soft in
@@ -374,7 +374,7 @@ module _ (cpus : ℕ) where
 -- ---- every script
 
 -- a level of a CPU, and one of no CPU
-free_at : (n : ℕ) (soft : Soft) (cpus ceiling : ℕ) (f : ℕ → ℕ) (levels : ℕ → Soft → Level) (acts all : List Act)
+free_at : (n : ℕ) (soft : Soft) (cpus ceiling : ℕ) (f : ℕ → ℕ) (levels : ℕ → Soft → SoftLevel) (acts all : List Act)
     → all ≡ filled f acts
     → Admits cpus f acts levels → (n < cpus → levels n soft ≡ empty_level ceiling) → (cpus ≤ n → events_at n soft all ≡ [])
     → AllCanBeAdmitted (events_at n soft all) (empty_level ceiling)
@@ -398,7 +398,7 @@ indexes_are_found script =
     let acts = (run_on own_number cpus ceiling texts xs).acts in
     let same : (f : ℕ → ℕ) → (run_on f cpus ceiling texts xs).acts
     ≡ filled f acts = λ f. acts_relabeled f own_number cpus ceiling texts xs in
-    let levels : ℕ → Soft → Level = λ n soft. level_on n soft s in
+    let levels : ℕ → Soft → SoftLevel = λ n soft. level_on n soft s in
     let r = choose cpus 0 (run_on own_number cpus ceiling texts xs).state.admissions acts levels (fresh_steps texts 1 xs s)
     (λ f n within soft.
     let inside : n < length s.cpus = subst (λ k. n < k) (sym len) within in (

@@ -5,7 +5,7 @@ use Rattle.cyc_types.specs.declared.level.Soft.{Soft}
 use Rattle.cyc_types.specs.declared.level.Soft.TheVariants.{Low, Lock}
 use Rattle.cyc_level.specs.declared.Event.{Event}
 use Rattle.cyc_level.specs.declared.Event.TheVariants.{Admit, Expire, Lose, Publish, Take, Finish, Mark, Clear, Switch, Follow}
-use Rattle.cyc_level.specs.Level.{Level, empty_level}
+use Rattle.cyc_level.specs.Level.{SoftLevel, empty_level}
 use Rattle.cyc_level.specs.Lawful.{Lawful}
 use Rattle.cyc_level.specs.Events.{after}
 use Rattle.cyc_level.proofs.Keeps.{empty_lawful, keeps_law}
@@ -27,7 +27,7 @@ use Rattle.cyc_model.proofs.Fit.{Rest, AllRest}
 use Rattle.cyc_model.proofs.Reaching.{well_steps, start_good, length_new}
 use Rattle.cyc_model.proofs.Rates.{HasRoom, AllHaveRoom, room_along, sends_at, sends_steps, over_few}
 
-firing_of : (e : Event) (l : Level) → Rest e l → CanBeAdmitted e l → HasRoom e l → CanAsFiring e l
+firing_of : (e : Event) (l : SoftLevel) → Rest e l → CanBeAdmitted e l → HasRoom e l → CanAsFiring e l
 firing_of (Admit id index) l rest free room = free
 firing_of (Expire id) l rest free room = (rest, room)
 firing_of (Lose id) l rest free room = (rest, room)
@@ -39,12 +39,12 @@ firing_of (Clear id) l rest free room = rest
 firing_of (Switch bank) l rest free room = rest
 firing_of Follow l rest free room = tt
 
-all_firing : (es : List Event) (l : Level) → AllRest es l → AllCanBeAdmitted es l → AllHaveRoom es l → AllCanAsFiring es l
+all_firing : (es : List Event) (l : SoftLevel) → AllRest es l → AllCanBeAdmitted es l → AllHaveRoom es l → AllCanAsFiring es l
 all_firing [] l rest free room = tt
 all_firing (e ∷ es) l rest free room =
     (firing_of e l rest.0 free.0 room.0, all_firing es (after e l) rest.1 free.1 room.1)
 
-all_happen : (es : List Event) (l : Level) → Lawful l → AllCanAsFiring es l → AllCanAsSoft es l → AllReady es l → AllHappen es l
+all_happen : (es : List Event) (l : SoftLevel) → Lawful l → AllCanAsFiring es l → AllCanAsSoft es l → AllReady es l → AllHappen es l
 all_happen [] l law firing soft ready = tt
 all_happen (e ∷ es) l law firing soft ready =
     let can = can_of_all e l law firing.0 soft.0 ready.0 in

@@ -13,7 +13,7 @@ use Rattle.cyc_model.specs.Cpu.{Cyclic, Cpu, Here, is_of}
 use Rattle.cyc_model.specs.Moving.{put_in, enter_here}
 use Rattle.cyc_model.specs.Questions.{plain}
 use Rattle.cyc_model.specs.State.{State, Place, On, OnAll, Everywhere, absent, on, cpu_of, each, online_cpus}
-use Rattle.cyc_model.specs.Places.{place_of, given, destination, home_at, is_everywhere}
+use Rattle.cyc_model.specs.Places.{placement_of, given, destination, home_at, is_everywhere}
 use Rattle.cyc_model.specs.Refusals.{when, first_refusal, bad_now, ids_spent, no_room}
 use Rattle.cyc_model.specs.Add.{enter, add_refusal, added, add}
 use Rattle.cyc_model.specs.Omni.{component, no_room_on_each, omni_refusal, everywhere, omni}
@@ -38,7 +38,7 @@ use Rattle.cyc_model.proofs.Calm.{Well}
 
 module _ (indexes : ℕ → ℕ) (n : ℕ) (x : Cyclic) (s : State) (within : n < length s.cpus) (b : Base (Some x) s)
     (new : found x.timer.id (cpu_of n s).cyclics ≡ None) (is_id : IsId x.timer.id) (can : CanGrow 1 (cpu_of n s))
-    (at : IsAt n (place_of x.timer.id s)) where
+    (at : IsAt n (placement_of x.timer.id s)) where
   abbrev f : Cpu → Here
   f = enter_here n (indexes s.admissions) x
 
@@ -68,7 +68,7 @@ module _ (indexes : ℕ → ℕ) (n : ℕ) (x : Cyclic) (s : State) (within : n 
       let r = base_on n (enter_here n (indexes s.admissions) x) (λ j. 0) s within done_there (Some x) None b
       (shift_enter n (indexes s.admissions) x (cpu_of n s) (b.whole n) is_id new can)
       (λ id some. dite (ℕ_discrete x.timer.id id)
-      (λ e. subst (λ k. IsAt n (place_of k s)) e at)
+      (λ e. subst (λ k. IsAt n (placement_of k s)) e at)
       (λ ne. b.homes n id (subst (λ o. IsSome o) (put_other id x (cpu_of n s).cyclics ne)
       (subst (λ cs. IsSome (found id cs)) (entered_cyclics n (indexes s.admissions) x (cpu_of n s) (b.whole n) is_id new can)
       some)))) in
@@ -126,13 +126,13 @@ module _ (name : ℕ) (place : Place) (s : State) (b : Base None s) (few : s.las
   pub given_base : Base None (given name place s)
   given_base = record {
     whole = b.whole;
-    homes = λ n id some. by n id (place_of id s) refl (b.homes n id some);
+    homes = λ n id some. by n id (placement_of id s) refl (b.homes n id some);
     rise = rise_append 0 s.last_id place s.placed b.rise;
     few = omega (arith, few);
     books = b.books;
   }
     where
-      by : (n id : ℕ) (o : Option Place) → place_of id s ≡ o → IsAt n (place_of id s) → IsAt n (place_of id (given name place s))
+      by : (n id : ℕ) (o : Option Place) → placement_of id s ≡ o → IsAt n (placement_of id s) → IsAt n (placement_of id (given name place s))
       by n id None is at = absurd (subst (λ o. IsAt n o) is at)
       by n id (Some p) is at = subst (λ o. IsAt n o) (is ∙ sym (place_given_old name place s id p is)) at
 
@@ -150,7 +150,7 @@ new_away s b n = gone_away None s b (s.last_id + 1) (place_new s b.rise) n
 
 -- a place that was there before is that of an older id
 older : (name : ℕ) (place : Place) (s : State) (j : ℕ) (p : Place) → Base None s → j ≢ s.last_id + 1
-    → place_of j (given name place s) ≡ Some p → place_of j s ≡ Some p
+    → placement_of j (given name place s) ≡ Some p → placement_of j s ≡ Some p
 older name place s j p b ne is = sym (place_given_other name place s j ne) ∙ is
 
 pub well_add : (indexes : ℕ → ℕ) (step : ℕ) (a : AddStep) (s : State) → Good s → add_refusal plain a s ≡ None
@@ -176,7 +176,7 @@ well_add indexes step a s g why =
     let online = numbers_pass (λ (c : Cpu). c.online) n s dest.0 in
     let rb = base_fresh x r refl refl (given_base a.name (On n false) s b few) in
     let here = place_given_new a.name (On n false) s b.rise in
-    let at : IsAt n (place_of (s.last_id + 1) r) = subst (λ o. IsAt n o) (sym here) refl in
+    let at : IsAt n (placement_of (s.last_id + 1) r) = subst (λ o. IsAt n o) (sym here) refl in
     let can = room_grows n (s.last_id + 1) 1 (cpu_of n s) room in
     let is_id : IsId (s.last_id + 1) = new_id a.name (On n false) s b few in
     let new = new_away s b n in
@@ -195,13 +195,13 @@ well_add indexes step a s g why =
               (λ far. ap (λ (c : Cpu). c.online) (elsewhere m far)
               ∙ g.spread.there m j (subst (λ (c : Cpu). IsSome (found j c.cyclics)) (elsewhere m far) some));
           home = λ j m bound is. dite (ℕ_discrete j (s.last_id + 1))
-              (λ e. let same : Some (On n false) ≡ Some (On m bound) = sym (ap (λ (k : ℕ). place_of k r) e ∙ here) ∙ is in
+              (λ e. let same : Some (On n false) ≡ Some (On m bound) = sym (ap (λ (k : ℕ). placement_of k r) e ∙ here) ∙ is in
               subst (λ k. IsSome (found j (cpu_of k t).cyclics)) (ap (λ o. home_at o) same)
               (subst (λ k. IsSome (found k (cpu_of n t).cyclics)) (sym e)
               (enter_found indexes n x r online.0 rb new is_id can at)))
               (λ ne. (still j ne).ids m ∙ g.spread.home j m bound (older a.name (On n false) s j (On m bound) b ne is));
           stands = λ j e is. dite (ℕ_discrete j (s.last_id + 1))
-              (λ same. absurd (let no : Some (On n false) ≡ Some (OnAll e) = sym (ap (λ (k : ℕ). place_of k r) same ∙ here)
+              (λ same. absurd (let no : Some (On n false) ≡ Some (OnAll e) = sym (ap (λ (k : ℕ). placement_of k r) same ∙ here)
               ∙ is in
               let no2 : false ≡ true = ap is_everywhere no in cc))
               (λ ne. stands_still j s t (let st = still j ne in record { ids = st.ids; removal = st.removal; online = st.online })
@@ -228,13 +228,13 @@ record Came (id n : ℕ) (c d : Cpu) : Type 0 where
   online : d.online ≡ c.online
 
 module _ (indexes : ℕ → ℕ) (id : ℕ) (e : Everywhere) where
-  omni_turn : (n : ℕ) (t : State) → n < length t.cpus → IsId id → Base None t × (place_of id t ≡ Some (OnAll e))
+  omni_turn : (n : ℕ) (t : State) → n < length t.cpus → IsId id → Base None t × (placement_of id t ≡ Some (OnAll e))
       → (found id (cpu_of n t).cyclics ≡ None) × CanGrow 1 (cpu_of n t)
-      → Turned (Came id) (λ u. Base None u × (place_of id u ≡ Some (OnAll e))) n t (enter indexes n (component id n e t.clock) t)
+      → Turned (Came id) (λ u. Base None u × (placement_of id u ≡ Some (OnAll e))) n t (enter indexes n (component id n e t.clock) t)
   omni_turn n t within is_id inv ready =
       let x = component id n e t.clock in
       let b = base_fresh x t refl refl inv.0 in
-      let at : IsAt n (place_of id t) = subst (λ o. IsAt n o) (sym inv.1) tt in
+      let at : IsAt n (placement_of id t) = subst (λ o. IsAt n o) (sym inv.1) tt in
       let still = enter_still indexes n x t within b ready.0 is_id ready.1 at in
       let there = enter_there indexes n x t within b ready.0 is_id ready.1 at in record {
         goes = enter_goes indexes n x t within b ready.0 is_id ready.1 at;
@@ -274,7 +274,7 @@ well_omni indexes step a s g why =
     let is_id = new_id a.name (OnAll e) s b few in
     let all = looped (λ n t. enter indexes n (component id n e t.clock) t) (λ n c. (found id c.cyclics ≡ None)
     × CanGrow 1 c) (Came id)
-    (λ u. Base None u × (place_of id u ≡ Some (OnAll e)))
+    (λ u. Base None u × (placement_of id u ≡ Some (OnAll e)))
     (λ n t within inv ready. omni_turn indexes id e n t within is_id inv ready) 0 ns r
     (numbers_rise (λ (c : Cpu). c.online) 0 s.cpus) (λ m has. (numbers_pass (λ (c : Cpu). c.online) m s has).0)
     (given_base a.name (OnAll e) s b few, here)
@@ -289,7 +289,7 @@ well_omni indexes step a s g why =
     let ids : (j : ℕ) → j ≢ id → (m : ℕ) → is_some (found j (cpu_of m t).cyclics) ≡ is_some (found j (cpu_of m s).cyclics) =
     λ j ne m. ⊎_elim (λ has. (came m has).others j ne) (λ away. ap (λ (c : Cpu). is_some (found j c.cyclics)) (same m away))
     (has_or_not m ns) in
-    let kept : (j : ℕ) → place_of j t ≡ place_of j r = place_kept indexes id e ns r in (
+    let kept : (j : ℕ) → placement_of j t ≡ placement_of j r = place_kept indexes id e ns r in (
       goes_from _ s r t all.goes refl refl (given_gone a.name (OnAll e) s b few),
       record {
         base = all.inv.0;
@@ -306,7 +306,7 @@ well_omni indexes step a s g why =
               ∙ g.spread.there m j (subst (λ (c : Cpu). IsSome (found j c.cyclics)) (same m away) some))
               (has_or_not m ns);
           home = λ j m bound is. dite (ℕ_discrete j id)
-              (λ q. absurd (let no : Some (OnAll e) ≡ Some (On m bound) = sym (ap (λ (k : ℕ). place_of k r) q ∙ here)
+              (λ q. absurd (let no : Some (OnAll e) ≡ Some (On m bound) = sym (ap (λ (k : ℕ). placement_of k r) q ∙ here)
               ∙ sym (kept j) ∙ is in
               let no2 : true ≡ false = ap is_everywhere no in cc))
               (λ ne. ids j ne m ∙ g.spread.home j m bound (older a.name (OnAll e) s j (On m bound) b ne (sym (kept j) ∙ is)));
@@ -324,6 +324,6 @@ well_omni indexes step a s g why =
     )
   where
     place_kept : (indexes : ℕ → ℕ) (id : ℕ) (e : Everywhere) (ns : List ℕ) (r : State) (j : ℕ)
-        → place_of j (each (λ n t. enter indexes n (component id n e t.clock) t) ns r).state ≡ place_of j r
+        → placement_of j (each (λ n t. enter indexes n (component id n e t.clock) t) ns r).state ≡ placement_of j r
     place_kept indexes id e [] r j = refl
     place_kept indexes id e (n ∷ ns) r j = place_kept indexes id e ns (enter indexes n (component id n e r.clock) r).state j

@@ -2,12 +2,12 @@
 use Rattle.std.proofs.Common.{◌≡◌, ℕ, ◌+◌, List, [], ◌∷◌, ◌++◌, refl, ap, sym, ◌∙◌, arith}
 use Rattle.cyc_types.specs.declared.level.Soft.{Soft}
 use Rattle.cyc_level.specs.declared.Event.{Event}
-use Rattle.cyc_level.specs.Level.{Level}
+use Rattle.cyc_level.specs.Level.{SoftLevel}
 use Rattle.cyc_level.specs.Events.{after}
 use Rattle.cyc_model.specs.Acts.{Act, event_at, events_at, calls_of}
 use Rattle.cyc_model.specs.Serving.{level_after}
 
-pub level_append : (xs ys : List Event) (l : Level) → level_after (xs ++ ys) l ≡ level_after ys (level_after xs l)
+pub level_append : (xs ys : List Event) (l : SoftLevel) → level_after (xs ++ ys) l ≡ level_after ys (level_after xs l)
 level_append [] ys l = refl
 level_append (x ∷ xs) ys l = level_append xs ys (after x l)
 

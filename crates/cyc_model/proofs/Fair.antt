@@ -7,11 +7,11 @@ use mathlib.Core.Logic.{dite}
 use native.Mathlib.Decide.{ℕ_discrete}
 use Rattle.cyc_types.specs.declared.level.Soft.{Soft}
 use Rattle.cyc_types.specs.declared.level.Soft.TheVariants.{Low, Lock}
-use Rattle.cyc_types.specs.declared.level.Level.{Level as CyclicLevel}
+use Rattle.cyc_types.specs.declared.level.Level.{Level}
 use Rattle.cyc_types.specs.declared.level.Level.TheVariants as level
 use Rattle.cyc_level.specs.declared.Event.{Event}
 use Rattle.cyc_level.specs.declared.Event.TheVariants.{Expire, Lose, Publish, Finish, Switch, Follow}
-use Rattle.cyc_level.specs.Level.{Level, count, soft_list}
+use Rattle.cyc_level.specs.Level.{SoftLevel, count, soft_list}
 use Rattle.cyc_level.specs.Events.{after, after_finish, hand_after_expire}
 use Rattle.cyc_model.specs.Acts.{Act, At, Call, at_own, same_soft, event_at, events_at}
 use Rattle.cyc_model.specs.Cpu.{Cpu}
@@ -21,20 +21,20 @@ use Rattle.cyc_model.specs.Laws.{AllCanAsSoft}
 use Rattle.cyc_model.proofs.Events.{level_append, events_append}
 
 -- these events can happen as far as the soft side has a part in them, and leave the firer's hand empty
-abbrev pub Fair : List Event → Level → Type 0
+abbrev pub Fair : List Event → SoftLevel → Type 0
 Fair es l = AllCanAsSoft es l × ((level_after es l).firer_hand ≡ None)
 
-can_append : (xs ys : List Event) (l : Level) → AllCanAsSoft xs l → AllCanAsSoft ys (level_after xs l) → AllCanAsSoft (xs ++ ys) l
+can_append : (xs ys : List Event) (l : SoftLevel) → AllCanAsSoft xs l → AllCanAsSoft ys (level_after xs l) → AllCanAsSoft (xs ++ ys) l
 can_append [] ys l first rest = rest
 can_append (x ∷ xs) ys l first rest = (first.0, can_append xs ys (after x l) first.1 rest)
 
-pub fair_append : (xs ys : List Event) (l : Level) → AllCanAsSoft xs l → Fair ys (level_after xs l) → Fair (xs ++ ys) l
+pub fair_append : (xs ys : List Event) (l : SoftLevel) → AllCanAsSoft xs l → Fair ys (level_after xs l) → Fair (xs ++ ys) l
 fair_append xs ys l first rest =
-    (can_append xs ys l first rest.0, ap (λ (m : Level). m.firer_hand) (level_append xs ys l) ∙ rest.1)
+    (can_append xs ys l first rest.0, ap (λ (m : SoftLevel). m.firer_hand) (level_append xs ys l) ∙ rest.1)
 
 -- an event of the firing side that leaves its hand as it is
 abbrev pub Quiet : Event → Type 0
-Quiet e = (l : Level) → l.firer_hand ≡ None → Fair (e ∷ []) l
+Quiet e = (l : SoftLevel) → l.firer_hand ≡ None → Fair (e ∷ []) l
 
 -- the acts are fair at a CPU whose firer's hands are empty
 abbrev pub FairAt : ℕ → List Act → Cpu → Type 0
@@ -69,7 +69,7 @@ fair_map n from es c fair soft free = subst (λ ys. Fair ys (level_at soft c)) (
     by Low Lock f h = (tt, h)
     by Lock Low f h = (tt, h)
 
-pub fair_own : (n : ℕ) (l : CyclicLevel) (e : Event) (c : Cpu) → Quiet e → FairAt n (at_own n l e) c
+pub fair_own : (n : ℕ) (l : Level) (e : Event) (c : Cpu) → Quiet e → FairAt n (at_own n l e) c
 fair_own n level.High e c quiet soft free = (tt, free)
 fair_own n level.Lock e c quiet soft free = fair_map n Lock (e ∷ []) c (quiet c.lock) soft free
 fair_own n level.Low e c quiet soft free = fair_map n Low (e ∷ []) c (quiet c.low) soft free
@@ -79,7 +79,7 @@ fair_own n level.Low e c quiet soft free = fair_map n Low (e ∷ []) c (quiet c.
 is_some_of : {A : Type 0} → (o : Option A) (x : A) → o ≡ Some x → IsSome o
 is_some_of o x e = subst (λ k. IsSome k) (sym e) refl
 
-fair_raised : (id : ℕ) (l : Level) → l.firer_hand ≡ None → Fair (raised id l) l
+fair_raised : (id : ℕ) (l : SoftLevel) → l.firer_hand ≡ None → Fair (raised id l) l
 fair_raised id l free = by (count l id == l.ceiling)
   where
     from_zero : count l id ≡ 0 → Fair (Expire id ∷ Publish ∷ []) l
@@ -111,20 +111,20 @@ fair_raised id l free = by (count l id == l.ceiling)
     by true = ((tt, tt), free)
     by false = by_count
 
-pub fair_expiry : (n : ℕ) (l : CyclicLevel) (id : ℕ) (c : Cpu) → FairAt n (expiry n l id c) c
+pub fair_expiry : (n : ℕ) (l : Level) (id : ℕ) (c : Cpu) → FairAt n (expiry n l id c) c
 fair_expiry n level.High id c soft free = (tt, free)
 fair_expiry n level.Lock id c soft free = fair_map n Lock (raised id c.lock) c (fair_raised id c.lock) soft free
 fair_expiry n level.Low id c soft free = fair_map n Low (raised id c.low) c (fair_raised id c.low) soft free
 
 -- ---- a soft interrupt
 
-differ : (l : Level) → (l.hard_bank == l.soft_bank) ≡ false → l.hard_bank ≢ l.soft_bank
+differ : (l : SoftLevel) → (l.hard_bank == l.soft_bank) ≡ false → l.hard_bank ≢ l.soft_bank
 differ l apart same = absurd (let both : true ≡ false = sym (eq-eqb l.hard_bank l.soft_bank same) ∙ apart in cc)
 
 not_empty : (x : ℕ) (xs ys : List ℕ) → ys ≡ x ∷ xs → ys ≢ []
 not_empty x xs ys is none = absurd (let no : (x ∷ xs) ≡ [] = sym is ∙ none in cc)
 
-can_take : (old new : List ℕ) (same : Bool) (l : Level) → l.drainer_hand ≡ None → l.old_list ≡ old → l.new_list ≡ new
+can_take : (old new : List ℕ) (same : Bool) (l : SoftLevel) → l.drainer_hand ≡ None → l.old_list ≡ old → l.new_list ≡ new
     → (l.hard_bank == l.soft_bank) ≡ same → AllCanAsSoft (looks old new same) l
 can_take old (x ∷ xs) true l free is_old is_new same =
     ((free, not_empty x xs (soft_list l) (ap (λ (b : Bool). cond b l.new_list l.old_list) same ∙ is_new)), tt)
@@ -144,14 +144,14 @@ can_take [] (y ∷ ys) false l free is_old is_new same = (
 )
 can_take [] [] false l free is_old is_new same = ((differ l same, is_old), tt)
 
-looks_keep : (old new : List ℕ) (b : Bool) (l : Level) → (level_after (looks old new b) l).firer_hand ≡ l.firer_hand
+looks_keep : (old new : List ℕ) (b : Bool) (l : SoftLevel) → (level_after (looks old new b) l).firer_hand ≡ l.firer_hand
 looks_keep old (x ∷ xs) true l = refl
 looks_keep old [] true l = refl
 looks_keep (x ∷ xs) new false l = refl
 looks_keep [] (x ∷ xs) false l = refl
 looks_keep [] [] false l = refl
 
-look_as : (hand : Option ℕ) (l : Level) → l.drainer_hand ≡ hand → l.firer_hand ≡ None
+look_as : (hand : Option ℕ) (l : SoftLevel) → l.drainer_hand ≡ hand → l.firer_hand ≡ None
     → Fair (cond (is_some hand) [] (looks l.old_list l.new_list (l.hard_bank == l.soft_bank))) l
 look_as (Some id) l is free = (tt, free)
 look_as None l is free = (
@@ -159,10 +159,10 @@ look_as None l is free = (
   looks_keep l.old_list l.new_list (l.hard_bank == l.soft_bank) l ∙ free,
 )
 
-fair_look : (l : Level) → l.firer_hand ≡ None → Fair (look l) l
+fair_look : (l : SoftLevel) → l.firer_hand ≡ None → Fair (look l) l
 fair_look l free = look_as l.drainer_hand l refl free
 
-finish_keeps : (hand : Option ℕ) (l : Level) → (after_finish hand l).firer_hand ≡ l.firer_hand
+finish_keeps : (hand : Option ℕ) (l : SoftLevel) → (after_finish hand l).firer_hand ≡ l.firer_hand
 finish_keeps None l = refl
 finish_keeps (Some id) l = refl
 
@@ -186,8 +186,8 @@ call_events n soft looked id rest =
     ∙ ap (λ es. es ++ events_at n soft (Call id ∷ At n soft Finish ∷ rest)) (own_all n soft looked)
     ∙ ap (λ es. looked ++ (es ++ events_at n soft rest)) (finish_own n soft)
 
-serve_as : (n : ℕ) (soft : Soft) (l : Level) (rest : Level → Interrupt) → l.firer_hand ≡ None
-    → ((m : Level) → m.firer_hand ≡ None → Fair (events_at n soft (rest m).acts) m)
+serve_as : (n : ℕ) (soft : Soft) (l : SoftLevel) (rest : SoftLevel → Interrupt) → l.firer_hand ≡ None
+    → ((m : SoftLevel) → m.firer_hand ≡ None → Fair (events_at n soft (rest m).acts) m)
     → (hand : Option ℕ) → (level_after (look l) l).drainer_hand ≡ hand
     → Fair (events_at n soft
     (option_map_or (λ (id : ℕ). calling n soft (look l) id (rest (after Finish (level_after (look l) l)))) hand
@@ -200,7 +200,7 @@ serve_as n soft l rest free more (Some id) is =
     (let after' = more (after Finish m) (finish_keeps m.drainer_hand m ∙ (fair_look l free).1) in
     ((is_some_of m.drainer_hand id is, after'.0), after'.1)))
 
-fair_serve : (n : ℕ) (soft : Soft) (budget : ℕ) (l : Level) → l.firer_hand ≡ None
+fair_serve : (n : ℕ) (soft : Soft) (budget : ℕ) (l : SoftLevel) → l.firer_hand ≡ None
     → Fair (events_at n soft (serve n soft budget l).acts) l
 fair_serve n soft zero l free = (tt, free)
 fair_serve n soft (suc budget) l free =
@@ -216,8 +216,8 @@ finish_none n soft other apart =
     ap (λ (b : Bool). cond (b && same_soft soft other) (Finish ∷ []) []) (eq-eqb n n refl)
     ∙ ap (λ (b : Bool). cond b (Finish ∷ []) []) apart
 
-other_as : (n : ℕ) (soft other : Soft) → same_soft soft other ≡ false → (l : Level) (rest : Level → Interrupt)
-    → ((m : Level) → events_at n other (rest m).acts ≡ []) → (hand : Option ℕ)
+other_as : (n : ℕ) (soft other : Soft) → same_soft soft other ≡ false → (l : SoftLevel) (rest : SoftLevel → Interrupt)
+    → ((m : SoftLevel) → events_at n other (rest m).acts ≡ []) → (hand : Option ℕ)
     → events_at n other (option_map_or
     (λ (id : ℕ). calling n soft (look l) id (rest (after Finish (level_after (look l) l)))) hand
     (found_nothing n soft (look l))).acts ≡ []
@@ -229,7 +229,7 @@ other_as n soft other apart l rest none (Some id) =
     ∙ ap (λ es. es ++ events_at n other acts) (finish_none n soft other apart)
     ∙ none (after Finish (level_after (look l) l))
 
-pub serve_other : (n : ℕ) (soft other : Soft) → same_soft soft other ≡ false → (budget : ℕ) (l : Level)
+pub serve_other : (n : ℕ) (soft other : Soft) → same_soft soft other ≡ false → (budget : ℕ) (l : SoftLevel)
     → events_at n other (serve n soft budget l).acts ≡ []
 serve_other n soft other apart zero l = refl
 serve_other n soft other apart (suc budget) l =

@@ -7,15 +7,15 @@ use Rattle.std.proofs.lemmas.Bool.{lt-ltb}
 use Rattle.cyc_types.specs.Series.{never, late, due, next}
 use Rattle.cyc_types.specs.declared.level.Soft.{Soft}
 use Rattle.cyc_types.specs.declared.level.Soft.TheVariants.{Low, Lock}
-use Rattle.cyc_types.specs.declared.level.Level.{Level as CyclicLevel}
+use Rattle.cyc_types.specs.declared.level.Level.{Level}
 use Rattle.cyc_types.specs.declared.level.Level.TheVariants as level
 use Rattle.cyc_level.specs.declared.Event.{Event}
 use Rattle.cyc_level.specs.declared.Event.TheVariants.{Expire, Lose, Publish}
-use Rattle.cyc_level.specs.Level.{Level, count}
+use Rattle.cyc_level.specs.Level.{SoftLevel, count}
 use Rattle.cyc_level.proofs.Maps.{some_same, some_of}
 use Rattle.cyc_expirations.specs.Expirations.{Expiration, times_of, after}
 use Rattle.cyc_model.specs.Acts.{Act, At, events_at, calls_of, losses_of}
-use Rattle.cyc_model.specs.Cpu.{Cyclic, Cpu, level_of}
+use Rattle.cyc_model.specs.Cpu.{Cyclic, Cpu, handler_level_of}
 use Rattle.cyc_model.specs.Firing.{raised, expiry, expire_here, expire_all, due_here, fired, fire_here}
 use Rattle.cyc_model.specs.Questions.{outstanding_here}
 use Rattle.cyc_model.specs.Serving.{level_at}
@@ -37,7 +37,7 @@ abbrev raised_as : ℕ → Bool → Bool → List Event
 raised_as id a b = cond a (Lose id ∷ []) (cond b (Expire id ∷ Publish ∷ []) (Expire id ∷ []))
 
 module _ (id : ℕ) where
-  rest_raised : (a b : Bool) (l : Level) → l.marked ≢ Some id → AllRest (raised_as id a b) l
+  rest_raised : (a b : Bool) (l : SoftLevel) → l.marked ≢ Some id → AllRest (raised_as id a b) l
   rest_raised true b l far = (far, tt)
   rest_raised false true l far = (far, (tt, tt))
   rest_raised false false l far = (far, tt)
@@ -47,7 +47,7 @@ module _ (id : ℕ) where
   steady_raised n soft false true = (tt, (tt, tt))
   steady_raised n soft false false = (tt, tt)
 
-  no_finish_raised : (j : ℕ) (a b : Bool) (l : Level) → all_finishes j (raised_as id a b) l ≡ 0
+  no_finish_raised : (j : ℕ) (a b : Bool) (l : SoftLevel) → all_finishes j (raised_as id a b) l ≡ 0
   no_finish_raised j true b l = refl
   no_finish_raised j false true l = refl
   no_finish_raised j false false l = refl
@@ -63,7 +63,7 @@ calls_map n soft j [] = refl
 calls_map n soft j (e ∷ es) = let h = calls_map n soft j es in omega (arith, h)
 
 module _ (n id : ℕ) where
-  rest_expiry : (k : CyclicLevel) (c : Cpu) → ((soft : Soft) → (level_at soft c).marked ≢ Some id) → RestAt n (expiry n k id c) c
+  rest_expiry : (k : Level) (c : Cpu) → ((soft : Soft) → (level_at soft c).marked ≢ Some id) → RestAt n (expiry n k id c) c
   rest_expiry level.High c far soft = tt
   rest_expiry level.Lock c far Lock = subst (λ es. AllRest es c.lock) (sym (own_events n Lock Lock (raised id c.lock)))
       (rest_raised id (count c.lock id == c.lock.ceiling) (count c.lock id == 0) c.lock (far Lock))
@@ -72,13 +72,13 @@ module _ (n id : ℕ) where
       (rest_raised id (count c.low id == c.low.ceiling) (count c.low id == 0) c.low (far Low))
   rest_expiry level.Low c far Lock = subst (λ es. AllRest es c.lock) (sym (own_events n Low Lock (raised id c.low))) tt
 
-  steady_expiry : (k : CyclicLevel) (c : Cpu) → AllActs IsSteady (expiry n k id c)
+  steady_expiry : (k : Level) (c : Cpu) → AllActs IsSteady (expiry n k id c)
   steady_expiry level.High c = (tt, tt)
   steady_expiry level.Lock c = steady_raised id n Lock (count c.lock id == c.lock.ceiling) (count c.lock id == 0)
   steady_expiry level.Low c = steady_raised id n Low (count c.low id == c.low.ceiling) (count c.low id == 0)
 
   -- nothing is finished, and the expiration is called, lost or outstanding
-  no_finish : (k : CyclicLevel) (j : ℕ) (c : Cpu) (soft : Soft)
+  no_finish : (k : Level) (j : ℕ) (c : Cpu) (soft : Soft)
       → all_finishes j (events_at n soft (expiry n k id c)) (level_at soft c) ≡ 0
   no_finish level.High j c soft = refl
   no_finish level.Lock j c Lock = ap (λ es. all_finishes j es c.lock) (own_events n Lock Lock (raised id c.lock))
@@ -88,7 +88,7 @@ module _ (n id : ℕ) where
       ∙ no_finish_raised id j (count c.low id == c.low.ceiling) (count c.low id == 0) c.low
   no_finish level.Low j c Lock = ap (λ es. all_finishes j es c.lock) (own_events n Low Lock (raised id c.low))
 
-  shares : (k : CyclicLevel) (j : ℕ) (c : Cpu)
+  shares : (k : Level) (j : ℕ) (c : Cpu)
       → all_brings j (events_at n Lock (expiry n k id c)) + all_brings j (events_at n Low (expiry n k id c))
       + calls_of j (expiry n k id c) + losses_of j (expiry n k id c) ≡ one_of id j
   shares level.High j c = omega arith
@@ -105,7 +105,7 @@ module _ (n id : ℕ) where
 
   done_expire : (c : Cpu) → Whole c → c.removal ≢ Some id → Done n (one_of id) c (expire_here n id c)
   done_expire c w far =
-      let k = level_of id c in
+      let k = handler_level_of id c in
       let rest = rest_expiry k c (λ soft is. far (w.marks soft id is).0) in
       let d = expire_here n id c in
       let local = local_expire n id c in record {
@@ -134,7 +134,7 @@ done_expire_all n [] c w far = (
 done_expire_all n (p ∷ ps) c w far =
     let one = done_expire n p.id c w far.0 in
     let d = expire_here n p.id c in
-    let same : Same c d.cpu = same_happen (expiry n (level_of p.id c) p.id c) c in
+    let same : Same c d.cpu = same_happen (expiry n (handler_level_of p.id c) p.id c) c in
     let more = done_expire_all n ps d.cpu one.whole (subst (λ r. AllFar r ps) (sym same.removal) far.1) in
     let both = done_then n (one_of p.id) (λ j. times_of j ps) c d (expire_all n ps) (local_expire_all n (p ∷ ps) c) one more.0
     in (
@@ -154,7 +154,7 @@ abbrev pub Retimes : (Cyclic → Cyclic) → Type 0
 Retimes f = (x : Cyclic) → ((f x).timer.id ≡ x.timer.id) × ((f x).timer.level ≡ x.timer.level)
 
 -- the level of a cyclic that was found
-abbrev pub level_found : Option Cyclic → CyclicLevel
+abbrev pub level_found : Option Cyclic → Level
 level_found o = option_map_or (λ (x : Cyclic). x.timer.level) o level.High
 
 pub level_mapped : (f : Cyclic → Cyclic) → Retimes f → (o : Option Cyclic) → level_found (option_map f o) ≡ level_found o
@@ -194,12 +194,12 @@ whole_retimed f same c w calm = record {
       (is_some_mapped f (found id c.cyclics) (w.held id is));
 }
   where
-    by_level : (soft : Soft) (P : Level → Type 0) → P (level_at soft c)
+    by_level : (soft : Soft) (P : SoftLevel → Type 0) → P (level_at soft c)
         → P (level_at soft (record c { cyclics = map f c.cyclics }))
     by_level Low P h = h
     by_level Lock P h = h
 
-    back_level : (soft : Soft) (P : Level → Type 0) → P (level_at soft (record c { cyclics = map f c.cyclics }))
+    back_level : (soft : Soft) (P : SoftLevel → Type 0) → P (level_at soft (record c { cyclics = map f c.cyclics }))
         → P (level_at soft c)
     back_level Low P h = h
     back_level Lock P h = h

@@ -8,7 +8,7 @@ use native.Mathlib.Decide.{ℕ_discrete}
 use Rattle.cyc_types.specs.Limits.{greatest_bank}
 use Rattle.cyc_level.specs.declared.Event.{Event}
 use Rattle.cyc_level.specs.declared.Event.TheVariants.{Admit, Expire, Lose, Publish, Take, Finish, Mark, Clear, Switch, Follow}
-use Rattle.cyc_level.specs.Level.{Cyclic, Cyclics, Level, empty_level, count_in, count, soft_list, times_in, in_hand, place_count}
+use Rattle.cyc_level.specs.Level.{AdmittedCyclic, Cyclics, SoftLevel, empty_level, count_in, count, soft_list, times_in, in_hand, place_count}
 use Rattle.cyc_level.specs.Level.{bank_size}
 use Rattle.cyc_level.specs.Lawful.{IsId, one_if_any}
 use Rattle.cyc_level.specs.Events.{changed_at, admitted_cyclic, cyclic_after_expire, cyclic_after_lose, cyclic_after_finish}
@@ -21,9 +21,9 @@ use Rattle.cyc_model.specs.Laws.{CanAsSoft, AllCanAsSoft}
 use Rattle.cyc_model.specs.Agreement.{IsReady, AllReady}
 
 -- the laws of a level that don't speak of indexes
-pub record Fit (l : Level) : Type 0 where
-  pub conserved : (id : ℕ) (c : Cyclic) → l.cyclics id ≡ Some c → c.sent ≡ c.done + c.count + c.lost
-  pub below_ceiling : (id : ℕ) (c : Cyclic) → l.cyclics id ≡ Some c → c.count ≤ l.ceiling
+pub record Fit (l : SoftLevel) : Type 0 where
+  pub conserved : (id : ℕ) (c : AdmittedCyclic) → l.cyclics id ≡ Some c → c.sent ≡ c.done + c.count + c.lost
+  pub below_ceiling : (id : ℕ) (c : AdmittedCyclic) → l.cyclics id ≡ Some c → c.count ≤ l.ceiling
   pub one_place : (id : ℕ) → place_count l id ≡ one_if_any (count l id)
   pub soft_behind : l.soft_bank ≤ l.hard_bank
   pub old_empty : l.hard_bank ≡ l.soft_bank → l.old_list ≡ []
@@ -40,13 +40,13 @@ empty_fit ceiling = record {
 }
 
 -- an index of the bank that no cyclic has
-pub record HasFree (l : Level) : Type 0 where
+pub record HasFree (l : SoftLevel) : Type 0 where
   pub index : ℕ
   pub below : index < bank_size l.hard_bank
   pub unused : IsUnused l index
 
 -- what is left to ask of an event, beside what the soft side can do and what the firing side finds
-abbrev pub Rest : Event → Level → Type 0
+abbrev pub Rest : Event → SoftLevel → Type 0
 Rest (Admit id index) l = IsId id × (l.cyclics id ≡ None) × HasFree l
 Rest (Expire id) l = l.marked ≢ Some id
 Rest (Lose id) l = l.marked ≢ Some id
@@ -55,7 +55,7 @@ Rest (Clear id) l = (l.marked ≡ Some id) × (count l id ≡ 0)
 Rest (Switch bank) l = (l.hard_bank ≡ l.soft_bank) × (l.hard_bank < bank) × (bank ≤ greatest_bank)
 Rest _ l = ⊤
 
-abbrev pub AllRest : List Event → Level → Type 0
+abbrev pub AllRest : List Event → SoftLevel → Type 0
 AllRest [] l = ⊤
 AllRest (e ∷ es) l = Rest e l × AllRest es (after e l)
 
@@ -90,24 +90,24 @@ nothing_taken : (b : Bool) → cond {A = List ℕ} b [] [] ≡ []
 nothing_taken true = refl
 nothing_taken false = refl
 
-changed_all : (f : Cyclic → Cyclic) (P Q : Cyclic → Type 0) → ((c : Cyclic) → P c → Q (f c)) → (o : Option Cyclic)
-    → ((c : Cyclic) → o ≡ Some c → P c) → (d : Cyclic) → option_map f o ≡ Some d → Q d
+changed_all : (f : AdmittedCyclic → AdmittedCyclic) (P Q : AdmittedCyclic → Type 0) → ((c : AdmittedCyclic) → P c → Q (f c)) → (o : Option AdmittedCyclic)
+    → ((c : AdmittedCyclic) → o ≡ Some c → P c) → (d : AdmittedCyclic) → option_map f o ≡ Some d → Q d
 changed_all f P Q g None h d e = absurd (cc)
 changed_all f P Q g (Some c) h d e = subst Q (some_same (f c) d e) (g c (h c refl))
 
-cleared_old : (m : Cyclics) (id j : ℕ) (d : Cyclic) → changed_at m id (λ _. None) j ≡ Some d → m j ≡ Some d
+cleared_old : (m : Cyclics) (id j : ℕ) (d : AdmittedCyclic) → changed_at m id (λ _. None) j ≡ Some d → m j ≡ Some d
 cleared_old m id j d e = at_cases m id (λ _. None) (λ k o. o ≡ Some d → m k ≡ Some d) (λ n. absurd (cc)) (λ k ne h. h) j e
 
 listed_times : (j : ℕ) (h : Option ℕ) → times_in j (as_list h) ≡ in_hand j h
 listed_times j None = refl
 listed_times j (Some x) = omega arith
 
-called_count : (o : Option Cyclic) → one_if_any (count_in o - 1) ≡ one_if_any (count_in (option_map cyclic_after_finish o))
+called_count : (o : Option AdmittedCyclic) → one_if_any (count_in o - 1) ≡ one_if_any (count_in (option_map cyclic_after_finish o))
 called_count None = refl
 called_count (Some c) = refl
 
 -- how many calls of the id an event finishes, and how many it brings
-abbrev pub finishes : ℕ → Event → Level → ℕ
+abbrev pub finishes : ℕ → Event → SoftLevel → ℕ
 finishes j Finish l = in_hand j l.drainer_hand
 finishes j _ l = 0
 
@@ -115,7 +115,7 @@ abbrev pub brings : ℕ → Event → ℕ
 brings j (Expire id) = cond (eqb id j) 1 0
 brings j _ = 0
 
-changed_count : (m : Cyclics) (id : ℕ) (f : Option Cyclic → Option Cyclic) (j a b : ℕ)
+changed_count : (m : Cyclics) (id : ℕ) (f : Option AdmittedCyclic → Option AdmittedCyclic) (j a b : ℕ)
     → (j ≡ id → count_in (f (m id)) + a ≡ count_in (m id) + b) → (j ≢ id → a ≡ b)
     → count_in (changed_at m id f j) + a ≡ count_in (m j) + b
 changed_count m id f j a b one other = dite (ℕ_discrete j id)
@@ -124,18 +124,18 @@ changed_count m id f j a b one other = dite (ℕ_discrete j id)
     (λ ne. subst (λ (t : Bool). count_in (cond t (f (m j)) (m j)) + a ≡ count_in (m j) + b) (sym (ne_eqb j id ne))
     (ap (λ (k : ℕ). count_in (m j) + k) (other ne)))
 
-module _ (l : Level) (law : Fit l) where
-  renumbered : (f : Cyclic → Cyclic) (id : ℕ) (firer drainer : Option ℕ) → ((c : Cyclic) → c.index ≡ (f c).index)
-      → ((c : Cyclic) → l.cyclics id ≡ Some c → ((f c).sent ≡ (f c).done + (f c).count + (f c).lost) × ((f c).count ≤ l.ceiling))
+module _ (l : SoftLevel) (law : Fit l) where
+  renumbered : (f : AdmittedCyclic → AdmittedCyclic) (id : ℕ) (firer drainer : Option ℕ) → ((c : AdmittedCyclic) → c.index ≡ (f c).index)
+      → ((c : AdmittedCyclic) → l.cyclics id ≡ Some c → ((f c).sent ≡ (f c).done + (f c).count + (f c).lost) × ((f c).count ≤ l.ceiling))
       → (in_hand id firer + times_in id l.old_list + times_in id l.new_list + in_hand id drainer
       ≡ one_if_any (count_in (option_map f (l.cyclics id))))
       → ((j : ℕ) → j ≢ id → in_hand j firer + in_hand j drainer ≡ in_hand j l.firer_hand + in_hand j l.drainer_hand)
       → Fit (record l { cyclics = changed_at l.cyclics id (option_map f); firer_hand = firer; drainer_hand = drainer })
   renumbered f id firer drainer same numbers here there = record {
-    conserved = at_cases l.cyclics id (option_map f) (λ j o. (c : Cyclic) → o ≡ Some c → c.sent ≡ c.done + c.count + c.lost)
+    conserved = at_cases l.cyclics id (option_map f) (λ j o. (c : AdmittedCyclic) → o ≡ Some c → c.sent ≡ c.done + c.count + c.lost)
         (changed_all f (λ c. l.cyclics id ≡ Some c) (λ c. c.sent ≡ c.done + c.count + c.lost) (λ c e. (numbers c e).0)
         (l.cyclics id) (λ c e. e)) (λ j _. law.conserved j);
-    below_ceiling = at_cases l.cyclics id (option_map f) (λ j o. (c : Cyclic) → o ≡ Some c → c.count ≤ l.ceiling)
+    below_ceiling = at_cases l.cyclics id (option_map f) (λ j o. (c : AdmittedCyclic) → o ≡ Some c → c.count ≤ l.ceiling)
         (changed_all f (λ c. l.cyclics id ≡ Some c) (λ c. c.count ≤ l.ceiling) (λ c e. (numbers c e).1) (l.cyclics id) (λ c e. e))
         (λ j _. law.below_ceiling j);
     one_place = at_cases l.cyclics id (option_map f)
@@ -161,12 +161,12 @@ module _ (l : Level) (law : Fit l) where
   }
 
   admits : (id index : ℕ) → l.cyclics id ≡ None → Fit (after (Admit id index) l)
-  admits id index none = let c0 : Cyclic = admitted_cyclic index in let f : Option Cyclic
-      → Option Cyclic = λ _. Some c0 in record {
-        conserved = at_cases l.cyclics id f (λ k o. (d : Cyclic) → o ≡ Some d → d.sent ≡ d.done + d.count + d.lost)
-            (λ d h. subst (λ (c : Cyclic). c.sent ≡ c.done + c.count + c.lost) (some_same c0 d h) refl) (λ k ne. law.conserved k);
-        below_ceiling = at_cases l.cyclics id f (λ k o. (d : Cyclic) → o ≡ Some d → d.count ≤ l.ceiling)
-            (λ d h. subst (λ (c : Cyclic). c.count ≤ l.ceiling) (some_same c0 d h) (omega arith)) (λ k ne. law.below_ceiling k);
+  admits id index none = let c0 : AdmittedCyclic = admitted_cyclic index in let f : Option AdmittedCyclic
+      → Option AdmittedCyclic = λ _. Some c0 in record {
+        conserved = at_cases l.cyclics id f (λ k o. (d : AdmittedCyclic) → o ≡ Some d → d.sent ≡ d.done + d.count + d.lost)
+            (λ d h. subst (λ (c : AdmittedCyclic). c.sent ≡ c.done + c.count + c.lost) (some_same c0 d h) refl) (λ k ne. law.conserved k);
+        below_ceiling = at_cases l.cyclics id f (λ k o. (d : AdmittedCyclic) → o ≡ Some d → d.count ≤ l.ceiling)
+            (λ d h. subst (λ (c : AdmittedCyclic). c.count ≤ l.ceiling) (some_same c0 d h) (omega arith)) (λ k ne. law.below_ceiling k);
         one_place = at_cases l.cyclics id f (λ j o. place_count l j ≡ one_if_any (count_in o))
             (law.one_place id ∙ ap (λ o. one_if_any (count_in o)) none) (λ j _. law.one_place j);
         soft_behind = law.soft_behind;
@@ -174,7 +174,7 @@ module _ (l : Level) (law : Fit l) where
         bank_bound = law.bank_bound;
       }
 
-  expires : (id : ℕ) → l.firer_hand ≡ None → (c : Cyclic) → l.cyclics id ≡ Some c → count l id ≢ l.ceiling
+  expires : (id : ℕ) → l.firer_hand ≡ None → (c : AdmittedCyclic) → l.cyclics id ≡ Some c → count l id ≢ l.ceiling
       → Fit (after (Expire id) l)
   expires id free c is room =
       let n : ℕ = count l id in let hand : Option ℕ = hand_after_expire n id l.firer_hand in
@@ -190,7 +190,7 @@ module _ (l : Level) (law : Fit l) where
       (λ j ne. let a = raised_else j id n l.firer_hand ne free in let b : in_hand j l.firer_hand
       ≡ 0 = ap (in_hand j) free in omega (arith, a, b))
 
-  loses : (id : ℕ) → (c : Cyclic) → l.cyclics id ≡ Some c → Fit (after (Lose id) l)
+  loses : (id : ℕ) → (c : AdmittedCyclic) → l.cyclics id ≡ Some c → Fit (after (Lose id) l)
   loses id c is =
       renumbered cyclic_after_lose id l.firer_hand l.drainer_hand (λ d. refl)
       (λ d e. let sums = law.conserved id d e in (omega (arith, sums), law.below_ceiling id d e))
@@ -297,16 +297,16 @@ module _ (l : Level) (law : Fit l) where
       → count (after e l) j + finishes j e l ≡ count l j + brings j e
   count_step (Admit id index) j soft ready rest =
       changed_count l.cyclics id (λ o. Some (admitted_cyclic index)) j 0 0
-      (λ e. ap (λ (o : Option Cyclic). count_in o + 0) (sym rest.1)) (λ ne. refl)
+      (λ e. ap (λ (o : Option AdmittedCyclic). count_in o + 0) (sym rest.1)) (λ ne. refl)
   count_step (Expire id) j soft ready rest = let c = some_of (l.cyclics id) ready.1 in
       changed_count l.cyclics id (option_map cyclic_after_expire) j 0 (cond (eqb id j) 1 0)
-      (λ e. subst (λ (o : Option Cyclic). count_in (option_map cyclic_after_expire o) + 0
+      (λ e. subst (λ (o : Option AdmittedCyclic). count_in (option_map cyclic_after_expire o) + 0
       ≡ count_in o + cond (eqb id j) 1 0) (sym c.1)
       (subst (λ (b : Bool). c.0.count + 1 + 0 ≡ c.0.count + cond b 1 0) (sym (eq-eqb id j (sym e))) (omega arith)))
       (λ ne. subst (λ (b : Bool). 0 ≡ cond {A = ℕ} b 1 0) (sym (ne_eqb id j (λ e. ne (sym e)))) refl)
   count_step (Lose id) j soft ready rest = let c = some_of (l.cyclics id) ready.1 in
       changed_count l.cyclics id (option_map cyclic_after_lose) j 0 0
-      (λ e. subst (λ (o : Option Cyclic). count_in (option_map cyclic_after_lose o) + 0
+      (λ e. subst (λ (o : Option AdmittedCyclic). count_in (option_map cyclic_after_lose o) + 0
       ≡ count_in o + 0) (sym c.1) refl) (λ ne. refl)
   count_step Publish j soft ready rest = refl
   count_step Take j soft ready rest = refl
@@ -318,7 +318,7 @@ module _ (l : Level) (law : Fit l) where
       let h = less (l.cyclics x.0) in omega (arith, one, h, some_call))
       (λ ne. hand_else j x.0 ne))
     where
-      less : (o : Option Cyclic) → count_in (option_map cyclic_after_finish o) ≡ count_in o - 1
+      less : (o : Option AdmittedCyclic) → count_in (option_map cyclic_after_finish o) ≡ count_in o - 1
       less None = refl
       less (Some c) = refl
   count_step (Mark id) j soft ready rest = refl
@@ -327,7 +327,7 @@ module _ (l : Level) (law : Fit l) where
   count_step (Switch bank) j soft ready rest = refl
   count_step Follow j soft ready rest = refl
 
-abbrev pub all_finishes : ℕ → List Event → Level → ℕ
+abbrev pub all_finishes : ℕ → List Event → SoftLevel → ℕ
 all_finishes j [] l = 0
 all_finishes j (e ∷ es) l = finishes j e l + all_finishes j es (after e l)
 
@@ -335,12 +335,12 @@ abbrev pub all_brings : ℕ → List Event → ℕ
 all_brings j [] = 0
 all_brings j (e ∷ es) = brings j e + all_brings j es
 
-pub fit_along : (es : List Event) (l : Level) → Fit l → AllCanAsSoft es l → AllReady es l → AllRest es l → Fit (level_after es l)
+pub fit_along : (es : List Event) (l : SoftLevel) → Fit l → AllCanAsSoft es l → AllReady es l → AllRest es l → Fit (level_after es l)
 fit_along [] l fit soft ready rest = fit
 fit_along (e ∷ es) l fit soft ready rest =
     fit_along es (after e l) (keeps_fit l fit e soft.0 ready.0 rest.0) soft.1 ready.1 rest.1
 
-pub count_along : (es : List Event) (l : Level) (j : ℕ) → Fit l → AllCanAsSoft es l → AllReady es l → AllRest es l
+pub count_along : (es : List Event) (l : SoftLevel) (j : ℕ) → Fit l → AllCanAsSoft es l → AllReady es l → AllRest es l
     → count (level_after es l) j + all_finishes j es l ≡ count l j + all_brings j es
 count_along [] l j fit soft ready rest = refl
 count_along (e ∷ es) l j fit soft ready rest =

@@ -13,7 +13,7 @@ use Rattle.cyc_script.specs.declared.step.Step.TheVariants.{Add, Omni, Bind, Unb
 use Rattle.cyc_script.specs.declared.step.Step.TheVariants.{Offline, Online}
 use Rattle.cyc_model.specs.Acts.{Act, At, Call, at_own}
 use Rattle.cyc_model.specs.Cpu.{Cyclic, Cpu, Here, cpu_after, happen, here, nothing_here, is_of, cyclic_of, others, new_cpu}
-use Rattle.cyc_model.specs.Cpu.{level_of, with_moment}
+use Rattle.cyc_model.specs.Cpu.{handler_level_of, with_moment}
 use Rattle.cyc_model.specs.Firing.{expire_here, expire_all, due_here, fired, fire_here}
 use Rattle.cyc_model.specs.Serving.{serve_here}
 use Rattle.cyc_model.specs.Moving.{must_grow, widen_here, switch_here, place_here, put_in, enter_here, take_here, mark_here}
@@ -128,9 +128,9 @@ enter_most k n index x one c h = place_most k n index x one (widen_here n 1 c).c
 
 take_most : (k n id : ℕ) → Brings k (take_here n id)
 take_most k n id c h =
-    let d = happen (at_own n (level_of id c) (Mark id)) c in
-    here_most k (at_own n (level_of id d) (Clear id)) (record d { cyclics = others id d.cyclics })
-    (most_others k id d.cyclics (here_most k (at_own n (level_of id c) (Mark id)) c h))
+    let d = happen (at_own n (handler_level_of id c) (Mark id)) c in
+    here_most k (at_own n (handler_level_of id d) (Clear id)) (record d { cyclics = others id d.cyclics })
+    (most_others k id d.cyclics (here_most k (at_own n (handler_level_of id c) (Mark id)) c h))
 
 moment_same : (id moment : ℕ) (x : Cyclic) → (moment_at id moment x).timer.id ≡ x.timer.id
 moment_same id moment x = by (is_of id x)
@@ -141,13 +141,13 @@ moment_same id moment x = by (is_of id x)
 
 mark_most : (k n id : ℕ) → Brings k (mark_here n id)
 mark_most k n id c h =
-    here_most k (at_own n (level_of id c) (Mark id))
+    here_most k (at_own n (handler_level_of id c) (Mark id))
     (record c { cyclics = map (moment_at id never) c.cyclics; removal = Some id })
     (most_map k (moment_at id never) (moment_same id never) c.cyclics h)
 
 clear_most : (k n id : ℕ) → Brings k (clear_here n id)
 clear_most k n id c h =
-    here_most k (at_own n (level_of id c) (Clear id)) (record c { cyclics = others id c.cyclics; removal = None })
+    here_most k (at_own n (handler_level_of id c) (Clear id)) (record c { cyclics = others id c.cyclics; removal = None })
     (most_others k id c.cyclics h)
 
 reprogram_most : (k id moment : ℕ) → Brings k (reprogram_here id moment)

@@ -11,7 +11,7 @@ use Rattle.cyc_script.specs.declared.step.Bind.{Bind as BindStep}
 use Rattle.cyc_model.specs.Cpu.{Cyclic, Cpu}
 use Rattle.cyc_model.specs.Questions.{plain, outstanding_here}
 use Rattle.cyc_model.specs.State.{State, Outcome, Place, On, OnAll, cpu_of, nothing, followed_by, online_cpus}
-use Rattle.cyc_model.specs.Places.{id_of, place_of, put_at, home_of, home_at, is_bound, is_omnipresent, is_everywhere}
+use Rattle.cyc_model.specs.Places.{id_of, placement_of, put_at, home_of, home_at, is_bound, is_omnipresent, is_everywhere}
 use Rattle.cyc_model.specs.Places.{destination}
 use Rattle.cyc_model.specs.Refusals.{first_refusal, busy, no_cpu, offline_cpu, last_cpu, no_room}
 use Rattle.cyc_model.specs.Bind.{no_cyclic, omnipresent, pending, move, move_refusals, unless_there, bind_refusal}
@@ -34,7 +34,7 @@ Safe o s = Goes o.acts s o.state × Good o.state × Kept s o.state
 
 -- ---- bind
 
-put_down : (id n : ℕ) (s : State) (was : Bool) → Good s → place_of id s ≡ Some (On n was)
+put_down : (id n : ℕ) (s : State) (was : Bool) → Good s → placement_of id s ≡ Some (On n was)
     → Safe (nothing (put_at id (On n true) s)) s
 put_down id n s was g at = let w = well_put id n true was s g at in (w.0, w.1, kept_put id n true was s at)
 
@@ -57,13 +57,13 @@ safe_bind indexes step b s g why =
     let two = none_first (omnipresent id s) (no_cpu n s ∷ offline_cpu n s ∷ rest) one.1 in
     let three = none_first (no_cpu n s) (offline_cpu n s ∷ rest) two.1 in
     let four = none_first (offline_cpu n s) rest three.1 in
-    let at = is_single (place_of id s) (is_cyclic id s one.0).0 (not_omnipresent id s two.0) in
+    let at = is_single (placement_of id s) (is_cyclic id s one.0).0 (not_omnipresent id s two.0) in
     let home : home_of id s ≡ at.0 = ap home_at at.2 in
     let r = by id n (home_of id s == n) refl at.1 (at.2 ∙ ap (λ k. Some (On k at.1)) (sym home)) (is_cpu n s three.0)
     (is_online n s four.0) four.1 in
     (r.0, r.1, r.2)
   where
-    by : (id n : ℕ) (there : Bool) → (home_of id s == n) ≡ there → (bound : Bool) → place_of id s ≡ Some (On (home_of id s) bound)
+    by : (id n : ℕ) (there : Bool) → (home_of id s == n) ≡ there → (bound : Bool) → placement_of id s ≡ Some (On (home_of id s) bound)
         → n < length s.cpus → (cpu_of n s).online ≡ true
         → first_refusal (unless_there there (move_refusals plain id (home_of id s) n s)) ≡ None
         → Safe (followed_by (move_unless_there there indexes id n s) (λ t. nothing (put_at id (On n true) t))) s
@@ -86,7 +86,7 @@ pub safe_unbind : (step name : ℕ) (s : State) → Good s → unbind_refusal na
 safe_unbind step name s g why =
     let id = id_of name s in
     let one = none_first (no_cyclic id s) (omnipresent id s ∷ []) why in
-    let at = is_single (place_of id s) (is_cyclic id s one.0).0
+    let at = is_single (placement_of id s) (is_cyclic id s one.0).0
     (not_omnipresent id s (none_first (omnipresent id s) [] one.1).0) in
     let home : home_of id s ≡ at.0 = ap home_at at.2 in
     let w = well_unbind step name s g why in
@@ -100,7 +100,7 @@ record Turned (id : ℕ) (s : State) (o : Outcome) : Type 0 where
   kept : Kept s o.state
   removal : (m : ℕ) → (cpu_of m o.state).removal ≡ (cpu_of m s).removal
   online : (m : ℕ) → (cpu_of m o.state).online ≡ (cpu_of m s).online
-  places : (j : ℕ) → j ≢ id → place_of j o.state ≡ place_of j s
+  places : (j : ℕ) → j ≢ id → placement_of j o.state ≡ placement_of j s
 
 stays : (id : ℕ) (s : State) → Good s → Turned id s (nothing s)
 stays id s g = record {
@@ -132,7 +132,7 @@ module _ (indexes : ℕ → ℕ) (source other : ℕ) (apart : other ≢ source)
   abbrev pub CanJuggle : State → Type 0
   CanJuggle s = ((cpu_of source s).removal ≡ None) × (other < length s.cpus) × ((cpu_of other s).online ≡ true)
 
-  one_turn : (id : ℕ) (s : State) → Good s → CanJuggle s → (bound : Bool) → place_of id s ≡ Some (On source bound) → (t : Turn)
+  one_turn : (id : ℕ) (s : State) → Good s → CanJuggle s → (bound : Bool) → placement_of id s ≡ Some (On source bound) → (t : Turn)
       → turn plain source id s ≡ t → Turned id s (take_turn indexes source id t s)
   one_turn id s g can bound at IsBound is = stays id s g
   one_turn id s g can bound at IsPending is = stays id s g
@@ -161,7 +161,7 @@ module _ (indexes : ℕ → ℕ) (source other : ℕ) (apart : other ≢ source)
     pub online : (m : ℕ) → (cpu_of m o.state).online ≡ (cpu_of m s).online
 
   shuffled : (low : ℕ) (ids : List ℕ) (s : State) → RiseFrom low ids → Good s → CanJuggle s
-      → ((j : ℕ) → Has j ids → (bound : Bool) × (place_of j s ≡ Some (On source bound)))
+      → ((j : ℕ) → Has j ids → (bound : Bool) × (placement_of j s ≡ Some (On source bound)))
       → Shuffled s (juggle_each plain indexes source ids s).outcome
   shuffled low [] s rise g can ready = record {
     goes = goes_nothing s s refl refl (λ j h. h);
@@ -260,10 +260,10 @@ another n s h =
 
 -- the single cyclics of a CPU are there
 single_there : (n : ℕ) (s : State) → Good s → (j : ℕ) → Has j (single_ids n s)
-    → (bound : Bool) × (place_of j s ≡ Some (On n bound))
+    → (bound : Bool) × (placement_of j s ≡ Some (On n bound))
 single_there n s g j has =
     let f = filtered (λ id. not (is_omnipresent id s)) j (ids_in (cpu_of n s).cyclics) has in
-    by (place_of j s) (not_true (is_omnipresent j s) f.1) (g.base.homes n j (has_ids j (cpu_of n s).cyclics f.0))
+    by (placement_of j s) (not_true (is_omnipresent j s) f.1) (g.base.homes n j (has_ids j (cpu_of n s).cyclics f.0))
   where
     not_true : (b : Bool) → not b ≡ true → b ≡ false
     not_true true h = absurd (cc)

@@ -9,7 +9,7 @@ use Rattle.cyc_script.specs.declared.step.Step.TheVariants.{Offline, Online}
 use Rattle.cyc_model.specs.Firing.{fire_here}
 use Rattle.cyc_model.specs.Questions.{plain}
 use Rattle.cyc_model.specs.State.{State, Outcome, Place, On, OnAll, Placed, on, each, online_cpus}
-use Rattle.cyc_model.specs.Places.{place_of, is_unknown, given, destination}
+use Rattle.cyc_model.specs.Places.{placement_of, is_unknown, given, destination}
 use Rattle.cyc_model.specs.Add.{enter}
 use Rattle.cyc_model.specs.Omni.{component, everywhere}
 use Rattle.cyc_model.specs.Kept.{Kept}
@@ -43,7 +43,7 @@ some_placed (Some p) = refl
 
 -- whether an id is known depends on the ids alone
 pub same_known : (id : ℕ) (s t : State) → map (λ p. p.id) t.placed ≡ map (λ p. p.id) s.placed
-    → is_some (place_of id t) ≡ is_some (place_of id s)
+    → is_some (placement_of id t) ≡ is_some (placement_of id s)
 same_known id s t same =
     some_placed (find (λ p. p.id == id) t.placed) ∙ known_ids id t.placed ∙ ap (has_id id) same
     ∙ sym (known_ids id s.placed) ∙ sym (some_placed (find (λ p. p.id == id) s.placed))
@@ -56,15 +56,15 @@ same_each f same (x ∷ xs) s = same_each f same xs (f x s).state ∙ same x s
 
 module _ (id : ℕ) where
   abbrev Stays : State → State → Type 0
-  Stays s t = IsSome (place_of id s) → IsSome (place_of id t)
+  Stays s t = IsSome (placement_of id s) → IsSome (placement_of id t)
 
   stays_placed : (s t : State) → t.placed ≡ s.placed → Stays s t
   stays_placed s t same known = ap (λ ps. is_some (option_map (λ (p : Placed). p.place) (find (λ p. p.id == id) ps))) same ∙ known
 
   stays_given : (name : ℕ) (place : Place) (s : State) → Stays s (given name place s)
-  stays_given name place s known = by (place_of id s) refl known
+  stays_given name place s known = by (placement_of id s) refl known
     where
-      by : (o : Option Place) → place_of id s ≡ o → IsSome o → IsSome (place_of id (given name place s))
+      by : (o : Option Place) → placement_of id s ≡ o → IsSome o → IsSome (placement_of id (given name place s))
       by None is some = absurd (cc)
       by (Some p) is some = ap is_some (place_given_old name place s id p is)
 
@@ -101,9 +101,9 @@ module _ (id : ℕ) where
   -- what is unknown after it was so before
   pub unknown_before : (texts : List (List ℕ)) (indexes : ℕ → ℕ) (step : ℕ) (x : Step) (s : State) → IsLasting x → Good s
       → refusal_of plain x s ≡ None → is_unknown id (does plain texts indexes step x s).state ≡ true → is_unknown id s ≡ true
-  unknown_before texts indexes step x s is g why gone = by (place_of id s) refl
+  unknown_before texts indexes step x s is g why gone = by (placement_of id s) refl
     where
-      by : (o : Option Place) → place_of id s ≡ o → not (is_some (place_of id s)) ≡ true
+      by : (o : Option Place) → placement_of id s ≡ o → not (is_some (placement_of id s)) ≡ true
       by None e = ap (λ p. not (is_some p)) e
       by (Some p) e =
           let known = stays_does texts indexes step x s is g why (ap is_some e) in

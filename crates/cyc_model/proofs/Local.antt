@@ -4,16 +4,16 @@ use Rattle.std.proofs.Common.{map, Option, Some, None, refl, ap, sym, ◌∙◌,
 use Rattle.std.specs.Prelude.{⊤, length}
 use Rattle.cyc_types.specs.declared.level.Soft.{Soft}
 use Rattle.cyc_types.specs.declared.level.Soft.TheVariants.{Low, Lock}
-use Rattle.cyc_types.specs.declared.level.Level.{Level as CyclicLevel}
+use Rattle.cyc_types.specs.declared.level.Level.{Level}
 use Rattle.cyc_types.specs.declared.level.Level.TheVariants as level
 use Rattle.cyc_types.specs.Series.{never}
 use Rattle.cyc_level.specs.declared.Event.{Event}
 use Rattle.cyc_level.specs.declared.Event.TheVariants.{Admit, Mark, Clear, Finish}
-use Rattle.cyc_level.specs.Level.{Level}
+use Rattle.cyc_level.specs.Level.{SoftLevel}
 use Rattle.cyc_level.specs.Events.{after}
 use Rattle.cyc_expirations.specs.Expirations.{Expiration}
 use Rattle.cyc_model.specs.Acts.{Act, At, Call, at_own, same_soft, event_at, events_at}
-use Rattle.cyc_model.specs.Cpu.{Cyclic, Cpu, Here, cpu_after, happen, here, nothing_here, then_here, level_of, others}
+use Rattle.cyc_model.specs.Cpu.{Cyclic, Cpu, Here, cpu_after, happen, here, nothing_here, then_here, handler_level_of, others}
 use Rattle.cyc_model.specs.Firing.{raised, expiry, expire_here, expire_all, due_here, fire_here}
 use Rattle.cyc_model.specs.Serving.{level_after, look, Interrupt, after_look, serve, serve_here, level_at}
 use Rattle.cyc_model.specs.Moving.{bank_for, widen_here, must_grow, place_here, enter_here, take_here, mark_here, clear_here}
@@ -39,7 +39,7 @@ pub on_append : (n : ℕ) (xs ys : List Act) → AllOn n xs → AllOn n ys → A
 on_append n [] ys first rest = rest
 on_append n (x ∷ xs) ys first rest = (first.0, on_append n xs ys first.1 rest)
 
-pub on_own : (n : ℕ) (l : CyclicLevel) (event : Event) → AllOn n (at_own n l event)
+pub on_own : (n : ℕ) (l : Level) (event : Event) → AllOn n (at_own n l event)
 on_own n level.High event = tt
 on_own n level.Lock event = (refl, tt)
 on_own n level.Low event = (refl, tt)
@@ -117,14 +117,14 @@ local_then n c d f first next = record {
       ∙ ap (λ es. level_after es (level_at soft c)) (sym (events_append n soft d.acts (f d.cpu).acts));
   fair = λ soft free.
       let one = first.fair soft free in
-      let rest = (next d.cpu).fair soft (ap (λ (l : Level). l.firer_hand) (first.levels soft) ∙ one.1) in
+      let rest = (next d.cpu).fair soft (ap (λ (l : SoftLevel). l.firer_hand) (first.levels soft) ∙ one.1) in
       subst (λ es. Fair es (level_at soft c)) (sym (events_append n soft d.acts (f d.cpu).acts))
       (fair_append (events_at n soft d.acts) (events_at n soft (f d.cpu).acts) (level_at soft c) one.0
       (subst (λ l. Fair (events_at n soft (f d.cpu).acts) l) (first.levels soft) rest));
   agrees = λ h. (next d.cpu).agrees (first.agrees h);
   ready = λ h soft free.
       let rest = (next d.cpu).ready (first.agrees h) soft
-      (ap (λ (l : Level). l.firer_hand) (first.levels soft) ∙ (first.fair soft free).1) in
+      (ap (λ (l : SoftLevel). l.firer_hand) (first.levels soft) ∙ (first.fair soft free).1) in
       subst (λ es. AllReady es (level_at soft c)) (sym (events_append n soft d.acts (f d.cpu).acts))
       (ready_append (events_at n soft d.acts) (events_at n soft (f d.cpu).acts) (level_at soft c) (first.ready h soft free)
       (subst (λ l. AllReady (events_at n soft (f d.cpu).acts) l) (first.levels soft) rest));
@@ -140,14 +140,14 @@ local_if false n c d e one other = other
 
 -- ---- each of the calls on one CPU
 
-on_expiry : (n : ℕ) (l : CyclicLevel) (id : ℕ) (c : Cpu) → AllOn n (expiry n l id c)
+on_expiry : (n : ℕ) (l : Level) (id : ℕ) (c : Cpu) → AllOn n (expiry n l id c)
 on_expiry n level.High id c = (tt, tt)
 on_expiry n level.Lock id c = on_map n Lock (raised id c.lock)
 on_expiry n level.Low id c = on_map n Low (raised id c.low)
 
 pub local_expire : (n id : ℕ) (c : Cpu) → Local n c (expire_here n id c)
-local_expire n id c = local_here n (expiry n (level_of id c) id c) c c (on_expiry n (level_of id c) id c) (λ soft. refl)
-    (fair_expiry n (level_of id c) id c) (agrees_expire n id c) (ready_expire n id c)
+local_expire n id c = local_here n (expiry n (handler_level_of id c) id c) c c (on_expiry n (handler_level_of id c) id c) (λ soft. refl)
+    (fair_expiry n (handler_level_of id c) id c) (agrees_expire n id c) (ready_expire n id c)
 
 pub local_expire_all : (n : ℕ) (ps : List Expiration) (c : Cpu) → Local n c (expire_all n ps c)
 local_expire_all n [] c = local_nothing n c c (λ soft. refl) (λ h. h)
@@ -173,15 +173,15 @@ pub local_fire : (n now : ℕ) (c : Cpu) → Local n c (fire_here n now c)
 local_fire n now c = retimed n c (expire_all n (due_here now c) c) _ (local_expire_all n (due_here now c) c)
     (agrees_fired now (due_here now c) (expire_all n (due_here now c) c).acts (expire_all n (due_here now c) c).cpu)
 
-on_look : (n : ℕ) (soft : Soft) (looked : List Event) (l : Level) (rest : Level → Interrupt)
-    → ((m : Level) → AllOn n (rest m).acts)
+on_look : (n : ℕ) (soft : Soft) (looked : List Event) (l : SoftLevel) (rest : SoftLevel → Interrupt)
+    → ((m : SoftLevel) → AllOn n (rest m).acts)
     → (hand : Option ℕ) → AllOn n (after_look n soft looked (record l { drainer_hand = hand }) rest).acts
 on_look n soft looked l rest more None = on_map n soft looked
 on_look n soft looked l rest more (Some id) =
     on_append n (map (At n soft) looked) _ (on_map n soft looked)
     (tt, (refl, more (after Finish (record l { drainer_hand = Some id }))))
 
-on_serve : (n : ℕ) (soft : Soft) (budget : ℕ) (l : Level) → AllOn n (serve n soft budget l).acts
+on_serve : (n : ℕ) (soft : Soft) (budget : ℕ) (l : SoftLevel) → AllOn n (serve n soft budget l).acts
 on_serve n soft zero l = tt
 on_serve n soft (suc budget) l =
     on_look n soft (look l) (level_after (look l) l) (serve n soft budget) (on_serve n soft budget)
@@ -208,24 +208,24 @@ local_enter n index x c = local_then n c (widen_here n 1 c) (place_here n index 
 
 pub local_take : (n id : ℕ) (c : Cpu) → Local n c (take_here n id c)
 local_take n id c =
-    local_then n c (here (at_own n (level_of id c) (Mark id)) c) _
-    (local_here n (at_own n (level_of id c) (Mark id)) c c (on_own n (level_of id c) (Mark id)) (λ soft. refl)
-    (fair_own n (level_of id c) (Mark id) c (λ l free. ((tt, tt), free))) (agrees_own n (level_of id c) id c)
+    local_then n c (here (at_own n (handler_level_of id c) (Mark id)) c) _
+    (local_here n (at_own n (handler_level_of id c) (Mark id)) c c (on_own n (handler_level_of id c) (Mark id)) (λ soft. refl)
+    (fair_own n (handler_level_of id c) (Mark id) c (λ l free. ((tt, tt), free))) (agrees_own n (handler_level_of id c) id c)
     (ready_mark n id c))
-    (λ d. local_here n (at_own n (level_of id d) (Clear id)) d (record d { cyclics = others id d.cyclics })
-    (on_own n (level_of id d) (Clear id)) (same_low_lock d _ refl refl)
-    (fair_own n (level_of id d) (Clear id) d (λ l free. ((tt, tt), free)))
-    (agrees_gone n id (level_of id d) d.removal d) (ready_clear n (level_of id d) id d))
+    (λ d. local_here n (at_own n (handler_level_of id d) (Clear id)) d (record d { cyclics = others id d.cyclics })
+    (on_own n (handler_level_of id d) (Clear id)) (same_low_lock d _ refl refl)
+    (fair_own n (handler_level_of id d) (Clear id) d (λ l free. ((tt, tt), free)))
+    (agrees_gone n id (handler_level_of id d) d.removal d) (ready_clear n (handler_level_of id d) id d))
 
 pub local_mark : (n id : ℕ) (c : Cpu) → Local n c (mark_here n id c)
-local_mark n id c = local_here n _ c _ (on_own n (level_of id c) (Mark id)) (same_low_lock c _ refl refl)
-    (fair_own n (level_of id c) (Mark id) c (λ l free. ((tt, tt), free)))
-    (λ h. agrees_own n (level_of id c) id _ (agrees_moment id never (Some id) c h)) (ready_mark n id c)
+local_mark n id c = local_here n _ c _ (on_own n (handler_level_of id c) (Mark id)) (same_low_lock c _ refl refl)
+    (fair_own n (handler_level_of id c) (Mark id) c (λ l free. ((tt, tt), free)))
+    (λ h. agrees_own n (handler_level_of id c) id _ (agrees_moment id never (Some id) c h)) (ready_mark n id c)
 
 pub local_clear : (n id : ℕ) (c : Cpu) → Local n c (clear_here n id c)
-local_clear n id c = local_here n _ c _ (on_own n (level_of id c) (Clear id)) (same_low_lock c _ refl refl)
-    (fair_own n (level_of id c) (Clear id) c (λ l free. ((tt, tt), free)))
-    (agrees_gone n id (level_of id c) None c) (ready_clear n (level_of id c) id c)
+local_clear n id c = local_here n _ c _ (on_own n (handler_level_of id c) (Clear id)) (same_low_lock c _ refl refl)
+    (fair_own n (handler_level_of id c) (Clear id) c (λ l free. ((tt, tt), free)))
+    (agrees_gone n id (handler_level_of id c) None c) (ready_clear n (handler_level_of id c) id c)
 
 pub local_reprogram : (n id moment : ℕ) (c : Cpu) → Local n c (reprogram_here id moment c)
 local_reprogram n id moment c = local_nothing n c _ (same_low_lock c _ refl refl) (agrees_moment id moment c.removal c)

@@ -8,16 +8,16 @@ use native.Mathlib.Decide.{ℕ_discrete}
 use Rattle.cyc_types.specs.Limits.{greatest_bank, cyclics as most_cyclics}
 use Rattle.cyc_types.specs.declared.level.Soft.{Soft}
 use Rattle.cyc_types.specs.declared.level.Soft.TheVariants.{Low, Lock}
-use Rattle.cyc_types.specs.declared.level.Level.{Level as CyclicLevel}
+use Rattle.cyc_types.specs.declared.level.Level.{Level}
 use Rattle.cyc_level.specs.declared.Event.{Event}
-use Rattle.cyc_level.specs.Level.{Level, bank_size, count}
+use Rattle.cyc_level.specs.Level.{SoftLevel, bank_size, count}
 use Rattle.cyc_level.specs.Events.{after}
 use Rattle.cyc_model.specs.Acts.{at_own, events_at, calls_of, losses_of, loss_of}
 use Rattle.cyc_model.specs.Cpu.{Cpu, Here, nothing_here}
 use Rattle.cyc_model.specs.Questions.{outstanding_here, has_followed}
 use Rattle.cyc_model.specs.Serving.{level_at, level_after}
 use Rattle.cyc_model.specs.Moving.{least_bank, bank_for, must_grow, switch_here, widen_here}
-use Rattle.cyc_model.specs.Agreement.{as_level}
+use Rattle.cyc_types.specs.Levels.{as_level}
 use Rattle.cyc_model.proofs.Fair.{switch_events}
 use Rattle.cyc_model.proofs.Local.{Local, local_widen}
 use Rattle.cyc_model.proofs.Fit.{Rest, AllRest, finishes, brings, all_finishes, all_brings}
@@ -181,14 +181,14 @@ module _ (n more : ℕ) (c : Cpu) (w : Whole c) where
 
 -- ---- one event of a cyclic at its level
 
-module _ (n : ℕ) (k : CyclicLevel) (e : Event) where
+module _ (n : ℕ) (k : Level) (e : Event) where
   pub rest_own : (c : Cpu) → ((soft : Soft) → k ≡ as_level soft → Rest e (level_at soft c)) → RestAt n (at_own n k e) c
   rest_own c h soft = ⊎_elim
       (λ one. subst (λ es. AllRest es (level_at soft c)) (sym one.1) (h soft one.0, tt))
       (λ none. subst (λ es. AllRest es (level_at soft c)) (sym none.1) tt)
       (own_cases n k soft e)
 
-  own_idle : (c : Cpu) (j : ℕ) → brings j e ≡ 0 → ((m : Level) → finishes j e m ≡ 0) → (soft : Soft)
+  own_idle : (c : Cpu) (j : ℕ) → brings j e ≡ 0 → ((m : SoftLevel) → finishes j e m ≡ 0) → (soft : Soft)
       → (all_finishes j (events_at n soft (at_own n k e)) (level_at soft c) ≡ 0)
       × (all_brings j (events_at n soft (at_own n k e)) ≡ 0)
   own_idle c j none never_done soft = ⊎_elim
@@ -209,7 +209,7 @@ module _ (n : ℕ) (k : CyclicLevel) (e : Event) where
       (own_cases n k soft e)
 
   pub books_own : (c p : Cpu) → Whole c → Local n c (record { acts = at_own n k e; cpu = p }) → RestAt n (at_own n k e) c
-      → ((j : ℕ) → brings j e ≡ 0) → ((j : ℕ) (m : Level) → finishes j e m ≡ 0) → ((j : ℕ) → loss_of j e ≡ 0)
+      → ((j : ℕ) → brings j e ≡ 0) → ((j : ℕ) (m : SoftLevel) → finishes j e m ≡ 0) → ((j : ℕ) → loss_of j e ≡ 0)
       → (j : ℕ) → outstanding_here j p + calls_of j (at_own n k e) + losses_of j (at_own n k e) ≡ outstanding_here j c + 0
   books_own c p w local rest none never_done kept j =
       let d : Here = record { acts = at_own n k e; cpu = p } in

@@ -8,7 +8,7 @@ use mathlib.Core.Logic.{dite}
 use native.Mathlib.Decide.{ℕ_discrete}
 use Rattle.cyc_level.proofs.Maps.{some_same}
 use Rattle.cyc_model.specs.State.{State, Place, Placed}
-use Rattle.cyc_model.specs.Places.{place_of, put_at, replaced, given, forgotten}
+use Rattle.cyc_model.specs.Places.{placement_of, put_at, replaced, given, forgotten}
 use Rattle.cyc_model.specs.Laws.{RiseTo}
 
 abbrev pub entry : ℕ → List Placed → Option Placed
@@ -49,7 +49,7 @@ entry_within low high id (q ∷ qs) h p e = dite (ℕ_discrete q.id id)
 -- ---- one entry more, one changed, one less
 
 pub place_given_new : (name : ℕ) (place : Place) (s : State) → RiseTo 0 s.placed s.last_id
-    → place_of (s.last_id + 1) (given name place s) ≡ Some place
+    → placement_of (s.last_id + 1) (given name place s) ≡ Some place
 place_given_new name place s rise =
     let none : entry (s.last_id + 1) s.placed ≡ None = entry_above 0 s.last_id (s.last_id + 1) s.placed rise (omega arith) in
     let new : Placed = record { id = s.last_id + 1; place = place } in
@@ -58,8 +58,8 @@ place_given_new name place s rise =
     ∙ ap (λ (o : Option Placed). option_or o (entry (s.last_id + 1) (new ∷ []))) none
     ∙ entry_first (s.last_id + 1) new [] refl)
 
-pub place_given_old : (name : ℕ) (place : Place) (s : State) (id : ℕ) (p : Place) → place_of id s ≡ Some p
-    → place_of id (given name place s) ≡ Some p
+pub place_given_old : (name : ℕ) (place : Place) (s : State) (id : ℕ) (p : Place) → placement_of id s ≡ Some p
+    → placement_of id (given name place s) ≡ Some p
 place_given_old name place s id p is =
     ap (option_map (λ (q : Placed). q.place)) (find-append (λ (q : Placed). q.id == id) s.placed (record {
       id = s.last_id
@@ -74,7 +74,7 @@ place_given_old name place s id p is =
     by (Some q) r e = e
 
 pub place_given_other : (name : ℕ) (place : Place) (s : State) (id : ℕ) → id ≢ s.last_id + 1
-    → place_of id (given name place s) ≡ place_of id s
+    → placement_of id (given name place s) ≡ placement_of id s
 place_given_other name place s id ne =
     let new : Placed = record { id = s.last_id + 1; place = place } in
     ap (option_map (λ (q : Placed). q.place)) (find-append (λ (q : Placed). q.id == id) s.placed (new ∷ [])
@@ -107,7 +107,7 @@ entry_id id p (q ∷ qs) e = dite (ℕ_discrete q.id id)
     (λ same. subst (λ (z : Placed). z.id ≡ id) (some_same q p (sym (entry_first id q qs same) ∙ e)) same)
     (λ ne. entry_id id p qs (sym (entry_rest id q qs ne) ∙ e))
 
-pub place_put_other : (id j : ℕ) (place : Place) (s : State) → j ≢ id → place_of j (put_at id place s) ≡ place_of j s
+pub place_put_other : (id j : ℕ) (place : Place) (s : State) → j ≢ id → placement_of j (put_at id place s) ≡ placement_of j s
 place_put_other id j place s ne =
     ap (option_map (λ (q : Placed). q.place)) (entry_replaced id j place s.placed)
     ∙ by (entry j s.placed) refl
@@ -118,8 +118,8 @@ place_put_other id j place s ne =
     by (Some p) is = ap (λ (b : Bool). Some ((cond b (record p { place = place }) p).place))
         (ne_eqb p.id id (λ e. ne (sym (entry_id j p s.placed is) ∙ e)))
 
-pub place_put_same : (id : ℕ) (place : Place) (s : State) (p : Place) → place_of id s ≡ Some p
-    → place_of id (put_at id place s) ≡ Some place
+pub place_put_same : (id : ℕ) (place : Place) (s : State) (p : Place) → placement_of id s ≡ Some p
+    → placement_of id (put_at id place s) ≡ Some place
 place_put_same id place s p known =
     ap (option_map (λ (q : Placed). q.place)) (entry_replaced id id place s.placed)
     ∙ by (entry id s.placed) refl known
@@ -130,7 +130,7 @@ place_put_same id place s p known =
     by (Some q) is e = ap (λ (b : Bool). Some ((cond b (record q { place = place }) q).place))
         (eq-eqb q.id id (entry_id id q s.placed is))
 
-pub place_put_none : (id : ℕ) (place : Place) (s : State) → place_of id s ≡ None → place_of id (put_at id place s) ≡ None
+pub place_put_none : (id : ℕ) (place : Place) (s : State) → placement_of id s ≡ None → placement_of id (put_at id place s) ≡ None
 place_put_none id place s none =
     ap (option_map (λ (q : Placed). q.place)) (entry_replaced id id place s.placed) ∙ by (entry id s.placed) none
   where
@@ -150,7 +150,7 @@ entry_forgotten id j (p ∷ ps) ne = dite (ℕ_discrete p.id id)
     (λ far. ap (λ (b : Bool). entry j (kept (not b) p (filter (λ q. not (q.id == id)) ps))) (ne_eqb p.id id far)
     ∙ ap (with_entry (p.id == j) p) (entry_forgotten id j ps ne))
 
-pub place_forgotten_other : (id j : ℕ) (s : State) → j ≢ id → place_of j (forgotten id s) ≡ place_of j s
+pub place_forgotten_other : (id j : ℕ) (s : State) → j ≢ id → placement_of j (forgotten id s) ≡ placement_of j s
 place_forgotten_other id j s ne = ap (option_map (λ (q : Placed). q.place)) (entry_forgotten id j s.placed ne)
 
 entry_forgot : (id : ℕ) (ps : List Placed) → entry id (filter (λ p. not (p.id == id)) ps) ≡ None
@@ -161,11 +161,11 @@ entry_forgot id (p ∷ ps) = dite (ℕ_discrete p.id id)
     (λ far. ap (λ (b : Bool). entry id (kept (not b) p (filter (λ q. not (q.id == id)) ps))) (ne_eqb p.id id far)
     ∙ entry_rest id p (filter (λ q. not (q.id == id)) ps) far ∙ entry_forgot id ps)
 
-pub place_forgotten : (id : ℕ) (s : State) → place_of id (forgotten id s) ≡ None
+pub place_forgotten : (id : ℕ) (s : State) → placement_of id (forgotten id s) ≡ None
 place_forgotten id s = ap (option_map (λ (q : Placed). q.place)) (entry_forgot id s.placed)
 
 -- the place of an id that isn't known stays unknown
-pub place_known : (id : ℕ) (s : State) (p : Place) → RiseTo 0 s.placed s.last_id → place_of id s ≡ Some p
+pub place_known : (id : ℕ) (s : State) (p : Place) → RiseTo 0 s.placed s.last_id → placement_of id s ≡ Some p
     → (0 < id) × (id ≤ s.last_id)
 place_known id s p rise is = by (entry id s.placed) refl is
   where
@@ -174,5 +174,5 @@ place_known id s p rise is = by (entry id s.placed) refl is
     by None at e = absurd (cc)
     by (Some q) at e = entry_within 0 s.last_id id s.placed rise q at
 
-pub place_new : (s : State) → RiseTo 0 s.placed s.last_id → place_of (s.last_id + 1) s ≡ None
+pub place_new : (s : State) → RiseTo 0 s.placed s.last_id → placement_of (s.last_id + 1) s ≡ None
 place_new s rise = ap (option_map (λ (q : Placed). q.place)) (entry_above 0 s.last_id (s.last_id + 1) s.placed rise (omega arith))

@@ -7,7 +7,7 @@ use Rattle.cyc_types.specs.declared.refusal.Refusal.TheVariants.{NoCyclic}
 use Rattle.cyc_text.specs.Lines.{removed}
 use Rattle.cyc_model.specs.Questions.{plain, outstanding_here}
 use Rattle.cyc_model.specs.State.{State, Outcome, Place, Placed, cpu_of, each, numbers, cpus_with}
-use Rattle.cyc_model.specs.Places.{id_of, place_of, is_unknown, is_leaving, forgotten}
+use Rattle.cyc_model.specs.Places.{id_of, placement_of, is_unknown, is_leaving, forgotten}
 use Rattle.cyc_model.specs.Refusals.{when}
 use Rattle.cyc_model.specs.Remove.{busy_on_each, begin, poll, clear_if, begun}
 use Rattle.cyc_model.specs.Softint.{is_open, text_of_id, polled, poll_id, leaving_ids, interrupt}
@@ -45,10 +45,10 @@ reports_add_up indexes script name =
 
 -- ---- removals
 
-known_place : (id : ℕ) (s t : State) → t.placed ≡ s.placed → place_of id t ≡ place_of id s
+known_place : (id : ℕ) (s t : State) → t.placed ≡ s.placed → placement_of id t ≡ placement_of id s
 known_place id s t same = ap (λ ps. option_map (λ (p : Placed). p.place) (entry id ps)) same
 
-unknown_not : (id : ℕ) (s : State) → IsSome (place_of id s) → is_unknown id s ≡ true → ⊥
+unknown_not : (id : ℕ) (s : State) → IsSome (placement_of id s) → is_unknown id s ≡ true → ⊥
 unknown_not id s known is = let a : is_unknown id s ≡ false = ap not known in let no : true ≡ false = sym is ∙ a in absurd (cc)
 
 pub removes_tell_calls : RemovesTellCalls
@@ -57,11 +57,11 @@ removes_tell_calls indexes cpus ceiling texts steps step name text s some is why
     let id = id_of name s in
     let o = each (begin plain id) (cpus_with id s) s in
     let h = begun_removal name s g why in
-    let known = not_not (is_some (place_of id s)) (not_when (is_unknown id s) NoCyclic
+    let known = not_not (is_some (placement_of id s)) (not_when (is_unknown id s) NoCyclic
     (none_first (when (is_unknown id s) NoCyclic) (busy_on_each plain (cpus_with id s) s) why).0) in
     by id o known h g (cpus_with id o.state) refl gone
   where
-    by : (id : ℕ) (o : Outcome) → IsSome (place_of id s) → Removing id s o.state → Good s → (ns : List ℕ)
+    by : (id : ℕ) (o : Outcome) → IsSome (placement_of id s) → Removing id s o.state → Good s → (ns : List ℕ)
         → cpus_with id o.state ≡ ns
         → is_unknown id (begun plain step text id ns o).state ≡ true
         → (begun plain step text id ns o).line ≡ answer step text id (begun plain step text id ns o).state
@@ -72,10 +72,10 @@ removes_tell_calls indexes cpus ceiling texts steps step name text s some is why
 -- ---- polls
 
 -- those that have an open removal are known, and rise
-leaving_known : (s : State) → Good s → (k id : ℕ) → (cpu_of k s).removal ≡ Some id → IsSome (place_of id s)
-leaving_known s g k id is = by (place_of id s) refl (g.base.homes k id ((g.base.whole k).held id is))
+leaving_known : (s : State) → Good s → (k id : ℕ) → (cpu_of k s).removal ≡ Some id → IsSome (placement_of id s)
+leaving_known s g k id is = by (placement_of id s) refl (g.base.homes k id ((g.base.whole k).held id is))
   where
-    by : (o : Option Place) → place_of id s ≡ o → IsAt k (place_of id s) → IsSome (place_of id s)
+    by : (o : Option Place) → placement_of id s ≡ o → IsAt k (placement_of id s) → IsSome (placement_of id s)
     by None at here = absurd (subst (λ p. IsAt k p) at here)
     by (Some p) at here = ap is_some at
 
@@ -149,8 +149,8 @@ polls_tell_calls indexes cpus ceiling texts steps step i s some is why =
 
 -- ---- what follows a removal
 
-pub unknown_gone : (id : ℕ) (s : State) → is_unknown id s ≡ true → place_of id s ≡ None
-unknown_gone id s is = by (place_of id s) is
+pub unknown_gone : (id : ℕ) (s : State) → is_unknown id s ≡ true → placement_of id s ≡ None
+unknown_gone id s is = by (placement_of id s) is
   where
     by : (o : Option Place) → not (is_some o) ≡ true → o ≡ None
     by None h = refl

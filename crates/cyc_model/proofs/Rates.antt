@@ -10,12 +10,12 @@ use Rattle.std.proofs.lemmas.Nat.{mul-le}
 use Rattle.cyc_types.specs.Series.{never, late, due}
 use Rattle.cyc_types.specs.declared.level.Soft.{Soft}
 use Rattle.cyc_types.specs.declared.level.Soft.TheVariants.{Low, Lock}
-use Rattle.cyc_types.specs.declared.level.Level.{Level as CyclicLevel}
+use Rattle.cyc_types.specs.declared.level.Level.{Level}
 use Rattle.cyc_types.specs.declared.level.Level.TheVariants as level
 use Rattle.cyc_types.specs.declared.refusal.Refusal.{Refusal}
 use Rattle.cyc_level.specs.declared.Event.{Event}
 use Rattle.cyc_level.specs.declared.Event.TheVariants.{Admit, Expire, Lose, Publish, Take, Finish, Mark, Clear, Switch, Follow}
-use Rattle.cyc_level.specs.Level.{Level, Cyclic as Admitted, count}
+use Rattle.cyc_level.specs.Level.{SoftLevel, AdmittedCyclic, count}
 use Rattle.cyc_level.specs.Events.{after, after_finish, changed_at, admitted_cyclic, cyclic_after_expire, cyclic_after_lose}
 use Rattle.cyc_level.specs.Events.{cyclic_after_finish, most_sent}
 use Rattle.cyc_level.proofs.Maps.{some_same, at_cases}
@@ -24,7 +24,7 @@ use Rattle.cyc_script.specs.declared.step.Step.{Step}
 use Rattle.cyc_script.specs.declared.step.Step.TheVariants.{Add, Omni, Bind, Unbind, Reprogram, Remove, Advance, Softint, Juggle}
 use Rattle.cyc_script.specs.declared.step.Step.TheVariants.{Offline, Online}
 use Rattle.cyc_model.specs.Acts.{Act, At, Call, at_own, same_soft, events_at}
-use Rattle.cyc_model.specs.Cpu.{Cyclic, Cpu, level_of}
+use Rattle.cyc_model.specs.Cpu.{Cyclic, Cpu, handler_level_of}
 use Rattle.cyc_model.specs.Firing.{raised, expiry, expire_here, expire_all, due_here, fire_here}
 use Rattle.cyc_model.specs.Questions.{plain}
 use Rattle.cyc_model.specs.State.{State, on, cpu_of, each, online_cpus, numbers_from}
@@ -53,39 +53,39 @@ all_sends id (e ∷ es) = sends id e + all_sends id es
 -- ---- the counts of a stay
 
 -- the stay can count one more
-abbrev pub HasRoom : Event → Level → Type 0
-HasRoom (Expire id) l = (c : Admitted) → l.cyclics id ≡ Some c → c.sent < most_sent
-HasRoom (Lose id) l = (c : Admitted) → l.cyclics id ≡ Some c → c.sent < most_sent
+abbrev pub HasRoom : Event → SoftLevel → Type 0
+HasRoom (Expire id) l = (c : AdmittedCyclic) → l.cyclics id ≡ Some c → c.sent < most_sent
+HasRoom (Lose id) l = (c : AdmittedCyclic) → l.cyclics id ≡ Some c → c.sent < most_sent
 HasRoom _ l = ⊤
 
-abbrev pub AllHaveRoom : List Event → Level → Type 0
+abbrev pub AllHaveRoom : List Event → SoftLevel → Type 0
 AllHaveRoom [] l = ⊤
 AllHaveRoom (e ∷ es) l = HasRoom e l × AllHaveRoom es (after e l)
 
 -- each stay has counted at most so many
-abbrev pub Counted : (ℕ → ℕ) → Level → Type 0
-Counted bound l = (id : ℕ) (c : Admitted) → l.cyclics id ≡ Some c → c.sent ≤ bound id
+abbrev pub Counted : (ℕ → ℕ) → SoftLevel → Type 0
+Counted bound l = (id : ℕ) (c : AdmittedCyclic) → l.cyclics id ≡ Some c → c.sent ≤ bound id
 
-mapped_count : (f : Admitted → Admitted) (k m : ℕ) → ((c : Admitted) → (f c).sent ≤ c.sent + m) → (o : Option Admitted)
-    → ((c : Admitted) → o ≡ Some c → c.sent ≤ k) → (d : Admitted) → option_map f o ≡ Some d → d.sent ≤ k + m
+mapped_count : (f : AdmittedCyclic → AdmittedCyclic) (k m : ℕ) → ((c : AdmittedCyclic) → (f c).sent ≤ c.sent + m) → (o : Option AdmittedCyclic)
+    → ((c : AdmittedCyclic) → o ≡ Some c → c.sent ≤ k) → (d : AdmittedCyclic) → option_map f o ≡ Some d → d.sent ≤ k + m
 mapped_count f k m grows None low d e = absurd (cc)
 mapped_count f k m grows (Some c) low d e =
-    let a = grows c in let b = low c refl in subst (λ (x : Admitted). x.sent ≤ k + m) (some_same (f c) d e) (omega (arith, a, b))
+    let a = grows c in let b = low c refl in subst (λ (x : AdmittedCyclic). x.sent ≤ k + m) (some_same (f c) d e) (omega (arith, a, b))
 
-module _ (bound : ℕ → ℕ) (l : Level) (low : Counted bound l) where
+module _ (bound : ℕ → ℕ) (l : SoftLevel) (low : Counted bound l) where
   same_count : (e : Event) → (after e l).cyclics ≡ l.cyclics → Counted (λ id. bound id + sends id e) (after e l)
   same_count e same id c is = let h = low id c (sym (ap (λ m. m id) same) ∙ is) in omega (arith, h)
 
-  finish_count : (hand : Option ℕ) (id : ℕ) (c : Admitted) → (after_finish hand l).cyclics id ≡ Some c → c.sent ≤ bound id + 0
+  finish_count : (hand : Option ℕ) (id : ℕ) (c : AdmittedCyclic) → (after_finish hand l).cyclics id ≡ Some c → c.sent ≤ bound id + 0
   finish_count None id c is = let h = low id c is in omega (arith, h)
-  finish_count (Some j) id c is = at_cases l.cyclics j (option_map cyclic_after_finish) (λ k o. (d : Admitted) → o ≡ Some d
+  finish_count (Some j) id c is = at_cases l.cyclics j (option_map cyclic_after_finish) (λ k o. (d : AdmittedCyclic) → o ≡ Some d
       → d.sent ≤ bound k + 0)
       (mapped_count cyclic_after_finish (bound j) 0 (λ d. omega arith) (l.cyclics j) (low j))
       (λ k ne d e. let h = low k d e in omega (arith, h)) id c is
 
-  sent_one : (j : ℕ) (f : Admitted → Admitted) → ((c : Admitted) → (f c).sent ≤ c.sent + 1) → (id : ℕ) (c : Admitted)
+  sent_one : (j : ℕ) (f : AdmittedCyclic → AdmittedCyclic) → ((c : AdmittedCyclic) → (f c).sent ≤ c.sent + 1) → (id : ℕ) (c : AdmittedCyclic)
       → changed_at l.cyclics j (option_map f) id ≡ Some c → c.sent ≤ bound id + cond (j == id) 1 0
-  sent_one j f grows id c is = at_cases l.cyclics j (option_map f) (λ k o. (d : Admitted) → o ≡ Some d
+  sent_one j f grows id c is = at_cases l.cyclics j (option_map f) (λ k o. (d : AdmittedCyclic) → o ≡ Some d
       → d.sent ≤ bound k + cond (j == k) 1 0)
       (λ d e. subst (λ (b : Bool). d.sent ≤ bound j + cond b 1 0) (sym (eq-eqb j j refl))
       (mapped_count f (bound j) 1 grows (l.cyclics j) (low j) d e))
@@ -94,9 +94,9 @@ module _ (bound : ℕ → ℕ) (l : Level) (low : Counted bound l) where
       omega (arith, h, z)) id c is
 
   counted_after : (e : Event) → Counted (λ id. bound id + sends id e) (after e l)
-  counted_after (Admit j index) id c is = at_cases l.cyclics j (λ o. Some (admitted_cyclic index)) (λ k o. (d : Admitted)
+  counted_after (Admit j index) id c is = at_cases l.cyclics j (λ o. Some (admitted_cyclic index)) (λ k o. (d : AdmittedCyclic)
       → o ≡ Some d → d.sent ≤ bound k + 0)
-      (λ d e. subst (λ (x : Admitted). x.sent ≤ bound j + 0) (some_same (admitted_cyclic index) d e) (omega arith))
+      (λ d e. subst (λ (x : AdmittedCyclic). x.sent ≤ bound j + 0) (some_same (admitted_cyclic index) d e) (omega arith))
       (λ k ne d e. let h = low k d e in omega (arith, h)) id c is
   counted_after (Expire j) id c is = sent_one j cyclic_after_expire (λ d. omega arith) id c is
   counted_after (Lose j) id c is = sent_one j cyclic_after_lose (λ d. omega arith) id c is
@@ -104,12 +104,12 @@ module _ (bound : ℕ → ℕ) (l : Level) (low : Counted bound l) where
   counted_after Take id c is = same_count Take refl id c is
   counted_after Finish id c is = finish_count l.drainer_hand id c is
   counted_after (Mark j) id c is = same_count (Mark j) refl id c is
-  counted_after (Clear j) id c is = at_cases l.cyclics j (λ o. None) (λ k o. (d : Admitted) → o ≡ Some d → d.sent ≤ bound k + 0)
+  counted_after (Clear j) id c is = at_cases l.cyclics j (λ o. None) (λ k o. (d : AdmittedCyclic) → o ≡ Some d → d.sent ≤ bound k + 0)
       (λ d e. absurd (cc)) (λ k ne d e. let h = low k d e in omega (arith, h)) id c is
   counted_after (Switch bank) id c is = same_count (Switch bank) refl id c is
   counted_after Follow id c is = same_count Follow refl id c is
 
-pub room_along : (bound : ℕ → ℕ) (es : List Event) (l : Level) → Counted bound l
+pub room_along : (bound : ℕ → ℕ) (es : List Event) (l : SoftLevel) → Counted bound l
     → ((id : ℕ) → bound id + all_sends id es ≤ most_sent) → AllHaveRoom es l
 room_along bound [] l low most = tt
 room_along bound (e ∷ es) l low most = (
@@ -180,7 +180,7 @@ idle_sends id (At n soft e ∷ acts) h = let r = idle_sends id acts h.1 in let z
     one (Switch bank) is = refl
     one Follow is = refl
 
-sends_own : (id n j index : ℕ) (k : CyclicLevel) → sends_in id (at_own n k (Admit j index)) ≡ 0
+sends_own : (id n j index : ℕ) (k : Level) → sends_in id (at_own n k (Admit j index)) ≡ 0
 sends_own id n j index level.High = refl
 sends_own id n j index level.Lock = refl
 sends_own id n j index level.Low = refl
@@ -199,7 +199,7 @@ sends_map : (id n : ℕ) (soft : Soft) (es : List Event) → sends_in id (map (A
 sends_map id n soft [] = refl
 sends_map id n soft (e ∷ es) = ap (λ k. sends id e + k) (sends_map id n soft es)
 
-sends_raised : (id j : ℕ) (l : Level) → all_sends id (raised j l) ≤ one_of j id
+sends_raised : (id j : ℕ) (l : SoftLevel) → all_sends id (raised j l) ≤ one_of j id
 sends_raised id j l = by (count l j == l.ceiling) (count l j == 0)
   where
     by : (a b : Bool) → all_sends id (cond a (Lose j ∷ []) (cond b (Expire j ∷ Publish ∷ []) (Expire j ∷ []))) ≤ one_of j id
@@ -207,7 +207,7 @@ sends_raised id j l = by (count l j == l.ceiling) (count l j == 0)
     by false true = omega arith
     by false false = omega arith
 
-sends_expiry : (id n j : ℕ) (k : CyclicLevel) (c : Cpu) → sends_in id (expiry n k j c) ≤ one_of j id
+sends_expiry : (id n j : ℕ) (k : Level) (c : Cpu) → sends_in id (expiry n k j c) ≤ one_of j id
 sends_expiry id n j level.High c = omega arith
 sends_expiry id n j level.Lock c = let a = sends_map id n Lock (raised j c.lock) in let b = sends_raised id j c.lock
     in omega (arith, a, b)
@@ -218,7 +218,7 @@ sends_all : (id n : ℕ) (ps : List Expiration) (c : Cpu) → sends_in id (expir
 sends_all id n [] c = omega arith
 sends_all id n (p ∷ ps) c =
     let d = expire_here n p.id c in
-    let a = sends_append id d.acts (expire_all n ps d.cpu).acts in let b = sends_expiry id n p.id (level_of p.id c) c in
+    let a = sends_append id d.acts (expire_all n ps d.cpu).acts in let b = sends_expiry id n p.id (handler_level_of p.id c) c in
     let r = sends_all id n ps d.cpu in let t = times_cons id p ps in omega (arith, a, b, r, t)
 
 -- at most so many of a cyclic: it is late by no more than a second and an interval, or expires once

@@ -9,9 +9,9 @@ use Rattle.cyc_types.specs.declared.refusal.Refusal.{Refusal}
 use Rattle.cyc_script.specs.declared.step.Step.{Step}
 use Rattle.cyc_script.specs.declared.step.Step.TheVariants.{Add, Omni, Bind, Unbind, Reprogram, Remove, Advance, Softint, Juggle}
 use Rattle.cyc_script.specs.declared.step.Step.TheVariants.{Offline, Online}
-use Rattle.cyc_level.specs.Level.{Level, empty_level}
+use Rattle.cyc_level.specs.Level.{SoftLevel, empty_level}
 use Rattle.cyc_level.proofs.Maps.{none_some}
-use Rattle.cyc_model.specs.Places.{home_at, place_of}
+use Rattle.cyc_model.specs.Places.{home_at, placement_of}
 use Rattle.cyc_model.specs.Cpu.{Cpu, new_cpu}
 use Rattle.cyc_model.specs.Questions.{plain, outstanding_here}
 use Rattle.cyc_model.specs.Serving.{level_at}
@@ -88,12 +88,12 @@ new_whole ceiling online = record {
   held = λ id is. absurd (none_some ⊥ id (new_cpu ceiling).removal refl is);
 }
   where
-    each_level : (soft : Soft) (P : Level → Type 0) → P (empty_level ceiling)
+    each_level : (soft : Soft) (P : SoftLevel → Type 0) → P (empty_level ceiling)
         → P (level_at soft (record (new_cpu ceiling) { online = online }))
     each_level Low P h = h
     each_level Lock P h = h
 
-    from_level : (soft : Soft) (P : Level → Type 0) → P (level_at soft (record (new_cpu ceiling) { online = online }))
+    from_level : (soft : Soft) (P : SoftLevel → Type 0) → P (level_at soft (record (new_cpu ceiling) { online = online }))
         → P (empty_level ceiling)
     from_level Low P h = h
     from_level Lock P h = h
@@ -144,8 +144,8 @@ start_good cpus ceiling names some = record {
         (λ h. none_and_some ⊥ (found j (new_cpu ceiling).cyclics) refl h) (λ h. none_and_some ⊥ (found j absent.cyclics) refl h)
         cpus n has);
     home = λ j n bound is. none_some (IsSome (found j (cpu_of n (start cpus ceiling names)).cyclics)) (On n bound)
-        (place_of j (start cpus ceiling names)) refl is;
-    stands = λ j e is. none_some (Stands j (start cpus ceiling names)) (OnAll e) (place_of j (start cpus ceiling names)) refl is;
+        (placement_of j (start cpus ceiling names)) refl is;
+    stands = λ j e is. none_some (Stands j (start cpus ceiling names)) (OnAll e) (placement_of j (start cpus ceiling names)) refl is;
   };
 }
 

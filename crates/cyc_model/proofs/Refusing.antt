@@ -11,7 +11,7 @@ use Rattle.cyc_model.specs.Cpu.{Cpu}
 use Rattle.cyc_model.specs.Moving.{must_grow}
 use Rattle.cyc_model.specs.Questions.{plain, has_followed}
 use Rattle.cyc_model.specs.State.{State, Place, On, OnAll, cpu_of}
-use Rattle.cyc_model.specs.Places.{place_of, is_unknown, is_leaving, is_omnipresent, is_everywhere}
+use Rattle.cyc_model.specs.Places.{placement_of, is_unknown, is_leaving, is_omnipresent, is_everywhere}
 use Rattle.cyc_model.specs.Refusals.{when, first_refusal, busy, only_if, no_room, no_cpu, offline_cpu, bad_now, ids_spent}
 use Rattle.cyc_model.specs.Bind.{no_cyclic, omnipresent}
 use Rattle.cyc_model.proofs.Moves.{CanGrow}
@@ -71,10 +71,10 @@ pub nothing_pending : (k : ℕ) (why : Refusal) → when (nat_lt 0 k) why ≡ No
 nothing_pending k why h = let le = ltb-false 0 k (not_when (nat_lt 0 k) why h) in omega (arith, le)
 
 -- a cyclic that is known, and whose removal isn't open
-pub is_cyclic : (id : ℕ) (s : State) → no_cyclic id s ≡ None → IsSome (place_of id s) × (is_leaving id s ≡ false)
+pub is_cyclic : (id : ℕ) (s : State) → no_cyclic id s ≡ None → IsSome (placement_of id s) × (is_leaving id s ≡ false)
 is_cyclic id s h =
     let q = neither (is_unknown id s) (is_leaving id s) (not_when (is_unknown id s || is_leaving id s) NoCyclic h) in
-    (not_not (is_some (place_of id s)) q.0, q.1)
+    (not_not (is_some (placement_of id s)) q.0, q.1)
 
 -- and that is on one CPU
 pub is_single : (o : Option Place) → IsSome o → is_everywhere o ≡ false → (n : ℕ) × (bound : Bool) × (o ≡ Some (On n bound))
@@ -82,5 +82,5 @@ is_single None some not_all = absurd (cc)
 is_single (Some (On n bound)) some not_all = (n, bound, refl)
 is_single (Some (OnAll e)) some not_all = absurd (cc)
 
-pub not_omnipresent : (id : ℕ) (s : State) → omnipresent id s ≡ None → is_everywhere (place_of id s) ≡ false
+pub not_omnipresent : (id : ℕ) (s : State) → omnipresent id s ≡ None → is_everywhere (placement_of id s) ≡ false
 not_omnipresent id s h = not_when (is_omnipresent id s) Omnipresent h

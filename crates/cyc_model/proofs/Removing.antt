@@ -7,11 +7,11 @@ use mathlib.Core.Logic.{dite}
 use native.Mathlib.Decide.{ℕ_discrete}
 use Rattle.cyc_types.specs.Series.{never}
 use Rattle.cyc_level.proofs.Maps.{none_some}
-use Rattle.cyc_model.specs.Cpu.{Cpu, has_cyclic, level_of, others}
+use Rattle.cyc_model.specs.Cpu.{Cpu, has_cyclic, handler_level_of, others}
 use Rattle.cyc_model.specs.Moving.{mark_here, clear_here, moment_at}
 use Rattle.cyc_model.specs.Questions.{plain, outstanding_here}
 use Rattle.cyc_model.specs.State.{State, On, OnAll, Placed, on, cpu_of, nothing, cpus_with}
-use Rattle.cyc_model.specs.Places.{place_of, forgotten}
+use Rattle.cyc_model.specs.Places.{placement_of, forgotten}
 use Rattle.cyc_model.specs.Remove.{clear, clear_if, poll, begin}
 use Rattle.cyc_model.proofs.Agreement.{moment_same}
 use Rattle.cyc_model.proofs.Local.{local_mark, local_clear}
@@ -69,7 +69,7 @@ module _ (n id : ℕ) (s : State) (within : n < length s.cpus) (b : Base None s)
       let e = expired_on n (mark_here n id) (λ k. 0) s within done None None b (shift_mark None n id c) j in
       let l = lost_on n (mark_here n id) (λ k. 0) s within done None None b (shift_mark None n id c) j in
       let p = pending_on n (mark_here n id) (λ k. 0) s within done j in
-      let a = calls_own n j (level_of id c) (Mark id) in let m = losses_own n j (level_of id c) (Mark id) refl in (
+      let a = calls_own n j (handler_level_of id c) (Mark id) in let m = losses_own n j (handler_level_of id c) (Mark id) refl in (
         same_plain (expired_in j t) (expired_in j s) e,
         plus (s.called j) (calls_of j (mark_here n id c).acts) a,
         same_lost (lost_in j t) (lost_in j s) (losses_of j (mark_here n id c).acts) l m,
@@ -108,7 +108,7 @@ module _ (r : State) (id n : ℕ) (s : State) (within : n < length s.cpus) (inv 
       let there = ended_there n id (clear_here n id) s within b done shift less (local_clear n id) in
       let placed = ended_placed n id (clear_here n id) s within b done shift less (local_clear n id) in
       let k = λ (j : ℕ). ended_counts n id (clear_here n id) s within b done shift less (local_clear n id) j
-      (calls_own n j (level_of id c) (Clear id)) (losses_own n j (level_of id c) (Clear id) refl) in record {
+      (calls_own n j (handler_level_of id c) (Clear id)) (losses_own n j (handler_level_of id c) (Clear id) refl) in record {
         goes = ended_goes n id (clear_here n id) s within b done shift less (local_clear n id);
         inv = record {
           base = ended_base n id (clear_here n id) s within b done shift less (local_clear n id);
@@ -215,7 +215,7 @@ module _ (id : ℕ) (s t : State) (g : Good s) (h : Removing id s t) where
       (h.less m (subst (λ k. IsSome (found k (cpu_of m t).cyclics)) e some)))
       (λ ne. sym (h.others j ne m) ∙ some))
 
-  place_after : (j : ℕ) → place_of j t ≡ place_of j s
+  place_after : (j : ℕ) → placement_of j t ≡ placement_of j s
   place_after j = ap (λ ps. option_map (λ (p : Placed). p.place) (entry j ps)) h.steady.placed
 
   -- where a CPU still has the cyclic
@@ -232,7 +232,7 @@ module _ (id : ℕ) (s t : State) (g : Good s) (h : Removing id s t) where
       there = there_after;
       home = λ j m bound is. dite (ℕ_discrete j id)
           (λ e. let at = h.steady.base.homes k id some in
-          let same : place_of id t ≡ Some (On m bound) = ap (λ (i : ℕ). place_of i t) (sym e) ∙ is in
+          let same : placement_of id t ≡ Some (On m bound) = ap (λ (i : ℕ). placement_of i t) (sym e) ∙ is in
           let k_is : m ≡ k = subst (λ o. IsAt k o) same at in
           subst (λ i. IsSome (found i (cpu_of m t).cyclics)) (sym e)
           (subst (λ i. IsSome (found id (cpu_of i t).cyclics)) (sym k_is) some))
@@ -249,7 +249,7 @@ module _ (id : ℕ) (s t : State) (g : Good s) (h : Removing id s t) where
     base = record {
       whole = h.steady.base.whole;
       homes = λ m j some. dite (ℕ_discrete j id)
-          (λ e. none_and_some (IsAt m (place_of j (forgotten id t))) (found j (cpu_of m t).cyclics)
+          (λ e. none_and_some (IsAt m (placement_of j (forgotten id t))) (found j (cpu_of m t).cyclics)
           (ap (λ (k : ℕ). found k (cpu_of m t).cyclics) e ∙ away m) some)
           (λ ne. subst (λ o. IsAt m o) (sym (place_forgotten_other id j t ne)) (h.steady.base.homes m j some));
       rise = rise_filter (λ p. not (p.id == id)) 0 t.last_id t.placed h.steady.base.rise;
@@ -265,12 +265,12 @@ module _ (id : ℕ) (s t : State) (g : Good s) (h : Removing id s t) where
       );
       there = there_after;
       home = λ j m bound is. dite (ℕ_discrete j id)
-          (λ e. none_some (IsSome (found j (cpu_of m t).cyclics)) (On m bound) (place_of j (forgotten id t))
-          (ap (λ (k : ℕ). place_of k (forgotten id t)) e ∙ place_forgotten id t) is)
+          (λ e. none_some (IsSome (found j (cpu_of m t).cyclics)) (On m bound) (placement_of j (forgotten id t))
+          (ap (λ (k : ℕ). placement_of k (forgotten id t)) e ∙ place_forgotten id t) is)
           (λ ne. h.others j ne m ∙ g.spread.home j m bound (sym (place_after j) ∙ sym (place_forgotten_other id j t ne) ∙ is));
       stands = λ j e is. dite (ℕ_discrete j id)
-          (λ q. none_some (Stands j (forgotten id t)) (OnAll e) (place_of j (forgotten id t))
-          (ap (λ (k : ℕ). place_of k (forgotten id t)) q ∙ place_forgotten id t) is)
+          (λ q. none_some (Stands j (forgotten id t)) (OnAll e) (placement_of j (forgotten id t))
+          (ap (λ (k : ℕ). placement_of k (forgotten id t)) q ∙ place_forgotten id t) is)
           (λ ne. stands_else j ne (g.spread.stands j e (sym (place_after j) ∙ sym (place_forgotten_other id j t ne) ∙ is)));
     };
   }
@@ -279,7 +279,7 @@ pub forgotten_gone : (id j : ℕ) (t : State) → IsGone j t → IsGone j (forgo
 forgotten_gone id j t gone = (
   gone.0,
   dite (ℕ_discrete j id)
-      (λ e. ap (λ (k : ℕ). place_of k (forgotten id t)) e ∙ place_forgotten id t)
+      (λ e. ap (λ (k : ℕ). placement_of k (forgotten id t)) e ∙ place_forgotten id t)
       (λ ne. place_forgotten_other id j t ne ∙ gone.1),
 )
 

@@ -8,16 +8,16 @@ use native.Mathlib.Decide.{ℕ_discrete}
 use Rattle.std.specs.Option.{option_map}
 use Rattle.cyc_types.specs.declared.level.Soft.{Soft}
 use Rattle.cyc_types.specs.declared.level.Soft.TheVariants.{Low, Lock}
-use Rattle.cyc_level.specs.Level.{Level}
+use Rattle.cyc_level.specs.Level.{SoftLevel}
 use Rattle.cyc_level.specs.declared.Event.TheVariants.{Mark, Clear}
 use Rattle.cyc_level.proofs.Maps.{none_some}
 use Rattle.cyc_model.specs.Acts.{at_own, calls_of}
-use Rattle.cyc_model.specs.Cpu.{Cpu, Here, cyclic_of, level_of, nothing_here, others}
+use Rattle.cyc_model.specs.Cpu.{Cpu, Here, cyclic_of, handler_level_of, nothing_here, others}
 use Rattle.cyc_model.specs.Moving.{take_here}
 use Rattle.cyc_model.specs.Questions.{plain, outstanding_here}
 use Rattle.cyc_model.specs.Serving.{level_at}
 use Rattle.cyc_model.specs.State.{State, Outcome, Place, On, OnAll, Placed, on, cpu_of, each}
-use Rattle.cyc_model.specs.Places.{place_of, home_at, is_omnipresent, is_everywhere}
+use Rattle.cyc_model.specs.Places.{placement_of, home_at, is_omnipresent, is_everywhere}
 use Rattle.cyc_model.specs.Report.{counts_of}
 use Rattle.cyc_model.specs.Juggle.{juggled, single_ids}
 use Rattle.cyc_model.specs.Offline.{ids_on, retire, go_offline, retire_all, any_pending, last_part, leaving, offline_refusal}
@@ -58,9 +58,9 @@ pub record Retired (n : ℕ) (ids : List ℕ) (s : State) (o : Outcome) : Type 0
 
 take_calls : (n id j : ℕ) (c : Cpu) → calls_of j (take_here n id c).acts ≡ 0
 take_calls n id j c =
-    let a = calls_append j (at_own n (level_of id c) (Mark id)) (at_own n (level_of id (marked_cpu n id c)) (Clear id)) in
-    let b = calls_own n j (level_of id c) (Mark id) in
-    let d = calls_own n j (level_of id (marked_cpu n id c)) (Clear id) in omega (arith, a, b, d)
+    let a = calls_append j (at_own n (handler_level_of id c) (Mark id)) (at_own n (handler_level_of id (marked_cpu n id c)) (Clear id)) in
+    let b = calls_own n j (handler_level_of id c) (Mark id) in
+    let d = calls_own n j (handler_level_of id (marked_cpu n id c)) (Clear id) in omega (arith, a, b, d)
 
 retired : (n : ℕ) (ids : List ℕ) (s : State) → n < length s.cpus → Base None s → (cpu_of n s).removal ≡ None
     → ((j : ℕ) → Has j ids → outstanding_here j (cpu_of n s) ≡ 0) → Retired n ids s (each (retire n) ids s)
@@ -133,11 +133,11 @@ switched_whole b c w = record {
   held = w.held;
 }
   where
-    at_level : (soft : Soft) (P : Level → Type 0) → P (level_at soft c) → P (level_at soft (record c { online = b }))
+    at_level : (soft : Soft) (P : SoftLevel → Type 0) → P (level_at soft c) → P (level_at soft (record c { online = b }))
     at_level Low P h = h
     at_level Lock P h = h
 
-    from_level : (soft : Soft) (P : Level → Type 0) → P (level_at soft (record c { online = b })) → P (level_at soft c)
+    from_level : (soft : Soft) (P : SoftLevel → Type 0) → P (level_at soft (record c { online = b })) → P (level_at soft c)
     from_level Low P h = h
     from_level Lock P h = h
 
@@ -229,16 +229,16 @@ module _ (n other : ℕ) (s : State) (g : Good s) (within : n < length s.cpus) (
   same_u : (m : ℕ) → m ≢ n → cpu_of m u ≡ cpu_of m s
   same_u m ne = switch_elsewhere false n t within_t gone_all.base m ne ∙ gone_all.elsewhere m ne
 
-  place_u : (j : ℕ) → place_of j u ≡ place_of j s
+  place_u : (j : ℕ) → placement_of j u ≡ placement_of j s
   place_u j = ap (λ ps. option_map (λ (p : Placed). p.place) (entry j ps)) gone_all.placed
 
   -- a cyclic that is on one CPU isn't on this one
-  not_home : (j : ℕ) (bound : Bool) → place_of j s ≡ Some (On n bound) → ⊥
+  not_home : (j : ℕ) (bound : Bool) → placement_of j s ≡ Some (On n bound) → ⊥
   not_home j bound is = subst (λ ns. Has j ns) all
       (filtering (λ id. not (is_omnipresent id s)) j (ids_in (cpu_of n s).cyclics)
       (ids_have j (cpu_of n s).cyclics (g.spread.home j n bound is)) (ap (λ o. not (is_everywhere o)) is))
 
-  home_far : (j m : ℕ) (bound : Bool) → place_of j s ≡ Some (On m bound) → m ≢ n
+  home_far : (j m : ℕ) (bound : Bool) → placement_of j s ≡ Some (On m bound) → m ≢ n
   home_far j m bound is e = not_home j bound (is ∙ ap (λ k. Some (On k bound)) e)
 
   view_u : (j m : ℕ) → m ≢ n → found j (cpu_of m u).cyclics ≡ found j (cpu_of m s).cyclics
@@ -288,19 +288,19 @@ module _ (n other : ℕ) (s : State) (g : Good s) (within : n < length s.cpus) (
     ids = ap (λ ps. map (λ (p : Placed). p.id) ps) gone_all.placed;
     cyclics = λ j single. (
       ap is_everywhere (place_u j) ∙ single,
-      ap (λ o. cyclic_of j (cpu_of (home_at o) u)) (place_u j) ∙ by j (place_of j s) refl single,
+      ap (λ o. cyclic_of j (cpu_of (home_at o) u)) (place_u j) ∙ by j (placement_of j s) refl single,
     );
     counts = λ j. switch_counts false n t within_t gone_all.base j ∙ gone_all.counts j;
   }
     where
       -- a gone id is nowhere
-      nowhere : (j m : ℕ) → place_of j s ≡ None → cyclic_of j (cpu_of m u) ≡ cyclic_of j (cpu_of m s)
+      nowhere : (j m : ℕ) → placement_of j s ≡ None → cyclic_of j (cpu_of m u) ≡ cyclic_of j (cpu_of m s)
       nowhere j m none = gone_away None u (switch_base false n t within_t gone_all.base) j (place_u j ∙ none) m
           ∙ sym (gone_away None s g.base j none m)
 
-      by : (j : ℕ) (o : Option Place) → place_of j s ≡ o → is_everywhere (place_of j s) ≡ false
-          → cyclic_of j (cpu_of (home_at (place_of j s)) u) ≡ cyclic_of j (cpu_of (home_at (place_of j s)) s)
-      by j None is single = nowhere j (home_at (place_of j s)) is
+      by : (j : ℕ) (o : Option Place) → placement_of j s ≡ o → is_everywhere (placement_of j s) ≡ false
+          → cyclic_of j (cpu_of (home_at (placement_of j s)) u) ≡ cyclic_of j (cpu_of (home_at (placement_of j s)) s)
+      by j None is single = nowhere j (home_at (placement_of j s)) is
       by j (Some (On m bound)) is single = subst (λ p. cyclic_of j (cpu_of (home_at p) u)
           ≡ cyclic_of j (cpu_of (home_at p) s)) (sym is)
           (view_u j m (home_far j m bound is))

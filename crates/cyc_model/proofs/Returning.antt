@@ -14,7 +14,7 @@ use Rattle.cyc_model.specs.Cpu.{Cyclic, Cpu, cyclic_of, nothing_here}
 use Rattle.cyc_model.specs.Moving.{must_grow, widen_here, put_in, place_here}
 use Rattle.cyc_model.specs.Questions.{plain, has_followed}
 use Rattle.cyc_model.specs.State.{State, Outcome, Place, On, OnAll, Everywhere, Placed, on, cpu_of, each, followed_by}
-use Rattle.cyc_model.specs.Places.{place_of, home_at, is_everywhere, without_ended}
+use Rattle.cyc_model.specs.Places.{placement_of, home_at, is_everywhere, without_ended}
 use Rattle.cyc_model.specs.Refusals.{when, no_cpu, bad_now}
 use Rattle.cyc_model.specs.Online.{staying, online_cpu, no_room_for_all, online_refusal, again, return_at, return_of, go_online}
 use Rattle.cyc_model.specs.Online.{return_all, online}
@@ -44,7 +44,7 @@ use Rattle.cyc_model.proofs.Staying.{stays_closed, not_open, few_staying}
 
 module _ (indexes : ℕ → ℕ) (n id : ℕ) (e : Everywhere) (s : State) (within : n < length s.cpus) (b : Base None s)
     (new : found id (cpu_of n s).cyclics ≡ None) (is_id : IsId id) (fits : length (cpu_of n s).cyclics + 1 ≤ (cpu_of n s).size)
-    (at : place_of id s ≡ Some (OnAll e)) where
+    (at : placement_of id s ≡ Some (OnAll e)) where
   abbrev y : Cyclic
   y = again id n e (s.ended id n) s.clock
 
@@ -92,7 +92,7 @@ module _ (indexes : ℕ → ℕ) (n id : ℕ) (e : Everywhere) (s : State) (with
   back_base =
       let a = base_on n (place_here n (indexes s.admissions) y) (λ j. 0) r within done_back (Some y) None base_r shift_back
       (λ j some. dite (ℕ_discrete id j)
-      (λ same. subst (λ k. IsAt n (place_of k s)) same (subst (λ o. IsAt n o) (sym at) tt))
+      (λ same. subst (λ k. IsAt n (placement_of k s)) same (subst (λ o. IsAt n o) (sym at) tt))
       (λ ne. b.homes n j (subst (λ o. IsSome o) (put_other j y (cpu_of n s).cyclics ne)
       (subst (λ cs. IsSome (found j cs)) (placed_cyclics n (indexes s.admissions) y (cpu_of n s) (b.whole n) is_id new fits)
       some)))) in
@@ -139,7 +139,7 @@ pub record Returned (n : ℕ) (ps : List Placed) (s t : State) : Type 0 where
 
 -- what can come back
 abbrev Ready : ℕ → State → Placed → Type 0
-Ready n s p = ((e : Everywhere) × (p.place ≡ OnAll e)) × (place_of p.id s ≡ Some p.place)
+Ready n s p = ((e : Everywhere) × (p.place ≡ OnAll e)) × (placement_of p.id s ≡ Some p.place)
     × (found p.id (cpu_of n s).cyclics ≡ None)
 
 entry_first : (j : ℕ) (p : Placed) (ps : List Placed) → p.id ≡ j → IsSome (entry j (p ∷ ps))
@@ -167,7 +167,7 @@ returned indexes n low high [] s within b rise fits ready = (
 )
 returned indexes n low high (p ∷ ps) s within b rise fits ready =
     let all = ready.0.0 in let e = all.0 in
-    let at : place_of p.id s ≡ Some (OnAll e) = ready.0.1 ∙ ap Some all.1 in
+    let at : placement_of p.id s ≡ Some (OnAll e) = ready.0.1 ∙ ap Some all.1 in
     let new = ready.0.2 in
     let known = place_known p.id s (OnAll e) b.rise at in
     let few = b.few in let k0 = known.0 in let k1 = known.1 in
@@ -322,7 +322,7 @@ module _ (indexes : ℕ → ℕ) (n : ℕ) (s : State) (g : Good s) (within : n 
   view_v : (j m : ℕ) → m ≢ n → found j (cpu_of m v).cyclics ≡ found j (cpu_of m s).cyclics
   view_v j m ne = ap (λ (c : Cpu). found j c.cyclics) (same_v m ne)
 
-  place_v : (j : ℕ) → place_of j v ≡ place_of j s
+  place_v : (j : ℕ) → placement_of j v ≡ placement_of j s
   place_v j = ap (λ ps. option_map (λ (p : Placed). p.place) (entry j ps)) all_back.1.placed
 
   removal_v : (cpu_of n v).removal ≡ None
@@ -337,7 +337,7 @@ module _ (indexes : ℕ → ℕ) (n : ℕ) (s : State) (g : Good s) (within : n 
   only_v j some = ⊎_elim (λ h. h) (λ h. absurd (away j (subst (λ cs. IsSome (found j cs)) cyclics_t h)))
       (all_back.1.more j (subst (λ (c : Cpu). IsSome (found j c.cyclics)) there_v some))
 
-  home_far : (j m : ℕ) (bound : Bool) → place_of j s ≡ Some (On m bound) → m ≢ n
+  home_far : (j m : ℕ) (bound : Bool) → placement_of j s ≡ Some (On m bound) → m ≢ n
   home_far j m bound is e = away j (subst (λ k. IsSome (found j (cpu_of k s).cyclics)) e (g.spread.home j m bound is))
 
   spread_v : Spread v
@@ -384,18 +384,18 @@ module _ (indexes : ℕ → ℕ) (n : ℕ) (s : State) (g : Good s) (within : n 
     ids = ap (λ ps. map (λ (p : Placed). p.id) ps) all_back.1.placed;
     cyclics = λ j single. (
       ap is_everywhere (place_v j) ∙ single,
-      ap (λ o. cyclic_of j (cpu_of (home_at o) v)) (place_v j) ∙ by j (place_of j s) refl single,
+      ap (λ o. cyclic_of j (cpu_of (home_at o) v)) (place_v j) ∙ by j (placement_of j s) refl single,
     );
     counts = λ j. switch_counts true n u within_u all_back.1.base j ∙ all_back.1.counts j ∙ counts_t j;
   }
     where
-      nowhere : (j m : ℕ) → place_of j s ≡ None → cyclic_of j (cpu_of m v) ≡ cyclic_of j (cpu_of m s)
+      nowhere : (j m : ℕ) → placement_of j s ≡ None → cyclic_of j (cpu_of m v) ≡ cyclic_of j (cpu_of m s)
       nowhere j m none = gone_away None v (switch_base true n u within_u all_back.1.base) j (place_v j ∙ none) m
           ∙ sym (gone_away None s g.base j none m)
 
-      by : (j : ℕ) (o : Option Place) → place_of j s ≡ o → is_everywhere (place_of j s) ≡ false
-          → cyclic_of j (cpu_of (home_at (place_of j s)) v) ≡ cyclic_of j (cpu_of (home_at (place_of j s)) s)
-      by j None is single = nowhere j (home_at (place_of j s)) is
+      by : (j : ℕ) (o : Option Place) → placement_of j s ≡ o → is_everywhere (placement_of j s) ≡ false
+          → cyclic_of j (cpu_of (home_at (placement_of j s)) v) ≡ cyclic_of j (cpu_of (home_at (placement_of j s)) s)
+      by j None is single = nowhere j (home_at (placement_of j s)) is
       by j (Some (On m bound)) is single = subst (λ p. cyclic_of j (cpu_of (home_at p) v)
           ≡ cyclic_of j (cpu_of (home_at p) s)) (sym is)
           (view_v j m (home_far j m bound is))

@@ -9,7 +9,7 @@ use Rattle.cyc_types.specs.declared.level.Soft.{Soft}
 use Rattle.cyc_types.specs.declared.level.Soft.TheVariants.{Low, Lock}
 use Rattle.cyc_level.specs.declared.Event.{Event}
 use Rattle.cyc_level.specs.declared.Event.TheVariants.{Finish}
-use Rattle.cyc_level.specs.Level.{Level, in_hand}
+use Rattle.cyc_level.specs.Level.{SoftLevel, in_hand}
 use Rattle.cyc_level.specs.Events.{after}
 use Rattle.cyc_model.specs.Acts.{Act, At, Call, same_soft, events_at, calls_of, losses_of, loss_of}
 use Rattle.cyc_model.specs.Cpu.{Cpu}
@@ -27,7 +27,7 @@ other Lock = Low
 
 module _ (n : ℕ) (soft : Soft) where
   -- what holds of each event at each level holds along the acts
-  rest_acts : (acts : List Act) (l : Level) → AllActs (λ e. (m : Level) → Rest e m) acts → AllRest (events_at n soft acts) l
+  rest_acts : (acts : List Act) (l : SoftLevel) → AllActs (λ e. (m : SoftLevel) → Rest e m) acts → AllRest (events_at n soft acts) l
   rest_acts [] l h = tt
   rest_acts (Call id ∷ acts) l h = rest_acts acts l h.1
   rest_acts (At m s e ∷ acts) l h = by ((m == n) && same_soft s soft) (rest_acts acts l h.1) (rest_acts acts (after e l) h.1)
@@ -53,7 +53,7 @@ no_losses j (At m s e ∷ acts) h = let z = h.0 in let r = no_losses j acts h.1 
 
 -- ---- each call is finished
 
-finishes_append : (j : ℕ) (xs ys : List Event) (l : Level)
+finishes_append : (j : ℕ) (xs ys : List Event) (l : SoftLevel)
     → all_finishes j (xs ++ ys) l ≡ all_finishes j xs l + all_finishes j ys (level_after xs l)
 finishes_append j [] ys l = none_more (all_finishes j ys l)
   where
@@ -61,14 +61,14 @@ finishes_append j [] ys l = none_more (all_finishes j ys l)
     none_more k = omega arith
 finishes_append j (x ∷ xs) ys l = let h = finishes_append j xs ys (after x l) in omega (arith, h)
 
-no_finish_looks : (j : ℕ) (old new : List ℕ) (b : Bool) (l : Level) → all_finishes j (looks old new b) l ≡ 0
+no_finish_looks : (j : ℕ) (old new : List ℕ) (b : Bool) (l : SoftLevel) → all_finishes j (looks old new b) l ≡ 0
 no_finish_looks j old (x ∷ xs) true l = refl
 no_finish_looks j old [] true l = refl
 no_finish_looks j (x ∷ xs) new false l = refl
 no_finish_looks j [] (y ∷ ys) false l = refl
 no_finish_looks j [] [] false l = refl
 
-no_finish_look : (j : ℕ) (l : Level) → all_finishes j (look l) l ≡ 0
+no_finish_look : (j : ℕ) (l : SoftLevel) → all_finishes j (look l) l ≡ 0
 no_finish_look j l = by (is_some l.drainer_hand)
   where
     by : (b : Bool) → all_finishes j (cond b [] (looks l.old_list l.new_list (l.hard_bank == l.soft_bank))) l ≡ 0
@@ -91,8 +91,8 @@ same_one id j = dite (ℕ_discrete id j)
     (λ ne. ap (λ (b : Bool). cond {A = ℕ} b 1 0) (ne_eqb id j ne)
     ∙ sym (ap (λ (b : Bool). cond {A = ℕ} b 1 0) (ne_eqb j id (λ e. ne (sym e)))))
 
-calls_look : (n : ℕ) (soft : Soft) (j : ℕ) (l : Level) (rest : Level → Interrupt)
-    → ((m : Level) → calls_of j (rest m).acts ≡ all_finishes j (events_at n soft (rest m).acts) m)
+calls_look : (n : ℕ) (soft : Soft) (j : ℕ) (l : SoftLevel) (rest : SoftLevel → Interrupt)
+    → ((m : SoftLevel) → calls_of j (rest m).acts ≡ all_finishes j (events_at n soft (rest m).acts) m)
     → (hand : Option ℕ) → (level_after (look l) l).drainer_hand ≡ hand
     → calls_of j (option_map_or (λ (id : ℕ). calling n soft (look l) id (rest (after Finish (level_after (look l) l)))) hand
     (found_nothing n soft (look l))).acts
@@ -113,7 +113,7 @@ calls_look n soft j l rest more (Some id) is =
     let g = more (after Finish m) in
     omega (arith, a, b, c, d, e, f, g)
 
-calls_serve : (n : ℕ) (soft : Soft) (j budget : ℕ) (l : Level)
+calls_serve : (n : ℕ) (soft : Soft) (j budget : ℕ) (l : SoftLevel)
     → calls_of j (serve n soft budget l).acts ≡ all_finishes j (events_at n soft (serve n soft budget l).acts) l
 calls_serve n soft j zero l = refl
 calls_serve n soft j (suc budget) l =
@@ -124,7 +124,7 @@ calls_serve n soft j (suc budget) l =
 module _ (n budget : ℕ) where
   rest_serve : (soft : Soft) (c : Cpu) → RestAt n (serve n soft budget (level_at soft c)).acts c
   rest_serve soft c at = rest_acts n at (serve n soft budget (level_at soft c)).acts (level_at at c)
-      (acts_of_serve (λ e. (m : Level) → Rest e m) (λ m. tt) (λ m. tt) (λ m. tt) n soft budget (level_at soft c))
+      (acts_of_serve (λ e. (m : SoftLevel) → Rest e m) (λ m. tt) (λ m. tt) (λ m. tt) n soft budget (level_at soft c))
 
   pub done_serve : (soft : Soft) (c : Cpu) → Whole c → Done n (λ j. 0) c (serve_here n soft budget c)
   done_serve soft c w =

@@ -1,7 +1,7 @@
 -- What holds of the acts of each call holds of the acts of each word.
 use Rattle.std.proofs.Common.{ℕ, ◌+◌, ◌==◌, Bool, true, false, cond, List, [], ◌∷◌, ◌++◌, length, Option, Some, None}
 use Rattle.std.specs.Prelude.{⊤}
-use Rattle.cyc_types.specs.declared.level.Level.{Level as CyclicLevel}
+use Rattle.cyc_types.specs.declared.level.Level.{Level}
 use Rattle.cyc_types.specs.declared.level.Level.TheVariants as level
 use Rattle.cyc_level.specs.declared.Event.{Event}
 use Rattle.cyc_level.specs.declared.Event.TheVariants.{Admit, Expire, Lose, Mark, Clear}
@@ -9,7 +9,7 @@ use Rattle.cyc_script.specs.declared.step.Step.{Step}
 use Rattle.cyc_script.specs.declared.step.Step.TheVariants.{Add, Omni, Bind, Unbind, Reprogram, Remove, Advance, Softint, Juggle}
 use Rattle.cyc_script.specs.declared.step.Step.TheVariants.{Offline, Online}
 use Rattle.cyc_model.specs.Acts.{Act, at_own}
-use Rattle.cyc_model.specs.Cpu.{Cyclic, Cpu, Here, happen, level_of, nothing_here, cyclic_of}
+use Rattle.cyc_model.specs.Cpu.{Cyclic, Cpu, Here, happen, handler_level_of, nothing_here, cyclic_of}
 use Rattle.cyc_model.specs.Serving.{level_at, serve}
 use Rattle.cyc_model.specs.Moving.{must_grow, bank_for, switch_here, widen_here, take_here, mark_here, clear_here}
 use Rattle.cyc_model.specs.Questions.{Questions}
@@ -40,7 +40,7 @@ abbrev pub IsNoFire : Step → Type 0
 IsNoFire (Advance now) = ⊥
 IsNoFire _ = ⊤
 
-idle_own : (n : ℕ) (k : CyclicLevel) (e : Event) → IsIdle e → AllActs IsIdle (at_own n k e)
+idle_own : (n : ℕ) (k : Level) (e : Event) → IsIdle e → AllActs IsIdle (at_own n k e)
 idle_own n level.High e is = tt
 idle_own n level.Lock e is = (is, tt)
 idle_own n level.Low e is = (is, tt)
@@ -48,7 +48,7 @@ idle_own n level.Low e is = (is, tt)
 -- P holds of acts between so many admissions before and after them
 module _ (indexes : ℕ → ℕ) (P : List Act → ℕ → ℕ → Type 0) (calm : (acts : List Act) (a : ℕ) → AllActs IsIdle acts → P acts a a)
     (app : (xs ys : List Act) (a b c : ℕ) → P xs a b → P ys b c → P (xs ++ ys) a c)
-    (admit : (n id a : ℕ) (k : CyclicLevel) → P (at_own n k (Admit id (indexes a))) a (a + 1)) where
+    (admit : (n id a : ℕ) (k : Level) → P (at_own n k (Admit id (indexes a))) a (a + 1)) where
   abbrev Shaped : (State → Outcome) → Type 0
   Shaped f = (s : State) → P (f s).acts s.admissions (f s).state.admissions
 
@@ -77,9 +77,9 @@ module _ (indexes : ℕ → ℕ) (P : List Act → ℕ → ℕ → Type 0) (calm
       (admit n x.timer.id s.admissions x.timer.level)
 
   taken : (n id : ℕ) (c : Cpu) (a : ℕ) → P (take_here n id c).acts a a
-  taken n id c a = app (at_own n (level_of id c) (Mark id)) _ a a a
-      (calm (at_own n (level_of id c) (Mark id)) a (idle_own n (level_of id c) (Mark id) tt))
-      (calm _ a (idle_own n (level_of id (happen (at_own n (level_of id c) (Mark id)) c)) (Clear id) tt))
+  taken n id c a = app (at_own n (handler_level_of id c) (Mark id)) _ a a a
+      (calm (at_own n (handler_level_of id c) (Mark id)) a (idle_own n (handler_level_of id c) (Mark id) tt))
+      (calm _ a (idle_own n (handler_level_of id (happen (at_own n (handler_level_of id c) (Mark id)) c)) (Clear id) tt))
 
   shaped_bring : (n : ℕ) (o : Option Cyclic) → Shaped (bring indexes n o)
   shaped_bring n None s = none s.admissions
@@ -107,7 +107,7 @@ module _ (indexes : ℕ → ℕ) (P : List Act → ℕ → ℕ → Type 0) (calm
   shaped_ended n f own (Some x) s = own (cpu_of n s) s.admissions
 
   cleared : (n id : ℕ) (c : Cpu) (a : ℕ) → P (clear_here n id c).acts a a
-  cleared n id c a = calm (at_own n (level_of id c) (Clear id)) a (idle_own n (level_of id c) (Clear id) tt)
+  cleared n id c a = calm (at_own n (handler_level_of id c) (Clear id)) a (idle_own n (handler_level_of id c) (Clear id) tt)
 
   shaped_poll : (q : Questions) (id n : ℕ) → Shaped (poll q id n)
   shaped_poll q id n s = by (q.outstanding n id (cpu_of n s) == 0)
@@ -118,7 +118,7 @@ module _ (indexes : ℕ → ℕ) (P : List Act → ℕ → ℕ → Type 0) (calm
 
   shaped_begin : (q : Questions) (id n : ℕ) → Shaped (begin q id n)
   shaped_begin q id n s = shaped_then (on n (mark_here n id) s) (poll q id n) s
-      (calm (at_own n (level_of id (cpu_of n s)) (Mark id)) s.admissions (idle_own n (level_of id (cpu_of n s)) (Mark id) tt))
+      (calm (at_own n (handler_level_of id (cpu_of n s)) (Mark id)) s.admissions (idle_own n (handler_level_of id (cpu_of n s)) (Mark id) tt))
       (shaped_poll q id n)
 
   shaped_begun : (q : Questions) (step : ℕ) (text : List ℕ) (id : ℕ) (ns : List ℕ) (o : Outcome) (a : ℕ)

@@ -10,7 +10,7 @@ use Rattle.cyc_level.specs.declared.Event.TheVariants.{Admit, Mark, Clear}
 use Rattle.cyc_level.specs.Lawful.{IsId}
 use Rattle.cyc_expirations.specs.Expirations.{Expiration, times_of, after}
 use Rattle.cyc_model.specs.Acts.{Act, at_own, losses_of, loss_of}
-use Rattle.cyc_model.specs.Cpu.{Cyclic, Cpu, Here, level_of, others}
+use Rattle.cyc_model.specs.Cpu.{Cyclic, Cpu, Here, handler_level_of, others}
 use Rattle.cyc_model.specs.Firing.{due_here, fired, fire_here}
 use Rattle.cyc_model.specs.Serving.{level_at, serve, serve_here}
 use Rattle.cyc_model.specs.Moving.{widen_here, put_in, place_here, enter_here, take_here, moment_at, reprogram_here, mark_here}
@@ -82,7 +82,7 @@ pub shift_mark : (way : Option Cyclic) (n id : ℕ) (c : Cpu) → Shift way way 
 shift_mark way n id c = shift_mapped (moment_at id never) (λ x. (moment_counts id never x).0) (λ x. (moment_counts id never x).1)
     way c (mark_here n id c)
     (λ j. ap (found j) (marked_same n id c).0 ∙ found_map (moment_at id never) (λ x. (moment_same id never x).0) j c.cyclics)
-    (λ j. losses_own n j (level_of id c) (Mark id) refl)
+    (λ j. losses_own n j (handler_level_of id c) (Mark id) refl)
 
 -- ---- a cyclic leaves
 
@@ -115,13 +115,13 @@ shift_left id c d gone none = record {
 
 pub shift_clear : (n id : ℕ) (c : Cpu) → Shift None (found id c.cyclics) (λ j. 0) c (clear_here n id c)
 shift_clear n id c = shift_left id c (clear_here n id c) (cleared_cpu n id c).0
-    (λ j. losses_own n j (level_of id c) (Clear id) refl)
+    (λ j. losses_own n j (handler_level_of id c) (Clear id) refl)
 
 pub take_losses : (n id : ℕ) (c : Cpu) (j : ℕ) → losses_of j (take_here n id c).acts ≡ 0
 take_losses n id c j =
-    let a = losses_append j (at_own n (level_of id c) (Mark id)) (at_own n (level_of id (marked_cpu n id c)) (Clear id)) in
-    let b = losses_own n j (level_of id c) (Mark id) refl in
-    let d = losses_own n j (level_of id (marked_cpu n id c)) (Clear id) refl in omega (arith, a, b, d)
+    let a = losses_append j (at_own n (handler_level_of id c) (Mark id)) (at_own n (handler_level_of id (marked_cpu n id c)) (Clear id)) in
+    let b = losses_own n j (handler_level_of id c) (Mark id) refl in
+    let d = losses_own n j (handler_level_of id (marked_cpu n id c)) (Clear id) refl in omega (arith, a, b, d)
 
 pub shift_take : (n id : ℕ) (c : Cpu) → Shift None (found id c.cyclics) (λ j. 0) c (take_here n id c)
 shift_take n id c = shift_left id c (take_here n id c) (taken_cpu n id c).0 (take_losses n id c)

@@ -5,11 +5,11 @@ use Rattle.std.specs.Prelude.{IsSome, is_some}
 use mathlib.Core.Logic.{dite}
 use native.Mathlib.Decide.{ℕ_discrete}
 use Rattle.cyc_types.specs.declared.level.Soft.{Soft}
-use Rattle.cyc_level.specs.Level.{Level, Cyclic as Admitted, bank_size, times_in}
+use Rattle.cyc_level.specs.Level.{SoftLevel, AdmittedCyclic, bank_size, times_in}
 use Rattle.cyc_level.proofs.Maps.{is_some_of}
-use Rattle.cyc_model.specs.Cpu.{Cyclic, Cpu, level_of}
+use Rattle.cyc_model.specs.Cpu.{Cyclic, Cpu, handler_level_of}
 use Rattle.cyc_model.specs.Serving.{level_at}
-use Rattle.cyc_model.specs.Agreement.{as_level}
+use Rattle.cyc_types.specs.Levels.{as_level}
 use Rattle.cyc_model.proofs.Rising.{found, first_not}
 use Rattle.cyc_model.proofs.Fit.{HasFree}
 use Rattle.cyc_model.proofs.Whole.{Whole, no_level}
@@ -47,18 +47,18 @@ spare (suc n) xs few = dite (ℕ_discrete (times_in n xs) 0)
     (λ some. let len = drop_length n xs in let r = spare n (drop n xs) (omega (arith, few, len, some)) in let low = r.1 in
     (r.0, omega (arith, low), sym (drop_other n r.0 xs (λ (e : r.0 ≡ n). omega (arith, low, e))) ∙ r.2))
 
-abbrev index_of : Option Admitted → ℕ
+abbrev index_of : Option AdmittedCyclic → ℕ
 index_of None = 0
 index_of (Some c) = c.index
 
-abbrev used : Level → List Cyclic → List ℕ
+abbrev used : SoftLevel → List Cyclic → List ℕ
 used l cs = map (λ x. index_of (l.cyclics x.timer.id)) cs
 
-used_length : (l : Level) (cs : List Cyclic) → length (used l cs) ≡ length cs
+used_length : (l : SoftLevel) (cs : List Cyclic) → length (used l cs) ≡ length cs
 used_length l [] = refl
 used_length l (x ∷ xs) = ap suc (used_length l xs)
 
-in_used : (l : Level) (cs : List Cyclic) (id : ℕ) (c : Admitted) → IsSome (found id cs) → l.cyclics id ≡ Some c
+in_used : (l : SoftLevel) (cs : List Cyclic) (id : ℕ) (c : AdmittedCyclic) → IsSome (found id cs) → l.cyclics id ≡ Some c
     → 0 < times_in c.index (used l cs)
 in_used l [] id c some is = absurd (cc)
 in_used l (x ∷ xs) id c some is = dite (ℕ_discrete x.timer.id id)
@@ -80,7 +80,7 @@ spare_index soft c w few =
           let same = ap (λ (i : ℕ). times_in i (used l c.cyclics)) e in let none = r.2 in omega (arith, here, same, none);
     }
   where
-    there : (id : ℕ) → level_of id c ≡ as_level soft → IsSome (found id c.cyclics)
+    there : (id : ℕ) → handler_level_of id c ≡ as_level soft → IsSome (found id c.cyclics)
     there id is = by (found id c.cyclics) refl
       where
         by : (o : Option Cyclic) → found id c.cyclics ≡ o → IsSome (found id c.cyclics)

@@ -4,7 +4,7 @@ use Rattle.std.proofs.Common.{◌∙◌, subst, inl, inr, ⊎_elim, ◌⊎◌, a
 use Rattle.std.specs.Prelude.{IsSome, is_some, slice_index_or}
 use Rattle.cyc_model.specs.Cpu.{Cyclic, Cpu}
 use Rattle.cyc_model.specs.State.{State, On, OnAll, Everywhere, absent, cpu_of}
-use Rattle.cyc_model.specs.Places.{place_of}
+use Rattle.cyc_model.specs.Places.{placement_of}
 use Rattle.cyc_model.proofs.Rising.{found}
 use Rattle.cyc_model.proofs.Base.{Base}
 
@@ -27,8 +27,8 @@ pub record Spread (s : State) : Type 0 where
   -- a CPU with a cyclic is online
   pub there : (n j : ℕ) → IsSome (found j (cpu_of n s).cyclics) → (cpu_of n s).online ≡ true
   -- a cyclic that is on one CPU is there
-  pub home : (j n : ℕ) (bound : Bool) → place_of j s ≡ Some (On n bound) → IsSome (found j (cpu_of n s).cyclics)
-  pub stands : (j : ℕ) → ((e : Everywhere) → place_of j s ≡ Some (OnAll e) → Stands j s)
+  pub home : (j n : ℕ) (bound : Bool) → placement_of j s ≡ Some (On n bound) → IsSome (found j (cpu_of n s).cyclics)
+  pub stands : (j : ℕ) → ((e : Everywhere) → placement_of j s ≡ Some (OnAll e) → Stands j s)
 
 -- the machine between two words
 pub record Good (s : State) : Type 0 where
@@ -73,7 +73,7 @@ stands_still j s t h = ⊎_elim
     (λ full. inl ((λ m on. h.ids m ∙ full.0 m (sym (h.online m) ∙ on)), (λ m is. full.1 m (sym (h.removal m) ∙ is))))
     (λ leave. inr ((λ m some. h.removal m ∙ leave.0 m (sym (h.ids m) ∙ some)), (leave.1.0, h.ids leave.1.0 ∙ leave.1.1)))
 
-pub spread_view : (s t : State) → length t.cpus ≡ length s.cpus → ((j : ℕ) → place_of j t ≡ place_of j s)
+pub spread_view : (s t : State) → length t.cpus ≡ length s.cpus → ((j : ℕ) → placement_of j t ≡ placement_of j s)
     → ((m : ℕ) → SameView (cpu_of m s) (cpu_of m t)) → Spread s → Spread t
 spread_view s t len place view h = record {
   some = (h.some.0, subst (λ k. h.some.0 < k) (sym len) h.some.1, (view h.some.0).online ∙ h.some.2);
@@ -93,7 +93,7 @@ has_number s n j some = by s.cpus n some
     by (c ∷ cs) zero h = omega arith
     by (c ∷ cs) (suc k) h = let r = by cs k h in omega (arith, r)
 
-pub is_there : (s : State) → Spread s → (j n : ℕ) (bound : Bool) → place_of j s ≡ Some (On n bound) → n < length s.cpus
+pub is_there : (s : State) → Spread s → (j n : ℕ) (bound : Bool) → placement_of j s ≡ Some (On n bound) → n < length s.cpus
 is_there s h j n bound is = has_number s n j (h.home j n bound is)
 
 -- a cyclic is found, or not

@@ -12,7 +12,7 @@ use Rattle.cyc_level.specs.Level.{bank_size}
 use Rattle.cyc_level.proofs.Maps.{some_same, some_of}
 use Rattle.cyc_model.specs.Cpu.{Cyclic, Cpu, others}
 use Rattle.cyc_model.specs.State.{State, Place, On, OnAll, Everywhere, Placed, absent, cpu_of}
-use Rattle.cyc_model.specs.Places.{place_of, is_leaving}
+use Rattle.cyc_model.specs.Places.{placement_of, is_leaving}
 use Rattle.cyc_model.specs.Online.{is_on_all, staying}
 use Rattle.cyc_model.specs.Laws.{RiseTo}
 use Rattle.cyc_model.proofs.Given.{rise_filter}
@@ -141,7 +141,7 @@ is_all (OnAll e) h = (e, refl)
 -- an omnipresent cyclic that stays
 pub record Stays (s : State) (p : Placed) : Type 0 where
   pub everywhere : (e : Everywhere) × (p.place ≡ OnAll e)
-  pub placed : place_of p.id s ≡ Some p.place
+  pub placed : placement_of p.id s ≡ Some p.place
   pub full : Full p.id s
 
 pub stays_full : (j : ℕ) (s : State) → Stands j s → is_leaving j s ≡ false → Full j s
@@ -162,7 +162,7 @@ not_true false h = refl
 pub staying_all : (s : State) → Good s → Each (Stays s) (staying s)
 staying_all s g = each_then (λ p. ((entry p.id s.placed ≡ Some p) × (not (is_leaving p.id s) ≡ true))
     × (is_on_all p.place ≡ true)) (Stays s)
-    (λ p h. let all = is_all p.place h.1 in let at : place_of p.id s
+    (λ p h. let all = is_all p.place h.1 in let at : placement_of p.id s
     ≡ Some p.place = ap (option_map (λ (q : Placed). q.place)) h.0.0 in record {
       everywhere = all;
       placed = at;
@@ -175,7 +175,7 @@ staying_rise s g = rise_filter (λ p. is_on_all p.place) 0 s.last_id (filter (λ
     (rise_filter (λ p. not (is_leaving p.id s)) 0 s.last_id s.placed g.base.rise)
 
 -- one whose removal isn't open stays, and no other
-pub does_stay : (j : ℕ) (e : Everywhere) (s : State) → place_of j s ≡ Some (OnAll e) → is_leaving j s ≡ false
+pub does_stay : (j : ℕ) (e : Everywhere) (s : State) → placement_of j s ≡ Some (OnAll e) → is_leaving j s ≡ false
     → IsSome (entry j (staying s))
 does_stay j e s is closed = by (entry j s.placed) refl is
   where

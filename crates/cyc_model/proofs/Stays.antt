@@ -8,16 +8,16 @@ use Rattle.cyc_types.specs.Series.{never}
 use Rattle.cyc_types.specs.declared.level.Soft.{Soft}
 use Rattle.cyc_types.specs.declared.level.Soft.TheVariants.{Low, Lock}
 use Rattle.cyc_level.specs.declared.Event.TheVariants.{Admit, Clear}
-use Rattle.cyc_level.specs.Level.{Level, Cyclic as Admitted, Cyclics, count}
+use Rattle.cyc_level.specs.Level.{SoftLevel, AdmittedCyclic, Cyclics, count}
 use Rattle.cyc_level.specs.Lawful.{IsId}
 use Rattle.cyc_level.specs.Events.{after, changed_at, admitted_cyclic}
 use Rattle.cyc_level.proofs.Maps.{some_same, some_of, none_some}
 use Rattle.cyc_model.specs.Acts.{at_own}
-use Rattle.cyc_model.specs.Cpu.{Cyclic, Cpu, Here, level_of, others}
+use Rattle.cyc_model.specs.Cpu.{Cyclic, Cpu, Here, handler_level_of, others}
 use Rattle.cyc_model.specs.Questions.{outstanding_here}
 use Rattle.cyc_model.specs.Serving.{level_at}
 use Rattle.cyc_model.specs.Moving.{widen_here, put_in, place_here, enter_here, clear_here}
-use Rattle.cyc_model.specs.Agreement.{as_level}
+use Rattle.cyc_types.specs.Levels.{as_level}
 use Rattle.cyc_model.proofs.Local.{Local, local_place, local_enter, local_clear}
 use Rattle.cyc_model.proofs.Rising.{Rising, found, put_same, put_other, rising_put, length_put, found_others, rising_others}
 use Rattle.cyc_model.proofs.Rising.{length_others}
@@ -29,7 +29,7 @@ use Rattle.cyc_model.proofs.Moves.{one_hard, CanGrow, widened_cpu, widened_room,
 pub none_and_some : {A : Type 0} (P : Type 0) (o : Option A) → o ≡ None → IsSome o → P
 none_and_some P o none some = let x = some_of o some in none_some P x.0 o none x.1
 
-changed_elsewhere : (m : Cyclics) (id : ℕ) (f : Option Admitted → Option Admitted) (j : ℕ) → j ≢ id → changed_at m id f j ≡ m j
+changed_elsewhere : (m : Cyclics) (id : ℕ) (f : Option AdmittedCyclic → Option AdmittedCyclic) (j : ℕ) → j ≢ id → changed_at m id f j ≡ m j
 changed_elsewhere m id f j ne = ap (λ (b : Bool). cond b (f (m j)) (m j)) (ne_eqb j id ne)
 
 -- ---- a stay begins
@@ -63,15 +63,15 @@ module _ (n index : ℕ) (x : Cyclic) (c : Cpu) (w : Whole c) (is_id : IsId x.ti
       ))
 
   -- the level of another id is as it was
-  elsewhere : (j : ℕ) → j ≢ x.timer.id → level_of j (place_here n index x c).cpu ≡ level_of j c
+  elsewhere : (j : ℕ) → j ≢ x.timer.id → handler_level_of j (place_here n index x c).cpu ≡ handler_level_of j c
   elsewhere j ne = ap (λ cs. level_found (found j cs)) placed_cyclics ∙ ap level_found (put_other j x c.cyclics (λ e. ne (sym e)))
 
-  there : (j : ℕ) → j ≡ x.timer.id → level_of j (place_here n index x c).cpu ≡ x.timer.level
+  there : (j : ℕ) → j ≡ x.timer.id → handler_level_of j (place_here n index x c).cpu ≡ x.timer.level
   there j e = ap (λ cs. level_found (found j cs)) placed_cyclics
       ∙ ap level_found (put_same j x c.cyclics (sym e) (ap (λ (k : ℕ). found k c.cyclics) e ∙ new))
 
   -- an id that is at a soft level of the CPU is another
-  is_other : (j : ℕ) (soft : Soft) → level_of j c ≡ as_level soft → j ≢ x.timer.id
+  is_other : (j : ℕ) (soft : Soft) → handler_level_of j c ≡ as_level soft → j ≢ x.timer.id
   is_other j soft at e = no_level j c (ap (λ (k : ℕ). found k c.cyclics) e ∙ new) soft at
 
   pub done_place : Done n (λ j. 0) c (place_here n index x c)
@@ -90,15 +90,15 @@ module _ (n index : ℕ) (x : Cyclic) (c : Cpu) (w : Whole c) (is_id : IsId x.ti
           back = λ soft j some. dite (ℕ_discrete j x.timer.id)
               (λ same. ⊎_elim
               (λ own. there j same ∙ own.0)
-              (λ away. none_and_some (level_of j d.cpu ≡ as_level soft) ((level_at soft c).cyclics j)
+              (λ away. none_and_some (handler_level_of j d.cpu ≡ as_level soft) ((level_at soft c).cyclics j)
               (not_admitted soft j c w (no_level j c (ap (λ (i : ℕ). found i c.cyclics) same ∙ new) soft))
-              (subst (λ (l : Level). IsSome (l.cyclics j)) away.1 some))
+              (subst (λ (l : SoftLevel). IsSome (l.cyclics j)) away.1 some))
               (own_level n k e c d.cpu local soft))
               (λ ne. elsewhere j ne ∙ w.back soft j (⊎_elim
               (λ own. subst (λ o. IsSome o)
               (changed_elsewhere (level_at soft c).cyclics x.timer.id (λ _. Some (admitted_cyclic index)) j ne)
-              (subst (λ (l : Level). IsSome (l.cyclics j)) own.1 some))
-              (λ away. subst (λ (l : Level). IsSome (l.cyclics j)) away.1 some)
+              (subst (λ (l : SoftLevel). IsSome (l.cyclics j)) own.1 some))
+              (λ away. subst (λ (l : SoftLevel). IsSome (l.cyclics j)) away.1 some)
               (own_level n k e c d.cpu local soft)));
           marks = λ soft j is. let was = w.marks soft j (sym (same_mark soft (own_level n k e c d.cpu local soft)) ∙ is) in
               (placed_removal ∙ was.0, elsewhere j (is_other j soft was.1) ∙ was.1);
@@ -123,7 +123,7 @@ module _ (n index : ℕ) (x : Cyclic) (c : Cpu) (w : Whole c) (is_id : IsId x.ti
           → (P × (level_at soft (place_here n index x c).cpu ≡ after (Admit x.timer.id index) (level_at soft c)))
           ⊎ (Q × (level_at soft (place_here n index x c).cpu ≡ level_at soft c))
           → (level_at soft (place_here n index x c).cpu).marked ≡ (level_at soft c).marked
-      same_mark soft h = ⊎_elim (λ own. ap (λ (l : Level). l.marked) own.1) (λ away. ap (λ (l : Level). l.marked) away.1) h
+      same_mark soft h = ⊎_elim (λ own. ap (λ (l : SoftLevel). l.marked) own.1) (λ away. ap (λ (l : SoftLevel). l.marked) away.1) h
 
 module _ (n index : ℕ) (x : Cyclic) (c : Cpu) (w : Whole c) (is_id : IsId x.timer.id) (new : found x.timer.id c.cyclics ≡ None)
     (can : CanGrow 1 c) where
@@ -165,9 +165,9 @@ cleared_some m id j some = dite (ℕ_discrete j id)
 -- the level of the cyclic forgets it, and the other stays as it is
 abbrev pub Forgets : ℕ → Cpu → Cpu → Soft → Type 0
 Forgets id c p soft =
-    ((level_of id c ≡ as_level soft) × ((level_at soft p).cyclics ≡ changed_at (level_at soft c).cyclics id (λ _. None))
+    ((handler_level_of id c ≡ as_level soft) × ((level_at soft p).cyclics ≡ changed_at (level_at soft c).cyclics id (λ _. None))
     × ((level_at soft p).marked ≡ None))
-    ⊎ ((level_of id c ≢ as_level soft) × (level_at soft p ≡ level_at soft c))
+    ⊎ ((handler_level_of id c ≢ as_level soft) × (level_at soft p ≡ level_at soft c))
 
 pub whole_gone : (n id : ℕ) (c : Cpu) (d : Here) → Whole c → Local n c d → RestAt n d.acts c → d.cpu.cyclics ≡ others id c.cyclics
     → d.cpu.removal ≡ None → d.cpu.size ≡ c.size → ((j : ℕ) → c.removal ≡ Some j → j ≡ id)
@@ -179,13 +179,13 @@ whole_gone n id c d w local rest cyclics removal size alone gone = record {
   back = λ soft j some. ⊎_elim
       (λ own. let was = cleared_some (level_at soft c).cyclics id j (subst (λ (m : Cyclics). IsSome (m j)) own.1 some) in
       kept j was.0 ∙ w.back soft j was.1)
-      (λ away. let at = w.back soft j (subst (λ (l : Level). IsSome (l.cyclics j)) away.1 some) in
-      kept j (λ same. away.0 (ap (λ (i : ℕ). level_of i c) (sym same) ∙ at)) ∙ at)
+      (λ away. let at = w.back soft j (subst (λ (l : SoftLevel). IsSome (l.cyclics j)) away.1 some) in
+      kept j (λ same. away.0 (ap (λ (i : ℕ). handler_level_of i c) (sym same) ∙ at)) ∙ at)
       (gone soft);
   marks = λ soft j is. ⊎_elim
-      (λ own. none_some ((d.cpu.removal ≡ Some j) × (level_of j d.cpu ≡ as_level soft)) j (level_at soft d.cpu).marked own.2 is)
-      (λ away. let was = w.marks soft j (sym (ap (λ (l : Level). l.marked) away.1) ∙ is) in
-      absurd (away.0 (ap (λ (i : ℕ). level_of i c) (sym (alone j was.0)) ∙ was.1)))
+      (λ own. none_some ((d.cpu.removal ≡ Some j) × (handler_level_of j d.cpu ≡ as_level soft)) j (level_at soft d.cpu).marked own.2 is)
+      (λ away. let was = w.marks soft j (sym (ap (λ (l : SoftLevel). l.marked) away.1) ∙ is) in
+      absurd (away.0 (ap (λ (i : ℕ). handler_level_of i c) (sym (alone j was.0)) ∙ was.1)))
       (gone soft);
   marked = λ soft j is at. none_some ((level_at soft d.cpu).marked ≡ Some j) j d.cpu.removal removal is;
   rising = subst (λ cs. Rising 0 cs) (sym cyclics) (rising_others 0 id c.cyclics w.rising);
@@ -195,7 +195,7 @@ whole_gone n id c d w local rest cyclics removal size alone gone = record {
   held = λ j is. none_some (IsSome (found j d.cpu.cyclics)) j d.cpu.removal removal is;
 }
   where
-    kept : (j : ℕ) → j ≢ id → level_of j d.cpu ≡ level_of j c
+    kept : (j : ℕ) → j ≢ id → handler_level_of j d.cpu ≡ handler_level_of j c
     kept j ne = ap (λ cs. level_found (found j cs)) cyclics ∙ ap level_found (found_others j id c.cyclics ne)
 
 pub outstanding_at : (id : ℕ) (c : Cpu) → outstanding_here id c ≡ 0 → (soft : Soft) → count (level_at soft c) id ≡ 0
@@ -216,12 +216,12 @@ module _ (n id : ℕ) (c : Cpu) where
   pub cleared_cpu : ((clear_here n id c).cpu.cyclics ≡ others id c.cyclics) × ((clear_here n id c).cpu.removal ≡ None)
       × ((clear_here n id c).cpu.size ≡ c.size) × ((clear_here n id c).cpu.online ≡ c.online)
   cleared_cpu =
-      let same = same_happen (at_own n (level_of id c) (Clear id)) (record c { cyclics = others id c.cyclics; removal = None }) in
+      let same = same_happen (at_own n (handler_level_of id c) (Clear id)) (record c { cyclics = others id c.cyclics; removal = None }) in
       (same.cyclics, same.removal, same.size, same.online)
 
   pub done_clear : Whole c → c.removal ≡ Some id → outstanding_here id c ≡ 0 → Done n (λ j. 0) c (clear_here n id c)
   done_clear w is none =
-      let k = level_of id c in let d = clear_here n id c in
+      let k = handler_level_of id c in let d = clear_here n id c in
       let local = local_clear n id c in
       let rest = rest_own n k (Clear id) c (λ soft at. (w.marked soft id is at, outstanding_at id c none soft)) in record {
         local = local;
@@ -230,7 +230,7 @@ module _ (n id : ℕ) (c : Cpu) where
         whole = whole_gone n id c d w local rest cleared_cpu.0 cleared_cpu.1 cleared_cpu.2
             (λ j at. some_same j id (sym at ∙ is))
             (λ soft. ⊎_elim
-            (λ own. inl (own.0, ap (λ (l : Level). l.cyclics) own.1, ap (λ (l : Level). l.marked) own.1))
+            (λ own. inl (own.0, ap (λ (l : SoftLevel). l.cyclics) own.1, ap (λ (l : SoftLevel). l.marked) own.1))
             (λ away. inr away)
             (own_level n k (Clear id) c d.cpu local soft));
       }

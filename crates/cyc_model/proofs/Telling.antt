@@ -33,7 +33,7 @@ use Rattle.cyc_model.specs.Offline.{retire, retire_all, go_offline, last_part, l
 use Rattle.cyc_model.specs.Online.{return_at, return_of, return_all, go_online, staying, again}
 use Rattle.cyc_model.specs.Script.{refusal_of, does, word, steps_from, text_in, start}
 use Rattle.cyc_model.specs.Laws.{level_on, Tells, HandsAreFree, SoftSideIsEnabled}
-use Rattle.cyc_level.specs.Level.{Level}
+use Rattle.cyc_level.specs.Level.{SoftLevel}
 use Rattle.cyc_model.proofs.Events.{level_append, events_append, calls_append}
 use Rattle.cyc_model.specs.Agreement.{Agrees, AllAgree, CpusAgree, AllReady, FiringSideIsReady}
 use Rattle.cyc_model.proofs.Agreement.{agrees_with, agree_at, agree_set}
@@ -129,7 +129,7 @@ Telling f = (s : State) → Tale (f s).acts s (f s).state
 pub free_after : (acts : List Act) (s t : State) → Tale acts s t → HandsAreFree s → HandsAreFree t
 free_after acts s t h free n within soft =
     let w = subst (λ k. n < k) h.tells.as_many within in
-    ap (λ (l : Level). l.firer_hand) (h.tells.levels n w soft) ∙ (h.fair free n w soft).1
+    ap (λ (l : SoftLevel). l.firer_hand) (h.tells.levels n w soft) ∙ (h.fair free n w soft).1
 
 tells_alike : (s t : State) → Alike s t → Tale [] s t
 tells_alike s t same = record {
@@ -143,12 +143,12 @@ tells_from : (acts : List Act) (s r t : State) → Alike s r → Tale acts r t �
 tells_from acts s r t same h = record {
   tells = told_from acts s r t same h.tells;
   fair = λ free n within soft. subst (λ l. Fair (events_at n soft acts) l) (level_same n soft)
-      (h.fair (λ m w k. ap (λ (l : Level). l.firer_hand) (level_same m k) ∙ free m (subst (λ j. m < j) (ap length same.0) w) k)
+      (h.fair (λ m w k. ap (λ (l : SoftLevel). l.firer_hand) (level_same m k) ∙ free m (subst (λ j. m < j) (ap length same.0) w) k)
       n (subst (λ j. n < j) (sym (ap length same.0)) within) soft);
   agree = λ a. h.agree (subst AllAgree (sym same.0) a);
   ready = λ a free n within soft. subst (λ l. AllReady (events_at n soft acts) l) (level_same n soft)
       (h.ready (subst AllAgree (sym same.0) a)
-      (λ m w k. ap (λ (l : Level). l.firer_hand) (level_same m k) ∙ free m (subst (λ j. m < j) (ap length same.0) w) k)
+      (λ m w k. ap (λ (l : SoftLevel). l.firer_hand) (level_same m k) ∙ free m (subst (λ j. m < j) (ap length same.0) w) k)
       n (subst (λ j. n < j) (sym (ap length same.0)) within) soft);
 }
   where

@@ -9,11 +9,11 @@ use Rattle.cyc_level.specs.Lawful.{IsId}
 use Rattle.cyc_level.proofs.Maps.{some_of, none_some}
 use Rattle.cyc_text.specs.declared.lines.Counts.{Counts}
 use Rattle.cyc_model.specs.Acts.{at_own, calls_of, losses_of}
-use Rattle.cyc_model.specs.Cpu.{Cyclic, Cpu, cyclic_of, level_of}
+use Rattle.cyc_model.specs.Cpu.{Cyclic, Cpu, cyclic_of, handler_level_of}
 use Rattle.cyc_model.specs.Questions.{outstanding_here}
 use Rattle.cyc_model.specs.Moving.{take_here, enter_here, widen_here}
 use Rattle.cyc_model.specs.State.{State, Outcome, Place, On, OnAll, Placed, on, cpu_of, followed_by}
-use Rattle.cyc_model.specs.Places.{place_of, put_at, replaced, home_of, home_at, is_bound, is_everywhere}
+use Rattle.cyc_model.specs.Places.{placement_of, put_at, replaced, home_of, home_at, is_bound, is_everywhere}
 use Rattle.cyc_model.specs.Add.{enter}
 use Rattle.cyc_model.specs.Bind.{bring, move}
 use Rattle.cyc_model.specs.Kept.{Kept}
@@ -64,12 +64,12 @@ replaced_ids id place (p ∷ ps) = ap (λ (k : ℕ). k ∷ map (λ (q : Placed).
     by false = refl
 
 -- it is put down as on the CPU where it is already
-pub kept_put : (id n : ℕ) (bound was : Bool) (s : State) → place_of id s ≡ Some (On n was) → Kept s (put_at id (On n bound) s)
+pub kept_put : (id n : ℕ) (bound was : Bool) (s : State) → placement_of id s ≡ Some (On n was) → Kept s (put_at id (On n bound) s)
 kept_put id n bound was s at = record {
   ids = replaced_ids id (On n bound) s.placed;
   cyclics = λ j single. dite (ℕ_discrete j id)
-      (λ e. let here = ap (λ (k : ℕ). place_of k (put_at id (On n bound) s)) e ∙ place_put_same id (On n bound) s (On n was) at in
-      let there = ap (λ (k : ℕ). place_of k s) e ∙ at in (
+      (λ e. let here = ap (λ (k : ℕ). placement_of k (put_at id (On n bound) s)) e ∙ place_put_same id (On n bound) s (On n was) at in
+      let there = ap (λ (k : ℕ). placement_of k s) e ∙ at in (
         ap is_everywhere here,
         ap (λ o. cyclic_of j (cpu_of (home_at o) s)) (here ∙ by) ∙ sym (ap (λ o. cyclic_of j (cpu_of (home_at o) s)) there),
       ))
@@ -91,10 +91,10 @@ pub record Moved (id target : ℕ) (s : State) (o : Outcome) : Type 0 where
   pub removal : (m : ℕ) → (cpu_of m o.state).removal ≡ (cpu_of m s).removal
   pub online : (m : ℕ) → (cpu_of m o.state).online ≡ (cpu_of m s).online
   pub others : (j : ℕ) → j ≢ id → (m : ℕ) → found j (cpu_of m o.state).cyclics ≡ found j (cpu_of m s).cyclics
-  pub place : (bound : Bool) × (place_of id o.state ≡ Some (On target bound))
-  pub places : (j : ℕ) → j ≢ id → place_of j o.state ≡ place_of j s
+  pub place : (bound : Bool) × (placement_of id o.state ≡ Some (On target bound))
+  pub places : (j : ℕ) → j ≢ id → placement_of j o.state ≡ placement_of j s
 
-module _ (indexes : ℕ → ℕ) (id source target : ℕ) (s : State) (g : Good s) (bound : Bool) (at : place_of id s
+module _ (indexes : ℕ → ℕ) (id source target : ℕ) (s : State) (g : Good s) (bound : Bool) (at : placement_of id s
     ≡ Some (On source bound))
     (apart : target ≢ source) (within : target < length s.cpus) (online : (cpu_of target s).online ≡ true)
     (free : (cpu_of source s).removal ≡ None) (none : outstanding_here id (cpu_of source s)
@@ -153,14 +153,14 @@ module _ (indexes : ℕ → ℕ) (id source target : ℕ) (s : State) (g : Good 
   goes1 : Goes (on source (take_here source id) s).acts s t1
   goes1 = goes_on source (take_here source id) (λ j. 0) s here taken None g.base (local_take source id) (λ j no. refl)
 
-  place1 : place_of id t2 ≡ Some (On target (is_bound id t1))
+  place1 : placement_of id t2 ≡ Some (On target (is_bound id t1))
   place1 = place_put_same id (On target (is_bound id t1)) t1 (On source bound) at
 
   gone1 : (j : ℕ) → IsGone j t1 → IsGone j t2
   gone1 j gone = (
     gone.0,
     place_put_other id j (On target (is_bound id t1)) t1
-        (λ e. none_some ⊥ (On source bound) (place_of j t1) gone.1 (ap (λ (k : ℕ). place_of k t1) e ∙ at)) ∙ gone.1,
+        (λ e. none_some ⊥ (On source bound) (placement_of j t1) gone.1 (ap (λ (k : ℕ). placement_of k t1) e ∙ at)) ∙ gone.1,
   )
 
   module _ (x : Cyclic) (is : found id (cpu_of source s).cyclics ≡ Some x) where
@@ -174,7 +174,7 @@ module _ (indexes : ℕ → ℕ) (id source target : ℕ) (s : State) (g : Good 
     base1 : Base (Some x) t1
     base1 = base_on source (take_here source id) (λ j. 0) s here taken None (Some x) g.base shift1
         (λ j some. dite (ℕ_discrete j id)
-        (λ e. none_and_some (IsAt source (place_of j s)) (found j (take_here source id (cpu_of source s)).cpu.cyclics)
+        (λ e. none_and_some (IsAt source (placement_of j s)) (found j (take_here source id (cpu_of source s)).cpu.cyclics)
         (ap (λ (k : ℕ). found k (take_here source id (cpu_of source s)).cpu.cyclics) e
         ∙ ap (found id) (taken_cpu source id (cpu_of source s)).0 ∙ found_gone id (cpu_of source s).cyclics) some)
         (λ ne. g.base.homes source j (subst (λ o. IsSome o) (ap (found j) (taken_cpu source id (cpu_of source s)).0
@@ -184,7 +184,7 @@ module _ (indexes : ℕ → ℕ) (id source target : ℕ) (s : State) (g : Good 
     base2 = record {
       whole = base1.whole;
       homes = λ m j some. dite (ℕ_discrete j id)
-          (λ e. none_and_some (IsAt m (place_of j t2)) (found j (cpu_of m t1).cyclics)
+          (λ e. none_and_some (IsAt m (placement_of j t2)) (found j (cpu_of m t1).cyclics)
           (ap (λ (k : ℕ). found k (cpu_of m t1).cyclics) e ∙ away1 m) some)
           (λ ne. subst (λ o. IsAt m o) (sym (place_put_other id j (On target (is_bound id t1)) t1 ne)) (base1.homes m j some));
       rise = rise_map 0 s.last_id id (On target (is_bound id t1)) s.placed g.base.rise;
@@ -205,8 +205,8 @@ module _ (indexes : ℕ → ℕ) (id source target : ℕ) (s : State) (g : Good 
     can2 : CanGrow 1 (cpu_of target t2)
     can2 = subst (λ c. CanGrow 1 c) (sym (other1 target apart)) can
 
-    at2 : IsAt target (place_of x.timer.id t2)
-    at2 = subst (λ o. IsAt target o) (sym (ap (λ (k : ℕ). place_of k t2) x_id ∙ place1)) refl
+    at2 : IsAt target (placement_of x.timer.id t2)
+    at2 = subst (λ o. IsAt target o) (sym (ap (λ (k : ℕ). placement_of k t2) x_id ∙ place1)) refl
 
     abbrev t3 : State
     t3 = (enter indexes target x t2).state
@@ -223,7 +223,7 @@ module _ (indexes : ℕ → ℕ) (id source target : ℕ) (s : State) (g : Good 
     online3 : (m : ℕ) → (cpu_of m t3).online ≡ (cpu_of m s).online
     online3 m = enter_online indexes target x t2 within2 base2 new2 is_id2 can2 at2 m ∙ online1 m
 
-    places3 : (j : ℕ) → j ≢ id → place_of j t3 ≡ place_of j s
+    places3 : (j : ℕ) → j ≢ id → placement_of j t3 ≡ placement_of j s
     places3 j ne = place_put_other id j (On target (is_bound id t1)) t1 ne
 
     found3 : found id (cpu_of target t3).cyclics ≡ Some x
@@ -249,14 +249,14 @@ module _ (indexes : ℕ → ℕ) (id source target : ℕ) (s : State) (g : Good 
           (ap (λ (k : ℕ). found k (cpu_of m t3).cyclics) e ∙ only3 m ne) some))
           (λ ne. online3 m ∙ g.spread.there m j (subst (λ o. IsSome o) (others3 j ne m) some));
       home = λ j m b is_on. dite (ℕ_discrete j id)
-          (λ e. let same : Some (On target (is_bound id t1)) ≡ Some (On m b) = sym (ap (λ (k : ℕ). place_of k t2) e ∙ place1)
+          (λ e. let same : Some (On target (is_bound id t1)) ≡ Some (On m b) = sym (ap (λ (k : ℕ). placement_of k t2) e ∙ place1)
           ∙ is_on in
           subst (λ k. IsSome (found j (cpu_of k t3).cyclics)) (ap (λ o. home_at o) same)
           (ap is_some (ap (λ (k : ℕ). found k (cpu_of target t3).cyclics) e ∙ found3)))
           (λ ne. subst (λ o. IsSome o) (sym (others3 j ne m)) (g.spread.home j m b (sym (places3 j ne) ∙ is_on)));
       stands = λ j e is_all. dite (ℕ_discrete j id)
           (λ q. absurd (let no : Some (On target (is_bound id t1))
-          ≡ Some (OnAll e) = sym (ap (λ (k : ℕ). place_of k t2) q ∙ place1) ∙ is_all in
+          ≡ Some (OnAll e) = sym (ap (λ (k : ℕ). placement_of k t2) q ∙ place1) ∙ is_all in
           let no2 : false ≡ true = ap is_everywhere no in cc))
           (λ ne. stands_still j s t3 (record { ids = λ m. ap is_some (others3 j ne m); removal = removal3; online = online3 })
           (g.spread.stands j e (sym (places3 j ne) ∙ is_all)));
@@ -269,7 +269,7 @@ module _ (indexes : ℕ → ℕ) (id source target : ℕ) (s : State) (g : Good 
         in record {
           ids = replaced_ids id (On target (is_bound id t1)) s.placed;
           cyclics = λ j single. dite (ℕ_discrete j id)
-              (λ e. let now = ap (λ (k : ℕ). place_of k t2) e ∙ place1 in let was = ap (λ (k : ℕ). place_of k s) e ∙ at in (
+              (λ e. let now = ap (λ (k : ℕ). placement_of k t2) e ∙ place1 in let was = ap (λ (k : ℕ). placement_of k s) e ∙ at in (
                 ap is_everywhere now,
                 ap (λ o. found j (cpu_of (home_at o) t3).cyclics) now ∙ ap (λ (k : ℕ). found k (cpu_of target t3).cyclics) e
                     ∙ found3
@@ -310,10 +310,10 @@ module _ (indexes : ℕ → ℕ) (id source target : ℕ) (s : State) (g : Good 
         take_calls : (j : ℕ) → calls_of j (take_here source id (cpu_of source s)).acts ≡ 0
         take_calls j =
             let c = cpu_of source s in
-            let a = calls_append j (at_own source (level_of id c) (Mark id))
-            (at_own source (level_of id (marked_cpu source id c)) (Clear id)) in
-            let b = calls_own source j (level_of id c) (Mark id) in
-            let d = calls_own source j (level_of id (marked_cpu source id c)) (Clear id) in omega (arith, a, b, d)
+            let a = calls_append j (at_own source (handler_level_of id c) (Mark id))
+            (at_own source (handler_level_of id (marked_cpu source id c)) (Clear id)) in
+            let b = calls_own source j (handler_level_of id c) (Mark id) in
+            let d = calls_own source j (handler_level_of id (marked_cpu source id c)) (Clear id) in omega (arith, a, b, d)
 
         enter_calls : (j : ℕ) → calls_of j (enter_here target (indexes t2.admissions) x (cpu_of target t2)).acts ≡ 0
         enter_calls j =

@@ -6,18 +6,19 @@ use Rattle.std.specs.Option.{option_map, option_map_or}
 use Rattle.cyc_types.specs.Series.{never}
 use Rattle.cyc_types.specs.declared.level.Soft.{Soft}
 use Rattle.cyc_types.specs.declared.level.Soft.TheVariants.{Low, Lock}
-use Rattle.cyc_types.specs.declared.level.Level.{Level as CyclicLevel}
+use Rattle.cyc_types.specs.declared.level.Level.{Level}
 use Rattle.cyc_types.specs.declared.level.Level.TheVariants as level
 use Rattle.cyc_level.specs.declared.Event.{Event}
 use Rattle.cyc_level.specs.declared.Event.TheVariants.{Admit, Expire, Lose, Publish, Take, Finish, Mark, Clear, Switch, Follow}
-use Rattle.cyc_level.specs.Level.{Level, Cyclic as Admitted, Cyclics, count, count_in}
+use Rattle.cyc_level.specs.Level.{SoftLevel, AdmittedCyclic, Cyclics, count, count_in}
 use Rattle.cyc_level.specs.Events.{after, after_finish, changed_at, cyclic_after_expire, cyclic_after_lose, cyclic_after_finish}
 use Rattle.cyc_level.proofs.Maps.{is_some_of}
 use Rattle.cyc_model.specs.Acts.{Act, At, Call, at_own, same_soft, events_at, calls_of, losses_of, loss_of}
-use Rattle.cyc_model.specs.Cpu.{Cyclic, Cpu, Here, cpu_after, happen, then_here, level_of}
+use Rattle.cyc_model.specs.Cpu.{Cyclic, Cpu, Here, cpu_after, happen, then_here, handler_level_of}
 use Rattle.cyc_model.specs.Questions.{outstanding_here}
 use Rattle.cyc_model.specs.Serving.{level_at, level_after}
-use Rattle.cyc_model.specs.Agreement.{as_level, Agrees}
+use Rattle.cyc_types.specs.Levels.{as_level}
+use Rattle.cyc_model.specs.Agreement.{Agrees}
 use Rattle.cyc_model.proofs.Agreement.{AllActs}
 use Rattle.cyc_model.proofs.Events.{events_append, calls_append}
 use Rattle.cyc_model.proofs.Local.{Local}
@@ -29,11 +30,11 @@ pub record Whole (c : Cpu) : Type 0 where
   pub free : (soft : Soft) → (level_at soft c).firer_hand ≡ None
   pub fit : (soft : Soft) → Fit (level_at soft c)
   -- what is admitted is a cyclic of the level
-  pub back : (soft : Soft) (id : ℕ) → IsSome ((level_at soft c).cyclics id) → level_of id c ≡ as_level soft
+  pub back : (soft : Soft) (id : ℕ) → IsSome ((level_at soft c).cyclics id) → handler_level_of id c ≡ as_level soft
   -- the marked id is the one whose removal is open
   pub marks : (soft : Soft) (id : ℕ) → (level_at soft c).marked ≡ Some id
-      → (c.removal ≡ Some id) × (level_of id c ≡ as_level soft)
-  pub marked : (soft : Soft) (id : ℕ) → c.removal ≡ Some id → level_of id c ≡ as_level soft → (level_at soft c).marked ≡ Some id
+      → (c.removal ≡ Some id) × (handler_level_of id c ≡ as_level soft)
+  pub marked : (soft : Soft) (id : ℕ) → c.removal ≡ Some id → handler_level_of id c ≡ as_level soft → (level_at soft c).marked ≡ Some id
   pub rising : Rising 0 c.cyclics
   pub room : length c.cyclics ≤ c.size
   -- it doesn't expire, and is on the CPU
@@ -78,10 +79,10 @@ abbrev pub AllSteady : List Event → Type 0
 AllSteady [] = ⊤
 AllSteady (e ∷ es) = IsSteady e × AllSteady es
 
-changed_back : (m : Cyclics) (id : ℕ) (f : Admitted → Admitted) (j : ℕ) → IsSome (changed_at m id (option_map f) j) → IsSome (m j)
+changed_back : (m : Cyclics) (id : ℕ) (f : AdmittedCyclic → AdmittedCyclic) (j : ℕ) → IsSome (changed_at m id (option_map f) j) → IsSome (m j)
 changed_back m id f j = by (j == id)
   where
-    mapped : (o : Option Admitted) → IsSome (option_map f o) → IsSome o
+    mapped : (o : Option AdmittedCyclic) → IsSome (option_map f o) → IsSome o
     mapped None h = h
     mapped (Some c) h = refl
 
@@ -89,15 +90,15 @@ changed_back m id f j = by (j == id)
     by true h = mapped (m j) h
     by false h = h
 
-finish_back : (hand : Option ℕ) (l : Level) (j : ℕ) → IsSome ((after_finish hand l).cyclics j) → IsSome (l.cyclics j)
+finish_back : (hand : Option ℕ) (l : SoftLevel) (j : ℕ) → IsSome ((after_finish hand l).cyclics j) → IsSome (l.cyclics j)
 finish_back None l j h = h
 finish_back (Some id) l j h = changed_back l.cyclics id cyclic_after_finish j h
 
-finish_marked : (hand : Option ℕ) (l : Level) → (after_finish hand l).marked ≡ l.marked
+finish_marked : (hand : Option ℕ) (l : SoftLevel) → (after_finish hand l).marked ≡ l.marked
 finish_marked None l = refl
 finish_marked (Some id) l = refl
 
-steady_back : (e : Event) (l : Level) (j : ℕ) → IsSteady e → IsSome ((after e l).cyclics j) → IsSome (l.cyclics j)
+steady_back : (e : Event) (l : SoftLevel) (j : ℕ) → IsSteady e → IsSome ((after e l).cyclics j) → IsSome (l.cyclics j)
 steady_back (Admit id index) l j is h = absurd is
 steady_back (Expire id) l j is h = changed_back l.cyclics id cyclic_after_expire j h
 steady_back (Lose id) l j is h = changed_back l.cyclics id cyclic_after_lose j h
@@ -109,7 +110,7 @@ steady_back (Clear id) l j is h = absurd is
 steady_back (Switch bank) l j is h = h
 steady_back Follow l j is h = h
 
-steady_marked : (e : Event) (l : Level) → IsSteady e → (after e l).marked ≡ l.marked
+steady_marked : (e : Event) (l : SoftLevel) → IsSteady e → (after e l).marked ≡ l.marked
 steady_marked (Admit id index) l is = absurd is
 steady_marked (Expire id) l is = refl
 steady_marked (Lose id) l is = refl
@@ -121,11 +122,11 @@ steady_marked (Clear id) l is = absurd is
 steady_marked (Switch bank) l is = refl
 steady_marked Follow l is = refl
 
-pub all_back : (es : List Event) (l : Level) (j : ℕ) → AllSteady es → IsSome ((level_after es l).cyclics j) → IsSome (l.cyclics j)
+pub all_back : (es : List Event) (l : SoftLevel) (j : ℕ) → AllSteady es → IsSome ((level_after es l).cyclics j) → IsSome (l.cyclics j)
 all_back [] l j is h = h
 all_back (e ∷ es) l j is h = steady_back e l j is.0 (all_back es (after e l) j is.1 h)
 
-pub all_marked : (es : List Event) (l : Level) → AllSteady es → (level_after es l).marked ≡ l.marked
+pub all_marked : (es : List Event) (l : SoftLevel) → AllSteady es → (level_after es l).marked ≡ l.marked
 all_marked [] l is = refl
 all_marked (e ∷ es) l is = all_marked es (after e l) is.1 ∙ steady_marked e l is.0
 
@@ -151,14 +152,14 @@ module _ (n : ℕ) (c : Cpu) (d : Here) (w : Whole c) (h : Local n c d) (rest : 
       (h.ready w.agrees soft (w.free soft)) (rest soft))
 
   pub free_here : (soft : Soft) → (level_at soft d.cpu).firer_hand ≡ None
-  free_here soft = ap (λ (l : Level). l.firer_hand) (h.levels soft) ∙ (h.fair soft (w.free soft)).1
+  free_here soft = ap (λ (l : SoftLevel). l.firer_hand) (h.levels soft) ∙ (h.fair soft (w.free soft)).1
 
   -- the outstanding calls of an id
   pub count_here : (soft : Soft) (j : ℕ)
       → count (level_at soft d.cpu) j + all_finishes j (events_at n soft d.acts) (level_at soft c)
       ≡ count (level_at soft c) j + all_brings j (events_at n soft d.acts)
   count_here soft j =
-      ap (λ (l : Level). count l j + all_finishes j (events_at n soft d.acts) (level_at soft c)) (h.levels soft)
+      ap (λ (l : SoftLevel). count l j + all_finishes j (events_at n soft d.acts) (level_at soft c)) (h.levels soft)
       ∙ count_along (events_at n soft d.acts) (level_at soft c) j (w.fit soft) (h.fair soft (w.free soft)).0
       (h.ready w.agrees soft (w.free soft)) (rest soft)
 
@@ -170,7 +171,7 @@ module _ (n : ℕ) (c : Cpu) (d : Here) (w : Whole c) (h : Local n c d) (rest : 
     free = free_here;
     fit = fit_here;
     back = λ soft id some. at_level id ∙ w.back soft id (all_back (events_at n soft d.acts) (level_at soft c) id (steady soft)
-        (subst (λ (l : Level). IsSome (l.cyclics id)) (h.levels soft) some));
+        (subst (λ (l : SoftLevel). IsSome (l.cyclics id)) (h.levels soft) some));
     marks = λ soft id is. let was = w.marks soft id (sym (same_mark soft) ∙ is) in (removal ∙ was.0, at_level id ∙ was.1);
     marked = λ soft id is at. same_mark soft ∙ w.marked soft id (sym removal ∙ is) (sym (at_level id) ∙ at);
     rising = subst (Rising 0) (sym cyclics) w.rising;
@@ -179,11 +180,11 @@ module _ (n : ℕ) (c : Cpu) (d : Here) (w : Whole c) (h : Local n c d) (rest : 
     held = λ id is. subst (λ cs. IsSome (found id cs)) (sym cyclics) (w.held id (sym removal ∙ is));
   }
     where
-      at_level : (id : ℕ) → level_of id d.cpu ≡ level_of id c
+      at_level : (id : ℕ) → handler_level_of id d.cpu ≡ handler_level_of id c
       at_level id = ap (λ cs. option_map_or (λ (x : Cyclic). x.timer.level) (found id cs) level.High) cyclics
 
       same_mark : (soft : Soft) → (level_at soft d.cpu).marked ≡ (level_at soft c).marked
-      same_mark soft = ap (λ (l : Level). l.marked) (h.levels soft)
+      same_mark soft = ap (λ (l : SoftLevel). l.marked) (h.levels soft)
           ∙ all_marked (events_at n soft d.acts) (level_at soft c) (steady soft)
 
   pub whole_onward : Same c d.cpu → ((soft : Soft) → AllSteady (events_at n soft d.acts)) → Whole d.cpu
@@ -206,13 +207,13 @@ losses_append id [] ys = plain (losses_of id ys)
 losses_append id (At n soft e ∷ xs) ys = let h = losses_append id xs ys in omega (arith, h)
 losses_append id (Call j ∷ xs) ys = losses_append id xs ys
 
-pub rest_append : (xs ys : List Event) (l : Level) → AllRest xs l → AllRest ys (level_after xs l) → AllRest (xs ++ ys) l
+pub rest_append : (xs ys : List Event) (l : SoftLevel) → AllRest xs l → AllRest ys (level_after xs l) → AllRest (xs ++ ys) l
 rest_append [] ys l first rest = rest
 rest_append (x ∷ xs) ys l first rest = (first.0, rest_append xs ys (after x l) first.1 rest)
 
 -- ---- one event of a cyclic at its level
 
-pub own_cases : (n : ℕ) (k : CyclicLevel) (soft : Soft) (e : Event)
+pub own_cases : (n : ℕ) (k : Level) (soft : Soft) (e : Event)
     → ((k ≡ as_level soft) × (events_at n soft (at_own n k e) ≡ e ∷ []))
     ⊎ ((k ≢ as_level soft) × (events_at n soft (at_own n k e) ≡ []))
 own_cases n level.High Low e = inr ((λ is. let no : level.High ≡ level.Low = is in absurd (cc)), refl)
@@ -230,12 +231,12 @@ own_cases n level.Lock Low e = inr (
 )
 own_cases n level.Lock Lock e = inl (refl, ap (λ (b : Bool). cond (b && true) (e ∷ []) [] ++ []) (eq-eqb n n refl))
 
-pub calls_own : (n id : ℕ) (k : CyclicLevel) (e : Event) → calls_of id (at_own n k e) ≡ 0
+pub calls_own : (n id : ℕ) (k : Level) (e : Event) → calls_of id (at_own n k e) ≡ 0
 calls_own n id level.High e = refl
 calls_own n id level.Low e = refl
 calls_own n id level.Lock e = refl
 
-pub losses_own : (n id : ℕ) (k : CyclicLevel) (e : Event) → loss_of id e ≡ 0 → losses_of id (at_own n k e) ≡ 0
+pub losses_own : (n id : ℕ) (k : Level) (e : Event) → loss_of id e ≡ 0 → losses_of id (at_own n k e) ≡ 0
 losses_own n id level.High e none = refl
 losses_own n id level.Low e none = ap (λ (m : ℕ). m + 0) none
 losses_own n id level.Lock e none = ap (λ (m : ℕ). m + 0) none
@@ -259,16 +260,16 @@ pub high_is_none : (soft : Soft) → level.High ≢ as_level soft
 high_is_none Low is = let no : level.High ≡ level.Low = is in absurd (cc)
 high_is_none Lock is = let no : level.High ≡ level.Lock = is in absurd (cc)
 
-pub no_level : (id : ℕ) (c : Cpu) → found id c.cyclics ≡ None → (soft : Soft) → level_of id c ≢ as_level soft
+pub no_level : (id : ℕ) (c : Cpu) → found id c.cyclics ≡ None → (soft : Soft) → handler_level_of id c ≢ as_level soft
 no_level id c none soft is =
     high_is_none soft (ap (λ o. option_map_or (λ (x : Cyclic). x.timer.level) o level.High) (sym none) ∙ is)
 
 -- what isn't at a level isn't admitted there
-pub not_admitted : (soft : Soft) (id : ℕ) (c : Cpu) → Whole c → level_of id c ≢ as_level soft
+pub not_admitted : (soft : Soft) (id : ℕ) (c : Cpu) → Whole c → handler_level_of id c ≢ as_level soft
     → (level_at soft c).cyclics id ≡ None
 not_admitted soft id c w far = by ((level_at soft c).cyclics id) refl
   where
-    by : (o : Option Admitted) → (level_at soft c).cyclics id ≡ o → (level_at soft c).cyclics id ≡ None
+    by : (o : Option AdmittedCyclic) → (level_at soft c).cyclics id ≡ o → (level_at soft c).cyclics id ≡ None
     by None is = is
     by (Some x) is = absurd (far (w.back soft id (is_some_of ((level_at soft c).cyclics id) x is)))
 

@@ -2,7 +2,7 @@
 use Rattle.std.specs.Prelude.{ℕ, ◌+◌, ◌==◌, ◌&&◌, if◌then◌else◌, Bool, true, false, List, [], ◌∷◌, ◌++◌}
 use Rattle.cyc_types.specs.declared.level.Soft.{Soft}
 use Rattle.cyc_types.specs.declared.level.Soft.TheVariants.{Low, Lock}
-use Rattle.cyc_types.specs.declared.level.Level.{Level as CyclicLevel}
+use Rattle.cyc_types.specs.declared.level.Level.{Level}
 use Rattle.cyc_types.specs.declared.level.Level.TheVariants as level
 use Rattle.cyc_level.specs.declared.Event.{Event}
 use Rattle.cyc_level.specs.declared.Event.TheVariants.{Lose}
@@ -14,7 +14,7 @@ pub data Act : Type 0 where
   Call : ℕ → Act
 
 -- the event at the soft level of a cyclic; one of high level has none
-abbrev pub at_own : ℕ → CyclicLevel → Event → List Act
+abbrev pub at_own : ℕ → Level → Event → List Act
 at_own n level.High event = []
 at_own n level.Lock event = At n Lock event ∷ []
 at_own n level.Low event = At n Low event ∷ []

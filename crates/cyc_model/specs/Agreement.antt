@@ -2,32 +2,28 @@
 use Rattle.std.specs.Prelude.{◌≡◌, ◌≢◌, ℕ, ◌<◌, ⊤, None, IsSome, List, [], ◌∷◌, length}
 use Rattle.cyc_types.specs.declared.level.Soft.{Soft}
 use Rattle.cyc_types.specs.declared.level.Soft.TheVariants.{Low, Lock}
-use Rattle.cyc_types.specs.declared.level.Level.{Level as CyclicLevel}
+use Rattle.cyc_types.specs.declared.level.Level.{Level}
 use Rattle.cyc_types.specs.declared.level.Level.TheVariants as level
 use Rattle.cyc_level.specs.declared.Event.{Event}
 use Rattle.cyc_level.specs.declared.Event.TheVariants.{Admit, Expire, Lose, Mark, Clear, Switch}
-use Rattle.cyc_level.specs.Level.{Level, bank_size, count}
+use Rattle.cyc_types.specs.Levels.{as_level}
+use Rattle.cyc_level.specs.Level.{SoftLevel, bank_size, count}
 use Rattle.cyc_level.specs.Events.{after}
 use Rattle.cyc_script.specs.declared.step.Step.{Step}
 use Rattle.cyc_model.specs.Acts.{events_at}
-use Rattle.cyc_model.specs.Cpu.{Cpu, level_of}
+use Rattle.cyc_model.specs.Cpu.{Cpu, handler_level_of}
 use Rattle.cyc_model.specs.Serving.{level_at}
 use Rattle.cyc_model.specs.Questions.{Questions}
 use Rattle.cyc_model.specs.State.{State}
 use Rattle.cyc_model.specs.Script.{steps_from}
 use Rattle.cyc_model.specs.Laws.{level_on, HandsAreFree}
 
--- the level of a cyclic whose calls a soft interrupt of this level makes
-abbrev pub as_level : Soft → CyclicLevel
-as_level Low = level.Low
-as_level Lock = level.Lock
-
 pub record Agrees (c : Cpu) : Type 0 where
   -- both soft levels fill the same bank, and there is one index for each of its places
   pub one_bank : c.low.hard_bank ≡ c.lock.hard_bank
   pub size : c.size ≡ bank_size c.lock.hard_bank
   -- a cyclic of a soft level is admitted there
-  pub admitted : (id : ℕ) (soft : Soft) → level_of id c ≡ as_level soft → IsSome ((level_at soft c).cyclics id)
+  pub admitted : (id : ℕ) (soft : Soft) → handler_level_of id c ≡ as_level soft → IsSome ((level_at soft c).cyclics id)
 
 -- each of these CPUs does
 abbrev pub AllAgree : List Cpu → Type 0
@@ -41,7 +37,7 @@ CpusAgree = (q : Questions) (texts : List (List ℕ)) (indexes : ℕ → ℕ) (s
 
 -- what an event of the firing side finds: the firer's hand is empty, the cyclic is admitted, and its pend is at the ceiling just
 -- where its expiration is lost
-abbrev pub IsReady : Event → Level → Type 0
+abbrev pub IsReady : Event → SoftLevel → Type 0
 IsReady (Admit id index) l = l.firer_hand ≡ None
 IsReady (Expire id) l = (l.firer_hand ≡ None) × IsSome (l.cyclics id) × (count l id ≢ l.ceiling)
 IsReady (Lose id) l = (l.firer_hand ≡ None) × IsSome (l.cyclics id) × (count l id ≡ l.ceiling)
@@ -51,7 +47,7 @@ IsReady (Switch bank) l = l.firer_hand ≡ None
 IsReady _ l = ⊤
 
 -- the same of each of these, when it happens
-abbrev pub AllReady : List Event → Level → Type 0
+abbrev pub AllReady : List Event → SoftLevel → Type 0
 AllReady [] l = ⊤
 AllReady (event ∷ events) l = IsReady event l × AllReady events (after event l)
 

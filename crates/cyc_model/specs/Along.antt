@@ -4,7 +4,7 @@ use Rattle.cyc_types.specs.Limits.{greatest_bank}
 use Rattle.cyc_types.specs.declared.level.Soft.{Soft}
 use Rattle.cyc_level.specs.declared.Event.{Event}
 use Rattle.cyc_level.specs.declared.Event.TheVariants.{Admit, Expire, Lose, Mark, Clear, Switch}
-use Rattle.cyc_level.specs.Level.{Level, Cyclic, count}
+use Rattle.cyc_level.specs.Level.{SoftLevel, AdmittedCyclic, count}
 use Rattle.cyc_level.specs.Lawful.{Lawful}
 use Rattle.cyc_level.specs.Conservation.{IsConserved}
 use Rattle.cyc_level.specs.Events.{Enabled, after, most_sent}
@@ -17,12 +17,12 @@ use Rattle.cyc_model.specs.Laws.{level_on, HandsAreFree}
 use Rattle.cyc_model.specs.Agreement.{AllAgree}
 
 -- the removal of the cyclic isn't open, and its stay can count one more expiration
-abbrev pub CanExpire : ℕ → Level → Type 0
-CanExpire id l = (l.marked ≢ Some id) × ((c : Cyclic) → l.cyclics id ≡ Some c → c.sent < most_sent)
+abbrev pub CanExpire : ℕ → SoftLevel → Type 0
+CanExpire id l = (l.marked ≢ Some id) × ((c : AdmittedCyclic) → l.cyclics id ≡ Some c → c.sent < most_sent)
 
 -- what is left to ask where an event of the firing side happens. The rest of what enables it holds in every run: the firer's hand
 -- is empty, the cyclic is admitted, and its pend is below the ceiling, or at it where it loses
-abbrev pub CanAsFiring : Event → Level → Type 0
+abbrev pub CanAsFiring : Event → SoftLevel → Type 0
 CanAsFiring (Admit id index) l = Enabled (Admit id index) l
 CanAsFiring (Expire id) l = CanExpire id l
 CanAsFiring (Lose id) l = CanExpire id l
@@ -32,16 +32,16 @@ CanAsFiring (Switch bank) l = (l.hard_bank ≡ l.soft_bank) × (l.hard_bank < ba
 CanAsFiring _ l = ⊤
 
 -- the same of each of these, when it happens
-abbrev pub AllCanAsFiring : List Event → Level → Type 0
+abbrev pub AllCanAsFiring : List Event → SoftLevel → Type 0
 AllCanAsFiring [] l = ⊤
 AllCanAsFiring (event ∷ events) l = CanAsFiring event l × AllCanAsFiring events (after event l)
 
 -- the laws of a level hold: no expiration is forgotten, and no list outgrows its bank
-abbrev pub IsSound : Level → Type 0
+abbrev pub IsSound : SoftLevel → Type 0
 IsSound l = Lawful l × IsConserved l
 
 -- before the first of these events and after each
-abbrev pub AllAlong : List Event → Level → Type 0
+abbrev pub AllAlong : List Event → SoftLevel → Type 0
 AllAlong [] l = IsSound l
 AllAlong (event ∷ events) l = IsSound l × AllAlong events (after event l)
 

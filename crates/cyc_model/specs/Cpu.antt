@@ -3,9 +3,9 @@ use Rattle.std.specs.Prelude.{ℕ, ◌==◌, not, Bool, true, List, [], ◌∷�
 use Rattle.std.specs.List.{list_any}
 use Rattle.std.specs.Option.{option_map_or}
 use Rattle.cyc_types.specs.declared.level.Soft.TheVariants.{Low, Lock}
-use Rattle.cyc_types.specs.declared.level.Level.{Level as CyclicLevel}
+use Rattle.cyc_types.specs.declared.level.Level.{Level}
 use Rattle.cyc_types.specs.declared.level.Level.TheVariants as level
-use Rattle.cyc_level.specs.Level.{Level, empty_level}
+use Rattle.cyc_level.specs.Level.{SoftLevel, empty_level}
 use Rattle.cyc_level.specs.Events.{after}
 use Rattle.cyc_expirations.specs.Timers.{Timer}
 use Rattle.cyc_model.specs.Acts.{Act, At, Call}
@@ -25,8 +25,8 @@ pub record Cpu : Type 0 where
   -- the id of the cyclic whose removal is open: it has the moment never
   pub removal : Option ℕ
   -- its two soft levels (cyp_softbuf)
-  pub lock : Level
-  pub low : Level
+  pub lock : SoftLevel
+  pub low : SoftLevel
 
 -- a CPU as it begins
 abbrev pub new_cpu : ℕ → Cpu
@@ -86,8 +86,8 @@ abbrev pub has_cyclic : ℕ → Cpu → Bool
 has_cyclic id c = list_any (is_of id) c.cyclics
 
 -- its level; one that isn't here is at no soft level, as one of high level
-abbrev pub level_of : ℕ → Cpu → CyclicLevel
-level_of id c = option_map_or (λ x. x.timer.level) (cyclic_of id c) level.High
+abbrev pub handler_level_of : ℕ → Cpu → Level
+handler_level_of id c = option_map_or (λ x. x.timer.level) (cyclic_of id c) level.High
 
 -- the cyclics of other ids
 abbrev pub others : ℕ → List Cyclic → List Cyclic

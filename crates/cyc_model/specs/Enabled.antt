@@ -2,7 +2,7 @@
 use Rattle.std.specs.Prelude.{ℕ, ◌<◌, ⊤, List, [], ◌∷◌}
 use Rattle.cyc_types.specs.declared.level.Soft.{Soft}
 use Rattle.cyc_level.specs.declared.Event.{Event}
-use Rattle.cyc_level.specs.Level.{Level, empty_level}
+use Rattle.cyc_level.specs.Level.{SoftLevel, empty_level}
 use Rattle.cyc_level.specs.Events.{Enabled, after}
 use Rattle.cyc_script.specs.declared.script.Script.{Script}
 use Rattle.cyc_model.specs.Acts.{events_at}
@@ -12,7 +12,7 @@ use Rattle.cyc_model.specs.Along.{AllAlong, IsSound}
 use Rattle.cyc_model.specs.Free.{AreFree}
 
 -- each of these is enabled when it happens
-abbrev pub AllHappen : List Event → Level → Type 0
+abbrev pub AllHappen : List Event → SoftLevel → Type 0
 AllHappen [] l = ⊤
 AllHappen (event ∷ events) l = Enabled event l × AllHappen events (after event l)
 

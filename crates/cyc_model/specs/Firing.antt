@@ -1,30 +1,30 @@
 -- The fire of one CPU.
 use Rattle.std.specs.Prelude.{ℕ, ◌+◌, ◌==◌, if◌then◌else◌, List, [], ◌∷◌, map}
 use Rattle.cyc_types.specs.declared.level.Soft.TheVariants.{Low, Lock}
-use Rattle.cyc_types.specs.declared.level.Level.{Level as CyclicLevel}
+use Rattle.cyc_types.specs.declared.level.Level.{Level}
 use Rattle.cyc_types.specs.declared.level.Level.TheVariants as level
 use Rattle.cyc_level.specs.declared.Event.{Event}
 use Rattle.cyc_level.specs.declared.Event.TheVariants.{Expire, Lose, Publish}
-use Rattle.cyc_level.specs.Level.{Level, count}
+use Rattle.cyc_level.specs.Level.{SoftLevel, count}
 use Rattle.cyc_expirations.specs.Expirations.{Expiration, expirations, after}
 use Rattle.cyc_model.specs.Acts.{Act, At, Call, losses_of}
-use Rattle.cyc_model.specs.Cpu.{Cyclic, Cpu, Here, here, nothing_here, then_here, timers, level_of}
+use Rattle.cyc_model.specs.Cpu.{Cyclic, Cpu, Here, here, nothing_here, then_here, timers, handler_level_of}
 
 -- an expiration at a soft level (cyclic_expire): at the ceiling it is lost; else the pend rises, and from 0 the cyclic is put
 -- into the buffer. The ceiling is our own rule
-abbrev pub raised : ℕ → Level → List Event
+abbrev pub raised : ℕ → SoftLevel → List Event
 raised id l = if count l id == l.ceiling then Lose id ∷ []
     else if count l id == 0 then Expire id ∷ Publish ∷ []
     else Expire id ∷ []
 
 -- one expiration: a high-level handler is called at once
-abbrev pub expiry : ℕ → CyclicLevel → ℕ → Cpu → List Act
+abbrev pub expiry : ℕ → Level → ℕ → Cpu → List Act
 expiry n level.High id c = Call id ∷ []
 expiry n level.Lock id c = map (At n Lock) (raised id c.lock)
 expiry n level.Low id c = map (At n Low) (raised id c.low)
 
 abbrev pub expire_here : ℕ → ℕ → Cpu → Here
-expire_here n id c = here (expiry n (level_of id c) id c) c
+expire_here n id c = here (expiry n (handler_level_of id c) id c) c
 
 -- these expirations, in order
 abbrev pub expire_all : ℕ → List Expiration → Cpu → Here

@@ -3,19 +3,19 @@ use Rattle.std.specs.Prelude.{ℕ, ⊤, List, [], ◌∷◌}
 use Rattle.cyc_types.specs.declared.level.Soft.{Soft}
 use Rattle.cyc_level.specs.declared.Event.{Event}
 use Rattle.cyc_level.specs.declared.Event.TheVariants.{Admit}
-use Rattle.cyc_level.specs.Level.{Level, empty_level}
+use Rattle.cyc_level.specs.Level.{SoftLevel, empty_level}
 use Rattle.cyc_level.specs.Events.{Enabled, after}
 use Rattle.cyc_script.specs.declared.script.Script.{Script}
 use Rattle.cyc_model.specs.Acts.{events_at}
 use Rattle.cyc_model.specs.Script.{run_of}
 
 -- an Admit is enabled; of the other events nothing is said
-abbrev pub CanBeAdmitted : Event → Level → Type 0
+abbrev pub CanBeAdmitted : Event → SoftLevel → Type 0
 CanBeAdmitted (Admit id index) l = Enabled (Admit id index) l
 CanBeAdmitted _ l = ⊤
 
 -- each Admit of these is enabled when it happens
-abbrev pub AllCanBeAdmitted : List Event → Level → Type 0
+abbrev pub AllCanBeAdmitted : List Event → SoftLevel → Type 0
 AllCanBeAdmitted [] l = ⊤
 AllCanBeAdmitted (event ∷ events) l = CanBeAdmitted event l × AllCanBeAdmitted events (after event l)
 

@@ -5,7 +5,7 @@ use Rattle.cyc_script.specs.declared.step.Step.TheVariants.{Bind, Unbind, Juggle
 use Rattle.cyc_model.specs.Cpu.{Cyclic, cyclic_of}
 use Rattle.cyc_model.specs.Questions.{plain}
 use Rattle.cyc_model.specs.State.{State, On, cpu_of}
-use Rattle.cyc_model.specs.Places.{place_of, home_of, is_omnipresent}
+use Rattle.cyc_model.specs.Places.{placement_of, home_of, is_omnipresent}
 use Rattle.cyc_model.specs.Report.{counts_of}
 use Rattle.cyc_model.specs.Script.{word, run_on}
 
@@ -41,5 +41,5 @@ MovesLoseNothing = (indexes : ℕ → ℕ) (cpus ceiling : ℕ) (texts : List (L
 -- and a cyclic that is put down as on a CPU is there
 abbrev pub CyclicsAreAtHome : Type 0
 CyclicsAreAtHome = (indexes : ℕ → ℕ) (cpus ceiling : ℕ) (texts : List (List ℕ)) (steps : List Step) (id n : ℕ) (bound : Bool)
-    → 0 < cpus → place_of id (run_on indexes cpus ceiling texts steps).state ≡ Some (On n bound)
+    → 0 < cpus → placement_of id (run_on indexes cpus ceiling texts steps).state ≡ Some (On n bound)
     → IsSome (at_home id (run_on indexes cpus ceiling texts steps).state)

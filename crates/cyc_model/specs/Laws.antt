@@ -4,7 +4,7 @@ use Rattle.cyc_types.specs.declared.level.Soft.{Soft}
 use Rattle.cyc_types.specs.declared.refusal.Refusal.{Refusal}
 use Rattle.cyc_level.specs.declared.Event.{Event}
 use Rattle.cyc_level.specs.declared.Event.TheVariants.{Publish, Take, Finish, Follow}
-use Rattle.cyc_level.specs.Level.{Level}
+use Rattle.cyc_level.specs.Level.{SoftLevel}
 use Rattle.cyc_level.specs.Events.{Enabled, after}
 use Rattle.cyc_script.specs.declared.step.Step.{Step}
 use Rattle.cyc_script.specs.declared.script.Script.{Script}
@@ -23,7 +23,7 @@ RefusedOrDone = (q : Questions) (texts : List (List ℕ)) (indexes : ℕ → ℕ
     × (refusal_of q x s ≡ None → word q texts indexes step x s ≡ does q texts indexes step x s)
 
 -- a soft level of the CPU of this number
-abbrev pub level_on : ℕ → Soft → State → Level
+abbrev pub level_on : ℕ → Soft → State → SoftLevel
 level_on n soft s = level_at soft (cpu_of n s)
 
 -- these acts tell how one state of the machine came from the other: each level is what its events made of it, and the handler
@@ -71,7 +71,7 @@ IdsAreGivenOnce = (q : Questions) (texts : List (List ℕ)) (indexes : ℕ → �
     (steps_from q texts indexes step ys (steps_from q texts indexes 1 xs (start cpus ceiling names)).state).state
 
 -- an event of the soft side, or a Publish, is enabled; of the other events nothing is said
-abbrev pub CanAsSoft : Event → Level → Type 0
+abbrev pub CanAsSoft : Event → SoftLevel → Type 0
 CanAsSoft Take l = Enabled Take l
 CanAsSoft Finish l = Enabled Finish l
 CanAsSoft Follow l = Enabled Follow l
@@ -79,7 +79,7 @@ CanAsSoft Publish l = Enabled Publish l
 CanAsSoft _ l = ⊤
 
 -- the same of each of these, when it happens
-abbrev pub AllCanAsSoft : List Event → Level → Type 0
+abbrev pub AllCanAsSoft : List Event → SoftLevel → Type 0
 AllCanAsSoft [] l = ⊤
 AllCanAsSoft (event ∷ events) l = CanAsSoft event l × AllCanAsSoft events (after event l)
 

@@ -7,7 +7,7 @@ use Rattle.cyc_types.specs.declared.level.Soft.TheVariants.{Low, Lock}
 use Rattle.cyc_level.specs.declared.Event.TheVariants.{Admit, Mark, Clear, Switch}
 use Rattle.cyc_level.specs.Level.{bank_size}
 use Rattle.cyc_model.specs.Acts.{At, at_own}
-use Rattle.cyc_model.specs.Cpu.{Cyclic, Cpu, Here, here, nothing_here, then_here, is_of, level_of, others, with_moment}
+use Rattle.cyc_model.specs.Cpu.{Cyclic, Cpu, Here, here, nothing_here, then_here, is_of, handler_level_of, others, with_moment}
 
 -- the least bank from this one on that has so many places, among so many more
 abbrev pub least_bank : ℕ → ℕ → ℕ → ℕ
@@ -44,8 +44,8 @@ enter_here n index x c = then_here (widen_here n 1 c) (place_here n index x)
 
 -- a cyclic with no call outstanding leaves for another CPU (cyclic_juggle_one_to, cyclic_remove_here)
 abbrev pub take_here : ℕ → ℕ → Cpu → Here
-take_here n id c = then_here (here (at_own n (level_of id c) (Mark id)) c)
-    (λ d. here (at_own n (level_of id d) (Clear id)) (record d { cyclics = others id d.cyclics }))
+take_here n id c = then_here (here (at_own n (handler_level_of id c) (Mark id)) c)
+    (λ d. here (at_own n (handler_level_of id d) (Clear id)) (record d { cyclics = others id d.cyclics }))
 
 -- the cyclic of this id gets another moment (cyclic_reprogram_cyclic)
 abbrev pub moment_at : ℕ → ℕ → Cyclic → Cyclic
@@ -57,8 +57,8 @@ reprogram_here id moment c = nothing_here (record c { cyclics = map (moment_at i
 -- the removal of a cyclic begins: from here on it does not expire (cyclic_remove_xcall)
 abbrev pub mark_here : ℕ → ℕ → Cpu → Here
 mark_here n id c =
-    here (at_own n (level_of id c) (Mark id)) (record c { cyclics = map (moment_at id never) c.cyclics; removal = Some id })
+    here (at_own n (handler_level_of id c) (Mark id)) (record c { cyclics = map (moment_at id never) c.cyclics; removal = Some id })
 
 -- the removal of a cyclic with no call outstanding ends (cyclic_remove_xcall)
 abbrev pub clear_here : ℕ → ℕ → Cpu → Here
-clear_here n id c = here (at_own n (level_of id c) (Clear id)) (record c { cyclics = others id c.cyclics; removal = None })
+clear_here n id c = here (at_own n (handler_level_of id c) (Clear id)) (record c { cyclics = others id c.cyclics; removal = None })

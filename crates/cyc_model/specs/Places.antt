@@ -10,12 +10,12 @@ use Rattle.cyc_model.specs.State.{Place, On, OnAll, Placed, State, cpu_of, onlin
 abbrev pub id_of : ℕ → State → ℕ
 id_of name s = slice_index_or s.names name 0
 
-abbrev pub place_of : ℕ → State → Option Place
-place_of id s = option_map (λ p. p.place) (find (λ p. p.id == id) s.placed)
+abbrev pub placement_of : ℕ → State → Option Place
+placement_of id s = option_map (λ p. p.place) (find (λ p. p.id == id) s.placed)
 
 -- no cyclic has this id, or its removal has answered
 abbrev pub is_unknown : ℕ → State → Bool
-is_unknown id s = not (is_some (place_of id s))
+is_unknown id s = not (is_some (placement_of id s))
 
 -- the removal of this id is open on some CPU
 abbrev pub is_leaving : ℕ → State → Bool
@@ -27,7 +27,7 @@ is_everywhere (Some (On n bound)) = false
 is_everywhere (Some (OnAll e)) = true
 
 abbrev pub is_omnipresent : ℕ → State → Bool
-is_omnipresent id s = is_everywhere (place_of id s)
+is_omnipresent id s = is_everywhere (placement_of id s)
 
 abbrev pub is_bound_at : Option Place → Bool
 is_bound_at None = false
@@ -35,7 +35,7 @@ is_bound_at (Some (On n bound)) = bound
 is_bound_at (Some (OnAll e)) = false
 
 abbrev pub is_bound : ℕ → State → Bool
-is_bound id s = is_bound_at (place_of id s)
+is_bound id s = is_bound_at (placement_of id s)
 
 -- the CPU of a cyclic that is on one
 abbrev pub home_at : Option Place → ℕ
@@ -44,7 +44,7 @@ home_at (Some (On n bound)) = n
 home_at (Some (OnAll e)) = 0
 
 abbrev pub home_of : ℕ → State → ℕ
-home_of id s = home_at (place_of id s)
+home_of id s = home_at (placement_of id s)
 
 -- the cyclic of this id has this place
 abbrev pub replaced : ℕ → Place → Placed → Placed

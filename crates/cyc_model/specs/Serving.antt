@@ -5,13 +5,13 @@ use Rattle.cyc_types.specs.declared.level.Soft.{Soft}
 use Rattle.cyc_types.specs.declared.level.Soft.TheVariants.{Low, Lock}
 use Rattle.cyc_level.specs.declared.Event.{Event}
 use Rattle.cyc_level.specs.declared.Event.TheVariants.{Take, Finish, Follow}
-use Rattle.cyc_level.specs.Level.{Level}
+use Rattle.cyc_level.specs.Level.{SoftLevel}
 use Rattle.cyc_level.specs.Events.{after}
 use Rattle.cyc_model.specs.Acts.{Act, At, Call}
 use Rattle.cyc_model.specs.Cpu.{Cpu, Here, here}
 
 -- the level after these events
-abbrev pub level_after : List Event → Level → Level
+abbrev pub level_after : List Event → SoftLevel → SoftLevel
 level_after [] l = l
 level_after (event ∷ events) l = level_after events (after event l)
 
@@ -25,7 +25,7 @@ looks [] (y ∷ ys) false = Follow ∷ Take ∷ []
 looks [] [] false = Follow ∷ []
 
 -- with a cyclic in hand there is no look
-abbrev pub look : Level → List Event
+abbrev pub look : SoftLevel → List Event
 look l = if is_some l.drainer_hand then [] else looks l.old_list l.new_list (l.hard_bank == l.soft_bank)
 
 -- what a soft interrupt does, and whether it stops because it finds nothing
@@ -44,16 +44,16 @@ abbrev pub found_nothing : ℕ → Soft → List Event → Interrupt
 found_nothing n soft looked = record { acts = map (At n soft) looked; idle = true }
 
 -- after a look: the cyclic in hand is called, and then the rest is done
-abbrev pub after_look : ℕ → Soft → List Event → Level → (Level → Interrupt) → Interrupt
+abbrev pub after_look : ℕ → Soft → List Event → SoftLevel → (SoftLevel → Interrupt) → Interrupt
 after_look n soft looked l rest =
     option_map_or (λ id. calling n soft looked id (rest (after Finish l))) l.drainer_hand (found_nothing n soft looked)
 
 -- a soft interrupt that may make this many calls (cyclic_softint; the budget is our own rule)
-abbrev pub serve : ℕ → Soft → ℕ → Level → Interrupt
+abbrev pub serve : ℕ → Soft → ℕ → SoftLevel → Interrupt
 serve n soft zero l = record { acts = []; idle = false }
 serve n soft (suc budget) l = after_look n soft (look l) (level_after (look l) l) (serve n soft budget)
 
-abbrev pub level_at : Soft → Cpu → Level
+abbrev pub level_at : Soft → Cpu → SoftLevel
 level_at Low c = c.low
 level_at Lock c = c.lock
 

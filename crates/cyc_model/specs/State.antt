@@ -1,12 +1,12 @@
 -- The machine between two steps, and what a step comes to.
 use Rattle.std.specs.Prelude.{ℕ, ◌+◌, if◌then◌else◌, Bool, false, List, [], ◌∷◌, ◌++◌, slice_set, slice_index_or}
-use Rattle.cyc_types.specs.declared.level.Level.{Level as CyclicLevel}
+use Rattle.cyc_types.specs.declared.level.Level.{Level}
 use Rattle.cyc_model.specs.Acts.{Act, calls_of}
 use Rattle.cyc_model.specs.Cpu.{Cpu, Here, new_cpu, has_cyclic}
 
 -- an omnipresent cyclic: its level, the start and the interval of CPU 0's component, and by how much each CPU's starts later
 pub record Everywhere : Type 0 where
-  pub level : CyclicLevel
+  pub level : Level
   pub start : ℕ
   pub interval : ℕ
   pub skew : ℕ

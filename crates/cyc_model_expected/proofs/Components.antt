@@ -11,7 +11,7 @@ use Rattle.cyc_model.specs.Cpu.{Cyclic, Cpu, Here, nothing_here, cyclic_of}
 use Rattle.cyc_model.specs.Moving.{must_grow, bank_for, switch_here, widen_here, put_in, place_here, enter_here, moment_at}
 use Rattle.cyc_model.specs.Moving.{reprogram_here, take_here}
 use Rattle.cyc_model.specs.State.{State, Everywhere, Place, Placed, On, OnAll, absent, cpu_of, on, each}
-use Rattle.cyc_model.specs.Places.{place_of, is_leaving, without_ended, keep_counts}
+use Rattle.cyc_model.specs.Places.{placement_of, is_leaving, without_ended, keep_counts}
 use Rattle.cyc_model.specs.Offline.{ids_on, retire, retire_all, go_offline, any_pending, last_part, leaving, offline}
 use Rattle.cyc_model.specs.Questions.{plain}
 use Rattle.cyc_model.specs.Juggle.{juggled, single_ids}
@@ -188,7 +188,7 @@ module _ (indexes : ℕ → ℕ) (n id : ℕ) where
       ∙ ap (λ now. Some (component_first n e now, e.interval)) kept.0)
 
 -- the entry of an omnipresent cyclic whose removal isn't open is among those that stay
-stays_entry : (id : ℕ) (e : Everywhere) (s : State) → place_of id s ≡ Some (OnAll e) → is_leaving id s ≡ false
+stays_entry : (id : ℕ) (e : Everywhere) (s : State) → placement_of id s ≡ Some (OnAll e) → is_leaving id s ≡ false
     → (p : Placed) × (entry id (staying s) ≡ Some p) × (p.place ≡ OnAll e)
 stays_entry id e s is shut = by (entry id s.placed) refl is
   where
@@ -241,7 +241,7 @@ module _ (indexes : ℕ → ℕ) (step n : ℕ) (s : State) where
   pub online_there : n < length s.cpus → cpu_of n (online indexes step n s).state ≡ go_online (cpu_of n back)
   online_there within = on_there n (λ c. nothing_here (go_online c)) back (subst (λ k. n < k) (sym long_back) within)
 
-  pub online_component : (id : ℕ) (e : Everywhere) → Good s → n < length s.cpus → place_of id s ≡ Some (OnAll e)
+  pub online_component : (id : ℕ) (e : Everywhere) → Good s → n < length s.cpus → placement_of id s ≡ Some (OnAll e)
       → is_leaving id s ≡ false → found id (cpu_of n s).cyclics ≡ None
       → series_on id (cpu_of n (online indexes step n s).state) ≡ Some (component_first n e s.clock, e.interval)
   online_component id e g within place shut none =

@@ -14,7 +14,7 @@ use Rattle.cyc_model.specs.Cpu.{Cpu, nothing_here}
 use Rattle.cyc_model.specs.Firing.{fire_here}
 use Rattle.cyc_model.specs.Questions.{plain}
 use Rattle.cyc_model.specs.State.{State, Everywhere, OnAll, Placed, cpu_of, on, each, online_cpus, absent}
-use Rattle.cyc_model.specs.Places.{place_of, is_omnipresent, is_everywhere, given}
+use Rattle.cyc_model.specs.Places.{placement_of, is_omnipresent, is_everywhere, given}
 use Rattle.cyc_model.specs.Refusals.{no_cpu, offline_cpu, last_cpu, busy, bad_now, magnitude}
 use Rattle.cyc_model.specs.Juggle.{juggled, single_ids}
 use Rattle.cyc_model.specs.Offline.{ids_on, any_pending, last_part, leaving, retire, retire_all, go_offline}
@@ -85,20 +85,20 @@ module _ (texts : List (List ℕ)) (f : ℕ → ℕ) (step id : ℕ) (e : Everyw
 
   -- ---- a CPU goes offline, or does not, or comes back
 
-  placed_same : (t u : State) → u.placed ≡ t.placed → place_of id u ≡ place_of id t
+  placed_same : (t u : State) → u.placed ≡ t.placed → placement_of id u ≡ placement_of id t
   placed_same t u same = ap (λ ps. option_map (λ (p : Placed). p.place) (entry id ps)) same
 
   abbrev moved : ℕ → State
   moved n = (juggled plain f n s).outcome.state
 
-  place_offline : (n : ℕ) → place_of id (after (Offline n)) ≡ place_of id (moved n)
+  place_offline : (n : ℕ) → placement_of id (after (Offline n)) ≡ placement_of id (moved n)
   place_offline n = by (single_ids n (moved n))
     where
-      last : (b : Bool) → place_of id (last_part b step n (juggled plain f n s).outcome).state ≡ place_of id (moved n)
+      last : (b : Bool) → placement_of id (last_part b step n (juggled plain f n s).outcome).state ≡ placement_of id (moved n)
       last true = refl
       last false = placed_same (moved n) (retire_all n (moved n)).state (placed_retires n (ids_on n (moved n)) (moved n))
 
-      by : (ids : List ℕ) → place_of id (leaving plain step n ids (juggled plain f n s)).state ≡ place_of id (moved n)
+      by : (ids : List ℕ) → placement_of id (leaving plain step n ids (juggled plain f n s)).state ≡ placement_of id (moved n)
       by (j ∷ ids) = refl
       by [] = last (any_pending plain n (ids_on n (moved n)) (moved n))
 

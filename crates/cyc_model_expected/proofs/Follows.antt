@@ -13,7 +13,7 @@ use Rattle.cyc_model.specs.Cpu.{Cpu, has_cyclic}
 use Rattle.cyc_model.specs.Moving.{reprogram_here}
 use Rattle.cyc_model.specs.Questions.{plain}
 use Rattle.cyc_model.specs.State.{State, OnAll, cpu_of, on, online_cpus, cpus_with}
-use Rattle.cyc_model.specs.Places.{id_of, place_of, is_unknown, is_omnipresent, is_everywhere, given}
+use Rattle.cyc_model.specs.Places.{id_of, placement_of, is_unknown, is_omnipresent, is_everywhere, given}
 use Rattle.cyc_model.specs.Refusals.{magnitude, when, no_cpu, offline_cpu, first_refusal}
 use Rattle.cyc_model.specs.Bind.{no_cyclic, omnipresent}
 use Rattle.cyc_model.specs.Omni.{everywhere}
@@ -81,10 +81,10 @@ module _ (texts : List (List ℕ)) (f : ℕ → ℕ) (step name : ℕ) (s : Stat
       (calm_expired texts f step s h.good id x calm why ∙ c.expired_is)
 
   -- a name of a known cyclic has an id of its own
-  known_apart : (j : ℕ) → IsSome (place_of (id_of j s) s) → j ≢ name → id ≢ id_of j s
-  known_apart j known ne e = by (place_of (id_of j s) s) refl known
+  known_apart : (j : ℕ) → IsSome (placement_of (id_of j s) s) → j ≢ name → id ≢ id_of j s
+  known_apart j known ne e = by (placement_of (id_of j s) s) refl known
     where
-      by : (o : _) → place_of (id_of j s) s ≡ o → IsSome o → ⊥
+      by : (o : _) → placement_of (id_of j s) s ≡ o → IsSome o → ⊥
       by None is some = absurd (cc)
       by (Some p) is some =
           let k = place_known (id_of j s) s p h.good.base.rise is in let a = k.0 in
@@ -282,7 +282,7 @@ module _ (texts : List (List ℕ)) (f : ℕ → ℕ) (step name : ℕ) (s : Stat
   follows_does (Unbind j) why done in_ u ups c = passes (Unbind j) why tt tt tt refl u.course u.expired c
   follows_does (Reprogram r) why done in_ u ups c = by (r.name == name) refl
     where
-      known : IsSome (place_of (id_of r.name s) s)
+      known : IsSome (placement_of (id_of r.name s) s)
       known = (is_cyclic (id_of r.name s) s (none_first (no_cyclic (id_of r.name s) s) (cpu_refusals r.cpu (id_of r.name s) s)
           (none_first (when (int_lt r.moment (pos 0)) BadWhen) (no_cyclic (id_of r.name s) s
           ∷ cpu_refusals r.cpu (id_of r.name s) s) why).1).0).0
@@ -296,8 +296,8 @@ module _ (texts : List (List ℕ)) (f : ℕ → ℕ) (step name : ℕ) (s : Stat
           in let no : true ≡ false = sym t ∙ is in absurd (cc))) tt tt refl u.course u.expired c
   follows_does (Remove j) why done in_ u ups c = by (j == name) refl
     where
-      known : IsSome (place_of (id_of j s) s)
-      known = not_not (is_some (place_of (id_of j s) s)) (not_when (is_unknown (id_of j s) s) NoCyclic
+      known : IsSome (placement_of (id_of j s) s)
+      known = not_not (is_some (placement_of (id_of j s) s)) (not_when (is_unknown (id_of j s) s) NoCyclic
           (none_first (when (is_unknown (id_of j s) s) NoCyclic) (busy_on_each plain (cpus_with (id_of j s) s) s) why).0)
 
       by : (b : Bool) → (j == name) ≡ b → Follows name (after (Remove j))

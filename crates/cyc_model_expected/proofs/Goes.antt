@@ -15,7 +15,7 @@ use Rattle.cyc_model.specs.Moving.{enter_here, moment_at, reprogram_here}
 use Rattle.cyc_model.specs.Serving.{serve_here}
 use Rattle.cyc_model.specs.Questions.{plain}
 use Rattle.cyc_model.specs.State.{State, Outcome, On, OnAll, Place, absent, cpu_of, on, each, numbers, online_cpus, cpus_with}
-use Rattle.cyc_model.specs.Places.{id_of, place_of, is_leaving, is_everywhere, home_of, home_at, destination}
+use Rattle.cyc_model.specs.Places.{id_of, placement_of, is_leaving, is_everywhere, home_of, home_at, destination}
 use Rattle.cyc_model.specs.Places.{given, forgotten}
 use Rattle.cyc_model.specs.Refusals.{magnitude}
 use Rattle.cyc_model.specs.Add.{added}
@@ -207,7 +207,7 @@ runs_moment id moment interval new s g r =
     }
 
 pub place_fires : (id now : ℕ) (ns : List ℕ) (s : State)
-    → place_of id (each (λ n. on n (fire_here n now)) ns s).state ≡ place_of id s
+    → placement_of id (each (λ n. on n (fire_here n now)) ns s).state ≡ placement_of id s
 place_fires id now [] s = refl
 place_fires id now (n ∷ ns) s = place_fires id now ns (on n (fire_here n now) s).state
 
@@ -251,10 +251,10 @@ runs_fired id moment interval now s g before r =
     )
   where
     none_due : (m : ℕ) → m ≢ home_of id s → (o : Option Cyclic) → found id (cpu_of m s).cyclics ≡ o
-        → IsAt (home_of id s) (place_of id s) → due_of_found now o ≡ 0
+        → IsAt (home_of id s) (placement_of id s) → due_of_found now o ≡ 0
     none_due m ne None is at = refl
     none_due m ne (Some x) is at =
-        absurd (ne (same_home m (home_of id s) (place_of id s) (g.base.homes m id (ap is_some is)) at r.single))
+        absurd (ne (same_home m (home_of id s) (placement_of id s) (g.base.homes m id (ap is_some is)) at r.single))
 
 -- an id that is new is nowhere, and no removal of it is open
 pub new_shut : (s : State) → Good s → is_leaving (s.last_id + 1) s ≡ false
@@ -271,7 +271,7 @@ runs_added texts f step a s g =
     let x = added a s in
     let k = f s.admissions in
     let t = (does plain texts f step (Add a) s).state in
-    let place : place_of id t ≡ Some (On n false) = place_given_new a.name (On n false) s g.base.rise in
+    let place : placement_of id t ≡ Some (On n false) = place_given_new a.name (On n false) s g.base.rise in
     let dest = destination_online None s g.spread.some.0
     (pass_numbers (λ (c : Cpu). c.online) g.spread.some.0 s g.spread.some.1 g.spread.some.2) refl in
     let within = (numbers_pass (λ (c : Cpu). c.online) n s dest.0).0 in

@@ -13,7 +13,7 @@ use Rattle.cyc_script.specs.declared.step.Step.TheVariants.{Offline, Online}
 use Rattle.cyc_model.specs.Cpu.{Cpu}
 use Rattle.cyc_model.specs.Questions.{plain}
 use Rattle.cyc_model.specs.State.{State, OnAll, Placed, online_cpus}
-use Rattle.cyc_model.specs.Places.{id_of, place_of, given}
+use Rattle.cyc_model.specs.Places.{id_of, placement_of, given}
 use Rattle.cyc_model.specs.Omni.{everywhere}
 use Rattle.cyc_model.specs.Script.{refusal_of, does, text_in}
 use Rattle.cyc_model.proofs.Rising.{due_of_found}
@@ -141,7 +141,7 @@ module _ (texts : List (List ℕ)) (f : ℕ → ℕ) (step : ℕ) (s : State) (h
       still_ready (after (Advance now)) (well_does texts f step (Advance now) s h.good why).1 k.names k.last
       (λ id above. let e = (all_fired id now (before_never now why) 0 (online_cpus s) r (good_clock now s h.good)
       (numbers_rise (λ (c : Cpu). c.online) 0 s.cpus) (λ m has. (numbers_pass (λ (c : Cpu). c.online) m s has).0)).expired in
-      let none : place_of id s ≡ None = ap (option_map (λ (p : Placed). p.place))
+      let none : placement_of id s ≡ None = ap (option_map (λ (p : Placed). p.place))
       (entry_above 0 s.last_id id s.placed h.good.base.rise above) in
       let z = sum_none (due_at id now (before_never now why) r) (online_cpus s)
       (λ m has. ap (due_of_found now) (gone_away None s h.good.base id none m)) in

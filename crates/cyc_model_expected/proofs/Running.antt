@@ -7,11 +7,11 @@ use Rattle.std.specs.List.{list_any}
 use Rattle.cyc_level.specs.declared.Event.TheVariants.{Mark, Clear}
 use Rattle.cyc_types.specs.Series.{never}
 use Rattle.cyc_model.specs.Acts.{at_own}
-use Rattle.cyc_model.specs.Cpu.{Cyclic, Cpu, Here, others, level_of}
+use Rattle.cyc_model.specs.Cpu.{Cyclic, Cpu, Here, others, handler_level_of}
 use Rattle.cyc_model.specs.Moving.{enter_here, mark_here, clear_here, moment_at}
 use Rattle.cyc_model.specs.Questions.{plain, outstanding_here}
 use Rattle.cyc_model.specs.State.{State, Outcome, Place, Everywhere, cpu_of, on, each}
-use Rattle.cyc_model.specs.Places.{place_of, is_leaving, is_omnipresent, is_everywhere, home_of, home_at, keep_counts}
+use Rattle.cyc_model.specs.Places.{placement_of, is_leaving, is_omnipresent, is_everywhere, home_of, home_at, keep_counts}
 use Rattle.cyc_model.specs.Add.{enter}
 use Rattle.cyc_model.specs.Omni.{component}
 use Rattle.cyc_model.specs.Remove.{begin, poll, clear, clear_if}
@@ -50,19 +50,19 @@ runs_alike id moment interval s t r stays single home = record {
 }
 
 pub runs_there : (id moment interval : ℕ) (s t : State) → Running id moment interval s → is_leaving id t ≡ false
-    → place_of id t ≡ place_of id s → seen (found_in id) t ≡ seen (found_in id) s → Running id moment interval t
+    → placement_of id t ≡ placement_of id s → seen (found_in id) t ≡ seen (found_in id) s → Running id moment interval t
 runs_there id moment interval s t r stays place same = runs_alike id moment interval s t r stays
     (ap is_everywhere place ∙ r.single)
     (ap (λ o. found id (cpu_of (home_at o) t).cyclics) place ∙ seen_at (found_in id) s t same (home_of id s))
 
 -- it is known
 pub runs_known : (id moment interval : ℕ) (s : State) → Good s → Running id moment interval s
-    → IsAt (home_of id s) (place_of id s) × (0 < id) × (id ≤ s.last_id)
+    → IsAt (home_of id s) (placement_of id s) × (0 < id) × (id ≤ s.last_id)
 runs_known id moment interval s g r =
-    let at = g.base.homes (home_of id s) id (ap is_some r.here) in by (place_of id s) refl at
+    let at = g.base.homes (home_of id s) id (ap is_some r.here) in by (placement_of id s) refl at
   where
-    by : (o : Option Place) → place_of id s ≡ o → IsAt (home_of id s) (place_of id s)
-        → IsAt (home_of id s) (place_of id s) × (0 < id) × (id ≤ s.last_id)
+    by : (o : Option Place) → placement_of id s ≡ o → IsAt (home_of id s) (placement_of id s)
+        → IsAt (home_of id s) (placement_of id s) × (0 < id) × (id ≤ s.last_id)
     by None is at = absurd (subst (λ p. IsAt (home_of id s) p) is at)
     by (Some p) is at = let k = place_known id s p g.base.rise is in (at, k.0, k.1)
 
@@ -82,7 +82,7 @@ module _ (id : ℕ) where
       (λ n u. found_enter indexes n (component j n e u.clock) u ne) ns s
 
   pub place_enters : (indexes : ℕ → ℕ) (j : ℕ) (e : Everywhere) (ns : List ℕ) (s : State)
-      → place_of id (each (λ n u. enter indexes n (component j n e u.clock) u) ns s).state ≡ place_of id s
+      → placement_of id (each (λ n u. enter indexes n (component j n e u.clock) u) ns s).state ≡ placement_of id s
   place_enters indexes j e [] s = refl
   place_enters indexes j e (n ∷ ns) s = place_enters indexes j e ns (enter indexes n (component j n e s.clock) s).state
 
@@ -100,13 +100,13 @@ module _ (id : ℕ) where
 
   found_mark : (n j : ℕ) (c : Cpu) → id ≢ j → found id (mark_here n j c).cpu.cyclics ≡ found id c.cyclics
   found_mark n j c ne =
-      ap (found id) (same_happen (at_own n (level_of j c) (Mark j))
+      ap (found id) (same_happen (at_own n (handler_level_of j c) (Mark j))
       (record c { cyclics = map (moment_at j never) c.cyclics; removal = Some j })).cyclics
       ∙ found_moment j never c.cyclics ne
 
   found_clear : (n j : ℕ) (c : Cpu) → id ≢ j → found id (clear_here n j c).cpu.cyclics ≡ found id c.cyclics
   found_clear n j c ne =
-      ap (found id) (same_happen (at_own n (level_of j c) (Clear j))
+      ap (found id) (same_happen (at_own n (handler_level_of j c) (Clear j))
       (record c { cyclics = others j c.cyclics; removal = None })).cyclics
       ∙ found_others id j c.cyclics ne
 
@@ -137,7 +137,7 @@ module _ (id : ℕ) where
   pub record Left (s t : State) : Type 0 where
     pub found_ : seen (found_in id) t ≡ seen (found_in id) s
     pub shut : is_leaving id s ≡ false → is_leaving id t ≡ false
-    pub place : place_of id t ≡ place_of id s
+    pub place : placement_of id t ≡ placement_of id s
 
   pub left_same : (s : State) → Left s s
   left_same s = record { found_ = refl; shut = λ h. h; place = refl }
@@ -160,7 +160,7 @@ module _ (id : ℕ) where
       left_then s r (clear j n s).state (left_counts n (found j (cpu_of n s).cyclics) s) (record {
         found_ = on_same (found_in id) n (clear_here n j) r (found_clear n j c ne);
         shut = shut_on n (clear_here n j) r
-            (ap (λ o. option_map_or (λ busy. busy == id) o false) (same_happen (at_own n (level_of j c) (Clear j))
+            (ap (λ o. option_map_or (λ busy. busy == id) o false) (same_happen (at_own n (handler_level_of j c) (Clear j))
             (record c { cyclics = others j c.cyclics; removal = None })).removal);
         place = refl;
       })
@@ -179,7 +179,7 @@ module _ (id : ℕ) where
       left_then s t (begin plain j n s).state (record {
         found_ = on_same (found_in id) n (mark_here n j) s (found_mark n j c ne);
         shut = shut_on n (mark_here n j) s
-            (ap (λ o. option_map_or (λ busy. busy == id) o false) (same_happen (at_own n (level_of j c) (Mark j))
+            (ap (λ o. option_map_or (λ busy. busy == id) o false) (same_happen (at_own n (handler_level_of j c) (Mark j))
             (record c { cyclics = map (moment_at j never) c.cyclics; removal = Some j })).removal
             ∙ ne_eqb j id (λ e. ne (sym e)));
         place = refl;

@@ -11,7 +11,7 @@ use Rattle.cyc_types.specs.Series.{due, next}
 use Rattle.cyc_level.proofs.Maps.{some_same}
 use Rattle.cyc_model.specs.Cpu.{Cyclic, Cpu}
 use Rattle.cyc_model.specs.State.{State, Everywhere, OnAll, absent, cpu_of, numbers_from}
-use Rattle.cyc_model.specs.Places.{place_of, is_leaving}
+use Rattle.cyc_model.specs.Places.{placement_of, is_leaving}
 use Rattle.cyc_model.proofs.Rising.{found, due_of_found}
 use Rattle.cyc_model.proofs.Placing.{place_known}
 use Rattle.cyc_model.proofs.Spread.{Good}
@@ -35,7 +35,7 @@ with_interval interval o = option_map (λ moment. (moment, interval)) o
 -- it is omnipresent, each CPU has just the component that is told, and its removal is not open
 pub record Spread (id : ℕ) (e : Everywhere) (moments : List (Option ℕ)) (s : State) : Type 0 where
   pub stays : is_leaving id s ≡ false
-  pub place : place_of id s ≡ Some (OnAll e)
+  pub place : placement_of id s ≡ Some (OnAll e)
   pub long : length moments ≡ length s.cpus
   pub here : (m : ℕ) → series_on id (cpu_of m s) ≡ with_interval e.interval (slice_index_or moments m None)
 
@@ -54,7 +54,7 @@ module _ (id : ℕ) (e : Everywhere) (moments : List (Option ℕ)) (s : State) (
 
   -- where the component on one CPU changes
   pub spread_one : (n : ℕ) (o : Option ℕ) (t : State) → n < length s.cpus → length t.cpus ≡ length s.cpus
-      → is_leaving id t ≡ false → place_of id t ≡ place_of id s
+      → is_leaving id t ≡ false → placement_of id t ≡ placement_of id s
       → ((m : ℕ) → m ≢ n → found id (cpu_of m t).cyclics ≡ found id (cpu_of m s).cyclics)
       → series_on id (cpu_of n t) ≡ with_interval e.interval o
       → Spread id e (slice_set moments n o) t

@@ -13,7 +13,7 @@ use Rattle.cyc_model.specs.Moving.{reprogram_here}
 use Rattle.cyc_model.specs.Serving.{serve_here}
 use Rattle.cyc_model.specs.Questions.{plain}
 use Rattle.cyc_model.specs.State.{State, Outcome, On, OnAll, Place, cpu_of, each, numbers, online_cpus, cpus_with}
-use Rattle.cyc_model.specs.Places.{id_of, place_of, is_leaving, destination, given, forgotten}
+use Rattle.cyc_model.specs.Places.{id_of, placement_of, is_leaving, destination, given, forgotten}
 use Rattle.cyc_model.specs.Refusals.{magnitude}
 use Rattle.cyc_model.specs.Add.{added}
 use Rattle.cyc_model.specs.Omni.{everywhere}
@@ -57,12 +57,12 @@ never_due t now before = ap (λ (b : Bool). cond b 0 (cond (nat_lt (never + t + 
     + 1))) (lt-ltb now never before)
 
 all_leaving : (id k : ℕ) (s : State) → Good s → (cpu_of k s).removal ≡ Some id → Leaving id s
-all_leaving id k s g is = by (place_of id s) refl (g.base.homes k id held)
+all_leaving id k s g is = by (placement_of id s) refl (g.base.homes k id held)
   where
     held : IsSome (found id (cpu_of k s).cyclics)
     held = (g.base.whole k).held id is
 
-    by : (o : Option Place) → place_of id s ≡ o → IsAt k (place_of id s) → Leaving id s
+    by : (o : Option Place) → placement_of id s ≡ o → IsAt k (placement_of id s) → Leaving id s
     by None at here = absurd (subst (λ p. IsAt k p) at here)
     by (Some (On m bound)) at here = λ n some.
         let a = subst (λ p. IsAt k p) at here in let b = subst (λ p. IsAt n p) at (g.base.homes n id some) in
@@ -86,9 +86,9 @@ none_due id now s g before stopped m = ⊎_elim
 pub leaving_given : (id : ℕ) (s : State) → Good s → is_leaving id s ≡ true → id ≤ s.last_id
 leaving_given id s g leaves =
     let k = leaving_where id s leaves in
-    by k.0 (place_of id s) refl (g.base.homes k.0 id ((g.base.whole k.0).held id k.1))
+    by k.0 (placement_of id s) refl (g.base.homes k.0 id ((g.base.whole k.0).held id k.1))
   where
-    by : (n : ℕ) (o : Option Place) → place_of id s ≡ o → IsAt n (place_of id s) → id ≤ s.last_id
+    by : (n : ℕ) (o : Option Place) → placement_of id s ≡ o → IsAt n (placement_of id s) → id ≤ s.last_id
     by n None at here = absurd (subst (λ p. IsAt n p) at here)
     by n (Some p) at here = (place_known id s p g.base.rise at).1
 

@@ -10,7 +10,7 @@ use Rattle.cyc_script.specs.declared.step.Step.{Step}
 use Rattle.cyc_script.specs.declared.step.Step.TheVariants.{Add, Omni, Bind, Unbind, Reprogram, Remove, Advance, Softint, Juggle}
 use Rattle.cyc_script.specs.declared.step.Step.TheVariants.{Offline, Online}
 use Rattle.cyc_model.specs.Acts.{at_own}
-use Rattle.cyc_model.specs.Cpu.{Cpu, others, level_of}
+use Rattle.cyc_model.specs.Cpu.{Cpu, others, handler_level_of}
 use Rattle.cyc_model.specs.Moving.{mark_here, clear_here, reprogram_here}
 use Rattle.cyc_model.specs.Serving.{serve_here}
 use Rattle.cyc_model.specs.Questions.{plain, outstanding_here}
@@ -57,7 +57,7 @@ online_clear j n s =
     let o = found j (cpu_of n s).cyclics in
     let r = keep_counts n o s in
     let c = cpu_of n r in
-    on_same online_of n (clear_here n j) r (same_happen (at_own n (level_of j c) (Clear j))
+    on_same online_of n (clear_here n j) r (same_happen (at_own n (handler_level_of j c) (Clear j))
     (record c { cyclics = others j c.cyclics; removal = None })).online
     ∙ keeps_counts online_of n o s
 
@@ -72,7 +72,7 @@ online_begin : (j n : ℕ) → Keeps (begin plain j n)
 online_begin j n s =
     let c = cpu_of n s in
     online_poll j n (on n (mark_here n j) s).state
-    ∙ on_same online_of n (mark_here n j) s (same_happen (at_own n (level_of j c) (Mark j)) _).online
+    ∙ on_same online_of n (mark_here n j) s (same_happen (at_own n (handler_level_of j c) (Mark j)) _).online
 
 online_removed : (step : ℕ) (text : List ℕ) (j : ℕ) (o : Outcome) (ns : List ℕ)
     → seen online_of (begun plain step text j ns o).state ≡ seen online_of o.state

@@ -16,7 +16,7 @@ use Rattle.cyc_model.proofs.Still.{still_juggle, still_offline}
 use Rattle.cyc_script_machine.specs.SystemWords.{IsDoneWith, IsRefusedFor, IsAtOnce}
 use Rattle.cyc_script_machine.specs.declared.machine.Machine.{Machine}
 use Rattle.cyc_script_machine.specs.Machine.{Holds, IsReached}
-use Rattle.cyc_script_machine.specs.Words.{Takes}
+use Rattle.cyc_script_machine.specs.Words.{TakesWord}
 use Rattle.cyc_script_machine.proofs.Remembering.{SameNames}
 use Rattle.cyc_script_machine.proofs.Doing.{Keeps, Leaves, refuses, lasts_with}
 use Rattle.cyc_script_machine.proofs.Taking.{truly_refused, refused_takes, takes_with}
@@ -71,7 +71,7 @@ module _ (step n : ℕ) (s : State) (m : Machine) (t : SystemView Tables) (r : I
 
 pub juggle_takes : (texts : List (List ℕ)) (step n : ℕ) (answer : Result JuggleReport Refusal) (line : List ℕ) (s : State)
     (m : Machine)
-    → line ≡ juggle_line step answer → answer ≢ Err Memory → Juggles n answer s m → Takes texts step (steps.Juggle n) line s m
+    → line ≡ juggle_line step answer → answer ≢ Err Memory → Juggles n answer s m → TakesWord texts step (steps.Juggle n) line s m
 juggle_takes texts step n (Ok report) line s m is other does_it =
     takes_with texts step (λ k. moved k report) (steps.Juggle n) line s m does_it is
 juggle_takes texts step n (Err e) line s m is other (why, h) =
@@ -81,7 +81,7 @@ juggle_takes texts step n (Err e) line s m is other (why, h) =
 pub offline_takes : (texts : List (List ℕ)) (step n : ℕ) (answer : Result (Unit {0}) Refusal) (line : List ℕ) (s : State)
     (m : Machine)
     → line ≡ offline_line step answer → answer ≢ Err Memory → GoesOffline n answer s m
-    → Takes texts step (steps.Offline n) line s m
+    → TakesWord texts step (steps.Offline n) line s m
 offline_takes texts step n (Ok done) line s m is other does_it = takes_with texts step accepted
     (steps.Offline n) line s m does_it is
 offline_takes texts step n (Err (Left report)) line s m is other does_it =

@@ -6,7 +6,7 @@ ghost use Rattle.cyc_model.specs.State.{State};
 ghost use Rattle.cyc_script.specs.declared.step.Step.TheVariants as steps;
 ghost use Rattle.cyc_script_machine.specs.Status.{IsMemory};
 ghost use Rattle.cyc_script_machine.specs.Machine.{Holds, IsReached};
-ghost use Rattle.cyc_script_machine.specs.Words.{Takes};
+ghost use Rattle.cyc_script_machine.specs.Words.{TakesWord};
 ghost use Rattle.cyc_placing.specs.Leaving.{Juggles, GoesOffline, juggle_line, why_line, offline_line};
 
 use cyc_script_machine::{Machine, RunFault, juggle_law, kept_law, offline_law};
@@ -90,7 +90,7 @@ pub fn take_juggle(
     cpu: u32,
 ) -> Result<(), RunFault>
     ensures takes { OnOk result ((texts : List (List ℕ)) (s : State) → IsReached step s → Holds s machine.old
-        → Takes texts step (steps.Juggle cpu) (string_bytes line.new) s machine.new) }
+        → TakesWord texts step (steps.Juggle cpu) (string_bytes line.new) s machine.new) }
     ensures memory { IfErr result IsMemory }
 {
     let answer = juggle_cpu(machine, cpu);
@@ -105,7 +105,7 @@ pub fn take_offline(
     cpu: u32,
 ) -> Result<(), RunFault>
     ensures takes { OnOk result ((texts : List (List ℕ)) (s : State) → IsReached step s → Holds s machine.old
-        → Takes texts step (steps.Offline cpu) (string_bytes line.new) s machine.new) }
+        → TakesWord texts step (steps.Offline cpu) (string_bytes line.new) s machine.new) }
     ensures memory { IfErr result IsMemory }
 {
     let answer = offline_cpu(machine, cpu);

@@ -6,7 +6,7 @@ ghost use Rattle.cyc_script.specs.declared.step.Step.TheVariants as steps;
 ghost use Rattle.cyc_model.specs.State.{State};
 ghost use Rattle.cyc_serving.specs.Status.{IsMemory};
 ghost use Rattle.cyc_serving.specs.Machine.{Holds, IsReached};
-ghost use Rattle.cyc_serving.specs.Words.{Takes};
+ghost use Rattle.cyc_serving.specs.Words.{TakesWord};
 
 use cyc_placing::{
     add_cyclic, add_omni, bind_cyclic, online_cpu, reprogram_cyclic, take_juggle, take_offline,
@@ -24,7 +24,7 @@ fn take_add(
 ) -> Result<(), RunFault>
     requires few { step ≤ most_steps }
     ensures takes { OnOk result ((texts : List (List ℕ)) (s : State) → IsReached step s → Holds s machine.old
-        → Takes texts step (steps.Add added.now) (string_bytes line.new) s machine.new) }
+        → TakesWord texts step (steps.Add added.now) (string_bytes line.new) s machine.new) }
     ensures memory { IfErr result IsMemory }
 {
     let answer = add_cyclic(machine, added);
@@ -40,7 +40,7 @@ fn take_omni(
 ) -> Result<(), RunFault>
     requires few { step ≤ most_steps }
     ensures takes { OnOk result ((texts : List (List ℕ)) (s : State) → IsReached step s → Holds s machine.old
-        → Takes texts step (steps.Omni added.now) (string_bytes line.new) s machine.new) }
+        → TakesWord texts step (steps.Omni added.now) (string_bytes line.new) s machine.new) }
     ensures memory { IfErr result IsMemory }
 {
     let answer = add_omni(machine, added);
@@ -55,7 +55,7 @@ fn take_bind(
     bound: &Bind,
 ) -> Result<(), RunFault>
     ensures takes { OnOk result ((texts : List (List ℕ)) (s : State) → IsReached step s → Holds s machine.old
-        → Takes texts step (steps.Bind bound.now) (string_bytes line.new) s machine.new) }
+        → TakesWord texts step (steps.Bind bound.now) (string_bytes line.new) s machine.new) }
     ensures memory { IfErr result IsMemory }
 {
     let answer = bind_cyclic(machine, bound);
@@ -70,7 +70,7 @@ fn take_unbind(
     name: Name,
 ) -> Result<(), RunFault>
     ensures takes { OnOk result ((texts : List (List ℕ)) (s : State) → IsReached step s → Holds s machine.old
-        → Takes texts step (steps.Unbind name) (string_bytes line.new) s machine.new) }
+        → TakesWord texts step (steps.Unbind name) (string_bytes line.new) s machine.new) }
     ensures memory { IfErr result IsMemory }
 {
     let answer = unbind_cyclic(machine, name);
@@ -85,7 +85,7 @@ fn take_reprogram(
     reprogram: &Reprogram,
 ) -> Result<(), RunFault>
     ensures takes { OnOk result ((texts : List (List ℕ)) (s : State) → IsReached step s → Holds s machine.old
-        → Takes texts step (steps.Reprogram reprogram.now) (string_bytes line.new) s machine.new) }
+        → TakesWord texts step (steps.Reprogram reprogram.now) (string_bytes line.new) s machine.new) }
     ensures memory { IfErr result IsMemory }
 {
     let answer = reprogram_cyclic(machine, reprogram);
@@ -100,7 +100,7 @@ fn take_online(
     cpu: u32,
 ) -> Result<(), RunFault>
     ensures takes { OnOk result ((texts : List (List ℕ)) (s : State) → IsReached step s → Holds s machine.old
-        → Takes texts step (steps.Online cpu) (string_bytes line.new) s machine.new) }
+        → TakesWord texts step (steps.Online cpu) (string_bytes line.new) s machine.new) }
     ensures memory { IfErr result IsMemory }
 {
     let answer = online_cpu(machine, cpu);
@@ -118,7 +118,7 @@ pub(crate) fn take_step(
     requires few { step ≤ most_steps }
     requires reached { (s : State) × IsReached step s × Holds s machine.old }
     ensures takes { OnOk result ((s : State) → IsReached step s → Holds s machine.old
-        → Takes (map string_bytes names.now) step taken.now (string_bytes line.new) s machine.new) }
+        → TakesWord (map string_bytes names.now) step taken.now (string_bytes line.new) s machine.new) }
     ensures memory { IfErr result IsMemory }
 {
     match taken {

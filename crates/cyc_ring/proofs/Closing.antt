@@ -3,7 +3,7 @@ use Rattle.std.proofs.Common.{◌≡◌, ◌≢◌, ℕ, ◌+◌, ◌*◌, ◌%�
 use Rattle.std.proofs.Common.{cond}
 use Rattle.std.specs.Prelude.{Option, Some}
 use Rattle.cyc_types.specs.Limits.{cyclics, last_id}
-use Rattle.cyc_level.specs.Level.{Cyclic, Level, in_hand}
+use Rattle.cyc_level.specs.Level.{AdmittedCyclic, SoftLevel, in_hand}
 use Rattle.cyc_level.proofs.Keeps.{same_ceiling}
 use Rattle.ring_rule.specs.declared.RaiseStep.{RaiseStep}
 use Rattle.ring_rule.specs.declared.DrainStep.{DrainStep}
@@ -25,7 +25,7 @@ module _ (k : Setting) (small : k.ceiling < 2 ^ 32) (log : List RingStep) (L : L
   abbrev id : ℕ
   id = get_or ids i 0
 
-  abbrev l : Level
+  abbrev l : SoftLevel
   l = level_after k.ceiling log
 
   abbrev words : List ℕ
@@ -47,7 +47,7 @@ module _ (k : Setting) (small : k.ceiling < 2 ^ 32) (log : List RingStep) (L : L
   pub finished_row : made_calls id ds + get_or lost i 0 + get_or pends i 0 % mark_bit ≡ get_or sent i 0 + ended_calls id rs
   finished_row = let b = book.1 in let m = book.2 in let r = read i low in omega (arith, b, m, r)
 
-  cyclic : (c : Cyclic) × (l.cyclics id ≡ Some c) × (i ≡ c.index)
+  cyclic : (c : AdmittedCyclic) × (l.cyclics id ≡ Some c) × (i ≡ c.index)
   cyclic = let b = behind (made_calls id ds) (ended_calls id rs) (open_stay id rs)
       (l.cyclics id) record { index = i; sent = get_or sent i 0; lost = get_or lost i 0 } (rows.used i low used)
       (L.shows.stays id) in (b.0, b.1, b.2)

@@ -12,7 +12,7 @@ use Rattle.cyc_types.specs.Firing.{FiringCall, Admits, Loads, Raises, Marks, Pol
 use Rattle.cyc_types.specs.Draining.{DrainCall, Takes, Finishes}
 use Rattle.cyc_types.specs.Runs.{Taught, raised_by, lost_by, finished_by, raises_of as raise_in, losses_of as loss_in}
 use Rattle.cyc_types.specs.declared.firing.Raised.TheVariants as answers
-use Rattle.cyc_level.specs.Level.{Cyclic, in_hand}
+use Rattle.cyc_level.specs.Level.{AdmittedCyclic, in_hand}
 use Rattle.cyc_level.specs.Runs.{StayCounts}
 use Rattle.ring_rule.specs.declared.RaiseStep.{RaiseStep}
 use Rattle.ring_rule.specs.declared.DrainStep.{DrainStep}
@@ -165,7 +165,7 @@ idle e m f way goes last = let a = gains way e m goes in let c = last.1 in let d
           ∙ ap (λ (l : List DrainStep). LoadedProducer n.1 ∷ LoadedHardBank n.0 ∷ l) same),
     )
 
-over : (made ended : ℕ) (o : Option StayCounts) (p : Option Cyclic) → o ≡ None → IsSameStay made ended o p → made ≡ ended
+over : (made ended : ℕ) (o : Option StayCounts) (p : Option AdmittedCyclic) → o ≡ None → IsSameStay made ended o p → made ≡ ended
 over made ended None None e h = h
 over made ended None (Some c) e h = absurd h
 over made ended (Some s) p e h = absurd (cc)

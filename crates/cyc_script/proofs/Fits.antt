@@ -15,7 +15,7 @@ use Rattle.cyc_script.specs.declared.context.Context.{Context}
 use Rattle.cyc_script.specs.declared.step.Step.{Step}
 use Rattle.cyc_script.specs.declared.step.Step.TheVariants.{Advance, Juggle, Offline, Online}
 use Rattle.cyc_script.specs.Names.{number_of}
-use Rattle.cyc_script.specs.Parameters.{shaped, at_most, whole_in, name_of, level_of, soft_of, whole_of, skew_of, unsigned_of}
+use Rattle.cyc_script.specs.Parameters.{shaped, at_most, whole_in, name_of, level_in_value, soft_of, whole_of, skew_of, unsigned_of}
 use Rattle.cyc_script.specs.Steps.{Fits, Reads, accepted}
 use Rattle.cyc_script.specs.WellFormed.{name_fits, names_after, moment_fits, moment_after}
 use Rattle.cyc_script.specs.Words.{Form, introduces, refers, advances, nameless, ◌>>=◌, add_of, omni_of, bind_of, unbind_of}
@@ -68,7 +68,7 @@ itself n = grind (arith, nat_tests)
 adds : (parts : List Data) → AreSound (add_of parts)
 unfolding add_of
 adds (name ∷ level ∷ start ∷ interval ∷ []) =
-    and_then (name_of name) _ λ x. and_then (level_of level) _ λ l. and_then (whole_of start) _ λ s.
+    and_then (name_of name) _ λ x. and_then (level_in_value level) _ λ l. and_then (whole_of start) _ λ s.
     and_then (whole_of interval) _ λ i.
     λ n. record { name = itself n; names = refl; untimed = record { fits = λ now. refl; clock = λ now. refl } }
 adds _ = tt
@@ -76,7 +76,7 @@ adds _ = tt
 omnis : (parts : List Data) → AreSound (omni_of parts)
 unfolding omni_of
 omnis (name ∷ level ∷ start ∷ interval ∷ skew ∷ []) =
-    and_then (name_of name) _ λ x. and_then (level_of level) _ λ l. and_then (whole_of start) _ λ s.
+    and_then (name_of name) _ λ x. and_then (level_in_value level) _ λ l. and_then (whole_of start) _ λ s.
     and_then (whole_of interval) _ λ i. and_then (skew_of skew) _ λ w.
     λ n. record { name = itself n; names = refl; untimed = record { fits = λ now. refl; clock = λ now. refl } }
 omnis _ = tt

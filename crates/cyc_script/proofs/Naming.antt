@@ -16,7 +16,7 @@ use Rattle.cyc_script.specs.declared.context.Context.{Context}
 use Rattle.cyc_script.specs.declared.step.Step.{Step}
 use Rattle.cyc_script.specs.declared.step.Step.TheVariants.{Advance}
 use Rattle.cyc_script.specs.Names.{AreNames, number_of}
-use Rattle.cyc_script.specs.Parameters.{is_name, shaped, name_in, name_of, level_of, soft_of, whole_of, moment_of, skew_of}
+use Rattle.cyc_script.specs.Parameters.{is_name, shaped, name_in, name_of, level_in_value, soft_of, whole_of, moment_of, skew_of}
 use Rattle.cyc_script.specs.Parameters.{unsigned_of}
 use Rattle.cyc_script.specs.Steps.{accepted, first_context, numbered, step_of, steps_of}
 use Rattle.cyc_script.specs.Words.{Form, introduces, refers, advances, nameless, ◌>>=◌, add_of, omni_of, bind_of, unbind_of}
@@ -84,13 +84,13 @@ named name f all = named_in (as_str name) f all
 adds : (parts : List Data) → AreNamed (add_of parts)
 unfolding add_of
 adds (name ∷ level ∷ start ∷ interval ∷ []) =
-    named name _ λ x is. and_then (level_of level) _ λ l. and_then (whole_of start) _ λ s. and_then (whole_of interval) _ λ i. is
+    named name _ λ x is. and_then (level_in_value level) _ λ l. and_then (whole_of start) _ λ s. and_then (whole_of interval) _ λ i. is
 adds _ = tt
 
 omnis : (parts : List Data) → AreNamed (omni_of parts)
 unfolding omni_of
 omnis (name ∷ level ∷ start ∷ interval ∷ skew ∷ []) =
-    named name _ λ x is. and_then (level_of level) _ λ l. and_then (whole_of start) _ λ s. and_then (whole_of interval) _ λ i.
+    named name _ λ x is. and_then (level_in_value level) _ λ l. and_then (whole_of start) _ λ s. and_then (whole_of interval) _ λ i.
     and_then (skew_of skew) _ λ w. is
 omnis _ = tt
 

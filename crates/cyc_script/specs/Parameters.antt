@@ -76,8 +76,8 @@ level_in word = if bytes_eq word (codes "low") then Some level.Low else if bytes
     else if bytes_eq word (codes "high") then Some level.High else None
 
 -- the level of a cyclic
-abbrev pub level_of : Data → Result Level Cause
-level_of d = shaped (option_and_then level_in (as_str d))
+abbrev pub level_in_value : Data → Result Level Cause
+level_in_value d = shaped (option_and_then level_in (as_str d))
 
 -- the soft level of a word
 abbrev pub soft_in : List ℕ → Option Soft

@@ -7,7 +7,7 @@ use Rattle.cyc_script.specs.declared.cause.Cause.TheVariants.{Shape}
 use Rattle.cyc_script.specs.declared.step.Step.{Step}
 use Rattle.cyc_script.specs.declared.step.Step.TheVariants.{Add, Omni, Bind, Unbind, Reprogram, Remove, Softint, Juggle, Offline}
 use Rattle.cyc_script.specs.declared.step.Step.TheVariants.{Online}
-use Rattle.cyc_script.specs.Parameters.{shaped, name_of, level_of, soft_of, whole_of, moment_of, skew_of, unsigned_of}
+use Rattle.cyc_script.specs.Parameters.{shaped, name_of, level_in_value, soft_of, whole_of, moment_of, skew_of, unsigned_of}
 
 -- a step whose name is still a text, and so a function of the name's number: it introduces a new name, refers to one that was
 -- introduced before, advances the clock to a moment, or has neither a name nor a moment
@@ -27,7 +27,7 @@ abbrev pub ◌>>=◌ : {A B E : Type 0} → Result A E → (A → Result B E) �
 unfoldable pub add_of : List Data → Result Form Cause
 add_of (name ∷ level ∷ start ∷ interval ∷ []) = do
   n ← name_of name
-  l ← level_of level
+  l ← level_in_value level
   s ← whole_of start
   i ← whole_of interval
   Ok (introduces n (λ k. Add (record { name = k; level = l; start = s; interval = i })))
@@ -37,7 +37,7 @@ add_of _ = Err Shape
 unfoldable pub omni_of : List Data → Result Form Cause
 omni_of (name ∷ level ∷ start ∷ interval ∷ skew ∷ []) = do
   n ← name_of name
-  l ← level_of level
+  l ← level_in_value level
   s ← whole_of start
   i ← whole_of interval
   w ← skew_of skew

@@ -5,7 +5,7 @@ ghost use Rattle.std.specs.List.{list_all};
 ghost use Rattle.serde_json.specs.View.{view};
 ghost use Rattle.cyc_script.specs.Answers.{Gives};
 ghost use Rattle.cyc_script.specs.Parameters.{number_in, whole_of, moment_of, skew_of, unsigned_of, is_name_byte, is_name};
-ghost use Rattle.cyc_script.specs.Parameters.{name_of, level_of, soft_of};
+ghost use Rattle.cyc_script.specs.Parameters.{name_of, level_in_value, soft_of};
 
 use crate::cause::Cause;
 use cyc_types::{Level, Moment, Soft};
@@ -97,7 +97,7 @@ pub(crate) fn name(value: &Value) -> Result<&str, Cause>
 
 /// The level of a cyclic.
 pub(crate) fn level(value: &Value) -> Result<Level, Cause>
-    ensures { result ≡ level_of (view value.now) }
+    ensures { result ≡ level_in_value (view value.now) }
 {
     let Some(word) = value.as_str() else {
         return Err(Cause::Shape);

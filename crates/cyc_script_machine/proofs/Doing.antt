@@ -11,7 +11,7 @@ use Rattle.cyc_model.specs.Refusals.{unless, refusal}
 use Rattle.cyc_model.specs.Script.{refusal_of, does, word}
 use Rattle.cyc_model.proofs.Events.{calls_append}
 use Rattle.cyc_model.proofs.Telling.{tells_steps}
-use Rattle.cyc_system_model.specs.Shown.{IsSystem, Shows}
+use Rattle.cyc_system_model.specs.Shown.{IsSystem, ShowsSystem}
 use Rattle.cyc_system_model.specs.Words.{Gives, IsDone, IsDoneWith, IsRefusedFor}
 use Rattle.cyc_script_machine.specs.declared.machine.Machine.{Machine}
 use Rattle.cyc_script_machine.specs.Machine.{Holds, Remembers, IsWide, IsReached, AllMost, number_of}
@@ -111,7 +111,7 @@ accepts x s m n h kept done clock tally leaves remembers = record {
 }
 
 -- a step that is refused leaves the machine as it shows it
-pub refuses : (s : State) (m n : Machine) → Holds s m → Keeps n.system → Shows s n.system → n.clock ≡ m.clock → n.tally ≡ m.tally
+pub refuses : (s : State) (m n : Machine) → Holds s m → Keeps n.system → ShowsSystem s n.system → n.clock ≡ m.clock → n.tally ≡ m.tally
     → SameNames m n → Holds s n
 refuses s m n h kept shows clock tally same = record {
   system = kept.system;

@@ -4,18 +4,18 @@ use Rattle.std.proofs.Common.{Option, Some, None, refl, ap, sym, ◌∙◌, arit
 use Rattle.std.specs.Prelude.{⊤, slice_index_or, replicate}
 use Rattle.cyc_types.specs.declared.level.Soft.{Soft}
 use Rattle.cyc_types.specs.declared.level.Soft.TheVariants.{Low, Lock}
-use Rattle.cyc_types.specs.declared.level.Level.{Level as CyclicLevel}
+use Rattle.cyc_types.specs.declared.level.Level.{Level}
 use Rattle.cyc_types.specs.declared.level.Level.TheVariants as level
 use Rattle.cyc_types.specs.declared.refusal.Refusal.{Refusal}
 use Rattle.cyc_level.specs.declared.Event.{Event}
 use Rattle.cyc_level.specs.declared.Event.TheVariants.{Admit, Expire, Lose, Publish, Take, Finish, Mark, Clear, Switch, Follow}
-use Rattle.cyc_level.specs.Level.{Level, count}
+use Rattle.cyc_level.specs.Level.{SoftLevel, count}
 use Rattle.cyc_expirations.specs.Expirations.{Expiration}
 use Rattle.cyc_script.specs.declared.step.Step.{Step}
 use Rattle.cyc_script.specs.declared.step.Step.TheVariants.{Add, Omni, Bind, Unbind, Reprogram, Remove, Advance, Softint, Juggle}
 use Rattle.cyc_script.specs.declared.step.Step.TheVariants.{Offline, Online}
 use Rattle.cyc_model.specs.Acts.{Act, At, Call, at_own, events_at}
-use Rattle.cyc_model.specs.Cpu.{Cpu, level_of, new_cpu}
+use Rattle.cyc_model.specs.Cpu.{Cpu, handler_level_of, new_cpu}
 use Rattle.cyc_model.specs.Firing.{raised, expiry, expire_here, expire_all, due_here, fire_here}
 use Rattle.cyc_model.specs.Questions.{plain}
 use Rattle.cyc_model.specs.Serving.{level_at, level_after}
@@ -80,12 +80,12 @@ below_append xs ys a b c one two =
           (all_acts (IsBelow b) (IsBelow c) (λ e. more_below b c e high) xs one.1) two.1,
     )
 
-below_admit : (n id a : ℕ) (k : CyclicLevel) → Below (at_own n k (Admit id a)) a (a + 1)
+below_admit : (n id a : ℕ) (k : Level) → Below (at_own n k (Admit id a)) a (a + 1)
 below_admit n id a level.High = (omega arith, tt)
 below_admit n id a level.Lock = (omega arith, (omega arith, tt))
 below_admit n id a level.Low = (omega arith, (omega arith, tt))
 
-raised_below : (high n : ℕ) (soft : Soft) (id : ℕ) (l : Level) → AllActs (IsBelow high) (map (At n soft) (raised id l))
+raised_below : (high n : ℕ) (soft : Soft) (id : ℕ) (l : SoftLevel) → AllActs (IsBelow high) (map (At n soft) (raised id l))
 raised_below high n soft id l = by (count l id == l.ceiling) (count l id == 0)
   where
     by : (a b : Bool) → AllActs (IsBelow high)
@@ -94,7 +94,7 @@ raised_below high n soft id l = by (count l id == l.ceiling) (count l id == 0)
     by false true = (tt, (tt, tt))
     by false false = (tt, tt)
 
-expiry_below : (high n id : ℕ) (k : CyclicLevel) (c : Cpu) → AllActs (IsBelow high) (expiry n k id c)
+expiry_below : (high n id : ℕ) (k : Level) (c : Cpu) → AllActs (IsBelow high) (expiry n k id c)
 expiry_below high n id level.High c = (tt, tt)
 expiry_below high n id level.Lock c = raised_below high n Lock id c.lock
 expiry_below high n id level.Low c = raised_below high n Low id c.low
@@ -103,7 +103,7 @@ expiries_below : (high n : ℕ) (ps : List Expiration) (c : Cpu) → AllActs (Is
 expiries_below high n [] c = tt
 expiries_below high n (p ∷ ps) c =
     acts_append (IsBelow high) (expire_here n p.id c).acts (expire_all n ps (expire_here n p.id c).cpu).acts
-    (expiry_below high n p.id (level_of p.id c) c) (expiries_below high n ps (expire_here n p.id c).cpu)
+    (expiry_below high n p.id (handler_level_of p.id c) c) (expiries_below high n ps (expire_here n p.id c).cpu)
 
 below_fires : (now : ℕ) (ns : List ℕ) (s : State) → Below (each (λ n. on n (fire_here n now)) ns s).acts s.admissions
     (each (λ n. on n (fire_here n now)) ns s).state.admissions

@@ -10,7 +10,7 @@ use Rattle.cyc_text.specs.declared.lines.Counts.{Counts}
 use Rattle.cyc_script.specs.declared.step.Step.{Step}
 use Rattle.cyc_model.specs.Questions.{plain}
 use Rattle.cyc_model.specs.State.{State, Outcome, Place, Placed}
-use Rattle.cyc_model.specs.Places.{place_of, is_unknown, given}
+use Rattle.cyc_model.specs.Places.{placement_of, is_unknown, given}
 use Rattle.cyc_model.proofs.Placing.{place_given_new}
 use Rattle.std.specs.Prelude.{not, is_some, find}
 use Rattle.std.specs.Option.{option_map}

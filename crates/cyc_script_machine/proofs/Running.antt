@@ -3,7 +3,7 @@ use Rattle.std.proofs.Common.{◌≡◌, ℕ, zero, suc, ◌+◌, ◌<◌, ◌�
 use Rattle.std.proofs.Common.{take, drop, refl, ap, sym, ◌∙◌, subst, arith}
 use Rattle.std.proofs.lemmas.List.{length-append, length-take-le, take_more, take-append-drop}
 use Rattle.cyc_level.specs.declared.Event.{Event}
-use Rattle.cyc_level.specs.Level.{Level}
+use Rattle.cyc_level.specs.Level.{SoftLevel}
 use Rattle.cyc_level.specs.Events.{after}
 use Rattle.cyc_script.specs.declared.step.Step.{Step}
 use Rattle.cyc_model.specs.Acts.{events_at}
@@ -19,7 +19,7 @@ use Rattle.cyc_model.proofs.Reaching.{length_new}
 use Rattle.cyc_system_model.specs.Words.{Gives}
 use Rattle.cyc_script_machine.specs.declared.machine.Machine.{Machine}
 use Rattle.cyc_script_machine.specs.Machine.{Holds, IsReached}
-use Rattle.cyc_script_machine.specs.Words.{Takes}
+use Rattle.cyc_script_machine.specs.Words.{TakesWord}
 use Rattle.cyc_script_machine.specs.Runs.{Runs, listed}
 use Rattle.cyc_script_machine.proofs.Indexes.{same_run, same_line}
 
@@ -90,7 +90,7 @@ module _ (cpus ceiling : ℕ) (texts : List (List ℕ)) (done : List Step) where
 
 -- ---- free indexes
 
-can_append : (xs ys : List Event) (l : Level) → AllCanBeAdmitted xs l → AllCanBeAdmitted ys (level_after xs l)
+can_append : (xs ys : List Event) (l : SoftLevel) → AllCanBeAdmitted xs l → AllCanBeAdmitted ys (level_after xs l)
     → AllCanBeAdmitted (xs ++ ys) l
 can_append [] ys l first rest = rest
 can_append (x ∷ xs) ys l first rest = (first.0, can_append xs ys (after x l) first.1 rest)
@@ -113,7 +113,7 @@ module _ (cpus ceiling : ℕ) (texts : List (List ℕ)) (done : List Step) (m : 
   }
 
   module _ (x : Step) (line : List ℕ) (n : Machine)
-      (t : Takes texts (1 + length done) x line (run_on (listed r.given) cpus ceiling texts done).state n) where
+      (t : TakesWord texts (1 + length done) x line (run_on (listed r.given) cpus ceiling texts done).state n) where
     given_then : List ℕ
     given_then = r.given ++ t.given
 
@@ -172,7 +172,7 @@ line_left (x ∷ xs) ys zs same = line_left xs ys zs (ap tail same)
 -- it is the one that the definition's step has, whatever the indexes
 pub line_of : (cpus ceiling : ℕ) (texts : List (List ℕ)) (done : List Step) (m : Machine) (r : Runs cpus ceiling texts done m)
     (x : Step) (line : List ℕ) (n : Machine)
-    → Takes texts (1 + length done) x line (run_on (listed r.given) cpus ceiling texts done).state n
+    → TakesWord texts (1 + length done) x line (run_on (listed r.given) cpus ceiling texts done).state n
     → (f : ℕ → ℕ) → line ≡ (word plain texts f (1 + length done) x (run_on f cpus ceiling texts done).state).line
 line_of cpus ceiling texts done m r x line n t f =
     line_left (run_on f cpus ceiling texts done).line line _
@@ -181,13 +181,13 @@ line_of cpus ceiling texts done m r x line n t f =
 -- the same where the step has this number
 pub takes_at : (cpus ceiling : ℕ) (texts : List (List ℕ)) (done : List Step) (step : ℕ) (x : Step) (line : List ℕ) (m n : Machine)
     → 0 < cpus → cpus ≤ 16 → step ≡ 1 + length done → (r : Runs cpus ceiling texts done m)
-    → ((s : State) → IsReached step s → Holds s m → Takes texts step x line s n)
+    → ((s : State) → IsReached step s → Holds s m → TakesWord texts step x line s n)
     → ((f : ℕ → ℕ) → line ≡ (word plain texts f step x (run_on f cpus ceiling texts done).state).line)
     × Runs cpus ceiling texts (done ++ x ∷ []) n
 takes_at cpus ceiling texts done step x line m n some few is r takes =
     let s = (run_on (listed r.given) cpus ceiling texts done).state in
     let t = takes s (reached_so cpus ceiling texts done m r some few step (omega (arith, is))) r.holds in
-    let u = subst (λ k. Takes texts k x line s n) is t in (
+    let u = subst (λ k. TakesWord texts k x line s n) is t in (
       λ f. line_of cpus ceiling texts done m r x line n u f
           ∙ ap (λ k. (word plain texts f k x (run_on f cpus ceiling texts done).state).line) (sym is),
       runs_on cpus ceiling texts done m r x line n u,

@@ -7,13 +7,13 @@ use Rattle.std.proofs.lemmas.List.Elements.{All-append}
 use Rattle.std.proofs.Math.ListN.{get_or-eq_default}
 use Rattle.std.proofs.lemmas.Bool.{cases_lt}
 use Rattle.cyc_types.specs.Tally.{TallyView, tally_made, tally_count}
-use Rattle.cyc_level.specs.Level.{Level, empty_level}
+use Rattle.cyc_level.specs.Level.{SoftLevel, empty_level}
 use Rattle.cyc_core.specs.FiringSide.{firing_view}
 use Rattle.cyc_core.specs.Tables.{Tables, level_of}
 use Rattle.cyc_system_model.specs.Cpu.{IsFresh}
 use Rattle.cyc_system_model.specs.Soft.{firing_at}
 use Rattle.cyc_model.specs.Script.{start}
-use Rattle.cyc_system_model.specs.Shown.{Shows, IsSystem}
+use Rattle.cyc_system_model.specs.Shown.{ShowsSystem, IsSystem}
 use Rattle.cyc_system_model.specs.Kept.{AreNew}
 use Rattle.cyc_script_machine.specs.declared.machine.Machine.{Machine}
 use Rattle.cyc_script_machine.specs.Machine.{Holds, IsWide, AllMost, number_of, id_at}
@@ -47,8 +47,8 @@ use Rattle.cyc_system_model.specs.Room.{HaveAllRoom}
 use Rattle.cyc_system_model.specs.Shown.{shown_list, shown_record, AllFull}
 
 -- an empty level as its firing side sees it
-fresh : (ceiling : ℕ) (l : Level) → l ≡ empty_level ceiling → IsFresh (firing_view l)
-fresh ceiling l is = subst (λ (k : Level). IsFresh (firing_view k)) (sym is)
+fresh : (ceiling : ℕ) (l : SoftLevel) → l ≡ empty_level ceiling → IsFresh (firing_view l)
+fresh ceiling l is = subst (λ (k : SoftLevel). IsFresh (firing_view k)) (sym is)
     (record { none = λ id. refl; unmarked = refl; bank = refl; free = refl })
 
 pub fresh_levels : (ceiling : ℕ) (ends : List (Tables × Tables)) → AreNew ceiling ends
@@ -99,7 +99,7 @@ no_ids (suc n) = ap (λ ns. 0 ∷ ns) (no_ids n)
 
 pub held_new : (cpus ceiling names : ℕ) (m : Machine) → m.clock ≡ 0 → m.tally ≡ tally_made 1 65536 (2 ^ 64 - 1)
     → m.names.items ≡ replicate names None → length m.counted.items ≡ names → length m.named.items ≡ 65536 → AllMost m.system.cpus
-    → HaveAllRoom m.system.cpus → IsSystem m.system × Shows (start cpus ceiling names) m.system
+    → HaveAllRoom m.system.cpus → IsSystem m.system × ShowsSystem (start cpus ceiling names) m.system
     → Holds (start cpus ceiling names) m
 held_new cpus ceiling names m clock tally ids counted named most room shown = record {
   system = shown.0;
@@ -139,8 +139,8 @@ new_empty most ceiling (e ∷ ends) new zero d low =
       removal = refl;
       size = refl;
       followed = (
-        ap (λ (l : Level). (firing_view l).followed) own.0,
-        ap (λ (l : Level). (firing_view l).followed) own.1,
+        ap (λ (l : SoftLevel). (firing_view l).followed) own.0,
+        ap (λ (l : SoftLevel). (firing_view l).followed) own.1,
       );
     }
 new_empty most ceiling (e ∷ ends) new (suc k) d low =
@@ -251,11 +251,11 @@ come_back (v ∷ vs) (w ∷ ws) empty two =
       come_back vs ws (λ k d low. empty (suc k) d (omega (arith, low))) two.1,
     )
   where
-    same_end : (a b : Level) → b ≡ a → IsSameEnd (firing_view a) (firing_view b)
+    same_end : (a b : SoftLevel) → b ≡ a → IsSameEnd (firing_view a) (firing_view b)
     same_end a b is = record {
-      ceiling = ap (λ (l : Level). (firing_view l).ceiling) is;
+      ceiling = ap (λ (l : SoftLevel). (firing_view l).ceiling) is;
       indexes = λ id. ap
-          (λ (l : Level). index_of id (firing_view l)) is;
+          (λ (l : SoftLevel). index_of id (firing_view l)) is;
     }
 
 -- ---- the definition has them as before
@@ -309,7 +309,7 @@ module _ (v w : SystemView Tables) (two : EachTwo HasReserved v.cpus.cpus w.cpus
     tied = λ n cpu is. let x = two_at v.cpus.cpus w.cpus.cpus n cpu two is in reserved_tied x.0 cpu x.2 (h.tied n x.0 x.1);
   }
 
-  pub still_shows : (s : State) → Shows s v → Shows s w
+  pub still_shows : (s : State) → ShowsSystem s v → ShowsSystem s w
   still_shows s h = record {
     cpus = h.cpus ∙ sym (shown_two v.cpus.online v.cpus.cpus w.cpus.cpus two) ∙ ap (λ os. shown_list os w.cpus.cpus) (sym online);
     placed = h.placed ∙ sym (ap (map shown_record) records);

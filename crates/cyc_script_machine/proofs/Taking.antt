@@ -13,7 +13,7 @@ use Rattle.cyc_model.specs.Script.{refusal_of, does, word}
 use Rattle.cyc_system_model.specs.Answers.{IsRefused}
 use Rattle.cyc_script_machine.specs.declared.machine.Machine.{Machine}
 use Rattle.cyc_script_machine.specs.Machine.{Holds}
-use Rattle.cyc_script_machine.specs.Words.{Comes, Accepts, AcceptsWith, Answers, Takes, answer_line}
+use Rattle.cyc_script_machine.specs.Words.{Comes, Accepts, AcceptsWith, Answers, TakesWord, answer_line}
 use Rattle.cyc_script_machine.proofs.Doing.{word_done, word_refused}
 
 -- the word says nothing else where it is done
@@ -28,7 +28,7 @@ truly_refused e why other is = is
 
 -- a refused step does nothing
 pub refused_takes : (texts : List (List ℕ)) (step : ℕ) (x : Step) (line : List ℕ) (e : Refusal) (s : State) (m : Machine)
-    → refusal_of plain x s ≡ Some e → line ≡ (refusal step e s).line → Holds s m → Takes texts step x line s m
+    → refusal_of plain x s ≡ Some e → line ≡ (refusal step e s).line → Holds s m → TakesWord texts step x line s m
 refused_takes texts step x line e s m some same h = record {
   given = [];
   line_is = λ indexes gives. same ∙ ap (λ (o : Outcome). o.line) (sym (word_refused texts indexes step x s e some));
@@ -38,7 +38,7 @@ refused_takes texts step x line e s m some same h = record {
 
 -- a step that is done
 pub done_takes : (texts : List (List ℕ)) (step : ℕ) (x : Step) (line : List ℕ) (s : State) (m : Machine) → Accepts x s m
-    → ((indexes : ℕ → ℕ) → line ≡ (does plain texts indexes step x s).line) → Takes texts step x line s m
+    → ((indexes : ℕ → ℕ) → line ≡ (does plain texts indexes step x s).line) → TakesWord texts step x line s m
 done_takes texts step x line s m done same = record {
   given = done.given;
   line_is = λ indexes gives. same indexes ∙ ap (λ (o : Outcome). o.line) (sym (word_done texts indexes step x s done.accepted));
@@ -48,7 +48,7 @@ done_takes texts step x line s m done same = record {
 
 -- one whose line tells more
 pub takes_with : (texts : List (List ℕ)) (step : ℕ) (says : ℕ → List ℕ) (x : Step) (line : List ℕ) (s : State) (m : Machine)
-    → AcceptsWith says x s m → line ≡ says step → Takes texts step x line s m
+    → AcceptsWith says x s m → line ≡ says step → TakesWord texts step x line s m
 takes_with texts step says x line s m done same = record {
   given = done.given;
   line_is = λ indexes gives. same ∙ sym (done.said texts indexes step gives)
@@ -59,7 +59,7 @@ takes_with texts step says x line s m done same = record {
 
 pub taken : (texts : List (List ℕ)) (step : ℕ) (x : Step) (answer : Result (Unit {0}) Refusal) (line : List ℕ) (s : State)
     (m : Machine)
-    → SaysOk x → answer ≢ Err Memory → line ≡ answer_line step answer → Answers x answer s m → Takes texts step x line s m
+    → SaysOk x → answer ≢ Err Memory → line ≡ answer_line step answer → Answers x answer s m → TakesWord texts step x line s m
 taken texts step x (Ok done) line s m says other is does_it =
     done_takes texts step x line s m does_it (λ indexes. is ∙ sym (says texts indexes step s))
 taken texts step x (Err e) line s m says other is (why, h) =

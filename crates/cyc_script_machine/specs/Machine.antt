@@ -12,7 +12,7 @@ use Rattle.cyc_core.specs.Tables.{Tables}
 use Rattle.cyc_system_model.specs.Cpu.{CpuView}
 use Rattle.cyc_system_model.specs.Cpus.{CpusView, IsCpu}
 use Rattle.cyc_system_model.specs.Room.{HaveAllRoom}
-use Rattle.cyc_system_model.specs.Shown.{Shows, IsSystem}
+use Rattle.cyc_system_model.specs.Shown.{ShowsSystem, IsSystem}
 use Rattle.cyc_script_machine.specs.declared.machine.Counted.{Counted}
 use Rattle.cyc_script_machine.specs.declared.machine.Machine.{Machine}
 
@@ -65,7 +65,7 @@ pub record Remembers (s : State) (m : Machine) : Type 0 where
 -- the definition's machine shows this one: its clock, its CPUs with their cyclics, the calls of each id, and the id of each name
 pub record Holds (s : State) (m : Machine) : Type 0 where
   pub system : IsSystem m.system
-  pub shows : Shows s m.system
+  pub shows : ShowsSystem s m.system
   pub clock : s.clock ≡ m.clock
   pub called : (id : ℕ) → tally_count m.tally id ≡ s.called id
   pub names : s.names ≡ map number_of m.names.items

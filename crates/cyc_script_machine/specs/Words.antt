@@ -51,7 +51,7 @@ answer_line step (Ok done) = accepted step
 answer_line step (Err e) = refused step (number_of e)
 
 -- The word was taken, and this is its line: the definition's word has the same line and comes to what the machine did.
-pub record Takes (texts : List (List ℕ)) (step : ℕ) (x : Step) (line : List ℕ) (s : State) (m : Machine) : Type 0 where
+pub record TakesWord (texts : List (List ℕ)) (step : ℕ) (x : Step) (line : List ℕ) (s : State) (m : Machine) : Type 0 where
   pub given : List ℕ
   pub line_is : (indexes : ℕ → ℕ) → Gives indexes s.admissions given → line ≡ (word plain texts indexes step x s).line
   pub comes : (indexes : ℕ → ℕ) → Gives indexes s.admissions given → Comes given s (word plain texts indexes step x s) m

@@ -15,7 +15,7 @@ use Rattle.cyc_model.specs.Advance.{advance}
 use Rattle.cyc_script_machine.specs.Advancing.{at_clock, HasFired, IsAdvanced}
 use Rattle.cyc_script_machine.specs.declared.machine.Machine.{Machine}
 use Rattle.cyc_script_machine.specs.Machine.{Holds, IsReached}
-use Rattle.cyc_script_machine.specs.Words.{Comes, Takes}
+use Rattle.cyc_script_machine.specs.Words.{Comes, TakesWord}
 use Rattle.cyc_script_machine.proofs.Doing.{called_done, word_done}
 use Rattle.cyc_model.proofs.Still.{still_fires}
 use Rattle.cyc_script_machine.proofs.Named.{reached_good}
@@ -90,7 +90,7 @@ advanced step k n expired lost now s first t a clock before d =
 
 -- the word, and where it is refused
 pub advance_taken : (texts : List (List ℕ)) (step now : ℕ) (line : List ℕ) (s : State) (t : Machine) → now < never
-    → line ≡ (advance step now s).line → Comes [] s (advance step now s) t → Takes texts step (Advance now) line s t
+    → line ≡ (advance step now s).line → Comes [] s (advance step now s) t → TakesWord texts step (Advance now) line s t
 advance_taken texts step now line s t before same comes = record {
   given = [];
   line_is = λ indexes gives. same ∙ ap (λ (o : Outcome). o.line)

@@ -34,7 +34,7 @@ use Rattle.cyc_script_machine.specs.Removal.{told_by, IsRemoved, IsKept}
 use Rattle.cyc_script_machine.specs.declared.machine.Machine.{Machine}
 use Rattle.cyc_script_machine.specs.Machine.{Holds, Remembers, IsReached, id_at, told_of, number_of as id_number}
 use Rattle.cyc_script_machine.specs.Runs.{listed}
-use Rattle.cyc_script_machine.specs.Words.{Accepts, Answers, Takes}
+use Rattle.cyc_script_machine.specs.Words.{Accepts, Answers, TakesWord}
 use Rattle.cyc_model.proofs.Still.{still_remove}
 use Rattle.cyc_model.proofs.Answering.{counts_removed}
 use Rattle.cyc_script_machine.proofs.Doing.{Keeps, Leaves, accepts, refuses}
@@ -167,14 +167,14 @@ refused_as e = Err e
 pub remove_taken : (texts : List (List ℕ)) (step name : ℕ) (removal : SystemRemoval) (line : List ℕ) (s : State) (n : Machine)
     → Accepts (Remove name) s n
     → ((indexes : ℕ → ℕ) → (does plain texts indexes step (Remove name) s).line ≡ begun_line step (text_in texts name) removal)
-    → line ≡ begun_line step (text_in texts name) removal → Takes texts step (Remove name) line s n
+    → line ≡ begun_line step (text_in texts name) removal → TakesWord texts step (Remove name) line s n
 remove_taken texts step name removal line s n done says same =
     done_takes texts step (Remove name) line s n done (λ indexes. same ∙ sym (says indexes))
 
 pub remove_refused : (texts : List (List ℕ)) (step name : ℕ) (e : Refusal) (line : List ℕ) (s : State) (n : Machine)
     → IsRefused e (refusal_of plain (Remove name) s) × Holds s n → refused_as e ≢ refused_as Memory
     → line ≡ refused step (number_of e)
-    → Takes texts step (Remove name) line s n
+    → TakesWord texts step (Remove name) line s n
 remove_refused texts step name e line s n (why, h) other same =
     refused_takes texts step (Remove name) line e s n
     (truly_refused e (refusal_of plain (Remove name) s) (λ memory. other (ap refused_as memory)) why) same h

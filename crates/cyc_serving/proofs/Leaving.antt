@@ -5,7 +5,7 @@ use Rattle.std.specs.Prelude.{nat_le}
 use Rattle.std.specs.Option.{option_map}
 use Rattle.std.proofs.lemmas.Bool.Decides.{nat_tests}
 use Rattle.cyc_model.specs.State.{State, Placed, cpu_of}
-use Rattle.cyc_model.specs.Places.{place_of, is_leaving}
+use Rattle.cyc_model.specs.Places.{placement_of, is_leaving}
 use Rattle.cyc_model.specs.Softint.{leaving_ids}
 use Rattle.cyc_model.specs.Laws.{RiseTo}
 use Rattle.cyc_model.proofs.Base.{IsAt}
@@ -101,7 +101,7 @@ open_leaving s g n k is =
     leaving true e = e
     leaving false e = absurd (not_leaving k s e n is)
 
-    at : IsAt n (place_of k s)
+    at : IsAt n (placement_of k s)
     at = g.base.homes n k ((g.base.whole n).held k is)
 
     placed : (o : Option Placed) → find (λ (p : Placed). p.id == k) s.placed ≡ o → Has k (map (λ (p : Placed). p.id) s.placed)

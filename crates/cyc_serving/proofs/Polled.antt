@@ -26,13 +26,13 @@ use Rattle.cyc_script_machine.proofs.Spots.{same_some, none_some}
 use mathlib.Core.Logic.{dite}
 use native.Mathlib.Decide.{ℕ_discrete}
 use Rattle.std.specs.Prelude.{slice_set, Ok, Err}
-use Rattle.cyc_script_machine.specs.Shown.{Shows}
+use Rattle.cyc_script_machine.specs.Shown.{ShowsSystem}
 use Rattle.cyc_script_machine.specs.Removal.{HavePolled, IsInterrupted, answer_line, told_by}
 use Rattle.cyc_script_machine.specs.declared.machine.Machine.{Machine}
 use Rattle.cyc_script_machine.specs.Machine.{Holds, Remembers, IsWide, id_at, name_at, told_of, number_of}
 use Rattle.cyc_script_machine.proofs.Doing.{Keeps}
 use Rattle.cyc_script_machine.proofs.Remembering.{SameNames, remembers_on, remembers_ended, remembers_nameless, no_name}
-use Rattle.cyc_script_machine.specs.Words.{Comes, Takes}
+use Rattle.cyc_script_machine.specs.Words.{Comes, TakesWord}
 use Rattle.cyc_script_machine.proofs.Doing.{word_done}
 use Rattle.cyc_script_machine.proofs.Named.{reached_good}
 use Rattle.cyc_serving.specs.Interrupting.{HasServed, IsPolling}
@@ -106,7 +106,7 @@ module _ (texts : List (List ℕ)) (step : ℕ) (i : SoftintStep) (s : State) wh
     }
 
     -- it has not answered
-    pub remembers_open : (n : Machine) → Shows (left (ids ++ id ∷ [])) n.system → Agrees n.system → SameNames m n
+    pub remembers_open : (n : Machine) → ShowsSystem (left (ids ++ id ∷ [])) n.system → Agrees n.system → SameNames m n
         → Changes fires firing_at m.system (PollRemove id (Ok None)) n.system → Remembers (left (ids ++ id ∷ [])) n
     remembers_open n shows agrees same (inl (e, why, said, none)) = absurd (let no : Ok None ≡ Err e = said in cc)
     remembers_open n shows agrees same (inr (none, (way, ns, each_one, some))) =
@@ -213,7 +213,7 @@ module _ (texts : List (List ℕ)) (step : ℕ) (i : SoftintStep) (s : State) wh
   pub softint_taken : (lines line : List ℕ) (made : Ran) (first second : RunningSystem TallyView Tables) (m : Machine)
       → IsPolling texts step (leaving_ids (interrupt step i s).state) lines i s m
       → IsInterrupted tally_count texts step i made lines s first second m.system
-      → line ≡ ran step made.calls made.idle ++ lines → Takes texts step (Softint i) line s m
+      → line ≡ ran step made.calls made.idle ++ lines → TakesWord texts step (Softint i) line s m
   softint_taken lines line made first second m p d same = record {
     given = [];
     line_is = λ indexes gives. same ∙ sym d.line

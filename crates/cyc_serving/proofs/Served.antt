@@ -16,7 +16,7 @@ use Rattle.cyc_types.specs.declared.refusal.Refusal.{Refusal}
 use Rattle.cyc_types.specs.declared.refusal.Refusal.TheVariants.{NoCpu}
 use Rattle.cyc_level.specs.declared.Event.{Event}
 use Rattle.cyc_level.specs.declared.Event.TheVariants.{Take, Finish, Follow}
-use Rattle.cyc_level.specs.Level.{Cyclic as Admitted, Level, count_in}
+use Rattle.cyc_level.specs.Level.{AdmittedCyclic, SoftLevel, count_in}
 use Rattle.cyc_core.specs.Reached.{Happens}
 use Rattle.cyc_core.specs.DrainingSide.{take_events}
 use Rattle.cyc_core.specs.Tables.{Tables, level_of}
@@ -32,8 +32,8 @@ use Rattle.cyc_script_machine.proofs.Spots.{same_some, none_some}
 use Rattle.cyc_script_machine.specs.Calls.{Does, SoftInterrupt}
 use Rattle.cyc_script_machine.specs.SoftFault.{SoftFault}
 use Rattle.cyc_script_machine.specs.SoftFault.TheVariants as fault
-use Rattle.cyc_model.specs.Agreement.{as_level}
-use Rattle.cyc_model.specs.Cpu.{Cyclic, Cpu, is_of, cyclic_of, level_of as level_in}
+use Rattle.cyc_types.specs.Levels.{as_level}
+use Rattle.cyc_model.specs.Cpu.{Cyclic, Cpu, is_of, cyclic_of, handler_level_of}
 use Rattle.cyc_model.specs.Acts.{calls_of}
 use Rattle.cyc_model.specs.Serving.{level_at, interrupt_here}
 use Rattle.cyc_model.specs.State.{State, absent, cpu_of}
@@ -44,7 +44,7 @@ use Rattle.cyc_model.proofs.Whole.{all_back}
 use Rattle.cyc_model.proofs.Spread.{Good}
 use Rattle.cyc_script_machine.specs.Running.{IsServed}
 use Rattle.cyc_script_machine.specs.CpuModelShown.{shown_cpu}
-use Rattle.cyc_script_machine.specs.Shown.{shown_list, Shows, IsSystem}
+use Rattle.cyc_script_machine.specs.Shown.{shown_list, ShowsSystem, IsSystem}
 use Rattle.cyc_script_machine.specs.declared.machine.Machine.{Machine}
 use Rattle.cyc_script_machine.specs.Machine.{Holds, IsReached, IsWide, AllMost}
 use Rattle.cyc_model.proofs.Gone.{gone_interrupt}
@@ -58,18 +58,18 @@ use Rattle.cyc_serving.proofs.Fired.{length_shown}
 
 -- ---- the soft side leaves a level fit, and admits nothing
 
-record Along (l m : Level) : Type 0 where
+record Along (l m : SoftLevel) : Type 0 where
   fit : Fit m
   back : (j : ℕ) → IsSome (m.cyclics j) → IsSome (l.cyclics j)
 
-along_same : (l m : Level) → l ≡ m → Fit l → Along l m
+along_same : (l m : SoftLevel) → l ≡ m → Fit l → Along l m
 along_same l m is fit = record {
   fit = subst (λ k. Fit k) is fit;
   back =
-      λ j h. subst (λ (k : Level). IsSome (k.cyclics j)) (sym is) h;
+      λ j h. subst (λ (k : SoftLevel). IsSome (k.cyclics j)) (sym is) h;
 }
 
-along_then : (l m k : Level) → Along l m → (Fit m → Along m k) → Along l k
+along_then : (l m k : SoftLevel) → Along l m → (Fit m → Along m k) → Along l k
 along_then l m k one next = let two = next one.fit in record { fit = two.fit; back = λ j h. one.back j (two.back j h) }
 
 AreOfSoftSide : List Event → Type 0
@@ -79,25 +79,25 @@ AreOfSoftSide (Finish ∷ es) = AreOfSoftSide es
 AreOfSoftSide (Follow ∷ es) = AreOfSoftSide es
 AreOfSoftSide (_ ∷ es) = ⊥
 
-took : (l m : Level) → Happens l Take m → Fit l → Along l m
+took : (l m : SoftLevel) → Happens l Take m → Fit l → Along l m
 took l m did fit = record {
   fit = subst (λ k. Fit k) (sym did.1) (keeps_fit l fit Take did.0 tt tt);
-  back = λ j h. all_back (Take ∷ []) l j (tt, tt) (subst (λ (k : Level). IsSome (k.cyclics j)) did.1 h);
+  back = λ j h. all_back (Take ∷ []) l j (tt, tt) (subst (λ (k : SoftLevel). IsSome (k.cyclics j)) did.1 h);
 }
 
-finished : (l m : Level) → Happens l Finish m → Fit l → Along l m
+finished : (l m : SoftLevel) → Happens l Finish m → Fit l → Along l m
 finished l m did fit = record {
   fit = subst (λ k. Fit k) (sym did.1) (keeps_fit l fit Finish did.0 tt tt);
-  back = λ j h. all_back (Finish ∷ []) l j (tt, tt) (subst (λ (k : Level). IsSome (k.cyclics j)) did.1 h);
+  back = λ j h. all_back (Finish ∷ []) l j (tt, tt) (subst (λ (k : SoftLevel). IsSome (k.cyclics j)) did.1 h);
 }
 
-followed : (l m : Level) → Happens l Follow m → Fit l → Along l m
+followed : (l m : SoftLevel) → Happens l Follow m → Fit l → Along l m
 followed l m did fit = record {
   fit = subst (λ k. Fit k) (sym did.1) (keeps_fit l fit Follow did.0 tt tt);
-  back = λ j h. all_back (Follow ∷ []) l j (tt, tt) (subst (λ (k : Level). IsSome (k.cyclics j)) did.1 h);
+  back = λ j h. all_back (Follow ∷ []) l j (tt, tt) (subst (λ (k : SoftLevel). IsSome (k.cyclics j)) did.1 h);
 }
 
-looked : (old new : List ℕ) (b : Bool) (l m : Level) → FoldsTo Happens l (take_events old new b) m → Fit l → Along l m
+looked : (old new : List ℕ) (b : Bool) (l m : SoftLevel) → FoldsTo Happens l (take_events old new b) m → Fit l → Along l m
 looked old (x ∷ xs) true l m (k, did, rest) fit = along_then l k m (took l k did fit) (along_same k m rest)
 looked old [] true l m is fit = along_same l m is fit
 looked (x ∷ xs) new false l m (k, did, rest) fit = along_then l k m (took l k did fit) (along_same k m rest)
@@ -115,7 +115,7 @@ drained_all [] a b is fit = along_same (level_of a) (level_of b) (ap level_of is
 drained_all (call ∷ way) a b (c, did, rest) fit =
     along_then (level_of a) (level_of c) (level_of b) (drained call a c did fit) (drained_all way c b rest)
 
-counted : (o : Option Admitted) → 0 < count_in o → IsSome o
+counted : (o : Option AdmittedCyclic) → 0 < count_in o → IsSome o
 counted None some = absurd (omega (arith, some))
 counted (Some c) some = refl
 
@@ -149,7 +149,7 @@ shown_of [] (v ∷ vs) n x long is = absurd (omega (arith, long))
 shown_of (o ∷ os) (v ∷ vs) zero x long is = (o, ap (shown_cpu o) (same_some is))
 shown_of (o ∷ os) (v ∷ vs) (suc n) x long is = shown_of os vs n x (omega (arith, long)) is
 
-level_shown : (soft : Soft) (s : State) (v : SystemView Tables) (n : ℕ) (x : CpuView Tables) → Shows s v
+level_shown : (soft : Soft) (s : State) (v : SystemView Tables) (n : ℕ) (x : CpuView Tables) → ShowsSystem s v
     → length v.cpus.online ≡ length v.cpus.cpus
     → IsCpu n x v.cpus → level_at soft (cpu_of n s) ≡ level_of (end_at soft x)
 level_shown Low s v n x h long is = ap (λ cs. (slice_index_or cs n absent).low) h.cpus
@@ -167,7 +167,7 @@ removal_at (o ∷ os) [] n long = absurd (omega (arith, long))
 removal_at (o ∷ os) (v ∷ vs) zero long = refl
 removal_at (o ∷ os) (v ∷ vs) (suc n) long = removal_at os vs n (omega (arith, long))
 
-pub same_removal : (s : State) (v : SystemView Tables) → Shows s v → length v.cpus.online ≡ length v.cpus.cpus
+pub same_removal : (s : State) (v : SystemView Tables) → ShowsSystem s v → length v.cpus.online ≡ length v.cpus.cpus
     → (n : ℕ) → (cpu_of n s).removal ≡ removal_on n v.cpus
 same_removal s v h long n = ap (λ cs. (slice_index_or cs n absent).removal) h.cpus ∙ removal_at v.cpus.online v.cpus.cpus n long
 
@@ -188,8 +188,8 @@ module _ (step n budget : ℕ) (level : Soft) (s : State) (m : Machine) (low : s
       let same = level_shown level s m.system n x h.shows h.system.agrees.long here in
       let along = drained_all way (end_at level x) b went (subst (λ l. Fit l) same ((g.base.whole n).fit level)) in
       let some = along.back id (counted ((level_of b).cyclics id) (in_hand_counts (level_of b) along.fit id held)) in
-      let at : level_in id (cpu_of n s) ≡ as_level level =
-      (g.base.whole n).back level id (subst (λ (l : Level). IsSome (l.cyclics id)) (sym same) some) in
+      let at : handler_level_of id (cpu_of n s) ≡ as_level level =
+      (g.base.whole n).back level id (subst (λ (l : SoftLevel). IsSome (l.cyclics id)) (sym same) some) in
       given_here 65535 (65535 * 16000000032) id (cpu_of n s).cyclics (few_timers step n s r low)
       (at_soft_level level (cyclic_of id (cpu_of n s)) at)
 
@@ -209,7 +209,7 @@ module _ (step n budget : ℕ) (level : Soft) (s : State) (m : Machine) (low : s
 
 -- ---- there is no such CPU
 
-long_shown : (s : State) (v : SystemView Tables) → Shows s v → length v.cpus.online ≡ length v.cpus.cpus
+long_shown : (s : State) (v : SystemView Tables) → ShowsSystem s v → length v.cpus.online ≡ length v.cpus.cpus
     → length s.cpus ≡ length v.cpus.cpus
 long_shown s v h long = ap length h.cpus ∙ length_shown v.cpus.online v.cpus.cpus long
 

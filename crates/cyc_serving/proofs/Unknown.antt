@@ -20,7 +20,7 @@ use Rattle.cyc_model.specs.Places.{id_of, is_unknown, keep_counts, forgotten}
 use Rattle.cyc_model.specs.Remove.{clear_if, poll, begin, begun, remove}
 use Rattle.cyc_model.specs.Softint.{is_open, text_of_id, polled, poll_id}
 use Rattle.cyc_model.proofs.Placing.{place_forgotten_other}
-use Rattle.cyc_script_machine.specs.Shown.{Shows, shown_record}
+use Rattle.cyc_script_machine.specs.Shown.{ShowsSystem, shown_record}
 
 -- ---- begins and polls leave where cyclics are
 
@@ -93,7 +93,7 @@ found_shown id (suc k) (q ∷ rs) r is named = by (q.id == id) (found_shown id k
     by true h = refl
     by false h = h
 
-pub still_known : (id : ℕ) (t : State) (w : SystemView Tables) → Shows t w → Agrees w → cpus_with_in id w.cpus ≢ []
+pub still_known : (id : ℕ) (t : State) (w : SystemView Tables) → ShowsSystem t w → Agrees w → cpus_with_in id w.cpus ≢ []
     → is_unknown id t ≡ true → ⊥
 still_known id t w h agrees some gone = some (nowhere id w.cpus (λ n. by n (has n id w.cpus) refl))
   where

@@ -12,7 +12,7 @@ ghost use Rattle.cyc_model.specs.State.{State};
 ghost use Rattle.cyc_model.specs.Advance.{advance};
 ghost use Rattle.cyc_script_machine.specs.Machine.{Holds, IsReached};
 ghost use Rattle.cyc_script_machine.specs.Status.{IsMemory};
-ghost use Rattle.cyc_script_machine.specs.Words.{Comes, Takes};
+ghost use Rattle.cyc_script_machine.specs.Words.{Comes, TakesWord};
 ghost use Rattle.cyc_serving.specs.Advancing.{IsAdvancing};
 
 use cyc_core::LevelCore;
@@ -133,7 +133,7 @@ pub fn take_advance(
     requires few { step ≤ most_steps }
     requires reached { (s : State) × IsReached step s × Holds s machine.old }
     ensures takes { OnOk result ((texts : List (List ℕ)) (s : State) → IsReached step s → Holds s machine.old
-        → Takes texts step (steps.Advance moment) (string_bytes line.new) s machine.new) }
+        → TakesWord texts step (steps.Advance moment) (string_bytes line.new) s machine.new) }
     ensures memory { IfErr result IsMemory }
 {
     let Some(now) = moment_of(moment) else {

@@ -14,7 +14,7 @@ ghost use Rattle.cyc_model.specs.Softint.{interrupt, leaving_ids, softint_refusa
 ghost use Rattle.cyc_script_machine.specs.Removal.{answer_line};
 ghost use Rattle.cyc_script_machine.specs.Status.{IsMemory};
 ghost use Rattle.cyc_script_machine.specs.Machine.{Holds, IsReached, id_at, name_at};
-ghost use Rattle.cyc_script_machine.specs.Words.{Takes};
+ghost use Rattle.cyc_script_machine.specs.Words.{TakesWord};
 ghost use Rattle.cyc_cpu.specs.Soft.{fires, firing_at};
 ghost use Rattle.cyc_script_machine.specs.Agreement.{Agrees};
 ghost use Rattle.cyc_script_machine.specs.Calls.{Changes, PollRemove};
@@ -237,7 +237,7 @@ pub fn take_softint(
     requires few { step ≤ most_steps }
     requires reached { (s : State) × IsReached step s × Holds s machine.old }
     ensures takes { OnOk result ((s : State) → IsReached step s → Holds s machine.old
-        → Takes (map string_bytes names.now) step (steps.Softint softint.now) (string_bytes line.new) s machine.new) }
+        → TakesWord (map string_bytes names.now) step (steps.Softint softint.now) (string_bytes line.new) s machine.new) }
     ensures memory { IfErr result IsMemory }
 {
     poll_law::<Tally>();

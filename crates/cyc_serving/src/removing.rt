@@ -7,7 +7,7 @@ ghost use Rattle.cyc_model.specs.State.{State};
 ghost use Rattle.cyc_model.specs.Script.{does, text_in};
 ghost use Rattle.cyc_script_machine.specs.Status.{IsMemory};
 ghost use Rattle.cyc_script_machine.specs.Machine.{Holds, IsReached};
-ghost use Rattle.cyc_script_machine.specs.Words.{Answers, Takes};
+ghost use Rattle.cyc_script_machine.specs.Words.{Answers, TakesWord};
 ghost use Rattle.cyc_serving.specs.Removing.{begun_line, counted_by, counted_begun};
 
 use cyc_script::Name;
@@ -101,7 +101,7 @@ pub fn take_remove(
     name: Name,
 ) -> Result<(), RunFault>
     ensures takes { OnOk result ((s : State) → IsReached step s → Holds s machine.old
-        → Takes (map string_bytes names.now) step (steps.Remove name) (string_bytes line.new) s machine.new) }
+        → TakesWord (map string_bytes names.now) step (steps.Remove name) (string_bytes line.new) s machine.new) }
     ensures memory { IfErr result IsMemory }
 {
     match remove_cyclic(machine, name) {

@@ -3,7 +3,7 @@
 
 ghost use Rattle.std.specs.Prelude.{◌≡◌, ℕ, None, IfNone};
 ghost use Rattle.cyc_types.specs.Draining.{Takes};
-ghost use Rattle.cyc_types.specs.Levels.{level_of, at_level};
+ghost use Rattle.cyc_types.specs.Levels.{as_level, at_level};
 ghost use Rattle.cyc_types.specs.Runs.{DrainGoes};
 ghost use Rattle.cyc_soft.specs.Serving.{IsSoftint, look_of};
 
@@ -55,7 +55,7 @@ pub fn softint<D: Drain, C: Calls>(
     level: Soft,
     budget: u32,
 ) -> Result<Ran, SoftRefused>
-    ensures { IsSoftint D.step D.held D.made (at_level C.called (level_of level)) C.count C.may_refuse budget result drain.old
+    ensures { IsSoftint D.step D.held D.made (at_level C.called (as_level level)) C.count C.may_refuse budget result drain.old
         calls.old drain.new calls.new }
 {
     for done in 0..budget {

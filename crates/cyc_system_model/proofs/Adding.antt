@@ -34,7 +34,7 @@ use Rattle.cyc_model.specs.Refusals.{or_else, when, bad_now, ids_spent}
 use Rattle.cyc_model.specs.Add.{cyclic_with, added, add_refusal}
 use Rattle.cyc_model.proofs.Local.{local_enter}
 use Rattle.cyc_cpu_model.specs.Answers.{IsRefused, why_no_room}
-use Rattle.cyc_system_model.specs.Shown.{shown_cpus, shown_record, shown_counts, Shows, IsSystem}
+use Rattle.cyc_system_model.specs.Shown.{shown_cpus, shown_record, shown_counts, ShowsSystem, IsSystem}
 use Rattle.cyc_system_model.specs.Words.{IsSeries, IsDone, IsRefusedFor}
 use Rattle.cyc_system_model.proofs.Lists.{same_all}
 use Rattle.cyc_system_model.proofs.Cpus.{cpu_at, done_at}
@@ -61,7 +61,7 @@ new_ended : (n id : ℕ) (level : Level) (p : RecordPlace)
 new_ended n id level p = ap shown_counts (same_all 16 n no_counts)
 
 -- the new record has no ended stay, and no other changed
-pub ended_more : (s : State) (v : SystemView Tables) (id : ℕ) (level : Level) (p : RecordPlace) (k n : ℕ) (r : Record) → Shows s v
+pub ended_more : (s : State) (v : SystemView Tables) (id : ℕ) (level : Level) (p : RecordPlace) (k n : ℕ) (r : Record) → ShowsSystem s v
     → id ≡ s.last_id + 1
     → IsRecord v.records k r ⊎ (r ≡ new_record id level p) → s.ended r.id n ≡ shown_counts (ended_on n r)
 ended_more s v id level p k n r h gives (inl old) = h.ended k r old n
@@ -87,7 +87,7 @@ only_room : (a : AddStep) (series : When) (s : State) → IsSeries a.start a.int
     → add_refusal plain a s ≡ or_else (room_there s) None
 only_room a series s is none = late a series s is ∙ append_none (bad_now s.clock) (ids_spent s) (or_else (room_there s) None) none
 
-module _ (a : AddStep) (series : When) (s : State) (v w : SystemView Tables) (sys : IsSystem v) (h : Shows s v)
+module _ (a : AddStep) (series : When) (s : State) (v w : SystemView Tables) (sys : IsSystem v) (h : ShowsSystem s v)
     (is : IsSeries a.start a.interval series) where
   asked : early a s ≡ or_else (bad_now s.clock) (or_else (why.ids_spent v) None)
   asked = ap (λ o. or_else (bad_now s.clock) (or_else o None)) (same_ids_spent s v h sys.agrees.long)
@@ -165,7 +165,7 @@ module _ (a : AddStep) (series : When) (s : State) (v w : SystemView Tables) (sy
   pub add_refused : (e : Refusal) → Changes fires seen v (Add a.level series s.clock (Err e)) w → IsRefusedFor e (steps.Add a) s w
   add_refused e (inl (own, some, answer, same)) = (
     early_refused e (asked ∙ some ∙ ap Some (sym (same_error ℕ e own (Err e) (Err own) refl refl answer))),
-    subst (Shows s) (sym same) h,
+    subst (ShowsSystem s) (sym same) h,
   )
   add_refused e (inr (none, (d, dest, inl ((u, reserve, same), records, last)))) =
       let dm : destination None s ≡ d = destination_shown None s v.cpus h.cpus sys.agrees.long

@@ -26,7 +26,7 @@ use Rattle.cyc_model.proofs.Events.{calls_append}
 use Rattle.cyc_model.proofs.Numbers.{Has}
 use Rattle.cyc_model.proofs.Refusing.{none_first, is_cpu, is_online as online_there}
 use Rattle.cyc_cpu_model.proofs.Free.{HasNoAdmit, none_admitted, no_more, fire_none}
-use Rattle.cyc_system_model.specs.Shown.{Shows, IsSystem}
+use Rattle.cyc_system_model.specs.Shown.{ShowsSystem, IsSystem}
 use Rattle.cyc_system_model.specs.Words.{ComesTo}
 use Rattle.cyc_system_model.specs.Advancing.{at_clock, online_below, fire_each, HaveFired, HasFired, IsAdvanced}
 use Rattle.cyc_system_model.proofs.Lists.{append_assoc, nil_right}
@@ -146,7 +146,7 @@ after_one ns n m = followed_by (fire_each ns m) (fires_at m.clock (n ∷ []))
 one_after : (ns : List ℕ) (n : ℕ) (m : State) → fire_each (ns ++ n ∷ []) m ≡ after_one ns n m
 one_after ns n m = each_append (λ k. on k (fire_here k m.clock)) ns (n ∷ []) m
 
-each_free : (ns : List ℕ) (m : State) (s : SystemView Tables) → Shows (fire_each ns m).state s → ComesTo [] m (fire_each ns m) s
+each_free : (ns : List ℕ) (m : State) (s : SystemView Tables) → ShowsSystem (fire_each ns m).state s → ComesTo [] m (fire_each ns m) s
 each_free ns m s h = record {
   shows = h;
   admissions = (let r = fires_admissions m.clock ns m in omega (arith, r));
@@ -154,7 +154,7 @@ each_free ns m s h = record {
 }
 
 module _ {C : Type 0} (called : C → ℕ → Level → C → Type 0) (count : C → ℕ → ℕ) (may_refuse : C → ℕ → Type 0) where
-  pub has_begun : (now : ℕ) (m : State) (s : RunningSystem C Tables) → Shows m s.system
+  pub has_begun : (now : ℕ) (m : State) (s : RunningSystem C Tables) → ShowsSystem m s.system
       → HasFired count 0 0 0 (at_clock now m) s s
   has_begun now m s h = record {
     comes = each_free [] (at_clock now m) s.system
@@ -189,8 +189,8 @@ module _ {C : Type 0} (called : C → ℕ → Level → C → Type 0) (count : C
       let own = (fire_here n m.clock (cpu_of n o.state)).acts in
       record {
         comes = each_free (online_below (n + 1) m) m u.system
-            (subst (λ (x : Outcome). Shows x.state u.system) (sym whole)
-            (subst (λ c. Shows (on n (fire_here n c) o.state).state u.system) clock f.comes.shows));
+            (subst (λ (x : Outcome). ShowsSystem x.state u.system) (sym whole)
+            (subst (λ c. ShowsSystem (on n (fire_here n c) o.state).state u.system) clock f.comes.shows));
         expired =
             let a = h.expired in
             let b : fired.expired ≡ length (due_here m.clock (cpu_of n m)) = f.expired

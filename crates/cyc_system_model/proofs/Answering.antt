@@ -23,7 +23,7 @@ use Rattle.cyc_model.specs.Softint.{is_open}
 use Rattle.cyc_model.specs.Report.{counts_of}
 use Rattle.cyc_model.proofs.Removing.{none_with}
 use Rattle.cyc_cpu_model.specs.Shown.{shown_cpu}
-use Rattle.cyc_system_model.specs.Shown.{shown_list, shown_cpus, shown_record, shown_counts, Shows}
+use Rattle.cyc_system_model.specs.Shown.{shown_list, shown_cpus, shown_record, shown_counts, ShowsSystem}
 use Rattle.cyc_system_model.specs.Removal.{told_by}
 use Rattle.cyc_system_model.proofs.Cpus.{cpu_at, long_shown}
 use Rattle.cyc_system_model.proofs.Asking.{any_id}
@@ -48,7 +48,7 @@ same_numbers test own same k (o ∷ os) (v ∷ vs) long =
     (λ z. kept_if (same o v z) k (same_numbers test own same (k + 1) os vs (omega (arith, long)) z))
     ∙ sym (online_kept (own v) k (map own vs))
 
-module _ (id : ℕ) (m : State) (v : SystemView Tables) (h : Shows m v) (long : length v.cpus.online ≡ length v.cpus.cpus) where
+module _ (id : ℕ) (m : State) (v : SystemView Tables) (h : ShowsSystem m v) (long : length v.cpus.online ≡ length v.cpus.cpus) where
   pub same_with : cpus_with id m ≡ cpus_with_in id v.cpus
   same_with = ap (numbers_from 0 (has_cyclic id)) h.cpus
       ∙ same_numbers (has_cyclic id) (λ cpu. list_any (λ own. own == id) (ids_of cpu))
@@ -94,7 +94,7 @@ one_goes id (suc k) r (x ∷ rs) rising is named =
 
 -- ---- what its record has of ended stays
 
-module _ (id k : ℕ) (r : Record) (m : State) (u : SystemView Tables) (h : Shows m u) (hu : Half u) (is : IsRecord u.records k r)
+module _ (id k : ℕ) (r : Record) (m : State) (u : SystemView Tables) (h : ShowsSystem m u) (hu : Half u) (is : IsRecord u.records k r)
     (named : r.id ≡ id) where
   pub as_few : length m.cpus ≡ length u.cpus.cpus
   as_few = ap length h.cpus ∙ long_shown u.cpus.online u.cpus.cpus hu.long
@@ -126,12 +126,12 @@ module _ (id k : ℕ) (r : Record) (m : State) (u : SystemView Tables) (h : Show
 
 -- ---- where it answers
 
-module _ (id : ℕ) (receipt : Receipt) (m : State) (u t : SystemView Tables) (h : Shows m u) (hu : Half u)
+module _ (id : ℕ) (receipt : Receipt) (m : State) (u t : SystemView Tables) (h : ShowsSystem m u) (hu : Half u)
     (a : Answers id receipt u t) where
   pub nowhere : cpus_with id m ≡ []
   nowhere = same_with id m u h hu.long ∙ a.nowhere
 
-  pub forgotten_shows : Shows (forgotten id m) t
+  pub forgotten_shows : ShowsSystem (forgotten id m) t
   forgotten_shows = record {
     cpus = h.cpus ∙ ap shown_cpus (sym a.cpus);
     placed = ap (filter (λ (p : Placed). not (p.id == id))) h.placed

@@ -22,14 +22,14 @@ use Rattle.cyc_system.specs.Binding.{HasPlace, HasHome}
 use Rattle.cyc_system.proofs.Recording.{record_here}
 use Rattle.cyc_model.specs.Cpu.{Cpu, is_of, has_cyclic}
 use Rattle.cyc_model.specs.State.{State, Place, Placed, absent}
-use Rattle.cyc_model.specs.Places.{place_of, is_unknown, is_leaving, is_everywhere, is_omnipresent, is_bound_at, is_bound}
+use Rattle.cyc_model.specs.Places.{placement_of, is_unknown, is_leaving, is_everywhere, is_omnipresent, is_bound_at, is_bound}
 use Rattle.cyc_model.specs.Places.{home_at, home_of}
 use Rattle.cyc_model.specs.Refusals.{when, or_else, no_cpu, offline_cpu, ids_spent}
 use Rattle.cyc_model.specs.Bind.{no_cyclic, omnipresent}
 use Rattle.cyc_model.specs.Reprogram.{no_component}
 use Rattle.cyc_cpu_model.specs.Shown.{shown}
 use Rattle.cyc_cpu_model.specs.Answers.{IsRefused}
-use Rattle.cyc_system_model.specs.Shown.{shown_list, shown_place, shown_record, Shows}
+use Rattle.cyc_system_model.specs.Shown.{shown_list, shown_place, shown_record, ShowsSystem}
 use Rattle.cyc_system_model.proofs.Cpus.{long_shown}
 
 -- ---- where a cyclic is
@@ -51,7 +51,7 @@ find_shown id (r ∷ rs) = pick (r.id == id) (find_shown id rs)
     pick true rest = refl
     pick false rest = rest
 
-pub place_shown : (id : ℕ) (s : State) (v : SystemView Tables) → Shows s v → place_of id s ≡ place_in (record_of id v)
+pub place_shown : (id : ℕ) (s : State) (v : SystemView Tables) → ShowsSystem s v → placement_of id s ≡ place_in (record_of id v)
 place_shown id s v h =
     ap (λ ps. option_map (λ (p : Placed). p.place) (find (λ (p : Placed). p.id == id) ps)) h.placed ∙ find_shown id v.records
 
@@ -59,7 +59,7 @@ is_some_in : (o : Option Record) → is_some (place_in o) ≡ is_some o
 is_some_in None = refl
 is_some_in (Some r) = refl
 
-pub unknown_shown : (id : ℕ) (s : State) (v : SystemView Tables) → Shows s v → is_unknown id s ≡ unknown_in id v
+pub unknown_shown : (id : ℕ) (s : State) (v : SystemView Tables) → ShowsSystem s v → is_unknown id s ≡ unknown_in id v
 unknown_shown id s v h = ap (λ o. not (is_some o)) (place_shown id s v h) ∙ ap not (is_some_in (record_of id v))
 
 everywhere_shown : (level : Level) (p : RecordPlace) → is_everywhere (Some (shown_place level p)) ≡ everywhere_in p
@@ -70,18 +70,18 @@ everywhere_of : (o : Option Record) → is_everywhere (place_in o) ≡ option_ma
 everywhere_of None = refl
 everywhere_of (Some r) = everywhere_shown r.level r.place
 
-pub omnipresent_shown : (id : ℕ) (s : State) (v : SystemView Tables) → Shows s v → is_omnipresent id s ≡ omnipresent_in id v
+pub omnipresent_shown : (id : ℕ) (s : State) (v : SystemView Tables) → ShowsSystem s v → is_omnipresent id s ≡ omnipresent_in id v
 omnipresent_shown id s v h = ap is_everywhere (place_shown id s v h) ∙ everywhere_of (record_of id v)
 
 -- the CPU of a cyclic that is on one
-pub home_shown : (id n : ℕ) (s : State) (v : SystemView Tables) → Shows s v → HasRisingIds v.records → HasHome id n v
+pub home_shown : (id n : ℕ) (s : State) (v : SystemView Tables) → ShowsSystem s v → HasRisingIds v.records → HasHome id n v
     → home_of id s ≡ n
 home_shown id n s v h rising (bound, (k, r, is, named, at)) =
     ap home_at (place_shown id s v h ∙ ap place_in (record_here id k r v.records rising is named))
     ∙ ap (λ p. home_at (Some (shown_place r.level p))) at
 
 -- whether it is bound to it
-pub bound_shown : (id n : ℕ) (bound : Bool) (s : State) (v : SystemView Tables) → Shows s v → HasRisingIds v.records
+pub bound_shown : (id n : ℕ) (bound : Bool) (s : State) (v : SystemView Tables) → ShowsSystem s v → HasRisingIds v.records
     → HasPlace id n bound v
     → is_bound id s ≡ bound
 bound_shown id n bound s v h rising (k, r, is, named, at) =
@@ -99,7 +99,7 @@ any_leaving id (o ∷ os) [] long = absurd (omega (arith, long))
 any_leaving id (o ∷ os) (v ∷ vs) long =
     ap (λ b. option_map_or (λ own. own == id) v.removal false || b) (any_leaving id os vs (omega (arith, long)))
 
-pub leaving_shown : (id : ℕ) (s : State) (v : SystemView Tables) → Shows s v → length v.cpus.online ≡ length v.cpus.cpus
+pub leaving_shown : (id : ℕ) (s : State) (v : SystemView Tables) → ShowsSystem s v → length v.cpus.online ≡ length v.cpus.cpus
     → is_leaving id s ≡ leaving_in id v
 leaving_shown id s v h long =
     ap (λ cs. list_any (λ (c : Cpu). option_map_or (λ own. own == id) c.removal false) cs) h.cpus
@@ -130,7 +130,7 @@ has_at id (o ∷ os) (v ∷ vs) (suc n) long = has_at id os vs n (omega (arith, 
 
 -- ---- the reasons for a refusal
 
-module _ (s : State) (v : SystemView Tables) (h : Shows s v) (long : length v.cpus.online ≡ length v.cpus.cpus) where
+module _ (s : State) (v : SystemView Tables) (h : ShowsSystem s v) (long : length v.cpus.online ≡ length v.cpus.cpus) where
   pub same_ids_spent : ids_spent s ≡ why.ids_spent v
   same_ids_spent = ap (λ n. when (nat_le greatest_id n) IdsSpent) h.last
 

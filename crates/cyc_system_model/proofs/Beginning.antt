@@ -4,25 +4,25 @@ use Rattle.std.proofs.Common.{refl, sym, subst, arith}
 use Rattle.std.specs.List.{slice_get}
 use Rattle.cyc_types.specs.declared.level.Soft.{Soft}
 use Rattle.cyc_types.specs.declared.level.Soft.TheVariants as soft
-use Rattle.cyc_level.specs.Level.{Level as SoftLevel, empty_level}
+use Rattle.cyc_level.specs.Level.{SoftLevel, empty_level}
 use Rattle.cyc_core.specs.Tables.{Tables, level_of}
 use Rattle.cyc_cpu.specs.Cpu.{CpuView}
 use Rattle.cyc_system.specs.Cpus.{new_cpu as new_view}
 use Rattle.cyc_system.specs.Agreement.{Agrees}
 use Rattle.cyc_system.proofs.Spots.{same_some, none_some}
-use Rattle.cyc_model.specs.Cpu.{new_cpu, level_of as cyclic_level}
+use Rattle.cyc_model.specs.Cpu.{new_cpu, handler_level_of}
 use Rattle.cyc_model.specs.Serving.{level_at}
-use Rattle.cyc_model.specs.Agreement.{as_level}
+use Rattle.cyc_types.specs.Levels.{as_level}
 use Rattle.cyc_model.specs.Script.{start}
 use Rattle.cyc_cpu_model.specs.Shown.{shown_cpu}
 use Rattle.cyc_cpu_model.specs.Tied.{IsTied}
-use Rattle.cyc_system_model.specs.Shown.{shown_list, IsSystem, Shows}
+use Rattle.cyc_system_model.specs.Shown.{shown_list, IsSystem, ShowsSystem}
 use Rattle.cyc_system_model.specs.Kept.{AreNew, new_system}
 
 no_own : (online : Bool) (most ceiling : ℕ) (lock low : Tables) → level_of lock ≡ empty_level ceiling
     → level_of low ≡ empty_level ceiling
     → (level : Soft) (id : ℕ) → IsSome ((level_at level (shown_cpu online (new_view most lock low))).cyclics id)
-    → cyclic_level id (shown_cpu online (new_view most lock low)) ≡ as_level level
+    → handler_level_of id (shown_cpu online (new_view most lock low)) ≡ as_level level
 no_own online most ceiling lock low a b soft.Lock id is =
     absurd (let isnt : false ≡ true = subst (λ (l : SoftLevel). IsSome (l.cyclics id)) a is in cc)
 no_own online most ceiling lock low a b soft.Low id is =
@@ -54,7 +54,7 @@ new_shown most ceiling (e ∷ ends) all =
     (λ z. record { online = true; cyclics = []; size = 1; removal = None; lock = own.0 z; low = own.1 z } ∷ rest z)
 
 pub begins : (most ceiling names : ℕ) (ends : List (Tables × Tables)) → AreNew ceiling ends → Agrees (new_system most ends)
-    → IsSystem (new_system most ends) × Shows (start (length ends) ceiling names) (new_system most ends)
+    → IsSystem (new_system most ends) × ShowsSystem (start (length ends) ceiling names) (new_system most ends)
 begins most ceiling names ends all agrees = (
   record {
     agrees = agrees;

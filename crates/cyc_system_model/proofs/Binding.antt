@@ -40,7 +40,7 @@ use Rattle.cyc_model.proofs.Local.{local_enter, local_take, other_events}
 use Rattle.cyc_cpu_model.specs.Answers.{IsRefused, why_no_room, why_not_taken, IsTakenOf}
 use Rattle.cyc_cpu_model.proofs.Free.{none_admitted, take_none}
 use Rattle.cyc_text.specs.Lines.{accepted as accepted_line}
-use Rattle.cyc_system_model.specs.Shown.{shown_cpus, Shows, AreTied, IsSystem}
+use Rattle.cyc_system_model.specs.Shown.{shown_cpus, ShowsSystem, AreTied, IsSystem}
 use Rattle.cyc_system_model.specs.Words.{Gives, ComesTo, IsDone, IsRefusedFor}
 use Rattle.cyc_system_model.proofs.Cpus.{cpu_at, cpu_is, done_at}
 use Rattle.cyc_system_model.proofs.Asking.{home_shown, same_no_cyclic, same_omnipresent, same_no_cpu, same_offline}
@@ -136,7 +136,7 @@ went_to indexes id source target o s = followed_by
     (followed_by (on source (take_here source id) s) (λ t. bring indexes target o (put_at id (On target (is_bound id t)) t)))
     (λ t. nothing (put_at id (On target true) t))
 
-module _ (id source target : ℕ) (x : Cyclic) (s : State) (v w : SystemView Tables) (sys : IsSystem v) (h : Shows s v)
+module _ (id source target : ℕ) (x : Cyclic) (s : State) (v w : SystemView Tables) (sys : IsSystem v) (h : ShowsSystem s v)
     (records : Records id (place.On target true) v w) (ne : source ≢ target) (d : Went id source target x v.cpus w.cpus) where
   middle_is : d.middle ≡ slice_set s.cpus source (take_here source id (get_or s.cpus source absent)).cpu
   middle_is = d.left ∙ ap (λ cs. slice_set cs source (take_here source id (get_or cs source absent)).cpu) (sym h.cpus)
@@ -227,7 +227,7 @@ bound_after step id n o = told (accepted_line step) (followed_by o (λ t. nothin
 pub is_less : (k : ℕ) → 0 < k → nat_lt 0 k ≡ true
 is_less k some = grind (arith, nat_tests)
 
-module _ (id n : ℕ) (s : State) (v w : SystemView Tables) (sys : IsSystem v) (h : Shows s v) where
+module _ (id n : ℕ) (s : State) (v w : SystemView Tables) (sys : IsSystem v) (h : ShowsSystem s v) where
   abbrev four : Option Refusal
   four = or_else (no_cyclic id s) (or_else (omnipresent id s) (or_else (no_cpu n s) (or_else (offline_cpu n s) None)))
 
@@ -308,7 +308,7 @@ module _ (id n : ℕ) (s : State) (v w : SystemView Tables) (sys : IsSystem v) (
       )
 
   pub not_bound : (e : Refusal) → Binds fires seen id n (Err e) v w → four ≡ None → IsRefused e (bind_id_refusal plain id n s)
-      × Shows s w
+      × ShowsSystem s w
   not_bound e (home, at, inl (there, ok, cpus), records, last) none = absurd (let isnt : Err e ≡ Ok tt = ok in cc)
   not_bound e (home, at, inr (ne, inl (removed, (cpu, is, opened), why_is, same)), records, last) none = (
     subst (λ x. IsRefused x (bind_id_refusal plain id n s)) (sym why_is)
@@ -339,7 +339,7 @@ module _ (id n : ℕ) (s : State) (v w : SystemView Tables) (sys : IsSystem v) (
         same_shown s v w h (ap shown_cpus (sym same) ∙ unchanged u1 u2 n r.cpus ∙ asked) records last,
       )
 
-module _ (b : BindStep) (s : State) (v w : SystemView Tables) (sys : IsSystem v) (h : Shows s v) where
+module _ (b : BindStep) (s : State) (v w : SystemView Tables) (sys : IsSystem v) (h : ShowsSystem s v) where
   pub bind_accepted : Changes fires seen v (Bind (id_of b.name s) (Some b.cpu) (Ok tt)) w → IsDone (steps.Bind b) s w
   bind_accepted (inl (e, some, answer, same)) = absurd (let isnt : Ok tt ≡ Err e = answer in cc)
   bind_accepted (inr (none, did)) =
@@ -364,7 +364,7 @@ module _ (b : BindStep) (s : State) (v w : SystemView Tables) (sys : IsSystem v)
             (no_memory_else (no_cpu b.cpu s) _ (no_memory_when _ NoCpu tt)
             (no_memory_else (offline_cpu b.cpu s) None (no_memory_when _ Offline tt) tt))))
             (four_some e (no_cyclic id s) (omnipresent id s) (no_cpu b.cpu s) (offline_cpu b.cpu s) _ is),
-        subst (Shows s) (sym same) h,
+        subst (ShowsSystem s) (sym same) h,
       )
   bind_refused e (inr (none, did)) = not_bound (id_of b.name s) b.cpu s v w sys h e did
       (first_four (id_of b.name s) b.cpu s v w sys h ∙ none)

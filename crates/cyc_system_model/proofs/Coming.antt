@@ -10,12 +10,12 @@ use Rattle.cyc_model.specs.State.{State, Outcome, cpu_of, each}
 use Rattle.cyc_model.proofs.Events.{calls_append}
 use Rattle.cyc_model.proofs.Numbers.{Has, RiseFrom, has_above}
 use Rattle.cyc_cpu_model.proofs.Free.{HasNoAdmit, no_more}
-use Rattle.cyc_system_model.specs.Shown.{Shows}
+use Rattle.cyc_system_model.specs.Shown.{ShowsSystem}
 use Rattle.cyc_system_model.proofs.Half.{Half}
 
 -- what was done shows the system after it: nothing was put in, no handler called, and nothing said
 pub record Came (m : State) (o : Outcome) (w : SystemView Tables) : Type 0 where
-  pub shows : Shows o.state w
+  pub shows : ShowsSystem o.state w
   pub half : Half w
   pub none : HasNoAdmit o.acts
   pub quiet : (q : ℕ) → calls_of q o.acts ≡ 0
@@ -44,13 +44,13 @@ pub record CameToAll {A : Type 0} (cpu : A → ℕ) (Q : A → Cpu → Type 0) (
 
 module _ {A : Type 0} (f : ℕ → State → Outcome) (cpu : A → ℕ) (P : Cpu → Type 0) (Q : A → Cpu → Type 0) (R : SystemView Tables → A
     → SystemView Tables → Type 0)
-    (one : (a : A) (m : State) (v w : SystemView Tables) → Half v → Shows m v → P (cpu_of (cpu a) m) → R v a w
+    (one : (a : A) (m : State) (v w : SystemView Tables) → Half v → ShowsSystem m v → P (cpu_of (cpu a) m) → R v a w
     → CameTo (cpu a) (Q a) m (f (cpu a) m) w) where
-  pub all_come : (low : ℕ) (way : List A) (m : State) (v w : SystemView Tables) → RiseFrom low (map cpu way) → Half v → Shows m v
+  pub all_come : (low : ℕ) (way : List A) (m : State) (v w : SystemView Tables) → RiseFrom low (map cpu way) → Half v → ShowsSystem m v
       → ((k : ℕ) → Has k (map cpu way) → P (cpu_of k m)) → FoldsTo R v way w → CameToAll cpu Q way m (each f (map cpu way) m) w
   all_come low [] m v w rise hv h ready same = record {
     came = record {
-      shows = subst (Shows m) same h;
+      shows = subst (ShowsSystem m) same h;
       half = subst Half same hv;
       none = tt;
       quiet = λ q. refl;

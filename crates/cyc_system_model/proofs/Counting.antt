@@ -18,7 +18,7 @@ use Rattle.cyc_model.specs.State.{State, absent, cpu_of, cpus_with}
 use Rattle.cyc_model.specs.Places.{is_unknown}
 use Rattle.cyc_model.specs.Report.{expired_here, lost_here, counts_of}
 use Rattle.cyc_model.proofs.Rising.{found, any_found}
-use Rattle.cyc_system_model.specs.Shown.{shown_cpus, Shows, AreTied, IsSystem}
+use Rattle.cyc_system_model.specs.Shown.{shown_cpus, ShowsSystem, AreTied, IsSystem}
 use Rattle.cyc_system_model.specs.Removal.{told_in}
 use Rattle.cyc_system_model.proofs.Cpus.{cpu_at, cpu_is, done_at, long_shown}
 use Rattle.cyc_system_model.proofs.Asking.{unknown_shown}
@@ -84,7 +84,7 @@ find_at id (x ∷ rs) r is = by (x.id == id) refl is (λ e. find_at id rs r e)
     by true same e rest = (0, e, ap (λ (y : Record). y.id) (sym (same_some e)) ∙ eqb-true x.id id same)
     by false other e rest = let (k, there, named) = rest e in (suc k, there, named)
 
-module _ (id : ℕ) (m : State) (v w : SystemView Tables) (sys : IsSystem v) (h : Shows m v) where
+module _ (id : ℕ) (m : State) (v w : SystemView Tables) (sys : IsSystem v) (h : ShowsSystem m v) where
   -- a CPU that has no such cyclic has nothing of it
   none_here : (i : ℕ) → has_cyclic id (cpu_of i m) ≡ false → cyclic_of id (cpu_of i m) ≡ None
   none_here i none = not_found (found id (cpu_of i m).cyclics) (sym (any_found id (cpu_of i m).cyclics) ∙ none)
@@ -108,7 +108,7 @@ module _ (id : ℕ) (m : State) (v w : SystemView Tables) (sys : IsSystem v) (h 
       zero_plus : (i : ℕ) → 0 + i ≡ i
       zero_plus i = omega arith
 
-  pub totals_told : (totals : SystemTotals) → AsksTotals fires seen id (Some totals) v w → Shows m w
+  pub totals_told : (totals : SystemTotals) → AsksTotals fires seen id (Some totals) v w → ShowsSystem m w
       × (counts_of id m ≡ told_in totals (m.called id))
   totals_told totals (way, r, is, ns, (works, records, last), adds) =
       let told = tell_all id way v.cpus w.cpus sys.agrees.long sys.tied works m h.cpus in

@@ -8,10 +8,10 @@ use Rattle.std.proofs.lemmas.List.{length-set, get_or-set_same, get_or-set_other
 use mathlib.Core.Logic.{dite}
 use native.Mathlib.Decide.{ℕ_discrete}
 use Rattle.cyc_types.specs.declared.firing.Sent.{Sent}
-use Rattle.cyc_types.specs.declared.level.Level.{Level as CyclicLevel}
+use Rattle.cyc_types.specs.declared.level.Level.{Level}
 use Rattle.cyc_types.specs.declared.level.Level.TheVariants as level
 use Rattle.cyc_types.specs.declared.level.Soft.TheVariants as soft
-use Rattle.cyc_level.specs.Level.{Cyclic as Admitted, count_in}
+use Rattle.cyc_level.specs.Level.{AdmittedCyclic, count_in}
 use Rattle.cyc_level.specs.declared.Event.TheVariants.{Mark}
 use Rattle.cyc_core.specs.Tables.{Tables}
 use Rattle.cyc_places.specs.declared.record.Record.{Record}
@@ -19,40 +19,40 @@ use Rattle.cyc_places.specs.Places.{IsRecord, ended_on, no_counts, summed, with_
 use Rattle.cyc_system.specs.System.{SystemView}
 use Rattle.cyc_system.proofs.Spots.{same_some, none_some, get_some}
 use Rattle.cyc_model.specs.Acts.{at_own}
-use Rattle.cyc_model.specs.Cpu.{Cyclic, Cpu, cyclic_of, level_of, happen}
+use Rattle.cyc_model.specs.Cpu.{Cyclic, Cpu, cyclic_of, handler_level_of, happen}
 use Rattle.cyc_model.specs.Moving.{mark_here}
 use Rattle.cyc_model.specs.Questions.{outstanding_here}
 use Rattle.cyc_model.specs.State.{State, Ended}
 use Rattle.cyc_model.specs.Places.{with_ended as with_ended_in}
 use Rattle.cyc_cpu_model.specs.Tied.{HasOwn}
-use Rattle.cyc_system_model.specs.Shown.{shown_cpus, shown_record, shown_counts, Shows}
+use Rattle.cyc_system_model.specs.Shown.{shown_cpus, shown_record, shown_counts, ShowsSystem}
 use Rattle.cyc_system_model.proofs.Cpus.{cpu_at, cpu_is}
 use Rattle.cyc_system_model.proofs.Half.{Half, IsFull, half_parts, half_put, set_either}
 
 -- ---- the calls that are outstanding
 
-mark_own : (n id : ℕ) (l : CyclicLevel) (c : Cpu) → outstanding_here id (happen (at_own n l (Mark id)) c) ≡ outstanding_here id c
+mark_own : (n id : ℕ) (l : Level) (c : Cpu) → outstanding_here id (happen (at_own n l (Mark id)) c) ≡ outstanding_here id c
 mark_own n id level.High c = refl
 mark_own n id level.Lock c = refl
 mark_own n id level.Low c = refl
 
 -- a removal that begins leaves them
 pub mark_out : (n id : ℕ) (c : Cpu) → outstanding_here id (mark_here n id c).cpu ≡ outstanding_here id c
-mark_out n id c = mark_own n id (level_of id c) _
+mark_out n id c = mark_own n id (handler_level_of id c) _
 
-none_counted : (o : Option Admitted) → (IsSome o → ⊥) → count_in o ≡ 0
+none_counted : (o : Option AdmittedCyclic) → (IsSome o → ⊥) → count_in o ≡ 0
 none_counted None isnt = refl
 none_counted (Some c) isnt = absurd (isnt refl)
 
 -- a cyclic that isn't on the CPU has none there
 pub none_out : (id : ℕ) (c : Cpu) → HasOwn c → cyclic_of id c ≡ None → outstanding_here id c ≡ 0
 none_out id c own none =
-    let high : level_of id c ≡ level.High = ap high_of none in
+    let high : handler_level_of id c ≡ level.High = ap high_of none in
     let lock = none_counted (c.lock.cyclics id) (λ is. not_lock (sym high ∙ own.known soft.Lock id is)) in
     let low = none_counted (c.low.cyclics id) (λ is. not_low (sym high ∙ own.known soft.Low id is)) in
     omega (arith, lock, low)
   where
-    high_of : Option Cyclic → CyclicLevel
+    high_of : Option Cyclic → Level
     high_of o = option_map_or (λ (x : Cyclic). x.timer.level) o level.High
 
     not_lock : level.High ≡ level.Lock → ⊥
@@ -78,7 +78,7 @@ map_set f (y ∷ ys) (suc k) r x is same = ap (λ zs. f y ∷ zs) (map_set f ys 
 abbrev counted : Bool → Ended → Cyclic → Ended
 counted b e x = cond b (record { expired = e.expired + x.timer.expired; lost = e.lost + x.lost }) e
 
-module _ (n id : ℕ) (x : Cyclic) (counts : Sent) (k : ℕ) (r : Record) (m : State) (v w : SystemView Tables) (h : Shows m v)
+module _ (n id : ℕ) (x : Cyclic) (counts : Sent) (k : ℕ) (r : Record) (m : State) (v w : SystemView Tables) (h : ShowsSystem m v)
     (hv : Half v)
     (within : n < length v.cpus.cpus) (is : IsRecord v.records k r) (named : r.id ≡ id) (own : x.timer.id ≡ id)
     (sent : counts.sent ≡ x.timer.expired) (lost : counts.lost ≡ x.lost)
@@ -126,7 +126,7 @@ module _ (n id : ℕ) (x : Cyclic) (counts : Sent) (k : ℕ) (r : Record) (m : S
 
   -- the machine that keeps the counts shows the system that does
   pub ended_shows : (y : State) → y.cpus ≡ shown_cpus w.cpus → y.placed ≡ m.placed → y.last_id ≡ m.last_id
-      → ((q j : ℕ) → y.ended q j ≡ (with_ended_in n x m).ended q j) → Shows y w
+      → ((q j : ℕ) → y.ended q j ≡ (with_ended_in n x m).ended q j) → ShowsSystem y w
   unfolding new
   ended_shows y cpus placed gives ended = record {
     cpus = cpus;

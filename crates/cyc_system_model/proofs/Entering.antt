@@ -7,7 +7,7 @@ use Rattle.cyc_types.specs.declared.firing.Sent.{Sent}
 use Rattle.cyc_types.specs.declared.level.Level.{Level}
 use Rattle.cyc_types.specs.declared.level.Soft.{Soft}
 use Rattle.cyc_level.specs.declared.Event.{Event}
-use Rattle.cyc_level.specs.Level.{Level as SoftLevel}
+use Rattle.cyc_level.specs.Level.{SoftLevel}
 use Rattle.cyc_level.specs.Events.{after}
 use Rattle.cyc_core.specs.Tables.{Tables}
 use Rattle.cyc_cpu.specs.Calls.{Widen, Place}
@@ -24,7 +24,7 @@ use Rattle.cyc_model.specs.Free.{AllCanBeAdmitted}
 use Rattle.cyc_model.proofs.Events.{calls_append, events_append}
 use Rattle.cyc_model.proofs.Local.{AllOn, local_widen, other_events}
 use Rattle.cyc_cpu_model.proofs.Free.{none_admitted, widen_none}
-use Rattle.cyc_system_model.specs.Shown.{shown_cpus, shown_record, Shows}
+use Rattle.cyc_system_model.specs.Shown.{shown_cpus, shown_record, ShowsSystem}
 use Rattle.cyc_system_model.proofs.Lists.{set_twice, set_get, get_set}
 use Rattle.cyc_system_model.proofs.Cpus.{cpu_at, DoneAt}
 
@@ -90,8 +90,8 @@ free_on n acts s on free m soft = dite (ℕ_discrete m n)
     (λ ne. subst (λ es. AllCanBeAdmitted es (level_at soft (cpu_of m s))) (sym (other_events acts n m soft on ne)) tt)
 
 -- the machine shows a system that looks the same
-pub same_shown : (s : State) (v w : SystemView Tables) → Shows s v → shown_cpus w.cpus ≡ shown_cpus v.cpus → w.records ≡ v.records
-    → w.last ≡ v.last → Shows s w
+pub same_shown : (s : State) (v w : SystemView Tables) → ShowsSystem s v → shown_cpus w.cpus ≡ shown_cpus v.cpus → w.records ≡ v.records
+    → w.last ≡ v.last → ShowsSystem s w
 same_shown s v w h cpus records last = record {
   cpus = h.cpus ∙ sym cpus;
   placed = h.placed ∙ sym (ap (map shown_record) records);

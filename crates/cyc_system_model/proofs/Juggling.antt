@@ -25,7 +25,7 @@ use Rattle.cyc_model.specs.State.{State, absent, cpu_of, numbers_from}
 use Rattle.cyc_model.specs.Refusals.{first_refusal, or_else, when, busy, no_cpu, offline_cpu, last_cpu}
 use Rattle.cyc_model.specs.Juggle.{Juggled, counted, take_turn, one_turn, juggle_each, single_ids, juggled, juggle_refusal}
 use Rattle.cyc_cpu_model.specs.Shown.{shown}
-use Rattle.cyc_system_model.specs.Shown.{shown_list, Shows, IsSystem}
+use Rattle.cyc_system_model.specs.Shown.{shown_list, ShowsSystem, IsSystem}
 use Rattle.cyc_system_model.specs.Words.{Gives, IsDoneWith, IsRefusedFor}
 use Rattle.cyc_system_model.specs.Room.{HaveAllRoom}
 use Rattle.cyc_system_model.proofs.Asking.{NoMemory, omnipresent_shown, same_no_cpu, same_offline, no_memory_when, no_memory_else}
@@ -62,7 +62,7 @@ gives_rest indexes k (x ∷ xs) ys gives =
 
 pub record JugglesTo (report : JuggleReport) (given : List ℕ) (s : State) (j : Juggled) (w : SystemView Tables) : Type 0 where
   pub told : j.report ≡ report
-  pub shows : Shows j.outcome.state w
+  pub shows : ShowsSystem j.outcome.state w
   pub goes : Goes s j.outcome
   pub admissions : j.outcome.state.admissions ≡ s.admissions + length given
 
@@ -73,13 +73,13 @@ counted_as there.StaysRefused d a b same = ap (λ (r : JuggleReport). record r {
 counted_as there.Moves d a b same = ap (λ (r : JuggleReport). record r { moved = r.moved + 1 }) same
 
 all_turns : (source : ℕ) (ids : List ℕ) (report : JuggleReport) (v w : SystemView Tables) → Half v → HaveAllRoom v.cpus
-    → Turns fires seen source ids report v w → (given : List ℕ) × ((s : State) (indexes : ℕ → ℕ) → Shows s v
+    → Turns fires seen source ids report v w → (given : List ℕ) × ((s : State) (indexes : ℕ → ℕ) → ShowsSystem s v
     → Gives indexes s.admissions given → JugglesTo report given s (juggle_each plain indexes source ids s) w)
 all_turns source [] report v w hv all (is, same) = (
   [],
   λ s indexes h gives. record {
     told = sym is;
-    shows = subst (Shows s) (sym same) h;
+    shows = subst (ShowsSystem s) (sym same) h;
     goes = goes_alike s s (refl, refl);
     admissions = omega arith;
   },
@@ -129,7 +129,7 @@ ids_at (o ∷ os) [] n long = absurd (omega (arith, long))
 ids_at (o ∷ os) (v ∷ vs) zero long = ids_shown v.cyclics
 ids_at (o ∷ os) (v ∷ vs) (suc n) long = ids_at os vs n (omega (arith, long))
 
-module _ (n : ℕ) (s : State) (v : SystemView Tables) (h : Shows s v) (hv : Half v) where
+module _ (n : ℕ) (s : State) (v : SystemView Tables) (h : ShowsSystem s v) (hv : Half v) where
   same_last : last_cpu n s ≡ last_there v
   same_last = ap (λ ns. when (nat_le (length ns) 1) LastCpu)
       (ap (numbers_from 0 (λ (c : Cpu). c.online)) h.cpus ∙ same_numbers 0 v.cpus.online v.cpus.cpus hv.long)
@@ -173,7 +173,7 @@ abbrev report_of : JuggleReport → Result JuggleReport Refusal → JuggleReport
 report_of d (Ok report) = report
 report_of d (Err e) = d
 
-module _ (n : ℕ) (s : State) (v w : SystemView Tables) (sys : IsSystem v) (h : Shows s v) where
+module _ (n : ℕ) (s : State) (v w : SystemView Tables) (sys : IsSystem v) (h : ShowsSystem s v) where
   pub juggle_accepted : HaveAllRoom v.cpus → (report : JuggleReport) → Changes fires seen v (Juggle n (Ok report)) w
       → IsDoneWith (λ step. moved step report) (steps.Juggle n) s w
   juggle_accepted all report (inl (e, some, answer, same)) = absurd (let isnt : Ok report ≡ Err e = answer in cc)
@@ -196,6 +196,6 @@ module _ (n : ℕ) (s : State) (v w : SystemView Tables) (sys : IsSystem v) (h :
   juggle_refused e (inl (own, some, answer, same)) = (
     is_refused e (juggle_refusal plain n s) (same_whys n s v h (half v sys) ∙ some
         ∙ ap Some (sym (same_error JuggleReport e own (Err e) (Err own) refl refl answer))) (no_memory n s v h (half v sys)),
-    subst (Shows s) (sym same) h,
+    subst (ShowsSystem s) (sym same) h,
   )
   juggle_refused e (inr (none, (own, answer, turns))) = absurd (let isnt : Err e ≡ Ok own = answer in cc)

@@ -33,7 +33,7 @@ use Rattle.cyc_model.proofs.Local.{Local, same_low_lock, local_nothing, local_ta
 use Rattle.cyc_model.proofs.Refusing.{is_cpu}
 use Rattle.cyc_cpu_model.proofs.Free.{none_admitted, take_none}
 use Rattle.cyc_cpu_model.specs.Shown.{shown_cpu}
-use Rattle.cyc_system_model.specs.Shown.{shown_list, shown_cpus, Shows, AreTied, IsSystem}
+use Rattle.cyc_system_model.specs.Shown.{shown_list, shown_cpus, ShowsSystem, AreTied, IsSystem}
 use Rattle.cyc_system_model.specs.Words.{Gives, IsDoneWith, IsRefusedFor, IsAtOnce, ComesTo}
 use Rattle.cyc_system_model.specs.Room.{HaveAllRoom}
 use Rattle.cyc_system_model.proofs.Cpus.{cpu_at, done_at, long_shown}
@@ -90,13 +90,13 @@ any_after test (b ∷ before) rest id is = ap (λ x. test b || x) (any_after tes
 
 record Retired (s : State) (o : Outcome) (w : SystemView Tables) : Type 0 where
   goes : Goes s o
-  shows : Shows o.state w
+  shows : ShowsSystem o.state w
   admissions : o.state.admissions ≡ s.admissions
 
 all_retire : (n : ℕ) (ids : List ℕ) (v w : SystemView Tables) → Half v → FoldsTo (Retires fires seen n) v ids w → (s : State)
-    → Shows s v
+    → ShowsSystem s v
     → Retired s (each (retire n) ids s) w
-all_retire n [] v w hv same s h = record { goes = goes_alike s s (refl, refl); shows = subst (Shows s) same h; admissions = refl }
+all_retire n [] v w hv same s h = record { goes = goes_alike s s (refl, refl); shows = subst (ShowsSystem s) same h; admissions = refl }
 all_retire n (id ∷ ids) v w hv (u, (taken, did, k, r, is, named, records, last), rest) s h =
     let d = done_at n (TakeNow id (Ok taken)) v.cpus u.cpus hv.long hv.tied did in
     let x = cyclic_with id taken.level taken.interval taken.moment taken.sent.sent taken.sent.lost in
@@ -139,8 +139,8 @@ local_offline n c = local_nothing n c (go_offline c) (same_low_lock c (go_offlin
 abbrev taken_off : ℕ → State → Outcome
 taken_off n s = on n (λ c. nothing_here (go_offline c)) s
 
-offline_shows : (n : ℕ) (s : State) (v : SystemView Tables) → Half v → Shows s v
-    → Shows (taken_off n s).state (offline_at n v)
+offline_shows : (n : ℕ) (s : State) (v : SystemView Tables) → Half v → ShowsSystem s v
+    → ShowsSystem (taken_off n s).state (offline_at n v)
 offline_shows n s v hv h = record {
   cpus = ap (λ cs. slice_set cs n (go_offline (get_or cs n absent))) h.cpus ∙ switched_off v.cpus.online v.cpus.cpus n hv.long;
   placed = h.placed;
@@ -206,14 +206,14 @@ retired_so n given report s j m gone w d ids same r hg low is =
     (goes_on n (λ c. nothing_here (go_offline c)) o.state (local_offline n) low_now (λ soft. tt) (λ q. refl))) in
     subst (λ i. DoesSo given s (before j.outcome (followed_by (each (retire n) i s1) (taken_off n))) w) (sym same) (record {
       comes = record {
-        shows = subst (Shows (taken_off n o.state).state) (sym is) (offline_shows n o.state gone hg r.shows);
+        shows = subst (ShowsSystem (taken_off n o.state).state) (sym is) (offline_shows n o.state gone hg r.shows);
         admissions = (let x = r.admissions in let y = d.admissions in omega (arith, x, y));
         free = goes.free;
       };
       quiet = goes.quiet;
     })
 
-module _ (n : ℕ) (s : State) (v w : SystemView Tables) (sys : IsSystem v) (h : Shows s v) where
+module _ (n : ℕ) (s : State) (v w : SystemView Tables) (sys : IsSystem v) (h : ShowsSystem s v) where
   -- where each step's outcome is so
   with_line : (given : List ℕ) (line : ℕ → List ℕ) (o : (ℕ → ℕ) → Outcome) → first_refusal (juggle_refusals n v) ≡ None
       → ((indexes : ℕ → ℕ) → Gives indexes s.admissions given → DoesSo given s (o indexes) w)
@@ -236,7 +236,7 @@ module _ (n : ℕ) (s : State) (v w : SystemView Tables) (sys : IsSystem v) (h :
 
   -- where nothing of the system is shown otherwise than after the turns
   stays_so : (given : List ℕ) (report : JuggleReport) (m : SystemView Tables) (j : Juggled) → JugglesTo report given s j m
-      → (Shows j.outcome.state m → Shows j.outcome.state w) → DoesSo given s j.outcome w
+      → (ShowsSystem j.outcome.state m → ShowsSystem j.outcome.state w) → DoesSo given s j.outcome w
   stays_so given report m j d shows = record {
     comes = record { shows = shows d.shows; admissions = d.admissions; free = d.goes.free };
     quiet = d.goes.quiet;
@@ -250,7 +250,7 @@ module _ (n : ℕ) (s : State) (v w : SystemView Tables) (sys : IsSystem v) (h :
   offline_refused e once (inl (own, some, answer, same)) = (
     is_refused e (juggle_refusal plain n s) (same_whys n s v h (half v sys) ∙ some
         ∙ ap Some (sym (same_error (Unit {0}) e own (Err e) (Err own) refl refl answer))) (no_memory n s v h (half v sys)),
-    subst (Shows s) (sym same) h,
+    subst (ShowsSystem s) (sym same) h,
   )
   offline_refused e once (inr (none, (report, m, turns, inl (some, answer, same)))) =
       absurd (subst IsAtOnce (same_error (Unit {0}) e (Left report) (Err e) (Err (Left report)) refl refl answer) once)
@@ -263,7 +263,7 @@ abbrev report_in : JuggleReport → Refusal → JuggleReport
 report_in d (Left report) = report
 report_in d e = d
 
-module _ (n : ℕ) (s : State) (v w : SystemView Tables) (sys : IsSystem v) (h : Shows s v) (all : HaveAllRoom v.cpus) where
+module _ (n : ℕ) (s : State) (v w : SystemView Tables) (sys : IsSystem v) (h : ShowsSystem s v) (all : HaveAllRoom v.cpus) where
   -- cyclics are left that are not omnipresent
   pub offline_left : (report : JuggleReport) → Changes fires seen v (GoOffline n (Err (Left report))) w
       → IsDoneWith (λ step. cyclics_left step report) (steps.Offline n) s w
@@ -277,7 +277,7 @@ module _ (n : ℕ) (s : State) (v w : SystemView Tables) (sys : IsSystem v) (h :
       let (given, j) = juggles n s v h hv own m all turns in
       with_line n s v w sys h given (λ step. cyclics_left step report) (λ indexes. (juggled plain indexes n s).outcome) none
       (λ indexes gives. stays_so n s v w sys h given own m (juggled plain indexes n s) (j indexes gives)
-      (λ shows. subst (Shows _) (sym same) shows))
+      (λ shows. subst (ShowsSystem _) (sym same) shows))
       (λ indexes step gives.
       let d = j indexes gives in
       let x = juggled plain indexes n s in

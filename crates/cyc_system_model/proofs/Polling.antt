@@ -23,7 +23,7 @@ use Rattle.cyc_model.specs.Softint.{interrupt, is_open, text_of_id, polled, poll
 use Rattle.cyc_model.proofs.Events.{calls_append}
 use Rattle.cyc_model.proofs.Numbers.{Has, RiseFrom, numbers_rise, numbers_pass}
 use Rattle.cyc_cpu_model.proofs.Free.{HasNoAdmit, none_admitted, no_more, clear_none, interrupt_none}
-use Rattle.cyc_system_model.specs.Shown.{shown_record, Shows, IsSystem}
+use Rattle.cyc_system_model.specs.Shown.{shown_record, ShowsSystem, IsSystem}
 use Rattle.cyc_system_model.specs.Running.{IsServed}
 use Rattle.cyc_system_model.specs.Removal.{told_by, answer_line, HavePolled, leaving_in, IsInterrupted}
 use Rattle.cyc_system_model.proofs.Lists.{nil_right}
@@ -73,14 +73,14 @@ cpu_in p = p.cpu
 -- what a poll comes to
 pub record IsPolled (texts : List (List ℕ)) (step id : ℕ) (answer : Option Receipt) (m : State)
     (w : SystemView Tables) : Type 0 where
-  pub shows : Shows (poll_id plain texts step id m).state w
+  pub shows : ShowsSystem (poll_id plain texts step id m).state w
   pub line : (poll_id plain texts step id m).line ≡ answer_line step (text_of_id id texts m.names) answer
   pub names : (poll_id plain texts step id m).state.names ≡ m.names
   pub quiet : (q : ℕ) → calls_of q (poll_id plain texts step id m).acts ≡ 0
   pub called : (q : ℕ) → (poll_id plain texts step id m).state.called q ≡ m.called q
   pub admissions : (poll_id plain texts step id m).state.admissions ≡ m.admissions
 
-module _ (texts : List (List ℕ)) (step id : ℕ) (m : State) (v w : SystemView Tables) (sys : IsSystem v) (h : Shows m v) where
+module _ (texts : List (List ℕ)) (step id : ℕ) (m : State) (v w : SystemView Tables) (sys : IsSystem v) (h : ShowsSystem m v) where
   abbrev parts : Outcome
   parts = each (poll plain id) (numbers (is_open id) m) m
 
@@ -108,7 +108,7 @@ module _ (texts : List (List ℕ)) (step id : ℕ) (m : State) (v w : SystemView
       let expired = all_expired id receipt parts.state u w c.shows c.half answers in
       let lost = all_lost id receipt parts.state u w c.shows c.half answers in
       record {
-        shows = subst (λ (o : Outcome). Shows o.state w) (sym is)
+        shows = subst (λ (o : Outcome). ShowsSystem o.state w) (sym is)
             (forgotten_shows id receipt parts.state u w c.shows c.half answers);
         line = ap (λ (o : Outcome). o.line) is ∙ (λ z. removed step text (expired z - lost z));
         names = ap (λ (o : Outcome). o.state.names) is ∙ c.names;
@@ -121,7 +121,7 @@ module _ (texts : List (List ℕ)) (step id : ℕ) (m : State) (v w : SystemView
       let still : cpus_with id parts.state ≢ [] = λ e. some (sym (same_with id parts.state w c.shows c.half.long) ∙ e) in
       let is : poll_id plain texts step id m ≡ parts = stays (cpus_with id parts.state) still in
       record {
-        shows = subst (λ (o : Outcome). Shows o.state w) (sym is) c.shows;
+        shows = subst (λ (o : Outcome). ShowsSystem o.state w) (sym is) c.shows;
         line = ap (λ (o : Outcome). o.line) is ∙ c.line;
         names = ap (λ (o : Outcome). o.state.names) is ∙ c.names;
         quiet = λ q. ap (λ (o : Outcome). calls_of q o.acts) is ∙ c.quiet q;
@@ -148,7 +148,7 @@ module _ (texts : List (List ℕ)) (step : ℕ) (m : State) where
   abbrev polls : List ℕ → Outcome
   polls ids = each (poll_id plain texts step) ids m
 
-  pub polls_begin : (w : SystemView Tables) → Shows m w → HavePolled texts step [] [] m w
+  pub polls_begin : (w : SystemView Tables) → ShowsSystem m w → HavePolled texts step [] [] m w
   polls_begin w h = record {
     comes = record { shows = h; admissions = omega arith; free = λ n soft. tt };
     said = refl;
@@ -173,7 +173,7 @@ module _ (texts : List (List ℕ)) (step : ℕ) (m : State) where
       let is = one_more ids id in
       record {
         comes = record {
-          shows = subst (λ (x : Outcome). Shows x.state w) (sym is) p.shows;
+          shows = subst (λ (x : Outcome). ShowsSystem x.state w) (sym is) p.shows;
           admissions = (let a = ap (λ (x : Outcome). x.state.admissions) is in let b = p.admissions in let c =
               h.comes.admissions in omega (arith, a, b, c));
           free = λ n soft. none_admitted (polls (ids ++ id ∷ [])).acts n soft _ (polls_none texts step (ids ++ id ∷ []) m);
@@ -207,7 +207,7 @@ leaving_each test own [] same = refl
 leaving_each test own (r ∷ rs) same = (λ z. cond (same r.id z) (r.id ∷ leaving_each test own rs same z)
     (leaving_each test own rs same z))
 
-pub same_leaving : (m : State) (v : SystemView Tables) → IsSystem v → Shows m v → leaving_ids m ≡ leaving_in v
+pub same_leaving : (m : State) (v : SystemView Tables) → IsSystem v → ShowsSystem m v → leaving_ids m ≡ leaving_in v
 same_leaving m v sys h =
     ap (λ ps. filter (λ id. is_leaving id m) (map (λ (p : Placed). p.id) ps)) h.placed
     ∙ leaving_each (λ id. is_leaving id m) (λ id. leaving_there id v) v.records (λ id. leaving_shown id m v h sys.agrees.long)

@@ -29,7 +29,7 @@ use Rattle.cyc_model.specs.Script.{text_in}
 use Rattle.cyc_model.proofs.Numbers.{Has, RiseFrom, numbers_rise, numbers_pass}
 use Rattle.cyc_model.proofs.Rising.{found, any_found}
 use Rattle.cyc_cpu_model.proofs.Free.{none_admitted}
-use Rattle.cyc_system_model.specs.Shown.{shown_list, Shows, IsSystem}
+use Rattle.cyc_system_model.specs.Shown.{shown_list, ShowsSystem, IsSystem}
 use Rattle.cyc_system_model.specs.Words.{ComesTo, IsRefusedFor}
 use Rattle.cyc_system_model.specs.Removal.{told_by, IsRemoved, IsKept}
 use Rattle.cyc_system_model.proofs.Cpus.{cpu_at, long_shown}
@@ -56,7 +56,7 @@ busy_all : (f g : ℕ → Option ℕ) (ns : List ℕ) → ((n : ℕ) → f n ≡
 busy_all f g [] same = refl
 busy_all f g (n ∷ ns) same = (λ z. busy (same n z) ∷ busy_all f g ns same z)
 
-module _ (id : ℕ) (m : State) (v : SystemView Tables) (h : Shows m v) (long : length v.cpus.online ≡ length v.cpus.cpus) where
+module _ (id : ℕ) (m : State) (v : SystemView Tables) (h : ShowsSystem m v) (long : length v.cpus.online ≡ length v.cpus.cpus) where
   pub same_removal : (n : ℕ) → (cpu_of n m).removal ≡ removal_on n v.cpus
   same_removal n = ap (λ cs. (get_or cs n absent).removal) h.cpus ∙ removal_at v.cpus.online v.cpus.cpus n long
 
@@ -82,7 +82,7 @@ cpu_in b = b.cpu
 abbrev left_in : Begun → ℕ
 left_in b = kept_in b.found
 
-module _ (id : ℕ) (way : List Begun) (m : State) (v u : SystemView Tables) (h : Shows m v) (hv : Half v)
+module _ (id : ℕ) (way : List Begun) (m : State) (v u : SystemView Tables) (h : ShowsSystem m v) (hv : Half v)
     (ns : map cpu_in way ≡ cpus_with_in id v.cpus) (each_begins : BeginsEach fires seen id way v u) where
   abbrev parts : Outcome
   parts = each (begin plain id) (cpus_with id m) m
@@ -140,7 +140,7 @@ begun_some : (step id : ℕ) (text ns : List ℕ) (o : Outcome) → ns ≢ []
 begun_some step id text [] o some = absurd (some refl)
 begun_some step id text (n ∷ ns) o some = refl
 
-module _ (name : ℕ) (m : State) (v w : SystemView Tables) (sys : IsSystem v) (h : Shows m v) where
+module _ (name : ℕ) (m : State) (v w : SystemView Tables) (sys : IsSystem v) (h : ShowsSystem m v) where
   abbrev own_id : ℕ
   own_id = id_of name m
 
@@ -205,6 +205,6 @@ module _ (name : ℕ) (m : State) (v w : SystemView Tables) (sys : IsSystem v) (
         ∙ ap Some (sym (same_error SystemRemoval e own (Err e) (Err own) refl refl answer)))
         (no_memory_else (when (is_unknown own_id m) NoCyclic) _ (no_memory_when _ NoCyclic tt)
         (no_memory_each (cpus_with own_id m) m)),
-    subst (Shows m) (sym same) h,
+    subst (ShowsSystem m) (sym same) h,
   )
   remove_refused e (inr (none, did)) = absurd did

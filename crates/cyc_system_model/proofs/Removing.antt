@@ -29,7 +29,7 @@ use Rattle.cyc_model.proofs.Rising.{found_map, found_gone, found_id}
 use Rattle.cyc_model.proofs.Stays.{cleared_cpu}
 use Rattle.cyc_model.proofs.Leaves.{marked_same}
 use Rattle.cyc_cpu_model.proofs.Free.{no_more, mark_none, clear_none}
-use Rattle.cyc_system_model.specs.Shown.{shown_cpus, Shows}
+use Rattle.cyc_system_model.specs.Shown.{shown_cpus, ShowsSystem}
 use Rattle.cyc_system_model.proofs.Lists.{set_twice, get_set, length_set}
 use Rattle.cyc_system_model.proofs.Cpus.{cpu_at, done_at, DoneAt, long_shown}
 use Rattle.cyc_system_model.proofs.Entering.{at_set, unchanged, same_shown}
@@ -64,7 +64,7 @@ moment_expired id moment x = pick (is_of id x)
     pick true = (refl, refl)
     pick false = (refl, refl)
 
-module _ (id n : ℕ) (m : State) (v w : SystemView Tables) (hv : Half v) (h : Shows m v) where
+module _ (id n : ℕ) (m : State) (v w : SystemView Tables) (hv : Half v) (h : ShowsSystem m v) where
   -- the CPU, as the definition has it
   same_cpu : cpu_of n m ≡ cpu_at v.cpus n
   same_cpu = ap (λ cs. get_or cs n absent) h.cpus
@@ -248,7 +248,7 @@ module _ (id n : ℕ) (m : State) (v w : SystemView Tables) (hv : Half v) (h : S
 
 -- ---- by what was found
 
-pub begins_on : (id : ℕ) (b : Begun) (m : State) (v w : SystemView Tables) → Half v → Shows m v → Unit {0}
+pub begins_on : (id : ℕ) (b : Begun) (m : State) (v w : SystemView Tables) → Half v → ShowsSystem m v → Unit {0}
     → BeginsOn fires seen id b.cpu b.found v w
     → CameTo b.cpu (λ c. outstanding_here id c ≡ kept_in b.found) m (begin plain id b.cpu m) w
 begins_on id b m v w hv h ready did = by b.found did
@@ -262,7 +262,7 @@ begins_on id b m v w hv h ready did = by b.found did
         kept_comes id b.cpu m v w hv h left (done_at b.cpu (BeginRemove id (Ok (Kept left))) v.cpus w.cpus hv.long hv.tied did)
         records last
 
-pub polls_on : (id : ℕ) (p : Polled) (m : State) (v w : SystemView Tables) → Half v → Shows m v
+pub polls_on : (id : ℕ) (p : Polled) (m : State) (v w : SystemView Tables) → Half v → ShowsSystem m v
     → (cpu_of p.cpu m).removal ≡ Some id
     → PollsOn fires seen id p.cpu p.answer v w → CameTo p.cpu (λ c. Unit {0}) m (poll plain id p.cpu m) w
 polls_on id p m v w hv h open_there did = by p.answer did

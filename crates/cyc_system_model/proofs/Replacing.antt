@@ -25,7 +25,7 @@ use Rattle.cyc_model.specs.State.{State, On, Placed, Place}
 use Rattle.cyc_model.specs.Places.{id_of, replaced}
 use Rattle.cyc_model.specs.Refusals.{or_else}
 use Rattle.cyc_model.specs.Bind.{no_cyclic, omnipresent, unbind_refusal}
-use Rattle.cyc_system_model.specs.Shown.{shown_cpus, shown_record, shown_counts, Shows, IsSystem}
+use Rattle.cyc_system_model.specs.Shown.{shown_cpus, shown_record, shown_counts, ShowsSystem, IsSystem}
 use Rattle.cyc_system_model.specs.Words.{IsDone, IsRefusedFor}
 use Rattle.cyc_system_model.proofs.Asking.{home_shown, same_no_cyclic, same_omnipresent, no_memory_when, no_memory_else}
 use Rattle.cyc_system_model.proofs.Asking.{is_refused, same_error}
@@ -73,7 +73,7 @@ replaced_shown id (suc k) n b r (x ∷ rs) rising is named =
     ∷ replaced_shown id k n b r rs (later_rise x rs rising) is named z)
 
 -- the ended stays are as they were
-ended_same : (s : State) (v : SystemView Tables) (k n : ℕ) (b : Bool) (r : Record) → Shows s v → IsRecord v.records k r
+ended_same : (s : State) (v : SystemView Tables) (k n : ℕ) (b : Bool) (r : Record) → ShowsSystem s v → IsRecord v.records k r
     → (j : ℕ) (q : Record) → IsRecord (slice_set v.records k (with_place (place.On n b) r)) j q → (m : ℕ)
     → s.ended q.id m ≡ shown_counts (ended_on m q)
 ended_same s v k n b r h is j q there m =
@@ -88,9 +88,9 @@ ended_same s v k n b r h is j q there m =
         subst (λ (x : Record). s.ended x.id m ≡ shown_counts (ended_on m x)) (sym (same_some at)) (h.ended k r is m)
 
 -- the machine with the other place shows the system with it
-pub replaced_shows : (s x : State) (v w : SystemView Tables) → Shows s v → HasRisingIds v.records → (id n : ℕ) (b : Bool)
+pub replaced_shows : (s x : State) (v w : SystemView Tables) → ShowsSystem s v → HasRisingIds v.records → (id n : ℕ) (b : Bool)
     → Records id (place.On n b) v w → x.cpus ≡ shown_cpus w.cpus → x.placed ≡ map (replaced id (On n b)) s.placed
-    → ((i m : ℕ) → x.ended i m ≡ s.ended i m) → x.last_id ≡ s.last_id → Shows x w
+    → ((i m : ℕ) → x.ended i m ≡ s.ended i m) → x.last_id ≡ s.last_id → ShowsSystem x w
 replaced_shows s x v w h rising id n b (k, r, is, named, records, last) cpus placed ended gives = record {
   cpus = cpus;
   placed = placed ∙ ap (map (replaced id (On n b))) h.placed ∙ replaced_shown id k n b r v.records rising is named
@@ -114,7 +114,7 @@ replaced_twice id p o (q ∷ ps) = (λ z. once (eqb_tells q.id id) z ∷ replace
 
 -- ---- a cyclic that is bound no more
 
-module _ (name : ℕ) (s : State) (v w : SystemView Tables) (sys : IsSystem v) (h : Shows s v) where
+module _ (name : ℕ) (s : State) (v w : SystemView Tables) (sys : IsSystem v) (h : ShowsSystem s v) where
   same_whys : unbind_refusal name s ≡ or_else (why.no_cyclic (id_of name s) v) (or_else (why.omnipresent (id_of name s) v) None)
   same_whys = λ z. or_else (same_no_cyclic s v h sys.agrees.long (id_of name s) z)
       (or_else (same_omnipresent s v h sys.agrees.long (id_of name s) z) None)
@@ -141,6 +141,6 @@ module _ (name : ℕ) (s : State) (v w : SystemView Tables) (sys : IsSystem v) (
         ∙ ap Some (sym (same_error (Unit {0}) e own (Err e) (Err own) refl refl answer)))
         (no_memory_else (no_cyclic (id_of name s) s) _ (no_memory_when _ NoCyclic tt)
         (no_memory_else (omnipresent (id_of name s) s) None (no_memory_when _ Omnipresent tt) tt)),
-    subst (Shows s) (sym same) h,
+    subst (ShowsSystem s) (sym same) h,
   )
   unbind_refused e (inr (none, (ok, n, home, cpus, records))) = absurd (let isnt : Err e ≡ Ok tt = ok in cc)

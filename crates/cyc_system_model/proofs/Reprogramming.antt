@@ -19,7 +19,7 @@ use Rattle.cyc_model.specs.Refusals.{first_refusal, or_else, when, no_cpu, offli
 use Rattle.cyc_model.specs.Bind.{no_cyclic, omnipresent}
 use Rattle.cyc_model.specs.Reprogram.{no_component, cpu_refusals, cpu_meant}
 use Rattle.cyc_cpu_model.specs.Answers.{IsRefused}
-use Rattle.cyc_system_model.specs.Shown.{shown_cpus, Shows, IsSystem}
+use Rattle.cyc_system_model.specs.Shown.{shown_cpus, ShowsSystem, IsSystem}
 use Rattle.cyc_system_model.specs.Words.{IsMoment, IsDone, IsRefusedFor, reprograms}
 use Rattle.cyc_system_model.proofs.Cpus.{cpu_at, done_at}
 use Rattle.cyc_system_model.proofs.Asking.{home_shown, same_no_cyclic, same_omnipresent, same_no_cpu, same_offline}
@@ -39,9 +39,9 @@ moved n id moment v w sys ((u, did, same), records, last) =
     let r = done_at n (CpuReprogram id moment (Ok tt)) v.cpus u sys.agrees.long sys.tied did in
     record { cpus = ap shown_cpus (sym same) ∙ r.cpus; records = records; last = last }
 
-moved_shown : (n m id moment own : ℕ) (s : State) (v w : SystemView Tables) → Shows s v → m ≡ n → own ≡ moment
+moved_shown : (n m id moment own : ℕ) (s : State) (v w : SystemView Tables) → ShowsSystem s v → m ≡ n → own ≡ moment
     → Moved n id moment v w
-    → Shows (on m (reprogram_here id own) s).state w
+    → ShowsSystem (on m (reprogram_here id own) s).state w
 moved_shown n m id moment own s v w h here is d =
     let same = same_shown s v (record w { cpus = v.cpus }) h refl d.records d.last in
     record {
@@ -55,10 +55,10 @@ moved_shown n m id moment own s v w h here is d =
 abbrev later_whys : Option ℕ → ℕ → State → Option Refusal
 later_whys cpu id s = or_else (no_cyclic id s) (first_refusal (cpu_refusals cpu id s))
 
-module _ (id moment : ℕ) (s : State) (v w : SystemView Tables) (sys : IsSystem v) (h : Shows s v) where
+module _ (id moment : ℕ) (s : State) (v w : SystemView Tables) (sys : IsSystem v) (h : ShowsSystem s v) where
   accepted : (cpu : Option ℕ) → Changes fires seen v (reprograms cpu id moment (Ok tt)) w
       → (later_whys cpu id s ≡ None) × ((own : ℕ) → own ≡ moment
-      → Shows (on (cpu_meant cpu id s) (reprogram_here id own) s).state w)
+      → ShowsSystem (on (cpu_meant cpu id s) (reprogram_here id own) s).state w)
   accepted None (inl (e, some, answer, same)) = absurd (let isnt : Ok tt ≡ Err e = answer in cc)
   accepted None (inr (none, (n, home, (ok, did)))) = (
     (λ z. or_else (same_no_cyclic s v h sys.agrees.long id z) (or_else (same_omnipresent s v h sys.agrees.long id z) None))
@@ -75,7 +75,7 @@ module _ (id moment : ℕ) (s : State) (v w : SystemView Tables) (sys : IsSystem
   )
 
   refused : (cpu : Option ℕ) (e : Refusal) → Changes fires seen v (reprograms cpu id moment (Err e)) w
-      → IsRefused e (later_whys cpu id s) × Shows s w
+      → IsRefused e (later_whys cpu id s) × ShowsSystem s w
   refused None e (inl (own, some, answer, same)) = (
     is_refused e (later_whys None id s)
         ((λ z. or_else (same_no_cyclic s v h sys.agrees.long id z) (or_else (same_omnipresent s v h sys.agrees.long id z) None))
@@ -83,7 +83,7 @@ module _ (id moment : ℕ) (s : State) (v w : SystemView Tables) (sys : IsSystem
         ∙ ap Some (sym (same_error (Unit {0}) e own (Err e) (Err own) refl refl answer)))
         (no_memory_else (no_cyclic id s) _ (no_memory_when _ NoCyclic tt)
         (no_memory_else (omnipresent id s) None (no_memory_when _ Omnipresent tt) tt)),
-    subst (Shows s) (sym same) h,
+    subst (ShowsSystem s) (sym same) h,
   )
   refused None e (inr (none, (n, home, (ok, did)))) = absurd (let isnt : Err e ≡ Ok tt = ok in cc)
   refused (Some n) e (inl (own, some, answer, same)) = (
@@ -96,11 +96,11 @@ module _ (id moment : ℕ) (s : State) (v w : SystemView Tables) (sys : IsSystem
         (no_memory_else (no_cpu n s) _ (no_memory_when _ NoCpu tt)
         (no_memory_else (offline_cpu n s) _ (no_memory_when _ Offline tt)
         (no_memory_else (no_component id n s) None (no_memory_when _ NoCyclic tt) tt)))),
-    subst (Shows s) (sym same) h,
+    subst (ShowsSystem s) (sym same) h,
   )
   refused (Some n) e (inr (none, (ok, did))) = absurd (let isnt : Err e ≡ Ok tt = ok in cc)
 
-module _ (r : ReprogramStep) (moment : ℕ) (s : State) (v w : SystemView Tables) (sys : IsSystem v) (h : Shows s v)
+module _ (r : ReprogramStep) (moment : ℕ) (s : State) (v w : SystemView Tables) (sys : IsSystem v) (h : ShowsSystem s v)
     (is : IsMoment r.moment moment) where
   no_bad_when : when (int_lt r.moment (pos 0)) BadWhen ≡ None
   no_bad_when = ap (λ b. when b BadWhen) is.0

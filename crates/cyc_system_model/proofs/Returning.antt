@@ -49,7 +49,7 @@ use Rattle.cyc_cpu.specs.Cpu.{CpuView}
 use Rattle.cyc_cpu_model.specs.Shown.{shown_cpu}
 use Rattle.cyc_cpu_model.proofs.Free.{none_admitted, widen_none}
 use Rattle.cyc_system_model.proofs.Half.{half, half_works}
-use Rattle.cyc_system_model.specs.Shown.{shown_list, shown_cpus, shown_place, shown_record, shown_counts, Shows, AreTied}
+use Rattle.cyc_system_model.specs.Shown.{shown_list, shown_cpus, shown_place, shown_record, shown_counts, ShowsSystem, AreTied}
 use Rattle.cyc_system_model.specs.Shown.{IsSystem}
 use Rattle.cyc_system_model.specs.Words.{Gives, ComesTo, IsDone, IsRefusedFor}
 use Rattle.cyc_system_model.proofs.Cpus.{cpu_at, done_at, long_shown}
@@ -320,7 +320,7 @@ room_behind false true behind None is = is
 
 -- ---- the word online
 
-module _ (n : ℕ) (s : State) (v w : SystemView Tables) (sys : IsSystem v) (h : Shows s v) where
+module _ (n : ℕ) (s : State) (v w : SystemView Tables) (sys : IsSystem v) (h : ShowsSystem s v) where
   abbrev stay : List Record
   stay = staying_in v
 
@@ -449,7 +449,7 @@ module _ (n : ℕ) (s : State) (v w : SystemView Tables) (sys : IsSystem v) (h :
             (no_memory_else (online_there n v) (or_else (bad_now s.clock) None) (no_memory_when _ Online tt)
             (no_memory_else (bad_now s.clock) None (no_memory_when _ BadNow tt) tt)))
             (whys ∙ three_some e (why.no_cpu n v) (online_there n v) (bad_now s.clock) last_why said),
-        subst (Shows s) (sym same) h,
+        subst (ShowsSystem s) (sym same) h,
       )
   online_refused e (inr (none, (why_is, ((u, did, last_same), records, last)))) =
       let k = length stay in

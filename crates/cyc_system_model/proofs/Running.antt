@@ -25,16 +25,16 @@ use Rattle.cyc_model.specs.State.{State, absent, cpu_of, on}
 use Rattle.cyc_model.specs.Refusals.{first_refusal, or_else, no_cpu, offline_cpu}
 use Rattle.cyc_model.specs.Softint.{softint_refusal}
 use Rattle.cyc_cpu_model.proofs.Free.{none_admitted, fire_none, interrupt_none}
-use Rattle.cyc_system_model.specs.Shown.{shown_cpus, Shows, IsSystem}
+use Rattle.cyc_system_model.specs.Shown.{shown_cpus, ShowsSystem, IsSystem}
 use Rattle.cyc_system_model.specs.Running.{IsFired, IsServed}
 use Rattle.cyc_system_model.proofs.Cpus.{cpu_at, ran_at}
 use Rattle.cyc_system_model.proofs.Asking.{same_no_cpu, same_offline, or_none}
 use Rattle.cyc_system_model.proofs.Entering.{same_shown}
 
 -- the machine after what was done on one CPU
-pub on_shows : (n : ℕ) (f : Cpu → Here) (m : State) (v w : SystemView Tables) → Shows m v
+pub on_shows : (n : ℕ) (f : Cpu → Here) (m : State) (v w : SystemView Tables) → ShowsSystem m v
     → shown_cpus w.cpus ≡ slice_set (shown_cpus v.cpus) n (f (cpu_at v.cpus n)).cpu → w.records ≡ v.records → w.last ≡ v.last
-    → Shows (on n f m).state w
+    → ShowsSystem (on n f m).state w
 on_shows n f m v w h cpus records last =
     let same = same_shown m v (record w { cpus = v.cpus }) h refl records last in
     record {
@@ -50,7 +50,7 @@ ran_of d (Ok ran) = ran
 ran_of d (Err e) = d
 
 module _ {C : Type 0} (called : C → ℕ → Level → C → Type 0) (count : C → ℕ → ℕ) (may_refuse : C → ℕ → Type 0)
-    (m : State) (s t : RunningSystem C Tables) (sys : IsSystem s.system) (h : Shows m s.system) where
+    (m : State) (s t : RunningSystem C Tables) (sys : IsSystem s.system) (h : ShowsSystem m s.system) where
   no_cpu_there : (n : ℕ) → first_refusal (no_cpu n m ∷ offline_cpu n m ∷ [])
       ≡ or_else (why.no_cpu n s.system) (or_else (why.offline_cpu n s.system) None)
   no_cpu_there n = λ z. or_else (same_no_cpu m s.system h sys.agrees.long n z)

@@ -35,7 +35,7 @@ use Rattle.cyc_model.specs.Add.{enter}
 use Rattle.cyc_model.specs.Omni.{component, everywhere, enter_each, omni_refusal, no_room_on_each}
 use Rattle.cyc_model.proofs.Local.{local_enter}
 use Rattle.cyc_cpu_model.specs.Answers.{IsRefused, why_no_room}
-use Rattle.cyc_system_model.specs.Shown.{shown_cpus, shown_record, Shows, AreTied, IsSystem}
+use Rattle.cyc_system_model.specs.Shown.{shown_cpus, shown_record, ShowsSystem, AreTied, IsSystem}
 use Rattle.cyc_system_model.specs.Words.{Gives, IsSeries, ComesTo, IsDone, IsRefusedFor}
 use Rattle.cyc_system_model.proofs.Cpus.{cpu_at, done_at}
 use Rattle.cyc_system_model.proofs.Destinations.{same_numbers}
@@ -202,7 +202,7 @@ rooms_no_memory (n ∷ ns) x = no_memory_else (why_no_room 1 (cpu_at x n)) _ (ro
 
 -- ---- the word omni
 
-module _ (a : OmniStep) (series : When) (s : State) (v w : SystemView Tables) (sys : IsSystem v) (h : Shows s v)
+module _ (a : OmniStep) (series : When) (s : State) (v w : SystemView Tables) (sys : IsSystem v) (h : ShowsSystem s v)
     (is : IsSeries a.start a.interval series) where
   same_online : online_cpus s ≡ online_in v.cpus
   same_online = ap (numbers_from 0 (λ (c : Cpu). c.online)) h.cpus ∙ same_numbers 0 v.cpus.online v.cpus.cpus sys.agrees.long
@@ -287,7 +287,7 @@ module _ (a : OmniStep) (series : When) (s : State) (v w : SystemView Tables) (s
             (no_memory_else (bad_now s.clock) (or_else (ids_spent s) None) (no_memory_when _ BadNow tt)
             (no_memory_else (ids_spent s) None (no_memory_when _ IdsSpent tt) tt))
             (late ∙ append_some e (bad_now s.clock) (ids_spent s) (first_refusal (no_room_on_each plain (s.last_id + 1) s)) said),
-        subst (Shows s) (sym same) h,
+        subst (ShowsSystem s) (sym same) h,
       )
   omni_refused e (inr (none, (inl (inl (before, n, (rest, stands), works)), records, last))) =
       let r = no_room_there before n e v.cpus w.cpus sys.agrees.long sys.tied works in

@@ -31,7 +31,7 @@ use Rattle.cyc_model.specs.Juggle.{Turn, IsBound, IsPending, IsRefused as IsTurn
 use Rattle.cyc_model.proofs.Local.{local_enter, local_take}
 use Rattle.cyc_cpu_model.specs.Answers.{IsRefused, why_no_room}
 use Rattle.cyc_cpu_model.proofs.Free.{none_admitted, take_none}
-use Rattle.cyc_system_model.specs.Shown.{shown_cpus, Shows}
+use Rattle.cyc_system_model.specs.Shown.{shown_cpus, ShowsSystem}
 use Rattle.cyc_system_model.specs.Words.{Gives}
 use Rattle.cyc_system_model.specs.Room.{HaveAllRoom}
 use Rattle.cyc_system_model.proofs.Lists.{length_set}
@@ -58,7 +58,7 @@ refused_some : (e : Refusal) (o : Option Refusal) → IsRefused e o → e ≢ Me
 refused_some Memory o is other = absurd (other refl)
 refused_some e o is other = ap is_some is
 
-module _ (source id : ℕ) (s : State) (v : SystemView Tables) (h : Shows s v) (hv : Half v) where
+module _ (source id : ℕ) (s : State) (v : SystemView Tables) (h : ShowsSystem s v) (hv : Half v) where
   at_cpu : (k : ℕ) → cpu_of k s ≡ cpu_at v.cpus k
   at_cpu k = ap (λ cs. get_or cs k absent) h.cpus
 
@@ -91,7 +91,7 @@ module _ (source id : ℕ) (s : State) (v : SystemView Tables) (h : Shows s v) (
 
 -- ---- a cyclic that moves
 
-module _ (source id target : ℕ) (x : Cyclic) (indexes : ℕ → ℕ) (s : State) (v w : SystemView Tables) (h : Shows s v) (hv : Half v)
+module _ (source id target : ℕ) (x : Cyclic) (indexes : ℕ → ℕ) (s : State) (v w : SystemView Tables) (h : ShowsSystem s v) (hv : Half v)
     (d : Went id source target x v.cpus w.cpus) (is : indexes s.admissions ≡ d.index) where
   abbrev took : Outcome
   took = on source (take_here source id) s
@@ -139,7 +139,7 @@ module _ (source id target : ℕ) (x : Cyclic) (indexes : ℕ → ℕ) (s : Stat
   moved_goes : Goes s moved
   moved_goes = goes_then s took (λ t. enter indexes target x (put_at id (On target (is_bound id t)) t)) took_goes entered_goes
 
-  moved_shows : HasPlace id source false v → Records id (place.On target false) v w → Shows moved.state w
+  moved_shows : HasPlace id source false v → Records id (place.On target false) v w → ShowsSystem moved.state w
   moved_shows at records = replaced_shows s moved.state v w h hv.rising id target false records
       ((λ z. slice_set (same_middle z) target (enter_here target (is z) x (get_or (same_middle z) target absent)).cpu)
       ∙ sym d.cpus)
@@ -153,12 +153,12 @@ pub record TurnsTo (source id : ℕ) (t : TurnThere) (given : List ℕ) (indexes
     (w : SystemView Tables) : Type 0 where
   pub target : ℕ
   pub is : turn plain source id s ≡ as_turn target t
-  pub shows : Shows (take_turn indexes source id (as_turn target t) s).state w
+  pub shows : ShowsSystem (take_turn indexes source id (as_turn target t) s).state w
   pub goes : Goes s (take_turn indexes source id (as_turn target t) s)
   pub admissions : (take_turn indexes source id (as_turn target t) s).state.admissions ≡ s.admissions + length given
 
 abbrev pub TurnsSo : ℕ → ℕ → TurnThere → SystemView Tables → SystemView Tables → Type 0
-TurnsSo source id t v w = (given : List ℕ) × ((s : State) (indexes : ℕ → ℕ) → Shows s v → Gives indexes s.admissions given
+TurnsSo source id t v w = (given : List ℕ) × ((s : State) (indexes : ℕ → ℕ) → ShowsSystem s v → Gives indexes s.admissions given
     → TurnsTo source id t given indexes s w)
 
 pub turned : (source id : ℕ) (t : TurnThere) (v w : SystemView Tables) → Half v → HaveAllRoom v.cpus
@@ -168,7 +168,7 @@ turned source id there.StaysBound v w hv all (at, same) = (
   λ s indexes h gives. record {
     target = 0;
     is = turn_bound source id s v h hv at;
-    shows = subst (Shows s) (sym same) h;
+    shows = subst (ShowsSystem s) (sym same) h;
     goes = goes_alike s s (refl, refl);
     admissions = omega arith;
   },
@@ -210,7 +210,7 @@ turned source id there.Moves v w hv all (at, d, dest, (taken, works), records) =
           record {
             target = d;
             is = turn_goes source id s v h hv at g.quiet d dest ∙ ap (λ o. cond (is_some o) IsTurnedAway (Moves d)) g.room;
-            shows = subst (λ (o : Outcome). Shows o.state w) (sym same)
+            shows = subst (λ (o : Outcome). ShowsSystem o.state w) (sym same)
                 (moved_shows source id d x indexes s v w h hv g gives.0 at records);
             goes = subst (Goes s) (sym same) (moved_goes source id d x indexes s v w h hv g gives.0);
             admissions = ap (λ (o : Outcome). o.state.admissions) same;

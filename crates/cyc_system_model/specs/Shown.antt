@@ -38,7 +38,7 @@ abbrev pub shown_counts : Sent → Ended
 shown_counts counts = record { expired = counts.sent; lost = counts.lost }
 
 -- the machine shows the system: its CPUs, where its cyclics are, what their ended stays left, and the id that was given last
-pub record Shows (s : State) (v : SystemView Tables) : Type 0 where
+pub record ShowsSystem (s : State) (v : SystemView Tables) : Type 0 where
   pub cpus : s.cpus ≡ shown_cpus v.cpus
   pub placed : s.placed ≡ map shown_record v.records
   pub ended : (k : ℕ) (r : Record) → IsRecord v.records k r → (n : ℕ) → s.ended r.id n ≡ shown_counts (ended_on n r)

@@ -16,7 +16,7 @@ use Rattle.cyc_model.specs.Refusals.{first_refusal, bad_when, magnitude}
 use Rattle.cyc_model.specs.Free.{AllCanBeAdmitted}
 use Rattle.cyc_model.specs.Script.{refusal_of, does}
 use Rattle.cyc_cpu_model.specs.Answers.{IsRefused}
-use Rattle.cyc_system_model.specs.Shown.{Shows}
+use Rattle.cyc_system_model.specs.Shown.{ShowsSystem}
 
 -- the next cyclics that are put on a CPU get these indexes
 abbrev pub Gives : (ℕ → ℕ) → ℕ → List ℕ → Type 0
@@ -26,14 +26,14 @@ Gives indexes k (index ∷ given) = (indexes k ≡ index) × Gives indexes (k + 
 -- What the definition comes to is what the system did: the machine after it shows the system after it, so many cyclics were put
 -- on a CPU, and the index of each was free.
 pub record ComesTo (given : List ℕ) (s : State) (o : Outcome) (w : SystemView Tables) : Type 0 where
-  pub shows : Shows o.state w
+  pub shows : ShowsSystem o.state w
   pub admissions : o.state.admissions ≡ s.admissions + length given
   pub free : (n : ℕ) (soft : Soft) → AllCanBeAdmitted (events_at n soft o.acts) (level_at soft (cpu_of n s))
 
 -- the definition refuses the step for this reason, and the machine shows the system as it is now; want of memory comes where
 -- there is no other reason
 abbrev pub IsRefusedFor : Refusal → Step → State → SystemView Tables → Type 0
-IsRefusedFor e x s w = IsRefused e (refusal_of plain x s) × Shows s w
+IsRefusedFor e x s w = IsRefused e (refusal_of plain x s) × ShowsSystem s w
 
 -- The definition does not refuse the step, and what it does is what the system did, where the cyclics that it puts on CPUs get
 -- the indexes that they got there. No handler is called.

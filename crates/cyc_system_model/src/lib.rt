@@ -42,7 +42,7 @@ ghost use Rattle.cyc_model.specs.Questions.{plain};
 ghost use Rattle.cyc_system_model.specs.Removal.{told_by, told_in, answer_line, IsRemoved, IsKept, HavePolled, leaving_in};
 ghost use Rattle.cyc_system_model.specs.Removal.{IsInterrupted};
 ghost use Rattle.cyc_system_model.specs.Room.{HaveAllRoom};
-ghost use Rattle.cyc_system_model.specs.Shown.{Shows, IsSystem};
+ghost use Rattle.cyc_system_model.specs.Shown.{ShowsSystem, IsSystem};
 ghost use Rattle.cyc_system_model.specs.Kept.{AreNew, new_system};
 ghost use Rattle.cyc_system_model.specs.Running.{IsFired, IsServed};
 ghost use Rattle.cyc_system_model.specs.Advancing.{at_clock, HasFired, IsAdvanced};
@@ -57,7 +57,7 @@ use cyc_types::Calls;
 /// It does nothing when it runs: its clause is the law.
 pub fn begin_law()
     ensures { (most ceiling names : ℕ) (ends : List (Tables × Tables)) → AreNew ceiling ends → Agrees (new_system most ends)
-        → IsSystem (new_system most ends) × Shows (start (length ends) ceiling names) (new_system most ends) }
+        → IsSystem (new_system most ends) × ShowsSystem (start (length ends) ceiling names) (new_system most ends) }
 {}
 
 /// Each call of a system, also a fire or a soft interrupt that was refused or stopped, keeps what the laws here ask of a system
@@ -82,10 +82,10 @@ pub fn kept_law<C: Calls>()
 ///
 /// It does nothing when it runs: its clauses are the law.
 pub fn add_law()
-    ensures accepted { (a : AddStep) (series : When) (id : ℕ) (s : State) (v w : SystemView Tables) → IsSystem v → Shows s v
+    ensures accepted { (a : AddStep) (series : When) (id : ℕ) (s : State) (v w : SystemView Tables) → IsSystem v → ShowsSystem s v
         → IsSeries a.start a.interval series → Changes fires firing_at v (Add a.level series s.clock (Ok id)) w
         → (id ≡ s.last_id + 1) × IsDone (steps.Add a) s w }
-    ensures refused { (a : AddStep) (series : When) (e : Refusal) (s : State) (v w : SystemView Tables) → IsSystem v → Shows s v
+    ensures refused { (a : AddStep) (series : When) (e : Refusal) (s : State) (v w : SystemView Tables) → IsSystem v → ShowsSystem s v
         → IsSeries a.start a.interval series → Changes fires firing_at v (Add a.level series s.clock (Err e)) w
         → IsRefusedFor e (steps.Add a) s w }
 {}
@@ -95,10 +95,10 @@ pub fn add_law()
 ///
 /// It does nothing when it runs: its clauses are the law.
 pub fn omni_law()
-    ensures accepted { (a : OmniStep) (series : When) (id : ℕ) (s : State) (v w : SystemView Tables) → IsSystem v → Shows s v
+    ensures accepted { (a : OmniStep) (series : When) (id : ℕ) (s : State) (v w : SystemView Tables) → IsSystem v → ShowsSystem s v
         → IsSeries a.start a.interval series → Changes fires firing_at v (AddOmni a.level series a.skew s.clock (Ok id)) w
         → (id ≡ s.last_id + 1) × IsDone (steps.Omni a) s w }
-    ensures refused { (a : OmniStep) (series : When) (e : Refusal) (s : State) (v w : SystemView Tables) → IsSystem v → Shows s v
+    ensures refused { (a : OmniStep) (series : When) (e : Refusal) (s : State) (v w : SystemView Tables) → IsSystem v → ShowsSystem s v
         → IsSeries a.start a.interval series → Changes fires firing_at v (AddOmni a.level series a.skew s.clock (Err e)) w
         → IsRefusedFor e (steps.Omni a) s w }
 {}
@@ -108,11 +108,11 @@ pub fn omni_law()
 ///
 /// It does nothing when it runs: its clauses are the law.
 pub fn reprogram_law()
-    ensures accepted { (r : ReprogramStep) (moment : ℕ) (s : State) (v w : SystemView Tables) → IsSystem v → Shows s v
+    ensures accepted { (r : ReprogramStep) (moment : ℕ) (s : State) (v w : SystemView Tables) → IsSystem v → ShowsSystem s v
         → IsMoment r.moment moment → Changes fires firing_at v (reprograms r.cpu (id_of r.name s) moment (Ok tt)) w
         → IsDone (steps.Reprogram r) s w }
     ensures refused { (r : ReprogramStep) (moment : ℕ) (e : Refusal) (s : State) (v w : SystemView Tables) → IsSystem v
-        → Shows s v → IsMoment r.moment moment → Changes fires firing_at v (reprograms r.cpu (id_of r.name s) moment (Err e)) w
+        → ShowsSystem s v → IsMoment r.moment moment → Changes fires firing_at v (reprograms r.cpu (id_of r.name s) moment (Err e)) w
         → IsRefusedFor e (steps.Reprogram r) s w }
 {}
 
@@ -121,9 +121,9 @@ pub fn reprogram_law()
 ///
 /// It does nothing when it runs: its clauses are the law.
 pub fn bind_law()
-    ensures accepted { (b : BindStep) (s : State) (v w : SystemView Tables) → IsSystem v → Shows s v
+    ensures accepted { (b : BindStep) (s : State) (v w : SystemView Tables) → IsSystem v → ShowsSystem s v
         → Changes fires firing_at v (Bind (id_of b.name s) (Some b.cpu) (Ok tt)) w → IsDone (steps.Bind b) s w }
-    ensures refused { (b : BindStep) (e : Refusal) (s : State) (v w : SystemView Tables) → IsSystem v → Shows s v
+    ensures refused { (b : BindStep) (e : Refusal) (s : State) (v w : SystemView Tables) → IsSystem v → ShowsSystem s v
         → Changes fires firing_at v (Bind (id_of b.name s) (Some b.cpu) (Err e)) w → IsRefusedFor e (steps.Bind b) s w }
 {}
 
@@ -132,9 +132,9 @@ pub fn bind_law()
 ///
 /// It does nothing when it runs: its clauses are the law.
 pub fn unbind_law()
-    ensures accepted { (name : ℕ) (s : State) (v w : SystemView Tables) → IsSystem v → Shows s v
+    ensures accepted { (name : ℕ) (s : State) (v w : SystemView Tables) → IsSystem v → ShowsSystem s v
         → Changes fires firing_at v (Bind (id_of name s) None (Ok tt)) w → IsDone (steps.Unbind name) s w }
-    ensures refused { (name : ℕ) (e : Refusal) (s : State) (v w : SystemView Tables) → IsSystem v → Shows s v
+    ensures refused { (name : ℕ) (e : Refusal) (s : State) (v w : SystemView Tables) → IsSystem v → ShowsSystem s v
         → Changes fires firing_at v (Bind (id_of name s) None (Err e)) w → IsRefusedFor e (steps.Unbind name) s w }
 {}
 
@@ -143,11 +143,11 @@ pub fn unbind_law()
 ///
 /// It does nothing when it runs: its clauses are the law.
 pub fn remove_law()
-    ensures answered { (name : ℕ) (receipt : Receipt) (s : State) (v w : SystemView Tables) → IsSystem v → Shows s v
+    ensures answered { (name : ℕ) (receipt : Receipt) (s : State) (v w : SystemView Tables) → IsSystem v → ShowsSystem s v
         → Changes fires firing_at v (BeginRemove (id_of name s) (Ok (removal.Done receipt))) w → IsRemoved name receipt s w }
-    ensures kept { (name waits : ℕ) (s : State) (v w : SystemView Tables) → IsSystem v → Shows s v
+    ensures kept { (name waits : ℕ) (s : State) (v w : SystemView Tables) → IsSystem v → ShowsSystem s v
         → Changes fires firing_at v (BeginRemove (id_of name s) (Ok (removal.Kept waits))) w → IsKept name waits s w }
-    ensures refused { (name : ℕ) (e : Refusal) (s : State) (v w : SystemView Tables) → IsSystem v → Shows s v
+    ensures refused { (name : ℕ) (e : Refusal) (s : State) (v w : SystemView Tables) → IsSystem v → ShowsSystem s v
         → Changes fires firing_at v (BeginRemove (id_of name s) (Err e)) w → IsRefusedFor e (steps.Remove name) s w }
 {}
 
@@ -156,9 +156,9 @@ pub fn remove_law()
 ///
 /// It does nothing when it runs: its clauses are the law.
 pub fn online_law()
-    ensures accepted { (n : ℕ) (s : State) (v w : SystemView Tables) → IsSystem v → Shows s v
+    ensures accepted { (n : ℕ) (s : State) (v w : SystemView Tables) → IsSystem v → ShowsSystem s v
         → Changes fires firing_at v (Online n s.clock (Ok tt)) w → IsDone (steps.Online n) s w }
-    ensures refused { (n : ℕ) (e : Refusal) (s : State) (v w : SystemView Tables) → IsSystem v → Shows s v
+    ensures refused { (n : ℕ) (e : Refusal) (s : State) (v w : SystemView Tables) → IsSystem v → ShowsSystem s v
         → Changes fires firing_at v (Online n s.clock (Err e)) w → IsRefusedFor e (steps.Online n) s w }
 {}
 
@@ -168,10 +168,10 @@ pub fn online_law()
 ///
 /// It does nothing when it runs: its clauses are the law.
 pub fn juggle_law()
-    ensures accepted { (n : ℕ) (report : JuggleReport) (s : State) (v w : SystemView Tables) → IsSystem v → Shows s v
+    ensures accepted { (n : ℕ) (report : JuggleReport) (s : State) (v w : SystemView Tables) → IsSystem v → ShowsSystem s v
         → HaveAllRoom v.cpus → Changes fires firing_at v (Juggle n (Ok report)) w
         → IsDoneWith (λ step. moved step report) (steps.Juggle n) s w }
-    ensures refused { (n : ℕ) (e : Refusal) (s : State) (v w : SystemView Tables) → IsSystem v → Shows s v
+    ensures refused { (n : ℕ) (e : Refusal) (s : State) (v w : SystemView Tables) → IsSystem v → ShowsSystem s v
         → Changes fires firing_at v (Juggle n (Err e)) w → IsRefusedFor e (steps.Juggle n) s w }
 {}
 
@@ -182,15 +182,15 @@ pub fn juggle_law()
 ///
 /// It does nothing when it runs: its clauses are the law.
 pub fn offline_law()
-    ensures accepted { (n : ℕ) (s : State) (v w : SystemView Tables) → IsSystem v → Shows s v → HaveAllRoom v.cpus
+    ensures accepted { (n : ℕ) (s : State) (v w : SystemView Tables) → IsSystem v → ShowsSystem s v → HaveAllRoom v.cpus
         → Changes fires firing_at v (Offline n (Ok tt)) w → IsDoneWith accepted (steps.Offline n) s w }
-    ensures left { (n : ℕ) (report : JuggleReport) (s : State) (v w : SystemView Tables) → IsSystem v → Shows s v
+    ensures left { (n : ℕ) (report : JuggleReport) (s : State) (v w : SystemView Tables) → IsSystem v → ShowsSystem s v
         → HaveAllRoom v.cpus → Changes fires firing_at v (Offline n (Err (why.Left report))) w
         → IsDoneWith (λ step. cyclics_left step report) (steps.Offline n) s w }
-    ensures pending { (n : ℕ) (s : State) (v w : SystemView Tables) → IsSystem v → Shows s v → HaveAllRoom v.cpus
+    ensures pending { (n : ℕ) (s : State) (v w : SystemView Tables) → IsSystem v → ShowsSystem s v → HaveAllRoom v.cpus
         → Changes fires firing_at v (Offline n (Err why.Pending)) w
         → IsDoneWith (λ step. refused step (number_of why.Pending)) (steps.Offline n) s w }
-    ensures refused { (n : ℕ) (e : Refusal) (s : State) (v w : SystemView Tables) → IsSystem v → Shows s v → IsAtOnce e
+    ensures refused { (n : ℕ) (e : Refusal) (s : State) (v w : SystemView Tables) → IsSystem v → ShowsSystem s v → IsAtOnce e
         → Changes fires firing_at v (Offline n (Err e)) w → IsRefusedFor e (steps.Offline n) s w }
 {}
 
@@ -199,11 +199,11 @@ pub fn offline_law()
 ///
 /// It does nothing when it runs: its clauses are the law.
 pub fn fire_law<C: Calls>()
-    ensures accepted { (n : ℕ) (fired : Fired) (m : State) (s t : RunningSystem C Tables) → IsSystem s.system → Shows m s.system
+    ensures accepted { (n : ℕ) (fired : Fired) (m : State) (s t : RunningSystem C Tables) → IsSystem s.system → ShowsSystem m s.system
         → Does C.called C.count C.may_refuse fires firing_at no_interrupts s (FireOne n m.clock (Ok fired)) t
         → IsFired C.count n fired m s t }
     ensures refused { (n now : ℕ) (e : Refusal) (answer : Result Fired FireRefused) (m : State) (s t : RunningSystem C Tables)
-        → IsSystem s.system → Shows m s.system → first_refusal (no_cpu n m ∷ offline_cpu n m ∷ []) ≡ Some e
+        → IsSystem s.system → ShowsSystem m s.system → first_refusal (no_cpu n m ∷ offline_cpu n m ∷ []) ≡ Some e
         → Does C.called C.count C.may_refuse fires firing_at no_interrupts s (FireOne n now answer) t
         → (answer ≡ Err (no_fire e)) × (t ≡ s) }
 {}
@@ -214,7 +214,7 @@ pub fn fire_law<C: Calls>()
 ///
 /// It does nothing when it runs: its clauses are the law.
 pub fn advance_law<C: Calls>()
-    ensures begins { (now : ℕ) (m : State) (s : RunningSystem C Tables) → Shows m s.system
+    ensures begins { (now : ℕ) (m : State) (s : RunningSystem C Tables) → ShowsSystem m s.system
         → HasFired C.count 0 0 0 (at_clock now m) s s }
     ensures fires { (n expired lost : ℕ) (fired : Fired) (m : State) (s t u : RunningSystem C Tables) → IsSystem t.system
         → HasFired C.count n expired lost m s t
@@ -232,10 +232,10 @@ pub fn advance_law<C: Calls>()
 /// It does nothing when it runs: its clauses are the law.
 pub fn softint_law<C: Calls>()
     ensures accepted { (i : SoftintStep) (ran : Ran) (m : State) (s t : RunningSystem C Tables) → IsSystem s.system
-        → Shows m s.system → Does C.called C.count C.may_refuse fires firing_at (Interrupts C.called C.count C.may_refuse) s
+        → ShowsSystem m s.system → Does C.called C.count C.may_refuse fires firing_at (Interrupts C.called C.count C.may_refuse) s
         (SoftInterrupt i.cpu i.level i.budget (Ok ran)) t → IsServed C.count i ran m s t }
     ensures refused { (i : SoftintStep) (e : Refusal) (answer : Result Ran SoftFault) (m : State) (s t : RunningSystem C Tables)
-        → IsSystem s.system → Shows m s.system → softint_refusal i m ≡ Some e
+        → IsSystem s.system → ShowsSystem m s.system → softint_refusal i m ≡ Some e
         → Does C.called C.count C.may_refuse fires firing_at (Interrupts C.called C.count C.may_refuse) s
         (SoftInterrupt i.cpu i.level i.budget answer) t → (answer ≡ Err fault.NoCpu) × (t ≡ s) }
 {}
@@ -245,7 +245,7 @@ pub fn softint_law<C: Calls>()
 ///
 /// It does nothing when it runs: its clauses are the law.
 pub fn poll_law<C: Calls>()
-    ensures begins { (texts : List (List ℕ)) (step : ℕ) (m : State) (v : SystemView Tables) → Shows m v
+    ensures begins { (texts : List (List ℕ)) (step : ℕ) (m : State) (v : SystemView Tables) → ShowsSystem m v
         → HavePolled texts step [] [] m v }
     ensures polls { (texts : List (List ℕ)) (step : ℕ) (ids lines : List ℕ) (id : ℕ) (answer : Option Receipt) (m : State)
         (v w : SystemView Tables) → IsSystem v → HavePolled texts step ids lines m v
@@ -255,7 +255,7 @@ pub fn poll_law<C: Calls>()
         (v w : SystemView Tables) → IsSystem v → HavePolled texts step ids lines m v
         → Changes fires firing_at v (PollRemove id (Ok (Some receipt))) w
         → counts_of id (each (poll_id plain texts step) (ids ++ id ∷ []) m).state ≡ told_by receipt (m.called id) }
-    ensures leaving { (m : State) (v : SystemView Tables) → IsSystem v → Shows m v → leaving_ids m ≡ leaving_in v }
+    ensures leaving { (m : State) (v : SystemView Tables) → IsSystem v → ShowsSystem m v → leaving_ids m ≡ leaving_in v }
     ensures ends { (texts : List (List ℕ)) (step : ℕ) (i : SoftintStep) (ran : Ran) (lines : List ℕ) (m : State)
         (s t : RunningSystem C Tables) (w : SystemView Tables) → IsServed C.count i ran m s t
         → HavePolled texts step (leaving_ids (interrupt step i m).state) lines (interrupt step i m).state w
@@ -267,8 +267,8 @@ pub fn poll_law<C: Calls>()
 ///
 /// It does nothing when it runs: its clauses are the law.
 pub fn report_law()
-    ensures some { (id : ℕ) (totals : SystemTotals) (m : State) (v w : SystemView Tables) → IsSystem v → Shows m v
-        → Changes fires firing_at v (AskTotals id (Some totals)) w → Shows m w × (counts_of id m ≡ told_in totals (m.called id)) }
-    ensures none { (id : ℕ) (m : State) (v w : SystemView Tables) → IsSystem v → Shows m v
+    ensures some { (id : ℕ) (totals : SystemTotals) (m : State) (v w : SystemView Tables) → IsSystem v → ShowsSystem m v
+        → Changes fires firing_at v (AskTotals id (Some totals)) w → ShowsSystem m w × (counts_of id m ≡ told_in totals (m.called id)) }
+    ensures none { (id : ℕ) (m : State) (v w : SystemView Tables) → IsSystem v → ShowsSystem m v
         → Changes fires firing_at v (AskTotals id None) w → (is_unknown id m ≡ true) × (w ≡ v) }
 {}

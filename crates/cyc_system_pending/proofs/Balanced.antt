@@ -8,7 +8,7 @@ use Rattle.std.proofs.lemmas.List.Sums.{sum_by-cons}
 use Rattle.cyc_types.specs.Firing.{Stay, seen_in}
 use Rattle.cyc_types.specs.declared.level.Level.{Level}
 use Rattle.cyc_types.specs.declared.receipt.Receipt.{Receipt}
-use Rattle.cyc_level.specs.Level.{Cyclic as Admission, count_in}
+use Rattle.cyc_level.specs.Level.{AdmittedCyclic, count_in}
 use Rattle.cyc_core.specs.Tables.{Tables, level_of}
 use Rattle.cyc_core.specs.FiringSide.{stay_of}
 use Rattle.cyc_fire.specs.declared.fire.Fired.{Fired}
@@ -46,7 +46,7 @@ use Rattle.cyc_system_pending.proofs.Pends.{serve_pends}
 
 -- ---- where the cyclic is not
 
-none_admitted : (o : Option Admission) → option_map stay_of o ≡ None → count_in o ≡ 0
+none_admitted : (o : Option AdmittedCyclic) → option_map stay_of o ≡ None → count_in o ≡ 0
 none_admitted None e = refl
 none_admitted (Some c) e = absurd (none_some (sym e))
 
@@ -101,7 +101,7 @@ module _ (id : ℕ) where
 
   -- ---- what totals say
 
-  seen_all : (o : Option Admission) → seen_in (option_map stay_of o) ≡ count_in o
+  seen_all : (o : Option AdmittedCyclic) → seen_in (option_map stay_of o) ≡ count_in o
   seen_all None = refl
   seen_all (Some c) = refl
 

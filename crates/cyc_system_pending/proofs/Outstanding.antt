@@ -11,7 +11,7 @@ use Rattle.cyc_types.proofs.Runs.{finished_on}
 use Rattle.cyc_types.specs.declared.firing.Raised.TheVariants.{First, More, Lost}
 use Rattle.cyc_level.specs.declared.Event.{Event}
 use Rattle.cyc_level.specs.declared.Event.TheVariants.{Admit, Expire, Lose, Finish, Mark, Clear, Switch}
-use Rattle.cyc_level.specs.Level.{Cyclic, Level, count_in, count}
+use Rattle.cyc_level.specs.Level.{AdmittedCyclic, SoftLevel, count_in, count}
 use Rattle.cyc_level.specs.Lawful.{Lawful}
 use Rattle.cyc_level.specs.Events.{Enabled, admitted_cyclic, cyclic_after_expire, cyclic_after_lose, cyclic_after_finish}
 use Rattle.cyc_level.specs.Events.{after_finish, after}
@@ -28,14 +28,14 @@ use Rattle.cyc_system_sums.proofs.Lists.{eq_true, true_eq, false_ne, false_true}
 
 -- ---- a lawful level stays so
 
-pub happens_law : (l m : Level) (event : Event) → Happens l event m → Lawful l → Lawful m
+pub happens_law : (l m : SoftLevel) (event : Event) → Happens l event m → Lawful l → Lawful m
 happens_law l m event (enabled, is) law = subst Lawful (sym is) (keeps_law l law event enabled)
 
-folds_law : (l m : Level) (events : List Event) → FoldsTo Happens l events m → Lawful l → Lawful m
+folds_law : (l m : SoftLevel) (events : List Event) → FoldsTo Happens l events m → Lawful l → Lawful m
 folds_law l m [] run law = subst Lawful run law
 folds_law l m (event ∷ events) (k, first, rest) law = folds_law k m events rest (happens_law l k event first law)
 
-fires_law : (l m : Level) (call : FiringCall) → Fires l call m → Lawful l → Lawful m
+fires_law : (l m : SoftLevel) (call : FiringCall) → Fires l call m → Lawful l → Lawful m
 fires_law l m (Admits id index) d law = happens_law l m (Admit id index) d law
 fires_law l m (Loads id pend) d law = subst Lawful (sym d.1) law
 fires_law l m (Raises id answer) d law = folds_law l m _ d.0 law
@@ -45,7 +45,7 @@ fires_law l m (Polls id (Some counts)) d law = happens_law l m (Clear id) d.1 la
 fires_law l m (Expands bank) d law = happens_law l m (Switch bank) d law
 fires_law l m (Looks answer) d law = subst Lawful (sym d.1) law
 
-drains_law : (l m : Level) (call : DrainCall) → Drains l call m → Lawful l → Lawful m
+drains_law : (l m : SoftLevel) (call : DrainCall) → Drains l call m → Lawful l → Lawful m
 drains_law l m (Takes answer) d law = folds_law l m _ d.0 law
 drains_law l m (Finishes id answer) d law = happens_law l m Finish d.1 law
 
@@ -63,7 +63,7 @@ goes_law a b (call ∷ way) (m, first, rest) law = goes_law m b way rest (fires_
 
 -- ---- the outstanding calls of an id
 module _ (id : ℕ) where
-  admits : (l : Level) (own index : ℕ) → l.cyclics own ≡ None → count (after (Admit own index) l) id ≡ count l id
+  admits : (l : SoftLevel) (own index : ℕ) → l.cyclics own ≡ None → count (after (Admit own index) l) id ≡ count l id
   admits l own index none = by (id == own) refl
     where
       by : (b : Bool) → (id == own) ≡ b
@@ -71,7 +71,7 @@ module _ (id : ℕ) where
       by true is = sym (ap count_in (ap l.cyclics (eq_true id own is) ∙ none))
       by false is = refl
 
-  expires : (l : Level) (own : ℕ) → Enabled (Expire own) l → count (after (Expire own) l) id ≡ count l id + one_at id own
+  expires : (l : SoftLevel) (own : ℕ) → Enabled (Expire own) l → count (after (Expire own) l) id ≡ count l id + one_at id own
   expires l own enabled = by (id == own) refl
     where
       by : (b : Bool) → (id == own) ≡ b
@@ -83,15 +83,15 @@ module _ (id : ℕ) where
           let x = ap (λ o. count_in (option_map cyclic_after_expire o)) e in let y = ap count_in e in omega (arith, x, y))
       by false is = omega arith
 
-  loses : (l : Level) (own : ℕ) → count (after (Lose own) l) id ≡ count l id
+  loses : (l : SoftLevel) (own : ℕ) → count (after (Lose own) l) id ≡ count l id
   loses l own = by (id == own) (l.cyclics id)
     where
-      by : (b : Bool) (o : Option Cyclic) → count_in (cond b (option_map cyclic_after_lose o) o) ≡ count_in o
+      by : (b : Bool) (o : Option AdmittedCyclic) → count_in (cond b (option_map cyclic_after_lose o) o) ≡ count_in o
       by true None = refl
       by true (Some c) = refl
       by false o = refl
 
-  clears : (l : Level) (own : ℕ) → count l own ≡ 0 → count (after (Clear own) l) id ≡ count l id
+  clears : (l : SoftLevel) (own : ℕ) → count l own ≡ 0 → count (after (Clear own) l) id ≡ count l id
   clears l own none = by (id == own) refl
     where
       by : (b : Bool) → (id == own) ≡ b → count_in (cond b None (l.cyclics id)) ≡ count_in (l.cyclics id)
@@ -99,7 +99,7 @@ module _ (id : ℕ) where
       by false is = refl
 
   -- one call less of the id that was in the hand
-  finishes : (l : Level) (own : ℕ) → Lawful l → l.drainer_hand ≡ Some own
+  finishes : (l : SoftLevel) (own : ℕ) → Lawful l → l.drainer_hand ≡ Some own
       → count (after Finish l) id + cond (own == id) 1 0 ≡ count l id
   finishes l own law held =
       let e = ap (λ hand. count (after_finish hand l) id) held in
@@ -118,10 +118,10 @@ module _ (id : ℕ) where
           (let z = ap (λ b. cond {A = ℕ} b 1 0) (false_ne own id
           (λ same. false_true (sym is ∙ true_eq id own (sym same)))) in omega (arith, z))
 
-  same_count : (l m : Level) → m ≡ l → count m id ≡ count l id
-  same_count l m e = ap (λ (x : Level). count x id) e
+  same_count : (l m : SoftLevel) → m ≡ l → count m id ≡ count l id
+  same_count l m e = ap (λ (x : SoftLevel). count x id) e
 
-  fired_call : (l m : Level) (call : FiringCall) → Fires l call m
+  fired_call : (l m : SoftLevel) (call : FiringCall) → Fires l call m
       → count m id + losses_of id call ≡ count l id + raises_of id call
   fired_call l m (Admits own index) d = let a = same_count _ m d.1 in let b = admits l own index d.0.2 in omega (arith, a, b)
   fired_call l m (Loads own pend) d = let a = same_count l m d.1 in omega (arith, a)
@@ -139,7 +139,7 @@ module _ (id : ℕ) where
   fired_call l m (Looks answer) d = let a = same_count l m d.1 in omega (arith, a)
 
   -- a look takes nothing away
-  looked : (l m : Level) (old new : List ℕ) (b : Bool) → FoldsTo Happens l (take_events old new b) m → count m id ≡ count l id
+  looked : (l m : SoftLevel) (old new : List ℕ) (b : Bool) → FoldsTo Happens l (take_events old new b) m → count m id ≡ count l id
   looked l m old (x ∷ xs) true (k, first, rest) = same_count k m (sym rest) ∙ same_count _ k first.1
   looked l m old [] true h = same_count l m (sym h)
   looked l m (x ∷ xs) new false (k, first, rest) = same_count k m (sym rest) ∙ same_count _ k first.1
@@ -147,7 +147,7 @@ module _ (id : ℕ) where
       same_count n m (sym rest) ∙ same_count _ n second.1 ∙ same_count _ k first.1
   looked l m [] [] false (k, first, rest) = same_count k m (sym rest) ∙ same_count _ k first.1
 
-  drained_call : (l m : Level) (call : DrainCall) → Lawful l → Drains l call m
+  drained_call : (l m : SoftLevel) (call : DrainCall) → Lawful l → Drains l call m
       → count m id + finished_by id (call ∷ []) ≡ count l id
   drained_call l m (Takes answer) law d = let a = looked l m l.old_list l.new_list _ d.0 in omega (arith, a)
   drained_call l m (Finishes own answer) law d =

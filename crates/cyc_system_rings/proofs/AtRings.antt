@@ -1,7 +1,7 @@
 -- The law of each level, where the ends are those of rings.
 use Rattle.std.proofs.Common.{◌≡◌, ℕ, ◌+◌, None, List, ap, arith}
 use Rattle.std.specs.Prelude.{map, sum_by, cond, false}
-use Rattle.cyc_types.specs.Levels.{level_of}
+use Rattle.cyc_types.specs.Levels.{as_level}
 use Rattle.cyc_types.specs.Levels as types
 use Rattle.cyc_types.specs.Firing.{FiringCall}
 use Rattle.cyc_types.specs.Runs.{Goes, raised_by, lost_by}
@@ -83,8 +83,8 @@ module _ (id : ℕ) (s : SystemView RaiseEnd) (new : HasNewEnds s) where
 module _ {C : Type 0} (called : C → ℕ → Level → C → Type 0) (count : C → ℕ → ℕ) (may_refuse : C → ℕ → Type 0) (id : ℕ)
     (s t : SystemSide RaiseEnd C) (way : List LeadCall) (l : LeadsFromNew called count may_refuse s way t)
     (new : HasNewEnds s.system) (rings : List Closed) (closed : AreClosed t.system.cpus.cpus rings) where
-  pub made_of : (own : Soft) → made_at own id rings + (counts_at (level_of own) id way t.system).lost
-      ≡ (counts_at (level_of own) id way t.system).sent
+  pub made_of : (own : Soft) → made_at own id rings + (counts_at (as_level own) id way t.system).lost
+      ≡ (counts_at (as_level own) id way t.system).sent
   made_of soft.Lock =
       let (a, b) = at_level called count may_refuse id s t way l Lock in
       let c = level_closed soft.Lock id t.system.cpus.cpus rings closed in
@@ -98,18 +98,18 @@ module _ {C : Type 0} (called : C → ℕ → Level → C → Type 0) (count : C
 
   -- at another level than the id's
   pub not_served : (own : Soft) (before after : List C)
-      → AreServed (types.at_level called (level_of own)) count (rings_of own rings) before after
-      → is_own (level_of own) (level_in id way) ≡ false → map (λ c. count c id) after ≡ map (λ c. count c id) before
+      → AreServed (types.at_level called (as_level own)) count (rings_of own rings) before after
+      → is_own (as_level own) (level_in id way) ≡ false → map (λ c. count c id) after ≡ map (λ c. count c id) before
   not_served own before after served not =
       let a = made_of own in
       let b = ap (λ b. (cond b (counts_in id way t.system) no_counts).sent) not in
-      none_served (types.at_level called (level_of own)) count id (rings_of own rings) before after served (omega (arith, a, b))
+      none_served (types.at_level called (as_level own)) count id (rings_of own rings) before after served (omega (arith, a, b))
 
   pub served_of : (own : Soft) (before after : List C)
-      → AreServed (types.at_level called (level_of own)) count (rings_of own rings) before after
-      → sum_by (λ c. count c id) after + (counts_at (level_of own) id way t.system).lost
-      ≡ sum_by (λ c. count c id) before + (counts_at (level_of own) id way t.system).sent
+      → AreServed (types.at_level called (as_level own)) count (rings_of own rings) before after
+      → sum_by (λ c. count c id) after + (counts_at (as_level own) id way t.system).lost
+      ≡ sum_by (λ c. count c id) before + (counts_at (as_level own) id way t.system).sent
   served_of own before after served =
       let a = made_of own in
-      let b = level_served (types.at_level called (level_of own)) count id (rings_of own rings) before after served in
+      let b = level_served (types.at_level called (as_level own)) count id (rings_of own rings) before after served in
       omega (arith, a, b)

@@ -1,7 +1,7 @@
 //! The law of conservation at each level.
 
 ghost use Rattle.std.specs.Prelude.{◌≡◌, ℕ, ◌+◌, false, List, map, sum_by, None};
-ghost use Rattle.cyc_types.specs.Levels.{level_of, at_level};
+ghost use Rattle.cyc_types.specs.Levels.{as_level, at_level};
 ghost use Rattle.cyc_types.specs.declared.level.Level.TheVariants.{High};
 ghost use Rattle.cyc_types.specs.declared.level.Soft.{Soft as Level};
 ghost use Rattle.cyc_ring.specs.declared.ends.RaiseEnd.{RaiseEnd as AnEnd};
@@ -24,10 +24,10 @@ use cyc_types::Calls;
 pub fn conserved_by_level_law<C: Calls>()
     ensures raised { (id : ℕ) (soft : Level) (s t : SystemSide AnEnd C) (way : List LeadCall)
         → LeadsFromNew C.called C.count C.may_refuse s way t
-        → raised_at soft id t.system ≡ raised_at soft id s.system + (counts_at (level_of soft) id way t.system).sent }
+        → raised_at soft id t.system ≡ raised_at soft id s.system + (counts_at (as_level soft) id way t.system).sent }
     ensures lost { (id : ℕ) (soft : Level) (s t : SystemSide AnEnd C) (way : List LeadCall)
         → LeadsFromNew C.called C.count C.may_refuse s way t
-        → dropped_at soft id t.system ≡ dropped_at soft id s.system + (counts_at (level_of soft) id way t.system).lost }
+        → dropped_at soft id t.system ≡ dropped_at soft id s.system + (counts_at (as_level soft) id way t.system).lost }
     ensures called { (id : ℕ) (s t : SystemSide AnEnd C) (way : List LeadCall)
         → LeadsFromNew C.called C.count C.may_refuse s way t
         → counted_by C.count id t.leads.items ≡ counted_by C.count id s.leads.items + (counts_at High id way t.system).sent }
@@ -52,19 +52,19 @@ pub fn served_by_level_law<C: Calls>()
         → made_at soft id rings + dropped_at soft id t ≡ raised_at soft id t }
     ensures made { (id : ℕ) (soft : Level) (s t : SystemSide AnEnd C) (way : List LeadCall) (rings : List Closed)
         → LeadsFromNew C.called C.count C.may_refuse s way t → HasNewEnds s.system → AreClosed t.system.cpus.cpus rings
-        → made_at soft id rings + (counts_at (level_of soft) id way t.system).lost
-        ≡ (counts_at (level_of soft) id way t.system).sent }
+        → made_at soft id rings + (counts_at (as_level soft) id way t.system).lost
+        ≡ (counts_at (as_level soft) id way t.system).sent }
     ensures served { (id : ℕ) (soft : Level) (s t : SystemSide AnEnd C) (way : List LeadCall) (rings : List Closed)
         (before after : List C) → LeadsFromNew C.called C.count C.may_refuse s way t → HasNewEnds s.system
         → AreClosed t.system.cpus.cpus rings
-        → AreServed (at_level C.called (level_of soft)) C.count (rings_of soft rings) before after
-        → sum_by (λ c. C.count c id) after + (counts_at (level_of soft) id way t.system).lost
-        ≡ sum_by (λ c. C.count c id) before + (counts_at (level_of soft) id way t.system).sent }
+        → AreServed (at_level C.called (as_level soft)) C.count (rings_of soft rings) before after
+        → sum_by (λ c. C.count c id) after + (counts_at (as_level soft) id way t.system).lost
+        ≡ sum_by (λ c. C.count c id) before + (counts_at (as_level soft) id way t.system).sent }
     // No handlers of this level were called for an id of another.
     ensures uncalled { (id : ℕ) (soft : Level) (s t : SystemSide AnEnd C) (way : List LeadCall) (rings : List Closed)
         (before after : List C) → LeadsFromNew C.called C.count C.may_refuse s way t → HasNewEnds s.system
         → AreClosed t.system.cpus.cpus rings
-        → AreServed (at_level C.called (level_of soft)) C.count (rings_of soft rings) before after
-        → is_own (level_of soft) (level_in id way) ≡ false
+        → AreServed (at_level C.called (as_level soft)) C.count (rings_of soft rings) before after
+        → is_own (as_level soft) (level_in id way) ≡ false
         → map (λ c. C.count c id) after ≡ map (λ c. C.count c id) before }
 {}

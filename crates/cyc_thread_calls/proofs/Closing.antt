@@ -4,7 +4,7 @@ use Rattle.std.proofs.Common.{ap, subst, arith}
 use Rattle.std.specs.Prelude.{sum_by, flat_map}
 use Rattle.std.specs.List.{slice_get, FoldsTo}
 use Rattle.std.proofs.lemmas.List.Sums.{sum_by-cons}
-use Rattle.cyc_types.specs.Levels.{at_level, level_of}
+use Rattle.cyc_types.specs.Levels.{at_level, as_level}
 use Rattle.cyc_types.specs.declared.level.Level.{Level}
 use Rattle.cyc_types.specs.declared.level.Level.TheVariants.{Low, Lock, High}
 use Rattle.cyc_types.specs.declared.level.Soft.{Soft}
@@ -167,8 +167,8 @@ module _ {C : Type 0} (called : C → ℕ → Level → C → Type 0) (count : C
 
       -- as often as a level's rings made calls of an id
       pub rings_made : (own : Soft) (id : ℕ) → made_at own id e.rings.items
-          + (counts_at (level_of own) id way r.played.told.side.system).lost
-          ≡ (counts_at (level_of own) id way r.played.told.side.system).sent
+          + (counts_at (as_level own) id way r.played.told.side.system).lost
+          ≡ (counts_at (as_level own) id way r.played.told.side.system).sent
       rings_made own id = made_of called count may_refuse id r.played.first.side r.played.told.side way from_new new_ends
           e.rings.items
           run_closed own

@@ -1,7 +1,7 @@
 //! The law of the calls that a run of a script in threads makes.
 
 ghost use Rattle.std.specs.Prelude.{◌≡◌, ◌+◌, ℕ, List};
-ghost use Rattle.cyc_types.specs.Levels.{level_of};
+ghost use Rattle.cyc_types.specs.Levels.{as_level};
 ghost use Rattle.cyc_types.specs.declared.level.Level.{Level as OneLevel};
 ghost use Rattle.cyc_types.specs.declared.level.Soft.{Soft as SoftLevel};
 ghost use Rattle.cyc_script.specs.declared.script.Script.{Script as OneScript};
@@ -27,8 +27,8 @@ pub fn called_law<C: Calls>()
     ensures made { (script : OneScript) (calls : List C) (e : Ends C) (text : List ℕ)
         (r : HasRun C.called C.count C.may_refuse script calls e text) (soft : SoftLevel) (id : ℕ)
         → made_at soft id e.rings.items
-        + (counts_at (level_of soft) id (lead_calls C.called C.count C.may_refuse script calls e text r)
+        + (counts_at (as_level soft) id (lead_calls C.called C.count C.may_refuse script calls e text r)
         (last_system C.called C.count C.may_refuse script calls e text r)).lost
-        ≡ (counts_at (level_of soft) id (lead_calls C.called C.count C.may_refuse script calls e text r)
+        ≡ (counts_at (as_level soft) id (lead_calls C.called C.count C.may_refuse script calls e text r)
         (last_system C.called C.count C.may_refuse script calls e text r)).sent }
 {}

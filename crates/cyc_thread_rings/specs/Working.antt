@@ -2,7 +2,7 @@
 use Rattle.std.specs.Prelude.{◌≡◌, ℕ, Option}
 use Rattle.std.specs.declared.thread.PromisedHandle.{PromisedHandle}
 use Rattle.cyc_types.specs.Draining.{DrainCall}
-use Rattle.cyc_types.specs.Levels.{level_of, at_level}
+use Rattle.cyc_types.specs.Levels.{as_level, at_level}
 use Rattle.cyc_types.specs.declared.level.Level.{Level}
 use Rattle.cyc_types.specs.declared.level.Level.TheVariants as level
 use Rattle.cyc_types.specs.declared.level.Soft.TheVariants.{Lock, Low}
@@ -30,8 +30,8 @@ abbrev pub HaveKept : {D C : Type 0} → (D → DrainCall → D → Type 0) → 
     → (C → ℕ → Level → C → Type 0) → (C → ℕ → ℕ) → (C → ℕ → Type 0)
     → Levels (PromisedHandle (Drained D C) (Drains D C)) → Levels (Drained D C) → Type 0
 HaveKept step held made called count may_refuse h d =
-    HasDrained step held made (at_level called (level_of h.lock.promise.level)) count may_refuse h.lock.promise.side.value d.lock
-    × HasDrained step held made (at_level called (level_of h.low.promise.level)) count may_refuse h.low.promise.side.value d.low
+    HasDrained step held made (at_level called (as_level h.lock.promise.level)) count may_refuse h.lock.promise.side.value d.lock
+    × HasDrained step held made (at_level called (as_level h.low.promise.level)) count may_refuse h.low.promise.side.value d.low
 
 -- the workers of a CPU have drained these sides, each with its own handlers at its own level
 abbrev pub HaveDrained : {D C : Type 0} → (D → DrainCall → D → Type 0) → (D → Option ℕ) → (D → ℕ → ℕ)

@@ -2,7 +2,7 @@
 
 ghost use Rattle.std.specs.Prelude.{◌≡◌, map, IfOk, IfErr};
 ghost use Rattle.cyc_types.specs.declared.refusal.Refusal.TheVariants.{Memory};
-ghost use Rattle.cyc_types.specs.Levels.{level_of, at_level};
+ghost use Rattle.cyc_types.specs.Levels.{as_level, at_level};
 ghost use Rattle.cyc_workers.specs.Draining.{HasDrained};
 ghost use Rattle.cyc_thread_rings.specs.Laid.{EachTwo};
 ghost use Rattle.cyc_thread_rings.specs.Working.{sides_of, both_sides, HasPromised, HaveKept};
@@ -78,7 +78,7 @@ fn join_one<R: Threads, D: Drain + Drop, C: Calls + Drop>(
     rt: &R,
     handle: PromisedHandle<Drained<D, C>, Drains<D, C>>,
 ) -> Drained<D, C>
-    ensures { HasDrained D.step D.held D.made (at_level C.called (level_of handle.promise.level)) C.count C.may_refuse
+    ensures { HasDrained D.step D.held D.made (at_level C.called (as_level handle.promise.level)) C.count C.may_refuse
         handle.promise.side.value result }
 {
     handle.join(rt)

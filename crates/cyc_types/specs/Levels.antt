@@ -5,9 +5,9 @@ use Rattle.cyc_types.specs.declared.level.Soft.{Soft}
 use Rattle.cyc_types.specs.declared.level.Soft.TheVariants.{Low, Lock}
 
 -- a soft level among all levels
-abbrev pub level_of : Soft → Level
-level_of Low = level.Low
-level_of Lock = level.Lock
+abbrev pub as_level : Soft → Level
+as_level Low = level.Low
+as_level Lock = level.Lock
 
 -- the calls that handlers may be given, at one level alone
 abbrev pub at_level : {C : Type 0} → (C → ℕ → Level → C → Type 0) → Level → C → ℕ → C → Type 0

@@ -2,7 +2,7 @@
 
 ghost use Rattle.std.specs.Prelude.{◌≡◌, ℕ, ◌-◌, ◌<◌, ◌≤◌, ◌^◌, ◌↔◌, IsSome, IfSome};
 ghost use Rattle.cyc_types.specs.Limits.{cyclics};
-ghost use Rattle.cyc_types.specs.Levels.{level_of};
+ghost use Rattle.cyc_types.specs.Levels.{as_level};
 
 use crate::limits::CYCLICS;
 use std::marker::Model;
@@ -23,7 +23,7 @@ pub enum Soft {
 }
 
 impl From<Soft> for Level {
-    ghost from_gives = { λ soft level. level ≡ level_of soft };
+    ghost from_gives = { λ soft level. level ≡ as_level soft };
 
     fn from(soft: Soft) -> Level {
         match soft {

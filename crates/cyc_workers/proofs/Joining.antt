@@ -3,7 +3,7 @@ use Rattle.std.proofs.Common.{◌≡◌, ℕ, Option, sym, subst}
 use Rattle.std.specs.Prelude.{Result, Ok, Err, IfErr}
 use Rattle.std.specs.Result.{IsErrAnd}
 use Rattle.cyc_types.specs.Draining.{DrainCall}
-use Rattle.cyc_types.specs.Levels.{at_level, level_of}
+use Rattle.cyc_types.specs.Levels.{at_level, as_level}
 use Rattle.cyc_types.specs.declared.level.Level.{Level}
 use Rattle.cyc_types.specs.declared.level.Soft.{Soft}
 use Rattle.cyc_workers.specs.declared.draining.SoftSide.{SoftSide}
@@ -19,8 +19,8 @@ at_err P (Err y) x a p = subst P (sym a) p
 pub joined : {C D : Type 0} (called : C → ℕ → Level → C → Type 0) (count : C → ℕ → ℕ) (may_refuse : C → ℕ → Type 0)
     (soft_step : D → DrainCall → D → Type 0) (held : D → Option ℕ) (made : D → ℕ → ℕ) (soft soft' : Soft)
     (side side' : SoftSide D C) (r : Drained D C) →
-    HasDrained soft_step held made (at_level called (level_of soft')) count may_refuse side' r → side' ≡ side → soft' ≡ soft →
-    HasDrained soft_step held made (at_level called (level_of soft)) count may_refuse side r
+    HasDrained soft_step held made (at_level called (as_level soft')) count may_refuse side' r → side' ≡ side → soft' ≡ soft →
+    HasDrained soft_step held made (at_level called (as_level soft)) count may_refuse side r
 joined called count may_refuse soft_step held made soft soft' side side' r h same level =
-    subst (λ (x : SoftSide _ _). HasDrained soft_step held made (at_level called (level_of soft)) count may_refuse x r) same
-    (subst (λ (x : Soft). HasDrained soft_step held made (at_level called (level_of x)) count may_refuse side' r) level h)
+    subst (λ (x : SoftSide _ _). HasDrained soft_step held made (at_level called (as_level soft)) count may_refuse x r) same
+    (subst (λ (x : Soft). HasDrained soft_step held made (at_level called (as_level x)) count may_refuse side' r) level h)

@@ -1,7 +1,7 @@
 //! A draining worker: soft interrupts until it is told to stop.
 
 ghost use Rattle.std.specs.Prelude.{◌≡◌, IfOk, IfErr};
-ghost use Rattle.cyc_types.specs.Levels.{level_of, at_level};
+ghost use Rattle.cyc_types.specs.Levels.{as_level, at_level};
 ghost use Rattle.cyc_workers.specs.Draining.{Serves, IsRefused, HasDrained};
 
 use crate::signals::Signals;
@@ -44,15 +44,15 @@ pub struct Drains<D, C> {
 
 impl<D: Drain, C: Calls> Promise<Drained<D, C>> for Drains<D, C> {
     ghost kept_by = { λ p r. HasDrained D.step D.held D.made
-        (at_level C.called (level_of p.level)) C.count C.may_refuse p.side.value r };
+        (at_level C.called (as_level p.level)) C.count C.may_refuse p.side.value r };
 }
 
 /// One soft interrupt.
 fn serve<D: Drain, C: Calls>(side: &mut SoftSide<D, C>, level: Soft) -> Result<Ran, SoftRefused>
     ensures ran { IfOk result (λ r. Serves D.step D.held D.made
-        (at_level C.called (level_of level)) C.count r.idle side.old side.new) }
+        (at_level C.called (as_level level)) C.count r.idle side.old side.new) }
     ensures refused { IfErr result (λ r. IsRefused D.step D.held D.made
-        (at_level C.called (level_of level)) C.count C.may_refuse side.old r side.new) }
+        (at_level C.called (as_level level)) C.count C.may_refuse side.old r side.new) }
 {
     softint(&mut side.drain, &mut side.calls, level, BUDGET)
 }
@@ -68,7 +68,7 @@ pub fn drain<W: Wait, D: Drain, C: Calls>(
     level: Soft,
     side: SoftSide<D, C>,
 ) -> Drained<D, C>
-    ensures { HasDrained D.step D.held D.made (at_level C.called (level_of level)) C.count C.may_refuse side result }
+    ensures { HasDrained D.step D.held D.made (at_level C.called (as_level level)) C.count C.may_refuse side result }
 {
     let mut side = side;
     for _ in rt.forever() {

@@ -4,7 +4,7 @@ use Rattle.std.specs.Prelude.{IsTrue, IfOk, IfNone}
 use Rattle.cyc_types.specs.declared.level.Soft.{Soft}
 use Rattle.cyc_types.specs.declared.level.Soft.TheVariants.{Low, Lock}
 use Rattle.cyc_types.specs.declared.level.Level.{Level}
-use Rattle.cyc_types.specs.Levels.{at_level, level_of}
+use Rattle.cyc_types.specs.Levels.{at_level, as_level}
 use Rattle.cyc_core.specs.Tables.{Tables}
 use Rattle.cyc_soft.specs.declared.Ran.{Ran}
 use Rattle.cyc_soft.specs.declared.SoftRefused.{SoftRefused}
@@ -27,13 +27,13 @@ none_made level (s ∷ ran) left (m, (e, made), rest) = absurd (nothing_is s.id 
 
 module _ (level : Soft) (a b : Tables) (left : Granted) where
   pub idle_of : (answer : Result Ran SoftRefused)
-      → IsSoftint drains held_at done_at (at_level granted_called (level_of level)) granted_count GrantedRefuses 1 answer a
+      → IsSoftint drains held_at done_at (at_level granted_called (as_level level)) granted_count GrantedRefuses 1 answer a
       Nothing b left
       → IfOk answer (λ r. IsTrue r.idle → HasEmptyLists b) → IfNone (refused_at answer) (HasEmptyLists b)
   idle_of (Ok r) did empty =
       let (ran, same, serves, held) = did.served in
       let none : r.calls < 1 = subst (λ n. n < 1) (same)
-      (subst (λ n. n < 1) (sym (none_made (level_of level) ran left serves.called_all)) (lit< tt)) in
+      (subst (λ n. n < 1) (sym (none_made (as_level level) ran left serves.called_all)) (lit< tt)) in
       empty (did.within.1.1 none)
   idle_of (Err e) did empty = tt
 

@@ -6,7 +6,7 @@ use Rattle.std.specs.Prelude.{Option, Some, None}
 use Rattle.std.specs.Option.{option_map}
 use Rattle.atomic_table.specs.Table.{step}
 use Rattle.cyc_level.specs.declared.Event.TheVariants.{Expire}
-use Rattle.cyc_level.specs.Level.{Cyclic, Level, count, count_in, in_hand}
+use Rattle.cyc_level.specs.Level.{AdmittedCyclic, SoftLevel, count, count_in, in_hand}
 use Rattle.cyc_level.specs.Lawful.{Lawful}
 use Rattle.cyc_level.specs.Events.{changed_at, cyclic_after_expire, hand_after_expire, Enabled, after}
 use Rattle.cyc_level.specs.Runs.{StayCounts, one_more}
@@ -27,15 +27,15 @@ use Rattle.ring_rule.proofs.Stays.{behind, same_if, same_expired, not_held}
 use Rattle.ring_rule.proofs.Now.{RingNow, ring_now, admitted_low, same_pend}
 use Rattle.ring_rule.proofs.Stands.{firing_step}
 
-module _ (start : ℕ) (ws : List ℕ) (wide : length ws ≡ word_count) (rs : List RaiseStep) (ds : List DrainStep) (l : Level)
+module _ (start : ℕ) (ws : List ℕ) (wide : length ws ≡ word_count) (rs : List RaiseStep) (ds : List DrainStep) (l : SoftLevel)
     (law : Lawful l) (sh : TrailsShow start ws rs ds l) (le : StillHolds start ws rs ds l)
     (i id : ℕ) (st : StayCounts) (is : open_stay id rs ≡ Some st) (at_i : i ≡ pend_word st.index)
     (free : ¬ (marked_of rs ≡ Some id)) where
-  pub known : (c : Cyclic) × (l.cyclics id ≡ Some c) × (st.index ≡ c.index) × (st.sent ≡ c.sent) × (st.lost ≡ c.lost)
+  pub known : (c : AdmittedCyclic) × (l.cyclics id ≡ Some c) × (st.index ≡ c.index) × (st.sent ≡ c.sent) × (st.lost ≡ c.lost)
       × (made_calls id ds ≡ c.done + ended_calls id rs)
   known = behind (made_calls id ds) (ended_calls id rs) (open_stay id rs) (l.cyclics id) st is (sh.stays id)
 
-  abbrev c : Cyclic
+  abbrev c : AdmittedCyclic
   c = known.0
 
   here : pend_word c.index ≡ i
@@ -64,15 +64,15 @@ module _ (start : ℕ) (ws : List ℕ) (wide : length ws ≡ word_count) (rs : L
   high : (j : ℕ) → cyclics ≤ j → get_or ws' j 0 ≡ get_or ws j 0
   high j h = let x = low in get_or-set_other ws i j (n + 1) 0 (λ e. omega arith)
 
-  same_index : (d : Cyclic) → (cyclic_after_expire d).index ≡ d.index
+  same_index : (d : AdmittedCyclic) → (cyclic_after_expire d).index ≡ d.index
   same_index d = refl
 
-  pend_here : (o : Option Cyclic) → o ≡ Some c → (d : Cyclic) → option_map cyclic_after_expire o ≡ Some d
+  pend_here : (o : Option AdmittedCyclic) → o ≡ Some c → (d : AdmittedCyclic) → option_map cyclic_after_expire o ≡ Some d
       → get_or ws' (pend_word d.index) 0 ≡ d.count + 2 ^ 32 * in_hand id l.marked
   pend_here o e d h = let z : in_hand id l.marked ≡ 0 = not_held id l.marked (λ e. free (sym sh.marked_is ∙ e)) in
       let same : cyclic_after_expire c ≡ d = some_same (cyclic_after_expire c) d (ap (option_map cyclic_after_expire) (sym e) ∙ h)
       in let x = low in let wide = wide in
-      subst (λ (d : Cyclic). get_or ws' (pend_word d.index) 0 ≡ d.count + 2 ^ 32 * in_hand id l.marked) same
+      subst (λ (d : AdmittedCyclic). get_or ws' (pend_word d.index) 0 ≡ d.count + 2 ^ 32 * in_hand id l.marked) same
       (ap (λ (a : ℕ). get_or ws' a 0) here ∙ (get_or-set_same ws i (n + 1) 0 (omega arith)
       ∙ (let f = found in omega (arith, f, z))))
 
@@ -88,7 +88,7 @@ module _ (start : ℕ) (ws : List ℕ) (wide : length ws ≡ word_count) (rs : L
     stays = λ j. same_if (eqb j id) (made_calls j ds) (ended_calls j rs) (open_stay j rs) (one_more 0 (open_stay j rs))
         (l.cyclics j) (option_map cyclic_after_expire (l.cyclics j)) (sh.stays j)
         (same_expired (made_calls j ds) (ended_calls j rs) (open_stay j rs) (l.cyclics j) (sh.stays j));
-    pends = at_cases l.cyclics id (option_map cyclic_after_expire) (λ j o. (d : Cyclic) → o ≡ Some d
+    pends = at_cases l.cyclics id (option_map cyclic_after_expire) (λ j o. (d : AdmittedCyclic) → o ≡ Some d
         → get_or ws' (pend_word d.index) 0 ≡ d.count + 2 ^ 32 * in_hand j l.marked)
         (pend_here (l.cyclics id) known.1)
         (λ j ne d e. get_or-set_other ws i (pend_word d.index) (n + 1) 0
@@ -130,7 +130,7 @@ module _ (start : ℕ) (ws : List ℕ) (wide : length ws ≡ word_count) (rs : L
   adds_enabled ceiling is_ceiling bare below room = (
     sh.firer_is ∙ bare,
     (λ e. free (sym sh.marked_is ∙ e)),
-    is_some_and (λ (c : Cyclic). (c.count < l.ceiling) × (c.sent < 2 ^ 64 - 1)) (l.cyclics id) c known.1 (
+    is_some_and (λ (c : AdmittedCyclic). (c.count < l.ceiling) × (c.sent < 2 ^ 64 - 1)) (l.cyclics id) c known.1 (
       (let a = le.seen_is_enough id in let b : count l id ≡ c.count = ap count_in known.1 in
           omega (arith, a, b, below, is_ceiling)),
       subst (λ (x : ℕ). x < 2 ^ 64 - 1) known.3 room,
@@ -142,7 +142,7 @@ add_law k slots seat me i id st role is at_i free bare below room =
     firing_step k slots seat me i (λ n. (n + 1) % 2 ^ 64) (TellsAdd id (step slots i 1 0 none) me) role
     (λ s R _ at _. let small : k.ceiling < 2 ^ 32 = R.fits.0 in let t : List RaiseStep = (raise_side R.log) in
     let same : me.0.raise_trail ≡ t = (raiser k s R seat me.0 at me.1 i 0 role).1.0 in
-    let l : Level = level k s R in let N : RingNow k s.words t (drain_side R.log) l = ring_now k s R in let law : Lawful l =
+    let l : SoftLevel = level k s R in let N : RingNow k s.words t (drain_side R.log) l = ring_now k s R in let law : Lawful l =
     N.law in
     let is' : open_stay id t ≡ Some st = ap (open_stay id) (sym same) ∙ is in let free' : ¬ (marked_of t ≡ Some id) =
     λ e. free (ap marked_of same ∙ e) in

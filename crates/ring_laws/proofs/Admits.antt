@@ -7,7 +7,7 @@ use native.Mathlib.Decide.{ℕ_discrete}
 use Rattle.std.specs.Prelude.{Option, Some, None}
 use Rattle.atomic_table.specs.Table.{step}
 use Rattle.cyc_level.specs.declared.Event.TheVariants.{Admit}
-use Rattle.cyc_level.specs.Level.{Cyclic, Cyclics, Level, count_in, in_hand}
+use Rattle.cyc_level.specs.Level.{AdmittedCyclic, Cyclics, SoftLevel, count_in, in_hand}
 use Rattle.cyc_level.specs.Lawful.{IsId}
 use Rattle.cyc_level.specs.Events.{changed_at, Enabled, after}
 use Rattle.cyc_level.specs.Runs.{StayCounts}
@@ -30,28 +30,28 @@ use Rattle.ring_rule.proofs.Now.{RingNow, ring_now, loaded}
 use Rattle.ring_rule.proofs.Stands.{firing_step}
 
 -- an id with no stay is not admitted
-pub absent : (m e : ℕ) (o : Option StayCounts) (p : Option Cyclic) → o ≡ None → IsSameStay m e o p → (p ≡ None) × (m ≡ e)
+pub absent : (m e : ℕ) (o : Option StayCounts) (p : Option AdmittedCyclic) → o ≡ None → IsSameStay m e o p → (p ≡ None) × (m ≡ e)
 absent m e None None is h = (refl, h)
 absent m e None (Some c) is h = absurd h
 absent m e (Some s) p is h = absurd (cc)
 
-pub present : (m e : ℕ) (o : Option StayCounts) (c : Cyclic) (p : Option Cyclic) → p ≡ Some c → IsSameStay m e o p
+pub present : (m e : ℕ) (o : Option StayCounts) (c : AdmittedCyclic) (p : Option AdmittedCyclic) → p ≡ Some c → IsSameStay m e o p
     → (s : StayCounts) × (o ≡ Some s) × (s.index ≡ c.index)
 present m e None c None is h = absurd (cc)
 present m e None c (Some d) is h = absurd h
 present m e (Some s) c None is h = absurd (cc)
-present m e (Some s) c (Some d) is h = (s, refl, h.0 ∙ ap (λ (x : Cyclic). x.index) (some_same d c is))
+present m e (Some s) c (Some d) is h = (s, refl, h.0 ∙ ap (λ (x : AdmittedCyclic). x.index) (some_same d c is))
 
-module _ (k : Setting) (ws : List ℕ) (rs : List RaiseStep) (ds : List DrainStep) (l : Level) (N : RingNow k ws rs ds l) (id i : ℕ)
+module _ (k : Setting) (ws : List ℕ) (rs : List RaiseStep) (ds : List DrainStep) (l : SoftLevel) (N : RingNow k ws rs ds l) (id i : ℕ)
     (none : open_stay id rs ≡ None)
     (unused : (j : ℕ) (s : StayCounts) → open_stay j rs ≡ Some s → ¬ (s.index ≡ i)) (within : i < cyclics) where
-  abbrev new : Cyclic
+  abbrev new : AdmittedCyclic
   new = record { index = i; sent = 0; done = 0; lost = 0; count = 0 }
 
   gone : (l.cyclics id ≡ None) × (made_calls id ds ≡ ended_calls id rs)
   gone = absent (made_calls id ds) (ended_calls id rs) (open_stay id rs) (l.cyclics id) none (N.shows.stays id)
 
-  free : (j : ℕ) (c : Cyclic) → l.cyclics j ≡ Some c → ¬ (c.index ≡ i)
+  free : (j : ℕ) (c : AdmittedCyclic) → l.cyclics j ≡ Some c → ¬ (c.index ≡ i)
   free j c e x = let s = present (made_calls j ds) (ended_calls j rs) (open_stay j rs) c (l.cyclics j) e (N.shows.stays j) in
       unused j s.0 s.1 (s.2 ∙ x)
 
@@ -62,9 +62,9 @@ module _ (k : Setting) (ws : List ℕ) (rs : List RaiseStep) (ds : List DrainSte
   m' = changed_at l.cyclics id (λ _. Some new)
 
   kept : Keeps l.cyclics m'
-  kept j c e = at_cases l.cyclics id (λ _. Some new) (λ k o. l.cyclics k ≡ Some c → (d : Cyclic) × (o ≡ Some d)
+  kept j c e = at_cases l.cyclics id (λ _. Some new) (λ k o. l.cyclics k ≡ Some c → (d : AdmittedCyclic) × (o ≡ Some d)
       × (d.index ≡ c.index))
-      (λ h. none_some ((d : Cyclic) × (Some new ≡ Some d) × (d.index ≡ c.index)) c (l.cyclics id) gone.0 h)
+      (λ h. none_some ((d : AdmittedCyclic) × (Some new ≡ Some d) × (d.index ≡ c.index)) c (l.cyclics id) gone.0 h)
       (λ k _ h. (c, h, refl)) j e
 
   pub admits_enabled : IsId id → firer_hand_of rs ≡ None → i < 2 ^ hard_bank_of rs → Enabled (Admit id i) l
@@ -102,9 +102,9 @@ module _ (k : Setting) (ws : List ℕ) (rs : List RaiseStep) (ds : List DrainSte
     drainer_is = sh.drainer_is;
     marked_is = sh.marked_is;
     stays = same_new;
-    pends = at_cases l.cyclics id (λ _. Some new) (λ j o. (d : Cyclic) → o ≡ Some d
+    pends = at_cases l.cyclics id (λ _. Some new) (λ j o. (d : AdmittedCyclic) → o ≡ Some d
         → get_or ws (pend_word d.index) 0 ≡ d.count + 2 ^ 32 * in_hand j l.marked)
-        (λ d e. subst (λ (d : Cyclic). get_or ws (pend_word d.index) 0 ≡ d.count + 2 ^ 32 * in_hand id l.marked)
+        (λ d e. subst (λ (d : AdmittedCyclic). get_or ws (pend_word d.index) 0 ≡ d.count + 2 ^ 32 * in_hand id l.marked)
         (some_same new d e) (let z = zero_found in let y = clear in omega (arith, z, y)))
         (λ j ne. sh.pends j);
     unused = λ a lt no. sh.unused a lt (λ j d e x. let y = kept j d e in no j y.0 y.1 (y.2 ∙ x));
@@ -133,7 +133,7 @@ admit_law k slots seat me i id role bare unused empty room low real word is_word
     firing_step k slots seat me word (λ n. n) (TellsAdmit id (step slots word 0 0 none) me) role
     (λ s R _ at _. let t : List RaiseStep = (raise_side R.log) in let same : me.0.raise_trail ≡ t =
     (raiser k s R seat me.0 at me.1 word 0 role).1.0 in
-    let l : Level = level k s R in let N : RingNow k s.words t (drain_side R.log) l = ring_now k s R in
+    let l : SoftLevel = level k s R in let N : RingNow k s.words t (drain_side R.log) l = ring_now k s R in
     let bare' : open_stay id t ≡ None = ap (open_stay id) (sym same) ∙ bare in
     let unused' : (j : ℕ) (s : StayCounts) → open_stay j t ≡ Some s
     → ¬ (s.index ≡ i) = λ j s e. unused j s (ap (open_stay j) same ∙ e) in (

@@ -5,7 +5,7 @@ use mathlib.Core.Option.{none}
 use Rattle.std.specs.Prelude.{Some, None}
 use Rattle.atomic_table.specs.Table.{step}
 use Rattle.cyc_level.specs.declared.Event.TheVariants.{Switch, Follow}
-use Rattle.cyc_level.specs.Level.{Level}
+use Rattle.cyc_level.specs.Level.{SoftLevel}
 use Rattle.cyc_level.specs.Events.{Enabled, after}
 use Rattle.ring_laws.specs.Firing.{SwitchLaw, LoadSoftBankLaw}
 use Rattle.ring_laws.specs.Soft.{FollowLaw}
@@ -26,7 +26,7 @@ use Rattle.ring_rule.proofs.Seats.{level, raiser, drains, raise_goes, drain_goes
 use Rattle.ring_rule.proofs.Now.{RingNow, ring_now, loaded, index_low}
 use Rattle.ring_rule.proofs.Stands.{firing_step, soft_step}
 
-module _ (k : Setting) (ws : List ℕ) (rs : List RaiseStep) (ds : List DrainStep) (l : Level) (N : RingNow k ws rs ds l) where
+module _ (k : Setting) (ws : List ℕ) (rs : List RaiseStep) (ds : List DrainStep) (l : SoftLevel) (N : RingNow k ws rs ds l) where
   abbrev C : ℕ
   C = consumer_index k.start ds
 
@@ -170,7 +170,7 @@ pub switch_law : SwitchLaw
 switch_law k slots seat me bank role bare even more most =
     firing_step k slots seat me hard_word (λ _. bank) (λ _. TellsSwitch (step slots hard_word bank 0 none) me bank) role
     (λ s R _ at _. let t : List RaiseStep = (raise_side R.log) in let same : me.0.raise_trail ≡ t =
-    (raiser k s R seat me.0 at me.1 hard_word bank role).1.0 in let l : Level = level k s R in
+    (raiser k s R seat me.0 at me.1 hard_word bank role).1.0 in let l : SoftLevel = level k s R in
     let N : RingNow k s.words t (drain_side R.log) l = ring_now k s R in
     let bare' : firer_hand_of t ≡ None = ap firer_hand_of (sym same) ∙ bare in let even' : has_followed t ≡ true =
     ap (has_followed) (sym same) ∙ even in let more' : hard_bank_of t < bank =
@@ -188,7 +188,7 @@ pub load_soft_bank_law : LoadSoftBankLaw
 load_soft_bank_law k slots seat me role =
     firing_step k slots seat me soft_word (λ n. n) (TellsLoadSoftBank (step slots soft_word 0 0 none) me) role
     (λ s R _ at _. let t : List RaiseStep = (raise_side R.log) in let same : me.0.raise_trail ≡ t =
-    (raiser k s R seat me.0 at me.1 soft_word 0 role).1.0 in let l : Level = level k s R in
+    (raiser k s R seat me.0 at me.1 soft_word 0 role).1.0 in let l : SoftLevel = level k s R in
     let N : RingNow k s.words t (drain_side R.log) l = ring_now k s R in let n : ℕ = get_or s.words soft_word 0 in (
       (LoadedSoftBank n),
       raise_goes k s R seat me.0 at me.1 soft_word n role (LoadedSoftBank n) R.enabled
@@ -207,7 +207,7 @@ pub follow_law : FollowLaw
 follow_law k slots seat me bank end role saw apart ended_calls bare =
     soft_step k slots seat me soft_word (λ _. bank) (λ _. TellsFollow (step slots soft_word bank 0 none) me bank) role
     (λ s R _ at _. let t : List DrainStep = (drain_side R.log) in let same : me.0.drain_trail ≡ t =
-    (drains k s R seat me.0 at me.1 soft_word bank role).1.0 in let l : Level = level k s R in
+    (drains k s R seat me.0 at me.1 soft_word bank role).1.0 in let l : SoftLevel = level k s R in
     let N : RingNow k s.words (raise_side R.log) t l = ring_now k s R in
     let saw' : bank_seen t ≡ Some bank = ap bank_seen (sym same) ∙ saw in let apart' : bank ≢ soft_bank_of t =
     λ e. apart (e ∙ ap (soft_bank_of) (sym same)) in let ended' : producer_seen t ≡ Some end = ap producer_seen (sym same)

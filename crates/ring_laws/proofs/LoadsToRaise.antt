@@ -8,7 +8,7 @@ use Rattle.std.specs.Prelude.{Option, Some, None}
 use Rattle.std.specs.Option.{option_map}
 use Rattle.atomic_table.specs.Table.{step}
 use Rattle.cyc_level.specs.declared.Event.TheVariants.{Lose}
-use Rattle.cyc_level.specs.Level.{Cyclic, Cyclics, Level, count, count_in, in_hand}
+use Rattle.cyc_level.specs.Level.{AdmittedCyclic, Cyclics, SoftLevel, count, count_in, in_hand}
 use Rattle.cyc_level.specs.Events.{changed_at, cyclic_after_lose, Enabled, after}
 use Rattle.cyc_level.specs.Runs.{StayCounts, one_more}
 use Rattle.cyc_level.proofs.Maps.{some_same, is_some_and, at_cases}
@@ -28,14 +28,14 @@ use Rattle.ring_rule.proofs.Stays.{behind, same_if, same_dropped, not_held}
 use Rattle.ring_rule.proofs.Now.{RingNow, ring_now, loaded}
 use Rattle.ring_rule.proofs.Stands.{firing_step}
 
-module _ (k : Setting) (small : k.ceiling < 2 ^ 32) (ws : List ℕ) (rs : List RaiseStep) (ds : List DrainStep) (l : Level)
+module _ (k : Setting) (small : k.ceiling < 2 ^ 32) (ws : List ℕ) (rs : List RaiseStep) (ds : List DrainStep) (l : SoftLevel)
     (N : RingNow k ws rs ds l) (i id : ℕ) (st : StayCounts) (is : open_stay id rs ≡ Some st) (at_i : i ≡ pend_word st.index)
     (free : ¬ (marked_of rs ≡ Some id)) where
-  pub known : (c : Cyclic) × (l.cyclics id ≡ Some c) × (st.index ≡ c.index) × (st.sent ≡ c.sent) × (st.lost ≡ c.lost)
+  pub known : (c : AdmittedCyclic) × (l.cyclics id ≡ Some c) × (st.index ≡ c.index) × (st.sent ≡ c.sent) × (st.lost ≡ c.lost)
       × (made_calls id ds ≡ c.done + ended_calls id rs)
   known = behind (made_calls id ds) (ended_calls id rs) (open_stay id rs) (l.cyclics id) st is (N.shows.stays id)
 
-  abbrev c : Cyclic
+  abbrev c : AdmittedCyclic
   c = known.0
 
   abbrev n : ℕ
@@ -81,7 +81,7 @@ module _ (k : Setting) (small : k.ceiling < 2 ^ 32) (ws : List ℕ) (rs : List R
   abbrev m' : Cyclics
   m' = changed_at l.cyclics id (option_map cyclic_after_lose)
 
-  same_count : (o : Option Cyclic) → count_in (option_map cyclic_after_lose o) ≡ count_in o
+  same_count : (o : Option AdmittedCyclic) → count_in (option_map cyclic_after_lose o) ≡ count_in o
   same_count None = refl
   same_count (Some d) = refl
 
@@ -89,10 +89,10 @@ module _ (k : Setting) (small : k.ceiling < 2 ^ 32) (ws : List ℕ) (rs : List R
   still = at_cases l.cyclics id (option_map cyclic_after_lose) (λ j o. count_in o ≡ count_in (l.cyclics j))
       (same_count (l.cyclics id)) (λ j _. refl)
 
-  same_index : (d : Cyclic) → (cyclic_after_lose d).index ≡ d.index
+  same_index : (d : AdmittedCyclic) → (cyclic_after_lose d).index ≡ d.index
   same_index d = refl
 
-  back : (o : Option Cyclic) (d : Cyclic) → option_map cyclic_after_lose o ≡ Some d → (e : Cyclic) × (o ≡ Some e)
+  back : (o : Option AdmittedCyclic) (d : AdmittedCyclic) → option_map cyclic_after_lose o ≡ Some d → (e : AdmittedCyclic) × (o ≡ Some e)
       × (cyclic_after_lose e ≡ d)
   back None d e = absurd (cc)
   back (Some x) d e = (x, refl, some_same (cyclic_after_lose x) d e)
@@ -102,7 +102,7 @@ module _ (k : Setting) (small : k.ceiling < 2 ^ 32) (ws : List ℕ) (rs : List R
     N.shows.firer_is
         ∙ bare,
     (λ e. free (sym N.shows.marked_is ∙ e)),
-    is_some_and (λ (c : Cyclic). (c.count ≡ l.ceiling) × (c.sent < 2 ^ 64 - 1))
+    is_some_and (λ (c : AdmittedCyclic). (c.count ≡ l.ceiling) × (c.sent < 2 ^ 64 - 1))
         (l.cyclics id) c known.1 (sym found ∙ (full ∙ sym N.ceiling_is), subst (λ (x : ℕ). x < 2 ^ 64 - 1) known.3 room),
   )
 
@@ -118,10 +118,10 @@ module _ (k : Setting) (small : k.ceiling < 2 ^ 32) (ws : List ℕ) (rs : List R
     stays = λ j. same_if (eqb j id) (made_calls j ds) (ended_calls j rs) (open_stay j rs) (one_more 1 (open_stay j rs))
         (l.cyclics j) (option_map cyclic_after_lose (l.cyclics j)) (sh.stays j)
         (same_dropped (made_calls j ds) (ended_calls j rs) (open_stay j rs) (l.cyclics j) (sh.stays j));
-    pends = at_cases l.cyclics id (option_map cyclic_after_lose) (λ j o. (d : Cyclic) → o ≡ Some d
+    pends = at_cases l.cyclics id (option_map cyclic_after_lose) (λ j o. (d : AdmittedCyclic) → o ≡ Some d
         → get_or ws (pend_word d.index) 0 ≡ d.count + 2 ^ 32 * in_hand j l.marked)
         (λ d e. let b = back (l.cyclics id) d e in
-        subst (λ (d : Cyclic). get_or ws (pend_word d.index) 0 ≡ d.count + 2 ^ 32 * in_hand id l.marked) b.2
+        subst (λ (d : AdmittedCyclic). get_or ws (pend_word d.index) 0 ≡ d.count + 2 ^ 32 * in_hand id l.marked) b.2
         (sh.pends id b.0 b.1)) (λ j _. sh.pends j);
     unused = λ a lt no. sh.unused a lt (λ j d e x. let y = kept j d e in no j y.0 y.1 (y.2 ∙ x));
     new_held = holds_kept ws ws l.cyclics m' kept l.hard_bank l.new_list
@@ -149,7 +149,7 @@ load_to_raise_law k slots seat me i id st role is at_i free bare room ceiling sa
     firing_step k slots seat me i (λ n. n) (TellsLoadToRaise id ceiling (step slots i 0 0 none) me) role
     (λ s R _ at _. let small : k.ceiling < 2 ^ 32 = R.fits.0 in let t : List RaiseStep = (raise_side R.log) in
     let same : me.0.raise_trail ≡ t = (raiser k s R seat me.0 at me.1 i 0 role).1.0 in
-    let l : Level = level k s R in let N : RingNow k s.words t (drain_side R.log) l = ring_now k s R in
+    let l : SoftLevel = level k s R in let N : RingNow k s.words t (drain_side R.log) l = ring_now k s R in
     let is' : open_stay id t ≡ Some st = ap (open_stay id) (sym same) ∙ is in let free' : ¬ (marked_of t ≡ Some id) =
     λ e. free (ap marked_of same ∙ e) in
     let n : ℕ = get_or s.words i 0 in let high =

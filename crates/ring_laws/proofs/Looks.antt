@@ -3,7 +3,7 @@ use Rattle.std.proofs.Common.{◌≡◌, ℕ, ◌%◌, ◌^◌, ◌≤◌, ◌�
 use Rattle.std.proofs.Common.{pow_mono}
 use mathlib.Core.Option.{none}
 use Rattle.atomic_table.specs.Table.{step}
-use Rattle.cyc_level.specs.Level.{Level, soft_list}
+use Rattle.cyc_level.specs.Level.{SoftLevel, soft_list}
 use Rattle.cyc_level.proofs.Maps.{some_same}
 use Rattle.cyc_level.proofs.Room.{roomy}
 use Rattle.ring_laws.specs.Soft.{LoadProducerLaw, LoadHardBankLaw}
@@ -26,7 +26,7 @@ empty_of : (xs : List ℕ) → length xs ≡ 0 → xs ≡ []
 empty_of [] e = refl
 empty_of (x ∷ xs) e = absurd (omega (arith, e))
 
-module _ (k : Setting) (ws : List ℕ) (rs : List RaiseStep) (ds : List DrainStep) (l : Level) (N : RingNow k ws rs ds l) where
+module _ (k : Setting) (ws : List ℕ) (rs : List RaiseStep) (ds : List DrainStep) (l : SoftLevel) (N : RingNow k ws rs ds l) where
   abbrev C : ℕ
   C = consumer_index k.start ds
 
@@ -70,7 +70,7 @@ pub load_producer_law : LoadProducerLaw
 load_producer_law k slots seat me role i at_i =
     soft_step k slots seat me i (λ n. n) (TellsLoadProducer (step slots i 0 0 none) me) role
     (λ s R _ at _. let t : List DrainStep = (drain_side R.log) in let same : me.0.drain_trail ≡ t =
-    (drains k s R seat me.0 at me.1 i 0 role).1.0 in let l : Level = level k s R in
+    (drains k s R seat me.0 at me.1 i 0 role).1.0 in let l : SoftLevel = level k s R in
     let N : RingNow k s.words (raise_side R.log) t l = ring_now k s R in
     let here : producer_word l.soft_bank ≡ i = ap producer_word N.shows.soft_is
     ∙ (ap (λ (t : List DrainStep). producer_word (soft_bank_of t)) (sym same) ∙ sym at_i) in let n : ℕ = get_or s.words i 0 in (
@@ -88,7 +88,7 @@ pub load_hard_bank_law : LoadHardBankLaw
 load_hard_bank_law k slots seat me role =
     soft_step k slots seat me hard_word (λ n. n) (TellsLoadHardBank (step slots hard_word 0 0 none) me) role
     (λ s R _ at _. let t : List DrainStep = (drain_side R.log) in let same : me.0.drain_trail ≡ t =
-    (drains k s R seat me.0 at me.1 hard_word 0 role).1.0 in let l : Level = level k s R in
+    (drains k s R seat me.0 at me.1 hard_word 0 role).1.0 in let l : SoftLevel = level k s R in
     let N : RingNow k s.words (raise_side R.log) t l = ring_now k s R in let n : ℕ = get_or s.words hard_word 0 in (
       (LoadedHardBank n),
       drain_goes k s R seat me.0 at me.1 hard_word n role (LoadedHardBank n) R.enabled

@@ -5,7 +5,7 @@ use mathlib.Core.Option.{none}
 use Rattle.std.specs.Prelude.{Option, Some}
 use Rattle.atomic_table.specs.Table.{step}
 use Rattle.cyc_level.specs.declared.Event.TheVariants.{Publish}
-use Rattle.cyc_level.specs.Level.{Cyclics, Level}
+use Rattle.cyc_level.specs.Level.{Cyclics, SoftLevel}
 use Rattle.cyc_level.specs.Events.{as_list, after}
 use Rattle.cyc_level.proofs.Maps.{is_some_of}
 use Rattle.ring_laws.specs.Firing.{PublishLaw}
@@ -43,7 +43,7 @@ module _ (ws ws' : List ℕ) (m : Cyclics) (bank : ℕ) (same : (j : ℕ) → ge
     holds_snoc xs (i + 1) h.1 (subst (λ (j : ℕ). HoldsEntry ws m bank j id) z e) (end ∙ ap (λ (j : ℕ). (j + 1) % 2 ^ 32) z),
   )
 
-module _ (k : Setting) (ws : List ℕ) (rs : List RaiseStep) (ds : List DrainStep) (l : Level) (N : RingNow k ws rs ds l) (id e : ℕ)
+module _ (k : Setting) (ws : List ℕ) (rs : List RaiseStep) (ds : List DrainStep) (l : SoftLevel) (N : RingNow k ws rs ds l) (id e : ℕ)
     (up : firer_hand_of rs ≡ Some id) (there : stored_entry rs ≡ Some e) where
   abbrev P : ℕ
   P = producer_index k.start rs
@@ -120,7 +120,7 @@ publish_law k slots seat me id e role up there i at_i v is_v =
     firing_step k slots seat me i (λ _. v) (λ _. TellsPublish (step slots i v 0 none) me v) role
     (λ s R _ at _. let t : List RaiseStep = (raise_side R.log) in let same : me.0.raise_trail ≡ t =
     (raiser k s R seat me.0 at me.1 i v role).1.0 in
-    let l : Level = level k s R in let N : RingNow k s.words t (drain_side R.log) l = ring_now k s R in
+    let l : SoftLevel = level k s R in let N : RingNow k s.words t (drain_side R.log) l = ring_now k s R in
     let up' : firer_hand_of t ≡ Some id = ap firer_hand_of (sym same) ∙ up in let there' : stored_entry t ≡ Some e =
     ap stored_entry (sym same) ∙ there in
     let here : producer_word l.hard_bank ≡ i = ap producer_word N.shows.hard_is

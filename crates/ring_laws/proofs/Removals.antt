@@ -7,7 +7,7 @@ use native.Mathlib.Decide.{ℕ_discrete}
 use Rattle.std.specs.Prelude.{Some, None}
 use Rattle.atomic_table.specs.Table.{step}
 use Rattle.cyc_level.specs.declared.Event.TheVariants.{Mark, Clear}
-use Rattle.cyc_level.specs.Level.{Cyclic, Cyclics, Level, count, count_in, times_in, in_hand, place_count}
+use Rattle.cyc_level.specs.Level.{AdmittedCyclic, Cyclics, SoftLevel, count, count_in, times_in, in_hand, place_count}
 use Rattle.cyc_level.specs.Lawful.{one_if_any}
 use Rattle.cyc_level.specs.Events.{changed_at, Enabled, after}
 use Rattle.cyc_level.specs.Runs.{StayCounts, stay_calls}
@@ -43,13 +43,13 @@ module _ (ws ws' : List ℕ) (m : Cyclics) (id : ℕ) (high : (j : ℕ) → cycl
         holds_cleared bank xs (i + 1) (omega (arith, bare)) h.1,
       )
 
-module _ (k : Setting) (ws : List ℕ) (rs : List RaiseStep) (ds : List DrainStep) (l : Level) (N : RingNow k ws rs ds l) (i id : ℕ)
+module _ (k : Setting) (ws : List ℕ) (rs : List RaiseStep) (ds : List DrainStep) (l : SoftLevel) (N : RingNow k ws rs ds l) (i id : ℕ)
     (st : StayCounts) (is : open_stay id rs ≡ Some st) (at_i : i ≡ pend_word st.index) where
-  pub known : (c : Cyclic) × (l.cyclics id ≡ Some c) × (st.index ≡ c.index) × (st.sent ≡ c.sent) × (st.lost ≡ c.lost)
+  pub known : (c : AdmittedCyclic) × (l.cyclics id ≡ Some c) × (st.index ≡ c.index) × (st.sent ≡ c.sent) × (st.lost ≡ c.lost)
       × (made_calls id ds ≡ c.done + ended_calls id rs)
   known = behind (made_calls id ds) (ended_calls id rs) (open_stay id rs) (l.cyclics id) st is (N.shows.stays id)
 
-  abbrev c : Cyclic
+  abbrev c : AdmittedCyclic
   c = known.0
 
   here : pend_word c.index ≡ i
@@ -129,7 +129,7 @@ module _ (k : Setting) (ws : List ℕ) (rs : List RaiseStep) (ds : List DrainSte
       stays = sh.stays;
       pends = λ j d e. dite (ℕ_discrete j id)
           (λ x. let same : c ≡ d = some_same c d (sym known.1 ∙ (ap l.cyclics (sym x) ∙ e)) in
-          subst (λ (p : ℕ × Cyclic). get_or ws' (pend_word p.1.index) 0 ≡ p.1.count + 2 ^ 32 * in_hand p.0 (Some id))
+          subst (λ (p : ℕ × AdmittedCyclic). get_or ws' (pend_word p.1.index) 0 ≡ p.1.count + 2 ^ 32 * in_hand p.0 (Some id))
           (λ z. (sym x z, same z))
           (ap (λ (a : ℕ). get_or ws' a 0) here ∙ (get_or-set_same ws i (n + 2 ^ 32) 0 inside
           ∙ (let f = found in let o = hand_here id in omega (arith, f, o)))))
@@ -197,7 +197,7 @@ module _ (k : Setting) (ws : List ℕ) (rs : List RaiseStep) (ds : List DrainSte
         (cond b (ended_calls j rs + stay_calls (open_stay j rs)) (ended_calls j rs)) (cond b None (open_stay j rs))
         (cond b None (l.cyclics j))) (sym (ne_eqb j id ne)) (N.shows.stays j))
 
-    left : (j : ℕ) (d : Cyclic) → j ≢ id → l.cyclics j ≡ Some d → changed_at l.cyclics id (λ _. None) j ≡ Some d
+    left : (j : ℕ) (d : AdmittedCyclic) → j ≢ id → l.cyclics j ≡ Some d → changed_at l.cyclics id (λ _. None) j ≡ Some d
     left j d ne e = at_other l.cyclics id (λ _. None) j ne ∙ e
 
     pub clear_shown : TrailsShow k.start wz (Cleared id ∷ rs) ds (after (Clear id) l)
@@ -210,7 +210,7 @@ module _ (k : Setting) (ws : List ℕ) (rs : List RaiseStep) (ds : List DrainSte
       drainer_is = sh.drainer_is;
       marked_is = refl;
       stays = same_cleared;
-      pends = at_cases l.cyclics id (λ _. None) (λ j o. (d : Cyclic) → o ≡ Some d
+      pends = at_cases l.cyclics id (λ _. None) (λ j o. (d : AdmittedCyclic) → o ≡ Some d
           → get_or wz (pend_word d.index) 0 ≡ d.count + 2 ^ 32 * in_hand j None) (λ d e. absurd (cc))
           (λ j ne d e. get_or-set_other ws i (pend_word d.index) 0 0
           (λ x. ne (same_pend l N.law j id d c e known.1 (x ∙ sym here)))
@@ -220,7 +220,7 @@ module _ (k : Setting) (ws : List ℕ) (rs : List RaiseStep) (ds : List DrainSte
           ∙ get_or-set_same ws i 0 0 inside)
           (λ ne. get_or-set_other ws i (pend_word a) 0 0 ne ∙ sh.unused a lt (λ j d e x. dite (ℕ_discrete j id)
           (λ y. let same : c ≡ d = some_same c d (sym known.1 ∙ (ap l.cyclics (sym y) ∙ e)) in
-          ne (ap pend_word (sym x ∙ ap (λ (z : Cyclic). z.index) (sym same)) ∙ here)) (λ y. no j d (left j d y e) x)));
+          ne (ap pend_word (sym x ∙ ap (λ (z : AdmittedCyclic). z.index) (sym same)) ∙ here)) (λ y. no j d (left j d y e) x)));
       new_held = holds_cleared ws wz l.cyclics id (high 0) l.hard_bank l.new_list
           (cond (eqb l.hard_bank l.soft_bank) (consumer_index k.start ds) k.start) (omega (arith, gone)) sh.new_held;
       old_held = λ apart. holds_cleared ws wz l.cyclics id (high 0) l.soft_bank l.old_list (consumer_index k.start ds)
@@ -247,7 +247,7 @@ pub mark_law : MarkLaw
 mark_law k slots seat me i id st role is at_i free bare =
     firing_step k slots seat me i (λ n. (n + mark_bit) % 2 ^ 64) (TellsMark id (step slots i mark_bit 0 none) me) role
     (λ s R _ at _. let small : k.ceiling < 2 ^ 32 = R.fits.0 in let t : List RaiseStep = (raise_side R.log) in
-    let same : me.0.raise_trail ≡ t = (raiser k s R seat me.0 at me.1 i 0 role).1.0 in let l : Level = level k s R in
+    let same : me.0.raise_trail ≡ t = (raiser k s R seat me.0 at me.1 i 0 role).1.0 in let l : SoftLevel = level k s R in
     let N : RingNow k s.words t (drain_side R.log) l = ring_now k s R in
     let is' : open_stay id t ≡ Some st = ap (open_stay id) (sym same) ∙ is in let free' : marked_of t ≡ None =
     ap marked_of (sym same) ∙ free in let n : ℕ = get_or s.words i 0 in let f =
@@ -273,7 +273,7 @@ pub clear_law : ClearLaw
 clear_law k slots seat me i id st role is at_i mine zero_seen bare =
     firing_step k slots seat me i (λ _. 0) (λ _. TellsClear id (step slots i 0 0 none) me 0) role
     (λ s R _ at _. let t : List RaiseStep = (raise_side R.log) in let same : me.0.raise_trail ≡ t =
-    (raiser k s R seat me.0 at me.1 i 0 role).1.0 in let l : Level = level k s R in
+    (raiser k s R seat me.0 at me.1 i 0 role).1.0 in let l : SoftLevel = level k s R in
     let N : RingNow k s.words t (drain_side R.log) l = ring_now k s R in
     let is' : open_stay id t ≡ Some st = ap (open_stay id) (sym same) ∙ is in let mine' : marked_of t ≡ Some id =
     ap marked_of (sym same) ∙ mine in let z' : seen_pend id t ≡ 0 = ap (seen_pend id) (sym same) ∙ zero_seen in (
@@ -292,7 +292,7 @@ pub load_law : LoadLaw
 load_law k slots seat me i id st role is at_i =
     firing_step k slots seat me i (λ n. n) (TellsLoad id (step slots i 0 0 none) me) role
     (λ s R _ at _. let small : k.ceiling < 2 ^ 32 = R.fits.0 in let t : List RaiseStep = (raise_side R.log) in
-    let same : me.0.raise_trail ≡ t = (raiser k s R seat me.0 at me.1 i 0 role).1.0 in let l : Level = level k s R in
+    let same : me.0.raise_trail ≡ t = (raiser k s R seat me.0 at me.1 i 0 role).1.0 in let l : SoftLevel = level k s R in
     let N : RingNow k s.words t (drain_side R.log) l = ring_now k s R in
     let is' : open_stay id t ≡ Some st = ap (open_stay id) (sym same) ∙ is in let n : ℕ = get_or s.words i 0 in (
       (Loaded id n),

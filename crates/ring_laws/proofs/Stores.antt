@@ -5,7 +5,7 @@ use Rattle.atomic_table.proofs.Lists.{one_turn}
 use mathlib.Core.Option.{none}
 use Rattle.std.specs.Prelude.{Some}
 use Rattle.atomic_table.specs.Table.{step}
-use Rattle.cyc_level.specs.Level.{Cyclic, Level}
+use Rattle.cyc_level.specs.Level.{AdmittedCyclic, SoftLevel}
 use Rattle.cyc_level.specs.Runs.{StayCounts}
 use Rattle.cyc_level.proofs.Room.{new_fits}
 use Rattle.ring_laws.specs.Firing.{StoreLaw}
@@ -32,7 +32,7 @@ other_place bank i j most less near e = let same : i % 2 ^ bank ≡ j % 2 ^ bank
     same_turn bank i j (omega (arith, most)) (omega (arith, e)) in let x = one_turn i j (2 ^ bank) (omega arith) near same in
     omega (arith, x)
 
-module _ (k : Setting) (ws : List ℕ) (rs : List RaiseStep) (ds : List DrainStep) (l : Level) (N : RingNow k ws rs ds l) (id : ℕ)
+module _ (k : Setting) (ws : List ℕ) (rs : List RaiseStep) (ds : List DrainStep) (l : SoftLevel) (N : RingNow k ws rs ds l) (id : ℕ)
     (st : StayCounts) (up : firer_hand_of rs ≡ Some id) (is : open_stay id rs ≡ Some st) where
   abbrev P : ℕ
   P = producer_index k.start rs
@@ -49,7 +49,7 @@ module _ (k : Setting) (ws : List ℕ) (rs : List RaiseStep) (ds : List DrainSte
   abbrev base : ℕ
   base = cond (eqb l.hard_bank l.soft_bank) (consumer_index k.start ds) k.start
 
-  known : (c : Cyclic) × (l.cyclics id ≡ Some c) × (st.index ≡ c.index) × (st.sent ≡ c.sent) × (st.lost ≡ c.lost)
+  known : (c : AdmittedCyclic) × (l.cyclics id ≡ Some c) × (st.index ≡ c.index) × (st.sent ≡ c.sent) × (st.lost ≡ c.lost)
       × (made_calls id ds ≡ c.done + ended_calls id rs)
   known = behind (made_calls id ds) (ended_calls id rs) (open_stay id rs) (l.cyclics id) st is (N.shows.stays id)
 
@@ -105,7 +105,7 @@ store_law k slots seat me id st role up is i at_i v is_v =
     firing_step k slots seat me i (λ _. v) (λ _. TellsStore (step slots i v 0 none) me v) role
     (λ s R _ at _. let t : List RaiseStep = (raise_side R.log) in let same : me.0.raise_trail ≡ t =
     (raiser k s R seat me.0 at me.1 i v role).1.0 in
-    let l : Level = level k s R in let N : RingNow k s.words t (drain_side R.log) l = ring_now k s R in
+    let l : SoftLevel = level k s R in let N : RingNow k s.words t (drain_side R.log) l = ring_now k s R in
     let up' : firer_hand_of t ≡ Some id = ap firer_hand_of (sym same) ∙ up in let is' : open_stay id t ≡ Some st =
     ap (open_stay id) (sym same) ∙ is in
     let here : place l.hard_bank (producer_index k.start t) ≡ i =

@@ -7,7 +7,7 @@ use native.Mathlib.Decide.{ℕ_discrete}
 use Rattle.std.specs.Prelude.{Option, Some, None}
 use Rattle.std.specs.Option.{option_map}
 use Rattle.atomic_table.specs.Table.{step}
-use Rattle.cyc_level.specs.Level.{Cyclic, Cyclics, Level, count, count_in, in_hand}
+use Rattle.cyc_level.specs.Level.{AdmittedCyclic, Cyclics, SoftLevel, count, count_in, in_hand}
 use Rattle.cyc_level.specs.Lawful.{one_if_any}
 use Rattle.cyc_level.specs.Events.{changed_at, cyclic_after_finish, hand_after_finish, after_finish}
 use Rattle.cyc_level.specs.Runs.{StayCounts}
@@ -29,7 +29,7 @@ use Rattle.ring_rule.proofs.Seats.{level, drains, drain_goes}
 use Rattle.ring_rule.proofs.Now.{RingNow, ring_now, admitted_low, same_pend}
 use Rattle.ring_rule.proofs.Stands.{soft_step}
 
-same_called : (b : Bool) (m e : ℕ) (o : Option StayCounts) (p : Option Cyclic) → (b ≡ true → (c : Cyclic) × (p ≡ Some c))
+same_called : (b : Bool) (m e : ℕ) (o : Option StayCounts) (p : Option AdmittedCyclic) → (b ≡ true → (c : AdmittedCyclic) × (p ≡ Some c))
     → IsSameStay m e o p → IsSameStay (cond b 1 0 + m) e o (cond b (option_map cyclic_after_finish p) p)
 same_called true m e None None ok h = let c = ok refl in let x : None ≡ Some c.0 = c.1 in absurd (cc)
 same_called true m e None (Some c) ok h = h
@@ -51,7 +51,7 @@ once_some : (n : ℕ) → one_if_any n ≡ 0 → n ≡ 0
 once_some zero h = refl
 once_some (suc n) h = absurd (omega arith)
 
-module _ (k : Setting) (small : k.ceiling < 2 ^ 32) (ws : List ℕ) (rs : List RaiseStep) (ds : List DrainStep) (l : Level)
+module _ (k : Setting) (small : k.ceiling < 2 ^ 32) (ws : List ℕ) (rs : List RaiseStep) (ds : List DrainStep) (l : SoftLevel)
     (N : RingNow k ws rs ds l) (e : ℕ) (has : held_entry ds ≡ Some e) where
   abbrev id : ℕ
   id = entry_id e
@@ -59,10 +59,10 @@ module _ (k : Setting) (small : k.ceiling < 2 ^ 32) (ws : List ℕ) (rs : List R
   abbrev i : ℕ
   i = pend_word (entry_index e)
 
-  pub known : (c : Cyclic) × (l.cyclics id ≡ Some c) × (c.index ≡ entry_index e)
+  pub known : (c : AdmittedCyclic) × (l.cyclics id ≡ Some c) × (c.index ≡ entry_index e)
   known = N.still.held_is e has
 
-  abbrev c : Cyclic
+  abbrev c : AdmittedCyclic
   c = known.0
 
   here : pend_word c.index ≡ i
@@ -119,22 +119,22 @@ module _ (k : Setting) (small : k.ceiling < 2 ^ 32) (ws : List ℕ) (rs : List R
   abbrev m' : Cyclics
   m' = changed_at l.cyclics id (option_map cyclic_after_finish)
 
-  same_index : (d : Cyclic) → (cyclic_after_finish d).index ≡ d.index
+  same_index : (d : AdmittedCyclic) → (cyclic_after_finish d).index ≡ d.index
   same_index d = refl
 
   counts : n % 2 ^ 32 ≡ count l id
   counts = count_found ∙ ap count_in (sym known.1)
 
-  pend_here : (d : Cyclic) → option_map cyclic_after_finish (l.cyclics id) ≡ Some d
+  pend_here : (d : AdmittedCyclic) → option_map cyclic_after_finish (l.cyclics id) ≡ Some d
       → get_or ws' (pend_word d.index) 0 ≡ d.count + 2 ^ 32 * mark
   pend_here d h = let same : cyclic_after_finish c ≡ d =
       some_same (cyclic_after_finish c) d (ap (option_map cyclic_after_finish) (sym known.1) ∙ h) in let x = low in let wide =
       N.wide in
-      subst (λ (d : Cyclic). get_or ws' (pend_word d.index) 0 ≡ d.count + 2 ^ 32 * mark) same
+      subst (λ (d : AdmittedCyclic). get_or ws' (pend_word d.index) 0 ≡ d.count + 2 ^ 32 * mark) same
       (ap (λ (a : ℕ). get_or ws' a 0) here ∙ (get_or-set_same ws i (n - 1) 0 (omega arith)
       ∙ (let f = n_is in let s = some_call in omega (arith, f, s))))
 
-  abbrev l' : Level
+  abbrev l' : SoftLevel
   l' = record l { cyclics = m'; drainer_hand = hand_after_finish (count l id) l.drainer_hand }
 
   pub finishes_shown : TrailsShow k.start ws' rs (Subtracted n ∷ ds) l'
@@ -151,7 +151,7 @@ module _ (k : Setting) (small : k.ceiling < 2 ^ 32) (ws : List ℕ) (rs : List R
         (same_called (eqb j id) (made_calls j ds) (ended_calls j rs) (open_stay j rs) (l.cyclics j)
         (λ t. dite (ℕ_discrete j id) (λ e. (c, ap l.cyclics e ∙ known.1)) (λ ne. let f : eqb j id ≡ false = ne_eqb j id ne in
         let x : true ≡ false = sym t ∙ f in absurd (cc))) (sh.stays j));
-    pends = at_cases l.cyclics id (option_map cyclic_after_finish) (λ j o. (d : Cyclic) → o ≡ Some d
+    pends = at_cases l.cyclics id (option_map cyclic_after_finish) (λ j o. (d : AdmittedCyclic) → o ≡ Some d
         → get_or ws' (pend_word d.index) 0 ≡ d.count + 2 ^ 32 * in_hand j l.marked) pend_here
         (λ j ne d e. get_or-set_other ws i (pend_word d.index) (n - 1) 0
         (λ x. ne (same_pend l N.law j id d c e known.1 (x ∙ sym here))) ∙ sh.pends j d e);
@@ -188,7 +188,7 @@ subtract_law k slots seat me e role has i at_i =
     soft_step k slots seat me i (λ n. (n + (2 ^ 64 - 1)) % 2 ^ 64) (TellsSubtract (step slots i 1 0 none) me) role
     (λ s R _ at _. let small : k.ceiling < 2 ^ 32 = R.fits.0 in let t : List DrainStep = (drain_side R.log) in
     let same : me.0.drain_trail ≡ t = (drains k s R seat me.0 at me.1 i 0 role).1.0 in
-    let l : Level = level k s R in let N : RingNow k s.words (raise_side R.log) t l = ring_now k s R in
+    let l : SoftLevel = level k s R in let N : RingNow k s.words (raise_side R.log) t l = ring_now k s R in
     let has' : held_entry t ≡ Some e = ap held_entry (sym same) ∙ has in let hand : l.drainer_hand ≡ Some (entry_id e) =
     N.shows.drainer_is ∙ ap id_in has' in
     let w : ℕ = pend_word (entry_index e) in let n : ℕ = get_or s.words w 0 in let x : ℕ = get_or s.words i 0 in

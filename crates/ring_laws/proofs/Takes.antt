@@ -5,7 +5,7 @@ use mathlib.Core.Option.{none}
 use Rattle.std.specs.Prelude.{Some}
 use Rattle.atomic_table.specs.Table.{step}
 use Rattle.cyc_level.specs.declared.Event.TheVariants.{Take}
-use Rattle.cyc_level.specs.Level.{Cyclic, Cyclics, Level, soft_list}
+use Rattle.cyc_level.specs.Level.{AdmittedCyclic, Cyclics, SoftLevel, soft_list}
 use Rattle.cyc_level.specs.Lawful.{IsId}
 use Rattle.cyc_level.specs.Events.{first_of, rest_of, after}
 use Rattle.cyc_level.proofs.Maps.{some_same}
@@ -43,7 +43,7 @@ produced_after : (b : Bool) (old new : List ℕ) (i start p id : ℕ) → first_
 produced_after true old new i start p id e h = let r = rest_long new id e in omega (arith, h, r)
 produced_after false old new i start p id e h = h
 
-module _ (k : Setting) (ws : List ℕ) (rs : List RaiseStep) (ds : List DrainStep) (l : Level) (N : RingNow k ws rs ds l) (id : ℕ)
+module _ (k : Setting) (ws : List ℕ) (rs : List RaiseStep) (ds : List DrainStep) (l : SoftLevel) (N : RingNow k ws rs ds l) (id : ℕ)
     (oldest : first_of (soft_list l) ≡ Some id) where
   abbrev C : ℕ
   C = consumer_index k.start ds
@@ -91,7 +91,7 @@ module _ (k : Setting) (ws : List ℕ) (rs : List RaiseStep) (ds : List DrainSte
     hand_stored = le.hand_stored;
     fresh = le.fresh;
     held_is = λ e h. let same : n ≡ e = some_same n e h in
-        subst (λ (x : ℕ). (c : Cyclic) × (l.cyclics (entry_id x) ≡ Some c) × (c.index ≡ entry_index x)) same
+        subst (λ (x : ℕ). (c : AdmittedCyclic) × (l.cyclics (entry_id x) ≡ Some c) × (c.index ≡ entry_index x)) same
         (found.0, ap l.cyclics is_id ∙ found.1, is_index);
     followed_is = le.followed_is;
     bank_is = λ bank e. absurd (cc);
@@ -104,7 +104,7 @@ take_law k slots seat me end role bare saw more i lies =
     soft_step k slots seat me i (λ n. n) (TellsTake (step slots i 0 0 none) me) role
     (λ s R _ at _. let t : List DrainStep = (drain_side R.log) in let same : me.0.drain_trail ≡ t =
     (drains k s R seat me.0 at me.1 i 0 role).1.0 in
-    let l : Level = level k s R in let N : RingNow k s.words (raise_side R.log) t l = ring_now k s R in
+    let l : SoftLevel = level k s R in let N : RingNow k s.words (raise_side R.log) t l = ring_now k s R in
     let left = N.still.some_left end (ap producer_seen (sym same) ∙ saw)
     (λ e. more (e ∙ ap (λ t. consumer_index k.start t % 2 ^ 32) (sym same))) in
     let first = first_some (soft_list l) left in let id : ℕ = first.0 in let oldest : first_of (soft_list l) ≡ Some id =

@@ -2,7 +2,7 @@
 use Rattle.std.proofs.Common.{◌≡◌, ℕ, ◌+◌, ◌*◌, ◌^◌, ◌≤◌, List, get_or, sym, refl, ap, ◌∙◌, subst, arith}
 use Rattle.std.specs.Prelude.{Option, Some, None}
 use Rattle.cyc_level.specs.declared.Event.{Event}
-use Rattle.cyc_level.specs.Level.{Cyclic, Level, count, count_in, in_hand}
+use Rattle.cyc_level.specs.Level.{AdmittedCyclic, SoftLevel, count, count_in, in_hand}
 use Rattle.cyc_level.specs.Events.{AllEnabled}
 use Rattle.cyc_level.specs.Runs.{firing_events, StayCounts, past_calls, past_stays, past_finishes, expirations, losses, finishes}
 use Rattle.cyc_level.specs.Runs.{AreFinished}
@@ -20,10 +20,10 @@ use Rattle.ring_rule.proofs.Stays.{behind, held_once}
 use Rattle.ring_rule.proofs.Now.{RingNow}
 use Rattle.ring_rule.proofs.Log.{firing_side}
 
-module _ (k : Setting) (ws : List ℕ) (rs : List RaiseStep) (ds : List DrainStep) (l : Level) (N : RingNow k ws rs ds l) where
+module _ (k : Setting) (ws : List ℕ) (rs : List RaiseStep) (ds : List DrainStep) (l : SoftLevel) (N : RingNow k ws rs ds l) where
   pub booked : IsBooked ws rs ds
   booked id st is = let b = behind (made_calls id ds) (ended_calls id rs) (open_stay id rs) (l.cyclics id) st is
-      (N.shows.stays id) in let c : Cyclic = b.0 in
+      (N.shows.stays id) in let c : AdmittedCyclic = b.0 in
       let p : get_or ws (pend_word st.index) 0 ≡ c.count + 2 ^ 32 * in_hand id l.marked =
       ap (λ (a : ℕ). get_or ws (pend_word a) 0) b.2 ∙ N.shows.pends id c b.1 in
       let low = N.law.below_ceiling id c b.1 in let t = N.ceiling_is in let m = held_once id l.marked in let sums =
@@ -31,7 +31,7 @@ module _ (k : Setting) (ws : List ℕ) (rs : List RaiseStep) (ds : List DrainSte
       (c.done, omega (arith, p, low, t, m, sums, s, x, small), b.5)
 
 -- the finishes that the soft side's trail has are those of the run
-same_made : (made past past' finished : ℕ) (o : Option StayCounts) (p : Option Cyclic) → past ≡ past' → IsSameStay made past o p
+same_made : (made past past' finished : ℕ) (o : Option StayCounts) (p : Option AdmittedCyclic) → past ≡ past' → IsSameStay made past o p
     → IsSplit finished past' p → made ≡ finished
 same_made made past past' finished None None e h f = omega (arith, e, h, f)
 same_made made past past' finished None (Some c) e h f = absurd h
@@ -39,7 +39,7 @@ same_made made past past' finished (Some s) None e h f = absurd h
 same_made made past past' finished (Some s) (Some c) e h f = let x = h.3 in omega (arith, e, x, f)
 
 -- no call is pending of an id that isn't admitted
-pending : (made past seen : ℕ) (o : Option StayCounts) (p : Option Cyclic) → IsSameStay made past o p → count_in p ≤ seen
+pending : (made past seen : ℕ) (o : Option StayCounts) (p : Option AdmittedCyclic) → IsSameStay made past o p → count_in p ≤ seen
     → IsPending (count_in p) seen o
 pending made past seen None None h low = refl
 pending made past seen None (Some c) h low = absurd h
@@ -62,7 +62,7 @@ module _ (k : Setting) (log : List RingStep) (on : AllEnabled k.ceiling (events_
   same_of_run f same = ap f (sym (firing_side log)) ∙ same es
 
   pub accounted : IsAccounted rs ds
-  accounted id = let l : Level = level_after k.ceiling log in let t = (over_stays k.ceiling id es on).total in
+  accounted id = let l : SoftLevel = level_after k.ceiling log in let t = (over_stays k.ceiling id es on).total in
       let a = same_of_run (expirations id) (expirations_firing id) in let b = same_of_run (losses id) (losses_firing id) in
       let c = same_of_run (past_calls id) (past_calls_firing id) in
       let m = same_made (made_calls id ds) (ended_calls id rs) (past_calls id es) (finishes k.ceiling id es) (open_stay id rs)

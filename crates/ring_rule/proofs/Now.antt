@@ -5,7 +5,7 @@ use lib.Seq.{set-get_or}
 use mathlib.Core.Logic.{dite}
 use native.Mathlib.Decide.{ℕ_discrete}
 use Rattle.std.specs.Prelude.{Some}
-use Rattle.cyc_level.specs.Level.{Cyclic, Level, soft_list}
+use Rattle.cyc_level.specs.Level.{AdmittedCyclic, SoftLevel, soft_list}
 use Rattle.cyc_level.specs.Lawful.{Lawful}
 use Rattle.cyc_level.specs.Events.{AllEnabled}
 use Rattle.cyc_level.proofs.Keeps.{always_lawful, same_ceiling}
@@ -21,7 +21,7 @@ use Rattle.ring_rule.specs.Rule.{RingState, IsShown, AllShown, MeetsRule}
 use Rattle.ring_rule.proofs.Words.{pend_distinct}
 use Rattle.ring_rule.proofs.Seats.{level, as_wide}
 
-pub record RingNow (k : Setting) (ws : List ℕ) (rs : List RaiseStep) (ds : List DrainStep) (l : Level) : Type 0 where
+pub record RingNow (k : Setting) (ws : List ℕ) (rs : List RaiseStep) (ds : List DrainStep) (l : SoftLevel) : Type 0 where
   pub small : k.ceiling < 2 ^ 32
   pub wide : length ws ≡ word_count
   pub law : Lawful l
@@ -54,19 +54,19 @@ ring_now k s R = subst (λ (ws : List ℕ). RingNow k ws (raise_side R.log) (dra
 pub loaded : (P : List ℕ → Type 0) (ws : List ℕ) (i : ℕ) → P ws → P (set ws i (get_or ws i 0))
 loaded P ws i h = subst P (sym (set-get_or ws i 0)) h
 
-module _ (l : Level) (law : Lawful l) where
-  pub admitted_low : (id : ℕ) (c : Cyclic) → l.cyclics id ≡ Some c → c.index < cyclics
+module _ (l : SoftLevel) (law : Lawful l) where
+  pub admitted_low : (id : ℕ) (c : AdmittedCyclic) → l.cyclics id ≡ Some c → c.index < cyclics
   admitted_low id c e = let a = law.in_hard_bank id c e in let b = law.bank_bound in let p : 2 ^ l.hard_bank ≤ 2 ^ greatest_bank =
       pow_mono {i = l.hard_bank} {j = greatest_bank} b in let q : 2 ^ greatest_bank ≡ cyclics = refl in omega (arith, a, p, q)
 
   -- two admitted cyclics have two pend words
-  pub same_pend : (i j : ℕ) (c d : Cyclic) → l.cyclics i ≡ Some c → l.cyclics j ≡ Some d → pend_word c.index ≡ pend_word d.index
+  pub same_pend : (i j : ℕ) (c d : AdmittedCyclic) → l.cyclics i ≡ Some c → l.cyclics j ≡ Some d → pend_word c.index ≡ pend_word d.index
       → i ≡ j
   same_pend i j c d e f same = law.distinct_indexes i j c d e f
       (pend_distinct c.index d.index (admitted_low i c e) (admitted_low j d f) same)
 
 -- the soft side's list stands in its bank from the consumer index on
-pub softs_shown : (start : ℕ) (ws : List ℕ) (rs : List RaiseStep) (ds : List DrainStep) (l : Level) → TrailsShow start ws rs ds l
+pub softs_shown : (start : ℕ) (ws : List ℕ) (rs : List RaiseStep) (ds : List DrainStep) (l : SoftLevel) → TrailsShow start ws rs ds l
     → BankHolds ws l.cyclics l.soft_bank (consumer_index start ds) (soft_list l)
 softs_shown start ws rs ds l sh = dite (ℕ_discrete l.hard_bank l.soft_bank)
     (λ e. let b : eqb l.hard_bank l.soft_bank ≡ true = eq-eqb l.hard_bank l.soft_bank e in
@@ -76,8 +76,8 @@ softs_shown start ws rs ds l sh = dite (ℕ_discrete l.hard_bank l.soft_bank)
     (λ ne. subst (λ x. BankHolds ws l.cyclics l.soft_bank (consumer_index start ds) (cond x l.new_list l.old_list))
     (sym (ne_eqb l.hard_bank l.soft_bank ne)) (sh.old_held ne))
 
-module _ (k : Setting) (ws : List ℕ) (rs : List RaiseStep) (ds : List DrainStep) (l : Level) (N : RingNow k ws rs ds l) where
-  pub index_low : (id : ℕ) (c : Cyclic) → l.cyclics id ≡ Some c → c.index < cyclics
+module _ (k : Setting) (ws : List ℕ) (rs : List RaiseStep) (ds : List DrainStep) (l : SoftLevel) (N : RingNow k ws rs ds l) where
+  pub index_low : (id : ℕ) (c : AdmittedCyclic) → l.cyclics id ≡ Some c → c.index < cyclics
   index_low = admitted_low l N.law
 
   pub softs_held : BankHolds ws l.cyclics l.soft_bank (consumer_index k.start ds) (soft_list l)

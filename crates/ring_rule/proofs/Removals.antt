@@ -2,7 +2,7 @@
 use Rattle.std.proofs.Common.{◌≡◌, ◌≢◌, ℕ, eqb, Bool, true, false, cond, List, [], ◌∷◌, ◌++◌, sym, refl, ap, ◌∙◌, arith, eq-eqb}
 use Rattle.std.proofs.Common.{ne_eqb}
 use Rattle.std.specs.Prelude.{Option, Some, None}
-use Rattle.cyc_level.specs.Level.{Cyclic, Level, count_in, in_hand}
+use Rattle.cyc_level.specs.Level.{AdmittedCyclic, SoftLevel, count_in, in_hand}
 use Rattle.cyc_level.specs.Lawful.{one_if_any}
 use Rattle.cyc_level.specs.Runs.{StayCounts, one_more}
 use Rattle.cyc_level.proofs.Maps.{hand_here}
@@ -49,7 +49,7 @@ gone id (of_raise x ∷ later) earlier never =
     still_none id x (raise_side (later ++ of_raise (Cleared id) ∷ earlier)) never.0 (gone id later earlier never.1)
 gone id (of_drain x ∷ later) earlier never = gone id later earlier never
 
-no_count : (made ended : ℕ) (o : Option StayCounts) (p : Option Cyclic) → o ≡ None → IsSameStay made ended o p → count_in p ≡ 0
+no_count : (made ended : ℕ) (o : Option StayCounts) (p : Option AdmittedCyclic) → o ≡ None → IsSameStay made ended o p → count_in p ≡ 0
 no_count made ended None None e h = refl
 no_count made ended None (Some c) e h = absurd h
 no_count made ended (Some s) p e h = absurd (cc)
@@ -57,7 +57,7 @@ no_count made ended (Some s) p e h = absurd (cc)
 -- an id with no open stay is not in the drainer's hand
 hand_free : (k : Setting) (log : List RingStep) (id : ℕ) → LevelStands k log → open_stay id (raise_side log) ≡ None
     → drainer_hand_of (drain_side log) ≢ Some id
-hand_free k log id L none held = let l : Level = level_after k.ceiling log in
+hand_free k log id L none held = let l : SoftLevel = level_after k.ceiling log in
     let c = no_count (made_calls id (drain_side log)) (ended_calls id (raise_side log)) (open_stay id (raise_side log))
     (l.cyclics id) none (L.shows.stays id) in
     let one = L.lawful.one_place id in let z : one_if_any (count_in (l.cyclics id)) ≡ 0 = ap one_if_any c in

@@ -6,7 +6,7 @@ use Rattle.atomic_table.proofs.Lists.{at_set}
 use mathlib.Core.Option.{some, some-injective, some-ne-none}
 use lib.ListN.{get_elem?}
 use Rattle.atomic_table.specs.Table.{keeps, stepped}
-use Rattle.cyc_level.specs.Level.{Level}
+use Rattle.cyc_level.specs.Level.{SoftLevel}
 use Rattle.cyc_level.specs.Events.{AllEnabled, reached}
 use Rattle.ring_rule.specs.declared.Role.{Role}
 use Rattle.ring_rule.specs.declared.Role.TheVariants.{Joint, Raise, Drain, Spent}
@@ -22,7 +22,7 @@ use Rattle.ring_rule.specs.Shown.{TrailsShow, StillHolds}
 use Rattle.ring_rule.specs.Rule.{RingState, HasRaises, HasDrains, IsSeat, IsFiring, IsSoft, MeetsRule}
 use Rattle.ring_rule.specs.Steps.{with_raise_step, with_drain_step, ExtendsByRaise, ExtendsByDrain}
 
-abbrev pub level : (k : Setting) (s : RingState) → MeetsRule k s → Level
+abbrev pub level : (k : Setting) (s : RingState) → MeetsRule k s → SoftLevel
 level k s R = level_after k.ceiling R.log
 
 pub length_set : {A : Type 0} (l : List A) (i : ℕ) (a : A) → length (set l i a) ≡ length l

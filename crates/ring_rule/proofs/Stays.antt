@@ -4,15 +4,15 @@ use mathlib.Core.Logic.{dite}
 use native.Mathlib.Decide.{ℕ_discrete}
 use Rattle.std.specs.Prelude.{Option, Some, None}
 use Rattle.std.specs.Option.{option_map}
-use Rattle.cyc_level.specs.Level.{Cyclic, in_hand}
+use Rattle.cyc_level.specs.Level.{AdmittedCyclic, in_hand}
 use Rattle.cyc_level.specs.Events.{cyclic_after_expire, cyclic_after_lose}
 use Rattle.cyc_level.specs.Runs.{StayCounts, one_more}
 use Rattle.cyc_level.proofs.Maps.{some_same, hand_else}
 use Rattle.ring_rule.specs.Shown.{IsSameStay}
 
 -- the cyclic behind a stay
-pub behind : (m e : ℕ) (o : Option StayCounts) (p : Option Cyclic) (s : StayCounts) → o ≡ Some s → IsSameStay m e o p
-    → (c : Cyclic) × (p ≡ Some c) × (s.index ≡ c.index) × (s.sent ≡ c.sent) × (s.lost ≡ c.lost) × (m ≡ c.done + e)
+pub behind : (m e : ℕ) (o : Option StayCounts) (p : Option AdmittedCyclic) (s : StayCounts) → o ≡ Some s → IsSameStay m e o p
+    → (c : AdmittedCyclic) × (p ≡ Some c) × (s.index ≡ c.index) × (s.sent ≡ c.sent) × (s.lost ≡ c.lost) × (m ≡ c.done + e)
 behind m e None p s is h = let x : None ≡ Some s = is in absurd (cc)
 behind m e (Some t) None s is h = absurd h
 behind m e (Some t) (Some c) s is h = let same : t ≡ s = some_same t s is in (
@@ -25,19 +25,19 @@ behind m e (Some t) (Some c) s is h = let same : t ≡ s = some_same t s is in (
   h.3,
 )
 
-pub same_if : (b : Bool) (m e : ℕ) (o o' : Option StayCounts) (p p' : Option Cyclic) → IsSameStay m e o p → IsSameStay m e o' p'
+pub same_if : (b : Bool) (m e : ℕ) (o o' : Option StayCounts) (p p' : Option AdmittedCyclic) → IsSameStay m e o p → IsSameStay m e o' p'
     → IsSameStay m e (cond b o' o) (cond b p' p)
 same_if true m e o o' p p' h h' = h'
 same_if false m e o o' p p' h h' = h
 
-pub same_expired : (m e : ℕ) (o : Option StayCounts) (p : Option Cyclic) → IsSameStay m e o p
+pub same_expired : (m e : ℕ) (o : Option StayCounts) (p : Option AdmittedCyclic) → IsSameStay m e o p
     → IsSameStay m e (one_more 0 o) (option_map cyclic_after_expire p)
 same_expired m e None None h = h
 same_expired m e None (Some c) h = h
 same_expired m e (Some s) None h = h
 same_expired m e (Some s) (Some c) h = let a = h.1 in let b = h.2 in (h.0, omega (arith, a), omega (arith, b), h.3)
 
-pub same_dropped : (m e : ℕ) (o : Option StayCounts) (p : Option Cyclic) → IsSameStay m e o p
+pub same_dropped : (m e : ℕ) (o : Option StayCounts) (p : Option AdmittedCyclic) → IsSameStay m e o p
     → IsSameStay m e (one_more 1 o) (option_map cyclic_after_lose p)
 same_dropped m e None None h = h
 same_dropped m e None (Some c) h = h

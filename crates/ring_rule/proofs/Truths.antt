@@ -7,7 +7,7 @@ use Rattle.std.proofs.lemmas.List.Elements.{All-nil, All-cons}
 use mathlib.Core.Option.{some}
 use lib.ListN.{get_elem?}
 use Rattle.std.specs.Prelude.{Option, Some, None, All}
-use Rattle.cyc_level.specs.Level.{Cyclic, Level, count_in, in_hand, soft_list}
+use Rattle.cyc_level.specs.Level.{AdmittedCyclic, SoftLevel, count_in, in_hand, soft_list}
 use Rattle.cyc_level.specs.Runs.{StayCounts}
 use Rattle.cyc_level.proofs.Maps.{some_same, some_of, not_none}
 use Rattle.ring_rule.specs.declared.Role.{Role}
@@ -218,14 +218,14 @@ stands_now k [] h = h
 stands_now k (x ∷ log) h = h.0
 
 module _ (k : Setting) (log : List RingStep) (L : LevelStands k log) where
-  abbrev l : Level
+  abbrev l : SoftLevel
   l = level_after k.ceiling log
 
   abbrev ws : List ℕ
   ws = replay k.start log
 
   -- the pend word of an id that is admitted, and of one that is not
-  pend_at : (id : ℕ) (o : Option StayCounts) (p : Option Cyclic) → open_stay id (raise_side log) ≡ o → l.cyclics id ≡ p
+  pend_at : (id : ℕ) (o : Option StayCounts) (p : Option AdmittedCyclic) → open_stay id (raise_side log) ≡ o → l.cyclics id ≡ p
       → IsSameStay (made_calls id (drain_side log)) (ended_calls id (raise_side log)) o p
       → get_or ws (stay_word o) 0 ≡ count_in p + mark_bit * in_hand id l.marked
   pend_at id None None a b h = let none : in_hand id l.marked ≡ 0 =

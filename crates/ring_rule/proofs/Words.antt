@@ -6,7 +6,7 @@ use Rattle.std.proofs.Math.Nat.{add-mul-mod_self_left, mul_assoc}
 use lib.Pow.{pow-add}
 use Rattle.std.specs.Prelude.{Option, Some, None}
 use Rattle.std.specs.Option.{option_map}
-use Rattle.cyc_level.specs.Level.{Cyclic, Cyclics}
+use Rattle.cyc_level.specs.Level.{AdmittedCyclic, Cyclics}
 use Rattle.cyc_level.specs.Events.{changed_at, first_of}
 use Rattle.cyc_level.proofs.Maps.{some_same, at_cases}
 use Rattle.cyc_level.specs.Limits.{greatest_bank, cyclics}
@@ -44,14 +44,14 @@ same_turn bank i j most e = sym (turned_back bank i most) ∙ (ap (λ (x : ℕ).
 
 -- each map has the ids of the first, with their indexes
 abbrev pub Keeps : Cyclics → Cyclics → Type 0
-Keeps m m' = (id : ℕ) (c : Cyclic) → m id ≡ Some c → (d : Cyclic) × (m' id ≡ Some d) × (d.index ≡ c.index)
+Keeps m m' = (id : ℕ) (c : AdmittedCyclic) → m id ≡ Some c → (d : AdmittedCyclic) × (m' id ≡ Some d) × (d.index ≡ c.index)
 
 pub keeps_all : (m : Cyclics) → Keeps m m
 keeps_all m id c e = (c, e, refl)
 
-pub keeps_option_map : (m : Cyclics) (id : ℕ) (f : Cyclic → Cyclic) → ((c : Cyclic) → (f c).index ≡ c.index)
+pub keeps_option_map : (m : Cyclics) (id : ℕ) (f : AdmittedCyclic → AdmittedCyclic) → ((c : AdmittedCyclic) → (f c).index ≡ c.index)
     → Keeps m (changed_at m id (option_map f))
-keeps_option_map m id f same j c e = at_cases m id (option_map f) (λ k o. m k ≡ Some c → (d : Cyclic) × (o ≡ Some d)
+keeps_option_map m id f same j c e = at_cases m id (option_map f) (λ k o. m k ≡ Some c → (d : AdmittedCyclic) × (o ≡ Some d)
     × (d.index ≡ c.index))
     (λ h. (f c, ap (option_map f) h, same c)) (λ k _ h. (c, h, refl)) j e
 

@@ -3,7 +3,7 @@ use Rattle.std.specs.Prelude.{◌≡◌, ◌≢◌, ℕ, zero, suc, ◌+◌, ◌
 use Rattle.std.specs.Prelude.{slice_set, All, ⊤}
 use mathlib.Core.Option.{some}
 use lib.ListN.{get_elem?}
-use Rattle.cyc_level.specs.Level.{Cyclic, Level, count, soft_list, in_hand}
+use Rattle.cyc_level.specs.Level.{AdmittedCyclic, SoftLevel, count, soft_list, in_hand}
 use Rattle.cyc_level.specs.Events.{first_of, IsUnused}
 use Rattle.cyc_level.specs.Runs.{firing_events, soft_events}
 use Rattle.ring_rule.specs.declared.Role.{Role}
@@ -104,11 +104,11 @@ NewDrainIsTrue = (k : Setting) (s s' : RingState) (R : MeetsRule k s) (R' : Meet
     → (place ≡ length R.log) × IsTrue k.start (of_drain x) R.log × (s'.words ≡ words_after k.start (of_drain x) R.log s.words)
 
 -- the pend word of an id: its outstanding calls, with the mark
-abbrev pub pend_of : Level → ℕ → ℕ
+abbrev pub pend_of : SoftLevel → ℕ → ℕ
 pend_of l id = count l id + mark_bit * in_hand id l.marked
 
 -- what a step found, as the level just before it shows it
-abbrev pub RaiseFinds : Level → RaiseStep → Type 0
+abbrev pub RaiseFinds : SoftLevel → RaiseStep → Type 0
 RaiseFinds l (Admitted id index) = IsUnused l index
 RaiseFinds l (Loaded id found) = found ≡ pend_of l id
 RaiseFinds l (Lost id found) = found ≡ pend_of l id
@@ -122,10 +122,10 @@ RaiseFinds l (LoadedSoftBank found) = found ≡ l.soft_bank
 
 -- the same of the soft side, whose next index is the consumer index. The producer word of its bank is that index and the list's
 -- length, and the buffer word the entry of the list's first id
-abbrev pub DrainFinds : ℕ → Level → DrainStep → Type 0
+abbrev pub DrainFinds : ℕ → SoftLevel → DrainStep → Type 0
 DrainFinds consumer l (LoadedHardBank found) = found ≡ l.hard_bank
 DrainFinds consumer l (LoadedProducer found) = found ≡ (consumer + length (soft_list l)) % index_range
-DrainFinds consumer l (Took e) = (id : ℕ) × (c : Cyclic) × (first_of (soft_list l) ≡ Some id) × (l.cyclics id ≡ Some c)
+DrainFinds consumer l (Took e) = (id : ℕ) × (c : AdmittedCyclic) × (first_of (soft_list l) ≡ Some id) × (l.cyclics id ≡ Some c)
     × (e ≡ entry id c.index)
 DrainFinds consumer l (Subtracted found) = (id : ℕ) × (l.drainer_hand ≡ Some id) × (found ≡ pend_of l id)
 DrainFinds consumer l (Followed bank) = ⊤

@@ -3,7 +3,7 @@ use Rattle.std.specs.Prelude.{◌≡◌, ℕ, ◌+◌, ◌-◌, ◌%◌, ◌^◌
 use Rattle.std.specs.Prelude.{slice_set, ⊤}
 use Rattle.std.specs.List.{range_with_len}
 use Rattle.cyc_level.specs.declared.Event.{Event}
-use Rattle.cyc_level.specs.Level.{Level}
+use Rattle.cyc_level.specs.Level.{SoftLevel}
 use Rattle.cyc_level.specs.Events.{reached}
 use Rattle.cyc_level.specs.Runs.{StayCounts}
 use Rattle.ring_rule.specs.declared.RaiseStep.{RaiseStep}
@@ -52,7 +52,7 @@ events_of [] = []
 events_of (x ∷ log) = step_event x ++ events_of log
 
 -- the level after the steps
-abbrev pub level_after : ℕ → List RingStep → Level
+abbrev pub level_after : ℕ → List RingStep → SoftLevel
 level_after ceiling log = reached ceiling (events_of log)
 
 -- the pend word of an open stay; where none is open it is no word of the ring

@@ -2,7 +2,7 @@
 use Rattle.std.specs.Prelude.{◌≡◌, ◌≢◌, ℕ, ◌+◌, ◌*◌, ◌%◌, ◌<◌, ◌≤◌, ◌==◌, if◌then◌else◌, true, Option, Some, None, List, [], ◌∷◌}
 use Rattle.std.specs.Prelude.{length, slice_index, ⊤}
 use Rattle.cyc_level.specs.Limits.{greatest_bank, cyclics}
-use Rattle.cyc_level.specs.Level.{Cyclic, Cyclics, Level, count, soft_list, in_hand}
+use Rattle.cyc_level.specs.Level.{AdmittedCyclic, Cyclics, SoftLevel, count, soft_list, in_hand}
 use Rattle.cyc_level.specs.Runs.{StayCounts}
 use Rattle.ring_rule.specs.declared.RaiseStep.{RaiseStep}
 use Rattle.ring_rule.specs.declared.DrainStep.{DrainStep}
@@ -14,7 +14,7 @@ use Rattle.ring_rule.specs.Trail.{consumer_index, producer_seen, bank_seen}
 
 -- the stay in the raise seat's trail is the level's. Of the finishes made, those of the stays that have ended are not
 -- this stay's
-abbrev pub IsSameStay : ℕ → ℕ → Option StayCounts → Option Cyclic → Type 0
+abbrev pub IsSameStay : ℕ → ℕ → Option StayCounts → Option AdmittedCyclic → Type 0
 IsSameStay made ended None None = made ≡ ended
 IsSameStay made ended (Some s) (Some c) = (s.index ≡ c.index) × (s.sent ≡ c.sent) × (s.lost ≡ c.lost) × (made ≡ c.done + ended)
 IsSameStay made ended None (Some c) = ⊥
@@ -23,7 +23,7 @@ IsSameStay made ended (Some s) None = ⊥
 module _ (words : List ℕ) (m : Cyclics) where
   -- the buffer word of this index of a bank is the entry of the id, which is admitted
   abbrev pub HoldsEntry : ℕ → ℕ → ℕ → Type 0
-  HoldsEntry bank i id = (c : Cyclic) × (m id ≡ Some c) × (slice_index words (place bank i) ≡ entry id c.index)
+  HoldsEntry bank i id = (c : AdmittedCyclic) × (m id ≡ Some c) × (slice_index words (place bank i) ≡ entry id c.index)
 
   -- from the index i on up to its producer word the bank holds the entries of these ids
   abbrev pub BankHolds : ℕ → ℕ → List ℕ → Type 0
@@ -76,11 +76,11 @@ soft_summary start t = record {
 }
 
 -- where the new list begins in its bank: at the consumer index, or at the bank's first index until the soft side has followed
-abbrev pub new_list_start : ℕ → ℕ → Level → ℕ
+abbrev pub new_list_start : ℕ → ℕ → SoftLevel → ℕ
 new_list_start start consumer l = if l.hard_bank == l.soft_bank then consumer else start
 
 -- each part of the level is what the words and the two sides say
-pub record Shows (start : ℕ) (words : List ℕ) (firing : FiringSummary) (soft : SoftSummary) (l : Level) : Type 0 where
+pub record Shows (start : ℕ) (words : List ℕ) (firing : FiringSummary) (soft : SoftSummary) (l : SoftLevel) : Type 0 where
   pub hard_is : l.hard_bank ≡ firing.hard_bank
   pub soft_is : l.soft_bank ≡ soft.soft_bank
   pub hard_shown : slice_index words hard_word ≡ l.hard_bank
@@ -90,9 +90,9 @@ pub record Shows (start : ℕ) (words : List ℕ) (firing : FiringSummary) (soft
   pub marked_is : l.marked ≡ firing.marked
   pub stays : (id : ℕ) → IsSameStay (soft.made id) (firing.ended id) (firing.stays id) (l.cyclics id)
   -- a pend word is the outstanding calls with the mark, and that of an unused index is 0
-  pub pends : (id : ℕ) (c : Cyclic) → l.cyclics id ≡ Some c
+  pub pends : (id : ℕ) (c : AdmittedCyclic) → l.cyclics id ≡ Some c
       → slice_index words (pend_word c.index) ≡ c.count + mark_bit * in_hand id l.marked
-  pub unused : (i : ℕ) → i < cyclics → ((id : ℕ) (c : Cyclic) → l.cyclics id ≡ Some c → c.index ≢ i)
+  pub unused : (i : ℕ) → i < cyclics → ((id : ℕ) (c : AdmittedCyclic) → l.cyclics id ≡ Some c → c.index ≢ i)
       → slice_index words (pend_word i) ≡ 0
   -- each entry between the indexes is id * cyclics + index of an admitted id
   pub new_held : BankHolds words l.cyclics l.hard_bank (new_list_start start soft.consumer l) l.new_list
@@ -100,19 +100,19 @@ pub record Shows (start : ℕ) (words : List ℕ) (firing : FiringSummary) (soft
   pub produced : firing.producer ≡ new_list_start start soft.consumer l + length l.new_list
 
 -- the words and the two trails show the level
-abbrev pub TrailsShow : ℕ → List ℕ → List RaiseStep → List DrainStep → Level → Type 0
+abbrev pub TrailsShow : ℕ → List ℕ → List RaiseStep → List DrainStep → SoftLevel → Type 0
 TrailsShow start words raises drains l = Shows start words (firing_summary start raises) (soft_summary start drains) l
 
 -- what the values that the two sides found say of the level still
 pub record StillHolds (start : ℕ) (words : List ℕ) (raise_trail : List RaiseStep) (drain_trail : List DrainStep)
-    (l : Level) : Type 0 where
+    (l : SoftLevel) : Type 0 where
   pub seen_is_enough : (id : ℕ) → count l id ≤ seen_pend id raise_trail
   pub hand_stored : IsHandStored words l.cyclics l.hard_bank (producer_index start raise_trail) (stored_entry raise_trail)
       (firer_hand_of raise_trail)
   -- the banks that were never used
   pub fresh : (bank : ℕ) → l.hard_bank < bank → bank ≤ greatest_bank
       → slice_index words (producer_word bank) ≡ start % index_range
-  pub held_is : (e : ℕ) → held_entry drain_trail ≡ Some e → (c : Cyclic) × (l.cyclics (entry_id e) ≡ Some c)
+  pub held_is : (e : ℕ) → held_entry drain_trail ≡ Some e → (c : AdmittedCyclic) × (l.cyclics (entry_id e) ≡ Some c)
       × (c.index ≡ entry_index e)
   pub followed_is : has_followed raise_trail ≡ true → l.hard_bank ≡ l.soft_bank
   -- a hard bank that was found to be another than the soft side's is still the hard bank

@@ -93,7 +93,7 @@ impl TableRule<(), SeatView, Setting> for RingRule {
 /// each earlier step. So it is lawful; each admitted cyclic's expirations are its finished calls, its
 /// outstanding ones and those lost; a cyclic with calls outstanding stands in exactly one place; no list is longer than its
 /// bank; the pend word of an unused index is 0; and each shown entry names an admitted id.
-pub fn conservation()
+pub fn ring_conservation()
     ensures { (k : TheSetting) (s : RingState) → MeetsRule k s → Conserves k s }
 {}
 

@@ -2,7 +2,7 @@
 #![tactic(auto)]
 
 ghost use Rattle.std.specs.Prelude.{IfOk, IsTrue};
-ghost use Rattle.cyc_types.specs.Levels.{level_of, at_level};
+ghost use Rattle.cyc_types.specs.Levels.{as_level, at_level};
 ghost use Rattle.cyc_soft.specs.Serving.{IsSoftint};
 ghost use Rattle.cyc_ring.specs.Ends.{DrainEndCall, FoundIdle, end_hand, end_made};
 
@@ -24,7 +24,7 @@ pub fn softint<C: Calls>(
     level: Soft,
     budget: u32,
 ) -> Result<Ran, SoftRefused>
-    ensures did { IsSoftint DrainEndCall end_hand end_made (at_level C.called (level_of level)) C.count C.may_refuse budget result
+    ensures did { IsSoftint DrainEndCall end_hand end_made (at_level C.called (as_level level)) C.count C.may_refuse budget result
         drain.old calls.old drain.new calls.new }
 
     // Where it is idle it has looked, last: at the hard bank, which is the soft side's, and then at its producer word.

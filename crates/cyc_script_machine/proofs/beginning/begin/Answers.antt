@@ -4,7 +4,7 @@ use Rattle.cyc_system_model.specs.Agreement.{Agrees}
 use Rattle.cyc_system_model.specs.System.{SystemView}
 use Rattle.cyc_core.specs.Tables.{Tables}
 use Rattle.cyc_model.specs.Script.{start}
-use Rattle.cyc_system_model.specs.Shown.{Shows, IsSystem}
+use Rattle.cyc_system_model.specs.Shown.{ShowsSystem, IsSystem}
 use Rattle.cyc_system_model.specs.Kept.{new_system}
 use Rattle.cyc_script_machine.specs.Beginning.{IsEmpty}
 use Rattle.cyc_script_machine.specs.Machine.{AllMost}
@@ -33,7 +33,7 @@ returns-clause-holds c =
     c.in_ok-fresh.ensures.ok ∙ (λ z. record (new_system 18446744073709551615 ends) { last = c.first_id.ensures z - 1 }) in
     let shown = c.begin_law.ensures 18446744073709551615 c.args.ceiling c.args.names ends c.in_ok-levels.ensures.new
     (subst (λ x. Agrees x) is c.law.ensures) in
-    let here = subst (λ (x : SystemView Tables). IsSystem x × Shows (start (length ends) c.args.ceiling c.args.names) x)
+    let here = subst (λ (x : SystemView Tables). IsSystem x × ShowsSystem (start (length ends) c.args.ceiling c.args.names) x)
     (sym is) shown in
     let most = subst (λ (x : SystemView Tables). AllMost x.cpus) (sym is) (most_new ends) in
     let empty = subst (λ (x : SystemView Tables). All IsEmpty x.cpus.cpus) (sym is)
@@ -44,5 +44,5 @@ returns-clause-holds c =
     (still_most v w two.0 two.1 rest.0 rest.1 most) (now_room v w two.0 two.1 rest.0 rest.1 empty) (
       still_system v w two.0 two.1 rest.0 rest.1 here.0 c.law-2.ensures,
       still_shows v w two.0 two.1 rest.0 rest.1 (start c.args.cpus c.args.ceiling c.args.names)
-          (subst (λ k. Shows (start k c.args.ceiling c.args.names) v) c.in_ok-levels.ensures.long here.1),
+          (subst (λ k. ShowsSystem (start k c.args.ceiling c.args.names) v) c.in_ok-levels.ensures.long here.1),
     )

@@ -2,7 +2,7 @@ use Rattle.std.proofs.Common.{◌≡◌, ℕ, Option, Some, None, refl, ap, sym,
 use Rattle.cyc_script_machine.specs.System.{running_system}
 use Rattle.cyc_cpu.specs.Soft.{fires, firing_at}
 use Rattle.cyc_script_machine.specs.Calls.{Changes, AskTotals}
-use Rattle.cyc_script_machine.specs.Shown.{Shows}
+use Rattle.cyc_script_machine.specs.Shown.{ShowsSystem}
 use Rattle.cyc_model.specs.Report.{counts_of}
 use Rattle.cyc_script_machine.specs.Machine.{id_at, counted_at}
 use Rattle.cyc_script_machine.proofs.Doing.{keeps, refuses}
@@ -41,7 +41,7 @@ returns-in_default-answer-clause-holds c = λ s h.
     refuses s m (record m { system = w }) h
     (keeps s m w h system (kept.most call before after (did, refl) h.system)
     (kept.room call before after (did, refl) h.system h.room))
-    (subst (λ v. Shows s v) (sym same) h.shows) refl refl (record { names = refl; counted = refl; named = refl })
+    (subst (λ v. ShowsSystem s v) (sym same) h.shows) refl refl (record { names = refl; counted = refl; named = refl })
 
 pub returns-clause-counts : goal.returns-clause-counts
 returns-clause-counts c = λ step s r h.

@@ -1,6 +1,6 @@
 use Rattle.std.proofs.Common.{◌≡◌, ◌++◌, length}
 use Rattle.std.specs.Vec.Iter.{into_iter_items, into_iter_len}
-use Rattle.cyc_types.specs.Levels.{level_of, at_level}
+use Rattle.cyc_types.specs.Levels.{as_level, at_level}
 use Rattle.cyc_workers.specs.Draining.{HasDrained}
 use Rattle.cyc_thread_rings.specs.Laid.{EachTwo}
 use Rattle.cyc_thread_rings.specs.Working.{HaveKept}

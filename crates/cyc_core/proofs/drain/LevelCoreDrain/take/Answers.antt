@@ -1,5 +1,5 @@
 use Rattle.std.proofs.Common.{◌≡◌, ℕ, ap, ◌∙◌}
-use Rattle.cyc_level.specs.Level.{Level}
+use Rattle.cyc_level.specs.Level.{SoftLevel}
 use Rattle.cyc_core.specs.Tables.{Tables, level_of}
 use Rattle.cyc_core.specs.DrainingSide.{done_of}
 use Rattle.cyc_core.proofs.drain.LevelCoreDrain.take.Goals as goal
@@ -10,7 +10,7 @@ returns-then-is_soft_list_empty-clause-made c =
     let followed : (q : ℕ) → done_of (level_of c.if-self.self) q ≡ done_of (level_of c.args.self.now) q =
     λ q. elim c.if-self.branch [
       | then-self+then-is_empty w ↦ ap (λ (t : Tables). done_of (level_of t) q) w.self-is
-          ∙ ap (λ (m : Level). done_of m q) w.follow.ensures
+          ∙ ap (λ (m : SoftLevel). done_of m q) w.follow.ensures
       | else-self w ↦ ap (λ (t : Tables). done_of (level_of t) q) w.self-is
     ] in
     followed
@@ -20,7 +20,7 @@ returns-clause-made c =
     let followed : (q : ℕ) → done_of (level_of c.if-self.self) q ≡ done_of (level_of c.args.self.now) q =
     λ q. elim c.if-self.branch [
       | then-self+then-is_empty w ↦ ap (λ (t : Tables). done_of (level_of t) q) w.self-is
-          ∙ ap (λ (m : Level). done_of m q) w.follow.ensures
+          ∙ ap (λ (m : SoftLevel). done_of m q) w.follow.ensures
       | else-self w ↦ ap (λ (t : Tables). done_of (level_of t) q) w.self-is
     ] in
-    λ q. ap (λ (m : Level). done_of m q) c.take_first.ensures ∙ followed q
+    λ q. ap (λ (m : SoftLevel). done_of m q) c.take_first.ensures ∙ followed q

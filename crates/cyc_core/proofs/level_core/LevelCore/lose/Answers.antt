@@ -1,6 +1,6 @@
 use Rattle.std.proofs.Common.{◌≡◌, ◌<◌, ◌+◌, ap, arith, refl}
 use Rattle.cyc_level.specs.declared.Event.TheVariants.{Lose}
-use Rattle.cyc_level.specs.Level.{Cyclic}
+use Rattle.cyc_level.specs.Level.{AdmittedCyclic}
 use Rattle.cyc_level.specs.Events.{most_sent}
 use Rattle.cyc_core.specs.declared.admitted.Admitted.{Admitted}
 use Rattle.cyc_core.specs.Tables.{id_in, cyclic_of, level_of}
@@ -18,7 +18,7 @@ prove-unreachable-requires c =
     let stands = rw (← c.self.view_is) at c.requires.place in
     let at = entry_is_at t.table c.args.place entry stands in
     let found = entry_cyclic t ordered c.args.place entry stands in
-    let fact = found_fact t ordered entry.id c.args.place at entry found refl (λ (x : Cyclic). (x.count ≡ t.ceiling)
+    let fact = found_fact t ordered entry.id c.args.place at entry found refl (λ (x : AdmittedCyclic). (x.count ≡ t.ceiling)
     × (x.sent < most_sent)) may.2 in
     absurd (let apart = c.if-prove.true in omega (arith, fact, apart))
 
@@ -31,7 +31,7 @@ overflow_add-kept c =
     let stands = rw (← c.self.view_is) at c.requires.place in
     let at = entry_is_at t.table c.args.place entry stands in
     let found = entry_cyclic t ordered c.args.place entry stands in
-    let fact = found_fact t ordered entry.id c.args.place at entry found refl (λ (x : Cyclic). (x.count ≡ t.ceiling)
+    let fact = found_fact t ordered entry.id c.args.place at entry found refl (λ (x : AdmittedCyclic). (x.count ≡ t.ceiling)
     × (x.sent < most_sent)) may.2 in
     omega (arith, fact)
 
@@ -44,7 +44,7 @@ overflow_add-kept-2 c =
     let stands = rw (← c.self.view_is) at c.requires.place in
     let at = entry_is_at t.table c.args.place entry stands in
     let found = entry_cyclic t ordered c.args.place entry stands in
-    let fact = found_fact t ordered entry.id c.args.place at entry found refl (λ (x : Cyclic). (x.count ≡ t.ceiling)
+    let fact = found_fact t ordered entry.id c.args.place at entry found refl (λ (x : AdmittedCyclic). (x.count ≡ t.ceiling)
     × (x.sent < most_sent)) may.2 in
     let even = (reached_lawful (level_of t) c.self.invariant.reached).conserved entry.id _ found in
     omega (arith, fact, even)

@@ -1,7 +1,7 @@
 use Rattle.std.proofs.Common.{rules, subst, sym}
 use Rattle.cyc_types.specs.Firing.{Learns, Sound, Admits}
 use Rattle.cyc_level.specs.declared.Event.TheVariants.{Admit}
-use Rattle.cyc_level.specs.Level.{Level}
+use Rattle.cyc_level.specs.Level.{SoftLevel}
 use Rattle.cyc_level.specs.Lawful.{IsId}
 use Rattle.cyc_core.specs.Tables.{level_of}
 use Rattle.cyc_core.specs.FiringSide.{firing_view}
@@ -25,7 +25,7 @@ returns-clause-step c =
 pub returns-clause-learns : goal.returns-clause-learns
 returns-clause-learns c =
     let l = level_of c.args.self.now in
-    subst (λ (m : Level). Learns (firing_view l) (Admits c.args.id c.args.index) (firing_view m)) (sym c.begin_stay.ensures)
+    subst (λ (m : SoftLevel). Learns (firing_view l) (Admits c.args.id c.args.index) (firing_view m)) (sym c.begin_stay.ensures)
     (learns_admit l c.args.id c.args.index)
 
 pub returns-clause-sound : goal.returns-clause-sound
@@ -33,5 +33,5 @@ returns-clause-sound c =
     let l = level_of c.args.self.now in
     let valid : IsId c.args.id = search rules in
     let may = can_admit l c.args.id c.args.index valid c.requires in
-    subst (λ (m : Level). Sound (firing_view m)) (sym c.begin_stay.ensures)
+    subst (λ (m : SoftLevel). Sound (firing_view m)) (sym c.begin_stay.ensures)
     (sound_after l (Admit c.args.id c.args.index) c.conservation.ensures.lawful c.conservation.ensures.some_ceiling may)

@@ -2,7 +2,7 @@ use Rattle.std.proofs.Common.{◌≡◌, ◌<◌, ap, arith, refl, subst, sym, �
 use Rattle.cyc_types.specs.Firing.{Learns, Sound, Raises}
 use Rattle.cyc_types.specs.declared.firing.Raised.TheVariants.{First, More, Lost}
 use Rattle.cyc_level.specs.declared.Event.TheVariants.{Expire, Lose, Publish}
-use Rattle.cyc_level.specs.Level.{Level}
+use Rattle.cyc_level.specs.Level.{SoftLevel}
 use Rattle.cyc_level.specs.Events.{Enabled, after}
 use Rattle.cyc_core.specs.Tables.{Tables, cyclic_of, level_of}
 use Rattle.cyc_core.specs.FiringSide.{firing_view}
@@ -30,7 +30,7 @@ returns-then-count-self-clause-step c =
     let full : entry.count ≡ l.ceiling = c.if-count-self.true ∙ ceil in
     let may = can_lose l c.args.id (cyclic_of entry) facts.cyclic c.requires full in
     let left : level_of c.lose.new.self ≡ after (Lose c.args.id) l = c.lose.ensures ∙ ap (λ i. after (Lose i) l) facts.id in
-    ((level_of c.lose.new.self, (may, left), refl), ap (λ (x : Level). x.firer_hand) left ∙ may.0)
+    ((level_of c.lose.new.self, (may, left), refl), ap (λ (x : SoftLevel). x.firer_hand) left ∙ may.0)
 
 pub returns-then-count-self-clause-learns : goal.returns-then-count-self-clause-learns
 returns-then-count-self-clause-learns c =
@@ -41,7 +41,7 @@ returns-then-count-self-clause-learns c =
     let full : entry.count ≡ l.ceiling = c.if-count-self.true ∙ ceil in
     let may = can_lose l c.args.id (cyclic_of entry) facts.cyclic c.requires full in
     let left : level_of c.lose.new.self ≡ after (Lose c.args.id) l = c.lose.ensures ∙ ap (λ i. after (Lose i) l) facts.id in
-    subst (λ (m : Level). Learns (firing_view l) (Raises c.args.id Lost) (firing_view m)) (sym left)
+    subst (λ (m : SoftLevel). Learns (firing_view l) (Raises c.args.id Lost) (firing_view m)) (sym left)
     (learns_lost l c.args.id (cyclic_of entry) facts.cyclic full)
 
 pub returns-then-count-self-clause-sound : goal.returns-then-count-self-clause-sound
@@ -53,7 +53,7 @@ returns-then-count-self-clause-sound c =
     let full : entry.count ≡ l.ceiling = c.if-count-self.true ∙ ceil in
     let may = can_lose l c.args.id (cyclic_of entry) facts.cyclic c.requires full in
     let left : level_of c.lose.new.self ≡ after (Lose c.args.id) l = c.lose.ensures ∙ ap (λ i. after (Lose i) l) facts.id in
-    subst (λ (m : Level). Sound (firing_view m)) (sym left) (sound_after l (Lose c.args.id) facts.lawful facts.some_ceiling may)
+    subst (λ (m : SoftLevel). Sound (firing_view m)) (sym left) (sound_after l (Lose c.args.id) facts.lawful facts.some_ceiling may)
 
 pub expire-requires-clause-enabled : goal.expire-requires-clause-enabled
 expire-requires-clause-enabled c =
@@ -78,7 +78,7 @@ returns-then-count-gt0-clause-step c =
     let raised : level_of c.expire.new.self ≡ after (Expire c.args.id) l = c.expire.ensures
     ∙ ap (λ i. after (Expire i) l) facts.id in (
       (level_of c.expire.new.self, (may, raised), refl),
-      ap (λ (x : Level). x.firer_hand) raised
+      ap (λ (x : SoftLevel). x.firer_hand) raised
           ∙ hand_still l c.args.id (cyclic_of entry) facts.cyclic c.if-count-gt0.true may.0,
     )
 
@@ -93,7 +93,7 @@ returns-then-count-gt0-clause-learns c =
     let may = can_expire l c.args.id (cyclic_of entry) facts.cyclic c.requires below in
     let raised : level_of c.expire.new.self ≡ after (Expire c.args.id) l = c.expire.ensures
     ∙ ap (λ i. after (Expire i) l) facts.id in
-    subst (λ (m : Level). Learns (firing_view l) (Raises c.args.id More) (firing_view m)) (sym raised)
+    subst (λ (m : SoftLevel). Learns (firing_view l) (Raises c.args.id More) (firing_view m)) (sym raised)
     (learns_more l c.args.id (cyclic_of entry) facts.cyclic c.if-count-gt0.true below may.0)
 
 pub returns-then-count-gt0-clause-sound : goal.returns-then-count-gt0-clause-sound
@@ -107,7 +107,7 @@ returns-then-count-gt0-clause-sound c =
     let may = can_expire l c.args.id (cyclic_of entry) facts.cyclic c.requires below in
     let raised : level_of c.expire.new.self ≡ after (Expire c.args.id) l = c.expire.ensures
     ∙ ap (λ i. after (Expire i) l) facts.id in
-    subst (λ (m : Level). Sound (firing_view m)) (sym raised)
+    subst (λ (m : SoftLevel). Sound (firing_view m)) (sym raised)
     (sound_after l (Expire c.args.id) facts.lawful facts.some_ceiling may)
 
 pub publish-requires : goal.publish-requires
@@ -141,7 +141,7 @@ returns-clause-step c =
     let left : level_of c.publish.new.self ≡ after Publish (after (Expire c.args.id) l) = c.publish.ensures
     ∙ ap (after Publish) raised in (
       (level_of c.expire-2.new.self, (may, raised), (level_of c.publish.new.self, (published, c.publish.ensures), refl)),
-      ap (λ (x : Level). x.firer_hand) left,
+      ap (λ (x : SoftLevel). x.firer_hand) left,
     )
 
 pub returns-clause-learns : goal.returns-clause-learns
@@ -158,7 +158,7 @@ returns-clause-learns c =
     let none : entry.count ≡ 0 = omega (arith, c.if-count-gt0.false) in
     let left : level_of c.publish.new.self ≡ after Publish (after (Expire c.args.id) l) = c.publish.ensures
     ∙ ap (after Publish) raised in
-    subst (λ (m : Level). Learns (firing_view l) (Raises c.args.id First) (firing_view m)) (sym left)
+    subst (λ (m : SoftLevel). Learns (firing_view l) (Raises c.args.id First) (firing_view m)) (sym left)
     (learns_first l c.args.id (cyclic_of entry) facts.cyclic none may.0)
 
 pub returns-clause-sound : goal.returns-clause-sound
@@ -175,6 +175,6 @@ returns-clause-sound c =
     let none : entry.count ≡ 0 = omega (arith, c.if-count-gt0.false) in
     let left : level_of c.publish.new.self ≡ after Publish (after (Expire c.args.id) l) = c.publish.ensures
     ∙ ap (after Publish) raised in
-    subst (λ (m : Level). Sound (firing_view m)) (sym left)
+    subst (λ (m : SoftLevel). Sound (firing_view m)) (sym left)
     (sound_after (after (Expire c.args.id) l) Publish (keeps_law l facts.lawful (Expire c.args.id) may) facts.some_ceiling
     (can_publish l c.args.id (cyclic_of entry) facts.cyclic none))

@@ -1,5 +1,5 @@
 use Rattle.cyc_level.proofs.Stays.{over_stays}
-use Rattle.cyc_level.proofs.conservation_over_stays.Goals as goal
+use Rattle.cyc_level.proofs.stay_conservation.Goals as goal
 
 pub returns : goal.returns
 returns c = λ ceiling events on id. over_stays ceiling id events on
