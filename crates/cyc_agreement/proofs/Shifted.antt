@@ -15,7 +15,7 @@ use Rattle.cyc_cpus.specs.Removal.{Leaves}
 use Rattle.cyc_cpus.specs.Cpus.{CpusView, IsCpu, Works}
 use Rattle.cyc_cpus.specs.Shifting.{WhyNotShifted, moving}
 use Rattle.std.specs.Option.{option_map}
-use Rattle.cyc_cpus.specs.Law.{IsLawful}
+use Rattle.cyc_cpus.specs.Laws.{IsLawful}
 use Rattle.cyc_agreement.specs.System.{SystemView, ids_of, ids_on, has}
 use Rattle.cyc_agreement.specs.Agreement.{Agrees}
 use Rattle.cyc_agreement.specs.Binding.{GoesTo}

@@ -11,7 +11,7 @@ pub use Rattle.cyc_cpus.specs.Shifting
 pub use Rattle.cyc_model.specs.Refusals as ModelRefusals
 pub use Rattle.cyc_cpus.specs.Cpu
 pub use Rattle.cyc_cpus.specs.Calls
-pub use Rattle.cyc_cpus.specs.Law
+pub use Rattle.cyc_cpus.specs.Laws
 pub use Rattle.cyc_cpus.specs.Rows
 pub use Rattle.cyc_cpus.specs.CpuRemoval as Removal
 pub use Rattle.cyc_cpus.specs.Totals

@@ -16,7 +16,7 @@ use Rattle.cyc_fire.specs.Rows.{Row, Cyclic, IsRow, IsRising, no_counts, timers,
 use Rattle.cyc_cpu.specs.Cpu.{HasCounts, HasRisingIds, IsRemoved}
 use Rattle.cyc_fire.specs.Ends.{IsEnd, IsHard}
 use Rattle.cyc_cpu.specs.Losses.{IsUnder, IsSpared}
-use Rattle.cyc_cpu.specs.Law.{IsLawful}
+use Rattle.cyc_cpu.specs.Laws.{IsLawful}
 use Rattle.cyc_cpu.proofs.Cyclics.{admitted_cyclics, rising_cyclics, counted_cyclics, removed_cyclic}
 
 -- a stay that is under the ceiling has lost nothing

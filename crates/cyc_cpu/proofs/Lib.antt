@@ -2,7 +2,7 @@ pub mod Cyclics
 pub mod Entering
 pub mod Softs
 pub mod Idling
-pub mod Leaving
+pub mod Removals
 pub mod Inquiring
 pub mod Gone
 pub mod Following

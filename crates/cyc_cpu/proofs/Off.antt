@@ -9,9 +9,9 @@ use Rattle.cyc_types.specs.declared.level.Level.TheVariants as level
 use Rattle.cyc_fire.specs.Rows.{Cyclic}
 use Rattle.cyc_cpu.specs.Cpu.{CpuView, AreAdmitted, HasNoCyclic}
 use Rattle.cyc_cpu.specs.Removal.{calls_at, Leaves}
-use Rattle.cyc_cpu.specs.Law.{IsLawful}
+use Rattle.cyc_cpu.specs.Laws.{IsLawful}
 use Rattle.cyc_cpu.specs.Gone.{HasLeft, IsOff}
-use Rattle.cyc_cpu.proofs.Leaving.{goes_here, goes_not, level_cases, clears_poll}
+use Rattle.cyc_cpu.proofs.Removals.{goes_here, goes_not, level_cases, clears_poll}
 use Rattle.cyc_cpu.proofs.Following.{one_cyclic, none_left}
 
 none_there : (o : Option Stay) → ((s : Stay) → o ≡ Some s → ⊥) → o ≡ None

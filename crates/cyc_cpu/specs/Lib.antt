@@ -7,7 +7,7 @@ pub mod Soft
 pub mod Removal
 pub mod Moving
 pub mod Losses
-pub mod Law
+pub mod Laws
 pub mod Calls
 pub mod Gone
 pub use Rattle.cyc_fire.specs.declared.fire.FireRefused

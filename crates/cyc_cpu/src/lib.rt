@@ -5,10 +5,10 @@
 #![tactic(auto)]
 
 mod asking;
-mod ending;
+mod leaving;
 mod ends;
 mod hard;
-mod levels;
+mod laws;
 mod moving;
 mod next;
 mod removing;

@@ -4,7 +4,7 @@ ghost use Rattle.std.specs.Prelude.{◌≡◌, ◌≢◌, ℕ, ◌<◌, ◌≤�
 ghost use Rattle.std.specs.Bool.{OnTrue};
 ghost use Rattle.cyc_types.specs.Series.{never};
 
-use crate::ending::take_at;
+use crate::leaving::take_at;
 use crate::ends::admit_at;
 use crate::hard::Hard;
 use cyc_fire::Record;

@@ -2,10 +2,10 @@
 
 ghost use Rattle.std.specs.Prelude.{◌≡◌, ◌≤◌, ℕ};
 ghost use Rattle.cyc_cpu.specs.Cpu.{CpuView};
-ghost use Rattle.cyc_cpu.specs.Law.{IsLawful};
+ghost use Rattle.cyc_cpu.specs.Laws.{IsLawful};
 ghost use Rattle.cyc_cpu.specs.Gone.{HasLeft, IsOff};
 
-use crate::ending::{poll_at, remove_at};
+use crate::leaving::{poll_at, remove_at};
 use crate::hard::Hard;
 use cyc_fire::Record;
 use cyc_types::{CyclicId, Moment, Raise, Receipt, Refusal};

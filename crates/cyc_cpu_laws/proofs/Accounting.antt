@@ -16,7 +16,7 @@ use Rattle.cyc_cpu.specs.FireRefused.{FireRefused}
 use Rattle.cyc_cpu.specs.Acts.{is_of, timer_of}
 use Rattle.cyc_cpu.specs.Shares.{share}
 use Rattle.cyc_cpu.specs.Cpu.{CpuView, Running, SameCpu, Makes, sides}
-use Rattle.cyc_cpu.specs.Law.{IsLawful}
+use Rattle.cyc_cpu.specs.Laws.{IsLawful}
 use Rattle.cyc_cpu.specs.Calls.{CpuCall, Changes, Does, Stopped, no_interrupts, Fire, SoftInterrupt, Add, Place, Reprogram}
 use Rattle.cyc_cpu.specs.Calls.{AskPending, AskTotals, AskRoom, Reserve, Widen, BeginRemove, PollRemove, TakeNow, AskSettled}
 use Rattle.cyc_cpu.proofs.Sharing.{raises_add_up, ids_add_up}

@@ -19,7 +19,7 @@ use Rattle.cyc_cpu.specs.Rows.{Cyclic, no_counts}
 use Rattle.cyc_cpu.specs.declared.removing.Removal.TheVariants.{Done}
 use Rattle.cyc_cpu.specs.Cpu.{CpuView, AreAdmitted, IsCyclic}
 use Rattle.cyc_cpu.specs.Removal.{Leaves, calls_at}
-use Rattle.cyc_cpu.specs.Law.{IsLawful}
+use Rattle.cyc_cpu.specs.Laws.{IsLawful}
 use Rattle.cyc_cpu.specs.Soft.{fires, firing_at, done_at}
 use Rattle.cyc_cpu.specs.Calls.{CpuCall, Changes, BeginRemove, PollRemove, TakeNow}
 use Rattle.cyc_cpu_laws.specs.Accounts.{counts_of, left_by}

@@ -22,7 +22,7 @@ use Rattle.cyc_soft.proofs.Rounds.{way_finishes}
 use Rattle.cyc_cpu.specs.Shares.{share}
 use Rattle.cyc_cpu.specs.Rows.{timers}
 use Rattle.cyc_cpu.specs.Cpu.{Running}
-use Rattle.cyc_cpu.specs.Law.{IsLawful}
+use Rattle.cyc_cpu.specs.Laws.{IsLawful}
 use Rattle.cyc_cpu.specs.Soft.{fires, drains, held_at, firing_at, end_at, ServesAt, SoftKept, Interrupts}
 use Rattle.cyc_cpu.specs.Calls.{CpuCall, Does, no_interrupts, Fire, SoftInterrupt, Add, Place, Reprogram, AskPending, AskTotals}
 use Rattle.cyc_cpu.specs.Calls.{AskRoom, Reserve, Widen, BeginRemove, PollRemove, TakeNow, AskSettled}

@@ -8,7 +8,7 @@ use Rattle.cyc_types.specs.declared.level.Level.TheVariants.{Low, Lock, High}
 use Rattle.cyc_cpu.specs.Rows.{Cyclic, timers}
 use Rattle.cyc_cpu.specs.Shares.{share}
 use Rattle.cyc_cpu.specs.Cpu.{CpuView, Running, HasNoCyclic, AreAdmitted}
-use Rattle.cyc_cpu.specs.Law.{IsLawful}
+use Rattle.cyc_cpu.specs.Laws.{IsLawful}
 use Rattle.cyc_cpu.specs.Gone.{IsOff, PutsNot}
 use Rattle.cyc_cpu.specs.Calls.{CpuCall, Changes, Does, no_interrupts, Fire, SoftInterrupt, Add, Place, Reprogram, AskPending}
 use Rattle.cyc_cpu.specs.Calls.{AskTotals, AskRoom, Reserve, Widen, BeginRemove, PollRemove, TakeNow, AskSettled}

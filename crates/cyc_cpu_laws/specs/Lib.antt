@@ -11,7 +11,7 @@ pub use Rattle.cyc_cpu.specs.Removal
 pub use Rattle.cyc_cpu.specs.Soft
 pub use Rattle.cyc_cpu.specs.Fired
 pub use Rattle.cyc_cpu.specs.FireRefused
-pub use Rattle.cyc_cpu.specs.Law
+pub use Rattle.cyc_cpu.specs.Laws
 pub use Rattle.cyc_cpu.specs.Losses
 pub use Rattle.cyc_cpu.specs.Acts
 pub use Rattle.cyc_cpu.specs.Made

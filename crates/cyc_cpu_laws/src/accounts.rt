@@ -4,7 +4,7 @@ ghost use Rattle.std.specs.Prelude.{List};
 ghost use Rattle.std.specs.List.{FoldsTo};
 ghost use Rattle.cyc_cpu.specs.Tables.{Tables};
 ghost use Rattle.cyc_cpu.specs.Cpu.{Running};
-ghost use Rattle.cyc_cpu.specs.Law.{IsLawful};
+ghost use Rattle.cyc_cpu.specs.Laws.{IsLawful};
 ghost use Rattle.cyc_cpu.specs.Calls.{CpuCall, Does, no_interrupts};
 ghost use Rattle.cyc_cpu.specs.Soft.{fires, firing_at, Interrupts};
 ghost use Rattle.cyc_cpu_laws.specs.Runs.{Steps};

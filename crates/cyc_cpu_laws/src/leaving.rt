@@ -3,7 +3,7 @@
 ghost use Rattle.std.specs.Prelude.{ℕ, List, All};
 ghost use Rattle.std.specs.List.{FoldsTo};
 ghost use Rattle.cyc_cpu.specs.Cpu.{Running};
-ghost use Rattle.cyc_cpu.specs.Law.{IsLawful};
+ghost use Rattle.cyc_cpu.specs.Laws.{IsLawful};
 ghost use Rattle.cyc_cpu.specs.Calls.{CpuCall, no_interrupts};
 ghost use Rattle.cyc_cpu.specs.Gone.{IsOff, PutsNot};
 ghost use Rattle.cyc_cpu_laws.specs.Runs.{Steps};

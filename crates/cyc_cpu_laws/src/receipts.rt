@@ -4,7 +4,7 @@ ghost use Rattle.std.specs.Prelude.{ℕ, All};
 ghost use Rattle.cyc_cpu.specs.Tables.{Tables, level_of};
 ghost use Rattle.cyc_cpu.specs.Lawful.{Lawful};
 ghost use Rattle.cyc_cpu.specs.Cpu.{CpuView};
-ghost use Rattle.cyc_cpu.specs.Law.{IsLawful};
+ghost use Rattle.cyc_cpu.specs.Laws.{IsLawful};
 ghost use Rattle.cyc_cpu.specs.Soft.{fires, firing_at};
 ghost use Rattle.cyc_cpu.specs.Calls.{CpuCall, Changes};
 ghost use Rattle.cyc_cpu_laws.specs.Receipts.{Releases, AnswersCalls, IsBalanced};

@@ -22,7 +22,7 @@ use Rattle.cyc_core.specs.Tables.{Tables, level_of}
 use Rattle.cyc_timers.specs.Rows.{Cyclic as Timed, timers as timed}
 use Rattle.cyc_cpu.specs.declared.removing.Removal.TheVariants.{Done, Kept}
 use Rattle.cyc_cpu.specs.Cpu.{CpuView, Running, HasNoCyclic, HasRisingIds, AreAdmitted, with_moment}
-use Rattle.cyc_cpu.specs.Law.{IsLawful}
+use Rattle.cyc_cpu.specs.Laws.{IsLawful}
 use Rattle.cyc_cpu.specs.Soft.{fires, firing_at as seen, Interrupts}
 use Rattle.cyc_cpu.specs.Calls.{CpuCall, Fire, SoftInterrupt, Add, Place, Reprogram, AskPending, AskTotals, AskRoom, Reserve}
 use Rattle.cyc_cpu.specs.Calls.{Widen, BeginRemove, PollRemove, TakeNow, AskSettled, Changes, Does}

@@ -5,7 +5,7 @@
 ghost use Rattle.std.specs.Prelude.{ℕ, Bool};
 ghost use Rattle.cyc_core.specs.Tables.{Tables};
 ghost use Rattle.cyc_cpu.specs.Cpu.{CpuView, Running};
-ghost use Rattle.cyc_cpu.specs.Law.{IsLawful};
+ghost use Rattle.cyc_cpu.specs.Laws.{IsLawful};
 ghost use Rattle.cyc_cpu.specs.Soft.{fires, firing_at, Interrupts};
 ghost use Rattle.cyc_cpu.specs.Calls.{CpuCall, Does};
 ghost use Rattle.cyc_cpu_model.specs.Shown.{shown_cpu};

@@ -7,7 +7,7 @@ pub use Rattle.cyc_cpu.specs.Calls
 pub use Rattle.cyc_cpu.specs.Cpu
 pub use Rattle.cyc_cpu.specs.FireRefused
 pub use Rattle.cyc_cpu.specs.Fired
-pub use Rattle.cyc_cpu.specs.Law
+pub use Rattle.cyc_cpu.specs.Laws
 pub use Rattle.cyc_cpu.specs.Removal
 pub use Rattle.cyc_cpu.specs.Rows
 pub use Rattle.cyc_cpu.specs.Soft

@@ -5,7 +5,7 @@ ghost use Rattle.std.specs.List.{slice_get};
 ghost use Rattle.std.specs.Borrow.{Lends, sem};
 ghost use Rattle.cyc_types.specs.declared.refusal.Refusal.TheVariants.{Memory};
 ghost use Rattle.cyc_cpu.specs.Cpu.{CpuView, IsFresh};
-ghost use Rattle.cyc_cpu.specs.Law.{IsLawful};
+ghost use Rattle.cyc_cpu.specs.Laws.{IsLawful};
 ghost use Rattle.cyc_cpu.specs.contracts.hard.Hard.{the_row as hard_row};
 ghost use Rattle.cyc_cpus.specs.Cpus.{with_cpu, IsCpu, new_cpu, new_cpus};
 ghost use Rattle.cyc_cpus.specs.contracts.cpus.Cpus.{the_row};

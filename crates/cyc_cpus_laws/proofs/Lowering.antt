@@ -17,7 +17,7 @@ use Rattle.cyc_expirations.specs.Timers.{HasDistinctIds}
 use Rattle.cyc_cpu.specs.Losses.{IsSpared}
 use Rattle.cyc_cpu.specs.Cpu.{CpuView, AreAdmitted, HasCounts, HasRisingIds, IsRemoved, Asks, Looked, Reserves, MayWiden, Widens}
 use Rattle.cyc_cpu.specs.Cpu.{bank_for, least_bank}
-use Rattle.cyc_cpu.specs.Law.{IsLawful}
+use Rattle.cyc_cpu.specs.Laws.{IsLawful}
 
 -- a stay of the one is one of the other, of which no more was seen
 record Alike (s t : Stay) : Type 0 where

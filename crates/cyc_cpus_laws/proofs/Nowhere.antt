@@ -10,7 +10,7 @@ use Rattle.cyc_level.specs.Lawful.{Lawful, one_if_any}
 use Rattle.cyc_core.specs.Tables.{Tables, level_of}
 use Rattle.cyc_core.specs.FiringSide.{stay_of}
 use Rattle.cyc_cpu.specs.Cpu.{CpuView, HasNoCyclic, AreAdmitted}
-use Rattle.cyc_cpu.specs.Law.{IsLawful}
+use Rattle.cyc_cpu.specs.Laws.{IsLawful}
 use Rattle.cyc_cpu.specs.Gone.{IsGone, IsAbsent, PutsNot}
 use Rattle.cyc_cpu.specs.Soft.{fires, firing_at, Interrupts}
 use Rattle.cyc_cpu.proofs.Following.{stays_gone}

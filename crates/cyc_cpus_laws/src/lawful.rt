@@ -2,7 +2,7 @@
 
 ghost use Rattle.std.specs.Prelude.{ℕ};
 ghost use Rattle.cyc_cpu.specs.Cpu.{CpuView, Asks, Looked, Reserves, MayWiden, Widens};
-ghost use Rattle.cyc_cpu.specs.Law.{IsLawful};
+ghost use Rattle.cyc_cpu.specs.Laws.{IsLawful};
 
 use cyc_types::Raise;
 

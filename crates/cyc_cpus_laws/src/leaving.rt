@@ -5,7 +5,7 @@ ghost use Rattle.std.specs.List.{FoldsTo};
 ghost use Rattle.cyc_level.specs.Lawful.{Lawful};
 ghost use Rattle.cyc_core.specs.Tables.{Tables, level_of};
 ghost use Rattle.cyc_cpu.specs.Cpu.{CpuView, HasNoCyclic};
-ghost use Rattle.cyc_cpu.specs.Law.{IsLawful};
+ghost use Rattle.cyc_cpu.specs.Laws.{IsLawful};
 ghost use Rattle.cyc_cpu.specs.Gone.{IsGone, PutsNot};
 ghost use Rattle.cyc_cpu.specs.Soft.{fires, firing_at, Interrupts};
 ghost use Rattle.cyc_cpus.specs.Cpus.{CallOn, RunningCpus, RunsAt};

@@ -24,7 +24,7 @@ use Rattle.cyc_agreement.proofs.Removals.{AreSteady, removals_kept, leaving_here
 use Rattle.cyc_agreement.proofs.Entering.{not_given}
 use Rattle.cyc_agreement.proofs.Who.{but_same, but_then}
 use Rattle.cyc_agreement.specs.Cpu.{CpuView}
-use Rattle.cyc_agreement.specs.Law.{IsLawful}
+use Rattle.cyc_agreement.specs.Laws.{IsLawful}
 use Rattle.cyc_everywhere.proofs.Quiet.{quiet_reserves}
 use Rattle.cyc_everywhere.proofs.Arriving.{arrives, agrees_omni}
 

@@ -9,7 +9,7 @@ use Rattle.cyc_types.specs.declared.refusal.Refusal.TheVariants as why
 use Rattle.cyc_agreement.specs.Rows.{Cyclic}
 use Rattle.cyc_agreement.specs.ModelRefusals.{first_refusal, bad_now}
 use Rattle.cyc_agreement.specs.Cpu.{CpuView, Looked, WhyNotReserved}
-use Rattle.cyc_agreement.specs.Law.{IsLawful}
+use Rattle.cyc_agreement.specs.Laws.{IsLawful}
 use Rattle.cyc_agreement.specs.Calls.{Changes, Reserve, Widen}
 use Rattle.cyc_places.specs.declared.record.Record.{Record}
 use Rattle.cyc_places.specs.Places.{HasRisingIds, no_counts, with_ended}

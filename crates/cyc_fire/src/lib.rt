@@ -4,8 +4,8 @@
 #![tactic(auto)]
 
 mod fire;
-mod law;
+mod laws;
 
 pub use cyc_timers::{Record, Table};
 pub use fire::{FireRefused, Fired, fire_all};
-pub use law::share_law;
+pub use laws::share_law;

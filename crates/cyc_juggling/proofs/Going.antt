@@ -7,7 +7,7 @@ use Rattle.cyc_types.specs.declared.refusal.Refusal.{Refusal}
 use Rattle.cyc_types.specs.declared.refusal.Refusal.TheVariants as why
 use Rattle.cyc_agreement.specs.Cpu.{CpuView, HasNoCyclic}
 use Rattle.cyc_agreement.specs.Calls.{AskPending, Reserve}
-use Rattle.cyc_agreement.specs.Law.{IsLawful}
+use Rattle.cyc_agreement.specs.Laws.{IsLawful}
 use Rattle.cyc_agreement.specs.CpuRemoval.{HasCyclic}
 use Rattle.cyc_places.specs.declared.record.Place.TheVariants.{On}
 use Rattle.cyc_places.specs.declared.record.Record.{Record}

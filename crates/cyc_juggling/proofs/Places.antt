@@ -6,7 +6,7 @@ use Rattle.std.proofs.lemmas.Option.{slice_get-map, slice_get_within, get_or_fro
 use Rattle.std.proofs.lemmas.List.{length-map}
 use Rattle.cyc_types.specs.Firing.{FiringView}
 use Rattle.cyc_agreement.specs.Cpu.{CpuView, IsCyclic}
-use Rattle.cyc_agreement.specs.Law.{IsLawful}
+use Rattle.cyc_agreement.specs.Laws.{IsLawful}
 use Rattle.cyc_agreement.specs.CpuRemoval.{HasCyclic}
 use Rattle.cyc_agreement.specs.Rows.{Cyclic}
 use Rattle.cyc_agreement.specs.Cpus.{CpusView, IsCpu}

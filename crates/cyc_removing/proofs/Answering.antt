@@ -9,7 +9,7 @@ use Rattle.cyc_types.specs.Firing.{FiringView, FiringCall}
 use Rattle.cyc_types.specs.declared.firing.Sent.{Sent}
 use Rattle.cyc_agreement.specs.Totals.{Totals}
 use Rattle.cyc_agreement.specs.Cpu.{CpuView}
-use Rattle.cyc_agreement.specs.Law.{IsLawful}
+use Rattle.cyc_agreement.specs.Laws.{IsLawful}
 use Rattle.cyc_agreement.specs.Calls.{Changes, AskTotals}
 use Rattle.cyc_places.specs.declared.record.Record.{Record}
 use Rattle.cyc_places.specs.Places.{summed}

@@ -12,7 +12,7 @@ use Rattle.cyc_agreement.specs.Removal.{Removal}
 use Rattle.cyc_agreement.specs.Removal.TheVariants.{Done, Kept}
 use Rattle.cyc_agreement.specs.Cpu.{CpuView, IsCyclic}
 use Rattle.cyc_agreement.specs.CpuRemoval.{HasCyclic}
-use Rattle.cyc_agreement.specs.Law.{IsLawful}
+use Rattle.cyc_agreement.specs.Laws.{IsLawful}
 use Rattle.cyc_agreement.specs.Calls.{Changes, BeginRemove, PollRemove}
 use Rattle.cyc_agreement.specs.Cpus.{CpusView, IsCpu}
 use Rattle.cyc_agreement.proofs.Shifts.{not_both}

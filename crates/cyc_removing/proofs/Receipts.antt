@@ -11,7 +11,7 @@ use Rattle.cyc_types.specs.declared.receipt.Receipt.{Receipt}
 use Rattle.cyc_agreement.specs.Removal.{Removal}
 use Rattle.cyc_agreement.specs.Removal.TheVariants.{Done, Kept}
 use Rattle.cyc_agreement.specs.Cpu.{CpuView}
-use Rattle.cyc_agreement.specs.Law.{IsLawful}
+use Rattle.cyc_agreement.specs.Laws.{IsLawful}
 use Rattle.cyc_places.specs.declared.record.Record.{Record}
 use Rattle.cyc_places.specs.Places.{summed}
 use Rattle.cyc_agreement.specs.Cpus.{IsCpu}

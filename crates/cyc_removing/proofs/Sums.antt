@@ -17,7 +17,7 @@ use Rattle.cyc_agreement.specs.Rows.{Cyclic}
 use Rattle.cyc_agreement.specs.Removal.{Removal}
 use Rattle.cyc_agreement.specs.Removal.TheVariants.{Done, Kept}
 use Rattle.cyc_agreement.specs.Cpu.{CpuView, IsCyclic, HasRisingIds as HaveRisingIds, with_moment}
-use Rattle.cyc_agreement.specs.Law.{IsLawful}
+use Rattle.cyc_agreement.specs.Laws.{IsLawful}
 use Rattle.cyc_agreement.specs.CpuRemoval.{IsReceipt}
 use Rattle.cyc_agreement.specs.Calls.{Changes, PollRemove}
 use Rattle.cyc_places.specs.declared.record.Record.{Record}

@@ -3,7 +3,7 @@ use Rattle.std.specs.Prelude.{◌≡◌, ℕ, ◌+◌, ◌≤◌, length, sum_by
 use Rattle.std.specs.Option.{option_map_or}
 use Rattle.cyc_types.specs.Firing.{FiringView}
 use Rattle.cyc_agreement.specs.Cpu.{CpuView}
-use Rattle.cyc_agreement.specs.Law.{IsLawful}
+use Rattle.cyc_agreement.specs.Laws.{IsLawful}
 use Rattle.cyc_places.specs.declared.record.Record.{Record}
 use Rattle.cyc_places.specs.Places.{IsRecord, HasRisingIds}
 use Rattle.cyc_agreement.specs.Cpus.{IsCpu}

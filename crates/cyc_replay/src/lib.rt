@@ -16,14 +16,14 @@
 //! - the text is the same whatever indexes the cyclics get: `text_tells_no_index`
 #![tactic(auto)]
 
-mod law;
+mod laws;
 mod report;
 mod run;
 mod script;
 mod steps;
 
 pub use cyc_serving::RunFault;
-pub use law::runs_are_sound;
+pub use laws::runs_are_sound;
 pub use report::put_reports;
 pub use run::put_steps;
 pub use script::{replay, run_script};

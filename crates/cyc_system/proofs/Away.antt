@@ -19,7 +19,7 @@ use Rattle.cyc_cpu_laws.specs.Expirations.{Expiration, expirations, times_of, al
 use Rattle.cyc_cpu_laws.specs.Timers.{Timer}
 use Rattle.cyc_everywhere.specs.Rows.{Cyclic, timers}
 use Rattle.cyc_cpu_laws.specs.Cpu.{CpuView, Running, SameCpu}
-use Rattle.cyc_cpu_laws.specs.Law.{IsLawful}
+use Rattle.cyc_cpu_laws.specs.Laws.{IsLawful}
 use Rattle.cyc_cpu_laws.specs.Losses.{IsUnder, IsSpared}
 use Rattle.cyc_cpu_laws.specs.Moving.{Inquires}
 use Rattle.cyc_cpu_laws.specs.Calls.{Changes, Does, Fire, AskSettled, no_interrupts}

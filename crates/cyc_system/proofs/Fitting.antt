@@ -16,7 +16,7 @@ use Rattle.cyc_everywhere.specs.Rows.{Cyclic}
 use Rattle.cyc_cpu_laws.specs.Made.{HasCounts}
 use Rattle.cyc_cpu_laws.specs.Taken.{Taken}
 use Rattle.cyc_cpu_laws.specs.Cpu.{CpuView, HasNoCyclic, HasRisingIds}
-use Rattle.cyc_cpu_laws.specs.Law.{IsLawful}
+use Rattle.cyc_cpu_laws.specs.Laws.{IsLawful}
 use Rattle.cyc_cpu_laws.specs.Calls.{AskPending, Reserve, TakeNow}
 use Rattle.cyc_cpu_laws.specs.Accounts.{expired_of, entered_by, left_by}
 use Rattle.cyc_cpu_laws.proofs.Shifts.{changes_shift, shift_sums}

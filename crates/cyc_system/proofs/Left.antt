@@ -5,7 +5,7 @@ use Rattle.cyc_types.specs.Firing.{FiringView, FiringCall}
 use Rattle.cyc_types.specs.declared.refusal.JuggleReport.{JuggleReport}
 use Rattle.cyc_types.specs.declared.refusal.Refusal.{Refusal}
 use Rattle.cyc_cpu_laws.specs.Cpu.{CpuView}
-use Rattle.cyc_cpu_laws.specs.Law.{IsLawful}
+use Rattle.cyc_cpu_laws.specs.Laws.{IsLawful}
 use Rattle.cyc_cpu_laws.specs.Calls.{AskPending}
 use Rattle.cyc_places.specs.Places.{HasRisingIds}
 use Rattle.cyc_agreement.specs.Cpus.{IsCpu, on}

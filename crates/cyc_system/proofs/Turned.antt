@@ -11,7 +11,7 @@ use Rattle.cyc_types.specs.declared.refusal.JuggleReport.{JuggleReport}
 use Rattle.cyc_everywhere.specs.Rows.{Cyclic}
 use Rattle.cyc_cpu_laws.specs.Cpu.{CpuView}
 use Rattle.cyc_cpu_laws.specs.Gone.{PutsNot}
-use Rattle.cyc_cpu_laws.specs.Law.{IsLawful}
+use Rattle.cyc_cpu_laws.specs.Laws.{IsLawful}
 use Rattle.cyc_cpu_laws.specs.Calls.{CpuCall, Changes, Fire, SoftInterrupt, Add, Place, Reprogram, AskPending, AskTotals, AskRoom}
 use Rattle.cyc_cpu_laws.specs.Calls.{Reserve, Widen, BeginRemove, PollRemove, TakeNow, AskSettled}
 use Rattle.cyc_places.specs.declared.record.Place.TheVariants as stands

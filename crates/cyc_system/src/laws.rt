@@ -7,7 +7,7 @@ ghost use Rattle.cyc_types.specs.declared.moment.When.{When as Series};
 ghost use Rattle.cyc_cpu_laws.specs.Fired.{Fired};
 ghost use Rattle.cyc_cpu_laws.specs.FireRefused.{FireRefused};
 ghost use Rattle.cyc_cpu_laws.specs.Cpu.{CpuView, Running};
-ghost use Rattle.cyc_cpu_laws.specs.Law.{IsLawful};
+ghost use Rattle.cyc_cpu_laws.specs.Laws.{IsLawful};
 ghost use Rattle.cyc_cpu_laws.specs.Calls.{no_interrupts, Fire, AskSettled, Does as CpuDoes, Changes as CpuChanges};
 ghost use Rattle.cyc_agreement.specs.System.{RunningSystem};
 ghost use Rattle.cyc_system.specs.Calls.{SystemCall, Does, Add, AddOmni};

@@ -18,7 +18,7 @@ use Rattle.cyc_fire.specs.declared.fire.Fired.{Fired}
 use Rattle.cyc_fire.specs.declared.fire.FireRefused.{FireRefused}
 use Rattle.cyc_model.specs.Refusals.{first_refusal, or_else, when as if_so}
 use Rattle.cyc_cpu.specs.Cpu.{CpuView, Running, running}
-use Rattle.cyc_cpu.specs.Law.{IsLawful}
+use Rattle.cyc_cpu.specs.Laws.{IsLawful}
 use Rattle.cyc_system_rings.proofs.Lists.{among, true_eq, false_ne}
 use Rattle.cyc_system_rings.proofs.Spots.{none_some}
 use Rattle.cyc_system_rings.proofs.Recording.{found}

@@ -3,7 +3,7 @@ use Rattle.std.specs.Prelude.{◌≡◌, ℕ, ◌≤◌}
 use Rattle.cyc_cpus_laws.specs.Lawful.{Lawful}
 use Rattle.cyc_cpu.specs.Tables.{Tables, level_of}
 use Rattle.cyc_cpu.specs.Cpu.{HasNoCyclic}
-use Rattle.cyc_cpu.specs.Law.{IsLawful}
+use Rattle.cyc_cpu.specs.Laws.{IsLawful}
 use Rattle.cyc_cpu.specs.Soft.{firing_at}
 use Rattle.cyc_cpu.specs.Gone.{IsGone}
 use Rattle.cyc_places.specs.Places.{HasNoRecord}

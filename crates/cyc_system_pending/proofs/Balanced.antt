@@ -14,7 +14,7 @@ use Rattle.cyc_core.specs.FiringSide.{stay_of}
 use Rattle.cyc_fire.specs.declared.fire.Fired.{Fired}
 use Rattle.cyc_fire.specs.declared.fire.FireRefused.{FireRefused}
 use Rattle.cyc_cpu.specs.Cpu.{CpuView, running}
-use Rattle.cyc_cpu.specs.Law.{IsLawful}
+use Rattle.cyc_cpu.specs.Laws.{IsLawful}
 use Rattle.cyc_cpu.specs.Soft.{fires, firing_at, Interrupts}
 use Rattle.cyc_cpu.specs.Calls.{Fire, AskTotals as CpuAskTotals}
 use Rattle.cyc_system_sums.specs.Accounts.{account_of}

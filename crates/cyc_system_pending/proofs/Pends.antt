@@ -19,7 +19,7 @@ use Rattle.cyc_timers.specs.Rows.{timers}
 use Rattle.cyc_fire.specs.declared.fire.Fired.{Fired}
 use Rattle.cyc_fire.specs.declared.fire.FireRefused.{FireRefused}
 use Rattle.cyc_cpu.specs.Cpu.{CpuView, Running, running}
-use Rattle.cyc_cpu.specs.Law.{IsLawful}
+use Rattle.cyc_cpu.specs.Laws.{IsLawful}
 use Rattle.cyc_cpu.specs.Soft.{fires, firing_at, Interrupts}
 use Rattle.cyc_cpu.specs.Calls.{CpuCall, Changes as CpuChanges, Does as CpuDoes, Fire, SoftInterrupt as CpuSoftInterrupt}
 use Rattle.cyc_system_sums.specs.Accounts.{account_of, lost_of}

@@ -20,7 +20,7 @@ use Rattle.cyc_fire.specs.declared.fire.FireRefused.{FireRefused}
 use Rattle.cyc_fire.specs.Acts.{timer_of, is_of, same_level}
 use Rattle.cyc_fire.specs.Shares.{share}
 use Rattle.cyc_cpu.specs.Cpu.{CpuView, Running, running}
-use Rattle.cyc_cpu.specs.Law.{IsLawful}
+use Rattle.cyc_cpu.specs.Laws.{IsLawful}
 use Rattle.cyc_cpu.specs.Calls.{Does as CpuDoes, Fire, no_interrupts}
 use Rattle.cyc_system_laws.specs.Accounts.{made_by, account_of, Proceeds}
 use Rattle.cyc_system_laws.proofs.Accounting.{proceeds_one}

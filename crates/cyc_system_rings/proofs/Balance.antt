@@ -15,7 +15,7 @@ use Rattle.cyc_fire.specs.declared.fire.Fired.{Fired}
 use Rattle.cyc_fire.specs.declared.fire.FireRefused.{FireRefused}
 use Rattle.cyc_timers.specs.Rows.{Cyclic, timers}
 use Rattle.cyc_cpu.specs.Cpu.{CpuView, Running, running, HasNoCyclic}
-use Rattle.cyc_cpu.specs.Law.{IsLawful}
+use Rattle.cyc_cpu.specs.Laws.{IsLawful}
 use Rattle.cyc_cpu.specs.Calls.{Does as CpuDoes, Fire, no_interrupts}
 use Rattle.cyc_system_laws.specs.Accounts.{account_of, made_by, Proceeds, expired_of, lost_of}
 use Rattle.cyc_system_laws.proofs.Accounting.{proceeds_one}

@@ -17,7 +17,7 @@ use Rattle.cyc_fire.specs.declared.fire.Fired.{Fired}
 use Rattle.cyc_fire.specs.declared.fire.FireRefused.{FireRefused}
 use Rattle.cyc_timers.specs.Rows.{timers}
 use Rattle.cyc_cpu.specs.Cpu.{CpuView, Running, running}
-use Rattle.cyc_cpu.specs.Law.{IsLawful}
+use Rattle.cyc_cpu.specs.Laws.{IsLawful}
 use Rattle.cyc_cpu.specs.Calls.{Does as CpuDoes, Fire}
 use Rattle.cyc_expirations.specs.Expirations.{expirations}
 use Rattle.cyc_system_laws.specs.Accounts.{account_of, Proceeds, expired_of, lost_of}

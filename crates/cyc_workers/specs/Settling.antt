@@ -3,7 +3,7 @@ use Rattle.std.specs.Prelude.{List, Bool}
 use Rattle.std.specs.List.{FoldsTo}
 use Rattle.cyc_types.specs.Firing.{FiringView, FiringCall}
 use Rattle.cyc_cpu.specs.Cpu.{CpuView}
-use Rattle.cyc_cpu.specs.Law.{IsLawful}
+use Rattle.cyc_cpu.specs.Laws.{IsLawful}
 use Rattle.cyc_cpu.specs.Calls.{Changes, AskSettled}
 
 -- it was asked once, and is lawful after it

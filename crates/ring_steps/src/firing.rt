@@ -14,7 +14,7 @@ ghost use Rattle.ring_steps.specs.Sides.{IsSeatOf, MakesRaiseStep};
 
 use crate::places::{HARD, MARK, PRODUCERS, SOFT, buffer_at, pend_at};
 use crate::plays::{
-    Add, Admit, Clear, Load, LoadSoftBank, LoadToRaise, Mark, Publish, Served, Store, Switch,
+    AddPlay, AdmitPlay, ClearPlay, LoadPlay, LoadSoftBankPlay, LoadToRaisePlay, MarkPlay, PublishPlay, Served, StorePlay, SwitchPlay,
 };
 use crate::sides::FiringSide;
 use crate::words::Words;
@@ -33,7 +33,7 @@ impl Words {
         firing_steps();
         self.table
             .shared
-            .load::<Admit<J>>(&mut side.seat, pend_at(index));
+            .load::<AdmitPlay<J>>(&mut side.seat, pend_at(index));
     }
 
     /// The load of the pend word of an admitted id: its outstanding calls, with the mark.
@@ -47,7 +47,7 @@ impl Words {
         firing_steps();
         self.table
             .shared
-            .load::<Load<J>>(&mut side.seat, pend_at(index))
+            .load::<LoadPlay<J>>(&mut side.seat, pend_at(index))
     }
 
     /// The load of the pend word that begins a raise. Where it found the ceiling the expiration is lost.
@@ -64,7 +64,7 @@ impl Words {
         firing_steps();
         self.table
             .shared
-            .load::<LoadToRaise<J>>(&mut side.seat, pend_at(index))
+            .load::<LoadToRaisePlay<J>>(&mut side.seat, pend_at(index))
     }
 
     /// The `fetch_add` of 1 on a pend word that was seen below the ceiling.
@@ -81,7 +81,7 @@ impl Words {
         firing_steps();
         self.table
             .shared
-            .fetch_add::<Add<J>>(&mut side.seat, pend_at(index), 1)
+            .fetch_add::<AddPlay<J>>(&mut side.seat, pend_at(index), 1)
     }
 
     /// The store of the hand's entry in the buffer word at the producer index. `mask` is the hard bank's size less one.
@@ -99,7 +99,7 @@ impl Words {
         firing_steps();
         self.table
             .shared
-            .store::<Store<J>>(&mut side.seat, buffer_at(mask, next), value);
+            .store::<StorePlay<J>>(&mut side.seat, buffer_at(mask, next), value);
     }
 
     /// The store of the hard bank's producer word, one higher, after that of the entry.
@@ -114,7 +114,7 @@ impl Words {
         firing_steps();
         self.table
             .shared
-            .store::<Publish<J>>(&mut side.seat, PRODUCERS + bank as usize, next as u64);
+            .store::<PublishPlay<J>>(&mut side.seat, PRODUCERS + bank as usize, next as u64);
     }
 
     /// The `fetch_add` of the mark on the pend word, where no removal is open.
@@ -130,7 +130,7 @@ impl Words {
         firing_steps();
         self.table
             .shared
-            .fetch_add::<Mark<J>>(&mut side.seat, pend_at(index), MARK)
+            .fetch_add::<MarkPlay<J>>(&mut side.seat, pend_at(index), MARK)
     }
 
     /// The store of 0 in the pend word, where the mark was found alone: the stay ends.
@@ -146,7 +146,7 @@ impl Words {
         firing_steps();
         self.table
             .shared
-            .store::<Clear<J>>(&mut side.seat, pend_at(index), 0);
+            .store::<ClearPlay<J>>(&mut side.seat, pend_at(index), 0);
     }
 
     /// The store of a greater hard bank, where the soft side was seen to have followed.
@@ -160,7 +160,7 @@ impl Words {
         firing_steps();
         self.table
             .shared
-            .store::<Switch<J>>(&mut side.seat, HARD, bank);
+            .store::<SwitchPlay<J>>(&mut side.seat, HARD, bank);
     }
 
     /// The load of the soft bank. What was seen to have followed has still followed.
@@ -172,6 +172,6 @@ impl Words {
         firing_steps();
         self.table
             .shared
-            .load::<LoadSoftBank<J>>(&mut side.seat, SOFT)
+            .load::<LoadSoftBankPlay<J>>(&mut side.seat, SOFT)
     }
 }

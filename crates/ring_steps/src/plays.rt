@@ -24,137 +24,137 @@ impl Served for Brand {
 }
 
 // The load that admits an id.
-pub(crate) struct Admit<J> {
+pub(crate) struct AdmitPlay<J> {
     of: PhantomData<J>,
 }
 
-impl<J: Served> Play<(), SeatView> for Admit<J> {
+impl<J: Served> Play<(), SeatView> for AdmitPlay<J> {
     ghost then = { AndStands J.setting (TellsAdmit J.id) };
 }
 
 // The load that begins a raise.
-pub(crate) struct LoadToRaise<J> {
+pub(crate) struct LoadToRaisePlay<J> {
     of: PhantomData<J>,
 }
 
-impl<J: Served> Play<(), SeatView> for LoadToRaise<J> {
+impl<J: Served> Play<(), SeatView> for LoadToRaisePlay<J> {
     ghost then = { AndStands J.setting (TellsLoadToRaise J.id J.setting.ceiling) };
 }
 
 // The `fetch_add` of 1.
-pub(crate) struct Add<J> {
+pub(crate) struct AddPlay<J> {
     of: PhantomData<J>,
 }
 
-impl<J: Served> Play<(), SeatView> for Add<J> {
+impl<J: Served> Play<(), SeatView> for AddPlay<J> {
     ghost then = { AndStands J.setting (TellsAdd J.id) };
 }
 
 // The store of a buffer word.
-pub(crate) struct Store<J> {
+pub(crate) struct StorePlay<J> {
     of: PhantomData<J>,
 }
 
-impl<J: Served> Play<(), SeatView> for Store<J> {
+impl<J: Served> Play<(), SeatView> for StorePlay<J> {
     ghost then = { AndStands J.setting TellsStore };
 }
 
 // The store of a producer word.
-pub(crate) struct Publish<J> {
+pub(crate) struct PublishPlay<J> {
     of: PhantomData<J>,
 }
 
-impl<J: Served> Play<(), SeatView> for Publish<J> {
+impl<J: Served> Play<(), SeatView> for PublishPlay<J> {
     ghost then = { AndStands J.setting TellsPublish };
 }
 
 // The load of a pend word.
-pub(crate) struct Load<J> {
+pub(crate) struct LoadPlay<J> {
     of: PhantomData<J>,
 }
 
-impl<J: Served> Play<(), SeatView> for Load<J> {
+impl<J: Served> Play<(), SeatView> for LoadPlay<J> {
     ghost then = { AndStands J.setting (TellsLoad J.id) };
 }
 
 // The `fetch_add` of the mark.
-pub(crate) struct Mark<J> {
+pub(crate) struct MarkPlay<J> {
     of: PhantomData<J>,
 }
 
-impl<J: Served> Play<(), SeatView> for Mark<J> {
+impl<J: Served> Play<(), SeatView> for MarkPlay<J> {
     ghost then = { AndStands J.setting (TellsMark J.id) };
 }
 
 // The store of 0 that ends a stay.
-pub(crate) struct Clear<J> {
+pub(crate) struct ClearPlay<J> {
     of: PhantomData<J>,
 }
 
-impl<J: Served> Play<(), SeatView> for Clear<J> {
+impl<J: Served> Play<(), SeatView> for ClearPlay<J> {
     ghost then = { AndStands J.setting (TellsClear J.id) };
 }
 
 // The store of the hard bank.
-pub(crate) struct Switch<J> {
+pub(crate) struct SwitchPlay<J> {
     of: PhantomData<J>,
 }
 
-impl<J: Served> Play<(), SeatView> for Switch<J> {
+impl<J: Served> Play<(), SeatView> for SwitchPlay<J> {
     ghost then = { AndStands J.setting TellsSwitch };
 }
 
 // The load of the soft bank.
-pub(crate) struct LoadSoftBank<J> {
+pub(crate) struct LoadSoftBankPlay<J> {
     of: PhantomData<J>,
 }
 
-impl<J: Served> Play<(), SeatView> for LoadSoftBank<J> {
+impl<J: Served> Play<(), SeatView> for LoadSoftBankPlay<J> {
     ghost then = { AndStands J.setting TellsLoadSoftBank };
 }
 
 // The load of the hard bank.
-pub(crate) struct LoadHardBank<J> {
+pub(crate) struct LoadHardBankPlay<J> {
     of: PhantomData<J>,
 }
 
-impl<J: Served> Play<(), SeatView> for LoadHardBank<J> {
+impl<J: Served> Play<(), SeatView> for LoadHardBankPlay<J> {
     ghost then = { AndStands J.setting TellsLoadHardBank };
 }
 
 // The load of a producer word.
-pub(crate) struct LoadProducer<J> {
+pub(crate) struct LoadProducerPlay<J> {
     of: PhantomData<J>,
 }
 
-impl<J: Served> Play<(), SeatView> for LoadProducer<J> {
+impl<J: Served> Play<(), SeatView> for LoadProducerPlay<J> {
     ghost then = { AndStands J.setting TellsLoadProducer };
 }
 
 // The load of a buffer word.
-pub(crate) struct Take<J> {
+pub(crate) struct TakePlay<J> {
     of: PhantomData<J>,
 }
 
-impl<J: Served> Play<(), SeatView> for Take<J> {
+impl<J: Served> Play<(), SeatView> for TakePlay<J> {
     ghost then = { AndStands J.setting TellsTake };
 }
 
 // The `fetch_sub` of 1.
-pub(crate) struct Subtract<J> {
+pub(crate) struct SubtractPlay<J> {
     of: PhantomData<J>,
 }
 
-impl<J: Served> Play<(), SeatView> for Subtract<J> {
+impl<J: Served> Play<(), SeatView> for SubtractPlay<J> {
     ghost then = { AndStands J.setting TellsSubtract };
 }
 
 // The store of the soft bank.
-pub(crate) struct Follow<J> {
+pub(crate) struct FollowPlay<J> {
     of: PhantomData<J>,
 }
 
-impl<J: Served> Play<(), SeatView> for Follow<J> {
+impl<J: Served> Play<(), SeatView> for FollowPlay<J> {
     ghost then = { AndStands J.setting TellsFollow };
 }
 

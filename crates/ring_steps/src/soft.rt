@@ -9,7 +9,7 @@ ghost use Rattle.ring_rule.specs.Trail.{held_entry, soft_bank_of, consumer_index
 ghost use Rattle.ring_steps.specs.Sides.{IsSeatOf, MakesDrainStep};
 
 use crate::places::{HARD, PRODUCERS, SOFT, buffer_at, pend_at};
-use crate::plays::{Follow, LoadHardBank, LoadProducer, Served, Subtract, Take};
+use crate::plays::{FollowPlay, LoadHardBankPlay, LoadProducerPlay, Served, SubtractPlay, TakePlay};
 use crate::sides::SoftSide;
 use crate::words::Words;
 use ring_laws::soft_steps;
@@ -24,7 +24,7 @@ impl Words {
         soft_steps();
         self.table
             .shared
-            .load::<LoadHardBank<J>>(&mut side.seat, HARD)
+            .load::<LoadHardBankPlay<J>>(&mut side.seat, HARD)
     }
 
     /// The load of the producer word of the soft side's bank.
@@ -36,7 +36,7 @@ impl Words {
         soft_steps();
         self.table
             .shared
-            .load::<LoadProducer<J>>(&mut side.seat, PRODUCERS + bank as usize)
+            .load::<LoadProducerPlay<J>>(&mut side.seat, PRODUCERS + bank as usize)
     }
 
     /// The load of the buffer word at the consumer index, which takes its entry. `mask` is the soft side's bank's size less one.
@@ -53,7 +53,7 @@ impl Words {
         soft_steps();
         self.table
             .shared
-            .load::<Take<J>>(&mut side.seat, buffer_at(mask, next))
+            .load::<TakePlay<J>>(&mut side.seat, buffer_at(mask, next))
     }
 
     /// The store of the soft bank, after the old bank was found empty and another hard bank before that.
@@ -68,7 +68,7 @@ impl Words {
         soft_steps();
         self.table
             .shared
-            .store::<Follow<J>>(&mut side.seat, SOFT, bank);
+            .store::<FollowPlay<J>>(&mut side.seat, SOFT, bank);
     }
 
     /// The `fetch_sub` of 1 on the pend word of the cyclic in hand: one call is done.
@@ -81,6 +81,6 @@ impl Words {
         soft_steps();
         self.table
             .shared
-            .fetch_sub::<Subtract<J>>(&mut side.seat, pend_at(index), 1)
+            .fetch_sub::<SubtractPlay<J>>(&mut side.seat, pend_at(index), 1)
     }
 }

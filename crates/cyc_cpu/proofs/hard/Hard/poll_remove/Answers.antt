@@ -10,8 +10,8 @@ use Rattle.cyc_cpu.specs.Removal.{calls_at, HasPolled}
 use Rattle.cyc_cpu.proofs.Lawful.{spared_row}
 use Rattle.cyc_cpu.proofs.Cyclics.{is_cyclic}
 use Rattle.cyc_fire.proofs.Readying.{hard_kept}
-use Rattle.cyc_cpu.proofs.Leaving.{hard_left, polled_left, polls_keep, marked_lock, marked_low, unmarked_lock, unmarked_low}
-use Rattle.cyc_cpu.proofs.Leaving.{cyclics_less, waits_from, ends_from, has_polled, polled_sent}
+use Rattle.cyc_cpu.proofs.Removals.{hard_left, polled_left, polls_keep, marked_lock, marked_low, unmarked_lock, unmarked_low}
+use Rattle.cyc_cpu.proofs.Removals.{cyclics_less, waits_from, ends_from, has_polled, polled_sent}
 use Rattle.cyc_cpu.proofs.hard.Hard.poll_remove.Goals as goal
 
 pub poll_at-requires-clause-lock : goal.poll_at-requires-clause-lock

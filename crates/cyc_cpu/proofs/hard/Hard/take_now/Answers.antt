@@ -11,7 +11,7 @@ use Rattle.cyc_cpu.specs.Removal.{calls_at, HasPolled}
 use Rattle.cyc_cpu.proofs.Lawful.{spared_row}
 use Rattle.cyc_cpu.proofs.Cyclics.{is_cyclic, no_cyclic, asks_from}
 use Rattle.cyc_fire.proofs.Readying.{hard_kept, asks_keep}
-use Rattle.cyc_cpu.proofs.Leaving.{hard_left, taken_left, no_mark, cyclics_less, leaves_from, has_polled, taken_sent}
+use Rattle.cyc_cpu.proofs.Removals.{hard_left, taken_left, no_mark, cyclics_less, leaves_from, has_polled, taken_sent}
 use Rattle.cyc_cpu.proofs.hard.Hard.take_now.Goals as goal
 
 pub returns-in_default-clause-did : goal.returns-in_default-clause-did

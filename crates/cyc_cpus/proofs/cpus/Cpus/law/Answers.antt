@@ -5,7 +5,7 @@ use native.Mathlib.Decide.{ℕ_discrete}
 use Rattle.std.specs.List.{slice_get}
 use Rattle.std.specs.Prelude.{Some}
 use Rattle.cyc_cpu.specs.Cpu.{CpuView}
-use Rattle.cyc_cpu.specs.Law.{IsLawful}
+use Rattle.cyc_cpu.specs.Laws.{IsLawful}
 use Rattle.cyc_cpus.specs.Cpus.{CpusView}
 use Rattle.cyc_cpus.proofs.cpus.Cpus.law.Goals as goal
 

@@ -3,7 +3,7 @@ use Rattle.cyc_types.specs.Firing.{Marks, Polls}
 use Rattle.cyc_types.specs.Runs.{Goes}
 use Rattle.cyc_types.specs.declared.level.Level.TheVariants.{Low, Lock}
 use Rattle.cyc_cpu.specs.Removal.{calls_at}
-use Rattle.cyc_cpu.proofs.ending.remove_at.Goals as goal
+use Rattle.cyc_cpu.proofs.leaving.remove_at.Goals as goal
 
 pub returns-in-High-clause-ended : goal.returns-in-High-clause-ended
 returns-in-High-clause-ended g c none = (

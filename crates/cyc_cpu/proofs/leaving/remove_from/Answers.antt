@@ -1,5 +1,5 @@
-use Rattle.cyc_cpu.proofs.Leaving.{may_poll}
-use Rattle.cyc_cpu.proofs.ending.remove_from.Goals as goal
+use Rattle.cyc_cpu.proofs.Removals.{may_poll}
+use Rattle.cyc_cpu.proofs.leaving.remove_from.Goals as goal
 
 pub poll_clear-requires : goal.poll_clear-requires
 poll_clear-requires g c = may_poll (g.R.Raise.view c.args.end.now)

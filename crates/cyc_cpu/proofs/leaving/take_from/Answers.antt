@@ -1,6 +1,6 @@
 use Rattle.std.proofs.Common.{arith}
-use Rattle.cyc_cpu.proofs.Leaving.{may_mark, seen_now}
-use Rattle.cyc_cpu.proofs.ending.take_from.Goals as goal
+use Rattle.cyc_cpu.proofs.Removals.{may_mark, seen_now}
+use Rattle.cyc_cpu.proofs.leaving.take_from.Goals as goal
 
 pub remove_from-requires : goal.remove_from-requires
 remove_from-requires g c = may_mark (g.R.Raise.view c.args.end.now)

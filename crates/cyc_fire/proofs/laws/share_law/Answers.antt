@@ -1,7 +1,7 @@
 use Rattle.std.proofs.Common.{◌∙◌, ap, ◌+◌}
 use Rattle.cyc_types.specs.declared.level.Level.TheVariants.{Low, Lock, High}
 use Rattle.cyc_fire.proofs.Sharing.{raises_add_up, ids_add_up, whole_share}
-use Rattle.cyc_fire.proofs.law.share_law.Goals as goal
+use Rattle.cyc_fire.proofs.laws.share_law.Goals as goal
 
 pub returns-clause-lock : goal.returns-clause-lock
 returns-clause-lock g c now made cs cs' s s' lost m id = raises_add_up id _ _ m.acts.lock_raises ∙ ids_add_up id Lock _ made

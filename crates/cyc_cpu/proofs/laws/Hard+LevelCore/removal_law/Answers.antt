@@ -1,5 +1,5 @@
 use Rattle.cyc_cpu.proofs.Following.{answered_gone, stays_gone, runs_gone}
-use Rattle.cyc_cpu.proofs.levels.Hard+LevelCore.removal_law.Goals as goal
+use Rattle.cyc_cpu.proofs.laws.Hard+LevelCore.removal_law.Goals as goal
 
 pub returns-clause-left : goal.returns-clause-left
 returns-clause-left g c id w h =
