@@ -31,27 +31,27 @@ type Ring = words::Ring<1, 9>;
 
 /// The words of a ring, of a CPU with so many cyclics.
 struct Words {
-    raiser: words::Raiser<'static, 1, 9>,
+    raise_end: words::RaiseEnd<'static, 1, 9>,
     ids: u16,
 }
 
 impl Firing for Words {
     fn raise(&mut self, id: u64) {
-        self.raiser.raise(id);
+        self.raise_end.raise(id);
     }
 
     fn is_settled(&self) -> bool {
-        self.raiser.is_settled(self.ids)
+        self.raise_end.is_settled(self.ids)
     }
 }
 
-impl Draining for words::Drainer<'static, 1, 9> {
+impl Draining for words::DrainEnd<'static, 1, 9> {
     fn in_hand(&mut self) -> Option<u64> {
-        words::Drainer::in_hand(self)
+        words::DrainEnd::in_hand(self)
     }
 
     fn finish(&mut self) {
-        words::Drainer::finish(self);
+        words::DrainEnd::finish(self);
     }
 }
 
@@ -122,8 +122,8 @@ impl Draining for Taken<Receiver<u64>> {
 /// Both sides over shared words, which live until the process ends.
 pub fn over_words(ids: u16) -> (impl Firing, impl Draining) {
     let ring: &'static Ring = Box::leak(Box::new(Ring::open()));
-    let raiser = words::Raiser::filled(ring, ids);
-    (Words { raiser, ids }, words::Drainer::new(ring))
+    let raise_end = words::RaiseEnd::filled(ring, ids);
+    (Words { raise_end, ids }, words::DrainEnd::new(ring))
 }
 
 fn both<A, B>(firing: A, draining: B) -> (Sent<A>, Taken<B>) {

@@ -7,7 +7,7 @@ mod words;
 
 use std::hint::black_box;
 use std::sync::atomic::{AtomicU64, Ordering::SeqCst};
-use words::{Drainer, HARD, PRODUCERS, Raiser, Ring, pend_word, spread};
+use words::{DrainEnd, HARD, PRODUCERS, RaiseEnd, Ring, pend_word, spread};
 
 unsafe extern "C" {
     fn bench_ring(ids: u16, turns: u64) -> u64;
@@ -24,13 +24,13 @@ fn following(id: u64, ids: u16) -> u64 {
 #[inline(never)]
 fn calls(ids: u16, turns: u64) -> u64 {
     let ring = Ring::<1, 9>::open();
-    let mut raiser = Raiser::filled(&ring, ids);
-    let mut drainer = Drainer::new(&ring);
+    let mut raise_end = RaiseEnd::filled(&ring, ids);
+    let mut drain_end = DrainEnd::new(&ring);
     let mut last = 0;
     let mut id = 1;
     for _ in 0..turns {
-        raiser.raise(id);
-        last += u64::from(drainer.serve());
+        raise_end.raise(id);
+        last += u64::from(drain_end.serve());
         id = following(id, ids);
     }
     last

@@ -13,7 +13,7 @@ use std::process::Command;
 use std::sync::{Mutex, mpsc};
 use std::thread;
 use std::time::Instant;
-use words::{Drainer, Raiser, Ring};
+use words::{DrainEnd, RaiseEnd, Ring};
 
 const IDS: u16 = 256;
 const ITEMS: u64 = 1_000_000;
@@ -31,11 +31,11 @@ fn at_once(raise: impl FnOnce() + Send, serve: impl FnOnce() -> u64) -> f64 {
 
 fn ring<const APART: usize, const SPREAD: usize>() -> f64 {
     let ring = Ring::<APART, SPREAD>::open();
-    let mut raiser = Raiser::filled(&ring, IDS);
-    let mut drainer = Drainer::new(&ring);
+    let mut raise_end = RaiseEnd::filled(&ring, IDS);
+    let mut drain_end = DrainEnd::new(&ring);
     at_once(
-        move || raiser.raise_done(IDS, ITEMS),
-        move || drainer.serve_until(ITEMS),
+        move || raise_end.raise_done(IDS, ITEMS),
+        move || drain_end.serve_until(ITEMS),
     )
 }
 

@@ -64,7 +64,7 @@ impl Finder {
     }
 }
 
-pub struct Raiser<'a, const APART: usize, const SPREAD: usize> {
+pub struct RaiseEnd<'a, const APART: usize, const SPREAD: usize> {
     ring: &'a Ring<APART, SPREAD>,
     finder: Finder,
     ceiling: u32,
@@ -75,10 +75,10 @@ pub struct Raiser<'a, const APART: usize, const SPREAD: usize> {
     next: u32,
 }
 
-impl<'a, const APART: usize, const SPREAD: usize> Raiser<'a, APART, SPREAD> {
+impl<'a, const APART: usize, const SPREAD: usize> RaiseEnd<'a, APART, SPREAD> {
     /// The firing side, switched to the greatest bank, with the ids from 1 to `ids` admitted.
-    pub fn filled(ring: &'a Ring<APART, SPREAD>, ids: u16) -> Raiser<'a, APART, SPREAD> {
-        let mut raiser = Raiser {
+    pub fn filled(ring: &'a Ring<APART, SPREAD>, ids: u16) -> RaiseEnd<'a, APART, SPREAD> {
+        let mut raise_end = RaiseEnd {
             ring,
             finder: Finder {
                 ids: Vec::with_capacity(256),
@@ -95,9 +95,9 @@ impl<'a, const APART: usize, const SPREAD: usize> Raiser<'a, APART, SPREAD> {
         ring.word(HARD).store(8, SeqCst);
         for index in 0..usize::from(ids) {
             ring.word(pend_word::<SPREAD>(index)).load(SeqCst);
-            raiser.finder.insert(index as u64 + 1, index);
+            raise_end.finder.insert(index as u64 + 1, index);
         }
-        raiser
+        raise_end
     }
 
     pub fn raise(&mut self, id: u64) {
@@ -144,7 +144,7 @@ impl<'a, const APART: usize, const SPREAD: usize> Raiser<'a, APART, SPREAD> {
     }
 }
 
-pub struct Drainer<'a, const APART: usize, const SPREAD: usize> {
+pub struct DrainEnd<'a, const APART: usize, const SPREAD: usize> {
     ring: &'a Ring<APART, SPREAD>,
     bank: usize,
     mask: usize,
@@ -152,9 +152,9 @@ pub struct Drainer<'a, const APART: usize, const SPREAD: usize> {
     hand: u64,
 }
 
-impl<'a, const APART: usize, const SPREAD: usize> Drainer<'a, APART, SPREAD> {
-    pub fn new(ring: &'a Ring<APART, SPREAD>) -> Drainer<'a, APART, SPREAD> {
-        Drainer {
+impl<'a, const APART: usize, const SPREAD: usize> DrainEnd<'a, APART, SPREAD> {
+    pub fn new(ring: &'a Ring<APART, SPREAD>) -> DrainEnd<'a, APART, SPREAD> {
+        DrainEnd {
             ring,
             bank: 0,
             mask: 0,

@@ -15,9 +15,9 @@ use std::alloc::Global;
 fn run(alloc: Global, ceiling: Ceiling, ids: u16, turns: u64) -> Result<u64, Refusal>
     requires { (0 < ids) × (ids ≤ cyclics) }
 {
-    let (ring, raiser, drainer) = Ring::open(alloc, ceiling, 0)?;
-    let mut raise = RaiseEnd::new(&ring, raiser);
-    let mut drain = DrainEnd::new(&ring, drainer);
+    let (ring, raise_seat, drain_seat) = Ring::open(alloc, ceiling, 0)?;
+    let mut raise = RaiseEnd::new(&ring, raise_seat);
+    let mut drain = DrainEnd::new(&ring, drain_seat);
     fill(&mut raise, ids);
     Ok(hand_overs(&mut raise, &mut drain, ids, turns))
 }

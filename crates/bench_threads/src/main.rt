@@ -46,9 +46,9 @@ fn wanted<R: Env + Alloc>(rt: &R) -> Result<u64> {
 fn main(rt: HostRuntime) -> Result<()> {
     let count = wanted(&rt)?;
     let ceiling = Ceiling::new(u32::MAX).context("a ceiling")?;
-    let (ring, raiser, drainer) = Ring::open(rt.alloc(), ceiling, 0)?;
-    let mut raise = RaiseEnd::new(&ring, raiser);
-    let drain = DrainEnd::new(&ring, drainer);
+    let (ring, raise_seat, drain_seat) = Ring::open(rt.alloc(), ceiling, 0)?;
+    let mut raise = RaiseEnd::new(&ring, raise_seat);
+    let drain = DrainEnd::new(&ring, drain_seat);
     fill(&mut raise, CYCLICS);
     let start = Instant::now(&rt)?;
     let made = both(&rt, raise, drain, count);

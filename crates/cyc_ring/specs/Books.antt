@@ -9,11 +9,11 @@ use Rattle.cyc_ring.specs.declared.closed.Closed.{Closed}
 
 -- the steps that the firing side made
 abbrev pub closed_raises : Closed → List RaiseStep
-closed_raises c = raise_trail c.raiser.value
+closed_raises c = raise_trail c.raise_seat.value
 
 -- the finishes of each id that the soft side made
 abbrev pub closed_made : Closed → ℕ → ℕ
-closed_made c id = made_calls id (drain_trail c.drainer.value)
+closed_made c id = made_calls id (drain_trail c.drain_seat.value)
 
 -- no cyclic is admitted at the index
 abbrev pub IsFree : ℕ → Closed → Type 0

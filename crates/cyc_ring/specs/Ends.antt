@@ -24,15 +24,15 @@ abbrev pub drain_trail : DrainSeat → List DrainStep
 drain_trail d = d.side.seat.me.0.drain_trail
 
 -- what a seat knows
-abbrev pub raiser_view : RaiseSeat → SeatView
-raiser_view r = r.side.seat.me.0
+abbrev pub raise_seat_view : RaiseSeat → SeatView
+raise_seat_view r = r.side.seat.me.0
 
-abbrev pub drainer_view : DrainSeat → SeatView
-drainer_view d = d.side.seat.me.0
+abbrev pub drain_seat_view : DrainSeat → SeatView
+drain_seat_view d = d.side.seat.me.0
 
 -- the one order of all steps that the two seats made: its sides are their trails, with the places
 abbrev pub IsOrderOf : List RingStep → RaiseSeat → DrainSeat → Type 0
-IsOrderOf log r d = HasRaises log (raiser_view r) × HasDrains log (drainer_view d)
+IsOrderOf log r d = HasRaises log (raise_seat_view r) × HasDrains log (drain_seat_view d)
 
 -- the seat is one of this ring's
 abbrev pub IsRaiseSeatOf : Ring → RaiseSeat → Type 0
@@ -58,7 +58,7 @@ end_view e = seat_view e.seat
 -- a call at a raise end, with its answer
 abbrev pub RaiseEndCall : RaiseEnd → FiringCall → RaiseEnd → Type 0
 RaiseEndCall e call f = IsSameRaiseSeat e.seat f.seat
-    × MakesRaiseCall e.seat.setting (raiser_view e.seat) call (raiser_view f.seat)
+    × MakesRaiseCall e.seat.setting (raise_seat_view e.seat) call (raise_seat_view f.seat)
 
 -- the cyclic in the hand of a drain seat, and its finishes of each id
 abbrev pub seat_hand : DrainSeat → Option ℕ
@@ -77,7 +77,7 @@ end_made e id = seat_made e.seat id
 -- a call at a drain end, with its answer
 abbrev pub DrainEndCall : DrainEnd → DrainCall → DrainEnd → Type 0
 DrainEndCall e call f = IsSameDrainSeat e.seat f.seat
-    × MakesDrainCall e.seat.setting (drainer_view e.seat) call (drainer_view f.seat)
+    × MakesDrainCall e.seat.setting (drain_seat_view e.seat) call (drain_seat_view f.seat)
 
 -- the trail gained, last, a load of the hard bank that found the soft side's bank, then a load of its producer word that found
 -- the consumer index

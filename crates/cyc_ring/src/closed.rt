@@ -34,21 +34,21 @@ pub struct Book {
 pub struct Closed {
     stays: Box<Stays>,
     pends: [u64; INDEXES],
-    raiser: Snapshot<RaiseSeat>,
-    drainer: Snapshot<DrainSeat>,
-    ghost rows: { HoldsStays stays.value.ids stays.value.sent stays.value.lost raiser.value.side.seat.me.0.raise_trail },
+    raise_seat: Snapshot<RaiseSeat>,
+    drain_seat: Snapshot<DrainSeat>,
+    ghost rows: { HoldsStays stays.value.ids stays.value.sent stays.value.lost raise_seat.value.side.seat.me.0.raise_trail },
     ghost named: { (i : ℕ) → i < cyclics → slice_index stays.value.ids i ≤ last_id },
     ghost counted: { (i : ℕ) → i < cyclics → slice_index stays.value.ids i ≢ 0
         → slice_index stays.value.lost i + slice_index pends i % mark_bit ≤ slice_index stays.value.sent i },
     ghost finished: { (i : ℕ) → i < cyclics → slice_index stays.value.ids i ≢ 0
-        → made_calls (slice_index stays.value.ids i) drainer.value.side.seat.me.0.drain_trail + slice_index stays.value.lost i
+        → made_calls (slice_index stays.value.ids i) drain_seat.value.side.seat.me.0.drain_trail + slice_index stays.value.lost i
         + slice_index pends i % mark_bit ≡ slice_index stays.value.sent i + ended_calls
-        (slice_index stays.value.ids i) raiser.value.side.seat.me.0.raise_trail },
+        (slice_index stays.value.ids i) raise_seat.value.side.seat.me.0.raise_trail },
     ghost marked: { (i : ℕ) → i < cyclics → slice_index stays.value.ids i ≢ 0
-        → marked_of raiser.value.side.seat.me.0.raise_trail ≡ Some (slice_index stays.value.ids i)
+        → marked_of raise_seat.value.side.seat.me.0.raise_trail ≡ Some (slice_index stays.value.ids i)
         → mark_bit ≤ slice_index pends i },
     ghost unmarked: { (i : ℕ) → i < cyclics → slice_index stays.value.ids i ≢ 0
-        → marked_of raiser.value.side.seat.me.0.raise_trail ≢ Some (slice_index stays.value.ids i)
+        → marked_of raise_seat.value.side.seat.me.0.raise_trail ≢ Some (slice_index stays.value.ids i)
         → slice_index pends i < mark_bit },
 }
 
@@ -60,15 +60,15 @@ impl Ring {
 
     /// Ends the ring, whose two seats are given back, and keeps the counts of each index. There is one order of all steps that
     /// the two sides made, and a lawful level stood before and after each of them. Takes no memory and doesn't wait.
-    pub fn close(self, raiser: RaiseSeat, drainer: DrainSeat) -> Closed
-        requires raiser { IsRaiseSeatOf self raiser }
-        requires drainer { IsDrainSeatOf self drainer }
-        ensures seats { (result.raiser.value ≡ raiser) × (result.drainer.value ≡ drainer) }
-        ensures stands { (log : List RingStep) × IsOrderOf log raiser drainer × AllStood self.setting log }
-        ensures accounted { IsAccounted (raise_trail raiser) (drain_trail drainer) }
+    pub fn close(self, raise_seat: RaiseSeat, drain_seat: DrainSeat) -> Closed
+        requires raise_seat { IsRaiseSeatOf self raise_seat }
+        requires drain_seat { IsDrainSeatOf self drain_seat }
+        ensures seats { (result.raise_seat.value ≡ raise_seat) × (result.drain_seat.value ≡ drain_seat) }
+        ensures stands { (log : List RingStep) × IsOrderOf log raise_seat drain_seat × AllStood self.setting log }
+        ensures accounted { IsAccounted (raise_trail raise_seat) (drain_trail drain_seat) }
     {
-        let known = Snapshot::of(&raiser);
-        let done = Snapshot::of(&drainer);
+        let known = Snapshot::of(&raise_seat);
+        let done = Snapshot::of(&drain_seat);
         let Ring { words, setting: _ } = self;
         let RaiseSeat {
             side: firing,
@@ -78,7 +78,7 @@ impl Ring {
             bank: _,
             mask: _,
             next: _,
-        } = raiser;
+        } = raise_seat;
         let DrainSeat {
             side: soft,
             setting: _,
@@ -86,14 +86,14 @@ impl Ring {
             mask: _,
             next: _,
             hand: _,
-        } = drainer;
+        } = drain_seat;
         let both = words.join(firing, soft);
         let pends = words.close(both);
         Closed {
             stays,
             pends,
-            raiser: known,
-            drainer: done,
+            raise_seat: known,
+            drain_seat: done,
         }
     }
 }

@@ -40,8 +40,8 @@ impl Ring {
             start,
         };
         let (firing, soft) = words.split(both);
-        let raiser = RaiseSeat::new(alloc, firing, setting)?;
-        let drainer = DrainSeat::new(soft, setting);
-        Ok((Ring { words, setting }, raiser, drainer))
+        let raise_seat = RaiseSeat::new(alloc, firing, setting)?;
+        let drain_seat = DrainSeat::new(soft, setting);
+        Ok((Ring { words, setting }, raise_seat, drain_seat))
     }
 }

@@ -6,8 +6,8 @@ ghost use Rattle.cyc_ring.specs.Ends.{IsRaiseSeatOf, IsDrainSeatOf};
 use crate::help::{Counts, book, expect, open};
 use cyc_ring::{Closed, DrainSeat, Ring};
 use cyc_types::{CyclicId, Finished, GREATEST_BANK, Index, Raised};
-use ring_sides::drainer::Drainer;
-use ring_sides::firer::{Firer, KnownSeat, NotAllowed};
+use ring_sides::soft_side::SoftSide;
+use ring_sides::firing_side::{FiringSide, KnownSeat, NotAllowed};
 use std::alloc::Global;
 use std::test::Fail;
 
@@ -16,61 +16,61 @@ fn id_at(index: u16) -> Result<CyclicId, NotAllowed> {
 }
 
 /// Switches to the greatest bank, and admits an id at each index.
-fn fill(firer: &mut Firer) -> Result<(), NotAllowed>
-    ensures { firer.new.ring.now ≡ firer.old.ring.now }
+fn fill(firing_side: &mut FiringSide) -> Result<(), NotAllowed>
+    ensures { firing_side.new.ring.now ≡ firing_side.old.ring.now }
 {
-    firer.expand(GREATEST_BANK)?;
+    firing_side.expand(GREATEST_BANK)?;
     for i in 0..256u16 {
-        firer.admit(id_at(i)?, Index::new(i).ok_or(NotAllowed)?)?;
+        firing_side.admit(id_at(i)?, Index::new(i).ok_or(NotAllowed)?)?;
     }
     Ok(())
 }
 
 /// Raises each id once, so that the buffer is full: whether each was its cyclic's first outstanding call.
-fn raise_each(firer: &mut Firer) -> Result<bool, NotAllowed>
-    ensures { firer.new.ring.now ≡ firer.old.ring.now }
+fn raise_each(firing_side: &mut FiringSide) -> Result<bool, NotAllowed>
+    ensures { firing_side.new.ring.now ≡ firing_side.old.ring.now }
 {
     let mut first = true;
     for i in 0..256u16 {
-        let raised = firer.raise(id_at(i)?)?;
+        let raised = firing_side.raise(id_at(i)?)?;
         first = first && raised == Raised::First;
     }
     Ok(first)
 }
 
 /// Takes and finishes the 256 calls of a full buffer: whether they came in the order of their raises.
-fn serve_each(drainer: &mut Drainer) -> Result<bool, NotAllowed>
-    ensures { drainer.new.ring.now ≡ drainer.old.ring.now }
+fn serve_each(soft_side: &mut SoftSide) -> Result<bool, NotAllowed>
+    ensures { soft_side.new.ring.now ≡ soft_side.old.ring.now }
 {
     let mut in_order = true;
     for i in 0..256u16 {
-        let taken = drainer.take()?;
-        in_order = in_order && taken == Some(id_at(i)?) && drainer.finish()? == Finished::Last;
+        let taken = soft_side.take()?;
+        in_order = in_order && taken == Some(id_at(i)?) && soft_side.finish()? == Finished::Last;
     }
     Ok(in_order)
 }
 
 /// Fills the greatest bank and empties it, three times.
-fn rounds(firer: &mut Firer, drainer: &mut Drainer) -> Result<bool, NotAllowed>
-    ensures firer { firer.new.ring.now ≡ firer.old.ring.now }
-    ensures drainer { drainer.new.ring.now ≡ drainer.old.ring.now }
+fn rounds(firing_side: &mut FiringSide, soft_side: &mut SoftSide) -> Result<bool, NotAllowed>
+    ensures firing_side { firing_side.new.ring.now ≡ firing_side.old.ring.now }
+    ensures soft_side { soft_side.new.ring.now ≡ soft_side.old.ring.now }
 {
     let mut right = true;
-    fill(firer)?;
+    fill(firing_side)?;
     for round in 0..3u8 {
-        right = right && raise_each(firer)? && serve_each(drainer)?;
+        right = right && raise_each(firing_side)? && serve_each(soft_side)?;
     }
-    Ok(right && firer.followed())
+    Ok(right && firing_side.followed())
 }
 
-fn goes_round(ring: &Ring, raiser: KnownSeat, drainer: DrainSeat) -> (KnownSeat, DrainSeat, bool)
-    requires { IsRaiseSeatOf ring.now raiser.seat × IsDrainSeatOf ring.now drainer }
+fn goes_round(ring: &Ring, raise_seat: KnownSeat, drain_seat: DrainSeat) -> (KnownSeat, DrainSeat, bool)
+    requires { IsRaiseSeatOf ring.now raise_seat.seat × IsDrainSeatOf ring.now drain_seat }
     ensures { IsRaiseSeatOf ring.now result.0.seat × IsDrainSeatOf ring.now result.1 }
 {
-    let mut firer = Firer::new(ring, raiser);
-    let mut end = Drainer::new(ring, drainer);
-    let right = rounds(&mut firer, &mut end) == Ok(true);
-    (firer.into_seat(), end.into_seat(), right)
+    let mut firing_side = FiringSide::new(ring, raise_seat);
+    let mut end = SoftSide::new(ring, drain_seat);
+    let right = rounds(&mut firing_side, &mut end) == Ok(true);
+    (firing_side.into_seat(), end.into_seat(), right)
 }
 
 /// Whether each index has a book of three calls that are done.
@@ -79,9 +79,9 @@ fn three_each(closed: &Closed) -> bool {
 }
 
 fn closed_after(alloc: Global, start: u32) -> Result<(bool, bool), Fail> {
-    let (ring, raiser, drainer) = open(alloc, 1, start)?;
-    let (raiser, drainer, right) = goes_round(&ring, raiser, drainer);
-    let closed = ring.close(raiser.seat(), drainer);
+    let (ring, raise_seat, drain_seat) = open(alloc, 1, start)?;
+    let (raise_seat, drain_seat, right) = goes_round(&ring, raise_seat, drain_seat);
+    let closed = ring.close(raise_seat.seat(), drain_seat);
     Ok((right, three_each(&closed)))
 }
 

@@ -7,7 +7,7 @@ use crate::help::{Books, books, expect, open};
 use crate::play::{Call, Differs, play};
 use crate::rows::{Worked, closed_early, worked_rings};
 use cyc_ring::{DrainSeat, Ring};
-use ring_sides::firer::KnownSeat;
+use ring_sides::firing_side::KnownSeat;
 use std::alloc::Global;
 use std::process::Abort;
 use std::test::Fail;
@@ -17,14 +17,14 @@ use std::thread::{Threads, join};
 fn elsewhere<R: Threads>(
     rt: &R,
     ring: &Ring,
-    raiser: KnownSeat,
-    drainer: DrainSeat,
+    raise_seat: KnownSeat,
+    drain_seat: DrainSeat,
     calls: &[Call],
 ) -> (KnownSeat, DrainSeat, Differs)
-    requires { IsRaiseSeatOf ring.now raiser.seat × IsDrainSeatOf ring.now drainer }
+    requires { IsRaiseSeatOf ring.now raise_seat.seat × IsDrainSeatOf ring.now drain_seat }
     ensures { IsRaiseSeatOf ring.now result.0.seat × IsDrainSeatOf ring.now result.1 }
 {
-    let (made, ()) = join(rt, || play(ring, raiser, drainer, calls), || ());
+    let (made, ()) = join(rt, || play(ring, raise_seat, drain_seat, calls), || ());
     made
 }
 
@@ -32,13 +32,13 @@ fn elsewhere<R: Threads>(
 fn goes_round<R: Threads>(
     rt: &R,
     ring: &Ring,
-    raiser: KnownSeat,
-    drainer: DrainSeat,
+    raise_seat: KnownSeat,
+    drain_seat: DrainSeat,
     calls: &[Call],
     k: usize,
     m: usize,
 ) -> (KnownSeat, DrainSeat, [Differs; 4])
-    requires own { IsRaiseSeatOf ring.now raiser.seat × IsDrainSeatOf ring.now drainer }
+    requires own { IsRaiseSeatOf ring.now raise_seat.seat × IsDrainSeatOf ring.now drain_seat }
     requires order { k ≤ m }
     requires within { m ≤ length calls.now }
     ensures { IsRaiseSeatOf ring.now result.0.seat × IsDrainSeatOf ring.now result.1 }
@@ -46,11 +46,11 @@ fn goes_round<R: Threads>(
     let (first, others) = calls.split_at(k);
     let (second, rest) = others.split_at(m - k);
     let (third, last) = rest.split_at(rest.len().min(1));
-    let (raiser, drainer, at_first) = play(ring, raiser, drainer, first);
-    let (raiser, drainer, at_second) = elsewhere(rt, ring, raiser, drainer, second);
-    let (raiser, drainer, at_third) = elsewhere(rt, ring, raiser, drainer, third);
-    let (raiser, drainer, at_last) = play(ring, raiser, drainer, last);
-    (raiser, drainer, [at_first, at_second, at_third, at_last])
+    let (raise_seat, drain_seat, at_first) = play(ring, raise_seat, drain_seat, first);
+    let (raise_seat, drain_seat, at_second) = elsewhere(rt, ring, raise_seat, drain_seat, second);
+    let (raise_seat, drain_seat, at_third) = elsewhere(rt, ring, raise_seat, drain_seat, third);
+    let (raise_seat, drain_seat, at_last) = play(ring, raise_seat, drain_seat, last);
+    (raise_seat, drain_seat, [at_first, at_second, at_third, at_last])
 }
 
 /// The calls that differ, and the books, where the seats go round so.
@@ -64,9 +64,9 @@ fn closed_after<R: Threads>(
     requires order { k ≤ m }
     requires within { m ≤ length worked.now.calls.now }
 {
-    let (ring, raiser, drainer) = open(alloc, worked.ceiling, worked.start)?;
-    let (raiser, drainer, differs) = goes_round(rt, &ring, raiser, drainer, worked.calls, k, m);
-    let closed = ring.close(raiser.seat(), drainer);
+    let (ring, raise_seat, drain_seat) = open(alloc, worked.ceiling, worked.start)?;
+    let (raise_seat, drain_seat, differs) = goes_round(rt, &ring, raise_seat, drain_seat, worked.calls, k, m);
+    let closed = ring.close(raise_seat.seat(), drain_seat);
     Ok((differs, books(&closed)))
 }
 

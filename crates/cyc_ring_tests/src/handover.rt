@@ -10,8 +10,8 @@ use crate::rows::{Worked, worked_rings};
 use cyc_ring::{DrainSeat, Ring};
 use cyc_soft::{Ran, SoftRefused};
 use cyc_types::{CyclicId, Raised, Tally};
-use ring_sides::drainer::Drainer;
-use ring_sides::firer::KnownSeat;
+use ring_sides::soft_side::SoftSide;
+use ring_sides::firing_side::KnownSeat;
 use std::alloc::Global;
 use std::test::Fail;
 use std::thread::{Threads, join};
@@ -20,19 +20,19 @@ use std::thread::{Threads, join};
 fn handed_over<R: Threads>(
     rt: &R,
     ring: &Ring,
-    raiser: KnownSeat,
-    drainer: DrainSeat,
+    raise_seat: KnownSeat,
+    drain_seat: DrainSeat,
     calls: &[Call],
     k: usize,
 ) -> (KnownSeat, DrainSeat, [Differs; 2])
-    requires own { IsRaiseSeatOf ring.now raiser.seat × IsDrainSeatOf ring.now drainer }
+    requires own { IsRaiseSeatOf ring.now raise_seat.seat × IsDrainSeatOf ring.now drain_seat }
     requires within { k ≤ length calls.now }
     ensures { IsRaiseSeatOf ring.now result.0.seat × IsDrainSeatOf ring.now result.1 }
 {
     let (first, rest) = calls.split_at(k);
-    let (raiser, drainer, before) = play(ring, raiser, drainer, first);
-    let ((raiser, drainer, after), ()) = join(rt, || play(ring, raiser, drainer, rest), || ());
-    (raiser, drainer, [before, after])
+    let (raise_seat, drain_seat, before) = play(ring, raise_seat, drain_seat, first);
+    let ((raise_seat, drain_seat, after), ()) = join(rt, || play(ring, raise_seat, drain_seat, rest), || ());
+    (raise_seat, drain_seat, [before, after])
 }
 
 /// The calls that differ, and the books, where another thread goes on after the first `k` calls.
@@ -44,9 +44,9 @@ fn closed_after<R: Threads>(
 ) -> Result<([Differs; 2], Books), Fail>
     requires { k ≤ length worked.now.calls.now }
 {
-    let (ring, raiser, drainer) = open(alloc, worked.ceiling, worked.start)?;
-    let (raiser, drainer, differs) = handed_over(rt, &ring, raiser, drainer, worked.calls, k);
-    let closed = ring.close(raiser.seat(), drainer);
+    let (ring, raise_seat, drain_seat) = open(alloc, worked.ceiling, worked.start)?;
+    let (raise_seat, drain_seat, differs) = handed_over(rt, &ring, raise_seat, drain_seat, worked.calls, k);
+    let closed = ring.close(raise_seat.seat(), drain_seat);
     Ok((differs, books(&closed)))
 }
 
@@ -72,13 +72,13 @@ const THREE_PENDING: [Call; 4] = [
 /// A soft interrupt with a budget of one call.
 fn makes_one(
     ring: &Ring,
-    drainer: DrainSeat,
+    drain_seat: DrainSeat,
     mut tally: Tally,
 ) -> (DrainSeat, Result<Ran, SoftRefused>)
-    requires { IsDrainSeatOf ring.now drainer }
+    requires { IsDrainSeatOf ring.now drain_seat }
     ensures { IsDrainSeatOf ring.now result.0 }
 {
-    let mut end = Drainer::new(ring, drainer);
+    let mut end = SoftSide::new(ring, drain_seat);
     let ran = end.softint(&mut tally, 1);
     (end.into_seat(), ran)
 }
@@ -92,11 +92,11 @@ struct Met {
     ran: Result<Ran, SoftRefused>,
 }
 
-fn meets(ring: &Ring, drainer: DrainSeat, mut calls: RefusesFirst) -> (DrainSeat, Met)
-    requires { IsDrainSeatOf ring.now drainer }
+fn meets(ring: &Ring, drain_seat: DrainSeat, mut calls: RefusesFirst) -> (DrainSeat, Met)
+    requires { IsDrainSeatOf ring.now drain_seat }
     ensures { IsDrainSeatOf ring.now result.0 }
 {
-    let mut end = Drainer::new(ring, drainer);
+    let mut end = SoftSide::new(ring, drain_seat);
     let hand = end.hand();
     let refused = end.softint(&mut calls, 8);
     let hand_then = end.hand();
@@ -113,22 +113,22 @@ fn meets(ring: &Ring, drainer: DrainSeat, mut calls: RefusesFirst) -> (DrainSeat
 fn meets_elsewhere<R: Threads>(
     rt: &R,
     ring: &Ring,
-    drainer: DrainSeat,
+    drain_seat: DrainSeat,
     calls: RefusesFirst,
 ) -> (DrainSeat, Met)
-    requires { IsDrainSeatOf ring.now drainer }
+    requires { IsDrainSeatOf ring.now drain_seat }
     ensures { IsDrainSeatOf ring.now result.0 }
 {
-    let (met, ()) = join(rt, || meets(ring, drainer, calls), || ());
+    let (met, ()) = join(rt, || meets(ring, drain_seat, calls), || ());
     met
 }
 
 /// The book of a ring with three expirations of one cyclic, of which a soft interrupt with a budget of one call made one.
 fn stopped(alloc: Global, tally: Tally) -> Result<(Result<Ran, SoftRefused>, Books), Fail> {
-    let (ring, raiser, drainer) = open(alloc, 5, 0)?;
-    let (raiser, drainer, _) = play(&ring, raiser, drainer, &THREE_PENDING);
-    let (drainer, ran) = makes_one(&ring, drainer, tally);
-    let closed = ring.close(raiser.seat(), drainer);
+    let (ring, raise_seat, drain_seat) = open(alloc, 5, 0)?;
+    let (raise_seat, drain_seat, _) = play(&ring, raise_seat, drain_seat, &THREE_PENDING);
+    let (drain_seat, ran) = makes_one(&ring, drain_seat, tally);
+    let closed = ring.close(raise_seat.seat(), drain_seat);
     Ok((ran, books(&closed)))
 }
 
@@ -139,11 +139,11 @@ fn went_on<R: Threads>(
     tally: Tally,
     calls: RefusesFirst,
 ) -> Result<(Met, Books), Fail> {
-    let (ring, raiser, drainer) = open(alloc, 5, 0)?;
-    let (raiser, drainer, _) = play(&ring, raiser, drainer, &THREE_PENDING);
-    let (drainer, _) = makes_one(&ring, drainer, tally);
-    let (drainer, met) = meets_elsewhere(rt, &ring, drainer, calls);
-    let closed = ring.close(raiser.seat(), drainer);
+    let (ring, raise_seat, drain_seat) = open(alloc, 5, 0)?;
+    let (raise_seat, drain_seat, _) = play(&ring, raise_seat, drain_seat, &THREE_PENDING);
+    let (drain_seat, _) = makes_one(&ring, drain_seat, tally);
+    let (drain_seat, met) = meets_elsewhere(rt, &ring, drain_seat, calls);
+    let closed = ring.close(raise_seat.seat(), drain_seat);
     Ok((met, books(&closed)))
 }
 

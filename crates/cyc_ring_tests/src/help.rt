@@ -5,7 +5,7 @@ ghost use Rattle.cyc_ring.specs.Ends.{IsRaiseSeatOf, IsDrainSeatOf};
 
 use cyc_ring::{Closed, DrainSeat, Ring};
 use cyc_types::{Ceiling, CyclicId, Index};
-use ring_sides::firer::KnownSeat;
+use ring_sides::firing_side::KnownSeat;
 use std::alloc::Global;
 use std::fmt::Debug;
 use std::process::Abort;

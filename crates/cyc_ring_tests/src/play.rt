@@ -4,8 +4,8 @@ ghost use Rattle.cyc_ring.specs.Ends.{IsRaiseSeatOf, IsDrainSeatOf};
 
 use cyc_ring::{DrainSeat, Ring};
 use cyc_types::{CyclicId, Finished, Index, Raised, Sent};
-use ring_sides::drainer::Drainer;
-use ring_sides::firer::{Firer, KnownSeat, NotAllowed};
+use ring_sides::soft_side::SoftSide;
+use ring_sides::firing_side::{FiringSide, KnownSeat, NotAllowed};
 
 /// A call with its answer; ids and indexes by their numbers.
 #[derive(Clone, Copy)]
@@ -27,19 +27,19 @@ pub(crate) enum Call {
 pub(crate) type Differs = Option<usize>;
 
 // A call about one cyclic; whether it had its answer.
-fn asks(firer: &mut Firer, id: CyclicId, call: Call) -> bool
-    ensures { firer.new.ring.now ≡ firer.old.ring.now }
+fn asks(firing_side: &mut FiringSide, id: CyclicId, call: Call) -> bool
+    ensures { firing_side.new.ring.now ≡ firing_side.old.ring.now }
 {
     match call {
         Call::Admit(_, index) => match Index::new(index) {
-            Some(index) => firer.admit(id, index) == Ok(()),
+            Some(index) => firing_side.admit(id, index) == Ok(()),
             None => false,
         },
-        Call::Load(_, want) => firer.load_pend(id) == Ok(want),
-        Call::Raise(_, want) => firer.raise(id) == Ok(want),
-        Call::Mark(_, want) => firer.mark(id) == Ok(want),
-        Call::PollClear(_, want) => firer.poll_clear(id) == Ok(want),
-        Call::Counts(_, want) => firer.sent(id) == Ok(want),
+        Call::Load(_, want) => firing_side.load_pend(id) == Ok(want),
+        Call::Raise(_, want) => firing_side.raise(id) == Ok(want),
+        Call::Mark(_, want) => firing_side.mark(id) == Ok(want),
+        Call::PollClear(_, want) => firing_side.poll_clear(id) == Ok(want),
+        Call::Counts(_, want) => firing_side.sent(id) == Ok(want),
         _ => false,
     }
 }
@@ -58,39 +58,39 @@ fn cyclic_of(call: Call) -> Option<CyclicId> {
 }
 
 // The number of the cyclic that was taken.
-fn taken(drainer: &mut Drainer) -> Result<Option<u64>, NotAllowed>
-    ensures { drainer.new.ring.now ≡ drainer.old.ring.now }
+fn taken(soft_side: &mut SoftSide) -> Result<Option<u64>, NotAllowed>
+    ensures { soft_side.new.ring.now ≡ soft_side.old.ring.now }
 {
-    match drainer.take()? {
+    match soft_side.take()? {
         Some(id) => Ok(Some(id.number())),
         None => Ok(None),
     }
 }
 
 // A call of either side; whether it had its answer.
-fn has_answer(firer: &mut Firer, drainer: &mut Drainer, call: Call) -> bool
-    ensures firer { firer.new.ring.now ≡ firer.old.ring.now }
-    ensures drainer { drainer.new.ring.now ≡ drainer.old.ring.now }
+fn has_answer(firing_side: &mut FiringSide, soft_side: &mut SoftSide, call: Call) -> bool
+    ensures firing_side { firing_side.new.ring.now ≡ firing_side.old.ring.now }
+    ensures soft_side { soft_side.new.ring.now ≡ soft_side.old.ring.now }
 {
     match call {
-        Call::Expand(bank) => firer.expand(bank) == Ok(()),
-        Call::Followed(want) => firer.followed() == want,
-        Call::Take(want) => taken(drainer) == Ok(want),
-        Call::Finish(want) => drainer.finish() == Ok(want),
+        Call::Expand(bank) => firing_side.expand(bank) == Ok(()),
+        Call::Followed(want) => firing_side.followed() == want,
+        Call::Take(want) => taken(soft_side) == Ok(want),
+        Call::Finish(want) => soft_side.finish() == Ok(want),
         _ => match cyclic_of(call) {
-            Some(id) => asks(firer, id, call),
+            Some(id) => asks(firing_side, id, call),
             None => false,
         },
     }
 }
 
 // Makes these calls in order, up to the first that differs.
-fn makes(firer: &mut Firer, drainer: &mut Drainer, calls: &[Call]) -> Differs
-    ensures firer { firer.new.ring.now ≡ firer.old.ring.now }
-    ensures drainer { drainer.new.ring.now ≡ drainer.old.ring.now }
+fn makes(firing_side: &mut FiringSide, soft_side: &mut SoftSide, calls: &[Call]) -> Differs
+    ensures firing_side { firing_side.new.ring.now ≡ firing_side.old.ring.now }
+    ensures soft_side { soft_side.new.ring.now ≡ soft_side.old.ring.now }
 {
     for (i, call) in calls.iter().enumerate() {
-        if !has_answer(firer, drainer, *call) {
+        if !has_answer(firing_side, soft_side, *call) {
             return Some(i);
         }
     }
@@ -100,15 +100,15 @@ fn makes(firer: &mut Firer, drainer: &mut Drainer, calls: &[Call]) -> Differs
 /// Goes on with the seats of a ring by these calls, up to the first that differs.
 pub(crate) fn play(
     ring: &Ring,
-    raiser: KnownSeat,
-    drainer: DrainSeat,
+    raise_seat: KnownSeat,
+    drain_seat: DrainSeat,
     calls: &[Call],
 ) -> (KnownSeat, DrainSeat, Differs)
-    requires { IsRaiseSeatOf ring.now raiser.seat × IsDrainSeatOf ring.now drainer }
+    requires { IsRaiseSeatOf ring.now raise_seat.seat × IsDrainSeatOf ring.now drain_seat }
     ensures { IsRaiseSeatOf ring.now result.0.seat × IsDrainSeatOf ring.now result.1 }
 {
-    let mut firer = Firer::new(ring, raiser);
-    let mut end = Drainer::new(ring, drainer);
-    let differs = makes(&mut firer, &mut end, calls);
-    (firer.into_seat(), end.into_seat(), differs)
+    let mut firing_side = FiringSide::new(ring, raise_seat);
+    let mut end = SoftSide::new(ring, drain_seat);
+    let differs = makes(&mut firing_side, &mut end, calls);
+    (firing_side.into_seat(), end.into_seat(), differs)
 }

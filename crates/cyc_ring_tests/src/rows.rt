@@ -13,9 +13,9 @@ fn closed_after(
     start: u32,
     calls: &[Call],
 ) -> Result<(Differs, Books), Fail> {
-    let (ring, raiser, drainer) = open(alloc, ceiling, start)?;
-    let (raiser, drainer, differs) = play(&ring, raiser, drainer, calls);
-    let closed = ring.close(raiser.seat(), drainer);
+    let (ring, raise_seat, drain_seat) = open(alloc, ceiling, start)?;
+    let (raise_seat, drain_seat, differs) = play(&ring, raise_seat, drain_seat, calls);
+    let closed = ring.close(raise_seat.seat(), drain_seat);
     Ok((differs, books(&closed)))
 }
 

@@ -6,31 +6,31 @@ use crate::help::{Counts, book, expect, id, open};
 use crate::play::{Call, play};
 use cyc_ring::{DrainSeat, Ring};
 use cyc_types::{CyclicId, Raised};
-use ring_sides::drainer::Drainer;
-use ring_sides::firer::{Firer, KnownSeat, NotAllowed};
+use ring_sides::soft_side::SoftSide;
+use ring_sides::firing_side::{FiringSide, KnownSeat, NotAllowed};
 use std::alloc::Global;
 use std::sync::atomic::{AtomicBool, Ordering};
 use std::test::Fail;
 use std::thread::{Threads, join, yield_now};
 
 /// Raises the id this many times.
-fn raise_times(ring: &Ring, raiser: KnownSeat, id: CyclicId, times: u32) -> KnownSeat
-    requires { IsRaiseSeatOf ring.now raiser.seat }
+fn raise_times(ring: &Ring, raise_seat: KnownSeat, id: CyclicId, times: u32) -> KnownSeat
+    requires { IsRaiseSeatOf ring.now raise_seat.seat }
     ensures { IsRaiseSeatOf ring.now result.seat }
 {
-    let mut firer = Firer::new(ring, raiser);
+    let mut firing_side = FiringSide::new(ring, raise_seat);
     for raised in 0..times {
-        let _ = firer.raise(id);
+        let _ = firing_side.raise(id);
     }
-    firer.into_seat()
+    firing_side.into_seat()
 }
 
 /// Takes and finishes until so many calls are finished or so many turns are made.
-fn drain_until(ring: &Ring, drainer: DrainSeat, finishes: u32, turns: u32) -> (DrainSeat, u32)
-    requires { IsDrainSeatOf ring.now drainer }
+fn drain_until(ring: &Ring, drain_seat: DrainSeat, finishes: u32, turns: u32) -> (DrainSeat, u32)
+    requires { IsDrainSeatOf ring.now drain_seat }
     ensures { IsDrainSeatOf ring.now result.0 }
 {
-    let mut end = Drainer::new(ring, drainer);
+    let mut end = SoftSide::new(ring, drain_seat);
     let mut finished = 0;
     for turn in 0..turns {
         if finished >= finishes {
@@ -49,17 +49,17 @@ fn drain_until(ring: &Ring, drainer: DrainSeat, finishes: u32, turns: u32) -> (D
 fn both<R: Threads>(
     rt: &R,
     ring: &Ring,
-    raiser: KnownSeat,
-    drainer: DrainSeat,
+    raise_seat: KnownSeat,
+    drain_seat: DrainSeat,
     id: CyclicId,
 ) -> (KnownSeat, (DrainSeat, u32))
-    requires { IsRaiseSeatOf ring.now raiser.seat × IsDrainSeatOf ring.now drainer }
+    requires { IsRaiseSeatOf ring.now raise_seat.seat × IsDrainSeatOf ring.now drain_seat }
     ensures { IsRaiseSeatOf ring.now result.0.seat × IsDrainSeatOf ring.now result.1.0 }
 {
     join(
         rt,
-        || raise_times(ring, raiser, id, 1_000),
-        || drain_until(ring, drainer, 1_000, 10_000_000),
+        || raise_times(ring, raise_seat, id, 1_000),
+        || drain_until(ring, drain_seat, 1_000, 10_000_000),
     )
 }
 
@@ -69,10 +69,10 @@ fn after_raises<R: Threads>(
     alloc: Global,
     id: CyclicId,
 ) -> Result<(u32, Option<Counts>), Fail> {
-    let (ring, raiser, drainer) = open(alloc, 4294967295, 0)?;
-    let (raiser, drainer, _) = play(&ring, raiser, drainer, &[Call::Admit(1, 0)]);
-    let (raiser, (drainer, finished)) = both(rt, &ring, raiser, drainer, id);
-    let closed = ring.close(raiser.seat(), drainer);
+    let (ring, raise_seat, drain_seat) = open(alloc, 4294967295, 0)?;
+    let (raise_seat, drain_seat, _) = play(&ring, raise_seat, drain_seat, &[Call::Admit(1, 0)]);
+    let (raise_seat, (drain_seat, finished)) = both(rt, &ring, raise_seat, drain_seat, id);
+    let closed = ring.close(raise_seat.seat(), drain_seat);
     Ok((finished, book(&closed, 0)))
 }
 
@@ -90,27 +90,27 @@ fn ring_two_threads(rt: HostRuntime) -> Result<(), Fail> {
 }
 
 /// Looks whether the soft side has followed: before it is let go on, and then until it has or so many looks are made.
-fn looks(ring: &Ring, raiser: KnownSeat, go: &AtomicBool, looks: u64) -> (KnownSeat, (bool, bool))
-    requires { IsRaiseSeatOf ring.now raiser.seat }
+fn looks(ring: &Ring, raise_seat: KnownSeat, go: &AtomicBool, looks: u64) -> (KnownSeat, (bool, bool))
+    requires { IsRaiseSeatOf ring.now raise_seat.seat }
     ensures { IsRaiseSeatOf ring.now result.0.seat }
 {
-    let mut firer = Firer::new(ring, raiser);
-    let before = firer.followed();
+    let mut firing_side = FiringSide::new(ring, raise_seat);
+    let before = firing_side.followed();
     go.store(true, Ordering::SeqCst);
     let mut after = false;
     for look in 0..looks {
         if after {
             break;
         }
-        after = firer.followed();
+        after = firing_side.followed();
         yield_now();
     }
-    (firer.into_seat(), (before, after))
+    (firing_side.into_seat(), (before, after))
 }
 
 /// Waits until it may go on, or so many looks are made, and takes and finishes.
-fn follows(ring: &Ring, drainer: DrainSeat, go: &AtomicBool, looks: u64) -> DrainSeat
-    requires { IsDrainSeatOf ring.now drainer }
+fn follows(ring: &Ring, drain_seat: DrainSeat, go: &AtomicBool, looks: u64) -> DrainSeat
+    requires { IsDrainSeatOf ring.now drain_seat }
     ensures { IsDrainSeatOf ring.now result }
 {
     for look in 0..looks {
@@ -119,27 +119,27 @@ fn follows(ring: &Ring, drainer: DrainSeat, go: &AtomicBool, looks: u64) -> Drai
         }
         yield_now();
     }
-    let (drainer, _) = drain_until(ring, drainer, 2, 100);
-    drainer
+    let (drain_seat, _) = drain_until(ring, drain_seat, 2, 100);
+    drain_seat
 }
 
 fn looks_and_follows<R: Threads>(
     rt: &R,
     ring: &Ring,
-    raiser: KnownSeat,
-    drainer: DrainSeat,
+    raise_seat: KnownSeat,
+    drain_seat: DrainSeat,
 ) -> (KnownSeat, DrainSeat, (bool, bool))
-    requires { IsRaiseSeatOf ring.now raiser.seat × IsDrainSeatOf ring.now drainer }
+    requires { IsRaiseSeatOf ring.now raise_seat.seat × IsDrainSeatOf ring.now drain_seat }
     ensures { IsRaiseSeatOf ring.now result.0.seat × IsDrainSeatOf ring.now result.1 }
 {
     let go = AtomicBool::new(false);
-    let (looked, drainer) = join(
+    let (looked, drain_seat) = join(
         rt,
-        || looks(ring, raiser, &go, 50_000_000),
-        || follows(ring, drainer, &go, 50_000_000),
+        || looks(ring, raise_seat, &go, 50_000_000),
+        || follows(ring, drain_seat, &go, 50_000_000),
     );
-    let (raiser, followed) = looked;
-    (raiser, drainer, followed)
+    let (raise_seat, followed) = looked;
+    (raise_seat, drain_seat, followed)
 }
 
 const SWITCHING: [Call; 3] = [
@@ -149,10 +149,10 @@ const SWITCHING: [Call; 3] = [
 ];
 
 fn after_switch<R: Threads>(rt: &R, alloc: Global) -> Result<((bool, bool), Option<Counts>), Fail> {
-    let (ring, raiser, drainer) = open(alloc, 4294967295, 0)?;
-    let (raiser, drainer, _) = play(&ring, raiser, drainer, &SWITCHING);
-    let (raiser, drainer, followed) = looks_and_follows(rt, &ring, raiser, drainer);
-    let closed = ring.close(raiser.seat(), drainer);
+    let (ring, raise_seat, drain_seat) = open(alloc, 4294967295, 0)?;
+    let (raise_seat, drain_seat, _) = play(&ring, raise_seat, drain_seat, &SWITCHING);
+    let (raise_seat, drain_seat, followed) = looks_and_follows(rt, &ring, raise_seat, drain_seat);
+    let closed = ring.close(raise_seat.seat(), drain_seat);
     Ok((followed, book(&closed, 0)))
 }
 

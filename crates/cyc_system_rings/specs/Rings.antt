@@ -62,7 +62,7 @@ counts_in id way t = option_map_or (λ r. record { sent = r.sent; lost = r.lost 
 -- the ring of this end was closed, and says of each id what was made, what is pending and what was lost
 abbrev pub IsClosedOver : RaiseEnd → Closed → Type 0
 IsClosedOver e c =
-    (closed_raises c ≡ raise_trail e.seat) × IsAccounted (closed_raises c) (drain_trail c.drainer.value)
+    (closed_raises c ≡ raise_trail e.seat) × IsAccounted (closed_raises c) (drain_trail c.drain_seat.value)
 
 -- each CPU has settled, and its two rings were closed: by the numbers of the CPUs, the lock level's before the low level's
 abbrev pub AreClosed : List (CpuView RaiseEnd) → List Closed → Type 0

@@ -43,9 +43,9 @@ use Rattle.cyc_thread_calls.proofs.Starting.{new_trails, is_new, first_ready, fi
 
 closed_one : (x : RaiseEnd) (s : Seats) (c : Closed) → s.raise ≡ x.seat → IsClosed s c → IsClosedOver x c
 closed_one x s c same is = (
-  ap raise_trail is.raiser ∙ ap raise_trail same,
-  subst (λ (r : RaiseSeat). IsAccounted (raise_trail r) (drain_trail c.drainer.value)) (sym is.raiser)
-      (subst (λ d. IsAccounted (raise_trail s.raise) (drain_trail d)) (sym is.drainer) is.accounted),
+  ap raise_trail is.raise_seat ∙ ap raise_trail same,
+  subst (λ (r : RaiseSeat). IsAccounted (raise_trail r) (drain_trail c.drain_seat.value)) (sym is.raise_seat)
+      (subst (λ d. IsAccounted (raise_trail s.raise) (drain_trail d)) (sym is.drain_seat) is.accounted),
 )
 
 module _ {C : Type 0} where
@@ -76,7 +76,7 @@ module _ {C : Type 0} where
     served_lock (s ∷ before) [] rings served left = absurd served
     served_lock (s ∷ before) (t ∷ after) [] served left = absurd left
     served_lock (s ∷ before) (t ∷ after) (c ∷ rings) (one, served) ((lock, low), left) = (
-      subst (λ d. HasServed (at_level called Lock) count (seat_made d) s.calls.lock t.calls.lock) (sym lock.drainer) one.lock,
+      subst (λ d. HasServed (at_level called Lock) count (seat_made d) s.calls.lock t.calls.lock) (sym lock.drain_seat) one.lock,
       served_lock before after rings served left,
     )
 
@@ -90,7 +90,7 @@ module _ {C : Type 0} where
     served_low (s ∷ before) [] rings served left = absurd served
     served_low (s ∷ before) (t ∷ after) [] served left = absurd left
     served_low (s ∷ before) (t ∷ after) (c ∷ rings) (one, served) ((lock, low), left) = (
-      subst (λ d. HasServed (at_level called Low) count (seat_made d) s.calls.low t.calls.low) (sym low.drainer) one.low,
+      subst (λ d. HasServed (at_level called Low) count (seat_made d) s.calls.low t.calls.low) (sym low.drain_seat) one.low,
       served_low before after rings served left,
     )
 

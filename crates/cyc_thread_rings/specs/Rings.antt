@@ -58,8 +58,8 @@ soft_seats s = ((s.seats.lock.drain, s.calls.lock), (s.seats.low.drain, s.calls.
 
 -- the ring was closed with these seats, and its two sides' trails agree: of each id what was raised is made, lost or left
 pub record IsClosed (s : Seats) (c : Closed) : Type 0 where
-  pub raiser : c.raiser.value ≡ s.raise
-  pub drainer : c.drainer.value ≡ s.drain
+  pub raise_seat : c.raise_seat.value ≡ s.raise
+  pub drain_seat : c.drain_seat.value ≡ s.drain
   pub accounted : IsAccounted (raise_trail s.raise) (drain_trail s.drain)
 
 abbrev pub AreClosed : Levels Seats → Levels Closed → Type 0

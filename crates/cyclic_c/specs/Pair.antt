@@ -22,7 +22,7 @@ IsNewPair ceiling e s = (e.ring.value ≡ s.ring.value) × (e.ring.value.setting
 
 -- what was closed is the ring of these two seats
 abbrev pub IsClosedOf : Option RaiseSeat → Option DrainSeat → Closed → Type 0
-IsClosedOf r d c = (r ≡ Some c.raiser.value) × (d ≡ Some c.drainer.value)
+IsClosedOf r d c = (r ≡ Some c.raise_seat.value) × (d ≡ Some c.drain_seat.value)
 
 -- the three handles are of one open
 abbrev pub SameRings : Firing → SoftSide → SoftSide → Type 0

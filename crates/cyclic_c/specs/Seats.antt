@@ -2,7 +2,7 @@
 use Rattle.std.specs.Prelude.{◌≡◌, ◌≢◌, ℕ, ◌⊎◌, Option, Some, None}
 use Rattle.cyc_types.specs.Draining.{DrainCall, Takes, Finishes}
 use Rattle.cyc_types.specs.declared.draining.Finished.{Finished}
-use Rattle.cyc_ring.specs.Ends.{seat_hand, drainer_view, IsSameDrainSeat}
+use Rattle.cyc_ring.specs.Ends.{seat_hand, drain_seat_view, IsSameDrainSeat}
 use Rattle.cyc_ring.specs.Steps.{MakesDrainCall}
 use Rattle.cyc_ring.specs.declared.seats.DrainSeat.{DrainSeat}
 
@@ -13,7 +13,7 @@ hand_in None = None
 
 -- a call at the end of the seat, with its answer
 abbrev pub drain_step_in : Option DrainSeat → DrainCall → Option DrainSeat → Type 0
-drain_step_in (Some a) call (Some b) = IsSameDrainSeat a b × MakesDrainCall a.setting (drainer_view a) call (drainer_view b)
+drain_step_in (Some a) call (Some b) = IsSameDrainSeat a b × MakesDrainCall a.setting (drain_seat_view a) call (drain_seat_view b)
 drain_step_in (Some a) call None = ⊥
 drain_step_in None call b = ⊥
 

@@ -39,17 +39,17 @@ fn sides(alloc: Global, ceiling: Ceiling) -> Result<(HeldEnd, SoftSide), Refusal
     ensures ok { IfOk result (λ s. IsNewPair ceiling s.0 s.1) }
     ensures err { IfErr result (λ e. e ≡ Memory) }
 {
-    let (ring, raiser, drainer) = Ring::open(alloc, ceiling, 0)?;
+    let (ring, raise_seat, drain_seat) = Ring::open(alloc, ceiling, 0)?;
     let ring = Arc::new(alloc, ring)?;
     let shared = Arc::try_clone(&ring)?;
     Ok((
         HeldEnd {
             ring,
-            seat: Some(raiser),
+            seat: Some(raise_seat),
         },
         SoftSide {
             ring: shared,
-            seat: Some(drainer),
+            seat: Some(drain_seat),
         },
     ))
 }
@@ -64,11 +64,11 @@ fn join(end: HeldEnd, soft: SoftSide) -> Option<Closed>
         ring: shared,
         seat: other,
     } = soft;
-    let Some(raiser) = seat else { unreachable!() };
-    let Some(drainer) = other else { unreachable!() };
+    let Some(raise_seat) = seat else { unreachable!() };
+    let Some(drain_seat) = other else { unreachable!() };
     drop(shared);
     let ring = Arc::into_inner(ring)?;
-    Some(ring.close(raiser, drainer))
+    Some(ring.close(raise_seat, drain_seat))
 }
 
 /// The three handles of a new CPU.

@@ -22,7 +22,7 @@ use Rattle.ring_rule.specs.Log.{raise_side, drain_side, stay_word}
 use Rattle.ring_rule.specs.Shown.{TrailsShow, StillHolds}
 use Rattle.ring_rule.specs.Steps.{TellsAdd}
 use Rattle.ring_rule.proofs.Words.{pend_low, pend_distinct, keeps_option_map, holds_high}
-use Rattle.ring_rule.proofs.Seats.{level, raiser, raise_goes}
+use Rattle.ring_rule.proofs.Seats.{level, raises, raise_goes}
 use Rattle.ring_rule.proofs.Stays.{behind, same_if, same_expired, not_held}
 use Rattle.ring_rule.proofs.Now.{RingNow, ring_now, admitted_low, same_pend}
 use Rattle.ring_rule.proofs.Stands.{firing_step}
@@ -141,7 +141,7 @@ pub add_law : AddLaw
 add_law k slots seat me i id st role is at_i free bare below room =
     firing_step k slots seat me i (λ n. (n + 1) % 2 ^ 64) (TellsAdd id (step slots i 1 0 none) me) role
     (λ s R _ at _. let small : k.ceiling < 2 ^ 32 = R.fits.0 in let t : List RaiseStep = (raise_side R.log) in
-    let same : me.0.raise_trail ≡ t = (raiser k s R seat me.0 at me.1 i 0 role).1.0 in
+    let same : me.0.raise_trail ≡ t = (raises k s R seat me.0 at me.1 i 0 role).1.0 in
     let l : SoftLevel = level k s R in let N : RingNow k s.words t (drain_side R.log) l = ring_now k s R in let law : Lawful l =
     N.law in
     let is' : open_stay id t ≡ Some st = ap (open_stay id) (sym same) ∙ is in let free' : ¬ (marked_of t ≡ Some id) =

@@ -24,7 +24,7 @@ use Rattle.ring_rule.specs.Log.{raise_side, drain_side}
 use Rattle.ring_rule.specs.Shown.{IsSameStay, TrailsShow, StillHolds}
 use Rattle.ring_rule.specs.Steps.{with_raise_step, TellsAdmit}
 use Rattle.ring_rule.proofs.Words.{pend_distinct, Keeps, holds_kept}
-use Rattle.ring_rule.proofs.Seats.{level, raiser, raise_goes}
+use Rattle.ring_rule.proofs.Seats.{level, raises, raise_goes}
 use Rattle.ring_rule.proofs.Stays.{not_held}
 use Rattle.ring_rule.proofs.Now.{RingNow, ring_now, loaded}
 use Rattle.ring_rule.proofs.Stands.{firing_step}
@@ -132,7 +132,7 @@ pub admit_law : AdmitLaw
 admit_law k slots seat me i id role bare unused empty room low real word is_word =
     firing_step k slots seat me word (λ n. n) (TellsAdmit id (step slots word 0 0 none) me) role
     (λ s R _ at _. let t : List RaiseStep = (raise_side R.log) in let same : me.0.raise_trail ≡ t =
-    (raiser k s R seat me.0 at me.1 word 0 role).1.0 in
+    (raises k s R seat me.0 at me.1 word 0 role).1.0 in
     let l : SoftLevel = level k s R in let N : RingNow k s.words t (drain_side R.log) l = ring_now k s R in
     let bare' : open_stay id t ≡ None = ap (open_stay id) (sym same) ∙ bare in
     let unused' : (j : ℕ) (s : StayCounts) → open_stay j t ≡ Some s

@@ -22,7 +22,7 @@ use Rattle.ring_rule.specs.Log.{raise_side, drain_side}
 use Rattle.ring_rule.specs.Shown.{BankHolds, TrailsShow, StillHolds}
 use Rattle.ring_rule.specs.Steps.{TellsSwitch, TellsLoadSoftBank, TellsFollow}
 use Rattle.ring_rule.proofs.Words.{pend_low, place_low, keeps_all, holds_kept, stored_kept}
-use Rattle.ring_rule.proofs.Seats.{level, raiser, drains, raise_goes, drain_goes}
+use Rattle.ring_rule.proofs.Seats.{level, raises, drains, raise_goes, drain_goes}
 use Rattle.ring_rule.proofs.Now.{RingNow, ring_now, loaded, index_low}
 use Rattle.ring_rule.proofs.Stands.{firing_step, soft_step}
 
@@ -170,7 +170,7 @@ pub switch_law : SwitchLaw
 switch_law k slots seat me bank role bare even more most =
     firing_step k slots seat me hard_word (λ _. bank) (λ _. TellsSwitch (step slots hard_word bank 0 none) me bank) role
     (λ s R _ at _. let t : List RaiseStep = (raise_side R.log) in let same : me.0.raise_trail ≡ t =
-    (raiser k s R seat me.0 at me.1 hard_word bank role).1.0 in let l : SoftLevel = level k s R in
+    (raises k s R seat me.0 at me.1 hard_word bank role).1.0 in let l : SoftLevel = level k s R in
     let N : RingNow k s.words t (drain_side R.log) l = ring_now k s R in
     let bare' : firer_hand_of t ≡ None = ap firer_hand_of (sym same) ∙ bare in let even' : has_followed t ≡ true =
     ap (has_followed) (sym same) ∙ even in let more' : hard_bank_of t < bank =
@@ -188,7 +188,7 @@ pub load_soft_bank_law : LoadSoftBankLaw
 load_soft_bank_law k slots seat me role =
     firing_step k slots seat me soft_word (λ n. n) (TellsLoadSoftBank (step slots soft_word 0 0 none) me) role
     (λ s R _ at _. let t : List RaiseStep = (raise_side R.log) in let same : me.0.raise_trail ≡ t =
-    (raiser k s R seat me.0 at me.1 soft_word 0 role).1.0 in let l : SoftLevel = level k s R in
+    (raises k s R seat me.0 at me.1 soft_word 0 role).1.0 in let l : SoftLevel = level k s R in
     let N : RingNow k s.words t (drain_side R.log) l = ring_now k s R in let n : ℕ = get_or s.words soft_word 0 in (
       (LoadedSoftBank n),
       raise_goes k s R seat me.0 at me.1 soft_word n role (LoadedSoftBank n) R.enabled

@@ -23,7 +23,7 @@ use Rattle.ring_rule.specs.Log.{raise_side, drain_side, stay_word}
 use Rattle.ring_rule.specs.Shown.{TrailsShow, StillHolds}
 use Rattle.ring_rule.specs.Steps.{TellsLoadToRaise}
 use Rattle.ring_rule.proofs.Words.{keeps_option_map, holds_kept}
-use Rattle.ring_rule.proofs.Seats.{level, raiser, raise_goes}
+use Rattle.ring_rule.proofs.Seats.{level, raises, raise_goes}
 use Rattle.ring_rule.proofs.Stays.{behind, same_if, same_dropped, not_held}
 use Rattle.ring_rule.proofs.Now.{RingNow, ring_now, loaded}
 use Rattle.ring_rule.proofs.Stands.{firing_step}
@@ -148,7 +148,7 @@ pub load_to_raise_law : LoadToRaiseLaw
 load_to_raise_law k slots seat me i id st role is at_i free bare room ceiling same_c =
     firing_step k slots seat me i (λ n. n) (TellsLoadToRaise id ceiling (step slots i 0 0 none) me) role
     (λ s R _ at _. let small : k.ceiling < 2 ^ 32 = R.fits.0 in let t : List RaiseStep = (raise_side R.log) in
-    let same : me.0.raise_trail ≡ t = (raiser k s R seat me.0 at me.1 i 0 role).1.0 in
+    let same : me.0.raise_trail ≡ t = (raises k s R seat me.0 at me.1 i 0 role).1.0 in
     let l : SoftLevel = level k s R in let N : RingNow k s.words t (drain_side R.log) l = ring_now k s R in
     let is' : open_stay id t ≡ Some st = ap (open_stay id) (sym same) ∙ is in let free' : ¬ (marked_of t ≡ Some id) =
     λ e. free (ap marked_of same ∙ e) in

@@ -20,7 +20,7 @@ use Rattle.ring_rule.specs.Log.{raise_side, drain_side}
 use Rattle.ring_rule.specs.Shown.{HoldsEntry, BankHolds, IsHandStored, TrailsShow, StillHolds}
 use Rattle.ring_rule.specs.Steps.{TellsPublish}
 use Rattle.ring_rule.proofs.Words.{pend_low, place_low, keeps_all, entry_kept, holds_kept}
-use Rattle.ring_rule.proofs.Seats.{level, raiser, raise_goes}
+use Rattle.ring_rule.proofs.Seats.{level, raises, raise_goes}
 use Rattle.ring_rule.proofs.Now.{RingNow, ring_now, index_low}
 use Rattle.ring_rule.proofs.Stands.{firing_step}
 
@@ -119,7 +119,7 @@ pub publish_law : PublishLaw
 publish_law k slots seat me id e role up there i at_i v is_v =
     firing_step k slots seat me i (λ _. v) (λ _. TellsPublish (step slots i v 0 none) me v) role
     (λ s R _ at _. let t : List RaiseStep = (raise_side R.log) in let same : me.0.raise_trail ≡ t =
-    (raiser k s R seat me.0 at me.1 i v role).1.0 in
+    (raises k s R seat me.0 at me.1 i v role).1.0 in
     let l : SoftLevel = level k s R in let N : RingNow k s.words t (drain_side R.log) l = ring_now k s R in
     let up' : firer_hand_of t ≡ Some id = ap firer_hand_of (sym same) ∙ up in let there' : stored_entry t ≡ Some e =
     ap stored_entry (sym same) ∙ there in

@@ -24,7 +24,7 @@ use Rattle.ring_rule.specs.Log.{raise_side, drain_side, stay_word}
 use Rattle.ring_rule.specs.Shown.{IsSameStay, BankHolds, TrailsShow, StillHolds}
 use Rattle.ring_rule.specs.Steps.{TellsLoad, TellsMark, TellsClear}
 use Rattle.ring_rule.proofs.Words.{pend_low, pend_distinct, place_high, keeps_all, holds_high}
-use Rattle.ring_rule.proofs.Seats.{level, raiser, raise_goes}
+use Rattle.ring_rule.proofs.Seats.{level, raises, raise_goes}
 use Rattle.ring_rule.proofs.Stays.{behind, held_once}
 use Rattle.ring_rule.proofs.Now.{RingNow, ring_now, loaded, index_low, same_pend}
 use Rattle.ring_rule.proofs.Stands.{firing_step}
@@ -247,7 +247,7 @@ pub mark_law : MarkLaw
 mark_law k slots seat me i id st role is at_i free bare =
     firing_step k slots seat me i (λ n. (n + mark_bit) % 2 ^ 64) (TellsMark id (step slots i mark_bit 0 none) me) role
     (λ s R _ at _. let small : k.ceiling < 2 ^ 32 = R.fits.0 in let t : List RaiseStep = (raise_side R.log) in
-    let same : me.0.raise_trail ≡ t = (raiser k s R seat me.0 at me.1 i 0 role).1.0 in let l : SoftLevel = level k s R in
+    let same : me.0.raise_trail ≡ t = (raises k s R seat me.0 at me.1 i 0 role).1.0 in let l : SoftLevel = level k s R in
     let N : RingNow k s.words t (drain_side R.log) l = ring_now k s R in
     let is' : open_stay id t ≡ Some st = ap (open_stay id) (sym same) ∙ is in let free' : marked_of t ≡ None =
     ap marked_of (sym same) ∙ free in let n : ℕ = get_or s.words i 0 in let f =
@@ -273,7 +273,7 @@ pub clear_law : ClearLaw
 clear_law k slots seat me i id st role is at_i mine zero_seen bare =
     firing_step k slots seat me i (λ _. 0) (λ _. TellsClear id (step slots i 0 0 none) me 0) role
     (λ s R _ at _. let t : List RaiseStep = (raise_side R.log) in let same : me.0.raise_trail ≡ t =
-    (raiser k s R seat me.0 at me.1 i 0 role).1.0 in let l : SoftLevel = level k s R in
+    (raises k s R seat me.0 at me.1 i 0 role).1.0 in let l : SoftLevel = level k s R in
     let N : RingNow k s.words t (drain_side R.log) l = ring_now k s R in
     let is' : open_stay id t ≡ Some st = ap (open_stay id) (sym same) ∙ is in let mine' : marked_of t ≡ Some id =
     ap marked_of (sym same) ∙ mine in let z' : seen_pend id t ≡ 0 = ap (seen_pend id) (sym same) ∙ zero_seen in (
@@ -292,7 +292,7 @@ pub load_law : LoadLaw
 load_law k slots seat me i id st role is at_i =
     firing_step k slots seat me i (λ n. n) (TellsLoad id (step slots i 0 0 none) me) role
     (λ s R _ at _. let small : k.ceiling < 2 ^ 32 = R.fits.0 in let t : List RaiseStep = (raise_side R.log) in
-    let same : me.0.raise_trail ≡ t = (raiser k s R seat me.0 at me.1 i 0 role).1.0 in let l : SoftLevel = level k s R in
+    let same : me.0.raise_trail ≡ t = (raises k s R seat me.0 at me.1 i 0 role).1.0 in let l : SoftLevel = level k s R in
     let N : RingNow k s.words t (drain_side R.log) l = ring_now k s R in
     let is' : open_stay id t ≡ Some st = ap (open_stay id) (sym same) ∙ is in let n : ℕ = get_or s.words i 0 in (
       (Loaded id n),

@@ -21,7 +21,7 @@ use Rattle.ring_rule.specs.Shown.{IsHandStored, TrailsShow, StillHolds}
 use Rattle.ring_rule.specs.Steps.{TellsStore}
 use Rattle.ring_rule.proofs.Words.{pend_low, same_turn, place_high, place_low, keeps_all, holds_kept}
 use Rattle.ring_rule.proofs.Apart.{lower_bank}
-use Rattle.ring_rule.proofs.Seats.{level, raiser, raise_goes}
+use Rattle.ring_rule.proofs.Seats.{level, raises, raise_goes}
 use Rattle.ring_rule.proofs.Stays.{behind}
 use Rattle.ring_rule.proofs.Now.{RingNow, ring_now, index_low}
 use Rattle.ring_rule.proofs.Stands.{firing_step}
@@ -104,7 +104,7 @@ pub store_law : StoreLaw
 store_law k slots seat me id st role up is i at_i v is_v =
     firing_step k slots seat me i (λ _. v) (λ _. TellsStore (step slots i v 0 none) me v) role
     (λ s R _ at _. let t : List RaiseStep = (raise_side R.log) in let same : me.0.raise_trail ≡ t =
-    (raiser k s R seat me.0 at me.1 i v role).1.0 in
+    (raises k s R seat me.0 at me.1 i v role).1.0 in
     let l : SoftLevel = level k s R in let N : RingNow k s.words t (drain_side R.log) l = ring_now k s R in
     let up' : firer_hand_of t ≡ Some id = ap firer_hand_of (sym same) ∙ up in let is' : open_stay id t ≡ Some st =
     ap (open_stay id) (sym same) ∙ is in

@@ -73,8 +73,8 @@ module _ (k : Setting) (ws : List ℕ) (long : length ws ≡ word_count) (all : 
     fits = (ceiling_fits, small);
     words = words_are;
     all_true = tt;
-    firer = (opening_view, refl, tt);
-    drainer = (opening_view, refl, tt);
+    firing_side = (opening_view, refl, tt);
+    soft_side = (opening_view, refl, tt);
     seats = known;
     enabled = tt;
     shown = (

@@ -46,13 +46,13 @@ module _ (k : Setting) (s : RingState) (R : MeetsRule k s) where
           fits = R.fits;
           words = R.words;
           all_true = R.all_true;
-          firer = (
+          firing_side = (
             raise_view v,
             ap (λ (j : ℕ). get_elem? (views ++ drain_view v ∷ []) j) (sym whole.0)
                 ∙ stays_before views id (drain_view v) (raise_view v) (at_here s.views id v (raise_view v) at),
             tt,
           );
-          drainer = (
+          soft_side = (
             drain_view v,
             ap (λ (j : ℕ). get_elem? (views ++ drain_view v ∷ []) j) (sym long)
                 ∙ at_last views (drain_view v),
@@ -104,8 +104,8 @@ module _ (k : Setting) (s : RingState) (R : MeetsRule k s) where
           fits = R.fits;
           words = R.words;
           all_true = R.all_true;
-          firer = (joint_view v w, ap (λ (j : ℕ). get_elem? (set views o spent_view) j) (sym mine.0) ∙ here, tt);
-          drainer = (joint_view v w, here, tt);
+          firing_side = (joint_view v w, ap (λ (j : ℕ). get_elem? (set views o spent_view) j) (sym mine.0) ∙ here, tt);
+          soft_side = (joint_view v w, here, tt);
           seats = λ j d e. ⊎_elim
               (λ t. subst (λ (p : SeatView). IsSeat R.log R.raise_seat id j p p.role) t.1 tt)
               (λ h. ⊎_elim (λ (t : (j ≡ id) × (joint_view v w ≡ d)). subst

@@ -79,13 +79,13 @@ module _ (k : Setting) (s : RingState) (R : MeetsRule k s) (seat : ℕ) (v : Sea
   K r = IsSeat R.log R.raise_seat R.drain_seat seat v r
 
   module _ (is : v.role ≡ Raise) where
-    pub raiser : (seat ≡ R.raise_seat) × HasRaises R.log v
-    raiser = subst (λ (r : Role). IsSeat R.log R.raise_seat R.drain_seat seat v r) is (R.seats seat v at)
+    pub raises : (seat ≡ R.raise_seat) × HasRaises R.log v
+    raises = subst (λ (r : Role). IsSeat R.log R.raise_seat R.drain_seat seat v r) is (R.seats seat v at)
 
     others : (x : RaiseStep) (j : ℕ) (d : SeatView) → j ≢ seat → (r : Role) → IsSeat R.log R.raise_seat R.drain_seat j d r
         → IsSeat (of_raise x ∷ R.log) R.raise_seat R.drain_seat j d r
-    others x j d ne Joint h = absurd (ne (h.0 ∙ sym raiser.0))
-    others x j d ne Raise h = absurd (ne (h.0 ∙ sym raiser.0))
+    others x j d ne Joint h = absurd (ne (h.0 ∙ sym raises.0))
+    others x j d ne Raise h = absurd (ne (h.0 ∙ sym raises.0))
     others x j d ne Drain h = h
     others x j d ne Spent h = tt
 
@@ -97,7 +97,7 @@ module _ (k : Setting) (s : RingState) (R : MeetsRule k s) (seat : ℕ) (v : Sea
         (λ (p : ℕ × SeatView). IsSeat (of_raise x ∷ R.log) R.raise_seat R.drain_seat p.0 p.1 p.1.role)
         (λ z. (sym t.0 z, t.1 z))
         (subst (λ (r : Role). IsSeat (of_raise x ∷ R.log) R.raise_seat R.drain_seat seat (with_raise_step (length R.log) x v) r)
-        (sym is) (raiser.0, ((λ z. x ∷ raiser.1.0 z), (λ z. length R.log ∷ raiser.1.1 z)))))
+        (sym is) (raises.0, ((λ z. x ∷ raises.1.0 z), (λ z. length R.log ∷ raises.1.1 z)))))
         (λ (t : (j ≢ seat) × (get_elem? s.views j ≡ some d)). others x j d t.0 d.role (R.seats j d t.1))
         (at_set s.views seat j (with_raise_step (length R.log) x v) d e)
 
@@ -111,7 +111,7 @@ module _ (k : Setting) (s : RingState) (R : MeetsRule k s) (seat : ℕ) (v : Sea
         → n ≡ raise_leaves x (get_or s.words i 0)
         → ExtendsByRaise k s R (stepped s i n seat cs (with_raise_step (length R.log) x v) keeps) x
     raise_goes x on shows learned word found leaves = let v' : SeatView = with_raise_step (length R.log) x v in let d =
-        R.drainer in
+        R.soft_side in
         let e : RingStep = of_raise x in
         let now : set s.words i n ≡ replay k.start (e ∷ R.log) = (λ z. set s.words i (leaves z))
         ∙ (λ z. set (R.words z) (word z) (left_by e (get_or (R.words z) (word z) 0))) in (
@@ -122,13 +122,13 @@ module _ (k : Setting) (s : RingState) (R : MeetsRule k s) (seat : ℕ) (v : Sea
             fits = R.fits;
             words = now;
             all_true = (subst (λ (m : ℕ). FoundIs e m) (λ z. get_or (R.words z) (word z) 0) found, R.all_true);
-            firer = (
+            firing_side = (
               v',
-              ap (λ (j : ℕ). get_elem? (set s.views seat v') j) (sym raiser.0)
+              ap (λ (j : ℕ). get_elem? (set s.views seat v') j) (sym raises.0)
                   ∙ at_here s.views seat v v' at,
               subst IsFiring (sym is) tt,
             );
-            drainer = (
+            soft_side = (
               d.0,
               other_stays s.views seat R.drain_seat v' d.0
                   (soft_apart s.views seat R.drain_seat v d.0 at d.1 is d.2) d.1,
@@ -181,7 +181,7 @@ module _ (k : Setting) (s : RingState) (R : MeetsRule k s) (seat : ℕ) (v : Sea
         → i ≡ drain_word k.start x (drain_side R.log) → DrainFound x (get_or s.words i 0)
         → n ≡ drain_leaves x (get_or s.words i 0)
         → ExtendsByDrain k s R (stepped s i n seat cs (with_drain_step (length R.log) x v) keeps) x
-    drain_goes x on shows learned word found leaves = let v' : SeatView = with_drain_step (length R.log) x v in let f = R.firer in
+    drain_goes x on shows learned word found leaves = let v' : SeatView = with_drain_step (length R.log) x v in let f = R.firing_side in
         let e : RingStep = of_drain x in
         let now : set s.words i n ≡ replay k.start (e ∷ R.log) = (λ z. set s.words i (leaves z))
         ∙ (λ z. set (R.words z) (word z) (left_by e (get_or (R.words z) (word z) 0))) in (
@@ -192,13 +192,13 @@ module _ (k : Setting) (s : RingState) (R : MeetsRule k s) (seat : ℕ) (v : Sea
             fits = R.fits;
             words = now;
             all_true = (subst (λ (m : ℕ). FoundIs e m) (λ z. get_or (R.words z) (word z) 0) found, R.all_true);
-            firer = (
+            firing_side = (
               f.0,
               other_stays s.views seat R.raise_seat v' f.0
                   (firing_apart s.views seat R.raise_seat v f.0 at f.1 is f.2) f.1,
               f.2,
             );
-            drainer = (
+            soft_side = (
               v',
               ap (λ (j : ℕ). get_elem? (set s.views seat v') j) (sym drains.0)
                   ∙ at_here s.views seat v v' at,

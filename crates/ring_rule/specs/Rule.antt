@@ -100,8 +100,8 @@ pub record MeetsRule (k : Setting) (s : RingState) : Type 0 where
   pub fits : (k.ceiling < mark_bit) × (k.start < index_range)
   pub words : s.words ≡ replay k.start log
   pub all_true : AllTrue k.start log
-  pub firer : HasSeat IsFiring s.views raise_seat
-  pub drainer : HasSeat IsSoft s.views drain_seat
+  pub firing_side : HasSeat IsFiring s.views raise_seat
+  pub soft_side : HasSeat IsSoft s.views drain_seat
   pub seats : (j : ℕ) (v : SeatView) → get_elem? s.views j ≡ some v → IsSeat log raise_seat drain_seat j v v.role
   pub enabled : AllEnabled k.ceiling (events_of log)
   pub shown : AllShown k log

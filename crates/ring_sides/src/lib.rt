@@ -5,10 +5,10 @@
 ghost use Rattle.std.specs.Prelude.{IfOk};
 ghost use Rattle.cyc_ring.specs.Ends.{IsRaiseSeatOf, IsDrainSeatOf};
 
-pub mod drainer;
-pub mod firer;
+pub mod soft_side;
+pub mod firing_side;
 
-use crate::firer::KnownSeat;
+use crate::firing_side::KnownSeat;
 use cyc_ring::{DrainSeat, Ring};
 use cyc_types::{Ceiling, Refusal};
 use std::alloc::Global;
@@ -21,6 +21,6 @@ pub fn open(
 ) -> Result<(Ring, KnownSeat, DrainSeat), Refusal>
     ensures { IfOk result (λ r. IsRaiseSeatOf r.0 r.1.seat × IsDrainSeatOf r.0 r.2) }
 {
-    let (ring, raiser, drainer) = Ring::open(alloc, ceiling, start)?;
-    Ok((ring, KnownSeat::new(raiser), drainer))
+    let (ring, raise_seat, drain_seat) = Ring::open(alloc, ceiling, start)?;
+    Ok((ring, KnownSeat::new(raise_seat), drain_seat))
 }

@@ -33,10 +33,10 @@ fn round<R: Threads>(
     random: Random,
     sums: &mut Sums,
 ) -> Result<bool, Refusal> {
-    let (ring, raiser, drainer) = open(alloc, ceiling, start)?;
-    let (raiser, drainer) = both(rt, &ring, (raiser, Ledger::new()), (drainer, tally), CALLS);
-    let (raiser, drainer) = both(rt, &ring, raiser, drainer, CALLS);
-    let ((seat, ledger), (other, tally)) = stop_often(rt, &ring, raiser, drainer, random);
+    let (ring, raise_seat, drain_seat) = open(alloc, ceiling, start)?;
+    let (raise_seat, drain_seat) = both(rt, &ring, (raise_seat, Ledger::new()), (drain_seat, tally), CALLS);
+    let (raise_seat, drain_seat) = both(rt, &ring, raise_seat, drain_seat, CALLS);
+    let ((seat, ledger), (other, tally)) = stop_often(rt, &ring, raise_seat, drain_seat, random);
     let closed = ring.close(seat.seat(), other);
     Ok(sums.add(&closed, &ledger, &tally))
 }

@@ -6,7 +6,7 @@ use crate::ledger::Ledger;
 use crate::rounds::both;
 use cyc_ring::{DrainSeat, Ring};
 use cyc_types::Tally;
-use ring_sides::firer::KnownSeat;
+use ring_sides::firing_side::KnownSeat;
 use std::thread::Threads;
 
 /// The stops of a round.
@@ -37,17 +37,17 @@ impl Random {
 pub(crate) fn stop_often<R: Threads>(
     rt: &R,
     ring: &Ring,
-    raiser: (KnownSeat, Ledger),
-    drainer: (DrainSeat, Tally),
+    raise_seat: (KnownSeat, Ledger),
+    drain_seat: (DrainSeat, Tally),
     mut random: Random,
 ) -> ((KnownSeat, Ledger), (DrainSeat, Tally))
-    requires { IsRaiseSeatOf ring.now raiser.0.seat × IsDrainSeatOf ring.now drainer.0 }
+    requires { IsRaiseSeatOf ring.now raise_seat.0.seat × IsDrainSeatOf ring.now drain_seat.0 }
     ensures { IsRaiseSeatOf ring.now result.0.0.seat × IsDrainSeatOf ring.now result.1.0 }
 {
-    let mut sides = (raiser, drainer);
+    let mut sides = (raise_seat, drain_seat);
     for stop in 0..STOPS {
-        let (raiser, drainer) = sides;
-        sides = both(rt, ring, raiser, drainer, random.next() % 64);
+        let (raise_seat, drain_seat) = sides;
+        sides = both(rt, ring, raise_seat, drain_seat, random.next() % 64);
     }
     sides
 }

@@ -2,4 +2,4 @@ use Rattle.std.proofs.Common.{◌≡◌}
 use Rattle.cyc_ring_tests.proofs.banks.fill.Given as goal
 
 abbrev pub invariant-loop-i : goal.invariant-loop-i
-invariant-loop-i l = l.firer.ring.now ≡ l.fn.firer.ring.now
+invariant-loop-i l = l.firing_side.ring.now ≡ l.fn.firing_side.ring.now

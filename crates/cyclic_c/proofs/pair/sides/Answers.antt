@@ -9,12 +9,12 @@ returns-clause-ok c =
     let o = c.in_ok-ring.ensures in let held = c.in_ok-ring-2.ensures.ok in let shared = c.in_ok-shared.ensures in (
       sym shared,
       ap (λ (r : Ring). r.setting.ceiling) held ∙ ap (λ (s : Setting). s.ceiling) o.setting,
-      c.in_ok-ring.raiser,
-      c.in_ok-ring.drainer,
+      c.in_ok-ring.raise_seat,
+      c.in_ok-ring.drain_seat,
       refl,
       refl,
-      subst (λ (r : Ring). IsRaiseSeatOf r c.in_ok-ring.raiser) (sym held) o.seats.0,
-      subst (λ (r : Ring). IsDrainSeatOf r c.in_ok-ring.drainer) (sym (shared ∙ held)) o.seats.1,
+      subst (λ (r : Ring). IsRaiseSeatOf r c.in_ok-ring.raise_seat) (sym held) o.seats.0,
+      subst (λ (r : Ring). IsDrainSeatOf r c.in_ok-ring.drain_seat) (sym (shared ∙ held)) o.seats.1,
       o.empty.0,
       o.empty.1,
     )

@@ -2,4 +2,4 @@ use Rattle.std.proofs.Common.{◌≡◌}
 use Rattle.soak_ring.proofs.rounds.grow.Given as goal
 
 abbrev pub invariant-loop-at : goal.invariant-loop-at
-invariant-loop-at l = l.firer.ring.now ≡ l.fn.firer.ring.now
+invariant-loop-at l = l.firing_side.ring.now ≡ l.fn.firing_side.ring.now

@@ -23,13 +23,13 @@ admit_as-requires-clause-index c = let r = c.args.self.now.seat in let b = r.ban
     )
 
 pub returns-clause-sound : goal.returns-clause-sound
-returns-clause-sound c = let r = c.admit_as.new.raiser in
+returns-clause-sound c = let r = c.admit_as.new.raise_seat in
     sound_seat r.setting.ceiling r.stays.value.ids r.stays.value.sent r.stays.value.lost r.side.seat.me.0.raise_trail r.rows
     r.seen (let b = r.bank_is.0 in let m = r.bank_is.1 in omega (arith, b, m)) r.ranges.0
 
 pub returns-clause-step : goal.returns-clause-step
 returns-clause-step c = let e = c.args.self.now in let s = e.seat.side.seat in let k = e.seat.setting in let s' =
-    c.admit_as.new.raiser.side.seat in
+    c.admit_as.new.raise_seat.side.seat in
     let m : MakesRaiseStep k (Admitted c.args.id c.args.index) s s' =
     subst (λ (x : Setting). MakesRaiseStep x (Admitted c.args.id c.args.index) s s') (sym e.own.1) c.admit_as.ensures.step in (
       c.admit_as.ensures.own,

@@ -12,7 +12,7 @@ use Rattle.cyc_ring.proofs.ends.RaiseEndRaise.followed.Goals as goal
 
 pub returns-clause-step : goal.returns-clause-step
 returns-clause-step c = let e = c.args.self.now in let s = e.seat.side.seat in let k = e.seat.setting in let t : List RaiseStep =
-    s.me.0.raise_trail in let found : ℕ = c.look_as.result in let s' = c.look_as.new.raiser.side.seat in
+    s.me.0.raise_trail in let found : ℕ = c.look_as.result in let s' = c.look_as.new.raise_seat.side.seat in
     let m : MakesRaiseStep k (LoadedSoftBank found) s s' =
     subst (λ (x : Setting). MakesRaiseStep x (LoadedSoftBank found) s s') (sym e.own.1) c.look_as.ensures.step in (
       c.look_as.ensures.own,
@@ -22,6 +22,6 @@ returns-clause-step c = let e = c.args.self.now in let s = e.seat.side.seat in l
     )
 
 pub returns-clause-sound : goal.returns-clause-sound
-returns-clause-sound c = let r = c.look_as.new.raiser in
+returns-clause-sound c = let r = c.look_as.new.raise_seat in
     sound_seat r.setting.ceiling r.stays.value.ids r.stays.value.sent r.stays.value.lost r.side.seat.me.0.raise_trail r.rows
     r.seen (let b = r.bank_is.0 in let m = r.bank_is.1 in omega (arith, b, m)) r.ranges.0

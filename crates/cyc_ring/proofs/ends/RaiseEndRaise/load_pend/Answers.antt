@@ -13,7 +13,7 @@ use Rattle.cyc_ring.proofs.ends.RaiseEndRaise.load_pend.Goals as goal
 
 pub returns-clause-step : goal.returns-clause-step
 returns-clause-step c = let e = c.args.self.now in let s = e.seat.side.seat in let k = e.seat.setting in let t : List RaiseStep =
-    s.me.0.raise_trail in let found : ℕ = c.load_as-found.result in let s' = c.load_as-found.new.raiser.side.seat in let named =
+    s.me.0.raise_trail in let found : ℕ = c.load_as-found.result in let s' = c.load_as-found.new.raise_seat.side.seat in let named =
     c.index_of-index.ensures.1 in
     let m : MakesRaiseStep k (Loaded c.args.id found) s s' =
     subst (λ (p : Setting × ℕ). MakesRaiseStep p.0 (Loaded p.1 found) s s')
@@ -25,6 +25,6 @@ returns-clause-step c = let e = c.args.self.now in let s = e.seat.side.seat in l
     )
 
 pub returns-clause-sound : goal.returns-clause-sound
-returns-clause-sound c = let r = c.load_as-found.new.raiser in
+returns-clause-sound c = let r = c.load_as-found.new.raise_seat in
     sound_seat r.setting.ceiling r.stays.value.ids r.stays.value.sent r.stays.value.lost r.side.seat.me.0.raise_trail r.rows
     r.seen (let b = r.bank_is.0 in let m = r.bank_is.1 in omega (arith, b, m)) r.ranges.0

@@ -12,7 +12,7 @@ use Rattle.cyc_ring.proofs.ends.RaiseEndRaise.mark.Goals as goal
 
 pub returns-clause-step : goal.returns-clause-step
 returns-clause-step c = let e = c.args.self.now in let s = e.seat.side.seat in let k = e.seat.setting in let t : List RaiseStep =
-    s.me.0.raise_trail in let found : ℕ = c.mark_as.result in let s' = c.mark_as.new.raiser.side.seat in let named =
+    s.me.0.raise_trail in let found : ℕ = c.mark_as.result in let s' = c.mark_as.new.raise_seat.side.seat in let named =
     c.index_of-index.ensures.1 in
     let m : MakesRaiseStep k (Marked c.args.id found) s s' =
     subst (λ (p : Setting × ℕ). MakesRaiseStep p.0 (Marked p.1 found) s s')
@@ -24,6 +24,6 @@ returns-clause-step c = let e = c.args.self.now in let s = e.seat.side.seat in l
     )
 
 pub returns-clause-sound : goal.returns-clause-sound
-returns-clause-sound c = let r = c.mark_as.new.raiser in
+returns-clause-sound c = let r = c.mark_as.new.raise_seat in
     sound_seat r.setting.ceiling r.stays.value.ids r.stays.value.sent r.stays.value.lost r.side.seat.me.0.raise_trail r.rows
     r.seen (let b = r.bank_is.0 in let m = r.bank_is.1 in omega (arith, b, m)) r.ranges.0

@@ -17,7 +17,7 @@ use Rattle.cyc_ring.proofs.ends.RaiseEndRaise.poll_clear.Goals as goal
 pub returns-then-found-ne0-clause-step : goal.returns-then-found-ne0-clause-step
 returns-then-found-ne0-clause-step c = let e = c.args.self.now in let s = e.seat.side.seat in let k = e.seat.setting in
     let t : List RaiseStep = s.me.0.raise_trail in let found : ℕ = c.load_as-found.result in let s' =
-    c.load_as-found.new.raiser.side.seat in let named = c.index_of-index.ensures.1 in
+    c.load_as-found.new.raise_seat.side.seat in let named = c.index_of-index.ensures.1 in
     let m : MakesRaiseStep k (Loaded c.args.id found) s s' =
     subst (λ (p : Setting × ℕ). MakesRaiseStep p.0 (Loaded p.1 found) s s')
     (λ z. (sym e.own.1 z, named z)) c.load_as-found.ensures.step in let more = c.if-found-ne0.true in (
@@ -36,7 +36,7 @@ returns-then-found-ne0-clause-learns c = let e = c.args.self.now in let s = e.se
     let t : List RaiseStep = s.me.0.raise_trail in let r = e.seat in let found : ℕ = c.load_as-found.result in let w =
     the_stay k.ceiling r.stays.value.ids r.stays.value.sent r.stays.value.lost t r.rows c.args.id _ c.requires.0 in let named =
     c.index_of-index.ensures.1 in
-    let same : c.load_as-found.new.raiser.side.seat.me.0.raise_trail ≡ Loaded c.args.id found ∷ t =
+    let same : c.load_as-found.new.raise_seat.side.seat.me.0.raise_trail ≡ Loaded c.args.id found ∷ t =
     ap (λ (m : ThisSeat). m.0.raise_trail) c.load_as-found.ensures.step.1.1 ∙ ap (λ (x : ℕ). Loaded x found ∷ t) named in
     let low : found % mark_bit ≤ seen_pend c.args.id t =
     subst (λ (x : ℕ). found % mark_bit ≤ seen_pend x t) named c.load_as-found.ensures.bound in let more =
@@ -47,8 +47,8 @@ returns-then-found-ne0-clause-learns c = let e = c.args.self.now in let s = e.se
 
 pub returns-clause-step : goal.returns-clause-step
 returns-clause-step c = let e = c.args.self.now in let s = e.seat.side.seat in let k = e.seat.setting in let t : List RaiseStep =
-    s.me.0.raise_trail in let found : ℕ = c.load_as-found.result in let s1 = c.load_as-found.new.raiser.side.seat in let s2 =
-    c.clear_as.new.raiser.side.seat in let named = c.index_of-index.ensures.1 in
+    s.me.0.raise_trail in let found : ℕ = c.load_as-found.result in let s1 = c.load_as-found.new.raise_seat.side.seat in let s2 =
+    c.clear_as.new.raise_seat.side.seat in let named = c.index_of-index.ensures.1 in
     let m1 : MakesRaiseStep k (Loaded c.args.id found) s s1 =
     subst (λ (p : Setting × ℕ). MakesRaiseStep p.0 (Loaded p.1 found) s s1)
     (λ z. (sym e.own.1 z, named z)) c.load_as-found.ensures.step in
@@ -57,7 +57,7 @@ returns-clause-step c = let e = c.args.self.now in let s = e.seat.side.seat in l
     let r = e.seat in let i : ℕ = c.index_of-index.result in let w =
     the_stay k.ceiling r.stays.value.ids r.stays.value.sent r.stays.value.lost t r.rows c.args.id _ c.requires.0 in let real =
     (r.rows.only c.args.id w.0 w.1).2 in
-    let rows : c.load_as-found.new.raiser.stays.value ≡ r.stays.value = λ z. (c.load_as-found.ensures.rows z).value in let one =
+    let rows : c.load_as-found.new.raise_seat.stays.value ≡ r.stays.value = λ z. (c.load_as-found.ensures.rows z).value in let one =
     c.deref.ensures ∙ rows in let two = c.deref-2.ensures ∙ rows in let named_row : get_or r.stays.value.ids i 0 ≡ c.args.id =
     named in
     let stay = ap (λ (x : ℕ). open_stay x t) (sym named_row)
@@ -72,11 +72,11 @@ returns-clause-step c = let e = c.args.self.now in let s = e.seat.side.seat in l
     )
 
 pub returns-then-found-ne0-clause-sound : goal.returns-then-found-ne0-clause-sound
-returns-then-found-ne0-clause-sound c = let r = c.load_as-found.new.raiser in
+returns-then-found-ne0-clause-sound c = let r = c.load_as-found.new.raise_seat in
     sound_seat r.setting.ceiling r.stays.value.ids r.stays.value.sent r.stays.value.lost r.side.seat.me.0.raise_trail r.rows
     r.seen (let b = r.bank_is.0 in let m = r.bank_is.1 in omega (arith, b, m)) r.ranges.0
 
 pub returns-clause-sound : goal.returns-clause-sound
-returns-clause-sound c = let r = c.clear_as.new.raiser in
+returns-clause-sound c = let r = c.clear_as.new.raise_seat in
     sound_seat r.setting.ceiling r.stays.value.ids r.stays.value.sent r.stays.value.lost r.side.seat.me.0.raise_trail r.rows
     r.seen (let b = r.bank_is.0 in let m = r.bank_is.1 in omega (arith, b, m)) r.ranges.0

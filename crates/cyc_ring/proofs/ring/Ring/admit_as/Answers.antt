@@ -16,8 +16,8 @@ use Rattle.cyc_ring.proofs.Learning.{sound_admits}
 use Rattle.cyc_ring.proofs.Balance.{balanced_admitted}
 use Rattle.cyc_ring.proofs.ring.Ring.admit_as.Goals as goal
 
-pub invariant_of-raiser : goal.invariant_of-raiser
-invariant_of-raiser g c = let r = c.args.raiser.now in let t : List RaiseStep = r.side.seat.me.0.raise_trail in let s' =
+pub invariant_of-raise_seat : goal.invariant_of-raise_seat
+invariant_of-raise_seat g c = let r = c.args.raise_seat.now in let t : List RaiseStep = r.side.seat.me.0.raise_trail in let s' =
     c.admit.new.side.seat in let m = c.admit.ensures.1.1 in
     let id : ℕ = c.args.id in let i : ℕ = c.args.index in let n : ℕ = c.number.result in let at : ℕ = c.number-at.result in
     let is_id : n ≡ id = c.number.ensures.value in let is_at : at ≡ i = c.number-at.ensures.value in

@@ -15,7 +15,7 @@ use Rattle.cyc_ring.proofs.Balance.{balanced_cleared}
 use Rattle.cyc_ring.proofs.ring.Ring.clear_as.Goals as goal
 
 pub clear-requires-clause-stay : goal.clear-requires-clause-stay
-clear-requires-clause-stay g c = let r = c.args.raiser.now in let i = c.requires.index in (
+clear-requires-clause-stay g c = let r = c.args.raise_seat.now in let i = c.requires.index in (
   i.0,
   (
     record {
@@ -30,8 +30,8 @@ clear-requires-clause-stay g c = let r = c.args.raiser.now in let i = c.requires
   ),
 )
 
-pub invariant_of-raiser : goal.invariant_of-raiser
-invariant_of-raiser g c = let r = c.args.raiser.now in let t : List RaiseStep = r.side.seat.me.0.raise_trail in let s' =
+pub invariant_of-raise_seat : goal.invariant_of-raise_seat
+invariant_of-raise_seat g c = let r = c.args.raise_seat.now in let t : List RaiseStep = r.side.seat.me.0.raise_trail in let s' =
     c.clear.new.side.seat in let m = c.clear.ensures.1.1 in let i : ℕ = c.args.index in
     let x : RaiseStep = Cleared c.args.id in let e : s'.me.0.raise_trail ≡ x ∷ t = ap (λ (m : ThisSeat). m.0.raise_trail) m
     ∙ ap (λ (y : ℕ). Cleared y ∷ t) c.requires.named.0 in

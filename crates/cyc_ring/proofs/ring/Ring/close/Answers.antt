@@ -17,7 +17,7 @@ use Rattle.cyc_ring.proofs.Closing.{Ended, ended, counted_row, finished_row, nam
 use Rattle.cyc_ring.proofs.ring.Ring.close.Goals as goal
 
 pub invariant_of-result : goal.invariant_of-result
-invariant_of-result c = let r = c.args.raiser in let d = c.args.drainer in let pends : List ℕ = c.close-pends.result in let k =
+invariant_of-result c = let r = c.args.raise_seat in let d = c.args.drain_seat in let pends : List ℕ = c.close-pends.result in let k =
     c.args.self.setting in
     let C : Ended k pends r.side.seat.me.0 d.side.seat.me.0 =
     ended c.args.self.words.setting k c.args.self.same pends c.join-both.result.seat.me.0 r.side.seat.me.0 d.side.seat.me.0
@@ -29,7 +29,7 @@ invariant_of-result c = let r = c.args.raiser in let d = c.args.drainer in let p
     ap (λ (x : RaiseSeat). x.side.seat.me.0.raise_trail) c.of-known.ensures ∙ C.1.0.0 in
     let done : c.of-done.result.value.side.seat.me.0.drain_trail ≡ drain_side log =
     ap (λ (x : DrainSeat). x.side.seat.me.0.drain_trail) c.of-done.ensures ∙ C.1.1.0 in
-    let small : k.ceiling < mark_bit = subst (λ (x : Setting). x.ceiling < mark_bit) c.requires.raiser.1 r.ranges.1 in
+    let small : k.ceiling < mark_bit = subst (λ (x : Setting). x.ceiling < mark_bit) c.requires.raise_seat.1 r.ranges.1 in
     let ids : List ℕ = r.stays.value.ids in let sent : List ℕ = r.stays.value.sent in let lost : List ℕ = r.stays.value.lost in
     let rows : HoldsStays ids sent lost (raise_side log) = subst (HoldsStays ids sent lost) C.1.0.0 r.rows in
     record {
@@ -46,14 +46,14 @@ invariant_of-result c = let r = c.args.raiser in let d = c.args.drainer in let p
     }
 
 pub returns-clause-stands : goal.returns-clause-stands
-returns-clause-stands c = let r = c.args.raiser in let d = c.args.drainer in let k = c.args.self.setting in
+returns-clause-stands c = let r = c.args.raise_seat in let d = c.args.drain_seat in let k = c.args.self.setting in
     let C : Ended k c.close-pends.result r.side.seat.me.0 d.side.seat.me.0 =
     ended c.args.self.words.setting k c.args.self.same c.close-pends.result c.join-both.result.seat.me.0 r.side.seat.me.0
     d.side.seat.me.0 c.join-both.ensures.trails c.close-pends.ensures in
     (C.0, C.1, C.2)
 
 pub returns-clause-accounted : goal.returns-clause-accounted
-returns-clause-accounted c = let r = c.args.raiser in let d = c.args.drainer in let k = c.args.self.setting in
+returns-clause-accounted c = let r = c.args.raise_seat in let d = c.args.drain_seat in let k = c.args.self.setting in
     let C : Ended k c.close-pends.result r.side.seat.me.0 d.side.seat.me.0 =
     ended c.args.self.words.setting k c.args.self.same c.close-pends.result c.join-both.result.seat.me.0 r.side.seat.me.0
     d.side.seat.me.0 c.join-both.ensures.trails c.close-pends.ensures in

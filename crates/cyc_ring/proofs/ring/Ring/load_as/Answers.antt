@@ -12,7 +12,7 @@ use Rattle.cyc_ring.proofs.Learning.{sound_loads}
 use Rattle.cyc_ring.proofs.ring.Ring.load_as.Goals as goal
 
 pub load-requires-clause-stay : goal.load-requires-clause-stay
-load-requires-clause-stay g c = let r = c.args.raiser.now in let i = c.requires.index in (
+load-requires-clause-stay g c = let r = c.args.raise_seat.now in let i = c.requires.index in (
   i.0,
   (
     record {
@@ -27,8 +27,8 @@ load-requires-clause-stay g c = let r = c.args.raiser.now in let i = c.requires.
   ),
 )
 
-pub invariant_of-raiser : goal.invariant_of-raiser
-invariant_of-raiser g c = let r = c.args.raiser.now in let t : List RaiseStep = r.side.seat.me.0.raise_trail in let s' =
+pub invariant_of-raise_seat : goal.invariant_of-raise_seat
+invariant_of-raise_seat g c = let r = c.args.raise_seat.now in let t : List RaiseStep = r.side.seat.me.0.raise_trail in let s' =
     c.load.new.side.seat in let m = c.load.ensures.step.1.1 in
     let x : RaiseStep = Loaded g.J.Served.id c.load.result in let e : s'.me.0.raise_trail ≡ x ∷ t =
     ap (λ (m : ThisSeat). m.0.raise_trail) m in record {

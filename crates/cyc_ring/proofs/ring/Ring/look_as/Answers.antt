@@ -10,8 +10,8 @@ use Rattle.cyc_ring.specs.Views.{IsSeenSound, IsBalanced}
 use Rattle.cyc_ring.proofs.Rows.{fits_same}
 use Rattle.cyc_ring.proofs.ring.Ring.look_as.Goals as goal
 
-pub invariant_of-raiser : goal.invariant_of-raiser
-invariant_of-raiser g c = let r = c.args.raiser.now in let t : List RaiseStep = r.side.seat.me.0.raise_trail in let s' =
+pub invariant_of-raise_seat : goal.invariant_of-raise_seat
+invariant_of-raise_seat g c = let r = c.args.raise_seat.now in let t : List RaiseStep = r.side.seat.me.0.raise_trail in let s' =
     c.load_soft_bank.new.side.seat in let m = c.load_soft_bank.ensures.step.1.1 in
     let x : RaiseStep = LoadedSoftBank c.load_soft_bank.result in let e : s'.me.0.raise_trail ≡ x ∷ t =
     ap (λ (m : ThisSeat). m.0.raise_trail) m in record {

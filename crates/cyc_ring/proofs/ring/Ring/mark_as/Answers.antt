@@ -12,7 +12,7 @@ use Rattle.cyc_ring.proofs.Learning.{sound_marks}
 use Rattle.cyc_ring.proofs.ring.Ring.mark_as.Goals as goal
 
 pub mark-requires-clause-stay : goal.mark-requires-clause-stay
-mark-requires-clause-stay g c = let r = c.args.raiser.now in let i = c.requires.index in (
+mark-requires-clause-stay g c = let r = c.args.raise_seat.now in let i = c.requires.index in (
   i.0,
   (
     record {
@@ -27,8 +27,8 @@ mark-requires-clause-stay g c = let r = c.args.raiser.now in let i = c.requires.
   ),
 )
 
-pub invariant_of-raiser : goal.invariant_of-raiser
-invariant_of-raiser g c = let r = c.args.raiser.now in let t : List RaiseStep = r.side.seat.me.0.raise_trail in let s' =
+pub invariant_of-raise_seat : goal.invariant_of-raise_seat
+invariant_of-raise_seat g c = let r = c.args.raise_seat.now in let t : List RaiseStep = r.side.seat.me.0.raise_trail in let s' =
     c.mark.new.side.seat in let m = c.mark.ensures.step.1.1 in
     let x : RaiseStep = Marked g.J.Served.id c.mark.result in let e : s'.me.0.raise_trail ≡ x ∷ t =
     ap (λ (m : ThisSeat). m.0.raise_trail) m in record {

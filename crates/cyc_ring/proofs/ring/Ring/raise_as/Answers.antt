@@ -31,7 +31,7 @@ more_hand zero id h ne = absurd (ne refl)
 more_hand (suc n) id h ne = refl
 
 pub load_to_raise-before-requires-clause-stay : goal.load_to_raise-before-requires-clause-stay
-load_to_raise-before-requires-clause-stay g c = let r = c.args.raiser.now in let k = c.args.self.now.setting in
+load_to_raise-before-requires-clause-stay g c = let r = c.args.raise_seat.now in let k = c.args.self.now.setting in
     let t : List RaiseStep = r.side.seat.me.0.raise_trail in let x : ℕ = c.args.index in let id : ℕ = c.args.id in
     let b : Begun r k g.J.Served.setting id g.J.Served.id x =
     record {
@@ -43,8 +43,8 @@ load_to_raise-before-requires-clause-stay g c = let r = c.args.raiser.now in let
     } in
     (c.requires.index.0, (stay_at r x, stay_named b, refl, c.requires.room))
 
-pub invariant_of-raiser : goal.invariant_of-raiser
-invariant_of-raiser g c = let r = c.args.raiser.now in let k = c.args.self.now.setting in let t : List RaiseStep =
+pub invariant_of-raise_seat : goal.invariant_of-raise_seat
+invariant_of-raise_seat g c = let r = c.args.raise_seat.now in let k = c.args.self.now.setting in let t : List RaiseStep =
     r.side.seat.me.0.raise_trail in let x : ℕ = c.args.index in let id : ℕ = c.args.id in
     let b : Begun r k g.J.Served.setting id g.J.Served.id x =
     record {
@@ -82,7 +82,7 @@ invariant_of-raiser g c = let r = c.args.raiser.now in let k = c.args.self.now.s
     }
 
 pub add-found-requires-clause-stay : goal.add-found-requires-clause-stay
-add-found-requires-clause-stay g c = let r = c.args.raiser.now in let k = c.args.self.now.setting in let t : List RaiseStep =
+add-found-requires-clause-stay g c = let r = c.args.raise_seat.now in let k = c.args.self.now.setting in let t : List RaiseStep =
     r.side.seat.me.0.raise_trail in let x : ℕ = c.args.index in let id : ℕ = c.args.id in
     let b : Begun r k g.J.Served.setting id g.J.Served.id x =
     record {
@@ -98,8 +98,8 @@ add-found-requires-clause-stay g c = let r = c.args.raiser.now in let k = c.args
     (λ e. omega (arith, test, e)) in
     (c.requires.index.0, (stay_at r x, stay_below b w, refl, c.requires.room))
 
-pub invariant_of-raiser-then-found-ne0 : goal.invariant_of-raiser-then-found-ne0
-invariant_of-raiser-then-found-ne0 g c = let r = c.args.raiser.now in let k = c.args.self.now.setting in let t : List RaiseStep =
+pub invariant_of-raise_seat-then-found-ne0 : goal.invariant_of-raise_seat-then-found-ne0
+invariant_of-raise_seat-then-found-ne0 g c = let r = c.args.raise_seat.now in let k = c.args.self.now.setting in let t : List RaiseStep =
     r.side.seat.me.0.raise_trail in let x : ℕ = c.args.index in let id : ℕ = c.args.id in
     let b : Begun r k g.J.Served.setting id g.J.Served.id x =
     record {
@@ -135,7 +135,7 @@ invariant_of-raiser-then-found-ne0 g c = let r = c.args.raiser.now in let k = c.
     }
 
 pub returns-then-found-ne0-clause-call : goal.returns-then-found-ne0-clause-call
-returns-then-found-ne0-clause-call g c = let r = c.args.raiser.now in let k = c.args.self.now.setting in let t : List RaiseStep =
+returns-then-found-ne0-clause-call g c = let r = c.args.raise_seat.now in let k = c.args.self.now.setting in let t : List RaiseStep =
     r.side.seat.me.0.raise_trail in let x : ℕ = c.args.index in let id : ℕ = c.args.id in
     let b : Begun r k g.J.Served.setting id g.J.Served.id x =
     record {
@@ -155,7 +155,7 @@ returns-then-found-ne0-clause-call g c = let r = c.args.raiser.now in let k = c.
     (Raises id answers.More) (counted_run a) (before, found, w.under, w.low, omega (arith, some), a.top, refl)
 
 pub store-requires-clause-bank : goal.store-requires-clause-bank
-store-requires-clause-bank g c = let r = c.args.raiser.now in let k = c.args.self.now.setting in let t : List RaiseStep =
+store-requires-clause-bank g c = let r = c.args.raise_seat.now in let k = c.args.self.now.setting in let t : List RaiseStep =
     r.side.seat.me.0.raise_trail in let x : ℕ = c.args.index in let id : ℕ = c.args.id in
     let b : Begun r k g.J.Served.setting id g.J.Served.id x =
     record {
@@ -175,7 +175,7 @@ store-requires-clause-bank g c = let r = c.args.raiser.now in let k = c.args.sel
     (r.bank_is.1, r.bank_is.2)
 
 pub store-requires-clause-next : goal.store-requires-clause-next
-store-requires-clause-next g c = let r = c.args.raiser.now in let k = c.args.self.now.setting in let t : List RaiseStep =
+store-requires-clause-next g c = let r = c.args.raise_seat.now in let k = c.args.self.now.setting in let t : List RaiseStep =
     r.side.seat.me.0.raise_trail in let x : ℕ = c.args.index in let id : ℕ = c.args.id in
     let b : Begun r k g.J.Served.setting id g.J.Served.id x =
     record {
@@ -194,7 +194,7 @@ store-requires-clause-next g c = let r = c.args.raiser.now in let k = c.args.sel
     next_is b ∙ ap (λ (u : List RaiseStep). producer_index g.J.Served.setting.start u % index_range) (sym (counted_trail a))
 
 pub store-requires-clause-value : goal.store-requires-clause-value
-store-requires-clause-value g c = let r = c.args.raiser.now in let k = c.args.self.now.setting in let t : List RaiseStep =
+store-requires-clause-value g c = let r = c.args.raise_seat.now in let k = c.args.self.now.setting in let t : List RaiseStep =
     r.side.seat.me.0.raise_trail in let x : ℕ = c.args.index in let id : ℕ = c.args.id in
     let b : Begun r k g.J.Served.setting id g.J.Served.id x =
     record {
@@ -216,8 +216,8 @@ store-requires-clause-value g c = let r = c.args.raiser.now in let k = c.args.se
       ap (λ (y : ℕ). entry y x) (c.number.ensures.value ∙ sym b.named.0),
     )
 
-pub invariant_of-raiser-2 : goal.invariant_of-raiser-2
-invariant_of-raiser-2 g c = let r = c.args.raiser.now in let k = c.args.self.now.setting in let t : List RaiseStep =
+pub invariant_of-raise_seat-2 : goal.invariant_of-raise_seat-2
+invariant_of-raise_seat-2 g c = let r = c.args.raise_seat.now in let k = c.args.self.now.setting in let t : List RaiseStep =
     r.side.seat.me.0.raise_trail in let x : ℕ = c.args.index in let id : ℕ = c.args.id in
     let b : Begun r k g.J.Served.setting id g.J.Served.id x =
     record {
@@ -265,7 +265,7 @@ invariant_of-raiser-2 g c = let r = c.args.raiser.now in let k = c.args.self.now
     }
 
 pub returns-clause-call : goal.returns-clause-call
-returns-clause-call g c = let r = c.args.raiser.now in let k = c.args.self.now.setting in let t : List RaiseStep =
+returns-clause-call g c = let r = c.args.raise_seat.now in let k = c.args.self.now.setting in let t : List RaiseStep =
     r.side.seat.me.0.raise_trail in let x : ℕ = c.args.index in let id : ℕ = c.args.id in
     let b : Begun r k g.J.Served.setting id g.J.Served.id x =
     record {
@@ -294,7 +294,7 @@ returns-clause-call g c = let r = c.args.raiser.now in let k = c.args.self.now.s
     (Raises id answers.First) (put_in_run p) (before, stay_at r x, w.under, w.low, stay_is b, refl)
 
 pub returns-then-before-ceiling-clause-call : goal.returns-then-before-ceiling-clause-call
-returns-then-before-ceiling-clause-call g c = let r = c.args.raiser.now in let k = c.args.self.now.setting in let x : ℕ =
+returns-then-before-ceiling-clause-call g c = let r = c.args.raise_seat.now in let k = c.args.self.now.setting in let x : ℕ =
     c.args.index in let id : ℕ = c.args.id in
     let b : Begun r k g.J.Served.setting id g.J.Served.id x =
     record {

@@ -13,8 +13,8 @@ use Rattle.std.proofs.Common.{mod-eq_of_lt, pow_mono, pow_pos}
 use Rattle.cyc_types.specs.Limits.{greatest_bank}
 use Rattle.cyc_ring.proofs.ring.Ring.switch_as.Goals as goal
 
-pub invariant_of-raiser : goal.invariant_of-raiser
-invariant_of-raiser g c = let r = c.args.raiser.now in let t : List RaiseStep = r.side.seat.me.0.raise_trail in let s' =
+pub invariant_of-raise_seat : goal.invariant_of-raise_seat
+invariant_of-raise_seat g c = let r = c.args.raise_seat.now in let t : List RaiseStep = r.side.seat.me.0.raise_trail in let s' =
     c.switch.new.side.seat in let m = c.switch.ensures.1.1 in
     let x : RaiseStep = Switched c.args.bank in let e : s'.me.0.raise_trail ≡ x ∷ t = ap (λ (m : ThisSeat). m.0.raise_trail) m in
     record {

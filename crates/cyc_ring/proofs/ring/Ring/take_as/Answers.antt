@@ -12,9 +12,9 @@ use Rattle.ring_rule.specs.Words.{index_range, entry_id}
 use Rattle.ring_rule.specs.Trail.{held_entry, soft_bank_of, consumer_index}
 use Rattle.cyc_ring.proofs.ring.Ring.take_as.Goals as goal
 
-pub returns-then-end-drainer-clause-call : goal.returns-then-end-drainer-clause-call
-returns-then-end-drainer-clause-call g c = let d = c.loop-drainer.drainer in let inv = c.loop-drainer.invariant in let k =
-    c.args.self.now.setting in let v : SeatView = c.args.drainer.now.side.seat.me.0 in let t : List DrainStep = v.drain_trail in
+pub returns-then-end-drain_seat-clause-call : goal.returns-then-end-drain_seat-clause-call
+returns-then-end-drain_seat-clause-call g c = let d = c.loop-drain_seat.drain_seat in let inv = c.loop-drain_seat.invariant in let k =
+    c.args.self.now.setting in let v : SeatView = c.args.drain_seat.now.side.seat.me.0 in let t : List DrainStep = v.drain_trail in
     let bank : ℕ = c.load_hard_bank-bank.result in let end : ℕ = c.load_producer-end.result in let e : ℕ = c.take_entry.result in
     let before = inv.2.0 in let run = inv.2.2 in
     let next_is : d.next ≡ consumer_index k.start (before ++ t) % index_range = d.next_is
@@ -27,20 +27,20 @@ returns-then-end-drainer-clause-call g c = let d = c.loop-drainer.drainer in let
     (λ (x : Setting). MakesDrainStep x (LoadedProducer end) c.load_hard_bank-bank.new.side.seat
     c.load_producer-end.new.side.seat) c.requires.named c.load_producer-end.ensures) in
     let run3 = one_drain k (Took e) v (LoadedProducer end ∷ LoadedHardBank bank ∷ before) c.load_producer-end.new.side.seat
-    c.take_entry.new.drainer.side.seat run2 (subst
-    (λ (x : Setting). MakesDrainStep x (Took e) c.load_producer-end.new.side.seat c.take_entry.new.drainer.side.seat)
+    c.take_entry.new.drain_seat.side.seat run2 (subst
+    (λ (x : Setting). MakesDrainStep x (Took e) c.load_producer-end.new.side.seat c.take_entry.new.drain_seat.side.seat)
     c.requires.named c.take_entry.ensures.step) in
-    drain_call k v c.take_entry.new.drainer.side.seat (Took e ∷ LoadedProducer end ∷ LoadedHardBank bank ∷ before)
+    drain_call k v c.take_entry.new.drain_seat.side.seat (Took e ∷ LoadedProducer end ∷ LoadedHardBank bank ∷ before)
     (Takes (Some (entry_id e))) run3 (
       before,
       inv.2.1,
-      (bank, end, e, (λ x. c.if-end-drainer.true (x ∙ sym next_is)), refl, refl),
+      (bank, end, e, (λ x. c.if-end-drain_seat.true (x ∙ sym next_is)), refl, refl),
       (let n = inv.2.3 in let b = d.bank_is.1 in omega (arith, n, b)),
     )
 
-pub returns-then-bank-drainer-clause-call : goal.returns-then-bank-drainer-clause-call
-returns-then-bank-drainer-clause-call g c = let d = c.loop-drainer.drainer in let inv = c.loop-drainer.invariant in let k =
-    c.args.self.now.setting in let v : SeatView = c.args.drainer.now.side.seat.me.0 in let t : List DrainStep = v.drain_trail in
+pub returns-then-bank-drain_seat-clause-call : goal.returns-then-bank-drain_seat-clause-call
+returns-then-bank-drain_seat-clause-call g c = let d = c.loop-drain_seat.drain_seat in let inv = c.loop-drain_seat.invariant in let k =
+    c.args.self.now.setting in let v : SeatView = c.args.drain_seat.now.side.seat.me.0 in let t : List DrainStep = v.drain_trail in
     let bank : ℕ = c.load_hard_bank-bank.result in let end : ℕ = c.load_producer-end.result in let before = inv.2.0 in let run =
     inv.2.2 in
     let next_is : d.next ≡ consumer_index k.start (before ++ t) % index_range = d.next_is
@@ -58,7 +58,7 @@ returns-then-bank-drainer-clause-call g c = let d = c.loop-drainer.drainer in le
       (
         bank,
         end,
-        (let test = c.if-bank-drainer.true in let looked : bank ≡ d.bank = omega (arith, test) in
+        (let test = c.if-bank-drain_seat.true in let looked : bank ≡ d.bank = omega (arith, test) in
             looked) ∙ (d.bank_is.0 ∙ ap soft_bank_of run.gained),
         (let h : end ≡ d.next = search rules in h ∙ next_is),
         refl,
@@ -66,9 +66,9 @@ returns-then-bank-drainer-clause-call g c = let d = c.loop-drainer.drainer in le
       (let n = inv.2.3 in let b = d.bank_is.1 in omega (arith, n, b)),
     )
 
-pub loop-drainer-preserved : goal.loop-drainer-preserved
-loop-drainer-preserved g c = let d = c.loop-drainer.drainer in let inv = c.loop-drainer.invariant in let k =
-    c.args.self.now.setting in let v : SeatView = c.args.drainer.now.side.seat.me.0 in let t : List DrainStep = v.drain_trail in
+pub loop-drain_seat-preserved : goal.loop-drain_seat-preserved
+loop-drain_seat-preserved g c = let d = c.loop-drain_seat.drain_seat in let inv = c.loop-drain_seat.invariant in let k =
+    c.args.self.now.setting in let v : SeatView = c.args.drain_seat.now.side.seat.me.0 in let t : List DrainStep = v.drain_trail in
     let bank : ℕ = c.load_hard_bank-bank.result in let end : ℕ = c.load_producer-end.result in let before = inv.2.0 in let run =
     inv.2.2 in
     let next_is : d.next ≡ consumer_index k.start (before ++ t) % index_range = d.next_is
@@ -92,17 +92,17 @@ loop-drainer-preserved g c = let d = c.loop-drainer.drainer in let inv = c.loop-
         Followed bank ∷ LoadedProducer end ∷ LoadedHardBank bank ∷ before,
         (
           refl,
-          (λ x. let test = c.if-bank-drainer.false in let same : bank ≡ d.bank = x
+          (λ x. let test = c.if-bank-drain_seat.false in let same : bank ≡ d.bank = x
               ∙ (ap soft_bank_of (sym run.gained) ∙ sym d.bank_is.0) in omega (arith, test, same)),
           (let h : end ≡ d.next = search rules in h ∙ next_is),
           inv.2.1,
         ),
         run3,
         (let n = inv.2.3 in let b = d.bank_is.0 in let low = c.load_hard_bank-bank.ensures.bound.0 in let test =
-            c.if-bank-drainer.false in omega (arith, n, b, low, test)),
+            c.if-bank-drain_seat.false in omega (arith, n, b, low, test)),
       ),
     )
 
-pub loop-drainer-init : goal.loop-drainer-init
-loop-drainer-init g c = let d = c.args.drainer.now in
+pub loop-drain_seat-init : goal.loop-drain_seat-init
+loop-drain_seat-init g c = let d = c.args.drain_seat.now in
     (c.requires.own, c.requires.hand, ([], tt, no_drain c.args.self.now.setting d.side.seat d.side.role, omega arith))

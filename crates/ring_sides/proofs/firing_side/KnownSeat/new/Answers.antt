@@ -3,7 +3,7 @@ use Rattle.ring_rule.specs.declared.RaiseStep.{RaiseStep}
 use Rattle.cyc_ring.specs.Views.{firing_view}
 use Rattle.ring_sides.specs.Knowing.{Knows}
 use Rattle.ring_sides.proofs.Knowing.{knows_begin}
-use Rattle.ring_sides.proofs.firer.KnownSeat.new.Goals as goal
+use Rattle.ring_sides.proofs.firing_side.KnownSeat.new.Goals as goal
 
 pub invariant_of-result : goal.invariant_of-result
 invariant_of-result c = let k = c.new.result in let is = c.new.ensures in

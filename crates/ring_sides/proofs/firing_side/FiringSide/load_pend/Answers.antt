@@ -1,7 +1,7 @@
 use Rattle.std.proofs.Common.{arith}
 use Rattle.cyc_ring.specs.Ends.{end_view}
 use Rattle.ring_sides.proofs.Knowing.{may_ask, knows_load}
-use Rattle.ring_sides.proofs.firer.Firer.load_pend.Goals as goal
+use Rattle.ring_sides.proofs.firing_side.FiringSide.load_pend.Goals as goal
 
 pub load_pend-requires : goal.load_pend-requires
 load_pend-requires c = let s = c.args.self.now in let k = s.known in

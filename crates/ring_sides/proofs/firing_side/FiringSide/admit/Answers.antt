@@ -2,7 +2,7 @@ use Rattle.std.proofs.Common.{ℕ, get_or, set, sym, ap, ◌∙◌, subst, arith
 use Rattle.cyc_ring.specs.Ends.{end_view}
 use Rattle.ring_sides.specs.Knowing.{Knows}
 use Rattle.ring_sides.proofs.Knowing.{may_admit, knows_admit}
-use Rattle.ring_sides.proofs.firer.Firer.admit.Goals as goal
+use Rattle.ring_sides.proofs.firing_side.FiringSide.admit.Goals as goal
 
 pub admit-requires : goal.admit-requires
 admit-requires c = let s = c.args.self.now in let k = s.known in

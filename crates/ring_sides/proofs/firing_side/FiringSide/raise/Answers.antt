@@ -1,7 +1,7 @@
 use Rattle.std.proofs.Common.{arith}
 use Rattle.cyc_ring.specs.Ends.{end_view}
 use Rattle.ring_sides.proofs.Knowing.{may_raise, knows_raise}
-use Rattle.ring_sides.proofs.firer.Firer.raise.Goals as goal
+use Rattle.ring_sides.proofs.firing_side.FiringSide.raise.Goals as goal
 
 pub raise-answer-requires : goal.raise-answer-requires
 raise-answer-requires c = let s = c.args.self.now in let k = s.known in

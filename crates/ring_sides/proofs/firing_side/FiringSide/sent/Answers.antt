@@ -1,7 +1,7 @@
 use Rattle.std.proofs.Common.{arith}
 use Rattle.cyc_ring.specs.Ends.{end_view}
 use Rattle.ring_sides.proofs.Knowing.{may_ask}
-use Rattle.ring_sides.proofs.firer.Firer.sent.Goals as goal
+use Rattle.ring_sides.proofs.firing_side.FiringSide.sent.Goals as goal
 
 pub sent-requires : goal.sent-requires
 sent-requires c = let s = c.args.self.now in let k = s.known in

@@ -1,14 +1,14 @@
 //! A soft side whose calls refuse where they are not allowed.
 ghost use Rattle.cyc_ring.specs.Ends.{IsDrainSeatOf, IsSameDrainSeat};
 
-use crate::firer::NotAllowed;
+use crate::firing_side::NotAllowed;
 use cyc_ring::{DrainEnd, DrainSeat, Ring};
 use cyc_soft::{Ran, SoftRefused, softint};
 use cyc_types::{Calls, CyclicId, Drain, Finished, Soft};
 
 /// The soft side of a ring.
 #[derive(Drop)]
-pub struct Drainer<'a> {
+pub struct SoftSide<'a> {
     ring: &'a Ring,
     end: DrainEnd<'a>,
     ghost own: { IsDrainSeatOf ring.now end.seat },
@@ -24,16 +24,16 @@ fn soft<C: Calls>(end: &mut DrainEnd, calls: &mut C, budget: u32) -> Result<Ran,
     }
 }
 
-impl<'a> Drainer<'a> {
+impl<'a> SoftSide<'a> {
     ghost use Rattle.std.specs.Prelude.{◌≡◌};
     ghost use Rattle.cyc_ring.specs.Ends.{IsDrainSeatOf};
 
     /// The soft side that goes on with this seat.
-    pub fn new(ring: &'a Ring, seat: DrainSeat) -> Drainer<'a>
+    pub fn new(ring: &'a Ring, seat: DrainSeat) -> SoftSide<'a>
         requires { IsDrainSeatOf ring.now seat }
         ensures { result.ring.now ≡ ring.now }
     {
-        Drainer {
+        SoftSide {
             ring,
             end: DrainEnd::new(ring, seat),
         }
@@ -43,7 +43,7 @@ impl<'a> Drainer<'a> {
     pub fn into_seat(self) -> DrainSeat
         ensures { IsDrainSeatOf self.entry.ring.now result }
     {
-        let Drainer { ring: _, end } = self;
+        let SoftSide { ring: _, end } = self;
         end.into_seat()
     }
 

@@ -36,7 +36,7 @@ pub struct KnownSeat {
 
 /// The firing side of a ring, whose calls refuse where they are not allowed.
 #[derive(Drop)]
-pub struct Firer<'a> {
+pub struct FiringSide<'a> {
     ring: &'a Ring,
     end: RaiseEnd<'a>,
     known: Known,
@@ -107,17 +107,17 @@ impl KnownSeat {
     }
 }
 
-impl<'a> Firer<'a> {
+impl<'a> FiringSide<'a> {
     ghost use Rattle.std.specs.Prelude.{◌≡◌};
     ghost use Rattle.cyc_ring.specs.Ends.{IsRaiseSeatOf};
 
     /// The firing side that goes on with this seat.
-    pub fn new(ring: &'a Ring, seat: KnownSeat) -> Firer<'a>
+    pub fn new(ring: &'a Ring, seat: KnownSeat) -> FiringSide<'a>
         requires { IsRaiseSeatOf ring.now seat.seat }
         ensures { result.ring.now ≡ ring.now }
     {
         let KnownSeat { seat, known } = seat;
-        Firer {
+        FiringSide {
             ring,
             end: RaiseEnd::new(ring, seat),
             known,
@@ -128,7 +128,7 @@ impl<'a> Firer<'a> {
     pub fn into_seat(self) -> KnownSeat
         ensures { IsRaiseSeatOf self.entry.ring.now result.seat }
     {
-        let Firer {
+        let FiringSide {
             ring: _,
             end,
             known,

@@ -1,5 +1,5 @@
 use Rattle.cyc_ring.proofs.Ways.{drain_ways}
-use Rattle.ring_sides.proofs.drainer.soft.Goals as goal
+use Rattle.ring_sides.proofs.soft_side.soft.Goals as goal
 
 pub returns-in-Ok : goal.returns-in-Ok
 returns-in-Ok g c = (drain_ways _ _ _ c.in-Ok.ensures.served.2.way).0

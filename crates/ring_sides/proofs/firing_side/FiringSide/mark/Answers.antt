@@ -1,7 +1,7 @@
 use Rattle.std.proofs.Common.{arith}
 use Rattle.cyc_ring.specs.Ends.{end_view}
 use Rattle.ring_sides.proofs.Knowing.{may_mark, knows_mark}
-use Rattle.ring_sides.proofs.firer.Firer.mark.Goals as goal
+use Rattle.ring_sides.proofs.firing_side.FiringSide.mark.Goals as goal
 
 pub mark-pend-requires : goal.mark-pend-requires
 mark-pend-requires c = let s = c.args.self.now in let k = s.known in

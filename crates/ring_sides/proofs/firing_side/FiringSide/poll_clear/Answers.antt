@@ -1,7 +1,7 @@
 use Rattle.std.proofs.Common.{rules, arith}
 use Rattle.cyc_ring.specs.Ends.{end_view}
 use Rattle.ring_sides.proofs.Knowing.{may_poll, knows_poll, knows_clear}
-use Rattle.ring_sides.proofs.firer.Firer.poll_clear.Goals as goal
+use Rattle.ring_sides.proofs.firing_side.FiringSide.poll_clear.Goals as goal
 
 pub poll_clear-requires : goal.poll_clear-requires
 poll_clear-requires c = let s = c.args.self.now in let k = s.known in
