@@ -3,10 +3,10 @@
 
 ghost use Rattle.std.specs.Prelude.{◌≡◌, ◌<◌, ◌≤◌};
 ghost use Rattle.cyc_types.specs.Limits.{cyclics};
-ghost use Rattle.bench_turns.specs.Ready.{IsNew};
+ghost use Rattle.bench_sides.specs.Ready.{IsNew};
 ghost use Rattle.cyc_ring.specs.Ends.{end_view};
 
-use bench_turns::{fill, hand_overs};
+use bench_sides::{fill, hand_overs};
 use cyc_ring::{DrainEnd, RaiseEnd, Ring};
 use cyc_types::{CYCLICS, Ceiling, Refusal};
 use std::alloc::Global;

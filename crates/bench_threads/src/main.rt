@@ -5,10 +5,10 @@
 ghost use Rattle.std.specs.Prelude.{◌≡◌, ◌<◌, ◌≤◌};
 ghost use Rattle.cyc_types.specs.Limits.{cyclics};
 ghost use Rattle.cyc_ring.specs.Ends.{end_view};
-ghost use Rattle.bench_turns.specs.Ready.{IsReady};
+ghost use Rattle.bench_sides.specs.Ready.{IsReady};
 
 use anyhow::{Context, Result, bail};
-use bench_turns::{fill, raise_done, serve_until};
+use bench_sides::{fill, raise_done, serve_until};
 use cyc_ring::{DrainEnd, RaiseEnd, Ring};
 use cyc_types::{CYCLICS, Ceiling};
 use std::env::{self, Env};

@@ -10,7 +10,7 @@ use cyc_cpu::{Fired, Hard};
 use cyc_ring::{DrainEnd, DrainSeat, RaiseEnd, RaiseSeat, Ring};
 use cyc_soft::Ran;
 use cyc_types::{Ceiling, CyclicId, Level, Moment, Raise, Soft, Tally, When};
-use ring_soft::softint;
+use cyc_ring_soft::softint;
 use std::alloc::Global;
 use std::fmt::Debug;
 use std::process::Abort;

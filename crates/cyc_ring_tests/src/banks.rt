@@ -6,8 +6,8 @@ ghost use Rattle.cyc_ring.specs.Ends.{IsRaiseSeatOf, IsDrainSeatOf};
 use crate::help::{Counts, book, expect, open};
 use cyc_ring::{Closed, DrainSeat, Ring};
 use cyc_types::{CyclicId, Finished, GREATEST_BANK, Index, Raised};
-use ring_sides::soft_side::SoftSide;
-use ring_sides::firing_side::{FiringSide, KnownSeat, NotAllowed};
+use cyc_ring_sides::soft_side::SoftSide;
+use cyc_ring_sides::firing_side::{FiringSide, KnownSeat, NotAllowed};
 use std::alloc::Global;
 use std::test::Fail;
 

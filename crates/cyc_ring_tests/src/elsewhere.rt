@@ -7,7 +7,7 @@ use crate::help::{Books, books, expect, open};
 use crate::play::{Call, Differs, play};
 use crate::rows::{Worked, closed_early, worked_rings};
 use cyc_ring::{DrainSeat, Ring};
-use ring_sides::firing_side::KnownSeat;
+use cyc_ring_sides::firing_side::KnownSeat;
 use std::alloc::Global;
 use std::process::Abort;
 use std::test::Fail;

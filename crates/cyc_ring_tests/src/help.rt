@@ -5,7 +5,7 @@ ghost use Rattle.cyc_ring.specs.Ends.{IsRaiseSeatOf, IsDrainSeatOf};
 
 use cyc_ring::{Closed, DrainSeat, Ring};
 use cyc_types::{Ceiling, CyclicId, Index};
-use ring_sides::firing_side::KnownSeat;
+use cyc_ring_sides::firing_side::KnownSeat;
 use std::alloc::Global;
 use std::fmt::Debug;
 use std::process::Abort;
@@ -22,7 +22,7 @@ pub(crate) fn open(
     let Some(ceiling) = Ceiling::new(ceiling) else {
         return Err(Fail::from("a ceiling"));
     };
-    match ring_sides::open(alloc, ceiling, start) {
+    match cyc_ring_sides::open(alloc, ceiling, start) {
         Ok(opened) => Ok(opened),
         Err(_) => Err(Fail::from("memory")),
     }

@@ -10,7 +10,7 @@ use cyc_system::{CpuOrOmni, System, SystemRemoval, SystemTotals, away_law};
 use cyc_types::{
     Ceiling, CyclicId, JuggleReport, Level, Moment, Raise, Refusal, Soft, Tally, When,
 };
-use ring_soft::softint;
+use cyc_ring_soft::softint;
 use std::alloc::Global;
 use std::process::Abort;
 use std::test::Fail;

@@ -15,7 +15,7 @@ use crate::stops::{Random, stop_often};
 use crate::sums::{Counts, Sums};
 use anyhow::{Context, Result, bail};
 use cyc_types::{Ceiling, CyclicId, Refusal, Tally};
-use ring_sides::open;
+use cyc_ring_sides::open;
 use std::alloc::Global;
 use std::env::{self, Env};
 use std::thread::Threads;

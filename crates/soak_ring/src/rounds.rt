@@ -5,8 +5,8 @@ ghost use Rattle.cyc_ring.specs.Ends.{IsRaiseSeatOf, IsDrainSeatOf};
 use crate::ledger::{IDS, Ledger};
 use cyc_ring::{DrainSeat, Ring};
 use cyc_types::{CyclicId, GREATEST_BANK, Index, Tally};
-use ring_sides::soft_side::SoftSide;
-use ring_sides::firing_side::{FiringSide, KnownSeat, NotAllowed};
+use cyc_ring_sides::soft_side::SoftSide;
+use cyc_ring_sides::firing_side::{FiringSide, KnownSeat, NotAllowed};
 use std::sync::atomic::{AtomicBool, Ordering};
 use std::thread::{Threads, join, yield_now};
 

@@ -6,7 +6,7 @@ use crate::ledger::Ledger;
 use crate::rounds::both;
 use cyc_ring::{DrainSeat, Ring};
 use cyc_types::Tally;
-use ring_sides::firing_side::KnownSeat;
+use cyc_ring_sides::firing_side::KnownSeat;
 use std::thread::Threads;
 
 /// The stops of a round.

@@ -1,5 +1,0 @@
-use Rattle.bench_turns.specs.Ready.{IsFilled}
-use Rattle.bench_turns.proofs.fill.Given as goal
-
-abbrev pub invariant-loop-index : goal.invariant-loop-index
-invariant-loop-index g l = IsFilled l.index (g.R.Raise.view l.raise)

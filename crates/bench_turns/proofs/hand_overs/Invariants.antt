@@ -1,6 +1,0 @@
-use Rattle.std.proofs.Common.{◌<◌, ◌≤◌}
-use Rattle.bench_turns.specs.Ready.{IsReady}
-use Rattle.bench_turns.proofs.hand_overs.Given as goal
-
-abbrev pub invariant-loop-turn : goal.invariant-loop-turn
-invariant-loop-turn g l = (0 < l.number) × (l.number ≤ l.ids) × IsReady l.ids l.turn (g.R.Raise.view l.raise)

@@ -1,5 +1,0 @@
-use Rattle.bench_turns.specs.Ready.{IsReady}
-use Rattle.bench_turns.proofs.wait_done.Given as goal
-
-abbrev pub invariant-loop : goal.invariant-loop
-invariant-loop g l = IsReady l.ids l.most (g.R.Raise.view l.raise)
