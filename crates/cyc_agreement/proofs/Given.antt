@@ -6,8 +6,8 @@ use Rattle.std.specs.Option.{option_map_or}
 use mathlib.Core.Logic.{dite}
 use native.Mathlib.Decide.{ℕ_discrete}
 use Rattle.cyc_types.specs.declared.level.Level.{Level}
-use Rattle.cyc_places.specs.declared.record.Place.{Place}
-use Rattle.cyc_places.specs.declared.record.Place.TheVariants.{On}
+use Rattle.cyc_places.specs.declared.record.Placement.{Placement}
+use Rattle.cyc_places.specs.declared.record.Placement.TheVariants.{On}
 use Rattle.cyc_places.specs.declared.record.Record.{Record}
 use Rattle.cyc_places.specs.Places.{IsRecord, new_record, ended_on, no_counts}
 use Rattle.cyc_cpus.specs.Cpus.{CpusView}
@@ -45,12 +45,12 @@ none_ended (suc n) zero = refl
 none_ended (suc n) (suc k) = none_ended n k
 
 -- where an id was just given, and its cyclic stands where its record says
-pub record Enters {R : Type 0} (id : ℕ) (place : Place) (w : CpusView R) : Type 0 where
+pub record Enters {R : Type 0} (id : ℕ) (place : Placement) (w : CpusView R) : Type 0 where
   pub stands : (n : ℕ) → has n id w ≡ true → Stands n place × (is_online n w ≡ true)
   pub home : (n : ℕ) (bound : Bool) → place ≡ On n bound → has n id w ≡ true
   pub everywhere : (n : ℕ) → is_everywhere place ≡ true → is_online n w ≡ true → has n id w ≡ true
 
-module _ {R : Type 0} (s : SystemView R) (id : ℕ) (level : Level) (place : Place) (w : CpusView R) (next : id ≡ s.last + 1)
+module _ {R : Type 0} (s : SystemView R) (id : ℕ) (level : Level) (place : Placement) (w : CpusView R) (next : id ≡ s.last + 1)
     (a : Agrees s) (b : SameBut id s.cpus w) (c : Enters id place w) where
   x : Record
   x = new_record id level place

@@ -5,7 +5,7 @@ use Rattle.std.specs.List.{slice_get}
 use Rattle.std.proofs.lemmas.Option.{slice_get_within}
 use mathlib.Core.Logic.{dite}
 use native.Mathlib.Decide.{ℕ_discrete}
-use Rattle.cyc_places.specs.declared.record.Place.{Place}
+use Rattle.cyc_places.specs.declared.record.Placement.{Placement}
 use Rattle.cyc_places.specs.declared.record.Record.{Record}
 use Rattle.cyc_places.specs.Places.{IsRecord, ended_on, no_counts, with_place}
 use Rattle.cyc_cpus.specs.Cpus.{CpusView, new_cpus}
@@ -81,7 +81,7 @@ holds_given s t id r h agrees but removals still records none = record {
     by k n m q (inr e) = inr (let z = ap (λ c. c.sent) (ap (λ p. ended_on n p) e ∙ none n) in omega (arith, z))
 
 -- a cyclic whose removal is not open has another place
-pub holds_moved : {R : Type 0} (s t : SystemView R) (k : ℕ) (r : Record) (place : Place) → Holds s → Agrees t
+pub holds_moved : {R : Type 0} (s t : SystemView R) (k : ℕ) (r : Record) (place : Placement) → Holds s → Agrees t
     → SameBut r.id s.cpus t.cpus
     → ((n : ℕ) → removal_on n t.cpus ≡ removal_on n s.cpus) → ((n : ℕ) → removal_on n s.cpus ≢ Some r.id)
     → IsRecord s.records k r → t.records ≡ slice_set s.records k (with_place place r) → Holds t

@@ -15,7 +15,7 @@ use Rattle.cyc_cpus.specs.Removal.{HasCyclic}
 use Rattle.cyc_cpus.specs.Cpus.{CpusView, IsCpu}
 use Rattle.cyc_places.specs.declared.record.Record.{Record}
 use Rattle.cyc_types.specs.declared.moment.When.{When}
-use Rattle.cyc_places.specs.declared.record.Place.TheVariants.{On, Everywhere}
+use Rattle.cyc_places.specs.declared.record.Placement.TheVariants.{On, Everywhere}
 use Rattle.cyc_places.specs.Places.{IsRecord}
 use Rattle.cyc_agreement.specs.Agreement.{Agrees}
 use Rattle.cyc_agreement.specs.Binding.{HasPlace}

@@ -7,7 +7,7 @@ use Rattle.cyc_types.specs.declared.moment.When.{When}
 use Rattle.cyc_types.specs.declared.refusal.Refusal.{Refusal}
 use Rattle.cyc_types.specs.declared.refusal.Refusal.TheVariants.{Memory}
 use Rattle.cyc_cpus.specs.Calls.{Reserve, Widen, Place}
-use Rattle.cyc_places.specs.declared.record.Place.TheVariants.{On}
+use Rattle.cyc_places.specs.declared.record.Placement.TheVariants.{On}
 use Rattle.cyc_places.specs.Places.{no_counts, new_record}
 use Rattle.cyc_cpus.specs.Cpus.{CallOn, on, Works}
 use Rattle.cyc_cpus.specs.Destination.{destination}

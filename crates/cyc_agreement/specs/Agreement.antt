@@ -2,8 +2,8 @@
 use Rattle.std.specs.Prelude.{◌≡◌, ℕ, ◌≤◌, ◌⊎◌, Bool, true, false, length, Option, Some}
 use Rattle.std.specs.List.{slice_get}
 use Rattle.std.specs.Option.{option_map}
-use Rattle.cyc_places.specs.declared.record.Place.{Place}
-use Rattle.cyc_places.specs.declared.record.Place.TheVariants.{On, Everywhere}
+use Rattle.cyc_places.specs.declared.record.Placement.{Placement}
+use Rattle.cyc_places.specs.declared.record.Placement.TheVariants.{On, Everywhere}
 use Rattle.cyc_places.specs.declared.record.Record.{Record}
 use Rattle.cyc_places.specs.Places.{IsRecord, ended_on, no_counts}
 use Rattle.cyc_cpus.specs.Cpus.{CpusView}
@@ -14,7 +14,7 @@ abbrev pub most_on : {R : Type 0} → ℕ → CpusView R → Option ℕ
 most_on n v = option_map (λ cpu. cpu.most) (slice_get v.cpus n)
 
 -- a cyclic with this place has one on the CPU of this number, or may have
-abbrev pub Stands : ℕ → Place → Type 0
+abbrev pub Stands : ℕ → Placement → Type 0
 Stands n (On m bound) = m ≡ n
 Stands n (Everywhere first skew) = Unit {0}
 

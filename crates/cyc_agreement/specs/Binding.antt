@@ -2,8 +2,8 @@
 use Rattle.std.specs.Prelude.{◌≡◌, ◌≢◌, ℕ, ◌⊎◌, Bool, true, false, slice_set, Result, Ok, Err}
 use Rattle.cyc_types.specs.Firing.{FiringView, FiringCall}
 use Rattle.cyc_types.specs.declared.refusal.Refusal.{Refusal}
-use Rattle.cyc_places.specs.declared.record.Place.{Place}
-use Rattle.cyc_places.specs.declared.record.Place.TheVariants.{On}
+use Rattle.cyc_places.specs.declared.record.Placement.{Placement}
+use Rattle.cyc_places.specs.declared.record.Placement.TheVariants.{On}
 use Rattle.cyc_places.specs.declared.record.Record.{Record}
 use Rattle.cyc_places.specs.Places.{IsRecord, with_place}
 use Rattle.cyc_cpus.specs.Cpus.{CpusView}
@@ -11,7 +11,7 @@ use Rattle.cyc_cpus.specs.Shifting.{Shifts}
 use Rattle.cyc_agreement.specs.System.{SystemView}
 
 -- the cyclic, which is on one CPU, is there now
-abbrev pub Records : {R : Type 0} → ℕ → Place → SystemView R → SystemView R → Type 0
+abbrev pub Records : {R : Type 0} → ℕ → Placement → SystemView R → SystemView R → Type 0
 Records id place s t = (k : ℕ) × (r : Record) × IsRecord s.records k r × (r.id ≡ id)
     × (t.records ≡ slice_set s.records k (with_place place r)) × (t.last ≡ s.last)
 

@@ -10,7 +10,7 @@ use mathlib.Core.Logic.{dite}
 use native.Mathlib.Decide.{ℕ_discrete}
 use Rattle.cyc_types.specs.Firing.{FiringView, FiringCall}
 use Rattle.cyc_types.specs.Series.{never}
-use Rattle.cyc_places.specs.declared.record.Place.{Place}
+use Rattle.cyc_places.specs.declared.record.Placement.{Placement}
 use Rattle.cyc_places.specs.declared.record.Record.{Record}
 use Rattle.cyc_places.specs.Places.{HasRisingIds, HasNoRecord, is_everywhere, new_record}
 use Rattle.cyc_types.specs.declared.level.Level.{Level}
@@ -109,7 +109,7 @@ unknown_read None = refl
 unknown_read (Some r) = refl
 
 -- a new record is found
-pub new_there : {R : Type 0} (id : ℕ) (level : Level) (place : Place) (before : List Record) (t : SystemView R)
+pub new_there : {R : Type 0} (id : ℕ) (level : Level) (place : Placement) (before : List Record) (t : SystemView R)
     → HasRisingIds t.records → t.records ≡ before ++ new_record id level place ∷ [] → IsThere id (is_everywhere place) t
 new_there id level place before t rising records =
     let at = ap (λ rs. slice_get rs (length before)) records ∙ get_last before (new_record id level place) in

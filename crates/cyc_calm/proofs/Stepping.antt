@@ -18,7 +18,7 @@ use Rattle.cyc_script.specs.declared.step.Omni.{Omni as OmniStep}
 use Rattle.cyc_script.specs.declared.step.Step.TheVariants as steps
 use Rattle.cyc_script.specs.WellFormed.{names_after}
 use Rattle.cyc_expected.specs.Calm.{OnlyMoves}
-use Rattle.cyc_places.specs.declared.record.Place.TheVariants.{On, Everywhere}
+use Rattle.cyc_places.specs.declared.record.Placement.TheVariants.{On, Everywhere}
 use Rattle.cyc_thread_expected.proofs.Spots.{same_some}
 use Rattle.cyc_thread_expected.specs.Calls.{SystemCall, Changes, Add, AddOmni}
 use Rattle.cyc_thread_expected.specs.Keeping.{TouchesRecord}

@@ -28,7 +28,7 @@ pub struct Books {
 /// Where a cyclic with calls outstanding stands.
 #[derive(Clone, Copy, Debug, PartialEq, Eq)]
 pub enum Place {
-    /// Between its raise and its place in the buffer.
+    /// Between its raise and its slot in the buffer.
     FirerHand,
     /// In the bank that the firing side has left.
     OldBank,

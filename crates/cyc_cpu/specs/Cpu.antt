@@ -128,12 +128,12 @@ WhyNoRoom view more v why.Expanding = (length v.cyclics + more ≤ most_cyclics)
     × (((view v.lock).followed ≡ false) ⊎ ((view v.low).followed ≡ false))
 WhyNoRoom view more v e = ⊥
 
--- the least bank from k on that has n places, among so many more
+-- the least bank from k on that has n slots, among so many more
 abbrev pub least_bank : ℕ → ℕ → ℕ → ℕ
 least_bank zero k n = k
 least_bank (suc more) k n = cond (nat_le n (2 ^ k)) k (least_bank more (k + 1) n)
 
--- the least bank that has n places
+-- the least bank that has n slots
 abbrev pub bank_for : ℕ → ℕ
 bank_for n = least_bank greatest_bank 0 n
 

@@ -64,7 +64,7 @@ pub(crate) fn admit_at<R: Raise>(
     }
 }
 
-/// The least bank that has so many places.
+/// The least bank that has so many slots.
 pub(crate) fn least_bank(places: usize) -> u8
     requires { places ≤ cyclics }
     ensures least { result ≡ bank_for places }
@@ -85,7 +85,7 @@ pub(crate) fn least_bank(places: usize) -> u8
     }
 }
 
-/// The places of a bank.
+/// The slots of a bank.
 pub(crate) fn places_of(bank: u8) -> usize
     requires { bank ≤ greatest_bank }
     ensures { result ≡ 2 ^ bank }

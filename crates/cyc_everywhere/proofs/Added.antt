@@ -7,7 +7,7 @@ use Rattle.cyc_types.specs.declared.moment.When.{When}
 use Rattle.cyc_types.specs.declared.refusal.Refusal.{Refusal}
 use Rattle.cyc_types.specs.declared.refusal.Refusal.TheVariants.{Memory}
 use Rattle.cyc_agreement.specs.ModelRefusals.{first_refusal, bad_now}
-use Rattle.cyc_places.specs.declared.record.Place.TheVariants.{Everywhere}
+use Rattle.cyc_places.specs.declared.record.Placement.TheVariants.{Everywhere}
 use Rattle.cyc_places.specs.declared.record.Record.{Record}
 use Rattle.cyc_places.specs.Places.{new_record, no_counts}
 use Rattle.cyc_agreement.specs.Cpus.{CpusView, IsCpu, online_cpus, numbers_from, Works}

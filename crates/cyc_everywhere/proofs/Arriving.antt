@@ -5,7 +5,7 @@ use Rattle.std.specs.List.{FoldsTo}
 use Rattle.cyc_types.specs.Firing.{FiringView, FiringCall}
 use Rattle.cyc_types.specs.declared.level.Level.{Level}
 use Rattle.cyc_types.specs.declared.moment.When.{When}
-use Rattle.cyc_places.specs.declared.record.Place.TheVariants.{On, Everywhere}
+use Rattle.cyc_places.specs.declared.record.Placement.TheVariants.{On, Everywhere}
 use Rattle.cyc_places.specs.Places.{new_record}
 use Rattle.cyc_agreement.specs.Cpus.{CpusView, online_cpus, Works, DoesAt}
 use Rattle.cyc_agreement.specs.System.{SystemView, ids_on, has, is_online}

@@ -11,8 +11,8 @@ use Rattle.cyc_types.specs.declared.firing.Sent.{Sent}
 use Rattle.cyc_types.specs.declared.moment.When.{When}
 use Rattle.cyc_agreement.specs.Rows.{Cyclic}
 use Rattle.cyc_agreement.specs.Cpu.{CpuView, HasRisingIds}
-use Rattle.cyc_places.specs.declared.record.Place.{Place}
-use Rattle.cyc_places.specs.declared.record.Place.TheVariants.{On, Everywhere}
+use Rattle.cyc_places.specs.declared.record.Placement.{Placement}
+use Rattle.cyc_places.specs.declared.record.Placement.TheVariants.{On, Everywhere}
 use Rattle.cyc_places.specs.declared.record.Record.{Record}
 use Rattle.cyc_places.specs.Places.{IsRecord, HasRisingIds as RecordsRise, ended_on, no_counts}
 use Rattle.cyc_agreement.specs.Cpus.{CpusView, OfCpu, DoesAt, Works}
@@ -57,7 +57,7 @@ module _ {R : Type 0} (step : R → FiringCall → R → Type 0) (view : R → F
   same_series : {a b : When} {i j : ℕ} → Everywhere a i ≡ Everywhere b j → (a ≡ b) × (i ≡ j)
   same_series {a} {b} {i} {j} e = (cc, cc)
 
-  regain_at : (r : Record) (place : Place) (v w : CpusView R) → r.place ≡ place
+  regain_at : (r : Record) (place : Placement) (v w : CpusView R) → r.place ≡ place
       → Works step view (return_at n now r.id r.level (ended_on n r) place) v w → Regained (r ∷ []) v w
   regain_at r (On m bound) v w is e = record {
     came = came_more r.id [] (cyclics_on n v) (cyclics_on n w)
@@ -177,7 +177,7 @@ module _ {R : Type 0} (step : R → FiringCall → R → Type 0) (view : R → F
       at_first r = ap (λ l. option_map_or f (find (λ (c : Cyclic). c.timer.id == r.id) l) 0 + g (ended_on n r)) none_before
           ∙ (let e : 0 + g (ended_on n r) ≡ g (ended_on n r) = omega arith in e)
 
-      at_last : (k : ℕ) (r : Record) → IsRecord s.records k r → (b : Bool) → is_staying s.cpus r ≡ b → (p : Place) → r.place ≡ p
+      at_last : (k : ℕ) (r : Record) → IsRecord s.records k r → (b : Bool) → is_staying s.cpus r ≡ b → (p : Placement) → r.place ≡ p
           → option_map_or f (find (λ (c : Cyclic). c.timer.id == (after_return n s.cpus r).id) (cyclics_on n t.cpus)) 0 + g
           (ended_on n (after_return n s.cpus r)) ≡ g (ended_on n r)
       at_last k r is false leaves p place = let x = turned n (is_staying s.cpus r) r in

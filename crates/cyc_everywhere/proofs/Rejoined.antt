@@ -14,8 +14,8 @@ use Rattle.cyc_types.specs.declared.firing.Sent.{Sent}
 use Rattle.cyc_agreement.specs.Cpu.{CpuView}
 use Rattle.cyc_agreement.specs.Laws.{IsLawful}
 use Rattle.cyc_agreement.specs.Rows.{Cyclic}
-use Rattle.cyc_places.specs.declared.record.Place.{Place}
-use Rattle.cyc_places.specs.declared.record.Place.TheVariants.{On, Everywhere}
+use Rattle.cyc_places.specs.declared.record.Placement.{Placement}
+use Rattle.cyc_places.specs.declared.record.Placement.TheVariants.{On, Everywhere}
 use Rattle.cyc_places.specs.declared.record.Record.{Record}
 use Rattle.cyc_places.specs.Places.{IsRecord, HasRisingIds, ended_on, no_counts, with_ended, is_everywhere}
 use Rattle.cyc_agreement.specs.Cpus.{CpusView, IsCpu}
@@ -237,7 +237,7 @@ module _ {R : Type 0} (n : ℕ) (s : SystemView R) (u w : CpusView R) (a : Agree
         online_there m ne ∙ on,
       ))
     where
-      all_stand : (p : Place) → is_everywhere p ≡ true → Stands m p
+      all_stand : (p : Placement) → is_everywhere p ≡ true → Stands m p
       all_stand (On j bound) e = absurd (false_true e)
       all_stand (Everywhere series skew) e = tt
 

@@ -14,8 +14,8 @@ use Rattle.cyc_types.specs.declared.moment.When.{When}
 use Rattle.cyc_agreement.specs.Rows.{Cyclic}
 use Rattle.cyc_agreement.specs.Cpu.{CpuView, Places, cyclic_with}
 use Rattle.cyc_agreement.specs.Calls.{Changes, Place as PlaceCall}
-use Rattle.cyc_places.specs.declared.record.Place.{Place}
-use Rattle.cyc_places.specs.declared.record.Place.TheVariants.{On, Everywhere}
+use Rattle.cyc_places.specs.declared.record.Placement.{Placement}
+use Rattle.cyc_places.specs.declared.record.Placement.TheVariants.{On, Everywhere}
 use Rattle.cyc_places.specs.declared.record.Record.{Record}
 use Rattle.cyc_places.specs.Places.{ended_on}
 use Rattle.cyc_agreement.specs.Cpus.{CpusView, IsCpu, with_cpu, ChangesAt, DoesAt, Works}
@@ -101,7 +101,7 @@ module _ {R : Type 0} (step : R → FiringCall → R → Type 0) (view : R → F
   })
 
   -- one component comes back
-  pub back_at : (n now : ℕ) (r : Record) (place : Place) (v w : CpusView R) → is_everywhere place ≡ true
+  pub back_at : (n now : ℕ) (r : Record) (place : Placement) (v w : CpusView R) → is_everywhere place ≡ true
       → Works step view (return_at n now r.id r.level (ended_on n r) place) v w → Back n (r ∷ []) v w
   back_at n now r (On m bound) v w e works = absurd (false_true e)
   back_at n now r (Everywhere series skew) v w e (u, did, last) = subst (λ x. Back n (r ∷ []) v x) last
@@ -196,7 +196,7 @@ leaving_same id (x ∷ xs) (y ∷ ys) long same =
 
 -- one component was placed
 module _ {R : Type 0} (step : R → FiringCall → R → Type 0) (view : R → FiringView) (n now : ℕ) where
-  by_place : (q : Record) (place : Place) (series : When) (skew : ℕ) (counts : Sent) (v : CpusView R) (x y : CpuView R)
+  by_place : (q : Record) (place : Placement) (series : When) (skew : ℕ) (counts : Sent) (v : CpusView R) (x y : CpuView R)
       → place ≡ Everywhere series skew → IsCpu n x v
       → Changes step view x (PlaceCall q.id q.level series.interval (component_first n series skew now) counts) y
       → Works step view (return_at n now q.id q.level counts place) v (with_cpu v n y)

@@ -7,7 +7,7 @@ use Rattle.cyc_types.specs.declared.level.Level.{Level}
 use Rattle.cyc_types.specs.declared.moment.When.{When}
 use Rattle.cyc_agreement.specs.Rows.{Cyclic}
 use Rattle.cyc_agreement.specs.Cpu.{CpuView, IsCyclic, new_cyclic, cyclic_with}
-use Rattle.cyc_places.specs.declared.record.Place.TheVariants.{Everywhere}
+use Rattle.cyc_places.specs.declared.record.Placement.TheVariants.{Everywhere}
 use Rattle.cyc_places.specs.declared.record.Record.{Record}
 use Rattle.cyc_places.specs.Places.{IsRecord, HasRisingIds, ended_on}
 use Rattle.cyc_agreement.specs.Cpus.{IsCpu, OfCpu}

@@ -6,7 +6,7 @@ use Rattle.cyc_types.specs.declared.level.Level.{Level}
 use Rattle.cyc_types.specs.declared.moment.When.{When}
 use Rattle.cyc_types.specs.declared.refusal.Refusal.{Refusal}
 use Rattle.cyc_types.specs.declared.refusal.Refusal.TheVariants.{Memory}
-use Rattle.cyc_places.specs.declared.record.Place.TheVariants.{Everywhere}
+use Rattle.cyc_places.specs.declared.record.Placement.TheVariants.{Everywhere}
 use Rattle.cyc_places.specs.Places.{new_record}
 use Rattle.cyc_agreement.specs.Cpus.{CpusView, CallOn, online_cpus, Works}
 use Rattle.cyc_agreement.specs.Reserving.{ReservesEach}

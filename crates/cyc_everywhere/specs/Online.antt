@@ -9,8 +9,8 @@ use Rattle.cyc_types.specs.declared.refusal.Refusal.{Refusal}
 use Rattle.cyc_types.specs.declared.refusal.Refusal.TheVariants.{Memory, Expanding, Online}
 use Rattle.cyc_agreement.specs.ModelRefusals.{when}
 use Rattle.cyc_agreement.specs.Calls.{Reserve, Widen, Place as PlaceCall}
-use Rattle.cyc_places.specs.declared.record.Place.{Place}
-use Rattle.cyc_places.specs.declared.record.Place.TheVariants.{On, Everywhere}
+use Rattle.cyc_places.specs.declared.record.Placement.{Placement}
+use Rattle.cyc_places.specs.declared.record.Placement.TheVariants.{On, Everywhere}
 use Rattle.cyc_places.specs.declared.record.Record.{Record}
 use Rattle.cyc_places.specs.Places.{no_counts, ended_on, with_ended}
 use Rattle.cyc_agreement.specs.Cpus.{CpusView, CallOn, on, Works}
@@ -31,7 +31,7 @@ abbrev pub staying : {R : Type 0} → SystemView R → List Record
 staying s = filter (is_staying s.cpus) s.records
 
 -- the component begins again from its start, with the counts that its earlier stays left on this CPU
-abbrev pub return_at : ℕ → ℕ → ℕ → Level → Sent → Place → List CallOn
+abbrev pub return_at : ℕ → ℕ → ℕ → Level → Sent → Placement → List CallOn
 return_at n now id level counts (On m bound) = []
 return_at n now id level counts (Everywhere first skew) =
     on n (PlaceCall id level first.interval (component_first n first skew now) counts) ∷ []

@@ -14,7 +14,7 @@ ghost use Rattle.cyc_everywhere.specs.Omni.{entering_each, AddsOmni, last_after}
 
 use crate::component::component_first;
 use cyc_agreement::Cpus;
-use cyc_places::{Place, Records};
+use cyc_places::{Placement, Records};
 use cyc_types::{CyclicId, Interval, Level, Moment, Raise, Refusal, Sent, When};
 
 /// A CPU that has the memory grows where it must, and takes a cyclic that has not expired yet (`cyclic_add_here`).
@@ -98,6 +98,6 @@ pub fn add_omni<R: Raise>(
     let When { start, interval } = when;
     enter_each(cpus, id, level, start, interval, skew, now);
     let when = When { start, interval };
-    records.push(id, level, Place::Everywhere { when, skew });
+    records.push(id, level, Placement::Everywhere { when, skew });
     Ok(id)
 }

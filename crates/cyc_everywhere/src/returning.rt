@@ -15,7 +15,7 @@ ghost use Rattle.cyc_everywhere.specs.Online.{GoesOnline};
 
 use crate::component::component_first;
 use cyc_agreement::{Cpus, is_leaving};
-use cyc_places::{Place, Record, Records};
+use cyc_places::{Placement, Record, Records};
 use cyc_types::{Moment, Raise, Refusal, When};
 
 /// Whether the cyclic at this place is omnipresent, and its removal is not open.
@@ -66,7 +66,7 @@ fn bring_back<R: Raise>(
         place: there,
         ended: _,
     } = *records.at(place);
-    let Place::Everywhere { when, skew } = there else {
+    let Placement::Everywhere { when, skew } = there else {
         unreachable!()
     };
     let When { start, interval } = when;

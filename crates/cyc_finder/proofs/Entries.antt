@@ -20,29 +20,29 @@ index_cond : (b : Bool) (p q : Option Entry)
 index_cond true p q = refl
 index_cond false p q = refl
 
-pub index_read : (xs : List Entry) → Rises id_in xs → (id place : ℕ) → IsAt id_in xs id place → (e : Entry)
-    → e ≡ get_or xs place e → index_of id xs ≡ Some e.index
-index_read xs rises id place at e read = ap (option_map index_in) (look_up_read id_in xs rises id place at e read)
+pub index_read : (xs : List Entry) → Rises id_in xs → (id position : ℕ) → IsAt id_in xs id position → (e : Entry)
+    → e ≡ get_or xs position e → index_of id xs ≡ Some e.index
+index_read xs rises id position at e read = ap (option_map index_in) (look_up_read id_in xs rises id position at e read)
 
 -- an id that stands somewhere has an index
-pub index_at : (xs : List Entry) → Rises id_in xs → (id place : ℕ) → IsAt id_in xs id place → (i : ℕ) × (index_of id xs ≡ Some i)
-index_at xs rises id place at =
+pub index_at : (xs : List Entry) → Rises id_in xs → (id position : ℕ) → IsAt id_in xs id position → (i : ℕ) × (index_of id xs ≡ Some i)
+index_at xs rises id position at =
     let d : Entry = record { id = 0; index = 0 } in
-    ((get_or xs place d).index, ap (option_map index_in) (look_up_at id_in xs rises id place at d))
+    ((get_or xs position d).index, ap (option_map index_in) (look_up_at id_in xs rises id position at d))
 
-pub index_gap : (xs : List Entry) (id place : ℕ) → IsGap id_in xs id place → index_of id xs ≡ None
-index_gap xs id place gap = ap (option_map index_in) (look_up_gap id_in xs id place gap)
+pub index_gap : (xs : List Entry) (id position : ℕ) → IsGap id_in xs id position → index_of id xs ≡ None
+index_gap xs id position gap = ap (option_map index_in) (look_up_gap id_in xs id position gap)
 
-pub index_inserted : (xs : List Entry) (id place index : ℕ) → IsGap id_in xs id place → (j : ℕ)
-    → index_of j (insert xs place (record { id = id; index = index })) ≡ cond (eqb j id) (Some index) (index_of j xs)
-index_inserted xs id place index gap j =
-    ap (option_map index_in) (look_up_inserted id_in xs id place gap (record { id = id; index = index }) refl j)
+pub index_inserted : (xs : List Entry) (id position index : ℕ) → IsGap id_in xs id position → (j : ℕ)
+    → index_of j (insert xs position (record { id = id; index = index })) ≡ cond (eqb j id) (Some index) (index_of j xs)
+index_inserted xs id position index gap j =
+    ap (option_map index_in) (look_up_inserted id_in xs id position gap (record { id = id; index = index }) refl j)
     ∙ index_cond (eqb j id) (Some (record { id = id; index = index })) (look_up id_in j xs)
 
-pub index_removed : (xs : List Entry) → Rises id_in xs → (id place : ℕ) → IsAt id_in xs id place → (j : ℕ)
-    → index_of j (remove xs place) ≡ cond (eqb j id) None (index_of j xs)
-index_removed xs rises id place at j =
-    ap (option_map index_in) (look_up_removed id_in xs rises id place at j) ∙ index_cond (eqb j id) None (look_up id_in j xs)
+pub index_removed : (xs : List Entry) → Rises id_in xs → (id position : ℕ) → IsAt id_in xs id position → (j : ℕ)
+    → index_of j (remove xs position) ≡ cond (eqb j id) None (index_of j xs)
+index_removed xs rises id position at j =
+    ap (option_map index_in) (look_up_removed id_in xs rises id position at j) ∙ index_cond (eqb j id) None (look_up id_in j xs)
 
 -- an id that has an index has one that stands in the list
 some_index : (xs : List Entry) (id i : ℕ) → index_of id xs ≡ Some i → 0 < times i (map index_in xs)
@@ -72,16 +72,16 @@ free_is xs index rises none = dite (ℕ_discrete (times index (map index_in xs))
     let found = ap (option_map index_in) (look_up_at id_in xs rises (get_or xs k d).id k (is_at_place id_in xs k d low) d) in
     absurd (none ((get_or xs k d).id, found ∙ ap Some (sym (get_or-map index_in xs k d 0 low) ∙ is))))
 
-pub indexes_insert : (xs : List Entry) (place : ℕ) (e : Entry)
-    → map index_in (insert xs place e) ≡ insert (map index_in xs) place e.index
-indexes_insert xs place e =
-    map-append index_in (take place xs) (e ∷ drop place xs)
-    ∙ (λ y. sym (take-map index_in place xs) y ++ e.index ∷ sym (drop-map index_in place xs) y)
+pub indexes_insert : (xs : List Entry) (position : ℕ) (e : Entry)
+    → map index_in (insert xs position e) ≡ insert (map index_in xs) position e.index
+indexes_insert xs position e =
+    map-append index_in (take position xs) (e ∷ drop position xs)
+    ∙ (λ y. sym (take-map index_in position xs) y ++ e.index ∷ sym (drop-map index_in position xs) y)
 
-pub indexes_remove : (xs : List Entry) (place : ℕ) → map index_in (remove xs place) ≡ remove (map index_in xs) place
-indexes_remove xs place =
-    map-append index_in (take place xs) (drop (suc place) xs)
-    ∙ (λ y. sym (take-map index_in place xs) y ++ sym (drop-map index_in (suc place) xs) y)
+pub indexes_remove : (xs : List Entry) (position : ℕ) → map index_in (remove xs position) ≡ remove (map index_in xs) position
+indexes_remove xs position =
+    map-append index_in (take position xs) (drop (suc position) xs)
+    ∙ (λ y. sym (take-map index_in position xs) y ++ sym (drop-map index_in (suc position) xs) y)
 
 cond_true : {A : Type 0} (b : Bool) (x y : A) → b ≡ true → cond b x y ≡ x
 cond_true true x y e = refl
@@ -96,12 +96,12 @@ pub hinted_inserted : (xs ys : List Entry) (hs is : List ℕ) → Hinted xs hs i
     → ((j : ℕ) → index_of j ys ≡ cond (eqb j id) (Some index) (index_of j xs))
     → (at : ℕ) → at ≡ hint_at id → at < length hs → at < length is → index_of id xs ≡ None
     → Hinted ys (set hs at id) (set is at index)
-hinted_inserted xs ys hs is h id index told at place l1 l2 absent k used = dite (ℕ_discrete k at)
+hinted_inserted xs ys hs is h id index told at position l1 l2 absent k used = dite (ℕ_discrete k at)
     (λ e.
     let a : get_or (set hs at id) k 0 ≡ id = ap (λ (x : ℕ). get_or (set hs at id) x 0) e ∙ get_or-set_same hs at id 0 l1 in
     let b : get_or (set is at index) k 0 ≡ index =
     ap (λ (x : ℕ). get_or (set is at index) x 0) e ∙ get_or-set_same is at index 0 l2 in (
-      ap hint_at a ∙ (sym place ∙ sym e),
+      ap hint_at a ∙ (sym position ∙ sym e),
       ap (λ (x : ℕ). index_of x ys) a
           ∙ (told id ∙ (cond_true (eqb id id) (Some index) (index_of id xs) (eq-eqb id id refl) ∙ ap Some (sym b))),
     ))

@@ -14,9 +14,9 @@ use Rattle.std.proofs.lemmas.Grind.{common_steps}
 use Rattle.cyc_finder.specs.Sorted.{look_up, Rises, IsAt, IsGap}
 
 module _ {T : Type 0} (id_of : T → ℕ) where
-  -- nothing before the place has the id
+  -- nothing before the position has the id
   abbrev pub NoIdBefore : List T → ℕ → ℕ → Type 0
-  NoIdBefore xs id place = (j : ℕ) (d : T) → j < place → id_of (get_or xs j d) ≢ id
+  NoIdBefore xs id position = (j : ℕ) (d : T) → j < position → id_of (get_or xs j d) ≢ id
 
   no_id_before_tail : (x : T) (xs : List T) (id i : ℕ) → NoIdBefore (x ∷ xs) id (suc i) → NoIdBefore xs id i
   no_id_before_tail x xs id i none j d less = none (suc j) d (omega arith)
@@ -101,82 +101,82 @@ module _ {T : Type 0} (id_of : T → ℕ) where
       };
     }
 
-  -- the thing at a place is that of its id
-  pub is_at_place : (xs : List T) (place : ℕ) (d : T) → place < length xs → IsAt id_of xs (id_of (get_or xs place d)) place
-  is_at_place xs place d in_range = record { in_range = in_range; has_id = λ e. ap id_of (get_or_default xs place e d in_range) }
+  -- the thing at a position is that of its id
+  pub is_at_place : (xs : List T) (position : ℕ) (d : T) → position < length xs → IsAt id_of xs (id_of (get_or xs position d)) position
+  is_at_place xs position d in_range = record { in_range = in_range; has_id = λ e. ap id_of (get_or_default xs position e d in_range) }
 
   -- what stands where the id stands
-  pub stands : (xs : List T) (id place : ℕ) → IsAt id_of xs id place → (x : T) × (slice_get xs place ≡ Some x) × (id_of x ≡ id)
-  stands xs id place at = elim (slice_get_cases xs place).1 [
+  pub stands : (xs : List T) (id position : ℕ) → IsAt id_of xs id position → (x : T) × (slice_get xs position ≡ Some x) × (id_of x ≡ id)
+  stands xs id position at = elim (slice_get_cases xs position).1 [
     | inl (x, within, is, same) ↦ (x, is, ap id_of (sym same) ∙ at.has_id x)
     | inr (past, none) ↦ let low = at.in_range in absurd (omega (arith, past, low))
   ]
 
-  module _ (xs : List T) (rises : Rises id_of xs) (id place : ℕ) (at : IsAt id_of xs id place) where
-    no_id_before_place : NoIdBefore xs id place
-    no_id_before_place j d less same = let up = rises j place d less at.in_range in let here = at.has_id d in
+  module _ (xs : List T) (rises : Rises id_of xs) (id position : ℕ) (at : IsAt id_of xs id position) where
+    no_id_before_place : NoIdBefore xs id position
+    no_id_before_place j d less same = let up = rises j position d less at.in_range in let here = at.has_id d in
         omega (arith, up, here, same)
 
-    -- the thing of the id is found at its place
-    pub look_up_at : (d : T) → look_up id_of id xs ≡ Some (get_or xs place d)
-    look_up_at d = look_up_present xs id place d at no_id_before_place
+    -- the thing of the id is found at its position
+    pub look_up_at : (d : T) → look_up id_of id xs ≡ Some (get_or xs position d)
+    look_up_at d = look_up_present xs id position d at no_id_before_place
 
     -- what is read there is found
-    pub look_up_read : (d : T) → d ≡ get_or xs place d → look_up id_of id xs ≡ Some d
+    pub look_up_read : (d : T) → d ≡ get_or xs position d → look_up id_of id xs ≡ Some d
     look_up_read d read = look_up_at d ∙ ap Some (sym read)
 
     pub look_up_written : (e : T) → id_of e ≡ id → (q : ℕ)
-        → look_up id_of q (set xs place e) ≡ cond (eqb q id) (Some e) (look_up id_of q xs)
-    look_up_written e same = look_up_set xs id place e at no_id_before_place same
+        → look_up id_of q (set xs position e) ≡ cond (eqb q id) (Some e) (look_up id_of q xs)
+    look_up_written e same = look_up_set xs id position e at no_id_before_place same
 
-    pub rises_set : (e : T) → id_of e ≡ id → Rises id_of (set xs place e)
+    pub rises_set : (e : T) → id_of e ≡ id → Rises id_of (set xs position e)
     rises_set e same i j d less in_range =
         let here = at.has_id d in
-        grind (arith, common_steps, rises i j d, rises i place d, rises place j d, at.in_range, here, same)
+        grind (arith, common_steps, rises i j d, rises i position d, rises position j d, at.in_range, here, same)
 
-    pub look_up_removed : (q : ℕ) → look_up id_of q (remove xs place) ≡ cond (eqb q id) None (look_up id_of q xs)
-    look_up_removed = look_up-remove xs rises id place at
+    pub look_up_removed : (q : ℕ) → look_up id_of q (remove xs position) ≡ cond (eqb q id) None (look_up id_of q xs)
+    look_up_removed = look_up-remove xs rises id position at
 
-    pub rises_removed : Rises id_of (remove xs place)
+    pub rises_removed : Rises id_of (remove xs position)
     rises_removed i j d less in_range =
-        let shorter = length-remove xs place at.in_range in
-        let below : (i : ℕ) → i < place → get_or (remove xs place) i d ≡ get_or xs i d =
-        λ i lt. get_or-remove_below xs place d i lt at.in_range in
-        let above : (i : ℕ) → place ≤ i → get_or (remove xs place) i d ≡ get_or xs (i + 1) d =
-        λ i le. get_or-remove_above xs place d i le at.in_range in
+        let shorter = length-remove xs position at.in_range in
+        let below : (i : ℕ) → i < position → get_or (remove xs position) i d ≡ get_or xs i d =
+        λ i lt. get_or-remove_below xs position d i lt at.in_range in
+        let above : (i : ℕ) → position ≤ i → get_or (remove xs position) i d ≡ get_or xs (i + 1) d =
+        λ i le. get_or-remove_above xs position d i le at.in_range in
         grind (
           arith,
-          λ (lt : i < place). ap id_of (below i lt),
-          λ (le : place ≤ i). ap id_of (above i le),
-          λ (lt : j < place). ap id_of (below j lt),
-          λ (le : place ≤ j). ap id_of (above j le),
+          λ (lt : i < position). ap id_of (below i lt),
+          λ (le : position ≤ i). ap id_of (above i le),
+          λ (lt : j < position). ap id_of (below j lt),
+          λ (le : position ≤ j). ap id_of (above j le),
           rises i j d,
           rises i (j + 1) d,
           rises (i + 1) (j + 1) d,
           shorter,
         )
 
-  module _ (xs : List T) (id place : ℕ) (gap : IsGap id_of xs id place) where
+  module _ (xs : List T) (id position : ℕ) (gap : IsGap id_of xs id position) where
     pub look_up_gap : look_up id_of id xs ≡ None
     look_up_gap = look_up_absent xs id (λ j d less same.
         let before = gap.smaller_before j d in let behind = gap.greater_after j d in grind (arith, before, behind, same, less))
 
     pub look_up_inserted : (e : T) → id_of e ≡ id → (q : ℕ)
-        → look_up id_of q (insert xs place e) ≡ cond (eqb q id) (Some e) (look_up id_of q xs)
+        → look_up id_of q (insert xs position e) ≡ cond (eqb q id) (Some e) (look_up id_of q xs)
     look_up_inserted e same =
-        look_up-insert xs id place e (λ j d less is. let before = gap.smaller_before j d less in omega (arith, before, is)) same
+        look_up-insert xs id position e (λ j d less is. let before = gap.smaller_before j d less in omega (arith, before, is)) same
 
-    pub rises_inserted : Rises id_of xs → (e : T) → id_of e ≡ id → Rises id_of (insert xs place e)
+    pub rises_inserted : Rises id_of xs → (e : T) → id_of e ≡ id → Rises id_of (insert xs position e)
     rises_inserted rises e same i j d less in_range =
-        let new = insert xs place e in
-        let longer = length-insert xs place e gap.in_range in
-        let id_below : (i : ℕ) → i < place → id_of (get_or new i d) ≡ id_of (get_or xs i d) =
-        λ i below. ap id_of (get_or-insert_below xs place e d i below gap.in_range) in
-        let id_here : (i : ℕ) → i ≡ place → id_of (get_or new i d) ≡ id =
-        λ i here. rw here (ap id_of (get_or-insert_at xs place e d gap.in_range) ∙ same) in
-        let id_above : (i : ℕ) → place < i → id_of (get_or new i d) ≡ id_of (get_or xs (i - 1) d) =
+        let new = insert xs position e in
+        let longer = length-insert xs position e gap.in_range in
+        let id_below : (i : ℕ) → i < position → id_of (get_or new i d) ≡ id_of (get_or xs i d) =
+        λ i below. ap id_of (get_or-insert_below xs position e d i below gap.in_range) in
+        let id_here : (i : ℕ) → i ≡ position → id_of (get_or new i d) ≡ id =
+        λ i here. rw here (ap id_of (get_or-insert_at xs position e d gap.in_range) ∙ same) in
+        let id_above : (i : ℕ) → position < i → id_of (get_or new i d) ≡ id_of (get_or xs (i - 1) d) =
         λ i above. subst (λ q. id_of (get_or new q d) ≡ id_of (get_or xs (i - 1) d)) {x = i - 1 + 1} (omega arith)
-        (ap id_of (get_or-insert_above xs place e d (i - 1) (omega arith) gap.in_range)) in
+        (ap id_of (get_or-insert_above xs position e d (i - 1) (omega arith) gap.in_range)) in
         grind (
           arith,
           id_below i,

@@ -32,7 +32,7 @@ impl HasId for Entry {
 #[derive(Drop)]
 pub struct Finder {
     entries: Vec<Entry>,
-    // At the place of an id's hint the last id that came with this place, or 0, and its index.
+    // At the position of an id's hint the last id that came with this position, or 0, and its index.
     hint_ids: Vec<u64>,
     hint_indexes: Vec<usize>,
 }
@@ -96,7 +96,7 @@ impl Finder {
             return Some(self.hint_indexes[hint]);
         }
         match search(&self.entries, id) {
-            Ok(place) => Some(usize::from(self.entries[place].index.number())),
+            Ok(position) => Some(usize::from(self.entries[position].index.number())),
             Err(_) => None,
         }
     }
@@ -108,10 +108,10 @@ impl Finder {
         ensures { (j : ℕ) → index_of j self.new ≡ cond (eqb j id) (Some index) (index_of j self.old) }
     {
         let at = usize::from(index.number());
-        let Err(place) = search(&self.entries, id) else {
+        let Err(position) = search(&self.entries, id) else {
             unreachable!()
         };
-        let inserted = self.entries.insert(place, Entry { id, index });
+        let inserted = self.entries.insert(position, Entry { id, index });
         let fits = inserted.is_ok();
         prove!(fits);
         let hint = hint_of(id);
@@ -124,10 +124,10 @@ impl Finder {
         requires { ¬ (index_of id self.old ≡ None) }
         ensures { (j : ℕ) → index_of j self.new ≡ cond (eqb j id) None (index_of j self.old) }
     {
-        let Ok(place) = search(&self.entries, id) else {
+        let Ok(position) = search(&self.entries, id) else {
             unreachable!()
         };
         forget(&mut self.hint_ids, id);
-        self.entries.remove(place);
+        self.entries.remove(position);
     }
 }

@@ -25,7 +25,7 @@ pub fn search<T: HasId>(things: &[T], id: CyclicId) -> Result<usize, usize>
     things.binary_search_by_key(&number, |thing| thing.id().number())
 }
 
-/// As `search`, with a look at the hinted place first: right whatever the hint is, and O(1) where the thing stands there.
+/// As `search`, with a look at the hinted position first: right whatever the hint is, and O(1) where the thing stands there.
 pub fn search_near<T: HasId>(things: &[T], id: CyclicId, hint: usize) -> Result<usize, usize>
     requires { Rises T.id_of things.now }
     ensures found { IfOk result (IsAt T.id_of things.now id) }

@@ -7,7 +7,7 @@ use Rattle.std.proofs.lemmas.List.{length-set, get_or-set_same, get_or-set_other
 use Rattle.cyc_expirations.specs.Expirations.{Expiration, is_before}
 use Rattle.cyc_heap.specs.declared.entry.Entry.{Entry}
 use Rattle.cyc_heap.specs.Array.{nowhere, key, entry_at, key_at, index_of, index_at, slot, slots, IsLinked, IsOrdered}
-use Rattle.cyc_heap.specs.Array.{IsOrderedBut, IsBridged, IsHeap, places}
+use Rattle.cyc_heap.specs.Array.{IsOrderedBut, IsBridged, IsHeap, index_positions}
 use Rattle.cyc_heap.proofs.Slots.{length-slots, slots_at, slot_used, slot_free, slot_kept}
 use Rattle.cyc_heap.proofs.Orders.{child_low, hole_made}
 use Rattle.cyc_heap.proofs.Places.{places_are, placed}
@@ -15,7 +15,7 @@ use Rattle.cyc_heap.proofs.Holes.{IsLinkedBut, links_opened, moved_linked, fille
 use Rattle.cyc_heap.proofs.Holes.{place_rest}
 use Rattle.cyc_heap.proofs.Views.{IsPlace, count_more, count_less}
 
--- lists that differ at one place alone are equal once that place is written
+-- lists that differ at one position alone are equal once that position is written
 pub set_but : (xs ys : List (Option Expiration)) (i : ℕ) (v : Option Expiration) → length xs ≡ length ys
     → ((k : ℕ) (d : Option Expiration) → k < length xs → k ≢ i → get_or xs k d ≡ get_or ys k d) → set xs i v ≡ set ys i v
 set_but xs ys i v long rest = same_lists (set xs i v) (set ys i v) (length-set xs i v ∙ long ∙ sym (length-set ys i v))
@@ -25,7 +25,7 @@ set_but xs ys i v long rest = same_lists (set xs i v) (set ys i v) (length-set x
       | inr off ↦ get_or-set_other xs i k v d off ∙ rest k d (omega (arith, low, l)) off ∙ sym (get_or-set_other ys i k v d off)
     ])
 
--- what a place has already changes nothing when it is written
+-- what a position has already changes nothing when it is written
 pub set_same_value : (xs : List (Option Expiration)) (i : ℕ) (v : Option Expiration) → get_or xs i None ≡ v → set xs i v ≡ xs
 set_same_value xs i v has = ap (set xs i) (sym has) ∙ set-get_or xs i None
 
@@ -33,7 +33,7 @@ module _ (len : ℕ) (entries : List Entry) (positions : List ℕ) (h : IsHeap l
   low_entry : (k : ℕ) → k < length positions → k < length entries
   low_entry k low = (let same = h.linked.same in omega (arith, low, same))
 
-  -- one more place belongs to the heap
+  -- one more position belongs to the heap
   pub longer_slots : (i : ℕ) (v : Option Expiration) → index_at entries len ≡ i
       → set (slots (len + 1) entries positions) i v ≡ set (slots len entries positions) i v
   longer_slots i v is = set_but (slots (len + 1) entries positions) (slots len entries positions) i v
@@ -50,7 +50,7 @@ module _ (len : ℕ) (entries : List Entry) (positions : List ℕ) (h : IsHeap l
             ∙ sym (slot_free len entries (get_or positions k 0) free)
       ] ∙ sym (slots_at len entries positions k d low_k))
 
-  -- the first place after the heap has a free index
+  -- the first position after the heap has a free index
   pub first_free : (i : ℕ) → len < length entries → index_at entries len ≡ i → (i < length positions)
       × (get_or (slots len entries positions) i None ≡ None)
   first_free i room is =
@@ -76,7 +76,7 @@ module _ (len : ℕ) (entries : List Entry) (positions : List ℕ) (h : IsHeap l
         ∙ ap (λ n. n + 1) h.count;
   }
 
-  -- the entry x at the place p of the index i goes to the end of the heap, which is one shorter
+  -- the entry x at the position p of the index i goes to the end of the heap, which is one shorter
   module _ (last i p : ℕ) (x : Entry) (end : last + 1 ≡ len) (pl : IsPlace len entries positions i p)
       (is : entry_at entries p ≡ x) where
     x_index : index_of x ≡ i
@@ -88,7 +88,7 @@ module _ (len : ℕ) (entries : List Entry) (positions : List ℕ) (h : IsHeap l
     low_x : index_of x < length positions
     low_x = (let low = pl.low in let e = x_index in omega (arith, low, e))
 
-    -- the index that the end had loses its place, where the entry was another
+    -- the index that the end had loses its position, where the entry was another
     pub shorter_linked_but : (m : ℕ) → p < last → index_at entries last ≡ m
         → IsLinkedBut p m (set entries last x) (set positions (index_of x) last)
     shorter_linked_but m before end_is = moved_linked last entries positions x low_last low_x p m pl.within
@@ -179,15 +179,15 @@ module _ (len : ℕ) (entries : List Entry) (positions : List ℕ) (h : IsHeap l
         let up = h.linked.up last low_last in
         let same = h.linked.same in
         let low_y : index_of y < length positions = (let l = up.0 in omega (arith, l, index_is, same)) in
-        let place : get_or positions (index_of y) 0 ≡ last = ap (λ n. get_or positions n 0) (sym index_is) ∙ up.1 in
+        let position : get_or positions (index_of y) 0 ≡ last = ap (λ n. get_or positions n 0) (sym index_is) ∙ up.1 in
         let apart : index_of y ≢ i = λ q. (let b = pl.back in let s = ap (λ n. get_or positions n 0) q in
-        absurd (omega (arith, b, s, place, before))) in
+        absurd (omega (arith, b, s, position, before))) in
         let l = length-slots len entries positions in
         let has : get_or (set (slots len entries positions) i None) (index_of y) None ≡ Some (key y)
         = get_or-set_other (slots len entries positions) i (index_of y) None None apart
         ∙ slots_at len entries positions (index_of y) None low_y
-        ∙ slot_used len entries (get_or positions (index_of y) 0) (omega (arith, place, end))
-        ∙ ap (λ p. Some (key_at entries p)) place ∙ ap (λ (y : Entry). Some (key y)) end_is in
+        ∙ slot_used len entries (get_or positions (index_of y) 0) (omega (arith, position, end))
+        ∙ ap (λ p. Some (key_at entries p)) position ∙ ap (λ (y : Entry). Some (key y)) end_is in
         set_but (slots last (set entries last x) (set positions (index_of x) last)) (set (slots len entries positions) i None)
         (index_of y) (Some (key y)) (long_new ∙ sym (length-set (slots len entries positions) i None))
         (λ k d low ne. shorter_at k d low (λ _ q. ne (q ∙ index_is)))
@@ -205,7 +205,7 @@ module _ (len : ℕ) (entries : List Entry) (positions : List ℕ) (h : IsHeap l
       low_y = (let l = length-set positions (index_of x) last in let up = (h.linked.up last low_last).0 in let e =
           ap index_of end_is in let same = h.linked.same in omega (arith, l, up, e, same))
 
-      pub swapped_linked : p < last → IsLinked (set shortened p y) (places (set shortened p y))
+      pub swapped_linked : p < last → IsLinked (set shortened p y) (index_positions (set shortened p y))
       swapped_linked before = placed (set shortened p y) (set (set positions (index_of x) last) (index_of y) p)
           (filled_linked p shortened (set positions (index_of x) last) y low_p low_y
           (shorter_linked_but (index_of y) before (ap index_of end_is)))
@@ -225,7 +225,7 @@ module _ (len : ℕ) (entries : List Entry) (positions : List ℕ) (h : IsHeap l
           (shorter_bridged before a c is_p is_c low))
 
       -- and with it the indexes have what they should
-      pub swapped_slots : p < last → set (slots last (set shortened p y) (places (set shortened p y))) (index_of y) (Some (key y))
+      pub swapped_slots : p < last → set (slots last (set shortened p y) (index_positions (set shortened p y))) (index_of y) (Some (key y))
           ≡ set (slots len entries positions) i None
       swapped_slots before =
           let linked = filled_linked p shortened (set positions (index_of x) last) y low_p low_y
@@ -270,21 +270,21 @@ module _ (len : ℕ) (entries : List Entry) (positions : List ℕ) (h : IsHeap l
             ∙ slot_used len entries (get_or positions i 0) (omega (arith, back, used))
             ∙ ap (λ p. Some (key_at entries p)) back ∙ ap (λ (x : Entry). Some (key x)) is)
 
-    -- the heap that the last place has left
+    -- the heap that the last position has left
     pub heap_cut : (y : Entry) → entry_at entries last ≡ y → last ≤ p
-        → IsHeap last (set (set entries last x) p y) (places (set (set entries last x) p y))
+        → IsHeap last (set (set entries last x) p y) (index_positions (set (set entries last x) p y))
     heap_cut y end_is after =
-        subst (λ (es : List Entry). IsHeap last es (places es)) (sym (swapped_same y end_is after))
+        subst (λ (es : List Entry). IsHeap last es (index_positions es)) (sym (swapped_same y end_is after))
         (subst (IsHeap last (set entries last x))
         (sym (places_are (set entries last x) (set positions (index_of x) last) (shorter_linked after)))
         (heap_shorter (set entries last x) (set positions (index_of x) last) (shorter_linked after) shorter_order
         (length-set entries last x) (shorter_slots after)))
 
     pub slots_cut : (y : Entry) → entry_at entries last ≡ y → last ≤ p
-        → slots last (set (set entries last x) p y) (places (set (set entries last x) p y))
+        → slots last (set (set entries last x) p y) (index_positions (set (set entries last x) p y))
         ≡ set (slots len entries positions) i None
     slots_cut y end_is after =
-        ap (λ (es : List Entry). slots last es (places es)) (swapped_same y end_is after)
+        ap (λ (es : List Entry). slots last es (index_positions es)) (swapped_same y end_is after)
         ∙ ap (slots last (set entries last x)) (places_are (set entries last x) (set positions (index_of x) last)
         (shorter_linked after))
         ∙ shorter_slots after

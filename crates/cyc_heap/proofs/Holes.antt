@@ -1,4 +1,4 @@
--- The links between places and indexes, with and without a hole.
+-- The links between index_positions and indexes, with and without a hole.
 use Rattle.std.proofs.Common.{◌≡◌, ◌≢◌, ℕ, ◌<◌, inl, inr, List, length, get_or, slice_index, Option, Some, sym, ap, ◌∙◌, arith}
 use Rattle.std.proofs.Math.ListN.{set}
 use Rattle.std.proofs.lemmas.Bool.{cases_eq}
@@ -9,7 +9,7 @@ use Rattle.cyc_heap.specs.Array.{nowhere, key, entry_at, key_at, index_at, slot,
 use Rattle.cyc_heap.proofs.Slots.{length-slots, slots_at, slot_used, slot_kept}
 use Rattle.cyc_heap.proofs.Orders.{Writes}
 
--- each index has one place, and each place one index, but for the hole and the index that has no place
+-- each index has one position, and each position one index, but for the hole and the index that has no position
 pub record IsLinkedBut (hole free : ℕ) (entries : List Entry) (positions : List ℕ) : Type 0 where
   pub same : length positions ≡ length entries
   pub low : free < length entries
@@ -19,14 +19,14 @@ pub record IsLinkedBut (hole free : ℕ) (entries : List Entry) (positions : Lis
       × (index_at entries (slice_index positions i) ≡ i) × (slice_index positions i ≢ hole)
 
 -- a write into the array is a write of its key
-pub keys_written : (entries : List Entry) (place : ℕ) (x : Entry) → place < length entries
-    → Writes place (key x) (key_at entries) (key_at (set entries place x))
-keys_written entries place x low = record {
-  here = ap key (get_or-set_same entries place x nowhere low);
-  rest = λ p ne. ap key (get_or-set_other entries place p x nowhere ne);
+pub keys_written : (entries : List Entry) (position : ℕ) (x : Entry) → position < length entries
+    → Writes position (key x) (key_at entries) (key_at (set entries position x))
+keys_written entries position x low = record {
+  here = ap key (get_or-set_same entries position x nowhere low);
+  rest = λ p ne. ap key (get_or-set_other entries position p x nowhere ne);
 }
 
--- any place of a heap may become the hole
+-- any position of a heap may become the hole
 pub links_opened : (entries : List Entry) (positions : List ℕ) (hole : ℕ) → hole < length entries → IsLinked entries positions
     → IsLinkedBut hole (index_at entries hole) entries positions
 links_opened entries positions hole low linked = record {
@@ -37,7 +37,7 @@ links_opened entries positions hole low linked = record {
   down = λ i h ne. let (low_p, back) = linked.down i h in (low_p, back, λ q. ne (sym back ∙ ap (index_at entries) q));
 }
 
--- an entry x is written at the place h, and the place at its index
+-- an entry x is written at the position h, and the position at its index
 module _ (h : ℕ) (entries : List Entry) (positions : List ℕ) (x : Entry) (low_h : h < length entries)
     (low_x : index_of x < length positions) where
   pub entry_here : entry_at (set entries h x) h ≡ x
@@ -64,7 +64,7 @@ module _ (h : ℕ) (entries : List Entry) (positions : List ℕ) (x : Entry) (lo
   long_positions : length (set positions (index_of x) h) ≡ length positions
   long_positions = length-set positions (index_of x) h
 
-  -- the entry comes from the place m, which is the hole afterwards
+  -- the entry comes from the position m, which is the hole afterwards
   module _ (m free : ℕ) (low_m : m < length entries) (apart : m ≢ h) (is : entry_at entries m ≡ x)
       (linked : IsLinkedBut h free entries positions) where
     index_is : index_at entries m ≡ index_of x
@@ -105,7 +105,7 @@ module _ (h : ℕ) (entries : List Entry) (positions : List ℕ) (x : Entry) (lo
       ];
     }
 
-    -- what an index has stays, but for the one that has no place
+    -- what an index has stays, but for the one that has no position
     pub moved_slot : (len : ℕ) → h < len → m < len → (i : ℕ) → i < length positions → i ≢ free →
         slot len (set entries h x) (get_or (set positions (index_of x) h) i 0) ≡ slot len entries (get_or positions i 0)
     moved_slot len in_h in_m i low_i ne = elim (cases_eq i (index_of x)) [
@@ -144,7 +144,7 @@ module _ (h : ℕ) (entries : List Entry) (positions : List ℕ) (x : Entry) (lo
               ∙ sym (get_or-set_other (slots len entries positions) free k v d off)
         ])
 
-  -- the entry has the index that had no place
+  -- the entry has the index that had no position
   module _ (linked : IsLinkedBut h (index_of x) entries positions) where
     pub filled_linked : IsLinked (set entries h x) (set positions (index_of x) h)
     filled_linked = record {

@@ -21,15 +21,15 @@ pub record Hollow (len : ℕ) (e : Entry) (entries₀ : List Entry) (positions�
   pub same : set (slots len entries positions) (index_of e) (Some (key e)) ≡ set (slots len entries₀ positions₀) (index_of e)
       (Some (key e))
 
--- no place below the hole comes before the entry
+-- no position below the hole comes before the entry
 abbrev pub IsAbove : ℕ → Entry → ℕ → List Entry → Type 0
 IsAbove len e hole entries = (c : ℕ) → IsChild hole c → c < len → is_before (key e) (key_at entries c) ≡ true
 
--- the place above the hole does not come after the entry
+-- the position above the hole does not come after the entry
 abbrev pub IsBelow : Entry → ℕ → List Entry → Type 0
 IsBelow e hole entries = (a : ℕ) → IsChild a hole → is_before (key_at entries a) (key e) ≡ true
 
--- at first the hole is a place of the entry's index
+-- at first the hole is a position of the entry's index
 pub hollow_first : (len : ℕ) (e : Entry) (entries : List Entry) (positions : List ℕ) (hole : ℕ) → len ≤ length entries
     → hole < len → index_of e ≡ index_at entries hole
     → IsLinked entries positions → IsOrderedBut hole len (key_at entries) → IsBridged hole len (key_at entries)
@@ -50,7 +50,7 @@ module _ (len : ℕ) (e : Entry) (entries₀ : List Entry) (positions₀ : List 
   in_entries : (p : ℕ) → p < len → p < length entries
   in_entries p low = (let long = h.long in omega (arith, low, within, long))
 
-  -- the entry x at the place m is written into the hole, and the hole is at m
+  -- the entry x at the position m is written into the hole, and the hole is at m
   module _ (m : ℕ) (x : Entry) (low : m < len) (apart : m ≢ hole) (is : x ≡ get_or entries m x) where
     pub at_m : entry_at entries m ≡ x
     at_m = get_or_default entries m nowhere x (in_entries m low) ∙ sym is

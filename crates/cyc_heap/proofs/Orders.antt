@@ -16,7 +16,7 @@ one_parent a b c (inl h) (inr k) = omega (arith, h, k)
 one_parent a b c (inr h) (inl k) = omega (arith, h, k)
 one_parent a b c (inr h) (inr k) = omega (arith, h, k)
 
--- each place but the root has one above it
+-- each position but the root has one above it
 pub parent : (c : ℕ) → 0 < c → IsChild ((c - 1) / 2) c
 parent c some = elim (cases_lt ((c - 1) % 2) 1)
     [ inl even ↦ inl (omega (arith, even, some)) | inr odd ↦ inr (omega (arith, odd, some)) ]
@@ -28,10 +28,10 @@ before_self p = self (is_before p p) refl
     self true h = refl
     self false h = sym h ∙ before_total p p h
 
--- what a write at one place does to the keys
-pub record Writes (place : ℕ) (k : Expiration) (f g : ℕ → Expiration) : Type 0 where
-  pub here : g place ≡ k
-  pub rest : (p : ℕ) → p ≢ place → g p ≡ f p
+-- what a write at one position does to the keys
+pub record Writes (position : ℕ) (k : Expiration) (f g : ℕ → Expiration) : Type 0 where
+  pub here : g position ≡ k
+  pub rest : (p : ℕ) → p ≢ position → g p ≡ f p
 
 before_both : (p q r s : Expiration) → p ≡ r → q ≡ s → is_before r s ≡ true → is_before p q ≡ true
 before_both p q r s e k h = subst₂ (λ x y. is_before x y ≡ true) (sym e) (sym k) h
@@ -63,7 +63,7 @@ hole_down n hole m f g order bridged child low least w = (ordered, bridge)
         before_both (g a) (g c) (f m) (f c) (ap g here ∙ w.here) (w.rest c (λ q. absurd (omega (arith, q, lower, down))))
         (order m c is_c low_c (λ q. absurd (omega (arith, q, down))) (λ q. absurd (omega (arith, q, lower, down))))
 
--- the hole goes up to the place above it, which comes after the key that is to fill it
+-- the hole goes up to the position above it, which comes after the key that is to fill it
 pub hole_up : (n hole up : ℕ) (k : Expiration) (f g : ℕ → Expiration) → IsOrderedBut hole n f → IsBridged hole n f
     → IsChild up hole → hole < n
     → is_before k (f up) ≡ true → Writes hole (f up) f g
@@ -83,7 +83,7 @@ hole_up n hole up k f g order bridged child low before w = (ordered, bridge, abo
       ]
     ]
 
-    -- a child of the place above comes no earlier than it did
+    -- a child of the position above comes no earlier than it did
     under : (c : ℕ) → IsChild up c → c < n → is_before (f up) (g c) ≡ true
     under c is low_c = elim (cases_eq c hole) [
       | inl there ↦ subst (λ x. is_before (f up) x ≡ true) (sym (ap g there ∙ w.here)) (before_self (f up))
@@ -116,7 +116,7 @@ hole_filled n hole k f g order below above w a c is low_c = let low_a = child_lo
   ]
 ]
 
--- any place of a heap may become the hole
+-- any position of a heap may become the hole
 pub hole_made : (n hole : ℕ) (f : ℕ → Expiration) → IsOrdered n f → hole < n → IsOrderedBut hole n f × IsBridged hole n f
 hole_made n hole f order low = (
   (λ a c is low_c _ _. order a c is low_c),
@@ -124,7 +124,7 @@ hole_made n hole f order low = (
       (order a hole is_hole low) (order hole c is_c low_c),
 )
 
--- the root comes no later than any place
+-- the root comes no later than any position
 pub root_least : (n : ℕ) (f : ℕ → Expiration) → IsOrdered n f → (p : ℕ) → p < n → is_before (f 0) (f p) ≡ true
 root_least n f order p low = to p (suc p) low (omega arith)
   where

@@ -1,4 +1,4 @@
--- The places that the array shows are those by which it is linked.
+-- The index_positions that the array shows are those by which it is linked.
 use Rattle.std.proofs.Common.{◌≡◌, ◌≢◌, ℕ, zero, suc, ◌<◌, inl, inr, List, [], ◌∷◌, length, map, get_or, cond, eqb, sym, ap, ◌∙◌}
 use Rattle.std.proofs.Common.{subst, arith, eq-eqb, ne_eqb}
 use Rattle.std.specs.List.{range_with_len}
@@ -7,9 +7,9 @@ use Rattle.std.proofs.lemmas.Bool.{cases_eq}
 use Rattle.std.proofs.lemmas.List.{same_lists, get_or_default}
 use Rattle.std.proofs.lemmas.List.FromFn.{length-map-range_with_len, get_or-map-range_with_len}
 use Rattle.cyc_heap.specs.declared.entry.Entry.{Entry}
-use Rattle.cyc_heap.specs.Array.{index_of, index_at, IsLinked, position_of, places}
+use Rattle.cyc_heap.specs.Array.{index_of, index_at, IsLinked, position_of, index_positions}
 
--- the first place of an index is the one where no place before it has the index
+-- the first position of an index is the one where no position before it has the index
 first_place : (entries : List Entry) (i p : ℕ) → p < length entries → index_at entries p ≡ i
     → ((q : ℕ) → q < p → index_at entries q ≢ i) → position_of i entries ≡ p
 first_place [] i p low is first = absurd (omega (arith, low))
@@ -27,9 +27,9 @@ module _ (entries : List Entry) (positions : List ℕ) (linked : IsLinked entrie
       omega (arith, less, back, at))
 
   -- so what links an array is no choice
-  pub places_are : places entries ≡ positions
-  unfolding places
-  places_are = same_lists (places entries) positions (length-map-range_with_len (λ i. position_of i entries) 0 (length entries)
+  pub places_are : index_positions entries ≡ positions
+  unfolding index_positions
+  places_are = same_lists (index_positions entries) positions (length-map-range_with_len (λ i. position_of i entries) 0 (length entries)
       ∙ sym linked.same)
       (λ k d low. let l = length-map-range_with_len (λ i. position_of i entries) 0 (length entries) in
       let low_k : k < length entries = omega (arith, low, l) in
@@ -37,5 +37,5 @@ module _ (entries : List Entry) (positions : List ℕ) (linked : IsLinked entrie
       get_or-map-range_with_len (λ i. position_of i entries) 0 (length entries) k k d low_k (omega arith) ∙ place_at k low_k
       ∙ get_or_default positions k 0 d (omega (arith, low_k, same)))
 
-  pub placed : IsLinked entries (places entries)
+  pub placed : IsLinked entries (index_positions entries)
   placed = subst (IsLinked entries) (sym places_are) linked

@@ -15,7 +15,7 @@ pub slots_at : (len : ℕ) (entries : List Entry) (positions : List ℕ) (k : �
 unfolding slots
 slots_at len entries positions k d low = get_or-map (slot len entries) positions k 0 d low
 
--- a place in the heap, and one after it
+-- a position in the heap, and one after it
 pub slot_used : (len : ℕ) (entries : List Entry) (p : ℕ) → p < len → slot len entries p ≡ Some (key_at entries p)
 slot_used len entries p low = cond-true (ltb p len) (Some (key_at entries p)) None (lt-ltb p len low)
 

@@ -16,7 +16,7 @@ abbrev pub view_of : ℕ → List Entry → List ℕ → ℕ → HeapView
 view_of len entries positions room = record { slots = slots len entries positions; root = root_of len entries; room = room }
 
 module _ (len : ℕ) (entries : List Entry) (positions : List ℕ) (room : ℕ) where
-  -- an index past the size has no expiration, nor has one whose place is past the heap
+  -- an index past the size has no expiration, nor has one whose position is past the heap
   pub at_past : (i : ℕ) → length positions ≤ i → expiration_at (view_of len entries positions room) i ≡ None
   at_past i past = (let long = length-slots len entries positions in
       get_or_past (slots len entries positions) i None (omega (arith, past, long)))
@@ -29,7 +29,7 @@ module _ (len : ℕ) (entries : List Entry) (positions : List ℕ) (room : ℕ) 
       → expiration_at (view_of len entries positions room) i ≡ Some (key_at entries (get_or positions i 0))
   at_used i low used = slots_at len entries positions i None low ∙ slot_used len entries (get_or positions i 0) used
 
-  -- an index that has an expiration has a place in the heap
+  -- an index that has an expiration has a position in the heap
   pub held : (i : ℕ) (e : Expiration) → expiration_at (view_of len entries positions room) i ≡ Some e → (i < length positions)
       × (get_or positions i 0 < len) × (key_at entries (get_or positions i 0) ≡ e)
   held i e is = elim (cases_lt i (length positions)) [
@@ -49,16 +49,16 @@ module _ (len : ℕ) (entries : List Entry) (positions : List ℕ) (room : ℕ) 
       of None is s = absurd (let none : ⊥ = cc in none)
       of (Some e) is s = let (low, used, _) = held i e is in (low, used)
 
-  -- what the index of a place in the heap has
+  -- what the index of a position in the heap has
   pub at_place : (p : ℕ) (x : Entry) → p < len → len ≤ length entries → IsLinked entries positions → entry_at entries p ≡ x
       → expiration_at (view_of len entries positions room) (index_of x) ≡ Some (key x)
   at_place p x low within linked is =
       let (low_i, back) = linked.up p (omega (arith, low, within)) in
       let same = linked.same in
       let index_is : index_at entries p ≡ index_of x = ap index_of is in
-      let place : get_or positions (index_of x) 0 ≡ p = ap (λ i. get_or positions i 0) (sym index_is) ∙ back in
-      at_used (index_of x) (omega (arith, low_i, same, index_is)) (omega (arith, place, low))
-      ∙ ap (λ p. Some (key_at entries p)) place ∙ ap (λ (x : Entry). Some (key x)) is
+      let position : get_or positions (index_of x) 0 ≡ p = ap (λ i. get_or positions i 0) (sym index_is) ∙ back in
+      at_used (index_of x) (omega (arith, low_i, same, index_is)) (omega (arith, position, low))
+      ∙ ap (λ p. Some (key_at entries p)) position ∙ ap (λ (x : Entry). Some (key x)) is
 
   -- the entry at the root is the least
   pub least_at_root : (x : Entry) → len ≤ length entries → IsLinked entries positions → IsOrdered len (key_at entries) → 0 < len
@@ -128,7 +128,7 @@ heap_moved len entries new_entries positions new_positions i e k h has linked or
 pub if_some : (o : Option ℕ) (P : ℕ → Type 0) (i : ℕ) → o ≡ Some i → P i → IfSome o P
 if_some o P i is p = subst (λ o. IfSome o P) (sym is) p
 
--- the place of an index that has an expiration
+-- the position of an index that has an expiration
 pub record IsPlace (len : ℕ) (entries : List Entry) (positions : List ℕ) (i p : ℕ) : Type 0 where
   pub low : i < length positions
   pub used : p < len
@@ -136,7 +136,7 @@ pub record IsPlace (len : ℕ) (entries : List Entry) (positions : List ℕ) (i 
   pub index : index_at entries p ≡ i
   pub back : get_or positions i 0 ≡ p
 
--- a place with the index of an expiration is its place
+-- a position with the index of an expiration is its position
 pub place_found : (len : ℕ) (entries : List Entry) (positions : List ℕ) (room : ℕ) (v : HeapView) (i p : ℕ)
     → IsHeap len entries positions → view_of len entries positions room ≡ v
     → IsSome (expiration_at v i) → p < length entries → index_at entries p ≡ i → IsPlace len entries positions i p
@@ -145,7 +145,7 @@ place_found len entries positions room v i p h is some within here =
     let back : get_or positions i 0 ≡ p = ap (λ n. get_or positions n 0) (sym here) ∙ (h.linked.up p within).1 in
     record { low = low; used = omega (arith, used, back); within = within; index = here; back = back }
 
--- the place that a walk has found
+-- the position that a walk has found
 pub found_place : (len : ℕ) (entries : List Entry) (positions : List ℕ) (room : ℕ) (v : HeapView) (i p : ℕ) (found : Option ℕ)
     (walked : List Entry) → IsHeap len entries positions
     → view_of len entries positions room ≡ v → IsSome (expiration_at v i) → walked ≡ entries → found ≡ Some p

@@ -29,16 +29,16 @@ key_at entries p = key (entry_at entries p)
 abbrev pub index_at : List Entry → ℕ → ℕ
 index_at entries p = index_of (entry_at entries p)
 
--- the first place of an index
+-- the first position of an index
 abbrev pub position_of : ℕ → List Entry → ℕ
 position_of i [] = 0
 position_of i (e ∷ entries) = cond (eqb (index_of e) i) 0 (suc (position_of i entries))
 
--- the place of each index, which the array doesn't keep: it is looked up by a walk (`cyclic_remove_here` of cyclic.c)
-unfoldable pub places : List Entry → List ℕ
-places entries = map (λ i. position_of i entries) (range_with_len 0 (length entries))
+-- the position of each index, which the array doesn't keep: it is looked up by a walk (`cyclic_remove_here` of cyclic.c)
+unfoldable pub index_positions : List Entry → List ℕ
+index_positions entries = map (λ i. position_of i entries) (range_with_len 0 (length entries))
 
--- what an index at this place has: an expiration where the place is in the heap
+-- what an index at this position has: an expiration where the position is in the heap
 abbrev pub slot : ℕ → List Entry → ℕ → Option Expiration
 slot len entries p = (if nat_lt p len then Some (key_at entries p) else None)
 
@@ -50,11 +50,11 @@ slots len entries positions = map (slot len entries) positions
 abbrev pub root_of : ℕ → List Entry → Option ℕ
 root_of len entries = (if nat_lt 0 len then Some (index_at entries 0) else None)
 
--- c is one of the two places below a
+-- c is one of the two positions below a
 abbrev pub IsChild : ℕ → ℕ → Type 0
 IsChild a c = (c ≡ 2 * a + 1) ⊎ (c ≡ 2 * a + 2)
 
--- no place comes before the one above it
+-- no position comes before the one above it
 abbrev pub IsOrdered : ℕ → (ℕ → Expiration) → Type 0
 IsOrdered n f = (a c : ℕ) → IsChild a c → c < n → is_before (f a) (f c) ≡ true
 
@@ -62,11 +62,11 @@ IsOrdered n f = (a c : ℕ) → IsChild a c → c < n → is_before (f a) (f c) 
 abbrev pub IsOrderedBut : ℕ → ℕ → (ℕ → Expiration) → Type 0
 IsOrderedBut hole n f = (a c : ℕ) → IsChild a c → c < n → a ≢ hole → c ≢ hole → is_before (f a) (f c) ≡ true
 
--- the places below the hole do not come before the one above it
+-- the positions below the hole do not come before the one above it
 abbrev pub IsBridged : ℕ → ℕ → (ℕ → Expiration) → Type 0
 IsBridged hole n f = (a c : ℕ) → IsChild a hole → IsChild hole c → c < n → is_before (f a) (f c) ≡ true
 
--- each index has one place, and each place one index
+-- each index has one position, and each position one index
 pub record IsLinked (entries : List Entry) (positions : List ℕ) : Type 0 where
   pub same : length positions ≡ length entries
   pub up : (p : ℕ) → p < length entries → (index_at entries p < length entries) × (slice_index positions (index_at entries p) ≡ p)

@@ -110,16 +110,16 @@ impl Entry {
     }
 }
 
-/// The first place at which an entry with this index stands, as `cyclic_remove_here` and `cyclic_reprogram_here` look an
+/// The first position at which an entry with this index stands, as `cyclic_remove_here` and `cyclic_reprogram_here` look an
 /// index up. None where there is none.
-pub(crate) fn place_of(entries: &[Entry], index: Index) -> Option<usize>
+pub(crate) fn position_of(entries: &[Entry], index: Index) -> Option<usize>
     ensures none { IfNone result ((p : ℕ) → p < length entries.now → index_at entries.now p ≢ index) }
     ensures some { IfSome result (λ p. (p < length entries.now) × (index_at entries.now p ≡ index)) }
 {
     let number = index.number();
-    for place in 0..entries.len() {
-        if entries[place].index().number() == number {
-            return Some(place);
+    for position in 0..entries.len() {
+        if entries[position].index().number() == number {
+            return Some(position);
         }
     }
     None

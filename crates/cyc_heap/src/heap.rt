@@ -5,10 +5,10 @@ ghost use Rattle.std.specs.Prelude.{option_map, Some, None, IsSome, IfSome, IfNo
 ghost use Rattle.std.specs.Prelude.{vec_capacity};
 ghost use Rattle.cyc_types.specs.Limits.{cyclics};
 ghost use Rattle.cyc_types.specs.declared.refusal.Refusal.TheVariants.{Memory};
-ghost use Rattle.cyc_heap.specs.Array.{IsLinked, entry_at, index_of, places, slots};
+ghost use Rattle.cyc_heap.specs.Array.{IsLinked, entry_at, index_of, index_positions, slots};
 ghost use Rattle.cyc_heap.specs.Heap.{HeapView, new_heap, size_of, len_of, expiration_at, with_moment, pair_of, IsEmpty, IsLeast};
 
-use crate::entry::{Entry, place_of};
+use crate::entry::{Entry, position_of};
 use crate::sift::fill;
 use cyc_types::{CyclicId, Index, Moment, Refusal};
 use std::alloc::Global;
@@ -29,18 +29,18 @@ pub struct ExpiryHeap {
 impl Model for ExpiryHeap {
     ghost use Rattle.std.specs.Prelude.{◌≤◌, length, vec_capacity};
     ghost use Rattle.cyc_heap.specs.Heap.{HeapView};
-    ghost use Rattle.cyc_heap.specs.Array.{IsHeap, places, slots, root_of};
+    ghost use Rattle.cyc_heap.specs.Array.{IsHeap, index_positions, slots, root_of};
 
     ghost Value = { HeapView };
 
     ghost view = { λ h. record {
-      slots = slots h.len h.entries.items (places h.entries.items);
+      slots = slots h.len h.entries.items (index_positions h.entries.items);
       root =
           root_of h.len h.entries.items;
       room = h.room;
     } };
 
-    ghost invariant = { λ h. IsHeap h.len h.entries.items (places h.entries.items) × (h.room ≤ vec_capacity h.entries)
+    ghost invariant = { λ h. IsHeap h.len h.entries.items (index_positions h.entries.items) × (h.room ≤ vec_capacity h.entries)
         × (length h.entries.items ≤ h.room) };
 }
 
@@ -133,7 +133,7 @@ impl ExpiryHeap {
         ensures slots { self.new.slots ≡ with_moment self.old.slots index moment }
         ensures room { self.new.room ≡ self.old.room }
     {
-        let hole = place_of(&self.entries, index).unwrap();
+        let hole = position_of(&self.entries, index).unwrap();
         let word = self.entries[hole].word;
         fill(&mut self.entries, self.len, hole, Entry { moment, word });
     }
@@ -144,7 +144,7 @@ impl ExpiryHeap {
         ensures slots { self.new.slots ≡ slice_set self.old.slots index None }
         ensures room { self.new.room ≡ self.old.room }
     {
-        let hole = place_of(&self.entries, index).unwrap();
+        let hole = position_of(&self.entries, index).unwrap();
         let last = self.len - 1;
         let removed = self.entries[hole];
         let moved = self.entries[last];
@@ -161,11 +161,11 @@ impl ExpiryHeap {
     pub fn at(&self, index: Index) -> Option<(Moment, CyclicId)>
         ensures { result ≡ option_map pair_of (expiration_at self.now index) }
     {
-        let place = place_of(&self.entries, index)?;
-        if place >= self.len {
+        let position = position_of(&self.entries, index)?;
+        if position >= self.len {
             return None;
         }
-        let entry = &self.entries[place];
+        let entry = &self.entries[position];
         Some((entry.moment, entry.id()))
     }
 
@@ -191,11 +191,11 @@ impl ExpiryHeap {
 fn add_free(entries: &mut Vec<Entry>, size: usize)
     requires few { size ≤ cyclics }
     requires entries { size ≤ vec_capacity entries.old }
-    requires linked { IsLinked entries.old.items (places entries.old.items) }
-    ensures linked { IsLinked entries.new.items (places entries.new.items) }
+    requires linked { IsLinked entries.old.items (index_positions entries.old.items) }
+    ensures linked { IsLinked entries.new.items (index_positions entries.new.items) }
     ensures length { length entries.new.items ≡ max (length entries.old.items) size }
-    ensures slots { (len : ℕ) → len ≤ length entries.old.items → slots len entries.new.items (places entries.new.items)
-        ≡ slots len entries.old.items (places entries.old.items) ++ replicate (size - length entries.old.items) None }
+    ensures slots { (len : ℕ) → len ≤ length entries.old.items → slots len entries.new.items (index_positions entries.new.items)
+        ≡ slots len entries.old.items (index_positions entries.old.items) ++ replicate (size - length entries.old.items) None }
     ensures kept { (p : ℕ) → p < length entries.old.items → entry_at entries.new.items p ≡ entry_at entries.old.items p }
     ensures entries { vec_capacity entries.old ≤ vec_capacity entries.new }
 {

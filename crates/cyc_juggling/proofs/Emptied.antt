@@ -8,7 +8,7 @@ use Rattle.std.proofs.lemmas.List.{length-set}
 use mathlib.Core.Logic.{dite}
 use native.Mathlib.Decide.{ℕ_discrete}
 use Rattle.cyc_types.specs.Firing.{FiringView, FiringCall}
-use Rattle.cyc_places.specs.declared.record.Place.TheVariants.{On}
+use Rattle.cyc_places.specs.declared.record.Placement.TheVariants.{On}
 use Rattle.cyc_places.specs.declared.record.Record.{Record}
 use Rattle.cyc_places.specs.Places.{RecordsView, IsRecord, HasRisingIds, ended_on}
 use Rattle.cyc_agreement.specs.Cpus.{CpusView}

@@ -9,7 +9,7 @@ use Rattle.cyc_agreement.specs.Cpu.{CpuView, HasNoCyclic}
 use Rattle.cyc_agreement.specs.Calls.{AskPending, Reserve}
 use Rattle.cyc_agreement.specs.Laws.{IsLawful}
 use Rattle.cyc_agreement.specs.CpuRemoval.{HasCyclic}
-use Rattle.cyc_places.specs.declared.record.Place.TheVariants.{On}
+use Rattle.cyc_places.specs.declared.record.Placement.TheVariants.{On}
 use Rattle.cyc_places.specs.declared.record.Record.{Record}
 use Rattle.cyc_places.specs.Places.{IsRecord, HasRisingIds, with_place}
 use Rattle.cyc_agreement.specs.Cpus.{CpusView, IsCpu, on, Works}

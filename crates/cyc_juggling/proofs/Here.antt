@@ -1,7 +1,7 @@
 -- The record of a cyclic that is on the source, and what a turn changes of it.
 use Rattle.std.proofs.Common.{◌≡◌, ℕ, Bool, true, false, sym, ap, ◌∙◌, subst}
 use Rattle.std.specs.Option.{option_map_or}
-use Rattle.cyc_places.specs.declared.record.Place.TheVariants.{On}
+use Rattle.cyc_places.specs.declared.record.Placement.TheVariants.{On}
 use Rattle.cyc_places.specs.declared.record.Record.{Record}
 use Rattle.cyc_places.specs.Places.{IsRecord, HasRisingIds}
 use Rattle.cyc_agreement.specs.System.{SystemView, has, is_everywhere, is_omnipresent}

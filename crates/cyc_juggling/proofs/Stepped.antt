@@ -12,7 +12,7 @@ use Rattle.cyc_types.specs.Firing.{FiringView, FiringCall}
 use Rattle.cyc_types.specs.declared.refusal.Refusal.TheVariants as why
 use Rattle.cyc_agreement.specs.Cpu.{CpuView}
 use Rattle.cyc_agreement.specs.Taken.{Taken}
-use Rattle.cyc_places.specs.declared.record.Place.TheVariants.{On}
+use Rattle.cyc_places.specs.declared.record.Placement.TheVariants.{On}
 use Rattle.cyc_places.specs.declared.record.Record.{Record}
 use Rattle.cyc_places.specs.Places.{IsRecord, HasRisingIds, with_place, ended_on}
 use Rattle.cyc_agreement.specs.Cpus.{CpusView, ChangesAt, Works}

@@ -7,7 +7,7 @@ use Rattle.cyc_types.specs.declared.refusal.Refusal.{Refusal}
 use Rattle.cyc_types.specs.declared.refusal.Refusal.TheVariants.{LastCpu}
 use Rattle.cyc_agreement.specs.ModelRefusals.{when, busy}
 use Rattle.cyc_agreement.specs.Calls.{AskPending, Reserve}
-use Rattle.cyc_places.specs.declared.record.Place.TheVariants.{On}
+use Rattle.cyc_places.specs.declared.record.Placement.TheVariants.{On}
 use Rattle.cyc_places.specs.Places.{RecordsView}
 use Rattle.cyc_agreement.specs.Cpus.{CpusView, on, online_cpus}
 use Rattle.cyc_agreement.specs.Destination.{destination}

@@ -2,7 +2,7 @@
 
 ghost use Rattle.std.specs.Prelude.{◌≡◌, ℕ, ◌+◌, ◌<◌, length, true, false, Some, None};
 ghost use Rattle.std.specs.List.{slice_get};
-ghost use Rattle.cyc_places.specs.declared.record.Place.TheVariants.{On};
+ghost use Rattle.cyc_places.specs.declared.record.Placement.TheVariants.{On};
 ghost use Rattle.cyc_places.specs.declared.record.Record.{Record};
 ghost use Rattle.cyc_places.specs.Places.{IsRecord};
 ghost use Rattle.cyc_agreement.specs.Destination.{destination};
@@ -12,7 +12,7 @@ ghost use Rattle.cyc_juggling.specs.Juggling.{system_of, TakesTurn, counted};
 ghost use Rattle.cyc_juggling.specs.Walking.{Visits, VisitsAt, all_turns};
 
 use cyc_agreement::Cpus;
-use cyc_places::{Place, Records};
+use cyc_places::{Placement, Records};
 use cyc_types::{CyclicId, JuggleReport, Raise, Refusal};
 
 /// What became of one cyclic at its turn.
@@ -51,7 +51,7 @@ fn go<R: Raise>(
     };
     match cpus.shift(id, source, target) {
         Ok(()) => {
-            let there = Place::On {
+            let there = Placement::On {
                 cpu: target,
                 bound: false,
             };
@@ -85,13 +85,13 @@ fn turn_of<R: Raise>(
         unreachable!()
     };
     match records.at(place).place {
-        Place::On { cpu: _, bound } => {
+        Placement::On { cpu: _, bound } => {
             if bound {
                 return Some(Turn::StaysBound);
             }
             Some(go(cpus, records, source, id, place))
         }
-        Place::Everywhere { when: _, skew: _ } => None,
+        Placement::Everywhere { when: _, skew: _ } => None,
     }
 }
 

@@ -40,7 +40,7 @@ empty_level ceiling = record {
   drainer_hand = None;
 }
 
--- the places of a bank (cypc_sizemask + 1; our own rule: bank k has 2^k)
+-- the slots of a bank (cypc_sizemask + 1; our own rule: bank k has 2^k)
 abbrev pub bank_size : ℕ → ℕ
 bank_size bank = 2 ^ bank
 

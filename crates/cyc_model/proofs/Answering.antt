@@ -8,7 +8,7 @@ use Rattle.cyc_level.proofs.Maps.{none_some, some_same}
 use Rattle.cyc_script.specs.declared.step.Softint.{Softint as SoftintStep}
 use Rattle.cyc_model.specs.Cpu.{Cpu, has_cyclic}
 use Rattle.cyc_model.specs.Questions.{plain}
-use Rattle.cyc_model.specs.State.{State, Outcome, Place, On, OnAll, cpu_of, nothing, each, numbers, cpus_with}
+use Rattle.cyc_model.specs.State.{State, Outcome, Placement, On, OnAll, cpu_of, nothing, each, numbers, cpus_with}
 use Rattle.cyc_model.specs.Places.{id_of, placement_of, is_unknown, forgotten}
 use Rattle.cyc_model.specs.Refusals.{when, first_refusal, busy}
 use Rattle.cyc_model.specs.Report.{counts_of}
@@ -167,7 +167,7 @@ all_leaving id k s g is = by (placement_of id s) refl (g.base.homes k id held)
     held : IsSome (found id (cpu_of k s).cyclics)
     held = (g.base.whole k).held id is
 
-    by : (o : Option Place) → placement_of id s ≡ o → IsAt k (placement_of id s) → Leaving id s
+    by : (o : Option Placement) → placement_of id s ≡ o → IsAt k (placement_of id s) → Leaving id s
     by None at here = absurd (subst (λ p. IsAt k p) at here)
     by (Some (On m bound)) at here = λ n some.
         let a = subst (λ p. IsAt k p) at here in let b = subst (λ p. IsAt n p) at (g.base.homes n id some) in

@@ -10,7 +10,7 @@ use Rattle.cyc_types.specs.declared.level.Soft.{Soft}
 use Rattle.cyc_model.specs.Acts.{Act, events_at, calls_of, losses_of}
 use Rattle.cyc_model.specs.Cpu.{Cyclic, Cpu, Here}
 use Rattle.cyc_model.specs.Questions.{outstanding_here}
-use Rattle.cyc_model.specs.State.{State, Outcome, Place, On, OnAll, on, absent, cpu_of, nothing, followed_by}
+use Rattle.cyc_model.specs.State.{State, Outcome, Placement, On, OnAll, on, absent, cpu_of, nothing, followed_by}
 use Rattle.cyc_model.specs.Places.{placement_of}
 use Rattle.cyc_model.specs.Remove.{ended_expired, ended_lost}
 use Rattle.cyc_model.specs.Report.{expired_here, lost_here}
@@ -26,7 +26,7 @@ use Rattle.cyc_model.proofs.Totals.{sum_set, all_set, Balanced, carried, expired
 use Rattle.cyc_model.proofs.Shifts.{Shift}
 
 -- whether a cyclic with this place can be on the CPU
-abbrev pub IsAt : ℕ → Option Place → Type 0
+abbrev pub IsAt : ℕ → Option Placement → Type 0
 IsAt n None = ⊥
 IsAt n (Some (On m bound)) = m ≡ n
 IsAt n (Some (OnAll e)) = ⊤

@@ -14,7 +14,7 @@ use Rattle.cyc_model.specs.Cpu.{Cpu, Here}
 use Rattle.cyc_model.specs.Firing.{due_here, fired, fire_here}
 use Rattle.cyc_model.specs.Serving.{serve_here}
 use Rattle.cyc_model.specs.Moving.{moment_at, reprogram_here}
-use Rattle.cyc_model.specs.State.{State, Outcome, Place, On, OnAll, on, cpu_of, each, nothing, followed_by, online_cpus}
+use Rattle.cyc_model.specs.State.{State, Outcome, Placement, On, OnAll, on, cpu_of, each, nothing, followed_by, online_cpus}
 use Rattle.cyc_model.specs.Places.{id_of, placement_of, put_at, home_of, home_at, is_everywhere}
 use Rattle.cyc_model.specs.Refusals.{when, first_refusal, no_cpu, offline_cpu, magnitude}
 use Rattle.cyc_model.specs.Bind.{no_cyclic, omnipresent, unbind_refusal, unbind}
@@ -167,7 +167,7 @@ well_reprogram step r s g why =
 
 -- ---- a cyclic that is on one CPU is put down as on it again
 
-put_gone : (id : ℕ) (place : Place) (s : State) (j : ℕ) → IsSome (placement_of id s) → IsGone j s → IsGone j (put_at id place s)
+put_gone : (id : ℕ) (place : Placement) (s : State) (j : ℕ) → IsSome (placement_of id s) → IsGone j s → IsGone j (put_at id place s)
 put_gone id place s j known gone = (
   gone.0,
   place_put_other id j place s (λ e. let n : IsSome (placement_of j s) = ap (λ (k : ℕ). is_some (placement_of k s)) e ∙ known in

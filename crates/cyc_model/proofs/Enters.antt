@@ -12,7 +12,7 @@ use Rattle.cyc_script.specs.declared.step.Omni.{Omni as OmniStep}
 use Rattle.cyc_model.specs.Cpu.{Cyclic, Cpu, Here, is_of}
 use Rattle.cyc_model.specs.Moving.{put_in, enter_here}
 use Rattle.cyc_model.specs.Questions.{plain}
-use Rattle.cyc_model.specs.State.{State, Place, On, OnAll, Everywhere, absent, on, cpu_of, each, online_cpus}
+use Rattle.cyc_model.specs.State.{State, Placement, On, OnAll, Everywhere, absent, on, cpu_of, each, online_cpus}
 use Rattle.cyc_model.specs.Places.{placement_of, given, destination, home_at, is_everywhere}
 use Rattle.cyc_model.specs.Refusals.{when, first_refusal, bad_now, ids_spent, no_room}
 use Rattle.cyc_model.specs.Add.{enter, add_refusal, added, add}
@@ -122,7 +122,7 @@ base_fresh x s expired lost b = record {
       let h = b.books id in omega (arith, a, c, h);
 }
 
-module _ (name : ℕ) (place : Place) (s : State) (b : Base None s) (few : s.last_id < greatest_id) where
+module _ (name : ℕ) (place : Placement) (s : State) (b : Base None s) (few : s.last_id < greatest_id) where
   pub given_base : Base None (given name place s)
   given_base = record {
     whole = b.whole;
@@ -132,7 +132,7 @@ module _ (name : ℕ) (place : Place) (s : State) (b : Base None s) (few : s.las
     books = b.books;
   }
     where
-      by : (n id : ℕ) (o : Option Place) → placement_of id s ≡ o → IsAt n (placement_of id s) → IsAt n (placement_of id (given name place s))
+      by : (n id : ℕ) (o : Option Placement) → placement_of id s ≡ o → IsAt n (placement_of id s) → IsAt n (placement_of id (given name place s))
       by n id None is at = absurd (subst (λ o. IsAt n o) is at)
       by n id (Some p) is at = subst (λ o. IsAt n o) (is ∙ sym (place_given_old name place s id p is)) at
 
@@ -149,7 +149,7 @@ new_away : (s : State) → Base None s → (n : ℕ) → found (s.last_id + 1) (
 new_away s b n = gone_away None s b (s.last_id + 1) (place_new s b.rise) n
 
 -- a place that was there before is that of an older id
-older : (name : ℕ) (place : Place) (s : State) (j : ℕ) (p : Place) → Base None s → j ≢ s.last_id + 1
+older : (name : ℕ) (place : Placement) (s : State) (j : ℕ) (p : Placement) → Base None s → j ≢ s.last_id + 1
     → placement_of j (given name place s) ≡ Some p → placement_of j s ≡ Some p
 older name place s j p b ne is = sym (place_given_other name place s j ne) ∙ is
 

@@ -19,7 +19,7 @@ use Rattle.cyc_model.specs.Serving.{serve_here}
 use Rattle.cyc_model.specs.Moving.{must_grow, widen_here, switch_here, place_here, put_in, enter_here, take_here, mark_here}
 use Rattle.cyc_model.specs.Moving.{clear_here, reprogram_here, moment_at, bank_for}
 use Rattle.cyc_model.specs.Questions.{Questions}
-use Rattle.cyc_model.specs.State.{State, Outcome, Place, On, OnAll, Placed, Everywhere, each, on, absent, cpu_of, online_cpus}
+use Rattle.cyc_model.specs.State.{State, Outcome, Placement, On, OnAll, Placed, Everywhere, each, on, absent, cpu_of, online_cpus}
 use Rattle.cyc_model.specs.State.{cpus_with, numbers}
 use Rattle.cyc_model.specs.Places.{id_of, destination, is_leaving, keep_counts, given, put_at, replaced, home_of, is_bound}
 use Rattle.cyc_model.specs.Places.{forgotten}
@@ -177,19 +177,19 @@ rise_from : (low from high : ℕ) (ps : List Placed) → low ≤ from → RiseTo
 rise_from low from high [] le h = omega (arith, le, h)
 rise_from low from high (p ∷ ps) le h = (let a = h.0 in omega (arith, a, le), h.1)
 
-pub rise_append : (low high : ℕ) (place : Place) (ps : List Placed) → RiseTo low ps high
+pub rise_append : (low high : ℕ) (place : Placement) (ps : List Placed) → RiseTo low ps high
     → RiseTo low (ps ++ record { id = high + 1; place = place } ∷ []) (high + 1)
 rise_append low high place [] h = (omega (arith, h), omega arith)
 rise_append low high place (p ∷ ps) h = (h.0, rise_append p.id high place ps h.1)
 
-replaced_id : (id : ℕ) (place : Place) (p : Placed) → (replaced id place p).id ≡ p.id
+replaced_id : (id : ℕ) (place : Placement) (p : Placed) → (replaced id place p).id ≡ p.id
 replaced_id id place p = by (p.id == id)
   where
     by : (b : Bool) → (cond b (record p { place = place }) p).id ≡ p.id
     by true = refl
     by false = refl
 
-pub rise_map : (low high id : ℕ) (place : Place) (ps : List Placed) → RiseTo low ps high
+pub rise_map : (low high id : ℕ) (place : Placement) (ps : List Placed) → RiseTo low ps high
     → RiseTo low (map (replaced id place) ps) high
 rise_map low high id place [] h = h
 rise_map low high id place (p ∷ ps) h = (
@@ -237,14 +237,14 @@ module _ (least : ℕ) where
         (enter_most s.last_id n (indexes s.admissions) x one (cpu_of n s) (at_most s.last_id s.cpus h.cyclics n)) n;
   }
 
-  keeps_given : (name : ℕ) (place : Place) (s : State) → AreGiven least s → AreGiven least (given name place s)
+  keeps_given : (name : ℕ) (place : Placement) (s : State) → AreGiven least s → AreGiven least (given name place s)
   keeps_given name place s h = record {
     many = let a = h.many in omega (arith, a);
     rise = rise_append 0 s.last_id place s.placed h.rise;
     cyclics = all_more s.last_id (s.last_id + 1) (omega arith) s.cpus h.cyclics;
   }
 
-  keeps_put : (id : ℕ) (place : Place) (s : State) → AreGiven least s → AreGiven least (put_at id place s)
+  keeps_put : (id : ℕ) (place : Placement) (s : State) → AreGiven least s → AreGiven least (put_at id place s)
   keeps_put id place s h = record { many = h.many; rise = rise_map 0 s.last_id id place s.placed h.rise; cyclics = h.cyclics }
 
   keeps_forgotten : (id : ℕ) (s : State) → AreGiven least s → AreGiven least (forgotten id s)
@@ -356,7 +356,7 @@ module _ (least : ℕ) where
   keeps_leaving q step n (id ∷ ids) j h = h
   keeps_leaving q step n [] j h = keeps_last (any_pending q n (ids_on n j.outcome.state) j.outcome.state) step n j.outcome h
 
-  keeps_return : (indexes : ℕ → ℕ) (n id : ℕ) (p : Place) (s : State) → id ≤ s.last_id → AreGiven least s
+  keeps_return : (indexes : ℕ → ℕ) (n id : ℕ) (p : Placement) (s : State) → id ≤ s.last_id → AreGiven least s
       → AreGiven least (return_at indexes n id p s).state
   keeps_return indexes n id (On m bound) s one h = h
   keeps_return indexes n id (OnAll e) s one h = record {
@@ -368,7 +368,7 @@ module _ (least : ℕ) where
         (at_most s.last_id s.cpus h.cyclics n)) n;
   }
 
-  same_last : (indexes : ℕ → ℕ) (n id : ℕ) (p : Place) (s : State) → (return_at indexes n id p s).state.last_id ≡ s.last_id
+  same_last : (indexes : ℕ → ℕ) (n id : ℕ) (p : Placement) (s : State) → (return_at indexes n id p s).state.last_id ≡ s.last_id
   same_last indexes n id (On m bound) s = refl
   same_last indexes n id (OnAll e) s = refl
 

@@ -10,7 +10,7 @@ use Rattle.cyc_types.specs.declared.refusal.Refusal.TheVariants.{LastCpu, Pendin
 use Rattle.cyc_script.specs.declared.step.Bind.{Bind as BindStep}
 use Rattle.cyc_model.specs.Cpu.{Cyclic, Cpu}
 use Rattle.cyc_model.specs.Questions.{plain, outstanding_here}
-use Rattle.cyc_model.specs.State.{State, Outcome, Place, On, OnAll, cpu_of, nothing, followed_by, online_cpus}
+use Rattle.cyc_model.specs.State.{State, Outcome, Placement, On, OnAll, cpu_of, nothing, followed_by, online_cpus}
 use Rattle.cyc_model.specs.Places.{id_of, placement_of, put_at, home_of, home_at, is_bound, is_omnipresent, is_everywhere}
 use Rattle.cyc_model.specs.Places.{destination}
 use Rattle.cyc_model.specs.Refusals.{first_refusal, busy, no_cpu, offline_cpu, last_cpu, no_room}
@@ -269,7 +269,7 @@ single_there n s g j has =
     not_true true h = absurd (cc)
     not_true false h = refl
 
-    by : (o : Option Place) → is_everywhere o ≡ false → IsAt n o → (bound : Bool) × (o ≡ Some (On n bound))
+    by : (o : Option Placement) → is_everywhere o ≡ false → IsAt n o → (bound : Bool) × (o ≡ Some (On n bound))
     by None single at = absurd at
     by (Some (On m bound)) single at = (bound, ap (λ k. Some (On k bound)) at)
     by (Some (OnAll e)) single at = absurd (cc)

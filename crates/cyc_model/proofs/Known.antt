@@ -8,7 +8,7 @@ use Rattle.cyc_script.specs.declared.step.Step.TheVariants.{Add, Omni, Bind, Unb
 use Rattle.cyc_script.specs.declared.step.Step.TheVariants.{Offline, Online}
 use Rattle.cyc_model.specs.Firing.{fire_here}
 use Rattle.cyc_model.specs.Questions.{plain}
-use Rattle.cyc_model.specs.State.{State, Outcome, Place, On, OnAll, Placed, on, each, online_cpus}
+use Rattle.cyc_model.specs.State.{State, Outcome, Placement, On, OnAll, Placed, on, each, online_cpus}
 use Rattle.cyc_model.specs.Places.{placement_of, is_unknown, given, destination}
 use Rattle.cyc_model.specs.Add.{enter}
 use Rattle.cyc_model.specs.Omni.{component, everywhere}
@@ -61,10 +61,10 @@ module _ (id : ℕ) where
   stays_placed : (s t : State) → t.placed ≡ s.placed → Stays s t
   stays_placed s t same known = ap (λ ps. is_some (option_map (λ (p : Placed). p.place) (find (λ p. p.id == id) ps))) same ∙ known
 
-  stays_given : (name : ℕ) (place : Place) (s : State) → Stays s (given name place s)
+  stays_given : (name : ℕ) (place : Placement) (s : State) → Stays s (given name place s)
   stays_given name place s known = by (placement_of id s) refl known
     where
-      by : (o : Option Place) → placement_of id s ≡ o → IsSome o → IsSome (placement_of id (given name place s))
+      by : (o : Option Placement) → placement_of id s ≡ o → IsSome o → IsSome (placement_of id (given name place s))
       by None is some = absurd (cc)
       by (Some p) is some = ap is_some (place_given_old name place s id p is)
 
@@ -103,7 +103,7 @@ module _ (id : ℕ) where
       → refusal_of plain x s ≡ None → is_unknown id (does plain texts indexes step x s).state ≡ true → is_unknown id s ≡ true
   unknown_before texts indexes step x s is g why gone = by (placement_of id s) refl
     where
-      by : (o : Option Place) → placement_of id s ≡ o → not (is_some (placement_of id s)) ≡ true
+      by : (o : Option Placement) → placement_of id s ≡ o → not (is_some (placement_of id s)) ≡ true
       by None e = ap (λ p. not (is_some p)) e
       by (Some p) e =
           let known = stays_does texts indexes step x s is g why (ap is_some e) in

@@ -7,7 +7,7 @@ use Rattle.std.proofs.lemmas.List.Folds.{find-append}
 use mathlib.Core.Logic.{dite}
 use native.Mathlib.Decide.{ℕ_discrete}
 use Rattle.cyc_level.proofs.Maps.{some_same}
-use Rattle.cyc_model.specs.State.{State, Place, Placed}
+use Rattle.cyc_model.specs.State.{State, Placement, Placed}
 use Rattle.cyc_model.specs.Places.{placement_of, put_at, replaced, given, forgotten}
 use Rattle.cyc_model.specs.Laws.{RiseTo}
 
@@ -48,7 +48,7 @@ entry_within low high id (q ∷ qs) h p e = dite (ℕ_discrete q.id id)
 
 -- ---- one entry more, one changed, one less
 
-pub place_given_new : (name : ℕ) (place : Place) (s : State) → RiseTo 0 s.placed s.last_id
+pub place_given_new : (name : ℕ) (place : Placement) (s : State) → RiseTo 0 s.placed s.last_id
     → placement_of (s.last_id + 1) (given name place s) ≡ Some place
 place_given_new name place s rise =
     let none : entry (s.last_id + 1) s.placed ≡ None = entry_above 0 s.last_id (s.last_id + 1) s.placed rise (omega arith) in
@@ -58,7 +58,7 @@ place_given_new name place s rise =
     ∙ ap (λ (o : Option Placed). option_or o (entry (s.last_id + 1) (new ∷ []))) none
     ∙ entry_first (s.last_id + 1) new [] refl)
 
-pub place_given_old : (name : ℕ) (place : Place) (s : State) (id : ℕ) (p : Place) → placement_of id s ≡ Some p
+pub place_given_old : (name : ℕ) (place : Placement) (s : State) (id : ℕ) (p : Placement) → placement_of id s ≡ Some p
     → placement_of id (given name place s) ≡ Some p
 place_given_old name place s id p is =
     ap (option_map (λ (q : Placed). q.place)) (find-append (λ (q : Placed). q.id == id) s.placed (record {
@@ -73,7 +73,7 @@ place_given_old name place s id p is =
     by None r e = absurd (cc)
     by (Some q) r e = e
 
-pub place_given_other : (name : ℕ) (place : Place) (s : State) (id : ℕ) → id ≢ s.last_id + 1
+pub place_given_other : (name : ℕ) (place : Placement) (s : State) (id : ℕ) → id ≢ s.last_id + 1
     → placement_of id (given name place s) ≡ placement_of id s
 place_given_other name place s id ne =
     let new : Placed = record { id = s.last_id + 1; place = place } in
@@ -85,14 +85,14 @@ place_given_other name place s id ne =
     or_none None = refl
     or_none (Some p) = refl
 
-replaced_id : (id : ℕ) (place : Place) (p : Placed) → (replaced id place p).id ≡ p.id
+replaced_id : (id : ℕ) (place : Placement) (p : Placed) → (replaced id place p).id ≡ p.id
 replaced_id id place p = by (p.id == id)
   where
     by : (b : Bool) → (cond b (record p { place = place }) p).id ≡ p.id
     by true = refl
     by false = refl
 
-entry_replaced : (id j : ℕ) (place : Place) (ps : List Placed)
+entry_replaced : (id j : ℕ) (place : Placement) (ps : List Placed)
     → entry j (map (replaced id place) ps) ≡ option_map (replaced id place) (entry j ps)
 entry_replaced id j place [] = refl
 entry_replaced id j place (p ∷ ps) = dite (ℕ_discrete p.id j)
@@ -107,7 +107,7 @@ entry_id id p (q ∷ qs) e = dite (ℕ_discrete q.id id)
     (λ same. subst (λ (z : Placed). z.id ≡ id) (some_same q p (sym (entry_first id q qs same) ∙ e)) same)
     (λ ne. entry_id id p qs (sym (entry_rest id q qs ne) ∙ e))
 
-pub place_put_other : (id j : ℕ) (place : Place) (s : State) → j ≢ id → placement_of j (put_at id place s) ≡ placement_of j s
+pub place_put_other : (id j : ℕ) (place : Placement) (s : State) → j ≢ id → placement_of j (put_at id place s) ≡ placement_of j s
 place_put_other id j place s ne =
     ap (option_map (λ (q : Placed). q.place)) (entry_replaced id j place s.placed)
     ∙ by (entry j s.placed) refl
@@ -118,7 +118,7 @@ place_put_other id j place s ne =
     by (Some p) is = ap (λ (b : Bool). Some ((cond b (record p { place = place }) p).place))
         (ne_eqb p.id id (λ e. ne (sym (entry_id j p s.placed is) ∙ e)))
 
-pub place_put_same : (id : ℕ) (place : Place) (s : State) (p : Place) → placement_of id s ≡ Some p
+pub place_put_same : (id : ℕ) (place : Placement) (s : State) (p : Placement) → placement_of id s ≡ Some p
     → placement_of id (put_at id place s) ≡ Some place
 place_put_same id place s p known =
     ap (option_map (λ (q : Placed). q.place)) (entry_replaced id id place s.placed)
@@ -130,7 +130,7 @@ place_put_same id place s p known =
     by (Some q) is e = ap (λ (b : Bool). Some ((cond b (record q { place = place }) q).place))
         (eq-eqb q.id id (entry_id id q s.placed is))
 
-pub place_put_none : (id : ℕ) (place : Place) (s : State) → placement_of id s ≡ None → placement_of id (put_at id place s) ≡ None
+pub place_put_none : (id : ℕ) (place : Placement) (s : State) → placement_of id s ≡ None → placement_of id (put_at id place s) ≡ None
 place_put_none id place s none =
     ap (option_map (λ (q : Placed). q.place)) (entry_replaced id id place s.placed) ∙ by (entry id s.placed) none
   where
@@ -165,7 +165,7 @@ pub place_forgotten : (id : ℕ) (s : State) → placement_of id (forgotten id s
 place_forgotten id s = ap (option_map (λ (q : Placed). q.place)) (entry_forgot id s.placed)
 
 -- the place of an id that isn't known stays unknown
-pub place_known : (id : ℕ) (s : State) (p : Place) → RiseTo 0 s.placed s.last_id → placement_of id s ≡ Some p
+pub place_known : (id : ℕ) (s : State) (p : Placement) → RiseTo 0 s.placed s.last_id → placement_of id s ≡ Some p
     → (0 < id) × (id ≤ s.last_id)
 place_known id s p rise is = by (entry id s.placed) refl is
   where

@@ -6,7 +6,7 @@ use Rattle.std.specs.Option.{option_map}
 use Rattle.cyc_types.specs.declared.refusal.Refusal.TheVariants.{NoCyclic}
 use Rattle.cyc_text.specs.Lines.{removed}
 use Rattle.cyc_model.specs.Questions.{plain, outstanding_here}
-use Rattle.cyc_model.specs.State.{State, Outcome, Place, Placed, cpu_of, each, numbers, cpus_with}
+use Rattle.cyc_model.specs.State.{State, Outcome, Placement, Placed, cpu_of, each, numbers, cpus_with}
 use Rattle.cyc_model.specs.Places.{id_of, placement_of, is_unknown, is_leaving, forgotten}
 use Rattle.cyc_model.specs.Refusals.{when}
 use Rattle.cyc_model.specs.Remove.{busy_on_each, begin, poll, clear_if, begun}
@@ -75,7 +75,7 @@ removes_tell_calls indexes cpus ceiling texts steps step name text s some is why
 leaving_known : (s : State) → Good s → (k id : ℕ) → (cpu_of k s).removal ≡ Some id → IsSome (placement_of id s)
 leaving_known s g k id is = by (placement_of id s) refl (g.base.homes k id ((g.base.whole k).held id is))
   where
-    by : (o : Option Place) → placement_of id s ≡ o → IsAt k (placement_of id s) → IsSome (placement_of id s)
+    by : (o : Option Placement) → placement_of id s ≡ o → IsAt k (placement_of id s) → IsSome (placement_of id s)
     by None at here = absurd (subst (λ p. IsAt k p) at here)
     by (Some p) at here = ap is_some at
 
@@ -152,7 +152,7 @@ polls_tell_calls indexes cpus ceiling texts steps step i s some is why =
 pub unknown_gone : (id : ℕ) (s : State) → is_unknown id s ≡ true → placement_of id s ≡ None
 unknown_gone id s is = by (placement_of id s) is
   where
-    by : (o : Option Place) → not (is_some o) ≡ true → o ≡ None
+    by : (o : Option Placement) → not (is_some o) ≡ true → o ≡ None
     by None h = refl
     by (Some p) h = absurd (cc)
 

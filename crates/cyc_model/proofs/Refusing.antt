@@ -10,7 +10,7 @@ use Rattle.cyc_types.specs.declared.refusal.Refusal.TheVariants.{Omnipresent}
 use Rattle.cyc_model.specs.Cpu.{Cpu}
 use Rattle.cyc_model.specs.Moving.{must_grow}
 use Rattle.cyc_model.specs.Questions.{plain, has_followed}
-use Rattle.cyc_model.specs.State.{State, Place, On, OnAll, cpu_of}
+use Rattle.cyc_model.specs.State.{State, Placement, On, OnAll, cpu_of}
 use Rattle.cyc_model.specs.Places.{placement_of, is_unknown, is_leaving, is_omnipresent, is_everywhere}
 use Rattle.cyc_model.specs.Refusals.{when, first_refusal, busy, only_if, no_room, no_cpu, offline_cpu, bad_now, ids_spent}
 use Rattle.cyc_model.specs.Bind.{no_cyclic, omnipresent}
@@ -77,7 +77,7 @@ is_cyclic id s h =
     (not_not (is_some (placement_of id s)) q.0, q.1)
 
 -- and that is on one CPU
-pub is_single : (o : Option Place) → IsSome o → is_everywhere o ≡ false → (n : ℕ) × (bound : Bool) × (o ≡ Some (On n bound))
+pub is_single : (o : Option Placement) → IsSome o → is_everywhere o ≡ false → (n : ℕ) × (bound : Bool) × (o ≡ Some (On n bound))
 is_single None some not_all = absurd (cc)
 is_single (Some (On n bound)) some not_all = (n, bound, refl)
 is_single (Some (OnAll e)) some not_all = absurd (cc)

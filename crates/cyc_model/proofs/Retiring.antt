@@ -16,7 +16,7 @@ use Rattle.cyc_model.specs.Cpu.{Cpu, Here, cyclic_of, handler_level_of, nothing_
 use Rattle.cyc_model.specs.Moving.{take_here}
 use Rattle.cyc_model.specs.Questions.{plain, outstanding_here}
 use Rattle.cyc_model.specs.Serving.{level_at}
-use Rattle.cyc_model.specs.State.{State, Outcome, Place, On, OnAll, Placed, on, cpu_of, each}
+use Rattle.cyc_model.specs.State.{State, Outcome, Placement, On, OnAll, Placed, on, cpu_of, each}
 use Rattle.cyc_model.specs.Places.{placement_of, home_at, is_omnipresent, is_everywhere}
 use Rattle.cyc_model.specs.Report.{counts_of}
 use Rattle.cyc_model.specs.Juggle.{juggled, single_ids}
@@ -298,7 +298,7 @@ module _ (n other : ℕ) (s : State) (g : Good s) (within : n < length s.cpus) (
       nowhere j m none = gone_away None u (switch_base false n t within_t gone_all.base) j (place_u j ∙ none) m
           ∙ sym (gone_away None s g.base j none m)
 
-      by : (j : ℕ) (o : Option Place) → placement_of j s ≡ o → is_everywhere (placement_of j s) ≡ false
+      by : (j : ℕ) (o : Option Placement) → placement_of j s ≡ o → is_everywhere (placement_of j s) ≡ false
           → cyclic_of j (cpu_of (home_at (placement_of j s)) u) ≡ cyclic_of j (cpu_of (home_at (placement_of j s)) s)
       by j None is single = nowhere j (home_at (placement_of j s)) is
       by j (Some (On m bound)) is single = subst (λ p. cyclic_of j (cpu_of (home_at p) u)

@@ -13,7 +13,7 @@ use Rattle.cyc_model.specs.Acts.{calls_of, losses_of}
 use Rattle.cyc_model.specs.Cpu.{Cyclic, Cpu, cyclic_of, nothing_here}
 use Rattle.cyc_model.specs.Moving.{must_grow, widen_here, put_in, place_here}
 use Rattle.cyc_model.specs.Questions.{plain, has_followed}
-use Rattle.cyc_model.specs.State.{State, Outcome, Place, On, OnAll, Everywhere, Placed, on, cpu_of, each, followed_by}
+use Rattle.cyc_model.specs.State.{State, Outcome, Placement, On, OnAll, Everywhere, Placed, on, cpu_of, each, followed_by}
 use Rattle.cyc_model.specs.Places.{placement_of, home_at, is_everywhere, without_ended}
 use Rattle.cyc_model.specs.Refusals.{when, no_cpu, bad_now}
 use Rattle.cyc_model.specs.Online.{staying, online_cpu, no_room_for_all, online_refusal, again, return_at, return_of, go_online}
@@ -393,7 +393,7 @@ module _ (indexes : ℕ → ℕ) (n : ℕ) (s : State) (g : Good s) (within : n 
       nowhere j m none = gone_away None v (switch_base true n u within_u all_back.1.base) j (place_v j ∙ none) m
           ∙ sym (gone_away None s g.base j none m)
 
-      by : (j : ℕ) (o : Option Place) → placement_of j s ≡ o → is_everywhere (placement_of j s) ≡ false
+      by : (j : ℕ) (o : Option Placement) → placement_of j s ≡ o → is_everywhere (placement_of j s) ≡ false
           → cyclic_of j (cpu_of (home_at (placement_of j s)) v) ≡ cyclic_of j (cpu_of (home_at (placement_of j s)) s)
       by j None is single = nowhere j (home_at (placement_of j s)) is
       by j (Some (On m bound)) is single = subst (λ p. cyclic_of j (cpu_of (home_at p) v)

@@ -13,7 +13,7 @@ use Rattle.cyc_model.specs.Cpu.{Cyclic, Cpu, Here, happen, handler_level_of, not
 use Rattle.cyc_model.specs.Serving.{level_at, serve}
 use Rattle.cyc_model.specs.Moving.{must_grow, bank_for, switch_here, widen_here, take_here, mark_here, clear_here}
 use Rattle.cyc_model.specs.Questions.{Questions}
-use Rattle.cyc_model.specs.State.{State, Outcome, Place, On, OnAll, Placed, on, cpu_of, each, nothing, followed_by, online_cpus}
+use Rattle.cyc_model.specs.State.{State, Outcome, Placement, On, OnAll, Placed, on, cpu_of, each, nothing, followed_by, online_cpus}
 use Rattle.cyc_model.specs.State.{cpus_with, numbers}
 use Rattle.cyc_model.specs.Places.{id_of, given, put_at, keep_counts, is_bound, home_of, destination}
 use Rattle.cyc_model.specs.Add.{enter, added}
@@ -173,7 +173,7 @@ module _ (indexes : ℕ → ℕ) (P : List Act → ℕ → ℕ → Type 0) (calm
   shaped_return : (n : ℕ) (p : Placed) → Shaped (return_of indexes n p)
   shaped_return n p s = by p.place
     where
-      by : (place : Place) → P (return_at indexes n p.id place s).acts s.admissions
+      by : (place : Placement) → P (return_at indexes n p.id place s).acts s.admissions
           (return_at indexes n p.id place s).state.admissions
       by (On m bound) = none s.admissions
       by (OnAll e) = admit n p.id s.admissions e.level

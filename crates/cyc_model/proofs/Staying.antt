@@ -11,7 +11,7 @@ use Rattle.cyc_types.specs.declared.level.Soft.TheVariants.{Lock}
 use Rattle.cyc_level.specs.Level.{bank_size}
 use Rattle.cyc_level.proofs.Maps.{some_same, some_of}
 use Rattle.cyc_model.specs.Cpu.{Cyclic, Cpu, others}
-use Rattle.cyc_model.specs.State.{State, Place, On, OnAll, Everywhere, Placed, absent, cpu_of}
+use Rattle.cyc_model.specs.State.{State, Placement, On, OnAll, Everywhere, Placed, absent, cpu_of}
 use Rattle.cyc_model.specs.Places.{placement_of, is_leaving}
 use Rattle.cyc_model.specs.Online.{is_on_all, staying}
 use Rattle.cyc_model.specs.Laws.{RiseTo}
@@ -134,7 +134,7 @@ each_entry low high (p ∷ ps) h = (
 
 -- ---- those that stay
 
-is_all : (p : Place) → is_on_all p ≡ true → (e : Everywhere) × (p ≡ OnAll e)
+is_all : (p : Placement) → is_on_all p ≡ true → (e : Everywhere) × (p ≡ OnAll e)
 is_all (On n bound) h = absurd (cc)
 is_all (OnAll e) h = (e, refl)
 

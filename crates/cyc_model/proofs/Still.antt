@@ -4,7 +4,7 @@ use Rattle.cyc_script.specs.declared.step.Bind.{Bind as BindStep}
 use Rattle.cyc_model.specs.Cpu.{Cyclic, cyclic_of}
 use Rattle.cyc_model.specs.Moving.{take_here, mark_here}
 use Rattle.cyc_model.specs.Firing.{fire_here}
-use Rattle.cyc_model.specs.State.{State, Outcome, Place, On, OnAll, Everywhere, numbers, cpus_with, cpu_of, on, followed_by, each}
+use Rattle.cyc_model.specs.State.{State, Outcome, Placement, On, OnAll, Everywhere, numbers, cpus_with, cpu_of, on, followed_by, each}
 use Rattle.cyc_model.specs.Places.{id_of, home_of, put_at, is_bound, keep_counts}
 use Rattle.cyc_model.specs.Bind.{bring, move, move_unless_there, bind, unbind}
 use Rattle.cyc_script.specs.declared.step.Softint.{Softint as SoftintStep}
@@ -130,7 +130,7 @@ still_offline indexes step n s = by (single_ids n j.outcome.state)
     by [] = last (any_pending plain n (ids_on n (juggled plain indexes n s).outcome.state)
         (juggled plain indexes n s).outcome.state)
 
-still_return : (indexes : ℕ → ℕ) (n id : ℕ) (place : Place) → IsStill (return_at indexes n id place)
+still_return : (indexes : ℕ → ℕ) (n id : ℕ) (place : Placement) → IsStill (return_at indexes n id place)
 still_return indexes n id (On m bound) s = still_same s
 still_return indexes n id (OnAll e) s = record { clock = refl; names = refl; last = refl }
 

@@ -17,7 +17,7 @@ use Rattle.cyc_model.specs.Serving.{level_at, level_after, serve_here}
 use Rattle.cyc_model.specs.Firing.{fire_here}
 use Rattle.cyc_model.specs.Moving.{enter_here, take_here, widen_here, place_here, mark_here, clear_here, reprogram_here}
 use Rattle.cyc_model.specs.Questions.{Questions}
-use Rattle.cyc_model.specs.State.{State, Outcome, Place, On, OnAll, Placed, Everywhere, nothing, followed_by, each, on, cpu_of}
+use Rattle.cyc_model.specs.State.{State, Outcome, Placement, On, OnAll, Placed, Everywhere, nothing, followed_by, each, on, cpu_of}
 use Rattle.cyc_model.specs.State.{absent, cpus_with, online_cpus, numbers}
 use Rattle.cyc_model.specs.Places.{id_of, keep_counts, given, put_at, home_of, is_bound, forgotten, without_ended}
 use Rattle.cyc_model.specs.Refusals.{unless, magnitude}
@@ -323,7 +323,7 @@ tells_leaving : (q : Questions) (step n : ℕ) (ids : List ℕ) (j : Juggled) (s
 tells_leaving q step n (id ∷ ids) j s h = h
 tells_leaving q step n [] j s h = tells_last (any_pending q n (ids_on n j.outcome.state) j.outcome.state) step n j.outcome s h
 
-tells_return : (indexes : ℕ → ℕ) (n id : ℕ) (p : Place) → Telling (return_at indexes n id p)
+tells_return : (indexes : ℕ → ℕ) (n id : ℕ) (p : Placement) → Telling (return_at indexes n id p)
 tells_return indexes n id (On m bound) s = tells_alike s s (refl, refl)
 tells_return indexes n id (OnAll e) s =
     tells_to _ s _ _

@@ -12,7 +12,7 @@ use Rattle.cyc_model.specs.Acts.{at_own, calls_of, losses_of}
 use Rattle.cyc_model.specs.Cpu.{Cyclic, Cpu, cyclic_of, handler_level_of}
 use Rattle.cyc_model.specs.Questions.{outstanding_here}
 use Rattle.cyc_model.specs.Moving.{take_here, enter_here, widen_here}
-use Rattle.cyc_model.specs.State.{State, Outcome, Place, On, OnAll, Placed, on, cpu_of, followed_by}
+use Rattle.cyc_model.specs.State.{State, Outcome, Placement, On, OnAll, Placed, on, cpu_of, followed_by}
 use Rattle.cyc_model.specs.Places.{placement_of, put_at, replaced, home_of, home_at, is_bound, is_everywhere}
 use Rattle.cyc_model.specs.Add.{enter}
 use Rattle.cyc_model.specs.Bind.{bring, move}
@@ -54,7 +54,7 @@ kept_then s t u one two = record {
   counts = λ id. two.counts id ∙ one.counts id;
 }
 
-replaced_ids : (id : ℕ) (place : Place) (ps : List Placed) → map (λ p. p.id) (map (replaced id place) ps) ≡ map (λ p. p.id) ps
+replaced_ids : (id : ℕ) (place : Placement) (ps : List Placed) → map (λ p. p.id) (map (replaced id place) ps) ≡ map (λ p. p.id) ps
 replaced_ids id place [] = refl
 replaced_ids id place (p ∷ ps) = ap (λ (k : ℕ). k ∷ map (λ (q : Placed). q.id) (map (replaced id place) ps)) (by (p.id == id))
     ∙ ap (λ ns. p.id ∷ ns) (replaced_ids id place ps)

@@ -17,7 +17,7 @@ use Rattle.cyc_model.specs.Serving.{serve_here, interrupt_here}
 use Rattle.cyc_model.specs.Firing.{due_here, fire_here}
 use Rattle.cyc_model.specs.Moving.{enter_here, take_here, widen_here, place_here, mark_here, clear_here, reprogram_here}
 use Rattle.cyc_model.specs.Questions.{plain, outstanding_here}
-use Rattle.cyc_model.specs.State.{State, Outcome, Place, On, OnAll, Placed, Everywhere, nothing, told, before, followed_by, each}
+use Rattle.cyc_model.specs.State.{State, Outcome, Placement, On, OnAll, Placed, Everywhere, nothing, told, before, followed_by, each}
 use Rattle.cyc_model.specs.State.{done_on, on, cpu_of, numbers, cpus_with, online_cpus}
 use Rattle.cyc_model.specs.Places.{id_of, is_bound, keep_counts, given, put_at, home_of, forgotten, without_ended, destination}
 use Rattle.cyc_model.specs.Refusals.{unless, magnitude}
@@ -334,7 +334,7 @@ module _ (relabel : ℕ → ℕ) where
   meant_bare (Some n) id s = refl
 
   module _ (indexes : ℕ → ℕ) where
-    return_bare : (n id : ℕ) (p : Place) → (IsBare relabel) (return_at indexes n id p)
+    return_bare : (n id : ℕ) (p : Placement) → (IsBare relabel) (return_at indexes n id p)
         (return_at (λ k. relabel (indexes k)) n id p)
     return_bare n id (On m bound) s = refl
     return_bare n id (OnAll e) s =

@@ -19,7 +19,7 @@ use Rattle.cyc_model.specs.Script.{steps_from}
 use Rattle.cyc_model.specs.Laws.{level_on, HandsAreFree}
 
 pub record Agrees (c : Cpu) : Type 0 where
-  -- both soft levels fill the same bank, and there is one index for each of its places
+  -- both soft levels fill the same bank, and there is one index for each of its slots
   pub one_bank : c.low.hard_bank ≡ c.lock.hard_bank
   pub size : c.size ≡ bank_size c.lock.hard_bank
   -- a cyclic of a soft level is admitted there

@@ -9,7 +9,7 @@ use Rattle.cyc_level.specs.Level.{bank_size}
 use Rattle.cyc_model.specs.Acts.{At, at_own}
 use Rattle.cyc_model.specs.Cpu.{Cyclic, Cpu, Here, here, nothing_here, then_here, is_of, handler_level_of, others, with_moment}
 
--- the least bank from this one on that has so many places, among so many more
+-- the least bank from this one on that has so many slots, among so many more
 abbrev pub least_bank : ℕ → ℕ → ℕ → ℕ
 least_bank zero bank needed = bank
 least_bank (suc more) bank needed = cond (nat_le needed (bank_size bank)) bank (least_bank more (bank + 1) needed)

@@ -7,14 +7,14 @@ use Rattle.cyc_text.specs.Lines.{accepted}
 use Rattle.cyc_model.specs.Cpu.{Cpu, Cyclic, nothing_here}
 use Rattle.cyc_model.specs.Moving.{must_grow, widen_here, place_here}
 use Rattle.cyc_model.specs.Questions.{Questions}
-use Rattle.cyc_model.specs.State.{State, Outcome, Ended, Everywhere, Place, On, OnAll, Placed, cpu_of, on, nothing, each, told}
+use Rattle.cyc_model.specs.State.{State, Outcome, Ended, Everywhere, Placement, On, OnAll, Placed, cpu_of, on, nothing, each, told}
 use Rattle.cyc_model.specs.State.{followed_by}
 use Rattle.cyc_model.specs.Places.{is_leaving, without_ended}
 use Rattle.cyc_model.specs.Refusals.{first_refusal, when, only_if, no_cpu, bad_now}
 use Rattle.cyc_model.specs.Add.{cyclic_with, one_admitted}
 use Rattle.cyc_model.specs.Omni.{start_on}
 
-abbrev pub is_on_all : Place → Bool
+abbrev pub is_on_all : Placement → Bool
 is_on_all (On n bound) = false
 is_on_all (OnAll e) = true
 
@@ -37,7 +37,7 @@ online_refusal q n s = first_refusal (no_cpu n s ∷ online_cpu n s ∷ bad_now 
 abbrev pub again : ℕ → ℕ → Everywhere → Ended → ℕ → Cyclic
 again id n e counts now = cyclic_with id e.level e.interval (first (start_on n e) e.interval now) counts.expired counts.lost
 
-abbrev pub return_at : (ℕ → ℕ) → ℕ → ℕ → Place → State → Outcome
+abbrev pub return_at : (ℕ → ℕ) → ℕ → ℕ → Placement → State → Outcome
 return_at indexes n id (On m bound) s = nothing s
 return_at indexes n id (OnAll e) s =
     one_admitted (on n (place_here n (indexes s.admissions) (again id n e (s.ended id n) s.clock)) (without_ended n id s))

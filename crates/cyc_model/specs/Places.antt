@@ -4,13 +4,13 @@ use Rattle.std.specs.Prelude.{length, find, map, filter, slice_set, slice_index_
 use Rattle.std.specs.List.{list_any}
 use Rattle.std.specs.Option.{option_map, option_map_or}
 use Rattle.cyc_model.specs.Cpu.{Cyclic}
-use Rattle.cyc_model.specs.State.{Place, On, OnAll, Placed, State, cpu_of, online_cpus}
+use Rattle.cyc_model.specs.State.{Placement, On, OnAll, Placed, State, cpu_of, online_cpus}
 
 -- the id of a name
 abbrev pub id_of : ℕ → State → ℕ
 id_of name s = slice_index_or s.names name 0
 
-abbrev pub placement_of : ℕ → State → Option Place
+abbrev pub placement_of : ℕ → State → Option Placement
 placement_of id s = option_map (λ p. p.place) (find (λ p. p.id == id) s.placed)
 
 -- no cyclic has this id, or its removal has answered
@@ -21,7 +21,7 @@ is_unknown id s = not (is_some (placement_of id s))
 abbrev pub is_leaving : ℕ → State → Bool
 is_leaving id s = list_any (λ c. option_map_or (λ busy. busy == id) c.removal false) s.cpus
 
-abbrev pub is_everywhere : Option Place → Bool
+abbrev pub is_everywhere : Option Placement → Bool
 is_everywhere None = false
 is_everywhere (Some (On n bound)) = false
 is_everywhere (Some (OnAll e)) = true
@@ -29,7 +29,7 @@ is_everywhere (Some (OnAll e)) = true
 abbrev pub is_omnipresent : ℕ → State → Bool
 is_omnipresent id s = is_everywhere (placement_of id s)
 
-abbrev pub is_bound_at : Option Place → Bool
+abbrev pub is_bound_at : Option Placement → Bool
 is_bound_at None = false
 is_bound_at (Some (On n bound)) = bound
 is_bound_at (Some (OnAll e)) = false
@@ -38,7 +38,7 @@ abbrev pub is_bound : ℕ → State → Bool
 is_bound id s = is_bound_at (placement_of id s)
 
 -- the CPU of a cyclic that is on one
-abbrev pub home_at : Option Place → ℕ
+abbrev pub home_at : Option Placement → ℕ
 home_at None = 0
 home_at (Some (On n bound)) = n
 home_at (Some (OnAll e)) = 0
@@ -47,14 +47,14 @@ abbrev pub home_of : ℕ → State → ℕ
 home_of id s = home_at (placement_of id s)
 
 -- the cyclic of this id has this place
-abbrev pub replaced : ℕ → Place → Placed → Placed
+abbrev pub replaced : ℕ → Placement → Placed → Placed
 replaced id place p = if p.id == id then record p { place = place } else p
 
-abbrev pub put_at : ℕ → Place → State → State
+abbrev pub put_at : ℕ → Placement → State → State
 put_at id place s = record s { placed = map (replaced id place) s.placed }
 
 -- the next id is given to a cyclic with this place, and the name has it
-abbrev pub given : ℕ → Place → State → State
+abbrev pub given : ℕ → Placement → State → State
 given name place s = record s {
   last_id = s.last_id + 1;
   placed = s.placed ++ record { id = s.last_id + 1; place = place } ∷ [];

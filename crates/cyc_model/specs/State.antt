@@ -12,14 +12,14 @@ pub record Everywhere : Type 0 where
   pub skew : ℕ
 
 -- where a cyclic is (cyc_id_t): on one CPU, to which it may be bound, or on every online one
-pub data Place : Type 0 where
-  On : ℕ → Bool → Place
-  OnAll : Everywhere → Place
+pub data Placement : Type 0 where
+  On : ℕ → Bool → Placement
+  OnAll : Everywhere → Placement
 
 -- an id that was given and whose removal has not answered
 pub record Placed : Type 0 where
   pub id : ℕ
-  pub place : Place
+  pub place : Placement
 
 -- the counts of stays that have ended
 pub record Ended : Type 0 where

@@ -52,7 +52,7 @@ pub fn soft_side_is_enabled()
 {}
 
 /// In every run, on each CPU: a cyclic of a soft level is admitted at that level, both levels fill the same bank, and the CPU has
-/// one index for each of its places.
+/// one index for each of its slots.
 pub fn cpus_agree()
     ensures start { (cpus ceiling names : ℕ) → AllAgree (start cpus ceiling names).cpus }
     ensures run { CpusAgree }

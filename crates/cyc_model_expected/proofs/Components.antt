@@ -10,7 +10,7 @@ use Rattle.cyc_level.proofs.Maps.{some_same, some_of}
 use Rattle.cyc_model.specs.Cpu.{Cyclic, Cpu, Here, nothing_here, cyclic_of}
 use Rattle.cyc_model.specs.Moving.{must_grow, bank_for, switch_here, widen_here, put_in, place_here, enter_here, moment_at}
 use Rattle.cyc_model.specs.Moving.{reprogram_here, take_here}
-use Rattle.cyc_model.specs.State.{State, Everywhere, Place, Placed, On, OnAll, absent, cpu_of, on, each}
+use Rattle.cyc_model.specs.State.{State, Everywhere, Placement, Placed, On, OnAll, absent, cpu_of, on, each}
 use Rattle.cyc_model.specs.Places.{placement_of, is_leaving, without_ended, keep_counts}
 use Rattle.cyc_model.specs.Offline.{ids_on, retire, retire_all, go_offline, any_pending, last_part, leaving, offline}
 use Rattle.cyc_model.specs.Questions.{plain}
@@ -128,7 +128,7 @@ module _ (indexes : ℕ → ℕ) (n : ℕ) where
   placed_cyclics : (index : ℕ) (x : Cyclic) (c : Cpu) → (place_here n index x c).cpu.cyclics ≡ put_in x c.cyclics
   placed_cyclics index x c = (same_happen (place_here n index x c).acts (record c { cyclics = put_in x c.cyclics })).cyclics
 
-  return_elsewhere : (j m : ℕ) (p : Place) (s : State) → m ≢ n → cpu_of m (return_at indexes n j p s).state ≡ cpu_of m s
+  return_elsewhere : (j m : ℕ) (p : Placement) (s : State) → m ≢ n → cpu_of m (return_at indexes n j p s).state ≡ cpu_of m s
   return_elsewhere j m (On k bound) s far = refl
   return_elsewhere j m (OnAll e) s far = on_elsewhere n m
       (place_here n (indexes s.admissions) (again j n e (s.ended j n) s.clock)) (without_ended n j s) far
@@ -138,7 +138,7 @@ module _ (indexes : ℕ → ℕ) (n : ℕ) where
   returns_elsewhere m (p ∷ ps) s far = returns_elsewhere m ps (return_of indexes n p s).state far
       ∙ return_elsewhere p.id m p.place s far
 
-  return_clock : (j : ℕ) (p : Place) (s : State)
+  return_clock : (j : ℕ) (p : Placement) (s : State)
       → ((return_at indexes n j p s).state.clock ≡ s.clock) × (length (return_at indexes n j p s).state.cpus ≡ length s.cpus)
   return_clock j (On k bound) s = (refl, refl)
   return_clock j (OnAll e) s = (
@@ -147,7 +147,7 @@ module _ (indexes : ℕ → ℕ) (n : ℕ) where
   )
 
 module _ (indexes : ℕ → ℕ) (n id : ℕ) where
-  return_other : (j : ℕ) (p : Place) (s : State) → j ≢ id
+  return_other : (j : ℕ) (p : Placement) (s : State) → j ≢ id
       → seen (found_in id) (return_at indexes n j p s).state ≡ seen (found_in id) s
   return_other j (On k bound) s ne = refl
   return_other j (OnAll e) s ne =
@@ -204,7 +204,7 @@ stays_entry id e s is shut = by (entry id s.placed) refl is
           place,
         )
 
-placed_return : (indexes : ℕ → ℕ) (n id : ℕ) (p : Place) (s : State) → (return_at indexes n id p s).state.placed ≡ s.placed
+placed_return : (indexes : ℕ → ℕ) (n id : ℕ) (p : Placement) (s : State) → (return_at indexes n id p s).state.placed ≡ s.placed
 placed_return indexes n id (On k bound) s = refl
 placed_return indexes n id (OnAll e) s = refl
 

@@ -14,7 +14,7 @@ use Rattle.cyc_model.specs.Firing.{fire_here}
 use Rattle.cyc_model.specs.Moving.{enter_here, moment_at, reprogram_here}
 use Rattle.cyc_model.specs.Serving.{serve_here}
 use Rattle.cyc_model.specs.Questions.{plain}
-use Rattle.cyc_model.specs.State.{State, Outcome, On, OnAll, Place, absent, cpu_of, on, each, numbers, online_cpus, cpus_with}
+use Rattle.cyc_model.specs.State.{State, Outcome, On, OnAll, Placement, absent, cpu_of, on, each, numbers, online_cpus, cpus_with}
 use Rattle.cyc_model.specs.Places.{id_of, placement_of, is_leaving, is_everywhere, home_of, home_at, destination}
 use Rattle.cyc_model.specs.Places.{given, forgotten}
 use Rattle.cyc_model.specs.Refusals.{magnitude}
@@ -211,7 +211,7 @@ pub place_fires : (id now : ℕ) (ns : List ℕ) (s : State)
 place_fires id now [] s = refl
 place_fires id now (n ∷ ns) s = place_fires id now ns (on n (fire_here n now) s).state
 
-same_home : (n m : ℕ) (p : Option Place) → IsAt n p → IsAt m p → is_everywhere p ≡ false → n ≡ m
+same_home : (n m : ℕ) (p : Option Placement) → IsAt n p → IsAt m p → is_everywhere p ≡ false → n ≡ m
 same_home n m None a b e = absurd a
 same_home n m (Some (On k bound)) a b e = sym a ∙ b
 same_home n m (Some (OnAll k)) a b e = absurd (cc)

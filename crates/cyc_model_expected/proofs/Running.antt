@@ -10,7 +10,7 @@ use Rattle.cyc_model.specs.Acts.{at_own}
 use Rattle.cyc_model.specs.Cpu.{Cyclic, Cpu, Here, others, handler_level_of}
 use Rattle.cyc_model.specs.Moving.{enter_here, mark_here, clear_here, moment_at}
 use Rattle.cyc_model.specs.Questions.{plain, outstanding_here}
-use Rattle.cyc_model.specs.State.{State, Outcome, Place, Everywhere, cpu_of, on, each}
+use Rattle.cyc_model.specs.State.{State, Outcome, Placement, Everywhere, cpu_of, on, each}
 use Rattle.cyc_model.specs.Places.{placement_of, is_leaving, is_omnipresent, is_everywhere, home_of, home_at, keep_counts}
 use Rattle.cyc_model.specs.Add.{enter}
 use Rattle.cyc_model.specs.Omni.{component}
@@ -61,7 +61,7 @@ pub runs_known : (id moment interval : ℕ) (s : State) → Good s → Running i
 runs_known id moment interval s g r =
     let at = g.base.homes (home_of id s) id (ap is_some r.here) in by (placement_of id s) refl at
   where
-    by : (o : Option Place) → placement_of id s ≡ o → IsAt (home_of id s) (placement_of id s)
+    by : (o : Option Placement) → placement_of id s ≡ o → IsAt (home_of id s) (placement_of id s)
         → IsAt (home_of id s) (placement_of id s) × (0 < id) × (id ≤ s.last_id)
     by None is at = absurd (subst (λ p. IsAt (home_of id s) p) is at)
     by (Some p) is at = let k = place_known id s p g.base.rise is in (at, k.0, k.1)

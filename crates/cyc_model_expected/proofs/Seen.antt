@@ -7,7 +7,7 @@ use Rattle.std.specs.Option.{option_map_or}
 use Rattle.cyc_script.specs.declared.step.Bind.{Bind as BindStep}
 use Rattle.cyc_model.specs.Cpu.{Cpu, Cyclic, Here, cyclic_of}
 use Rattle.cyc_model.specs.Moving.{put_in, must_grow, bank_for, switch_here, widen_here, place_here, enter_here, take_here}
-use Rattle.cyc_model.specs.State.{State, Outcome, Everywhere, Place, Placed, On, OnAll, absent, cpu_of, on, each}
+use Rattle.cyc_model.specs.State.{State, Outcome, Everywhere, Placement, Placed, On, OnAll, absent, cpu_of, on, each}
 use Rattle.cyc_model.specs.Places.{id_of, is_leaving, home_of, put_at, is_bound, keep_counts}
 use Rattle.cyc_model.specs.Questions.{plain}
 use Rattle.cyc_model.specs.Add.{enter}
@@ -156,7 +156,7 @@ module _ {A : Type 0} (p : Cpu → A) (alike : Alike p) where
   pub keeps_retires : (n : ℕ) (ids : List ℕ) → Keeps (each (retire n) ids)
   keeps_retires n ids s = each_same p (retire n) (keeps_retire n) ids s
 
-  keeps_return : (indexes : ℕ → ℕ) (n id : ℕ) (place : Place) → Keeps (return_at indexes n id place)
+  keeps_return : (indexes : ℕ → ℕ) (n id : ℕ) (place : Placement) → Keeps (return_at indexes n id place)
   keeps_return indexes n id (On m bound) s = refl
   keeps_return indexes n id (OnAll e) s = on_same p n (place_here n (indexes s.admissions) _) s
       (alike_placed n (indexes s.admissions) _ (cpu_of n s))

@@ -12,7 +12,7 @@ use Rattle.cyc_model.specs.Cpu.{Cyclic, Cpu}
 use Rattle.cyc_model.specs.Moving.{reprogram_here}
 use Rattle.cyc_model.specs.Serving.{serve_here}
 use Rattle.cyc_model.specs.Questions.{plain}
-use Rattle.cyc_model.specs.State.{State, Outcome, On, OnAll, Place, cpu_of, each, numbers, online_cpus, cpus_with}
+use Rattle.cyc_model.specs.State.{State, Outcome, On, OnAll, Placement, cpu_of, each, numbers, online_cpus, cpus_with}
 use Rattle.cyc_model.specs.Places.{id_of, placement_of, is_leaving, destination, given, forgotten}
 use Rattle.cyc_model.specs.Refusals.{magnitude}
 use Rattle.cyc_model.specs.Add.{added}
@@ -62,7 +62,7 @@ all_leaving id k s g is = by (placement_of id s) refl (g.base.homes k id held)
     held : IsSome (found id (cpu_of k s).cyclics)
     held = (g.base.whole k).held id is
 
-    by : (o : Option Place) → placement_of id s ≡ o → IsAt k (placement_of id s) → Leaving id s
+    by : (o : Option Placement) → placement_of id s ≡ o → IsAt k (placement_of id s) → Leaving id s
     by None at here = absurd (subst (λ p. IsAt k p) at here)
     by (Some (On m bound)) at here = λ n some.
         let a = subst (λ p. IsAt k p) at here in let b = subst (λ p. IsAt n p) at (g.base.homes n id some) in
@@ -88,7 +88,7 @@ leaving_given id s g leaves =
     let k = leaving_where id s leaves in
     by k.0 (placement_of id s) refl (g.base.homes k.0 id ((g.base.whole k.0).held id k.1))
   where
-    by : (n : ℕ) (o : Option Place) → placement_of id s ≡ o → IsAt n (placement_of id s) → id ≤ s.last_id
+    by : (n : ℕ) (o : Option Placement) → placement_of id s ≡ o → IsAt n (placement_of id s) → id ≤ s.last_id
     by n None at here = absurd (subst (λ p. IsAt n p) at here)
     by n (Some p) at here = (place_known id s p g.base.rise at).1
 

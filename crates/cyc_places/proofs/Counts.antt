@@ -6,7 +6,7 @@ use Rattle.std.proofs.lemmas.Option.{slice_get_within, get_or_from_slice_get}
 use Rattle.std.proofs.lemmas.List.Sums.{sum_by-cons}
 use Rattle.cyc_types.specs.declared.firing.Sent.{Sent}
 use Rattle.cyc_types.specs.declared.level.Level.{Level}
-use Rattle.cyc_places.specs.declared.record.Place.{Place}
+use Rattle.cyc_places.specs.declared.record.Placement.{Placement}
 use Rattle.cyc_places.specs.declared.record.Record.{Record}
 use Rattle.cyc_places.specs.Places.{HasRisingIds, HaveCounts, HaveAllCounts, AreCounts, new_record, no_counts}
 
@@ -38,7 +38,7 @@ none_counted zero k d low = absurd (omega (arith, low))
 none_counted (suc n) zero d low = omega arith
 none_counted (suc n) (suc k) d low = none_counted n k d (omega (arith, low))
 
-module _ (rs : List Record) (id : ℕ) (level : Level) (place : Place) (last : (k : ℕ) (d : Record) → k < length rs
+module _ (rs : List Record) (id : ℕ) (level : Level) (place : Placement) (last : (k : ℕ) (d : Record) → k < length rs
     → (get_or rs k d).id < id) where
   pub rises_pushed : HasRisingIds rs → HasRisingIds (rs ++ new_record id level place ∷ [])
   rises_pushed h i j r s less a b = by (get_either rs (new_record id level place) i r a)

@@ -5,8 +5,8 @@ use Rattle.std.specs.List.{slice_get}
 use Rattle.cyc_types.specs.declared.firing.Sent.{Sent}
 use Rattle.cyc_types.specs.declared.level.Level.{Level}
 use Rattle.cyc_types.specs.declared.receipt.Receipt.{Receipt}
-use Rattle.cyc_places.specs.declared.record.Place.TheVariants.{On, Everywhere}
-use Rattle.cyc_places.specs.declared.record.Place.{Place}
+use Rattle.cyc_places.specs.declared.record.Placement.TheVariants.{On, Everywhere}
+use Rattle.cyc_places.specs.declared.record.Placement.{Placement}
 use Rattle.cyc_places.specs.declared.record.Record.{Record}
 
 -- the records by rising ids, and the number for which memory was taken
@@ -38,7 +38,7 @@ abbrev pub HaveAllCounts : List Record → Type 0
 HaveAllCounts rs = (k : ℕ) (r : Record) → IsRecord rs k r → length r.ended ≡ 16
 
 -- the cyclic has a component on each online CPU
-abbrev pub is_everywhere : Place → Bool
+abbrev pub is_everywhere : Placement → Bool
 is_everywhere (On n bound) = false
 is_everywhere (Everywhere first skew) = true
 
@@ -57,11 +57,11 @@ abbrev pub summed : Sent → Sent → Sent
 summed a b = record { sent = a.sent + b.sent; lost = a.lost + b.lost }
 
 -- the record of an id that was just given
-abbrev pub new_record : ℕ → Level → Place → Record
+abbrev pub new_record : ℕ → Level → Placement → Record
 new_record id level place = record { id = id; level = level; place = place; ended = replicate 16 no_counts }
 
 -- the record of a cyclic that is now there
-abbrev pub with_place : Place → Record → Record
+abbrev pub with_place : Placement → Record → Record
 with_place place r = record r { place = place }
 
 -- what the stays that have ended on a CPU left

@@ -5,5 +5,5 @@
 mod record;
 mod records;
 
-pub use record::{CPUS, Place, Record};
+pub use record::{CPUS, Placement, Record};
 pub use records::Records;

@@ -9,14 +9,14 @@ pub const CPUS: usize = 16;
 
 /// Where a cyclic is (`cyc_id_t` of sys/cyclic_impl.h).
 #[derive(Clone, Copy, Debug, PartialEq, Eq)]
-pub enum Place {
+pub enum Placement {
     /// On the CPU of this number; one that is bound stays there when the CPU's cyclics are moved.
     On { cpu: u32, bound: bool },
     /// On every online CPU: a component on each, of which that of CPU `c` starts `c` times the skew later.
     Everywhere { when: When, skew: Moment },
 }
 
-impl Place {
+impl Placement {
     ghost use Rattle.cyc_places.specs.Places.{is_everywhere};
 
     /// Whether the cyclic is on every online CPU.
@@ -24,8 +24,8 @@ impl Place {
         ensures { result ≡ is_everywhere self.now }
     {
         match self {
-            Place::On { cpu: _, bound: _ } => false,
-            Place::Everywhere { when: _, skew: _ } => true,
+            Placement::On { cpu: _, bound: _ } => false,
+            Placement::Everywhere { when: _, skew: _ } => true,
         }
     }
 }
@@ -38,7 +38,7 @@ pub struct Record {
     /// At which level its handler is called.
     pub level: Level,
     /// Where it is.
-    pub place: Place,
+    pub place: Placement,
     /// By the number of the CPU, the counts of its stays that have ended there (our own).
     pub ended: [Sent; CPUS],
 }
@@ -48,7 +48,7 @@ impl Record {
     pub(crate) const VACANT: Record = Record {
         id: CyclicId::LAST,
         level: Level::High,
-        place: Place::On {
+        place: Placement::On {
             cpu: 0,
             bound: false,
         },

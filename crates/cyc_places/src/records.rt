@@ -7,7 +7,7 @@ ghost use Rattle.cyc_types.specs.declared.refusal.Refusal.TheVariants.{Memory};
 ghost use Rattle.cyc_places.specs.Places.{RecordsView, IsRecord, HasNoRecord, new_record, with_place, with_ended, ended_on};
 ghost use Rattle.cyc_places.specs.Places.{summed, no_counts, HasRisingIds, HaveCounts, HaveAllCounts, IsReceiptOf};
 
-use crate::record::{CPUS, Place, Record};
+use crate::record::{CPUS, Placement, Record};
 use cyc_types::{CyclicId, Level, Receipt, Refusal, Sent};
 use std::alloc::Global;
 use std::collections::VecDeque;
@@ -68,7 +68,7 @@ impl Records {
     }
 
     /// Puts in a record, with no ended stay, behind the others, whose ids are smaller. Takes no memory.
-    pub fn push(&mut self, id: CyclicId, level: Level, place: Place)
+    pub fn push(&mut self, id: CyclicId, level: Level, place: Placement)
         requires last { All (λ r. r.id < id) self.old.list }
         requires reserved { length self.old.list < self.old.room }
         ensures { self.new.list ≡ self.old.list ++ new_record id level place ∷ [] }
@@ -112,7 +112,7 @@ impl Records {
     }
 
     /// The cyclic of this record is now there.
-    pub fn set_place(&mut self, place: usize, there: Place)
+    pub fn set_place(&mut self, place: usize, there: Placement)
         requires { place < length self.old.list }
         ensures { (r : Record) → IsRecord self.old.list place r
             → self.new.list ≡ slice_set self.old.list place (with_place there r) }

@@ -5,8 +5,8 @@ use Rattle.std.specs.Prelude.{remove}
 use Rattle.std.proofs.lemmas.Option.{slice_get_within, get_or_from_slice_get}
 use mathlib.Core.Logic.{dite}
 use native.Mathlib.Decide.{ℕ_discrete}
-use Rattle.cyc_places.specs.declared.record.Place.{Place}
-use Rattle.cyc_places.specs.declared.record.Place.TheVariants.{On, Everywhere}
+use Rattle.cyc_places.specs.declared.record.Placement.{Placement}
+use Rattle.cyc_places.specs.declared.record.Placement.TheVariants.{On, Everywhere}
 use Rattle.cyc_places.specs.declared.record.Record.{Record}
 use Rattle.cyc_places.specs.Places.{IsRecord, HasNoRecord, HasRisingIds, ended_on, no_counts}
 use Rattle.cyc_agreement.specs.Cpus.{CpusView}
@@ -22,11 +22,11 @@ use Rattle.cyc_removing.proofs.Removed.{either, stands_still, left_one, other_le
 use Rattle.cyc_removing.proofs.Withdrawing.{now_here}
 
 -- a place that is not everywhere is one CPU
-one_home : (p : Place) (n m : ℕ) → is_everywhere p ≡ false → Stands n p → Stands m p → n ≡ m
+one_home : (p : Placement) (n m : ℕ) → is_everywhere p ≡ false → Stands n p → Stands m p → n ≡ m
 one_home (On k bound) n m e a b = sym a ∙ b
 one_home (Everywhere first skew) n m e a b = absurd (false_true (sym e))
 
-stands_at : (p : Place) (n m : ℕ) (bound : Bool) → p ≡ On n bound → Stands m p → m ≡ n
+stands_at : (p : Placement) (n m : ℕ) (bound : Bool) → p ≡ On n bound → Stands m p → m ≡ n
 stands_at (On k own) n m bound e a = sym a ∙ same e
   where
     same : {i j : ℕ} {b c : Bool} → On i b ≡ On j c → i ≡ j

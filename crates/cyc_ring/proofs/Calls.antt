@@ -15,15 +15,15 @@ use Rattle.cyc_ring.specs.Steps.{RaiseStands, DrainStands, RaiseStood, DrainStoo
 use Rattle.cyc_ring.specs.Steps.{MakesDrainCall}
 use Rattle.ring_steps.specs.Sides.{TableSeat, MakesRaiseStep, MakesDrainStep}
 
-pub raise_stands : (k : Setting) (v : SeatView) → v.role ≡ Raise → StandsFor k v → RaiseStands k v.raise_trail v.raise_places
+pub raise_stands : (k : Setting) (v : SeatView) → v.role ≡ Raise → StandsFor k v → RaiseStands k v.raise_trail v.raise_positions
 raise_stands k v role s = let own = subst (λ (r : Role). HasItsTrail s.0 v r) role s.1 in let ends =
     subst (λ (r : Role). EndsWithIts s.0 v r) role s.2 in (s.0, own.0, own.1, ends, s.3)
 
-pub drain_stands : (k : Setting) (v : SeatView) → v.role ≡ Drain → StandsFor k v → DrainStands k v.drain_trail v.drain_places
+pub drain_stands : (k : Setting) (v : SeatView) → v.role ≡ Drain → StandsFor k v → DrainStands k v.drain_trail v.drain_positions
 drain_stands k v role s = let own = subst (λ (r : Role). HasItsTrail s.0 v r) role s.1 in let ends =
     subst (λ (r : Role). EndsWithIts s.0 v r) role s.2 in (s.0, own.0, own.1, ends, s.3)
 
--- a step of a raise seat: it stays one, its trail gains the step at some place, and such a level stands there
+-- a step of a raise seat: it stays one, its trail gains the step at some position, and such a level stands there
 module _ (k : Setting) (x : RaiseStep) (s s' : TableSeat) (role : s.me.0.role ≡ Raise) (m : MakesRaiseStep k x s s') where
   abbrev pub raise_at : ℕ
   raise_at = m.1.0
@@ -34,10 +34,10 @@ module _ (k : Setting) (x : RaiseStep) (s s' : TableSeat) (role : s.me.0.role �
   pub raise_gained : s'.me.0.raise_trail ≡ x ∷ s.me.0.raise_trail
   raise_gained = ap (λ (m : ThisSeat). m.0.raise_trail) m.1.1
 
-  pub raise_placed : s'.me.0.raise_places ≡ raise_at ∷ s.me.0.raise_places
-  raise_placed = ap (λ (m : ThisSeat). m.0.raise_places) m.1.1
+  pub raise_placed : s'.me.0.raise_positions ≡ raise_at ∷ s.me.0.raise_positions
+  raise_placed = ap (λ (m : ThisSeat). m.0.raise_positions) m.1.1
 
-  pub raise_stood : RaiseStands k (x ∷ s.me.0.raise_trail) (raise_at ∷ s.me.0.raise_places)
+  pub raise_stood : RaiseStands k (x ∷ s.me.0.raise_trail) (raise_at ∷ s.me.0.raise_positions)
   raise_stood = subst (λ (p : List RaiseStep × List ℕ). RaiseStands k p.0 p.1) (λ z. (raise_gained z, raise_placed z))
       (raise_stands k s'.me.0 still_raise m.2)
 
@@ -51,29 +51,29 @@ module _ (k : Setting) (x : DrainStep) (s s' : TableSeat) (role : s.me.0.role �
   pub drain_gained : s'.me.0.drain_trail ≡ x ∷ s.me.0.drain_trail
   drain_gained = ap (λ (m : ThisSeat). m.0.drain_trail) m.1.1
 
-  pub drain_placed : s'.me.0.drain_places ≡ drain_at ∷ s.me.0.drain_places
-  drain_placed = ap (λ (m : ThisSeat). m.0.drain_places) m.1.1
+  pub drain_placed : s'.me.0.drain_positions ≡ drain_at ∷ s.me.0.drain_positions
+  drain_placed = ap (λ (m : ThisSeat). m.0.drain_positions) m.1.1
 
-  pub drain_stood : DrainStands k (x ∷ s.me.0.drain_trail) (drain_at ∷ s.me.0.drain_places)
+  pub drain_stood : DrainStands k (x ∷ s.me.0.drain_trail) (drain_at ∷ s.me.0.drain_positions)
   drain_stood = subst (λ (p : List DrainStep × List ℕ). DrainStands k p.0 p.1) (λ z. (drain_gained z, drain_placed z))
       (drain_stands k s'.me.0 still_drain m.2)
 
 -- some steps of a raise seat, with the levels that stood
 pub record RaiseRun (k : Setting) (s : TableSeat) (steps : List RaiseStep) (s' : TableSeat) : Type 0 where
   pub role : s'.me.0.role ≡ Raise
-  pub places : List ℕ
+  pub positions : List ℕ
   pub gained : s'.me.0.raise_trail ≡ steps ++ s.me.0.raise_trail
-  pub placed : s'.me.0.raise_places ≡ places ++ s.me.0.raise_places
-  pub stood : RaiseStood k steps places s.me.0.raise_trail s.me.0.raise_places
+  pub placed : s'.me.0.raise_positions ≡ positions ++ s.me.0.raise_positions
+  pub stood : RaiseStood k steps positions s.me.0.raise_trail s.me.0.raise_positions
 
 pub no_raise : (k : Setting) (s : TableSeat) → s.me.0.role ≡ Raise → RaiseRun k s [] s
-no_raise k s role = record { role = role; places = []; gained = refl; placed = refl; stood = tt }
+no_raise k s role = record { role = role; positions = []; gained = refl; placed = refl; stood = tt }
 
 pub one_raise : (k : Setting) (x : RaiseStep) (s : TableSeat) (steps : List RaiseStep) (a b : TableSeat) → RaiseRun k s steps a
     → MakesRaiseStep k x a b → RaiseRun k s (x ∷ steps) b
 one_raise k x s steps a b run m = let p : ℕ = raise_at k x a b run.role m in record {
   role = still_raise k x a b run.role m;
-  places = p ∷ run.places;
+  positions = p ∷ run.positions;
   gained = raise_gained k x a b run.role m ∙ ap (λ (t : List RaiseStep). x ∷ t) run.gained;
   placed = raise_placed k x a b run.role m ∙ ap (λ (t : List ℕ). p ∷ t) run.placed;
   stood = (
@@ -87,7 +87,7 @@ pub raise_call : (k : Setting) (s s' : TableSeat) (steps : List RaiseStep) (call
     → RaiseSteps k s.me.0.raise_trail call steps → MakesRaiseCall k s.me.0 call s'.me.0
 raise_call k s s' steps call run made = record {
   steps = steps;
-  places = run.places;
+  positions = run.positions;
   gained = run.gained;
   placed =
       run.placed;
@@ -97,19 +97,19 @@ raise_call k s s' steps call run made = record {
 
 pub record DrainRun (k : Setting) (v : SeatView) (steps : List DrainStep) (s' : TableSeat) : Type 0 where
   pub role : s'.me.0.role ≡ Drain
-  pub places : List ℕ
+  pub positions : List ℕ
   pub gained : s'.me.0.drain_trail ≡ steps ++ v.drain_trail
-  pub placed : s'.me.0.drain_places ≡ places ++ v.drain_places
-  pub stood : DrainStood k steps places v.drain_trail v.drain_places
+  pub placed : s'.me.0.drain_positions ≡ positions ++ v.drain_positions
+  pub stood : DrainStood k steps positions v.drain_trail v.drain_positions
 
 pub no_drain : (k : Setting) (s : TableSeat) → s.me.0.role ≡ Drain → DrainRun k s.me.0 [] s
-no_drain k s role = record { role = role; places = []; gained = refl; placed = refl; stood = tt }
+no_drain k s role = record { role = role; positions = []; gained = refl; placed = refl; stood = tt }
 
 pub one_drain : (k : Setting) (x : DrainStep) (v : SeatView) (steps : List DrainStep) (a b : TableSeat) → DrainRun k v steps a
     → MakesDrainStep k x a b → DrainRun k v (x ∷ steps) b
 one_drain k x v steps a b run m = let p : ℕ = drain_at k x a b run.role m in record {
   role = still_drain k x a b run.role m;
-  places = p ∷ run.places;
+  positions = p ∷ run.positions;
   gained = drain_gained k x a b run.role m ∙ ap (λ (t : List DrainStep). x ∷ t) run.gained;
   placed = drain_placed k x a b run.role m ∙ ap (λ (t : List ℕ). p ∷ t) run.placed;
   stood = (
@@ -123,7 +123,7 @@ pub drain_call : (k : Setting) (v : SeatView) (s' : TableSeat) (steps : List Dra
     → DrainSteps k.start v.drain_trail call steps → MakesDrainCall k v call s'.me.0
 drain_call k v s' steps call run made = record {
   steps = steps;
-  places = run.places;
+  positions = run.positions;
   gained = run.gained;
   placed =
       run.placed;

@@ -112,7 +112,7 @@ module _ {r : RaiseSeat} {k : Setting} {id : ℕ} {s1 s2 : TableSeat} {before fo
   counted_run = one_raise k (Added id found) r.side.seat (Loaded id before ∷ []) s1 s2
       (one_raise k (Loaded id before) r.side.seat [] r.side.seat s1 (no_raise k r.side.seat r.side.role) a.below.step) a.step
 
-  -- the places of both
+  -- the positions of both
   abbrev p1 : ℕ
   p1 = a.below.step.1.0
 
@@ -146,7 +146,7 @@ module _ {r : RaiseSeat} {k : Setting} {id x : ℕ} {s1 s2 s3 s4 : TableSeat} {b
       p.published
 
   abbrev at : ℕ → RaiseStep → ThisSeat → ThisSeat
-  at place x m = (with_raise_step place x m.0, m.1)
+  at position x m = (with_raise_step position x m.0, m.1)
 
   pub put_in_me : s4.me ≡ at p.published.1.0 (Published index)
       (at p.stored.1.0 (Stored (entry id x)) (at p.counted.step.1.0 (Added id 0)

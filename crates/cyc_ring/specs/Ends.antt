@@ -30,7 +30,7 @@ raise_seat_view r = r.side.seat.me.0
 abbrev pub drain_seat_view : DrainSeat → SeatView
 drain_seat_view d = d.side.seat.me.0
 
--- the one order of all steps that the two seats made: its sides are their trails, with the places
+-- the one order of all steps that the two seats made: its sides are their trails, with the positions
 abbrev pub IsOrderOf : List RingStep → RaiseSeat → DrainSeat → Type 0
 IsOrderOf log r d = HasRaises log (raise_seat_view r) × HasDrains log (drain_seat_view d)
 

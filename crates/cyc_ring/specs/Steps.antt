@@ -16,35 +16,35 @@ use Rattle.ring_rule.specs.declared.Setting.{Setting}
 use Rattle.ring_rule.specs.Words.{mark_bit, index_range, entry, entry_id}
 use Rattle.cyc_level.specs.Runs.{StayCounts}
 use Rattle.ring_rule.specs.Trail.{open_stay, seen_pend, hard_bank_of, producer_index, held_entry, soft_bank_of, consumer_index}
-use Rattle.ring_rule.specs.Log.{RingStep, raise_side, raise_places, drain_side, drain_places, newest}
+use Rattle.ring_rule.specs.Log.{RingStep, raise_side, raise_positions, drain_side, drain_positions, newest}
 use Rattle.ring_rule.specs.Conservation.{AllStood}
 
--- a lawful level stands at the place of the firing side's newest step: the one order of all steps up to there has this trail on
--- its side, with these places, and each record of it is true
+-- a lawful level stands at the position of the firing side's newest step: the one order of all steps up to there has this trail on
+-- its side, with these positions, and each record of it is true
 abbrev pub RaiseStands : Setting → List RaiseStep → List ℕ → Type 0
-RaiseStands k t places = (log : List RingStep) × (t ≡ raise_side log) × (places ≡ raise_places log)
-    × (length log ≡ newest places + 1)
+RaiseStands k t positions = (log : List RingStep) × (t ≡ raise_side log) × (positions ≡ raise_positions log)
+    × (length log ≡ newest positions + 1)
     × AllStood k log
 
 -- the same of the soft side
 abbrev pub DrainStands : Setting → List DrainStep → List ℕ → Type 0
-DrainStands k t places = (log : List RingStep) × (t ≡ drain_side log) × (places ≡ drain_places log)
-    × (length log ≡ newest places + 1)
+DrainStands k t positions = (log : List RingStep) × (t ≡ drain_side log) × (positions ≡ drain_positions log)
+    × (length log ≡ newest positions + 1)
     × AllStood k log
 
--- a lawful level stood at the place of each of these steps, which the trail gained
+-- a lawful level stood at the position of each of these steps, which the trail gained
 abbrev pub RaiseStood : Setting → List RaiseStep → List ℕ → List RaiseStep → List ℕ → Type 0
 RaiseStood k [] [] t at = ⊤
-RaiseStood k (x ∷ steps) (p ∷ places) t at = RaiseStands k (x ∷ (steps ++ t)) (p ∷ (places ++ at))
-    × RaiseStood k steps places t at
-RaiseStood k [] (p ∷ places) t at = ⊥
+RaiseStood k (x ∷ steps) (p ∷ positions) t at = RaiseStands k (x ∷ (steps ++ t)) (p ∷ (positions ++ at))
+    × RaiseStood k steps positions t at
+RaiseStood k [] (p ∷ positions) t at = ⊥
 RaiseStood k (x ∷ steps) [] t at = ⊥
 
 abbrev pub DrainStood : Setting → List DrainStep → List ℕ → List DrainStep → List ℕ → Type 0
 DrainStood k [] [] t at = ⊤
-DrainStood k (x ∷ steps) (p ∷ places) t at = DrainStands k (x ∷ (steps ++ t)) (p ∷ (places ++ at))
-    × DrainStood k steps places t at
-DrainStood k [] (p ∷ places) t at = ⊥
+DrainStood k (x ∷ steps) (p ∷ positions) t at = DrainStands k (x ∷ (steps ++ t)) (p ∷ (positions ++ at))
+    × DrainStood k steps positions t at
+DrainStood k [] (p ∷ positions) t at = ⊥
 DrainStood k (x ∷ steps) [] t at = ⊥
 
 module _ (k : Setting) (t : List RaiseStep) where
@@ -115,21 +115,21 @@ module _ (start : ℕ) (t : List DrainStep) where
   DrainSteps (Finishes id answer) steps = (e found : ℕ) × (held_entry t ≡ Some e) × (id ≡ entry_id e) × IsFinish found answer
       × (steps ≡ Subtracted found ∷ [])
 
--- a call of the firing side: the seat's trail gained the steps of the call, each with its place, and at the place of each of them
+-- a call of the firing side: the seat's trail gained the steps of the call, each with its position, and at the position of each of them
 -- a lawful level stood
 pub record MakesRaiseCall (k : Setting) (v : SeatView) (call : FiringCall) (v' : SeatView) : Type 0 where
   pub steps : List RaiseStep
-  pub places : List ℕ
+  pub positions : List ℕ
   pub gained : v'.raise_trail ≡ steps ++ v.raise_trail
-  pub placed : v'.raise_places ≡ places ++ v.raise_places
+  pub placed : v'.raise_positions ≡ positions ++ v.raise_positions
   pub made : RaiseSteps k v.raise_trail call steps
-  pub stood : RaiseStood k steps places v.raise_trail v.raise_places
+  pub stood : RaiseStood k steps positions v.raise_trail v.raise_positions
 
 -- a call of the soft side, the same
 pub record MakesDrainCall (k : Setting) (v : SeatView) (call : DrainCall) (v' : SeatView) : Type 0 where
   pub steps : List DrainStep
-  pub places : List ℕ
+  pub positions : List ℕ
   pub gained : v'.drain_trail ≡ steps ++ v.drain_trail
-  pub placed : v'.drain_places ≡ places ++ v.drain_places
+  pub placed : v'.drain_positions ≡ positions ++ v.drain_positions
   pub made : DrainSteps k.start v.drain_trail call steps
-  pub stood : DrainStood k steps places v.drain_trail v.drain_places
+  pub stood : DrainStood k steps positions v.drain_trail v.drain_positions

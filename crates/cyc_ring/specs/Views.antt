@@ -23,7 +23,7 @@ firing_view ceiling t = record {
   hand_free = is_none (firer_hand_of t);
 }
 
--- what was seen of a stay is at most the ceiling and what was sent and not lost, and its index is a place of the bank
+-- what was seen of a stay is at most the ceiling and what was sent and not lost, and its index is a slot of the bank
 abbrev pub IsSeenSound : ℕ → List RaiseStep → Type 0
 IsSeenSound ceiling t = (id : ℕ) (s : StayCounts) → open_stay id t ≡ Some s
     → (seen_pend id t ≤ ceiling) × (seen_pend id t + s.lost ≤ s.sent) × (s.index < bank_size (hard_bank_of t))

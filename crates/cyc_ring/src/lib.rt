@@ -2,7 +2,7 @@
 //!
 //! A ring is one table of words: a pend word for each index, the buffers of all banks, their producer words, and the banks
 //! that the two sides are on (`ring_steps`). The two sides are mostly at neighbouring indexes, whose pend words lie on two cache
-//! lines, and so do their places in a bank of 32 or more. A raise seat fills the buffer and a drain seat empties it, each by
+//! lines, and so do their slots in a bank of 32 or more. A raise seat fills the buffer and a drain seat empties it, each by
 //! single atomic steps, and every step of one may fall between two steps of the other. At each moment between two of them the
 //! words and the two seats' trails show a lawful level (`cyc_level`), which `ring_rule` states and this crate keeps. No call but
 //! `Ring::open` takes memory, and none waits.

@@ -25,7 +25,7 @@ pub struct Stays {
     pub(crate) lost: [u64; INDEXES],
 }
 
-/// The seat of a ring's firing side: what it knows of each index, and its place in the buffer.
+/// The seat of a ring's firing side: what it knows of each index, and its slot in the buffer.
 #[derive(Drop)]
 pub struct RaiseSeat {
     pub(crate) side: FiringSide,
@@ -46,7 +46,7 @@ pub struct RaiseSeat {
     ghost balanced: { IsBalanced side.seat.me.0.raise_trail },
 }
 
-/// The seat of a ring's soft side: its hand, and its place in the buffer.
+/// The seat of a ring's soft side: its hand, and its slot in the buffer.
 #[derive(Drop)]
 pub struct DrainSeat {
     pub(crate) side: SoftSide,

@@ -9,7 +9,7 @@ use native.Mathlib.Decide.{ℕ_discrete}
 use Rattle.cyc_text.specs.declared.lines.Counts.{Counts}
 use Rattle.cyc_script.specs.declared.step.Step.{Step}
 use Rattle.cyc_model.specs.Questions.{plain}
-use Rattle.cyc_model.specs.State.{State, Outcome, Place, Placed}
+use Rattle.cyc_model.specs.State.{State, Outcome, Placement, Placed}
 use Rattle.cyc_model.specs.Places.{placement_of, is_unknown, given}
 use Rattle.cyc_model.proofs.Placing.{place_given_new}
 use Rattle.std.specs.Prelude.{not, is_some, find}
@@ -127,7 +127,7 @@ remembers_given s t m n name id r few is last names named counted before known t
 
 -- the word adds a cyclic with this place
 pub remembers_added : (texts : List (List ℕ)) (indexes : ℕ → ℕ) (step : ℕ) (x : Step) (s : State) (m n : Machine)
-    (name id : ℕ) (place : Place)
+    (name id : ℕ) (place : Placement)
     → IsLasting x → Good s → refusal_of plain x s ≡ None
     → (does plain texts indexes step x s).state.placed ≡ (given name place s).placed
     → (does plain texts indexes step x s).state.last_id ≡ s.last_id + 1 → Remembers s m → s.last_id < 65536 → id ≡ s.last_id + 1

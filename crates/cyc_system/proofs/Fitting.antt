@@ -20,7 +20,7 @@ use Rattle.cyc_cpu_laws.specs.Laws.{IsLawful}
 use Rattle.cyc_cpu_laws.specs.Calls.{AskPending, Reserve, TakeNow}
 use Rattle.cyc_cpu_laws.specs.Accounts.{expired_of, entered_by, left_by}
 use Rattle.cyc_cpu_laws.proofs.Shifts.{changes_shift, shift_sums}
-use Rattle.cyc_places.specs.declared.record.Place.TheVariants as stands
+use Rattle.cyc_places.specs.declared.record.Placement.TheVariants as stands
 use Rattle.cyc_places.specs.declared.record.Record.{Record}
 use Rattle.cyc_places.specs.Places.{IsRecord, ended_on, no_counts, summed, with_place, with_ended}
 use Rattle.cyc_agreement.specs.Cpus.{CpusView, IsCpu, CallOn, on, DoesAt, Works}

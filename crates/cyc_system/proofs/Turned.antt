@@ -14,7 +14,7 @@ use Rattle.cyc_cpu_laws.specs.Gone.{PutsNot}
 use Rattle.cyc_cpu_laws.specs.Laws.{IsLawful}
 use Rattle.cyc_cpu_laws.specs.Calls.{CpuCall, Changes, Fire, SoftInterrupt, Add, Place, Reprogram, AskPending, AskTotals, AskRoom}
 use Rattle.cyc_cpu_laws.specs.Calls.{Reserve, Widen, BeginRemove, PollRemove, TakeNow, AskSettled}
-use Rattle.cyc_places.specs.declared.record.Place.TheVariants as stands
+use Rattle.cyc_places.specs.declared.record.Placement.TheVariants as stands
 use Rattle.cyc_places.specs.declared.record.Record.{Record}
 use Rattle.cyc_places.specs.Places.{IsRecord, HasRisingIds, ended_on, summed, with_ended, with_place}
 use Rattle.cyc_agreement.specs.Cpus.{CpusView, IsCpu, CallOn, on, DoesAt, Works, with_cpu}

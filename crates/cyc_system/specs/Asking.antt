@@ -1,14 +1,14 @@
 -- Where a cyclic is, for those who ask.
 use Rattle.std.specs.Prelude.{ℕ, Option}
 use Rattle.std.specs.Option.{option_map}
-use Rattle.cyc_places.specs.declared.record.Place.{Place}
-use Rattle.cyc_places.specs.declared.record.Place.TheVariants.{On, Everywhere}
+use Rattle.cyc_places.specs.declared.record.Placement.{Placement}
+use Rattle.cyc_places.specs.declared.record.Placement.TheVariants.{On, Everywhere}
 use Rattle.cyc_system.specs.declared.asking.CpuOrOmni.{CpuOrOmni}
 use Rattle.cyc_system.specs.declared.asking.CpuOrOmni.TheVariants.{Cpu, Omni}
 use Rattle.cyc_agreement.specs.System.{SystemView, record_of}
 
 -- where a cyclic is
-abbrev pub whereabouts : Place → CpuOrOmni
+abbrev pub whereabouts : Placement → CpuOrOmni
 whereabouts (On n bound) = Cpu n
 whereabouts (Everywhere first skew) = Omni
 

@@ -9,7 +9,7 @@ ghost use Rattle.cyc_agreement.specs.Adding.{entering};
 
 use crate::system::System;
 use cyc_agreement::Cpus;
-use cyc_places::Place;
+use cyc_places::Placement;
 use cyc_types::{CyclicId, Interval, Level, Moment, Raise, Refusal, Sent, When};
 
 /// A CPU takes the memory of one more cyclic.
@@ -66,7 +66,7 @@ impl<R: Raise> System<R> {
         let interval = when.interval;
         let first = when.first(now);
         enter(&mut self.cpus, target, id, level, interval, first);
-        let place = Place::On {
+        let place = Placement::On {
             cpu: target,
             bound: false,
         };

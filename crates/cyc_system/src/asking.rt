@@ -4,7 +4,7 @@ ghost use Rattle.std.specs.Prelude.{◌≡◌, ◌≤◌, ◌<◌, length, IfNon
 ghost use Rattle.cyc_agreement.specs.Cpus.{OfCpu};
 
 use crate::system::System;
-use cyc_places::Place;
+use cyc_places::Placement;
 use cyc_types::{CyclicId, Raise};
 
 /// Where a cyclic is.
@@ -40,8 +40,8 @@ impl<R: Raise> System<R> {
         self.records.law();
         let place = self.records.find(id)?;
         match self.records.at(place).place {
-            Place::On { cpu, bound: _ } => Some(CpuOrOmni::Cpu(cpu)),
-            Place::Everywhere { when: _, skew: _ } => Some(CpuOrOmni::Omni),
+            Placement::On { cpu, bound: _ } => Some(CpuOrOmni::Cpu(cpu)),
+            Placement::Everywhere { when: _, skew: _ } => Some(CpuOrOmni::Omni),
         }
     }
 

@@ -8,7 +8,7 @@ ghost use Rattle.cyc_agreement.specs.Binding.{GoesTo};
 
 use crate::system::System;
 use cyc_agreement::Cpus;
-use cyc_places::Place;
+use cyc_places::Placement;
 use cyc_types::{CyclicId, Raise, Refusal};
 
 /// A cyclic goes to a CPU, where it is not there.
@@ -44,7 +44,7 @@ impl<R: Raise> System<R> {
         };
         self.cpus.law();
         self.records.law();
-        let Place::On {
+        let Placement::On {
             cpu: home,
             bound: _,
         } = self.records.at(place).place
@@ -52,7 +52,7 @@ impl<R: Raise> System<R> {
             return Err(Refusal::Omnipresent);
         };
         let Some(target) = cpu else {
-            let there = Place::On {
+            let there = Placement::On {
                 cpu: home,
                 bound: false,
             };
@@ -66,7 +66,7 @@ impl<R: Raise> System<R> {
             return Err(Refusal::Offline);
         }
         go(&mut self.cpus, id, home, target)?;
-        let there = Place::On {
+        let there = Placement::On {
             cpu: target,
             bound: true,
         };

@@ -7,7 +7,7 @@ ghost use Rattle.cyc_agreement.specs.Cpus.{OfCpu, on, DoesAt};
 
 use crate::system::System;
 use cyc_agreement::Cpus;
-use cyc_places::Place;
+use cyc_places::Placement;
 use cyc_types::{CyclicId, Moment, Raise, Refusal};
 
 /// A cyclic of the CPU gets another next expiration.
@@ -39,11 +39,11 @@ impl<R: Raise> System<R> {
             return Err(Refusal::NoCyclic);
         };
         match self.records.at(place).place {
-            Place::On { cpu, bound: _ } => {
+            Placement::On { cpu, bound: _ } => {
                 reprogram_at(&mut self.cpus, cpu, id, moment);
                 Ok(())
             }
-            Place::Everywhere { when: _, skew: _ } => Err(Refusal::Omnipresent),
+            Placement::Everywhere { when: _, skew: _ } => Err(Refusal::Omnipresent),
         }
     }
 

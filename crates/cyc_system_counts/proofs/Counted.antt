@@ -18,8 +18,8 @@ use Rattle.cyc_types.specs.declared.refusal.JuggleReport.{JuggleReport}
 use Rattle.cyc_types.specs.declared.refusal.Refusal.{Refusal}
 use Rattle.cyc_cpu.specs.declared.moving.Taken.{Taken}
 use Rattle.cyc_cpu.specs.Calls.{TakeNow, Reserve, Widen, AskPending, Reprogram as CpuReprogram}
-use Rattle.cyc_places.specs.declared.record.Place.{Place}
-use Rattle.cyc_places.specs.declared.record.Place.TheVariants as stands
+use Rattle.cyc_places.specs.declared.record.Placement.{Placement}
+use Rattle.cyc_places.specs.declared.record.Placement.TheVariants as stands
 use Rattle.cyc_places.specs.declared.record.Record.{Record}
 use Rattle.cyc_places.specs.Places.{IsRecord, no_counts, summed, new_record, with_place, with_ended, ended_on, is_everywhere}
 use Rattle.cyc_system.specs.Cpus.{CpusView, CallOn, on, Works, online_cpus}
@@ -88,7 +88,7 @@ module _ {R : Type 0} (step : R → FiringCall → R → Type 0) (view : R → F
   same_all s t e = ap all_of e
 
   -- records with another place
-  placed_same : (own : ℕ) (place : Place) (s t : SystemView R) → Records own place s t
+  placed_same : (own : ℕ) (place : Placement) (s t : SystemView R) → Records own place s t
       → in_records t.records ≡ in_records s.records
   placed_same own place s t (k, r, here, named, records, last) =
       let a = sum_set of_record s.records k r (with_place place r) here in let b = ap in_records records in
@@ -127,7 +127,7 @@ module _ {R : Type 0} (step : R → FiringCall → R → Type 0) (view : R → F
 
   -- ---- adding
 
-  new_same : (s t : SystemView R) (own : ℕ) (level : Level) (place : Place)
+  new_same : (s t : SystemView R) (own : ℕ) (level : Level) (place : Placement)
       → t.records ≡ s.records ++ new_record own level place ∷ [] → in_records t.records ≡ in_records s.records
   new_same s t own level place e =
       let a = ap in_records e in let b = sum_by-append of_record s.records (new_record own level place ∷ []) in
@@ -244,12 +244,12 @@ module _ {R : Type 0} (step : R → FiringCall → R → Type 0) (view : R → F
 
   -- ---- online
 
-  return_fixed : (n now own : ℕ) (level : Level) (counts : Sent) (place : Place) (way : List CallOn) → AllFixed f id way
+  return_fixed : (n now own : ℕ) (level : Level) (counts : Sent) (place : Placement) (way : List CallOn) → AllFixed f id way
       → AllFixed f id (return_at n now own level counts place ++ way)
   return_fixed n now own level counts (stands.On m bound) way rest = rest
   return_fixed n now own level counts (stands.Everywhere first skew) way rest = (tt, rest)
 
-  return_brings : (n now own : ℕ) (level : Level) (counts : Sent) (place : Place) (way : List CallOn) → is_everywhere place ≡ true
+  return_brings : (n now own : ℕ) (level : Level) (counts : Sent) (place : Placement) (way : List CallOn) → is_everywhere place ≡ true
       → (all_brought f id (return_at n now own level counts place ++ way) ≡ cond (own == id)
       (g counts) 0 + all_brought f id way)
       × (all_taken f id (return_at n now own level counts place ++ way) ≡ all_taken f id way)

@@ -13,8 +13,8 @@ use Rattle.cyc_types.specs.declared.refusal.JuggleReport.{JuggleReport}
 use Rattle.cyc_types.specs.declared.refusal.Refusal.{Refusal}
 use Rattle.cyc_cpu.specs.declared.moving.Taken.{Taken}
 use Rattle.cyc_cpu.specs.Calls.{TakeNow, Reserve, Widen, AskPending, Reprogram as CpuReprogram}
-use Rattle.cyc_places.specs.declared.record.Place.{Place}
-use Rattle.cyc_places.specs.declared.record.Place.TheVariants as stands
+use Rattle.cyc_places.specs.declared.record.Placement.{Placement}
+use Rattle.cyc_places.specs.declared.record.Placement.TheVariants as stands
 use Rattle.cyc_places.specs.declared.record.Record.{Record}
 use Rattle.cyc_places.specs.Places.{IsRecord, HasRisingIds, is_everywhere, ended_on}
 use Rattle.cyc_system.specs.Cpus.{CpusView, CallOn, on, Works, online_cpus}
@@ -171,7 +171,7 @@ module _ {R : Type 0} (step : R → FiringCall → R → Type 0) (view : R → F
   omni_read s k r rising is named = ap (λ o. option_map_or (λ (x : Record). is_everywhere x.place) o false)
       (record_here id k r s.records rising is named)
 
-  return_stays : (n now own : ℕ) (level : Level) (counts : Sent) (place : Place) (way : List CallOn) → own ≢ id
+  return_stays : (n now own : ℕ) (level : Level) (counts : Sent) (place : Placement) (way : List CallOn) → own ≢ id
       → AllFixed f id way → all_brought f id way ≡ 0 → all_taken f id way ≡ 0
       → AllFixed f id (return_at n now own level counts place ++ way)
       × (all_brought f id (return_at n now own level counts place ++ way) ≡ 0)

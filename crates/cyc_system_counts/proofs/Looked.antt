@@ -12,8 +12,8 @@ use Rattle.cyc_types.specs.declared.refusal.JuggleReport.{JuggleReport}
 use Rattle.cyc_types.specs.declared.refusal.Refusal.{Refusal}
 use Rattle.cyc_cpu.specs.declared.removing.Removal.{Removal}
 use Rattle.cyc_cpu.specs.declared.removing.Removal.TheVariants.{Done, Kept}
-use Rattle.cyc_places.specs.declared.record.Place.{Place}
-use Rattle.cyc_places.specs.declared.record.Place.TheVariants as stands
+use Rattle.cyc_places.specs.declared.record.Placement.{Placement}
+use Rattle.cyc_places.specs.declared.record.Placement.TheVariants as stands
 use Rattle.cyc_places.specs.declared.record.Record.{Record}
 use Rattle.cyc_places.specs.Places.{IsRecord, HasRisingIds, new_record, no_counts, with_place, with_ended, is_everywhere}
 use Rattle.cyc_system.specs.Cpus.{CpusView}
@@ -100,7 +100,7 @@ module _ {R B : Type 0} (step : R → FiringCall → R → Type 0) (view : R →
       ∙ look_set (λ (x : Record). x.id == id) h none s.records k r (with_place (stands.On m bound) r) here refl
       (placed r m bound (single_here s own n k was r rising has here named))
 
-  replaced_rising : (own : ℕ) (place : Place) (s t : SystemView R) → HasRisingIds s.records → Records own place s t
+  replaced_rising : (own : ℕ) (place : Placement) (s t : SystemView R) → HasRisingIds s.records → Records own place s t
       → HasRisingIds t.records
   replaced_rising own place s t rising (k, r, here, named, records, last) = subst HasRisingIds (sym records)
       (rising_set s.records k r (with_place place r) rising here refl)
@@ -110,7 +110,7 @@ module _ {R B : Type 0} (step : R → FiringCall → R → Type 0) (view : R →
   ended_look s t k n r c here records = ap (λ rs. option_map_or h (found id rs) none) records
       ∙ look_set (λ (x : Record). x.id == id) h none s.records k r (with_ended n c r) here refl (ended r n c)
 
-  new_look : (own : ℕ) (level : Level) (place : Place) (s t : SystemView R) → own ≢ id
+  new_look : (own : ℕ) (level : Level) (place : Placement) (s t : SystemView R) → own ≢ id
       → t.records ≡ s.records ++ new_record own level place ∷ [] → look t ≡ look s
   new_look own level place s t ne records = ap (λ rs. option_map_or h (found id rs) none) records
       ∙ ap (λ o. option_map_or h o none)

@@ -20,7 +20,7 @@ use Rattle.cyc_timers.specs.Rows.{Cyclic}
 use Rattle.cyc_cpu.specs.Cpu.{CpuView}
 use Rattle.cyc_cpu.specs.Calls.{Reserve}
 use Rattle.cyc_places.specs.declared.record.Record.{Record}
-use Rattle.cyc_places.specs.declared.record.Place.TheVariants as stands
+use Rattle.cyc_places.specs.declared.record.Placement.TheVariants as stands
 use Rattle.cyc_places.specs.Places.{is_everywhere, new_record}
 use Rattle.cyc_cpus.specs.Cpus.{on, online_cpus, numbers_from}
 use Rattle.cyc_system_rings.proofs.Lists.{true_eq}

@@ -14,8 +14,8 @@ use Rattle.cyc_cpu.specs.declared.removing.Removal.{Removal}
 use Rattle.cyc_cpu.specs.declared.removing.Removal.TheVariants as removal
 use Rattle.cyc_cpu.specs.Cpu.{CpuView}
 use Rattle.cyc_cpu.specs.Laws.{IsLawful}
-use Rattle.cyc_places.specs.declared.record.Place.{Place}
-use Rattle.cyc_places.specs.declared.record.Place.TheVariants as stands
+use Rattle.cyc_places.specs.declared.record.Placement.{Placement}
+use Rattle.cyc_places.specs.declared.record.Placement.TheVariants as stands
 use Rattle.cyc_places.specs.declared.record.Record.{Record}
 use Rattle.cyc_places.specs.Places.{IsRecord, is_everywhere}
 use Rattle.cyc_cpus.specs.Cpus.{CpusView, IsCpu, ChangesAt, numbers_from}
@@ -97,7 +97,7 @@ module _ {R : Type 0} (step : R → FiringCall → R → Type 0) (view : R → F
       on_each n (inl h) = (n, there n h)
       on_each n (inr (m, e)) = (m, e ∙ ap Some named)
 
-      by : (place : Place) → r.place ≡ place → (n : ℕ) × (removal_on n s.cpus ≡ Some id)
+      by : (place : Placement) → r.place ≡ place → (n : ℕ) × (removal_on n s.cpus ≡ Some id)
       by (stands.On n bound) e = (n, there n (a.agrees.home k n bound r is e))
       by (stands.Everywhere when skew) e = (let (n, up) = a.agrees.some in
           on_each n (a.agrees.everywhere k n r is (ap is_everywhere e) up))

@@ -16,7 +16,7 @@ use Rattle.cyc_cpu.specs.declared.moving.Taken.{Taken}
 use Rattle.cyc_cpu.specs.Cpu.{CpuView, IsCyclic, with_moment}
 use Rattle.cyc_cpu.specs.Calls.{Changes as CpuChanges, Reserve, Reprogram as CpuReprogram}
 use Rattle.cyc_places.specs.declared.record.Record.{Record}
-use Rattle.cyc_places.specs.declared.record.Place.TheVariants as stands
+use Rattle.cyc_places.specs.declared.record.Placement.TheVariants as stands
 use Rattle.cyc_places.specs.Places.{is_everywhere, new_record}
 use Rattle.cyc_cpus.specs.Cpus.{IsCpu, on}
 use Rattle.cyc_system_rings.proofs.Lists.{among, eq_true, true_eq}

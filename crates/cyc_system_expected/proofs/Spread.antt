@@ -18,8 +18,8 @@ use Rattle.cyc_model.specs.State.{Everywhere}
 use Rattle.cyc_timers.specs.Rows.{Cyclic}
 use Rattle.cyc_cpu.specs.Cpu.{CpuView, IsCyclic, with_moment}
 use Rattle.cyc_cpu.specs.Calls.{Changes as CpuChanges, Reprogram as CpuReprogram}
-use Rattle.cyc_places.specs.declared.record.Place.{Place}
-use Rattle.cyc_places.specs.declared.record.Place.TheVariants as stands
+use Rattle.cyc_places.specs.declared.record.Placement.{Placement}
+use Rattle.cyc_places.specs.declared.record.Placement.TheVariants as stands
 use Rattle.cyc_places.specs.declared.record.Record.{Record}
 use Rattle.cyc_places.specs.Places.{is_everywhere, new_record, with_place}
 use Rattle.cyc_cpus.specs.Cpus.{CpusView}
@@ -91,7 +91,7 @@ abbrev pub seen : Cyclic → ℕ × ℕ
 seen c = (c.timer.moment, c.timer.interval)
 
 -- the series of a record, where it is of an omnipresent cyclic
-abbrev pub place_series : Place → Option (When × ℕ)
+abbrev pub place_series : Placement → Option (When × ℕ)
 place_series (stands.On n bound) = None
 place_series (stands.Everywhere when skew) = Some (when, skew)
 
@@ -102,7 +102,7 @@ series_placed : (r : Record) (n : ℕ) (bound : Bool) → is_everywhere r.place 
     → series_of (with_place (stands.On n bound) r) ≡ series_of r
 series_placed r n bound e = by r.place e
   where
-    by : (place : Place) → is_everywhere place ≡ false → None ≡ place_series place
+    by : (place : Placement) → is_everywhere place ≡ false → None ≡ place_series place
     by (stands.On m b) e = refl
     by (stands.Everywhere when skew) e = absurd (let odd : true ≡ false = e in cc)
 
@@ -120,7 +120,7 @@ module _ {R : Type 0} (step : R → FiringCall → R → Type 0) (view : R → F
     its_record : (r : Record) × (found id s.records ≡ Some r) × (r.place ≡ stands.Everywhere when skew)
     its_record = by (found id s.records) refl h.series
       where
-        placed : (r : Record) (place : Place) → r.place ≡ place → place_series place ≡ Some (when, skew)
+        placed : (r : Record) (place : Placement) → r.place ≡ place → place_series place ≡ Some (when, skew)
             → r.place ≡ stands.Everywhere when skew
         placed r (stands.On n bound) e is = absurd (none_some is)
         placed r (stands.Everywhere w k) e is = (let p = same_some is in e ∙ (λ i. stands.Everywhere (p i).0 (p i).1))

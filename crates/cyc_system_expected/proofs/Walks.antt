@@ -12,8 +12,8 @@ use Rattle.cyc_types.specs.declared.refusal.Refusal.{Refusal}
 use Rattle.cyc_model.specs.Refusals.{first_refusal, busy}
 use Rattle.cyc_cpu.specs.declared.moving.Taken.{Taken}
 use Rattle.cyc_cpu.specs.Calls.{TakeNow, Place as PlaceCall, Reserve, Widen, AskPending, Reprogram as CpuReprogram}
-use Rattle.cyc_places.specs.declared.record.Place.{Place}
-use Rattle.cyc_places.specs.declared.record.Place.TheVariants as stands
+use Rattle.cyc_places.specs.declared.record.Placement.{Placement}
+use Rattle.cyc_places.specs.declared.record.Placement.TheVariants as stands
 use Rattle.cyc_places.specs.declared.record.Record.{Record}
 use Rattle.cyc_places.specs.Places.{ended_on, no_counts}
 use Rattle.cyc_cpus.specs.Cpus.{CpusView, CallOn, on, DoesAt, Works, online_cpus}
@@ -181,7 +181,7 @@ module _ {R : Type 0} (step : R → FiringCall → R → Type 0) (view : R → F
       (one s.cpus u.cpus (on n (TakeNow own (Ok taken))) (may 0 own taken refl) does)
       (retires n ids u t (λ p q taken at. may (suc p) q taken at) rest)
 
-  return_good : (n now own : ℕ) (level : Level) (counts : Sent) (place : Place) → Puts n own
+  return_good : (n now own : ℕ) (level : Level) (counts : Sent) (place : Placement) → Puts n own
       → AreGood (return_at n now own level counts place)
   return_good n now own level counts (stands.On m bound) may = tt
   return_good n now own level counts (stands.Everywhere when skew) may =

@@ -20,8 +20,8 @@ use Rattle.cyc_cpu.specs.declared.removing.Removal.TheVariants.{Done, Kept}
 use Rattle.cyc_cpu.specs.Gone.{PutsNot}
 use Rattle.cyc_cpu.specs.Calls.{CpuCall, BeginRemove as CpuBegin, PollRemove as CpuPoll, TakeNow, Reserve, Widen, AskRoom}
 use Rattle.cyc_cpu.specs.Calls.{AskPending, Reprogram as CpuReprogram}
-use Rattle.cyc_places.specs.declared.record.Place.{Place}
-use Rattle.cyc_places.specs.declared.record.Place.TheVariants as stands
+use Rattle.cyc_places.specs.declared.record.Placement.{Placement}
+use Rattle.cyc_places.specs.declared.record.Placement.TheVariants as stands
 use Rattle.cyc_places.specs.declared.record.Record.{Record}
 use Rattle.cyc_places.specs.Places.{IsRecord, HasNoRecord}
 use Rattle.cyc_cpus.specs.Cpus.{CpusView, CallOn, on, DoesAt, Works, online_cpus}
@@ -135,7 +135,7 @@ outs_entering : (id : ℕ) (ns : List ℕ) (own : ℕ) (level : Level) (when : W
 outs_entering id [] own level when skew now ne = tt
 outs_entering id (n ∷ ns) own level when skew now ne = (tt, (ne, outs_entering id ns own level when skew now ne))
 
-outs_return : (id n now own : ℕ) (level : Level) (counts : Sent) (place : Place) → own ≢ id
+outs_return : (id n now own : ℕ) (level : Level) (counts : Sent) (place : Placement) → own ≢ id
     → Outs id (return_at n now own level counts place)
 outs_return id n now own level counts (stands.On m bound) ne = tt
 outs_return id n now own level counts (stands.Everywhere first skew) ne = (ne, tt)
@@ -215,19 +215,19 @@ module _ {R : Type 0} (step : R → FiringCall → R → Type 0) (view : R → F
       made_calls s t way works (same_low s.last t.last last) (λ id low none. outs id) (same_records s t records)
 
   -- a cyclic's record has another place
-  placed_records : (own : ℕ) (place : Place) (s t : SystemView R) → Records own place s t → (id : ℕ) → id ≤ s.last
+  placed_records : (own : ℕ) (place : Placement) (s t : SystemView R) → Records own place s t → (id : ℕ) → id ≤ s.last
       → Unnamed id s.records → Unnamed id t.records
   placed_records own place s t (k, r, here, named, records, last) id low none =
       subst (λ rs. Unnamed id rs) (sym records) (unnamed_set id s.records k r _ none here refl)
 
   -- the id of a record is another one
-  named_not : (own : ℕ) (place : Place) (s t : SystemView R) → Records own place s t → (id : ℕ) → Unnamed id s.records → own ≢ id
+  named_not : (own : ℕ) (place : Placement) (s t : SystemView R) → Records own place s t → (id : ℕ) → Unnamed id s.records → own ≢ id
   named_not own place s t (k, r, here, named, records, last) id none same = none k r here (named ∙ same)
 
-  last_of : (own : ℕ) (place : Place) (s t : SystemView R) → Records own place s t → s.last ≤ t.last
+  last_of : (own : ℕ) (place : Placement) (s t : SystemView R) → Records own place s t → s.last ≤ t.last
   last_of own place s t (k, r, here, named, records, last) = same_low s.last t.last last
 
-  made_goes : (own home target : ℕ) (place : Place) (s t : SystemView R) → GoesTo step view own home target (Ok tt) s.cpus t.cpus
+  made_goes : (own home target : ℕ) (place : Placement) (s t : SystemView R) → GoesTo step view own home target (Ok tt) s.cpus t.cpus
       → Records own place s t → IsMadeOf step view s t
   made_goes own home target place s t (inl (at, is, same)) records =
       made_calls s t [] (sym same) (last_of own place s t records) (λ id low none. tt) (placed_records own place s t records)

@@ -14,8 +14,8 @@ use Rattle.cyc_script.specs.declared.step.Add.{Add as AddStep}
 use Rattle.cyc_script.specs.declared.step.Step.TheVariants as steps
 use Rattle.cyc_cpu.specs.Soft.{fires, firing_at as seen}
 use Rattle.cyc_cpu.specs.Calls.{Reserve, Widen, Place}
-use Rattle.cyc_places.specs.declared.record.Place.{Place as RecordPlace}
-use Rattle.cyc_places.specs.declared.record.Place.TheVariants as place
+use Rattle.cyc_places.specs.declared.record.Placement.{Placement as RecordPlacement}
+use Rattle.cyc_places.specs.declared.record.Placement.TheVariants as place
 use Rattle.cyc_places.specs.declared.record.Record.{Record}
 use Rattle.cyc_places.specs.Places.{IsRecord, no_counts, new_record, ended_on}
 use Rattle.cyc_system.specs.System.{SystemView}
@@ -56,12 +56,12 @@ one_more [] new (suc k) r is = absurd (let isnt : None ≡ Some r = is in cc)
 one_more (x ∷ rs) new zero r is = inl is
 one_more (x ∷ rs) new (suc k) r is = one_more rs new k r is
 
-new_ended : (n id : ℕ) (level : Level) (p : RecordPlace)
+new_ended : (n id : ℕ) (level : Level) (p : RecordPlacement)
     → shown_counts (ended_on n (new_record id level p)) ≡ record { expired = 0; lost = 0 }
 new_ended n id level p = ap shown_counts (same_all 16 n no_counts)
 
 -- the new record has no ended stay, and no other changed
-pub ended_more : (s : State) (v : SystemView Tables) (id : ℕ) (level : Level) (p : RecordPlace) (k n : ℕ) (r : Record) → ShowsSystem s v
+pub ended_more : (s : State) (v : SystemView Tables) (id : ℕ) (level : Level) (p : RecordPlacement) (k n : ℕ) (r : Record) → ShowsSystem s v
     → id ≡ s.last_id + 1
     → IsRecord v.records k r ⊎ (r ≡ new_record id level p) → s.ended r.id n ≡ shown_counts (ended_on n r)
 ended_more s v id level p k n r h gives (inl old) = h.ended k r old n

@@ -11,8 +11,8 @@ use Rattle.cyc_types.specs.declared.refusal.Refusal.TheVariants.{Memory, NoCycli
 use Rattle.cyc_cpu_model.specs.Rows.{Cyclic as Timed}
 use Rattle.cyc_core.specs.Tables.{Tables}
 use Rattle.cyc_cpu.specs.Cpu.{CpuView}
-use Rattle.cyc_places.specs.declared.record.Place.{Place as RecordPlace}
-use Rattle.cyc_places.specs.declared.record.Place.TheVariants as place
+use Rattle.cyc_places.specs.declared.record.Placement.{Placement as RecordPlacement}
+use Rattle.cyc_places.specs.declared.record.Placement.TheVariants as place
 use Rattle.cyc_places.specs.declared.record.Record.{Record}
 use Rattle.cyc_places.specs.Places.{HasRisingIds, is_everywhere as everywhere_in}
 use Rattle.cyc_system.specs.System.{SystemView, ids_of, is_leaving_here, record_of, is_unknown as unknown_in}
@@ -21,7 +21,7 @@ use Rattle.cyc_system.specs.Refusals as why
 use Rattle.cyc_system.specs.Binding.{HasPlace, HasHome}
 use Rattle.cyc_system.proofs.Recording.{record_here}
 use Rattle.cyc_model.specs.Cpu.{Cpu, is_of, has_cyclic}
-use Rattle.cyc_model.specs.State.{State, Place, Placed, absent}
+use Rattle.cyc_model.specs.State.{State, Placement, Placed, absent}
 use Rattle.cyc_model.specs.Places.{placement_of, is_unknown, is_leaving, is_everywhere, is_omnipresent, is_bound_at, is_bound}
 use Rattle.cyc_model.specs.Places.{home_at, home_of}
 use Rattle.cyc_model.specs.Refusals.{when, or_else, no_cpu, offline_cpu, ids_spent}
@@ -34,7 +34,7 @@ use Rattle.cyc_system_model.proofs.Cpus.{long_shown}
 
 -- ---- where a cyclic is
 
-abbrev place_in : Option Record → Option Place
+abbrev place_in : Option Record → Option Placement
 place_in o = option_map (λ (r : Record). shown_place r.level r.place) o
 
 find_shown : (id : ℕ) (rs : List Record)
@@ -62,7 +62,7 @@ is_some_in (Some r) = refl
 pub unknown_shown : (id : ℕ) (s : State) (v : SystemView Tables) → ShowsSystem s v → is_unknown id s ≡ unknown_in id v
 unknown_shown id s v h = ap (λ o. not (is_some o)) (place_shown id s v h) ∙ ap not (is_some_in (record_of id v))
 
-everywhere_shown : (level : Level) (p : RecordPlace) → is_everywhere (Some (shown_place level p)) ≡ everywhere_in p
+everywhere_shown : (level : Level) (p : RecordPlacement) → is_everywhere (Some (shown_place level p)) ≡ everywhere_in p
 everywhere_shown level (place.On cpu bound) = refl
 everywhere_shown level (place.Everywhere first skew) = refl
 

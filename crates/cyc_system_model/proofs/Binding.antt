@@ -15,7 +15,7 @@ use Rattle.cyc_script.specs.declared.step.Step.TheVariants as steps
 use Rattle.cyc_cpu.specs.declared.moving.Taken.{Taken}
 use Rattle.cyc_cpu.specs.Soft.{fires, firing_at as seen}
 use Rattle.cyc_cpu.specs.Calls.{AskPending, Reserve, TakeNow, Widen, Place}
-use Rattle.cyc_places.specs.declared.record.Place.TheVariants as place
+use Rattle.cyc_places.specs.declared.record.Placement.TheVariants as place
 use Rattle.cyc_system.specs.Cpus.{CpusView, Works}
 use Rattle.cyc_system.specs.Shifting.{moving}
 use Rattle.cyc_system.specs.System.{SystemView}

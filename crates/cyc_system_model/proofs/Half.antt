@@ -12,7 +12,7 @@ use Rattle.cyc_types.specs.declared.level.Level.{Level}
 use Rattle.cyc_core.specs.Tables.{Tables}
 use Rattle.cyc_cpu.specs.Soft.{fires, firing_at as seen}
 use Rattle.cyc_cpu.specs.Calls.{CpuCall}
-use Rattle.cyc_places.specs.declared.record.Place.{Place as RecordPlace}
+use Rattle.cyc_places.specs.declared.record.Placement.{Placement as RecordPlacement}
 use Rattle.cyc_places.specs.declared.record.Record.{Record}
 use Rattle.cyc_places.specs.Places.{IsRecord, HasRisingIds, ended_on, no_counts, with_ended, new_record}
 use Rattle.cyc_system.specs.Cpus.{CpusView, CallOn, on, DoesAt, Works, RunningCpus}
@@ -183,10 +183,10 @@ rises_more rs new rising below i j a b less at_i at_j = pick (get_either rs new 
     pick (inr (last, is)) (inl here) = let low = slice_get_within rs j b here in absurd (omega (arith, low, less, last))
     pick (inr (last, is)) (inr (end, same)) = absurd (omega (arith, less, last, end))
 
-new_full : (cpus id : ℕ) (level : Level) (p : RecordPlace) → IsFull cpus (new_record id level p)
+new_full : (cpus id : ℕ) (level : Level) (p : RecordPlacement) → IsFull cpus (new_record id level p)
 new_full cpus id level p = (length-replicate 16 no_counts, λ n past. same_all 16 n no_counts)
 
-pub half_more : (v : SystemView Tables) (id : ℕ) (level : Level) (p : RecordPlace) → Half v → id ≡ v.last + 1
+pub half_more : (v : SystemView Tables) (id : ℕ) (level : Level) (p : RecordPlacement) → Half v → id ≡ v.last + 1
     → Half (record v { records = v.records ++ new_record id level p ∷ []; last = id })
 half_more v id level p h next = record {
   long = h.long;

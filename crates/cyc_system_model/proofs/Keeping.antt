@@ -22,8 +22,8 @@ use Rattle.cyc_cpu.specs.Calls.{CpuCall, Fire, AskPending, AskRoom, Reserve, Rep
 use Rattle.cyc_cpu.specs.Calls.{SoftInterrupt as CpuSoftInterrupt, Does as CpuDoes}
 use Rattle.cyc_cpu.specs.Calls as cpu
 use Rattle.cyc_cpu.proofs.Calling.{changes_most, fire_keeps}
-use Rattle.cyc_places.specs.declared.record.Place.{Place as RecordPlace}
-use Rattle.cyc_places.specs.declared.record.Place.TheVariants as place
+use Rattle.cyc_places.specs.declared.record.Placement.{Placement as RecordPlacement}
+use Rattle.cyc_places.specs.declared.record.Placement.TheVariants as place
 use Rattle.cyc_places.specs.declared.record.Record.{Record}
 use Rattle.cyc_places.specs.Places.{IsRecord, HasRisingIds, with_place, with_ended, ended_on, summed, no_counts, new_record}
 use Rattle.cyc_system.specs.Cpus.{CpusView, CallOn, Works, DoesAt, RunsAt, with_cpu, on, online_cpus, running_cpus}
@@ -123,7 +123,7 @@ kept_put : (v : SystemView Tables) (k : ℕ) (r x : Record) → Half v → IsRec
     → Kept v (record v { records = slice_set v.records k x })
 kept_put v k r x h is same new = record { half = half_put v k r x h is same new; most = λ n. refl; room = λ all. all }
 
-kept_placed : (id : ℕ) (p : RecordPlace) (v u w : SystemView Tables) → Kept v u → w.cpus ≡ u.cpus → Records id p u w → Kept v w
+kept_placed : (id : ℕ) (p : RecordPlacement) (v u w : SystemView Tables) → Kept v u → w.cpus ≡ u.cpus → Records id p u w → Kept v w
 kept_placed id p v u w h cpus (k, r, is, named, records, last) =
     kept_parts v (record u { records = slice_set u.records k (with_place p r) }) w
     (kept_then v u (record u { records = slice_set u.records k (with_place p r) }) h
@@ -160,7 +160,7 @@ kept_each (Err e) v u h (inr (x, asked_all, (memory, before, n, stands, works)))
     kept_then v (record v { cpus = x }) (record v { cpus = u }) one
     (kept_works (reserves 1 before ++ on n (Reserve 1 (Err e)) ∷ []) (record v { cpus = x }) u one.half works)
 
-kept_more : (v u w : SystemView Tables) (id : ℕ) (level : Level) (p : RecordPlace) → Kept v u → u.records ≡ v.records
+kept_more : (v u w : SystemView Tables) (id : ℕ) (level : Level) (p : RecordPlacement) → Kept v u → u.records ≡ v.records
     → u.last ≡ v.last → id ≡ v.last + 1
     → w.cpus ≡ u.cpus → w.records ≡ v.records ++ new_record id level p ∷ [] → w.last ≡ id → Kept v w
 kept_more v u w id level p k same kept_last named cpus records last = record {

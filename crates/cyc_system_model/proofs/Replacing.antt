@@ -12,7 +12,7 @@ use Rattle.cyc_types.specs.declared.refusal.Refusal.TheVariants.{NoCyclic, Omnip
 use Rattle.cyc_core.specs.Tables.{Tables}
 use Rattle.cyc_script.specs.declared.step.Step.TheVariants as steps
 use Rattle.cyc_cpu.specs.Soft.{fires, firing_at as seen}
-use Rattle.cyc_places.specs.declared.record.Place.TheVariants as place
+use Rattle.cyc_places.specs.declared.record.Placement.TheVariants as place
 use Rattle.cyc_places.specs.declared.record.Record.{Record}
 use Rattle.cyc_places.specs.Places.{IsRecord, HasRisingIds, with_place, ended_on}
 use Rattle.cyc_system.proofs.CpusSpots.{get_set_same, get_set_other}
@@ -21,7 +21,7 @@ use Rattle.cyc_system.specs.Refusals as why
 use Rattle.cyc_system.specs.Binding.{Records}
 use Rattle.cyc_system.specs.Calls.{Changes, Bind}
 use Rattle.cyc_system.proofs.Spots.{same_some, none_some}
-use Rattle.cyc_model.specs.State.{State, On, Placed, Place}
+use Rattle.cyc_model.specs.State.{State, On, Placed, Placement}
 use Rattle.cyc_model.specs.Places.{id_of, replaced}
 use Rattle.cyc_model.specs.Refusals.{or_else}
 use Rattle.cyc_model.specs.Bind.{no_cyclic, omnipresent, unbind_refusal}
@@ -35,7 +35,7 @@ use Rattle.cyc_system_model.proofs.Asking.{is_refused, same_error}
 later_rise : (x : Record) (rs : List Record) → HasRisingIds (x ∷ rs) → HasRisingIds rs
 later_rise x rs rising i j r q less a b = rising (suc i) (suc j) r q (omega (arith, less)) a b
 
-named_so : (id : ℕ) (p : Place) (q : Placed) → q.id ≡ id → replaced id p q ≡ record { id = q.id; place = p }
+named_so : (id : ℕ) (p : Placement) (q : Placed) → q.id ≡ id → replaced id p q ≡ record { id = q.id; place = p }
 named_so id p q is = ap (λ b. cond b (record { id = q.id; place = p }) q) (eq q.id id is)
   where
     eq : (a b : ℕ) → a ≡ b → (a == b) ≡ true
@@ -45,14 +45,14 @@ named_so id p q is = ap (λ b. cond b (record { id = q.id; place = p }) q) (eq q
         tells (inl (is, same)) = is
         tells (inr (isnt, ne)) = absurd (ne e)
 
-named_other : (id : ℕ) (p : Place) (q : Placed) → q.id ≢ id → replaced id p q ≡ q
+named_other : (id : ℕ) (p : Placement) (q : Placed) → q.id ≢ id → replaced id p q ≡ q
 named_other id p q isnt = tells (eqb_tells q.id id)
   where
     tells : (((q.id == id) ≡ true) × (q.id ≡ id)) ⊎ (((q.id == id) ≡ false) × (q.id ≢ id)) → replaced id p q ≡ q
     tells (inl (is, same)) = absurd (isnt same)
     tells (inr (is, ne)) = ap (λ b. cond b (record { id = q.id; place = p }) q) is
 
-all_others : (id : ℕ) (p : Place) (rs : List Record) → ((j : ℕ) (q : Record) → IsRecord rs j q → q.id ≢ id)
+all_others : (id : ℕ) (p : Placement) (rs : List Record) → ((j : ℕ) (q : Record) → IsRecord rs j q → q.id ≢ id)
     → map (replaced id p) (map shown_record rs) ≡ map shown_record rs
 all_others id p [] none = refl
 all_others id p (x ∷ rs) none =
@@ -101,7 +101,7 @@ replaced_shows s x v w h rising id n b (k, r, is, named, records, last) cpus pla
 }
 
 -- a place that is replaced twice
-pub replaced_twice : (id : ℕ) (p o : Place) (ps : List Placed)
+pub replaced_twice : (id : ℕ) (p o : Placement) (ps : List Placed)
     → map (replaced id p) (map (replaced id o) ps) ≡ map (replaced id p) ps
 replaced_twice id p o [] = refl
 replaced_twice id p o (q ∷ ps) = (λ z. once (eqb_tells q.id id) z ∷ replaced_twice id p o ps z)

@@ -19,8 +19,8 @@ use Rattle.cyc_script.specs.declared.step.Step.TheVariants as steps
 use Rattle.cyc_text.specs.Lines.{accepted as accepted_line}
 use Rattle.cyc_cpu.specs.Soft.{fires, firing_at as seen}
 use Rattle.cyc_cpu.specs.Calls.{Reserve, Widen, Place}
-use Rattle.cyc_places.specs.declared.record.Place.{Place as RecordPlace}
-use Rattle.cyc_places.specs.declared.record.Place.TheVariants as place
+use Rattle.cyc_places.specs.declared.record.Placement.{Placement as RecordPlacement}
+use Rattle.cyc_places.specs.declared.record.Placement.TheVariants as place
 use Rattle.cyc_places.specs.declared.record.Record.{Record}
 use Rattle.cyc_places.specs.Places.{IsRecord, HasRisingIds, is_everywhere as everywhere_in, ended_on, no_counts, with_ended}
 use Rattle.cyc_system.specs.Cpus.{CpusView, Works, on as on_cpu}
@@ -64,7 +64,7 @@ use Rattle.cyc_system.proofs.Spots.{same_some, none_some}
 abbrev first_stay : (ℕ → Bool) → List Placed → List Placed
 first_stay leaves ps = filter (λ (p : Placed). is_on_all p.place) (filter (λ (p : Placed). not (leaves p.id)) ps)
 
-stay_by : (p : RecordPlace) (level : Level) (id : ℕ) (leaves : Bool) (r : Record) (rs : List Record) (ps : List Placed)
+stay_by : (p : RecordPlacement) (level : Level) (id : ℕ) (leaves : Bool) (r : Record) (rs : List Record) (ps : List Placed)
     (kept_rs : List Record)
     → shown_record r ≡ record { id = id; place = shown_place level p }
     → filter (λ (q : Placed). is_on_all q.place) ps ≡ map shown_record kept_rs
@@ -149,7 +149,7 @@ all_return n now (r ∷ rs) x y long tied rising every works =
     (λ j q at. every (suc j) q at) rest) r.place refl works
   where
     by : ((u : CpusView Tables) → length u.online ≡ length u.cpus → AreTied u → Works fires seen (returns n now rs) u y
-        → GivesBack n now rs u y) → (p : RecordPlace) → r.place ≡ p
+        → GivesBack n now rs u y) → (p : RecordPlacement) → r.place ≡ p
         → Works fires seen (returns_at n now r.id r.level (ended_on n r) p ++ returns n now rs) x y
         → GivesBack n now (r ∷ rs) x y
     by next (place.On m bound) is did = absurd (let isnt : false ≡ true = sym (ap everywhere_in is) ∙ every 0 r refl in cc)

@@ -9,7 +9,7 @@ use Rattle.cyc_types.specs.declared.refusal.Refusal.TheVariants.{Memory}
 use Rattle.cyc_core.specs.Tables.{Tables}
 use Rattle.cyc_cpu.specs.Soft.{fires, firing_at as seen}
 use Rattle.cyc_cpu.specs.Calls.{AskPending, Reserve}
-use Rattle.cyc_places.specs.declared.record.Place.TheVariants as place
+use Rattle.cyc_places.specs.declared.record.Placement.TheVariants as place
 use Rattle.cyc_system.specs.Cpus.{on as on_cpu}
 use Rattle.cyc_system.specs.Destination.{destination as destination_in}
 use Rattle.cyc_system.specs.System.{SystemView}

@@ -4,15 +4,15 @@ use Rattle.cyc_types.specs.declared.firing.Sent.{Sent}
 use Rattle.cyc_types.specs.declared.level.Level.{Level}
 use Rattle.cyc_core.specs.Tables.{Tables}
 use Rattle.cyc_cpu.specs.Cpu.{CpuView}
-use Rattle.cyc_places.specs.declared.record.Place.{Place as RecordPlace}
-use Rattle.cyc_places.specs.declared.record.Place.TheVariants as place
+use Rattle.cyc_places.specs.declared.record.Placement.{Placement as RecordPlacement}
+use Rattle.cyc_places.specs.declared.record.Placement.TheVariants as place
 use Rattle.cyc_places.specs.declared.record.Record.{Record}
 use Rattle.cyc_places.specs.Places.{IsRecord, HasRisingIds, ended_on, no_counts}
 use Rattle.cyc_system.specs.Cpus.{CpusView, IsCpu}
 use Rattle.cyc_system.specs.System.{SystemView}
 use Rattle.cyc_system.specs.Agreement.{Agrees}
 use Rattle.cyc_model.specs.Cpu.{Cpu}
-use Rattle.cyc_model.specs.State.{State, Place, On, OnAll, Placed, Ended}
+use Rattle.cyc_model.specs.State.{State, Placement, On, OnAll, Placed, Ended}
 use Rattle.cyc_cpu_model.specs.Shown.{shown_cpu}
 use Rattle.cyc_cpu_model.specs.Tied.{IsTied}
 
@@ -26,7 +26,7 @@ abbrev pub shown_cpus : CpusView Tables → List Cpu
 shown_cpus v = shown_list v.online v.cpus
 
 -- where a cyclic of this level is
-abbrev pub shown_place : Level → RecordPlace → Place
+abbrev pub shown_place : Level → RecordPlacement → Placement
 shown_place level (place.On cpu bound) = On cpu bound
 shown_place level (place.Everywhere first skew) =
     OnAll (record { level = level; start = first.start; interval = first.interval; skew = skew })

@@ -25,8 +25,8 @@ use Rattle.cyc_cpu.specs.Gone.{PutsNot}
 use Rattle.cyc_cpu.specs.Calls.{CpuCall, Reserve, Widen, AskPending, TakeNow, Reprogram as CpuReprogram}
 use Rattle.cyc_cpu.specs.Calls.{BeginRemove as CpuBeginRemove, PollRemove as CpuPollRemove}
 use Rattle.cyc_system_laws.proofs.Shifts.{Shifts, changes_shift}
-use Rattle.cyc_places.specs.declared.record.Place.{Place}
-use Rattle.cyc_places.specs.declared.record.Place.TheVariants as stands
+use Rattle.cyc_places.specs.declared.record.Placement.{Placement}
+use Rattle.cyc_places.specs.declared.record.Placement.TheVariants as stands
 use Rattle.cyc_places.specs.declared.record.Record.{Record}
 use Rattle.cyc_places.specs.Places.{IsRecord, HasRisingIds, HasNoRecord, ended_on}
 use Rattle.cyc_cpus.specs.Cpus.{CpusView, CallOn, DoesAt, on, online_cpus}
@@ -306,7 +306,7 @@ module _ (level : Level) (id : ℕ) where
 
     -- ---- online
 
-    return_none : (n now own : ℕ) (at : Level) (counts : Sent) (place : Place) (way : List CallOn)
+    return_none : (n now own : ℕ) (at : Level) (counts : Sent) (place : Placement) (way : List CallOn)
         → cond (own == id) (one_at at) 0 ≡ 0 → AllFixed at_it id way → all_brought at_it id way ≡ 0
         → AllFixed at_it id (return_at n now own at counts place ++ way)
         × (all_brought at_it id (return_at n now own at counts place ++ way) ≡ 0)

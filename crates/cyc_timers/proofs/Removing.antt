@@ -9,98 +9,98 @@ use Rattle.std.proofs.lemmas.List.Edits.{length-remove, get_or-remove_below, get
 use Rattle.std.proofs.lemmas.List.Sums.{sum_by-set}
 use Rattle.cyc_heap.specs.Expirations.{Expiration}
 use Rattle.cyc_finder.proofs.RisingIds.{rises_removed}
-use Rattle.cyc_timers.specs.declared.table.Place.{Place}
+use Rattle.cyc_timers.specs.declared.table.Entry.{Entry}
 use Rattle.cyc_timers.specs.declared.table.Record.{Record}
 use Rattle.cyc_timers.specs.Rows.{Row, joined, no_record, id_in, row_of, rows_of, IsTable}
 use Rattle.cyc_timers.proofs.Tables.{Standing, no_place, map_same, apart_index, slot_changed, tally}
 
--- where a place of the shorter list stood before
-record Source (places : List Place) (k j : ℕ) : Type 0 where
+-- where a position of the shorter list stood before
+record Source (entries : List Entry) (k j : ℕ) : Type 0 where
   pub was : ℕ
-  pub low : was < length places
+  pub low : was < length entries
   pub other : was ≢ k
-  pub is : (d : Place) → get_or (remove places k) j d ≡ get_or places was d
+  pub is : (d : Entry) → get_or (remove entries k) j d ≡ get_or entries was d
 
-source : (places : List Place) (k j : ℕ) → k < length places → j < length (remove places k) → Source places k j
-source places k j low_k low = (let l = length-remove places k low_k in
+source : (entries : List Entry) (k j : ℕ) → k < length entries → j < length (remove entries k) → Source entries k j
+source entries k j low_k low = (let l = length-remove entries k low_k in
     elim (cases_lt j k) [
       | inl less ↦ record {
         was = j;
         low = omega (arith, less, low_k);
         other = λ q. absurd (omega (arith, q, less));
         is =
-            λ d. get_or-remove_below places k d j less low_k;
+            λ d. get_or-remove_below entries k d j less low_k;
       }
       | inr more ↦ record {
         was = j + 1;
         low = omega (arith, l, low);
         other = λ q. absurd (omega (arith, q, more));
         is =
-            λ d. get_or-remove_above places k d j more low_k;
+            λ d. get_or-remove_above entries k d j more low_k;
       }
     ])
 
-module _ (slots : List (Option Expiration)) (records : List Record) (places : List Place) (k : ℕ) (r : Row)
-    (s : Standing slots records places k r) (t : IsTable slots records places) where
-  -- the other places have other indexes
-  far : (j : ℕ) → j < length places → j ≢ k → (d : Place) → (get_or places j d).index ≢ s.p.index
-  far j low ne d same = apart_index slots records places j k t low s.low ne
-      (ap (λ (x : Place). x.index) (sym (get_or_default places j d no_place low)) ∙ same
-      ∙ ap (λ (x : Place). x.index) (sym (s.is no_place)))
+module _ (slots : List (Option Expiration)) (records : List Record) (entries : List Entry) (k : ℕ) (r : Row)
+    (s : Standing slots records entries k r) (t : IsTable slots records entries) where
+  -- the other entries have other indexes
+  far : (j : ℕ) → j < length entries → j ≢ k → (d : Entry) → (get_or entries j d).index ≢ s.p.index
+  far j low ne d same = apart_index slots records entries j k t low s.low ne
+      (ap (λ (x : Entry). x.index) (sym (get_or_default entries j d no_place low)) ∙ same
+      ∙ ap (λ (x : Entry). x.index) (sym (s.is no_place)))
 
-  from : (j : ℕ) → j < length (remove places k) → Source places k j
-  from j low = source places k j s.low low
+  from : (j : ℕ) → j < length (remove entries k) → Source entries k j
+  from j low = source entries k j s.low low
 
-  pub fewer_rows : rows_of (set slots s.p.index None) records (remove places k) ≡ remove (rows_of slots records places) k
+  pub fewer_rows : rows_of (set slots s.p.index None) records (remove entries k) ≡ remove (rows_of slots records entries) k
   fewer_rows =
       let f' = row_of (set slots s.p.index None) records in
       let f = row_of slots records in
-      let same : map f' (remove places k) ≡ map f (remove places k) = map_same f' f (remove places k) no_place (λ j low.
+      let same : map f' (remove entries k) ≡ map f (remove entries k) = map_same f' f (remove entries k) no_place (λ j low.
       let o = from j low in
-      let x = get_or (remove places k) j no_place in
-      let apart : x.index ≢ s.p.index = λ q. far o.was o.low o.other no_place (ap (λ (y : Place). y.index) (sym (o.is no_place))
+      let x = get_or (remove entries k) j no_place in
+      let apart : x.index ≢ s.p.index = λ q. far o.was o.low o.other no_place (ap (λ (y : Entry). y.index) (sym (o.is no_place))
       ∙ q) in
       λ y. joined x.id x.index (get_or-set_other slots s.p.index x.index None None apart y) (get_or records x.index no_record)) in
-      same ∙ map-append f (take k places) (drop (suc k) places)
-      ∙ (λ y. sym (take-map f k places) y ++ sym (drop-map f (suc k) places) y)
+      same ∙ map-append f (take k entries) (drop (suc k) entries)
+      ∙ (λ y. sym (take-map f k entries) y ++ sym (drop-map f (suc k) entries) y)
 
-  pub fewer_table : IsTable (set slots s.p.index None) records (remove places k)
+  pub fewer_table : IsTable (set slots s.p.index None) records (remove entries k)
   fewer_table = record {
-    rising = rises_removed id_in places t.rising s.p.id k (record { in_range = s.low; has_id = λ d. ap id_in (s.is d) });
+    rising = rises_removed id_in entries t.rising s.p.id k (record { in_range = s.low; has_id = λ d. ap id_in (s.is d) });
     named = λ j d low.
         (let o = from j low in let (m, holds) = t.named o.was d o.low in (
           m,
-          ap (λ (z : Place). get_or (set slots s.p.index None) z.index None) (o.is d)
-              ∙ get_or-set_other slots s.p.index (get_or places o.was d).index None None (far o.was o.low o.other d) ∙ holds
-              ∙ ap (λ (z : Place). Some (record { moment = m; id = z.id })) (sym (o.is d)),
+          ap (λ (z : Entry). get_or (set slots s.p.index None) z.index None) (o.is d)
+              ∙ get_or-set_other slots s.p.index (get_or entries o.was d).index None None (far o.was o.low o.other d) ∙ holds
+              ∙ ap (λ (z : Entry). Some (record { moment = m; id = z.id })) (sym (o.is d)),
         ));
     covered = λ i e h. elim (slot_changed slots s.p.index i None (Some e) s.below h) [
       | inl (same, is) ↦ absurd (let no : None ≡ Some e = is in cc)
       | inr (ne, is) ↦
           (let (j, low, at) = t.covered i e is in
-          let other : j ≢ k = λ q. ne (sym (at no_place) ∙ ap (λ n. (get_or places n no_place).index) q
-          ∙ ap (λ (z : Place). z.index) (s.is no_place)) in
-          let l = length-remove places k s.low in let low_k = s.low in
+          let other : j ≢ k = λ q. ne (sym (at no_place) ∙ ap (λ n. (get_or entries n no_place).index) q
+          ∙ ap (λ (z : Entry). z.index) (s.is no_place)) in
+          let l = length-remove entries k s.low in let low_k = s.low in
           elim (cases_lt j k) [
             | inl less ↦ (
               j,
               omega (arith, l, less, low_k),
-              λ d. ap (λ (z : Place). z.index)
-                  (get_or-remove_below places k d j less low_k) ∙ at d,
+              λ d. ap (λ (z : Entry). z.index)
+                  (get_or-remove_below entries k d j less low_k) ∙ at d,
             )
             | inr more ↦
                 (let up : (j - 1) + 1 ≡ j = omega (arith, more, other) in (
                   j - 1,
                   omega (arith, l, low, more, other),
-                  λ d. ap (λ (z : Place). z.index)
-                      (get_or-remove_above places k d (j - 1) (omega (arith, more, other)) low_k)
-                      ∙ ap (λ n. (get_or places n d).index) up ∙ at d,
+                  λ d. ap (λ (z : Entry). z.index)
+                      (get_or-remove_above entries k d (j - 1) (omega (arith, more, other)) low_k)
+                      ∙ ap (λ n. (get_or entries n d).index) up ∙ at d,
                 ))
           ])
     ];
     long = (let a = length-set slots s.p.index None in let l = t.long in omega (arith, a, l));
     len = (let c = sum_by-set tally slots s.p.index None None s.below in let was : tally (get_or slots s.p.index None) ≡ 1 =
-        ap tally s.holds in let l = t.len in let n = length-remove places k s.low in omega (arith, c, was, l, n));
+        ap tally s.holds in let l = t.len in let n = length-remove entries k s.low in omega (arith, c, was, l, n));
     moments = λ i e h. elim (slot_changed slots s.p.index i None (Some e) s.below h) [
       | inl (same, is) ↦ absurd (let no : None ≡ Some e = is in cc)
       | inr (ne, is) ↦ t.moments i e is

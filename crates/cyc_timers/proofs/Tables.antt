@@ -1,4 +1,4 @@
--- Lemmas on a table: what a place, an index and the root have, and what a change at one index leaves.
+-- Lemmas on a table: what a position, an index and the root have, and what a change at one index leaves.
 use Rattle.std.proofs.Common.{◌≡◌, ◌≢◌, ℕ, suc, ◌<◌, ◌≤◌, ◌⊎◌, inl, inr, cond, List, [], ◌∷◌, Option, Some, None, refl, sym, ap}
 use Rattle.std.proofs.Common.{◌∙◌, subst, arith, length, get_or, map, All, count_by, option_map}
 use Rattle.std.proofs.Math.ListN.{set}
@@ -13,13 +13,13 @@ use Rattle.cyc_types.specs.Series.{never}
 use Rattle.cyc_heap.specs.Expirations.{Expiration, is_before, next_of}
 use Rattle.cyc_heap.specs.Timers.{Timer, IsSound}
 use Rattle.cyc_finder.specs.Sorted.{IsAt, IsGap}
-use Rattle.cyc_timers.specs.declared.table.Place.{Place}
+use Rattle.cyc_timers.specs.declared.table.Entry.{Entry}
 use Rattle.cyc_timers.specs.declared.table.Record.{Record}
 use Rattle.cyc_timers.specs.Rows.{Row, no_record, id_in, moment_in, joined, row_of, rows_of, timers_of, IsTable, IsRow, IsRising}
 use Rattle.cyc_timers.specs.Rows.{HasDistinctIndexes, IsFirstAt, IsRecordOf, at_moment, with_record, with_counts, TableView}
 use Rattle.cyc_timers.specs.Rows.{Cyclic, cyclic_of, cyclics_of, HasNo}
 
-abbrev pub no_place : Place
+abbrev pub no_place : Entry
 no_place = record { id = 1; index = 0 }
 
 -- an index that is in use is below the size
@@ -29,56 +29,56 @@ slot_low slots i e h = elim (cases_lt i (length slots)) [
   | inr past ↦ let none = get_or_past slots i None past in absurd (let no : Some e ≡ None = sym h ∙ none in cc)
 ]
 
--- what stands at a place: its row is what heap and record of its index are together
-pub record Standing (slots : List (Option Expiration)) (records : List Record) (places : List Place) (k : ℕ)
+-- what stands at a position: its row is what heap and record of its index are together
+pub record Standing (slots : List (Option Expiration)) (records : List Record) (entries : List Entry) (k : ℕ)
     (r : Row) : Type 0 where
-  pub p : Place
-  pub low : k < length places
-  pub is : (d : Place) → get_or places k d ≡ p
+  pub p : Entry
+  pub low : k < length entries
+  pub is : (d : Entry) → get_or entries k d ≡ p
   pub row : r ≡ row_of slots records p
   pub m : ℕ
   pub holds : get_or slots p.index None ≡ Some (record { moment = m; id = p.id })
   pub below : p.index < length slots
 
-pub standing : (slots : List (Option Expiration)) (records : List Record) (places : List Place) (k : ℕ) (r : Row)
-    → IsTable slots records places → IsRow (rows_of slots records places) k r → Standing slots records places k r
-standing slots records places k r t is =
-    let low : k < length places = (let l = length-map places (row_of slots records) in let w = is.0 in omega (arith, l, w)) in
+pub standing : (slots : List (Option Expiration)) (records : List Record) (entries : List Entry) (k : ℕ) (r : Row)
+    → IsTable slots records entries → IsRow (rows_of slots records entries) k r → Standing slots records entries k r
+standing slots records entries k r t is =
+    let low : k < length entries = (let l = length-map entries (row_of slots records) in let w = is.0 in omega (arith, l, w)) in
     let (m, holds) = t.named k no_place low in
     record {
-      p = get_or places k no_place;
+      p = get_or entries k no_place;
       low = low;
-      is = λ d. get_or_default places k d no_place low;
-      row = sym is.1 ∙ get_or-map (row_of slots records) places k no_place r low;
+      is = λ d. get_or_default entries k d no_place low;
+      row = sym is.1 ∙ get_or-map (row_of slots records) entries k no_place r low;
       m = m;
       holds = holds;
-      below = slot_low slots (get_or places k no_place).index _ holds;
+      below = slot_low slots (get_or entries k no_place).index _ holds;
     }
 
--- the row at a place
-pub row_at : (slots : List (Option Expiration)) (records : List Record) (places : List Place) (k : ℕ) (d : Row)
-    → k < length places → get_or (rows_of slots records places) k d ≡ row_of slots records (get_or places k no_place)
-row_at slots records places k d low = get_or-map (row_of slots records) places k no_place d low
+-- the row at a position
+pub row_at : (slots : List (Option Expiration)) (records : List Record) (entries : List Entry) (k : ℕ) (d : Row)
+    → k < length entries → get_or (rows_of slots records entries) k d ≡ row_of slots records (get_or entries k no_place)
+row_at slots records entries k d low = get_or-map (row_of slots records) entries k no_place d low
 
--- different places have different ids, and so different indexes
-pub apart : (slots : List (Option Expiration)) (records : List Record) (places : List Place) (i j : ℕ)
-    → IsTable slots records places → i < length places → j < length places → i ≢ j →
-    (get_or places i no_place).id ≢ (get_or places j no_place).id
-apart slots records places i j t low_i low_j ne same = elim (cases_lt i j) [
+-- different entries have different ids, and so different indexes
+pub apart : (slots : List (Option Expiration)) (records : List Record) (entries : List Entry) (i j : ℕ)
+    → IsTable slots records entries → i < length entries → j < length entries → i ≢ j →
+    (get_or entries i no_place).id ≢ (get_or entries j no_place).id
+apart slots records entries i j t low_i low_j ne same = elim (cases_lt i j) [
   | inl less ↦ let r = t.rising i j no_place less low_j in absurd (omega (arith, r, same))
   | inr more ↦ let r = t.rising j i no_place (omega (arith, more, ne)) low_i in absurd (omega (arith, r, same))
 ]
 
-pub apart_index : (slots : List (Option Expiration)) (records : List Record) (places : List Place) (i j : ℕ)
-    → IsTable slots records places → i < length places → j < length places → i ≢ j →
-    (get_or places i no_place).index ≢ (get_or places j no_place).index
-apart_index slots records places i j t low_i low_j ne same =
+pub apart_index : (slots : List (Option Expiration)) (records : List Record) (entries : List Entry) (i j : ℕ)
+    → IsTable slots records entries → i < length entries → j < length entries → i ≢ j →
+    (get_or entries i no_place).index ≢ (get_or entries j no_place).index
+apart_index slots records entries i j t low_i low_j ne same =
     let (m, holds) = t.named i no_place low_i in
     let (n, holds') = t.named j no_place low_j in
-    let one : Some (record { moment = m; id = (get_or places i no_place).id })
-    ≡ Some (record { moment = n; id = (get_or places j no_place).id }) = sym holds ∙ ap (λ x. get_or slots x None) same
+    let one : Some (record { moment = m; id = (get_or entries i no_place).id })
+    ≡ Some (record { moment = n; id = (get_or entries j no_place).id }) = sym holds ∙ ap (λ x. get_or slots x None) same
     ∙ holds' in
-    apart slots records places i j t low_i low_j ne (id_of _ _ one)
+    apart slots records entries i j t low_i low_j ne (id_of _ _ one)
   where
     id_of : (a b : Expiration) → Some a ≡ Some b → a.id ≡ b.id
     id_of a b h = ap (λ o. id_in o) h
@@ -95,37 +95,37 @@ map_same f g (x ∷ xs) d h = (let first = h 0 (omega arith) in let rest =
     map_same f g xs d (λ k low. h (suc k) (omega (arith, low))) in λ i. first i ∷ rest i)
 
 -- the rows after a change of the heap and the record at one index
-pub changed : (slots : List (Option Expiration)) (records : List Record) (places : List Place) (k : ℕ) (r : Row)
-    (s : Standing slots records places k r) (m : ℕ) (kept : Record) → IsTable slots records places →
-    rows_of (set slots s.p.index (Some (record { moment = m; id = s.p.id }))) (set records s.p.index kept) places
-    ≡ set (rows_of slots records places) k (joined s.p.id s.p.index (Some (record { moment = m; id = s.p.id })) kept)
-changed slots records places k r s m kept t =
+pub changed : (slots : List (Option Expiration)) (records : List Record) (entries : List Entry) (k : ℕ) (r : Row)
+    (s : Standing slots records entries k r) (m : ℕ) (kept : Record) → IsTable slots records entries →
+    rows_of (set slots s.p.index (Some (record { moment = m; id = s.p.id }))) (set records s.p.index kept) entries
+    ≡ set (rows_of slots records entries) k (joined s.p.id s.p.index (Some (record { moment = m; id = s.p.id })) kept)
+changed slots records entries k r s m kept t =
     let i = s.p.index in
     let e : Option Expiration = Some (record { moment = m; id = s.p.id }) in
     let f = row_of (set slots i e) (set records i kept) in
-    let old = rows_of slots records places in
-    let long = length-map places f in
-    let long_old = length-map places (row_of slots records) in
+    let old = rows_of slots records entries in
+    let long = length-map entries f in
+    let long_old = length-map entries (row_of slots records) in
     let new = joined s.p.id i e kept in
     let set_long = length-set old k new in
-    same_lists (map f places) (set old k new) (omega (arith, long, long_old, set_long)) (λ j d h.
-    let low : j < length places = omega (arith, h, long) in
-    let at = get_or-map f places j no_place d low in
+    same_lists (map f entries) (set old k new) (omega (arith, long, long_old, set_long)) (λ j d h.
+    let low : j < length entries = omega (arith, h, long) in
+    let at = get_or-map f entries j no_place d low in
     elim (cases_eq j k) [
       | inl same ↦
-          let here : get_or places j no_place ≡ s.p = ap (λ x. get_or places x no_place) same ∙ s.is no_place in
+          let here : get_or entries j no_place ≡ s.p = ap (λ x. get_or entries x no_place) same ∙ s.is no_place in
           let there = get_or-set_same slots i e None s.below in
           let kept_there = get_or-set_same records i kept no_record (let l = t.long in let b = s.below in omega (arith, l, b)) in
           at ∙ ap f here ∙ (λ x. joined s.p.id i (there x) (kept_there x))
           ∙ sym (get_or-set_same old k new d (let b = s.low in omega (arith, long_old, b)))
           ∙ ap (λ x. get_or (set old k new) x d) (sym same)
       | inr ne ↦
-          let p = get_or places j no_place in
-          let far : p.index ≢ i = λ q. apart_index slots records places j k t low s.low ne
-          (q ∙ ap (λ (x : Place). x.index) (sym (s.is no_place))) in
+          let p = get_or entries j no_place in
+          let far : p.index ≢ i = λ q. apart_index slots records entries j k t low s.low ne
+          (q ∙ ap (λ (x : Entry). x.index) (sym (s.is no_place))) in
           at ∙ (λ x. joined p.id p.index (get_or-set_other slots i p.index e None far x)
           (get_or-set_other records i p.index kept no_record far x))
-          ∙ sym (row_at slots records places j d low) ∙ sym (get_or-set_other old k j new d ne)
+          ∙ sym (row_at slots records entries j d low) ∙ sym (get_or-set_other old k j new d ne)
     ])
 
 -- a slot after a change of one index
@@ -147,33 +147,33 @@ count_same slots i e f h =
     omega (arith, s, was)
 
 -- a table stays one after such a change
-pub table_changed : (slots : List (Option Expiration)) (records : List Record) (places : List Place) (k : ℕ) (r : Row)
-    (s : Standing slots records places k r) (m : ℕ) (kept : Record) → IsTable slots records places →
+pub table_changed : (slots : List (Option Expiration)) (records : List Record) (entries : List Entry) (k : ℕ) (r : Row)
+    (s : Standing slots records entries k r) (m : ℕ) (kept : Record) → IsTable slots records entries →
     m ≤ never → 0 < kept.interval → kept.interval ≤ never →
-    IsTable (set slots s.p.index (Some (record { moment = m; id = s.p.id }))) (set records s.p.index kept) places
-table_changed slots records places k r s m kept t low_m some most =
+    IsTable (set slots s.p.index (Some (record { moment = m; id = s.p.id }))) (set records s.p.index kept) entries
+table_changed slots records entries k r s m kept t low_m some most =
     let i = s.p.index in
     let new : Expiration = record { moment = m; id = s.p.id } in
     record {
       rising = t.rising;
       named = λ j d low. elim (cases_eq j k) [
         | inl same ↦
-            let here : get_or places j d ≡ s.p = ap (λ x. get_or places x d) same ∙ s.is d in (
+            let here : get_or entries j d ≡ s.p = ap (λ x. get_or entries x d) same ∙ s.is d in (
               m,
-              ap (λ (p : Place). get_or (set slots i (Some new)) p.index None) here
+              ap (λ (p : Entry). get_or (set slots i (Some new)) p.index None) here
                   ∙ get_or-set_same slots i (Some new) None s.below
-                  ∙ ap (λ (p : Place). Some (record { moment = m; id = p.id })) (sym here),
+                  ∙ ap (λ (p : Entry). Some (record { moment = m; id = p.id })) (sym here),
             )
         | inr ne ↦
             let (n, holds) = t.named j d low in
-            let same_d = get_or_default places j d no_place low in
-            let far : (get_or places j d).index ≢ i =
-            λ q. apart_index slots records places j k t low s.low ne (ap (λ (x : Place). x.index) (sym same_d) ∙ q
-            ∙ ap (λ (x : Place). x.index) (sym (s.is no_place))) in
-            (n, get_or-set_other slots i (get_or places j d).index (Some new) None far ∙ holds)
+            let same_d = get_or_default entries j d no_place low in
+            let far : (get_or entries j d).index ≢ i =
+            λ q. apart_index slots records entries j k t low s.low ne (ap (λ (x : Entry). x.index) (sym same_d) ∙ q
+            ∙ ap (λ (x : Entry). x.index) (sym (s.is no_place))) in
+            (n, get_or-set_other slots i (get_or entries j d).index (Some new) None far ∙ holds)
       ];
       covered = λ j e h. elim (slot_changed slots i j (Some new) (Some e) s.below h) [
-        | inl (same, is) ↦ (k, s.low, λ d. ap (λ (x : Place). x.index) (s.is d) ∙ sym same)
+        | inl (same, is) ↦ (k, s.low, λ d. ap (λ (x : Entry). x.index) (s.is d) ∙ sym same)
         | inr (ne, is) ↦ t.covered j e is
       ];
       long = (let a = length-set records i kept in let b = length-set slots i (Some new) in let c = t.long in
@@ -195,11 +195,11 @@ table_changed slots records places k r s m kept t low_m some most =
     some_is : (a b : Expiration) → Some a ≡ Some b → a ≡ b
     some_is a b h = cc
 
--- what is read at the index of a place is what is kept of its row
-pub kept_at : (slots : List (Option Expiration)) (records : List Record) (places : List Place) (k : ℕ) (r : Row)
-    (s : Standing slots records places k r) → IsTable slots records places →
+-- what is read at the index of a position is what is kept of its row
+pub kept_at : (slots : List (Option Expiration)) (records : List Record) (entries : List Entry) (k : ℕ) (r : Row)
+    (s : Standing slots records entries k r) → IsTable slots records entries →
     (i : ℕ) (kept : Record) → s.p.index ≡ i → kept ≡ get_or records i kept → IsRecordOf kept r
-kept_at slots records places k r s t i kept same is =
+kept_at slots records entries k r s t i kept same is =
     let low : i < length records = (let l = t.long in let b = s.below in omega (arith, l, b, same)) in
     let at : kept ≡ get_or records s.p.index no_record = is ∙ get_or_default records i kept no_record low
     ∙ ap (λ n. get_or records n no_record) (sym same) in
@@ -240,13 +240,13 @@ lowered root slots new found i m id n at same h is =
 pub one_slot : (a b : Expiration) (o : Option Expiration) → o ≡ Some a → o ≡ Some b → a ≡ b
 one_slot a b o h k = cc
 
--- the row of a place
-pub is_row : (slots : List (Option Expiration)) (records : List Record) (places : List Place) (k : ℕ) → k < length places
-    → IsRow (rows_of slots records places) k (row_of slots records (get_or places k no_place))
-is_row slots records places k low = (
-  let l = length-map places (row_of slots records) in
+-- the row of an entry
+pub is_row : (slots : List (Option Expiration)) (records : List Record) (entries : List Entry) (k : ℕ) → k < length entries
+    → IsRow (rows_of slots records entries) k (row_of slots records (get_or entries k no_place))
+is_row slots records entries k low = (
+  let l = length-map entries (row_of slots records) in
       omega (arith, l, low),
-  row_at slots records places k _ low,
+  row_at slots records entries k _ low,
 )
 
 -- the timer of a row
@@ -260,31 +260,31 @@ timer_of_row rows k d e low =
 pub timers_long : (rows : List Row) → length (timers_of rows) ≡ length rows
 timers_long rows = length-map (cyclics_of rows) (λ (c : Cyclic). c.timer) ∙ length-map rows cyclic_of
 
--- the timer of a place
-pub timer_at : (slots : List (Option Expiration)) (records : List Record) (places : List Place) (k : ℕ) (d : Timer)
-    → k < length places → get_or (timers_of (rows_of slots records places)) k d
-    ≡ (row_of slots records (get_or places k no_place)).timer
-timer_at slots records places k d low =
-    let r = row_of slots records (get_or places k no_place) in
-    let l = length-map places (row_of slots records) in
-    timer_of_row (rows_of slots records places) k d r (omega (arith, l, low))
-    ∙ ap (λ (x : Row). x.timer) (row_at slots records places k r low)
+-- the timer of a position
+pub timer_at : (slots : List (Option Expiration)) (records : List Record) (entries : List Entry) (k : ℕ) (d : Timer)
+    → k < length entries → get_or (timers_of (rows_of slots records entries)) k d
+    ≡ (row_of slots records (get_or entries k no_place)).timer
+timer_at slots records entries k d low =
+    let r = row_of slots records (get_or entries k no_place) in
+    let l = length-map entries (row_of slots records) in
+    timer_of_row (rows_of slots records entries) k d r (omega (arith, l, low))
+    ∙ ap (λ (x : Row). x.timer) (row_at slots records entries k r low)
 
-rows_long : (slots : List (Option Expiration)) (records : List Record) (places : List Place)
-    → length (timers_of (rows_of slots records places)) ≡ length places
-rows_long slots records places = timers_long (rows_of slots records places) ∙ length-map places (row_of slots records)
+rows_long : (slots : List (Option Expiration)) (records : List Record) (entries : List Entry)
+    → length (timers_of (rows_of slots records entries)) ≡ length entries
+rows_long slots records entries = timers_long (rows_of slots records entries) ∙ length-map entries (row_of slots records)
 
 -- what the heap says of its root, said of the rows
-pub root_is : (h : HeapView) (records : List Record) (places : List Place) → IsTable h.slots records places
+pub root_is : (h : HeapView) (records : List Record) (entries : List Entry) → IsTable h.slots records entries
     → (o : Option (ℕ × ℕ × ℕ)) → IfSome o (λ found. IsLeast h found.0 (record { moment = found.1; id = found.2 })) →
-    IfSome o (λ found. (k : ℕ) × (r : Row) × IsRow (rows_of h.slots records places) k r × (r.index ≡ found.0)
-    × (r.timer.moment ≡ found.1) × (r.timer.id ≡ found.2) × IsFirstAt (rows_of h.slots records places) k)
-root_is h records places t None is = tt
-root_is h records places t (Some found) is =
+    IfSome o (λ found. (k : ℕ) × (r : Row) × IsRow (rows_of h.slots records entries) k r × (r.index ≡ found.0)
+    × (r.timer.moment ≡ found.1) × (r.timer.id ≡ found.2) × IsFirstAt (rows_of h.slots records entries) k)
+root_is h records entries t None is = tt
+root_is h records entries t (Some found) is =
     let slots = h.slots in
     let e : Expiration = record { moment = found.1; id = found.2 } in
     let (k, low, at) = t.covered found.0 e is.holds in
-    let p = get_or places k no_place in
+    let p = get_or entries k no_place in
     let holds : get_or slots p.index None ≡ Some e = ap (λ i. get_or slots i None) (at no_place) ∙ is.holds in
     let (m, named) = t.named k no_place low in
     let same = one_slot (record { moment = m; id = p.id }) e _ named holds in
@@ -292,118 +292,118 @@ root_is h records places t (Some found) is =
     let moment : moment_in (get_or slots p.index None) ≡ found.1 = ap moment_in holds in (
       k,
       row_of slots records p,
-      is_row slots records places k low,
+      is_row slots records entries k low,
       at no_place,
       moment,
       id,
       λ j d low_j.
-          let low' : j < length places = (let l = rows_long slots records places in omega (arith, l, low_j)) in
-          let q = get_or places j no_place in
+          let low' : j < length entries = (let l = rows_long slots records entries in omega (arith, l, low_j)) in
+          let q = get_or entries j no_place in
           let (n, there) = t.named j no_place low' in
           let before = is.least q.index (record { moment = n; id = q.id }) there in
-          let left : next_of (get_or (timers_of (rows_of slots records places)) k d) ≡ e =
-          ap next_of (timer_at slots records places k d low) ∙ (λ i. record { moment = moment i; id = id i }) in
-          let right : next_of (get_or (timers_of (rows_of slots records places)) j d) ≡ record { moment = n; id = q.id } =
-          ap next_of (timer_at slots records places j d low') ∙ (λ i. record { moment = moment_in (there i); id = q.id }) in
-          ap (λ (x : Expiration). is_before x (next_of (get_or (timers_of (rows_of slots records places)) j d))) left
+          let left : next_of (get_or (timers_of (rows_of slots records entries)) k d) ≡ e =
+          ap next_of (timer_at slots records entries k d low) ∙ (λ i. record { moment = moment i; id = id i }) in
+          let right : next_of (get_or (timers_of (rows_of slots records entries)) j d) ≡ record { moment = n; id = q.id } =
+          ap next_of (timer_at slots records entries j d low') ∙ (λ i. record { moment = moment_in (there i); id = q.id }) in
+          ap (λ (x : Expiration). is_before x (next_of (get_or (timers_of (rows_of slots records entries)) j d))) left
           ∙ ap (is_before e) right ∙ before,
     )
 
 -- what is true of every table
-pub rows_rise : (slots : List (Option Expiration)) (records : List Record) (places : List Place) → IsTable slots records places
-    → IsRising (rows_of slots records places)
-rows_rise slots records places t i j d less low =
-    let l = length-map places (row_of slots records) in
-    let low_j : j < length places = omega (arith, l, low) in
-    let a = ap (λ (x : Row). x.timer.id) (row_at slots records places i d (omega (arith, less, low_j))) in
-    let b = ap (λ (x : Row). x.timer.id) (row_at slots records places j d low_j) in
+pub rows_rise : (slots : List (Option Expiration)) (records : List Record) (entries : List Entry) → IsTable slots records entries
+    → IsRising (rows_of slots records entries)
+rows_rise slots records entries t i j d less low =
+    let l = length-map entries (row_of slots records) in
+    let low_j : j < length entries = omega (arith, l, low) in
+    let a = ap (λ (x : Row). x.timer.id) (row_at slots records entries i d (omega (arith, less, low_j))) in
+    let b = ap (λ (x : Row). x.timer.id) (row_at slots records entries j d low_j) in
     let r = t.rising i j no_place less low_j in
     omega (arith, a, b, r)
 
-pub indexes_apart : (slots : List (Option Expiration)) (records : List Record) (places : List Place)
-    → IsTable slots records places → HasDistinctIndexes (rows_of slots records places)
-indexes_apart slots records places t i j d low_i low_j same =
-    let l = length-map places (row_of slots records) in
-    let low_i' : i < length places = omega (arith, l, low_i) in
-    let low_j' : j < length places = omega (arith, l, low_j) in
-    let a = ap (λ (x : Row). x.index) (row_at slots records places i d low_i') in
-    let b = ap (λ (x : Row). x.index) (row_at slots records places j d low_j') in
+pub indexes_apart : (slots : List (Option Expiration)) (records : List Record) (entries : List Entry)
+    → IsTable slots records entries → HasDistinctIndexes (rows_of slots records entries)
+indexes_apart slots records entries t i j d low_i low_j same =
+    let l = length-map entries (row_of slots records) in
+    let low_i' : i < length entries = omega (arith, l, low_i) in
+    let low_j' : j < length entries = omega (arith, l, low_j) in
+    let a = ap (λ (x : Row). x.index) (row_at slots records entries i d low_i') in
+    let b = ap (λ (x : Row). x.index) (row_at slots records entries j d low_j') in
     elim (cases_eq i j) [
       | inl eq ↦ eq
       | inr ne ↦ absurd
-          (apart_index slots records places i j t low_i' low_j' ne (sym a ∙ same ∙ b))
+          (apart_index slots records entries i j t low_i' low_j' ne (sym a ∙ same ∙ b))
     ]
 
-pub indexes_low : (slots : List (Option Expiration)) (records : List Record) (places : List Place) → IsTable slots records places
-    → All (λ r. r.index < length slots) (rows_of slots records places)
-indexes_low slots records places t k d low =
-    let l = length-map places (row_of slots records) in
-    let low' : k < length places = omega (arith, l, low) in
+pub indexes_low : (slots : List (Option Expiration)) (records : List Record) (entries : List Entry) → IsTable slots records entries
+    → All (λ r. r.index < length slots) (rows_of slots records entries)
+indexes_low slots records entries t k d low =
+    let l = length-map entries (row_of slots records) in
+    let low' : k < length entries = omega (arith, l, low) in
     let (m, holds) = t.named k no_place low' in
-    let b = slot_low slots (get_or places k no_place).index _ holds in
-    let a = ap (λ (x : Row). x.index) (row_at slots records places k d low') in
+    let b = slot_low slots (get_or entries k no_place).index _ holds in
+    let a = ap (λ (x : Row). x.index) (row_at slots records entries k d low') in
     omega (arith, a, b)
 
-pub timers_sound : (slots : List (Option Expiration)) (records : List Record) (places : List Place) → IsTable slots records places
-    → All IsSound (timers_of (rows_of slots records places))
-timers_sound slots records places t k d low =
-    let low' : k < length places = (let l = rows_long slots records places in omega (arith, l, low)) in
-    let p = get_or places k no_place in
+pub timers_sound : (slots : List (Option Expiration)) (records : List Record) (entries : List Entry) → IsTable slots records entries
+    → All IsSound (timers_of (rows_of slots records entries))
+timers_sound slots records entries t k d low =
+    let low' : k < length entries = (let l = rows_long slots records entries in omega (arith, l, low)) in
+    let p = get_or entries k no_place in
     let (m, holds) = t.named k no_place low' in
     let b = slot_low slots p.index _ holds in
     let i = t.intervals p.index no_record (let l = t.long in omega (arith, l, b)) in
     let m' = t.moments p.index _ holds in
     let moment : moment_in (get_or slots p.index None) ≤ never = (let e = ap moment_in holds in omega (arith, e, m')) in
-    subst IsSound (sym (timer_at slots records places k d low')) (record { moment = moment; some = i.0; most = i.1 })
+    subst IsSound (sym (timer_at slots records entries k d low')) (record { moment = moment; some = i.0; most = i.1 })
 
 -- the rows where one cyclic gets another moment
-pub replaced : (slots new : List (Option Expiration)) (records : List Record) (places : List Place) (k : ℕ) (r : Row)
-    (s : Standing slots records places k r) (m : ℕ) → IsTable slots records places →
-    new ≡ with_moment slots s.p.index m → rows_of new records places ≡ set (rows_of slots records places) k (at_moment m r)
-replaced slots new records places k r s m t is =
+pub replaced : (slots new : List (Option Expiration)) (records : List Record) (entries : List Entry) (k : ℕ) (r : Row)
+    (s : Standing slots records entries k r) (m : ℕ) → IsTable slots records entries →
+    new ≡ with_moment slots s.p.index m → rows_of new records entries ≡ set (rows_of slots records entries) k (at_moment m r)
+replaced slots new records entries k r s m t is =
     let kept = get_or records s.p.index no_record in
-    ap (λ xs. rows_of xs records places) (moved slots new s.p.index s.m s.p.id m s.holds is)
-    ∙ ap (λ xs. rows_of (set slots s.p.index (Some (record { moment = m; id = s.p.id }))) xs places)
+    ap (λ xs. rows_of xs records entries) (moved slots new s.p.index s.m s.p.id m s.holds is)
+    ∙ ap (λ xs. rows_of (set slots s.p.index (Some (record { moment = m; id = s.p.id }))) xs entries)
     (sym (set-get_or records s.p.index no_record))
-    ∙ changed slots records places k r s m kept t
-    ∙ ap (λ x. set (rows_of slots records places) k (at_moment m x)) (sym s.row)
+    ∙ changed slots records entries k r s m kept t
+    ∙ ap (λ x. set (rows_of slots records entries) k (at_moment m x)) (sym s.row)
 
-pub table_replaced : (slots new : List (Option Expiration)) (records : List Record) (places : List Place) (k : ℕ) (r : Row)
-    (s : Standing slots records places k r) (m : ℕ) → IsTable slots records places → m ≤ never →
-    new ≡ with_moment slots s.p.index m → IsTable new records places
-table_replaced slots new records places k r s m t low is =
+pub table_replaced : (slots new : List (Option Expiration)) (records : List Record) (entries : List Entry) (k : ℕ) (r : Row)
+    (s : Standing slots records entries k r) (m : ℕ) → IsTable slots records entries → m ≤ never →
+    new ≡ with_moment slots s.p.index m → IsTable new records entries
+table_replaced slots new records entries k r s m t low is =
     let kept = get_or records s.p.index no_record in
     let i = t.intervals s.p.index no_record (let l = t.long in let b = s.below in omega (arith, l, b)) in
-    subst (λ xs. IsTable xs records places) (sym (moved slots new s.p.index s.m s.p.id m s.holds is))
-    (subst (λ xs. IsTable (set slots s.p.index (Some (record { moment = m; id = s.p.id }))) xs places)
+    subst (λ xs. IsTable xs records entries) (sym (moved slots new s.p.index s.m s.p.id m s.holds is))
+    (subst (λ xs. IsTable (set slots s.p.index (Some (record { moment = m; id = s.p.id }))) xs entries)
     (set-get_or records s.p.index no_record)
-    (table_changed slots records places k r s m kept t low i.0 i.1))
+    (table_changed slots records entries k r s m kept t low i.0 i.1))
 
--- what stands at a place
-pub standing_at : (slots : List (Option Expiration)) (records : List Record) (places : List Place) (k : ℕ)
-    → IsTable slots records places → k < length places →
-    Standing slots records places k (row_of slots records (get_or places k no_place))
-standing_at slots records places k t low = standing slots records places k _ t (is_row slots records places k low)
+-- what stands at a position
+pub standing_at : (slots : List (Option Expiration)) (records : List Record) (entries : List Entry) (k : ℕ)
+    → IsTable slots records entries → k < length entries →
+    Standing slots records entries k (row_of slots records (get_or entries k no_place))
+standing_at slots records entries k t low = standing slots records entries k _ t (is_row slots records entries k low)
 
-pub place_low : (v : TableView) (slots : List (Option Expiration)) (records : List Record) (places : List Place) (k : ℕ)
-    → rows_of slots records places ≡ v.rows → k < length v.rows → k < length places
-place_low v slots records places k is low =
-    (let l = length-map places (row_of slots records) in let e = ap length is in omega (arith, l, e, low))
+pub place_low : (v : TableView) (slots : List (Option Expiration)) (records : List Record) (entries : List Entry) (k : ℕ)
+    → rows_of slots records entries ≡ v.rows → k < length v.rows → k < length entries
+place_low v slots records entries k is low =
+    (let l = length-map entries (row_of slots records) in let e = ap length is in omega (arith, l, e, low))
 
 -- where the id stands its row is
-pub row_here : (slots : List (Option Expiration)) (records : List Record) (places : List Place) (id q : ℕ)
-    → IsAt id_in places id q →
-    (r : Row) × IsRow (rows_of slots records places) q r × (r.timer.id ≡ id)
-row_here slots records places id q at =
-    (row_of slots records (get_or places q no_place), is_row slots records places q at.in_range, at.has_id no_place)
+pub row_here : (slots : List (Option Expiration)) (records : List Record) (entries : List Entry) (id q : ℕ)
+    → IsAt id_in entries id q →
+    (r : Row) × IsRow (rows_of slots records entries) q r × (r.timer.id ≡ id)
+row_here slots records entries id q at =
+    (row_of slots records (get_or entries q no_place), is_row slots records entries q at.in_range, at.has_id no_place)
 
 -- where the id would stand no row has it
-pub no_row : (slots : List (Option Expiration)) (records : List Record) (places : List Place) (id q : ℕ) → IsGap id_in places id q
-    → HasNo id (rows_of slots records places)
-no_row slots records places id q gap k d low same =
-    let l = length-map places (row_of slots records) in
-    let low_k : k < length places = omega (arith, l, low) in
-    let at = ap (λ (x : Row). x.timer.id) (row_at slots records places k d low_k) in
+pub no_row : (slots : List (Option Expiration)) (records : List Record) (entries : List Entry) (id q : ℕ) → IsGap id_in entries id q
+    → HasNo id (rows_of slots records entries)
+no_row slots records entries id q gap k d low same =
+    let l = length-map entries (row_of slots records) in
+    let low_k : k < length entries = omega (arith, l, low) in
+    let at = ap (λ (x : Row). x.timer.id) (row_at slots records entries k d low_k) in
     elim (cases_lt k q) [
       | inl less ↦ let b = gap.smaller_before k no_place less in absurd (omega (arith, b, at, same))
       | inr more ↦ let a = gap.greater_after k no_place more low_k in absurd (omega (arith, a, at, same))

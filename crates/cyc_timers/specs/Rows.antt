@@ -7,7 +7,7 @@ use Rattle.cyc_types.specs.declared.level.Level.TheVariants.{Low}
 use Rattle.cyc_heap.specs.Expirations.{Expiration, is_before, next_of}
 use Rattle.cyc_heap.specs.Timers.{Timer}
 use Rattle.cyc_finder.specs.Sorted.{Rises}
-use Rattle.cyc_timers.specs.declared.table.Place.{Place}
+use Rattle.cyc_timers.specs.declared.table.Entry.{Entry}
 use Rattle.cyc_timers.specs.declared.table.Record.{Record}
 
 -- a cyclic with its index
@@ -80,7 +80,7 @@ joined id index e r = record {
 abbrev pub new_table : TableView
 new_table = record { rows = []; root = None; size = 1; room = 1 }
 
--- the row at a place
+-- the row at a position
 abbrev pub IsRow : List Row → ℕ → Row → Type 0
 IsRow rows k r = (k < length rows) × (slice_index_or rows k r ≡ r)
 
@@ -126,39 +126,39 @@ abbrev pub IsRecordOf : Record → Row → Type 0
 IsRecordOf rec r = (rec.level ≡ r.timer.level) × (rec.interval ≡ r.timer.interval) × (rec.expired ≡ r.timer.expired)
     × (rec.lost ≡ r.lost) × (rec.carried ≡ r.carried)
 
--- the row at this place expires no later than any
+-- the row at this position expires no later than any
 abbrev pub IsFirstAt : List Row → ℕ → Type 0
 IsFirstAt rows i = (k : ℕ) (d : Timer) → k < length (timers_of rows)
     → is_before (next_of (slice_index_or (timers_of rows) i d)) (next_of (slice_index_or (timers_of rows) k d)) ≡ true
 
--- the row of a place
-abbrev pub row_of : List (Option Expiration) → List Record → Place → Row
+-- the row of an entry
+abbrev pub row_of : List (Option Expiration) → List Record → Entry → Row
 row_of slots records p = joined p.id p.index (slice_index_or slots p.index None) (slice_index_or records p.index no_record)
 
 -- the rows by rising ids
-abbrev pub rows_of : List (Option Expiration) → List Record → List Place → List Row
-rows_of slots records places = map (row_of slots records) places
+abbrev pub rows_of : List (Option Expiration) → List Record → List Entry → List Row
+rows_of slots records entries = map (row_of slots records) entries
 
 -- the ids of the rows rise
 abbrev pub IsRising : List Row → Type 0
 IsRising rows = Rises (λ r. r.timer.id) rows
 
--- the id of a place
-abbrev pub id_in : Place → ℕ
-id_in place = place.id
+-- the id of an entry
+abbrev pub id_in : Entry → ℕ
+id_in entry = entry.id
 
--- places, records and heap speak of the same cyclics
-pub record IsTable (slots : List (Option Expiration)) (records : List Record) (places : List Place) : Type 0 where
-  pub rising : Rises id_in places
-  -- each place names an index that has the cyclic's expiration
-  pub named : (k : ℕ) (d : Place) → k < length places → (m : ℕ)
-      × (slice_index_or slots (slice_index_or places k d).index None
-      ≡ Some (record { moment = m; id = (slice_index_or places k d).id }))
-  -- each index in use has its place
-  pub covered : (i : ℕ) (e : Expiration) → slice_index_or slots i None ≡ Some e → (k : ℕ) × (k < length places)
-      × ((d : Place) → (slice_index_or places k d).index ≡ i)
+-- entries, records and heap speak of the same cyclics
+pub record IsTable (slots : List (Option Expiration)) (records : List Record) (entries : List Entry) : Type 0 where
+  pub rising : Rises id_in entries
+  -- each entry names an index that has the cyclic's expiration
+  pub named : (k : ℕ) (d : Entry) → k < length entries → (m : ℕ)
+      × (slice_index_or slots (slice_index_or entries k d).index None
+      ≡ Some (record { moment = m; id = (slice_index_or entries k d).id }))
+  -- each index in use has its entry
+  pub covered : (i : ℕ) (e : Expiration) → slice_index_or slots i None ≡ Some e → (k : ℕ) × (k < length entries)
+      × ((d : Entry) → (slice_index_or entries k d).index ≡ i)
   pub long : length records ≡ length slots
-  pub len : count_by is_some slots ≡ length places
+  pub len : count_by is_some slots ≡ length entries
   pub moments : (i : ℕ) (e : Expiration) → slice_index_or slots i None ≡ Some e → e.moment ≤ never
   pub intervals : (i : ℕ) (d : Record) → i < length records → (0 < (slice_index_or records i d).interval)
       × ((slice_index_or records i d).interval ≤ never)

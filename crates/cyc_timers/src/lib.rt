@@ -6,4 +6,4 @@
 
 pub mod table;
 
-pub use table::{Place, Record, Table};
+pub use table::{Entry, Record, Table};

@@ -32,15 +32,15 @@ pub struct Record {
 
 /// Under which index a cyclic stands in the heap and the records.
 #[derive(Clone, Copy, Debug, PartialEq, Eq)]
-pub struct Place {
+pub struct Entry {
     /// The cyclic's own id, which never changes.
     pub id: CyclicId,
     /// Its index on this CPU (`cyp_heap` holds indexes).
     pub index: Index,
 }
 
-impl HasId for Place {
-    ghost id_of = { λ place. place.id };
+impl HasId for Entry {
+    ghost id_of = { λ entry. entry.id };
 
     fn id(&self) -> CyclicId {
         self.id
@@ -56,7 +56,7 @@ impl HasId for Place {
 pub struct Table {
     heap: ExpiryHeap,
     records: Vec<Record>,
-    places: Vec<Place>,
+    entries: Vec<Entry>,
 }
 
 impl Model for Table {
@@ -66,15 +66,15 @@ impl Model for Table {
     ghost Value = { TableView };
 
     ghost view = { λ t. record {
-      rows = rows_of t.heap.slots t.records.items t.places.items;
+      rows = rows_of t.heap.slots t.records.items t.entries.items;
       root = t.heap.root;
       size =
           length t.heap.slots;
       room = t.heap.room;
     } };
 
-    ghost invariant = { λ t. IsTable t.heap.slots t.records.items t.places.items × (t.heap.room ≤ vec_capacity t.records)
-        × (t.heap.room ≤ vec_capacity t.places) × (length t.heap.slots ≤ t.heap.room) };
+    ghost invariant = { λ t. IsTable t.heap.slots t.records.items t.entries.items × (t.heap.room ≤ vec_capacity t.records)
+        × (t.heap.room ≤ vec_capacity t.entries) × (length t.heap.slots ≤ t.heap.room) };
 }
 
 impl Record {
@@ -99,13 +99,13 @@ impl Table {
         ensures err { IfErr result (λ refusal. refusal ≡ Memory) }
     {
         let mut records = Vec::with_capacity(alloc, 1)?;
-        let places = Vec::with_capacity(alloc, 1)?;
+        let entries = Vec::with_capacity(alloc, 1)?;
         let heap = ExpiryHeap::new(alloc)?;
         let _ = records.push(Record::vacant());
         Ok(Table {
             heap,
             records,
-            places,
+            entries,
         })
     }
 
@@ -119,7 +119,7 @@ impl Table {
     {
         self.records
             .reserve(size.saturating_sub(self.records.len()))?;
-        self.places.reserve(size.saturating_sub(self.places.len()))?;
+        self.entries.reserve(size.saturating_sub(self.entries.len()))?;
         self.heap.reserve(size)
     }
 
@@ -148,45 +148,45 @@ impl Table {
         ensures size { self.new.size ≡ self.old.size }
         ensures room { self.new.room ≡ self.old.room }
     {
-        let Err(place) = search(&self.places, id) else {
+        let Err(position) = search(&self.entries, id) else {
             unreachable!()
         };
         let index = self.heap.insert(moment, id);
         self.records[index.number() as usize] = kept;
-        let _ = self.places.insert(place, Place { id, index });
+        let _ = self.entries.insert(position, Entry { id, index });
         index
     }
 
-    /// The place of this id among the rows, or None where it is not here. O(log n), and takes no memory.
+    /// The position of this id among the rows, or None where it is not here. O(log n), and takes no memory.
     pub fn find(&self, id: CyclicId) -> Option<usize>
         ensures none { IfNone result (HasNo id self.now.rows) }
         ensures some { IfSome result (λ k. (r : Row) × IsRow self.now.rows k r × (r.timer.id ≡ id)) }
     {
-        search(&self.places, id).ok()
+        search(&self.entries, id).ok()
     }
 
-    /// What is kept of the cyclic at this place of `find`. O(1).
-    pub fn record_at(&self, place: usize) -> Record
-        requires { place < length self.now.rows }
-        ensures { (r : Row) → IsRow self.now.rows place r → IsRecordOf result r }
+    /// What is kept of the cyclic at this position of `find`. O(1).
+    pub fn record_at(&self, position: usize) -> Record
+        requires { position < length self.now.rows }
+        ensures { (r : Row) → IsRow self.now.rows position r → IsRecordOf result r }
     {
-        self.records[self.places[place].index.number() as usize]
+        self.records[self.entries[position].index.number() as usize]
     }
 
-    /// The id of the cyclic at this place, which rises with the place. O(1).
-    pub fn id_at(&self, place: usize) -> CyclicId
-        requires { place < length self.now.rows }
-        ensures { (r : Row) → IsRow self.now.rows place r → result ≡ r.timer.id }
+    /// The id of the cyclic at this position, which rises with the position. O(1).
+    pub fn id_at(&self, position: usize) -> CyclicId
+        requires { position < length self.now.rows }
+        ensures { (r : Row) → IsRow self.now.rows position r → result ≡ r.timer.id }
     {
-        self.places[place].id
+        self.entries[position].id
     }
 
-    /// The next expiration of the cyclic at this place of `find` (`cy_expire`). O(n).
-    pub fn moment_at(&self, place: usize) -> Moment
-        requires { place < length self.now.rows }
-        ensures { (r : Row) → IsRow self.now.rows place r → result ≡ r.timer.moment }
+    /// The next expiration of the cyclic at this position of `find` (`cy_expire`). O(n).
+    pub fn moment_at(&self, position: usize) -> Moment
+        requires { position < length self.now.rows }
+        ensures { (r : Row) → IsRow self.now.rows position r → result ≡ r.timer.moment }
     {
-        match self.heap.at(self.places[place].index) {
+        match self.heap.at(self.entries[position].index) {
             Some((moment, _)) => moment,
             None => unreachable!(),
         }
@@ -201,29 +201,29 @@ impl Table {
         self.records[number]
     }
 
-    /// Gives the cyclic at this place of `find` another next expiration, earlier or later (`cyclic_reprogram_cyclic`).
+    /// Gives the cyclic at this position of `find` another next expiration, earlier or later (`cyclic_reprogram_cyclic`).
     /// O(n), and takes no memory.
-    pub fn reprogram(&mut self, place: usize, moment: Moment)
-        requires here { place < length self.old.rows }
+    pub fn reprogram(&mut self, position: usize, moment: Moment)
+        requires here { position < length self.old.rows }
         requires moment { moment ≤ never }
-        ensures rows { (r : Row) → IsRow self.old.rows place r
-            → self.new.rows ≡ slice_set self.old.rows place (at_moment moment r) }
+        ensures rows { (r : Row) → IsRow self.old.rows position r
+            → self.new.rows ≡ slice_set self.old.rows position (at_moment moment r) }
         ensures size { self.new.size ≡ self.old.size }
         ensures room { self.new.room ≡ self.old.room }
     {
-        self.heap.replace(self.places[place].index, moment);
+        self.heap.replace(self.entries[position].index, moment);
     }
 
-    /// Takes out the cyclic at this place of `find`; its index is free from now on (`cyclic_remove_here`). O(n) for the ids
+    /// Takes out the cyclic at this position of `find`; its index is free from now on (`cyclic_remove_here`). O(n) for the ids
     /// above it. Takes no memory.
-    pub fn remove(&mut self, place: usize)
-        requires { place < length self.old.rows }
-        ensures rows { self.new.rows ≡ remove self.old.rows place }
+    pub fn remove(&mut self, position: usize)
+        requires { position < length self.old.rows }
+        ensures rows { self.new.rows ≡ remove self.old.rows position }
         ensures size { self.new.size ≡ self.old.size }
         ensures room { self.new.room ≡ self.old.room }
     {
-        self.heap.remove(self.places[place].index);
-        let _ = self.places.remove(place);
+        self.heap.remove(self.entries[position].index);
+        let _ = self.entries.remove(position);
     }
 
     /// The cyclic that expires first, of equal moments the smaller id: its index, its moment and its id. None where there is
@@ -268,7 +268,7 @@ impl Table {
         ensures value { result ≡ length self.now.rows }
         ensures few { result ≤ self.now.size }
     {
-        self.places.len()
+        self.entries.len()
     }
 
     /// What is true of every table: its ids rise, each of its cyclics is sound, and no two have one index. It does nothing

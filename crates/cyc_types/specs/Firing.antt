@@ -34,7 +34,7 @@ pub record FiringView : Type 0 where
   pub ceiling : ℕ
   -- the soft side was seen on the firing side's bank
   pub followed : Bool
-  -- no cyclic is between the raise of its pend and its place in the buffer
+  -- no cyclic is between the raise of its pend and its slot in the buffer
   pub hand_free : Bool
 
 -- the stays with a change at one id alone
@@ -167,7 +167,7 @@ pub record Sound (v : FiringView) : Type 0 where
   pub owed : (id : ℕ) (s : Stay) → v.stays id ≡ Some s → s.seen + s.lost ≤ s.sent
   -- different cyclics have different indexes
   pub apart : (a b : ℕ) (s t : Stay) → v.stays a ≡ Some s → v.stays b ≡ Some t → s.index ≡ t.index → a ≡ b
-  -- each index is a place of the firing side's bank
+  -- each index is a slot of the firing side's bank
   pub inside : (id : ℕ) (s : Stay) → v.stays id ≡ Some s → s.index < 2 ^ v.bank
   -- the bank is at most the greatest
   pub greatest : v.bank ≤ greatest_bank

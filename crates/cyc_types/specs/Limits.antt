@@ -1,11 +1,11 @@
 -- The limits of the subsystem, each in one place.
 use Rattle.std.specs.Prelude.{ℕ, ◌-◌, ◌^◌}
 
--- the greatest bank of a soft level's buffer; bank k has 2^k places (our own rule)
+-- the greatest bank of a soft level's buffer; bank k has 2^k slots (our own rule)
 abbrev pub greatest_bank : ℕ
 greatest_bank = 8
 
--- the cyclics that one CPU can hold: the places of the greatest bank (our own rule)
+-- the cyclics that one CPU can hold: the slots of the greatest bank (our own rule)
 abbrev pub cyclics : ℕ
 cyclics = 2 ^ greatest_bank
 

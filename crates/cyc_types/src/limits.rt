@@ -4,10 +4,10 @@ ghost use Rattle.std.specs.Prelude.{◌≡◌};
 ghost use Rattle.cyc_types.specs.Limits.{greatest_bank, cyclics, last_id};
 ghost use Rattle.cyc_types.specs.Series.{late};
 
-/// The cyclics that one CPU can hold, which is the number of places of the greatest bank (our own rule).
+/// The cyclics that one CPU can hold, which is the number of slots of the greatest bank (our own rule).
 pub const CYCLICS: u16 = 256;
 
-/// The greatest bank of a soft level's buffer; bank `k` has `2^k` places (our own rule).
+/// The greatest bank of a soft level's buffer; bank `k` has `2^k` slots (our own rule).
 pub const GREATEST_BANK: u8 = 8;
 
 /// The greatest number of a cyclic, so that a buffer entry of 64 bits holds it beside an index (our own rule).

@@ -15,7 +15,7 @@ use Rattle.ring_rule.specs.declared.RaiseStep.TheVariants.{Switched, LoadedSoftB
 use Rattle.ring_rule.specs.declared.DrainStep.{DrainStep}
 use Rattle.ring_rule.specs.declared.DrainStep.TheVariants.{Followed}
 use Rattle.ring_rule.specs.declared.Setting.{Setting}
-use Rattle.ring_rule.specs.Words.{pend_word, place, producer_word, hard_word, soft_word}
+use Rattle.ring_rule.specs.Words.{pend_word, slot_word, producer_word, hard_word, soft_word}
 use Rattle.ring_rule.specs.Trail.{ended_calls, firer_hand_of, hard_bank_of, producer_index, has_followed, soft_bank_of}
 use Rattle.ring_rule.specs.Trail.{consumer_index, producer_seen, bank_seen}
 use Rattle.ring_rule.specs.Log.{raise_side, drain_side}
@@ -36,7 +36,7 @@ module _ (k : Setting) (ws : List ℕ) (rs : List RaiseStep) (ds : List DrainSte
   holds_low : (i v bank : ℕ) (xs : List ℕ) (from : ℕ) → bank ≤ greatest_bank → hard_word ≤ i → BankHolds ws l.cyclics bank from xs
       → BankHolds (set ws i v) l.cyclics bank from xs
   holds_low i v bank xs from most high h = holds_kept ws (set ws i v) l.cyclics l.cyclics (keeps_all l.cyclics) bank xs from
-      (λ j _ _. let low = place_low bank j most in other i v (place bank j) (λ e. omega arith))
+      (λ j _ _. let low = place_low bank j most in other i v (slot_word bank j) (λ e. omega arith))
       (other i v (producer_word bank) (λ e. omega arith)) h
 
   -- Switch
@@ -157,7 +157,7 @@ module _ (k : Setting) (ws : List ℕ) (rs : List RaiseStep) (ds : List DrainSte
       seen_is_enough = le.seen_is_enough;
       hand_stored = stored_kept ws ws'' l.cyclics l.cyclics (keeps_all l.cyclics) l.hard_bank _ _ _
           (let low = place_low l.hard_bank (producer_index k.start rs) N.law.bank_bound in
-          other soft_word bank (place l.hard_bank (producer_index k.start rs)) (λ e. omega arith)) le.hand_stored;
+          other soft_word bank (slot_word l.hard_bank (producer_index k.start rs)) (λ e. omega arith)) le.hand_stored;
       fresh = λ b up top. other soft_word bank (producer_word b) (λ e. omega arith) ∙ le.fresh b up top;
       held_is = le.held_is;
       followed_is = λ _. refl;

@@ -14,7 +14,7 @@ use Rattle.ring_rule.specs.declared.RaiseStep.{RaiseStep}
 use Rattle.ring_rule.specs.declared.RaiseStep.TheVariants.{Published}
 use Rattle.ring_rule.specs.declared.DrainStep.{DrainStep}
 use Rattle.ring_rule.specs.declared.Setting.{Setting}
-use Rattle.ring_rule.specs.Words.{pend_word, place, producer_word, hard_word, soft_word}
+use Rattle.ring_rule.specs.Words.{pend_word, slot_word, producer_word, hard_word, soft_word}
 use Rattle.ring_rule.specs.Trail.{firer_hand_of, hard_bank_of, producer_index, stored_entry, consumer_index}
 use Rattle.ring_rule.specs.Log.{raise_side, drain_side}
 use Rattle.ring_rule.specs.Shown.{HoldsEntry, BankHolds, IsHandStored, TrailsShow, StillHolds}
@@ -29,7 +29,7 @@ still_some true old [] ys ne e = ne refl
 still_some true old (x ∷ xs) ys ne e = absurd (cc)
 still_some false old new ys ne e = ne e
 
-module _ (ws ws' : List ℕ) (m : Cyclics) (bank : ℕ) (same : (j : ℕ) → get_or ws' (place bank j) 0 ≡ get_or ws (place bank j) 0)
+module _ (ws ws' : List ℕ) (m : Cyclics) (bank : ℕ) (same : (j : ℕ) → get_or ws' (slot_word bank j) 0 ≡ get_or ws (slot_word bank j) 0)
     (id : ℕ) where
   holds_snoc : (xs : List ℕ) (i : ℕ) → BankHolds ws m bank i xs → HoldsEntry ws m bank (i + length xs) id
       → get_or ws' (producer_word bank) 0 ≡ (i + length xs + 1) % 2 ^ 32 → BankHolds ws' m bank i (xs ++ id ∷ [])
@@ -73,8 +73,8 @@ module _ (k : Setting) (ws : List ℕ) (rs : List RaiseStep) (ds : List DrainSte
   put_there = subst (λ (x : Option ℕ × Option ℕ). IsHandStored ws l.cyclics l.hard_bank P x.0 x.1)
       (λ z. (there z, up z)) N.still.hand_stored
 
-  kept_place : (bank j : ℕ) → bank ≤ greatest_bank → get_or ws' (place bank j) 0 ≡ get_or ws (place bank j) 0
-  kept_place bank j most = let low = place_low bank j most in kept (place bank j) (λ e. omega arith)
+  kept_place : (bank j : ℕ) → bank ≤ greatest_bank → get_or ws' (slot_word bank j) 0 ≡ get_or ws (slot_word bank j) 0
+  kept_place bank j most = let low = place_low bank j most in kept (slot_word bank j) (λ e. omega arith)
 
   pub publishes_shown : TrailsShow k.start ws' (Published v ∷ rs) ds (after Publish l)
   publishes_shown = let sh = N.shows in let most = N.law.bank_bound in let behind = N.law.soft_behind in let p = sh.produced in

@@ -18,7 +18,7 @@ use Rattle.ring_rule.specs.declared.RaiseStep.{RaiseStep}
 use Rattle.ring_rule.specs.declared.RaiseStep.TheVariants.{Loaded, Marked, Cleared}
 use Rattle.ring_rule.specs.declared.DrainStep.{DrainStep}
 use Rattle.ring_rule.specs.declared.Setting.{Setting}
-use Rattle.ring_rule.specs.Words.{pend_word, mark_bit, place, producer_word, entry_id, hard_word, soft_word}
+use Rattle.ring_rule.specs.Words.{pend_word, mark_bit, slot_word, producer_word, entry_id, hard_word, soft_word}
 use Rattle.ring_rule.specs.Trail.{open_stay, ended_calls, firer_hand_of, marked_of, seen_pend, id_in, made_calls, consumer_index}
 use Rattle.ring_rule.specs.Log.{raise_side, drain_side, stay_word}
 use Rattle.ring_rule.specs.Shown.{IsSameStay, BankHolds, TrailsShow, StillHolds}
@@ -39,7 +39,7 @@ module _ (ws ws' : List ℕ) (m : Cyclics) (id : ℕ) (high : (j : ℕ) → cycl
   holds_cleared bank (x ∷ xs) i bare h = let ne : x ≢ id = λ e. let a = hand_here id in
       let b : in_hand id (Some x) ≡ in_hand id (Some id) = ap (λ (y : ℕ). in_hand id (Some y)) e in omega (arith, a, b, bare) in
       let c = h.0 in (
-        (c.0, at_other m id (λ _. None) x ne ∙ c.1, high (place bank i) (place_high bank i) ∙ c.2),
+        (c.0, at_other m id (λ _. None) x ne ∙ c.1, high (slot_word bank i) (place_high bank i) ∙ c.2),
         holds_cleared bank xs (i + 1) (omega (arith, bare)) h.1,
       )
 

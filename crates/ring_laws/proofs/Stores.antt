@@ -14,7 +14,7 @@ use Rattle.ring_rule.specs.declared.RaiseStep.{RaiseStep}
 use Rattle.ring_rule.specs.declared.RaiseStep.TheVariants.{Stored}
 use Rattle.ring_rule.specs.declared.DrainStep.{DrainStep}
 use Rattle.ring_rule.specs.declared.Setting.{Setting}
-use Rattle.ring_rule.specs.Words.{pend_word, place, producer_word, entry, hard_word, soft_word}
+use Rattle.ring_rule.specs.Words.{pend_word, slot_word, producer_word, entry, hard_word, soft_word}
 use Rattle.ring_rule.specs.Trail.{open_stay, ended_calls, firer_hand_of, hard_bank_of, producer_index, made_calls, consumer_index}
 use Rattle.ring_rule.specs.Log.{raise_side, drain_side}
 use Rattle.ring_rule.specs.Shown.{IsHandStored, TrailsShow, StillHolds}
@@ -27,7 +27,7 @@ use Rattle.ring_rule.proofs.Now.{RingNow, ring_now, index_low}
 use Rattle.ring_rule.proofs.Stands.{firing_step}
 
 -- two indexes of a bank less than its size apart lie in different words
-pub other_place : (bank i j : ℕ) → bank ≤ greatest_bank → i < j → j < i + 2 ^ bank → place bank i ≢ place bank j
+pub other_place : (bank i j : ℕ) → bank ≤ greatest_bank → i < j → j < i + 2 ^ bank → slot_word bank i ≢ slot_word bank j
 other_place bank i j most less near e = let same : i % 2 ^ bank ≡ j % 2 ^ bank =
     same_turn bank i j (omega (arith, most)) (omega (arith, e)) in let x = one_turn i j (2 ^ bank) (omega arith) near same in
     omega (arith, x)
@@ -38,7 +38,7 @@ module _ (k : Setting) (ws : List ℕ) (rs : List RaiseStep) (ds : List DrainSte
   P = producer_index k.start rs
 
   abbrev i : ℕ
-  i = place l.hard_bank P
+  i = slot_word l.hard_bank P
 
   abbrev v : ℕ
   v = entry id st.index
@@ -76,13 +76,13 @@ module _ (k : Setting) (ws : List ℕ) (rs : List RaiseStep) (ds : List DrainSte
         ∙ sh.pends j c e;
     unused = λ j less no. let x = pend_low j less in kept (pend_word j) (λ e. omega arith) ∙ sh.unused j less no;
     new_held = holds_kept ws ws' l.cyclics l.cyclics (keeps_all l.cyclics) l.hard_bank l.new_list base
-        (λ j from to. kept (place l.hard_bank j) (let room = new_fits l N.law id (sh.firer_is ∙ up) in let p = sh.produced in
+        (λ j from to. kept (slot_word l.hard_bank j) (let room = new_fits l N.law id (sh.firer_is ∙ up) in let p = sh.produced in
         other_place l.hard_bank j P N.law.bank_bound (omega (arith, p)) (omega (arith, p, room))))
         (kept (producer_word l.hard_bank) (λ e. omega arith)) sh.new_held;
     old_held = λ apart. holds_kept ws ws' l.cyclics l.cyclics (keeps_all l.cyclics) l.soft_bank l.old_list
         (consumer_index k.start ds)
         (λ j from to. let b = N.law.soft_behind in
-        kept (place l.soft_bank j) (lower_bank l.soft_bank l.hard_bank j P (omega (arith, b, apart))))
+        kept (slot_word l.soft_bank j) (lower_bank l.soft_bank l.hard_bank j P (omega (arith, b, apart))))
         (kept (producer_word l.soft_bank) (λ e. omega arith)) (sh.old_held apart);
     produced = sh.produced;
   }
@@ -108,15 +108,15 @@ store_law k slots seat me id st role up is i at_i v is_v =
     let l : SoftLevel = level k s R in let N : RingNow k s.words t (drain_side R.log) l = ring_now k s R in
     let up' : firer_hand_of t ≡ Some id = ap firer_hand_of (sym same) ∙ up in let is' : open_stay id t ≡ Some st =
     ap (open_stay id) (sym same) ∙ is in
-    let here : place l.hard_bank (producer_index k.start t) ≡ i =
-    ap (λ (b : ℕ). place b (producer_index k.start t)) N.shows.hard_is
-    ∙ (ap (λ (t : List RaiseStep). place (hard_bank_of t) (producer_index k.start t)) (sym same) ∙ sym at_i) in (
+    let here : slot_word l.hard_bank (producer_index k.start t) ≡ i =
+    ap (λ (b : ℕ). slot_word b (producer_index k.start t)) N.shows.hard_is
+    ∙ (ap (λ (t : List RaiseStep). slot_word (hard_bank_of t) (producer_index k.start t)) (sym same) ∙ sym at_i) in (
       (Stored v),
       raise_goes k s R seat me.0 at me.1 i v role (Stored v) R.enabled
           (subst (λ (x : ℕ × ℕ). TrailsShow k.start (set s.words x.0 x.1) (Stored x.1 ∷ t) (drain_side R.log) l)
           (λ z. (here z, sym is_v z)) (puts_shown k s.words t (drain_side R.log) l N id st up' is'))
           (subst (λ (x : ℕ × ℕ). StillHolds k.start (set s.words x.0 x.1) (Stored x.1 ∷ t) (drain_side R.log) l)
           (λ z. (here z, sym is_v z)) (puts_still k s.words t (drain_side R.log) l N id st up' is'))
-          (at_i ∙ ap (λ (t : List RaiseStep). place (hard_bank_of t) (producer_index k.start t)) same) tt refl,
+          (at_i ∙ ap (λ (t : List RaiseStep). slot_word (hard_bank_of t) (producer_index k.start t)) same) tt refl,
       (length R.log, refl),
     ))

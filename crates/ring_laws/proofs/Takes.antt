@@ -14,7 +14,7 @@ use Rattle.ring_rule.specs.declared.RaiseStep.{RaiseStep}
 use Rattle.ring_rule.specs.declared.DrainStep.{DrainStep}
 use Rattle.ring_rule.specs.declared.DrainStep.TheVariants.{Took}
 use Rattle.ring_rule.specs.declared.Setting.{Setting}
-use Rattle.ring_rule.specs.Words.{place, entry_id, entry_index}
+use Rattle.ring_rule.specs.Words.{slot_word, entry_id, entry_index}
 use Rattle.ring_rule.specs.Trail.{producer_index, held_entry, id_in, soft_bank_of, consumer_index, producer_seen}
 use Rattle.ring_rule.specs.Log.{raise_side, drain_side}
 use Rattle.ring_rule.specs.Shown.{HoldsEntry, BankHolds, TrailsShow, StillHolds}
@@ -49,7 +49,7 @@ module _ (k : Setting) (ws : List ℕ) (rs : List RaiseStep) (ds : List DrainSte
   C = consumer_index k.start ds
 
   abbrev n : ℕ
-  n = get_or ws (place l.soft_bank C) 0
+  n = get_or ws (slot_word l.soft_bank C) 0
 
   pub found : HoldsEntry ws l.cyclics l.soft_bank C id
   found = first_held ws l.cyclics l.soft_bank id (soft_list l) C oldest (softs_held k ws rs ds l N)
@@ -109,9 +109,9 @@ take_law k slots seat me end role bare saw more i lies =
     (λ e. more (e ∙ ap (λ t. consumer_index k.start t % 2 ^ 32) (sym same))) in
     let first = first_some (soft_list l) left in let id : ℕ = first.0 in let oldest : first_of (soft_list l) ≡ Some id =
     first.1 in
-    let here : place l.soft_bank (consumer_index k.start t) ≡ i =
-    (ap (λ (b : ℕ). place b (consumer_index k.start t)) N.shows.soft_is
-    ∙ ap (λ (t : List DrainStep). place (soft_bank_of t) (consumer_index k.start t)) (sym same)) ∙ sym lies in (
+    let here : slot_word l.soft_bank (consumer_index k.start t) ≡ i =
+    (ap (λ (b : ℕ). slot_word b (consumer_index k.start t)) N.shows.soft_is
+    ∙ ap (λ (t : List DrainStep). slot_word (soft_bank_of t) (consumer_index k.start t)) (sym same)) ∙ sym lies in (
       (Took (get_or s.words i 0)),
       drain_goes k s R seat me.0 at me.1 i (get_or s.words i 0) role (Took (get_or s.words i 0))
           ((N.shows.drainer_is ∙ ap id_in (ap held_entry (sym same) ∙ bare), left), R.enabled)
@@ -121,7 +121,7 @@ take_law k slots seat me end role bare saw more i lies =
           (loaded (λ x. StillHolds k.start x (raise_side R.log) (Took (get_or s.words i 0) ∷ t) (after Take l)) s.words i
           (subst (λ (j : ℕ). StillHolds k.start s.words (raise_side R.log) (Took (get_or s.words j 0) ∷ t) (after Take l)) here
           (takes_still k s.words (raise_side R.log) t l N id oldest)))
-          (lies ∙ ap (λ (t : List DrainStep). place (soft_bank_of t) (consumer_index k.start t)) same) refl refl,
+          (lies ∙ ap (λ (t : List DrainStep). slot_word (soft_bank_of t) (consumer_index k.start t)) same) refl refl,
       (
         subst (λ (j : ℕ). IsId (entry_id (get_or s.words j 0))) here (named k s.words (raise_side R.log) t l N id oldest),
         (length R.log, refl),

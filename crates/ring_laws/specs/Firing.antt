@@ -9,7 +9,7 @@ use Rattle.cyc_level.specs.Events.{most_sent}
 use Rattle.cyc_level.specs.Runs.{StayCounts}
 use Rattle.ring_rule.specs.declared.Role.TheVariants.{Raise}
 use Rattle.ring_rule.specs.declared.Setting.{Setting}
-use Rattle.ring_rule.specs.Words.{pend_word, mark_bit, index_range, place, producer_word, hard_word, soft_word, entry}
+use Rattle.ring_rule.specs.Words.{pend_word, mark_bit, index_range, slot_word, producer_word, hard_word, soft_word, entry}
 use Rattle.ring_rule.specs.Trail.{open_stay, firer_hand_of, marked_of, seen_pend, hard_bank_of, producer_index, stored_entry}
 use Rattle.ring_rule.specs.Trail.{has_followed}
 use Rattle.ring_rule.specs.Steps.{ThisSeat, IsFiringStep, TellsAdmit, TellsLoad, TellsLoadToRaise, TellsAdd, TellsStore}
@@ -69,7 +69,7 @@ StoreLaw = (k : Setting) (slots seat : ℕ) (me : ThisSeat) (id : ℕ) (s : Stay
     → firer_hand_of me.0.raise_trail ≡ Some id
     → open_stay id me.0.raise_trail ≡ Some s
     → (i : ℕ)
-    → i ≡ place (hard_bank_of me.0.raise_trail) (producer_index k.start me.0.raise_trail)
+    → i ≡ slot_word (hard_bank_of me.0.raise_trail) (producer_index k.start me.0.raise_trail)
     → (v : ℕ)
     → v ≡ entry id s.index
     → IsFiringStep k slots seat me i (λ _. v) (λ _. TellsStore (step slots i v 0 none) me v)

@@ -4,7 +4,7 @@ use mathlib.Core.Option.{none}
 use Rattle.atomic_table.specs.Table.{step}
 use Rattle.ring_rule.specs.declared.Role.TheVariants.{Drain}
 use Rattle.ring_rule.specs.declared.Setting.{Setting}
-use Rattle.ring_rule.specs.Words.{pend_word, index_range, place, producer_word, hard_word, soft_word, entry_index}
+use Rattle.ring_rule.specs.Words.{pend_word, index_range, slot_word, producer_word, hard_word, soft_word, entry_index}
 use Rattle.ring_rule.specs.Trail.{held_entry, soft_bank_of, consumer_index, producer_seen, bank_seen}
 use Rattle.ring_rule.specs.Steps.{ThisSeat, IsSoftStep, TellsLoadHardBank, TellsLoadProducer, TellsTake, TellsFollow}
 use Rattle.ring_rule.specs.Steps.{TellsSubtract}
@@ -31,7 +31,7 @@ TakeLaw = (k : Setting) (slots seat : ℕ) (me : ThisSeat) (end : ℕ)
     → producer_seen me.0.drain_trail ≡ Some end
     → end ≢ consumer_index k.start me.0.drain_trail % index_range
     → (i : ℕ)
-    → i ≡ place (soft_bank_of me.0.drain_trail) (consumer_index k.start me.0.drain_trail)
+    → i ≡ slot_word (soft_bank_of me.0.drain_trail) (consumer_index k.start me.0.drain_trail)
     → IsSoftStep k slots seat me i (λ n. n) (TellsTake (step slots i 0 0 none) me)
 
 -- the store of the soft bank: after a look that found another hard bank, and then one that found the producer word at the

@@ -1,7 +1,7 @@
 //! The laws of the fifteen steps of a ring, one for each kind.
 //!
 //! Where it may be made, a step keeps the ring's rule, and it is its one event of the level, or none: whatever the other side
-//! did, the log gains this step and nothing else, its record has the next place and is true there, and a lawful level stands
+//! did, the log gains this step and nothing else, its record has the next position and is true there, and a lawful level stands
 //! then. `specs/Firing.antt` and `specs/Soft.antt` say when each step may be made, on which word, and what it tells. A clause
 //! here, the function of `ring_steps` that stands on it and the record that the step adds have one name. The functions do
 //! nothing: each one's contract is a law.

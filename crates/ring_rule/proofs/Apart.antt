@@ -4,11 +4,11 @@ use Rattle.std.proofs.Common.{mod-eq_of_lt, arith}
 use Rattle.std.proofs.lemmas.Nat.{mul-mod_first}
 use native.Mathlib.Nat.{pow-suc}
 use Rattle.cyc_level.specs.Limits.{greatest_bank, cyclics}
-use Rattle.ring_rule.specs.Words.{spread, place}
+use Rattle.ring_rule.specs.Words.{spread, slot_word}
 use Rattle.ring_rule.specs.Apart.{PendsAreApart, PlacesAreApart, BanksAreApart, WordsAreApart}
 use Rattle.ring_rule.proofs.Words.{pend_low, pend_distinct, place_high, place_low, turned_back, same_turn}
 
--- equal indexes modulo a size have equal places
+-- equal indexes modulo a size have equal positions
 pub same_spread : (n i j : ℕ) → i % n ≡ j % n → spread n i ≡ spread n j
 same_spread n i j e = sym (mul-mod_first i 9 n) ∙ (ap (λ (x : ℕ). x * 9 % n) e ∙ mul-mod_first j 9 n)
 
@@ -18,7 +18,7 @@ word_index bank word most less = mul-mod_first (word * 954437177) 9 (2 ^ bank)
     ∙ (ap (λ (x : ℕ). x % 2 ^ bank) (let e : word * 954437177 * 9 ≡ word * 9 * 954437177 = omega arith in e)
     ∙ (sym (mul-mod_first (word * 9) 954437177 (2 ^ bank)) ∙ (turned_back bank word most ∙ mod-eq_of_lt less)))
 
-pub lower_bank : (low high i j : ℕ) → low < high → place low i ≢ place high j
+pub lower_bank : (low high i j : ℕ) → low < high → slot_word low i ≢ slot_word high j
 lower_bank low high i j less e = let p : 0 < 2 ^ low = pow_pos low in let m : i * 9 % 2 ^ low < 2 ^ low = mod-lt (i * 9) p in
     let q : 2 ^ suc low ≤ 2 ^ high = pow_mono {i = suc low} {j = high} (omega arith) in
     let r : 2 ^ suc low ≡ 2 ^ low * 2 = pow-suc 2 low in omega (arith, m, q, r, e)
@@ -34,8 +34,8 @@ pends = (
   ),
 )
 
-places : PlacesAreApart
-places bank most = (
+positions : PlacesAreApart
+positions bank most = (
   (λ i j. (
     (λ e. same_turn bank i j (omega (arith, most)) (omega (arith, e))),
     (λ e. ap (λ (x : ℕ). cyclics - 1 + 2 ^ bank + x) (same_spread (2 ^ bank) i j e)),
@@ -52,4 +52,4 @@ banks : BanksAreApart
 banks low high i j less most = (lower_bank low high i j less, place_high low i, place_low high j most)
 
 pub apart : WordsAreApart
-apart = (pends, places, banks)
+apart = (pends, positions, banks)

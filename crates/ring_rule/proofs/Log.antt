@@ -12,7 +12,7 @@ use Rattle.ring_rule.specs.declared.RaiseStep.TheVariants.{Switched, LoadedSoftB
 use Rattle.ring_rule.specs.declared.DrainStep.{DrainStep}
 use Rattle.ring_rule.specs.declared.DrainStep.TheVariants.{LoadedHardBank, LoadedProducer, Took, Subtracted, Followed}
 use Rattle.ring_rule.specs.Trail.{raise_event, drain_event, raise_events, drain_events}
-use Rattle.ring_rule.specs.Log.{RingStep, of_raise, of_drain, raise_side, raise_places, drain_side, drain_places, events_of}
+use Rattle.ring_rule.specs.Log.{RingStep, of_raise, of_drain, raise_side, raise_positions, drain_side, drain_positions, events_of}
 use Rattle.ring_rule.specs.Log.{IsTrue, AllTrue, StandsAt}
 use Rattle.ring_rule.specs.Laws.{placed, merged}
 
@@ -78,7 +78,7 @@ module _ {A : Type 0} where
   first_or a [] = a
   first_or a (x ∷ xs) = x
 
-  -- the newest place of a trail is below n
+  -- the newest position of a trail is below n
   abbrev HeadBelow : ℕ → List (ℕ × A) → Type 0
   HeadBelow n [] = Unit {0}
   HeadBelow n (x ∷ t) = x.0 < n
@@ -88,10 +88,10 @@ module _ {A : Type 0} where
   weaken n (x ∷ t) h = omega (arith, h)
 
 abbrev pub raises_placed : List RingStep → List (ℕ × RaiseStep)
-raises_placed log = placed (raise_places log) (raise_side log)
+raises_placed log = placed (raise_positions log) (raise_side log)
 
 abbrev pub drains_placed : List RingStep → List (ℕ × DrainStep)
-drains_placed log = placed (drain_places log) (drain_side log)
+drains_placed log = placed (drain_positions log) (drain_side log)
 
 raise_below : (log : List RingStep) → HeadBelow (length log) (raises_placed log)
 raise_below [] = tt
@@ -137,24 +137,24 @@ pub same_log : (l m : List RingStep) → raises_placed l ≡ raises_placed m →
 same_log l m e f = let long : length l ≡ length m = omega (arith, sizes l, sizes m, ap length e, ap length f) in sym (whole l)
     ∙ ((λ z. merged (long z) (e z) (f z)) ∙ whole m)
 
-pub gained_raise : (l m : List RingStep) (place : ℕ) (x : RaiseStep) → raises_placed m ≡ (place, x) ∷ raises_placed l
-    → drains_placed m ≡ drains_placed l → (place ≡ length l) × (m ≡ of_raise x ∷ l)
-gained_raise l [] place x e f = absurd (omega (arith, ap length e))
-gained_raise l (of_raise z ∷ m) place x e f = let same : m ≡ l = same_log m l (ap rest_of e) f in
-    let h : (length m, z) ≡ (place, x) = ap (first_or (place, x)) e in
+pub gained_raise : (l m : List RingStep) (position : ℕ) (x : RaiseStep) → raises_placed m ≡ (position, x) ∷ raises_placed l
+    → drains_placed m ≡ drains_placed l → (position ≡ length l) × (m ≡ of_raise x ∷ l)
+gained_raise l [] position x e f = absurd (omega (arith, ap length e))
+gained_raise l (of_raise z ∷ m) position x e f = let same : m ≡ l = same_log m l (ap rest_of e) f in
+    let h : (length m, z) ≡ (position, x) = ap (first_or (position, x)) e in
     (sym (ap (λ p. p.0) h) ∙ ap length same, λ k. of_raise ((h k).1) ∷ same k)
-gained_raise l (of_drain z ∷ m) place x e f = let low : length m < length l =
+gained_raise l (of_drain z ∷ m) position x e f = let low : length m < length l =
     subst (λ t. HeadBelow (length l) t) (sym f) (drain_below l) in
     absurd (omega (arith, low, sizes m, sizes l, ap length e, ap length f))
 
-pub gained_drain : (l m : List RingStep) (place : ℕ) (x : DrainStep) → raises_placed m ≡ raises_placed l
-    → drains_placed m ≡ (place, x) ∷ drains_placed l → (place ≡ length l) × (m ≡ of_drain x ∷ l)
-gained_drain l [] place x e f = absurd (omega (arith, ap length f))
-gained_drain l (of_raise z ∷ m) place x e f = let low : length m < length l =
+pub gained_drain : (l m : List RingStep) (position : ℕ) (x : DrainStep) → raises_placed m ≡ raises_placed l
+    → drains_placed m ≡ (position, x) ∷ drains_placed l → (position ≡ length l) × (m ≡ of_drain x ∷ l)
+gained_drain l [] position x e f = absurd (omega (arith, ap length f))
+gained_drain l (of_raise z ∷ m) position x e f = let low : length m < length l =
     subst (λ t. HeadBelow (length l) t) (sym e) (raise_below l) in
     absurd (omega (arith, low, sizes m, sizes l, ap length e, ap length f))
-gained_drain l (of_drain z ∷ m) place x e f = let same : m ≡ l = same_log m l e (ap rest_of f) in
-    let h : (length m, z) ≡ (place, x) = ap (first_or (place, x)) f in
+gained_drain l (of_drain z ∷ m) position x e f = let same : m ≡ l = same_log m l e (ap rest_of f) in
+    let h : (length m, z) ≡ (position, x) = ap (first_or (position, x)) f in
     (sym (ap (λ p. p.0) h) ∙ ap length same, λ k. of_drain ((h k).1) ∷ same k)
 
 -- trails that only grow are those of a log that only grows
@@ -192,12 +192,12 @@ grown l (of_drain z ∷ m) xs (y ∷ ys) e f = let r = grown l m xs ys e (ap res
     (of_drain z ∷ r.0, ap (λ (t : List RingStep). of_drain z ∷ t) r.1)
 
 module _ (start : ℕ) where
-  further : (y : RingStep) (log : List RingStep) (place : ℕ) (x : RingStep) → StandsAt start log place x
-      → StandsAt start (y ∷ log) place x
-  further y log place x (later, earlier, is, long, true) = (y ∷ later, earlier, ap (λ l. y ∷ l) is, long, true)
+  further : (y : RingStep) (log : List RingStep) (position : ℕ) (x : RingStep) → StandsAt start log position x
+      → StandsAt start (y ∷ log) position x
+  further y log position x (later, earlier, is, long, true) = (y ∷ later, earlier, ap (λ l. y ∷ l) is, long, true)
 
   pub raise_stands : (log : List RingStep) → AllTrue start log → (n : ℕ) (x : RaiseStep) → get_elem? (raise_side log) n ≡ some x
-      → (place : ℕ) × (get_elem? (raise_places log) n ≡ some place) × StandsAt start log place (of_raise x)
+      → (position : ℕ) × (get_elem? (raise_positions log) n ≡ some position) × StandsAt start log position (of_raise x)
   raise_stands [] h n x e = absurd (some-ne-none x (sym e))
   raise_stands (of_raise z ∷ log) h zero x e = let p : z ≡ x = some-injective z x e in (
     length log,
@@ -216,7 +216,7 @@ module _ (start : ℕ) where
       (r.0, r.1, further (of_drain z) log r.0 (of_raise x) r.2)
 
   pub drain_stands : (log : List RingStep) → AllTrue start log → (n : ℕ) (x : DrainStep) → get_elem? (drain_side log) n ≡ some x
-      → (place : ℕ) × (get_elem? (drain_places log) n ≡ some place) × StandsAt start log place (of_drain x)
+      → (position : ℕ) × (get_elem? (drain_positions log) n ≡ some position) × StandsAt start log position (of_drain x)
   drain_stands [] h n x e = absurd (some-ne-none x (sym e))
   drain_stands (of_drain z ∷ log) h zero x e = let p : z ≡ x = some-injective z x e in (
     length log,

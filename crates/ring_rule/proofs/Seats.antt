@@ -64,7 +64,7 @@ module _ (l : List SeatView) (i j : ℕ) (v w : SeatView) (a : get_elem? l i ≡
   pub firing_apart : v.role ≡ Drain → IsFiring w.role → j ≢ i
   firing_apart is firing e = subst IsFiring (same_role e ∙ is) firing
 
--- a step changes no word's place
+-- a step changes no word's position
 pub as_wide : (start : ℕ) (log : List RingStep) → length (replay start log) ≡ word_count
 as_wide start [] = length-map-range_with_len (first_word start) 0 word_count
 as_wide start (x ∷ log) = length-set (replay start log) (word_of start x log)

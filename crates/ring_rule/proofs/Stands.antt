@@ -76,7 +76,7 @@ stands_for k s R j v at ends = (
 one_longer : (m : List RingStep) (x : RingStep) (log : List RingStep) → m ≡ x ∷ log → length m ≡ length log + 1
 one_longer m x log is = let e = ap length is in omega (arith, e)
 
--- a step that extends the log is allowed, and tells that such a level stands at its place
+-- a step that extends the log is allowed, and tells that such a level stands at its position
 raise_allowed : (k : Setting) (slots seat : ℕ) (me : ThisSeat) (i : ℕ) (f : ℕ → ℕ) (tells : ℕ → ThisSeat → Type 0)
     → me.0.role ≡ Raise → IsRaiseStep k slots seat me i f tells → IsAllowed k slots seat me i f tells
 raise_allowed k slots seat me i f tells role A s R homes at small = let x = A s R homes at small in let w : SeatView =

@@ -19,9 +19,9 @@ use Rattle.ring_rule.specs.declared.DrainStep.{DrainStep}
 use Rattle.ring_rule.specs.declared.DrainStep.TheVariants.{LoadedHardBank, LoadedProducer, Took, Subtracted, Followed}
 use Rattle.ring_rule.specs.declared.SeatView.{SeatView}
 use Rattle.ring_rule.specs.declared.Setting.{Setting}
-use Rattle.ring_rule.specs.Words.{pend_word, mark_bit, producer_word, place, entry_id}
+use Rattle.ring_rule.specs.Words.{pend_word, mark_bit, producer_word, slot_word, entry_id}
 use Rattle.ring_rule.specs.Trail.{open_stay, ended_calls, held_entry, id_in, made_calls, consumer_index}
-use Rattle.ring_rule.specs.Log.{RingStep, of_raise, of_drain, raise_side, raise_places, drain_side, drain_places, level_after}
+use Rattle.ring_rule.specs.Log.{RingStep, of_raise, of_drain, raise_side, raise_positions, drain_side, drain_positions, level_after}
 use Rattle.ring_rule.specs.Log.{stay_word, held_word, words_after, replay, AllTrue}
 use Rattle.ring_rule.specs.Shown.{IsSameStay}
 use Rattle.ring_rule.specs.Rule.{RingState, HasRaises, HasDrains, IsSeat, IsFiring, IsSoft, MeetsRule}
@@ -95,7 +95,7 @@ module _ (k : Setting) (s : RingState) (R : MeetsRule k s) (j : ℕ) (v : SeatVi
 
 -- the seat's trail gains a record, and the other side's seat stays as it is
 pub new_raise : NewRaiseIsTrue
-new_raise k s s' R R' i place v x at role gains = let v' : SeatView = with_raise_step place x v in let j : ℕ = R.drain_seat in
+new_raise k s s' R R' i slot_word v x at role gains = let v' : SeatView = with_raise_step slot_word x v in let j : ℕ = R.drain_seat in
     let w : SeatView = R.soft_side.0 in let there = R.soft_side.1 in let soft = R.soft_side.2 in
     let at' : get_elem? s'.views i ≡ some v' = ap (λ (l : List SeatView). get_elem? l i) gains ∙ at_here s.views i v v' at in
     let there' : get_elem? s'.views j ≡ some w = ap (λ (l : List SeatView). get_elem? l j) gains
@@ -103,8 +103,8 @@ new_raise k s s' R R' i place v x at role gains = let v' : SeatView = with_raise
     let firing : IsFiring v.role = subst IsFiring (sym role) tt in
     let a = its_raises k s R i v at firing in let b = its_drains k s R j w there soft in let a' =
     its_raises k s' R' i v' at' firing in let b' = its_drains k s' R' j w there' soft in
-    let g = gained_raise R.log R'.log place x
-    (λ z. placed ((sym a'.1 ∙ ap (λ (t : List ℕ). place ∷ t) a.1) z) ((sym a'.0 ∙ ap (λ (t : List RaiseStep). x ∷ t) a.0) z))
+    let g = gained_raise R.log R'.log slot_word x
+    (λ z. placed ((sym a'.1 ∙ ap (λ (t : List ℕ). slot_word ∷ t) a.1) z) ((sym a'.0 ∙ ap (λ (t : List RaiseStep). x ∷ t) a.0) z))
     (λ z. placed ((sym b'.1 ∙ b.1) z) ((sym b'.0 ∙ b.0) z)) in (
       g.0,
       (subst (AllTrue k.start) g.1 R'.all_true).0,
@@ -112,7 +112,7 @@ new_raise k s s' R R' i place v x at role gains = let v' : SeatView = with_raise
     )
 
 pub new_drain : NewDrainIsTrue
-new_drain k s s' R R' i place v x at role gains = let v' : SeatView = with_drain_step place x v in let j : ℕ = R.raise_seat in
+new_drain k s s' R R' i slot_word v x at role gains = let v' : SeatView = with_drain_step slot_word x v in let j : ℕ = R.raise_seat in
     let w : SeatView = R.firing_side.0 in let there = R.firing_side.1 in let firing = R.firing_side.2 in
     let at' : get_elem? s'.views i ≡ some v' = ap (λ (l : List SeatView). get_elem? l i) gains ∙ at_here s.views i v v' at in
     let there' : get_elem? s'.views j ≡ some w = ap (λ (l : List SeatView). get_elem? l j) gains
@@ -120,8 +120,8 @@ new_drain k s s' R R' i place v x at role gains = let v' : SeatView = with_drain
     let soft : IsSoft v.role = subst IsSoft (sym role) tt in
     let a = its_raises k s R j w there firing in let b = its_drains k s R i v at soft in let a' =
     its_raises k s' R' j w there' firing in let b' = its_drains k s' R' i v' at' soft in
-    let g = gained_drain R.log R'.log place x (λ z. placed ((sym a'.1 ∙ a.1) z) ((sym a'.0 ∙ a.0) z))
-    (λ z. placed ((sym b'.1 ∙ ap (λ (t : List ℕ). place ∷ t) b.1) z) ((sym b'.0 ∙ ap (λ (t : List DrainStep). x ∷ t) b.0) z))
+    let g = gained_drain R.log R'.log slot_word x (λ z. placed ((sym a'.1 ∙ a.1) z) ((sym a'.0 ∙ a.0) z))
+    (λ z. placed ((sym b'.1 ∙ ap (λ (t : List ℕ). slot_word ∷ t) b.1) z) ((sym b'.0 ∙ ap (λ (t : List DrainStep). x ∷ t) b.0) z))
     in (
       g.0,
       (subst (AllTrue k.start) g.1 R'.all_true).0,
@@ -135,12 +135,12 @@ placed_append [] ms (x ∷ xs) ys e = absurd (omega (arith, e))
 placed_append (n ∷ ns) ms [] ys e = absurd (omega (arith, e))
 placed_append (n ∷ ns) ms (x ∷ xs) ys e = ap (λ l. (n, x) ∷ l) (placed_append ns ms xs ys (omega (arith, e)))
 
-even_raises : (log : List RingStep) → length (raise_places log) ≡ length (raise_side log)
+even_raises : (log : List RingStep) → length (raise_positions log) ≡ length (raise_side log)
 even_raises [] = refl
 even_raises (of_raise x ∷ log) = ap suc (even_raises log)
 even_raises (of_drain x ∷ log) = even_raises log
 
-even_drains : (log : List RingStep) → length (drain_places log) ≡ length (drain_side log)
+even_drains : (log : List RingStep) → length (drain_positions log) ≡ length (drain_side log)
 even_drains [] = refl
 even_drains (of_raise x ∷ log) = even_drains log
 even_drains (of_drain x ∷ log) = ap suc (even_drains log)
@@ -155,29 +155,29 @@ drains_append [] log = refl
 drains_append (of_raise x ∷ later) log = drains_append later log
 drains_append (of_drain x ∷ later) log = ap (λ (t : List DrainStep). x ∷ t) (drains_append later log)
 
--- the places of what a log gained are not below its length
+-- the positions of what a log gained are not below its length
 abbrev Above : ℕ → List ℕ → Type 0
-Above n places = All (λ place. n ≤ place) places
+Above n positions = All (λ slot_word. n ≤ slot_word) positions
 
-raise_above : (later log : List RingStep) → (places : List ℕ) × (raise_places (later ++ log) ≡ places ++ raise_places log)
-    × Above (length log) places
-raise_above [] log = ([], refl, All-nil (λ place. length log ≤ place))
+raise_above : (later log : List RingStep) → (positions : List ℕ) × (raise_positions (later ++ log) ≡ positions ++ raise_positions log)
+    × Above (length log) positions
+raise_above [] log = ([], refl, All-nil (λ slot_word. length log ≤ slot_word))
 raise_above (of_raise x ∷ later) log = let r = raise_above later log in let long = length-append later log in (
   length (later ++ log) ∷ r.0,
   ap (λ (t : List ℕ). length (later ++ log) ∷ t) r.1,
-  All-cons (λ place. length log ≤ place)
+  All-cons (λ slot_word. length log ≤ slot_word)
       (length (later ++ log)) r.0 (omega (arith, long)) r.2,
 )
 raise_above (of_drain x ∷ later) log = raise_above later log
 
-drain_above : (later log : List RingStep) → (places : List ℕ) × (drain_places (later ++ log) ≡ places ++ drain_places log)
-    × Above (length log) places
-drain_above [] log = ([], refl, All-nil (λ place. length log ≤ place))
+drain_above : (later log : List RingStep) → (positions : List ℕ) × (drain_positions (later ++ log) ≡ positions ++ drain_positions log)
+    × Above (length log) positions
+drain_above [] log = ([], refl, All-nil (λ slot_word. length log ≤ slot_word))
 drain_above (of_raise x ∷ later) log = drain_above later log
 drain_above (of_drain x ∷ later) log = let r = drain_above later log in let long = length-append later log in (
   length (later ++ log) ∷ r.0,
   ap (λ (t : List ℕ). length (later ++ log) ∷ t) r.1,
-  All-cons (λ place. length log ≤ place)
+  All-cons (λ slot_word. length log ≤ slot_word)
       (length (later ++ log)) r.0 (omega (arith, long)) r.2,
 )
 
@@ -187,25 +187,25 @@ come_after k s s' R R' i j i' j' v w v' w' S S' xs ys ps qs raised drained =
     let b' = drains_are k s' R' i' j' v' w' S' in
     let l : List RingStep = R.log in let m : List RingStep = R'.log in
     let t : raise_side m ≡ xs ++ raise_side l = sym a'.0 ∙ (raised.0 ∙ ap (λ (t : List RaiseStep). xs ++ t) a.0) in
-    let p : raise_places m ≡ ps ++ raise_places l = sym a'.1 ∙ (raised.1 ∙ ap (λ (t : List ℕ). ps ++ t) a.1) in
+    let p : raise_positions m ≡ ps ++ raise_positions l = sym a'.1 ∙ (raised.1 ∙ ap (λ (t : List ℕ). ps ++ t) a.1) in
     let u : drain_side m ≡ ys ++ drain_side l = sym b'.0 ∙ (drained.0 ∙ ap (λ (t : List DrainStep). ys ++ t) b.0) in
-    let q : drain_places m ≡ qs ++ drain_places l = sym b'.1 ∙ (drained.1 ∙ ap (λ (t : List ℕ). qs ++ t) b.1) in
+    let q : drain_positions m ≡ qs ++ drain_positions l = sym b'.1 ∙ (drained.1 ∙ ap (λ (t : List ℕ). qs ++ t) b.1) in
     let long : length ps ≡ length xs = (let f = even_raises m in let g = even_raises l in let c = ap length t in let d =
-    ap length p in let o = length-append xs (raise_side l) in let r = length-append ps (raise_places l) in
+    ap length p in let o = length-append xs (raise_side l) in let r = length-append ps (raise_positions l) in
     omega (arith, f, g, c, d, o, r)) in
     let wide : length qs ≡ length ys = (let f = even_drains m in let g = even_drains l in let c = ap length u in let d =
-    ap length q in let o = length-append ys (drain_side l) in let r = length-append qs (drain_places l) in
+    ap length q in let o = length-append ys (drain_side l) in let r = length-append qs (drain_positions l) in
     omega (arith, f, g, c, d, o, r)) in
     let g = grown l m (placed ps xs) (placed qs ys) ((λ z. placed (p z) (t z))
-    ∙ placed_append ps (raise_places l) xs (raise_side l) long) ((λ z. placed (q z) (u z))
-    ∙ placed_append qs (drain_places l) ys (drain_side l) wide) in
+    ∙ placed_append ps (raise_positions l) xs (raise_side l) long) ((λ z. placed (q z) (u z))
+    ∙ placed_append qs (drain_positions l) ys (drain_side l) wide) in
     let f = raise_above g.0 l in let h = drain_above g.0 l in (
       g.0,
       g.1,
       append_cancel_right (raise_side g.0) xs (raise_side l) (sym (raises_append g.0 l) ∙ (ap raise_side (sym g.1) ∙ t)),
       append_cancel_right (drain_side g.0) ys (drain_side l) (sym (drains_append g.0 l) ∙ (ap drain_side (sym g.1) ∙ u)),
-      subst (Above (length l)) (append_cancel_right f.0 ps (raise_places l) (sym f.1 ∙ (ap raise_places (sym g.1) ∙ p))) f.2,
-      subst (Above (length l)) (append_cancel_right h.0 qs (drain_places l) (sym h.1 ∙ (ap drain_places (sym g.1) ∙ q))) h.2,
+      subst (Above (length l)) (append_cancel_right f.0 ps (raise_positions l) (sym f.1 ∙ (ap raise_positions (sym g.1) ∙ p))) f.2,
+      subst (Above (length l)) (append_cancel_right h.0 qs (drain_positions l) (sym h.1 ∙ (ap drain_positions (sym g.1) ∙ q))) h.2,
     )
 
 -- what a step found is shown
@@ -268,7 +268,7 @@ module _ (k : Setting) (log : List RingStep) (L : LevelStands k log) where
       in
       let h = first_held ws l.cyclics l.soft_bank f.0 (soft_list l) i f.1
       (softs_shown k.start ws (raise_side log) (drain_side log) l L.shows) in
-      (f.0, h.0, f.1, h.1, M.all_true.0 ∙ (ap (λ (b : ℕ). get_or ws (place b i) 0) (sym L.shows.soft_is) ∙ h.2))
+      (f.0, h.0, f.1, h.1, M.all_true.0 ∙ (ap (λ (b : ℕ). get_or ws (slot_word b i) 0) (sym L.shows.soft_is) ∙ h.2))
   drain_found (Subtracted found) M = let h = some_of l.drainer_hand M.enabled.0 in
       (h.0, h.1, M.all_true.0 ∙ held_found (held_entry (drain_side log)) refl h.0 h.1)
   drain_found (Followed bank) M = tt

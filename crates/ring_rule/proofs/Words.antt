@@ -10,7 +10,7 @@ use Rattle.cyc_level.specs.Level.{AdmittedCyclic, Cyclics}
 use Rattle.cyc_level.specs.Events.{changed_at, first_of}
 use Rattle.cyc_level.proofs.Maps.{some_same, at_cases}
 use Rattle.cyc_level.specs.Limits.{greatest_bank, cyclics}
-use Rattle.ring_rule.specs.Words.{spread, pend_word, place, producer_word, entry}
+use Rattle.ring_rule.specs.Words.{spread, pend_word, slot_word, producer_word, entry}
 use Rattle.ring_rule.specs.Shown.{HoldsEntry, BankHolds, IsHandStored}
 
 pub pend_low : (i : ℕ) → i < cyclics → pend_word i < cyclics
@@ -20,16 +20,16 @@ pend_low i h = omega arith
 pub pend_distinct : (i j : ℕ) → i < cyclics → j < cyclics → pend_word i ≡ pend_word j → i ≡ j
 pend_distinct i j a b e = omega (arith, a, b, e)
 
-pub place_high : (bank i : ℕ) → cyclics ≤ place bank i
+pub place_high : (bank i : ℕ) → cyclics ≤ slot_word bank i
 place_high bank i = let p : 0 < 2 ^ bank = pow_pos bank in omega (arith, p)
 
-pub place_low : (bank i : ℕ) → bank ≤ greatest_bank → place bank i < producer_word 0
+pub place_low : (bank i : ℕ) → bank ≤ greatest_bank → slot_word bank i < producer_word 0
 place_low bank i h = let p : 0 < 2 ^ bank = pow_pos bank in let q : 2 ^ bank ≤ 2 ^ greatest_bank =
     pow_mono {i = bank} {j = greatest_bank} h in
     let r : i * 9 % 2 ^ bank < 2 ^ bank = mod-lt (i * 9) p in let e : 2 ^ greatest_bank ≡ cyclics = refl in
     omega (arith, p, q, r, e)
 
--- nine has an inverse, so that the place shows the index
+-- nine has an inverse, so that the position shows the index
 pub turned_back : (bank i : ℕ) → bank ≤ 33 → spread (2 ^ bank) i * 954437177 % 2 ^ bank ≡ i % 2 ^ bank
 turned_back bank i most = let q : 2 ^ 33 ≡ 2 ^ bank * 2 ^ (33 - bank) =
     sym (sym (pow-add 2 bank (33 - bank)) ∙ ap (λ (x : ℕ). 2 ^ x) (let e : bank + (33 - bank) ≡ 33 = omega arith in e)) in
@@ -56,12 +56,12 @@ keeps_option_map m id f same j c e = at_cases m id (option_map f) (λ k o. m k �
     (λ h. (f c, ap (option_map f) h, same c)) (λ k _ h. (c, h, refl)) j e
 
 module _ (ws ws' : List ℕ) (m m' : Cyclics) (keeps : Keeps m m') where
-  pub entry_kept : (bank i id : ℕ) → get_or ws' (place bank i) 0 ≡ get_or ws (place bank i) 0 → HoldsEntry ws m bank i id
+  pub entry_kept : (bank i id : ℕ) → get_or ws' (slot_word bank i) 0 ≡ get_or ws (slot_word bank i) 0 → HoldsEntry ws m bank i id
       → HoldsEntry ws' m' bank i id
   entry_kept bank i id same h = let d = keeps id h.0 h.1 in (d.0, d.1, same ∙ (h.2 ∙ ap (entry id) (sym d.2)))
 
   pub holds_kept : (bank : ℕ) (xs : List ℕ) (i : ℕ)
-      → ((j : ℕ) → i ≤ j → j < i + length xs → get_or ws' (place bank j) 0 ≡ get_or ws (place bank j) 0)
+      → ((j : ℕ) → i ≤ j → j < i + length xs → get_or ws' (slot_word bank j) 0 ≡ get_or ws (slot_word bank j) 0)
       → get_or ws' (producer_word bank) 0 ≡ get_or ws (producer_word bank) 0 → BankHolds ws m bank i xs
       → BankHolds ws' m' bank i xs
   holds_kept bank [] i same end h = end ∙ h
@@ -70,7 +70,7 @@ module _ (ws ws' : List ℕ) (m m' : Cyclics) (keeps : Keeps m m') where
     holds_kept bank xs (i + 1) (λ j a b. same j (omega arith) (omega arith)) end h.1,
   )
 
-  pub stored_kept : (bank i : ℕ) (e h : Option ℕ) → get_or ws' (place bank i) 0 ≡ get_or ws (place bank i) 0
+  pub stored_kept : (bank i : ℕ) (e h : Option ℕ) → get_or ws' (slot_word bank i) 0 ≡ get_or ws (slot_word bank i) 0
       → IsHandStored ws m bank i e h → IsHandStored ws' m' bank i e h
   stored_kept bank i None h same k = tt
   stored_kept bank i (Some e) None same k = k
@@ -79,11 +79,11 @@ module _ (ws ws' : List ℕ) (m m' : Cyclics) (keeps : Keeps m m') where
   -- the words behind the pend words stay as they were
   module _ (high : (j : ℕ) → cyclics ≤ j → get_or ws' j 0 ≡ get_or ws j 0) where
     pub holds_high : (bank : ℕ) (xs : List ℕ) (i : ℕ) → BankHolds ws m bank i xs → BankHolds ws' m' bank i xs
-    holds_high bank xs i = holds_kept bank xs i (λ j _ _. high (place bank j) (place_high bank j))
+    holds_high bank xs i = holds_kept bank xs i (λ j _ _. high (slot_word bank j) (place_high bank j))
         (high (producer_word bank) (omega arith))
 
     pub stored_high : (bank i : ℕ) (e h : Option ℕ) → IsHandStored ws m bank i e h → IsHandStored ws' m' bank i e h
-    stored_high bank i e h = stored_kept bank i e h (high (place bank i) (place_high bank i))
+    stored_high bank i e h = stored_kept bank i e h (high (slot_word bank i) (place_high bank i))
 
 -- a bank that holds a list ends behind it, and begins with its first id
 pub holds_end : (ws : List ℕ) (m : Cyclics) (bank : ℕ) (xs : List ℕ) (i : ℕ) → BankHolds ws m bank i xs

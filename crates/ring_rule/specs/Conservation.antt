@@ -36,7 +36,7 @@ IsAccounted raise_trail drain_trail = (id : ℕ) → (pend : ℕ)
     × IsPending pend (seen_pend id raise_trail) (open_stay id raise_trail)
     × (made_calls id drain_trail + pend + losses_of id raise_trail ≡ raises_of id raise_trail)
 
--- after the log: each record of it is true at its place, its events are an enabled run, and the level that the run has reached is
+-- after the log: each record of it is true at its position, its events are an enabled run, and the level that the run has reached is
 -- what words and trails show; it is lawful, and no call of it is forgotten
 pub record LevelStands (k : Setting) (log : List RingStep) : Type 0 where
   pub all_true : AllTrue k.start log
@@ -57,11 +57,11 @@ AllStood k (x ∷ log) = LevelStands k (x ∷ log) × AllStood k log
 -- the log ends with the newest step of the view's side
 abbrev pub EndsWithIts : List RingStep → SeatView → Role → Type 0
 EndsWithIts log v Joint = ⊤
-EndsWithIts log v Raise = length log ≡ newest v.raise_places + 1
-EndsWithIts log v Drain = length log ≡ newest v.drain_places + 1
+EndsWithIts log v Raise = length log ≡ newest v.raise_positions + 1
+EndsWithIts log v Drain = length log ≡ newest v.drain_positions + 1
 EndsWithIts log v Spent = ⊤
 
--- such a level stands at the place of this seat's newest step: the log ends there, and the seat has the trail of its side
+-- such a level stands at the position of this seat's newest step: the log ends there, and the seat has the trail of its side
 abbrev pub StandsFor : Setting → SeatView → Type 0
 StandsFor k v = (log : List RingStep) × HasItsTrail log v v.role × EndsWithIts log v v.role × AllStood k log
 

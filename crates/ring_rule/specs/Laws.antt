@@ -23,14 +23,14 @@ use Rattle.ring_rule.specs.Rule.{RingState, MeetsRule}
 use Rattle.ring_rule.specs.Conservation.{AllStood}
 use Rattle.ring_rule.specs.Steps.{with_raise_step, with_drain_step}
 
--- each record of a view's side has a place in the log, and is true there
+-- each record of a view's side has a position in the log, and is true there
 abbrev pub RaisesStand : ℕ → List RingStep → SeatView → Type 0
 RaisesStand start log v = (n : ℕ) (x : RaiseStep) → get_elem? v.raise_trail n ≡ some x
-    → (place : ℕ) × (get_elem? v.raise_places n ≡ some place) × StandsAt start log place (of_raise x)
+    → (position : ℕ) × (get_elem? v.raise_positions n ≡ some position) × StandsAt start log position (of_raise x)
 
 abbrev pub DrainsStand : ℕ → List RingStep → SeatView → Type 0
 DrainsStand start log v = (n : ℕ) (x : DrainStep) → get_elem? v.drain_trail n ≡ some x
-    → (place : ℕ) × (get_elem? v.drain_places n ≡ some place) × StandsAt start log place (of_drain x)
+    → (position : ℕ) × (get_elem? v.drain_positions n ≡ some position) × StandsAt start log position (of_drain x)
 
 abbrev pub ItsRecordsStand : ℕ → List RingStep → SeatView → Role → Type 0
 ItsRecordsStand start log v Joint = RaisesStand start log v × DrainsStand start log v
@@ -42,14 +42,14 @@ abbrev pub EachRecordIsTrue : Type 0
 EachRecordIsTrue = (k : Setting) (s : RingState) (R : MeetsRule k s) (seat : ℕ) (v : SeatView) → get_elem? s.views seat ≡ some v
     → ItsRecordsStand k.start R.log v v.role
 
--- each step of a trail with its place
+-- each step of a trail with its position
 abbrev pub placed : {A : Type 0} → List ℕ → List A → List (ℕ × A)
 placed [] [] = []
 placed [] (x ∷ xs) = []
 placed (n ∷ ns) [] = []
 placed (n ∷ ns) (x ∷ xs) = (n, x) ∷ placed ns xs
 
--- the first n steps, read off both trails by the places; it ends where no trail has the place
+-- the first n steps, read off both trails by the positions; it ends where no trail has the position
 abbrev pub merged : ℕ → List (ℕ × RaiseStep) → List (ℕ × DrainStep) → List RingStep
 merged zero a b = []
 merged (suc n) [] [] = []
@@ -64,8 +64,8 @@ AreSeats s i v j w = (get_elem? s.views i ≡ some v) × (v.role ≡ Raise) × (
 -- the two seats determine the log: there is no choice of an interleaving
 abbrev pub TrailsMakeTheLog : Type 0
 TrailsMakeTheLog = (k : Setting) (s : RingState) (R : MeetsRule k s) (i j : ℕ) (v w : SeatView) → AreSeats s i v j w
-    → R.log ≡ merged (length v.raise_trail + length w.drain_trail) (placed v.raise_places v.raise_trail)
-    (placed w.drain_places w.drain_trail)
+    → R.log ≡ merged (length v.raise_trail + length w.drain_trail) (placed v.raise_positions v.raise_trail)
+    (placed w.drain_positions w.drain_trail)
 
 -- its events are those of the two trails
 abbrev pub SidesAreTheTrails : Type 0
@@ -73,35 +73,35 @@ SidesAreTheTrails = (log : List RingStep) → (firing_events (events_of log) ≡
     × (soft_events (events_of log) ≡ drain_events (drain_side log))
 
 -- where from one state to another each trail only grew, the log only grew: it gained these records, and each of them stands at a
--- place that is not below the log's length in the first state
+-- position that is not below the log's length in the first state
 abbrev pub RecordsComeAfter : Type 0
 RecordsComeAfter = (k : Setting) (s s' : RingState) (R : MeetsRule k s) (R' : MeetsRule k s') (i j i' j' : ℕ)
     (v w v' w' : SeatView)
     → AreSeats s i v j w
     → AreSeats s' i' v' j' w'
     → (raises : List RaiseStep) (drains : List DrainStep) (raise_at drain_at : List ℕ)
-    → (v'.raise_trail ≡ raises ++ v.raise_trail) × (v'.raise_places ≡ raise_at ++ v.raise_places)
-    → (w'.drain_trail ≡ drains ++ w.drain_trail) × (w'.drain_places ≡ drain_at ++ w.drain_places)
+    → (v'.raise_trail ≡ raises ++ v.raise_trail) × (v'.raise_positions ≡ raise_at ++ v.raise_positions)
+    → (w'.drain_trail ≡ drains ++ w.drain_trail) × (w'.drain_positions ≡ drain_at ++ w.drain_positions)
     → (later : List RingStep) × (R'.log ≡ later ++ R.log) × (raise_side later ≡ raises) × (drain_side later ≡ drains)
-    × All (λ place. length R.log ≤ place) raise_at × All (λ place. length R.log ≤ place) drain_at
+    × All (λ position. length R.log ≤ position) raise_at × All (λ position. length R.log ≤ position) drain_at
 
--- whatever a play says: where the rule holds before and after a seat's trail gains a record, its place is the number of steps so
+-- whatever a play says: where the rule holds before and after a seat's trail gains a record, its position is the number of steps so
 -- far, it is true of the words before, and the words after are as the step leaves them
 abbrev pub NewRaiseIsTrue : Type 0
-NewRaiseIsTrue = (k : Setting) (s s' : RingState) (R : MeetsRule k s) (R' : MeetsRule k s') (seat place : ℕ) (v : SeatView)
+NewRaiseIsTrue = (k : Setting) (s s' : RingState) (R : MeetsRule k s) (R' : MeetsRule k s') (seat position : ℕ) (v : SeatView)
     (x : RaiseStep)
     → get_elem? s.views seat ≡ some v
     → v.role ≡ Raise
-    → s'.views ≡ slice_set s.views seat (with_raise_step place x v)
-    → (place ≡ length R.log) × IsTrue k.start (of_raise x) R.log × (s'.words ≡ words_after k.start (of_raise x) R.log s.words)
+    → s'.views ≡ slice_set s.views seat (with_raise_step position x v)
+    → (position ≡ length R.log) × IsTrue k.start (of_raise x) R.log × (s'.words ≡ words_after k.start (of_raise x) R.log s.words)
 
 abbrev pub NewDrainIsTrue : Type 0
-NewDrainIsTrue = (k : Setting) (s s' : RingState) (R : MeetsRule k s) (R' : MeetsRule k s') (seat place : ℕ) (v : SeatView)
+NewDrainIsTrue = (k : Setting) (s s' : RingState) (R : MeetsRule k s) (R' : MeetsRule k s') (seat position : ℕ) (v : SeatView)
     (x : DrainStep)
     → get_elem? s.views seat ≡ some v
     → v.role ≡ Drain
-    → s'.views ≡ slice_set s.views seat (with_drain_step place x v)
-    → (place ≡ length R.log) × IsTrue k.start (of_drain x) R.log × (s'.words ≡ words_after k.start (of_drain x) R.log s.words)
+    → s'.views ≡ slice_set s.views seat (with_drain_step position x v)
+    → (position ≡ length R.log) × IsTrue k.start (of_drain x) R.log × (s'.words ≡ words_after k.start (of_drain x) R.log s.words)
 
 -- the pend word of an id: its outstanding calls, with the mark
 abbrev pub pend_of : SoftLevel → ℕ → ℕ

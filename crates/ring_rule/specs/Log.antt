@@ -1,4 +1,4 @@
--- The one order of all atomic steps of a ring: the log, the newest first. The place of a step is the number of steps before it.
+-- The one order of all atomic steps of a ring: the log, the newest first. The position of a step is the number of steps before it.
 use Rattle.std.specs.Prelude.{◌≡◌, ℕ, ◌+◌, ◌-◌, ◌%◌, ◌^◌, Option, Some, None, List, [], ◌∷◌, ◌++◌, map, length, slice_index}
 use Rattle.std.specs.Prelude.{slice_set, ⊤}
 use Rattle.std.specs.List.{range_with_len}
@@ -11,7 +11,7 @@ use Rattle.ring_rule.specs.declared.RaiseStep.TheVariants.{Admitted, Loaded, Los
 use Rattle.ring_rule.specs.declared.RaiseStep.TheVariants.{Switched, LoadedSoftBank}
 use Rattle.ring_rule.specs.declared.DrainStep.{DrainStep}
 use Rattle.ring_rule.specs.declared.DrainStep.TheVariants.{LoadedHardBank, LoadedProducer, Took, Subtracted, Followed}
-use Rattle.ring_rule.specs.Words.{pend_word, mark_bit, place, producer_word, hard_word, soft_word, word_count, first_word}
+use Rattle.ring_rule.specs.Words.{pend_word, mark_bit, slot_word, producer_word, hard_word, soft_word, word_count, first_word}
 use Rattle.ring_rule.specs.Words.{entry_index}
 use Rattle.ring_rule.specs.Trail.{open_stay, hard_bank_of, producer_index, held_entry, soft_bank_of, consumer_index, raise_event}
 use Rattle.ring_rule.specs.Trail.{drain_event}
@@ -21,26 +21,26 @@ pub data RingStep : Type 0 where
   of_raise : RaiseStep → RingStep
   of_drain : DrainStep → RingStep
 
--- the trail of each side, and beside it the place of each of its steps
+-- the trail of each side, and beside it the position of each of its steps
 abbrev pub raise_side : List RingStep → List RaiseStep
 raise_side [] = []
 raise_side (of_raise x ∷ log) = x ∷ raise_side log
 raise_side (of_drain x ∷ log) = raise_side log
 
-abbrev pub raise_places : List RingStep → List ℕ
-raise_places [] = []
-raise_places (of_raise x ∷ log) = length log ∷ raise_places log
-raise_places (of_drain x ∷ log) = raise_places log
+abbrev pub raise_positions : List RingStep → List ℕ
+raise_positions [] = []
+raise_positions (of_raise x ∷ log) = length log ∷ raise_positions log
+raise_positions (of_drain x ∷ log) = raise_positions log
 
 abbrev pub drain_side : List RingStep → List DrainStep
 drain_side [] = []
 drain_side (of_raise x ∷ log) = drain_side log
 drain_side (of_drain x ∷ log) = x ∷ drain_side log
 
-abbrev pub drain_places : List RingStep → List ℕ
-drain_places [] = []
-drain_places (of_raise x ∷ log) = drain_places log
-drain_places (of_drain x ∷ log) = length log ∷ drain_places log
+abbrev pub drain_positions : List RingStep → List ℕ
+drain_positions [] = []
+drain_positions (of_raise x ∷ log) = drain_positions log
+drain_positions (of_drain x ∷ log) = length log ∷ drain_positions log
 
 -- the events of the level that the steps are
 abbrev pub step_event : RingStep → List Event
@@ -115,7 +115,7 @@ module _ (start : ℕ) where
   raise_word (Loaded id found) t = stay_word (open_stay id t)
   raise_word (Lost id found) t = stay_word (open_stay id t)
   raise_word (Added id found) t = stay_word (open_stay id t)
-  raise_word (Stored e) t = place (hard_bank_of t) (producer_index start t)
+  raise_word (Stored e) t = slot_word (hard_bank_of t) (producer_index start t)
   raise_word (Published next) t = producer_word (hard_bank_of t)
   raise_word (Marked id found) t = stay_word (open_stay id t)
   raise_word (Cleared id) t = stay_word (open_stay id t)
@@ -125,7 +125,7 @@ module _ (start : ℕ) where
   abbrev pub drain_word : DrainStep → List DrainStep → ℕ
   drain_word (LoadedHardBank found) t = hard_word
   drain_word (LoadedProducer found) t = producer_word (soft_bank_of t)
-  drain_word (Took e) t = place (soft_bank_of t) (consumer_index start t)
+  drain_word (Took e) t = slot_word (soft_bank_of t) (consumer_index start t)
   drain_word (Subtracted found) t = held_word (held_entry t)
   drain_word (Followed bank) t = soft_word
 
@@ -154,12 +154,12 @@ module _ (start : ℕ) where
   AllTrue [] = ⊤
   AllTrue (x ∷ log) = IsTrue x log × AllTrue log
 
-  -- the step stands at this place of the log, and is true there
+  -- the step stands at this position of the log, and is true there
   abbrev pub StandsAt : List RingStep → ℕ → RingStep → Type 0
-  StandsAt log place x = (later earlier : List RingStep) × (log ≡ later ++ x ∷ earlier) × (length earlier ≡ place)
+  StandsAt log slot_word x = (later earlier : List RingStep) × (log ≡ later ++ x ∷ earlier) × (length earlier ≡ slot_word)
       × IsTrue x earlier
 
--- the place of a side's newest step
+-- the position of a side's newest step
 abbrev pub newest : List ℕ → ℕ
 newest [] = 0
-newest (place ∷ places) = place
+newest (slot_word ∷ positions) = slot_word

@@ -9,7 +9,7 @@ use Rattle.ring_rule.specs.declared.Role.TheVariants.{Joint, Raise, Drain, Spent
 use Rattle.ring_rule.specs.declared.SeatView.{SeatView}
 use Rattle.ring_rule.specs.declared.Setting.{Setting}
 use Rattle.ring_rule.specs.Words.{mark_bit, index_range}
-use Rattle.ring_rule.specs.Log.{RingStep, raise_side, raise_places, drain_side, drain_places, events_of, level_after, replay}
+use Rattle.ring_rule.specs.Log.{RingStep, raise_side, raise_positions, drain_side, drain_positions, events_of, level_after, replay}
 use Rattle.ring_rule.specs.Log.{AllTrue}
 use Rattle.ring_rule.specs.Shown.{TrailsShow, StillHolds}
 
@@ -19,7 +19,7 @@ RingState = State (Unit {0}) SeatView
 
 -- the view of the one seat of a ring that is opened
 abbrev pub opening_view : SeatView
-opening_view = record { role = Joint; raise_trail = []; raise_places = []; drain_trail = []; drain_places = [] }
+opening_view = record { role = Joint; raise_trail = []; raise_positions = []; drain_trail = []; drain_positions = [] }
 
 -- a split gives each side its seat
 abbrev pub raise_view : SeatView → SeatView
@@ -33,21 +33,21 @@ abbrev pub joint_view : SeatView → SeatView → SeatView
 joint_view v w = record {
   role = Joint;
   raise_trail = v.raise_trail;
-  raise_places = v.raise_places;
+  raise_positions = v.raise_positions;
   drain_trail = w.drain_trail;
-  drain_places = w.drain_places;
+  drain_positions = w.drain_positions;
 }
 
 abbrev pub spent_view : SeatView
-spent_view = record { role = Spent; raise_trail = []; raise_places = []; drain_trail = []; drain_places = [] }
+spent_view = record { role = Spent; raise_trail = []; raise_positions = []; drain_trail = []; drain_positions = [] }
 
 module _ (log : List RingStep) where
-  -- the view has the log's steps of a side, each with its place
+  -- the view has the log's steps of a side, each with its position
   abbrev pub HasRaises : SeatView → Type 0
-  HasRaises v = (v.raise_trail ≡ raise_side log) × (v.raise_places ≡ raise_places log)
+  HasRaises v = (v.raise_trail ≡ raise_side log) × (v.raise_positions ≡ raise_positions log)
 
   abbrev pub HasDrains : SeatView → Type 0
-  HasDrains v = (v.drain_trail ≡ drain_side log) × (v.drain_places ≡ drain_places log)
+  HasDrains v = (v.drain_trail ≡ drain_side log) × (v.drain_positions ≡ drain_positions log)
 
   -- a seat's view has the trail of its side
   abbrev pub HasItsTrail : SeatView → Role → Type 0
@@ -90,7 +90,7 @@ abbrev pub AllShown : Setting → List RingStep → Type 0
 AllShown k [] = IsShown k []
 AllShown k (x ∷ log) = IsShown k (x ∷ log) × AllShown k log
 
--- there is one order of all steps that were made. The words are what it leaves, each record of it is true at its place, each side
+-- there is one order of all steps that were made. The words are what it leaves, each record of it is true at its position, each side
 -- has a seat, and each seat has the records of its side. Its events are an enabled run, and after each step the words and both
 -- trails show the level that the run has reached
 pub record MeetsRule (k : Setting) (s : RingState) : Type 0 where

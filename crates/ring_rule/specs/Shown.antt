@@ -6,7 +6,7 @@ use Rattle.cyc_level.specs.Level.{AdmittedCyclic, Cyclics, SoftLevel, count, sof
 use Rattle.cyc_level.specs.Runs.{StayCounts}
 use Rattle.ring_rule.specs.declared.RaiseStep.{RaiseStep}
 use Rattle.ring_rule.specs.declared.DrainStep.{DrainStep}
-use Rattle.ring_rule.specs.Words.{pend_word, mark_bit, index_range, place, producer_word, hard_word, soft_word, entry, entry_id}
+use Rattle.ring_rule.specs.Words.{pend_word, mark_bit, index_range, slot_word, producer_word, hard_word, soft_word, entry, entry_id}
 use Rattle.ring_rule.specs.Words.{entry_index}
 use Rattle.ring_rule.specs.Trail.{open_stay, ended_calls, firer_hand_of, marked_of, seen_pend, hard_bank_of, producer_index}
 use Rattle.ring_rule.specs.Trail.{stored_entry, has_followed, held_entry, drainer_hand_of, made_calls, soft_bank_of}
@@ -23,7 +23,7 @@ IsSameStay made ended (Some s) None = ⊥
 module _ (words : List ℕ) (m : Cyclics) where
   -- the buffer word of this index of a bank is the entry of the id, which is admitted
   abbrev pub HoldsEntry : ℕ → ℕ → ℕ → Type 0
-  HoldsEntry bank i id = (c : AdmittedCyclic) × (m id ≡ Some c) × (slice_index words (place bank i) ≡ entry id c.index)
+  HoldsEntry bank i id = (c : AdmittedCyclic) × (m id ≡ Some c) × (slice_index words (slot_word bank i) ≡ entry id c.index)
 
   -- from the index i on up to its producer word the bank holds the entries of these ids
   abbrev pub BankHolds : ℕ → ℕ → List ℕ → Type 0

@@ -22,20 +22,20 @@ use Rattle.ring_rule.specs.Conservation.{StandsFor}
 abbrev pub ThisSeat : Type 0
 ThisSeat = Me (Unit {0}) SeatView
 
--- a view whose trail has one step more, at this place
+-- a view whose trail has one step more, at this position
 abbrev pub with_raise_step : ℕ → RaiseStep → SeatView → SeatView
-with_raise_step place x v = record v { raise_trail = x ∷ v.raise_trail; raise_places = place ∷ v.raise_places }
+with_raise_step position x v = record v { raise_trail = x ∷ v.raise_trail; raise_positions = position ∷ v.raise_positions }
 
 abbrev pub with_drain_step : ℕ → DrainStep → SeatView → SeatView
-with_drain_step place x v = record v { drain_trail = x ∷ v.drain_trail; drain_places = place ∷ v.drain_places }
+with_drain_step position x v = record v { drain_trail = x ∷ v.drain_trail; drain_positions = position ∷ v.drain_positions }
 
--- the seat's trail gains this step, at some place, and nothing else changes. The rule leaves no choice of the place: it is the
+-- the seat's trail gains this step, at some position, and nothing else changes. The rule leaves no choice of the position: it is the
 -- next one in the order of all steps
 abbrev pub GainsRaiseStep : RaiseStep → ThisSeat → ThisSeat → Type 0
-GainsRaiseStep x me me' = (place : ℕ) × (me' ≡ (with_raise_step place x me.0, me.1))
+GainsRaiseStep x me me' = (position : ℕ) × (me' ≡ (with_raise_step position x me.0, me.1))
 
 abbrev pub GainsDrainStep : DrainStep → ThisSeat → ThisSeat → Type 0
-GainsDrainStep x me me' = (place : ℕ) × (me' ≡ (with_drain_step place x me.0, me.1))
+GainsDrainStep x me me' = (position : ℕ) × (me' ≡ (with_drain_step position x me.0, me.1))
 
 -- what a step tells: a fact of the step, the seat before, the value found and the seat after
 abbrev pub Telling : Type 1
@@ -105,7 +105,7 @@ TellsSubtract t me found me' = (0 < found % mark_bit) × GainsDrainStep (Subtrac
 abbrev pub TellsFollow : Telling
 TellsFollow t me found me' = GainsDrainStep (Followed t.first) me me'
 
--- and each step tells, beside this, that a lawful level stands at its place
+-- and each step tells, beside this, that a lawful level stands at its position
 abbrev pub AndStands : Setting → Telling → Telling
 AndStands k tells t me found me' = tells t me found me' × StandsFor k me'.0
 
@@ -124,7 +124,7 @@ ExtendsByRaise k s R s' x = (R' : MeetsRule k s') × (R'.log ≡ of_raise x ∷ 
 abbrev pub ExtendsByDrain : (k : Setting) (s : RingState) → MeetsRule k s → RingState → DrainStep → Type 0
 ExtendsByDrain k s R s' x = (R' : MeetsRule k s') × (R'.log ≡ of_drain x ∷ R.log)
 
--- whatever the other side did, the step extends the log so, and its record has the next place
+-- whatever the other side did, the step extends the log so, and its record has the next position
 abbrev pub IsRaiseStep : Claim
 IsRaiseStep k slots seat me i f tells = (s : RingState) (R : MeetsRule k s) → length s.homes ≡ slots
     → get_elem? s.views seat ≡ some me.0

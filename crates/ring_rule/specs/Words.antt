@@ -23,8 +23,8 @@ index_range = 2 ^ 32
 
 -- the buffer word of an index of a bank, which is taken modulo the bank's size (cypc_sizemask). The banks stand one
 -- after another, the smallest first
-abbrev pub place : ℕ → ℕ → ℕ
-place bank i = cyclics - 1 + bank_size bank + spread (bank_size bank) i
+abbrev pub slot_word : ℕ → ℕ → ℕ
+slot_word bank i = cyclics - 1 + bank_size bank + spread (bank_size bank) i
 
 -- the next index that the firing side fills in a bank (cypc_prodndx)
 abbrev pub producer_word : ℕ → ℕ

@@ -60,14 +60,14 @@ pub enum DrainStep {
     Followed(u64),
 }
 
-/// What a seat knows: the steps of its side, the newest first, and the place of each in the one order of all steps of both
+/// What a seat knows: the steps of its side, the newest first, and the position of each in the one order of all steps of both
 /// sides. It exists in proofs alone, and no value of it is made.
 pub struct SeatView {
     pub role: Role,
     pub raise_trail: LinkedList<RaiseStep>,
-    pub raise_places: LinkedList<u64>,
+    pub raise_positions: LinkedList<u64>,
     pub drain_trail: LinkedList<DrainStep>,
-    pub drain_places: LinkedList<u64>,
+    pub drain_positions: LinkedList<u64>,
 }
 
 /// What is fixed when a ring is opened.
@@ -112,18 +112,18 @@ pub fn join_is_allowed()
     ensures { JoinIsAllowed }
 {}
 
-/// A ring that is closed gives the order of all steps, whose sides are the two trails, and the level that stood at each place.
+/// A ring that is closed gives the order of all steps, whose sides are the two trails, and the level that stood at each position.
 pub fn closing_stands()
     ensures { ClosingStands }
 {}
 
-/// Where the rule holds, each record of a seat stands at its place in the one order of all steps, and is true there: what it
+/// Where the rule holds, each record of a seat stands at its position in the one order of all steps, and is true there: what it
 /// is recorded to have found is what its word held just before it.
 pub fn each_record_is_true()
     ensures { EachRecordIsTrue }
 {}
 
-/// The order is read off the two seats' trails by the places alone. So it is the one order, and not some order.
+/// The order is read off the two seats' trails by the positions alone. So it is the one order, and not some order.
 pub fn trails_make_the_log()
     ensures { TrailsMakeTheLog }
 {}
@@ -139,7 +139,7 @@ pub fn records_come_after()
     ensures { RecordsComeAfter }
 {}
 
-/// Whatever its play says, a record that a raise seat gains has the next place and is true of the words before it.
+/// Whatever its play says, a record that a raise seat gains has the next position and is true of the words before it.
 pub fn new_raise_is_true()
     ensures { NewRaiseIsTrue }
 {}
@@ -162,7 +162,7 @@ pub fn no_call_follows_removal()
     ensures { NoCallFollowsRemoval }
 {}
 
-/// No two uses of a ring share a word: each index has a pend word of its own, each place of each bank a buffer word of its own,
+/// No two uses of a ring share a word: each index has a pend word of its own, each slot of each bank a buffer word of its own,
 /// and no word of these is left over.
 pub fn words_are_apart()
     ensures { WordsAreApart }

@@ -7,7 +7,7 @@ use lib.Pow.{pow-add}
 use lib.Bits.{bit_and}
 use Rattle.std.proofs.lemmas.Nat.{and_mask, mul-mod_first}
 use Rattle.cyc_types.specs.Limits.{greatest_bank, cyclics}
-use Rattle.ring_rule.specs.Words.{place, word_count}
+use Rattle.ring_rule.specs.Words.{slot_word, word_count}
 
 same_mod : (bank i : ℕ) → bank ≤ greatest_bank → i % 2 ^ 32 % 2 ^ bank ≡ i % 2 ^ bank
 same_mod bank i most = let e : bank + (32 - bank) ≡ 32 = omega arith in mod-mod_of_dvd (2 ^ bank) i
@@ -15,7 +15,7 @@ same_mod bank i most = let e : bank + (32 - bank) ≡ 32 = omega arith in mod-mo
     (dvd-mul_right (2 ^ bank) (2 ^ (32 - bank))))
 
 pub place_masked : (bank mask next i : ℕ) → bank ≤ greatest_bank → mask + 1 ≡ 2 ^ bank → next ≡ i % 2 ^ 32
-    → cyclics + mask + bit_and (next * 9) mask ≡ place bank i
+    → cyclics + mask + bit_and (next * 9) mask ≡ slot_word bank i
 place_masked bank mask next i most size at = let m : mask ≡ 2 ^ bank - 1 = omega (arith, size) in
     let low : bit_and (next * 9) mask ≡ i * 9 % 2 ^ bank = ap (bit_and (next * 9)) m ∙ (and_mask (next * 9) bank
     ∙ (ap (λ (n : ℕ). n * 9 % 2 ^ bank) at ∙ (sym (mul-mod_first (i % 2 ^ 32) 9 (2 ^ bank))

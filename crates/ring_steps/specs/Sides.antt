@@ -17,7 +17,7 @@ TableSeat = Seat (Unit {0}) SeatView
 abbrev pub IsSeatOf : Setting → Words → TableSeat → Type 0
 IsSeatOf k words seat = (seat.table_id ≡ words.table.shared.table_id) × (k ≡ words.setting)
 
--- the seat's trail gains this step of the firing side, and a lawful level stands at its place
+-- the seat's trail gains this step of the firing side, and a lawful level stands at its position
 abbrev pub MakesRaiseStep : Setting → RaiseStep → TableSeat → TableSeat → Type 0
 MakesRaiseStep k x s s' = (s'.table_id ≡ s.table_id) × GainsRaiseStep x s.me s'.me × StandsFor k s'.me.0
 

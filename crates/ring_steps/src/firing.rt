@@ -12,7 +12,7 @@ ghost use Rattle.ring_rule.specs.Trail.{open_stay, seen_pend, firer_hand_of, mar
 ghost use Rattle.ring_rule.specs.Trail.{stored_entry, has_followed};
 ghost use Rattle.ring_steps.specs.Sides.{IsSeatOf, MakesRaiseStep};
 
-use crate::places::{HARD, MARK, PRODUCERS, SOFT, buffer_at, pend_at};
+use crate::positions::{HARD, MARK, PRODUCERS, SOFT, buffer_at, pend_at};
 use crate::plays::{
     AddPlay, AdmitPlay, ClearPlay, LoadPlay, LoadSoftBankPlay, LoadToRaisePlay, MarkPlay, PublishPlay, Served, StorePlay, SwitchPlay,
 };

@@ -3,7 +3,7 @@
 ghost use Rattle.std.specs.Prelude.{◌≡◌, ℕ, ◌<◌, ◌^◌, IfOk, length, slice_index};
 ghost use Rattle.ring_rule.specs.Words.{word_count, first_word};
 
-use crate::places::{HARD, INDEXES, PRODUCERS, WORDS, pend_at};
+use crate::positions::{HARD, INDEXES, PRODUCERS, WORDS, pend_at};
 use crate::plays::{Parts, Whole};
 use crate::sides::{BothSides, FiringSide, SoftSide};
 use atomic_table::Table;

@@ -1,7 +1,7 @@
 use Rattle.std.proofs.Common.{◌<◌, ◌++◌, ◌∷◌, [], Ok, Err, length, refl, sym, ap, ◌∙◌, subst, arith, get_or}
 use Rattle.std.proofs.lemmas.Result.{err_from_is_err_and}
 use Rattle.cyc_places.specs.declared.record.Record.{Record}
-use Rattle.cyc_places.specs.declared.record.Place.TheVariants.{Everywhere}
+use Rattle.cyc_places.specs.declared.record.Placement.TheVariants.{Everywhere}
 use Rattle.cyc_places.specs.Places.{new_record}
 use Rattle.cyc_agreement.proofs.Who.{has_same}
 use Rattle.cyc_agreement.proofs.Entering.{not_given, none_here, below_next}

@@ -3,7 +3,7 @@ use Rattle.std.proofs.Math.ListN.{set}
 use Rattle.std.proofs.lemmas.Bool.{OnTrue_at, OnFalse_at}
 use Rattle.cyc_expirations.specs.Expirations.{is_before}
 use Rattle.cyc_heap.specs.declared.entry.Entry.{Entry}
-use Rattle.cyc_heap.specs.Array.{key, key_at, IsChild, IsOrdered, index_of, places, slots}
+use Rattle.cyc_heap.specs.Array.{key, key_at, IsChild, IsOrdered, index_of, index_positions, slots}
 use Rattle.cyc_expirations.proofs.Order.{before_trans}
 use Rattle.cyc_heap.proofs.Orders.{child_low, parent, one_parent}
 use Rattle.cyc_heap.proofs.Places.{places_are, placed}
@@ -16,8 +16,8 @@ use Rattle.cyc_heap.proofs.sift.sift.Goals.{then-up-test+then-not-expires_before
 
 pub up-init : goal.up-init
 up-init c = let r = c.requires in (
-  places c.args.entries.now,
-  hollow_first c.args.len c.args.entry c.args.entries.now (places c.args.entries.now) c.args.hole r.len r.hole r.index r.linked
+  index_positions c.args.entries.now,
+  hollow_first c.args.len c.args.entry c.args.entries.now (index_positions c.args.entries.now) c.args.hole r.len r.hole r.index r.linked
       r.order r.bridged,
 )
 
@@ -30,7 +30,7 @@ up-preserved c =
     let l = child_low m c.up.hole child in
     let low = h.low in
     let (hollow, above) = hollow_up c.args.len c.args.entry c.args.entries.now
-    (places c.args.entries.now) c.up.hole c.up.entries positions c.requires.len h m x
+    (index_positions c.args.entries.now) c.up.hole c.up.entries positions c.requires.len h m x
     (omega (arith, l, low)) (λ q. absurd (omega (arith, q, l))) c.index-entries-parent.is child
     (OnTrue_at c.if-not-expires_before.false c.expires_before.ensures.before) in
     (set positions (index_of x) c.up.hole, hollow)
@@ -50,7 +50,7 @@ down-init c =
             let l = child_low m c.up.hole child in
             let low = h.low in
             let at = at_m c.args.len c.args.entry c.args.entries.now
-            (places c.args.entries.now) c.up.hole c.up.entries positions c.requires.len h m w.index-entries-parent.result
+            (index_positions c.args.entries.now) c.up.hole c.up.entries positions c.requires.len h m w.index-entries-parent.result
             (omega (arith, l, low)) (λ q. absurd (omega (arith, q, l))) w.index-entries-parent.is in
             let after = OnFalse_at w.if-not-expires_before.true w.expires_before.ensures.after in
             subst (λ p. is_before (key_at c.up.entries p) (key c.args.entry) ≡ true) (one_parent m a c.up.hole child is)
@@ -68,7 +68,7 @@ down-preserved c =
     let child : IsChild c.down.hole m = c.least_child-child.ensures.child in
     let l = child_low c.down.hole m child in
     let lower = hollow_down c.args.len c.args.entry c.args.entries.now
-    (places c.args.entries.now) c.down.hole c.down.entries positions c.requires.len h m x
+    (index_positions c.args.entries.now) c.down.hole c.down.entries positions c.requires.len h m x
     c.least_child-child.ensures.below (λ q. absurd (omega (arith, q, l))) c.index-entries-child.is child
     (least_of_both c.down.hole c.args.len m (key_at c.down.entries) c.least_child-child.ensures.left
     c.least_child-child.ensures.right) in
@@ -92,13 +92,13 @@ returns-clause-linked c =
     let (positions, h) = hollow in
     placed (set c.down.entries c.down.hole c.args.entry) (set positions (index_of c.args.entry) c.down.hole)
     (hollow_linked c.args.len c.args.entry c.args.entries.now
-    (places c.args.entries.now) c.down.hole c.down.entries positions c.requires.len h)
+    (index_positions c.args.entries.now) c.down.hole c.down.entries positions c.requires.len h)
 
 pub returns-clause-order : goal.returns-clause-order
 returns-clause-order c =
     let (below, hollow) = c.down.invariant in
     let (positions, h) = hollow in
-    hollow_order c.args.len c.args.entry c.args.entries.now (places c.args.entries.now) c.down.hole c.down.entries positions
+    hollow_order c.args.len c.args.entry c.args.entries.now (index_positions c.args.entries.now) c.down.hole c.down.entries positions
     c.requires.len h
     (λ k is low. elim c.down-test.branch [
       | else-down-test w ↦ above_leaf c.args.len c.args.entry c.down.hole c.down.entries w.down-test.false k is low
@@ -107,7 +107,7 @@ returns-clause-order c =
           let child : IsChild c.down.hole m = w.least_child-child.ensures.child in
           let l = child_low c.down.hole m child in
           let at = at_m c.args.len c.args.entry c.args.entries.now
-          (places c.args.entries.now) c.down.hole c.down.entries positions c.requires.len h m w.index-entries-child.result
+          (index_positions c.args.entries.now) c.down.hole c.down.entries positions c.requires.len h m w.index-entries-child.result
           w.least_child-child.ensures.below (λ q. absurd (omega (arith, q, l))) w.index-entries-child.is in
           let after = OnFalse_at w.if-not-expires_before-2.true w.expires_before-in-down.ensures.after in
           before_trans (key c.args.entry) (key_at c.down.entries m) (key_at c.down.entries k)
@@ -122,8 +122,8 @@ returns-clause-slots c =
     let (below, hollow) = c.down.invariant in
     let (positions, h) = hollow in
     let linked = hollow_linked c.args.len c.args.entry c.args.entries.now
-    (places c.args.entries.now) c.down.hole c.down.entries positions c.requires.len h in
+    (index_positions c.args.entries.now) c.down.hole c.down.entries positions c.requires.len h in
     ap (slots c.args.len (set c.down.entries c.down.hole c.args.entry))
     (places_are (set c.down.entries c.down.hole c.args.entry) (set positions (index_of c.args.entry) c.down.hole) linked)
     ∙ hollow_slots c.args.len c.args.entry c.args.entries.now
-    (places c.args.entries.now) c.down.hole c.down.entries positions c.requires.len h
+    (index_positions c.args.entries.now) c.down.hole c.down.entries positions c.requires.len h

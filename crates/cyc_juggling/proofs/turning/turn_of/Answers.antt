@@ -1,5 +1,5 @@
 use Rattle.std.proofs.Common.{refl, ap, ◌∙◌}
-use Rattle.cyc_places.specs.declared.record.Place.TheVariants.{On}
+use Rattle.cyc_places.specs.declared.record.Placement.TheVariants.{On}
 use Rattle.cyc_agreement.specs.System.{is_everywhere}
 use Rattle.cyc_agreement.proofs.Recording.{record_read}
 use Rattle.cyc_juggling.specs.Juggling.{system_of}

@@ -10,7 +10,7 @@ use Rattle.cyc_finder.proofs.finder.Finder.find.Goals as goal
 pub returns-then-index-number-clause-below : goal.returns-then-index-number-clause-below
 returns-then-index-number-clause-below c =
     let f = c.self.invariant in
-    let ids = f.id_hints in let places = f.index_hints in let hint = c.hint_of-hint.ensures.1 in
+    let ids = f.id_hints in let positions = f.index_hints in let hint = c.hint_of-hint.ensures.1 in
     let h : ℕ = c.hint_of-hint.result in
     let hs = c.self.inside.hint_ids.items in
     let is = c.self.inside.hint_indexes.items in
@@ -19,15 +19,15 @@ returns-then-index-number-clause-below c =
     get_or_default hs h 0 c.index.result.now (omega (arith, ids, hint)) ∙ (sym c.index.ensures ∙ c.if-index-number.true) in
     let o = f.hinted h (λ z. omega (arith, z, here, some)) in
     let low = index_low cyclics c.self.inside.entries.items f.distinct (get_or hs h 0) (get_or is h 0) o.1 in
-    let same = get_or_default is h 0 c.index-then-index-number.result.now (omega (arith, places, hint))
+    let same = get_or_default is h 0 c.index-then-index-number.result.now (omega (arith, positions, hint))
     ∙ sym c.index-then-index-number.ensures in
     omega (arith, low, same)
 
 pub returns-in-Ok-clause-value : goal.returns-in-Ok-clause-value
 returns-in-Ok-clause-value c =
     let xs = c.self.inside.entries.items in
-    let at = subst (λ ys. IsAt id_in ys c.args.id c.in-Ok.place) c.deref.ensures.value c.in-Ok.ensures.found in
-    let read = index_read xs c.self.invariant.rises c.args.id c.in-Ok.place at c.index-in-Ok.result.now c.index-in-Ok.ensures in
+    let at = subst (λ ys. IsAt id_in ys c.args.id c.in-Ok.position) c.deref.ensures.value c.in-Ok.ensures.found in
+    let read = index_read xs c.self.invariant.rises c.args.id c.in-Ok.position at c.index-in-Ok.result.now c.index-in-Ok.ensures in
     ap Some (c.from.ensures ∙ c.number-in-Ok.ensures.value) ∙ sym read ∙ ap (index_of c.args.id) c.self.view_is
 
 pub returns-in-Err-clause-value : goal.returns-in-Err-clause-value

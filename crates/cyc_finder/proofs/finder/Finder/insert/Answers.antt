@@ -45,37 +45,37 @@ invariant_of-self c =
     let hs = c.self.inside.hint_ids.items in
     let is = c.self.inside.hint_indexes.items in
     let h : ℕ = c.hint_of-hint.result in
-    let place : ℕ = c.in-Err.place in
+    let position : ℕ = c.in-Err.position in
     let entry : Entry = record { id = c.args.id; index = c.args.index } in
-    let gap = subst (λ ys. IsGap id_in ys c.args.id place) c.deref.ensures.value c.in-Err.ensures.absent in
+    let gap = subst (λ ys. IsGap id_in ys c.args.id position) c.deref.ensures.value c.in-Err.ensures.absent in
     let items = rw (sym c.is_ok-fits.ensures.value ∙ c.if-prove.false) at c.insert-inserted.ensures.items in
     let small : c.args.index < cyclics = (let v = c.number.ensures in let a = v.value in let b = v.valid in
     omega (arith, a, b)) in
     let free = free_is xs c.args.index f.rises (λ (id, is). c.requires.free (id, ap (index_of id) (sym c.self.view_is) ∙ is)) in
     let long = length-map xs index_in in
-    let ids = f.id_hints in let places = f.index_hints in let low = c.hint_of-hint.ensures.1 in let in_range = gap.in_range in
+    let ids = f.id_hints in let positions = f.index_hints in let low = c.hint_of-hint.ensures.1 in let in_range = gap.in_range in
     let told : (j : ℕ) → index_of j c.insert-inserted.new.self.items
     ≡ cond (eqb j c.args.id) (Some c.args.index) (index_of j xs) =
-    λ j. ap (index_of j) items ∙ index_inserted xs c.args.id place c.args.index gap j in
+    λ j. ap (index_of j) items ∙ index_inserted xs c.args.id position c.args.index gap j in
     record {
-      rises = subst (Rises id_in) (sym items) (rises_inserted id_in xs c.args.id place gap f.rises entry refl);
-      distinct = subst (AreDistinct cyclics) (sym (ap (map index_in) items ∙ indexes_insert xs place entry))
-          (distinct_insert cyclics (map index_in xs) f.distinct place c.args.index (omega (arith, long, in_range)) small free);
+      rises = subst (Rises id_in) (sym items) (rises_inserted id_in xs c.args.id position gap f.rises entry refl);
+      distinct = subst (AreDistinct cyclics) (sym (ap (map index_in) items ∙ indexes_insert xs position entry))
+          (distinct_insert cyclics (map index_in xs) f.distinct position c.args.index (omega (arith, long, in_range)) small free);
       room = (let r = f.room in let kept = c.insert-inserted.ensures.capacity in omega (arith, r, kept));
       id_hints = (let l = length-set hs h c.number-2.result in omega (arith, l, ids));
-      index_hints = (let l = length-set is h c.from-at.result in omega (arith, l, places));
+      index_hints = (let l = length-set is h c.from-at.result in omega (arith, l, positions));
       hinted = subst (λ (index : ℕ). Hinted c.insert-inserted.new.self.items (set hs h c.number-2.result) (set is h index))
           (sym (c.from-at.ensures ∙ c.number.ensures.value))
           (subst (λ (id : ℕ). Hinted c.insert-inserted.new.self.items (set hs h id) (set is h c.args.index))
           (sym c.number-2.ensures.value)
           (hinted_inserted xs c.insert-inserted.new.self.items hs is f.hinted c.args.id c.args.index told h
           c.hint_of-hint.ensures.0
-          (omega (arith, low, ids)) (omega (arith, low, places)) (index_gap xs c.args.id place gap)));
+          (omega (arith, low, ids)) (omega (arith, low, positions)) (index_gap xs c.args.id position gap)));
     }
 
 pub returns : goal.returns
 returns c j =
-    let gap = subst (λ ys. IsGap id_in ys c.args.id c.in-Err.place) c.deref.ensures.value c.in-Err.ensures.absent in
+    let gap = subst (λ ys. IsGap id_in ys c.args.id c.in-Err.position) c.deref.ensures.value c.in-Err.ensures.absent in
     let items = rw (sym c.is_ok-fits.ensures.value ∙ c.if-prove.false) at c.insert-inserted.ensures.items in
-    ap (index_of j) items ∙ index_inserted c.self.inside.entries.items c.args.id c.in-Err.place c.args.index gap j
+    ap (index_of j) items ∙ index_inserted c.self.inside.entries.items c.args.id c.in-Err.position c.args.index gap j
     ∙ ap (λ ys. cond (eqb j c.args.id) (Some c.args.index) (index_of j ys)) c.self.view_is

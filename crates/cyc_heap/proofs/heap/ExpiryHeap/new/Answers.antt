@@ -2,13 +2,13 @@ use Rattle.std.proofs.Common.{◌≡◌, ◌++◌, ◌-◌, ℕ, List, [], repli
 use Rattle.std.proofs.Common.{arith}
 use Rattle.cyc_expirations.specs.Expirations.{Expiration}
 use Rattle.cyc_heap.specs.declared.entry.Entry.{Entry}
-use Rattle.cyc_heap.specs.Array.{IsLinked, places, slots}
+use Rattle.cyc_heap.specs.Array.{IsLinked, index_positions, slots}
 use Rattle.cyc_heap.specs.Heap.{HeapView, new_heap}
 use Rattle.cyc_heap.proofs.Places.{placed}
 use Rattle.cyc_heap.proofs.heap.ExpiryHeap.new.Goals as goal
 
 -- an array of no entries is linked
-none_linked : (entries : List Entry) → entries ≡ [] → IsLinked entries (places entries)
+none_linked : (entries : List Entry) → entries ≡ [] → IsLinked entries (index_positions entries)
 none_linked entries none = placed entries [] (record {
   same = sym (ap length none);
   up = λ p low. let l = ap length none in absurd (omega (arith, low, l));
@@ -16,9 +16,9 @@ none_linked entries none = placed entries [] (record {
 })
 
 first_slots : (entries : List Entry) → entries ≡ []
-    → slots 0 entries (places entries) ++ replicate (1 - length entries) None ≡ new_heap.slots
-unfolding slots places
-first_slots entries e = ap (λ (es : List Entry). slots 0 es (places es) ++ replicate (1 - length es) None) e
+    → slots 0 entries (index_positions entries) ++ replicate (1 - length entries) None ≡ new_heap.slots
+unfolding slots index_positions
+first_slots entries e = ap (λ (es : List Entry). slots 0 es (index_positions es) ++ replicate (1 - length es) None) e
 
 pub add_free-requires-clause-linked : goal.add_free-requires-clause-linked
 add_free-requires-clause-linked c = none_linked c.in_ok-entries.entries.items c.in_ok-entries.ensures.items

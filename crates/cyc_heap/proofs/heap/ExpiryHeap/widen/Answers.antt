@@ -1,6 +1,6 @@
 use Rattle.std.proofs.Common.{◌≡◌, ◌≤◌, ◌-◌, ◌++◌, replicate, None, is_some, count_by, true, length, sym, ap, ◌∙◌, subst₂, arith}
 use Rattle.cyc_expirations.specs.Expirations.{is_before}
-use Rattle.cyc_heap.specs.Array.{key, slots, places}
+use Rattle.cyc_heap.specs.Array.{key, slots, index_positions}
 use Rattle.cyc_heap.specs.Heap.{HeapView, size_of}
 use Rattle.cyc_heap.proofs.Slots.{length-slots}
 use Rattle.cyc_heap.proofs.Orders.{child_low}
@@ -29,7 +29,7 @@ invariant_of-self c =
             subst₂ (λ x y. is_before (key x) (key y) ≡ true) (sym (f.kept a (omega (arith, l, low, within))))
             (sym (f.kept b (omega (arith, low, within)))) (h.order a b child low));
         count = ap (count_by is_some) (f.slots i.len within)
-            ∙ count_free (slots i.len i.entries.items (places i.entries.items)) (c.args.size - length i.entries.items) ∙ h.count;
+            ∙ count_free (slots i.len i.entries.items (index_positions i.entries.items)) (c.args.size - length i.entries.items) ∙ h.count;
       },
       omega (arith, cap, more),
       omega (arith, long, room, reserved),
@@ -39,12 +39,12 @@ pub returns-clause-slots : goal.returns-clause-slots
 returns-clause-slots c =
     let i = c.self.inside in
     let h = c.self.invariant.0 in
-    let l = length-slots i.len i.entries.items (places i.entries.items) in
+    let l = length-slots i.len i.entries.items (index_positions i.entries.items) in
     let same = h.linked.same in
     let m = ap size_of c.self.view_is in
     let size : length i.entries.items ≡ size_of c.args.self.now = omega (arith, l, same, m) in
     c.add_free.ensures.slots i.len h.within
-    ∙ ap (λ n. slots i.len i.entries.items (places i.entries.items) ++ replicate (c.args.size - n) None) size
+    ∙ ap (λ n. slots i.len i.entries.items (index_positions i.entries.items) ++ replicate (c.args.size - n) None) size
     ∙ ap (λ (v : HeapView). v.slots ++ replicate (c.args.size - size_of c.args.self.now) None) c.self.view_is
 
 pub returns-clause-root : goal.returns-clause-root

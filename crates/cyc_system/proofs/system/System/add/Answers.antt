@@ -3,7 +3,7 @@ use Rattle.std.proofs.lemmas.Result.{err_from_is_err_and}
 use Rattle.cyc_cpu_laws.specs.Cpu.{MayWiden}
 use Rattle.cyc_agreement.proofs.CpuSpots.{of_cpu}
 use Rattle.cyc_places.specs.declared.record.Record.{Record}
-use Rattle.cyc_places.specs.declared.record.Place.TheVariants.{On}
+use Rattle.cyc_places.specs.declared.record.Placement.TheVariants.{On}
 use Rattle.cyc_places.specs.Places.{new_record}
 use Rattle.cyc_agreement.specs.System.{SystemView}
 use Rattle.cyc_agreement.specs.Holding.{Holds}

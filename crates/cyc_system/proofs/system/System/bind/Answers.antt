@@ -6,7 +6,7 @@ use Rattle.cyc_agreement.specs.Refusals.{IsPresent, omnipresent, no_cpu, offline
 use Rattle.cyc_agreement.specs.Binding.{GoesTo}
 use Rattle.cyc_agreement.specs.Holding.{Holds}
 use Rattle.cyc_places.specs.Places.{with_place}
-use Rattle.cyc_places.specs.declared.record.Place.TheVariants.{On}
+use Rattle.cyc_places.specs.declared.record.Placement.TheVariants.{On}
 use Rattle.cyc_system.specs.Calls.{Changes, Bind}
 use Rattle.cyc_agreement.proofs.Spots.{seen, get_some}
 use Rattle.cyc_agreement.proofs.Who.{but_same, same_none}

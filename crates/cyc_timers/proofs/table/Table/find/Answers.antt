@@ -17,17 +17,17 @@ when_absent (Err k) P Q is to = to k is
 pub returns-clause-none : goal.returns-clause-none
 returns-clause-none c =
     let slots = c.self.inside.heap.slots in let records = c.self.inside.records.items in
-    let places = c.self.inside.places.items in
+    let entries = c.self.inside.entries.items in
     rw c.ok.ensures.value
     (when_absent c.search.result (IsGap id_in c.deref.result.now c.args.id) (HasNo c.args.id c.args.self.now.rows)
     c.search.ensures.absent
     (λ k gap. subst (λ (v : TableView). HasNo c.args.id v.rows) c.self.view_is
-    (no_row slots records places c.args.id k (subst (λ ys. IsGap id_in ys c.args.id k) c.deref.ensures.value gap))))
+    (no_row slots records entries c.args.id k (subst (λ ys. IsGap id_in ys c.args.id k) c.deref.ensures.value gap))))
 
 pub returns-clause-some : goal.returns-clause-some
 returns-clause-some c =
     let slots = c.self.inside.heap.slots in let records = c.self.inside.records.items in
-    let places = c.self.inside.places.items in
+    let entries = c.self.inside.entries.items in
     rw c.ok.ensures.value (when_found c.search.result (IsAt id_in c.deref.result.now c.args.id) _ c.search.ensures.found
     (λ k at. subst (λ (v : TableView). (r : Row) × IsRow v.rows k r × (r.timer.id ≡ c.args.id)) c.self.view_is
-    (row_here slots records places c.args.id k (subst (λ ys. IsAt id_in ys c.args.id k) c.deref.ensures.value at))))
+    (row_here slots records entries c.args.id k (subst (λ ys. IsAt id_in ys c.args.id k) c.deref.ensures.value at))))

@@ -1,33 +1,33 @@
 use Rattle.std.proofs.Common.{◌≡◌, refl, sym, ap, ◌∙◌, subst, arith, length, length-set, option_map, None, get_or, IsSome}
 use Rattle.std.proofs.Math.ListN.{set}
 use Rattle.cyc_heap.specs.Heap.{with_moment, at_moment as at_moment_of}
-use Rattle.cyc_timers.specs.declared.table.Place.{Place}
+use Rattle.cyc_timers.specs.declared.table.Entry.{Entry}
 use Rattle.cyc_timers.specs.Rows.{TableView, IsRow, at_moment}
 use Rattle.cyc_timers.proofs.Tables.{standing, standing_at, place_low, replaced, table_replaced}
 use Rattle.cyc_timers.proofs.table.Table.reprogram.Goals as goal
 
 pub replace-requires : goal.replace-requires
 replace-requires c =
-    let slots = c.self.inside.heap.slots in let records = c.self.inside.records.items in let places =
-    c.self.inside.places.items in
+    let slots = c.self.inside.heap.slots in let records = c.self.inside.records.items in let entries =
+    c.self.inside.entries.items in
     let t = c.self.invariant.0 in
-    let s = standing_at slots records places c.args.place t
-    (place_low c.args.self.now slots records places c.args.place
+    let s = standing_at slots records entries c.args.position t
+    (place_low c.args.self.now slots records entries c.args.position
     (ap (λ (v : TableView). v.rows) c.self.view_is) c.requires.here) in
-    subst IsSome (sym (ap (λ (p : Place). get_or slots p.index None) (c.index.ensures ∙ s.is c.index.result.now) ∙ s.holds)) refl
+    subst IsSome (sym (ap (λ (p : Entry). get_or slots p.index None) (c.index.ensures ∙ s.is c.index.result.now) ∙ s.holds)) refl
 
 pub invariant_of-self : goal.invariant_of-self
 invariant_of-self c =
-    let slots = c.self.inside.heap.slots in let records = c.self.inside.records.items in let places =
-    c.self.inside.places.items in
+    let slots = c.self.inside.heap.slots in let records = c.self.inside.records.items in let entries =
+    c.self.inside.entries.items in
     let t = c.self.invariant.0 in
-    let s = standing_at slots records places c.args.place t
-    (place_low c.args.self.now slots records places c.args.place
+    let s = standing_at slots records entries c.args.position t
+    (place_low c.args.self.now slots records entries c.args.position
     (ap (λ (v : TableView). v.rows) c.self.view_is) c.requires.here) in
     let at = c.index.ensures ∙ s.is c.index.result.now in
     let room = c.replace.ensures.room in let caps = c.self.invariant in (
-      table_replaced slots c.replace.new.self.slots records places c.args.place _ s c.args.moment t c.requires.moment
-          (c.replace.ensures.slots ∙ ap (λ (p : Place). with_moment slots p.index c.args.moment) at),
+      table_replaced slots c.replace.new.self.slots records entries c.args.position _ s c.args.moment t c.requires.moment
+          (c.replace.ensures.slots ∙ ap (λ (p : Entry). with_moment slots p.index c.args.moment) at),
       omega (arith, room, caps),
       omega (arith, room, caps),
       (let l = ap length c.replace.ensures.slots in let m =
@@ -38,12 +38,12 @@ invariant_of-self c =
 
 pub returns-clause-rows : goal.returns-clause-rows
 returns-clause-rows c r is =
-    let slots = c.self.inside.heap.slots in let records = c.self.inside.records.items in let places =
-    c.self.inside.places.items in
+    let slots = c.self.inside.heap.slots in let records = c.self.inside.records.items in let entries =
+    c.self.inside.entries.items in
     let t = c.self.invariant.0 in
-    let s = standing slots records places c.args.place r t
-    (subst (λ (v : TableView). IsRow v.rows c.args.place r) (sym c.self.view_is) is) in
+    let s = standing slots records entries c.args.position r t
+    (subst (λ (v : TableView). IsRow v.rows c.args.position r) (sym c.self.view_is) is) in
     let at : c.index.result.now ≡ s.p = c.index.ensures ∙ s.is c.index.result.now in
-    replaced slots c.replace.new.self.slots records places c.args.place r s c.args.moment t (c.replace.ensures.slots
-    ∙ ap (λ (p : Place). with_moment slots p.index c.args.moment) at)
-    ∙ ap (λ (v : TableView). set v.rows c.args.place (at_moment c.args.moment r)) c.self.view_is
+    replaced slots c.replace.new.self.slots records entries c.args.position r s c.args.moment t (c.replace.ensures.slots
+    ∙ ap (λ (p : Entry). with_moment slots p.index c.args.moment) at)
+    ∙ ap (λ (v : TableView). set v.rows c.args.position (at_moment c.args.moment r)) c.self.view_is

@@ -8,8 +8,8 @@ use Rattle.cyc_timers.proofs.table.Table.widen.Goals as goal
 
 pub invariant_of-self : goal.invariant_of-self
 invariant_of-self c =
-    let slots = c.self.inside.heap.slots in let records = c.self.inside.records.items in let places =
-    c.self.inside.places.items in
+    let slots = c.self.inside.heap.slots in let records = c.self.inside.records.items in let entries =
+    c.self.inside.entries.items in
     let t = c.self.invariant.0 in let caps = c.self.invariant in let long = t.long in
     let room = ap (λ (v : TableView). v.room) c.self.view_is in let enough = c.requires.reserved in
     let n = c.max-length.ensures in let l = c.len.ensures in
@@ -20,10 +20,10 @@ invariant_of-self c =
     let grown = c.resize.ensures.capacity in let same_room = c.widen.ensures.room in
     let s = ap length c.widen.ensures.slots in let a = length-append slots (replicate (c.args.size - length slots) None) in
     let b = length-replicate {A = Option Expiration} (c.args.size - length slots) None in (
-      subst (λ xs. IsTable c.widen.new.self.slots xs places) (sym recs)
-          (subst (λ ys. IsTable ys (records ++ replicate (c.args.size - length slots) c.vacant.result) places)
+      subst (λ xs. IsTable c.widen.new.self.slots xs entries) (sym recs)
+          (subst (λ ys. IsTable ys (records ++ replicate (c.args.size - length slots) c.vacant.result) entries)
           (sym c.widen.ensures.slots)
-          (wide_table slots records places t (c.args.size - length slots) c.vacant.result c.vacant.ensures)),
+          (wide_table slots records entries t (c.args.size - length slots) c.vacant.result c.vacant.ensures)),
       omega (arith, caps, grown, same_room),
       omega (arith, caps, same_room),
       omega (arith, caps, same_room, s, a, b, room, enough),
@@ -31,8 +31,8 @@ invariant_of-self c =
 
 pub returns : goal.returns
 returns c =
-    let slots = c.self.inside.heap.slots in let records = c.self.inside.records.items in let places =
-    c.self.inside.places.items in
+    let slots = c.self.inside.heap.slots in let records = c.self.inside.records.items in let entries =
+    c.self.inside.entries.items in
     let t = c.self.invariant.0 in let caps = c.self.invariant in let long = t.long in
     let room = ap (λ (v : TableView). v.room) c.self.view_is in let enough = c.requires.reserved in
     let n = c.max-length.ensures in let l = c.len.ensures in
@@ -45,9 +45,9 @@ returns c =
     let size = ap (λ (v : TableView). v.size) c.self.view_is in
     let sized : length c.widen.new.self.slots ≡ max c.args.self.now.size c.args.size = omega (arith, s, a, b, size) in
     λ j. record {
-      rows = (ap (λ xs. rows_of c.widen.new.self.slots xs places) recs
-          ∙ ap (λ ys. rows_of ys (records ++ replicate (c.args.size - length slots) c.vacant.result) places) c.widen.ensures.slots
-          ∙ wide_rows slots records places t (c.args.size - length slots) c.vacant.result c.vacant.ensures
+      rows = (ap (λ xs. rows_of c.widen.new.self.slots xs entries) recs
+          ∙ ap (λ ys. rows_of ys (records ++ replicate (c.args.size - length slots) c.vacant.result) entries) c.widen.ensures.slots
+          ∙ wide_rows slots records entries t (c.args.size - length slots) c.vacant.result c.vacant.ensures
           ∙ ap (λ (v : TableView). v.rows) c.self.view_is) j;
       root = (c.widen.ensures.root ∙ ap (λ (v : TableView). v.root) c.self.view_is) j;
       size = sized j;

@@ -2,7 +2,7 @@
 ghost use Rattle.std.specs.Prelude.{◌≡◌, ℕ, ◌+◌, ◌%◌, ◌^◌, ◌<◌, ◌≤◌};
 ghost use Rattle.cyc_types.specs.Limits.{greatest_bank, cyclics};
 ghost use Rattle.cyc_level.specs.Level.{bank_size};
-ghost use Rattle.ring_rule.specs.Words.{pend_word, place, index_range, word_count};
+ghost use Rattle.ring_rule.specs.Words.{pend_word, slot_word, index_range, word_count};
 
 use cyc_types::{CYCLICS, GREATEST_BANK};
 
@@ -23,13 +23,13 @@ pub(crate) fn pend_at(index: usize) -> usize
 // The buffer word of an index of a bank, by the bank's size less one and the index modulo 2^32.
 pub(crate) fn buffer_at(mask: u64, next: u32) -> usize
     requires { mask < cyclics }
-    ensures { (bank i : ℕ) → bank ≤ greatest_bank → mask + 1 ≡ bank_size bank → next ≡ i % index_range → (result ≡ place bank i)
+    ensures { (bank i : ℕ) → bank ≤ greatest_bank → mask + 1 ≡ bank_size bank → next ≡ i % index_range → (result ≡ slot_word bank i)
         × (result < word_count) }
 {
     (CYCLICS as u64 + mask + (next as u64 * APART & mask)) as usize
 }
 
-// The first producer word. The banks before it have one place less than twice the indexes.
+// The first producer word. The banks before it have one slot less than twice the indexes.
 pub(crate) const PRODUCERS: usize = INDEXES + 2 * INDEXES - 1;
 
 // The word of the hard bank, after a producer word for each bank.

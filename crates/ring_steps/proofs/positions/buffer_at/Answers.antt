@@ -1,5 +1,5 @@
 use Rattle.ring_steps.proofs.Masks.{place_masked, place_inside}
-use Rattle.ring_steps.proofs.places.buffer_at.Goals as goal
+use Rattle.ring_steps.proofs.positions.buffer_at.Goals as goal
 
 pub returns : goal.returns
 returns c = λ bank i most size at.
