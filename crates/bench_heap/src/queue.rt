@@ -36,7 +36,7 @@ fn armed(alloc: Global, timers: &[Timer]) -> Result<Wheel, Refusal> {
 }
 
 /// Makes every expiration up to `now`: a key that is due is armed anew, an interval later.
-fn turn(wheel: &mut Wheel, timers: &mut [Timer], now: u64) -> Result<(), Refusal> {
+fn round(wheel: &mut Wheel, timers: &mut [Timer], now: u64) -> Result<(), Refusal> {
     for _ in 0..u64::MAX {
         let Some(key) = wheel.poll(now) else {
             break;
@@ -61,7 +61,7 @@ fn run(alloc: Global, intervals: &[u64], step: u64, fires: u64) -> Result<u64, R
     let mut now = 0u64;
     for _ in 0..fires {
         now = now.wrapping_add(step);
-        turn(&mut wheel, &mut timers, now)?;
+        round(&mut wheel, &mut timers, now)?;
     }
     let mut folded: u64 = 0;
     for timer in &timers {

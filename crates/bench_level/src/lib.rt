@@ -74,15 +74,15 @@ fn finish_next(core: &mut LevelCore, ids: u16, most: u64) -> u64
 }
 
 /// So many hand-overs, the ids raised round. The answer is the number of calls that were the last of their cyclic.
-fn hand_overs(core: &mut LevelCore, ids: u16, turns: u64) -> u64
+fn hand_overs(core: &mut LevelCore, ids: u16, rounds: u64) -> u64
     requires some { 0 < ids }
     requires ready { IsReady ids 0 (firing_view (level_of core.old)) }
 {
     let mut number = 1;
     let mut last: u64 = 0;
-    for turn in 0..turns {
+    for round in 0..rounds {
         if let Some(id) = CyclicId::new(number) {
-            last = last.wrapping_add(hand_over(core, id, ids, turn));
+            last = last.wrapping_add(hand_over(core, id, ids, round));
         }
         number = if number < u64::from(ids) {
             number + 1
@@ -93,9 +93,9 @@ fn hand_overs(core: &mut LevelCore, ids: u16, turns: u64) -> u64
     last
 }
 
-/// A level with `ids` cyclics, from 1 to `CYCLICS`, and `turns` hand-overs on it. 0 where memory is refused.
+/// A level with `ids` cyclics, from 1 to `CYCLICS`, and `rounds` hand-overs on it. 0 where memory is refused.
 #[unsafe(no_mangle)]
-pub extern "C" fn rattle_hand_overs(alloc: Global, ids: u16, turns: u64) -> u64 {
+pub extern "C" fn rattle_hand_overs(alloc: Global, ids: u16, rounds: u64) -> u64 {
     let Some(ceiling) = Ceiling::new(u32::MAX) else {
         return 0;
     };
@@ -103,7 +103,7 @@ pub extern "C" fn rattle_hand_overs(alloc: Global, ids: u16, turns: u64) -> u64 
         return 0;
     }
     match filled(alloc, ceiling, ids) {
-        Ok(mut core) => hand_overs(&mut core, ids, turns),
+        Ok(mut core) => hand_overs(&mut core, ids, rounds),
         Err(_refusal) => 0,
     }
 }

@@ -71,15 +71,15 @@ fn wait_done<R: Raise>(raise: &mut R, id: CyclicId, ids: u16, most: u64)
 }
 
 /// Raises so many times, the ids from 1 to `ids` round, each only where its calls are done: so each goes through the buffer.
-pub fn raise_done<R: Raise>(raise: &mut R, ids: u16, turns: u64)
+pub fn raise_done<R: Raise>(raise: &mut R, ids: u16, rounds: u64)
     requires some { 0 < ids }
     requires ready { IsReady ids 0 (R.view raise.old) }
 {
     let mut number = 1;
-    for turn in 0..turns {
+    for round in 0..rounds {
         if let Some(id) = CyclicId::new(number) {
-            wait_done(raise, id, ids, turn);
-            raise_one(raise, id, ids, turn);
+            wait_done(raise, id, ids, round);
+            raise_one(raise, id, ids, round);
         }
         number = following(number, ids);
     }
@@ -123,15 +123,15 @@ pub fn serve_until<D: Drain>(drain: &mut D, calls: u64) -> u64 {
 
 /// So many times one raise, one take and one finish, the ids raised round. The answer is the number of calls that were the
 /// last of their cyclic.
-pub fn hand_overs<R: Raise, D: Drain>(raise: &mut R, drain: &mut D, ids: u16, turns: u64) -> u64
+pub fn hand_overs<R: Raise, D: Drain>(raise: &mut R, drain: &mut D, ids: u16, rounds: u64) -> u64
     requires some { 0 < ids }
     requires ready { IsReady ids 0 (R.view raise.old) }
 {
     let mut number = 1;
     let mut last: u64 = 0;
-    for turn in 0..turns {
+    for round in 0..rounds {
         if let Some(id) = CyclicId::new(number) {
-            raise_one(raise, id, ids, turn);
+            raise_one(raise, id, ids, round);
             last = last.wrapping_add(serve_one(drain));
         }
         number = following(number, ids);

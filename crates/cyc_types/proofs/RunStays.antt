@@ -3,7 +3,7 @@ use Rattle.std.proofs.Common.{◌≡◌, ℕ, ◌+◌, eqb, cond, Bool, true, fa
 use Rattle.std.specs.Prelude.{Option, Some, None}
 use Rattle.cyc_types.specs.Firing.{FiringView, FiringCall, Admits, Loads, Raises, Marks, Polls, Expands, Looks, Learns, Stay}
 use Rattle.cyc_types.specs.Firing.{edited, edit_stay}
-use Rattle.cyc_types.specs.Runs.{Goes, raises_of, losses_of, turns_of, raised_by, lost_by, turned_by}
+use Rattle.cyc_types.specs.Runs.{Goes, raises_of, losses_of, stay_changes_of, raised_by, lost_by, turned_by}
 use Rattle.cyc_types.specs.declared.firing.Raised.TheVariants.{First, More, Lost}
 
 -- a stay goes on with so many raises and losses more
@@ -43,7 +43,7 @@ look id j pend v w s is here =
     (went.0, went.1, went.2, omega (arith, went.3, none), omega (arith, went.4, none))
 
 -- one call
-pub learns_stay : (id : ℕ) (v w : FiringView) (call : FiringCall) (s : Stay) → Learns v call w → turns_of id call ≡ 0
+pub learns_stay : (id : ℕ) (v w : FiringView) (call : FiringCall) (s : Stay) → Learns v call w → stay_changes_of id call ≡ 0
     → v.stays id ≡ Some s → GoesOn s (raises_of id call) (losses_of id call) (w.stays id)
 learns_stay id v w (Admits j index) s l e here =
     subst (λ (x : FiringView). GoesOn s 0 0 (x.stays id)) (sym l)

@@ -38,15 +38,15 @@ losses_of id (Expands bank) = 0
 losses_of id (Looks answer) = 0
 
 -- one where a stay of the id begins or ends with the call
-abbrev pub turns_of : ℕ → FiringCall → ℕ
-turns_of id (Admits j index) = one_at id j
-turns_of id (Polls j (Some counts)) = one_at id j
-turns_of id (Polls j None) = 0
-turns_of id (Loads j pend) = 0
-turns_of id (Raises j answer) = 0
-turns_of id (Marks j pend) = 0
-turns_of id (Expands bank) = 0
-turns_of id (Looks answer) = 0
+abbrev pub stay_changes_of : ℕ → FiringCall → ℕ
+stay_changes_of id (Admits j index) = one_at id j
+stay_changes_of id (Polls j (Some counts)) = one_at id j
+stay_changes_of id (Polls j None) = 0
+stay_changes_of id (Loads j pend) = 0
+stay_changes_of id (Raises j answer) = 0
+stay_changes_of id (Marks j pend) = 0
+stay_changes_of id (Expands bank) = 0
+stay_changes_of id (Looks answer) = 0
 
 -- the raises of the id
 abbrev pub raised_by : ℕ → List FiringCall → ℕ
@@ -61,7 +61,7 @@ lost_by id (call ∷ way) = losses_of id call + lost_by id way
 -- the stays of the id that begin or end
 abbrev pub turned_by : ℕ → List FiringCall → ℕ
 turned_by id [] = 0
-turned_by id (call ∷ way) = turns_of id call + turned_by id way
+turned_by id (call ∷ way) = stay_changes_of id call + turned_by id way
 
 -- these calls of the soft side, in order, led from the one value to the other
 abbrev pub DrainGoes : {D : Type 0} → (D → DrainCall → D → Type 0) → D → List DrainCall → D → Type 0

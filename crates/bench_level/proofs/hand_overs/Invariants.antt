@@ -4,5 +4,5 @@ use Rattle.cyc_core.specs.FiringSide.{firing_view}
 use Rattle.bench_level.specs.Ready.{IsReady}
 use Rattle.bench_level.proofs.hand_overs.Given as goal
 
-abbrev pub invariant-loop-turn : goal.invariant-loop-turn
-invariant-loop-turn l = (0 < l.number) × (l.number ≤ l.ids) × IsReady l.ids l.turn (firing_view (level_of l.core))
+abbrev pub invariant-loop-round : goal.invariant-loop-round
+invariant-loop-round l = (0 < l.number) × (l.number ≤ l.ids) × IsReady l.ids l.round (firing_view (level_of l.core))

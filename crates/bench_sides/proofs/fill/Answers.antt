@@ -1,4 +1,4 @@
-use Rattle.bench_sides.proofs.Turns.{expand_fills}
+use Rattle.bench_sides.proofs.Rounds.{expand_fills}
 use Rattle.bench_sides.proofs.fill.Goals as goal
 
 pub loop-index-init : goal.loop-index-init

@@ -2,5 +2,5 @@ use Rattle.std.proofs.Common.{◌<◌, ◌≤◌}
 use Rattle.bench_sides.specs.Ready.{IsReady}
 use Rattle.bench_sides.proofs.raise_done.Given as goal
 
-abbrev pub invariant-loop-turn : goal.invariant-loop-turn
-invariant-loop-turn g l = (0 < l.number) × (l.number ≤ l.ids) × IsReady l.ids l.turn (g.R.Raise.view l.raise)
+abbrev pub invariant-loop-round : goal.invariant-loop-round
+invariant-loop-round g l = (0 < l.number) × (l.number ≤ l.ids) × IsReady l.ids l.round (g.R.Raise.view l.raise)

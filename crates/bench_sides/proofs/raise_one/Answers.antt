@@ -1,5 +1,5 @@
 use Rattle.std.proofs.Common.{arith}
-use Rattle.bench_sides.proofs.Turns.{may_raise, raise_ready}
+use Rattle.bench_sides.proofs.Rounds.{may_raise, raise_ready}
 use Rattle.bench_sides.proofs.raise_one.Goals as goal
 
 pub raise-raised-requires : goal.raise-raised-requires

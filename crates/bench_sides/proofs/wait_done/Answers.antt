@@ -1,5 +1,5 @@
 use Rattle.std.proofs.Common.{arith}
-use Rattle.bench_sides.proofs.Turns.{may_ask, load_ready}
+use Rattle.bench_sides.proofs.Rounds.{may_ask, load_ready}
 use Rattle.bench_sides.proofs.wait_done.Goals as goal
 
 pub load_pend-requires : goal.load_pend-requires
