@@ -22,8 +22,8 @@ fn run(alloc: Global, ceiling: Ceiling, ids: u16, rounds: u64) -> Result<u64, Re
     Ok(hand_overs(&mut raise, &mut drain, ids, rounds))
 }
 
-/// A ring with `ids` cyclics, from 1 to `CYCLICS`, and `rounds` hand-overs on it: one raise, one take and one finish, the ids raised
-/// round. Answers how many of the calls were the last of their cyclic; 0 where memory is refused.
+/// A ring with `ids` cyclics, from 1 to `CYCLICS`, and `rounds` hand-overs on it: one raise, one take and one finish, the ids
+/// raised round. Answers how many of the calls were the last of their cyclic; 0 where memory is refused.
 #[unsafe(no_mangle)]
 pub extern "C" fn bench_ring(alloc: Global, ids: u16, rounds: u64) -> u64 {
     let Some(ceiling) = Ceiling::new(u32::MAX) else {

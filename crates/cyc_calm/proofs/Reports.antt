@@ -78,7 +78,8 @@ module _ {C : Type 0} (called : C → ℕ → Level → C → Type 0) (count : C
   pub run_text : text ≡ calm_text script
   run_text =
       let first = run.played.first in let last = run.played.last in let runs = run.played.runs in
-      run.text_is ∙ text_is script (way_of called count may_refuse RaiseEndCall end_view first script.steps.items last runs) run.lines
+      run.text_is ∙ text_is script
+      (way_of called count may_refuse RaiseEndCall end_view first script.steps.items last runs) run.lines
       (lines_long RaiseEndCall end_view run.lines last run.played.told run.played.reports
       ∙ names_stay called count may_refuse script run.before first last runs calm run.many run.played.begins memory)
       (λ name. expects called count may_refuse script run.before first last runs calm run.many run.played.begins memory name)

@@ -212,7 +212,8 @@ pub entry_of : (t : Tables) (id : ℕ) (c : AdmittedCyclic) → (level_of t).cyc
 entry_of t id c is = some_entry (lookup id t.table) c is
 
 -- the cyclic in the drainer's hand is admitted, and calls of it are outstanding
-pub held_cyclic : (l : SoftLevel) → Lawful l → (id : ℕ) → l.drainer_hand ≡ Some id → (c : AdmittedCyclic) × (l.cyclics id ≡ Some c)
+pub held_cyclic : (l : SoftLevel) → Lawful l → (id : ℕ) → l.drainer_hand ≡ Some id → (c : AdmittedCyclic)
+    × (l.cyclics id ≡ Some c)
     × (0 < c.count)
 held_cyclic l law id holds = placed_cyclic l law id
     (let here = hand_here id in let same : in_hand id l.drainer_hand ≡ in_hand id (Some id) = ap (in_hand id) holds in
@@ -241,7 +242,8 @@ pub none_is_some : {X : Type 0} (o : Option X) (x : X) → o ≡ None → o ≡ 
 none_is_some o x none some = let wrong : ⊥ = cc in wrong
 
 -- the cyclic in the drainer's hand has calls outstanding
-pub held_count : (l : SoftLevel) → Lawful l → (id : ℕ) (c : AdmittedCyclic) → l.cyclics id ≡ Some c → l.drainer_hand ≡ Some id → 0 < c.count
+pub held_count : (l : SoftLevel) → Lawful l → (id : ℕ) (c : AdmittedCyclic) → l.cyclics id ≡ Some c → l.drainer_hand ≡ Some id
+    → 0 < c.count
 held_count l law id c is holds =
     let (d, there, some) = held_cyclic l law id holds in
     let same : d ≡ c = same_some _ d c there is in

@@ -22,7 +22,8 @@ pub free_hand : (o : Option ℕ) → is_none o ≡ true → o ≡ None
 free_hand None e = refl
 free_hand (Some x) e = absurd (let none : ⊥ = cc in none)
 
-stay_behind : (o : Option AdmittedCyclic) (s : Stay) → option_map stay_of o ≡ Some s → (c : AdmittedCyclic) × (o ≡ Some c) × (stay_of c ≡ s)
+stay_behind : (o : Option AdmittedCyclic) (s : Stay) → option_map stay_of o ≡ Some s → (c : AdmittedCyclic) × (o ≡ Some c)
+    × (stay_of c ≡ s)
 stay_behind None s e = absurd (let none : ⊥ = cc in none)
 stay_behind (Some c) s e = (c, refl, (let same : stay_of c ≡ s = cc in same))
 
@@ -43,7 +44,8 @@ sound_level l law some = record {
 }
 
 -- what is known after an enabled event is sound
-pub sound_after : (l : SoftLevel) (event : Event) → Lawful l → 0 < l.ceiling → Enabled event l → Sound (firing_view (after event l))
+pub sound_after : (l : SoftLevel) (event : Event) → Lawful l → 0 < l.ceiling → Enabled event l
+    → Sound (firing_view (after event l))
 sound_after l event law some may = sound_level (after event l) (keeps_law l law event may)
     (let same = ceiling_after event l in omega (arith, same, some))
 
@@ -61,7 +63,8 @@ can_admit l id index valid (absent, unused, below, free) = (
     none_behind (Some c) e = absurd (let none : ⊥ = cc in none)
 
 -- an admission
-pub learns_admit : (l : SoftLevel) (id index : ℕ) → Learns (firing_view l) (Admits id index) (firing_view (after (Admit id index) l))
+pub learns_admit : (l : SoftLevel) (id index : ℕ)
+    → Learns (firing_view l) (Admits id index) (firing_view (after (Admit id index) l))
 learns_admit l id index = λ z. record (firing_view l) { stays = λ j. at j (eqb j id) z }
   where
     at : (j : ℕ) (b : Bool) → option_map stay_of (cond b (Some (admitted_cyclic index)) (l.cyclics j))

@@ -51,7 +51,8 @@ absent_of id l h = let a = h.firer in let b = h.old in let c = h.new in let d = 
 other : (id a : ℕ) → id ≢ a → eqb id a ≡ false
 other id a ne = grind (arith, nat_tests)
 
-mapped_none : (f : AdmittedCyclic → AdmittedCyclic) (b : Bool) (o : Option AdmittedCyclic) → o ≡ None → cond b (option_map f o) o ≡ None
+mapped_none : (f : AdmittedCyclic → AdmittedCyclic) (b : Bool) (o : Option AdmittedCyclic) → o ≡ None
+    → cond b (option_map f o) o ≡ None
 mapped_none f true o e = ap (option_map f) e
 mapped_none f false o e = e
 

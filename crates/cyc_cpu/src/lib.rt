@@ -5,10 +5,10 @@
 #![tactic(auto)]
 
 mod asking;
-mod leaving;
 mod ends;
 mod hard;
 mod laws;
+mod leaving;
 mod moving;
 mod next;
 mod removing;

@@ -4,9 +4,9 @@ ghost use Rattle.std.specs.Prelude.{◌≡◌, ◌≢◌, ℕ, ◌<◌, ◌≤�
 ghost use Rattle.std.specs.Bool.{OnTrue};
 ghost use Rattle.cyc_types.specs.Series.{never};
 
-use crate::leaving::take_at;
 use crate::ends::admit_at;
 use crate::hard::Hard;
+use crate::leaving::take_at;
 use cyc_fire::Record;
 use cyc_types::{CyclicId, Interval, Level, Moment, Raise, Refusal, Sent};
 

@@ -5,8 +5,8 @@ ghost use Rattle.cyc_cpu.specs.Cpu.{CpuView};
 ghost use Rattle.cyc_cpu.specs.Laws.{IsLawful};
 ghost use Rattle.cyc_cpu.specs.Gone.{HasLeft, IsOff};
 
-use crate::leaving::{poll_at, remove_at};
 use crate::hard::Hard;
+use crate::leaving::{poll_at, remove_at};
 use cyc_fire::Record;
 use cyc_types::{CyclicId, Moment, Raise, Receipt, Refusal};
 

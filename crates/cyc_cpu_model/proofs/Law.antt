@@ -242,7 +242,8 @@ is_here called count may_refuse n online (BeginRemove id (Ok (Kept kept))) s t r
       cpu = opened n id kept online s.cpu t.cpu rising opens;
       free = λ soft. none_admitted (mark_here n id (shown_cpu online s.cpu)).acts n soft (level_at soft (shown_cpu online s.cpu))
           (mark_none n id (shown_cpu online s.cpu));
-      called = λ q. quiet count s.calls t.calls q _ calls (own_calls (handler_level_of id (shown_cpu online s.cpu)) n q (Mark id));
+      called = λ q. quiet count s.calls t.calls q _ calls
+          (own_calls (handler_level_of id (shown_cpu online s.cpu)) n q (Mark id));
     }
 is_here called count may_refuse n online (BeginRemove id (Err e)) s t rising rises goes (d, calls) = record {
   index = 0;

@@ -78,7 +78,8 @@ fires_found id Lost l m ((j, (on, is), last), free) =
 fires_found id First l m ((j, (on, is), (k, (published, isk), last)), free) =
     let (c, isc, (below, room)) = some_and _ (l.cyclics id) on.2 in
     let few : count l id < l.ceiling = subst (λ (n : ℕ). n < l.ceiling) (sym (ap count_in isc)) below in
-    let some : IsSome (hand_after_expire (count l id) id l.firer_hand) = subst (λ (x : SoftLevel). IsSome x.firer_hand) is published
+    let some : IsSome (hand_after_expire (count l id) id l.firer_hand) = subst
+    (λ (x : SoftLevel). IsSome x.firer_hand) is published
     in
     first_found (count l id) id l.firer_hand on.0 some ∙ sym (below_found (count l id) l.ceiling few)
 fires_found id More l m ((j, (on, is), last), free) =

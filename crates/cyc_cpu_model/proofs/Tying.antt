@@ -41,7 +41,8 @@ some_map : (f : AdmittedCyclic → AdmittedCyclic) (o : Option AdmittedCyclic) �
 some_map f None is = is
 some_map f (Some c) is = refl
 
-changed_has : (m : Cyclics) (id : ℕ) (f : AdmittedCyclic → AdmittedCyclic) (q : ℕ) → IsSome (changed_at m id (option_map f) q) → IsSome (m q)
+changed_has : (m : Cyclics) (id : ℕ) (f : AdmittedCyclic → AdmittedCyclic) (q : ℕ) → IsSome (changed_at m id (option_map f) q)
+    → IsSome (m q)
 changed_has m id f q is = pick (q == id) is
   where
     pick : (b : Bool) → IsSome (cond b (option_map f (m q)) (m q)) → IsSome (m q)
@@ -195,7 +196,8 @@ expire_keep n (p ∷ ps) c =
 
 -- ---- each call keeps what is tied
 
-pub kept : (c d : Cpu) → ((q : ℕ) → handler_level_of q d ≡ handler_level_of q c) → ((soft : Soft) (q : ℕ) → Has q (level_at soft d)
+pub kept : (c d : Cpu) → ((q : ℕ) → handler_level_of q d ≡ handler_level_of q c)
+    → ((soft : Soft) (q : ℕ) → Has q (level_at soft d)
     → Has q (level_at soft c))
     → ((id : ℕ) → d.removal ≡ Some id → c.removal ≡ Some id) → HasOwn c → HasOwn d
 kept c d levels fewer removal h = record {
@@ -292,7 +294,8 @@ place_ties n index x c none h = subst HasOwn
     (sym (own_cpu x.timer.level n (Admit x.timer.id index) (record c { cyclics = put_in x c.cyclics }))) (record {
       known = known;
       removed = λ id is high. h.removed id is (sym
-          (put_other x c.cyclics id (λ e. h.removed id is (ap (λ i. handler_level_of i c) e ∙ absent_level x.timer.id c none))) ∙ high);
+          (put_other x c.cyclics id (λ e. h.removed id is (ap (λ i. handler_level_of i c) e ∙ absent_level x.timer.id c none)))
+          ∙ high);
     })
   where
     id : ℕ
@@ -310,7 +313,8 @@ place_ties n index x c none h = subst HasOwn
     beside soft q is ne = put_other x c.cyclics q ne ∙ h.known soft q is
 
     never_there : (soft : Soft) (q : ℕ) → Has q (level_at soft c) → q ≢ x.timer.id
-    never_there soft q is e = not_high soft (handler_level_of q c) (ap (λ i. handler_level_of i c) e ∙ absent_level x.timer.id c none)
+    never_there soft q is e = not_high soft (handler_level_of q c) (ap (λ i. handler_level_of i c) e
+        ∙ absent_level x.timer.id c none)
         (h.known soft q is)
 
     at_level : (soft : Soft) (kind : Level) (q : ℕ) (own : Bool) → same_level kind x.timer.level ≡ own

@@ -177,7 +177,8 @@ module _ {R : Type 0} (step : R → FiringCall → R → Type 0) (view : R → F
       at_first r = ap (λ l. option_map_or f (find (λ (c : Cyclic). c.timer.id == r.id) l) 0 + g (ended_on n r)) none_before
           ∙ (let e : 0 + g (ended_on n r) ≡ g (ended_on n r) = omega arith in e)
 
-      at_last : (k : ℕ) (r : Record) → IsRecord s.records k r → (b : Bool) → is_staying s.cpus r ≡ b → (p : Placement) → r.place ≡ p
+      at_last : (k : ℕ) (r : Record) → IsRecord s.records k r → (b : Bool) → is_staying s.cpus r ≡ b → (p : Placement)
+          → r.place ≡ p
           → option_map_or f (find (λ (c : Cyclic). c.timer.id == (after_return n s.cpus r).id) (cyclics_on n t.cpus)) 0 + g
           (ended_on n (after_return n s.cpus r)) ≡ g (ended_on n r)
       at_last k r is false leaves p place = let x = turned n (is_staying s.cpus r) r in

@@ -25,7 +25,8 @@ pub index_read : (xs : List Entry) → Rises id_in xs → (id position : ℕ) �
 index_read xs rises id position at e read = ap (option_map index_in) (look_up_read id_in xs rises id position at e read)
 
 -- an id that stands somewhere has an index
-pub index_at : (xs : List Entry) → Rises id_in xs → (id position : ℕ) → IsAt id_in xs id position → (i : ℕ) × (index_of id xs ≡ Some i)
+pub index_at : (xs : List Entry) → Rises id_in xs → (id position : ℕ) → IsAt id_in xs id position → (i : ℕ)
+    × (index_of id xs ≡ Some i)
 index_at xs rises id position at =
     let d : Entry = record { id = 0; index = 0 } in
     ((get_or xs position d).index, ap (option_map index_in) (look_up_at id_in xs rises id position at d))

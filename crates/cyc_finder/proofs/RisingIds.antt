@@ -102,11 +102,17 @@ module _ {T : Type 0} (id_of : T → ℕ) where
     }
 
   -- the thing at a position is that of its id
-  pub is_at_place : (xs : List T) (position : ℕ) (d : T) → position < length xs → IsAt id_of xs (id_of (get_or xs position d)) position
-  is_at_place xs position d in_range = record { in_range = in_range; has_id = λ e. ap id_of (get_or_default xs position e d in_range) }
+  pub is_at_place : (xs : List T) (position : ℕ) (d : T) → position < length xs
+      → IsAt id_of xs (id_of (get_or xs position d)) position
+  is_at_place xs position d in_range = record {
+    in_range = in_range;
+    has_id = λ e. ap id_of
+        (get_or_default xs position e d in_range);
+  }
 
   -- what stands where the id stands
-  pub stands : (xs : List T) (id position : ℕ) → IsAt id_of xs id position → (x : T) × (slice_get xs position ≡ Some x) × (id_of x ≡ id)
+  pub stands : (xs : List T) (id position : ℕ) → IsAt id_of xs id position → (x : T) × (slice_get xs position ≡ Some x)
+      × (id_of x ≡ id)
   stands xs id position at = elim (slice_get_cases xs position).1 [
     | inl (x, within, is, same) ↦ (x, is, ap id_of (sym same) ∙ at.has_id x)
     | inr (past, none) ↦ let low = at.in_range in absurd (omega (arith, past, low))
@@ -164,7 +170,8 @@ module _ {T : Type 0} (id_of : T → ℕ) where
     pub look_up_inserted : (e : T) → id_of e ≡ id → (q : ℕ)
         → look_up id_of q (insert xs position e) ≡ cond (eqb q id) (Some e) (look_up id_of q xs)
     look_up_inserted e same =
-        look_up-insert xs id position e (λ j d less is. let before = gap.smaller_before j d less in omega (arith, before, is)) same
+        look_up-insert xs id position e
+        (λ j d less is. let before = gap.smaller_before j d less in omega (arith, before, is)) same
 
     pub rises_inserted : Rises id_of xs → (e : T) → id_of e ≡ id → Rises id_of (insert xs position e)
     rises_inserted rises e same i j d less in_range =

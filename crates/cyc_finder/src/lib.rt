@@ -1,7 +1,7 @@
 //! The look-up by id, for all that keeps cyclics in the order of their ids.
 //!
-//! `search` finds the position of an id among things whose ids rise, and `search_near` looks at a hinted position first. `Finder` is
-//! the map from the ids of up to `CYCLICS` cyclics to their indexes, with a hint for each id.
+//! `search` finds the position of an id among things whose ids rise, and `search_near` looks at a hinted position first. `Finder`
+//! is the map from the ids of up to `CYCLICS` cyclics to their indexes, with a hint for each id.
 #![tactic(auto)]
 
 pub mod finder;

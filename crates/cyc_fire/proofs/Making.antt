@@ -43,7 +43,8 @@ same_end step view e f [] a g = (sym g, refl)
 same_end step view e f (c ∷ way) a g = absurd a
 
 -- the losses of the id that was raised, and of any other
-pub losses_same : (b : Bool) (id : ℕ) (way : List FiringCall) → AreRaises (cond b (id ∷ []) []) way → lost_by id way ≡ way_losses way
+pub losses_same : (b : Bool) (id : ℕ) (way : List FiringCall) → AreRaises (cond b (id ∷ []) []) way
+    → lost_by id way ≡ way_losses way
 losses_same false id [] a = refl
 losses_same false id (c ∷ way) a = absurd a
 losses_same true id [] a = absurd a

@@ -30,5 +30,6 @@ pub fn share_law<C: Calls, R: Raise>()
         → Makes (at_level C.called High) C.count R.step R.view now made cs cs' s s' lost
         → (id : ℕ) → C.count s'.calls id ≡ C.count s.calls id + share High (timers cs) made id }
     ensures whole { (now : ℕ) (ts : List Timer) → HasDistinctIds ts → (level : TheLevel)
-        → All (λ t. share level ts (expirations now ts) t.id ≡ cond (same_level level t.level) (due t.moment t.interval now) 0) ts }
+        → All (λ t. share level ts (expirations now ts) t.id
+        ≡ cond (same_level level t.level) (due t.moment t.interval now) 0) ts }
 {}

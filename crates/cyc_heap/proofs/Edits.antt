@@ -225,7 +225,8 @@ module _ (len : ℕ) (entries : List Entry) (positions : List ℕ) (h : IsHeap l
           (shorter_bridged before a c is_p is_c low))
 
       -- and with it the indexes have what they should
-      pub swapped_slots : p < last → set (slots last (set shortened p y) (index_positions (set shortened p y))) (index_of y) (Some (key y))
+      pub swapped_slots : p < last
+          → set (slots last (set shortened p y) (index_positions (set shortened p y))) (index_of y) (Some (key y))
           ≡ set (slots len entries positions) i None
       swapped_slots before =
           let linked = filled_linked p shortened (set positions (index_of x) last) y low_p low_y

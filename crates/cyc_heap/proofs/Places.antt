@@ -29,7 +29,8 @@ module _ (entries : List Entry) (positions : List ℕ) (linked : IsLinked entrie
   -- so what links an array is no choice
   pub places_are : index_positions entries ≡ positions
   unfolding index_positions
-  places_are = same_lists (index_positions entries) positions (length-map-range_with_len (λ i. position_of i entries) 0 (length entries)
+  places_are = same_lists (index_positions entries) positions
+      (length-map-range_with_len (λ i. position_of i entries) 0 (length entries)
       ∙ sym linked.same)
       (λ k d low. let l = length-map-range_with_len (λ i. position_of i entries) 0 (length entries) in
       let low_k : k < length entries = omega (arith, low, l) in

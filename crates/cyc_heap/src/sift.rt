@@ -3,7 +3,8 @@
 ghost use Rattle.std.specs.Prelude.{◌≡◌, ◌≢◌, ℕ, ◌+◌, ◌*◌, ◌<◌, ◌≤◌, ◌⊎◌, true, length, slice_set, vec_capacity, Some};
 ghost use Rattle.cyc_expirations.specs.Expirations.{is_before};
 ghost use Rattle.cyc_types.specs.Limits.{cyclics};
-ghost use Rattle.cyc_heap.specs.Array.{key, key_at, index_of, index_at, IsLinked, IsOrdered, IsOrderedBut, IsBridged, index_positions};
+ghost use Rattle.cyc_heap.specs.Array.{key, key_at, index_of, index_at, IsLinked, IsOrdered, IsOrderedBut, IsBridged};
+ghost use Rattle.cyc_heap.specs.Array.{index_positions};
 ghost use Rattle.cyc_heap.specs.Array.{slots};
 
 use crate::entry::Entry;
@@ -16,7 +17,8 @@ fn least_child(entries: &[Entry], len: usize, position: usize) -> usize
     ensures below { result < len }
     ensures child { (result ≡ 2 * position + 1) ⊎ (result ≡ 2 * position + 2) }
     ensures left { is_before (key_at entries.now result) (key_at entries.now (2 * position + 1)) ≡ true }
-    ensures right { 2 * position + 2 < len → is_before (key_at entries.now result) (key_at entries.now (2 * position + 2)) ≡ true }
+    ensures right { 2 * position + 2 < len
+        → is_before (key_at entries.now result) (key_at entries.now (2 * position + 2)) ≡ true }
 {
     let left = 2 * position + 1;
     if left + 1 == len {
@@ -38,7 +40,8 @@ fn sift(entries: &mut [Entry], len: usize, hole: usize, entry: Entry)
     ensures linked { IsLinked entries.new (index_positions entries.new) }
     ensures order { IsOrdered len (key_at entries.new) }
     ensures length { length entries.new ≡ length entries.old }
-    ensures slots { slots len entries.new (index_positions entries.new) ≡ slice_set (slots len entries.old (index_positions entries.old))
+    ensures slots { slots len entries.new (index_positions entries.new)
+        ≡ slice_set (slots len entries.old (index_positions entries.old))
         (index_of entry) (Some (key entry)) }
 {
     let mut hole = hole;

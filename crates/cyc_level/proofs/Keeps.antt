@@ -5,7 +5,8 @@ use Rattle.std.specs.Prelude.{Option, Some, None, IsSome}
 use Rattle.cyc_level.specs.declared.Event.{Event}
 use Rattle.cyc_level.specs.declared.Event.TheVariants.{Admit, Expire, Lose, Publish, Take, Finish, Mark, Clear, Switch, Follow}
 use Rattle.std.specs.Option.{option_map}
-use Rattle.cyc_level.specs.Level.{AdmittedCyclic, Cyclics, SoftLevel, empty_level, bank_size, count_in, count, soft_list, times_in, in_hand}
+use Rattle.cyc_level.specs.Level.{AdmittedCyclic, Cyclics, SoftLevel, empty_level, bank_size, count_in, count, soft_list}
+use Rattle.cyc_level.specs.Level.{times_in, in_hand}
 use Rattle.cyc_level.specs.Level.{place_count}
 use Rattle.cyc_level.specs.Lawful.{IsId, one_if_any, Lawful}
 use Rattle.cyc_level.specs.Events.{changed_at, admitted_cyclic, cyclic_after_expire, cyclic_after_lose, cyclic_after_finish}
@@ -76,7 +77,8 @@ nothing_taken : (b : Bool) → cond {A = List ℕ} b [] [] ≡ []
 nothing_taken true = refl
 nothing_taken false = refl
 
-changed_all : (f : AdmittedCyclic → AdmittedCyclic) (P Q : AdmittedCyclic → Type 0) → ((c : AdmittedCyclic) → P c → Q (f c)) → (o : Option AdmittedCyclic)
+changed_all : (f : AdmittedCyclic → AdmittedCyclic) (P Q : AdmittedCyclic → Type 0) → ((c : AdmittedCyclic) → P c → Q (f c))
+    → (o : Option AdmittedCyclic)
     → ((c : AdmittedCyclic) → o ≡ Some c → P c) → (d : AdmittedCyclic) → option_map f o ≡ Some d → Q d
 changed_all f P Q g None h d e = absurd (cc)
 changed_all f P Q g (Some c) h d e = subst Q (some_same (f c) d e) (g c (h c refl))
@@ -93,20 +95,24 @@ listed_times : (j : ℕ) (h : Option ℕ) → times_in j (as_list h) ≡ in_hand
 listed_times j None = refl
 listed_times j (Some x) = omega arith
 
-called_count : (o : Option AdmittedCyclic) → one_if_any (count_in o - 1) ≡ one_if_any (count_in (option_map cyclic_after_finish o))
+called_count : (o : Option AdmittedCyclic)
+    → one_if_any (count_in o - 1) ≡ one_if_any (count_in (option_map cyclic_after_finish o))
 called_count None = refl
 called_count (Some c) = refl
 
 module _ (l : SoftLevel) (law : Lawful l) where
   -- one cyclic's numbers change, and perhaps the hands
-  renumbered : (f : AdmittedCyclic → AdmittedCyclic) (id : ℕ) (firer drainer : Option ℕ) → ((c : AdmittedCyclic) → c.index ≡ (f c).index)
-      → ((c : AdmittedCyclic) → l.cyclics id ≡ Some c → ((f c).sent ≡ (f c).done + (f c).count + (f c).lost) × ((f c).count ≤ l.ceiling))
+  renumbered : (f : AdmittedCyclic → AdmittedCyclic) (id : ℕ) (firer drainer : Option ℕ)
+      → ((c : AdmittedCyclic) → c.index ≡ (f c).index)
+      → ((c : AdmittedCyclic) → l.cyclics id ≡ Some c → ((f c).sent ≡ (f c).done + (f c).count + (f c).lost)
+      × ((f c).count ≤ l.ceiling))
       → (in_hand id firer + times_in id l.old_list + times_in id l.new_list + in_hand id drainer
       ≡ one_if_any (count_in (option_map f (l.cyclics id))))
       → ((j : ℕ) → j ≢ id → in_hand j firer + in_hand j drainer ≡ in_hand j l.firer_hand + in_hand j l.drainer_hand)
       → Lawful (record l { cyclics = changed_at l.cyclics id (option_map f); firer_hand = firer; drainer_hand = drainer })
   renumbered f id firer drainer same numbers here there = record {
-    conserved = at_cases l.cyclics id (option_map f) (λ j o. (c : AdmittedCyclic) → o ≡ Some c → c.sent ≡ c.done + c.count + c.lost)
+    conserved = at_cases l.cyclics id (option_map f) (λ j o. (c : AdmittedCyclic) → o ≡ Some c
+        → c.sent ≡ c.done + c.count + c.lost)
         (changed_all f (λ c. l.cyclics id ≡ Some c) (λ c. c.sent ≡ c.done + c.count + c.lost) (λ c e. (numbers c e).0)
         (l.cyclics id) (λ c e. e)) (λ j _. law.conserved j);
     below_ceiling = at_cases l.cyclics id (option_map f) (λ j o. (c : AdmittedCyclic) → o ≡ Some c → c.count ≤ l.ceiling)
@@ -150,7 +156,8 @@ module _ (l : SoftLevel) (law : Lawful l) where
   }
 
   admits : (id index : ℕ) → Enabled (Admit id index) l → Lawful (after (Admit id index) l)
-  admits id index on = let c0 : AdmittedCyclic = admitted_cyclic index in let f : Option AdmittedCyclic → Option AdmittedCyclic = λ _. Some c0 in
+  admits id index on = let c0 : AdmittedCyclic = admitted_cyclic index in let f : Option AdmittedCyclic
+      → Option AdmittedCyclic = λ _. Some c0 in
       let fresh : (j : ℕ) (d : AdmittedCyclic) → changed_at l.cyclics id f j ≡ Some d → ((j ≡ id) × (c0 ≡ d))
       ⊎ ((j ≢ id) × (l.cyclics j ≡ Some d)) =
       λ j d e. at_cases l.cyclics id f (λ k o. o ≡ Some d → ((k ≡ id) × (c0 ≡ d)) ⊎ ((k ≢ id) × (l.cyclics k ≡ Some d)))
@@ -162,7 +169,8 @@ module _ (l : SoftLevel) (law : Lawful l) where
         one_place = at_cases l.cyclics id f (λ j o. place_count l j ≡ one_if_any (count_in o)) (law.one_place id
             ∙ ap (λ o. one_if_any (count_in o)) on.2) (λ j _. law.one_place j);
         distinct_indexes = λ a b c d ea eb e. ⊎_elim
-            (λ s. ⊎_elim (λ t. s.0 ∙ sym t.0) (λ t. absurd (on.3 b d t.1 (sym e ∙ ap (λ (x : AdmittedCyclic). x.index) (sym s.1))))
+            (λ s. ⊎_elim (λ t. s.0 ∙ sym t.0)
+            (λ t. absurd (on.3 b d t.1 (sym e ∙ ap (λ (x : AdmittedCyclic). x.index) (sym s.1))))
             (fresh b d eb))
             (λ s. ⊎_elim (λ t. absurd (on.3 a c s.1 (e ∙ ap (λ (x : AdmittedCyclic). x.index) (sym t.1))))
             (λ t. law.distinct_indexes a b c d s.1 t.1 e) (fresh b d eb)) (fresh a c ea);

@@ -47,7 +47,8 @@ module _ (m : Cyclics) (id : ℕ) (f : Option AdmittedCyclic → Option Admitted
 
 -- a change that keeps the index
 module _ (m : Cyclics) (id : ℕ) (f : AdmittedCyclic → AdmittedCyclic) (same : (c : AdmittedCyclic) → c.index ≡ (f c).index) where
-  was : (o : Option AdmittedCyclic) (d : AdmittedCyclic) → option_map f o ≡ Some d → (c : AdmittedCyclic) × (o ≡ Some c) × (c.index ≡ d.index)
+  was : (o : Option AdmittedCyclic) (d : AdmittedCyclic) → option_map f o ≡ Some d → (c : AdmittedCyclic) × (o ≡ Some c)
+      × (c.index ≡ d.index)
   was None d e = absurd (cc)
   was (Some c) d e = (c, refl, same c ∙ ap (λ (x : AdmittedCyclic). x.index) (some_same (f c) d e))
 

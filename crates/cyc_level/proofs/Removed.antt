@@ -11,7 +11,8 @@ use Rattle.cyc_level.specs.Events.{reached, AllEnabled}
 use Rattle.cyc_level.specs.Runs.{finishes, admissions, NothingFollowsClear}
 use Rattle.cyc_level.proofs.Keeps.{always_lawful}
 
-mapped_none : (f : AdmittedCyclic → AdmittedCyclic) (b : Bool) (o : Option AdmittedCyclic) → o ≡ None → cond b (option_map f o) o ≡ None
+mapped_none : (f : AdmittedCyclic → AdmittedCyclic) (b : Bool) (o : Option AdmittedCyclic) → o ≡ None
+    → cond b (option_map f o) o ≡ None
 mapped_none f true o e = ap (option_map f) e
 mapped_none f false o e = e
 
@@ -19,7 +20,8 @@ cleared_none : (b : Bool) (o : Option AdmittedCyclic) → o ≡ None → cond b 
 cleared_none true o e = refl
 cleared_none false o e = e
 
-admitted_none : (b : Bool) (c : AdmittedCyclic) (o : Option AdmittedCyclic) (n : ℕ) → cond b 1 0 + n ≡ 0 → o ≡ None → cond b (Some c) o ≡ None
+admitted_none : (b : Bool) (c : AdmittedCyclic) (o : Option AdmittedCyclic) (n : ℕ) → cond b 1 0 + n ≡ 0 → o ≡ None
+    → cond b (Some c) o ≡ None
 admitted_none true c o n h e = absurd (omega (arith, h))
 admitted_none false c o n h e = e
 

@@ -51,7 +51,8 @@ finished_stay false n (Some s) (Some c) h = let a = h.3 in (h.0, h.1, h.2, omega
 
 -- a stay with no call outstanding
 done_stay : (n : ℕ) (o : Option StayCounts) (p : Option AdmittedCyclic) → IsStayOf n o p → IsSome p
-    → ((c : AdmittedCyclic) → p ≡ Some c → c.sent ≡ c.done + c.count + c.lost) → count_in p ≡ 0 → (xs : List StayCounts) (ns : List ℕ)
+    → ((c : AdmittedCyclic) → p ≡ Some c → c.sent ≡ c.done + c.count + c.lost) → count_in p ≡ 0
+    → (xs : List StayCounts) (ns : List ℕ)
     → AreFinished xs ns → AreFinished (stay_list o ++ xs) (n ∷ ns)
 done_stay n o None h on sums z xs ns rest = absurd (cc)
 done_stay n None (Some c) h on sums z xs ns rest = absurd h
@@ -63,7 +64,8 @@ abbrev pub IsSplit : ℕ → ℕ → Option AdmittedCyclic → Type 0
 IsSplit n past None = n ≡ past
 IsSplit n past (Some c) = n ≡ c.done + past
 
-split_admit : (n past index : ℕ) (p : Option AdmittedCyclic) → p ≡ None → IsSplit n past p → IsSplit n past (Some (admitted_cyclic index))
+split_admit : (n past index : ℕ) (p : Option AdmittedCyclic) → p ≡ None → IsSplit n past p
+    → IsSplit n past (Some (admitted_cyclic index))
 split_admit n past index None e h = omega (arith, h)
 split_admit n past index (Some c) e h = absurd (cc)
 
@@ -233,7 +235,8 @@ module _ (ceiling id : ℕ) where
       [ true ↦ split_lose n (past_calls id es) (l.cyclics id) h | false ↦ h ]
   split_finishes (Publish ∷ es) on = split_finishes es on.1
   split_finishes (Take ∷ es) on = split_finishes es on.1
-  split_finishes (Finish ∷ es) on = let l : SoftLevel = reached ceiling es in let law : Lawful l = always_lawful ceiling es on.1 in
+  split_finishes (Finish
+      ∷ es) on = let l : SoftLevel = reached ceiling es in let law : Lawful l = always_lawful ceiling es on.1 in
       let x = some_of l.drainer_hand on.0 in let n : ℕ = finishes ceiling id es in
       subst (λ (h : Option ℕ). IsSplit (in_hand id h + n) (past_calls id es) ((after_finish h l).cyclics id)) (sym x.1)
       (split_finish (eqb id x.0) n (past_calls id es) (l.cyclics id)
@@ -242,7 +245,8 @@ module _ (ceiling id : ℕ) where
       (λ ne. let f : eqb id x.0 ≡ false = ne_eqb id x.0 ne in let y : true ≡ false = sym t ∙ f in absurd (cc)))
       (split_finishes es on.1))
   split_finishes (Mark a ∷ es) on = split_finishes es on.1
-  split_finishes (Clear a ∷ es) on = let h = split_finishes es on.1 in let l : SoftLevel = reached ceiling es in let law : Lawful l =
+  split_finishes (Clear a
+      ∷ es) on = let h = split_finishes es on.1 in let l : SoftLevel = reached ceiling es in let law : Lawful l =
       always_lawful ceiling es on.1 in let n : ℕ = finishes ceiling id es in
       let P : Bool → Type 0 = λ b. IsSplit n (cond b (past_calls id es + stay_calls (current_stay id es)) (past_calls id es))
       (cond b None (l.cyclics id)) in dite (ℕ_discrete id a)

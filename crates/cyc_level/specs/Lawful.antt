@@ -20,7 +20,8 @@ pub record Lawful (l : SoftLevel) : Type 0 where
   pub below_ceiling : (id : ℕ) (c : AdmittedCyclic) → l.cyclics id ≡ Some c → c.count ≤ l.ceiling
   -- an id with calls outstanding stands once in the four places together, and no other stands in any
   pub one_place : (id : ℕ) → place_count l id ≡ one_if_any (count l id)
-  pub distinct_indexes : (a b : ℕ) (c d : AdmittedCyclic) → l.cyclics a ≡ Some c → l.cyclics b ≡ Some d → c.index ≡ d.index → a ≡ b
+  pub distinct_indexes : (a b : ℕ) (c d : AdmittedCyclic) → l.cyclics a ≡ Some c → l.cyclics b ≡ Some d → c.index ≡ d.index
+      → a ≡ b
   pub in_hard_bank : (id : ℕ) (c : AdmittedCyclic) → l.cyclics id ≡ Some c → c.index < bank_size l.hard_bank
   pub in_soft_bank : (id : ℕ) (c : AdmittedCyclic) → l.cyclics id ≡ Some c → 0 < times_in id l.old_list
       → c.index < bank_size l.soft_bank

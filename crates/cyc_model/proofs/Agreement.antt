@@ -23,6 +23,7 @@ use Rattle.cyc_model.specs.Moving.{switch_here, place_here, put_in, moment_at}
 use Rattle.cyc_model.specs.State.{absent}
 use Rattle.cyc_types.specs.Levels.{as_level}
 use Rattle.cyc_model.specs.Agreement.{Agrees, AllAgree}
+
 -- an event that neither ends a stay nor leaves a bank
 abbrev IsCalm : Event → Type 0
 IsCalm (Clear id) = ⊥
@@ -250,7 +251,8 @@ calm_own n level.High e calm = tt
 calm_own n level.Lock e calm = (calm, tt)
 calm_own n level.Low e calm = (calm, tt)
 
-changed_here : (m : Cyclics) (id : ℕ) (f : Option AdmittedCyclic → Option AdmittedCyclic) → IsSome (f (m id)) → IsSome (changed_at m id f id)
+changed_here : (m : Cyclics) (id : ℕ) (f : Option AdmittedCyclic → Option AdmittedCyclic) → IsSome (f (m id))
+    → IsSome (changed_at m id f id)
 changed_here m id f h = subst (λ (b : Bool). IsSome (cond b (f (m id)) (m id))) (sym (eq-eqb id id refl)) h
 
 admitted_own : (n id index : ℕ) (l : Level) (soft : Soft) (c : Cpu) → l ≡ as_level soft
@@ -406,7 +408,8 @@ agrees_serve n soft budget c h = agrees_here (serve n soft budget (level_at soft
 pub agrees_switch : (n bank : ℕ) (c : Cpu) → Agrees c → Agrees (switch_here n bank c).cpu
 agrees_switch n bank c h = record { one_bank = refl; size = refl; admitted = by }
   where
-    by : (id : ℕ) (soft : Soft) → handler_level_of id c ≡ as_level soft → IsSome ((level_at soft (switch_here n bank c).cpu).cyclics id)
+    by : (id : ℕ) (soft : Soft) → handler_level_of id c ≡ as_level soft
+        → IsSome ((level_at soft (switch_here n bank c).cpu).cyclics id)
     by id Low is = h.admitted id Low is
     by id Lock is = h.admitted id Lock is
 

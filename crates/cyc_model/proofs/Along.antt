@@ -21,7 +21,8 @@ use Rattle.cyc_model.specs.Agreement.{IsReady, AllReady}
 use Rattle.cyc_model.proofs.Telling.{tells_steps, fair_steps, ready_steps}
 use Rattle.std.specs.Prelude.{slice_index_or, replicate}
 
-below : (l : SoftLevel) → Lawful l → (id : ℕ) (c : AdmittedCyclic) → l.cyclics id ≡ Some c → count l id ≢ l.ceiling → c.count < l.ceiling
+below : (l : SoftLevel) → Lawful l → (id : ℕ) (c : AdmittedCyclic) → l.cyclics id ≡ Some c → count l id ≢ l.ceiling
+    → c.count < l.ceiling
 below l law id c is ne =
     let le = law.below_ceiling id c is in
     let far : c.count ≢ l.ceiling = λ same. ne (ap count_in is ∙ same) in omega (arith, le, far)

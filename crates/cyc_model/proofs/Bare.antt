@@ -17,7 +17,8 @@ use Rattle.cyc_level.specs.Events.{after, after_finish, admitted_cyclic, cyclic_
 use Rattle.cyc_level.specs.Events.{cyclic_after_finish, hand_after_expire, hand_after_finish}
 use Rattle.cyc_expirations.specs.Expirations.{Expiration}
 use Rattle.cyc_model.specs.Acts.{Act, At, Call, at_own, call_of, calls_of, calls_in, loss_of, losses_of, is_loss, losses_in}
-use Rattle.cyc_model.specs.Cpu.{Cyclic, Cpu, Here, cpu_after, happen, here, nothing_here, acts_first, then_here, handler_level_of, others}
+use Rattle.cyc_model.specs.Cpu.{Cyclic, Cpu, Here, cpu_after, happen, here, nothing_here, acts_first, then_here, handler_level_of}
+use Rattle.cyc_model.specs.Cpu.{others}
 use Rattle.cyc_model.specs.Firing.{raised, expiry, expire_here, expire_all, due_here, fired, with_fired, fire_here}
 use Rattle.cyc_model.specs.Serving.{level_after, look, Interrupt, calling, found_nothing, after_look, looks, serve}
 use Rattle.cyc_model.specs.Serving.{interrupt_here, serve_here}

@@ -167,7 +167,8 @@ well_reprogram step r s g why =
 
 -- ---- a cyclic that is on one CPU is put down as on it again
 
-put_gone : (id : ℕ) (place : Placement) (s : State) (j : ℕ) → IsSome (placement_of id s) → IsGone j s → IsGone j (put_at id place s)
+put_gone : (id : ℕ) (place : Placement) (s : State) (j : ℕ) → IsSome (placement_of id s) → IsGone j s
+    → IsGone j (put_at id place s)
 put_gone id place s j known gone = (
   gone.0,
   place_put_other id j place s (λ e. let n : IsSome (placement_of j s) = ap (λ (k : ℕ). is_some (placement_of k s)) e ∙ known in
@@ -183,7 +184,8 @@ well_put id n bound was s g at =
         base = record {
           whole = g.base.whole;
           homes = λ m j some. dite (ℕ_discrete j id)
-              (λ e. subst (λ o. IsAt m o) (sym (ap (λ (k : ℕ). placement_of k t) e ∙ place_put_same id (On n bound) s (On n was) at))
+              (λ e. subst (λ o. IsAt m o)
+              (sym (ap (λ (k : ℕ). placement_of k t) e ∙ place_put_same id (On n bound) s (On n was) at))
               (subst (λ o. IsAt m o) (ap (λ (k : ℕ). placement_of k s) e ∙ at) (g.base.homes m j some)))
               (λ ne. subst (λ o. IsAt m o) (sym (place_put_other id j (On n bound) s ne)) (g.base.homes m j some));
           rise = rise_map 0 s.last_id id (On n bound) s.placed g.base.rise;

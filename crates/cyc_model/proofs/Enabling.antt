@@ -44,7 +44,8 @@ all_firing [] l rest free room = tt
 all_firing (e ∷ es) l rest free room =
     (firing_of e l rest.0 free.0 room.0, all_firing es (after e l) rest.1 free.1 room.1)
 
-all_happen : (es : List Event) (l : SoftLevel) → Lawful l → AllCanAsFiring es l → AllCanAsSoft es l → AllReady es l → AllHappen es l
+all_happen : (es : List Event) (l : SoftLevel) → Lawful l → AllCanAsFiring es l → AllCanAsSoft es l → AllReady es l
+    → AllHappen es l
 all_happen [] l law firing soft ready = tt
 all_happen (e ∷ es) l law firing soft ready =
     let can = can_of_all e l law firing.0 soft.0 ready.0 in

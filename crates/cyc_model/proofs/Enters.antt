@@ -132,7 +132,8 @@ module _ (name : ℕ) (place : Placement) (s : State) (b : Base None s) (few : s
     books = b.books;
   }
     where
-      by : (n id : ℕ) (o : Option Placement) → placement_of id s ≡ o → IsAt n (placement_of id s) → IsAt n (placement_of id (given name place s))
+      by : (n id : ℕ) (o : Option Placement) → placement_of id s ≡ o → IsAt n (placement_of id s)
+          → IsAt n (placement_of id (given name place s))
       by n id None is at = absurd (subst (λ o. IsAt n o) is at)
       by n id (Some p) is at = subst (λ o. IsAt n o) (is ∙ sym (place_given_old name place s id p is)) at
 
@@ -230,7 +231,8 @@ record Came (id n : ℕ) (c d : Cpu) : Type 0 where
 module _ (indexes : ℕ → ℕ) (id : ℕ) (e : Everywhere) where
   omni_turn : (n : ℕ) (t : State) → n < length t.cpus → IsId id → Base None t × (placement_of id t ≡ Some (OnAll e))
       → (found id (cpu_of n t).cyclics ≡ None) × CanGrow 1 (cpu_of n t)
-      → Turned (Came id) (λ u. Base None u × (placement_of id u ≡ Some (OnAll e))) n t (enter indexes n (component id n e t.clock) t)
+      → Turned (Came id) (λ u. Base None u
+      × (placement_of id u ≡ Some (OnAll e))) n t (enter indexes n (component id n e t.clock) t)
   omni_turn n t within is_id inv ready =
       let x = component id n e t.clock in
       let b = base_fresh x t refl refl inv.0 in

@@ -24,7 +24,8 @@ use Rattle.cyc_model.proofs.Events.{level_append, events_append}
 abbrev pub Fair : List Event → SoftLevel → Type 0
 Fair es l = AllCanAsSoft es l × ((level_after es l).firer_hand ≡ None)
 
-can_append : (xs ys : List Event) (l : SoftLevel) → AllCanAsSoft xs l → AllCanAsSoft ys (level_after xs l) → AllCanAsSoft (xs ++ ys) l
+can_append : (xs ys : List Event) (l : SoftLevel) → AllCanAsSoft xs l → AllCanAsSoft ys (level_after xs l)
+    → AllCanAsSoft (xs ++ ys) l
 can_append [] ys l first rest = rest
 can_append (x ∷ xs) ys l first rest = (first.0, can_append xs ys (after x l) first.1 rest)
 

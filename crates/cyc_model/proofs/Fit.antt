@@ -8,7 +8,8 @@ use native.Mathlib.Decide.{ℕ_discrete}
 use Rattle.cyc_types.specs.Limits.{greatest_bank}
 use Rattle.cyc_level.specs.declared.Event.{Event}
 use Rattle.cyc_level.specs.declared.Event.TheVariants.{Admit, Expire, Lose, Publish, Take, Finish, Mark, Clear, Switch, Follow}
-use Rattle.cyc_level.specs.Level.{AdmittedCyclic, Cyclics, SoftLevel, empty_level, count_in, count, soft_list, times_in, in_hand, place_count}
+use Rattle.cyc_level.specs.Level.{AdmittedCyclic, Cyclics, SoftLevel, empty_level, count_in, count, soft_list, times_in, in_hand}
+use Rattle.cyc_level.specs.Level.{place_count}
 use Rattle.cyc_level.specs.Level.{bank_size}
 use Rattle.cyc_level.specs.Lawful.{IsId, one_if_any}
 use Rattle.cyc_level.specs.Events.{changed_at, admitted_cyclic, cyclic_after_expire, cyclic_after_lose, cyclic_after_finish}
@@ -90,7 +91,8 @@ nothing_taken : (b : Bool) → cond {A = List ℕ} b [] [] ≡ []
 nothing_taken true = refl
 nothing_taken false = refl
 
-changed_all : (f : AdmittedCyclic → AdmittedCyclic) (P Q : AdmittedCyclic → Type 0) → ((c : AdmittedCyclic) → P c → Q (f c)) → (o : Option AdmittedCyclic)
+changed_all : (f : AdmittedCyclic → AdmittedCyclic) (P Q : AdmittedCyclic → Type 0) → ((c : AdmittedCyclic) → P c → Q (f c))
+    → (o : Option AdmittedCyclic)
     → ((c : AdmittedCyclic) → o ≡ Some c → P c) → (d : AdmittedCyclic) → option_map f o ≡ Some d → Q d
 changed_all f P Q g None h d e = absurd (cc)
 changed_all f P Q g (Some c) h d e = subst Q (some_same (f c) d e) (g c (h c refl))
@@ -102,7 +104,8 @@ listed_times : (j : ℕ) (h : Option ℕ) → times_in j (as_list h) ≡ in_hand
 listed_times j None = refl
 listed_times j (Some x) = omega arith
 
-called_count : (o : Option AdmittedCyclic) → one_if_any (count_in o - 1) ≡ one_if_any (count_in (option_map cyclic_after_finish o))
+called_count : (o : Option AdmittedCyclic)
+    → one_if_any (count_in o - 1) ≡ one_if_any (count_in (option_map cyclic_after_finish o))
 called_count None = refl
 called_count (Some c) = refl
 
@@ -125,14 +128,17 @@ changed_count m id f j a b one other = dite (ℕ_discrete j id)
     (ap (λ (k : ℕ). count_in (m j) + k) (other ne)))
 
 module _ (l : SoftLevel) (law : Fit l) where
-  renumbered : (f : AdmittedCyclic → AdmittedCyclic) (id : ℕ) (firer drainer : Option ℕ) → ((c : AdmittedCyclic) → c.index ≡ (f c).index)
-      → ((c : AdmittedCyclic) → l.cyclics id ≡ Some c → ((f c).sent ≡ (f c).done + (f c).count + (f c).lost) × ((f c).count ≤ l.ceiling))
+  renumbered : (f : AdmittedCyclic → AdmittedCyclic) (id : ℕ) (firer drainer : Option ℕ)
+      → ((c : AdmittedCyclic) → c.index ≡ (f c).index)
+      → ((c : AdmittedCyclic) → l.cyclics id ≡ Some c → ((f c).sent ≡ (f c).done + (f c).count + (f c).lost)
+      × ((f c).count ≤ l.ceiling))
       → (in_hand id firer + times_in id l.old_list + times_in id l.new_list + in_hand id drainer
       ≡ one_if_any (count_in (option_map f (l.cyclics id))))
       → ((j : ℕ) → j ≢ id → in_hand j firer + in_hand j drainer ≡ in_hand j l.firer_hand + in_hand j l.drainer_hand)
       → Fit (record l { cyclics = changed_at l.cyclics id (option_map f); firer_hand = firer; drainer_hand = drainer })
   renumbered f id firer drainer same numbers here there = record {
-    conserved = at_cases l.cyclics id (option_map f) (λ j o. (c : AdmittedCyclic) → o ≡ Some c → c.sent ≡ c.done + c.count + c.lost)
+    conserved = at_cases l.cyclics id (option_map f) (λ j o. (c : AdmittedCyclic) → o ≡ Some c
+        → c.sent ≡ c.done + c.count + c.lost)
         (changed_all f (λ c. l.cyclics id ≡ Some c) (λ c. c.sent ≡ c.done + c.count + c.lost) (λ c e. (numbers c e).0)
         (l.cyclics id) (λ c e. e)) (λ j _. law.conserved j);
     below_ceiling = at_cases l.cyclics id (option_map f) (λ j o. (c : AdmittedCyclic) → o ≡ Some c → c.count ≤ l.ceiling)
@@ -164,9 +170,11 @@ module _ (l : SoftLevel) (law : Fit l) where
   admits id index none = let c0 : AdmittedCyclic = admitted_cyclic index in let f : Option AdmittedCyclic
       → Option AdmittedCyclic = λ _. Some c0 in record {
         conserved = at_cases l.cyclics id f (λ k o. (d : AdmittedCyclic) → o ≡ Some d → d.sent ≡ d.done + d.count + d.lost)
-            (λ d h. subst (λ (c : AdmittedCyclic). c.sent ≡ c.done + c.count + c.lost) (some_same c0 d h) refl) (λ k ne. law.conserved k);
+            (λ d h. subst (λ (c : AdmittedCyclic). c.sent ≡ c.done + c.count + c.lost) (some_same c0 d h) refl)
+            (λ k ne. law.conserved k);
         below_ceiling = at_cases l.cyclics id f (λ k o. (d : AdmittedCyclic) → o ≡ Some d → d.count ≤ l.ceiling)
-            (λ d h. subst (λ (c : AdmittedCyclic). c.count ≤ l.ceiling) (some_same c0 d h) (omega arith)) (λ k ne. law.below_ceiling k);
+            (λ d h. subst (λ (c : AdmittedCyclic). c.count ≤ l.ceiling) (some_same c0 d h) (omega arith))
+            (λ k ne. law.below_ceiling k);
         one_place = at_cases l.cyclics id f (λ j o. place_count l j ≡ one_if_any (count_in o))
             (law.one_place id ∙ ap (λ o. one_if_any (count_in o)) none) (λ j _. law.one_place j);
         soft_behind = law.soft_behind;
@@ -335,7 +343,8 @@ abbrev pub all_brings : ℕ → List Event → ℕ
 all_brings j [] = 0
 all_brings j (e ∷ es) = brings j e + all_brings j es
 
-pub fit_along : (es : List Event) (l : SoftLevel) → Fit l → AllCanAsSoft es l → AllReady es l → AllRest es l → Fit (level_after es l)
+pub fit_along : (es : List Event) (l : SoftLevel) → Fit l → AllCanAsSoft es l → AllReady es l → AllRest es l
+    → Fit (level_after es l)
 fit_along [] l fit soft ready rest = fit
 fit_along (e ∷ es) l fit soft ready rest =
     fit_along es (after e l) (keeps_fit l fit e soft.0 ready.0 rest.0) soft.1 ready.1 rest.1

@@ -63,7 +63,8 @@ safe_bind indexes step b s g why =
     (is_online n s four.0) four.1 in
     (r.0, r.1, r.2)
   where
-    by : (id n : ℕ) (there : Bool) → (home_of id s == n) ≡ there → (bound : Bool) → placement_of id s ≡ Some (On (home_of id s) bound)
+    by : (id n : ℕ) (there : Bool) → (home_of id s == n) ≡ there → (bound : Bool)
+        → placement_of id s ≡ Some (On (home_of id s) bound)
         → n < length s.cpus → (cpu_of n s).online ≡ true
         → first_refusal (unless_there there (move_refusals plain id (home_of id s) n s)) ≡ None
         → Safe (followed_by (move_unless_there there indexes id n s) (λ t. nothing (put_at id (On n true) t))) s
@@ -132,7 +133,8 @@ module _ (indexes : ℕ → ℕ) (source other : ℕ) (apart : other ≢ source)
   abbrev pub CanJuggle : State → Type 0
   CanJuggle s = ((cpu_of source s).removal ≡ None) × (other < length s.cpus) × ((cpu_of other s).online ≡ true)
 
-  one_turn : (id : ℕ) (s : State) → Good s → CanJuggle s → (bound : Bool) → placement_of id s ≡ Some (On source bound) → (t : Turn)
+  one_turn : (id : ℕ) (s : State) → Good s → CanJuggle s → (bound : Bool) → placement_of id s ≡ Some (On source bound)
+      → (t : Turn)
       → turn plain source id s ≡ t → Turned id s (take_turn indexes source id t s)
   one_turn id s g can bound at IsBound is = stays id s g
   one_turn id s g can bound at IsPending is = stays id s g

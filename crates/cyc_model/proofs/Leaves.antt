@@ -52,9 +52,11 @@ module _ (n id : ℕ) (c : Cpu) where
     where
       both : events_at n soft (take_here n id c).acts ≡ events_at n soft (at_own n (handler_level_of id c) (Mark id))
           ++ events_at n soft (at_own n (handler_level_of id marked_cpu) (Clear id))
-      both = events_append n soft (at_own n (handler_level_of id c) (Mark id)) (at_own n (handler_level_of id marked_cpu) (Clear id))
+      both = events_append n soft (at_own n (handler_level_of id c) (Mark id))
+          (at_own n (handler_level_of id marked_cpu) (Clear id))
 
-      second : handler_level_of id c ≡ as_level soft → events_at n soft (at_own n (handler_level_of id marked_cpu) (Clear id)) ≡ Clear id ∷ []
+      second : handler_level_of id c ≡ as_level soft
+          → events_at n soft (at_own n (handler_level_of id marked_cpu) (Clear id)) ≡ Clear id ∷ []
       second is = ⊎_elim (λ two. two.1) (λ two. absurd (two.0 (same_level
           ∙ is))) (own_cases n (handler_level_of id marked_cpu) soft (Clear id))
 
@@ -90,9 +92,12 @@ module _ (n id : ℕ) (c : Cpu) where
             (take_cases soft));
         books = λ j. let a = count_here n c d w local rest Lock j in let b = count_here n c d w local rest Low j in
             let f = idle j Lock in let g = idle j Low in let f0 = f.0 in let f1 = f.1 in let g0 = g.0 in let g1 = g.1 in
-            let k = calls_append j (at_own n (handler_level_of id c) (Mark id)) (at_own n (handler_level_of id marked_cpu) (Clear id)) in
-            let k1 = calls_own n j (handler_level_of id c) (Mark id) in let k2 = calls_own n j (handler_level_of id marked_cpu) (Clear id) in
-            let m = losses_append j (at_own n (handler_level_of id c) (Mark id)) (at_own n (handler_level_of id marked_cpu) (Clear id)) in
+            let k = calls_append j (at_own n (handler_level_of id c) (Mark id))
+            (at_own n (handler_level_of id marked_cpu) (Clear id)) in
+            let k1 = calls_own n j (handler_level_of id c) (Mark id) in let k2 = calls_own n j (handler_level_of id marked_cpu)
+            (Clear id) in
+            let m = losses_append j (at_own n (handler_level_of id c) (Mark id))
+            (at_own n (handler_level_of id marked_cpu) (Clear id)) in
             let m1 = losses_own n j (handler_level_of id c) (Mark id) refl
             in let m2 = losses_own n j (handler_level_of id marked_cpu) (Clear id) refl in
             omega (arith, a, b, f0, f1, g0, g1, k, k1, k2, m, m1, m2);
@@ -167,7 +172,8 @@ module _ (n id : ℕ) (c : Cpu) where
           marks = λ soft j is. ⊎_elim
               (λ own. let e : Some id ≡ Some j = sym (ap (λ (l : SoftLevel). l.marked) own.1) ∙ is in
               (marked_same.1 ∙ e, at_level j ∙ ap (λ (i : ℕ). handler_level_of i c) (sym (some_same id j e)) ∙ own.0))
-              (λ away. none_some ((d.cpu.removal ≡ Some j) × (handler_level_of j d.cpu ≡ as_level soft)) j (level_at soft d.cpu).marked
+              (λ away. none_some ((d.cpu.removal ≡ Some j)
+              × (handler_level_of j d.cpu ≡ as_level soft)) j (level_at soft d.cpu).marked
               (ap (λ (l : SoftLevel). l.marked) away.1 ∙ not_marked c w free soft) is)
               (own_level n k (Mark id) c d.cpu local soft);
           marked = λ soft j is at. let e : Some id ≡ Some j = sym marked_same.1 ∙ is in ⊎_elim

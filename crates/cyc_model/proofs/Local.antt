@@ -146,7 +146,8 @@ on_expiry n level.Lock id c = on_map n Lock (raised id c.lock)
 on_expiry n level.Low id c = on_map n Low (raised id c.low)
 
 pub local_expire : (n id : ℕ) (c : Cpu) → Local n c (expire_here n id c)
-local_expire n id c = local_here n (expiry n (handler_level_of id c) id c) c c (on_expiry n (handler_level_of id c) id c) (λ soft. refl)
+local_expire n id c = local_here n (expiry n (handler_level_of id c) id c) c c (on_expiry n (handler_level_of id c) id c)
+    (λ soft. refl)
     (fair_expiry n (handler_level_of id c) id c) (agrees_expire n id c) (ready_expire n id c)
 
 pub local_expire_all : (n : ℕ) (ps : List Expiration) (c : Cpu) → Local n c (expire_all n ps c)

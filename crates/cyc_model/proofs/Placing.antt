@@ -130,7 +130,8 @@ place_put_same id place s p known =
     by (Some q) is e = ap (λ (b : Bool). Some ((cond b (record q { place = place }) q).place))
         (eq-eqb q.id id (entry_id id q s.placed is))
 
-pub place_put_none : (id : ℕ) (place : Placement) (s : State) → placement_of id s ≡ None → placement_of id (put_at id place s) ≡ None
+pub place_put_none : (id : ℕ) (place : Placement) (s : State) → placement_of id s ≡ None
+    → placement_of id (put_at id place s) ≡ None
 place_put_none id place s none =
     ap (option_map (λ (q : Placed). q.place)) (entry_replaced id id place s.placed) ∙ by (entry id s.placed) none
   where

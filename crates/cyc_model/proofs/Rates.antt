@@ -66,24 +66,28 @@ AllHaveRoom (e ∷ es) l = HasRoom e l × AllHaveRoom es (after e l)
 abbrev pub Counted : (ℕ → ℕ) → SoftLevel → Type 0
 Counted bound l = (id : ℕ) (c : AdmittedCyclic) → l.cyclics id ≡ Some c → c.sent ≤ bound id
 
-mapped_count : (f : AdmittedCyclic → AdmittedCyclic) (k m : ℕ) → ((c : AdmittedCyclic) → (f c).sent ≤ c.sent + m) → (o : Option AdmittedCyclic)
+mapped_count : (f : AdmittedCyclic → AdmittedCyclic) (k m : ℕ) → ((c : AdmittedCyclic) → (f c).sent ≤ c.sent + m)
+    → (o : Option AdmittedCyclic)
     → ((c : AdmittedCyclic) → o ≡ Some c → c.sent ≤ k) → (d : AdmittedCyclic) → option_map f o ≡ Some d → d.sent ≤ k + m
 mapped_count f k m grows None low d e = absurd (cc)
 mapped_count f k m grows (Some c) low d e =
-    let a = grows c in let b = low c refl in subst (λ (x : AdmittedCyclic). x.sent ≤ k + m) (some_same (f c) d e) (omega (arith, a, b))
+    let a = grows c in let b = low c refl in subst (λ (x : AdmittedCyclic). x.sent ≤ k + m) (some_same (f c) d e)
+    (omega (arith, a, b))
 
 module _ (bound : ℕ → ℕ) (l : SoftLevel) (low : Counted bound l) where
   same_count : (e : Event) → (after e l).cyclics ≡ l.cyclics → Counted (λ id. bound id + sends id e) (after e l)
   same_count e same id c is = let h = low id c (sym (ap (λ m. m id) same) ∙ is) in omega (arith, h)
 
-  finish_count : (hand : Option ℕ) (id : ℕ) (c : AdmittedCyclic) → (after_finish hand l).cyclics id ≡ Some c → c.sent ≤ bound id + 0
+  finish_count : (hand : Option ℕ) (id : ℕ) (c : AdmittedCyclic) → (after_finish hand l).cyclics id ≡ Some c
+      → c.sent ≤ bound id + 0
   finish_count None id c is = let h = low id c is in omega (arith, h)
   finish_count (Some j) id c is = at_cases l.cyclics j (option_map cyclic_after_finish) (λ k o. (d : AdmittedCyclic) → o ≡ Some d
       → d.sent ≤ bound k + 0)
       (mapped_count cyclic_after_finish (bound j) 0 (λ d. omega arith) (l.cyclics j) (low j))
       (λ k ne d e. let h = low k d e in omega (arith, h)) id c is
 
-  sent_one : (j : ℕ) (f : AdmittedCyclic → AdmittedCyclic) → ((c : AdmittedCyclic) → (f c).sent ≤ c.sent + 1) → (id : ℕ) (c : AdmittedCyclic)
+  sent_one : (j : ℕ) (f : AdmittedCyclic → AdmittedCyclic) → ((c : AdmittedCyclic) → (f c).sent ≤ c.sent + 1)
+      → (id : ℕ) (c : AdmittedCyclic)
       → changed_at l.cyclics j (option_map f) id ≡ Some c → c.sent ≤ bound id + cond (j == id) 1 0
   sent_one j f grows id c is = at_cases l.cyclics j (option_map f) (λ k o. (d : AdmittedCyclic) → o ≡ Some d
       → d.sent ≤ bound k + cond (j == k) 1 0)
@@ -104,7 +108,8 @@ module _ (bound : ℕ → ℕ) (l : SoftLevel) (low : Counted bound l) where
   counted_after Take id c is = same_count Take refl id c is
   counted_after Finish id c is = finish_count l.drainer_hand id c is
   counted_after (Mark j) id c is = same_count (Mark j) refl id c is
-  counted_after (Clear j) id c is = at_cases l.cyclics j (λ o. None) (λ k o. (d : AdmittedCyclic) → o ≡ Some d → d.sent ≤ bound k + 0)
+  counted_after (Clear j) id c is = at_cases l.cyclics j (λ o. None) (λ k o. (d : AdmittedCyclic) → o ≡ Some d
+      → d.sent ≤ bound k + 0)
       (λ d e. absurd (cc)) (λ k ne d e. let h = low k d e in omega (arith, h)) id c is
   counted_after (Switch bank) id c is = same_count (Switch bank) refl id c is
   counted_after Follow id c is = same_count Follow refl id c is

@@ -145,7 +145,8 @@ start_good cpus ceiling names some = record {
         cpus n has);
     home = λ j n bound is. none_some (IsSome (found j (cpu_of n (start cpus ceiling names)).cyclics)) (On n bound)
         (placement_of j (start cpus ceiling names)) refl is;
-    stands = λ j e is. none_some (Stands j (start cpus ceiling names)) (OnAll e) (placement_of j (start cpus ceiling names)) refl is;
+    stands = λ j e is. none_some (Stands j (start cpus ceiling names)) (OnAll e)
+        (placement_of j (start cpus ceiling names)) refl is;
   };
 }
 

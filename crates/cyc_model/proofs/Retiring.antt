@@ -58,7 +58,8 @@ pub record Retired (n : ℕ) (ids : List ℕ) (s : State) (o : Outcome) : Type 0
 
 take_calls : (n id j : ℕ) (c : Cpu) → calls_of j (take_here n id c).acts ≡ 0
 take_calls n id j c =
-    let a = calls_append j (at_own n (handler_level_of id c) (Mark id)) (at_own n (handler_level_of id (marked_cpu n id c)) (Clear id)) in
+    let a = calls_append j (at_own n (handler_level_of id c) (Mark id))
+    (at_own n (handler_level_of id (marked_cpu n id c)) (Clear id)) in
     let b = calls_own n j (handler_level_of id c) (Mark id) in
     let d = calls_own n j (handler_level_of id (marked_cpu n id c)) (Clear id) in omega (arith, a, b, d)
 

@@ -27,7 +27,8 @@ other Lock = Low
 
 module _ (n : ℕ) (soft : Soft) where
   -- what holds of each event at each level holds along the acts
-  rest_acts : (acts : List Act) (l : SoftLevel) → AllActs (λ e. (m : SoftLevel) → Rest e m) acts → AllRest (events_at n soft acts) l
+  rest_acts : (acts : List Act) (l : SoftLevel) → AllActs (λ e. (m : SoftLevel) → Rest e m) acts
+      → AllRest (events_at n soft acts) l
   rest_acts [] l h = tt
   rest_acts (Call id ∷ acts) l h = rest_acts acts l h.1
   rest_acts (At m s e ∷ acts) l h = by ((m == n) && same_soft s soft) (rest_acts acts l h.1) (rest_acts acts (after e l) h.1)

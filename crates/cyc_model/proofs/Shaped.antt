@@ -13,7 +13,8 @@ use Rattle.cyc_model.specs.Cpu.{Cyclic, Cpu, Here, happen, handler_level_of, not
 use Rattle.cyc_model.specs.Serving.{level_at, serve}
 use Rattle.cyc_model.specs.Moving.{must_grow, bank_for, switch_here, widen_here, take_here, mark_here, clear_here}
 use Rattle.cyc_model.specs.Questions.{Questions}
-use Rattle.cyc_model.specs.State.{State, Outcome, Placement, On, OnAll, Placed, on, cpu_of, each, nothing, followed_by, online_cpus}
+use Rattle.cyc_model.specs.State.{State, Outcome, Placement, On, OnAll, Placed, on, cpu_of, each, nothing, followed_by}
+use Rattle.cyc_model.specs.State.{online_cpus}
 use Rattle.cyc_model.specs.State.{cpus_with, numbers}
 use Rattle.cyc_model.specs.Places.{id_of, given, put_at, keep_counts, is_bound, home_of, destination}
 use Rattle.cyc_model.specs.Add.{enter, added}
@@ -118,7 +119,8 @@ module _ (indexes : ℕ → ℕ) (P : List Act → ℕ → ℕ → Type 0) (calm
 
   shaped_begin : (q : Questions) (id n : ℕ) → Shaped (begin q id n)
   shaped_begin q id n s = shaped_then (on n (mark_here n id) s) (poll q id n) s
-      (calm (at_own n (handler_level_of id (cpu_of n s)) (Mark id)) s.admissions (idle_own n (handler_level_of id (cpu_of n s)) (Mark id) tt))
+      (calm (at_own n (handler_level_of id (cpu_of n s)) (Mark id)) s.admissions
+      (idle_own n (handler_level_of id (cpu_of n s)) (Mark id) tt))
       (shaped_poll q id n)
 
   shaped_begun : (q : Questions) (step : ℕ) (text : List ℕ) (id : ℕ) (ns : List ℕ) (o : Outcome) (a : ℕ)

@@ -119,7 +119,8 @@ shift_clear n id c = shift_left id c (clear_here n id c) (cleared_cpu n id c).0
 
 pub take_losses : (n id : ℕ) (c : Cpu) (j : ℕ) → losses_of j (take_here n id c).acts ≡ 0
 take_losses n id c j =
-    let a = losses_append j (at_own n (handler_level_of id c) (Mark id)) (at_own n (handler_level_of id (marked_cpu n id c)) (Clear id)) in
+    let a = losses_append j (at_own n (handler_level_of id c) (Mark id))
+    (at_own n (handler_level_of id (marked_cpu n id c)) (Clear id)) in
     let b = losses_own n j (handler_level_of id c) (Mark id) refl in
     let d = losses_own n j (handler_level_of id (marked_cpu n id c)) (Clear id) refl in omega (arith, a, b, d)
 

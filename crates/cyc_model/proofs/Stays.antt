@@ -29,7 +29,8 @@ use Rattle.cyc_model.proofs.Moves.{one_hard, CanGrow, widened_cpu, widened_room,
 pub none_and_some : {A : Type 0} (P : Type 0) (o : Option A) → o ≡ None → IsSome o → P
 none_and_some P o none some = let x = some_of o some in none_some P x.0 o none x.1
 
-changed_elsewhere : (m : Cyclics) (id : ℕ) (f : Option AdmittedCyclic → Option AdmittedCyclic) (j : ℕ) → j ≢ id → changed_at m id f j ≡ m j
+changed_elsewhere : (m : Cyclics) (id : ℕ) (f : Option AdmittedCyclic → Option AdmittedCyclic) (j : ℕ) → j ≢ id
+    → changed_at m id f j ≡ m j
 changed_elsewhere m id f j ne = ap (λ (b : Bool). cond b (f (m j)) (m j)) (ne_eqb j id ne)
 
 -- ---- a stay begins
@@ -123,7 +124,8 @@ module _ (n index : ℕ) (x : Cyclic) (c : Cpu) (w : Whole c) (is_id : IsId x.ti
           → (P × (level_at soft (place_here n index x c).cpu ≡ after (Admit x.timer.id index) (level_at soft c)))
           ⊎ (Q × (level_at soft (place_here n index x c).cpu ≡ level_at soft c))
           → (level_at soft (place_here n index x c).cpu).marked ≡ (level_at soft c).marked
-      same_mark soft h = ⊎_elim (λ own. ap (λ (l : SoftLevel). l.marked) own.1) (λ away. ap (λ (l : SoftLevel). l.marked) away.1) h
+      same_mark soft h = ⊎_elim (λ own. ap (λ (l : SoftLevel). l.marked) own.1)
+          (λ away. ap (λ (l : SoftLevel). l.marked) away.1) h
 
 module _ (n index : ℕ) (x : Cyclic) (c : Cpu) (w : Whole c) (is_id : IsId x.timer.id) (new : found x.timer.id c.cyclics ≡ None)
     (can : CanGrow 1 c) where
@@ -183,7 +185,8 @@ whole_gone n id c d w local rest cyclics removal size alone gone = record {
       kept j (λ same. away.0 (ap (λ (i : ℕ). handler_level_of i c) (sym same) ∙ at)) ∙ at)
       (gone soft);
   marks = λ soft j is. ⊎_elim
-      (λ own. none_some ((d.cpu.removal ≡ Some j) × (handler_level_of j d.cpu ≡ as_level soft)) j (level_at soft d.cpu).marked own.2 is)
+      (λ own. none_some ((d.cpu.removal ≡ Some j)
+      × (handler_level_of j d.cpu ≡ as_level soft)) j (level_at soft d.cpu).marked own.2 is)
       (λ away. let was = w.marks soft j (sym (ap (λ (l : SoftLevel). l.marked) away.1) ∙ is) in
       absurd (away.0 (ap (λ (i : ℕ). handler_level_of i c) (sym (alone j was.0)) ∙ was.1)))
       (gone soft);
@@ -216,7 +219,8 @@ module _ (n id : ℕ) (c : Cpu) where
   pub cleared_cpu : ((clear_here n id c).cpu.cyclics ≡ others id c.cyclics) × ((clear_here n id c).cpu.removal ≡ None)
       × ((clear_here n id c).cpu.size ≡ c.size) × ((clear_here n id c).cpu.online ≡ c.online)
   cleared_cpu =
-      let same = same_happen (at_own n (handler_level_of id c) (Clear id)) (record c { cyclics = others id c.cyclics; removal = None }) in
+      let same = same_happen (at_own n (handler_level_of id c) (Clear id))
+      (record c { cyclics = others id c.cyclics; removal = None }) in
       (same.cyclics, same.removal, same.size, same.online)
 
   pub done_clear : Whole c → c.removal ≡ Some id → outstanding_here id c ≡ 0 → Done n (λ j. 0) c (clear_here n id c)

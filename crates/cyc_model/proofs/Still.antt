@@ -4,7 +4,8 @@ use Rattle.cyc_script.specs.declared.step.Bind.{Bind as BindStep}
 use Rattle.cyc_model.specs.Cpu.{Cyclic, cyclic_of}
 use Rattle.cyc_model.specs.Moving.{take_here, mark_here}
 use Rattle.cyc_model.specs.Firing.{fire_here}
-use Rattle.cyc_model.specs.State.{State, Outcome, Placement, On, OnAll, Everywhere, numbers, cpus_with, cpu_of, on, followed_by, each}
+use Rattle.cyc_model.specs.State.{State, Outcome, Placement, On, OnAll, Everywhere, numbers, cpus_with, cpu_of, on, followed_by}
+use Rattle.cyc_model.specs.State.{each}
 use Rattle.cyc_model.specs.Places.{id_of, home_of, put_at, is_bound, keep_counts}
 use Rattle.cyc_model.specs.Bind.{bring, move, move_unless_there, bind, unbind}
 use Rattle.cyc_script.specs.declared.step.Softint.{Softint as SoftintStep}

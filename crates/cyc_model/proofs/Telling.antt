@@ -17,7 +17,8 @@ use Rattle.cyc_model.specs.Serving.{level_at, level_after, serve_here}
 use Rattle.cyc_model.specs.Firing.{fire_here}
 use Rattle.cyc_model.specs.Moving.{enter_here, take_here, widen_here, place_here, mark_here, clear_here, reprogram_here}
 use Rattle.cyc_model.specs.Questions.{Questions}
-use Rattle.cyc_model.specs.State.{State, Outcome, Placement, On, OnAll, Placed, Everywhere, nothing, followed_by, each, on, cpu_of}
+use Rattle.cyc_model.specs.State.{State, Outcome, Placement, On, OnAll, Placed, Everywhere, nothing, followed_by, each, on}
+use Rattle.cyc_model.specs.State.{cpu_of}
 use Rattle.cyc_model.specs.State.{absent, cpus_with, online_cpus, numbers}
 use Rattle.cyc_model.specs.Places.{id_of, keep_counts, given, put_at, home_of, is_bound, forgotten, without_ended}
 use Rattle.cyc_model.specs.Refusals.{unless, magnitude}
@@ -143,7 +144,8 @@ tells_from : (acts : List Act) (s r t : State) → Alike s r → Tale acts r t �
 tells_from acts s r t same h = record {
   tells = told_from acts s r t same h.tells;
   fair = λ free n within soft. subst (λ l. Fair (events_at n soft acts) l) (level_same n soft)
-      (h.fair (λ m w k. ap (λ (l : SoftLevel). l.firer_hand) (level_same m k) ∙ free m (subst (λ j. m < j) (ap length same.0) w) k)
+      (h.fair (λ m w k. ap (λ (l : SoftLevel). l.firer_hand) (level_same m k)
+      ∙ free m (subst (λ j. m < j) (ap length same.0) w) k)
       n (subst (λ j. n < j) (sym (ap length same.0)) within) soft);
   agree = λ a. h.agree (subst AllAgree (sym same.0) a);
   ready = λ a free n within soft. subst (λ l. AllReady (events_at n soft acts) l) (level_same n soft)

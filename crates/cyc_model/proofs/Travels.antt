@@ -68,7 +68,8 @@ pub kept_put : (id n : ℕ) (bound was : Bool) (s : State) → placement_of id s
 kept_put id n bound was s at = record {
   ids = replaced_ids id (On n bound) s.placed;
   cyclics = λ j single. dite (ℕ_discrete j id)
-      (λ e. let here = ap (λ (k : ℕ). placement_of k (put_at id (On n bound) s)) e ∙ place_put_same id (On n bound) s (On n was) at in
+      (λ e. let here = ap (λ (k : ℕ). placement_of k (put_at id (On n bound) s)) e
+      ∙ place_put_same id (On n bound) s (On n was) at in
       let there = ap (λ (k : ℕ). placement_of k s) e ∙ at in (
         ap is_everywhere here,
         ap (λ o. cyclic_of j (cpu_of (home_at o) s)) (here ∙ by) ∙ sym (ap (λ o. cyclic_of j (cpu_of (home_at o) s)) there),
@@ -269,7 +270,8 @@ module _ (indexes : ℕ → ℕ) (id source target : ℕ) (s : State) (g : Good 
         in record {
           ids = replaced_ids id (On target (is_bound id t1)) s.placed;
           cyclics = λ j single. dite (ℕ_discrete j id)
-              (λ e. let now = ap (λ (k : ℕ). placement_of k t2) e ∙ place1 in let was = ap (λ (k : ℕ). placement_of k s) e ∙ at in (
+              (λ e. let now = ap (λ (k : ℕ). placement_of k t2) e ∙ place1 in let was = ap (λ (k : ℕ). placement_of k s) e
+              ∙ at in (
                 ap is_everywhere now,
                 ap (λ o. found j (cpu_of (home_at o) t3).cyclics) now ∙ ap (λ (k : ℕ). found k (cpu_of target t3).cyclics) e
                     ∙ found3

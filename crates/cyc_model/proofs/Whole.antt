@@ -34,7 +34,8 @@ pub record Whole (c : Cpu) : Type 0 where
   -- the marked id is the one whose removal is open
   pub marks : (soft : Soft) (id : ℕ) → (level_at soft c).marked ≡ Some id
       → (c.removal ≡ Some id) × (handler_level_of id c ≡ as_level soft)
-  pub marked : (soft : Soft) (id : ℕ) → c.removal ≡ Some id → handler_level_of id c ≡ as_level soft → (level_at soft c).marked ≡ Some id
+  pub marked : (soft : Soft) (id : ℕ) → c.removal ≡ Some id → handler_level_of id c ≡ as_level soft
+      → (level_at soft c).marked ≡ Some id
   pub rising : Rising 0 c.cyclics
   pub room : length c.cyclics ≤ c.size
   -- it doesn't expire, and is on the CPU
@@ -79,7 +80,8 @@ abbrev pub AllSteady : List Event → Type 0
 AllSteady [] = ⊤
 AllSteady (e ∷ es) = IsSteady e × AllSteady es
 
-changed_back : (m : Cyclics) (id : ℕ) (f : AdmittedCyclic → AdmittedCyclic) (j : ℕ) → IsSome (changed_at m id (option_map f) j) → IsSome (m j)
+changed_back : (m : Cyclics) (id : ℕ) (f : AdmittedCyclic → AdmittedCyclic) (j : ℕ) → IsSome (changed_at m id (option_map f) j)
+    → IsSome (m j)
 changed_back m id f j = by (j == id)
   where
     mapped : (o : Option AdmittedCyclic) → IsSome (option_map f o) → IsSome o
@@ -122,7 +124,8 @@ steady_marked (Clear id) l is = absurd is
 steady_marked (Switch bank) l is = refl
 steady_marked Follow l is = refl
 
-pub all_back : (es : List Event) (l : SoftLevel) (j : ℕ) → AllSteady es → IsSome ((level_after es l).cyclics j) → IsSome (l.cyclics j)
+pub all_back : (es : List Event) (l : SoftLevel) (j : ℕ) → AllSteady es → IsSome ((level_after es l).cyclics j)
+    → IsSome (l.cyclics j)
 all_back [] l j is h = h
 all_back (e ∷ es) l j is h = steady_back e l j is.0 (all_back es (after e l) j is.1 h)
 

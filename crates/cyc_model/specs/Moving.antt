@@ -57,8 +57,10 @@ reprogram_here id moment c = nothing_here (record c { cyclics = map (moment_at i
 -- the removal of a cyclic begins: from here on it does not expire (cyclic_remove_xcall)
 abbrev pub mark_here : ℕ → ℕ → Cpu → Here
 mark_here n id c =
-    here (at_own n (handler_level_of id c) (Mark id)) (record c { cyclics = map (moment_at id never) c.cyclics; removal = Some id })
+    here (at_own n (handler_level_of id c) (Mark id))
+    (record c { cyclics = map (moment_at id never) c.cyclics; removal = Some id })
 
 -- the removal of a cyclic with no call outstanding ends (cyclic_remove_xcall)
 abbrev pub clear_here : ℕ → ℕ → Cpu → Here
-clear_here n id c = here (at_own n (handler_level_of id c) (Clear id)) (record c { cyclics = others id c.cyclics; removal = None })
+clear_here n id c = here (at_own n (handler_level_of id c) (Clear id))
+    (record c { cyclics = others id c.cyclics; removal = None })

@@ -7,7 +7,8 @@ use Rattle.cyc_text.specs.Lines.{accepted}
 use Rattle.cyc_model.specs.Cpu.{Cpu, Cyclic, nothing_here}
 use Rattle.cyc_model.specs.Moving.{must_grow, widen_here, place_here}
 use Rattle.cyc_model.specs.Questions.{Questions}
-use Rattle.cyc_model.specs.State.{State, Outcome, Ended, Everywhere, Placement, On, OnAll, Placed, cpu_of, on, nothing, each, told}
+use Rattle.cyc_model.specs.State.{State, Outcome, Ended, Everywhere, Placement, On, OnAll, Placed, cpu_of, on, nothing, each}
+use Rattle.cyc_model.specs.State.{told}
 use Rattle.cyc_model.specs.State.{followed_by}
 use Rattle.cyc_model.specs.Places.{is_leaving, without_ended}
 use Rattle.cyc_model.specs.Refusals.{first_refusal, when, only_if, no_cpu, bad_now}

@@ -19,8 +19,8 @@ use Rattle.ring_rule.specs.Trail.{open_stay, seen_pend, hard_bank_of, producer_i
 use Rattle.ring_rule.specs.Log.{RingStep, raise_side, raise_positions, drain_side, drain_positions, newest}
 use Rattle.ring_rule.specs.Conservation.{AllStood}
 
--- a lawful level stands at the position of the firing side's newest step: the one order of all steps up to there has this trail on
--- its side, with these positions, and each record of it is true
+-- a lawful level stands at the position of the firing side's newest step: the one order of all steps up to there has this trail
+-- on its side, with these positions, and each record of it is true
 abbrev pub RaiseStands : Setting → List RaiseStep → List ℕ → Type 0
 RaiseStands k t positions = (log : List RingStep) × (t ≡ raise_side log) × (positions ≡ raise_positions log)
     × (length log ≡ newest positions + 1)
@@ -108,15 +108,16 @@ module _ (start : ℕ) (t : List DrainStep) where
   -- the steps of a call of the soft side. A take follows at most once for each bank but the first, and so looks at most nine
   -- times
   abbrev pub DrainSteps : DrainCall → List DrainStep → Type 0
-  DrainSteps (Takes None) steps = (before : List DrainStep) × AreFollows before × FoundNone before steps × (length before ≤ 3 * greatest_bank)
+  DrainSteps (Takes None) steps = (before : List DrainStep) × AreFollows before
+      × FoundNone before steps × (length before ≤ 3 * greatest_bank)
   DrainSteps (Takes (Some id)) steps = (before : List DrainStep) × AreFollows before × FoundEntry id before steps
       × (length before ≤ 3 * greatest_bank)
   -- the `fetch_sub` of 1 on the pend word of the cyclic in hand
   DrainSteps (Finishes id answer) steps = (e found : ℕ) × (held_entry t ≡ Some e) × (id ≡ entry_id e) × IsFinish found answer
       × (steps ≡ Subtracted found ∷ [])
 
--- a call of the firing side: the seat's trail gained the steps of the call, each with its position, and at the position of each of them
--- a lawful level stood
+-- a call of the firing side: the seat's trail gained the steps of the call, each with its position, and at the position of each
+-- of them a lawful level stood
 pub record MakesRaiseCall (k : Setting) (v : SeatView) (call : FiringCall) (v' : SeatView) : Type 0 where
   pub steps : List RaiseStep
   pub positions : List ℕ

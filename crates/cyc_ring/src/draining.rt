@@ -69,9 +69,10 @@ impl Ring {
         ensures outstanding { 0 < result % mark_bit }
         ensures step { MakesDrainStep J.setting (Subtracted result) drain_seat.old.side.seat drain_seat.new.side.seat }
     {
-        let found = self
-            .words
-            .subtract::<J>(&mut drain_seat.side, (drain_seat.hand % ENTRY_BASE) as usize);
+        let found = self.words.subtract::<J>(
+            &mut drain_seat.side,
+            (drain_seat.hand % ENTRY_BASE) as usize,
+        );
         if found % MARK <= 1 {
             drain_seat.hand = 0;
         }

@@ -5,8 +5,8 @@
 ghost use Rattle.std.specs.Prelude.{IfOk};
 ghost use Rattle.cyc_ring.specs.Ends.{IsRaiseSeatOf, IsDrainSeatOf};
 
-pub mod soft_side;
 pub mod firing_side;
+pub mod soft_side;
 
 use crate::firing_side::KnownSeat;
 use cyc_ring::{DrainSeat, Ring};

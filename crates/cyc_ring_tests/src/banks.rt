@@ -5,9 +5,9 @@ ghost use Rattle.cyc_ring.specs.Ends.{IsRaiseSeatOf, IsDrainSeatOf};
 
 use crate::help::{Counts, book, expect, open};
 use cyc_ring::{Closed, DrainSeat, Ring};
-use cyc_types::{CyclicId, Finished, GREATEST_BANK, Index, Raised};
-use cyc_ring_sides::soft_side::SoftSide;
 use cyc_ring_sides::firing_side::{FiringSide, KnownSeat, NotAllowed};
+use cyc_ring_sides::soft_side::SoftSide;
+use cyc_types::{CyclicId, Finished, GREATEST_BANK, Index, Raised};
 use std::alloc::Global;
 use std::test::Fail;
 
@@ -63,7 +63,11 @@ fn rounds(firing_side: &mut FiringSide, soft_side: &mut SoftSide) -> Result<bool
     Ok(right && firing_side.followed())
 }
 
-fn goes_round(ring: &Ring, raise_seat: KnownSeat, drain_seat: DrainSeat) -> (KnownSeat, DrainSeat, bool)
+fn goes_round(
+    ring: &Ring,
+    raise_seat: KnownSeat,
+    drain_seat: DrainSeat,
+) -> (KnownSeat, DrainSeat, bool)
     requires { IsRaiseSeatOf ring.now raise_seat.seat × IsDrainSeatOf ring.now drain_seat }
     ensures { IsRaiseSeatOf ring.now result.0.seat × IsDrainSeatOf ring.now result.1 }
 {

@@ -50,7 +50,11 @@ fn goes_round<R: Threads>(
     let (raise_seat, drain_seat, at_second) = elsewhere(rt, ring, raise_seat, drain_seat, second);
     let (raise_seat, drain_seat, at_third) = elsewhere(rt, ring, raise_seat, drain_seat, third);
     let (raise_seat, drain_seat, at_last) = play(ring, raise_seat, drain_seat, last);
-    (raise_seat, drain_seat, [at_first, at_second, at_third, at_last])
+    (
+        raise_seat,
+        drain_seat,
+        [at_first, at_second, at_third, at_last],
+    )
 }
 
 /// The calls that differ, and the books, where the seats go round so.
@@ -65,7 +69,15 @@ fn closed_after<R: Threads>(
     requires within { m ≤ length worked.now.calls.now }
 {
     let (ring, raise_seat, drain_seat) = open(alloc, worked.ceiling, worked.start)?;
-    let (raise_seat, drain_seat, differs) = goes_round(rt, &ring, raise_seat, drain_seat, worked.calls, k, m);
+    let (raise_seat, drain_seat, differs) = goes_round(
+        rt,
+        &ring,
+        raise_seat,
+        drain_seat,
+        worked.calls,
+        k,
+        m,
+    );
     let closed = ring.close(raise_seat.seat(), drain_seat);
     Ok((differs, books(&closed)))
 }

@@ -8,10 +8,10 @@ use crate::help::{Books, Counts, books, expect, id, open};
 use crate::play::{Call, Differs, play};
 use crate::rows::{Worked, worked_rings};
 use cyc_ring::{DrainSeat, Ring};
+use cyc_ring_sides::firing_side::KnownSeat;
+use cyc_ring_sides::soft_side::SoftSide;
 use cyc_soft::{Ran, SoftRefused};
 use cyc_types::{CyclicId, Raised, Tally};
-use cyc_ring_sides::soft_side::SoftSide;
-use cyc_ring_sides::firing_side::KnownSeat;
 use std::alloc::Global;
 use std::test::Fail;
 use std::thread::{Threads, join};
@@ -31,7 +31,11 @@ fn handed_over<R: Threads>(
 {
     let (first, rest) = calls.split_at(k);
     let (raise_seat, drain_seat, before) = play(ring, raise_seat, drain_seat, first);
-    let ((raise_seat, drain_seat, after), ()) = join(rt, || play(ring, raise_seat, drain_seat, rest), || ());
+    let ((raise_seat, drain_seat, after), ()) = join(
+        rt,
+        || play(ring, raise_seat, drain_seat, rest),
+        || (),
+    );
     (raise_seat, drain_seat, [before, after])
 }
 
@@ -45,7 +49,14 @@ fn closed_after<R: Threads>(
     requires { k ≤ length worked.now.calls.now }
 {
     let (ring, raise_seat, drain_seat) = open(alloc, worked.ceiling, worked.start)?;
-    let (raise_seat, drain_seat, differs) = handed_over(rt, &ring, raise_seat, drain_seat, worked.calls, k);
+    let (raise_seat, drain_seat, differs) = handed_over(
+        rt,
+        &ring,
+        raise_seat,
+        drain_seat,
+        worked.calls,
+        k,
+    );
     let closed = ring.close(raise_seat.seat(), drain_seat);
     Ok((differs, books(&closed)))
 }

@@ -4,8 +4,8 @@ ghost use Rattle.std.specs.Prelude.{IfOk};
 ghost use Rattle.cyc_ring.specs.Ends.{IsRaiseSeatOf, IsDrainSeatOf};
 
 use cyc_ring::{Closed, DrainSeat, Ring};
-use cyc_types::{Ceiling, CyclicId, Index};
 use cyc_ring_sides::firing_side::KnownSeat;
+use cyc_types::{Ceiling, CyclicId, Index};
 use std::alloc::Global;
 use std::fmt::Debug;
 use std::process::Abort;

@@ -3,9 +3,9 @@ ghost use Rattle.std.specs.Prelude.{◌≡◌};
 ghost use Rattle.cyc_ring.specs.Ends.{IsRaiseSeatOf, IsDrainSeatOf};
 
 use cyc_ring::{DrainSeat, Ring};
-use cyc_types::{CyclicId, Finished, Index, Raised, Sent};
-use cyc_ring_sides::soft_side::SoftSide;
 use cyc_ring_sides::firing_side::{FiringSide, KnownSeat, NotAllowed};
+use cyc_ring_sides::soft_side::SoftSide;
+use cyc_types::{CyclicId, Finished, Index, Raised, Sent};
 
 /// A call with its answer; ids and indexes by their numbers.
 #[derive(Clone, Copy)]

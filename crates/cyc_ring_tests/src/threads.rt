@@ -5,9 +5,9 @@ ghost use Rattle.cyc_ring.specs.Ends.{IsRaiseSeatOf, IsDrainSeatOf};
 use crate::help::{Counts, book, expect, id, open};
 use crate::play::{Call, play};
 use cyc_ring::{DrainSeat, Ring};
-use cyc_types::{CyclicId, Raised};
-use cyc_ring_sides::soft_side::SoftSide;
 use cyc_ring_sides::firing_side::{FiringSide, KnownSeat, NotAllowed};
+use cyc_ring_sides::soft_side::SoftSide;
+use cyc_types::{CyclicId, Raised};
 use std::alloc::Global;
 use std::sync::atomic::{AtomicBool, Ordering};
 use std::test::Fail;
@@ -90,7 +90,12 @@ fn ring_two_threads(rt: HostRuntime) -> Result<(), Fail> {
 }
 
 /// Looks whether the soft side has followed: before it is let go on, and then until it has or so many looks are made.
-fn looks(ring: &Ring, raise_seat: KnownSeat, go: &AtomicBool, looks: u64) -> (KnownSeat, (bool, bool))
+fn looks(
+    ring: &Ring,
+    raise_seat: KnownSeat,
+    go: &AtomicBool,
+    looks: u64,
+) -> (KnownSeat, (bool, bool))
     requires { IsRaiseSeatOf ring.now raise_seat.seat }
     ensures { IsRaiseSeatOf ring.now result.0.seat }
 {

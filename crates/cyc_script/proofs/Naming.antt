@@ -84,13 +84,15 @@ named name f all = named_in (as_str name) f all
 adds : (parts : List Data) → AreNamed (add_of parts)
 unfolding add_of
 adds (name ∷ level ∷ start ∷ interval ∷ []) =
-    named name _ λ x is. and_then (level_in_value level) _ λ l. and_then (whole_of start) _ λ s. and_then (whole_of interval) _ λ i. is
+    named name _ λ x is. and_then (level_in_value level) _ λ l. and_then (whole_of start) _ λ s. and_then
+    (whole_of interval) _ λ i. is
 adds _ = tt
 
 omnis : (parts : List Data) → AreNamed (omni_of parts)
 unfolding omni_of
 omnis (name ∷ level ∷ start ∷ interval ∷ skew ∷ []) =
-    named name _ λ x is. and_then (level_in_value level) _ λ l. and_then (whole_of start) _ λ s. and_then (whole_of interval) _ λ i.
+    named name _ λ x is. and_then (level_in_value level) _ λ l. and_then (whole_of start) _ λ s. and_then
+    (whole_of interval) _ λ i.
     and_then (skew_of skew) _ λ w. is
 omnis _ = tt
 

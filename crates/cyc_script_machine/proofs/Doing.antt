@@ -111,7 +111,8 @@ accepts x s m n h kept done clock tally leaves remembers = record {
 }
 
 -- a step that is refused leaves the machine as it shows it
-pub refuses : (s : State) (m n : Machine) → Holds s m → Keeps n.system → ShowsSystem s n.system → n.clock ≡ m.clock → n.tally ≡ m.tally
+pub refuses : (s : State) (m n : Machine) → Holds s m → Keeps n.system → ShowsSystem s n.system → n.clock ≡ m.clock
+    → n.tally ≡ m.tally
     → SameNames m n → Holds s n
 refuses s m n h kept shows clock tally same = record {
   system = kept.system;

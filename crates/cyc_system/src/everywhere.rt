@@ -10,8 +10,8 @@ impl<R: Raise> System<R> {
     /// of CPU `c` starts `c` times the skew after the start, and never later than never.
     ///
     /// Refuses with BadNow where `now` is never, then with IdsSpent where the last id was given; then, CPU by CPU in rising
-    /// number, with Full, Busy or Expanding; then with Memory. All memory, that of one more cyclic on each online CPU and of a record,
-    /// is taken before the first CPU grows. A refused call spends no id.
+    /// number, with Full, Busy or Expanding; then with Memory. All memory, that of one more cyclic on each online CPU and of a
+    /// record, is taken before the first CPU grows. A refused call spends no id.
     pub fn add_omni(
         &mut self,
         level: Level,

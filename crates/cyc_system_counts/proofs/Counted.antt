@@ -249,7 +249,8 @@ module _ {R : Type 0} (step : R → FiringCall → R → Type 0) (view : R → F
   return_fixed n now own level counts (stands.On m bound) way rest = rest
   return_fixed n now own level counts (stands.Everywhere first skew) way rest = (tt, rest)
 
-  return_brings : (n now own : ℕ) (level : Level) (counts : Sent) (place : Placement) (way : List CallOn) → is_everywhere place ≡ true
+  return_brings : (n now own : ℕ) (level : Level) (counts : Sent) (place : Placement) (way : List CallOn)
+      → is_everywhere place ≡ true
       → (all_brought f id (return_at n now own level counts place ++ way) ≡ cond (own == id)
       (g counts) 0 + all_brought f id way)
       × (all_taken f id (return_at n now own level counts place ++ way) ≡ all_taken f id way)

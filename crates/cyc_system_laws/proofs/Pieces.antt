@@ -221,13 +221,15 @@ module _ {R : Type 0} (step : R → FiringCall → R → Type 0) (view : R → F
       subst (λ rs. Unnamed id rs) (sym records) (unnamed_set id s.records k r _ none here refl)
 
   -- the id of a record is another one
-  named_not : (own : ℕ) (place : Placement) (s t : SystemView R) → Records own place s t → (id : ℕ) → Unnamed id s.records → own ≢ id
+  named_not : (own : ℕ) (place : Placement) (s t : SystemView R) → Records own place s t → (id : ℕ) → Unnamed id s.records
+      → own ≢ id
   named_not own place s t (k, r, here, named, records, last) id none same = none k r here (named ∙ same)
 
   last_of : (own : ℕ) (place : Placement) (s t : SystemView R) → Records own place s t → s.last ≤ t.last
   last_of own place s t (k, r, here, named, records, last) = same_low s.last t.last last
 
-  made_goes : (own home target : ℕ) (place : Placement) (s t : SystemView R) → GoesTo step view own home target (Ok tt) s.cpus t.cpus
+  made_goes : (own home target : ℕ) (place : Placement) (s t : SystemView R)
+      → GoesTo step view own home target (Ok tt) s.cpus t.cpus
       → Records own place s t → IsMadeOf step view s t
   made_goes own home target place s t (inl (at, is, same)) records =
       made_calls s t [] (sym same) (last_of own place s t records) (λ id low none. tt) (placed_records own place s t records)

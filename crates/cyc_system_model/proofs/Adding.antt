@@ -61,7 +61,8 @@ new_ended : (n id : ℕ) (level : Level) (p : RecordPlacement)
 new_ended n id level p = ap shown_counts (same_all 16 n no_counts)
 
 -- the new record has no ended stay, and no other changed
-pub ended_more : (s : State) (v : SystemView Tables) (id : ℕ) (level : Level) (p : RecordPlacement) (k n : ℕ) (r : Record) → ShowsSystem s v
+pub ended_more : (s : State) (v : SystemView Tables) (id : ℕ) (level : Level) (p : RecordPlacement) (k n : ℕ) (r : Record)
+    → ShowsSystem s v
     → id ≡ s.last_id + 1
     → IsRecord v.records k r ⊎ (r ≡ new_record id level p) → s.ended r.id n ≡ shown_counts (ended_on n r)
 ended_more s v id level p k n r h gives (inl old) = h.ended k r old n
@@ -114,7 +115,8 @@ module _ (a : AddStep) (series : When) (s : State) (v w : SystemView Tables) (sy
       let cs : shown_cpus w.cpus ≡ slice_set (shown_cpus v.cpus) d
       (enter_here d p.index x (get_or (shown_cpus v.cpus) d absent)).cpu =
       ap shown_cpus (sym same) ∙ e.cpus ∙ ap (λ xs. slice_set xs d (enter_here d p.index x (get_or xs d absent)).cpu) before in
-      let at_d : get_or s.cpus (destination None s) absent ≡ cpu_at u1 d = λ z. get_or ((h.cpus ∙ sym before) z) (dm z) absent in (
+      let at_d : get_or s.cpus (destination None s) absent
+      ≡ cpu_at u1 d = λ z. get_or ((h.cpus ∙ sym before) z) (dm z) absent in (
         gives,
         record {
           accepted = only_room a series s is (asked ∙ none) ∙ or_none (room_there s) ∙ room_at d dm ∙ r.answered tt;

@@ -146,7 +146,8 @@ after_one ns n m = followed_by (fire_each ns m) (fires_at m.clock (n ∷ []))
 one_after : (ns : List ℕ) (n : ℕ) (m : State) → fire_each (ns ++ n ∷ []) m ≡ after_one ns n m
 one_after ns n m = each_append (λ k. on k (fire_here k m.clock)) ns (n ∷ []) m
 
-each_free : (ns : List ℕ) (m : State) (s : SystemView Tables) → ShowsSystem (fire_each ns m).state s → ComesTo [] m (fire_each ns m) s
+each_free : (ns : List ℕ) (m : State) (s : SystemView Tables) → ShowsSystem (fire_each ns m).state s
+    → ComesTo [] m (fire_each ns m) s
 each_free ns m s h = record {
   shows = h;
   admissions = (let r = fires_admissions m.clock ns m in omega (arith, r));

@@ -48,7 +48,8 @@ same_numbers test own same k (o ∷ os) (v ∷ vs) long =
     (λ z. kept_if (same o v z) k (same_numbers test own same (k + 1) os vs (omega (arith, long)) z))
     ∙ sym (online_kept (own v) k (map own vs))
 
-module _ (id : ℕ) (m : State) (v : SystemView Tables) (h : ShowsSystem m v) (long : length v.cpus.online ≡ length v.cpus.cpus) where
+module _ (id : ℕ) (m : State) (v : SystemView Tables) (h : ShowsSystem m v)
+    (long : length v.cpus.online ≡ length v.cpus.cpus) where
   pub same_with : cpus_with id m ≡ cpus_with_in id v.cpus
   same_with = ap (numbers_from 0 (has_cyclic id)) h.cpus
       ∙ same_numbers (has_cyclic id) (λ cpu. list_any (λ own. own == id) (ids_of cpu))
@@ -94,7 +95,8 @@ one_goes id (suc k) r (x ∷ rs) rising is named =
 
 -- ---- what its record has of ended stays
 
-module _ (id k : ℕ) (r : Record) (m : State) (u : SystemView Tables) (h : ShowsSystem m u) (hu : Half u) (is : IsRecord u.records k r)
+module _ (id k : ℕ) (r : Record) (m : State) (u : SystemView Tables) (h : ShowsSystem m u) (hu : Half u)
+    (is : IsRecord u.records k r)
     (named : r.id ≡ id) where
   pub as_few : length m.cpus ≡ length u.cpus.cpus
   as_few = ap length h.cpus ∙ long_shown u.cpus.online u.cpus.cpus hu.long

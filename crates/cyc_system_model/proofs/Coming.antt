@@ -46,7 +46,8 @@ module _ {A : Type 0} (f : ℕ → State → Outcome) (cpu : A → ℕ) (P : Cpu
     → SystemView Tables → Type 0)
     (one : (a : A) (m : State) (v w : SystemView Tables) → Half v → ShowsSystem m v → P (cpu_of (cpu a) m) → R v a w
     → CameTo (cpu a) (Q a) m (f (cpu a) m) w) where
-  pub all_come : (low : ℕ) (way : List A) (m : State) (v w : SystemView Tables) → RiseFrom low (map cpu way) → Half v → ShowsSystem m v
+  pub all_come : (low : ℕ) (way : List A) (m : State) (v w : SystemView Tables) → RiseFrom low (map cpu way) → Half v
+      → ShowsSystem m v
       → ((k : ℕ) → Has k (map cpu way) → P (cpu_of k m)) → FoldsTo R v way w → CameToAll cpu Q way m (each f (map cpu way) m) w
   all_come low [] m v w rise hv h ready same = record {
     came = record {

@@ -90,7 +90,8 @@ free_on n acts s on free m soft = dite (ℕ_discrete m n)
     (λ ne. subst (λ es. AllCanBeAdmitted es (level_at soft (cpu_of m s))) (sym (other_events acts n m soft on ne)) tt)
 
 -- the machine shows a system that looks the same
-pub same_shown : (s : State) (v w : SystemView Tables) → ShowsSystem s v → shown_cpus w.cpus ≡ shown_cpus v.cpus → w.records ≡ v.records
+pub same_shown : (s : State) (v w : SystemView Tables) → ShowsSystem s v → shown_cpus w.cpus ≡ shown_cpus v.cpus
+    → w.records ≡ v.records
     → w.last ≡ v.last → ShowsSystem s w
 same_shown s v w h cpus records last = record {
   cpus = h.cpus ∙ sym cpus;

@@ -123,7 +123,8 @@ kept_put : (v : SystemView Tables) (k : ℕ) (r x : Record) → Half v → IsRec
     → Kept v (record v { records = slice_set v.records k x })
 kept_put v k r x h is same new = record { half = half_put v k r x h is same new; most = λ n. refl; room = λ all. all }
 
-kept_placed : (id : ℕ) (p : RecordPlacement) (v u w : SystemView Tables) → Kept v u → w.cpus ≡ u.cpus → Records id p u w → Kept v w
+kept_placed : (id : ℕ) (p : RecordPlacement) (v u w : SystemView Tables) → Kept v u → w.cpus ≡ u.cpus → Records id p u w
+    → Kept v w
 kept_placed id p v u w h cpus (k, r, is, named, records, last) =
     kept_parts v (record u { records = slice_set u.records k (with_place p r) }) w
     (kept_then v u (record u { records = slice_set u.records k (with_place p r) }) h

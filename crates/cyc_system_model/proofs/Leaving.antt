@@ -96,7 +96,12 @@ record Retired (s : State) (o : Outcome) (w : SystemView Tables) : Type 0 where
 all_retire : (n : ℕ) (ids : List ℕ) (v w : SystemView Tables) → Half v → FoldsTo (Retires fires seen n) v ids w → (s : State)
     → ShowsSystem s v
     → Retired s (each (retire n) ids s) w
-all_retire n [] v w hv same s h = record { goes = goes_alike s s (refl, refl); shows = subst (ShowsSystem s) same h; admissions = refl }
+all_retire n [] v w hv same s h = record {
+  goes = goes_alike s s (refl, refl);
+  shows = subst
+      (ShowsSystem s) same h;
+  admissions = refl;
+}
 all_retire n (id ∷ ids) v w hv (u, (taken, did, k, r, is, named, records, last), rest) s h =
     let d = done_at n (TakeNow id (Ok taken)) v.cpus u.cpus hv.long hv.tied did in
     let x = cyclic_with id taken.level taken.interval taken.moment taken.sent.sent taken.sent.lost in

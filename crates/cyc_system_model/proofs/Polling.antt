@@ -80,7 +80,8 @@ pub record IsPolled (texts : List (List ℕ)) (step id : ℕ) (answer : Option R
   pub called : (q : ℕ) → (poll_id plain texts step id m).state.called q ≡ m.called q
   pub admissions : (poll_id plain texts step id m).state.admissions ≡ m.admissions
 
-module _ (texts : List (List ℕ)) (step id : ℕ) (m : State) (v w : SystemView Tables) (sys : IsSystem v) (h : ShowsSystem m v) where
+module _ (texts : List (List ℕ)) (step id : ℕ) (m : State) (v w : SystemView Tables) (sys : IsSystem v)
+    (h : ShowsSystem m v) where
   abbrev parts : Outcome
   parts = each (poll plain id) (numbers (is_open id) m) m
 

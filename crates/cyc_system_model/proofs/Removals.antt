@@ -56,7 +56,8 @@ busy_all : (f g : ℕ → Option ℕ) (ns : List ℕ) → ((n : ℕ) → f n ≡
 busy_all f g [] same = refl
 busy_all f g (n ∷ ns) same = (λ z. busy (same n z) ∷ busy_all f g ns same z)
 
-module _ (id : ℕ) (m : State) (v : SystemView Tables) (h : ShowsSystem m v) (long : length v.cpus.online ≡ length v.cpus.cpus) where
+module _ (id : ℕ) (m : State) (v : SystemView Tables) (h : ShowsSystem m v)
+    (long : length v.cpus.online ≡ length v.cpus.cpus) where
   pub same_removal : (n : ℕ) → (cpu_of n m).removal ≡ removal_on n v.cpus
   same_removal n = ap (λ cs. (get_or cs n absent).removal) h.cpus ∙ removal_at v.cpus.online v.cpus.cpus n long
 

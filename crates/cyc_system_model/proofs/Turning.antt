@@ -91,7 +91,8 @@ module _ (source id : ℕ) (s : State) (v : SystemView Tables) (h : ShowsSystem 
 
 -- ---- a cyclic that moves
 
-module _ (source id target : ℕ) (x : Cyclic) (indexes : ℕ → ℕ) (s : State) (v w : SystemView Tables) (h : ShowsSystem s v) (hv : Half v)
+module _ (source id target : ℕ) (x : Cyclic) (indexes : ℕ
+    → ℕ) (s : State) (v w : SystemView Tables) (h : ShowsSystem s v) (hv : Half v)
     (d : Went id source target x v.cpus w.cpus) (is : indexes s.admissions ≡ d.index) where
   abbrev took : Outcome
   took = on source (take_here source id) s

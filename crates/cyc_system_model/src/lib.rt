@@ -85,7 +85,8 @@ pub fn add_law()
     ensures accepted { (a : AddStep) (series : When) (id : ℕ) (s : State) (v w : SystemView Tables) → IsSystem v → ShowsSystem s v
         → IsSeries a.start a.interval series → Changes fires firing_at v (Add a.level series s.clock (Ok id)) w
         → (id ≡ s.last_id + 1) × IsDone (steps.Add a) s w }
-    ensures refused { (a : AddStep) (series : When) (e : Refusal) (s : State) (v w : SystemView Tables) → IsSystem v → ShowsSystem s v
+    ensures refused { (a : AddStep) (series : When) (e : Refusal) (s : State) (v w : SystemView Tables) → IsSystem v
+        → ShowsSystem s v
         → IsSeries a.start a.interval series → Changes fires firing_at v (Add a.level series s.clock (Err e)) w
         → IsRefusedFor e (steps.Add a) s w }
 {}
@@ -95,10 +96,12 @@ pub fn add_law()
 ///
 /// It does nothing when it runs: its clauses are the law.
 pub fn omni_law()
-    ensures accepted { (a : OmniStep) (series : When) (id : ℕ) (s : State) (v w : SystemView Tables) → IsSystem v → ShowsSystem s v
+    ensures accepted { (a : OmniStep) (series : When) (id : ℕ) (s : State) (v w : SystemView Tables) → IsSystem v
+        → ShowsSystem s v
         → IsSeries a.start a.interval series → Changes fires firing_at v (AddOmni a.level series a.skew s.clock (Ok id)) w
         → (id ≡ s.last_id + 1) × IsDone (steps.Omni a) s w }
-    ensures refused { (a : OmniStep) (series : When) (e : Refusal) (s : State) (v w : SystemView Tables) → IsSystem v → ShowsSystem s v
+    ensures refused { (a : OmniStep) (series : When) (e : Refusal) (s : State) (v w : SystemView Tables) → IsSystem v
+        → ShowsSystem s v
         → IsSeries a.start a.interval series → Changes fires firing_at v (AddOmni a.level series a.skew s.clock (Err e)) w
         → IsRefusedFor e (steps.Omni a) s w }
 {}
@@ -112,7 +115,8 @@ pub fn reprogram_law()
         → IsMoment r.moment moment → Changes fires firing_at v (reprograms r.cpu (id_of r.name s) moment (Ok tt)) w
         → IsDone (steps.Reprogram r) s w }
     ensures refused { (r : ReprogramStep) (moment : ℕ) (e : Refusal) (s : State) (v w : SystemView Tables) → IsSystem v
-        → ShowsSystem s v → IsMoment r.moment moment → Changes fires firing_at v (reprograms r.cpu (id_of r.name s) moment (Err e)) w
+        → ShowsSystem s v → IsMoment r.moment moment
+        → Changes fires firing_at v (reprograms r.cpu (id_of r.name s) moment (Err e)) w
         → IsRefusedFor e (steps.Reprogram r) s w }
 {}
 
@@ -199,7 +203,8 @@ pub fn offline_law()
 ///
 /// It does nothing when it runs: its clauses are the law.
 pub fn fire_law<C: Calls>()
-    ensures accepted { (n : ℕ) (fired : Fired) (m : State) (s t : RunningSystem C Tables) → IsSystem s.system → ShowsSystem m s.system
+    ensures accepted { (n : ℕ) (fired : Fired) (m : State) (s t : RunningSystem C Tables) → IsSystem s.system
+        → ShowsSystem m s.system
         → Does C.called C.count C.may_refuse fires firing_at no_interrupts s (FireOne n m.clock (Ok fired)) t
         → IsFired C.count n fired m s t }
     ensures refused { (n now : ℕ) (e : Refusal) (answer : Result Fired FireRefused) (m : State) (s t : RunningSystem C Tables)
@@ -268,7 +273,8 @@ pub fn poll_law<C: Calls>()
 /// It does nothing when it runs: its clauses are the law.
 pub fn report_law()
     ensures some { (id : ℕ) (totals : SystemTotals) (m : State) (v w : SystemView Tables) → IsSystem v → ShowsSystem m v
-        → Changes fires firing_at v (AskTotals id (Some totals)) w → ShowsSystem m w × (counts_of id m ≡ told_in totals (m.called id)) }
+        → Changes fires firing_at v (AskTotals id (Some totals)) w → ShowsSystem m w
+        × (counts_of id m ≡ told_in totals (m.called id)) }
     ensures none { (id : ℕ) (m : State) (v w : SystemView Tables) → IsSystem v → ShowsSystem m v
         → Changes fires firing_at v (AskTotals id None) w → (is_unknown id m ≡ true) × (w ≡ v) }
 {}

@@ -5,12 +5,12 @@ ghost use Rattle.cyc_cpu.specs.Cpu.{IsFresh};
 
 use crate::help::{id, two};
 use cyc_ring::{DrainEnd, DrainSeat, RaiseEnd, RaiseSeat, Ring};
+use cyc_ring_soft::softint;
 use cyc_soft::Ran;
 use cyc_system::{CpuOrOmni, System, SystemRemoval, SystemTotals, away_law};
 use cyc_types::{
     Ceiling, CyclicId, JuggleReport, Level, Moment, Raise, Refusal, Soft, Tally, When,
 };
-use cyc_ring_soft::softint;
 use std::alloc::Global;
 use std::process::Abort;
 use std::test::Fail;

@@ -96,7 +96,8 @@ module _ {C R : Type 0} (called : C → ℕ → Level → C → Type 0) (count :
       (id, refl, ap (λ o. first_of o None) (receipt_own id receipt)) k
   begins g way name id (Err e) s t has c k = quiet g way name _ s t c refl (λ own. refl) k
 
-  pub polls : (g : ℕ → Option ℕ) (way : List LeadCall) (name id : ℕ) (answer : Result (Option Receipt) Refusal) (s t : Progress R C)
+  pub polls : (g : ℕ → Option ℕ) (way : List LeadCall) (name id : ℕ) (answer : Result (Option Receipt) Refusal)
+      (s t : Progress R C)
       → id_of (named_at s.names name) ≡ Some id → CallsFor step view name (PollRemove id answer) s t → Held g way s
       → Held g (way ++ Make (PollRemove id answer) ∷ []) t
   polls g way name id (Ok (Some receipt)) s t has c k =

@@ -47,7 +47,8 @@ fn cpu_refusal<D, C>(
     fire: &Option<Fire>,
     drained: &Levels<Drained<D, C>>,
 ) -> Option<Refusal>
-    ensures { result ≡ first_in (of_fire cpu fire.now ++ (of_level drained.now.lock.refused ++ of_level drained.now.low.refused)) }
+    ensures { result ≡ first_in (of_fire cpu fire.now
+        ++ (of_level drained.now.lock.refused ++ of_level drained.now.low.refused)) }
 {
     if let Some(why) = fire_refusal(cpu, fire) {
         return Some(why);

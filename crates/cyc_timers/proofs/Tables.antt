@@ -334,7 +334,8 @@ indexes_apart slots records entries t i j d low_i low_j same =
           (apart_index slots records entries i j t low_i' low_j' ne (sym a ∙ same ∙ b))
     ]
 
-pub indexes_low : (slots : List (Option Expiration)) (records : List Record) (entries : List Entry) → IsTable slots records entries
+pub indexes_low : (slots : List (Option Expiration)) (records : List Record) (entries : List Entry)
+    → IsTable slots records entries
     → All (λ r. r.index < length slots) (rows_of slots records entries)
 indexes_low slots records entries t k d low =
     let l = length-map entries (row_of slots records) in
@@ -344,7 +345,8 @@ indexes_low slots records entries t k d low =
     let a = ap (λ (x : Row). x.index) (row_at slots records entries k d low') in
     omega (arith, a, b)
 
-pub timers_sound : (slots : List (Option Expiration)) (records : List Record) (entries : List Entry) → IsTable slots records entries
+pub timers_sound : (slots : List (Option Expiration)) (records : List Record) (entries : List Entry)
+    → IsTable slots records entries
     → All IsSound (timers_of (rows_of slots records entries))
 timers_sound slots records entries t k d low =
     let low' : k < length entries = (let l = rows_long slots records entries in omega (arith, l, low)) in
@@ -398,7 +400,8 @@ row_here slots records entries id q at =
     (row_of slots records (get_or entries q no_place), is_row slots records entries q at.in_range, at.has_id no_place)
 
 -- where the id would stand no row has it
-pub no_row : (slots : List (Option Expiration)) (records : List Record) (entries : List Entry) (id q : ℕ) → IsGap id_in entries id q
+pub no_row : (slots : List (Option Expiration)) (records : List Record) (entries : List Entry) (id q : ℕ)
+    → IsGap id_in entries id q
     → HasNo id (rows_of slots records entries)
 no_row slots records entries id q gap k d low same =
     let l = length-map entries (row_of slots records) in

@@ -98,7 +98,8 @@ module _ (slots : List (Option Expiration)) (records : List Record) (entries : L
       ∙ ap (λ i. get_or slots i None) same ∙ free in absurd (cc))
 
   data Spot (k : ℕ) : Type 0 where
-    before : k < q → ((d : Entry) → get_or (insert entries q (record { id = id; index = index })) k d ≡ get_or entries k d) → Spot k
+    before : k < q → ((d : Entry) → get_or (insert entries q (record { id = id; index = index })) k d ≡ get_or entries k d)
+        → Spot k
     here : k ≡ q → ((d : Entry) → get_or (insert entries q (record { id = id; index = index })) k d
         ≡ record { id = id; index = index }) → Spot k
     after : (j : ℕ) → k ≡ j + 1 → q ≤ j → ((d : Entry)
@@ -110,7 +111,8 @@ module _ (slots : List (Option Expiration)) (records : List Record) (entries : L
     | inr more ↦ elim (cases_eq k q) [
       | inl same ↦ here same (λ d. ap (λ x. get_or (insert entries q p) x d) same ∙ get_or-insert_at entries q p d low_q)
       | inr ne ↦ (let s : k ≡ (k - 1) + 1 = omega (arith, more, ne) in let o : q ≤ k - 1 = omega (arith, more, ne) in
-          after (k - 1) s o (λ d. ap (λ x. get_or (insert entries q p) x d) s ∙ get_or-insert_above entries q p d (k - 1) o low_q))
+          after (k - 1) s o (λ d. ap (λ x. get_or (insert entries q p) x d) s
+          ∙ get_or-insert_above entries q p d (k - 1) o low_q))
     ]
   ]
 

@@ -119,7 +119,8 @@ impl Table {
     {
         self.records
             .reserve(size.saturating_sub(self.records.len()))?;
-        self.entries.reserve(size.saturating_sub(self.entries.len()))?;
+        self.entries
+            .reserve(size.saturating_sub(self.entries.len()))?;
         self.heap.reserve(size)
     }
 

@@ -1,3 +1,4 @@
+-- A soft level among all levels, and the handler calls of one level.
 use Rattle.std.specs.Prelude.{ℕ}
 use Rattle.cyc_types.specs.declared.level.Level.{Level}
 use Rattle.cyc_types.specs.declared.level.Level.TheVariants as level

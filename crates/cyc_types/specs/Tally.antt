@@ -1,3 +1,4 @@
+-- What a tally counts, and how a call changes it.
 use Rattle.std.specs.Prelude.{◌≡◌, ℕ, ◌+◌, ◌-◌, ◌<◌, ◌≤◌, List, Option, None, cond, nat_lt, slice_get, slice_set, slice_index}
 use Rattle.std.specs.Prelude.{length, replicate, ◌⊎◌}
 use Rattle.cyc_types.specs.declared.level.Level.{Level}

@@ -99,7 +99,8 @@ module _ {D C : Type 0} (step : D → DrainCall → D → Type 0) (held : D → 
       → Makes step made called count a b.drain b.calls
   looked_makes a b l = makes_on a b.watch.asked.value b.drain b.calls l.before l.since
 
-  pub has_refused : (a m b : SoftSide D C) (r : SoftRefused) (watch : Watch D C) → Makes step made called count a m.drain m.calls →
+  pub has_refused : (a m b : SoftSide D C) (r : SoftRefused) (watch : Watch D C)
+      → Makes step made called count a m.drain m.calls →
       IsRefused step held made called count may_refuse m r b →
       HasDrained step held made called count may_refuse a
       (record { drain = b.drain; calls = b.calls; refused = Some r; watch = watch })

@@ -64,8 +64,12 @@ fn join(end: HeldEnd, soft: SoftSide) -> Option<Closed>
         ring: shared,
         seat: other,
     } = soft;
-    let Some(raise_seat) = seat else { unreachable!() };
-    let Some(drain_seat) = other else { unreachable!() };
+    let Some(raise_seat) = seat else {
+        unreachable!()
+    };
+    let Some(drain_seat) = other else {
+        unreachable!()
+    };
     drop(shared);
     let ring = Arc::into_inner(ring)?;
     Some(ring.close(raise_seat, drain_seat))

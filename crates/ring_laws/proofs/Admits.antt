@@ -42,7 +42,8 @@ present m e None c (Some d) is h = absurd h
 present m e (Some s) c None is h = absurd (cc)
 present m e (Some s) c (Some d) is h = (s, refl, h.0 ∙ ap (λ (x : AdmittedCyclic). x.index) (some_same d c is))
 
-module _ (k : Setting) (ws : List ℕ) (rs : List RaiseStep) (ds : List DrainStep) (l : SoftLevel) (N : RingNow k ws rs ds l) (id i : ℕ)
+module _ (k : Setting) (ws : List ℕ) (rs : List RaiseStep) (ds : List DrainStep) (l : SoftLevel) (N : RingNow k ws rs ds l)
+    (id i : ℕ)
     (none : open_stay id rs ≡ None)
     (unused : (j : ℕ) (s : StayCounts) → open_stay j rs ≡ Some s → ¬ (s.index ≡ i)) (within : i < cyclics) where
   abbrev new : AdmittedCyclic

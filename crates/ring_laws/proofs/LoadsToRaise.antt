@@ -92,7 +92,8 @@ module _ (k : Setting) (small : k.ceiling < 2 ^ 32) (ws : List ℕ) (rs : List R
   same_index : (d : AdmittedCyclic) → (cyclic_after_lose d).index ≡ d.index
   same_index d = refl
 
-  back : (o : Option AdmittedCyclic) (d : AdmittedCyclic) → option_map cyclic_after_lose o ≡ Some d → (e : AdmittedCyclic) × (o ≡ Some e)
+  back : (o : Option AdmittedCyclic) (d : AdmittedCyclic) → option_map cyclic_after_lose o ≡ Some d → (e : AdmittedCyclic)
+      × (o ≡ Some e)
       × (cyclic_after_lose e ≡ d)
   back None d e = absurd (cc)
   back (Some x) d e = (x, refl, some_same (cyclic_after_lose x) d e)

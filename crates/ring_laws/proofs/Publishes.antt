@@ -29,7 +29,8 @@ still_some true old [] ys ne e = ne refl
 still_some true old (x ∷ xs) ys ne e = absurd (cc)
 still_some false old new ys ne e = ne e
 
-module _ (ws ws' : List ℕ) (m : Cyclics) (bank : ℕ) (same : (j : ℕ) → get_or ws' (slot_word bank j) 0 ≡ get_or ws (slot_word bank j) 0)
+module _ (ws ws' : List ℕ) (m : Cyclics) (bank : ℕ) (same : (j : ℕ)
+    → get_or ws' (slot_word bank j) 0 ≡ get_or ws (slot_word bank j) 0)
     (id : ℕ) where
   holds_snoc : (xs : List ℕ) (i : ℕ) → BankHolds ws m bank i xs → HoldsEntry ws m bank (i + length xs) id
       → get_or ws' (producer_word bank) 0 ≡ (i + length xs + 1) % 2 ^ 32 → BankHolds ws' m bank i (xs ++ id ∷ [])
@@ -43,7 +44,8 @@ module _ (ws ws' : List ℕ) (m : Cyclics) (bank : ℕ) (same : (j : ℕ) → ge
     holds_snoc xs (i + 1) h.1 (subst (λ (j : ℕ). HoldsEntry ws m bank j id) z e) (end ∙ ap (λ (j : ℕ). (j + 1) % 2 ^ 32) z),
   )
 
-module _ (k : Setting) (ws : List ℕ) (rs : List RaiseStep) (ds : List DrainStep) (l : SoftLevel) (N : RingNow k ws rs ds l) (id e : ℕ)
+module _ (k : Setting) (ws : List ℕ) (rs : List RaiseStep) (ds : List DrainStep) (l : SoftLevel) (N : RingNow k ws rs ds l)
+    (id e : ℕ)
     (up : firer_hand_of rs ≡ Some id) (there : stored_entry rs ≡ Some e) where
   abbrev P : ℕ
   P = producer_index k.start rs

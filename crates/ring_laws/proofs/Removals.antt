@@ -43,7 +43,8 @@ module _ (ws ws' : List ℕ) (m : Cyclics) (id : ℕ) (high : (j : ℕ) → cycl
         holds_cleared bank xs (i + 1) (omega (arith, bare)) h.1,
       )
 
-module _ (k : Setting) (ws : List ℕ) (rs : List RaiseStep) (ds : List DrainStep) (l : SoftLevel) (N : RingNow k ws rs ds l) (i id : ℕ)
+module _ (k : Setting) (ws : List ℕ) (rs : List RaiseStep) (ds : List DrainStep) (l : SoftLevel) (N : RingNow k ws rs ds l)
+    (i id : ℕ)
     (st : StayCounts) (is : open_stay id rs ≡ Some st) (at_i : i ≡ pend_word st.index) where
   pub known : (c : AdmittedCyclic) × (l.cyclics id ≡ Some c) × (st.index ≡ c.index) × (st.sent ≡ c.sent) × (st.lost ≡ c.lost)
       × (made_calls id ds ≡ c.done + ended_calls id rs)

@@ -32,7 +32,8 @@ other_place bank i j most less near e = let same : i % 2 ^ bank ≡ j % 2 ^ bank
     same_turn bank i j (omega (arith, most)) (omega (arith, e)) in let x = one_turn i j (2 ^ bank) (omega arith) near same in
     omega (arith, x)
 
-module _ (k : Setting) (ws : List ℕ) (rs : List RaiseStep) (ds : List DrainStep) (l : SoftLevel) (N : RingNow k ws rs ds l) (id : ℕ)
+module _ (k : Setting) (ws : List ℕ) (rs : List RaiseStep) (ds : List DrainStep) (l : SoftLevel) (N : RingNow k ws rs ds l)
+    (id : ℕ)
     (st : StayCounts) (up : firer_hand_of rs ≡ Some id) (is : open_stay id rs ≡ Some st) where
   abbrev P : ℕ
   P = producer_index k.start rs

@@ -29,7 +29,8 @@ use Rattle.ring_rule.proofs.Seats.{level, drains, drain_goes}
 use Rattle.ring_rule.proofs.Now.{RingNow, ring_now, admitted_low, same_pend}
 use Rattle.ring_rule.proofs.Stands.{soft_step}
 
-same_called : (b : Bool) (m e : ℕ) (o : Option StayCounts) (p : Option AdmittedCyclic) → (b ≡ true → (c : AdmittedCyclic) × (p ≡ Some c))
+same_called : (b : Bool) (m e : ℕ) (o : Option StayCounts) (p : Option AdmittedCyclic)
+    → (b ≡ true → (c : AdmittedCyclic) × (p ≡ Some c))
     → IsSameStay m e o p → IsSameStay (cond b 1 0 + m) e o (cond b (option_map cyclic_after_finish p) p)
 same_called true m e None None ok h = let c = ok refl in let x : None ≡ Some c.0 = c.1 in absurd (cc)
 same_called true m e None (Some c) ok h = h

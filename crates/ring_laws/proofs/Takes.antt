@@ -43,7 +43,8 @@ produced_after : (b : Bool) (old new : List ℕ) (i start p id : ℕ) → first_
 produced_after true old new i start p id e h = let r = rest_long new id e in omega (arith, h, r)
 produced_after false old new i start p id e h = h
 
-module _ (k : Setting) (ws : List ℕ) (rs : List RaiseStep) (ds : List DrainStep) (l : SoftLevel) (N : RingNow k ws rs ds l) (id : ℕ)
+module _ (k : Setting) (ws : List ℕ) (rs : List RaiseStep) (ds : List DrainStep) (l : SoftLevel) (N : RingNow k ws rs ds l)
+    (id : ℕ)
     (oldest : first_of (soft_list l) ≡ Some id) where
   abbrev C : ℕ
   C = consumer_index k.start ds

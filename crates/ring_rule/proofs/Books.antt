@@ -31,7 +31,8 @@ module _ (k : Setting) (ws : List ℕ) (rs : List RaiseStep) (ds : List DrainSte
       (c.done, omega (arith, p, low, t, m, sums, s, x, small), b.5)
 
 -- the finishes that the soft side's trail has are those of the run
-same_made : (made past past' finished : ℕ) (o : Option StayCounts) (p : Option AdmittedCyclic) → past ≡ past' → IsSameStay made past o p
+same_made : (made past past' finished : ℕ) (o : Option StayCounts) (p : Option AdmittedCyclic) → past ≡ past'
+    → IsSameStay made past o p
     → IsSplit finished past' p → made ≡ finished
 same_made made past past' finished None None e h f = omega (arith, e, h, f)
 same_made made past past' finished None (Some c) e h f = absurd h

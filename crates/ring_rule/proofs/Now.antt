@@ -60,13 +60,15 @@ module _ (l : SoftLevel) (law : Lawful l) where
       pow_mono {i = l.hard_bank} {j = greatest_bank} b in let q : 2 ^ greatest_bank ≡ cyclics = refl in omega (arith, a, p, q)
 
   -- two admitted cyclics have two pend words
-  pub same_pend : (i j : ℕ) (c d : AdmittedCyclic) → l.cyclics i ≡ Some c → l.cyclics j ≡ Some d → pend_word c.index ≡ pend_word d.index
+  pub same_pend : (i j : ℕ) (c d : AdmittedCyclic) → l.cyclics i ≡ Some c → l.cyclics j ≡ Some d
+      → pend_word c.index ≡ pend_word d.index
       → i ≡ j
   same_pend i j c d e f same = law.distinct_indexes i j c d e f
       (pend_distinct c.index d.index (admitted_low i c e) (admitted_low j d f) same)
 
 -- the soft side's list stands in its bank from the consumer index on
-pub softs_shown : (start : ℕ) (ws : List ℕ) (rs : List RaiseStep) (ds : List DrainStep) (l : SoftLevel) → TrailsShow start ws rs ds l
+pub softs_shown : (start : ℕ) (ws : List ℕ) (rs : List RaiseStep) (ds : List DrainStep) (l : SoftLevel)
+    → TrailsShow start ws rs ds l
     → BankHolds ws l.cyclics l.soft_bank (consumer_index start ds) (soft_list l)
 softs_shown start ws rs ds l sh = dite (ℕ_discrete l.hard_bank l.soft_bank)
     (λ e. let b : eqb l.hard_bank l.soft_bank ≡ true = eq-eqb l.hard_bank l.soft_bank e in

@@ -49,7 +49,8 @@ gone id (of_raise x ∷ later) earlier never =
     still_none id x (raise_side (later ++ of_raise (Cleared id) ∷ earlier)) never.0 (gone id later earlier never.1)
 gone id (of_drain x ∷ later) earlier never = gone id later earlier never
 
-no_count : (made ended : ℕ) (o : Option StayCounts) (p : Option AdmittedCyclic) → o ≡ None → IsSameStay made ended o p → count_in p ≡ 0
+no_count : (made ended : ℕ) (o : Option StayCounts) (p : Option AdmittedCyclic) → o ≡ None → IsSameStay made ended o p
+    → count_in p ≡ 0
 no_count made ended None None e h = refl
 no_count made ended None (Some c) e h = absurd h
 no_count made ended (Some s) p e h = absurd (cc)

@@ -181,7 +181,8 @@ module _ (k : Setting) (s : RingState) (R : MeetsRule k s) (seat : ℕ) (v : Sea
         → i ≡ drain_word k.start x (drain_side R.log) → DrainFound x (get_or s.words i 0)
         → n ≡ drain_leaves x (get_or s.words i 0)
         → ExtendsByDrain k s R (stepped s i n seat cs (with_drain_step (length R.log) x v) keeps) x
-    drain_goes x on shows learned word found leaves = let v' : SeatView = with_drain_step (length R.log) x v in let f = R.firing_side in
+    drain_goes x on shows learned word found leaves = let v' : SeatView = with_drain_step
+        (length R.log) x v in let f = R.firing_side in
         let e : RingStep = of_drain x in
         let now : set s.words i n ≡ replay k.start (e ∷ R.log) = (λ z. set s.words i (leaves z))
         ∙ (λ z. set (R.words z) (word z) (left_by e (get_or (R.words z) (word z) 0))) in (

@@ -25,7 +25,8 @@ behind m e (Some t) (Some c) s is h = let same : t ≡ s = some_same t s is in (
   h.3,
 )
 
-pub same_if : (b : Bool) (m e : ℕ) (o o' : Option StayCounts) (p p' : Option AdmittedCyclic) → IsSameStay m e o p → IsSameStay m e o' p'
+pub same_if : (b : Bool) (m e : ℕ) (o o' : Option StayCounts) (p p' : Option AdmittedCyclic) → IsSameStay m e o p
+    → IsSameStay m e o' p'
     → IsSameStay m e (cond b o' o) (cond b p' p)
 same_if true m e o o' p p' h h' = h'
 same_if false m e o o' p p' h h' = h

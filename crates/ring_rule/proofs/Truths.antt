@@ -21,7 +21,8 @@ use Rattle.ring_rule.specs.declared.SeatView.{SeatView}
 use Rattle.ring_rule.specs.declared.Setting.{Setting}
 use Rattle.ring_rule.specs.Words.{pend_word, mark_bit, producer_word, slot_word, entry_id}
 use Rattle.ring_rule.specs.Trail.{open_stay, ended_calls, held_entry, id_in, made_calls, consumer_index}
-use Rattle.ring_rule.specs.Log.{RingStep, of_raise, of_drain, raise_side, raise_positions, drain_side, drain_positions, level_after}
+use Rattle.ring_rule.specs.Log.{RingStep, of_raise, of_drain, raise_side, raise_positions, drain_side, drain_positions}
+use Rattle.ring_rule.specs.Log.{level_after}
 use Rattle.ring_rule.specs.Log.{stay_word, held_word, words_after, replay, AllTrue}
 use Rattle.ring_rule.specs.Shown.{IsSameStay}
 use Rattle.ring_rule.specs.Rule.{RingState, HasRaises, HasDrains, IsSeat, IsFiring, IsSoft, MeetsRule}
@@ -159,7 +160,8 @@ drains_append (of_drain x ∷ later) log = ap (λ (t : List DrainStep). x ∷ t)
 abbrev Above : ℕ → List ℕ → Type 0
 Above n positions = All (λ slot_word. n ≤ slot_word) positions
 
-raise_above : (later log : List RingStep) → (positions : List ℕ) × (raise_positions (later ++ log) ≡ positions ++ raise_positions log)
+raise_above : (later log : List RingStep) → (positions : List ℕ)
+    × (raise_positions (later ++ log) ≡ positions ++ raise_positions log)
     × Above (length log) positions
 raise_above [] log = ([], refl, All-nil (λ slot_word. length log ≤ slot_word))
 raise_above (of_raise x ∷ later) log = let r = raise_above later log in let long = length-append later log in (
@@ -170,7 +172,8 @@ raise_above (of_raise x ∷ later) log = let r = raise_above later log in let lo
 )
 raise_above (of_drain x ∷ later) log = raise_above later log
 
-drain_above : (later log : List RingStep) → (positions : List ℕ) × (drain_positions (later ++ log) ≡ positions ++ drain_positions log)
+drain_above : (later log : List RingStep) → (positions : List ℕ)
+    × (drain_positions (later ++ log) ≡ positions ++ drain_positions log)
     × Above (length log) positions
 drain_above [] log = ([], refl, All-nil (λ slot_word. length log ≤ slot_word))
 drain_above (of_raise x ∷ later) log = drain_above later log
@@ -204,8 +207,10 @@ come_after k s s' R R' i j i' j' v w v' w' S S' xs ys ps qs raised drained =
       g.1,
       append_cancel_right (raise_side g.0) xs (raise_side l) (sym (raises_append g.0 l) ∙ (ap raise_side (sym g.1) ∙ t)),
       append_cancel_right (drain_side g.0) ys (drain_side l) (sym (drains_append g.0 l) ∙ (ap drain_side (sym g.1) ∙ u)),
-      subst (Above (length l)) (append_cancel_right f.0 ps (raise_positions l) (sym f.1 ∙ (ap raise_positions (sym g.1) ∙ p))) f.2,
-      subst (Above (length l)) (append_cancel_right h.0 qs (drain_positions l) (sym h.1 ∙ (ap drain_positions (sym g.1) ∙ q))) h.2,
+      subst (Above (length l))
+          (append_cancel_right f.0 ps (raise_positions l) (sym f.1 ∙ (ap raise_positions (sym g.1) ∙ p))) f.2,
+      subst (Above (length l))
+          (append_cancel_right h.0 qs (drain_positions l) (sym h.1 ∙ (ap drain_positions (sym g.1) ∙ q))) h.2,
     )
 
 -- what a step found is shown

@@ -49,7 +49,8 @@ Keeps m m' = (id : ℕ) (c : AdmittedCyclic) → m id ≡ Some c → (d : Admitt
 pub keeps_all : (m : Cyclics) → Keeps m m
 keeps_all m id c e = (c, e, refl)
 
-pub keeps_option_map : (m : Cyclics) (id : ℕ) (f : AdmittedCyclic → AdmittedCyclic) → ((c : AdmittedCyclic) → (f c).index ≡ c.index)
+pub keeps_option_map : (m : Cyclics) (id : ℕ) (f : AdmittedCyclic → AdmittedCyclic)
+    → ((c : AdmittedCyclic) → (f c).index ≡ c.index)
     → Keeps m (changed_at m id (option_map f))
 keeps_option_map m id f same j c e = at_cases m id (option_map f) (λ k o. m k ≡ Some c → (d : AdmittedCyclic) × (o ≡ Some d)
     × (d.index ≡ c.index))

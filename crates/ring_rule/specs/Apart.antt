@@ -15,7 +15,8 @@ PendsAreApart = ((i j : ℕ) → i < cyclics → j < cyclics → pend_word i ≡
 abbrev pub PlacesAreApart : Type 0
 PlacesAreApart = (bank : ℕ) → bank ≤ greatest_bank
     → ((i j : ℕ) → (slot_word bank i ≡ slot_word bank j) ↔ (i % bank_size bank ≡ j % bank_size bank))
-    × ((word : ℕ) → word < bank_size bank → (i : ℕ) × (i < bank_size bank) × (slot_word bank i ≡ cyclics - 1 + bank_size bank + word))
+    × ((word : ℕ) → word < bank_size bank → (i : ℕ) × (i < bank_size bank)
+    × (slot_word bank i ≡ cyclics - 1 + bank_size bank + word))
 
 -- the buffer words of two banks differ, and they lie behind the pend words and before the producer words
 abbrev pub BanksAreApart : Type 0

@@ -36,8 +36,8 @@ IsAccounted raise_trail drain_trail = (id : ℕ) → (pend : ℕ)
     × IsPending pend (seen_pend id raise_trail) (open_stay id raise_trail)
     × (made_calls id drain_trail + pend + losses_of id raise_trail ≡ raises_of id raise_trail)
 
--- after the log: each record of it is true at its position, its events are an enabled run, and the level that the run has reached is
--- what words and trails show; it is lawful, and no call of it is forgotten
+-- after the log: each record of it is true at its position, its events are an enabled run, and the level that the run has reached
+-- is what words and trails show; it is lawful, and no call of it is forgotten
 pub record LevelStands (k : Setting) (log : List RingStep) : Type 0 where
   pub all_true : AllTrue k.start log
   pub enabled : AllEnabled k.ceiling (events_of log)

@@ -85,8 +85,8 @@ RecordsComeAfter = (k : Setting) (s s' : RingState) (R : MeetsRule k s) (R' : Me
     → (later : List RingStep) × (R'.log ≡ later ++ R.log) × (raise_side later ≡ raises) × (drain_side later ≡ drains)
     × All (λ position. length R.log ≤ position) raise_at × All (λ position. length R.log ≤ position) drain_at
 
--- whatever a play says: where the rule holds before and after a seat's trail gains a record, its position is the number of steps so
--- far, it is true of the words before, and the words after are as the step leaves them
+-- whatever a play says: where the rule holds before and after a seat's trail gains a record, its position is the number of steps
+-- so far, it is true of the words before, and the words after are as the step leaves them
 abbrev pub NewRaiseIsTrue : Type 0
 NewRaiseIsTrue = (k : Setting) (s s' : RingState) (R : MeetsRule k s) (R' : MeetsRule k s') (seat position : ℕ) (v : SeatView)
     (x : RaiseStep)

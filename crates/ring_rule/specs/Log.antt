@@ -1,4 +1,5 @@
--- The one order of all atomic steps of a ring: the log, the newest first. The position of a step is the number of steps before it.
+-- The one order of all atomic steps of a ring: the log, the newest first. The position of a step is the number of steps before
+-- it.
 use Rattle.std.specs.Prelude.{◌≡◌, ℕ, ◌+◌, ◌-◌, ◌%◌, ◌^◌, Option, Some, None, List, [], ◌∷◌, ◌++◌, map, length, slice_index}
 use Rattle.std.specs.Prelude.{slice_set, ⊤}
 use Rattle.std.specs.List.{range_with_len}

@@ -9,7 +9,8 @@ use Rattle.ring_rule.specs.declared.Role.TheVariants.{Joint, Raise, Drain, Spent
 use Rattle.ring_rule.specs.declared.SeatView.{SeatView}
 use Rattle.ring_rule.specs.declared.Setting.{Setting}
 use Rattle.ring_rule.specs.Words.{mark_bit, index_range}
-use Rattle.ring_rule.specs.Log.{RingStep, raise_side, raise_positions, drain_side, drain_positions, events_of, level_after, replay}
+use Rattle.ring_rule.specs.Log.{RingStep, raise_side, raise_positions, drain_side, drain_positions, events_of, level_after}
+use Rattle.ring_rule.specs.Log.{replay}
 use Rattle.ring_rule.specs.Log.{AllTrue}
 use Rattle.ring_rule.specs.Shown.{TrailsShow, StillHolds}
 
@@ -90,9 +91,9 @@ abbrev pub AllShown : Setting → List RingStep → Type 0
 AllShown k [] = IsShown k []
 AllShown k (x ∷ log) = IsShown k (x ∷ log) × AllShown k log
 
--- there is one order of all steps that were made. The words are what it leaves, each record of it is true at its position, each side
--- has a seat, and each seat has the records of its side. Its events are an enabled run, and after each step the words and both
--- trails show the level that the run has reached
+-- there is one order of all steps that were made. The words are what it leaves, each record of it is true at its position, each
+-- side has a seat, and each seat has the records of its side. Its events are an enabled run, and after each step the words and
+-- both trails show the level that the run has reached
 pub record MeetsRule (k : Setting) (s : RingState) : Type 0 where
   pub log : List RingStep
   pub raise_seat : ℕ

@@ -6,7 +6,8 @@ use Rattle.cyc_level.specs.Level.{AdmittedCyclic, Cyclics, SoftLevel, count, sof
 use Rattle.cyc_level.specs.Runs.{StayCounts}
 use Rattle.ring_rule.specs.declared.RaiseStep.{RaiseStep}
 use Rattle.ring_rule.specs.declared.DrainStep.{DrainStep}
-use Rattle.ring_rule.specs.Words.{pend_word, mark_bit, index_range, slot_word, producer_word, hard_word, soft_word, entry, entry_id}
+use Rattle.ring_rule.specs.Words.{pend_word, mark_bit, index_range, slot_word, producer_word, hard_word, soft_word, entry}
+use Rattle.ring_rule.specs.Words.{entry_id}
 use Rattle.ring_rule.specs.Words.{entry_index}
 use Rattle.ring_rule.specs.Trail.{open_stay, ended_calls, firer_hand_of, marked_of, seen_pend, hard_bank_of, producer_index}
 use Rattle.ring_rule.specs.Trail.{stored_entry, has_followed, held_entry, drainer_hand_of, made_calls, soft_bank_of}

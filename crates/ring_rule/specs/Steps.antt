@@ -29,8 +29,8 @@ with_raise_step position x v = record v { raise_trail = x ∷ v.raise_trail; rai
 abbrev pub with_drain_step : ℕ → DrainStep → SeatView → SeatView
 with_drain_step position x v = record v { drain_trail = x ∷ v.drain_trail; drain_positions = position ∷ v.drain_positions }
 
--- the seat's trail gains this step, at some position, and nothing else changes. The rule leaves no choice of the position: it is the
--- next one in the order of all steps
+-- the seat's trail gains this step, at some position, and nothing else changes. The rule leaves no choice of the position: it is
+-- the next one in the order of all steps
 abbrev pub GainsRaiseStep : RaiseStep → ThisSeat → ThisSeat → Type 0
 GainsRaiseStep x me me' = (position : ℕ) × (me' ≡ (with_raise_step position x me.0, me.1))
 

@@ -12,10 +12,11 @@ ghost use Rattle.ring_rule.specs.Trail.{open_stay, seen_pend, firer_hand_of, mar
 ghost use Rattle.ring_rule.specs.Trail.{stored_entry, has_followed};
 ghost use Rattle.ring_steps.specs.Sides.{IsSeatOf, MakesRaiseStep};
 
-use crate::positions::{HARD, MARK, PRODUCERS, SOFT, buffer_at, pend_at};
 use crate::plays::{
-    AddPlay, AdmitPlay, ClearPlay, LoadPlay, LoadSoftBankPlay, LoadToRaisePlay, MarkPlay, PublishPlay, Served, StorePlay, SwitchPlay,
+    AddPlay, AdmitPlay, ClearPlay, LoadPlay, LoadSoftBankPlay, LoadToRaisePlay, MarkPlay,
+    PublishPlay, Served, StorePlay, SwitchPlay,
 };
+use crate::positions::{HARD, MARK, PRODUCERS, SOFT, buffer_at, pend_at};
 use crate::sides::FiringSide;
 use crate::words::Words;
 use ring_laws::firing_steps;

@@ -28,13 +28,13 @@
 #![tactic(auto)]
 
 mod firing;
-mod positions;
 mod plays;
+mod positions;
 mod sides;
 mod soft;
 mod words;
 
-pub use positions::{ENTRY_BASE, INDEXES, MARK};
 pub use plays::Served;
+pub use positions::{ENTRY_BASE, INDEXES, MARK};
 pub use sides::{BothSides, FiringSide, SoftSide};
 pub use words::Words;

@@ -23,7 +23,8 @@ pub(crate) fn pend_at(index: usize) -> usize
 // The buffer word of an index of a bank, by the bank's size less one and the index modulo 2^32.
 pub(crate) fn buffer_at(mask: u64, next: u32) -> usize
     requires { mask < cyclics }
-    ensures { (bank i : ℕ) → bank ≤ greatest_bank → mask + 1 ≡ bank_size bank → next ≡ i % index_range → (result ≡ slot_word bank i)
+    ensures { (bank i : ℕ) → bank ≤ greatest_bank → mask + 1 ≡ bank_size bank → next ≡ i % index_range
+        → (result ≡ slot_word bank i)
         × (result < word_count) }
 {
     (CYCLICS as u64 + mask + (next as u64 * APART & mask)) as usize

@@ -8,8 +8,10 @@ ghost use Rattle.ring_rule.specs.Words.{mark_bit, index_range, entry_id, entry_i
 ghost use Rattle.ring_rule.specs.Trail.{held_entry, soft_bank_of, consumer_index, producer_seen, bank_seen};
 ghost use Rattle.ring_steps.specs.Sides.{IsSeatOf, MakesDrainStep};
 
+use crate::plays::{
+    FollowPlay, LoadHardBankPlay, LoadProducerPlay, Served, SubtractPlay, TakePlay,
+};
 use crate::positions::{HARD, PRODUCERS, SOFT, buffer_at, pend_at};
-use crate::plays::{FollowPlay, LoadHardBankPlay, LoadProducerPlay, Served, SubtractPlay, TakePlay};
 use crate::sides::SoftSide;
 use crate::words::Words;
 use ring_laws::soft_steps;

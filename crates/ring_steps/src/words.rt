@@ -3,8 +3,8 @@
 ghost use Rattle.std.specs.Prelude.{◌≡◌, ℕ, ◌<◌, ◌^◌, IfOk, length, slice_index};
 ghost use Rattle.ring_rule.specs.Words.{word_count, first_word};
 
-use crate::positions::{HARD, INDEXES, PRODUCERS, WORDS, pend_at};
 use crate::plays::{Parts, Whole};
+use crate::positions::{HARD, INDEXES, PRODUCERS, WORDS, pend_at};
 use crate::sides::{BothSides, FiringSide, SoftSide};
 use atomic_table::Table;
 use cyc_types::Ceiling;

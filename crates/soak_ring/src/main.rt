@@ -14,8 +14,8 @@ use crate::rounds::both;
 use crate::stops::{Random, stop_often};
 use crate::sums::{Counts, Sums};
 use anyhow::{Context, Result, bail};
-use cyc_types::{Ceiling, CyclicId, Refusal, Tally};
 use cyc_ring_sides::open;
+use cyc_types::{Ceiling, CyclicId, Refusal, Tally};
 use std::alloc::Global;
 use std::env::{self, Env};
 use std::thread::Threads;
@@ -34,7 +34,13 @@ fn round<R: Threads>(
     sums: &mut Sums,
 ) -> Result<bool, Refusal> {
     let (ring, raise_seat, drain_seat) = open(alloc, ceiling, start)?;
-    let (raise_seat, drain_seat) = both(rt, &ring, (raise_seat, Ledger::new()), (drain_seat, tally), CALLS);
+    let (raise_seat, drain_seat) = both(
+        rt,
+        &ring,
+        (raise_seat, Ledger::new()),
+        (drain_seat, tally),
+        CALLS,
+    );
     let (raise_seat, drain_seat) = both(rt, &ring, raise_seat, drain_seat, CALLS);
     let ((seat, ledger), (other, tally)) = stop_often(rt, &ring, raise_seat, drain_seat, random);
     let closed = ring.close(seat.seat(), other);

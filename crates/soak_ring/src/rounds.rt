@@ -4,9 +4,9 @@ ghost use Rattle.cyc_ring.specs.Ends.{IsRaiseSeatOf, IsDrainSeatOf};
 
 use crate::ledger::{IDS, Ledger};
 use cyc_ring::{DrainSeat, Ring};
-use cyc_types::{CyclicId, GREATEST_BANK, Index, Tally};
-use cyc_ring_sides::soft_side::SoftSide;
 use cyc_ring_sides::firing_side::{FiringSide, KnownSeat, NotAllowed};
+use cyc_ring_sides::soft_side::SoftSide;
+use cyc_types::{CyclicId, GREATEST_BANK, Index, Tally};
 use std::sync::atomic::{AtomicBool, Ordering};
 use std::thread::{Threads, join, yield_now};
 
@@ -37,7 +37,12 @@ fn grow(firing_side: &mut FiringSide, ledger: &mut Ledger) -> Result<(), NotAllo
 }
 
 /// Raises the id this many times.
-fn burst(firing_side: &mut FiringSide, ledger: &mut Ledger, at: usize, times: usize) -> Result<(), NotAllowed>
+fn burst(
+    firing_side: &mut FiringSide,
+    ledger: &mut Ledger,
+    at: usize,
+    times: usize,
+) -> Result<(), NotAllowed>
     requires { at < IDS }
     ensures { firing_side.new.ring.now ≡ firing_side.old.ring.now }
 {

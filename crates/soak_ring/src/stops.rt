@@ -5,8 +5,8 @@ ghost use Rattle.cyc_ring.specs.Ends.{IsRaiseSeatOf, IsDrainSeatOf};
 use crate::ledger::Ledger;
 use crate::rounds::both;
 use cyc_ring::{DrainSeat, Ring};
-use cyc_types::Tally;
 use cyc_ring_sides::firing_side::KnownSeat;
+use cyc_types::Tally;
 use std::thread::Threads;
 
 /// The stops of a round.

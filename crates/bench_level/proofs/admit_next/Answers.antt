@@ -1,5 +1,5 @@
 use Rattle.std.proofs.Common.{◌≡◌, ◌+◌}
-use Rattle.bench_level.proofs.Turns.{admit_fills_at}
+use Rattle.bench_level.proofs.Rounds.{admit_fills_at}
 use Rattle.bench_level.proofs.admit_next.Goals as goal
 
 pub returns-in-Some-Some : goal.returns-in-Some-Some

@@ -1,4 +1,4 @@
-use Rattle.bench_level.proofs.Turns.{expand_fills}
+use Rattle.bench_level.proofs.Rounds.{expand_fills}
 use Rattle.bench_level.proofs.filled.Goals as goal
 
 pub loop-index-init : goal.loop-index-init

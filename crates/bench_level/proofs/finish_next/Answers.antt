@@ -1,6 +1,6 @@
 use Rattle.std.proofs.Common.{rules}
 use Rattle.std.specs.Prelude.{IsSome}
-use Rattle.bench_level.proofs.Turns.{finish_hand}
+use Rattle.bench_level.proofs.Rounds.{finish_hand}
 use Rattle.bench_level.proofs.finish_next.Goals as goal
 
 pub returns-in-Last : goal.returns-in-Last

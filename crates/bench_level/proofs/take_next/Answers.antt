@@ -1,4 +1,4 @@
-use Rattle.bench_level.proofs.Turns.{take_ready}
+use Rattle.bench_level.proofs.Rounds.{take_ready}
 use Rattle.bench_level.proofs.take_next.Goals as goal
 
 pub returns-then-is_none : goal.returns-then-is_none

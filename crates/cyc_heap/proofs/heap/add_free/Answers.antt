@@ -26,7 +26,8 @@ loop-number-preserved c =
       long = ap length new_es ∙ length_push es x ∙ ap (λ k. k + 1) h.long;
       least = omega (arith, least);
       most = omega (arith, test);
-      linked = subst (λ (es : List Entry). IsLinked es (index_positions es)) (sym new_es) (placed (es ++ x ∷ []) (ps ++ n ∷ []) linked);
+      linked = subst (λ (es : List Entry). IsLinked es (index_positions es)) (sym new_es)
+          (placed (es ++ x ∷ []) (ps ++ n ∷ []) linked);
       slots = λ len low. ap (λ (es : List Entry). slots len es (index_positions es)) new_es
           ∙ ap (slots len (es ++ x ∷ [])) (places_are (es ++ x ∷ []) (ps ++ n ∷ []) linked)
           ∙ pushed_slots es ps n x h.long index h.linked len (omega (arith, low, least))

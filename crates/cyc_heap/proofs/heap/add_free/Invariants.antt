@@ -9,7 +9,8 @@ invariant-loop-number l = record {
   most : l.number ≤ max (length l.fn.entries.items) l.size;
   linked : IsLinked l.entries.items (index_positions l.entries.items);
   slots : (len : ℕ) → len ≤ length l.fn.entries.items → slots len l.entries.items (index_positions l.entries.items)
-      ≡ slots len l.fn.entries.items (index_positions l.fn.entries.items) ++ replicate (l.number - length l.fn.entries.items) None;
+      ≡ slots len l.fn.entries.items (index_positions l.fn.entries.items)
+      ++ replicate (l.number - length l.fn.entries.items) None;
   kept : (p : ℕ) → p < length l.fn.entries.items → entry_at l.entries.items p ≡ entry_at l.fn.entries.items p;
   entries : vec_capacity l.fn.entries ≤ vec_capacity l.entries;
 }

@@ -17,7 +17,8 @@ use Rattle.cyc_heap.proofs.sift.sift.Goals.{then-up-test+then-not-expires_before
 pub up-init : goal.up-init
 up-init c = let r = c.requires in (
   index_positions c.args.entries.now,
-  hollow_first c.args.len c.args.entry c.args.entries.now (index_positions c.args.entries.now) c.args.hole r.len r.hole r.index r.linked
+  hollow_first c.args.len c.args.entry c.args.entries.now
+      (index_positions c.args.entries.now) c.args.hole r.len r.hole r.index r.linked
       r.order r.bridged,
 )
 
@@ -98,7 +99,8 @@ pub returns-clause-order : goal.returns-clause-order
 returns-clause-order c =
     let (below, hollow) = c.down.invariant in
     let (positions, h) = hollow in
-    hollow_order c.args.len c.args.entry c.args.entries.now (index_positions c.args.entries.now) c.down.hole c.down.entries positions
+    hollow_order c.args.len c.args.entry c.args.entries.now
+    (index_positions c.args.entries.now) c.down.hole c.down.entries positions
     c.requires.len h
     (λ k is low. elim c.down-test.branch [
       | else-down-test w ↦ above_leaf c.args.len c.args.entry c.down.hole c.down.entries w.down-test.false k is low

@@ -4,7 +4,8 @@ use Rattle.cyc_heap.proofs.Hollows.{Hollow, IsBelow}
 use Rattle.cyc_heap.proofs.sift.sift.Given as goal
 
 abbrev pub invariant-up : goal.invariant-up
-invariant-up l = (positions : List ℕ) × Hollow l.len l.entry l.fn.entries (index_positions l.fn.entries) l.hole l.entries positions
+invariant-up l = (positions : List ℕ)
+    × Hollow l.len l.entry l.fn.entries (index_positions l.fn.entries) l.hole l.entries positions
 
 abbrev pub decreases-up : goal.decreases-up
 decreases-up l = l.hole

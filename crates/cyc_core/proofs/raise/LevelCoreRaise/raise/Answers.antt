@@ -53,7 +53,8 @@ returns-then-count-self-clause-sound c =
     let full : entry.count ≡ l.ceiling = c.if-count-self.true ∙ ceil in
     let may = can_lose l c.args.id (cyclic_of entry) facts.cyclic c.requires full in
     let left : level_of c.lose.new.self ≡ after (Lose c.args.id) l = c.lose.ensures ∙ ap (λ i. after (Lose i) l) facts.id in
-    subst (λ (m : SoftLevel). Sound (firing_view m)) (sym left) (sound_after l (Lose c.args.id) facts.lawful facts.some_ceiling may)
+    subst (λ (m : SoftLevel). Sound (firing_view m)) (sym left)
+    (sound_after l (Lose c.args.id) facts.lawful facts.some_ceiling may)
 
 pub expire-requires-clause-enabled : goal.expire-requires-clause-enabled
 expire-requires-clause-enabled c =

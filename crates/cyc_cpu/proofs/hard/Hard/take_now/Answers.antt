@@ -139,10 +139,12 @@ returns-clause-did g c =
               named = named;
               goes = (
                 subst (λ l. Goes g.R.Raise.step g.R.Raise.view i.lock
-                    (calls_at Lock l (Loads c.args.id 0 ∷ Marks c.args.id 0 ∷ Polls c.args.id (Some counts) ∷ [])) c.take_at.new.lock)
+                    (calls_at Lock l (Loads c.args.id 0 ∷ Marks c.args.id 0 ∷ Polls c.args.id (Some counts)
+                    ∷ [])) c.take_at.new.lock)
                     level a,
                 subst (λ l. Goes g.R.Raise.step g.R.Raise.view i.low
-                    (calls_at Low l (Loads c.args.id 0 ∷ Marks c.args.id 0 ∷ Polls c.args.id (Some counts) ∷ [])) c.take_at.new.low)
+                    (calls_at Low l (Loads c.args.id 0 ∷ Marks c.args.id 0 ∷ Polls c.args.id (Some counts)
+                    ∷ [])) c.take_at.new.low)
                     level b,
               );
               cyclics = ap cyclics_of c.remove.ensures.rows ∙ cyclics_less i.table.rows c.in-Some.place;

@@ -35,7 +35,8 @@ returns c =
     c.in_ok-position.ensures.some in
     let x = c.index-entry.result.now in
     let is = get_or_default i.entries.items p nowhere x within ∙ sym c.index-entry.ensures in
-    let has = walk_used i.len i.entries.items (index_positions i.entries.items) i.room c.args.index p c.self.invariant.0 within here
+    let has = walk_used i.len i.entries.items
+    (index_positions i.entries.items) i.room c.args.index p c.self.invariant.0 within here
     c.if-position-self.false ∙ ap (λ (x : Entry). Some (key x)) is in
     ap (λ n. Some (x.moment, n)) c.id.ensures
     ∙ ap (option_map pair_of) (sym (subst (λ (v : HeapView). expiration_at v c.args.index ≡ Some (key x)) c.self.view_is has))

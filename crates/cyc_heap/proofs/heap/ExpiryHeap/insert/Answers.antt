@@ -26,21 +26,24 @@ pub index-requires : goal.index-requires
 index-requires c =
     let i = c.self.inside in
     let ok = i.entries.ok in
-    let room = has_room i.len i.entries.items (index_positions i.entries.items) i.room c.args.self.now c.self.invariant.0 c.self.view_is
+    let room = has_room i.len i.entries.items
+    (index_positions i.entries.items) i.room c.args.self.now c.self.invariant.0 c.self.view_is
     c.requires in
     omega (arith, ok, room)
 
 pub fill-requires-clause-len : goal.fill-requires-clause-len
 fill-requires-clause-len c =
     let i = c.self.inside in
-    let room = has_room i.len i.entries.items (index_positions i.entries.items) i.room c.args.self.now c.self.invariant.0 c.self.view_is
+    let room = has_room i.len i.entries.items
+    (index_positions i.entries.items) i.room c.args.self.now c.self.invariant.0 c.self.view_is
     c.requires in
     omega (arith, room)
 
 pub fill-requires-clause-index : goal.fill-requires-clause-index
 fill-requires-clause-index c =
     let i = c.self.inside in
-    let room = has_room i.len i.entries.items (index_positions i.entries.items) i.room c.args.self.now c.self.invariant.0 c.self.view_is
+    let room = has_room i.len i.entries.items
+    (index_positions i.entries.items) i.room c.args.self.now c.self.invariant.0 c.self.view_is
     c.requires in
     let x = c.index.result.now in
     let is : index_at i.entries.items i.len ≡ index_of x =
@@ -51,7 +54,8 @@ pub invariant_of-self : goal.invariant_of-self
 invariant_of-self c =
     let i = c.self.inside in
     let h = c.self.invariant.0 in
-    let room = has_room i.len i.entries.items (index_positions i.entries.items) i.room c.args.self.now h c.self.view_is c.requires in
+    let room = has_room i.len i.entries.items
+    (index_positions i.entries.items) i.room c.args.self.now h c.self.view_is c.requires in
     let x = c.index.result.now in
     let e = c.new-entry.result in
     let same : index_of x ≡ index_of e = sym (c.new-entry.ensures.index ∙ c.index-index.ensures) in
@@ -71,7 +75,8 @@ pub returns-clause-below : goal.returns-clause-below
 returns-clause-below c =
     let i = c.self.inside in
     let h = c.self.invariant.0 in
-    let room = has_room i.len i.entries.items (index_positions i.entries.items) i.room c.args.self.now h c.self.view_is c.requires in
+    let room = has_room i.len i.entries.items
+    (index_positions i.entries.items) i.room c.args.self.now h c.self.view_is c.requires in
     let x = c.index.result.now in
     let is : index_at i.entries.items i.len ≡ index_of x =
     ap index_of (get_or_default i.entries.items i.len nowhere x room ∙ sym c.index.ensures) in
@@ -84,7 +89,8 @@ pub returns-clause-free : goal.returns-clause-free
 returns-clause-free c =
     let i = c.self.inside in
     let h = c.self.invariant.0 in
-    let room = has_room i.len i.entries.items (index_positions i.entries.items) i.room c.args.self.now h c.self.view_is c.requires in
+    let room = has_room i.len i.entries.items
+    (index_positions i.entries.items) i.room c.args.self.now h c.self.view_is c.requires in
     let x = c.index.result.now in
     let is : index_at i.entries.items i.len ≡ index_of x =
     ap index_of (get_or_default i.entries.items i.len nowhere x room ∙ sym c.index.ensures) in
@@ -96,7 +102,8 @@ pub returns-clause-slots : goal.returns-clause-slots
 returns-clause-slots c =
     let i = c.self.inside in
     let h = c.self.invariant.0 in
-    let room = has_room i.len i.entries.items (index_positions i.entries.items) i.room c.args.self.now h c.self.view_is c.requires in
+    let room = has_room i.len i.entries.items
+    (index_positions i.entries.items) i.room c.args.self.now h c.self.view_is c.requires in
     let x = c.index.result.now in
     let e = c.new-entry.result in
     let same : index_of x ≡ index_of e = sym (c.new-entry.ensures.index ∙ c.index-index.ensures) in

@@ -19,7 +19,8 @@ invariant_of-self c =
     let long = f.length in
     let room = c.self.invariant.2 in
     let has = at_place i.len i.entries.items (index_positions i.entries.items) i.room 0 x some h.within h.linked is in (
-      heap_moved i.len i.entries.items c.fill.new.entries.items (index_positions i.entries.items) (index_positions c.fill.new.entries.items)
+      heap_moved i.len i.entries.items c.fill.new.entries.items (index_positions i.entries.items)
+          (index_positions c.fill.new.entries.items)
           (index_of x) (key x) (record { moment = c.args.moment; id = id_of x }) h has f.linked f.order f.length f.slots,
       subst (λ n. i.room ≤ n) (sym f.entries) c.self.invariant.1,
       omega (arith, long, room),
@@ -36,7 +37,8 @@ returns-clause-slots c =
     let is = get_or_default i.entries.items 0 nowhere x (omega (arith, some, within)) ∙ sym c.index.ensures in
     let has = at_place i.len i.entries.items (index_positions i.entries.items) i.room 0 x some h.within h.linked is in
     if_some c.args.self.now.root _ (index_of x)
-    (ap (λ (v : HeapView). v.root) (sym c.self.view_is) ∙ root_is i.len i.entries.items (index_positions i.entries.items) i.room some
+    (ap (λ (v : HeapView). v.root) (sym c.self.view_is)
+    ∙ root_is i.len i.entries.items (index_positions i.entries.items) i.room some
     ∙ ap (λ (x : Entry). Some (index_of x)) is)
     (c.fill.ensures.slots ∙ moment_slots (view_of i.len i.entries.items (index_positions i.entries.items) i.room)
     (index_of x) c.args.moment (key x) has

@@ -22,7 +22,8 @@ fill-requires-clause-linked c =
     let i = c.self.inside in
     let h = c.self.invariant.0 in
     let p = c.unwrap-hole.result in
-    let pl = found_place i.len i.entries.items (index_positions i.entries.items) i.room c.args.self.now c.args.index c.unwrap-hole.result
+    let pl = found_place i.len i.entries.items
+    (index_positions i.entries.items) i.room c.args.self.now c.args.index c.unwrap-hole.result
     c.position_of.result c.deref.result.now h c.self.view_is c.requires c.deref.ensures.value c.unwrap-hole.ensures
     c.position_of.ensures.some in
     let x = c.index-removed.result.now in
@@ -41,7 +42,8 @@ fill-requires-clause-order c =
     let i = c.self.inside in
     let h = c.self.invariant.0 in
     let p = c.unwrap-hole.result in
-    let pl = found_place i.len i.entries.items (index_positions i.entries.items) i.room c.args.self.now c.args.index c.unwrap-hole.result
+    let pl = found_place i.len i.entries.items
+    (index_positions i.entries.items) i.room c.args.self.now c.args.index c.unwrap-hole.result
     c.position_of.result c.deref.result.now h c.self.view_is c.requires c.deref.ensures.value c.unwrap-hole.ensures
     c.position_of.ensures.some in
     let x = c.index-removed.result.now in
@@ -59,7 +61,8 @@ fill-requires-clause-bridged c =
     let i = c.self.inside in
     let h = c.self.invariant.0 in
     let p = c.unwrap-hole.result in
-    let pl = found_place i.len i.entries.items (index_positions i.entries.items) i.room c.args.self.now c.args.index c.unwrap-hole.result
+    let pl = found_place i.len i.entries.items
+    (index_positions i.entries.items) i.room c.args.self.now c.args.index c.unwrap-hole.result
     c.position_of.result c.deref.result.now h c.self.view_is c.requires c.deref.ensures.value c.unwrap-hole.ensures
     c.position_of.ensures.some in
     let x = c.index-removed.result.now in
@@ -78,7 +81,8 @@ invariant_of-self c =
     let i = c.self.inside in
     let h = c.self.invariant.0 in
     let p = c.unwrap-hole.result in
-    let pl = found_place i.len i.entries.items (index_positions i.entries.items) i.room c.args.self.now c.args.index c.unwrap-hole.result
+    let pl = found_place i.len i.entries.items
+    (index_positions i.entries.items) i.room c.args.self.now c.args.index c.unwrap-hole.result
     c.position_of.result c.deref.result.now h c.self.view_is c.requires c.deref.ensures.value c.unwrap-hole.ensures
     c.position_of.ensures.some in
     let x = c.index-removed.result.now in
@@ -114,7 +118,8 @@ invariant_of-self-else-hole-last c =
     let i = c.self.inside in
     let h = c.self.invariant.0 in
     let p = c.unwrap-hole.result in
-    let pl = found_place i.len i.entries.items (index_positions i.entries.items) i.room c.args.self.now c.args.index c.unwrap-hole.result
+    let pl = found_place i.len i.entries.items
+    (index_positions i.entries.items) i.room c.args.self.now c.args.index c.unwrap-hole.result
     c.position_of.result c.deref.result.now h c.self.view_is c.requires c.deref.ensures.value c.unwrap-hole.ensures
     c.position_of.ensures.some in
     let x = c.index-removed.result.now in
@@ -138,7 +143,8 @@ returns-then-hole-last-clause-slots c =
     let i = c.self.inside in
     let h = c.self.invariant.0 in
     let p = c.unwrap-hole.result in
-    let pl = found_place i.len i.entries.items (index_positions i.entries.items) i.room c.args.self.now c.args.index c.unwrap-hole.result
+    let pl = found_place i.len i.entries.items
+    (index_positions i.entries.items) i.room c.args.self.now c.args.index c.unwrap-hole.result
     c.position_of.result c.deref.result.now h c.self.view_is c.requires c.deref.ensures.value c.unwrap-hole.ensures
     c.position_of.ensures.some in
     let x = c.index-removed.result.now in
@@ -167,7 +173,8 @@ returns-else-hole-last-clause-slots c =
     let i = c.self.inside in
     let h = c.self.invariant.0 in
     let p = c.unwrap-hole.result in
-    let pl = found_place i.len i.entries.items (index_positions i.entries.items) i.room c.args.self.now c.args.index c.unwrap-hole.result
+    let pl = found_place i.len i.entries.items
+    (index_positions i.entries.items) i.room c.args.self.now c.args.index c.unwrap-hole.result
     c.position_of.result c.deref.result.now h c.self.view_is c.requires c.deref.ensures.value c.unwrap-hole.ensures
     c.position_of.ensures.some in
     let x = c.index-removed.result.now in

@@ -20,7 +20,8 @@ unwrap-hole-requires c =
 pub fill-requires-clause-hole : goal.fill-requires-clause-hole
 fill-requires-clause-hole c =
     let i = c.self.inside in
-    let p = found_place i.len i.entries.items (index_positions i.entries.items) i.room c.args.self.now c.args.index c.unwrap-hole.result
+    let p = found_place i.len i.entries.items
+    (index_positions i.entries.items) i.room c.args.self.now c.args.index c.unwrap-hole.result
     c.position_of.result c.deref.result.now c.self.invariant.0 c.self.view_is c.requires c.deref.ensures.value
     c.unwrap-hole.ensures c.position_of.ensures.some in
     p.used
@@ -28,7 +29,8 @@ fill-requires-clause-hole c =
 pub fill-requires-clause-index : goal.fill-requires-clause-index
 fill-requires-clause-index c =
     let i = c.self.inside in
-    let p = found_place i.len i.entries.items (index_positions i.entries.items) i.room c.args.self.now c.args.index c.unwrap-hole.result
+    let p = found_place i.len i.entries.items
+    (index_positions i.entries.items) i.room c.args.self.now c.args.index c.unwrap-hole.result
     c.position_of.result c.deref.result.now c.self.invariant.0 c.self.view_is c.requires c.deref.ensures.value
     c.unwrap-hole.ensures c.position_of.ensures.some in
     sym (ap index_of (get_or_default i.entries.items c.unwrap-hole.result nowhere c.index.result.now p.within
@@ -37,7 +39,8 @@ fill-requires-clause-index c =
 pub fill-requires-clause-bridged : goal.fill-requires-clause-bridged
 fill-requires-clause-bridged c =
     let i = c.self.inside in
-    let p = found_place i.len i.entries.items (index_positions i.entries.items) i.room c.args.self.now c.args.index c.unwrap-hole.result
+    let p = found_place i.len i.entries.items
+    (index_positions i.entries.items) i.room c.args.self.now c.args.index c.unwrap-hole.result
     c.position_of.result c.deref.result.now c.self.invariant.0 c.self.view_is c.requires c.deref.ensures.value
     c.unwrap-hole.ensures c.position_of.ensures.some in
     (hole_made i.len c.unwrap-hole.result (key_at i.entries.items) c.self.invariant.0.order p.used).1
@@ -46,7 +49,8 @@ pub invariant_of-self : goal.invariant_of-self
 invariant_of-self c =
     let i = c.self.inside in
     let h = c.self.invariant.0 in
-    let p = found_place i.len i.entries.items (index_positions i.entries.items) i.room c.args.self.now c.args.index c.unwrap-hole.result
+    let p = found_place i.len i.entries.items
+    (index_positions i.entries.items) i.room c.args.self.now c.args.index c.unwrap-hole.result
     c.position_of.result c.deref.result.now c.self.invariant.0 c.self.view_is c.requires c.deref.ensures.value
     c.unwrap-hole.ensures c.position_of.ensures.some in
     let x = c.index.result.now in
@@ -58,7 +62,8 @@ invariant_of-self c =
     let has = at_index i.len i.entries.items (index_positions i.entries.items) i.room c.args.index c.unwrap-hole.result p in
     let moved : Expiration = record { moment = c.args.moment; id = id_of x } in (
       heap_moved i.len i.entries.items c.fill.new.entries.items (index_positions i.entries.items)
-          (index_positions c.fill.new.entries.items) c.args.index (key_at i.entries.items c.unwrap-hole.result) moved h has f.linked
+          (index_positions c.fill.new.entries.items) c.args.index
+          (key_at i.entries.items c.unwrap-hole.result) moved h has f.linked
           f.order f.length
           (f.slots ∙ ap (λ n. set (slots i.len i.entries.items (index_positions i.entries.items)) n (Some moved)) number),
       subst (λ n. i.room ≤ n) (sym f.entries) c.self.invariant.1,
@@ -68,7 +73,8 @@ invariant_of-self c =
 pub returns-clause-slots : goal.returns-clause-slots
 returns-clause-slots c =
     let i = c.self.inside in
-    let p = found_place i.len i.entries.items (index_positions i.entries.items) i.room c.args.self.now c.args.index c.unwrap-hole.result
+    let p = found_place i.len i.entries.items
+    (index_positions i.entries.items) i.room c.args.self.now c.args.index c.unwrap-hole.result
     c.position_of.result c.deref.result.now c.self.invariant.0 c.self.view_is c.requires c.deref.ensures.value
     c.unwrap-hole.ensures c.position_of.ensures.some in
     let x = c.index.result.now in

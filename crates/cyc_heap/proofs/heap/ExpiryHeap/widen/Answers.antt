@@ -29,7 +29,8 @@ invariant_of-self c =
             subst₂ (λ x y. is_before (key x) (key y) ≡ true) (sym (f.kept a (omega (arith, l, low, within))))
             (sym (f.kept b (omega (arith, low, within)))) (h.order a b child low));
         count = ap (count_by is_some) (f.slots i.len within)
-            ∙ count_free (slots i.len i.entries.items (index_positions i.entries.items)) (c.args.size - length i.entries.items) ∙ h.count;
+            ∙ count_free (slots i.len i.entries.items (index_positions i.entries.items)) (c.args.size - length i.entries.items)
+            ∙ h.count;
       },
       omega (arith, cap, more),
       omega (arith, long, room, reserved),

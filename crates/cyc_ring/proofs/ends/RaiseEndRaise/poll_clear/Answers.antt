@@ -57,7 +57,8 @@ returns-clause-step c = let e = c.args.self.now in let s = e.seat.side.seat in l
     let r = e.seat in let i : ℕ = c.index_of-index.result in let w =
     the_stay k.ceiling r.stays.value.ids r.stays.value.sent r.stays.value.lost t r.rows c.args.id _ c.requires.0 in let real =
     (r.rows.only c.args.id w.0 w.1).2 in
-    let rows : c.load_as-found.new.raise_seat.stays.value ≡ r.stays.value = λ z. (c.load_as-found.ensures.rows z).value in let one =
+    let rows : c.load_as-found.new.raise_seat.stays.value
+    ≡ r.stays.value = λ z. (c.load_as-found.ensures.rows z).value in let one =
     c.deref.ensures ∙ rows in let two = c.deref-2.ensures ∙ rows in let named_row : get_or r.stays.value.ids i 0 ≡ c.args.id =
     named in
     let stay = ap (λ (x : ℕ). open_stay x t) (sym named_row)

@@ -27,7 +27,8 @@ invariant_of-self c =
     let t = c.self.invariant.0 in let caps = c.self.invariant in
     let rows = ap (λ (v : TableView). v.rows) c.self.view_is in let size = ap (λ (v : TableView). v.size) c.self.view_is in
     let long = ap length rows in let mapped = length-map entries (row_of slots records) in
-    let q = c.in-Err.position in let gap = subst (λ ys. IsGap id_in ys c.args.id q) c.deref.ensures.value c.in-Err.ensures.absent in
+    let q = c.in-Err.position in let gap = subst
+    (λ ys. IsGap id_in ys c.args.id q) c.deref.ensures.value c.in-Err.ensures.absent in
     let index = c.insert-index.result in let free = c.insert-index.ensures.free in let low_i = c.insert-index.ensures.below in
     let free_rows = c.requires.free in
     let ok = c.insert.ensures.succeeds (omega (arith, caps, free_rows, long, mapped, size)) in
@@ -55,7 +56,8 @@ returns-clause-fresh c k d low same =
     let t = c.self.invariant.0 in let caps = c.self.invariant in
     let rows = ap (λ (v : TableView). v.rows) c.self.view_is in let size = ap (λ (v : TableView). v.size) c.self.view_is in
     let long = ap length rows in let mapped = length-map entries (row_of slots records) in
-    let q = c.in-Err.position in let gap = subst (λ ys. IsGap id_in ys c.args.id q) c.deref.ensures.value c.in-Err.ensures.absent in
+    let q = c.in-Err.position in let gap = subst
+    (λ ys. IsGap id_in ys c.args.id q) c.deref.ensures.value c.in-Err.ensures.absent in
     let index = c.insert-index.result in let free = c.insert-index.ensures.free in let low_i = c.insert-index.ensures.below in
     let low' : k < length entries = omega (arith, low, long, mapped) in
     fresh slots records entries t c.args.id index c.args.moment q c.args.kept free low_i gap k low'
@@ -68,7 +70,8 @@ returns-clause-rows c =
     let t = c.self.invariant.0 in let caps = c.self.invariant in
     let rows = ap (λ (v : TableView). v.rows) c.self.view_is in let size = ap (λ (v : TableView). v.size) c.self.view_is in
     let long = ap length rows in let mapped = length-map entries (row_of slots records) in
-    let q = c.in-Err.position in let gap = subst (λ ys. IsGap id_in ys c.args.id q) c.deref.ensures.value c.in-Err.ensures.absent in
+    let q = c.in-Err.position in let gap = subst
+    (λ ys. IsGap id_in ys c.args.id q) c.deref.ensures.value c.in-Err.ensures.absent in
     let index = c.insert-index.result in let free = c.insert-index.ensures.free in let low_i = c.insert-index.ensures.below in
     let free_rows = c.requires.free in
     let ok = c.insert.ensures.succeeds (omega (arith, caps, free_rows, long, mapped, size)) in

@@ -46,7 +46,8 @@ returns c =
     let sized : length c.widen.new.self.slots ≡ max c.args.self.now.size c.args.size = omega (arith, s, a, b, size) in
     λ j. record {
       rows = (ap (λ xs. rows_of c.widen.new.self.slots xs entries) recs
-          ∙ ap (λ ys. rows_of ys (records ++ replicate (c.args.size - length slots) c.vacant.result) entries) c.widen.ensures.slots
+          ∙ ap (λ ys. rows_of ys (records
+          ++ replicate (c.args.size - length slots) c.vacant.result) entries) c.widen.ensures.slots
           ∙ wide_rows slots records entries t (c.args.size - length slots) c.vacant.result c.vacant.ensures
           ∙ ap (λ (v : TableView). v.rows) c.self.view_is) j;
       root = (c.widen.ensures.root ∙ ap (λ (v : TableView). v.root) c.self.view_is) j;

@@ -180,7 +180,8 @@ finish_ready n most l m id answer r (hand, h, a) =
     subst (λ (x : SoftLevel). IsReady n most (firing_view x)) (sym h.1)
     (subst (λ (o : Option ℕ). IsReady n most (firing_view (after_finish o l))) (sym hand) (finish_view n most l id r))
 
-pub finish_hand : (n most : ℕ) (l m : SoftLevel) (hand : Option ℕ) (answer : Finished) → IsSome hand → IsReady n most (firing_view l)
+pub finish_hand : (n most : ℕ) (l m : SoftLevel) (hand : Option ℕ) (answer : Finished) → IsSome hand
+    → IsReady n most (firing_view l)
     →
     IfSome hand (λ id. Drains l (Finishes id answer) m) → IsReady n most (firing_view m)
 finish_hand n most l m None answer some r d = absurd (cc)
