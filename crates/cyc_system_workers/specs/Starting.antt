@@ -9,7 +9,7 @@ use Rattle.cyc_system_workers.specs.declared.firing.Started.{Started}
 use Rattle.cyc_system_workers.specs.declared.firing.Started.TheVariants.{Fires, Stays}
 use Rattle.cyc_system_workers.specs.Advancing.{LaneFires}
 
--- two lists are of one length, and this holds of each two elements at one place
+-- two lists are of one length, and this holds of each two elements at one position
 pub record Beside {A B : Type 0} (P : A → B → Type 0) (xs : List A) (ys : List B) : Type 0 where
   pub long : length ys ≡ length xs
   pub each : (n : ℕ) (x : A) (y : B) → slice_get xs n ≡ Some x → slice_get ys n ≡ Some y → P x y
