@@ -1,6 +1,6 @@
 -- Two lists beside each other.
-use Rattle.std.proofs.Common.{◌≡◌, ℕ, zero, suc, ◌+◌, List, [], ◌∷◌, ◌++◌, length, Some, refl, sym, ap, ◌∙◌, subst, arith}
-use Rattle.std.proofs.Common.{append_assoc, append-nil}
+use Rattle.std.proofs.Common.{◌≡◌, ℕ, zero, suc, ◌+◌, ◌≤◌, List, [], ◌∷◌, ◌++◌, length, Some, refl, sym, ap, ◌∙◌, subst}
+use Rattle.std.proofs.Common.{arith, append_assoc, append-nil}
 use Rattle.std.specs.List.{slice_get}
 use Rattle.std.proofs.lemmas.List.{length-append}
 use Rattle.std.proofs.lemmas.Option.{slice_get_within, same_Some}
@@ -36,6 +36,11 @@ module _ {A B : Type 0} (P : A → B → Type 0) where
 
   pub beside_none : Beside P [] []
   beside_none = record { long = refl; each = λ n x y e f. (let low = slice_get_within [] n x e in absurd (omega (arith, low))) }
+
+  -- some of a list were begun
+  pub begun_few : (xs rest all : List A) (ys : List B) → xs ++ rest ≡ all → Beside P xs ys → length ys ≤ length all
+  begun_few xs rest all ys e b =
+      let long = length-append xs rest in let n = ap (λ (l : List A). length l) e in let m = b.long in omega (arith, long, n, m)
 
 -- an iterator gave one element
 pub given_all : {A : Type 0} (ys : List A) (x : A) (rest rest' all : List A) → rest ≡ x ∷ rest' → ys ++ rest ≡ all

@@ -1,6 +1,6 @@
 //! The threads of an advance: one for each CPU that is online.
 
-ghost use Rattle.std.specs.Prelude.{true, IfOk};
+ghost use Rattle.std.specs.Prelude.{◌≡◌, ◌≤◌, [], true, length, vec_capacity, IfOk, OnOk};
 ghost use Rattle.cyc_system_workers.specs.Advancing.{LaneFires};
 ghost use Rattle.cyc_system_workers.specs.Starting.{Beside, Owes, Keeps};
 
@@ -80,20 +80,22 @@ fn start<'s, E, R: Raise + Send + Drop + 's, C: Calls + Send + Drop + 's>(
     }
 }
 
-/// Starts a thread for each CPU that is online.
+/// Starts a thread for each CPU that is online, until one is refused.
 fn start_all<'s, E, R: Raise + Send + Drop + 's, C: Calls + Send + Drop + 's>(
     scope: &Scope<'s, E>,
-    alloc: Global,
     lanes: Vec<Lane<R, C>>,
     now: Moment,
-) -> Result<Vec<Started<R, C>>, AllocError>
-    ensures { IfOk result (λ v. Beside (Owes C.called C.count C.may_refuse R.step R.view now) lanes.items v.items) }
+    started: &mut Vec<Started<R, C>>,
+) -> Result<(), AllocError>
+    requires none { started.old.items ≡ [] }
+    requires room { length lanes.items ≤ vec_capacity started.old }
+    ensures begun { OnOk result (Beside (Owes C.called C.count C.may_refuse R.step R.view now) lanes.items started.new.items) }
+    ensures few { length started.new.items ≤ length lanes.items }
 {
-    let mut started = Vec::with_capacity(alloc, lanes.len())?;
     for lane in lanes {
-        started.push(start(scope, lane, now)?)?;
+        started.push_reserved(start(scope, lane, now)?);
     }
-    Ok(started)
+    Ok(())
 }
 
 /// Waits for a CPU.
@@ -109,22 +111,23 @@ fn join<W: Threads, R: Raise + Drop, C: Calls + Drop>(
     }
 }
 
-/// Waits for each CPU: what they left, by their numbers. Its memory may be refused; the scope waits for the threads then.
+/// Waits for each CPU: what they left, by their numbers.
 fn join_all<W: Threads, R: Raise + Drop, C: Calls + Drop>(
     rt: &W,
-    alloc: Global,
     started: Vec<Started<R, C>>,
-) -> Result<Vec<LaneAfter<R, C>>, AllocError>
-    ensures { IfOk result (λ v. Beside (Keeps C.called C.count C.may_refuse R.step R.view) started.items v.items) }
+    after: &mut Vec<LaneAfter<R, C>>,
+)
+    requires none { after.old.items ≡ [] }
+    requires room { length started.items ≤ vec_capacity after.old }
+    ensures { Beside (Keeps C.called C.count C.may_refuse R.step R.view) started.items after.new.items }
 {
-    let mut after = Vec::with_capacity(alloc, started.len())?;
     for one in started {
-        after.push(join(rt, one))?;
+        after.push_reserved(join(rt, one));
     }
-    Ok(after)
 }
 
-/// Fires the CPUs that are online, each in a thread of its own, all started before the first is waited for.
+/// Fires the CPUs that are online, each in a thread of its own, all started before the first is waited for. Memory is taken before
+/// the first is started, and where one is refused, those that were started are waited for.
 fn fire_in<'s, E, W: Threads, R: Raise + Send + Drop + 's, C: Calls + Send + Drop + 's>(
     scope: &Scope<'s, E>,
     rt: &W,
@@ -134,8 +137,11 @@ fn fire_in<'s, E, W: Threads, R: Raise + Send + Drop + 's, C: Calls + Send + Dro
 ) -> Result<Vec<LaneAfter<R, C>>, AllocError>
     ensures { IfOk result (λ v. Beside (LaneFires C.called C.count C.may_refuse R.step R.view now) lanes.items v.items) }
 {
-    let started = start_all(scope, alloc, lanes, now)?;
-    let after = join_all(rt, alloc, started)?;
+    let mut started = Vec::with_capacity(alloc, lanes.len())?;
+    let mut after = Vec::with_capacity(alloc, lanes.len())?;
+    let all_started = start_all(scope, lanes, now, &mut started);
+    join_all(rt, started, &mut after);
+    all_started?;
     Ok(after)
 }
 

@@ -1,4 +1,4 @@
-use Rattle.std.proofs.Common.{[], sym, subst, rules}
+use Rattle.std.proofs.Common.{[], sym, subst, arith, rules}
 use Rattle.cyc_system_workers.specs.Starting.{Beside, Keeps}
 use Rattle.cyc_system_workers.proofs.Beside.{beside_none, beside_pushed, given_all, given_many, given_none}
 use Rattle.cyc_system_workers.proofs.firing.join_all.Goals as goal
@@ -10,7 +10,8 @@ loop-one-init g c =
     record {
       all = gives.0;
       many = search rules;
-      kept = subst (Beside keeps []) (sym c.in_ok-after.ensures.items) (beside_none keeps);
+      room = search rules;
+      kept = subst (Beside keeps []) (sym c.requires.none) (beside_none keeps);
     }
 
 pub loop-one-preserved : goal.loop-one-preserved
@@ -19,8 +20,10 @@ loop-one-preserved g c =
     record {
       all = given_all c.loop-one.yielded one _ _ _ step.0 inv.all;
       many = given_many _ _ one _ _ step.0 step.1 inv.many;
+      room = let room = inv.room in let given = step.1 in let long = c.push_reserved.ensures.len in
+          let same = c.push_reserved.ensures.capacity in omega (arith, room, given, long, same);
       kept = beside_pushed (Keeps g.C.Calls.called g.C.Calls.count g.C.Calls.may_refuse g.R.Raise.step g.R.Raise.view)
-          c.loop-one.yielded c.loop-one.after.items _ one c.join.result c.in_ok-push.ensures.items inv.kept c.join.ensures;
+          c.loop-one.yielded c.loop-one.after.items _ one c.join.result c.push_reserved.ensures.items inv.kept c.join.ensures;
     }
 
 pub returns : goal.returns
