@@ -72,7 +72,7 @@ pub fn drain<W: Wait, D: Drain, C: Calls>(
 {
     let mut side = side;
     for _ in rt.forever() {
-        let watch = Watch::ask(signals, &side);
+        let watch = Watch::ask(&signals.told_to_stop(), &side);
         match serve(&mut side, level) {
             Ok(ran) => {
                 if ran.idle {

@@ -1,11 +1,12 @@
 //! What the workers tell each other.
 
-ghost use Rattle.std.specs.Prelude.{IfSome};
+ghost use Rattle.std.specs.Prelude.{◌≡◌, IfSome};
 ghost use Rattle.cyc_workers.specs.Refusals.{CanRefuse};
 
 use cyc_types::{Calls, CyclicId};
 use std::marker::PhantomData;
-use std::sync::atomic::{AtomicBool, AtomicIn, Ordering, Rule};
+use std::sync::atomic::{AtomicIn, Ordering, Rule};
+use std::sync::{OnceLock, OnceToken};
 
 /// The rule of the number that tells of a refusal: it is 0, or that of a cyclic whose handler may refuse.
 pub struct Telling<C> {
@@ -21,7 +22,8 @@ impl<C: Calls> Rule for Telling<C> {
 /// What the workers of a run tell each other: that they are to stop, and that a handler refused.
 #[derive(Drop)]
 pub struct Signals<C: Calls> {
-    stop: AtomicBool,
+    // Set once they are to stop.
+    stop: OnceLock<()>,
     // The id whose handler refused, 0 where none did.
     refused: AtomicIn<Telling<C>>,
 }
@@ -30,19 +32,26 @@ impl<C: Calls> Signals<C> {
     /// Neither is told yet.
     pub fn new() -> Signals<C> {
         Signals {
-            stop: AtomicBool::new(false),
+            stop: OnceLock::new(),
             refused: AtomicIn::new(0),
         }
     }
 
     /// Tells the draining workers to stop. One that is parked must be unparked after it.
     pub fn stop(&self) {
-        self.stop.store(true, Ordering::SeqCst);
+        let _ = self.stop.try_set(());
+    }
+
+    /// What shows that the draining workers were told to stop: there is none before `stop`.
+    pub(crate) fn told_to_stop(&self) -> Option<OnceToken<'_, ()>>
+        ensures { IfSome result (λ t. t.of ≡ self.now.stop.id) }
+    {
+        self.stop.witness()
     }
 
     /// Whether the draining workers are to stop.
     pub fn is_stopped(&self) -> bool {
-        self.stop.load(Ordering::SeqCst)
+        self.told_to_stop().is_some()
     }
 
     /// Tells that the handler of this cyclic refused.

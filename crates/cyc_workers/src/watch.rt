@@ -1,14 +1,13 @@
 //! When a draining worker may park, and when it may end.
 
-ghost use Rattle.std.specs.Prelude.{◌≡◌, false};
+ghost use Rattle.std.specs.Prelude.{◌≡◌, false, is_some};
 ghost use Rattle.cyc_soft.specs.Serving.{EndsWithLook};
 
 use crate::draining::SoftSide;
-use crate::signals::Signals;
 use crossbeam_utils::sync::Parker;
 use cyc_types::{Calls, Drain};
 use std::snapshot::Snapshot;
-use std::sync::Wait;
+use std::sync::{OnceToken, Wait};
 
 /// The last question of a draining worker whether it is to stop, and its soft side at that moment (our own rule). A raise wakes
 /// the worker after its entry stands in the buffer, so a worker that asks, looks at the buffer, and only then parks misses none;
@@ -27,13 +26,13 @@ impl<D, C> Drop for Watch<D, C> {
 }
 
 impl<D: Drain, C: Calls> Watch<D, C> {
-    /// Asks whether the worker is to stop. It has still to look after this.
-    pub(crate) fn ask(signals: &Signals<C>, side: &SoftSide<D, C>) -> Watch<D, C>
-        ensures { result.asked.value ≡ side.now }
+    /// The worker has asked whether it is to stop: `told` shows it where the answer is yes. It has still to look after this.
+    pub(crate) fn ask(told: &Option<OnceToken<'_, ()>>, side: &SoftSide<D, C>) -> Watch<D, C>
+        ensures told { result.told ≡ is_some told.now }
+        ensures asked { result.asked.value ≡ side.now }
     {
-        let told = signals.is_stopped();
         Watch {
-            told,
+            told: told.is_some(),
             asked: Snapshot::of(side),
         }
     }

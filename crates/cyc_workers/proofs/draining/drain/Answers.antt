@@ -13,7 +13,7 @@ returns-then-is_told g c =
     (has_stopped g.D.Drain.step g.D.Drain.held g.D.Drain.made (at_level g.C.Calls.called (as_level c.args.level)) g.C.Calls.count
     g.C.Calls.may_refuse
     c.args.side c.loop.side c.serve.new.side c.in-Ok.ran.idle c.ask-watch.result c.loop.invariant c.in-Ok.ensures.ran
-    c.if-ran.true (sym c.is_told.ensures ∙ c.if-is_told.true) c.ask-watch.ensures)
+    c.if-ran.true (sym c.is_told.ensures ∙ c.if-is_told.true) c.ask-watch.ensures.asked)
 
 pub loop-preserved : goal.loop-preserved
 loop-preserved g c = makes_on g.D.Drain.step g.D.Drain.held g.D.Drain.made
