@@ -83,7 +83,7 @@ for variable in FAIL_ALLOC FAIL_THREAD; do
   echo "memory: run, $variable: $((n - 1)) refused in turn; $ended ended the run, $whole changed no report, the others took a name away"
 done
 
-(cd crates/refused_memory && rt run -- Hard::add) > "$work/said" 2>&1 || { cat "$work/said"; exit 1; }
+tools/prove refused_memory 2> "$work/said" || { cat "$work/said"; exit 1; }
 program=crates/refused_memory/out/refused_memory
 
 # calls VARIABLE CALL: a call of the library with each of its requests refused in turn

@@ -1,10 +1,10 @@
 #!/usr/bin/env python3
-"""Tries the start scripts `cyclic` and `look` over a toolchain that only pretends: what they say, when they build, what a stop leaves.
+"""Tries the start scripts `cyclic` and `look`, and `tools/prove` under them, over a toolchain that only pretends: what they say, when they build, what a stop leaves.
 
     tests/start.py
 
-In a scratch copy of the start scripts the program stands on two crates, and a third has no part in it. The pretended `rt` proves a
-crate by a file in its out/, and can be told to hang or to fail at a crate. Each fault is printed, and the status is then 1.
+In a scratch copy of the start scripts the program stands on two crates, and a third has no part in it. The pretended prover notes
+each crate that it is given, and can be told to hang, to be slow or to fail at one. Each fault is printed, and the status is then 1.
 """
 import os
 import sys
@@ -20,28 +20,30 @@ import time
 
 TOP = os.path.join(os.path.dirname(os.path.abspath(__file__)), "..")
 RT = r"""#!/usr/bin/env bash
-cd "$FAKE" || exit 9
-echo "$*" >> calls
-prove() {
-    for name in low high cyclic; do
-        [ "$(cat hang 2> /dev/null)" != "$name" ] || { echo hangs >> calls; exec sleep 100; }
-        sum=$(cat kit "crates/$name/src/"* | sha256sum)
-        [ "$(cat "crates/$name/out/sum" 2> /dev/null)" != "$sum" ] || { echo "== $name"; continue; }
-        [ "$(cat fail 2> /dev/null)" != "$name" ] || { printf '== %s\nstatements std: many\nerror: %s\n' "$name" "$name"; exit 1; }
-        [ "$(cat slow 2> /dev/null)" != "$name" ] || sleep 0.6
-        echo "== $name"
-        echo "logic=proved functions=1"
-        mkdir -p "crates/$name/out" && echo "$sum" > "crates/$name/out/sum"
-    done
-    echo "== summary"
-}
+cd "$FAKE" && [ ! -e broken ] || exit 9
 case "$1" in
-version) cat > /dev/null && cat kit ;;
-all) prove ;;
-run) [ ! -e unlinked ] || exit 2
-    printf '#!/bin/sh\necho ran "$@"; cat\n' > crates/cyclic/out/cyclic && chmod +x crates/cyclic/out/cyclic ;;
-try) shift; echo "look $*"; cat; exit 3 ;;
+version) cat kit/name ;;
+doc) echo "$FAKE/kit/START-HERE.md" ;;
+try) echo "$*" >> calls; shift; echo "look $*"; cat; exit 3 ;;
+*) echo "$*" >> calls ;;
 esac
+"""
+PROVER = r"""#!/usr/bin/env bash
+name=$3
+while [ $# -gt 1 ]; do [ "$1" != -o ] || made=$2; shift; done
+cd "$FAKE" || exit 9
+echo "$name" >> calls
+[ "$(cat hang 2> /dev/null)" != "$name" ] || { echo hangs >> calls; exec sleep 100; }
+[ "$(cat fail 2> /dev/null)" != "$name" ] || { printf 'statements std: many\nerror: %s\n' "$name"; exit 1; }
+[ "$(cat slow 2> /dev/null)" != "$name" ] || sleep 0.6
+echo "logic=proved functions=1"
+case $made in *.rlib) mkdir "$made" ;; *) echo "$name" > "$made" ;; esac
+"""
+LINKER = r"""#!/usr/bin/env bash
+echo link >> "$FAKE/calls"
+while [ "$1" != -o ]; do shift; done
+[ ! -e "$FAKE/unlinked" ] || exit 2
+printf '#!/bin/sh\necho ran "$@"; cat\n' > "$2" && chmod +x "$2"
 """
 FIRST = """cyclic: proving and building the program first: 3 crates, some minutes
 cyclic: for a look within a minute, at the same sources unproved: ./look replay < SCRIPT
@@ -56,16 +58,19 @@ class Start:
 
     def __init__(self, top):
         self.top, self.faults = top, 0
-        for name in ("low", "high", "cyclic", "apart"):
+        for name in ("low", "high", "apart"):
             self.write(f"crates/{name}/src/lib.rt", name)
+        self.write("crates/cyclic/src/main.rt", "cyclic")
         self.write("crates/high/specs/Lib.antt", "")
         self.write("crates.txt", "# lowest first\nlow: thiserror\napart staticlib: low\nhigh: low\ncyclic: high low\n")
         self.write("examples/first.json", "{}")
-        self.write("kit", "kit 1")
-        self.write("bin/rt", RT)
-        os.chmod(f"{top}/bin/rt", 0o755)
-        for name in ("cyclic", "look"):
-            shutil.copy(f"{TOP}/{name}", top)
+        self.write("kit/name", "kit 1")
+        for file, text in (("bin/rt", RT), ("kit/bin/rattle", PROVER), ("kit/bin/rattle-link", LINKER)):
+            self.write(file, text)
+            os.chmod(f"{top}/{file}", 0o755)
+        os.mkdir(f"{top}/tools")
+        for name in ("cyclic", "look", "tools/prove"):
+            shutil.copy(f"{TOP}/{name}", f"{top}/{name}")
         self.env = {**os.environ, "FAKE": top, "PATH": f"{top}/bin:{os.environ['PATH']}"}
 
     def write(self, file, text):
@@ -74,9 +79,9 @@ class Start:
             it.write(text)
 
     def calls(self):
-        """What the toolchain was asked for since the last time, the kit's line apart."""
+        """What the toolchain was asked for since the last time: the crates that it was given, and to link."""
         with open(f"{self.top}/calls", encoding="utf-8") as it:
-            found = [line for line in it.read().splitlines() if line != "version"]
+            found = it.read().splitlines()
         self.write("calls", "")
         return found
 
@@ -92,7 +97,7 @@ class Start:
         self.want(f"{name}, status", ran.returncode, status)
         self.want(f"{name}, output", ran.stdout, out)
         self.want(f"{name}, words", re.sub(r"\b\d+m\d\d\b", "T", ran.stderr), said)
-        self.want(f"{name}, calls", [re.sub(r"--jobs \d+", "--jobs", it) for it in self.calls()], calls)
+        self.want(f"{name}, calls", self.calls(), calls)
 
     def left(self):
         """The processes that work in the scratch copy."""
@@ -123,12 +128,13 @@ class Start:
         os.remove(f"{self.top}/hang")
 
 
-BUILDS = ["all check --jobs", "run -- replay"]
+BUILDS = ["low", "high", "cyclic", "link"]
 STOPS = (signal.SIGINT, signal.SIGTERM, signal.SIGHUP)
 
 
-def at_last(names):
-    return "".join(f"cyclic: proved {n} of 3: {name}, T\n" for n, name in names)
+def from_the(first, last=3):
+    """What is said of these crates."""
+    return "".join(ALL.splitlines(keepends=True)[first - 1:last])
 
 
 def tries(start):
@@ -138,38 +144,41 @@ def tries(start):
     start.write("crates/apart/src/lib.rt", "other")
     start.run("a crate apart", 0, "", [])
     start.write("crates/high/src/more.rt", "more")
-    start.run("a new file", 0, FIRST + at_last([(2, "high")]) + DONE, BUILDS)
+    start.run("a new file", 0, FIRST + from_the(2) + DONE, BUILDS[1:])
     os.remove(f"{start.top}/crates/high/src/more.rt")
-    start.run("a file less", 0, FIRST + at_last([(2, "high")]) + DONE, BUILDS)
+    start.run("a file less", 0, FIRST + from_the(2) + DONE, BUILDS[1:])
     start.write("crates/high/specs/Lib.antt", "-- other")
-    start.run("a definition", 0, FIRST + DONE, BUILDS)
-    start.write("kit", "kit 2")
+    start.run("a definition", 0, FIRST + from_the(2) + DONE, BUILDS[1:])
+    start.write("crates/cyclic/src/main.rt", "other")
+    start.run("the program alone", 0, FIRST + from_the(3) + DONE, BUILDS[2:])
+    start.write("kit/name", "kit 2")
     start.run("another kit", 0, FIRST + ALL + DONE, BUILDS)
     start.write("crates/cyclic/out/cyclic", "#!/bin/sh\necho other\n")
-    start.run("another program", 0, FIRST + DONE, BUILDS)
+    start.run("another program", 0, FIRST + from_the(3) + DONE, BUILDS[2:])
 
     start.write("crates/high/src/lib.rt", "wrong")
     start.write("fail", "high")
     for name in ("not proved", "not proved again"):
-        said = FIRST + "== low\n== high\nerror: high\ncyclic: the program was not proved\n"
-        start.run(name, 4, said, BUILDS[:1], out="")
+        start.run(name, 4, FIRST + "error: high\n" + "cyclic: high was not proved and built\n", ["high"], out="")
     os.remove(f"{start.top}/fail")
     start.write("unlinked", "")
-    start.run("not linked", 4, FIRST + at_last([(2, "high")]) + "== low\n== high\n== cyclic\n== summary\n"
-              "cyclic: the program was not proved\n", BUILDS, out="")
+    start.run("not linked", 4, FIRST + from_the(2, 2) + "cyclic: cyclic was not proved and built\n", BUILDS[1:], out="")
     os.remove(f"{start.top}/unlinked")
-    start.run("mended", 0, FIRST + DONE, BUILDS)
+    start.run("mended", 0, FIRST + from_the(3) + DONE, BUILDS[2:])
 
     for number in STOPS:
-        start.write("kit", f"kit for {number}")
+        start.write("kit/name", f"kit for {number}")
         start.stop(number.name, number)
-        start.run(f"after {number.name}", 0, FIRST + at_last([(2, "high"), (3, "cyclic")]) + DONE, BUILDS)
+        start.run(f"after {number.name}", 0, FIRST + from_the(2) + DONE, BUILDS[1:])
 
-    start.write("kit", "a slow kit")
+    start.write("kit/name", "a slow kit")
     start.write("slow", "high")
-    start.env["CYCLIC_PATIENCE"] = "0.4"
-    slow = "cyclic: proved 1 of 3: low, T\ncyclic: still at work: high, T\n" + at_last([(2, "high"), (3, "cyclic")])
+    start.env["PROVE_PATIENCE"] = "0.4"
+    slow = "cyclic: proved 1 of 3: low, T\ncyclic: still at work: high, T\n" + from_the(2)
     start.run("slow", 0, FIRST + slow + DONE, BUILDS)
+    start.write("broken", "")
+    start.run("no kit", 4, "cyclic: the kit's command rt is not there\n", [], out="")
+    os.remove(f"{start.top}/broken")
     start.run("a look", 3, "", ["try -- replay x"], word="look", out="look -- replay x\nscript")
 
 

@@ -6,13 +6,14 @@ set -u
 cd "$(dirname "$0")/.."
 failed=0
 
-# last CRATE: the prover's last line on it
+# last FOLDER CRATE: the prover's last line on a crate of the repository that stands in this folder
 last() {
-  (cd "$1" && ${RT:-rt} check) 2>&1 | grep '^logic=' | tail -n 1
+  "$1/tools/prove" "$2" 2> /dev/null
+  grep '^logic=' "$1/crates/$2/out/proved/said" | tail -n 1
 }
 
 for crate in ring_steps cyc_ring; do
-  line=$(last "crates/$crate")
+  line=$(last "$PWD" "$crate")
   case $line in
     *may-wait=*) echo "waits: $crate: $line"; failed=1 ;;
     logic=proved*) ;;
@@ -22,8 +23,9 @@ done
 
 work=$(mktemp -d)
 trap 'rm -rf "$work"' EXIT
-mkdir "$work/crates"
-cp crates.txt HANDLES "$work"
+mkdir "$work/crates" "$work/tools"
+cp crates.txt "$work"
+cp tools/prove "$work/tools"
 sed -i -n '/^#/p; /^\(cyc_types\|cyc_level\|ring_rule\|ring_laws\|ring_steps\):/p' "$work/crates.txt"
 for crate in cyc_types cyc_level ring_rule ring_laws ring_steps; do cp -r "crates/$crate" "$work/crates/$crate"; done
 python3 - "$work/crates/ring_steps" tests/waits/locks_the_level.edit <<'PY' || exit 1
@@ -42,7 +44,7 @@ for line in open(edit):
             sys.exit(f"waits: not once in {file}: {old}")
         open(file, "w").write(whole.replace(old, text))
 PY
-line=$(last "$work/crates/ring_steps")
+line=$(last "$work" ring_steps)
 case $line in
   *may-wait=[1-9]*) ;;
   *) echo "waits: a step that takes a lock is not counted: $line"; failed=1 ;;
