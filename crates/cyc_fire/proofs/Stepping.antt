@@ -264,7 +264,8 @@ module _ {C R : Type 0} (called : C → ℕ → C → Type 0) (count : C → ℕ
           timers_are = firing'.is;
           carried_are = carried_set rows i r u is adv.carried ∙ t.makes.carried_are;
           losses_are = losts ∙ (λ j. map (λ (x : Cyclic). lost_after (sym e1 j) (sym e2 j) x.timer.id x.lost) (cyclics_of rows0));
-          lost_is = (let a = ap way_losses e1 in let b = ap way_losses e2 in let x = losses_on t.makes.acts.lock_way o.0.lock_way in
+          lost_is = (let a = ap way_losses e1 in let b = ap way_losses e2 in
+              let x = losses_on t.makes.acts.lock_way o.0.lock_way in
               let y = losses_on t.makes.acts.low_way o.0.low_way in
               let z = t.makes.lost_is in let w = o.1 in omega (arith, a, b, x, y, z, w));
         };

@@ -204,8 +204,8 @@ module _ (ceiling id : ℕ) where
   past (Take ∷ es) on = past es on.1
   past (Finish ∷ es) on = past es on.1
   past (Mark a ∷ es) on = past es on.1
-  past (Clear a ∷ es) on = let l : SoftLevel = reached ceiling es in let law : Lawful l = always_lawful ceiling es on.1 in let n : ℕ =
-      stay_finishes ceiling id es in
+  past (Clear a ∷ es) on = let l : SoftLevel = reached ceiling es in let law : Lawful l = always_lawful ceiling es on.1 in
+      let n : ℕ = stay_finishes ceiling id es in
       let P : Bool → Type 0 = λ b. AreFinished (cond b (stay_list (current_stay id es) ++ past_stays id es) (past_stays id es))
       (cond b (n ∷ past_finishes ceiling id es) (past_finishes ceiling id es)) in dite (ℕ_discrete id a)
       (λ e. subst P (sym (eq-eqb id a e)) (done_stay n (current_stay id es) (l.cyclics id) (stay_is es on.1)

@@ -69,7 +69,8 @@ module _ (n id : ℕ) (s : State) (within : n < length s.cpus) (b : Base None s)
       let e = expired_on n (mark_here n id) (λ k. 0) s within done None None b (shift_mark None n id c) j in
       let l = lost_on n (mark_here n id) (λ k. 0) s within done None None b (shift_mark None n id c) j in
       let p = pending_on n (mark_here n id) (λ k. 0) s within done j in
-      let a = calls_own n j (handler_level_of id c) (Mark id) in let m = losses_own n j (handler_level_of id c) (Mark id) refl in (
+      let a = calls_own n j (handler_level_of id c) (Mark id) in
+      let m = losses_own n j (handler_level_of id c) (Mark id) refl in (
         same_plain (expired_in j t) (expired_in j s) e,
         plus (s.called j) (calls_of j (mark_here n id c).acts) a,
         same_lost (lost_in j t) (lost_in j s) (losses_of j (mark_here n id c).acts) l m,

@@ -114,6 +114,7 @@ module _ {C R : Type 0} (called : C → ℕ → C → Type 0) (count : C → ℕ
             (ids_fired now made cs cs' a.timers_are) a.losses_are
             ∙ sym (ap (λ w. map (λ (c : Cyclic). lost_after w acts.low_way c.timer.id c.lost) cs) lock
             ∙ ap (λ w. map (λ (c : Cyclic). lost_after (a.acts.lock_way ++ b.acts.lock_way) w c.timer.id c.lost) cs) low);
-        lost_is = (let x = ap way_losses lock in let y = ap way_losses low in let p = losses_on a.acts.lock_way b.acts.lock_way in let q =
+        lost_is = (let x = ap way_losses lock in let y = ap way_losses low in
+            let p = losses_on a.acts.lock_way b.acts.lock_way in let q =
             losses_on a.acts.low_way b.acts.low_way in let u = a.lost_is in let v = b.lost_is in omega (arith, x, y, p, q, u, v));
       }

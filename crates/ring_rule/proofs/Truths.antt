@@ -96,7 +96,8 @@ module _ (k : Setting) (s : RingState) (R : MeetsRule k s) (j : ℕ) (v : SeatVi
 
 -- the seat's trail gains a record, and the other side's seat stays as it is
 pub new_raise : NewRaiseIsTrue
-new_raise k s s' R R' i slot_word v x at role gains = let v' : SeatView = with_raise_step slot_word x v in let j : ℕ = R.drain_seat in
+new_raise k s s' R R' i slot_word v x at role gains = let v' : SeatView = with_raise_step slot_word x v in
+    let j : ℕ = R.drain_seat in
     let w : SeatView = R.soft_side.0 in let there = R.soft_side.1 in let soft = R.soft_side.2 in
     let at' : get_elem? s'.views i ≡ some v' = ap (λ (l : List SeatView). get_elem? l i) gains ∙ at_here s.views i v v' at in
     let there' : get_elem? s'.views j ≡ some w = ap (λ (l : List SeatView). get_elem? l j) gains
@@ -113,7 +114,8 @@ new_raise k s s' R R' i slot_word v x at role gains = let v' : SeatView = with_r
     )
 
 pub new_drain : NewDrainIsTrue
-new_drain k s s' R R' i slot_word v x at role gains = let v' : SeatView = with_drain_step slot_word x v in let j : ℕ = R.raise_seat in
+new_drain k s s' R R' i slot_word v x at role gains = let v' : SeatView = with_drain_step slot_word x v in
+    let j : ℕ = R.raise_seat in
     let w : SeatView = R.firing_side.0 in let there = R.firing_side.1 in let firing = R.firing_side.2 in
     let at' : get_elem? s'.views i ≡ some v' = ap (λ (l : List SeatView). get_elem? l i) gains ∙ at_here s.views i v v' at in
     let there' : get_elem? s'.views j ≡ some w = ap (λ (l : List SeatView). get_elem? l j) gains

@@ -109,8 +109,9 @@ returns-clause-order c =
           let child : IsChild c.down.hole m = w.least_child-child.ensures.child in
           let l = child_low c.down.hole m child in
           let at = at_m c.args.len c.args.entry c.args.entries.now
-          (index_positions c.args.entries.now) c.down.hole c.down.entries positions c.requires.len h m w.index-entries-child.result
-          w.least_child-child.ensures.below (λ q. absurd (omega (arith, q, l))) w.index-entries-child.is in
+          (index_positions c.args.entries.now) c.down.hole c.down.entries positions c.requires.len h m
+          w.index-entries-child.result w.least_child-child.ensures.below (λ q. absurd (omega (arith, q, l)))
+          w.index-entries-child.is in
           let after = OnFalse_at w.if-not-expires_before-2.true w.expires_before-in-down.ensures.after in
           before_trans (key c.args.entry) (key_at c.down.entries m) (key_at c.down.entries k)
           (subst (λ (x : Entry). is_before (key c.args.entry) (key x) ≡ true) (sym at) after)

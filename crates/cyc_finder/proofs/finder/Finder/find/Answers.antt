@@ -27,7 +27,8 @@ pub returns-in-Ok-clause-value : goal.returns-in-Ok-clause-value
 returns-in-Ok-clause-value c =
     let xs = c.self.inside.entries.items in
     let at = subst (λ ys. IsAt id_in ys c.args.id c.in-Ok.position) c.deref.ensures.value c.in-Ok.ensures.found in
-    let read = index_read xs c.self.invariant.rises c.args.id c.in-Ok.position at c.index-in-Ok.result.now c.index-in-Ok.ensures in
+    let read = index_read xs c.self.invariant.rises c.args.id c.in-Ok.position at c.index-in-Ok.result.now
+    c.index-in-Ok.ensures in
     ap Some (c.from.ensures ∙ c.number-in-Ok.ensures.value) ∙ sym read ∙ ap (index_of c.args.id) c.self.view_is
 
 pub returns-in-Err-clause-value : goal.returns-in-Err-clause-value

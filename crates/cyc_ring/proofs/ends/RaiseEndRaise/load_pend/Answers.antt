@@ -13,8 +13,8 @@ use Rattle.cyc_ring.proofs.ends.RaiseEndRaise.load_pend.Goals as goal
 
 pub returns-clause-step : goal.returns-clause-step
 returns-clause-step c = let e = c.args.self.now in let s = e.seat.side.seat in let k = e.seat.setting in let t : List RaiseStep =
-    s.me.0.raise_trail in let found : ℕ = c.load_as-found.result in let s' = c.load_as-found.new.raise_seat.side.seat in let named =
-    c.index_of-index.ensures.1 in
+    s.me.0.raise_trail in let found : ℕ = c.load_as-found.result in let s' = c.load_as-found.new.raise_seat.side.seat in
+    let named = c.index_of-index.ensures.1 in
     let m : MakesRaiseStep k (Loaded c.args.id found) s s' =
     subst (λ (p : Setting × ℕ). MakesRaiseStep p.0 (Loaded p.1 found) s s')
     (λ z. (sym e.own.1 z, named z)) c.load_as-found.ensures.step in (

@@ -17,8 +17,8 @@ use Rattle.cyc_ring.proofs.Closing.{Ended, ended, counted_row, finished_row, nam
 use Rattle.cyc_ring.proofs.ring.Ring.close.Goals as goal
 
 pub invariant_of-result : goal.invariant_of-result
-invariant_of-result c = let r = c.args.raise_seat in let d = c.args.drain_seat in let pends : List ℕ = c.close-pends.result in let k =
-    c.args.self.setting in
+invariant_of-result c = let r = c.args.raise_seat in let d = c.args.drain_seat in let pends : List ℕ = c.close-pends.result in
+    let k = c.args.self.setting in
     let C : Ended k pends r.side.seat.me.0 d.side.seat.me.0 =
     ended c.args.self.words.setting k c.args.self.same pends c.join-both.result.seat.me.0 r.side.seat.me.0 d.side.seat.me.0
     c.join-both.ensures.trails c.close-pends.ensures in

@@ -33,8 +33,7 @@ more_hand (suc n) id h ne = refl
 pub load_to_raise-before-requires-clause-stay : goal.load_to_raise-before-requires-clause-stay
 load_to_raise-before-requires-clause-stay g c = let r = c.args.raise_seat.now in let k = c.args.self.now.setting in
     let t : List RaiseStep = r.side.seat.me.0.raise_trail in let x : ℕ = c.args.index in let id : ℕ = c.args.id in
-    let b : Begun r k g.J.Served.setting id g.J.Served.id x =
-    record {
+    let b : Begun r k g.J.Served.setting id g.J.Served.id x = record {
       own = c.requires.own.1;
       named = c.requires.named;
       index = c.requires.index;
@@ -46,8 +45,7 @@ load_to_raise-before-requires-clause-stay g c = let r = c.args.raise_seat.now in
 pub invariant_of-raise_seat : goal.invariant_of-raise_seat
 invariant_of-raise_seat g c = let r = c.args.raise_seat.now in let k = c.args.self.now.setting in let t : List RaiseStep =
     r.side.seat.me.0.raise_trail in let x : ℕ = c.args.index in let id : ℕ = c.args.id in
-    let b : Begun r k g.J.Served.setting id g.J.Served.id x =
-    record {
+    let b : Begun r k g.J.Served.setting id g.J.Served.id x = record {
       own = c.requires.own.1;
       named = c.requires.named;
       index = c.requires.index;
@@ -84,8 +82,7 @@ invariant_of-raise_seat g c = let r = c.args.raise_seat.now in let k = c.args.se
 pub add-found-requires-clause-stay : goal.add-found-requires-clause-stay
 add-found-requires-clause-stay g c = let r = c.args.raise_seat.now in let k = c.args.self.now.setting in let t : List RaiseStep =
     r.side.seat.me.0.raise_trail in let x : ℕ = c.args.index in let id : ℕ = c.args.id in
-    let b : Begun r k g.J.Served.setting id g.J.Served.id x =
-    record {
+    let b : Begun r k g.J.Served.setting id g.J.Served.id x = record {
       own = c.requires.own.1;
       named = c.requires.named;
       index = c.requires.index;
@@ -99,10 +96,9 @@ add-found-requires-clause-stay g c = let r = c.args.raise_seat.now in let k = c.
     (c.requires.index.0, (stay_at r x, stay_below b w, refl, c.requires.room))
 
 pub invariant_of-raise_seat-then-found-ne0 : goal.invariant_of-raise_seat-then-found-ne0
-invariant_of-raise_seat-then-found-ne0 g c = let r = c.args.raise_seat.now in let k = c.args.self.now.setting in let t : List RaiseStep =
-    r.side.seat.me.0.raise_trail in let x : ℕ = c.args.index in let id : ℕ = c.args.id in
-    let b : Begun r k g.J.Served.setting id g.J.Served.id x =
-    record {
+invariant_of-raise_seat-then-found-ne0 g c = let r = c.args.raise_seat.now in let k = c.args.self.now.setting in
+    let t : List RaiseStep = r.side.seat.me.0.raise_trail in let x : ℕ = c.args.index in let id : ℕ = c.args.id in
+    let b : Begun r k g.J.Served.setting id g.J.Served.id x = record {
       own = c.requires.own.1;
       named = c.requires.named;
       index = c.requires.index;
@@ -135,10 +131,9 @@ invariant_of-raise_seat-then-found-ne0 g c = let r = c.args.raise_seat.now in le
     }
 
 pub returns-then-found-ne0-clause-call : goal.returns-then-found-ne0-clause-call
-returns-then-found-ne0-clause-call g c = let r = c.args.raise_seat.now in let k = c.args.self.now.setting in let t : List RaiseStep =
-    r.side.seat.me.0.raise_trail in let x : ℕ = c.args.index in let id : ℕ = c.args.id in
-    let b : Begun r k g.J.Served.setting id g.J.Served.id x =
-    record {
+returns-then-found-ne0-clause-call g c = let r = c.args.raise_seat.now in let k = c.args.self.now.setting in
+    let t : List RaiseStep = r.side.seat.me.0.raise_trail in let x : ℕ = c.args.index in let id : ℕ = c.args.id in
+    let b : Begun r k g.J.Served.setting id g.J.Served.id x = record {
       own = c.requires.own.1;
       named = c.requires.named;
       index = c.requires.index;
@@ -157,8 +152,7 @@ returns-then-found-ne0-clause-call g c = let r = c.args.raise_seat.now in let k 
 pub store-requires-clause-bank : goal.store-requires-clause-bank
 store-requires-clause-bank g c = let r = c.args.raise_seat.now in let k = c.args.self.now.setting in let t : List RaiseStep =
     r.side.seat.me.0.raise_trail in let x : ℕ = c.args.index in let id : ℕ = c.args.id in
-    let b : Begun r k g.J.Served.setting id g.J.Served.id x =
-    record {
+    let b : Begun r k g.J.Served.setting id g.J.Served.id x = record {
       own = c.requires.own.1;
       named = c.requires.named;
       index = c.requires.index;
@@ -177,8 +171,7 @@ store-requires-clause-bank g c = let r = c.args.raise_seat.now in let k = c.args
 pub store-requires-clause-next : goal.store-requires-clause-next
 store-requires-clause-next g c = let r = c.args.raise_seat.now in let k = c.args.self.now.setting in let t : List RaiseStep =
     r.side.seat.me.0.raise_trail in let x : ℕ = c.args.index in let id : ℕ = c.args.id in
-    let b : Begun r k g.J.Served.setting id g.J.Served.id x =
-    record {
+    let b : Begun r k g.J.Served.setting id g.J.Served.id x = record {
       own = c.requires.own.1;
       named = c.requires.named;
       index = c.requires.index;
@@ -196,8 +189,7 @@ store-requires-clause-next g c = let r = c.args.raise_seat.now in let k = c.args
 pub store-requires-clause-value : goal.store-requires-clause-value
 store-requires-clause-value g c = let r = c.args.raise_seat.now in let k = c.args.self.now.setting in let t : List RaiseStep =
     r.side.seat.me.0.raise_trail in let x : ℕ = c.args.index in let id : ℕ = c.args.id in
-    let b : Begun r k g.J.Served.setting id g.J.Served.id x =
-    record {
+    let b : Begun r k g.J.Served.setting id g.J.Served.id x = record {
       own = c.requires.own.1;
       named = c.requires.named;
       index = c.requires.index;
@@ -219,8 +211,7 @@ store-requires-clause-value g c = let r = c.args.raise_seat.now in let k = c.arg
 pub invariant_of-raise_seat-2 : goal.invariant_of-raise_seat-2
 invariant_of-raise_seat-2 g c = let r = c.args.raise_seat.now in let k = c.args.self.now.setting in let t : List RaiseStep =
     r.side.seat.me.0.raise_trail in let x : ℕ = c.args.index in let id : ℕ = c.args.id in
-    let b : Begun r k g.J.Served.setting id g.J.Served.id x =
-    record {
+    let b : Begun r k g.J.Served.setting id g.J.Served.id x = record {
       own = c.requires.own.1;
       named = c.requires.named;
       index = c.requires.index;
@@ -267,8 +258,7 @@ invariant_of-raise_seat-2 g c = let r = c.args.raise_seat.now in let k = c.args.
 pub returns-clause-call : goal.returns-clause-call
 returns-clause-call g c = let r = c.args.raise_seat.now in let k = c.args.self.now.setting in let t : List RaiseStep =
     r.side.seat.me.0.raise_trail in let x : ℕ = c.args.index in let id : ℕ = c.args.id in
-    let b : Begun r k g.J.Served.setting id g.J.Served.id x =
-    record {
+    let b : Begun r k g.J.Served.setting id g.J.Served.id x = record {
       own = c.requires.own.1;
       named = c.requires.named;
       index = c.requires.index;
@@ -296,8 +286,7 @@ returns-clause-call g c = let r = c.args.raise_seat.now in let k = c.args.self.n
 pub returns-then-before-ceiling-clause-call : goal.returns-then-before-ceiling-clause-call
 returns-then-before-ceiling-clause-call g c = let r = c.args.raise_seat.now in let k = c.args.self.now.setting in let x : ℕ =
     c.args.index in let id : ℕ = c.args.id in
-    let b : Begun r k g.J.Served.setting id g.J.Served.id x =
-    record {
+    let b : Begun r k g.J.Served.setting id g.J.Served.id x = record {
       own = c.requires.own.1;
       named = c.requires.named;
       index = c.requires.index;

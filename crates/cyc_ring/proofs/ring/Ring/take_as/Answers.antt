@@ -13,8 +13,9 @@ use Rattle.ring_rule.specs.Trail.{held_entry, soft_bank_of, consumer_index}
 use Rattle.cyc_ring.proofs.ring.Ring.take_as.Goals as goal
 
 pub returns-then-end-drain_seat-clause-call : goal.returns-then-end-drain_seat-clause-call
-returns-then-end-drain_seat-clause-call g c = let d = c.loop-drain_seat.drain_seat in let inv = c.loop-drain_seat.invariant in let k =
-    c.args.self.now.setting in let v : SeatView = c.args.drain_seat.now.side.seat.me.0 in let t : List DrainStep = v.drain_trail in
+returns-then-end-drain_seat-clause-call g c = let d = c.loop-drain_seat.drain_seat in let inv = c.loop-drain_seat.invariant in
+    let k = c.args.self.now.setting in let v : SeatView = c.args.drain_seat.now.side.seat.me.0 in
+    let t : List DrainStep = v.drain_trail in
     let bank : ℕ = c.load_hard_bank-bank.result in let end : ℕ = c.load_producer-end.result in let e : ℕ = c.take_entry.result in
     let before = inv.2.0 in let run = inv.2.2 in
     let next_is : d.next ≡ consumer_index k.start (before ++ t) % index_range = d.next_is
@@ -39,8 +40,9 @@ returns-then-end-drain_seat-clause-call g c = let d = c.loop-drain_seat.drain_se
     )
 
 pub returns-then-bank-drain_seat-clause-call : goal.returns-then-bank-drain_seat-clause-call
-returns-then-bank-drain_seat-clause-call g c = let d = c.loop-drain_seat.drain_seat in let inv = c.loop-drain_seat.invariant in let k =
-    c.args.self.now.setting in let v : SeatView = c.args.drain_seat.now.side.seat.me.0 in let t : List DrainStep = v.drain_trail in
+returns-then-bank-drain_seat-clause-call g c = let d = c.loop-drain_seat.drain_seat in let inv = c.loop-drain_seat.invariant in
+    let k = c.args.self.now.setting in let v : SeatView = c.args.drain_seat.now.side.seat.me.0 in
+    let t : List DrainStep = v.drain_trail in
     let bank : ℕ = c.load_hard_bank-bank.result in let end : ℕ = c.load_producer-end.result in let before = inv.2.0 in let run =
     inv.2.2 in
     let next_is : d.next ≡ consumer_index k.start (before ++ t) % index_range = d.next_is
@@ -68,7 +70,8 @@ returns-then-bank-drain_seat-clause-call g c = let d = c.loop-drain_seat.drain_s
 
 pub loop-drain_seat-preserved : goal.loop-drain_seat-preserved
 loop-drain_seat-preserved g c = let d = c.loop-drain_seat.drain_seat in let inv = c.loop-drain_seat.invariant in let k =
-    c.args.self.now.setting in let v : SeatView = c.args.drain_seat.now.side.seat.me.0 in let t : List DrainStep = v.drain_trail in
+    c.args.self.now.setting in let v : SeatView = c.args.drain_seat.now.side.seat.me.0 in
+    let t : List DrainStep = v.drain_trail in
     let bank : ℕ = c.load_hard_bank-bank.result in let end : ℕ = c.load_producer-end.result in let before = inv.2.0 in let run =
     inv.2.2 in
     let next_is : d.next ≡ consumer_index k.start (before ++ t) % index_range = d.next_is
