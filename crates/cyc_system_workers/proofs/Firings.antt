@@ -1,5 +1,5 @@
 -- An advance is one fire after another.
-use Rattle.std.proofs.Common.{◌≡◌, ℕ, zero, suc, ◌+◌, ◌<◌, inr, Bool, true, false, not, List, [], ◌∷◌, ◌++◌, map, length}
+use Rattle.std.proofs.Common.{◌≡◌, ℕ, suc, ◌+◌, inr, Bool, true, false, not, List, [], ◌∷◌, ◌++◌, map, length}
 use Rattle.std.proofs.Common.{slice_set, Option, Some, None, Result, refl, sym, ap, ◌∙◌, subst, arith, append_assoc}
 use Rattle.std.specs.List.{slice_get, FoldsTo}
 use Rattle.std.specs.Option.{option_map_or}
@@ -13,10 +13,10 @@ use Rattle.cyc_fire.specs.declared.fire.FireRefused.{FireRefused}
 use Rattle.cyc_model.specs.Refusals.{first_refusal, when}
 use Rattle.cyc_cpu.specs.Cpu.{CpuView, Running, running}
 use Rattle.cyc_cpu.specs.Calls.{Does, Fire, no_interrupts}
-use Rattle.cyc_cpus.specs.Cpus.{CpusView, numbers_from, online_cpus}
+use Rattle.cyc_cpus.specs.Cpus.{numbers_from}
 use Rattle.cyc_places.specs.declared.record.Record.{Record}
 use Rattle.cyc_system.specs.Agreement.{Agrees}
-use Rattle.cyc_system.specs.System.{SystemView, is_online, running_system}
+use Rattle.cyc_system.specs.System.{SystemView}
 use Rattle.cyc_system.specs.Refusals.{no_cpu, offline_cpu}
 use Rattle.cyc_agreement.proofs.Presence.{cpu_clear}
 use Rattle.cyc_agreement.proofs.Spots.{get_some}

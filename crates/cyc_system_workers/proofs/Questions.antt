@@ -1,5 +1,5 @@
 -- What was asked alone may come back.
-use Rattle.std.proofs.Common.{◌≡◌, Bool, List, [], ◌∷◌, subst}
+use Rattle.std.proofs.Common.{Bool, List, [], ◌∷◌, subst}
 use Rattle.std.specs.List.{FoldsTo}
 use Rattle.cyc_types.specs.Firing.{FiringView, FiringCall}
 use Rattle.cyc_cpu.specs.Cpu.{CpuView}
