@@ -26,14 +26,14 @@ pub(crate) fn wake_all<C>(leads: &[Lead<C>]) {
 }
 
 /// Polls the open removal of a name once.
-fn poll<R: Raise, C>(progress: &mut Progress<R, C>, open: (usize, CyclicId))
+fn poll<R: Raise, C>(progress: &mut Progress<R, C>, leaving: (usize, CyclicId))
     ensures { (answer : Result (Option Receipt) Refusal)
-        × CallsFor R.step R.view open.0 (PollRemove open.1 answer) progress.old progress.new }
+        × CallsFor R.step R.view leaving.0 (PollRemove leaving.1 answer) progress.old progress.new }
 {
-    let answer = progress.side.system.poll_remove(open.1);
+    let answer = progress.side.system.poll_remove(leaving.1);
     sound(&progress.side.system);
     if let Ok(Some(receipt)) = answer {
-        progress.names.set(open.0, Named::Removed(receipt));
+        progress.names.set(leaving.0, Named::Removed(receipt));
     }
 }
 
@@ -50,10 +50,10 @@ fn poll_all<W: Wait, R: Raise, C: Calls>(
     ensures refused { IfSome result (λ id. CanRefuse C.may_refuse id) }
 {
     for _ in rt.forever() {
-        let Some(open) = progress.names.leaving() else {
+        let Some(leaving) = progress.names.leaving() else {
             return None;
         };
-        poll(progress, open);
+        poll(progress, leaving);
         if let Some(id) = signals.refused() {
             return Some(id);
         }
