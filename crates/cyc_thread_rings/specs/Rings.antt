@@ -29,6 +29,13 @@ IsNew ceiling s = (raise_trail s.raise ≡ []) × (drain_trail s.drain ≡ []) �
 abbrev pub AreNew : ℕ → Levels Seats → Type 0
 AreNew ceiling s = IsNew ceiling s.lock × IsNew ceiling s.low
 
+-- the buffer indexes of the seats' ring begin at this number
+abbrev pub BeginsAt : ℕ → Seats → Type 0
+BeginsAt start s = s.raise.setting.start ≡ start
+
+abbrev pub BeginAt : ℕ → Levels Seats → Type 0
+BeginAt start s = BeginsAt start s.lock × BeginsAt start s.low
+
 -- the ends of a CPU have its seats, and its handlers are beside them: each soft level's beside the drain end of its own ring
 pub record IsAttached {C : Type 0} (s : Seated C) (a : Attached C) : Type 0 where
   pub lock_raise : a.ends.0.seat ≡ s.seats.lock.raise

@@ -3,7 +3,7 @@
 ghost use Rattle.std.specs.Prelude.{◌≡◌, length, All, IfOk, IfErr};
 ghost use Rattle.cyc_types.specs.declared.refusal.Refusal.TheVariants.{Memory};
 ghost use Rattle.cyc_thread_rings.specs.Laid.{EachTwo};
-ghost use Rattle.cyc_thread_rings.specs.Rings.{IsSeated, AreSeated, IsNew, AreNew};
+ghost use Rattle.cyc_thread_rings.specs.Rings.{IsSeated, AreSeated, IsNew, AreNew, BeginsAt, BeginAt};
 
 use crate::levels::Levels;
 use cyc_ring::Ring;
@@ -22,6 +22,7 @@ pub struct Opened {
 fn open_ring(alloc: Global, ceiling: Ceiling, start: u32) -> Result<(Ring, Seats), Refusal>
     ensures seated { IfOk result (λ r. IsSeated r.0 r.1) }
     ensures new { IfOk result (λ r. IsNew ceiling r.1) }
+    ensures start { IfOk result (λ r. BeginsAt start r.1) }
     ensures refused { IfErr result (λ e. e ≡ Memory) }
 {
     let (ring, raise, drain) = Ring::open(alloc, ceiling, start)?;
@@ -39,6 +40,7 @@ pub fn open_rings(
     ensures len { IfOk result (λ o. length o.seats.items ≡ cpus) }
     ensures seated { IfOk result (λ o. EachTwo AreSeated o.rings.items o.seats.items) }
     ensures new { IfOk result (λ o. All (AreNew ceiling) o.seats.items) }
+    ensures start { IfOk result (λ o. All (BeginAt start) o.seats.items) }
     ensures refused { IfErr result (λ e. e ≡ Memory) }
 {
     let mut rings = Vec::with_capacity(alloc, cpus)?;

@@ -4,7 +4,7 @@ use Rattle.std.proofs.lemmas.List.{length-append}
 use Rattle.std.proofs.lemmas.List.Elements.{All-append, All-nil, All-cons}
 use Rattle.cyc_workers.specs.declared.cpu.Seats.{Seats}
 use Rattle.cyc_thread_rings.specs.declared.levels.Levels.{Levels}
-use Rattle.cyc_thread_rings.specs.Rings.{AreSeated, AreNew}
+use Rattle.cyc_thread_rings.specs.Rings.{AreSeated, AreNew, BeginAt}
 use Rattle.cyc_thread_rings.proofs.Each.{each_pushed}
 use Rattle.cyc_thread_rings.proofs.opening.open_rings.Goals as goal
 
@@ -23,4 +23,8 @@ loop-preserved c =
           (All-append (AreNew c.args.ceiling) c.loop.seats.items (s ∷ []) c.loop.invariant.new
           (All-cons (AreNew c.args.ceiling) s [] (c.in_ok-lock_ring.ensures.new, c.in_ok-low_ring.ensures.new)
           (All-nil (AreNew c.args.ceiling))));
+      start = subst (λ (zs : List (Levels Seats)). All (BeginAt c.args.start) zs) (sym more)
+          (All-append (BeginAt c.args.start) c.loop.seats.items (s ∷ []) c.loop.invariant.start
+          (All-cons (BeginAt c.args.start) s [] (c.in_ok-lock_ring.ensures.start, c.in_ok-low_ring.ensures.start)
+          (All-nil (BeginAt c.args.start))));
     }

@@ -1,7 +1,7 @@
 use Rattle.std.proofs.Common.{◌≡◌, length}
 use Rattle.std.specs.Prelude.{All}
 use Rattle.cyc_thread_rings.specs.Laid.{EachTwo}
-use Rattle.cyc_thread_rings.specs.Rings.{AreSeated, AreNew}
+use Rattle.cyc_thread_rings.specs.Rings.{AreSeated, AreNew, BeginAt}
 use Rattle.cyc_thread_rings.proofs.opening.open_rings.Given as goal
 
 abbrev pub invariant-loop : goal.invariant-loop
@@ -9,4 +9,5 @@ invariant-loop l = record {
   len : length l.seats.items ≡ l.counter;
   seated : EachTwo AreSeated l.rings.items l.seats.items;
   new : All (AreNew l.fn.ceiling) l.seats.items;
+  start : All (BeginAt l.fn.start) l.seats.items;
 }
