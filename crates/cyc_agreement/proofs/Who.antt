@@ -8,6 +8,7 @@ use Rattle.std.proofs.lemmas.Option.{slice_get_within}
 use Rattle.std.proofs.lemmas.List.{length-set, map-set, get_or-map, set-get_or}
 use mathlib.Core.Logic.{dite}
 use native.Mathlib.Decide.{ℕ_discrete}
+use Rattle.cyc_types.specs.declared.Calls.{Ghosts as Calls}
 use Rattle.cyc_types.specs.Firing.{FiringView, FiringCall}
 use Rattle.cyc_types.specs.declared.refusal.Refusal.{Refusal}
 use Rattle.cyc_cpus.specs.Rows.{Cyclic, timers}
@@ -15,7 +16,6 @@ use Rattle.cyc_cpus.specs.Cpu.{CpuView, IsCyclic, with_moment, Asks, Looked, Res
 use Rattle.cyc_cpus.specs.Cpu.{Running}
 use Rattle.cyc_cpus.specs.Soft.{SoftKept}
 use Rattle.cyc_cpus.specs.Calls.{Changes, Does, Reserve, Fire, Reprogram}
-use Rattle.cyc_types.specs.declared.level.Level.{Level}
 use Rattle.cyc_types.specs.declared.level.Soft.{Soft}
 use Rattle.cyc_cpus.specs.Ran.{Ran}
 use Rattle.cyc_cpus.specs.SoftRefused.{SoftRefused}
@@ -127,12 +127,11 @@ ids_fired : (now : ℕ) (made : List Expiration) (cs cs' : List Cyclic) → time
 ids_fired now made cs cs' e = ids_timers cs' ∙ ap (λ ts. map (λ (t : Timer). t.id) ts) e ∙ ids_after now made (timers cs)
     ∙ sym (ids_timers cs)
 
-module _ {C R : Type 0} (called : C → ℕ → Level → C → Type 0) (count : C → ℕ → ℕ) (may_refuse : C → ℕ → Type 0)
-    (step : R → FiringCall → R → Type 0)
+module _ {C R : Type 0} (handler : Calls C) (step : R → FiringCall → R → Type 0)
     (view : R → FiringView) (interrupts : Soft → ℕ → Result Ran SoftRefused → Running C R → Running C R → Type 0)
     (s t : Running C R) where
   pub same_fired : (now : ℕ) (answer : Result Fired FireRefused)
-      → Does called count may_refuse step view interrupts s (Fire now answer) t → SameIds s.cpu t.cpu
+      → Does handler step view interrupts s (Fire now answer) t → SameIds s.cpu t.cpu
   same_fired now (Ok r) (nn, same, expired, next, makes) = record {
     ids = ids_fired now (expirations now (timers s.cpu.cyclics)) s.cpu.cyclics t.cpu.cyclics makes.timers_are;
     removal = same.removal;

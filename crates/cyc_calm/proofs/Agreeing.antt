@@ -3,9 +3,9 @@ use Rattle.std.proofs.Common.{◌≡◌, ◌∙◌, ℕ, ◌≤◌, ◌⊎◌, i
 use Rattle.std.proofs.Common.{Option, Some, None, Result, List, [], ◌∷◌, ◌++◌, length, replicate, refl, sym, ap, subst, arith}
 use Rattle.std.specs.Prelude.{◌&&◌, is_ok}
 use Rattle.std.specs.Option.{option_map_or}
+use Rattle.cyc_types.specs.declared.Calls.{Ghosts as Calls}
 use Rattle.cyc_types.specs.Firing.{FiringView, FiringCall}
 use Rattle.cyc_types.specs.Limits.{cyclics as most_cyclics}
-use Rattle.cyc_types.specs.declared.level.Level.{Level}
 use Rattle.cyc_types.specs.declared.refusal.Refusal.{Refusal}
 use Rattle.cyc_script.specs.declared.step.Step.{Step}
 use Rattle.cyc_script.specs.declared.step.Reprogram.{Reprogram as ReprogramStep}
@@ -133,14 +133,14 @@ module _ {C R : Type 0} (step : R → FiringCall → R → Type 0) (view : R →
         },
       )
 
-module _ {C R : Type 0} (called : C → ℕ → Level → C → Type 0) (count : C → ℕ → ℕ) (may_refuse : C → ℕ → Type 0)
+module _ {C R : Type 0} (handler : Calls C)
     (step : R → FiringCall → R → Type 0) (view : R → FiringView) (cpus names : ℕ) (few : names ≤ most_cyclics) where
   -- a word that leaves what the names have, and is met so
   pub stays_next : (given : ℕ) (has : ℕ → Standing) (x : Step) (s t : Progress R C)
-      (d : Does called count may_refuse step view x s t) → names_after given x ≡ given → after_step x has ≡ has
-      → OnlyMoves x ⊎ (accepted called count may_refuse step view x s t d ≡ is_taken cpus has x)
+      (d : Does handler step view x s t) → names_after given x ≡ given → after_step x has ≡ has
+      → OnlyMoves x ⊎ (accepted handler step view x s t d ≡ is_taken cpus has x)
       → Stays step view cpus names given has s t
-      → NextCalm called count may_refuse step view cpus names few given has x s t d
+      → NextCalm handler step view cpus names few given has x s t d
   stays_next given has x s t d none same agree stays = record {
     next = record {
       agree = agree;
@@ -152,8 +152,8 @@ module _ {C R : Type 0} (called : C → ℕ → Level → C → Type 0) (count :
   }
 
   pub reprogram_next : (given : ℕ) (has : ℕ → Standing) (r : ReprogramStep) (s t : Progress R C)
-      (d : Does called count may_refuse step view (steps.Reprogram r) s t) → Fits step view cpus names given has s
-      → HasWaited step view s → NextCalm called count may_refuse step view cpus names few given has (steps.Reprogram r) s t d
+      (d : Does handler step view (steps.Reprogram r) s t) → Fits step view cpus names given has s
+      → HasWaited step view s → NextCalm handler step view cpus names few given has (steps.Reprogram r) s t d
   reprogram_next given has r s t (inl (moment, is, d)) h w =
       let q = waited_calm step view s w in
       stays_next given has (steps.Reprogram r) s t (inl (moment, is, d)) refl refl

@@ -6,9 +6,9 @@ use Rattle.std.specs.Prelude.{is_ok}
 use Rattle.std.specs.Option.{option_map_or}
 use Rattle.std.proofs.lemmas.List.{length-replicate}
 use Rattle.std.proofs.lemmas.Option.{slice_get_within}
+use Rattle.cyc_types.specs.declared.Calls.{Ghosts as Calls}
 use Rattle.cyc_types.specs.Firing.{FiringView, FiringCall}
 use Rattle.cyc_types.specs.Series.{never}
-use Rattle.cyc_types.specs.declared.level.Level.{Level}
 use Rattle.cyc_types.specs.declared.refusal.Refusal.{Refusal}
 use Rattle.cyc_types.specs.declared.refusal.Refusal.TheVariants as why
 use Rattle.cyc_model.specs.Refusals.{first_refusal, busy}
@@ -127,10 +127,10 @@ module _ {C R : Type 0} (step : R → FiringCall → R → Type 0) (view : R →
 
 -- ---- an advance
 
-module _ {C R : Type 0} (called : C → ℕ → Level → C → Type 0) (count : C → ℕ → ℕ) (may_refuse : C → ℕ → Type 0)
+module _ {C R : Type 0} (handler : Calls C)
     (step : R → FiringCall → R → Type 0) (view : R → FiringView) (cpus names given : ℕ) (has : ℕ → Standing) where
   fired_one : (up : Bool) (now : ℕ) (x y : CpuView R) (a b : C) (answer : Option (Result Fired FireRefused))
-      → FiresIf called count may_refuse step view up now (running a x) answer (running b y) → x.removal ≡ None → y.removal ≡ None
+      → FiresIf handler step view up now (running a x) answer (running b y) → x.removal ≡ None → y.removal ≡ None
   fired_one true now x y a b (Some (Ok r)) f none = f.1.removal ∙ none
   fired_one true now x y a b (Some (Err e)) (inl (late, is, same)) none = ap (λ r. r.cpu.removal) same ∙ none
   fired_one true now x y a b (Some (Err e)) (inr (early, kept, stops)) none = kept.removal ∙ none
@@ -138,7 +138,7 @@ module _ {C R : Type 0} (called : C → ℕ → Level → C → Type 0) (count :
   fired_one false now x y a b (Some answer) f none = absurd f
   fired_one false now x y a b None f none = ap (λ r. r.cpu.removal) f ∙ none
 
-  fired_still : (now : ℕ) (s : Progress R C) (b : Advanced R C) → AllFire called count may_refuse step view now s.side b
+  fired_still : (now : ℕ) (s : Progress R C) (b : Advanced R C) → AllFire handler step view now s.side b
       → Fits step view cpus names given has s → AllStill s.side.system.cpus → AllStill b.side.system.cpus
   fired_still now s b f h still n y at =
       let low = slice_get_within b.side.system.cpus.cpus n y at in let long = f.long in let many = h.many in
@@ -151,7 +151,7 @@ module _ {C R : Type 0} (called : C → ℕ → Level → C → Type 0) (count :
       let (answer, answer_at) = get_some b.answers.items n (omega (arith, low, long, answers)) in
       fired_one up now x y l.calls m.calls answer (f.each n up x y l m answer up_at x_at at l_at m_at answer_at) (still n x x_at)
 
-  pub advance_fits : (now : ℕ) (s t : Progress R C) → Fires called count may_refuse step view now s t → now < never
+  pub advance_fits : (now : ℕ) (s t : Progress R C) → Fires handler step view now s t → now < never
       → Fits step view cpus names given has s → Fits step view cpus names given has t
   advance_fits now s t f early h = record {
     rising = f.sound.fit.rising;
@@ -177,7 +177,7 @@ module _ {C R : Type 0} (called : C → ℕ → Level → C → Type 0) (count :
       last : t.side.system.last ≡ s.side.system.last
       last = ap (λ (z : SystemSide R C). z.system.last) f.side ∙ f.fired.last
 
-  pub advance_calm : (now : ℕ) (s t : Progress R C) → Fires called count may_refuse step view now s t
+  pub advance_calm : (now : ℕ) (s t : Progress R C) → Fires handler step view now s t
       → Fits step view cpus names given has s → IsCalmNow step view s → IsCalmNow step view t
   advance_calm now s t f h q = record {
     none = subst NoneLeaves (sym f.names) q.none;

@@ -4,8 +4,8 @@ use Rattle.std.proofs.Common.{arith, string_bytes}
 use Rattle.std.specs.List.{slice_get}
 use Rattle.std.proofs.lemmas.List.{length-map}
 use Rattle.std.proofs.lemmas.Option.{slice_get_within}
+use Rattle.cyc_types.specs.declared.Calls.{Ghosts as Calls}
 use Rattle.cyc_types.specs.Firing.{FiringView, FiringCall}
-use Rattle.cyc_types.specs.declared.level.Level.{Level}
 use Rattle.cyc_ring.specs.Ends.{end_view, RaiseEndCall}
 use Rattle.cyc_text.specs.declared.lines.Counts.{Counts}
 use Rattle.cyc_text.specs.Lines.{reported}
@@ -70,17 +70,17 @@ text_is script way lines long same below each =
 
 -- ---- a whole run
 
-module _ {C : Type 0} (called : C → ℕ → Level → C → Type 0) (count : C → ℕ → ℕ) (may_refuse : C → ℕ → Type 0)
-    (script : Script) (calls : List C) (e : Ended C) (text : List ℕ) (run : HasRun called count may_refuse script calls e text)
+module _ {C : Type 0} (handler : Calls C)
+    (script : Script) (calls : List C) (e : Ended C) (text : List ℕ) (run : HasRun handler script calls e text)
     (calm : IsCalm script)
-    (memory : NoMemoryRefused (calls_of_run called count may_refuse script calls e text run))
+    (memory : NoMemoryRefused (calls_of_run handler script calls e text run))
     (below : IsBelowCeiling script) where
   pub run_text : text ≡ calm_text script
   run_text =
       let first = run.played.first in let last = run.played.last in let runs = run.played.runs in
       run.text_is ∙ text_is script
-      (way_of called count may_refuse RaiseEndCall end_view first script.steps.items last runs) run.lines
+      (way_of handler RaiseEndCall end_view first script.steps.items last runs) run.lines
       (lines_long RaiseEndCall end_view run.lines last run.played.told run.played.reports
-      ∙ names_stay called count may_refuse script run.before first last runs calm run.many run.played.begins memory)
-      (λ name. expects called count may_refuse script run.before first last runs calm run.many run.played.begins memory name)
-      below (λ name line at. is_reported called count may_refuse script calls e text run name line at)
+      ∙ names_stay handler script run.before first last runs calm run.many run.played.begins memory)
+      (λ name. expects handler script run.before first last runs calm run.many run.played.begins memory name)
+      below (λ name line at. is_reported handler script calls e text run name line at)

@@ -5,6 +5,7 @@ use Rattle.std.proofs.lemmas.List.{get_or_default}
 use Rattle.std.proofs.lemmas.Option.{slice_get_within, get_or_from_slice_get}
 use mathlib.Core.Logic.{dite}
 use native.Mathlib.Decide.{ℕ_discrete}
+use Rattle.cyc_types.specs.declared.Calls.{Ghosts as Calls}
 use Rattle.cyc_types.specs.Firing.{FiringView, FiringCall}
 use Rattle.cyc_types.specs.Limits.{cyclics as most_cyclics, last_id}
 use Rattle.cyc_types.specs.Series.{never}
@@ -50,14 +51,8 @@ few_ids (c ∷ cs) last rising some = let high = ids_high (c ∷ cs) rising (λ 
     let low = (some (length cs) c (omega arith)).1 in omega (arith, high, low)
 
 -- a run that reaches no handler
-abbrev no_calls : Unit {0} → ℕ → Level → Unit {0} → Type 0
-no_calls a n level b = ⊥
-
-abbrev no_count : Unit {0} → ℕ → ℕ
-no_count a n = 0
-
-abbrev no_refusal : Unit {0} → ℕ → Type 0
-no_refusal a n = ⊥
+abbrev no_calls : Calls (Unit {0})
+no_calls = record { count = λ a n. 0; called = λ a n level b. ⊥; may_refuse = λ a n. ⊥ }
 
 module _ {R : Type 0} (step : R → FiringCall → R → Type 0) (view : R → FiringView) where
   -- every id that has a record is above 0, so a CPU has at most as many cyclics as ids were given
@@ -96,7 +91,7 @@ module _ {R : Type 0} (step : R → FiringCall → R → Type 0) (view : R → F
   no_room_here : (more : ℕ) (e : Refusal) (x y : CpuView R) → CpuChanges step view x (AskRoom more (Err e)) y → IsUntil e
       → IsSettled view x → ⊥
   no_room_here more e x y d until settled =
-      never_put_off step view no_calls no_count no_refusal no_interrupts (λ soft budget answer s t h. absurd h)
+      never_put_off step view no_calls no_interrupts (λ soft budget answer s t h. absurd h)
       (λ soft budget answer s t h k. absurd h)
       (running tt x) (running tt y) (AskRoom more (Err e)) settled (d, refl) until
 
@@ -109,7 +104,7 @@ module _ {R : Type 0} (step : R → FiringCall → R → Type 0) (view : R → F
 
   asked_room : (x y : CpuView R) → CpuChanges step view x (AskRoom 1 (Ok tt)) y → HasRoomHere x → HasRoomHere y
   asked_room x y d h = record {
-    settled = settled_one step view no_calls no_count no_refusal no_interrupts (λ soft budget answer s t h. absurd h)
+    settled = settled_one step view no_calls no_interrupts (λ soft budget answer s t h. absurd h)
         (λ soft budget answer s t h k. absurd h)
         (running tt x) (running tt y) (AskRoom 1 (Ok tt)) h.settled tt d.0.kept.size (d, refl);
     few = (let same : length y.cyclics ≡ length x.cyclics = ap length d.0.cyclics in let few = h.few in

@@ -6,9 +6,9 @@ use Rattle.std.specs.Prelude.{ℤ, pos, int_lt, ◌<ℤ◌, ◌&&◌, is_ok}
 use Rattle.std.proofs.lemmas.Bool.Decides.{nat_tests}
 use mathlib.Core.Logic.{dite}
 use native.Mathlib.Decide.{ℕ_discrete}
+use Rattle.cyc_types.specs.declared.Calls.{Ghosts as Calls}
 use Rattle.cyc_types.specs.Firing.{FiringView, FiringCall}
 use Rattle.cyc_types.specs.Limits.{cyclics as most_cyclics, last_id}
-use Rattle.cyc_types.specs.declared.level.Level.{Level}
 use Rattle.cyc_types.specs.declared.moment.When.{When}
 use Rattle.cyc_types.specs.declared.refusal.Refusal.{Refusal}
 use Rattle.cyc_types.specs.declared.refusal.Refusal.TheVariants as why
@@ -72,7 +72,7 @@ moment_of number moment e = ap is_moment (sym e) ∙ ap not (not_under moment)
 pub no_moment_of : (number : ℤ) → number <ℤ pos 0 → is_moment number ≡ false
 no_moment_of number low = ap not (so_true _ low.lt)
 
-module _ {C R : Type 0} (called : C → ℕ → Level → C → Type 0) (count : C → ℕ → ℕ) (may_refuse : C → ℕ → Type 0)
+module _ {C R : Type 0} (handler : Calls C)
     (step : R → FiringCall → R → Type 0) (view : R → FiringView) (cpus names : ℕ) (few : names ≤ most_cyclics) where
   -- more names were introduced
   fits_more : (given : ℕ) (has : ℕ → Standing) (s : Progress R C) → Fits step view cpus names given has s
@@ -100,13 +100,13 @@ module _ {C R : Type 0} (called : C → ℕ → Level → C → Type 0) (count :
 
   -- A step was accepted as the closed form says, and what is true stays.
   pub record Next (given : ℕ) (has : ℕ → Standing) (x : Step) (s t : Progress R C)
-      (d : Does called count may_refuse step view x s t) : Type 0 where
-    pub agree : OnlyMoves x ⊎ (accepted called count may_refuse step view x s t d ≡ is_taken cpus has x)
+      (d : Does handler step view x s t) : Type 0 where
+    pub agree : OnlyMoves x ⊎ (accepted handler step view x s t d ≡ is_taken cpus has x)
     pub fits : Fits step view cpus names (names_after given x) (cond (is_taken cpus has x) (after_step x has) has) t
 
   -- and nothing is open after it, as before it
   pub record NextCalm (given : ℕ) (has : ℕ → Standing) (x : Step) (s t : Progress R C)
-      (d : Does called count may_refuse step view x s t) : Type 0 where
+      (d : Does handler step view x s t) : Type 0 where
     pub next : Next given has x s t d
     pub calm : IsCalmNow step view s → IsCalmNow step view t
 
@@ -164,9 +164,9 @@ module _ {C R : Type 0} (called : C → ℕ → Level → C → Type 0) (count :
       (waited_room step view cpus names given has s h w (omega (arith, low, few))) (λ q. mem (ap Err q)) did.did)
 
   pub add_next : (given : ℕ) (has : ℕ → Standing) (a : AddStep) (s t : Progress R C)
-      (d : Does called count may_refuse step view (steps.Add a) s t) → Fits step view cpus names given has s
+      (d : Does handler step view (steps.Add a) s t) → Fits step view cpus names given has s
       → HasWaited step view s → given + 1 ≤ names → a.name < names
-      → NoMemoryRefused (calls_in (call_of called count may_refuse step view (steps.Add a) s t d))
+      → NoMemoryRefused (calls_in (call_of handler step view (steps.Add a) s t d))
       → NextCalm given has (steps.Add a) s t d
   add_next given has a s t (inl (when, starts, lasts, long, (answer, did))) h w low here mem =
       let (ok, fits, calm) = added given has a when answer s t did h w low here mem.0 in
@@ -222,9 +222,9 @@ module _ {C R : Type 0} (called : C → ℕ → Level → C → Type 0) (count :
       (waited_room step view cpus names given has s h w (omega (arith, low, few))) (λ q. mem (ap Err q)) did.did)
 
   pub omni_next : (given : ℕ) (has : ℕ → Standing) (a : OmniStep) (s t : Progress R C)
-      (d : Does called count may_refuse step view (steps.Omni a) s t) → Fits step view cpus names given has s
+      (d : Does handler step view (steps.Omni a) s t) → Fits step view cpus names given has s
       → HasWaited step view s → given + 1 ≤ names → a.name < names
-      → NoMemoryRefused (calls_in (call_of called count may_refuse step view (steps.Omni a) s t d))
+      → NoMemoryRefused (calls_in (call_of handler step view (steps.Omni a) s t d))
       → NextCalm given has (steps.Omni a) s t d
   omni_next given has a s t (inl (when, starts, lasts, long, (answer, did))) h w low here mem =
       let (ok, fits, calm) = added_everywhere given has a when answer s t did h w low here mem.0 in

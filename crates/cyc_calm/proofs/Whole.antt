@@ -1,6 +1,6 @@
 -- A run of a calm script, from its beginning.
 use Rattle.std.proofs.Common.{◌≡◌, ℕ, List, length}
-use Rattle.cyc_types.specs.declared.level.Level.{Level}
+use Rattle.cyc_types.specs.declared.Calls.{Ghosts as Calls}
 use Rattle.cyc_ring.specs.declared.ends.RaiseEnd.{RaiseEnd}
 use Rattle.cyc_ring.specs.Ends.{end_view, RaiseEndCall}
 use Rattle.cyc_script.specs.declared.script.Script.{Script}
@@ -21,20 +21,19 @@ use Rattle.cyc_calm.proofs.Walking.{run_agrees}
 use Rattle.cyc_calm.proofs.Beginning.{first_fits, first_calm}
 use Rattle.cyc_calm.proofs.Spacing.{calm_spaced}
 
-module _ {C : Type 0} (called : C → ℕ → Level → C → Type 0) (count : C → ℕ → ℕ) (may_refuse : C → ℕ → Type 0)
-    (script : Script) (all : List (Seated C)) (first last : Progress RaiseEnd C)
-    (runs : Runs called count may_refuse RaiseEndCall end_view first script.steps.items last)
+module _ {C : Type 0} (handler : Calls C) (script : Script) (all : List (Seated C)) (first last : Progress RaiseEnd C)
+    (runs : Runs handler RaiseEndCall end_view first script.steps.items last)
     (calm : IsCalm script) (many : length all ≡ script.cpus)
     (begins : IsAtFirst (length script.names.items) all first)
-    (memory : NoMemoryRefused (run_calls called count may_refuse RaiseEndCall end_view first script.steps.items last runs)) where
-  both : AgreeButMoves (way_of called count may_refuse RaiseEndCall end_view first script.steps.items last runs)
+    (memory : NoMemoryRefused (run_calls handler RaiseEndCall end_view first script.steps.items last runs)) where
+  both : AgreeButMoves (way_of handler RaiseEndCall end_view first script.steps.items last runs)
       (calm_way script.cpus script.steps.items) × (length last.names ≡ length script.names.items)
-  both = run_agrees called count may_refuse RaiseEndCall end_view script.cpus (length script.names.items) calm.few
+  both = run_agrees handler RaiseEndCall end_view script.cpus (length script.names.items) calm.few
       script.steps.items first last runs (first_fits (length script.names.items) script.cpus all first begins many)
       (first_calm (length script.names.items) script.cpus all first begins many) (calm_spaced script calm)
       script.well_formed.names_in_order script.well_formed.names_introduced script.well_formed.moments_in_order memory
 
-  pub agrees : AgreeButMoves (way_of called count may_refuse RaiseEndCall end_view first script.steps.items last runs)
+  pub agrees : AgreeButMoves (way_of handler RaiseEndCall end_view first script.steps.items last runs)
       (calm_way script.cpus script.steps.items)
   agrees = both.0
 
@@ -42,7 +41,7 @@ module _ {C : Type 0} (called : C → ℕ → Level → C → Type 0) (count : C
   names_stay = both.1
 
   pub expects : (name : ℕ) → expected script.cpus
-      (way_of called count may_refuse RaiseEndCall end_view first script.steps.items last runs) name
+      (way_of handler RaiseEndCall end_view first script.steps.items last runs) name
       ≡ expected script.cpus (calm_way script.cpus script.steps.items) name
-  expects name = (λ i. (same_told name (way_of called count may_refuse RaiseEndCall end_view first script.steps.items last runs)
+  expects name = (λ i. (same_told name (way_of handler RaiseEndCall end_view first script.steps.items last runs)
       (calm_way script.cpus script.steps.items) agrees 0 (untold script.cpus) i).expired)

@@ -1,6 +1,6 @@
 -- What a whole run of a script in threads did, from the opening of its rings to their closing.
 use Rattle.std.specs.Prelude.{ℕ, List}
-use Rattle.cyc_types.specs.declared.level.Level.{Level}
+use Rattle.cyc_types.specs.declared.Calls.{Ghosts as Calls}
 use Rattle.cyc_ring.specs.Ends.{end_view, RaiseEndCall}
 use Rattle.cyc_script.specs.declared.script.Script.{Script}
 use Rattle.cyc_thread_expected.specs.SystemRingsLeading.{LeadCall}
@@ -8,10 +8,8 @@ use Rattle.cyc_thread_expected.specs.Ended.{Ended}
 use Rattle.cyc_thread_expected.specs.Running.{HasRun}
 use Rattle.cyc_thread_expected.specs.Leading.{run_calls}
 
-module _ {C : Type 0} (called : C → ℕ → Level → C → Type 0) (count : C → ℕ → ℕ) (may_refuse : C → ℕ → Type 0)
-    (script : Script) (calls : List C) (e : Ended C) (text : List ℕ)
-    (run : HasRun called count may_refuse script calls e text) where
+module _ {C : Type 0} (handler : Calls C) (script : Script) (calls : List C) (e : Ended C) (text : List ℕ)
+    (run : HasRun handler script calls e text) where
   -- the calls of its system
   abbrev pub calls_of_run : List LeadCall
-  calls_of_run = run_calls called count may_refuse RaiseEndCall end_view run.played.first script.steps.items run.played.last
-      run.played.runs
+  calls_of_run = run_calls handler RaiseEndCall end_view run.played.first script.steps.items run.played.last run.played.runs

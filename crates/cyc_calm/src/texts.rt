@@ -18,8 +18,8 @@ use cyc_types::Calls;
 /// It does nothing when it runs: its clause is the law.
 pub fn calm_text_law<C: Calls>()
     ensures { (script : AnyScript) (calls : List C) (e : AnyEnd C) (text : List ℕ)
-        (run : HasRun C.called C.count C.may_refuse script calls e text)
+        (run : HasRun C.Calls script calls e text)
         → IsCalm script
-        → NoMemoryRefused (calls_of_run C.called C.count C.may_refuse script calls e text run) → IsBelowCeiling script
+        → NoMemoryRefused (calls_of_run C.Calls script calls e text run) → IsBelowCeiling script
         → text ≡ calm_text script }
 {}

@@ -1,6 +1,7 @@
 -- The cases of what a call does.
 use Rattle.std.proofs.Common.{◌≡◌, ◌≢◌, ℕ, ◌++◌, ◌∷◌, List, length, Some, None, true, false, inl, inr, refl, sym, ap, ◌∙◌, subst}
 use Rattle.std.specs.Prelude.{Result, Ok, Err, IfOk, IfErr}
+use Rattle.cyc_types.specs.declared.Calls.{Ghosts as Calls}
 use Rattle.cyc_types.specs.Series.{never}
 use Rattle.cyc_types.specs.Firing.{FiringView, FiringCall}
 use Rattle.cyc_soft.specs.declared.Ran.{Ran}
@@ -24,22 +25,21 @@ use Rattle.cyc_cpu.specs.Cpu.{CpuView, Running, SameCpu, Makes, WhyStopped, Look
 use Rattle.cyc_cpu.specs.Calls.{CpuCall, Fire, SoftInterrupt, Add, Place, Reprogram, AskPending, AskTotals, AskRoom, Reserve}
 use Rattle.cyc_cpu.specs.Calls.{Widen, BeginRemove, PollRemove, TakeNow, AskSettled, Changes, Does, Stopped}
 
-module _ {C R : Type 0} (called : C → ℕ → Level → C → Type 0) (count : C → ℕ → ℕ) (may_refuse : C → ℕ → Type 0)
-    (step : R → FiringCall → R → Type 0) (view : R → FiringView)
+module _ {C R : Type 0} (handler : Calls C) (step : R → FiringCall → R → Type 0) (view : R → FiringView)
     (interrupts : Soft → ℕ → Result Ran SoftRefused → Running C R → Running C R → Type 0) (now : ℕ) (s t : Running C R)
     (early : now ≢ never) (kept : SameCpu s.cpu t.cpu) where
   -- a fire at a moment that is not never
   pub fired : (answer : Result Fired FireRefused) → IfOk answer (λ r. r.expired ≡ length (expirations now (timers s.cpu.cyclics)))
       → IfOk answer (λ r. r.next ≡ earliest (timers t.cpu.cyclics))
-      → IfOk answer (λ r. Makes (at_level called High) count step view now
+      → IfOk answer (λ r. Makes (at_level handler.called High) handler.count step view now
       (expirations now (timers s.cpu.cyclics)) s.cpu.cyclics t.cpu.cyclics (sides s.calls s.cpu) (sides t.calls t.cpu) r.lost)
       → IfErr answer (λ e. (made : List Expiration) × (last : Expiration) × (rest : List Expiration)
       × (expirations now (timers s.cpu.cyclics) ≡ made ++ last ∷ rest) × (length made ≡ e.expired) × (at : C)
-      × Makes (at_level called High) count step view now made s.cpu.cyclics t.cpu.cyclics (sides s.calls s.cpu)
+      × Makes (at_level handler.called High) handler.count step view now made s.cpu.cyclics t.cpu.cyclics (sides s.calls s.cpu)
       (sides at t.cpu) e.lost
-      × ((id : ℕ) → count t.calls id ≡ count at id)
-      × WhyStopped may_refuse s.cpu.most at last (timers t.cpu.cyclics) e.why)
-      → Does called count may_refuse step view interrupts s (Fire now answer) t
+      × ((id : ℕ) → handler.count t.calls id ≡ handler.count at id)
+      × WhyStopped handler.may_refuse s.cpu.most at last (timers t.cpu.cyclics) e.why)
+      → Does handler step view interrupts s (Fire now answer) t
   fired (Ok r) expired next makes stopped = (early, kept, expired, next, makes)
   fired (Err e) expired next makes (made, last, rest, listed, long, at, m, counted, stops) =
       inr (
@@ -67,14 +67,13 @@ not_added step view id now level when v w BadNow early d = absurd (early d.1)
 not_added step view id now level when v w e early d = (d.2, d.3)
 
 -- what refused a fire at a moment that is not never
-pub not_fired : {C R : Type 0} (called : C → ℕ → Level → C → Type 0) (count : C → ℕ → ℕ) (may_refuse : C → ℕ → Type 0)
-    (step : R → FiringCall → R → Type 0) (view : R → FiringView)
+pub not_fired : {C R : Type 0} (handler : Calls C) (step : R → FiringCall → R → Type 0) (view : R → FiringView)
     (interrupts : Soft → ℕ → Result Ran SoftRefused → Running C R → Running C R → Type 0) (now : ℕ) (s t : Running C R)
     (e : FireRefused) → now ≢ never
-    → Does called count may_refuse step view interrupts s (Fire now (Err e)) t
-    → Stopped (at_level called High) count may_refuse step view now e s t
-not_fired called count may_refuse step view interrupts now s t e early (inl d) = absurd (early d.0)
-not_fired called count may_refuse step view interrupts now s t e early (inr d) = d.2
+    → Does handler step view interrupts s (Fire now (Err e)) t
+    → Stopped handler step view now e s t
+not_fired handler step view interrupts now s t e early (inl d) = absurd (early d.0)
+not_fired handler step view interrupts now s t e early (inr d) = d.2
 
 -- what a cyclic may expire at most is the same for good
 not_taken_most : {R : Type 0} (step : R → FiringCall → R → Type 0) (view : R → FiringView) (id : ℕ) (v w : CpuView R)
@@ -121,12 +120,11 @@ changes_most step view v w (Fire now answer) d = absurd d
 changes_most step view v w (SoftInterrupt level budget answer) d = absurd d
 
 -- a fire leaves all but the cyclics and the ends
-pub fire_keeps : {C R : Type 0} (called : C → ℕ → Level → C → Type 0) (count : C → ℕ → ℕ) (may_refuse : C → ℕ → Type 0)
-    (step : R → FiringCall → R → Type 0) (view : R → FiringView)
+pub fire_keeps : {C R : Type 0} (handler : Calls C) (step : R → FiringCall → R → Type 0) (view : R → FiringView)
     (interrupts : Soft → ℕ → Result Ran SoftRefused → Running C R → Running C R → Type 0) (now : ℕ) (s t : Running C R)
     (answer : Result Fired FireRefused)
-    → Does called count may_refuse step view interrupts s (Fire now answer) t → SameCpu s.cpu t.cpu
-fire_keeps called count may_refuse step view interrupts now s t (Ok r) d = d.1
-fire_keeps called count may_refuse step view interrupts now s t (Err e) (inl (late, is, same)) =
+    → Does handler step view interrupts s (Fire now answer) t → SameCpu s.cpu t.cpu
+fire_keeps handler step view interrupts now s t (Ok r) d = d.1
+fire_keeps handler step view interrupts now s t (Err e) (inl (late, is, same)) =
     subst (λ x. SameCpu s.cpu x.cpu) (sym same) (record { removal = refl; size = refl; room = refl; most = refl })
-fire_keeps called count may_refuse step view interrupts now s t (Err e) (inr d) = d.1
+fire_keeps handler step view interrupts now s t (Err e) (inr d) = d.1

@@ -10,6 +10,7 @@ use Rattle.std.proofs.lemmas.Bool.Decides.{nat_tests}
 use Rattle.std.proofs.lemmas.List.{length-map, length-set, get_or-map, get_or-set_same, get_or-set_other, get_or_default}
 use Rattle.std.proofs.lemmas.List.Edits.{length-insert, length-remove, get_or-insert_below, get_or-insert_at, get_or-insert_above}
 use Rattle.std.proofs.lemmas.List.Edits.{get_or-remove_below, get_or-remove_above}
+use Rattle.cyc_types.specs.declared.Calls.{Ghosts as Calls}
 use Rattle.cyc_types.specs.Series.{never}
 use Rattle.cyc_types.specs.Firing.{FiringCall, Admits, Loads, Raises, Marks, Polls, Expands, Looks}
 use Rattle.cyc_types.specs.Runs.{Goes}
@@ -309,31 +310,35 @@ changes_gone id v w (AskSettled false) h not d = inquired_gone id v w h d.0
 changes_gone id v w (Fire now answer) h not d = absurd d
 changes_gone id v w (SoftInterrupt soft budget answer) h not d = absurd d
 
-module _ {C : Type 0} (called : C → ℕ → Level → C → Type 0) (count_of : C → ℕ → ℕ) (may_refuse : C → ℕ → Type 0) (id : ℕ) where
+module _ {C : Type 0} (handler : Calls C) (id : ℕ) where
   -- a call of the CPU and its handlers
   abbrev Runs : Running C Tables → CpuCall → Running C Tables → Type 0
-  Runs s call t = Does called count_of may_refuse fires firing_at (Interrupts called count_of may_refuse) s call t
+  Runs s call t = Does handler fires firing_at (Interrupts handler) s call t
 
   -- a call that reaches no handler
   quiet_gone : (s t : Running C Tables) (call : CpuCall) → IsGone id s.cpu → PutsNot id call
-      → Changes fires firing_at s.cpu call t.cpu × (t.calls ≡ s.calls) → StaysGone count_of id s t
-  quiet_gone s t call h not (d, same) = (changes_gone id s.cpu t.cpu call h not d, ap (λ (c : C). count_of c id) same)
+      → Changes fires firing_at s.cpu call t.cpu × (t.calls ≡ s.calls) → StaysGone handler.count id s t
+  quiet_gone s t call h not (d, same) = (changes_gone id s.cpu t.cpu call h not d, ap (λ (c : C). handler.count c id) same)
 
   pub stays_gone : (s t : Running C Tables) (call : CpuCall) → IsGone id s.cpu → PutsNot id call → Runs s call t
-      → StaysGone count_of id s t
+      → StaysGone handler.count id s t
   stays_gone s t (Fire now (Ok r)) h not (early, kept, expired, next, makes) =
-      fire_gone (at_level called level.High) count_of id s t now (expirations now (timers s.cpu.cyclics)) r.lost t.calls h makes
+      fire_gone (at_level handler.called level.High) handler.count id s t now (expirations now (timers s.cpu.cyclics)) r.lost
+      t.calls h makes
       (λ q. refl)
-  stays_gone s t (Fire now (Err e)) h not (inl (late, is, same)) =
-      (subst (λ (x : Running C Tables). IsGone id x.cpu) (sym same) h, ap (λ (x : Running C Tables). count_of x.calls id) same)
+  stays_gone s t (Fire now (Err e)) h not (inl (late, is, same)) = (
+    subst (λ (x : Running C Tables). IsGone id x.cpu) (sym same) h,
+    ap (λ (x : Running C Tables). handler.count x.calls id)
+        same,
+  )
   stays_gone s t (Fire now (Err e)) h not (inr (early, kept, f)) =
-      fire_gone (at_level called level.High) count_of id s t now f.made e.lost f.at h f.makes f.counted
+      fire_gone (at_level handler.called level.High) handler.count id s t now f.made e.lost f.at h f.makes f.counted
   stays_gone s t (SoftInterrupt soft budget (Ok r)) h not (did, kept) =
       let (ran, many, serves, left) = did.served in
-      soft_gone (at_level called (as_level soft)) count_of id s t soft ran _ t.calls h serves (λ q. refl) kept
+      soft_gone (at_level handler.called (as_level soft)) handler.count id s t soft ran _ t.calls h serves (λ q. refl) kept
   stays_gone s t (SoftInterrupt soft budget (Err e)) h not (did, kept) =
       let (ran, at, many, few, serves, may, same, held) = did.refused in
-      soft_gone (at_level called (as_level soft)) count_of id s t soft ran _ at h serves same kept
+      soft_gone (at_level handler.called (as_level soft)) handler.count id s t soft ran _ at h serves same kept
   stays_gone s t (Add own level when now answer) h not r = quiet_gone s t (Add own level when now answer) h not r
   stays_gone s t (Place own level interval moment carried) h not r =
       quiet_gone s t (Place own level interval moment carried) h not r
@@ -349,10 +354,10 @@ module _ {C : Type 0} (called : C → ℕ → Level → C → Type 0) (count_of 
   stays_gone s t (AskSettled answer) h not r = quiet_gone s t (AskSettled answer) h not r
 
   pub runs_gone : (s t : Running C Tables) (way : List CpuCall) → IsGone id s.cpu → All (PutsNot id) way → FoldsTo Runs s way t
-      → StaysGone count_of id s t
+      → StaysGone handler.count id s t
   runs_gone s t [] h not last = (
     subst (λ (x : Running C Tables). IsGone id x.cpu) last h,
-    ap (λ (x : Running C Tables). count_of x.calls id) (sym last),
+    ap (λ (x : Running C Tables). handler.count x.calls id) (sym last),
   )
   runs_gone s t (call ∷ way) h not (m, first, rest) =
       let (gone, same) = stays_gone s m call h (not 0 call (omega (arith))) first in

@@ -1,6 +1,7 @@
 -- All that can happen to a CPU: its calls, each with its answer, and what each of them does.
 use Rattle.std.specs.Prelude.{◌≡◌, ◌≢◌, ℕ, ◌<◌, ◌≤◌, ◌⊎◌, ◌++◌, ◌∷◌, Bool, true, false, List, length, slice_set, Option, Some}
 use Rattle.std.specs.Prelude.{None, Result, Ok, Err}
+use Rattle.cyc_types.specs.declared.Calls.{Ghosts as Calls}
 use Rattle.cyc_types.specs.Series.{never, first}
 use Rattle.cyc_types.specs.Firing.{FiringView, FiringCall}
 use Rattle.cyc_types.specs.declared.firing.Sent.{Sent}
@@ -101,8 +102,8 @@ Changes step view v (Fire now answer) w = ⊥
 Changes step view v (SoftInterrupt level budget answer) w = ⊥
 
 -- a fire was stopped by an expiration that was refused: those before it were made, and no other
-pub record Stopped {C R : Type 0} (called : C → ℕ → C → Type 0) (count : C → ℕ → ℕ) (may_refuse : C → ℕ → Type 0)
-    (step : R → FiringCall → R → Type 0) (view : R → FiringView) (now : ℕ) (e : FireRefused) (s t : Running C R) : Type 0 where
+pub record Stopped {C R : Type 0} (handler : Calls C) (step : R → FiringCall → R → Type 0) (view : R → FiringView) (now : ℕ)
+    (e : FireRefused) (s t : Running C R) : Type 0 where
   pub made : List Expiration
   pub last : Expiration
   pub rest : List Expiration
@@ -110,24 +111,25 @@ pub record Stopped {C R : Type 0} (called : C → ℕ → C → Type 0) (count :
   pub expired : length made ≡ e.expired
   -- the handlers before the refusal, which changes no count
   pub at : C
-  pub makes : Makes called count step view now made s.cpu.cyclics t.cpu.cyclics (sides s.calls s.cpu) (sides at t.cpu) e.lost
-  pub counted : (id : ℕ) → count t.calls id ≡ count at id
-  pub stops : WhyStopped may_refuse s.cpu.most at last (timers t.cpu.cyclics) e.why
+  pub makes : Makes (at_level handler.called High) handler.count step view now made s.cpu.cyclics t.cpu.cyclics
+      (sides s.calls s.cpu) (sides at t.cpu) e.lost
+  pub counted : (id : ℕ) → handler.count t.calls id ≡ handler.count at id
+  pub stops : WhyStopped handler.may_refuse s.cpu.most at last (timers t.cpu.cyclics) e.why
 
--- What each call does to a CPU and its handlers. `interrupts` is what a soft interrupt does, which is a call of a CPU alone
--- where one thread has both sides of its levels.
-abbrev pub Does : {C R : Type 0} → (C → ℕ → Level → C → Type 0) → (C → ℕ → ℕ) → (C → ℕ → Type 0)
-    → (R → FiringCall → R → Type 0) → (R → FiringView) → (Soft → ℕ → Result Ran SoftRefused → Running C R → Running C R → Type 0)
-    → Running C R → CpuCall → Running C R → Type 0
-Does called count may_refuse step view interrupts s (Fire now (Ok r)) t = (now ≢ never) × SameCpu s.cpu t.cpu
+-- What each call does to a CPU and its handlers. `handler` has what `Calls` says of these: how a call changes them, how many each
+-- id had, and which may be refused. `interrupts` is what a soft interrupt does, which is a call of a CPU alone where one thread
+-- has both sides of its levels.
+abbrev pub Does : {C R : Type 0} → Calls C → (R → FiringCall → R → Type 0) → (R → FiringView)
+    → (Soft → ℕ → Result Ran SoftRefused → Running C R → Running C R → Type 0) → Running C R → CpuCall → Running C R → Type 0
+Does handler step view interrupts s (Fire now (Ok r)) t = (now ≢ never) × SameCpu s.cpu t.cpu
     × (r.expired ≡ length (expirations now (timers s.cpu.cyclics))) × (r.next ≡ earliest (timers t.cpu.cyclics))
-    × Makes (at_level called High) count step view now (expirations now (timers s.cpu.cyclics)) s.cpu.cyclics t.cpu.cyclics
-    (sides s.calls s.cpu) (sides t.calls t.cpu) r.lost
-Does called count may_refuse step view interrupts s (Fire now (Err e)) t =
+    × Makes (at_level handler.called High) handler.count step view now (expirations now (timers s.cpu.cyclics))
+    s.cpu.cyclics t.cpu.cyclics (sides s.calls s.cpu) (sides t.calls t.cpu) r.lost
+Does handler step view interrupts s (Fire now (Err e)) t =
     ((now ≡ never) × (e ≡ record { why = BadNow; expired = 0; lost = 0 }) × (t ≡ s))
-    ⊎ ((now ≢ never) × SameCpu s.cpu t.cpu × Stopped (at_level called High) count may_refuse step view now e s t)
-Does called count may_refuse step view interrupts s (SoftInterrupt level budget answer) t = interrupts level budget answer s t
-Does called count may_refuse step view interrupts s call t = Changes step view s.cpu call t.cpu × (t.calls ≡ s.calls)
+    ⊎ ((now ≢ never) × SameCpu s.cpu t.cpu × Stopped handler step view now e s t)
+Does handler step view interrupts s (SoftInterrupt level budget answer) t = interrupts level budget answer s t
+Does handler step view interrupts s call t = Changes step view s.cpu call t.cpu × (t.calls ≡ s.calls)
 
 -- no soft interrupt is a call of the CPU: another thread may have the soft sides
 abbrev pub no_interrupts : {C R : Type 0} → Soft → ℕ → Result Ran SoftRefused → Running C R → Running C R → Type 0

@@ -1,8 +1,8 @@
 -- The soft interrupt of one level of a CPU whose levels no other thread uses.
 use Rattle.std.specs.Prelude.{◌≡◌, ℕ, List, [], Option, Result}
+use Rattle.cyc_types.specs.declared.Calls.{Ghosts as Calls}
 use Rattle.cyc_types.specs.Draining.{DrainCall}
 use Rattle.cyc_types.specs.Levels.{at_level, as_level}
-use Rattle.cyc_types.specs.declared.level.Level.{Level}
 use Rattle.cyc_types.specs.declared.level.Soft.{Soft}
 use Rattle.cyc_types.specs.declared.level.Soft.TheVariants.{Low, Lock}
 use Rattle.cyc_core.specs.Tables.{Tables, level_of}
@@ -60,9 +60,8 @@ abbrev pub HasEmptyLists : Tables → Type 0
 HasEmptyLists a = (a.old_list ≡ []) × (a.new_list ≡ [])
 
 -- what a soft interrupt does to a CPU: at its level what any soft interrupt does, and nothing else
-abbrev pub Interrupts : {C : Type 0} → (C → ℕ → Level → C → Type 0) → (C → ℕ → ℕ) → (C → ℕ → Type 0)
-    → Soft → ℕ → Result Ran SoftRefused → Running C Tables → Running C Tables → Type 0
-Interrupts called count may_refuse level budget answer s t =
-    IsSoftint drains held_at done_at (at_level called (as_level level)) count may_refuse
+abbrev pub Interrupts : {C : Type 0} → Calls C → Soft → ℕ → Result Ran SoftRefused → Running C Tables → Running C Tables → Type 0
+Interrupts handler level budget answer s t =
+    IsSoftint drains held_at done_at (at_level handler.called (as_level level)) handler.count handler.may_refuse
     budget answer (end_at level s.cpu) s.calls (end_at level t.cpu) t.calls
     × SoftKept level s.cpu t.cpu

@@ -147,7 +147,7 @@ impl<R: Raise> Hard<R> {
     /// CountSpent, and one whose handler refuses with HandlerRefused; those before it were made. Takes no memory.
     pub fn fire<C: Calls>(&mut self, now: Moment, calls: &mut C) -> Result<Fired, FireRefused>
         // The whole list was made, or it was made up to an expiration that was refused; at the moment that is never, nothing.
-        ensures { Does C.called C.count C.may_refuse R.step R.view no_interrupts (running calls.old self.old) (Fire now result)
+        ensures { Does C.Calls R.step R.view no_interrupts (running calls.old self.old) (Fire now result)
             (running calls.new self.new) }
     {
         if now.nanoseconds() == Moment::NEVER.nanoseconds() {

@@ -34,12 +34,12 @@ impl Hard<LevelCore> {
         ensures left { (id : ℕ) (w : CpuView Tables) → HasLeft fires firing_at id self.now w → IsGone id w }
         // One more call on the CPU that doesn't put it in makes no call of it, and leaves it gone.
         ensures kept { (id : ℕ) (s t : Running C Tables) (call : CpuCall) → IsGone id s.cpu → PutsNot id call
-            → Does C.called C.count C.may_refuse fires firing_at (Interrupts C.called C.count C.may_refuse) s call t
+            → Does C.Calls fires firing_at (Interrupts C.Calls) s call t
             → StaysGone C.count id s t }
         // So none of any number of such calls makes one.
         ensures nothing_follows { (id : ℕ) (s t : Running C Tables) (way : List CpuCall)
             → HasLeft fires firing_at id self.now s.cpu → All (PutsNot id) way
-            → FoldsTo (Does C.called C.count C.may_refuse fires firing_at (Interrupts C.called C.count C.may_refuse)) s way t
+            → FoldsTo (Does C.Calls fires firing_at (Interrupts C.Calls)) s way t
             → StaysGone C.count id s t }
     {
         self.law();

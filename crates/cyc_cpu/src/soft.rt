@@ -47,7 +47,7 @@ impl Hard<LevelCore> {
         budget: u32,
     ) -> Result<Ran, SoftRefused>
         // What `cyc_soft::softint` does, each call at this level; and nothing else changed.
-        ensures did { Does C.called C.count C.may_refuse fires firing_at (Interrupts C.called C.count C.may_refuse)
+        ensures did { Does C.Calls fires firing_at (Interrupts C.Calls)
             (running calls.old self.old) (SoftInterrupt level budget result) (running calls.new self.new) }
 
         // Where it is idle, nothing waits at its level.

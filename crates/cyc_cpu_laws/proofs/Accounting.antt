@@ -4,6 +4,7 @@ use Rattle.std.proofs.Common.{arith, inl, inr}
 use Rattle.std.specs.Prelude.{Ok, Err}
 use Rattle.std.specs.List.{FoldsTo}
 use Rattle.std.proofs.Math.Seq.{take-append_seam}
+use Rattle.cyc_types.specs.declared.Calls.{Ghosts as Calls}
 use Rattle.cyc_types.specs.Firing.{FiringView, FiringCall}
 use Rattle.cyc_types.specs.Runs.{raised_by, lost_by}
 use Rattle.cyc_types.specs.Levels.{at_level}
@@ -56,9 +57,8 @@ limits_on view u v w a b = record {
   grows = (let x = a.grows in let y = b.grows in omega (arith, x, y));
 }
 
-module _ {C R : Type 0} (called : C → ℕ → Level → C → Type 0) (count : C → ℕ → ℕ) (may_refuse : C → ℕ → Type 0)
-    (step : R → FiringCall → R → Type 0) (view : R → FiringView) where
-  pub proceeds_none : (s : Running C R) → Proceeds count step view nothing s s
+module _ {C R : Type 0} (handler : Calls C) (step : R → FiringCall → R → Type 0) (view : R → FiringView) where
+  pub proceeds_none : (s : Running C R) → Proceeds handler.count step view nothing s s
   proceeds_none s = record {
     lock_lost = λ id. 0;
     low_lost = λ id. 0;
@@ -70,8 +70,8 @@ module _ {C R : Type 0} (called : C → ℕ → Level → C → Type 0) (count :
     limits = limits_none view s.cpu;
   }
 
-  pub proceeds_on : (a b : Account) (s t u : Running C R) → Proceeds count step view a s t → Proceeds count step view b t u →
-      Proceeds count step view (both a b) s u
+  pub proceeds_on : (a b : Account) (s t u : Running C R) → Proceeds handler.count step view a s t
+      → Proceeds handler.count step view b t u → Proceeds handler.count step view (both a b) s u
   proceeds_on a b s t u p q = record {
     lock_lost = λ id. p.lock_lost id + q.lock_lost id;
     low_lost = λ id. p.low_lost id + q.low_lost id;
@@ -96,9 +96,9 @@ module _ {C R : Type 0} (called : C → ℕ → Level → C → Type 0) (count :
 
   -- the expirations of a fire
   fired : (s t : Running C R) (now lost : ℕ) (made : List Expiration) (at : C) → HasDistinctIds (timers s.cpu.cyclics) →
-      SameCpu s.cpu t.cpu → ((id : ℕ) → count t.calls id ≡ count at id) →
-      Makes (at_level called High) count step view now made s.cpu.cyclics t.cpu.cyclics (sides s.calls s.cpu)
-      (sides at t.cpu) lost → Proceeds count step view (of_fire (timers s.cpu.cyclics) made) s t
+      SameCpu s.cpu t.cpu → ((id : ℕ) → handler.count t.calls id ≡ handler.count at id) →
+      Makes (at_level handler.called High) handler.count step view now made s.cpu.cyclics t.cpu.cyclics (sides s.calls s.cpu)
+      (sides at t.cpu) lost → Proceeds handler.count step view (of_fire (timers s.cpu.cyclics) made) s t
   fired s t now lost made at distinct kept same m =
       let ts = timers s.cpu.cyclics in
       let lock : (id : ℕ) → raised_by id m.acts.lock_way ≡ share Lock ts made id =
@@ -124,13 +124,13 @@ module _ {C R : Type 0} (called : C → ℕ → Level → C → Type 0) (count :
 
   -- the same under an equal list
   made_is : (s t : Running C R) (made made' : List Expiration) → made ≡ made' →
-      Proceeds count step view (of_fire (timers s.cpu.cyclics) made) s t →
-      Proceeds count step view (of_fire (timers s.cpu.cyclics) made') s t
-  made_is s t made made' is p = subst (λ xs. Proceeds count step view (of_fire (timers s.cpu.cyclics) xs) s t) is p
+      Proceeds handler.count step view (of_fire (timers s.cpu.cyclics) made) s t →
+      Proceeds handler.count step view (of_fire (timers s.cpu.cyclics) made') s t
+  made_is s t made made' is p = subst (λ xs. Proceeds handler.count step view (of_fire (timers s.cpu.cyclics) xs) s t) is p
 
   -- a call that reaches no handler
   quiet : (s t : Running C R) (call : CpuCall) → made_by call s.cpu.cyclics ≡ [] → Changes step view s.cpu call t.cpu
-      × (t.calls ≡ s.calls) → Proceeds count step view (account_of call s.cpu.cyclics) s t
+      × (t.calls ≡ s.calls) → Proceeds handler.count step view (account_of call s.cpu.cyclics) s t
   quiet s t call none (d, same) =
       let ts = timers s.cpu.cyclics in
       let st = changes_still step view s.cpu t.cpu call d in
@@ -158,7 +158,7 @@ module _ {C R : Type 0} (called : C → ℕ → Level → C → Type 0) (count :
         low_lost = λ id. 0;
         lock = at_lock;
         low = at_low;
-        called = λ id. (let a = ap (λ (c : C). count c id) same in let z = zero High id in omega (arith, a, z));
+        called = λ id. (let a = ap (λ (c : C). handler.count c id) same in let z = zero High id in omega (arith, a, z));
         expired = λ id. (let a = (sums id).0 in let x = zero Lock id in let y = zero Low id in let z = zero High id in
             omega (arith, a, x, y, z));
         lost = λ id. (let a = (sums id).1 in omega (arith, a));
@@ -166,10 +166,10 @@ module _ {C R : Type 0} (called : C → ℕ → Level → C → Type 0) (count :
       }
 
   nothing_fired : (s t : Running C R) (now : ℕ) (e : FireRefused) → t ≡ s → e.expired ≡ 0 →
-      Proceeds count step view (account_of (Fire now (Err e)) s.cpu.cyclics) s t
+      Proceeds handler.count step view (account_of (Fire now (Err e)) s.cpu.cyclics) s t
   nothing_fired s t now e is none =
       made_is s t [] _ (sym (ap (λ n. take n (expirations now (timers s.cpu.cyclics))) none))
-      (subst (λ (x : Running C R). Proceeds count step view (of_fire (timers s.cpu.cyclics) []) s x) (sym is) (record {
+      (subst (λ (x : Running C R). Proceeds handler.count step view (of_fire (timers s.cpu.cyclics) []) s x) (sym is) (record {
         lock_lost = λ id. 0;
         low_lost = λ id. 0;
         lock = record {
@@ -187,14 +187,14 @@ module _ {C R : Type 0} (called : C → ℕ → Level → C → Type 0) (count :
       }))
 
   front : (now : ℕ) (e : FireRefused) (s t : Running C R)
-      (f : Stopped (at_level called High) count may_refuse step view now e s t) →
+      (f : Stopped handler step view now e s t) →
       f.made ≡ take e.expired (expirations now (timers s.cpu.cyclics))
   front now e s t f = sym (ap (λ n. take n (expirations now (timers s.cpu.cyclics))) (sym f.expired)
       ∙ ap (take (length f.made)) f.listed ∙ take-append_seam f.made (f.last ∷ f.rest))
 
   -- one call
   pub proceeds_one : (s t : Running C R) (call : CpuCall) → IsLawful view s.cpu →
-      Does called count may_refuse step view no_interrupts s call t → Proceeds count step view (account_of call s.cpu.cyclics) s t
+      Does handler step view no_interrupts s call t → Proceeds handler.count step view (account_of call s.cpu.cyclics) s t
   proceeds_one s t (Fire now (Ok r)) law (
     early,
     kept,
@@ -225,11 +225,11 @@ module _ {C R : Type 0} (called : C → ℕ → Level → C → Type 0) (count :
 
   -- the calls of a run
   abbrev D : Running C R → CpuCall → Running C R → Type 0
-  D = Steps called count may_refuse step view no_interrupts
+  D = Steps handler step view no_interrupts
 
   pub proceeds_in : (s t : Running C R) (way : List CpuCall) → IsLawful view s.cpu → (run : FoldsTo D s way t) →
-      Proceeds count step view (account_in D s way t run) s t
-  proceeds_in s t [] law run = subst (λ (x : Running C R). Proceeds count step view nothing s x) run (proceeds_none s)
+      Proceeds handler.count step view (account_in D s way t run) s t
+  proceeds_in s t [] law run = subst (λ (x : Running C R). Proceeds handler.count step view nothing s x) run (proceeds_none s)
   proceeds_in s t (call ∷ way) law (m, (does, lawful), rest) =
       proceeds_on (account_of call s.cpu.cyclics) (account_in D m way t rest) s m t (proceeds_one s m call law does)
       (proceeds_in m t way lawful rest)

@@ -4,6 +4,7 @@ use Rattle.std.proofs.Common.{subst, ◌∙◌, arith}
 use Rattle.std.specs.Prelude.{Bool, true, false, Result, Ok, Err}
 use Rattle.std.specs.List.{FoldsTo}
 use Rattle.std.proofs.lemmas.List.{length-map}
+use Rattle.cyc_types.specs.declared.Calls.{Ghosts as Calls}
 use Rattle.cyc_types.specs.Counting.{times}
 use Rattle.cyc_types.specs.Draining.{DrainCall}
 use Rattle.cyc_types.specs.Firing.{FiringCall}
@@ -157,8 +158,8 @@ no_more : (xs : List ℕ) → xs ++ [] ≡ xs
 no_more [] = refl
 no_more (x ∷ xs) = ap (λ ys. x ∷ ys) (no_more xs)
 
-module _ {C : Type 0} (called : C → ℕ → Level → C → Type 0) (count : C → ℕ → ℕ) (may_refuse : C → ℕ → Type 0) where
-  pub core_proceeds_none : (s : Running C Tables) → CoreProceeds count nothing s s
+module _ {C : Type 0} (handler : Calls C) where
+  pub core_proceeds_none : (s : Running C Tables) → CoreProceeds handler.count nothing s s
   core_proceeds_none s = record {
     lock_lost = λ id. 0;
     low_lost = λ id. 0;
@@ -172,8 +173,8 @@ module _ {C : Type 0} (called : C → ℕ → Level → C → Type 0) (count : C
     limits = limits_none firing_at s.cpu;
   }
 
-  pub core_proceeds_on : (a b : Account) (s t u : Running C Tables) → CoreProceeds count a s t → CoreProceeds count b t u →
-      CoreProceeds count (both a b) s u
+  pub core_proceeds_on : (a b : Account) (s t u : Running C Tables) → CoreProceeds handler.count a s t
+      → CoreProceeds handler.count b t u → CoreProceeds handler.count (both a b) s u
   core_proceeds_on a b s t u p q = record {
     lock_lost = λ id. p.lock_lost id + q.lock_lost id;
     low_lost = λ id. p.low_lost id + q.low_lost id;
@@ -189,10 +190,10 @@ module _ {C : Type 0} (called : C → ℕ → Level → C → Type 0) (count : C
 
   -- a call that is no soft interrupt
   no_interrupt : (s t : Running C Tables) (call : CpuCall) → ((own : Level) → 0 ≡ (account_of call s.cpu.cyclics).served own) →
-      IsLawful firing_at s.cpu → Does called count may_refuse fires firing_at no_interrupts s call t →
-      CoreProceeds count (account_of call s.cpu.cyclics) s t
+      IsLawful firing_at s.cpu → Does handler fires firing_at no_interrupts s call t →
+      CoreProceeds handler.count (account_of call s.cpu.cyclics) s t
   no_interrupt s t call none law d =
-      let p = proceeds_one called count may_refuse fires firing_at s t call law d in
+      let p = proceeds_one handler fires firing_at s t call law d in
       record {
         lock_lost = p.lock_lost;
         low_lost = p.low_lost;
@@ -210,7 +211,7 @@ module _ {C : Type 0} (called : C → ℕ → Level → C → Type 0) (count : C
 
   -- a level whose soft interrupt made these calls
   served_level : (own : Level) (a b : Tables) (n : ℕ) (calls calls' : C) (ran : List Served) (rest : List DrainCall) →
-      ServesAt (at_level called own) count a calls ran rest b calls' → finishes_of rest ≡ [] → length ran ≡ n →
+      ServesAt (at_level handler.called own) handler.count a calls ran rest b calls' → finishes_of rest ≡ [] → length ran ≡ n →
       CorePasses (λ id. 0) (λ id. 0) (λ id. times id (ids ran)) n a b
   served_level own a b n calls calls' ran rest serves none long =
       let made = way_finishes (held_at a) ran rest ∙ ap (λ xs. ids ran ++ xs) none ∙ no_more (ids ran) in
@@ -220,9 +221,10 @@ module _ {C : Type 0} (called : C → ℕ → Level → C → Type 0) (count : C
 
   interrupted : (soft : Soft) (budget : ℕ) (answer : Result Ran SoftRefused) (s t : Running C Tables) (at : C)
       (ran : List Served) (rest : List DrainCall) →
-      ServesAt (at_level called (as_level soft)) count (end_at soft s.cpu) s.calls ran rest (end_at soft t.cpu) at →
-      finishes_of rest ≡ [] → length ran ≡ told answer → ((q : ℕ) → count t.calls q ≡ count at q) →
-      SoftKept soft s.cpu t.cpu → CoreProceeds count (account_of (SoftInterrupt soft budget answer) s.cpu.cyclics) s t
+      ServesAt (at_level handler.called (as_level soft)) handler.count (end_at soft s.cpu) s.calls ran rest (end_at soft t.cpu) at
+      →
+      finishes_of rest ≡ [] → length ran ≡ told answer → ((q : ℕ) → handler.count t.calls q ≡ handler.count at q) →
+      SoftKept soft s.cpu t.cpu → CoreProceeds handler.count (account_of (SoftInterrupt soft budget answer) s.cpu.cyclics) s t
   interrupted Low budget answer s t at ran rest serves none long same kept =
       let zero : (own : Level) (id : ℕ) → 0 ≡ share own (timers s.cpu.cyclics) [] id =
       λ own id. sym (none_made own (timers s.cpu.cyclics) id) in
@@ -272,8 +274,8 @@ module _ {C : Type 0} (called : C → ℕ → Level → C → Type 0) (count : C
 
   -- one call
   pub core_proceeds_one : (s t : Running C Tables) (call : CpuCall) → IsLawful firing_at s.cpu →
-      Does called count may_refuse fires firing_at (Interrupts called count may_refuse) s call t →
-      CoreProceeds count (account_of call s.cpu.cyclics) s t
+      Does handler fires firing_at (Interrupts handler) s call t →
+      CoreProceeds handler.count (account_of call s.cpu.cyclics) s t
   core_proceeds_one s t (SoftInterrupt soft budget (Ok r)) law (did, kept) =
       let (ran, long, serves, left) = did.served in
       interrupted soft budget (Ok r) s t t.calls ran (last_look r.idle) serves (last_finishes r.idle) long (λ q. refl) kept
@@ -309,12 +311,12 @@ module _ {C : Type 0} (called : C → ℕ → Level → C → Type 0) (count : C
 
   -- the calls of a run
   abbrev D : Running C Tables → CpuCall → Running C Tables → Type 0
-  D = Steps called count may_refuse fires firing_at (Interrupts called count may_refuse)
+  D = Steps handler fires firing_at (Interrupts handler)
 
   pub core_proceeds_in : (s t : Running C Tables) (way : List CpuCall) → IsLawful firing_at s.cpu → (run : FoldsTo D s way t) →
-      CoreProceeds count (account_in D s way t run) s t
+      CoreProceeds handler.count (account_in D s way t run) s t
   core_proceeds_in s t [] law run =
-      subst (λ (x : Running C Tables). CoreProceeds count nothing s x) run (core_proceeds_none s)
+      subst (λ (x : Running C Tables). CoreProceeds handler.count nothing s x) run (core_proceeds_none s)
   core_proceeds_in s t (call ∷ way) law (m, (does, lawful), rest) =
       core_proceeds_on (account_of call s.cpu.cyclics) (account_in D m way t rest) s m t (core_proceeds_one s m call law does)
       (core_proceeds_in m t way lawful rest)

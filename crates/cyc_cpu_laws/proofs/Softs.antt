@@ -5,10 +5,10 @@ use Rattle.std.specs.Prelude.{Result, Ok, Err}
 use Rattle.std.specs.Option.{option_map}
 use Rattle.std.specs.List.{FoldsTo}
 use Rattle.std.proofs.lemmas.Bool.Decides.{nat_tests}
+use Rattle.cyc_types.specs.declared.Calls.{Ghosts as Calls}
 use Rattle.cyc_types.specs.Draining.{DrainCall, Takes, Finishes}
 use Rattle.cyc_types.specs.Firing.{seen_in}
 use Rattle.cyc_types.specs.Runs.{DrainGoes}
-use Rattle.cyc_types.specs.declared.level.Level.{Level}
 use Rattle.cyc_types.specs.declared.level.Soft.{Soft}
 use Rattle.cyc_types.specs.declared.level.Soft.TheVariants.{Low, Lock}
 use Rattle.cyc_cpu.specs.Event.TheVariants.{Take, Finish, Follow}
@@ -66,7 +66,7 @@ drain_quiet : (a b : Tables) (way : List DrainCall) → DrainGoes drains a way b
 drain_quiet a b [] g q = subst (λ (x : Tables). IsQuiet (firing_at x)) g q
 drain_quiet a b (call ∷ way) (m, first, rest) q = drain_quiet m b way rest (drained (level_of a) (level_of m) call first q)
 
-module _ {C : Type 0} (called : C → ℕ → Level → C → Type 0) (count : C → ℕ → ℕ) (may_refuse : C → ℕ → Type 0) where
+module _ {C : Type 0} (handler : Calls C) where
   served : (soft : Soft) (v w : CpuView Tables) (way : List DrainCall) → DrainGoes drains (end_at soft v) way (end_at soft w) →
       SoftKept soft v w → IsSettled firing_at v → IsSettled firing_at w
   served Low v w way g k s = settled_of fires firing_at w (subst (λ (x : Tables). IsQuiet (firing_at x)) (sym k.beside)
@@ -75,12 +75,12 @@ module _ {C : Type 0} (called : C → ℕ → Level → C → Type 0) (count : C
       (subst (λ (x : Tables). IsQuiet (firing_at x)) (sym k.beside) (low_quiet fires firing_at v s)) (k.kept.removal ∙ s.still)
 
   pub interrupts_settle : (soft : Soft) (budget : ℕ) (answer : Result Ran SoftRefused) (s t : Running C Tables) →
-      Interrupts called count may_refuse soft budget answer s t → IsSettled firing_at s.cpu → IsSettled firing_at t.cpu
+      Interrupts handler soft budget answer s t → IsSettled firing_at s.cpu → IsSettled firing_at t.cpu
   interrupts_settle soft budget (Ok r) s t (did, kept) h = let (ran, many, serves, left) = did.served in
       served soft s.cpu t.cpu _ serves.way kept h
   interrupts_settle soft budget (Err e) s t (did, kept) h =
       let (ran, at, many, few, serves, may, same, held) = did.refused in served soft s.cpu t.cpu _ serves.way kept h
 
   pub interrupts_size : (soft : Soft) (budget : ℕ) (answer : Result Ran SoftRefused) (s t : Running C Tables) →
-      Interrupts called count may_refuse soft budget answer s t → t.cpu.size ≡ s.cpu.size
+      Interrupts handler soft budget answer s t → t.cpu.size ≡ s.cpu.size
   interrupts_size soft budget answer s t (serves, kept) = kept.kept.size

@@ -3,6 +3,7 @@ use Rattle.std.proofs.Common.{◌≡◌, ◌≢◌, ℕ, suc, ◌<◌, ◌≤◌
 use Rattle.std.proofs.Common.{refl, sym, ap, subst, ◌∙◌, arith, inl, inr}
 use Rattle.std.specs.Prelude.{Result, Ok, Err}
 use Rattle.std.specs.List.{FoldsTo}
+use Rattle.cyc_types.specs.declared.Calls.{Ghosts as Calls}
 use Rattle.cyc_types.specs.Firing.{FiringView, FiringCall, Admits, Loads, Raises, Marks, Polls, Expands, Looks, Learns, Stay}
 use Rattle.cyc_types.specs.Firing.{edited, seen_in, seen_of, saw}
 use Rattle.cyc_types.specs.Runs.{Goes}
@@ -208,17 +209,16 @@ module _ {R : Type 0} (step : R → FiringCall → R → Type 0) (view : R → F
   put_off v w (BeginRemove id (Ok (Kept kept))) s d u = opens_not id kept v w d.1 s
   put_off v w call s d u = absurd u
 
-  module _ {C : Type 0} (called : C → ℕ → Level → C → Type 0) (count : C → ℕ → ℕ) (may_refuse : C → ℕ → Type 0)
-      (interrupts : Soft → ℕ → Result Ran SoftRefused → Running C R → Running C R → Type 0)
+  module _ {C : Type 0} (handler : Calls C) (interrupts : Soft → ℕ → Result Ran SoftRefused → Running C R → Running C R → Type 0)
       (sizes : (soft : Soft) (budget : ℕ) (answer : Result Ran SoftRefused) (s t : Running C R) →
       interrupts soft budget answer s t → t.cpu.size ≡ s.cpu.size)
       (settles : (soft : Soft) (budget : ℕ) (answer : Result Ran SoftRefused) (s t : Running C R) →
       interrupts soft budget answer s t → IsSettled view s.cpu → IsSettled view t.cpu) where
     abbrev One : Running C R → CpuCall → Running C R → Type 0
-    One = Does called count may_refuse step view interrupts
+    One = Does handler step view interrupts
 
     abbrev Ones : Running C R → CpuCall → Running C R → Type 0
-    Ones = Steps called count may_refuse step view interrupts
+    Ones = Steps handler step view interrupts
 
     quiet_grows : (s t : Running C R) (call : CpuCall) → Changes step view s.cpu call t.cpu × (t.calls ≡ s.calls) →
         s.cpu.size ≤ t.cpu.size

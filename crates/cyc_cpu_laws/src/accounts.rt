@@ -23,14 +23,14 @@ use cyc_types::{Calls, Raise};
 pub fn account_law<C: Calls, R: Raise>()
     ensures none { (s : Running C R) → Proceeds C.count R.step R.view nothing s s }
     ensures one { (s t : Running C R) (call : CpuCall) → IsLawful R.view s.cpu
-        → Does C.called C.count C.may_refuse R.step R.view no_interrupts s call t
+        → Does C.Calls R.step R.view no_interrupts s call t
         → Proceeds C.count R.step R.view (account_of call s.cpu.cyclics) s t }
     ensures joined { (a b : Account) (s t u : Running C R) → Proceeds C.count R.step R.view a s t
         → Proceeds C.count R.step R.view b t u
         → Proceeds C.count R.step R.view (both a b) s u }
     ensures run { (s t : Running C R) (way : List CpuCall) → IsLawful R.view s.cpu
-        → (run : FoldsTo (Steps C.called C.count C.may_refuse R.step R.view no_interrupts) s way t)
-        → Proceeds C.count R.step R.view (account_in (Steps C.called C.count C.may_refuse R.step R.view no_interrupts) s way t
+        → (run : FoldsTo (Steps C.Calls R.step R.view no_interrupts) s way t)
+        → Proceeds C.count R.step R.view (account_in (Steps C.Calls R.step R.view no_interrupts) s way t
         run) s t }
 {}
 
@@ -44,12 +44,11 @@ pub fn account_law<C: Calls, R: Raise>()
 pub fn account_core_law<C: Calls>()
     ensures none { (s : Running C Tables) → CoreProceeds C.count nothing s s }
     ensures one { (s t : Running C Tables) (call : CpuCall) → IsLawful firing_at s.cpu
-        → Does C.called C.count C.may_refuse fires firing_at (Interrupts C.called C.count C.may_refuse) s call t
+        → Does C.Calls fires firing_at (Interrupts C.Calls) s call t
         → CoreProceeds C.count (account_of call s.cpu.cyclics) s t }
     ensures joined { (a b : Account) (s t u : Running C Tables) → CoreProceeds C.count a s t → CoreProceeds C.count b t u
         → CoreProceeds C.count (both a b) s u }
     ensures run { (s t : Running C Tables) (way : List CpuCall) → IsLawful firing_at s.cpu
-        → (run : FoldsTo (Steps C.called C.count C.may_refuse fires firing_at (Interrupts C.called C.count C.may_refuse)) s way t)
-        → CoreProceeds C.count (account_in (Steps C.called C.count C.may_refuse fires firing_at
-        (Interrupts C.called C.count C.may_refuse)) s way t run) s t }
+        → (run : FoldsTo (Steps C.Calls fires firing_at (Interrupts C.Calls)) s way t)
+        → CoreProceeds C.count (account_in (Steps C.Calls fires firing_at (Interrupts C.Calls)) s way t run) s t }
 {}

@@ -19,11 +19,11 @@ use cyc_types::{Calls, Raise};
 pub fn settling_law<C: Calls, R: Raise>()
     // A switch of banks is a growth of the size, which no call makes smaller.
     ensures stays { (s t : Running C R) (way : List CpuCall) → IsSettled R.view s.cpu → All IsNoFire way → t.cpu.size ≡ s.cpu.size
-        → FoldsTo (Steps C.called C.count C.may_refuse R.step R.view no_interrupts) s way t → IsSettled R.view t.cpu }
+        → FoldsTo (Steps C.Calls R.step R.view no_interrupts) s way t → IsSettled R.view t.cpu }
     ensures grows { (s t : Running C R) (way : List CpuCall)
-        → FoldsTo (Steps C.called C.count C.may_refuse R.step R.view no_interrupts) s way t → s.cpu.size ≤ t.cpu.size }
+        → FoldsTo (Steps C.Calls R.step R.view no_interrupts) s way t → s.cpu.size ≤ t.cpu.size }
     ensures at_once { (s t : Running C R) (call : CpuCall) → IsSettled R.view s.cpu
-        → Does C.called C.count C.may_refuse R.step R.view no_interrupts s call t → IsPutOff call → ⊥ }
+        → Does C.Calls R.step R.view no_interrupts s call t → IsPutOff call → ⊥ }
 {}
 
 /// The same of a CPU whose levels no other thread uses, where soft interrupts are among the calls.
@@ -32,12 +32,12 @@ pub fn settling_law<C: Calls, R: Raise>()
 pub fn settling_core_law<C: Calls>()
     ensures stays { (s t : Running C Tables) (way : List CpuCall) → IsSettled firing_at s.cpu → All IsNoFire way
         → t.cpu.size ≡ s.cpu.size
-        → FoldsTo (Steps C.called C.count C.may_refuse fires firing_at (Interrupts C.called C.count C.may_refuse)) s way t
+        → FoldsTo (Steps C.Calls fires firing_at (Interrupts C.Calls)) s way t
         → IsSettled firing_at t.cpu }
     ensures grows { (s t : Running C Tables) (way : List CpuCall)
-        → FoldsTo (Steps C.called C.count C.may_refuse fires firing_at (Interrupts C.called C.count C.may_refuse)) s way t
+        → FoldsTo (Steps C.Calls fires firing_at (Interrupts C.Calls)) s way t
         → s.cpu.size ≤ t.cpu.size }
     ensures at_once { (s t : Running C Tables) (call : CpuCall) → IsSettled firing_at s.cpu
-        → Does C.called C.count C.may_refuse fires firing_at (Interrupts C.called C.count C.may_refuse) s call t → IsPutOff call
+        → Does C.Calls fires firing_at (Interrupts C.Calls) s call t → IsPutOff call
         → ⊥ }
 {}

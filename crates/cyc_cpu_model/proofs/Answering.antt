@@ -4,6 +4,7 @@ use Rattle.std.proofs.Common.{Some, None, refl, ap, sym, ◌∙◌, subst, arith
 use Rattle.std.specs.Prelude.{nat_lt, nat_le, ◌&&◌, Ok, Err}
 use Rattle.std.proofs.lemmas.Bool.Decides.{nat_tests}
 use Rattle.std.proofs.lemmas.List.{length-map}
+use Rattle.cyc_types.specs.declared.Calls.{Ghosts as Calls}
 use Rattle.cyc_types.specs.Levels.{at_level, as_level}
 use Rattle.cyc_types.specs.Limits.{cyclics as most_cyclics}
 use Rattle.cyc_types.specs.Series.{never}
@@ -293,60 +294,57 @@ not_added id level series now online e v w most d =
 
 -- ---- each call
 
-pub answers : {C : Type 0} (called : C → ℕ → Level → C → Type 0) (count_of : C → ℕ → ℕ) (may_refuse : C → ℕ
-    → Type 0) (n : ℕ) (online : Bool)
+pub answers : {C : Type 0} (handler : Calls C) (n : ℕ) (online : Bool)
     (call : CpuCall) (s t : Running C Tables) → IsTied s.cpu → IsInTime call → (IsStopped call → ⊥)
-    → Does called count_of may_refuse fires seen (Interrupts called count_of may_refuse) s call t
+    → Does handler fires seen (Interrupts handler) s call t
     → IsAnswered n call (shown_cpu online s.cpu)
-answers called count_of may_refuse n online (Fire now (Ok r)) s t law in_time goes (early_now, kept, expired, next, makes) =
-    let f = fires_here (at_level called High) count_of n now r.lost online s.cpu t.cpu s.calls t.calls makes kept in
+answers handler n online (Fire now (Ok r)) s t law in_time goes (early_now, kept, expired, next, makes) =
+    let f = fires_here (at_level handler.called High) handler.count n now r.lost online s.cpu t.cpu s.calls t.calls makes kept in
     (expired ∙ ap (λ ts. length (expirations now ts)) (sym (same_timers s.cpu.cyclics)), f.2)
-answers called count_of may_refuse n online (Fire now (Err e)) s t law in_time goes does = absurd (goes tt)
-answers called count_of may_refuse n online (SoftInterrupt level budget (Ok r)) s t law in_time goes (did, kept) =
+answers handler n online (Fire now (Err e)) s t law in_time goes does = absurd (goes tt)
+answers handler n online (SoftInterrupt level budget (Ok r)) s t law in_time goes (did, kept) =
     let (ran, long, serves, left) = did.served in
     let (most, exactly) = did.within in
-    let f = serves_here (at_level called (as_level level)) count_of level n budget r.calls r.idle online s.cpu t.cpu s.calls
+    let f = serves_here (at_level handler.called (as_level level)) handler.count level n budget r.calls r.idle online s.cpu t.cpu
+    s.calls
     t.calls ran long serves left most exactly kept in
     (f.2, f.3)
-answers called count_of may_refuse n online (SoftInterrupt level budget (Err e)) s t law in_time goes does = absurd (goes tt)
-answers called count_of may_refuse n online (Add id level series now (Ok done)) s t law in_time goes
-    ((absent, early_now, adds), calls) =
+answers handler n online (SoftInterrupt level budget (Err e)) s t law in_time goes does = absurd (goes tt)
+answers handler n online (Add id level series now (Ok done)) s t law in_time goes ((absent, early_now, adds), calls) =
     list_of (bad_now now) (why_no_room 1 (shown_cpu online s.cpu))
     ∙ early now (why_no_room 1 (shown_cpu online s.cpu)) (omega (arith, early_now, in_time))
     ∙ why_shown 1 online s.cpu adds.reserved (of_reserved 1 s.cpu adds.reserved adds.reserves)
     ∙ room_none 1 adds.reserved adds.allowed.room
-answers called count_of may_refuse n online (Add id level series now (Err e)) s t law in_time goes (d, calls) =
+answers handler n online (Add id level series now (Err e)) s t law in_time goes (d, calls) =
     not_added id level series now online e s.cpu t.cpu in_time d
-answers called count_of may_refuse n online (Place id level interval moment carried) s t law in_time goes does = tt
-answers called count_of may_refuse n online (Reprogram id moment (Ok done)) s t law in_time goes
-    ((k, x, is, named, still, e), calls) =
+answers handler n online (Place id level interval moment carried) s t law in_time goes does = tt
+answers handler n online (Reprogram id moment (Ok done)) s t law in_time goes ((k, x, is, named, still, e), calls) =
     (has_it id s.cpu.cyclics k x is named, still)
-answers called count_of may_refuse n online (Reprogram id moment (Err e)) s t law in_time goes ((is, inl none, same), calls) =
+answers handler n online (Reprogram id moment (Err e)) s t law in_time goes ((is, inl none, same), calls) =
     (is, inl (has_not id s.cpu.cyclics none))
-answers called count_of may_refuse n online (Reprogram id moment (Err e)) s t law in_time goes ((is, inr removed, same), calls) =
+answers handler n online (Reprogram id moment (Err e)) s t law in_time goes ((is, inr removed, same), calls) =
     (is, inr removed)
-answers called count_of may_refuse n online (AskPending id (Some m)) s t law in_time goes (d, calls) =
+answers handler n online (AskPending id (Some m)) s t law in_time goes (d, calls) =
     (has_it id s.cpu.cyclics d.0.place d.0.cyclic d.0.here d.0.named, asked_outstanding id m online s.cpu t.cpu law d.0)
-answers called count_of may_refuse n online (AskPending id None) s t law in_time goes (d, calls) = has_not id s.cpu.cyclics d.0
-answers called count_of may_refuse n online (AskTotals id (Some totals)) s t law in_time goes
-    ((a, pend, expired, lost, spared), calls) = (
-      shown a.cyclic,
-      found_as id s.cpu.cyclics a.place a.cyclic law.rising a.here a.named,
-      expired,
-      lost,
-      asked_outstanding id totals.pending online s.cpu t.cpu law a,
-    )
-answers called count_of may_refuse n online (AskTotals id None) s t law in_time goes (d, calls) = has_not id s.cpu.cyclics d.0
-answers called count_of may_refuse n online (AskRoom more (Ok done)) s t law in_time goes (d, calls) =
+answers handler n online (AskPending id None) s t law in_time goes (d, calls) = has_not id s.cpu.cyclics d.0
+answers handler n online (AskTotals id (Some totals)) s t law in_time goes ((a, pend, expired, lost, spared), calls) = (
+  shown a.cyclic,
+  found_as id s.cpu.cyclics a.place a.cyclic law.rising a.here a.named,
+  expired,
+  lost,
+  asked_outstanding id totals.pending online s.cpu t.cpu law a,
+)
+answers handler n online (AskTotals id None) s t law in_time goes (d, calls) = has_not id s.cpu.cyclics d.0
+answers handler n online (AskRoom more (Ok done)) s t law in_time goes (d, calls) =
     why_shown more online s.cpu t.cpu (of_looked s.cpu t.cpu d.0) ∙ room_none more t.cpu d.1
-answers called count_of may_refuse n online (AskRoom more (Err e)) s t law in_time goes (d, calls) =
+answers handler n online (AskRoom more (Err e)) s t law in_time goes (d, calls) =
     why_shown more online s.cpu t.cpu (of_looked s.cpu t.cpu d.0) ∙ room_some more e t.cpu d.1
-answers called count_of may_refuse n online (Reserve more (Ok done)) s t law in_time goes (d, calls) =
+answers handler n online (Reserve more (Ok done)) s t law in_time goes (d, calls) =
     why_shown more online s.cpu t.cpu (of_reserved more s.cpu t.cpu d.0) ∙ room_none more t.cpu d.1.room
-answers called count_of may_refuse n online (Reserve more (Err e)) s t law in_time goes (d, calls) =
+answers handler n online (Reserve more (Err e)) s t law in_time goes (d, calls) =
     shown_refused e _ _ (why_shown more online s.cpu t.cpu (of_looked s.cpu t.cpu d.0)) (not_reserved more e s.cpu t.cpu d.1)
-answers called count_of may_refuse n online (Widen more) s t law in_time goes does = tt
-answers called count_of may_refuse n online (BeginRemove id (Ok (Done receipt))) s t law in_time goes
+answers handler n online (Widen more) s t law in_time goes does = tt
+answers handler n online (BeginRemove id (Ok (Done receipt))) s t law in_time goes
     ((still, (x, counts, is, polled, leaves)), calls) = (
       begun _ s.cpu.removal (has_it id s.cpu.cyclics leaves.place x leaves.here leaves.named) still,
       none_outstanding id leaves.place online x s.cpu law leaves.here leaves.named
@@ -354,7 +352,7 @@ answers called count_of may_refuse n online (BeginRemove id (Ok (Done receipt)))
           (ends_at (same_level Low x.timer.level) id counts s.cpu.low t.cpu.low leaves.goes.1),
       receipt_of id leaves.place online receipt x s.cpu law leaves.here leaves.named is,
     )
-answers called count_of may_refuse n online (BeginRemove id (Ok (Kept kept))) s t law in_time goes ((still, opens), calls) =
+answers handler n online (BeginRemove id (Ok (Kept kept))) s t law in_time goes ((still, opens), calls) =
     let x = opens.cyclic in (
       begun _ s.cpu.removal (has_it id s.cpu.cyclics opens.place x opens.here opens.named) still,
       opens.some,
@@ -362,9 +360,9 @@ answers called count_of may_refuse n online (BeginRemove id (Ok (Kept kept))) s 
           (marks (same_level Lock x.timer.level) id kept s.cpu.lock t.cpu.lock opens.goes.0)
           (marks (same_level Low x.timer.level) id kept s.cpu.low t.cpu.low opens.goes.1),
     )
-answers called count_of may_refuse n online (BeginRemove id (Err e)) s t law in_time goes (d, calls) =
+answers handler n online (BeginRemove id (Err e)) s t law in_time goes (d, calls) =
     not_begun id online e s.cpu d.0
-answers called count_of may_refuse n online (PollRemove (Some receipt)) s t law in_time goes (ends, calls) =
+answers handler n online (PollRemove (Some receipt)) s t law in_time goes (ends, calls) =
     let x = ends.cyclic in
     let l = ends.leaves in (
       ends.was_open,
@@ -373,11 +371,10 @@ answers called count_of may_refuse n online (PollRemove (Some receipt)) s t law 
           (clears (same_level Low x.timer.level) receipt.id ends.counts s.cpu.low t.cpu.low l.goes.1),
       receipt_of receipt.id l.place online receipt x s.cpu law l.here l.named ends.counted,
     )
-answers called count_of may_refuse n online (PollRemove None) s t law in_time goes (inl none, calls) = inl none.0
-answers called count_of may_refuse n online (PollRemove None) s t law in_time goes (inr (id, is_open, w), calls) =
+answers handler n online (PollRemove None) s t law in_time goes (inl none, calls) = inl none.0
+answers handler n online (PollRemove None) s t law in_time goes (inr (id, is_open, w), calls) =
     inr (id, is_open, waiting id online s.cpu t.cpu law is_open w)
-answers called count_of may_refuse n online (TakeNow id (Ok got)) s t law in_time goes
-    ((still, (x, counts, is, polled, leaves)), calls) =
+answers handler n online (TakeNow id (Ok got)) s t law in_time goes ((still, (x, counts, is, polled, leaves)), calls) =
     let none = none_outstanding id leaves.place online x s.cpu law leaves.here leaves.named
     (takes (same_level Lock x.timer.level) id counts s.cpu.lock t.cpu.lock leaves.goes.0)
     (takes (same_level Low x.timer.level) id counts s.cpu.low t.cpu.low leaves.goes.1) in (
@@ -385,6 +382,6 @@ answers called count_of may_refuse n online (TakeNow id (Ok got)) s t law in_tim
           (near 0 (outstanding_here id (shown_cpu online s.cpu)) (omega (arith, none))),
       (shown x, found_as id s.cpu.cyclics leaves.place x law.rising leaves.here leaves.named, is.0, is.1, is.2, is.3, is.4),
     )
-answers called count_of may_refuse n online (TakeNow id (Err e)) s t law in_time goes (d, calls) =
+answers handler n online (TakeNow id (Err e)) s t law in_time goes (d, calls) =
     not_taken id online e s.cpu t.cpu law d
-answers called count_of may_refuse n online (AskSettled b) s t law in_time goes does = tt
+answers handler n online (AskSettled b) s t law in_time goes does = tt

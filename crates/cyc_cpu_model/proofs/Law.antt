@@ -1,6 +1,7 @@
 -- Each call is what the definition says.
 use Rattle.std.proofs.Common.{◌≡◌, ℕ, ◌+◌, length, cond, inl, inr, Bool, true, false, Some, None, refl, ap, ◌∙◌, arith}
 use Rattle.std.specs.Prelude.{Ok, Err}
+use Rattle.cyc_types.specs.declared.Calls.{Ghosts as Calls}
 use Rattle.cyc_types.specs.Levels.{at_level}
 use Rattle.cyc_types.specs.declared.level.Level.{Level}
 use Rattle.cyc_types.specs.declared.level.Level.TheVariants.{Low, Lock, High}
@@ -112,12 +113,11 @@ nothing count t u q is = quiet count t u q 0 is refl
 
 -- ---- each call
 
-pub is_here : {C : Type 0} (called : C → ℕ → Level → C → Type 0) (count : C → ℕ → ℕ) (may_refuse : C → ℕ
-    → Type 0) (n : ℕ) (online : Bool)
+pub is_here : {C : Type 0} (handler : Calls C) (n : ℕ) (online : Bool)
     (call : CpuCall) (s t : Running C Tables) → HasRisingIds s.cpu.cyclics → HasRisingIds t.cpu.cyclics → (IsStopped call → ⊥)
-    → Does called count may_refuse fires seen (Interrupts called count may_refuse) s call t → IsHere count n online call s t
-is_here called count may_refuse n online (Fire now (Ok r)) s t rising rises goes (early, kept, expired, next, makes) =
-    let f = fires_here (at_level called High) count n now r.lost online s.cpu t.cpu s.calls t.calls makes kept in
+    → Does handler fires seen (Interrupts handler) s call t → IsHere handler.count n online call s t
+is_here handler n online (Fire now (Ok r)) s t rising rises goes (early, kept, expired, next, makes) =
+    let f = fires_here (at_level handler.called High) handler.count n now r.lost online s.cpu t.cpu s.calls t.calls makes kept in
     record {
       index = 0;
       cpu = f.0;
@@ -125,11 +125,12 @@ is_here called count may_refuse n online (Fire now (Ok r)) s t rising rises goes
           (level_at soft (shown_cpu online s.cpu)) (fire_none n now (shown_cpu online s.cpu));
       called = f.1;
     }
-is_here called count may_refuse n online (Fire now (Err e)) s t rising rises goes does = absurd (goes tt)
-is_here called count may_refuse n online (SoftInterrupt level budget (Ok r)) s t rising rises goes (did, kept) =
+is_here handler n online (Fire now (Err e)) s t rising rises goes does = absurd (goes tt)
+is_here handler n online (SoftInterrupt level budget (Ok r)) s t rising rises goes (did, kept) =
     let (ran, long, serves, left) = did.served in
     let (most, exactly) = did.within in
-    let f = serves_here (at_level called (as_level level)) count level n budget r.calls r.idle online s.cpu t.cpu s.calls
+    let f = serves_here (at_level handler.called (as_level level)) handler.count level n budget r.calls r.idle online s.cpu t.cpu
+    s.calls
     t.calls ran long serves left most exactly kept in
     record {
       index = 0;
@@ -138,162 +139,160 @@ is_here called count may_refuse n online (SoftInterrupt level budget (Ok r)) s t
           (level_at soft (shown_cpu online s.cpu)) (interrupt_none n level budget (shown_cpu online s.cpu));
       called = f.1;
     }
-is_here called count may_refuse n online (SoftInterrupt level budget (Err e)) s t rising rises goes does = absurd (goes tt)
-is_here called count may_refuse n online (Add id level series now (Ok done)) s t rising rises goes
-    ((absent, early, adds), calls) = record {
-      index = adds.enters.index;
-      cpu = added n id now online level series s.cpu t.cpu adds rises;
-      free = λ soft. add_free n id now online level series soft s.cpu t.cpu adds;
-      called = λ q. quiet count s.calls t.calls q _ calls
-          (enter_calls q n adds.enters.index (new_cyclic id level series.start series.interval now) (shown_cpu online s.cpu));
-    }
-is_here called count may_refuse n online (Add id level series now (Err e)) s t rising rises goes (d, calls) = record {
+is_here handler n online (SoftInterrupt level budget (Err e)) s t rising rises goes does = absurd (goes tt)
+is_here handler n online (Add id level series now (Ok done)) s t rising rises goes ((absent, early, adds), calls) = record {
+  index = adds.enters.index;
+  cpu = added n id now online level series s.cpu t.cpu adds rises;
+  free = λ soft. add_free n id now online level series soft s.cpu t.cpu adds;
+  called = λ q. quiet handler.count s.calls t.calls q _ calls
+      (enter_calls q n adds.enters.index (new_cyclic id level series.start series.interval now) (shown_cpu online s.cpu));
+}
+is_here handler n online (Add id level series now (Err e)) s t rising rises goes (d, calls) = record {
   index = 0;
   cpu = not_added online id level series now e s.cpu t.cpu d;
   free = λ soft. tt;
-  called = λ q. nothing count s.calls t.calls q calls;
+  called = λ q. nothing handler.count s.calls t.calls q calls;
 }
-is_here called count may_refuse n online (Place id level interval moment carried) s t rising rises goes ((may, places), calls) =
+is_here handler n online (Place id level interval moment carried) s t rising rises goes ((may, places), calls) =
     record {
       index = places.index;
       cpu = placed n online _ s.cpu t.cpu places rises;
       free = λ soft. place_free n online _ soft s.cpu t.cpu places;
-      called = λ q. quiet count s.calls t.calls q _ calls (own_calls level n q (Admit id places.index));
+      called = λ q. quiet handler.count s.calls t.calls q _ calls (own_calls level n q (Admit id places.index));
     }
-is_here called count may_refuse n online (Reprogram id moment (Ok done)) s t rising rises goes
-    ((k, x, is, named, still, e), calls) = record {
-      index = 0;
-      cpu = reprogrammed n id moment k online x s.cpu t.cpu rising is named e;
-      free = λ soft. tt;
-      called = λ q. nothing count s.calls t.calls q calls;
-    }
-is_here called count may_refuse n online (Reprogram id moment (Err e)) s t rising rises goes (d, calls) = record {
+is_here handler n online (Reprogram id moment (Ok done)) s t rising rises goes ((k, x, is, named, still, e), calls) = record {
+  index = 0;
+  cpu = reprogrammed n id moment k online x s.cpu t.cpu rising is named e;
+  free = λ soft. tt;
+  called = λ q. nothing handler.count s.calls t.calls q calls;
+}
+is_here handler n online (Reprogram id moment (Err e)) s t rising rises goes (d, calls) = record {
   index = 0;
   cpu = same online s.cpu t.cpu d.2;
   free = λ soft. tt;
-  called = λ q. nothing count s.calls t.calls q calls;
+  called = λ q. nothing handler.count s.calls t.calls q calls;
 }
-is_here called count may_refuse n online (AskPending id (Some m)) s t rising rises goes (d, calls) = record {
+is_here handler n online (AskPending id (Some m)) s t rising rises goes (d, calls) = record {
   index = 0;
   cpu = asked online id m s.cpu t.cpu d.0;
   free = λ soft. tt;
-  called = λ q. nothing count s.calls t.calls q calls;
+  called = λ q. nothing handler.count s.calls t.calls q calls;
 }
-is_here called count may_refuse n online (AskPending id None) s t rising rises goes (d, calls) = record {
+is_here handler n online (AskPending id None) s t rising rises goes (d, calls) = record {
   index = 0;
   cpu = same online s.cpu t.cpu d.1;
   free = λ soft. tt;
-  called = λ q. nothing count s.calls t.calls q calls;
+  called = λ q. nothing handler.count s.calls t.calls q calls;
 }
-is_here called count may_refuse n online (AskTotals id (Some totals)) s t rising rises goes (d, calls) = record {
+is_here handler n online (AskTotals id (Some totals)) s t rising rises goes (d, calls) = record {
   index = 0;
   cpu = asked online id totals.pending s.cpu t.cpu d.0;
   free = λ soft. tt;
-  called = λ q. nothing count s.calls t.calls q calls;
+  called = λ q. nothing handler.count s.calls t.calls q calls;
 }
-is_here called count may_refuse n online (AskTotals id None) s t rising rises goes (d, calls) = record {
+is_here handler n online (AskTotals id None) s t rising rises goes (d, calls) = record {
   index = 0;
   cpu = same online s.cpu t.cpu d.1;
   free = λ soft. tt;
-  called = λ q. nothing count s.calls t.calls q calls;
+  called = λ q. nothing handler.count s.calls t.calls q calls;
 }
-is_here called count may_refuse n online (AskRoom more (Ok done)) s t rising rises goes (d, calls) = record {
+is_here handler n online (AskRoom more (Ok done)) s t rising rises goes (d, calls) = record {
   index = 0;
   cpu = shown_looked online s.cpu t.cpu d.0;
   free = λ soft. tt;
-  called = λ q. nothing count s.calls t.calls q calls;
+  called = λ q. nothing handler.count s.calls t.calls q calls;
 }
-is_here called count may_refuse n online (AskRoom more (Err e)) s t rising rises goes (d, calls) = record {
+is_here handler n online (AskRoom more (Err e)) s t rising rises goes (d, calls) = record {
   index = 0;
   cpu = shown_looked online s.cpu t.cpu d.0;
   free = λ soft. tt;
-  called = λ q. nothing count s.calls t.calls q calls;
+  called = λ q. nothing handler.count s.calls t.calls q calls;
 }
-is_here called count may_refuse n online (Reserve more (Ok done)) s t rising rises goes (d, calls) = record {
+is_here handler n online (Reserve more (Ok done)) s t rising rises goes (d, calls) = record {
   index = 0;
   cpu = shown_reserved online more s.cpu t.cpu d.0;
   free = λ soft. tt;
-  called = λ q. nothing count s.calls t.calls q calls;
+  called = λ q. nothing handler.count s.calls t.calls q calls;
 }
-is_here called count may_refuse n online (Reserve more (Err e)) s t rising rises goes (d, calls) = record {
+is_here handler n online (Reserve more (Err e)) s t rising rises goes (d, calls) = record {
   index = 0;
   cpu = shown_looked online s.cpu t.cpu d.0;
   free = λ soft. tt;
-  called = λ q. nothing count s.calls t.calls q calls;
+  called = λ q. nothing handler.count s.calls t.calls q calls;
 }
-is_here called count may_refuse n online (Widen more) s t rising rises goes (d, calls) = record {
+is_here handler n online (Widen more) s t rising rises goes (d, calls) = record {
   index = 0;
   cpu = widened n more online s.cpu t.cpu d.1;
   free = λ soft. none_admitted (widen_here n more (shown_cpu online s.cpu)).acts n soft (level_at soft (shown_cpu online s.cpu))
       (widen_none n more (shown_cpu online s.cpu));
-  called = λ q. quiet count s.calls t.calls q _ calls (widen_calls q n more (shown_cpu online s.cpu));
+  called = λ q. quiet handler.count s.calls t.calls q _ calls (widen_calls q n more (shown_cpu online s.cpu));
 }
-is_here called count may_refuse n online (BeginRemove id (Ok (Done receipt))) s t rising rises goes
+is_here handler n online (BeginRemove id (Ok (Done receipt))) s t rising rises goes
     ((still, (x, counts, receipt_is, polled, leaves)), calls) = record {
       index = 0;
       cpu = ended n id online counts x s.cpu t.cpu rising leaves;
       free = λ soft. none_admitted (then_here (mark_here n id (shown_cpu online s.cpu)) (clear_here n id)).acts n soft
           (level_at soft (shown_cpu online s.cpu)) (remove_none n id (shown_cpu online s.cpu));
-      called = λ q. quiet count s.calls t.calls q _ calls (remove_calls q n id (shown_cpu online s.cpu));
+      called = λ q. quiet handler.count s.calls t.calls q _ calls (remove_calls q n id (shown_cpu online s.cpu));
     }
-is_here called count may_refuse n online (BeginRemove id (Ok (Kept kept))) s t rising rises goes ((still, opens), calls) =
+is_here handler n online (BeginRemove id (Ok (Kept kept))) s t rising rises goes ((still, opens), calls) =
     record {
       index = 0;
       cpu = opened n id kept online s.cpu t.cpu rising opens;
       free = λ soft. none_admitted (mark_here n id (shown_cpu online s.cpu)).acts n soft (level_at soft (shown_cpu online s.cpu))
           (mark_none n id (shown_cpu online s.cpu));
-      called = λ q. quiet count s.calls t.calls q _ calls
+      called = λ q. quiet handler.count s.calls t.calls q _ calls
           (own_calls (handler_level_of id (shown_cpu online s.cpu)) n q (Mark id));
     }
-is_here called count may_refuse n online (BeginRemove id (Err e)) s t rising rises goes (d, calls) = record {
+is_here handler n online (BeginRemove id (Err e)) s t rising rises goes (d, calls) = record {
   index = 0;
   cpu = same online s.cpu t.cpu d.1;
   free = λ soft. tt;
-  called = λ q. nothing count s.calls t.calls q calls;
+  called = λ q. nothing handler.count s.calls t.calls q calls;
 }
-is_here called count may_refuse n online (PollRemove (Some receipt)) s t rising rises goes (ends, calls) = record {
+is_here handler n online (PollRemove (Some receipt)) s t rising rises goes (ends, calls) = record {
   index = 0;
   cpu = cleared n receipt.id online ends.counts ends.cyclic s.cpu t.cpu rising ends.leaves;
   free = λ soft. none_admitted (clear_here n receipt.id (shown_cpu online s.cpu)).acts n soft
       (level_at soft (shown_cpu online s.cpu)) (clear_none n receipt.id (shown_cpu online s.cpu));
-  called = λ q. quiet count s.calls t.calls q _ calls
+  called = λ q. quiet handler.count s.calls t.calls q _ calls
       (own_calls (handler_level_of receipt.id (shown_cpu online s.cpu)) n q (Clear receipt.id));
 }
-is_here called count may_refuse n online (PollRemove None) s t rising rises goes (inl none, calls) = record {
+is_here handler n online (PollRemove None) s t rising rises goes (inl none, calls) = record {
   index = 0;
   cpu = same online s.cpu t.cpu none.1;
   free = λ soft. tt;
-  called = λ q. nothing count s.calls t.calls q calls;
+  called = λ q. nothing handler.count s.calls t.calls q calls;
 }
-is_here called count may_refuse n online (PollRemove None) s t rising rises goes (inr (id, is_open, waits), calls) = record {
+is_here handler n online (PollRemove None) s t rising rises goes (inr (id, is_open, waits), calls) = record {
   index = 0;
   cpu = waited online id s.cpu t.cpu waits;
   free = λ soft. tt;
-  called = λ q. nothing count s.calls t.calls q calls;
+  called = λ q. nothing handler.count s.calls t.calls q calls;
 }
-is_here called count may_refuse n online (TakeNow id (Ok got)) s t rising rises goes
+is_here handler n online (TakeNow id (Ok got)) s t rising rises goes
     ((still, (x, counts, taken_is, polled, leaves)), calls) = record {
       index = 0;
       cpu = taken n id online counts x s.cpu t.cpu rising still leaves;
       free = λ soft. none_admitted (take_here n id (shown_cpu online s.cpu)).acts n soft (level_at soft (shown_cpu online s.cpu))
           (take_none n id (shown_cpu online s.cpu));
-      called = λ q. quiet count s.calls t.calls q _ calls (take_calls q n id (shown_cpu online s.cpu));
+      called = λ q. quiet handler.count s.calls t.calls q _ calls (take_calls q n id (shown_cpu online s.cpu));
     }
-is_here called count may_refuse n online (TakeNow id (Err e)) s t rising rises goes (d, calls) = record {
+is_here handler n online (TakeNow id (Err e)) s t rising rises goes (d, calls) = record {
   index = 0;
   cpu = not_taken online id e s.cpu t.cpu d;
   free = λ soft. tt;
-  called = λ q. nothing count s.calls t.calls q calls;
+  called = λ q. nothing handler.count s.calls t.calls q calls;
 }
-is_here called count may_refuse n online (AskSettled true) s t rising rises goes (d, calls) = record {
+is_here handler n online (AskSettled true) s t rising rises goes (d, calls) = record {
   index = 0;
   cpu = inquired online s.cpu t.cpu d.0;
   free = λ soft. tt;
-  called = λ q. nothing count s.calls t.calls q calls;
+  called = λ q. nothing handler.count s.calls t.calls q calls;
 }
-is_here called count may_refuse n online (AskSettled false) s t rising rises goes (d, calls) = record {
+is_here handler n online (AskSettled false) s t rising rises goes (d, calls) = record {
   index = 0;
   cpu = inquired online s.cpu t.cpu d.0;
   free = λ soft. tt;
-  called = λ q. nothing count s.calls t.calls q calls;
+  called = λ q. nothing handler.count s.calls t.calls q calls;
 }

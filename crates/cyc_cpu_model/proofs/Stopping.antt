@@ -3,10 +3,10 @@ use Rattle.std.proofs.Common.{◌≡◌, ℕ, Bool, true, false, List, [], ◌�
 use Rattle.std.proofs.Common.{sym, ◌∙◌, subst}
 use Rattle.std.specs.Prelude.{⊤, ◌==◌, Ok, Err}
 use Rattle.std.specs.List.{FoldsTo}
+use Rattle.cyc_types.specs.declared.Calls.{Ghosts as Calls}
 use Rattle.cyc_types.specs.Draining.{DrainCall, Takes, Finishes, hand_after}
 use Rattle.cyc_types.specs.Runs.{DrainGoes}
 use Rattle.cyc_types.specs.Levels.{at_level}
-use Rattle.cyc_types.specs.declared.level.Level.{Level}
 use Rattle.cyc_types.specs.declared.level.Level.TheVariants.{High}
 use Rattle.cyc_types.specs.declared.level.Soft.{Soft}
 use Rattle.cyc_types.specs.declared.level.Soft.TheVariants.{Low, Lock}
@@ -40,9 +40,9 @@ first_here : (made rest : List Expiration) (cs : List Cyclic) → AllHere (made 
 first_here [] rest cs all = tt
 first_here (p ∷ made) rest cs all = (all.0, first_here made rest cs all.1)
 
-module _ {C : Type 0} (called : C → ℕ → Level → C → Type 0) (count : C → ℕ → ℕ) (may_refuse : C → ℕ → Type 0) where
+module _ {C : Type 0} (handler : Calls C) where
   fire_stopped : (now : ℕ) (e : FireRefused) (s t : Running C Tables)
-      → Does called count may_refuse fires seen (Interrupts called count may_refuse) s (Fire now (Err e)) t → IsTied s.cpu
+      → Does handler fires seen (Interrupts handler) s (Fire now (Err e)) t → IsTied s.cpu
       → IsTied t.cpu
   fire_stopped now e s t (inl (late, why, same)) h = subst (λ (x : Running C Tables). IsTied x.cpu) (sym same) h
   fire_stopped now e s t (inr (early, kept_cpu, stopped)) h = record {
@@ -50,7 +50,8 @@ module _ {C : Type 0} (called : C → ℕ → Level → C → Type 0) (count : C
     own = λ online.
         let here = first_here stopped.made (stopped.last ∷ stopped.rest) (map shown s.cpu.cyclics)
         (subst (λ ps. AllHere ps (map shown s.cpu.cyclics)) stopped.listed (due_are_here now s.cpu.cyclics)) in
-        let is = fires_these (at_level called High) count 0 now e.lost online stopped.made s.cpu t.cpu s.calls stopped.at here
+        let is = fires_these (at_level handler.called High) handler.count 0 now e.lost online stopped.made s.cpu t.cpu s.calls
+        stopped.at here
         stopped.makes kept_cpu in
         subst HasOwn (sym is.0) (these_ties 0 now stopped.made (shown_cpu online s.cpu) (h.own online));
   }
@@ -95,9 +96,9 @@ fewer Low Lock online v w q kept_it less is = subst (λ (x : Tables). Has q (lev
 fewer Lock Low online v w q kept_it less is = subst (λ (x : Tables). Has q (level_of x)) kept_it.beside is
 fewer Lock Lock online v w q kept_it less is = less is
 
-module _ {C : Type 0} (called : C → ℕ → Level → C → Type 0) (count : C → ℕ → ℕ) (may_refuse : C → ℕ → Type 0) where
+module _ {C : Type 0} (handler : Calls C) where
   soft_stopped : (level : Soft) (budget : ℕ) (e : SoftRefused) (s t : Running C Tables)
-      → Does called count may_refuse fires seen (Interrupts called count may_refuse) s (SoftInterrupt level budget (Err e)) t
+      → Does handler fires seen (Interrupts handler) s (SoftInterrupt level budget (Err e)) t
       → IsTied s.cpu → IsTied t.cpu
   soft_stopped level budget e s t (did, kept_it) h =
       let (ran, at, long, less, serves, may, counted, held) = did.refused in
@@ -112,7 +113,7 @@ module _ {C : Type 0} (called : C → ℕ → Level → C → Type 0) (count : C
 
   -- every call does
   pub tied_always : (call : CpuCall) (s t : Running C Tables)
-      → Does called count may_refuse fires seen (Interrupts called count may_refuse) s call t → IsTied s.cpu → IsTied t.cpu
-  tied_always (Fire now (Err e)) s t did h = fire_stopped called count may_refuse now e s t did h
+      → Does handler fires seen (Interrupts handler) s call t → IsTied s.cpu → IsTied t.cpu
+  tied_always (Fire now (Err e)) s t did h = fire_stopped handler now e s t did h
   tied_always (SoftInterrupt level budget (Err e)) s t did h = soft_stopped level budget e s t did h
-  tied_always call s t did h = tied called count may_refuse call s t (λ stopped. absurd stopped) did h
+  tied_always call s t did h = tied handler call s t (λ stopped. absurd stopped) did h

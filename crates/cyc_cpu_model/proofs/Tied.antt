@@ -2,6 +2,7 @@
 use Rattle.std.proofs.Common.{◌≡◌, ◌≢◌, ℕ, suc, List, [], ◌∷◌, cond, map, find, Bool, true, false, Option, Some, None, IsSome}
 use Rattle.std.proofs.Common.{inl, inr, refl, ap, sym, ◌∙◌, subst, arith}
 use Rattle.std.specs.Prelude.{Ok, Err, slice_set}
+use Rattle.cyc_types.specs.declared.Calls.{Ghosts as Calls}
 use Rattle.cyc_types.specs.Series.{never}
 use Rattle.cyc_types.specs.declared.level.Level.{Level}
 use Rattle.cyc_types.specs.declared.moment.When.{When}
@@ -59,51 +60,49 @@ not_taken id (Busy removed) v w d rising = same_cpu v w d.2 rising
 not_taken id Pending v w (still, some, n, more, asks) rising = same_cyclics v w asks.cyclics rising
 not_taken id e v w d rising = absurd d
 
-pub rises : {C : Type 0} (called : C → ℕ → Level → C → Type 0) (count : C → ℕ → ℕ) (may_refuse : C → ℕ
-    → Type 0) (call : CpuCall) (s t : Running C Tables)
-    → (IsStopped call → ⊥) → Does called count may_refuse fires seen (Interrupts called count may_refuse) s call t
+pub rises : {C : Type 0} (handler : Calls C) (call : CpuCall) (s t : Running C Tables)
+    → (IsStopped call → ⊥) → Does handler fires seen (Interrupts handler) s call t
     → HasRisingIds s.cpu.cyclics → HasRisingIds t.cpu.cyclics
-rises called count may_refuse (Fire now (Ok r)) s t goes (early, kept, expired, next, makes) rising =
+rises handler (Fire now (Ok r)) s t goes (early, kept, expired, next, makes) rising =
     rises_fired now (expirations now (timed s.cpu.cyclics)) s.cpu.cyclics t.cpu.cyclics makes.timers_are rising
-rises called count may_refuse (Fire now (Err e)) s t goes does rising = absurd (goes tt)
-rises called count may_refuse (SoftInterrupt level budget (Ok r)) s t goes (did, kept) rising =
+rises handler (Fire now (Err e)) s t goes does rising = absurd (goes tt)
+rises handler (SoftInterrupt level budget (Ok r)) s t goes (did, kept) rising =
     same_cyclics s.cpu t.cpu kept.cyclics rising
-rises called count may_refuse (SoftInterrupt level budget (Err e)) s t goes does rising = absurd (goes tt)
-rises called count may_refuse (Add id level series now (Ok done)) s t goes ((absent, early, adds), calls) rising =
+rises handler (SoftInterrupt level budget (Err e)) s t goes does rising = absurd (goes tt)
+rises handler (Add id level series now (Ok done)) s t goes ((absent, early, adds), calls) rising =
     adds.enters.rising
-rises called count may_refuse (Add id level series now (Err e)) s t goes (d, calls) rising =
+rises handler (Add id level series now (Err e)) s t goes (d, calls) rising =
     not_added id level series now e s.cpu t.cpu d rising
-rises called count may_refuse (Place id level interval moment carried) s t goes ((may, places), calls) rising = places.rising
-rises called count may_refuse (Reprogram id moment (Ok done)) s t goes ((k, x, is, named, still, e), calls) rising =
+rises handler (Place id level interval moment carried) s t goes ((may, places), calls) rising = places.rising
+rises handler (Reprogram id moment (Ok done)) s t goes ((k, x, is, named, still, e), calls) rising =
     same_cyclics (record s.cpu { cyclics = slice_set s.cpu.cyclics k (with_moment moment x) }) t.cpu
     (ap (λ (v : CpuView Tables). v.cyclics) e) (rises_moved s.cpu.cyclics k moment x is rising)
-rises called count may_refuse (Reprogram id moment (Err e)) s t goes (d, calls) rising = same_cpu s.cpu t.cpu d.2 rising
-rises called count may_refuse (AskPending id (Some m)) s t goes (d, calls) rising = same_cyclics s.cpu t.cpu d.0.cyclics rising
-rises called count may_refuse (AskPending id None) s t goes (d, calls) rising = same_cpu s.cpu t.cpu d.1 rising
-rises called count may_refuse (AskTotals id (Some totals)) s t goes (d, calls) rising =
+rises handler (Reprogram id moment (Err e)) s t goes (d, calls) rising = same_cpu s.cpu t.cpu d.2 rising
+rises handler (AskPending id (Some m)) s t goes (d, calls) rising = same_cyclics s.cpu t.cpu d.0.cyclics rising
+rises handler (AskPending id None) s t goes (d, calls) rising = same_cpu s.cpu t.cpu d.1 rising
+rises handler (AskTotals id (Some totals)) s t goes (d, calls) rising =
     same_cyclics s.cpu t.cpu d.0.cyclics rising
-rises called count may_refuse (AskTotals id None) s t goes (d, calls) rising = same_cpu s.cpu t.cpu d.1 rising
-rises called count may_refuse (AskRoom more (Ok done)) s t goes (d, calls) rising = same_cyclics s.cpu t.cpu d.0.cyclics rising
-rises called count may_refuse (AskRoom more (Err e)) s t goes (d, calls) rising = same_cyclics s.cpu t.cpu d.0.cyclics rising
-rises called count may_refuse (Reserve more (Ok done)) s t goes (d, calls) rising = same_cyclics s.cpu t.cpu d.0.cyclics rising
-rises called count may_refuse (Reserve more (Err e)) s t goes (d, calls) rising = same_cyclics s.cpu t.cpu d.0.cyclics rising
-rises called count may_refuse (Widen more) s t goes (d, calls) rising = same_cyclics s.cpu t.cpu d.1.cyclics rising
-rises called count may_refuse (BeginRemove id (Ok (Done receipt))) s t goes
-    ((still, (x, counts, is, polled, leaves)), calls) rising =
+rises handler (AskTotals id None) s t goes (d, calls) rising = same_cpu s.cpu t.cpu d.1 rising
+rises handler (AskRoom more (Ok done)) s t goes (d, calls) rising = same_cyclics s.cpu t.cpu d.0.cyclics rising
+rises handler (AskRoom more (Err e)) s t goes (d, calls) rising = same_cyclics s.cpu t.cpu d.0.cyclics rising
+rises handler (Reserve more (Ok done)) s t goes (d, calls) rising = same_cyclics s.cpu t.cpu d.0.cyclics rising
+rises handler (Reserve more (Err e)) s t goes (d, calls) rising = same_cyclics s.cpu t.cpu d.0.cyclics rising
+rises handler (Widen more) s t goes (d, calls) rising = same_cyclics s.cpu t.cpu d.1.cyclics rising
+rises handler (BeginRemove id (Ok (Done receipt))) s t goes ((still, (x, counts, is, polled, leaves)), calls) rising =
     subst HasRisingIds (sym leaves.cyclics) (rises_left s.cpu.cyclics leaves.place rising)
-rises called count may_refuse (BeginRemove id (Ok (Kept kept))) s t goes ((still, opens), calls) rising =
+rises handler (BeginRemove id (Ok (Kept kept))) s t goes ((still, opens), calls) rising =
     subst HasRisingIds (sym opens.cyclics) (rises_moved s.cpu.cyclics opens.place never opens.cyclic opens.here rising)
-rises called count may_refuse (BeginRemove id (Err e)) s t goes (d, calls) rising = same_cpu s.cpu t.cpu d.1 rising
-rises called count may_refuse (PollRemove (Some receipt)) s t goes (ends, calls) rising =
+rises handler (BeginRemove id (Err e)) s t goes (d, calls) rising = same_cpu s.cpu t.cpu d.1 rising
+rises handler (PollRemove (Some receipt)) s t goes (ends, calls) rising =
     subst HasRisingIds (sym ends.leaves.cyclics) (rises_left s.cpu.cyclics ends.leaves.place rising)
-rises called count may_refuse (PollRemove None) s t goes (inl none, calls) rising = same_cpu s.cpu t.cpu none.1 rising
-rises called count may_refuse (PollRemove None) s t goes (inr (id, is_open, waits), calls) rising =
+rises handler (PollRemove None) s t goes (inl none, calls) rising = same_cpu s.cpu t.cpu none.1 rising
+rises handler (PollRemove None) s t goes (inr (id, is_open, waits), calls) rising =
     same_cyclics s.cpu t.cpu waits.cyclics rising
-rises called count may_refuse (TakeNow id (Ok got)) s t goes ((still, (x, counts, is, polled, leaves)), calls) rising =
+rises handler (TakeNow id (Ok got)) s t goes ((still, (x, counts, is, polled, leaves)), calls) rising =
     subst HasRisingIds (sym leaves.cyclics) (rises_left s.cpu.cyclics leaves.place rising)
-rises called count may_refuse (TakeNow id (Err e)) s t goes (d, calls) rising = not_taken id e s.cpu t.cpu d rising
-rises called count may_refuse (AskSettled true) s t goes (d, calls) rising = same_cyclics s.cpu t.cpu d.0.cyclics rising
-rises called count may_refuse (AskSettled false) s t goes (d, calls) rising = same_cyclics s.cpu t.cpu d.0.cyclics rising
+rises handler (TakeNow id (Err e)) s t goes (d, calls) rising = not_taken id e s.cpu t.cpu d rising
+rises handler (AskSettled true) s t goes (d, calls) rising = same_cyclics s.cpu t.cpu d.0.cyclics rising
+rises handler (AskSettled false) s t goes (d, calls) rising = same_cyclics s.cpu t.cpu d.0.cyclics rising
 
 -- ---- the levels know their own
 
@@ -113,60 +112,58 @@ none_found id (c ∷ cs) none =
     ap (λ b. cond b (Some (shown c)) (find (is_of id) (map shown cs))) (not_named id c (none 0 c (omega arith)))
     ∙ none_found id cs (λ k d low. none (suc k) d (omega (arith, low)))
 
-pub owns : {C : Type 0} (called : C → ℕ → Level → C → Type 0) (count : C → ℕ → ℕ) (may_refuse : C → ℕ
-    → Type 0) (n index : ℕ) (online : Bool) (call : CpuCall) (s t : Running C Tables)
+pub owns : {C : Type 0} (handler : Calls C) (n index : ℕ) (online : Bool) (call : CpuCall) (s t : Running C Tables)
     → HasRisingIds s.cpu.cyclics → (IsStopped call → ⊥)
-    → Does called count may_refuse fires seen (Interrupts called count may_refuse) s call t
+    → Does handler fires seen (Interrupts handler) s call t
     → HasOwn (shown_cpu online s.cpu) → HasOwn (here_of n index call (shown_cpu online s.cpu)).cpu
-owns called count may_refuse n index online (Fire now (Ok r)) s t rising goes does h = fire_ties n now (shown_cpu online s.cpu) h
-owns called count may_refuse n index online (Fire now (Err e)) s t rising goes does h = absurd (goes tt)
-owns called count may_refuse n index online (SoftInterrupt level budget (Ok r)) s t rising goes does h =
+owns handler n index online (Fire now (Ok r)) s t rising goes does h = fire_ties n now (shown_cpu online s.cpu) h
+owns handler n index online (Fire now (Err e)) s t rising goes does h = absurd (goes tt)
+owns handler n index online (SoftInterrupt level budget (Ok r)) s t rising goes does h =
     serve_ties n level budget (shown_cpu online s.cpu) h
-owns called count may_refuse n index online (SoftInterrupt level budget (Err e)) s t rising goes does h = absurd (goes tt)
-owns called count may_refuse n index online (Add id level series now (Ok done)) s t rising goes ((absent, early, adds), calls) h =
+owns handler n index online (SoftInterrupt level budget (Err e)) s t rising goes does h = absurd (goes tt)
+owns handler n index online (Add id level series now (Ok done)) s t rising goes ((absent, early, adds), calls) h =
     let c = shown_cpu online s.cpu in
     place_ties n index (new_cyclic id level series.start series.interval now) (widen_here n 1 c).cpu
     (ap (find (is_of id)) (widen_keep n 1 c).0 ∙ none_found id s.cpu.cyclics absent) (widen_ties n 1 c h)
-owns called count may_refuse n index online (Add id level series now (Err e)) s t rising goes d h = h
-owns called count may_refuse n index online (Place id level interval moment carried) s t rising goes ((may, places), calls) h =
+owns handler n index online (Add id level series now (Err e)) s t rising goes d h = h
+owns handler n index online (Place id level interval moment carried) s t rising goes ((may, places), calls) h =
     place_ties n index _ (shown_cpu online s.cpu) (none_found id s.cpu.cyclics may.absent) h
-owns called count may_refuse n index online (Reprogram id moment (Ok done)) s t rising goes d h =
+owns handler n index online (Reprogram id moment (Ok done)) s t rising goes d h =
     reprogram_ties id moment (shown_cpu online s.cpu) h
-owns called count may_refuse n index online (Reprogram id moment (Err e)) s t rising goes d h = h
-owns called count may_refuse n index online (AskPending id (Some m)) s t rising goes d h = h
-owns called count may_refuse n index online (AskPending id None) s t rising goes d h = h
-owns called count may_refuse n index online (AskTotals id (Some totals)) s t rising goes d h = h
-owns called count may_refuse n index online (AskTotals id None) s t rising goes d h = h
-owns called count may_refuse n index online (AskRoom more (Ok done)) s t rising goes d h = h
-owns called count may_refuse n index online (AskRoom more (Err e)) s t rising goes d h = h
-owns called count may_refuse n index online (Reserve more (Ok done)) s t rising goes d h = h
-owns called count may_refuse n index online (Reserve more (Err e)) s t rising goes d h = h
-owns called count may_refuse n index online (Widen more) s t rising goes d h = widen_ties n more (shown_cpu online s.cpu) h
-owns called count may_refuse n index online (BeginRemove id (Ok (Done receipt))) s t rising goes d h =
+owns handler n index online (Reprogram id moment (Err e)) s t rising goes d h = h
+owns handler n index online (AskPending id (Some m)) s t rising goes d h = h
+owns handler n index online (AskPending id None) s t rising goes d h = h
+owns handler n index online (AskTotals id (Some totals)) s t rising goes d h = h
+owns handler n index online (AskTotals id None) s t rising goes d h = h
+owns handler n index online (AskRoom more (Ok done)) s t rising goes d h = h
+owns handler n index online (AskRoom more (Err e)) s t rising goes d h = h
+owns handler n index online (Reserve more (Ok done)) s t rising goes d h = h
+owns handler n index online (Reserve more (Err e)) s t rising goes d h = h
+owns handler n index online (Widen more) s t rising goes d h = widen_ties n more (shown_cpu online s.cpu) h
+owns handler n index online (BeginRemove id (Ok (Done receipt))) s t rising goes d h =
     clear_ties n id (mark_here n id (shown_cpu online s.cpu)).cpu (mark_known n id (shown_cpu online s.cpu) h.known)
-owns called count may_refuse n index online (BeginRemove id (Ok (Kept kept))) s t rising goes ((still, opens), calls) h =
+owns handler n index online (BeginRemove id (Ok (Kept kept))) s t rising goes ((still, opens), calls) h =
     mark_ties n id (shown_cpu online s.cpu)
     (λ high. opens.soft (sym (level_found online opens.place id opens.cyclic s.cpu rising opens.here opens.named) ∙ high)) h.known
-owns called count may_refuse n index online (BeginRemove id (Err e)) s t rising goes d h = h
-owns called count may_refuse n index online (PollRemove (Some receipt)) s t rising goes d h =
+owns handler n index online (BeginRemove id (Err e)) s t rising goes d h = h
+owns handler n index online (PollRemove (Some receipt)) s t rising goes d h =
     clear_ties n receipt.id (shown_cpu online s.cpu) h.known
-owns called count may_refuse n index online (PollRemove None) s t rising goes d h = h
-owns called count may_refuse n index online (TakeNow id (Ok got)) s t rising goes ((still, takes), calls) h =
+owns handler n index online (PollRemove None) s t rising goes d h = h
+owns handler n index online (TakeNow id (Ok got)) s t rising goes ((still, takes), calls) h =
     take_ties n id (shown_cpu online s.cpu) still h.known
-owns called count may_refuse n index online (TakeNow id (Err e)) s t rising goes d h = h
-owns called count may_refuse n index online (AskSettled b) s t rising goes d h = h
+owns handler n index online (TakeNow id (Err e)) s t rising goes d h = h
+owns handler n index online (AskSettled b) s t rising goes d h = h
 
-pub tied : {C : Type 0} (called : C → ℕ → Level → C → Type 0) (count : C → ℕ → ℕ) (may_refuse : C → ℕ
-    → Type 0) (call : CpuCall) (s t : Running C Tables)
-    → (IsStopped call → ⊥) → Does called count may_refuse fires seen (Interrupts called count may_refuse) s call t
+pub tied : {C : Type 0} (handler : Calls C) (call : CpuCall) (s t : Running C Tables)
+    → (IsStopped call → ⊥) → Does handler fires seen (Interrupts handler) s call t
     → IsTied s.cpu → IsTied t.cpu
-tied called count may_refuse call s t goes does h =
-    let rising = rises called count may_refuse call s t goes does h.rising in
+tied handler call s t goes does h =
+    let rising = rises handler call s t goes does h.rising in
     record {
       rising = rising;
       own = λ online.
-          let is = is_here called count may_refuse 0 online call s t h.rising rising goes does in
-          subst HasOwn (sym is.cpu) (owns called count may_refuse 0 is.index online call s t h.rising goes does (h.own online));
+          let is = is_here handler 0 online call s t h.rising rising goes does in
+          subst HasOwn (sym is.cpu) (owns handler 0 is.index online call s t h.rising goes does (h.own online));
     }
 
 -- ---- a lawful CPU

@@ -21,8 +21,7 @@ use cyc_types::Calls;
 /// It does nothing when it runs: its clause is the law.
 pub fn here_law<C: Calls>()
     ensures { (n : ℕ) (online : Bool) (call : CpuCall) (s t : Running C Tables) → IsTied s.cpu
-        → (IsStopped call → ⊥) → Does C.called C.count C.may_refuse fires firing_at
-        (Interrupts C.called C.count C.may_refuse) s call t
+        → (IsStopped call → ⊥) → Does C.Calls fires firing_at (Interrupts C.Calls) s call t
         → IsHere C.count n online call s t }
 {}
 
@@ -31,8 +30,7 @@ pub fn here_law<C: Calls>()
 /// It does nothing when it runs: its clause is the law.
 pub fn answers_law<C: Calls>()
     ensures { (n : ℕ) (online : Bool) (call : CpuCall) (s t : Running C Tables) → IsTied s.cpu → IsInTime call
-        → (IsStopped call → ⊥) → Does C.called C.count C.may_refuse fires firing_at
-        (Interrupts C.called C.count C.may_refuse) s call t
+        → (IsStopped call → ⊥) → Does C.Calls fires firing_at (Interrupts C.Calls) s call t
         → IsAnswered n call (shown_cpu online s.cpu) }
 {}
 
@@ -43,6 +41,6 @@ pub fn answers_law<C: Calls>()
 pub fn tied_law<C: Calls>()
     ensures lawful { (v : CpuView Tables) → IsLawful firing_at v → IsTied v }
     ensures kept { (call : CpuCall) (s t : Running C Tables)
-        → Does C.called C.count C.may_refuse fires firing_at (Interrupts C.called C.count C.may_refuse) s call t → IsTied s.cpu
+        → Does C.Calls fires firing_at (Interrupts C.Calls) s call t → IsTied s.cpu
         → IsTied t.cpu }
 {}

@@ -2,8 +2,8 @@
 use Rattle.std.specs.Prelude.{◌≡◌, ℕ, ◌+◌, Bool, true, false, List, [], ◌∷◌, map, length, replicate, slice_set, Some, None}
 use Rattle.std.specs.Prelude.{Result}
 use Rattle.std.specs.List.{slice_get, FoldsTo}
+use Rattle.cyc_types.specs.declared.Calls.{Ghosts as Calls}
 use Rattle.cyc_types.specs.Firing.{FiringView, FiringCall}
-use Rattle.cyc_types.specs.declared.level.Level.{Level}
 use Rattle.cyc_types.specs.declared.level.Soft.{Soft}
 use Rattle.cyc_cpu.specs.Ran.{Ran}
 use Rattle.cyc_cpu.specs.SoftRefused.{SoftRefused}
@@ -74,11 +74,11 @@ abbrev pub running_cpus : {C R : Type 0} → C → CpusView R → RunningCpus C 
 running_cpus calls v = record { cpus = v; calls = calls }
 
 -- the call was made on its CPU, which reached the handlers that it did
-abbrev pub RunsAt : {C R : Type 0} → (C → ℕ → Level → C → Type 0) → (C → ℕ → ℕ) → (C → ℕ → Type 0)
+abbrev pub RunsAt : {C R : Type 0} → Calls C
     → (R → FiringCall → R → Type 0) → (R → FiringView) → (Soft → ℕ → Result Ran SoftRefused → Running C R → Running C R → Type 0)
     → RunningCpus C R → CallOn → RunningCpus C R → Type 0
-RunsAt called count may_refuse step view interrupts s c t = ChangesAt c.cpu
-    (λ x y. Does called count may_refuse step view interrupts (running s.calls x) c.call (running t.calls y)) s.cpus t.cpus
+RunsAt handler step view interrupts s c t = ChangesAt c.cpu
+    (λ x y. Does handler step view interrupts (running s.calls x) c.call (running t.calls y)) s.cpus t.cpus
 
 -- a CPU with no cyclic and of size 1, over the ends of its lock and its low level
 abbrev pub new_cpu : {R : Type 0} → ℕ → R → R → CpuView R

@@ -4,6 +4,7 @@ use Rattle.std.specs.List.{FoldsTo}
 use Rattle.std.specs.Option.{option_map}
 use mathlib.Core.Logic.{dite}
 use native.Mathlib.Decide.{ℕ_discrete}
+use Rattle.cyc_types.specs.declared.Calls.{Ghosts as Calls}
 use Rattle.cyc_types.specs.declared.level.Level.{Level}
 use Rattle.cyc_level.specs.Level.{AdmittedCyclic, count_in}
 use Rattle.cyc_level.specs.Lawful.{Lawful, one_if_any}
@@ -39,14 +40,14 @@ unused_gone id v law lock low none = record {
   low = unused_end id _ v.low v law.low low none;
 }
 
-module _ {C : Type 0} (called : C → ℕ → Level → C → Type 0) (count : C → ℕ → ℕ) (may_refuse : C → ℕ → Type 0) (id : ℕ) where
+module _ {C : Type 0} (handler : Calls C) (id : ℕ) where
   abbrev Runs : RunningCpus C Tables → CallOn → RunningCpus C Tables → Type 0
-  Runs = RunsAt called count may_refuse fires firing_at (Interrupts called count may_refuse)
+  Runs = RunsAt handler fires firing_at (Interrupts handler)
 
   pub one_away : (s t : RunningCpus C Tables) (c : CallOn) → IsNowhere id s.cpus → PutsNot id c.call → Runs s c t →
-      StaysNowhere count id s t
+      StaysNowhere handler.count id s t
   one_away s t c away puts d =
-      let (gone, same) = stays_gone called count may_refuse id (record { cpu = d.before; calls = s.calls })
+      let (gone, same) = stays_gone handler id (record { cpu = d.before; calls = s.calls })
       (record { cpu = d.after; calls = t.calls }) c.call (away c.cpu d.before d.here) puts d.change in (
         (λ n x at. let there = subst (λ u. IsCpu n x u) d.rest at in dite (ℕ_discrete n c.cpu)
             (λ e. subst (λ y. IsGone id y)
@@ -57,10 +58,10 @@ module _ {C : Type 0} (called : C → ℕ → Level → C → Type 0) (count : C
       )
 
   pub run_away : (s t : RunningCpus C Tables) (way : List CallOn) → IsNowhere id s.cpus → All (λ c. PutsNot id c.call) way →
-      FoldsTo Runs s way t → StaysNowhere count id s t
+      FoldsTo Runs s way t → StaysNowhere handler.count id s t
   run_away s t [] away puts run = (
     subst (λ (u : RunningCpus C Tables). IsNowhere id u.cpus) run away,
-    ap (λ (u : RunningCpus C Tables). count u.calls id) (sym run),
+    ap (λ (u : RunningCpus C Tables). handler.count u.calls id) (sym run),
   )
   run_away s t (c ∷ way) away puts (m, d, rest) =
       let (still, same) = one_away s m c away (puts 0 c (omega arith)) d in

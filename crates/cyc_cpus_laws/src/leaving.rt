@@ -21,10 +21,10 @@ pub fn absence_core_law<C: Calls>()
     ensures unused { (id : ℕ) (v : CpuView Tables) → IsLawful firing_at v → Lawful (level_of v.lock) → Lawful (level_of v.low)
         → HasNoCyclic id v.cyclics → IsGone id v }
     ensures one { (id : ℕ) (s t : RunningCpus C Tables) (c : CallOn) → IsNowhere id s.cpus → PutsNot id c.call
-        → RunsAt C.called C.count C.may_refuse fires firing_at (Interrupts C.called C.count C.may_refuse) s c t
+        → RunsAt C.Calls fires firing_at (Interrupts C.Calls) s c t
         → StaysNowhere C.count id s t }
     ensures run { (id : ℕ) (s t : RunningCpus C Tables) (way : List CallOn) → IsNowhere id s.cpus
         → All (λ c. PutsNot id c.call) way
-        → FoldsTo (RunsAt C.called C.count C.may_refuse fires firing_at (Interrupts C.called C.count C.may_refuse)) s way t
+        → FoldsTo (RunsAt C.Calls fires firing_at (Interrupts C.Calls)) s way t
         → StaysNowhere C.count id s t }
 {}

@@ -32,12 +32,11 @@ pub fn calls_law<R: Raise>()
 pub fn runs_law<C: Calls, R: Raise>()
     // Calls that reach no handler leave them as they are.
     ensures quiet { (calls : C) (way : List CallOn) (v w : CpusView R) → Works R.step R.view way v w
-        → FoldsTo (RunsAt C.called C.count C.may_refuse R.step R.view no_interrupts) (running_cpus calls v) way
-        (running_cpus calls w) }
+        → FoldsTo (RunsAt C.Calls R.step R.view no_interrupts) (running_cpus calls v) way (running_cpus calls w) }
     ensures each { (n : ℕ) (x : CpuView R) (way : List CallOn) (s t : RunningCpus C R)
-        → FoldsTo (RunsAt C.called C.count C.may_refuse R.step R.view no_interrupts) s way t → IsCpu n x s.cpus
+        → FoldsTo (RunsAt C.Calls R.step R.view no_interrupts) s way t → IsCpu n x s.cpus
         → (y : CpuView R) × IsCpu n y t.cpus
-        × FoldsTo (DoesWithSome C.called C.count C.may_refuse R.step R.view no_interrupts) x (calls_on n way) y }
+        × FoldsTo (DoesWithSome C.Calls R.step R.view no_interrupts) x (calls_on n way) y }
 {}
 
 /// The same of CPUs whose levels no other thread uses, where soft interrupts are among the calls.
@@ -45,12 +44,10 @@ pub fn runs_law<C: Calls, R: Raise>()
 /// It does nothing when it runs: its clauses are the law.
 pub fn runs_core_law<C: Calls>()
     ensures quiet { (calls : C) (way : List CallOn) (v w : CpusView Tables) → Works fires firing_at way v w
-        → FoldsTo (RunsAt C.called C.count C.may_refuse fires firing_at (Interrupts C.called C.count C.may_refuse))
-        (running_cpus calls v) way (running_cpus calls w) }
+        → FoldsTo (RunsAt C.Calls fires firing_at (Interrupts C.Calls)) (running_cpus calls v) way (running_cpus calls w) }
     ensures each { (n : ℕ) (x : CpuView Tables) (way : List CallOn) (s t : RunningCpus C Tables)
-        → FoldsTo (RunsAt C.called C.count C.may_refuse fires firing_at (Interrupts C.called C.count C.may_refuse)) s way t
+        → FoldsTo (RunsAt C.Calls fires firing_at (Interrupts C.Calls)) s way t
         → IsCpu n x s.cpus
         → (y : CpuView Tables) × IsCpu n y t.cpus
-        × FoldsTo (DoesWithSome C.called C.count C.may_refuse fires firing_at (Interrupts C.called C.count C.may_refuse)) x
-        (calls_on n way) y }
+        × FoldsTo (DoesWithSome C.Calls fires firing_at (Interrupts C.Calls)) x (calls_on n way) y }
 {}

@@ -7,6 +7,7 @@ use Rattle.std.specs.List.{FoldsTo}
 use Rattle.cyc_types.specs.Counting.{times}
 use Rattle.cyc_types.specs.Series.{late}
 use Rattle.cyc_types.specs.Tally.{TallyView, tally_count, tally_counted, TallyRefuses}
+use Rattle.cyc_types.specs.contracts.tally.TallyCalls.TheImpl.{ghosts as tally_calls}
 use Rattle.cyc_types.specs.declared.level.Level.{Level}
 use Rattle.cyc_types.specs.declared.level.Level.TheVariants.{High}
 use Rattle.cyc_types.specs.declared.refusal.Refusal.{Refusal}
@@ -124,7 +125,7 @@ never_stops last most bound at t (HandlerRefused id) low greatest less few w cou
 never_stops last most bound at t _ low greatest less few w counts s = absurd s
 
 pub never_stopped : (now last most : ℕ) (v w : CpuView Tables) (t u : TallyView) (e : FireRefused)
-    → Stopped tally_counted tally_count TallyRefuses fires firing_at now e (running t v) (running u w)
+    → Stopped tally_calls fires firing_at now e (running t v) (running u w)
     → last ≤ most_steps → v.most ≡ 2 ^ 64 - 1 → most + (late + 2) < 2 ^ 64 - 1 → EachTimer (IsFew last most) (timers v.cyclics)
     → ((id : ℕ) → times_of id (expirations now (timers v.cyclics)) ≤ late + 2) → IsWide t
     → ((id : ℕ) → tally_count t id ≤ most) → ⊥

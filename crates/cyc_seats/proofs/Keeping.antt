@@ -4,7 +4,7 @@ use Rattle.std.proofs.Common.{false, length}
 use Rattle.std.specs.Prelude.{Option, Some, None, Result, Ok, Err, is_some, slice_set}
 use mathlib.Core.Bool.{true≢false}
 use Rattle.std.specs.List.{slice_get, FoldsTo}
-use Rattle.cyc_types.specs.declared.level.Level.{Level}
+use Rattle.cyc_types.specs.declared.Calls.{Ghosts as Calls}
 use Rattle.cyc_fire.specs.declared.fire.Fired.{Fired}
 use Rattle.cyc_fire.specs.declared.fire.FireRefused.{FireRefused}
 use Rattle.cyc_ring.specs.declared.ends.RaiseEnd.{RaiseEnd}
@@ -106,9 +106,9 @@ has_at [] n low = absurd (omega (arith, low))
 has_at (x ∷ xs) zero low = (x, refl)
 has_at (x ∷ xs) (suc n) low = has_at xs n (omega (arith, low))
 
-module _ {C : Type 0} (called : C → ℕ → Level → C → Type 0) (count : C → ℕ → ℕ) (may_refuse : C → ℕ → Type 0) where
+module _ {C : Type 0} (handler : Calls C) where
   fired_one : (s t : Running C RaiseEnd) (now : ℕ) (answer : Result Fired FireRefused) →
-      Does called count may_refuse RaiseEndCall end_view no_interrupts s (Fire now answer) t → HasSameSeats s.cpu t.cpu
+      Does handler RaiseEndCall end_view no_interrupts s (Fire now answer) t → HasSameSeats s.cpu t.cpu
   fired_one s t now (Ok r) (early, kept, expired, next, m) = (
     (raise_ways s.cpu.lock t.cpu.lock m.acts.lock_way m.acts.lock_goes).0,
     (raise_ways s.cpu.low t.cpu.low m.acts.low_way m.acts.low_goes).0,
@@ -121,7 +121,7 @@ module _ {C : Type 0} (called : C → ℕ → Level → C → Type 0) (count : C
   )
 
   fires_if : (up : Bool) (now : ℕ) (s t : Running C RaiseEnd) (answer : Option (Result Fired FireRefused)) →
-      FiresIf called count may_refuse RaiseEndCall end_view up now s answer t → HasSameSeats s.cpu t.cpu
+      FiresIf handler RaiseEndCall end_view up now s answer t → HasSameSeats s.cpu t.cpu
   fires_if true now s t (Some answer) d = fired_one s t now answer d
   fires_if true now s t None d = absurd d
   fires_if false now s t (Some answer) d = absurd d
@@ -129,7 +129,7 @@ module _ {C : Type 0} (called : C → ℕ → Level → C → Type 0) (count : C
 
   pub fired_all : (now : ℕ) (a : SystemSide RaiseEnd C) (b : Advanced RaiseEnd C) →
       length a.system.cpus.online ≡ length a.system.cpus.cpus →
-      length a.leads.items ≡ length a.system.cpus.cpus → AllFire called count may_refuse RaiseEndCall end_view now a b →
+      length a.leads.items ≡ length a.system.cpus.cpus → AllFire handler RaiseEndCall end_view now a b →
       HaveSameSeats a.system.cpus.cpus b.side.system.cpus.cpus
   fired_all now a b long many f = each_of a.system.cpus.cpus b.side.system.cpus.cpus f.long (λ n x y p q. (
       let low = below a.system.cpus.cpus n x p in let leads = f.long_leads in let answers = f.long_answers in

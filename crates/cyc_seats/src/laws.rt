@@ -27,6 +27,6 @@ pub fn seats_law<C: Calls>()
     ensures fired { (now : ℕ) (a : SystemSide RaiseEnd C) (b : Advanced RaiseEnd C)
         → length a.system.cpus.online ≡ length a.system.cpus.cpus
         → length a.leads.items ≡ length a.system.cpus.cpus
-        → AllFire C.called C.count C.may_refuse RaiseEndCall end_view now a b
+        → AllFire C.Calls RaiseEndCall end_view now a b
         → HaveSameSeats a.system.cpus.cpus b.side.system.cpus.cpus }
 {}

@@ -8,7 +8,8 @@ use Rattle.std.proofs.lemmas.List.{length-map}
 use Rattle.std.proofs.lemmas.List.Sums.{count_by-le-length}
 use Rattle.cyc_types.specs.Draining.{DrainCall, Takes as Looks, Finishes}
 use Rattle.cyc_types.specs.Runs.{DrainGoes}
-use Rattle.cyc_types.specs.Tally.{TallyView, tally_count, tally_called, TallyRefuses}
+use Rattle.cyc_types.specs.Tally.{TallyView, tally_count}
+use Rattle.cyc_types.specs.contracts.tally.TallyCalls.TheImpl.{ghosts as tally_calls}
 use Rattle.cyc_types.specs.declared.level.Level.TheVariants.{High}
 use Rattle.cyc_types.specs.declared.level.Soft.{Soft}
 use Rattle.cyc_types.specs.declared.level.Soft.TheVariants.{Low, Lock}
@@ -194,7 +195,7 @@ module _ (step n budget : ℕ) (level : Soft) (s : State) (m : Machine) (low : s
       (at_soft_level level (cyclic_of id (cpu_of n s)) at)
 
   pub never_refused : (e : SoftRefused) (t : RunningSystem TallyView Tables)
-      → Does tally_called tally_count TallyRefuses fires firing_at (Interrupts tally_called tally_count TallyRefuses)
+      → Does tally_calls fires firing_at (Interrupts tally_calls)
       (running_system m.tally m.system) (SoftInterrupt n level budget (Err (fault.Refused e))) t → ⊥
   never_refused e t (inl (why, some, answer, same)) = absurd (let no : Err (fault.Refused e) ≡ Err fault.NoCpu = answer in cc)
   never_refused e t (inr (none, (Ok ran, answer, did, records, last))) =
@@ -224,7 +225,7 @@ ok_of (Err fault.NoCpu) = true
 ok_of (Err (fault.Refused e)) = false
 
 module _ (i : SoftintStep) (s : State) (m : Machine) (t : RunningSystem TallyView Tables) (h : Holds s m) where
-  pub no_cpu_there : Does tally_called tally_count TallyRefuses fires firing_at (Interrupts tally_called tally_count TallyRefuses)
+  pub no_cpu_there : Does tally_calls fires firing_at (Interrupts tally_calls)
       (running_system m.tally m.system) (SoftInterrupt i.cpu i.level i.budget (Err fault.NoCpu)) t
       → (softint_refusal i s ≡ Some NoCpu) × (t ≡ running_system m.tally m.system)
   no_cpu_there (inl (e, some, answer, same)) = (
@@ -236,8 +237,7 @@ module _ (i : SoftintStep) (s : State) (m : Machine) (t : RunningSystem TallyVie
   no_cpu_there (inr (none, (Err own, answer, did, records, last))) =
       absurd (let no : Err fault.NoCpu ≡ Err (fault.Refused own) = answer in cc)
 
-  pub wide_served : (ran : Ran) → Does tally_called tally_count TallyRefuses fires firing_at
-      (Interrupts tally_called tally_count TallyRefuses)
+  pub wide_served : (ran : Ran) → Does tally_calls fires firing_at (Interrupts tally_calls)
       (running_system m.tally m.system) (SoftInterrupt i.cpu i.level i.budget (Ok ran)) t → IsWide t.calls
   wide_served ran (inl (e, some, answer, same)) = absurd (let no : Ok ran ≡ Err fault.NoCpu = answer in cc)
   wide_served ran (inr (none, (Err own, answer, did, records, last))) =

@@ -3,6 +3,7 @@ use Rattle.std.proofs.Common.{◌≡◌, ℕ, suc, length, ◌+◌, ◌≤◌, i
 use Rattle.std.proofs.Common.{Err, List, [], ◌∷◌, map, option_map, refl, sym, ap, ◌∙◌, subst, arith, All}
 use Rattle.std.specs.Prelude.{eqb}
 use Rattle.std.specs.List.{slice_get}
+use Rattle.cyc_types.specs.declared.Calls.{Ghosts as Calls}
 use Rattle.cyc_types.specs.Firing.{FiringView, FiringCall, Stay, Learns, Admits, Loads, Raises, Marks, Polls, Expands, Looks}
 use Rattle.cyc_types.specs.Firing.{edited, edit_stay}
 use Rattle.cyc_types.specs.Runs.{Goes, lost_by}
@@ -222,13 +223,12 @@ module _ {R : Type 0} (view : R → FiringView) where
     low = end_then (view x.low) (view y.low) (view z.low) a.low b.low;
   }
 
-module _ {C R : Type 0} (called : C → ℕ → Level → C → Type 0) (count : C → ℕ → ℕ) (may_refuse : C → ℕ → Type 0)
-    (step : R → FiringCall → R → Type 0) (view : R → FiringView) where
+module _ {C R : Type 0} (handler : Calls C) (step : R → FiringCall → R → Type 0) (view : R → FiringView) where
   -- so many expirations of a fire were made
   back_made : (x y : CpuView R) (calling : C → ℕ → C → Type 0) (now lost : ℕ) (made : List Expiration) (a b : Sides C R)
       → IsLawful view x → IsLawful view y → SameCpu x y
       → a.lock ≡ x.lock → a.low ≡ x.low → b.lock ≡ y.lock → b.low ≡ y.low
-      → Makes calling count step view now made x.cyclics y.cyclics a b lost → ComesBack view x y
+      → Makes calling handler.count step view now made x.cyclics y.cyclics a b lost → ComesBack view x y
   back_made x y calling now lost made a b lawful after same al aw bl bw m = record {
     cyclics = fired_each (view x.lock).ceiling (view x.low).ceiling now x.most made
         (λ id n. n + lost_by id m.acts.lock_way + lost_by id m.acts.low_way) x.cyclics y.cyclics
@@ -252,7 +252,7 @@ module _ {C R : Type 0} (called : C → ℕ → Level → C → Type 0) (count :
           (goes_end step view a.low b.low m.acts.low_way (raises_steady _ m.acts.low_way m.acts.low_raises) m.acts.low_goes))
 
   pub back_fired : (s t : Running C R) (now : ℕ) (answer : Result Fired FireRefused) → IsLawful view s.cpu → IsLawful view t.cpu
-      → Does called count may_refuse step view no_interrupts s (Fire now answer) t → ComesBack view s.cpu t.cpu
+      → Does handler step view no_interrupts s (Fire now answer) t → ComesBack view s.cpu t.cpu
   back_fired s t now (Ok r) lawful after (nn, same, expired, next, makes) =
       back_made s.cpu t.cpu _ now r.lost _ _ _ lawful after same refl refl refl refl makes
   back_fired s t now (Err e) lawful after (inl (is, what, same)) =

@@ -2,6 +2,7 @@
 use Rattle.std.proofs.Common.{◌∙◌, ◌≡◌, ℕ, ◌<◌, ◌≤◌, ◌⊎◌, inl, inr, Option, Some, None, Result, Ok, Err, List, [], ◌∷◌, sym, ap}
 use Rattle.std.proofs.Common.{arith}
 use Rattle.std.specs.List.{FoldsTo}
+use Rattle.cyc_types.specs.declared.Calls.{Ghosts as Calls}
 use Rattle.cyc_types.specs.Firing.{FiringView, FiringCall}
 use Rattle.cyc_types.specs.declared.level.Level.{Level}
 use Rattle.cyc_types.specs.declared.level.Soft.{Soft}
@@ -150,10 +151,9 @@ module _ {R : Type 0} (step : R → FiringCall → R → Type 0) (view : R → F
   changes (FireOne n now answer) d = absurd d
   changes (SoftInterrupt n level budget answer) d = absurd d
 
-module _ {C R : Type 0} (called : C → ℕ → Level → C → Type 0) (count : C → ℕ → ℕ) (may_refuse : C → ℕ → Type 0)
-    (step : R → FiringCall → R → Type 0)
+module _ {C R : Type 0} (handler : Calls C) (step : R → FiringCall → R → Type 0)
     (view : R → FiringView) (interrupts : Soft → ℕ → Result Ran SoftRefused → Running C R → Running C R → Type 0) where
-  rises : (s t : RunningSystem C R) (call : SystemCall) → Does called count may_refuse step view interrupts s call t
+  rises : (s t : RunningSystem C R) (call : SystemCall) → Does handler step view interrupts s call t
       → s.system.last ≤ t.system.last
   rises s t (Add level when now answer) d = changes step view s.system t.system (Add level when now answer) d.0
   rises s t (AddOmni level when skew now answer) d = changes step view s.system t.system (AddOmni level when skew now answer) d.0
@@ -170,20 +170,20 @@ module _ {C R : Type 0} (called : C → ℕ → Level → C → Type 0) (count :
   rises s t (SoftInterrupt n level budget answer) d = running_or _ _ answer s t _ d (λ g. stays s.system.last t.system.last g.4)
 
   pub rises_along : (s t : RunningSystem C R) (way : List SystemCall)
-      → FoldsTo (Does called count may_refuse step view interrupts) s way t → s.system.last ≤ t.system.last
+      → FoldsTo (Does handler step view interrupts) s way t → s.system.last ≤ t.system.last
   rises_along s t [] e = stays s.system.last t.system.last (ap (λ (x : RunningSystem _ _). x.system.last) (sym e))
   rises_along s t (call ∷ way) (u, first, rest) = let a = rises s u call first in let b = rises_along u t way rest in
       omega (arith, a, b)
 
   pub given : (s t : RunningSystem C R) (level : Level) (when : When) (now id : ℕ)
-      → Does called count may_refuse step view interrupts s (Add level when now (Ok id)) t
+      → Does handler step view interrupts s (Add level when now (Ok id)) t
       → (s.system.last < id) × (id ≤ t.system.last)
   given s t level when now id (inl (e, why, is, same), calls) = (let odd : Ok id ≡ Err e = is in absurd (cc))
   given s t level when now id (inr (clear, (d, chosen, next, works, records, last)), calls) =
       (omega (arith, next), stays id t.system.last last)
 
   pub omni_given : (s t : RunningSystem C R) (level : Level) (when : When) (skew now id : ℕ)
-      → Does called count may_refuse step view interrupts s (AddOmni level when skew now (Ok id)) t
+      → Does handler step view interrupts s (AddOmni level when skew now (Ok id)) t
       → (s.system.last < id) × (id ≤ t.system.last)
   omni_given s t level when skew now id (inl (e, why, is, same), calls) = (let odd : Ok id ≡ Err e = is in absurd (cc))
   omni_given s t level when skew now id (inr (clear, (next, works, records, last)), calls) =

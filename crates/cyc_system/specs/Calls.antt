@@ -1,5 +1,6 @@
 -- All that can happen to a system: its calls, each with its answer, and what each of them does.
 use Rattle.std.specs.Prelude.{◌≡◌, ℕ, [], ◌∷◌, Option, Some, None, Result, Ok, Err}
+use Rattle.cyc_types.specs.declared.Calls.{Ghosts as Calls}
 use Rattle.cyc_types.specs.Firing.{FiringView, FiringCall}
 use Rattle.cyc_types.specs.declared.level.Level.{Level}
 use Rattle.cyc_types.specs.declared.level.Soft.{Soft}
@@ -92,19 +93,18 @@ of_cpu (Err e) = Err (Refused e)
 
 -- What each call does to a system and its handlers. `interrupts` is what a soft interrupt does to a CPU, where one thread has
 -- both sides of its levels.
-abbrev pub Does : {C R : Type 0} → (C → ℕ → Level → C → Type 0) → (C → ℕ → ℕ) → (C → ℕ → Type 0)
-    → (R → FiringCall → R → Type 0) → (R → FiringView)
+abbrev pub Does : {C R : Type 0} → Calls C → (R → FiringCall → R → Type 0) → (R → FiringView)
     → (Soft → ℕ → Result Ran SoftRefused → Running C R → Running C R → Type 0)
     → RunningSystem C R → SystemCall → RunningSystem C R → Type 0
-Does called count may_refuse step view interrupts s (FireOne n now answer) t =
+Does handler step view interrupts s (FireOne n now answer) t =
     Unless (no_cpu n s.system ∷ offline_cpu n s.system ∷ []) (λ e. Err (no_fire e)) answer s t
-    (RunsAt called count may_refuse step view interrupts (running_cpus s.calls s.system.cpus) (on n (Fire now answer))
+    (RunsAt handler step view interrupts (running_cpus s.calls s.system.cpus) (on n (Fire now answer))
     (running_cpus t.calls t.system.cpus)
     × (t.system.records ≡ s.system.records) × (t.system.last ≡ s.system.last))
-Does called count may_refuse step view interrupts s (SoftInterrupt n level budget answer) t =
+Does handler step view interrupts s (SoftInterrupt n level budget answer) t =
     Unless (no_cpu n s.system ∷ []) (λ e. Err fault.NoCpu) answer s t
     ((own : Result Ran SoftRefused) × (answer ≡ of_cpu own)
-    × RunsAt called count may_refuse step view interrupts (running_cpus s.calls s.system.cpus)
+    × RunsAt handler step view interrupts (running_cpus s.calls s.system.cpus)
     (on n (CpuSoftInterrupt level budget own)) (running_cpus t.calls t.system.cpus)
     × (t.system.records ≡ s.system.records) × (t.system.last ≡ s.system.last))
-Does called count may_refuse step view interrupts s call t = Changes step view s.system call t.system × (t.calls ≡ s.calls)
+Does handler step view interrupts s call t = Changes step view s.system call t.system × (t.calls ≡ s.calls)

@@ -30,7 +30,7 @@ fn softint_at<C: Calls>(
     budget: u32,
 ) -> Result<Ran, SoftRefused>
     requires { number < length cpus.old.cpus }
-    ensures { RunsAt C.called C.count C.may_refuse fires firing_at (Interrupts C.called C.count C.may_refuse)
+    ensures { RunsAt C.Calls fires firing_at (Interrupts C.Calls)
         (running_cpus calls.old cpus.old) (on number (CpuSoftInterrupt level budget result)) (running_cpus calls.new cpus.new) }
 {
     cpus.cpu_mut(number).softint(level, calls, budget)
@@ -50,7 +50,7 @@ impl System<LevelCore> {
         calls: &mut C,
         budget: u32,
     ) -> Result<Ran, SoftFault>
-        ensures { Does C.called C.count C.may_refuse fires firing_at (Interrupts C.called C.count C.may_refuse)
+        ensures { Does C.Calls fires firing_at (Interrupts C.Calls)
             (running_system calls.old self.old) (SoftInterrupt cpu level budget result) (running_system calls.new self.new) }
     {
         if cpu >= self.cpus.count() {

@@ -7,6 +7,7 @@ use Rattle.std.specs.List.{FoldsTo}
 use Rattle.std.specs.Option.{option_map, option_map_or}
 use Rattle.std.proofs.lemmas.List.Sums.{sum_by-cons}
 use Rattle.std.proofs.lemmas.Option.{slice_get-get_or}
+use Rattle.cyc_types.specs.declared.Calls.{Ghosts as Calls}
 use Rattle.cyc_types.specs.Firing.{FiringView, FiringCall}
 use Rattle.cyc_types.specs.Series.{due, next}
 use Rattle.cyc_types.specs.declared.firing.Sent.{Sent}
@@ -167,8 +168,7 @@ plus_of : {A : Type 0} (f g : A → ℕ) (o : Option A)
 plus_of f g None = refl
 plus_of f g (Some c) = refl
 
-module _ {C R : Type 0} (called : C → ℕ → Level → C → Type 0) (count : C → ℕ → ℕ) (may_refuse : C → ℕ → Type 0)
-    (step : R → FiringCall → R → Type 0) (view : R → FiringView) (id : ℕ) where
+module _ {C R : Type 0} (handler : Calls C) (step : R → FiringCall → R → Type 0) (view : R → FiringView) (id : ℕ) where
   -- what is told of it is so
   record IsToldEach (t : Told) (s : SystemView R) : Type 0 where
     pub everywhere : Everywhere
@@ -188,14 +188,14 @@ module _ {C R : Type 0} (called : C → ℕ → Level → C → Type 0) (count :
 
   fires_each : (now i : ℕ) (ms : List (Option ℕ)) (e : ℕ) (s : SystemSide R C) (b : Advanced R C) → IsSound view s.system
       → IsSound view b.side.system → length s.leads.items ≡ length s.system.cpus.cpus
-      → AllFire called count may_refuse step view now s b → AllAccepted b → IsOnEach step view id i ms e s.system
+      → AllFire handler step view now s b → AllAccepted b → IsOnEach step view id i ms e s.system
       → IsOnEach step view id i (map (λ m. option_map (λ x. next x i now) m) ms)
       (e + of_moments (λ x y. due x y now) i ms) b.side.system
   fires_each now i ms e s b sound after ready f accepted h = record {
-    stays = λ k. all_fired called count may_refuse step view id now (blind k) s b sound after ready f accepted
+    stays = λ k. all_fired handler step view id now (blind k) s b sound after ready f accepted
         ∙ (h.stays (λ x y. k (next x y now) y) ∙ sym (sum_next k now i ms));
     all = (
-        let x = all_fired called count may_refuse step view id now (λ a b c. c) s b sound after ready f accepted in
+        let x = all_fired handler step view id now (λ a b c. c) s b sound after ready f accepted in
         let y = plus_on (λ c. c.timer.expired) (λ c. due c.timer.moment c.timer.interval now) s.system.cpus.cpus in
         let z = h.stays (λ x y. due x y now) in let w = h.all in
         let r = ap (λ rs. option_map_or (λ r. sum_by (λ e. e.sent) r.ended) (found id rs) 0) f.records in
@@ -207,9 +207,9 @@ module _ {C R : Type 0} (called : C → ℕ → Level → C → Type 0) (count :
   asks_each : (i : ℕ) (ms : List (Option ℕ)) (e : ℕ) (s t : SystemSide R C) → IsSound view s.system → IsSound view t.system
       → OnlyAsked step view s t → IsOnEach step view id i ms e s.system → IsOnEach step view id i ms e t.system
   asks_each i ms e s t sound after a h = record {
-    stays = λ k. all_asked called count may_refuse step view id (blind k) s t sound after a ∙ h.stays k;
+    stays = λ k. all_asked handler step view id (blind k) s t sound after a ∙ h.stays k;
     all = (
-        let x = all_asked called count may_refuse step view id (λ a b c. c) s t sound after a in let z = h.all in
+        let x = all_asked handler step view id (λ a b c. c) s t sound after a in let z = h.all in
         let r = ap (λ rs. option_map_or (λ r. sum_by (λ e. e.sent) r.ended) (found id rs) 0) a.records in
         omega (arith, x, z, r));
     given = (let g = h.given in let l = a.last in omega (arith, g, l));
@@ -234,7 +234,7 @@ module _ {C R : Type 0} (called : C → ℕ → Level → C → Type 0) (count :
   as_before s t same i ms e h = subst (λ (x : SystemView R). IsOnEach step view id i ms e x) (sym same) h
 
   pass : (own : ℕ) (event : Event) (t : Told) → own ≢ id → told_after (if_own own id event) t ≡ t
-  pass own event t ne = others_pass called count may_refuse step view id own event t ne
+  pass own event t ne = others_pass handler step view id own event t ne
 
   -- one that is omnipresent has no single next expiration
   pub set_single : (own moment : ℕ) (s t : SystemView R) → Changes step view s (Reprogram own moment (Ok tt)) t
@@ -266,13 +266,13 @@ module _ {C R : Type 0} (called : C → ℕ → Level → C → Type 0) (count :
       → Changes step view s call t → KeepsComponents id (Make call) → IsToldEach told s
       → IsToldEach (told_after (event_in id (Make call)) told) t
   make_each s t (Add level when now (Ok own)) told a b d keeps h =
-      let ne = new_one own told s h (add_next called count may_refuse step view id level when now own s t d) in
+      let ne = new_one own told s h (add_next handler step view id level when now own s t d) in
       as_told told _ s t (pass own (Begins when.start when.interval now) told ne)
       (λ i ms e. each_kept step view id i ms e s t (Add level when now (Ok own)) a b d ne ne (λ x. x)) h
   make_each s t (Add level when now (Err why)) told a b d keeps h = as_told told told s t refl
       (λ i ms e. each_kept step view id i ms e s t (Add level when now (Err why)) a b d (λ x. x) (λ x. x) (λ x. x)) h
   make_each s t (AddOmni level when skew now (Ok own)) told a b d keeps h =
-      let ne = new_one own told s h (omni_next called count may_refuse step view id level when skew now own s t d) in
+      let ne = new_one own told s h (omni_next handler step view id level when skew now own s t d) in
       as_told told _ s t (pass own (BeginsOnAll (given_everywhere level when skew) now) told ne)
       (λ i ms e. each_kept step view id i ms e s t (AddOmni level when skew now (Ok own)) a b d ne ne (λ x. x)) h
   make_each s t (AddOmni level when skew now (Err why)) told a b d keeps h = as_told told told s t refl
@@ -284,13 +284,13 @@ module _ {C R : Type 0} (called : C → ℕ → Level → C → Type 0) (count :
   make_each s t (BeginRemove own (Ok (Kept kept))) told a b d keeps h = as_told told _ s t (pass own Ends told keeps)
       (λ i ms e. each_kept step view id i ms e s t (BeginRemove own (Ok (Kept kept))) a b d keeps (λ x. x) (λ x. x)) h
   make_each s t (BeginRemove own (Err why)) told a b d keeps h = as_told told told s t refl
-      (as_before s t (refused_begin called count may_refuse step view id own why s t d)) h
+      (as_before s t (refused_begin handler step view id own why s t d)) h
   make_each s t (PollRemove own (Ok (Some r))) told a b d keeps h = as_told told told s t refl
       (λ i ms e. each_kept step view id i ms e s t (PollRemove own (Ok (Some r))) a b d keeps keeps keeps) h
   make_each s t (PollRemove own (Ok None)) told a b d keeps h = as_told told told s t refl
       (λ i ms e. each_kept step view id i ms e s t (PollRemove own (Ok None)) a b d keeps (λ x. x) (λ x. x)) h
   make_each s t (PollRemove own (Err why)) told a b d keeps h = as_told told told s t refl
-      (as_before s t (refused_poll called count may_refuse step view id own why s t d)) h
+      (as_before s t (refused_poll handler step view id own why s t d)) h
   make_each s t (AskTotals own answer) told a b d keeps h = as_told told told s t refl
       (λ i ms e. each_kept step view id i ms e s t (AskTotals own answer) a b d (λ x. x) (λ x. x) (λ x. x)) h
   make_each s t (Reprogram own moment (Ok done)) told a b d keeps h =
@@ -299,12 +299,12 @@ module _ {C R : Type 0} (called : C → ℕ → Level → C → Type 0) (count :
       as_told told _ s t (pass own (IsSet moment) told ne)
       (λ i ms e. each_kept step view id i ms e s t (Reprogram own moment (Ok done)) a b d ne (λ x. x) (λ x. x)) h
   make_each s t (Reprogram own moment (Err why)) told a b d keeps h = as_told told told s t refl
-      (as_before s t (refused_set called count may_refuse step view id own moment why s t d)) h
+      (as_before s t (refused_set handler step view id own moment why s t d)) h
   make_each s t (ReprogramOn own n moment (Ok done)) told a b d keeps h =
       as_told told _ s t (pass own (IsSetOn n moment) told keeps)
       (λ i ms e. each_kept step view id i ms e s t (ReprogramOn own n moment (Ok done)) a b d keeps (λ x. x) (λ x. x)) h
   make_each s t (ReprogramOn own n moment (Err why)) told a b d keeps h = as_told told told s t refl
-      (as_before s t (refused_set_on called count may_refuse step view id own n moment why s t d)) h
+      (as_before s t (refused_set_on handler step view id own n moment why s t d)) h
   make_each s t (Juggle n answer) told a b d keeps h = as_told told told s t refl
       (λ i ms e. each_kept step view id i ms e s t (Juggle n answer) a b d (λ x. x) (λ x. x) (λ x. x)) h
   make_each s t (Offline n (Ok done)) told a b d keeps h = absurd keeps
@@ -315,7 +315,7 @@ module _ {C R : Type 0} (called : C → ℕ → Level → C → Type 0) (count :
   make_each s t (SoftInterrupt n level budget answer) told a b d keeps h = absurd d
 
   abbrev D : SystemSide R C → LeadCall → SystemSide R C → Type 0
-  D = AcceptedSteps called count may_refuse step view
+  D = AcceptedSteps handler step view
 
   step_each : (s t : SystemSide R C) (call : LeadCall) (told : Told) → IsSound view s.system
       → length s.leads.items ≡ length s.system.cpus.cpus → D s call t → KeepsComponents id call → IsToldEach told s.system
@@ -341,8 +341,8 @@ module _ {C R : Type 0} (called : C → ℕ → Level → C → Type 0) (count :
   run_each s t [] told a ready run keeps h = subst (λ (x : SystemSide R C). IsToldEach told x.system) run h
   run_each s t (call ∷ way) told a ready (u, d, rest) keeps h =
       run_each u t way (told_after (event_in id call) told)
-      (sound_after called count may_refuse step view id s u call d)
-      (step_ready called count may_refuse step view id s u call d ready) rest
+      (sound_after handler step view id s u call d)
+      (step_ready handler step view id s u call d ready) rest
       (λ k e low. keeps (suc k) e (omega (arith, low)))
       (step_each s u call told a ready d (keeps 0 call (omega arith)) h)
 

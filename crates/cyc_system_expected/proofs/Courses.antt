@@ -3,6 +3,7 @@ use Rattle.std.proofs.Common.{◌≡◌, ◌≢◌, ◌∙◌, ◌==◌, ℕ, in
 use Rattle.std.proofs.Common.{Ok, Err, List, refl, sym, subst, arith}
 use mathlib.Core.Logic.{dite}
 use native.Mathlib.Decide.{ℕ_discrete}
+use Rattle.cyc_types.specs.declared.Calls.{Ghosts as Calls}
 use Rattle.cyc_types.specs.Firing.{FiringView, FiringCall}
 use Rattle.cyc_types.specs.Series.{first}
 use Rattle.cyc_types.specs.declared.level.Level.{Level}
@@ -37,8 +38,7 @@ pub either : (P : Told → Type 0) (b : Bool) (event : Event) (told : Told) → 
 either P true event told own other = own
 either P false event told own other = other
 
-module _ {C R : Type 0} (called : C → ℕ → Level → C → Type 0) (count : C → ℕ → ℕ) (may_refuse : C → ℕ → Type 0)
-    (step : R → FiringCall → R → Type 0) (view : R → FiringView) (id : ℕ) where
+module _ {C R : Type 0} (handler : Calls C) (step : R → FiringCall → R → Type 0) (view : R → FiringView) (id : ℕ) where
   -- no removal of it is open
   abbrev pub IsStill : SystemView R → Type 0
   IsStill s = (n : ℕ) → removal_on n s.cpus ≢ Some id
@@ -64,7 +64,7 @@ module _ {C R : Type 0} (called : C → ℕ → Level → C → Type 0) (count :
   begins_single level when now s t ups a b d = (
     single_added step view id level when now s t a b d,
     new_still step view id s t (Add level when now (Ok id)) a tt d
-        (let next = add_next called count may_refuse step view id level when now id s t d in omega (arith, next)),
+        (let next = add_next handler step view id level when now id s t d in omega (arith, next)),
   )
 
   begins_on_each : (level : Level) (when : When) (skew now : ℕ) (s t : SystemView R) (ups : List Bool) → IsSound view s
@@ -93,19 +93,19 @@ module _ {C R : Type 0} (called : C → ℕ → Level → C → Type 0) (count :
       → Changes step view s call t → (EndsRemoval id call → ⊥) → ups ≡ s.cpus.online → IsQuiet step view id s
       → IsAt t (told_after (event_in id (Make call)) (idle ups x))
   idle_call ups x s t (Add level when now (Ok own)) a b d ends same quiet = dite (ℕ_discrete own id)
-      (λ e. subst (IsAt t) (sym (its_own called count may_refuse step view id own (Begins when.start when.interval now)
+      (λ e. subst (IsAt t) (sym (its_own handler step view id own (Begins when.start when.interval now)
       (idle ups x) e))
       (begins_single level when now s t ups a b (subst (λ (j : ℕ). Changes step view s (Add level when now (Ok j)) t) e d)))
-      (λ ne. subst (IsAt t) (sym (others_pass called count may_refuse step view id own (Begins when.start when.interval now)
+      (λ ne. subst (IsAt t) (sym (others_pass handler step view id own (Begins when.start when.interval now)
       (idle ups x) ne)) (quiet_plain step view id s t (Add level when now (Ok own)) a tt d ne quiet))
   idle_call ups x s t (Add level when now (Err why)) a b d ends same quiet =
       quiet_plain step view id s t (Add level when now (Err why)) a tt d (λ x. x) quiet
   idle_call ups x s t (AddOmni level when skew now (Ok own)) a b d ends same quiet = dite (ℕ_discrete own id)
-      (λ e. subst (IsAt t) (sym (its_own called count may_refuse step view id own
+      (λ e. subst (IsAt t) (sym (its_own handler step view id own
       (BeginsOnAll (given_everywhere level when skew) now) (idle ups x) e))
       (begins_on_each level when skew now s t ups a b same
       (subst (λ (j : ℕ). Changes step view s (AddOmni level when skew now (Ok j)) t) e d)))
-      (λ ne. subst (IsAt t) (sym (others_pass called count may_refuse step view id own
+      (λ ne. subst (IsAt t) (sym (others_pass handler step view id own
       (BeginsOnAll (given_everywhere level when skew) now) (idle ups x) ne))
       (quiet_plain step view id s t (AddOmni level when skew now (Ok own)) a tt d ne quiet))
   idle_call ups x s t (AddOmni level when skew now (Err why)) a b d ends same quiet =
@@ -122,14 +122,14 @@ module _ {C R : Type 0} (called : C → ℕ → Level → C → Type 0) (count :
       (begins_others step view own id (Ok (Kept kept)) s t (λ e. ne (sym e)) d) quiet) in
       either (IsAt t) (own == id) Ends (idle ups x) q q
   idle_call ups x s t (BeginRemove own (Err why)) a b d ends same quiet =
-      idle_same s t (refused_begin called count may_refuse step view id own why s t d) quiet
+      idle_same s t (refused_begin handler step view id own why s t d) quiet
   idle_call ups x s t (PollRemove own (Ok (Some r))) a b d ends same quiet =
       quiet_untouched step view id s t (polls_others step view own id (Ok (Some r)) s t (λ e. ends (sym e)) d) quiet
   idle_call ups x s t (PollRemove own (Ok None)) a b d ends same quiet = dite (ℕ_discrete own id)
       (λ e. quiet_polled step view id s t a (subst (λ (j : ℕ). Changes step view s (PollRemove j (Ok None)) t) e d) quiet)
       (λ ne. quiet_untouched step view id s t (polls_others step view own id (Ok None) s t (λ e. ne (sym e)) d) quiet)
   idle_call ups x s t (PollRemove own (Err why)) a b d ends same quiet =
-      idle_same s t (refused_poll called count may_refuse step view id own why s t d) quiet
+      idle_same s t (refused_poll handler step view id own why s t d) quiet
   idle_call ups x s t (AskTotals own answer) a b d ends same quiet =
       quiet_plain step view id s t (AskTotals own answer) a tt d (λ x. x) quiet
   idle_call ups x s t (Reprogram own moment (Ok done)) a b d ends same quiet =
@@ -166,7 +166,7 @@ module _ {C R : Type 0} (called : C → ℕ → Level → C → Type 0) (count :
   still_same : (s t : SystemView R) → t ≡ s → IsStill s → IsStill t
   still_same s t e still = subst (λ (u : SystemView R). IsStill u) (sym e) still
 
-  told_single : (u : Told) (t : SystemView R) → IsTold called count may_refuse step view id u t → IsStill t → IsAt t u
+  told_single : (u : Told) (t : SystemView R) → IsTold handler step view id u t → IsStill t → IsAt t u
   told_single u t h still = subst (λ (c : Course). IsOn c u.expired t) (sym h.course) (h.so, still)
 
   module _ (ups : List Bool) (x moment interval : ℕ) (s t : SystemView R) (a : IsSound view s) (b : IsSound view t)
@@ -177,7 +177,7 @@ module _ {C R : Type 0} (called : C → ℕ → Level → C → Type 0) (count :
     goes_on : (call : SystemCall) → Changes step view s call t → KeepsIt id (Make call) → IsStill t
         → IsAt t (told_after (event_in id (Make call)) single)
     goes_on call d keeps after = told_single (told_after (event_in id (Make call)) single) t
-        (make_told called count may_refuse step view id s t call single a b d keeps
+        (make_told handler step view id s t call single a b d keeps
         (record { moment = moment; interval = interval; course = refl; so = h })) after
 
     pub single_call : (call : SystemCall) → Changes step view s call t → (EndsRemoval id call → ⊥)
@@ -195,12 +195,12 @@ module _ {C R : Type 0} (called : C → ℕ → Level → C → Type 0) (count :
     single_call (BeginRemove own (Ok (Done r))) d ends = goes_on (BeginRemove own (Ok (Done r))) d ends
         (still_untouched s t (begins_others step view own id (Ok (Done r)) s t (λ e. ends (sym e)) d) still)
     single_call (BeginRemove own (Ok (Kept kept))) d ends = dite (ℕ_discrete own id)
-        (λ e. subst (IsAt t) (sym (its_own called count may_refuse step view id own Ends single e))
+        (λ e. subst (IsAt t) (sym (its_own handler step view id own Ends single e))
         (quiet_begun step view id kept s t a (subst (λ (j : ℕ). Changes step view s (BeginRemove j (Ok (Kept kept))) t) e d)))
         (λ ne. goes_on (BeginRemove own (Ok (Kept kept))) d ne
         (still_untouched s t (begins_others step view own id (Ok (Kept kept)) s t (λ e. ne (sym e)) d) still))
     single_call (BeginRemove own (Err why)) d ends = goes_on (BeginRemove own (Err why)) d tt
-        (still_same s t (refused_begin called count may_refuse step view id own why s t d) still)
+        (still_same s t (refused_begin handler step view id own why s t d) still)
     single_call (PollRemove own (Ok (Some r))) d ends = goes_on (PollRemove own (Ok (Some r))) d ends
         (still_untouched s t (polls_others step view own id (Ok (Some r)) s t (λ e. ends (sym e)) d) still)
     single_call (PollRemove own (Ok None)) d ends = dite (ℕ_discrete own id)
@@ -208,7 +208,7 @@ module _ {C R : Type 0} (called : C → ℕ → Level → C → Type 0) (count :
         (λ ne. goes_on (PollRemove own (Ok None)) d ne
         (still_untouched s t (polls_others step view own id (Ok None) s t (λ e. ne (sym e)) d) still))
     single_call (PollRemove own (Err why)) d ends = goes_on (PollRemove own (Err why)) d tt
-        (still_same s t (refused_poll called count may_refuse step view id own why s t d) still)
+        (still_same s t (refused_poll handler step view id own why s t d) still)
     single_call (AskTotals own answer) d ends = goes_on (AskTotals own answer) d tt
         (still_plain s t (AskTotals own answer) tt d still)
     single_call (Reprogram own m answer) d ends = goes_on (Reprogram own m answer) d tt

@@ -3,6 +3,7 @@ use Rattle.std.proofs.Common.{◌≡◌, ◌≢◌, ◌∙◌, ℕ, ◌+◌, Boo
 use Rattle.std.proofs.Common.{List, refl, sym, ap, subst, arith}
 use mathlib.Core.Logic.{dite}
 use native.Mathlib.Decide.{ℕ_discrete}
+use Rattle.cyc_types.specs.declared.Calls.{Ghosts as Calls}
 use Rattle.cyc_types.specs.Firing.{FiringView, FiringCall}
 use Rattle.cyc_types.specs.declared.level.Level.{Level}
 use Rattle.cyc_types.specs.declared.moment.When.{When}
@@ -28,7 +29,7 @@ use Rattle.cyc_system_expected.proofs.Spread.{IsSpread, Elsewhere, spread_omni, 
 use Rattle.cyc_system_expected.proofs.Spread.{seen, series_of}
 use Rattle.cyc_system_expected.proofs.Courses.{IsAt, poll_open}
 
-module _ {C R : Type 0} (called : C → ℕ → Level → C → Type 0) (count : C → ℕ → ℕ) (may_refuse : C → ℕ → Type 0)
+module _ {C R : Type 0} (handler : Calls C)
     (step : R → FiringCall → R → Type 0) (view : R → FiringView) (id : ℕ) (ups : List Bool) (x : ℕ) (level : Level)
     (when : When) (skew : ℕ) (ms : List (Option ℕ)) (s t : SystemView R) (a : IsSound view s) (b : IsSound view t)
     (h : IsSpread step view id when skew ms s) where
@@ -36,7 +37,7 @@ module _ {C R : Type 0} (called : C → ℕ → Level → C → Type 0) (count :
   each = record { online = ups; course = OnEach (given_everywhere level when skew) ms; expired = x }
 
   abbrev At : Told → Type 0
-  At told = IsAt called count may_refuse step view id t told
+  At told = IsAt handler step view id t told
 
   spread_untouched : IsUntouched id s t → (call : SystemCall) → Changes step view s call t → IsSpread step view id when skew ms t
   spread_untouched u call d = record {
@@ -58,7 +59,7 @@ module _ {C R : Type 0} (called : C → ℕ → Level → C → Type 0) (count :
   keeps call plain d other away = as_it (spread_kept step view id when skew ms s h t call a plain d other away)
 
   of_other : (own : ℕ) (event : Event) → own ≢ id → At each → At (told_after (if_own own id event) each)
-  of_other own event ne k = subst At (sym (others_pass called count may_refuse step view id own event each ne)) k
+  of_other own event ne k = subst At (sym (others_pass handler step view id own event each ne)) k
 
   new_one : (own : ℕ) → own ≡ s.last + 1 → own ≢ id
   new_one own next same = (let g = h.given in absurd (omega (arith, g, next, same)))
@@ -66,11 +67,11 @@ module _ {C R : Type 0} (called : C → ℕ → Level → C → Type 0) (count :
   pub each_call : (call : SystemCall) → Changes step view s call t → (EndsRemoval id call → ⊥)
       → At (told_after (event_in id (Make call)) each)
   each_call (Add level' when' now (Ok own)) d ends =
-      let ne = new_one own (add_next called count may_refuse step view id level' when' now own s t d) in
+      let ne = new_one own (add_next handler step view id level' when' now own s t d) in
       of_other own (Begins when'.start when'.interval now) ne (keeps (Add level' when' now (Ok own)) tt d ne (λ m. tt))
   each_call (Add level' when' now (Err why)) d ends = keeps (Add level' when' now (Err why)) tt d (λ x. x) (λ m. tt)
   each_call (AddOmni level' when' skew' now (Ok own)) d ends =
-      let ne = new_one own (omni_next called count may_refuse step view id level' when' skew' now own s t d) in
+      let ne = new_one own (omni_next handler step view id level' when' skew' now own s t d) in
       of_other own (BeginsOnAll (given_everywhere level' when' skew') now) ne
       (keeps (AddOmni level' when' skew' now (Ok own)) tt d ne (λ m. tt))
   each_call (AddOmni level' when' skew' now (Err why)) d ends =
@@ -80,30 +81,30 @@ module _ {C R : Type 0} (called : C → ℕ → Level → C → Type 0) (count :
       (as_it (spread_untouched (begins_others step view own id (Ok (Done r)) s t (λ e. ends (sym e)) d)
       (BeginRemove own (Ok (Done r))) d))
   each_call (BeginRemove own (Ok (Kept kept))) d ends = dite (ℕ_discrete own id)
-      (λ e. subst At (sym (its_own called count may_refuse step view id own Ends each e))
+      (λ e. subst At (sym (its_own handler step view id own Ends each e))
       (quiet_begun step view id kept s t a (subst (λ (j : ℕ). Changes step view s (BeginRemove j (Ok (Kept kept))) t) e d)))
       (λ ne. of_other own Ends ne
       (as_it (spread_untouched (begins_others step view own id (Ok (Kept kept)) s t (λ e. ne (sym e)) d)
       (BeginRemove own (Ok (Kept kept))) d)))
   each_call (BeginRemove own (Err why)) d ends =
-      as_before (refused_begin called count may_refuse step view id own why s t d)
+      as_before (refused_begin handler step view id own why s t d)
   each_call (PollRemove own (Ok (Some r))) d ends =
       as_it (spread_untouched (polls_others step view own id (Ok (Some r)) s t (λ e. ends (sym e)) d)
       (PollRemove own (Ok (Some r))) d)
   each_call (PollRemove own (Ok None)) d ends = dite (ℕ_discrete own id)
-      (λ e. absurd (poll_open called count may_refuse step view id None s t
+      (λ e. absurd (poll_open handler step view id None s t
       (subst (λ (j : ℕ). Changes step view s (PollRemove j (Ok None)) t) e d) h.still))
       (λ ne. as_it (spread_untouched (polls_others step view own id (Ok None) s t (λ e. ne (sym e)) d)
       (PollRemove own (Ok None)) d))
-  each_call (PollRemove own (Err why)) d ends = as_before (refused_poll called count may_refuse step view id own why s t d)
+  each_call (PollRemove own (Err why)) d ends = as_before (refused_poll handler step view id own why s t d)
   each_call (AskTotals own answer) d ends = keeps (AskTotals own answer) tt d (λ x. x) (λ m. tt)
   each_call (Reprogram own moment (Ok done)) d ends =
-      let ne : own ≢ id = λ e. set_single called count may_refuse step view id own moment s t d
+      let ne : own ≢ id = λ e. set_single handler step view id own moment s t d
       (subst (λ (j : ℕ). is_omnipresent j s ≡ true) (sym e) (spread_omni step view id when skew ms s h)) in
       of_other own (IsSet moment) ne (keeps (Reprogram own moment (Ok done)) tt d (λ x. x) (λ m. tt))
   each_call (Reprogram own moment (Err why)) d ends = keeps (Reprogram own moment (Err why)) tt d (λ x. x) (λ m. tt)
   each_call (ReprogramOn own n moment (Ok done)) d ends = dite (ℕ_discrete own id)
-      (λ e. subst At (sym (its_own called count may_refuse step view id own (IsSetOn n moment) each e)) (
+      (λ e. subst At (sym (its_own handler step view id own (IsSetOn n moment) each e)) (
         level,
         when,
         skew,

@@ -6,9 +6,9 @@ use Rattle.std.specs.List.{slice_get, FoldsTo}
 use Rattle.std.specs.Option.{option_map_or, option_and_then}
 use Rattle.std.proofs.lemmas.Bool.Decides.{nat_tests}
 use Rattle.std.proofs.lemmas.Option.{slice_get_within}
+use Rattle.cyc_types.specs.declared.Calls.{Ghosts as Calls}
 use Rattle.cyc_types.specs.Firing.{FiringView, FiringCall}
 use Rattle.cyc_types.specs.Series.{never, late, due}
-use Rattle.cyc_types.specs.declared.level.Level.{Level}
 use Rattle.cyc_timers.specs.Rows.{Cyclic}
 use Rattle.cyc_fire.specs.declared.fire.Fired.{Fired}
 use Rattle.cyc_fire.specs.declared.fire.FireRefused.{FireRefused}
@@ -45,11 +45,10 @@ due_never : (interval now : ℕ) → now < never → due never interval now ≡ 
 due_never interval now low = ap (λ (b : Bool). cond {A = ℕ} b 0
     (cond (nat_lt (never + interval + late) now) 1 ((now - never) / interval + 1))) (lt_true now never low)
 
-module _ {C R : Type 0} (called : C → ℕ → Level → C → Type 0) (count : C → ℕ → ℕ) (may_refuse : C → ℕ → Type 0)
-    (step : R → FiringCall → R → Type 0) (view : R → FiringView) (id : ℕ) where
+module _ {C R : Type 0} (handler : Calls C) (step : R → FiringCall → R → Type 0) (view : R → FiringView) (id : ℕ) where
   same_if : (now : ℕ) (up : Bool) (s t : Running C R) (answer : Option (Result Fired FireRefused))
-      → FiresIf called count may_refuse step view up now s answer t → SameIds s.cpu t.cpu
-  same_if now true s t (Some answer) d = same_fired called count may_refuse step view no_interrupts s t now answer d
+      → FiresIf handler step view up now s answer t → SameIds s.cpu t.cpu
+  same_if now true s t (Some answer) d = same_fired handler step view no_interrupts s t now answer d
   same_if now true s t None d = absurd d
   same_if now false s t (Some answer) d = absurd d
   same_if now false s t None e = record {
@@ -66,7 +65,7 @@ module _ {C R : Type 0} (called : C → ℕ → Level → C → Type 0) (count :
     pub measured : (k : ℕ → ℕ → ℕ → ℕ) → on_cpu (of_stay k) id y ≡ on_cpu (of_stay (later id now k)) id before
 
   module _ (now : ℕ) (s : SystemSide R C) (b : Advanced R C) (sound : IsSound view s.system)
-      (ready : length s.leads.items ≡ length s.system.cpus.cpus) (f : AllFire called count may_refuse step view now s b)
+      (ready : length s.leads.items ≡ length s.system.cpus.cpus) (f : AllFire handler step view now s b)
       (accepted : AllAccepted b) where
     pub fired_at : (n : ℕ) (y : CpuView R) → slice_get b.side.system.cpus.cpus n ≡ Some y → WasBefore now n s.system y
     fired_at n y at =
@@ -81,10 +80,10 @@ module _ {C R : Type 0} (called : C → ℕ → Level → C → Type 0) (count :
           before = x;
           here = p;
           ids = same_if now up (running l.calls x) (running m.calls y) answer fires;
-          measured = λ k. if_fired called count may_refuse step view id now k up (running l.calls x) (running m.calls y) answer
+          measured = λ k. if_fired handler step view id now k up (running l.calls x) (running m.calls y) answer
               (sound.lawful n x p) fires
               (λ e is. accepted n e (told ∙ ap (λ (o : Option (Result Fired FireRefused)). Some o) is))
-              (λ off. no_cyclic_off called count may_refuse step view id n x up (has n id s.system.cpus) s.system sound p u off
+              (λ off. no_cyclic_off handler step view id n x up (has n id s.system.cpus) s.system sound p u off
               refl);
         }
 
@@ -130,8 +129,8 @@ module _ {C R : Type 0} (called : C → ℕ → Level → C → Type 0) (count :
 
       pub quiet_counts : IsSound view b.side.system → all_expired id b.side.system ≡ all_expired id s.system
       quiet_counts after =
-          let x = all_fired called count may_refuse step view id now (λ a b c. c) s b sound after ready f accepted in
-          let y = plus_on called count may_refuse step view id (λ c. c.timer.expired)
+          let x = all_fired handler step view id now (λ a b c. c) s b sound after ready f accepted in
+          let y = plus_on handler step view id (λ c. c.timer.expired)
           (λ c. due c.timer.moment c.timer.interval now) s.system.cpus.cpus in
           let z = sum_none (λ cpu. option_map_or (λ (c : Cyclic). due c.timer.moment c.timer.interval now) (cyclic_in id cpu) 0)
           s.system.cpus.cpus none_due in
@@ -158,7 +157,7 @@ module _ {C R : Type 0} (called : C → ℕ → Level → C → Type 0) (count :
         let (x, p) = get_some s.system.cpus.cpus n (omega (arith, low, j)) in let w = a.cpus.each n x y p at in record {
           before = x;
           here = p;
-          cyclics = asked_cyclics called count may_refuse step view id w.0 x y w.1;
+          cyclics = asked_cyclics handler step view id w.0 x y w.1;
           removal = asked_removal w.0 x y w.1;
         }
 
@@ -189,5 +188,5 @@ module _ {C R : Type 0} (called : C → ℕ → Level → C → Type 0) (count :
 
     pub asked_counts : IsSound view s.system → IsSound view t.system → all_expired id t.system ≡ all_expired id s.system
     asked_counts sound after =
-        let x = all_asked called count may_refuse step view id (λ a b c. c) s t sound after a in
+        let x = all_asked handler step view id (λ a b c. c) s t sound after a in
         let r = ap (λ rs. option_map_or (λ r. sum_by (λ e. e.sent) r.ended) (found id rs) 0) a.records in omega (arith, x, r)

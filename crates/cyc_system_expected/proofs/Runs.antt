@@ -5,6 +5,7 @@ use Rattle.std.specs.Prelude.{sum_by, not, ◌&&◌}
 use Rattle.std.specs.List.{slice_get, FoldsTo}
 use Rattle.std.specs.Option.{option_map_or}
 use Rattle.std.proofs.lemmas.Option.{slice_get_within}
+use Rattle.cyc_types.specs.declared.Calls.{Ghosts as Calls}
 use Rattle.cyc_types.specs.Firing.{FiringView, FiringCall}
 use Rattle.cyc_types.specs.Series.{first, due, next}
 use Rattle.cyc_types.specs.declared.level.Level.{Level}
@@ -70,8 +71,7 @@ stands [] n low = absurd (omega (arith, low))
 stands (x ∷ xs) zero low = (x, refl)
 stands (x ∷ xs) (suc n) low = stands xs n (omega (arith, low))
 
-module _ {C R : Type 0} (called : C → ℕ → Level → C → Type 0) (count : C → ℕ → ℕ) (may_refuse : C → ℕ → Type 0)
-    (step : R → FiringCall → R → Type 0) (view : R → FiringView) (id : ℕ) where
+module _ {C R : Type 0} (handler : Calls C) (step : R → FiringCall → R → Type 0) (view : R → FiringView) (id : ℕ) where
   -- what is told of it is so
   pub record IsTold (t : Told) (s : SystemView R) : Type 0 where
     pub moment : ℕ
@@ -83,7 +83,7 @@ module _ {C R : Type 0} (called : C → ℕ → Level → C → Type 0) (count :
 
   -- a CPU in it
   pub if_fired : (now : ℕ) (k : ℕ → ℕ → ℕ → ℕ) (up : Bool) (s t : Running C R) (answer : Option (Result Fired FireRefused))
-      → IsLawful view s.cpu → FiresIf called count may_refuse step view up now s answer t
+      → IsLawful view s.cpu → FiresIf handler step view up now s answer t
       → ((e : FireRefused) → answer ≡ Some (Err e) → ⊥) → (up ≡ false → cyclic_in id s.cpu ≡ None)
       → on_cpu (of_stay k) id t.cpu ≡ on_cpu (of_stay (later id now k)) id s.cpu
   if_fired now k true s t (Some (Ok r)) law (early, kept, expired, after, makes) accepted off =
@@ -109,7 +109,7 @@ module _ {C R : Type 0} (called : C → ℕ → Level → C → Type 0) (count :
   -- all of them
   pub all_fired : (now : ℕ) (k : ℕ → ℕ → ℕ → ℕ) (s : SystemSide R C) (b : Advanced R C) → IsSound view s.system
       → IsSound view b.side.system → length s.leads.items ≡ length s.system.cpus.cpus
-      → AllFire called count may_refuse step view now s b → AllAccepted b
+      → AllFire handler step view now s b → AllAccepted b
       → over_stays (of_stay k) id b.side.system ≡ over_stays (of_stay (later id now k)) id s.system
   all_fired now k s b sound after ready f accepted =
       let x = stays_found view id (of_stay (later id now k)) s.system sound.lawful in
@@ -128,7 +128,7 @@ module _ {C R : Type 0} (called : C → ℕ → Level → C → Type 0) (count :
       (λ off. no_cyclic_off n x up (has n id s.system.cpus) s.system sound p at off refl))) in omega (arith, x, y, z)
 
   pub fires_single : (now m i e : ℕ) (s : SystemSide R C) (b : Advanced R C) → IsSound view s.system → IsSound view b.side.system
-      → length s.leads.items ≡ length s.system.cpus.cpus → AllFire called count may_refuse step view now s b → AllAccepted b
+      → length s.leads.items ≡ length s.system.cpus.cpus → AllFire handler step view now s b → AllAccepted b
       → IsSingle step view id m i e s.system → IsSingle step view id (next m i now) i (e + due m i now) b.side.system
   fires_single now m i e s b sound after ready f accepted h = record {
     stays = λ k. all_fired now k s b sound after ready f accepted ∙ h.stays (later id now k);
@@ -315,7 +315,7 @@ module _ {C R : Type 0} (called : C → ℕ → Level → C → Type 0) (count :
   -- ---- one of a run, and all of it
 
   abbrev D : SystemSide R C → LeadCall → SystemSide R C → Type 0
-  D = AcceptedSteps called count may_refuse step view
+  D = AcceptedSteps handler step view
 
   pub sound_after : (s t : SystemSide R C) (call : LeadCall) → D s call t → IsSound view t.system
   sound_after s t (Make call) d = d.1

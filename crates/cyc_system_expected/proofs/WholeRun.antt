@@ -7,10 +7,10 @@ use Rattle.std.specs.List.{slice_get, FoldsTo}
 use Rattle.std.specs.Option.{option_map_or}
 use mathlib.Core.Logic.{dite}
 use native.Mathlib.Decide.{ℕ_discrete}
+use Rattle.cyc_types.specs.declared.Calls.{Ghosts as Calls}
 use Rattle.cyc_types.specs.Firing.{FiringView, FiringCall}
 use Rattle.cyc_types.specs.Series.{never}
 use Rattle.cyc_types.specs.declared.firing.Sent.{Sent}
-use Rattle.cyc_types.specs.declared.level.Level.{Level}
 use Rattle.cyc_types.specs.declared.receipt.Receipt.{Receipt}
 use Rattle.cyc_types.specs.declared.refusal.Refusal.{Refusal}
 use Rattle.cyc_types.specs.declared.refusal.Refusal.TheVariants.{NoCyclic}
@@ -71,16 +71,15 @@ not_if : (b : Bool) (why : Refusal) → if_so b why ≡ None → b ≡ false
 not_if true why e = absurd (none_some (sym e))
 not_if false why e = refl
 
-module _ {C R : Type 0} (called : C → ℕ → Level → C → Type 0) (count : C → ℕ → ℕ) (may_refuse : C → ℕ → Type 0)
-    (step : R → FiringCall → R → Type 0) (view : R → FiringView) (id : ℕ) where
+module _ {C R : Type 0} (handler : Calls C) (step : R → FiringCall → R → Type 0) (view : R → FiringView) (id : ℕ) where
   -- what is told of the id is so
   pub record Fits (told : Told) (s : SystemView R) : Type 0 where
     pub online : told.online ≡ s.cpus.online
     pub all : all_expired id s ≡ told.expired
-    pub course : IsOn called count may_refuse step view id told.course told.expired s
+    pub course : IsOn handler step view id told.course told.expired s
 
   abbrev On : Course → ℕ → SystemView R → Type 0
-  On c expired s = IsOn called count may_refuse step view id c expired s
+  On c expired s = IsOn handler step view id c expired s
 
   -- ---- a call
 
@@ -121,19 +120,19 @@ module _ {C R : Type 0} (called : C → ℕ → Level → C → Type 0) (count :
       → all_expired id t ≡ (told_after (event_in id (Make call)) told).expired
   expired_made (Add level when now (Ok own)) s t told a b d same e = dite (ℕ_discrete own id)
       (λ is. same ∙ (no_counts_yet view id s a
-      (let next' = add_next called count may_refuse step view id level when now own s t d in omega (arith, next', is))
+      (let next' = add_next handler step view id level when now own s t d in omega (arith, next', is))
       ∙ ap (λ (u : Told). u.expired)
-      (sym (its_own called count may_refuse step view id own (Begins when.start when.interval now) told is))))
+      (sym (its_own handler step view id own (Begins when.start when.interval now) told is))))
       (λ ne. same ∙ (e ∙ ap (λ (u : Told). u.expired)
-      (sym (others_pass called count may_refuse step view id own (Begins when.start when.interval now) told ne))))
+      (sym (others_pass handler step view id own (Begins when.start when.interval now) told ne))))
   expired_made (Add level when now (Err why)) s t told a b d same e = same ∙ e
   expired_made (AddOmni level when skew now (Ok own)) s t told a b d same e = dite (ℕ_discrete own id)
       (λ is. same ∙ (no_counts_yet view id s a
-      (let next' = omni_next called count may_refuse step view id level when skew now own s t d in omega (arith, next', is))
+      (let next' = omni_next handler step view id level when skew now own s t d in omega (arith, next', is))
       ∙ ap (λ (u : Told). u.expired)
-      (sym (its_own called count may_refuse step view id own (BeginsOnAll (given_everywhere level when skew) now) told is))))
+      (sym (its_own handler step view id own (BeginsOnAll (given_everywhere level when skew) now) told is))))
       (λ ne. same ∙ (e ∙ ap (λ (u : Told). u.expired)
-      (sym (others_pass called count may_refuse step view id own (BeginsOnAll (given_everywhere level when skew) now) told ne))))
+      (sym (others_pass handler step view id own (BeginsOnAll (given_everywhere level when skew) now) told ne))))
   expired_made (AddOmni level when skew now (Err why)) s t told a b d same e = same ∙ e
   expired_made (Bind own cpu answer) s t told a b d same e = same ∙ e
   expired_made (BeginRemove own (Ok removal)) s t told a b d same e =
@@ -161,14 +160,14 @@ module _ {C R : Type 0} (called : C → ℕ → Level → C → Type 0) (count :
       → (let u = told_after (event_in id (Make call)) (record { online = ups; course = c; expired = x }) in
       On u.course u.expired t)
   course_made ups Idle x call s t a b d ends same quiet =
-      idle_call called count may_refuse step view id ups x s t call a b d ends same quiet
+      idle_call handler step view id ups x s t call a b d ends same quiet
   course_made ups (Single moment interval) x call s t a b d ends same (h, still) =
-      single_call called count may_refuse step view id ups x moment interval s t a b h still call d ends
+      single_call handler step view id ups x moment interval s t a b h still call d ends
   course_made ups (OnEach e ms) x call s t a b d ends same (level, when, skew, is, h) =
       subst (λ (o : Everywhere).
       (let u = told_after (event_in id (Make call)) (record { online = ups; course = OnEach o ms; expired = x }) in
       On u.course u.expired t)) (sym is)
-      (each_call called count may_refuse step view id ups x level when skew ms s t a b h call d ends)
+      (each_call handler step view id ups x level when skew ms s t a b h call d ends)
 
   fits_made : (call : SystemCall) (s t : SystemView R) (told : Told) → IsSound view s → IsSound view t
       → Changes step view s call t → (EndsRemoval id call → ⊥) → Fits told s
@@ -184,51 +183,51 @@ module _ {C R : Type 0} (called : C → ℕ → Level → C → Type 0) (count :
 
   course_fired : (now : ℕ) (c : Course) (x : ℕ) (s : SystemSide R C) (b : Advanced R C) → IsSound view s.system
       → IsSound view b.side.system → length s.leads.items ≡ length s.system.cpus.cpus
-      → AllFire called count may_refuse step view now s b → AllAccepted b → now < never → all_expired id s.system ≡ x
+      → AllFire handler step view now s b → AllAccepted b → now < never → all_expired id s.system ≡ x
       → On c x s.system
       → (all_expired id b.side.system ≡ x + due_of now c) × On (next_of now c) (x + due_of now c) b.side.system
   course_fired now Idle x s b a after ready f accepted early e quiet = (
-    (let same = quiet_counts called count may_refuse step view id now s b a ready f accepted early quiet after in
+    (let same = quiet_counts handler step view id now s b a ready f accepted early quiet after in
         omega (arith, same, e)),
-    quiet_fired called count may_refuse step view id now s b a ready f accepted quiet,
+    quiet_fired handler step view id now s b a ready f accepted quiet,
   )
   course_fired now (Single moment interval) x s b a after ready f accepted early e (h, still) =
-      let fires = fires_single called count may_refuse step view id now moment interval x s b a after ready f accepted h in (
+      let fires = fires_single handler step view id now moment interval x s b a after ready f accepted h in (
         fires.all,
         (
           fires,
           λ n open_there. still n
-              (sym (fired_removal called count may_refuse step view id now s b a ready f accepted n) ∙ open_there),
+              (sym (fired_removal handler step view id now s b a ready f accepted n) ∙ open_there),
         ),
       )
   course_fired now (OnEach o ms) x s b a after ready f accepted early e (level, when, skew, is, h) =
       subst (λ (o : Everywhere). (all_expired id b.side.system ≡ x + due_of now (OnEach o ms))
       × On (next_of now (OnEach o ms)) (x + due_of now (OnEach o ms)) b.side.system) (sym is) (
-        spread_counts called count may_refuse step view id now s b a after ready f accepted when skew ms h
+        spread_counts handler step view id now s b a after ready f accepted when skew ms h
             ∙ ap (λ (y : ℕ). y + due_of now (OnEach (given_everywhere level when skew) ms)) e,
         (
           level,
           when,
           skew,
           refl,
-          spread_fired called count may_refuse step view id now s b a after ready f accepted when skew ms h,
+          spread_fired handler step view id now s b a after ready f accepted when skew ms h,
         ),
       )
 
   course_asked : (c : Course) (x : ℕ) (s t : SystemSide R C) → IsSound view s.system → IsSound view t.system
       → OnlyAsked step view s t → On c x s.system → On c x t.system
-  course_asked Idle x s t a b asked quiet = λ n h. asked_removals called count may_refuse step view id s t asked n
+  course_asked Idle x s t a b asked quiet = λ n h. asked_removals handler step view id s t asked n
       ∙ quiet n (sym (has_same n id s.system.cpus t.system.cpus
-      (asked_cyclic called count may_refuse step view id s t asked n)) ∙ h)
+      (asked_cyclic handler step view id s t asked n)) ∙ h)
   course_asked (Single moment interval) x s t a b asked (h, still) = (
-    asks_single called count may_refuse step view id moment interval x s t a b asked h,
-    λ n e. still n (sym (asked_removals called count may_refuse step view id s t asked n) ∙ e),
+    asks_single handler step view id moment interval x s t a b asked h,
+    λ n e. still n (sym (asked_removals handler step view id s t asked n) ∙ e),
   )
   course_asked (OnEach o ms) x s t a b asked (level, when, skew, is, h) =
-      (level, when, skew, is, spread_asked called count may_refuse step view id when skew ms s t asked h)
+      (level, when, skew, is, spread_asked handler step view id when skew ms s t asked h)
 
   abbrev pub D : SystemSide R C → LeadCall → SystemSide R C → Type 0
-  D = AcceptedSteps called count may_refuse step view
+  D = AcceptedSteps handler step view
 
   -- the call answers the removal of the id with no receipt
   ends_not : (call : SystemCall) → receipt_of id (Make call) ≡ None → EndsRemoval id call → ⊥
@@ -253,7 +252,7 @@ module _ {C R : Type 0} (called : C → ℕ → Level → C → Type 0) (count :
       })
   fits_step AskAll s t told a ready (asked, b) early none h = record {
     online = h.online ∙ sym asked.online;
-    all = asked_counts called count may_refuse step view id s t asked a b ∙ h.all;
+    all = asked_counts handler step view id s t asked a b ∙ h.all;
     course = course_asked told.course told.expired s t a b asked h.course;
   }
 
@@ -286,11 +285,11 @@ module _ {C R : Type 0} (called : C → ℕ → Level → C → Type 0) (count :
   begins_none (FireAll now) s t d low = tt
   begins_none AskAll s t d low = tt
   begins_none (Make (Add level when now (Ok own))) s t ((d, e), b) low = none_if own (Begins when.start when.interval now)
-      (λ is. (let next' = add_next called count may_refuse step view id level when now own s.system t.system d in
+      (λ is. (let next' = add_next handler step view id level when now own s.system t.system d in
       absurd (omega (arith, next', is, low))))
   begins_none (Make (AddOmni level when skew now (Ok own))) s t ((d, e), b) low =
       none_if own (BeginsOnAll (given_everywhere level when skew) now)
-      (λ is. (let next' = omni_next called count may_refuse step view id level when skew now own s.system t.system d in
+      (λ is. (let next' = omni_next handler step view id level when skew now own s.system t.system d in
       absurd (omega (arith, next', is, low))))
   begins_none (Make (BeginRemove own (Ok removal))) s t d low = by (own == id)
     where
@@ -378,7 +377,7 @@ module _ {C R : Type 0} (called : C → ℕ → Level → C → Type 0) (count :
   receives (Make (BeginRemove own (Ok (Done receipt)))) r told s u a ((d, e), b) h is =
       let (named, same) = own_receipt own receipt r is in
       let d' = subst (λ (j : ℕ). Changes step view s.system (BeginRemove j (Ok (Done receipt))) u.system) named d in
-      let ends = its_own called count may_refuse step view id own Ends told named in record {
+      let ends = its_own handler step view id own Ends told named in record {
         sent = sym (ap (λ (x : Receipt). x.sent) same) ∙ (receipt_all step view id receipt s.system u.system a (inl d')).0;
         course = ap (λ (x : Told). x.course) ends;
         expired = ap (λ (x : Told). x.expired) ends;
@@ -408,8 +407,8 @@ module _ {C R : Type 0} (called : C → ℕ → Level → C → Type 0) (count :
   run_sent [] s t told a ready run early h = ap (λ (u : SystemSide R C). all_expired id u.system) (sym run) ∙ h.all
   run_sent (call ∷ way) s t told a ready (u, d, rest) early h = by (receipt_of id call) refl
       (λ none. run_sent way u t (told_after (event_in id call) told)
-      (sound_after called count may_refuse step view id s u call d)
-      (step_ready called count may_refuse step view id s u call d ready) rest (λ k e low. early (suc k) e (omega (arith, low)))
+      (sound_after handler step view id s u call d)
+      (step_ready handler step view id s u call d ready) rest (λ k e low. early (suc k) e (omega (arith, low)))
       (fits_step call s u told a ready d (early 0 call (omega arith)) none h))
     where
       by : (o : Option Receipt) → receipt_of id call ≡ o
@@ -452,15 +451,14 @@ sent_of : (o : Option Receipt) (sent lost : ℕ)
 sent_of None sent lost = refl
 sent_of (Some r) sent lost = refl
 
-pub whole_run : {C : Type 0} (called : C → ℕ → Level → C → Type 0) (count : C → ℕ → ℕ) (may_refuse : C → ℕ → Type 0) (id : ℕ)
-    (s t : SystemSide RaiseEnd C) (way : List LeadCall)
-    → FoldsTo (AcceptedSteps called count may_refuse RaiseEndCall end_view) s way t → IsSound end_view s.system
+pub whole_run : {C : Type 0} (handler : Calls C) (id : ℕ) (s t : SystemSide RaiseEnd C) (way : List LeadCall)
+    → FoldsTo (AcceptedSteps handler RaiseEndCall end_view) s way t → IsSound end_view s.system
     → length s.leads.items ≡ length s.system.cpus.cpus → All IsBeforeNever way → IsEmpty s.system
     → (counts_in id way t.system).sent ≡ (told_by (events_in id way) (untold (length s.system.cpus.cpus))).expired
-whole_run called count may_refuse id s t way run a ready early empty =
+whole_run handler id s t way run a ready early empty =
     sent_of (receipt_in id way) (all_expired id t.system) (all_lost id t.system)
-    ∙ run_sent called count may_refuse RaiseEndCall end_view id way s t (untold (length s.system.cpus.cpus)) a ready run early
-    (fits_first called count may_refuse RaiseEndCall end_view id s.system a empty)
+    ∙ run_sent handler RaiseEndCall end_view id way s t (untold (length s.system.cpus.cpus)) a ready run early
+    (fits_first handler RaiseEndCall end_view id s.system a empty)
 
 pub empty_new : {R : Type 0} (most : ℕ) (ends : List (R × R)) (s : SystemView R) → s.cpus ≡ new_cpus most ends → s.records ≡ []
     → IsEmpty s

@@ -1,6 +1,7 @@
 -- What the calls that lead a system are to the cyclic of one id.
 use Rattle.std.specs.Prelude.{◌≡◌, ◌≢◌, ℕ, ◌==◌, ◌<◌, ⊤, if◌then◌else◌, List, map, Some, Ok, Err}
 use Rattle.std.specs.List.{slice_get}
+use Rattle.cyc_types.specs.declared.Calls.{Ghosts as Calls}
 use Rattle.cyc_types.specs.Firing.{FiringView, FiringCall}
 use Rattle.cyc_types.specs.Series.{never}
 use Rattle.cyc_types.specs.declared.level.Level.{Level}
@@ -43,11 +44,11 @@ abbrev pub AllAccepted : {C R : Type 0} → Advanced R C → Type 0
 AllAccepted b = (n : ℕ) (e : FireRefused) → slice_get b.answers.items n ≡ Some (Some (Err e)) → ⊥
 
 -- one of a run in which no fire is refused
-abbrev pub AcceptedSteps : {C R : Type 0} → (C → ℕ → Level → C → Type 0) → (C → ℕ → ℕ) → (C → ℕ → Type 0)
+abbrev pub AcceptedSteps : {C R : Type 0} → Calls C
     → (R → FiringCall → R → Type 0) → (R → FiringView) → SystemSide R C → LeadCall → SystemSide R C → Type 0
-AcceptedSteps {C} {R} called count may_refuse step view s (FireAll now) t = (after : Advanced R C)
-    × AllFire called count may_refuse step view now s after × AllAccepted after × (t ≡ after.side) × IsSound view t.system
-AcceptedSteps called count may_refuse step view s call t = LeadSteps called count may_refuse step view s call t
+AcceptedSteps {C} {R} handler step view s (FireAll now) t = (after : Advanced R C)
+    × AllFire handler step view now s after × AllAccepted after × (t ≡ after.side) × IsSound view t.system
+AcceptedSteps handler step view s call t = LeadSteps handler step view s call t
 
 -- an advance stays below never, at which every fire is refused
 abbrev pub IsBeforeNever : LeadCall → Type 0

@@ -23,7 +23,7 @@ use cyc_types::Calls;
 /// It does nothing when it runs: its clauses are the law.
 pub fn whole_run_law<C: Calls>()
     ensures expired { (id : ℕ) (s t : SystemSide AnEnd C) (way : List LeadCall)
-        → FoldsTo (AcceptedSteps C.called C.count C.may_refuse RaiseEndCall end_view) s way t → IsSound end_view s.system
+        → FoldsTo (AcceptedSteps C.Calls RaiseEndCall end_view) s way t → IsSound end_view s.system
         → length s.leads.items ≡ length s.system.cpus.cpus → All IsBeforeNever way → IsEmpty s.system
         → (counts_in id way t.system).sent ≡ (told_by (events_in id way) (untold (length s.system.cpus.cpus))).expired }
     // A new system is empty.

@@ -30,7 +30,7 @@ use Rattle.cyc_system.proofs.One.{less_done}
 use Rattle.cyc_system.proofs.Where.{nowhere}
 use Rattle.cyc_system.specs.Calls.{Changes, BeginRemove}
 use Rattle.cyc_system_laws.specs.Settling.{IsAmong}
-use Rattle.cyc_system_laws.proofs.Settles.{NotSettled, rests_at, not_before, no_calls, no_count, no_refusal}
+use Rattle.cyc_system_laws.proofs.Settles.{NotSettled, rests_at, not_before, no_calls}
 
 -- one of these numbers
 abbrev In : ℕ → List ℕ → Type 0
@@ -71,13 +71,13 @@ module _ {R : Type 0} (step : R → FiringCall → R → Type 0) (view : R → F
   done_settled : (x y : CpuView R) (receipt : _) → CpuChanges step view x (CpuBegin id (Ok (Done receipt))) y → IsSettled view x
       → IsSettled view y
   done_settled x y receipt d settled =
-      settled_one step view (no_calls step view) (no_count step view) (no_refusal step view) no_interrupts
+      settled_one step view no_calls no_interrupts
       (λ soft budget answer s t h. absurd h) (λ soft budget answer s t h k. absurd h)
       (running tt x) (running tt y) (CpuBegin id (Ok (Done receipt))) settled tt d.1.4.size (d, refl)
 
   kept_unsettled : (x y : CpuView R) (kept : ℕ) → CpuChanges step view x (CpuBegin id (Ok (Kept kept))) y → IsSettled view x → ⊥
   kept_unsettled x y kept d settled =
-      never_put_off step view (no_calls step view) (no_count step view) (no_refusal step view) no_interrupts
+      never_put_off step view no_calls no_interrupts
       (λ soft budget answer s t h. absurd h) (λ soft budget answer s t h k. absurd h)
       (running tt x) (running tt y) (CpuBegin id (Ok (Kept kept))) settled (d, refl) tt
 

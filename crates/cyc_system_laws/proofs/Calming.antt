@@ -3,8 +3,8 @@ use Rattle.std.proofs.Common.{◌≡◌, ◌∙◌, ℕ, suc, ◌≤◌, inl, in
 use Rattle.std.specs.List.{slice_get, FoldsTo}
 use mathlib.Core.Logic.{dite}
 use native.Mathlib.Decide.{ℕ_discrete}
+use Rattle.cyc_types.specs.declared.Calls.{Ghosts as Calls}
 use Rattle.cyc_types.specs.Firing.{FiringView, FiringCall}
-use Rattle.cyc_types.specs.declared.level.Level.{Level}
 use Rattle.cyc_types.specs.declared.level.Soft.{Soft}
 use Rattle.cyc_soft.specs.declared.Ran.{Ran}
 use Rattle.cyc_soft.specs.declared.SoftRefused.{SoftRefused}
@@ -25,22 +25,14 @@ use Rattle.cyc_system.specs.Calls.{ReprogramOn, Juggle, Offline, Online, FireOne
 use Rattle.cyc_system_laws.specs.Parts.{CpusCall, OnCpu, SetOnline, DoesPart}
 use Rattle.cyc_system_laws.specs.Settling.{FiresNot}
 use Rattle.cyc_system_laws.proofs.Pieces.{made_of}
+use Rattle.cyc_system_laws.proofs.Settles.{no_calls}
 
 module _ {R : Type 0} (step : R → FiringCall → R → Type 0) (view : R → FiringView) where
-  abbrev no_calls : Unit {0} → ℕ → Level → Unit {0} → Type 0
-  no_calls a n level b = ⊥
-
-  abbrev no_count : Unit {0} → ℕ → ℕ
-  no_count a n = 0
-
-  abbrev no_refusal : Unit {0} → ℕ → Type 0
-  no_refusal a n = ⊥
-
   one_settled : (x y : CpuView R) (call : CpuCall) → IsNoFire call
-      → CpuDoes no_calls no_count no_refusal step view no_interrupts (running tt x) call (running tt y) → y.size ≡ x.size
+      → CpuDoes no_calls step view no_interrupts (running tt x) call (running tt y) → y.size ≡ x.size
       → IsSettled view x → IsSettled view y
   one_settled x y call calm d same h =
-      settled_one step view no_calls no_count no_refusal no_interrupts (λ soft budget answer s t h. absurd h)
+      settled_one step view no_calls no_interrupts (λ soft budget answer s t h. absurd h)
       (λ soft budget answer s t h k. absurd h) (running tt x) (running tt y) call h calm same d
 
   quiet_settled : (x y : CpuView R) (call : CpuCall) → CpuChanges step view x call y → y.size ≡ x.size → IsSettled view x
@@ -108,13 +100,12 @@ module _ {R : Type 0} (step : R → FiringCall → R → Type 0) (view : R → F
   parts_calm n (SetOnline m online ∷ way) v w (u, e, rest) = calms_then n v u w
       (calms_same n v u (ap (λ (z : CpusView R). z.cpus) e)) (parts_calm n way u w rest)
 
-module _ {C R : Type 0} (called : C → ℕ → Level → C → Type 0) (count : C → ℕ → ℕ) (may_refuse : C → ℕ → Type 0) (step : R
-    → FiringCall → R → Type 0) (view : R → FiringView)
+module _ {C R : Type 0} (handler : Calls C) (step : R → FiringCall → R → Type 0) (view : R → FiringView)
     (interrupts : Soft → ℕ → Result Ran SoftRefused → Running C R → Running C R → Type 0)
     (serves : (s t : Running C R) (level : Soft) (budget : ℕ) (answer : Result Ran SoftRefused)
     → interrupts level budget answer s t → Calm step view s.cpu t.cpu) (n : ℕ) where
   abbrev Call : RunningSystem C R → SystemCall → RunningSystem C R → Type 0
-  Call = Does called count may_refuse step view interrupts
+  Call = Does handler step view interrupts
 
   abbrev Keeps : RunningSystem C R → RunningSystem C R → Type 0
   Keeps s t = Calms step view n s.system.cpus t.system.cpus

@@ -5,8 +5,8 @@ use Rattle.std.specs.List.{FoldsTo, slice_get}
 use Rattle.std.proofs.lemmas.List.{get_or_default}
 use mathlib.Core.Logic.{dite}
 use native.Mathlib.Decide.{ℕ_discrete}
+use Rattle.cyc_types.specs.declared.Calls.{Ghosts as Calls}
 use Rattle.cyc_types.specs.Firing.{FiringView, FiringCall}
-use Rattle.cyc_types.specs.declared.level.Level.{Level}
 use Rattle.cyc_types.specs.declared.level.Soft.{Soft}
 use Rattle.cyc_types.specs.declared.receipt.Receipt.{Receipt}
 use Rattle.cyc_soft.specs.declared.Ran.{Ran}
@@ -48,15 +48,14 @@ at_one P n D v w c now all m x at =
     (subst (λ k. IsCpu k x (with_cpu v n c.after)) e there)) now)
     (λ ne. all m x (cpu_beside n m x c.after v ne there))
 
-module _ {C R : Type 0} (called : C → ℕ → Level → C → Type 0) (count : C → ℕ → ℕ) (may_refuse : C → ℕ → Type 0) (step : R
-    → FiringCall → R → Type 0) (view : R → FiringView)
+module _ {C R : Type 0} (handler : Calls C) (step : R → FiringCall → R → Type 0) (view : R → FiringView)
     (interrupts : Soft → ℕ → Result Ran SoftRefused → Running C R → Running C R → Type 0) (id : ℕ) (P : CpuView R → Type 0)
     (quiet : (x y : CpuView R) (call : CpuCall) → PutsNot id call → CpuChanges step view x call y → P x → P y)
     (fires : (s t : Running C R) (now : ℕ) (answer : _)
-    → CpuDoes called count may_refuse step view interrupts s (Fire now answer) t → P s.cpu
-    → P t.cpu × (count t.calls id ≡ count s.calls id))
+    → CpuDoes handler step view interrupts s (Fire now answer) t → P s.cpu
+    → P t.cpu × (handler.count t.calls id ≡ handler.count s.calls id))
     (serves : (s t : Running C R) (level : Soft) (budget : ℕ) (answer : Result Ran SoftRefused)
-    → interrupts level budget answer s t → P s.cpu → P t.cpu × (count t.calls id ≡ count s.calls id)) where
+    → interrupts level budget answer s t → P s.cpu → P t.cpu × (handler.count t.calls id ≡ handler.count s.calls id)) where
   -- the id was given, no record has it, and this is true of every CPU
   pub record Away (s : SystemView R) : Type 0 where
     pub given : id ≤ s.last
@@ -83,13 +82,13 @@ module _ {C R : Type 0} (called : C → ℕ → Level → C → Type 0) (count :
   }
 
   abbrev Stays : RunningSystem C R → RunningSystem C R → Type 0
-  Stays s t = Away t.system × (count t.calls id ≡ count s.calls id)
+  Stays s t = Away t.system × (handler.count t.calls id ≡ handler.count s.calls id)
 
   stays_same : (s t : RunningSystem C R) → t ≡ s → Away s.system → Stays s t
   stays_same s t e a = (
     subst (λ (u : RunningSystem C R). Away u.system) (sym e) a,
     ap
-        (λ (u : RunningSystem C R). count u.calls id) e,
+        (λ (u : RunningSystem C R). handler.count u.calls id) e,
   )
 
   -- a call on one CPU that reaches handlers
@@ -105,9 +104,9 @@ module _ {C R : Type 0} (called : C → ℕ → Level → C → Type 0) (count :
 
   quietly : (s t : RunningSystem C R) (call : SystemCall) → Changes step view s.system call t.system × (t.calls ≡ s.calls)
       → Away s.system → Stays s t
-  quietly s t call (d, same) a = (changes_away s.system t.system call d a, ap (λ (c : C). count c id) same)
+  quietly s t call (d, same) a = (changes_away s.system t.system call d a, ap (λ (c : C). handler.count c id) same)
 
-  does_away : (s t : RunningSystem C R) (call : SystemCall) → Does called count may_refuse step view interrupts s call t
+  does_away : (s t : RunningSystem C R) (call : SystemCall) → Does handler step view interrupts s call t
       → Away s.system → Stays s t
   does_away s t (Add level when now answer) d a = quietly s t (Add level when now answer) d a
   does_away s t (AddOmni level when skew now answer) d a = quietly s t (AddOmni level when skew now answer) d a
@@ -132,7 +131,7 @@ module _ {C R : Type 0} (called : C → ℕ → Level → C → Type 0) (count :
       (reached n _ s t runs still records last a, same)
 
   pub run_away : (s t : RunningSystem C R) (way : List SystemCall)
-      → FoldsTo (Does called count may_refuse step view interrupts) s way t → Away s.system → Stays s t
+      → FoldsTo (Does handler step view interrupts) s way t → Away s.system → Stays s t
   run_away s t [] run a = stays_same s t (sym run) a
   run_away s t (call ∷ way) (u, first, rest) a =
       let (still, same) = does_away s u call first a in let (last, on) = run_away u t way rest still in (last, on ∙ same)

@@ -8,8 +8,8 @@ use Rattle.std.proofs.lemmas.Option.{slice_get_within}
 use Rattle.std.proofs.lemmas.List.{length-set}
 use mathlib.Core.Logic.{dite}
 use native.Mathlib.Decide.{ℕ_discrete}
+use Rattle.cyc_types.specs.declared.Calls.{Ghosts as Calls}
 use Rattle.cyc_types.specs.Firing.{FiringView, FiringCall}
-use Rattle.cyc_types.specs.declared.level.Level.{Level}
 use Rattle.cyc_types.specs.declared.refusal.JuggleReport.{JuggleReport}
 use Rattle.cyc_types.specs.declared.refusal.Refusal.{Refusal}
 use Rattle.cyc_types.specs.declared.refusal.Refusal.TheVariants as why
@@ -78,19 +78,14 @@ works_split : {R : Type 0} (step : R → FiringCall → R → Type 0) (view : R
 works_split step view [] ys v w run = (v, refl, run)
 works_split step view (x ∷ xs) ys v w (u, d, rest) = let (m, a, b) = works_split step view xs ys u w rest in (m, (u, d, a), b)
 
+-- no handler is called
+abbrev pub no_calls : Calls (Unit {0})
+no_calls = record { count = λ a n. 0; called = λ a n level b. ⊥; may_refuse = λ a n. ⊥ }
+
 module _ {R : Type 0} (step : R → FiringCall → R → Type 0) (view : R → FiringView) where
   -- a CPU of this number is there, and has not settled
   abbrev pub NotSettled : ℕ → CpusView R → Type 0
   NotSettled n v = (cpu : CpuView R) × IsCpu n cpu v × (IsSettled view cpu → ⊥)
-
-  abbrev pub no_calls : Unit {0} → ℕ → Level → Unit {0} → Type 0
-  no_calls a n level b = ⊥
-
-  abbrev pub no_count : Unit {0} → ℕ → ℕ
-  no_count a n = 0
-
-  abbrev pub no_refusal : Unit {0} → ℕ → Type 0
-  no_refusal a n = ⊥
 
   -- a CPU with a removal open
   busy_there : (n : ℕ) (v : CpusView R) (e : Refusal) → busy (removal_on n v) ≡ Some e → NotSettled n v
@@ -113,21 +108,21 @@ module _ {R : Type 0} (step : R → FiringCall → R → Type 0) (view : R → F
   pub refused_here : (n more : ℕ) (e : Refusal) (x y : CpuView R) → CpuChanges step view x (Reserve more (Err e)) y → IsUntil e
       → IsSettled view x → ⊥
   refused_here n more e x y d until settled =
-      never_put_off step view no_calls no_count no_refusal no_interrupts (λ soft budget answer s t h. absurd h)
+      never_put_off step view no_calls no_interrupts (λ soft budget answer s t h. absurd h)
       (λ soft budget answer s t h k. absurd h)
       (running tt x) (running tt y) (Reserve more (Err e)) settled (d, refl) until
 
   no_room_here : (n more : ℕ) (e : Refusal) (x y : CpuView R) → CpuChanges step view x (AskRoom more (Err e)) y → IsUntil e
       → IsSettled view x → ⊥
   no_room_here n more e x y d until settled =
-      never_put_off step view no_calls no_count no_refusal no_interrupts (λ soft budget answer s t h. absurd h)
+      never_put_off step view no_calls no_interrupts (λ soft budget answer s t h. absurd h)
       (λ soft budget answer s t h k. absurd h)
       (running tt x) (running tt y) (AskRoom more (Err e)) settled (d, refl) until
 
   pub asks_settled : (own : ℕ) (answer : Option ℕ) (x y : CpuView R) → CpuChanges step view x (AskPending own answer) y
       → IsSettled view x → IsSettled view y
   asks_settled own (Some k) x y d settled =
-      settled_one step view no_calls no_count no_refusal no_interrupts (λ soft budget answer s t h. absurd h)
+      settled_one step view no_calls no_interrupts (λ soft budget answer s t h. absurd h)
       (λ soft budget answer s t h k. absurd h)
       (running tt x) (running tt y) (AskPending own (Some k)) settled tt d.0.kept.size (d, refl)
   asks_settled own None x y d settled = subst (IsSettled view) (sym d.1) settled
@@ -140,14 +135,14 @@ module _ {R : Type 0} (step : R → FiringCall → R → Type 0) (view : R → F
   rooms_settled : (more : ℕ) (x y : CpuView R) → CpuChanges step view x (AskRoom more (Ok tt)) y → IsSettled view x
       → IsSettled view y
   rooms_settled more x y d settled =
-      settled_one step view no_calls no_count no_refusal no_interrupts (λ soft budget answer s t h. absurd h)
+      settled_one step view no_calls no_interrupts (λ soft budget answer s t h. absurd h)
       (λ soft budget answer s t h k. absurd h)
       (running tt x) (running tt y) (AskRoom more (Ok tt)) settled tt d.0.kept.size (d, refl)
 
   takes_settled : (own : ℕ) (taken : _) (x y : CpuView R) → CpuChanges step view x (TakeNow own (Ok taken)) y
       → IsSettled view x → IsSettled view y
   takes_settled own taken x y d settled =
-      settled_one step view no_calls no_count no_refusal no_interrupts (λ soft budget answer s t h. absurd h)
+      settled_one step view no_calls no_interrupts (λ soft budget answer s t h. absurd h)
       (λ soft budget answer s t h k. absurd h)
       (running tt x) (running tt y) (TakeNow own (Ok taken)) settled tt d.1.4.size (d, refl)
 

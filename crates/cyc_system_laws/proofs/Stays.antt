@@ -1,8 +1,8 @@
 -- An id that is over stays so, over any ends and over levels that no other thread uses.
 use Rattle.std.proofs.Common.{◌≡◌, ℕ, inl, inr, Result, Ok, Err, List, refl, sym, ap, subst, arith}
 use Rattle.std.specs.List.{FoldsTo}
+use Rattle.cyc_types.specs.declared.Calls.{Ghosts as Calls}
 use Rattle.cyc_types.specs.Firing.{FiringView, FiringCall}
-use Rattle.cyc_types.specs.declared.level.Level.{Level}
 use Rattle.cyc_types.specs.declared.level.Level.TheVariants.{High}
 use Rattle.cyc_cpu.specs.Tables.{Tables}
 use Rattle.cyc_expirations.specs.Expirations.{expirations}
@@ -24,15 +24,14 @@ use Rattle.cyc_system.specs.Calls.{SystemCall, Does as SystemDoes}
 use Rattle.cyc_system_laws.specs.Gone.{IsOver, StaysOver, IsOverWhole, StaysOverWhole, AreLevelsLawful}
 use Rattle.cyc_system_laws.proofs.Over.{run_away}
 
-module _ {C R : Type 0} (called : C → ℕ → Level → C → Type 0) (count : C → ℕ → ℕ) (may_refuse : C → ℕ → Type 0) (step : R
-    → FiringCall → R → Type 0) (view : R → FiringView) (id : ℕ) where
+module _ {C R : Type 0} (handler : Calls C) (step : R → FiringCall → R → Type 0) (view : R → FiringView) (id : ℕ) where
   quiet : (x y : CpuView R) (call : CpuCall) → PutsNot id call → Changes step view x call y → HasNoCyclic id x.cyclics
       → HasNoCyclic id y.cyclics
   quiet x y call not d none = shift_away call x.cyclics y.cyclics id (changes_shift step view x y call d) not none
 
   fire : (s t : Running C R) (now : ℕ) (answer : Result Fired FireRefused)
-      → Does called count may_refuse step view no_interrupts s (Fire now answer) t → HasNoCyclic id s.cpu.cyclics
-      → HasNoCyclic id t.cpu.cyclics × (count t.calls id ≡ count s.calls id)
+      → Does handler step view no_interrupts s (Fire now answer) t → HasNoCyclic id s.cpu.cyclics
+      → HasNoCyclic id t.cpu.cyclics × (handler.count t.calls id ≡ handler.count s.calls id)
   fire s t now (Ok r) (early, kept, expired, next, makes) none = (
     fired_away id now _ s.cpu.cyclics t.cpu.cyclics makes.timers_are none,
     (let made = expirations now (timers s.cpu.cyclics) in let a = makes.acts.counted id in
@@ -42,7 +41,7 @@ module _ {C R : Type 0} (called : C → ℕ → Level → C → Type 0) (count :
   fire s t now (Err e) (inl (late, is, same)) none = (
     subst (λ (x : Running C R). HasNoCyclic id x.cpu.cyclics) (sym same) none,
     ap
-        (λ (x : Running C R). count x.calls id) same,
+        (λ (x : Running C R). handler.count x.calls id) same,
   )
   fire s t now (Err e) (inr (early, kept, f)) none = (
     fired_away id now _ s.cpu.cyclics t.cpu.cyclics f.makes.timers_are none,
@@ -52,9 +51,9 @@ module _ {C R : Type 0} (called : C → ℕ → Level → C → Type 0) (count :
   )
 
   pub stays_over : (s t : RunningSystem C R) (way : List SystemCall) → IsOver id s.system
-      → FoldsTo (SystemDoes called count may_refuse step view no_interrupts) s way t → StaysOver count id s t
+      → FoldsTo (SystemDoes handler step view no_interrupts) s way t → StaysOver handler.count id s t
   stays_over s t way is run =
-      let (a, same) = run_away called count may_refuse step view no_interrupts id
+      let (a, same) = run_away handler step view no_interrupts id
       (λ cpu. HasNoCyclic id cpu.cyclics) quiet fire (λ s t level budget answer d. absurd d) s t way run
       (record { given = is.given; unknown = is.unknown; each = is.nowhere }) in
       (record { given = a.given; unknown = a.unknown; nowhere = a.each }, same)
@@ -67,9 +66,9 @@ is_whole id s is whole = record {
   gone = λ n cpu at. (let (law, lock, low) = whole n cpu at in unused_gone id cpu law lock low (is.nowhere n cpu at));
 }
 
-module _ {C : Type 0} (called : C → ℕ → Level → C → Type 0) (count : C → ℕ → ℕ) (may_refuse : C → ℕ → Type 0) (id : ℕ) where
+module _ {C : Type 0} (handler : Calls C) (id : ℕ) where
   abbrev Core : Running C Tables → CpuCall → Running C Tables → Type 0
-  Core = Does called count may_refuse fires firing_at (Interrupts called count may_refuse)
+  Core = Does handler fires firing_at (Interrupts handler)
 
   -- a call that reaches no handler, with any handlers
   with_calls : (calls : C) (x y : CpuView Tables) (call : CpuCall) → Changes fires firing_at x call y
@@ -90,14 +89,14 @@ module _ {C : Type 0} (called : C → ℕ → Level → C → Type 0) (count : C
   with_calls calls x y (AskSettled answer) d = (d, refl)
 
   pub stays_whole : (s t : RunningSystem C Tables) (way : List SystemCall) → IsOverWhole id s.system
-      → FoldsTo (SystemDoes called count may_refuse fires firing_at (Interrupts called count may_refuse)) s way t
-      → StaysOverWhole count id s t
+      → FoldsTo (SystemDoes handler fires firing_at (Interrupts handler)) s way t
+      → StaysOverWhole handler.count id s t
   stays_whole s t way is run =
-      let (a, same) = run_away called count may_refuse fires firing_at (Interrupts called count may_refuse) id (IsGone id)
-      (λ x y call not d gone. (stays_gone called count may_refuse id (running s.calls x) (running s.calls y) call gone not
+      let (a, same) = run_away handler fires firing_at (Interrupts handler) id (IsGone id)
+      (λ x y call not d gone. (stays_gone handler id (running s.calls x) (running s.calls y) call gone not
       (with_calls s.calls x y call d)).0)
-      (λ u w now answer d gone. stays_gone called count may_refuse id u w (Fire now answer) gone tt d)
-      (λ u w level budget answer d gone. stays_gone called count may_refuse id u w
+      (λ u w now answer d gone. stays_gone handler id u w (Fire now answer) gone tt d)
+      (λ u w level budget answer d gone. stays_gone handler id u w
       (SoftInterrupt level budget answer) gone tt d) s t way run
       (record { given = is.is_over.given; unknown = is.is_over.unknown; each = is.gone }) in (
         record {

@@ -25,7 +25,7 @@ pub fn removal_law<C: Calls, R: Raise>()
     ensures polled { (id : ℕ) (receipt : Receipt) (s t : SystemView R) → Agrees s → HasRisingIds s.records
         → Changes R.step R.view s (PollRemove id (Ok (Some receipt))) t → IsOver id t }
     ensures run { (id : ℕ) (s t : RunningSystem C R) (way : List SystemCall) → IsOver id s.system
-        → FoldsTo (Does C.called C.count C.may_refuse R.step R.view no_interrupts) s way t → StaysOver C.count id s t }
+        → FoldsTo (Does C.Calls R.step R.view no_interrupts) s way t → StaysOver C.count id s t }
 {}
 
 /// The same where no other thread uses the levels, and soft interrupts are among the calls: the id is at none of the levels
@@ -36,6 +36,6 @@ pub fn removal_core_law<C: Calls>()
     // An id that is over is at no level that is lawful.
     ensures whole { (id : ℕ) (s : SystemView Tables) → IsOver id s → AreLevelsLawful s → IsOverWhole id s }
     ensures run { (id : ℕ) (s t : RunningSystem C Tables) (way : List SystemCall) → IsOverWhole id s.system
-        → FoldsTo (Does C.called C.count C.may_refuse fires firing_at (Interrupts C.called C.count C.may_refuse)) s way t
+        → FoldsTo (Does C.Calls fires firing_at (Interrupts C.Calls)) s way t
         → StaysOverWhole C.count id s t }
 {}

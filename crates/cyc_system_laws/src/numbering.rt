@@ -16,7 +16,7 @@ use cyc_types::{Calls, Raise};
 /// It does nothing when it runs: its clause is the law.
 pub fn numbers_law<C: Calls, R: Raise>()
     ensures { (s t : RunningSystem C R) (way : List SystemCall)
-        → FoldsTo (Does C.called C.count C.may_refuse R.step R.view no_interrupts) s way t
+        → FoldsTo (Does C.Calls R.step R.view no_interrupts) s way t
         → Rise s.system.last (ids_given way) t.system.last }
 {}
 
@@ -25,6 +25,6 @@ pub fn numbers_law<C: Calls, R: Raise>()
 /// It does nothing when it runs: its clause is the law.
 pub fn numbers_core_law<C: Calls>()
     ensures { (s t : RunningSystem C Tables) (way : List SystemCall)
-        → FoldsTo (Does C.called C.count C.may_refuse fires firing_at (Interrupts C.called C.count C.may_refuse)) s way t
+        → FoldsTo (Does C.Calls fires firing_at (Interrupts C.Calls)) s way t
         → Rise s.system.last (ids_given way) t.system.last }
 {}

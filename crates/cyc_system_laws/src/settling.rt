@@ -53,7 +53,7 @@ pub fn calm_law<C: Calls, R: Raise>()
     // A switch of banks is a growth of the size.
     ensures { (n : ℕ) (x y : CpuView R) (s t : RunningSystem C R) (way : List SystemCall) → IsCpu n x s.system.cpus
         → IsCpu n y t.system.cpus → IsSettled R.view x → All (FiresNot n) way → y.size ≡ x.size
-        → FoldsTo (Does C.called C.count C.may_refuse R.step R.view no_interrupts) s way t → IsSettled R.view y }
+        → FoldsTo (Does C.Calls R.step R.view no_interrupts) s way t → IsSettled R.view y }
 {}
 
 /// The same where no other thread uses the levels, and soft interrupts are among the calls.
@@ -62,6 +62,6 @@ pub fn calm_law<C: Calls, R: Raise>()
 pub fn calm_core_law<C: Calls>()
     ensures { (n : ℕ) (x y : CpuView Tables) (s t : RunningSystem C Tables) (way : List SystemCall) → IsCpu n x s.system.cpus
         → IsCpu n y t.system.cpus → IsSettled firing_at x → All (FiresNot n) way → y.size ≡ x.size
-        → FoldsTo (Does C.called C.count C.may_refuse fires firing_at (Interrupts C.called C.count C.may_refuse)) s way t
+        → FoldsTo (Does C.Calls fires firing_at (Interrupts C.Calls)) s way t
         → IsSettled firing_at y }
 {}

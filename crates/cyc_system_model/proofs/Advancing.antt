@@ -5,7 +5,7 @@ use Rattle.std.specs.Prelude.{Ok}
 use Rattle.std.proofs.Math.Seq.{take-suc, take-length}
 use Rattle.std.proofs.lemmas.List.{length-take-le, get_or-set_other, length-set}
 use Rattle.std.proofs.lemmas.List.Sums.{sum_by-append}
-use Rattle.cyc_types.specs.declared.level.Level.{Level}
+use Rattle.cyc_types.specs.declared.Calls.{Ghosts as Calls}
 use Rattle.cyc_types.specs.declared.refusal.Refusal.TheVariants.{Offline}
 use Rattle.cyc_core.specs.Tables.{Tables}
 use Rattle.cyc_cpu.specs.Soft.{fires, firing_at as seen}
@@ -154,30 +154,30 @@ each_free ns m s h = record {
   free = λ n soft. none_admitted (fire_each ns m).acts n soft _ (fires_none m.clock ns m);
 }
 
-module _ {C : Type 0} (called : C → ℕ → Level → C → Type 0) (count : C → ℕ → ℕ) (may_refuse : C → ℕ → Type 0) where
+module _ {C : Type 0} (handler : Calls C) where
   pub has_begun : (now : ℕ) (m : State) (s : RunningSystem C Tables) → ShowsSystem m s.system
-      → HasFired count 0 0 0 (at_clock now m) s s
+      → HasFired handler.count 0 0 0 (at_clock now m) s s
   has_begun now m s h = record {
     comes = each_free [] (at_clock now m) s.system
         (record { cpus = h.cpus; placed = h.placed; ended = h.ended; fresh = h.fresh; last = h.last });
     expired = refl;
     lost = refl;
-    called = λ id. no_more_calls (count s.calls id);
+    called = λ id. no_more_calls (handler.count s.calls id);
   }
     where
       no_more_calls : (n : ℕ) → n ≡ n + 0
       no_more_calls n = omega arith
 
   pub has_fired : (n expired lost : ℕ) (fired : Fired) (m : State) (s t u : RunningSystem C Tables) → IsSystem t.system
-      → HasFired count n expired lost m s t → Does called count may_refuse fires seen no_interrupts t
+      → HasFired handler.count n expired lost m s t → Does handler fires seen no_interrupts t
       (FireOne n m.clock (Ok fired)) u
-      → HasFired count (n + 1) (expired + fired.expired) (lost + fired.lost) m s u
+      → HasFired handler.count (n + 1) (expired + fired.expired) (lost + fired.lost) m s u
   has_fired n expired lost fired m s t u sys h did =
       let ns = online_below n m in
       let o = fire_each ns m in
       let clock : o.state.clock ≡ m.clock = fires_clock m.clock ns m in
-      let f = fire_accepted called count may_refuse o.state t u sys h.comes.shows n fired
-      (subst (λ c. Does called count may_refuse fires seen no_interrupts t (FireOne n c (Ok fired)) u) (sym clock) did) in
+      let f = fire_accepted handler o.state t u sys h.comes.shows n fired
+      (subst (λ c. Does handler fires seen no_interrupts t (FireOne n c (Ok fired)) u) (sym clock) did) in
       let is = none_first (no_cpu n o.state) (offline_cpu n o.state ∷ []) f.accepted in
       let there = is_cpu n o.state is.0 in
       let long = fires_long m.clock ns m in
@@ -208,8 +208,8 @@ module _ {C : Type 0} (called : C → ℕ → Level → C → Type 0) (count : C
             omega (arith, a, b, c, d, e);
         called = λ q.
             let a = h.called q in
-            let b : count u.calls q ≡ count t.calls q + calls_of q own = f.called q
-            ∙ (λ z. count t.calls q + calls_of q (fire_here n (clock z) (cpu_of n o.state)).acts) in
+            let b : handler.count u.calls q ≡ handler.count t.calls q + calls_of q own = f.called q
+            ∙ (λ z. handler.count t.calls q + calls_of q (fire_here n (clock z) (cpu_of n o.state)).acts) in
             let c = ap (λ (x : Outcome). calls_of q x.acts) whole in
             let d = calls_append q o.acts (own ++ []) in
             let e = calls_append q own [] in
@@ -218,7 +218,8 @@ module _ {C : Type 0} (called : C → ℕ → Level → C → Type 0) (count : C
 
   -- a CPU that is offline does not fire
   pub has_passed : (n expired lost : ℕ) (m : State) (s t : RunningSystem C Tables) → IsSystem t.system → n < length m.cpus
-      → HasFired count n expired lost m s t → is_online n t.system.cpus ≡ false → HasFired count (n + 1) expired lost m s t
+      → HasFired handler.count n expired lost m s t → is_online n t.system.cpus ≡ false
+      → HasFired handler.count (n + 1) expired lost m s t
   has_passed n expired lost m s t sys low h off =
       let ns = online_below n m in
       let o = fire_each ns m in
@@ -228,7 +229,7 @@ module _ {C : Type 0} (called : C → ℕ → Level → C → Type 0) (count : C
       let is_off : (cpu_of n m).online ≡ false = sym (ap (λ (c : Cpu). c.online) same)
       ∙ offline_then (cpu_of n o.state).online (is_online n t.system.cpus) off asked in
       let next : online_below (n + 1) m ≡ ns = below_next n m low ∙ ap (λ b. ns ++ kept_if b n []) is_off ∙ nil_right ns in
-      subst (λ ks. HaveFired count ks expired lost m s t) (sym next) h
+      subst (λ ks. HaveFired handler.count ks expired lost m s t) (sym next) h
     where
       offline_then : (a b : Bool) → b ≡ false → when (not a) Offline ≡ when (not b) Offline → a ≡ false
       offline_then a true off same = absurd (let isnt : true ≡ false = off in cc)
@@ -236,12 +237,12 @@ module _ {C : Type 0} (called : C → ℕ → Level → C → Type 0) (count : C
       offline_then false false off same = refl
 
   pub has_ended : (now n expired lost : ℕ) (m : State) (s t : RunningSystem C Tables) → n ≡ length m.cpus
-      → HasFired count n expired lost (at_clock now m) s t → IsAdvanced count now expired lost m s t
+      → HasFired handler.count n expired lost (at_clock now m) s t → IsAdvanced handler.count now expired lost m s t
   has_ended now n expired lost m s t end h =
       let all : online_below n m ≡ online_cpus m = ap (λ j. numbers_from 0 (λ (c : Cpu). c.online) (take j m.cpus)) end
       ∙ ap (numbers_from 0 (λ (c : Cpu). c.online)) (take-length m.cpus) in
-      let done : HaveFired count (online_cpus m) expired lost (at_clock now m) s t =
-      subst (λ ks. HaveFired count ks expired lost (at_clock now m) s t) all h in
+      let done : HaveFired handler.count (online_cpus m) expired lost (at_clock now m) s t =
+      subst (λ ks. HaveFired handler.count ks expired lost (at_clock now m) s t) all h in
       record {
         comes = λ step. record { shows = done.comes.shows; admissions = done.comes.admissions; free = done.comes.free };
         line = λ step. (λ z. fired_line step (sym done.expired z) (sym done.lost z));

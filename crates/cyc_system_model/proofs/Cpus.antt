@@ -7,7 +7,7 @@ use Rattle.std.proofs.lemmas.Option.{slice_get_within, get_or_from_slice_get}
 use Rattle.std.proofs.lemmas.List.{length-set}
 use mathlib.Core.Logic.{dite}
 use native.Mathlib.Decide.{ℕ_discrete}
-use Rattle.cyc_types.specs.declared.level.Level.{Level}
+use Rattle.cyc_types.specs.declared.Calls.{Ghosts as Calls}
 use Rattle.cyc_types.specs.declared.level.Soft.{Soft}
 use Rattle.cyc_core.specs.Tables.{Tables}
 use Rattle.cyc_cpu.specs.Cpu.{CpuView, running}
@@ -64,17 +64,11 @@ cpu_is v n x long is =
 -- ---- a call on one of them
 
 -- no handler is called
-abbrev no_call : Unit {0} → ℕ → Level → Unit {0} → Type 0
-no_call c id level d = ⊥
-
-abbrev no_count : Unit {0} → ℕ → ℕ
-no_count c id = 0
-
-abbrev no_refusal : Unit {0} → ℕ → Type 0
-no_refusal c id = ⊥
+abbrev no_calls : Calls (Unit {0})
+no_calls = record { count = λ c id. 0; called = λ c id level d. ⊥; may_refuse = λ c id. ⊥ }
 
 does_of : (call : CpuCall) (x y : CpuView Tables) → Changes fires seen x call y
-    → Does no_call no_count no_refusal fires seen (Interrupts no_call no_count no_refusal) (running tt x) call (running tt y)
+    → Does no_calls fires seen (Interrupts no_calls) (running tt x) call (running tt y)
 does_of (Fire now answer) x y d = absurd d
 does_of (SoftInterrupt level budget answer) x y d = absurd d
 does_of (Add id level when now answer) x y d = (d, refl)
@@ -137,10 +131,10 @@ at_same n m v w x y here rest cpu e is tie =
     let same : cpu ≡ y = cc in
     subst IsTied (sym same) tie
 
-module _ {C : Type 0} (called : C → ℕ → Level → C → Type 0) (count : C → ℕ → ℕ) (may_refuse : C → ℕ → Type 0) where
+module _ {C : Type 0} (handler : Calls C) where
   pub ran_at : (n : ℕ) (call : CpuCall) (s t : RunningCpus C Tables) → length s.cpus.online ≡ length s.cpus.cpus → AreTied s.cpus
-      → (IsStopped call → ⊥) → RunsAt called count may_refuse fires seen (Interrupts called count may_refuse) s (on n call) t
-      → RanAt count n call s t
+      → (IsStopped call → ⊥) → RunsAt handler fires seen (Interrupts handler) s (on n call) t
+      → RanAt handler.count n call s t
   ran_at n call s t long ties goes d =
       let v = s.cpus in
       let w = t.cpus in
@@ -149,8 +143,8 @@ module _ {C : Type 0} (called : C → ℕ → Level → C → Type 0) (count : C
       let online = get_or v.online n true in
       let low = slice_get_within v.cpus n x d.here in
       let tie = ties n x d.here in
-      let after_tie = tied called count may_refuse call (running s.calls x) (running t.calls y) goes d.change tie in
-      let h = is_here called count may_refuse n online call (running s.calls x)
+      let after_tie = tied handler call (running s.calls x) (running t.calls y) goes d.change tie in
+      let h = is_here handler n online call (running s.calls x)
       (running t.calls y) tie.rising after_tie.rising goes d.change in
       let c = cpu_is v n x long d.here in
       record {
@@ -158,11 +152,11 @@ module _ {C : Type 0} (called : C → ℕ → Level → C → Type 0) (count : C
         within = (let m = long_shown v.online v.cpus long in omega (arith, m, low));
         cpus = ap shown_cpus d.rest ∙ set_shown v.online v.cpus n true y long low
             ∙ ap (slice_set (shown_cpus v) n) (h.cpu ∙ ap (λ (e : Cpu). (here_of n h.index call e).cpu) (sym c));
-        called = λ q. h.called q ∙ ap (λ (e : Cpu). count s.calls q + calls_of q (here_of n h.index call e).acts) (sym c);
+        called = λ q. h.called q ∙ ap (λ (e : Cpu). handler.count s.calls q + calls_of q (here_of n h.index call e).acts) (sym c);
         free = λ soft. subst (λ (e : Cpu). AllCanBeAdmitted (events_at n soft (here_of n h.index call e).acts) (level_at soft e))
             (sym c) (h.free soft);
         answered = λ in_time. subst (IsAnswered n call) (sym c)
-            (answers called count may_refuse n online call (running s.calls x) (running t.calls y) tie in_time goes d.change);
+            (answers handler n online call (running s.calls x) (running t.calls y) tie in_time goes d.change);
         tied = λ m cpu is. dite (ℕ_discrete m n)
             (λ e. at_same n m v w x y d.here d.rest cpu e is after_tie)
             (λ ne. ties m cpu (cpu_beside n m cpu y v ne (subst (λ u. IsCpu m cpu u) d.rest is)));
@@ -185,7 +179,7 @@ pub record DoneAt (n : ℕ) (call : CpuCall) (v w : CpusView Tables) : Type 0 wh
 pub done_at : (n : ℕ) (call : CpuCall) (v w : CpusView Tables) → length v.online ≡ length v.cpus → AreTied v
     → DoesAt fires seen v (on n call) w → DoneAt n call v w
 done_at n call v w long ties d =
-    let r = ran_at no_call no_count no_refusal n call (running_cpus tt v) (running_cpus tt w) long ties
+    let r = ran_at no_calls n call (running_cpus tt v) (running_cpus tt w) long ties
     (no_stop call d.before d.after d.change)
     (record { before = d.before; after = d.after; here = d.here; change = does_of call d.before d.after d.change; rest = d.rest })
     in

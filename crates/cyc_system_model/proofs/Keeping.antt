@@ -7,6 +7,7 @@ use Rattle.std.proofs.lemmas.Option.{slice_get_within, slice_get-map}
 use Rattle.std.proofs.lemmas.List.{length-set}
 use mathlib.Core.Logic.{dite}
 use native.Mathlib.Decide.{ℕ_discrete}
+use Rattle.cyc_types.specs.declared.Calls.{Ghosts as Calls}
 use Rattle.cyc_types.specs.Series.{first}
 use Rattle.cyc_types.specs.declared.firing.Sent.{Sent}
 use Rattle.cyc_types.specs.declared.level.Level.{Level}
@@ -406,11 +407,11 @@ changes_keep (Online n now answer) v w h (inr (none, did)) = kept_online n now a
 changes_keep (FireOne n now answer) v w h did = absurd did
 changes_keep (SoftInterrupt n level budget answer) v w h did = absurd did
 
-module _ {C : Type 0} (called : C → ℕ → Level → C → Type 0) (count : C → ℕ → ℕ) (may_refuse : C → ℕ → Type 0) where
+module _ {C : Type 0} (handler : Calls C) where
   kept_ran : (n : ℕ) (call : CpuCall) (s t : RunningSystem C Tables) → Half s.system
-      → ((x y : Running C Tables) → CpuDoes called count may_refuse fires seen (Interrupts called count may_refuse) x call y
+      → ((x y : Running C Tables) → CpuDoes handler fires seen (Interrupts handler) x call y
       → SameCpu x.cpu y.cpu)
-      → RunsAt called count may_refuse fires seen (Interrupts called count may_refuse) (running_cpus s.calls s.system.cpus)
+      → RunsAt handler fires seen (Interrupts handler) (running_cpus s.calls s.system.cpus)
       (on n call) (running_cpus t.calls t.system.cpus)
       → t.system.records ≡ s.system.records → t.system.last ≡ s.system.last → Kept s.system t.system
   kept_ran n call s t h keeps did records last =
@@ -418,7 +419,7 @@ module _ {C : Type 0} (called : C → ℕ → Level → C → Type 0) (count : C
       let y = did.after in
       let v = s.system.cpus in
       let w = t.system.cpus in
-      let after_tie = tied_always called count may_refuse call (running s.calls x) (running t.calls y) did.change
+      let after_tie = tied_always handler call (running s.calls x) (running t.calls y) did.change
       (h.tied n x did.here) in
       let many : length w.cpus ≡ length v.cpus = ap (λ (u : CpusView Tables). length u.cpus) did.rest ∙ length-set v.cpus n y in
       record {
@@ -432,12 +433,12 @@ module _ {C : Type 0} (called : C → ℕ → Level → C → Type 0) (count : C
       }
 
   does_keep : (call : SystemCall) (s t : RunningSystem C Tables) → Half s.system
-      → Does called count may_refuse fires seen (Interrupts called count may_refuse) s call t → Kept s.system t.system
+      → Does handler fires seen (Interrupts handler) s call t → Kept s.system t.system
   does_keep (FireOne n now answer) s t h (inl (e, some, said, same)) =
       kept_same s.system t.system h (ap (λ (x : RunningSystem C Tables). x.system) same)
   does_keep (FireOne n now answer) s t h (inr (none, (did, records, last))) =
-      kept_ran n (Fire now answer) s t h (λ x y d. fire_keeps called count may_refuse fires seen
-      (Interrupts called count may_refuse) now x y answer d) did records last
+      kept_ran n (Fire now answer) s t h (λ x y d. fire_keeps handler fires seen
+      (Interrupts handler) now x y answer d) did records last
   does_keep (SoftInterrupt n level budget answer) s t h (inl (e, some, said, same)) =
       kept_same s.system t.system h (ap (λ (x : RunningSystem C Tables). x.system) same)
   does_keep (SoftInterrupt n level budget answer) s t h (inr (none, (own, is, did, records, last))) =
@@ -457,16 +458,16 @@ module _ {C : Type 0} (called : C → ℕ → Level → C → Type 0) (count : C
   does_keep (Online n now answer) s t h (did, calls) = changes_keep (Online n now answer) s.system t.system h did
 
   pub kept : (call : SystemCall) (s t : RunningSystem C Tables)
-      → Does called count may_refuse fires seen (Interrupts called count may_refuse) s call t → IsSystem s.system
+      → Does handler fires seen (Interrupts handler) s call t → IsSystem s.system
       → Agrees t.system → IsSystem t.system
   kept call s t did sys agrees = whole t.system (does_keep call s t (half s.system sys) did).half agrees
 
   pub most_kept : (call : SystemCall) (s t : RunningSystem C Tables)
-      → Does called count may_refuse fires seen (Interrupts called count may_refuse) s call t → IsSystem s.system
+      → Does handler fires seen (Interrupts handler) s call t → IsSystem s.system
       → (n : ℕ) → most_on n t.system.cpus ≡ most_on n s.system.cpus
   most_kept call s t did sys = (does_keep call s t (half s.system sys) did).most
 
   pub room_kept : (call : SystemCall) (s t : RunningSystem C Tables)
-      → Does called count may_refuse fires seen (Interrupts called count may_refuse) s call t → IsSystem s.system
+      → Does handler fires seen (Interrupts handler) s call t → IsSystem s.system
       → HaveAllRoom s.system.cpus → HaveAllRoom t.system.cpus
   room_kept call s t did sys = (does_keep call s t (half s.system sys) did).room

@@ -1,7 +1,7 @@
 -- A fire and a soft interrupt of a system are what the definition says.
 use Rattle.std.proofs.Common.{◌≡◌, ℕ, ◌+◌, inl, inr, [], ◌∷◌, length, get_or, Some, None, refl, ap, sym, ◌∙◌, arith}
 use Rattle.std.specs.Prelude.{slice_set, Result, Ok, Err}
-use Rattle.cyc_types.specs.declared.level.Level.{Level}
+use Rattle.cyc_types.specs.declared.Calls.{Ghosts as Calls}
 use Rattle.cyc_types.specs.declared.refusal.Refusal.{Refusal}
 use Rattle.cyc_core.specs.Tables.{Tables}
 use Rattle.cyc_soft.specs.declared.Ran.{Ran}
@@ -49,7 +49,7 @@ abbrev ran_of : Ran → Result Ran SoftFault → Ran
 ran_of d (Ok ran) = ran
 ran_of d (Err e) = d
 
-module _ {C : Type 0} (called : C → ℕ → Level → C → Type 0) (count : C → ℕ → ℕ) (may_refuse : C → ℕ → Type 0)
+module _ {C : Type 0} (handler : Calls C)
     (m : State) (s t : RunningSystem C Tables) (sys : IsSystem s.system) (h : ShowsSystem m s.system) where
   no_cpu_there : (n : ℕ) → first_refusal (no_cpu n m ∷ offline_cpu n m ∷ [])
       ≡ or_else (why.no_cpu n s.system) (or_else (why.offline_cpu n s.system) None)
@@ -57,11 +57,11 @@ module _ {C : Type 0} (called : C → ℕ → Level → C → Type 0) (count : C
       (or_else (same_offline m s.system h sys.agrees.long n z) None)
 
   pub fire_accepted : (n : ℕ) (fired : Fired)
-      → Does called count may_refuse fires seen no_interrupts s (FireOne n m.clock (Ok fired)) t
-      → IsFired count n fired m s t
+      → Does handler fires seen no_interrupts s (FireOne n m.clock (Ok fired)) t
+      → IsFired handler.count n fired m s t
   fire_accepted n fired (inl (e, some, answer, same)) = absurd (let isnt : Ok fired ≡ Err (no_fire e) = answer in cc)
   fire_accepted n fired (inr (none, (did, records, last))) =
-      let r = ran_at called count may_refuse n (Fire m.clock (Ok fired)) (running_cpus s.calls s.system.cpus)
+      let r = ran_at handler n (Fire m.clock (Ok fired)) (running_cpus s.calls s.system.cpus)
       (running_cpus t.calls t.system.cpus)
       sys.agrees.long sys.tied (λ stopped. stopped) did in
       record {
@@ -73,27 +73,27 @@ module _ {C : Type 0} (called : C → ℕ → Level → C → Type 0) (count : C
         };
         expired = (r.answered tt).0 ∙ ap (λ cs. length (due_here m.clock (get_or cs n absent))) (sym h.cpus);
         lost = (r.answered tt).1 ∙ ap (λ cs. losses_in (fire_here n m.clock (get_or cs n absent)).acts) (sym h.cpus);
-        called = λ q. r.called q ∙ ap (λ cs. count s.calls q + calls_of q (fire_here n m.clock (get_or cs n absent)).acts)
+        called = λ q. r.called q ∙ ap (λ cs. handler.count s.calls q + calls_of q (fire_here n m.clock (get_or cs n absent)).acts)
             (sym h.cpus);
       }
 
   pub fire_refused : (n now : ℕ) (e : Refusal) (answer : Result Fired FireRefused)
       → first_refusal (no_cpu n m ∷ offline_cpu n m ∷ []) ≡ Some e
-      → Does called count may_refuse fires seen no_interrupts s (FireOne n now answer) t → (answer ≡ Err (no_fire e)) × (t ≡ s)
+      → Does handler fires seen no_interrupts s (FireOne n now answer) t → (answer ≡ Err (no_fire e)) × (t ≡ s)
   fire_refused n now e answer is (inl (own, some, said, same)) =
       let es : own ≡ e = same_some (sym some ∙ sym (no_cpu_there n) ∙ is) in
       (said ∙ ap (λ x. Err (no_fire x)) es, same)
   fire_refused n now e answer is (inr (none, did)) = absurd (none_some (sym none ∙ sym (no_cpu_there n) ∙ is))
 
   pub softint_accepted : (i : SoftintStep) (ran : Ran)
-      → Does called count may_refuse fires seen (Interrupts called count may_refuse) s
+      → Does handler fires seen (Interrupts handler) s
       (SoftInterrupt i.cpu i.level i.budget (Ok ran)) t
-      → IsServed count i ran m s t
+      → IsServed handler.count i ran m s t
   softint_accepted i ran (inl (e, some, answer, same)) = absurd (let isnt : Ok ran ≡ Err fault.NoCpu = answer in cc)
   softint_accepted i ran (inr (none, (Err e, answer, did, records, last))) =
       absurd (let isnt : Ok ran ≡ Err (fault.Refused e) = answer in cc)
   softint_accepted i ran (inr (none, (Ok got, answer, did, records, last))) =
-      let r = ran_at called count may_refuse i.cpu (CpuSoftInterrupt i.level i.budget (Ok got))
+      let r = ran_at handler i.cpu (CpuSoftInterrupt i.level i.budget (Ok got))
       (running_cpus s.calls s.system.cpus)
       (running_cpus t.calls t.system.cpus) sys.agrees.long sys.tied (λ stopped. stopped) did in
       let is : ran ≡ got = ap (ran_of ran) answer in
@@ -110,12 +110,13 @@ module _ {C : Type 0} (called : C → ℕ → Level → C → Type 0) (count : C
         idle = ap (λ (x : Ran). x.idle) is ∙ (r.answered tt).1
             ∙ ap (λ cs. (interrupt_here i.cpu i.level i.budget (get_or cs i.cpu absent)).idle) (sym h.cpus);
         called = λ q. r.called q
-            ∙ ap (λ cs. count s.calls q + calls_of q (interrupt_here i.cpu i.level i.budget (get_or cs i.cpu absent)).acts)
+            ∙ ap (λ cs. handler.count s.calls q + calls_of q (interrupt_here i.cpu i.level i.budget
+            (get_or cs i.cpu absent)).acts)
             (sym h.cpus);
       }
 
   pub softint_refused : (i : SoftintStep) (e : Refusal) (answer : Result Ran SoftFault) → softint_refusal i m ≡ Some e
-      → Does called count may_refuse fires seen (Interrupts called count may_refuse) s
+      → Does handler fires seen (Interrupts handler) s
       (SoftInterrupt i.cpu i.level i.budget answer) t
       → (answer ≡ Err fault.NoCpu) × (t ≡ s)
   softint_refused i e answer is (inl (own, some, said, same)) = (said, same)

@@ -67,13 +67,13 @@ pub fn begin_law()
 /// It does nothing when it runs: its clauses are the law.
 pub fn kept_law<C: Calls>()
     ensures system { (call : SystemCall) (s t : RunningSystem C Tables)
-        → Does C.called C.count C.may_refuse fires firing_at (Interrupts C.called C.count C.may_refuse) s call t
+        → Does C.Calls fires firing_at (Interrupts C.Calls) s call t
         → IsSystem s.system → Agrees t.system → IsSystem t.system }
     ensures most { (call : SystemCall) (s t : RunningSystem C Tables)
-        → Does C.called C.count C.may_refuse fires firing_at (Interrupts C.called C.count C.may_refuse) s call t
+        → Does C.Calls fires firing_at (Interrupts C.Calls) s call t
         → IsSystem s.system → (n : ℕ) → most_on n t.system.cpus ≡ most_on n s.system.cpus }
     ensures room { (call : SystemCall) (s t : RunningSystem C Tables)
-        → Does C.called C.count C.may_refuse fires firing_at (Interrupts C.called C.count C.may_refuse) s call t
+        → Does C.Calls fires firing_at (Interrupts C.Calls) s call t
         → IsSystem s.system → HaveAllRoom s.system.cpus → HaveAllRoom t.system.cpus }
 {}
 
@@ -205,11 +205,11 @@ pub fn offline_law()
 pub fn fire_law<C: Calls>()
     ensures accepted { (n : ℕ) (fired : Fired) (m : State) (s t : RunningSystem C Tables) → IsSystem s.system
         → ShowsSystem m s.system
-        → Does C.called C.count C.may_refuse fires firing_at no_interrupts s (FireOne n m.clock (Ok fired)) t
+        → Does C.Calls fires firing_at no_interrupts s (FireOne n m.clock (Ok fired)) t
         → IsFired C.count n fired m s t }
     ensures refused { (n now : ℕ) (e : Refusal) (answer : Result Fired FireRefused) (m : State) (s t : RunningSystem C Tables)
         → IsSystem s.system → ShowsSystem m s.system → first_refusal (no_cpu n m ∷ offline_cpu n m ∷ []) ≡ Some e
-        → Does C.called C.count C.may_refuse fires firing_at no_interrupts s (FireOne n now answer) t
+        → Does C.Calls fires firing_at no_interrupts s (FireOne n now answer) t
         → (answer ≡ Err (no_fire e)) × (t ≡ s) }
 {}
 
@@ -223,7 +223,7 @@ pub fn advance_law<C: Calls>()
         → HasFired C.count 0 0 0 (at_clock now m) s s }
     ensures fires { (n expired lost : ℕ) (fired : Fired) (m : State) (s t u : RunningSystem C Tables) → IsSystem t.system
         → HasFired C.count n expired lost m s t
-        → Does C.called C.count C.may_refuse fires firing_at no_interrupts t (FireOne n m.clock (Ok fired)) u
+        → Does C.Calls fires firing_at no_interrupts t (FireOne n m.clock (Ok fired)) u
         → HasFired C.count (n + 1) (expired + fired.expired) (lost + fired.lost) m s u }
     ensures passes { (n expired lost : ℕ) (m : State) (s t : RunningSystem C Tables) → IsSystem t.system → n < length m.cpus
         → HasFired C.count n expired lost m s t → is_online n t.system.cpus ≡ false
@@ -237,11 +237,11 @@ pub fn advance_law<C: Calls>()
 /// It does nothing when it runs: its clauses are the law.
 pub fn softint_law<C: Calls>()
     ensures accepted { (i : SoftintStep) (ran : Ran) (m : State) (s t : RunningSystem C Tables) → IsSystem s.system
-        → ShowsSystem m s.system → Does C.called C.count C.may_refuse fires firing_at (Interrupts C.called C.count C.may_refuse) s
+        → ShowsSystem m s.system → Does C.Calls fires firing_at (Interrupts C.Calls) s
         (SoftInterrupt i.cpu i.level i.budget (Ok ran)) t → IsServed C.count i ran m s t }
     ensures refused { (i : SoftintStep) (e : Refusal) (answer : Result Ran SoftFault) (m : State) (s t : RunningSystem C Tables)
         → IsSystem s.system → ShowsSystem m s.system → softint_refusal i m ≡ Some e
-        → Does C.called C.count C.may_refuse fires firing_at (Interrupts C.called C.count C.may_refuse) s
+        → Does C.Calls fires firing_at (Interrupts C.Calls) s
         (SoftInterrupt i.cpu i.level i.budget answer) t → (answer ≡ Err fault.NoCpu) × (t ≡ s) }
 {}
 

@@ -5,8 +5,8 @@ use Rattle.std.specs.Prelude.{sum_by}
 use Rattle.std.specs.List.{slice_get, list_any, FoldsTo}
 use Rattle.std.specs.Option.{option_map, option_map_or}
 use Rattle.std.proofs.lemmas.List.Sums.{sum_by-cons}
+use Rattle.cyc_types.specs.declared.Calls.{Ghosts as Calls}
 use Rattle.cyc_types.specs.Firing.{Stay, seen_in}
-use Rattle.cyc_types.specs.declared.level.Level.{Level}
 use Rattle.cyc_types.specs.declared.receipt.Receipt.{Receipt}
 use Rattle.cyc_level.specs.Level.{AdmittedCyclic, count_in}
 use Rattle.cyc_core.specs.Tables.{Tables, level_of}
@@ -155,19 +155,19 @@ module _ (id : ℕ) where
       let d = adds.pending in omega (arith, a, b, c, d)
 
 -- ---- a run
-module _ {C : Type 0} (called : C → ℕ → Level → C → Type 0) (count : C → ℕ → ℕ) (may_refuse : C → ℕ → Type 0) (id : ℕ) where
+module _ {C : Type 0} (handler : Calls C) (id : ℕ) where
   abbrev Call : RunningSystem C Tables → SystemCall → RunningSystem C Tables → Type 0
-  Call = Does called count may_refuse fires firing_at (Interrupts called count may_refuse)
+  Call = Does handler fires firing_at (Interrupts handler)
 
   abbrev D : RunningSystem C Tables → SystemCall → RunningSystem C Tables → Type 0
-  D = Steps called count may_refuse fires firing_at (Interrupts called count may_refuse)
+  D = Steps handler fires firing_at (Interrupts handler)
 
   abbrev AllLevels : SystemView Tables → Type 0
   AllLevels s = (n : ℕ) (x : CpuView Tables) → IsCpu n x s.cpus → HasLawfulLevels x
 
   -- the calls that are outstanding or were made
   abbrev begun : RunningSystem C Tables → ℕ
-  begun s = all_pending id s.system + all_lost id s.system + count s.calls id
+  begun s = all_pending id s.system + all_lost id s.system + handler.count s.calls id
 
   pub record Balances (made : ℕ) (s t : RunningSystem C Tables) : Type 0 where
     pub sum : begun t ≡ begun s + made
@@ -177,9 +177,9 @@ module _ {C : Type 0} (called : C → ℕ → Level → C → Type 0) (count : C
       → (EndsRemoval id call → ⊥) → (d : Call s call t)
       → (all_expired id t.system ≡ all_expired id s.system + expirations_in id call s.system)
       × (all_lost id t.system ≡ all_lost id s.system
-      + losses_in called count may_refuse fires firing_at (Interrupts called count may_refuse) id call s t d)
+      + losses_in handler fires firing_at (Interrupts handler) id call s t d)
   grown s t call a b open_still d =
-      let g = one_grows called count may_refuse fires firing_at (Interrupts called count may_refuse)
+      let g = one_grows handler fires firing_at (Interrupts handler)
       (λ s t level budget answer d. d.1.cyclics) id s t call a b open_still d in (g.expired, g.lost)
 
   balances_same : (made : ℕ) (s t : RunningSystem C Tables) → t ≡ s → all_expired id t.system ≡ all_expired id s.system + made
@@ -193,7 +193,7 @@ module _ {C : Type 0} (called : C → ℕ → Level → C → Type 0) (count : C
   balances_quiet : (s t : RunningSystem C Tables) (call : SystemCall) → Changes fires firing_at s.system call t.system
       × (t.calls ≡ s.calls) → all_lost id t.system ≡ all_lost id s.system + 0 → Balances 0 s t
   balances_quiet s t call (d, same) lost = let k = quietly id s.system t.system call d in record {
-    sum = (let x = k.all in let y = ap (λ (c : C). count c id) same in omega (arith, x, y, lost));
+    sum = (let x = k.all in let y = ap (λ (c : C). handler.count c id) same in omega (arith, x, y, lost));
     lawful = k.lawful;
   }
 
@@ -203,7 +203,7 @@ module _ {C : Type 0} (called : C → ℕ → Level → C → Type 0) (count : C
   fire_balances n now answer s t a b (inl (e, why, is, same)) =
       balances_same _ s t same (grown s t (FireOne n now answer) a b (λ h. h) (inl (e, why, is, same))).0
   fire_balances n now answer s t a b (inr (clear, (runs, records, last))) =
-      let f = fire_pends called count may_refuse id (running s.calls runs.before) (running t.calls runs.after) now answer
+      let f = fire_pends handler id (running s.calls runs.before) (running t.calls runs.after) now answer
       (a.lawful n runs.before runs.here) runs.change in
       let lost = (grown s t (FireOne n now answer) a b (λ h. h) (inr (clear, (runs, records, last)))).1 in
       let sums = all_after id 0 n _ s.system.cpus t.system.cpus runs in
@@ -221,7 +221,7 @@ module _ {C : Type 0} (called : C → ℕ → Level → C → Type 0) (count : C
   one_balances s t (SoftInterrupt n level budget answer) a b h open_still (inl (e, why, is, same)) =
       balances_same 0 s t same (grown s t (SoftInterrupt n level budget answer) a b open_still (inl (e, why, is, same))).0
   one_balances s t (SoftInterrupt n level budget answer) a b h open_still (inr (clear, (own, is, runs, records, last))) =
-      let f = serve_pends called count may_refuse id (running s.calls runs.before) (running t.calls runs.after) level budget own
+      let f = serve_pends handler id (running s.calls runs.before) (running t.calls runs.after) level budget own
       (a.lawful n runs.before runs.here) (h n runs.before runs.here) runs.change in
       let lost = (grown s t (SoftInterrupt n level budget answer) a b open_still
       (inr (clear, (own, is, runs, records, last)))).1 in
@@ -271,13 +271,13 @@ module _ {C : Type 0} (called : C → ℕ → Level → C → Type 0) (count : C
   one_lawful s t (FireOne n now answer) a h (inl (e, why, is, same)) =
       subst (λ (u : RunningSystem C Tables). AllLevels u.system) (sym same) h
   one_lawful s t (FireOne n now answer) a h (inr (clear, (runs, records, last))) =
-      let f = fire_pends called count may_refuse id (running s.calls runs.before) (running t.calls runs.after) now answer
+      let f = fire_pends handler id (running s.calls runs.before) (running t.calls runs.after) now answer
       (a.lawful n runs.before runs.here) runs.change in
       at_one HasLawfulLevels n _ s.system.cpus t.system.cpus runs (f.lawful (h n runs.before runs.here)) h
   one_lawful s t (SoftInterrupt n level budget answer) a h (inl (e, why, is, same)) =
       subst (λ (u : RunningSystem C Tables). AllLevels u.system) (sym same) h
   one_lawful s t (SoftInterrupt n level budget answer) a h (inr (clear, (own, is, runs, records, last))) =
-      let f = serve_pends called count may_refuse id (running s.calls runs.before) (running t.calls runs.after) level budget own
+      let f = serve_pends handler id (running s.calls runs.before) (running t.calls runs.after) level budget own
       (a.lawful n runs.before runs.here) (h n runs.before runs.here) runs.change in
       at_one HasLawfulLevels n _ s.system.cpus t.system.cpus runs f.lawful h
   one_lawful s t (Add level when now answer) a h d =
@@ -316,11 +316,11 @@ module _ {C : Type 0} (called : C → ℕ → Level → C → Type 0) (count : C
   pub receipt_calls : (s t : RunningSystem C Tables) (u : SystemView Tables) (way : List SystemCall) (receipt : Receipt)
       → FoldsTo D s way t → IsSound firing_at s.system → AllLevels s.system → s.system.last < id → IsSound firing_at u
       → All (λ call. EndsRemoval id call → ⊥) way → Answers fires firing_at id receipt t.system u
-      → receipt.sent + count s.calls id ≡ receipt.lost + count t.calls id
+      → receipt.sent + handler.count s.calls id ≡ receipt.lost + handler.count t.calls id
   receipt_calls s t u way receipt run a h new b open_still answers =
-      let after = run_sound called count may_refuse fires firing_at (Interrupts called count may_refuse)
+      let after = run_sound handler fires firing_at (Interrupts handler)
       (λ s t level budget answer d. d.1.cyclics) id s t way run a in
-      let (sent, lost) = receipt_along called count may_refuse fires firing_at (Interrupts called count may_refuse)
+      let (sent, lost) = receipt_along handler fires firing_at (Interrupts handler)
       (λ s t level budget answer d. d.1.cyclics) id s t u way receipt run a new open_still answers in
       let (sent_all, lost_all) = receipt_all fires firing_at id receipt t.system u after answers in
       let x = (run_balances s t way run a h open_still).sum in

@@ -7,7 +7,7 @@ use Rattle.std.specs.Option.{option_map_or}
 use Rattle.std.proofs.lemmas.Option.{slice_get_within}
 use mathlib.Core.Logic.{dite}
 use native.Mathlib.Decide.{ℕ_discrete}
-use Rattle.cyc_types.specs.declared.level.Level.{Level}
+use Rattle.cyc_types.specs.declared.Calls.{Ghosts as Calls}
 use Rattle.cyc_types.specs.declared.level.Level.TheVariants.{Low, Lock, High}
 use Rattle.cyc_types.specs.declared.level.Soft.{Soft}
 use Rattle.cyc_types.specs.declared.refusal.Refusal.{Refusal}
@@ -125,31 +125,31 @@ module _ (id : ℕ) where
   pub quietly : (s t : SystemView Tables) (call : SystemCall) → Changes fires firing_at s call t → KeepsPending s.cpus t.cpus
   quietly s t call d = let m = made_of fires firing_at s t call d in parts_keep m.way s.cpus t.cpus m.works
 
-module _ {C : Type 0} (called : C → ℕ → Level → C → Type 0) (count : C → ℕ → ℕ) (may_refuse : C → ℕ → Type 0) (id : ℕ) where
+module _ {C : Type 0} (handler : Calls C) (id : ℕ) where
   abbrev Call : RunningSystem C Tables → SystemCall → RunningSystem C Tables → Type 0
-  Call = Does called count may_refuse fires firing_at (Interrupts called count may_refuse)
+  Call = Does handler fires firing_at (Interrupts handler)
 
   abbrev CpuCalls : Running C Tables → CpuCall → Running C Tables → Type 0
-  CpuCalls = CpuDoes called count may_refuse fires firing_at (Interrupts called count may_refuse)
+  CpuCalls = CpuDoes handler fires firing_at (Interrupts handler)
 
   abbrev lost_in : (call : SystemCall) (s t : RunningSystem C Tables) → Call s call t → ℕ
-  lost_in call s t d = losses_in called count may_refuse fires firing_at (Interrupts called count may_refuse) id call s t d
+  lost_in call s t d = losses_in handler fires firing_at (Interrupts handler) id call s t d
 
   -- a fire of one CPU: its ends were raised for these, and these were lost
   pub record HasFired (raised high losses : ℕ) (s t : Running C Tables) : Type 0 where
     pub pends : pending_in id t.cpu + losses ≡ pending_in id s.cpu + raised
-    pub calls : count t.calls id ≡ count s.calls id + high
+    pub calls : handler.count t.calls id ≡ handler.count s.calls id + high
     pub lawful : HasLawfulLevels s.cpu → HasLawfulLevels t.cpu
 
   pub fire_pends : (s t : Running C Tables) (now : ℕ) (answer : Result Fired FireRefused) → IsLawful firing_at s.cpu
       → (d : CpuCalls s (Fire now answer) t)
       → HasFired (raised_in (account_of (Fire now answer) s.cpu.cyclics) id)
       ((account_of (Fire now answer) s.cpu.cyclics).fired High id)
-      (losses_of_fire called count may_refuse fires firing_at (Interrupts called count may_refuse) id now answer s t d) s t
+      (losses_of_fire handler fires firing_at (Interrupts handler) id now answer s t d) s t
   fire_pends s t now answer law d =
-      let p = fire_here called count may_refuse fires firing_at (Interrupts called count may_refuse)
+      let p = fire_here handler fires firing_at (Interrupts handler)
       (λ s t level budget answer d. d.1.cyclics) id s t now answer law d in
-      let q = lost_here called count may_refuse fires firing_at (Interrupts called count may_refuse)
+      let q = lost_here handler fires firing_at (Interrupts handler)
       (λ s t level budget answer d. d.1.cyclics) id s t now answer law d in
       let a = goes_counts id s.cpu.lock t.cpu.lock p.lock.way p.lock.goes in
       let b = goes_counts id s.cpu.low t.cpu.low p.low.way p.low.goes in
@@ -166,14 +166,14 @@ module _ {C : Type 0} (called : C → ℕ → Level → C → Type 0) (count : C
 
   -- a soft interrupt of one CPU
   pub record HasServed (s t : Running C Tables) : Type 0 where
-    pub pends : pending_in id t.cpu + count t.calls id ≡ pending_in id s.cpu + count s.calls id
+    pub pends : pending_in id t.cpu + handler.count t.calls id ≡ pending_in id s.cpu + handler.count s.calls id
     pub lawful : HasLawfulLevels t.cpu
 
   pub serve_pends : (s t : Running C Tables) (level : Soft) (budget : ℕ) (answer : Result Ran SoftRefused)
       → IsLawful firing_at s.cpu → HasLawfulLevels s.cpu → CpuCalls s (CpuSoftInterrupt level budget answer) t → HasServed s t
   serve_pends s t level budget answer law (lock, low) d =
       let ts = timers s.cpu.cyclics in
-      let p = core_proceeds_one called count may_refuse s t (CpuSoftInterrupt level budget answer) law d in
+      let p = core_proceeds_one handler s t (CpuSoftInterrupt level budget answer) law d in
       let a = way_counts id s.cpu.lock t.cpu.lock p.lock.way p.lock.goes lock in
       let b = way_counts id s.cpu.low t.cpu.low p.low.way p.low.goes low in
       let e = p.lock.raises id in let f = p.low.raises id in let g = p.lock.losses id in let h = p.low.losses id in
@@ -244,9 +244,10 @@ module _ {C : Type 0} (called : C → ℕ → Level → C → Type 0) (count : C
   pub served_on : (n budget : ℕ) (level : Soft) (answer : _) (s t : RunningSystem C Tables)
       → ((m : ℕ) (x : CpuView Tables) → IsCpu m x s.system.cpus → IsLawful firing_at x × HasLawfulLevels x)
       → Call s (SoftInterrupt n level budget answer) t
-      → pending_on n id t.system.cpus + count t.calls id ≡ pending_on n id s.system.cpus + count s.calls id
+      → pending_on n id t.system.cpus + handler.count t.calls id ≡ pending_on n id s.system.cpus + handler.count s.calls id
   served_on n budget level answer s t law (inl (e, why, is, same)) =
-      let a = same_on n s t same in let b = ap (λ (x : RunningSystem C Tables). count x.calls id) same in omega (arith, a, b)
+      let a = same_on n s t same in let b = ap (λ (x : RunningSystem C Tables). handler.count x.calls id) same in omega
+      (arith, a, b)
   served_on n budget level answer s t law (inr (clear, (own, is, runs, records, last))) =
       let (lawful, levels) = law n runs.before runs.here in
       let f = (serve_pends (running s.calls runs.before) (running t.calls runs.after) level budget own lawful levels

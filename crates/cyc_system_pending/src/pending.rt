@@ -29,24 +29,21 @@ use cyc_types::Calls;
 /// It does nothing when it runs: its clauses are the law.
 pub fn pending_law<C: Calls>()
     ensures kept { (id n : ℕ) (s t : RunningSystem C Tables) (call : SystemCall)
-        → Does C.called C.count C.may_refuse fires firing_at (Interrupts C.called C.count C.may_refuse) s call t
+        → Does C.Calls fires firing_at (Interrupts C.Calls) s call t
         → (Serves n call → ⊥) → pending_on n id t.system.cpus ≡ pending_on n id s.system.cpus }
     ensures fired { (id n now : ℕ) (answer : Result Fired FireRefused) (s t : RunningSystem C Tables) → IsSound firing_at s.system
-        → (d : Does C.called C.count C.may_refuse fires firing_at (Interrupts C.called C.count C.may_refuse) s
-        (FireOne n now answer) t)
-        → pending_on n id t.system.cpus + losses_in C.called C.count C.may_refuse fires firing_at
-        (Interrupts C.called C.count C.may_refuse) id (FireOne n now answer) s t d
+        → (d : Does C.Calls fires firing_at (Interrupts C.Calls) s (FireOne n now answer) t)
+        → pending_on n id t.system.cpus + losses_in C.Calls fires firing_at (Interrupts C.Calls) id (FireOne n now answer) s t d
         ≡ pending_on n id s.system.cpus + raised_on n id now answer s.system.cpus }
     // Each call of a handler that is made is one outstanding call less.
     ensures served { (id n budget : ℕ) (level : Soft) (answer : Result Ran SoftFault) (s t : RunningSystem C Tables)
         → AreLevelsLawful s.system
-        → Does C.called C.count C.may_refuse fires firing_at (Interrupts C.called C.count C.may_refuse) s
-        (SoftInterrupt n level budget answer) t
+        → Does C.Calls fires firing_at (Interrupts C.Calls) s (SoftInterrupt n level budget answer) t
         → pending_on n id t.system.cpus + C.count t.calls id ≡ pending_on n id s.system.cpus + C.count s.calls id }
     // Levels that are lawful stay so.
     ensures levels { (s t : RunningSystem C Tables) (call : SystemCall) → IsSound firing_at s.system → IsSound firing_at t.system
         → AreLevelsLawful s.system
-        → Does C.called C.count C.may_refuse fires firing_at (Interrupts C.called C.count C.may_refuse) s call t
+        → Does C.Calls fires firing_at (Interrupts C.Calls) s call t
         → AreLevelsLawful t.system }
     // A cyclic leaves a CPU, and comes to one, only while no call of it is outstanding there.
     ensures moved { (id n : ℕ) (s t : SystemView Tables) (call : SystemCall) → IsSound firing_at s → IsSound firing_at t
@@ -66,14 +63,14 @@ pub fn pending_law<C: Calls>()
 /// It does nothing when it runs: its clauses are the law.
 pub fn balance_law<C: Calls>()
     ensures balanced { (id : ℕ) (s t : RunningSystem C Tables) (way : List SystemCall)
-        → (run : FoldsTo (Steps C.called C.count C.may_refuse fires firing_at (Interrupts C.called C.count C.may_refuse)) s way t)
+        → (run : FoldsTo (Steps C.Calls fires firing_at (Interrupts C.Calls)) s way t)
         → IsSound firing_at s.system → AreLevelsLawful s.system → All (λ call. EndsRemoval id call → ⊥) way
         → all_pending id t.system + all_lost id t.system + C.count t.calls id
         ≡ all_pending id s.system + all_lost id s.system + C.count s.calls id + expirations_along
-        (Steps C.called C.count C.may_refuse fires firing_at (Interrupts C.called C.count C.may_refuse)) id s way t run }
+        (Steps C.Calls fires firing_at (Interrupts C.Calls)) id s way t run }
     // The run begins before the id is given.
     ensures receipt { (id : ℕ) (s t : RunningSystem C Tables) (u : SystemView Tables) (way : List SystemCall) (receipt : Receipt)
-        → FoldsTo (Steps C.called C.count C.may_refuse fires firing_at (Interrupts C.called C.count C.may_refuse)) s way t
+        → FoldsTo (Steps C.Calls fires firing_at (Interrupts C.Calls)) s way t
         → IsSound firing_at s.system → AreLevelsLawful s.system → s.system.last < id → IsSound firing_at u
         → All (λ call. EndsRemoval id call → ⊥) way → Answers fires firing_at id receipt t.system u
         → receipt.sent + C.count s.calls id ≡ receipt.lost + C.count t.calls id }

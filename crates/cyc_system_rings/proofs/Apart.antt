@@ -6,6 +6,7 @@ use Rattle.std.specs.Prelude.{sum_by}
 use Rattle.std.specs.List.{slice_get, FoldsTo}
 use Rattle.std.proofs.lemmas.List.Sums.{sum_by-cons}
 use Rattle.std.proofs.lemmas.Option.{slice_get_within}
+use Rattle.cyc_types.specs.declared.Calls.{Ghosts as Calls}
 use Rattle.cyc_types.specs.Firing.{FiringView, FiringCall}
 use Rattle.cyc_types.specs.Runs.{Goes, raised_by, lost_by}
 use Rattle.cyc_types.specs.declared.level.Level.{Level}
@@ -109,7 +110,7 @@ its_id id new l own given = by (new == id) refl given
     by true is given = eq_true new id is
     by false is given = absurd (none_some given)
 
-module _ {C R : Type 0} (called : C → ℕ → Level → C → Type 0) (count : C → ℕ → ℕ) (may_refuse : C → ℕ → Type 0)
+module _ {C R : Type 0} (handler : Calls C)
     (step : R → FiringCall → R → Type 0) (view : R → FiringView) (raised dropped : ℕ → R → ℕ)
     (adds : (e f : R) (way : List FiringCall) → Goes step view e way f → (id : ℕ)
     → (raised id f ≡ raised id e + raised_by id way) × (dropped id f ≡ dropped id e + lost_by id way)) (id : ℕ) where
@@ -117,7 +118,7 @@ module _ {C R : Type 0} (called : C → ℕ → Level → C → Type 0) (count :
   abbrev deeds : Level → Running C R → ℕ
   deeds Low r = raised id r.cpu.low
   deeds Lock r = raised id r.cpu.lock
-  deeds High r = count r.calls id
+  deeds High r = handler.count r.calls id
 
   abbrev drops : Level → CpuView R → ℕ
   drops Low cpu = dropped id cpu.low
@@ -125,7 +126,7 @@ module _ {C R : Type 0} (called : C → ℕ → Level → C → Type 0) (count :
   drops High cpu = 0
 
   grows : (own : Level) (s t : Running C R) (now : ℕ) (answer : Result Fired FireRefused)
-      → Proceeds count step view (account_of (Fire now answer) s.cpu.cyclics) s t
+      → Proceeds handler.count step view (account_of (Fire now answer) s.cpu.cyclics) s t
       → share own (timers s.cpu.cyclics) (made_by (Fire now answer) s.cpu.cyclics) id ≡ 0
       → (deeds own t ≡ deeds own s) × (drops own t.cpu ≡ drops own s.cpu)
   grows Lock s t now answer p z =
@@ -141,7 +142,7 @@ module _ {C R : Type 0} (called : C → ℕ → Level → C → Type 0) (count :
   abbrev pub all_deeds : Level → SystemSide R C → ℕ
   all_deeds Low s = sum_by (raised_end step view raised dropped adds id soft.Low) s.system.cpus.cpus
   all_deeds Lock s = sum_by (raised_end step view raised dropped adds id soft.Lock) s.system.cpus.cpus
-  all_deeds High s = counted_by count id s.leads.items
+  all_deeds High s = counted_by handler.count id s.leads.items
 
   abbrev pub all_drops : Level → SystemSide R C → ℕ
   all_drops Low s = sum_by (dropped_end step view raised dropped adds id soft.Low) s.system.cpus.cpus
@@ -154,7 +155,7 @@ module _ {C R : Type 0} (called : C → ℕ → Level → C → Type 0) (count :
       → (all_deeds own t ≡ all_deeds own s) × (all_drops own t ≡ all_drops own s)
   still_leads Low s t ends same = ends soft.Low
   still_leads Lock s t ends same = ends soft.Lock
-  still_leads High s t ends same = (λ i. counted_by count id (same i).items, refl)
+  still_leads High s t ends same = (λ i. counted_by handler.count id (same i).items, refl)
 
   -- ---- an advance
 
@@ -164,7 +165,7 @@ module _ {C R : Type 0} (called : C → ℕ → Level → C → Type 0) (count :
       → slice_get b.side.system.cpus.cpus n ≡ Some y → slice_get s.leads.items n ≡ Some l
       → slice_get b.side.leads.items n ≡ Some m → h (running m.calls y) ≡ h (running l.calls x)
 
-  module _ (now : ℕ) (s : SystemSide R C) (b : Advanced R C) (f : AllFire called count may_refuse step view now s b)
+  module _ (now : ℕ) (s : SystemSide R C) (b : Advanced R C) (f : AllFire handler step view now s b)
       (ready : length s.leads.items ≡ length s.system.cpus.cpus) where
     on_cpus_as : (h : CpuView R → ℕ) → Each s b (λ r. h r.cpu) → sum_by h b.side.system.cpus.cpus ≡ sum_by h s.system.cpus.cpus
     on_cpus_as h same = sums_same h s.system.cpus.cpus b.side.system.cpus.cpus f.long
@@ -173,7 +174,7 @@ module _ {C R : Type 0} (called : C → ℕ → Level → C → Type 0) (count :
         let (m, v) = stands b.side.leads.items n (omega (arith, low, ready, k)) in same n x y l m p q u v))
 
     leads_each : Each s b (deeds High) → (n : ℕ) (l m : Lead C) → slice_get s.leads.items n ≡ Some l
-        → slice_get b.side.leads.items n ≡ Some m → count m.calls id ≡ count l.calls id
+        → slice_get b.side.leads.items n ≡ Some m → handler.count m.calls id ≡ handler.count l.calls id
     leads_each same n l m u v =
         let low = slice_get_within s.leads.items n l u in let e = f.long in
         let (x, p) = stands s.system.cpus.cpus n (omega (arith, low, ready)) in
@@ -182,7 +183,7 @@ module _ {C R : Type 0} (called : C → ℕ → Level → C → Type 0) (count :
     deeds_as : (own : Level) → Each s b (deeds own) → all_deeds own b.side ≡ all_deeds own s
     deeds_as Low same = on_cpus_as (raised_end step view raised dropped adds id soft.Low) same
     deeds_as Lock same = on_cpus_as (raised_end step view raised dropped adds id soft.Lock) same
-    deeds_as High same = sums_same (λ (l : Lead C). count l.calls id) s.leads.items b.side.leads.items f.long_leads
+    deeds_as High same = sums_same (λ (l : Lead C). handler.count l.calls id) s.leads.items b.side.leads.items f.long_leads
         (leads_each same)
 
     drops_as : (own : Level) → Each s b (λ r. drops own r.cpu) → all_drops own b.side ≡ all_drops own s
@@ -199,14 +200,14 @@ module _ {C R : Type 0} (called : C → ℕ → Level → C → Type 0) (count :
 
     -- a CPU in an advance
     none_fired : (up : Bool) (now : ℕ) (s t : Running C R) (answer : Option (Result Fired FireRefused)) → IsLawful view s.cpu
-        → FiresIf called count may_refuse step view up now s answer t → here level id s.cpu ≡ 0 → NoneFired s t
+        → FiresIf handler step view up now s answer t → here level id s.cpu ≡ 0 → NoneFired s t
     none_fired true now s t (Some answer) law d none =
-        let p = proceeds_one called count may_refuse step view s t (Fire now answer) law d in
+        let p = proceeds_one handler step view s t (Fire now answer) law d in
         let z = none_shared level id s.cpu.cyclics (made_by (Fire now answer) s.cpu.cyclics) none in
         let (a, b) = grows level s t now answer p z in
         record { none = by answer d; deeds_same = a; drops_same = b }
       where
-        by : (answer : Result Fired FireRefused) → CpuDoes called count may_refuse step view no_interrupts s (Fire now answer) t
+        by : (answer : Result Fired FireRefused) → CpuDoes handler step view no_interrupts s (Fire now answer) t
             → here level id t.cpu ≡ 0
         by (Ok r) (early, kept, expired, next, makes) =
             fired_here level id now _ s.cpu.cyclics t.cpu.cyclics makes.timers_are ∙ none
@@ -225,12 +226,13 @@ module _ {C R : Type 0} (called : C → ℕ → Level → C → Type 0) (count :
     SameCalls Low s t = Unit {0}
     SameCalls Lock s t = Unit {0}
     SameCalls High s t =
-        map (λ (l : Lead C). count l.calls id) t.leads.items ≡ map (λ (l : Lead C). count l.calls id) s.leads.items
+        map (λ (l : Lead C). handler.count l.calls id) t.leads.items ≡ map (λ (l : Lead C). handler.count l.calls id)
+        s.leads.items
 
     calls_as : (own : Level) (s t : SystemSide R C) → t.leads ≡ s.leads → SameCalls own s t
     calls_as Low s t same = tt
     calls_as Lock s t same = tt
-    calls_as High s t same = λ i. map (λ (l : Lead C). count l.calls id) (same i).items
+    calls_as High s t same = λ i. map (λ (l : Lead C). handler.count l.calls id) (same i).items
 
     calls_on : (own : Level) (s t u : SystemSide R C) → SameCalls own s t → SameCalls own t u → SameCalls own s u
     calls_on Low s t u a b = tt
@@ -282,7 +284,7 @@ module _ {C R : Type 0} (called : C → ℕ → Level → C → Type 0) (count :
         }
 
     fires_apart : (now : ℕ) (s : SystemSide R C) (b : Advanced R C) → IsSound view s.system
-        → length s.leads.items ≡ length s.system.cpus.cpus → AllFire called count may_refuse step view now s b
+        → length s.leads.items ≡ length s.system.cpus.cpus → AllFire handler step view now s b
         → IsElsewhere level id s.system → IsApart s b.side
     fires_apart now s b sound ready f o = record {
       elsewhere = record {
@@ -301,7 +303,7 @@ module _ {C R : Type 0} (called : C → ℕ → Level → C → Type 0) (count :
         same_calls : (own : Level) → Each s b (deeds own) → SameCalls own s b.side
         same_calls Low same = tt
         same_calls Lock same = tt
-        same_calls High same = maps_same (λ (l : Lead C). count l.calls id) s.leads.items b.side.leads.items f.long_leads
+        same_calls High same = maps_same (λ (l : Lead C). handler.count l.calls id) s.leads.items b.side.leads.items f.long_leads
             (leads_each now s b f ready same)
 
         each : (n : ℕ) (x y : CpuView R) (l m : Lead C) → slice_get s.system.cpus.cpus n ≡ Some x
@@ -314,7 +316,7 @@ module _ {C R : Type 0} (called : C → ℕ → Level → C → Type 0) (count :
             none_fired up now (running l.calls x) (running m.calls y) answer (sound.lawful n x p)
             (f.each n up x y l m answer at p q u v told) (zero_each (here level id) s.system.cpus.cpus n x o.none p)
 
-    leads_apart : (s t : SystemSide R C) (call : LeadCall) → Leads called count may_refuse step view s call t
+    leads_apart : (s t : SystemSide R C) (call : LeadCall) → Leads handler step view s call t
         → IsSound view s.system → IsSound view t.system → length s.leads.items ≡ length s.system.cpus.cpus
         → is_own level (level_given id call) ≡ false → IsElsewhere level id s.system → IsApart s t
     leads_apart s t (Make call) (d, same) a b ready not o = makes_apart s t call a b d same not o
@@ -323,7 +325,7 @@ module _ {C R : Type 0} (called : C → ℕ → Level → C → Type 0) (count :
     leads_apart s t AskAll d a b ready not o = asks_apart s t d o
 
     -- an id that was given is not given again
-    not_again : (s t : SystemSide R C) (call : LeadCall) → Leads called count may_refuse step view s call t
+    not_again : (s t : SystemSide R C) (call : LeadCall) → Leads handler step view s call t
         → id ≤ s.system.last → is_own level (level_given id call) ≡ false
     not_again s t (Make (Add own when now (Ok new))) (inl (e, why, is, same), leads) low =
         absurd (let odd : Ok new ≡ Err e = is in cc)
@@ -335,15 +337,14 @@ module _ {C R : Type 0} (called : C → ℕ → Level → C → Type 0) (count :
         ap (λ b. is_own level (cond b (Some own) None)) (false_ne new id (λ e. omega (arith, e, next, low)))
     not_again s t call d low = refl
 
-    last_grows : (s t : SystemSide R C) (call : LeadCall) → Leads called count may_refuse step view s call t
-        → s.system.last ≤ t.system.last
+    last_grows : (s t : SystemSide R C) (call : LeadCall) → Leads handler step view s call t → s.system.last ≤ t.system.last
     last_grows s t (Make call) (d, same) = (made_of step view s.system t.system call d).last
     last_grows s t (FireAll now) (after, f, same) =
         let a = f.last in let b = ap (λ (x : SystemSide R C). x.system.last) same in omega (arith, a, b)
     last_grows s t AskAll a = let e = a.last in omega (arith, e)
 
     -- one that a call gave is not above the last
-    now_given : (s t : SystemSide R C) (call : LeadCall) (own : Level) → Leads called count may_refuse step view s call t
+    now_given : (s t : SystemSide R C) (call : LeadCall) (own : Level) → Leads handler step view s call t
         → level_given id call ≡ Some own → id ≤ t.system.last
     now_given s t (Make (Add l when now (Ok new))) own (inl (e, why, is, same), leads) given =
         absurd (let odd : Ok new ≡ Err e = is in cc)
@@ -359,7 +360,7 @@ module _ {C R : Type 0} (called : C → ℕ → Level → C → Type 0) (count :
     abbrev IsBarred : SystemSide R C → List LeadCall → Type 0
     IsBarred s way = (id ≤ s.system.last) ⊎ (is_own level (level_in id way) ≡ false)
 
-    barred_on : (s u : SystemSide R C) (call : LeadCall) (way : List LeadCall) → Leads called count may_refuse step view s call u
+    barred_on : (s u : SystemSide R C) (call : LeadCall) (way : List LeadCall) → Leads handler step view s call u
         → IsBarred s (call ∷ way) → (is_own level (level_given id call) ≡ false) × IsBarred u way
     barred_on s u call way d (inl low) =
         let g = last_grows s u call d in (not_again s u call d low, inl (omega (arith, g, low)))
@@ -370,7 +371,7 @@ module _ {C R : Type 0} (called : C → ℕ → Level → C → Type 0) (count :
         by None is e = (ap (is_own level) is, inr e)
         by (Some own) is e = (ap (is_own level) is ∙ e, inl (now_given s u call own d is))
 
-    pub run_apart : (s t : SystemSide R C) (way : List LeadCall) → FoldsTo (LeadSteps called count may_refuse step view) s way t
+    pub run_apart : (s t : SystemSide R C) (way : List LeadCall) → FoldsTo (LeadSteps handler step view) s way t
         → IsSound view s.system → length s.leads.items ≡ length s.system.cpus.cpus → IsBarred s way
         → IsElsewhere level id s.system → IsApart s t
     run_apart s t [] run a ready barred o = subst (λ (x : SystemSide R C). IsApart s x) run
@@ -379,4 +380,4 @@ module _ {C R : Type 0} (called : C → ℕ → Level → C → Type 0) (count :
         let (not, still) = barred_on s u call way d barred in
         let first = leads_apart s u call d a sound ready not o in
         apart_on s u t first (run_apart u t way rest sound
-        (leads_long called count may_refuse step view s u call d ready) still first.elsewhere)
+        (leads_long handler step view s u call d ready) still first.elsewhere)

@@ -5,11 +5,11 @@ use Rattle.std.specs.Prelude.{sum_by}
 use Rattle.std.specs.List.{slice_get, FoldsTo}
 use Rattle.std.specs.Option.{option_map_or}
 use Rattle.std.proofs.lemmas.Option.{slice_get_within, slice_get-get_or}
+use Rattle.cyc_types.specs.declared.Calls.{Ghosts as Calls}
 use Rattle.cyc_types.specs.Firing.{FiringView, FiringCall}
 use Rattle.cyc_types.specs.Runs.{Goes, raised_by, lost_by}
 use Rattle.cyc_types.specs.declared.firing.Sent.{Sent}
 use Rattle.cyc_types.specs.declared.receipt.Receipt.{Receipt}
-use Rattle.cyc_types.specs.declared.level.Level.{Level}
 use Rattle.cyc_types.specs.declared.level.Level.TheVariants.{Low, Lock, High}
 use Rattle.cyc_fire.specs.declared.fire.Fired.{Fired}
 use Rattle.cyc_fire.specs.declared.fire.FireRefused.{FireRefused}
@@ -69,7 +69,7 @@ its_own id own r q e = by (own == id) refl e
     by true is e = (eq_true own id is, same_some e)
     by false is e = absurd (none_some e)
 
-module _ {C R : Type 0} (called : C → ℕ → Level → C → Type 0) (count : C → ℕ → ℕ) (may_refuse : C → ℕ → Type 0)
+module _ {C R : Type 0} (handler : Calls C)
     (step : R → FiringCall → R → Type 0) (view : R → FiringView) (raised dropped : ℕ → R → ℕ)
     (adds : (e f : R) (way : List FiringCall) → Goes step view e way f → (id : ℕ)
     → (raised id f ≡ raised id e + raised_by id way) × (dropped id f ≡ dropped id e + lost_by id way)) (id : ℕ) where
@@ -81,8 +81,8 @@ module _ {C R : Type 0} (called : C → ℕ → Level → C → Type 0) (count :
 
   -- from s to t the id has come to these counts
   pub record Even (s t : SystemSide R C) (counts : Sent) : Type 0 where
-    pub expired : counts.sent + up s.system + counted_by count id s.leads.items
-        ≡ all_expired id s.system + up t.system + counted_by count id t.leads.items
+    pub expired : counts.sent + up s.system + counted_by handler.count id s.leads.items
+        ≡ all_expired id s.system + up t.system + counted_by handler.count id t.leads.items
     pub losses : counts.lost + down s.system ≡ all_lost id s.system + down t.system
 
   abbrev totals : SystemView R → Sent
@@ -92,8 +92,8 @@ module _ {C R : Type 0} (called : C → ℕ → Level → C → Type 0) (count :
       → all_lost id t.system ≡ all_lost id s.system
       → Same step view raised dropped adds id s.system.cpus.cpus t.system.cpus.cpus → t.leads ≡ s.leads
       → Even s t (totals t.system)
-  even_same s t a b (c, d) e = let f : counted_by count id t.leads.items ≡ counted_by count id s.leads.items =
-      λ i. counted_by count id (e i).items in
+  even_same s t a b (c, d) e = let f : counted_by handler.count id t.leads.items ≡ counted_by handler.count id s.leads.items =
+      λ i. counted_by handler.count id (e i).items in
       record { expired = omega (arith, a, c, f); losses = omega (arith, b, d) }
 
   quietly : (s t : SystemSide R C) (call : SystemCall) → IsSound view s.system → IsSound view t.system
@@ -106,9 +106,9 @@ module _ {C R : Type 0} (called : C → ℕ → Level → C → Type 0) (count :
 
   -- a fire of one CPU
   one_fire : (s t : Running C R) (now : ℕ) (answer : Result Fired FireRefused)
-      → Proceeds count step view (account_of (Fire now answer) s.cpu.cyclics) s t
-      → (expired_of id t.cpu.cyclics + raised_at step view raised dropped adds id s.cpu + count s.calls id
-      ≡ expired_of id s.cpu.cyclics + raised_at step view raised dropped adds id t.cpu + count t.calls id)
+      → Proceeds handler.count step view (account_of (Fire now answer) s.cpu.cyclics) s t
+      → (expired_of id t.cpu.cyclics + raised_at step view raised dropped adds id s.cpu + handler.count s.calls id
+      ≡ expired_of id s.cpu.cyclics + raised_at step view raised dropped adds id t.cpu + handler.count t.calls id)
       × (lost_of id t.cpu.cyclics + dropped_at step view raised dropped adds id s.cpu
       ≡ lost_of id s.cpu.cyclics + dropped_at step view raised dropped adds id t.cpu)
   one_fire s t now answer p =
@@ -120,26 +120,26 @@ module _ {C R : Type 0} (called : C → ℕ → Level → C → Type 0) (count :
 
   -- a CPU in an advance
   if_fired : (up : Bool) (now : ℕ) (s t : Running C R) (answer : Option (Result Fired FireRefused)) → IsLawful view s.cpu
-      → FiresIf called count may_refuse step view up now s answer t
-      → (expired_of id t.cpu.cyclics + raised_at step view raised dropped adds id s.cpu + count s.calls id
-      ≡ expired_of id s.cpu.cyclics + raised_at step view raised dropped adds id t.cpu + count t.calls id)
+      → FiresIf handler step view up now s answer t
+      → (expired_of id t.cpu.cyclics + raised_at step view raised dropped adds id s.cpu + handler.count s.calls id
+      ≡ expired_of id s.cpu.cyclics + raised_at step view raised dropped adds id t.cpu + handler.count t.calls id)
       × (lost_of id t.cpu.cyclics + dropped_at step view raised dropped adds id s.cpu + 0
       ≡ lost_of id s.cpu.cyclics + dropped_at step view raised dropped adds id t.cpu + 0)
   if_fired true now s t (Some answer) law d =
-      let (a, b) = one_fire s t now answer (proceeds_one called count may_refuse step view s t (Fire now answer) law d) in
+      let (a, b) = one_fire s t now answer (proceeds_one handler step view s t (Fire now answer) law d) in
       (a, omega (arith, b))
   if_fired true now s t None law d = absurd d
   if_fired false now s t (Some answer) law d = absurd d
   if_fired false now s t None law e =
       let x = ap (λ (r : Running C R). expired_of id r.cpu.cyclics) e in
       let y = ap (λ (r : Running C R). raised_at step view raised dropped adds id r.cpu) e in
-      let z = ap (λ (r : Running C R). count r.calls id) e in
+      let z = ap (λ (r : Running C R). handler.count r.calls id) e in
       let p = ap (λ (r : Running C R). lost_of id r.cpu.cyclics) e in
       let q = ap (λ (r : Running C R). dropped_at step view raised dropped adds id r.cpu) e in
       (omega (arith, x, y, z), omega (arith, p, q))
 
   fires_even : (now : ℕ) (s : SystemSide R C) (b : Advanced R C) → IsSound view s.system → IsSound view b.side.system
-      → length s.leads.items ≡ length s.system.cpus.cpus → AllFire called count may_refuse step view now s b
+      → length s.leads.items ≡ length s.system.cpus.cpus → AllFire handler step view now s b
       → Even s b.side (totals b.side.system)
   fires_even now s b sound after ready f =
       let x0 = stays_found view id (λ t. t.sent.sent) s.system sound.lawful in
@@ -149,7 +149,8 @@ module _ {C R : Type 0} (called : C → ℕ → Level → C → Type 0) (count :
       let r = ap (λ rs. option_map_or (λ r. sum_by (λ e. e.sent) r.ended) (found id rs) 0) f.records in
       let m = ap (λ rs. option_map_or (λ r. sum_by (λ e. e.lost) r.ended) (found id rs) 0) f.records in
       let e = sums_even (on_cpu (λ t. t.sent.sent) id) (raised_at step view raised dropped adds id)
-      (λ (l : Lead C). count l.calls id) s.system.cpus.cpus b.side.system.cpus.cpus s.leads.items b.side.leads.items f.long
+      (λ (l : Lead C). handler.count l.calls id) s.system.cpus.cpus b.side.system.cpus.cpus s.leads.items b.side.leads.items
+      f.long
       ready (f.long_leads ∙ ready) (λ n x y l m p q u v. (each n x y l m p q u v).0) in
       let l = sums_even (on_cpu (λ t. t.sent.lost) id) (dropped_at step view raised dropped adds id)
       (λ (l : Lead C). 0) s.system.cpus.cpus b.side.system.cpus.cpus s.leads.items b.side.leads.items f.long
@@ -161,8 +162,8 @@ module _ {C R : Type 0} (called : C → ℕ → Level → C → Type 0) (count :
       each : (n : ℕ) (x y : CpuView R) (l m : Lead C) → slice_get s.system.cpus.cpus n ≡ Some x
           → slice_get b.side.system.cpus.cpus n ≡ Some y → slice_get s.leads.items n ≡ Some l
           → slice_get b.side.leads.items n ≡ Some m
-          → (expired_of id y.cyclics + raised_at step view raised dropped adds id x + count l.calls id
-          ≡ expired_of id x.cyclics + raised_at step view raised dropped adds id y + count m.calls id)
+          → (expired_of id y.cyclics + raised_at step view raised dropped adds id x + handler.count l.calls id
+          ≡ expired_of id x.cyclics + raised_at step view raised dropped adds id y + handler.count m.calls id)
           × (lost_of id y.cyclics + dropped_at step view raised dropped adds id x + 0
           ≡ lost_of id x.cyclics + dropped_at step view raised dropped adds id y + 0)
       each n x y l m p q u v =
@@ -189,7 +190,7 @@ module _ {C R : Type 0} (called : C → ℕ → Level → C → Type 0) (count :
       same n x y p q = let w = a.cpus.each n x y p q in asked_cyclics step view w.0 x y w.1
 
   -- one of a run, that doesn't end the removal of the id
-  step_even : (s t : SystemSide R C) (call : LeadCall) → Leads called count may_refuse step view s call t → IsSound view s.system
+  step_even : (s t : SystemSide R C) (call : LeadCall) → Leads handler step view s call t → IsSound view s.system
       → IsSound view t.system → length s.leads.items ≡ length s.system.cpus.cpus → receipt_of id call ≡ None
       → Even s t (totals t.system)
   step_even s t (Make (Add level when now answer)) d a b ready none = quietly s t (Add level when now answer) a b d (λ x. x)
@@ -226,40 +227,39 @@ module _ {C R : Type 0} (called : C → ℕ → Level → C → Type 0) (count :
   record StillOver (s t : SystemSide R C) : Type 0 where
     pub is_over : IsOver id t.system
     pub same : Same step view raised dropped adds id s.system.cpus.cpus t.system.cpus.cpus
-    pub uncalled : counted_by count id t.leads.items ≡ counted_by count id s.leads.items
+    pub uncalled : counted_by handler.count id t.leads.items ≡ counted_by handler.count id s.leads.items
 
   -- a CPU has no cyclic of the id, and nothing of it was raised or called
   record NoneFired (s t : Running C R) : Type 0 where
     pub none : HasNoCyclic id t.cpu.cyclics
     pub raised_same : raised_at step view raised dropped adds id t.cpu ≡ raised_at step view raised dropped adds id s.cpu
     pub dropped_same : dropped_at step view raised dropped adds id t.cpu ≡ dropped_at step view raised dropped adds id s.cpu
-    pub uncalled : count t.calls id ≡ count s.calls id
+    pub uncalled : handler.count t.calls id ≡ handler.count s.calls id
 
-  abbrev no_calls : ℕ → ℕ → Level → ℕ → Type 0
-  no_calls c j level d = ⊥
+  abbrev no_calls : Calls ℕ
+  no_calls = record { count = λ c j. 0; called = λ c j level d. ⊥; may_refuse = λ c j. ⊥ }
 
   -- a call that reaches no handler, with none
   over_quiet : (s t : SystemView R) (call : SystemCall)
-      → Does {C = ℕ} no_calls (λ c j. 0) (λ c j. ⊥) step view no_interrupts (running_system 0 s) call (running_system 0 t)
+      → Does no_calls step view no_interrupts (running_system 0 s) call (running_system 0 t)
       → IsOver id s → IsOver id t
-  over_quiet s t call d a = (stays_over no_calls (λ c j. 0) (λ c j. ⊥) step view id (running_system 0 s) (running_system 0 t)
-      (call ∷ []) a (running_system 0 t, d, refl)).0
+  over_quiet s t call d a = (stays_over no_calls step view id (running_system 0 s) (running_system 0 t) (call ∷ []) a
+      (running_system 0 t, d, refl)).0
 
   over_changed : (s t : SystemSide R C) (call : SystemCall)
-      → Does {C = ℕ} no_calls (λ c j. 0) (λ c j. ⊥) step view no_interrupts (running_system 0 s.system) call
-      (running_system 0 t.system)
+      → Does no_calls step view no_interrupts (running_system 0 s.system) call (running_system 0 t.system)
       → Changes step view s.system call t.system → t.leads ≡ s.leads → IsOver id s.system → StillOver s t
   over_changed s t call quiet d same a = record {
     is_over = over_quiet s.system t.system call quiet a;
     same = changes_raise step view raised dropped adds id s.system t.system call d;
-    uncalled = λ i. counted_by count id (same i).items;
+    uncalled = λ i. counted_by handler.count id (same i).items;
   }
 
   -- a CPU without the id, in an advance
   none_fired : (up : Bool) (now : ℕ) (s t : Running C R) (answer : Option (Result Fired FireRefused)) → IsLawful view s.cpu
-      → FiresIf called count may_refuse step view up now s answer t → HasNoCyclic id s.cpu.cyclics → NoneFired s t
+      → FiresIf handler step view up now s answer t → HasNoCyclic id s.cpu.cyclics → NoneFired s t
   none_fired true now s t (Some answer) law d none =
-      let p = proceeds_one called count may_refuse step view s t (Fire now answer) law d in
+      let p = proceeds_one handler step view s t (Fire now answer) law d in
       let gone = no_cyclic id s.cpu.cyclics none in let made = made_by (Fire now answer) s.cpu.cyclics in
       let z = no_share Lock id (timers s.cpu.cyclics) made gone in
       let z2 = no_share Low id (timers s.cpu.cyclics) made gone in
@@ -275,7 +275,7 @@ module _ {C R : Type 0} (called : C → ℕ → Level → C → Type 0) (count :
         uncalled = omega (arith, h, z3);
       }
     where
-      by : (answer : Result Fired FireRefused) → CpuDoes called count may_refuse step view no_interrupts s (Fire now answer) t
+      by : (answer : Result Fired FireRefused) → CpuDoes handler step view no_interrupts s (Fire now answer) t
           → HasNoCyclic id t.cpu.cyclics
       by (Ok r) (early, kept, expired, next, makes) = fired_away id now _ s.cpu.cyclics t.cpu.cyclics makes.timers_are none
       by (Err e) (inl (late, is, same)) = subst (λ (x : Running C R). HasNoCyclic id x.cpu.cyclics) (sym same) none
@@ -286,11 +286,11 @@ module _ {C R : Type 0} (called : C → ℕ → Level → C → Type 0) (count :
     none = subst (λ (x : Running C R). HasNoCyclic id x.cpu.cyclics) (sym e) none;
     raised_same = ap (λ (r : Running C R). raised_at step view raised dropped adds id r.cpu) e;
     dropped_same = ap (λ (r : Running C R). dropped_at step view raised dropped adds id r.cpu) e;
-    uncalled = ap (λ (r : Running C R). count r.calls id) e;
+    uncalled = ap (λ (r : Running C R). handler.count r.calls id) e;
   }
 
   over_fired : (now : ℕ) (s : SystemSide R C) (b : Advanced R C) → IsSound view s.system
-      → length s.leads.items ≡ length s.system.cpus.cpus → AllFire called count may_refuse step view now s b
+      → length s.leads.items ≡ length s.system.cpus.cpus → AllFire handler step view now s b
       → IsOver id s.system → StillOver s b.side
   over_fired now s b sound ready f is_over = record {
     is_over = record {
@@ -311,7 +311,7 @@ module _ {C R : Type 0} (called : C → ℕ → Level → C → Type 0) (count :
           let (l, u) = stands s.leads.items n (omega (arith, low, ready)) in
           let (m, v) = stands b.side.leads.items n (omega (arith, low, ready, k)) in (each n x y l m p q u v).dropped_same)),
     );
-    uncalled = sums_same (λ (l : Lead C). count l.calls id) s.leads.items b.side.leads.items f.long_leads
+    uncalled = sums_same (λ (l : Lead C). handler.count l.calls id) s.leads.items b.side.leads.items f.long_leads
         (λ n l m u v. (let low = slice_get_within s.leads.items n l u in let e = f.long in
         let (x, p) = stands s.system.cpus.cpus n (omega (arith, low, ready)) in
         let (y, q) = stands b.side.system.cpus.cpus n (omega (arith, low, ready, e)) in (each n x y l m p q u v).uncalled));
@@ -336,7 +336,7 @@ module _ {C R : Type 0} (called : C → ℕ → Level → C → Type 0) (count :
           subst (λ cs. HasNoCyclic id cs) (sym (asked_cyclics step view w.0 x y w.1)) (is_over.nowhere n x p));
     };
     same = asked_raise step view raised dropped adds id s.system.cpus.cpus t.system.cpus.cpus a.cpus;
-    uncalled = λ i. counted_by count id (a.leads i).items;
+    uncalled = λ i. counted_by handler.count id (a.leads i).items;
   }
     where
       there : (n : ℕ) (y : CpuView R) → slice_get t.system.cpus.cpus n ≡ Some y
@@ -347,7 +347,7 @@ module _ {C R : Type 0} (called : C → ℕ → Level → C → Type 0) (count :
             (let low = slice_get_within t.system.cpus.cpus n y q in let e = a.cpus.long in omega (arith, low, e)),
       )
 
-  step_over : (s t : SystemSide R C) (call : LeadCall) → Leads called count may_refuse step view s call t → IsSound view s.system
+  step_over : (s t : SystemSide R C) (call : LeadCall) → Leads handler step view s call t → IsSound view s.system
       → length s.leads.items ≡ length s.system.cpus.cpus → IsOver id s.system → StillOver s t
   step_over s t (Make (Add level when now answer)) (d, e) a ready o = over_changed s t (Add level when now answer) (d, refl) d e o
   step_over s t (Make (AddOmni level when skew now answer)) (d, e) a ready o = over_changed s t
@@ -370,19 +370,19 @@ module _ {C R : Type 0} (called : C → ℕ → Level → C → Type 0) (count :
   step_over s t AskAll d a ready o = over_asked s t d o
 
   abbrev D : SystemSide R C → LeadCall → SystemSide R C → Type 0
-  D = LeadSteps called count may_refuse step view
+  D = LeadSteps handler step view
 
   run_over : (s t : SystemSide R C) (way : List LeadCall) → FoldsTo D s way t → IsSound view s.system
       → length s.leads.items ≡ length s.system.cpus.cpus → IsOver id s.system
       → Same step view raised dropped adds id s.system.cpus.cpus t.system.cpus.cpus
-      × (counted_by count id t.leads.items ≡ counted_by count id s.leads.items)
+      × (counted_by handler.count id t.leads.items ≡ counted_by handler.count id s.leads.items)
   run_over s t [] run a ready o = (
     (ap (λ (x : SystemSide R C). up x.system) (sym run), ap (λ (x : SystemSide R C). down x.system) (sym run)),
-    ap (λ (x : SystemSide R C). counted_by count id x.leads.items) (sym run),
+    ap (λ (x : SystemSide R C). counted_by handler.count id x.leads.items) (sym run),
   )
   run_over s t (call ∷ way) (u, (d, sound), rest) a ready o =
       let k = step_over s u call d a ready o in
-      let ((p, q), h) = run_over u t way rest sound (leads_long called count may_refuse step view s u call d ready) k.is_over in
+      let ((p, q), h) = run_over u t way rest sound (leads_long handler step view s u call d ready) k.is_over in
       ((p ∙ k.same.0, q ∙ k.same.1), h ∙ k.uncalled)
 
   -- ---- a whole run
@@ -394,7 +394,7 @@ module _ {C R : Type 0} (called : C → ℕ → Level → C → Type 0) (count :
   record Ends (s u : SystemSide R C) (r : Receipt) : Type 0 where
     pub is_over : IsOver id u.system
     pub same : Same step view raised dropped adds id s.system.cpus.cpus u.system.cpus.cpus
-    pub uncalled : counted_by count id u.leads.items ≡ counted_by count id s.leads.items
+    pub uncalled : counted_by handler.count id u.leads.items ≡ counted_by handler.count id s.leads.items
     pub expired : r.sent ≡ all_expired id s.system
     pub losses : r.lost ≡ all_lost id s.system
 
@@ -403,7 +403,7 @@ module _ {C R : Type 0} (called : C → ℕ → Level → C → Type 0) (count :
   begun_ends s u r d calls a = record {
     is_over = begun_over step view id r s.system u.system a.agrees a.fit.rising d;
     same = changes_raise step view raised dropped adds id s.system u.system (BeginRemove id (Ok (Done r))) d;
-    uncalled = λ i. counted_by count id (calls i).items;
+    uncalled = λ i. counted_by handler.count id (calls i).items;
     expired = begun_done step view sent id (λ a b. refl) r s.system u.system a.fit a.lawful d (λ q sent lost. sent);
     losses = begun_done step view lost id (λ a b. refl) r s.system u.system a.fit a.lawful d (λ q sent lost. lost);
   }
@@ -413,12 +413,12 @@ module _ {C R : Type 0} (called : C → ℕ → Level → C → Type 0) (count :
   polled_ends s u r d calls a = record {
     is_over = polled_over step view id r s.system u.system a.agrees a.fit.rising d;
     same = changes_raise step view raised dropped adds id s.system u.system (PollRemove id (Ok (Some r))) d;
-    uncalled = λ i. counted_by count id (calls i).items;
+    uncalled = λ i. counted_by handler.count id (calls i).items;
     expired = poll_done step view sent id (λ a b. refl) r s.system u.system a.fit a.lawful d (λ q sent lost. sent);
     losses = poll_done step view lost id (λ a b. refl) r s.system u.system a.fit a.lawful d (λ q sent lost. lost);
   }
 
-  ends : (s u : SystemSide R C) (call : LeadCall) (r : Receipt) → Leads called count may_refuse step view s call u
+  ends : (s u : SystemSide R C) (call : LeadCall) (r : Receipt) → Leads handler step view s call u
       → IsSound view s.system → receipt_of id call ≡ Some r → Ends s u r
   ends s u (Make (BeginRemove own (Ok (Done q)))) r (d, calls) a e =
       let (named, is) = its_own id own q r e in subst (Ends s u) is (begun_ends s u q
@@ -449,7 +449,7 @@ module _ {C R : Type 0} (called : C → ℕ → Level → C → Type 0) (count :
   run_even s t [] run a ready = subst (λ (x : SystemSide R C). Even s x (totals x.system)) run
       (even_same s s refl refl (refl, refl) refl)
   run_even s t (call ∷ way) (u, (d, sound), rest) a ready = by (receipt_of id call) refl
-      (run_even u t way rest sound (leads_long called count may_refuse step view s u call d ready))
+      (run_even u t way rest sound (leads_long handler step view s u call d ready))
     where
       by : (o : Option Receipt) → receipt_of id call ≡ o → Even u t (counts way t.system) → Even s t (option_map_or
           (λ r. record { sent = r.sent; lost = r.lost }) (first_of o (receipt_in id way)) (totals t.system))
@@ -457,6 +457,6 @@ module _ {C R : Type 0} (called : C → ℕ → Level → C → Type 0) (count :
           let p = x.expired in let q = y.expired in let l = x.losses in let m = y.losses in
           record { expired = omega (arith, p, q); losses = omega (arith, l, m) }
       by (Some r) e y = let x = ends s u call r d a e in let ((p, q), h) =
-          run_over u t way rest sound (leads_long called count may_refuse step view s u call d ready) x.is_over in
+          run_over u t way rest sound (leads_long handler step view s u call d ready) x.is_over in
           let (b, c) = x.same in let k = x.uncalled in let m = x.expired in let n = x.losses in
           record { expired = omega (arith, p, h, b, k, m); losses = omega (arith, q, c, n) }

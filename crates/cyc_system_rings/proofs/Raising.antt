@@ -4,9 +4,9 @@ use Rattle.std.specs.Prelude.{map, sum_by, ◌<◌, Bool, true, false}
 use Rattle.std.specs.List.{slice_get, FoldsTo}
 use Rattle.std.proofs.lemmas.List.{length-set}
 use Rattle.std.proofs.lemmas.List.Sums.{sum_by-cons}
+use Rattle.cyc_types.specs.declared.Calls.{Ghosts as Calls}
 use Rattle.cyc_types.specs.Firing.{FiringView, FiringCall}
 use Rattle.cyc_types.specs.Runs.{Goes, raised_by, lost_by}
-use Rattle.cyc_types.specs.declared.level.Level.{Level}
 use Rattle.cyc_types.specs.declared.level.Soft.{Soft}
 use Rattle.cyc_types.specs.declared.level.Soft.TheVariants.{Low, Lock}
 use Rattle.cyc_cpu.specs.Cpu.{CpuView}
@@ -85,10 +85,9 @@ module _ {R : Type 0} (step : R → FiringCall → R → Type 0) (view : R → F
       → length t.cpus.cpus ≡ length s.cpus.cpus
   changes_long s t call d = let m = made_of step view s t call d in parts_long m.way s.cpus t.cpus m.works
 
-module _ {C R : Type 0} (called : C → ℕ → Level → C → Type 0) (count : C → ℕ → ℕ) (may_refuse : C → ℕ → Type 0)
-    (step : R → FiringCall → R → Type 0) (view : R → FiringView) where
+module _ {C R : Type 0} (handler : Calls C) (step : R → FiringCall → R → Type 0) (view : R → FiringView) where
   -- there is still something to lead each CPU
-  pub leads_long : (s t : SystemSide R C) (call : LeadCall) → Leads called count may_refuse step view s call t
+  pub leads_long : (s t : SystemSide R C) (call : LeadCall) → Leads handler step view s call t
       → length s.leads.items ≡ length s.system.cpus.cpus → length t.leads.items ≡ length t.system.cpus.cpus
   leads_long s t (Make call) (d, e) ready =
       let a = changes_long step view s.system t.system call d in

@@ -2,6 +2,7 @@
 use Rattle.std.specs.Prelude.{◌≡◌, ℕ, ◌==◌, cond, sum_by, length, Bool, false, List, [], ◌∷◌, Option, Some, None, Ok}
 use Rattle.std.specs.List.{FoldsTo}
 use Rattle.std.specs.Option.{option_map_or}
+use Rattle.cyc_types.specs.declared.Calls.{Ghosts as Calls}
 use Rattle.cyc_types.specs.declared.firing.Sent.{Sent}
 use Rattle.cyc_types.specs.declared.level.Level.{Level}
 use Rattle.cyc_types.specs.declared.level.Soft.{Soft}
@@ -78,13 +79,13 @@ AreServed called count rings before after = ⊥
 -- ---- a run from its beginning
 
 -- the lead made these calls, in order, from a new system on
-pub record LeadsFromNew {C : Type 0} (called : C → ℕ → Level → C → Type 0) (count : C → ℕ → ℕ) (may_refuse : C → ℕ → Type 0)
+pub record LeadsFromNew {C : Type 0} (handler : Calls C)
     (s : SystemSide RaiseEnd C) (way : List LeadCall) (t : SystemSide RaiseEnd C) : Type 0 where
   pub begins : IsNewSystem s.system
   pub sound : IsSound end_view s.system
   -- something leads each CPU
   pub ready : length s.leads.items ≡ length s.system.cpus.cpus
-  pub run : FoldsTo (LeadSteps called count may_refuse RaiseEndCall end_view) s way t
+  pub run : FoldsTo (LeadSteps handler RaiseEndCall end_view) s way t
 
 -- nothing was done at any firing end
 abbrev pub HasNewEnds : SystemView RaiseEnd → Type 0

@@ -2,6 +2,7 @@
 use Rattle.std.proofs.Common.{◌≡◌, ◌∙◌, ◌==◌, ℕ, inl, inr, cond, Result, Ok, Err, List, [], ◌∷◌, map, refl, sym, ap, arith}
 use Rattle.std.specs.Prelude.{sum_by}
 use Rattle.std.proofs.lemmas.List.Sums.{sum_by-cons}
+use Rattle.cyc_types.specs.declared.Calls.{Ghosts as Calls}
 use Rattle.cyc_types.specs.Firing.{FiringView, FiringCall}
 use Rattle.cyc_types.specs.declared.level.Level.{Level}
 use Rattle.cyc_types.specs.declared.level.Soft.{Soft}
@@ -50,8 +51,7 @@ module _ (id : ℕ) (f : Level → ℕ → ℕ) where
   fired_kinds now made cs cs' are =
       sum_timers cs' ∙ (ap (sum_by kind) are ∙ (all_kept now made (timers cs) ∙ sym (sum_timers cs)))
 
-module _ {C R : Type 0} (called : C → ℕ → Level → C → Type 0) (count : C → ℕ → ℕ) (may_refuse : C → ℕ → Type 0) (step : R
-    → FiringCall → R → Type 0) (view : R → FiringView)
+module _ {C R : Type 0} (handler : Calls C) (step : R → FiringCall → R → Type 0) (view : R → FiringView)
     (interrupts : Soft → ℕ → Result Ran SoftRefused → Running C R → Running C R → Type 0) (id : ℕ) where
   -- a CPU changed, and what is measured of its stays did not
   kept_at : (m : Taken → ℕ) (n : ℕ) (D : CpuView R → CpuView R → Type 0) (s t : SystemView R)
@@ -63,7 +63,7 @@ module _ {C R : Type 0} (called : C → ℕ → Level → C → Type 0) (count :
       omega (arith, x0, x1, x, x2, same)
 
   fire_kinds : (f : Level → ℕ → ℕ) (now : ℕ) (answer : Result Fired FireRefused) (x y : Running C R)
-      → CpuDoes called count may_refuse step view interrupts x (Fire now answer) y
+      → CpuDoes handler step view interrupts x (Fire now answer) y
       → on_cpu (λ a. f a.level a.interval) id y.cpu ≡ on_cpu (λ a. f a.level a.interval) id x.cpu
   fire_kinds f now (Ok r) x y (early, kept, expired, next, makes) = fired_kinds id f now _ _ _ makes.timers_are
   fire_kinds f now (Err e) x y (inl (never, is, same)) =
@@ -71,7 +71,7 @@ module _ {C R : Type 0} (called : C → ℕ → Level → C → Type 0) (count :
   fire_kinds f now (Err e) x y (inr (early, kept, stopped)) = fired_kinds id f now stopped.made _ _ stopped.makes.timers_are
 
   pub fires_keep : (n now : ℕ) (answer : Result Fired FireRefused) (s t : RunningSystem C R) → IsSound view s.system
-      → IsSound view t.system → Does called count may_refuse step view interrupts s (FireOne n now answer) t
+      → IsSound view t.system → Does handler step view interrupts s (FireOne n now answer) t
       → (f : Level → ℕ → ℕ)
       → over_stays (λ a. f a.level a.interval) id t.system ≡ over_stays (λ a. f a.level a.interval) id s.system
   fires_keep n now answer s t a b (inl (e, why, is, same)) f =
@@ -83,7 +83,7 @@ module _ {C R : Type 0} (called : C → ℕ → Level → C → Type 0) (count :
   pub interrupts_keep : ((s t : Running C R) (level : Soft) (budget : ℕ) (answer : Result Ran SoftRefused)
       → interrupts level budget answer s t → t.cpu.cyclics ≡ s.cpu.cyclics)
       → (n budget : ℕ) (level : Soft) (answer : Result Ran SoftFault) (s t : RunningSystem C R) → IsSound view s.system
-      → IsSound view t.system → Does called count may_refuse step view interrupts s (SoftInterrupt n level budget answer) t
+      → IsSound view t.system → Does handler step view interrupts s (SoftInterrupt n level budget answer) t
       → (m : Taken → ℕ) → over_stays m id t.system ≡ over_stays m id s.system
   interrupts_keep serves n budget level answer s t a b (inl (e, why, is, same)) m =
       ap (λ (x : RunningSystem C R). over_stays m id x.system) same

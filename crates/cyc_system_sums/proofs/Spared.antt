@@ -8,6 +8,7 @@ use Rattle.std.proofs.lemmas.List.Sums.{sum_by-cons}
 use Rattle.std.proofs.lemmas.Option.{slice_get-map, slice_get_within, get_or_from_slice_get}
 use mathlib.Core.Logic.{dite}
 use native.Mathlib.Decide.{ℕ_discrete}
+use Rattle.cyc_types.specs.declared.Calls.{Ghosts as Calls}
 use Rattle.cyc_types.specs.Firing.{FiringView, FiringCall}
 use Rattle.cyc_types.specs.Runs.{raised_by, lost_by}
 use Rattle.cyc_types.specs.declared.firing.Sent.{Sent}
@@ -120,23 +121,22 @@ module _ {R : Type 0} (step : R → FiringCall → R → Type 0) (view : R → F
   parts_ceilings (SetOnline n online ∷ way) v w (u, e, rest) = keep_then v u w
       (keep_same v u (ap (λ (z : CpusView R). z.cpus) e)) (parts_ceilings way u w rest)
 
-module _ {C R : Type 0} (called : C → ℕ → Level → C → Type 0) (count : C → ℕ → ℕ) (may_refuse : C → ℕ → Type 0) (step : R
-    → FiringCall → R → Type 0) (view : R → FiringView)
+module _ {C R : Type 0} (handler : Calls C) (step : R → FiringCall → R → Type 0) (view : R → FiringView)
     (interrupts : Soft → ℕ → Result Ran SoftRefused → Running C R → Running C R → Type 0)
     (serves : (s t : Running C R) (level : Soft) (budget : ℕ) (answer : Result Ran SoftRefused)
     → interrupts level budget answer s t → t.cpu.cyclics ≡ s.cpu.cyclics)
     (limits : (s t : Running C R) (level : Soft) (budget : ℕ) (answer : Result Ran SoftRefused) → IsLawful view s.cpu
     → interrupts level budget answer s t → KeepsLimits view s.cpu t.cpu) (id : ℕ) where
   abbrev Call : RunningSystem C R → SystemCall → RunningSystem C R → Type 0
-  Call = Does called count may_refuse step view interrupts
+  Call = Does handler step view interrupts
 
   abbrev Keep : RunningSystem C R → RunningSystem C R → Type 0
   Keep s t = KeepCeilings step view s.system.cpus t.system.cpus
 
   fire_ceilings : (s t : Running C R) (now : ℕ) (answer : Result Fired FireRefused) → IsLawful view s.cpu
-      → CpuDoes called count may_refuse step view interrupts s (Fire now answer) t → KeepsLimits view s.cpu t.cpu
-  fire_ceilings s t now (Ok r) law d = (proceeds_one called count may_refuse step view s t (Fire now (Ok r)) law d).limits
-  fire_ceilings s t now (Err e) law d = (proceeds_one called count may_refuse step view s t (Fire now (Err e)) law d).limits
+      → CpuDoes handler step view interrupts s (Fire now answer) t → KeepsLimits view s.cpu t.cpu
+  fire_ceilings s t now (Ok r) law d = (proceeds_one handler step view s t (Fire now (Ok r)) law d).limits
+  fire_ceilings s t now (Err e) law d = (proceeds_one handler step view s t (Fire now (Err e)) law d).limits
 
   quietly : (s t : RunningSystem C R) (call : SystemCall) → Changes step view s.system call t.system → Keep s t
   quietly s t call d = let m = made_of step view s.system t.system call d in
@@ -169,7 +169,7 @@ module _ {C R : Type 0} (called : C → ℕ → Level → C → Type 0) (count :
   ceilings s t (Online n now answer) a d = quietly s t (Online n now answer) d.0
 
   abbrev D : RunningSystem C R → SystemCall → RunningSystem C R → Type 0
-  D = Steps called count may_refuse step view interrupts
+  D = Steps handler step view interrupts
 
   run_ceilings : (s t : RunningSystem C R) (way : List SystemCall) → IsSound view s.system → FoldsTo D s way t → Keep s t
   run_ceilings s t [] a run = keep_same step view s.system.cpus t.system.cpus
@@ -185,7 +185,7 @@ module _ {C R : Type 0} (called : C → ℕ → Level → C → Type 0) (count :
 
   -- a fire changes no count that was carried in
   carried : (s t : Running C R) (now : ℕ) (answer : Result Fired FireRefused)
-      → CpuDoes called count may_refuse step view interrupts s (Fire now answer) t
+      → CpuDoes handler step view interrupts s (Fire now answer) t
       → map (λ (c : Cyclic). c.carried) t.cpu.cyclics ≡ map (λ (c : Cyclic). c.carried) s.cpu.cyclics
   carried s t now (Ok r) (early, kept, expired, next, makes) = makes.carried_are
   carried s t now (Err e) (inl (late, is, same)) = ap (λ (x : Running C R). map (λ (c : Cyclic). c.carried) x.cpu.cyclics) same
@@ -196,7 +196,7 @@ module _ {C R : Type 0} (called : C → ℕ → Level → C → Type 0) (count :
 
   -- a cyclic that is fired under the ceilings loses nothing
   fired_spared : (s t : Running C R) (now n : ℕ) (answer : Result Fired FireRefused) → IsLawful view s.cpu
-      → IsLawful view t.cpu → CpuDoes called count may_refuse step view interrupts s (Fire now answer) t
+      → IsLawful view t.cpu → CpuDoes handler step view interrupts s (Fire now answer) t
       → lost_here s.cpu ≡ 0 → on_cpu (λ t. t.sent.sent) id t.cpu ≤ n → n ≤ (view t.cpu.lock).ceiling
       → n ≤ (view t.cpu.low).ceiling → lost_here t.cpu ≡ 0
   fired_spared s t now n answer law lawful d none few lock low = sum_none _ t.cpu.cyclics
@@ -207,7 +207,7 @@ module _ {C R : Type 0} (called : C → ℕ → Level → C → Type 0) (count :
       by k c at true is =
           (let own = eq_true c.timer.id id is in
           let (p, was, as_named) = some_before id_in s.cpu.cyclics t.cpu.cyclics k c
-          (same_fired called count may_refuse step view interrupts s t now answer d).ids at in
+          (same_fired handler step view interrupts s t now answer d).ids at in
           let (q, here, as_carried) = some_before (λ (x : Cyclic). x.carried) s.cpu.cyclics t.cpu.cyclics k c
           (carried s t now answer d) at in
           let one = ap (λ (x : Cyclic). x.carried.lost) (same_some (sym was ∙ here)) in
@@ -249,9 +249,9 @@ module _ {C R : Type 0} (called : C → ℕ → Level → C → Type 0) (count :
 
   grown : (s t : RunningSystem C R) (call : SystemCall) → IsSound view s.system → IsSound view t.system
       → (EndsRemoval id call → ⊥) → (d : Call s call t)
-      → Grows called count may_refuse step view interrupts serves id (expirations_in id call s.system)
-      (losses_in called count may_refuse step view interrupts id call s t d) s.system t.system
-  grown s t call a b open_still d = one_grows called count may_refuse step view interrupts serves id s t call a b open_still d
+      → Grows handler step view interrupts serves id (expirations_in id call s.system)
+      (losses_in handler step view interrupts id call s t d) s.system t.system
+  grown s t call a b open_still d = one_grows handler step view interrupts serves id s t call a b open_still d
 
   still : (s t : RunningSystem C R) (call : SystemCall) → IsSound view s.system → IsSound view t.system
       → (EndsRemoval id call → ⊥) → Call s call t → expirations_in id call s.system ≡ 0 → all_lost id s.system ≡ 0
@@ -289,7 +289,7 @@ module _ {C R : Type 0} (called : C → ℕ → Level → C → Type 0) (count :
   run_spares s t [] run a open_still none under = ap (λ (x : RunningSystem C R). all_lost id x.system) (sym run) ∙ none
   run_spares s t (call ∷ way) (u, (d, sound), rest) a open_still none under =
       let after : All (λ c. EndsRemoval id c → ⊥) way = λ k e low. open_still (suc k) e (omega (arith, low)) in
-      let more = (run_grows called count may_refuse step view interrupts serves id u t way rest sound after).expired in
+      let more = (run_grows handler step view interrupts serves id u t way rest sound after).expired in
       let under_here = under_before (all_expired id u.system) (all_expired id t.system) u t (omega (arith, more))
       (run_ceilings u t way sound rest) under in
       run_spares u t way rest sound after (one_spares s u call a sound (open_still 0 call (omega arith)) d none under_here) under

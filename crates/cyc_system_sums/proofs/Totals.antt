@@ -4,9 +4,9 @@ use Rattle.std.proofs.Common.{sym, ap, subst, arith}
 use Rattle.std.specs.Prelude.{sum_by}
 use Rattle.std.specs.List.{slice_get, FoldsTo}
 use Rattle.std.specs.Option.{option_map_or}
+use Rattle.cyc_types.specs.declared.Calls.{Ghosts as Calls}
 use Rattle.cyc_types.specs.Firing.{FiringView, FiringCall}
 use Rattle.cyc_types.specs.declared.firing.Sent.{Sent}
-use Rattle.cyc_types.specs.declared.level.Level.{Level}
 use Rattle.cyc_types.specs.declared.level.Level.TheVariants.{Low, Lock, High}
 use Rattle.cyc_types.specs.declared.level.Soft.{Soft}
 use Rattle.cyc_types.specs.declared.refusal.Refusal.{Refusal}
@@ -56,23 +56,22 @@ refused_none {R} id n now e s = by (slice_get s.cpus.cpus n)
     by (Some cpu) = let a = none_made Lock (timers cpu.cyclics) id in let b = none_made Low (timers cpu.cyclics) id in
         let c = none_made High (timers cpu.cyclics) id in omega (arith, a, b, c)
 
-module _ {C R : Type 0} (called : C → ℕ → Level → C → Type 0) (count : C → ℕ → ℕ) (may_refuse : C → ℕ → Type 0) (step : R
-    → FiringCall → R → Type 0) (view : R → FiringView)
+module _ {C R : Type 0} (handler : Calls C) (step : R → FiringCall → R → Type 0) (view : R → FiringView)
     (interrupts : Soft → ℕ → Result Ran SoftRefused → Running C R → Running C R → Type 0)
     (serves : (s t : Running C R) (level : Soft) (budget : ℕ) (answer : Result Ran SoftRefused)
     → interrupts level budget answer s t → t.cpu.cyclics ≡ s.cpu.cyclics) (id : ℕ) where
   -- a fire of one CPU
   pub fire_here : (s t : Running C R) (now : ℕ) (answer : Result Fired FireRefused) → IsLawful view s.cpu
-      → CpuDoes called count may_refuse step view interrupts s (Fire now answer) t
-      → Proceeds count step view (account_of (Fire now answer) s.cpu.cyclics) s t
-  fire_here s t now (Ok r) law d = proceeds_one called count may_refuse step view s t (Fire now (Ok r)) law d
-  fire_here s t now (Err e) law d = proceeds_one called count may_refuse step view s t (Fire now (Err e)) law d
+      → CpuDoes handler step view interrupts s (Fire now answer) t
+      → Proceeds handler.count step view (account_of (Fire now answer) s.cpu.cyclics) s t
+  fire_here s t now (Ok r) law d = proceeds_one handler step view s t (Fire now (Ok r)) law d
+  fire_here s t now (Err e) law d = proceeds_one handler step view s t (Fire now (Err e)) law d
 
   -- what it lost
   pub lost_here : (s t : Running C R) (now : ℕ) (answer : Result Fired FireRefused) → IsLawful view s.cpu
-      → (d : CpuDoes called count may_refuse step view interrupts s (Fire now answer) t)
+      → (d : CpuDoes handler step view interrupts s (Fire now answer) t)
       → lost_of id t.cpu.cyclics
-      ≡ lost_of id s.cpu.cyclics + losses_of_fire called count may_refuse step view interrupts id now answer s t d
+      ≡ lost_of id s.cpu.cyclics + losses_of_fire handler step view interrupts id now answer s t d
   lost_here s t now (Ok r) law (early, kept, expired, next, m) =
       let ts = timers s.cpu.cyclics in let made = expirations now ts in
       fired_lost id now made m.acts.lock_way m.acts.low_way s.cpu.cyclics t.cpu.cyclics law.distinct m.timers_are m.losses_are
@@ -135,9 +134,9 @@ module _ {C R : Type 0} (called : C → ℕ → Level → C → Type 0) (count :
 
   fires_one : (n now : ℕ) (answer : Result Fired FireRefused) (s t : RunningSystem C R) → IsSound view s.system
       → IsSound view t.system
-      → (d : Does called count may_refuse step view interrupts s (FireOne n now answer) t)
+      → (d : Does handler step view interrupts s (FireOne n now answer) t)
       → Grows (expirations_in id (FireOne n now answer) s.system)
-      (losses_in called count may_refuse step view interrupts id (FireOne n now answer) s t d) s.system t.system
+      (losses_in handler step view interrupts id (FireOne n now answer) s t d) s.system t.system
   fires_one n now answer s t a b (inl (e, why, is, same)) =
       grows_is 0 _ 0 s.system t.system (sym
       (ap (λ (r : Result Fired FireRefused). expirations_in id (FireOne n now r) s.system) is
@@ -160,8 +159,8 @@ module _ {C R : Type 0} (called : C → ℕ → Level → C → Type 0) (count :
       (gained n _ s t made _ runs a b records (omega (arith, e)) q (omega (arith, l, k, m, q)))
 
   pub one_grows : (s t : RunningSystem C R) (call : SystemCall) → IsSound view s.system → IsSound view t.system
-      → (EndsRemoval id call → ⊥) → (d : Does called count may_refuse step view interrupts s call t)
-      → Grows (expirations_in id call s.system) (losses_in called count may_refuse step view interrupts id call s t d)
+      → (EndsRemoval id call → ⊥) → (d : Does handler step view interrupts s call t)
+      → Grows (expirations_in id call s.system) (losses_in handler step view interrupts id call s t d)
       s.system t.system
   one_grows s t (FireOne n now answer) a b open_still d = fires_one n now answer s t a b d
   one_grows s t (SoftInterrupt n level budget answer) a b open_still (inl (e, why, is, same)) =
@@ -186,12 +185,12 @@ module _ {C R : Type 0} (called : C → ℕ → Level → C → Type 0) (count :
   one_grows s t (Online n now answer) a b open_still d = quietly s t (Online n now answer) a b d.0 open_still
 
   abbrev D : RunningSystem C R → SystemCall → RunningSystem C R → Type 0
-  D = Steps called count may_refuse step view interrupts
+  D = Steps handler step view interrupts
 
   pub run_grows : (s t : RunningSystem C R) (way : List SystemCall) (run : FoldsTo D s way t) → IsSound view s.system
       → All (λ call. EndsRemoval id call → ⊥) way
       → Grows (expirations_along D id s way t run)
-      (losses_along called count may_refuse step view interrupts id s way t run) s.system t.system
+      (losses_along handler step view interrupts id s way t run) s.system t.system
   run_grows s t [] run a open_still = grows_same s.system t.system
       (ap (λ (x : RunningSystem C R). all_expired id x.system) (sym run))
       (ap (λ (x : RunningSystem C R). all_lost id x.system) (sym run))

@@ -3,8 +3,8 @@ use Rattle.std.specs.Prelude.{ℕ, ◌+◌, ◌⊎◌, List, [], ◌∷◌, Some
 use mathlib.Core.Logic.{inl, inr}
 use Rattle.std.specs.List.{slice_get, FoldsTo}
 use Rattle.std.specs.Option.{option_map_or}
+use Rattle.cyc_types.specs.declared.Calls.{Ghosts as Calls}
 use Rattle.cyc_types.specs.Firing.{FiringView, FiringCall}
-use Rattle.cyc_types.specs.declared.level.Level.{Level}
 use Rattle.cyc_types.specs.declared.level.Level.TheVariants.{Low, Lock, High}
 use Rattle.cyc_types.specs.declared.level.Soft.{Soft}
 use Rattle.cyc_types.specs.declared.receipt.Receipt.{Receipt}
@@ -32,12 +32,11 @@ expirations_in id (FireOne n now answer) s =
 expirations_in id call s = 0
 
 -- one call of a run: it was made on the system, which is sound after it, as it is between any two calls
-abbrev pub Steps : {C R : Type 0} → (C → ℕ → Level → C → Type 0) → (C → ℕ → ℕ) → (C → ℕ → Type 0)
-    → (R → FiringCall → R → Type 0) → (R → FiringView)
+abbrev pub Steps : {C R : Type 0} → Calls C → (R → FiringCall → R → Type 0) → (R → FiringView)
     → (Soft → ℕ → Result Ran SoftRefused → Running C R → Running C R → Type 0)
     → RunningSystem C R → SystemCall → RunningSystem C R → Type 0
-Steps called count may_refuse step view interrupts s call t =
-    Does called count may_refuse step view interrupts s call t × IsSound view t.system
+Steps handler step view interrupts s call t =
+    Does handler step view interrupts s call t × IsSound view t.system
 
 -- the expirations of an id over a run, on all CPUs
 abbrev pub expirations_along : {C R : Type 0} (D : RunningSystem C R → SystemCall → RunningSystem C R → Type 0) (id : ℕ)
@@ -45,12 +44,11 @@ abbrev pub expirations_along : {C R : Type 0} (D : RunningSystem C R → SystemC
 expirations_along D id s [] t run = 0
 expirations_along D id s (call ∷ way) t run = expirations_in id call s.system + expirations_along D id run.0 way t run.2
 
-module _ {C R : Type 0} (called : C → ℕ → Level → C → Type 0) (count : C → ℕ → ℕ) (may_refuse : C → ℕ → Type 0)
-    (step : R → FiringCall → R → Type 0) (view : R → FiringView)
+module _ {C R : Type 0} (handler : Calls C) (step : R → FiringCall → R → Type 0) (view : R → FiringView)
     (interrupts : Soft → ℕ → Result Ran SoftRefused → Running C R → Running C R → Type 0) (id : ℕ) where
   -- the raises of an id in a fire of a CPU that its two ends answered as lost at the ceiling
   abbrev pub losses_of_fire : (now : ℕ) (answer : Result Fired FireRefused) (s t : Running C R)
-      → CpuDoes called count may_refuse step view interrupts s (Fire now answer) t → ℕ
+      → CpuDoes handler step view interrupts s (Fire now answer) t → ℕ
   losses_of_fire now (Ok r) s t (early, kept, expired, next, makes) =
       lost_by id makes.acts.lock_way + lost_by id makes.acts.low_way
   losses_of_fire now (Err e) s t (inl never) = 0
@@ -59,7 +57,7 @@ module _ {C R : Type 0} (called : C → ℕ → Level → C → Type 0) (count :
 
   -- those of a call: of the fire of one CPU
   abbrev pub losses_in : (call : SystemCall) (s t : RunningSystem C R)
-      → Does called count may_refuse step view interrupts s call t → ℕ
+      → Does handler step view interrupts s call t → ℕ
   losses_in (FireOne n now answer) s t (inl refused) = 0
   losses_in (FireOne n now answer) s t (inr (clear, (runs, records, last))) =
       losses_of_fire now answer (running s.calls runs.before) (running t.calls runs.after) runs.change
@@ -67,7 +65,7 @@ module _ {C R : Type 0} (called : C → ℕ → Level → C → Type 0) (count :
 
   -- those over a run, on all CPUs
   abbrev pub losses_along : (s : RunningSystem C R) (way : List SystemCall) (t : RunningSystem C R)
-      → FoldsTo (Steps called count may_refuse step view interrupts) s way t → ℕ
+      → FoldsTo (Steps handler step view interrupts) s way t → ℕ
   losses_along s [] t run = 0
   losses_along s (call ∷ way) t run = losses_in call s run.0 run.1.0 + losses_along run.0 way t run.2
 

@@ -26,7 +26,7 @@ use cyc_types::{Calls, Raise};
 pub fn fires_law<C: Calls, R: Raise>()
     ensures { (id n now : ℕ) (answer : Result Fired FireRefused) (s t : RunningSystem C R) → IsSound R.view s.system
         → IsSound R.view t.system
-        → Does C.called C.count C.may_refuse R.step R.view no_interrupts s (FireOne n now answer) t
+        → Does C.Calls R.step R.view no_interrupts s (FireOne n now answer) t
         → SameKinds id s.system t.system }
 {}
 
@@ -36,8 +36,7 @@ pub fn fires_law<C: Calls, R: Raise>()
 pub fn interrupts_law<C: Calls>()
     ensures { (id n budget : ℕ) (level : Soft) (answer : Result Ran SoftFault) (s t : RunningSystem C Tables)
         → IsSound firing_at s.system → IsSound firing_at t.system
-        → Does C.called C.count C.may_refuse fires firing_at (Interrupts C.called C.count C.may_refuse) s
-        (SoftInterrupt n level budget answer) t
+        → Does C.Calls fires firing_at (Interrupts C.Calls) s (SoftInterrupt n level budget answer) t
         → SameStays id s.system t.system }
 {}
 

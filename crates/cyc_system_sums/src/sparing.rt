@@ -21,7 +21,7 @@ use cyc_types::{Calls, Raise};
 /// It does nothing when it runs: its clause is the law.
 pub fn spared_law<C: Calls, R: Raise>()
     ensures { (id : ℕ) (s t : RunningSystem C R) (way : List SystemCall)
-        → FoldsTo (Steps C.called C.count C.may_refuse R.step R.view no_interrupts) s way t → IsSound R.view s.system
+        → FoldsTo (Steps C.Calls R.step R.view no_interrupts) s way t → IsSound R.view s.system
         → All (λ call. EndsRemoval id call → ⊥) way → all_lost id s.system ≡ 0
         → IsUnderEach R.view (all_expired id t.system) t.system → all_lost id t.system ≡ 0 }
 {}
@@ -31,7 +31,7 @@ pub fn spared_law<C: Calls, R: Raise>()
 /// It does nothing when it runs: its clause is the law.
 pub fn spared_core_law<C: Calls>()
     ensures { (id : ℕ) (s t : RunningSystem C Tables) (way : List SystemCall)
-        → FoldsTo (Steps C.called C.count C.may_refuse fires firing_at (Interrupts C.called C.count C.may_refuse)) s way t
+        → FoldsTo (Steps C.Calls fires firing_at (Interrupts C.Calls)) s way t
         → IsSound firing_at s.system → All (λ call. EndsRemoval id call → ⊥) way
         → all_lost id s.system ≡ 0 → IsUnderEach firing_at (all_expired id t.system) t.system → all_lost id t.system ≡ 0 }
 {}

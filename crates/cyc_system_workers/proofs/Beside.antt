@@ -5,8 +5,8 @@ use Rattle.std.specs.List.{slice_get}
 use Rattle.std.proofs.lemmas.List.{length-append}
 use Rattle.std.proofs.lemmas.Option.{slice_get_within, same_Some}
 use Rattle.cyc_agreement.proofs.Spots.{get_some}
+use Rattle.cyc_types.specs.declared.Calls.{Ghosts as Calls}
 use Rattle.cyc_types.specs.Firing.{FiringView, FiringCall}
-use Rattle.cyc_types.specs.declared.level.Level.{Level}
 use Rattle.cyc_system_workers.specs.declared.lanes.Lane.{Lane}
 use Rattle.cyc_system_workers.specs.declared.lanes.LaneAfter.{LaneAfter}
 use Rattle.cyc_system_workers.specs.declared.firing.Started.{Started}
@@ -66,20 +66,18 @@ beside_then P Q S f xs ys zs p q = record {
       let y = get_some ys n (omega (arith, low, long)) in f x y.0 z (p.each n x y.0 at_x y.1) (q.each n y.0 z y.1 at_z));
 }
 
-module _ {C R : Type 0} (called : C → ℕ → Level → C → Type 0) (count : C → ℕ → ℕ) (may_refuse : C → ℕ → Type 0)
-    (step : R → FiringCall → R → Type 0) (view : R → FiringView) (now : ℕ) where
+module _ {C R : Type 0} (handler : Calls C) (step : R → FiringCall → R → Type 0) (view : R → FiringView) (now : ℕ) where
   -- what was begun on a CPU came to its end
   kept : (lane : Lane R C) (started : Started R C) (after : LaneAfter R C)
-      → Owes called count may_refuse step view now lane started
-      → Keeps called count may_refuse step view started after → LaneFires called count may_refuse step view now lane after
+      → Owes handler step view now lane started
+      → Keeps handler step view started after → LaneFires handler step view now lane after
   kept lane (Fires child) after owes keeps =
-      subst (λ n. LaneFires called count may_refuse step view n lane after) owes.1
-      (subst (λ l. LaneFires called count may_refuse step view child.promise.now l after) owes.0 keeps)
-  kept lane (Stays left) after owes keeps = subst (LaneFires called count may_refuse step view now lane) (sym keeps) owes
+      subst (λ n. LaneFires handler step view n lane after) owes.1
+      (subst (λ l. LaneFires handler step view child.promise.now l after) owes.0 keeps)
+  kept lane (Stays left) after owes keeps = subst (LaneFires handler step view now lane) (sym keeps) owes
 
   pub all_kept : (lanes : List (Lane R C)) (started : List (Started R C)) (after : List (LaneAfter R C)) →
-      Beside (Owes called count may_refuse step view now) lanes started
-      → Beside (Keeps called count may_refuse step view) started after
-      → Beside (LaneFires called count may_refuse step view now) lanes after
-  all_kept = beside_then (Owes called count may_refuse step view now) (Keeps called count may_refuse step view)
-      (LaneFires called count may_refuse step view now) kept
+      Beside (Owes handler step view now) lanes started
+      → Beside (Keeps handler step view) started after
+      → Beside (LaneFires handler step view now) lanes after
+  all_kept = beside_then (Owes handler step view now) (Keeps handler step view) (LaneFires handler step view now) kept

@@ -4,6 +4,7 @@ use Rattle.std.proofs.Common.{ap, subst, arith}
 use Rattle.std.specs.Prelude.{sum_by, flat_map}
 use Rattle.std.specs.List.{slice_get, FoldsTo}
 use Rattle.std.proofs.lemmas.List.Sums.{sum_by-cons}
+use Rattle.cyc_types.specs.declared.Calls.{Ghosts as Calls}
 use Rattle.cyc_types.specs.Levels.{at_level, as_level}
 use Rattle.cyc_types.specs.declared.level.Level.{Level}
 use Rattle.cyc_types.specs.declared.level.Level.TheVariants.{Low, Lock, High}
@@ -102,38 +103,37 @@ sum_mapped f h (x ∷ xs) = let a = sum_by-cons (λ y. h (f y)) x xs in let b = 
 
 -- ---- a run
 
-module _ {C : Type 0} (called : C → ℕ → Level → C → Type 0) (count : C → ℕ → ℕ) (may_refuse : C → ℕ → Type 0) where
+module _ {C : Type 0} (handler : Calls C) where
   -- one in which no fire is refused is one of a run
   one_leads : (s t : SystemSide RaiseEnd C) (call : LeadCall)
-      → AcceptedSteps called count may_refuse RaiseEndCall end_view s call t
-      → LeadSteps called count may_refuse RaiseEndCall end_view s call t
+      → AcceptedSteps handler RaiseEndCall end_view s call t
+      → LeadSteps handler RaiseEndCall end_view s call t
   one_leads s t (Make call) d = d
   one_leads s t (FireAll now) (after, fired, accepted, same, sound) = ((after, fired, same), sound)
   one_leads s t AskAll d = d
 
   pub all_lead : (way : List LeadCall) (s t : SystemSide RaiseEnd C)
-      → FoldsTo (AcceptedSteps called count may_refuse RaiseEndCall end_view) s way t
-      → FoldsTo (LeadSteps called count may_refuse RaiseEndCall end_view) s way t
+      → FoldsTo (AcceptedSteps handler RaiseEndCall end_view) s way t
+      → FoldsTo (LeadSteps handler RaiseEndCall end_view) s way t
   all_lead [] s t e = e
   all_lead (call ∷ way) s t (u, d, rest) = (u, one_leads s u call d, all_lead way u t rest)
 
   module _ (script : Script) (calls : List C) (e : Ended C) (text : List ℕ)
-      (r : HasRun called count may_refuse script calls e text)
+      (r : HasRun handler script calls e text)
     where
       abbrev way : List LeadCall
-      way = lead_calls called count may_refuse script calls e text r
+      way = lead_calls handler script calls e text r
 
       pub run_sound : IsSound end_view r.played.first.side.system
       run_sound = let (some, few) = script.cpus_in_range in let many = r.many in
           first_sound _ script.ceiling r.before r.played.first r.played.begins r.new (omega (arith, many, some))
           (omega (arith, many, few))
 
-      pub run_accepted : FoldsTo (AcceptedSteps called count may_refuse RaiseEndCall end_view) r.played.first.side way
-          r.played.told.side
-      run_accepted = all_go called count may_refuse RaiseEndCall end_view script.steps.items r.lines r.played.first r.played.last
+      pub run_accepted : FoldsTo (AcceptedSteps handler RaiseEndCall end_view) r.played.first.side way r.played.told.side
+      run_accepted = all_go handler RaiseEndCall end_view script.steps.items r.lines r.played.first r.played.last
           r.played.told r.played.runs r.played.reports
 
-      pub from_new : LeadsFromNew called count may_refuse r.played.first.side way r.played.told.side
+      pub from_new : LeadsFromNew handler r.played.first.side way r.played.told.side
       from_new = record {
         begins = record {
           empty = λ n cpu at. (let (e, is, here) = is_new _ script.ceiling r.before r.played.first r.played.begins r.new n cpu at
@@ -161,7 +161,7 @@ module _ {C : Type 0} (called : C → ℕ → Level → C → Type 0) (count : C
           (closed_all r.played.told.side.system.cpus.cpus r.after r.closed.by_cpu
           (each_same firing_seats seats_on r.after r.played.told.side.system.cpus.cpus r.played.ends.firing)
           (lines_quiet RaiseEndCall end_view r.played.reports.all r.played.last r.played.told r.played.reports.tells
-          (run_rests called count may_refuse RaiseEndCall end_view r.played.first script.steps.items r.played.last
+          (run_rests handler RaiseEndCall end_view r.played.first script.steps.items r.played.last
           r.played.runs)).0
           r.closed.closed)
 
@@ -169,32 +169,33 @@ module _ {C : Type 0} (called : C → ℕ → Level → C → Type 0) (count : C
       pub rings_made : (own : Soft) (id : ℕ) → made_at own id e.rings.items
           + (counts_at (as_level own) id way r.played.told.side.system).lost
           ≡ (counts_at (as_level own) id way r.played.told.side.system).sent
-      rings_made own id = made_of called count may_refuse id r.played.first.side r.played.told.side way from_new new_ends
-          e.rings.items
+      rings_made own id = made_of handler id r.played.first.side r.played.told.side way from_new new_ends e.rings.items
           run_closed own
 
       high_led : (id : ℕ) (all : List (Seated C)) (s : SystemSide RaiseEnd C)
           → map (λ l. l.calls) s.leads.items ≡ map (λ (x : Seated C). x.calls.high) all
-          → counted_by count id s.leads.items ≡ calls_at count High id all
-      high_led id all s same = sum_mapped (λ l. l.calls) (λ c. count c id) s.leads.items
-          ∙ ap (λ l. sum_by (λ c. count c id) l) same
+          → counted_by handler.count id s.leads.items ≡ calls_at handler.count High id all
+      high_led id all s same = sum_mapped (λ l. l.calls) (λ c. handler.count c id) s.leads.items
+          ∙ ap (λ l. sum_by (λ c. handler.count c id) l) same
 
       -- the calls of an id that the handlers of a level had
-      pub handlers_called : (level : Level) (id : ℕ) → calls_at count level id r.after
+      pub handlers_called : (level : Level) (id : ℕ) → calls_at handler.count level id r.after
           + (counts_at level id way r.played.told.side.system).lost
-          ≡ calls_at count level id r.before + (counts_at level id way r.played.told.side.system).sent
+          ≡ calls_at handler.count level id r.before + (counts_at level id way r.played.told.side.system).sent
       handlers_called High id =
-          let a = (each_level called count may_refuse id r.played.first.side r.played.told.side way from_new High).0 in
-          let b = high_keeps called count may_refuse id r.played.first.side r.played.told.side way from_new in
+          let a = (each_level handler id r.played.first.side r.played.told.side way from_new High).0 in
+          let b = high_keeps handler id r.played.first.side r.played.told.side way from_new in
           let c = high_led id r.before r.played.first.side r.played.begins.high in
           let d = high_led id r.after r.played.told.side (sym r.played.ends.high) in omega (arith, a, b, c, d)
-      handlers_called Lock id = served_of called count may_refuse id r.played.first.side r.played.told.side way from_new new_ends
+      handlers_called Lock id = served_of handler id r.played.first.side r.played.told.side way from_new new_ends
           e.rings.items run_closed soft.Lock (map (λ s. s.calls.lock) r.before) (map (λ s. s.calls.lock) r.after)
-          (subst (λ l. AreServed (at_level called Lock) count (rings_of soft.Lock l) (map (λ s. s.calls.lock) r.before)
+          (subst (λ l. AreServed (at_level handler.called Lock) handler.count (rings_of soft.Lock l)
+          (map (λ s. s.calls.lock) r.before)
           (map (λ s. s.calls.lock) r.after)) (sym r.closed.laid)
-          (served_lock called count r.before r.after r.closed.by_cpu r.played.served r.closed.closed))
-      handlers_called Low id = served_of called count may_refuse id r.played.first.side r.played.told.side way from_new new_ends
+          (served_lock handler.called handler.count r.before r.after r.closed.by_cpu r.played.served r.closed.closed))
+      handlers_called Low id = served_of handler id r.played.first.side r.played.told.side way from_new new_ends
           e.rings.items run_closed soft.Low (map (λ s. s.calls.low) r.before) (map (λ s. s.calls.low) r.after)
-          (subst (λ l. AreServed (at_level called Low) count (rings_of soft.Low l) (map (λ s. s.calls.low) r.before)
+          (subst (λ l. AreServed (at_level handler.called Low) handler.count (rings_of soft.Low l)
+          (map (λ s. s.calls.low) r.before)
           (map (λ s. s.calls.low) r.after)) (sym r.closed.laid)
-          (served_low called count r.before r.after r.closed.by_cpu r.played.served r.closed.closed))
+          (served_low handler.called handler.count r.before r.after r.closed.by_cpu r.played.served r.closed.closed))

@@ -3,6 +3,7 @@ use Rattle.std.proofs.Common.{◌≡◌, ◌≢◌, ◌∙◌, ℕ, ◌<◌, ◌
 use Rattle.std.specs.Prelude.{true, false, cond, ◌-◌}
 use Rattle.std.specs.List.{slice_get}
 use Rattle.std.proofs.lemmas.Option.{slice_get_within}
+use Rattle.cyc_types.specs.declared.Calls.{Ghosts as Calls}
 use Rattle.cyc_types.specs.declared.firing.Sent.{Sent}
 use Rattle.cyc_types.specs.declared.level.Level.{Level}
 use Rattle.cyc_types.specs.declared.level.Level.TheVariants.{Low, Lock, High}
@@ -63,37 +64,36 @@ module _ (id : ℕ) (way : List LeadCall) (t : SystemView RaiseEnd) where
 less_by : (a b e l : ℕ) → a + l ≡ b + e → l ≤ e → a ≡ b + (e - l)
 less_by a b e l s few = omega (arith, s, few)
 
-module _ {C : Type 0} (called : C → ℕ → Level → C → Type 0) (count : C → ℕ → ℕ) (may_refuse : C → ℕ → Type 0) (script : Script)
-    (calls : List C) (e : Ended C) (text : List ℕ) (r : HasRun called count may_refuse script calls e text) where
+module _ {C : Type 0} (handler : Calls C) (script : Script)
+    (calls : List C) (e : Ended C) (text : List ℕ) (r : HasRun handler script calls e text) where
   abbrev way : List LeadCall
-  way = lead_calls called count may_refuse script calls e text r
+  way = lead_calls handler script calls e text r
 
   abbrev last : SystemView RaiseEnd
-  last = last_system called count may_refuse script calls e text r
+  last = last_system handler script calls e text r
 
   abbrev id_named : ℕ → Option ℕ
-  id_named = id_of_name called count may_refuse script calls e text r
+  id_named = id_of_name handler script calls e text r
 
   pub named_line : (name : ℕ) → name < length script.names.items → slice_get r.lines name
       ≡ Some (line_in (id_named name) way last)
-  named_line name low = each_line called count may_refuse RaiseEndCall end_view
-      (length script.names.items) name script.steps.items
+  named_line name low = each_line handler RaiseEndCall end_view (length script.names.items) name script.steps.items
       r.lines r.played.first r.played.last r.played.told r.played.runs r.played.reports r.played.begins.names_are low
 
   -- a line is that of its name
   pub line_is : (name : ℕ) (line : Line) → slice_get r.lines name ≡ Some line → line ≡ line_in (id_named name) way last
   line_is name line at =
-      let many = as_many called count may_refuse RaiseEndCall end_view (length script.names.items) script.steps.items
+      let many = as_many handler RaiseEndCall end_view (length script.names.items) script.steps.items
       r.lines r.played.first r.played.last r.played.told r.played.runs r.played.reports r.played.begins.names_are in
       let low = slice_get_within r.lines name line at in
       same_some (sym at ∙ named_line name (omega (arith, many, low)))
 
   -- no more was lost than expired
   few_at : (level : Level) (id : ℕ) → (counts_at level id way last).lost ≤ (counts_at level id way last).sent
-  few_at Low id = let a = rings_made called count may_refuse script calls e text r soft.Low id in omega (arith, a)
-  few_at Lock id = let a = rings_made called count may_refuse script calls e text r soft.Lock id in omega (arith, a)
-  few_at High id = let a = high_keeps called count may_refuse id r.played.first.side r.played.told.side way
-      (from_new called count may_refuse script calls e text r) in omega (arith, a)
+  few_at Low id = let a = rings_made handler script calls e text r soft.Low id in omega (arith, a)
+  few_at Lock id = let a = rings_made handler script calls e text r soft.Lock id in omega (arith, a)
+  few_at High id = let a = high_keeps handler id r.played.first.side r.played.told.side way
+      (from_new handler script calls e text r) in omega (arith, a)
 
   pub few_lost : (id : ℕ) → (counts_in id way last).lost ≤ (counts_in id way last).sent
   few_lost id = by (level_in id way) refl
@@ -101,8 +101,8 @@ module _ {C : Type 0} (called : C → ℕ → Level → C → Type 0) (count : C
       by : (o : Option Level) → level_in id way ≡ o → (counts_in id way last).lost ≤ (counts_in id way last).sent
       by (Some level) is = let few = few_at level id in let same = own_counts id way last level is in
           let a = ap (λ (c : Sent). c.lost) same in let b = ap (λ (c : Sent). c.sent) same in omega (arith, few, a, b)
-      by None is = let same = none_given called count may_refuse id r.played.first.side r.played.told.side way
-          (from_new called count may_refuse script calls e text r) is in
+      by None is = let same = none_given handler id r.played.first.side r.played.told.side way
+          (from_new handler script calls e text r) is in
           let a = ap (λ (c : Sent). c.lost) same in omega (arith, a)
 
   pub line_few : (name : ℕ) (line : Line) → slice_get r.lines name ≡ Some line → line.lost ≤ line.expired
@@ -115,27 +115,27 @@ module _ {C : Type 0} (called : C → ℕ → Level → C → Type 0) (count : C
           omega (arith, few, a, b)
 
   pub line_called : (name id : ℕ) (level : Level) (line : Line) → slice_get r.lines name ≡ Some line → id_named name ≡ Some id
-      → level_in id way ≡ Some level → calls_at count level id r.after ≡ calls_at count level id r.before +
+      → level_in id way ≡ Some level → calls_at handler.count level id r.after ≡ calls_at handler.count level id r.before +
       (counts_of line).called
   line_called name id level line at given known =
       let is = line_is name line at ∙ ap (λ o. line_in o way last) given in
       let same = own_counts id way last level known in
-      let a = handlers_called called count may_refuse script calls e text r level id in
+      let a = handlers_called handler script calls e text r level id in
       let b = ap (λ (l : Line). l.lost) is in let c = ap (λ (l : Line). l.expired) is in
       let p = ap (λ (x : Sent). x.lost) same in let q = ap (λ (x : Sent). x.sent) same in
-      less_by (calls_at count level id r.after) (calls_at count level id r.before) line.expired line.lost
+      less_by (calls_at handler.count level id r.after) (calls_at handler.count level id r.before) line.expired line.lost
       (omega (arith, a, b, c, p, q)) (line_few name line at)
 
   at_none : (level : Level) (id : ℕ) → counts_at level id way last ≡ no_counts
-      → calls_at count level id r.after ≡ calls_at count level id r.before
+      → calls_at handler.count level id r.after ≡ calls_at handler.count level id r.before
   at_none level id none =
-      let a = handlers_called called count may_refuse script calls e text r level id in
+      let a = handlers_called handler script calls e text r level id in
       let p = ap (λ (x : Sent). x.lost) none in let q = ap (λ (x : Sent). x.sent) none in omega (arith, a, p, q)
 
   pub none_elsewhere : (id : ℕ) (level other : Level) → level_in id way ≡ Some level → other ≢ level
-      → calls_at count other id r.after ≡ calls_at count other id r.before
+      → calls_at handler.count other id r.after ≡ calls_at handler.count other id r.before
   none_elsewhere id level other known ne = at_none other id (other_counts id way last level other known ne)
 
   pub none_ungiven : (id : ℕ) (level : Level) → level_in id way ≡ None
-      → calls_at count level id r.after ≡ calls_at count level id r.before
+      → calls_at handler.count level id r.after ≡ calls_at handler.count level id r.before
   none_ungiven id level none = at_none level id (none_counts id way last level none)

@@ -3,9 +3,9 @@ use Rattle.std.proofs.Common.{◌≡◌, ℕ, zero, suc, length, inl, inr, List,
 use Rattle.std.specs.Prelude.{Bool, true, false, Result, Ok, Err, slice_set}
 use Rattle.std.specs.List.{slice_get, FoldsTo}
 use Rattle.std.proofs.lemmas.Option.{slice_get_within}
+use Rattle.cyc_types.specs.declared.Calls.{Ghosts as Calls}
 use Rattle.cyc_types.specs.Firing.{FiringView, FiringCall}
 use Rattle.cyc_types.specs.Runs.{Goes}
-use Rattle.cyc_types.specs.declared.level.Level.{Level}
 use Rattle.cyc_fire.specs.declared.fire.Fired.{Fired}
 use Rattle.cyc_fire.specs.declared.fire.FireRefused.{FireRefused}
 use Rattle.cyc_threads.proofs.Spots.{same_some, none_some, get_some}
@@ -67,9 +67,9 @@ module _ {R : Type 0} (step : R → FiringCall → R → Type 0) (view : R → F
       let (x, was) = get_some xs n (omega (arith, low, long)) in
       let s = a.each n x y was at in asks_both s.0 x y s.1 (all n x was)
 
-  module _ {C : Type 0} (called : C → ℕ → Level → C → Type 0) (count : C → ℕ → ℕ) (may_refuse : C → ℕ → Type 0) where
+  module _ {C : Type 0} (handler : Calls C) where
     fired_both : (s t : Running C R) (now : ℕ) (answer : Result Fired FireRefused)
-        → Does called count may_refuse step view no_interrupts s (Fire now answer) t → OfBoth s.cpu → OfBoth t.cpu
+        → Does handler step view no_interrupts s (Fire now answer) t → OfBoth s.cpu → OfBoth t.cpu
     fired_both s t now (Ok r) (early, kept, expired, next, m) (a, b) = (
       goes_on s.cpu.lock t.cpu.lock m.acts.lock_way m.acts.lock_goes a,
       goes_on s.cpu.low t.cpu.low m.acts.low_way m.acts.low_goes b,
@@ -81,14 +81,14 @@ module _ {R : Type 0} (step : R → FiringCall → R → Type 0) (view : R → F
     )
 
     fires_if : (up : Bool) (now : ℕ) (s t : Running C R) (answer : Option (Result Fired FireRefused))
-        → FiresIf called count may_refuse step view up now s answer t → OfBoth s.cpu → OfBoth t.cpu
+        → FiresIf handler step view up now s answer t → OfBoth s.cpu → OfBoth t.cpu
     fires_if true now s t (Some answer) d own = fired_both s t now answer d own
     fires_if true now s t None d own = absurd d
     fires_if false now s t (Some answer) d own = absurd d
     fires_if false now s t None d own = subst (λ (x : Running C R). OfBoth x.cpu) (sym d) own
 
     fired_all : (now : ℕ) (a : SystemSide R C) (b : Advanced R C) → IsSound view a.system
-        → length a.leads.items ≡ length a.system.cpus.cpus → AllFire called count may_refuse step view now a b
+        → length a.leads.items ≡ length a.system.cpus.cpus → AllFire handler step view now a b
         → OfAll a.system.cpus.cpus → OfAll b.side.system.cpus.cpus
     fired_all now a b sound many f all n y at =
         let low = slice_get_within b.side.system.cpus.cpus n y at in
@@ -103,7 +103,7 @@ module _ {R : Type 0} (step : R → FiringCall → R → Type 0) (view : R → F
 
     -- a run of calls
     pub led_all : (way : List LeadCall) (s t : SystemSide R C) → IsSound view s.system
-        → length s.leads.items ≡ length s.system.cpus.cpus → FoldsTo (LeadSteps called count may_refuse step view) s way t
+        → length s.leads.items ≡ length s.system.cpus.cpus → FoldsTo (LeadSteps handler step view) s way t
         → OfAll s.system.cpus.cpus → OfAll t.system.cpus.cpus
     led_all [] s t sound many e all = subst (λ (x : SystemSide R C). OfAll x.system.cpus.cpus) e all
     led_all (Make call ∷ way) s t sound many (u, ((d, leads), after), rest) all =

@@ -3,8 +3,8 @@ use Rattle.std.proofs.Common.{◌≡◌, ℕ, zero, suc, inl, inr, List, [], ◌
 use Rattle.std.proofs.Common.{ap, ◌∙◌}
 use Rattle.std.specs.Prelude.{Bool, true, false}
 use Rattle.std.specs.List.{slice_get, FoldsTo}
+use Rattle.cyc_types.specs.declared.Calls.{Ghosts as Calls}
 use Rattle.cyc_types.specs.Firing.{FiringView, FiringCall}
-use Rattle.cyc_types.specs.declared.level.Level.{Level}
 use Rattle.cyc_types.specs.declared.refusal.Refusal.{Refusal}
 use Rattle.cyc_types.proofs.Runs.{folds_on, folds_more}
 use Rattle.cyc_fire.specs.declared.fire.Fired.{Fired}
@@ -36,10 +36,9 @@ at_number [] n a e = absurd (none_some e)
 at_number (x ∷ xs) zero a e = ap refusal_of (same_some e)
 at_number (x ∷ xs) (suc n) a e = at_number xs n a e
 
-module _ {C R : Type 0} (called : C → ℕ → Level → C → Type 0) (count : C → ℕ → ℕ) (may_refuse : C → ℕ → Type 0)
-    (step : R → FiringCall → R → Type 0) (view : R → FiringView) where
+module _ {C R : Type 0} (handler : Calls C) (step : R → FiringCall → R → Type 0) (view : R → FiringView) where
   abbrev D : SystemSide R C → LeadCall → SystemSide R C → Type 0
-  D = AcceptedSteps called count may_refuse step view
+  D = AcceptedSteps handler step view
 
   -- from the system of one to that of another by these calls
   abbrev pub Goes : Progress R C → List LeadCall → Progress R C → Type 0
@@ -79,15 +78,15 @@ module _ {C R : Type 0} (called : C → ℕ → Level → C → Type 0) (count :
   not_refused : (a : Option (Result Fired FireRefused)) (e : FireRefused) → refusal_of a ≡ None → a ≡ Some (Err e) → ⊥
   not_refused a e none is = none_some (sym none ∙ ap refusal_of is)
 
-  pub accepted_fires : (now : ℕ) (s t : Progress R C) (f : Fires called count may_refuse step view now s t) → AllAccepted f.after
+  pub accepted_fires : (now : ℕ) (s t : Progress R C) (f : Fires handler step view now s t) → AllAccepted f.after
   accepted_fires now s t f n e is = not_refused (Some (Err e)) e
       (sym (at_number f.after.answers.items n (Some (Err e)) is) ∙ f.accepted n) refl
 
-  fires_go : (now : ℕ) (s t : Progress R C) → Fires called count may_refuse step view now s t → Goes s (FireAll now ∷ []) t
+  fires_go : (now : ℕ) (s t : Progress R C) → Fires handler step view now s t → Goes s (FireAll now ∷ []) t
   fires_go now s t f = (t.side, (f.after, f.fired, accepted_fires now s t f, f.side, f.sound), refl)
 
-  pub does_go : (x : Step) (s t : Progress R C) (d : Does called count may_refuse step view x s t)
-      → Goes s (calls_in (call_of called count may_refuse step view x s t d)) t
+  pub does_go : (x : Step) (s t : Progress R C) (d : Does handler step view x s t)
+      → Goes s (calls_in (call_of handler step view x s t d)) t
   does_go (steps.Add a) s t (inl (when, starts, lasts, long, (answer, did))) = goes_one a.name _ s t did
   does_go (steps.Add a) s t (inr (odd, e)) = goes_none s t e
   does_go (steps.Omni a) s t (inl (when, starts, lasts, long, (answer, did))) = goes_one a.name _ s t did
@@ -107,18 +106,18 @@ module _ {C R : Type 0} (called : C → ℕ → Level → C → Type 0) (count :
   does_go (steps.Offline n) s t (answer, did) = goes_one 0 _ s t did
   does_go (steps.Online n) s t (answer, did) = goes_one 0 _ s t did
 
-  pub step_goes : (s : Progress R C) (x : Step) (t : Progress R C) (d : TakesStep called count may_refuse step view s x t)
-      → Goes s (step_calls called count may_refuse step view s x t d) t
+  pub step_goes : (s : Progress R C) (x : Step) (t : Progress R C) (d : TakesStep handler step view s x t)
+      → Goes s (step_calls handler step view s x t d) t
   step_goes s x t (u, b, d) = goes_on s u t _ _ (begin_goes (waits_first x) s u b) (does_go x u t d)
 
   pub steps_go : (s : Progress R C) (xs : List Step) (t : Progress R C)
-      (run : TakesSteps called count may_refuse step view s xs t)
-      → Goes s (steps_calls called count may_refuse step view s xs t run) t
+      (run : TakesSteps handler step view s xs t)
+      → Goes s (steps_calls handler step view s xs t run) t
   steps_go s [] t e = goes_none s t (sym e)
   steps_go s (x ∷ xs) t (u, d, rest) = goes_on s u t _ _ (step_goes s x u d) (steps_go u xs t rest)
 
-  pub run_goes : (s : Progress R C) (xs : List Step) (t : Progress R C) (run : Runs called count may_refuse step view s xs t)
-      → Goes s (run_calls called count may_refuse step view s xs t run) t
+  pub run_goes : (s : Progress R C) (xs : List Step) (t : Progress R C) (run : Runs handler step view s xs t)
+      → Goes s (run_calls handler step view s xs t run) t
   run_goes s xs t (u, taken, w) = goes_on s u t _ _ (steps_go s xs u taken) (wait_goes u t w)
 
   told_goes : (named : Named) (line : Line) (s t : Progress R C) (d : TellsOf step view named line s t)
@@ -134,6 +133,6 @@ module _ {C R : Type 0} (called : C → ℕ → Level → C → Type 0) (count :
   all_told_go (told ∷ all) s t (u, d, rest) =
       goes_on s u t _ _ (told_goes told.named told.line s u d) (all_told_go all u t rest)
 
-  pub all_go : (xs : List Step) (lines : List Line) (s t u : Progress R C) (run : Runs called count may_refuse step view s xs t)
-      (r : Reports step view lines t u) → Goes s (all_calls called count may_refuse step view xs lines s t u run r) u
+  pub all_go : (xs : List Step) (lines : List Line) (s t u : Progress R C) (run : Runs handler step view s xs t)
+      (r : Reports step view lines t u) → Goes s (all_calls handler step view xs lines s t u run r) u
   all_go xs lines s t u run r = goes_on s t u _ _ (run_goes s xs t run) (all_told_go r.all t u r.tells)

@@ -3,6 +3,7 @@ use Rattle.std.proofs.Common.{◌≡◌, ◌∙◌, ℕ, ◌<◌, ◌≤◌, ◌
 use Rattle.std.proofs.Common.{refl, sym, ap, arith}
 use Rattle.std.specs.Prelude.{Bool, true, false, cond, ◌&&◌}
 use Rattle.std.specs.List.{FoldsTo}
+use Rattle.cyc_types.specs.declared.Calls.{Ghosts as Calls}
 use Rattle.cyc_types.specs.Firing.{FiringView, FiringCall}
 use Rattle.cyc_types.specs.declared.level.Level.{Level}
 use Rattle.cyc_threads.proofs.Lists.{true_eq, eq_true, false_ne}
@@ -93,10 +94,9 @@ named_once name k x xs level fit later = refl
 
 -- ---- the ids that calls give
 
-module _ {C R : Type 0} (called : C → ℕ → Level → C → Type 0) (count : C → ℕ → ℕ) (may_refuse : C → ℕ → Type 0)
-    (step : R → FiringCall → R → Type 0) (view : R → FiringView) where
+module _ {C R : Type 0} (handler : Calls C) (step : R → FiringCall → R → Type 0) (view : R → FiringView) where
   abbrev D : SystemSide R C → LeadCall → SystemSide R C → Type 0
-  D = AcceptedSteps called count may_refuse step view
+  D = AcceptedSteps handler step view
 
   one_grows : (s t : SystemSide R C) (call : LeadCall) → D s call t → s.system.last ≤ t.system.last
   one_grows s t (Make call) d = (made_of step view s.system t.system call d.0.0).last
@@ -171,9 +171,9 @@ module _ {C R : Type 0} (called : C → ℕ → Level → C → Type 0) (count :
   none_added true id e = none_some e
   none_added false id e = none_some e
 
-  does_level : (name id : ℕ) (x : Step) (s t : Progress R C) (d : Does called count may_refuse step view x s t)
-      → given_in name x (call_of called count may_refuse step view x s t d) ≡ Some id
-      → HasLevel name id x (calls_in (call_of called count may_refuse step view x s t d))
+  does_level : (name id : ℕ) (x : Step) (s t : Progress R C) (d : Does handler step view x s t)
+      → given_in name x (call_of handler step view x s t d) ≡ Some id
+      → HasLevel name id x (calls_in (call_of handler step view x s t d))
   does_level name id (steps.Add a) s t (inl (when, starts, lasts, long, (Ok given, did))) e =
       let (same, level) = added_level name a.name id a.level given e in
       (a.level, ap (λ b. first_of (cond b (Some a.level) None) None) (true_eq given id same), level)
@@ -200,36 +200,36 @@ module _ {C R : Type 0} (called : C → ℕ → Level → C → Type 0) (count :
   SameLevel name id xs way = (level : Level) × (level_in id way ≡ Some level) × (level_named name xs ≡ Some level)
 
   pub steps_level : (xs : List Step) (name id k : ℕ) (s t : Progress R C)
-      (run : TakesSteps called count may_refuse step view s xs t) → names_fit k xs ≡ true
-      → id_in_steps called count may_refuse step view name s xs t run ≡ Some id
-      → SameLevel name id xs (steps_calls called count may_refuse step view s xs t run)
+      (run : TakesSteps handler step view s xs t) → names_fit k xs ≡ true
+      → id_in_steps handler step view name s xs t run ≡ Some id
+      → SameLevel name id xs (steps_calls handler step view s xs t run)
   steps_level [] name id k s t e fit is = absurd (none_some is)
   steps_level (x ∷ xs) name id k s t (u, (v, b, d), rest) fit is =
       by (λ fits given. steps_level xs name id (names_after k x) u t rest fits given)
-      (id_in_steps called count may_refuse step view name u xs t rest) refl is
+      (id_in_steps handler step view name u xs t rest) refl is
     where
       before : List LeadCall
       before = begin_calls step view (waits_first x) s v b
 
       own : List LeadCall
-      own = calls_in (call_of called count may_refuse step view x v u d)
+      own = calls_in (call_of handler step view x v u d)
 
       after : List LeadCall
-      after = steps_calls called count may_refuse step view u xs t rest
+      after = steps_calls handler step view u xs t rest
 
-      by : (names_fit (names_after k x) xs ≡ true → id_in_steps called count may_refuse step view name u xs t rest ≡ Some id
+      by : (names_fit (names_after k x) xs ≡ true → id_in_steps handler step view name u xs t rest ≡ Some id
           → SameLevel name id xs after) → (o : Option ℕ)
-          → id_in_steps called count may_refuse step view name u xs t rest ≡ o
-          → later_id (given_in name x (call_of called count may_refuse step view x v u d)) o ≡ Some id
+          → id_in_steps handler step view name u xs t rest ≡ o
+          → later_id (given_in name x (call_of handler step view x v u d)) o ≡ Some id
           → SameLevel name id (x ∷ xs) ((before ++ own) ++ after)
       by later (Some found) there e =
           let (level, there_in, there_named) = later (both_true (name_fits k x) (names_fit (names_after k x) xs) fit).1
           (there ∙ e) in
           let high = (given_within after u.side t.side id level
-          (steps_go called count may_refuse step view u xs t rest) there_in).0 in
+          (steps_go handler step view u xs t rest) there_in).0 in
           let none = not_some (level_in id (before ++ own)) (λ early at.
           (let low = (given_within (before ++ own) s.side u.side id early
-          (step_goes called count may_refuse step view s x u (v, b, d)) at).1 in omega (arith, high, low))) in (
+          (step_goes handler step view s x u (v, b, d)) at).1 in omega (arith, high, low))) in (
             level,
             level_later id (before ++ own) after none ∙ there_in,
             ap (λ o. first_of o (level_named name xs)) (named_once name k x xs level fit there_named) ∙ there_named,

@@ -6,6 +6,7 @@ use Rattle.std.specs.Prelude.{Bool, true, false}
 use Rattle.std.specs.List.{FoldsTo}
 use Rattle.std.specs.Option.{option_map_or}
 use Rattle.std.proofs.lemmas.List.{append_assoc, append-nil}
+use Rattle.cyc_types.specs.declared.Calls.{Ghosts as Calls}
 use Rattle.cyc_types.specs.Firing.{FiringView, FiringCall}
 use Rattle.cyc_types.specs.declared.level.Level.{Level}
 use Rattle.cyc_types.specs.declared.moment.When.{When}
@@ -49,8 +50,7 @@ reprogram_receipt : (cpu : Option ℕ) (id moment own : ℕ) (answer : Result (U
 reprogram_receipt None id moment own answer = refl
 reprogram_receipt (Some n) id moment own answer = refl
 
-module _ {C R : Type 0} (called : C → ℕ → Level → C → Type 0) (count : C → ℕ → ℕ) (may_refuse : C → ℕ → Type 0)
-    (step : R → FiringCall → R → Type 0) (view : R → FiringView) (many : ℕ) where
+module _ {C R : Type 0} (handler : Calls C) (step : R → FiringCall → R → Type 0) (view : R → FiringView) (many : ℕ) where
   abbrev pub Held : (ℕ → Option ℕ) → List LeadCall → Progress R C → Type 0
   Held g way p = Holds many g way p.names p.side.system.last
 
@@ -164,9 +164,9 @@ module _ {C R : Type 0} (called : C → ℕ → Level → C → Type 0) (count :
   with_held Answer call g way name s t each None has e k = same_held g way s t e k
 
   pub does_held : (g : ℕ → Option ℕ) (way : List LeadCall) (x : Step) (s t : Progress R C)
-      (d : Does called count may_refuse step view x s t) → Held g way s
-      → Held (λ n. later_id (g n) (given_in n x (call_of called count may_refuse step view x s t d)))
-      (way ++ calls_in (call_of called count may_refuse step view x s t d)) t
+      (d : Does handler step view x s t) → Held g way s
+      → Held (λ n. later_id (g n) (given_in n x (call_of handler step view x s t d)))
+      (way ++ calls_in (call_of handler step view x s t d)) t
   does_held g way (steps.Add a) s t (inl (when, starts, lasts, long, (answer, did))) k =
       added g way a.name a.level when s.clock answer s t did k
   does_held g way (steps.Add a) s t (inr (odd, e)) k =
@@ -220,23 +220,23 @@ module _ {C R : Type 0} (called : C → ℕ → Level → C → Type 0) (count :
   begin_held g way true s t w k = wait_held g way s t w k
 
   steps_held : (xs : List Step) (g : ℕ → Option ℕ) (way : List LeadCall) (s t : Progress R C)
-      (run : TakesSteps called count may_refuse step view s xs t) → Held g way s
-      → Held (λ n. later_id (g n) (id_in_steps called count may_refuse step view n s xs t run))
-      (way ++ steps_calls called count may_refuse step view s xs t run) t
+      (run : TakesSteps handler step view s xs t) → Held g way s
+      → Held (λ n. later_id (g n) (id_in_steps handler step view n s xs t run))
+      (way ++ steps_calls handler step view s xs t run) t
   steps_held [] g way s t e k = same_held g way s t (sym e) k
   steps_held (x ∷ xs) g way s t (u, (v, b, d), rest) k =
       let before = begin_calls step view (waits_first x) s v b in
-      let own = calls_in (call_of called count may_refuse step view x v u d) in
-      let after = steps_calls called count may_refuse step view u xs t rest in
-      let h : ℕ → Option ℕ = λ n. later_id (g n) (given_in n x (call_of called count may_refuse step view x v u d)) in
-      let j : ℕ → Option ℕ = λ n. later_id (h n) (id_in_steps called count may_refuse step view n u xs t rest) in
+      let own = calls_in (call_of handler step view x v u d) in
+      let after = steps_calls handler step view u xs t rest in
+      let h : ℕ → Option ℕ = λ n. later_id (g n) (given_in n x (call_of handler step view x v u d)) in
+      let j : ℕ → Option ℕ = λ n. later_id (h n) (id_in_steps handler step view n u xs t rest) in
       let so : Held j (((way ++ before) ++ own) ++ after) t = steps_held xs h ((way ++ before) ++ own) u t rest
       (does_held g (way ++ before) x v u d (begin_held g way (waits_first x) s v b k)) in
       let e : (((way ++ before) ++ own) ++ after) ≡ way ++ ((before ++ own) ++ after) =
       ap (λ w. w ++ after) (append_assoc way before own) ∙ append_assoc way (before ++ own) after in
       holds_as many j _ _ t.names t.side.system.last
-      (λ n. later_later (g n) (given_in n x (call_of called count may_refuse step view x v u d))
-      (id_in_steps called count may_refuse step view n u xs t rest))
+      (λ n. later_later (g n) (given_in n x (call_of handler step view x v u d))
+      (id_in_steps handler step view n u xs t rest))
       (subst (λ w. Held j w t) e so)
     where
       later_later : (a b c : Option ℕ) → later_id a (later_id b c) ≡ later_id (later_id a b) c
@@ -245,22 +245,22 @@ module _ {C R : Type 0} (called : C → ℕ → Level → C → Type 0) (count :
 
   -- after all steps and the wait at the end
   pub run_held : (g : ℕ → Option ℕ) (way : List LeadCall) (s : Progress R C) (xs : List Step) (t : Progress R C)
-      (run : Runs called count may_refuse step view s xs t) → Held g way s
-      → Held (λ n. later_id (g n) (id_given called count may_refuse step view n s xs t run))
-      (way ++ run_calls called count may_refuse step view s xs t run) t
+      (run : Runs handler step view s xs t) → Held g way s
+      → Held (λ n. later_id (g n) (id_given handler step view n s xs t run))
+      (way ++ run_calls handler step view s xs t run) t
   run_held g way s xs t (u, taken, w) k =
-      subst (λ z. Held (λ n. later_id (g n) (id_in_steps called count may_refuse step view n s xs u taken)) z t)
-      (append_assoc way (steps_calls called count may_refuse step view s xs u taken) (wait_calls step view u t w))
-      (wait_held (λ n. later_id (g n) (id_in_steps called count may_refuse step view n s xs u taken))
-      (way ++ steps_calls called count may_refuse step view s xs u taken) u t w (steps_held xs g way s u taken k))
+      subst (λ z. Held (λ n. later_id (g n) (id_in_steps handler step view n s xs u taken)) z t)
+      (append_assoc way (steps_calls handler step view s xs u taken) (wait_calls step view u t w))
+      (wait_held (λ n. later_id (g n) (id_in_steps handler step view n s xs u taken))
+      (way ++ steps_calls handler step view s xs u taken) u t w (steps_held xs g way s u taken k))
 
   -- from the beginning, where no name has anything
   pub all_held : (s : Progress R C) (xs : List Step) (t : Progress R C)
-      (run : Runs called count may_refuse step view s xs t) → s.names ≡ replicate many Nothing
-      → Held (λ m. id_given called count may_refuse step view m s xs t run)
-      (run_calls called count may_refuse step view s xs t run) t
+      (run : Runs handler step view s xs t) → s.names ≡ replicate many Nothing
+      → Held (λ m. id_given handler step view m s xs t run)
+      (run_calls handler step view s xs t run) t
   all_held s xs t run none = holds_as many _ _ _ t.names t.side.system.last
-      (λ m. first (id_given called count may_refuse step view m s xs t run))
+      (λ m. first (id_given handler step view m s xs t run))
       (run_held (λ m. None) [] s xs t run
       (subst (λ (l : List Named). Holds many (λ m. None) [] l s.side.system.last) (sym none)
       (holds_first many s.side.system.last)))

@@ -7,8 +7,8 @@ use Rattle.std.proofs.lemmas.List.{get_or-set_same}
 use Rattle.std.proofs.lemmas.List.Elements.{All-nil, All-cons, All-append}
 use mathlib.Core.Logic.{dite}
 use native.Mathlib.Decide.{ℕ_discrete}
+use Rattle.cyc_types.specs.declared.Calls.{Ghosts as Calls}
 use Rattle.cyc_types.specs.Firing.{FiringView, FiringCall}
-use Rattle.cyc_types.specs.declared.level.Level.{Level}
 use Rattle.cyc_types.specs.declared.receipt.Receipt.{Receipt}
 use Rattle.cyc_types.specs.declared.refusal.Refusal.{Refusal}
 use Rattle.cyc_types.specs.declared.refusal.Refusal.TheVariants.{NoCyclic}
@@ -148,13 +148,12 @@ module _ {R : Type 0} (step : R → FiringCall → R → Type 0) (view : R → F
 
 -- ---- a run
 
-module _ {C R : Type 0} (called : C → ℕ → Level → C → Type 0) (count : C → ℕ → ℕ) (may_refuse : C → ℕ → Type 0)
-    (step : R → FiringCall → R → Type 0) (view : R → FiringView) (many : ℕ) where
+module _ {C R : Type 0} (handler : Calls C) (step : R → FiringCall → R → Type 0) (view : R → FiringView) (many : ℕ) where
   -- between two steps: no two names have one id, and the removal of each name that is leaving is open
   record Stands (s : Progress R C) : Type 0 where
     given : ℕ → Option ℕ
     way : List LeadCall
-    held : Held called count may_refuse step view many given way s
+    held : Held handler step view many given way s
     sound : IsSound view s.side.system
     ready : length s.side.leads.items ≡ length s.side.system.cpus.cpus
     opens : (name id : ℕ) → named_at s.names name ≡ Leaving id → Opens step view id s.side.system
@@ -174,17 +173,17 @@ module _ {C R : Type 0} (called : C → ℕ → Level → C → Type 0) (count :
   -- ---- calls that lead the system
 
   abbrev D : SystemSide R C → LeadCall → SystemSide R C → Type 0
-  D = AcceptedSteps called count may_refuse step view
+  D = AcceptedSteps handler step view
 
   goes_sound : (way : List LeadCall) (s t : SystemSide R C) → FoldsTo D s way t → IsSound view s.system → IsSound view t.system
   goes_sound [] s t e a = subst (λ (x : SystemSide R C). IsSound view x.system) e a
-  goes_sound (c ∷ way) s t (u, d, rest) a = goes_sound way u t rest (sound_after called count may_refuse step view 0 s u c d)
+  goes_sound (c ∷ way) s t (u, d, rest) a = goes_sound way u t rest (sound_after handler step view 0 s u c d)
 
   goes_ready : (way : List LeadCall) (s t : SystemSide R C) → FoldsTo D s way t
       → length s.leads.items ≡ length s.system.cpus.cpus → length t.leads.items ≡ length t.system.cpus.cpus
   goes_ready [] s t e ready = subst (λ (x : SystemSide R C). length x.leads.items ≡ length x.system.cpus.cpus) e ready
   goes_ready (c ∷ way) s t (u, d, rest) ready =
-      goes_ready way u t rest (step_ready called count may_refuse step view 0 s u c d ready)
+      goes_ready way u t rest (step_ready handler step view 0 s u c d ready)
 
   -- ---- a removal ends
 
@@ -235,10 +234,9 @@ module _ {C R : Type 0} (called : C → ℕ → Level → C → Type 0) (count :
     record {
       given = k.given;
       way = k.way ++ Make (PollRemove id (Ok answer)) ∷ [];
-      held = polls_held_on called count may_refuse step view many k.given k.way name id (Ok answer) s t (ap id_of here) did
-          k.held;
+      held = polls_held_on handler step view many k.given k.way name id (Ok answer) s t (ap id_of here) did k.held;
       sound = did.sound;
-      ready = step_ready called count may_refuse step view 0 s.side t.side (Make (PollRemove id (Ok answer)))
+      ready = step_ready handler step view 0 s.side t.side (Make (PollRemove id (Ok answer)))
           ((did.did, did.leads), did.sound) k.ready;
       opens = poll_open name id answer s t here did k;
     },
@@ -264,9 +262,9 @@ module _ {C R : Type 0} (called : C → ℕ → Level → C → Type 0) (count :
   wait_stands s t w k = record {
     given = k.given;
     way = k.way ++ wait_calls step view s t w;
-    held = wait_held called count may_refuse step view many k.given k.way s t w k.held;
+    held = wait_held handler step view many k.given k.way s t w k.held;
     sound = (wait_rests s t w).0;
-    ready = goes_ready (wait_calls step view s t w) s.side t.side (wait_goes called count may_refuse step view s t w) k.ready;
+    ready = goes_ready (wait_calls step view s t w) s.side t.side (wait_goes handler step view s t w) k.ready;
     opens = none_open t (wait_rests s t w).1;
   }
 
@@ -311,7 +309,7 @@ module _ {C R : Type 0} (called : C → ℕ → Level → C → Type 0) (count :
       (λ own ne. begins_others step view id own (Ok (Done receipt)) s.side.system t.side.system ne did.did) m own is
   begun_open name id (Err why) s t has did k m own is =
       subst (λ (x : SystemView R). Opens step view own x)
-      (sym (refused_begin called count may_refuse step view 0 id why s.side.system t.side.system did.did))
+      (sym (refused_begin handler step view 0 id why s.side.system t.side.system did.did))
       (k.opens m own (sym (ap (λ (l : List Named). named_at l m) did.told) ∙ is))
   begun_open name id (Ok (Kept kept)) s t has did k m own is = dite (ℕ_discrete own id)
       (λ same. subst (λ (j : ℕ). Opens step view j t.side.system) (sym same)
@@ -334,19 +332,19 @@ module _ {C R : Type 0} (called : C → ℕ → Level → C → Type 0) (count :
   remove_open name s t None has e k = subst AllOpen (sym e) k.opens
 
   -- all online CPUs fire
-  fires_open : (now : ℕ) (s t : Progress R C) → Fires called count may_refuse step view now s t → Stands s → AllOpen t
+  fires_open : (now : ℕ) (s t : Progress R C) → Fires handler step view now s t → Stands s → AllOpen t
   fires_open now s t f k name id is =
       let (quiet, still) = k.opens name id (sym (ap (λ (l : List Named). named_at l name) f.names) ∙ is) in
       let (n, x, at, there, own) = open_somewhere id s.side.system.cpus still in
-      let accepted = accepted_fires called count may_refuse step view now s t f in
+      let accepted = accepted_fires handler step view now s t f in
       subst (λ (x : SystemSide R C). Opens step view id x.system) (sym f.side) (
-        quiet_fired called count may_refuse step view id now s.side f.after k.sound k.ready f.fired accepted quiet,
+        quiet_fired handler step view id now s.side f.after k.sound k.ready f.fired accepted quiet,
         is_open id n f.after.side.system.cpus
-            (fired_removal called count may_refuse step view id now s.side f.after k.sound k.ready f.fired accepted n ∙ there),
+            (fired_removal handler step view id now s.side f.after k.sound k.ready f.fired accepted n ∙ there),
       )
 
   -- every word but `advance` and `remove` comes where no name is leaving, and makes none leave
-  does_open : (x : Step) (s t : Progress R C) → Does called count may_refuse step view x s t
+  does_open : (x : Step) (s t : Progress R C) → Does handler step view x s t
       → (waits_first x ≡ true → NoneLeaves s.names) → Stands s → AllOpen t
   does_open (steps.Add a) s t (inl (when, starts, lasts, long, (Ok id, did))) none k =
       none_open t (given_none a.name id _ s t did refl (none refl))
@@ -373,16 +371,14 @@ module _ {C R : Type 0} (called : C → ℕ → Level → C → Type 0) (count :
   does_open (steps.Offline n) s t (answer, did) none k = none_open t (one_none 0 _ s t did refl (none refl))
   does_open (steps.Online n) s t (answer, did) none k = none_open t (one_none 0 _ s t did refl (none refl))
 
-  does_stands : (x : Step) (s t : Progress R C) → Does called count may_refuse step view x s t
+  does_stands : (x : Step) (s t : Progress R C) → Does handler step view x s t
       → (waits_first x ≡ true → NoneLeaves s.names) → Stands s → Stands t
   does_stands x s t d none k = record {
-    given = λ n. later_id (k.given n) (given_in n x (call_of called count may_refuse step view x s t d));
-    way = k.way ++ calls_in (call_of called count may_refuse step view x s t d);
-    held = does_held called count may_refuse step view many k.given k.way x s t d k.held;
-    sound = goes_sound (calls_in (call_of called count may_refuse step view x s t d)) s.side t.side
-        (does_go called count may_refuse step view x s t d) k.sound;
-    ready = goes_ready (calls_in (call_of called count may_refuse step view x s t d)) s.side t.side
-        (does_go called count may_refuse step view x s t d) k.ready;
+    given = λ n. later_id (k.given n) (given_in n x (call_of handler step view x s t d));
+    way = k.way ++ calls_in (call_of handler step view x s t d);
+    held = does_held handler step view many k.given k.way x s t d k.held;
+    sound = goes_sound (calls_in (call_of handler step view x s t d)) s.side t.side (does_go handler step view x s t d) k.sound;
+    ready = goes_ready (calls_in (call_of handler step view x s t d)) s.side t.side (does_go handler step view x s t d) k.ready;
     opens = does_open x s t d none k;
   }
 
@@ -394,8 +390,8 @@ module _ {C R : Type 0} (called : C → ℕ → Level → C → Type 0) (count :
   with_answered Answer call name s t (Some own) (answer, did) each = one_answered (Make (call own answer)) (each own answer)
   with_answered Answer call name s t None e each = none_answered
 
-  does_answered : (x : Step) (s t : Progress R C) (d : Does called count may_refuse step view x s t)
-      → AreAnswered (calls_in (call_of called count may_refuse step view x s t d))
+  does_answered : (x : Step) (s t : Progress R C) (d : Does handler step view x s t)
+      → AreAnswered (calls_in (call_of handler step view x s t d))
   does_answered (steps.Add a) s t (inl (when, starts, lasts, long, (answer, did))) = one_answered _ tt
   does_answered (steps.Add a) s t (inr odd) = none_answered
   does_answered (steps.Omni a) s t (inl (when, starts, lasts, long, (answer, did))) = one_answered _ tt
@@ -418,18 +414,18 @@ module _ {C R : Type 0} (called : C → ℕ → Level → C → Type 0) (count :
 
   -- ---- all steps
 
-  steps_answered : (xs : List Step) (s t : Progress R C) (run : TakesSteps called count may_refuse step view s xs t) → Stands s
-      → AreAnswered (steps_calls called count may_refuse step view s xs t run) × Stands t
+  steps_answered : (xs : List Step) (s t : Progress R C) (run : TakesSteps handler step view s xs t) → Stands s
+      → AreAnswered (steps_calls handler step view s xs t run) × Stands t
   steps_answered [] s t e k = (none_answered, subst (λ (x : Progress R C). Stands x) e k)
   steps_answered (x ∷ xs) s t (u, (v, b, d), rest) k =
       let after = begin_stands (waits_first x) s v b k in
       let next = does_stands x v u d (begin_none (waits_first x) s v b) after in
       let (more, last) = steps_answered xs u t rest next in (
         both_answered
-            (begin_calls step view (waits_first x) s v b ++ calls_in (call_of called count may_refuse step view x v u d))
-            (steps_calls called count may_refuse step view u xs t rest)
+            (begin_calls step view (waits_first x) s v b ++ calls_in (call_of handler step view x v u d))
+            (steps_calls handler step view u xs t rest)
             (both_answered (begin_calls step view (waits_first x) s v b)
-            (calls_in (call_of called count may_refuse step view x v u d))
+            (calls_in (call_of handler step view x v u d))
             (begin_answered (waits_first x) s v b k) (does_answered x v u d)) more,
         last,
       )
@@ -463,20 +459,20 @@ module _ {C R : Type 0} (called : C → ℕ → Level → C → Type 0) (count :
 
   -- and the wait after them, and the report
   runs_answered : (xs : List Step) (lines : List Line) (s t u : Progress R C)
-      (runs : Runs called count may_refuse step view s xs t) (reports : Reports step view lines t u) → Stands s
-      → AreAnswered (all_calls called count may_refuse step view xs lines s t u runs reports)
+      (runs : Runs handler step view s xs t) (reports : Reports step view lines t u) → Stands s
+      → AreAnswered (all_calls handler step view xs lines s t u runs reports)
   runs_answered xs lines s t u (v, taken, w) reports k = let (steps, after) = steps_answered xs s v taken k in both_answered _ _
-      (both_answered (steps_calls called count may_refuse step view s xs v taken) (wait_calls step view v t w) steps
+      (both_answered (steps_calls handler step view s xs v taken) (wait_calls step view v t w) steps
       (wait_answered v t w after)) (lines_answered reports.all t u reports.tells)
 
-module _ {C : Type 0} (called : C → ℕ → Level → C → Type 0) (count : C → ℕ → ℕ) (may_refuse : C → ℕ → Type 0) where
+module _ {C : Type 0} (handler : Calls C) where
   pub all_answered : (script : Script) (calls : List C) (e : Ended C) (text : List ℕ)
-      (r : HasRun called count may_refuse script calls e text)
-      → AreAnswered (lead_calls called count may_refuse script calls e text r)
-  all_answered script calls e text r = runs_answered called count may_refuse RaiseEndCall end_view (length script.names.items)
+      (r : HasRun handler script calls e text)
+      → AreAnswered (lead_calls handler script calls e text r)
+  all_answered script calls e text r = runs_answered handler RaiseEndCall end_view (length script.names.items)
       script.steps.items r.lines r.played.first r.played.last r.played.told r.played.runs r.played.reports
-      (first_stands called count may_refuse RaiseEndCall end_view (length script.names.items) r.played.first
+      (first_stands handler RaiseEndCall end_view (length script.names.items) r.played.first
       (subst (λ (l : List Named). Holds (length script.names.items) (λ name. None) [] l r.played.first.side.system.last)
       (sym r.played.begins.names_are) (holds_first (length script.names.items) r.played.first.side.system.last))
-      (run_sound called count may_refuse script calls e text r)
+      (run_sound handler script calls e text r)
       (first_ready _ script.ceiling r.before r.played.first r.played.begins r.new))

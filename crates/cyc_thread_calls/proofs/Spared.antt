@@ -3,6 +3,7 @@ use Rattle.std.proofs.Common.{◌≡◌, ℕ, zero, suc, ◌<◌, ◌≤◌, Lis
 use Rattle.std.specs.Prelude.{sum_by}
 use Rattle.std.specs.List.{slice_get}
 use Rattle.std.proofs.lemmas.List.Sums.{sum_by-cons}
+use Rattle.cyc_types.specs.declared.Calls.{Ghosts as Calls}
 use Rattle.cyc_types.specs.declared.firing.Sent.{Sent}
 use Rattle.cyc_types.specs.declared.level.Level.{Level}
 use Rattle.cyc_types.specs.declared.level.Level.TheVariants.{Low, Lock, High}
@@ -54,13 +55,13 @@ module _ (ceiling id : ℕ) (end_at : CpuView RaiseEnd → RaiseEnd) where
   ends_spare xs spare few = sum_none dropped xs (λ n x at. not_lost (dropped x)
       (λ some. (let a = (spare n x at).spare id some in let b = one_of_sum raised xs n x at in omega (arith, a, b, few))))
 
-module _ {C : Type 0} (called : C → ℕ → Level → C → Type 0) (count : C → ℕ → ℕ) (may_refuse : C → ℕ → Type 0) (script : Script)
-    (calls : List C) (e : Ended C) (text : List ℕ) (r : HasRun called count may_refuse script calls e text) where
+module _ {C : Type 0} (handler : Calls C) (script : Script)
+    (calls : List C) (e : Ended C) (text : List ℕ) (r : HasRun handler script calls e text) where
   abbrev way : List LeadCall
-  way = lead_calls called count may_refuse script calls e text r
+  way = lead_calls handler script calls e text r
 
   abbrev last : SystemView RaiseEnd
-  last = last_system called count may_refuse script calls e text r
+  last = last_system handler script calls e text r
 
   spare_new : (x : RaiseEnd) → x.seat.setting.ceiling ≡ script.ceiling → raise_trail x.seat ≡ [] → IsSpare script.ceiling x
   spare_new x same none = record {
@@ -79,28 +80,28 @@ module _ {C : Type 0} (called : C → ℕ → Level → C → Type 0) (count : C
       )
 
   spare_last : OfAll RaiseEndCall end_view (IsSpare script.ceiling) (goes_spare script.ceiling) last.cpus.cpus
-  spare_last = let l = from_new called count may_refuse script calls e text r in
-      led_all RaiseEndCall end_view (IsSpare script.ceiling) (goes_spare script.ceiling) called count may_refuse way
+  spare_last = let l = from_new handler script calls e text r in
+      led_all RaiseEndCall end_view (IsSpare script.ceiling) (goes_spare script.ceiling) handler way
       r.played.first.side r.played.told.side l.sound l.ready l.run spare_first
 
   spared_at : (level : Level) (id : ℕ) → (counts_at level id way last).sent ≤ script.ceiling
       → (counts_at level id way last).lost ≡ 0
   spared_at Low id few =
-      let (a, b) = at_level called count may_refuse id r.played.first.side r.played.told.side way
-      (from_new called count may_refuse script calls e text r) Low in
+      let (a, b) = at_level handler id r.played.first.side r.played.told.side way
+      (from_new handler script calls e text r) Low in
       let none = sum_none (raised script.ceiling id (λ cpu. cpu.low)) r.played.first.side.system.cpus.cpus
-      (λ n x at. ap (raises_of id) (new_ends called count may_refuse script calls e text r n x at).1) in
+      (λ n x at. ap (raises_of id) (new_ends handler script calls e text r n x at).1) in
       let zero_lost = ends_spare script.ceiling id (λ cpu. cpu.low) last.cpus.cpus (λ n x at. (spare_last n x at).1)
       (omega (arith, a, none, few)) in omega (arith, b, zero_lost)
   spared_at Lock id few =
-      let (a, b) = at_level called count may_refuse id r.played.first.side r.played.told.side way
-      (from_new called count may_refuse script calls e text r) Lock in
+      let (a, b) = at_level handler id r.played.first.side r.played.told.side way
+      (from_new handler script calls e text r) Lock in
       let none = sum_none (raised script.ceiling id (λ cpu. cpu.lock)) r.played.first.side.system.cpus.cpus
-      (λ n x at. ap (raises_of id) (new_ends called count may_refuse script calls e text r n x at).0) in
+      (λ n x at. ap (raises_of id) (new_ends handler script calls e text r n x at).0) in
       let zero_lost = ends_spare script.ceiling id (λ cpu. cpu.lock) last.cpus.cpus (λ n x at. (spare_last n x at).0)
       (omega (arith, a, none, few)) in omega (arith, b, zero_lost)
-  spared_at High id few = high_keeps called count may_refuse id r.played.first.side r.played.told.side way
-      (from_new called count may_refuse script calls e text r)
+  spared_at High id few = high_keeps handler id r.played.first.side r.played.told.side way
+      (from_new handler script calls e text r)
 
   pub spared_id : (id : ℕ) → (counts_in id way last).sent ≤ script.ceiling → (counts_in id way last).lost ≡ 0
   spared_id id few = by (level_in id way) refl
@@ -109,12 +110,12 @@ module _ {C : Type 0} (called : C → ℕ → Level → C → Type 0) (count : C
       by (Some level) is = let same = own_counts id way last level is in
           let a = ap (λ (c : Sent). c.sent) same in let b = ap (λ (c : Sent). c.lost) same in
           let none = spared_at level id (omega (arith, a, few)) in omega (arith, b, none)
-      by None is = ap (λ (c : Sent). c.lost) (none_given called count may_refuse id r.played.first.side r.played.told.side way
-          (from_new called count may_refuse script calls e text r) is)
+      by None is = ap (λ (c : Sent). c.lost) (none_given handler id r.played.first.side r.played.told.side way
+          (from_new handler script calls e text r) is)
 
   pub line_spared : (name : ℕ) (line : Line) → slice_get r.lines name ≡ Some line → line.expired ≤ script.ceiling → line.lost ≡ 0
-  line_spared name line at few = by (id_of_name called count may_refuse script calls e text r name)
-      (line_is called count may_refuse script calls e text r name line at)
+  line_spared name line at few = by (id_of_name handler script calls e text r name)
+      (line_is handler script calls e text r name line at)
     where
       by : (o : Option ℕ) → line ≡ line_in o way last → line.lost ≡ 0
       by None is = ap (λ (l : Line). l.lost) is

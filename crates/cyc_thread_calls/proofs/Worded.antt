@@ -2,6 +2,7 @@
 use Rattle.std.proofs.Common.{◌≡◌, ◌≢◌, ◌∙◌, ℕ, ◌<◌, ◌+◌, ◌++◌, List, [], ◌∷◌, Option, Some, None, length, refl, sym, ap, arith}
 use Rattle.std.specs.Prelude.{true}
 use Rattle.std.specs.List.{slice_get, FoldsTo}
+use Rattle.cyc_types.specs.declared.Calls.{Ghosts as Calls}
 use Rattle.cyc_types.specs.Firing.{FiringView, FiringCall}
 use Rattle.cyc_system_expected.specs.Rings.{first_of}
 use Rattle.cyc_threads.specs.Named.{Named}
@@ -49,33 +50,33 @@ module _ {C R : Type 0} (step : R → FiringCall → R → Type 0) (view : R →
       level_later id (told_calls_of step view told.named told.line s u d) (told_calls step view all u t rest)
       (line_level told.named told.line s u d) ∙ report_level all u t rest
 
-module _ {C : Type 0} (called : C → ℕ → Level → C → Type 0) (count : C → ℕ → ℕ) (may_refuse : C → ℕ → Type 0) (script : Script)
-    (calls : List C) (e : Ended C) (text : List ℕ) (r : HasRun called count may_refuse script calls e text) where
+module _ {C : Type 0} (handler : Calls C) (script : Script)
+    (calls : List C) (e : Ended C) (text : List ℕ) (r : HasRun handler script calls e text) where
   abbrev way : List LeadCall
-  way = lead_calls called count may_refuse script calls e text r
+  way = lead_calls handler script calls e text r
 
   abbrev id_named : ℕ → Option ℕ
-  id_named = id_of_name called count may_refuse script calls e text r
+  id_named = id_of_name handler script calls e text r
 
   -- the calls of the steps alone have the level of a name's id, and it is that of the name
   its_level : (name id : ℕ) → id_named name ≡ Some id
       → (level : Level) × (level_in id way ≡ Some level) × (level_named name script.steps.items ≡ Some level)
   its_level name id given = by r.played.runs given
     where
-      by : (run : Runs called count may_refuse RaiseEndCall end_view r.played.first script.steps.items r.played.last)
-          → id_given called count may_refuse RaiseEndCall end_view name r.played.first script.steps.items r.played.last run
+      by : (run : Runs handler RaiseEndCall end_view r.played.first script.steps.items r.played.last)
+          → id_given handler RaiseEndCall end_view name r.played.first script.steps.items r.played.last run
           ≡ Some id
-          → (level : Level) × (level_in id (run_calls called count may_refuse RaiseEndCall end_view r.played.first
+          → (level : Level) × (level_in id (run_calls handler RaiseEndCall end_view r.played.first
           script.steps.items r.played.last run ++ report_calls RaiseEndCall end_view r.lines r.played.last r.played.told
           r.played.reports) ≡ Some level) × (level_named name script.steps.items ≡ Some level)
       by (u, taken, waits) given =
-          let (level, here, named) = steps_level called count may_refuse RaiseEndCall end_view script.steps.items name id 0
+          let (level, here, named) = steps_level handler RaiseEndCall end_view script.steps.items name id 0
           r.played.first u taken script.well_formed.names_in_order given in (
             level,
-            level_kept id (steps_calls called count may_refuse RaiseEndCall end_view r.played.first script.steps.items u taken
+            level_kept id (steps_calls handler RaiseEndCall end_view r.played.first script.steps.items u taken
                 ++ wait_calls RaiseEndCall end_view u r.played.last waits)
                 (report_calls RaiseEndCall end_view r.lines r.played.last r.played.told r.played.reports) level
-                (level_kept id (steps_calls called count may_refuse RaiseEndCall end_view r.played.first script.steps.items u
+                (level_kept id (steps_calls handler RaiseEndCall end_view r.played.first script.steps.items u
                 taken)
                 (wait_calls RaiseEndCall end_view u r.played.last waits) level here),
             named,
@@ -89,46 +90,46 @@ module _ {C : Type 0} (called : C → ℕ → Level → C → Type 0) (count : C
   -- as often as a name's line says, the handlers of its level were called for it
   pub word_called : (name id : ℕ) (level : Level) (line : Line) → slice_get r.lines name ≡ Some line → id_named name ≡ Some id
       → level_named name script.steps.items ≡ Some level
-      → calls_at count level id r.after ≡ calls_at count level id r.before + (counts_of line).called
+      → calls_at handler.count level id r.after ≡ calls_at handler.count level id r.before + (counts_of line).called
   word_called name id level line at given named =
-      line_called called count may_refuse script calls e text r name id level line at given
+      line_called handler script calls e text r name id level line at given
       (known_level name id level given named)
 
   -- and those of another level were not
   pub word_elsewhere : (name id : ℕ) (level other : Level) → id_named name ≡ Some id
       → level_named name script.steps.items ≡ Some level → other ≢ level
-      → calls_at count other id r.after ≡ calls_at count other id r.before
+      → calls_at handler.count other id r.after ≡ calls_at handler.count other id r.before
   word_elsewhere name id level other given named ne =
-      none_elsewhere called count may_refuse script calls e text r id level other (known_level name id level given named) ne
+      none_elsewhere handler script calls e text r id level other (known_level name id level given named) ne
 
   -- an id that is no name's was given by no call
   pub own_name : (id : ℕ) (level : Level) → level_in id way ≡ Some level
       → (name : ℕ) × (name < length script.names.items) × (id_named name ≡ Some id)
   own_name id level is = by r.played.runs is
     where
-      by : (run : Runs called count may_refuse RaiseEndCall end_view r.played.first script.steps.items r.played.last)
-          → level_in id (run_calls called count may_refuse RaiseEndCall end_view r.played.first script.steps.items r.played.last
+      by : (run : Runs handler RaiseEndCall end_view r.played.first script.steps.items r.played.last)
+          → level_in id (run_calls handler RaiseEndCall end_view r.played.first script.steps.items r.played.last
           run
           ++ report_calls RaiseEndCall end_view r.lines r.played.last r.played.told r.played.reports) ≡ Some level
           → (name : ℕ) × (name < length script.names.items)
-          × (id_given called count may_refuse RaiseEndCall end_view name r.played.first script.steps.items r.played.last run
+          × (id_given handler RaiseEndCall end_view name r.played.first script.steps.items r.played.last run
           ≡ Some id)
       by (u, taken, waits) is =
-          let steps = steps_calls called count may_refuse RaiseEndCall end_view r.played.first script.steps.items u taken in
+          let steps = steps_calls handler RaiseEndCall end_view r.played.first script.steps.items u taken in
           let wait = wait_calls RaiseEndCall end_view u r.played.last waits in
           let report = report_calls RaiseEndCall end_view r.lines r.played.last r.played.told r.played.reports in
           let at : level_in id steps ≡ Some level =
-          sym (level_first id steps wait (begin_none called count may_refuse RaiseEndCall end_view id true u r.played.last waits))
+          sym (level_first id steps wait (begin_none handler RaiseEndCall end_view id true u r.played.last waits))
           ∙ sym (level_first id (steps ++ wait) report
           (report_level RaiseEndCall end_view id r.played.reports.all r.played.last r.played.told r.played.reports.tells))
           ∙ is in
-          let (name, low, given) = steps_named called count may_refuse RaiseEndCall end_view script.steps.items id 0 level
+          let (name, low, given) = steps_named handler RaiseEndCall end_view script.steps.items id 0 level
           r.played.first u taken script.well_formed.names_in_order at in
           let many = script.well_formed.names_introduced in
           (name, omega (arith, low, many), given)
 
   -- for an id that no name got no handler was called
   pub none_called : (id : ℕ) (level : Level) → ((name : ℕ) → name < length script.names.items → id_named name ≡ Some id → ⊥)
-      → calls_at count level id r.after ≡ calls_at count level id r.before
-  none_called id level nobody = none_ungiven called count may_refuse script calls e text r id level
+      → calls_at handler.count level id r.after ≡ calls_at handler.count level id r.before
+  none_called id level nobody = none_ungiven handler script calls e text r id level
       (not_some (level_in id way) (λ found is. (let (name, low, given) = own_name id found is in nobody name low given)))

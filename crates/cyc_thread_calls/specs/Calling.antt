@@ -1,5 +1,6 @@
 -- The calls that the handlers of a run in threads had, level by level.
 use Rattle.std.specs.Prelude.{ℕ, List, map, sum_by, Option}
+use Rattle.cyc_types.specs.declared.Calls.{Ghosts as Calls}
 use Rattle.cyc_types.specs.declared.level.Level.{Level}
 use Rattle.cyc_types.specs.declared.level.Level.TheVariants.{Low, Lock, High}
 use Rattle.cyc_ring.specs.declared.ends.RaiseEnd.{RaiseEnd}
@@ -24,12 +25,11 @@ handlers_at Low h = h.low
 abbrev pub calls_at : {C : Type 0} → (C → ℕ → ℕ) → Level → ℕ → List (Seated C) → ℕ
 calls_at {C} count level id all = sum_by (λ c. count c id) (map (λ s. handlers_at level s.calls) all)
 
-module _ {C : Type 0} (called : C → ℕ → Level → C → Type 0) (count : C → ℕ → ℕ) (may_refuse : C → ℕ → Type 0)
-    (script : Script) (calls : List C) (e : Ended C) (text : List ℕ)
-    (r : HasRun called count may_refuse script calls e text) where
+module _ {C : Type 0} (handler : Calls C) (script : Script) (calls : List C) (e : Ended C) (text : List ℕ)
+    (r : HasRun handler script calls e text) where
   -- what led the run, from its first step to the last line of its report
   abbrev pub lead_calls : List LeadCall
-  lead_calls = all_calls called count may_refuse RaiseEndCall end_view script.steps.items r.lines r.played.first r.played.last
+  lead_calls = all_calls handler RaiseEndCall end_view script.steps.items r.lines r.played.first r.played.last
       r.played.told r.played.runs r.played.reports
 
   -- the system with which it ends
@@ -38,5 +38,4 @@ module _ {C : Type 0} (called : C → ℕ → Level → C → Type 0) (count : C
 
   -- the id that it gave the name of this number
   abbrev pub id_of_name : ℕ → Option ℕ
-  id_of_name name = id_given called count may_refuse RaiseEndCall end_view name r.played.first script.steps.items r.played.last
-      r.played.runs
+  id_of_name name = id_given handler RaiseEndCall end_view name r.played.first script.steps.items r.played.last r.played.runs

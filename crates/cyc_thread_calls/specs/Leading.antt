@@ -3,8 +3,8 @@ use Rattle.std.specs.Prelude.{◌≡◌, ℕ, Bool, true, false, List, [], ◌�
 use Rattle.std.specs.Option.{option_map_or}
 use Rattle.std.specs.List.{FoldsTo}
 use mathlib.Core.Logic.{inl, inr}
+use Rattle.cyc_types.specs.declared.Calls.{Ghosts as Calls}
 use Rattle.cyc_types.specs.Firing.{FiringView, FiringCall}
-use Rattle.cyc_types.specs.declared.level.Level.{Level}
 use Rattle.cyc_types.specs.declared.refusal.Refusal.{Refusal}
 use Rattle.cyc_script.specs.declared.step.Step.{Step}
 use Rattle.cyc_script.specs.declared.step.Step.TheVariants as steps
@@ -62,10 +62,9 @@ module _ {C R : Type 0} (step : R → FiringCall → R → Type 0) (view : R →
   abbrev pub report_calls : (lines : List Line) (s t : Progress R C) → Reports step view lines s t → List LeadCall
   report_calls lines s t reports = told_calls reports.all s t reports.tells
 
-module _ {C R : Type 0} (called : C → ℕ → Level → C → Type 0) (count : C → ℕ → ℕ) (may_refuse : C → ℕ → Type 0)
-    (step : R → FiringCall → R → Type 0) (view : R → FiringView) where
+module _ {C R : Type 0} (handler : Calls C) (step : R → FiringCall → R → Type 0) (view : R → FiringView) where
   -- the call that a step made; a step that did nothing made none
-  abbrev pub call_of : (x : Step) (s t : Progress R C) → Does called count may_refuse step view x s t → Option LeadCall
+  abbrev pub call_of : (x : Step) (s t : Progress R C) → Does handler step view x s t → Option LeadCall
   call_of (steps.Add a) s t (inl (when, starts, lasts, long, (answer, did))) = Some (Make (Add a.level when s.clock answer))
   call_of (steps.Add a) s t (inr nothing) = None
   call_of (steps.Omni a) s t (inl (when, starts, lasts, long, (answer, did))) =
@@ -88,22 +87,20 @@ module _ {C R : Type 0} (called : C → ℕ → Level → C → Type 0) (count :
   call_of (steps.Online n) s t (answer, did) = Some (Make (Online n s.clock answer))
 
   -- those of a step: of the wait before it, and its own
-  abbrev pub step_calls : (s : Progress R C) (x : Step) (t : Progress R C) → TakesStep called count may_refuse step view s x t
-      → List LeadCall
+  abbrev pub step_calls : (s : Progress R C) (x : Step) (t : Progress R C) → TakesStep handler step view s x t → List LeadCall
   step_calls s x t (u, begins, does) = begin_calls step view (waits_first x) s u begins ++ calls_in (call_of x u t does)
 
   -- of all steps
   abbrev pub steps_calls : (s : Progress R C) (xs : List Step) (t : Progress R C)
-      → TakesSteps called count may_refuse step view s xs t → List LeadCall
+      → TakesSteps handler step view s xs t → List LeadCall
   steps_calls s [] t takes = []
   steps_calls s (x ∷ xs) t (u, takes, rest) = step_calls s x u takes ++ steps_calls u xs t rest
 
   -- of all steps and of the wait after them
-  abbrev pub run_calls : (s : Progress R C) (xs : List Step) (t : Progress R C) → Runs called count may_refuse step view s xs t
-      → List LeadCall
+  abbrev pub run_calls : (s : Progress R C) (xs : List Step) (t : Progress R C) → Runs handler step view s xs t → List LeadCall
   run_calls s xs t (u, takes, waits) = steps_calls s xs u takes ++ wait_calls step view u t waits
 
   -- of a run and its report
   abbrev pub all_calls : (xs : List Step) (lines : List Line) (s t u : Progress R C)
-      → Runs called count may_refuse step view s xs t → Reports step view lines t u → List LeadCall
+      → Runs handler step view s xs t → Reports step view lines t u → List LeadCall
   all_calls xs lines s t u runs reports = run_calls s xs t runs ++ report_calls step view lines t u reports

@@ -1,9 +1,9 @@
 -- How the steps of a run in threads were met: which of them were accepted, read off the answers of their calls.
-use Rattle.std.specs.Prelude.{ℕ, Bool, true, false, List, [], ◌∷◌}
+use Rattle.std.specs.Prelude.{Bool, true, false, List, [], ◌∷◌}
 use Rattle.std.specs.Result.{is_ok}
 use Rattle.std.specs.Option.{option_map_or}
+use Rattle.cyc_types.specs.declared.Calls.{Ghosts as Calls}
 use Rattle.cyc_types.specs.Firing.{FiringView, FiringCall}
-use Rattle.cyc_types.specs.declared.level.Level.{Level}
 use Rattle.cyc_script.specs.declared.step.Step.{Step}
 use Rattle.cyc_script.specs.declared.step.Step.TheVariants.{Softint}
 use Rattle.cyc_expected.specs.Expected.{Met}
@@ -37,22 +37,20 @@ is_taken (Make call) = is_accepted call
 is_taken (FireAll now) = true
 is_taken AskAll = true
 
-module _ {C R : Type 0} (called : C → ℕ → Level → C → Type 0) (count : C → ℕ → ℕ) (may_refuse : C → ℕ → Type 0)
-    (step : R → FiringCall → R → Type 0) (view : R → FiringView) where
+module _ {C R : Type 0} (handler : Calls C) (step : R → FiringCall → R → Type 0) (view : R → FiringView) where
   -- A step was accepted where its call was not refused; one that did nothing was not. A `softint` makes no call, and is never
   -- refused.
-  abbrev pub accepted : (x : Step) (s t : Progress R C) → Does called count may_refuse step view x s t → Bool
+  abbrev pub accepted : (x : Step) (s t : Progress R C) → Does handler step view x s t → Bool
   accepted (Softint i) s t does = true
-  accepted x s t does = option_map_or is_taken (call_of called count may_refuse step view x s t does) false
+  accepted x s t does = option_map_or is_taken (call_of handler step view x s t does) false
 
   -- the steps, and which of them were accepted
   abbrev pub steps_met : (s : Progress R C) (xs : List Step) (t : Progress R C)
-      → TakesSteps called count may_refuse step view s xs t → List Met
+      → TakesSteps handler step view s xs t → List Met
   steps_met s [] t takes = []
   steps_met s (x ∷ xs) t ((u, (v, begins, does), rest)) =
       record { step = x; accepted = accepted x v u does } ∷ steps_met u xs t rest
 
   -- those of a run
-  abbrev pub way_of : (s : Progress R C) (xs : List Step) (t : Progress R C) → Runs called count may_refuse step view s xs t
-      → List Met
+  abbrev pub way_of : (s : Progress R C) (xs : List Step) (t : Progress R C) → Runs handler step view s xs t → List Met
   way_of s xs t (u, takes, waits) = steps_met s xs u takes

@@ -15,6 +15,6 @@ use cyc_types::Calls;
 /// It does nothing when it runs: its clause is the law.
 pub fn answering_law<C: Calls>()
     ensures { (script : OneScript) (calls : List C) (e : Ends C) (text : List ℕ)
-        (r : HasRun C.called C.count C.may_refuse script calls e text)
-        → All IsAnswered (lead_calls C.called C.count C.may_refuse script calls e text r) }
+        (r : HasRun C.Calls script calls e text)
+        → All IsAnswered (lead_calls C.Calls script calls e text r) }
 {}

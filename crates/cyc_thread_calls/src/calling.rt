@@ -18,17 +18,17 @@ use cyc_types::Calls;
 /// It does nothing when it runs: its clauses are the law.
 pub fn called_law<C: Calls>()
     ensures called { (script : OneScript) (calls : List C) (e : Ends C) (text : List ℕ)
-        (r : HasRun C.called C.count C.may_refuse script calls e text) (level : OneLevel) (id : ℕ)
-        → calls_at C.count level id r.after + (counts_at level id (lead_calls C.called C.count C.may_refuse script calls e text r)
-        (last_system C.called C.count C.may_refuse script calls e text r)).lost ≡ calls_at C.count level id r.before
-        + (counts_at level id (lead_calls C.called C.count C.may_refuse script calls e text r)
-        (last_system C.called C.count C.may_refuse script calls e text r)).sent }
+        (r : HasRun C.Calls script calls e text) (level : OneLevel) (id : ℕ)
+        → calls_at C.count level id r.after + (counts_at level id (lead_calls C.Calls script calls e text r)
+        (last_system C.Calls script calls e text r)).lost ≡ calls_at C.count level id r.before
+        + (counts_at level id (lead_calls C.Calls script calls e text r)
+        (last_system C.Calls script calls e text r)).sent }
     // As often the soft sides of the level's rings, which come back closed, made a call of it.
     ensures made { (script : OneScript) (calls : List C) (e : Ends C) (text : List ℕ)
-        (r : HasRun C.called C.count C.may_refuse script calls e text) (soft : SoftLevel) (id : ℕ)
+        (r : HasRun C.Calls script calls e text) (soft : SoftLevel) (id : ℕ)
         → made_at soft id e.rings.items
-        + (counts_at (as_level soft) id (lead_calls C.called C.count C.may_refuse script calls e text r)
-        (last_system C.called C.count C.may_refuse script calls e text r)).lost
-        ≡ (counts_at (as_level soft) id (lead_calls C.called C.count C.may_refuse script calls e text r)
-        (last_system C.called C.count C.may_refuse script calls e text r)).sent }
+        + (counts_at (as_level soft) id (lead_calls C.Calls script calls e text r)
+        (last_system C.Calls script calls e text r)).lost
+        ≡ (counts_at (as_level soft) id (lead_calls C.Calls script calls e text r)
+        (last_system C.Calls script calls e text r)).sent }
 {}

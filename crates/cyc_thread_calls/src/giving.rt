@@ -19,10 +19,10 @@ use cyc_types::{Calls, Raise};
 ///
 /// It does nothing when it runs: its clause is the law.
 pub fn giving_law<C: Calls, R: Raise>()
-    ensures { (xs : List Step) (s t : Progress R C) (runs : Runs C.called C.count C.may_refuse R.step R.view s xs t)
+    ensures { (xs : List Step) (s t : Progress R C) (runs : Runs C.Calls R.step R.view s xs t)
         (n a b id : ℕ) → s.names ≡ replicate n Nothing
-        → id_given C.called C.count C.may_refuse R.step R.view a s xs t runs ≡ Some id
-        → id_given C.called C.count C.may_refuse R.step R.view b s xs t runs ≡ Some id → a ≡ b }
+        → id_given C.Calls R.step R.view a s xs t runs ≡ Some id
+        → id_given C.Calls R.step R.view b s xs t runs ≡ Some id → a ≡ b }
 {}
 
 /// Each id that a call of a run of a script gave is that of exactly one of its names.
@@ -30,12 +30,12 @@ pub fn giving_law<C: Calls, R: Raise>()
 /// It does nothing when it runs: its clauses are the law.
 pub fn owned_law<C: Calls>()
     ensures some { (script : OneScript) (calls : List C) (e : Ends C) (text : List ℕ)
-        (r : HasRun C.called C.count C.may_refuse script calls e text) (id : ℕ) (level : OneLevel)
-        → level_in id (lead_calls C.called C.count C.may_refuse script calls e text r) ≡ Some level
+        (r : HasRun C.Calls script calls e text) (id : ℕ) (level : OneLevel)
+        → level_in id (lead_calls C.Calls script calls e text r) ≡ Some level
         → (name : ℕ) × (name < length script.names.items)
-        × (id_of_name C.called C.count C.may_refuse script calls e text r name ≡ Some id) }
+        × (id_of_name C.Calls script calls e text r name ≡ Some id) }
     ensures one { (script : OneScript) (calls : List C) (e : Ends C) (text : List ℕ)
-        (r : HasRun C.called C.count C.may_refuse script calls e text) (a b id : ℕ)
-        → id_of_name C.called C.count C.may_refuse script calls e text r a ≡ Some id
-        → id_of_name C.called C.count C.may_refuse script calls e text r b ≡ Some id → a ≡ b }
+        (r : HasRun C.Calls script calls e text) (a b id : ℕ)
+        → id_of_name C.Calls script calls e text r a ≡ Some id
+        → id_of_name C.Calls script calls e text r b ≡ Some id → a ≡ b }
 {}

@@ -26,9 +26,9 @@ use cyc_types::{Calls, Raise};
 /// It does nothing when it runs: its clause is the law.
 pub fn leading_law<C: Calls, R: Raise>()
     ensures { (xs : List Step) (lines : List Line) (s t u : Progress R C)
-        (runs : Runs C.called C.count C.may_refuse R.step R.view s xs t) (reports : Reports R.step R.view lines t u)
-        → FoldsTo (AcceptedSteps C.called C.count C.may_refuse R.step R.view) s.side
-        (all_calls C.called C.count C.may_refuse R.step R.view xs lines s t u runs reports) u.side }
+        (runs : Runs C.Calls R.step R.view s xs t) (reports : Reports R.step R.view lines t u)
+        → FoldsTo (AcceptedSteps C.Calls R.step R.view) s.side
+        (all_calls C.Calls R.step R.view xs lines s t u runs reports) u.side }
 {}
 
 /// From its opening to its closing a run of a script in threads is such calls of a new system over new rings. At the end all CPUs
@@ -37,16 +37,15 @@ pub fn leading_law<C: Calls, R: Raise>()
 /// It does nothing when it runs: its clauses are the law.
 pub fn opened_law<C: Calls>()
     ensures new { (script : OneScript) (calls : List C) (e : Ends C) (text : List ℕ)
-        (r : HasRun C.called C.count C.may_refuse script calls e text)
-        → LeadsFromNew C.called C.count C.may_refuse r.played.first.side
-        (lead_calls C.called C.count C.may_refuse script calls e text r) r.played.told.side }
+        (r : HasRun C.Calls script calls e text)
+        → LeadsFromNew C.Calls r.played.first.side (lead_calls C.Calls script calls e text r) r.played.told.side }
     ensures accepted { (script : OneScript) (calls : List C) (e : Ends C) (text : List ℕ)
-        (r : HasRun C.called C.count C.may_refuse script calls e text)
-        → FoldsTo (AcceptedSteps C.called C.count C.may_refuse RaiseEndCall end_view) r.played.first.side
-        (lead_calls C.called C.count C.may_refuse script calls e text r) r.played.told.side }
+        (r : HasRun C.Calls script calls e text)
+        → FoldsTo (AcceptedSteps C.Calls RaiseEndCall end_view) r.played.first.side
+        (lead_calls C.Calls script calls e text r) r.played.told.side }
     ensures ends { (script : OneScript) (calls : List C) (e : Ends C) (text : List ℕ)
-        (r : HasRun C.called C.count C.may_refuse script calls e text) → HasNewEnds r.played.first.side.system }
+        (r : HasRun C.Calls script calls e text) → HasNewEnds r.played.first.side.system }
     ensures closed { (script : OneScript) (calls : List C) (e : Ends C) (text : List ℕ)
-        (r : HasRun C.called C.count C.may_refuse script calls e text)
-        → AreClosed (last_system C.called C.count C.may_refuse script calls e text r).cpus.cpus e.rings.items }
+        (r : HasRun C.Calls script calls e text)
+        → AreClosed (last_system C.Calls script calls e text r).cpus.cpus e.rings.items }
 {}

@@ -21,31 +21,30 @@ use cyc_types::Calls;
 /// It does nothing when it runs: its clauses are the law.
 pub fn named_law<C: Calls>()
     ensures line { (script : OneScript) (calls : List C) (e : Ends C) (text : List ℕ)
-        (r : HasRun C.called C.count C.may_refuse script calls e text) (name : ℕ) → name < length script.names.items
-        → slice_get r.lines name ≡ Some (line_in (id_of_name C.called C.count C.may_refuse script calls e text r name)
-        (lead_calls C.called C.count C.may_refuse script calls e text r)
-        (last_system C.called C.count C.may_refuse script calls e text r)) }
+        (r : HasRun C.Calls script calls e text) (name : ℕ) → name < length script.names.items
+        → slice_get r.lines name ≡ Some (line_in (id_of_name C.Calls script calls e text r name)
+        (lead_calls C.Calls script calls e text r) (last_system C.Calls script calls e text r)) }
     ensures few { (script : OneScript) (calls : List C) (e : Ends C) (text : List ℕ)
-        (r : HasRun C.called C.count C.may_refuse script calls e text) (name : ℕ) (line : OneLine)
+        (r : HasRun C.Calls script calls e text) (name : ℕ) (line : OneLine)
         → slice_get r.lines name ≡ Some line → line.lost ≤ line.expired }
     // What expired no more often than the greatest pend lost nothing.
     ensures spared { (script : OneScript) (calls : List C) (e : Ends C) (text : List ℕ)
-        (r : HasRun C.called C.count C.may_refuse script calls e text) (name : ℕ) (line : OneLine)
+        (r : HasRun C.Calls script calls e text) (name : ℕ) (line : OneLine)
         → slice_get r.lines name ≡ Some line → line.expired ≤ script.ceiling → line.lost ≡ 0 }
     ensures called { (script : OneScript) (calls : List C) (e : Ends C) (text : List ℕ)
-        (r : HasRun C.called C.count C.may_refuse script calls e text) (name id : ℕ) (level : OneLevel) (line : OneLine)
-        → slice_get r.lines name ≡ Some line → id_of_name C.called C.count C.may_refuse script calls e text r name ≡ Some id
+        (r : HasRun C.Calls script calls e text) (name id : ℕ) (level : OneLevel) (line : OneLine)
+        → slice_get r.lines name ≡ Some line → id_of_name C.Calls script calls e text r name ≡ Some id
         → level_named name script.steps.items ≡ Some level
         → calls_at C.count level id r.after ≡ calls_at C.count level id r.before + (counts_of line).called }
     ensures elsewhere { (script : OneScript) (calls : List C) (e : Ends C) (text : List ℕ)
-        (r : HasRun C.called C.count C.may_refuse script calls e text) (name id : ℕ) (level other : OneLevel)
-        → id_of_name C.called C.count C.may_refuse script calls e text r name ≡ Some id
+        (r : HasRun C.Calls script calls e text) (name id : ℕ) (level other : OneLevel)
+        → id_of_name C.Calls script calls e text r name ≡ Some id
         → level_named name script.steps.items ≡ Some level → other ≢ level
         → calls_at C.count other id r.after ≡ calls_at C.count other id r.before }
     // For an id that no name got no handler was called.
     ensures ungiven { (script : OneScript) (calls : List C) (e : Ends C) (text : List ℕ)
-        (r : HasRun C.called C.count C.may_refuse script calls e text) (id : ℕ) (level : OneLevel)
+        (r : HasRun C.Calls script calls e text) (id : ℕ) (level : OneLevel)
         → ((name : ℕ) → name < length script.names.items
-        → id_of_name C.called C.count C.may_refuse script calls e text r name ≡ Some id → ⊥)
+        → id_of_name C.Calls script calls e text r name ≡ Some id → ⊥)
         → calls_at C.count level id r.after ≡ calls_at C.count level id r.before }
 {}

@@ -23,12 +23,11 @@ use cyc_types::Calls;
 /// It does nothing when it runs: its clauses are the law.
 pub fn reported_law<C: Calls>()
     ensures many { (n : ℕ) (xs : List Step) (lines : List Line) (s t u : Progress AnEnd C)
-        → Runs C.called C.count C.may_refuse RaiseEndCall end_view s xs t → Reports RaiseEndCall end_view lines t u
+        → Runs C.Calls RaiseEndCall end_view s xs t → Reports RaiseEndCall end_view lines t u
         → s.names ≡ replicate n Nothing → length lines ≡ n }
     ensures each { (n name : ℕ) (xs : List Step) (lines : List Line) (s t u : Progress AnEnd C)
-        (runs : Runs C.called C.count C.may_refuse RaiseEndCall end_view s xs t)
-        (reports : Reports RaiseEndCall end_view lines t u)
+        (runs : Runs C.Calls RaiseEndCall end_view s xs t) (reports : Reports RaiseEndCall end_view lines t u)
         → s.names ≡ replicate n Nothing → name < n
-        → slice_get lines name ≡ Some (line_in (id_given C.called C.count C.may_refuse RaiseEndCall end_view name s xs t runs)
-        (all_calls C.called C.count C.may_refuse RaiseEndCall end_view xs lines s t u runs reports) u.side.system) }
+        → slice_get lines name ≡ Some (line_in (id_given C.Calls RaiseEndCall end_view name s xs t runs)
+        (all_calls C.Calls RaiseEndCall end_view xs lines s t u runs reports) u.side.system) }
 {}

@@ -4,9 +4,9 @@ use Rattle.std.specs.Prelude.{nat_le, nat_lt}
 use Rattle.std.specs.List.{FoldsTo}
 use Rattle.std.proofs.lemmas.Bool.Decides.{nat_tests}
 use Rattle.std.proofs.lemmas.List.Elements.{All-nil, All-cons, All-head, All-tail}
+use Rattle.cyc_types.specs.declared.Calls.{Ghosts as Calls}
 use Rattle.cyc_types.specs.Firing.{FiringView, FiringCall}
 use Rattle.cyc_types.specs.Series.{never}
-use Rattle.cyc_types.specs.declared.level.Level.{Level}
 use Rattle.cyc_types.specs.declared.refusal.Refusal.{Refusal}
 use Rattle.cyc_script.specs.WellFormed.{moment_fits, moment_after, moments_fit}
 use Rattle.cyc_script.specs.declared.step.Step.{Step}
@@ -52,8 +52,7 @@ set_early : (cpu : Option ℕ) (id moment : ℕ) (answer : Result (Unit {0}) Ref
 set_early None id moment answer = tt
 set_early (Some n) id moment answer = tt
 
-module _ {C R : Type 0} (called : C → ℕ → Level → C → Type 0) (count : C → ℕ → ℕ) (may_refuse : C → ℕ → Type 0)
-    (step : R → FiringCall → R → Type 0) (view : R → FiringView) where
+module _ {C R : Type 0} (handler : Calls C) (step : R → FiringCall → R → Type 0) (view : R → FiringView) where
   wait_early : (s t : Progress R C) (w : Waits step view s t) → AreEarly (wait_calls step view s t w)
   wait_early s t (polls, u, polled, settles) = polls_early polls
 
@@ -69,8 +68,8 @@ module _ {C R : Type 0} (called : C → ℕ → Level → C → Type 0) (count :
   with_early Answer call name s t (Some own) (answer, did) early = one_early (Make (call own answer)) (early own answer)
   with_early Answer call name s t None e early = none_late
 
-  does_early : (now : ℕ) (x : Step) (s t : Progress R C) (d : Does called count may_refuse step view x s t)
-      → moment_fits now x ≡ true → AreEarly (calls_in (call_of called count may_refuse step view x s t d))
+  does_early : (now : ℕ) (x : Step) (s t : Progress R C) (d : Does handler step view x s t)
+      → moment_fits now x ≡ true → AreEarly (calls_in (call_of handler step view x s t d))
   does_early now (steps.Add a) s t (inl (when, starts, lasts, long, (answer, did))) fits = one_early _ tt
   does_early now (steps.Add a) s t (inr (bad, e)) fits = none_late
   does_early now (steps.Omni a) s t (inl (when, starts, lasts, long, (answer, did))) fits = one_early _ tt
@@ -94,14 +93,14 @@ module _ {C R : Type 0} (called : C → ℕ → Level → C → Type 0) (count :
   does_early now (steps.Online n) s t (answer, did) fits = one_early _ tt
 
   steps_early : (now : ℕ) (s : Progress R C) (xs : List Step) (t : Progress R C)
-      (takes : TakesSteps called count may_refuse step view s xs t) → moments_fit now xs ≡ true
-      → AreEarly (steps_calls called count may_refuse step view s xs t takes)
+      (takes : TakesSteps handler step view s xs t) → moments_fit now xs ≡ true
+      → AreEarly (steps_calls handler step view s xs t takes)
   steps_early now s [] t takes fits = none_late
   steps_early now s (x ∷ xs) t (u, (v, begins, does), rest) fits = both_early
-      (begin_calls step view (waits_first x) s v begins ++ calls_in (call_of called count may_refuse step view x v u does))
-      (steps_calls called count may_refuse step view u xs t rest)
+      (begin_calls step view (waits_first x) s v begins ++ calls_in (call_of handler step view x v u does))
+      (steps_calls handler step view u xs t rest)
       (both_early (begin_calls step view (waits_first x) s v begins)
-      (calls_in (call_of called count may_refuse step view x v u does)) (begin_early (waits_first x) s v begins)
+      (calls_in (call_of handler step view x v u does)) (begin_early (waits_first x) s v begins)
       (does_early now x v u does (and_left (moment_fits now x) (moments_fit (moment_after now x) xs) fits)))
       (steps_early (moment_after now x) u xs t rest (and_right (moment_fits now x) _ fits))
 
@@ -119,9 +118,9 @@ module _ {C R : Type 0} (called : C → ℕ → Level → C → Type 0) (count :
       (told_calls step view all u t rest) (line_early one.named one.line s u tells) (lines_early all u t rest)
 
   pub all_early : (now : ℕ) (xs : List Step) (lines : List Line) (s t u : Progress R C)
-      (runs : Runs called count may_refuse step view s xs t) (reports : Reports step view lines t u)
-      → moments_fit now xs ≡ true → AreEarly (all_calls called count may_refuse step view xs lines s t u runs reports)
+      (runs : Runs handler step view s xs t) (reports : Reports step view lines t u)
+      → moments_fit now xs ≡ true → AreEarly (all_calls handler step view xs lines s t u runs reports)
   all_early now xs lines s t u (v, takes, waits) reports fits = both_early _ _
-      (both_early (steps_calls called count may_refuse step view s xs v takes) (wait_calls step view v t waits)
+      (both_early (steps_calls handler step view s xs v takes) (wait_calls step view v t waits)
       (steps_early now s xs v takes fits) (wait_early v t waits))
       (lines_early reports.all t u reports.tells)

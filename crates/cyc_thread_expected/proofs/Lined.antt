@@ -3,7 +3,7 @@ use Rattle.std.proofs.Common.{◌≡◌, ◌∙◌, ℕ, List, length, Option, S
 use Rattle.std.proofs.Common.{arith}
 use Rattle.std.specs.List.{slice_get}
 use Rattle.std.proofs.lemmas.List.{length-map}
-use Rattle.cyc_types.specs.declared.level.Level.{Level}
+use Rattle.cyc_types.specs.declared.Calls.{Ghosts as Calls}
 use Rattle.cyc_ring.specs.declared.ends.RaiseEnd.{RaiseEnd}
 use Rattle.cyc_ring.specs.Ends.{end_view, RaiseEndCall}
 use Rattle.cyc_cpus.specs.Cpus.{CpusView, new_cpu}
@@ -42,10 +42,10 @@ module _ {C : Type 0} (names : ℕ) (all : List (Seated C)) (first : Progress Ra
 
 -- ---- a line
 
-module _ {C : Type 0} (called : C → ℕ → Level → C → Type 0) (count : C → ℕ → ℕ) (may_refuse : C → ℕ → Type 0) (script : Script)
-    (calls : List C) (e : Ended C) (text : List ℕ) (r : HasRun called count may_refuse script calls e text) where
+module _ {C : Type 0} (handler : Calls C) (script : Script)
+    (calls : List C) (e : Ended C) (text : List ℕ) (r : HasRun handler script calls e text) where
   pub lines_many : length r.lines ≡ length script.names.items
-  lines_many = as_many called count may_refuse RaiseEndCall end_view (length script.names.items) script.steps.items r.lines
+  lines_many = as_many handler RaiseEndCall end_view (length script.names.items) script.steps.items r.lines
       r.played.first r.played.last r.played.told r.played.runs r.played.reports r.played.begins.names_are
 
   sound : IsSound end_view r.played.first.side.system
@@ -61,21 +61,19 @@ module _ {C : Type 0} (called : C → ℕ → Level → C → Type 0) (count : C
 
   -- how the steps were met
   abbrev way : List Met
-  way = way_of called count may_refuse RaiseEndCall end_view r.played.first script.steps.items r.played.last r.played.runs
+  way = way_of handler RaiseEndCall end_view r.played.first script.steps.items r.played.last r.played.runs
 
   -- the line of an id, or of none
   abbrev line_of : Option ℕ → Line
-  line_of o = line_in o (lead_calls called count may_refuse script calls e text r)
-      (last_system called count may_refuse script calls e text r)
+  line_of o = line_in o (lead_calls handler script calls e text r) (last_system handler script calls e text r)
 
   line_quiet : (o : Option ℕ) → (line_of o).pending ≡ 0
   line_quiet None = refl
   line_quiet (Some id) = refl
 
-  line_expires : (name : ℕ) → (line_of (id_of_name called count may_refuse script calls e text r name)).expired
-      ≡ expected script.cpus way name
+  line_expires : (name : ℕ) → (line_of (id_of_name handler script calls e text r name)).expired ≡ expected script.cpus way name
   line_expires name =
-      line_expected called count may_refuse script.steps.items r.lines r.played.first r.played.last r.played.told
+      line_expected handler script.steps.items r.lines r.played.first r.played.last r.played.told
       (length script.names.items) name r.played.runs r.played.reports script.well_formed r.played.begins.names_are
       r.played.begins.clock sound ready
       (empty_new most r.played.begins.ends r.played.first.side.system r.played.begins.cpus r.played.begins.records)
@@ -84,11 +82,11 @@ module _ {C : Type 0} (called : C → ℕ → Level → C → Type 0) (count : C
   pub is_reported : (name : ℕ) (line : Line) → slice_get r.lines name ≡ Some line
       → IsReported script.cpus script.ceiling way name (counts_of line)
   is_reported name line at =
-      let is = line_is called count may_refuse script calls e text r name line at in
+      let is = line_is handler script calls e text r name line at in
       let same : line.expired ≡ expected script.cpus way name = ap (λ (l : Line). l.expired) is ∙ line_expires name in record {
         expired = same;
-        either = (let few = line_few called count may_refuse script calls e text r name line at in omega (arith, few));
+        either = (let few = line_few handler script calls e text r name line at in omega (arith, few));
         pending = ap (λ (l : Line). l.pending) is
-            ∙ line_quiet (id_of_name called count may_refuse script calls e text r name);
-        spared = λ low. line_spared called count may_refuse script calls e text r name line at (omega (arith, low, same));
+            ∙ line_quiet (id_of_name handler script calls e text r name);
+        spared = λ low. line_spared handler script calls e text r name line at (omega (arith, low, same));
       }

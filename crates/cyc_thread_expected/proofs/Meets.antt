@@ -5,6 +5,7 @@ use Rattle.std.specs.Prelude.{⊤}
 use Rattle.std.specs.List.{FoldsTo}
 use Rattle.std.specs.Option.{option_map_or}
 use Rattle.std.specs.Result.{is_ok}
+use Rattle.cyc_types.specs.declared.Calls.{Ghosts as Calls}
 use Rattle.cyc_types.specs.Firing.{FiringView, FiringCall}
 use Rattle.cyc_types.specs.declared.level.Level.{Level}
 use Rattle.cyc_types.specs.declared.moment.When.{When}
@@ -54,14 +55,13 @@ for_set : (cpu : Option ℕ) (d id moment : ℕ) (answer : Result (Unit {0}) Ref
 for_set None d id moment answer f = absurd f
 for_set (Some n) d id moment answer f = absurd f
 
-module _ {C R : Type 0} (called : C → ℕ → Level → C → Type 0) (count : C → ℕ → ℕ) (may_refuse : C → ℕ → Type 0)
-    (step : R → FiringCall → R → Type 0) (view : R → FiringView) where
+module _ {C R : Type 0} (handler : Calls C) (step : R → FiringCall → R → Type 0) (view : R → FiringView) where
   -- of each step of a run
   abbrev pub AllGive : (ℕ → ℕ → Type 0) → (s : Progress R C) (xs : List Step) (t : Progress R C)
-      → TakesSteps called count may_refuse step view s xs t → Type 0
+      → TakesSteps handler step view s xs t → Type 0
   AllGive P s [] t takes = ⊤
   AllGive P s (x ∷ xs) t (u, (v, begins, does), rest) =
-      Gives P x (call_of called count may_refuse step view x v u does) × AllGive P u xs t rest
+      Gives P x (call_of handler step view x v u does) × AllGive P u xs t rest
 
   module _ (i k : ℕ) where
     -- what a step leaves, with its call, and accepted or not
@@ -112,9 +112,9 @@ module _ {C R : Type 0} (called : C → ℕ → Level → C → Type 0) (count :
     abbrev Fit : ℕ → ℕ → Type 0
     Fit j d = (d == i) ≡ (j == k)
 
-    does_meets : (x : Step) (s t : Progress R C) (d : Does called count may_refuse step view x s t) → Owns i k s.names
-        → Gives Fit x (call_of called count may_refuse step view x s t d)
-        → Meets s t x (call_of called count may_refuse step view x s t d) (accepted called count may_refuse step view x s t d)
+    does_meets : (x : Step) (s t : Progress R C) (d : Does handler step view x s t) → Owns i k s.names
+        → Gives Fit x (call_of handler step view x s t d)
+        → Meets s t x (call_of handler step view x s t d) (accepted handler step view x s t d)
     does_meets (steps.Add a) s t (inl (when, starts, lasts, long, (answer, did))) owns gives =
         called_one a.name (Add a.level when s.clock answer) s t (steps.Add a) did owns
         (λ d f. gives d (for_added d a.level when s.clock answer f)) refl
@@ -197,18 +197,18 @@ module _ {C R : Type 0} (called : C → ℕ → Level → C → Type 0) (count :
     -- ---- all steps
 
     pub steps_same : (s : Progress R C) (xs : List Step) (t : Progress R C)
-        (takes : TakesSteps called count may_refuse step view s xs t) → Owns i k s.names → AllGive Fit s xs t takes
-        → (told : Told) → told_by (events_in i (steps_calls called count may_refuse step view s xs t takes)) told
-        ≡ told_by (events_of k s.clock (steps_met called count may_refuse step view s xs t takes)) told
+        (takes : TakesSteps handler step view s xs t) → Owns i k s.names → AllGive Fit s xs t takes
+        → (told : Told) → told_by (events_in i (steps_calls handler step view s xs t takes)) told
+        ≡ told_by (events_of k s.clock (steps_met handler step view s xs t takes)) told
     steps_same s [] t takes owns gives told = refl
     steps_same s (x ∷ xs) t (u, (v, begins, does), rest) owns (gives, more) told =
         let (owned, clock) = begins_own (waits_first x) s v begins owns in
         let m = does_meets x v u does owned gives in
-        let o = call_of called count may_refuse step view x v u does in
-        let b = accepted called count may_refuse step view x v u does in
+        let o = call_of handler step view x v u does in
+        let b = accepted handler step view x v u does in
         let before = begin_calls step view (waits_first x) s v begins in
-        let later = steps_calls called count may_refuse step view u xs t rest in
-        let ms = steps_met called count may_refuse step view u xs t rest in
+        let later = steps_calls handler step view u xs t rest in
+        let ms = steps_met handler step view u xs t rest in
         let inner : told_by (events_in i (before ++ calls_in o)) told ≡ told_after (event_met i k s.clock x b) told =
         events_more i before (calls_in o) told
         ∙ (ap (λ (q : Told). told_by (events_in i (calls_in o)) q) (begins_pass (waits_first x) s v begins told)

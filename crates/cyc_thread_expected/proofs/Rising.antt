@@ -3,6 +3,7 @@ use Rattle.std.proofs.Common.{◌≡◌, ℕ, ◌<◌, ◌≤◌, inl, inr, Bool
 use Rattle.std.proofs.Common.{None, Result, Ok, Err, refl, sym, ap, arith}
 use Rattle.std.specs.Prelude.{◌&&◌}
 use Rattle.std.specs.List.{FoldsTo}
+use Rattle.cyc_types.specs.declared.Calls.{Ghosts as Calls}
 use Rattle.cyc_types.specs.Firing.{FiringView, FiringCall}
 use Rattle.cyc_types.specs.declared.level.Level.{Level}
 use Rattle.cyc_types.specs.declared.moment.When.{When}
@@ -58,8 +59,7 @@ module _ {R : Type 0} (step : R → FiringCall → R → Type 0) (view : R → F
   omni_above level when skew now (Ok id) (inr (clear, (next, works, records, last))) d q =
       let same = same_some q in (omega (arith, next, same), omega (arith, last, same))
 
-module _ {C R : Type 0} (called : C → ℕ → Level → C → Type 0) (count : C → ℕ → ℕ) (may_refuse : C → ℕ → Type 0)
-    (step : R → FiringCall → R → Type 0) (view : R → FiringView) where
+module _ {C R : Type 0} (handler : Calls C) (step : R → FiringCall → R → Type 0) (view : R → FiringView) where
   -- no step takes an id back
   abbrev Rises : Progress R C → Progress R C → Type 0
   Rises s t = s.side.system.last ≤ t.side.system.last
@@ -75,7 +75,7 @@ module _ {C R : Type 0} (called : C → ℕ → Level → C → Type 0) (count :
   id_rises (Some own) name A call s t (answer, did) = call_rises name (call own answer) s t did
   id_rises None name A call s t e = unmoved s t e
 
-  pub does_rises : (x : Step) (s t : Progress R C) → Does called count may_refuse step view x s t → Rises s t
+  pub does_rises : (x : Step) (s t : Progress R C) → Does handler step view x s t → Rises s t
   does_rises (steps.Add a) s t (inl (when, starts, lasts, long, (answer, did))) = call_rises a.name _ s t did
   does_rises (steps.Add a) s t (inr (bad, e)) = unmoved s t e
   does_rises (steps.Omni a) s t (inl (when, starts, lasts, long, (answer, did))) = call_rises a.name _ s t did
@@ -107,9 +107,9 @@ module _ {C R : Type 0} (called : C → ℕ → Level → C → Type 0) (count :
       let a = polls_rise polls s u polled in let b = settles.asked.last in omega (arith, a, b)
 
   -- what a step gives: the next name, and an id above those before it
-  pub does_gives : (n : ℕ) (x : Step) (s t : Progress R C) (d : Does called count may_refuse step view x s t)
+  pub does_gives : (n : ℕ) (x : Step) (s t : Progress R C) (d : Does handler step view x s t)
       → name_fits n x ≡ true → Gives (λ j id. (j ≡ n) × (s.side.system.last < id) × (id ≤ t.side.system.last)) x
-      (call_of called count may_refuse step view x s t d)
+      (call_of handler step view x s t d)
   does_gives n (steps.Add a) s t (inl (when, starts, lasts, long, (answer, did))) fits = λ d e.
       (let (low, high) = added_above step view s.side.system t.side.system a.level when s.clock answer did.did d e in
       (eq_true a.name n fits, low, high))
@@ -129,11 +129,11 @@ module _ {C R : Type 0} (called : C → ℕ → Level → C → Type 0) (count :
   does_gives n (steps.Online i) s t d fits = tt
 
   pub all_more : (P Q : ℕ → ℕ → Type 0) → ((j d : ℕ) → P j d → Q j d) → (s : Progress R C) (xs : List Step) (t : Progress R C)
-      (takes : TakesSteps called count may_refuse step view s xs t) → AllGive called count may_refuse step view P s xs t takes
-      → AllGive called count may_refuse step view Q s xs t takes
+      (takes : TakesSteps handler step view s xs t) → AllGive handler step view P s xs t takes
+      → AllGive handler step view Q s xs t takes
   all_more P Q f s [] t takes all = tt
   all_more P Q f s (x ∷ xs) t (u, (v, begins, does), rest) (gives, more) =
-      (gives_more P Q f x (call_of called count may_refuse step view x v u does) gives, all_more P Q f u xs t rest more)
+      (gives_more P Q f x (call_of handler step view x v u does) gives, all_more P Q f u xs t rest more)
 
   names_rise : (n : ℕ) (x : Step) → n ≤ names_after n x
   names_rise n (steps.Add a) = omega arith
@@ -142,14 +142,14 @@ module _ {C R : Type 0} (called : C → ℕ → Level → C → Type 0) (count :
 
   -- all that steps give: names of these numbers or greater ones, and ids above those before them
   pub above : (n : ℕ) (s : Progress R C) (xs : List Step) (t : Progress R C)
-      (takes : TakesSteps called count may_refuse step view s xs t) → names_fit n xs ≡ true
-      → AllGive called count may_refuse step view (λ j d. (n ≤ j) × (s.side.system.last < d)) s xs t takes
+      (takes : TakesSteps handler step view s xs t) → names_fit n xs ≡ true
+      → AllGive handler step view (λ j d. (n ≤ j) × (s.side.system.last < d)) s xs t takes
   above n s [] t takes fits = tt
   above n s (x ∷ xs) t (u, (v, begins, does), rest) fits =
       let a = begins_rise (waits_first x) s v begins in let b = does_rises x v u does in
       let m = names_rise n x in (
         gives_more _ _ (λ j d (is, low, high). (omega (arith, is), omega (arith, a, low))) x
-            (call_of called count may_refuse step view x v u does) (does_gives n x v u does (and_left _ _ fits)),
+            (call_of handler step view x v u does) (does_gives n x v u does (and_left _ _ fits)),
         all_more _ _ (λ j d (far, low). (omega (arith, m, far), omega (arith, a, b, low))) u xs t rest
             (above (names_after n x) u xs t rest (and_right (name_fits n x) _ fits)),
       )

@@ -1,8 +1,8 @@
 -- What the words of a run say of a name, its calls say of the name's id.
 use Rattle.std.proofs.Common.{◌≡◌, ◌∙◌, ℕ, List, [], ◌∷◌, ◌++◌, Some, None, replicate, zero, suc, refl, sym, ap, subst}
 use Rattle.std.specs.List.{FoldsTo}
+use Rattle.cyc_types.specs.declared.Calls.{Ghosts as Calls}
 use Rattle.cyc_types.specs.Firing.{FiringView, FiringCall}
-use Rattle.cyc_types.specs.declared.level.Level.{Level}
 use Rattle.cyc_script.specs.declared.step.Step.{Step}
 use Rattle.cyc_script.specs.WellFormed.{IsWellFormed}
 use Rattle.cyc_expected.specs.Course.{Told, untold, told_by}
@@ -29,8 +29,7 @@ nothing_yet zero j = refl
 nothing_yet (suc n) zero = refl
 nothing_yet (suc n) (suc j) = nothing_yet n j
 
-module _ {C R : Type 0} (called : C → ℕ → Level → C → Type 0) (count : C → ℕ → ℕ) (may_refuse : C → ℕ → Type 0)
-    (step : R → FiringCall → R → Type 0) (view : R → FiringView) where
+module _ {C R : Type 0} (handler : Calls C) (step : R → FiringCall → R → Type 0) (view : R → FiringView) where
   -- the report is nothing to any cyclic
   line_passes : (id : ℕ) (named : Named) (line : Line) (s t : Progress R C) (w : TellsOf step view named line s t) (told : Told)
       → told_by (events_in id (told_calls_of step view named line s t w)) told ≡ told
@@ -49,26 +48,26 @@ module _ {C R : Type 0} (called : C → ℕ → Level → C → Type 0) (count :
       ∙ lines_pass id all u t rest told)
 
   pub calls_tell : (xs : List Step) (lines : List Line) (s t u : Progress R C) (names name id : ℕ)
-      (runs : Runs called count may_refuse step view s xs t) (reports : Reports step view lines t u) (told : Told)
+      (runs : Runs handler step view s xs t) (reports : Reports step view lines t u) (told : Told)
       → IsWellFormed xs names → s.names ≡ replicate names Nothing
-      → id_given called count may_refuse step view name s xs t runs ≡ Some id
-      → told_by (events_in id (all_calls called count may_refuse step view xs lines s t u runs reports)) told
-      ≡ told_by (events_of name s.clock (way_of called count may_refuse step view s xs t runs)) told
+      → id_given handler step view name s xs t runs ≡ Some id
+      → told_by (events_in id (all_calls handler step view xs lines s t u runs reports)) told
+      ≡ told_by (events_of name s.clock (way_of handler step view s xs t runs)) told
   calls_tell xs lines s t u names name id (v, takes, waits) reports told good none is =
       let owns : Owns id name s.names = subst (Owns id name) (sym none) (owns_none id name (replicate names Nothing)
       (nothing_yet names)) in
-      let (far, low, gives) = known called count may_refuse step view id name 0 s xs v takes good.names_in_order is in
-      let first = steps_calls called count may_refuse step view s xs v takes in
+      let (far, low, gives) = known handler step view id name 0 s xs v takes good.names_in_order is in
+      let first = steps_calls handler step view s xs v takes in
       let then = wait_calls step view v t waits in
       let last = report_calls step view lines t u reports in
       events_more id (first ++ then) last told
       ∙ (lines_pass id reports.all t u reports.tells (told_by (events_in id (first ++ then)) told)
       ∙ (events_more id first then told
-      ∙ (waits_pass called count may_refuse step view id name v t waits (told_by (events_in id first) told)
-      ∙ steps_same called count may_refuse step view id name s xs v takes owns gives told)))
+      ∙ (waits_pass handler step view id name v t waits (told_by (events_in id first) told)
+      ∙ steps_same handler step view id name s xs v takes owns gives told)))
 
-  pub unnamed_tells : (xs : List Step) (s t : Progress R C) (cpus name : ℕ) (runs : Runs called count may_refuse step view s xs t)
-      → id_given called count may_refuse step view name s xs t runs ≡ None
-      → expected cpus (way_of called count may_refuse step view s xs t runs) name ≡ 0
+  pub unnamed_tells : (xs : List Step) (s t : Progress R C) (cpus name : ℕ) (runs : Runs handler step view s xs t)
+      → id_given handler step view name s xs t runs ≡ None
+      → expected cpus (way_of handler step view s xs t runs) name ≡ 0
   unnamed_tells xs s t cpus name (v, takes, waits) is =
-      (all_idle called count may_refuse step view name s xs v takes is 0 (untold cpus) (refl, refl)).1
+      (all_idle handler step view name s xs v takes is 0 (untold cpus) (refl, refl)).1

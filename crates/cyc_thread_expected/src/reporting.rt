@@ -21,10 +21,10 @@ use cyc_types::Calls;
 /// It does nothing when it runs: its clauses are the law.
 pub fn report_law<C: Calls>()
     ensures many { (script : Script) (calls : List C) (e : Ended C) (text : List ℕ)
-        (r : HasRun C.called C.count C.may_refuse script calls e text) → length r.lines ≡ length script.names.items }
+        (r : HasRun C.Calls script calls e text) → length r.lines ≡ length script.names.items }
     ensures each { (script : Script) (calls : List C) (e : Ended C) (text : List ℕ)
-        (r : HasRun C.called C.count C.may_refuse script calls e text) (name : ℕ) (line : Line)
+        (r : HasRun C.Calls script calls e text) (name : ℕ) (line : Line)
         → slice_get r.lines name ≡ Some line → IsReported script.cpus script.ceiling
-        (way_of C.called C.count C.may_refuse RaiseEndCall end_view r.played.first script.steps.items r.played.last r.played.runs)
+        (way_of C.Calls RaiseEndCall end_view r.played.first script.steps.items r.played.last r.played.runs)
         name (counts_of line) }
 {}

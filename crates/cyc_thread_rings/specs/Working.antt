@@ -1,9 +1,9 @@
 -- The draining workers of a system.
 use Rattle.std.specs.Prelude.{◌≡◌, ℕ, Option}
 use Rattle.std.specs.declared.thread.PromisedHandle.{PromisedHandle}
+use Rattle.cyc_types.specs.declared.Calls.{Ghosts as Calls}
 use Rattle.cyc_types.specs.Draining.{DrainCall}
 use Rattle.cyc_types.specs.Levels.{as_level, at_level}
-use Rattle.cyc_types.specs.declared.level.Level.{Level}
 use Rattle.cyc_types.specs.declared.level.Level.TheVariants as level
 use Rattle.cyc_types.specs.declared.level.Soft.TheVariants.{Lock, Low}
 use Rattle.cyc_workers.specs.declared.draining.SoftSide.{SoftSide}
@@ -27,18 +27,20 @@ pub record HasPromised {D C : Type 0} (s : Levels (SoftSide D C)) (h : Levels (P
 
 -- they kept their promises
 abbrev pub HaveKept : {D C : Type 0} → (D → DrainCall → D → Type 0) → (D → Option ℕ) → (D → ℕ → ℕ)
-    → (C → ℕ → Level → C → Type 0) → (C → ℕ → ℕ) → (C → ℕ → Type 0)
+    → Calls C
     → Levels (PromisedHandle (Drained D C) (Drains D C)) → Levels (Drained D C) → Type 0
-HaveKept step held made called count may_refuse h d =
-    HasDrained step held made (at_level called (as_level h.lock.promise.level)) count may_refuse h.lock.promise.side.value d.lock
-    × HasDrained step held made (at_level called (as_level h.low.promise.level)) count may_refuse h.low.promise.side.value d.low
+HaveKept step held made handler h d =
+    HasDrained step held made (at_level handler.called (as_level h.lock.promise.level)) handler.count handler.may_refuse
+    h.lock.promise.side.value d.lock
+    × HasDrained step held made (at_level handler.called (as_level h.low.promise.level)) handler.count handler.may_refuse
+    h.low.promise.side.value d.low
 
 -- the workers of a CPU have drained these sides, each with its own handlers at its own level
 abbrev pub HaveDrained : {D C : Type 0} → (D → DrainCall → D → Type 0) → (D → Option ℕ) → (D → ℕ → ℕ)
-    → (C → ℕ → Level → C → Type 0) → (C → ℕ → ℕ) → (C → ℕ → Type 0) → Levels (SoftSide D C) → Levels (Drained D C) → Type 0
-HaveDrained step held made called count may_refuse s d =
-    HasDrained step held made (at_level called level.Lock) count may_refuse s.lock d.lock
-    × HasDrained step held made (at_level called level.Low) count may_refuse s.low d.low
+    → Calls C → Levels (SoftSide D C) → Levels (Drained D C) → Type 0
+HaveDrained step held made handler s d =
+    HasDrained step held made (at_level handler.called level.Lock) handler.count handler.may_refuse s.lock d.lock
+    × HasDrained step held made (at_level handler.called level.Low) handler.count handler.may_refuse s.low d.low
 
 -- the soft sides that the workers of a CPU left
 abbrev pub both_sides : {D C : Type 0} → Levels (Drained D C) → Levels (SoftSide D C)

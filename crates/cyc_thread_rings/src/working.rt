@@ -92,7 +92,7 @@ pub fn join_all<R: Threads, D: Drain + Drop, C: Calls + Drop>(
     handles: Vec<Levels<PromisedHandle<Drained<D, C>, Drains<D, C>>>>,
 ) -> Result<Vec<Levels<Drained<D, C>>>, Refusal>
     ensures kept { IfOk result
-        (λ v. EachTwo (HaveKept D.step D.held D.made C.called C.count C.may_refuse) handles.items v.items) }
+        (λ v. EachTwo (HaveKept D.step D.held D.made C.Calls) handles.items v.items) }
     ensures refused { IfErr result (λ e. e ≡ Memory) }
 {
     let mut drained = Vec::with_capacity(alloc, handles.len())?;

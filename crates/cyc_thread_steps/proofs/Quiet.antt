@@ -34,8 +34,8 @@ IsQuiet l = l.pending ≡ 0
 module _ {R : Type 0} (step : R → FiringCall → R → Type 0) (view : R → FiringView) where
   cpu_settled : (v w : CpuView R) (id : ℕ) (t : Totals) → IsSettled view v → CpuChanges step view v (CpuTotals id (Some t)) w
       → IsSettled view w
-  cpu_settled v w id t s a = totals_settled {C = Unit {0}} {R = R} (λ c q l d. Unit {0}) (λ c q. 0)
-      (λ c q. Unit {0}) step view tt v w id t s a
+  cpu_settled v w id t s a = totals_settled {C = Unit {0}} {R = R}
+      (record { count = λ c q. 0; called = λ c q l d. Unit {0}; may_refuse = λ c q. Unit {0} }) step view tt v w id t s a
 
   cpu_quiet : (v w : CpuView R) (id : ℕ) (t : Totals) → IsSettled view v → CpuChanges step view v (CpuTotals id (Some t)) w
       → t.pending ≡ 0

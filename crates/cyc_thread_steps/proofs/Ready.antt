@@ -3,8 +3,8 @@ use Rattle.std.proofs.Common.{◌≡◌, ℕ, ◌⊎◌, inl, inr, List, [], ◌
 use Rattle.std.specs.Prelude.{ℤ, pos, Bool, true, false}
 use Rattle.std.specs.List.{FoldsTo}
 use Rattle.std.proofs.lemmas.List.{length-set}
+use Rattle.cyc_types.specs.declared.Calls.{Ghosts as Calls}
 use Rattle.cyc_types.specs.Firing.{FiringView, FiringCall}
-use Rattle.cyc_types.specs.declared.level.Level.{Level}
 use Rattle.cyc_types.specs.declared.moment.When.{When}
 use Rattle.cyc_script.specs.declared.step.Step.{Step}
 use Rattle.cyc_script.specs.declared.step.Step.TheVariants as steps
@@ -32,8 +32,7 @@ module _ {R : Type 0} (step : R → FiringCall → R → Type 0) (view : R → F
   changes_long : (s t : SystemView R) (call : SystemCall) → Changes step view s call t → length t.cpus.cpus ≡ length s.cpus.cpus
   changes_long s t call d = let m = made_of step view s t call d in parts_long m.way s.cpus t.cpus m.works
 
-module _ {C R : Type 0} (called : C → ℕ → Level → C → Type 0) (count : C → ℕ → ℕ) (may_refuse : C → ℕ → Type 0)
-    (step : R → FiringCall → R → Type 0) (view : R → FiringView) where
+module _ {C R : Type 0} (handler : Calls C) (step : R → FiringCall → R → Type 0) (view : R → FiringView) where
   calls_ready : (name : ℕ) (call : SystemCall) (s t : Progress R C) → CallsFor step view name call s t → IsReady s → IsReady t
   calls_ready name call s t c ready = ap (λ (l : _). length l.items) c.leads ∙ ready
       ∙ sym (changes_long step view s.side.system t.side.system call c.did)
@@ -56,7 +55,7 @@ module _ {C R : Type 0} (called : C → ℕ → Level → C → Type 0) (count :
   begins_ready true s t w ready = waits_ready s t w ready
   begins_ready false s t e ready = same_ready s t e ready
 
-  fires_ready : (now : ℕ) (s t : Progress R C) → Fires called count may_refuse step view now s t → IsReady s → IsReady t
+  fires_ready : (now : ℕ) (s t : Progress R C) → Fires handler step view now s t → IsReady s → IsReady t
   fires_ready now s t f ready = ap (λ (z : SystemSide R C). length z.leads.items) f.side ∙ f.fired.long_leads ∙ ready
       ∙ sym f.fired.long ∙ ap (λ (z : SystemSide R C). length z.system.cpus.cpus) (sym f.side)
 
@@ -73,7 +72,7 @@ module _ {C R : Type 0} (called : C → ℕ → Level → C → Type 0) (count :
   with_id (Some id) P Q N p go stop = go id p
   with_id None P Q N n go stop = stop n
 
-  pub does_ready : (x : Step) (s t : Progress R C) → Does called count may_refuse step view x s t → IsReady s → IsReady t
+  pub does_ready : (x : Step) (s t : Progress R C) → Does handler step view x s t → IsReady s → IsReady t
   does_ready (steps.Add a) s t d ready = with_series a.start a.interval _ (IsReady t) (t ≡ s) d
       (λ when p. calls_ready a.name _ s t p.1 ready) (λ e. same_ready s t e ready)
   does_ready (steps.Omni a) s t d ready = with_series a.start a.interval _ (IsReady t) (t ≡ s) d
@@ -93,11 +92,9 @@ module _ {C R : Type 0} (called : C → ℕ → Level → C → Type 0) (count :
   does_ready (steps.Offline n) s t d ready = calls_ready 0 _ s t d.1 ready
   does_ready (steps.Online n) s t d ready = calls_ready 0 _ s t d.1 ready
 
-  pub step_ready : (s : Progress R C) (x : Step) (t : Progress R C) → TakesStep called count may_refuse step view s x t
-      → IsReady s → IsReady t
+  pub step_ready : (s : Progress R C) (x : Step) (t : Progress R C) → TakesStep handler step view s x t → IsReady s → IsReady t
   step_ready s x t (u, b, d) ready = does_ready x u t d (begins_ready (waits_first x) s u b ready)
 
-  pub steps_ready : (all : List Step) (s t : Progress R C) → TakesSteps called count may_refuse step view s all t → IsReady s
-      → IsReady t
+  pub steps_ready : (all : List Step) (s t : Progress R C) → TakesSteps handler step view s all t → IsReady s → IsReady t
   steps_ready [] s t e ready = same_ready s t (sym e) ready
   steps_ready (x ∷ all) s t (u, d, rest) ready = steps_ready all u t rest (step_ready s x u d ready)

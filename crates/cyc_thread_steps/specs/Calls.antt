@@ -1,8 +1,8 @@
 -- What the thread that leads a run does between two steps of its script: calls of the system, and the wait until it has settled.
 use Rattle.std.specs.Prelude.{◌≡◌, ℕ, ◌<◌, List, length, slice_index_or, Option, Some, None, Result, Ok, Err}
 use Rattle.std.specs.List.{FoldsTo}
+use Rattle.cyc_types.specs.declared.Calls.{Ghosts as Calls}
 use Rattle.cyc_types.specs.Firing.{FiringView, FiringCall}
-use Rattle.cyc_types.specs.declared.level.Level.{Level}
 use Rattle.cyc_types.specs.declared.receipt.Receipt.{Receipt}
 use Rattle.cyc_types.specs.declared.refusal.Refusal.{Refusal}
 use Rattle.cyc_fire.specs.declared.fire.Fired.{Fired}
@@ -70,10 +70,10 @@ pub record IsFirstRefused (answers : List (Option (Result Fired FireRefused))) (
   pub first : (m : ℕ) → m < n → refusal_at answers m ≡ None
 
 -- all online CPUs fired at this moment, each in a thread of its own, and none was refused; the clock stands at it
-pub record Fires {C R : Type 0} (called : C → ℕ → Level → C → Type 0) (count : C → ℕ → ℕ) (may_refuse : C → ℕ → Type 0)
+pub record Fires {C R : Type 0} (handler : Calls C)
     (step : R → FiringCall → R → Type 0) (view : R → FiringView) (now : ℕ) (s t : Progress R C) : Type 0 where
   pub after : Advanced R C
-  pub fired : AllFire called count may_refuse step view now s.side after
+  pub fired : AllFire handler step view now s.side after
   pub side : t.side ≡ after.side
   pub accepted : (n : ℕ) → refusal_at after.answers.items n ≡ None
   pub names : t.names ≡ s.names

@@ -1,9 +1,9 @@
 -- What becomes of a script in a run in threads, and why it may end early.
 use Rattle.std.specs.Prelude.{◌≡◌, ℕ, ◌<◌, ◌⊎◌, ⊤, List, length, take, slice_index_or}
 use Rattle.std.specs.List.{FoldsTo}
+use Rattle.cyc_types.specs.declared.Calls.{Ghosts as Calls}
 use Rattle.cyc_types.specs.Firing.{FiringView, FiringCall}
 use Rattle.cyc_types.specs.Series.{never}
-use Rattle.cyc_types.specs.declared.level.Level.{Level}
 use Rattle.cyc_types.specs.declared.refusal.Refusal.TheVariants.{Memory}
 use Rattle.cyc_script.specs.declared.step.Step.{Step}
 use Rattle.cyc_script.specs.declared.step.Step.TheVariants as steps
@@ -28,43 +28,42 @@ IsTold may_refuse (halt.Fired n why) = ⊥
 IsTold may_refuse (halt.Refused e) = ⊥
 
 -- the steps, one after another
-abbrev pub TakesSteps : {C R : Type 0} → (C → ℕ → Level → C → Type 0) → (C → ℕ → ℕ) → (C → ℕ → Type 0)
+abbrev pub TakesSteps : {C R : Type 0} → Calls C
     → (R → FiringCall → R → Type 0) → (R → FiringView) → Progress R C → List Step → Progress R C → Type 0
-TakesSteps called count may_refuse step view s all t = FoldsTo (TakesStep called count may_refuse step view) s all t
+TakesSteps handler step view s all t = FoldsTo (TakesStep handler step view) s all t
 
 -- all of them, and then the wait until nothing is outstanding
-abbrev pub Runs : {C R : Type 0} → (C → ℕ → Level → C → Type 0) → (C → ℕ → ℕ) → (C → ℕ → Type 0)
+abbrev pub Runs : {C R : Type 0} → Calls C
     → (R → FiringCall → R → Type 0) → (R → FiringView) → Progress R C → List Step → Progress R C → Type 0
-Runs {C} {R} called count may_refuse step view s all t =
-    (u : Progress R C) × TakesSteps called count may_refuse step view s all u × Waits step view u t
+Runs {C} {R} handler step view s all t =
+    (u : Progress R C) × TakesSteps handler step view s all u × Waits step view u t
 
 -- why an `advance` to this moment ends a run: memory for it was refused, or the fire of a CPU was, and that of none
 -- with a smaller number
-abbrev pub AdvanceHalts : {C R : Type 0} → (C → ℕ → Level → C → Type 0) → (C → ℕ → ℕ) → (C → ℕ → Type 0)
+abbrev pub AdvanceHalts : {C R : Type 0} → Calls C
     → (R → FiringCall → R → Type 0) → (R → FiringView) → ℕ → Progress R C → Halt → Type 0
-AdvanceHalts {C} {R} called count may_refuse step view now s (halt.Fired n why) = (after : Advanced R C)
-    × AllFire called count may_refuse step view now s.side after × IsFirstRefused after.answers.items n why
-AdvanceHalts called count may_refuse step view now s (halt.Refused e) = e ≡ Memory
-AdvanceHalts called count may_refuse step view now s (halt.Told id) = ⊥
+AdvanceHalts {C} {R} handler step view now s (halt.Fired n why) = (after : Advanced R C)
+    × AllFire handler step view now s.side after × IsFirstRefused after.answers.items n why
+AdvanceHalts handler step view now s (halt.Refused e) = e ≡ Memory
+AdvanceHalts handler step view now s (halt.Told id) = ⊥
 
 -- why one step ended a run: it is an `advance` that does; or the handler of a draining thread refused, which may
-abbrev pub StepHalts : {C R : Type 0} → (C → ℕ → Level → C → Type 0) → (C → ℕ → ℕ) → (C → ℕ → Type 0)
+abbrev pub StepHalts : {C R : Type 0} → Calls C
     → (R → FiringCall → R → Type 0) → (R → FiringView) → Step → Progress R C → Halt → Type 0
-StepHalts called count may_refuse step view x s h = IsTold may_refuse h
-    ⊎ ((now : ℕ) × (x ≡ steps.Advance now) × AdvanceHalts called count may_refuse step view now s h)
+StepHalts handler step view x s h = IsTold handler.may_refuse h
+    ⊎ ((now : ℕ) × (x ≡ steps.Advance now) × AdvanceHalts handler step view now s h)
 
 -- a step ended a run, after those before it were taken
-pub record IsHalted {C R : Type 0} (called : C → ℕ → Level → C → Type 0) (count : C → ℕ → ℕ) (may_refuse : C → ℕ → Type 0)
+pub record IsHalted {C R : Type 0} (handler : Calls C)
     (step : R → FiringCall → R → Type 0) (view : R → FiringView) (s : Progress R C) (all : List Step) (h : Halt) : Type 0 where
   pub place : ℕ
   pub last : Step
   pub here : (place < length all) × (slice_index_or all place last ≡ last)
   pub before : Progress R C
-  pub taken : TakesSteps called count may_refuse step view s (take place all) before
-  pub halts : StepHalts called count may_refuse step view last before h
+  pub taken : TakesSteps handler step view s (take place all) before
+  pub halts : StepHalts handler step view last before h
 
 -- why the steps ended early: the handler of a draining thread refused, which may; or one of them ended the run
-abbrev pub WhyHalted : {C R : Type 0} → (C → ℕ → Level → C → Type 0) → (C → ℕ → ℕ) → (C → ℕ → Type 0)
+abbrev pub WhyHalted : {C R : Type 0} → Calls C
     → (R → FiringCall → R → Type 0) → (R → FiringView) → Progress R C → List Step → Halt → Type 0
-WhyHalted called count may_refuse step view s all h = IsTold may_refuse h
-    ⊎ IsHalted called count may_refuse step view s all h
+WhyHalted handler step view s all h = IsTold handler.may_refuse h ⊎ IsHalted handler step view s all h

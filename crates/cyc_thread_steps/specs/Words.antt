@@ -1,7 +1,7 @@
 -- What each word of a script is in a run in threads: at most one call of the system, with the parameters of the step.
 use Rattle.std.specs.Prelude.{◌≡◌, ℕ, ◌<◌, ◌⊎◌, ℤ, pos, ◌<ℤ◌, Bool, true, false, Option, Some, None, Result}
+use Rattle.cyc_types.specs.declared.Calls.{Ghosts as Calls}
 use Rattle.cyc_types.specs.Firing.{FiringView, FiringCall}
-use Rattle.cyc_types.specs.declared.level.Level.{Level}
 use Rattle.cyc_types.specs.declared.moment.When.{When}
 use Rattle.cyc_types.specs.declared.refusal.JuggleReport.{JuggleReport}
 use Rattle.cyc_types.specs.declared.refusal.Refusal.{Refusal}
@@ -36,29 +36,28 @@ reprograms (Some n) id moment answer = ReprogramOn id n moment answer
 
 -- The call that a step makes, at the clock, and its answer. A `softint` makes none: other threads drain the levels. The answer to
 -- a call for a CPU tells no name anything, so none is meant by the 0.
-abbrev pub Does : {C R : Type 0} → (C → ℕ → Level → C → Type 0) → (C → ℕ → ℕ) → (C → ℕ → Type 0)
+abbrev pub Does : {C R : Type 0} → Calls C
     → (R → FiringCall → R → Type 0) → (R → FiringView) → Step → Progress R C → Progress R C → Type 0
-Does called count may_refuse step view (steps.Add a) s t = WithSeries a.start a.interval
+Does handler step view (steps.Add a) s t = WithSeries a.start a.interval
     (λ when. (answer : Result ℕ Refusal) × CallsFor step view a.name (Add a.level when s.clock answer) s t) (t ≡ s)
-Does called count may_refuse step view (steps.Omni a) s t = WithSeries a.start a.interval
+Does handler step view (steps.Omni a) s t = WithSeries a.start a.interval
     (λ when. (answer : Result ℕ Refusal) × CallsFor step view a.name (AddOmni a.level when a.skew s.clock answer) s t) (t ≡ s)
-Does called count may_refuse step view (steps.Bind b) s t = WithId (id_of (named_at s.names b.name))
+Does handler step view (steps.Bind b) s t = WithId (id_of (named_at s.names b.name))
     (λ id. (answer : Result (Unit {0}) Refusal) × CallsFor step view b.name (Bind id (Some b.cpu) answer) s t) (t ≡ s)
-Does called count may_refuse step view (steps.Unbind name) s t = WithId (id_of (named_at s.names name))
+Does handler step view (steps.Unbind name) s t = WithId (id_of (named_at s.names name))
     (λ id. (answer : Result (Unit {0}) Refusal) × CallsFor step view name (Bind id None answer) s t) (t ≡ s)
-Does called count may_refuse step view (steps.Reprogram r) s t = WithMoment r.moment
-    (λ moment. WithId (id_of (named_at s.names r.name))
+Does handler step view (steps.Reprogram r) s t = WithMoment r.moment (λ moment. WithId (id_of (named_at s.names r.name))
     (λ id. (answer : Result (Unit {0}) Refusal)
     × CallsFor step view r.name (reprograms r.cpu id moment answer) s t) (t ≡ s)) (t ≡ s)
-Does called count may_refuse step view (steps.Remove name) s t = WithId (id_of (named_at s.names name))
+Does handler step view (steps.Remove name) s t = WithId (id_of (named_at s.names name))
     (λ id. (answer : Result SystemRemoval Refusal) × CallsFor step view name (BeginRemove id answer) s t) (t ≡ s)
-Does called count may_refuse step view (steps.Advance now) s t = Fires called count may_refuse step view now s t
-Does called count may_refuse step view (steps.Softint i) s t = t ≡ s
-Does called count may_refuse step view (steps.Juggle n) s t =
+Does handler step view (steps.Advance now) s t = Fires handler step view now s t
+Does handler step view (steps.Softint i) s t = t ≡ s
+Does handler step view (steps.Juggle n) s t =
     (answer : Result JuggleReport Refusal) × CallsFor step view 0 (Juggle n answer) s t
-Does called count may_refuse step view (steps.Offline n) s t =
+Does handler step view (steps.Offline n) s t =
     (answer : Result (Unit {0}) Refusal) × CallsFor step view 0 (Offline n answer) s t
-Does called count may_refuse step view (steps.Online n) s t =
+Does handler step view (steps.Online n) s t =
     (answer : Result (Unit {0}) Refusal) × CallsFor step view 0 (Online n s.clock answer) s t
 
 -- every word but `advance` and `remove` waits first until no removal is open and all CPUs have settled
@@ -74,7 +73,7 @@ Begins step view false s t = t ≡ s
 Begins step view true s t = Waits step view s t
 
 -- one step of a script
-abbrev pub TakesStep : {C R : Type 0} → (C → ℕ → Level → C → Type 0) → (C → ℕ → ℕ) → (C → ℕ → Type 0)
+abbrev pub TakesStep : {C R : Type 0} → Calls C
     → (R → FiringCall → R → Type 0) → (R → FiringView) → Progress R C → Step → Progress R C → Type 0
-TakesStep {C} {R} called count may_refuse step view s x t =
-    (u : Progress R C) × Begins step view (waits_first x) s u × Does called count may_refuse step view x u t
+TakesStep {C} {R} handler step view s x t =
+    (u : Progress R C) × Begins step view (waits_first x) s u × Does handler step view x u t

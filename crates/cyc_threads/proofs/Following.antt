@@ -2,8 +2,8 @@
 use Rattle.std.proofs.Common.{◌≡◌, ℕ, inl, inr, List, [], ◌∷◌, Option, Some, None, sym, subst}
 use Rattle.std.specs.Prelude.{ℤ, Bool, true, false}
 use Rattle.std.specs.List.{FoldsTo}
+use Rattle.cyc_types.specs.declared.Calls.{Ghosts as Calls}
 use Rattle.cyc_types.specs.Firing.{FiringView, FiringCall}
-use Rattle.cyc_types.specs.declared.level.Level.{Level}
 use Rattle.cyc_types.specs.declared.moment.When.{When}
 use Rattle.cyc_script.specs.declared.step.Step.{Step}
 use Rattle.cyc_script.specs.declared.step.Step.TheVariants as steps
@@ -31,12 +31,12 @@ with_id : (o : Option ℕ) (P : ℕ → Type 0) (Q N : Type 0) → WithId o P N 
 with_id (Some id) P Q N p go stop = go id p
 with_id None P Q N n go stop = stop n
 
-module _ {C R : Type 0} (called : C → ℕ → Level → C → Type 0) (count : C → ℕ → ℕ) (may_refuse : C → ℕ → Type 0)
+module _ {C R : Type 0} (handler : Calls C)
     (step : R → FiringCall → R → Type 0) (view : R → FiringView) (K : Progress R C → Progress R C → Type 0)
     (same : (s : Progress R C) → K s s) (joined : (s t u : Progress R C) → K s t → K t u → K s u)
     (calls : (name : ℕ) (call : SystemCall) (s t : Progress R C) → CallsFor step view name call s t → K s t)
     (settles : (s t : Progress R C) → Settles step view s t → K s t)
-    (fires : (now : ℕ) (s t : Progress R C) → Fires called count may_refuse step view now s t → K s t) where
+    (fires : (now : ℕ) (s t : Progress R C) → Fires handler step view now s t → K s t) where
   is_same : (s t : Progress R C) → t ≡ s → K s t
   is_same s t e = subst (λ (x : Progress R C). K s x) (sym e) (same s)
 
@@ -52,7 +52,7 @@ module _ {C R : Type 0} (called : C → ℕ → Level → C → Type 0) (count :
   begins_all true s t w = waits_all s t w
   begins_all false s t e = is_same s t e
 
-  does_all : (x : Step) (s t : Progress R C) → Does called count may_refuse step view x s t → K s t
+  does_all : (x : Step) (s t : Progress R C) → Does handler step view x s t → K s t
   does_all (steps.Add a) s t d = with_series a.start a.interval _ (K s t) (t ≡ s) d (λ when p. calls a.name _ s t p.1)
       (is_same s t)
   does_all (steps.Omni a) s t d = with_series a.start a.interval _ (K s t) (t ≡ s) d (λ when p. calls a.name _ s t p.1)
@@ -72,12 +72,12 @@ module _ {C R : Type 0} (called : C → ℕ → Level → C → Type 0) (count :
   does_all (steps.Offline n) s t d = calls 0 _ s t d.1
   does_all (steps.Online n) s t d = calls 0 _ s t d.1
 
-  steps_all : (all : List Step) (s t : Progress R C) → TakesSteps called count may_refuse step view s all t → K s t
+  steps_all : (all : List Step) (s t : Progress R C) → TakesSteps handler step view s all t → K s t
   steps_all [] s t e = is_same s t (sym e)
   steps_all (x ∷ all) s t (u, d, rest) =
       joined s u t (joined s d.0 u (begins_all (waits_first x) s d.0 d.1) (does_all x d.0 u d.2)) (steps_all all u t rest)
 
-  pub runs_all : (all : List Step) (s t : Progress R C) → Runs called count may_refuse step view s all t → K s t
+  pub runs_all : (all : List Step) (s t : Progress R C) → Runs handler step view s all t → K s t
   runs_all all s t (u, p, q) = joined s u t (steps_all all s u p) (waits_all u t q)
 
   tells_one : (told : Told) (s t : Progress R C) → Tells step view s told t → K s t

@@ -2,7 +2,7 @@
 use Rattle.std.proofs.Common.{◌≡◌, ℕ, ◌≤◌, ◌<◌, List, [], sym, ap, subst, ◌∙◌, inl, inr, map, length, arith}
 use Rattle.std.specs.Prelude.{All, replicate, Result, Ok, Err, IfOk}
 use Rattle.std.proofs.lemmas.List.{length-map}
-use Rattle.cyc_types.specs.declared.level.Level.{Level}
+use Rattle.cyc_types.specs.declared.Calls.{Ghosts as Calls}
 use Rattle.cyc_types.specs.declared.refusal.Refusal.{Refusal}
 use Rattle.cyc_ring.specs.declared.ring.Ring.{Ring}
 use Rattle.cyc_ring.specs.declared.ends.RaiseEnd.{RaiseEnd}
@@ -82,11 +82,11 @@ begins names all att ends first e is high cpus records last clock named = record
   high = high ∙ same_high all att e;
 }
 
-module _ {C : Type 0} (called : C → ℕ → Level → C → Type 0) (count : C → ℕ → ℕ) (may_refuse : C → ℕ → Type 0) where
+module _ {C : Type 0} (handler : Calls C) where
   pub not_played : (script : Script) (all : List (Seated C)) (first : Progress RaiseEnd C) (e : Refusal)
       → IsAtFirst (length script.names.items) all first →
-      WhyRefused called count may_refuse RaiseEndCall end_view script.steps.items first e
-      → WhyNotPlayed called count may_refuse script all e
+      WhyRefused handler RaiseEndCall end_view script.steps.items first e
+      → WhyNotPlayed handler script all e
   not_played script all first e b (inl m) = inl m
   not_played script all first e b (inr (inl h)) = inr (inl h)
   not_played script all first e b (inr (inr (n, h))) = inr (inr (record { first = first; cpu = n; begins = b; halted = h }))
@@ -94,17 +94,17 @@ module _ {C : Type 0} (called : C → ℕ → Level → C → Type 0) (count : C
   module _ (script : Script) (all : List (Seated C)) (att : List (Attached C)) (first : Progress RaiseEnd C)
       (sides : List (Levels (SoftSide DrainEnd C)))
       (worked : Worked RaiseEnd DrainEnd C) (is : sides ≡ map (λ a. a.soft) att)
-      (w : HasWorked called count may_refuse RaiseEndCall end_view DrainEndCall end_made script.steps.items first sides worked)
+      (w : HasWorked handler RaiseEndCall end_view DrainEndCall end_made script.steps.items first sides worked)
       (well : IsWell first) where
     pub kept : Keeps first worked.lead
-    kept = runs_keep called count may_refuse script.steps.items first worked.lead w.runs well
+    kept = runs_keep handler script.steps.items first worked.lead w.runs well
 
     -- as many soft sides as CPUs
     pub many_soft : (ends : List (RaiseEnd × RaiseEnd)) → ends ≡ map (λ a. a.ends) att
         → first.side.system.cpus ≡ new_cpus most ends →
         length worked.soft.items ≡ length worked.lead.side.system.cpus.cpus
-    many_soft ends own cpus = each_long (HaveMade DrainEndCall end_made called count) sides worked.soft.items w.makes
-        ∙ ap (λ (x : List (Levels (SoftSide DrainEnd C))). length x) is ∙ length-map att (λ a. a.soft)
+    many_soft ends own cpus = each_long (HaveMade DrainEndCall end_made handler.called handler.count) sides worked.soft.items
+        w.makes ∙ ap (λ (x : List (Levels (SoftSide DrainEnd C))). length x) is ∙ length-map att (λ a. a.soft)
         ∙ sym (length-map att (λ a. a.ends))
         ∙ ap (λ (x : List (RaiseEnd × RaiseEnd)). length x) (sym own) ∙ sym (many_cpus ends first.side.system.cpus cpus)
         ∙ sym (same_long first.side.system.cpus.cpus worked.lead.side.system.cpus.cpus kept.seats)
@@ -113,12 +113,12 @@ module _ {C : Type 0} (called : C → ℕ → Level → C → Type 0) (count : C
         (reports : Reports RaiseEndCall end_view lines worked.lead told)
         (ends : IsAtLast after told) (left : map soft_seats after ≡ map soft_seats_on worked.soft.items)
         (attached : EachTwo IsAttached all att) where
-      made : EachTwo (HaveMade DrainEndCall end_made called count) (map (λ a. a.soft) att) worked.soft.items
+      made : EachTwo (HaveMade DrainEndCall end_made handler.called handler.count) (map (λ a. a.soft) att) worked.soft.items
       made = subst (λ (x : List (Levels (SoftSide DrainEnd C))). EachTwo
-          (HaveMade DrainEndCall end_made called count) x worked.soft.items) is w.makes
+          (HaveMade DrainEndCall end_made handler.called handler.count) x worked.soft.items) is w.makes
 
       pub played : IsAtFirst (length script.names.items) all first → All (AreNew k) (map (λ s. s.seats) all)
-          → HasPlayed called count may_refuse script all after lines
+          → HasPlayed handler script all after lines
       played b new = record {
         first = first;
         last = worked.lead;
@@ -127,18 +127,19 @@ module _ {C : Type 0} (called : C → ℕ → Level → C → Type 0) (count : C
         runs = w.runs;
         reports = reports;
         ends = ends;
-        served = served_all called count k all att worked.soft.items after new attached made
+        served = served_all handler.called handler.count k all att worked.soft.items after new attached made
             (each_same soft_seats soft_seats_on after worked.soft.items left);
       }
 
       pub seated : (rs : List (Levels Ring)) (own : List (RaiseEnd × RaiseEnd)) → own ≡ map (λ a. a.ends) att
           → first.side.system.cpus ≡ new_cpus most own →
           EachTwo AreSeated rs (map (λ s. s.seats) all) → EachTwo AreSeated rs (map (λ s. s.seats) after)
-      seated rs own e cpus s = seated_all called count rs all att told.side.system.cpus.cpus worked.soft.items after s attached
+      seated rs own e cpus s = seated_all handler.called handler.count rs all att told.side.system.cpus.cpus worked.soft.items
+          after s attached
           (subst (λ (x : List (RaiseEnd × RaiseEnd)). HaveSameSeats (new_cpus most x).cpus told.side.system.cpus.cpus) e
           (subst (λ (x : CpusView RaiseEnd). HaveSameSeats x.cpus told.side.system.cpus.cpus) cpus
           (then_all first.side.system.cpus.cpus worked.lead.side.system.cpus.cpus told.side.system.cpus.cpus kept.seats
-          (reports_keep called count may_refuse lines worked.lead told reports kept.well).seats)))
+          (reports_keep handler lines worked.lead told reports kept.well).seats)))
           (each_same firing_seats seats_on after told.side.system.cpus.cpus ends.firing) made
           (each_same soft_seats soft_seats_on after worked.soft.items left)
 
@@ -153,7 +154,7 @@ module _ {C : Type 0} (called : C → ℕ → Level → C → Type 0) (count : C
     pub played_ok : (k : ℕ) (r : Result (Played C) Refusal) → IfOk r Left → IfOk r Same → EachTwo IsAttached all att
         → IsAtFirst (length script.names.items) all first →
         All (AreNew k) (map (λ s. s.seats) all) → IfOk r
-        (λ p. HasPlayed called count may_refuse script all p.all.items p.lines.items)
+        (λ p. HasPlayed handler script all p.all.items p.lines.items)
     played_ok k (Ok p) l same attached b new = played k p.all.items p.lines.items l.0 l.1 l.2 same attached b new
     played_ok k (Err e) l same attached b new = tt
 

@@ -2,7 +2,7 @@
 use Rattle.std.proofs.Common.{◌≡◌, ℕ, List, sym, ap, subst, ◌∙◌, inr, map, length}
 use Rattle.std.specs.Prelude.{All, flat_map, string_bytes}
 use Rattle.std.proofs.lemmas.List.{length-map}
-use Rattle.cyc_types.specs.declared.level.Level.{Level}
+use Rattle.cyc_types.specs.declared.Calls.{Ghosts as Calls}
 use Rattle.cyc_types.specs.declared.refusal.Refusal.{Refusal}
 use Rattle.cyc_ring.specs.declared.closed.Closed.{Closed}
 use Rattle.cyc_script.specs.declared.script.Script.{Script}
@@ -33,24 +33,22 @@ pub new_all : {C : Type 0} (k : ℕ) (before : List (Seated C)) (seats : List (L
     All (AreNew k) (map (λ s. s.seats) before)
 new_all k before seats e new = subst (λ (x : List (Levels Seats)). All (AreNew k) x) (sym e) new
 
-module _ {C : Type 0} (called : C → ℕ → Level → C → Type 0) (count : C → ℕ → ℕ) (may_refuse : C → ℕ → Type 0) (script : Script)
-    (calls : List C)
+module _ {C : Type 0} (handler : Calls C) (script : Script) (calls : List C)
     (before : List (Seated C)) (handlers : List (Handlers C)) (seats : List (Levels Seats))
     (own : map (λ s. s.calls) before ≡ handlers)
     (laid : flat_map three handlers ≡ calls) (at : map (λ s. s.seats) before ≡ seats)
     (new : All (AreNew script.ceiling) seats) where
-  pub not_ran : (e : Refusal) → WhyNotPlayed called count may_refuse script before e
-      → WhyNotRun called count may_refuse script calls e
+  pub not_ran : (e : Refusal) → WhyNotPlayed handler script before e → WhyNotRun handler script calls e
   not_ran e w = inr (before, given_all before handlers calls own laid, new_all script.ceiling before seats at new, w)
 
   pub ran : (after : List (Seated C)) (lines : List Line) (text : List ℕ) (e : Ended C) (back : List (Handlers C))
       (last : List (Levels Seats))
-      (closed : List (Levels Closed)) → length before ≡ script.cpus → HasPlayed called count may_refuse script before after lines
+      (closed : List (Levels Closed)) → length before ≡ script.cpus → HasPlayed handler script before after lines
       →
       text ≡ report_text (map string_bytes script.names.items) lines → back ≡ map (λ s. s.calls) after
       → e.calls.items ≡ flat_map three back →
       last ≡ map (λ s. s.seats) after → EachTwo AreClosed last closed → e.rings.items ≡ flat_map two closed →
-      HasRun called count may_refuse script calls e text
+      HasRun handler script calls e text
   ran after lines text e back last closed many played is same list left shut rings = record {
     before = before;
     after = after;

@@ -1,6 +1,6 @@
 -- A run leaves each CPU its two rings.
 use Rattle.std.proofs.Common.{ℕ, List, sym, ap, subst, ◌∙◌, length}
-use Rattle.cyc_types.specs.declared.level.Level.{Level}
+use Rattle.cyc_types.specs.declared.Calls.{Ghosts as Calls}
 use Rattle.cyc_ring.specs.declared.ends.RaiseEnd.{RaiseEnd}
 use Rattle.cyc_ring.specs.Ends.{end_view, RaiseEndCall}
 use Rattle.cyc_script.specs.declared.step.Step.{Step}
@@ -29,7 +29,7 @@ pub record Keeps {C : Type 0} (s t : Progress RaiseEnd C) : Type 0 where
 abbrev pub KeepsWell : {C : Type 0} → Progress RaiseEnd C → Progress RaiseEnd C → Type 0
 KeepsWell s t = IsWell s → Keeps s t
 
-module _ {C : Type 0} (called : C → ℕ → Level → C → Type 0) (count : C → ℕ → ℕ) (may_refuse : C → ℕ → Type 0) where
+module _ {C : Type 0} (handler : Calls C) where
   keeps_same : (s : Progress RaiseEnd C) → KeepsWell s s
   keeps_same s w = record { well = w; seats = same_all s.side.system.cpus.cpus }
 
@@ -58,8 +58,7 @@ module _ {C : Type 0} (called : C → ℕ → Level → C → Type 0) (count : C
     seats = asked_all s.side.system.cpus.cpus t.side.system.cpus.cpus c.asked.cpus;
   }
 
-  keeps_fires : (now : ℕ) (s t : Progress RaiseEnd C) → Fires called count may_refuse RaiseEndCall end_view now s t
-      → KeepsWell s t
+  keeps_fires : (now : ℕ) (s t : Progress RaiseEnd C) → Fires handler RaiseEndCall end_view now s t → KeepsWell s t
   keeps_fires now s t f w = record {
     well = record {
       ready = ap (λ (z : SystemSide RaiseEnd C). length z.leads.items) f.side ∙ f.fired.long_leads ∙ w.ready
@@ -67,14 +66,11 @@ module _ {C : Type 0} (called : C → ℕ → Level → C → Type 0) (count : C
       sound = f.sound;
     };
     seats = subst (λ (z : SystemSide RaiseEnd C). HaveSameSeats s.side.system.cpus.cpus z.system.cpus.cpus) (sym f.side)
-        (fired_all called count may_refuse now s.side f.after w.sound.agrees.long w.ready f.fired);
+        (fired_all handler now s.side f.after w.sound.agrees.long w.ready f.fired);
   }
 
-  pub runs_keep : (all : List Step) (s t : Progress RaiseEnd C) → Runs called count may_refuse RaiseEndCall end_view s all t
-      → KeepsWell s t
-  runs_keep = runs_all called count may_refuse RaiseEndCall end_view KeepsWell keeps_same keeps_joined keeps_calls keeps_settles
-      keeps_fires
+  pub runs_keep : (all : List Step) (s t : Progress RaiseEnd C) → Runs handler RaiseEndCall end_view s all t → KeepsWell s t
+  runs_keep = runs_all handler RaiseEndCall end_view KeepsWell keeps_same keeps_joined keeps_calls keeps_settles keeps_fires
 
   pub reports_keep : (lines : List Line) (s t : Progress RaiseEnd C) → Reports RaiseEndCall end_view lines s t → KeepsWell s t
-  reports_keep = reports_all called count may_refuse RaiseEndCall end_view KeepsWell keeps_same keeps_joined keeps_calls
-      keeps_settles keeps_fires
+  reports_keep = reports_all handler RaiseEndCall end_view KeepsWell keeps_same keeps_joined keeps_calls keeps_settles keeps_fires

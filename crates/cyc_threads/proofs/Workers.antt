@@ -5,6 +5,7 @@ use Rattle.std.specs.Prelude.{Result, Ok, Err, IfOk, IfErr, IfNone, IfSome, is_s
 use mathlib.Core.Bool.{true≢false}
 use Rattle.std.specs.declared.thread.PromisedHandle.{PromisedHandle}
 use Rattle.std.proofs.lemmas.Result.{IfOk-at_ok}
+use Rattle.cyc_types.specs.declared.Calls.{Ghosts as Calls}
 use Rattle.cyc_types.specs.Draining.{DrainCall}
 use Rattle.cyc_types.specs.Firing.{FiringView, FiringCall}
 use Rattle.cyc_types.specs.Levels.{at_level}
@@ -66,36 +67,34 @@ split_fire n (Some f) rs e is = either (f.cpu == n) is
     either true q = inl (f, refl, sym (same_some q))
     either false q = inr q
 
-module _ {C D : Type 0} (called : C → ℕ → Level → C → Type 0) (count : C → ℕ → ℕ) (may_refuse : C → ℕ → Type 0)
+module _ {C D : Type 0} (handler : Calls C)
     (soft_step : D → DrainCall → D → Type 0) (held : D → Option ℕ) (made : D → ℕ → ℕ) where
   abbrev Both : Levels (SoftSide D C) → Levels (Drained D C) → Type 0
-  Both = HaveDrained soft_step held made called count may_refuse
+  Both = HaveDrained soft_step held made handler
 
   kept_one : (s : Levels (SoftSide D C)) (h : Levels (PromisedHandle (Drained D C) (Drains D C))) (d : Levels (Drained D C))
       → HasPromised s h →
-      HaveKept soft_step held made called count may_refuse h d → Both s d
+      HaveKept soft_step held made handler h d → Both s d
   kept_one s h d p q = (
-    joined called count may_refuse soft_step held made soft.Lock h.lock.promise.level s.lock h.lock.promise.side.value d.lock q.0
+    joined handler soft_step held made soft.Lock h.lock.promise.level s.lock h.lock.promise.side.value d.lock q.0
         p.lock p.lock_level,
-    joined called count may_refuse soft_step held made soft.Low h.low.promise.level s.low h.low.promise.side.value d.low q.1 p.low
-        p.low_level,
+    joined handler soft_step held made soft.Low h.low.promise.level s.low h.low.promise.side.value d.low q.1 p.low p.low_level,
   )
 
   pub kept_all : (sides : List (Levels (SoftSide D C))) (hs : List (Levels (PromisedHandle (Drained D C) (Drains D C))))
       (ds : List (Levels (Drained D C))) →
-      EachTwo HasPromised sides hs → EachTwo (HaveKept soft_step held made called count may_refuse) hs ds → EachTwo Both sides ds
-  kept_all sides hs ds p q = each_then HasPromised (HaveKept soft_step held made called count may_refuse) Both kept_one sides hs
-      ds p q
+      EachTwo HasPromised sides hs → EachTwo (HaveKept soft_step held made handler) hs ds → EachTwo Both sides ds
+  kept_all sides hs ds p q = each_then HasPromised (HaveKept soft_step held made handler) Both kept_one sides hs ds p q
 
   makes_one : (level : Level) (a : SoftSide D C) (d : Drained D C)
-      → HasDrained soft_step held made (at_level called level) count may_refuse a d → d.refused ≡ None →
-      Makes soft_step made (at_level called level) count a d.drain d.calls
-  makes_one level a d h none = looked_makes soft_step held made (at_level called level) count may_refuse a d
-      (subst (λ o. IfNone o (HasLooked soft_step held made (at_level called level) count a d)) none h.stopped)
+      → HasDrained soft_step held made (at_level handler.called level) handler.count handler.may_refuse a d → d.refused ≡ None →
+      Makes soft_step made (at_level handler.called level) handler.count a d.drain d.calls
+  makes_one level a d h none = looked_makes soft_step held made (at_level handler.called level) handler.count handler.may_refuse a
+      d (subst (λ o. IfNone o (HasLooked soft_step held made (at_level handler.called level) handler.count a d)) none h.stopped)
 
   makes_all : (n : ℕ) (sides : List (Levels (SoftSide D C))) (ds : List (Levels (Drained D C))) → EachTwo Both sides ds
       → first_in (refusals_from n None ds) ≡ None →
-      EachTwo (HaveMade soft_step made called count) sides (map both_sides ds)
+      EachTwo (HaveMade soft_step made handler.called handler.count) sides (map both_sides ds)
   makes_all n [] [] p e = tt
   makes_all n [] (d ∷ ds) p e = absurd p
   makes_all n (s ∷ sides) [] p e = absurd p
@@ -105,16 +104,17 @@ module _ {C D : Type 0} (called : C → ℕ → Level → C → Type 0) (count :
       ((makes_one Lock s.lock d.lock p.0.0 a.0, makes_one Low s.low d.low p.0.1 b.0), makes_all (n + 1) sides ds p.1 b.1)
 
   can_refuse : (level : Level) (a : SoftSide D C) (d : Drained D C) (r : SoftRefused) (e : Refusal)
-      → HasDrained soft_step held made (at_level called level) count may_refuse a d →
-      d.refused ≡ Some r → e ≡ HandlerRefused r.id → HandlerRefuses may_refuse e
+      → HasDrained soft_step held made (at_level handler.called level) handler.count handler.may_refuse a d →
+      d.refused ≡ Some r → e ≡ HandlerRefused r.id → HandlerRefuses handler.may_refuse e
   can_refuse level a d r e h some is = let x =
-      subst (λ o. IfSome o (λ y. IsRefused soft_step held made (at_level called level) count may_refuse a y (side_of d))) some
+      subst (λ o. IfSome o (λ y. IsRefused soft_step held made (at_level handler.called level) handler.count handler.may_refuse a
+      y (side_of d))) some
       h.refused in
       (r.id, is, (x.0, x.2))
 
   first_why : (n : ℕ) (fire : Option Fire) (sides : List (Levels (SoftSide D C))) (ds : List (Levels (Drained D C))) (e : Refusal)
       → EachTwo Both sides ds →
-      first_in (refusals_from n fire ds) ≡ Some e → HandlerRefuses may_refuse e ⊎ IsFires fire e
+      first_in (refusals_from n fire ds) ≡ Some e → HandlerRefuses handler.may_refuse e ⊎ IsFires fire e
   first_why n fire [] [] e p is = absurd (some_none (sym is))
   first_why n fire [] (d ∷ ds) e p is = absurd p
   first_why n fire (s ∷ sides) [] e p is = absurd p
@@ -123,89 +123,88 @@ module _ {C D : Type 0} (called : C → ℕ → Level → C → Type 0) (count :
       rest : List Refusal
       rest = refusals_from (n + 1) fire ds
 
-      by_low : (first_in rest ≡ Some e → HandlerRefuses may_refuse e ⊎ IsFires fire e)
+      by_low : (first_in rest ≡ Some e → HandlerRefuses handler.may_refuse e ⊎ IsFires fire e)
           → ((r : SoftRefused) × (d.low.refused ≡ Some r) × (e ≡ HandlerRefused r.id)) ⊎ (first_in rest ≡ Some e)
-          → HandlerRefuses may_refuse e ⊎ IsFires fire e
+          → HandlerRefuses handler.may_refuse e ⊎ IsFires fire e
       by_low then (inl (r, some, why)) = inl (can_refuse Low s.low d.low r e p.0.1 some why)
       by_low then (inr q) = then q
 
-      by_lock : (first_in rest ≡ Some e → HandlerRefuses may_refuse e ⊎ IsFires fire e)
+      by_lock : (first_in rest ≡ Some e → HandlerRefuses handler.may_refuse e ⊎ IsFires fire e)
           → ((r : SoftRefused) × (d.lock.refused ≡ Some r) × (e ≡ HandlerRefused r.id))
           ⊎ (first_in (of_level d.low.refused ++ rest) ≡ Some e) →
-          HandlerRefuses may_refuse e ⊎ IsFires fire e
+          HandlerRefuses handler.may_refuse e ⊎ IsFires fire e
       by_lock then (inl (r, some, why)) = inl (can_refuse Lock s.lock d.lock r e p.0.0 some why)
       by_lock then (inr q) = by_low then (split_level d.low.refused rest e q)
 
-      by_fire : (first_in rest ≡ Some e → HandlerRefuses may_refuse e ⊎ IsFires fire e) → IsFires fire e
-          ⊎ (first_in (of_level d.lock.refused ++ (of_level d.low.refused ++ rest)) ≡ Some e) → HandlerRefuses may_refuse e
+      by_fire : (first_in rest ≡ Some e → HandlerRefuses handler.may_refuse e ⊎ IsFires fire e) → IsFires fire e
+          ⊎ (first_in (of_level d.lock.refused ++ (of_level d.low.refused ++ rest)) ≡ Some e)
+          → HandlerRefuses handler.may_refuse e
           ⊎ IsFires fire e
       by_fire then (inl f) = inr f
       by_fire then (inr q) = by_lock then (split_level d.lock.refused (of_level d.low.refused ++ rest) e q)
 
-module _ {C R D : Type 0} (called : C → ℕ → Level → C → Type 0) (count : C → ℕ → ℕ) (may_refuse : C → ℕ → Type 0)
+module _ {C R D : Type 0} (handler : Calls C)
     (step : R → FiringCall → R → Type 0) (view : R → FiringView) (soft_step : D → DrainCall → D → Type 0) (held : D → Option ℕ)
     (made : D → ℕ → ℕ)
     (steps : List Step) (a : Progress R C) (sides : List (Levels (SoftSide D C))) (ds : List (Levels (Drained D C)))
-    (drained : EachTwo (HaveDrained soft_step held made called count may_refuse) sides ds) where
+    (drained : EachTwo (HaveDrained soft_step held made handler) sides ds) where
   abbrev Why : Refusal → Type 0
-  Why = WhyRefused called count may_refuse step view steps a
+  Why = WhyRefused handler step view steps a
 
-  of_soft : (fire : Option Fire) (e : Refusal) → first_in (refusals_from 0 fire ds) ≡ Some e → HandlerRefuses may_refuse e
+  of_soft : (fire : Option Fire) (e : Refusal) → first_in (refusals_from 0 fire ds) ≡ Some e → HandlerRefuses handler.may_refuse e
       ⊎ IsFires fire e
-  of_soft fire e is = first_why called count may_refuse soft_step held made 0 fire sides ds e drained is
+  of_soft fire e is = first_why handler soft_step held made 0 fire sides ds e drained is
 
   -- no fire was refused
-  no_fire : (e : Refusal) → HandlerRefuses may_refuse e ⊎ IsFires None e → Why e
+  no_fire : (e : Refusal) → HandlerRefuses handler.may_refuse e ⊎ IsFires None e → Why e
   no_fire e (inl h) = inr (inl h)
   no_fire e (inr (f, is, why)) = absurd (some_none (sym is))
 
-  told_why : (id : ℕ) → WhyHalted called count may_refuse step view a steps (halt.Told id)
-      → HandlerRefuses may_refuse (HandlerRefused id)
+  told_why : (id : ℕ) → WhyHalted handler step view a steps (halt.Told id) → HandlerRefuses handler.may_refuse (HandlerRefused id)
   told_why id (inl can) = (id, refl, can)
   told_why id (inr h) = by h.halts
     where
-      by : StepHalts called count may_refuse step view h.last h.before (halt.Told id)
-          → HandlerRefuses may_refuse (HandlerRefused id)
+      by : StepHalts handler step view h.last h.before (halt.Told id) → HandlerRefuses handler.may_refuse (HandlerRefused id)
       by (inl can) = (id, refl, can)
       by (inr (now, is, none)) = absurd none
 
-  memory_why : (x : Refusal) → WhyHalted called count may_refuse step view a steps (halt.Refused x) → x ≡ Memory
+  memory_why : (x : Refusal) → WhyHalted handler step view a steps (halt.Refused x) → x ≡ Memory
   memory_why x (inl none) = absurd none
   memory_why x (inr h) = by h.halts
     where
-      by : StepHalts called count may_refuse step view h.last h.before (halt.Refused x) → x ≡ Memory
+      by : StepHalts handler step view h.last h.before (halt.Refused x) → x ≡ Memory
       by (inl none) = absurd none
       by (inr (now, is, m)) = m
 
-  fired_why : (n : ℕ) (why : Refusal) → WhyHalted called count may_refuse step view a steps (halt.Fired n why)
-      → IsHalted called count may_refuse step view a steps (halt.Fired n why)
+  fired_why : (n : ℕ) (why : Refusal) → WhyHalted handler step view a steps (halt.Fired n why)
+      → IsHalted handler step view a steps (halt.Fired n why)
   fired_why n why (inl none) = absurd none
   fired_why n why (inr h) = h
 
-  by_fire : (n : ℕ) (why e : Refusal) → WhyHalted called count may_refuse step view a steps (halt.Fired n why) →
-      HandlerRefuses may_refuse e ⊎ IsFires (Some (record { cpu = n; why = why })) e → Why e
+  by_fire : (n : ℕ) (why e : Refusal) → WhyHalted handler step view a steps (halt.Fired n why) →
+      HandlerRefuses handler.may_refuse e ⊎ IsFires (Some (record { cpu = n; why = why })) e → Why e
   by_fire n why e w (inl h) = inr (inl h)
   by_fire n why e w (inr (f, is, same)) = inr (inr (
     n,
-    subst (λ (x : Refusal). IsHalted called count may_refuse step view a steps (halt.Fired n x))
+    subst (λ (x : Refusal). IsHalted handler step view a steps (halt.Fired n x))
         (sym (same ∙ ap (λ (g : Fire). g.why) (sym (same_some is)))) (fired_why n why w),
   ))
 
   why_refused : {A : Type 0} (taken : Result A Halt) (e : Refusal)
-      → IfErr taken (λ h. WhyHalted called count may_refuse step view a steps h) →
+      → IfErr taken (λ h. WhyHalted handler step view a steps h) →
       refusal_of taken ds ≡ Some e → Why e
   why_refused (Ok x) e w is = no_fire e (of_soft None e is)
   why_refused (Err (halt.Refused x)) e w is = inl (sym (same_some is) ∙ memory_why x w)
   why_refused (Err (halt.Told id)) e w is = by (first_in (refusals_from 0 None ds)) (λ x q. of_soft None x q) is
     where
-      by : (o : Option Refusal) → ((x : Refusal) → o ≡ Some x → HandlerRefuses may_refuse x ⊎ IsFires None x)
+      by : (o : Option Refusal) → ((x : Refusal) → o ≡ Some x → HandlerRefuses handler.may_refuse x ⊎ IsFires None x)
           → Some (unwrap_or o (HandlerRefused id)) ≡ Some e → Why e
       by (Some x) f q = subst Why (same_some q) (no_fire x (f x refl))
       by None f q = subst Why (same_some q) (inr (inl (told_why id w)))
   why_refused (Err (halt.Fired n why)) e w is =
       by (first_in (refusals_from 0 (Some (record { cpu = n; why = why })) ds)) (λ x q. of_soft _ x q) is
     where
-      by : (o : Option Refusal) → ((x : Refusal) → o ≡ Some x → HandlerRefuses may_refuse x
+      by : (o : Option Refusal) → ((x : Refusal) → o ≡ Some x → HandlerRefuses handler.may_refuse x
           ⊎ IsFires (Some (record { cpu = n; why = why })) x) →
           Some (unwrap_or o why) ≡ Some e → Why e
       by (Some x) f q = subst Why (same_some q) (by_fire n why x w (f x refl))
@@ -213,16 +212,16 @@ module _ {C R D : Type 0} (called : C → ℕ → Level → C → Type 0) (count
 
   -- what all workers answer
   pub works_all : (taken : Result (Progress R C) Halt) (answer : Result (Worked R D C) Refusal) →
-      IfOk taken (λ t. Runs called count may_refuse step view a steps t)
-      → IfErr taken (λ h. WhyHalted called count may_refuse step view a steps h) →
+      IfOk taken (λ t. Runs handler step view a steps t)
+      → IfErr taken (λ h. WhyHalted handler step view a steps h) →
       IfOk answer (λ w. refusal_of taken ds ≡ None) → IfOk answer (λ w. taken ≡ Ok w.lead)
       → IfOk answer (λ w. w.soft.items ≡ map both_sides ds) →
       IfErr answer (λ e. (e ≡ Memory) ⊎ (refusal_of taken ds ≡ Some e))
-      → Works called count may_refuse step view soft_step made steps a sides answer
+      → Works handler step view soft_step made steps a sides answer
   works_all taken (Ok w) r h none lead left why = record {
-    runs = IfOk-at_ok (λ t. Runs called count may_refuse step view a steps t) lead r;
-    makes = subst (λ (x : List (Levels (SoftSide D C))). EachTwo (HaveMade soft_step made called count) sides x) (sym left)
-        (makes_all called count may_refuse soft_step held made 0 sides ds drained
+    runs = IfOk-at_ok (λ t. Runs handler step view a steps t) lead r;
+    makes = subst (λ (x : List (Levels (SoftSide D C))). EachTwo (HaveMade soft_step made handler.called handler.count) sides x)
+        (sym left) (makes_all handler soft_step held made 0 sides ds drained
         (subst (λ (x : Result (Progress R C) Halt). refusal_of x ds ≡ None) lead none));
   }
   works_all taken (Err e) r h none lead left (inl m) = inl m

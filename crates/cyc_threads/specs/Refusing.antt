@@ -1,6 +1,6 @@
 -- Why a run of a script in threads was refused.
 use Rattle.std.specs.Prelude.{◌≡◌, ℕ, ◌⊎◌, List, Option, All, length, map}
-use Rattle.cyc_types.specs.declared.level.Level.{Level}
+use Rattle.cyc_types.specs.declared.Calls.{Ghosts as Calls}
 use Rattle.cyc_types.specs.declared.refusal.Refusal.{Refusal}
 use Rattle.cyc_types.specs.declared.refusal.Refusal.TheVariants.{Memory}
 use Rattle.cyc_ring.specs.declared.ends.RaiseEnd.{RaiseEnd}
@@ -19,29 +19,25 @@ use Rattle.cyc_threads.specs.declared.running.Ended.{Ended}
 use Rattle.cyc_threads.specs.Running.{calls_of, IsAtFirst, HasRun}
 
 -- over these seats the fire of a CPU was refused so, after the steps before it were taken
-pub record FireRefuses {C : Type 0} (called : C → ℕ → Level → C → Type 0) (count : C → ℕ → ℕ) (may_refuse : C → ℕ → Type 0)
-    (script : Script) (before : List (Seated C)) (e : Refusal) : Type 0 where
+pub record FireRefuses {C : Type 0} (handler : Calls C) (script : Script) (before : List (Seated C)) (e : Refusal) : Type 0 where
   pub first : Progress RaiseEnd C
   pub cpu : ℕ
   pub begins : IsAtFirst (length script.names.items) before first
-  pub halted : IsHalted called count may_refuse RaiseEndCall end_view first script.steps.items (halt.Fired cpu e)
+  pub halted : IsHalted handler RaiseEndCall end_view first script.steps.items (halt.Fired cpu e)
 
 -- memory or a thread was refused; or a handler of a soft level refused, which may; or a fire was
-abbrev pub WhyNotPlayed : {C : Type 0} → (C → ℕ → Level → C → Type 0) → (C → ℕ → ℕ) → (C → ℕ → Type 0)
-    → Script → List (Seated C) → Refusal → Type 0
-WhyNotPlayed called count may_refuse script before e =
-    (e ≡ Memory) ⊎ (HandlerRefuses may_refuse e ⊎ FireRefuses called count may_refuse script before e)
+abbrev pub WhyNotPlayed : {C : Type 0} → Calls C → Script → List (Seated C) → Refusal → Type 0
+WhyNotPlayed handler script before e =
+    (e ≡ Memory) ⊎ (HandlerRefuses handler.may_refuse e ⊎ FireRefuses handler script before e)
 
 -- the same over new rings, with these handlers
-abbrev pub WhyNotRun : {C : Type 0} → (C → ℕ → Level → C → Type 0) → (C → ℕ → ℕ) → (C → ℕ → Type 0)
-    → Script → List C → Refusal → Type 0
-WhyNotRun {C} called count may_refuse script calls e = (e ≡ Memory) ⊎ ((before : List (Seated C)) × (calls_of before ≡ calls)
-    × All (AreNew script.ceiling) (map (λ s. s.seats) before) × WhyNotPlayed called count may_refuse script before e)
+abbrev pub WhyNotRun : {C : Type 0} → Calls C → Script → List C → Refusal → Type 0
+WhyNotRun {C} handler script calls e = (e ≡ Memory) ⊎ ((before : List (Seated C)) × (calls_of before ≡ calls)
+    × All (AreNew script.ceiling) (map (λ s. s.seats) before) × WhyNotPlayed handler script before e)
 
 -- why a run stopped, and what was written: nothing where it was refused, and of its text a prefix where the sink failed
-abbrev pub StopsBy : {C : Type 0} → (C → ℕ → Level → C → Type 0) → (C → ℕ → ℕ) → (C → ℕ → Type 0)
-    → Script → List C → Option (List ℕ) → Option (List ℕ) → RunFault → Type 0
-StopsBy called count may_refuse script calls old new (run_fault.Refused e) =
-    WhyNotRun called count may_refuse script calls e × (new ≡ old)
-StopsBy {C} called count may_refuse script calls old new run_fault.Write =
-    (e : Ended C) × (text : List ℕ) × HasRun called count may_refuse script calls e text × AppendsPrefix old new text
+abbrev pub StopsBy : {C : Type 0} → Calls C → Script → List C → Option (List ℕ) → Option (List ℕ) → RunFault → Type 0
+StopsBy handler script calls old new (run_fault.Refused e) =
+    WhyNotRun handler script calls e × (new ≡ old)
+StopsBy {C} handler script calls old new run_fault.Write =
+    (e : Ended C) × (text : List ℕ) × HasRun handler script calls e text × AppendsPrefix old new text

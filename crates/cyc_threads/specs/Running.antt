@@ -1,5 +1,6 @@
 -- What a run of a script in threads is, from the opening of its rings to their closing.
 use Rattle.std.specs.Prelude.{◌≡◌, ℕ, List, [], All, map, flat_map, length, replicate, string_bytes}
+use Rattle.cyc_types.specs.declared.Calls.{Ghosts as Calls}
 use Rattle.cyc_types.specs.Levels.{at_level}
 use Rattle.cyc_types.specs.declared.level.Level.{Level}
 use Rattle.cyc_types.specs.declared.level.Level.TheVariants.{Low, Lock}
@@ -54,18 +55,18 @@ pub record HaveServed {C : Type 0} (called : C → ℕ → Level → C → Type 
 
 -- What the workers of a script make of seats and handlers, by the numbers of the CPUs: the lead took the steps of the script, and
 -- each CPU has settled; then each name was reported, with these lines.
-pub record HasPlayed {C : Type 0} (called : C → ℕ → Level → C → Type 0) (count : C → ℕ → ℕ) (may_refuse : C → ℕ → Type 0)
+pub record HasPlayed {C : Type 0} (handler : Calls C)
     (script : Script) (before after : List (Seated C)) (lines : List Line) : Type 0 where
   pub first : Progress RaiseEnd C
   pub last : Progress RaiseEnd C
   pub told : Progress RaiseEnd C
   pub begins : IsAtFirst (length script.names.items) before first
-  pub runs : Runs called count may_refuse RaiseEndCall end_view first script.steps.items last
+  pub runs : Runs handler RaiseEndCall end_view first script.steps.items last
   pub reports : Reports RaiseEndCall end_view lines last told
   -- the firing sides and the high handlers at last are those that are left
   pub ends : IsAtLast after told
   -- so are the soft sides and their handlers
-  pub served : EachTwo (HaveServed called count) before after
+  pub served : EachTwo (HaveServed handler.called handler.count) before after
 
 -- these rings, CPU after CPU, lock and low, were closed with these seats
 pub record AreAllClosed {C : Type 0} (all : List (Seated C)) (rings : List Closed) : Type 0 where
@@ -74,8 +75,7 @@ pub record AreAllClosed {C : Type 0} (all : List (Seated C)) (rings : List Close
   pub closed : EachTwo AreClosed (map (λ s. s.seats) all) by_cpu
 
 -- What a run of a script ends with, and its text.
-pub record HasRun {C : Type 0} (called : C → ℕ → Level → C → Type 0) (count : C → ℕ → ℕ) (may_refuse : C → ℕ → Type 0)
-    (script : Script) (calls : List C) (e : Ended C) (text : List ℕ) : Type 0 where
+pub record HasRun {C : Type 0} (handler : Calls C) (script : Script) (calls : List C) (e : Ended C) (text : List ℕ) : Type 0 where
   -- by the numbers of the CPUs: the seats of their rings and their handlers, before and after
   pub before : List (Seated C)
   pub after : List (Seated C)
@@ -85,7 +85,7 @@ pub record HasRun {C : Type 0} (called : C → ℕ → Level → C → Type 0) (
   -- on the rings nothing was done before
   pub new : All (AreNew script.ceiling) (map (λ s. s.seats) before)
   pub lines : List Line
-  pub played : HasPlayed called count may_refuse script before after lines
+  pub played : HasPlayed handler script before after lines
   pub text_is : text ≡ report_text (map string_bytes script.names.items) lines
   -- the rings that come back were closed with the seats that were used
   pub closed : AreAllClosed after e.rings.items

@@ -87,8 +87,8 @@ fn play<W: Threads + Wait + Sync, C: Calls + Send + Drop>(
     requires new { All (AreNew script.now.ceiling) (map (λ s. s.seats) all.items) }
     requires many { length all.items ≡ script.now.cpus }
     ensures seated { IfOk result (λ p. EachTwo AreSeated rings.now (map (λ s. s.seats) p.all.items)) }
-    ensures played { IfOk result (λ p. HasPlayed C.called C.count C.may_refuse script.now all.items p.all.items p.lines.items) }
-    ensures refused { IfErr result (λ e. WhyNotPlayed C.called C.count C.may_refuse script.now all.items e) }
+    ensures played { IfOk result (λ p. HasPlayed C.Calls script.now all.items p.all.items p.lines.items) }
+    ensures refused { IfErr result (λ e. WhyNotPlayed C.Calls script.now all.items e) }
 {
     let attached = attach(alloc, rings, all)?;
     let Prepared {
@@ -110,8 +110,8 @@ fn run_script<W: Threads + Wait + Sync, C: Calls + Send + Drop>(
     calls: Vec<C>,
 ) -> Result<(Ended<C>, String), Refusal>
     requires { length calls.items ≡ 3 * script.now.cpus }
-    ensures ran { IfOk result (λ r. HasRun C.called C.count C.may_refuse script.now calls.items r.0 (string_bytes r.1)) }
-    ensures refused { IfErr result (λ e. WhyNotRun C.called C.count C.may_refuse script.now calls.items e) }
+    ensures ran { IfOk result (λ r. HasRun C.Calls script.now calls.items r.0 (string_bytes r.1)) }
+    ensures refused { IfErr result (λ e. WhyNotRun C.Calls script.now calls.items e) }
 {
     let cpus = script.cpus as usize;
     let handlers = by_cpu(alloc, cpus, calls)?;
@@ -147,9 +147,9 @@ pub fn run<W: Threads + Wait + Sync, C: Calls + Send + Drop, S: Sink>(
 ) -> Result<Ended<C>, RunFault>
     requires calls { length calls.items ≡ 3 * script.now.cpus }
     requires whole { S.has_failed sink.old ≡ false }
-    ensures ran { IfOk result (λ e. (text : List ℕ) × HasRun C.called C.count C.may_refuse script.now calls.items e text
+    ensures ran { IfOk result (λ e. (text : List ℕ) × HasRun C.Calls script.now calls.items e text
         × Appends (S.written sink.old) (S.written sink.new) text) }
-    ensures refused { IfErr result (λ fault. StopsBy C.called C.count C.may_refuse script.now calls.items (S.written sink.old)
+    ensures refused { IfErr result (λ fault. StopsBy C.Calls script.now calls.items (S.written sink.old)
         (S.written sink.new) fault) }
     ensures write { S.has_failed sink.new ≡ is_write result }
 {

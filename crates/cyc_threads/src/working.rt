@@ -97,8 +97,7 @@ fn work<
     script: &Script,
 ) -> Result<Worked<R, D, C>, Refusal>
     requires { IsReady lead }
-    ensures { Works C.called C.count C.may_refuse R.step R.view D.step D.made script.now.steps.items lead
-        (map sides_of drainers.items) result }
+    ensures { Works C.Calls R.step R.view D.step D.made script.now.steps.items lead (map sides_of drainers.items) result }
 {
     let handles = start_all(scope, rt, alloc, signals, drainers)?;
     let taken = take_steps(rt, alloc, lead, script, signals);
@@ -124,15 +123,14 @@ fn work_in_scope<
     script: &Script,
 ) -> Result<Worked<R, D, C>, Refusal>
     requires { IsReady lead }
-    ensures { Works C.called C.count C.may_refuse R.step R.view D.step D.made script.now.steps.items lead
-        (map sides_of drainers.items) result }
+    ensures { Works C.Calls R.step R.view D.step D.made script.now.steps.items lead (map sides_of drainers.items) result }
 {
     thread::scope(
         thread::scope_env(),
         rt,
         |scope| -> Result<Worked<R, D, C>, Refusal>
             requires { IsReady lead }
-            ensures { Works C.called C.count C.may_refuse R.step R.view D.step D.made script.entry.now.steps.items lead
+            ensures { Works C.Calls R.step R.view D.step D.made script.entry.now.steps.items lead
                 (map sides_of drainers.items) result }
         {
             let worked = work(scope, rt, alloc, signals, wakers, drainers, lead, script);
@@ -160,8 +158,7 @@ pub(crate) fn work_all<
     script: &Script,
 ) -> Result<Worked<R, D, C>, Refusal>
     requires { IsReady lead }
-    ensures { Works C.called C.count C.may_refuse R.step R.view D.step D.made script.now.steps.items lead
-        (map sides_of drainers.items) result }
+    ensures { Works C.Calls R.step R.view D.step D.made script.now.steps.items lead (map sides_of drainers.items) result }
 {
     let signals = Signals::new();
     work_in_scope(rt, alloc, &signals, wakers, drainers, lead, script)

@@ -16,7 +16,7 @@ use Rattle.cyc_cpu.specs.Cpu.{CpuView, running}
 use Rattle.cyc_cpu.specs.Calls.{Changes, Does, Add, Reprogram, AskPending, AskTotals, BeginRemove, Fire, SoftInterrupt}
 use Rattle.cyc_cpu.specs.Calls.{no_interrupts}
 use Rattle.cyc_cpu.specs.Soft.{fires, firing_at, Interrupts}
-use Rattle.cyclic_c.specs.Granted.{granted_count, granted_called, GrantedRefuses}
+use Rattle.cyclic_c.specs.Granted.{granted_calls}
 use Rattle.cyclic_c.specs.Numbers.{number_of, level_named}
 use Rattle.cyclic_c.specs.declared.calling.Asked.{Asked}
 use Rattle.cyclic_c.specs.declared.cpu.Cpu.{Cpu}
@@ -111,8 +111,7 @@ module _ {R : Type 0} (step : R → FiringCall → R → Type 0) (view : R → F
   -- goes up to the next high expiration.
   abbrev pub Fires : ℕ → Result Fired FireRefused → Option ℕ → CpuView R → Option ℕ → CpuView R → Type 0
   Fires now answer high v high' w = (left : Granted)
-      × Does granted_called granted_count GrantedRefuses step view no_interrupts (running (grant high) v) (Fire now answer)
-      (running left w)
+      × Does granted_calls step view no_interrupts (running (grant high) v) (Fire now answer) (running left w)
       × (high' ≡ stopped_at answer)
 
 -- the same of a CPU on one thread, of which nothing else changes
@@ -132,8 +131,8 @@ with_call Lock call v = record v { lock = call }
 -- a soft interrupt of one call at most, with this grant; no other thing changes but the call that is in the caller's hand
 abbrev pub Interrupts1 : Soft → Granted → Result Ran SoftRefused → Option ℕ → Cpu → Cpu → Type 0
 Interrupts1 level g answer call v w = (left : Granted)
-    × Does granted_called granted_count GrantedRefuses fires firing_at (Interrupts granted_called granted_count GrantedRefuses)
-    (running g v.hard) (SoftInterrupt level 1 answer) (running left w.hard)
+    × Does granted_calls fires firing_at (Interrupts granted_calls) (running g v.hard) (SoftInterrupt level 1 answer)
+    (running left w.hard)
     × (w ≡ with_call level call (record v { hard = w.hard }))
 
 -- the call that a soft interrupt stopped in front of

@@ -2,6 +2,7 @@
 use Rattle.std.specs.Prelude.{◌≡◌, ℕ, ◌+◌, ◌⊎◌, List, [], ◌∷◌, ◌++◌, length, sum_by, Option, Some, Result, Ok, Err}
 use Rattle.std.specs.List.{filter_map}
 use Rattle.cyc_types.specs.Counting.{times}
+use Rattle.cyc_types.specs.declared.Calls.{Ghosts as Calls}
 use Rattle.cyc_types.specs.Firing.{FiringView, FiringCall}
 use Rattle.cyc_types.specs.declared.level.Level.{Level}
 use Rattle.cyc_types.specs.declared.level.Level.TheVariants.{High}
@@ -74,12 +75,12 @@ notes ids id level more = more ≡ ids ++ id ∷ []
 abbrev pub noted : List ℕ → ℕ → ℕ
 noted ids id = times id ids
 
-abbrev pub never_refuses : List ℕ → ℕ → Type 0
-never_refuses ids id = ⊥
+abbrev pub noting : Calls (List ℕ)
+noting = record { count = noted; called = notes; may_refuse = λ ids id. ⊥ }
 
 -- The parts are one fire of the CPU, whose handlers were called for those that were handed out, in that order: each expiration
 -- that was due is made once, in order, and counted once.
 abbrev pub IsOneFire : {R : Type 0} → (R → FiringCall → R → Type 0) → (R → FiringView) → ℕ
     → List (Result Fired FireRefused) → Fired → CpuView R → CpuView R → Type 0
-IsOneFire step view now parts last v w = Does notes noted never_refuses step view no_interrupts (running [] v)
-    (Fire now (Ok (together parts last))) (running (handed_out parts) w)
+IsOneFire step view now parts last v w = Does noting step view no_interrupts (running [] v) (Fire now (Ok (together parts last)))
+    (running (handed_out parts) w)

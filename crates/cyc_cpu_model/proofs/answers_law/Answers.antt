@@ -3,4 +3,4 @@ use Rattle.cyc_cpu_model.proofs.answers_law.Goals as goal
 
 pub returns : goal.returns
 returns g c = λ n online call s t before in_time goes does.
-    answers g.C.Calls.called g.C.Calls.count g.C.Calls.may_refuse n online call s t before in_time goes does
+    answers g.C.Calls n online call s t before in_time goes does

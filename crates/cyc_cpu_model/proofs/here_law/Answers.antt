@@ -4,5 +4,5 @@ use Rattle.cyc_cpu_model.proofs.here_law.Goals as goal
 
 pub returns : goal.returns
 returns g c = λ n online call s t h goes does.
-    is_here g.C.Calls.called g.C.Calls.count g.C.Calls.may_refuse n online call s t h.rising
-    (rises g.C.Calls.called g.C.Calls.count g.C.Calls.may_refuse call s t goes does h.rising) goes does
+    is_here g.C.Calls n online call s t h.rising
+    (rises g.C.Calls call s t goes does h.rising) goes does

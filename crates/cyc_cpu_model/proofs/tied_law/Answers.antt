@@ -6,4 +6,4 @@ pub returns-clause-lawful : goal.returns-clause-lawful
 returns-clause-lawful g c = lawful_tied
 
 pub returns-clause-kept : goal.returns-clause-kept
-returns-clause-kept g c = λ call s t does h. tied_always g.C.Calls.called g.C.Calls.count g.C.Calls.may_refuse call s t does h
+returns-clause-kept g c = λ call s t does h. tied_always g.C.Calls call s t does h

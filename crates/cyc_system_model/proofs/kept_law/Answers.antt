@@ -2,11 +2,10 @@ use Rattle.cyc_system_model.proofs.Keeping.{kept, most_kept, room_kept}
 use Rattle.cyc_system_model.proofs.kept_law.Goals as goal
 
 pub returns-clause-system : goal.returns-clause-system
-returns-clause-system g c = λ call s t did sys agrees. kept g.C.Calls.called g.C.Calls.count g.C.Calls.may_refuse call s t did sys
-    agrees
+returns-clause-system g c = λ call s t did sys agrees. kept g.C.Calls call s t did sys agrees
 
 pub returns-clause-most : goal.returns-clause-most
-returns-clause-most g c = λ call s t did sys. most_kept g.C.Calls.called g.C.Calls.count g.C.Calls.may_refuse call s t did sys
+returns-clause-most g c = λ call s t did sys. most_kept g.C.Calls call s t did sys
 
 pub returns-clause-room : goal.returns-clause-room
-returns-clause-room g c = λ call s t did sys. room_kept g.C.Calls.called g.C.Calls.count g.C.Calls.may_refuse call s t did sys
+returns-clause-room g c = λ call s t did sys. room_kept g.C.Calls call s t did sys

@@ -3,4 +3,4 @@ use Rattle.cyc_calm.proofs.running.calm_expected_law.Goals as goal
 
 pub returns : goal.returns
 returns g c script all first last runs name calm many begins memory =
-    expects g.C.Calls.called g.C.Calls.count g.C.Calls.may_refuse script all first last runs calm many begins memory name
+    expects g.C.Calls script all first last runs calm many begins memory name

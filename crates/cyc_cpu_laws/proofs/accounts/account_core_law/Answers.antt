@@ -2,13 +2,13 @@ use Rattle.cyc_cpu_laws.proofs.Cores.{core_proceeds_none, core_proceeds_one, cor
 use Rattle.cyc_cpu_laws.proofs.accounts.account_core_law.Goals as goal
 
 pub returns-clause-none : goal.returns-clause-none
-returns-clause-none g c = core_proceeds_none g.C.Calls.called g.C.Calls.count g.C.Calls.may_refuse
+returns-clause-none g c = core_proceeds_none g.C.Calls
 
 pub returns-clause-one : goal.returns-clause-one
-returns-clause-one g c = core_proceeds_one g.C.Calls.called g.C.Calls.count g.C.Calls.may_refuse
+returns-clause-one g c = core_proceeds_one g.C.Calls
 
 pub returns-clause-joined : goal.returns-clause-joined
-returns-clause-joined g c = core_proceeds_on g.C.Calls.called g.C.Calls.count g.C.Calls.may_refuse
+returns-clause-joined g c = core_proceeds_on g.C.Calls
 
 pub returns-clause-run : goal.returns-clause-run
-returns-clause-run g c = core_proceeds_in g.C.Calls.called g.C.Calls.count g.C.Calls.may_refuse
+returns-clause-run g c = core_proceeds_in g.C.Calls

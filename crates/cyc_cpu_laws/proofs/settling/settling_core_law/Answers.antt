@@ -5,18 +5,18 @@ use Rattle.cyc_cpu_laws.proofs.settling.settling_core_law.Goals as goal
 
 pub returns-clause-stays : goal.returns-clause-stays
 returns-clause-stays g c =
-    let called = g.C.Calls.called in let count = g.C.Calls.count in let may_refuse = g.C.Calls.may_refuse in
-    settled_run fires firing_at called count may_refuse (Interrupts called count may_refuse)
-    (interrupts_size called count may_refuse) (interrupts_settle called count may_refuse)
+    let handler = g.C.Calls in
+    settled_run fires firing_at handler (Interrupts handler)
+    (interrupts_size handler) (interrupts_settle handler)
 
 pub returns-clause-grows : goal.returns-clause-grows
 returns-clause-grows g c =
-    let called = g.C.Calls.called in let count = g.C.Calls.count in let may_refuse = g.C.Calls.may_refuse in
-    run_grows fires firing_at called count may_refuse (Interrupts called count may_refuse)
-    (interrupts_size called count may_refuse) (interrupts_settle called count may_refuse)
+    let handler = g.C.Calls in
+    run_grows fires firing_at handler (Interrupts handler)
+    (interrupts_size handler) (interrupts_settle handler)
 
 pub returns-clause-at_once : goal.returns-clause-at_once
 returns-clause-at_once g c =
-    let called = g.C.Calls.called in let count = g.C.Calls.count in let may_refuse = g.C.Calls.may_refuse in
-    never_put_off fires firing_at called count may_refuse (Interrupts called count may_refuse)
-    (interrupts_size called count may_refuse) (interrupts_settle called count may_refuse)
+    let handler = g.C.Calls in
+    never_put_off fires firing_at handler (Interrupts handler)
+    (interrupts_size handler) (interrupts_settle handler)

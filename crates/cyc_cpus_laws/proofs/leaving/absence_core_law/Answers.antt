@@ -6,8 +6,8 @@ returns-clause-unused g c = unused_gone
 
 pub returns-clause-one : goal.returns-clause-one
 returns-clause-one g c id s t d away puts did =
-    one_away g.C.Calls.called g.C.Calls.count g.C.Calls.may_refuse id s t d away puts did
+    one_away g.C.Calls id s t d away puts did
 
 pub returns-clause-run : goal.returns-clause-run
 returns-clause-run g c id s t way away puts run =
-    run_away g.C.Calls.called g.C.Calls.count g.C.Calls.may_refuse id s t way away puts run
+    run_away g.C.Calls id s t way away puts run

@@ -14,4 +14,4 @@ pub returns-clause-asked : goal.returns-clause-asked
 returns-clause-asked g c = asked_all
 
 pub returns-clause-fired : goal.returns-clause-fired
-returns-clause-fired g c = fired_all g.C.Calls.called g.C.Calls.count g.C.Calls.may_refuse
+returns-clause-fired g c = fired_all g.C.Calls

@@ -5,4 +5,4 @@ pub returns-clause-whole : goal.returns-clause-whole
 returns-clause-whole g c = is_whole
 
 pub returns-clause-run : goal.returns-clause-run
-returns-clause-run g c id s t way = stays_whole g.C.Calls.called g.C.Calls.count g.C.Calls.may_refuse id s t way
+returns-clause-run g c id s t way = stays_whole g.C.Calls id s t way

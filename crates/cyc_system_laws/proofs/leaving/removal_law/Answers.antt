@@ -10,4 +10,4 @@ returns-clause-polled g c id receipt s t = polled_over g.R.Raise.step g.R.Raise.
 
 pub returns-clause-run : goal.returns-clause-run
 returns-clause-run g c id s t way =
-    stays_over g.C.Calls.called g.C.Calls.count g.C.Calls.may_refuse g.R.Raise.step g.R.Raise.view id s t way
+    stays_over g.C.Calls g.R.Raise.step g.R.Raise.view id s t way

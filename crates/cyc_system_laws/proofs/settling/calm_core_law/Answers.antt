@@ -6,9 +6,9 @@ use Rattle.cyc_system_laws.proofs.settling.calm_core_law.Goals as goal
 
 pub returns : goal.returns
 returns g c n x y s t way at there settled not same run =
-    let called = g.C.Calls.called in let count = g.C.Calls.count in let may_refuse = g.C.Calls.may_refuse in
-    run_settled called count may_refuse fires firing_at (Interrupts called count may_refuse)
+    let handler = g.C.Calls in
+    run_settled handler fires firing_at (Interrupts handler)
     (λ s t level budget answer d. record {
       grows = (let e = d.1.kept.size in omega (arith, e));
-      settled = λ e h. interrupts_settle called count may_refuse level budget answer s t d h;
+      settled = λ e h. interrupts_settle handler level budget answer s t d h;
     }) n x y s t way at there settled not same run

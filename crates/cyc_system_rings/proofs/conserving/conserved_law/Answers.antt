@@ -15,12 +15,12 @@ dropped id e = losses_of id (raise_trail e.seat)
 
 pub returns-clause-expired : goal.returns-clause-expired
 returns-clause-expired g c id s t way run sound ready =
-    (run_even g.C.Calls.called g.C.Calls.count g.C.Calls.may_refuse RaiseEndCall end_view raised dropped
+    (run_even g.C.Calls RaiseEndCall end_view raised dropped
     (λ e f way goes id. (let (same, up, down) = raise_ways e f way goes in (up id, down id))) id s t way run sound ready).expired
 
 pub returns-clause-lost : goal.returns-clause-lost
 returns-clause-lost g c id s t way run sound ready =
-    (run_even g.C.Calls.called g.C.Calls.count g.C.Calls.may_refuse RaiseEndCall end_view raised dropped
+    (run_even g.C.Calls RaiseEndCall end_view raised dropped
     (λ e f way goes id. (let (same, up, down) = raise_ways e f way goes in (up id, down id))) id s t way run sound ready).losses
 
 pub returns-clause-closed : goal.returns-clause-closed

@@ -4,6 +4,6 @@ use Rattle.cyc_system_sums.proofs.keeping.interrupts_law.Goals as goal
 
 pub returns : goal.returns
 returns g c id n budget level answer s t a b d =
-    let called = g.C.Calls.called in let count = g.C.Calls.count in let may_refuse = g.C.Calls.may_refuse in
-    interrupts_keep called count may_refuse fires firing_at (Interrupts called count may_refuse) id
+    let handler = g.C.Calls in
+    interrupts_keep handler fires firing_at (Interrupts handler) id
     (λ s t level budget answer d. d.1.cyclics) n budget level answer s t a b d

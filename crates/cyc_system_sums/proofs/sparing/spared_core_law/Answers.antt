@@ -6,9 +6,9 @@ use Rattle.cyc_system_sums.proofs.sparing.spared_core_law.Goals as goal
 
 pub returns : goal.returns
 returns g c id s t way run sound open_still none under =
-    let called = g.C.Calls.called in let count = g.C.Calls.count in let may_refuse = g.C.Calls.may_refuse in
-    run_spares called count may_refuse fires firing_at (Interrupts called count may_refuse)
+    let handler = g.C.Calls in
+    run_spares handler fires firing_at (Interrupts handler)
     (λ s t level budget answer d. d.1.cyclics)
     (λ s t level budget answer law d.
-    (core_proceeds_one called count may_refuse s t (SoftInterrupt level budget answer) law d).limits)
+    (core_proceeds_one handler s t (SoftInterrupt level budget answer) law d).limits)
     id s t way run sound open_still none under

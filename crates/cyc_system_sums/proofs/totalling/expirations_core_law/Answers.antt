@@ -5,24 +5,24 @@ use Rattle.cyc_system_sums.proofs.totalling.expirations_core_law.Goals as goal
 
 pub returns-clause-expired : goal.returns-clause-expired
 returns-clause-expired g c id s t way run sound open_still =
-    let called = g.C.Calls.called in let count = g.C.Calls.count in let may_refuse = g.C.Calls.may_refuse in
-    (run_grows called count may_refuse fires firing_at (Interrupts called count may_refuse)
+    let handler = g.C.Calls in
+    (run_grows handler fires firing_at (Interrupts handler)
     (λ s t level budget answer d. d.1.cyclics) id s t way run sound open_still).expired
 
 pub returns-clause-lost : goal.returns-clause-lost
 returns-clause-lost g c id s t way run sound open_still =
-    let called = g.C.Calls.called in let count = g.C.Calls.count in let may_refuse = g.C.Calls.may_refuse in
-    (run_grows called count may_refuse fires firing_at (Interrupts called count may_refuse)
+    let handler = g.C.Calls in
+    (run_grows handler fires firing_at (Interrupts handler)
     (λ s t level budget answer d. d.1.cyclics) id s t way run sound open_still).lost
 
 pub returns-clause-few : goal.returns-clause-few
 returns-clause-few g c id s t way run sound open_still =
-    let called = g.C.Calls.called in let count = g.C.Calls.count in let may_refuse = g.C.Calls.may_refuse in
-    (run_grows called count may_refuse fires firing_at (Interrupts called count may_refuse)
+    let handler = g.C.Calls in
+    (run_grows handler fires firing_at (Interrupts handler)
     (λ s t level budget answer d. d.1.cyclics) id s t way run sound open_still).few
 
 pub returns-clause-receipt : goal.returns-clause-receipt
 returns-clause-receipt g c id s t u way receipt run sound new open_still answers =
-    let called = g.C.Calls.called in let count = g.C.Calls.count in let may_refuse = g.C.Calls.may_refuse in
-    receipt_along called count may_refuse fires firing_at (Interrupts called count may_refuse)
+    let handler = g.C.Calls in
+    receipt_along handler fires firing_at (Interrupts handler)
     (λ s t level budget answer d. d.1.cyclics) id s t u way receipt run sound new open_still answers

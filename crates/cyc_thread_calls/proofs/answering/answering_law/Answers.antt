@@ -3,4 +3,4 @@ use Rattle.cyc_thread_calls.proofs.answering.answering_law.Goals as goal
 
 pub returns : goal.returns
 returns g c script calls e text r =
-    all_answered g.C.Calls.called g.C.Calls.count g.C.Calls.may_refuse script calls e text r
+    all_answered g.C.Calls script calls e text r

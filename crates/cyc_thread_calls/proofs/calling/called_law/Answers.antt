@@ -3,8 +3,8 @@ use Rattle.cyc_thread_calls.proofs.calling.called_law.Goals as goal
 
 pub returns-clause-called : goal.returns-clause-called
 returns-clause-called g c script calls e text r level id =
-    handlers_called g.C.Calls.called g.C.Calls.count g.C.Calls.may_refuse script calls e text r level id
+    handlers_called g.C.Calls script calls e text r level id
 
 pub returns-clause-made : goal.returns-clause-made
 returns-clause-made g c script calls e text r soft id =
-    rings_made g.C.Calls.called g.C.Calls.count g.C.Calls.may_refuse script calls e text r soft id
+    rings_made g.C.Calls script calls e text r soft id

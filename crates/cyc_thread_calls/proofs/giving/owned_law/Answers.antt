@@ -6,9 +6,9 @@ use Rattle.cyc_thread_calls.proofs.giving.owned_law.Goals as goal
 
 pub returns-clause-some : goal.returns-clause-some
 returns-clause-some g c script calls e text r id level is =
-    own_name g.C.Calls.called g.C.Calls.count g.C.Calls.may_refuse script calls e text r id level is
+    own_name g.C.Calls script calls e text r id level is
 
 pub returns-clause-one : goal.returns-clause-one
 returns-clause-one g c script calls e text r a b id is also =
-    (all_held g.C.Calls.called g.C.Calls.count g.C.Calls.may_refuse RaiseEndCall end_view (length script.names.items)
+    (all_held g.C.Calls RaiseEndCall end_view (length script.names.items)
     r.played.first script.steps.items r.played.last r.played.runs r.played.begins.names_are).apart a b id is also

@@ -9,8 +9,7 @@ loop-of_cpu-preserved g c =
     record {
       all = taken_all c.loop-of_cpu.yielded x _ _ _ step.0 inv.all;
       many = taken_many _ _ x _ _ step.0 step.1 inv.many;
-      kept = each_pushed (HaveKept g.D.Drain.step g.D.Drain.held g.D.Drain.made g.C.Calls.called g.C.Calls.count
-          g.C.Calls.may_refuse)
+      kept = each_pushed (HaveKept g.D.Drain.step g.D.Drain.held g.D.Drain.made g.C.Calls)
           c.loop-of_cpu.yielded c.loop-of_cpu.drained.items _ _ x
           (record { lock = c.join_one-lock.result; low = c.join_one-low.result })
           refl c.in_ok-push.ensures.items inv.kept (c.join_one-lock.ensures, c.join_one-low.ensures);

@@ -10,6 +10,5 @@ abbrev pub invariant-loop-of_cpu : goal.invariant-loop-of_cpu
 invariant-loop-of_cpu g l = record {
   all : l.yielded ++ into_iter_items l.of_cpu-iterator ≡ l.fn.handles.items;
   many : into_iter_len l.of_cpu-iterator ≡ length (into_iter_items l.of_cpu-iterator);
-  kept : EachTwo (HaveKept g.D.Drain.step g.D.Drain.held g.D.Drain.made g.C.Calls.called g.C.Calls.count g.C.Calls.may_refuse)
-      l.yielded l.drained.items;
+  kept : EachTwo (HaveKept g.D.Drain.step g.D.Drain.held g.D.Drain.made g.C.Calls) l.yielded l.drained.items;
 }

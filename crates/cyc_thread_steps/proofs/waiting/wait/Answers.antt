@@ -6,7 +6,7 @@ use Rattle.cyc_thread_steps.proofs.Telling.{waited}
 use Rattle.cyc_thread_steps.proofs.waiting.wait.Goals as goal
 
 pub settle-side-requires : goal.settle-side-requires
-settle-side-requires g c = polls_ready g.C.Calls.called g.C.Calls.count g.C.Calls.may_refuse g.R.Raise.step g.R.Raise.view
+settle-side-requires g c = polls_ready g.C.Calls g.R.Raise.step g.R.Raise.view
     c.poll_all.ensures.polled.0 c.args.progress c.poll_all.new.progress c.poll_all.ensures.polled.1 c.requires
 
 pub returns-clause-waited : goal.returns-clause-waited

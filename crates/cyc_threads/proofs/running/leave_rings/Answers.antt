@@ -8,7 +8,7 @@ use Rattle.cyc_threads.proofs.running.leave_rings.Goals as goal
 
 pub leave_all-requires-clause-leads : goal.leave_all-requires-clause-leads
 leave_all-requires-clause-leads g c =
-    (reports_keep g.C.Calls.called g.C.Calls.count g.C.Calls.may_refuse c.in_ok-lines.lines.items c.args.worked.lead
+    (reports_keep g.C.Calls c.in_ok-lines.lines.items c.args.worked.lead
     c.report.new.progress
     c.in_ok-lines.ensures.lines (record { ready = c.requires.ready; sound = c.requires.sound })).well.ready
     ∙ ap (λ (x : List (CpuView RaiseEnd)). length x) (sym c.split-hards.ensures.cpus)
@@ -16,7 +16,7 @@ leave_all-requires-clause-leads g c =
 pub leave_all-requires-clause-soft : goal.leave_all-requires-clause-soft
 leave_all-requires-clause-soft g c = c.requires.soft
     ∙ sym (same_long c.args.worked.lead.side.system.cpus.cpus c.report.new.progress.side.system.cpus.cpus
-    (reports_keep g.C.Calls.called g.C.Calls.count g.C.Calls.may_refuse c.in_ok-lines.lines.items c.args.worked.lead
+    (reports_keep g.C.Calls c.in_ok-lines.lines.items c.args.worked.lead
     c.report.new.progress
     c.in_ok-lines.ensures.lines (record { ready = c.requires.ready; sound = c.requires.sound })).seats)
     ∙ ap (λ (x : List (CpuView RaiseEnd)). length x) (sym c.split-hards.ensures.cpus)

@@ -33,9 +33,9 @@ lead-requires-clause-leads g c = many_leads c.in_ok-ends.field-0.leads.items c.i
 
 pub returns-in_err-worked-clause-refused : goal.returns-in_err-worked-clause-refused
 returns-in_err-worked-clause-refused g c =
-    at_err (λ e. WhyNotPlayed g.C.Calls.called g.C.Calls.count g.C.Calls.may_refuse c.args.script.now c.args.all.items e)
+    at_err (λ e. WhyNotPlayed g.C.Calls c.args.script.now c.args.all.items e)
     c.from_residual-in_err-worked.result c.in_err-worked.field-0.0 c.from_residual-in_err-worked.ensures.1
-    (not_played g.C.Calls.called g.C.Calls.count g.C.Calls.may_refuse c.args.script.now c.args.all.items c.in_ok-first.first
+    (not_played g.C.Calls c.args.script.now c.args.all.items c.in_ok-first.first
     c.in_err-worked.field-0.0
     (begins (length c.args.script.now.names.items) c.args.all.items c.in_ok-attached.attached.items
     c.in_ok-ends.field-0.ends.items c.in_ok-first.first
@@ -47,20 +47,20 @@ returns-in_err-worked-clause-refused g c =
     c.in_err-worked.ensures)
 
 pub leave_rings-requires-clause-ready : goal.leave_rings-requires-clause-ready
-leave_rings-requires-clause-ready g c = (kept g.C.Calls.called g.C.Calls.count g.C.Calls.may_refuse c.args.script.now
+leave_rings-requires-clause-ready g c = (kept g.C.Calls c.args.script.now
     c.args.all.items c.in_ok-attached.attached.items c.in_ok-first.first
     (map sides_of c.in_ok-ends.field-0.drainers.items) c.in_ok-worked.worked c.in_ok-ends.ensures.drainers c.in_ok-worked.ensures
     (record { ready = c.in_ok-first.ensures.ready; sound = c.in_ok-first.ensures.sound })).well.ready
 
 pub leave_rings-requires-clause-soft : goal.leave_rings-requires-clause-soft
-leave_rings-requires-clause-soft g c = many_soft g.C.Calls.called g.C.Calls.count g.C.Calls.may_refuse c.args.script.now
+leave_rings-requires-clause-soft g c = many_soft g.C.Calls c.args.script.now
     c.args.all.items c.in_ok-attached.attached.items c.in_ok-first.first
     (map sides_of c.in_ok-ends.field-0.drainers.items) c.in_ok-worked.worked c.in_ok-ends.ensures.drainers c.in_ok-worked.ensures
     (record { ready = c.in_ok-first.ensures.ready; sound = c.in_ok-first.ensures.sound })
     c.in_ok-ends.field-0.ends.items c.in_ok-ends.ensures.ends c.in_ok-first.ensures.cpus
 
 pub returns-clause-seated : goal.returns-clause-seated
-returns-clause-seated g c = seated_ok g.C.Calls.called g.C.Calls.count g.C.Calls.may_refuse c.args.script.now c.args.all.items
+returns-clause-seated g c = seated_ok g.C.Calls c.args.script.now c.args.all.items
     c.in_ok-attached.attached.items c.in_ok-first.first
     (map sides_of c.in_ok-ends.field-0.drainers.items) c.in_ok-worked.worked c.in_ok-ends.ensures.drainers c.in_ok-worked.ensures
     (record { ready = c.in_ok-first.ensures.ready; sound = c.in_ok-first.ensures.sound })
@@ -68,7 +68,7 @@ returns-clause-seated g c = seated_ok g.C.Calls.called g.C.Calls.count g.C.Calls
     c.args.rings.now c.in_ok-ends.field-0.ends.items c.in_ok-ends.ensures.ends c.in_ok-first.ensures.cpus c.requires.seated
 
 pub returns-clause-played : goal.returns-clause-played
-returns-clause-played g c = played_ok g.C.Calls.called g.C.Calls.count g.C.Calls.may_refuse c.args.script.now c.args.all.items
+returns-clause-played g c = played_ok g.C.Calls c.args.script.now c.args.all.items
     c.in_ok-attached.attached.items c.in_ok-first.first
     (map sides_of c.in_ok-ends.field-0.drainers.items) c.in_ok-worked.worked c.in_ok-ends.ensures.drainers c.in_ok-worked.ensures
     (record { ready = c.in_ok-first.ensures.ready; sound = c.in_ok-first.ensures.sound })

@@ -8,7 +8,7 @@ use Rattle.cyc_threads.proofs.running.run.Goals as goal
 
 pub returns-in_err-put-in-Ok-clause-refused : goal.returns-in_err-put-in-Ok-clause-refused
 returns-in_err-put-in-Ok-clause-refused g c =
-    at_err (λ fault. StopsBy g.C.Calls.called g.C.Calls.count g.C.Calls.may_refuse c.args.script.now c.args.calls.items
+    at_err (λ fault. StopsBy g.C.Calls c.args.script.now c.args.calls.items
     (g.S.Sink.written c.args.sink.now)
     (g.S.Sink.written c.put.new.self) fault)
     c.from_residual.result run_fault.Write c.from_residual.ensures.1 (

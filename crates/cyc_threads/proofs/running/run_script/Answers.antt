@@ -8,9 +8,9 @@ use Rattle.cyc_threads.proofs.running.run_script.Goals as goal
 
 pub returns-in_err-all-2-clause-refused : goal.returns-in_err-all-2-clause-refused
 returns-in_err-all-2-clause-refused g c =
-    at_err (λ e. WhyNotRun g.C.Calls.called g.C.Calls.count g.C.Calls.may_refuse c.args.script.now c.args.calls.items e)
+    at_err (λ e. WhyNotRun g.C.Calls c.args.script.now c.args.calls.items e)
     c.from_residual-in_err-all-2.result c.in_err-all-2.field-0.0 c.from_residual-in_err-all-2.ensures.1
-    (not_ran g.C.Calls.called g.C.Calls.count g.C.Calls.may_refuse c.args.script.now c.args.calls.items c.in_ok-all.all.items
+    (not_ran g.C.Calls c.args.script.now c.args.calls.items c.in_ok-all.all.items
     c.in_ok-handlers.handlers.items
     c.in_ok-rings.field-0.seats.items c.in_ok-all.ensures.calls c.in_ok-handlers.ensures.laid c.in_ok-all.ensures.seats
     c.in_ok-rings.ensures.new
@@ -18,7 +18,7 @@ returns-in_err-all-2-clause-refused g c =
 
 pub returns-clause-ran : goal.returns-clause-ran
 returns-clause-ran g c =
-    ran g.C.Calls.called g.C.Calls.count g.C.Calls.may_refuse c.args.script.now c.args.calls.items c.in_ok-all.all.items
+    ran g.C.Calls c.args.script.now c.args.calls.items c.in_ok-all.all.items
     c.in_ok-handlers.handlers.items
     c.in_ok-rings.field-0.seats.items c.in_ok-all.ensures.calls c.in_ok-handlers.ensures.laid c.in_ok-all.ensures.seats
     c.in_ok-rings.ensures.new

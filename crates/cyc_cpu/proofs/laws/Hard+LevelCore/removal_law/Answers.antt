@@ -8,10 +8,10 @@ returns-clause-left g c id w h =
 
 pub returns-clause-kept : goal.returns-clause-kept
 returns-clause-kept g c id s t call gone not runs =
-    stays_gone g.C.Calls.called g.C.Calls.count g.C.Calls.may_refuse id s t call gone not runs
+    stays_gone g.C.Calls id s t call gone not runs
 
 pub returns-clause-nothing_follows : goal.returns-clause-nothing_follows
 returns-clause-nothing_follows g c id s t way h not runs =
     let e = c.law.ensures in let k = c.levels_conservation.ensures in
-    runs_gone g.C.Calls.called g.C.Calls.count g.C.Calls.may_refuse id s t way
+    runs_gone g.C.Calls id s t way
     (answered_gone id c.args.self.now s.cpu e.rising e.lock e.low k.lock_lawful k.low_lawful h) not runs
