@@ -24,4 +24,4 @@ pub use opening::{Opened, open_rings};
 pub use preparing::{Prepared, prepare};
 pub use refusing::{Fire, first_refusal};
 pub use seating::{seat_all, unseat_all};
-pub use working::{Drainer, join_all, soft_sides, start_all};
+pub use working::{Drainer, join_all, soft_sides, start_all, stop_all};

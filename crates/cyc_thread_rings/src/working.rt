@@ -1,6 +1,6 @@
 //! The draining workers of a system start, and are joined.
 
-ghost use Rattle.std.specs.Prelude.{◌≡◌, map, IfOk, IfErr};
+ghost use Rattle.std.specs.Prelude.{◌≡◌, ◌≤◌, [], map, length, vec_capacity, IfOk, IfErr, OnOk};
 ghost use Rattle.cyc_types.specs.declared.refusal.Refusal.TheVariants.{Memory};
 ghost use Rattle.cyc_types.specs.Levels.{as_level, at_level};
 ghost use Rattle.cyc_workers.specs.Draining.{HasDrained};
@@ -10,10 +10,10 @@ ghost use Rattle.cyc_thread_rings.specs.Working.{sides_of, both_sides, HasPromis
 use crate::levels::Levels;
 use crossbeam_utils::sync::Parker;
 use cyc_types::{Calls, Drain, Refusal, Soft};
-use cyc_workers::{Drained, Drains, Signals, SoftSide, drain};
+use cyc_workers::{Drained, Drains, Signals, SoftSide, Wakers, drain};
 use std::alloc::{AllocError, Global};
 use std::snapshot::Snapshot;
-use std::sync::Wait;
+use std::sync::{Arc, Wait};
 use std::thread::{PromisedHandle, Scope, Threads};
 
 /// A draining worker that has not started: where it sleeps, and what it is to drain.
@@ -23,14 +23,26 @@ pub struct Drainer<D, C> {
     pub side: SoftSide<D, C>,
 }
 
-/// Starts a draining worker. Refuses with Memory where no thread could be made.
+/// A draining worker that was started.
+type Worker<D, C> = PromisedHandle<Drained<D, C>, Drains<D, C>>;
+
+/// Tells the draining workers to stop, and wakes them all.
+pub fn stop_all<C: Calls>(signals: &Signals<C>, wakers: &[Arc<Wakers, Global>]) {
+    signals.stop();
+    for own in wakers {
+        own.wake();
+    }
+}
+
+/// Starts a draining worker. Where no thread could be made it tells all others to stop, wakes them, and refuses with Memory.
 fn start<'s, E, W: Wait + Sync + 's, D: Drain + Send + Drop + 's, C: Calls + Send + Drop + 's>(
     scope: &Scope<'s, E>,
     rt: &'s W,
     signals: &'s Signals<C>,
+    wakers: &[Arc<Wakers, Global>],
     level: Soft,
     drainer: Drainer<D, C>,
-) -> Result<PromisedHandle<Drained<D, C>, Drains<D, C>>, Refusal>
+) -> Result<Worker<D, C>, Refusal>
     ensures started { IfOk result (λ h. (h.promise.side.value ≡ drainer.side) × (h.promise.level ≡ level)) }
     ensures refused { IfErr result (λ e. e ≡ Memory) }
 {
@@ -41,16 +53,74 @@ fn start<'s, E, W: Wait + Sync + 's, D: Drain + Send + Drop + 's, C: Calls + Sen
     };
     match scope.spawn_with(promise, move || drain(rt, &parker, signals, level, side)) {
         Ok(child) => Ok(child),
-        Err(_) => Err(Refusal::Memory),
+        Err(_) => {
+            stop_all(signals, wakers);
+            Err(Refusal::Memory)
+        }
     }
 }
 
+/// Starts the two draining workers of a CPU, lock and low. Where one is refused, all were told to stop and woken, and no worker of
+/// this CPU is left.
+fn start_both<
+    's,
+    E,
+    W: Threads + Wait + Sync + 's,
+    D: Drain + Send + Drop + 's,
+    C: Calls + Send + Drop + 's,
+>(
+    scope: &Scope<'s, E>,
+    rt: &'s W,
+    signals: &'s Signals<C>,
+    wakers: &[Arc<Wakers, Global>],
+    of_cpu: Levels<Drainer<D, C>>,
+) -> Result<Levels<Worker<D, C>>, Refusal>
+    ensures started { IfOk result (HasPromised (sides_of of_cpu)) }
+    ensures refused { IfErr result (λ e. e ≡ Memory) }
+{
+    let Levels { lock, low } = of_cpu;
+    let lock = start(scope, rt, signals, wakers, Soft::Lock, lock)?;
+    match start(scope, rt, signals, wakers, Soft::Low, low) {
+        Ok(low) => Ok(Levels { lock, low }),
+        Err(why) => {
+            drop(join_one(rt, lock));
+            Err(why)
+        }
+    }
+}
+
+/// Starts the two draining workers of one CPU after another, until one is refused; all were told to stop and woken then.
+fn start_each<
+    's,
+    E,
+    W: Threads + Wait + Sync + 's,
+    D: Drain + Send + Drop + 's,
+    C: Calls + Send + Drop + 's,
+>(
+    scope: &Scope<'s, E>,
+    rt: &'s W,
+    signals: &'s Signals<C>,
+    wakers: &[Arc<Wakers, Global>],
+    drainers: Vec<Levels<Drainer<D, C>>>,
+    workers: &mut Vec<Levels<Worker<D, C>>>,
+) -> Result<(), Refusal>
+    requires none { workers.old.items ≡ [] }
+    requires room { length drainers.items ≤ vec_capacity workers.old }
+    ensures started { OnOk result (EachTwo HasPromised (map sides_of drainers.items) workers.new.items) }
+    ensures refused { IfErr result (λ e. e ≡ Memory) }
+{
+    for of_cpu in drainers {
+        workers.push_reserved(start_both(scope, rt, signals, wakers, of_cpu)?);
+    }
+    Ok(())
+}
+
 /// Starts the two draining workers of each CPU, lock and low. Refuses with Memory where no thread could be made or a growth of
-/// memory was refused; those that were started go on until they are told to stop.
+/// memory was refused; those that were started have been told to stop, woken and joined then.
 pub fn start_all<
     's,
     E,
-    W: Wait + Sync + 's,
+    W: Threads + Wait + Sync + 's,
     D: Drain + Send + Drop + 's,
     C: Calls + Send + Drop + 's,
 >(
@@ -58,50 +128,60 @@ pub fn start_all<
     rt: &'s W,
     alloc: Global,
     signals: &'s Signals<C>,
+    wakers: &[Arc<Wakers, Global>],
     drainers: Vec<Levels<Drainer<D, C>>>,
-) -> Result<Vec<Levels<PromisedHandle<Drained<D, C>, Drains<D, C>>>>, Refusal>
+) -> Result<Vec<Levels<Worker<D, C>>>, Refusal>
     ensures started { IfOk result (λ v. EachTwo HasPromised (map sides_of drainers.items) v.items) }
     ensures refused { IfErr result (λ e. e ≡ Memory) }
 {
-    let mut handles = Vec::with_capacity(alloc, drainers.len())?;
-    for of_cpu in drainers {
-        let Levels { lock, low } = of_cpu;
-        let lock = start(scope, rt, signals, Soft::Lock, lock)?;
-        let low = start(scope, rt, signals, Soft::Low, low)?;
-        handles.push(Levels { lock, low })?;
+    let mut workers = Vec::with_capacity(alloc, drainers.len())?;
+    match start_each(scope, rt, signals, wakers, drainers, &mut workers) {
+        Ok(()) => Ok(workers),
+        Err(why) => {
+            end_all(rt, workers);
+            Err(why)
+        }
     }
-    Ok(handles)
 }
 
 /// Waits for a draining worker.
 fn join_one<R: Threads, D: Drain + Drop, C: Calls + Drop>(
     rt: &R,
-    handle: PromisedHandle<Drained<D, C>, Drains<D, C>>,
+    worker: Worker<D, C>,
 ) -> Drained<D, C>
-    ensures { HasDrained D.step D.held D.made (at_level C.called (as_level handle.promise.level)) C.count C.may_refuse
-        handle.promise.side.value result }
+    ensures { HasDrained D.step D.held D.made (at_level C.called (as_level worker.promise.level)) C.count C.may_refuse
+        worker.promise.side.value result }
 {
-    handle.join(rt)
+    worker.join(rt)
+}
+
+/// Waits for the draining workers of each CPU, and drops what they left. All must have been told to stop, and woken.
+fn end_all<R: Threads, D: Drain + Drop, C: Calls + Drop>(
+    rt: &R,
+    workers: Vec<Levels<Worker<D, C>>>,
+) {
+    for of_cpu in workers {
+        drop(join_one(rt, of_cpu.lock));
+        drop(join_one(rt, of_cpu.low));
+    }
 }
 
 /// Waits for the draining workers of each CPU: what they left, by the numbers of the CPUs. All must have been told to stop, and
-/// woken. Its memory may be refused; the scope waits for the workers then.
+/// woken. There must be room for what they left, so that nothing is refused between two of them.
 pub fn join_all<R: Threads, D: Drain + Drop, C: Calls + Drop>(
     rt: &R,
-    alloc: Global,
-    handles: Vec<Levels<PromisedHandle<Drained<D, C>, Drains<D, C>>>>,
-) -> Result<Vec<Levels<Drained<D, C>>>, Refusal>
-    ensures kept { IfOk result
-        (λ v. EachTwo (HaveKept D.step D.held D.made C.Calls) handles.items v.items) }
-    ensures refused { IfErr result (λ e. e ≡ Memory) }
+    workers: Vec<Levels<Worker<D, C>>>,
+    drained: &mut Vec<Levels<Drained<D, C>>>,
+)
+    requires none { drained.old.items ≡ [] }
+    requires room { length workers.items ≤ vec_capacity drained.old }
+    ensures { EachTwo (HaveKept D.step D.held D.made C.Calls) workers.items drained.new.items }
 {
-    let mut drained = Vec::with_capacity(alloc, handles.len())?;
-    for of_cpu in handles {
+    for of_cpu in workers {
         let lock = join_one(rt, of_cpu.lock);
         let low = join_one(rt, of_cpu.low);
-        drained.push(Levels { lock, low })?;
+        drained.push_reserved(Levels { lock, low });
     }
-    Ok(drained)
 }
 
 /// The soft sides that the draining workers left. Its memory may be refused.

@@ -7,7 +7,9 @@ ghost use Rattle.cyc_thread_steps.specs.Calls.{IsReady};
 ghost use Rattle.cyc_threads.specs.Working.{refusal_of, Works};
 
 use cyc_script::Script;
-use cyc_thread_rings::{Drainer, Fire, Levels, first_refusal, join_all, soft_sides, start_all};
+use cyc_thread_rings::{
+    Drainer, Fire, Levels, first_refusal, join_all, soft_sides, start_all, stop_all,
+};
 use cyc_thread_steps::{Halt, Progress, take_steps};
 use cyc_types::{Calls, Drain, Raise, Refusal};
 use cyc_workers::{Drained, Signals, SoftSide, Wakers};
@@ -22,14 +24,6 @@ pub struct Worked<R: Raise, D, C> {
     pub lead: Progress<R, C>,
     /// By the numbers of the CPUs.
     pub soft: Vec<Levels<SoftSide<D, C>>>,
-}
-
-/// Tells the draining workers to stop, and wakes them all.
-fn stop_all<C: Calls>(signals: &Signals<C>, wakers: &[Arc<Wakers, Global>]) {
-    signals.stop();
-    for own in wakers {
-        own.wake();
-    }
 }
 
 /// The refusal that a run ends with: want of memory first, and else that of the smallest CPU, firing before lock before low.
@@ -78,7 +72,9 @@ fn all_left<R: Raise + Drop, D: Drop, C: Drop>(
     Ok(Worked { lead, soft })
 }
 
-/// Starts the draining workers, takes the steps, and tells the workers to stop once nothing is outstanding.
+/// Starts the draining workers, takes the steps, tells the workers to stop once nothing is outstanding, and waits for them. The
+/// memory for what they leave is taken before the first is started, so on each way out all that were started have been told to
+/// stop, woken and joined.
 fn work<
     's,
     E,
@@ -99,15 +95,15 @@ fn work<
     requires { IsReady lead }
     ensures { Works C.Calls R.step R.view D.step D.made script.now.steps.items lead (map sides_of drainers.items) result }
 {
-    let handles = start_all(scope, rt, alloc, signals, drainers)?;
+    let mut drained = Vec::with_capacity(alloc, drainers.len())?;
+    let workers = start_all(scope, rt, alloc, signals, wakers, drainers)?;
     let taken = take_steps(rt, alloc, lead, script, signals);
     stop_all(signals, wakers);
-    let drained = join_all(rt, alloc, handles)?;
+    join_all(rt, workers, &mut drained);
     all_left(alloc, taken, drained)
 }
 
-/// Starts the draining workers in a scope, and whatever the answer, has told them to stop and woken them before it waits for
-/// them.
+/// Starts the draining workers in a scope, which has none of them left to wait for: whatever `work` answers, it has joined them.
 fn work_in_scope<
     W: Threads + Wait + Sync,
     R: Raise + Send + Drop,
@@ -132,11 +128,7 @@ fn work_in_scope<
             requires { IsReady lead }
             ensures { Works C.Calls R.step R.view D.step D.made script.entry.now.steps.items lead
                 (map sides_of drainers.items) result }
-        {
-            let worked = work(scope, rt, alloc, signals, wakers, drainers, lead, script);
-            stop_all(signals, wakers);
-            worked
-        },
+        { work(scope, rt, alloc, signals, wakers, drainers, lead, script) },
     )
 }
 

@@ -1,14 +1,14 @@
-use Rattle.std.proofs.Common.{◌≡◌, ◌++◌, length}
+use Rattle.std.proofs.Common.{◌≡◌, ◌+◌, ◌≤◌, ◌++◌, length}
+use Rattle.std.specs.Prelude.{vec_len, vec_capacity}
 use Rattle.std.specs.Vec.Iter.{into_iter_items, into_iter_len}
-use Rattle.cyc_types.specs.Levels.{as_level, at_level}
-use Rattle.cyc_workers.specs.Draining.{HasDrained}
 use Rattle.cyc_thread_rings.specs.Laid.{EachTwo}
 use Rattle.cyc_thread_rings.specs.Working.{HaveKept}
 use Rattle.cyc_thread_rings.proofs.working.join_all.Given as goal
 
 abbrev pub invariant-loop-of_cpu : goal.invariant-loop-of_cpu
 invariant-loop-of_cpu g l = record {
-  all : l.yielded ++ into_iter_items l.of_cpu-iterator ≡ l.fn.handles.items;
+  all : l.yielded ++ into_iter_items l.of_cpu-iterator ≡ l.fn.workers.items;
   many : into_iter_len l.of_cpu-iterator ≡ length (into_iter_items l.of_cpu-iterator);
+  room : vec_len l.drained + into_iter_len l.of_cpu-iterator ≤ vec_capacity l.drained;
   kept : EachTwo (HaveKept g.D.Drain.step g.D.Drain.held g.D.Drain.made g.C.Calls) l.yielded l.drained.items;
 }
