@@ -4,7 +4,7 @@ use Rattle.std.proofs.Common.{arith}
 use Rattle.std.proofs.lemmas.Option.{slice_get_within, slice_get-get_or}
 use mathlib.Core.Logic.{dite}
 use native.Mathlib.Decide.{ℕ_discrete}
-use Rattle.cyc_types.specs.Firing.{FiringView, FiringCall}
+use Rattle.cyc_types.specs.declared.Raise.{Ghosts as Raise}
 use Rattle.cyc_types.specs.declared.level.Level.{Level}
 use Rattle.cyc_cpus.specs.Cpu.{CpuView, HasNoCyclic, cyclic_with}
 use Rattle.cyc_places.specs.declared.record.Placement.TheVariants.{On}
@@ -44,14 +44,14 @@ below_next s id a next k d low = let l = a.given k (get_or s.records k d) (slice
     omega (arith, l, next)
 
 -- what entering a CPU does
-pub entered : {R : Type 0} (step : R → FiringCall → R → Type 0) (view : R → FiringView) (n id : ℕ) (level : Level)
+pub entered : {R : Type 0} (firing : Raise R) (n id : ℕ) (level : Level)
     (interval moment : ℕ) (v w : CpusView R)
-    → Works step view (entering n id level interval moment) v w → SameBut id v w × (has n id w ≡ true)
+    → Works firing (entering n id level interval moment) v w → SameBut id v w × (has n id w ≡ true)
     × ((m : ℕ) → m ≢ n → ids_on m w ≡ ids_on m v)
-entered step view n id level interval moment v w (u, widens, (t, places, e)) =
-    let same = same_changed n _ v u widens (same_widened step view widens.before widens.after 1 widens.change.1) in
+entered firing n id level interval moment v w (u, widens, (t, places, e)) =
+    let same = same_changed n _ v u widens (same_widened firing widens.before widens.after 1 widens.change.1) in
     let (but, here, elsewhere) = more_changed n id _ u t places
-    (placed step view places.before places.after (cyclic_with id level interval moment 0 0) places.change.1) in (
+    (placed firing places.before places.after (cyclic_with id level interval moment 0 0) places.change.1) in (
       subst (λ x. SameBut id v x) e (but_then id v u t (but_same id v u same) but),
       subst (λ x. has n id x ≡ true) e here,
       λ m ne. ap (λ x. ids_on m x) (sym e) ∙ elsewhere m ne ∙ same.ids m,

@@ -1,7 +1,8 @@
 -- Calls that neither begin nor end a removal.
 use Rattle.std.proofs.Common.{◌≡◌, ◌≢◌, ℕ, inl, inr, true, false, Some, None, Ok, Err, List, [], ◌∷◌, ◌++◌, refl, sym, ap, ◌∙◌}
 use Rattle.std.specs.Option.{option_and_then}
-use Rattle.cyc_types.specs.Firing.{FiringView, FiringCall}
+use Rattle.cyc_types.specs.declared.Raise.{Ghosts as Raise}
+use Rattle.cyc_types.specs.Firing.{FiringView}
 use Rattle.cyc_cpus.specs.Cpu.{CpuView}
 use Rattle.cyc_cpus.specs.Laws.{IsLawful}
 use Rattle.cyc_cpus.specs.Calls.{CpuCall, Changes, Fire, SoftInterrupt, Add, Place, Reprogram, AskPending, AskTotals, AskRoom}
@@ -40,8 +41,8 @@ pub steady_on : (xs ys : List CallOn) → AreSteady xs → AreSteady ys → AreS
 steady_on [] ys h k = k
 steady_on (x ∷ xs) ys h k = (h.0, steady_on xs ys h.1 k)
 
-module _ {R : Type 0} (step : R → FiringCall → R → Type 0) (view : R → FiringView) where
-  removal_kept : (x y : CpuView R) (call : CpuCall) → IsSteady call → Changes step view x call y → y.removal ≡ x.removal
+module _ {R : Type 0} (firing : Raise R) where
+  removal_kept : (x y : CpuView R) (call : CpuCall) → IsSteady call → Changes firing x call y → y.removal ≡ x.removal
   removal_kept x y (Place id level interval moment carried) h d = d.1.kept.removal
   removal_kept x y (Reprogram id moment (Ok done)) h (k, c, is, named, still, e) = ap (λ (v : CpuView R). v.removal) e
   removal_kept x y (Reprogram id moment (Err e)) h d = ap (λ (v : CpuView R). v.removal) d.2
@@ -64,14 +65,14 @@ module _ {R : Type 0} (step : R → FiringCall → R → Type 0) (view : R → F
   removal_kept x y (Fire now answer) h d = absurd h
   removal_kept x y (SoftInterrupt level budget answer) h d = absurd h
 
-  removals_done : (v w : CpusView R) (c : CallOn) → IsSteady c.call → DoesAt step view v c w → (n : ℕ)
+  removals_done : (v w : CpusView R) (c : CallOn) → IsSteady c.call → DoesAt firing v c w → (n : ℕ)
       → removal_on n w ≡ removal_on n v
   removals_done v w c h d n = ap (λ u. removal_on n u) d.rest
       ∙ kept_at v c.cpu d.before d.after d.here (λ o. option_and_then (λ cpu. cpu.removal) o)
       (removal_kept d.before d.after c.call h d.change) n
 
   -- over such calls each CPU has the removal open that it had
-  pub removals_kept : (v w : CpusView R) (way : List CallOn) → AreSteady way → Works step view way v w → (n : ℕ)
+  pub removals_kept : (v w : CpusView R) (way : List CallOn) → AreSteady way → Works firing way v w → (n : ℕ)
       → removal_on n w ≡ removal_on n v
   removals_kept v w [] h last n = ap (λ u. removal_on n u) (sym last)
   removals_kept v w (c ∷ way) h (u, does, rest) n = removals_kept u w way h.1 rest n ∙ removals_done v u c h.0 does n
@@ -96,9 +97,9 @@ no_removal {R} v id none n e = by (slice_get v.cpus n) refl e
     by (Some cpu) at h = not_leaving v id none n cpu at h
 
 -- a cyclic that went to a CPU, or stayed there
-pub goes_removals : {R : Type 0} (step : R → FiringCall → R → Type 0) (view : R → FiringView) (id home target : ℕ)
+pub goes_removals : {R : Type 0} (firing : Raise R) (id home target : ℕ)
     (v w : CpusView R)
-    → GoesTo step view id home target (Ok tt) v w → (n : ℕ) → removal_on n w ≡ removal_on n v
-goes_removals step view id home target v w (inl (at, is, same)) n = ap (λ u. removal_on n u) same
-goes_removals step view id home target v w (inr (ne, (taken, works))) n =
-    removals_kept step view v w (moving id home target taken) (tt, (tt, (tt, (tt, (tt, tt))))) works n
+    → GoesTo firing id home target (Ok tt) v w → (n : ℕ) → removal_on n w ≡ removal_on n v
+goes_removals firing id home target v w (inl (at, is, same)) n = ap (λ u. removal_on n u) same
+goes_removals firing id home target v w (inr (ne, (taken, works))) n =
+    removals_kept firing v w (moving id home target taken) (tt, (tt, (tt, (tt, (tt, tt))))) works n

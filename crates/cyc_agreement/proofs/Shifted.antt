@@ -6,6 +6,7 @@ use Rattle.std.proofs.lemmas.List.{length-map, get_or-map}
 use Rattle.std.proofs.lemmas.List.Edits.{get_or-remove_below, get_or-remove_above, length-remove}
 use mathlib.Core.Logic.{dite}
 use native.Mathlib.Decide.{ℕ_discrete}
+use Rattle.cyc_types.specs.declared.Raise.{Ghosts as Raise}
 use Rattle.cyc_types.specs.Firing.{FiringView, FiringCall}
 use Rattle.cyc_types.specs.declared.refusal.Refusal.{Refusal}
 use Rattle.cyc_cpus.specs.Rows.{Cyclic}
@@ -45,10 +46,10 @@ map_remove f (x ∷ xs) zero = refl
 map_remove f (x ∷ xs) (suc k) = ap (λ l. f x ∷ l) (map_remove f xs k)
 
 -- a cyclic that left is not among the others
-pub less_left : {R : Type 0} (step : R → FiringCall → R → Type 0) (view : R → FiringView) (x y : CpuView R) (id : ℕ)
+pub less_left : {R : Type 0} (firing : Raise R) (x y : CpuView R) (id : ℕ)
     (way : List FiringCall) (c : Cyclic)
-    → Rise (ids_of x) → Leaves step view id way c x y → Who.OneLess id x y
-less_left step view x y id way c rise l = record {
+    → Rise (ids_of x) → Leaves firing id way c x y → Who.OneLess id x y
+less_left firing x y id way c rise l = record {
   was = any_at (λ own. own == id) (ids_of x) l.place 0 low (true_eq _ id at);
   gone = ap (λ ids. among id ids) ids ∙ any_none (λ own. own == id) (remove (ids_of x) l.place)
       (λ j d less. false_ne _ id (other j d less));
@@ -91,21 +92,21 @@ pub record Moved {R : Type 0} (id source target : ℕ) (v w : CpusView R) : Type
   pub gone : has source id w ≡ false
   pub elsewhere : (m : ℕ) → m ≢ source → m ≢ target → has m id w ≡ has m id v
 
-module _ {R : Type 0} (step : R → FiringCall → R → Type 0) (view : R → FiringView) (id source target : ℕ) (v w : CpusView R)
+module _ {R : Type 0} (firing : Raise R) (id source target : ℕ) (v w : CpusView R)
     (apart : target ≢ source) (rise : Rise (ids_on source v)) where
-  pub moved : (taken : Taken) → Works step view (moving id source target taken) v w → Moved id source target v w
+  pub moved : (taken : Taken) → Works firing (moving id source target taken) v w → Moved id source target v w
   moved taken (a, asks, (b, reserves, (d, takes, (e, widens, (f, places, last))))) =
       let same = Who.same_then v a b (Who.same_changed source _ v a asks
-      (Who.same_asked step view asks.before asks.after id 0 asks.change.0))
-      (Who.same_changed target _ a b reserves (Who.same_reserve step view reserves.before reserves.after 1
+      (Who.same_asked firing asks.before asks.after id 0 asks.change.0))
+      (Who.same_changed target _ a b reserves (Who.same_reserve firing reserves.before reserves.after 1
       (Ok tt) reserves.change)) in
       let (c, counts, is, polled, leaves) = takes.change.1 in
       let up = subst Rise (sym (same.ids source) ∙ Who.ids_there b source takes.before takes.after takes.here) rise in
       let (but1, gone1, beside1) = Who.less_changed source id _ b d takes takes.change.0
-      (less_left step view takes.before takes.after id _ c up leaves) in
-      let wide = Who.same_changed target _ d e widens (Who.same_widened step view widens.before widens.after 1 widens.change.1) in
+      (less_left firing takes.before takes.after id _ c up leaves) in
+      let wide = Who.same_changed target _ d e widens (Who.same_widened firing widens.before widens.after 1 widens.change.1) in
       let (but2, there2, beside2) = Who.more_changed target id _ e f places
-      (Who.placed step view places.before places.after
+      (Who.placed firing places.before places.after
       (cyclic_with id taken.level taken.interval taken.moment taken.sent.sent taken.sent.lost) places.change.1) in
       subst (λ u. Moved id source target v u) last (record {
         but = Who.but_then id v b f (Who.but_same id v b same)
@@ -116,15 +117,15 @@ module _ {R : Type 0} (step : R → FiringCall → R → Type 0) (view : R → F
       })
 
   -- where it was refused, all cyclics are where they were
-  pub unmoved : (e : Refusal) → WhyNotShifted step view id source target e v w → Who.SameWho v w
+  pub unmoved : (e : Refusal) → WhyNotShifted firing id source target e v w → Who.SameWho v w
   unmoved e (inl (removed, open_is, is, same)) = subst (λ u. Who.SameWho v u) (sym same) (Who.same_none v)
   unmoved e (inr (inl (still, n, some, is, (a, asks, last)))) =
       subst (λ u. Who.SameWho v u) last (Who.same_changed source _ v a asks
-      (Who.same_asked step view asks.before asks.after id n asks.change.0))
+      (Who.same_asked firing asks.before asks.after id n asks.change.0))
   unmoved e (inr (inr (still, (a, asks, (b, reserves, last))))) = subst (λ u. Who.SameWho v u) last
       (Who.same_then v a b (Who.same_changed source _ v a asks
-      (Who.same_asked step view asks.before asks.after id 0 asks.change.0))
-      (Who.same_changed target _ a b reserves (Who.same_reserve step view reserves.before reserves.after 1
+      (Who.same_asked firing asks.before asks.after id 0 asks.change.0))
+      (Who.same_changed target _ a b reserves (Who.same_reserve firing reserves.before reserves.after 1
       (Err e) reserves.change)))
 
 -- all CPUs have one bound on expirations
@@ -139,25 +140,25 @@ pub rise_on : {R : Type 0} (view : R → FiringView) (v : CpusView R) (n : ℕ) 
 rise_on view v n cpu at law = subst Rise (sym (Who.ids_there v n cpu cpu at)) (ids_rise cpu.cyclics law.rising)
 
 -- a cyclic that went to a CPU is there and nowhere else
-pub went : {R : Type 0} (step : R → FiringCall → R → Type 0) (view : R → FiringView) (id home target : ℕ) (v w : CpusView R)
+pub went : {R : Type 0} (firing : Raise R) (id home target : ℕ) (v w : CpusView R)
     → Rise (ids_on home v) → has home id v ≡ true
-    → ((m : ℕ) → m ≢ home → has m id v ≡ false) → GoesTo step view id home target (Ok tt) v w
+    → ((m : ℕ) → m ≢ home → has m id v ≡ false) → GoesTo firing id home target (Ok tt) v w
     → Who.SameBut id v w × (has target id w ≡ true) × ((m : ℕ) → m ≢ target → has m id w ≡ false)
-went step view id home target v w rise here only (inl (at, is, same)) = (
+went firing id home target v w rise here only (inl (at, is, same)) = (
   subst (λ u. Who.SameBut id v u) (sym same) (Who.but_same id v v (Who.same_none v)),
   ap (λ u. has target id u) same ∙ (ap (λ n. has n id v) (sym at) ∙ here),
   λ m ne. ap (λ u. has m id u) same ∙ only m (λ e. ne (e ∙ at)),
 )
-went step view id home target v w rise here only (inr (ne, (taken, works))) =
-    let s = moved step view id home target v w (λ e. ne (sym e)) rise taken works in (
+went firing id home target v w rise here only (inr (ne, (taken, works))) =
+    let s = moved firing id home target v w (λ e. ne (sym e)) rise taken works in (
       s.but,
       s.there,
       λ m nt. dite (ℕ_discrete m home) (λ e. ap (λ n. has n id w) e ∙ s.gone) (λ nh. s.elsewhere m nh nt ∙ only m nh),
     )
 
 -- one that was refused is where it was
-pub stayed : {R : Type 0} (step : R → FiringCall → R → Type 0) (view : R → FiringView) (id home target : ℕ) (v w : CpusView R)
+pub stayed : {R : Type 0} (firing : Raise R) (id home target : ℕ) (v w : CpusView R)
     (e : Refusal) → Rise (ids_on home v)
-    → GoesTo step view id home target (Err e) v w → Who.SameWho v w
-stayed step view id home target v w e rise (inl (at, is, same)) = subst (λ u. Who.SameWho v u) (sym same) (Who.same_none v)
-stayed step view id home target v w e rise (inr (ne, why)) = unmoved step view id home target v w (λ q. ne (sym q)) rise e why
+    → GoesTo firing id home target (Err e) v w → Who.SameWho v w
+stayed firing id home target v w e rise (inl (at, is, same)) = subst (λ u. Who.SameWho v u) (sym same) (Who.same_none v)
+stayed firing id home target v w e rise (inr (ne, why)) = unmoved firing id home target v w (λ q. ne (sym q)) rise e why

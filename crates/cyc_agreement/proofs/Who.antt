@@ -9,7 +9,7 @@ use Rattle.std.proofs.lemmas.List.{length-set, map-set, get_or-map, set-get_or}
 use mathlib.Core.Logic.{dite}
 use native.Mathlib.Decide.{ℕ_discrete}
 use Rattle.cyc_types.specs.declared.Calls.{Ghosts as Calls}
-use Rattle.cyc_types.specs.Firing.{FiringView, FiringCall}
+use Rattle.cyc_types.specs.declared.Raise.{Ghosts as Raise}
 use Rattle.cyc_types.specs.declared.refusal.Refusal.{Refusal}
 use Rattle.cyc_cpus.specs.Rows.{Cyclic, timers}
 use Rattle.cyc_cpus.specs.Cpu.{CpuView, IsCyclic, with_moment, Asks, Looked, Reserves, Widens, Places}
@@ -56,17 +56,17 @@ pub record OneLess {R : Type 0} (id : ℕ) (x y : CpuView R) : Type 0 where
 abbrev pub id_in : Cyclic → ℕ
 id_in c = c.timer.id
 
-module _ {R : Type 0} (step : R → FiringCall → R → Type 0) (view : R → FiringView) (x y : CpuView R) where
-  pub same_asked : (id n : ℕ) → Asks step view id n x y → SameIds x y
+module _ {R : Type 0} (firing : Raise R) (x y : CpuView R) where
+  pub same_asked : (id n : ℕ) → Asks firing id n x y → SameIds x y
   same_asked id n a = record { ids = ap (λ cs. map id_in cs) a.cyclics; removal = a.kept.removal; most = a.kept.most }
 
-  pub same_looked : Looked step view x y → SameIds x y
+  pub same_looked : Looked firing x y → SameIds x y
   same_looked a = record { ids = ap (λ cs. map id_in cs) a.cyclics; removal = a.kept.removal; most = a.kept.most }
 
-  pub same_reserved : (more : ℕ) → Reserves step view more x y → SameIds x y
+  pub same_reserved : (more : ℕ) → Reserves firing more x y → SameIds x y
   same_reserved more a = record { ids = ap (λ cs. map id_in cs) a.cyclics; removal = a.removal; most = a.most }
 
-  pub same_widened : (more : ℕ) → Widens step view more x y → SameIds x y
+  pub same_widened : (more : ℕ) → Widens firing more x y → SameIds x y
   same_widened more a = record { ids = ap (λ cs. map id_in cs) a.cyclics; removal = a.removal; most = a.most }
 
   more_here : (b c : Bool) → b ≡ true → (b || c) ≡ true
@@ -77,7 +77,7 @@ module _ {R : Type 0} (step : R → FiringCall → R → Type 0) (view : R → F
   more_other true c e = absurd (false_true (sym e))
   more_other false c e = refl
 
-  pub placed : (c : Cyclic) → Places step view c x y → OneMore c.timer.id x y
+  pub placed : (c : Cyclic) → Places firing c x y → OneMore c.timer.id x y
   placed c a = record {
     here = grown c.timer.id ∙ more_here (c.timer.id == c.timer.id) _ (true_eq c.timer.id c.timer.id refl);
     others = λ q ne. grown q ∙ more_other (c.timer.id == q) _ (false_ne c.timer.id q (λ e. ne (sym e)));
@@ -91,10 +91,10 @@ module _ {R : Type 0} (step : R → FiringCall → R → Type 0) (view : R → F
           ∙ any_insert (λ (e : Cyclic). e.timer.id == q) x.cyclics a.place c
           ∙ ap (λ b. (c.timer.id == q) || b) (sym (any_map id_in (λ own. own == q) x.cyclics))
 
-module _ {R : Type 0} (step : R → FiringCall → R → Type 0) (view : R → FiringView) (x y : CpuView R) where
-  pub same_reserve : (more : ℕ) (answer : Result (Unit {0}) Refusal) → Changes step view x (Reserve more answer) y → SameIds x y
-  same_reserve more (Ok done) d = same_reserved step view x y more d.0
-  same_reserve more (Err e) d = same_looked step view x y d.0
+module _ {R : Type 0} (firing : Raise R) (x y : CpuView R) where
+  pub same_reserve : (more : ℕ) (answer : Result (Unit {0}) Refusal) → Changes firing x (Reserve more answer) y → SameIds x y
+  same_reserve more (Ok done) d = same_reserved firing x y more d.0
+  same_reserve more (Err e) d = same_looked firing x y d.0
 
 -- a cyclic that stays where it is with another moment
 pub ids_set : (cs : List Cyclic) (k m : ℕ) (c : Cyclic) → IsCyclic cs k c
@@ -103,9 +103,9 @@ ids_set cs k m c is = map-set id_in cs k (with_moment m c)
     ∙ ap (λ n. slice_set (map id_in cs) k n) (ap id_in (sym is.1) ∙ sym (get_or-map id_in cs k c c.timer.id is.0))
     ∙ set-get_or (map id_in cs) k c.timer.id
 
-pub same_reprogram : {R : Type 0} (step : R → FiringCall → R → Type 0) (view : R → FiringView) (x y : CpuView R) (id moment : ℕ)
-    → Changes step view x (Reprogram id moment (Ok tt)) y → SameIds x y
-same_reprogram step view x y id moment (k, c, is, named, still, e) = record {
+pub same_reprogram : {R : Type 0} (firing : Raise R) (x y : CpuView R) (id moment : ℕ)
+    → Changes firing x (Reprogram id moment (Ok tt)) y → SameIds x y
+same_reprogram firing x y id moment (k, c, is, named, still, e) = record {
   ids = ap ids_of e ∙ ids_set x.cyclics k moment c is;
   removal = ap (λ (v : CpuView _). v.removal) e;
   most = ap (λ (v : CpuView _). v.most) e;
@@ -127,11 +127,11 @@ ids_fired : (now : ℕ) (made : List Expiration) (cs cs' : List Cyclic) → time
 ids_fired now made cs cs' e = ids_timers cs' ∙ ap (λ ts. map (λ (t : Timer). t.id) ts) e ∙ ids_after now made (timers cs)
     ∙ sym (ids_timers cs)
 
-module _ {C R : Type 0} (handler : Calls C) (step : R → FiringCall → R → Type 0)
-    (view : R → FiringView) (interrupts : Soft → ℕ → Result Ran SoftRefused → Running C R → Running C R → Type 0)
+module _ {C R : Type 0} (handler : Calls C) (firing : Raise R)
+    (interrupts : Soft → ℕ → Result Ran SoftRefused → Running C R → Running C R → Type 0)
     (s t : Running C R) where
   pub same_fired : (now : ℕ) (answer : Result Fired FireRefused)
-      → Does handler step view interrupts s (Fire now answer) t → SameIds s.cpu t.cpu
+      → Does handler firing interrupts s (Fire now answer) t → SameIds s.cpu t.cpu
   same_fired now (Ok r) (nn, same, expired, next, makes) = record {
     ids = ids_fired now (expirations now (timers s.cpu.cyclics)) s.cpu.cyclics t.cpu.cyclics makes.timers_are;
     removal = same.removal;

@@ -1,6 +1,6 @@
 -- How a new cyclic comes to a CPU.
 use Rattle.std.specs.Prelude.{◌≡◌, ℕ, ◌+◌, false, List, [], ◌∷◌, ◌++◌, ◌⊎◌, Some, None, Result, Ok, Err}
-use Rattle.cyc_types.specs.Firing.{FiringView, FiringCall}
+use Rattle.cyc_types.specs.declared.Raise.{Ghosts as Raise}
 use Rattle.cyc_types.specs.Series.{first}
 use Rattle.cyc_types.specs.declared.level.Level.{Level}
 use Rattle.cyc_types.specs.declared.moment.When.{When}
@@ -14,9 +14,9 @@ use Rattle.cyc_cpus.specs.Destination.{destination}
 use Rattle.cyc_agreement.specs.System.{SystemView}
 
 -- this was done on the CPUs, and nothing else changed
-abbrev pub OnlyWorks : {R : Type 0} → (R → FiringCall → R → Type 0) → (R → FiringView)
+abbrev pub OnlyWorks : {R : Type 0} → Raise R
     → List CallOn → SystemView R → SystemView R → Type 0
-OnlyWorks step view way s t = Works step view way s.cpus t.cpus × (t.records ≡ s.records) × (t.last ≡ s.last)
+OnlyWorks firing way s t = Works firing way s.cpus t.cpus × (t.records ≡ s.records) × (t.last ≡ s.last)
 
 -- a CPU grows where it must, and takes a cyclic that has not expired yet (cyclic_add_here)
 abbrev pub entering : ℕ → ℕ → Level → ℕ → ℕ → List CallOn
@@ -24,12 +24,12 @@ entering n id level interval moment = on n (Widen 1) ∷ on n (Place id level in
 
 -- A new cyclic is on the CPU that has the fewest, and has the next id: its memory was taken before the CPU was switched. Or
 -- there is no room on that CPU, or no memory there or for the record; another CPU is not tried (cyclic_add).
-abbrev pub Adds : {R : Type 0} → (R → FiringCall → R → Type 0) → (R → FiringView)
+abbrev pub Adds : {R : Type 0} → Raise R
     → Level → When → ℕ → Result ℕ Refusal → SystemView R → SystemView R → Type 0
-Adds step view level when now (Ok id) s t = (d : ℕ) × (destination None s.cpus ≡ Some d) × (id ≡ s.last + 1)
-    × Works step view (on d (Reserve 1 (Ok tt))
+Adds firing level when now (Ok id) s t = (d : ℕ) × (destination None s.cpus ≡ Some d) × (id ≡ s.last + 1)
+    × Works firing (on d (Reserve 1 (Ok tt))
     ∷ entering d id level when.interval (first when.start when.interval now)) s.cpus t.cpus
     × (t.records ≡ s.records ++ new_record id level (On d false) ∷ []) × (t.last ≡ id)
-Adds step view level when now (Err e) s t = (d : ℕ) × (destination None s.cpus ≡ Some d)
-    × (OnlyWorks step view (on d (Reserve 1 (Err e)) ∷ []) s t
-    ⊎ ((e ≡ Memory) × OnlyWorks step view (on d (Reserve 1 (Ok tt)) ∷ []) s t))
+Adds firing level when now (Err e) s t = (d : ℕ) × (destination None s.cpus ≡ Some d)
+    × (OnlyWorks firing (on d (Reserve 1 (Err e)) ∷ []) s t
+    ⊎ ((e ≡ Memory) × OnlyWorks firing (on d (Reserve 1 (Ok tt)) ∷ []) s t))

@@ -1,6 +1,6 @@
 -- How a cyclic is bound to a CPU.
 use Rattle.std.specs.Prelude.{◌≡◌, ◌≢◌, ℕ, ◌⊎◌, Bool, true, false, slice_set, Result, Ok, Err}
-use Rattle.cyc_types.specs.Firing.{FiringView, FiringCall}
+use Rattle.cyc_types.specs.declared.Raise.{Ghosts as Raise}
 use Rattle.cyc_types.specs.declared.refusal.Refusal.{Refusal}
 use Rattle.cyc_places.specs.declared.record.Placement.{Placement}
 use Rattle.cyc_places.specs.declared.record.Placement.TheVariants.{On}
@@ -27,15 +27,15 @@ abbrev pub Unbinds : {R : Type 0} → ℕ → Result (Unit {0}) Refusal → Syst
 Unbinds id answer s t = (answer ≡ Ok tt) × (n : ℕ) × HasHome id n s × (t.cpus ≡ s.cpus) × Records id (On n false) s t
 
 -- the cyclic goes to this CPU, where it is not there
-abbrev pub GoesTo : {R : Type 0} → (R → FiringCall → R → Type 0) → (R → FiringView)
+abbrev pub GoesTo : {R : Type 0} → Raise R
     → ℕ → ℕ → ℕ → Result (Unit {0}) Refusal → CpusView R → CpusView R → Type 0
-GoesTo step view id home target answer v w =
-    ((home ≡ target) × (answer ≡ Ok tt) × (w ≡ v)) ⊎ ((home ≢ target) × Shifts step view id home target answer v w)
+GoesTo firing id home target answer v w =
+    ((home ≡ target) × (answer ≡ Ok tt) × (w ≡ v)) ⊎ ((home ≢ target) × Shifts firing id home target answer v w)
 
 -- The cyclic is bound to this CPU. Where it is not there it moves there first, or it is not bound (cyclic_bind_cpu).
-abbrev pub Binds : {R : Type 0} → (R → FiringCall → R → Type 0) → (R → FiringView)
+abbrev pub Binds : {R : Type 0} → Raise R
     → ℕ → ℕ → Result (Unit {0}) Refusal → SystemView R → SystemView R → Type 0
-Binds step view id target (Ok done) s t = (home : ℕ) × HasHome id home s
-    × GoesTo step view id home target (Ok tt) s.cpus t.cpus × Records id (On target true) s t
-Binds step view id target (Err e) s t = (home : ℕ) × HasHome id home s
-    × GoesTo step view id home target (Err e) s.cpus t.cpus × (t.records ≡ s.records) × (t.last ≡ s.last)
+Binds firing id target (Ok done) s t = (home : ℕ) × HasHome id home s
+    × GoesTo firing id home target (Ok tt) s.cpus t.cpus × Records id (On target true) s t
+Binds firing id target (Err e) s t = (home : ℕ) × HasHome id home s
+    × GoesTo firing id home target (Err e) s.cpus t.cpus × (t.records ≡ s.records) × (t.last ≡ s.last)

@@ -4,7 +4,7 @@ use Rattle.std.proofs.Common.{Option, Some, None, Result, List, [], ◌∷◌, �
 use Rattle.std.specs.Prelude.{◌&&◌, is_ok}
 use Rattle.std.specs.Option.{option_map_or}
 use Rattle.cyc_types.specs.declared.Calls.{Ghosts as Calls}
-use Rattle.cyc_types.specs.Firing.{FiringView, FiringCall}
+use Rattle.cyc_types.specs.declared.Raise.{Ghosts as Raise}
 use Rattle.cyc_types.specs.Limits.{cyclics as most_cyclics}
 use Rattle.cyc_types.specs.declared.refusal.Refusal.{Refusal}
 use Rattle.cyc_script.specs.declared.step.Step.{Step}
@@ -69,61 +69,61 @@ pub more_names : (k : ℕ) (xs : List Step) → k ≤ names_after_all k xs
 more_names k [] = omega arith
 more_names k (x ∷ xs) = let a = one_more k x in let b = more_names (names_after k x) xs in omega (arith, a, b)
 
-module _ {R : Type 0} (step : R → FiringCall → R → Type 0) (view : R → FiringView) (cpus moment : ℕ) (s t : SystemView R)
-    (sound : IsSound view s) (still : AllStill s.cpus) (up : s.cpus.online ≡ replicate cpus true)
+module _ {R : Type 0} (firing : Raise R) (cpus moment : ℕ) (s t : SystemView R)
+    (sound : IsSound firing.view s) (still : AllStill s.cpus) (up : s.cpus.online ≡ replicate cpus true)
     (long : length s.cpus.cpus ≡ cpus) where
   met_one : (cpu : Option ℕ) (id : ℕ) (answer : Result (Unit {0}) Refusal) → IsThere id false s
-      → Changes step view s (reprograms cpu id moment answer) t
+      → Changes firing s (reprograms cpu id moment answer) t
       → is_done (Make (reprograms cpu id moment answer)) ≡ may_reprogram cpus OnOne cpu
-  met_one None id answer there did = single_none step view cpus s t sound still up long id moment answer there did
-  met_one (Some n) id answer there did = single_on step view cpus s t sound still up long id moment answer n there did
+  met_one None id answer there did = single_none firing cpus s t sound still up long id moment answer there did
+  met_one (Some n) id answer there did = single_on firing cpus s t sound still up long id moment answer n there did
 
   met_all : (cpu : Option ℕ) (id : ℕ) (answer : Result (Unit {0}) Refusal) → IsThere id true s
-      → Changes step view s (reprograms cpu id moment answer) t
+      → Changes firing s (reprograms cpu id moment answer) t
       → is_done (Make (reprograms cpu id moment answer)) ≡ may_reprogram cpus OnAll cpu
-  met_all None id answer there did = every_none step view cpus s t sound still up long id moment answer there did
-  met_all (Some n) id answer there did = every_on step view cpus s t sound still up long id moment answer n there did
+  met_all None id answer there did = every_none firing cpus s t sound still up long id moment answer there did
+  met_all (Some n) id answer there did = every_on firing cpus s t sound still up long id moment answer n there did
 
-module _ {C R : Type 0} (step : R → FiringCall → R → Type 0) (view : R → FiringView) (cpus names given : ℕ)
+module _ {C R : Type 0} (firing : Raise R) (cpus names given : ℕ)
     (has : ℕ → Standing) where
   -- a reprogram is accepted as the closed form says, where the name has this
   reprogram_met : (name moment : ℕ) (cpu : Option ℕ) (st : Standing) (named : Named) (s t : Progress R C)
       (d : WithId (id_of named) (λ id. (answer : Result (Unit {0}) Refusal)
-      × CallsFor step view name (reprograms cpu id moment answer) s t) (t ≡ s))
-      → Is st named s.side.system → is_leaving named ≡ false → Fits step view cpus names given has s → HasWaited step view s
+      × CallsFor firing name (reprograms cpu id moment answer) s t) (t ≡ s))
+      → Is st named s.side.system → is_leaving named ≡ false → Fits firing cpus names given has s → HasWaited firing s
       → AllStill s.side.system.cpus
-      → option_map_or is_done (call_with step view (Unit {0}) (λ id answer. reprograms cpu id moment answer) name s t
+      → option_map_or is_done (call_with firing (Unit {0}) (λ id answer. reprograms cpu id moment answer) name s t
       (id_of named) d) false ≡ may_reprogram cpus st cpu
   reprogram_met name moment cpu Absent Nothing s t d is stays h w still = refl
   reprogram_met name moment cpu Absent (Removed receipt) s t d is stays h w still = refl
   reprogram_met name moment cpu Absent (Leaving id) s t d is stays h w still = absurd (let odd : true ≡ false = stays in cc)
   reprogram_met name moment cpu Absent (Cyclic id) s t d is stays h w still = absurd is
   reprogram_met name moment cpu OnOne (Cyclic id) s t (answer, c) is stays h w still =
-      met_one step view cpus moment s.side.system t.side.system w.sound still h.online h.many cpu id answer is c.did
+      met_one firing cpus moment s.side.system t.side.system w.sound still h.online h.many cpu id answer is c.did
   reprogram_met name moment cpu OnOne Nothing s t d is stays h w still = absurd is
   reprogram_met name moment cpu OnOne (Leaving id) s t d is stays h w still = absurd is
   reprogram_met name moment cpu OnOne (Removed receipt) s t d is stays h w still = absurd is
   reprogram_met name moment cpu OnAll (Cyclic id) s t (answer, c) is stays h w still =
-      met_all step view cpus moment s.side.system t.side.system w.sound still h.online h.many cpu id answer is c.did
+      met_all firing cpus moment s.side.system t.side.system w.sound still h.online h.many cpu id answer is c.did
   reprogram_met name moment cpu OnAll Nothing s t d is stays h w still = absurd is
   reprogram_met name moment cpu OnAll (Leaving id) s t d is stays h w still = absurd is
   reprogram_met name moment cpu OnAll (Removed receipt) s t d is stays h w still = absurd is
 
   -- a step that changes nothing of what the names have
-  same_has : (b : Bool) (t : Progress R C) → Fits step view cpus names given has t
-      → Fits step view cpus names given (cond b has has) t
+  same_has : (b : Bool) (t : Progress R C) → Fits firing cpus names given has t
+      → Fits firing cpus names given (cond b has has) t
   same_has true t h = h
   same_has false t h = h
 
   -- a CPU that is online can't come back
   pub back_stays : (n : ℕ) (answer : Result (Unit {0}) Refusal) (s t : Progress R C)
-      → CallsFor step view 0 (Online n s.clock answer) s t → Fits step view cpus names given has s
-      → (is_ok answer ≡ false) × Stays step view cpus names given has s t
+      → CallsFor firing 0 (Online n s.clock answer) s t → Fits firing cpus names given has s
+      → (is_ok answer ≡ false) × Stays firing cpus names given has s t
   back_stays n answer s t c h =
-      let (refused, same) = online_same step view cpus n s.clock answer s.side.system t.side.system h.online h.many c.did in (
+      let (refused, same) = online_same firing cpus n s.clock answer s.side.system t.side.system h.online h.many c.did in (
         refused,
         record {
-          fits = fits_same step view cpus names given has s t 0 (Online n s.clock answer) c h
+          fits = fits_same firing cpus names given has s t 0 (Online n s.clock answer) c h
               (ap (λ (x : SystemView R). x.cpus.online) same) c.told
               (subst (λ (x : SystemView R). x.last ≤ given) (sym same) h.few) (λ id touches. touches);
           calm = λ q. record {
@@ -134,34 +134,34 @@ module _ {C R : Type 0} (step : R → FiringCall → R → Type 0) (view : R →
       )
 
 module _ {C R : Type 0} (handler : Calls C)
-    (step : R → FiringCall → R → Type 0) (view : R → FiringView) (cpus names : ℕ) (few : names ≤ most_cyclics) where
+    (firing : Raise R) (cpus names : ℕ) (few : names ≤ most_cyclics) where
   -- a word that leaves what the names have, and is met so
   pub stays_next : (given : ℕ) (has : ℕ → Standing) (x : Step) (s t : Progress R C)
-      (d : Does handler step view x s t) → names_after given x ≡ given → after_step x has ≡ has
-      → OnlyMoves x ⊎ (accepted handler step view x s t d ≡ is_taken cpus has x)
-      → Stays step view cpus names given has s t
-      → NextCalm handler step view cpus names few given has x s t d
+      (d : Does handler firing x s t) → names_after given x ≡ given → after_step x has ≡ has
+      → OnlyMoves x ⊎ (accepted handler firing x s t d ≡ is_taken cpus has x)
+      → Stays firing cpus names given has s t
+      → NextCalm handler firing cpus names few given has x s t d
   stays_next given has x s t d none same agree stays = record {
     next = record {
       agree = agree;
-      fits = subst (λ (k : ℕ). Fits step view cpus names k (cond (is_taken cpus has x) (after_step x has) has) t) (sym none)
-          (subst (λ (f : ℕ → Standing). Fits step view cpus names given (cond (is_taken cpus has x) f has) t) (sym same)
-          (same_has step view cpus names given has (is_taken cpus has x) t stays.fits));
+      fits = subst (λ (k : ℕ). Fits firing cpus names k (cond (is_taken cpus has x) (after_step x has) has) t) (sym none)
+          (subst (λ (f : ℕ → Standing). Fits firing cpus names given (cond (is_taken cpus has x) f has) t) (sym same)
+          (same_has firing cpus names given has (is_taken cpus has x) t stays.fits));
     };
     calm = stays.calm;
   }
 
   pub reprogram_next : (given : ℕ) (has : ℕ → Standing) (r : ReprogramStep) (s t : Progress R C)
-      (d : Does handler step view (steps.Reprogram r) s t) → Fits step view cpus names given has s
-      → HasWaited step view s → NextCalm handler step view cpus names few given has (steps.Reprogram r) s t d
+      (d : Does handler firing (steps.Reprogram r) s t) → Fits firing cpus names given has s
+      → HasWaited firing s → NextCalm handler firing cpus names few given has (steps.Reprogram r) s t d
   reprogram_next given has r s t (inl (moment, is, d)) h w =
-      let q = waited_calm step view s w in
+      let q = waited_calm firing s w in
       stays_next given has (steps.Reprogram r) s t (inl (moment, is, d)) refl refl
-      (inr (reprogram_met step view cpus names given has r.name moment r.cpu (has r.name) (named_at s.names r.name) s t d
+      (inr (reprogram_met firing cpus names given has r.name moment r.cpu (has r.name) (named_at s.names r.name) s t d
       (h.each r.name) (w.none r.name) h w q.still
       ∙ (λ i. sym (moment_of r.moment moment is) i && may_reprogram cpus (has r.name) r.cpu)))
-      (reprogrammed_stays step view cpus names given has r.name moment r.cpu s t (id_of (named_at s.names r.name)) d h)
+      (reprogrammed_stays firing cpus names given has r.name moment r.cpu s t (id_of (named_at s.names r.name)) d h)
   reprogram_next given has r s t (inr (number, same)) h w =
       stays_next given has (steps.Reprogram r) s t (inr (number, same)) refl refl
       (inr (λ i. sym (no_moment_of r.moment number) i && may_reprogram cpus (has r.name) r.cpu))
-      (stays_same step view cpus names given has s t same h)
+      (stays_same firing cpus names given has s t same h)

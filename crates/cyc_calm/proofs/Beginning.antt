@@ -6,7 +6,7 @@ use Rattle.std.proofs.lemmas.List.{length-map, length-replicate, get_or-replicat
 use mathlib.Core.Logic.{dite}
 use native.Mathlib.Decide.{ℕ_discrete}
 use Rattle.cyc_ring.specs.declared.ends.RaiseEnd.{RaiseEnd}
-use Rattle.cyc_ring.specs.Ends.{end_view, RaiseEndCall}
+use Rattle.cyc_ring.specs.Ends.{raise_end}
 use Rattle.cyc_cpu.specs.Cpu.{CpuView}
 use Rattle.cyc_places.specs.declared.record.Record.{Record}
 use Rattle.cyc_places.specs.Places.{HasRisingIds, HasNoRecord}
@@ -56,7 +56,7 @@ module _ {C : Type 0} (names cpus : ℕ) (all : List (Seated C)) (p : Progress R
   nothing_at : (a : ℕ) → named_at p.names a ≡ Nothing
   nothing_at a = ap (λ ns. named_at ns a) first.names_are ∙ all_nothing names a
 
-  pub first_fits : Fits RaiseEndCall end_view cpus names 0 (λ name. Absent) p
+  pub first_fits : Fits raise_end cpus names 0 (λ name. Absent) p
   first_fits = record {
     rising = (no_records p.side.system.records first.records).0;
     above = (no_records p.side.system.records first.records).1;
@@ -71,7 +71,7 @@ module _ {C : Type 0} (names cpus : ℕ) (all : List (Seated C)) (p : Progress R
     own = λ a b id e f. absurd (none_some (sym (ap id_of (nothing_at a)) ∙ e));
   }
 
-  pub first_calm : IsCalmNow RaiseEndCall end_view p
+  pub first_calm : IsCalmNow raise_end p
   first_calm = record {
     none = λ a. ap is_leaving (nothing_at a);
     still = λ n x at. new_still first.ends n x

@@ -7,7 +7,7 @@ use Rattle.std.specs.Option.{option_map_or}
 use Rattle.std.proofs.lemmas.List.{length-replicate}
 use Rattle.std.proofs.lemmas.Option.{slice_get_within}
 use Rattle.cyc_types.specs.declared.Calls.{Ghosts as Calls}
-use Rattle.cyc_types.specs.Firing.{FiringView, FiringCall}
+use Rattle.cyc_types.specs.declared.Raise.{Ghosts as Raise}
 use Rattle.cyc_types.specs.Series.{never}
 use Rattle.cyc_types.specs.declared.refusal.Refusal.{Refusal}
 use Rattle.cyc_types.specs.declared.refusal.Refusal.TheVariants as why
@@ -47,27 +47,27 @@ none_busy s [] still = refl
 none_busy s (n ∷ ns) still = passes (busy (removal_on n s.cpus)) (map (λ (m : ℕ). busy (removal_on m s.cpus)) ns) None
     (ap busy (none_removed s.cpus n still)) (none_busy s ns still)
 
-module _ {C R : Type 0} (step : R → FiringCall → R → Type 0) (view : R → FiringView) (cpus names given : ℕ)
+module _ {C R : Type 0} (firing : Raise R) (cpus names given : ℕ)
     (has : ℕ → Standing) (name : ℕ) where
   -- ---- a removal begins
 
   begun : (id : ℕ) (everywhere : Bool) (answer : Result SystemRemoval Refusal) (s t : Progress R C)
-      → CallsFor step view name (BeginRemove id answer) s t → IsThere id everywhere s.side.system
-      → named_at s.names name ≡ Cyclic id → Fits step view cpus names given has s → AllStill s.side.system.cpus
-      → (is_ok answer ≡ true) × Fits step view cpus names given (with_standing name Absent has) t
+      → CallsFor firing name (BeginRemove id answer) s t → IsThere id everywhere s.side.system
+      → named_at s.names name ≡ Cyclic id → Fits firing cpus names given has s → AllStill s.side.system.cpus
+      → (is_ok answer ≡ true) × Fits firing cpus names given (with_standing name Absent has) t
   begun id everywhere (Ok (Done receipt)) s t c there at h still =
-      let g = begun_given step view id (Ok (Done receipt)) s.side.system t.side.system c.did in (
+      let g = begun_given firing id (Ok (Done receipt)) s.side.system t.side.system c.did in (
         refl,
-        fits_set step view cpus names given has s t name (BeginRemove id (Ok (Done receipt))) c h g.online (Removed receipt)
+        fits_set firing cpus names given has s t name (BeginRemove id (Ok (Done receipt))) c h g.online (Removed receipt)
             Absent given (with_standing name Absent has) c.told (name_low s.names name id (ap id_of at))
             (subst (λ (k : ℕ). k ≤ given) (sym g.last) h.few) tt (standing_here name Absent has)
             (λ other ne. standing_beside name other Absent has ne) (λ own e. absurd (none_some e))
             (λ other own ne e touches. ne (h.own other name id (e ∙ ap Some (sym touches)) (ap id_of at))),
       )
   begun id everywhere (Ok (Kept kept)) s t c there at h still =
-      let g = begun_given step view id (Ok (Kept kept)) s.side.system t.side.system c.did in (
+      let g = begun_given firing id (Ok (Kept kept)) s.side.system t.side.system c.did in (
         refl,
-        fits_set step view cpus names given has s t name (BeginRemove id (Ok (Kept kept))) c h g.online (Leaving id)
+        fits_set firing cpus names given has s t name (BeginRemove id (Ok (Kept kept))) c h g.online (Leaving id)
             Absent given (with_standing name Absent has) c.told (name_low s.names name id (ap id_of at))
             (subst (λ (k : ℕ). k ≤ given) (sym g.last) h.few) tt (standing_here name Absent has)
             (λ other ne. standing_beside name other Absent has ne)
@@ -79,7 +79,7 @@ module _ {C R : Type 0} (step : R → FiringCall → R → Type 0) (view : R →
       )
   begun id everywhere (Err e) s t c there at h still = absurd (by c.did)
     where
-      by : Changes step view s.side.system (BeginRemove id (Err e)) t.side.system → ⊥
+      by : Changes firing s.side.system (BeginRemove id (Err e)) t.side.system → ⊥
       by (inl (x, first, is, same)) = none_some (sym (passes (unknown_cyclic id s.side.system)
           (busy_on_each id s.side.system) None
           (not_when (is_unknown id s.side.system) why.NoCyclic there.known)
@@ -88,25 +88,25 @@ module _ {C R : Type 0} (step : R → FiringCall → R → Type 0) (view : R →
 
   -- what the closed form says of a remove where the name has this
   abbrev Ended : Standing → Bool → Progress R C → Type 0
-  Ended st b t = (b ≡ is_here st) × Fits step view cpus names given (cond (is_here st) (with_standing name Absent has) has) t
+  Ended st b t = (b ≡ is_here st) × Fits firing cpus names given (cond (is_here st) (with_standing name Absent has) has) t
 
   abbrev removal_met : (named : Named) (s t : Progress R C)
-      → WithId (id_of named) (λ id. (answer : Result SystemRemoval Refusal) × CallsFor step view name (BeginRemove id answer) s t)
+      → WithId (id_of named) (λ id. (answer : Result SystemRemoval Refusal) × CallsFor firing name (BeginRemove id answer) s t)
       (t ≡ s)
       → Bool
   removal_met named s t d =
-      option_map_or is_done (call_with step view SystemRemoval (λ id answer. BeginRemove id answer) name s t
+      option_map_or is_done (call_with firing SystemRemoval (λ id answer. BeginRemove id answer) name s t
       (id_of named) d) false
 
   removed : (st : Standing) (named : Named) (s t : Progress R C) → named_at s.names name ≡ named
       → (d : WithId (id_of named) (λ id. (answer : Result SystemRemoval Refusal)
-      × CallsFor step view name (BeginRemove id answer) s t) (t ≡ s))
-      → Is st named s.side.system → is_leaving named ≡ false → Fits step view cpus names given has s → AllStill s.side.system.cpus
+      × CallsFor firing name (BeginRemove id answer) s t) (t ≡ s))
+      → Is st named s.side.system → is_leaving named ≡ false → Fits firing cpus names given has s → AllStill s.side.system.cpus
       → Ended st (removal_met named s t d) t
   removed Absent Nothing s t at d is stays h still =
-      (refl, subst (λ (p : Progress R C). Fits step view cpus names given has p) (sym d) h)
+      (refl, subst (λ (p : Progress R C). Fits firing cpus names given has p) (sym d) h)
   removed Absent (Removed receipt) s t at d is stays h still =
-      (refl, subst (λ (p : Progress R C). Fits step view cpus names given has p) (sym d) h)
+      (refl, subst (λ (p : Progress R C). Fits firing cpus names given has p) (sym d) h)
   removed Absent (Leaving id) s t at d is stays h still = absurd (let odd : true ≡ false = stays in cc)
   removed Absent (Cyclic id) s t at d is stays h still = absurd is
   removed OnOne (Cyclic id) s t at (answer, c) is stays h still = begun id false answer s t c is at h still
@@ -120,17 +120,17 @@ module _ {C R : Type 0} (step : R → FiringCall → R → Type 0) (view : R →
 
   pub remove_ended : (s t : Progress R C)
       (d : WithId (id_of (named_at s.names name)) (λ id. (answer : Result SystemRemoval Refusal)
-      × CallsFor step view name (BeginRemove id answer) s t) (t ≡ s))
-      → Fits step view cpus names given has s → IsCalmNow step view s
+      × CallsFor firing name (BeginRemove id answer) s t) (t ≡ s))
+      → Fits firing cpus names given has s → IsCalmNow firing s
       → Ended (has name) (removal_met (named_at s.names name) s t d) t
   remove_ended s t d h q = removed (has name) (named_at s.names name) s t refl d (h.each name) (q.none name) h q.still
 
 -- ---- an advance
 
 module _ {C R : Type 0} (handler : Calls C)
-    (step : R → FiringCall → R → Type 0) (view : R → FiringView) (cpus names given : ℕ) (has : ℕ → Standing) where
+    (firing : Raise R) (cpus names given : ℕ) (has : ℕ → Standing) where
   fired_one : (up : Bool) (now : ℕ) (x y : CpuView R) (a b : C) (answer : Option (Result Fired FireRefused))
-      → FiresIf handler step view up now (running a x) answer (running b y) → x.removal ≡ None → y.removal ≡ None
+      → FiresIf handler firing up now (running a x) answer (running b y) → x.removal ≡ None → y.removal ≡ None
   fired_one true now x y a b (Some (Ok r)) f none = f.1.removal ∙ none
   fired_one true now x y a b (Some (Err e)) (inl (late, is, same)) none = ap (λ r. r.cpu.removal) same ∙ none
   fired_one true now x y a b (Some (Err e)) (inr (early, kept, stops)) none = kept.removal ∙ none
@@ -138,8 +138,8 @@ module _ {C R : Type 0} (handler : Calls C)
   fired_one false now x y a b (Some answer) f none = absurd f
   fired_one false now x y a b None f none = ap (λ r. r.cpu.removal) f ∙ none
 
-  fired_still : (now : ℕ) (s : Progress R C) (b : Advanced R C) → AllFire handler step view now s.side b
-      → Fits step view cpus names given has s → AllStill s.side.system.cpus → AllStill b.side.system.cpus
+  fired_still : (now : ℕ) (s : Progress R C) (b : Advanced R C) → AllFire handler firing now s.side b
+      → Fits firing cpus names given has s → AllStill s.side.system.cpus → AllStill b.side.system.cpus
   fired_still now s b f h still n y at =
       let low = slice_get_within b.side.system.cpus.cpus n y at in let long = f.long in let many = h.many in
       let ups : length s.side.system.cpus.online ≡ cpus = ap length h.online ∙ length-replicate cpus true in
@@ -151,8 +151,8 @@ module _ {C R : Type 0} (handler : Calls C)
       let (answer, answer_at) = get_some b.answers.items n (omega (arith, low, long, answers)) in
       fired_one up now x y l.calls m.calls answer (f.each n up x y l m answer up_at x_at at l_at m_at answer_at) (still n x x_at)
 
-  pub advance_fits : (now : ℕ) (s t : Progress R C) → Fires handler step view now s t → now < never
-      → Fits step view cpus names given has s → Fits step view cpus names given has t
+  pub advance_fits : (now : ℕ) (s t : Progress R C) → Fires handler firing now s t → now < never
+      → Fits firing cpus names given has s → Fits firing cpus names given has t
   advance_fits now s t f early h = record {
     rising = f.sound.fit.rising;
     above = subst (λ rs. HasNoRecord 0 rs) (sym records) h.above;
@@ -177,8 +177,8 @@ module _ {C R : Type 0} (handler : Calls C)
       last : t.side.system.last ≡ s.side.system.last
       last = ap (λ (z : SystemSide R C). z.system.last) f.side ∙ f.fired.last
 
-  pub advance_calm : (now : ℕ) (s t : Progress R C) → Fires handler step view now s t
-      → Fits step view cpus names given has s → IsCalmNow step view s → IsCalmNow step view t
+  pub advance_calm : (now : ℕ) (s t : Progress R C) → Fires handler firing now s t
+      → Fits firing cpus names given has s → IsCalmNow firing s → IsCalmNow firing t
   advance_calm now s t f h q = record {
     none = subst NoneLeaves (sym f.names) q.none;
     still = subst (λ (z : SystemSide R C). AllStill z.system.cpus) (sym f.side) (fired_still now s f.after f.fired h q.still);

@@ -8,7 +8,7 @@ use Rattle.std.specs.Option.{option_map_or}
 use Rattle.std.proofs.lemmas.List.{length-set, get_or-set_same, get_or-set_other, get_or_past}
 use mathlib.Core.Logic.{dite}
 use native.Mathlib.Decide.{ℕ_discrete}
-use Rattle.cyc_types.specs.Firing.{FiringView, FiringCall}
+use Rattle.cyc_types.specs.declared.Raise.{Ghosts as Raise}
 use Rattle.cyc_types.specs.Series.{never}
 use Rattle.cyc_places.specs.declared.record.Placement.{Placement}
 use Rattle.cyc_places.specs.declared.record.Record.{Record}
@@ -118,19 +118,19 @@ new_there id level place before t rising records =
       place = ap (λ o. option_map_or (λ (r : Record). is_everywhere r.place) o false) here;
     }
 
-module _ {R : Type 0} (step : R → FiringCall → R → Type 0) (view : R → FiringView) where
+module _ {R : Type 0} (firing : Raise R) where
   -- a call that neither gives the id nor ends its removal
-  pub id_kept : (s t : SystemView R) (call : SystemCall) (id : ℕ) → HasRisingIds s.records → Changes step view s call t
+  pub id_kept : (s t : SystemView R) (call : SystemCall) (id : ℕ) → HasRisingIds s.records → Changes firing s call t
       → (TouchesRecord id call → ⊥) → SameId id s t
   id_kept s t call id rising d other = record {
     known = unknown_read (record_of id t)
-        ∙ (look_kept step view (λ (r : Record). false) true (λ r n bound e. refl) (λ r n c. refl) id s t call rising d other
+        ∙ (look_kept firing (λ (r : Record). false) true (λ r n bound e. refl) (λ r n c. refl) id s t call rising d other
         ∙ sym (unknown_read (record_of id s)));
-    place = look_kept step view (λ (r : Record). is_everywhere r.place) false (λ r n bound e. sym e)
+    place = look_kept firing (λ (r : Record). is_everywhere r.place) false (λ r n bound e. sym e)
         (λ r n c. refl) id s t call rising d other;
   }
 
-module _ {C R : Type 0} (step : R → FiringCall → R → Type 0) (view : R → FiringView) where
+module _ {C R : Type 0} (firing : Raise R) where
   -- The run is as the closed form says: over so many CPUs, all online, with so many names, of which so many were introduced.
   pub record Fits (cpus names given : ℕ) (has : ℕ → Standing) (p : Progress R C) : Type 0 where
     pub rising : HasRisingIds p.side.system.records
@@ -147,17 +147,17 @@ module _ {C R : Type 0} (step : R → FiringCall → R → Type 0) (view : R →
 
   -- what a call that was made changes of that: it is online as it was, and gave so many ids
   module _ (cpus names given : ℕ) (has : ℕ → Standing) (s t : Progress R C) (name : ℕ) (call : SystemCall)
-      (c : CallsFor step view name call s t) (h : Fits cpus names given has s)
+      (c : CallsFor firing name call s t) (h : Fits cpus names given has s)
       (online : t.side.system.cpus.online ≡ s.side.system.cpus.online) where
     above_after : HasNoRecord 0 t.side.system.records
-    above_after = (made_of step view s.side.system t.side.system call c.did).unknown 0 (omega arith) h.above
+    above_after = (made_of firing s.side.system t.side.system call c.did).unknown 0 (omega arith) h.above
 
     ready_after : IsReady t
     ready_after = ap (λ (l : _). length l.items) c.leads ∙ h.ready
-        ∙ sym (changes_long step view s.side.system t.side.system call c.did)
+        ∙ sym (changes_long firing s.side.system t.side.system call c.did)
 
     many_after : length t.side.system.cpus.cpus ≡ cpus
-    many_after = changes_long step view s.side.system t.side.system call c.did ∙ h.many
+    many_after = changes_long firing s.side.system t.side.system call c.did ∙ h.many
 
     -- no name gets anything from it
     pub fits_same : t.names ≡ s.names → t.side.system.last ≤ given → ((id : ℕ) → TouchesRecord id call → ⊥)
@@ -173,9 +173,9 @@ module _ {C R : Type 0} (step : R → FiringCall → R → Type 0) (view : R →
       ready = ready_after;
       each = λ a. subst (λ ns. Is (has a) (named_at ns a) t.side.system) (sym same)
           (is_kept (has a) (named_at s.names a) s.side.system t.side.system
-          (λ id e. id_kept step view s.side.system t.side.system call id h.rising c.did (other id)) (h.each a));
+          (λ id e. id_kept firing s.side.system t.side.system call id h.rising c.did (other id)) (h.each a));
       ids = λ a id e. (let low = h.ids a id (sym (ap (λ ns. id_of (named_at ns a)) same) ∙ e) in
-          let more = (made_of step view s.side.system t.side.system call c.did).last in omega (arith, low, more));
+          let more = (made_of firing s.side.system t.side.system call c.did).last in omega (arith, low, more));
       own = λ a b id e f. h.own a b id (sym (ap (λ ns. id_of (named_at ns a)) same) ∙ e)
           (sym (ap (λ ns. id_of (named_at ns b)) same) ∙ f);
     }
@@ -204,11 +204,11 @@ module _ {C R : Type 0} (step : R → FiringCall → R → Type 0) (view : R →
           (λ ne. subst (λ (z : Standing). Is z (named_at t.names a) t.side.system) (sym (beside a ne))
           (subst (λ (z : Named). Is (has a) z t.side.system) (sym (at_other a ne))
           (is_kept (has a) (named_at s.names a) s.side.system t.side.system
-          (λ id e. id_kept step view s.side.system t.side.system call id h.rising c.did (others a id ne e)) (h.each a))));
+          (λ id e. id_kept firing s.side.system t.side.system call id h.rising c.did (others a id ne e)) (h.each a))));
       ids = λ a id e. dite (ℕ_discrete a name)
           (λ q. (new id (sym (ap id_of at_name) ∙ (subst (λ (k : ℕ). id_of (named_at t.names k) ≡ Some id) q e))).0)
           (λ ne. (let low = h.ids a id (sym (ap id_of (at_other a ne)) ∙ e) in
-          let more = (made_of step view s.side.system t.side.system call c.did).last in omega (arith, low, more)));
+          let more = (made_of firing s.side.system t.side.system call c.did).last in omega (arith, low, more)));
       own = λ a b id e f. dite (ℕ_discrete a name)
           (λ p. dite (ℕ_discrete b name) (λ q. p ∙ sym q)
           (λ nq. absurd ((new id (sym (ap id_of at_name)

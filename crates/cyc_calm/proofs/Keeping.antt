@@ -3,7 +3,7 @@ use Rattle.std.proofs.Common.{◌≡◌, ◌∙◌, ℕ, ◌⊎◌, inl, inr, Op
 use Rattle.std.proofs.Common.{true, false, sym, ap, subst}
 use mathlib.Core.Logic.{dite}
 use native.Mathlib.Decide.{ℕ_discrete}
-use Rattle.cyc_types.specs.Firing.{FiringView, FiringCall}
+use Rattle.cyc_types.specs.declared.Raise.{Ghosts as Raise}
 use Rattle.cyc_types.specs.declared.level.Level.{Level}
 use Rattle.cyc_types.specs.declared.moment.When.{When}
 use Rattle.cyc_types.specs.declared.receipt.Receipt.{Receipt}
@@ -73,8 +73,8 @@ plain_entering : (ns : List ℕ) (own : ℕ) (level : Level) (when : When) (skew
 plain_entering [] own level when skew now = tt
 plain_entering (n ∷ ns) own level when skew now = (tt, (tt, plain_entering ns own level when skew now))
 
-module _ {R : Type 0} (step : R → FiringCall → R → Type 0) (view : R → FiringView) where
-  still_one : (x y : CpuView R) (call : CpuCall) → CpuChanges step view x call y → IsPlain call → x.removal ≡ None
+module _ {R : Type 0} (firing : Raise R) where
+  still_one : (x y : CpuView R) (call : CpuCall) → CpuChanges firing x call y → IsPlain call → x.removal ≡ None
       → y.removal ≡ None
   still_one x y (Place id level interval moment carried) d plain none = d.1.kept.removal ∙ none
   still_one x y (CpuReprogram id moment (Ok done)) (k, c, here, named, other, is) plain none =
@@ -115,7 +115,7 @@ module _ {R : Type 0} (step : R → FiringCall → R → Type 0) (view : R → F
       ∙ keeps (h m c.before c.here)))
       (λ ne. h n y (cpu_beside m n y c.after v ne (subst (λ u. IsCpu n y u) c.rest at)))
 
-  pub keeps_works : (way : List CallOn) (v w : CpusView R) → ArePlain way → Works step view way v w → Keeps v w
+  pub keeps_works : (way : List CallOn) (v w : CpusView R) → ArePlain way → Works firing way v w → Keeps v w
   keeps_works [] v w plain run = keeps_same v w (sym run)
   keeps_works (c ∷ way) v w plain (u, d, rest) = keeps_then v u w (record {
     online = ap (λ (z : CpusView R). z.online) d.rest;
@@ -124,7 +124,7 @@ module _ {R : Type 0} (step : R → FiringCall → R → Type 0) (view : R → F
 
   -- ---- calls
 
-  keeps_reserved : (more : ℕ) (answer : Result (Unit {0}) Refusal) (v w : CpusView R) → ReservesEach step view more answer v w
+  keeps_reserved : (more : ℕ) (answer : Result (Unit {0}) Refusal) (v w : CpusView R) → ReservesEach firing more answer v w
       → Keeps v w
   keeps_reserved more (Ok done) v w (u, asks, takes) = keeps_then v u w
       (keeps_works (rooms more (online_cpus v)) v u (plain_rooms more (online_cpus v)) asks)
@@ -138,7 +138,7 @@ module _ {R : Type 0} (step : R → FiringCall → R → Type 0) (view : R → F
       (plain_on (reserves more before) (on n (Reserve more (Err e)) ∷ []) (plain_reserves more before) (tt, tt)) works)
 
   keeps_adds : (level : Level) (when : When) (now : ℕ) (answer : Result ℕ Refusal) (s t : SystemView R)
-      → Adds step view level when now answer s t → Keeps s.cpus t.cpus
+      → Adds firing level when now answer s t → Keeps s.cpus t.cpus
   keeps_adds level when now (Ok id) s t (d, chosen, next, works, records, last) =
       keeps_works (on d (Reserve 1 (Ok tt)) ∷ entering d id level when.interval (first when.start when.interval now))
       s.cpus t.cpus (tt, (tt, (tt, tt))) works
@@ -148,7 +148,7 @@ module _ {R : Type 0} (step : R → FiringCall → R → Type 0) (view : R → F
       keeps_works (on d (Reserve 1 (Ok tt)) ∷ []) s.cpus t.cpus (tt, tt) only.0
 
   keeps_omni : (level : Level) (when : When) (skew now : ℕ) (answer : Result ℕ Refusal) (s t : SystemView R)
-      → AddsOmni step view level when skew now answer s t → Keeps s.cpus t.cpus
+      → AddsOmni firing level when skew now answer s t → Keeps s.cpus t.cpus
   keeps_omni level when skew now (Ok id) s t (next, (u, reserved, works), records, last) =
       keeps_then s.cpus u t.cpus (keeps_reserved 1 (Ok tt) s.cpus u reserved)
       (keeps_works (entering_each (online_cpus s.cpus) id level when skew now) u t.cpus (plain_entering
@@ -157,7 +157,7 @@ module _ {R : Type 0} (step : R → FiringCall → R → Type 0) (view : R → F
   keeps_omni level when skew now (Err e) s t (inr (is, reserved), records, last) =
       keeps_reserved 1 (Ok tt) s.cpus t.cpus reserved
 
-  keeps_unshifted : (own source target : ℕ) (e : Refusal) (v w : CpusView R) → WhyNotShifted step view own source target e v w
+  keeps_unshifted : (own source target : ℕ) (e : Refusal) (v w : CpusView R) → WhyNotShifted firing own source target e v w
       → Keeps v w
   keeps_unshifted own source target e v w (inl (removed, is_open, is, same)) = keeps_same v w same
   keeps_unshifted own source target e v w (inr (inl (still, n, some, is, works))) = keeps_works (on source (AskPending own
@@ -166,18 +166,18 @@ module _ {R : Type 0} (step : R → FiringCall → R → Type 0) (view : R → F
       keeps_works (on source (AskPending own (Some 0)) ∷ on target (Reserve 1 (Err e)) ∷ []) v w (tt, (tt, tt)) works
 
   keeps_goes : (own home target : ℕ) (answer : Result (Unit {0}) Refusal) (v w : CpusView R)
-      → GoesTo step view own home target answer v w → Keeps v w
+      → GoesTo firing own home target answer v w → Keeps v w
   keeps_goes own home target answer v w (inl (at, is, same)) = keeps_same v w same
   keeps_goes own home target (Ok done) v w (inr (ne, (taken, works))) =
       keeps_works (moving own home target taken) v w (tt, (tt, (tt, (tt, (tt, tt))))) works
   keeps_goes own home target (Err e) v w (inr (ne, why)) = keeps_unshifted own home target e v w why
 
-  keeps_binds : (own n : ℕ) (answer : Result (Unit {0}) Refusal) (s t : SystemView R) → Binds step view own n answer s t
+  keeps_binds : (own n : ℕ) (answer : Result (Unit {0}) Refusal) (s t : SystemView R) → Binds firing own n answer s t
       → Keeps s.cpus t.cpus
   keeps_binds own n (Ok done) s t (home, has, goes, records) = keeps_goes own home n (Ok tt) s.cpus t.cpus goes
   keeps_binds own n (Err e) s t (home, has, goes, records, last) = keeps_goes own home n (Err e) s.cpus t.cpus goes
 
-  keeps_turn : (n own : ℕ) (turn : Turn) (s t : SystemView R) → TakesTurn step view n own turn s t → Keeps s.cpus t.cpus
+  keeps_turn : (n own : ℕ) (turn : Turn) (s t : SystemView R) → TakesTurn firing n own turn s t → Keeps s.cpus t.cpus
   keeps_turn n own StaysBound s t (place, same) = keeps_same s.cpus t.cpus (ap (λ (u : SystemView R). u.cpus) same)
   keeps_turn n own StaysPending s t (place, found, some, only) =
       keeps_works (on n (AskPending own (Some found)) ∷ []) s.cpus t.cpus (tt, tt) only.0
@@ -186,7 +186,7 @@ module _ {R : Type 0} (step : R → FiringCall → R → Type 0) (view : R → F
   keeps_turn n own Moves s t (place, d, chosen, (taken, works), records) =
       keeps_works (moving own n d taken) s.cpus t.cpus (tt, (tt, (tt, (tt, (tt, tt))))) works
 
-  keeps_turns : (n : ℕ) (ids : List ℕ) (report : JuggleReport) (s t : SystemView R) → Turns step view n ids report s t
+  keeps_turns : (n : ℕ) (ids : List ℕ) (report : JuggleReport) (s t : SystemView R) → Turns firing n ids report s t
       → Keeps s.cpus t.cpus
   keeps_turns n [] report s t (none, same) = keeps_same s.cpus t.cpus (ap (λ (u : SystemView R). u.cpus) same)
   keeps_turns n (own ∷ ids) report s t (turn, u, rest, first, counted, more) =
@@ -209,7 +209,7 @@ module _ {R : Type 0} (step : R → FiringCall → R → Type 0) (view : R → F
   IsQuiet (Juggle n answer) = Unit {0}
   IsQuiet call = ⊥
 
-  pub keeps_call : (s t : SystemView R) (call : SystemCall) → Changes step view s call t → IsQuiet call → Keeps s.cpus t.cpus
+  pub keeps_call : (s t : SystemView R) (call : SystemCall) → Changes firing s call t → IsQuiet call → Keeps s.cpus t.cpus
   keeps_call s t (Add level when now answer) d quiet = refused_or _ _ answer s t _ d (λ g. keeps_adds level when now answer s t g)
   keeps_call s t (AddOmni level when skew now answer) d quiet =
       refused_or _ _ answer s t _ d (λ g. keeps_omni level when skew now answer s t g)
@@ -244,30 +244,30 @@ module _ {R : Type 0} (step : R → FiringCall → R → Type 0) (view : R → F
       → SameGiven s t
   same_at m D s t c last = record { online = ap (λ (z : CpusView R). z.online) c.rest; last = last }
 
-  begins_on : (own n : ℕ) (removal : Removal) (s t : SystemView R) → BeginsOn step view own n removal s t → SameGiven s t
+  begins_on : (own n : ℕ) (removal : Removal) (s t : SystemView R) → BeginsOn firing own n removal s t → SameGiven s t
   begins_on own n (Done receipt) s t (does, k, r, here, named, records, last) = same_at n _ s t does last
   begins_on own n (Kept kept) s t (does, records, last) = same_at n _ s t does last
 
-  polls_on : (own n : ℕ) (answer : Option Receipt) (s t : SystemView R) → PollsOn step view own n answer s t → SameGiven s t
+  polls_on : (own n : ℕ) (answer : Option Receipt) (s t : SystemView R) → PollsOn firing own n answer s t → SameGiven s t
   polls_on own n (Some receipt) s t (does, k, r, here, named, records, last) = same_at n _ s t does last
   polls_on own n None s t (does, records, last) = same_at n _ s t does last
 
-  begins_each : (own : ℕ) (way : List Begun) (s t : SystemView R) → BeginsEach step view own way s t → SameGiven s t
-  begins_each own way s t each = folds_keep (λ u (b : Begun) w. BeginsOn step view own b.cpu b.found u w) SameGiven given_none
+  begins_each : (own : ℕ) (way : List Begun) (s t : SystemView R) → BeginsEach firing own way s t → SameGiven s t
+  begins_each own way s t each = folds_keep (λ u (b : Begun) w. BeginsOn firing own b.cpu b.found u w) SameGiven given_none
       given_then (λ x b y. begins_on own b.cpu b.found x y) way s t each
 
-  polls_each : (own : ℕ) (way : List Polled) (s t : SystemView R) → PollsEach step view own way s t → SameGiven s t
-  polls_each own way s t each = folds_keep (λ u (p : Polled) w. PollsOn step view own p.cpu p.answer u w) SameGiven given_none
+  polls_each : (own : ℕ) (way : List Polled) (s t : SystemView R) → PollsEach firing own way s t → SameGiven s t
+  polls_each own way s t each = folds_keep (λ u (p : Polled) w. PollsOn firing own p.cpu p.answer u w) SameGiven given_none
       given_then (λ x p y. polls_on own p.cpu p.answer x y) way s t each
 
-  removes_given : (own : ℕ) (answer : Result SystemRemoval Refusal) (s t : SystemView R) → Removes step view own answer s t
+  removes_given : (own : ℕ) (answer : Result SystemRemoval Refusal) (s t : SystemView R) → Removes firing own answer s t
       → SameGiven s t
   removes_given own (Ok (over.Done receipt)) s t (way, u, cpus, each, done) = given_then s u t (begins_each own way s u each)
       (record { online = ap (λ (z : CpusView R). z.online) done.cpus; last = done.last })
   removes_given own (Ok (over.Kept kept)) s t (way, cpus, each, some, sum) = begins_each own way s t each
   removes_given own (Err e) s t d = absurd d
 
-  polls_given : (own : ℕ) (answer : Result (Option Receipt) Refusal) (s t : SystemView R) → Polls step view own answer s t
+  polls_given : (own : ℕ) (answer : Result (Option Receipt) Refusal) (s t : SystemView R) → Polls firing own answer s t
       → SameGiven s t
   polls_given own (Ok (Some receipt)) s t (way, u, cpus, each, done) = given_then s u t (polls_each own way s u each)
       (record { online = ap (λ (z : CpusView R). z.online) done.cpus; last = done.last })
@@ -275,30 +275,30 @@ module _ {R : Type 0} (step : R → FiringCall → R → Type 0) (view : R → F
   polls_given own (Err e) s t d = absurd d
 
   pub begun_given : (own : ℕ) (answer : Result SystemRemoval Refusal) (s t : SystemView R)
-      → Changes step view s (BeginRemove own answer) t → SameGiven s t
+      → Changes firing s (BeginRemove own answer) t → SameGiven s t
   begun_given own answer s t (inl (e, why, is, same)) = given_same s t same
   begun_given own answer s t (inr (clear, g)) = removes_given own answer s t g
 
   pub polled_given : (own : ℕ) (answer : Result (Option Receipt) Refusal) (s t : SystemView R)
-      → Changes step view s (PollRemove own answer) t → SameGiven s t
+      → Changes firing s (PollRemove own answer) t → SameGiven s t
   polled_given own answer s t (inl (e, why, is, same)) = given_same s t same
   polled_given own answer s t (inr (clear, g)) = polls_given own answer s t g
 
   -- ---- nor does a move or a reprogram
 
-  last_turn : (n own : ℕ) (turn : Turn) (s t : SystemView R) → TakesTurn step view n own turn s t → t.last ≡ s.last
+  last_turn : (n own : ℕ) (turn : Turn) (s t : SystemView R) → TakesTurn firing n own turn s t → t.last ≡ s.last
   last_turn n own StaysBound s t (place, same) = ap (λ (x : SystemView R). x.last) same
   last_turn n own StaysPending s t (place, found, some, (works, records, last)) = last
   last_turn n own StaysRefused s t (place, d, chosen, e, (works, records, last)) = last
   last_turn n own Moves s t (place, d, chosen, shifts, (k, r, here, named, records, last)) = last
 
-  last_turns : (n : ℕ) (ids : List ℕ) (report : JuggleReport) (s t : SystemView R) → Turns step view n ids report s t
+  last_turns : (n : ℕ) (ids : List ℕ) (report : JuggleReport) (s t : SystemView R) → Turns firing n ids report s t
       → t.last ≡ s.last
   last_turns n [] report s t (none, same) = ap (λ (x : SystemView R). x.last) same
   last_turns n (own ∷ ids) report s t (turn, u, rest, first, counted, more) =
       last_turns n ids rest u t more ∙ last_turn n own turn s u first
 
-  last_binds : (own n : ℕ) (answer : Result (Unit {0}) Refusal) (s t : SystemView R) → Binds step view own n answer s t
+  last_binds : (own n : ℕ) (answer : Result (Unit {0}) Refusal) (s t : SystemView R) → Binds firing own n answer s t
       → t.last ≡ s.last
   last_binds own n (Ok done) s t (home, has, goes, (k, r, here, named, records, last)) = last
   last_binds own n (Err e) s t (home, has, goes, records, last) = last
@@ -317,7 +317,7 @@ module _ {R : Type 0} (step : R → FiringCall → R → Type 0) (view : R → F
   IsMove (Juggle n answer) = Unit {0}
   IsMove call = ⊥
 
-  pub last_move : (s t : SystemView R) (call : SystemCall) → Changes step view s call t → IsMove call → t.last ≡ s.last
+  pub last_move : (s t : SystemView R) (call : SystemCall) → Changes firing s call t → IsMove call → t.last ≡ s.last
   last_move s t (Bind own None answer) d move = last_or _ _ answer s t _ d
       (λ g. (let (is, n, has, cpus, (k, r, here, named, records, last)) = g in last))
   last_move s t (Bind own (Some n) answer) d move = last_or _ _ answer s t _ d (λ g. last_binds own n answer s t g)

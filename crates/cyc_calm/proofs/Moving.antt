@@ -8,7 +8,7 @@ use Rattle.std.specs.Option.{option_map_or, option_and_then}
 use Rattle.std.proofs.lemmas.Bool.Decides.{nat_tests}
 use Rattle.std.proofs.lemmas.List.{get_or-replicate, length-replicate}
 use Rattle.std.proofs.lemmas.Option.{slice_get-get_or}
-use Rattle.cyc_types.specs.Firing.{FiringView, FiringCall}
+use Rattle.cyc_types.specs.declared.Raise.{Ghosts as Raise}
 use Rattle.cyc_types.specs.declared.refusal.Refusal.{Refusal}
 use Rattle.cyc_types.specs.declared.refusal.Refusal.TheVariants as why
 use Rattle.cyc_model.specs.Refusals.{first_refusal, bad_now}
@@ -76,43 +76,43 @@ is_known id everywhere s h still = not_when (is_unknown id s || is_leaving_id id
 
 -- ---- a move
 
-module _ {C R : Type 0} (step : R → FiringCall → R → Type 0) (view : R → FiringView) (cpus names given : ℕ) (has : ℕ
+module _ {C R : Type 0} (firing : Raise R) (cpus names given : ℕ) (has : ℕ
     → Standing) where
   -- what is true stays, and so does that nothing is open
   pub record Stays (s t : Progress R C) : Type 0 where
-    pub fits : Fits step view cpus names given has t
-    pub calm : IsCalmNow step view s → IsCalmNow step view t
+    pub fits : Fits firing cpus names given has t
+    pub calm : IsCalmNow firing s → IsCalmNow firing t
 
-  pub stays_same : (s t : Progress R C) → t ≡ s → Fits step view cpus names given has s → Stays s t
+  pub stays_same : (s t : Progress R C) → t ≡ s → Fits firing cpus names given has s → Stays s t
   stays_same s t e h = record {
-    fits = subst (λ (p : Progress R C). Fits step view cpus names given has p) (sym e) h;
-    calm = λ c. subst (λ (p : Progress R C). IsCalmNow step view p) (sym e) c;
+    fits = subst (λ (p : Progress R C). Fits firing cpus names given has p) (sym e) h;
+    calm = λ c. subst (λ (p : Progress R C). IsCalmNow firing p) (sym e) c;
   }
 
-  pub stays_move : (name : ℕ) (call : SystemCall) (s t : Progress R C) → CallsFor step view name call s t → IsMove step view call
-      → t.names ≡ s.names → ((id : ℕ) → TouchesRecord id call → ⊥) → Fits step view cpus names given has s → Stays s t
+  pub stays_move : (name : ℕ) (call : SystemCall) (s t : Progress R C) → CallsFor firing name call s t → IsMove firing call
+      → t.names ≡ s.names → ((id : ℕ) → TouchesRecord id call → ⊥) → Fits firing cpus names given has s → Stays s t
   stays_move name call s t c move same other h =
-      let k = keeps_call step view s.side.system t.side.system call c.did (quiet_move step view call move) in record {
-        fits = fits_same step view cpus names given has s t name call c h k.online same
-            (subst (λ (n : ℕ). n ≤ given) (sym (last_move step view s.side.system t.side.system call c.did move)) h.few) other;
+      let k = keeps_call firing s.side.system t.side.system call c.did (quiet_move firing call move) in record {
+        fits = fits_same firing cpus names given has s t name call c h k.online same
+            (subst (λ (n : ℕ). n ≤ given) (sym (last_move firing s.side.system t.side.system call c.did move)) h.few) other;
         calm = λ q. record { none = subst NoneLeaves (sym same) q.none; still = k.still q.still };
       }
 
   pub bind_stays : (name : ℕ) (cpu : Option ℕ) (s t : Progress R C) (o : Option ℕ)
-      → WithId o (λ id. (answer : Result (Unit {0}) Refusal) × CallsFor step view name (Bind id cpu answer) s t) (t ≡ s)
-      → Fits step view cpus names given has s → Stays s t
+      → WithId o (λ id. (answer : Result (Unit {0}) Refusal) × CallsFor firing name (Bind id cpu answer) s t) (t ≡ s)
+      → Fits firing cpus names given has s → Stays s t
   bind_stays name cpu s t None same h = stays_same s t same h
   bind_stays name cpu s t (Some id) (answer, c) h = stays_move name (Bind id cpu answer) s t c tt c.told
       (λ own touches. touches) h
 
-  pub juggle_stays : (n : ℕ) (answer : _) (s t : Progress R C) → CallsFor step view 0 (Juggle n answer) s t
-      → Fits step view cpus names given has s → Stays s t
+  pub juggle_stays : (n : ℕ) (answer : _) (s t : Progress R C) → CallsFor firing 0 (Juggle n answer) s t
+      → Fits firing cpus names given has s → Stays s t
   juggle_stays n answer s t c h = stays_move 0 (Juggle n answer) s t c tt c.told (λ own touches. touches) h
 
   -- ---- a reprogram
 
   reprogram_stays : (name id moment : ℕ) (cpu : Option ℕ) (answer : Result (Unit {0}) Refusal) (s t : Progress R C)
-      → CallsFor step view name (reprograms cpu id moment answer) s t → Fits step view cpus names given has s → Stays s t
+      → CallsFor firing name (reprograms cpu id moment answer) s t → Fits firing cpus names given has s → Stays s t
   reprogram_stays name id moment None answer s t c h =
       stays_move name (Reprogram id moment answer) s t c tt c.told (λ own touches. touches) h
   reprogram_stays name id moment (Some n) answer s t c h =
@@ -120,8 +120,8 @@ module _ {C R : Type 0} (step : R → FiringCall → R → Type 0) (view : R →
 
   pub reprogrammed_stays : (name moment : ℕ) (cpu : Option ℕ) (s t : Progress R C) (o : Option ℕ)
       → WithId o (λ id. (answer : Result (Unit {0}) Refusal)
-      × CallsFor step view name (reprograms cpu id moment answer) s t) (t ≡ s)
-      → Fits step view cpus names given has s → Stays s t
+      × CallsFor firing name (reprograms cpu id moment answer) s t) (t ≡ s)
+      → Fits firing cpus names given has s → Stays s t
   reprogrammed_stays name moment cpu s t None same h = stays_same s t same h
   reprogrammed_stays name moment cpu s t (Some id) (answer, c) h = reprogram_stays name id moment cpu answer s t c h
 
@@ -140,11 +140,11 @@ back_refused cpus n now s up long clear = by (nat_le (length s.cpus.cpus) n) ref
         (not_when (nat_le (length s.cpus.cpus) n) why.NoCpu e)
         (stops (online_cpu n s) (bad_now now ∷ []) why.Online (is_when (is_online n s.cpus) why.Online on)))
 
-pub online_same : {R : Type 0} (step : R → FiringCall → R → Type 0) (view : R → FiringView) (cpus n now : ℕ)
+pub online_same : {R : Type 0} (firing : Raise R) (cpus n now : ℕ)
     (answer : Result (Unit {0}) Refusal) (s t : SystemView R) → s.cpus.online ≡ replicate cpus true
-    → length s.cpus.cpus ≡ cpus → Changes step view s (Online n now answer) t → (is_ok answer ≡ false) × (t ≡ s)
-online_same step view cpus n now answer s t up long (inl (e, first, is, same)) = (ap is_ok is, same)
-online_same step view cpus n now answer s t up long (inr (clear, goes)) = absurd (back_refused cpus n now s up long clear)
+    → length s.cpus.cpus ≡ cpus → Changes firing s (Online n now answer) t → (is_ok answer ≡ false) × (t ≡ s)
+online_same firing cpus n now answer s t up long (inl (e, first, is, same)) = (ap is_ok is, same)
+online_same firing cpus n now answer s t up long (inr (clear, goes)) = absurd (back_refused cpus n now s up long clear)
 
 -- ---- whether a reprogram is accepted
 
@@ -160,16 +160,16 @@ or_some : (o : Option Refusal) (whys : List (Option Refusal)) → (first_refusal
 or_some None whys not e = not e
 or_some (Some x) whys not e = none_some (sym e)
 
-module _ {R : Type 0} (step : R → FiringCall → R → Type 0) (view : R → FiringView) (cpus : ℕ) (s t : SystemView R)
-    (sound : IsSound view s) (still : AllStill s.cpus) (up : s.cpus.online ≡ replicate cpus true)
+module _ {R : Type 0} (firing : Raise R) (cpus : ℕ) (s t : SystemView R)
+    (sound : IsSound firing.view s) (still : AllStill s.cpus) (up : s.cpus.online ≡ replicate cpus true)
     (long : length s.cpus.cpus ≡ cpus) (id moment : ℕ) (answer : Result (Unit {0}) Refusal) where
-  pub single_none : IsThere id false s → Changes step view s (Reprogram id moment answer) t → is_ok answer ≡ true
+  pub single_none : IsThere id false s → Changes firing s (Reprogram id moment answer) t → is_ok answer ≡ true
   single_none h (inl (e, first, is, same)) = absurd (none_some (sym (passes (no_cyclic id s) (omnipresent id s ∷ []) None
       (is_known id false s h still)
       (passes (omnipresent id s) [] None (not_when (is_omnipresent id s) why.Omnipresent h.place) refl)) ∙ first))
   single_none h (inr (clear, (n, home, (is, only)))) = ok_true answer is
 
-  pub single_on : (n : ℕ) → IsThere id false s → Changes step view s (ReprogramOn id n moment answer) t → is_ok answer ≡ false
+  pub single_on : (n : ℕ) → IsThere id false s → Changes firing s (ReprogramOn id n moment answer) t → is_ok answer ≡ false
   single_on n h (inl (e, first, is, same)) = err_false answer e is
   single_on n h (inr (clear, goes)) = absurd (or_some (no_cyclic id s) (no_cpu n s ∷ offline_cpu n s ∷ no_component id n s ∷ [])
       (or_some (no_cpu n s) (offline_cpu n s ∷ no_component id n s ∷ []) (or_some (offline_cpu n s) (no_component id n s ∷ [])
@@ -177,7 +177,7 @@ module _ {R : Type 0} (step : R → FiringCall → R → Type 0) (view : R → F
       (is_when (not (is_omnipresent id s && has_on n id s.cpus)) why.NoCyclic
       (ap (λ b. not (b && has_on n id s.cpus)) h.place)))))) clear)
 
-  pub every_none : IsThere id true s → Changes step view s (Reprogram id moment answer) t → is_ok answer ≡ false
+  pub every_none : IsThere id true s → Changes firing s (Reprogram id moment answer) t → is_ok answer ≡ false
   every_none h (inl (e, first, is, same)) = err_false answer e is
   every_none h (inr (clear, goes)) = absurd (or_some (no_cyclic id s) (omnipresent id s ∷ [])
       (λ e. none_some (sym e ∙ stops (omnipresent id s) [] why.Omnipresent
@@ -201,11 +201,11 @@ module _ {R : Type 0} (step : R → FiringCall → R → Type 0) (view : R → F
           let on = ap (λ bs. option_map_or (λ (b : Bool). b) (slice_get bs n) false) up ∙ all_online cpus n low in
           either r (eq_true r.id id named) (sound.agrees.everywhere k n r here is on)
 
-  pub every_on : (n : ℕ) → IsThere id true s → Changes step view s (ReprogramOn id n moment answer) t
+  pub every_on : (n : ℕ) → IsThere id true s → Changes firing s (ReprogramOn id n moment answer) t
       → is_ok answer ≡ nat_lt n cpus
   every_on n h d = by (nat_lt n cpus) refl d
     where
-      by : (b : Bool) → nat_lt n cpus ≡ b → Changes step view s (ReprogramOn id n moment answer) t → is_ok answer ≡ b
+      by : (b : Bool) → nat_lt n cpus ≡ b → Changes firing s (ReprogramOn id n moment answer) t → is_ok answer ≡ b
       by true e (inl (x, first, is, same)) = let low : n < cpus = grind (arith, nat_tests, e) in
           let on = ap (λ bs. option_map_or (λ (b : Bool). b) (slice_get bs n) false) up ∙ all_online cpus n low in
           absurd (none_some (sym (passes (no_cyclic id s) (no_cpu n s ∷ offline_cpu n s ∷ no_component id n s ∷ []) None

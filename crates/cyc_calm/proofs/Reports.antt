@@ -5,8 +5,8 @@ use Rattle.std.specs.List.{slice_get}
 use Rattle.std.proofs.lemmas.List.{length-map}
 use Rattle.std.proofs.lemmas.Option.{slice_get_within}
 use Rattle.cyc_types.specs.declared.Calls.{Ghosts as Calls}
-use Rattle.cyc_types.specs.Firing.{FiringView, FiringCall}
-use Rattle.cyc_ring.specs.Ends.{end_view, RaiseEndCall}
+use Rattle.cyc_types.specs.declared.Raise.{Ghosts as Raise}
+use Rattle.cyc_ring.specs.Ends.{raise_end}
 use Rattle.cyc_text.specs.declared.lines.Counts.{Counts}
 use Rattle.cyc_text.specs.Lines.{reported}
 use Rattle.cyc_script.specs.declared.script.Script.{Script}
@@ -40,10 +40,9 @@ texts counts number (name ∷ names) (line ∷ lines) long each =
     (λ i. reported name (here i) ++ rest i)
 
 -- a line of each name
-pub lines_long : {C R : Type 0} (step : R → FiringCall → R → Type 0) (view : R
-    → FiringView) (lines : List Line) (s t : Progress R C)
-    → Reports step view lines s t → length lines ≡ length s.names
-lines_long step view lines s t r = ap length (sym r.lines_are) ∙ length-map r.all (λ (told : Told). told.line)
+pub lines_long : {C R : Type 0} (firing : Raise R) (lines : List Line) (s t : Progress R C)
+    → Reports firing lines s t → length lines ≡ length s.names
+lines_long firing lines s t r = ap length (sym r.lines_are) ∙ length-map r.all (λ (told : Told). told.line)
     ∙ (sym (length-map r.all (λ (told : Told). told.named)) ∙ ap length r.names)
 
 -- counts that are as expected below the ceiling
@@ -79,8 +78,8 @@ module _ {C : Type 0} (handler : Calls C)
   run_text =
       let first = run.played.first in let last = run.played.last in let runs = run.played.runs in
       run.text_is ∙ text_is script
-      (way_of handler RaiseEndCall end_view first script.steps.items last runs) run.lines
-      (lines_long RaiseEndCall end_view run.lines last run.played.told run.played.reports
+      (way_of handler raise_end first script.steps.items last runs) run.lines
+      (lines_long raise_end run.lines last run.played.told run.played.reports
       ∙ names_stay handler script run.before first last runs calm run.many run.played.begins memory)
       (λ name. expects handler script run.before first last runs calm run.many run.played.begins memory name)
       below (λ name line at. is_reported handler script calls e text run name line at)

@@ -6,7 +6,7 @@ use Rattle.std.proofs.lemmas.Option.{slice_get_within, get_or_from_slice_get}
 use mathlib.Core.Logic.{dite}
 use native.Mathlib.Decide.{ℕ_discrete}
 use Rattle.cyc_types.specs.declared.Calls.{Ghosts as Calls}
-use Rattle.cyc_types.specs.Firing.{FiringView, FiringCall}
+use Rattle.cyc_types.specs.declared.Raise.{Ghosts as Raise}
 use Rattle.cyc_types.specs.Limits.{cyclics as most_cyclics, last_id}
 use Rattle.cyc_types.specs.Series.{never}
 use Rattle.cyc_types.specs.declared.level.Level.{Level}
@@ -54,9 +54,10 @@ few_ids (c ∷ cs) last rising some = let high = ids_high (c ∷ cs) rising (λ 
 abbrev no_calls : Calls (Unit {0})
 no_calls = record { count = λ a n. 0; called = λ a n level b. ⊥; may_refuse = λ a n. ⊥ }
 
-module _ {R : Type 0} (step : R → FiringCall → R → Type 0) (view : R → FiringView) where
+module _ {R : Type 0} (firing : Raise R) where
   -- every id that has a record is above 0, so a CPU has at most as many cyclics as ids were given
-  pub few_cyclics : (s : SystemView R) → IsSound view s → HasNoRecord 0 s.records → (n : ℕ) (x : CpuView R) → IsCpu n x s.cpus
+  pub few_cyclics : (s : SystemView R) → IsSound firing.view s → HasNoRecord 0 s.records → (n : ℕ) (x : CpuView R)
+      → IsCpu n x s.cpus
       → length x.cyclics ≤ s.last
   few_cyclics s sound low n x at = few_ids x.cyclics s.last (sound.lawful n x at).rising each
     where
@@ -73,38 +74,38 @@ module _ {R : Type 0} (step : R → FiringCall → R → Type 0) (view : R → F
 
   -- a CPU that has settled and has room for one more
   pub record HasRoomHere (x : CpuView R) : Type 0 where
-    pub settled : IsSettled view x
+    pub settled : IsSettled firing.view x
     pub few : length x.cyclics + 1 ≤ most_cyclics
 
   abbrev pub AllHaveRoom : CpusView R → Type 0
   AllHaveRoom v = (n : ℕ) (x : CpuView R) → IsCpu n x v → HasRoomHere x
 
-  reserve_done : (e : Refusal) (x y : CpuView R) → CpuChanges step view x (Reserve 1 (Err e)) y → HasRoomHere x
+  reserve_done : (e : Refusal) (x y : CpuView R) → CpuChanges firing x (Reserve 1 (Err e)) y → HasRoomHere x
       → e ≢ why.Memory → ⊥
   reserve_done why.Memory x y d h not = not refl
   reserve_done why.Full x y d h not = let same : length y.cyclics ≡ length x.cyclics = ap length d.0.cyclics in
       let full = d.1 in let few = h.few in omega (arith, same, full, few)
-  reserve_done why.Expanding x y d h not = refused_here step view 0 1 why.Expanding x y d tt h.settled
-  reserve_done (why.Busy id) x y d h not = refused_here step view 0 1 (why.Busy id) x y d tt h.settled
+  reserve_done why.Expanding x y d h not = refused_here firing 0 1 why.Expanding x y d tt h.settled
+  reserve_done (why.Busy id) x y d h not = refused_here firing 0 1 (why.Busy id) x y d tt h.settled
   reserve_done e x y d h not = absurd d.1
 
-  no_room_here : (more : ℕ) (e : Refusal) (x y : CpuView R) → CpuChanges step view x (AskRoom more (Err e)) y → IsUntil e
-      → IsSettled view x → ⊥
+  no_room_here : (more : ℕ) (e : Refusal) (x y : CpuView R) → CpuChanges firing x (AskRoom more (Err e)) y → IsUntil e
+      → IsSettled firing.view x → ⊥
   no_room_here more e x y d until settled =
-      never_put_off step view no_calls no_interrupts (λ soft budget answer s t h. absurd h)
+      never_put_off firing no_calls no_interrupts (λ soft budget answer s t h. absurd h)
       (λ soft budget answer s t h k. absurd h)
       (running tt x) (running tt y) (AskRoom more (Err e)) settled (d, refl) until
 
-  room_done : (e : Refusal) (x y : CpuView R) → CpuChanges step view x (AskRoom 1 (Err e)) y → HasRoomHere x → ⊥
+  room_done : (e : Refusal) (x y : CpuView R) → CpuChanges firing x (AskRoom 1 (Err e)) y → HasRoomHere x → ⊥
   room_done why.Full x y d h = let same : length y.cyclics ≡ length x.cyclics = ap length d.0.cyclics in
       let full = d.1 in let few = h.few in omega (arith, same, full, few)
   room_done why.Expanding x y d h = no_room_here 1 why.Expanding x y d tt h.settled
   room_done (why.Busy id) x y d h = no_room_here 1 (why.Busy id) x y d tt h.settled
   room_done e x y d h = absurd d.1
 
-  asked_room : (x y : CpuView R) → CpuChanges step view x (AskRoom 1 (Ok tt)) y → HasRoomHere x → HasRoomHere y
+  asked_room : (x y : CpuView R) → CpuChanges firing x (AskRoom 1 (Ok tt)) y → HasRoomHere x → HasRoomHere y
   asked_room x y d h = record {
-    settled = settled_one step view no_calls no_interrupts (λ soft budget answer s t h. absurd h)
+    settled = settled_one firing no_calls no_interrupts (λ soft budget answer s t h. absurd h)
         (λ soft budget answer s t h k. absurd h)
         (running tt x) (running tt y) (AskRoom 1 (Ok tt)) h.settled tt d.0.kept.size (d, refl);
     few = (let same : length y.cyclics ≡ length x.cyclics = ap length d.0.cyclics in let few = h.few in
@@ -120,7 +121,7 @@ module _ {R : Type 0} (step : R → FiringCall → R → Type 0) (view : R → F
 
   -- the CPUs are asked in turn, and none is the first that has none
   rooms_done : (before : List ℕ) (n : ℕ) (e : Refusal) (v w : CpusView R) → AllHaveRoom v
-      → Works step view (rooms 1 before ++ on n (AskRoom 1 (Err e)) ∷ []) v w → ⊥
+      → Works firing (rooms 1 before ++ on n (AskRoom 1 (Err e)) ∷ []) v w → ⊥
   rooms_done [] n e v w h (u, d, rest) = room_done e d.before d.after d.change (h n d.before d.here)
   rooms_done (m ∷ before) n e v w h (u, d, rest) =
       rooms_done before n e u w (room_at m _ v u d (asked_room d.before d.after d.change) h) rest
@@ -134,14 +135,14 @@ module _ {R : Type 0} (step : R → FiringCall → R → Type 0) (view : R → F
 
   -- a new cyclic is refused for want of memory alone
   pub add_done : (level : Level) (when : When) (now : ℕ) (e : Refusal) (s t : SystemView R) → now < never
-      → s.last + 1 ≤ last_id → AllHaveRoom s.cpus → e ≢ why.Memory → Changes step view s (Add level when now (Err e)) t → ⊥
+      → s.last + 1 ≤ last_id → AllHaveRoom s.cpus → e ≢ why.Memory → Changes firing s (Add level when now (Err e)) t → ⊥
   add_done level when now e s t early low h not (inl (x, first, is, same)) = not_first now s x early low first
   add_done level when now e s t early low h not (inr (clear, (d, chosen, inl ((u, c, last), records, given)))) =
       reserve_done e c.before c.after c.change (h d c.before c.here) not
   add_done level when now e s t early low h not (inr (clear, (d, chosen, inr (is, only)))) = not is
 
   pub omni_done : (level : Level) (when : When) (skew now : ℕ) (e : Refusal) (s t : SystemView R) → now < never
-      → s.last + 1 ≤ last_id → AllHaveRoom s.cpus → e ≢ why.Memory → Changes step view s (AddOmni level when skew now (Err e)) t
+      → s.last + 1 ≤ last_id → AllHaveRoom s.cpus → e ≢ why.Memory → Changes firing s (AddOmni level when skew now (Err e)) t
       → ⊥
   omni_done level when skew now e s t early low h not (inl (x, first, is, same)) = not_first now s x early low first
   omni_done level when skew now e s t early low h not (inr (clear, (inl (inl (before, n, after, works)), records, last))) =

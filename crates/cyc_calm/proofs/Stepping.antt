@@ -7,7 +7,7 @@ use Rattle.std.proofs.lemmas.Bool.Decides.{nat_tests}
 use mathlib.Core.Logic.{dite}
 use native.Mathlib.Decide.{ℕ_discrete}
 use Rattle.cyc_types.specs.declared.Calls.{Ghosts as Calls}
-use Rattle.cyc_types.specs.Firing.{FiringView, FiringCall}
+use Rattle.cyc_types.specs.declared.Raise.{Ghosts as Raise}
 use Rattle.cyc_types.specs.Limits.{cyclics as most_cyclics, last_id}
 use Rattle.cyc_types.specs.declared.moment.When.{When}
 use Rattle.cyc_types.specs.declared.refusal.Refusal.{Refusal}
@@ -73,10 +73,10 @@ pub no_moment_of : (number : ℤ) → number <ℤ pos 0 → is_moment number ≡
 no_moment_of number low = ap not (so_true _ low.lt)
 
 module _ {C R : Type 0} (handler : Calls C)
-    (step : R → FiringCall → R → Type 0) (view : R → FiringView) (cpus names : ℕ) (few : names ≤ most_cyclics) where
+    (firing : Raise R) (cpus names : ℕ) (few : names ≤ most_cyclics) where
   -- more names were introduced
-  fits_more : (given : ℕ) (has : ℕ → Standing) (s : Progress R C) → Fits step view cpus names given has s
-      → Fits step view cpus names (given + 1) has s
+  fits_more : (given : ℕ) (has : ℕ → Standing) (s : Progress R C) → Fits firing cpus names given has s
+      → Fits firing cpus names (given + 1) has s
   fits_more given has s h = record {
     rising = h.rising;
     above = h.above;
@@ -100,15 +100,15 @@ module _ {C R : Type 0} (handler : Calls C)
 
   -- A step was accepted as the closed form says, and what is true stays.
   pub record Next (given : ℕ) (has : ℕ → Standing) (x : Step) (s t : Progress R C)
-      (d : Does handler step view x s t) : Type 0 where
-    pub agree : OnlyMoves x ⊎ (accepted handler step view x s t d ≡ is_taken cpus has x)
-    pub fits : Fits step view cpus names (names_after given x) (cond (is_taken cpus has x) (after_step x has) has) t
+      (d : Does handler firing x s t) : Type 0 where
+    pub agree : OnlyMoves x ⊎ (accepted handler firing x s t d ≡ is_taken cpus has x)
+    pub fits : Fits firing cpus names (names_after given x) (cond (is_taken cpus has x) (after_step x has) has) t
 
   -- and nothing is open after it, as before it
   pub record NextCalm (given : ℕ) (has : ℕ → Standing) (x : Step) (s t : Progress R C)
-      (d : Does handler step view x s t) : Type 0 where
+      (d : Does handler firing x s t) : Type 0 where
     pub next : Next given has x s t d
-    pub calm : IsCalmNow step view s → IsCalmNow step view t
+    pub calm : IsCalmNow firing s → IsCalmNow firing t
 
   -- there are ids enough
   ids_left : (last given : ℕ) → last ≤ given → given + 1 ≤ names → last + 1 ≤ last_id
@@ -117,14 +117,14 @@ module _ {C R : Type 0} (handler : Calls C)
   -- ---- a name gets a cyclic
 
   gets : (given : ℕ) (has : ℕ → Standing) (name id : ℕ) (st : Standing) (call : SystemCall)
-      (s t : Progress R C) (c : CallsFor step view name call s t) → Fits step view cpus names given has s → given + 1 ≤ names
+      (s t : Progress R C) (c : CallsFor firing name call s t) → Fits firing cpus names given has s → given + 1 ≤ names
       → name < names → t.names ≡ slice_set s.names name (Cyclic id) → id ≡ s.side.system.last + 1 → t.side.system.last ≡ id
       → t.side.system.cpus.online ≡ s.side.system.cpus.online
       → Is st (Cyclic id) t.side.system
       → ((own : ℕ) → own ≢ id → TouchesRecord own call → ⊥)
-      → Fits step view cpus names (given + 1) (with_standing name st has) t
+      → Fits firing cpus names (given + 1) (with_standing name st has) t
   gets given has name id st call s t c h low here set next last online is others =
-      fits_set step view cpus names given has s t name call c h online (Cyclic id) st (given + 1) (with_standing name st has)
+      fits_set firing cpus names given has s t name call c h online (Cyclic id) st (given + 1) (with_standing name st has)
       set (let long = h.long in omega (arith, here, long)) (let a = h.few in omega (arith, a, next, last)) is
       (standing_here name st has) (λ other ne. standing_beside name other st has ne)
       (λ own e. (let same : id ≡ own = same_some e in (
@@ -137,18 +137,18 @@ module _ {C R : Type 0} (handler : Calls C)
   -- ---- add
 
   added : (given : ℕ) (has : ℕ → Standing) (a : AddStep) (when : When) (answer : Result ℕ Refusal) (s t : Progress R C)
-      → (did : CallsFor step view a.name (Add a.level when s.clock answer) s t) → Fits step view cpus names given has s
-      → HasWaited step view s → given + 1 ≤ names → a.name < names → answer ≢ Err why.Memory
-      → (is_ok answer ≡ true) × Fits step view cpus names (given + 1) (with_standing a.name OnOne has) t
-      × (IsCalmNow step view s → IsCalmNow step view t)
+      → (did : CallsFor firing a.name (Add a.level when s.clock answer) s t) → Fits firing cpus names given has s
+      → HasWaited firing s → given + 1 ≤ names → a.name < names → answer ≢ Err why.Memory
+      → (is_ok answer ≡ true) × Fits firing cpus names (given + 1) (with_standing a.name OnOne has) t
+      × (IsCalmNow firing s → IsCalmNow firing t)
   added given has a when (Ok id) s t did h w low here mem = by did.did
     where
-      by : Changes step view s.side.system (Add a.level when s.clock (Ok id)) t.side.system
-          → (is_ok {E = Refusal} (Ok id) ≡ true) × Fits step view cpus names (given + 1) (with_standing a.name OnOne has) t
-          × (IsCalmNow step view s → IsCalmNow step view t)
+      by : Changes firing s.side.system (Add a.level when s.clock (Ok id)) t.side.system
+          → (is_ok {E = Refusal} (Ok id) ≡ true) × Fits firing cpus names (given + 1) (with_standing a.name OnOne has) t
+          × (IsCalmNow firing s → IsCalmNow firing t)
       by (inl (e, first, is, same)) = absurd (let odd : Ok id ≡ Err e = is in cc)
       by (inr (clear, (d, chosen, next, works, records, last))) =
-          let k = keeps_call step view s.side.system t.side.system (Add a.level when s.clock (Ok id)) did.did tt in (
+          let k = keeps_call firing s.side.system t.side.system (Add a.level when s.clock (Ok id)) did.did tt in (
             refl,
             gets given has a.name id OnOne (Add a.level when s.clock (Ok id)) s t did h low here did.told next last k.online
                 (new_there id a.level (On d false) s.side.system.records t.side.system did.sound.fit.rising records)
@@ -159,31 +159,31 @@ module _ {C R : Type 0} (handler : Calls C)
               still = k.still q.still;
             },
           )
-  added given has a when (Err e) s t did h w low here mem = absurd (add_done step view a.level when s.clock e s.side.system
+  added given has a when (Err e) s t did h w low here mem = absurd (add_done firing a.level when s.clock e s.side.system
       t.side.system h.early (ids_left s.side.system.last given h.few low)
-      (waited_room step view cpus names given has s h w (omega (arith, low, few))) (λ q. mem (ap Err q)) did.did)
+      (waited_room firing cpus names given has s h w (omega (arith, low, few))) (λ q. mem (ap Err q)) did.did)
 
   pub add_next : (given : ℕ) (has : ℕ → Standing) (a : AddStep) (s t : Progress R C)
-      (d : Does handler step view (steps.Add a) s t) → Fits step view cpus names given has s
-      → HasWaited step view s → given + 1 ≤ names → a.name < names
-      → NoMemoryRefused (calls_in (call_of handler step view (steps.Add a) s t d))
+      (d : Does handler firing (steps.Add a) s t) → Fits firing cpus names given has s
+      → HasWaited firing s → given + 1 ≤ names → a.name < names
+      → NoMemoryRefused (calls_in (call_of handler firing (steps.Add a) s t d))
       → NextCalm given has (steps.Add a) s t d
   add_next given has a s t (inl (when, starts, lasts, long, (answer, did))) h w low here mem =
       let (ok, fits, calm) = added given has a when answer s t did h w low here mem.0 in
       let series = series_of a.start a.interval when starts lasts long in record {
         next = record {
           agree = inr (ok ∙ sym series);
-          fits = subst (λ (b : Bool). Fits step view cpus names (given + 1) (cond b (with_standing a.name OnOne has) has) t)
+          fits = subst (λ (b : Bool). Fits firing cpus names (given + 1) (cond b (with_standing a.name OnOne has) has) t)
               (sym series) fits;
         };
         calm = calm;
       }
   add_next given has a s t (inr (numbers, same)) h w low here mem =
       let series = no_series_of a.start a.interval numbers in
-      let stays = stays_same step view cpus names given has s t same h in record {
+      let stays = stays_same firing cpus names given has s t same h in record {
         next = record {
           agree = inr (sym series);
-          fits = subst (λ (b : Bool). Fits step view cpus names (given + 1) (cond b (with_standing a.name OnOne has) has) t)
+          fits = subst (λ (b : Bool). Fits firing cpus names (given + 1) (cond b (with_standing a.name OnOne has) has) t)
               (sym series) (fits_more given has t stays.fits);
         };
         calm = stays.calm;
@@ -193,19 +193,19 @@ module _ {C R : Type 0} (handler : Calls C)
 
   added_everywhere : (given : ℕ) (has : ℕ → Standing) (a : OmniStep) (when : When) (answer : Result ℕ Refusal)
       (s t : Progress R C)
-      → (did : CallsFor step view a.name (AddOmni a.level when a.skew s.clock answer) s t)
-      → Fits step view cpus names given has s
-      → HasWaited step view s → given + 1 ≤ names → a.name < names → answer ≢ Err why.Memory
-      → (is_ok answer ≡ true) × Fits step view cpus names (given + 1) (with_standing a.name OnAll has) t
-      × (IsCalmNow step view s → IsCalmNow step view t)
+      → (did : CallsFor firing a.name (AddOmni a.level when a.skew s.clock answer) s t)
+      → Fits firing cpus names given has s
+      → HasWaited firing s → given + 1 ≤ names → a.name < names → answer ≢ Err why.Memory
+      → (is_ok answer ≡ true) × Fits firing cpus names (given + 1) (with_standing a.name OnAll has) t
+      × (IsCalmNow firing s → IsCalmNow firing t)
   added_everywhere given has a when (Ok id) s t did h w low here mem = by did.did
     where
-      by : Changes step view s.side.system (AddOmni a.level when a.skew s.clock (Ok id)) t.side.system
-          → (is_ok {E = Refusal} (Ok id) ≡ true) × Fits step view cpus names (given + 1) (with_standing a.name OnAll has) t
-          × (IsCalmNow step view s → IsCalmNow step view t)
+      by : Changes firing s.side.system (AddOmni a.level when a.skew s.clock (Ok id)) t.side.system
+          → (is_ok {E = Refusal} (Ok id) ≡ true) × Fits firing cpus names (given + 1) (with_standing a.name OnAll has) t
+          × (IsCalmNow firing s → IsCalmNow firing t)
       by (inl (e, first, is, same)) = absurd (let odd : Ok id ≡ Err e = is in cc)
       by (inr (clear, (next, works, records, last))) =
-          let k = keeps_call step view s.side.system t.side.system (AddOmni a.level when a.skew s.clock (Ok id)) did.did tt in (
+          let k = keeps_call firing s.side.system t.side.system (AddOmni a.level when a.skew s.clock (Ok id)) did.did tt in (
             refl,
             gets given has a.name id OnAll (AddOmni a.level when a.skew s.clock (Ok id)) s t did h low here did.told next last
                 k.online
@@ -217,31 +217,31 @@ module _ {C R : Type 0} (handler : Calls C)
               still = k.still q.still;
             },
           )
-  added_everywhere given has a when (Err e) s t did h w low here mem = absurd (omni_done step view a.level when a.skew s.clock e
+  added_everywhere given has a when (Err e) s t did h w low here mem = absurd (omni_done firing a.level when a.skew s.clock e
       s.side.system t.side.system h.early (ids_left s.side.system.last given h.few low)
-      (waited_room step view cpus names given has s h w (omega (arith, low, few))) (λ q. mem (ap Err q)) did.did)
+      (waited_room firing cpus names given has s h w (omega (arith, low, few))) (λ q. mem (ap Err q)) did.did)
 
   pub omni_next : (given : ℕ) (has : ℕ → Standing) (a : OmniStep) (s t : Progress R C)
-      (d : Does handler step view (steps.Omni a) s t) → Fits step view cpus names given has s
-      → HasWaited step view s → given + 1 ≤ names → a.name < names
-      → NoMemoryRefused (calls_in (call_of handler step view (steps.Omni a) s t d))
+      (d : Does handler firing (steps.Omni a) s t) → Fits firing cpus names given has s
+      → HasWaited firing s → given + 1 ≤ names → a.name < names
+      → NoMemoryRefused (calls_in (call_of handler firing (steps.Omni a) s t d))
       → NextCalm given has (steps.Omni a) s t d
   omni_next given has a s t (inl (when, starts, lasts, long, (answer, did))) h w low here mem =
       let (ok, fits, calm) = added_everywhere given has a when answer s t did h w low here mem.0 in
       let series = series_of a.start a.interval when starts lasts long in record {
         next = record {
           agree = inr (ok ∙ sym series);
-          fits = subst (λ (b : Bool). Fits step view cpus names (given + 1) (cond b (with_standing a.name OnAll has) has) t)
+          fits = subst (λ (b : Bool). Fits firing cpus names (given + 1) (cond b (with_standing a.name OnAll has) has) t)
               (sym series) fits;
         };
         calm = calm;
       }
   omni_next given has a s t (inr (numbers, same)) h w low here mem =
       let series = no_series_of a.start a.interval numbers in
-      let stays = stays_same step view cpus names given has s t same h in record {
+      let stays = stays_same firing cpus names given has s t same h in record {
         next = record {
           agree = inr (sym series);
-          fits = subst (λ (b : Bool). Fits step view cpus names (given + 1) (cond b (with_standing a.name OnAll has) has) t)
+          fits = subst (λ (b : Bool). Fits firing cpus names (given + 1) (cond b (with_standing a.name OnAll has) has) t)
               (sym series) (fits_more given has t stays.fits);
         };
         calm = stays.calm;

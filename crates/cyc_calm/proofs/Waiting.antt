@@ -2,7 +2,7 @@
 use Rattle.std.proofs.Common.{◌≡◌, ◌∙◌, ℕ, ◌+◌, ◌<◌, ◌≤◌, Option, Some, None}
 use Rattle.std.proofs.Common.{Result, Ok, Err, List, [], ◌∷◌, length, refl, sym, ap, subst, arith}
 use Rattle.std.specs.List.{FoldsTo}
-use Rattle.cyc_types.specs.Firing.{FiringView, FiringCall}
+use Rattle.cyc_types.specs.declared.Raise.{Ghosts as Raise}
 use Rattle.cyc_types.specs.Limits.{cyclics as most_cyclics}
 use Rattle.cyc_types.specs.Series.{never}
 use Rattle.cyc_types.specs.declared.receipt.Receipt.{Receipt}
@@ -28,7 +28,7 @@ leaving_absent Absent id s h = refl
 leaving_absent OnOne id s h = absurd h
 leaving_absent OnAll id s h = absurd h
 
-module _ {C R : Type 0} (step : R → FiringCall → R → Type 0) (view : R → FiringView) where
+module _ {C R : Type 0} (firing : Raise R) where
   -- nothing is open
   pub record IsCalmNow (p : Progress R C) : Type 0 where
     pub none : NoneLeaves p.names
@@ -37,22 +37,22 @@ module _ {C R : Type 0} (step : R → FiringCall → R → Type 0) (view : R →
   -- and each CPU has settled
   pub record HasWaited (p : Progress R C) : Type 0 where
     pub none : NoneLeaves p.names
-    pub settled : AllSettled view p.side.system.cpus.cpus
-    pub sound : IsSound view p.side.system
+    pub settled : AllSettled firing.view p.side.system.cpus.cpus
+    pub sound : IsSound firing.view p.side.system
 
   pub waited_calm : (p : Progress R C) → HasWaited p → IsCalmNow p
   waited_calm p h = record { none = h.none; still = λ n x at. (h.settled n x at).still }
 
   poll_fits : (cpus names given : ℕ) (has : ℕ → Standing) (s : Progress R C) (name id : ℕ)
       (answer : Result (Option Receipt) Refusal) (t : Progress R C)
-      → named_at s.names name ≡ Leaving id → CallsFor step view name (PollRemove id answer) s t
-      → Fits step view cpus names given has s
-      → Fits step view cpus names given has t
+      → named_at s.names name ≡ Leaving id → CallsFor firing name (PollRemove id answer) s t
+      → Fits firing cpus names given has s
+      → Fits firing cpus names given has t
   poll_fits cpus names given has s name id (Ok (Some receipt)) t at c h =
-      fits_set step view cpus names given has s t name (PollRemove id (Ok (Some receipt))) c h
-      (polled_given step view id (Ok (Some receipt)) s.side.system t.side.system c.did).online
+      fits_set firing cpus names given has s t name (PollRemove id (Ok (Some receipt))) c h
+      (polled_given firing id (Ok (Some receipt)) s.side.system t.side.system c.did).online
       (Removed receipt) Absent given has c.told (name_low s.names name id (ap id_of at))
-      (subst (λ (k : ℕ). k ≤ given) (sym (polled_given step view id (Ok
+      (subst (λ (k : ℕ). k ≤ given) (sym (polled_given firing id (Ok
       (Some receipt)) s.side.system t.side.system c.did).last) h.few) tt
       (leaving_absent (has name) id s.side.system
       (subst (λ (z : Named). Is (has name) z s.side.system) at (h.each name)))
@@ -62,24 +62,24 @@ module _ {C R : Type 0} (step : R → FiringCall → R → Type 0) (view : R →
       none_is : {x : ℕ} → None ≡ Some x → ⊥
       none_is {x = x} e = cc
   poll_fits cpus names given has s name id (Ok None) t at c h =
-      fits_same step view cpus names given has s t name (PollRemove id (Ok None)) c h
-      (polled_given step view id (Ok None) s.side.system t.side.system c.did).online c.told
-      (subst (λ (k : ℕ). k ≤ given) (sym (polled_given step view id (Ok None) s.side.system t.side.system c.did).last) h.few)
+      fits_same firing cpus names given has s t name (PollRemove id (Ok None)) c h
+      (polled_given firing id (Ok None) s.side.system t.side.system c.did).online c.told
+      (subst (λ (k : ℕ). k ≤ given) (sym (polled_given firing id (Ok None) s.side.system t.side.system c.did).last) h.few)
       (λ own touches. touches)
   poll_fits cpus names given has s name id (Err e) t at c h =
-      fits_same step view cpus names given has s t name (PollRemove id (Err e)) c h
-      (polled_given step view id (Err e) s.side.system t.side.system c.did).online c.told
-      (subst (λ (k : ℕ). k ≤ given) (sym (polled_given step view id (Err e) s.side.system t.side.system c.did).last) h.few)
+      fits_same firing cpus names given has s t name (PollRemove id (Err e)) c h
+      (polled_given firing id (Err e) s.side.system t.side.system c.did).online c.told
+      (subst (λ (k : ℕ). k ≤ given) (sym (polled_given firing id (Err e) s.side.system t.side.system c.did).last) h.few)
       (λ own touches. touches)
 
   polls_fit : (cpus names given : ℕ) (has : ℕ → Standing) (polls : List Poll) (s t : Progress R C)
-      → FoldsTo (Polls step view) s polls t → Fits step view cpus names given has s → Fits step view cpus names given has t
-  polls_fit cpus names given has [] s t e h = subst (λ (p : Progress R C). Fits step view cpus names given has p) e h
+      → FoldsTo (Polls firing) s polls t → Fits firing cpus names given has s → Fits firing cpus names given has t
+  polls_fit cpus names given has [] s t e h = subst (λ (p : Progress R C). Fits firing cpus names given has p) e h
   polls_fit cpus names given has (p ∷ polls) s t (u, (at, c), rest) h =
       polls_fit cpus names given has polls u t rest (poll_fits cpus names given has s p.name p.id p.answer u at c h)
 
-  settles_fit : (cpus names given : ℕ) (has : ℕ → Standing) (s t : Progress R C) → Settles step view s t
-      → Fits step view cpus names given has s → Fits step view cpus names given has t
+  settles_fit : (cpus names given : ℕ) (has : ℕ → Standing) (s t : Progress R C) → Settles firing s t
+      → Fits firing cpus names given has s → Fits firing cpus names given has t
   settles_fit cpus names given has s t q h = record {
     rising = q.sound.fit.rising;
     above = subst (λ rs. HasNoRecord 0 rs) (sym q.asked.records) h.above;
@@ -98,17 +98,17 @@ module _ {C R : Type 0} (step : R → FiringCall → R → Type 0) (view : R →
         (sym (ap (λ ns. id_of (named_at ns b)) q.names) ∙ f);
   }
 
-  pub wait_fits : (cpus names given : ℕ) (has : ℕ → Standing) (s t : Progress R C) → Waits step view s t
-      → Fits step view cpus names given has s → Fits step view cpus names given has t × HasWaited t
+  pub wait_fits : (cpus names given : ℕ) (has : ℕ → Standing) (s t : Progress R C) → Waits firing s t
+      → Fits firing cpus names given has s → Fits firing cpus names given has t × HasWaited t
   wait_fits cpus names given has s t (polls, u, p, q) h = (
     settles_fit cpus names given has u t q (polls_fit cpus names given has polls s u p h),
     record { none = q.none; settled = q.settled; sound = q.sound },
   )
 
   -- after a wait each CPU has room for one more, where fewer names were introduced than a CPU can have cyclics
-  pub waited_room : (cpus names given : ℕ) (has : ℕ → Standing) (p : Progress R C) → Fits step view cpus names given has p
-      → HasWaited p → given + 1 ≤ most_cyclics → AllHaveRoom step view p.side.system.cpus
+  pub waited_room : (cpus names given : ℕ) (has : ℕ → Standing) (p : Progress R C) → Fits firing cpus names given has p
+      → HasWaited p → given + 1 ≤ most_cyclics → AllHaveRoom firing p.side.system.cpus
   waited_room cpus names given has p h w low n x at = record {
     settled = w.settled n x at;
-    few = (let a = few_cyclics step view p.side.system w.sound h.above n x at in let b = h.few in omega (arith, a, b, low));
+    few = (let a = few_cyclics firing p.side.system w.sound h.above n x at in let b = h.few in omega (arith, a, b, low));
   }

@@ -2,7 +2,7 @@
 
 ghost use Rattle.std.specs.Prelude.{◌≡◌, ℕ, List, length};
 ghost use Rattle.cyc_ring.specs.declared.ends.RaiseEnd.{RaiseEnd};
-ghost use Rattle.cyc_ring.specs.Ends.{end_view, RaiseEndCall};
+ghost use Rattle.cyc_ring.specs.Ends.{raise_end};
 ghost use Rattle.cyc_script.specs.declared.script.Script.{Script as AnyScript};
 ghost use Rattle.cyc_expected.specs.Expected.{expected};
 ghost use Rattle.cyc_expected.specs.Calm.{AgreeButMoves};
@@ -25,11 +25,11 @@ use cyc_types::Calls;
 /// It does nothing when it runs: its clause is the law.
 pub fn calm_run_law<C: Calls>()
     ensures { (script : AnyScript) (all : List (Seated C)) (first last : Progress RaiseEnd C)
-        (runs : Runs C.Calls RaiseEndCall end_view first script.steps.items last)
+        (runs : Runs C.Calls raise_end first script.steps.items last)
         → IsCalm script → length all ≡ script.cpus
         → IsAtFirst (length script.names.items) all first
-        → NoMemoryRefused (run_calls C.Calls RaiseEndCall end_view first script.steps.items last runs)
-        → AgreeButMoves (way_of C.Calls RaiseEndCall end_view first script.steps.items last runs)
+        → NoMemoryRefused (run_calls C.Calls raise_end first script.steps.items last runs)
+        → AgreeButMoves (way_of C.Calls raise_end first script.steps.items last runs)
         (calm_way script.cpus script.steps.items) }
 {}
 
@@ -38,11 +38,11 @@ pub fn calm_run_law<C: Calls>()
 /// It does nothing when it runs: its clause is the law.
 pub fn calm_expected_law<C: Calls>()
     ensures { (script : AnyScript) (all : List (Seated C)) (first last : Progress RaiseEnd C)
-        (runs : Runs C.Calls RaiseEndCall end_view first script.steps.items last) (name : ℕ)
+        (runs : Runs C.Calls raise_end first script.steps.items last) (name : ℕ)
         → IsCalm script → length all ≡ script.cpus
         → IsAtFirst (length script.names.items) all first
-        → NoMemoryRefused (run_calls C.Calls RaiseEndCall end_view first script.steps.items last runs)
+        → NoMemoryRefused (run_calls C.Calls raise_end first script.steps.items last runs)
         → expected script.cpus
-        (way_of C.Calls RaiseEndCall end_view first script.steps.items last runs) name
+        (way_of C.Calls raise_end first script.steps.items last runs) name
         ≡ expected script.cpus (calm_way script.cpus script.steps.items) name }
 {}

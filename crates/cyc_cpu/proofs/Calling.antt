@@ -2,8 +2,8 @@
 use Rattle.std.proofs.Common.{◌≡◌, ◌≢◌, ℕ, ◌++◌, ◌∷◌, List, length, Some, None, true, false, inl, inr, refl, sym, ap, ◌∙◌, subst}
 use Rattle.std.specs.Prelude.{Result, Ok, Err, IfOk, IfErr}
 use Rattle.cyc_types.specs.declared.Calls.{Ghosts as Calls}
+use Rattle.cyc_types.specs.declared.Raise.{Ghosts as Raise}
 use Rattle.cyc_types.specs.Series.{never}
-use Rattle.cyc_types.specs.Firing.{FiringView, FiringCall}
 use Rattle.cyc_soft.specs.declared.Ran.{Ran}
 use Rattle.cyc_soft.specs.declared.SoftRefused.{SoftRefused}
 use Rattle.cyc_types.specs.declared.level.Soft.{Soft}
@@ -25,21 +25,21 @@ use Rattle.cyc_cpu.specs.Cpu.{CpuView, Running, SameCpu, Makes, WhyStopped, Look
 use Rattle.cyc_cpu.specs.Calls.{CpuCall, Fire, SoftInterrupt, Add, Place, Reprogram, AskPending, AskTotals, AskRoom, Reserve}
 use Rattle.cyc_cpu.specs.Calls.{Widen, BeginRemove, PollRemove, TakeNow, AskSettled, Changes, Does, Stopped}
 
-module _ {C R : Type 0} (handler : Calls C) (step : R → FiringCall → R → Type 0) (view : R → FiringView)
+module _ {C R : Type 0} (handler : Calls C) (firing : Raise R)
     (interrupts : Soft → ℕ → Result Ran SoftRefused → Running C R → Running C R → Type 0) (now : ℕ) (s t : Running C R)
     (early : now ≢ never) (kept : SameCpu s.cpu t.cpu) where
   -- a fire at a moment that is not never
   pub fired : (answer : Result Fired FireRefused) → IfOk answer (λ r. r.expired ≡ length (expirations now (timers s.cpu.cyclics)))
       → IfOk answer (λ r. r.next ≡ earliest (timers t.cpu.cyclics))
-      → IfOk answer (λ r. Makes (at_level handler.called High) handler.count step view now
+      → IfOk answer (λ r. Makes (at_level handler.called High) handler.count firing now
       (expirations now (timers s.cpu.cyclics)) s.cpu.cyclics t.cpu.cyclics (sides s.calls s.cpu) (sides t.calls t.cpu) r.lost)
       → IfErr answer (λ e. (made : List Expiration) × (last : Expiration) × (rest : List Expiration)
       × (expirations now (timers s.cpu.cyclics) ≡ made ++ last ∷ rest) × (length made ≡ e.expired) × (at : C)
-      × Makes (at_level handler.called High) handler.count step view now made s.cpu.cyclics t.cpu.cyclics (sides s.calls s.cpu)
+      × Makes (at_level handler.called High) handler.count firing now made s.cpu.cyclics t.cpu.cyclics (sides s.calls s.cpu)
       (sides at t.cpu) e.lost
       × ((id : ℕ) → handler.count t.calls id ≡ handler.count at id)
       × WhyStopped handler.may_refuse s.cpu.most at last (timers t.cpu.cyclics) e.why)
-      → Does handler step view interrupts s (Fire now answer) t
+      → Does handler firing interrupts s (Fire now answer) t
   fired (Ok r) expired next makes stopped = (early, kept, expired, next, makes)
   fired (Err e) expired next makes (made, last, rest, listed, long, at, m, counted, stops) =
       inr (
@@ -60,71 +60,71 @@ module _ {C R : Type 0} (handler : Calls C) (step : R → FiringCall → R → T
       )
 
 -- why an add at a moment that is not never was refused
-pub not_added : {R : Type 0} (step : R → FiringCall → R → Type 0) (view : R → FiringView) (id now : ℕ) (level : Level)
+pub not_added : {R : Type 0} (firing : Raise R) (id now : ℕ) (level : Level)
     (when : When) (v w : CpuView R) (e : Refusal) → now ≢ never
-    → Changes step view v (Add id level when now (Err e)) w → Looked step view v w × WhyNotReserved view 1 v w e
-not_added step view id now level when v w BadNow early d = absurd (early d.1)
-not_added step view id now level when v w e early d = (d.2, d.3)
+    → Changes firing v (Add id level when now (Err e)) w → Looked firing v w × WhyNotReserved firing.view 1 v w e
+not_added firing id now level when v w BadNow early d = absurd (early d.1)
+not_added firing id now level when v w e early d = (d.2, d.3)
 
 -- what refused a fire at a moment that is not never
-pub not_fired : {C R : Type 0} (handler : Calls C) (step : R → FiringCall → R → Type 0) (view : R → FiringView)
+pub not_fired : {C R : Type 0} (handler : Calls C) (firing : Raise R)
     (interrupts : Soft → ℕ → Result Ran SoftRefused → Running C R → Running C R → Type 0) (now : ℕ) (s t : Running C R)
     (e : FireRefused) → now ≢ never
-    → Does handler step view interrupts s (Fire now (Err e)) t
-    → Stopped handler step view now e s t
-not_fired handler step view interrupts now s t e early (inl d) = absurd (early d.0)
-not_fired handler step view interrupts now s t e early (inr d) = d.2
+    → Does handler firing interrupts s (Fire now (Err e)) t
+    → Stopped handler firing now e s t
+not_fired handler firing interrupts now s t e early (inl d) = absurd (early d.0)
+not_fired handler firing interrupts now s t e early (inr d) = d.2
 
 -- what a cyclic may expire at most is the same for good
-not_taken_most : {R : Type 0} (step : R → FiringCall → R → Type 0) (view : R → FiringView) (id : ℕ) (v w : CpuView R)
-    (e : Refusal) → WhyNotTaken step view id v e w → w.most ≡ v.most
-not_taken_most {R} step view id v w why.NoCyclic d = ap (λ (x : CpuView R). x.most) d.1
-not_taken_most {R} step view id v w (why.Busy removed) d = ap (λ (x : CpuView R). x.most) d.2
-not_taken_most step view id v w why.Pending (still, some, n, more, a) = a.kept.most
-not_taken_most step view id v w e d = absurd d
+not_taken_most : {R : Type 0} (firing : Raise R) (id : ℕ) (v w : CpuView R)
+    (e : Refusal) → WhyNotTaken firing id v e w → w.most ≡ v.most
+not_taken_most {R} firing id v w why.NoCyclic d = ap (λ (x : CpuView R). x.most) d.1
+not_taken_most {R} firing id v w (why.Busy removed) d = ap (λ (x : CpuView R). x.most) d.2
+not_taken_most firing id v w why.Pending (still, some, n, more, a) = a.kept.most
+not_taken_most firing id v w e d = absurd d
 
-not_added_most : {R : Type 0} (step : R → FiringCall → R → Type 0) (view : R → FiringView) (id now : ℕ) (level : Level)
+not_added_most : {R : Type 0} (firing : Raise R) (id now : ℕ) (level : Level)
     (when : When) (v w : CpuView R) (e : Refusal)
-    → Changes step view v (Add id level when now (Err e)) w → w.most ≡ v.most
-not_added_most {R} step view id now level when v w BadNow d = ap (λ (x : CpuView R). x.most) d.2
-not_added_most step view id now level when v w e d = d.2.kept.most
+    → Changes firing v (Add id level when now (Err e)) w → w.most ≡ v.most
+not_added_most {R} firing id now level when v w BadNow d = ap (λ (x : CpuView R). x.most) d.2
+not_added_most firing id now level when v w e d = d.2.kept.most
 
-pub changes_most : {R : Type 0} (step : R → FiringCall → R → Type 0) (view : R → FiringView) (v w : CpuView R) (call : CpuCall)
-    → Changes step view v call w → w.most ≡ v.most
-changes_most step view v w (Add id level when now (Ok done)) (absent, early, a) = a.enters.kept.most ∙ a.widens.most
+pub changes_most : {R : Type 0} (firing : Raise R) (v w : CpuView R) (call : CpuCall)
+    → Changes firing v call w → w.most ≡ v.most
+changes_most firing v w (Add id level when now (Ok done)) (absent, early, a) = a.enters.kept.most ∙ a.widens.most
     ∙ a.reserves.most
-changes_most step view v w (Add id level when now (Err e)) d = not_added_most step view id now level when v w e d
-changes_most step view v w (Place id level interval moment carried) d = d.1.kept.most
-changes_most {R} step view v w (Reprogram id moment (Ok done)) (k, c, here, named, still, is) = ap (λ (x : CpuView R). x.most) is
-changes_most {R} step view v w (Reprogram id moment (Err e)) d = ap (λ (x : CpuView R). x.most) d.2
-changes_most step view v w (AskPending id (Some n)) d = d.0.kept.most
-changes_most {R} step view v w (AskPending id None) d = ap (λ (x : CpuView R). x.most) d.1
-changes_most step view v w (AskTotals id (Some t)) d = d.0.kept.most
-changes_most {R} step view v w (AskTotals id None) d = ap (λ (x : CpuView R). x.most) d.1
-changes_most step view v w (AskRoom more (Ok done)) d = d.0.kept.most
-changes_most step view v w (AskRoom more (Err e)) d = d.0.kept.most
-changes_most step view v w (Reserve more (Ok done)) d = d.0.most
-changes_most step view v w (Reserve more (Err e)) d = d.0.kept.most
-changes_most step view v w (Widen more) d = d.1.most
-changes_most step view v w (BeginRemove id (Ok (Done receipt))) (still, (c, counts, is, polled, l)) = l.most
-changes_most step view v w (BeginRemove id (Ok (Kept kept))) d = d.1.most
-changes_most {R} step view v w (BeginRemove id (Err e)) d = ap (λ (x : CpuView R). x.most) d.1
-changes_most step view v w (PollRemove (Some receipt)) d = d.leaves.most
-changes_most {R} step view v w (PollRemove None) (inl d) = ap (λ (x : CpuView R). x.most) d.1
-changes_most step view v w (PollRemove None) (inr (id, is_open, d)) = d.kept.most
-changes_most step view v w (TakeNow id (Ok taken)) (still, (c, counts, is, polled, l)) = l.most
-changes_most step view v w (TakeNow id (Err e)) d = not_taken_most step view id v w e d
-changes_most step view v w (AskSettled true) d = d.0.kept.most
-changes_most step view v w (AskSettled false) d = d.0.kept.most
-changes_most step view v w (Fire now answer) d = absurd d
-changes_most step view v w (SoftInterrupt level budget answer) d = absurd d
+changes_most firing v w (Add id level when now (Err e)) d = not_added_most firing id now level when v w e d
+changes_most firing v w (Place id level interval moment carried) d = d.1.kept.most
+changes_most {R} firing v w (Reprogram id moment (Ok done)) (k, c, here, named, still, is) = ap (λ (x : CpuView R). x.most) is
+changes_most {R} firing v w (Reprogram id moment (Err e)) d = ap (λ (x : CpuView R). x.most) d.2
+changes_most firing v w (AskPending id (Some n)) d = d.0.kept.most
+changes_most {R} firing v w (AskPending id None) d = ap (λ (x : CpuView R). x.most) d.1
+changes_most firing v w (AskTotals id (Some t)) d = d.0.kept.most
+changes_most {R} firing v w (AskTotals id None) d = ap (λ (x : CpuView R). x.most) d.1
+changes_most firing v w (AskRoom more (Ok done)) d = d.0.kept.most
+changes_most firing v w (AskRoom more (Err e)) d = d.0.kept.most
+changes_most firing v w (Reserve more (Ok done)) d = d.0.most
+changes_most firing v w (Reserve more (Err e)) d = d.0.kept.most
+changes_most firing v w (Widen more) d = d.1.most
+changes_most firing v w (BeginRemove id (Ok (Done receipt))) (still, (c, counts, is, polled, l)) = l.most
+changes_most firing v w (BeginRemove id (Ok (Kept kept))) d = d.1.most
+changes_most {R} firing v w (BeginRemove id (Err e)) d = ap (λ (x : CpuView R). x.most) d.1
+changes_most firing v w (PollRemove (Some receipt)) d = d.leaves.most
+changes_most {R} firing v w (PollRemove None) (inl d) = ap (λ (x : CpuView R). x.most) d.1
+changes_most firing v w (PollRemove None) (inr (id, is_open, d)) = d.kept.most
+changes_most firing v w (TakeNow id (Ok taken)) (still, (c, counts, is, polled, l)) = l.most
+changes_most firing v w (TakeNow id (Err e)) d = not_taken_most firing id v w e d
+changes_most firing v w (AskSettled true) d = d.0.kept.most
+changes_most firing v w (AskSettled false) d = d.0.kept.most
+changes_most firing v w (Fire now answer) d = absurd d
+changes_most firing v w (SoftInterrupt level budget answer) d = absurd d
 
 -- a fire leaves all but the cyclics and the ends
-pub fire_keeps : {C R : Type 0} (handler : Calls C) (step : R → FiringCall → R → Type 0) (view : R → FiringView)
+pub fire_keeps : {C R : Type 0} (handler : Calls C) (firing : Raise R)
     (interrupts : Soft → ℕ → Result Ran SoftRefused → Running C R → Running C R → Type 0) (now : ℕ) (s t : Running C R)
     (answer : Result Fired FireRefused)
-    → Does handler step view interrupts s (Fire now answer) t → SameCpu s.cpu t.cpu
-fire_keeps handler step view interrupts now s t (Ok r) d = d.1
-fire_keeps handler step view interrupts now s t (Err e) (inl (late, is, same)) =
+    → Does handler firing interrupts s (Fire now answer) t → SameCpu s.cpu t.cpu
+fire_keeps handler firing interrupts now s t (Ok r) d = d.1
+fire_keeps handler firing interrupts now s t (Err e) (inl (late, is, same)) =
     subst (λ x. SameCpu s.cpu x.cpu) (sym same) (record { removal = refl; size = refl; room = refl; most = refl })
-fire_keeps handler step view interrupts now s t (Err e) (inr d) = d.1
+fire_keeps handler firing interrupts now s t (Err e) (inr d) = d.1

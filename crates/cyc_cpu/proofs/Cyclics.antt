@@ -7,7 +7,8 @@ use Rattle.std.proofs.Math.ListN.{set}
 use Rattle.std.proofs.lemmas.List.{length-map, get_or_default, get_or-map, map-set, map-append, take-map, drop-map}
 use Rattle.cyc_fire.specs.Rows.{Row, Cyclic, IsRow, IsRising, HasNo, cyclic_of, cyclics_of}
 use Rattle.cyc_fire.specs.Ends.{IsEnd, IsCounted, IsHard}
-use Rattle.cyc_types.specs.Firing.{FiringView, FiringCall}
+use Rattle.cyc_types.specs.declared.Raise.{Ghosts as Raise}
+use Rattle.cyc_types.specs.Firing.{FiringView}
 use Rattle.cyc_types.specs.declared.level.Level.{Level}
 use Rattle.cyc_types.specs.declared.level.Level.TheVariants.{Low, Lock, High}
 use Rattle.cyc_cpu.specs.Calls.{CpuCall, Changes}
@@ -29,18 +30,18 @@ no_cyclic id rows none k d low same =
 pub cyclics_set : (rows : List Row) (i : ℕ) (u : Row) → cyclics_of (set rows i u) ≡ set (cyclics_of rows) i (cyclic_of u)
 cyclics_set rows i u = map-set cyclic_of rows i u
 
-pub asks_from : {R : Type 0} (step : R → FiringCall → R → Type 0) (view : R → FiringView) (id n : ℕ) (u v w : CpuView R) → u ≡ v
-    → Asks step view id n u w → Asks step view id n v w
-asks_from step view id n u v w is a = subst (λ x. Asks step view id n x w) is a
+pub asks_from : {R : Type 0} (firing : Raise R) (id n : ℕ) (u v w : CpuView R) → u ≡ v
+    → Asks firing id n u w → Asks firing id n v w
+asks_from firing id n u v w is a = subst (λ x. Asks firing id n x w) is a
 
 -- what a call does to a CPU, by what is inside it
-pub changes_from : {R : Type 0} (step : R → FiringCall → R → Type 0) (view : R → FiringView) (call : CpuCall) (u v w : CpuView R)
-    → u ≡ v → Changes step view u call w → Changes step view v call w
-changes_from step view call u v w is a = subst (λ x. Changes step view x call w) is a
+pub changes_from : {R : Type 0} (firing : Raise R) (call : CpuCall) (u v w : CpuView R)
+    → u ≡ v → Changes firing u call w → Changes firing v call w
+changes_from firing call u v w is a = subst (λ x. Changes firing x call w) is a
 
-pub looked_from : {R : Type 0} (step : R → FiringCall → R → Type 0) (view : R → FiringView) (u v w : CpuView R) → u ≡ v
-    → Looked step view u w → Looked step view v w
-looked_from step view u v w is a = subst (λ x. Looked step view x w) is a
+pub looked_from : {R : Type 0} (firing : Raise R) (u v w : CpuView R) → u ≡ v
+    → Looked firing u w → Looked firing v w
+looked_from firing u v w is a = subst (λ x. Looked firing x w) is a
 
 pub no_row_of : (id : ℕ) (rows : List Row) → HasNoCyclic id (cyclics_of rows) → HasNo id rows
 no_row_of id rows none k d low same =

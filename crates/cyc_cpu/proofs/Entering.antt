@@ -8,7 +8,8 @@ use Rattle.std.proofs.lemmas.Bool.Decides.{nat_tests}
 use Rattle.std.proofs.lemmas.List.{get_or_default}
 use Rattle.std.proofs.lemmas.List.Edits.{length-insert, get_or-insert_below, get_or-insert_at, get_or-insert_above}
 use Rattle.cyc_types.specs.Series.{never}
-use Rattle.cyc_types.specs.Firing.{FiringView, FiringCall, Admits, Expands, Learns, Sound, Stay, MayAdmit}
+use Rattle.cyc_types.specs.declared.Raise.{Ghosts as Raise}
+use Rattle.cyc_types.specs.Firing.{FiringView, Admits, Expands, Learns, Sound, Stay, MayAdmit}
 use Rattle.cyc_types.specs.Runs.{Goes}
 use Rattle.cyc_types.specs.declared.level.Level.{Level}
 use Rattle.cyc_types.specs.declared.level.Level.TheVariants as level
@@ -159,20 +160,20 @@ counted_entered most rows q u low counted few less carries k d long =
       | inr (j, old) ↦ subst (λ (y : Row). HasCounts most (cyclic_of y)) old.1 (counted j x old.0)
     ]
 
-entered_at : {R : Type 0} (step : R → FiringCall → R → Type 0) (view : R → FiringView) (soft own : Level) (size : ℕ)
+entered_at : {R : Type 0} (firing : Raise R) (soft own : Level) (size : ℕ)
     (marked : Option ℕ) (e f : R) (rows : List Row) (q id index : ℕ) (u : Row) →
-    IsEnd soft size marked (view e) rows → q ≤ length rows → HasNo id rows → marked ≢ Some id → u.timer.id ≡ id
-    → u.timer.level ≡ own → u.index ≡ index → Carries u → (Sound (view e) → Sound (view f)) →
-    (b : Bool) → (b ≡ true → own ≡ soft) → (b ≡ false → own ≢ soft) → Goes step view e (cond b (Admits id index ∷ []) []) f
-    → IsEnd soft size marked (view f) (insert rows q u)
-entered_at step view soft own size marked e f rows q id index u ready low none unmarked named at indexed carries sound true on off
+    IsEnd soft size marked (firing.view e) rows → q ≤ length rows → HasNo id rows → marked ≢ Some id → u.timer.id ≡ id
+    → u.timer.level ≡ own → u.index ≡ index → Carries u → (Sound (firing.view e) → Sound (firing.view f)) →
+    (b : Bool) → (b ≡ true → own ≡ soft) → (b ≡ false → own ≢ soft) → Goes firing e (cond b (Admits id index ∷ []) []) f
+    → IsEnd soft size marked (firing.view f) (insert rows q u)
+entered_at firing soft own size marked e f rows q id index u ready low none unmarked named at indexed carries sound true on off
     (m, (stepped, learns), last) =
-    end_entered soft size marked (view e) rows q id index u ready low none unmarked named carries (view f)
-    (subst (λ x. Learns (view e) (Admits id index) (view x)) last learns) (sound ready.sound) (at ∙ on refl) indexed
-entered_at step view soft own size marked e f rows q id index u ready low none unmarked named at indexed carries sound false on
+    end_entered soft size marked (firing.view e) rows q id index u ready low none unmarked named carries (firing.view f)
+    (subst (λ x. Learns (firing.view e) (Admits id index) (firing.view x)) last learns) (sound ready.sound) (at ∙ on refl) indexed
+entered_at firing soft own size marked e f rows q id index u ready low none unmarked named at indexed carries sound false on
     off g =
-    subst (λ x. IsEnd soft size marked (view x) (insert rows q u)) g
-    (end_beside soft size marked (view e) rows q id index u ready low none unmarked named carries
+    subst (λ x. IsEnd soft size marked (firing.view x) (insert rows q u)) g
+    (end_beside soft size marked (firing.view e) rows q id index u ready low none unmarked named carries
     (λ h. off refl (sym at ∙ h)))
 
 lock_yes : (own : Level) → same_level level.Lock own ≡ true → own ≡ level.Lock
@@ -195,31 +196,32 @@ low_no level.Low h q = absurd (cc)
 low_no level.Lock h q = absurd (cc)
 low_no level.High h q = absurd (cc)
 
-marks_same : {R : Type 0} (step : R → FiringCall → R → Type 0) (view : R → FiringView) (b : Bool) (id index : ℕ) (e f : R)
-    → Goes step view e (cond b (Admits id index ∷ []) []) f → (view f).marked ≡ (view e).marked
-marks_same step view true id index e f (m, (stepped, learns), last) = ap (λ x. (view x).marked) (sym last)
+marks_same : {R : Type 0} (firing : Raise R) (b : Bool) (id index : ℕ) (e f : R)
+    → Goes firing e (cond b (Admits id index ∷ []) []) f → (firing.view f).marked ≡ (firing.view e).marked
+marks_same firing true id index e f (m, (stepped, learns), last) = ap (λ x. (firing.view x).marked) (sym last)
     ∙ ap (λ (x : FiringView). x.marked) learns
-marks_same step view false id index e f g = ap (λ x. (view x).marked) (sym g)
+marks_same firing false id index e f g = ap (λ x. (firing.view x).marked) (sym g)
 
 -- the CPU with one cyclic more
-pub hard_entered : {R : Type 0} (step : R → FiringCall → R → Type 0) (view : R → FiringView) (size most : ℕ) (removal : Option ℕ)
+pub hard_entered : {R : Type 0} (firing : Raise R) (size most : ℕ) (removal : Option ℕ)
     (lock low lock' low' : R) (rows : List Row) (q id index : ℕ) (own : Level) (u : Row) →
-    IsHard view size most removal lock low rows → q ≤ length rows → HasNo id rows → removal ≢ Some id → u.timer.id ≡ id
+    IsHard firing.view size most removal lock low rows → q ≤ length rows → HasNo id rows → removal ≢ Some id → u.timer.id ≡ id
     → u.timer.level ≡ own → u.index ≡ index → Carries u → u.lost ≤ u.timer.expired → u.timer.expired ≤ most →
-    Goes step view lock (admits_at level.Lock own id index) lock' → Goes step view low (admits_at level.Low own id index) low'
-    → (Sound (view lock) → Sound (view lock')) → (Sound (view low) → Sound (view low')) →
-    IsHard view size most removal lock' low' (insert rows q u)
-hard_entered step view size most removal lock low lock' low' rows q id index own u h bound none still named at indexed carries few
+    Goes firing lock (admits_at level.Lock own id index) lock' → Goes firing low (admits_at level.Low own id index) low'
+    → (Sound (firing.view lock) → Sound (firing.view lock')) → (Sound (firing.view low) → Sound (firing.view low')) →
+    IsHard firing.view size most removal lock' low' (insert rows q u)
+hard_entered firing size most removal lock low lock' low' rows q id index own u h bound none still named at indexed carries few
     less lock_goes low_goes sound_lock sound_low =
-    let k = marks_same step view _ id index lock lock' lock_goes in
-    let w = marks_same step view _ id index low low' low_goes in
+    let k = marks_same firing _ id index lock lock' lock_goes in
+    let w = marks_same firing _ id index low low' low_goes in
     record {
       ready = record {
-        lock_end = subst (λ m. IsEnd level.Lock size m (view lock') (insert rows q u)) (sym k)
-            (entered_at step view level.Lock own size (view lock).marked lock lock' rows q id index u h.ready.lock_end bound none
+        lock_end = subst (λ m. IsEnd level.Lock size m (firing.view lock') (insert rows q u)) (sym k)
+            (entered_at firing level.Lock own size (firing.view lock).marked lock lock' rows q id index u h.ready.lock_end bound
+            none
             (λ m. still (h.lock_marked id m)) named at indexed carries sound_lock _ (lock_yes own) (lock_no own) lock_goes);
-        low_end = subst (λ m. IsEnd level.Low size m (view low') (insert rows q u)) (sym w)
-            (entered_at step view level.Low own size (view low).marked low low' rows q id index u h.ready.low_end bound none
+        low_end = subst (λ m. IsEnd level.Low size m (firing.view low') (insert rows q u)) (sym w)
+            (entered_at firing level.Low own size (firing.view low).marked low low' rows q id index u h.ready.low_end bound none
             (λ m. still (h.low_marked id m)) named at indexed carries sound_low _ (low_yes own) (low_no own) low_goes);
         counted = counted_entered most rows q u bound h.ready.counted few less carries;
       };

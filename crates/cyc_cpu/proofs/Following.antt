@@ -42,7 +42,7 @@ use Rattle.cyc_cpu.specs.Cpu.{CpuView, Running, sides, Makes, Asks, Looked, Rese
 use Rattle.cyc_cpu.specs.Cpu.{AreAdmitted, HasRisingIds, with_moment}
 use Rattle.cyc_cpu.specs.Removal.{calls_at, EndGoes, Leaves}
 use Rattle.cyc_cpu.specs.Moving.{WhyNotTaken, Inquires}
-use Rattle.cyc_cpu.specs.Soft.{fires, firing_at, held_at, end_at, ServesAt, SoftKept, Interrupts}
+use Rattle.cyc_cpu.specs.Soft.{raise_tables, firing_at, held_at, end_at, ServesAt, SoftKept, Interrupts}
 use Rattle.cyc_cpu.specs.Calls.{CpuCall, Fire, SoftInterrupt, Add, Place, Reprogram, AskPending, AskTotals, AskRoom, Reserve}
 use Rattle.cyc_cpu.specs.Calls.{Widen, BeginRemove, PollRemove, TakeNow, AskSettled, Changes, Does}
 use Rattle.cyc_cpu.specs.Gone.{IsAbsent, IsGone, HasLeft, PutsNot, StaysGone}
@@ -53,7 +53,7 @@ use Rattle.cyc_fire.proofs.Sharing.{ids_add_up}
 
 -- what an end of this CPU has
 abbrev ends_absent : (id : ℕ) (a b : Tables) (way : List FiringCall) → Type 0
-ends_absent id a b way = Goes fires firing_at a way b → IsAbsent id (level_of b)
+ends_absent id a b way = Goes raise_tables a way b → IsAbsent id (level_of b)
 
 stays_absent : (id : ℕ) (a b : Tables) (way : List FiringCall) → AreSpared id way → IsAbsent id (level_of a)
     → ends_absent id a b way
@@ -83,10 +83,10 @@ spared_raises id (x ∷ ids) (Expands i ∷ way) a = absurd a.0
 spared_raises id (x ∷ ids) (Looks i ∷ way) a = absurd a.0
 spared_raises id (x ∷ ids) (Raises j i ∷ way) a = (tt, spared_raises id ids way a.1)
 
-looks_absent : (id : ℕ) (a b : Tables) → IsAbsent id (level_of a) → OnlyLooks fires firing_at a b → IsAbsent id (level_of b)
+looks_absent : (id : ℕ) (a b : Tables) → IsAbsent id (level_of a) → OnlyLooks raise_tables a b → IsAbsent id (level_of b)
 looks_absent id a b h (answers, g) = stays_absent id a b (map Looks answers) (spared_looks id answers) h g
 
-inquires_absent : (id : ℕ) (a b : Tables) → IsAbsent id (level_of a) → LoadsThenLooks fires firing_at a b
+inquires_absent : (id : ℕ) (a b : Tables) → IsAbsent id (level_of a) → LoadsThenLooks raise_tables a b
     → IsAbsent id (level_of b)
 inquires_absent id a b h (m, (asked, g), looks) = looks_absent id m b (stays_absent id a m _ (spared_loads id asked) h g) looks
 
@@ -158,7 +158,7 @@ no_share own id cs made none = ap (λ o. cond (is_of own o) (times_of id made) 0
 
 module _ {C : Type 0} (called : C → ℕ → C → Type 0) (count_of : C → ℕ → ℕ) (id : ℕ) where
   fire_gone : (s t : Running C Tables) (now : ℕ) (made : List Expiration) (lost : ℕ) (at : C) → IsGone id s.cpu
-      → Makes called count_of fires firing_at now made s.cpu.cyclics t.cpu.cyclics (sides s.calls s.cpu) (sides at t.cpu) lost
+      → Makes called count_of raise_tables now made s.cpu.cyclics t.cpu.cyclics (sides s.calls s.cpu) (sides at t.cpu) lost
       → ((q : ℕ) → count_of t.calls q ≡ count_of at q) → StaysGone count_of id s t
   fire_gone s t now made lost at h m same = (
     record {
@@ -198,7 +198,7 @@ module _ {C : Type 0} (called : C → ℕ → C → Type 0) (count_of : C → �
 
 -- the ends where a cyclic's end goes a way and the other does nothing
 goes_gone : (id : ℕ) (own : Level) (way : List FiringCall) (v w : CpuView Tables) → AreSpared id way → IsGone id v
-    → EndGoes fires firing_at own way v w → HasNoCyclic id w.cyclics → IsGone id w
+    → EndGoes raise_tables own way v w → HasNoCyclic id w.cyclics → IsGone id w
 goes_gone id own way v w spared h (lock, low) none = record {
   no_cyclic = none;
   lock = stays_absent id v.lock w.lock _ (spared_if id _ way spared) h.lock lock;
@@ -206,51 +206,51 @@ goes_gone id own way v w spared h (lock, low) none = record {
 }
 
 leaves_gone : (id j : ℕ) (way : List FiringCall) (c : Cyclic) (v w : CpuView Tables) → AreSpared id way → IsGone id v
-    → Leaves fires firing_at j way c v w → IsGone id w
+    → Leaves raise_tables j way c v w → IsGone id w
 leaves_gone id j way c v w spared h l =
     goes_gone id c.timer.level way v w spared h l.goes
     (subst (λ cs. HasNoCyclic id cs) (sym l.cyclics) (none_removed id v.cyclics l.place l.here.0 h.no_cyclic))
 
 widened_end : (id n m bank : ℕ) (a b : Tables) → IsAbsent id (level_of a) → (m ≤ n → b ≡ a)
-    → (n < m → Goes fires firing_at a (Expands bank ∷ []) b) → IsAbsent id (level_of b)
+    → (n < m → Goes raise_tables a (Expands bank ∷ []) b) → IsAbsent id (level_of b)
 widened_end id n m bank a b h kept goes = elim (cases_lt n m) [
   | inl grows ↦ stays_absent id a b (Expands bank ∷ []) (tt, tt) h (goes grows)
   | inr stays ↦ subst (λ (x : Tables). IsAbsent id (level_of x)) (sym (kept stays)) h
 ]
 
 -- where the cyclics stay, and an end or both were asked
-asked_gone : (id j n : ℕ) (v w : CpuView Tables) → IsGone id v → Asks fires firing_at j n v w → IsGone id w
+asked_gone : (id j n : ℕ) (v w : CpuView Tables) → IsGone id v → Asks raise_tables j n v w → IsGone id w
 asked_gone id j n v w h a = goes_gone id a.cyclic.timer.level (Loads j n ∷ []) v w (tt, tt) h (a.lock, a.low)
     (subst (λ cs. HasNoCyclic id cs) (sym a.cyclics) h.no_cyclic)
 
-looked_gone : (id : ℕ) (v w : CpuView Tables) → IsGone id v → Looked fires firing_at v w → IsGone id w
+looked_gone : (id : ℕ) (v w : CpuView Tables) → IsGone id v → Looked raise_tables v w → IsGone id w
 looked_gone id v w h r = record {
   no_cyclic = subst (λ cs. HasNoCyclic id cs) (sym r.cyclics) h.no_cyclic;
   lock = looks_absent id v.lock w.lock h.lock r.lock;
   low = looks_absent id v.low w.low h.low r.low;
 }
 
-reserved_gone : (id more : ℕ) (v w : CpuView Tables) → IsGone id v → Reserves fires firing_at more v w → IsGone id w
+reserved_gone : (id more : ℕ) (v w : CpuView Tables) → IsGone id v → Reserves raise_tables more v w → IsGone id w
 reserved_gone id more v w h r = record {
   no_cyclic = subst (λ cs. HasNoCyclic id cs) (sym r.cyclics) h.no_cyclic;
   lock = looks_absent id v.lock w.lock h.lock r.lock;
   low = looks_absent id v.low w.low h.low r.low;
 }
 
-widened_gone : (id more : ℕ) (v w : CpuView Tables) → IsGone id v → Widens fires firing_at more v w → IsGone id w
+widened_gone : (id more : ℕ) (v w : CpuView Tables) → IsGone id v → Widens raise_tables more v w → IsGone id w
 widened_gone id more v w h r = record {
   no_cyclic = subst (λ cs. HasNoCyclic id cs) (sym r.cyclics) h.no_cyclic;
   lock = widened_end id v.size (length v.cyclics + more) _ v.lock w.lock h.lock r.kept_lock (λ g. (w.lock, r.lock g, refl));
   low = widened_end id v.size (length v.cyclics + more) _ v.low w.low h.low r.kept_low (λ g. (w.low, r.low g, refl));
 }
 
-placed_gone : (id : ℕ) (v w : CpuView Tables) (c : Cyclic) → c.timer.id ≢ id → IsGone id v → Places fires firing_at c v w
+placed_gone : (id : ℕ) (v w : CpuView Tables) (c : Cyclic) → c.timer.id ≢ id → IsGone id v → Places raise_tables c v w
     → IsGone id w
 placed_gone id v w c not h p =
     goes_gone id c.timer.level (Admits c.timer.id p.index ∷ []) v w ((λ q. not (sym q)), tt) h (p.lock, p.low)
     (subst (λ cs. HasNoCyclic id cs) (sym p.cyclics) (none_placed id v.cyclics p.place c p.within not h.no_cyclic))
 
-inquired_gone : (id : ℕ) (v w : CpuView Tables) → IsGone id v → Inquires fires firing_at v w → IsGone id w
+inquired_gone : (id : ℕ) (v w : CpuView Tables) → IsGone id v → Inquires raise_tables v w → IsGone id w
 inquired_gone id v w h i = record {
   no_cyclic = subst (λ cs. HasNoCyclic id cs) (sym i.cyclics) h.no_cyclic;
   lock = inquires_absent id v.lock w.lock h.lock i.lock;
@@ -260,18 +260,18 @@ inquired_gone id v w h i = record {
 same_gone : (id : ℕ) (v w : CpuView Tables) → IsGone id v → w ≡ v → IsGone id w
 same_gone id v w h is = subst (λ (x : CpuView Tables). IsGone id x) (sym is) h
 
-not_taken_gone : (id j : ℕ) (v w : CpuView Tables) (e : Refusal) → IsGone id v → WhyNotTaken fires firing_at j v e w → IsGone id w
+not_taken_gone : (id j : ℕ) (v w : CpuView Tables) (e : Refusal) → IsGone id v → WhyNotTaken raise_tables j v e w → IsGone id w
 not_taken_gone id j v w why.NoCyclic h d = same_gone id v w h d.1
 not_taken_gone id j v w (why.Busy removed) h d = same_gone id v w h d.2
 not_taken_gone id j v w why.Pending h (still, some, n, more, a) = asked_gone id j n v w h a
 not_taken_gone id j v w e h d = absurd d
 
 not_added_gone : (id own now : ℕ) (level : Level) (when : When) (v w : CpuView Tables) (e : Refusal) → IsGone id v
-    → Changes fires firing_at v (Add own level when now (Err e)) w → IsGone id w
+    → Changes raise_tables v (Add own level when now (Err e)) w → IsGone id w
 not_added_gone id own now level when v w why.BadNow h d = same_gone id v w h d.2
 not_added_gone id own now level when v w e h d = looked_gone id v w h d.2
 
-changes_gone : (id : ℕ) (v w : CpuView Tables) (call : CpuCall) → IsGone id v → PutsNot id call → Changes fires firing_at v call w
+changes_gone : (id : ℕ) (v w : CpuView Tables) (call : CpuCall) → IsGone id v → PutsNot id call → Changes raise_tables v call w
     → IsGone id w
 changes_gone id v w (Add own level when now (Ok done)) h not (absent, early, a) =
     placed_gone id a.widened w _ not (widened_gone id 1 a.reserved a.widened
@@ -313,11 +313,11 @@ changes_gone id v w (SoftInterrupt soft budget answer) h not d = absurd d
 module _ {C : Type 0} (handler : Calls C) (id : ℕ) where
   -- a call of the CPU and its handlers
   abbrev Runs : Running C Tables → CpuCall → Running C Tables → Type 0
-  Runs s call t = Does handler fires firing_at (Interrupts handler) s call t
+  Runs s call t = Does handler raise_tables (Interrupts handler) s call t
 
   -- a call that reaches no handler
   quiet_gone : (s t : Running C Tables) (call : CpuCall) → IsGone id s.cpu → PutsNot id call
-      → Changes fires firing_at s.cpu call t.cpu × (t.calls ≡ s.calls) → StaysGone handler.count id s t
+      → Changes raise_tables s.cpu call t.cpu × (t.calls ≡ s.calls) → StaysGone handler.count id s t
   quiet_gone s t call h not (d, same) = (changes_gone id s.cpu t.cpu call h not d, ap (λ (c : C). handler.count c id) same)
 
   pub stays_gone : (s t : Running C Tables) (call : CpuCall) → IsGone id s.cpu → PutsNot id call → Runs s call t
@@ -421,18 +421,18 @@ not_stays None never_there = refl
 not_stays (Some c) never_there = absurd (never_there c refl)
 
 module _ (id : ℕ) (v w : CpuView Tables) (c : Cyclic) (way : List FiringCall) (rising : HasRisingIds v.cyclics)
-    (l : Leaves fires firing_at id way c v w) where
+    (l : Leaves raise_tables id way c v w) where
   -- at the end of its level it was cleared, and at the other it never was
   end_left : (own : Level) (a b : Tables) → AreAdmitted own (firing_at a) v.cyclics → Lawful (level_of a) → ends_absent id a b way
-      → Goes fires firing_at a (calls_at own c.timer.level way) b → IsAbsent id (level_of b)
+      → Goes raise_tables a (calls_at own c.timer.level way) b → IsAbsent id (level_of b)
   end_left own a b admitted law ends goes = elim (level_cases c.timer.level own) [
-    | inl at ↦ ends (goes_here fires firing_at own c.timer.level a b way goes at)
+    | inl at ↦ ends (goes_here raise_tables own c.timer.level a b way goes at)
     | inr off ↦
         (let out : (level_of a).cyclics id ≡ None = not_stays ((level_of a).cyclics id) (λ x e.
         let (k, d, here, named, at) = admitted.only id (stay_of x) (ap (option_map stay_of) e) in
         off (ap (λ (y : Cyclic). y.timer.level) (sym
         (one_cyclic v.cyclics l.place k c d rising l.here here (named ∙ sym l.named))) ∙ at)) in
-        subst (λ (x : Tables). IsAbsent id (level_of x)) (sym (goes_not fires firing_at own c.timer.level a b way goes off))
+        subst (λ (x : Tables). IsAbsent id (level_of x)) (sym (goes_not raise_tables own c.timer.level a b way goes off))
         (record { not_admitted = out; nowhere = law.one_place id ∙ ap (λ o. one_if_any (count_in o)) out }))
   ]
 
@@ -449,7 +449,7 @@ module _ (id : ℕ) (v w : CpuView Tables) (c : Cyclic) (way : List FiringCall) 
 module _ (id : ℕ) (v w : CpuView Tables) (rising : HasRisingIds v.cyclics)
     (lock : AreAdmitted level.Lock (firing_at v.lock) v.cyclics) (low : AreAdmitted level.Low (firing_at v.low) v.cyclics)
     (lock_law : Lawful (level_of v.lock)) (low_law : Lawful (level_of v.low)) where
-  pub answered_gone : HasLeft fires firing_at id v w → IsGone id w
+  pub answered_gone : HasLeft raise_tables id v w → IsGone id w
   answered_gone (inl (receipt, (c, counts, is, polled, l))) =
       left_gone id v w c _ rising l lock low lock_law low_law (λ a b once. marked_absent id counts a b once)
   answered_gone (inr (inl (receipt, same, e))) =

@@ -22,7 +22,7 @@ use Rattle.cyc_core.specs.FiringSide.{Fires}
 use Rattle.cyc_core.specs.DrainingSide.{Drains, take_events}
 use Rattle.cyc_soft.specs.Serving.{Served, ids, way_of}
 use Rattle.cyc_cpu.specs.Gone.{IsAbsent}
-use Rattle.cyc_cpu.specs.Soft.{fires, drains, firing_at}
+use Rattle.cyc_cpu.specs.Soft.{raise_tables, drains}
 
 -- the same, place by place
 pub record Off (id : ℕ) (l : SoftLevel) : Type 0 where
@@ -211,7 +211,7 @@ off_fires id l m (Polls j (Some counts)) ne h f = off_clear id l m h j f.1
 off_fires id l m (Expands bank) ne h f = off_switch id l m h bank f
 off_fires id l m (Looks answer) ne h f = subst (Off id) (sym f.1) h
 
-pub off_goes : (id : ℕ) (a b : Tables) (way : List FiringCall) → AreSpared id way → Goes fires firing_at a way b
+pub off_goes : (id : ℕ) (a b : Tables) (way : List FiringCall) → AreSpared id way → Goes raise_tables a way b
     → Off id (level_of a) → Off id (level_of b)
 off_goes id a b [] spared g h = subst (λ (t : Tables). Off id (level_of t)) g h
 off_goes id a b (call ∷ way) spared (m, (step, learns), rest) h =

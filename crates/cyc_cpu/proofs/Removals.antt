@@ -8,6 +8,7 @@ use Rattle.std.proofs.lemmas.Bool.Decides.{nat_tests}
 use Rattle.std.proofs.lemmas.List.{get_or_default, map-append, take-map, drop-map}
 use Rattle.std.proofs.lemmas.List.Edits.{length-remove, get_or-remove_below, get_or-remove_above}
 use Rattle.cyc_types.specs.Series.{never}
+use Rattle.cyc_types.specs.declared.Raise.{Ghosts as Raise}
 use Rattle.cyc_types.specs.Firing.{FiringView, FiringCall, Loads, Marks, Polls, Learns, Sound, Stay, MayMark, MayPoll, edited}
 use Rattle.cyc_types.specs.Firing.{saw, seen_in, seen_of, sent_in, sent_of}
 use Rattle.cyc_types.specs.Runs.{Goes}
@@ -203,15 +204,15 @@ same_no level.High level.Low ne = refl
 same_no level.High level.Lock ne = refl
 same_no level.High level.High ne = absurd (ne refl)
 
-module _ {R : Type 0} (step : R → FiringCall → R → Type 0) (view : R → FiringView) (soft own : Level) (e f : R)
-    (way : List FiringCall) (goes : Goes step view e (calls_at soft own way) f) where
+module _ {R : Type 0} (firing : Raise R) (soft own : Level) (e f : R)
+    (way : List FiringCall) (goes : Goes firing e (calls_at soft own way) f) where
   -- the end of the cyclic's level went the way
-  pub goes_here : own ≡ soft → Goes step view e way f
-  goes_here at = subst (λ w. Goes step view e w f) (ap (λ b. cond b way []) (same_yes soft own at)) goes
+  pub goes_here : own ≡ soft → Goes firing e way f
+  goes_here at = subst (λ w. Goes firing e w f) (ap (λ b. cond b way []) (same_yes soft own at)) goes
 
   -- another end did nothing
   pub goes_not : own ≢ soft → f ≡ e
-  goes_not off = let same : e ≡ f = subst (λ w. Goes step view e w f) (ap (λ b. cond b way []) (same_no soft own off)) goes in
+  goes_not off = let same : e ≡ f = subst (λ w. Goes firing e w f) (ap (λ b. cond b way []) (same_no soft own off)) goes in
       sym same
 
 -- an end after a cyclic has left: it was cleared at the end of its level, and the other is as it was, with no removal open
@@ -221,45 +222,46 @@ pub record EndLeft {R : Type 0} (view : R → FiringView) (soft own : Level) (id
   pub same : own ≢ soft → f ≡ e
   pub unmarked : own ≢ soft → (view e).marked ≡ None
 
-module _ {R : Type 0} (step : R → FiringCall → R → Type 0) (view : R → FiringView) (soft own : Level) (id : ℕ)
+module _ {R : Type 0} (firing : Raise R) (soft own : Level) (id : ℕ)
     (counts : Sent) where
   -- a removal that is done at once
-  pub begun_left : (e f : R) → Goes step view e (calls_at soft own (Marks id 0 ∷ Polls id (Some counts) ∷ [])) f → Sound (view f)
-      → (own ≢ soft → (view e).marked ≡ None) → EndLeft view soft own id e f
+  pub begun_left : (e f : R) → Goes firing e (calls_at soft own (Marks id 0 ∷ Polls id (Some counts) ∷ [])) f
+      → Sound (firing.view f)
+      → (own ≢ soft → (firing.view e).marked ≡ None) → EndLeft firing.view soft own id e f
   begun_left e f goes sound unmarked = record {
-    cleared = λ at. (let (m, (s1, l1), (n, (s2, l2), last)) = goes_here step view soft own e f _ goes at in
-        subst (λ x. Clears (view e) (view x) id) last
-        (clears_after (view e) (view m) (view n) id (sees_mark (view e) (view m) id 0 l1)
-        (clears_poll (view m) (view n) id counts l2)));
+    cleared = λ at. (let (m, (s1, l1), (n, (s2, l2), last)) = goes_here firing soft own e f _ goes at in
+        subst (λ x. Clears (firing.view e) (firing.view x) id) last
+        (clears_after (firing.view e) (firing.view m) (firing.view n) id (sees_mark (firing.view e) (firing.view m) id 0 l1)
+        (clears_poll (firing.view m) (firing.view n) id counts l2)));
     sound = λ at. sound;
-    same = goes_not step view soft own e f _ goes;
+    same = goes_not firing soft own e f _ goes;
     unmarked = unmarked;
   }
 
   -- an open removal that ends
-  pub polled_left : (e f : R) → Goes step view e (calls_at soft own (Polls id (Some counts) ∷ [])) f → Sound (view f)
-      → (own ≢ soft → (view e).marked ≡ None) → EndLeft view soft own id e f
+  pub polled_left : (e f : R) → Goes firing e (calls_at soft own (Polls id (Some counts) ∷ [])) f → Sound (firing.view f)
+      → (own ≢ soft → (firing.view e).marked ≡ None) → EndLeft firing.view soft own id e f
   polled_left e f goes sound unmarked = record {
-    cleared = λ at. (let (n, (s2, l2), last) = goes_here step view soft own e f _ goes at in
-        subst (λ x. Clears (view e) (view x) id) last (clears_poll (view e) (view n) id counts l2));
+    cleared = λ at. (let (n, (s2, l2), last) = goes_here firing soft own e f _ goes at in
+        subst (λ x. Clears (firing.view e) (firing.view x) id) last (clears_poll (firing.view e) (firing.view n) id counts l2));
     sound = λ at. sound;
-    same = goes_not step view soft own e f _ goes;
+    same = goes_not firing soft own e f _ goes;
     unmarked = unmarked;
   }
 
 -- a cyclic that is taken where nothing of it is outstanding
-pub taken_left : {R : Type 0} (step : R → FiringCall → R → Type 0) (view : R → FiringView) (soft own : Level) (id : ℕ)
+pub taken_left : {R : Type 0} (firing : Raise R) (soft own : Level) (id : ℕ)
     (counts : Sent) (e f : R) →
-    Goes step view e (calls_at soft own (Loads id 0 ∷ Marks id 0 ∷ Polls id (Some counts) ∷ [])) f → Sound (view f)
-    → (own ≢ soft → (view e).marked ≡ None) → EndLeft view soft own id e f
-taken_left step view soft own id counts e f goes sound unmarked = record {
-  cleared = λ at. (let (a, (s0, l0), (m, (s1, l1), (n, (s2, l2), last))) = goes_here step view soft own e f _ goes at in
-      subst (λ x. Clears (view e) (view x) id) last
-      (clears_after (view e) (view a) (view n) id (sees_load (view e) (view a) id 0 l0)
-      (clears_after (view a) (view m) (view n) id (sees_mark (view a) (view m) id 0 l1)
-      (clears_poll (view m) (view n) id counts l2))));
+    Goes firing e (calls_at soft own (Loads id 0 ∷ Marks id 0 ∷ Polls id (Some counts) ∷ [])) f → Sound (firing.view f)
+    → (own ≢ soft → (firing.view e).marked ≡ None) → EndLeft firing.view soft own id e f
+taken_left firing soft own id counts e f goes sound unmarked = record {
+  cleared = λ at. (let (a, (s0, l0), (m, (s1, l1), (n, (s2, l2), last))) = goes_here firing soft own e f _ goes at in
+      subst (λ x. Clears (firing.view e) (firing.view x) id) last
+      (clears_after (firing.view e) (firing.view a) (firing.view n) id (sees_load (firing.view e) (firing.view a) id 0 l0)
+      (clears_after (firing.view a) (firing.view m) (firing.view n) id (sees_mark (firing.view a) (firing.view m) id 0 l1)
+      (clears_poll (firing.view m) (firing.view n) id counts l2))));
   sound = λ at. sound;
-  same = goes_not step view soft own e f _ goes;
+  same = goes_not firing soft own e f _ goes;
   unmarked = unmarked;
 }
 
@@ -391,7 +393,7 @@ end_marks soft size marked v w rows id n ready l sound row still =
     (end_remarked soft size marked u rows id
     (end_kept soft size marked v u rows ready (loads_keep v u id n (l.0, refl)) (unmarked_sound u (Some id) s)) s row still)
 
-module _ {R : Type 0} (step : R → FiringCall → R → Type 0) (view : R → FiringView) (size : ℕ) (rows : List Row) (k n : ℕ)
+module _ {R : Type 0} (firing : Raise R) (size : ℕ) (rows : List Row) (k n : ℕ)
     (r : Row) (rising : IsRising rows) (is : IsRow rows k r) where
   abbrev u : Row
   u = at_moment never r
@@ -405,40 +407,47 @@ module _ {R : Type 0} (step : R → FiringCall → R → Type 0) (view : R → F
     | inr (ne, old) ↦ absurd (ids_apart rows k j r x rising is old ne same)
   ]
 
-  end_opened : (soft : Level) (e f : R) → IsEnd soft size (view e).marked (view e) rows → (view e).marked ≡ None
-      → Goes step view e (calls_at soft r.timer.level (Marks r.timer.id n ∷ [])) f → Sound (view f) →
-      IsEnd soft size (view f).marked (view f) (set rows k u) × (r.timer.level ≡ soft → (view f).marked ≡ Some r.timer.id)
-      × (r.timer.level ≢ soft → (view f).marked ≡ None)
+  end_opened : (soft : Level) (e f : R) → IsEnd soft size (firing.view e).marked (firing.view e) rows → (firing.view e).marked
+      ≡ None
+      → Goes firing e (calls_at soft r.timer.level (Marks r.timer.id n ∷ [])) f → Sound (firing.view f) →
+      IsEnd soft size (firing.view f).marked (firing.view f) (set rows k u)
+      × (r.timer.level ≡ soft → (firing.view f).marked ≡ Some r.timer.id)
+      × (r.timer.level ≢ soft → (firing.view f).marked ≡ None)
   end_opened soft e f ready none goes sound =
-      let moved = end_moved soft size (view e).marked (view e) rows k r u ready is keeps
+      let moved = end_moved soft size (firing.view e).marked (firing.view e) rows k r u ready is keeps
       (λ q. let no : None ≡ Some r.timer.id = sym none ∙ q in absurd (cc)) in
       elim (level_cases r.timer.level soft) [
         | inl at ↦
-            (let (m, (s, l), last) = goes_here step view soft r.timer.level e f _ goes at in
-            let l' = subst (λ x. Learns (view e) (Marks r.timer.id n) (view x)) last l in
-            let opened = end_marks soft size (view e).marked (view e) (view f) (set rows k u) r.timer.id n moved l' sound
+            (let (m, (s, l), last) = goes_here firing soft r.timer.level e f _ goes at in
+            let l' = subst (λ x. Learns (firing.view e) (Marks r.timer.id n) (firing.view x)) last l in
+            let opened = end_marks soft size (firing.view e).marked (firing.view e) (firing.view f)
+            (set rows k u) r.timer.id n moved l' sound
             (k, u, row_new rows k u is.0, refl, at) never_now in
-            let marked : (view f).marked ≡ Some r.timer.id = ap (λ (x : FiringView). x.marked) l'.1 in
-            (subst (λ m. IsEnd soft size m (view f) (set rows k u)) (sym marked) opened, (λ q. marked), (λ off. absurd (off at))))
+            let marked : (firing.view f).marked ≡ Some r.timer.id = ap (λ (x : FiringView). x.marked) l'.1 in (
+              subst (λ m. IsEnd soft size m (firing.view f) (set rows k u)) (sym marked) opened,
+              (λ q. marked),
+              (λ off. absurd (off at)),
+            ))
         | inr off ↦
-            (let eq = goes_not step view soft r.timer.level e f _ goes off in (
-              subst (λ x. IsEnd soft size (view x).marked (view x) (set rows k u)) (sym eq) moved,
+            (let eq = goes_not firing soft r.timer.level e f _ goes off in (
+              subst (λ x. IsEnd soft size (firing.view x).marked (firing.view x) (set rows k u)) (sym eq) moved,
               (λ q. absurd (off q)),
-              (λ q. ap (λ x. (view x).marked) eq ∙ none),
+              (λ q. ap (λ x. (firing.view x).marked) eq ∙ none),
             ))
       ]
 
   -- the CPU with a removal that stays open
-  pub hard_opened : (most : ℕ) (removal : Option ℕ) (lock low lock' low' : R) → IsHard view size most removal lock low rows
+  pub hard_opened : (most : ℕ) (removal : Option ℕ) (lock low lock' low' : R) → IsHard firing.view size most removal lock low rows
       → removal ≡ None → r.timer.level ≢ level.High →
-      Goes step view lock (calls_at level.Lock r.timer.level (Marks r.timer.id n ∷ [])) lock'
-      → Goes step view low (calls_at level.Low r.timer.level (Marks r.timer.id n ∷ [])) low' →
-      Sound (view lock') → Sound (view low') → IsHard view size most (Some r.timer.id) lock' low' (set rows k u)
+      Goes firing lock (calls_at level.Lock r.timer.level (Marks r.timer.id n ∷ [])) lock'
+      → Goes firing low (calls_at level.Low r.timer.level (Marks r.timer.id n ∷ [])) low' →
+      Sound (firing.view lock') → Sound (firing.view low') → IsHard firing.view size most (Some r.timer.id) lock' low'
+      (set rows k u)
   hard_opened most removal lock low lock' low' h none soft a b sound_lock sound_low =
       let (lock_end, lock_yes, lock_no) = end_opened level.Lock lock lock' h.ready.lock_end
-      (no_mark (view lock).marked removal h.lock_marked none) a sound_lock in
+      (no_mark (firing.view lock).marked removal h.lock_marked none) a sound_lock in
       let (low_end, low_yes, low_no) = end_opened level.Low low low' h.ready.low_end
-      (no_mark (view low).marked removal h.low_marked none) b sound_low in
+      (no_mark (firing.view low).marked removal h.low_marked none) b sound_low in
       record {
         ready = record {
           lock_end = lock_end;
@@ -468,16 +477,16 @@ module _ {R : Type 0} (step : R → FiringCall → R → Type 0) (view : R → F
       three level.Lock a b c = a refl
       three level.High a b c = c refl
 
-polled_keeps : {R : Type 0} (step : R → FiringCall → R → Type 0) (view : R → FiringView) (b : Bool) (id : ℕ) (e f : R)
-    → Goes step view e (cond b (Polls id None ∷ []) []) f → KeepsStays (view e) (view f)
-polled_keeps step view true id e f (m, (stepped, (pend, some, few, saw)), last) =
-    subst (λ x. KeepsStays (view e) (view x)) last (loads_keep (view e) (view m) id pend (few, saw))
-polled_keeps step view false id e f g = subst (λ x. KeepsStays (view e) (view x)) g (keeps_itself (view e))
+polled_keeps : {R : Type 0} (firing : Raise R) (b : Bool) (id : ℕ) (e f : R)
+    → Goes firing e (cond b (Polls id None ∷ []) []) f → KeepsStays (firing.view e) (firing.view f)
+polled_keeps firing true id e f (m, (stepped, (pend, some, few, saw)), last) =
+    subst (λ x. KeepsStays (firing.view e) (firing.view x)) last (loads_keep (firing.view e) (firing.view m) id pend (few, saw))
+polled_keeps firing false id e f g = subst (λ x. KeepsStays (firing.view e) (firing.view x)) g (keeps_itself (firing.view e))
 
 -- an end that may have been polled
-pub polls_keep : {R : Type 0} (step : R → FiringCall → R → Type 0) (view : R → FiringView) (l own : Level) (id : ℕ) (e f : R)
-    → Goes step view e (calls_at l own (Polls id None ∷ [])) f → KeepsStays (view e) (view f)
-polls_keep step view l own id e f g = polled_keeps step view (same_level l own) id e f g
+pub polls_keep : {R : Type 0} (firing : Raise R) (l own : Level) (id : ℕ) (e f : R)
+    → Goes firing e (calls_at l own (Polls id None ∷ [])) f → KeepsStays (firing.view e) (firing.view f)
+polls_keep firing l own id e f g = polled_keeps firing (same_level l own) id e f g
 
 marked_stay : (b : Bool) (n : ℕ) (o : Option Stay) (s : Stay) → o ≡ Some s → (t : Stay)
     × (cond b (edited (λ s. record s { seen = n }) o) o ≡ Some t) × Unit {0}
@@ -498,20 +507,20 @@ cyclics_less rows k = map-append cyclic_of (take k rows) (drop (suc k) rows)
     ∙ (λ j. sym (take-map cyclic_of k rows) j ++ sym (drop-map cyclic_of (suc k) rows) j)
 
 -- the view of a CPU in place of its fields
-module _ {R : Type 0} (step : R → FiringCall → R → Type 0) (view : R → FiringView) where
-  pub opens_from : (id n : ℕ) (u v w : CpuView R) → u ≡ v → Opens step view id n u w → Opens step view id n v w
-  opens_from id n u v w is a = subst (λ x. Opens step view id n x w) is a
+module _ {R : Type 0} (firing : Raise R) where
+  pub opens_from : (id n : ℕ) (u v w : CpuView R) → u ≡ v → Opens firing id n u w → Opens firing id n v w
+  opens_from id n u v w is a = subst (λ x. Opens firing id n x w) is a
 
-  pub leaves_from : (id : ℕ) (way : List FiringCall) (c : Cyclic) (u v w : CpuView R) → u ≡ v → Leaves step view id way c u w
-      → Leaves step view id way c v w
-  leaves_from id way c u v w is a = subst (λ x. Leaves step view id way c x w) is a
+  pub leaves_from : (id : ℕ) (way : List FiringCall) (c : Cyclic) (u v w : CpuView R) → u ≡ v → Leaves firing id way c u w
+      → Leaves firing id way c v w
+  leaves_from id way c u v w is a = subst (λ x. Leaves firing id way c x w) is a
 
-  pub waits_from : (id : ℕ) (u v w : CpuView R) → u ≡ v → Waits step view id u w → Waits step view id v w
-  waits_from id u v w is a = subst (λ x. Waits step view id x w) is a
+  pub waits_from : (id : ℕ) (u v w : CpuView R) → u ≡ v → Waits firing id u w → Waits firing id v w
+  waits_from id u v w is a = subst (λ x. Waits firing id x w) is a
 
   pub ends_from : (receipt : Receipt) (id : ℕ) (c : Cyclic) (counts : Sent) (u v w : CpuView R) → u ≡ v → u.removal ≡ Some id
-      → receipt.id ≡ id → IsReceipt receipt c → HasPolled view counts v c →
-      Leaves step view id (Polls id (Some counts) ∷ []) c u w → Ends step view receipt v w
+      → receipt.id ≡ id → IsReceipt receipt c → HasPolled firing.view counts v c →
+      Leaves firing id (Polls id (Some counts) ∷ []) c u w → Ends firing receipt v w
   ends_from receipt id c counts u v w is removed named counted polled leaves = record {
     was_open = sym (ap (λ (x : CpuView R). x.removal) is) ∙ removed ∙ ap Some (sym named);
     cyclic = c;
@@ -519,7 +528,7 @@ module _ {R : Type 0} (step : R → FiringCall → R → Type 0) (view : R → F
     counted = counted;
     polled = polled;
     leaves = leaves_from receipt.id (Polls receipt.id (Some counts) ∷ []) c u v w is
-        (subst (λ q. Leaves step view q (Polls q (Some counts) ∷ []) c u w) (sym named) leaves);
+        (subst (λ q. Leaves firing q (Polls q (Some counts) ∷ []) c u w) (sym named) leaves);
   }
 
 -- a cyclic that was just asked for may be marked, and what was found is what is seen of it
@@ -555,16 +564,17 @@ sent_loaded v w id n l = ap (λ (x : FiringView). sent_of id x) l.1 ∙ loaded_s
 sent_marked : (v w : FiringView) (id n : ℕ) → Learns v (Marks id n) w → sent_of id w ≡ sent_of id v
 sent_marked v w id n l = ap (λ (x : FiringView). sent_of id x) l.1 ∙ loaded_sent (eqb id id) n (v.stays id)
 
-module _ {R : Type 0} (step : R → FiringCall → R → Type 0) (view : R → FiringView) (id : ℕ) (counts : Sent) (e f : R) where
-  pub polled_sent : Goes step view e (Polls id (Some counts) ∷ []) f → sent_of id (view e) ≡ Some counts
+module _ {R : Type 0} (firing : Raise R) (id : ℕ) (counts : Sent) (e f : R) where
+  pub polled_sent : Goes firing e (Polls id (Some counts) ∷ []) f → sent_of id (firing.view e) ≡ Some counts
   polled_sent (m, (s, l), last) = l.0
 
-  pub begun_sent : Goes step view e (Marks id 0 ∷ Polls id (Some counts) ∷ []) f → sent_of id (view e) ≡ Some counts
-  begun_sent (m, (s, l), (n, (s', l'), last)) = sym (sent_marked (view e) (view m) id 0 l) ∙ l'.0
+  pub begun_sent : Goes firing e (Marks id 0 ∷ Polls id (Some counts) ∷ []) f → sent_of id (firing.view e) ≡ Some counts
+  begun_sent (m, (s, l), (n, (s', l'), last)) = sym (sent_marked (firing.view e) (firing.view m) id 0 l) ∙ l'.0
 
-  pub taken_sent : Goes step view e (Loads id 0 ∷ Marks id 0 ∷ Polls id (Some counts) ∷ []) f → sent_of id (view e) ≡ Some counts
-  taken_sent (k, (s, l), (m, (s', l'), (n, (s'', l''), last))) = sym (sent_loaded (view e) (view k) id 0 l)
-      ∙ sym (sent_marked (view k) (view m) id 0 l') ∙ l''.0
+  pub taken_sent : Goes firing e (Loads id 0 ∷ Marks id 0 ∷ Polls id (Some counts) ∷ []) f → sent_of id (firing.view e)
+      ≡ Some counts
+  taken_sent (k, (s, l), (m, (s', l'), (n, (s'', l''), last))) = sym (sent_loaded (firing.view e) (firing.view k) id 0 l)
+      ∙ sym (sent_marked (firing.view k) (firing.view m) id 0 l') ∙ l''.0
 
 stay_counts : (o : Option Stay) (s : Stay) (counts : Sent) → o ≡ Some s → sent_in o ≡ Some counts → (counts.sent ≡ s.sent)
     × (counts.lost ≡ s.lost)
@@ -574,24 +584,25 @@ stay_counts o s counts h k =
     (ap (λ (x : Sent). x.sent) (sym same), ap (λ (x : Sent). x.lost) (sym same))
 
 -- what a cyclic that leaves has: what it carried in, and what the end of its stay answered
-pub has_polled : {R : Type 0} (step : R → FiringCall → R → Type 0) (view : R → FiringView) (size : ℕ)
+pub has_polled : {R : Type 0} (firing : Raise R) (size : ℕ)
     (lock_marked low_marked : Option ℕ) (lock low lock' low' : R) (rows : List Row) (k : ℕ) (r : Row) (counts : Sent)
     (way : List FiringCall)
-    → IsEnd level.Lock size lock_marked (view lock) rows → IsEnd level.Low size low_marked (view low) rows → IsRow rows k r
-    → Goes step view lock (calls_at level.Lock r.timer.level way) lock'
-    → Goes step view low (calls_at level.Low r.timer.level way) low'
-    → ((e f : R) → Goes step view e way f → sent_of r.timer.id (view e) ≡ Some counts) → r.timer.level ≢ level.High
+    → IsEnd level.Lock size lock_marked (firing.view lock) rows → IsEnd level.Low size low_marked (firing.view low) rows
+    → IsRow rows k r
+    → Goes firing lock (calls_at level.Lock r.timer.level way) lock'
+    → Goes firing low (calls_at level.Low r.timer.level way) low'
+    → ((e f : R) → Goes firing e way f → sent_of r.timer.id (firing.view e) ≡ Some counts) → r.timer.level ≢ level.High
     → (r.timer.expired ≡ r.carried.sent + counts.sent) × (r.lost ≡ r.carried.lost + counts.lost)
-has_polled {R} step view size lock_marked low_marked lock low lock' low' rows k r counts way lock_end low_end is a b tells soft =
+has_polled {R} firing size lock_marked low_marked lock low lock' low' rows k r counts way lock_end low_end is a b tells soft =
     by_level r.timer.level refl
   where
-    at_end : (own : Level) (marked : Option ℕ) (e f : R) → r.timer.level ≡ own → IsEnd own size marked (view e) rows
-        → Goes step view e (calls_at own r.timer.level way) f
+    at_end : (own : Level) (marked : Option ℕ) (e f : R) → r.timer.level ≡ own → IsEnd own size marked (firing.view e) rows
+        → Goes firing e (calls_at own r.timer.level way) f
         → (r.timer.expired ≡ r.carried.sent + counts.sent) × (r.lost ≡ r.carried.lost + counts.lost)
     at_end own marked e f at ready goes =
         let (s, stay, (index, sent, lost)) = ready.here k r is at in
-        let (x, y) = stay_counts ((view e).stays r.timer.id) s counts stay
-        (tells e f (goes_here step view own r.timer.level e f way goes at)) in
+        let (x, y) = stay_counts ((firing.view e).stays r.timer.id) s counts stay
+        (tells e f (goes_here firing own r.timer.level e f way goes at)) in
         (omega (arith, sent, x), omega (arith, lost, y))
 
     by_level : (l : Level) → r.timer.level ≡ l → (r.timer.expired ≡ r.carried.sent + counts.sent)

@@ -2,8 +2,8 @@
 use Rattle.std.specs.Prelude.{◌≡◌, ◌≢◌, ℕ, ◌<◌, ◌≤◌, ◌⊎◌, ◌++◌, ◌∷◌, Bool, true, false, List, length, slice_set, Option, Some}
 use Rattle.std.specs.Prelude.{None, Result, Ok, Err}
 use Rattle.cyc_types.specs.declared.Calls.{Ghosts as Calls}
+use Rattle.cyc_types.specs.declared.Raise.{Ghosts as Raise}
 use Rattle.cyc_types.specs.Series.{never, first}
-use Rattle.cyc_types.specs.Firing.{FiringView, FiringCall}
 use Rattle.cyc_types.specs.declared.firing.Sent.{Sent}
 use Rattle.cyc_types.specs.Levels.{at_level}
 use Rattle.cyc_types.specs.declared.level.Level.{Level}
@@ -55,54 +55,54 @@ pub record MayPlace {R : Type 0} (id : ℕ) (carried : Sent) (v : CpuView R) : T
   pub most : carried.sent ≤ v.most
 
 -- a cyclic was added: memory for it was taken, the size grew where it had to and was allowed to, and it was put in
-pub record Adds {R : Type 0} (step : R → FiringCall → R → Type 0) (view : R → FiringView)
+pub record Adds {R : Type 0} (firing : Raise R)
     (id : ℕ) (level : Level) (when : When) (now : ℕ) (v w : CpuView R) : Type 0 where
   -- the CPU with the memory, and then with the size
   pub reserved : CpuView R
   pub widened : CpuView R
-  pub reserves : Reserves step view 1 v reserved
-  pub allowed : MayWiden view 1 reserved
-  pub widens : Widens step view 1 reserved widened
-  pub enters : Enters step view id level when.interval (first when.start when.interval now) widened w
+  pub reserves : Reserves firing 1 v reserved
+  pub allowed : MayWiden firing.view 1 reserved
+  pub widens : Widens firing 1 reserved widened
+  pub enters : Enters firing id level when.interval (first when.start when.interval now) widened w
 
 -- what a call does that reaches no handler
-abbrev pub Changes : {R : Type 0} → (R → FiringCall → R → Type 0) → (R → FiringView) → CpuView R → CpuCall → CpuView R → Type 0
-Changes step view v (Add id level when now (Ok done)) w =
-    HasNoCyclic id v.cyclics × (now ≢ never) × Adds step view id level when now v w
-Changes step view v (Add id level when now (Err BadNow)) w = HasNoCyclic id v.cyclics × (now ≡ never) × (w ≡ v)
-Changes step view v (Add id level when now (Err e)) w =
-    HasNoCyclic id v.cyclics × (now ≢ never) × Looked step view v w × WhyNotReserved view 1 v w e
-Changes step view v (Place id level interval moment carried) w =
-    MayPlace id carried v × Places step view (cyclic_with id level interval moment carried.sent carried.lost) v w
-Changes {R} step view v (Reprogram id moment (Ok done)) w =
+abbrev pub Changes : {R : Type 0} → Raise R → CpuView R → CpuCall → CpuView R → Type 0
+Changes firing v (Add id level when now (Ok done)) w =
+    HasNoCyclic id v.cyclics × (now ≢ never) × Adds firing id level when now v w
+Changes firing v (Add id level when now (Err BadNow)) w = HasNoCyclic id v.cyclics × (now ≡ never) × (w ≡ v)
+Changes firing v (Add id level when now (Err e)) w =
+    HasNoCyclic id v.cyclics × (now ≢ never) × Looked firing v w × WhyNotReserved firing.view 1 v w e
+Changes firing v (Place id level interval moment carried) w =
+    MayPlace id carried v × Places firing (cyclic_with id level interval moment carried.sent carried.lost) v w
+Changes {R} firing v (Reprogram id moment (Ok done)) w =
     (k : ℕ) × (c : Cyclic) × IsCyclic v.cyclics k c × (c.timer.id ≡ id) × (v.removal ≢ Some id)
     × (w ≡ record v { cyclics = slice_set v.cyclics k (with_moment moment c) })
-Changes step view v (Reprogram id moment (Err e)) w = (e ≡ NoCyclic) × (HasNoCyclic id v.cyclics ⊎ (v.removal ≡ Some id))
+Changes firing v (Reprogram id moment (Err e)) w = (e ≡ NoCyclic) × (HasNoCyclic id v.cyclics ⊎ (v.removal ≡ Some id))
     × (w ≡ v)
-Changes step view v (AskPending id (Some n)) w = Asks step view id n v w × (seen_at view id w ≡ n)
-Changes step view v (AskPending id None) w = HasNoCyclic id v.cyclics × (w ≡ v)
-Changes step view v (AskTotals id (Some t)) w = (a : Asks step view id t.pending v w) × (seen_at view id w ≡ t.pending)
-    × (t.expired ≡ a.cyclic.timer.expired) × (t.lost ≡ a.cyclic.lost) × IsSparedAt view v a.cyclic
-Changes step view v (AskTotals id None) w = HasNoCyclic id v.cyclics × (w ≡ v)
-Changes step view v (AskRoom more (Ok done)) w = Looked step view v w × HasRoom view more w
-Changes step view v (AskRoom more (Err e)) w = Looked step view v w × WhyNoRoom view more w e
-Changes step view v (Reserve more (Ok done)) w = Reserves step view more v w × MayWiden view more w
-Changes step view v (Reserve more (Err e)) w = Looked step view v w × WhyNotReserved view more v w e
-Changes step view v (Widen more) w = MayWiden view more v × Widens step view more v w
-Changes step view v (BeginRemove id (Ok removal)) w = (v.removal ≡ None) × Begins step view id v removal w
-Changes step view v (BeginRemove id (Err e)) w = WhyNotBegun id v e × (w ≡ v)
-Changes step view v (PollRemove (Some receipt)) w = Ends step view receipt v w
-Changes step view v (PollRemove None) w =
-    ((v.removal ≡ None) × (w ≡ v)) ⊎ ((id : ℕ) × (v.removal ≡ Some id) × Waits step view id v w)
-Changes step view v (TakeNow id (Ok taken)) w = (v.removal ≡ None) × TakesNow step view id taken v w
-Changes step view v (TakeNow id (Err e)) w = WhyNotTaken step view id v e w
-Changes step view v (AskSettled true) w = Inquires step view v w × IsSettled view w
-Changes step view v (AskSettled false) w = Inquires step view v w × (IsSettled view w → ⊥)
-Changes step view v (Fire now answer) w = ⊥
-Changes step view v (SoftInterrupt level budget answer) w = ⊥
+Changes firing v (AskPending id (Some n)) w = Asks firing id n v w × (seen_at firing.view id w ≡ n)
+Changes firing v (AskPending id None) w = HasNoCyclic id v.cyclics × (w ≡ v)
+Changes firing v (AskTotals id (Some t)) w = (a : Asks firing id t.pending v w) × (seen_at firing.view id w ≡ t.pending)
+    × (t.expired ≡ a.cyclic.timer.expired) × (t.lost ≡ a.cyclic.lost) × IsSparedAt firing.view v a.cyclic
+Changes firing v (AskTotals id None) w = HasNoCyclic id v.cyclics × (w ≡ v)
+Changes firing v (AskRoom more (Ok done)) w = Looked firing v w × HasRoom firing.view more w
+Changes firing v (AskRoom more (Err e)) w = Looked firing v w × WhyNoRoom firing.view more w e
+Changes firing v (Reserve more (Ok done)) w = Reserves firing more v w × MayWiden firing.view more w
+Changes firing v (Reserve more (Err e)) w = Looked firing v w × WhyNotReserved firing.view more v w e
+Changes firing v (Widen more) w = MayWiden firing.view more v × Widens firing more v w
+Changes firing v (BeginRemove id (Ok removal)) w = (v.removal ≡ None) × Begins firing id v removal w
+Changes firing v (BeginRemove id (Err e)) w = WhyNotBegun id v e × (w ≡ v)
+Changes firing v (PollRemove (Some receipt)) w = Ends firing receipt v w
+Changes firing v (PollRemove None) w =
+    ((v.removal ≡ None) × (w ≡ v)) ⊎ ((id : ℕ) × (v.removal ≡ Some id) × Waits firing id v w)
+Changes firing v (TakeNow id (Ok taken)) w = (v.removal ≡ None) × TakesNow firing id taken v w
+Changes firing v (TakeNow id (Err e)) w = WhyNotTaken firing id v e w
+Changes firing v (AskSettled true) w = Inquires firing v w × IsSettled firing.view w
+Changes firing v (AskSettled false) w = Inquires firing v w × (IsSettled firing.view w → ⊥)
+Changes firing v (Fire now answer) w = ⊥
+Changes firing v (SoftInterrupt level budget answer) w = ⊥
 
 -- a fire was stopped by an expiration that was refused: those before it were made, and no other
-pub record Stopped {C R : Type 0} (handler : Calls C) (step : R → FiringCall → R → Type 0) (view : R → FiringView) (now : ℕ)
+pub record Stopped {C R : Type 0} (handler : Calls C) (firing : Raise R) (now : ℕ)
     (e : FireRefused) (s t : Running C R) : Type 0 where
   pub made : List Expiration
   pub last : Expiration
@@ -111,7 +111,7 @@ pub record Stopped {C R : Type 0} (handler : Calls C) (step : R → FiringCall �
   pub expired : length made ≡ e.expired
   -- the handlers before the refusal, which changes no count
   pub at : C
-  pub makes : Makes (at_level handler.called High) handler.count step view now made s.cpu.cyclics t.cpu.cyclics
+  pub makes : Makes (at_level handler.called High) handler.count firing now made s.cpu.cyclics t.cpu.cyclics
       (sides s.calls s.cpu) (sides at t.cpu) e.lost
   pub counted : (id : ℕ) → handler.count t.calls id ≡ handler.count at id
   pub stops : WhyStopped handler.may_refuse s.cpu.most at last (timers t.cpu.cyclics) e.why
@@ -119,17 +119,17 @@ pub record Stopped {C R : Type 0} (handler : Calls C) (step : R → FiringCall �
 -- What each call does to a CPU and its handlers. `handler` has what `Calls` says of these: how a call changes them, how many each
 -- id had, and which may be refused. `interrupts` is what a soft interrupt does, which is a call of a CPU alone where one thread
 -- has both sides of its levels.
-abbrev pub Does : {C R : Type 0} → Calls C → (R → FiringCall → R → Type 0) → (R → FiringView)
+abbrev pub Does : {C R : Type 0} → Calls C → Raise R
     → (Soft → ℕ → Result Ran SoftRefused → Running C R → Running C R → Type 0) → Running C R → CpuCall → Running C R → Type 0
-Does handler step view interrupts s (Fire now (Ok r)) t = (now ≢ never) × SameCpu s.cpu t.cpu
+Does handler firing interrupts s (Fire now (Ok r)) t = (now ≢ never) × SameCpu s.cpu t.cpu
     × (r.expired ≡ length (expirations now (timers s.cpu.cyclics))) × (r.next ≡ earliest (timers t.cpu.cyclics))
-    × Makes (at_level handler.called High) handler.count step view now (expirations now (timers s.cpu.cyclics))
+    × Makes (at_level handler.called High) handler.count firing now (expirations now (timers s.cpu.cyclics))
     s.cpu.cyclics t.cpu.cyclics (sides s.calls s.cpu) (sides t.calls t.cpu) r.lost
-Does handler step view interrupts s (Fire now (Err e)) t =
+Does handler firing interrupts s (Fire now (Err e)) t =
     ((now ≡ never) × (e ≡ record { why = BadNow; expired = 0; lost = 0 }) × (t ≡ s))
-    ⊎ ((now ≢ never) × SameCpu s.cpu t.cpu × Stopped handler step view now e s t)
-Does handler step view interrupts s (SoftInterrupt level budget answer) t = interrupts level budget answer s t
-Does handler step view interrupts s call t = Changes step view s.cpu call t.cpu × (t.calls ≡ s.calls)
+    ⊎ ((now ≢ never) × SameCpu s.cpu t.cpu × Stopped handler firing now e s t)
+Does handler firing interrupts s (SoftInterrupt level budget answer) t = interrupts level budget answer s t
+Does handler firing interrupts s call t = Changes firing s.cpu call t.cpu × (t.calls ≡ s.calls)
 
 -- no soft interrupt is a call of the CPU: another thread may have the soft sides
 abbrev pub no_interrupts : {C R : Type 0} → Soft → ℕ → Result Ran SoftRefused → Running C R → Running C R → Type 0

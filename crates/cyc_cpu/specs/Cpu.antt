@@ -1,7 +1,8 @@
 -- What callers see of the firing side of one CPU.
 use Rattle.std.specs.Prelude.{◌≡◌, ◌≢◌, ℕ, zero, suc, ◌+◌, ◌^◌, nat_le, cond, insert, ◌<◌, ◌≤◌, max, List, length, slice_index_or}
 use Rattle.std.specs.Prelude.{All, true, false, ◌⊎◌, Option, Some, None}
-use Rattle.cyc_types.specs.Firing.{FiringView, FiringCall, Expands, Stay, IsAdmitted, seen_of}
+use Rattle.cyc_types.specs.declared.Raise.{Ghosts as Raise}
+use Rattle.cyc_types.specs.Firing.{FiringView, Expands, Stay, IsAdmitted, seen_of}
 use Rattle.cyc_types.specs.Series.{never}
 use Rattle.cyc_types.specs.Limits.{cyclics as most_cyclics, greatest_bank}
 use Rattle.cyc_types.specs.Runs.{Goes, Taught}
@@ -90,22 +91,22 @@ abbrev pub with_moment : ℕ → Cyclic → Cyclic
 with_moment m c = record c { timer = record c.timer { moment = m } }
 
 -- the cyclic was asked for at its end, which answered so many calls outstanding; nothing else was done
-pub record Asks {R : Type 0} (step : R → FiringCall → R → Type 0) (view : R → FiringView) (id n : ℕ)
+pub record Asks {R : Type 0} (firing : Raise R) (id n : ℕ)
     (v w : CpuView R) : Type 0 where
   pub place : ℕ
   pub cyclic : Cyclic
   pub here : IsCyclic v.cyclics place cyclic
   pub named : cyclic.timer.id ≡ id
   pub high : cyclic.timer.level ≡ High → n ≡ 0
-  pub lock : Goes step view v.lock (asks_at Lock cyclic.timer.level id n) w.lock
-  pub low : Goes step view v.low (asks_at Low cyclic.timer.level id n) w.low
+  pub lock : Goes firing v.lock (asks_at Lock cyclic.timer.level id n) w.lock
+  pub low : Goes firing v.low (asks_at Low cyclic.timer.level id n) w.low
   pub cyclics : w.cyclics ≡ v.cyclics
   pub kept : SameCpu v w
 
 -- the ends were asked at most whether their soft sides have followed
-pub record Looked {R : Type 0} (step : R → FiringCall → R → Type 0) (view : R → FiringView) (v w : CpuView R) : Type 0 where
-  pub lock : OnlyLooks step view v.lock w.lock
-  pub low : OnlyLooks step view v.low w.low
+pub record Looked {R : Type 0} (firing : Raise R) (v w : CpuView R) : Type 0 where
+  pub lock : OnlyLooks firing v.lock w.lock
+  pub low : OnlyLooks firing v.low w.low
   pub cyclics : w.cyclics ≡ v.cyclics
   pub kept : SameCpu v w
 
@@ -148,10 +149,10 @@ pub record MayWiden {R : Type 0} (view : R → FiringView) (more : ℕ) (v : Cpu
 
 -- the memory that so many more need was taken where it was not there, and no more; the ends were asked at most whether their
 -- soft sides have followed
-pub record Reserves {R : Type 0} (step : R → FiringCall → R → Type 0) (view : R → FiringView) (more : ℕ)
+pub record Reserves {R : Type 0} (firing : Raise R) (more : ℕ)
     (v w : CpuView R) : Type 0 where
-  pub lock : OnlyLooks step view v.lock w.lock
-  pub low : OnlyLooks step view v.low w.low
+  pub lock : OnlyLooks firing v.lock w.lock
+  pub low : OnlyLooks firing v.low w.low
   pub cyclics : w.cyclics ≡ v.cyclics
   pub removal : w.removal ≡ v.removal
   pub size : w.size ≡ v.size
@@ -164,15 +165,15 @@ WhyNotReserved view more v w why.Memory = HasRoom view more w × (v.room < size_
 WhyNotReserved view more v w e = WhyNoRoom view more w e
 
 -- the size is what so many more need; where it grew, both ends were switched, once
-pub record Widens {R : Type 0} (step : R → FiringCall → R → Type 0) (view : R → FiringView) (more : ℕ)
+pub record Widens {R : Type 0} (firing : Raise R) (more : ℕ)
     (v w : CpuView R) : Type 0 where
   pub size : w.size ≡ size_for v.size (length v.cyclics + more)
   -- it has an index for each of them
   pub enough : length v.cyclics + more ≤ w.size
   pub kept_lock : length v.cyclics + more ≤ v.size → w.lock ≡ v.lock
   pub kept_low : length v.cyclics + more ≤ v.size → w.low ≡ v.low
-  pub lock : v.size < length v.cyclics + more → Taught step view v.lock (Expands (bank_for (length v.cyclics + more))) w.lock
-  pub low : v.size < length v.cyclics + more → Taught step view v.low (Expands (bank_for (length v.cyclics + more))) w.low
+  pub lock : v.size < length v.cyclics + more → Taught firing v.lock (Expands (bank_for (length v.cyclics + more))) w.lock
+  pub low : v.size < length v.cyclics + more → Taught firing v.low (Expands (bank_for (length v.cyclics + more))) w.low
   pub cyclics : w.cyclics ≡ v.cyclics
   pub removal : w.removal ≡ v.removal
   pub room : w.room ≡ v.room
@@ -193,18 +194,18 @@ abbrev pub new_cyclic : ℕ → Level → ℕ → ℕ → Cyclic
 new_cyclic id level interval moment = cyclic_with id level interval moment 0 0
 
 -- the cyclic stands at its place among the others, and is admitted at the end of its level
-pub record Places {R : Type 0} (step : R → FiringCall → R → Type 0) (view : R → FiringView) (c : Cyclic)
+pub record Places {R : Type 0} (firing : Raise R) (c : Cyclic)
     (v w : CpuView R) : Type 0 where
   pub place : ℕ
   pub index : ℕ
   pub within : place ≤ length v.cyclics
   pub cyclics : w.cyclics ≡ insert v.cyclics place c
   pub rising : HasRisingIds w.cyclics
-  pub lock : Goes step view v.lock (admits_at Lock c.timer.level c.timer.id index) w.lock
-  pub low : Goes step view v.low (admits_at Low c.timer.level c.timer.id index) w.low
+  pub lock : Goes firing v.lock (admits_at Lock c.timer.level c.timer.id index) w.lock
+  pub low : Goes firing v.low (admits_at Low c.timer.level c.timer.id index) w.low
   pub kept : SameCpu v w
 
 -- a cyclic that has not expired yet was put in
-abbrev pub Enters : {R : Type 0} → (R → FiringCall → R → Type 0) → (R → FiringView) → ℕ → Level → ℕ → ℕ → CpuView R → CpuView R
+abbrev pub Enters : {R : Type 0} → Raise R → ℕ → Level → ℕ → ℕ → CpuView R → CpuView R
     → Type 0
-Enters step view id level interval moment v w = Places step view (new_cyclic id level interval moment) v w
+Enters firing id level interval moment v w = Places firing (new_cyclic id level interval moment) v w

@@ -1,7 +1,8 @@
 -- What follows where a cyclic has left its CPU: of any CPU, and of one whose levels no other thread uses.
 use Rattle.std.specs.Prelude.{◌≡◌, ◌≢◌, ℕ, ◌⊎◌, None}
 use Rattle.cyc_types.specs.declared.receipt.Receipt.{Receipt}
-use Rattle.cyc_types.specs.Firing.{FiringView, FiringCall}
+use Rattle.cyc_types.specs.declared.Raise.{Ghosts as Raise}
+use Rattle.cyc_types.specs.Firing.{FiringView}
 use Rattle.cyc_core.specs.Level.{SoftLevel, place_count}
 use Rattle.cyc_core.specs.Tables.{Tables, level_of}
 use Rattle.cyc_cpu.specs.declared.removing.Removal.TheVariants.{Done}
@@ -23,11 +24,11 @@ pub record IsGone (id : ℕ) (v : CpuView Tables) : Type 0 where
   pub low : IsAbsent id (level_of v.low)
 
 -- the cyclic of this id has left: its removal has answered, as it began or at a poll, or it was taken to another CPU
-abbrev pub HasLeft : {R : Type 0} → (R → FiringCall → R → Type 0) → (R → FiringView)
+abbrev pub HasLeft : {R : Type 0} → Raise R
     → ℕ → CpuView R → CpuView R → Type 0
-HasLeft step view id v w = ((receipt : Receipt) × Begins step view id v (Done receipt) w)
-    ⊎ ((receipt : Receipt) × (receipt.id ≡ id) × Ends step view receipt v w)
-    ⊎ ((taken : Taken) × TakesNow step view id taken v w)
+HasLeft firing id v w = ((receipt : Receipt) × Begins firing id v (Done receipt) w)
+    ⊎ ((receipt : Receipt) × (receipt.id ≡ id) × Ends firing receipt v w)
+    ⊎ ((taken : Taken) × TakesNow firing id taken v w)
 
 -- no cyclic of the CPU has the id, and it is a stay of neither end
 pub record IsOff {R : Type 0} (view : R → FiringView) (id : ℕ) (v : CpuView R) : Type 0 where

@@ -1,6 +1,7 @@
 -- How a cyclic leaves its CPU: a removal, or a move to another CPU.
 use Rattle.std.specs.Prelude.{◌≡◌, ◌≢◌, ℕ, ◌+◌, ◌<◌, cond, List, [], ◌∷◌, Some, None, slice_set, remove}
 use Rattle.cyc_types.specs.Series.{never}
+use Rattle.cyc_types.specs.declared.Raise.{Ghosts as Raise}
 use Rattle.cyc_types.specs.Firing.{FiringView, FiringCall, Marks, Polls}
 use Rattle.cyc_types.specs.Runs.{Goes}
 use Rattle.cyc_types.specs.declared.firing.Sent.{Sent}
@@ -21,18 +22,18 @@ abbrev pub calls_at : Level → Level → List FiringCall → List FiringCall
 calls_at level own way = cond (same_level level own) way []
 
 -- the end of the cyclic's level went this way, and nothing was done at the other
-abbrev pub EndGoes : {R : Type 0} → (R → FiringCall → R → Type 0) → (R → FiringView) → Level → List FiringCall → CpuView R
+abbrev pub EndGoes : {R : Type 0} → Raise R → Level → List FiringCall → CpuView R
     → CpuView R → Type 0
-EndGoes step view own way v w = Goes step view v.lock (calls_at Lock own way) w.lock
-    × Goes step view v.low (calls_at Low own way) w.low
+EndGoes firing own way v w = Goes firing v.lock (calls_at Lock own way) w.lock
+    × Goes firing v.low (calls_at Low own way) w.low
 
 -- this cyclic has left, and no other: the end of its level went this way, and no removal is open
-pub record Leaves {R : Type 0} (step : R → FiringCall → R → Type 0) (view : R → FiringView) (id : ℕ) (way : List FiringCall)
+pub record Leaves {R : Type 0} (firing : Raise R) (id : ℕ) (way : List FiringCall)
     (c : Cyclic) (v w : CpuView R) : Type 0 where
   pub place : ℕ
   pub here : IsCyclic v.cyclics place c
   pub named : c.timer.id ≡ id
-  pub goes : EndGoes step view c.timer.level way v w
+  pub goes : EndGoes firing c.timer.level way v w
   pub cyclics : w.cyclics ≡ remove v.cyclics place
   pub removal : w.removal ≡ None
   pub size : w.size ≡ v.size
@@ -40,7 +41,7 @@ pub record Leaves {R : Type 0} (step : R → FiringCall → R → Type 0) (view 
   pub most : w.most ≡ v.most
 
 -- the removal of this cyclic is open: so many calls of it are kept, and it never expires
-pub record Opens {R : Type 0} (step : R → FiringCall → R → Type 0) (view : R → FiringView) (id kept : ℕ)
+pub record Opens {R : Type 0} (firing : Raise R) (id kept : ℕ)
     (v w : CpuView R) : Type 0 where
   pub place : ℕ
   pub cyclic : Cyclic
@@ -48,7 +49,7 @@ pub record Opens {R : Type 0} (step : R → FiringCall → R → Type 0) (view :
   pub named : cyclic.timer.id ≡ id
   pub soft : cyclic.timer.level ≢ High
   pub some : 0 < kept
-  pub goes : EndGoes step view cyclic.timer.level (Marks id kept ∷ []) v w
+  pub goes : EndGoes firing cyclic.timer.level (Marks id kept ∷ []) v w
   pub cyclics : w.cyclics ≡ slice_set v.cyclics place (with_moment never cyclic)
   pub removal : w.removal ≡ Some id
   pub size : w.size ≡ v.size
@@ -66,29 +67,29 @@ abbrev pub IsReceipt : Receipt → Cyclic → Type 0
 IsReceipt receipt c = (receipt.id ≡ c.timer.id) × (receipt.sent ≡ c.timer.expired) × (receipt.lost ≡ c.lost)
 
 -- a removal is done exactly where the mark found nothing outstanding (`cyclic_remove_here`)
-abbrev pub Begins : {R : Type 0} → (R → FiringCall → R → Type 0) → (R → FiringView) → ℕ → CpuView R → Removal → CpuView R → Type 0
-Begins step view id v (Done receipt) w = (c : Cyclic) × (counts : Sent) × IsReceipt receipt c × HasPolled view counts v c
-    × Leaves step view id (Marks id 0 ∷ Polls id (Some counts) ∷ []) c v w
-Begins step view id v (Kept kept) w = Opens step view id kept v w
+abbrev pub Begins : {R : Type 0} → Raise R → ℕ → CpuView R → Removal → CpuView R → Type 0
+Begins firing id v (Done receipt) w = (c : Cyclic) × (counts : Sent) × IsReceipt receipt c × HasPolled firing.view counts v c
+    × Leaves firing id (Marks id 0 ∷ Polls id (Some counts) ∷ []) c v w
+Begins firing id v (Kept kept) w = Opens firing id kept v w
 
 -- the open removal has ended: the poll found nothing outstanding
-pub record Ends {R : Type 0} (step : R → FiringCall → R → Type 0) (view : R → FiringView) (receipt : Receipt)
+pub record Ends {R : Type 0} (firing : Raise R) (receipt : Receipt)
     (v w : CpuView R) : Type 0 where
   pub was_open : v.removal ≡ Some receipt.id
   pub cyclic : Cyclic
   pub counts : Sent
   pub counted : IsReceipt receipt cyclic
-  pub polled : HasPolled view counts v cyclic
-  pub leaves : Leaves step view receipt.id (Polls receipt.id (Some counts) ∷ []) cyclic v w
+  pub polled : HasPolled firing.view counts v cyclic
+  pub leaves : Leaves firing receipt.id (Polls receipt.id (Some counts) ∷ []) cyclic v w
 
 -- the open removal of this cyclic goes on: the poll found calls outstanding
-pub record Waits {R : Type 0} (step : R → FiringCall → R → Type 0) (view : R → FiringView) (id : ℕ)
+pub record Waits {R : Type 0} (firing : Raise R) (id : ℕ)
     (v w : CpuView R) : Type 0 where
   pub place : ℕ
   pub cyclic : Cyclic
   pub here : IsCyclic v.cyclics place cyclic
   pub named : cyclic.timer.id ≡ id
-  pub goes : EndGoes step view cyclic.timer.level (Polls id None ∷ []) v w
+  pub goes : EndGoes firing cyclic.timer.level (Polls id None ∷ []) v w
   pub cyclics : w.cyclics ≡ v.cyclics
   pub kept : SameCpu v w
 

@@ -1,6 +1,7 @@
 -- The soft interrupt of one level of a CPU whose levels no other thread uses.
 use Rattle.std.specs.Prelude.{◌≡◌, ℕ, List, [], Option, Result}
 use Rattle.cyc_types.specs.declared.Calls.{Ghosts as Calls}
+use Rattle.cyc_types.specs.declared.Raise.{Ghosts as Raise}
 use Rattle.cyc_types.specs.Draining.{DrainCall}
 use Rattle.cyc_types.specs.Levels.{at_level, as_level}
 use Rattle.cyc_types.specs.declared.level.Soft.{Soft}
@@ -43,6 +44,10 @@ done_at a id = done_of (level_of a) id
 -- what the firing side of such a level knows
 abbrev pub firing_at : Tables → FiringView
 firing_at a = firing_view (level_of a)
+
+-- both at once: what it knows, and its calls
+abbrev pub raise_tables : Raise Tables
+raise_tables = record { view = firing_at; step = fires }
 
 -- these calls were made at one level, in order, and no other
 abbrev pub ServesAt : {C : Type 0} → (C → ℕ → C → Type 0) → (C → ℕ → ℕ) → Tables → C → List Served → List DrainCall → Tables → C

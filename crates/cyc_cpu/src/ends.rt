@@ -16,8 +16,8 @@ pub(crate) fn load_pend<R: Raise>(id: CyclicId, level: Level, lock: &mut R, low:
     requires lock { level ≡ Lock → MayAsk id (R.view lock.old) }
     requires low { level ≡ Low → MayAsk id (R.view low.old) }
     ensures high { level ≡ High → result ≡ 0 }
-    ensures lock { Goes R.step R.view lock.old (asks_at Lock level id result) lock.new }
-    ensures low { Goes R.step R.view low.old (asks_at Low level id result) low.new }
+    ensures lock { Goes R.Raise lock.old (asks_at Lock level id result) lock.new }
+    ensures low { Goes R.Raise low.old (asks_at Low level id result) low.new }
     ensures sound_lock { Sound (R.view lock.old) → Sound (R.view lock.new) }
     ensures sound_low { Sound (R.view low.old) → Sound (R.view low.new) }
 {
@@ -30,8 +30,8 @@ pub(crate) fn load_pend<R: Raise>(id: CyclicId, level: Level, lock: &mut R, low:
 
 /// Whether both soft sides are on the firing side's bank.
 pub(crate) fn both_followed<R: Raise>(lock: &mut R, low: &mut R) -> bool
-    ensures lock { Looks1 R.step R.view lock.old lock.new }
-    ensures low { Looks1 R.step R.view low.old low.new }
+    ensures lock { Looks1 R.Raise lock.old lock.new }
+    ensures low { Looks1 R.Raise low.old low.new }
     ensures yes { OnTrue result (((R.view lock.new).followed ≡ true) × ((R.view low.new).followed ≡ true)) }
     ensures no { OnFalse result (((R.view lock.new).followed ≡ false) ⊎ ((R.view low.new).followed ≡ false)) }
     ensures sound_lock { Sound (R.view lock.new) }
@@ -52,8 +52,8 @@ pub(crate) fn admit_at<R: Raise>(
 )
     requires lock { level ≡ Lock → MayAdmit id index (R.view lock.old) }
     requires low { level ≡ Low → MayAdmit id index (R.view low.old) }
-    ensures lock { Goes R.step R.view lock.old (admits_at Lock level id index) lock.new }
-    ensures low { Goes R.step R.view low.old (admits_at Low level id index) low.new }
+    ensures lock { Goes R.Raise lock.old (admits_at Lock level id index) lock.new }
+    ensures low { Goes R.Raise low.old (admits_at Low level id index) low.new }
     ensures sound_lock { Sound (R.view lock.old) → Sound (R.view lock.new) }
     ensures sound_low { Sound (R.view low.old) → Sound (R.view low.new) }
 {

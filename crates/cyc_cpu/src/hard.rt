@@ -147,7 +147,7 @@ impl<R: Raise> Hard<R> {
     /// CountSpent, and one whose handler refuses with HandlerRefused; those before it were made. Takes no memory.
     pub fn fire<C: Calls>(&mut self, now: Moment, calls: &mut C) -> Result<Fired, FireRefused>
         // The whole list was made, or it was made up to an expiration that was refused; at the moment that is never, nothing.
-        ensures { Does C.Calls R.step R.view no_interrupts (running calls.old self.old) (Fire now result)
+        ensures { Does C.Calls R.Raise no_interrupts (running calls.old self.old) (Fire now result)
             (running calls.new self.new) }
     {
         if now.nanoseconds() == Moment::NEVER.nanoseconds() {
@@ -170,7 +170,7 @@ impl<R: Raise> Hard<R> {
     /// Gives the cyclic another next expiration, and changes nothing else (`cyclic_reprogram`). Refuses with NoCyclic where
     /// the id is not here, or its removal is open. Takes no memory.
     pub fn reprogram(&mut self, id: CyclicId, moment: Moment) -> Result<(), Refusal>
-        ensures { Changes R.step R.view self.old (Reprogram id moment result) self.new }
+        ensures { Changes R.Raise self.old (Reprogram id moment result) self.new }
     {
         let _ = moment.nanoseconds();
         if self.is_removed(id) {
@@ -187,7 +187,7 @@ impl<R: Raise> Hard<R> {
 
     /// The calls of the cyclic that are outstanding, 0 at high level. None where the id is not here. Takes no memory.
     pub fn pending(&mut self, id: CyclicId) -> Option<u32>
-        ensures { Changes R.step R.view self.old (AskPending id result) self.new }
+        ensures { Changes R.Raise self.old (AskPending id result) self.new }
     {
         let (_, pend) = self.ask(id)?;
         Some(pend)
@@ -196,7 +196,7 @@ impl<R: Raise> Hard<R> {
     /// The counts of the cyclic, with those that it carried in, and its calls that are outstanding. None where the id is
     /// not here. Takes no memory.
     pub fn totals(&mut self, id: CyclicId) -> Option<Totals>
-        ensures { Changes R.step R.view self.old (AskTotals id result) self.new }
+        ensures { Changes R.Raise self.old (AskTotals id result) self.new }
     {
         let (kept, pending) = self.ask(id)?;
         Some(Totals {
@@ -209,7 +209,7 @@ impl<R: Raise> Hard<R> {
     /// What is kept of the cyclic, and its calls that are outstanding. None where the id is not here.
     fn ask(&mut self, id: CyclicId) -> Option<(Record, u32)>
         ensures none { IfNone result (HasNoCyclic id self.old.cyclics × (self.new ≡ self.old)) }
-        ensures some { IfSome result (λ a. (asks : Asks R.step R.view id a.1 self.old self.new)
+        ensures some { IfSome result (λ a. (asks : Asks R.Raise id a.1 self.old self.new)
             × (a.0.expired ≡ asks.cyclic.timer.expired) × (a.0.lost ≡ asks.cyclic.lost)
             × IsSparedAt R.view self.old asks.cyclic) }
         ensures seen { IfSome result (λ a. seen_at R.view id self.new ≡ a.1) }
@@ -226,7 +226,7 @@ impl<R: Raise> Hard<R> {
     /// Refuses with Full where the CPU would hold more than `CYCLICS`; where the size must grow also with Busy while a
     /// removal is open, and then with Expanding where a soft level has not followed the last switch of banks.
     pub fn room(&mut self, more: usize) -> Result<(), Refusal>
-        ensures { Changes R.step R.view self.old (AskRoom more result) self.new }
+        ensures { Changes R.Raise self.old (AskRoom more result) self.new }
     {
         let len = self.table.len();
         let size = self.table.size();
@@ -249,7 +249,7 @@ impl<R: Raise> Hard<R> {
     /// Takes the memory that so many more cyclics need, so that `widen` and adding them take none. Refuses as `room`, then
     /// with Memory.
     pub fn reserve(&mut self, more: usize) -> Result<(), Refusal>
-        ensures { Changes R.step R.view self.old (Reserve more result) self.new }
+        ensures { Changes R.Raise self.old (Reserve more result) self.new }
     {
         self.room(more)?;
         let needed = self.table.len() + more;
@@ -263,7 +263,7 @@ impl<R: Raise> Hard<R> {
     /// no memory.
     pub fn widen(&mut self, more: usize)
         requires { MayWiden R.view more self.old }
-        ensures { Changes R.step R.view self.old (Widen more) self.new }
+        ensures { Changes R.Raise self.old (Widen more) self.new }
     {
         let needed = self.table.len() + more;
         if needed > self.table.size() {
@@ -285,7 +285,7 @@ impl<R: Raise> Hard<R> {
         now: Moment,
     ) -> Result<(), Refusal>
         requires absent { HasNoCyclic id self.old.cyclics }
-        ensures { Changes R.step R.view self.old (Add id level when now result) self.new }
+        ensures { Changes R.Raise self.old (Add id level when now result) self.new }
     {
         if now.nanoseconds() == Moment::NEVER.nanoseconds() {
             return Err(Refusal::BadNow);
@@ -300,7 +300,7 @@ impl<R: Raise> Hard<R> {
     fn enter(&mut self, id: CyclicId, level: Level, interval: Interval, moment: Moment)
         requires absent { HasNoCyclic id self.old.cyclics }
         requires free { length self.old.cyclics < self.old.size }
-        ensures { Enters R.step R.view id level interval moment self.old self.new }
+        ensures { Enters R.Raise id level interval moment self.old self.new }
     {
         self.place(id, level, interval, moment, Sent { sent: 0, lost: 0 });
     }

@@ -7,7 +7,7 @@ ghost use Rattle.cyc_core.specs.Reached.{IsReached};
 ghost use Rattle.cyc_core.specs.Lawful.{Lawful};
 ghost use Rattle.cyc_cpu.specs.Cpu.{CpuView, Running};
 ghost use Rattle.cyc_cpu.specs.Calls.{CpuCall, Does};
-ghost use Rattle.cyc_cpu.specs.Soft.{fires, firing_at, Interrupts};
+ghost use Rattle.cyc_cpu.specs.Soft.{raise_tables, Interrupts};
 ghost use Rattle.cyc_cpu.specs.Gone.{HasLeft, IsGone, PutsNot, StaysGone};
 
 use crate::hard::Hard;
@@ -31,15 +31,15 @@ impl Hard<LevelCore> {
     /// put in anew. It does nothing when it runs.
     pub fn removal_law<C: Calls>(&self)
         // After that no cyclic has the id, and it is admitted at neither level and stands in no place.
-        ensures left { (id : ℕ) (w : CpuView Tables) → HasLeft fires firing_at id self.now w → IsGone id w }
+        ensures left { (id : ℕ) (w : CpuView Tables) → HasLeft raise_tables id self.now w → IsGone id w }
         // One more call on the CPU that doesn't put it in makes no call of it, and leaves it gone.
         ensures kept { (id : ℕ) (s t : Running C Tables) (call : CpuCall) → IsGone id s.cpu → PutsNot id call
-            → Does C.Calls fires firing_at (Interrupts C.Calls) s call t
+            → Does C.Calls raise_tables (Interrupts C.Calls) s call t
             → StaysGone C.count id s t }
         // So none of any number of such calls makes one.
         ensures nothing_follows { (id : ℕ) (s t : Running C Tables) (way : List CpuCall)
-            → HasLeft fires firing_at id self.now s.cpu → All (PutsNot id) way
-            → FoldsTo (Does C.Calls fires firing_at (Interrupts C.Calls)) s way t
+            → HasLeft raise_tables id self.now s.cpu → All (PutsNot id) way
+            → FoldsTo (Does C.Calls raise_tables (Interrupts C.Calls)) s way t
             → StaysGone C.count id s t }
     {
         self.law();

@@ -13,9 +13,9 @@ use cyc_types::{CyclicId, Level, Raise};
 /// Marks the cyclic, and ends its stay at once where no call of it is outstanding. The answer is how many are.
 fn remove_from<R: Raise>(end: &mut R, id: CyclicId) -> u32
     requires { MayMark id (R.view end.old) }
-    ensures kept { 0 < result → Goes R.step R.view end.old (Marks id result ∷ []) end.new }
+    ensures kept { 0 < result → Goes R.Raise end.old (Marks id result ∷ []) end.new }
     ensures ended { result ≡ 0 → (counts : Counts)
-        × Goes R.step R.view end.old (Marks id 0 ∷ Polls id (Some counts) ∷ []) end.new }
+        × Goes R.Raise end.old (Marks id 0 ∷ Polls id (Some counts) ∷ []) end.new }
     ensures seen { result ≤ seen_of id (R.view end.old) }
     ensures sound { Sound (R.view end.new) }
 {
@@ -32,11 +32,11 @@ pub(crate) fn remove_at<R: Raise>(id: CyclicId, level: Level, lock: &mut R, low:
     requires lock { level ≡ Lock → MayMark id (R.view lock.old) }
     requires low { level ≡ Low → MayMark id (R.view low.old) }
     ensures high { level ≡ High → result ≡ 0 }
-    ensures kept { 0 < result → Goes R.step R.view lock.old (calls_at Lock level (Marks id result ∷ [])) lock.new
-        × Goes R.step R.view low.old (calls_at Low level (Marks id result ∷ [])) low.new }
+    ensures kept { 0 < result → Goes R.Raise lock.old (calls_at Lock level (Marks id result ∷ [])) lock.new
+        × Goes R.Raise low.old (calls_at Low level (Marks id result ∷ [])) low.new }
     ensures ended { result ≡ 0 → (counts : Counts)
-        × Goes R.step R.view lock.old (calls_at Lock level (Marks id 0 ∷ Polls id (Some counts) ∷ [])) lock.new
-        × Goes R.step R.view low.old (calls_at Low level (Marks id 0 ∷ Polls id (Some counts) ∷ [])) low.new }
+        × Goes R.Raise lock.old (calls_at Lock level (Marks id 0 ∷ Polls id (Some counts) ∷ [])) lock.new
+        × Goes R.Raise low.old (calls_at Low level (Marks id 0 ∷ Polls id (Some counts) ∷ [])) low.new }
     ensures seen_lock { level ≡ Lock → result ≤ seen_of id (R.view lock.old) }
     ensures seen_low { level ≡ Low → result ≤ seen_of id (R.view low.old) }
     ensures sound_lock { Sound (R.view lock.old) → Sound (R.view lock.new) }
@@ -52,8 +52,8 @@ pub(crate) fn remove_at<R: Raise>(id: CyclicId, level: Level, lock: &mut R, low:
 /// Ends the stay of the marked cyclic where no call of it is outstanding, and says whether it did.
 fn poll_end<R: Raise>(end: &mut R, id: CyclicId) -> bool
     requires { MayPoll id (R.view end.old) }
-    ensures ended { OnTrue result ((counts : Counts) × Goes R.step R.view end.old (Polls id (Some counts) ∷ []) end.new) }
-    ensures waits { OnFalse result (Goes R.step R.view end.old (Polls id None ∷ []) end.new) }
+    ensures ended { OnTrue result ((counts : Counts) × Goes R.Raise end.old (Polls id (Some counts) ∷ []) end.new) }
+    ensures waits { OnFalse result (Goes R.Raise end.old (Polls id None ∷ []) end.new) }
     ensures sound { Sound (R.view end.new) }
 {
     match end.poll_clear(id) {
@@ -67,10 +67,10 @@ pub(crate) fn poll_at<R: Raise>(id: CyclicId, level: Level, lock: &mut R, low: &
     requires lock { level ≡ Lock → MayPoll id (R.view lock.old) }
     requires low { level ≡ Low → MayPoll id (R.view low.old) }
     ensures ended { OnTrue result ((counts : Counts)
-        × Goes R.step R.view lock.old (calls_at Lock level (Polls id (Some counts) ∷ [])) lock.new
-        × Goes R.step R.view low.old (calls_at Low level (Polls id (Some counts) ∷ [])) low.new) }
-    ensures waits { OnFalse result (Goes R.step R.view lock.old (calls_at Lock level (Polls id None ∷ [])) lock.new
-        × Goes R.step R.view low.old (calls_at Low level (Polls id None ∷ [])) low.new) }
+        × Goes R.Raise lock.old (calls_at Lock level (Polls id (Some counts) ∷ [])) lock.new
+        × Goes R.Raise low.old (calls_at Low level (Polls id (Some counts) ∷ [])) low.new) }
+    ensures waits { OnFalse result (Goes R.Raise lock.old (calls_at Lock level (Polls id None ∷ [])) lock.new
+        × Goes R.Raise low.old (calls_at Low level (Polls id None ∷ [])) low.new) }
     ensures sound_lock { Sound (R.view lock.old) → Sound (R.view lock.new) }
     ensures sound_low { Sound (R.view low.old) → Sound (R.view low.new) }
 {
@@ -85,9 +85,9 @@ pub(crate) fn poll_at<R: Raise>(id: CyclicId, level: Level, lock: &mut R, low: &
 fn take_from<R: Raise>(end: &mut R, id: CyclicId) -> bool
     requires { MayMark id (R.view end.old) }
     ensures ended { OnTrue result ((counts : Counts)
-        × Goes R.step R.view end.old (Loads id 0 ∷ Marks id 0 ∷ Polls id (Some counts) ∷ []) end.new) }
+        × Goes R.Raise end.old (Loads id 0 ∷ Marks id 0 ∷ Polls id (Some counts) ∷ []) end.new) }
     ensures pending { OnFalse result ((n : ℕ) × (0 < n) × (n ≤ seen_of id (R.view end.old))
-        × Goes R.step R.view end.old (Loads id n ∷ []) end.new) }
+        × Goes R.Raise end.old (Loads id n ∷ []) end.new) }
     ensures sound { Sound (R.view end.new) }
 {
     if end.load_pend(id) > 0 {
@@ -104,11 +104,11 @@ pub(crate) fn take_at<R: Raise>(id: CyclicId, level: Level, lock: &mut R, low: &
     requires lock { level ≡ Lock → MayMark id (R.view lock.old) }
     requires low { level ≡ Low → MayMark id (R.view low.old) }
     ensures ended { OnTrue result ((counts : Counts)
-        × Goes R.step R.view lock.old (calls_at Lock level (Loads id 0 ∷ Marks id 0 ∷ Polls id (Some counts) ∷ [])) lock.new
-        × Goes R.step R.view low.old (calls_at Low level (Loads id 0 ∷ Marks id 0 ∷ Polls id (Some counts) ∷ [])) low.new) }
+        × Goes R.Raise lock.old (calls_at Lock level (Loads id 0 ∷ Marks id 0 ∷ Polls id (Some counts) ∷ [])) lock.new
+        × Goes R.Raise low.old (calls_at Low level (Loads id 0 ∷ Marks id 0 ∷ Polls id (Some counts) ∷ [])) low.new) }
     ensures pending { OnFalse result ((n : ℕ) × (0 < n) × (n ≤ seen_of id (R.view lock.old) + seen_of id (R.view low.old))
-        × Goes R.step R.view lock.old (calls_at Lock level (Loads id n ∷ [])) lock.new
-        × Goes R.step R.view low.old (calls_at Low level (Loads id n ∷ [])) low.new) }
+        × Goes R.Raise lock.old (calls_at Lock level (Loads id n ∷ [])) lock.new
+        × Goes R.Raise low.old (calls_at Low level (Loads id n ∷ [])) low.new) }
     ensures soft { OnFalse result (level ≢ High) }
     ensures sound_lock { Sound (R.view lock.old) → Sound (R.view lock.new) }
     ensures sound_low { Sound (R.view low.old) → Sound (R.view low.new) }

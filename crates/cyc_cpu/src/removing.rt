@@ -42,7 +42,7 @@ impl<R: Raise> Hard<R> {
     ///
     /// Refuses with NoCyclic where the id is not here, then with Busy while a removal is open. Takes no memory.
     pub fn begin_remove(&mut self, id: CyclicId) -> Result<Removal, Refusal>
-        ensures { Changes R.step R.view self.old (BeginRemove id result) self.new }
+        ensures { Changes R.Raise self.old (BeginRemove id result) self.new }
     {
         self.table.law();
         let Some(place) = self.table.find(id) else {
@@ -65,7 +65,7 @@ impl<R: Raise> Hard<R> {
     /// Ends the open removal where the last of its calls was made, and gives the receipt, with the counts that the cyclic
     /// carried in. None where no removal is open, or calls are still outstanding. Takes no memory.
     pub fn poll_remove(&mut self) -> Option<Receipt>
-        ensures { Changes R.step R.view self.old (PollRemove result) self.new }
+        ensures { Changes R.Raise self.old (PollRemove result) self.new }
     {
         self.table.law();
         let id = self.removal?;
@@ -87,5 +87,5 @@ impl<R: Raise> Hard<R> {
 ///
 /// It does nothing when it runs: its clause is the law.
 pub fn leaving_law<R: Raise>()
-    ensures { (id : ℕ) (v w : CpuView R) → IsLawful R.view v → HasLeft R.step R.view id v w → IsOff R.view id w }
+    ensures { (id : ℕ) (v w : CpuView R) → IsLawful R.view v → HasLeft R.Raise id v w → IsOff R.view id w }
 {}

@@ -17,8 +17,8 @@ use cyc_types::Raise;
 fn all_quiet<R: Raise>(table: &Table, lock: &mut R, low: &mut R) -> bool
     requires lock { (k : ℕ) (r : Row) → IsRow table.now.rows k r → r.timer.level ≡ Lock → MayAsk r.timer.id (R.view lock.old) }
     requires low { (k : ℕ) (r : Row) → IsRow table.now.rows k r → r.timer.level ≡ Low → MayAsk r.timer.id (R.view low.old) }
-    ensures lock { OnlyLoads R.step R.view lock.old lock.new }
-    ensures low { OnlyLoads R.step R.view low.old low.new }
+    ensures lock { OnlyLoads R.Raise lock.old lock.new }
+    ensures low { OnlyLoads R.Raise low.old low.new }
     ensures quiet_lock { OnTrue result ((k : ℕ) (r : Row) → IsRow table.now.rows k r → r.timer.level ≡ Lock
         → seen_of r.timer.id (R.view lock.new) ≡ 0) }
     ensures quiet_low { OnTrue result ((k : ℕ) (r : Row) → IsRow table.now.rows k r → r.timer.level ≡ Low
@@ -45,7 +45,7 @@ impl<R: Raise> Hard<R> {
     /// After true, nothing of this CPU is refused with Expanding, Busy or Pending until the next fire or switch of banks
     /// (`settling_law` of cyc_cpu_laws).
     pub fn settled(&mut self) -> bool
-        ensures { Changes R.step R.view self.old (AskSettled result) self.new }
+        ensures { Changes R.Raise self.old (AskSettled result) self.new }
     {
         if self.removal.is_some() {
             return false;

@@ -5,7 +5,8 @@ use Rattle.std.specs.Prelude.{Ok, Err}
 use Rattle.std.specs.List.{FoldsTo}
 use Rattle.std.proofs.Math.Seq.{take-append_seam}
 use Rattle.cyc_types.specs.declared.Calls.{Ghosts as Calls}
-use Rattle.cyc_types.specs.Firing.{FiringView, FiringCall}
+use Rattle.cyc_types.specs.declared.Raise.{Ghosts as Raise}
+use Rattle.cyc_types.specs.Firing.{FiringView}
 use Rattle.cyc_types.specs.Runs.{raised_by, lost_by}
 use Rattle.cyc_types.specs.Levels.{at_level}
 use Rattle.cyc_types.specs.declared.level.Level.{Level}
@@ -57,57 +58,57 @@ limits_on view u v w a b = record {
   grows = (let x = a.grows in let y = b.grows in omega (arith, x, y));
 }
 
-module _ {C R : Type 0} (handler : Calls C) (step : R → FiringCall → R → Type 0) (view : R → FiringView) where
-  pub proceeds_none : (s : Running C R) → Proceeds handler.count step view nothing s s
+module _ {C R : Type 0} (handler : Calls C) (firing : Raise R) where
+  pub proceeds_none : (s : Running C R) → Proceeds handler.count firing nothing s s
   proceeds_none s = record {
     lock_lost = λ id. 0;
     low_lost = λ id. 0;
-    lock = passes_none step view s.cpu.lock;
-    low = passes_none step view s.cpu.low;
+    lock = passes_none firing s.cpu.lock;
+    low = passes_none firing s.cpu.low;
     called = λ id. omega arith;
     expired = λ id. omega arith;
     lost = λ id. omega arith;
-    limits = limits_none view s.cpu;
+    limits = limits_none firing.view s.cpu;
   }
 
-  pub proceeds_on : (a b : Account) (s t u : Running C R) → Proceeds handler.count step view a s t
-      → Proceeds handler.count step view b t u → Proceeds handler.count step view (both a b) s u
+  pub proceeds_on : (a b : Account) (s t u : Running C R) → Proceeds handler.count firing a s t
+      → Proceeds handler.count firing b t u → Proceeds handler.count firing (both a b) s u
   proceeds_on a b s t u p q = record {
     lock_lost = λ id. p.lock_lost id + q.lock_lost id;
     low_lost = λ id. p.low_lost id + q.low_lost id;
-    lock = passes_on step view (a.fired Lock) p.lock_lost (b.fired Lock) q.lock_lost
+    lock = passes_on firing (a.fired Lock) p.lock_lost (b.fired Lock) q.lock_lost
         s.cpu.lock t.cpu.lock u.cpu.lock p.lock q.lock;
-    low = passes_on step view (a.fired Low) p.low_lost (b.fired Low) q.low_lost s.cpu.low t.cpu.low u.cpu.low p.low q.low;
+    low = passes_on firing (a.fired Low) p.low_lost (b.fired Low) q.low_lost s.cpu.low t.cpu.low u.cpu.low p.low q.low;
     called = λ id. (let x = p.called id in let y = q.called id in omega (arith, x, y));
     expired = λ id. (let x = p.expired id in let y = q.expired id in omega (arith, x, y));
     lost = λ id. (let x = p.lost id in let y = q.lost id in omega (arith, x, y));
-    limits = limits_on view s.cpu t.cpu u.cpu p.limits q.limits;
+    limits = limits_on firing.view s.cpu t.cpu u.cpu p.limits q.limits;
   }
 
   -- calls of the firing sides keep the ceilings
-  limits_of : (r l r' l' : ℕ → ℕ) (v w : CpuView R) → Passes step view r l v.lock w.lock → Passes step view r' l' v.low w.low →
-      w.most ≡ v.most → v.size ≤ w.size → KeepsLimits view v w
+  limits_of : (r l r' l' : ℕ → ℕ) (v w : CpuView R) → Passes firing r l v.lock w.lock → Passes firing r' l' v.low w.low →
+      w.most ≡ v.most → v.size ≤ w.size → KeepsLimits firing.view v w
   limits_of r l r' l' v w lock low most grows = record {
     most = most;
-    lock_ceiling = passes_ceiling step view r l v.lock w.lock lock;
-    low_ceiling = passes_ceiling step view r' l' v.low w.low low;
+    lock_ceiling = passes_ceiling firing r l v.lock w.lock lock;
+    low_ceiling = passes_ceiling firing r' l' v.low w.low low;
     grows = grows;
   }
 
   -- the expirations of a fire
   fired : (s t : Running C R) (now lost : ℕ) (made : List Expiration) (at : C) → HasDistinctIds (timers s.cpu.cyclics) →
       SameCpu s.cpu t.cpu → ((id : ℕ) → handler.count t.calls id ≡ handler.count at id) →
-      Makes (at_level handler.called High) handler.count step view now made s.cpu.cyclics t.cpu.cyclics (sides s.calls s.cpu)
-      (sides at t.cpu) lost → Proceeds handler.count step view (of_fire (timers s.cpu.cyclics) made) s t
+      Makes (at_level handler.called High) handler.count firing now made s.cpu.cyclics t.cpu.cyclics (sides s.calls s.cpu)
+      (sides at t.cpu) lost → Proceeds handler.count firing (of_fire (timers s.cpu.cyclics) made) s t
   fired s t now lost made at distinct kept same m =
       let ts = timers s.cpu.cyclics in
       let lock : (id : ℕ) → raised_by id m.acts.lock_way ≡ share Lock ts made id =
       λ id. raises_add_up id _ m.acts.lock_way m.acts.lock_raises ∙ ids_add_up id Lock ts made in
       let low : (id : ℕ) → raised_by id m.acts.low_way ≡ share Low ts made id =
       λ id. raises_add_up id _ m.acts.low_way m.acts.low_raises ∙ ids_add_up id Low ts made in
-      let at_lock : Passes step view (λ id. share Lock ts made id) (λ id. lost_by id m.acts.lock_way) s.cpu.lock t.cpu.lock =
+      let at_lock : Passes firing (λ id. share Lock ts made id) (λ id. lost_by id m.acts.lock_way) s.cpu.lock t.cpu.lock =
       record { way = m.acts.lock_way; goes = m.acts.lock_goes; raises = lock; losses = λ id. refl } in
-      let at_low : Passes step view (λ id. share Low ts made id) (λ id. lost_by id m.acts.low_way) s.cpu.low t.cpu.low =
+      let at_low : Passes firing (λ id. share Low ts made id) (λ id. lost_by id m.acts.low_way) s.cpu.low t.cpu.low =
       record { way = m.acts.low_way; goes = m.acts.low_goes; raises = low; losses = λ id. refl } in
       record {
         lock_lost = λ id. lost_by id m.acts.lock_way;
@@ -124,29 +125,29 @@ module _ {C R : Type 0} (handler : Calls C) (step : R → FiringCall → R → T
 
   -- the same under an equal list
   made_is : (s t : Running C R) (made made' : List Expiration) → made ≡ made' →
-      Proceeds handler.count step view (of_fire (timers s.cpu.cyclics) made) s t →
-      Proceeds handler.count step view (of_fire (timers s.cpu.cyclics) made') s t
-  made_is s t made made' is p = subst (λ xs. Proceeds handler.count step view (of_fire (timers s.cpu.cyclics) xs) s t) is p
+      Proceeds handler.count firing (of_fire (timers s.cpu.cyclics) made) s t →
+      Proceeds handler.count firing (of_fire (timers s.cpu.cyclics) made') s t
+  made_is s t made made' is p = subst (λ xs. Proceeds handler.count firing (of_fire (timers s.cpu.cyclics) xs) s t) is p
 
   -- a call that reaches no handler
-  quiet : (s t : Running C R) (call : CpuCall) → made_by call s.cpu.cyclics ≡ [] → Changes step view s.cpu call t.cpu
-      × (t.calls ≡ s.calls) → Proceeds handler.count step view (account_of call s.cpu.cyclics) s t
+  quiet : (s t : Running C R) (call : CpuCall) → made_by call s.cpu.cyclics ≡ [] → Changes firing s.cpu call t.cpu
+      × (t.calls ≡ s.calls) → Proceeds handler.count firing (account_of call s.cpu.cyclics) s t
   quiet s t call none (d, same) =
       let ts = timers s.cpu.cyclics in
-      let st = changes_still step view s.cpu t.cpu call d in
+      let st = changes_still firing s.cpu t.cpu call d in
       let zero : (level : Level) (id : ℕ) →
       share level ts (made_by call s.cpu.cyclics) id ≡ 0 = λ level id. ap (λ xs. share level ts xs id) none
       ∙ none_made level ts id in
       let sums : (id : ℕ) → _ =
-      λ id. shift_sums call s.cpu.cyclics t.cpu.cyclics id (changes_shift step view s.cpu t.cpu call d) in
-      let at_lock : Passes step view (λ id. share Lock ts (made_by call s.cpu.cyclics) id) (λ id. 0) s.cpu.lock t.cpu.lock =
+      λ id. shift_sums call s.cpu.cyclics t.cpu.cyclics id (changes_shift firing s.cpu t.cpu call d) in
+      let at_lock : Passes firing (λ id. share Lock ts (made_by call s.cpu.cyclics) id) (λ id. 0) s.cpu.lock t.cpu.lock =
       record {
         way = st.lock.way;
         goes = st.lock.goes;
         raises = λ id. (still_raises s.cpu.size t.cpu.size id st.lock.way st.lock.still).0 ∙ sym (zero Lock id);
         losses = λ id. (still_raises s.cpu.size t.cpu.size id st.lock.way st.lock.still).1;
       } in
-      let at_low : Passes step view (λ id. share Low ts (made_by call s.cpu.cyclics) id) (λ id. 0) s.cpu.low t.cpu.low =
+      let at_low : Passes firing (λ id. share Low ts (made_by call s.cpu.cyclics) id) (λ id. 0) s.cpu.low t.cpu.low =
       record {
         way = st.low.way;
         goes = st.low.goes;
@@ -166,10 +167,10 @@ module _ {C R : Type 0} (handler : Calls C) (step : R → FiringCall → R → T
       }
 
   nothing_fired : (s t : Running C R) (now : ℕ) (e : FireRefused) → t ≡ s → e.expired ≡ 0 →
-      Proceeds handler.count step view (account_of (Fire now (Err e)) s.cpu.cyclics) s t
+      Proceeds handler.count firing (account_of (Fire now (Err e)) s.cpu.cyclics) s t
   nothing_fired s t now e is none =
       made_is s t [] _ (sym (ap (λ n. take n (expirations now (timers s.cpu.cyclics))) none))
-      (subst (λ (x : Running C R). Proceeds handler.count step view (of_fire (timers s.cpu.cyclics) []) s x) (sym is) (record {
+      (subst (λ (x : Running C R). Proceeds handler.count firing (of_fire (timers s.cpu.cyclics) []) s x) (sym is) (record {
         lock_lost = λ id. 0;
         low_lost = λ id. 0;
         lock = record {
@@ -183,18 +184,18 @@ module _ {C R : Type 0} (handler : Calls C) (step : R → FiringCall → R → T
         expired = λ id. (let x = none_made Lock (timers s.cpu.cyclics) id in let y = none_made Low (timers s.cpu.cyclics) id in
             let z = none_made High (timers s.cpu.cyclics) id in omega (arith, x, y, z));
         lost = λ id. omega arith;
-        limits = limits_none view s.cpu;
+        limits = limits_none firing.view s.cpu;
       }))
 
   front : (now : ℕ) (e : FireRefused) (s t : Running C R)
-      (f : Stopped handler step view now e s t) →
+      (f : Stopped handler firing now e s t) →
       f.made ≡ take e.expired (expirations now (timers s.cpu.cyclics))
   front now e s t f = sym (ap (λ n. take n (expirations now (timers s.cpu.cyclics))) (sym f.expired)
       ∙ ap (take (length f.made)) f.listed ∙ take-append_seam f.made (f.last ∷ f.rest))
 
   -- one call
-  pub proceeds_one : (s t : Running C R) (call : CpuCall) → IsLawful view s.cpu →
-      Does handler step view no_interrupts s call t → Proceeds handler.count step view (account_of call s.cpu.cyclics) s t
+  pub proceeds_one : (s t : Running C R) (call : CpuCall) → IsLawful firing.view s.cpu →
+      Does handler firing no_interrupts s call t → Proceeds handler.count firing (account_of call s.cpu.cyclics) s t
   proceeds_one s t (Fire now (Ok r)) law (
     early,
     kept,
@@ -225,11 +226,11 @@ module _ {C R : Type 0} (handler : Calls C) (step : R → FiringCall → R → T
 
   -- the calls of a run
   abbrev D : Running C R → CpuCall → Running C R → Type 0
-  D = Steps handler step view no_interrupts
+  D = Steps handler firing no_interrupts
 
-  pub proceeds_in : (s t : Running C R) (way : List CpuCall) → IsLawful view s.cpu → (run : FoldsTo D s way t) →
-      Proceeds handler.count step view (account_in D s way t run) s t
-  proceeds_in s t [] law run = subst (λ (x : Running C R). Proceeds handler.count step view nothing s x) run (proceeds_none s)
+  pub proceeds_in : (s t : Running C R) (way : List CpuCall) → IsLawful firing.view s.cpu → (run : FoldsTo D s way t) →
+      Proceeds handler.count firing (account_in D s way t run) s t
+  proceeds_in s t [] law run = subst (λ (x : Running C R). Proceeds handler.count firing nothing s x) run (proceeds_none s)
   proceeds_in s t (call ∷ way) law (m, (does, lawful), rest) =
       proceeds_on (account_of call s.cpu.cyclics) (account_in D m way t rest) s m t (proceeds_one s m call law does)
       (proceeds_in m t way lawful rest)

@@ -20,7 +20,7 @@ use Rattle.cyc_cpu.specs.declared.removing.Removal.TheVariants.{Done}
 use Rattle.cyc_cpu.specs.Cpu.{CpuView, AreAdmitted, IsCyclic}
 use Rattle.cyc_cpu.specs.Removal.{Leaves, calls_at}
 use Rattle.cyc_cpu.specs.Laws.{IsLawful}
-use Rattle.cyc_cpu.specs.Soft.{fires, firing_at, done_at}
+use Rattle.cyc_cpu.specs.Soft.{raise_tables, firing_at, done_at}
 use Rattle.cyc_cpu.specs.Calls.{CpuCall, Changes, BeginRemove, PollRemove, TakeNow}
 use Rattle.cyc_cpu_laws.specs.Accounts.{counts_of, left_by}
 use Rattle.cyc_cpu_laws.specs.Receipts.{Releases, HasCalls, done_by, pending_by, IsBalanced, AnswersCalls}
@@ -53,7 +53,7 @@ calls_here soft a cs k c n admitted law here at none carried =
 
 -- the way begins with a call that finds nothing outstanding
 abbrev FindsNone : ℕ → List FiringCall → Type 0
-FindsNone id way = (a b : Tables) → Goes fires firing_at a way b → count (level_of a) id ≡ 0
+FindsNone id way = (a b : Tables) → Goes raise_tables a way b → count (level_of a) id ≡ 0
 
 begun_none : (id : ℕ) (counts : Sent) → FindsNone id (Marks id 0 ∷ Polls id (Some counts) ∷ [])
 begun_none id counts a b (m, ((pend, happens), learns), rest) = sym pend
@@ -68,7 +68,7 @@ module _ (v w : CpuView Tables) (law : IsLawful firing_at v) (lock : Lawful (lev
     (low : Lawful (level_of v.low)) where
   at_level : (id n : ℕ) (way : List FiringCall) (c : Cyclic) (k : ℕ) → IsCyclic v.cyclics k c → c.timer.id ≡ id →
       FindsNone id way → (own : Level) → c.timer.level ≡ own → own ≢ High →
-      Goes fires firing_at v.lock (calls_at Lock own way) w.lock → Goes fires firing_at v.low (calls_at Low own way) w.low →
+      Goes raise_tables v.lock (calls_at Lock own way) w.lock → Goes raise_tables v.low (calls_at Low own way) w.low →
       HasCalls c.carried n → c.timer.expired ≡ c.lost + (n + done_by own v id)
   at_level id n way c k here named finds Lock at soft goes_lock goes_low carried =
       subst (λ j. c.timer.expired ≡ c.lost + (n + done_at v.lock j)) named
@@ -80,7 +80,7 @@ module _ (v w : CpuView Tables) (law : IsLawful firing_at v) (lock : Lawful (lev
       ∙ finds v.low w.low goes_low) carried)
   at_level id n way c k here named finds High at soft goes_lock goes_low carried = absurd (soft refl)
 
-  left_calls : (id : ℕ) (way : List FiringCall) (c : Cyclic) (l : Leaves fires firing_at id way c v w) → FindsNone id way →
+  left_calls : (id : ℕ) (way : List FiringCall) (c : Cyclic) (l : Leaves raise_tables id way c v w) → FindsNone id way →
       c.timer.level ≢ High → (n : ℕ) → HasCalls c.carried n →
       c.timer.expired ≡ c.lost + (n + done_by c.timer.level v id)
   left_calls id way c l finds soft n carried =
@@ -98,7 +98,7 @@ module _ (v w : CpuView Tables) (law : IsLawful firing_at v) (lock : Lawful (lev
 
   answer : (id own : ℕ) (way : List FiringCall) (c : Cyclic) (s : Sent) (call : CpuCall) → own ≡ id →
       left_by call id ≡ counts_of own s id → s.sent ≡ c.timer.expired → s.lost ≡ c.lost →
-      FindsNone own way → Leaves fires firing_at own way c v w → AnswersCalls id call v
+      FindsNone own way → Leaves raise_tables own way c v w → AnswersCalls id call v
   answer id own way c s call same is sent lost finds l = record {
     place = l.place;
     cyclic = c;
@@ -112,7 +112,7 @@ module _ (v w : CpuView Tables) (law : IsLawful firing_at v) (lock : Lawful (lev
         (subst (λ (j : ℕ). HasCalls (counts_of own s j) (n + done_by c.timer.level v own)) same (own_counts own s _ h))));
   }
 
-  pub answers_calls : (id : ℕ) (call : CpuCall) → Releases id call → Changes fires firing_at v call w → AnswersCalls id call v
+  pub answers_calls : (id : ℕ) (call : CpuCall) → Releases id call → Changes raise_tables v call w → AnswersCalls id call v
   answers_calls id (BeginRemove own (Ok (Done receipt))) same (still, (c, counts, is, polled, l)) =
       answer id own _ c (record { sent = receipt.sent; lost = receipt.lost })
       (BeginRemove own (Ok (Done receipt))) same refl is.1 is.2 (begun_none own counts) l

@@ -24,7 +24,7 @@ use Rattle.cyc_cpu.specs.Shares.{share}
 use Rattle.cyc_cpu.specs.Rows.{timers}
 use Rattle.cyc_cpu.specs.Cpu.{Running}
 use Rattle.cyc_cpu.specs.Laws.{IsLawful}
-use Rattle.cyc_cpu.specs.Soft.{fires, drains, held_at, firing_at, end_at, ServesAt, SoftKept, Interrupts}
+use Rattle.cyc_cpu.specs.Soft.{raise_tables, drains, held_at, firing_at, end_at, ServesAt, SoftKept, Interrupts}
 use Rattle.cyc_cpu.specs.Calls.{CpuCall, Does, no_interrupts, Fire, SoftInterrupt, Add, Place, Reprogram, AskPending, AskTotals}
 use Rattle.cyc_cpu.specs.Calls.{AskRoom, Reserve, Widen, BeginRemove, PollRemove, TakeNow, AskSettled}
 use Rattle.cyc_cpu.proofs.Softs.{serving_keeps}
@@ -62,7 +62,7 @@ soft_on [] ys = refl
 soft_on (OfFiring call ∷ xs) ys = soft_on xs ys
 soft_on (OfSoft call ∷ xs) ys = ap (λ zs. call ∷ zs) (soft_on xs ys)
 
-firing_goes : (a b : Tables) (way : List FiringCall) → Goes fires firing_at a way b → FoldsTo LevelDoes a (map OfFiring way) b
+firing_goes : (a b : Tables) (way : List FiringCall) → Goes raise_tables a way b → FoldsTo LevelDoes a (map OfFiring way) b
 firing_goes a b [] goes = goes
 firing_goes a b (call ∷ way) (m, first, rest) = (m, first, firing_goes m b way rest)
 
@@ -99,7 +99,7 @@ core_on r l f r' l' f' n n' a b c x y =
     }
 
 -- calls of the firing side alone
-core_firing : (r l : ℕ → ℕ) (a b : Tables) → Passes fires firing_at r l a b → CorePasses r l (λ id. 0) 0 a b
+core_firing : (r l : ℕ → ℕ) (a b : Tables) → Passes raise_tables r l a b → CorePasses r l (λ id. 0) 0 a b
 core_firing r l a b p =
     let firing = firing_of_firing p.way in let soft = soft_of_firing p.way in
     record {
@@ -141,7 +141,7 @@ core_as r l f r' l' f' n n' a b sr sl sf sn p = record {
 calls_ceiling : (a b : Tables) (way : List LevelCall) → FoldsTo LevelDoes a way b → (firing_at b).ceiling ≡ (firing_at a).ceiling
 calls_ceiling a b [] goes = ap (λ (x : Tables). (firing_at x).ceiling) (sym goes)
 calls_ceiling a b (OfFiring call ∷ way) (m, first, rest) =
-    calls_ceiling m b way rest ∙ passes_ceiling fires firing_at _ _ a m (passes_one fires firing_at a m call first)
+    calls_ceiling m b way rest ∙ passes_ceiling raise_tables _ _ a m (passes_one raise_tables a m call first)
 calls_ceiling a b (OfSoft call ∷ way) (m, first, rest) =
     calls_ceiling m b way rest ∙ (serving_keeps a m (call ∷ []) (m, first, refl)).ceiling
 
@@ -190,10 +190,10 @@ module _ {C : Type 0} (handler : Calls C) where
 
   -- a call that is no soft interrupt
   no_interrupt : (s t : Running C Tables) (call : CpuCall) → ((own : Level) → 0 ≡ (account_of call s.cpu.cyclics).served own) →
-      IsLawful firing_at s.cpu → Does handler fires firing_at no_interrupts s call t →
+      IsLawful firing_at s.cpu → Does handler raise_tables no_interrupts s call t →
       CoreProceeds handler.count (account_of call s.cpu.cyclics) s t
   no_interrupt s t call none law d =
-      let p = proceeds_one handler fires firing_at s t call law d in
+      let p = proceeds_one handler raise_tables s t call law d in
       record {
         lock_lost = p.lock_lost;
         low_lost = p.low_lost;
@@ -274,7 +274,7 @@ module _ {C : Type 0} (handler : Calls C) where
 
   -- one call
   pub core_proceeds_one : (s t : Running C Tables) (call : CpuCall) → IsLawful firing_at s.cpu →
-      Does handler fires firing_at (Interrupts handler) s call t →
+      Does handler raise_tables (Interrupts handler) s call t →
       CoreProceeds handler.count (account_of call s.cpu.cyclics) s t
   core_proceeds_one s t (SoftInterrupt soft budget (Ok r)) law (did, kept) =
       let (ran, long, serves, left) = did.served in
@@ -311,7 +311,7 @@ module _ {C : Type 0} (handler : Calls C) where
 
   -- the calls of a run
   abbrev D : Running C Tables → CpuCall → Running C Tables → Type 0
-  D = Steps handler fires firing_at (Interrupts handler)
+  D = Steps handler raise_tables (Interrupts handler)
 
   pub core_proceeds_in : (s t : Running C Tables) (way : List CpuCall) → IsLawful firing_at s.cpu → (run : FoldsTo D s way t) →
       CoreProceeds handler.count (account_in D s way t run) s t

@@ -3,7 +3,8 @@ use Rattle.std.proofs.Common.{◌≡◌, ℕ, suc, All, List, [], ◌∷◌, Opt
 use Rattle.std.specs.Prelude.{Ok, Err}
 use Rattle.std.specs.List.{FoldsTo}
 use Rattle.cyc_types.specs.declared.Calls.{Ghosts as Calls}
-use Rattle.cyc_types.specs.Firing.{FiringView, FiringCall, Stay}
+use Rattle.cyc_types.specs.declared.Raise.{Ghosts as Raise}
+use Rattle.cyc_types.specs.Firing.{FiringView, Stay}
 use Rattle.cyc_types.specs.declared.level.Level.{Level}
 use Rattle.cyc_types.specs.declared.level.Level.TheVariants.{Low, Lock, High}
 use Rattle.cyc_cpu.specs.Rows.{Cyclic, timers}
@@ -29,22 +30,22 @@ not_admitted : (soft : Level) (v : FiringView) (cs : List Cyclic) (id : ℕ) →
 not_admitted soft v cs id admitted none = none_there (v.stays id)
     (λ s e. let (k, c, (low, is), named, at) = admitted.only id s e in none k c low (ap (λ (x : Cyclic). x.timer.id) is ∙ named))
 
-module _ {C R : Type 0} (handler : Calls C) (step : R → FiringCall → R → Type 0) (view : R → FiringView) (id : ℕ) where
+module _ {C R : Type 0} (handler : Calls C) (firing : Raise R) (id : ℕ) where
   -- a lawful CPU without a cyclic of the id
-  off : (v : CpuView R) → IsLawful view v → HasNoCyclic id v.cyclics → IsOff view id v
+  off : (v : CpuView R) → IsLawful firing.view v → HasNoCyclic id v.cyclics → IsOff firing.view id v
   off v law none = record {
     no_cyclic = none;
-    lock = not_admitted Lock (view v.lock) v.cyclics id law.lock none;
-    low = not_admitted Low (view v.low) v.cyclics id law.low none;
+    lock = not_admitted Lock (firing.view v.lock) v.cyclics id law.lock none;
+    low = not_admitted Low (firing.view v.low) v.cyclics id law.low none;
   }
 
   quiet_away : (s t : Running C R) (call : CpuCall) → HasNoCyclic id s.cpu.cyclics → PutsNot id call →
-      Changes step view s.cpu call t.cpu × (t.calls ≡ s.calls) → HasNoCyclic id t.cpu.cyclics
+      Changes firing s.cpu call t.cpu × (t.calls ≡ s.calls) → HasNoCyclic id t.cpu.cyclics
   quiet_away s t call none not d =
-      shift_away call s.cpu.cyclics t.cpu.cyclics id (changes_shift step view s.cpu t.cpu call d.0) not none
+      shift_away call s.cpu.cyclics t.cpu.cyclics id (changes_shift firing s.cpu t.cpu call d.0) not none
 
   away_one : (s t : Running C R) (call : CpuCall) → HasNoCyclic id s.cpu.cyclics → PutsNot id call →
-      Does handler step view no_interrupts s call t → HasNoCyclic id t.cpu.cyclics
+      Does handler firing no_interrupts s call t → HasNoCyclic id t.cpu.cyclics
   away_one s t (Fire now (Ok r)) none not (
     early,
     kept,
@@ -81,17 +82,18 @@ module _ {C R : Type 0} (handler : Calls C) (step : R → FiringCall → R → T
       (no_cyclic id s.cpu.cyclics none)
 
   abbrev D : Running C R → CpuCall → Running C R → Type 0
-  D = Steps handler step view no_interrupts
+  D = Steps handler firing no_interrupts
 
-  pub stays_off : (s t : Running C R) (way : List CpuCall) → IsLawful view s.cpu → IsOff view id s.cpu → All (PutsNot id) way →
-      (run : FoldsTo D s way t) → StaysOff handler.count view D id s way t run
+  pub stays_off : (s t : Running C R) (way : List CpuCall) → IsLawful firing.view s.cpu → IsOff firing.view id s.cpu
+      → All (PutsNot id) way →
+      (run : FoldsTo D s way t) → StaysOff handler.count firing.view D id s way t run
   stays_off s t [] law gone not run = record {
-    off = subst (λ (x : Running C R). IsOff view id x.cpu) run gone;
+    off = subst (λ (x : Running C R). IsOff firing.view id x.cpu) run gone;
     uncalled = ap (λ (x : Running C R). handler.count x.calls id) (sym run);
     unfired = λ level. refl;
   }
   stays_off s t (call ∷ way) law gone not (m, (does, lawful), rest) =
-      let p = proceeds_one handler step view s m call law does in
+      let p = proceeds_one handler firing s m call law does in
       let none = away_one s m call gone.no_cyclic (not 0 call (omega arith)) does in
       let r = stays_off m t way lawful (off m.cpu lawful none) (λ k d low. not (suc k) d (omega (arith, low))) rest in
       record {

@@ -5,7 +5,8 @@ use Rattle.std.specs.Prelude.{Ok, Err, insert, remove}
 use Rattle.std.proofs.Math.ListN.{set}
 use Rattle.std.proofs.lemmas.Bool.Decides.{nat_tests}
 use Rattle.std.proofs.lemmas.List.Sums.{sum_by-cons, sum_by-insert, sum_by-remove, sum_by-set}
-use Rattle.cyc_types.specs.Firing.{FiringView, FiringCall}
+use Rattle.cyc_types.specs.declared.Raise.{Ghosts as Raise}
+use Rattle.cyc_types.specs.Firing.{FiringCall}
 use Rattle.cyc_types.specs.declared.firing.Sent.{Sent}
 use Rattle.cyc_types.specs.declared.level.Level.{Level}
 use Rattle.cyc_types.specs.declared.moment.When.{When}
@@ -72,15 +73,15 @@ lost_as : (own : ℕ) (s : Sent) (c : Cyclic) → c.timer.id ≡ own → s.lost 
     (counts_of own s id).lost ≡ lost_in id c
 lost_as own s c named e id = lost_if (own == id) s c.lost e ∙ ap (λ (j : ℕ). cond (j == id) c.lost 0) (sym named)
 
-module _ {R : Type 0} (step : R → FiringCall → R → Type 0) (view : R → FiringView) where
+module _ {R : Type 0} (firing : Raise R) where
   same : (call : CpuCall) (v w : CpuView R) → IsBare call → w ≡ v → Shifts call v.cyclics w.cyclics
   same call v w bare is = inl (ap (λ (x : CpuView R). x.cyclics) is, bare)
 
   left : (call : CpuCall) (id : ℕ) (way : List FiringCall) (c : Cyclic) (v w : CpuView R) → TakesOut call c →
-      Leaves step view id way c v w → Shifts call v.cyclics w.cyclics
+      Leaves firing id way c v w → Shifts call v.cyclics w.cyclics
   left call id way c v w out l = inr (inr (inr (l.place, c, l.here, l.cyclics, out)))
 
-  not_taken : (id : ℕ) (v w : CpuView R) (e : Refusal) → WhyNotTaken step view id v e w →
+  not_taken : (id : ℕ) (v w : CpuView R) (e : Refusal) → WhyNotTaken firing id v e w →
       Shifts (TakeNow id (Err e)) v.cyclics w.cyclics
   not_taken id v w why.NoCyclic d = same (TakeNow id (Err why.NoCyclic)) v w (λ j. (refl, refl)) d.1
   not_taken id v w (why.Busy removed) d = same (TakeNow id (Err (why.Busy removed))) v w (λ j. (refl, refl)) d.2
@@ -88,11 +89,11 @@ module _ {R : Type 0} (step : R → FiringCall → R → Type 0) (view : R → F
   not_taken id v w e d = absurd d
 
   not_added : (id now : ℕ) (level : Level) (when : When) (v w : CpuView R) (e : Refusal) →
-      Changes step view v (Add id level when now (Err e)) w → Shifts (Add id level when now (Err e)) v.cyclics w.cyclics
+      Changes firing v (Add id level when now (Err e)) w → Shifts (Add id level when now (Err e)) v.cyclics w.cyclics
   not_added id now level when v w why.BadNow d = same (Add id level when now (Err why.BadNow)) v w (λ j. (refl, refl)) d.2
   not_added id now level when v w e (absent, early, looked, why_not) = inl (looked.cyclics, λ j. (refl, refl))
 
-  pub changes_shift : (v w : CpuView R) (call : CpuCall) → Changes step view v call w → Shifts call v.cyclics w.cyclics
+  pub changes_shift : (v w : CpuView R) (call : CpuCall) → Changes firing v call w → Shifts call v.cyclics w.cyclics
   changes_shift v w (Add id level when now (Ok done)) (absent, early, a) =
       let before : a.widened.cyclics ≡ v.cyclics = a.widens.cyclics ∙ a.reserves.cyclics in
       inr (inr (inl (

@@ -22,7 +22,7 @@ use Rattle.cyc_soft.specs.declared.Ran.{Ran}
 use Rattle.cyc_soft.specs.declared.SoftRefused.{SoftRefused}
 use Rattle.cyc_cpu.specs.Cpu.{CpuView, Running}
 use Rattle.cyc_cpu.specs.Moving.{IsSettled}
-use Rattle.cyc_cpu.specs.Soft.{drains, fires, firing_at, end_at, Interrupts, SoftKept}
+use Rattle.cyc_cpu.specs.Soft.{drains, raise_tables, firing_at, end_at, Interrupts, SoftKept}
 use Rattle.cyc_cpu_laws.proofs.Staying.{IsQuiet, lock_quiet, low_quiet, settled_of}
 
 finished_count : (b : Bool) (o : Option AdmittedCyclic) → seen_in (option_map stay_of o) ≡ 0 →
@@ -69,10 +69,10 @@ drain_quiet a b (call ∷ way) (m, first, rest) q = drain_quiet m b way rest (dr
 module _ {C : Type 0} (handler : Calls C) where
   served : (soft : Soft) (v w : CpuView Tables) (way : List DrainCall) → DrainGoes drains (end_at soft v) way (end_at soft w) →
       SoftKept soft v w → IsSettled firing_at v → IsSettled firing_at w
-  served Low v w way g k s = settled_of fires firing_at w (subst (λ (x : Tables). IsQuiet (firing_at x)) (sym k.beside)
-      (lock_quiet fires firing_at v s)) (drain_quiet v.low w.low way g (low_quiet fires firing_at v s)) (k.kept.removal ∙ s.still)
-  served Lock v w way g k s = settled_of fires firing_at w (drain_quiet v.lock w.lock way g (lock_quiet fires firing_at v s))
-      (subst (λ (x : Tables). IsQuiet (firing_at x)) (sym k.beside) (low_quiet fires firing_at v s)) (k.kept.removal ∙ s.still)
+  served Low v w way g k s = settled_of raise_tables w (subst (λ (x : Tables). IsQuiet (firing_at x)) (sym k.beside)
+      (lock_quiet raise_tables v s)) (drain_quiet v.low w.low way g (low_quiet raise_tables v s)) (k.kept.removal ∙ s.still)
+  served Lock v w way g k s = settled_of raise_tables w (drain_quiet v.lock w.lock way g (lock_quiet raise_tables v s))
+      (subst (λ (x : Tables). IsQuiet (firing_at x)) (sym k.beside) (low_quiet raise_tables v s)) (k.kept.removal ∙ s.still)
 
   pub interrupts_settle : (soft : Soft) (budget : ℕ) (answer : Result Ran SoftRefused) (s t : Running C Tables) →
       Interrupts handler soft budget answer s t → IsSettled firing_at s.cpu → IsSettled firing_at t.cpu

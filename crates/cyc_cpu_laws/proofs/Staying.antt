@@ -4,6 +4,7 @@ use Rattle.std.proofs.Common.{refl, sym, ap, subst, ◌∙◌, arith, inl, inr}
 use Rattle.std.specs.Prelude.{Result, Ok, Err}
 use Rattle.std.specs.List.{FoldsTo}
 use Rattle.cyc_types.specs.declared.Calls.{Ghosts as Calls}
+use Rattle.cyc_types.specs.declared.Raise.{Ghosts as Raise}
 use Rattle.cyc_types.specs.Firing.{FiringView, FiringCall, Admits, Loads, Raises, Marks, Polls, Expands, Looks, Learns, Stay}
 use Rattle.cyc_types.specs.Firing.{edited, seen_in, seen_of, saw}
 use Rattle.cyc_types.specs.Runs.{Goes}
@@ -69,23 +70,24 @@ not_some o id a b = let wrong : None ≡ Some id = sym a ∙ b in cc
 not_false : (b : Bool) → b ≡ true → b ≡ false → ⊥
 not_false b a h = let wrong : true ≡ false = sym a ∙ h in cc
 
-module _ {R : Type 0} (step : R → FiringCall → R → Type 0) (view : R → FiringView) where
-  quiet_way : (a b : ℕ) (e f : R) (way : List FiringCall) → b ≤ a → AreStill a b way → Goes step view e way f →
-      IsQuiet (view e) → IsQuiet (view f)
-  quiet_way a b e f [] same still g q = subst (λ (x : R). IsQuiet (view x)) g q
+module _ {R : Type 0} (firing : Raise R) where
+  quiet_way : (a b : ℕ) (e f : R) (way : List FiringCall) → b ≤ a → AreStill a b way → Goes firing e way f →
+      IsQuiet (firing.view e) → IsQuiet (firing.view f)
+  quiet_way a b e f [] same still g q = subst (λ (x : R). IsQuiet (firing.view x)) g q
   quiet_way a b e f (call ∷ way) same still (
     m,
     (s, l),
     rest,
-  ) q = quiet_way a b m f way same still.1 rest (quiet_learns a b (view e) (view m) call same still.0 l q)
+  ) q = quiet_way a b m f way same still.1 rest (quiet_learns a b (firing.view e) (firing.view m) call same still.0 l q)
 
-  pub lock_quiet : (v : CpuView R) → IsSettled view v → IsQuiet (view v.lock)
+  pub lock_quiet : (v : CpuView R) → IsSettled firing.view v → IsQuiet (firing.view v.lock)
   lock_quiet v s = ((λ id. let a = s.seen id in omega (arith, a)), s.followed.0)
 
-  pub low_quiet : (v : CpuView R) → IsSettled view v → IsQuiet (view v.low)
+  pub low_quiet : (v : CpuView R) → IsSettled firing.view v → IsQuiet (firing.view v.low)
   low_quiet v s = ((λ id. let a = s.seen id in omega (arith, a)), s.followed.1)
 
-  pub settled_of : (w : CpuView R) → IsQuiet (view w.lock) → IsQuiet (view w.low) → w.removal ≡ None → IsSettled view w
+  pub settled_of : (w : CpuView R) → IsQuiet (firing.view w.lock) → IsQuiet (firing.view w.low) → w.removal ≡ None
+      → IsSettled firing.view w
   settled_of w a b still = record {
     seen = λ id. (let x = a.0 id in let y = b.0 id in omega (arith, x, y));
     followed = (a.1, b.1);
@@ -93,28 +95,28 @@ module _ {R : Type 0} (step : R → FiringCall → R → Type 0) (view : R → F
   }
 
   opens_at : (own : Level) (id kept : ℕ) (v w : CpuView R) → own ≢ High → 0 < kept →
-      Goes step view v.lock (calls_at Lock own (Marks id kept ∷ [])) w.lock →
-      Goes step view v.low (calls_at Low own (Marks id kept ∷ [])) w.low → IsSettled view v → ⊥
+      Goes firing v.lock (calls_at Lock own (Marks id kept ∷ [])) w.lock →
+      Goes firing v.low (calls_at Low own (Marks id kept ∷ [])) w.low → IsSettled firing.view v → ⊥
   opens_at High id kept v w soft some lock low s = soft refl
   opens_at Lock id kept v w soft some (m, (st, l), last) low s = let a = s.seen id in let b = l.0 in omega (arith, some, a, b)
   opens_at Low id kept v w soft some lock (m, (st, l), last) s = let a = s.seen id in let b = l.0 in omega (arith, some, a, b)
 
   -- no removal stays open: its mark finds nothing outstanding
-  opens_not : (id kept : ℕ) (v w : CpuView R) → Opens step view id kept v w → IsSettled view v → ⊥
+  opens_not : (id kept : ℕ) (v w : CpuView R) → Opens firing id kept v w → IsSettled firing.view v → ⊥
   opens_not id kept v w o s = opens_at o.cyclic.timer.level id kept v w o.soft o.some o.goes.0 o.goes.1 s
 
-  not_taken : (id : ℕ) (v w : CpuView R) (e : Refusal) → v.removal ≡ None → WhyNotTaken step view id v e w → w.removal ≡ None
+  not_taken : (id : ℕ) (v w : CpuView R) (e : Refusal) → v.removal ≡ None → WhyNotTaken firing id v e w → w.removal ≡ None
   not_taken id v w why.NoCyclic s d = ap (λ (x : CpuView R). x.removal) d.1 ∙ s
   not_taken id v w (why.Busy removed) s d = ap (λ (x : CpuView R). x.removal) d.2 ∙ s
   not_taken id v w why.Pending s (still, some, n, more, a) = a.kept.removal ∙ s
   not_taken id v w e s d = absurd d
 
   not_added : (id now : ℕ) (level : Level) (when : When) (v w : CpuView R) (e : Refusal) → v.removal ≡ None →
-      Changes step view v (Add id level when now (Err e)) w → w.removal ≡ None
+      Changes firing v (Add id level when now (Err e)) w → w.removal ≡ None
   not_added id now level when v w why.BadNow s d = ap (λ (x : CpuView R). x.removal) d.2 ∙ s
   not_added id now level when v w e s (absent, early, looked, why_not) = looked.kept.removal ∙ s
 
-  still_closed : (v w : CpuView R) (call : CpuCall) → IsSettled view v → Changes step view v call w → w.removal ≡ None
+  still_closed : (v w : CpuView R) (call : CpuCall) → IsSettled firing.view v → Changes firing v call w → w.removal ≡ None
   still_closed v w (Add id level when now (Ok done)) s (absent, early, a) = a.enters.kept.removal ∙ a.widens.removal
       ∙ a.reserves.removal ∙ s.still
   still_closed v w (Add id level when now (Err e)) s d = not_added id now level when v w e s.still d
@@ -144,10 +146,10 @@ module _ {R : Type 0} (step : R → FiringCall → R → Type 0) (view : R → F
   still_closed v w (Fire now answer) s d = absurd d
   still_closed v w (SoftInterrupt soft budget answer) s d = absurd d
 
-  settled_changes : (v w : CpuView R) (call : CpuCall) → IsSettled view v → w.size ≡ v.size → Changes step view v call w →
-      IsSettled view w
+  settled_changes : (v w : CpuView R) (call : CpuCall) → IsSettled firing.view v → w.size ≡ v.size → Changes firing v call w →
+      IsSettled firing.view w
   settled_changes v w call s same d =
-      let st = changes_still step view v w call d in
+      let st = changes_still firing v w call d in
       settled_of w (quiet_way v.size w.size v.lock w.lock st.lock.way (omega (
         arith,
         same,
@@ -156,47 +158,50 @@ module _ {R : Type 0} (step : R → FiringCall → R → Type 0) (view : R → F
       (still_closed v w call s d)
 
   -- what is put off until something is done first
-  no_room_until : (more : ℕ) (v : CpuView R) (e : Refusal) → IsSettled view v → WhyNoRoom view more v e → IsUntil e → ⊥
+  no_room_until : (more : ℕ) (v : CpuView R) (e : Refusal) → IsSettled firing.view v → WhyNoRoom firing.view more v e → IsUntil e
+      → ⊥
   no_room_until more v why.Expanding s d u = elim d.3 [
-    | inl lock ↦ not_false (view v.lock).followed s.followed.0 lock
-    | inr low ↦ not_false (view v.low).followed s.followed.1 low
+    | inl lock ↦ not_false (firing.view v.lock).followed s.followed.0 lock
+    | inr low ↦ not_false (firing.view v.low).followed s.followed.1 low
   ]
   no_room_until more v (why.Busy id) s d u = not_some v.removal id s.still d.2
   no_room_until more v why.Pending s d u = d
   no_room_until more v e s d u = absurd u
 
-  not_reserved_until : (more : ℕ) (v w : CpuView R) (e : Refusal) → IsSettled view w → WhyNotReserved view more v w e →
+  not_reserved_until : (more : ℕ) (v w : CpuView R) (e : Refusal) → IsSettled firing.view w
+      → WhyNotReserved firing.view more v w e →
       IsUntil e → ⊥
   not_reserved_until more v w why.Expanding s d u = no_room_until more w why.Expanding s d u
   not_reserved_until more v w (why.Busy id) s d u = no_room_until more w (why.Busy id) s d u
   not_reserved_until more v w why.Pending s d u = d
   not_reserved_until more v w e s d u = absurd u
 
-  not_added_until : (id now : ℕ) (level : Level) (when : When) (v w : CpuView R) (e : Refusal) → IsSettled view w →
-      Changes step view v (Add id level when now (Err e)) w → IsUntil e → ⊥
+  not_added_until : (id now : ℕ) (level : Level) (when : When) (v w : CpuView R) (e : Refusal) → IsSettled firing.view w →
+      Changes firing v (Add id level when now (Err e)) w → IsUntil e → ⊥
   not_added_until id now level when v w why.Expanding s d u = not_reserved_until 1 v w why.Expanding s d.3 u
   not_added_until id now level when v w (why.Busy own) s d u = not_reserved_until 1 v w (why.Busy own) s d.3 u
   not_added_until id now level when v w why.Pending s d u = not_reserved_until 1 v w why.Pending s d.3 u
   not_added_until id now level when v w e s d u = absurd u
 
   added_size : (id now : ℕ) (level : Level) (when : When) (v w : CpuView R) (e : Refusal) →
-      Changes step view v (Add id level when now (Err e)) w → w.size ≡ v.size
+      Changes firing v (Add id level when now (Err e)) w → w.size ≡ v.size
   added_size id now level when v w why.BadNow d = ap (λ (x : CpuView R). x.size) d.2
   added_size id now level when v w e (absent, early, looked, why_not) = looked.kept.size
 
-  not_taken_until : (id : ℕ) (v w : CpuView R) (e : Refusal) → IsSettled view v → WhyNotTaken step view id v e w → IsUntil e → ⊥
+  not_taken_until : (id : ℕ) (v w : CpuView R) (e : Refusal) → IsSettled firing.view v → WhyNotTaken firing id v e w → IsUntil e
+      → ⊥
   not_taken_until id v w (why.Busy removed) s d u = not_some v.removal removed s.still d.1
   not_taken_until id v w why.Pending s d u = let a = s.seen id in let b = d.1 in omega (arith, a, b)
   not_taken_until id v w why.Expanding s d u = d
   not_taken_until id v w e s d u = absurd u
 
-  not_begun_until : (id : ℕ) (v : CpuView R) (e : Refusal) → IsSettled view v → WhyNotBegun id v e → IsUntil e → ⊥
+  not_begun_until : (id : ℕ) (v : CpuView R) (e : Refusal) → IsSettled firing.view v → WhyNotBegun id v e → IsUntil e → ⊥
   not_begun_until id v (why.Busy removed) s d u = not_some v.removal removed s.still d.1
   not_begun_until id v why.Pending s d u = d
   not_begun_until id v why.Expanding s d u = d
   not_begun_until id v e s d u = absurd u
 
-  put_off : (v w : CpuView R) (call : CpuCall) → IsSettled view v → Changes step view v call w → IsPutOff call → ⊥
+  put_off : (v w : CpuView R) (call : CpuCall) → IsSettled firing.view v → Changes firing v call w → IsPutOff call → ⊥
   put_off v w (Add id level when now (Err e)) s d u =
       not_added_until id now level when v w e
       (settled_changes v w (Add id level when now (Err e)) s (added_size id now level when v w e d) d) d u
@@ -213,16 +218,16 @@ module _ {R : Type 0} (step : R → FiringCall → R → Type 0) (view : R → F
       (sizes : (soft : Soft) (budget : ℕ) (answer : Result Ran SoftRefused) (s t : Running C R) →
       interrupts soft budget answer s t → t.cpu.size ≡ s.cpu.size)
       (settles : (soft : Soft) (budget : ℕ) (answer : Result Ran SoftRefused) (s t : Running C R) →
-      interrupts soft budget answer s t → IsSettled view s.cpu → IsSettled view t.cpu) where
+      interrupts soft budget answer s t → IsSettled firing.view s.cpu → IsSettled firing.view t.cpu) where
     abbrev One : Running C R → CpuCall → Running C R → Type 0
-    One = Does handler step view interrupts
+    One = Does handler firing interrupts
 
     abbrev Ones : Running C R → CpuCall → Running C R → Type 0
-    Ones = Steps handler step view interrupts
+    Ones = Steps handler firing interrupts
 
-    quiet_grows : (s t : Running C R) (call : CpuCall) → Changes step view s.cpu call t.cpu × (t.calls ≡ s.calls) →
+    quiet_grows : (s t : Running C R) (call : CpuCall) → Changes firing s.cpu call t.cpu × (t.calls ≡ s.calls) →
         s.cpu.size ≤ t.cpu.size
-    quiet_grows s t call d = (changes_still step view s.cpu t.cpu call d.0).grows
+    quiet_grows s t call d = (changes_still firing s.cpu t.cpu call d.0).grows
 
     -- no call makes the size smaller
     pub grows : (s t : Running C R) (call : CpuCall) → One s call t → s.cpu.size ≤ t.cpu.size
@@ -243,12 +248,13 @@ module _ {R : Type 0} (step : R → FiringCall → R → Type 0) (view : R → F
     grows s t (TakeNow j answer) d = quiet_grows s t (TakeNow j answer) d
     grows s t (AskSettled answer) d = quiet_grows s t (AskSettled answer) d
 
-    quiet_settled : (s t : Running C R) (call : CpuCall) → IsSettled view s.cpu → t.cpu.size ≡ s.cpu.size →
-        Changes step view s.cpu call t.cpu × (t.calls ≡ s.calls) → IsSettled view t.cpu
+    quiet_settled : (s t : Running C R) (call : CpuCall) → IsSettled firing.view s.cpu → t.cpu.size ≡ s.cpu.size →
+        Changes firing s.cpu call t.cpu × (t.calls ≡ s.calls) → IsSettled firing.view t.cpu
     quiet_settled s t call h same d = settled_changes s.cpu t.cpu call h same d.0
 
-    pub settled_one : (s t : Running C R) (call : CpuCall) → IsSettled view s.cpu → IsNoFire call → t.cpu.size ≡ s.cpu.size →
-        One s call t → IsSettled view t.cpu
+    pub settled_one : (s t : Running C R) (call : CpuCall) → IsSettled firing.view s.cpu → IsNoFire call → t.cpu.size ≡ s.cpu.size
+        →
+        One s call t → IsSettled firing.view t.cpu
     settled_one s t (Fire now answer) h calm same d = absurd calm
     settled_one s t (SoftInterrupt soft budget answer) h calm same d = settles soft budget answer s t d h
     settled_one s t (Add own level when now answer) h calm same d = quiet_settled s t (Add own level when now answer) h same d
@@ -270,15 +276,15 @@ module _ {R : Type 0} (step : R → FiringCall → R → Type 0) (view : R → F
     run_grows s t (call ∷ way) (m, (d, law), rest) = (let a = grows s m call d in let b = run_grows m t way rest in
         omega (arith, a, b))
 
-    pub settled_run : (s t : Running C R) (way : List CpuCall) → IsSettled view s.cpu → All IsNoFire way →
-        t.cpu.size ≡ s.cpu.size → FoldsTo Ones s way t → IsSettled view t.cpu
-    settled_run s t [] h calm same run = subst (λ (x : Running C R). IsSettled view x.cpu) run h
+    pub settled_run : (s t : Running C R) (way : List CpuCall) → IsSettled firing.view s.cpu → All IsNoFire way →
+        t.cpu.size ≡ s.cpu.size → FoldsTo Ones s way t → IsSettled firing.view t.cpu
+    settled_run s t [] h calm same run = subst (λ (x : Running C R). IsSettled firing.view x.cpu) run h
     settled_run s t (call ∷ way) h calm same (m, (d, law), rest) =
         let a = grows s m call d in let b = run_grows m t way rest in
         settled_run m t way (settled_one s m call h (calm 0 call (omega arith)) (omega (arith, a, b, same)) d)
         (λ k e low. calm (suc k) e (omega (arith, low))) (omega (arith, a, b, same)) rest
 
-    pub never_put_off : (s t : Running C R) (call : CpuCall) → IsSettled view s.cpu → One s call t → IsPutOff call → ⊥
+    pub never_put_off : (s t : Running C R) (call : CpuCall) → IsSettled firing.view s.cpu → One s call t → IsPutOff call → ⊥
     never_put_off s t (Add own level when now (Err e)) h d u = put_off s.cpu t.cpu (Add own level when now (Err e)) h d.0 u
     never_put_off s t (AskRoom more (Err e)) h d u = put_off s.cpu t.cpu (AskRoom more (Err e)) h d.0 u
     never_put_off s t (Reserve more (Err e)) h d u = put_off s.cpu t.cpu (Reserve more (Err e)) h d.0 u

@@ -5,7 +5,8 @@ use Rattle.std.proofs.Common.{None, refl, sym, ap, ◌∙◌, arith, inl, inr}
 use Rattle.std.specs.Prelude.{Ok, Err}
 use Rattle.std.proofs.lemmas.Bool.{cases_lt}
 use Rattle.std.proofs.lemmas.Bool.Decides.{nat_tests}
-use Rattle.cyc_types.specs.Firing.{FiringView, FiringCall, Admits, Loads, Raises, Marks, Polls, Expands, Looks}
+use Rattle.cyc_types.specs.declared.Raise.{Ghosts as Raise}
+use Rattle.cyc_types.specs.Firing.{FiringCall, Admits, Loads, Raises, Marks, Polls, Expands, Looks}
 use Rattle.cyc_types.specs.Runs.{Goes, Taught, raised_by, lost_by}
 use Rattle.cyc_types.specs.declared.level.Level.{Level}
 use Rattle.cyc_types.specs.declared.level.Level.TheVariants.{Low, Lock}
@@ -91,21 +92,21 @@ grows_for size n w is enough = elim (cases_lt size n) [
       let e : size_for size n ≡ size = ap (λ b. cond b size (2 ^ bank_for n)) yes in omega (arith, is, e))
 ]
 
-module _ {R : Type 0} (step : R → FiringCall → R → Type 0) (view : R → FiringView) where
+module _ {R : Type 0} (firing : Raise R) where
   -- the calls of one end
   pub record Still (a b : ℕ) (e f : R) : Type 0 where
     pub way : List FiringCall
-    pub goes : Goes step view e way f
+    pub goes : Goes firing e way f
     pub still : AreStill a b way
 
   still_none : (a b : ℕ) (e f : R) → f ≡ e → Still a b e f
   still_none a b e f is = record { way = []; goes = sym is; still = tt }
 
-  still_looks : (a b : ℕ) (e f : R) → OnlyLooks step view e f → Still a b e f
+  still_looks : (a b : ℕ) (e f : R) → OnlyLooks firing e f → Still a b e f
   still_looks a b e f (answers, goes) = record { way = map Looks answers; goes = goes; still = looks_still a b answers }
 
   still_at : (a b : ℕ) (soft own : Level) (way : List FiringCall) (e f : R) → AreStill a b way →
-      Goes step view e (calls_at soft own way) f → Still a b e f
+      Goes firing e (calls_at soft own way) f → Still a b e f
   still_at a b soft own way e f h goes = record {
     way = calls_at soft own way;
     goes = goes;
@@ -115,7 +116,7 @@ module _ {R : Type 0} (step : R → FiringCall → R → Type 0) (view : R → F
   still_on : (a b c : ℕ) (e f g : R) → a ≤ b → b ≤ c → Still a b e f → Still b c f g → Still a c e g
   still_on a b c e f g low high x y = record {
     way = x.way ++ y.way;
-    goes = goes_on step view e f g x.way y.way x.goes y.goes;
+    goes = goes_on firing e f g x.way y.way x.goes y.goes;
     still = joined a c x.way y.way (wider a b a c x.way (omega arith) high x.still)
         (wider b c a c y.way low (omega arith) y.still);
   }
@@ -143,7 +144,7 @@ module _ {R : Type 0} (step : R → FiringCall → R → Type 0) (view : R → F
     most = ap (λ (x : CpuView R). x.most) is;
   }
 
-  stills_looked : (v w : CpuView R) → Looked step view v w → Stills v w
+  stills_looked : (v w : CpuView R) → Looked firing v w → Stills v w
   stills_looked v w l = record {
     lock = still_looks v.size w.size v.lock w.lock l.lock;
     low = still_looks v.size w.size v.low w.low l.low;
@@ -151,7 +152,7 @@ module _ {R : Type 0} (step : R → FiringCall → R → Type 0) (view : R → F
     most = l.kept.most;
   }
 
-  stills_reserved : (more : ℕ) (v w : CpuView R) → Reserves step view more v w → Stills v w
+  stills_reserved : (more : ℕ) (v w : CpuView R) → Reserves firing more v w → Stills v w
   stills_reserved more v w l = record {
     lock = still_looks v.size w.size v.lock w.lock l.lock;
     low = still_looks v.size w.size v.low w.low l.low;
@@ -159,7 +160,7 @@ module _ {R : Type 0} (step : R → FiringCall → R → Type 0) (view : R → F
     most = l.most;
   }
 
-  stills_asked : (id n : ℕ) (v w : CpuView R) → Asks step view id n v w → Stills v w
+  stills_asked : (id n : ℕ) (v w : CpuView R) → Asks firing id n v w → Stills v w
   stills_asked id n v w a = record {
     lock = still_at v.size w.size Lock a.cyclic.timer.level (Loads id n ∷ []) v.lock w.lock (tt, tt) a.lock;
     low = still_at v.size w.size Low a.cyclic.timer.level (Loads id n ∷ []) v.low w.low (tt, tt) a.low;
@@ -167,14 +168,14 @@ module _ {R : Type 0} (step : R → FiringCall → R → Type 0) (view : R → F
     most = a.kept.most;
   }
 
-  still_grown : (n bank a b : ℕ) (e f : R) → n ≤ b → (n ≤ a → f ≡ e) → (a < n → Taught step view e (Expands bank) f) →
+  still_grown : (n bank a b : ℕ) (e f : R) → n ≤ b → (n ≤ a → f ≡ e) → (a < n → Taught firing e (Expands bank) f) →
       Still a b e f
   still_grown n bank a b e f enough kept grown = elim (cases_lt a n) [
     | inl less ↦ record { way = Expands bank ∷ []; goes = (f, grown less, refl); still = (omega (arith, less, enough), tt) }
     | inr more ↦ still_none a b e f (kept more)
   ]
 
-  stills_widened : (more : ℕ) (v w : CpuView R) → Widens step view more v w → Stills v w
+  stills_widened : (more : ℕ) (v w : CpuView R) → Widens firing more v w → Stills v w
   stills_widened more v w d = record {
     lock = still_grown (length v.cyclics + more) _ v.size w.size v.lock w.lock d.enough d.kept_lock d.lock;
     low = still_grown (length v.cyclics + more) _ v.size w.size v.low w.low d.enough d.kept_low d.low;
@@ -182,7 +183,7 @@ module _ {R : Type 0} (step : R → FiringCall → R → Type 0) (view : R → F
     most = d.most;
   }
 
-  stills_placed : (c : Cyclic) (v w : CpuView R) → Places step view c v w → Stills v w
+  stills_placed : (c : Cyclic) (v w : CpuView R) → Places firing c v w → Stills v w
   stills_placed c v w p = record {
     lock = still_at v.size w.size Lock c.timer.level (Admits c.timer.id p.index ∷ []) v.lock w.lock (tt, tt) p.lock;
     low = still_at v.size w.size Low c.timer.level (Admits c.timer.id p.index ∷ []) v.low w.low (tt, tt) p.low;
@@ -191,7 +192,7 @@ module _ {R : Type 0} (step : R → FiringCall → R → Type 0) (view : R → F
   }
 
   stills_left : (id : ℕ) (way : List FiringCall) (c : Cyclic) (v w : CpuView R) → ((a b : ℕ) → AreStill a b way) →
-      Leaves step view id way c v w → Stills v w
+      Leaves firing id way c v w → Stills v w
   stills_left id way c v w still l = record {
     lock = still_at v.size w.size Lock c.timer.level way v.lock w.lock (still v.size w.size) l.goes.0;
     low = still_at v.size w.size Low c.timer.level way v.low w.low (still v.size w.size) l.goes.1;
@@ -199,14 +200,14 @@ module _ {R : Type 0} (step : R → FiringCall → R → Type 0) (view : R → F
     most = l.most;
   }
 
-  still_inquired : (a b : ℕ) (e f : R) → LoadsThenLooks step view e f → Still a b e f
+  still_inquired : (a b : ℕ) (e f : R) → LoadsThenLooks firing e f → Still a b e f
   still_inquired a b e g (f, (asked, loads), (answers, looks)) = record {
     way = map (λ q. Loads q.0 q.1) asked ++ map Looks answers;
-    goes = goes_on step view e f g (map (λ q. Loads q.0 q.1) asked) (map Looks answers) loads looks;
+    goes = goes_on firing e f g (map (λ q. Loads q.0 q.1) asked) (map Looks answers) loads looks;
     still = joined a b (map (λ q. Loads q.0 q.1) asked) (map Looks answers) (loads_still a b asked) (looks_still a b answers);
   }
 
-  stills_inquired : (v w : CpuView R) → Inquires step view v w → Stills v w
+  stills_inquired : (v w : CpuView R) → Inquires firing v w → Stills v w
   stills_inquired v w i = record {
     lock = still_inquired v.size w.size v.lock w.lock i.lock;
     low = still_inquired v.size w.size v.low w.low i.low;
@@ -214,19 +215,19 @@ module _ {R : Type 0} (step : R → FiringCall → R → Type 0) (view : R → F
     most = i.kept.most;
   }
 
-  not_taken_still : (id : ℕ) (v w : CpuView R) (e : Refusal) → WhyNotTaken step view id v e w → Stills v w
+  not_taken_still : (id : ℕ) (v w : CpuView R) (e : Refusal) → WhyNotTaken firing id v e w → Stills v w
   not_taken_still id v w why.NoCyclic d = stills_same v w d.1
   not_taken_still id v w (why.Busy removed) d = stills_same v w d.2
   not_taken_still id v w why.Pending (still, some, n, more, a) = stills_asked id n v w a
   not_taken_still id v w e d = absurd d
 
   not_added_still : (id now : ℕ) (level : Level) (when : When) (v w : CpuView R) (e : Refusal) →
-      Changes step view v (Add id level when now (Err e)) w → Stills v w
+      Changes firing v (Add id level when now (Err e)) w → Stills v w
   not_added_still id now level when v w why.BadNow d = stills_same v w d.2
   not_added_still id now level when v w e d = stills_looked v w d.2
 
   -- every call but a fire and a soft interrupt
-  pub changes_still : (v w : CpuView R) (call : CpuCall) → Changes step view v call w → Stills v w
+  pub changes_still : (v w : CpuView R) (call : CpuCall) → Changes firing v call w → Stills v w
   changes_still v w (Add id level when now (Ok done)) (absent, early, a) =
       stills_on v a.reserved w (stills_reserved 1 v a.reserved a.reserves)
       (stills_on a.reserved a.widened w (stills_widened 1 a.reserved a.widened a.widens)

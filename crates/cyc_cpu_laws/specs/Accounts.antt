@@ -1,7 +1,8 @@
 -- What calls on a CPU add up to for each id.
 use Rattle.std.specs.Prelude.{◌≡◌, ℕ, ◌+◌, ◌≤◌, ◌==◌, cond, take, List, [], ◌∷◌, Some, Result, Ok, Err, sum_by}
 use Rattle.std.specs.List.{FoldsTo}
-use Rattle.cyc_types.specs.Firing.{FiringView, FiringCall}
+use Rattle.cyc_types.specs.declared.Raise.{Ghosts as Raise}
+use Rattle.cyc_types.specs.Firing.{FiringView}
 use Rattle.cyc_types.specs.Levels.{as_level}
 use Rattle.cyc_types.specs.declared.firing.Sent.{Sent}
 use Rattle.cyc_types.specs.declared.level.Level.{Level}
@@ -115,14 +116,14 @@ pub record KeepsLimits {R : Type 0} (view : R → FiringView) (v w : CpuView R) 
 
 -- A CPU came from s to t with this account. Each end was raised for its level's expirations, the handlers were called for the
 -- high ones, and nothing else was raised or called. The expirations of each id add up, and so do its losses.
-pub record Proceeds {C R : Type 0} (count : C → ℕ → ℕ) (step : R → FiringCall → R → Type 0) (view : R → FiringView) (a : Account)
+pub record Proceeds {C R : Type 0} (count : C → ℕ → ℕ) (firing : Raise R) (a : Account)
     (s t : Running C R) : Type 0 where
   -- the raises that each end lost
   pub lock_lost : ℕ → ℕ
   pub low_lost : ℕ → ℕ
-  pub lock : Passes step view (a.fired Lock) lock_lost s.cpu.lock t.cpu.lock
-  pub low : Passes step view (a.fired Low) low_lost s.cpu.low t.cpu.low
+  pub lock : Passes firing (a.fired Lock) lock_lost s.cpu.lock t.cpu.lock
+  pub low : Passes firing (a.fired Low) low_lost s.cpu.low t.cpu.low
   pub called : (id : ℕ) → count t.calls id ≡ count s.calls id + a.fired High id
   pub expired : AddsUp a s.cpu.cyclics t.cpu.cyclics
   pub lost : LossesAddUp a lock_lost low_lost s.cpu.cyclics t.cpu.cyclics
-  pub limits : KeepsLimits view s.cpu t.cpu
+  pub limits : KeepsLimits firing.view s.cpu t.cpu

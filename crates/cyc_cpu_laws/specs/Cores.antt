@@ -7,7 +7,7 @@ use Rattle.cyc_types.specs.Runs.{Taught, raised_by, lost_by, finishes_of, finish
 use Rattle.cyc_types.specs.declared.level.Level.TheVariants.{Low, Lock, High}
 use Rattle.cyc_cpu.specs.Tables.{Tables}
 use Rattle.cyc_cpu.specs.Cpu.{Running}
-use Rattle.cyc_cpu.specs.Soft.{fires, drains, firing_at}
+use Rattle.cyc_cpu.specs.Soft.{raise_tables, drains, firing_at}
 use Rattle.cyc_cpu_laws.specs.Accounts.{Account, AddsUp, LossesAddUp, KeepsLimits}
 
 -- a call of either side of a level, with its answer
@@ -17,7 +17,7 @@ pub data LevelCall : Type 0 where
 
 -- what the call does to the level
 abbrev pub LevelDoes : Tables → LevelCall → Tables → Type 0
-LevelDoes a (OfFiring call) b = Taught fires firing_at a call b
+LevelDoes a (OfFiring call) b = Taught raise_tables a call b
 LevelDoes a (OfSoft call) b = drains a call b
 
 -- the calls of one side alone, in order

@@ -1,7 +1,7 @@
 -- Runs of calls on a CPU: folds of one call after another.
 use Rattle.std.specs.Prelude.{ℕ, Result}
 use Rattle.cyc_types.specs.declared.Calls.{Ghosts as Calls}
-use Rattle.cyc_types.specs.Firing.{FiringView, FiringCall}
+use Rattle.cyc_types.specs.declared.Raise.{Ghosts as Raise}
 use Rattle.cyc_types.specs.declared.level.Soft.{Soft}
 use Rattle.cyc_soft.specs.declared.Ran.{Ran}
 use Rattle.cyc_soft.specs.declared.SoftRefused.{SoftRefused}
@@ -10,8 +10,8 @@ use Rattle.cyc_cpu.specs.Laws.{IsLawful}
 use Rattle.cyc_cpu.specs.Calls.{CpuCall, Does}
 
 -- one call of a run: it was made on the CPU, which is lawful after it, as `Hard::law` says between any two calls
-abbrev pub Steps : {C R : Type 0} → Calls C → (R → FiringCall → R → Type 0) → (R → FiringView)
+abbrev pub Steps : {C R : Type 0} → Calls C → Raise R
     → (Soft → ℕ → Result Ran SoftRefused → Running C R → Running C R → Type 0)
     → Running C R → CpuCall → Running C R → Type 0
-Steps handler step view interrupts s call t =
-    Does handler step view interrupts s call t × IsLawful view t.cpu
+Steps handler firing interrupts s call t =
+    Does handler firing interrupts s call t × IsLawful firing.view t.cpu

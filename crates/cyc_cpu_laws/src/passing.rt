@@ -12,14 +12,14 @@ use cyc_types::Raise;
 ///
 /// It does nothing when it runs: its clauses are the law.
 pub fn passing_law<R: Raise>()
-    ensures none { (e : R) → Passes R.step R.view (λ id. 0) (λ id. 0) e e }
-    ensures one { (e f : R) (call : FiringCall) → Taught R.step R.view e call f
-        → Passes R.step R.view (λ id. raises_of id call) (λ id. losses_of id call) e f }
-    ensures joined { (raised lost raised' lost' : ℕ → ℕ) (e f g : R) → Passes R.step R.view raised lost e f
-        → Passes R.step R.view raised' lost' f g
-        → Passes R.step R.view (λ id. raised id + raised' id) (λ id. lost id + lost' id) e g }
+    ensures none { (e : R) → Passes R.Raise (λ id. 0) (λ id. 0) e e }
+    ensures one { (e f : R) (call : FiringCall) → Taught R.Raise e call f
+        → Passes R.Raise (λ id. raises_of id call) (λ id. losses_of id call) e f }
+    ensures joined { (raised lost raised' lost' : ℕ → ℕ) (e f g : R) → Passes R.Raise raised lost e f
+        → Passes R.Raise raised' lost' f g
+        → Passes R.Raise (λ id. raised id + raised' id) (λ id. lost id + lost' id) e g }
     // The ceiling of the end never changes, and no more raises are lost than are made.
-    ensures ceiling { (raised lost : ℕ → ℕ) (e f : R) → Passes R.step R.view raised lost e f
+    ensures ceiling { (raised lost : ℕ → ℕ) (e f : R) → Passes R.Raise raised lost e f
         → (R.view f).ceiling ≡ (R.view e).ceiling }
-    ensures few { (raised lost : ℕ → ℕ) (e f : R) → Passes R.step R.view raised lost e f → (id : ℕ) → lost id ≤ raised id }
+    ensures few { (raised lost : ℕ → ℕ) (e f : R) → Passes R.Raise raised lost e f → (id : ℕ) → lost id ≤ raised id }
 {}

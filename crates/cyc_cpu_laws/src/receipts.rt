@@ -5,7 +5,7 @@ ghost use Rattle.cyc_cpu.specs.Tables.{Tables, level_of};
 ghost use Rattle.cyc_cpu.specs.Lawful.{Lawful};
 ghost use Rattle.cyc_cpu.specs.Cpu.{CpuView};
 ghost use Rattle.cyc_cpu.specs.Laws.{IsLawful};
-ghost use Rattle.cyc_cpu.specs.Soft.{fires, firing_at};
+ghost use Rattle.cyc_cpu.specs.Soft.{raise_tables, firing_at};
 ghost use Rattle.cyc_cpu.specs.Calls.{CpuCall, Changes};
 ghost use Rattle.cyc_cpu_laws.specs.Receipts.{Releases, AnswersCalls, IsBalanced};
 
@@ -16,7 +16,7 @@ ghost use Rattle.cyc_cpu_laws.specs.Receipts.{Releases, AnswersCalls, IsBalanced
 pub fn receipt_law()
     ensures { (id : ℕ) (call : CpuCall) (v w : CpuView Tables) → IsLawful firing_at v → Lawful (level_of v.lock)
         → Lawful (level_of v.low)
-        → Releases id call → Changes fires firing_at v call w → AnswersCalls id call v }
+        → Releases id call → Changes raise_tables v call w → AnswersCalls id call v }
 {}
 
 /// The same of the counts that the CPU has: each expiration of a cyclic of a soft level was lost, or its call is outstanding or

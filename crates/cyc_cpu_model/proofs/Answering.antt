@@ -24,7 +24,7 @@ use Rattle.cyc_cpu.specs.Cpu.{CpuView, Running, IsCyclic, Asks, Looked, HasRoom,
 use Rattle.cyc_cpu.specs.Removal.{HasCyclic, WhyNotBegun, IsReceipt, Waits}
 use Rattle.cyc_cpu.specs.Moving.{WhyNotTaken}
 use Rattle.cyc_cpu_model.specs.Tied.{IsTied}
-use Rattle.cyc_cpu.specs.Soft.{fires, firing_at as seen, Interrupts}
+use Rattle.cyc_cpu.specs.Soft.{raise_tables, firing_at as seen, Interrupts}
 use Rattle.cyc_cpu.specs.Calls.{CpuCall, Fire, SoftInterrupt, Add, Place, Reprogram, AskPending, AskTotals, AskRoom, Reserve}
 use Rattle.cyc_cpu.specs.Calls.{Widen, BeginRemove, PollRemove, TakeNow, AskSettled, Changes, Does}
 use Rattle.cyc_model.specs.Cpu.{has_cyclic}
@@ -94,7 +94,7 @@ record SameLevels (v w : CpuView Tables) : Type 0 where
   lock : level_of w.lock ≡ level_of v.lock
   low : level_of w.low ≡ level_of v.low
 
-of_looked : (v w : CpuView Tables) → Looked fires seen v w → SameLevels v w
+of_looked : (v w : CpuView Tables) → Looked raise_tables v w → SameLevels v w
 of_looked v w l = record {
   cyclics = l.cyclics;
   size = l.kept.size;
@@ -104,7 +104,7 @@ of_looked v w l = record {
   low = only_looked v.low w.low l.low;
 }
 
-of_reserved : (more : ℕ) (v w : CpuView Tables) → Reserves fires seen more v w → SameLevels v w
+of_reserved : (more : ℕ) (v w : CpuView Tables) → Reserves raise_tables more v w → SameLevels v w
 of_reserved more v w r = record {
   cyclics = r.cyclics;
   size = r.size;
@@ -181,7 +181,7 @@ has_shown_it : (id k : ℕ) (online : Bool) (x : Timed) (v : CpuView Tables) →
 has_shown_it id k online x v is named = has_it id v.cyclics k x is named
 
 pub asked_outstanding : (id n : ℕ) (online : Bool) (v w : CpuView Tables) → IsTied v
-    → (a : Asks fires seen id n v w) → n ≡ outstanding_here id (shown_cpu online v)
+    → (a : Asks raise_tables id n v w) → n ≡ outstanding_here id (shown_cpu online v)
 asked_outstanding id n online v w law a =
     let x = a.cyclic in
     outstanding_is id n a.place x online v law a.here a.named a.high
@@ -222,7 +222,7 @@ not_begun id online (Busy removed) v why = begun_busy removed _ v.removal [] (ha
 not_begun id online e v why = absurd why
 
 not_taken : (id : ℕ) (online : Bool) (e : Refusal) (v w : CpuView Tables) → IsTied v
-    → WhyNotTaken fires seen id v e w → why_not_taken id (shown_cpu online v) ≡ Some e
+    → WhyNotTaken raise_tables id v e w → why_not_taken id (shown_cpu online v) ≡ Some e
 not_taken id online NoCyclic v w law why =
     begun_none _ (busy v.removal ∷ when (nat_lt 0 (outstanding_here id (shown_cpu online v))) Pending ∷ [])
     (has_not id v.cyclics why.0)
@@ -263,7 +263,7 @@ some_outstanding id k n online x v law is named soft lock low =
 
 -- ---- polls
 
-waiting : (id : ℕ) (online : Bool) (v w : CpuView Tables) → IsTied v → v.removal ≡ Some id → Waits fires seen id v w
+waiting : (id : ℕ) (online : Bool) (v w : CpuView Tables) → IsTied v → v.removal ≡ Some id → Waits raise_tables id v w
     → 0 < outstanding_here id (shown_cpu online v)
 waiting id online v w law is_open p = pick p.cyclic.timer.level refl
   where
@@ -281,7 +281,7 @@ waiting id online v w law is_open p = pick p.cyclic.timer.level refl
 
 not_added : (id : ℕ) (level : Level) (series : When) (now : ℕ) (online : Bool) (e : Refusal) (v w : CpuView Tables)
     → now ≤ never
-    → Changes fires seen v (Add id level series now (Err e)) w
+    → Changes raise_tables v (Add id level series now (Err e)) w
     → IsRefused e (first_refusal (bad_now now ∷ why_no_room 1 (shown_cpu online v) ∷ []))
 not_added id level series now online BadNow v w most d =
     list_of (bad_now now) (why_no_room 1 (shown_cpu online v)) ∙ late now (why_no_room 1 (shown_cpu online v)) d.1
@@ -296,7 +296,7 @@ not_added id level series now online e v w most d =
 
 pub answers : {C : Type 0} (handler : Calls C) (n : ℕ) (online : Bool)
     (call : CpuCall) (s t : Running C Tables) → IsTied s.cpu → IsInTime call → (IsStopped call → ⊥)
-    → Does handler fires seen (Interrupts handler) s call t
+    → Does handler raise_tables (Interrupts handler) s call t
     → IsAnswered n call (shown_cpu online s.cpu)
 answers handler n online (Fire now (Ok r)) s t law in_time goes (early_now, kept, expired, next, makes) =
     let f = fires_here (at_level handler.called High) handler.count n now r.lost online s.cpu t.cpu s.calls t.calls makes kept in

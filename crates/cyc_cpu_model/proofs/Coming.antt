@@ -13,7 +13,7 @@ use Rattle.cyc_timers.specs.Rows.{Cyclic as Timed}
 use Rattle.cyc_fire.specs.Acts.{same_level}
 use Rattle.cyc_cpu.specs.Cpu.{CpuView, HasRisingIds, Looked, Reserves, Widens, Places, size_for, bank_for, least_bank}
 use Rattle.cyc_cpu.specs.Calls.{Adds}
-use Rattle.cyc_cpu.specs.Soft.{fires, firing_at as seen}
+use Rattle.cyc_cpu.specs.Soft.{raise_tables}
 use Rattle.cyc_model.specs.Cpu.{Cpu, nothing_here}
 use Rattle.cyc_model.specs.Moving.{put_in, place_here, widen_here, enter_here, switch_here, least_bank as model_least}
 use Rattle.cyc_model.specs.Moving.{bank_for as model_bank}
@@ -34,18 +34,18 @@ shown_same online v w cyclics size removal lock low = λ z. record {
   low = low z;
 }
 
-pub shown_looked : (online : Bool) (v w : CpuView Tables) → Looked fires seen v w → shown_cpu online w ≡ shown_cpu online v
+pub shown_looked : (online : Bool) (v w : CpuView Tables) → Looked raise_tables v w → shown_cpu online w ≡ shown_cpu online v
 shown_looked online v w l = shown_same online v w l.cyclics l.kept.size l.kept.removal (only_looked v.lock w.lock l.lock)
     (only_looked v.low w.low l.low)
 
-pub shown_reserved : (online : Bool) (more : ℕ) (v w : CpuView Tables) → Reserves fires seen more v w
+pub shown_reserved : (online : Bool) (more : ℕ) (v w : CpuView Tables) → Reserves raise_tables more v w
     → shown_cpu online w ≡ shown_cpu online v
 shown_reserved online more v w r = shown_same online v w r.cyclics r.size r.removal (only_looked v.lock w.lock r.lock)
     (only_looked v.low w.low r.low)
 
 -- ---- a cyclic is put in
 
-pub placed : (n : ℕ) (online : Bool) (x : Timed) (v w : CpuView Tables) → (p : Places fires seen x v w) → HasRisingIds w.cyclics
+pub placed : (n : ℕ) (online : Bool) (x : Timed) (v w : CpuView Tables) → (p : Places raise_tables x v w) → HasRisingIds w.cyclics
     → shown_cpu online w ≡ (place_here n p.index (shown x) (shown_cpu online v)).cpu
 placed n online x v w p rising =
     let cyclics = ap (map shown) p.cyclics ∙ put_shown v.cyclics p.place x p.within (subst HasRisingIds p.cyclics rising) in
@@ -99,7 +99,7 @@ widened_as : (b : Bool) (n bank : ℕ) (c d : Cpu)
 widened_as true n bank c d is = is
 widened_as false n bank c d is = is
 
-pub widened : (n more : ℕ) (online : Bool) (v w : CpuView Tables) → Widens fires seen more v w
+pub widened : (n more : ℕ) (online : Bool) (v w : CpuView Tables) → Widens raise_tables more v w
     → shown_cpu online w ≡ (widen_here n more (shown_cpu online v)).cpu
 widened n more online v w wd =
     let needed = length v.cyclics + more in
@@ -127,7 +127,7 @@ widened n more online v w wd =
 -- ---- an add
 
 pub added : (n id now : ℕ) (online : Bool) (level : Level) (when : When) (v w : CpuView Tables)
-    → (a : Adds fires seen id level when now v w)
+    → (a : Adds raise_tables id level when now v w)
     → HasRisingIds w.cyclics → shown_cpu online w
     ≡ (enter_here n a.enters.index (new_cyclic id level when.start when.interval now) (shown_cpu online v)).cpu
 added n id now online level when v w a rising =

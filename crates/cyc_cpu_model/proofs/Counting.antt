@@ -14,7 +14,7 @@ use Rattle.cyc_core.specs.Tables.{Tables, level_of}
 use Rattle.cyc_timers.specs.Rows.{Cyclic as Timed}
 use Rattle.cyc_cpu.specs.Cpu.{CpuView, IsCyclic, HasNoCyclic, HasRisingIds}
 use Rattle.cyc_cpu_model.specs.Tied.{HasOwn, IsTied}
-use Rattle.cyc_cpu.specs.Soft.{fires, firing_at as seen}
+use Rattle.cyc_cpu.specs.Soft.{raise_tables}
 use Rattle.cyc_model.specs.Cpu.{Cyclic, Cpu, is_of, handler_level_of}
 use Rattle.cyc_model.specs.Serving.{level_at}
 use Rattle.cyc_types.specs.Levels.{as_level}
@@ -93,33 +93,33 @@ outstanding_is id n k x online v tied is same high lock low = pick x.timer.level
     pick Low at = let a = low at in let b = none_lock (λ e. let both : Low ≡ Lock = sym at ∙ e in cc) in omega (arith, a, b)
 
 -- what a load, a mark and a poll find at their end
-pub loads : (own : Bool) (id n : ℕ) (d e : Tables) → Goes fires seen d (cond own (Loads id n ∷ []) []) e → own ≡ true
+pub loads : (own : Bool) (id n : ℕ) (d e : Tables) → Goes raise_tables d (cond own (Loads id n ∷ []) []) e → own ≡ true
     → n ≡ count (level_of d) id
 loads true id n d e (x, (step, learns), last) is = step.0
 loads false id n d e goes is = absurd (let no : false ≡ true = is in cc)
 
-pub marks : (own : Bool) (id n : ℕ) (d e : Tables) → Goes fires seen d (cond own (Marks id n ∷ []) []) e → own ≡ true
+pub marks : (own : Bool) (id n : ℕ) (d e : Tables) → Goes raise_tables d (cond own (Marks id n ∷ []) []) e → own ≡ true
     → n ≡ count (level_of d) id
 marks true id n d e (x, (step, learns), last) is = step.0
 marks false id n d e goes is = absurd (let no : false ≡ true = is in cc)
 
 pub ends_at : (own : Bool) (id : ℕ) (counts : Sent) (d e : Tables)
-    → Goes fires seen d (cond own (Marks id 0 ∷ Polls id (Some counts) ∷ []) []) e → own ≡ true → 0 ≡ count (level_of d) id
+    → Goes raise_tables d (cond own (Marks id 0 ∷ Polls id (Some counts) ∷ []) []) e → own ≡ true → 0 ≡ count (level_of d) id
 ends_at true id counts d e (x, (step, learns), rest) is = step.0
 ends_at false id counts d e goes is = absurd (let no : false ≡ true = is in cc)
 
 pub takes : (own : Bool) (id : ℕ) (counts : Sent) (d e : Tables)
-    → Goes fires seen d (cond own (Loads id 0 ∷ Marks id 0 ∷ Polls id (Some counts) ∷ []) []) e → own ≡ true
+    → Goes raise_tables d (cond own (Loads id 0 ∷ Marks id 0 ∷ Polls id (Some counts) ∷ []) []) e → own ≡ true
     → 0 ≡ count (level_of d) id
 takes true id counts d e (x, (step, learns), rest) is = step.0
 takes false id counts d e goes is = absurd (let no : false ≡ true = is in cc)
 
 pub clears : (own : Bool) (id : ℕ) (counts : Sent) (d e : Tables)
-    → Goes fires seen d (cond own (Polls id (Some counts) ∷ []) []) e → own ≡ true → 0 ≡ count (level_of d) id
+    → Goes raise_tables d (cond own (Polls id (Some counts) ∷ []) []) e → own ≡ true → 0 ≡ count (level_of d) id
 clears true id counts d e (x, (step, learns), rest) is = sym step.1.0.2
 clears false id counts d e goes is = absurd (let no : false ≡ true = is in cc)
 
-pub waits : (own : Bool) (id : ℕ) (d e : Tables) → Goes fires seen d (cond own (Polls id None ∷ []) []) e → own ≡ true
+pub waits : (own : Bool) (id : ℕ) (d e : Tables) → Goes raise_tables d (cond own (Polls id None ∷ []) []) e → own ≡ true
     → 0 < count (level_of d) id
 waits true id d e (x, (step, learns), rest) is = step.0
 waits false id d e goes is = absurd (let no : false ≡ true = is in cc)

@@ -22,7 +22,7 @@ use Rattle.cyc_timers.specs.Rows.{Cyclic as Timed, timers as timed}
 use Rattle.cyc_fire.specs.Acts.{ids_at, is_at, is_of as is_of_level, timer_of, same_level, lost_after}
 use Rattle.cyc_fire.specs.Made.{Makes}
 use Rattle.cyc_cpu.specs.Cpu.{CpuView, SameCpu}
-use Rattle.cyc_cpu.specs.Soft.{fires, firing_at as seen}
+use Rattle.cyc_cpu.specs.Soft.{raise_tables}
 use Rattle.cyc_model.specs.Acts.{Act, At, Call, call_of, calls_of, losses_of, losses_in}
 use Rattle.cyc_model.specs.Cpu.{Cyclic, Cpu, Here, happen, here, then_here, acts_first, timers, is_of, handler_level_of}
 use Rattle.cyc_model.specs.Firing.{raised, expiry, expire_all, due_here, fired, fire_these, fire_here}
@@ -340,7 +340,7 @@ same_timers (c ∷ cs) = ap (λ ts. c.timer ∷ ts) (same_timers cs)
 pub fires_these : {C : Type 0} (called : C → ℕ → C → Type 0) (count : C → ℕ
     → ℕ) (n now lost : ℕ) (online : Bool) (made : List Expiration) (v w : CpuView Tables) (t u : C)
     → AllHere made (map shown v.cyclics)
-    → Makes called count fires seen now made v.cyclics w.cyclics (record { calls = t; lock = v.lock; low = v.low })
+    → Makes called count raise_tables now made v.cyclics w.cyclics (record { calls = t; lock = v.lock; low = v.low })
     (record { calls = u; lock = w.lock; low = w.low }) lost
     → SameCpu v w
     → (shown_cpu online w ≡ (fire_these n now made (shown_cpu online v)).cpu)
@@ -398,7 +398,7 @@ fires_these called count n now lost online made v w t u here m same =
 
 pub fires_here : {C : Type 0} (called : C → ℕ → C → Type 0) (count : C → ℕ
     → ℕ) (n now lost : ℕ) (online : Bool) (v w : CpuView Tables) (t u : C)
-    → Makes called count fires seen now (expirations now (timed v.cyclics)) v.cyclics w.cyclics
+    → Makes called count raise_tables now (expirations now (timed v.cyclics)) v.cyclics w.cyclics
     (record { calls = t; lock = v.lock; low = v.low })
     (record { calls = u; lock = w.lock; low = w.low }) lost
     → SameCpu v w

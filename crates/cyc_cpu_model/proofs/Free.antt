@@ -19,7 +19,7 @@ use Rattle.cyc_timers.specs.Rows.{Cyclic as Timed}
 use Rattle.cyc_fire.specs.Acts.{same_level}
 use Rattle.cyc_cpu.specs.Cpu.{CpuView, Places}
 use Rattle.cyc_cpu.specs.Calls.{Adds}
-use Rattle.cyc_cpu.specs.Soft.{fires, firing_at as seen}
+use Rattle.cyc_cpu.specs.Soft.{raise_tables}
 use Rattle.cyc_model.specs.Acts.{Act, At, Call, at_own, same_soft, events_at}
 use Rattle.cyc_model.specs.Cpu.{Cpu, nothing_here, then_here, handler_level_of}
 use Rattle.cyc_model.specs.Firing.{raised, expiry, expire_here, expire_all, due_here, fire_here}
@@ -174,7 +174,7 @@ can_append [] ys l first rest = rest
 can_append (x ∷ xs) ys l first rest = (first.0, can_append xs ys (after x l) first.1 rest)
 
 -- an admission at its end was enabled
-enabled_at : (own : Bool) (id index : ℕ) (d e : Tables) → Goes fires seen d (cond own (Admits id index ∷ []) []) e
+enabled_at : (own : Bool) (id index : ℕ) (d e : Tables) → Goes raise_tables d (cond own (Admits id index ∷ []) []) e
     → own ≡ true → Enabled (Admit id index) (level_of d)
 enabled_at true id index d e (x, (step, learns), last) is = step.0
 enabled_at false id index d e goes is = absurd (let isnt : false ≡ true = is in cc)
@@ -194,7 +194,7 @@ own_can n id index Low soft.Low c lock low =
     subst (λ (b : Bool). AllCanBeAdmitted (cond (b && true) (Admit id index ∷ []) [] ++ []) c.low) (sym (eq-eqb n n refl))
     (low refl, tt)
 
-pub place_free : (n : ℕ) (online : Bool) (x : Timed) (soft : Soft) (v w : CpuView Tables) (p : Places fires seen x v w)
+pub place_free : (n : ℕ) (online : Bool) (x : Timed) (soft : Soft) (v w : CpuView Tables) (p : Places raise_tables x v w)
     → AllCanBeAdmitted (events_at n soft (place_here n p.index (shown x) (shown_cpu online v)).acts)
     (level_at soft (shown_cpu online v))
 place_free n online x soft v w p =
@@ -203,7 +203,7 @@ place_free n online x soft v w p =
     (λ e. enabled_at (same_level Low x.timer.level) x.timer.id p.index v.low w.low p.low (ap (same_level Low) e))
 
 pub add_free : (n id now : ℕ) (online : Bool) (level : Level) (series : When) (soft : Soft) (v w : CpuView Tables)
-    (a : Adds fires seen id level series now v w)
+    (a : Adds raise_tables id level series now v w)
     → AllCanBeAdmitted (events_at n soft (enter_here n a.enters.index (new_cyclic id level series.start series.interval now)
     (shown_cpu online v)).acts) (level_at soft (shown_cpu online v))
 add_free n id now online level series soft v w a =

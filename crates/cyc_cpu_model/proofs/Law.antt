@@ -17,7 +17,7 @@ use Rattle.cyc_cpu.specs.declared.removing.Removal.TheVariants.{Done, Kept}
 use Rattle.cyc_cpu.specs.Cpu.{CpuView, Running, HasRisingIds, Asks}
 use Rattle.cyc_cpu.specs.Removal.{Waits}
 use Rattle.cyc_cpu.specs.Moving.{Inquires, WhyNotTaken}
-use Rattle.cyc_cpu.specs.Soft.{fires, firing_at as seen, Interrupts}
+use Rattle.cyc_cpu.specs.Soft.{raise_tables, Interrupts}
 use Rattle.cyc_cpu.specs.Calls.{CpuCall, Fire, SoftInterrupt, Add, Place, Reprogram, AskPending, AskTotals, AskRoom, Reserve}
 use Rattle.cyc_cpu.specs.Calls.{Widen, BeginRemove, PollRemove, TakeNow, AskSettled, Changes, Does}
 use Rattle.cyc_model.specs.Acts.{at_own, calls_of}
@@ -40,19 +40,19 @@ use Rattle.cyc_cpu_model.proofs.Interrupting.{serves_here}
 
 -- ---- what was only asked
 
-asked : (online : Bool) (id m : ℕ) (v w : CpuView Tables) → Asks fires seen id m v w → shown_cpu online w ≡ shown_cpu online v
+asked : (online : Bool) (id m : ℕ) (v w : CpuView Tables) → Asks raise_tables id m v w → shown_cpu online w ≡ shown_cpu online v
 asked online id m v w a = shown_same online v w a.cyclics a.kept.size a.kept.removal
     (asked_level (same_level Lock a.cyclic.timer.level) id m v.lock w.lock a.lock)
     (asked_level (same_level Low a.cyclic.timer.level) id m v.low w.low a.low)
 
-loads_then_looks : (d e : Tables) → LoadsThenLooks fires seen d e → level_of e ≡ level_of d
+loads_then_looks : (d e : Tables) → LoadsThenLooks raise_tables d e → level_of e ≡ level_of d
 loads_then_looks d e (f, (all, goes), looks) = only_looked f e looks ∙ loaded all d f goes
 
-inquired : (online : Bool) (v w : CpuView Tables) → Inquires fires seen v w → shown_cpu online w ≡ shown_cpu online v
+inquired : (online : Bool) (v w : CpuView Tables) → Inquires raise_tables v w → shown_cpu online w ≡ shown_cpu online v
 inquired online v w i = shown_same online v w i.cyclics i.kept.size i.kept.removal
     (loads_then_looks v.lock w.lock i.lock) (loads_then_looks v.low w.low i.low)
 
-waited : (online : Bool) (id : ℕ) (v w : CpuView Tables) → Waits fires seen id v w → shown_cpu online w ≡ shown_cpu online v
+waited : (online : Bool) (id : ℕ) (v w : CpuView Tables) → Waits raise_tables id v w → shown_cpu online w ≡ shown_cpu online v
 waited online id v w p = shown_same online v w p.cyclics p.kept.size p.kept.removal
     (waiting_level (same_level Lock p.cyclic.timer.level) id v.lock w.lock p.goes.0)
     (waiting_level (same_level Low p.cyclic.timer.level) id v.low w.low p.goes.1)
@@ -61,12 +61,12 @@ same : (online : Bool) (v w : CpuView Tables) → w ≡ v → shown_cpu online w
 same online v w is = ap (shown_cpu online) is
 
 not_added : (online : Bool) (id : ℕ) (level : Level) (when : When) (now : ℕ) (e : Refusal) (v w : CpuView Tables)
-    → Changes fires seen v (Add id level when now (Err e)) w → shown_cpu online w ≡ shown_cpu online v
+    → Changes raise_tables v (Add id level when now (Err e)) w → shown_cpu online w ≡ shown_cpu online v
 not_added online id level when now BadNow v w d = same online v w d.2
 not_added online id level when now e v w d = shown_looked online v w d.2
 
 not_taken : (online : Bool) (id : ℕ) (e : Refusal) (v w : CpuView Tables)
-    → WhyNotTaken fires seen id v e w → shown_cpu online w ≡ shown_cpu online v
+    → WhyNotTaken raise_tables id v e w → shown_cpu online w ≡ shown_cpu online v
 not_taken online id NoCyclic v w d = same online v w d.1
 not_taken online id (Busy removed) v w d = same online v w d.2
 not_taken online id Pending v w d = let (none, some, n, more, asks) = d in asked online id n v w asks
@@ -115,7 +115,7 @@ nothing count t u q is = quiet count t u q 0 is refl
 
 pub is_here : {C : Type 0} (handler : Calls C) (n : ℕ) (online : Bool)
     (call : CpuCall) (s t : Running C Tables) → HasRisingIds s.cpu.cyclics → HasRisingIds t.cpu.cyclics → (IsStopped call → ⊥)
-    → Does handler fires seen (Interrupts handler) s call t → IsHere handler.count n online call s t
+    → Does handler raise_tables (Interrupts handler) s call t → IsHere handler.count n online call s t
 is_here handler n online (Fire now (Ok r)) s t rising rises goes (early, kept, expired, next, makes) =
     let f = fires_here (at_level handler.called High) handler.count n now r.lost online s.cpu t.cpu s.calls t.calls makes kept in
     record {

@@ -14,7 +14,7 @@ use Rattle.cyc_timers.specs.Rows.{Cyclic as Timed}
 use Rattle.cyc_fire.specs.Acts.{same_level}
 use Rattle.cyc_cpu.specs.Cpu.{CpuView, HasRisingIds, IsCyclic, with_moment as timed_with}
 use Rattle.cyc_cpu.specs.Removal.{Leaves, Opens}
-use Rattle.cyc_cpu.specs.Soft.{fires, firing_at as seen}
+use Rattle.cyc_cpu.specs.Soft.{raise_tables}
 use Rattle.cyc_model.specs.Acts.{at_own}
 use Rattle.cyc_model.specs.Cpu.{Cyclic, Cpu, happen, is_of, handler_level_of, others, with_moment}
 use Rattle.cyc_model.specs.Moving.{moment_at, take_here, reprogram_here, mark_here, clear_here}
@@ -88,7 +88,7 @@ mark_as n id level c is =
     ap (λ l. happen (at_own n l (Mark id)) (record c { cyclics = map (moment_at id never) c.cyclics; removal = Some id })) is
     ∙ own_cpu level n (Mark id) (record c { cyclics = map (moment_at id never) c.cyclics; removal = Some id })
 
-pub opened : (n id kept : ℕ) (online : Bool) (v w : CpuView Tables) → HasRisingIds v.cyclics → Opens fires seen id kept v w
+pub opened : (n id kept : ℕ) (online : Bool) (v w : CpuView Tables) → HasRisingIds v.cyclics → Opens raise_tables id kept v w
     → shown_cpu online w ≡ (mark_here n id (shown_cpu online v)).cpu
 opened n id kept online v w rising o =
     let level = o.cyclic.timer.level in
@@ -118,13 +118,13 @@ clear_as n id level c is =
 
 -- the cyclics without the one that left
 pub left_as : (id : ℕ) (way : List FiringCall) (x : Timed) (v w : CpuView Tables) → HasRisingIds v.cyclics
-    → Leaves fires seen id way x v w
+    → Leaves raise_tables id way x v w
     → map shown w.cyclics ≡ others id (map shown v.cyclics)
 left_as id way x v w rising l =
     ap (map shown) l.cyclics ∙ left_shown v.cyclics l.place x rising l.here ∙ ap (λ i. others i (map shown v.cyclics)) l.named
 
 pub cleared : (n id : ℕ) (online : Bool) (counts : Sent) (x : Timed) (v w : CpuView Tables) → HasRisingIds v.cyclics
-    → Leaves fires seen id (Polls id (Some counts) ∷ []) x v w → shown_cpu online w ≡ (clear_here n id (shown_cpu online v)).cpu
+    → Leaves raise_tables id (Polls id (Some counts) ∷ []) x v w → shown_cpu online w ≡ (clear_here n id (shown_cpu online v)).cpu
 cleared n id online counts x v w rising l =
     let level = x.timer.level in
     let cyclics = left_as id _ x v w rising l in
@@ -135,7 +135,7 @@ cleared n id online counts x v w rising l =
 
 -- a removal that is done at once
 pub ended : (n id : ℕ) (online : Bool) (counts : Sent) (x : Timed) (v w : CpuView Tables) → HasRisingIds v.cyclics
-    → Leaves fires seen id (Marks id 0 ∷ Polls id (Some counts) ∷ []) x v w
+    → Leaves raise_tables id (Marks id 0 ∷ Polls id (Some counts) ∷ []) x v w
     → shown_cpu online w ≡ (clear_here n id (mark_here n id (shown_cpu online v)).cpu).cpu
 ended n id online counts x v w rising l =
     let level = x.timer.level in
@@ -169,7 +169,7 @@ take_as n id level c is =
 
 pub taken : (n id : ℕ) (online : Bool) (counts : Sent) (x : Timed) (v w : CpuView Tables) → HasRisingIds v.cyclics
     → v.removal ≡ None
-    → Leaves fires seen id (Loads id 0 ∷ Marks id 0 ∷ Polls id (Some counts) ∷ []) x v w
+    → Leaves raise_tables id (Loads id 0 ∷ Marks id 0 ∷ Polls id (Some counts) ∷ []) x v w
     → shown_cpu online w ≡ (take_here n id (shown_cpu online v)).cpu
 taken n id online counts x v w rising still l =
     let level = x.timer.level in

@@ -17,7 +17,7 @@ use Rattle.cyc_core.specs.Reached.{Happens}
 use Rattle.cyc_core.specs.FiringSide.{Fires, raise_events}
 use Rattle.cyc_core.specs.Tables.{Tables, level_of}
 use Rattle.cyc_fire.specs.Acts.{AreRaises, loss_in, way_losses as losses_in_way}
-use Rattle.cyc_cpu.specs.Soft.{fires, firing_at as seen}
+use Rattle.cyc_cpu.specs.Soft.{raise_tables, fires}
 use Rattle.cyc_model.specs.Acts.{loss_of, is_loss}
 use Rattle.cyc_model.specs.Firing.{raised}
 use Rattle.cyc_model.specs.Serving.{level_after}
@@ -133,7 +133,7 @@ renamed_loss id j First = refl
 renamed_loss id j More = refl
 renamed_loss id j Lost = refl
 
-pub expired : (ids : List ℕ) (way : List FiringCall) (d e : Tables) → Goes fires seen d way e → AreRaises ids way
+pub expired : (ids : List ℕ) (way : List FiringCall) (d e : Tables) → Goes raise_tables d way e → AreRaises ids way
     → Expired ids way (level_of d) (level_of e)
 expired [] [] d e goes are = record { level = ap level_of (sym goes); lost = refl; each = λ id. refl }
 expired [] (call ∷ way) d e goes are = absurd are

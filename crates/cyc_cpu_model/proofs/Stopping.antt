@@ -22,7 +22,7 @@ use Rattle.cyc_fire.specs.declared.fire.FireRefused.{FireRefused}
 use Rattle.cyc_soft.specs.declared.SoftRefused.{SoftRefused}
 use Rattle.cyc_soft.specs.Serving.{Served, way_of, look_of, hand_left}
 use Rattle.cyc_cpu.specs.Cpu.{CpuView, Running, HasRisingIds}
-use Rattle.cyc_cpu.specs.Soft.{fires, firing_at as seen, drains, end_at, SoftKept, Interrupts}
+use Rattle.cyc_cpu.specs.Soft.{raise_tables, drains, end_at, SoftKept, Interrupts}
 use Rattle.cyc_cpu.specs.Calls.{CpuCall, Fire, SoftInterrupt, Does, Stopped}
 use Rattle.cyc_model.specs.Cpu.{Cyclic, handler_level_of}
 use Rattle.cyc_model.specs.Serving.{level_at}
@@ -42,7 +42,7 @@ first_here (p ∷ made) rest cs all = (all.0, first_here made rest cs all.1)
 
 module _ {C : Type 0} (handler : Calls C) where
   fire_stopped : (now : ℕ) (e : FireRefused) (s t : Running C Tables)
-      → Does handler fires seen (Interrupts handler) s (Fire now (Err e)) t → IsTied s.cpu
+      → Does handler raise_tables (Interrupts handler) s (Fire now (Err e)) t → IsTied s.cpu
       → IsTied t.cpu
   fire_stopped now e s t (inl (late, why, same)) h = subst (λ (x : Running C Tables). IsTied x.cpu) (sym same) h
   fire_stopped now e s t (inr (early, kept_cpu, stopped)) h = record {
@@ -98,7 +98,7 @@ fewer Lock Lock online v w q kept_it less is = less is
 
 module _ {C : Type 0} (handler : Calls C) where
   soft_stopped : (level : Soft) (budget : ℕ) (e : SoftRefused) (s t : Running C Tables)
-      → Does handler fires seen (Interrupts handler) s (SoftInterrupt level budget (Err e)) t
+      → Does handler raise_tables (Interrupts handler) s (SoftInterrupt level budget (Err e)) t
       → IsTied s.cpu → IsTied t.cpu
   soft_stopped level budget e s t (did, kept_it) h =
       let (ran, at, long, less, serves, may, counted, held) = did.refused in
@@ -113,7 +113,7 @@ module _ {C : Type 0} (handler : Calls C) where
 
   -- every call does
   pub tied_always : (call : CpuCall) (s t : Running C Tables)
-      → Does handler fires seen (Interrupts handler) s call t → IsTied s.cpu → IsTied t.cpu
+      → Does handler raise_tables (Interrupts handler) s call t → IsTied s.cpu → IsTied t.cpu
   tied_always (Fire now (Err e)) s t did h = fire_stopped handler now e s t did h
   tied_always (SoftInterrupt level budget (Err e)) s t did h = soft_stopped level budget e s t did h
   tied_always call s t did h = tied handler call s t (λ stopped. absurd stopped) did h

@@ -24,7 +24,7 @@ use Rattle.cyc_timers.specs.Rows.{Cyclic as Timed, timers as timed}
 use Rattle.cyc_cpu.specs.declared.removing.Removal.TheVariants.{Done, Kept}
 use Rattle.cyc_cpu.specs.Cpu.{CpuView, Running, HasNoCyclic, HasRisingIds, AreAdmitted, with_moment}
 use Rattle.cyc_cpu.specs.Laws.{IsLawful}
-use Rattle.cyc_cpu.specs.Soft.{fires, firing_at as seen, Interrupts}
+use Rattle.cyc_cpu.specs.Soft.{raise_tables, firing_at as seen, Interrupts}
 use Rattle.cyc_cpu.specs.Calls.{CpuCall, Fire, SoftInterrupt, Add, Place, Reprogram, AskPending, AskTotals, AskRoom, Reserve}
 use Rattle.cyc_cpu.specs.Calls.{Widen, BeginRemove, PollRemove, TakeNow, AskSettled, Changes, Does}
 use Rattle.cyc_model.specs.Cpu.{is_of, handler_level_of}
@@ -49,11 +49,11 @@ same_cpu : (v w : CpuView Tables) → w ≡ v → HasRisingIds v.cyclics → Has
 same_cpu v w same rising = same_cyclics v w (ap (λ (x : CpuView Tables). x.cyclics) same) rising
 
 not_added : (id : ℕ) (level : Level) (series : When) (now : ℕ) (e : Refusal) (v w : CpuView Tables)
-    → Changes fires seen v (Add id level series now (Err e)) w → HasRisingIds v.cyclics → HasRisingIds w.cyclics
+    → Changes raise_tables v (Add id level series now (Err e)) w → HasRisingIds v.cyclics → HasRisingIds w.cyclics
 not_added id level series now BadNow v w d rising = same_cpu v w d.2 rising
 not_added id level series now e v w d rising = same_cyclics v w d.2.cyclics rising
 
-not_taken : (id : ℕ) (e : Refusal) (v w : CpuView Tables) → WhyNotTaken fires seen id v e w → HasRisingIds v.cyclics
+not_taken : (id : ℕ) (e : Refusal) (v w : CpuView Tables) → WhyNotTaken raise_tables id v e w → HasRisingIds v.cyclics
     → HasRisingIds w.cyclics
 not_taken id NoCyclic v w d rising = same_cpu v w d.1 rising
 not_taken id (Busy removed) v w d rising = same_cpu v w d.2 rising
@@ -61,7 +61,7 @@ not_taken id Pending v w (still, some, n, more, asks) rising = same_cyclics v w 
 not_taken id e v w d rising = absurd d
 
 pub rises : {C : Type 0} (handler : Calls C) (call : CpuCall) (s t : Running C Tables)
-    → (IsStopped call → ⊥) → Does handler fires seen (Interrupts handler) s call t
+    → (IsStopped call → ⊥) → Does handler raise_tables (Interrupts handler) s call t
     → HasRisingIds s.cpu.cyclics → HasRisingIds t.cpu.cyclics
 rises handler (Fire now (Ok r)) s t goes (early, kept, expired, next, makes) rising =
     rises_fired now (expirations now (timed s.cpu.cyclics)) s.cpu.cyclics t.cpu.cyclics makes.timers_are rising
@@ -114,7 +114,7 @@ none_found id (c ∷ cs) none =
 
 pub owns : {C : Type 0} (handler : Calls C) (n index : ℕ) (online : Bool) (call : CpuCall) (s t : Running C Tables)
     → HasRisingIds s.cpu.cyclics → (IsStopped call → ⊥)
-    → Does handler fires seen (Interrupts handler) s call t
+    → Does handler raise_tables (Interrupts handler) s call t
     → HasOwn (shown_cpu online s.cpu) → HasOwn (here_of n index call (shown_cpu online s.cpu)).cpu
 owns handler n index online (Fire now (Ok r)) s t rising goes does h = fire_ties n now (shown_cpu online s.cpu) h
 owns handler n index online (Fire now (Err e)) s t rising goes does h = absurd (goes tt)
@@ -155,7 +155,7 @@ owns handler n index online (TakeNow id (Err e)) s t rising goes d h = h
 owns handler n index online (AskSettled b) s t rising goes d h = h
 
 pub tied : {C : Type 0} (handler : Calls C) (call : CpuCall) (s t : Running C Tables)
-    → (IsStopped call → ⊥) → Does handler fires seen (Interrupts handler) s call t
+    → (IsStopped call → ⊥) → Does handler raise_tables (Interrupts handler) s call t
     → IsTied s.cpu → IsTied t.cpu
 tied handler call s t goes does h =
     let rising = rises handler call s t goes does h.rising in

@@ -1,25 +1,26 @@
 -- Where a CPU has room, only memory can be wanting.
 use Rattle.std.proofs.Common.{◌≡◌, ℕ, Bool, true, false, List, [], ◌∷◌, map, length, Some, None, refl, sym, ap, ◌∙◌, subst, arith}
 use Rattle.std.proofs.Common.{inl, inr}
-use Rattle.cyc_types.specs.Firing.{FiringView, FiringCall, Looks}
+use Rattle.cyc_types.specs.declared.Raise.{Ghosts as Raise}
+use Rattle.cyc_types.specs.Firing.{FiringView, Looks}
 use Rattle.cyc_types.specs.Runs.{Goes}
 use Rattle.cyc_types.specs.declared.refusal.Refusal.{Refusal}
 use Rattle.cyc_types.specs.declared.refusal.Refusal.TheVariants as why
 use Rattle.cyc_cpu.specs.Quiet.{OnlyLooks}
 use Rattle.cyc_cpu.specs.Cpu.{CpuView, Looked, HasRoom, WhyNotReserved}
 
-module _ {R : Type 0} (step : R → FiringCall → R → Type 0) (view : R → FiringView) where
+module _ {R : Type 0} (firing : Raise R) where
   -- what was seen to have followed has
-  follows : (e f : R) (answers : List Bool) → Goes step view e (map Looks answers) f → (view e).followed ≡ true →
-      (view f).followed ≡ true
-  follows e f [] goes has = subst (λ x. (view x).followed ≡ true) goes has
+  follows : (e f : R) (answers : List Bool) → Goes firing e (map Looks answers) f → (firing.view e).followed ≡ true →
+      (firing.view f).followed ≡ true
+  follows e f [] goes has = subst (λ x. (firing.view x).followed ≡ true) goes has
   follows e f (a ∷ answers) (m, (s, l), rest) has = follows m f answers rest (ap (λ (x : FiringView). x.followed) l.1 ∙ l.0 has)
 
-  not_behind : (e f : R) → OnlyLooks step view e f → (view e).followed ≡ true → (view f).followed ≡ false → ⊥
+  not_behind : (e f : R) → OnlyLooks firing e f → (firing.view e).followed ≡ true → (firing.view f).followed ≡ false → ⊥
   not_behind e f (answers, goes) has lacks = (let wrong : true ≡ false = sym (follows e f answers goes has) ∙ lacks in cc)
 
-  pub only_memory : (more : ℕ) (v w : CpuView R) (e : Refusal) → HasRoom view more v → Looked step view v w →
-      WhyNotReserved view more v w e → e ≡ why.Memory
+  pub only_memory : (more : ℕ) (v w : CpuView R) (e : Refusal) → HasRoom firing.view more v → Looked firing v w →
+      WhyNotReserved firing.view more v w e → e ≡ why.Memory
   only_memory more v w why.Memory room looked h = refl
   only_memory more v w why.Full room looked h = (let a = room.fits in let b = ap (λ cs. length cs) looked.cyclics in
       absurd (omega (arith, a, b, h)))

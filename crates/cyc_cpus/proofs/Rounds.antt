@@ -6,7 +6,7 @@ use Rattle.std.proofs.lemmas.Option.{slice_get_within}
 use Rattle.std.specs.List.{slice_get}
 use mathlib.Core.Logic.{dite}
 use native.Mathlib.Decide.{ℕ_discrete}
-use Rattle.cyc_types.specs.Firing.{FiringView, FiringCall}
+use Rattle.cyc_types.specs.declared.Raise.{Ghosts as Raise}
 use Rattle.cyc_types.proofs.Runs.{folds_more}
 use Rattle.cyc_cpu.specs.Cpu.{CpuView}
 use Rattle.cyc_cpu.specs.Calls.{CpuCall, Changes}
@@ -15,7 +15,7 @@ use Rattle.cyc_cpus.specs.Reserving.{StandsAfter}
 use Rattle.cyc_cpus.proofs.Choices.{numbers_at}
 use Rattle.cyc_cpus.proofs.Spots.{of_cpu, cpu_there, cpu_beside, changed}
 
-module _ {R : Type 0} (step : R → FiringCall → R → Type 0) (view : R → FiringView) (call : CpuCall)
+module _ {R : Type 0} (firing : Raise R) (call : CpuCall)
     (Done Left : CpuView R → Type 0) where
   -- the calls on the online CPUs below n; of those Done holds, and of the others Left
   pub record Round (v : CpusView R) (n : ℕ) (w : CpusView R) : Type 0 where
@@ -23,7 +23,7 @@ module _ {R : Type 0} (step : R → FiringCall → R → Type 0) (view : R → F
     pub many : length w.cpus ≡ length w.online
     pub before : List ℕ
     pub split : online_cpus v ≡ before ++ numbers_from n (drop n v.online)
-    pub works : Works step view (map (λ m. on m call) before) v w
+    pub works : Works firing (map (λ m. on m call) before) v w
     pub passed : (m : ℕ) → m < n → IsOnline m w → OfCpu m Done w
     pub left : (m : ℕ) → n ≤ m → IsOnline m w → OfCpu m Left w
 
@@ -45,23 +45,23 @@ module _ {R : Type 0} (step : R → FiringCall → R → Type 0) (view : R → F
       (ap (λ xs. slice_get xs n) (sym r.online) ∙ here))
 
   pub round_stopped : (v w : CpusView R) (n : ℕ) (x y : CpuView R) (other : CpuCall) (r : Round v n w) → IsOnline n w →
-      IsCpu n x w → Changes step view x other y →
-      StandsAfter r.before n (online_cpus v) × Works step view (map (λ m. on m call) r.before ++ on n other ∷ []) v
+      IsCpu n x w → Changes firing x other y →
+      StandsAfter r.before n (online_cpus v) × Works firing (map (λ m. on m call) r.before ++ on n other ∷ []) v
       (with_cpu w n y)
   round_stopped v w n x y other r here at did = (
     (_, begins v w n r here),
-    folds_more (DoesAt step view) v (map (λ m. on m call) r.before) w (on n other) (with_cpu w n y) r.works
+    folds_more (DoesAt firing) v (map (λ m. on m call) r.before) w (on n other) (with_cpu w n y) r.works
         (changed n _ x y w at did),
   )
 
   pub round_one : (v w : CpusView R) (n : ℕ) (x y : CpuView R) → Round v n w → IsOnline n w → IsCpu n x w →
-      Changes step view x call y → Done y → Round v (n + 1) (with_cpu w n y)
+      Changes firing x call y → Done y → Round v (n + 1) (with_cpu w n y)
   round_one v w n x y r here at did done = record {
     online = r.online;
     many = length-set w.cpus n y ∙ r.many;
     before = r.before ++ n ∷ [];
     split = begins v w n r here ∙ sym (append_assoc r.before (n ∷ []) (numbers_from (n + 1) (drop (n + 1) v.online)));
-    works = subst (λ way. Works step view way v (with_cpu w n y)) (sym (map-append (λ m. on m call) r.before (n ∷ [])))
+    works = subst (λ way. Works firing way v (with_cpu w n y)) (sym (map-append (λ m. on m call) r.before (n ∷ [])))
         (round_stopped v w n x y call r here at did).1;
     passed = λ m low on. dite (ℕ_discrete m n)
         (λ e. subst (λ k. OfCpu k Done (with_cpu w n y)) (sym e) (of_cpu n Done y (with_cpu w n y) (cpu_there n x y w at) done))
@@ -84,8 +84,8 @@ module _ {R : Type 0} (step : R → FiringCall → R → Type 0) (view : R → F
   }
 
   pub round_done : (v w : CpusView R) (n : ℕ) → length w.online ≤ n → Round v n w →
-      Works step view (map (λ m. on m call) (online_cpus v)) v w
-  round_done v w n all r = subst (λ ns. Works step view (map (λ m. on m call) ns) v w)
+      Works firing (map (λ m. on m call) (online_cpus v)) v w
+  round_done v w n all r = subst (λ ns. Works firing (map (λ m. on m call) ns) v w)
       (sym (r.split ∙ ap (λ xs. r.before ++ numbers_from n xs) (drop_all n v.online (subst (λ xs. length xs ≤ n) r.online all))
       ∙ append-nil r.before)) r.works
 

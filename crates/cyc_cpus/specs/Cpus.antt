@@ -3,7 +3,7 @@ use Rattle.std.specs.Prelude.{◌≡◌, ℕ, ◌+◌, Bool, true, false, List, 
 use Rattle.std.specs.Prelude.{Result}
 use Rattle.std.specs.List.{slice_get, FoldsTo}
 use Rattle.cyc_types.specs.declared.Calls.{Ghosts as Calls}
-use Rattle.cyc_types.specs.Firing.{FiringView, FiringCall}
+use Rattle.cyc_types.specs.declared.Raise.{Ghosts as Raise}
 use Rattle.cyc_types.specs.declared.level.Soft.{Soft}
 use Rattle.cyc_cpu.specs.Ran.{Ran}
 use Rattle.cyc_cpu.specs.SoftRefused.{SoftRefused}
@@ -57,13 +57,13 @@ abbrev pub on : ℕ → CpuCall → CallOn
 on n call = record { cpu = n; call = call }
 
 -- the call was made on its CPU, and it reached no handler
-abbrev pub DoesAt : {R : Type 0} → (R → FiringCall → R → Type 0) → (R → FiringView) → CpusView R → CallOn → CpusView R → Type 0
-DoesAt step view v c w = ChangesAt c.cpu (λ x y. Changes step view x c.call y) v w
+abbrev pub DoesAt : {R : Type 0} → Raise R → CpusView R → CallOn → CpusView R → Type 0
+DoesAt firing v c w = ChangesAt c.cpu (λ x y. Changes firing x c.call y) v w
 
 -- these calls were made, in order, and no other
-abbrev pub Works : {R : Type 0} → (R → FiringCall → R → Type 0) → (R → FiringView) → List CallOn → CpusView R → CpusView R
+abbrev pub Works : {R : Type 0} → Raise R → List CallOn → CpusView R → CpusView R
     → Type 0
-Works step view way v w = FoldsTo (DoesAt step view) v way w
+Works firing way v w = FoldsTo (DoesAt firing) v way w
 
 -- the CPUs and the handlers of their cyclics
 pub record RunningCpus (C R : Type 0) : Type 0 where
@@ -75,10 +75,10 @@ running_cpus calls v = record { cpus = v; calls = calls }
 
 -- the call was made on its CPU, which reached the handlers that it did
 abbrev pub RunsAt : {C R : Type 0} → Calls C
-    → (R → FiringCall → R → Type 0) → (R → FiringView) → (Soft → ℕ → Result Ran SoftRefused → Running C R → Running C R → Type 0)
+    → Raise R → (Soft → ℕ → Result Ran SoftRefused → Running C R → Running C R → Type 0)
     → RunningCpus C R → CallOn → RunningCpus C R → Type 0
-RunsAt handler step view interrupts s c t = ChangesAt c.cpu
-    (λ x y. Does handler step view interrupts (running s.calls x) c.call (running t.calls y)) s.cpus t.cpus
+RunsAt handler firing interrupts s c t = ChangesAt c.cpu
+    (λ x y. Does handler firing interrupts (running s.calls x) c.call (running t.calls y)) s.cpus t.cpus
 
 -- a CPU with no cyclic and of size 1, over the ends of its lock and its low level
 abbrev pub new_cpu : {R : Type 0} → ℕ → R → R → CpuView R

@@ -1,6 +1,7 @@
 -- One cyclic goes from a CPU to another (`cyclic_juggle_one_to`).
 use Rattle.std.specs.Prelude.{◌≡◌, ℕ, ◌<◌, List, [], ◌∷◌, ◌⊎◌, Option, Some, None, Result, Ok, Err}
-use Rattle.cyc_types.specs.Firing.{FiringView, FiringCall}
+use Rattle.cyc_types.specs.declared.Raise.{Ghosts as Raise}
+use Rattle.cyc_types.specs.Firing.{FiringView}
 use Rattle.cyc_types.specs.declared.refusal.Refusal.{Refusal}
 use Rattle.cyc_types.specs.declared.refusal.Refusal.TheVariants.{Busy, Pending}
 use Rattle.cyc_cpu.specs.declared.moving.Taken.{Taken}
@@ -26,16 +27,16 @@ moving id source target taken =
     ∷ on target (Place id taken.level taken.interval taken.moment taken.sent) ∷ []
 
 -- Why it doesn't: a removal is open at the source; then calls of it are outstanding; then the target has no room.
-abbrev pub WhyNotShifted : {R : Type 0} → (R → FiringCall → R → Type 0) → (R → FiringView) → ℕ → ℕ → ℕ → Refusal → CpusView R
+abbrev pub WhyNotShifted : {R : Type 0} → Raise R → ℕ → ℕ → ℕ → Refusal → CpusView R
     → CpusView R → Type 0
-WhyNotShifted step view id source target e v w =
+WhyNotShifted firing id source target e v w =
     ((removed : ℕ) × HasRemoval source (Some removed) v × (e ≡ Busy removed) × (w ≡ v))
     ⊎ (HasRemoval source None v × (n : ℕ) × (0 < n) × (e ≡ Pending)
-    × Works step view (on source (AskPending id (Some n)) ∷ []) v w)
-    ⊎ (HasRemoval source None v × Works step view (on source (AskPending id (Some 0)) ∷ on target (Reserve 1 (Err e)) ∷ []) v w)
+    × Works firing (on source (AskPending id (Some n)) ∷ []) v w)
+    ⊎ (HasRemoval source None v × Works firing (on source (AskPending id (Some 0)) ∷ on target (Reserve 1 (Err e)) ∷ []) v w)
 
 -- the cyclic goes with all that its CPU has of it, or stays
-abbrev pub Shifts : {R : Type 0} → (R → FiringCall → R → Type 0) → (R → FiringView) → ℕ → ℕ → ℕ → Result (Unit {0}) Refusal
+abbrev pub Shifts : {R : Type 0} → Raise R → ℕ → ℕ → ℕ → Result (Unit {0}) Refusal
     → CpusView R → CpusView R → Type 0
-Shifts step view id source target (Ok done) v w = (taken : Taken) × Works step view (moving id source target taken) v w
-Shifts step view id source target (Err e) v w = WhyNotShifted step view id source target e v w
+Shifts firing id source target (Ok done) v w = (taken : Taken) × Works firing (moving id source target taken) v w
+Shifts firing id source target (Err e) v w = WhyNotShifted firing id source target e v w

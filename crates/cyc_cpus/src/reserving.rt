@@ -14,7 +14,7 @@ impl<R: Raise> Cpus<R> {
     ///
     /// Refuses with what `room` of the first CPU says that has none, in rising number; only then with Memory.
     pub fn reserve_each(&mut self, more: usize) -> Result<(), Refusal>
-        ensures did { ReservesEach R.step R.view more result self.old self.new }
+        ensures did { ReservesEach R.Raise more result self.old self.new }
         ensures ready { OnOk result ((n : ℕ) → IsOnline n self.new → OfCpu n (MayWiden R.view more) self.new) }
     {
         self.room_on_each(more)?;
@@ -24,9 +24,9 @@ impl<R: Raise> Cpus<R> {
     /// Asks every online CPU for room, up to the first that has none.
     fn room_on_each(&mut self, more: usize) -> Result<(), Refusal>
         ensures online { self.new.online ≡ self.old.online }
-        ensures ok { IfOk result (λ done. Works R.step R.view (rooms more (online_cpus self.old)) self.old self.new) }
+        ensures ok { IfOk result (λ done. Works R.Raise (rooms more (online_cpus self.old)) self.old self.new) }
         ensures room { OnOk result ((n : ℕ) → IsOnline n self.new → OfCpu n (HasRoom R.view more) self.new) }
-        ensures err { IfErr result (λ refusal. WhyNoRooms R.step R.view more refusal self.old self.new) }
+        ensures err { IfErr result (λ refusal. WhyNoRooms R.Raise more refusal self.old self.new) }
     {
         for number in 0..self.count() {
             if self.is_online(number) {
@@ -39,9 +39,9 @@ impl<R: Raise> Cpus<R> {
     /// Takes the memory on every online CPU, up to the first that has none.
     fn reserve_on_each(&mut self, more: usize) -> Result<(), Refusal>
         requires { (n : ℕ) → IsOnline n self.old → OfCpu n (HasRoom R.view more) self.old }
-        ensures ok { IfOk result (λ done. Works R.step R.view (reserves more (online_cpus self.old)) self.old self.new) }
+        ensures ok { IfOk result (λ done. Works R.Raise (reserves more (online_cpus self.old)) self.old self.new) }
         ensures ready { OnOk result ((n : ℕ) → IsOnline n self.new → OfCpu n (MayWiden R.view more) self.new) }
-        ensures err { IfErr result (λ refusal. WhyNotAllReserved R.step R.view more refusal self.old self.new) }
+        ensures err { IfErr result (λ refusal. WhyNotAllReserved R.Raise more refusal self.old self.new) }
     {
         for number in 0..self.count() {
             if self.is_online(number) {

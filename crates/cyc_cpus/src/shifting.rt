@@ -24,7 +24,7 @@ impl<R: Raise> Cpus<R> {
         requires here { OfCpu source (λ cpu. HasCyclic id cpu.cyclics) self.old }
         requires absent { OfCpu target (λ cpu. HasNoCyclic id cpu.cyclics) self.old }
         requires most { OfCpu source (λ from. OfCpu target (λ to. from.most ≤ to.most) self.old) self.old }
-        ensures { Shifts R.step R.view id source target result self.old self.new }
+        ensures { Shifts R.Raise id source target result self.old self.new }
     {
         if let Some(removed) = self.cpu(source).removal() {
             return Err(Refusal::Busy(removed));
@@ -42,7 +42,7 @@ impl<R: Raise> Cpus<R> {
     fn take(&mut self, id: CyclicId, source: u32) -> Taken
         requires source { source < length self.old.cpus }
         requires leaves { OfCpu source (MayLeave R.view id) self.old }
-        ensures did { DoesAt R.step R.view self.old (on source (TakeNow id (Ok result))) self.new }
+        ensures did { DoesAt R.Raise self.old (on source (TakeNow id (Ok result))) self.new }
         ensures counts { OfCpu source (λ cpu. (result.sent.lost ≤ result.sent.sent) × (result.sent.sent ≤ cpu.most)) self.old }
     {
         let Ok(taken) = self.cpu_mut(source).take_now(id) else {
@@ -58,7 +58,7 @@ impl<R: Raise> Cpus<R> {
         requires absent { OfCpu target (λ cpu. HasNoCyclic id cpu.cyclics) self.old }
         requires lost { taken.sent.lost ≤ taken.sent.sent }
         requires most { OfCpu target (λ cpu. taken.sent.sent ≤ cpu.most) self.old }
-        ensures { Works R.step R.view (on target (Widen 1) ∷ on target
+        ensures { Works R.Raise (on target (Widen 1) ∷ on target
             (Place id taken.level taken.interval taken.moment taken.sent) ∷ []) self.old self.new }
     {
         self.cpu_mut(target).widen(1);

@@ -5,7 +5,8 @@ use Rattle.std.proofs.lemmas.Bool.Decides.{nat_tests}
 use Rattle.std.proofs.lemmas.Bool.{cases_lt}
 use Rattle.std.proofs.Math.Nat.{pow-le-pow_right}
 use Rattle.cyc_types.specs.Limits.{cyclics as most_cyclics, greatest_bank}
-use Rattle.cyc_types.specs.Firing.{FiringView, FiringCall, Stay, Loads, Looks, Expands, Learns, Sound, edited, seen_in}
+use Rattle.cyc_types.specs.declared.Raise.{Ghosts as Raise}
+use Rattle.cyc_types.specs.Firing.{FiringView, Stay, Loads, Looks, Expands, Learns, Sound, edited, seen_in}
 use Rattle.cyc_types.specs.Runs.{Goes}
 use Rattle.cyc_types.specs.declared.level.Level.{Level}
 use Rattle.cyc_types.specs.declared.level.Level.TheVariants.{Low, Lock}
@@ -162,47 +163,53 @@ lawful_from view v w h lock low cyclics removal most lock_bank low_bank wider fe
   room = room;
 }
 
-module _ {R : Type 0} (step : R → FiringCall → R → Type 0) (view : R → FiringView) where
+module _ {R : Type 0} (firing : Raise R) where
   -- an end that was only asked: its bank is the same
   OnlyAsks : R → R → Type 0
-  OnlyAsks e f = Lowers (view e) (view f) × ((view f).bank ≡ (view e).bank)
+  OnlyAsks e f = Lowers (firing.view e) (firing.view f) × ((firing.view f).bank ≡ (firing.view e).bank)
 
   nothing_asked : (e f : R) → e ≡ f → OnlyAsks e f
   unfolding OnlyAsks
-  nothing_asked e f same = subst (λ x. Lowers (view e) (view x) × ((view x).bank ≡ (view e).bank)) same
-      (same_stays (view e) (view e) refl refl refl (omega arith) (λ h. h), refl)
+  nothing_asked e f same = subst (λ x. Lowers (firing.view e) (firing.view x) × ((firing.view x).bank ≡ (firing.view e).bank))
+      same
+      (same_stays (firing.view e) (firing.view e) refl refl refl (omega arith) (λ h. h), refl)
 
-  looks_ask : (e f : R) (answers : List Bool) → Goes step view e (map Looks answers) f → OnlyAsks e f
+  looks_ask : (e f : R) (answers : List Bool) → Goes firing e (map Looks answers) f → OnlyAsks e f
   unfolding OnlyAsks
   looks_ask e f [] goes = nothing_asked e f goes
   looks_ask e f (a ∷ answers) (m, (s, l), rest) =
-      let r = looks_ask m f answers rest in
-      (lowers_on (view e) (view m) (view f) (lowers_look (view e) (view m) a l) r.0, r.1 ∙ ap (λ (x : FiringView). x.bank) l.1)
+      let r = looks_ask m f answers rest in (
+        lowers_on (firing.view e) (firing.view m) (firing.view f) (lowers_look (firing.view e) (firing.view m) a l) r.0,
+        r.1
+            ∙ ap (λ (x : FiringView). x.bank) l.1,
+      )
 
-  loads_ask : (b : Bool) (id n : ℕ) (e f : R) → Goes step view e (cond b (Loads id n ∷ []) []) f → OnlyAsks e f
+  loads_ask : (b : Bool) (id n : ℕ) (e f : R) → Goes firing e (cond b (Loads id n ∷ []) []) f → OnlyAsks e f
   unfolding OnlyAsks
   loads_ask false id n e f goes = nothing_asked e f goes
-  loads_ask true id n e f (m, (s, l), last) = subst (λ x. Lowers (view e) (view x) × ((view x).bank ≡ (view e).bank)) last
-      (lowers_load (view e) (view m) id n l, ap (λ (x : FiringView). x.bank) l.1)
+  loads_ask true id n e f (m, (s, l), last) = subst (λ x. Lowers (firing.view e) (firing.view x)
+      × ((firing.view x).bank ≡ (firing.view e).bank)) last
+      (lowers_load (firing.view e) (firing.view m) id n l, ap (λ (x : FiringView). x.bank) l.1)
 
-  quiet_lawful : (v w : CpuView R) → IsLawful view v → OnlyAsks v.lock w.lock → OnlyAsks v.low w.low → w.cyclics ≡ v.cyclics →
-      w.removal ≡ v.removal → w.most ≡ v.most → w.size ≡ v.size → v.room ≤ w.room → IsLawful view w
+  quiet_lawful : (v w : CpuView R) → IsLawful firing.view v → OnlyAsks v.lock w.lock → OnlyAsks v.low w.low → w.cyclics
+      ≡ v.cyclics →
+      w.removal ≡ v.removal → w.most ≡ v.most → w.size ≡ v.size → v.room ≤ w.room → IsLawful firing.view w
   unfolding OnlyAsks
-  quiet_lawful v w h lock low cyclics removal most size room = lawful_from view v w h lock.0 low.0 cyclics removal most
+  quiet_lawful v w h lock low cyclics removal most size room = lawful_from firing.view v w h lock.0 low.0 cyclics removal most
       (size ∙ h.lock_bank ∙ ap (λ b. 2 ^ b) (sym lock.1)) (size ∙ h.low_bank ∙ ap (λ b. 2 ^ b) (sym low.1)) (omega (arith, size))
       (let a = h.size in omega (arith, a, size)) (let a = h.room in omega (arith, a, size, room))
 
-  pub asked_lawful : (id n : ℕ) (v w : CpuView R) → IsLawful view v → Asks step view id n v w → IsLawful view w
+  pub asked_lawful : (id n : ℕ) (v w : CpuView R) → IsLawful firing.view v → Asks firing id n v w → IsLawful firing.view w
   asked_lawful id n v w h a = let r = a.kept.room in quiet_lawful v w h
       (loads_ask (same_level Lock a.cyclic.timer.level) id n v.lock w.lock a.lock)
       (loads_ask (same_level Low a.cyclic.timer.level) id n v.low w.low a.low) a.cyclics a.kept.removal a.kept.most a.kept.size
       (omega (arith, r))
 
-  pub looked_lawful : (v w : CpuView R) → IsLawful view v → Looked step view v w → IsLawful view w
+  pub looked_lawful : (v w : CpuView R) → IsLawful firing.view v → Looked firing v w → IsLawful firing.view w
   looked_lawful v w h a = let r = a.kept.room in quiet_lawful v w h (looks_ask v.lock w.lock a.lock.0 a.lock.1)
       (looks_ask v.low w.low a.low.0 a.low.1) a.cyclics a.kept.removal a.kept.most a.kept.size (omega (arith, r))
 
-  pub reserved_lawful : (more : ℕ) (v w : CpuView R) → IsLawful view v → Reserves step view more v w → IsLawful view w
+  pub reserved_lawful : (more : ℕ) (v w : CpuView R) → IsLawful firing.view v → Reserves firing more v w → IsLawful firing.view w
   reserved_lawful more v w h a = let r = a.room in quiet_lawful v w h (looks_ask v.lock w.lock a.lock.0 a.lock.1)
       (looks_ask v.low w.low a.low.0 a.low.1) a.cyclics a.removal a.most a.size (omega (arith, r))
 
@@ -225,9 +232,9 @@ lowers_switch : (v w : FiringView) (bank : ℕ) → Learns v (Expands bank) w �
     Lowers v w
 lowers_switch v w bank is wider within = subst (Lowers v) (sym is) (same_stays v _ refl refl refl wider (λ h. within))
 
-module _ {R : Type 0} (step : R → FiringCall → R → Type 0) (view : R → FiringView) where
-  grown : (more : ℕ) (v w : CpuView R) → IsLawful view v → MayWiden view more v → Widens step view more v w →
-      v.size < length v.cyclics + more → IsLawful view w
+module _ {R : Type 0} (firing : Raise R) where
+  grown : (more : ℕ) (v w : CpuView R) → IsLawful firing.view v → MayWiden firing.view more v → Widens firing more v w →
+      v.size < length v.cyclics + more → IsLawful firing.view w
   grown more v w h may a less =
       let n = length v.cyclics + more in
       let not : nat_le n v.size ≡ false = grind (arith, nat_tests) in
@@ -242,24 +249,25 @@ module _ {R : Type 0} (step : R → FiringCall → R → Type 0) (view : R → F
       let held = may.reserved in
       let size = a.size in
       let room = a.room in
-      lawful_from view v w h
-      (lowers_switch (view v.lock) (view w.lock) (bank_for n) lock (omega (arith, x, is, enough, less)) within)
-      (lowers_switch (view v.low) (view w.low) (bank_for n) low (omega (arith, y, is, enough, less)) within)
+      lawful_from firing.view v w h
+      (lowers_switch (firing.view v.lock) (firing.view w.lock) (bank_for n) lock (omega (arith, x, is, enough, less)) within)
+      (lowers_switch (firing.view v.low) (firing.view w.low) (bank_for n) low (omega (arith, y, is, enough, less)) within)
       a.cyclics a.removal a.most (is ∙ ap (λ (u : FiringView). 2 ^ u.bank) (sym lock))
       (is ∙ ap (λ (u : FiringView). 2 ^ u.bank) (sym low))
       (omega (arith, enough, less)) (omega (arith, is, few)) (omega (arith, held, size, room))
 
-  kept_size : (more : ℕ) (v w : CpuView R) → IsLawful view v → Widens step view more v w → length v.cyclics + more ≤ v.size →
-      IsLawful view w
+  kept_size : (more : ℕ) (v w : CpuView R) → IsLawful firing.view v → Widens firing more v w → length v.cyclics + more ≤ v.size →
+      IsLawful firing.view w
   kept_size more v w h a fits =
       let yes_fits : nat_le (length v.cyclics + more) v.size ≡ true = grind (arith, nat_tests) in
       let same = a.size ∙ ap (λ b. cond b v.size (2 ^ bank_for (length v.cyclics + more))) yes_fits in
       let room = a.room in
-      quiet_lawful step view v w h (nothing_asked step view v.lock w.lock (sym (a.kept_lock fits)))
-      (nothing_asked step view v.low w.low (sym (a.kept_low fits))) a.cyclics a.removal a.most same (omega (arith, room))
+      quiet_lawful firing v w h (nothing_asked firing v.lock w.lock (sym (a.kept_lock fits)))
+      (nothing_asked firing v.low w.low (sym (a.kept_low fits))) a.cyclics a.removal a.most same (omega (arith, room))
 
-  pub widened_lawful : (more : ℕ) (v w : CpuView R) → IsLawful view v → MayWiden view more v → Widens step view more v w →
-      IsLawful view w
+  pub widened_lawful : (more : ℕ) (v w : CpuView R) → IsLawful firing.view v → MayWiden firing.view more v
+      → Widens firing more v w →
+      IsLawful firing.view w
   widened_lawful more v w h may a = elim (cases_lt v.size (length v.cyclics + more)) [
     | inl less ↦ grown more v w h may a less
     | inr fits ↦ kept_size more v w h a fits

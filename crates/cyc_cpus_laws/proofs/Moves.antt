@@ -2,7 +2,7 @@
 use Rattle.std.proofs.Common.{◌≡◌, ◌≢◌, ℕ, Some, Ok, sym, ap, subst, ◌∙◌}
 use Rattle.std.specs.Prelude.{insert, remove}
 use Rattle.std.specs.List.{slice_get}
-use Rattle.cyc_types.specs.Firing.{FiringView, FiringCall}
+use Rattle.cyc_types.specs.declared.Raise.{Ghosts as Raise}
 use Rattle.cyc_cpu.specs.Rows.{Cyclic}
 use Rattle.cyc_cpu.specs.declared.moving.Taken.{Taken}
 use Rattle.cyc_cpu.specs.Cpu.{CpuView, IsCyclic, cyclic_with}
@@ -11,7 +11,7 @@ use Rattle.cyc_cpu.specs.Calls.{AskPending, Reserve, TakeNow, Widen, Place}
 use Rattle.cyc_cpus.specs.Cpus.{CpusView, IsCpu, on, ChangesAt, DoesAt}
 use Rattle.cyc_cpus.proofs.Spots.{one_cpu, cpu_there, cpu_beside, cpu_after, get_set_other}
 use Rattle.cyc_core.specs.Tables.{Tables}
-use Rattle.cyc_cpu.specs.Soft.{fires, firing_at}
+use Rattle.cyc_cpu.specs.Soft.{raise_tables}
 use Rattle.cyc_cpus_laws.proofs.Calm.{admitted_calm, taken_calm, asked_same}
 use Rattle.cyc_cpus_laws.specs.Moved.{Moved, carried_over, outstanding}
 
@@ -37,13 +37,13 @@ module _ {R : Type 0} where
   same_online : (n : ℕ) (D : CpuView R → CpuView R → Type 0) (v w : CpusView R) → ChangesAt n D v w → w.online ≡ v.online
   same_online n D v w d = ap (λ (u : CpusView R). u.online) d.rest
 
-module _ {R : Type 0} (step : R → FiringCall → R → Type 0) (view : R → FiringView) (id source target : ℕ) (taken : Taken)
+module _ {R : Type 0} (firing : Raise R) (id source target : ℕ) (taken : Taken)
     (apart : target ≢ source)
-    (v v1 v2 v3 v4 w : CpusView R) (d1 : DoesAt step view v (on source (AskPending id (Some 0))) v1)
-    (d2 : DoesAt step view v1 (on target (Reserve 1 (Ok tt))) v2)
-    (d3 : DoesAt step view v2 (on source (TakeNow id (Ok taken))) v3)
-    (d4 : DoesAt step view v3 (on target (Widen 1)) v4)
-    (d5 : DoesAt step view v4 (on target (Place id taken.level taken.interval taken.moment taken.sent)) w) where
+    (v v1 v2 v3 v4 w : CpusView R) (d1 : DoesAt firing v (on source (AskPending id (Some 0))) v1)
+    (d2 : DoesAt firing v1 (on target (Reserve 1 (Ok tt))) v2)
+    (d3 : DoesAt firing v2 (on source (TakeNow id (Ok taken))) v3)
+    (d4 : DoesAt firing v3 (on target (Widen 1)) v4)
+    (d5 : DoesAt firing v4 (on target (Place id taken.level taken.interval taken.moment taken.sent)) w) where
   away : source ≢ target
   away e = apart (sym e)
 
@@ -104,11 +104,11 @@ module _ {R : Type 0} (step : R → FiringCall → R → Type 0) (view : R → F
 
 -- where no other thread uses the levels, no call of it is outstanding before and after
 pub moves_calmly : (id source target : ℕ) (taken : Taken) (apart : target ≢ source) (v v1 v2 v3 v4 w : CpusView Tables)
-    (d1 : DoesAt fires firing_at v (on source (AskPending id (Some 0))) v1)
-    (d2 : DoesAt fires firing_at v1 (on target (Reserve 1 (Ok tt))) v2)
-    (d3 : DoesAt fires firing_at v2 (on source (TakeNow id (Ok taken))) v3)
-    (d4 : DoesAt fires firing_at v3 (on target (Widen 1)) v4)
-    (d5 : DoesAt fires firing_at v4 (on target (Place id taken.level taken.interval taken.moment taken.sent)) w) →
+    (d1 : DoesAt raise_tables v (on source (AskPending id (Some 0))) v1)
+    (d2 : DoesAt raise_tables v1 (on target (Reserve 1 (Ok tt))) v2)
+    (d3 : DoesAt raise_tables v2 (on source (TakeNow id (Ok taken))) v3)
+    (d4 : DoesAt raise_tables v3 (on target (Widen 1)) v4)
+    (d5 : DoesAt raise_tables v4 (on target (Place id taken.level taken.interval taken.moment taken.sent)) w) →
     (m : Moved id source target v w) × (outstanding m.cyclic.timer.level id m.from ≡ 0)
     × (outstanding m.cyclic.timer.level id m.joined ≡ 0)
 unfolding moves source_kept away
@@ -117,10 +117,10 @@ moves_calmly id source target taken apart v v1 v2 v3 v4 w d1 d2 d3 d4 d5 =
     let a = d1.change.0 in
     let calm = taken_calm c.timer.level id counts d3.before d3.after l.goes in
     let kept = ap (λ (x : CpuView Tables). outstanding c.timer.level id x)
-    (source_kept fires firing_at id source target taken apart v v1 v2 v3 v4 w d1 d2 d3 d4 d5) in
+    (source_kept raise_tables id source target taken apart v v1 v2 v3 v4 w d1 d2 d3 d4 d5) in
     let asked = asked_same c.timer.level a.cyclic.timer.level id 0 id d1.before d1.after a.lock a.low in
     let p = d5.change.1 in (
-      moves fires firing_at id source target taken apart v v1 v2 v3 v4 w d1 d2 d3 d4 d5,
+      moves raise_tables id source target taken apart v v1 v2 v3 v4 w d1 d2 d3 d4 d5,
       sym asked ∙ sym kept ∙ calm,
       subst (λ level. outstanding level id d5.after ≡ 0) is.0
           (admitted_calm taken.level id p.index d5.before d5.after p.lock p.low),

@@ -13,7 +13,7 @@ use Rattle.cyc_core.specs.FiringSide.{stay_of}
 use Rattle.cyc_cpu.specs.Cpu.{CpuView, HasNoCyclic, AreAdmitted}
 use Rattle.cyc_cpu.specs.Laws.{IsLawful}
 use Rattle.cyc_cpu.specs.Gone.{IsGone, IsAbsent, PutsNot}
-use Rattle.cyc_cpu.specs.Soft.{fires, firing_at, Interrupts}
+use Rattle.cyc_cpu.specs.Soft.{raise_tables, firing_at, Interrupts}
 use Rattle.cyc_cpu.proofs.Following.{stays_gone}
 use Rattle.cyc_cpus.specs.Cpus.{IsCpu, CallOn, RunningCpus, RunsAt}
 use Rattle.cyc_cpus.proofs.Spots.{one_cpu, cpu_there, cpu_beside}
@@ -42,7 +42,7 @@ unused_gone id v law lock low none = record {
 
 module _ {C : Type 0} (handler : Calls C) (id : ℕ) where
   abbrev Runs : RunningCpus C Tables → CallOn → RunningCpus C Tables → Type 0
-  Runs = RunsAt handler fires firing_at (Interrupts handler)
+  Runs = RunsAt handler raise_tables (Interrupts handler)
 
   pub one_away : (s t : RunningCpus C Tables) (c : CallOn) → IsNowhere id s.cpus → PutsNot id c.call → Runs s c t →
       StaysNowhere handler.count id s t

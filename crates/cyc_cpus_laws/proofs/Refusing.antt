@@ -2,7 +2,7 @@
 use Rattle.std.proofs.Common.{◌≡◌, ℕ, refl, sym, ap, subst, ◌∙◌, inl, inr}
 use mathlib.Core.Logic.{dite}
 use native.Mathlib.Decide.{ℕ_discrete}
-use Rattle.cyc_types.specs.Firing.{FiringView, FiringCall}
+use Rattle.cyc_types.specs.declared.Raise.{Ghosts as Raise}
 use Rattle.cyc_types.specs.declared.refusal.Refusal.{Refusal}
 use Rattle.cyc_cpu.specs.Cpu.{CpuView, SameCpu}
 use Rattle.cyc_cpus.specs.Cpus.{CpusView, IsCpu, ChangesAt}
@@ -51,13 +51,13 @@ module _ {R : Type 0} where
       first : (m : ℕ) (x : CpuView R) → m ≡ n → IsCpu m x u → d.before ≡ x
       first m x e a = one_cpu n d.before x u d.here (subst (λ k. IsCpu k x u) e a)
 
-  pub not_shifted : (step : R → FiringCall → R → Type 0) (view : R → FiringView) (id source target : ℕ) (e : Refusal)
+  pub not_shifted : (firing : Raise R) (id source target : ℕ) (e : Refusal)
       (v w : CpusView R) →
-      WhyNotShifted step view id source target e v w → OnlyAsked v w
-  not_shifted step view id source target e v w (inl (removed, has, why, same)) =
+      WhyNotShifted firing id source target e v w → OnlyAsked v w
+  not_shifted firing id source target e v w (inl (removed, has, why, same)) =
       subst (λ u. OnlyAsked v u) (sym same) (not_asked v)
-  not_shifted step view id source target e v w (inr (inl (none, n, some, why, (v1, d1, last)))) =
+  not_shifted firing id source target e v w (inr (inl (none, n, some, why, (v1, d1, last)))) =
       asked_then source _ v v1 w d1 d1.change.0.cyclics d1.change.0.kept (subst (λ u. OnlyAsked v1 u) last (not_asked v1))
-  not_shifted step view id source target e v w (inr (inr (none, (v1, d1, (v2, d2, last))))) =
+  not_shifted firing id source target e v w (inr (inr (none, (v1, d1, (v2, d2, last))))) =
       asked_then source _ v v1 w d1 d1.change.0.cyclics d1.change.0.kept
       (asked_then target _ v1 v2 w d2 d2.change.0.cyclics d2.change.0.kept (subst (λ u. OnlyAsked v2 u) last (not_asked v2)))

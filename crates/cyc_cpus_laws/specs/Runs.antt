@@ -1,7 +1,7 @@
 -- What one CPU sees of calls on several.
 use Rattle.std.specs.Prelude.{ℕ, ◌==◌, List, map, filter, Result}
 use Rattle.cyc_types.specs.declared.Calls.{Ghosts as Calls}
-use Rattle.cyc_types.specs.Firing.{FiringView, FiringCall}
+use Rattle.cyc_types.specs.declared.Raise.{Ghosts as Raise}
 use Rattle.cyc_types.specs.declared.level.Soft.{Soft}
 use Rattle.cyc_soft.specs.declared.Ran.{Ran}
 use Rattle.cyc_soft.specs.declared.SoftRefused.{SoftRefused}
@@ -16,7 +16,7 @@ calls_on n way = map (λ c. c.call) (filter (λ c. c.cpu == n) way)
 -- the call was made on a CPU, with some handlers before and after it: between two calls on one CPU those on others may have
 -- changed them
 abbrev pub DoesWithSome : {C R : Type 0} → Calls C
-    → (R → FiringCall → R → Type 0) → (R → FiringView) → (Soft → ℕ → Result Ran SoftRefused → Running C R → Running C R → Type 0)
+    → Raise R → (Soft → ℕ → Result Ran SoftRefused → Running C R → Running C R → Type 0)
     → CpuView R → CpuCall → CpuView R → Type 0
-DoesWithSome {C} handler step view interrupts x call y =
-    (a b : C) × Does handler step view interrupts (running a x) call (running b y)
+DoesWithSome {C} handler firing interrupts x call y =
+    (a b : C) × Does handler firing interrupts (running a x) call (running b y)

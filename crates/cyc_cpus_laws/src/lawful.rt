@@ -11,9 +11,9 @@ use cyc_types::Raise;
 ///
 /// It does nothing when it runs: its clauses are the law.
 pub fn lawful_law<R: Raise>()
-    ensures asked { (id n : ℕ) (v w : CpuView R) → IsLawful R.view v → Asks R.step R.view id n v w → IsLawful R.view w }
-    ensures looked { (v w : CpuView R) → IsLawful R.view v → Looked R.step R.view v w → IsLawful R.view w }
-    ensures reserved { (more : ℕ) (v w : CpuView R) → IsLawful R.view v → Reserves R.step R.view more v w → IsLawful R.view w }
-    ensures widened { (more : ℕ) (v w : CpuView R) → IsLawful R.view v → MayWiden R.view more v → Widens R.step R.view more v w
+    ensures asked { (id n : ℕ) (v w : CpuView R) → IsLawful R.view v → Asks R.Raise id n v w → IsLawful R.view w }
+    ensures looked { (v w : CpuView R) → IsLawful R.view v → Looked R.Raise v w → IsLawful R.view w }
+    ensures reserved { (more : ℕ) (v w : CpuView R) → IsLawful R.view v → Reserves R.Raise more v w → IsLawful R.view w }
+    ensures widened { (more : ℕ) (v w : CpuView R) → IsLawful R.view v → MayWiden R.view more v → Widens R.Raise more v w
         → IsLawful R.view w }
 {}

@@ -7,7 +7,7 @@ ghost use Rattle.cyc_core.specs.Tables.{Tables, level_of};
 ghost use Rattle.cyc_cpu.specs.Cpu.{CpuView, HasNoCyclic};
 ghost use Rattle.cyc_cpu.specs.Laws.{IsLawful};
 ghost use Rattle.cyc_cpu.specs.Gone.{IsGone, PutsNot};
-ghost use Rattle.cyc_cpu.specs.Soft.{fires, firing_at, Interrupts};
+ghost use Rattle.cyc_cpu.specs.Soft.{raise_tables, firing_at, Interrupts};
 ghost use Rattle.cyc_cpus.specs.Cpus.{CallOn, RunningCpus, RunsAt};
 ghost use Rattle.cyc_cpus_laws.specs.Gone.{IsNowhere, StaysNowhere};
 
@@ -21,10 +21,10 @@ pub fn absence_core_law<C: Calls>()
     ensures unused { (id : ℕ) (v : CpuView Tables) → IsLawful firing_at v → Lawful (level_of v.lock) → Lawful (level_of v.low)
         → HasNoCyclic id v.cyclics → IsGone id v }
     ensures one { (id : ℕ) (s t : RunningCpus C Tables) (c : CallOn) → IsNowhere id s.cpus → PutsNot id c.call
-        → RunsAt C.Calls fires firing_at (Interrupts C.Calls) s c t
+        → RunsAt C.Calls raise_tables (Interrupts C.Calls) s c t
         → StaysNowhere C.count id s t }
     ensures run { (id : ℕ) (s t : RunningCpus C Tables) (way : List CallOn) → IsNowhere id s.cpus
         → All (λ c. PutsNot id c.call) way
-        → FoldsTo (RunsAt C.Calls fires firing_at (Interrupts C.Calls)) s way t
+        → FoldsTo (RunsAt C.Calls raise_tables (Interrupts C.Calls)) s way t
         → StaysNowhere C.count id s t }
 {}

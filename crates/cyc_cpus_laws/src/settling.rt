@@ -6,7 +6,7 @@ ghost use Rattle.cyc_core.specs.Tables.{Tables};
 ghost use Rattle.cyc_cpu.specs.Cpu.{CpuView};
 ghost use Rattle.cyc_cpu.specs.Calls.{no_interrupts};
 ghost use Rattle.cyc_cpu.specs.Moving.{IsSettled};
-ghost use Rattle.cyc_cpu.specs.Soft.{fires, firing_at, Interrupts};
+ghost use Rattle.cyc_cpu.specs.Soft.{raise_tables, firing_at, Interrupts};
 ghost use Rattle.cyc_cpu_laws.specs.Settled.{IsNoFire, IsPutOff};
 ghost use Rattle.cyc_cpus.specs.Cpus.{IsCpu, OfCpu, CallOn, RunningCpus, RunsAt};
 ghost use Rattle.cyc_cpus_laws.specs.Runs.{calls_on};
@@ -22,11 +22,11 @@ pub fn settling_law<C: Calls, R: Raise>()
     // A switch of banks is a growth of the size, which no call makes smaller.
     ensures stays { (n : ℕ) (x y : CpuView R) (s t : RunningCpus C R) (way : List CallOn) → IsCpu n x s.cpus → IsCpu n y t.cpus
         → IsSettled R.view x → All IsNoFire (calls_on n way) → y.size ≡ x.size
-        → FoldsTo (RunsAt C.Calls R.step R.view no_interrupts) s way t → IsSettled R.view y }
+        → FoldsTo (RunsAt C.Calls R.Raise no_interrupts) s way t → IsSettled R.view y }
     ensures grows { (n : ℕ) (x y : CpuView R) (s t : RunningCpus C R) (way : List CallOn) → IsCpu n x s.cpus → IsCpu n y t.cpus
-        → FoldsTo (RunsAt C.Calls R.step R.view no_interrupts) s way t → x.size ≤ y.size }
+        → FoldsTo (RunsAt C.Calls R.Raise no_interrupts) s way t → x.size ≤ y.size }
     ensures at_once { (s t : RunningCpus C R) (c : CallOn) → OfCpu c.cpu (IsSettled R.view) s.cpus
-        → RunsAt C.Calls R.step R.view no_interrupts s c t → IsPutOff c.call → ⊥ }
+        → RunsAt C.Calls R.Raise no_interrupts s c t → IsPutOff c.call → ⊥ }
 {}
 
 /// The same of CPUs whose levels no other thread uses, where soft interrupts are among the calls.
@@ -36,13 +36,13 @@ pub fn settling_core_law<C: Calls>()
     ensures stays { (n : ℕ) (x y : CpuView Tables) (s t : RunningCpus C Tables) (way : List CallOn) → IsCpu n x s.cpus
         → IsCpu n y t.cpus
         → IsSettled firing_at x → All IsNoFire (calls_on n way) → y.size ≡ x.size
-        → FoldsTo (RunsAt C.Calls fires firing_at (Interrupts C.Calls)) s way t
+        → FoldsTo (RunsAt C.Calls raise_tables (Interrupts C.Calls)) s way t
         → IsSettled firing_at y }
     ensures grows { (n : ℕ) (x y : CpuView Tables) (s t : RunningCpus C Tables) (way : List CallOn) → IsCpu n x s.cpus
         → IsCpu n y t.cpus
-        → FoldsTo (RunsAt C.Calls fires firing_at (Interrupts C.Calls)) s way t
+        → FoldsTo (RunsAt C.Calls raise_tables (Interrupts C.Calls)) s way t
         → x.size ≤ y.size }
     ensures at_once { (s t : RunningCpus C Tables) (c : CallOn) → OfCpu c.cpu (IsSettled firing_at) s.cpus
-        → RunsAt C.Calls fires firing_at (Interrupts C.Calls) s c t
+        → RunsAt C.Calls raise_tables (Interrupts C.Calls) s c t
         → IsPutOff c.call → ⊥ }
 {}

@@ -2,7 +2,7 @@
 use Rattle.std.proofs.Common.{◌≡◌, ℕ, ◌+◌, Bool, true, false, List, [], ◌∷◌, ◌++◌, refl, sym, ap, ◌∙◌, subst, arith}
 use Rattle.std.specs.Prelude.{◌||◌, ◌==◌}
 use Rattle.std.specs.List.{FoldsTo}
-use Rattle.cyc_types.specs.Firing.{FiringView, FiringCall}
+use Rattle.cyc_types.specs.declared.Raise.{Ghosts as Raise}
 use Rattle.cyc_types.specs.declared.level.Level.{Level}
 use Rattle.cyc_types.specs.declared.moment.When.{When}
 use Rattle.cyc_places.specs.declared.record.Placement.TheVariants.{On, Everywhere}
@@ -30,9 +30,9 @@ pub record Arrives {R : Type 0} (id : ℕ) (ns : List ℕ) (v w : CpusView R) : 
   pub there : (n : ℕ) → among n ns ≡ true → has n id w ≡ true
   pub elsewhere : (n : ℕ) → among n ns ≡ false → ids_on n w ≡ ids_on n v
 
-module _ {R : Type 0} (step : R → FiringCall → R → Type 0) (view : R → FiringView) (id : ℕ) (level : Level) (when : When)
+module _ {R : Type 0} (firing : Raise R) (id : ℕ) (level : Level) (when : When)
     (skew now : ℕ) where
-  pub arrives : (ns : List ℕ) (v w : CpusView R) → Works step view (entering_each ns id level when skew now) v w
+  pub arrives : (ns : List ℕ) (v w : CpusView R) → Works firing (entering_each ns id level when skew now) v w
       → Arrives id ns v w
   arrives [] v w e = subst (λ u. Arrives id [] v u) e (record {
     but = but_same id v v (same_none v);
@@ -40,9 +40,9 @@ module _ {R : Type 0} (step : R → FiringCall → R → Type 0) (view : R → F
     elsewhere = λ n h. refl;
   })
   arrives (m ∷ ns) v w works =
-      let (u, first, rest) = between (DoesAt step view) v (entering m id level when.interval (component_first m when skew now))
+      let (u, first, rest) = between (DoesAt firing) v (entering m id level when.interval (component_first m when skew now))
       (entering_each ns id level when skew now) w works in
-      let (but, here, beside) = entered step view m id level when.interval (component_first m when skew now) v u first in
+      let (but, here, beside) = entered firing m id level when.interval (component_first m when skew now) v u first in
       let r = arrives ns u w rest in record {
         but = but_then id v u w but r.but;
         there = λ n h. by_there n u here r (among n ns) refl h;
@@ -66,7 +66,7 @@ module _ {R : Type 0} (step : R → FiringCall → R → Type 0) (view : R → F
 
   -- the system after an omnipresent cyclic came
   pub agrees_omni : (s : SystemView R) (u w : CpusView R) → Agrees s → id ≡ s.last + 1 → SameWho s.cpus u
-      → Works step view (entering_each (online_cpus s.cpus) id level when skew now) u w
+      → Works firing (entering_each (online_cpus s.cpus) id level when skew now) u w
       → Agrees (record { cpus = w; records = s.records ++ new_record id level (Everywhere when skew) ∷ []; last = id })
   agrees_omni s u w a next same works = agrees_given s id level (Everywhere when skew) w next a but (record {
     stands = λ n h. (tt, by_stands n (is_online n s.cpus) refl h);

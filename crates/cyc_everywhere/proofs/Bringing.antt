@@ -4,7 +4,7 @@ use Rattle.std.proofs.Common.{filter, take, slice_set, refl, sym, ap, ◌∙◌,
 use Rattle.std.specs.Prelude.{◌||◌, ◌&&◌}
 use Rattle.std.specs.List.{slice_get, list_any}
 use Rattle.std.proofs.lemmas.List.{append-nil, take_all}
-use Rattle.cyc_types.specs.Firing.{FiringView, FiringCall}
+use Rattle.cyc_types.specs.declared.Raise.{Ghosts as Raise}
 use Rattle.cyc_types.specs.declared.firing.Sent.{Sent}
 use Rattle.cyc_types.proofs.Runs.{folds_on}
 use Rattle.cyc_agreement.specs.Rows.{Cyclic}
@@ -51,22 +51,22 @@ counts_at [] n h = omega arith
 counts_at (x ∷ xs) zero h = h 0 no_counts (omega arith)
 counts_at (x ∷ xs) (suc n) h = counts_at xs n (λ k d low. h (suc k) d (omega (arith, low)))
 
-module _ {R : Type 0} (step : R → FiringCall → R → Type 0) (view : R → FiringView) (n now : ℕ) (v : CpusView R)
+module _ {R : Type 0} (firing : Raise R) (n now : ℕ) (v : CpusView R)
     (rs : List Record) where
   -- those below place k have come back
   pub record Bringing (k : ℕ) (w : CpusView R) (qs : List Record) : Type 0 where
     pub list : qs ≡ changed_to (after_return n v) k rs
-    pub works : Works step view (returns n now (filter (is_staying v) (take k rs))) v w
+    pub works : Works firing (returns n now (filter (is_staying v) (take k rs))) v w
 
   pub bringing_start : Bringing 0 v rs
   bringing_start = record { list = sym (changed_none (after_return n v) rs); works = of_none rs }
     where
-      of_none : (xs : List Record) → Works step view (returns n now (filter (is_staying v) (take 0 xs))) v v
+      of_none : (xs : List Record) → Works firing (returns n now (filter (is_staying v) (take 0 xs))) v v
       of_none [] = refl
       of_none (x ∷ xs) = refl
 
   pub so_far : (k : ℕ) (w : CpusView R) (qs : List Record) → Bringing k w qs → Back n (filter (is_staying v) (take k rs)) v w
-  so_far k w qs b = back step view n now (filter (is_staying v) (take k rs)) v w (all_everywhere v (take k rs)) b.works
+  so_far k w qs b = back firing n now (filter (is_staying v) (take k rs)) v w (all_everywhere v (take k rs)) b.works
 
   pub many : (k : ℕ) (w : CpusView R) (qs : List Record) → Bringing k w qs → length qs ≡ length rs
   many k w qs b = ap (λ (l : List Record). length l) b.list ∙ changed_length (after_return n v) k rs
@@ -79,15 +79,15 @@ module _ {R : Type 0} (step : R → FiringCall → R → Type 0) (view : R → F
 
   pub bringing_more : (k : ℕ) (w u : CpusView R) (qs ps : List Record) (r : Record) → Bringing k w qs → IsRecord rs k r
       → is_staying v r ≡ true
-      → Works step view (return_at n now r.id r.level (ended_on n r) r.place) w u → ps ≡ slice_set qs k (with_ended n no_counts r)
+      → Works firing (return_at n now r.id r.level (ended_on n r) r.place) w u → ps ≡ slice_set qs k (with_ended n no_counts r)
       → Bringing (k + 1) u ps
   bringing_more k w u qs ps r b is stays did list = record {
     list = list ∙ (λ i. slice_set (b.list i) k (sym (ap (λ c. cond c (with_ended n no_counts r) r) stays) i))
         ∙ changed_set (after_return n v) k rs r is;
-    works = subst (λ way. Works step view way v u)
+    works = subst (λ way. Works firing way v u)
         (sym (ap (λ l. returns n now l) (passing_more (is_staying v) k rs r true is stays)
-        ∙ returns_more step view n now (filter (is_staying v) (take k rs)) r))
-        (folds_on (DoesAt step view) v (returns n now (filter (is_staying v) (take k rs))) w
+        ∙ returns_more firing n now (filter (is_staying v) (take k rs)) r))
+        (folds_on (DoesAt firing) v (returns n now (filter (is_staying v) (take k rs))) w
         (return_at n now r.id r.level (ended_on n r) r.place) u b.works did);
   }
 
@@ -95,14 +95,14 @@ module _ {R : Type 0} (step : R → FiringCall → R → Type 0) (view : R → F
       → is_staying v r ≡ false → Bringing (k + 1) w qs
   bringing_same k w qs r b is leaves = record {
     list = b.list ∙ changed_keep (after_return n v) k rs r is (ap (λ c. cond c (with_ended n no_counts r) r) leaves);
-    works = subst (λ l. Works step view (returns n now l) v w)
+    works = subst (λ l. Works firing (returns n now l) v w)
         (sym (passing_more (is_staying v) k rs r false is leaves ∙ append-nil (filter (is_staying v) (take k rs)))) b.works;
   }
 
   pub bringing_done : (k : ℕ) (w : CpusView R) (qs : List Record) → length rs ≤ k → Bringing k w qs
-      → Works step view (returns n now (filter (is_staying v) rs)) v w × (qs ≡ map (after_return n v) rs)
+      → Works firing (returns n now (filter (is_staying v) rs)) v w × (qs ≡ map (after_return n v) rs)
   bringing_done k w qs all b = (
-    subst (λ l. Works step view (returns n now (filter (is_staying v) l)) v w) (take_all k rs all) b.works,
+    subst (λ l. Works firing (returns n now (filter (is_staying v) l)) v w) (take_all k rs all) b.works,
     b.list ∙ changed_all (after_return n v) k rs all,
   )
 

@@ -7,7 +7,7 @@ use Rattle.std.specs.Option.{option_map_or}
 use Rattle.std.proofs.lemmas.List.Edits.{length-insert, get_or-insert_below, get_or-insert_at, get_or-insert_above}
 use mathlib.Core.Logic.{dite}
 use native.Mathlib.Decide.{ℕ_discrete}
-use Rattle.cyc_types.specs.Firing.{FiringView, FiringCall}
+use Rattle.cyc_types.specs.declared.Raise.{Ghosts as Raise}
 use Rattle.cyc_agreement.specs.Rows.{Cyclic}
 use Rattle.cyc_agreement.specs.Cpu.{CpuView, HasRisingIds, Places}
 use Rattle.cyc_agreement.specs.Cpus.{CpusView, ChangesAt}
@@ -105,8 +105,8 @@ came_more i is cs ds a = record {
     by d (inl h) = inl h
     by d (inr e) = inr (or_right (i == d.timer.id) (among d.timer.id is) e)
 
-module _ {R : Type 0} (step : R → FiringCall → R → Type 0) (view : R → FiringView) (c : Cyclic) (x y : CpuView R)
-    (p : Places step view c x y) where
+module _ {R : Type 0} (firing : Raise R) (c : Cyclic) (x y : CpuView R)
+    (p : Places firing c x y) where
   pub came_placed : Came (c.timer.id ∷ []) x.cyclics y.cyclics
   came_placed = record {
     old = λ d h. subst (λ l. Here d l) (sym p.cyclics) (here_old x.cyclics p.place c p.within d h);

@@ -3,7 +3,7 @@ use Rattle.std.proofs.Common.{◌≡◌, ◌≢◌, ℕ, ◌+◌, ◌≤◌, Boo
 use Rattle.std.proofs.Common.{◌∙◌, subst, append_assoc, arith}
 use Rattle.std.specs.List.{slice_get}
 use Rattle.std.proofs.lemmas.List.{append-nil, length-set, drop_all}
-use Rattle.cyc_types.specs.Firing.{FiringView, FiringCall}
+use Rattle.cyc_types.specs.declared.Raise.{Ghosts as Raise}
 use Rattle.cyc_types.specs.declared.level.Level.{Level}
 use Rattle.cyc_types.specs.declared.moment.When.{When}
 use Rattle.cyc_types.proofs.Runs.{folds_on}
@@ -34,7 +34,7 @@ beside_then n u v w a b = record {
   others = λ m x ne is. a.others m x ne (b.others m x ne is);
 }
 
-module _ {R : Type 0} (step : R → FiringCall → R → Type 0) (view : R → FiringView) (id : ℕ) (level : Level) (when : When)
+module _ {R : Type 0} (firing : Raise R) (id : ℕ) (level : Level) (when : When)
     (skew now : ℕ) where
   calls_more : (ns : List ℕ) (n : ℕ) → entering_each (ns ++ n ∷ []) id level when skew now
       ≡ entering_each ns id level when skew now ++ entering n id level when.interval (component_first n when skew now)
@@ -44,7 +44,7 @@ module _ {R : Type 0} (step : R → FiringCall → R → Type 0) (view : R → F
       (entering_each ns id level when skew now)
       (entering n id level when.interval (component_first n when skew now)))
 
-  entering_beside : (n interval moment : ℕ) (v w : CpusView R) → Works step view (entering n id level interval moment) v w
+  entering_beside : (n interval moment : ℕ) (v w : CpusView R) → Works firing (entering n id level interval moment) v w
       → Beside n v w
   entering_beside n interval moment v w (u, widens, (t, places, e)) =
       subst (λ x. Beside n v x) e (beside_then n v u t (beside_one n _ v u widens) (beside_one n _ u t places))
@@ -55,11 +55,12 @@ module _ {R : Type 0} (step : R → FiringCall → R → Type 0) (view : R → F
     pub many : length w.cpus ≡ length w.online
     pub before : List ℕ
     pub split : online_cpus v ≡ before ++ numbers_from n (drop n v.online)
-    pub works : Works step view (entering_each before id level when skew now) v w
-    pub room : (m : ℕ) → n ≤ m → IsOnline m w → OfCpu m (MayWiden view 1) w
+    pub works : Works firing (entering_each before id level when skew now) v w
+    pub room : (m : ℕ) → n ≤ m → IsOnline m w → OfCpu m (MayWiden firing.view 1) w
     pub absent : (m : ℕ) → n ≤ m → OfCpu m (λ cpu. HasNoCyclic id cpu.cyclics) w
 
-  pub entries_start : (v : CpusView R) → length v.cpus ≡ length v.online → ((m : ℕ) → IsOnline m v → OfCpu m (MayWiden view 1) v)
+  pub entries_start : (v : CpusView R) → length v.cpus ≡ length v.online
+      → ((m : ℕ) → IsOnline m v → OfCpu m (MayWiden firing.view 1) v)
       → ((m : ℕ) → OfCpu m (λ cpu. HasNoCyclic id cpu.cyclics) v) → Entries v 0 v
   entries_start v many room absent = record {
     online = refl;
@@ -72,15 +73,15 @@ module _ {R : Type 0} (step : R → FiringCall → R → Type 0) (view : R → F
   }
 
   pub entries_one : (v w u : CpusView R) (n : ℕ) → Entries v n w → IsOnline n w
-      → Works step view (entering n id level when.interval (component_first n when skew now)) w u → Entries v (n + 1) u
+      → Works firing (entering n id level when.interval (component_first n when skew now)) w u → Entries v (n + 1) u
   entries_one v w u n r here did = let b = entering_beside n when.interval (component_first n when skew now) w u did in record {
     online = b.online ∙ r.online;
     many = b.long ∙ r.many ∙ sym (ap (λ (o : List Bool). length o) b.online);
     before = r.before ++ n ∷ [];
     split = r.split ∙ ap (λ ns. r.before ++ ns) (numbers_at v.online n true (ap (λ xs. slice_get xs n) (sym r.online) ∙ here))
         ∙ sym (append_assoc r.before (n ∷ []) (numbers_from (n + 1) (drop (n + 1) v.online)));
-    works = subst (λ way. Works step view way v u) (sym (calls_more r.before n))
-        (folds_on (DoesAt step view) v _ w _ u r.works did);
+    works = subst (λ way. Works firing way v u) (sym (calls_more r.before n))
+        (folds_on (DoesAt firing) v _ w _ u r.works did);
     room = λ m low on x is. (let ne : m ≢ n = (λ e. absurd (omega (arith, e, low))) in
         r.room m (omega (arith, low)) (ap (λ xs. slice_get xs m) (sym b.online) ∙ on) x (b.others m x ne is));
     absent = λ m low x is. (let ne : m ≢ n = (λ e. absurd (omega (arith, e, low))) in
@@ -99,7 +100,7 @@ module _ {R : Type 0} (step : R → FiringCall → R → Type 0) (view : R → F
   }
 
   pub entries_done : (v w : CpusView R) (n : ℕ) → length w.online ≤ n → Entries v n w
-      → Works step view (entering_each (online_cpus v) id level when skew now) v w
-  entries_done v w n all r = subst (λ ns. Works step view (entering_each ns id level when skew now) v w)
+      → Works firing (entering_each (online_cpus v) id level when skew now) v w
+  entries_done v w n all r = subst (λ ns. Works firing (entering_each ns id level when skew now) v w)
       (sym (r.split ∙ ap (λ xs. r.before ++ numbers_from n xs) (drop_all n v.online (subst (λ xs. length xs ≤ n) r.online all))
       ∙ append-nil r.before)) r.works

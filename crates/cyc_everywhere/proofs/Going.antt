@@ -2,7 +2,8 @@
 use Rattle.std.proofs.Common.{◌≡◌, ℕ, ◌<◌, ◌≤◌, ◌⊎◌, inl, inr, false, cond, Some, None, Ok, Err, Result, List, [], ◌∷◌, length}
 use Rattle.std.proofs.Common.{map, filter, refl, sym, ap, ◌∙◌, subst, arith}
 use Rattle.std.proofs.lemmas.Option.{slice_get_within}
-use Rattle.cyc_types.specs.Firing.{FiringView, FiringCall}
+use Rattle.cyc_types.specs.declared.Raise.{Ghosts as Raise}
+use Rattle.cyc_types.specs.Firing.{FiringView}
 use Rattle.cyc_types.specs.Limits.{cyclics as most_cyclics}
 use Rattle.cyc_types.specs.declared.refusal.Refusal.{Refusal}
 use Rattle.cyc_types.specs.declared.refusal.Refusal.TheVariants as why
@@ -37,19 +38,19 @@ still_empty view x law empty id e = let (k, c, is, named, soft, moment) = law.re
     let low = is.0 in let none = ap (λ (cs : List Cyclic). length cs) empty in omega (arith, low, none)
 
 -- a CPU with no cyclic refuses so many for want of memory, or since its last switch is not over
-why_not : {R : Type 0} (step : R → FiringCall → R → Type 0) (view : R → FiringView) (k : ℕ) (x y : CpuView R) (e : Refusal)
-    → IsLawful view x → x.cyclics ≡ []
-    → k ≤ most_cyclics → Looked step view x y → WhyNotReserved view k x y e → (e ≡ why.Expanding) ⊎ (e ≡ why.Memory)
-why_not step view k x y why.Memory law empty few looked h = inr refl
-why_not step view k x y why.Expanding law empty few looked h = inl refl
-why_not step view k x y why.Full law empty few looked h =
+why_not : {R : Type 0} (firing : Raise R) (k : ℕ) (x y : CpuView R) (e : Refusal)
+    → IsLawful firing.view x → x.cyclics ≡ []
+    → k ≤ most_cyclics → Looked firing x y → WhyNotReserved firing.view k x y e → (e ≡ why.Expanding) ⊎ (e ≡ why.Memory)
+why_not firing k x y why.Memory law empty few looked h = inr refl
+why_not firing k x y why.Expanding law empty few looked h = inl refl
+why_not firing k x y why.Full law empty few looked h =
     let a = ap (λ (cs : List Cyclic). length cs) (looked.cyclics ∙ empty) in absurd (omega (arith, a, few, h))
-why_not step view k x y (why.Busy id) law empty few looked h =
-    absurd (still_empty view x law empty id (sym looked.kept.removal ∙ h.2))
-why_not step view k x y e law empty few looked h = absurd h
+why_not firing k x y (why.Busy id) law empty few looked h =
+    absurd (still_empty firing.view x law empty id (sym looked.kept.removal ∙ h.2))
+why_not firing k x y e law empty few looked h = absurd h
 
-module _ {R : Type 0} (step : R → FiringCall → R → Type 0) (view : R → FiringView) (v : CpusView R) (rs : List Record) (n now : ℕ)
-    (rising : HasRisingIds rs) (lawful : (m : ℕ) (cpu : CpuView R) → IsCpu m cpu v → IsLawful view cpu) (x : CpuView R)
+module _ {R : Type 0} (firing : Raise R) (v : CpusView R) (rs : List Record) (n now : ℕ)
+    (rising : HasRisingIds rs) (lawful : (m : ℕ) (cpu : CpuView R) → IsCpu m cpu v → IsLawful firing.view cpu) (x : CpuView R)
     (at : IsCpu n x v)
     (off : is_online n v ≡ false) where
   -- the system before the call is of any last id
@@ -65,29 +66,29 @@ module _ {R : Type 0} (step : R → FiringCall → R → Type 0) (view : R → F
         (passes (bad_now now) [] None now_is refl))
 
     pub reserve_refused : (k : ℕ) (y : CpuView R) (e : Refusal) → k ≡ length (filter (is_staying v) rs)
-        → Changes step view x (Reserve k (Err e)) y
+        → Changes firing x (Reserve k (Err e)) y
         → (e ≡ why.Expanding) ⊎ (e ≡ why.Memory)
-    reserve_refused k y e is d = why_not step view k x y e (lawful n x at) empty
-        (let few = few_stay view (seen v rs last) a rising lawful in omega (arith, few, is)) d.0 d.1
+    reserve_refused k y e is d = why_not firing k x y e (lawful n x at) empty
+        (let few = few_stay firing.view (seen v rs last) a rising lawful in omega (arith, few, is)) d.0 d.1
 
-  same_refused : (k : ℕ) (y : CpuView R) (e : Refusal) → Changes step view x (Reserve k (Err e)) y → SameWho v (with_cpu v n y)
-  same_refused k y e d = same_at v n x y at (same_reserve step view x y k (Err e) d)
+  same_refused : (k : ℕ) (y : CpuView R) (e : Refusal) → Changes firing x (Reserve k (Err e)) y → SameWho v (with_cpu v n y)
+  same_refused k y e d = same_at v n x y at (same_reserve firing x y k (Err e) d)
 
-  pub holds_refused : (k : ℕ) (y : CpuView R) (e : Refusal) (last : ℕ) → Changes step view x (Reserve k (Err e)) y
+  pub holds_refused : (k : ℕ) (y : CpuView R) (e : Refusal) (last : ℕ) → Changes firing x (Reserve k (Err e)) y
       → Holds (seen v rs last) → Holds (seen (with_cpu v n y) rs last)
   holds_refused k y e last d h = holds_same (seen v rs last) (with_cpu v n y) h (same_refused k y e d)
 
   -- from one agreement the refusal is known for any last id
   pub online_refused : (k : ℕ) (y : CpuView R) (e : Refusal) (answer : Result (Unit {0}) Refusal) (some last : ℕ)
       → Agrees (seen v rs some) → bad_now now ≡ None → answer ≡ Err e
-      → k ≡ length (filter (is_staying v) rs) → Changes step view x (Reserve k (Err e)) y
+      → k ≡ length (filter (is_staying v) rs) → Changes firing x (Reserve k (Err e)) y
       → Unless {S = SystemView R} (no_cpu n (seen v rs last) ∷ online_cpu n (seen v rs last) ∷ bad_now now ∷ [])
       (λ e. Err e) answer (seen v rs last) (seen (with_cpu v n y) rs last)
-      (GoesOnline step view n now answer (seen v rs last) (seen (with_cpu v n y) rs last))
+      (GoesOnline firing n now answer (seen v rs last) (seen (with_cpu v n y) rs last))
   online_refused k y e answer some last a now_is is many d =
       subst (λ r. Unless {S = SystemView R} (no_cpu n (seen v rs last) ∷ online_cpu n (seen v rs last) ∷ bad_now now ∷ [])
       (λ e. Err e) r (seen v rs last) (seen (with_cpu v n y) rs last)
-      (GoesOnline step view n now r (seen v rs last) (seen (with_cpu v n y) rs last))) (sym is)
+      (GoesOnline firing n now r (seen v rs last) (seen (with_cpu v n y) rs last))) (sym is)
       (inr (
         clear some a now_is,
         (
@@ -95,8 +96,8 @@ module _ {R : Type 0} (step : R → FiringCall → R → Type 0) (view : R → F
           (
             (
               with_cpu v n y,
-              subst (λ j. DoesAt step view v (on n (Reserve j (Err e))) (with_cpu v n y)) many
-                  (changed n (λ p q. Changes step view p (Reserve k (Err e)) q) x y v at d),
+              subst (λ j. DoesAt firing v (on n (Reserve j (Err e))) (with_cpu v n y)) many
+                  (changed n (λ p q. Changes firing p (Reserve k (Err e)) q) x y v at d),
               refl,
             ),
             refl,
@@ -107,18 +108,18 @@ module _ {R : Type 0} (step : R → FiringCall → R → Type 0) (view : R → F
 
   -- the CPU has memory and its new size
   module _ (k : ℕ) (many : k ≡ length (filter (is_staying v) rs)) (y p z : CpuView R)
-      (reserved : Changes step view x (Reserve k (Ok tt)) y)
-      (there : IsCpu n p (with_cpu v n y)) (widened : Changes step view p (Widen k) z) where
-    first : DoesAt step view v (on n (Reserve k (Ok tt))) (with_cpu v n y)
+      (reserved : Changes firing x (Reserve k (Ok tt)) y)
+      (there : IsCpu n p (with_cpu v n y)) (widened : Changes firing p (Widen k) z) where
+    first : DoesAt firing v (on n (Reserve k (Ok tt))) (with_cpu v n y)
     first = changed n _ x y v at reserved
 
-    second : DoesAt step view (with_cpu v n y) (on n (Widen k)) (with_cpu (with_cpu v n y) n z)
+    second : DoesAt firing (with_cpu v n y) (on n (Widen k)) (with_cpu (with_cpu v n y) n z)
     second = changed n _ p z (with_cpu v n y) there widened
 
     pub same_ready : SameWho v (with_cpu (with_cpu v n y) n z)
     same_ready = same_then v (with_cpu v n y) (with_cpu (with_cpu v n y) n z)
-        (same_at v n x y at (same_reserve step view x y k (Ok tt) reserved))
-        (same_at (with_cpu v n y) n p z there (same_widened step view p z k widened.1))
+        (same_at v n x y at (same_reserve firing x y k (Ok tt) reserved))
+        (same_at (with_cpu v n y) n p z there (same_widened firing p z k widened.1))
 
     pub at_ready : IsCpu n z (with_cpu (with_cpu v n y) n z)
     at_ready = cpu_there n p z (with_cpu v n y) there
@@ -148,14 +149,14 @@ module _ {R : Type 0} (step : R → FiringCall → R → Type 0) (view : R → F
 
     -- the components came, and the CPU takes part
     module _ (w t : CpusView R) (qs : List Record)
-        (works : Works step view (returns n now (filter (is_staying (with_cpu (with_cpu v n y) n z)) rs))
+        (works : Works firing (returns n now (filter (is_staying (with_cpu (with_cpu v n y) n z)) rs))
         (with_cpu (with_cpu v n y) n z) w)
         (list : qs ≡ map (after_return n (with_cpu (with_cpu v n y) n z)) rs) (switch : t ≡ switched_on n w) where
-      works_here : Works step view (returns n now (filter (is_staying v) rs)) (with_cpu (with_cpu v n y) n z) w
-      works_here = subst (λ l. Works step view (returns n now l) (with_cpu (with_cpu v n y) n z) w) same_staying works
+      works_here : Works firing (returns n now (filter (is_staying v) rs)) (with_cpu (with_cpu v n y) n z) w
+      works_here = subst (λ l. Works firing (returns n now l) (with_cpu (with_cpu v n y) n z) w) same_staying works
 
       pub low_after : n < length w.cpus
-      low_after = let b = back step view n now (filter (is_staying v) rs) (with_cpu (with_cpu v n y) n z) w
+      low_after = let b = back firing n now (filter (is_staying v) rs) (with_cpu (with_cpu v n y) n z) w
           (all_everywhere v rs) works_here in
           subst (λ m. n < m) (sym b.long) (slice_get_within (with_cpu (with_cpu v n y) n z).cpus n z at_ready)
 
@@ -163,13 +164,13 @@ module _ {R : Type 0} (step : R → FiringCall → R → Type 0) (view : R → F
           → Unless {S = SystemView R} {A = Result (Unit {0}) Refusal}
           (no_cpu n (seen v rs last) ∷ online_cpu n (seen v rs last) ∷ bad_now now ∷ []) (λ e. Err e) (Ok tt) (seen v rs last)
           (seen t qs last)
-          (GoesOnline step view n now (Ok tt) (seen v rs last) (seen t qs last))
+          (GoesOnline firing n now (Ok tt) (seen v rs last) (seen t qs last))
       online_done some last a now_is = inr (
         clear some a now_is,
         (
           (
             w,
-            subst (λ j. Works step view (on n (Reserve j (Ok tt)) ∷ on n (Widen j) ∷ returns n now (filter (is_staying v) rs)) v
+            subst (λ j. Works firing (on n (Reserve j (Ok tt)) ∷ on n (Widen j) ∷ returns n now (filter (is_staying v) rs)) v
                 w) many
                 (with_cpu v n y, first, (with_cpu (with_cpu v n y) n z, second, works_here)),
             switch,
@@ -181,7 +182,7 @@ module _ {R : Type 0} (step : R → FiringCall → R → Type 0) (view : R → F
 
       pub holds_done : (last : ℕ) → Holds (seen v rs last) → Holds (seen t qs last)
       holds_done last h =
-          let done = back step view n now (filter (is_staying v) rs) (with_cpu (with_cpu v n y) n z) w
+          let done = back firing n now (filter (is_staying v) rs) (with_cpu (with_cpu v n y) n z) w
           (all_everywhere v rs) works_here in
           let none = empty_ready (empty last h.agrees) in
           subst (λ (g : SystemView R). Holds g) (λ i. seen (sym switch i) (sym (list ∙ same_after) i) last) (record {

@@ -1,6 +1,6 @@
 -- Calls on CPUs that bring no cyclic and take none away.
 use Rattle.std.proofs.Common.{◌≡◌, sym, ap, ◌∙◌, ℕ, Ok, Err, inl, inr, Result, List, [], ◌∷◌, ◌++◌, subst}
-use Rattle.cyc_types.specs.Firing.{FiringView, FiringCall}
+use Rattle.cyc_types.specs.declared.Raise.{Ghosts as Raise}
 use Rattle.cyc_types.specs.declared.refusal.Refusal.{Refusal}
 use Rattle.cyc_agreement.specs.Cpu.{CpuView}
 use Rattle.cyc_agreement.specs.Calls.{CpuCall, Changes, AskRoom, Reserve, Widen}
@@ -20,14 +20,14 @@ pub AllQuiet : List CallOn → Type 0
 AllQuiet [] = Unit {0}
 AllQuiet (c ∷ cs) = Quiet c.call × AllQuiet cs
 
-module _ {R : Type 0} (step : R → FiringCall → R → Type 0) (view : R → FiringView) where
-  quiet_call : (x y : CpuView R) (call : CpuCall) → Quiet call → Changes step view x call y → SameIds x y
-  quiet_call x y _ (asks more (Ok done)) d = same_looked step view x y d.0
-  quiet_call x y _ (asks more (Err e)) d = same_looked step view x y d.0
-  quiet_call x y _ (takes more answer) d = same_reserve step view x y more answer d
-  quiet_call x y _ (grows more) d = same_widened step view x y more d.1
+module _ {R : Type 0} (firing : Raise R) where
+  quiet_call : (x y : CpuView R) (call : CpuCall) → Quiet call → Changes firing x call y → SameIds x y
+  quiet_call x y _ (asks more (Ok done)) d = same_looked firing x y d.0
+  quiet_call x y _ (asks more (Err e)) d = same_looked firing x y d.0
+  quiet_call x y _ (takes more answer) d = same_reserve firing x y more answer d
+  quiet_call x y _ (grows more) d = same_widened firing x y more d.1
 
-  pub quiet_works : (way : List CallOn) (v w : CpusView R) → AllQuiet way → Works step view way v w → SameWho v w
+  pub quiet_works : (way : List CallOn) (v w : CpusView R) → AllQuiet way → Works firing way v w → SameWho v w
   unfolding AllQuiet
   quiet_works [] v w q e = subst (λ u. SameWho v u) e (same_none v)
   quiet_works (c ∷ cs) v w q (u, did, rest) = same_then v u w
@@ -58,35 +58,35 @@ unfolding AllQuiet
 one_quiet n call q = (q, tt)
 
 -- where memory was taken on each CPU, or was not, each has the cyclics that it had
-pub quiet_reserves : {R : Type 0} (step : R → FiringCall → R → Type 0) (view : R → FiringView) (more : ℕ)
+pub quiet_reserves : {R : Type 0} (firing : Raise R) (more : ℕ)
     (answer : Result (Unit {0}) Refusal)
-    (v w : CpusView R) → ReservesEach step view more answer v w → SameWho v w
-quiet_reserves step view more (Ok done) v w (asked, a, b) = same_then v asked w
-    (quiet_works step view _ v asked (all_rooms more _) a) (quiet_works step view _ asked w (all_reserves more _) b)
-quiet_reserves step view more (Err e) v w (inl (before, n, after, works)) =
-    quiet_works step view _ v w (rooms_quiet more before _ (one_quiet n _ (asks more (Err e)))) works
-quiet_reserves step view more (Err e) v w (inr (asked, a, (is, before, n, after, works))) = same_then v asked w
-    (quiet_works step view _ v asked (all_rooms more _) a)
-    (quiet_works step view _ asked w (reserves_quiet more before _ (one_quiet n _ (takes more (Err e)))) works)
+    (v w : CpusView R) → ReservesEach firing more answer v w → SameWho v w
+quiet_reserves firing more (Ok done) v w (asked, a, b) = same_then v asked w
+    (quiet_works firing _ v asked (all_rooms more _) a) (quiet_works firing _ asked w (all_reserves more _) b)
+quiet_reserves firing more (Err e) v w (inl (before, n, after, works)) =
+    quiet_works firing _ v w (rooms_quiet more before _ (one_quiet n _ (asks more (Err e)))) works
+quiet_reserves firing more (Err e) v w (inr (asked, a, (is, before, n, after, works))) = same_then v asked w
+    (quiet_works firing _ v asked (all_rooms more _) a)
+    (quiet_works firing _ asked w (reserves_quiet more before _ (one_quiet n _ (takes more (Err e)))) works)
 
 -- ---- the cyclics themselves
 
-module _ {R : Type 0} (step : R → FiringCall → R → Type 0) (view : R → FiringView) where
-  quiet_list : (x y : CpuView R) (call : CpuCall) → Quiet call → Changes step view x call y → y.cyclics ≡ x.cyclics
+module _ {R : Type 0} (firing : Raise R) where
+  quiet_list : (x y : CpuView R) (call : CpuCall) → Quiet call → Changes firing x call y → y.cyclics ≡ x.cyclics
   quiet_list x y _ (asks more (Ok done)) d = d.0.cyclics
   quiet_list x y _ (asks more (Err e)) d = d.0.cyclics
   quiet_list x y _ (takes more (Ok done)) d = d.0.cyclics
   quiet_list x y _ (takes more (Err e)) d = d.0.cyclics
   quiet_list x y _ (grows more) d = d.1.cyclics
 
-  quiet_lists : (way : List CallOn) (v w : CpusView R) → AllQuiet way → Works step view way v w → (m : ℕ)
+  quiet_lists : (way : List CallOn) (v w : CpusView R) → AllQuiet way → Works firing way v w → (m : ℕ)
       → cyclics_on m w ≡ cyclics_on m v
   unfolding AllQuiet
   quiet_lists [] v w q e m = ap (λ u. cyclics_on m u) (sym e)
   quiet_lists (c ∷ cs) v w q (u, did, rest) m = quiet_lists cs u w q.1 rest m
       ∙ are_same c.cpu _ v u did (quiet_list did.before did.after c.call q.0 did.change) m
 
-  pub lists_reserved : (more : ℕ) (v w : CpusView R) → ReservesEach step view more (Ok tt) v w → (m : ℕ)
+  pub lists_reserved : (more : ℕ) (v w : CpusView R) → ReservesEach firing more (Ok tt) v w → (m : ℕ)
       → cyclics_on m w ≡ cyclics_on m v
   lists_reserved more v w (asked, a, b) m = quiet_lists _ asked w (all_reserves more _) b m
       ∙ quiet_lists _ v asked (all_rooms more _) a m

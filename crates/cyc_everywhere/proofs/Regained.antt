@@ -6,7 +6,7 @@ use Rattle.std.specs.List.{slice_get}
 use Rattle.std.specs.Option.{option_map_or}
 use mathlib.Core.Logic.{dite}
 use native.Mathlib.Decide.{ℕ_discrete}
-use Rattle.cyc_types.specs.Firing.{FiringView, FiringCall}
+use Rattle.cyc_types.specs.declared.Raise.{Ghosts as Raise}
 use Rattle.cyc_types.specs.declared.firing.Sent.{Sent}
 use Rattle.cyc_types.specs.declared.moment.When.{When}
 use Rattle.cyc_agreement.specs.Rows.{Cyclic}
@@ -47,7 +47,7 @@ passing_at p (suc k) r (x ∷ rs) is e = by (p x) (passing_at p k r rs is e)
     by true (j, at) = (suc j, at)
     by false (j, at) = (j, at)
 
-module _ {R : Type 0} (step : R → FiringCall → R → Type 0) (view : R → FiringView) (n now : ℕ) where
+module _ {R : Type 0} (firing : Raise R) (n now : ℕ) where
   -- what the CPU has of these after they came back
   pub record Regained (rs : List Record) (v w : CpusView R) : Type 0 where
     pub came : Came (ids_in rs) (cyclics_on n v) (cyclics_on n w)
@@ -58,7 +58,7 @@ module _ {R : Type 0} (step : R → FiringCall → R → Type 0) (view : R → F
   same_series {a} {b} {i} {j} e = (cc, cc)
 
   regain_at : (r : Record) (place : Placement) (v w : CpusView R) → r.place ≡ place
-      → Works step view (return_at n now r.id r.level (ended_on n r) place) v w → Regained (r ∷ []) v w
+      → Works firing (return_at n now r.id r.level (ended_on n r) place) v w → Regained (r ∷ []) v w
   regain_at r (On m bound) v w is e = record {
     came = came_more r.id [] (cyclics_on n v) (cyclics_on n w)
         (came_none (cyclics_on n v) (cyclics_on n w) (ap (λ x. cyclics_on n x) (sym e)));
@@ -74,11 +74,11 @@ module _ {R : Type 0} (step : R → FiringCall → R → Type 0) (view : R → F
   regain_at r (Everywhere series skew) v w is (u, places, e) = record {
     came = subst (λ l. Came (r.id ∷ []) l (cyclics_on n w)) (sym (were_there n _ v u places))
         (subst (λ l. Came (r.id ∷ []) places.before.cyclics l) after
-        (came_placed step view _ places.before places.after places.change.1));
+        (came_placed firing _ places.before places.after places.change.1));
     here = λ k q when other at p. (let (a, b) = same_series (sym is ∙ ap (λ (x : Record). x.place) (one k q at) ∙ p) in (
       subst (λ c. Here c (cyclics_on n w)) (λ i. old_component n (one k q at i) (a i) (b i) now)
           (subst (λ l. Here (old_component n r series skew now) l) after
-          (here_placed step view _ places.before places.after places.change.1)),
+          (here_placed firing _ places.before places.after places.change.1)),
       subst (λ l. HasRisingIds l) after places.change.1.rising,
     ));
   }
@@ -90,14 +90,14 @@ module _ {R : Type 0} (step : R → FiringCall → R → Type 0) (view : R → F
       one zero q at = same_some at
       one (suc k) q at = absurd (none_some at)
 
-  pub regained : (rs : List Record) (v w : CpusView R) → Works step view (returns n now rs) v w → Regained rs v w
+  pub regained : (rs : List Record) (v w : CpusView R) → Works firing (returns n now rs) v w → Regained rs v w
   regained [] v w e = record {
     came = came_none (cyclics_on n v) (cyclics_on n w) (ap (λ x. cyclics_on n x) (sym e));
     here =
         λ k r when skew at p. absurd (none_some at);
   }
   regained (r ∷ rs) v w works =
-      let (u, first, rest) = between (DoesAt step view) v (return_at n now r.id r.level (ended_on n r) r.place)
+      let (u, first, rest) = between (DoesAt firing) v (return_at n now r.id r.level (ended_on n r) r.place)
       (returns n now rs) w works in
       let a = regain_at r r.place v u refl first in let b = regained rs u w rest in record {
         came = came_then r.id (ids_in rs) (cyclics_on n v) (cyclics_on n u) (cyclics_on n w) a.came b.came;
@@ -112,23 +112,23 @@ module _ {R : Type 0} (step : R → FiringCall → R → Type 0) (view : R → F
       by u a b (suc k) q when skew at p = b.here k q when skew at p
 
 -- what the laws of online say
-module _ {R : Type 0} (step : R → FiringCall → R → Type 0) (view : R → FiringView) (s t : SystemView R) (n now : ℕ)
-    (did : GoesOnline step view n now (Ok tt) s t) where
-  works : Works step view (returns n now (staying s)) did.0.1.2.0 did.0.0
+module _ {R : Type 0} (firing : Raise R) (s t : SystemView R) (n now : ℕ)
+    (did : GoesOnline firing n now (Ok tt) s t) where
+  works : Works firing (returns n now (staying s)) did.0.1.2.0 did.0.0
   works = did.0.1.2.2
 
   before : (m : ℕ) → cyclics_on m did.0.1.2.0 ≡ cyclics_on m s.cpus
   before m = are_same n _ did.0.1.0 did.0.1.2.0 did.0.1.2.1 did.0.1.2.1.change.1.cyclics m
       ∙ are_same n _ s.cpus did.0.1.0 did.0.1.1 did.0.1.1.change.0.cyclics m
 
-  gained : Regained step view n now (staying s) did.0.1.2.0 did.0.0
-  gained = regained step view n now (staying s) did.0.1.2.0 did.0.0 works
+  gained : Regained firing n now (staying s) did.0.1.2.0 did.0.0
+  gained = regained firing n now (staying s) did.0.1.2.0 did.0.0 works
 
   now_on : (m : ℕ) → cyclics_on m t.cpus ≡ cyclics_on m did.0.0
   now_on m = ap (λ x. cyclics_on m x) did.0.2
 
   rest : Back n (staying s) did.0.1.2.0 did.0.0
-  rest = back step view n now (staying s) did.0.1.2.0 did.0.0 (all_everywhere s.cpus s.records) works
+  rest = back firing n now (staying s) did.0.1.2.0 did.0.0 (all_everywhere s.cpus s.records) works
 
   pub all_back : (k : ℕ) (r : Record) (when : When) (skew : ℕ) → IsRecord s.records k r → r.place ≡ Everywhere when skew
       → is_staying s.cpus r ≡ true → OfCpu n (λ cpu. HasOne (old_component n r when skew now) cpu.cyclics) t.cpus

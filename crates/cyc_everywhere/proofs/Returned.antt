@@ -8,7 +8,7 @@ use Rattle.std.proofs.lemmas.List.{append-nil, length-set}
 use Rattle.std.proofs.lemmas.List.Edits.{length-insert}
 use mathlib.Core.Logic.{dite}
 use native.Mathlib.Decide.{ℕ_discrete}
-use Rattle.cyc_types.specs.Firing.{FiringView, FiringCall}
+use Rattle.cyc_types.specs.declared.Raise.{Ghosts as Raise}
 use Rattle.cyc_types.specs.declared.firing.Sent.{Sent}
 use Rattle.cyc_types.specs.declared.moment.When.{When}
 use Rattle.cyc_agreement.specs.Rows.{Cyclic}
@@ -70,8 +70,8 @@ gains_then r rs x y z a b = record {
     or_none true = refl
     or_none false = refl
 
-module _ {R : Type 0} (step : R → FiringCall → R → Type 0) (view : R → FiringView) where
-  gains_one : (r : Record) (c : Cyclic) (x y : CpuView R) → c.timer.id ≡ r.id → Places step view c x y → Gains (r ∷ []) x y
+module _ {R : Type 0} (firing : Raise R) where
+  gains_one : (r : Record) (c : Cyclic) (x y : CpuView R) → c.timer.id ≡ r.id → Places firing c x y → Gains (r ∷ []) x y
   gains_one r c x y named p = record {
     ids = λ q. dite (ℕ_discrete q c.timer.id)
         (λ e. ap (λ k. among k (ids_of y)) e ∙ o.here
@@ -85,10 +85,10 @@ module _ {R : Type 0} (step : R → FiringCall → R → Type 0) (view : R → F
   }
     where
       o : OneMore c.timer.id x y
-      o = placed step view x y c p
+      o = placed firing x y c p
 
   back_one : (n : ℕ) (r : Record) (c : Cyclic) (v w : CpusView R) (D : CpuView R → CpuView R → Type 0) → c.timer.id ≡ r.id
-      → (d : ChangesAt n D v w) → Places step view c d.before d.after → Back n (r ∷ []) v w
+      → (d : ChangesAt n D v w) → Places firing c d.before d.after → Back n (r ∷ []) v w
   back_one n r c v w D named d p = subst (λ u. Back n (r ∷ []) v u) (sym d.rest) (record {
     online = refl;
     long = length-set v.cpus n d.after;
@@ -102,7 +102,7 @@ module _ {R : Type 0} (step : R → FiringCall → R → Type 0) (view : R → F
 
   -- one component comes back
   pub back_at : (n now : ℕ) (r : Record) (place : Placement) (v w : CpusView R) → is_everywhere place ≡ true
-      → Works step view (return_at n now r.id r.level (ended_on n r) place) v w → Back n (r ∷ []) v w
+      → Works firing (return_at n now r.id r.level (ended_on n r) place) v w → Back n (r ∷ []) v w
   back_at n now r (On m bound) v w e works = absurd (false_true e)
   back_at n now r (Everywhere series skew) v w e (u, did, last) = subst (λ x. Back n (r ∷ []) v x) last
       (back_one n r (cyclic_with r.id r.level series.interval (component_first n series skew now) (ended_on n r).sent
@@ -136,13 +136,13 @@ back_then n r rs u v w a b = record {
       (z, there, gains_then r rs x y z first rest));
 }
 
-module _ {R : Type 0} (step : R → FiringCall → R → Type 0) (view : R → FiringView) (n now : ℕ) where
-  pub back : (rs : List Record) (v w : CpusView R) → AllEverywhere rs → Works step view (returns n now rs) v w → Back n rs v w
+module _ {R : Type 0} (firing : Raise R) (n now : ℕ) where
+  pub back : (rs : List Record) (v w : CpusView R) → AllEverywhere rs → Works firing (returns n now rs) v w → Back n rs v w
   back [] v w all e = subst (λ u. Back n [] v u) e (back_none n v)
   back (r ∷ rs) v w all works =
-      let (u, first, rest) = between (DoesAt step view) v (return_at n now r.id r.level (ended_on n r) r.place)
+      let (u, first, rest) = between (DoesAt firing) v (return_at n now r.id r.level (ended_on n r) r.place)
       (returns n now rs) w works in
-      back_then n r rs v u w (back_at step view n now r r.place v u all.0 first) (back rs u w all.1 rest)
+      back_then n r rs v u w (back_at firing n now r r.place v u all.0 first) (back rs u w all.1 rest)
 
   pub returns_more : (rs : List Record) (r : Record)
       → returns n now (rs ++ r ∷ []) ≡ returns n now rs ++ return_at n now r.id r.level (ended_on n r) r.place
@@ -195,22 +195,22 @@ leaving_same id (x ∷ xs) (y ∷ ys) long same =
     (λ m. same (suc m)) i)
 
 -- one component was placed
-module _ {R : Type 0} (step : R → FiringCall → R → Type 0) (view : R → FiringView) (n now : ℕ) where
+module _ {R : Type 0} (firing : Raise R) (n now : ℕ) where
   by_place : (q : Record) (place : Placement) (series : When) (skew : ℕ) (counts : Sent) (v : CpusView R) (x y : CpuView R)
       → place ≡ Everywhere series skew → IsCpu n x v
-      → Changes step view x (PlaceCall q.id q.level series.interval (component_first n series skew now) counts) y
-      → Works step view (return_at n now q.id q.level counts place) v (with_cpu v n y)
+      → Changes firing x (PlaceCall q.id q.level series.interval (component_first n series skew now) counts) y
+      → Works firing (return_at n now q.id q.level counts place) v (with_cpu v n y)
   by_place q place series skew counts v x y is at did =
-      subst (λ p. Works step view (return_at n now q.id q.level counts p) v (with_cpu v n y)) (sym is)
+      subst (λ p. Works firing (return_at n now q.id q.level counts p) v (with_cpu v n y)) (sym is)
       (with_cpu v n y, changed n _ x y v at did, refl)
 
   pub one_back : (r q : Record) (series : When) (skew moment : ℕ) (counts : Sent) (v : CpusView R) (x y : CpuView R) → r ≡ q
       → q.place ≡ Everywhere series skew → IsCpu n x v
       → moment ≡ component_first n series skew now → counts ≡ ended_on n q
-      → Changes step view x (PlaceCall q.id q.level series.interval moment counts) y
-      → Works step view (return_at n now r.id r.level (ended_on n r) r.place) v (with_cpu v n y)
+      → Changes firing x (PlaceCall q.id q.level series.interval moment counts) y
+      → Works firing (return_at n now r.id r.level (ended_on n r) r.place) v (with_cpu v n y)
   one_back r q series skew moment counts v x y same place at first ended did =
-      subst (λ (z : Record). Works step view (return_at n now z.id z.level (ended_on n z) z.place) v (with_cpu v n y)) (sym same)
-      (subst (λ c. Works step view (return_at n now q.id q.level c q.place) v (with_cpu v n y)) ended
+      subst (λ (z : Record). Works firing (return_at n now z.id z.level (ended_on n z) z.place) v (with_cpu v n y)) (sym same)
+      (subst (λ c. Works firing (return_at n now q.id q.level c q.place) v (with_cpu v n y)) ended
       (by_place q q.place series skew counts v x y place at
-      (subst (λ m. Changes step view x (PlaceCall q.id q.level series.interval m counts) y) first did)))
+      (subst (λ m. Changes firing x (PlaceCall q.id q.level series.interval m counts) y) first did)))

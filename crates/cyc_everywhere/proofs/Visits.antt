@@ -4,7 +4,7 @@ use Rattle.std.specs.Prelude.{◌||◌, ◌==◌}
 use Rattle.std.specs.Option.{option_map_or}
 use mathlib.Core.Logic.{dite}
 use native.Mathlib.Decide.{ℕ_discrete}
-use Rattle.cyc_types.specs.Firing.{FiringView, FiringCall}
+use Rattle.cyc_types.specs.declared.Raise.{Ghosts as Raise}
 use Rattle.cyc_types.specs.declared.level.Level.{Level}
 use Rattle.cyc_types.specs.declared.moment.When.{When}
 use Rattle.cyc_agreement.specs.Rows.{Cyclic}
@@ -33,7 +33,7 @@ only_copies id q (n ∷ ns) e = by (id == q) refl (only_copies id q ns) e
     by true is rest h = sym (eq_true id q is)
     by false is rest h = rest h
 
-module _ {R : Type 0} (step : R → FiringCall → R → Type 0) (view : R → FiringView) (id : ℕ) (level : Level) (when : When)
+module _ {R : Type 0} (firing : Raise R) (id : ℕ) (level : Level) (when : When)
     (skew now : ℕ) where
   -- what one CPU has of it after the walk
   pub record Visited (m : ℕ) (ns : List ℕ) (v w : CpusView R) : Type 0 where
@@ -41,15 +41,15 @@ module _ {R : Type 0} (step : R → FiringCall → R → Type 0) (view : R → F
     pub here : among m ns ≡ true → Here (new_component m id level when skew now) (cyclics_on m w) × HasRisingIds (cyclics_on m w)
 
   visit_one : (n m : ℕ) (v w : CpusView R)
-      → Works step view (entering n id level when.interval (component_first n when skew now)) v w → Visited m (n ∷ []) v w
+      → Works firing (entering n id level when.interval (component_first n when skew now)) v w → Visited m (n ∷ []) v w
   unfolding copies
   visit_one n m v w (u, widens, (t, places, e)) = dite (ℕ_discrete m n)
       (λ same. subst (λ k. Visited k (n ∷ []) v w) (sym same) (record {
         came = subst (λ l. Came (id ∷ []) l (cyclics_on n w)) before (subst (λ l. Came (id ∷ []) places.before.cyclics l) after
-            (came_placed step view _ places.before places.after places.change.1));
+            (came_placed firing _ places.before places.after places.change.1));
         here = λ h. (
           subst (λ l. Here (new_component n id level when skew now) l) after
-              (here_placed step view _ places.before places.after places.change.1),
+              (here_placed firing _ places.before places.after places.change.1),
           subst (λ l. HasRisingIds l) after places.change.1.rising,
         );
       }))
@@ -68,7 +68,7 @@ module _ {R : Type 0} (step : R → FiringCall → R → Type 0) (view : R → F
       after : places.after.cyclics ≡ cyclics_on n w
       after = sym (are_there n _ u t places) ∙ ap (λ x. cyclics_on n x) e
 
-  pub visit : (ns : List ℕ) (m : ℕ) (v w : CpusView R) → Works step view (entering_each ns id level when skew now) v w
+  pub visit : (ns : List ℕ) (m : ℕ) (v w : CpusView R) → Works firing (entering_each ns id level when skew now) v w
       → Visited m ns v w
   unfolding copies
   visit [] m v w e = record {
@@ -77,7 +77,7 @@ module _ {R : Type 0} (step : R → FiringCall → R → Type 0) (view : R → F
         λ h. absurd (false_true h);
   }
   visit (n ∷ ns) m v w works =
-      let (u, first, rest) = between (DoesAt step view) v (entering n id level when.interval (component_first n when skew now))
+      let (u, first, rest) = between (DoesAt firing) v (entering n id level when.interval (component_first n when skew now))
       (entering_each ns id level when skew now) w works in
       let a = visit_one n m v u first in let b = visit ns m u w rest in record {
         came = came_then id (copies id ns) (cyclics_on m v) (cyclics_on m u) (cyclics_on m w) a.came b.came;
@@ -91,14 +91,14 @@ module _ {R : Type 0} (step : R → FiringCall → R → Type 0) (view : R → F
       by u a b false is h = b.here h
 
 -- what the laws of add_omni say
-module _ {R : Type 0} (step : R → FiringCall → R → Type 0) (view : R → FiringView) (s t : SystemView R) (level : Level)
+module _ {R : Type 0} (firing : Raise R) (s t : SystemView R) (level : Level)
     (when : When) (skew now id : ℕ)
-    (did : AddsOmni step view level when skew now (Ok id) s t) (n : ℕ) where
-  whole : Visited step view id level when skew now n (online_cpus s.cpus) did.1.0 t.cpus
-  whole = visit step view id level when skew now (online_cpus s.cpus) n did.1.0 t.cpus did.1.2
+    (did : AddsOmni firing level when skew now (Ok id) s t) (n : ℕ) where
+  whole : Visited firing id level when skew now n (online_cpus s.cpus) did.1.0 t.cpus
+  whole = visit firing id level when skew now (online_cpus s.cpus) n did.1.0 t.cpus did.1.2
 
   was : cyclics_on n did.1.0 ≡ cyclics_on n s.cpus
-  was = lists_reserved step view 1 s.cpus did.1.0 did.1.1 n
+  was = lists_reserved firing 1 s.cpus did.1.0 did.1.1 n
 
   pub each_one : is_online n s.cpus ≡ true → OfCpu n (λ cpu. HasOne (new_component n id level when skew now) cpu.cyclics) t.cpus
   each_one on cpu at = let (here, rising) = whole.here (among_online s.cpus n ∙ on) in

@@ -1,6 +1,6 @@
 -- How an omnipresent cyclic comes to all online CPUs (`cyclic_add_omni`; the skew is our own rule).
 use Rattle.std.specs.Prelude.{◌≡◌, ℕ, ◌+◌, ◌*◌, min, List, [], ◌∷◌, ◌++◌, ◌⊎◌, Result, Ok, Err}
-use Rattle.cyc_types.specs.Firing.{FiringView, FiringCall}
+use Rattle.cyc_types.specs.declared.Raise.{Ghosts as Raise}
 use Rattle.cyc_types.specs.Series.{never, first}
 use Rattle.cyc_types.specs.declared.level.Level.{Level}
 use Rattle.cyc_types.specs.declared.moment.When.{When}
@@ -29,14 +29,14 @@ entering_each (n ∷ ns) id level when skew now =
 
 -- The cyclic has a component on each online CPU, and the next id: all memory was taken before the first CPU was switched. Or
 -- a CPU has no room, or there is no memory on one of them or for the record.
-abbrev pub AddsOmni : {R : Type 0} → (R → FiringCall → R → Type 0) → (R → FiringView)
+abbrev pub AddsOmni : {R : Type 0} → Raise R
     → Level → When → ℕ → ℕ → Result ℕ Refusal → SystemView R → SystemView R → Type 0
-AddsOmni {R} step view level when skew now (Ok id) s t = (id ≡ s.last + 1)
-    × ((reserved : CpusView R) × ReservesEach step view 1 (Ok tt) s.cpus reserved
-    × Works step view (entering_each (online_cpus s.cpus) id level when skew now) reserved t.cpus)
+AddsOmni {R} firing level when skew now (Ok id) s t = (id ≡ s.last + 1)
+    × ((reserved : CpusView R) × ReservesEach firing 1 (Ok tt) s.cpus reserved
+    × Works firing (entering_each (online_cpus s.cpus) id level when skew now) reserved t.cpus)
     × (t.records ≡ s.records ++ new_record id level (Everywhere when skew) ∷ []) × (t.last ≡ id)
-AddsOmni step view level when skew now (Err e) s t =
-    (ReservesEach step view 1 (Err e) s.cpus t.cpus ⊎ ((e ≡ Memory) × ReservesEach step view 1 (Ok tt) s.cpus t.cpus))
+AddsOmni firing level when skew now (Err e) s t =
+    (ReservesEach firing 1 (Err e) s.cpus t.cpus ⊎ ((e ≡ Memory) × ReservesEach firing 1 (Ok tt) s.cpus t.cpus))
     × (t.records ≡ s.records) × (t.last ≡ s.last)
 
 -- the id that was given last, after a call with this answer

@@ -2,7 +2,7 @@
 use Rattle.std.specs.Prelude.{◌≡◌, ℕ, ◌&&◌, not, cond, Bool, true, List, [], ◌∷◌, ◌++◌, map, filter, length, slice_set, ◌⊎◌}
 use Rattle.std.specs.Prelude.{Option, Result, Ok, Err}
 use Rattle.std.specs.List.{list_any}
-use Rattle.cyc_types.specs.Firing.{FiringView, FiringCall}
+use Rattle.cyc_types.specs.declared.Raise.{Ghosts as Raise}
 use Rattle.cyc_types.specs.declared.firing.Sent.{Sent}
 use Rattle.cyc_types.specs.declared.level.Level.{Level}
 use Rattle.cyc_types.specs.declared.refusal.Refusal.{Refusal}
@@ -51,11 +51,11 @@ switched_on n v = record v { online = slice_set v.online n true }
 
 -- The CPU grows once for all of them and takes its components, and then it takes part. Or its last switch is not over, or
 -- there is no memory. It can't be full, and no removal is open there.
-abbrev pub GoesOnline : {R : Type 0} → (R → FiringCall → R → Type 0) → (R → FiringView)
+abbrev pub GoesOnline : {R : Type 0} → Raise R
     → ℕ → ℕ → Result (Unit {0}) Refusal → SystemView R → SystemView R → Type 0
-GoesOnline {R} step view n now (Ok done) s t =
-    ((w : CpusView R) × Works step view (on n (Reserve (length (staying s)) (Ok tt)) ∷ on n (Widen (length (staying s)))
+GoesOnline {R} firing n now (Ok done) s t =
+    ((w : CpusView R) × Works firing (on n (Reserve (length (staying s)) (Ok tt)) ∷ on n (Widen (length (staying s)))
     ∷ returns n now (staying s)) s.cpus w × (t.cpus ≡ switched_on n w))
     × (t.records ≡ map (after_return n s.cpus) s.records) × (t.last ≡ s.last)
-GoesOnline step view n now (Err e) s t =
-    ((e ≡ Expanding) ⊎ (e ≡ Memory)) × OnlyWorks step view (on n (Reserve (length (staying s)) (Err e)) ∷ []) s t
+GoesOnline firing n now (Err e) s t =
+    ((e ≡ Expanding) ⊎ (e ≡ Memory)) × OnlyWorks firing (on n (Reserve (length (staying s)) (Err e)) ∷ []) s t

@@ -29,7 +29,7 @@ fn enter<R: Raise>(
     requires number { number < length cpus.old.cpus }
     requires room { OfCpu number (MayWiden R.view 1) cpus.old }
     requires absent { OfCpu number (λ cpu. HasNoCyclic id cpu.cyclics) cpus.old }
-    ensures { Works R.step R.view (entering number id level interval moment) cpus.old cpus.new }
+    ensures { Works R.Raise (entering number id level interval moment) cpus.old cpus.new }
 {
     cpus.cpu_mut(number).widen(1);
     cpus.cpu_mut(number)
@@ -49,7 +49,7 @@ fn enter_each<R: Raise>(
     requires now { now < never }
     requires room { (n : ℕ) → IsOnline n cpus.old → OfCpu n (MayWiden R.view 1) cpus.old }
     requires absent { (n : ℕ) → OfCpu n (λ cpu. HasNoCyclic id cpu.cyclics) cpus.old }
-    ensures { Works R.step R.view (entering_each (online_cpus cpus.old) id level
+    ensures { Works R.Raise (entering_each (online_cpus cpus.old) id level
         (record { start = start; interval = interval }) skew now) cpus.old cpus.new }
 {
     for number in 0..cpus.count() {
@@ -82,7 +82,7 @@ pub fn add_omni<R: Raise>(
         (record { cpus = cpus.old; records = records.old.list; last = last }) ∷ [])
         (λ e. Err e) result (record { cpus = cpus.old; records = records.old.list; last = last })
         (record { cpus = cpus.new; records = records.new.list; last = last_after last result })
-        (AddsOmni R.step R.view level when skew now result (record { cpus = cpus.old; records = records.old.list; last = last })
+        (AddsOmni R.Raise level when skew now result (record { cpus = cpus.old; records = records.old.list; last = last })
         (record { cpus = cpus.new; records = records.new.list; last = last_after last result })) }
     ensures holds { Holds (record { cpus = cpus.new; records = records.new.list; last = last_after last result }) }
 {

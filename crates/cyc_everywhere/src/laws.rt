@@ -9,8 +9,8 @@ use cyc_types::Raise;
 ///
 /// It does nothing when it runs: its clauses are the law.
 pub fn components_law<R: Raise>()
-    ensures each { EachHasItsComponent R.step R.view }
-    ensures others { OthersStay R.step R.view }
+    ensures each { EachHasItsComponent R.Raise }
+    ensures others { OthersStay R.Raise }
 {}
 
 /// After a CPU took part again it has one component of each omnipresent cyclic whose removal is not open, which begins again
@@ -19,7 +19,7 @@ pub fn components_law<R: Raise>()
 ///
 /// It does nothing when it runs: its clauses are the law.
 pub fn return_law<R: Raise>()
-    ensures all { AllCameBack R.step R.view }
-    ensures others { OtherCpusStay R.step R.view }
-    ensures counts { NothingIsLost R.step R.view }
+    ensures all { AllCameBack R.Raise }
+    ensures others { OtherCpusStay R.Raise }
+    ensures counts { NothingIsLost R.Raise }
 {}

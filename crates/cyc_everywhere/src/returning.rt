@@ -55,7 +55,7 @@ fn bring_back<R: Raise>(
     requires everywhere { (r : TheRecord) → IsRecord records.old.list place r → is_everywhere r.place ≡ true }
     requires fits { (r : TheRecord) → IsRecord records.old.list place r
         → OfCpu number (MayPlace r.id (ended_on number r)) cpus.old }
-    ensures did { (r : TheRecord) → IsRecord records.old.list place r → Works R.step R.view
+    ensures did { (r : TheRecord) → IsRecord records.old.list place r → Works R.Raise
         (return_at number now r.id r.level (ended_on number r) r.place) cpus.old cpus.new }
     ensures list { (r : TheRecord) → IsRecord records.old.list place r
         → records.new.list ≡ slice_set records.old.list place (with_ended number no_counts r) }
@@ -87,7 +87,7 @@ fn bring_all_back<R: Raise>(cpus: &mut Cpus<R>, records: &mut Records, number: u
     requires room { OfCpu number (λ cpu. length (filter (is_staying_of cpus.old) records.old.list) ≤ cpu.size) cpus.old }
     requires within { (k : ℕ) (r : TheRecord) → IsRecord records.old.list k r
         → OfCpu number (λ cpu. (ended_on number r).sent ≤ cpu.most) cpus.old }
-    ensures did { Works R.step R.view (returns number now (filter (is_staying_of cpus.old) records.old.list)) cpus.old cpus.new }
+    ensures did { Works R.Raise (returns number now (filter (is_staying_of cpus.old) records.old.list)) cpus.old cpus.new }
     ensures list { records.new.list ≡ map (after_return number cpus.old) records.old.list }
 {
     for place in 0..records.len() {
@@ -115,7 +115,7 @@ pub fn online<R: Raise>(
         ∷ online_cpu number (record { cpus = cpus.old; records = records.old.list; last = last }) ∷ bad_now now ∷ [])
         (λ e. Err e) result (record { cpus = cpus.old; records = records.old.list; last = last })
         (record { cpus = cpus.new; records = records.new.list; last = last })
-        (GoesOnline R.step R.view number now result (record { cpus = cpus.old; records = records.old.list; last = last })
+        (GoesOnline R.Raise number now result (record { cpus = cpus.old; records = records.old.list; last = last })
         (record { cpus = cpus.new; records = records.new.list; last = last })) }
     ensures holds { (last : ℕ) → Holds (record { cpus = cpus.old; records = records.old.list; last = last })
         → Holds (record { cpus = cpus.new; records = records.new.list; last = last }) }

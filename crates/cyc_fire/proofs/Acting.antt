@@ -2,7 +2,8 @@
 use Rattle.std.proofs.Common.{◌≡◌, ℕ, ◌+◌, List, [], ◌∷◌, ◌++◌, refl, sym, ap, subst, arith}
 use Rattle.std.specs.List.{FoldsTo}
 use Rattle.cyc_types.specs.Counting.{times}
-use Rattle.cyc_types.specs.Firing.{FiringView, FiringCall, Raises}
+use Rattle.cyc_types.specs.declared.Raise.{Ghosts as Raise}
+use Rattle.cyc_types.specs.Firing.{FiringCall, Raises}
 use Rattle.cyc_types.specs.declared.level.Level.{Level}
 use Rattle.cyc_types.specs.declared.level.Level.TheVariants.{Low, Lock, High}
 use Rattle.cyc_types.proofs.Runs.{folds_on, times_on, goes_on}
@@ -24,12 +25,11 @@ pub no_raises : (way : List FiringCall) → AreRaises [] way → way ≡ []
 no_raises [] a = refl
 no_raises (call ∷ way) a = absurd a
 
-module _ {C R : Type 0} (called : C → ℕ → C → Type 0) (count : C → ℕ → ℕ) (step : R → FiringCall → R → Type 0)
-    (view : R → FiringView) where
+module _ {C R : Type 0} (called : C → ℕ → C → Type 0) (count : C → ℕ → ℕ) (firing : Raise R) where
   pub acts_more : (hs ks ws hs' ks' ws' hs'' ks'' ws'' : List ℕ) (s m t : Sides C R)
-      (a : Acts called count step view hs ks ws s m) (b : Acts called count step view hs' ks' ws' m t) →
+      (a : Acts called count firing hs ks ws s m) (b : Acts called count firing hs' ks' ws' m t) →
       hs'' ≡ hs ++ hs' → ks'' ≡ ks ++ ks' → ws'' ≡ ws ++ ws' →
-      (c : Acts called count step view hs'' ks'' ws'' s t) × (c.lock_way ≡ a.lock_way ++ b.lock_way)
+      (c : Acts called count firing hs'' ks'' ws'' s t) × (c.lock_way ≡ a.lock_way ++ b.lock_way)
       × (c.low_way ≡ a.low_way ++ b.low_way)
   acts_more hs ks ws hs' ks' ws' hs'' ks'' ws'' s m t a b e f g = (
     record {
@@ -39,8 +39,8 @@ module _ {C R : Type 0} (called : C → ℕ → C → Type 0) (count : C → ℕ
           (folds_on called s.calls hs m.calls hs' t.calls a.called_in_order b.called_in_order);
       counted = λ id. (let x = a.counted id in let y = b.counted id in let z = times_on id hs hs' in let w = ap (times id) e in
           omega (arith, x, y, z, w));
-      lock_goes = goes_on step view s.lock m.lock t.lock a.lock_way b.lock_way a.lock_goes b.lock_goes;
-      low_goes = goes_on step view s.low m.low t.low a.low_way b.low_way a.low_goes b.low_goes;
+      lock_goes = goes_on firing s.lock m.lock t.lock a.lock_way b.lock_way a.lock_goes b.lock_goes;
+      low_goes = goes_on firing s.low m.low t.low a.low_way b.low_way a.low_goes b.low_goes;
       lock_raises = subst (λ xs. AreRaises xs (a.lock_way ++ b.lock_way)) (sym f)
           (raises_on ks ks' a.lock_way b.lock_way a.lock_raises b.lock_raises);
       low_raises = subst (λ xs. AreRaises xs (a.low_way ++ b.low_way)) (sym g)
@@ -51,7 +51,7 @@ module _ {C R : Type 0} (called : C → ℕ → C → Type 0) (count : C → ℕ
   )
 
   pub act_high : (id : ℕ) (c c' : C) (k w : R) → called c id c' → ((q : ℕ) → count c' q ≡ count c q + times q (id ∷ [])) →
-      (a : Acts called count step view (id ∷ []) [] [] (record { calls = c; lock = k; low = w })
+      (a : Acts called count firing (id ∷ []) [] [] (record { calls = c; lock = k; low = w })
       (record { calls = c'; lock = k; low = w })) × (0 ≡ way_losses a.lock_way + way_losses a.low_way)
   act_high id c c' k w h n = (
     record {
@@ -68,8 +68,8 @@ module _ {C R : Type 0} (called : C → ℕ → C → Type 0) (count : C → ℕ
     omega arith,
   )
 
-  pub act_lock : (id : ℕ) (c : C) (k k' w : R) (n : ℕ) → RaisedOnce step view id k k' n →
-      (a : Acts called count step view [] (id ∷ []) [] (record { calls = c; lock = k; low = w })
+  pub act_lock : (id : ℕ) (c : C) (k k' w : R) (n : ℕ) → RaisedOnce firing id k k' n →
+      (a : Acts called count firing [] (id ∷ []) [] (record { calls = c; lock = k; low = w })
       (record { calls = c; lock = k'; low = w })) × (n ≡ way_losses a.lock_way + way_losses a.low_way)
   act_lock id c k k' w n (answer, taught, is) = (
     record {
@@ -85,8 +85,8 @@ module _ {C R : Type 0} (called : C → ℕ → C → Type 0) (count : C → ℕ
     omega (arith, is),
   )
 
-  pub act_low : (id : ℕ) (c : C) (k w w' : R) (n : ℕ) → RaisedOnce step view id w w' n →
-      (a : Acts called count step view [] [] (id ∷ []) (record { calls = c; lock = k; low = w })
+  pub act_low : (id : ℕ) (c : C) (k w w' : R) (n : ℕ) → RaisedOnce firing id w w' n →
+      (a : Acts called count firing [] [] (id ∷ []) (record { calls = c; lock = k; low = w })
       (record { calls = c; lock = k; low = w' })) × (n ≡ way_losses a.lock_way + way_losses a.low_way)
   act_low id c k w w' n (answer, taught, is) = (
     record {
@@ -103,24 +103,23 @@ module _ {C R : Type 0} (called : C → ℕ → C → Type 0) (count : C → ℕ
   )
 
 -- one expiration at its level
-module _ {C R : Type 0} (called : C → ℕ → C → Type 0) (count : C → ℕ → ℕ) (step : R → FiringCall → R → Type 0)
-    (view : R → FiringView) where
+module _ {C R : Type 0} (called : C → ℕ → C → Type 0) (count : C → ℕ → ℕ) (firing : Raise R) where
   abbrev pub One : Level → ℕ → Sides C R → Sides C R → ℕ → Type 0
-  One l id s s' n = (a : Acts called count step view (id_at High l id) (id_at Lock l id) (id_at Low l id) s s')
+  One l id s s' n = (a : Acts called count firing (id_at High l id) (id_at Lock l id) (id_at Low l id) s s')
       × (n ≡ way_losses a.lock_way + way_losses a.low_way)
 
   pub one_high : (l : Level) (id : ℕ) (c c' : C) (k w : R) → l ≡ High → called c id c'
       → ((q : ℕ) → count c' q ≡ count c q + times q (id ∷ [])) →
       One l id (record { calls = c; lock = k; low = w }) (record { calls = c'; lock = k; low = w }) 0
   one_high l id c c' k w is h n = subst (λ x. One x id (record { calls = c; lock = k; low = w })
-      (record { calls = c'; lock = k; low = w }) 0) (sym is) (act_high called count step view id c c' k w h n)
+      (record { calls = c'; lock = k; low = w }) 0) (sym is) (act_high called count firing id c c' k w h n)
 
-  pub one_lock : (l : Level) (id : ℕ) (c : C) (k k' w : R) (n : ℕ) → l ≡ Lock → RaisedOnce step view id k k' n →
+  pub one_lock : (l : Level) (id : ℕ) (c : C) (k k' w : R) (n : ℕ) → l ≡ Lock → RaisedOnce firing id k k' n →
       One l id (record { calls = c; lock = k; low = w }) (record { calls = c; lock = k'; low = w }) n
   one_lock l id c k k' w n is h = subst (λ x. One x id (record { calls = c; lock = k; low = w })
-      (record { calls = c; lock = k'; low = w }) n) (sym is) (act_lock called count step view id c k k' w n h)
+      (record { calls = c; lock = k'; low = w }) n) (sym is) (act_lock called count firing id c k k' w n h)
 
-  pub one_low : (l : Level) (id : ℕ) (c : C) (k w w' : R) (n : ℕ) → l ≡ Low → RaisedOnce step view id w w' n →
+  pub one_low : (l : Level) (id : ℕ) (c : C) (k w w' : R) (n : ℕ) → l ≡ Low → RaisedOnce firing id w w' n →
       One l id (record { calls = c; lock = k; low = w }) (record { calls = c; lock = k; low = w' }) n
   one_low l id c k w w' n is h = subst (λ x. One x id (record { calls = c; lock = k; low = w })
-      (record { calls = c; lock = k; low = w' }) n) (sym is) (act_low called count step view id c k w w' n h)
+      (record { calls = c; lock = k; low = w' }) n) (sym is) (act_low called count firing id c k w w' n h)

@@ -6,7 +6,8 @@ use Rattle.std.proofs.lemmas.Bool.{cases_lt, cases_eq}
 use Rattle.std.proofs.lemmas.Bool.Decides.{nat_tests}
 use Rattle.std.proofs.lemmas.List.{length-set, length-map, get_or-set_same, get_or-set_other, get_or-map, same_lists, map-append}
 use Rattle.std.proofs.lemmas.List.Elements.{filter-append}
-use Rattle.cyc_types.specs.Firing.{FiringView, FiringCall, Admits, Loads, Raises, Marks, Polls, Expands, Looks}
+use Rattle.cyc_types.specs.declared.Raise.{Ghosts as Raise}
+use Rattle.cyc_types.specs.Firing.{FiringCall, Admits, Loads, Raises, Marks, Polls, Expands, Looks}
 use Rattle.cyc_types.specs.Runs.{Goes, lost_by}
 use Rattle.cyc_types.proofs.Runs.{lost_on}
 use Rattle.cyc_types.specs.declared.firing.Raised.TheVariants.{First, More, Lost}
@@ -20,27 +21,28 @@ use Rattle.cyc_fire.proofs.Readying.{Edits, edits}
 use Rattle.cyc_timers.proofs.Tables.{timer_of_row, timers_long}
 
 -- an end that was raised once for the id
-pub raised_edits : {R : Type 0} (step : R → FiringCall → R → Type 0) (view : R → FiringView) (id : ℕ) (e f : R)
+pub raised_edits : {R : Type 0} (firing : Raise R) (id : ℕ) (e f : R)
     (way : List FiringCall) (n : ℕ) →
-    AreRaises (id ∷ []) way → Goes step view e way f → n ≡ way_losses way → Edits (view e) (view f) id n
-raised_edits step view id e f [] n a g is = absurd a
-raised_edits step view id e f (Admits j x ∷ way) n a g is = absurd a.0
-raised_edits step view id e f (Loads j x ∷ way) n a g is = absurd a.0
-raised_edits step view id e f (Marks j x ∷ way) n a g is = absurd a.0
-raised_edits step view id e f (Polls j x ∷ way) n a g is = absurd a.0
-raised_edits step view id e f (Expands x ∷ way) n a g is = absurd a.0
-raised_edits step view id e f (Looks x ∷ way) n a g is = absurd a.0
-raised_edits step view id e f (Raises j x ∷ (c ∷ way)) n a g is = absurd a.1
-raised_edits step view id e f (Raises j x ∷ []) n a (m, (stepped, learns), last) is =
-    subst (λ k. Edits (view e) (view f) id k) (let z : loss_in (Raises j x) ≡ n = omega (arith, is) in z)
-    (subst (λ k. Edits (view e) (view f) k (loss_in (Raises j x))) a.0
-    (subst (λ q. Edits (view e) (view q) j (loss_in (Raises j x))) last (edits (view e) (view m) j x learns)))
+    AreRaises (id ∷ []) way → Goes firing e way f → n ≡ way_losses way → Edits (firing.view e) (firing.view f) id n
+raised_edits firing id e f [] n a g is = absurd a
+raised_edits firing id e f (Admits j x ∷ way) n a g is = absurd a.0
+raised_edits firing id e f (Loads j x ∷ way) n a g is = absurd a.0
+raised_edits firing id e f (Marks j x ∷ way) n a g is = absurd a.0
+raised_edits firing id e f (Polls j x ∷ way) n a g is = absurd a.0
+raised_edits firing id e f (Expands x ∷ way) n a g is = absurd a.0
+raised_edits firing id e f (Looks x ∷ way) n a g is = absurd a.0
+raised_edits firing id e f (Raises j x ∷ (c ∷ way)) n a g is = absurd a.1
+raised_edits firing id e f (Raises j x ∷ []) n a (m, (stepped, learns), last) is =
+    subst (λ k. Edits (firing.view e) (firing.view f) id k) (let z : loss_in (Raises j x) ≡ n = omega (arith, is) in z)
+    (subst (λ k. Edits (firing.view e) (firing.view f) k (loss_in (Raises j x))) a.0
+    (subst (λ q. Edits (firing.view e) (firing.view q) j (loss_in (Raises j x))) last
+    (edits (firing.view e) (firing.view m) j x learns)))
 
 -- an end that was not
-pub same_end : {R : Type 0} (step : R → FiringCall → R → Type 0) (view : R → FiringView) (e f : R) (way : List FiringCall)
-    → AreRaises [] way → Goes step view e way f → (f ≡ e) × (way_losses way ≡ 0)
-same_end step view e f [] a g = (sym g, refl)
-same_end step view e f (c ∷ way) a g = absurd a
+pub same_end : {R : Type 0} (firing : Raise R) (e f : R) (way : List FiringCall)
+    → AreRaises [] way → Goes firing e way f → (f ≡ e) × (way_losses way ≡ 0)
+same_end firing e f [] a g = (sym g, refl)
+same_end firing e f (c ∷ way) a g = absurd a
 
 -- the losses of the id that was raised, and of any other
 pub losses_same : (b : Bool) (id : ℕ) (way : List FiringCall) → AreRaises (cond b (id ∷ []) []) way

@@ -7,7 +7,8 @@ use Rattle.std.proofs.lemmas.Bool.Decides.{nat_tests}
 use Rattle.std.proofs.lemmas.List.{length-set, get_or-set_same, get_or-set_other, get_or_default}
 use Rattle.std.proofs.lemmas.List.Elements.{All-set}
 use Rattle.cyc_types.specs.Series.{never}
-use Rattle.cyc_types.specs.Firing.{FiringView, FiringCall, Raises, Loads, Looks, Learns, Sound, Stay, MayRaise, edited, edit_stay}
+use Rattle.cyc_types.specs.declared.Raise.{Ghosts as Raise}
+use Rattle.cyc_types.specs.Firing.{FiringView, Raises, Loads, Looks, Learns, Sound, Stay, MayRaise, edited, edit_stay}
 use Rattle.cyc_types.specs.Firing.{seen_in}
 use Rattle.cyc_types.specs.Runs.{Goes}
 use Rattle.cyc_types.specs.declared.firing.Raised.{Raised}
@@ -402,13 +403,13 @@ keeps_itself v = record {
   free = refl;
 }
 
-asked_keep : {R : Type 0} (step : R → FiringCall → R → Type 0) (view : R → FiringView) (b : Bool) (id n : ℕ) (e f : R)
-    → Goes step view e (cond b (Loads id n ∷ []) []) f → KeepsStays (view e) (view f)
-asked_keep step view true id n e f (m, (stepped, learns), last) =
-    subst (λ x. KeepsStays (view e) (view x)) last (loads_keep (view e) (view m) id n learns)
-asked_keep step view false id n e f g = subst (λ x. KeepsStays (view e) (view x)) g (keeps_itself (view e))
+asked_keep : {R : Type 0} (firing : Raise R) (b : Bool) (id n : ℕ) (e f : R)
+    → Goes firing e (cond b (Loads id n ∷ []) []) f → KeepsStays (firing.view e) (firing.view f)
+asked_keep firing true id n e f (m, (stepped, learns), last) =
+    subst (λ x. KeepsStays (firing.view e) (firing.view x)) last (loads_keep (firing.view e) (firing.view m) id n learns)
+asked_keep firing false id n e f g = subst (λ x. KeepsStays (firing.view e) (firing.view x)) g (keeps_itself (firing.view e))
 
 -- an end that may have been asked
-pub asks_keep : {R : Type 0} (step : R → FiringCall → R → Type 0) (view : R → FiringView) (l own : Level) (id n : ℕ) (e f : R)
-    → Goes step view e (asks_at l own id n) f → KeepsStays (view e) (view f)
-asks_keep step view l own id n e f g = asked_keep step view _ id n e f g
+pub asks_keep : {R : Type 0} (firing : Raise R) (l own : Level) (id n : ℕ) (e f : R)
+    → Goes firing e (asks_at l own id n) f → KeepsStays (firing.view e) (firing.view f)
+asks_keep firing l own id n e f g = asked_keep firing _ id n e f g

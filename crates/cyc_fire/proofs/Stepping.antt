@@ -7,7 +7,8 @@ use Rattle.std.proofs.lemmas.Bool.Decides.{nat_tests}
 use Rattle.std.proofs.lemmas.List.{length-set, length-map, get_or-set_same, get_or-set_other, get_or_default, get_or-map, map-set}
 use Rattle.std.proofs.lemmas.List.Elements.{All-set}
 use Rattle.cyc_types.specs.Series.{due, next, never}
-use Rattle.cyc_types.specs.Firing.{FiringView, FiringCall, Sound}
+use Rattle.cyc_types.specs.declared.Raise.{Ghosts as Raise}
+use Rattle.cyc_types.specs.Firing.{Sound}
 use Rattle.cyc_types.specs.declared.level.Level.{Level}
 use Rattle.cyc_types.specs.declared.level.Level.TheVariants.{Low, Lock, High}
 use Rattle.cyc_timers.specs.Expirations.{Expiration, expirations, next_of, is_before}
@@ -122,20 +123,19 @@ rising_set rows i r u is same rising j k d less low =
       | inr ne ↦ ap (λ (y : Row). y.timer.id) (get_or-set_other rows i x u d ne)
     ]
 
-module _ {C R : Type 0} (called : C → ℕ → C → Type 0) (count : C → ℕ → ℕ) (step : R → FiringCall → R → Type 0)
-    (view : R → FiringView) where
+module _ {C R : Type 0} (called : C → ℕ → C → Type 0) (count : C → ℕ → ℕ) (firing : Raise R) where
   -- what holds of a fire that has made these expirations
   pub record Turns (now size most : ℕ) (lock_marked low_marked : Option ℕ) (rows0 : List Row) (s0 : Sides C R)
       (made : List Expiration) (rows : List Row) (s : Sides C R) (lost : ℕ) : Type 0 where
     pub rising : IsRising rows
     pub sound : All IsSound (timers_of rows)
-    pub ready : IsReady view size most lock_marked low_marked s.lock s.low rows
-    pub firing : Firing now made (timers_of rows0) (timers_of rows)
-    pub makes : Makes called count step view now made (cyclics_of rows0) (cyclics_of rows) s0 s lost
+    pub ready : IsReady firing.view size most lock_marked low_marked s.lock s.low rows
+    pub fires : Firing now made (timers_of rows0) (timers_of rows)
+    pub makes : Makes called count firing now made (cyclics_of rows0) (cyclics_of rows) s0 s lost
     pub few : lost ≤ length made
 
   pub makes_none : (now : ℕ) (cs : List Cyclic) (s : Sides C R) → Firing now [] (timers cs) (timers cs)
-      → Makes called count step view now [] cs cs s s 0
+      → Makes called count firing now [] cs cs s s 0
   makes_none now cs s f = record {
     acts = record {
       lock_way = [];
@@ -159,41 +159,41 @@ module _ {C R : Type 0} (called : C → ℕ → C → Type 0) (count : C → ℕ
       same (c ∷ cs) = (let e : c.lost ≡ c.lost + 0 + 0 = omega arith in let rest = same cs in λ j. e j ∷ rest j)
 
   lock_step : (l : Level) (size n : ℕ) (marked : Option ℕ) (rows : List Row) (i : ℕ) (r u : Row) (s s' : Sides C R)
-      → r.timer.level ≡ l → (o : One called count step view l r.timer.id s s' n) →
-      IsEnd Lock size marked (view s.lock) rows → IsRising rows → IsRow rows i r → Advances r u n → r.timer.moment < never
-      → (Sound (view s.lock) → Sound (view s'.lock)) →
-      IsEnd Lock size marked (view s'.lock) (set rows i u)
+      → r.timer.level ≡ l → (o : One called count firing l r.timer.id s s' n) →
+      IsEnd Lock size marked (firing.view s.lock) rows → IsRising rows → IsRow rows i r → Advances r u n → r.timer.moment < never
+      → (Sound (firing.view s.lock) → Sound (firing.view s'.lock)) →
+      IsEnd Lock size marked (firing.view s'.lock) (set rows i u)
   lock_step High size n marked rows i r u s s' at (a, is) ready rising is_r adv soon sound =
-      subst (λ x. IsEnd Lock size marked (view x) (set rows i u))
-      (sym (same_end step view s.lock s'.lock a.lock_way a.lock_raises a.lock_goes).0)
-      (end_other Lock size marked (view s.lock) rows i r u n ready rising is_r adv soon (λ q. let no : ⊥ = cc in no))
+      subst (λ x. IsEnd Lock size marked (firing.view x) (set rows i u))
+      (sym (same_end firing s.lock s'.lock a.lock_way a.lock_raises a.lock_goes).0)
+      (end_other Lock size marked (firing.view s.lock) rows i r u n ready rising is_r adv soon (λ q. let no : ⊥ = cc in no))
   lock_step Low size n marked rows i r u s s' at (a, is) ready rising is_r adv soon sound =
-      subst (λ x. IsEnd Lock size marked (view x) (set rows i u))
-      (sym (same_end step view s.lock s'.lock a.lock_way a.lock_raises a.lock_goes).0)
-      (end_other Lock size marked (view s.lock) rows i r u n ready rising is_r adv soon (λ q. let no : ⊥ = cc in no))
+      subst (λ x. IsEnd Lock size marked (firing.view x) (set rows i u))
+      (sym (same_end firing s.lock s'.lock a.lock_way a.lock_raises a.lock_goes).0)
+      (end_other Lock size marked (firing.view s.lock) rows i r u n ready rising is_r adv soon (λ q. let no : ⊥ = cc in no))
   lock_step Lock size n marked rows i r u s s' at (a, is) ready rising is_r adv soon sound =
-      let none = (same_end step view s.low s'.low a.low_way a.low_raises a.low_goes).1 in
-      end_raised Lock size marked (view s.lock) rows i r u n ready rising is_r adv soon (view s'.lock)
-      (raised_edits step view r.timer.id s.lock s'.lock a.lock_way n a.lock_raises a.lock_goes (omega (arith, is, none))) at
+      let none = (same_end firing s.low s'.low a.low_way a.low_raises a.low_goes).1 in
+      end_raised Lock size marked (firing.view s.lock) rows i r u n ready rising is_r adv soon (firing.view s'.lock)
+      (raised_edits firing r.timer.id s.lock s'.lock a.lock_way n a.lock_raises a.lock_goes (omega (arith, is, none))) at
       (sound ready.sound)
 
   low_step : (l : Level) (size n : ℕ) (marked : Option ℕ) (rows : List Row) (i : ℕ) (r u : Row) (s s' : Sides C R)
-      → r.timer.level ≡ l → (o : One called count step view l r.timer.id s s' n) →
-      IsEnd Low size marked (view s.low) rows → IsRising rows → IsRow rows i r → Advances r u n → r.timer.moment < never
-      → (Sound (view s.low) → Sound (view s'.low)) →
-      IsEnd Low size marked (view s'.low) (set rows i u)
+      → r.timer.level ≡ l → (o : One called count firing l r.timer.id s s' n) →
+      IsEnd Low size marked (firing.view s.low) rows → IsRising rows → IsRow rows i r → Advances r u n → r.timer.moment < never
+      → (Sound (firing.view s.low) → Sound (firing.view s'.low)) →
+      IsEnd Low size marked (firing.view s'.low) (set rows i u)
   low_step High size n marked rows i r u s s' at (a, is) ready rising is_r adv soon sound =
-      subst (λ x. IsEnd Low size marked (view x) (set rows i u))
-      (sym (same_end step view s.low s'.low a.low_way a.low_raises a.low_goes).0)
-      (end_other Low size marked (view s.low) rows i r u n ready rising is_r adv soon (λ q. let no : ⊥ = cc in no))
+      subst (λ x. IsEnd Low size marked (firing.view x) (set rows i u))
+      (sym (same_end firing s.low s'.low a.low_way a.low_raises a.low_goes).0)
+      (end_other Low size marked (firing.view s.low) rows i r u n ready rising is_r adv soon (λ q. let no : ⊥ = cc in no))
   low_step Lock size n marked rows i r u s s' at (a, is) ready rising is_r adv soon sound =
-      subst (λ x. IsEnd Low size marked (view x) (set rows i u))
-      (sym (same_end step view s.low s'.low a.low_way a.low_raises a.low_goes).0)
-      (end_other Low size marked (view s.low) rows i r u n ready rising is_r adv soon (λ q. let no : ⊥ = cc in no))
+      subst (λ x. IsEnd Low size marked (firing.view x) (set rows i u))
+      (sym (same_end firing s.low s'.low a.low_way a.low_raises a.low_goes).0)
+      (end_other Low size marked (firing.view s.low) rows i r u n ready rising is_r adv soon (λ q. let no : ⊥ = cc in no))
   low_step Low size n marked rows i r u s s' at (a, is) ready rising is_r adv soon sound =
-      let none = (same_end step view s.lock s'.lock a.lock_way a.lock_raises a.lock_goes).1 in
-      end_raised Low size marked (view s.low) rows i r u n ready rising is_r adv soon (view s'.low)
-      (raised_edits step view r.timer.id s.low s'.low a.low_way n a.low_raises a.low_goes (omega (arith, is, none))) at
+      let none = (same_end firing s.lock s'.lock a.lock_way a.lock_raises a.lock_goes).1 in
+      end_raised Low size marked (firing.view s.low) rows i r u n ready rising is_r adv soon (firing.view s'.low)
+      (raised_edits firing r.timer.id s.low s'.low a.low_way n a.low_raises a.low_goes (omega (arith, is, none))) at
       (sound ready.sound)
 
   -- one turn
@@ -201,8 +201,8 @@ module _ {C R : Type 0} (called : C → ℕ → C → Type 0) (count : C → ℕ
       (rows : List Row) (s s' : Sides C R) (lost n m i : ℕ) (r : Row) →
       Turns now size most lock_marked low_marked rows0 s0 made rows s lost → IsRising rows0 → IsRow rows i r → IsFirstAt rows i
       → r.timer.moment ≤ now → now < never → r.timer.expired < most →
-      Following r.timer.moment r.timer.interval now m → (o : One called count step view r.timer.level r.timer.id s s' n) → n ≤ 1 →
-      (Sound (view s.lock) → Sound (view s'.lock)) → (Sound (view s.low) → Sound (view s'.low)) →
+      Following r.timer.moment r.timer.interval now m → (o : One called count firing r.timer.level r.timer.id s s' n) → n ≤ 1 →
+      (Sound (firing.view s.lock) → Sound (firing.view s'.lock)) → (Sound (firing.view s.low) → Sound (firing.view s'.low)) →
       Turns now size most lock_marked low_marked rows0 s0 (made ++ next_of r.timer ∷ []) (set rows i (row_after r m n)) s'
       (lost + n)
   turn now size most lock_marked low_marked rows0 s0 made rows s s' lost n m i r t rising0 is first reached last less f o one
@@ -215,13 +215,13 @@ module _ {C R : Type 0} (called : C → ℕ → C → Type 0) (count : C → ℕ
       let timer = timer_is rows i r is in
       let old_sound = subst IsSound (sym timer) (t.sound i r.timer low) in
       let new_timers = timers_set rows i u in
-      let firing' = subst (λ xs. Firing now (made ++ next_of r.timer ∷ []) ts xs) (sym new_timers)
-      (fire_step now made ts (timers_of rows) i r.timer u.timer t.firing (distinct rows0 rising0) low timer first
+      let fires' = subst (λ xs. Firing now (made ++ next_of r.timer ∷ []) ts xs) (sym new_timers)
+      (fire_step now made ts (timers_of rows) i r.timer u.timer t.fires (distinct rows0 rising0) low timer first
       (expires now r m n f)) in
-      let (origin_timer, found, level) = origin now made ts (timers_of rows) i r.timer t.firing (distinct rows0 rising0) low timer
+      let (origin_timer, found, level) = origin now made ts (timers_of rows) i r.timer t.fires (distinct rows0 rising0) low timer
       in
       let p = next_of r.timer in
-      let (c, e1, e2) = acts_more called count step view _ _ _ _ _ _ _ _ _ s0 s s' t.makes.acts o.0
+      let (c, e1, e2) = acts_more called count firing _ _ _ _ _ _ _ _ _ s0 s s' t.makes.acts o.0
       (ids_more High ts made p origin_timer r.timer.level found level)
       (ids_more Lock ts made p origin_timer r.timer.level found level)
       (ids_more Low ts made p origin_timer r.timer.level found level) in
@@ -229,9 +229,9 @@ module _ {C R : Type 0} (called : C → ℕ → C → Type 0) (count : C → ℕ
       (cyclics_of rows0) rows i r u r.timer.id n is refl refl
       (λ j d e low_j.
       let l = timers_long rows in
-      let a = same_id now made ts (timers_of rows) j d.timer t.firing.is (omega (arith, l, low_j)) in
+      let a = same_id now made ts (timers_of rows) j d.timer t.fires.is (omega (arith, l, low_j)) in
       let b = ap (λ (x : Timer). x.id) (timer_of_row rows j d.timer e low_j) in
-      let long : length (timers_of rows) ≡ length ts = ap length t.firing.is ∙ length-all now made ts in
+      let long : length (timers_of rows) ≡ length ts = ap length t.fires.is ∙ length-all now made ts in
       let k = length-map (cyclics_of rows0) (λ (x : Cyclic). x.timer) in
       let g = ap (λ (x : Timer). x.id) (get_or-map (λ (x : Cyclic). x.timer) (cyclics_of rows0) j d d.timer
       (omega (arith, l, low_j, long, k))) in
@@ -256,12 +256,12 @@ module _ {C R : Type 0} (called : C → ℕ → C → Type 0) (count : C → ℕ
           low_end = low_step r.timer.level size n low_marked rows i r u s s' refl o t.ready.low_end t.rising is adv soon
               sound_low;
           counted = counted_still most rows i r u n t.ready.counted is adv one less
-              (none_high called count step view r.timer.id n s s' r.timer.level o);
+              (none_high called count firing r.timer.id n s s' r.timer.level o);
         };
-        firing = firing';
+        fires = fires';
         makes = record {
           acts = c;
-          timers_are = firing'.is;
+          timers_are = fires'.is;
           carried_are = carried_set rows i r u is adv.carried ∙ t.makes.carried_are;
           losses_are = losts ∙ (λ j. map (λ (x : Cyclic). lost_after (sym e1 j) (sym e2 j) x.timer.id x.lost) (cyclics_of rows0));
           lost_is = (let a = ap way_losses e1 in let b = ap way_losses e2 in
@@ -277,15 +277,15 @@ module _ {C R : Type 0} (called : C → ℕ → C → Type 0) (count : C → ℕ
       (made : List Expiration) (rows rows' : List Row) (s s' : Sides C R) (lost n m i mo id : ℕ) (r : Row) (kept : Record) →
       Turns now size most lock_marked low_marked rows0 s0 made rows s lost → IsRising rows0 → IsRow rows i r → IsFirstAt rows i
       → r.timer.moment ≡ mo → r.timer.id ≡ id → IsRecordOf kept r → mo ≤ now → now < never →
-      kept.expired < most → Following mo kept.interval now m → One called count step view kept.level id s s' n → n ≤ 1 →
-      (Sound (view s.lock) → Sound (view s'.lock)) → (Sound (view s.low) → Sound (view s'.low)) →
+      kept.expired < most → Following mo kept.interval now m → One called count firing kept.level id s s' n → n ≤ 1 →
+      (Sound (firing.view s.lock) → Sound (firing.view s'.lock)) → (Sound (firing.view s.low) → Sound (firing.view s'.low)) →
       rows' ≡ set rows i (with_counts m (kept.expired + 1) (kept.lost + n) r) →
       Turns now size most lock_marked low_marked rows0 s0 (made ++ next_of r.timer ∷ []) rows' s' (lost + n)
   turn_written now size most lock_marked low_marked rows0 s0 made rows rows' s s' lost n m i mo id r kept t rising0 is first
       moment named of reached last less f o one sound_lock sound_low written_is =
       let f' = subst (λ x. Following x r.timer.interval now m) (sym moment) (subst (λ x. Following mo x now m) of.1 f) in
-      let o' = subst (λ x. One called count step view r.timer.level x s s' n) (sym named)
-      (subst (λ l. One called count step view l id s s' n) of.0 o) in
+      let o' = subst (λ x. One called count firing r.timer.level x s s' n) (sym named)
+      (subst (λ l. One called count firing l id s s' n) of.0 o) in
       let e = of.2 in
       subst (λ xs. Turns now size most lock_marked low_marked rows0 s0 (made ++ next_of r.timer ∷ []) xs s' (lost + n))
       (sym (written_is ∙ ap (set rows i) (written r m n kept of)))

@@ -2,7 +2,8 @@
 use Rattle.std.specs.Prelude.{◌≡◌, ℕ, ◌+◌, ◌==◌, Bool, true, false, cond, List, [], ◌∷◌, map, filter, find, Option, Some, None}
 use Rattle.std.specs.List.{FoldsTo}
 use Rattle.cyc_types.specs.Counting.{times}
-use Rattle.cyc_types.specs.Firing.{FiringView, FiringCall, Admits, Loads, Raises, Marks, Polls, Expands, Looks}
+use Rattle.cyc_types.specs.declared.Raise.{Ghosts as Raise}
+use Rattle.cyc_types.specs.Firing.{FiringCall, Admits, Loads, Raises, Marks, Polls, Expands, Looks}
 use Rattle.cyc_types.specs.Runs.{Taught, Goes, lost_by}
 use Rattle.cyc_types.specs.declared.firing.Raised.{Raised}
 use Rattle.cyc_types.specs.declared.firing.Raised.TheVariants.{First, More, Lost}
@@ -84,22 +85,21 @@ way_losses (call ∷ way) = loss_in call + way_losses way
 
 -- the handlers of the ids `high` were called, the lock end was raised for the ids `locks` and the low end for the ids
 -- `lows`, each list in order; and nothing else was done to the three
-pub record Acts {C R : Type 0} (called : C → ℕ → C → Type 0) (count : C → ℕ → ℕ) (step : R → FiringCall → R → Type 0)
-    (view : R → FiringView)
+pub record Acts {C R : Type 0} (called : C → ℕ → C → Type 0) (count : C → ℕ → ℕ) (firing : Raise R)
     (high locks lows : List ℕ) (s s' : Sides C R) : Type 0 where
   -- what each end did, call by call
   pub lock_way : List FiringCall
   pub low_way : List FiringCall
   pub called_in_order : FoldsTo called s.calls high s'.calls
   pub counted : (id : ℕ) → count s'.calls id ≡ count s.calls id + times id high
-  pub lock_goes : Goes step view s.lock lock_way s'.lock
-  pub low_goes : Goes step view s.low low_way s'.low
+  pub lock_goes : Goes firing s.lock lock_way s'.lock
+  pub low_goes : Goes firing s.low low_way s'.low
   pub lock_raises : AreRaises locks lock_way
   pub low_raises : AreRaises lows low_way
 
 -- an end was raised once for this id, and this many were lost
-abbrev pub RaisedOnce : {R : Type 0} → (R → FiringCall → R → Type 0) → (R → FiringView) → ℕ → R → R → ℕ → Type 0
-RaisedOnce step view id e f lost = (answer : Raised) × Taught step view e (Raises id answer) f
+abbrev pub RaisedOnce : {R : Type 0} → Raise R → ℕ → R → R → ℕ → Type 0
+RaisedOnce firing id e f lost = (answer : Raised) × Taught firing e (Raises id answer) f
     × (lost ≡ loss_in (Raises id answer))
 
 -- the losses of an id after these calls of the two ends

@@ -1,6 +1,6 @@
 -- What a fire does to the cyclics of a CPU, and the counts of each of them.
 use Rattle.std.specs.Prelude.{◌≡◌, ℕ, ◌+◌, ◌<◌, ◌≤◌, List, map, Some}
-use Rattle.cyc_types.specs.Firing.{FiringView, FiringCall}
+use Rattle.cyc_types.specs.declared.Raise.{Ghosts as Raise}
 use Rattle.cyc_types.specs.declared.level.Level.TheVariants.{Low, Lock, High}
 use Rattle.cyc_types.specs.declared.refusal.Refusal.{Refusal}
 use Rattle.cyc_types.specs.declared.refusal.Refusal.TheVariants as why
@@ -19,10 +19,9 @@ pub record HasCounts (most : ℕ) (c : Cyclic) : Type 0 where
 
 -- these expirations of a fire at now were made: each cyclic stands where they leave it, the handlers of the high ones were
 -- called, the others were raised at their ends, and each id lost what its raises lost
-pub record Makes {C R : Type 0} (called : C → ℕ → C → Type 0) (count : C → ℕ → ℕ) (step : R → FiringCall → R → Type 0)
-    (view : R → FiringView)
+pub record Makes {C R : Type 0} (called : C → ℕ → C → Type 0) (count : C → ℕ → ℕ) (firing : Raise R)
     (now : ℕ) (made : List Expiration) (cs cs' : List Cyclic) (s s' : Sides C R) (lost : ℕ) : Type 0 where
-  pub acts : Acts called count step view (ids_at High (timers cs) made) (ids_at Lock (timers cs) made)
+  pub acts : Acts called count firing (ids_at High (timers cs) made) (ids_at Lock (timers cs) made)
       (ids_at Low (timers cs) made) s s'
   pub timers_are : timers cs' ≡ all_after now made (timers cs)
   pub carried_are : map (λ c. c.carried) cs' ≡ map (λ c. c.carried) cs

@@ -57,7 +57,7 @@ fn following(moment: Moment, interval: Interval, now: Moment) -> Moment
 #[inline(always)]
 fn raise_once<R: Raise>(end: &mut R, id: CyclicId) -> u64
     requires { MayRaise id (R.view end.old) }
-    ensures raised { RaisedOnce R.step R.view id end.old end.new result }
+    ensures raised { RaisedOnce R.Raise id end.old end.new result }
     ensures few { result ≤ 1 }
     ensures sound { Sound (R.view end.new) }
 {
@@ -77,7 +77,7 @@ pub fn expire_at<C: Calls, R: Raise>(
 ) -> Result<u64, Refused>
     requires lock { level ≡ Lock → MayRaise id (R.view lock.old) }
     requires low { level ≡ Low → MayRaise id (R.view low.old) }
-    ensures acts { IfOk result (λ lost. (a : Acts (at_level C.called High) C.count R.step R.view (id_at High level id)
+    ensures acts { IfOk result (λ lost. (a : Acts (at_level C.called High) C.count R.Raise (id_at High level id)
         (id_at Lock level id) (id_at Low level id)
         (record { calls = calls.old; lock = lock.old; low = low.old })
         (record { calls = calls.new; lock = lock.new; low = low.new }))
@@ -167,7 +167,7 @@ pub fn fire_all<C: Calls, R: Raise>(
     // The whole list was made, and no more.
     ensures expired { IfOk result (λ r. r.expired ≡ length (expirations now (timers_of table.old.rows))) }
     ensures next { IfOk result (λ r. r.next ≡ earliest (timers_of table.new.rows)) }
-    ensures made { IfOk result (λ r. Makes (at_level C.called High) C.count R.step R.view now
+    ensures made { IfOk result (λ r. Makes (at_level C.called High) C.count R.Raise now
         (expirations now (timers_of table.old.rows)) (cyclics_of table.old.rows) (cyclics_of table.new.rows)
         (record { calls = calls.old; lock = lock.old; low = low.old })
         (record { calls = calls.new; lock = lock.new; low = low.new }) r.lost) }
@@ -175,7 +175,7 @@ pub fn fire_all<C: Calls, R: Raise>(
     // The list was made up to an expiration that was refused.
     ensures refused { IfErr result (λ e. (made : List Expiration) × (last : Expiration) × (rest : List Expiration)
         × (expirations now (timers_of table.old.rows) ≡ made ++ last ∷ rest) × (length made ≡ e.expired) × (at : C)
-        × Makes (at_level C.called High) C.count R.step R.view now made (cyclics_of table.old.rows) (cyclics_of table.new.rows)
+        × Makes (at_level C.called High) C.count R.Raise now made (cyclics_of table.old.rows) (cyclics_of table.new.rows)
         (record { calls = calls.old; lock = lock.old; low = low.old })
         (record { calls = at; lock = lock.new; low = low.new }) e.lost
         × ((id : ℕ) → C.count calls.new id ≡ C.count at id)

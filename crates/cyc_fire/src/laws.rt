@@ -21,13 +21,13 @@ use cyc_types::{Calls, Raise};
 /// It does nothing when it runs: its clauses are the law.
 pub fn share_law<C: Calls, R: Raise>()
     ensures lock { (now : ℕ) (made : List Expiration) (cs cs' : List Cyclic) (s s' : Sides C R) (lost : ℕ)
-        (m : Makes (at_level C.called High) C.count R.step R.view now made cs cs' s s' lost)
+        (m : Makes (at_level C.called High) C.count R.Raise now made cs cs' s s' lost)
         → (id : ℕ) → raised_by id m.acts.lock_way ≡ share Lock (timers cs) made id }
     ensures low { (now : ℕ) (made : List Expiration) (cs cs' : List Cyclic) (s s' : Sides C R) (lost : ℕ)
-        (m : Makes (at_level C.called High) C.count R.step R.view now made cs cs' s s' lost)
+        (m : Makes (at_level C.called High) C.count R.Raise now made cs cs' s s' lost)
         → (id : ℕ) → raised_by id m.acts.low_way ≡ share Low (timers cs) made id }
     ensures high { (now : ℕ) (made : List Expiration) (cs cs' : List Cyclic) (s s' : Sides C R) (lost : ℕ)
-        → Makes (at_level C.called High) C.count R.step R.view now made cs cs' s s' lost
+        → Makes (at_level C.called High) C.count R.Raise now made cs cs' s s' lost
         → (id : ℕ) → C.count s'.calls id ≡ C.count s.calls id + share High (timers cs) made id }
     ensures whole { (now : ℕ) (ts : List Timer) → HasDistinctIds ts → (level : TheLevel)
         → All (λ t. share level ts (expirations now ts) t.id

@@ -7,7 +7,7 @@ use Rattle.std.proofs.lemmas.Option.{slice_get_within, get_or_from_slice_get}
 use Rattle.std.proofs.lemmas.List.{length-set}
 use mathlib.Core.Logic.{dite}
 use native.Mathlib.Decide.{ℕ_discrete}
-use Rattle.cyc_types.specs.Firing.{FiringView, FiringCall}
+use Rattle.cyc_types.specs.declared.Raise.{Ghosts as Raise}
 use Rattle.cyc_places.specs.declared.record.Placement.TheVariants.{On}
 use Rattle.cyc_places.specs.declared.record.Record.{Record}
 use Rattle.cyc_places.specs.Places.{RecordsView, IsRecord, HasRisingIds, ended_on}
@@ -30,9 +30,9 @@ placed_at v n id h =
     let (x, at) = get_some (ids_on n v) k low in
     (k, at ∙ ap Some (eq_true x id (ap (λ y. y == id) (sym (get_or_from_slice_get (ids_on n v) k x 0 at)) ∙ passes 0)))
 
-module _ {R : Type 0} (step : R → FiringCall → R → Type 0) (view : R → FiringView) (source : ℕ) (v : CpusView R)
+module _ {R : Type 0} (firing : Raise R) (source : ℕ) (v : CpusView R)
     (rs : RecordsView) (done : ℕ) (w : CpusView R) (qs : RecordsView)
-    (i : Retired step view source v rs done w qs) (components : single_ids source (system_of v rs 0) ≡ [])
+    (i : Retired firing source v rs done w qs) (components : single_ids source (system_of v rs 0) ≡ [])
     (rising : HasRisingIds rs.list) (empty : ids_on source w ≡ [])
     (low : source < length v.cpus) (still_first : removal_on source v ≡ None) (d last : ℕ)
     (chosen : destination (Some source) v ≡ Some d) (a : Agrees (system_of v rs last)) where
@@ -69,7 +69,7 @@ module _ {R : Type 0} (step : R → FiringCall → R → Type 0) (view : R → F
   not_home : (k : ℕ) (bound : Bool) (r : Record) → IsRecord rs.list k r → r.place ≡ On source bound → ⊥
   not_home k bound r is place =
       let (p, spot) = placed_at v source r.id (a.home k source bound r is place) in
-      false_true (ap is_everywhere (sym place) ∙ everywhere_here step view source v rs components rising p k r spot is)
+      false_true (ap is_everywhere (sym place) ∙ everywhere_here firing source v rs components rising p k r spot is)
 
   apart : (n : ℕ) (id : ℕ) → has n id t.cpus ≡ true → n ≢ source
   apart n id h e = none_there id (ap (λ m. has m id t.cpus) (sym e) ∙ h)

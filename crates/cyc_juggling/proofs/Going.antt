@@ -2,7 +2,7 @@
 use Rattle.std.proofs.Common.{◌≡◌, ◌≢◌, ℕ, ◌<◌, ◌≤◌, inl, inr, true, false, Some, None, Ok, Err, [], ◌∷◌, length, slice_set, sym}
 use Rattle.std.proofs.Common.{ap, ◌∙◌, arith}
 use Rattle.std.specs.Option.{option_and_then}
-use Rattle.cyc_types.specs.Firing.{FiringView, FiringCall}
+use Rattle.cyc_types.specs.declared.Raise.{Ghosts as Raise}
 use Rattle.cyc_types.specs.declared.refusal.Refusal.{Refusal}
 use Rattle.cyc_types.specs.declared.refusal.Refusal.TheVariants as why
 use Rattle.cyc_agreement.specs.Cpu.{CpuView, HasNoCyclic}
@@ -58,32 +58,32 @@ module _ {R : Type 0} (s : SystemView R) (a : Agrees s) (rising : HasRisingIds s
   pub most : (x y : CpuView R) → IsCpu source x s.cpus → IsCpu d y s.cpus → x.most ≤ y.most
   most x y p q = let e = most_same s source d x y a p q in omega (arith, e)
 
-  module _ (step : R → FiringCall → R → Type 0) (view : R → FiringView) (lawful : (n : ℕ) (cpu : CpuView R) → IsCpu n cpu s.cpus
-      → IsLawful view cpu)
+  module _ (firing : Raise R) (lawful : (n : ℕ) (cpu : CpuView R) → IsCpu n cpu s.cpus
+      → IsLawful firing.view cpu)
       (w : CpusView R) where
-    pub agrees_moved : Shifts step view r.id source d (Ok tt) s.cpus w
+    pub agrees_moved : Shifts firing r.id source d (Ok tt) s.cpus w
         → Agrees (record { cpus = w; records = slice_set s.records k (with_place (On d false) r); last = s.last })
     agrees_moved shifts =
         let (cpu, at) = get_some s.cpus.cpus source low_source in
-        let goes : GoesTo step view r.id source d (Ok tt) s.cpus w = inr ((λ e. apart (sym e)), shifts) in
-        let (but, there, gone) = went step view r.id source d s.cpus w
-        (rise_on view s.cpus source cpu at (lawful source cpu at)) home only goes in
+        let goes : GoesTo firing r.id source d (Ok tt) s.cpus w = inr ((λ e. apart (sym e)), shifts) in
+        let (but, there, gone) = went firing r.id source d s.cpus w
+        (rise_on firing.view s.cpus source cpu at (lawful source cpu at)) home only goes in
         agrees_replaced s k d false false source r w a rising is place but up there gone
 
-    pub agrees_stayed : (e : Refusal) → Shifts step view r.id source d (Err e) s.cpus w
+    pub agrees_stayed : (e : Refusal) → Shifts firing r.id source d (Err e) s.cpus w
         → Agrees (record { cpus = w; records = s.records; last = s.last })
     agrees_stayed e shifts =
         let (cpu, at) = get_some s.cpus.cpus source low_source in
-        let goes : GoesTo step view r.id source d (Err e) s.cpus w = inr ((λ f. apart (sym f)), shifts) in
-        agrees_same s w a (stayed step view r.id source d s.cpus w e
-        (rise_on view s.cpus source cpu at (lawful source cpu at)) goes)
+        let goes : GoesTo firing r.id source d (Err e) s.cpus w = inr ((λ f. apart (sym f)), shifts) in
+        agrees_same s w a (stayed firing r.id source d s.cpus w e
+        (rise_on firing.view s.cpus source cpu at (lawful source cpu at)) goes)
 
 -- where no removal is open at the source and no call was found outstanding, the destination refused it
-pub refused : {R : Type 0} (step : R → FiringCall → R → Type 0) (view : R → FiringView) (id source d : ℕ) (v w : CpusView R)
+pub refused : {R : Type 0} (firing : Raise R) (id source d : ℕ) (v w : CpusView R)
     (e : Refusal) → removal_on source v ≡ None → e ≢ why.Pending
-    → Shifts step view id source d (Err e) v w
-    → Works step view (on source (AskPending id (Some 0)) ∷ on d (Reserve 1 (Err e)) ∷ []) v w
-refused step view id source d v w e still ne (inl (removed, (cpu, at, is), busy, same)) =
+    → Shifts firing id source d (Err e) v w
+    → Works firing (on source (AskPending id (Some 0)) ∷ on d (Reserve 1 (Err e)) ∷ []) v w
+refused firing id source d v w e still ne (inl (removed, (cpu, at, is), busy, same)) =
     absurd (none_some (sym still ∙ ap (λ o. option_and_then (λ x. x.removal) o) at ∙ is))
-refused step view id source d v w e still ne (inr (inl (none, n, some, is, works))) = absurd (ne is)
-refused step view id source d v w e still ne (inr (inr (none, works))) = works
+refused firing id source d v w e still ne (inr (inl (none, n, some, is, works))) = absurd (ne is)
+refused firing id source d v w e still ne (inr (inr (none, works))) = works

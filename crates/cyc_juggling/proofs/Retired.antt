@@ -8,7 +8,8 @@ use Rattle.std.proofs.lemmas.Option.{slice_get-map, slice_get-get_or, slice_get_
 use Rattle.std.proofs.lemmas.List.{length-set, get_or-set_other}
 use mathlib.Core.Logic.{dite}
 use native.Mathlib.Decide.{ℕ_discrete}
-use Rattle.cyc_types.specs.Firing.{FiringView, FiringCall, Stay, Loads, Marks, Polls, seen_in, seen_of, saw}
+use Rattle.cyc_types.specs.declared.Raise.{Ghosts as Raise}
+use Rattle.cyc_types.specs.Firing.{FiringView, Stay, Loads, Marks, Polls, seen_in, seen_of, saw}
 use Rattle.cyc_types.specs.Runs.{Goes}
 use Rattle.cyc_types.specs.declared.firing.Sent.{Sent}
 use Rattle.cyc_types.specs.declared.level.Level.TheVariants.{Low, Lock}
@@ -45,23 +46,24 @@ clear_less : (b : Bool) (o : Option Stay) → seen_in (cond b None o) ≤ seen_i
 clear_less true o = omega arith
 clear_less false o = omega arith
 
-module _ {R : Type 0} (step : R → FiringCall → R → Type 0) (view : R → FiringView) where
+module _ {R : Type 0} (firing : Raise R) where
   end_lowers : (b : Bool) (id j : ℕ) (counts : Sent) (e f : R)
-      → Goes step view e (cond b (Loads id 0 ∷ Marks id 0 ∷ Polls id (Some counts) ∷ []) []) f
-      → seen_of j (view f) ≤ seen_of j (view e)
-  end_lowers false id j counts e f same = let x = ap (λ r. seen_of j (view r)) same in omega (arith, x)
+      → Goes firing e (cond b (Loads id 0 ∷ Marks id 0 ∷ Polls id (Some counts) ∷ []) []) f
+      → seen_of j (firing.view f) ≤ seen_of j (firing.view e)
+  end_lowers false id j counts e f same = let x = ap (λ r. seen_of j (firing.view r)) same in omega (arith, x)
   end_lowers true id j counts e f (k, (s1, l1), (m, (s2, l2), (n, (s3, l3), last))) =
-      let a = load_lowers (view e) (view k) id 0 j l1 in
-      let b = load_lowers (view k) (saw id 0 (view k)) id 0 j (l2.0, refl) in
-      let c : seen_of j (view m) ≡ seen_of j (saw id 0 (view k)) = ap (λ (v : FiringView). seen_of j v) l2.1 in
-      let d = clear_less (eqb j id) ((view m).stays j) in
-      let g : seen_of j (view n) ≡ seen_in (cond (eqb j id) None ((view m).stays j)) = ap (λ (v : FiringView). seen_of j v) l3.1
+      let a = load_lowers (firing.view e) (firing.view k) id 0 j l1 in
+      let b = load_lowers (firing.view k) (saw id 0 (firing.view k)) id 0 j (l2.0, refl) in
+      let c : seen_of j (firing.view m) ≡ seen_of j (saw id 0 (firing.view k)) = ap (λ (v : FiringView). seen_of j v) l2.1 in
+      let d = clear_less (eqb j id) ((firing.view m).stays j) in
+      let g : seen_of j (firing.view n) ≡ seen_in (cond (eqb j id) None ((firing.view m).stays j)) =
+      ap (λ (v : FiringView). seen_of j v) l3.1
       in
-      let h = ap (λ r. seen_of j (view r)) last in
+      let h = ap (λ r. seen_of j (firing.view r)) last in
       omega (arith, a, b, c, d, g, h)
 
-  pub taken_lowers : (id j : ℕ) (taken : Taken) (x y : CpuView R) → TakesNow step view id taken x y
-      → seen_at view j y ≤ seen_at view j x
+  pub taken_lowers : (id j : ℕ) (taken : Taken) (x y : CpuView R) → TakesNow firing id taken x y
+      → seen_at firing.view j y ≤ seen_at firing.view j x
   taken_lowers id j taken x y (c, counts, is, polled, l) =
       let lock = end_lowers (same_level Lock c.timer.level) id j counts x.lock y.lock l.goes.0 in
       let low = end_lowers (same_level Low c.timer.level) id j counts x.low y.low l.goes.1 in omega (arith, lock, low)
@@ -76,11 +78,11 @@ removed_was (x ∷ cs) (suc p) (suc k) c (low, is) = let (j, (less, same)) = rem
     (suc j, (omega (arith, less), same))
 
 -- the source after a component was taken
-pub taken_off : {R : Type 0} (step : R → FiringCall → R → Type 0) (view : R → FiringView) (source place id : ℕ) (taken : Taken)
+pub taken_off : {R : Type 0} (firing : Raise R) (source place id : ℕ) (taken : Taken)
     (v w : CpusView R) → Rise (ids_on source v)
-    → slice_get (ids_on source v) place ≡ Some id → DoesAt step view v (on source (TakeNow id (Ok taken))) w
+    → slice_get (ids_on source v) place ≡ Some id → DoesAt firing v (on source (TakeNow id (Ok taken))) w
     → Left source place v w
-taken_off step view source place id taken v w rise spot takes =
+taken_off firing source place id taken v w rise spot takes =
     let (c, counts, is, polled, l) = takes.change.1 in
     let before : ids_on source v ≡ ids_of takes.before = Who.ids_there v source takes.before takes.after takes.here in
     let spot2 : slice_get (ids_on source v) l.place ≡ Some id = ap (λ ids. slice_get ids l.place) before
@@ -118,11 +120,11 @@ pub record SameBeside (source : ℕ) (r q : Record) : Type 0 where
   pub ended : (m : ℕ) → m ≢ source → ended_on m q ≡ ended_on m r
   pub single : is_everywhere r.place ≡ false → q ≡ r
 
-module _ {R : Type 0} (step : R → FiringCall → R → Type 0) (view : R → FiringView) (source : ℕ) (v : CpusView R)
+module _ {R : Type 0} (firing : Raise R) (source : ℕ) (v : CpusView R)
     (rs : RecordsView) where
   -- the first `done` components of the source have left it
   pub record Retired (done : ℕ) (w : CpusView R) (qs : RecordsView) : Type 0 where
-    pub run : (last : ℕ) → FoldsTo (Retires step view source) (system_of v rs last) (take done (ids_on source v))
+    pub run : (last : ℕ) → FoldsTo (Retires firing source) (system_of v rs last) (take done (ids_on source v))
         (system_of w qs last)
     pub ids : ids_on source w ≡ drop done (ids_on source v)
     pub elsewhere : (m : ℕ) → m ≢ source → slice_get w.cpus m ≡ slice_get v.cpus m
@@ -130,13 +132,14 @@ module _ {R : Type 0} (step : R → FiringCall → R → Type 0) (view : R → F
     pub there : length w.cpus ≡ length v.cpus
     pub still : removal_on source w ≡ None
     pub most : (n : ℕ) → most_on n w ≡ most_on n v
-    pub quiet_here : OfCpu source (AreQuiet view) w
+    pub quiet_here : OfCpu source (AreQuiet firing.view) w
     pub long : length qs.list ≡ length rs.list
     pub forth : (j : ℕ) (r : Record) → IsRecord rs.list j r → (q : Record) × IsRecord qs.list j q × SameBeside source r q
     pub fresh : (j p : ℕ) (q : Record) → IsRecord qs.list j q → slice_get (ids_on source w) p ≡ Some q.id
         → ended_on source q ≡ no_counts
 
-  pub retired_none : (last : ℕ) → Agrees (system_of v rs last) → removal_on source v ≡ None → OfCpu source (AreQuiet view) v
+  pub retired_none : (last : ℕ) → Agrees (system_of v rs last) → removal_on source v ≡ None
+      → OfCpu source (AreQuiet firing.view) v
       → Retired 0 v rs
   retired_none last a still quiet = record {
     run = λ l. refl;
@@ -155,11 +158,11 @@ module _ {R : Type 0} (step : R → FiringCall → R → Type 0) (view : R → F
   -- the next component can leave, and its record has no counts of the source
   module _ (done id : ℕ) (w : CpusView R) (qs : RecordsView) (i : Retired done w qs)
       (spot : slice_get (ids_on source w) 0 ≡ Some id) where
-    pub may_leave : (cpu : CpuView R) → IsCpu source cpu w → MayLeave view id cpu
+    pub may_leave : (cpu : CpuView R) → IsCpu source cpu w → MayLeave firing.view id cpu
     may_leave cpu at = (let (k, c, is, named) = cyclic_of w source 0 id cpu at spot in record {
       here = (k, c, is, named);
       still = sym (ap (λ o. option_and_then (λ (x : CpuView R). x.removal) o) at) ∙ i.still;
-      quiet = ap (λ j. seen_at view j cpu) (sym named) ∙ i.quiet_here cpu at k c is;
+      quiet = ap (λ j. seen_at firing.view j cpu) (sym named) ∙ i.quiet_here cpu at k c is;
     })
 
     pub record_there : (last : ℕ) → Agrees (system_of v rs last) → (k : ℕ) × (q : Record) × IsRecord qs.list k q × (q.id ≡ id)
@@ -182,23 +185,23 @@ module _ {R : Type 0} (step : R → FiringCall → R → Type 0) (view : R → F
 
     module _ (done id : ℕ) (w x : CpusView R) (qs ps : RecordsView) (i : Retired done w qs) (rise : Rise (ids_on source w))
         (spot : slice_get (ids_on source w) 0 ≡ Some id)
-        (did : (last : ℕ) → Retires step view source (system_of w qs last) id (system_of x ps last)) where
+        (did : (last : ℕ) → Retires firing source (system_of w qs last) id (system_of x ps last)) where
       first : slice_get (ids_on source v) done ≡ Some id
       first = first_at (ids_on source w) (ids_on source v) 0 done id i.ids spot
 
       pub retired_more : Retired (done + 1) x ps
       retired_more =
           let (taken, takes, k, r, is, named, list, last) = did 0 in
-          let off = taken_off step view source 0 id taken w x rise spot takes in
+          let off = taken_off firing source 0 id taken w x rise spot takes in
           let (c, counts, is_taken, polled, l) = takes.change.1 in
           let ids_now : ids_on source x ≡ drop 1 (ids_on source w) = off.ids ∙ cut (ids_on source w) in
           let kept : (m : ℕ) → most_on m x ≡ most_on m w = λ m. ap (λ u. most_on m u) takes.rest
           ∙ Who.kept_at w source takes.before takes.after takes.here (λ o. option_map (λ (cpu : CpuView R). cpu.most) o)
           (ap Some l.most) m in
           record {
-            run = λ n. subst (λ ids. FoldsTo (Retires step view source) (system_of v rs n) ids (system_of x ps n))
+            run = λ n. subst (λ ids. FoldsTo (Retires firing source) (system_of v rs n) ids (system_of x ps n))
                 (sym (take_more (ids_on source v) done id first))
-                (folds_more (Retires step view source) (system_of v rs n) (take done (ids_on source v)) (system_of w qs n) id
+                (folds_more (Retires firing source) (system_of v rs n) (take done (ids_on source v)) (system_of w qs n) id
                 (system_of x ps n) (i.run n) (did n));
             ids = ids_now ∙ rest_after (ids_on source w) (ids_on source v) 0 done id i.ids spot;
             elsewhere = λ m ne. beside source m _ w x ne takes ∙ i.elsewhere m ne;
@@ -206,13 +209,13 @@ module _ {R : Type 0} (step : R → FiringCall → R → Type 0) (view : R → F
             there = off.there ∙ i.there;
             still = off.still;
             most = λ n. kept n ∙ i.most n;
-            quiet_here = subst (λ u. OfCpu source (AreQuiet view) u) (sym takes.rest)
-                (of_cpu source (AreQuiet view) takes.after (with_cpu w source takes.after)
+            quiet_here = subst (λ u. OfCpu source (AreQuiet firing.view) u) (sym takes.rest)
+                (of_cpu source (AreQuiet firing.view) takes.after (with_cpu w source takes.after)
                 (cpu_there source takes.before takes.after w takes.here)
                 (λ j d at. (let (b, was) = removed_was takes.before.cyclics l.place j d
                 (subst (λ cs. IsCyclic cs j d) l.cyclics at) in
                 let z = i.quiet_here takes.before takes.here b d was in let low =
-                taken_lowers step view id d.timer.id taken takes.before takes.after takes.change.1 in
+                taken_lowers firing id d.timer.id taken takes.before takes.after takes.change.1 in
                 omega (arith, z, low))));
             long = ap length list ∙ length-set qs.list k _ ∙ i.long;
             forth = λ j q at. forth_at k r (summed (ended_on source r) taken.sent) is named list j q at (i.forth j q at);

@@ -8,7 +8,7 @@ use Rattle.std.proofs.lemmas.Option.{slice_get-map, slice_get-get_or, slice_get_
 use Rattle.std.proofs.lemmas.List.{length-set}
 use mathlib.Core.Logic.{dite}
 use native.Mathlib.Decide.{ℕ_discrete}
-use Rattle.cyc_types.specs.Firing.{FiringView, FiringCall}
+use Rattle.cyc_types.specs.declared.Raise.{Ghosts as Raise}
 use Rattle.cyc_types.specs.declared.refusal.Refusal.TheVariants as why
 use Rattle.cyc_agreement.specs.Cpu.{CpuView}
 use Rattle.cyc_agreement.specs.Taken.{Taken}
@@ -93,15 +93,15 @@ pub record Left {R : Type 0} (source place : ℕ) (v w : CpusView R) : Type 0 wh
   pub online : w.online ≡ v.online
   pub there : length w.cpus ≡ length v.cpus
 
-pub left : {R : Type 0} (step : R → FiringCall → R → Type 0) (view : R → FiringView) (id source target place : ℕ)
+pub left : {R : Type 0} (firing : Raise R) (id source target place : ℕ)
     (v w : CpusView R) (taken : Taken)
     → target ≢ source → Rise (ids_on source v) → slice_get (ids_on source v) place ≡ Some id
-    → Works step view (moving id source target taken) v w → Left source place v w
-left step view id source target place v w taken apart rise spot
+    → Works firing (moving id source target taken) v w → Left source place v w
+left firing id source target place v w taken apart rise spot
     (a, asks, (b, reserves, (d, takes, (e, widens, (f, places, last))))) =
     let same = Who.same_then v a b (Who.same_changed source _ v a asks
-    (Who.same_asked step view asks.before asks.after id 0 asks.change.0))
-    (Who.same_changed target _ a b reserves (Who.same_reserve step view reserves.before reserves.after 1 (Ok tt) reserves.change))
+    (Who.same_asked firing asks.before asks.after id 0 asks.change.0))
+    (Who.same_changed target _ a b reserves (Who.same_reserve firing reserves.before reserves.after 1 (Ok tt) reserves.change))
     in
     let (c, counts, is, polled, l) = takes.change.1 in
     let ne : source ≢ target = (λ q. apart (sym q)) in
@@ -126,7 +126,7 @@ left step view id source target place v w taken apart rise spot
       there = sized target _ e f places ∙ sized target _ d e widens ∙ sized source _ b d takes ∙ same.long;
     })
 
-module _ {R : Type 0} (step : R → FiringCall → R → Type 0) (view : R → FiringView) (source place id : ℕ) (s t : SystemView R)
+module _ {R : Type 0} (firing : Raise R) (source place id : ℕ) (s t : SystemView R)
     (rising : HasRisingIds s.records)
     (rise : Rise (ids_on source s.cpus)) (spot : slice_get (ids_on source s.cpus) place ≡ Some id)
     (still : removal_on source s.cpus ≡ None)
@@ -160,21 +160,21 @@ module _ {R : Type 0} (step : R → FiringCall → R → Type 0) (view : R → F
   none_open = let (cpu, at) = get_some s.cpus.cpus source low in
       (cpu, at, sym (ap (λ o. option_and_then (λ (x : CpuView _). x.removal) o) at) ∙ still)
 
-  pub stepped : (turn : Option Turn) → Visits step view source id turn s t → Stepped source place turn s t
+  pub stepped : (turn : Option Turn) → Visits firing source id turn s t → Stepped source place turn s t
   stepped None (omni, is) = same None refl is
   stepped (Some StaysBound) (single, (home, is)) = same (Some StaysBound) refl is
   stepped (Some StaysPending) (single, (home, n, some, (works, records, last))) =
-      who (Some StaysPending) refl (unmoved step view id source (suc source) s.cpus t.cpus
+      who (Some StaysPending) refl (unmoved firing id source (suc source) s.cpus t.cpus
       (λ e. absurd (omega (arith, e))) rise why.Pending (inr (inl (none_open, n, some, refl, works)))) records
   stepped (Some StaysRefused) (single, (home, d, chosen, e, (works, records, last))) =
-      who (Some StaysRefused) refl (unmoved step view id source d s.cpus t.cpus
+      who (Some StaysRefused) refl (unmoved firing id source d s.cpus t.cpus
       (λ q. (destination_fits (Some source) s.cpus d chosen).1 (ap Some (sym q))) rise e (inr (inr (none_open, works))))
       records
   stepped (Some Moves) (single, (home, d, chosen, (taken, works), (k, r, is, named, records, last))) =
       let (j, x, at, same, place_is) = home in
       let e : x ≡ r = same_some (sym at ∙ subst (λ i. IsRecord s.records i r)
       (sym (one_record s.records k j r x rising is at (same ∙ sym named))) is) in
-      let l = left step view id source d place s.cpus t.cpus taken
+      let l = left firing id source d place s.cpus t.cpus taken
       (λ q. (destination_fits (Some source) s.cpus d chosen).1 (ap Some (sym q))) rise spot works in record {
         ids = l.ids;
         still = l.still;
@@ -184,7 +184,7 @@ module _ {R : Type 0} (step : R → FiringCall → R → Type 0) (view : R → F
             (find (λ (y : Record). y.id == q) rs) false) records
             ∙ replaced q k s.records r (with_place (On d false) r) is refl
             (sym (ap (λ (y : Record). is_everywhere y.place) (sym e) ∙ ap is_everywhere place_is));
-        most = (moved step view id source d s.cpus t.cpus
+        most = (moved firing id source d s.cpus t.cpus
             (λ q. (destination_fits (Some source) s.cpus d chosen).1 (ap Some (sym q))) rise taken works).but.most;
         ended = λ m y held. ended_at d k r is records m y held;
       }

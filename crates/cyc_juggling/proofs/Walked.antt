@@ -2,7 +2,7 @@
 use Rattle.std.proofs.Common.{◌≡◌, ℕ, ◌+◌, ◌<◌, ◌≤◌, Bool, true, false, not, Option, Some, None, List, [], ◌∷◌, ◌++◌, inl, length}
 use Rattle.std.proofs.Common.{filter, take, drop, refl, sym, ap, ◌∙◌, subst, arith}
 use Rattle.std.specs.List.{slice_get}
-use Rattle.cyc_types.specs.Firing.{FiringView, FiringCall}
+use Rattle.cyc_types.specs.declared.Raise.{Ghosts as Raise}
 use Rattle.cyc_types.specs.declared.refusal.JuggleReport.{JuggleReport}
 use Rattle.cyc_places.specs.declared.record.Record.{Record}
 use Rattle.cyc_places.specs.Places.{RecordsView, IsRecord, HasRisingIds, ended_on}
@@ -40,20 +40,20 @@ swap Moves StaysPending r = refl
 swap Moves StaysRefused r = refl
 swap Moves Moves r = refl
 
-pub turns_more : {R : Type 0} (step : R → FiringCall → R → Type 0) (view : R → FiringView) (source : ℕ) (ids : List ℕ)
+pub turns_more : {R : Type 0} (firing : Raise R) (source : ℕ) (ids : List ℕ)
     (report : JuggleReport) (s t u : SystemView R) (id : ℕ) (turn : Turn)
-    → Turns step view source ids report s t → TakesTurn step view source id turn t u
-    → Turns step view source (ids ++ id ∷ []) (counted turn report) s u
-turns_more step view source [] report s t u id turn (is, same) takes =
-    (turn, u, no_turns, subst (λ x. TakesTurn step view source id turn x u) same takes, ap (counted turn) is, (refl, refl))
-turns_more step view source (j ∷ ids) report s t u id turn (first, m, rest, takes, is, more) last = (
+    → Turns firing source ids report s t → TakesTurn firing source id turn t u
+    → Turns firing source (ids ++ id ∷ []) (counted turn report) s u
+turns_more firing source [] report s t u id turn (is, same) takes =
+    (turn, u, no_turns, subst (λ x. TakesTurn firing source id turn x u) same takes, ap (counted turn) is, (refl, refl))
+turns_more firing source (j ∷ ids) report s t u id turn (first, m, rest, takes, is, more) last = (
   first,
   m,
   counted turn rest,
   takes,
   ap (counted turn) is
       ∙ swap turn first rest,
-  turns_more step view source ids rest m t u id turn more last,
+  turns_more firing source ids rest m t u id turn more last,
 )
 
 total_more : (turn : Turn) (r : JuggleReport) → all_turns (counted turn r) ≡ all_turns r + 1
@@ -69,10 +69,10 @@ abbrev pub is_single : {R : Type 0} → CpusView R → RecordsView → ℕ → B
 is_single v rs id = not (is_omnipresent id (system_of v rs 0))
 
 -- the first `done` of the source's ids had their turns, and `place` of them are still there
-pub record Walked {R : Type 0} (step : R → FiringCall → R → Type 0) (view : R → FiringView) (source : ℕ) (v : CpusView R)
+pub record Walked {R : Type 0} (firing : Raise R) (source : ℕ) (v : CpusView R)
     (rs : RecordsView)
     (done place : ℕ) (report : JuggleReport) (w : CpusView R) (qs : RecordsView) : Type 0 where
-  pub run : (last : ℕ) → Turns step view source (filter (is_single v rs) (take done (ids_on source v))) report
+  pub run : (last : ℕ) → Turns firing source (filter (is_single v rs) (take done (ids_on source v))) report
       (system_of v rs last) (system_of w qs last)
   pub agrees : (last : ℕ) → Agrees (system_of v rs last) → Agrees (system_of w qs last)
   pub rest : drop place (ids_on source w) ≡ drop done (ids_on source v)
@@ -84,9 +84,9 @@ pub record Walked {R : Type 0} (step : R → FiringCall → R → Type 0) (view 
   pub still : removal_on source w ≡ None
   pub within : (last : ℕ) → EndedWithin (system_of v rs last) → EndedWithin (system_of w qs last)
 
-module _ {R : Type 0} (step : R → FiringCall → R → Type 0) (view : R → FiringView) (source : ℕ) (v : CpusView R)
+module _ {R : Type 0} (firing : Raise R) (source : ℕ) (v : CpusView R)
     (rs : RecordsView) where
-  pub walked_none : removal_on source v ≡ None → Walked step view source v rs 0 0 no_turns v rs
+  pub walked_none : removal_on source v ≡ None → Walked firing source v rs 0 0 no_turns v rs
   walked_none still = record {
     run = λ last. (refl, refl);
     agrees = λ last a. a;
@@ -101,16 +101,16 @@ module _ {R : Type 0} (step : R → FiringCall → R → Type 0) (view : R → F
   }
 
   module _ (done place next : ℕ) (report after : JuggleReport) (w x : CpusView R) (qs ps : RecordsView)
-      (i : Walked step view source v rs done place report w qs)
+      (i : Walked firing source v rs done place report w qs)
       (rising : HasRisingIds qs.list) (rise : Rise (ids_on source w)) (low : source < length w.cpus)
       (agrees : (last : ℕ) → Agrees (system_of w qs last) → Agrees (system_of x ps last)) where
     module _ (id : ℕ) (spot : slice_get (ids_on source w) place ≡ Some id) where
       first : slice_get (ids_on source v) done ≡ Some id
       first = first_at (ids_on source w) (ids_on source v) place done id i.rest spot
 
-      steps : (turn : Option Turn) → ((last : ℕ) → Visits step view source id turn (system_of w qs last) (system_of x ps last))
+      steps : (turn : Option Turn) → ((last : ℕ) → Visits firing source id turn (system_of w qs last) (system_of x ps last))
           → Stepped source place turn (system_of w qs 0) (system_of x ps 0)
-      steps turn visits = stepped step view source place id (system_of w qs 0)
+      steps turn visits = stepped firing source place id (system_of w qs 0)
           (system_of x ps 0) rising rise spot i.still low turn (visits 0)
 
       omni_too : (b : Bool) → is_omnipresent id (system_of w qs 0) ≡ b → is_single v rs id ≡ not b
@@ -126,10 +126,10 @@ module _ {R : Type 0} (step : R → FiringCall → R → Type 0) (view : R → F
       -- it stays where it is
       stays_here : (turn : Option Turn) → Stepped source place turn (system_of w qs 0) (system_of x ps 0)
           → ids_after turn place (ids_on source w) ≡ ids_on source w
-          → (r : JuggleReport) → ((last : ℕ) → Turns step view source
+          → (r : JuggleReport) → ((last : ℕ) → Turns firing source
           (filter (is_single v rs) (take (done + 1) (ids_on source v))) r (system_of v rs last) (system_of x ps last))
           → length (filter (is_single v rs) (take (place + 1) (ids_on source w))) ≡ all_left r → all_turns r ≤ done + 1
-          → Walked step view source v rs (done + 1) (place + 1) r x ps
+          → Walked firing source v rs (done + 1) (place + 1) r x ps
       stays_here turn p same r run stayed few = record {
         run = run;
         agrees = λ last a. agrees last (i.agrees last a);
@@ -143,18 +143,18 @@ module _ {R : Type 0} (step : R → FiringCall → R → Type 0) (view : R → F
         within = λ last h. within_step last p.most p.ended (i.within last h);
       }
 
-      run_more : (turn : Turn) → ((last : ℕ) → Visits step view source id (Some turn) (system_of w qs last) (system_of x ps last))
+      run_more : (turn : Turn) → ((last : ℕ) → Visits firing source id (Some turn) (system_of w qs last) (system_of x ps last))
           → (last : ℕ)
-          → Turns step view source (filter (is_single v rs) (take (done + 1) (ids_on source v))) (counted turn report)
+          → Turns firing source (filter (is_single v rs) (take (done + 1) (ids_on source v))) (counted turn report)
           (system_of v rs last) (system_of x ps last)
-      run_more turn visits last = subst (λ ids. Turns step view source ids (counted turn report) (system_of v rs last)
+      run_more turn visits last = subst (λ ids. Turns firing source ids (counted turn report) (system_of v rs last)
           (system_of x ps last))
           (sym (filter_in (is_single v rs) (ids_on source v) done id first (omni_too false (visits 0).0)))
-          (turns_more step view source (filter (is_single v rs) (take done (ids_on source v))) report (system_of v rs last)
+          (turns_more firing source (filter (is_single v rs) (take done (ids_on source v))) report (system_of v rs last)
           (system_of w qs last) (system_of x ps last) id turn (i.run last) (visits last).1)
 
       stayed_more : (turn : Turn) → ((last : ℕ)
-          → Visits step view source id (Some turn) (system_of w qs last) (system_of x ps last))
+          → Visits firing source id (Some turn) (system_of w qs last) (system_of x ps last))
           → all_left (counted turn report) ≡ all_left report + 1
           → length (filter (is_single v rs) (take (place + 1) (ids_on source w))) ≡ all_left (counted turn report)
       stayed_more turn visits e = ap length (filter_in (is_single v rs) (ids_on source w) place id spot
@@ -164,15 +164,15 @@ module _ {R : Type 0} (step : R → FiringCall → R → Type 0) (view : R → F
       few_more : (turn : Turn) → all_turns (counted turn report) ≤ done + 1
       few_more turn = let a = total_more turn report in let b = i.few in omega (arith, a, b)
 
-      by_turn : (turn : Option Turn) → ((last : ℕ) → Visits step view source id turn (system_of w qs last) (system_of x ps last))
-          → Walked step view source v rs (done + 1) (next_place turn place) (counted_if turn report) x ps
+      by_turn : (turn : Option Turn) → ((last : ℕ) → Visits firing source id turn (system_of w qs last) (system_of x ps last))
+          → Walked firing source v rs (done + 1) (next_place turn place) (counted_if turn report) x ps
       by_turn None visits =
           let out = omni_too true (visits 0).0 in
           let few = i.few in
           stays_here None (steps None visits) refl report
-          (λ last. subst (λ ids. Turns step view source ids report (system_of v rs last) (system_of x ps last))
+          (λ last. subst (λ ids. Turns firing source ids report (system_of v rs last) (system_of x ps last))
           (sym (filter_out (is_single v rs) (ids_on source v) done id first out))
-          (subst (λ t. Turns step view source (filter (is_single v rs) (take done (ids_on source v))) report
+          (subst (λ t. Turns firing source (filter (is_single v rs) (take done (ids_on source v))) report
           (system_of v rs last) t) (sym (visits last).1) (i.run last)))
           (ap length (filter_out (is_single v rs) (ids_on source w) place id spot out) ∙ i.stayed) (omega (arith, few))
       by_turn (Some StaysBound) visits = stays_here (Some StaysBound) (steps (Some StaysBound) visits) refl
@@ -199,19 +199,19 @@ module _ {R : Type 0} (step : R → FiringCall → R → Type 0) (view : R → F
         within = λ last h. within_step last p.most p.ended (i.within last h);
       }
 
-    pub walked_more : VisitsAt step view source place next report after w qs x ps
-        → Walked step view source v rs (done + 1) next after x ps
+    pub walked_more : VisitsAt firing source place next report after w qs x ps
+        → Walked firing source v rs (done + 1) next after x ps
     walked_more (id, spot, turn, visits, counts, place_is) =
-        subst (λ n. Walked step view source v rs (done + 1) n after x ps) (sym place_is)
-        (subst (λ r. Walked step view source v rs (done + 1) (next_place turn place) r x ps) (sym counts)
+        subst (λ n. Walked firing source v rs (done + 1) n after x ps) (sym place_is)
+        (subst (λ r. Walked firing source v rs (done + 1) (next_place turn place) r x ps) (sym counts)
         (by_turn id spot turn visits))
 
   -- all had their turns
   module _ (done place : ℕ) (report : JuggleReport) (w : CpusView R) (qs : RecordsView)
-      (i : Walked step view source v rs done place report w qs) (all : length (ids_on source v) ≤ done) where
-    pub walked_all : (last : ℕ) → Turns step view source (single_ids source (system_of v rs last)) report (system_of v rs last)
+      (i : Walked firing source v rs done place report w qs) (all : length (ids_on source v) ≤ done) where
+    pub walked_all : (last : ℕ) → Turns firing source (single_ids source (system_of v rs last)) report (system_of v rs last)
         (system_of w qs last)
-    walked_all last = subst (λ ids. Turns step view source (filter (is_single v rs) ids) report (system_of v rs last)
+    walked_all last = subst (λ ids. Turns firing source (filter (is_single v rs) ids) report (system_of v rs last)
         (system_of w qs last))
         (take_whole (ids_on source v) done (none_more (ids_on source v) done all)) (i.run last)
 

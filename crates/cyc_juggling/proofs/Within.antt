@@ -6,7 +6,7 @@ use Rattle.std.proofs.lemmas.Option.{slice_get_within}
 use Rattle.std.proofs.lemmas.List.{length-set, get_or-set_same, get_or-set_other, get_or_past}
 use mathlib.Core.Logic.{dite}
 use native.Mathlib.Decide.{ℕ_discrete}
-use Rattle.cyc_types.specs.Firing.{FiringView, FiringCall}
+use Rattle.cyc_types.specs.declared.Raise.{Ghosts as Raise}
 use Rattle.cyc_types.specs.declared.firing.Sent.{Sent}
 use Rattle.cyc_agreement.specs.Cpu.{CpuView}
 use Rattle.cyc_agreement.specs.Taken.{Taken}
@@ -28,9 +28,9 @@ set_either xs i x d = dite (ℕ_discrete (length xs - i) 0)
     (λ z. (let l = length-set xs i x in inr (get_or_past (slice_set xs i x) i d (omega (arith, z, l)))))
     (λ p. inl (get_or-set_same xs i x d (omega (arith, p))))
 
-module _ {R : Type 0} (step : R → FiringCall → R → Type 0) (view : R → FiringView) (source id last : ℕ) (taken : Taken)
+module _ {R : Type 0} (firing : Raise R) (source id last : ℕ) (taken : Taken)
     (v w : CpusView R) (rs qs : RecordsView)
-    (takes : DoesAt step view v (on source (TakeNow id (Ok taken))) w) (few : taken.sent.sent ≤ takes.before.most) where
+    (takes : DoesAt firing v (on source (TakeNow id (Ok taken))) w) (few : taken.sent.sent ≤ takes.before.most) where
   kept : (n : ℕ) → most_on n w ≡ most_on n v
   kept n = let (c, counts, is, polled, l) = takes.change.1 in
       ap (λ u. most_on n u) takes.rest ∙ Who.kept_at v source takes.before takes.after takes.here

@@ -1,7 +1,7 @@
 -- How the cyclics of a CPU move to others (cyclic_juggle).
 use Rattle.std.specs.Prelude.{◌≡◌, ℕ, ◌+◌, ◌<◌, nat_le, not, true, false, List, [], ◌∷◌, filter, length, Option, Some, Result, Ok}
 use Rattle.std.specs.Prelude.{Err}
-use Rattle.cyc_types.specs.Firing.{FiringView, FiringCall}
+use Rattle.cyc_types.specs.declared.Raise.{Ghosts as Raise}
 use Rattle.cyc_types.specs.declared.refusal.JuggleReport.{JuggleReport}
 use Rattle.cyc_types.specs.declared.refusal.Refusal.{Refusal}
 use Rattle.cyc_types.specs.declared.refusal.Refusal.TheVariants.{LastCpu}
@@ -26,17 +26,17 @@ system_of cpus records last = record { cpus = cpus; records = records.list; last
 -- The turn of one cyclic of the source: it stays where it is bound; then where its load found calls outstanding; then where its
 -- destination, of the state at this turn, has no room or no memory for it, and another is not tried. Else it goes there with all
 -- that its CPU has of it (cyclic_juggle_one).
-abbrev pub TakesTurn : {R : Type 0} → (R → FiringCall → R → Type 0) → (R → FiringView) → ℕ → ℕ → Turn
+abbrev pub TakesTurn : {R : Type 0} → Raise R → ℕ → ℕ → Turn
     → SystemView R → SystemView R → Type 0
-TakesTurn step view source id StaysBound s t = HasPlace id source true s × (t ≡ s)
-TakesTurn step view source id StaysPending s t = HasPlace id source false s
-    × (n : ℕ) × (0 < n) × OnlyWorks step view (on source (AskPending id (Some n)) ∷ []) s t
-TakesTurn step view source id StaysRefused s t = HasPlace id source false s
+TakesTurn firing source id StaysBound s t = HasPlace id source true s × (t ≡ s)
+TakesTurn firing source id StaysPending s t = HasPlace id source false s
+    × (n : ℕ) × (0 < n) × OnlyWorks firing (on source (AskPending id (Some n)) ∷ []) s t
+TakesTurn firing source id StaysRefused s t = HasPlace id source false s
     × (d : ℕ) × (destination (Some source) s.cpus ≡ Some d) × (e : Refusal)
-    × OnlyWorks step view (on source (AskPending id (Some 0)) ∷ on d (Reserve 1 (Err e)) ∷ []) s t
-TakesTurn step view source id Moves s t = HasPlace id source false s
+    × OnlyWorks firing (on source (AskPending id (Some 0)) ∷ on d (Reserve 1 (Err e)) ∷ []) s t
+TakesTurn firing source id Moves s t = HasPlace id source false s
     × (d : ℕ) × (destination (Some source) s.cpus ≡ Some d)
-    × Shifts step view id source d (Ok tt) s.cpus t.cpus × Records id (On d false) s t
+    × Shifts firing id source d (Ok tt) s.cpus t.cpus × Records id (On d false) s t
 
 -- the report with one turn more
 abbrev pub counted : Turn → JuggleReport → JuggleReport
@@ -49,20 +49,20 @@ abbrev pub no_turns : JuggleReport
 no_turns = record { moved = 0; bound = 0; pending = 0; refused = 0 }
 
 -- one turn of each of these cyclics of the source, in order, and the report that counts them
-abbrev pub Turns : {R : Type 0} → (R → FiringCall → R → Type 0) → (R → FiringView) → ℕ → List ℕ → JuggleReport
+abbrev pub Turns : {R : Type 0} → Raise R → ℕ → List ℕ → JuggleReport
     → SystemView R → SystemView R → Type 0
-Turns step view source [] report s t = (report ≡ no_turns) × (t ≡ s)
-Turns {R} step view source (id ∷ ids) report s t = (turn : Turn) × (u : SystemView R) × (rest : JuggleReport)
-    × TakesTurn step view source id turn s u × (report ≡ counted turn rest) × Turns step view source ids rest u t
+Turns firing source [] report s t = (report ≡ no_turns) × (t ≡ s)
+Turns {R} firing source (id ∷ ids) report s t = (turn : Turn) × (u : SystemView R) × (rest : JuggleReport)
+    × TakesTurn firing source id turn s u × (report ≡ counted turn rest) × Turns firing source ids rest u t
 
 -- the cyclics of a CPU that are not omnipresent, by rising ids
 abbrev pub single_ids : {R : Type 0} → ℕ → SystemView R → List ℕ
 single_ids n s = filter (λ id. not (is_omnipresent id s)) (ids_on n s.cpus)
 
 -- the cyclics of the CPU have their turns
-abbrev pub MovesAway : {R : Type 0} → (R → FiringCall → R → Type 0) → (R → FiringView) → ℕ → JuggleReport
+abbrev pub MovesAway : {R : Type 0} → Raise R → ℕ → JuggleReport
     → SystemView R → SystemView R → Type 0
-MovesAway step view source report s t = Turns step view source (single_ids source s) report s t
+MovesAway firing source report s t = Turns firing source (single_ids source s) report s t
 
 -- at most one CPU is online
 abbrev pub last_cpu : {R : Type 0} → SystemView R → Option Refusal
@@ -73,7 +73,7 @@ abbrev pub juggle_refusals : {R : Type 0} → ℕ → SystemView R → List (Opt
 juggle_refusals n s = no_cpu n s ∷ offline_cpu n s ∷ last_cpu s ∷ busy (removal_on n s.cpus) ∷ []
 
 -- a juggle of this CPU: it is refused, or each cyclic that is not omnipresent has its turn
-abbrev pub Juggles : {R : Type 0} → (R → FiringCall → R → Type 0) → (R → FiringView)
+abbrev pub Juggles : {R : Type 0} → Raise R
     → ℕ → Result JuggleReport Refusal → SystemView R → SystemView R → Type 0
-Juggles step view source answer s t = Unless (juggle_refusals source s) (λ e. Err e) answer s t
-    ((report : JuggleReport) × (answer ≡ Ok report) × MovesAway step view source report s t)
+Juggles firing source answer s t = Unless (juggle_refusals source s) (λ e. Err e) answer s t
+    ((report : JuggleReport) × (answer ≡ Ok report) × MovesAway firing source report s t)

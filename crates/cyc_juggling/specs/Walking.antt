@@ -1,7 +1,8 @@
 -- The walk over a CPU's cyclics, from which some leave.
 use Rattle.std.specs.Prelude.{◌≡◌, ℕ, ◌+◌, true, false, Option, Some, None}
 use Rattle.std.specs.List.{slice_get}
-use Rattle.cyc_types.specs.Firing.{FiringView, FiringCall}
+use Rattle.cyc_types.specs.declared.Raise.{Ghosts as Raise}
+use Rattle.cyc_types.specs.Firing.{FiringView}
 use Rattle.cyc_types.specs.declared.refusal.JuggleReport.{JuggleReport}
 use Rattle.cyc_agreement.specs.Rows.{Cyclic}
 use Rattle.cyc_agreement.specs.Cpu.{CpuView, IsCyclic, seen_at}
@@ -13,10 +14,10 @@ use Rattle.cyc_juggling.specs.declared.turning.Turn.TheVariants.{StaysBound, Sta
 use Rattle.cyc_juggling.specs.Juggling.{system_of, TakesTurn, counted}
 
 -- a cyclic of the source has its turn, unless it is omnipresent
-abbrev pub Visits : {R : Type 0} → (R → FiringCall → R → Type 0) → (R → FiringView) → ℕ → ℕ → Option Turn
+abbrev pub Visits : {R : Type 0} → Raise R → ℕ → ℕ → Option Turn
     → SystemView R → SystemView R → Type 0
-Visits step view source id None s t = (is_omnipresent id s ≡ true) × (t ≡ s)
-Visits step view source id (Some turn) s t = (is_omnipresent id s ≡ false) × TakesTurn step view source id turn s t
+Visits firing source id None s t = (is_omnipresent id s ≡ true) × (t ≡ s)
+Visits firing source id (Some turn) s t = (is_omnipresent id s ≡ false) × TakesTurn firing source id turn s t
 
 -- a report has the turn where there was one
 abbrev pub counted_if : Option Turn → JuggleReport → JuggleReport
@@ -32,10 +33,10 @@ next_place (Some StaysRefused) place = place + 1
 next_place (Some Moves) place = place
 
 -- the cyclic at a place has its turn, whatever id was given last
-abbrev pub VisitsAt : {R : Type 0} → (R → FiringCall → R → Type 0) → (R → FiringView) → ℕ → ℕ → ℕ
+abbrev pub VisitsAt : {R : Type 0} → Raise R → ℕ → ℕ → ℕ
     → JuggleReport → JuggleReport → CpusView R → RecordsView → CpusView R → RecordsView → Type 0
-VisitsAt step view source place next before after v rs w qs = (id : ℕ) × (slice_get (ids_on source v) place ≡ Some id)
-    × (turn : Option Turn) × ((last : ℕ) → Visits step view source id turn (system_of v rs last) (system_of w qs last))
+VisitsAt firing source place next before after v rs w qs = (id : ℕ) × (slice_get (ids_on source v) place ≡ Some id)
+    × (turn : Option Turn) × ((last : ℕ) → Visits firing source id turn (system_of v rs last) (system_of w qs last))
     × (after ≡ counted_if turn before) × (next ≡ next_place turn place)
 
 -- all turns of a report

@@ -24,7 +24,7 @@ pub(crate) fn move_away<R: Raise>(
     requires there { source < length cpus.old.cpus }
     requires still { removal_on source cpus.old ≡ None }
     requires other { (d : ℕ) × (destination (Some source) cpus.old ≡ Some d) }
-    ensures did { (last : ℕ) → MovesAway R.step R.view source result (system_of cpus.old records.old last)
+    ensures did { (last : ℕ) → MovesAway R.Raise source result (system_of cpus.old records.old last)
         (system_of cpus.new records.new last) }
     ensures agrees { (last : ℕ) → Agrees (system_of cpus.old records.old last) → Agrees (system_of cpus.new records.new last) }
     ensures within { (last : ℕ) → EndedWithin (system_of cpus.old records.old last)
@@ -64,7 +64,7 @@ pub fn juggle<R: Raise>(
     source: u32,
 ) -> Result<JuggleReport, Refusal>
     requires { (last : ℕ) × Agrees (system_of cpus.old records.old last) }
-    ensures did { (last : ℕ) → Juggles R.step R.view source result (system_of cpus.old records.old last)
+    ensures did { (last : ℕ) → Juggles R.Raise source result (system_of cpus.old records.old last)
         (system_of cpus.new records.new last) }
     ensures agrees { (last : ℕ) → Agrees (system_of cpus.old records.old last) → Agrees (system_of cpus.new records.new last) }
 {

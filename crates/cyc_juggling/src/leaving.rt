@@ -25,7 +25,7 @@ pub fn offline<R: Raise>(
     source: u32,
 ) -> Result<(), Refusal>
     requires { (last : ℕ) × Agrees (system_of cpus.old records.old last) }
-    ensures did { (last : ℕ) → GoesOffline R.step R.view source result (system_of cpus.old records.old last)
+    ensures did { (last : ℕ) → GoesOffline R.Raise source result (system_of cpus.old records.old last)
         (system_of cpus.new records.new last) }
     ensures agrees { (last : ℕ) → Agrees (system_of cpus.old records.old last) → Agrees (system_of cpus.new records.new last) }
     ensures within { (last : ℕ) → EndedWithin (system_of cpus.old records.old last)

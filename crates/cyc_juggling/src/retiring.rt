@@ -23,8 +23,8 @@ use cyc_types::{CyclicId, Raise};
 pub(crate) fn any_pending<R: Raise>(cpus: &mut Cpus<R>, source: u32) -> bool
     requires { source < length cpus.old.cpus }
     ensures some { OnTrue result ((records : RecordsView) (last : ℕ)
-        → FindsPending R.step R.view source (system_of cpus.old records last) (system_of cpus.new records last)) }
-    ensures none { OnFalse result (Works R.step R.view (quiet source (ids_on source cpus.old)) cpus.old cpus.new) }
+        → FindsPending R.Raise source (system_of cpus.old records last) (system_of cpus.new records last)) }
+    ensures none { OnFalse result (Works R.Raise (quiet source (ids_on source cpus.old)) cpus.old cpus.new) }
     ensures quiet { OnFalse result (OfCpu source (AreQuiet R.view) cpus.new) }
 {
     for place in 0..cpus.cpu(source).len() {
@@ -42,7 +42,7 @@ fn retire<R: Raise>(cpus: &mut Cpus<R>, records: &mut Records, source: u32, id: 
     requires few { source < 16 }
     requires leaves { OfCpu source (MayLeave R.view id) cpus.old }
     requires record { (k : ℕ) × (r : Record) × IsRecord records.old.list k r × (r.id ≡ id) × (ended_on source r ≡ no_counts) }
-    ensures did { (last : ℕ) → Retires R.step R.view source (system_of cpus.old records.old last) id
+    ensures did { (last : ℕ) → Retires R.Raise source (system_of cpus.old records.old last) id
         (system_of cpus.new records.new last) }
     ensures within { (last : ℕ) → EndedWithin (system_of cpus.old records.old last)
         → EndedWithin (system_of cpus.new records.new last) }
@@ -65,7 +65,7 @@ pub(crate) fn retire_all<R: Raise>(cpus: &mut Cpus<R>, records: &mut Records, so
     requires components { (last : ℕ) → single_ids source (system_of cpus.old records.old last) ≡ [] }
     requires quiet { OfCpu source (AreQuiet R.view) cpus.old }
     requires other { (d : ℕ) × (destination (Some source) cpus.old ≡ Some d) }
-    ensures did { (last : ℕ) → FoldsTo (Retires R.step R.view source) (system_of cpus.old records.old last)
+    ensures did { (last : ℕ) → FoldsTo (Retires R.Raise source) (system_of cpus.old records.old last)
         (ids_on source cpus.old) (system_of cpus.new records.new last) }
     ensures there { length cpus.new.cpus ≡ length cpus.old.cpus }
     ensures agrees { (last : ℕ) → Agrees (system_of cpus.old records.old last)

@@ -40,7 +40,7 @@ fn go<R: Raise>(
     requires record { (r : Record) × IsRecord records.old.list place r × (r.id ≡ id) × (r.place ≡ On source false) }
     requires still { removal_on source cpus.old ≡ None }
     requires other { (d : ℕ) × (destination (Some source) cpus.old ≡ Some d) }
-    ensures did { (last : ℕ) → TakesTurn R.step R.view source id result (system_of cpus.old records.old last)
+    ensures did { (last : ℕ) → TakesTurn R.Raise source id result (system_of cpus.old records.old last)
         (system_of cpus.new records.new last) }
     ensures agrees { (last : ℕ) → Agrees (system_of cpus.old records.old last) → Agrees (system_of cpus.new records.new last) }
 {
@@ -76,7 +76,7 @@ fn turn_of<R: Raise>(
     requires here { has source id cpus.old ≡ true }
     requires still { removal_on source cpus.old ≡ None }
     requires other { (d : ℕ) × (destination (Some source) cpus.old ≡ Some d) }
-    ensures did { (last : ℕ) → Visits R.step R.view source id result (system_of cpus.old records.old last)
+    ensures did { (last : ℕ) → Visits R.Raise source id result (system_of cpus.old records.old last)
         (system_of cpus.new records.new last) }
     ensures agrees { (last : ℕ) → Agrees (system_of cpus.old records.old last) → Agrees (system_of cpus.new records.new last) }
 {
@@ -123,7 +123,7 @@ pub(crate) fn visit<R: Raise>(
     requires still { removal_on source cpus.old ≡ None }
     requires other { (d : ℕ) × (destination (Some source) cpus.old ≡ Some d) }
     requires few { all_turns report.old < 256 }
-    ensures did { VisitsAt R.step R.view source place result report.old report.new cpus.old records.old cpus.new records.new }
+    ensures did { VisitsAt R.Raise source place result report.old report.new cpus.old records.old cpus.new records.new }
     ensures agrees { (last : ℕ) → Agrees (system_of cpus.old records.old last) → Agrees (system_of cpus.new records.new last) }
 {
     cpus.law();

@@ -5,15 +5,15 @@ use Rattle.cyc_types.specs.Tally.{TallyView}
 use Rattle.cyc_types.specs.contracts.tally.TallyCalls.TheImpl.{ghosts as tally_calls}
 use Rattle.cyc_types.specs.declared.refusal.Refusal.{Refusal}
 use Rattle.cyc_core.specs.Tables.{Tables}
-use Rattle.cyc_cpu.specs.Soft.{fires, firing_at, Interrupts}
+use Rattle.cyc_cpu.specs.Soft.{raise_tables, Interrupts}
 use Rattle.cyc_script_machine.specs.System.{SystemView, running_system}
 use Rattle.cyc_script_machine.specs.Calls.{Changes, Does}
 use Rattle.cyc_script_machine.specs.SystemWords.{reprograms}
 
 pub same_kept : (cpu : Option ℕ) (id moment : ℕ) (answer : Result (Unit {0}) Refusal) (tally : TallyView)
     (v w : SystemView Tables)
-    → Changes fires firing_at v (reprograms cpu id moment answer) w
-    → Does tally_calls fires firing_at (Interrupts tally_calls)
+    → Changes raise_tables v (reprograms cpu id moment answer) w
+    → Does tally_calls raise_tables (Interrupts tally_calls)
     (running_system tally v) (reprograms cpu id moment answer) (running_system tally w)
 same_kept None id moment answer tally v w did = (did, refl)
 same_kept (Some n) id moment answer tally v w did = (did, refl)

@@ -2,7 +2,7 @@
 
 ghost use Rattle.std.specs.Prelude.{◌≡◌, ℕ, true, pos, int_lt, IfOk, IfErr};
 ghost use Rattle.cyc_types.specs.declared.refusal.Refusal.TheVariants.{BadWhen};
-ghost use Rattle.cyc_cpu.specs.Soft.{fires, firing_at};
+ghost use Rattle.cyc_cpu.specs.Soft.{raise_tables};
 ghost use Rattle.cyc_script_machine.specs.Agreement.{Agrees};
 ghost use Rattle.cyc_script_machine.specs.Calls.{Changes};
 ghost use Rattle.cyc_script_machine.specs.SystemWords.{reprograms};
@@ -62,7 +62,7 @@ fn reprogram_at(
     cpu: Option<u32>,
     moment: Moment,
 ) -> Result<(), Refusal>
-    ensures did { Changes fires firing_at system.old (reprograms cpu id moment result) system.new }
+    ensures did { Changes raise_tables system.old (reprograms cpu id moment result) system.new }
     ensures agrees { Agrees system.new }
 {
     let answer = match cpu {

@@ -5,7 +5,7 @@ use Rattle.std.specs.Prelude.{sum_by}
 use Rattle.std.specs.List.{slice_get, list_any}
 use Rattle.std.proofs.lemmas.List.{append-nil, map-append, length-map, drop_all}
 use Rattle.std.proofs.lemmas.List.Sums.{sum_by_push}
-use Rattle.cyc_types.specs.Firing.{FiringView, FiringCall}
+use Rattle.cyc_types.specs.declared.Raise.{Ghosts as Raise}
 use Rattle.cyc_types.proofs.Runs.{folds_more}
 use Rattle.cyc_agreement.specs.Totals.{Totals}
 use Rattle.cyc_agreement.specs.Cpu.{CpuView}
@@ -25,13 +25,13 @@ use Rattle.cyc_removing.proofs.Withdrawing.{set_here}
 abbrev one_more : ℕ → Totals → Counted
 one_more n t = record { cpu = n; totals = t }
 
-module _ {R : Type 0} (step : R → FiringCall → R → Type 0) (view : R → FiringView) (id : ℕ) where
+module _ {R : Type 0} (firing : Raise R) (id : ℕ) where
   -- so many CPUs were passed, and these are the sums
   pub record Asked (n expired lost pending : ℕ) (v w : CpusView R) : Type 0 where
     pub way : List Counted
     pub split : cpus_with id v ≡ map (λ a. a.cpu) way ++ numbers_from n
         (drop n (map (λ cpu. list_any (λ own. own == id) (ids_of cpu)) v.cpus))
-    pub works : Works step view (map (asked id) way) v w
+    pub works : Works firing (map (asked id) way) v w
     pub expired_is : expired ≡ sum_by (λ a. a.totals.expired) way
     pub lost_is : lost ≡ sum_by (λ a. a.totals.lost) way
     pub pending_is : pending ≡ sum_by (λ a. a.totals.pending) way
@@ -52,14 +52,14 @@ module _ {R : Type 0} (step : R → FiringCall → R → Type 0) (view : R → F
 
   module _ (n expired lost pending : ℕ) (v w : CpusView R) (k : Asked n expired lost pending v w) (x y : CpuView R)
       (at : IsCpu n x w) where
-    pub asked_one : (t : Totals) → Changes step view x (AskTotals id (Some t)) y
+    pub asked_one : (t : Totals) → Changes firing x (AskTotals id (Some t)) y
         → Asked (n + 1) (expired + t.expired) (lost + t.lost) (pending + t.pending) v (with_cpu w n y)
     asked_one t d = record {
       way = k.way ++ one_more n t ∷ [];
       split = k.split ∙ grows (λ cpu. list_any (λ own. own == id) (ids_of cpu)) (λ (a : Counted). a.cpu) v n x k.way
           (one_more n t) (sym (k.ahead n (omega arith)) ∙ at) test refl;
-      works = subst (λ calls. Works step view calls v (with_cpu w n y)) (sym (map-append (asked id) k.way (one_more n t ∷ [])))
-          (folds_more (DoesAt step view) v (map (asked id) k.way) w (asked id (one_more n t)) (with_cpu w n y) k.works
+      works = subst (λ calls. Works firing calls v (with_cpu w n y)) (sym (map-append (asked id) k.way (one_more n t ∷ [])))
+          (folds_more (DoesAt firing) v (map (asked id) k.way) w (asked id (one_more n t)) (with_cpu w n y) k.works
           (changed n _ x y w at d));
       expired_is = (let p = sum_by_push (λ (a : Counted). a.totals.expired) k.way (one_more n t) in let q = k.expired_is in
           omega (arith, p, q));
@@ -67,7 +67,7 @@ module _ {R : Type 0} (step : R → FiringCall → R → Type 0) (view : R → F
           omega (arith, p, q));
       pending_is = (let p = sum_by_push (λ (a : Counted). a.totals.pending) k.way (one_more n t) in let q = k.pending_is in
           omega (arith, p, q));
-      same = same_then v w (with_cpu w n y) k.same (same_at w n x y at (same_asked step view x y id t.pending d.0));
+      same = same_then v w (with_cpu w n y) k.same (same_at w n x y at (same_asked firing x y id t.pending d.0));
       ahead = λ m low. get_set_other w.cpus n m y (λ e. omega (arith, low, e)) ∙ k.ahead m (omega (arith, low));
     }
       where
@@ -75,7 +75,7 @@ module _ {R : Type 0} (step : R → FiringCall → R → Type 0) (view : R → F
         test = sym (ap (λ ids. among id ids) (ids_there w n x x at))
             ∙ has_here w n id x at (d.0.place, d.0.cyclic, d.0.here, d.0.named)
 
-    pub asked_none : Changes step view x (AskTotals id None) y → Asked (n + 1) expired lost pending v (with_cpu w n y)
+    pub asked_none : Changes firing x (AskTotals id None) y → Asked (n + 1) expired lost pending v (with_cpu w n y)
     asked_none d = subst (λ u. Asked (n + 1) expired lost pending v u) (sym unchanged) (record {
       way = k.way;
       split = k.split ∙ ap (λ ns. map (λ (a : Counted). a.cpu) k.way ++ ns)

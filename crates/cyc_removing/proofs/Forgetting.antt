@@ -6,7 +6,7 @@ use Rattle.std.specs.List.{slice_get}
 use Rattle.std.proofs.lemmas.Option.{slice_get-get_or, slice_get_within}
 use mathlib.Core.Logic.{dite}
 use native.Mathlib.Decide.{ℕ_discrete}
-use Rattle.cyc_types.specs.Firing.{FiringView, FiringCall}
+use Rattle.cyc_types.specs.declared.Raise.{Ghosts as Raise}
 use Rattle.cyc_types.specs.declared.receipt.Receipt.{Receipt}
 use Rattle.cyc_agreement.specs.Removal.{Removal}
 use Rattle.cyc_agreement.specs.Removal.TheVariants.{Done, Kept}
@@ -40,7 +40,7 @@ rising_set rs k r x rising is same i j a b less p q =
     let (a0, at, e) = was_there rs k i r x a is same p in let (b0, bt, f) = was_there rs k j r x b is same q in
     let l = rising i j a0 b0 less at bt in omega (arith, l, e, f)
 
-module _ {R : Type 0} (step : R → FiringCall → R → Type 0) (view : R → FiringView) (id : ℕ) where
+module _ {R : Type 0} (firing : Raise R) (id : ℕ) where
   kept_rising : (n : ℕ) (receipt : Receipt) (s t : SystemView R) (k : ℕ) (r : Record) → IsRecord s.records k r
       → t.records ≡ slice_set s.records k (with_ended n (summed (ended_on n r) (counts_of receipt)) r) → HasRisingIds s.records
       → HasRisingIds t.records
@@ -48,13 +48,13 @@ module _ {R : Type 0} (step : R → FiringCall → R → Type 0) (view : R → F
       subst HasRisingIds (sym e) (rising_set s.records k r (with_ended n (summed (ended_on n r) (counts_of receipt)) r) rising is
       refl)
 
-  begins_rising : (n : ℕ) (found : Removal) (s t : SystemView R) → BeginsOn step view id n found s t → HasRisingIds s.records
+  begins_rising : (n : ℕ) (found : Removal) (s t : SystemView R) → BeginsOn firing id n found s t → HasRisingIds s.records
       → HasRisingIds t.records
   begins_rising n (Done receipt) s t (does, k, r, is, named, records, last) rising =
       kept_rising n receipt s t k r is records rising
   begins_rising n (Kept kept) s t (does, records, last) rising = subst HasRisingIds (sym records) rising
 
-  polls_rising : (n : ℕ) (answer : Option Receipt) (s t : SystemView R) → PollsOn step view id n answer s t
+  polls_rising : (n : ℕ) (answer : Option Receipt) (s t : SystemView R) → PollsOn firing id n answer s t
       → HasRisingIds s.records → HasRisingIds t.records
   polls_rising n (Some receipt) s t (does, k, r, is, named, records, last) rising =
       kept_rising n receipt s t k r is records rising
@@ -79,17 +79,17 @@ module _ {R : Type 0} (step : R → FiringCall → R → Type 0) (view : R → F
       by n true e = absurd (somewhere id s.cpus n e a.nowhere)
 
   pub begins_forgotten : (receipt : Receipt) (s t : SystemView R) → HasRisingIds s.records
-      → BeginsRemoval step view id (Ok (system.Done receipt)) s t → IsForgotten id t
+      → BeginsRemoval firing id (Ok (system.Done receipt)) s t → IsForgotten id t
   begins_forgotten receipt s t rising (inl (e, why, is, same)) = absurd (let odd : Ok (system.Done receipt) ≡ Err e = is in cc)
   begins_forgotten receipt s t rising (inr (clear, (way, u, cpus, each, answers))) = answered_forgotten receipt u t
-      (folds_keep (λ x (b : Begun) y. BeginsOn step view id b.cpu b.found x y) (λ x y. HasRisingIds x.records
+      (folds_keep (λ x (b : Begun) y. BeginsOn firing id b.cpu b.found x y) (λ x y. HasRisingIds x.records
       → HasRisingIds y.records) (λ x h. h) (λ x y z f g h. g (f h))
       (λ x b y. begins_rising b.cpu b.found x y) way s u each rising) answers
 
   pub polls_forgotten : (receipt : Receipt) (s t : SystemView R) → HasRisingIds s.records
-      → PollsRemoval step view id (Ok (Some receipt)) s t → IsForgotten id t
+      → PollsRemoval firing id (Ok (Some receipt)) s t → IsForgotten id t
   polls_forgotten receipt s t rising (inl (e, why, is, same)) = absurd (let odd : Ok (Some receipt) ≡ Err e = is in cc)
   polls_forgotten receipt s t rising (inr (clear, (way, u, cpus, each, answers))) = answered_forgotten receipt u t
-      (folds_keep (λ x (p : Polled) y. PollsOn step view id p.cpu p.answer x y) (λ x y. HasRisingIds x.records
+      (folds_keep (λ x (p : Polled) y. PollsOn firing id p.cpu p.answer x y) (λ x y. HasRisingIds x.records
       → HasRisingIds y.records) (λ x h. h) (λ x y z f g h. g (f h))
       (λ x p y. polls_rising p.cpu p.answer x y) way s u each rising) answers

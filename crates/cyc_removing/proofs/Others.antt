@@ -5,7 +5,8 @@ use Rattle.std.specs.List.{slice_get}
 use Rattle.std.specs.Option.{option_map, option_and_then}
 use Rattle.std.proofs.lemmas.Option.{slice_get-map, slice_get-get_or}
 use Rattle.cyc_types.specs.Series.{never}
-use Rattle.cyc_types.specs.Firing.{FiringView, FiringCall}
+use Rattle.cyc_types.specs.declared.Raise.{Ghosts as Raise}
+use Rattle.cyc_types.specs.Firing.{FiringCall}
 use Rattle.cyc_types.specs.declared.receipt.Receipt.{Receipt}
 use Rattle.cyc_types.specs.declared.refusal.Refusal.{Refusal}
 use Rattle.cyc_agreement.specs.Rows.{Cyclic}
@@ -46,14 +47,14 @@ record Beside {R : Type 0} (q : ℕ) (x y : CpuView R) : Type 0 where
 pub at_place : (cs : List Cyclic) (k : ℕ) (c : Cyclic) → IsCyclic cs k c → slice_get cs k ≡ Some c
 at_place cs k c (low, is) = slice_get-get_or cs k c low ∙ ap Some is
 
-module _ {R : Type 0} (step : R → FiringCall → R → Type 0) (view : R → FiringView) (id q : ℕ) (x y : CpuView R)
+module _ {R : Type 0} (firing : Raise R) (id q : ℕ) (x y : CpuView R)
     (other : q ≢ id) where
-  leaves_beside : (way : List FiringCall) (c : Cyclic) → Leaves step view id way c x y → cyclic_in q y ≡ cyclic_in q x
+  leaves_beside : (way : List FiringCall) (c : Cyclic) → Leaves firing id way c x y → cyclic_in q y ≡ cyclic_in q x
   leaves_beside way c l = ap (λ cs. find (λ (e : Cyclic). e.timer.id == q) cs) l.cyclics
       ∙ find_remove (λ (e : Cyclic). e.timer.id == q) x.cyclics l.place c (at_place x.cyclics l.place c l.here)
       (false_ne c.timer.id q (λ e. other (sym e ∙ l.named)))
 
-  begun_beside : (found : Removal) → Changes step view x (BeginRemove id (Ok found)) y → Beside q x y
+  begun_beside : (found : Removal) → Changes firing x (BeginRemove id (Ok found)) y → Beside q x y
   begun_beside (Done receipt) (still, (c, counts, is, polled, l)) = record {
     cyclics = leaves_beside _ c l;
     stay = λ e. absurd (none_some (sym still ∙ e));
@@ -69,25 +70,25 @@ module _ {R : Type 0} (step : R → FiringCall → R → Type 0) (view : R → F
     was = λ e. absurd (other (same_some (sym e ∙ o.removal)));
   }
 
-polled_beside : {R : Type 0} (step : R → FiringCall → R → Type 0) (view : R → FiringView) (id q : ℕ) (x y : CpuView R) → q ≢ id
+polled_beside : {R : Type 0} (firing : Raise R) (id q : ℕ) (x y : CpuView R) → q ≢ id
     → (answer : Option Receipt) → x.removal ≡ Some id
-    → Changes step view x (PollRemove answer) y → Beside q x y
-polled_beside step view id q x y other (Some receipt) open_here e = record {
-  cyclics = leaves_beside step view receipt.id q x y (λ p. other (p ∙ same_some (sym e.was_open ∙ open_here))) _ e.cyclic
+    → Changes firing x (PollRemove answer) y → Beside q x y
+polled_beside firing id q x y other (Some receipt) open_here e = record {
+  cyclics = leaves_beside firing receipt.id q x y (λ p. other (p ∙ same_some (sym e.was_open ∙ open_here))) _ e.cyclic
       e.leaves;
   stay = λ f. absurd (other (same_some (sym f ∙ open_here)));
   was = λ f. absurd (none_some (sym e.leaves.removal ∙ f));
 }
-polled_beside step view id q x y other None open_here (inl (none, same)) = absurd (none_some (sym none ∙ open_here))
-polled_beside step view id q x y other None open_here (inr (own, is, w)) = record {
+polled_beside firing id q x y other None open_here (inl (none, same)) = absurd (none_some (sym none ∙ open_here))
+polled_beside firing id q x y other None open_here (inr (own, is, w)) = record {
   cyclics = ap (λ cs. find (λ (e : Cyclic). e.timer.id == q) cs) w.cyclics;
   stay = λ e. w.kept.removal ∙ e;
   was = λ e. sym w.kept.removal ∙ e;
 }
 
-asked_beside : {R : Type 0} (step : R → FiringCall → R → Type 0) (view : R → FiringView) (id q : ℕ) (x y : CpuView R) (t : Totals)
-    → Changes step view x (AskTotals id (Some t)) y → Beside q x y
-asked_beside step view id q x y t d = record {
+asked_beside : {R : Type 0} (firing : Raise R) (id q : ℕ) (x y : CpuView R) (t : Totals)
+    → Changes firing x (AskTotals id (Some t)) y → Beside q x y
+asked_beside firing id q x y t d = record {
   cyclics = ap (λ cs. find (λ (e : Cyclic). e.timer.id == q) cs) d.0.cyclics;
   stay = λ e. d.0.kept.removal ∙ e;
   was = λ e. sym d.0.kept.removal ∙ e;
@@ -139,30 +140,30 @@ own_kept id q n receipt s t k r other is named e = ap (λ rs. found q rs) e
     ∙ find_set (λ (x : Record). x.id == q) s.records k r (with_ended n (summed (ended_on n r) (counts_of receipt)) r) is
     (false_ne r.id q (λ f. other (sym f ∙ named))) (false_ne r.id q (λ f. other (sym f ∙ named)))
 
-module _ {R : Type 0} (step : R → FiringCall → R → Type 0) (view : R → FiringView) (id q : ℕ) (other : q ≢ id) where
-  begins_untouched : (n : ℕ) (found : Removal) (s t : SystemView R) → BeginsOn step view id n found s t → IsUntouched q s t
+module _ {R : Type 0} (firing : Raise R) (id q : ℕ) (other : q ≢ id) where
+  begins_untouched : (n : ℕ) (found : Removal) (s t : SystemView R) → BeginsOn firing id n found s t → IsUntouched q s t
   begins_untouched n (Done receipt) s t (does, k, r, is, named, records, last) =
       untouched q s t (beside_at q n _ s.cpus t.cpus does
-      (begun_beside step view id q does.before does.after other (Done receipt) does.change))
+      (begun_beside firing id q does.before does.after other (Done receipt) does.change))
       (own_kept id q n receipt s t k r other is named records)
   begins_untouched n (Kept kept) s t (does, records, last) =
       untouched q s t (beside_at q n _ s.cpus t.cpus does
-      (begun_beside step view id q does.before does.after other (Kept kept) does.change)) (ap (λ rs. found q rs) records)
+      (begun_beside firing id q does.before does.after other (Kept kept) does.change)) (ap (λ rs. found q rs) records)
 
-  pub each_begins_untouched : (way : List Begun) (s t : SystemView R) → BeginsEach step view id way s t → IsUntouched q s t
-  each_begins_untouched = folds_keep (λ u (b : Begun) w. BeginsOn step view id b.cpu b.found u w) (IsUntouched q)
+  pub each_begins_untouched : (way : List Begun) (s t : SystemView R) → BeginsEach firing id way s t → IsUntouched q s t
+  each_begins_untouched = folds_keep (λ u (b : Begun) w. BeginsOn firing id b.cpu b.found u w) (IsUntouched q)
       (untouched_none q) (untouched_then q) (λ s b t. begins_untouched b.cpu b.found s t)
 
-  polls_untouched : (n : ℕ) (answer : Option Receipt) (s t : SystemView R) → PollsOn step view id n answer s t
+  polls_untouched : (n : ℕ) (answer : Option Receipt) (s t : SystemView R) → PollsOn firing id n answer s t
       → ((x : CpuView R) → IsCpu n x s.cpus → x.removal ≡ Some id) → IsUntouched q s t
   polls_untouched n (Some receipt) s t (does, k, r, is, named, records, last) open_here =
       untouched q s t (beside_at q n _ s.cpus t.cpus does
-      (polled_beside step view id q does.before does.after other (Some receipt)
+      (polled_beside firing id q does.before does.after other (Some receipt)
       (open_here does.before does.here) does.change))
       (own_kept id q n receipt s t k r other is named records)
   polls_untouched n None s t (does, records, last) open_here =
       untouched q s t (beside_at q n _ s.cpus t.cpus does
-      (polled_beside step view id q does.before does.after other None (open_here does.before does.here) does.change))
+      (polled_beside firing id q does.before does.after other None (open_here does.before does.here) does.change))
       (ap (λ rs. found q rs) records)
 
   pub answers_untouched : (receipt : Receipt) (s t : SystemView R) → Answers id receipt s t → IsUntouched q s t
@@ -172,25 +173,25 @@ module _ {R : Type 0} (step : R → FiringCall → R → Type 0) (view : R → F
       (false_ne a.own.id q (λ f. other (sym f ∙ a.named))))
 
 -- only the CPU that is polled changes
-pub polls_elsewhere : {R : Type 0} (step : R → FiringCall → R → Type 0) (view : R → FiringView) (id : ℕ) (p : Polled)
-    (s t : SystemView R) → PollsOn step view id p.cpu p.answer s t
+pub polls_elsewhere : {R : Type 0} (firing : Raise R) (id : ℕ) (p : Polled)
+    (s t : SystemView R) → PollsOn firing id p.cpu p.answer s t
     → (m : ℕ) → m ≢ p.cpu → slice_get t.cpus.cpus m ≡ slice_get s.cpus.cpus m
-polls_elsewhere step view id p s t on m ne = by p.answer on
+polls_elsewhere firing id p s t on m ne = by p.answer on
   where
-    by : (answer : Option Receipt) → PollsOn step view id p.cpu answer s t → slice_get t.cpus.cpus m ≡ slice_get s.cpus.cpus m
+    by : (answer : Option Receipt) → PollsOn firing id p.cpu answer s t → slice_get t.cpus.cpus m ≡ slice_get s.cpus.cpus m
     by (Some receipt) d = ap (λ u. slice_get u.cpus m) d.0.rest ∙ get_set_other s.cpus.cpus p.cpu m d.0.after ne
     by None d = ap (λ u. slice_get u.cpus m) d.0.rest ∙ get_set_other s.cpus.cpus p.cpu m d.0.after ne
 
-pub each_polls_untouched : {R : Type 0} (step : R → FiringCall → R → Type 0) (view : R → FiringView) (id q : ℕ) (other : q ≢ id)
+pub each_polls_untouched : {R : Type 0} (firing : Raise R) (id q : ℕ) (other : q ≢ id)
     (way : List Polled) (s t : SystemView R)
-    → map (λ p. p.cpu) way ≡ leaving_cpus id s.cpus → PollsEach step view id way s t → IsUntouched q s t
-each_polls_untouched step view id q other way s t cpus f =
-    folds_keep (λ u (p : Polled) w. Known (λ (a : Polled) x y. PollsOn step view id a.cpu a.answer x y) (λ a. a.cpu)
-    (λ x. is_leaving_here id x ≡ true) (polls_elsewhere step view id) p u w)
+    → map (λ p. p.cpu) way ≡ leaving_cpus id s.cpus → PollsEach firing id way s t → IsUntouched q s t
+each_polls_untouched firing id q other way s t cpus f =
+    folds_keep (λ u (p : Polled) w. Known (λ (a : Polled) x y. PollsOn firing id a.cpu a.answer x y) (λ a. a.cpu)
+    (λ x. is_leaving_here id x ≡ true) (polls_elsewhere firing id) p u w)
     (IsUntouched q) (untouched_none q) (untouched_then q)
-    (λ u p w k. polls_untouched step view id q other p.cpu p.answer u w k.0 (λ x is. is_leaving_open id x (k.1 x is))) way s t
-    (folds_known (λ (a : Polled) x y. PollsOn step view id a.cpu a.answer x y) (λ a. a.cpu) (λ x. is_leaving_here id x ≡ true)
-    (polls_elsewhere step view id) 0
+    (λ u p w k. polls_untouched firing id q other p.cpu p.answer u w k.0 (λ x is. is_leaving_open id x (k.1 x is))) way s t
+    (folds_known (λ (a : Polled) x y. PollsOn firing id a.cpu a.answer x y) (λ a. a.cpu) (λ x. is_leaving_here id x ≡ true)
+    (polls_elsewhere firing id) 0
     (map (is_leaving_here id) s.cpus.cpus) way s t cpus
     (λ j x is at. same_some (sym (ap (λ o. option_map (is_leaving_here id) o) (at' j x at))
     ∙ sym (slice_get-map (is_leaving_here id) s.cpus.cpus j) ∙ is)) f)
@@ -201,41 +202,41 @@ each_polls_untouched step view id q other way s t cpus f =
 -- ---- the calls
 
 -- a question changes no cyclic
-asks_untouched : {R : Type 0} (step : R → FiringCall → R → Type 0) (view : R → FiringView) (id q : ℕ) (way : List Counted)
+asks_untouched : {R : Type 0} (firing : Raise R) (id q : ℕ) (way : List Counted)
     (v w : CpusView R)
-    → Works step view (map (asked id) way) v w → AllBeside q v w
-asks_untouched step view id q [] v w f =
+    → Works firing (map (asked id) way) v w → AllBeside q v w
+asks_untouched firing id q [] v w f =
     subst (λ u. AllBeside q v u) f (record { cyclics = λ n. refl; stay = λ n e. e; was = λ n e. e })
-asks_untouched step view id q (a ∷ way) v w (u, does, rest) =
-    let b = beside_at q a.cpu _ v u does (asked_beside step view id q does.before does.after a.totals does.change) in
-    let d = asks_untouched step view id q way u w rest in record {
+asks_untouched firing id q (a ∷ way) v w (u, does, rest) =
+    let b = beside_at q a.cpu _ v u does (asked_beside firing id q does.before does.after a.totals does.change) in
+    let d = asks_untouched firing id q way u w rest in record {
       cyclics = λ n. d.cyclics n ∙ b.cyclics n;
       stay = λ n e. d.stay n (b.stay n e);
       was = λ n e. b.was n (d.was n e);
     }
 
-module _ {R : Type 0} (step : R → FiringCall → R → Type 0) (view : R → FiringView) (id q : ℕ) where
+module _ {R : Type 0} (firing : Raise R) (id q : ℕ) where
   pub begins_others : (answer : Result SystemRemoval Refusal) (s t : SystemView R) → q ≢ id
-      → BeginsRemoval step view id answer s t → IsUntouched q s t
+      → BeginsRemoval firing id answer s t → IsUntouched q s t
   begins_others answer s t other (inl (e, why, is, same)) = untouched_same q s t same
   begins_others (Ok (system.Done receipt)) s t other (inr (clear, (way, u, cpus, each, answers))) =
-      untouched_then q s u t (each_begins_untouched step view id q other way s u each)
-      (answers_untouched step view id q other receipt u t answers)
+      untouched_then q s u t (each_begins_untouched firing id q other way s u each)
+      (answers_untouched firing id q other receipt u t answers)
   begins_others (Ok (system.Kept kept)) s t other (inr (clear, (way, cpus, each, some, sum))) =
-      each_begins_untouched step view id q other way s t each
+      each_begins_untouched firing id q other way s t each
   begins_others (Err e) s t other (inr (clear, wrong)) = absurd wrong
 
   pub polls_others : (answer : Result (Option Receipt) Refusal) (s t : SystemView R) → q ≢ id
-      → PollsRemoval step view id answer s t → IsUntouched q s t
+      → PollsRemoval firing id answer s t → IsUntouched q s t
   polls_others answer s t other (inl (e, why, is, same)) = untouched_same q s t same
   polls_others (Ok (Some receipt)) s t other (inr (clear, (way, u, cpus, each, answers))) =
-      untouched_then q s u t (each_polls_untouched step view id q other way s u cpus each)
-      (answers_untouched step view id q other receipt u t answers)
+      untouched_then q s u t (each_polls_untouched firing id q other way s u cpus each)
+      (answers_untouched firing id q other receipt u t answers)
   polls_others (Ok None) s t other (inr (clear, (way, cpus, each, some))) =
-      each_polls_untouched step view id q other way s t cpus each
+      each_polls_untouched firing id q other way s t cpus each
   polls_others (Err e) s t other (inr (clear, wrong)) = absurd wrong
 
-  pub asks_others : (answer : Option SystemTotals) (s t : SystemView R) → AsksTotals step view id answer s t → IsUntouched q s t
+  pub asks_others : (answer : Option SystemTotals) (s t : SystemView R) → AsksTotals firing id answer s t → IsUntouched q s t
   asks_others (Some totals) s t (way, r, is, cpus, works, sums) =
-      untouched q s t (asks_untouched step view id q way s.cpus t.cpus works.0) (ap (λ rs. found q rs) works.1)
+      untouched q s t (asks_untouched firing id q way s.cpus t.cpus works.0) (ap (λ rs. found q rs) works.1)
   asks_others None s t (none, same) = untouched_same q s t same

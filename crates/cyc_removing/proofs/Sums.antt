@@ -10,7 +10,7 @@ use Rattle.std.proofs.lemmas.List.Sums.{sum_by-cons}
 use mathlib.Core.Logic.{dite}
 use native.Mathlib.Decide.{ℕ_discrete}
 use Rattle.cyc_types.specs.Series.{never}
-use Rattle.cyc_types.specs.Firing.{FiringView, FiringCall}
+use Rattle.cyc_types.specs.declared.Raise.{Ghosts as Raise}
 use Rattle.cyc_types.specs.declared.firing.Sent.{Sent}
 use Rattle.cyc_types.specs.declared.receipt.Receipt.{Receipt}
 use Rattle.cyc_agreement.specs.Rows.{Cyclic}
@@ -98,7 +98,7 @@ none_found (x ∷ cs) id e = by (x.timer.id == id) refl e (none_found cs id)
     by false f h rest = rest h
 
 -- ---- a count that adds up
-module _ {R : Type 0} (step : R → FiringCall → R → Type 0) (view : R → FiringView) (g : Sent → ℕ) (id : ℕ) (adds : (a b : Sent)
+module _ {R : Type 0} (firing : Raise R) (g : Sent → ℕ) (id : ℕ) (adds : (a b : Sent)
     → g (summed a b) ≡ g a + g b) where
   abbrev pub of_cyclic : Cyclic → ℕ
   of_cyclic c = g (record { sent = c.timer.expired; lost = c.lost })
@@ -172,8 +172,8 @@ module _ {R : Type 0} (step : R → FiringCall → R → Type 0) (view : R → F
       let a = sum_set in_cpu s.cpus.cpus n x y at in let b = ap (λ l. sum_by in_cpu l) cpus in
       let c = ap (λ l. option_map_or (λ (q : Record). sum_by g q.ended) (found id l) 0) records in omega (arith, a, b, c, same)
 
-  pub begin_keeps : (n : ℕ) (found : Removal) (s t : SystemView R) → BeginsOn step view id n found s t
-      → ((x : CpuView R) → IsCpu n x s.cpus → IsLawful view x) → IsFit s
+  pub begin_keeps : (n : ℕ) (found : Removal) (s t : SystemView R) → BeginsOn firing id n found s t
+      → ((x : CpuView R) → IsCpu n x s.cpus → IsLawful firing.view x) → IsFit s
       → IsFit t × (all_of t ≡ all_of s)
   begin_keeps n (Done receipt) s t (does, k, r, is, named, records, last) law fit =
       let x = does.before in let y = does.after in let lawful = law x does.here in
@@ -184,7 +184,7 @@ module _ {R : Type 0} (step : R → FiringCall → R → Type 0) (view : R → F
             (of_receipt receipt c own ∙ sym (ap (λ o. option_map_or of_cyclic o 0)
             (cyclic_found x.cyclics id l.place c lawful.rising l.here l.named)))
             (ap (λ o. option_map_or of_cyclic o 0) (none_found y.cyclics id
-            (less_done step view id x y lawful receipt does.change).gone)),
+            (less_done firing id x y lawful receipt does.change).gone)),
       )
   begin_keeps n (Kept kept) s t (does, records, last) law fit =
       let x = does.before in let y = does.after in
@@ -197,8 +197,8 @@ module _ {R : Type 0} (step : R → FiringCall → R → Type 0) (view : R → F
             (at_place x.cyclics o.place o.cyclic o.here) refl refl),
       )
 
-  pub poll_keeps : (n : ℕ) (answer : Option Receipt) (s t : SystemView R) → PollsOn step view id n answer s t
-      → ((x : CpuView R) → IsCpu n x s.cpus → IsLawful view x × (x.removal ≡ Some id)) → IsFit s
+  pub poll_keeps : (n : ℕ) (answer : Option Receipt) (s t : SystemView R) → PollsOn firing id n answer s t
+      → ((x : CpuView R) → IsCpu n x s.cpus → IsLawful firing.view x × (x.removal ≡ Some id)) → IsFit s
       → IsFit t × (all_of t ≡ all_of s)
   poll_keeps n (Some receipt) s t (does, k, r, is, named, records, last) law fit =
       let x = does.before in let y = does.after in let (lawful, open_here) = law x does.here in
@@ -210,13 +210,13 @@ module _ {R : Type 0} (step : R → FiringCall → R → Type 0) (view : R → F
             (cyclic_found x.cyclics id e.leaves.place e.cyclic lawful.rising e.leaves.here (e.leaves.named
             ∙ same_some (sym e.was_open ∙ open_here)))))
             (ap (λ o. option_map_or of_cyclic o 0) (none_found y.cyclics id
-            (less_ended step view id x y lawful receipt open_here e).gone)),
+            (less_ended firing id x y lawful receipt open_here e).gone)),
       )
   poll_keeps n None s t (does, records, last) law fit =
       let x = does.before in let y = does.after in
       let cpus = ap (λ (v : CpusView R). v.cpus) does.rest in
       (stays_fit n y s t fit cpus records, stays_all n x y s t does.here cpus records (by x y does.change))
     where
-      by : (x y : CpuView R) → Changes step view x (PollRemove None) y → in_cpu y ≡ in_cpu x
+      by : (x y : CpuView R) → Changes firing x (PollRemove None) y → in_cpu y ≡ in_cpu x
       by x y (inl (none, same)) = ap in_cpu same
       by x y (inr (own, is, w)) = ap (λ cs. option_map_or of_cyclic (find (λ (e : Cyclic). e.timer.id == id) cs) 0) w.cyclics

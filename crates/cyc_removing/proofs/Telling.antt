@@ -1,7 +1,7 @@
 -- What a removal over all CPUs tells of the system.
 use Rattle.std.proofs.Common.{◌≡◌, ℕ, true, false, not, Some, None, Ok, Err, inl, inr, List, ◌∷◌, [], map, refl, sym, ap, ◌∙◌}
 use Rattle.std.specs.Prelude.{sum_by, is_some, remove}
-use Rattle.cyc_types.specs.Firing.{FiringView, FiringCall}
+use Rattle.cyc_types.specs.declared.Raise.{Ghosts as Raise}
 use Rattle.cyc_types.specs.declared.receipt.Receipt.{Receipt}
 use Rattle.cyc_types.specs.declared.refusal.Refusal.TheVariants.{NoCyclic, Busy}
 use Rattle.cyc_agreement.specs.ModelRefusals.{first_refusal}
@@ -28,7 +28,7 @@ pub is_known_cyclic : {R : Type 0} (s : SystemView R) (id k : ℕ) → HasRising
 is_known_cyclic s id k rising (r, is, named) =
     not_when (is_unknown id s) NoCyclic (ap (λ o. not (is_some o)) (record_here id k r s.records rising is named))
 
-module _ {R : Type 0} (step : R → FiringCall → R → Type 0) (view : R → FiringView) (id place : ℕ) (v w : CpusView R)
+module _ {R : Type 0} (firing : Raise R) (id place : ℕ) (v w : CpusView R)
     (rs rs' : List Record) (last : ℕ)
     (o : Owns id place v rs) (d : Withdraws id place v w rs rs') where
   -- the record went, and the receipt is of it
@@ -49,37 +49,37 @@ module _ {R : Type 0} (step : R → FiringCall → R → Type 0) (view : R → F
 
   module _ (rising : HasRisingIds rs) (clear : first_refusal (busy_on_each id (system v rs last)) ≡ None)
       (did : (way : List Begun) × (map (λ b. b.cpu) way ≡ cpus_with id v)
-      × BeginsEach step view id way (system v rs last) (system w rs' last)) where
+      × BeginsEach firing id way (system v rs last) (system w rs' last)) where
     none_refuses : first_refusal (unknown_cyclic id (system v rs last) ∷ busy_on_each id (system v rs last)) ≡ None
     none_refuses = passes (unknown_cyclic id (system v rs last)) (busy_on_each id (system v rs last)) None
         (is_known_cyclic (system v rs last) id place rising (o.own, o.here, o.named)) clear
 
     pub removal_done : (receipt : Receipt) → ((n : ℕ) → has n id w ≡ false)
         → ((r : Record) → IsRecord rs' place r → IsReceiptOf receipt r)
-        → BeginsRemoval step view id (Ok (removal.Done receipt)) (system v rs last) (system w (remove rs' place) last)
+        → BeginsRemoval firing id (Ok (removal.Done receipt)) (system v rs last) (system w (remove rs' place) last)
     removal_done receipt none counts = inr (none_refuses, (did.0, system w rs' last, did.1, did.2, answered receipt none counts))
 
     pub removal_kept : (n kept : ℕ) → has n id w ≡ true → kept ≡ sum_by (λ b. kept_in b.found) did.0
-        → BeginsRemoval step view id (Ok (removal.Kept kept)) (system v rs last) (system w rs' last)
+        → BeginsRemoval firing id (Ok (removal.Kept kept)) (system v rs last) (system w rs' last)
     removal_kept n kept here sum = inr (none_refuses, (did.0, did.1, did.2, somewhere id w n here, sum))
 
   module _ (leaving : is_leaving id (system v rs last) ≡ true)
       (did : (way : List Polled) × (map (λ p. p.cpu) way ≡ leaving_cpus id v)
-      × PollsEach step view id way (system v rs last) (system w rs' last)) where
+      × PollsEach firing id way (system v rs last) (system w rs' last)) where
     is_open : first_refusal (not_leaving id (system v rs last) ∷ []) ≡ None
     is_open = passes (not_leaving id (system v rs last)) [] None
         (not_when (not (is_leaving id (system v rs last))) NoCyclic (ap not leaving)) refl
 
     pub poll_answered : (receipt : Receipt) → ((n : ℕ) → has n id w ≡ false)
         → ((r : Record) → IsRecord rs' place r → IsReceiptOf receipt r)
-        → PollsRemoval step view id (Ok (Some receipt)) (system v rs last) (system w (remove rs' place) last)
+        → PollsRemoval firing id (Ok (Some receipt)) (system v rs last) (system w (remove rs' place) last)
     poll_answered receipt none counts = inr (is_open, (did.0, system w rs' last, did.1, did.2, answered receipt none counts))
 
-    pub poll_waits : (n : ℕ) → has n id w ≡ true → PollsRemoval step view id (Ok None) (system v rs last) (system w rs' last)
+    pub poll_waits : (n : ℕ) → has n id w ≡ true → PollsRemoval firing id (Ok None) (system v rs last) (system w rs' last)
     poll_waits n here = inr (is_open, (did.0, did.1, did.2, somewhere id w n here))
 
-module _ {R : Type 0} (step : R → FiringCall → R → Type 0) (view : R → FiringView) (id : ℕ) (s : SystemView R) where
-  pub not_known : HasNoRecord id s.records → BeginsRemoval step view id (Err NoCyclic) s s
+module _ {R : Type 0} (firing : Raise R) (id : ℕ) (s : SystemView R) where
+  pub not_known : HasNoRecord id s.records → BeginsRemoval firing id (Err NoCyclic) s s
   not_known none = inl (
     NoCyclic,
     stops (unknown_cyclic id s) (busy_on_each id s) NoCyclic (is_unknown_cyclic s id none),
@@ -89,7 +89,7 @@ module _ {R : Type 0} (step : R → FiringCall → R → Type 0) (view : R → F
 
   pub is_busy : (k removed : ℕ) → HasRisingIds s.records → ((r : Record) × IsRecord s.records k r × (r.id ≡ id))
       → first_refusal (busy_on_each id s) ≡ Some (Busy removed)
-      → BeginsRemoval step view id (Err (Busy removed)) s s
+      → BeginsRemoval firing id (Err (Busy removed)) s s
   is_busy k removed rising own first = inl (
     Busy removed,
     passes (unknown_cyclic id s) (busy_on_each id s) (Some (Busy removed))
@@ -98,7 +98,7 @@ module _ {R : Type 0} (step : R → FiringCall → R → Type 0) (view : R → F
     refl,
   )
 
-  pub is_not_open : is_leaving id s ≡ false → PollsRemoval step view id (Err NoCyclic) s s
+  pub is_not_open : is_leaving id s ≡ false → PollsRemoval firing id (Err NoCyclic) s s
   is_not_open none = inl (
     NoCyclic,
     stops (not_leaving id s) [] NoCyclic (is_when (not (is_leaving id s)) NoCyclic (ap not none)),

@@ -10,7 +10,7 @@ use Rattle.std.proofs.lemmas.List.Sums.{sum_by_push}
 use mathlib.Core.Logic.{dite}
 use native.Mathlib.Decide.{ℕ_discrete}
 use Rattle.cyc_types.proofs.Runs.{folds_more}
-use Rattle.cyc_types.specs.Firing.{FiringView, FiringCall}
+use Rattle.cyc_types.specs.declared.Raise.{Ghosts as Raise}
 use Rattle.cyc_agreement.specs.Cpu.{CpuView}
 use Rattle.cyc_places.specs.declared.record.Record.{Record}
 use Rattle.cyc_places.specs.Places.{IsRecord}
@@ -127,16 +127,16 @@ module _ {R A : Type 0} (On : A → SystemView R → SystemView R → Type 0) (c
     walk_left all m h = k.passed m (let low = has_low w m id h in omega (arith, low, all)) h
 
 -- the walk on which a removal begins
-abbrev pub BeginWalk : {R : Type 0} → (R → FiringCall → R → Type 0) → (R → FiringView) → (id place n total : ℕ)
+abbrev pub BeginWalk : {R : Type 0} → Raise R → (id place n total : ℕ)
     → (v w : CpusView R) → (rs rs' : List Record) → Type 0
-BeginWalk step view id place = Walk (λ (b : Begun) s t. BeginsOn step view id b.cpu b.found s t) (λ b. b.cpu)
+BeginWalk firing id place = Walk (λ (b : Begun) s t. BeginsOn firing id b.cpu b.found s t) (λ b. b.cpu)
     (λ b. kept_in b.found)
     (λ cpu. list_any (λ own. own == id) (ids_of cpu)) id place
 
 -- the walk on which it is polled
-abbrev pub PollWalk : {R : Type 0} → (R → FiringCall → R → Type 0) → (R → FiringView) → (id place n : ℕ) → (v w : CpusView R)
+abbrev pub PollWalk : {R : Type 0} → Raise R → (id place n : ℕ) → (v w : CpusView R)
     → (rs rs' : List Record) → Type 0
-PollWalk step view id place n = Walk (λ (p : Polled) s t. PollsOn step view id p.cpu p.answer s t) (λ p. p.cpu) (λ p. 0)
+PollWalk firing id place n = Walk (λ (p : Polled) s t. PollsOn firing id p.cpu p.answer s t) (λ p. p.cpu) (λ p. 0)
     (is_leaving_here id) id place n 0
 
 -- the same of equal values

@@ -1,6 +1,6 @@
 -- The counts of a cyclic over all CPUs.
 use Rattle.std.specs.Prelude.{◌≡◌, ℕ, ◌+◌, List, map, sum_by, Option, Some, None}
-use Rattle.cyc_types.specs.Firing.{FiringView, FiringCall}
+use Rattle.cyc_types.specs.declared.Raise.{Ghosts as Raise}
 use Rattle.cyc_agreement.specs.Totals.{Totals}
 use Rattle.cyc_agreement.specs.Calls.{AskTotals}
 use Rattle.cyc_places.specs.declared.record.Record.{Record}
@@ -31,8 +31,8 @@ pub record AddsUp (way : List Counted) (r : Record) (answer : SystemTotals) : Ty
   pub pending : answer.pending ≡ sum_by (λ a. a.totals.pending) way
 
 -- every CPU that has the cyclic was asked for it; no other was, and nothing else was done
-abbrev pub AsksTotals : {R : Type 0} → (R → FiringCall → R → Type 0) → (R → FiringView)
+abbrev pub AsksTotals : {R : Type 0} → Raise R
     → ℕ → Option SystemTotals → SystemView R → SystemView R → Type 0
-AsksTotals step view id (Some totals) s t = (way : List Counted) × (r : Record) × (record_of id s ≡ Some r)
-    × (map (λ a. a.cpu) way ≡ cpus_with id s.cpus) × OnlyWorks step view (map (asked id) way) s t × AddsUp way r totals
-AsksTotals step view id None s t = (record_of id s ≡ None) × (t ≡ s)
+AsksTotals firing id (Some totals) s t = (way : List Counted) × (r : Record) × (record_of id s ≡ Some r)
+    × (map (λ a. a.cpu) way ≡ cpus_with id s.cpus) × OnlyWorks firing (map (asked id) way) s t × AddsUp way r totals
+AsksTotals firing id None s t = (record_of id s ≡ None) × (t ≡ s)

@@ -1,7 +1,7 @@
 -- How the removal of a cyclic begins on every CPU that has it (cyclic_remove).
 use Rattle.std.specs.Prelude.{◌≡◌, ◌≢◌, ℕ, ◌==◌, List, [], ◌∷◌, map, slice_set, remove, sum_by, Option, Result, Ok, Err}
 use Rattle.std.specs.List.{FoldsTo, list_any}
-use Rattle.cyc_types.specs.Firing.{FiringView, FiringCall}
+use Rattle.cyc_types.specs.declared.Raise.{Ghosts as Raise}
 use Rattle.cyc_types.specs.declared.firing.Sent.{Sent}
 use Rattle.cyc_types.specs.declared.receipt.Receipt.{Receipt}
 use Rattle.cyc_types.specs.declared.refusal.Refusal.{Refusal}
@@ -25,26 +25,26 @@ cpus_with id v = numbers_from 0 (map (λ cpu. list_any (λ own. own == id) (ids_
 -- ---- one CPU
 
 -- this was done on the CPU, and nothing else changed
-abbrev pub OnlyDoes : {R : Type 0} → (R → FiringCall → R → Type 0) → (R → FiringView)
+abbrev pub OnlyDoes : {R : Type 0} → Raise R
     → ℕ → CpuCall → SystemView R → SystemView R → Type 0
-OnlyDoes step view n call s t = DoesAt step view s.cpus (on n call) t.cpus × (t.records ≡ s.records) × (t.last ≡ s.last)
+OnlyDoes firing n call s t = DoesAt firing s.cpus (on n call) t.cpus × (t.records ≡ s.records) × (t.last ≡ s.last)
 
 -- the counts of the stay that the receipt is of
 abbrev pub counts_of : Receipt → Sent
 counts_of receipt = record { sent = receipt.sent; lost = receipt.lost }
 
 -- this call ended the cyclic's stay on the CPU, whose counts are kept beside those of earlier stays there
-abbrev pub EndsStay : {R : Type 0} → (R → FiringCall → R → Type 0) → (R → FiringView)
+abbrev pub EndsStay : {R : Type 0} → Raise R
     → ℕ → ℕ → Receipt → CpuCall → SystemView R → SystemView R → Type 0
-EndsStay step view id n receipt call s t = DoesAt step view s.cpus (on n call) t.cpus
+EndsStay firing id n receipt call s t = DoesAt firing s.cpus (on n call) t.cpus
     × (k : ℕ) × (r : Record) × IsRecord s.records k r × (r.id ≡ id)
     × (t.records ≡ slice_set s.records k (with_ended n (summed (ended_on n r) (counts_of receipt)) r)) × (t.last ≡ s.last)
 
 -- the removal begins on the CPU, and ends there at once where no call is outstanding (cyclic_remove_here)
-abbrev pub BeginsOn : {R : Type 0} → (R → FiringCall → R → Type 0) → (R → FiringView)
+abbrev pub BeginsOn : {R : Type 0} → Raise R
     → ℕ → ℕ → Removal → SystemView R → SystemView R → Type 0
-BeginsOn step view id n (Done receipt) s t = EndsStay step view id n receipt (BeginRemove id (Ok (Done receipt))) s t
-BeginsOn step view id n (Kept kept) s t = OnlyDoes step view n (BeginRemove id (Ok (Kept kept))) s t
+BeginsOn firing id n (Done receipt) s t = EndsStay firing id n receipt (BeginRemove id (Ok (Done receipt))) s t
+BeginsOn firing id n (Kept kept) s t = OnlyDoes firing n (BeginRemove id (Ok (Kept kept))) s t
 
 -- ---- all CPUs
 
@@ -54,9 +54,9 @@ pub record Begun : Type 0 where
   pub found : Removal
 
 -- it began on these CPUs, in order, and was done on no other
-abbrev pub BeginsEach : {R : Type 0} → (R → FiringCall → R → Type 0) → (R → FiringView)
+abbrev pub BeginsEach : {R : Type 0} → Raise R
     → ℕ → List Begun → SystemView R → SystemView R → Type 0
-BeginsEach step view id way s t = FoldsTo (λ u b w. BeginsOn step view id b.cpu b.found u w) s way t
+BeginsEach firing id way s t = FoldsTo (λ u b w. BeginsOn firing id b.cpu b.found u w) s way t
 
 -- the calls that are kept there
 abbrev pub kept_in : Removal → ℕ
@@ -77,13 +77,13 @@ pub record Answers {R : Type 0} (id : ℕ) (receipt : Receipt) (s t : SystemView
 
 -- The removal began on every CPU that has the cyclic. It is over at once where each of them found no call outstanding; else
 -- it stays open, with the calls that all of them keep.
-abbrev pub Removes : {R : Type 0} → (R → FiringCall → R → Type 0) → (R → FiringView)
+abbrev pub Removes : {R : Type 0} → Raise R
     → ℕ → Result SystemRemoval Refusal → SystemView R → SystemView R → Type 0
-Removes {R} step view id (Ok (system.Done receipt)) s t = (way : List Begun) × (u : SystemView R)
-    × (map (λ b. b.cpu) way ≡ cpus_with id s.cpus) × BeginsEach step view id way s u × Answers id receipt u t
-Removes step view id (Ok (system.Kept kept)) s t = (way : List Begun) × (map (λ b. b.cpu) way ≡ cpus_with id s.cpus)
-    × BeginsEach step view id way s t × (cpus_with id t.cpus ≢ []) × (kept ≡ sum_by (λ b. kept_in b.found) way)
-Removes step view id (Err e) s t = ⊥
+Removes {R} firing id (Ok (system.Done receipt)) s t = (way : List Begun) × (u : SystemView R)
+    × (map (λ b. b.cpu) way ≡ cpus_with id s.cpus) × BeginsEach firing id way s u × Answers id receipt u t
+Removes firing id (Ok (system.Kept kept)) s t = (way : List Begun) × (map (λ b. b.cpu) way ≡ cpus_with id s.cpus)
+    × BeginsEach firing id way s t × (cpus_with id t.cpus ≢ []) × (kept ≡ sum_by (λ b. kept_in b.found) way)
+Removes firing id (Err e) s t = ⊥
 
 -- no cyclic has the id, or its removal has answered
 abbrev pub unknown_cyclic : {R : Type 0} → ℕ → SystemView R → Option Refusal
@@ -94,7 +94,7 @@ abbrev pub busy_on_each : {R : Type 0} → ℕ → SystemView R → List (Option
 busy_on_each id s = map (λ n. busy (removal_on n s.cpus)) (cpus_with id s.cpus)
 
 -- the beginning of a removal, with the reasons for which it is refused
-abbrev pub BeginsRemoval : {R : Type 0} → (R → FiringCall → R → Type 0) → (R → FiringView)
+abbrev pub BeginsRemoval : {R : Type 0} → Raise R
     → ℕ → Result SystemRemoval Refusal → SystemView R → SystemView R → Type 0
-BeginsRemoval step view id answer s t =
-    Unless (unknown_cyclic id s ∷ busy_on_each id s) (λ e. Err e) answer s t (Removes step view id answer s t)
+BeginsRemoval firing id answer s t =
+    Unless (unknown_cyclic id s ∷ busy_on_each id s) (λ e. Err e) answer s t (Removes firing id answer s t)

@@ -21,9 +21,9 @@ use cyc_types::Raise;
 /// It does nothing when it runs: its clauses are the law.
 pub fn forgotten_law<R: Raise>()
     ensures begun { (id : ℕ) (receipt : Receipt) (s t : SystemView R) → HasRisingIds s.records
-        → BeginsRemoval R.step R.view id (Ok (Done receipt)) s t → IsForgotten id t }
+        → BeginsRemoval R.Raise id (Ok (Done receipt)) s t → IsForgotten id t }
     ensures polled { (id : ℕ) (receipt : Receipt) (s t : SystemView R) → HasRisingIds s.records
-        → PollsRemoval R.step R.view id (Ok (Some receipt)) s t → IsForgotten id t }
+        → PollsRemoval R.Raise id (Ok (Some receipt)) s t → IsForgotten id t }
 {}
 
 /// A removal, its polls and the question for a cyclic's counts leave every other cyclic as it was, whatever they answer; and
@@ -32,10 +32,10 @@ pub fn forgotten_law<R: Raise>()
 /// It does nothing when it runs: its clauses are the law.
 pub fn others_law<R: Raise>()
     ensures begun { (id other : ℕ) (answer : Result SystemRemoval Refusal) (s t : SystemView R) → other ≢ id
-        → BeginsRemoval R.step R.view id answer s t → IsUntouched other s t }
+        → BeginsRemoval R.Raise id answer s t → IsUntouched other s t }
     ensures polled { (id other : ℕ) (answer : Result (Option Receipt) Refusal) (s t : SystemView R) → other ≢ id
-        → PollsRemoval R.step R.view id answer s t → IsUntouched other s t }
-    ensures asked { (id other : ℕ) (answer : Option SystemTotals) (s t : SystemView R) → AsksTotals R.step R.view id answer s t
+        → PollsRemoval R.Raise id answer s t → IsUntouched other s t }
+    ensures asked { (id other : ℕ) (answer : Option SystemTotals) (s t : SystemView R) → AsksTotals R.Raise id answer s t
         → IsUntouched other s t }
 {}
 
@@ -45,15 +45,15 @@ pub fn others_law<R: Raise>()
 /// It does nothing when it runs: its clauses are the law.
 pub fn receipt_law<R: Raise>()
     ensures done { (id : ℕ) (receipt : Receipt) (s t : SystemView R) → IsFit s → AreLawful R.view s
-        → BeginsRemoval R.step R.view id (Ok (Done receipt)) s t
+        → BeginsRemoval R.Raise id (Ok (Done receipt)) s t
         → (receipt.sent ≡ all_expired id s) × (receipt.lost ≡ all_lost id s) }
     ensures kept { (id kept : ℕ) (s t : SystemView R) → IsFit s → AreLawful R.view s
-        → BeginsRemoval R.step R.view id (Ok (Kept kept)) s t
+        → BeginsRemoval R.Raise id (Ok (Kept kept)) s t
         → (all_expired id t ≡ all_expired id s) × (all_lost id t ≡ all_lost id s) }
     ensures answered { (id : ℕ) (receipt : Receipt) (s t : SystemView R) → IsFit s → AreLawful R.view s
-        → PollsRemoval R.step R.view id (Ok (Some receipt)) s t
+        → PollsRemoval R.Raise id (Ok (Some receipt)) s t
         → (receipt.sent ≡ all_expired id s) × (receipt.lost ≡ all_lost id s) }
-    ensures waits { (id : ℕ) (s t : SystemView R) → IsFit s → AreLawful R.view s → PollsRemoval R.step R.view id (Ok None) s t
+    ensures waits { (id : ℕ) (s t : SystemView R) → IsFit s → AreLawful R.view s → PollsRemoval R.Raise id (Ok None) s t
         → (all_expired id t ≡ all_expired id s) × (all_lost id t ≡ all_lost id s) }
 {}
 
@@ -62,6 +62,6 @@ pub fn receipt_law<R: Raise>()
 /// It does nothing when it runs: its clause is the law.
 pub fn totals_law<R: Raise>()
     ensures { (id : ℕ) (totals : SystemTotals) (s t : SystemView R) → AreLawful R.view s
-        → AsksTotals R.step R.view id (Some totals) s t
+        → AsksTotals R.Raise id (Some totals) s t
         → (totals.expired ≡ all_expired id s) × (totals.lost ≡ all_lost id s) }
 {}

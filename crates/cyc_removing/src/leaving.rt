@@ -46,7 +46,7 @@ pub(crate) fn begin_at<R: Raise>(
     requires here { has number id cpus.old ≡ true }
     requires still { removal_on number cpus.old ≡ None }
     ensures did { (last : ℕ) → (found : TheRemoval) × (result ≡ kept_in found)
-        × BeginsOn R.step R.view id number found (system cpus.old records.old.list last) (system cpus.new records.new.list last) }
+        × BeginsOn R.Raise id number found (system cpus.old records.old.list last) (system cpus.new records.new.list last) }
     ensures few { result < 2 ^ 32 }
     ensures withdraws { WithdrawsAt number id place cpus.old cpus.new records.old.list records.new.list }
 {
@@ -77,7 +77,7 @@ pub(crate) fn poll_at<R: Raise>(
     requires owns { Owns id place cpus.old records.old.list }
     requires open_here { removal_on number cpus.old ≡ Some id }
     ensures did { (last : ℕ) → (answer : Option TheReceipt)
-        × PollsOn R.step R.view id number answer (system cpus.old records.old.list last) (system cpus.new records.new.list last) }
+        × PollsOn R.Raise id number answer (system cpus.old records.old.list last) (system cpus.new records.new.list last) }
     ensures withdraws { WithdrawsAt number id place cpus.old cpus.new records.old.list records.new.list }
 {
     cpus.law();

@@ -54,7 +54,7 @@ fn begin_each<R: Raise>(
     requires owns { Owns id place cpus.old records.old.list }
     requires still { (n : ℕ) → has n id cpus.old ≡ true → removal_on n cpus.old ≡ None }
     ensures did { (last : ℕ) → (way : List Begun) × (map (λ b. b.cpu) way ≡ cpus_with id cpus.old)
-        × BeginsEach R.step R.view id way (system cpus.old records.old.list last) (system cpus.new records.new.list last)
+        × BeginsEach R.Raise id way (system cpus.old records.old.list last) (system cpus.new records.new.list last)
         × (result ≡ sum_by (λ b. kept_in b.found) way) }
     ensures withdraws { Withdraws id place cpus.old cpus.new records.old.list records.new.list }
     ensures leaving { (n : ℕ) → has n id cpus.new ≡ true → removal_on n cpus.new ≡ Some id }
@@ -73,7 +73,7 @@ fn poll_each<R: Raise>(cpus: &mut Cpus<R>, records: &mut Records, place: usize, 
     requires owns { Owns id place cpus.old records.old.list }
     requires whole { (n : ℕ) → has n id cpus.old ≡ true → removal_on n cpus.old ≡ Some id }
     ensures did { (last : ℕ) → (way : List Polled) × (map (λ p. p.cpu) way ≡ leaving_cpus id cpus.old)
-        × PollsEach R.step R.view id way (system cpus.old records.old.list last) (system cpus.new records.new.list last) }
+        × PollsEach R.Raise id way (system cpus.old records.old.list last) (system cpus.new records.new.list last) }
     ensures withdraws { Withdraws id place cpus.old cpus.new records.old.list records.new.list }
     ensures leaving { (n : ℕ) → has n id cpus.new ≡ true → removal_on n cpus.new ≡ Some id }
 {
@@ -107,7 +107,7 @@ pub fn begin_remove<R: Raise>(
     id: CyclicId,
 ) -> Result<SystemRemoval, Refusal>
     requires { (last : ℕ) × Holds (system cpus.old records.old.list last) }
-    ensures did { (last : ℕ) → BeginsRemoval R.step R.view id result (system cpus.old records.old.list last)
+    ensures did { (last : ℕ) → BeginsRemoval R.Raise id result (system cpus.old records.old.list last)
         (system cpus.new records.new.list last) }
     ensures holds { (last : ℕ) → Holds (system cpus.old records.old.list last) → Holds (system cpus.new records.new.list last) }
 {
@@ -137,7 +137,7 @@ pub fn poll_remove<R: Raise>(
     id: CyclicId,
 ) -> Result<Option<Receipt>, Refusal>
     requires { (last : ℕ) × Holds (system cpus.old records.old.list last) }
-    ensures did { (last : ℕ) → PollsRemoval R.step R.view id result (system cpus.old records.old.list last)
+    ensures did { (last : ℕ) → PollsRemoval R.Raise id result (system cpus.old records.old.list last)
         (system cpus.new records.new.list last) }
     ensures holds { (last : ℕ) → Holds (system cpus.old records.old.list last) → Holds (system cpus.new records.new.list last) }
 {

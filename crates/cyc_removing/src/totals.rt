@@ -26,7 +26,7 @@ pub struct SystemTotals {
 /// The counts of the stays that go on. Every CPU that has the cyclic is asked for them.
 fn ask_each<R: Raise>(cpus: &mut Cpus<R>, id: CyclicId) -> SystemTotals
     ensures did { (way : List Counted) × (map (λ a. a.cpu) way ≡ cpus_with id cpus.old)
-        × Works R.step R.view (map (asked id) way) cpus.old cpus.new × GoingOn way result }
+        × Works R.Raise (map (asked id) way) cpus.old cpus.new × GoingOn way result }
     ensures holds { (records : List Record) (last : ℕ) → Holds (system cpus.old records last)
         → Holds (system cpus.new records last) }
     ensures expired { result.expired ≤ 16 * 2 ^ 64 }
@@ -54,7 +54,7 @@ pub fn system_totals<R: Raise>(
     records: &Records,
     id: CyclicId,
 ) -> Option<SystemTotals>
-    ensures did { (last : ℕ) → AsksTotals R.step R.view id result (system cpus.old records.now.list last)
+    ensures did { (last : ℕ) → AsksTotals R.Raise id result (system cpus.old records.now.list last)
         (system cpus.new records.now.list last) }
     ensures holds { (last : ℕ) → Holds (system cpus.old records.now.list last) → Holds (system cpus.new records.now.list last) }
 {

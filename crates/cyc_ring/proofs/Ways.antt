@@ -24,7 +24,7 @@ use Rattle.ring_rule.specs.Trail.{open_stay, ended_calls}
 use Rattle.ring_rule.specs.Log.{raise_side, drain_side, level_after}
 use Rattle.ring_rule.specs.Shown.{IsSameStay}
 use Rattle.cyc_ring.specs.Steps.{RaiseSteps, DrainSteps}
-use Rattle.cyc_ring.specs.Ends.{raise_trail, drain_trail, end_view, RaiseEndCall, DrainEndCall, IsSameRaiseSeat, IsSameDrainSeat}
+use Rattle.cyc_ring.specs.Ends.{raise_trail, drain_trail, raise_end, DrainEndCall, IsSameRaiseSeat, IsSameDrainSeat}
 use Rattle.cyc_ring.specs.Ends.{end_made}
 use Rattle.cyc_ring.specs.Laws.{RaiseWaysAddUp, DrainWaysAddUp, IdleIsFound, NothingFollowsRemoval, IsQuiet}
 use Rattle.cyc_ring.specs.Laws.{QuietCallsRaiseNothing, EndsKeepTheirCeiling}
@@ -89,7 +89,7 @@ module _ (k : Setting) (t : List RaiseStep) (id : ℕ) where
     ap (λ (l : List RaiseStep). losses_of id (l ++ t)) f.2 ∙ omega arith,
   )
 
-raise_run : (way : List FiringCall) (e f : RaiseEnd) → FoldsTo (Taught RaiseEndCall end_view) e way f
+raise_run : (way : List FiringCall) (e f : RaiseEnd) → FoldsTo (Taught raise_end) e way f
     → IsSameRaiseSeat e.seat f.seat × ((id : ℕ)
     → raises_of id (raise_trail f.seat) ≡ raises_of id (raise_trail e.seat) + raised_by id way)
     × ((id : ℕ) → losses_of id (raise_trail f.seat) ≡ losses_of id (raise_trail e.seat) + lost_by id way)

@@ -1,5 +1,6 @@
 -- What a contract says of the seats and ends of a ring.
 use Rattle.std.specs.Prelude.{◌≡◌, ℕ, Option, List, ◌++◌}
+use Rattle.cyc_types.specs.declared.Raise.{Ghosts as Raise}
 use Rattle.cyc_types.specs.Firing.{FiringView, FiringCall}
 use Rattle.cyc_types.specs.Draining.{DrainCall}
 use Rattle.ring_rule.specs.declared.RaiseStep.{RaiseStep}
@@ -59,6 +60,10 @@ end_view e = seat_view e.seat
 abbrev pub RaiseEndCall : RaiseEnd → FiringCall → RaiseEnd → Type 0
 RaiseEndCall e call f = IsSameRaiseSeat e.seat f.seat
     × MakesRaiseCall e.seat.setting (raise_seat_view e.seat) call (raise_seat_view f.seat)
+
+-- both at once
+abbrev pub raise_end : Raise RaiseEnd
+raise_end = record { view = end_view; step = RaiseEndCall }
 
 -- the cyclic in the hand of a drain seat, and its finishes of each id
 abbrev pub seat_hand : DrainSeat → Option ℕ

@@ -7,14 +7,14 @@ use Rattle.ring_rule.specs.declared.Setting.{Setting}
 use Rattle.ring_rule.specs.Trail.{open_stay, raises_of, losses_of, ended_calls, made_calls}
 use Rattle.ring_rule.specs.Log.{RingStep, raise_side, drain_side}
 use Rattle.ring_rule.specs.Conservation.{LevelStands}
-use Rattle.cyc_ring.specs.Ends.{raise_trail, end_view, RaiseEndCall, end_made, DrainEndCall, IsSameRaiseSeat, IsSameDrainSeat}
+use Rattle.cyc_ring.specs.Ends.{raise_trail, raise_end, end_view, end_made, DrainEndCall, IsSameRaiseSeat, IsSameDrainSeat}
 use Rattle.cyc_ring.specs.Ends.{FoundIdle}
 use Rattle.cyc_ring.specs.declared.ends.RaiseEnd.{RaiseEnd}
 use Rattle.cyc_ring.specs.declared.ends.DrainEnd.{DrainEnd}
 
 -- the raises and the losses in the trail grow by those of the run
 abbrev pub RaiseWaysAddUp : Type 0
-RaiseWaysAddUp = (e f : RaiseEnd) (way : List FiringCall) → Goes RaiseEndCall end_view e way f
+RaiseWaysAddUp = (e f : RaiseEnd) (way : List FiringCall) → Goes raise_end e way f
     → IsSameRaiseSeat e.seat f.seat
     × ((id : ℕ) → raises_of id (raise_trail f.seat) ≡ raises_of id (raise_trail e.seat) + raised_by id way)
     × ((id : ℕ) → losses_of id (raise_trail f.seat) ≡ losses_of id (raise_trail e.seat) + lost_by id way)
@@ -50,5 +50,5 @@ QuietCallsRaiseNothing = (id : ℕ) (way : List FiringCall) → AreQuiet way →
 
 -- no run of calls changes the ceiling
 abbrev pub EndsKeepTheirCeiling : Type 0
-EndsKeepTheirCeiling = (e f : RaiseEnd) (way : List FiringCall) → Goes RaiseEndCall end_view e way f
+EndsKeepTheirCeiling = (e f : RaiseEnd) (way : List FiringCall) → Goes raise_end e way f
     → (end_view f).ceiling ≡ (end_view e).ceiling

@@ -9,7 +9,7 @@ use Rattle.cyc_types.specs.declared.moment.When.{When}
 use Rattle.cyc_types.specs.declared.refusal.Refusal.{Refusal}
 use Rattle.cyc_core.specs.Tables.{Tables}
 use Rattle.cyc_system_model.specs.Cpu.{CpuView}
-use Rattle.cyc_system_model.specs.Soft.{fires, firing_at}
+use Rattle.cyc_system_model.specs.Soft.{raise_tables}
 use Rattle.cyc_system_model.specs.CpuCalls.{AskPending, Reserve, Reprogram as CpuReprogram}
 use Rattle.cyc_system_model.proofs.Calling.{changes_most}
 use Rattle.cyc_system_model.specs.Cpus.{CpusView, IsCpu, ChangesAt, CallOn, on, Works, new_cpus}
@@ -35,10 +35,10 @@ most_changed n D v w same c all m cpu is = dite (ℕ_discrete m n)
     ap (λ (x : CpuView Tables). x.most) one ∙ same c.before c.after c.change ∙ all n c.before c.here)
     (λ ne. all m cpu (cpu_beside n m cpu c.after v ne (subst (λ (u : CpusView Tables). IsCpu m cpu u) c.rest is)))
 
-most_works : (way : List CallOn) (v w : CpusView Tables) → Works fires firing_at way v w → AllMost v → AllMost w
+most_works : (way : List CallOn) (v w : CpusView Tables) → Works raise_tables way v w → AllMost v → AllMost w
 most_works [] v w same all = subst AllMost same all
 most_works (c ∷ way) v w (u, did, rest) all =
-    most_works way u w rest (most_changed c.cpu _ v u (λ x y d. changes_most fires firing_at x y c.call d) did all)
+    most_works way u w rest (most_changed c.cpu _ v u (λ x y d. changes_most raise_tables x y c.call d) did all)
 
 -- ---- a call
 

@@ -28,7 +28,7 @@ use Rattle.cyc_types.specs.declared.refusal.Refusal.{Refusal}
 use Rattle.cyc_types.specs.declared.refusal.Refusal.TheVariants.{Memory}
 use Rattle.cyc_system_model.specs.Cpu.{CpuView, size_for, HasRisingIds}
 use Rattle.cyc_system_model.specs.CpuCalls.{Reserve, Changes}
-use Rattle.cyc_system_model.specs.Soft.{fires}
+use Rattle.cyc_system_model.specs.Soft.{raise_tables}
 use Rattle.cyc_system_model.specs.Cpus.{new_cpus}
 use Rattle.cyc_system_model.proofs.CpusRooms.{only_memory}
 use Rattle.cyc_system_model.specs.CpuModelShown.{shown, shown_cpu}
@@ -147,14 +147,14 @@ new_empty most ceiling (e ∷ ends) new (suc k) d low =
     new_empty most ceiling ends (λ i x less. new (suc i) x (omega (arith, less))) k d (omega (arith, low))
 
 -- looks change nothing
-looked : (answers : List Bool) (d e : Tables) → Goes fires firing_at d (map Looks answers) e → level_of e ≡ level_of d
+looked : (answers : List Bool) (d e : Tables) → Goes raise_tables d (map Looks answers) e → level_of e ≡ level_of d
 looked [] d e goes = ap level_of (sym goes)
 looked (answer ∷ answers) d e (x, (step, learns), rest) = looked answers x e rest ∙ step.1
 
-only_looked : (d e : Tables) → OnlyLooks fires firing_at d e → level_of e ≡ level_of d
+only_looked : (d e : Tables) → OnlyLooks raise_tables d e → level_of e ≡ level_of d
 only_looked d e (answers, goes) = looked answers d e goes
 
-reserved_so : (v w : CpuView Tables) → IsEmpty v → Changes fires firing_at v (Reserve 256 (Ok tt)) w → HasReserved v w
+reserved_so : (v w : CpuView Tables) → IsEmpty v → Changes raise_tables v (Reserve 256 (Ok tt)) w → HasReserved v w
 reserved_so v w e d = record {
   room = subst (λ k. k ≤ w.room) (ap (λ k. size_for k (length w.cyclics + 256)) (d.0.size ∙ e.size)
       ∙ ap (λ cs. size_for 1 (length cs + 256)) (d.0.cyclics ∙ e.cyclics)) d.1.reserved;
@@ -166,21 +166,21 @@ reserved_so v w e d = record {
   low = only_looked v.low w.low d.0.low;
 }
 
-only_want : (v w : CpuView Tables) (e : Refusal) → IsEmpty v → Changes fires firing_at v (Reserve 256 (Err e)) w → e ≡ Memory
-only_want v w e empty d = only_memory fires firing_at 256 v w e
+only_want : (v w : CpuView Tables) (e : Refusal) → IsEmpty v → Changes raise_tables v (Reserve 256 (Err e)) w → e ≡ Memory
+only_want v w e empty d = only_memory raise_tables 256 v w e
     (record {
       fits = let none = ap length empty.cyclics in omega (arith, none);
       still = λ more. (empty.removal, empty.followed);
     }) d.0 d.1
 
 pub reserved_or_not : (v w : CpuView Tables) (r : Result (Unit {0}) Refusal) → IsEmpty v
-    → Changes fires firing_at v (Reserve 256 r) w
+    → Changes raise_tables v (Reserve 256 r) w
     → OnOk r (HasReserved v w)
 reserved_or_not v w (Ok done) e d = reserved_so v w e d
 reserved_or_not v w (Err why) e d = tt
 
 pub only_if_refused : (v w : CpuView Tables) (r : Result (Unit {0}) Refusal) → IsEmpty v
-    → Changes fires firing_at v (Reserve 256 r) w
+    → Changes raise_tables v (Reserve 256 r) w
     → IfErr r (λ refusal. refusal ≡ Memory)
 only_if_refused v w (Ok done) e d = tt
 only_if_refused v w (Err why) e d = only_want v w why e d

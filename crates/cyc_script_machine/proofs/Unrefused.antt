@@ -22,7 +22,7 @@ use Rattle.cyc_system_model.specs.FireRefused.{FireRefused}
 use Rattle.cyc_system_model.proofs.Sharing.{ids_add_up}
 use Rattle.cyc_system_model.specs.Cpu.{CpuView, running}
 use Rattle.cyc_system_model.specs.CpuCalls.{Stopped}
-use Rattle.cyc_system_model.specs.Soft.{fires, firing_at}
+use Rattle.cyc_system_model.specs.Soft.{raise_tables}
 use Rattle.cyc_script.specs.Limits.{most_steps}
 use Rattle.cyc_script_machine.specs.Machine.{IsWide}
 
@@ -125,7 +125,7 @@ never_stops last most bound at t (HandlerRefused id) low greatest less few w cou
 never_stops last most bound at t _ low greatest less few w counts s = absurd s
 
 pub never_stopped : (now last most : ℕ) (v w : CpuView Tables) (t u : TallyView) (e : FireRefused)
-    → Stopped tally_calls fires firing_at now e (running t v) (running u w)
+    → Stopped tally_calls raise_tables now e (running t v) (running u w)
     → last ≤ most_steps → v.most ≡ 2 ^ 64 - 1 → most + (late + 2) < 2 ^ 64 - 1 → EachTimer (IsFew last most) (timers v.cyclics)
     → ((id : ℕ) → times_of id (expirations now (timers v.cyclics)) ≤ late + 2) → IsWide t
     → ((id : ℕ) → tally_count t id ≤ most) → ⊥

@@ -8,7 +8,7 @@ use Rattle.cyc_types.specs.declared.Calls.{Ghosts as Calls}
 use Rattle.cyc_fire.specs.declared.fire.Fired.{Fired}
 use Rattle.cyc_fire.specs.declared.fire.FireRefused.{FireRefused}
 use Rattle.cyc_ring.specs.declared.ends.RaiseEnd.{RaiseEnd}
-use Rattle.cyc_ring.specs.Ends.{end_view, RaiseEndCall}
+use Rattle.cyc_ring.specs.Ends.{raise_end}
 use Rattle.cyc_ring.proofs.Ways.{raise_ways}
 use Rattle.cyc_system_laws.specs.Cpu.{CpuView, Running, running}
 use Rattle.cyc_system_laws.specs.Calls.{CpuCall, Changes, Does, Fire, AskSettled, no_interrupts}
@@ -49,8 +49,8 @@ then_all (x ∷ xs) (y ∷ ys) (z ∷ zs) p q = (then_one x y z p.0 q.0, then_al
 
 -- ---- calls of a system
 
-changed_one : (x y : CpuView RaiseEnd) (call : CpuCall) → Changes RaiseEndCall end_view x call y → HasSameSeats x y
-changed_one x y call d = let st = changes_still RaiseEndCall end_view x y call d in
+changed_one : (x y : CpuView RaiseEnd) (call : CpuCall) → Changes raise_end x call y → HasSameSeats x y
+changed_one x y call d = let st = changes_still raise_end x y call d in
     ((raise_ways x.lock y.lock st.lock.way st.lock.goes).0, (raise_ways x.low y.low st.low.way st.low.goes).0)
 
 set_one : (xs : List (CpuView RaiseEnd)) (n : ℕ) (x y : CpuView RaiseEnd) → slice_get xs n ≡ Some x → HasSameSeats x y →
@@ -64,22 +64,22 @@ at_one : (n : ℕ) (D : CpuView RaiseEnd → CpuView RaiseEnd → Type 0) (v w :
 at_one n D v w f c = subst (λ (u : CpusView RaiseEnd). HaveSameSeats v.cpus u.cpus) (sym c.rest)
     (set_one v.cpus n c.before c.after c.here (f c.before c.after c.change))
 
-part : (v w : CpusView RaiseEnd) (p : CpusCall) → DoesPart RaiseEndCall end_view v p w → HaveSameSeats v.cpus w.cpus
-part v w (OnCpu c) d = at_one c.cpu (λ x y. Changes RaiseEndCall end_view x c.call y) v w (λ x y e. changed_one x y c.call e) d
+part : (v w : CpusView RaiseEnd) (p : CpusCall) → DoesPart raise_end v p w → HaveSameSeats v.cpus w.cpus
+part v w (OnCpu c) d = at_one c.cpu (λ x y. Changes raise_end x c.call y) v w (λ x y e. changed_one x y c.call e) d
 part v w (SetOnline n online) d = subst (λ (u : CpusView RaiseEnd). HaveSameSeats v.cpus u.cpus) (sym d) (same_all v.cpus)
 
-parts : (v w : CpusView RaiseEnd) (way : List CpusCall) → FoldsTo (DoesPart RaiseEndCall end_view) v way w →
+parts : (v w : CpusView RaiseEnd) (way : List CpusCall) → FoldsTo (DoesPart raise_end) v way w →
     HaveSameSeats v.cpus w.cpus
 parts v w [] e = subst (λ (u : CpusView RaiseEnd). HaveSameSeats v.cpus u.cpus) e (same_all v.cpus)
 parts v w (p ∷ way) (m, a, rest) = then_all v.cpus m.cpus w.cpus (part v m p a) (parts m w way rest)
 
-pub called_all : (s t : SystemView RaiseEnd) (call : SystemCall) → SystemChanges RaiseEndCall end_view s call t →
+pub called_all : (s t : SystemView RaiseEnd) (call : SystemCall) → SystemChanges raise_end s call t →
     HaveSameSeats s.cpus.cpus t.cpus.cpus
-called_all s t call d = let m = made_of RaiseEndCall end_view s t call d in parts s.cpus t.cpus m.way m.works
+called_all s t call d = let m = made_of raise_end s t call d in parts s.cpus t.cpus m.way m.works
 
 -- ---- questions, and fires
 
-settle_one : (x y : CpuView RaiseEnd) (answers : List Bool) → FoldsTo (Asks RaiseEndCall end_view) x answers y → HasSameSeats x y
+settle_one : (x y : CpuView RaiseEnd) (answers : List Bool) → FoldsTo (Asks raise_end) x answers y → HasSameSeats x y
 settle_one x y [] e = subst (λ (z : CpuView RaiseEnd). HasSameSeats x z) e (same_one x)
 settle_one x y (answer ∷ answers) (m, d, rest) =
     then_one x m y (changed_one x m (AskSettled answer) d.0) (settle_one m y answers rest)
@@ -92,7 +92,7 @@ each_of [] (y ∷ ys) long f = absurd (omega (arith, long))
 each_of (x ∷ xs) [] long f = absurd (omega (arith, long))
 each_of (x ∷ xs) (y ∷ ys) long f = (f zero x y refl refl, each_of xs ys (omega (arith, long)) (λ n a b p q. f (suc n) a b p q))
 
-pub asked_all : (v w : List (CpuView RaiseEnd)) → AllAsked RaiseEndCall end_view v w → HaveSameSeats v w
+pub asked_all : (v w : List (CpuView RaiseEnd)) → AllAsked raise_end v w → HaveSameSeats v w
 asked_all v w a = each_of v w a.long (λ n x y p q. (let s = a.each n x y p q in settle_one x y s.0 s.1))
 
 -- each place below the length has its element
@@ -108,7 +108,7 @@ has_at (x ∷ xs) (suc n) low = has_at xs n (omega (arith, low))
 
 module _ {C : Type 0} (handler : Calls C) where
   fired_one : (s t : Running C RaiseEnd) (now : ℕ) (answer : Result Fired FireRefused) →
-      Does handler RaiseEndCall end_view no_interrupts s (Fire now answer) t → HasSameSeats s.cpu t.cpu
+      Does handler raise_end no_interrupts s (Fire now answer) t → HasSameSeats s.cpu t.cpu
   fired_one s t now (Ok r) (early, kept, expired, next, m) = (
     (raise_ways s.cpu.lock t.cpu.lock m.acts.lock_way m.acts.lock_goes).0,
     (raise_ways s.cpu.low t.cpu.low m.acts.low_way m.acts.low_goes).0,
@@ -121,7 +121,7 @@ module _ {C : Type 0} (handler : Calls C) where
   )
 
   fires_if : (up : Bool) (now : ℕ) (s t : Running C RaiseEnd) (answer : Option (Result Fired FireRefused)) →
-      FiresIf handler RaiseEndCall end_view up now s answer t → HasSameSeats s.cpu t.cpu
+      FiresIf handler raise_end up now s answer t → HasSameSeats s.cpu t.cpu
   fires_if true now s t (Some answer) d = fired_one s t now answer d
   fires_if true now s t None d = absurd d
   fires_if false now s t (Some answer) d = absurd d
@@ -129,7 +129,7 @@ module _ {C : Type 0} (handler : Calls C) where
 
   pub fired_all : (now : ℕ) (a : SystemSide RaiseEnd C) (b : Advanced RaiseEnd C) →
       length a.system.cpus.online ≡ length a.system.cpus.cpus →
-      length a.leads.items ≡ length a.system.cpus.cpus → AllFire handler RaiseEndCall end_view now a b →
+      length a.leads.items ≡ length a.system.cpus.cpus → AllFire handler raise_end now a b →
       HaveSameSeats a.system.cpus.cpus b.side.system.cpus.cpus
   fired_all now a b long many f = each_of a.system.cpus.cpus b.side.system.cpus.cpus f.long (λ n x y p q. (
       let low = below a.system.cpus.cpus n x p in let leads = f.long_leads in let answers = f.long_answers in

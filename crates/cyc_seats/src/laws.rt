@@ -2,7 +2,7 @@
 
 ghost use Rattle.std.specs.Prelude.{◌≡◌, ℕ, List, length};
 ghost use Rattle.cyc_ring.specs.declared.ends.RaiseEnd.{RaiseEnd};
-ghost use Rattle.cyc_ring.specs.Ends.{end_view, RaiseEndCall};
+ghost use Rattle.cyc_ring.specs.Ends.{raise_end};
 ghost use Rattle.cyc_system_laws.specs.Cpu.{CpuView};
 ghost use Rattle.cyc_system_workers.specs.Settled.{AllAsked};
 ghost use Rattle.cyc_system_workers.specs.System.{SystemView};
@@ -21,12 +21,12 @@ use cyc_types::Calls;
 pub fn seats_law<C: Calls>()
     ensures none { (v : List (CpuView RaiseEnd)) → HaveSameSeats v v }
     ensures joined { (u v w : List (CpuView RaiseEnd)) → HaveSameSeats u v → HaveSameSeats v w → HaveSameSeats u w }
-    ensures called { (s t : SystemView RaiseEnd) (call : SystemCall) → Changes RaiseEndCall end_view s call t
+    ensures called { (s t : SystemView RaiseEnd) (call : SystemCall) → Changes raise_end s call t
         → HaveSameSeats s.cpus.cpus t.cpus.cpus }
-    ensures asked { (v w : List (CpuView RaiseEnd)) → AllAsked RaiseEndCall end_view v w → HaveSameSeats v w }
+    ensures asked { (v w : List (CpuView RaiseEnd)) → AllAsked raise_end v w → HaveSameSeats v w }
     ensures fired { (now : ℕ) (a : SystemSide RaiseEnd C) (b : Advanced RaiseEnd C)
         → length a.system.cpus.online ≡ length a.system.cpus.cpus
         → length a.leads.items ≡ length a.system.cpus.cpus
-        → AllFire C.Calls RaiseEndCall end_view now a b
+        → AllFire C.Calls raise_end now a b
         → HaveSameSeats a.system.cpus.cpus b.side.system.cpus.cpus }
 {}

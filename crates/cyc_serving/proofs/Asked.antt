@@ -10,7 +10,7 @@ use Rattle.cyc_types.specs.declared.refusal.Refusal.{Refusal}
 use Rattle.cyc_types.specs.declared.refusal.Refusal.TheVariants.{NoCyclic}
 use Rattle.cyc_core.specs.Tables.{Tables}
 use Rattle.cyc_cpu.specs.Cpu.{CpuView}
-use Rattle.cyc_cpu.specs.Soft.{fires, firing_at}
+use Rattle.cyc_cpu.specs.Soft.{raise_tables}
 use Rattle.cyc_script_machine.specs.Cpus.{CpusView}
 use Rattle.cyc_script_machine.specs.System.{SystemView, removal_on, is_leaving_here}
 use Rattle.cyc_script_machine.proofs.Spots.{none_some}
@@ -123,7 +123,7 @@ leaving_at id (suc n) (c ∷ cpus) is = or_true (is_leaving_here id c) (leaving_
     or_true false h = h
 
 pub never_unpolled : (id n : ℕ) (e : Refusal) (v w : SystemView Tables) → removal_on n v.cpus ≡ Some id
-    → Changes fires firing_at v (PollRemove id (Err e)) w → ⊥
+    → Changes raise_tables v (PollRemove id (Err e)) w → ⊥
 never_unpolled id n e v w is (inl (why, some, said, same)) =
     none_some (sym (ap (λ b. or_else (when (not b) NoCyclic) None) (leaving_at id n v.cpus.cpus is)) ∙ some)
 never_unpolled id n e v w is (inr (none, did)) = did

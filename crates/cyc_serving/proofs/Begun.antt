@@ -10,7 +10,7 @@ use Rattle.cyc_types.specs.Refusals.{number_of}
 use Rattle.cyc_core.specs.Tables.{Tables}
 use Rattle.cyc_text.specs.Lines.{refused}
 use Rattle.cyc_script_machine.specs.Answers.{IsRefused}
-use Rattle.cyc_cpu.specs.Soft.{fires, firing_at}
+use Rattle.cyc_cpu.specs.Soft.{raise_tables}
 use mathlib.Core.Logic.{dite}
 use native.Mathlib.Decide.{ℕ_discrete}
 use Rattle.cyc_text.specs.declared.lines.Counts.{Counts}
@@ -51,10 +51,10 @@ Begun name (Ok (Kept waits)) s w = IsKept name waits s w
 Begun name (Err e) s w = IsRefusedFor e (Remove name) s w
 
 pub begun : (name id : ℕ) (answer : Result SystemRemoval Refusal) (s : State) (v w : SystemView Tables)
-    → ((receipt : Receipt) → Changes fires firing_at v (BeginRemove id (Ok (Done receipt))) w → IsRemoved name receipt s w)
-    → ((waits : ℕ) → Changes fires firing_at v (BeginRemove id (Ok (Kept waits))) w → IsKept name waits s w)
-    → ((e : Refusal) → Changes fires firing_at v (BeginRemove id (Err e)) w → IsRefusedFor e (Remove name) s w)
-    → Changes fires firing_at v (BeginRemove id answer) w → Begun name answer s w
+    → ((receipt : Receipt) → Changes raise_tables v (BeginRemove id (Ok (Done receipt))) w → IsRemoved name receipt s w)
+    → ((waits : ℕ) → Changes raise_tables v (BeginRemove id (Ok (Kept waits))) w → IsKept name waits s w)
+    → ((e : Refusal) → Changes raise_tables v (BeginRemove id (Err e)) w → IsRefusedFor e (Remove name) s w)
+    → Changes raise_tables v (BeginRemove id answer) w → Begun name answer s w
 begun name id (Ok (Done receipt)) s v w answered kept refused did = answered receipt did
 begun name id (Ok (Kept waits)) s v w answered kept refused did = kept waits did
 begun name id (Err e) s v w answered kept refused did = refused e did
@@ -134,7 +134,7 @@ module _ (name id : ℕ) (s : State) (m n : Machine) (g : Good s) (h : Holds s m
       (λ j low gone. counts_removed name s g b.done.accepted step (text_in texts name) j)
 
   pub begun_answers : (answer : Result SystemRemoval Refusal) → n.counted.items ≡ counted_begun name answer m.counted.items
-      → Changes fires firing_at m.system (BeginRemove id answer) n.system → Begun name answer s n.system
+      → Changes raise_tables m.system (BeginRemove id answer) n.system → Begun name answer s n.system
       → Answers (Remove name) answer s n
   begun_answers (Ok (Done receipt)) counted did b =
       accepts (Remove name) s m n h kept b.done clock tally leaves (done_remembers receipt counted b)

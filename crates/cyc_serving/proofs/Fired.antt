@@ -22,7 +22,7 @@ use Rattle.cyc_fire.specs.declared.fire.FireRefused.{FireRefused}
 use Rattle.cyc_fire.specs.Made.{Stops}
 use Rattle.cyc_cpu.specs.Cpu.{CpuView, running}
 use Rattle.cyc_cpu.specs.Calls.{Fire, no_interrupts, Does as DoesHere}
-use Rattle.cyc_cpu.specs.Soft.{fires, firing_at}
+use Rattle.cyc_cpu.specs.Soft.{raise_tables}
 use Rattle.cyc_script_machine.specs.Cpus.{IsCpu}
 use Rattle.cyc_script_machine.specs.System.{SystemView, RunningSystem, running_system, is_online}
 use Rattle.cyc_script_machine.proofs.Spots.{same_some, none_some}
@@ -54,13 +54,13 @@ use Rattle.cyc_script_machine.proofs.Grown.{few_timers, few_reached, many_reache
 -- ---- what a fire keeps
 
 module _ (n now : ℕ) (s t : RunningSystem TallyView Tables) where
-  pub most_fired : (fired : Fired) → Does tally_calls fires firing_at no_interrupts s (FireOne n now (Ok fired)) t
+  pub most_fired : (fired : Fired) → Does tally_calls raise_tables no_interrupts s (FireOne n now (Ok fired)) t
       → AllMost s.system.cpus → AllMost t.system.cpus
   most_fired fired (inl (e, some, answer, same)) all = absurd (let isnt : Ok fired ≡ Err (no_fire e) = answer in cc)
   most_fired fired (inr (none, (did, records, last))) all =
       most_changed n _ s.system.cpus t.system.cpus (λ x y d. d.1.most) did all
 
-  pub wide_fired : (fired : Fired) → Does tally_calls fires firing_at no_interrupts s (FireOne n now (Ok fired)) t
+  pub wide_fired : (fired : Fired) → Does tally_calls raise_tables no_interrupts s (FireOne n now (Ok fired)) t
       → IsWide s.calls → IsWide t.calls
   wide_fired fired (inl (e, some, answer, same)) w = absurd (let isnt : Ok fired ≡ Err (no_fire e) = answer in cc)
   wide_fired fired (inr (none, (did, records, last))) w =
@@ -85,13 +85,13 @@ offline_stops : (most : ℕ) (at : TallyView) (tm : Timer) (why : Refusal) → w
 offline_stops most at tm why is stops = subst (Stops TallyRefuses most at tm) is stops
 
 module _ (n now : ℕ) (e : FireRefused) (s t : RunningSystem TallyView Tables) (low : n < length s.system.cpus.cpus) where
-  pub passed : e.why ≡ Offline → Does tally_calls fires firing_at no_interrupts s (FireOne n now (Err e)) t
+  pub passed : e.why ≡ Offline → Does tally_calls raise_tables no_interrupts s (FireOne n now (Err e)) t
       → (is_online n s.system.cpus ≡ false) × (t ≡ s)
   passed is (inl (r, some, answer, same)) =
       ((only_offline (is_online n s.system.cpus) n (length s.system.cpus.cpus) r low some).0, same)
   passed is (inr (none, (did, records, last))) = absurd (by did.change)
     where
-      by : DoesHere tally_calls fires firing_at no_interrupts (running s.calls did.before)
+      by : DoesHere tally_calls raise_tables no_interrupts (running s.calls did.before)
           (Fire now (Err e)) (running t.calls did.after) → ⊥
       by (inl (early, bad, same)) = let no : BadNow ≡ Offline = sym (ap (λ (x : FireRefused). x.why) bad) ∙ is in cc
       by (inr (late_enough, same, f)) = let (tm, found, stops) = f.stops in offline_stops did.before.most f.at tm e.why is stops
@@ -206,13 +206,13 @@ module _ (step n expired lost : ℕ) (s : State) (first : RunningSystem TallyVie
       ∙ ap (λ (y : Cpu). map (λ (z : Cyclic). z.timer) y.cyclics) still
 
   pub never_fire : (e : FireRefused) (t : RunningSystem TallyView Tables) → (e.why ≡ Offline → ⊥)
-      → Does tally_calls fires firing_at no_interrupts (running_system m.tally m.system)
+      → Does tally_calls raise_tables no_interrupts (running_system m.tally m.system)
       (FireOne n m.clock (Err e)) t → ⊥
   never_fire e t other (inl (r, some, answer, same)) =
       other (ap (why_of e) answer ∙ (only_offline (is_online n m.system.cpus) n (length m.system.cpus.cpus) r low some).1)
   never_fire e t other (inr (none, (did, records, last))) = by did.change
     where
-      by : DoesHere tally_calls fires firing_at no_interrupts (running m.tally did.before)
+      by : DoesHere tally_calls raise_tables no_interrupts (running m.tally did.before)
           (Fire m.clock (Err e)) (running t.calls did.after) → ⊥
       by (inl (early, bad, same)) = let before = a.before in absurd (omega (arith, early, before))
       by (inr (late_enough, same, f)) =

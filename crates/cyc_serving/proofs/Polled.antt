@@ -19,7 +19,7 @@ use Rattle.cyc_model.proofs.Still.{still_polls}
 use Rattle.cyc_model.specs.Places.{is_unknown}
 use Rattle.cyc_model.specs.Report.{counts_of}
 use Rattle.cyc_text.specs.declared.lines.Counts.{Counts}
-use Rattle.cyc_cpu.specs.Soft.{fires, firing_at}
+use Rattle.cyc_cpu.specs.Soft.{raise_tables}
 use Rattle.cyc_script_machine.specs.Calls.{Changes, PollRemove}
 use Rattle.cyc_script_machine.specs.Agreement.{Agrees}
 use Rattle.cyc_script_machine.proofs.Spots.{same_some, none_some}
@@ -107,7 +107,7 @@ module _ (texts : List (List ℕ)) (step : ℕ) (i : SoftintStep) (s : State) wh
 
     -- it has not answered
     pub remembers_open : (n : Machine) → ShowsSystem (left (ids ++ id ∷ [])) n.system → Agrees n.system → SameNames m n
-        → Changes fires firing_at m.system (PollRemove id (Ok None)) n.system → Remembers (left (ids ++ id ∷ [])) n
+        → Changes raise_tables m.system (PollRemove id (Ok None)) n.system → Remembers (left (ids ++ id ∷ [])) n
     remembers_open n shows agrees same (inl (e, why, said, none)) = absurd (let no : Ok None ≡ Err e = said in cc)
     remembers_open n shows agrees same (inr (none, (way, ns, each_one, some))) =
         remembers_on (left ids) (left (ids ++ id ∷ [])) m n p.holds.remembers same same_last

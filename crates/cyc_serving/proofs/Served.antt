@@ -26,7 +26,7 @@ use Rattle.cyc_soft.specs.declared.Ran.{Ran}
 use Rattle.cyc_soft.specs.declared.SoftRefused.{SoftRefused}
 use Rattle.cyc_script.specs.declared.step.Softint.{Softint as SoftintStep}
 use Rattle.cyc_cpu.specs.Cpu.{CpuView}
-use Rattle.cyc_cpu.specs.Soft.{fires, firing_at, drains, end_at, Interrupts}
+use Rattle.cyc_cpu.specs.Soft.{raise_tables, drains, end_at, Interrupts}
 use Rattle.cyc_script_machine.specs.Cpus.{IsCpu}
 use Rattle.cyc_script_machine.specs.System.{SystemView, RunningSystem, running_system, removal_on}
 use Rattle.cyc_script_machine.proofs.Spots.{same_some, none_some}
@@ -195,7 +195,7 @@ module _ (step n budget : ℕ) (level : Soft) (s : State) (m : Machine) (low : s
       (at_soft_level level (cyclic_of id (cpu_of n s)) at)
 
   pub never_refused : (e : SoftRefused) (t : RunningSystem TallyView Tables)
-      → Does tally_calls fires firing_at (Interrupts tally_calls)
+      → Does tally_calls raise_tables (Interrupts tally_calls)
       (running_system m.tally m.system) (SoftInterrupt n level budget (Err (fault.Refused e))) t → ⊥
   never_refused e t (inl (why, some, answer, same)) = absurd (let no : Err (fault.Refused e) ≡ Err fault.NoCpu = answer in cc)
   never_refused e t (inr (none, (Ok ran, answer, did, records, last))) =
@@ -225,7 +225,7 @@ ok_of (Err fault.NoCpu) = true
 ok_of (Err (fault.Refused e)) = false
 
 module _ (i : SoftintStep) (s : State) (m : Machine) (t : RunningSystem TallyView Tables) (h : Holds s m) where
-  pub no_cpu_there : Does tally_calls fires firing_at (Interrupts tally_calls)
+  pub no_cpu_there : Does tally_calls raise_tables (Interrupts tally_calls)
       (running_system m.tally m.system) (SoftInterrupt i.cpu i.level i.budget (Err fault.NoCpu)) t
       → (softint_refusal i s ≡ Some NoCpu) × (t ≡ running_system m.tally m.system)
   no_cpu_there (inl (e, some, answer, same)) = (
@@ -237,7 +237,7 @@ module _ (i : SoftintStep) (s : State) (m : Machine) (t : RunningSystem TallyVie
   no_cpu_there (inr (none, (Err own, answer, did, records, last))) =
       absurd (let no : Err fault.NoCpu ≡ Err (fault.Refused own) = answer in cc)
 
-  pub wide_served : (ran : Ran) → Does tally_calls fires firing_at (Interrupts tally_calls)
+  pub wide_served : (ran : Ran) → Does tally_calls raise_tables (Interrupts tally_calls)
       (running_system m.tally m.system) (SoftInterrupt i.cpu i.level i.budget (Ok ran)) t → IsWide t.calls
   wide_served ran (inl (e, some, answer, same)) = absurd (let no : Ok ran ≡ Err fault.NoCpu = answer in cc)
   wide_served ran (inr (none, (Err own, answer, did, records, last))) =

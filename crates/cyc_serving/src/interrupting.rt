@@ -15,7 +15,7 @@ ghost use Rattle.cyc_script_machine.specs.Removal.{answer_line};
 ghost use Rattle.cyc_script_machine.specs.Status.{IsMemory};
 ghost use Rattle.cyc_script_machine.specs.Machine.{Holds, IsReached, id_at, name_at};
 ghost use Rattle.cyc_script_machine.specs.Words.{TakesWord};
-ghost use Rattle.cyc_cpu.specs.Soft.{fires, firing_at};
+ghost use Rattle.cyc_cpu.specs.Soft.{raise_tables};
 ghost use Rattle.cyc_script_machine.specs.Agreement.{Agrees};
 ghost use Rattle.cyc_script_machine.specs.Calls.{Changes, PollRemove};
 ghost use Rattle.cyc_serving.specs.Removing.{counted_by};
@@ -136,7 +136,7 @@ fn keep_answered(
 /// Polls the open removal of this id in the system.
 fn poll_system(system: &mut System<LevelCore>, id: CyclicId) -> Option<Receipt>
     requires open { (n : ℕ) × (removal_on n system.old.cpus ≡ Some id) }
-    ensures polled { Changes fires firing_at system.old (PollRemove id (Ok result)) system.new }
+    ensures polled { Changes raise_tables system.old (PollRemove id (Ok result)) system.new }
     ensures agrees { Agrees system.new }
     ensures others { (n k : ℕ) → k ≢ id → (removal_on n system.new.cpus ≡ Some k) ↔ (removal_on n system.old.cpus ≡ Some k) }
 {

@@ -1,6 +1,6 @@
 -- What an add did, in the words of the calls of a system.
 use Rattle.std.proofs.Common.{◌≡◌, ◌+◌, ℕ, Some, None, Ok, Err, inr, [], ◌∷◌, ◌++◌, refl, sym, subst, false}
-use Rattle.cyc_types.specs.Firing.{FiringView, FiringCall}
+use Rattle.cyc_types.specs.declared.Raise.{Ghosts as Raise}
 use Rattle.cyc_types.specs.Series.{first}
 use Rattle.cyc_types.specs.declared.level.Level.{Level}
 use Rattle.cyc_types.specs.declared.moment.When.{When}
@@ -19,17 +19,17 @@ use Rattle.cyc_agreement.proofs.Refusing.{passes}
 use Rattle.cyc_system.specs.Calls.{Changes, Add}
 
 -- what an add did
-module _ {R : Type 0} (step : R → FiringCall → R → Type 0) (view : R → FiringView) (s t : SystemView R) (level : Level)
+module _ {R : Type 0} (firing : Raise R) (s t : SystemView R) (level : Level)
     (when : When) (now d : ℕ) (u : CpusView R)
     (now_is : bad_now now ≡ None) (id_is : ids_spent s ≡ None) (chosen : destination None s.cpus ≡ Some d)
-    (reserved : DoesAt step view s.cpus (on d (Reserve 1 (Ok tt))) u) where
+    (reserved : DoesAt firing s.cpus (on d (Reserve 1 (Ok tt))) u) where
   clear : first_refusal (bad_now now ∷ ids_spent s ∷ []) ≡ None
   clear = passes (bad_now now) (ids_spent s ∷ []) None now_is (passes (ids_spent s) [] None id_is refl)
 
   pub add_done : (id moment : ℕ) → id ≡ s.last + 1 → moment ≡ first when.start when.interval now
-      → Works step view (entering d id level when.interval moment) u t.cpus
+      → Works firing (entering d id level when.interval moment) u t.cpus
       → t.records ≡ s.records ++ new_record id level (On d false) ∷ [] → t.last ≡ id
-      → Changes step view s (Add level when now (Ok id)) t
+      → Changes firing s (Add level when now (Ok id)) t
   add_done id moment next is works records last =
       inr (
         clear,
@@ -40,7 +40,7 @@ module _ {R : Type 0} (step : R → FiringCall → R → Type 0) (view : R → F
           (
             u,
             reserved,
-            subst (λ m. Works step view (entering d id level when.interval m) u t.cpus) is works,
+            subst (λ m. Works firing (entering d id level when.interval m) u t.cpus) is works,
           ),
           records,
           last,
@@ -48,5 +48,5 @@ module _ {R : Type 0} (step : R → FiringCall → R → Type 0) (view : R → F
       )
 
   pub add_unrecorded : (e : Refusal) → e ≡ Memory → t.cpus ≡ u → t.records ≡ s.records → t.last ≡ s.last
-      → Changes step view s (Add level when now (Err e)) t
+      → Changes firing s (Add level when now (Err e)) t
   add_unrecorded e is cpus records last = inr (clear, (d, chosen, inr (is, ((u, reserved, sym cpus), records, last))))

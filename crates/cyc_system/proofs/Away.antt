@@ -4,6 +4,7 @@ use Rattle.std.proofs.Common.{Err, List, [], ◌∷◌, map, option_map, refl, s
 use Rattle.std.specs.Prelude.{eqb}
 use Rattle.std.specs.List.{slice_get}
 use Rattle.cyc_types.specs.declared.Calls.{Ghosts as Calls}
+use Rattle.cyc_types.specs.declared.Raise.{Ghosts as Raise}
 use Rattle.cyc_types.specs.Firing.{FiringView, FiringCall, Stay, Learns, Admits, Loads, Raises, Marks, Polls, Expands, Looks}
 use Rattle.cyc_types.specs.Firing.{edited, edit_stay}
 use Rattle.cyc_types.specs.Runs.{Goes, lost_by}
@@ -143,15 +144,16 @@ looks_steady : (answers : List Bool) → AreSteady (map Looks answers)
 looks_steady [] = tt
 looks_steady (a ∷ answers) = (tt, looks_steady answers)
 
-module _ {R : Type 0} (step : R → FiringCall → R → Type 0) (view : R → FiringView) where
-  goes_end : (e f : R) (way : List FiringCall) → AreSteady way → Goes step view e way f → IsSameEnd (view e) (view f)
-  goes_end e f [] steady last = subst (λ x. IsSameEnd (view e) (view x)) last (end_same (view e))
+module _ {R : Type 0} (firing : Raise R) where
+  goes_end : (e f : R) (way : List FiringCall) → AreSteady way → Goes firing e way f → IsSameEnd (firing.view e) (firing.view f)
+  goes_end e f [] steady last = subst (λ x. IsSameEnd (firing.view e) (firing.view x)) last (end_same (firing.view e))
   goes_end e f (call ∷ way) steady (m, (stepped, learns), rest) =
-      end_then (view e) (view m) (view f) (learns_end (view e) (view m) call steady.0 learns) (goes_end m f way steady.1 rest)
+      end_then (firing.view e) (firing.view m) (firing.view f) (learns_end (firing.view e) (firing.view m) call steady.0 learns)
+      (goes_end m f way steady.1 rest)
 
-  inquired_end : (e f : R) → LoadsThenLooks step view e f → IsSameEnd (view e) (view f)
+  inquired_end : (e f : R) → LoadsThenLooks firing e f → IsSameEnd (firing.view e) (firing.view f)
   inquired_end e f (m, (asked, loads), (answers, looks)) =
-      end_then (view e) (view m) (view f) (goes_end e m _ (loads_steady asked) loads)
+      end_then (firing.view e) (firing.view m) (firing.view f) (goes_end e m _ (loads_steady asked) loads)
       (goes_end m f _ (looks_steady answers) looks)
 
 -- ---- a CPU
@@ -223,18 +225,18 @@ module _ {R : Type 0} (view : R → FiringView) where
     low = end_then (view x.low) (view y.low) (view z.low) a.low b.low;
   }
 
-module _ {C R : Type 0} (handler : Calls C) (step : R → FiringCall → R → Type 0) (view : R → FiringView) where
+module _ {C R : Type 0} (handler : Calls C) (firing : Raise R) where
   -- so many expirations of a fire were made
   back_made : (x y : CpuView R) (calling : C → ℕ → C → Type 0) (now lost : ℕ) (made : List Expiration) (a b : Sides C R)
-      → IsLawful view x → IsLawful view y → SameCpu x y
+      → IsLawful firing.view x → IsLawful firing.view y → SameCpu x y
       → a.lock ≡ x.lock → a.low ≡ x.low → b.lock ≡ y.lock → b.low ≡ y.low
-      → Makes calling handler.count step view now made x.cyclics y.cyclics a b lost → ComesBack view x y
+      → Makes calling handler.count firing now made x.cyclics y.cyclics a b lost → ComesBack firing.view x y
   back_made x y calling now lost made a b lawful after same al aw bl bw m = record {
-    cyclics = fired_each (view x.lock).ceiling (view x.low).ceiling now x.most made
+    cyclics = fired_each (firing.view x.lock).ceiling (firing.view x.low).ceiling now x.most made
         (λ id n. n + lost_by id m.acts.lock_way + lost_by id m.acts.low_way) x.cyclics y.cyclics
         (λ id n. omega arith) m.timers_are m.carried_are m.losses_are lawful.counted
-        (subst (λ n. All (IsSpared (view x.lock).ceiling n) y.cyclics) low.ceiling
-        (subst (λ n. All (IsSpared n (view y.low).ceiling) y.cyclics) lock.ceiling after.spared));
+        (subst (λ n. All (IsSpared (firing.view x.lock).ceiling n) y.cyclics) low.ceiling
+        (subst (λ n. All (IsSpared n (firing.view y.low).ceiling) y.cyclics) lock.ceiling after.spared));
     removal = same.removal;
     size = same.size;
     most = same.most;
@@ -242,46 +244,50 @@ module _ {C R : Type 0} (handler : Calls C) (step : R → FiringCall → R → T
     low = low;
   }
     where
-      lock : IsSameEnd (view x.lock) (view y.lock)
-      lock = subst (λ e. IsSameEnd (view e) (view y.lock)) al (subst (λ f. IsSameEnd (view a.lock) (view f)) bl
-          (goes_end step view a.lock b.lock m.acts.lock_way
+      lock : IsSameEnd (firing.view x.lock) (firing.view y.lock)
+      lock = subst (λ e. IsSameEnd (firing.view e) (firing.view y.lock)) al
+          (subst (λ f. IsSameEnd (firing.view a.lock) (firing.view f)) bl
+          (goes_end firing a.lock b.lock m.acts.lock_way
           (raises_steady _ m.acts.lock_way m.acts.lock_raises) m.acts.lock_goes))
 
-      low : IsSameEnd (view x.low) (view y.low)
-      low = subst (λ e. IsSameEnd (view e) (view y.low)) aw (subst (λ f. IsSameEnd (view a.low) (view f)) bw
-          (goes_end step view a.low b.low m.acts.low_way (raises_steady _ m.acts.low_way m.acts.low_raises) m.acts.low_goes))
+      low : IsSameEnd (firing.view x.low) (firing.view y.low)
+      low = subst (λ e. IsSameEnd (firing.view e) (firing.view y.low)) aw
+          (subst (λ f. IsSameEnd (firing.view a.low) (firing.view f)) bw
+          (goes_end firing a.low b.low m.acts.low_way (raises_steady _ m.acts.low_way m.acts.low_raises) m.acts.low_goes))
 
-  pub back_fired : (s t : Running C R) (now : ℕ) (answer : Result Fired FireRefused) → IsLawful view s.cpu → IsLawful view t.cpu
-      → Does handler step view no_interrupts s (Fire now answer) t → ComesBack view s.cpu t.cpu
+  pub back_fired : (s t : Running C R) (now : ℕ) (answer : Result Fired FireRefused) → IsLawful firing.view s.cpu
+      → IsLawful firing.view t.cpu
+      → Does handler firing no_interrupts s (Fire now answer) t → ComesBack firing.view s.cpu t.cpu
   back_fired s t now (Ok r) lawful after (nn, same, expired, next, makes) =
       back_made s.cpu t.cpu _ now r.lost _ _ _ lawful after same refl refl refl refl makes
   back_fired s t now (Err e) lawful after (inl (is, what, same)) =
-      subst (λ (u : Running C R). ComesBack view s.cpu u.cpu) (sym same) (back_same view s.cpu)
+      subst (λ (u : Running C R). ComesBack firing.view s.cpu u.cpu) (sym same) (back_same firing.view s.cpu)
   back_fired s t now (Err e) lawful after (inr (nn, same, stopped)) =
       back_made s.cpu t.cpu _ now e.lost _ _ _ lawful after same refl refl refl refl stopped.makes
 
-  back_inquired : (v w : CpuView R) → Inquires step view v w → ComesBack view v w
+  back_inquired : (v w : CpuView R) → Inquires firing v w → ComesBack firing.view v w
   back_inquired v w i = record {
-    cyclics = subst (λ cs. EachTwo (GoesOn (view v.lock).ceiling (view v.low).ceiling) v.cyclics cs) (sym i.cyclics)
-        (each_same _ (goes_same (view v.lock).ceiling (view v.low).ceiling) v.cyclics);
+    cyclics = subst (λ cs. EachTwo (GoesOn (firing.view v.lock).ceiling (firing.view v.low).ceiling) v.cyclics cs) (sym i.cyclics)
+        (each_same _ (goes_same (firing.view v.lock).ceiling (firing.view v.low).ceiling) v.cyclics);
     removal = i.kept.removal;
     size = i.kept.size;
     most = i.kept.most;
-    lock = inquired_end step view v.lock w.lock i.lock;
-    low = inquired_end step view v.low w.low i.low;
+    lock = inquired_end firing v.lock w.lock i.lock;
+    low = inquired_end firing v.low w.low i.low;
   }
 
-  pub back_settled : (v w : CpuView R) (answer : Bool) → Changes step view v (AskSettled answer) w → ComesBack view v w
+  pub back_settled : (v w : CpuView R) (answer : Bool) → Changes firing v (AskSettled answer) w → ComesBack firing.view v w
   back_settled v w true d = back_inquired v w d.0
   back_settled v w false d = back_inquired v w d.0
 
-  pub all_same : (xs : List (CpuView R)) → AllComeBack view xs xs
-  all_same xs = each_same _ (back_same view) xs
+  pub all_same : (xs : List (CpuView R)) → AllComeBack firing.view xs xs
+  all_same xs = each_same _ (back_same firing.view) xs
 
-  pub all_then : (xs ys zs : List (CpuView R)) → AllComeBack view xs ys → AllComeBack view ys zs → AllComeBack view xs zs
-  all_then xs ys zs a b = each_then _ _ _ (back_then view) xs ys zs a b
+  pub all_then : (xs ys zs : List (CpuView R)) → AllComeBack firing.view xs ys → AllComeBack firing.view ys zs
+      → AllComeBack firing.view xs zs
+  all_then xs ys zs a b = each_then _ _ _ (back_then firing.view) xs ys zs a b
 
   pub all_of : (xs ys : List (CpuView R)) → length ys ≡ length xs
-      → ((n : ℕ) (x y : CpuView R) → slice_get xs n ≡ Some x → slice_get ys n ≡ Some y → ComesBack view x y)
-      → AllComeBack view xs ys
-  all_of xs ys long h = each_of (ComesBack view) xs ys long h
+      → ((n : ℕ) (x y : CpuView R) → slice_get xs n ≡ Some x → slice_get ys n ≡ Some y → ComesBack firing.view x y)
+      → AllComeBack firing.view xs ys
+  all_of xs ys long h = each_of (ComesBack firing.view) xs ys long h

@@ -10,7 +10,7 @@ use Rattle.std.proofs.lemmas.List.{get_or-set_other}
 use Rattle.std.proofs.lemmas.List.Sums.{sum_by-cons}
 use mathlib.Core.Logic.{dite}
 use native.Mathlib.Decide.{ℕ_discrete}
-use Rattle.cyc_types.specs.Firing.{FiringView, FiringCall}
+use Rattle.cyc_types.specs.declared.Raise.{Ghosts as Raise}
 use Rattle.cyc_types.specs.declared.firing.Sent.{Sent}
 use Rattle.cyc_everywhere.specs.Rows.{Cyclic}
 use Rattle.cyc_cpu_laws.specs.Made.{HasCounts}
@@ -88,12 +88,12 @@ ended_set (x ∷ xs) (suc n) c = ended_set xs n c
 left_own : (id : ℕ) (taken : Taken) → (left_by (TakeNow id (Ok taken)) id).sent ≡ taken.sent.sent
 left_own id taken = ap (λ (b : Bool). (cond b taken.sent no_counts).sent) (eq-eqb id id refl)
 
-module _ {R : Type 0} (step : R → FiringCall → R → Type 0) (view : R → FiringView) (n : ℕ) where
+module _ {R : Type 0} (firing : Raise R) (n : ℕ) where
   -- what the CPU has of the id after a call on it, and what left it
-  sums_here : (v w : CpusView R) (c : CallOn) (id : ℕ) → DoesAt step view v c w → c.cpu ≡ n
+  sums_here : (v w : CpusView R) (c : CallOn) (id : ℕ) → DoesAt firing v c w → c.cpu ≡ n
       → expired_on n id w + (left_by c.call id).sent ≡ expired_on n id v + (entered_by c.call id).sent
   sums_here v w c id d e =
-      let s = (shift_sums c.call d.before.cyclics d.after.cyclics id (changes_shift step view d.before d.after c.call d.change)).0
+      let s = (shift_sums c.call d.before.cyclics d.after.cyclics id (changes_shift firing d.before d.after c.call d.change)).0
       in
       let here : expired_on n id v ≡ expired_of id d.before.cyclics =
       ap (λ o. option_map_or (λ (cpu : CpuView R). expired_of id cpu.cyclics) o 0)
@@ -104,19 +104,19 @@ module _ {R : Type 0} (step : R → FiringCall → R → Type 0) (view : R → F
       ∙ get_set_same v.cpus c.cpu d.after (slice_get_within v.cpus c.cpu d.before d.here)) in
       omega (arith, s, here, now)
 
-  elsewhere : (v w : CpusView R) (c : CallOn) (id : ℕ) → DoesAt step view v c w → c.cpu ≢ n
+  elsewhere : (v w : CpusView R) (c : CallOn) (id : ℕ) → DoesAt firing v c w → c.cpu ≢ n
       → expired_on n id w ≡ expired_on n id v
   elsewhere v w c id d ne = ap (λ u. expired_on n id u) d.rest
       ∙ ap (λ o. option_map_or (λ (cpu : CpuView R). expired_of id cpu.cyclics) o 0)
       (get_set_other v.cpus c.cpu n d.after (λ e. ne (sym e)))
 
-  fewer_one : (v w : CpusView R) (c : CallOn) (id : ℕ) → DoesAt step view v c w
+  fewer_one : (v w : CpusView R) (c : CallOn) (id : ℕ) → DoesAt firing v c w
       → (c.cpu ≡ n → (q : ℕ) → (entered_by c.call q).sent ≡ 0) → expired_on n id w ≤ expired_on n id v
   fewer_one v w c id d none = dite (ℕ_discrete c.cpu n)
       (λ e. let s = sums_here v w c id d e in let z = none e id in omega (arith, s, z))
       (λ ne. let s = elsewhere v w c id d ne in omega (arith, s))
 
-  fewer : (v w : CpusView R) (way : List CallOn) (id : ℕ) → PutsNone n way → Works step view way v w
+  fewer : (v w : CpusView R) (way : List CallOn) (id : ℕ) → PutsNone n way → Works firing way v w
       → expired_on n id w ≤ expired_on n id v
   fewer v w [] id none last = let e = ap (λ u. expired_on n id u) last in omega (arith, e)
   fewer v w (c ∷ way) id none (u, does, rest) = let a = fewer_one v u c id does none.0 in let b = fewer u w way id none.1 rest in
@@ -136,7 +136,8 @@ module _ {R : Type 0} (step : R → FiringCall → R → Type 0) (view : R → F
       in omega (arith, l, z))
       (λ ne. f.others k m most r ne is e)
 
-  pub fits_first : (s : SystemView R) → Holds s → ((m : ℕ) (cpu : CpuView R) → IsCpu m cpu s.cpus → IsLawful view cpu) → Fits s
+  pub fits_first : (s : SystemView R) → Holds s → ((m : ℕ) (cpu : CpuView R) → IsCpu m cpu s.cpus → IsLawful firing.view cpu)
+      → Fits s
   fits_first s h lawful = record {
     own = λ k most r is e. by k most r is e (slice_get s.cpus.cpus n) refl
         (has n r.id s.cpus) refl;
@@ -163,7 +164,7 @@ module _ {R : Type 0} (step : R → FiringCall → R → Type 0) (view : R → F
           omega (arith, l, z, x)
 
   -- calls that put nothing in here, where each record has the ended counts of one with its id
-  fits_on : (s t : SystemView R) (way : List CallOn) → PutsNone n way → Works step view way s.cpus t.cpus
+  fits_on : (s t : SystemView R) (way : List CallOn) → PutsNone n way → Works firing way s.cpus t.cpus
       → ((m : ℕ) → most_on m t.cpus ≡ most_on m s.cpus)
       → ((k : ℕ) (r : Record) → IsRecord t.records k r → (j : ℕ) × (q : Record) × IsRecord s.records j q × (q.id ≡ r.id)
       × ((m : ℕ) → ended_on m r ≡ ended_on m q)) → Fits s → Fits t
@@ -180,7 +181,7 @@ module _ {R : Type 0} (step : R → FiringCall → R → Type 0) (view : R → F
       → (j : ℕ) × (q : Record) × IsRecord s.records j q × (q.id ≡ r.id) × ((m : ℕ) → ended_on m r ≡ ended_on m q)
   itself s t e k r is = (k, r, subst (λ rs. IsRecord rs k r) e is, refl, λ m. refl)
 
-  pub fits_calls : (s t : SystemView R) (way : List CallOn) → PutsNone n way → OnlyWorks step view way s t
+  pub fits_calls : (s t : SystemView R) (way : List CallOn) → PutsNone n way → OnlyWorks firing way s t
       → ((m : ℕ) → most_on m t.cpus ≡ most_on m s.cpus) → Fits s → Fits t
   fits_calls s t way none (works, records, last) most f = fits_on s t way none works most (itself s t records) f
 
@@ -195,7 +196,7 @@ module _ {R : Type 0} (step : R → FiringCall → R → Type 0) (view : R → F
   pub puts_found : (ids : List ℕ) (id found : ℕ) → PutsNone n (quiet n ids ++ on n (AskPending id (Some found)) ∷ [])
   puts_found ids id found = puts_on (quiet n ids) _ (puts_quiet ids) (λ e q. refl, tt)
 
-  pub fits_turn : (id : ℕ) (turn : Turn) (s t : SystemView R) → TakesTurn step view n id turn s t → StillHolds step view s t
+  pub fits_turn : (id : ℕ) (turn : Turn) (s t : SystemView R) → TakesTurn firing n id turn s t → StillHolds firing s t
       → Fits s → Fits t
   fits_turn id StaysBound s t (place, same) still f = subst Fits (sym same) f
   fits_turn id StaysPending s t (place, found, some, only) still f =
@@ -206,7 +207,7 @@ module _ {R : Type 0} (step : R → FiringCall → R → Type 0) (view : R → F
   fits_turn id Moves s t (place, d, chosen, (taken, works), (k, r, here, named, records, last)) still f =
       fits_on s t (moving id n d taken) (λ e q. refl, (λ e q. refl, (λ e q. refl, (λ e q. refl, (λ e. absurd (apart e), tt)))))
       works still.most
-      (λ j q is. by j q (was step view s.records k j r (with_place (stands.On d false) r) q here refl
+      (λ j q is. by j q (was firing s.records k j r (with_place (stands.On d false) r) q here refl
       (subst (λ rs. IsRecord rs j q) records is))) f
     where
       apart : d ≢ n
@@ -218,13 +219,13 @@ module _ {R : Type 0} (step : R → FiringCall → R → Type 0) (view : R → F
       by j q (inr (ne, at)) = (j, q, at, refl, λ m. refl)
 
   -- a component leaves with its counts
-  pub fits_retired : (id : ℕ) (s t : SystemView R) → Retires step view n s id t → ((m : ℕ) → most_on m t.cpus ≡ most_on m s.cpus)
+  pub fits_retired : (id : ℕ) (s t : SystemView R) → Retires firing n s id t → ((m : ℕ) → most_on m t.cpus ≡ most_on m s.cpus)
       → Fits s → Fits t
   fits_retired id s t (taken, does, k, r, here, named, records, last) most f = record {
-    own = λ j b q is e. own j b q (was step view s.records k j r x q here refl (subst (λ rs. IsRecord rs j q) records is))
+    own = λ j b q is e. own j b q (was firing s.records k j r x q here refl (subst (λ rs. IsRecord rs j q) records is))
         (sym (most n) ∙ e);
     others = λ j m b q ne is e. others j m b q ne
-        (was step view s.records k j r x q here refl (subst (λ rs. IsRecord rs j q) records is)) (sym (most m) ∙ e);
+        (was firing s.records k j r x q here refl (subst (λ rs. IsRecord rs j q) records is)) (sym (most m) ∙ e);
   }
     where
       x : Record

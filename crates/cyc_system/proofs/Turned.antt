@@ -6,7 +6,7 @@ use Rattle.std.specs.List.{FoldsTo, slice_get, list_any}
 use Rattle.std.proofs.lemmas.Option.{slice_get_within}
 use mathlib.Core.Logic.{dite}
 use native.Mathlib.Decide.{ℕ_discrete}
-use Rattle.cyc_types.specs.Firing.{FiringView, FiringCall}
+use Rattle.cyc_types.specs.declared.Raise.{Ghosts as Raise}
 use Rattle.cyc_types.specs.declared.refusal.JuggleReport.{JuggleReport}
 use Rattle.cyc_everywhere.specs.Rows.{Cyclic}
 use Rattle.cyc_cpu_laws.specs.Cpu.{CpuView}
@@ -61,7 +61,7 @@ abbrev Puts : ℕ → List CallOn → Type 0
 Puts id [] = Unit {0}
 Puts id (c ∷ way) = PutsNot id c.call × Puts id way
 
-module _ {R : Type 0} (step : R → FiringCall → R → Type 0) (view : R → FiringView) where
+module _ {R : Type 0} (firing : Raise R) where
   same_ids : (x y : CpuView R) (id : ℕ) → y.cyclics ≡ x.cyclics → among id (ids_of y) ≡ true → among id (ids_of x) ≡ true
   same_ids x y id e h = ap (λ cs. among id (map id_in cs)) (sym e) ∙ h
 
@@ -71,7 +71,7 @@ module _ {R : Type 0} (step : R → FiringCall → R → Type 0) (view : R → F
       ∙ any_less (λ (c : Cyclic). c.timer.id == id) x.cyclics k (sym (any_map id_in (λ own. own == id) (remove x.cyclics k))
       ∙ ap (λ cs. among id (map id_in cs)) (sym e) ∙ h)
 
-  back_one : (x y : CpuView R) (call : CpuCall) (id : ℕ) → IsSteady call → PutsNot id call → Changes step view x call y
+  back_one : (x y : CpuView R) (call : CpuCall) (id : ℕ) → IsSteady call → PutsNot id call → Changes firing x call y
       → among id (ids_of y) ≡ true → among id (ids_of x) ≡ true
   back_one x y (Place own level interval moment carried) id s p d h = any_map id_in (λ q. q == id) x.cyclics
       ∙ or_back (own == id) (list_any (λ (c : Cyclic). c.timer.id == id) x.cyclics) (false_ne own id p)
@@ -101,7 +101,7 @@ module _ {R : Type 0} (step : R → FiringCall → R → Type 0) (view : R → F
   back_one x y (Fire now answer) id s p d h = absurd s
   back_one x y (SoftInterrupt level budget answer) id s p d h = absurd s
 
-  most_one : (x y : CpuView R) (call : CpuCall) → IsSteady call → Changes step view x call y → y.most ≡ x.most
+  most_one : (x y : CpuView R) (call : CpuCall) → IsSteady call → Changes firing x call y → y.most ≡ x.most
   most_one x y (Place own level interval moment carried) s d = d.1.kept.most
   most_one x y (Reprogram own moment (Ok done)) s (k, c, is, named, still, e) = ap (λ (v : CpuView R). v.most) e
   most_one x y (Reprogram own moment (Err e)) s d = ap (λ (v : CpuView R). v.most) d.2
@@ -124,7 +124,7 @@ module _ {R : Type 0} (step : R → FiringCall → R → Type 0) (view : R → F
   most_one x y (Fire now answer) s d = absurd s
   most_one x y (SoftInterrupt level budget answer) s d = absurd s
 
-  back_done : (v w : CpusView R) (c : CallOn) (id n : ℕ) → IsSteady c.call → PutsNot id c.call → DoesAt step view v c w
+  back_done : (v w : CpusView R) (c : CallOn) (id n : ℕ) → IsSteady c.call → PutsNot id c.call → DoesAt firing v c w
       → has n id w ≡ true → has n id v ≡ true
   back_done v w c id n s p d h = dite (ℕ_discrete n c.cpu)
       (λ e. ap (λ k. has k id v) e ∙ (ap (λ ids. among id ids) (ids_there v c.cpu d.before d.after d.here)
@@ -134,12 +134,12 @@ module _ {R : Type 0} (step : R → FiringCall → R → Type 0) (view : R → F
       (λ ne. ap (λ ids. among id ids) (sym (ids_elsewhere v c.cpu d.before d.after d.here n ne))
       ∙ (ap (λ u. has n id u) (sym d.rest) ∙ h))
 
-  pub has_back : (v w : CpusView R) (way : List CallOn) (id n : ℕ) → AreSteady way → Puts id way → Works step view way v w
+  pub has_back : (v w : CpusView R) (way : List CallOn) (id n : ℕ) → AreSteady way → Puts id way → Works firing way v w
       → has n id w ≡ true → has n id v ≡ true
   has_back v w [] id n s p last h = ap (λ u. has n id u) last ∙ h
   has_back v w (c ∷ way) id n s p (u, does, rest) h = back_done v u c id n s.0 p.0 does (has_back u w way id n s.1 p.1 rest h)
 
-  pub mosts_kept : (v w : CpusView R) (way : List CallOn) → AreSteady way → Works step view way v w → (n : ℕ)
+  pub mosts_kept : (v w : CpusView R) (way : List CallOn) → AreSteady way → Works firing way v w → (n : ℕ)
       → most_on n w ≡ most_on n v
   mosts_kept v w [] s last n = ap (λ u. most_on n u) (sym last)
   mosts_kept v w (c ∷ way) s (u, d, rest) n = mosts_kept u w way s.1 rest n ∙ (ap (λ x. most_on n x) d.rest
@@ -176,9 +176,9 @@ module _ {R : Type 0} (step : R → FiringCall → R → Type 0) (view : R → F
 
   -- calls that put in nothing, and no record changed
   pub still_calls : (s t : SystemView R) (way : List CallOn) → AreSteady way → ((id : ℕ) → Puts id way)
-      → OnlyWorks step view way s t → StillHolds s t
+      → OnlyWorks firing way s t → StillHolds s t
   still_calls s t way steady puts (works, records, last) = record {
-    removals = removals_kept step view s.cpus t.cpus way steady works;
+    removals = removals_kept firing s.cpus t.cpus way steady works;
     most = mosts_kept s.cpus t.cpus way steady works;
     rising = λ h. subst HasRisingIds (sym records) h;
     omni = λ h k r is every. (
@@ -217,10 +217,10 @@ module _ {R : Type 0} (step : R → FiringCall → R → Type 0) (view : R → F
       old m a (inl (e, f)) = (r, subst (λ n. IsRecord rs n r) (sym e) is, ap (λ (z : Record). z.id) f ∙ same)
       old m a (inr (ne, at)) = (a, at, refl)
 
-  still_moved : (s t : SystemView R) (id d source : ℕ) (taken : _) → Works step view (moving id source d taken) s.cpus t.cpus
+  still_moved : (s t : SystemView R) (id d source : ℕ) (taken : _) → Works firing (moving id source d taken) s.cpus t.cpus
       → Records id (stands.On d false) s t → StillHolds s t
   still_moved s t id d source taken works (k, r, here, named, records, last) = record {
-    removals = removals_kept step view s.cpus t.cpus (moving id source d taken) steady works;
+    removals = removals_kept firing s.cpus t.cpus (moving id source d taken) steady works;
     most = mosts_kept s.cpus t.cpus (moving id source d taken) steady works;
     rising = λ h. subst HasRisingIds (sym records) (rising_set s.records k r (with_place (stands.On d false) r) here refl h);
     omni = λ h j q is every. omni h j q every
@@ -246,7 +246,7 @@ module _ {R : Type 0} (step : R → FiringCall → R → Type 0) (view : R → F
                 (tt, (tt, (tt, (tt, (other, tt))))) works now,
           )
 
-  pub still_turn : (n id : ℕ) (turn : Turn) (s t : SystemView R) → TakesTurn step view n id turn s t → StillHolds s t
+  pub still_turn : (n id : ℕ) (turn : Turn) (s t : SystemView R) → TakesTurn firing n id turn s t → StillHolds s t
   still_turn n id StaysBound s t (place, same) = still_same s t same
   still_turn n id StaysPending s t (place, found, some, only) =
       still_calls s t (on n (AskPending id (Some found)) ∷ []) (tt, tt) (λ q. (tt, tt)) only
@@ -254,7 +254,7 @@ module _ {R : Type 0} (step : R → FiringCall → R → Type 0) (view : R → F
       still_calls s t (on n (AskPending id (Some 0)) ∷ on d (Reserve 1 (Err e)) ∷ []) (tt, (tt, tt)) (λ q. (tt, (tt, tt))) only
   still_turn n id Moves s t (place, d, chosen, (taken, works), records) = still_moved s t id d n taken works records
 
-  pub still_turns : (n : ℕ) (ids : List ℕ) (report : JuggleReport) (s t : SystemView R) → Turns step view n ids report s t
+  pub still_turns : (n : ℕ) (ids : List ℕ) (report : JuggleReport) (s t : SystemView R) → Turns firing n ids report s t
       → StillHolds s t
   still_turns n [] report s t (none, same) = still_same s t same
   still_turns n (id ∷ ids) report s t (turn, u, rest, first, counted, more) =
@@ -262,7 +262,7 @@ module _ {R : Type 0} (step : R → FiringCall → R → Type 0) (view : R → F
 
   -- a removal that was open on every CPU of its cyclic still is
   pub whole_still : (s t : SystemView R) → StillHolds s t → Agrees t → HasRisingIds s.records → HasRisingIds t.records
-      → ((n : ℕ) (cpu : CpuView R) → IsCpu n cpu t.cpus → IsLawful view cpu) → LeaveWhole s.cpus → LeaveWhole t.cpus
+      → ((n : ℕ) (cpu : CpuView R) → IsCpu n cpu t.cpus → IsLawful firing.view cpu) → LeaveWhole s.cpus → LeaveWhole t.cpus
   whole_still s t h agrees rising now lawful whole m n id e here =
       let (k, r, is, named, there, on) = agrees.known n id here in by k r is named there (is_everywhere r.place) refl
     where
@@ -280,14 +280,14 @@ module _ {R : Type 0} (step : R → FiringCall → R → Type 0) (view : R → F
           h.removals n ∙ whole m n id (sym (h.removals m) ∙ e) (ap (λ i. has n i s.cpus) (sym named)
           ∙ back n (ap (λ i. has n i t.cpus) named ∙ here))
       by k r is named there false single =
-          let (j, q, at, known, stands_m, up) = agrees.known m id (leaving_here view t.cpus m id lawful e) in
+          let (j, q, at, known, stands_m, up) = agrees.known m id (leaving_here firing.view t.cpus m id lawful e) in
           let place = one_record t.records k j r q now is at (known ∙ sym named) in
           let same : r ≡ q = same_some (sym (subst (λ i. IsRecord t.records i r) (sym place) is) ∙ at) in
           ap (λ i. removal_on i t.cpus) (same_place n m r q there stands_m same single) ∙ e
 
-  pub still_retired : (n id : ℕ) (s t : SystemView R) → Retires step view n s id t → StillHolds s t
+  pub still_retired : (n id : ℕ) (s t : SystemView R) → Retires firing n s id t → StillHolds s t
   still_retired n id s t (taken, does, k, r, here, named, records, last) = record {
-    removals = removals_kept step view s.cpus t.cpus (on n (TakeNow id (Ok taken)) ∷ []) (tt, tt) (t.cpus, does, refl);
+    removals = removals_kept firing s.cpus t.cpus (on n (TakeNow id (Ok taken)) ∷ []) (tt, tt) (t.cpus, does, refl);
     most = mosts_kept s.cpus t.cpus (on n (TakeNow id (Ok taken)) ∷ []) (tt, tt) (t.cpus, does, refl);
     rising = λ h. subst HasRisingIds (sym records) (rising_set s.records k r _ here refl h);
     omni = λ h j q is every. by j q every (was s.records k j r _ q here refl (subst (λ rs. IsRecord rs j q) records is));
@@ -310,7 +310,7 @@ module _ {R : Type 0} (step : R → FiringCall → R → Type 0) (view : R → F
       )
       by j q every (inr (ne, at)) = (j, q, at, refl, every, λ m now. back q.id m now)
 
-  pub still_retires : (n : ℕ) (ids : List ℕ) (s t : SystemView R) → FoldsTo (Retires step view n) s ids t → StillHolds s t
+  pub still_retires : (n : ℕ) (ids : List ℕ) (s t : SystemView R) → FoldsTo (Retires firing n) s ids t → StillHolds s t
   still_retires n [] s t e = still_same s t (sym e)
   still_retires n (id ∷ ids) s t (u, first, rest) = still_then s u t (still_retired n id s u first) (still_retires n ids u t rest)
 
@@ -342,12 +342,12 @@ module _ {R : Type 0} (step : R → FiringCall → R → Type 0) (view : R → F
   outs_found id n [] q found = (tt, tt)
   outs_found id n (x ∷ ids) q found = (tt, outs_found id n ids q found)
 
-  pub still_asked : (n : ℕ) (s t : SystemView R) → OnlyWorks step view (quiet n (ids_on n s.cpus)) s t → StillHolds s t
+  pub still_asked : (n : ℕ) (s t : SystemView R) → OnlyWorks firing (quiet n (ids_on n s.cpus)) s t → StillHolds s t
   still_asked n s t only = still_calls s t (quiet n (ids_on n s.cpus)) (steady_quiet n (ids_on n s.cpus))
       (λ id. outs_quiet id n (ids_on n s.cpus)) only
 
   pub still_left : (n : ℕ) (report : JuggleReport) (answer : Result (Unit {0}) Refusal) (s t : SystemView R)
-      → Leaves step view n report answer s t → StillHolds s t
+      → Leaves firing n report answer s t → StillHolds s t
   still_left n report answer s t (inl (left, is, same)) = still_same s t same
   still_left n report answer s t (inr (inl (none, is, (before, id, after, found, some, only)))) =
       still_calls s t (quiet n before ++ on n (AskPending id (Some found)) ∷ [])

@@ -1,7 +1,7 @@
 -- All that can happen to a system: its calls, each with its answer, and what each of them does.
 use Rattle.std.specs.Prelude.{◌≡◌, ℕ, [], ◌∷◌, Option, Some, None, Result, Ok, Err}
 use Rattle.cyc_types.specs.declared.Calls.{Ghosts as Calls}
-use Rattle.cyc_types.specs.Firing.{FiringView, FiringCall}
+use Rattle.cyc_types.specs.declared.Raise.{Ghosts as Raise}
 use Rattle.cyc_types.specs.declared.level.Level.{Level}
 use Rattle.cyc_types.specs.declared.level.Soft.{Soft}
 use Rattle.cyc_types.specs.declared.moment.When.{When}
@@ -50,37 +50,37 @@ pub data SystemCall : Type 0 where
   SoftInterrupt : ℕ → Soft → ℕ → Result Ran SoftFault → SystemCall
 
 -- the cyclic's CPU gave it another moment, and nothing else changed
-abbrev pub Reprograms : {R : Type 0} → (R → FiringCall → R → Type 0) → (R → FiringView)
+abbrev pub Reprograms : {R : Type 0} → Raise R
     → ℕ → ℕ → ℕ → Result (Unit {0}) Refusal → SystemView R → SystemView R → Type 0
-Reprograms step view id n moment answer s t =
-    (answer ≡ Ok tt) × OnlyWorks step view (on n (CpuReprogram id moment (Ok tt)) ∷ []) s t
+Reprograms firing id n moment answer s t =
+    (answer ≡ Ok tt) × OnlyWorks firing (on n (CpuReprogram id moment (Ok tt)) ∷ []) s t
 
 -- what a call does that reaches no handler: first the reasons for which it is refused, in their order
-abbrev pub Changes : {R : Type 0} → (R → FiringCall → R → Type 0) → (R → FiringView)
+abbrev pub Changes : {R : Type 0} → Raise R
     → SystemView R → SystemCall → SystemView R → Type 0
-Changes step view s (Add level when now answer) t =
-    Unless (bad_now now ∷ ids_spent s ∷ []) (λ e. Err e) answer s t (Adds step view level when now answer s t)
-Changes step view s (AddOmni level when skew now answer) t =
-    Unless (bad_now now ∷ ids_spent s ∷ []) (λ e. Err e) answer s t (AddsOmni step view level when skew now answer s t)
-Changes step view s (Bind id None answer) t =
+Changes firing s (Add level when now answer) t =
+    Unless (bad_now now ∷ ids_spent s ∷ []) (λ e. Err e) answer s t (Adds firing level when now answer s t)
+Changes firing s (AddOmni level when skew now answer) t =
+    Unless (bad_now now ∷ ids_spent s ∷ []) (λ e. Err e) answer s t (AddsOmni firing level when skew now answer s t)
+Changes firing s (Bind id None answer) t =
     Unless (no_cyclic id s ∷ omnipresent id s ∷ []) (λ e. Err e) answer s t (Unbinds id answer s t)
-Changes step view s (Bind id (Some n) answer) t =
+Changes firing s (Bind id (Some n) answer) t =
     Unless (no_cyclic id s ∷ omnipresent id s ∷ no_cpu n s ∷ offline_cpu n s ∷ []) (λ e. Err e) answer s t
-    (Binds step view id n answer s t)
-Changes step view s (BeginRemove id answer) t = BeginsRemoval step view id answer s t
-Changes step view s (PollRemove id answer) t = PollsRemoval step view id answer s t
-Changes step view s (AskTotals id answer) t = AsksTotals step view id answer s t
-Changes step view s (Reprogram id moment answer) t = Unless (no_cyclic id s ∷ omnipresent id s ∷ []) (λ e. Err e) answer s t
-    ((n : ℕ) × HasHome id n s × Reprograms step view id n moment answer s t)
-Changes step view s (ReprogramOn id n moment answer) t =
+    (Binds firing id n answer s t)
+Changes firing s (BeginRemove id answer) t = BeginsRemoval firing id answer s t
+Changes firing s (PollRemove id answer) t = PollsRemoval firing id answer s t
+Changes firing s (AskTotals id answer) t = AsksTotals firing id answer s t
+Changes firing s (Reprogram id moment answer) t = Unless (no_cyclic id s ∷ omnipresent id s ∷ []) (λ e. Err e) answer s t
+    ((n : ℕ) × HasHome id n s × Reprograms firing id n moment answer s t)
+Changes firing s (ReprogramOn id n moment answer) t =
     Unless (no_cyclic id s ∷ no_cpu n s ∷ offline_cpu n s ∷ no_component id n s ∷ []) (λ e. Err e) answer s t
-    (Reprograms step view id n moment answer s t)
-Changes step view s (Juggle n answer) t = Juggles step view n answer s t
-Changes step view s (Offline n answer) t = GoesOffline step view n answer s t
-Changes step view s (Online n now answer) t =
-    Unless (no_cpu n s ∷ online_cpu n s ∷ bad_now now ∷ []) (λ e. Err e) answer s t (GoesOnline step view n now answer s t)
-Changes step view s (FireOne n now answer) t = ⊥
-Changes step view s (SoftInterrupt n level budget answer) t = ⊥
+    (Reprograms firing id n moment answer s t)
+Changes firing s (Juggle n answer) t = Juggles firing n answer s t
+Changes firing s (Offline n answer) t = GoesOffline firing n answer s t
+Changes firing s (Online n now answer) t =
+    Unless (no_cpu n s ∷ online_cpu n s ∷ bad_now now ∷ []) (λ e. Err e) answer s t (GoesOnline firing n now answer s t)
+Changes firing s (FireOne n now answer) t = ⊥
+Changes firing s (SoftInterrupt n level budget answer) t = ⊥
 
 -- a fire is refused for this reason, before its first expiration
 abbrev pub no_fire : Refusal → FireRefused
@@ -93,18 +93,18 @@ of_cpu (Err e) = Err (Refused e)
 
 -- What each call does to a system and its handlers. `interrupts` is what a soft interrupt does to a CPU, where one thread has
 -- both sides of its levels.
-abbrev pub Does : {C R : Type 0} → Calls C → (R → FiringCall → R → Type 0) → (R → FiringView)
+abbrev pub Does : {C R : Type 0} → Calls C → Raise R
     → (Soft → ℕ → Result Ran SoftRefused → Running C R → Running C R → Type 0)
     → RunningSystem C R → SystemCall → RunningSystem C R → Type 0
-Does handler step view interrupts s (FireOne n now answer) t =
+Does handler firing interrupts s (FireOne n now answer) t =
     Unless (no_cpu n s.system ∷ offline_cpu n s.system ∷ []) (λ e. Err (no_fire e)) answer s t
-    (RunsAt handler step view interrupts (running_cpus s.calls s.system.cpus) (on n (Fire now answer))
+    (RunsAt handler firing interrupts (running_cpus s.calls s.system.cpus) (on n (Fire now answer))
     (running_cpus t.calls t.system.cpus)
     × (t.system.records ≡ s.system.records) × (t.system.last ≡ s.system.last))
-Does handler step view interrupts s (SoftInterrupt n level budget answer) t =
+Does handler firing interrupts s (SoftInterrupt n level budget answer) t =
     Unless (no_cpu n s.system ∷ []) (λ e. Err fault.NoCpu) answer s t
     ((own : Result Ran SoftRefused) × (answer ≡ of_cpu own)
-    × RunsAt handler step view interrupts (running_cpus s.calls s.system.cpus)
+    × RunsAt handler firing interrupts (running_cpus s.calls s.system.cpus)
     (on n (CpuSoftInterrupt level budget own)) (running_cpus t.calls t.system.cpus)
     × (t.system.records ≡ s.system.records) × (t.system.last ≡ s.system.last))
-Does handler step view interrupts s call t = Changes step view s.system call t.system × (t.calls ≡ s.calls)
+Does handler firing interrupts s call t = Changes firing s.system call t.system × (t.calls ≡ s.calls)

@@ -15,7 +15,7 @@ use cyc_types::{CyclicId, Interval, Level, Moment, Raise, Refusal, Sent, When};
 /// A CPU takes the memory of one more cyclic.
 fn reserve_at<R: Raise>(cpus: &mut Cpus<R>, number: u32) -> Result<(), Refusal>
     requires { number < length cpus.old.cpus }
-    ensures { DoesAt R.step R.view cpus.old (on number (Reserve 1 result)) cpus.new }
+    ensures { DoesAt R.Raise cpus.old (on number (Reserve 1 result)) cpus.new }
 {
     cpus.cpu_mut(number).reserve(1)
 }
@@ -32,7 +32,7 @@ fn enter<R: Raise>(
     requires number { number < length cpus.old.cpus }
     requires room { OfCpu number (MayWiden R.view 1) cpus.old }
     requires absent { OfCpu number (λ cpu. HasNoCyclic id cpu.cyclics) cpus.old }
-    ensures { Works R.step R.view (entering number id level interval moment) cpus.old cpus.new }
+    ensures { Works R.Raise (entering number id level interval moment) cpus.old cpus.new }
 {
     cpus.cpu_mut(number).widen(1);
     cpus.cpu_mut(number)
@@ -49,7 +49,7 @@ impl<R: Raise> System<R> {
     /// that CPU: Full, Busy, Expanding, Memory; no other CPU is tried. Takes the memory of one more cyclic there, where its size
     /// grows, and of a record. A refused call spends no id.
     pub fn add(&mut self, level: Level, when: When, now: Moment) -> Result<CyclicId, Refusal>
-        ensures { Changes R.step R.view self.old (Add level when now result) self.new }
+        ensures { Changes R.Raise self.old (Add level when now result) self.new }
     {
         if now.nanoseconds() == Moment::NEVER.nanoseconds() {
             return Err(Refusal::BadNow);

@@ -18,7 +18,7 @@ fn go<R: Raise>(cpus: &mut Cpus<R>, id: CyclicId, home: u32, target: u32) -> Res
     requires here { OfCpu home (λ cpu. HasCyclic id cpu.cyclics) cpus.old }
     requires absent { target ≢ home → OfCpu target (λ cpu. HasNoCyclic id cpu.cyclics) cpus.old }
     requires most { OfCpu home (λ from. OfCpu target (λ to. from.most ≤ to.most) cpus.old) cpus.old }
-    ensures { GoesTo R.step R.view id home target result cpus.old cpus.new }
+    ensures { GoesTo R.Raise id home target result cpus.old cpus.new }
 {
     if home == target {
         return Ok(());
@@ -37,7 +37,7 @@ impl<R: Raise> System<R> {
     /// where calls of it are outstanding, then with Full, Busy, Expanding or Memory of the CPU where it is to go. Takes memory
     /// there alone.
     pub fn bind(&mut self, id: CyclicId, cpu: Option<u32>) -> Result<(), Refusal>
-        ensures { Changes R.step R.view self.old (Bind id cpu result) self.new }
+        ensures { Changes R.Raise self.old (Bind id cpu result) self.new }
     {
         let Some(place) = self.present(id) else {
             return Err(Refusal::NoCyclic);

@@ -19,7 +19,7 @@ impl<R: Raise> System<R> {
         skew: Moment,
         now: Moment,
     ) -> Result<CyclicId, Refusal>
-        ensures { Changes R.step R.view self.old (AddOmni level when skew now result) self.new }
+        ensures { Changes R.Raise self.old (AddOmni level when skew now result) self.new }
     {
         let last = self.last;
         let id = cyc_everywhere::add_omni(
@@ -41,7 +41,7 @@ impl<R: Raise> System<R> {
     /// Refuses with NoCpu, then with Online where the CPU takes part already, then with BadNow where `now` is never, then with
     /// Expanding where its last switch of banks is not over, then with Memory, which it takes for all those components.
     pub fn online(&mut self, cpu: u32, now: Moment) -> Result<(), Refusal>
-        ensures { Changes R.step R.view self.old (Online cpu now result) self.new }
+        ensures { Changes R.Raise self.old (Online cpu now result) self.new }
     {
         cyc_everywhere::online(&mut self.cpus, &mut self.records, cpu, now)
     }

@@ -29,7 +29,7 @@ fn fire_at<C: Calls, R: Raise>(
     calls: &mut C,
 ) -> Result<Fired, FireRefused>
     requires { number < length cpus.old.cpus }
-    ensures { RunsAt C.Calls R.step R.view no_interrupts (running_cpus calls.old cpus.old)
+    ensures { RunsAt C.Calls R.Raise no_interrupts (running_cpus calls.old cpus.old)
         (on number (Fire now result)) (running_cpus calls.new cpus.new) }
 {
     cpus.cpu_mut(number).fire(now, calls)
@@ -48,7 +48,7 @@ impl<R: Raise> System<R> {
         now: Moment,
         calls: &mut C,
     ) -> Result<Fired, FireRefused>
-        ensures { Does C.Calls R.step R.view no_interrupts (running_system calls.old self.old)
+        ensures { Does C.Calls R.Raise no_interrupts (running_system calls.old self.old)
             (FireOne cpu now result) (running_system calls.new self.new) }
     {
         if cpu >= self.cpus.count() {

@@ -1,7 +1,7 @@
 //! The soft interrupt of one CPU.
 
 ghost use Rattle.std.specs.Prelude.{◌≡◌, ◌<◌, length};
-ghost use Rattle.cyc_cpu_laws.specs.Soft.{fires, firing_at, Interrupts};
+ghost use Rattle.cyc_cpu_laws.specs.Soft.{raise_tables, Interrupts};
 ghost use Rattle.cyc_cpu_laws.specs.Calls.{SoftInterrupt as CpuSoftInterrupt};
 ghost use Rattle.cyc_agreement.specs.Cpus.{on, running_cpus, RunsAt};
 ghost use Rattle.cyc_agreement.specs.System.{running_system};
@@ -30,7 +30,7 @@ fn softint_at<C: Calls>(
     budget: u32,
 ) -> Result<Ran, SoftRefused>
     requires { number < length cpus.old.cpus }
-    ensures { RunsAt C.Calls fires firing_at (Interrupts C.Calls)
+    ensures { RunsAt C.Calls raise_tables (Interrupts C.Calls)
         (running_cpus calls.old cpus.old) (on number (CpuSoftInterrupt level budget result)) (running_cpus calls.new cpus.new) }
 {
     cpus.cpu_mut(number).softint(level, calls, budget)
@@ -50,7 +50,7 @@ impl System<LevelCore> {
         calls: &mut C,
         budget: u32,
     ) -> Result<Ran, SoftFault>
-        ensures { Does C.Calls fires firing_at (Interrupts C.Calls)
+        ensures { Does C.Calls raise_tables (Interrupts C.Calls)
             (running_system calls.old self.old) (SoftInterrupt cpu level budget result) (running_system calls.new self.new) }
     {
         if cpu >= self.cpus.count() {

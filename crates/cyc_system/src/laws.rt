@@ -21,12 +21,12 @@ use cyc_types::{Calls, Raise};
 /// It does nothing when it runs: its clauses are the law.
 pub fn ids_law<C: Calls, R: Raise>()
     ensures run { (s t : RunningSystem C R) (way : List SystemCall)
-        → FoldsTo (Does C.Calls R.step R.view no_interrupts) s way t → s.system.last ≤ t.system.last }
+        → FoldsTo (Does C.Calls R.Raise no_interrupts) s way t → s.system.last ≤ t.system.last }
     ensures given { (s t : RunningSystem C R) (level : CyclicLevel) (when : Series) (now id : ℕ)
-        → Does C.Calls R.step R.view no_interrupts s (Add level when now (Ok id)) t → (s.system.last < id)
+        → Does C.Calls R.Raise no_interrupts s (Add level when now (Ok id)) t → (s.system.last < id)
         × (id ≤ t.system.last) }
     ensures omnipresent { (s t : RunningSystem C R) (level : CyclicLevel) (when : Series) (skew now id : ℕ)
-        → Does C.Calls R.step R.view no_interrupts s (AddOmni level when skew now (Ok id)) t
+        → Does C.Calls R.Raise no_interrupts s (AddOmni level when skew now (Ok id)) t
         → (s.system.last < id) × (id ≤ t.system.last) }
 {}
 
@@ -38,8 +38,8 @@ pub fn away_law<C: Calls, R: Raise>()
     ensures joined { (x y z : CpuView R) → ComesBack R.view x y → ComesBack R.view y z → ComesBack R.view x z }
     ensures fired { (s t : Running C R) (now : ℕ) (answer : Result Fired FireRefused) → IsLawful R.view s.cpu
         → IsLawful R.view t.cpu
-        → CpuDoes C.Calls R.step R.view no_interrupts s (Fire now answer) t → ComesBack R.view s.cpu t.cpu }
-    ensures settled { (v w : CpuView R) (answer : Bool) → CpuChanges R.step R.view v (AskSettled answer) w
+        → CpuDoes C.Calls R.Raise no_interrupts s (Fire now answer) t → ComesBack R.view s.cpu t.cpu }
+    ensures settled { (v w : CpuView R) (answer : Bool) → CpuChanges R.Raise v (AskSettled answer) w
         → ComesBack R.view v w }
     // All of them come back where each one does, at its place.
     ensures each { (xs ys : List (CpuView R)) → length ys ≡ length xs

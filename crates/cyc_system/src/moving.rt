@@ -14,7 +14,7 @@ impl<R: Raise> System<R> {
     /// Refuses with NoCpu, then with Offline, then with LastCpu where no other CPU is online, then with Busy while a removal is
     /// open there. Takes no memory but that of the destinations.
     pub fn juggle(&mut self, cpu: u32) -> Result<JuggleReport, Refusal>
-        ensures { Changes R.step R.view self.old (Juggle cpu result) self.new }
+        ensures { Changes R.Raise self.old (Juggle cpu result) self.new }
     {
         self.cpus.law();
         self.records.law();
@@ -31,7 +31,7 @@ impl<R: Raise> System<R> {
     /// open there. Then, where what moved stays moved, with Left where a cyclic that is not omnipresent remains, and with Pending
     /// where calls of a component are outstanding. Takes no memory but that of the destinations.
     pub fn offline(&mut self, cpu: u32) -> Result<(), Refusal>
-        ensures { Changes R.step R.view self.old (Offline cpu result) self.new }
+        ensures { Changes R.Raise self.old (Offline cpu result) self.new }
     {
         self.cpus.law();
         self.records.law();

@@ -14,7 +14,7 @@ impl<R: Raise> System<R> {
     /// Refuses with NoCyclic where no cyclic has the id, then with Busy where a removal is open on a CPU that has the cyclic, its
     /// own too: that of the CPU with the smallest number. Takes no memory.
     pub fn begin_remove(&mut self, id: CyclicId) -> Result<SystemRemoval, Refusal>
-        ensures { Changes R.step R.view self.old (BeginRemove id result) self.new }
+        ensures { Changes R.Raise self.old (BeginRemove id result) self.new }
     {
         cyc_removing::begin_remove(&mut self.cpus, &mut self.records, id)
     }
@@ -24,7 +24,7 @@ impl<R: Raise> System<R> {
     ///
     /// Refuses with NoCyclic where no removal of this id is open. Takes no memory.
     pub fn poll_remove(&mut self, id: CyclicId) -> Result<Option<Receipt>, Refusal>
-        ensures { Changes R.step R.view self.old (PollRemove id result) self.new }
+        ensures { Changes R.Raise self.old (PollRemove id result) self.new }
     {
         cyc_removing::poll_remove(&mut self.cpus, &mut self.records, id)
     }
@@ -32,7 +32,7 @@ impl<R: Raise> System<R> {
     /// The counts of a cyclic over all CPUs, with those of its stays that have ended, and its calls that are outstanding. None
     /// where no cyclic has the id, and once its removal has answered. Takes no memory.
     pub fn totals(&mut self, id: CyclicId) -> Option<SystemTotals>
-        ensures { Changes R.step R.view self.old (AskTotals id result) self.new }
+        ensures { Changes R.Raise self.old (AskTotals id result) self.new }
     {
         cyc_removing::system_totals(&mut self.cpus, &self.records, id)
     }

@@ -15,7 +15,7 @@ fn reprogram_at<R: Raise>(cpus: &mut Cpus<R>, number: u32, id: CyclicId, moment:
     requires number { number < length cpus.old.cpus }
     requires here { OfCpu number (λ cpu. HasCyclic id cpu.cyclics) cpus.old }
     requires still { OfCpu number (λ cpu. cpu.removal ≢ Some id) cpus.old }
-    ensures { DoesAt R.step R.view cpus.old (on number (CpuReprogram id moment (Ok tt))) cpus.new }
+    ensures { DoesAt R.Raise cpus.old (on number (CpuReprogram id moment (Ok tt))) cpus.new }
 {
     let Ok(()) = cpus.cpu_mut(number).reprogram(id, moment) else {
         unreachable!()
@@ -33,7 +33,7 @@ impl<R: Raise> System<R> {
     /// Refuses with NoCyclic where there is no such cyclic or its removal is open, then with Omnipresent where it has several
     /// components (our own; `reprogram_on` is for these). Takes no memory.
     pub fn reprogram(&mut self, id: CyclicId, moment: Moment) -> Result<(), Refusal>
-        ensures { Changes R.step R.view self.old (Reprogram id moment result) self.new }
+        ensures { Changes R.Raise self.old (Reprogram id moment result) self.new }
     {
         let Some(place) = self.present(id) else {
             return Err(Refusal::NoCyclic);
@@ -53,7 +53,7 @@ impl<R: Raise> System<R> {
     /// Refuses with NoCyclic where there is no such cyclic or its removal is open, then with NoCpu, then with Offline, then with
     /// NoCyclic where the cyclic has no component there. Takes no memory.
     pub fn reprogram_on(&mut self, id: CyclicId, cpu: u32, moment: Moment) -> Result<(), Refusal>
-        ensures { Changes R.step R.view self.old (ReprogramOn id cpu moment result) self.new }
+        ensures { Changes R.Raise self.old (ReprogramOn id cpu moment result) self.new }
     {
         let Some(place) = self.present(id) else {
             return Err(Refusal::NoCyclic);

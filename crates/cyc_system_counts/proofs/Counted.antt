@@ -9,7 +9,7 @@ use Rattle.std.proofs.lemmas.List.Folds.{sum_by-replicate}
 use Rattle.std.proofs.lemmas.Option.{slice_get-get_or, slice_get_within}
 use mathlib.Core.Logic.{dite}
 use native.Mathlib.Decide.{ℕ_discrete}
-use Rattle.cyc_types.specs.Firing.{FiringView, FiringCall}
+use Rattle.cyc_types.specs.declared.Raise.{Ghosts as Raise}
 use Rattle.cyc_types.specs.Series.{first}
 use Rattle.cyc_types.specs.declared.firing.Sent.{Sent}
 use Rattle.cyc_types.specs.declared.level.Level.{Level}
@@ -66,7 +66,7 @@ both_true : (a b : Bool) → (a && b) ≡ true → a ≡ true
 both_true true b e = refl
 both_true false b e = absurd (let odd : false ≡ true = e in cc)
 
-module _ {R : Type 0} (step : R → FiringCall → R → Type 0) (view : R → FiringView) (g : Sent
+module _ {R : Type 0} (firing : Raise R) (g : Sent
     → ℕ) (nil : g no_counts ≡ 0) (adds : (a b : Sent) → g (summed a b) ≡ g a + g b) (id : ℕ) where
   abbrev f : Taken → ℕ
   f t = g t.sent
@@ -80,8 +80,8 @@ module _ {R : Type 0} (step : R → FiringCall → R → Type 0) (view : R → F
   abbrev pub all_of : SystemView R → ℕ
   all_of s = on_cpus f id s.cpus + in_records s.records
 
-  idly : (way : List CallOn) (s t : SystemView R) → AreIdle way → OnlyWorks step view way s t → all_of t ≡ all_of s
-  idly way s t idle (works, records, last) = let a = idle_same f id step view way s.cpus t.cpus idle works in
+  idly : (way : List CallOn) (s t : SystemView R) → AreIdle way → OnlyWorks firing way s t → all_of t ≡ all_of s
+  idly way s t idle (works, records, last) = let a = idle_same f id firing way s.cpus t.cpus idle works in
       let b = ap in_records records in omega (arith, a, b)
 
   same_all : (s t : SystemView R) → t ≡ s → all_of t ≡ all_of s
@@ -95,15 +95,15 @@ module _ {R : Type 0} (step : R → FiringCall → R → Type 0) (view : R → F
       let e : of_record (with_place place r) ≡ of_record r = refl in omega (arith, a, b, e)
 
   moved_same : (own source target : ℕ) (taken : Taken) (s t : SystemView R)
-      → Works step view (moving own source target taken) s.cpus t.cpus → in_records t.records ≡ in_records s.records
+      → Works firing (moving own source target taken) s.cpus t.cpus → in_records t.records ≡ in_records s.records
       → all_of t ≡ all_of s
   moved_same own source target taken s t works records =
-      let a = flows f id step view (moving own source target taken) s.cpus t.cpus (tt, (tt, (tt, (tt, (tt, tt))))) works in
+      let a = flows f id firing (moving own source target taken) s.cpus t.cpus (tt, (tt, (tt, (tt, (tt, tt))))) works in
       let b = moved_even f id own source target taken in omega (arith, a, b, records)
 
   -- ---- binding
 
-  pub binds_same : (own n : ℕ) (answer : Result (Unit {0}) Refusal) (s t : SystemView R) → Binds step view own n answer s t
+  pub binds_same : (own n : ℕ) (answer : Result (Unit {0}) Refusal) (s t : SystemView R) → Binds firing own n answer s t
       → all_of t ≡ all_of s
   binds_same own n (Ok done) s t (home, has, inl (at, is, same), records) = let a = placed_same own _ s t records in
       let b = ap (on_cpus f id) same in omega (arith, a, b)
@@ -112,7 +112,7 @@ module _ {R : Type 0} (step : R → FiringCall → R → Type 0) (view : R → F
   binds_same own n (Err e) s t (home, has, inl (at, is, same), records, last) = let a = ap in_records records in
       let b = ap (on_cpus f id) same in omega (arith, a, b)
   binds_same own n (Err e) s t (home, has, inr (ne, why), records, last) = let a = ap in_records records in
-      let b = unshifted_same f id step view own home n e s.cpus t.cpus why in omega (arith, a, b)
+      let b = unshifted_same f id firing own home n e s.cpus t.cpus why in omega (arith, a, b)
 
   pub unbinds_same : (own : ℕ) (answer : Result (Unit {0}) Refusal) (s t : SystemView R) → Unbinds own answer s t
       → all_of t ≡ all_of s
@@ -120,9 +120,9 @@ module _ {R : Type 0} (step : R → FiringCall → R → Type 0) (view : R → F
       let b = ap (on_cpus f id) cpus in omega (arith, a, b)
 
   pub reprograms_same : (own n moment : ℕ) (s t : SystemView R)
-      → OnlyWorks step view (on n (CpuReprogram own moment (Ok tt)) ∷ []) s t → all_of t ≡ all_of s
+      → OnlyWorks firing (on n (CpuReprogram own moment (Ok tt)) ∷ []) s t → all_of t ≡ all_of s
   reprograms_same own n moment s t (works, records, last) =
-      let a = flows f id step view (on n (CpuReprogram own moment (Ok tt)) ∷ []) s.cpus t.cpus ((λ q a m. refl), tt) works in
+      let a = flows f id firing (on n (CpuReprogram own moment (Ok tt)) ∷ []) s.cpus t.cpus ((λ q a m. refl), tt) works in
       let b = ap in_records records in omega (arith, a, b)
 
   -- ---- adding
@@ -135,9 +135,9 @@ module _ {R : Type 0} (step : R → FiringCall → R → Type 0) (view : R → F
       let d = zero_if (own == id) (sum_by g (replicate 16 no_counts)) (omega (arith, z, nil)) in omega (arith, a, b, c, d)
 
   pub adds_same : (level : Level) (when : When) (now : ℕ) (answer : Result ℕ Refusal) (s t : SystemView R)
-      → Adds step view level when now answer s t → all_of t ≡ all_of s
+      → Adds firing level when now answer s t → all_of t ≡ all_of s
   adds_same level when now (Ok own) s t (d, chosen, next, works, records, last) =
-      let a = flows f id step view (on d (Reserve 1 (Ok tt)) ∷ entering d own level when.interval
+      let a = flows f id firing (on d (Reserve 1 (Ok tt)) ∷ entering d own level when.interval
       (first when.start when.interval now)) s.cpus t.cpus (tt, (tt, (tt, tt))) works in
       let b = zero_if (own == id) (g no_counts) nil in
       let c = new_same s t own level _ records in omega (arith, a, b, c)
@@ -158,24 +158,24 @@ module _ {R : Type 0} (step : R → FiringCall → R → Type 0) (view : R → F
       (omega (arith, a, z), omega (arith, b))
 
   pub omni_same : (level : Level) (when : When) (skew now : ℕ) (answer : Result ℕ Refusal) (s t : SystemView R)
-      → AddsOmni step view level when skew now answer s t → all_of t ≡ all_of s
+      → AddsOmni firing level when skew now answer s t → all_of t ≡ all_of s
   omni_same level when skew now (Ok own) s t (next, (u, reserved, works), records, last) =
       let ns = online_cpus s.cpus in
-      let a = reserved_same f id step view 1 s.cpus u reserved in
-      let b = flows f id step view (entering_each ns own level when skew now) u t.cpus
+      let a = reserved_same f id firing 1 s.cpus u reserved in
+      let b = flows f id firing (entering_each ns own level when skew now) u t.cpus
       (entering_fixed ns own level when skew now) works in
       let (z, y) = entering_none ns own level when skew now in let c = new_same s t own level _ records in
       omega (arith, a, b, z, y, c)
   omni_same level when skew now (Err e) s t
-      (inl why, records, last) = let a = unreserved_same f id step view 1 e s.cpus t.cpus why in
+      (inl why, records, last) = let a = unreserved_same f id firing 1 e s.cpus t.cpus why in
       let b = ap in_records records in omega (arith, a, b)
   omni_same level when skew now (Err e) s t
-      (inr (is, reserved), records, last) = let a = reserved_same f id step view 1 s.cpus t.cpus reserved in
+      (inr (is, reserved), records, last) = let a = reserved_same f id firing 1 s.cpus t.cpus reserved in
       let b = ap in_records records in omega (arith, a, b)
 
   -- ---- juggle and offline
 
-  turn_same : (n own : ℕ) (turn : Turn) (s t : SystemView R) → TakesTurn step view n own turn s t → all_of t ≡ all_of s
+  turn_same : (n own : ℕ) (turn : Turn) (s t : SystemView R) → TakesTurn firing n own turn s t → all_of t ≡ all_of s
   turn_same n own StaysBound s t (place, same) = same_all s t same
   turn_same n own StaysPending s t (place, found, some, only) = idly (on n (AskPending own (Some found)) ∷ []) s t (tt, tt) only
   turn_same n own StaysRefused s t (place, d, chosen, e, only) = idly
@@ -183,13 +183,13 @@ module _ {R : Type 0} (step : R → FiringCall → R → Type 0) (view : R → F
   turn_same n own Moves s t (place, d, chosen, (taken, works), records) = moved_same own n d taken s t works
       (placed_same own _ s t records)
 
-  pub turns_same : (n : ℕ) (ids : List ℕ) (report : JuggleReport) (s t : SystemView R) → Turns step view n ids report s t
+  pub turns_same : (n : ℕ) (ids : List ℕ) (report : JuggleReport) (s t : SystemView R) → Turns firing n ids report s t
       → all_of t ≡ all_of s
   turns_same n [] report s t (none, same) = same_all s t same
   turns_same n (own ∷ ids) report s t (turn, u, rest, first, counted, more) = turns_same n ids rest u t more
       ∙ turn_same n own turn s u first
 
-  turn_sixteen : (n own : ℕ) (turn : Turn) (s t : SystemView R) → TakesTurn step view n own turn s t → Sixteen s.records
+  turn_sixteen : (n own : ℕ) (turn : Turn) (s t : SystemView R) → TakesTurn firing n own turn s t → Sixteen s.records
       → Sixteen t.records
   turn_sixteen n own StaysBound s t (place, same) many = subst (λ (u : SystemView R). Sixteen u.records) (sym same) many
   turn_sixteen n own StaysPending s t (place, found, some, only) many = subst Sixteen (sym only.1) many
@@ -197,7 +197,7 @@ module _ {R : Type 0} (step : R → FiringCall → R → Type 0) (view : R → F
   turn_sixteen n own Moves s t (place, d, chosen, moves, (k, r, here, named, records, last)) many = subst Sixteen
       (sym records) (sixteen_set s.records k r _ here refl many)
 
-  pub turns_sixteen : (n : ℕ) (ids : List ℕ) (report : JuggleReport) (s t : SystemView R) → Turns step view n ids report s t
+  pub turns_sixteen : (n : ℕ) (ids : List ℕ) (report : JuggleReport) (s t : SystemView R) → Turns firing n ids report s t
       → Sixteen s.records → Sixteen t.records
   turns_sixteen n [] report s t (none, same) many = subst (λ (u : SystemView R). Sixteen u.records) (sym same) many
   turns_sixteen n (own ∷ ids) report s t (turn, u, rest, first, counted, more) many = turns_sixteen n ids rest u t more
@@ -218,12 +218,12 @@ module _ {R : Type 0} (step : R → FiringCall → R → Type 0) (view : R → F
       by false e = omega arith
 
   retires_same : (n : ℕ) (ids : List ℕ) (s t : SystemView R) → n < 16 → Sixteen s.records
-      → FoldsTo (Retires step view n) s ids t → all_of t ≡ all_of s
+      → FoldsTo (Retires firing n) s ids t → all_of t ≡ all_of s
   retires_same n [] s t low many e = same_all s t (sym e)
   retires_same n (own ∷ ids) s t low many (u, (taken, does, k, r, here, named, records, last), rest) =
       let long = many k r here in
       let x = with_ended n (summed (ended_on n r) taken.sent) r in
-      let a = flow_at f id step view s.cpus u.cpus (on n (TakeNow own (Ok taken))) tt does in
+      let a = flow_at f id firing s.cpus u.cpus (on n (TakeNow own (Ok taken))) tt does in
       let b = sum_set of_record s.records k r x here in let c = ap in_records records in
       let d = ended_more n taken.sent r (omega (arith, low, long)) in
       let e = ap (λ (j : ℕ). cond (j == id) (g taken.sent) 0) named in
@@ -232,7 +232,7 @@ module _ {R : Type 0} (step : R → FiringCall → R → Type 0) (view : R → F
       (sixteen_set s.records k r x here (length-set r.ended n (summed (ended_on n r) taken.sent)) many)) rest ∙ one
 
   pub leaves_same : (n : ℕ) (report : JuggleReport) (answer : Result (Unit {0}) Refusal) (s t : SystemView R) → n < 16
-      → Sixteen s.records → Leaves step view n report answer s t → all_of t ≡ all_of s
+      → Sixteen s.records → Leaves firing n report answer s t → all_of t ≡ all_of s
   leaves_same n report answer s t low many (inl (left, is, same)) = same_all s t same
   leaves_same n report answer s t low many (inr (inl (none, is, (before, own, after, found, some, only)))) =
       idly (quiet n before ++ on n (AskPending own (Some found)) ∷ []) s t
@@ -300,9 +300,9 @@ module _ {R : Type 0} (step : R → FiringCall → R → Type 0) (view : R → F
           let e = sum_by-cons of_record r rs in (omega (arith, d, e, rest), none))
 
   pub online_same : (n now : ℕ) (answer : Result (Unit {0}) Refusal) (s t : SystemView R) → n < 16 → Sixteen s.records
-      → GoesOnline step view n now answer s t → all_of t ≡ all_of s
+      → GoesOnline firing n now answer s t → all_of t ≡ all_of s
   online_same n now (Ok done) s t low many ((w, works, switched), records, last) =
-      let a = flows f id step view (on n (Reserve (length (staying s)) (Ok tt)) ∷ on n
+      let a = flows f id firing (on n (Reserve (length (staying s)) (Ok tt)) ∷ on n
       (Widen (length (staying s))) ∷ returns n now (staying s)) s.cpus w
       (tt, (tt, returns_fixed n now (staying s))) works in
       let (b, none) = return_all n now s.cpus s.records low many in

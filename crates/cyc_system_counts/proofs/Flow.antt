@@ -5,7 +5,7 @@ use Rattle.std.specs.Prelude.{sum_by}
 use Rattle.std.specs.List.{slice_get}
 use Rattle.std.proofs.lemmas.List.{length-set}
 use Rattle.std.proofs.lemmas.List.Sums.{sum_by-cons, sum_by-set, sum_by-remove, sum_by-insert}
-use Rattle.cyc_types.specs.Firing.{FiringView, FiringCall}
+use Rattle.cyc_types.specs.declared.Raise.{Ghosts as Raise}
 use Rattle.cyc_timers.specs.Rows.{Cyclic}
 use Rattle.cyc_cpu.specs.declared.moving.Taken.{Taken}
 use Rattle.cyc_cpu.specs.Cpu.{CpuView, with_moment, cyclic_with}
@@ -79,11 +79,11 @@ module _ (f : Taken → ℕ) (id : ℕ) where
   taken_is taken c is = (λ i. record
       { level = is.0 i; interval = is.1 i; moment = is.2 i; sent = record { sent = is.3 i; lost = is.4 i } })
 
-  module _ {R : Type 0} (step : R → FiringCall → R → Type 0) (view : R → FiringView) where
+  module _ {R : Type 0} (firing : Raise R) where
     stay_here : (x y : CpuView R) → y.cyclics ≡ x.cyclics → on_cpu y + 0 ≡ on_cpu x + 0
     stay_here x y same = let e = ap (λ cs. sum_by weigh cs) same in omega (arith, e)
 
-    flow : (x y : CpuView R) (call : CpuCall) → Fixed call → Changes step view x call y
+    flow : (x y : CpuView R) (call : CpuCall) → Fixed call → Changes firing x call y
         → on_cpu y + taken_off call ≡ on_cpu x + brought call
     flow x y (Place own level interval moment carried) fixed (may, p) =
         let c = cyclic_with own level interval moment carried.sent carried.lost in
@@ -115,14 +115,14 @@ module _ (f : Taken → ℕ) (id : ℕ) where
     flow x y (Widen more) fixed d = stay_here x y d.1.cyclics
     flow x y call fixed d = absurd fixed
 
-    pub flow_at : (v w : CpusView R) (c : CallOn) → Fixed c.call → DoesAt step view v c w
+    pub flow_at : (v w : CpusView R) (c : CallOn) → Fixed c.call → DoesAt firing v c w
         → on_cpus w + taken_off c.call ≡ on_cpus v + brought c.call
     flow_at v w c fixed d =
         let a = flow d.before d.after c.call fixed d.change in
         let b = sum_set on_cpu v.cpus c.cpu d.before d.after d.here in
         let e = ap on_cpus d.rest in omega (arith, a, b, e)
 
-    pub flows : (way : List CallOn) (v w : CpusView R) → AllFixed way → Works step view way v w
+    pub flows : (way : List CallOn) (v w : CpusView R) → AllFixed way → Works firing way v w
         → on_cpus w + all_taken way ≡ on_cpus v + all_brought way
     flows [] v w fixed run = let e = ap on_cpus run in omega (arith, e)
     flows (c ∷ way) v w fixed (u, d, rest) = let a = flow_at v u c fixed.0 d in let b = flows way u w fixed.1 rest in

@@ -1,6 +1,6 @@
 -- Calls that bring nothing to a CPU, and take nothing.
 use Rattle.std.proofs.Common.{◌≡◌, ℕ, Some, Ok, Err, List, [], ◌∷◌, ◌++◌, map, refl, sym, ap, arith}
-use Rattle.cyc_types.specs.Firing.{FiringView, FiringCall}
+use Rattle.cyc_types.specs.declared.Raise.{Ghosts as Raise}
 use Rattle.cyc_types.specs.declared.refusal.Refusal.{Refusal}
 use Rattle.cyc_cpu.specs.declared.moving.Taken.{Taken}
 use Rattle.cyc_cpu.specs.Calls.{CpuCall, AskPending, AskTotals, AskRoom, Reserve, Widen}
@@ -53,19 +53,19 @@ module _ (f : Taken → ℕ) (id : ℕ) where
   idle_fixed (Widen more) idle = (tt, refl, refl)
   idle_fixed call idle = absurd idle
 
-  module _ {R : Type 0} (step : R → FiringCall → R → Type 0) (view : R → FiringView) where
-    pub idle_same : (way : List CallOn) (v w : CpusView R) → AreIdle way → Works step view way v w
+  module _ {R : Type 0} (firing : Raise R) where
+    pub idle_same : (way : List CallOn) (v w : CpusView R) → AreIdle way → Works firing way v w
         → on_cpus f id w ≡ on_cpus f id v
     idle_same [] v w idle run = ap (on_cpus f id) (sym run)
     idle_same (c ∷ way) v w idle (u, d, rest) =
         let (fixed, none, nil) = idle_fixed c.call idle.0 in
-        let a = flow_at f id step view v u c fixed d in let b = idle_same way u w idle.1 rest in omega (arith, a, b, none, nil)
+        let a = flow_at f id firing v u c fixed d in let b = idle_same way u w idle.1 rest in omega (arith, a, b, none, nil)
 
-    pub reserved_same : (more : ℕ) (v w : CpusView R) → ReservesEach step view more (Ok tt) v w → on_cpus f id w ≡ on_cpus f id v
+    pub reserved_same : (more : ℕ) (v w : CpusView R) → ReservesEach firing more (Ok tt) v w → on_cpus f id w ≡ on_cpus f id v
     reserved_same more v w (u, first, then) = let a = idle_same _ v u (idle_rooms more _) first in
         let b = idle_same _ u w (idle_reserves more _) then in omega (arith, a, b)
 
-    pub unreserved_same : (more : ℕ) (e : Refusal) (v w : CpusView R) → ReservesEach step view more (Err e) v w
+    pub unreserved_same : (more : ℕ) (e : Refusal) (v w : CpusView R) → ReservesEach firing more (Err e) v w
         → on_cpus f id w ≡ on_cpus f id v
     unreserved_same more e v w (inl (before, n, after, works)) = idle_same _ v w
         (idle_on (rooms more before) _ (idle_rooms more before) (tt, tt)) works
@@ -75,7 +75,7 @@ module _ (f : Taken → ℕ) (id : ℕ) where
         omega (arith, a, b)
 
     pub unshifted_same : (own source target : ℕ) (e : Refusal) (v w : CpusView R)
-        → WhyNotShifted step view own source target e v w → on_cpus f id w ≡ on_cpus f id v
+        → WhyNotShifted firing own source target e v w → on_cpus f id w ≡ on_cpus f id v
     unshifted_same own source target e v w (inl (removed, is_open, is, same)) = ap (on_cpus f id) same
     unshifted_same own source target e v w (inr (inl (still, n, some, is, works))) = idle_same
         (on source (AskPending own (Some n)) ∷ []) v w (tt, tt) works

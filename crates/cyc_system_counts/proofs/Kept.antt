@@ -4,7 +4,7 @@ use Rattle.std.proofs.Common.{Result, Ok, Err, List, [], ◌∷◌, ◌++◌, le
 use Rattle.std.specs.Prelude.{not, ◌&&◌}
 use Rattle.std.specs.List.{slice_get, FoldsTo}
 use Rattle.std.specs.Option.{option_map_or}
-use Rattle.cyc_types.specs.Firing.{FiringView, FiringCall}
+use Rattle.cyc_types.specs.declared.Raise.{Ghosts as Raise}
 use Rattle.cyc_types.specs.Series.{first}
 use Rattle.cyc_types.specs.declared.firing.Sent.{Sent}
 use Rattle.cyc_types.specs.declared.level.Level.{Level}
@@ -62,7 +62,7 @@ both_true : (a b : Bool) → (a && b) ≡ true → a ≡ true
 both_true true b e = refl
 both_true false b e = absurd (let odd : false ≡ true = e in cc)
 
-module _ {R : Type 0} (step : R → FiringCall → R → Type 0) (view : R → FiringView) (f : Taken → ℕ) (id : ℕ) where
+module _ {R : Type 0} (firing : Raise R) (f : Taken → ℕ) (id : ℕ) where
   -- the measure over all CPUs
   abbrev all_on : SystemView R → ℕ
   all_on s = on_cpus f id s.cpus
@@ -71,29 +71,29 @@ module _ {R : Type 0} (step : R → FiringCall → R → Type 0) (view : R → F
   other own n ne = ap (λ b. cond b n 0) (false_ne own id ne)
 
   moved_stays : (own source target : ℕ) (taken : Taken) (s t : SystemView R)
-      → Works step view (moving own source target taken) s.cpus t.cpus → all_on t ≡ all_on s
+      → Works firing (moving own source target taken) s.cpus t.cpus → all_on t ≡ all_on s
   moved_stays own source target taken s t works =
-      let a = flows f id step view (moving own source target taken) s.cpus t.cpus (tt, (tt, (tt, (tt, (tt, tt))))) works in
+      let a = flows f id firing (moving own source target taken) s.cpus t.cpus (tt, (tt, (tt, (tt, (tt, tt))))) works in
       let b = moved_even f id own source target taken in omega (arith, a, b)
 
-  binds_stay : (own n : ℕ) (answer : Result (Unit {0}) Refusal) (s t : SystemView R) → Binds step view own n answer s t
+  binds_stay : (own n : ℕ) (answer : Result (Unit {0}) Refusal) (s t : SystemView R) → Binds firing own n answer s t
       → all_on t ≡ all_on s
   binds_stay own n (Ok done) s t (home, has, inl (at, is, same), records) = ap (on_cpus f id) same
   binds_stay own n (Ok done) s t (home, has, inr (ne, (taken, works)), records) = moved_stays own home n taken s t works
   binds_stay own n (Err e) s t (home, has, inl (at, is, same), records, last) = ap (on_cpus f id) same
-  binds_stay own n (Err e) s t (home, has, inr (ne, why), records, last) = unshifted_same f id step view own home n e s.cpus
+  binds_stay own n (Err e) s t (home, has, inr (ne, why), records, last) = unshifted_same f id firing own home n e s.cpus
       t.cpus why
 
   reprograms_stay : (own n moment : ℕ) (s t : SystemView R) → (own ≡ id → (a : Taken) (m : ℕ) → f (record a { moment = m }) ≡ f a)
-      → OnlyWorks step view (on n (CpuReprogram own moment (Ok tt)) ∷ []) s t → all_on t ≡ all_on s
+      → OnlyWorks firing (on n (CpuReprogram own moment (Ok tt)) ∷ []) s t → all_on t ≡ all_on s
   reprograms_stay own n moment s t blind (works, records, last) =
-      let a = flows f id step view (on n (CpuReprogram own moment (Ok tt)) ∷ []) s.cpus t.cpus (blind, tt) works in
+      let a = flows f id firing (on n (CpuReprogram own moment (Ok tt)) ∷ []) s.cpus t.cpus (blind, tt) works in
       omega (arith, a)
 
   adds_stay : (level : Level) (when : When) (now : ℕ) (answer : Result ℕ Refusal) (s t : SystemView R)
-      → (TouchesStays id (Add level when now answer) s → ⊥) → Adds step view level when now answer s t → all_on t ≡ all_on s
+      → (TouchesStays id (Add level when now answer) s → ⊥) → Adds firing level when now answer s t → all_on t ≡ all_on s
   adds_stay level when now (Ok own) s t ne (d, chosen, next, works, records, last) =
-      let a = flows f id step view (on d (Reserve 1 (Ok tt)) ∷ entering d own level when.interval
+      let a = flows f id firing (on d (Reserve 1 (Ok tt)) ∷ entering d own level when.interval
       (first when.start when.interval now)) s.cpus t.cpus (tt, (tt, (tt, tt))) works in
       let z = other own (f (record {
         level = level;
@@ -101,9 +101,9 @@ module _ {R : Type 0} (step : R → FiringCall → R → Type 0) (view : R → F
         moment = first when.start when.interval now;
         sent = record { sent = 0; lost = 0 };
       })) ne in omega (arith, a, z)
-  adds_stay level when now (Err e) s t ne (d, chosen, inl only) = idle_same f id step view
+  adds_stay level when now (Err e) s t ne (d, chosen, inl only) = idle_same f id firing
       (on d (Reserve 1 (Err e)) ∷ []) s.cpus t.cpus (tt, tt) only.0
-  adds_stay level when now (Err e) s t ne (d, chosen, inr (is, only)) = idle_same f id step view
+  adds_stay level when now (Err e) s t ne (d, chosen, inr (is, only)) = idle_same f id firing
       (on d (Reserve 1 (Ok tt)) ∷ []) s.cpus t.cpus (tt, tt) only.0
 
   entering_stays : (ns : List ℕ) (own : ℕ) (level : Level) (when : When) (skew now : ℕ) → own ≢ id
@@ -121,49 +121,49 @@ module _ {R : Type 0} (step : R → FiringCall → R → Type 0) (view : R → F
 
   omni_stays : (level : Level) (when : When) (skew now : ℕ) (answer : Result ℕ Refusal) (s t : SystemView R)
       → (TouchesStays id (AddOmni level when skew now answer) s → ⊥)
-      → AddsOmni step view level when skew now answer s t → all_on t ≡ all_on s
+      → AddsOmni firing level when skew now answer s t → all_on t ≡ all_on s
   omni_stays level when skew now (Ok own) s t ne (next, (u, reserved, works), records, last) =
       let (fixed, z, y) = entering_stays (online_cpus s.cpus) own level when skew now ne in
-      let a = reserved_same f id step view 1 s.cpus u reserved in
-      let b = flows f id step view (entering_each (online_cpus s.cpus) own level when skew now) u t.cpus fixed works in
+      let a = reserved_same f id firing 1 s.cpus u reserved in
+      let b = flows f id firing (entering_each (online_cpus s.cpus) own level when skew now) u t.cpus fixed works in
       omega (arith, a, b, z, y)
-  omni_stays level when skew now (Err e) s t ne (inl why, records, last) = unreserved_same f id step view 1 e s.cpus t.cpus why
+  omni_stays level when skew now (Err e) s t ne (inl why, records, last) = unreserved_same f id firing 1 e s.cpus t.cpus why
   omni_stays level when skew now (Err e) s t ne
-      (inr (is, reserved), records, last) = reserved_same f id step view 1 s.cpus t.cpus reserved
+      (inr (is, reserved), records, last) = reserved_same f id firing 1 s.cpus t.cpus reserved
 
-  turn_stays : (n own : ℕ) (turn : Turn) (s t : SystemView R) → TakesTurn step view n own turn s t → all_on t ≡ all_on s
+  turn_stays : (n own : ℕ) (turn : Turn) (s t : SystemView R) → TakesTurn firing n own turn s t → all_on t ≡ all_on s
   turn_stays n own StaysBound s t (place, same) = ap all_on same
-  turn_stays n own StaysPending s t (place, found, some, only) = idle_same f id step view
+  turn_stays n own StaysPending s t (place, found, some, only) = idle_same f id firing
       (on n (AskPending own (Some found)) ∷ []) s.cpus t.cpus (tt, tt) only.0
-  turn_stays n own StaysRefused s t (place, d, chosen, e, only) = idle_same f id step view
+  turn_stays n own StaysRefused s t (place, d, chosen, e, only) = idle_same f id firing
       (on n (AskPending own (Some 0)) ∷ on d (Reserve 1 (Err e)) ∷ []) s.cpus t.cpus (tt, (tt, tt)) only.0
   turn_stays n own Moves s t (place, d, chosen, (taken, works), records) = moved_stays own n d taken s t works
 
-  turns_stay : (n : ℕ) (ids : List ℕ) (report : JuggleReport) (s t : SystemView R) → Turns step view n ids report s t
+  turns_stay : (n : ℕ) (ids : List ℕ) (report : JuggleReport) (s t : SystemView R) → Turns firing n ids report s t
       → all_on t ≡ all_on s
   turns_stay n [] report s t (none, same) = ap all_on same
   turns_stay n (own ∷ ids) report s t (turn, u, rest, first, counted, more) = turns_stay n ids rest u t more
       ∙ turn_stays n own turn s u first
 
   retires_stay : (n : ℕ) (ids : List ℕ) (s t : SystemView R) → ((p own : ℕ) → slice_get ids p ≡ Some own → own ≢ id)
-      → FoldsTo (Retires step view n) s ids t → all_on t ≡ all_on s
+      → FoldsTo (Retires firing n) s ids t → all_on t ≡ all_on s
   retires_stay n [] s t ne e = ap all_on (sym e)
   retires_stay n (own ∷ ids) s t ne (u, (taken, does, k, r, here, named, records, last), rest) =
-      let a = flow_at f id step view s.cpus u.cpus (on n (TakeNow own (Ok taken))) tt does in
+      let a = flow_at f id firing s.cpus u.cpus (on n (TakeNow own (Ok taken))) tt does in
       let z = other own (f taken) (ne 0 own refl) in
       let one : all_on u ≡ all_on s = omega (arith, a, z) in retires_stay n ids u t (λ p q at. ne (suc p) q at) rest ∙ one
 
   leaves_stay : (n : ℕ) (report : JuggleReport) (answer : Result (Unit {0}) Refusal) (s t : SystemView R)
-      → (is_omnipresent id s ≡ true → ⊥) → Leaves step view n report answer s t → all_on t ≡ all_on s
+      → (is_omnipresent id s ≡ true → ⊥) → Leaves firing n report answer s t → all_on t ≡ all_on s
   leaves_stay n report answer s t single (inl (left, is, same)) = ap all_on same
   leaves_stay n report answer s t single (inr (inl (none, is, (before, own, after, found, some, only)))) =
-      idle_same f id step view (quiet n before ++ on n (AskPending own (Some found)) ∷ []) s.cpus t.cpus
+      idle_same f id firing (quiet n before ++ on n (AskPending own (Some found)) ∷ []) s.cpus t.cpus
       (idle_on (quiet n before) (on n (AskPending own (Some found)) ∷ []) (idle_quiet n before) (tt, tt)) only.0
   leaves_stay n report answer s t single (inr (inr (none, is, (u, only, empty, each, off)))) =
       ap all_on off
       ∙ (retires_stay n (ids_on n s.cpus) u empty (λ p own at e. single (subst (λ (j : ℕ). is_omnipresent j s ≡ true) e
       (not_true (is_omnipresent own s) (none_passes (λ (j : ℕ). not (is_omnipresent j s)) (ids_on n s.cpus) p own none at)))) each
-      ∙ idle_same f id step view (quiet n (ids_on n s.cpus)) s.cpus u.cpus (idle_quiet n (ids_on n s.cpus)) only.0)
+      ∙ idle_same f id firing (quiet n (ids_on n s.cpus)) s.cpus u.cpus (idle_quiet n (ids_on n s.cpus)) only.0)
 
   -- an id whose record is read
   omni_read : (s : SystemView R) (k : ℕ) (r : Record) → HasRisingIds s.records → IsRecord s.records k r → r.id ≡ id
@@ -200,14 +200,14 @@ module _ {R : Type 0} (step : R → FiringCall → R → Type 0) (view : R → F
       by false is fixed a b = (fixed, a, b)
 
   online_stays : (n now : ℕ) (answer : Result (Unit {0}) Refusal) (s t : SystemView R) → HasRisingIds s.records
-      → (is_omnipresent id s ≡ true → ⊥) → GoesOnline step view n now answer s t → all_on t ≡ all_on s
+      → (is_omnipresent id s ≡ true → ⊥) → GoesOnline firing n now answer s t → all_on t ≡ all_on s
   online_stays n now (Ok done) s t rising single ((w, works, switched), records, last) =
       let (fixed, z, y) = returns_stay n now s.cpus s.records
       (λ k r at is named. single (omni_read s k r rising at named ∙ both_true (is_everywhere r.place) _ is)) in
-      let a = flows f id step view (on n (Reserve (length (staying s)) (Ok tt)) ∷ on n
+      let a = flows f id firing (on n (Reserve (length (staying s)) (Ok tt)) ∷ on n
       (Widen (length (staying s))) ∷ returns n now (staying s)) s.cpus w (tt, (tt, fixed)) works in
       let d = ap (on_cpus f id) switched in omega (arith, a, z, y, d)
-  online_stays n now (Err e) s t rising single (why, only) = idle_same f id step view
+  online_stays n now (Err e) s t rising single (why, only) = idle_same f id firing
       (on n (Reserve (length (staying s)) (Err e)) ∷ []) s.cpus t.cpus (tt, tt) only.0
 
   refused_or : {A : Type 0} (o : Option Refusal) (refused : Refusal → A) (answer : A) (s t : SystemView R) (G : Type 0)
@@ -217,21 +217,23 @@ module _ {R : Type 0} (step : R → FiringCall → R → Type 0) (view : R → F
   refused_or o refused answer s t G (inr (clear, g)) goes = goes g
 
   -- the sums are what the look-ups give
-  by_sums : (s t : SystemView R) → IsSound view s → IsSound view t → all_on t ≡ all_on s → over_stays f id t ≡ over_stays f id s
-  by_sums s t a b e = sym (stays_found view id f t b.lawful) ∙ (e ∙ stays_found view id f s a.lawful)
+  by_sums : (s t : SystemView R) → IsSound firing.view s → IsSound firing.view t → all_on t ≡ all_on s → over_stays f id t
+      ≡ over_stays f id s
+  by_sums s t a b e = sym (stays_found firing.view id f t b.lawful) ∙ (e ∙ stays_found firing.view id f s a.lawful)
 
   still_single : (n : ℕ) (report : JuggleReport) (s t : SystemView R) → HasRisingIds s.records
-      → Turns step view n (single_ids n s) report s t → (is_omnipresent id s ≡ true → ⊥) → is_omnipresent id t ≡ true → ⊥
+      → Turns firing n (single_ids n s) report s t → (is_omnipresent id s ≡ true → ⊥) → is_omnipresent id t ≡ true → ⊥
   still_single n report s t rising turns single now =
-      single (sym (turns_look step view (λ (r : Record). is_everywhere r.place) false (λ r n bound e. sym e)
+      single (sym (turns_look firing (λ (r : Record). is_everywhere r.place) false (λ r n bound e. sym e)
       (λ r n c. refl) id n (single_ids n s) report s t rising turns) ∙ now)
 
-  pub moments_kept : (s t : SystemView R) (own n moment : ℕ) → IsSound view s → IsSound view t
+  pub moments_kept : (s t : SystemView R) (own n moment : ℕ) → IsSound firing.view s → IsSound firing.view t
       → ((a : Taken) (m : ℕ) → f (record a { moment = m }) ≡ f a)
-      → OnlyWorks step view (on n (CpuReprogram own moment (Ok tt)) ∷ []) s t → over_stays f id t ≡ over_stays f id s
+      → OnlyWorks firing (on n (CpuReprogram own moment (Ok tt)) ∷ []) s t → over_stays f id t ≡ over_stays f id s
   moments_kept s t own n moment a b blind only = by_sums s t a b (reprograms_stay own n moment s t (λ e. blind) only)
 
-  pub stays_kept : (s t : SystemView R) (call : SystemCall) → IsSound view s → IsSound view t → Changes step view s call t
+  pub stays_kept : (s t : SystemView R) (call : SystemCall) → IsSound firing.view s → IsSound firing.view t
+      → Changes firing s call t
       → (TouchesStays id call s → ⊥) → over_stays f id t ≡ over_stays f id s
   stays_kept s t (Add level when now answer) a b d ne = by_sums s t a b
       (refused_or _ _ answer s t _ d (λ k. adds_stay level when now answer s t ne k))
@@ -242,10 +244,10 @@ module _ {R : Type 0} (step : R → FiringCall → R → Type 0) (view : R → F
   stays_kept s t (Bind own (Some n) answer) a b d ne = by_sums s t a b
       (refused_or _ _ answer s t _ d (λ k. binds_stay own n answer s t k))
   stays_kept s t (BeginRemove own answer) a b d ne = untouched_stays id f s t
-      (begins_others step view own id answer s t (λ e. ne (sym e)) d)
+      (begins_others firing own id answer s t (λ e. ne (sym e)) d)
   stays_kept s t (PollRemove own answer) a b d ne = untouched_stays id f s t
-      (polls_others step view own id answer s t (λ e. ne (sym e)) d)
-  stays_kept s t (AskTotals own answer) a b d ne = untouched_stays id f s t (asks_others step view own id answer s t d)
+      (polls_others firing own id answer s t (λ e. ne (sym e)) d)
+  stays_kept s t (AskTotals own answer) a b d ne = untouched_stays id f s t (asks_others firing own id answer s t d)
   stays_kept s t (Reprogram own moment answer) a b d ne = by_sums s t a b
       (refused_or _ _ answer s t _ d (λ k. reprograms_stay own k.0 moment s t (λ e. absurd (ne e)) k.2.1))
   stays_kept s t (ReprogramOn own n moment answer) a b d ne = by_sums s t a b

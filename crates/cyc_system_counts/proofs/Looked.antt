@@ -3,7 +3,7 @@ use Rattle.std.proofs.Common.{◌≡◌, ◌≢◌, ◌∙◌, ◌==◌, ℕ, ze
 use Rattle.std.proofs.Common.{Result, Ok, Err, List, [], ◌∷◌, ◌++◌, map, slice_set, refl, sym, ap, subst}
 use Rattle.std.specs.List.{slice_get, FoldsTo}
 use Rattle.std.specs.Option.{option_map_or}
-use Rattle.cyc_types.specs.Firing.{FiringView, FiringCall}
+use Rattle.cyc_types.specs.declared.Raise.{Ghosts as Raise}
 use Rattle.cyc_types.specs.declared.firing.Sent.{Sent}
 use Rattle.cyc_types.specs.declared.level.Level.{Level}
 use Rattle.cyc_types.specs.declared.moment.When.{When}
@@ -75,7 +75,7 @@ find_more : {A : Type 0} (p : A → Bool) (xs : List A) (x : A) → p x ≡ fals
 find_more p [] x fails = ap (λ t. cond t (Some x) None) fails
 find_more p (z ∷ xs) x fails = ap (λ o. cond (p z) (Some z) o) (find_more p xs x fails)
 
-module _ {R B : Type 0} (step : R → FiringCall → R → Type 0) (view : R → FiringView) (h : Record → B) (none : B)
+module _ {R B : Type 0} (firing : Raise R) (h : Record → B) (none : B)
     (placed : (r : Record) (n : ℕ) (bound : Bool) → is_everywhere r.place ≡ false → h (with_place (stands.On n bound) r) ≡ h r)
     (ended : (r : Record) (n : ℕ) (c : Sent) → h (with_ended n c r) ≡ h r) (id : ℕ) where
   -- what is read in the record of the id
@@ -117,24 +117,24 @@ module _ {R B : Type 0} (step : R → FiringCall → R → Type 0) (view : R →
       (find_more (λ (x : Record). x.id == id) s.records (new_record own level place) (false_ne own id ne))
 
   binds_look : (own n : ℕ) (answer : Result (Unit {0}) Refusal) (s t : SystemView R) → HasRisingIds s.records
-      → Binds step view own n answer s t → look t ≡ look s
+      → Binds firing own n answer s t → look t ≡ look s
   binds_look own n (Ok done) s t rising
       (home, (was, has), goes, records) = replaced_look own home n true was s t rising has records
   binds_look own n (Err e) s t rising (home, has, goes, records, last) = looked_same s t records
 
   adds_look : (level : Level) (when : When) (now : ℕ) (answer : Result ℕ Refusal) (s t : SystemView R)
-      → (TouchesRecord id (Add level when now answer) → ⊥) → Adds step view level when now answer s t → look t ≡ look s
+      → (TouchesRecord id (Add level when now answer) → ⊥) → Adds firing level when now answer s t → look t ≡ look s
   adds_look level when now (Ok own) s t other (d, chosen, next, works, records, last) = new_look own level _ s t other records
   adds_look level when now (Err e) s t other (d, chosen, inl (works, records, last)) = looked_same s t records
   adds_look level when now (Err e) s t other (d, chosen, inr (is, (works, records, last))) = looked_same s t records
 
   omni_look : (level : Level) (when : When) (skew now : ℕ) (answer : Result ℕ Refusal) (s t : SystemView R)
       → (TouchesRecord id (AddOmni level when skew now answer) → ⊥)
-      → AddsOmni step view level when skew now answer s t → look t ≡ look s
+      → AddsOmni firing level when skew now answer s t → look t ≡ look s
   omni_look level when skew now (Ok own) s t other (next, works, records, last) = new_look own level _ s t other records
   omni_look level when skew now (Err e) s t other (works, records, last) = looked_same s t records
 
-  turn_look : (n own : ℕ) (turn : Turn) (s t : SystemView R) → HasRisingIds s.records → TakesTurn step view n own turn s t
+  turn_look : (n own : ℕ) (turn : Turn) (s t : SystemView R) → HasRisingIds s.records → TakesTurn firing n own turn s t
       → (look t ≡ look s) × HasRisingIds t.records
   turn_look n own StaysBound s t rising (place, same) =
       (ap look same, subst (λ (u : SystemView R). HasRisingIds u.records) (sym same) rising)
@@ -146,18 +146,18 @@ module _ {R B : Type 0} (step : R → FiringCall → R → Type 0) (view : R →
       (replaced_look own n d false false s t rising place records, replaced_rising own _ s t rising records)
 
   pub turns_look : (n : ℕ) (ids : List ℕ) (report : JuggleReport) (s t : SystemView R) → HasRisingIds s.records
-      → Turns step view n ids report s t → look t ≡ look s
+      → Turns firing n ids report s t → look t ≡ look s
   turns_look n [] report s t rising (is, same) = ap look same
   turns_look n (own ∷ ids) report s t rising (turn, u, rest, first, counted, more) =
       let (one, rises) = turn_look n own turn s u rising first in turns_look n ids rest u t rises more ∙ one
 
-  retires_look : (n : ℕ) (ids : List ℕ) (s t : SystemView R) → FoldsTo (Retires step view n) s ids t → look t ≡ look s
+  retires_look : (n : ℕ) (ids : List ℕ) (s t : SystemView R) → FoldsTo (Retires firing n) s ids t → look t ≡ look s
   retires_look n [] s t e = ap look (sym e)
   retires_look n (own ∷ ids) s t (u, (taken, does, k, r, here, named, records, last), rest) = retires_look n ids u t rest
       ∙ ended_look s u k n r _ here records
 
   leaves_look : (n : ℕ) (report : JuggleReport) (answer : Result (Unit {0}) Refusal) (s t : SystemView R)
-      → Leaves step view n report answer s t → look t ≡ look s
+      → Leaves firing n report answer s t → look t ≡ look s
   leaves_look n report answer s t (inl (left, is, same)) = ap look same
   leaves_look n report answer s t (inr (inl (nothing, is, (before, own, after, found, some, only)))) = looked_same s t only.1
   leaves_look n report answer s t (inr (inr (nothing, is, (u, only, empty, each, off)))) = ap look off
@@ -170,18 +170,18 @@ module _ {R B : Type 0} (step : R → FiringCall → R → Type 0) (view : R →
       by true = (refl, ended r n no_counts)
       by false = (refl, refl)
 
-  online_look : (n now : ℕ) (answer : Result (Unit {0}) Refusal) (s t : SystemView R) → GoesOnline step view n now answer s t
+  online_look : (n now : ℕ) (answer : Result (Unit {0}) Refusal) (s t : SystemView R) → GoesOnline firing n now answer s t
       → look t ≡ look s
   online_look n now (Ok done) s t (works, records, last) = ap (λ rs. option_map_or h (found id rs) none) records
       ∙ look_map (λ (x : Record). x.id == id) h none (after_return n s.cpus)
       (λ r. ap (λ (j : ℕ). j == id) (return_look n s.cpus r).0) (λ r. (return_look n s.cpus r).1) s.records
   online_look n now (Err e) s t (why, (works, records, last)) = looked_same s t records
 
-  begins_on_look : (own n : ℕ) (removal : Removal) (s t : SystemView R) → BeginsOn step view own n removal s t → look t ≡ look s
+  begins_on_look : (own n : ℕ) (removal : Removal) (s t : SystemView R) → BeginsOn firing own n removal s t → look t ≡ look s
   begins_on_look own n (Done receipt) s t (does, k, r, here, named, records, last) = ended_look s t k n r _ here records
   begins_on_look own n (Kept kept) s t (does, records, last) = looked_same s t records
 
-  polls_on_look : (own n : ℕ) (answer : Option Receipt) (s t : SystemView R) → PollsOn step view own n answer s t
+  polls_on_look : (own n : ℕ) (answer : Option Receipt) (s t : SystemView R) → PollsOn firing own n answer s t
       → look t ≡ look s
   polls_on_look own n (Some receipt) s t (does, k, r, here, named, records, last) = ended_look s t k n r _ here records
   polls_on_look own n None s t (does, records, last) = looked_same s t records
@@ -190,23 +190,23 @@ module _ {R B : Type 0} (step : R → FiringCall → R → Type 0) (view : R →
   untouched_look s t u = ap (λ o. option_map_or h o none) u.own
 
   begins_look : (own : ℕ) (answer : Result SystemRemoval Refusal) (s t : SystemView R)
-      → (TouchesRecord id (BeginRemove own answer) → ⊥) → BeginsRemoval step view own answer s t → look t ≡ look s
+      → (TouchesRecord id (BeginRemove own answer) → ⊥) → BeginsRemoval firing own answer s t → look t ≡ look s
   begins_look own (Ok (over.Done receipt)) s t other d = untouched_look s t
-      (begins_others step view own id (Ok (over.Done receipt)) s t (λ e. other (sym e)) d)
+      (begins_others firing own id (Ok (over.Done receipt)) s t (λ e. other (sym e)) d)
   begins_look own (Ok (over.Kept kept)) s t other (inl (e, why, is, same)) = ap look same
   begins_look own (Ok (over.Kept kept)) s t other (inr (clear, (way, cpus, each, some, sum))) =
-      folds_keep (λ u (b : Begun) w. BeginsOn step view own b.cpu b.found u w) (λ x y. look y ≡ look x) (λ x. refl)
+      folds_keep (λ u (b : Begun) w. BeginsOn firing own b.cpu b.found u w) (λ x y. look y ≡ look x) (λ x. refl)
       (λ x y z a b. b ∙ a) (λ x b y. begins_on_look own b.cpu b.found x y) way s t each
   begins_look own (Err e) s t other (inl (why, first, is, same)) = ap look same
   begins_look own (Err e) s t other (inr (clear, wrong)) = absurd wrong
 
   polls_look : (own : ℕ) (answer : Result (Option Receipt) Refusal) (s t : SystemView R)
-      → (TouchesRecord id (PollRemove own answer) → ⊥) → PollsRemoval step view own answer s t → look t ≡ look s
+      → (TouchesRecord id (PollRemove own answer) → ⊥) → PollsRemoval firing own answer s t → look t ≡ look s
   polls_look own (Ok (Some receipt)) s t other d = untouched_look s t
-      (polls_others step view own id (Ok (Some receipt)) s t (λ e. other (sym e)) d)
+      (polls_others firing own id (Ok (Some receipt)) s t (λ e. other (sym e)) d)
   polls_look own (Ok None) s t other (inl (e, why, is, same)) = ap look same
   polls_look own (Ok None) s t other (inr (clear, (way, cpus, each, some))) =
-      folds_keep (λ u (p : Polled) w. PollsOn step view own p.cpu p.answer u w) (λ x y. look y ≡ look x) (λ x. refl)
+      folds_keep (λ u (p : Polled) w. PollsOn firing own p.cpu p.answer u w) (λ x y. look y ≡ look x) (λ x. refl)
       (λ x y z a b. b ∙ a) (λ x p y. polls_on_look own p.cpu p.answer x y) way s t each
   polls_look own (Err e) s t other (inl (why, first, is, same)) = ap look same
   polls_look own (Err e) s t other (inr (clear, wrong)) = absurd wrong
@@ -217,7 +217,7 @@ module _ {R B : Type 0} (step : R → FiringCall → R → Type 0) (view : R →
   refused_or o refused answer s t G (inl (e, why, is, same)) goes = ap look same
   refused_or o refused answer s t G (inr (clear, g)) goes = goes g
 
-  pub look_kept : (s t : SystemView R) (call : SystemCall) → HasRisingIds s.records → Changes step view s call t
+  pub look_kept : (s t : SystemView R) (call : SystemCall) → HasRisingIds s.records → Changes firing s call t
       → (TouchesRecord id call → ⊥) → look t ≡ look s
   look_kept s t (Add level when now answer) rising d other = refused_or _ _ answer s t _ d
       (λ k. adds_look level when now answer s t other k)
@@ -229,7 +229,7 @@ module _ {R B : Type 0} (step : R → FiringCall → R → Type 0) (view : R →
       (λ k. binds_look own n answer s t rising k)
   look_kept s t (BeginRemove own answer) rising d other = begins_look own answer s t other d
   look_kept s t (PollRemove own answer) rising d other = polls_look own answer s t other d
-  look_kept s t (AskTotals own answer) rising d other = untouched_look s t (asks_others step view own id answer s t d)
+  look_kept s t (AskTotals own answer) rising d other = untouched_look s t (asks_others firing own id answer s t d)
   look_kept s t (Reprogram own moment answer) rising d other = refused_or _ _ answer s t _ d (λ k. looked_same s t k.2.1.1)
   look_kept s t (ReprogramOn own n moment answer) rising d other = refused_or _ _ answer s t _ d (λ k. looked_same s t k.1.1)
   look_kept s t (Juggle n answer) rising d other = refused_or _ _ answer s t _ d

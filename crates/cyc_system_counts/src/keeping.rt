@@ -17,7 +17,7 @@ use cyc_types::Raise;
 /// It does nothing when it runs: its clause is the law.
 pub fn counts_law<R: Raise>()
     ensures { (id : ℕ) (s t : SystemView R) (call : SystemCall) → IsSound R.view s → IsSound R.view t
-        → Changes R.step R.view s call t → (EndsRemoval id call → ⊥) → SameCounts id s t }
+        → Changes R.Raise s call t → (EndsRemoval id call → ⊥) → SameCounts id s t }
 {}
 
 /// What calls keep of a cyclic, wherever they take it. Its stays are the same after every call that doesn't name it and reaches
@@ -27,14 +27,14 @@ pub fn counts_law<R: Raise>()
 /// It does nothing when it runs: its clauses are the law.
 pub fn stays_law<R: Raise>()
     ensures stays { (id : ℕ) (s t : SystemView R) (call : SystemCall) → IsSound R.view s → IsSound R.view t
-        → Changes R.step R.view s call t → (TouchesStays id call s → ⊥) → SameStays id s t }
+        → Changes R.Raise s call t → (TouchesStays id call s → ⊥) → SameStays id s t }
     // A cyclic that is reprogrammed has another next expiration, and nothing else of it changes.
     ensures reprogrammed { (id moment : ℕ) (s t : SystemView R) (answer : Result (Unit {0}) Reason) → IsSound R.view s
         → IsSound R.view t
-        → Changes R.step R.view s (Reprogram id moment answer) t → SameButMoments id s t }
+        → Changes R.Raise s (Reprogram id moment answer) t → SameButMoments id s t }
     ensures component { (id n moment : ℕ) (s t : SystemView R) (answer : Result (Unit {0}) Reason) → IsSound R.view s
-        → IsSound R.view t → Changes R.step R.view s (ReprogramOn id n moment answer) t → SameButMoments id s t }
+        → IsSound R.view t → Changes R.Raise s (ReprogramOn id n moment answer) t → SameButMoments id s t }
     // An id has its record, with its level, until its removal answers.
     ensures known { (id : ℕ) (s t : SystemView R) (call : SystemCall) → HasRisingIds s.records
-        → Changes R.step R.view s call t → (TouchesRecord id call → ⊥) → SameRecord id s t }
+        → Changes R.Raise s call t → (TouchesRecord id call → ⊥) → SameRecord id s t }
 {}

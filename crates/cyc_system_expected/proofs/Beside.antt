@@ -7,7 +7,7 @@ use Rattle.std.specs.Option.{option_and_then, option_map_or}
 use Rattle.std.proofs.lemmas.Option.{slice_get_within, get_or_from_slice_get}
 use mathlib.Core.Logic.{dite}
 use native.Mathlib.Decide.{ℕ_discrete}
-use Rattle.cyc_types.specs.Firing.{FiringView, FiringCall}
+use Rattle.cyc_types.specs.declared.Raise.{Ghosts as Raise}
 use Rattle.cyc_types.specs.declared.receipt.Receipt.{Receipt}
 use Rattle.cyc_types.specs.declared.refusal.Refusal.{Refusal}
 use Rattle.cyc_timers.specs.Rows.{Cyclic}
@@ -118,7 +118,7 @@ online_of (Offline n (Ok done)) ups = slice_set ups n false
 online_of (Online n now (Ok done)) ups = slice_set ups n true
 online_of call ups = ups
 
-module _ {R : Type 0} (step : R → FiringCall → R → Type 0) (view : R → FiringView) where
+module _ {R : Type 0} (firing : Raise R) where
   -- ---- removals, and which CPUs are online
 
   abbrev SameOpen : CpusView R → CpusView R → Type 0
@@ -127,10 +127,10 @@ module _ {R : Type 0} (step : R → FiringCall → R → Type 0) (view : R → F
   open_then : (u v w : CpusView R) → SameOpen u v → SameOpen v w → SameOpen u w
   open_then u v w a b = (b.0 ∙ a.0, λ n. b.1 n ∙ a.1 n)
 
-  open_one : (v w : CpusView R) (c : CallOn) → IsSteady c.call → DoesAt step view v c w → SameOpen v w
+  open_one : (v w : CpusView R) (c : CallOn) → IsSteady c.call → DoesAt firing v c w → SameOpen v w
   open_one v w c steady d = (
     ap (λ (u : CpusView R). u.online) d.rest,
-    removals_kept step view v w (c ∷ []) (steady, tt) (w, d, refl),
+    removals_kept firing v w (c ∷ []) (steady, tt) (w, d, refl),
   )
 
   steady_idle : (call : CpuCall) → IsIdle call → IsSteady call
@@ -142,11 +142,11 @@ module _ {R : Type 0} (step : R → FiringCall → R → Type 0) (view : R → F
   steady_idle call idle = absurd idle
 
   abbrev OpenNeeds : SystemCall → SystemView R → Type 0
-  OpenNeeds call s = Needs step view SameOpen (λ v. (refl, λ n. refl)) open_then (λ (c : CallOn). IsSteady c.call) open_one
+  OpenNeeds call s = Needs firing SameOpen (λ v. (refl, λ n. refl)) open_then (λ (c : CallOn). IsSteady c.call) open_one
       (λ c. steady_idle c.call) call s
 
   abbrev OpenMay : ℕ → Type 0
-  OpenMay own = May step view SameOpen (λ v. (refl, λ n. refl)) open_then (λ (c : CallOn). IsSteady c.call) open_one
+  OpenMay own = May firing SameOpen (λ v. (refl, λ n. refl)) open_then (λ (c : CallOn). IsSteady c.call) open_one
       (λ c. steady_idle c.call) own
 
   open_may : (own : ℕ) → OpenMay own
@@ -173,14 +173,14 @@ module _ {R : Type 0} (step : R → FiringCall → R → Type 0) (view : R → F
   open_needs s (FireOne n now answer) plain = tt
   open_needs s (SoftInterrupt n level budget answer) plain = tt
 
-  open_kept : (s t : SystemView R) (call : SystemCall) → IsPlain call → Changes step view s call t
-      → Keeps step view SameOpen (λ v. (refl, λ n. refl)) open_then (λ (c : CallOn). IsSteady c.call) open_one
+  open_kept : (s t : SystemView R) (call : SystemCall) → IsPlain call → Changes firing s call t
+      → Keeps firing SameOpen (λ v. (refl, λ n. refl)) open_then (λ (c : CallOn). IsSteady c.call) open_one
       (λ c. steady_idle c.call) call s t
-  open_kept s t call plain d = kept step view SameOpen (λ v. (refl, λ n. refl)) open_then
+  open_kept s t call plain d = kept firing SameOpen (λ v. (refl, λ n. refl)) open_then
       (λ (c : CallOn). IsSteady c.call) open_one (λ c. steady_idle c.call) s t call d (open_needs s call plain)
 
   -- each CPU has the removal open that it had
-  pub removals_same : (s t : SystemView R) (call : SystemCall) → IsPlain call → Changes step view s call t → (n : ℕ)
+  pub removals_same : (s t : SystemView R) (call : SystemCall) → IsPlain call → Changes firing s call t → (n : ℕ)
       → removal_on n t.cpus ≡ removal_on n s.cpus
   removals_same s t (BeginRemove own answer) plain d n = absurd plain
   removals_same s t (PollRemove own answer) plain d n = absurd plain
@@ -204,25 +204,25 @@ module _ {R : Type 0} (step : R → FiringCall → R → Type 0) (view : R → F
   removals_same s t (FireOne m now answer) plain d n = absurd d
   removals_same s t (SoftInterrupt m level budget answer) plain d n = absurd d
 
-  begins_online : (own n : ℕ) (removal : Removal) (s t : SystemView R) → BeginsOn step view own n removal s t
+  begins_online : (own n : ℕ) (removal : Removal) (s t : SystemView R) → BeginsOn firing own n removal s t
       → t.cpus.online ≡ s.cpus.online
   begins_online own n (Done receipt) s t (does, k, r, here, named, records, last) = ap (λ (u : CpusView R). u.online) does.rest
   begins_online own n (Kept kept') s t (does, records, last) = ap (λ (u : CpusView R). u.online) does.rest
 
-  polls_online : (own n : ℕ) (answer : Option Receipt) (s t : SystemView R) → PollsOn step view own n answer s t
+  polls_online : (own n : ℕ) (answer : Option Receipt) (s t : SystemView R) → PollsOn firing own n answer s t
       → t.cpus.online ≡ s.cpus.online
   polls_online own n (Some receipt) s t (does, k, r, here, named, records, last) = ap (λ (u : CpusView R). u.online) does.rest
   polls_online own n None s t (does, records, last) = ap (λ (u : CpusView R). u.online) does.rest
 
   all_begin_online : (own : ℕ) (way : List Begun) (s t : SystemView R)
-      → FoldsTo (λ u (b : Begun) w. BeginsOn step view own b.cpu b.found u w) s way t → t.cpus.online ≡ s.cpus.online
-  all_begin_online own way s t run = folds_keep (λ u (b : Begun) w. BeginsOn step view own b.cpu b.found u w)
+      → FoldsTo (λ u (b : Begun) w. BeginsOn firing own b.cpu b.found u w) s way t → t.cpus.online ≡ s.cpus.online
+  all_begin_online own way s t run = folds_keep (λ u (b : Begun) w. BeginsOn firing own b.cpu b.found u w)
       (λ (x y : SystemView R). y.cpus.online ≡ x.cpus.online) (λ x. refl) (λ x y z a b. b ∙ a)
       (λ x b y. begins_online own b.cpu b.found x y) way s t run
 
   all_poll_online : (own : ℕ) (way : List Polled) (s t : SystemView R)
-      → FoldsTo (λ u (p : Polled) w. PollsOn step view own p.cpu p.answer u w) s way t → t.cpus.online ≡ s.cpus.online
-  all_poll_online own way s t run = folds_keep (λ u (p : Polled) w. PollsOn step view own p.cpu p.answer u w)
+      → FoldsTo (λ u (p : Polled) w. PollsOn firing own p.cpu p.answer u w) s way t → t.cpus.online ≡ s.cpus.online
+  all_poll_online own way s t run = folds_keep (λ u (p : Polled) w. PollsOn firing own p.cpu p.answer u w)
       (λ (x y : SystemView R). y.cpus.online ≡ x.cpus.online) (λ x. refl) (λ x y z a b. b ∙ a)
       (λ x p y. polls_online own p.cpu p.answer x y) way s t run
 
@@ -230,7 +230,7 @@ module _ {R : Type 0} (step : R → FiringCall → R → Type 0) (view : R → F
   same_online s t e = ap (λ (u : SystemView R). u.cpus.online) e
 
   begin_online : (own : ℕ) (answer : Result SystemRemoval Refusal) (s t : SystemView R)
-      → BeginsRemoval step view own answer s t → t.cpus.online ≡ s.cpus.online
+      → BeginsRemoval firing own answer s t → t.cpus.online ≡ s.cpus.online
   begin_online own answer s t (inl (e, why, is, same)) = same_online s t same
   begin_online own (Ok (over.Done receipt)) s t (inr (clear, (way, u, cpus, each, answers))) =
       ap (λ (v : CpusView R). v.online) answers.cpus ∙ all_begin_online own way s u each
@@ -238,14 +238,14 @@ module _ {R : Type 0} (step : R → FiringCall → R → Type 0) (view : R → F
   begin_online own (Err e) s t (inr (clear, wrong)) = absurd wrong
 
   poll_online : (own : ℕ) (answer : Result (Option Receipt) Refusal) (s t : SystemView R)
-      → PollsRemoval step view own answer s t → t.cpus.online ≡ s.cpus.online
+      → PollsRemoval firing own answer s t → t.cpus.online ≡ s.cpus.online
   poll_online own answer s t (inl (e, why, is, same)) = same_online s t same
   poll_online own (Ok (Some receipt)) s t (inr (clear, (way, u, cpus, each, answers))) =
       ap (λ (v : CpusView R). v.online) answers.cpus ∙ all_poll_online own way s u each
   poll_online own (Ok None) s t (inr (clear, (way, cpus, each, some))) = all_poll_online own way s t each
   poll_online own (Err e) s t (inr (clear, wrong)) = absurd wrong
 
-  pub online_after : (s t : SystemView R) (call : SystemCall) → Changes step view s call t
+  pub online_after : (s t : SystemView R) (call : SystemCall) → Changes firing s call t
       → t.cpus.online ≡ online_of call s.cpus.online
   online_after s t (BeginRemove own answer) d = begin_online own answer s t d
   online_after s t (PollRemove own answer) d = poll_online own answer s t d
@@ -291,7 +291,7 @@ module _ {R : Type 0} (step : R → FiringCall → R → Type 0) (view : R → F
     same_list : (x y : CpuView R) → y.cyclics ≡ x.cyclics → cyclic_in id y ≡ cyclic_in id x
     same_list x y e = ap (λ cs. find (λ (c : Cyclic). c.timer.id == id) cs) e
 
-    other_kept : (x y : CpuView R) (call : CpuCall) → IsOfOther call → CpuChanges step view x call y
+    other_kept : (x y : CpuView R) (call : CpuCall) → IsOfOther call → CpuChanges firing x call y
         → cyclic_in id y ≡ cyclic_in id x
     other_kept x y (Place own level interval moment carried) ne (may, p) =
         ap (λ cs. find (λ (c : Cyclic). c.timer.id == id) cs) p.cyclics
@@ -316,7 +316,7 @@ module _ {R : Type 0} (step : R → FiringCall → R → Type 0) (view : R → F
     other_kept x y (Widen more) ne d = same_list x y d.1.cyclics
     other_kept x y call ne d = absurd ne
 
-    pub here_one : (v w : CpusView R) (c : CallOn) → IsBeside c → DoesAt step view v c w → SameHere v w
+    pub here_one : (v w : CpusView R) (c : CallOn) → IsBeside c → DoesAt firing v c w → SameHere v w
     here_one v w c beside d = dite (ℕ_discrete c.cpu m)
         (λ e. ap (λ (u : CpusView R). cyclic_on m id u) d.rest
         ∙ kept_at v c.cpu d.before d.after d.here (λ o. option_and_then (cyclic_in id) o)
@@ -334,26 +334,26 @@ module _ {R : Type 0} (step : R → FiringCall → R → Type 0) (view : R → F
 
     -- what a call needs, to keep the cyclic of the id on the CPU
     abbrev pub HereNeeds : SystemCall → SystemView R → Type 0
-    HereNeeds call s = Needs step view SameHere (λ v. refl) (λ u v w a b. b ∙ a) IsBeside here_one
+    HereNeeds call s = Needs firing SameHere (λ v. refl) (λ u v w a b. b ∙ a) IsBeside here_one
         (λ c idle e. here_idle c.call idle) call s
 
     abbrev pub HereMay : ℕ → Type 0
-    HereMay own = May step view SameHere (λ v. refl) (λ u v w a b. b ∙ a) IsBeside here_one
+    HereMay own = May firing SameHere (λ v. refl) (λ u v w a b. b ∙ a) IsBeside here_one
         (λ c idle e. here_idle c.call idle) own
 
     abbrev pub HereKeeps : SystemCall → SystemView R → SystemView R → Type 0
-    HereKeeps call s t = Keeps step view SameHere (λ v. refl) (λ u v w a b. b ∙ a) IsBeside here_one
+    HereKeeps call s t = Keeps firing SameHere (λ v. refl) (λ u v w a b. b ∙ a) IsBeside here_one
         (λ c idle e. here_idle c.call idle) call s t
 
     pub here_may : (own : ℕ) → own ≢ id → HereMay own
     here_may own ne = record { takes = λ n taken e. ne; puts = λ n level i k carried e. ne; sets = λ n moment e. ne }
 
-    pub here_kept : (s t : SystemView R) (call : SystemCall) → Changes step view s call t → HereNeeds call s → HereKeeps call s t
-    here_kept s t call d needs = kept step view SameHere (λ v. refl) (λ u v w a b. b ∙ a) IsBeside here_one
+    pub here_kept : (s t : SystemView R) (call : SystemCall) → Changes firing s call t → HereNeeds call s → HereKeeps call s t
+    here_kept s t call d needs = kept firing SameHere (λ v. refl) (λ u v w a b. b ∙ a) IsBeside here_one
         (λ c idle e. here_idle c.call idle) s t call d needs
 
     -- the CPU has the same cyclic of the id
-    pub here_same : (s t : SystemView R) (call : SystemCall) → Changes step view s call t → HereNeeds call s
+    pub here_same : (s t : SystemView R) (call : SystemCall) → Changes firing s call t → HereNeeds call s
         → cyclic_on m id t.cpus ≡ cyclic_on m id s.cpus
     here_same s t (BeginRemove own answer) d needs = absurd needs
     here_same s t (PollRemove own answer) d needs = absurd needs

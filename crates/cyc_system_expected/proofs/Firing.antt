@@ -7,7 +7,7 @@ use Rattle.std.specs.Option.{option_map_or, option_and_then}
 use Rattle.std.proofs.lemmas.Bool.Decides.{nat_tests}
 use Rattle.std.proofs.lemmas.Option.{slice_get_within}
 use Rattle.cyc_types.specs.declared.Calls.{Ghosts as Calls}
-use Rattle.cyc_types.specs.Firing.{FiringView, FiringCall}
+use Rattle.cyc_types.specs.declared.Raise.{Ghosts as Raise}
 use Rattle.cyc_types.specs.Series.{never, late, due}
 use Rattle.cyc_timers.specs.Rows.{Cyclic}
 use Rattle.cyc_fire.specs.declared.fire.Fired.{Fired}
@@ -45,10 +45,10 @@ due_never : (interval now : ℕ) → now < never → due never interval now ≡ 
 due_never interval now low = ap (λ (b : Bool). cond {A = ℕ} b 0
     (cond (nat_lt (never + interval + late) now) 1 ((now - never) / interval + 1))) (lt_true now never low)
 
-module _ {C R : Type 0} (handler : Calls C) (step : R → FiringCall → R → Type 0) (view : R → FiringView) (id : ℕ) where
+module _ {C R : Type 0} (handler : Calls C) (firing : Raise R) (id : ℕ) where
   same_if : (now : ℕ) (up : Bool) (s t : Running C R) (answer : Option (Result Fired FireRefused))
-      → FiresIf handler step view up now s answer t → SameIds s.cpu t.cpu
-  same_if now true s t (Some answer) d = same_fired handler step view no_interrupts s t now answer d
+      → FiresIf handler firing up now s answer t → SameIds s.cpu t.cpu
+  same_if now true s t (Some answer) d = same_fired handler firing no_interrupts s t now answer d
   same_if now true s t None d = absurd d
   same_if now false s t (Some answer) d = absurd d
   same_if now false s t None e = record {
@@ -64,8 +64,8 @@ module _ {C R : Type 0} (handler : Calls C) (step : R → FiringCall → R → T
     pub ids : SameIds before y
     pub measured : (k : ℕ → ℕ → ℕ → ℕ) → on_cpu (of_stay k) id y ≡ on_cpu (of_stay (later id now k)) id before
 
-  module _ (now : ℕ) (s : SystemSide R C) (b : Advanced R C) (sound : IsSound view s.system)
-      (ready : length s.leads.items ≡ length s.system.cpus.cpus) (f : AllFire handler step view now s b)
+  module _ (now : ℕ) (s : SystemSide R C) (b : Advanced R C) (sound : IsSound firing.view s.system)
+      (ready : length s.leads.items ≡ length s.system.cpus.cpus) (f : AllFire handler firing now s b)
       (accepted : AllAccepted b) where
     pub fired_at : (n : ℕ) (y : CpuView R) → slice_get b.side.system.cpus.cpus n ≡ Some y → WasBefore now n s.system y
     fired_at n y at =
@@ -80,10 +80,10 @@ module _ {C R : Type 0} (handler : Calls C) (step : R → FiringCall → R → T
           before = x;
           here = p;
           ids = same_if now up (running l.calls x) (running m.calls y) answer fires;
-          measured = λ k. if_fired handler step view id now k up (running l.calls x) (running m.calls y) answer
+          measured = λ k. if_fired handler firing id now k up (running l.calls x) (running m.calls y) answer
               (sound.lawful n x p) fires
               (λ e is. accepted n e (told ∙ ap (λ (o : Option (Result Fired FireRefused)). Some o) is))
-              (λ off. no_cyclic_off handler step view id n x up (has n id s.system.cpus) s.system sound p u off
+              (λ off. no_cyclic_off handler firing id n x up (has n id s.system.cpus) s.system sound p u off
               refl);
         }
 
@@ -107,10 +107,10 @@ module _ {C R : Type 0} (handler : Calls C) (step : R → FiringCall → R → T
 
     -- ---- one of which no CPU fires anything
 
-    pub quiet_fired : IsQuiet step view id s.system → IsQuiet step view id b.side.system
+    pub quiet_fired : IsQuiet firing id s.system → IsQuiet firing id b.side.system
     quiet_fired quiet n h = fired_removal n ∙ quiet n (fired_has n h)
 
-    module _ (early : now < never) (quiet : IsQuiet step view id s.system) where
+    module _ (early : now < never) (quiet : IsQuiet firing id s.system) where
       none_due : (n : ℕ) (x : CpuView R) → slice_get s.system.cpus.cpus n ≡ Some x
           → option_map_or (λ c. due c.timer.moment c.timer.interval now) (cyclic_in id x) 0 ≡ 0
       none_due n x at = by (has n id s.system.cpus) refl
@@ -127,10 +127,10 @@ module _ {C R : Type 0} (handler : Calls C) (step : R → FiringCall → R → T
               (cyclic_found x.cyclics id k c law.rising is named)
               ∙ (ap (λ (m : ℕ). due m c.timer.interval now) stopped ∙ due_never c.timer.interval now early))
 
-      pub quiet_counts : IsSound view b.side.system → all_expired id b.side.system ≡ all_expired id s.system
+      pub quiet_counts : IsSound firing.view b.side.system → all_expired id b.side.system ≡ all_expired id s.system
       quiet_counts after =
-          let x = all_fired handler step view id now (λ a b c. c) s b sound after ready f accepted in
-          let y = plus_on handler step view id (λ c. c.timer.expired)
+          let x = all_fired handler firing id now (λ a b c. c) s b sound after ready f accepted in
+          let y = plus_on handler firing id (λ c. c.timer.expired)
           (λ c. due c.timer.moment c.timer.interval now) s.system.cpus.cpus in
           let z = sum_none (λ cpu. option_map_or (λ (c : Cyclic). due c.timer.moment c.timer.interval now) (cyclic_in id cpu) 0)
           s.system.cpus.cpus none_due in
@@ -145,19 +145,19 @@ module _ {C R : Type 0} (handler : Calls C) (step : R → FiringCall → R → T
     pub cyclics : y.cyclics ≡ before.cyclics
     pub removal : y.removal ≡ before.removal
 
-  asked_removal : (answers : List Bool) (x y : CpuView R) → FoldsTo (Asks step view) x answers y → y.removal ≡ x.removal
+  asked_removal : (answers : List Bool) (x y : CpuView R) → FoldsTo (Asks firing) x answers y → y.removal ≡ x.removal
   asked_removal [] x y e = ap (λ (z : CpuView R). z.removal) (sym e)
   asked_removal (true ∷ answers) x y (z, (first, lawful), rest) = asked_removal answers z y rest ∙ first.0.kept.removal
   asked_removal (false ∷ answers) x y (z, (first, lawful), rest) = asked_removal answers z y rest ∙ first.0.kept.removal
 
-  module _ (s t : SystemSide R C) (a : OnlyAsked step view s t) where
+  module _ (s t : SystemSide R C) (a : OnlyAsked firing s t) where
     pub asked_at : (n : ℕ) (y : CpuView R) → slice_get t.system.cpus.cpus n ≡ Some y → AsIt n s.system y
     asked_at n y at =
         let low = slice_get_within t.system.cpus.cpus n y at in let j = a.cpus.long in
         let (x, p) = get_some s.system.cpus.cpus n (omega (arith, low, j)) in let w = a.cpus.each n x y p at in record {
           before = x;
           here = p;
-          cyclics = asked_cyclics handler step view id w.0 x y w.1;
+          cyclics = asked_cyclics handler firing id w.0 x y w.1;
           removal = asked_removal w.0 x y w.1;
         }
 
@@ -186,7 +186,8 @@ module _ {C R : Type 0} (handler : Calls C) (step : R → FiringCall → R → T
             ap (λ cs. find (λ (c : Cyclic). c.timer.id == id) cs) w.cyclics
             ∙ ap (λ o. option_and_then (cyclic_in id) o) (sym w.here ∙ was))
 
-    pub asked_counts : IsSound view s.system → IsSound view t.system → all_expired id t.system ≡ all_expired id s.system
+    pub asked_counts : IsSound firing.view s.system → IsSound firing.view t.system → all_expired id t.system
+        ≡ all_expired id s.system
     asked_counts sound after =
-        let x = all_asked handler step view id (λ a b c. c) s t sound after a in
+        let x = all_asked handler firing id (λ a b c. c) s t sound after a in
         let r = ap (λ rs. option_map_or (λ r. sum_by (λ e. e.sent) r.ended) (found id rs) 0) a.records in omega (arith, x, r)

@@ -8,7 +8,7 @@ use Rattle.std.specs.Option.{option_map_or, option_and_then}
 use Rattle.std.proofs.lemmas.Option.{slice_get-map}
 use mathlib.Core.Logic.{dite}
 use native.Mathlib.Decide.{ℕ_discrete}
-use Rattle.cyc_types.specs.Firing.{FiringView, FiringCall}
+use Rattle.cyc_types.specs.declared.Raise.{Ghosts as Raise}
 use Rattle.cyc_types.specs.declared.receipt.Receipt.{Receipt}
 use Rattle.cyc_cpu.specs.declared.removing.Removal.{Removal}
 use Rattle.cyc_cpu.specs.declared.removing.Removal.TheVariants as removal
@@ -80,12 +80,12 @@ is_open id n v e = by (list_any (is_leaving_here id) v.cpus) refl
     by true is = refl
     by false is = absurd (no_removal v id is n e)
 
-module _ {R : Type 0} (step : R → FiringCall → R → Type 0) (view : R → FiringView) (id : ℕ) where
+module _ {R : Type 0} (firing : Raise R) (id : ℕ) where
   abbrev pub IsQuiet : SystemView R → Type 0
   IsQuiet s = (n : ℕ) → has n id s.cpus ≡ true → removal_on n s.cpus ≡ Some id
 
   -- where it has a record, its removal is open
-  leaving : (s : SystemView R) (k : ℕ) (r : Record) → IsSound view s → IsQuiet s → IsRecord s.records k r → r.id ≡ id
+  leaving : (s : SystemView R) (k : ℕ) (r : Record) → IsSound firing.view s → IsQuiet s → IsRecord s.records k r → r.id ≡ id
       → (n : ℕ) × (removal_on n s.cpus ≡ Some id)
   leaving s k r a quiet is named = by r.place refl
     where
@@ -103,7 +103,7 @@ module _ {R : Type 0} (step : R → FiringCall → R → Type 0) (view : R → F
           on_each n (a.agrees.everywhere k n r is (ap is_everywhere e) up))
 
   -- and so what is asked for it is refused
-  refused : (s : SystemView R) → IsSound view s → IsQuiet s → no_cyclic id s ≡ None → ⊥
+  refused : (s : SystemView R) → IsSound firing.view s → IsQuiet s → no_cyclic id s ≡ None → ⊥
   refused s a quiet clear = by (record_of id s) refl
     where
       by : (o : Option Record) → record_of id s ≡ o → ⊥
@@ -111,7 +111,7 @@ module _ {R : Type 0} (step : R → FiringCall → R → Type 0) (view : R → F
       by (Some r) e = (let (k, is, named) = found_at id s.records r e in let (n, there) = leaving s k r a quiet is named in
           none_some (sym clear ∙ is_removed s id (is_open id n s.cpus there)))
 
-  refused_own : (own : ℕ) (s : SystemView R) → IsSound view s → IsQuiet s → no_cyclic own s ≡ None → own ≢ id
+  refused_own : (own : ℕ) (s : SystemView R) → IsSound firing.view s → IsQuiet s → no_cyclic own s ≡ None → own ≢ id
   refused_own own s a quiet clear e = refused s a quiet (subst (λ (j : ℕ). no_cyclic j s ≡ None) e clear)
 
   -- a CPU that is juggled doesn't have it
@@ -120,14 +120,14 @@ module _ {R : Type 0} (step : R → FiringCall → R → Type 0) (view : R → F
   not_single n p own s quiet still at e = none_some (sym still
       ∙ quiet n (subst (λ (j : ℕ). has n j s.cpus ≡ true) e (single_has n p own s at).1))
 
-  needs : (m : ℕ) (s : SystemView R) (call : SystemCall) → IsSound view s → IsQuiet s → IsPlain call
-      → (TouchesRecord id call → ⊥) → HereNeeds step view m id call s
-  needs m s (Add level when now (Ok own)) a quiet plain other = here_may step view m id own other
+  needs : (m : ℕ) (s : SystemView R) (call : SystemCall) → IsSound firing.view s → IsQuiet s → IsPlain call
+      → (TouchesRecord id call → ⊥) → HereNeeds firing m id call s
+  needs m s (Add level when now (Ok own)) a quiet plain other = here_may firing m id own other
   needs m s (Add level when now (Err e)) a quiet plain other = tt
-  needs m s (AddOmni level when skew now (Ok own)) a quiet plain other = here_may step view m id own other
+  needs m s (AddOmni level when skew now (Ok own)) a quiet plain other = here_may firing m id own other
   needs m s (AddOmni level when skew now (Err e)) a quiet plain other = tt
   needs m s (Bind own cpu answer) a quiet plain other =
-      λ clear single. here_may step view m id own (refused_own own s a quiet clear)
+      λ clear single. here_may firing m id own (refused_own own s a quiet clear)
   needs m s (BeginRemove own answer) a quiet plain other = absurd plain
   needs m s (PollRemove own answer) a quiet plain other = absurd plain
   needs m s (AskTotals own answer) a quiet plain other = tt
@@ -136,15 +136,15 @@ module _ {R : Type 0} (step : R → FiringCall → R → Type 0) (view : R → F
   needs m s (ReprogramOn own n moment (Ok done)) a quiet plain other = λ clear component e. refused_own own s a quiet clear
   needs m s (ReprogramOn own n moment (Err e)) a quiet plain other = tt
   needs m s (Juggle n answer) a quiet plain other =
-      λ still p own at. here_may step view m id own (not_single n p own s quiet still at)
+      λ still p own at. here_may firing m id own (not_single n p own s quiet still at)
   needs m s (Offline n (Ok done)) a quiet plain other = (
-    λ still p own at. here_may step view m id own (not_single n p own s quiet still at),
+    λ still p own at. here_may firing m id own (not_single n p own s quiet still at),
     λ still v same p own taken at here e. none_some (sym still
-        ∙ quiet n (sym (has_same n id s.cpus v (subst (λ (j : ℕ). SameHere step view j id s.cpus v) (sym here) same))
+        ∙ quiet n (sym (has_same n id s.cpus v (subst (λ (j : ℕ). SameHere firing j id s.cpus v) (sym here) same))
         ∙ subst (λ (j : ℕ). has n j v ≡ true) e (on_has n own p v at))),
   )
   needs m s (Offline n (Err e)) a quiet plain other =
-      λ still p own at. here_may step view m id own (not_single n p own s quiet still at)
+      λ still p own at. here_may firing m id own (not_single n p own s quiet still at)
   needs m s (Online n now (Ok done)) a quiet plain other = λ k r at level i mo carried here named.
       (let (j, there, stays) = in_filter (is_staying s.cpus) s.records k r at in
       let (c, e) = leaving s j r a quiet there named in
@@ -155,11 +155,11 @@ module _ {R : Type 0} (step : R → FiringCall → R → Type 0) (view : R → F
   needs m s (SoftInterrupt n level budget answer) a quiet plain other = tt
 
   -- a call that begins no removal of it, and doesn't give it
-  pub quiet_plain : (s t : SystemView R) (call : SystemCall) → IsSound view s → IsPlain call → Changes step view s call t
+  pub quiet_plain : (s t : SystemView R) (call : SystemCall) → IsSound firing.view s → IsPlain call → Changes firing s call t
       → (TouchesRecord id call → ⊥) → IsQuiet s → IsQuiet t
-  quiet_plain s t call a plain d other quiet n h = removals_same step view s t call plain d n
+  quiet_plain s t call a plain d other quiet n h = removals_same firing s t call plain d n
       ∙ quiet n (sym (has_same n id s.cpus t.cpus
-      (here_same step view n id s t call d (needs n s call a quiet plain other))) ∙ h)
+      (here_same firing n id s t call d (needs n s call a quiet plain other))) ∙ h)
 
   pub quiet_untouched : (s t : SystemView R) → IsUntouched id s t → IsQuiet s → IsQuiet t
   quiet_untouched s t u quiet n h =
@@ -188,27 +188,27 @@ module _ {R : Type 0} (step : R → FiringCall → R → Type 0) (view : R → F
       before ne (inl was) = was
       before ne (inr e) = absurd (ne e)
 
-  begun_left : (n : ℕ) (b : Begun) (s t : SystemView R) → BeginsOn step view id b.cpu b.found s t
-      → ((x : CpuView R) → IsCpu b.cpu x s.cpus → IsLawful view x) → IsLeft n s ⊎ (n ≡ b.cpu) → IsLeft n t
+  begun_left : (n : ℕ) (b : Begun) (s t : SystemView R) → BeginsOn firing id b.cpu b.found s t
+      → ((x : CpuView R) → IsCpu b.cpu x s.cpus → IsLawful firing.view x) → IsLeft n s ⊎ (n ≡ b.cpu) → IsLeft n t
   begun_left n b s t d lawful was = by b.found d
     where
-      by : (found : Removal) → BeginsOn step view id b.cpu found s t → IsLeft n t
+      by : (found : Removal) → BeginsOn firing id b.cpu found s t → IsLeft n t
       by (removal.Done receipt) (does, k, r, here, named, records, last) = left_at n b.cpu s t _ does
-          (begun step view id does.before does.after (lawful does.before does.here) (removal.Done receipt) does.change) was
+          (begun firing id does.before does.after (lawful does.before does.here) (removal.Done receipt) does.change) was
       by (removal.Kept kept) (does, records, last) = left_at n b.cpu s t _ does
-          (begun step view id does.before does.after (lawful does.before does.here) (removal.Kept kept) does.change) was
+          (begun firing id does.before does.after (lawful does.before does.here) (removal.Kept kept) does.change) was
 
-  begins_elsewhere : (b : Begun) (s t : SystemView R) → BeginsOn step view id b.cpu b.found s t
+  begins_elsewhere : (b : Begun) (s t : SystemView R) → BeginsOn firing id b.cpu b.found s t
       → (m : ℕ) → m ≢ b.cpu → slice_get t.cpus.cpus m ≡ slice_get s.cpus.cpus m
   begins_elsewhere b s t d m ne = by b.found d
     where
-      by : (found : Removal) → BeginsOn step view id b.cpu found s t → slice_get t.cpus.cpus m ≡ slice_get s.cpus.cpus m
+      by : (found : Removal) → BeginsOn firing id b.cpu found s t → slice_get t.cpus.cpus m ≡ slice_get s.cpus.cpus m
       by (removal.Done receipt) d = ap (λ u. slice_get u.cpus m) d.0.rest ∙ get_set_other s.cpus.cpus b.cpu m d.0.after ne
       by (removal.Kept kept) d = ap (λ u. slice_get u.cpus m) d.0.rest ∙ get_set_other s.cpus.cpus b.cpu m d.0.after ne
 
   all_begun : (n : ℕ) (way : List Begun) (s t : SystemView R)
-      → FoldsTo (λ u (b : Begun) w. Known (λ (a : Begun) x y. BeginsOn step view id a.cpu a.found x y) (λ a. a.cpu)
-      (λ x. IsLawful view x) begins_elsewhere b u w) s way t
+      → FoldsTo (λ u (b : Begun) w. Known (λ (a : Begun) x y. BeginsOn firing id a.cpu a.found x y) (λ a. a.cpu)
+      (λ x. IsLawful firing.view x) begins_elsewhere b u w) s way t
       → IsLeft n s ⊎ ((p : ℕ) × (slice_get (map (λ (b : Begun). b.cpu) way) p ≡ Some n)) → IsLeft n t
   all_begun n [] s t e (inl was) = subst (λ (u : SystemView R). IsLeft n u) e was
   all_begun n [] s t e (inr (p, at)) = absurd (none_some at)
@@ -217,11 +217,11 @@ module _ {R : Type 0} (step : R → FiringCall → R → Type 0) (view : R → F
       all_begun n way u t rest (inl (begun_left n b s u k.0 k.1 (inr (sym (same_some at)))))
   all_begun n (b ∷ way) s t (u, k, rest) (inr (suc p, at)) = all_begun n way u t rest (inr (p, at))
 
-  pub quiet_begun : (kept : ℕ) (s t : SystemView R) → IsSound view s → BeginsRemoval step view id (Ok (over.Kept kept)) s t
+  pub quiet_begun : (kept : ℕ) (s t : SystemView R) → IsSound firing.view s → BeginsRemoval firing id (Ok (over.Kept kept)) s t
       → IsQuiet t
   quiet_begun kept s t a (inl (e, why, is, same)) n = absurd (ok_err is)
   quiet_begun kept s t a (inr (clear, (way, cpus, each, some, sum))) n = all_begun n way s t
-      (folds_known (λ (b : Begun) x y. BeginsOn step view id b.cpu b.found x y) (λ b. b.cpu) (λ x. IsLawful view x)
+      (folds_known (λ (b : Begun) x y. BeginsOn firing id b.cpu b.found x y) (λ b. b.cpu) (λ x. IsLawful firing.view x)
       begins_elsewhere 0
       (map (λ cpu. list_any (λ own. own == id) (ids_of cpu)) s.cpus.cpus) way s t cpus (λ j x is at. a.lawful (0 + j) x at) each)
       (by (has n id s.cpus) refl)
@@ -233,29 +233,29 @@ module _ {R : Type 0} (step : R → FiringCall → R → Type 0) (view : R → F
 
   -- ---- it goes on
 
-  polled_left : (n : ℕ) (p : Polled) (s t : SystemView R) → PollsOn step view id p.cpu p.answer s t
-      → ((x : CpuView R) → IsCpu p.cpu x s.cpus → IsLawful view x × (x.removal ≡ Some id)) → IsLeft n s → IsLeft n t
+  polled_left : (n : ℕ) (p : Polled) (s t : SystemView R) → PollsOn firing id p.cpu p.answer s t
+      → ((x : CpuView R) → IsCpu p.cpu x s.cpus → IsLawful firing.view x × (x.removal ≡ Some id)) → IsLeft n s → IsLeft n t
   polled_left n p s t d known was = by p.answer d
     where
-      by : (answer : Option Receipt) → PollsOn step view id p.cpu answer s t → IsLeft n t
+      by : (answer : Option Receipt) → PollsOn firing id p.cpu answer s t → IsLeft n t
       by (Some receipt) (does, k, r, here, named, records, last) =
           (let (law, still) = known does.before does.here in left_at n p.cpu s t _ does
-          (polled step view id does.before does.after law (Some receipt) still does.change) (inl was))
+          (polled firing id does.before does.after law (Some receipt) still does.change) (inl was))
       by None (does, records, last) =
           (let (law, still) = known does.before does.here in left_at n p.cpu s t _ does
-          (polled step view id does.before does.after law None still does.change) (inl was))
+          (polled firing id does.before does.after law None still does.change) (inl was))
 
   all_polled : (n : ℕ) (way : List Polled) (s t : SystemView R)
-      → FoldsTo (λ u (p : Polled) w. Known (λ (a : Polled) x y. PollsOn step view id a.cpu a.answer x y) (λ a. a.cpu)
-      (λ x. IsLawful view x × (x.removal ≡ Some id)) (polls_elsewhere step view id) p u w) s way t → IsLeft n s → IsLeft n t
+      → FoldsTo (λ u (p : Polled) w. Known (λ (a : Polled) x y. PollsOn firing id a.cpu a.answer x y) (λ a. a.cpu)
+      (λ x. IsLawful firing.view x × (x.removal ≡ Some id)) (polls_elsewhere firing id) p u w) s way t → IsLeft n s → IsLeft n t
   all_polled n [] s t e was = subst (λ (u : SystemView R). IsLeft n u) e was
   all_polled n (p ∷ way) s t (u, k, rest) was = all_polled n way u t rest (polled_left n p s u k.0 k.1 was)
 
-  pub quiet_polled : (s t : SystemView R) → IsSound view s → PollsRemoval step view id (Ok None) s t → IsQuiet s → IsQuiet t
+  pub quiet_polled : (s t : SystemView R) → IsSound firing.view s → PollsRemoval firing id (Ok None) s t → IsQuiet s → IsQuiet t
   quiet_polled s t a (inl (e, why, is, same)) quiet n = absurd (ok_err is)
   quiet_polled s t a (inr (clear, (way, cpus, each, some))) quiet n = all_polled n way s t
-      (folds_known (λ (p : Polled) x y. PollsOn step view id p.cpu p.answer x y) (λ p. p.cpu)
-      (λ x. IsLawful view x × (x.removal ≡ Some id)) (polls_elsewhere step view id) 0
+      (folds_known (λ (p : Polled) x y. PollsOn firing id p.cpu p.answer x y) (λ p. p.cpu)
+      (λ x. IsLawful firing.view x × (x.removal ≡ Some id)) (polls_elsewhere firing id) 0
       (map (is_leaving_here id) s.cpus.cpus) way s t cpus
       (λ j x is at. (
         a.lawful (0 + j) x at,

@@ -9,7 +9,7 @@ use Rattle.std.proofs.lemmas.List.{length-set, get_or-set_same}
 use Rattle.std.proofs.lemmas.Option.{slice_get_within, slice_get-get_or}
 use mathlib.Core.Logic.{dite}
 use native.Mathlib.Decide.{ℕ_discrete}
-use Rattle.cyc_types.specs.Firing.{FiringView, FiringCall}
+use Rattle.cyc_types.specs.declared.Raise.{Ghosts as Raise}
 use Rattle.cyc_types.specs.declared.level.Level.{Level}
 use Rattle.cyc_types.specs.declared.moment.When.{When}
 use Rattle.cyc_types.specs.declared.refusal.Refusal.TheVariants.{Omnipresent}
@@ -106,7 +106,7 @@ series_placed r n bound e = by r.place e
     by (stands.On m b) e = refl
     by (stands.Everywhere when skew) e = absurd (let odd : true ≡ false = e in cc)
 
-module _ {R : Type 0} (step : R → FiringCall → R → Type 0) (view : R → FiringView) (id : ℕ) where
+module _ {R : Type 0} (firing : Raise R) (id : ℕ) where
   -- each CPU has just the component of the id that is told, and no removal of it is open
   pub record IsSpread (when : When) (skew : ℕ) (ms : List (Option ℕ)) (s : SystemView R) : Type 0 where
     pub here : (n : ℕ) → option_map seen (cyclic_on n id s.cpus) ≡ option_map (λ m. (m, when.interval)) (moment_on n ms)
@@ -149,12 +149,12 @@ module _ {R : Type 0} (step : R → FiringCall → R → Type 0) (view : R → F
     Elsewhere m call = Unit {0}
 
     needs : (m : ℕ) (call : SystemCall) → IsPlain call → (TouchesRecord id call → ⊥) → Elsewhere m call
-        → HereNeeds step view m id call s
-    needs m (Add level when now (Ok own)) plain other away = here_may step view m id own other
+        → HereNeeds firing m id call s
+    needs m (Add level when now (Ok own)) plain other away = here_may firing m id own other
     needs m (Add level when now (Err e)) plain other away = tt
-    needs m (AddOmni level when skew now (Ok own)) plain other away = here_may step view m id own other
+    needs m (AddOmni level when skew now (Ok own)) plain other away = here_may firing m id own other
     needs m (AddOmni level when skew now (Err e)) plain other away = tt
-    needs m (Bind own cpu answer) plain other away = λ clear single. here_may step view m id own (not_single own single)
+    needs m (Bind own cpu answer) plain other away = λ clear single. here_may firing m id own (not_single own single)
     needs m (BeginRemove own answer) plain other away = absurd plain
     needs m (PollRemove own answer) plain other away = absurd plain
     needs m (AskTotals own answer) plain other away = tt
@@ -163,33 +163,34 @@ module _ {R : Type 0} (step : R → FiringCall → R → Type 0) (view : R → F
     needs m (ReprogramOn own n moment (Ok done)) plain other away = λ clear component e same. away same e
     needs m (ReprogramOn own n moment (Err e)) plain other away = tt
     needs m (Juggle n answer) plain other away =
-        λ still p own at. here_may step view m id own (not_own own (single_has n p own s at).0)
+        λ still p own at. here_may firing m id own (not_own own (single_has n p own s at).0)
     needs m (Offline n (Ok done)) plain other away = (
-      λ still p own at. here_may step view m id own (not_own own (single_has n p own s at).0),
+      λ still p own at. here_may firing m id own (not_own own (single_has n p own s at).0),
       λ still v same p own taken at here. absurd (away here),
     )
     needs m (Offline n (Err e)) plain other away =
-        λ still p own at. here_may step view m id own (not_own own (single_has n p own s at).0)
+        λ still p own at. here_may firing m id own (not_own own (single_has n p own s at).0)
     needs m (Online n now (Ok done)) plain other away = λ k r at level i mo carried here. absurd (away here)
     needs m (Online n now (Err e)) plain other away = tt
     needs m (FireOne n now answer) plain other away = tt
     needs m (SoftInterrupt n level budget answer) plain other away = tt
 
     -- a call, with what is so of the components after it
-    module _ (t : SystemView R) (call : SystemCall) (a : IsSound view s) (plain : IsPlain call) (d : Changes step view s call t)
+    module _ (t : SystemView R) (call : SystemCall) (a : IsSound firing.view s) (plain : IsPlain call)
+        (d : Changes firing s call t)
         (other : TouchesRecord id call → ⊥) where
       pub around : (m : ℕ) → Elsewhere m call → cyclic_on m id t.cpus ≡ cyclic_on m id s.cpus
-      around m away = here_same step view m id s t call d (needs m call plain other away)
+      around m away = here_same firing m id s t call d (needs m call plain other away)
 
       pub spread_by : (ms' : List (Option ℕ)) → length ms' ≡ length ms
           → ((n : ℕ) → option_map seen (cyclic_on n id t.cpus) ≡ option_map (λ m. (m, when.interval)) (moment_on n ms'))
           → IsSpread when skew ms' t
       spread_by ms' long here = record {
         here = here;
-        long = long ∙ (h.long ∙ sym (changes_long step view s t call d));
-        series = look_kept step view series_of None series_placed (λ r n c. refl) id s t call a.fit.rising d other ∙ h.series;
-        still = λ n e. h.still n (sym (removals_same step view s t call plain d n) ∙ e);
-        given = (let l = (made_of step view s t call d).last in let g = h.given in omega (arith, l, g));
+        long = long ∙ (h.long ∙ sym (changes_long firing s t call d));
+        series = look_kept firing series_of None series_placed (λ r n c. refl) id s t call a.fit.rising d other ∙ h.series;
+        still = λ n e. h.still n (sym (removals_same firing s t call plain d n) ∙ e);
+        given = (let l = (made_of firing s t call d).last in let g = h.given in omega (arith, l, g));
       }
 
       pub spread_kept : ((m : ℕ) → Elsewhere m call) → IsSpread when skew ms t
@@ -201,8 +202,8 @@ module _ {R : Type 0} (step : R → FiringCall → R → Type 0) (view : R → F
   the_interval c i None e = absurd (none_some (sym e))
   the_interval c i (Some m) e = ap (λ p. p.1) (same_some e)
 
-  pub spread_set : (n moment : ℕ) (when : When) (skew : ℕ) (ms : List (Option ℕ)) (s t : SystemView R) → IsSound view s
-      → IsSound view t → Changes step view s (ReprogramOn id n moment (Ok tt)) t → IsSpread when skew ms s
+  pub spread_set : (n moment : ℕ) (when : When) (skew : ℕ) (ms : List (Option ℕ)) (s t : SystemView R) → IsSound firing.view s
+      → IsSound firing.view t → Changes firing s (ReprogramOn id n moment (Ok tt)) t → IsSpread when skew ms s
       → IsSpread when skew (slice_set ms n (Some moment)) t
   spread_set n moment when skew ms s t a b (inl (why, whys, is, same)) h = absurd (ok_err is)
   spread_set n moment when skew ms s t a b (inr (clear, (is, ((u, d, last), records, given)))) h =
@@ -219,7 +220,7 @@ module _ {R : Type 0} (step : R → FiringCall → R → Type 0) (view : R → F
       there = ap (λ (v : CpusView R). slice_get v.cpus n) (sym last) ∙ (ap (λ (v : CpusView R). slice_get v.cpus n) d.rest
           ∙ cpu_there n d.before d.after s.cpus d.here)
 
-      at_it : CpuChanges step view d.before (CpuReprogram id moment (Ok tt)) d.after
+      at_it : CpuChanges firing d.before (CpuReprogram id moment (Ok tt)) d.after
           → option_map seen (cyclic_on n id t.cpus)
           ≡ option_map (λ m. (m, when.interval)) (moment_on n (slice_set ms n (Some moment)))
       at_it (k, c, here, named, still, w) =
@@ -239,7 +240,7 @@ module _ {R : Type 0} (step : R → FiringCall → R → Type 0) (view : R → F
 
   -- ---- a CPU goes offline
 
-  nowhere_off : (n : ℕ) (t : SystemView R) → IsSound view t → is_online n t.cpus ≡ false → cyclic_on n id t.cpus ≡ None
+  nowhere_off : (n : ℕ) (t : SystemView R) → IsSound firing.view t → is_online n t.cpus ≡ false → cyclic_on n id t.cpus ≡ None
   nowhere_off n t b off = by (has n id t.cpus) refl
     where
       by : (x : Bool) → has n id t.cpus ≡ x → cyclic_on n id t.cpus ≡ None
@@ -247,23 +248,23 @@ module _ {R : Type 0} (step : R → FiringCall → R → Type 0) (view : R → F
       by true e = (let (k, r, is, named, stands, up) = b.agrees.known n id e in
           absurd (let odd : false ≡ true = sym off ∙ up in cc))
 
-  pub spread_off : (n : ℕ) (when : When) (skew : ℕ) (ms : List (Option ℕ)) (s t : SystemView R) → IsSound view s
-      → IsSound view t → Changes step view s (Offline n (Ok tt)) t → IsSpread when skew ms s
+  pub spread_off : (n : ℕ) (when : When) (skew : ℕ) (ms : List (Option ℕ)) (s t : SystemView R) → IsSound firing.view s
+      → IsSound firing.view t → Changes firing s (Offline n (Ok tt)) t → IsSpread when skew ms s
       → IsSpread when skew (slice_set ms n None) t
   spread_off n when skew ms s t a b d h = spread_by when skew ms s h t (Offline n (Ok tt)) a tt d (λ x. x)
       (slice_set ms n None) (length-set ms n None) (λ m. dite (ℕ_discrete m n)
       (λ e. subst (λ (j : ℕ). option_map seen (cyclic_on j id t.cpus)
       ≡ option_map (λ m. (m, when.interval)) (moment_on j (slice_set ms n None))) (sym e)
       (ap (option_map seen) (nowhere_off n t b
-      (ap (λ ups. option_map_or (λ (up : Bool). up) (slice_get ups n) false) (online_after step view s t (Offline n (Ok tt)) d)
+      (ap (λ ups. option_map_or (λ (up : Bool). up) (slice_get ups n) false) (online_after firing s t (Offline n (Ok tt)) d)
       ∙ off_now s.cpus.online n)) ∙ sym (ap (option_map (λ m. (m, when.interval))) (moment_gone ms n))))
       (λ ne. ap (option_map seen) (around when skew ms s h t (Offline n (Ok tt)) a tt d (λ x. x) m (λ e. ne (sym e)))
       ∙ (h.here m ∙ ap (option_map (λ m. (m, when.interval))) (sym (moment_beside ms n m None ne)))))
 
   -- ---- a CPU comes back
 
-  pub spread_on : (n now : ℕ) (when : When) (skew : ℕ) (ms : List (Option ℕ)) (s t : SystemView R) → IsSound view s
-      → IsSound view t → Changes step view s (Online n now (Ok tt)) t → IsSpread when skew ms s
+  pub spread_on : (n now : ℕ) (when : When) (skew : ℕ) (ms : List (Option ℕ)) (s t : SystemView R) → IsSound firing.view s
+      → IsSound firing.view t → Changes firing s (Online n now (Ok tt)) t → IsSpread when skew ms s
       → IsSpread when skew (slice_set ms n (Some (cpu_first n when skew now))) t
   spread_on n now when skew ms s t a b (inl (why, whys, is, same)) h = absurd (ok_err is)
   spread_on n now when skew ms s t a b (inr (clear, goes)) h =
@@ -294,9 +295,9 @@ module _ {R : Type 0} (step : R → FiringCall → R → Type 0) (view : R → F
           ≡ option_map (λ m. (m, when.interval)) (moment_on n (slice_set ms n (Some (cpu_first n when skew now))))
       at_it =
           let (r, found_it, place) = its_record when skew ms s h in let (k, is, named) = found_at id s.records r found_it in
-          let l = changes_long step view s t (Online n now (Ok tt)) (inr (clear, goes)) in let l2 = h.long in
+          let l = changes_long firing s t (Online n now (Ok tt)) (inr (clear, goes)) in let l2 = h.long in
           let (y, at) = get_some t.cpus.cpus n (omega (arith, low, l)) in
-          let (p, there, one) = all_back step view s t n now goes k r when skew is place
+          let (p, there, one) = all_back firing s t n now goes k r when skew is place
           (both (is_everywhere r.place) _ (ap is_everywhere place) (stays r.id named)) y at in
           ap (option_map seen) (ap (λ o. option_and_then (cyclic_in id) o) at
           ∙ cyclic_found y.cyclics id p _ (b.lawful n y at).rising there named)
@@ -306,21 +307,22 @@ module _ {R : Type 0} (step : R → FiringCall → R → Type 0) (view : R → F
   -- ---- it is added
 
   -- no removal of a new id is open
-  pub new_still : (s t : SystemView R) (call : SystemCall) → IsSound view s → IsPlain call → Changes step view s call t
+  pub new_still : (s t : SystemView R) (call : SystemCall) → IsSound firing.view s → IsPlain call → Changes firing s call t
       → s.last < id → (n : ℕ) → removal_on n t.cpus ≢ Some id
   new_still s t call a plain d new n e =
       (let (k, r, is, named, stands, up) = a.agrees.known n id
-      (leaving_here view s.cpus n id a.lawful (sym (removals_same step view s t call plain d n) ∙ e)) in
+      (leaving_here firing.view s.cpus n id a.lawful (sym (removals_same firing s t call plain d n) ∙ e)) in
       let low = a.agrees.given k r is in absurd (omega (arith, low, named, new)))
 
-  pub spread_added : (level : Level) (when : When) (skew now : ℕ) (s t : SystemView R) → IsSound view s → IsSound view t
-      → Changes step view s (AddOmni level when skew now (Ok id)) t
+  pub spread_added : (level : Level) (when : When) (skew now : ℕ) (s t : SystemView R) → IsSound firing.view s
+      → IsSound firing.view t
+      → Changes firing s (AddOmni level when skew now (Ok id)) t
       → IsSpread when skew (components_from 0 (given_everywhere level when skew) now s.cpus.online) t
   spread_added level when skew now s t a b (inl (e, why, is, same)) = absurd (ok_err is)
   spread_added level when skew now s t a b (inr (clear, (own, (u, reserved, works), records, last))) = record {
     here = λ n. here n (is_online n s.cpus) refl;
     long = components_long 0 (given_everywhere level when skew) now s.cpus.online
-        ∙ (a.agrees.long ∙ sym (changes_long step view s t (AddOmni level when skew now (Ok id)) d));
+        ∙ (a.agrees.long ∙ sym (changes_long firing s t (AddOmni level when skew now (Ok id)) d));
     series =
         let x = new_record id level (stands.Everywhere when skew) in
         let none = record_none id s.records (λ k q low same. (let g = a.agrees.given k (get_or s.records k q)
@@ -332,7 +334,7 @@ module _ {R : Type 0} (step : R → FiringCall → R → Type 0) (view : R → F
     given = omega (arith, last);
   }
     where
-      d : Changes step view s (AddOmni level when skew now (Ok id)) t
+      d : Changes firing s (AddOmni level when skew now (Ok id)) t
       d = inr (clear, (own, (u, reserved, works), records, last))
 
       told : (n : ℕ) (up : Bool) → is_online n s.cpus ≡ up
@@ -355,15 +357,15 @@ module _ {R : Type 0} (step : R → FiringCall → R → Type 0) (view : R → F
           ≡ option_map (λ m. (m, when.interval))
           (moment_on n (components_from 0 (given_everywhere level when skew) now s.cpus.online))
       here n true up =
-          let l = changes_long step view s t (AddOmni level when skew now (Ok id)) d in let l2 = a.agrees.long in
+          let l = changes_long firing s t (AddOmni level when skew now (Ok id)) d in let l2 = a.agrees.long in
           let l3 = low n up in
           let (y, at) = get_some t.cpus.cpus n (omega (arith, l, l2, l3)) in
-          let (p, there, one) = each_one step view s t level when skew now id
+          let (p, there, one) = each_one firing s t level when skew now id
           (own, (u, reserved, works), records, last) n up y at in
           ap (option_map seen) (ap (λ o. option_and_then (cyclic_in id) o) at
           ∙ cyclic_found y.cyclics id p _ (b.lawful n y at).rising there refl)
           ∙ sym (ap (option_map (λ m. (m, when.interval))) (told n true up))
       here n false off = ap (option_map seen) (nowhere_off n t b
           (ap (λ ups. option_map_or (λ (up : Bool). up) (slice_get ups n) false)
-          (online_after step view s t (AddOmni level when skew now (Ok id)) d) ∙ off))
+          (online_after firing s t (AddOmni level when skew now (Ok id)) d) ∙ off))
           ∙ sym (ap (option_map (λ m. (m, when.interval))) (told n false off))

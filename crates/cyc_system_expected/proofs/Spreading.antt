@@ -7,7 +7,7 @@ use Rattle.std.specs.Option.{option_map_or, option_and_then}
 use Rattle.std.proofs.lemmas.List.Sums.{sum_by-cons}
 use Rattle.std.proofs.lemmas.Option.{slice_get_within, get_or_from_slice_get}
 use Rattle.cyc_types.specs.declared.Calls.{Ghosts as Calls}
-use Rattle.cyc_types.specs.Firing.{FiringView, FiringCall}
+use Rattle.cyc_types.specs.declared.Raise.{Ghosts as Raise}
 use Rattle.cyc_types.specs.Series.{due, next}
 use Rattle.cyc_types.specs.declared.moment.When.{When}
 use Rattle.cyc_timers.specs.Rows.{Cyclic}
@@ -87,7 +87,7 @@ cyclics_rise cs rising i j x y less p q =
     let a = ap (λ (c : Cyclic). c.timer.id) (get_or_from_slice_get cs i x x p) in
     let b = ap (λ (c : Cyclic). c.timer.id) (get_or_from_slice_get cs j y x q) in omega (arith, l, a, b)
 
-module _ {C R : Type 0} (handler : Calls C) (step : R → FiringCall → R → Type 0) (view : R → FiringView) (id : ℕ) where
+module _ {C R : Type 0} (handler : Calls C) (firing : Raise R) (id : ℕ) where
   -- a measure of the id on a CPU is that of the cyclic that is found
   cpu_found : (k : ℕ → ℕ → ℕ → ℕ) (x : CpuView R) → HasRisingIds x.cyclics
       → on_cpu (of_stay k) id x
@@ -95,16 +95,16 @@ module _ {C R : Type 0} (handler : Calls C) (step : R → FiringCall → R → T
   cpu_found k x rising = sum_found (λ (c : Cyclic). c.timer.id) (λ c. of_stay k (stay_of c)) id x.cyclics
       (cyclics_rise x.cyclics rising)
 
-  module _ (now : ℕ) (s : SystemSide R C) (b : Advanced R C) (sound : IsSound view s.system)
-      (after : IsSound view b.side.system)
-      (ready : length s.leads.items ≡ length s.system.cpus.cpus) (f : AllFire handler step view now s b)
+  module _ (now : ℕ) (s : SystemSide R C) (b : Advanced R C) (sound : IsSound firing.view s.system)
+      (after : IsSound firing.view b.side.system)
+      (ready : length s.leads.items ≡ length s.system.cpus.cpus) (f : AllFire handler firing now s b)
       (accepted : AllAccepted b) (when : When) (skew : ℕ) (ms : List (Option ℕ))
-      (h : IsSpread step view id when skew ms s.system) where
+      (h : IsSpread firing id when skew ms s.system) where
     at_cpu : (n : ℕ) (y : CpuView R) → slice_get b.side.system.cpus.cpus n ≡ Some y
         → option_map seen (cyclic_in id y)
         ≡ option_map (λ m. (m, when.interval)) (option_map (λ x. next x when.interval now) (moment_on n ms))
     at_cpu n y at =
-        let was = fired_at handler step view id now s b sound ready f accepted n y at in
+        let was = fired_at handler firing id now s b sound ready f accepted n y at in
         let seen_was = sym (ap (option_map seen) (ap (λ o. option_and_then (cyclic_in id) o) was.here)) ∙ h.here n in
         same_measured (option_map seen (cyclic_in id y))
         (option_map (λ m. (m, when.interval)) (option_map (λ x. next x when.interval now) (moment_on n ms)))
@@ -145,14 +145,14 @@ module _ {C R : Type 0} (handler : Calls C) (step : R → FiringCall → R → T
             ∙ sym (ap (λ o. option_map (λ m. (m, when.interval)) (option_map (λ x. next x when.interval now) o)) m))
         by (Some y) e = ap (λ o. option_map seen (option_and_then (cyclic_in id) o)) e ∙ at_cpu n y e
 
-    pub spread_fired : IsSpread step view id when skew (map (λ m. option_map (λ x. next x when.interval now) m) ms)
+    pub spread_fired : IsSpread firing id when skew (map (λ m. option_map (λ x. next x when.interval now) m) ms)
         b.side.system
     spread_fired = record {
       here = here_after;
       long = map_long (λ m. option_map (λ x. next x when.interval now) m) ms ∙ (h.long ∙ sym f.long);
       series = ap (λ rs. option_map_or series_of (found id rs) None) f.records ∙ h.series;
       still = λ n e. h.still n
-          (sym (fired_removal handler step view id now s b sound ready f accepted n) ∙ e);
+          (sym (fired_removal handler firing id now s b sound ready f accepted n) ∙ e);
       given = (let g = h.given in let l = f.last in omega (arith, g, l));
     }
 
@@ -170,19 +170,19 @@ module _ {C R : Type 0} (handler : Calls C) (step : R → FiringCall → R → T
     pub spread_counts : all_expired id b.side.system
         ≡ all_expired id s.system + sum_by (λ m. option_map_or (λ moment. due moment when.interval now) m 0) ms
     spread_counts =
-        let x = all_fired handler step view id now (λ a b c. c) s b sound after ready f accepted in
-        let y = plus_on handler step view id (λ c. c.timer.expired)
+        let x = all_fired handler firing id now (λ a b c. c) s b sound after ready f accepted in
+        let y = plus_on handler firing id (λ c. c.timer.expired)
         (λ c. due c.timer.moment c.timer.interval now) s.system.cpus.cpus in
         let z = dues in
         let r = ap (λ rs. option_map_or (λ r. sum_by (λ e. e.sent) r.ended) (found id rs) 0) f.records in
         omega (arith, x, y, z, r)
 
-  pub spread_asked : (when : When) (skew : ℕ) (ms : List (Option ℕ)) (s t : SystemSide R C) → OnlyAsked step view s t
-      → IsSpread step view id when skew ms s.system → IsSpread step view id when skew ms t.system
+  pub spread_asked : (when : When) (skew : ℕ) (ms : List (Option ℕ)) (s t : SystemSide R C) → OnlyAsked firing s t
+      → IsSpread firing id when skew ms s.system → IsSpread firing id when skew ms t.system
   spread_asked when skew ms s t a h = record {
-    here = λ n. ap (option_map seen) (asked_cyclic handler step view id s t a n) ∙ h.here n;
+    here = λ n. ap (option_map seen) (asked_cyclic handler firing id s t a n) ∙ h.here n;
     long = h.long ∙ sym a.cpus.long;
     series = ap (λ rs. option_map_or series_of (found id rs) None) a.records ∙ h.series;
-    still = λ n e. h.still n (sym (asked_removals handler step view id s t a n) ∙ e);
+    still = λ n e. h.still n (sym (asked_removals handler firing id s t a n) ∙ e);
     given = (let g = h.given in let l = a.last in omega (arith, g, l));
   }

@@ -2,7 +2,7 @@
 use Rattle.std.proofs.Common.{◌≡◌, ℕ, suc, ◌⊎◌, inl, inr, false, Option, Some, None, Result, Ok, Err}
 use Rattle.std.proofs.Common.{List, [], ◌∷◌, ◌++◌, length, map, slice_set, refl, sym, ap, subst}
 use Rattle.std.specs.List.{slice_get, FoldsTo}
-use Rattle.cyc_types.specs.Firing.{FiringView, FiringCall}
+use Rattle.cyc_types.specs.declared.Raise.{Ghosts as Raise}
 use Rattle.cyc_types.specs.Series.{first}
 use Rattle.cyc_types.specs.declared.firing.Sent.{Sent}
 use Rattle.cyc_types.specs.declared.level.Level.{Level}
@@ -46,9 +46,9 @@ abbrev pub switched_off : {R : Type 0} → ℕ → CpusView R → CpusView R
 switched_off n v = record v { online = slice_set v.online n false }
 
 -- a relation of the CPUs before and after, that calls of a kind keep
-module _ {R : Type 0} (step : R → FiringCall → R → Type 0) (view : R → FiringView) (K : CpusView R → CpusView R → Type 0)
+module _ {R : Type 0} (firing : Raise R) (K : CpusView R → CpusView R → Type 0)
     (none : (v : CpusView R) → K v v) (then : (u v w : CpusView R) → K u v → K v w → K u w) (G : CallOn → Type 0)
-    (one : (v w : CpusView R) (c : CallOn) → G c → DoesAt step view v c w → K v w)
+    (one : (v w : CpusView R) (c : CallOn) → G c → DoesAt firing v c w → K v w)
     (idle : (c : CallOn) → IsIdle c.call → G c) where
   abbrev AreGood : List CallOn → Type 0
   AreGood [] = Unit {0}
@@ -65,11 +65,11 @@ module _ {R : Type 0} (step : R → FiringCall → R → Type 0) (view : R → F
   same : (v w : CpusView R) → w ≡ v → K v w
   same v w e = subst (λ u. K v u) (sym e) (none v)
 
-  walk : (way : List CallOn) (v w : CpusView R) → AreGood way → Works step view way v w → K v w
+  walk : (way : List CallOn) (v w : CpusView R) → AreGood way → Works firing way v w → K v w
   walk [] v w g run = subst (λ u. K v u) run (none v)
   walk (c ∷ way) v w g (u, does, rest) = then v u w (one v u c g.0 does) (walk way u w g.1 rest)
 
-  idles : (way : List CallOn) (v w : CpusView R) → AreIdle way → Works step view way v w → K v w
+  idles : (way : List CallOn) (v w : CpusView R) → AreIdle way → Works firing way v w → K v w
   idles way v w a works = walk way v w (good_idle way a) works
 
   -- a cyclic of this id may come to the CPU
@@ -83,7 +83,7 @@ module _ {R : Type 0} (step : R → FiringCall → R → Type 0) (view : R → F
     pub sets : (n moment : ℕ) → G (on n (CpuReprogram own moment (Ok tt)))
 
   moved : (own source target : ℕ) (taken : Taken) (v w : CpusView R) → May own
-      → Works step view (moving own source target taken) v w → K v w
+      → Works firing (moving own source target taken) v w → K v w
   moved own source target taken v w may works = walk (moving own source target taken) v w (
     idle (on source (AskPending own (Some 0))) tt,
     (
@@ -98,32 +98,32 @@ module _ {R : Type 0} (step : R → FiringCall → R → Type 0) (view : R → F
     ),
   ) works
 
-  unmoved : (own source target : ℕ) (e : Refusal) (v w : CpusView R) → WhyNotShifted step view own source target e v w → K v w
+  unmoved : (own source target : ℕ) (e : Refusal) (v w : CpusView R) → WhyNotShifted firing own source target e v w → K v w
   unmoved own source target e v w (inl (removed, is_open, is, e')) = same v w e'
   unmoved own source target e v w (inr (inl (still, n, some, is, works))) =
       idles (on source (AskPending own (Some n)) ∷ []) v w (tt, tt) works
   unmoved own source target e v w (inr (inr (still, works))) =
       idles (on source (AskPending own (Some 0)) ∷ on target (Reserve 1 (Err e)) ∷ []) v w (tt, (tt, tt)) works
 
-  binds : (own n : ℕ) (answer : Result (Unit {0}) Refusal) (s t : SystemView R) → May own → Binds step view own n answer s t
+  binds : (own n : ℕ) (answer : Result (Unit {0}) Refusal) (s t : SystemView R) → May own → Binds firing own n answer s t
       → K s.cpus t.cpus
   binds own n (Ok done) s t may (home, has, inl (at, is, e), records) = same s.cpus t.cpus e
   binds own n (Ok done) s t may (home, has, inr (ne, (taken, works)), records) = moved own home n taken s.cpus t.cpus may works
   binds own n (Err e) s t may (home, has, inl (at, is, e'), records, last) = same s.cpus t.cpus e'
   binds own n (Err e) s t may (home, has, inr (ne, why), records, last) = unmoved own home n e s.cpus t.cpus why
 
-  reserved : (more : ℕ) (v w : CpusView R) → ReservesEach step view more (Ok tt) v w → K v w
+  reserved : (more : ℕ) (v w : CpusView R) → ReservesEach firing more (Ok tt) v w → K v w
   reserved more v w (u, first, last) =
       then v u w (idles _ v u (idle_rooms more _) first) (idles _ u w (idle_reserves more _) last)
 
-  unreserved : (more : ℕ) (e : Refusal) (v w : CpusView R) → ReservesEach step view more (Err e) v w → K v w
+  unreserved : (more : ℕ) (e : Refusal) (v w : CpusView R) → ReservesEach firing more (Err e) v w → K v w
   unreserved more e v w (inl (before, n, after, works)) = idles _ v w
       (idle_on (rooms more before) _ (idle_rooms more before) (tt, tt)) works
   unreserved more e v w (inr (u, first, (is, before, n, after, works))) = then v u w (idles _ v u (idle_rooms more _) first)
       (idles _ u w (idle_on (reserves more before) _ (idle_reserves more before) (tt, tt)) works)
 
   adds : (level : Level) (when : When) (now : ℕ) (answer : Result ℕ Refusal) (s t : SystemView R)
-      → ((own : ℕ) → answer ≡ Ok own → May own) → Adds step view level when now answer s t → K s.cpus t.cpus
+      → ((own : ℕ) → answer ≡ Ok own → May own) → Adds firing level when now answer s t → K s.cpus t.cpus
   adds level when now (Ok own) s t may (d, chosen, next, works, records, last) =
       walk (on d (Reserve 1 (Ok tt)) ∷ entering d own level when.interval (first when.start when.interval now)) s.cpus t.cpus (
         idle (on d (Reserve 1 (Ok tt))) tt,
@@ -149,14 +149,14 @@ module _ {R : Type 0} (step : R → FiringCall → R → Type 0) (view : R → F
   )
 
   omnis : (level : Level) (when : When) (skew now : ℕ) (answer : Result ℕ Refusal) (s t : SystemView R)
-      → ((own : ℕ) → answer ≡ Ok own → May own) → AddsOmni step view level when skew now answer s t → K s.cpus t.cpus
+      → ((own : ℕ) → answer ≡ Ok own → May own) → AddsOmni firing level when skew now answer s t → K s.cpus t.cpus
   omnis level when skew now (Ok own) s t may (next, (u, first, works), records, last) = then s.cpus u t.cpus
       (reserved 1 s.cpus u first)
       (walk _ u t.cpus (enter_good (online_cpus s.cpus) own level when skew now (may own refl)) works)
   omnis level when skew now (Err e) s t may (inl why, records, last) = unreserved 1 e s.cpus t.cpus why
   omnis level when skew now (Err e) s t may (inr (is, first), records, last) = reserved 1 s.cpus t.cpus first
 
-  turn : (n own : ℕ) (turned : Turn) (s t : SystemView R) → May own → TakesTurn step view n own turned s t → K s.cpus t.cpus
+  turn : (n own : ℕ) (turned : Turn) (s t : SystemView R) → May own → TakesTurn firing n own turned s t → K s.cpus t.cpus
   turn n own StaysBound s t may (place, e) = same s.cpus t.cpus (ap (λ (u : SystemView R). u.cpus) e)
   turn n own StaysPending s t may (place, found, some, only) =
       idles (on n (AskPending own (Some found)) ∷ []) s.cpus t.cpus (tt, tt) only.0
@@ -165,7 +165,7 @@ module _ {R : Type 0} (step : R → FiringCall → R → Type 0) (view : R → F
   turn n own Moves s t may (place, d, chosen, (taken, works), records) = moved own n d taken s.cpus t.cpus may works
 
   turns : (n : ℕ) (ids : List ℕ) (report : JuggleReport) (s t : SystemView R)
-      → ((p own : ℕ) → slice_get ids p ≡ Some own → May own) → Turns step view n ids report s t → K s.cpus t.cpus
+      → ((p own : ℕ) → slice_get ids p ≡ Some own → May own) → Turns firing n ids report s t → K s.cpus t.cpus
   turns n [] report s t may (is, e) = same s.cpus t.cpus (ap (λ (u : SystemView R). u.cpus) e)
   turns n (own ∷ ids) report s t may (turned, u, rest, first, counted, more) = then s.cpus u.cpus t.cpus
       (turn n own turned s u (may 0 own refl) first) (turns n ids rest u t (λ p q at. may (suc p) q at) more)
@@ -174,7 +174,7 @@ module _ {R : Type 0} (step : R → FiringCall → R → Type 0) (view : R → F
   abbrev pub Retire : ℕ → List ℕ → Type 0
   Retire n ids = (p own : ℕ) (taken : Taken) → slice_get ids p ≡ Some own → G (on n (TakeNow own (Ok taken)))
 
-  retires : (n : ℕ) (ids : List ℕ) (s t : SystemView R) → Retire n ids → FoldsTo (Retires step view n) s ids t
+  retires : (n : ℕ) (ids : List ℕ) (s t : SystemView R) → Retire n ids → FoldsTo (Retires firing n) s ids t
       → K s.cpus t.cpus
   retires n [] s t may e = same s.cpus t.cpus (ap (λ (u : SystemView R). u.cpus) (sym e))
   retires n (own ∷ ids) s t may (u, (taken, does, k, r, here, named, records, last), rest) = then s.cpus u.cpus t.cpus
@@ -251,7 +251,7 @@ module _ {R : Type 0} (step : R → FiringCall → R → Type 0) (view : R → F
   err_not : {A E : Type 0} {x : A} {y : E} → Err y ≡ Ok x → ⊥
   err_not {A = A} {E = E} {x = x} {y = y} e = cc
 
-  offline_ok : (n : ℕ) (s t : SystemView R) → Changes step view s (Offline n (Ok tt)) t → Needs (Offline n (Ok tt)) s
+  offline_ok : (n : ℕ) (s t : SystemView R) → Changes firing s (Offline n (Ok tt)) t → Needs (Offline n (Ok tt)) s
       → Keeps (Offline n (Ok tt)) s t
   offline_ok n s t (inl (e, why, is, e')) needs = absurd (ok_not is)
   offline_ok n s t (inr (clear, (report, u, moves, inl (left, is, e')))) needs = absurd (ok_not is)
@@ -266,7 +266,7 @@ module _ {R : Type 0} (step : R → FiringCall → R → Type 0) (view : R → F
         ap (λ (x : SystemView R). x.cpus) off,
       )
 
-  offline_err : (n : ℕ) (e : Refusal) (s t : SystemView R) → Changes step view s (Offline n (Err e)) t
+  offline_err : (n : ℕ) (e : Refusal) (s t : SystemView R) → Changes firing s (Offline n (Err e)) t
       → Needs (Offline n (Err e)) s → K s.cpus t.cpus
   offline_err n e s t (inl (why, whys, is, e')) needs = same_system s t e'
   offline_err n e s t (inr (clear, (report, u, moves, inl (left, is, e')))) needs = then s.cpus u.cpus t.cpus
@@ -277,7 +277,7 @@ module _ {R : Type 0} (step : R → FiringCall → R → Type 0) (view : R → F
       (idle_on (quiet n before) (on n (AskPending own (Some found)) ∷ []) (idle_quiet n before) (tt, tt)) only.0)
   offline_err n e s t (inr (clear, (report, u, moves, inr (inr (left, is, rest))))) needs = absurd (err_not is)
 
-  online_ok : (n now : ℕ) (s t : SystemView R) → Changes step view s (Online n now (Ok tt)) t → Needs (Online n now (Ok tt)) s
+  online_ok : (n now : ℕ) (s t : SystemView R) → Changes firing s (Online n now (Ok tt)) t → Needs (Online n now (Ok tt)) s
       → Keeps (Online n now (Ok tt)) s t
   online_ok n now s t (inl (e, why, is, e')) needs = absurd (ok_not is)
   online_ok n now s t (inr (clear, ((w, works, switched), records, last))) needs = (
@@ -290,10 +290,10 @@ module _ {R : Type 0} (step : R → FiringCall → R → Type 0) (view : R → F
   )
 
   sets_one : (n own moment : ℕ) (s t : SystemView R) → G (on n (CpuReprogram own moment (Ok tt)))
-      → Works step view (on n (CpuReprogram own moment (Ok tt)) ∷ []) s.cpus t.cpus → K s.cpus t.cpus
+      → Works firing (on n (CpuReprogram own moment (Ok tt)) ∷ []) s.cpus t.cpus → K s.cpus t.cpus
   sets_one n own moment s t good works = walk (on n (CpuReprogram own moment (Ok tt)) ∷ []) s.cpus t.cpus (good, tt) works
 
-  pub kept : (s t : SystemView R) (call : SystemCall) → Changes step view s call t → Needs call s → Keeps call s t
+  pub kept : (s t : SystemView R) (call : SystemCall) → Changes firing s call t → Needs call s → Keeps call s t
   kept s t (Add level when now (Ok own)) d needs = refused_or _ _ _ s t _ d (λ clear k. adds level when now (Ok own) s t
       (λ o e. subst (λ j. May j) (same_ok e) needs) k)
   kept s t (Add level when now (Err e)) d needs = refused_or _ _ _ s t _ d (λ clear k. adds level when now (Err e) s t

@@ -8,14 +8,14 @@ use Rattle.std.specs.Option.{option_map_or}
 use mathlib.Core.Logic.{dite}
 use native.Mathlib.Decide.{ℕ_discrete}
 use Rattle.cyc_types.specs.declared.Calls.{Ghosts as Calls}
-use Rattle.cyc_types.specs.Firing.{FiringView, FiringCall}
+use Rattle.cyc_types.specs.declared.Raise.{Ghosts as Raise}
 use Rattle.cyc_types.specs.Series.{never}
 use Rattle.cyc_types.specs.declared.firing.Sent.{Sent}
 use Rattle.cyc_types.specs.declared.receipt.Receipt.{Receipt}
 use Rattle.cyc_types.specs.declared.refusal.Refusal.{Refusal}
 use Rattle.cyc_types.specs.declared.refusal.Refusal.TheVariants.{NoCyclic}
 use Rattle.cyc_system_rings.specs.RaiseEnd.{RaiseEnd}
-use Rattle.cyc_system_rings.specs.Ends.{end_view, RaiseEndCall}
+use Rattle.cyc_system_rings.specs.Ends.{end_view, raise_end}
 use Rattle.cyc_model.specs.State.{Everywhere}
 use Rattle.cyc_cpus.specs.Cpus.{new_cpu, new_cpus}
 use Rattle.cyc_model.specs.Refusals.{when as if_so}
@@ -71,15 +71,15 @@ not_if : (b : Bool) (why : Refusal) → if_so b why ≡ None → b ≡ false
 not_if true why e = absurd (none_some (sym e))
 not_if false why e = refl
 
-module _ {C R : Type 0} (handler : Calls C) (step : R → FiringCall → R → Type 0) (view : R → FiringView) (id : ℕ) where
+module _ {C R : Type 0} (handler : Calls C) (firing : Raise R) (id : ℕ) where
   -- what is told of the id is so
   pub record Fits (told : Told) (s : SystemView R) : Type 0 where
     pub online : told.online ≡ s.cpus.online
     pub all : all_expired id s ≡ told.expired
-    pub course : IsOn handler step view id told.course told.expired s
+    pub course : IsOn handler firing id told.course told.expired s
 
   abbrev On : Course → ℕ → SystemView R → Type 0
-  On c expired s = IsOn handler step view id c expired s
+  On c expired s = IsOn handler firing id c expired s
 
   -- ---- a call
 
@@ -110,29 +110,29 @@ module _ {C R : Type 0} (handler : Calls C) (step : R → FiringCall → R → T
   online_made (FireOne n now answer) told = refl
   online_made (SoftInterrupt n level budget answer) told = refl
 
-  same_online : (call : SystemCall) (s t : SystemView R) (told : Told) → Changes step view s call t
+  same_online : (call : SystemCall) (s t : SystemView R) (told : Told) → Changes firing s call t
       → told.online ≡ s.cpus.online → (told_after (event_in id (Make call)) told).online ≡ t.cpus.online
-  same_online call s t told d e = online_made call told ∙ (ap (online_of call) e ∙ sym (online_after step view s t call d))
+  same_online call s t told d e = online_made call told ∙ (ap (online_of call) e ∙ sym (online_after firing s t call d))
 
-  expired_made : (call : SystemCall) (s t : SystemView R) (told : Told) → IsSound view s → IsSound view t
-      → Changes step view s call t
+  expired_made : (call : SystemCall) (s t : SystemView R) (told : Told) → IsSound firing.view s → IsSound firing.view t
+      → Changes firing s call t
       → all_expired id t ≡ all_expired id s → all_expired id s ≡ told.expired
       → all_expired id t ≡ (told_after (event_in id (Make call)) told).expired
   expired_made (Add level when now (Ok own)) s t told a b d same e = dite (ℕ_discrete own id)
-      (λ is. same ∙ (no_counts_yet view id s a
-      (let next' = add_next handler step view id level when now own s t d in omega (arith, next', is))
+      (λ is. same ∙ (no_counts_yet firing.view id s a
+      (let next' = add_next handler firing id level when now own s t d in omega (arith, next', is))
       ∙ ap (λ (u : Told). u.expired)
-      (sym (its_own handler step view id own (Begins when.start when.interval now) told is))))
+      (sym (its_own handler firing id own (Begins when.start when.interval now) told is))))
       (λ ne. same ∙ (e ∙ ap (λ (u : Told). u.expired)
-      (sym (others_pass handler step view id own (Begins when.start when.interval now) told ne))))
+      (sym (others_pass handler firing id own (Begins when.start when.interval now) told ne))))
   expired_made (Add level when now (Err why)) s t told a b d same e = same ∙ e
   expired_made (AddOmni level when skew now (Ok own)) s t told a b d same e = dite (ℕ_discrete own id)
-      (λ is. same ∙ (no_counts_yet view id s a
-      (let next' = omni_next handler step view id level when skew now own s t d in omega (arith, next', is))
+      (λ is. same ∙ (no_counts_yet firing.view id s a
+      (let next' = omni_next handler firing id level when skew now own s t d in omega (arith, next', is))
       ∙ ap (λ (u : Told). u.expired)
-      (sym (its_own handler step view id own (BeginsOnAll (given_everywhere level when skew) now) told is))))
+      (sym (its_own handler firing id own (BeginsOnAll (given_everywhere level when skew) now) told is))))
       (λ ne. same ∙ (e ∙ ap (λ (u : Told). u.expired)
-      (sym (others_pass handler step view id own (BeginsOnAll (given_everywhere level when skew) now) told ne))))
+      (sym (others_pass handler firing id own (BeginsOnAll (given_everywhere level when skew) now) told ne))))
   expired_made (AddOmni level when skew now (Err why)) s t told a b d same e = same ∙ e
   expired_made (Bind own cpu answer) s t told a b d same e = same ∙ e
   expired_made (BeginRemove own (Ok removal)) s t told a b d same e =
@@ -154,80 +154,80 @@ module _ {C R : Type 0} (handler : Calls C) (step : R → FiringCall → R → T
   expired_made (FireOne n now answer) s t told a b d same e = absurd d
   expired_made (SoftInterrupt n level budget answer) s t told a b d same e = absurd d
 
-  course_made : (ups : List Bool) (c : Course) (x : ℕ) (call : SystemCall) (s t : SystemView R) → IsSound view s
-      → IsSound view t
-      → Changes step view s call t → (EndsRemoval id call → ⊥) → ups ≡ s.cpus.online → On c x s
+  course_made : (ups : List Bool) (c : Course) (x : ℕ) (call : SystemCall) (s t : SystemView R) → IsSound firing.view s
+      → IsSound firing.view t
+      → Changes firing s call t → (EndsRemoval id call → ⊥) → ups ≡ s.cpus.online → On c x s
       → (let u = told_after (event_in id (Make call)) (record { online = ups; course = c; expired = x }) in
       On u.course u.expired t)
   course_made ups Idle x call s t a b d ends same quiet =
-      idle_call handler step view id ups x s t call a b d ends same quiet
+      idle_call handler firing id ups x s t call a b d ends same quiet
   course_made ups (Single moment interval) x call s t a b d ends same (h, still) =
-      single_call handler step view id ups x moment interval s t a b h still call d ends
+      single_call handler firing id ups x moment interval s t a b h still call d ends
   course_made ups (OnEach e ms) x call s t a b d ends same (level, when, skew, is, h) =
       subst (λ (o : Everywhere).
       (let u = told_after (event_in id (Make call)) (record { online = ups; course = OnEach o ms; expired = x }) in
       On u.course u.expired t)) (sym is)
-      (each_call handler step view id ups x level when skew ms s t a b h call d ends)
+      (each_call handler firing id ups x level when skew ms s t a b h call d ends)
 
-  fits_made : (call : SystemCall) (s t : SystemView R) (told : Told) → IsSound view s → IsSound view t
-      → Changes step view s call t → (EndsRemoval id call → ⊥) → Fits told s
+  fits_made : (call : SystemCall) (s t : SystemView R) (told : Told) → IsSound firing.view s → IsSound firing.view t
+      → Changes firing s call t → (EndsRemoval id call → ⊥) → Fits told s
       → Fits (told_after (event_in id (Make call)) told) t
   fits_made call s t told a b d ends h = record {
     online = same_online call s t told d h.online;
     all = expired_made call s t told a b d
-        (counts_same step view (λ (c : Sent). c.sent) refl (λ x y. refl) id s t call a b d ends) h.all;
+        (counts_same firing (λ (c : Sent). c.sent) refl (λ x y. refl) id s t call a b d ends) h.all;
     course = course_made told.online told.course told.expired call s t a b d ends h.online h.course;
   }
 
   -- ---- an advance, and a question
 
-  course_fired : (now : ℕ) (c : Course) (x : ℕ) (s : SystemSide R C) (b : Advanced R C) → IsSound view s.system
-      → IsSound view b.side.system → length s.leads.items ≡ length s.system.cpus.cpus
-      → AllFire handler step view now s b → AllAccepted b → now < never → all_expired id s.system ≡ x
+  course_fired : (now : ℕ) (c : Course) (x : ℕ) (s : SystemSide R C) (b : Advanced R C) → IsSound firing.view s.system
+      → IsSound firing.view b.side.system → length s.leads.items ≡ length s.system.cpus.cpus
+      → AllFire handler firing now s b → AllAccepted b → now < never → all_expired id s.system ≡ x
       → On c x s.system
       → (all_expired id b.side.system ≡ x + due_of now c) × On (next_of now c) (x + due_of now c) b.side.system
   course_fired now Idle x s b a after ready f accepted early e quiet = (
-    (let same = quiet_counts handler step view id now s b a ready f accepted early quiet after in
+    (let same = quiet_counts handler firing id now s b a ready f accepted early quiet after in
         omega (arith, same, e)),
-    quiet_fired handler step view id now s b a ready f accepted quiet,
+    quiet_fired handler firing id now s b a ready f accepted quiet,
   )
   course_fired now (Single moment interval) x s b a after ready f accepted early e (h, still) =
-      let fires = fires_single handler step view id now moment interval x s b a after ready f accepted h in (
+      let fires = fires_single handler firing id now moment interval x s b a after ready f accepted h in (
         fires.all,
         (
           fires,
           λ n open_there. still n
-              (sym (fired_removal handler step view id now s b a ready f accepted n) ∙ open_there),
+              (sym (fired_removal handler firing id now s b a ready f accepted n) ∙ open_there),
         ),
       )
   course_fired now (OnEach o ms) x s b a after ready f accepted early e (level, when, skew, is, h) =
       subst (λ (o : Everywhere). (all_expired id b.side.system ≡ x + due_of now (OnEach o ms))
       × On (next_of now (OnEach o ms)) (x + due_of now (OnEach o ms)) b.side.system) (sym is) (
-        spread_counts handler step view id now s b a after ready f accepted when skew ms h
+        spread_counts handler firing id now s b a after ready f accepted when skew ms h
             ∙ ap (λ (y : ℕ). y + due_of now (OnEach (given_everywhere level when skew) ms)) e,
         (
           level,
           when,
           skew,
           refl,
-          spread_fired handler step view id now s b a after ready f accepted when skew ms h,
+          spread_fired handler firing id now s b a after ready f accepted when skew ms h,
         ),
       )
 
-  course_asked : (c : Course) (x : ℕ) (s t : SystemSide R C) → IsSound view s.system → IsSound view t.system
-      → OnlyAsked step view s t → On c x s.system → On c x t.system
-  course_asked Idle x s t a b asked quiet = λ n h. asked_removals handler step view id s t asked n
+  course_asked : (c : Course) (x : ℕ) (s t : SystemSide R C) → IsSound firing.view s.system → IsSound firing.view t.system
+      → OnlyAsked firing s t → On c x s.system → On c x t.system
+  course_asked Idle x s t a b asked quiet = λ n h. asked_removals handler firing id s t asked n
       ∙ quiet n (sym (has_same n id s.system.cpus t.system.cpus
-      (asked_cyclic handler step view id s t asked n)) ∙ h)
+      (asked_cyclic handler firing id s t asked n)) ∙ h)
   course_asked (Single moment interval) x s t a b asked (h, still) = (
-    asks_single handler step view id moment interval x s t a b asked h,
-    λ n e. still n (sym (asked_removals handler step view id s t asked n) ∙ e),
+    asks_single handler firing id moment interval x s t a b asked h,
+    λ n e. still n (sym (asked_removals handler firing id s t asked n) ∙ e),
   )
   course_asked (OnEach o ms) x s t a b asked (level, when, skew, is, h) =
-      (level, when, skew, is, spread_asked handler step view id when skew ms s t asked h)
+      (level, when, skew, is, spread_asked handler firing id when skew ms s t asked h)
 
   abbrev pub D : SystemSide R C → LeadCall → SystemSide R C → Type 0
-  D = AcceptedSteps handler step view
+  D = AcceptedSteps handler firing
 
   -- the call answers the removal of the id with no receipt
   ends_not : (call : SystemCall) → receipt_of id (Make call) ≡ None → EndsRemoval id call → ⊥
@@ -237,7 +237,7 @@ module _ {C R : Type 0} (handler : Calls C) (step : R → FiringCall → R → T
       none_some (sym e ∙ ap (λ (b : Bool). cond b (Some receipt) None) (true_eq own id is))
   ends_not call e is = absurd is
 
-  fits_step : (call : LeadCall) (s t : SystemSide R C) (told : Told) → IsSound view s.system
+  fits_step : (call : LeadCall) (s t : SystemSide R C) (told : Told) → IsSound firing.view s.system
       → length s.leads.items ≡ length s.system.cpus.cpus → D s call t → IsBeforeNever call → receipt_of id call ≡ None
       → Fits told s.system → Fits (told_after (event_in id call) told) t.system
   fits_step (Make call) s t told a ready ((d, e), b) early none h =
@@ -245,14 +245,14 @@ module _ {C R : Type 0} (handler : Calls C) (step : R → FiringCall → R → T
   fits_step (FireAll now) s t told a ready (after, fires, accepted, same, b) early none h =
       subst (λ (u : SystemSide R C). Fits (told_after (Fires now) told) u.system) (sym same)
       (let c = course_fired now told.course told.expired s after a
-      (subst (λ (u : SystemSide R C). IsSound view u.system) same b) ready fires accepted early h.all h.course in record {
+      (subst (λ (u : SystemSide R C). IsSound firing.view u.system) same b) ready fires accepted early h.all h.course in record {
         online = h.online ∙ sym fires.online;
         all = c.0;
         course = c.1;
       })
   fits_step AskAll s t told a ready (asked, b) early none h = record {
     online = h.online ∙ sym asked.online;
-    all = asked_counts handler step view id s t asked a b ∙ h.all;
+    all = asked_counts handler firing id s t asked a b ∙ h.all;
     course = course_asked told.course told.expired s t a b asked h.course;
   }
 
@@ -285,11 +285,11 @@ module _ {C R : Type 0} (handler : Calls C) (step : R → FiringCall → R → T
   begins_none (FireAll now) s t d low = tt
   begins_none AskAll s t d low = tt
   begins_none (Make (Add level when now (Ok own))) s t ((d, e), b) low = none_if own (Begins when.start when.interval now)
-      (λ is. (let next' = add_next handler step view id level when now own s.system t.system d in
+      (λ is. (let next' = add_next handler firing id level when now own s.system t.system d in
       absurd (omega (arith, next', is, low))))
   begins_none (Make (AddOmni level when skew now (Ok own))) s t ((d, e), b) low =
       none_if own (BeginsOnAll (given_everywhere level when skew) now)
-      (λ is. (let next' = omni_next handler step view id level when skew now own s.system t.system d in
+      (λ is. (let next' = omni_next handler firing id level when skew now own s.system t.system d in
       absurd (omega (arith, next', is, low))))
   begins_none (Make (BeginRemove own (Ok removal))) s t d low = by (own == id)
     where
@@ -318,7 +318,7 @@ module _ {C R : Type 0} (handler : Calls C) (step : R → FiringCall → R → T
   begins_none (Make call) s t d low = tt
 
   last_rises : (call : LeadCall) (s t : SystemSide R C) → D s call t → s.system.last ≤ t.system.last
-  last_rises (Make call) s t ((d, e), b) = (made_of step view s.system t.system call d).last
+  last_rises (Make call) s t ((d, e), b) = (made_of firing s.system t.system call d).last
   last_rises (FireAll now) s t (after, fires, accepted, same, b) =
       let a = fires.last in let c = ap (λ (u : SystemSide R C). u.system.last) same in omega (arith, a, c)
   last_rises AskAll s t (asked, b) = let a = asked.last in omega (arith, a)
@@ -352,7 +352,7 @@ module _ {C R : Type 0} (handler : Calls C) (step : R → FiringCall → R → T
       by true is e = (eq_true own id is, same_some e)
       by false is e = absurd (none_some e)
 
-  known_low : (s : SystemView R) → IsSound view s → is_unknown id s ≡ false → id ≤ s.last
+  known_low : (s : SystemView R) → IsSound firing.view s → is_unknown id s ≡ false → id ≤ s.last
   known_low s a known = by (record_of id s) refl
     where
       by : (o : Option Record) → record_of id s ≡ o → id ≤ s.last
@@ -360,55 +360,55 @@ module _ {C R : Type 0} (handler : Calls C) (step : R → FiringCall → R → T
       by (Some r) e = (let (k, is, named) = found_at id s.records r e in let low = a.agrees.given k r is in
           omega (arith, low, named))
 
-  begin_low : (receipt : Receipt) (s t : SystemView R) → IsSound view s
-      → Changes step view s (BeginRemove id (Ok (Done receipt))) t → id ≤ s.last
+  begin_low : (receipt : Receipt) (s t : SystemView R) → IsSound firing.view s
+      → Changes firing s (BeginRemove id (Ok (Done receipt))) t → id ≤ s.last
   begin_low receipt s t a (inl (e, why, is, same)) = absurd (ok_err is)
   begin_low receipt s t a (inr (clear, rest)) =
       known_low s a (not_if (is_unknown id s) NoCyclic (neither (unknown_cyclic id s) _ clear).0)
 
-  poll_there : (answer : Option Receipt) (s t : SystemView R) → IsSound view s
-      → Changes step view s (PollRemove id (Ok answer)) t → (n : ℕ) × (has n id s.cpus ≡ true) × (removal_on n s.cpus ≡ Some id)
+  poll_there : (answer : Option Receipt) (s t : SystemView R) → IsSound firing.view s
+      → Changes firing s (PollRemove id (Ok answer)) t → (n : ℕ) × (has n id s.cpus ≡ true) × (removal_on n s.cpus ≡ Some id)
   poll_there answer s t a (inl (e, why, is, same)) = absurd (ok_err is)
-  poll_there answer s t a (inr (clear, rest)) = leaving_somewhere id s.cpus view a.lawful
+  poll_there answer s t a (inr (clear, rest)) = leaving_somewhere id s.cpus firing.view a.lawful
       (not_so (is_leaving id s) NoCyclic (neither (not_leaving id s) None clear).0)
 
-  receives : (call : LeadCall) (r : Receipt) (told : Told) (s u : SystemSide R C) → IsSound view s.system → D s call u
+  receives : (call : LeadCall) (r : Receipt) (told : Told) (s u : SystemSide R C) → IsSound firing.view s.system → D s call u
       → Fits told s.system → receipt_of id call ≡ Some r → Receives call r told s u
   receives (Make (BeginRemove own (Ok (Done receipt)))) r told s u a ((d, e), b) h is =
       let (named, same) = own_receipt own receipt r is in
-      let d' = subst (λ (j : ℕ). Changes step view s.system (BeginRemove j (Ok (Done receipt))) u.system) named d in
-      let ends = its_own handler step view id own Ends told named in record {
-        sent = sym (ap (λ (x : Receipt). x.sent) same) ∙ (receipt_all step view id receipt s.system u.system a (inl d')).0;
+      let d' = subst (λ (j : ℕ). Changes firing s.system (BeginRemove j (Ok (Done receipt))) u.system) named d in
+      let ends = its_own handler firing id own Ends told named in record {
+        sent = sym (ap (λ (x : Receipt). x.sent) same) ∙ (receipt_all firing id receipt s.system u.system a (inl d')).0;
         course = ap (λ (x : Told). x.course) ends;
         expired = ap (λ (x : Told). x.expired) ends;
         given = (let low = begin_low receipt s.system u.system a d' in
-            let l = (made_of step view s.system u.system (BeginRemove id (Ok (Done receipt))) d').last in omega (arith, low, l));
+            let l = (made_of firing s.system u.system (BeginRemove id (Ok (Done receipt))) d').last in omega (arith, low, l));
       }
   receives (Make (PollRemove own (Ok (Some receipt)))) r told s u a ((d, e), b) h is =
       let (named, same) = own_receipt own receipt r is in
-      let d' = subst (λ (j : ℕ). Changes step view s.system (PollRemove j (Ok (Some receipt))) u.system) named d in
+      let d' = subst (λ (j : ℕ). Changes firing s.system (PollRemove j (Ok (Some receipt))) u.system) named d in
       let (n, there, open_there) = poll_there (Some receipt) s.system u.system a d' in record {
-        sent = sym (ap (λ (x : Receipt). x.sent) same) ∙ (receipt_all step view id receipt s.system u.system a (inr d')).0;
+        sent = sym (ap (λ (x : Receipt). x.sent) same) ∙ (receipt_all firing id receipt s.system u.system a (inr d')).0;
         course = not_idle told.course told.expired n s.system h.course open_there;
         expired = refl;
         given =
             let (k, q, at, own_id, stands, up) = a.agrees.known n id there in let low = a.agrees.given k q at in
-            let l = (made_of step view s.system u.system (PollRemove id (Ok (Some receipt))) d').last in
+            let l = (made_of firing s.system u.system (PollRemove id (Ok (Some receipt))) d').last in
             omega (arith, low, l, own_id);
       }
   receives call r told s u a d h is = absurd (none_some is)
 
   -- ---- all of it
 
-  pub run_sent : (way : List LeadCall) (s t : SystemSide R C) (told : Told) → IsSound view s.system
+  pub run_sent : (way : List LeadCall) (s t : SystemSide R C) (told : Told) → IsSound firing.view s.system
       → length s.leads.items ≡ length s.system.cpus.cpus → FoldsTo D s way t → All IsBeforeNever way → Fits told s.system
       → option_map_or (λ (r : Receipt). r.sent) (receipt_in id way) (all_expired id t.system)
       ≡ (told_by (events_in id way) told).expired
   run_sent [] s t told a ready run early h = ap (λ (u : SystemSide R C). all_expired id u.system) (sym run) ∙ h.all
   run_sent (call ∷ way) s t told a ready (u, d, rest) early h = by (receipt_of id call) refl
       (λ none. run_sent way u t (told_after (event_in id call) told)
-      (sound_after handler step view id s u call d)
-      (step_ready handler step view id s u call d ready) rest (λ k e low. early (suc k) e (omega (arith, low)))
+      (sound_after handler firing id s u call d)
+      (step_ready handler firing id s u call d ready) rest (λ k e low. early (suc k) e (omega (arith, low)))
       (fits_step call s u told a ready d (early 0 call (omega arith)) none h))
     where
       by : (o : Option Receipt) → receipt_of id call ≡ o
@@ -426,12 +426,12 @@ module _ {C R : Type 0} (handler : Calls C) (step : R → FiringCall → R → T
 
   -- ---- from nothing
 
-  not_had : (s : SystemView R) → IsSound view s → s.records ≡ [] → (n : ℕ) (b : Bool) → has n id s.cpus ≡ b → b ≡ false
+  not_had : (s : SystemView R) → IsSound firing.view s → s.records ≡ [] → (n : ℕ) (b : Bool) → has n id s.cpus ≡ b → b ≡ false
   not_had s a empty n false e = refl
   not_had s a empty n true e = (let (k, r, is, named, stands, up) = a.agrees.known n id e in
       absurd (none_some (sym (ap (λ rs. slice_get rs k) empty) ∙ is)))
 
-  pub fits_first : (s : SystemView R) → IsSound view s → IsEmpty s → Fits (untold (length s.cpus.cpus)) s
+  pub fits_first : (s : SystemView R) → IsSound firing.view s → IsEmpty s → Fits (untold (length s.cpus.cpus)) s
   fits_first s a empty = record {
     online = sym empty.online;
     all =
@@ -452,13 +452,13 @@ sent_of None sent lost = refl
 sent_of (Some r) sent lost = refl
 
 pub whole_run : {C : Type 0} (handler : Calls C) (id : ℕ) (s t : SystemSide RaiseEnd C) (way : List LeadCall)
-    → FoldsTo (AcceptedSteps handler RaiseEndCall end_view) s way t → IsSound end_view s.system
+    → FoldsTo (AcceptedSteps handler raise_end) s way t → IsSound end_view s.system
     → length s.leads.items ≡ length s.system.cpus.cpus → All IsBeforeNever way → IsEmpty s.system
     → (counts_in id way t.system).sent ≡ (told_by (events_in id way) (untold (length s.system.cpus.cpus))).expired
 whole_run handler id s t way run a ready early empty =
     sent_of (receipt_in id way) (all_expired id t.system) (all_lost id t.system)
-    ∙ run_sent handler RaiseEndCall end_view id way s t (untold (length s.system.cpus.cpus)) a ready run early
-    (fits_first handler RaiseEndCall end_view id s.system a empty)
+    ∙ run_sent handler raise_end id way s t (untold (length s.system.cpus.cpus)) a ready run early
+    (fits_first handler raise_end id s.system a empty)
 
 pub empty_new : {R : Type 0} (most : ℕ) (ends : List (R × R)) (s : SystemView R) → s.cpus ≡ new_cpus most ends → s.records ≡ []
     → IsEmpty s

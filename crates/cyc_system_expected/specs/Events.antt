@@ -2,7 +2,7 @@
 use Rattle.std.specs.Prelude.{◌≡◌, ◌≢◌, ℕ, ◌==◌, ◌<◌, ⊤, if◌then◌else◌, List, map, Some, Ok, Err}
 use Rattle.std.specs.List.{slice_get}
 use Rattle.cyc_types.specs.declared.Calls.{Ghosts as Calls}
-use Rattle.cyc_types.specs.Firing.{FiringView, FiringCall}
+use Rattle.cyc_types.specs.declared.Raise.{Ghosts as Raise}
 use Rattle.cyc_types.specs.Series.{never}
 use Rattle.cyc_types.specs.declared.level.Level.{Level}
 use Rattle.cyc_types.specs.declared.moment.When.{When}
@@ -45,10 +45,10 @@ AllAccepted b = (n : ℕ) (e : FireRefused) → slice_get b.answers.items n ≡ 
 
 -- one of a run in which no fire is refused
 abbrev pub AcceptedSteps : {C R : Type 0} → Calls C
-    → (R → FiringCall → R → Type 0) → (R → FiringView) → SystemSide R C → LeadCall → SystemSide R C → Type 0
-AcceptedSteps {C} {R} handler step view s (FireAll now) t = (after : Advanced R C)
-    × AllFire handler step view now s after × AllAccepted after × (t ≡ after.side) × IsSound view t.system
-AcceptedSteps handler step view s call t = LeadSteps handler step view s call t
+    → Raise R → SystemSide R C → LeadCall → SystemSide R C → Type 0
+AcceptedSteps {C} {R} handler firing s (FireAll now) t = (after : Advanced R C)
+    × AllFire handler firing now s after × AllAccepted after × (t ≡ after.side) × IsSound firing.view t.system
+AcceptedSteps handler firing s call t = LeadSteps handler firing s call t
 
 -- an advance stays below never, at which every fire is refused
 abbrev pub IsBeforeNever : LeadCall → Type 0

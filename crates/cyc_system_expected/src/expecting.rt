@@ -25,17 +25,17 @@ use cyc_types::{Calls, Raise};
 pub fn expected_law<C: Calls, R: Raise>()
     ensures expired { (id : ℕ) (level : OneLevel) (when : Times) (now : ℕ) (before : SystemView R) (s t : SystemSide R C)
         (way : List LeadCall)
-        (told : Told) → IsSound R.view before → Changes R.step R.view before (Add level when now (Ok id)) s.system
+        (told : Told) → IsSound R.view before → Changes R.Raise before (Add level when now (Ok id)) s.system
         → IsSound R.view s.system → length s.leads.items ≡ length s.system.cpus.cpus
-        → FoldsTo (AcceptedSteps C.Calls R.step R.view) s way t → All (KeepsIt id) way
+        → FoldsTo (AcceptedSteps C.Calls R.Raise) s way t → All (KeepsIt id) way
         → all_expired id t.system ≡ (told_by (Begins when.start when.interval now ∷ events_in id way) told).expired }
     // Where the removal is done as it begins, its receipt says so.
     ensures receipt { (id : ℕ) (level : OneLevel) (when : Times) (now : ℕ) (before after : SystemView R) (s t : SystemSide R C)
         (way : List LeadCall) (told : Told) (receipt : Receipt) → IsSound R.view before
-        → Changes R.step R.view before (Add level when now (Ok id)) s.system → IsSound R.view s.system
+        → Changes R.Raise before (Add level when now (Ok id)) s.system → IsSound R.view s.system
         → length s.leads.items ≡ length s.system.cpus.cpus
-        → FoldsTo (AcceptedSteps C.Calls R.step R.view) s way t → All (KeepsIt id) way
-        → Changes R.step R.view t.system (BeginRemove id (Ok (Done receipt))) after
+        → FoldsTo (AcceptedSteps C.Calls R.Raise) s way t → All (KeepsIt id) way
+        → Changes R.Raise t.system (BeginRemove id (Ok (Done receipt))) after
         → receipt.sent ≡ (told_by (Begins when.start when.interval now ∷ events_in id way) told).expired }
 {}
 
@@ -47,9 +47,9 @@ pub fn expected_law<C: Calls, R: Raise>()
 pub fn expected_everywhere_law<C: Calls, R: Raise>()
     ensures { (id : ℕ) (level : OneLevel) (when : Times) (skew now : ℕ) (before : SystemView R) (s t : SystemSide R C)
         (way : List LeadCall) (told : Told) → told.online ≡ before.cpus.online → IsSound R.view before
-        → Changes R.step R.view before (AddOmni level when skew now (Ok id)) s.system → IsSound R.view s.system
+        → Changes R.Raise before (AddOmni level when skew now (Ok id)) s.system → IsSound R.view s.system
         → length s.leads.items ≡ length s.system.cpus.cpus
-        → FoldsTo (AcceptedSteps C.Calls R.step R.view) s way t → All (KeepsComponents id) way
+        → FoldsTo (AcceptedSteps C.Calls R.Raise) s way t → All (KeepsComponents id) way
         → all_expired id t.system
         ≡ (told_by (BeginsOnAll (given_everywhere level when skew) now ∷ events_in id way) told).expired }
 {}

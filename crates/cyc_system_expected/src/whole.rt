@@ -3,7 +3,7 @@
 ghost use Rattle.std.specs.Prelude.{◌≡◌, ℕ, All, List, [], length};
 ghost use Rattle.std.specs.List.{FoldsTo};
 ghost use Rattle.cyc_system_rings.specs.RaiseEnd.{RaiseEnd as AnEnd};
-ghost use Rattle.cyc_system_rings.specs.Ends.{end_view, RaiseEndCall};
+ghost use Rattle.cyc_system_rings.specs.Ends.{end_view, raise_end};
 ghost use Rattle.cyc_cpus.specs.Cpus.{new_cpus};
 ghost use Rattle.cyc_expected.specs.Course.{untold, told_by};
 ghost use Rattle.cyc_system_rings.specs.System.{SystemView};
@@ -23,7 +23,7 @@ use cyc_types::Calls;
 /// It does nothing when it runs: its clauses are the law.
 pub fn whole_run_law<C: Calls>()
     ensures expired { (id : ℕ) (s t : SystemSide AnEnd C) (way : List LeadCall)
-        → FoldsTo (AcceptedSteps C.Calls RaiseEndCall end_view) s way t → IsSound end_view s.system
+        → FoldsTo (AcceptedSteps C.Calls raise_end) s way t → IsSound end_view s.system
         → length s.leads.items ≡ length s.system.cpus.cpus → All IsBeforeNever way → IsEmpty s.system
         → (counts_in id way t.system).sent ≡ (told_by (events_in id way) (untold (length s.system.cpus.cpus))).expired }
     // A new system is empty.

@@ -4,7 +4,7 @@ use Rattle.std.specs.List.{slice_get, FoldsTo}
 use mathlib.Core.Logic.{dite}
 use native.Mathlib.Decide.{ℕ_discrete}
 use Rattle.cyc_types.specs.declared.Calls.{Ghosts as Calls}
-use Rattle.cyc_types.specs.Firing.{FiringView, FiringCall}
+use Rattle.cyc_types.specs.declared.Raise.{Ghosts as Raise}
 use Rattle.cyc_types.specs.declared.level.Soft.{Soft}
 use Rattle.cyc_soft.specs.declared.Ran.{Ran}
 use Rattle.cyc_soft.specs.declared.SoftRefused.{SoftRefused}
@@ -27,16 +27,16 @@ use Rattle.cyc_system_laws.specs.Settling.{FiresNot}
 use Rattle.cyc_system_laws.proofs.Pieces.{made_of}
 use Rattle.cyc_system_laws.proofs.Settles.{no_calls}
 
-module _ {R : Type 0} (step : R → FiringCall → R → Type 0) (view : R → FiringView) where
+module _ {R : Type 0} (firing : Raise R) where
   one_settled : (x y : CpuView R) (call : CpuCall) → IsNoFire call
-      → CpuDoes no_calls step view no_interrupts (running tt x) call (running tt y) → y.size ≡ x.size
-      → IsSettled view x → IsSettled view y
+      → CpuDoes no_calls firing no_interrupts (running tt x) call (running tt y) → y.size ≡ x.size
+      → IsSettled firing.view x → IsSettled firing.view y
   one_settled x y call calm d same h =
-      settled_one step view no_calls no_interrupts (λ soft budget answer s t h. absurd h)
+      settled_one firing no_calls no_interrupts (λ soft budget answer s t h. absurd h)
       (λ soft budget answer s t h k. absurd h) (running tt x) (running tt y) call h calm same d
 
-  quiet_settled : (x y : CpuView R) (call : CpuCall) → CpuChanges step view x call y → y.size ≡ x.size → IsSettled view x
-      → IsSettled view y
+  quiet_settled : (x y : CpuView R) (call : CpuCall) → CpuChanges firing x call y → y.size ≡ x.size → IsSettled firing.view x
+      → IsSettled firing.view y
   quiet_settled x y (Fire now answer) d = absurd d
   quiet_settled x y (CpuSoftInterrupt level budget answer) d = absurd d
   quiet_settled x y (CpuAdd own level when now answer) d = one_settled x y (CpuAdd own level when now answer) tt (d, refl)
@@ -56,7 +56,7 @@ module _ {R : Type 0} (step : R → FiringCall → R → Type 0) (view : R → F
   -- one CPU became another: its size is no smaller, and where it is the same a settled CPU stays so
   pub record Calm (x y : CpuView R) : Type 0 where
     pub grows : x.size ≤ y.size
-    pub settled : y.size ≡ x.size → IsSettled view x → IsSettled view y
+    pub settled : y.size ≡ x.size → IsSettled firing.view x → IsSettled firing.view y
 
   abbrev pub Calms : ℕ → CpusView R → CpusView R → Type 0
   Calms n v w = (x : CpuView R) → IsCpu n x v → (y : CpuView R) × IsCpu n y w × Calm x y
@@ -88,43 +88,43 @@ module _ {R : Type 0} (step : R → FiringCall → R → Type 0) (view : R → F
       ))
       (λ ne. (x, cpu_after m n D x v w ne c at, calm_none x))
 
-  pub parts_calm : (n : ℕ) (way : List CpusCall) (v w : CpusView R) → FoldsTo (DoesPart step view) v way w → Calms n v w
+  pub parts_calm : (n : ℕ) (way : List CpusCall) (v w : CpusView R) → FoldsTo (DoesPart firing) v way w → Calms n v w
   parts_calm n [] v w e = calms_same n v w (ap (λ (u : CpusView R). u.cpus) (sym e))
   parts_calm n (OnCpu c ∷ way) v w (u, d, rest) = calms_then n v u w
       (calms_at n c.cpu _ v u d (λ e. record {
         grows =
-            (changes_still step view d.before d.after c.call d.change).grows;
+            (changes_still firing d.before d.after c.call d.change).grows;
         settled = quiet_settled d.before d.after c.call
             d.change;
       })) (parts_calm n way u w rest)
   parts_calm n (SetOnline m online ∷ way) v w (u, e, rest) = calms_then n v u w
       (calms_same n v u (ap (λ (z : CpusView R). z.cpus) e)) (parts_calm n way u w rest)
 
-module _ {C R : Type 0} (handler : Calls C) (step : R → FiringCall → R → Type 0) (view : R → FiringView)
+module _ {C R : Type 0} (handler : Calls C) (firing : Raise R)
     (interrupts : Soft → ℕ → Result Ran SoftRefused → Running C R → Running C R → Type 0)
     (serves : (s t : Running C R) (level : Soft) (budget : ℕ) (answer : Result Ran SoftRefused)
-    → interrupts level budget answer s t → Calm step view s.cpu t.cpu) (n : ℕ) where
+    → interrupts level budget answer s t → Calm firing s.cpu t.cpu) (n : ℕ) where
   abbrev Call : RunningSystem C R → SystemCall → RunningSystem C R → Type 0
-  Call = Does handler step view interrupts
+  Call = Does handler firing interrupts
 
   abbrev Keeps : RunningSystem C R → RunningSystem C R → Type 0
-  Keeps s t = Calms step view n s.system.cpus t.system.cpus
+  Keeps s t = Calms firing n s.system.cpus t.system.cpus
 
-  quietly : (s t : RunningSystem C R) (call : SystemCall) → Changes step view s.system call t.system → Keeps s t
-  quietly s t call d = let m = made_of step view s.system t.system call d in
-      parts_calm step view n m.way s.system.cpus t.system.cpus m.works
+  quietly : (s t : RunningSystem C R) (call : SystemCall) → Changes firing s.system call t.system → Keeps s t
+  quietly s t call d = let m = made_of firing s.system t.system call d in
+      parts_calm firing n m.way s.system.cpus t.system.cpus m.works
 
   call_calms : (s t : RunningSystem C R) (call : SystemCall) → FiresNot n call → Call s call t → Keeps s t
-  call_calms s t (FireOne m now answer) not (inl (e, why, is, same)) = calms_same step view n s.system.cpus t.system.cpus
+  call_calms s t (FireOne m now answer) not (inl (e, why, is, same)) = calms_same firing n s.system.cpus t.system.cpus
       (ap (λ (x : RunningSystem C R). x.system.cpus.cpus) same)
   call_calms s t (FireOne m now answer) not
-      (inr (clear, (runs, records, last))) = calms_at step view n m _ s.system.cpus t.system.cpus runs
+      (inr (clear, (runs, records, last))) = calms_at firing n m _ s.system.cpus t.system.cpus runs
       (λ e. absurd (not (sym e)))
   call_calms s t (SoftInterrupt m level budget answer) not
-      (inl (e, why, is, same)) = calms_same step view n s.system.cpus t.system.cpus
+      (inl (e, why, is, same)) = calms_same firing n s.system.cpus t.system.cpus
       (ap (λ (x : RunningSystem C R). x.system.cpus.cpus) same)
   call_calms s t (SoftInterrupt m level budget answer) not (inr (clear, (own, is, runs, records, last))) =
-      calms_at step view n m _ s.system.cpus t.system.cpus runs
+      calms_at firing n m _ s.system.cpus t.system.cpus runs
       (λ e. serves (running s.calls runs.before) (running t.calls runs.after) level budget own runs.change)
   call_calms s t (Add level when now answer) not d = quietly s t (Add level when now answer) d.0
   call_calms s t (AddOmni level when skew now answer) not d = quietly s t (AddOmni level when skew now answer) d.0
@@ -139,15 +139,15 @@ module _ {C R : Type 0} (handler : Calls C) (step : R → FiringCall → R → T
   call_calms s t (Online m now answer) not d = quietly s t (Online m now answer) d.0
 
   pub run_calms : (s t : RunningSystem C R) (way : List SystemCall) → All (FiresNot n) way → FoldsTo Call s way t → Keeps s t
-  run_calms s t [] not run = calms_same step view n s.system.cpus t.system.cpus
+  run_calms s t [] not run = calms_same firing n s.system.cpus t.system.cpus
       (ap (λ (x : RunningSystem C R). x.system.cpus.cpus) (sym run))
   run_calms s t (call ∷ way) not (u, d, rest) =
-      calms_then step view n s.system.cpus u.system.cpus t.system.cpus (call_calms s u call (not 0 call (omega arith)) d)
+      calms_then firing n s.system.cpus u.system.cpus t.system.cpus (call_calms s u call (not 0 call (omega arith)) d)
       (run_calms u t way (λ k e low. not (suc k) e (omega (arith, low))) rest)
 
   pub run_settled : (x y : CpuView R) (s t : RunningSystem C R) (way : List SystemCall) → IsCpu n x s.system.cpus
-      → IsCpu n y t.system.cpus → IsSettled view x → All (FiresNot n) way → y.size ≡ x.size
-      → FoldsTo Call s way t → IsSettled view y
+      → IsCpu n y t.system.cpus → IsSettled firing.view x → All (FiresNot n) way → y.size ≡ x.size
+      → FoldsTo Call s way t → IsSettled firing.view y
   run_settled x y s t way at there settled not same run =
       let (z, last, calm) = run_calms s t way not run x at in let e = one_cpu n z y t.system.cpus last there in
-      subst (IsSettled view) e (calm.settled (ap (λ (c : CpuView R). c.size) e ∙ same) settled)
+      subst (IsSettled firing.view) e (calm.settled (ap (λ (c : CpuView R). c.size) e ∙ same) settled)

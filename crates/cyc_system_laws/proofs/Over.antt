@@ -6,7 +6,7 @@ use Rattle.std.proofs.lemmas.List.{get_or_default}
 use mathlib.Core.Logic.{dite}
 use native.Mathlib.Decide.{ℕ_discrete}
 use Rattle.cyc_types.specs.declared.Calls.{Ghosts as Calls}
-use Rattle.cyc_types.specs.Firing.{FiringView, FiringCall}
+use Rattle.cyc_types.specs.declared.Raise.{Ghosts as Raise}
 use Rattle.cyc_types.specs.declared.level.Soft.{Soft}
 use Rattle.cyc_types.specs.declared.receipt.Receipt.{Receipt}
 use Rattle.cyc_soft.specs.declared.Ran.{Ran}
@@ -48,11 +48,11 @@ at_one P n D v w c now all m x at =
     (subst (λ k. IsCpu k x (with_cpu v n c.after)) e there)) now)
     (λ ne. all m x (cpu_beside n m x c.after v ne there))
 
-module _ {C R : Type 0} (handler : Calls C) (step : R → FiringCall → R → Type 0) (view : R → FiringView)
+module _ {C R : Type 0} (handler : Calls C) (firing : Raise R)
     (interrupts : Soft → ℕ → Result Ran SoftRefused → Running C R → Running C R → Type 0) (id : ℕ) (P : CpuView R → Type 0)
-    (quiet : (x y : CpuView R) (call : CpuCall) → PutsNot id call → CpuChanges step view x call y → P x → P y)
+    (quiet : (x y : CpuView R) (call : CpuCall) → PutsNot id call → CpuChanges firing x call y → P x → P y)
     (fires : (s t : Running C R) (now : ℕ) (answer : _)
-    → CpuDoes handler step view interrupts s (Fire now answer) t → P s.cpu
+    → CpuDoes handler firing interrupts s (Fire now answer) t → P s.cpu
     → P t.cpu × (handler.count t.calls id ≡ handler.count s.calls id))
     (serves : (s t : Running C R) (level : Soft) (budget : ℕ) (answer : Result Ran SoftRefused)
     → interrupts level budget answer s t → P s.cpu → P t.cpu × (handler.count t.calls id ≡ handler.count s.calls id)) where
@@ -62,20 +62,20 @@ module _ {C R : Type 0} (handler : Calls C) (step : R → FiringCall → R → T
     pub unknown : HasNoRecord id s.records
     pub each : (n : ℕ) → OfCpu n P s.cpus
 
-  part : (p : CpusCall) (v w : CpusView R) → IsWithout id p → DoesPart step view v p w → ((m : ℕ) → OfCpu m P v) → (m : ℕ)
+  part : (p : CpusCall) (v w : CpusView R) → IsWithout id p → DoesPart firing v p w → ((m : ℕ) → OfCpu m P v) → (m : ℕ)
       → OfCpu m P w
   part (OnCpu c) v w puts d all = at_one P c.cpu _ v w d
       (quiet d.before d.after c.call puts d.change (all c.cpu d.before d.here)) all
   part (SetOnline n online) v w puts e all = λ m x at. all m x (ap (λ (u : CpusView R). slice_get u.cpus m) (sym e) ∙ at)
 
-  parts : (way : List CpusCall) (v w : CpusView R) → All (IsWithout id) way → FoldsTo (DoesPart step view) v way w
+  parts : (way : List CpusCall) (v w : CpusView R) → All (IsWithout id) way → FoldsTo (DoesPart firing) v way w
       → ((m : ℕ) → OfCpu m P v) → (m : ℕ) → OfCpu m P w
   parts [] v w not e all = subst (λ (u : CpusView R). (m : ℕ) → OfCpu m P u) e all
   parts (p ∷ way) v w not (u, first, rest) all = parts way u w (λ k d low. not (suc k) d (omega (arith, low))) rest
       (part p v u (not 0 p (omega arith)) first all)
 
-  changes_away : (s t : SystemView R) (call : SystemCall) → Changes step view s call t → Away s → Away t
-  changes_away s t call d a = let m = made_of step view s t call d in record {
+  changes_away : (s t : SystemView R) (call : SystemCall) → Changes firing s call t → Away s → Away t
+  changes_away s t call d a = let m = made_of firing s t call d in record {
     given = (let g = a.given in let l = m.last in omega (arith, g, l));
     unknown = m.unknown id a.given a.unknown;
     each = parts m.way s.cpus t.cpus (m.without id a.given a.unknown) m.works a.each;
@@ -102,11 +102,11 @@ module _ {C R : Type 0} (handler : Calls C) (step : R → FiringCall → R → T
     each = at_one P n D s.system.cpus t.system.cpus c now a.each;
   }
 
-  quietly : (s t : RunningSystem C R) (call : SystemCall) → Changes step view s.system call t.system × (t.calls ≡ s.calls)
+  quietly : (s t : RunningSystem C R) (call : SystemCall) → Changes firing s.system call t.system × (t.calls ≡ s.calls)
       → Away s.system → Stays s t
   quietly s t call (d, same) a = (changes_away s.system t.system call d a, ap (λ (c : C). handler.count c id) same)
 
-  does_away : (s t : RunningSystem C R) (call : SystemCall) → Does handler step view interrupts s call t
+  does_away : (s t : RunningSystem C R) (call : SystemCall) → Does handler firing interrupts s call t
       → Away s.system → Stays s t
   does_away s t (Add level when now answer) d a = quietly s t (Add level when now answer) d a
   does_away s t (AddOmni level when skew now answer) d a = quietly s t (AddOmni level when skew now answer) d a
@@ -131,7 +131,7 @@ module _ {C R : Type 0} (handler : Calls C) (step : R → FiringCall → R → T
       (reached n _ s t runs still records last a, same)
 
   pub run_away : (s t : RunningSystem C R) (way : List SystemCall)
-      → FoldsTo (Does handler step view interrupts) s way t → Away s.system → Stays s t
+      → FoldsTo (Does handler firing interrupts) s way t → Away s.system → Stays s t
   run_away s t [] run a = stays_same s t (sym run) a
   run_away s t (call ∷ way) (u, first, rest) a =
       let (still, same) = does_away s u call first a in let (last, on) = run_away u t way rest still in (last, on ∙ same)
@@ -151,7 +151,7 @@ none_of id (x ∷ rs) e (suc k) d low same = by (x.id == id) refl (λ rest. none
 abbrev AllGiven : {R : Type 0} → SystemView R → Type 0
 AllGiven s = (k : ℕ) (r : Record) → IsRecord s.records k r → r.id ≤ s.last
 
-module _ {R : Type 0} (step : R → FiringCall → R → Type 0) (view : R → FiringView) (id : ℕ) where
+module _ {R : Type 0} (firing : Raise R) (id : ℕ) where
   kept_given : (n : ℕ) (receipt : Receipt) (s t : SystemView R) (k : ℕ) (r : Record) → IsRecord s.records k r
       → t.records ≡ slice_set s.records k (with_ended n (summed (ended_on n r) (counts_of receipt)) r) → t.last ≡ s.last
       → AllGiven s → AllGiven t
@@ -163,11 +163,11 @@ module _ {R : Type 0} (step : R → FiringCall → R → Type 0) (view : R → F
   same_given : (s t : SystemView R) → t.records ≡ s.records → t.last ≡ s.last → AllGiven s → AllGiven t
   same_given s t records last h j q at = let low = h j q (subst (λ rs. IsRecord rs j q) records at) in omega (arith, low, last)
 
-  begins_given : (n : ℕ) (removal : Removal) (s t : SystemView R) → BeginsOn step view id n removal s t → AllGiven s → AllGiven t
+  begins_given : (n : ℕ) (removal : Removal) (s t : SystemView R) → BeginsOn firing id n removal s t → AllGiven s → AllGiven t
   begins_given n (Done receipt) s t (does, k, r, is, named, records, last) h = kept_given n receipt s t k r is records last h
   begins_given n (Kept kept) s t (does, records, last) h = same_given s t records last h
 
-  polls_given : (n : ℕ) (answer : Option Receipt) (s t : SystemView R) → PollsOn step view id n answer s t → AllGiven s
+  polls_given : (n : ℕ) (answer : Option Receipt) (s t : SystemView R) → PollsOn firing id n answer s t → AllGiven s
       → AllGiven t
   polls_given n (Some receipt) s t (does, k, r, is, named, records, last) h = kept_given n receipt s t k r is records last h
   polls_given n None s t (does, records, last) h = same_given s t records last h
@@ -182,19 +182,19 @@ module _ {R : Type 0} (step : R → FiringCall → R → Type 0) (view : R → F
   }
 
   pub begun_over : (receipt : Receipt) (s t : SystemView R) → Agrees s → HasRisingIds s.records
-      → BeginsRemoval step view id (Ok (over.Done receipt)) s t → IsOver id t
+      → BeginsRemoval firing id (Ok (over.Done receipt)) s t → IsOver id t
   begun_over receipt s t agrees rising (inl (e, why, is, same)) = absurd (let odd : Ok (over.Done receipt) ≡ Err e = is in cc)
   begun_over receipt s t agrees rising (inr (clear, (way, u, cpus, each, answers))) = is_over receipt u t answers
-      (folds_keep (λ x (b : Begun) y. BeginsOn step view id b.cpu b.found x y) (λ x y. AllGiven x
+      (folds_keep (λ x (b : Begun) y. BeginsOn firing id b.cpu b.found x y) (λ x y. AllGiven x
       → AllGiven y) (λ x h. h) (λ x y z f g h. g (f h))
       (λ x b y. begins_given b.cpu b.found x y) way s u each agrees.given)
-      (begins_forgotten step view id receipt s t rising (inr (clear, (way, u, cpus, each, answers))))
+      (begins_forgotten firing id receipt s t rising (inr (clear, (way, u, cpus, each, answers))))
 
   pub polled_over : (receipt : Receipt) (s t : SystemView R) → Agrees s → HasRisingIds s.records
-      → PollsRemoval step view id (Ok (Some receipt)) s t → IsOver id t
+      → PollsRemoval firing id (Ok (Some receipt)) s t → IsOver id t
   polled_over receipt s t agrees rising (inl (e, why, is, same)) = absurd (let odd : Ok (Some receipt) ≡ Err e = is in cc)
   polled_over receipt s t agrees rising (inr (clear, (way, u, cpus, each, answers))) = is_over receipt u t answers
-      (folds_keep (λ x (p : Polled) y. PollsOn step view id p.cpu p.answer x y) (λ x y. AllGiven x
+      (folds_keep (λ x (p : Polled) y. PollsOn firing id p.cpu p.answer x y) (λ x y. AllGiven x
       → AllGiven y) (λ x h. h) (λ x y z f g h. g (f h))
       (λ x p y. polls_given p.cpu p.answer x y) way s u each agrees.given)
-      (polls_forgotten step view id receipt s t rising (inr (clear, (way, u, cpus, each, answers))))
+      (polls_forgotten firing id receipt s t rising (inr (clear, (way, u, cpus, each, answers))))

@@ -6,7 +6,7 @@ use Rattle.std.specs.List.{FoldsTo}
 use Rattle.std.proofs.lemmas.Option.{slice_get_within, slice_get-get_or, get_or_from_slice_get}
 use mathlib.Core.Logic.{dite}
 use native.Mathlib.Decide.{ℕ_discrete}
-use Rattle.cyc_types.specs.Firing.{FiringView, FiringCall}
+use Rattle.cyc_types.specs.declared.Raise.{Ghosts as Raise}
 use Rattle.cyc_types.specs.declared.firing.Sent.{Sent}
 use Rattle.cyc_types.specs.declared.level.Level.{Level}
 use Rattle.cyc_types.specs.declared.moment.When.{When}
@@ -160,13 +160,13 @@ all_on P [] ys a b = b
 all_on P (x ∷ xs) ys a b = all_cons P x (xs ++ ys) (a zero x (omega arith))
     (all_on P xs ys (λ j e less. a (suc j) e (omega (arith, less))) b)
 
-module _ {R : Type 0} (step : R → FiringCall → R → Type 0) (view : R → FiringView) where
-  pub parts_of : (way : List CallOn) (v w : CpusView R) → Works step view way v w
-      → FoldsTo (DoesPart step view) v (map OnCpu way) w
+module _ {R : Type 0} (firing : Raise R) where
+  pub parts_of : (way : List CallOn) (v w : CpusView R) → Works firing way v w
+      → FoldsTo (DoesPart firing) v (map OnCpu way) w
   parts_of [] v w last = last
   parts_of (c ∷ way) v w (u, does, rest) = (u, does, parts_of way u w rest)
 
-  pub made_none : (s : SystemView R) → IsMadeOf step view s s
+  pub made_none : (s : SystemView R) → IsMadeOf firing s s
   made_none s = record {
     way = [];
     works = refl;
@@ -176,13 +176,13 @@ module _ {R : Type 0} (step : R → FiringCall → R → Type 0) (view : R → F
     last = omega arith;
   }
 
-  made_same : (s t : SystemView R) → t ≡ s → IsMadeOf step view s t
-  made_same s t e = subst (λ x. IsMadeOf step view s x) (sym e) (made_none s)
+  made_same : (s t : SystemView R) → t ≡ s → IsMadeOf firing s t
+  made_same s t e = subst (λ x. IsMadeOf firing s x) (sym e) (made_none s)
 
-  pub made_then : (s t u : SystemView R) → IsMadeOf step view s t → IsMadeOf step view t u → IsMadeOf step view s u
+  pub made_then : (s t u : SystemView R) → IsMadeOf firing s t → IsMadeOf firing t u → IsMadeOf firing s u
   made_then s t u a b = record {
     way = a.way ++ b.way;
-    works = folds_on (DoesPart step view) s.cpus a.way t.cpus b.way u.cpus a.works b.works;
+    works = folds_on (DoesPart firing) s.cpus a.way t.cpus b.way u.cpus a.works b.works;
     without = λ id low none. all_on (IsWithout id) a.way b.way (a.without id low none)
         (b.without id (let l = a.last in omega (arith, l, low)) (a.unknown id low none));
     unknown = λ id low none. b.unknown id (let l = a.last in omega (arith, l, low)) (a.unknown id low none);
@@ -190,9 +190,9 @@ module _ {R : Type 0} (step : R → FiringCall → R → Type 0) (view : R → F
   }
 
   -- calls on the CPUs, and a change of the records
-  made_calls : (s t : SystemView R) (way : List CallOn) → Works step view way s.cpus t.cpus → s.last ≤ t.last
+  made_calls : (s t : SystemView R) (way : List CallOn) → Works firing way s.cpus t.cpus → s.last ≤ t.last
       → ((id : ℕ) → id ≤ s.last → Unnamed id s.records → Outs id way)
-      → ((id : ℕ) → id ≤ s.last → Unnamed id s.records → Unnamed id t.records) → IsMadeOf step view s t
+      → ((id : ℕ) → id ≤ s.last → Unnamed id s.records → Unnamed id t.records) → IsMadeOf firing s t
   made_calls s t way works last outs none = record {
     way = map OnCpu way;
     works = parts_of way s.cpus t.cpus works;
@@ -209,8 +209,8 @@ module _ {R : Type 0} (step : R → FiringCall → R → Type 0) (view : R → F
   same_records s t e id low none = subst (λ rs. Unnamed id rs) (sym e) none
 
   -- nothing but calls, none of which puts in anything
-  made_only : (s t : SystemView R) (way : List CallOn) → ((id : ℕ) → Outs id way) → OnlyWorks step view way s t
-      → IsMadeOf step view s t
+  made_only : (s t : SystemView R) (way : List CallOn) → ((id : ℕ) → Outs id way) → OnlyWorks firing way s t
+      → IsMadeOf firing s t
   made_only s t way outs (works, records, last) =
       made_calls s t way works (same_low s.last t.last last) (λ id low none. outs id) (same_records s t records)
 
@@ -229,8 +229,8 @@ module _ {R : Type 0} (step : R → FiringCall → R → Type 0) (view : R → F
   last_of own place s t (k, r, here, named, records, last) = same_low s.last t.last last
 
   made_goes : (own home target : ℕ) (place : Placement) (s t : SystemView R)
-      → GoesTo step view own home target (Ok tt) s.cpus t.cpus
-      → Records own place s t → IsMadeOf step view s t
+      → GoesTo firing own home target (Ok tt) s.cpus t.cpus
+      → Records own place s t → IsMadeOf firing s t
   made_goes own home target place s t (inl (at, is, same)) records =
       made_calls s t [] (sym same) (last_of own place s t records) (λ id low none. tt) (placed_records own place s t records)
   made_goes own home target place s t (inr (ne, (taken, works))) records =
@@ -239,8 +239,8 @@ module _ {R : Type 0} (step : R → FiringCall → R → Type 0) (view : R → F
       (placed_records own place s t records)
 
   made_unshifted : (own source target : ℕ) (e : Refusal) (s t : SystemView R)
-      → WhyNotShifted step view own source target e s.cpus t.cpus → t.records ≡ s.records → t.last ≡ s.last
-      → IsMadeOf step view s t
+      → WhyNotShifted firing own source target e s.cpus t.cpus → t.records ≡ s.records → t.last ≡ s.last
+      → IsMadeOf firing s t
   made_unshifted own source target e s t (inl (removed, is_open, is, same)) records last =
       made_only s t [] (λ id. tt) (sym same, records, last)
   made_unshifted own source target e s t (inr (inl (still, n, some, is, works))) records last =
@@ -249,13 +249,13 @@ module _ {R : Type 0} (step : R → FiringCall → R → Type 0) (view : R → F
       made_only s t (on source (AskPending own (Some 0)) ∷ on target (Reserve 1 (Err e)) ∷ []) (λ id. (tt, (tt, tt)))
       (works, records, last)
 
-  made_stays : (own home target : ℕ) (e : Refusal) (s t : SystemView R) → GoesTo step view own home target (Err e) s.cpus t.cpus
-      → t.records ≡ s.records → t.last ≡ s.last → IsMadeOf step view s t
+  made_stays : (own home target : ℕ) (e : Refusal) (s t : SystemView R) → GoesTo firing own home target (Err e) s.cpus t.cpus
+      → t.records ≡ s.records → t.last ≡ s.last → IsMadeOf firing s t
   made_stays own home target e s t (inl (at, is, same)) records last = made_only s t [] (λ id. tt) (sym same, records, last)
   made_stays own home target e s t (inr (ne, why)) records last = made_unshifted own home target e s t why records last
 
   made_adds : (s t : SystemView R) (level : Level) (when : When) (now : ℕ) (answer : Result ℕ Refusal)
-      → Adds step view level when now answer s t → IsMadeOf step view s t
+      → Adds firing level when now answer s t → IsMadeOf firing s t
   made_adds s t level when now (Ok own) (d, chosen, next, works, records, last) = made_calls s t
       (on d (Reserve 1 (Ok tt)) ∷ entering d own level when.interval (first when.start when.interval now)) works
       (omega (arith, next, last))
@@ -271,8 +271,8 @@ module _ {R : Type 0} (step : R → FiringCall → R → Type 0) (view : R → F
   with_cpus s v = record s { cpus = v }
 
   made_reserved : (more : ℕ) (answer : Result (Unit {0}) Refusal) (s t : SystemView R)
-      → ReservesEach step view more answer s.cpus t.cpus → t.records ≡ s.records → t.last ≡ s.last
-      → IsMadeOf step view s t
+      → ReservesEach firing more answer s.cpus t.cpus → t.records ≡ s.records → t.last ≡ s.last
+      → IsMadeOf firing s t
   made_reserved more (Ok done) s t (v, asks, takes) records last = made_then s (with_cpus s v) t
       (made_only s (with_cpus s v) (rooms more (online_cpus s.cpus)) (λ id. outs_rooms id more (online_cpus s.cpus))
       (asks, refl, refl))
@@ -290,7 +290,7 @@ module _ {R : Type 0} (step : R → FiringCall → R → Type 0) (view : R → F
       (works, records, last))
 
   made_omni : (s t : SystemView R) (level : Level) (when : When) (skew now : ℕ) (answer : Result ℕ Refusal)
-      → AddsOmni step view level when skew now answer s t → IsMadeOf step view s t
+      → AddsOmni firing level when skew now answer s t → IsMadeOf firing s t
   made_omni s t level when skew now (Ok own) (next, (v, reserved, works), records, last) = made_then s (with_cpus s v) t
       (made_reserved 1 (Ok tt) s (with_cpus s v) reserved refl refl)
       (made_calls (with_cpus s v) t (entering_each (online_cpus s.cpus) own level when skew now) works (omega (arith, next, last))
@@ -302,13 +302,13 @@ module _ {R : Type 0} (step : R → FiringCall → R → Type 0) (view : R → F
   made_omni s t level when skew now (Err e) (inr (is, reserved), records, last) =
       made_reserved 1 (Ok tt) s t reserved records last
 
-  made_binds : (id n : ℕ) (answer : Result (Unit {0}) Refusal) (s t : SystemView R) → Binds step view id n answer s t
-      → IsMadeOf step view s t
+  made_binds : (id n : ℕ) (answer : Result (Unit {0}) Refusal) (s t : SystemView R) → Binds firing id n answer s t
+      → IsMadeOf firing s t
   made_binds id n (Ok done) s t (home, has, goes, records) = made_goes id home n (stands.On n true) s t goes records
   made_binds id n (Err e) s t (home, has, goes, records, last) = made_stays id home n e s t goes records last
 
   made_unbinds : (id : ℕ) (answer : Result (Unit {0}) Refusal) (s t : SystemView R) → Unbinds id answer s t
-      → IsMadeOf step view s t
+      → IsMadeOf firing s t
   made_unbinds id answer s t (is, n, home, cpus, records) =
       made_calls s t [] (sym cpus) (last_of id (stands.On n false) s t records) (λ q low none. tt)
       (placed_records id (stands.On n false) s t records)
@@ -316,63 +316,63 @@ module _ {R : Type 0} (step : R → FiringCall → R → Type 0) (view : R → F
   -- ---- removals
 
   made_ended : (n : ℕ) (call : CpuCall) (k : ℕ) (r x : Record) (s t : SystemView R) → ((id : ℕ) → PutsNot id call)
-      → DoesAt step view s.cpus (on n call) t.cpus
-      → IsRecord s.records k r → x.id ≡ r.id → t.records ≡ slice_set s.records k x → t.last ≡ s.last → IsMadeOf step view s t
+      → DoesAt firing s.cpus (on n call) t.cpus
+      → IsRecord s.records k r → x.id ≡ r.id → t.records ≡ slice_set s.records k x → t.last ≡ s.last → IsMadeOf firing s t
   made_ended n call k r x s t outs does here same records last =
       made_calls s t (on n call ∷ []) (t.cpus, does, refl) (same_low s.last t.last last)
       (λ id low none. (outs id, tt)) (λ id low none. subst (λ rs. Unnamed id rs) (sym records)
       (unnamed_set id s.records k r x none here same))
 
-  begins_on : (id n : ℕ) (found : Removal) (s t : SystemView R) → BeginsOn step view id n found s t → IsMadeOf step view s t
+  begins_on : (id n : ℕ) (found : Removal) (s t : SystemView R) → BeginsOn firing id n found s t → IsMadeOf firing s t
   begins_on id n (Done receipt) s t (does, k, r, here, named, records, last) =
       made_ended n (CpuBegin id (Ok (Done receipt))) k r _ s t (λ q. tt) does here refl records last
   begins_on id n (Kept kept) s t (does, records, last) =
       made_only s t (on n (CpuBegin id (Ok (Kept kept))) ∷ []) (λ q. (tt, tt)) ((t.cpus, does, refl), records, last)
 
-  begins_each : (id : ℕ) (way : List Begun) (s t : SystemView R) → BeginsEach step view id way s t → IsMadeOf step view s t
+  begins_each : (id : ℕ) (way : List Begun) (s t : SystemView R) → BeginsEach firing id way s t → IsMadeOf firing s t
   begins_each id [] s t e = made_same s t (sym e)
   begins_each id (b ∷ way) s t (u, first, rest) =
       made_then s u t (begins_on id b.cpu b.found s u first) (begins_each id way u t rest)
 
-  answers : (id : ℕ) (receipt : Receipt) (s t : SystemView R) → Answers id receipt s t → IsMadeOf step view s t
+  answers : (id : ℕ) (receipt : Receipt) (s t : SystemView R) → Answers id receipt s t → IsMadeOf firing s t
   answers id receipt s t a = made_calls s t [] (sym a.cpus) (same_low s.last t.last a.last) (λ q low none. tt)
       (λ q low none. subst (λ rs. Unnamed q rs) (sym a.records) (unnamed_remove q s.records a.place none))
 
-  begins : (id : ℕ) (answer : Result SystemRemoval Refusal) (s t : SystemView R) → Removes step view id answer s t
-      → IsMadeOf step view s t
+  begins : (id : ℕ) (answer : Result SystemRemoval Refusal) (s t : SystemView R) → Removes firing id answer s t
+      → IsMadeOf firing s t
   begins id (Ok (over.Done receipt)) s t (way, u, cpus, each, done) =
       made_then s u t (begins_each id way s u each) (answers id receipt u t done)
   begins id (Ok (over.Kept kept)) s t (way, cpus, each, some, sum) = begins_each id way s t each
   begins id (Err e) s t d = absurd d
 
-  polls_on : (id n : ℕ) (answer : Option Receipt) (s t : SystemView R) → PollsOn step view id n answer s t
-      → IsMadeOf step view s t
+  polls_on : (id n : ℕ) (answer : Option Receipt) (s t : SystemView R) → PollsOn firing id n answer s t
+      → IsMadeOf firing s t
   polls_on id n (Some receipt) s t (does, k, r, here, named, records, last) =
       made_ended n (CpuPoll (Some receipt)) k r _ s t (λ q. tt) does here refl records last
   polls_on id n None s t (does, records, last) =
       made_only s t (on n (CpuPoll None) ∷ []) (λ q. (tt, tt)) ((t.cpus, does, refl), records, last)
 
-  polls_each : (id : ℕ) (way : List Polled) (s t : SystemView R) → PollsEach step view id way s t → IsMadeOf step view s t
+  polls_each : (id : ℕ) (way : List Polled) (s t : SystemView R) → PollsEach firing id way s t → IsMadeOf firing s t
   polls_each id [] s t e = made_same s t (sym e)
   polls_each id (p ∷ way) s t (u, first, rest) =
       made_then s u t (polls_on id p.cpu p.answer s u first) (polls_each id way u t rest)
 
-  polls : (id : ℕ) (answer : Result (Option Receipt) Refusal) (s t : SystemView R) → Polls step view id answer s t
-      → IsMadeOf step view s t
+  polls : (id : ℕ) (answer : Result (Option Receipt) Refusal) (s t : SystemView R) → Polls firing id answer s t
+      → IsMadeOf firing s t
   polls id (Ok (Some receipt)) s t (way, u, cpus, each, done) =
       made_then s u t (polls_each id way s u each) (answers id receipt u t done)
   polls id (Ok None) s t (way, cpus, each, some) = polls_each id way s t each
   polls id (Err e) s t d = absurd d
 
-  totals : (id : ℕ) (answer : Option SystemTotals) (s t : SystemView R) → AsksTotals step view id answer s t
-      → IsMadeOf step view s t
+  totals : (id : ℕ) (answer : Option SystemTotals) (s t : SystemView R) → AsksTotals firing id answer s t
+      → IsMadeOf firing s t
   totals id (Some found) s t (way, r, known, cpus, only, adds_up) =
       made_only s t (map (asked id) way) (λ q. outs_asked q id way) only
   totals id None s t (unknown, same) = made_same s t same
 
   -- ---- juggle and offline
 
-  turns_one : (n id : ℕ) (turn : Turn) (s t : SystemView R) → TakesTurn step view n id turn s t → IsMadeOf step view s t
+  turns_one : (n id : ℕ) (turn : Turn) (s t : SystemView R) → TakesTurn firing n id turn s t → IsMadeOf firing s t
   turns_one n id StaysBound s t (place, same) = made_same s t same
   turns_one n id StaysPending s t (place, found, some, only) =
       made_only s t (on n (AskPending id (Some found)) ∷ []) (λ q. (tt, tt)) only
@@ -383,13 +383,13 @@ module _ {R : Type 0} (step : R → FiringCall → R → Type 0) (view : R → F
       (λ q low none. (tt, (tt, (tt, (tt, (named_not id (stands.On d false) s t records q none, tt))))))
       (placed_records id (stands.On d false) s t records)
 
-  turns : (n : ℕ) (ids : List ℕ) (report : JuggleReport) (s t : SystemView R) → Turns step view n ids report s t
-      → IsMadeOf step view s t
+  turns : (n : ℕ) (ids : List ℕ) (report : JuggleReport) (s t : SystemView R) → Turns firing n ids report s t
+      → IsMadeOf firing s t
   turns n [] report s t (none, same) = made_same s t same
   turns n (id ∷ ids) report s t (turn, u, rest, first, counted, more) =
       made_then s u t (turns_one n id turn s u first) (turns n ids rest u t more)
 
-  retires : (n : ℕ) (ids : List ℕ) (s t : SystemView R) → FoldsTo (Retires step view n) s ids t → IsMadeOf step view s t
+  retires : (n : ℕ) (ids : List ℕ) (s t : SystemView R) → FoldsTo (Retires firing n) s ids t → IsMadeOf firing s t
   retires n [] s t e = made_same s t (sym e)
   retires n (id ∷ ids) s t (u, (taken, does, k, r, here, named, records, last), rest) =
       made_then s u t (made_ended n (TakeNow id (Ok taken)) k r _ s u (λ q. tt) does here refl records last)
@@ -397,7 +397,7 @@ module _ {R : Type 0} (step : R → FiringCall → R → Type 0) (view : R → F
 
   made_switched : (n : ℕ) (online : Bool) (s t : SystemView R)
       → t.cpus ≡ record s.cpus { online = slice_set s.cpus.online n online } → t.records ≡ s.records → t.last ≡ s.last
-      → IsMadeOf step view s t
+      → IsMadeOf firing s t
   made_switched n online s t cpus records last = record {
     way = SetOnline n online ∷ [];
     works = (t.cpus, cpus, refl);
@@ -407,7 +407,7 @@ module _ {R : Type 0} (step : R → FiringCall → R → Type 0) (view : R → F
   }
 
   leaves : (n : ℕ) (report : JuggleReport) (answer : Result (Unit {0}) Refusal) (s t : SystemView R)
-      → Leaves step view n report answer s t → IsMadeOf step view s t
+      → Leaves firing n report answer s t → IsMadeOf firing s t
   leaves n report answer s t (inl (left, is, same)) = made_same s t same
   leaves n report answer s t (inr (inl (none, is, (before, id, after, found, some, only)))) =
       made_only s t (quiet n before ++ on n (AskPending id (Some found)) ∷ [])
@@ -425,8 +425,8 @@ module _ {R : Type 0} (step : R → FiringCall → R → Type 0) (view : R → F
       by true = refl
       by false = refl
 
-  made_returns : (n now : ℕ) (answer : Result (Unit {0}) Refusal) (s t : SystemView R) → GoesOnline step view n now answer s t
-      → IsMadeOf step view s t
+  made_returns : (n now : ℕ) (answer : Result (Unit {0}) Refusal) (s t : SystemView R) → GoesOnline firing n now answer s t
+      → IsMadeOf firing s t
   made_returns n now (Ok done) s t ((w, works, switched), records, last) =
       made_then s (record { cpus = w; records = t.records; last = t.last }) t
       (made_calls s (record { cpus = w; records = t.records; last = t.last })
@@ -442,12 +442,12 @@ module _ {R : Type 0} (step : R → FiringCall → R → Type 0) (view : R → F
   -- ---- any call
 
   refused_or : {A : Type 0} (o : Option Refusal) (refused : Refusal → A) (answer : A) (s t : SystemView R) (G : Type 0)
-      → ((e : Refusal) × (o ≡ Some e) × (answer ≡ refused e) × (t ≡ s)) ⊎ ((o ≡ None) × G) → (G → IsMadeOf step view s t)
-      → IsMadeOf step view s t
+      → ((e : Refusal) × (o ≡ Some e) × (answer ≡ refused e) × (t ≡ s)) ⊎ ((o ≡ None) × G) → (G → IsMadeOf firing s t)
+      → IsMadeOf firing s t
   refused_or o refused answer s t G (inl (e, why, is, same)) goes = made_same s t same
   refused_or o refused answer s t G (inr (clear, g)) goes = goes g
 
-  pub made_of : (s t : SystemView R) (call : SystemCall) → Changes step view s call t → IsMadeOf step view s t
+  pub made_of : (s t : SystemView R) (call : SystemCall) → Changes firing s call t → IsMadeOf firing s t
   made_of s t (Add level when now answer) d = refused_or _ _ answer s t _ d (λ g. made_adds s t level when now answer g)
   made_of s t (AddOmni level when skew now answer) d =
       refused_or _ _ answer s t _ d (λ g. made_omni s t level when skew now answer g)

@@ -9,7 +9,7 @@ use Rattle.std.proofs.lemmas.List.{length-set}
 use mathlib.Core.Logic.{dite}
 use native.Mathlib.Decide.{ℕ_discrete}
 use Rattle.cyc_types.specs.declared.Calls.{Ghosts as Calls}
-use Rattle.cyc_types.specs.Firing.{FiringView, FiringCall}
+use Rattle.cyc_types.specs.declared.Raise.{Ghosts as Raise}
 use Rattle.cyc_types.specs.declared.refusal.JuggleReport.{JuggleReport}
 use Rattle.cyc_types.specs.declared.refusal.Refusal.{Refusal}
 use Rattle.cyc_types.specs.declared.refusal.Refusal.TheVariants as why
@@ -38,10 +38,10 @@ use Rattle.cyc_system.specs.Calls.{SystemCall, Changes, Add, AddOmni, Bind, Begi
 use Rattle.cyc_system_laws.specs.Settling.{IsRefusedUntil, IsAmong, Asks}
 
 -- the number of CPUs stays
-pub as_many : {R : Type 0} (step : R → FiringCall → R → Type 0) (view : R → FiringView) (way : List CallOn) (v w : CpusView R)
-    → Works step view way v w → length w.cpus ≡ length v.cpus
-as_many step view [] v w run = ap (λ (u : CpusView _). length u.cpus) (sym run)
-as_many step view (c ∷ way) v w (u, d, rest) = as_many step view way u w rest ∙ ap (λ (z : CpusView _). length z.cpus) d.rest
+pub as_many : {R : Type 0} (firing : Raise R) (way : List CallOn) (v w : CpusView R)
+    → Works firing way v w → length w.cpus ≡ length v.cpus
+as_many firing [] v w run = ap (λ (u : CpusView _). length u.cpus) (sym run)
+as_many firing (c ∷ way) v w (u, d, rest) = as_many firing way u w rest ∙ ap (λ (z : CpusView _). length z.cpus) d.rest
     ∙ length-set v.cpus c.cpu d.after
 
 -- ---- refusals
@@ -72,20 +72,19 @@ none_until (o ∷ whys) e p h until = by (first_of o whys e h) (none_until whys 
 pub err_same : {A : Type 0} {x y : Refusal} → ◌≡◌ {A = Result A Refusal} (Err x) (Err y) → x ≡ y
 err_same {A = A} {x = x} {y = y} e = cc
 
-works_split : {R : Type 0} (step : R → FiringCall → R → Type 0) (view : R
-    → FiringView) (xs ys : List CallOn) (v w : CpusView R) → Works step view (xs ++ ys) v w
-    → (u : CpusView R) × Works step view xs v u × Works step view ys u w
-works_split step view [] ys v w run = (v, refl, run)
-works_split step view (x ∷ xs) ys v w (u, d, rest) = let (m, a, b) = works_split step view xs ys u w rest in (m, (u, d, a), b)
+works_split : {R : Type 0} (firing : Raise R) (xs ys : List CallOn) (v w : CpusView R) → Works firing (xs ++ ys) v w
+    → (u : CpusView R) × Works firing xs v u × Works firing ys u w
+works_split firing [] ys v w run = (v, refl, run)
+works_split firing (x ∷ xs) ys v w (u, d, rest) = let (m, a, b) = works_split firing xs ys u w rest in (m, (u, d, a), b)
 
 -- no handler is called
 abbrev pub no_calls : Calls (Unit {0})
 no_calls = record { count = λ a n. 0; called = λ a n level b. ⊥; may_refuse = λ a n. ⊥ }
 
-module _ {R : Type 0} (step : R → FiringCall → R → Type 0) (view : R → FiringView) where
+module _ {R : Type 0} (firing : Raise R) where
   -- a CPU of this number is there, and has not settled
   abbrev pub NotSettled : ℕ → CpusView R → Type 0
-  NotSettled n v = (cpu : CpuView R) × IsCpu n cpu v × (IsSettled view cpu → ⊥)
+  NotSettled n v = (cpu : CpuView R) × IsCpu n cpu v × (IsSettled firing.view cpu → ⊥)
 
   -- a CPU with a removal open
   busy_there : (n : ℕ) (v : CpusView R) (e : Refusal) → busy (removal_on n v) ≡ Some e → NotSettled n v
@@ -105,50 +104,51 @@ module _ {R : Type 0} (step : R → FiringCall → R → Type 0) (view : R → F
       )
 
   -- a CPU on which a call was refused until something is done first
-  pub refused_here : (n more : ℕ) (e : Refusal) (x y : CpuView R) → CpuChanges step view x (Reserve more (Err e)) y → IsUntil e
-      → IsSettled view x → ⊥
+  pub refused_here : (n more : ℕ) (e : Refusal) (x y : CpuView R) → CpuChanges firing x (Reserve more (Err e)) y → IsUntil e
+      → IsSettled firing.view x → ⊥
   refused_here n more e x y d until settled =
-      never_put_off step view no_calls no_interrupts (λ soft budget answer s t h. absurd h)
+      never_put_off firing no_calls no_interrupts (λ soft budget answer s t h. absurd h)
       (λ soft budget answer s t h k. absurd h)
       (running tt x) (running tt y) (Reserve more (Err e)) settled (d, refl) until
 
-  no_room_here : (n more : ℕ) (e : Refusal) (x y : CpuView R) → CpuChanges step view x (AskRoom more (Err e)) y → IsUntil e
-      → IsSettled view x → ⊥
+  no_room_here : (n more : ℕ) (e : Refusal) (x y : CpuView R) → CpuChanges firing x (AskRoom more (Err e)) y → IsUntil e
+      → IsSettled firing.view x → ⊥
   no_room_here n more e x y d until settled =
-      never_put_off step view no_calls no_interrupts (λ soft budget answer s t h. absurd h)
+      never_put_off firing no_calls no_interrupts (λ soft budget answer s t h. absurd h)
       (λ soft budget answer s t h k. absurd h)
       (running tt x) (running tt y) (AskRoom more (Err e)) settled (d, refl) until
 
-  pub asks_settled : (own : ℕ) (answer : Option ℕ) (x y : CpuView R) → CpuChanges step view x (AskPending own answer) y
-      → IsSettled view x → IsSettled view y
+  pub asks_settled : (own : ℕ) (answer : Option ℕ) (x y : CpuView R) → CpuChanges firing x (AskPending own answer) y
+      → IsSettled firing.view x → IsSettled firing.view y
   asks_settled own (Some k) x y d settled =
-      settled_one step view no_calls no_interrupts (λ soft budget answer s t h. absurd h)
+      settled_one firing no_calls no_interrupts (λ soft budget answer s t h. absurd h)
       (λ soft budget answer s t h k. absurd h)
       (running tt x) (running tt y) (AskPending own (Some k)) settled tt d.0.kept.size (d, refl)
-  asks_settled own None x y d settled = subst (IsSettled view) (sym d.1) settled
+  asks_settled own None x y d settled = subst (IsSettled firing.view) (sym d.1) settled
 
-  pub pending_here : (own k : ℕ) (x y : CpuView R) → CpuChanges step view x (AskPending own (Some k)) y → 0 < k
-      → IsSettled view x → ⊥
+  pub pending_here : (own k : ℕ) (x y : CpuView R) → CpuChanges firing x (AskPending own (Some k)) y → 0 < k
+      → IsSettled firing.view x → ⊥
   pending_here own k x y d some settled = let none = (asks_settled own (Some k) x y d settled).seen own in let is = d.1 in
       omega (arith, none, is, some)
 
-  rooms_settled : (more : ℕ) (x y : CpuView R) → CpuChanges step view x (AskRoom more (Ok tt)) y → IsSettled view x
-      → IsSettled view y
+  rooms_settled : (more : ℕ) (x y : CpuView R) → CpuChanges firing x (AskRoom more (Ok tt)) y → IsSettled firing.view x
+      → IsSettled firing.view y
   rooms_settled more x y d settled =
-      settled_one step view no_calls no_interrupts (λ soft budget answer s t h. absurd h)
+      settled_one firing no_calls no_interrupts (λ soft budget answer s t h. absurd h)
       (λ soft budget answer s t h k. absurd h)
       (running tt x) (running tt y) (AskRoom more (Ok tt)) settled tt d.0.kept.size (d, refl)
 
-  takes_settled : (own : ℕ) (taken : _) (x y : CpuView R) → CpuChanges step view x (TakeNow own (Ok taken)) y
-      → IsSettled view x → IsSettled view y
+  takes_settled : (own : ℕ) (taken : _) (x y : CpuView R) → CpuChanges firing x (TakeNow own (Ok taken)) y
+      → IsSettled firing.view x → IsSettled firing.view y
   takes_settled own taken x y d settled =
-      settled_one step view no_calls no_interrupts (λ soft budget answer s t h. absurd h)
+      settled_one firing no_calls no_interrupts (λ soft budget answer s t h. absurd h)
       (λ soft budget answer s t h k. absurd h)
       (running tt x) (running tt y) (TakeNow own (Ok taken)) settled tt d.1.4.size (d, refl)
 
   -- a CPU that is there is there afterwards, and settled if it was
   abbrev pub Rests : ℕ → CpusView R → CpusView R → Type 0
-  Rests n v w = (x : CpuView R) → IsCpu n x v → (y : CpuView R) × IsCpu n y w × (IsSettled view x → IsSettled view y)
+  Rests n v w = (x : CpuView R) → IsCpu n x v → (y : CpuView R) × IsCpu n y w
+      × (IsSettled firing.view x → IsSettled firing.view y)
 
   pub rests_same : (n : ℕ) (v w : CpusView R) → w ≡ v → Rests n v w
   rests_same n v w e x at = (x, subst (λ u. IsCpu n x u) (sym e) at, λ h. h)
@@ -157,28 +157,28 @@ module _ {R : Type 0} (step : R → FiringCall → R → Type 0) (view : R → F
   rests_then n u v w a b x at = (let (y, there, f) = a x at in let (z, last, g) = b y there in (z, last, λ h. g (f h)))
 
   pub rests_at : (n m : ℕ) (D : CpuView R → CpuView R → Type 0) (v w : CpusView R) (c : ChangesAt m D v w)
-      → (n ≡ m → IsSettled view c.before → IsSettled view c.after) → Rests n v w
+      → (n ≡ m → IsSettled firing.view c.before → IsSettled firing.view c.after) → Rests n v w
   rests_at n m D v w c keeps x at = dite (ℕ_discrete n m)
       (λ e. (
         c.after,
         subst (λ k. IsCpu k c.after w) (sym e)
             (subst (λ u. IsCpu m c.after u) (sym c.rest) (cpu_there m c.before c.after v c.here)),
-        λ h. keeps e (subst (IsSettled view) (sym (one_cpu m c.before x v c.here (subst (λ k. IsCpu k x v) e at))) h),
+        λ h. keeps e (subst (IsSettled firing.view) (sym (one_cpu m c.before x v c.here (subst (λ k. IsCpu k x v) e at))) h),
       ))
       (λ ne. (x, cpu_after m n D x v w ne c at, λ h. h))
 
-  rooms_rest : (n more : ℕ) (ns : List ℕ) (v w : CpusView R) → Works step view (rooms more ns) v w → Rests n v w
+  rooms_rest : (n more : ℕ) (ns : List ℕ) (v w : CpusView R) → Works firing (rooms more ns) v w → Rests n v w
   rooms_rest n more [] v w run = rests_same n v w (sym run)
   rooms_rest n more (m ∷ ns) v w (u, d, rest) = rests_then n v u w
       (rests_at n m _ v u d (λ e. rooms_settled more d.before d.after d.change)) (rooms_rest n more ns u w rest)
 
-  quiet_rest : (n m : ℕ) (ids : List ℕ) (v w : CpusView R) → Works step view (quiet m ids) v w → Rests n v w
+  quiet_rest : (n m : ℕ) (ids : List ℕ) (v w : CpusView R) → Works firing (quiet m ids) v w → Rests n v w
   quiet_rest n m [] v w run = rests_same n v w (sym run)
   quiet_rest n m (own ∷ ids) v w (u, d, rest) = rests_then n v u w
       (rests_at n m _ v u d (λ e. asks_settled own (Some 0) d.before d.after d.change)) (quiet_rest n m ids u w rest)
 
   -- a turn leaves its source settled
-  pub turn_rests : (n own : ℕ) (turn : Turn) (s t : SystemView R) → TakesTurn step view n own turn s t → Rests n s.cpus t.cpus
+  pub turn_rests : (n own : ℕ) (turn : Turn) (s t : SystemView R) → TakesTurn firing n own turn s t → Rests n s.cpus t.cpus
   turn_rests n own StaysBound s t (place, same) = rests_same n s.cpus t.cpus (ap (λ (u : SystemView R). u.cpus) same)
   turn_rests n own StaysPending s t (place, found, some, ((u, d, last), records, l)) =
       rests_then n s.cpus u t.cpus (rests_at n n _ s.cpus u d (λ e. asks_settled own (Some found) d.before d.after d.change))
@@ -195,24 +195,24 @@ module _ {R : Type 0} (step : R → FiringCall → R → Type 0) (view : R → F
       (rests_then n u3 u4 t.cpus (rests_at n d _ u3 u4 p (λ q. absurd (apart q)))
       (rests_then n u4 u5 t.cpus (rests_at n d _ u4 u5 q (λ k. absurd (apart k))) (rests_same n u5 t.cpus (sym last))))))
 
-  turns_rest : (n : ℕ) (ids : List ℕ) (report : JuggleReport) (s t : SystemView R) → Turns step view n ids report s t
+  turns_rest : (n : ℕ) (ids : List ℕ) (report : JuggleReport) (s t : SystemView R) → Turns firing n ids report s t
       → Rests n s.cpus t.cpus
   turns_rest n [] report s t (none, same) = rests_same n s.cpus t.cpus (ap (λ (u : SystemView R). u.cpus) same)
   turns_rest n (own ∷ ids) report s t (turn, u, rest, first, counted, more) = rests_then n s.cpus u.cpus t.cpus
       (turn_rests n own turn s u first) (turns_rest n ids rest u t more)
 
   -- as many CPUs after a turn
-  pub many_turn : (n own : ℕ) (turn : Turn) (s t : SystemView R) → TakesTurn step view n own turn s t
+  pub many_turn : (n own : ℕ) (turn : Turn) (s t : SystemView R) → TakesTurn firing n own turn s t
       → length t.cpus.cpus ≡ length s.cpus.cpus
   many_turn n own StaysBound s t (place, same) = ap (λ (u : SystemView R). length u.cpus.cpus) same
-  many_turn n own StaysPending s t (place, found, some, only) = as_many step view
+  many_turn n own StaysPending s t (place, found, some, only) = as_many firing
       (on n (AskPending own (Some found)) ∷ []) s.cpus t.cpus only.0
-  many_turn n own StaysRefused s t (place, d, chosen, e, only) = as_many step view
+  many_turn n own StaysRefused s t (place, d, chosen, e, only) = as_many firing
       (on n (AskPending own (Some 0)) ∷ on d (Reserve 1 (Err e)) ∷ []) s.cpus t.cpus only.0
-  many_turn n own Moves s t (place, d, chosen, (taken, works), records) = as_many step view
+  many_turn n own Moves s t (place, d, chosen, (taken, works), records) = as_many firing
       (moving own n d taken) s.cpus t.cpus works
 
-  many_turns : (n : ℕ) (ids : List ℕ) (report : JuggleReport) (s t : SystemView R) → Turns step view n ids report s t
+  many_turns : (n : ℕ) (ids : List ℕ) (report : JuggleReport) (s t : SystemView R) → Turns firing n ids report s t
       → length t.cpus.cpus ≡ length s.cpus.cpus
   many_turns n [] report s t (none, same) = ap (λ (u : SystemView R). length u.cpus.cpus) same
   many_turns n (own ∷ ids) report s t (turn, u, rest, first, counted, more) = many_turns n ids rest u t more
@@ -223,19 +223,20 @@ module _ {R : Type 0} (step : R → FiringCall → R → Type 0) (view : R → F
   not_before n v w long rests (y, there, not) =
       let low = slice_get_within w.cpus n y there in
       let (x, at) = get_some v.cpus n (omega (arith, low, long)) in
-      let (z, last, keeps) = rests x at in (x, at, λ h. not (subst (IsSettled view) (one_cpu n z y w last there) (keeps h)))
+      let (z, last, keeps) = rests x at in
+      (x, at, λ h. not (subst (IsSettled firing.view) (one_cpu n z y w last there) (keeps h)))
 
   -- ---- the calls
 
-  reserve_stops : (n more : ℕ) (e : Refusal) (v w : CpusView R) → Works step view (on n (Reserve more (Err e)) ∷ []) v w
+  reserve_stops : (n more : ℕ) (e : Refusal) (v w : CpusView R) → Works firing (on n (Reserve more (Err e)) ∷ []) v w
       → IsUntil e → NotSettled n v
   reserve_stops n more e v w (u, d, last) until = (d.before, d.here, refused_here n more e d.before d.after d.change until)
 
   rooms_stop : (n more : ℕ) (before : List ℕ) (e : Refusal) (v w : CpusView R)
-      → Works step view (rooms more before ++ on n (AskRoom more (Err e)) ∷ []) v w → IsUntil e → NotSettled n v
+      → Works firing (rooms more before ++ on n (AskRoom more (Err e)) ∷ []) v w → IsUntil e → NotSettled n v
   rooms_stop n more before e v w works until =
-      let (u, first, (m, d, last)) = works_split step view (rooms more before) (on n (AskRoom more (Err e)) ∷ []) v w works in
-      not_before n v u (as_many step view (rooms more before) v u first) (rooms_rest n more before v u first)
+      let (u, first, (m, d, last)) = works_split firing (rooms more before) (on n (AskRoom more (Err e)) ∷ []) v w works in
+      not_before n v u (as_many firing (rooms more before) v u first) (rooms_rest n more before v u first)
       (d.before, d.here, no_room_here n more e d.before d.after d.change until)
 
   busy_among : (s : SystemView R) (ns : List ℕ) (e : Refusal)
@@ -275,18 +276,18 @@ module _ {R : Type 0} (step : R → FiringCall → R → Type 0) (view : R → F
       one (inl own) = absurd (plain (nat_le (length s.cpus.cpus) n) why.NoCpu e own (λ u. u) until)
       one (inr others) = two (first_of (offline_cpu n s) (last_cpu s ∷ busy (removal_on n s.cpus) ∷ []) e others)
 
-  leaves_pending : (n : ℕ) (report : JuggleReport) (e : Refusal) (s t : SystemView R) → Leaves step view n report (Err e) s t
+  leaves_pending : (n : ℕ) (report : JuggleReport) (e : Refusal) (s t : SystemView R) → Leaves firing n report (Err e) s t
       → IsUntil e → NotSettled n s.cpus
   leaves_pending n report e s t (inl (left, is, same)) until = absurd (subst IsUntil (err_same is) until)
   leaves_pending n report e s t (inr (inl (none, is, (before, own, after, found, some, (works, records, last))))) until =
-      let (u, first, (m, d, end)) = works_split step view (quiet n before)
+      let (u, first, (m, d, end)) = works_split firing (quiet n before)
       (on n (AskPending own (Some found)) ∷ []) s.cpus t.cpus works in
-      not_before n s.cpus u (as_many step view (quiet n before) s.cpus u first) (quiet_rest n n before s.cpus u first)
+      not_before n s.cpus u (as_many firing (quiet n before) s.cpus u first) (quiet_rest n n before s.cpus u first)
       (d.before, d.here, pending_here own found d.before d.after d.change some)
   leaves_pending n report e s t (inr (inr (none, is, rest))) until = absurd (let odd : Err e ≡ Ok tt = is in cc)
 
-  binds_stop : (own m : ℕ) (e : Refusal) (s t : SystemView R) → Binds step view own m (Err e) s t → IsUntil e
-      → (n : ℕ) × (cpu : CpuView R) × IsCpu n cpu s.cpus × Asks n (Bind own (Some m) (Err e)) s × (IsSettled view cpu → ⊥)
+  binds_stop : (own m : ℕ) (e : Refusal) (s t : SystemView R) → Binds firing own m (Err e) s t → IsUntil e
+      → (n : ℕ) × (cpu : CpuView R) × IsCpu n cpu s.cpus × Asks n (Bind own (Some m) (Err e)) s × (IsSettled firing.view cpu → ⊥)
   binds_stop own m e s t (home, has, inl (at, is, same), records, last) until = absurd (let odd : Err e ≡ Ok tt = is in cc)
   binds_stop own m e s t (home, has, inr (ne, inl (removed, (cpu, at, is_open), is, same)), records, last) until =
       (home, cpu, at, inl has, λ h. none_some (sym h.still ∙ is_open))
@@ -294,14 +295,14 @@ module _ {R : Type 0} (step : R → FiringCall → R → Type 0) (view : R → F
       (home, d.before, d.here, inl has, pending_here own k d.before d.after d.change some)
   binds_stop own m e s t (home, has, inr (ne, inr (inr (still, (u, a, (w, b, last))))), records, l) until =
       (let (cpu, at, not) = not_before m s.cpus u
-      (as_many step view (on home (AskPending own (Some 0)) ∷ []) s.cpus u (u, a, refl))
+      (as_many firing (on home (AskPending own (Some 0)) ∷ []) s.cpus u (u, a, refl))
       (rests_at m home _ s.cpus u a (λ q. absurd (ne (sym q))))
       (b.before, b.here, refused_here m 1 e b.before b.after b.change until) in (m, cpu, at, inr refl, not))
 
   abbrev Found : SystemCall → SystemView R → Type 0
-  Found call s = (n : ℕ) × (cpu : CpuView R) × IsCpu n cpu s.cpus × Asks n call s × (IsSettled view cpu → ⊥)
+  Found call s = (n : ℕ) × (cpu : CpuView R) × IsCpu n cpu s.cpus × Asks n call s × (IsSettled firing.view cpu → ⊥)
 
-  pub refused_until : (s t : SystemView R) (call : SystemCall) → Changes step view s call t → IsRefusedUntil call → Found call s
+  pub refused_until : (s t : SystemView R) (call : SystemCall) → Changes firing s call t → IsRefusedUntil call → Found call s
   refused_until s t (Add level when now (Err e)) (inl (x, first, is, same)) until =
       absurd (none_until (bad_now now ∷ _ ∷ []) x
       ((λ y h. plain _ why.BadNow y h (λ u. u)), ((λ y h. plain _ why.IdsSpent y h (λ u. u)), tt)) first

@@ -2,7 +2,7 @@
 use Rattle.std.proofs.Common.{◌≡◌, ℕ, inl, inr, Result, Ok, Err, List, refl, sym, ap, subst, arith}
 use Rattle.std.specs.List.{FoldsTo}
 use Rattle.cyc_types.specs.declared.Calls.{Ghosts as Calls}
-use Rattle.cyc_types.specs.Firing.{FiringView, FiringCall}
+use Rattle.cyc_types.specs.declared.Raise.{Ghosts as Raise}
 use Rattle.cyc_types.specs.declared.level.Level.TheVariants.{High}
 use Rattle.cyc_cpu.specs.Tables.{Tables}
 use Rattle.cyc_expirations.specs.Expirations.{expirations}
@@ -12,7 +12,7 @@ use Rattle.cyc_cpu.specs.FireRefused.{FireRefused}
 use Rattle.cyc_cpu.proofs.Sharing.{ids_add_up}
 use Rattle.cyc_cpu.specs.Cpu.{CpuView, Running, running, HasNoCyclic}
 use Rattle.cyc_cpu.specs.Gone.{IsGone, PutsNot}
-use Rattle.cyc_cpu.specs.Soft.{fires, firing_at, Interrupts}
+use Rattle.cyc_cpu.specs.Soft.{raise_tables, Interrupts}
 use Rattle.cyc_cpu.specs.Calls.{CpuCall, Changes, Does, no_interrupts, Fire, SoftInterrupt, Add, Place, Reprogram, AskPending}
 use Rattle.cyc_cpu.specs.Calls.{AskTotals, AskRoom, Reserve, Widen, BeginRemove, PollRemove, TakeNow, AskSettled}
 use Rattle.cyc_cpu.proofs.Following.{stays_gone}
@@ -24,13 +24,13 @@ use Rattle.cyc_system.specs.Calls.{SystemCall, Does as SystemDoes}
 use Rattle.cyc_system_laws.specs.Gone.{IsOver, StaysOver, IsOverWhole, StaysOverWhole, AreLevelsLawful}
 use Rattle.cyc_system_laws.proofs.Over.{run_away}
 
-module _ {C R : Type 0} (handler : Calls C) (step : R → FiringCall → R → Type 0) (view : R → FiringView) (id : ℕ) where
-  quiet : (x y : CpuView R) (call : CpuCall) → PutsNot id call → Changes step view x call y → HasNoCyclic id x.cyclics
+module _ {C R : Type 0} (handler : Calls C) (firing : Raise R) (id : ℕ) where
+  quiet : (x y : CpuView R) (call : CpuCall) → PutsNot id call → Changes firing x call y → HasNoCyclic id x.cyclics
       → HasNoCyclic id y.cyclics
-  quiet x y call not d none = shift_away call x.cyclics y.cyclics id (changes_shift step view x y call d) not none
+  quiet x y call not d none = shift_away call x.cyclics y.cyclics id (changes_shift firing x y call d) not none
 
   fire : (s t : Running C R) (now : ℕ) (answer : Result Fired FireRefused)
-      → Does handler step view no_interrupts s (Fire now answer) t → HasNoCyclic id s.cpu.cyclics
+      → Does handler firing no_interrupts s (Fire now answer) t → HasNoCyclic id s.cpu.cyclics
       → HasNoCyclic id t.cpu.cyclics × (handler.count t.calls id ≡ handler.count s.calls id)
   fire s t now (Ok r) (early, kept, expired, next, makes) none = (
     fired_away id now _ s.cpu.cyclics t.cpu.cyclics makes.timers_are none,
@@ -51,9 +51,9 @@ module _ {C R : Type 0} (handler : Calls C) (step : R → FiringCall → R → T
   )
 
   pub stays_over : (s t : RunningSystem C R) (way : List SystemCall) → IsOver id s.system
-      → FoldsTo (SystemDoes handler step view no_interrupts) s way t → StaysOver handler.count id s t
+      → FoldsTo (SystemDoes handler firing no_interrupts) s way t → StaysOver handler.count id s t
   stays_over s t way is run =
-      let (a, same) = run_away handler step view no_interrupts id
+      let (a, same) = run_away handler firing no_interrupts id
       (λ cpu. HasNoCyclic id cpu.cyclics) quiet fire (λ s t level budget answer d. absurd d) s t way run
       (record { given = is.given; unknown = is.unknown; each = is.nowhere }) in
       (record { given = a.given; unknown = a.unknown; nowhere = a.each }, same)
@@ -68,10 +68,10 @@ is_whole id s is whole = record {
 
 module _ {C : Type 0} (handler : Calls C) (id : ℕ) where
   abbrev Core : Running C Tables → CpuCall → Running C Tables → Type 0
-  Core = Does handler fires firing_at (Interrupts handler)
+  Core = Does handler raise_tables (Interrupts handler)
 
   -- a call that reaches no handler, with any handlers
-  with_calls : (calls : C) (x y : CpuView Tables) (call : CpuCall) → Changes fires firing_at x call y
+  with_calls : (calls : C) (x y : CpuView Tables) (call : CpuCall) → Changes raise_tables x call y
       → Core (running calls x) call (running calls y)
   with_calls calls x y (Fire now answer) d = absurd d
   with_calls calls x y (SoftInterrupt level budget answer) d = absurd d
@@ -89,10 +89,10 @@ module _ {C : Type 0} (handler : Calls C) (id : ℕ) where
   with_calls calls x y (AskSettled answer) d = (d, refl)
 
   pub stays_whole : (s t : RunningSystem C Tables) (way : List SystemCall) → IsOverWhole id s.system
-      → FoldsTo (SystemDoes handler fires firing_at (Interrupts handler)) s way t
+      → FoldsTo (SystemDoes handler raise_tables (Interrupts handler)) s way t
       → StaysOverWhole handler.count id s t
   stays_whole s t way is run =
-      let (a, same) = run_away handler fires firing_at (Interrupts handler) id (IsGone id)
+      let (a, same) = run_away handler raise_tables (Interrupts handler) id (IsGone id)
       (λ x y call not d gone. (stays_gone handler id (running s.calls x) (running s.calls y) call gone not
       (with_calls s.calls x y call d)).0)
       (λ u w now answer d gone. stays_gone handler id u w (Fire now answer) gone tt d)

@@ -1,6 +1,7 @@
 -- What holds of a system one of whose CPUs has settled.
 use Rattle.std.specs.Prelude.{◌≡◌, ◌≢◌, ℕ, ◌⊎◌, true, List, [], ◌∷◌, ◌++◌, Some, None, Err}
-use Rattle.cyc_types.specs.Firing.{FiringView, FiringCall}
+use Rattle.cyc_types.specs.declared.Raise.{Ghosts as Raise}
+use Rattle.cyc_types.specs.Firing.{FiringView}
 use Rattle.cyc_types.specs.declared.refusal.JuggleReport.{JuggleReport}
 use Rattle.cyc_types.specs.declared.refusal.Refusal.{Refusal}
 use Rattle.cyc_cpu.specs.Cpu.{CpuView}
@@ -50,14 +51,14 @@ FiresNot n (FireOne m now answer) = m ≢ n
 FiresNot n call = Unit {0}
 
 -- ---- the turns of a juggle, and those with which a CPU begins to go offline
-module _ {R : Type 0} (step : R → FiringCall → R → Type 0) (view : R → FiringView) (n : ℕ) where
+module _ {R : Type 0} (firing : Raise R) (n : ℕ) where
   -- why a turn was refused, if it was
-  abbrev pub refusals_in : (id : ℕ) (turn : Turn) (s t : SystemView R) → TakesTurn step view n id turn s t → List Refusal
+  abbrev pub refusals_in : (id : ℕ) (turn : Turn) (s t : SystemView R) → TakesTurn firing n id turn s t → List Refusal
   refusals_in id StaysRefused s t (place, d, chosen, e, only) = e ∷ []
   refusals_in id turn s t takes = []
 
   -- why each of the refused turns was, in order
-  abbrev pub refusals_of : (ids : List ℕ) (report : JuggleReport) (s t : SystemView R) → Turns step view n ids report s t
+  abbrev pub refusals_of : (ids : List ℕ) (report : JuggleReport) (s t : SystemView R) → Turns firing n ids report s t
       → List Refusal
   refusals_of [] report s t turns = []
   refusals_of (id ∷ ids) report s t (turn, u, rest, takes, counted, more) =

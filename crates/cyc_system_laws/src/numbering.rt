@@ -4,7 +4,7 @@ ghost use Rattle.std.specs.Prelude.{List};
 ghost use Rattle.std.specs.List.{FoldsTo};
 ghost use Rattle.cyc_cpu.specs.Tables.{Tables};
 ghost use Rattle.cyc_cpu.specs.Calls.{no_interrupts};
-ghost use Rattle.cyc_cpu.specs.Soft.{fires, firing_at, Interrupts};
+ghost use Rattle.cyc_cpu.specs.Soft.{raise_tables, Interrupts};
 ghost use Rattle.cyc_system.specs.System.{RunningSystem};
 ghost use Rattle.cyc_system.specs.Calls.{SystemCall, Does};
 ghost use Rattle.cyc_system_laws.specs.Numbering.{ids_given, Rise};
@@ -16,7 +16,7 @@ use cyc_types::{Calls, Raise};
 /// It does nothing when it runs: its clause is the law.
 pub fn numbers_law<C: Calls, R: Raise>()
     ensures { (s t : RunningSystem C R) (way : List SystemCall)
-        → FoldsTo (Does C.Calls R.step R.view no_interrupts) s way t
+        → FoldsTo (Does C.Calls R.Raise no_interrupts) s way t
         → Rise s.system.last (ids_given way) t.system.last }
 {}
 
@@ -25,6 +25,6 @@ pub fn numbers_law<C: Calls, R: Raise>()
 /// It does nothing when it runs: its clause is the law.
 pub fn numbers_core_law<C: Calls>()
     ensures { (s t : RunningSystem C Tables) (way : List SystemCall)
-        → FoldsTo (Does C.Calls fires firing_at (Interrupts C.Calls)) s way t
+        → FoldsTo (Does C.Calls raise_tables (Interrupts C.Calls)) s way t
         → Rise s.system.last (ids_given way) t.system.last }
 {}

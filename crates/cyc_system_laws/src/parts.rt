@@ -11,5 +11,5 @@ use cyc_types::Raise;
 ///
 /// It does nothing when it runs: its clause is the law.
 pub fn parts_law<R: Raise>()
-    ensures { (s t : SystemView R) (call : SystemCall) → Changes R.step R.view s call t → IsMadeOf R.step R.view s t }
+    ensures { (s t : SystemView R) (call : SystemCall) → Changes R.Raise s call t → IsMadeOf R.Raise s t }
 {}

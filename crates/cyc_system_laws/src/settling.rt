@@ -8,7 +8,7 @@ ghost use Rattle.cyc_cpu.specs.Tables.{Tables};
 ghost use Rattle.cyc_cpu.specs.Calls.{no_interrupts};
 ghost use Rattle.cyc_cpu.specs.Cpu.{CpuView};
 ghost use Rattle.cyc_cpu.specs.Moving.{IsSettled};
-ghost use Rattle.cyc_cpu.specs.Soft.{fires, firing_at, Interrupts};
+ghost use Rattle.cyc_cpu.specs.Soft.{raise_tables, firing_at, Interrupts};
 ghost use Rattle.cyc_cpus_laws.specs.Settled.{IsUntil};
 ghost use Rattle.cyc_cpus.specs.Cpus.{IsCpu, OfCpu};
 ghost use Rattle.cyc_system.specs.System.{SystemView, RunningSystem};
@@ -27,23 +27,23 @@ use cyc_types::{Calls, Raise};
 ///
 /// It does nothing when it runs: its clauses are the law.
 pub fn settled_law<R: Raise>()
-    ensures refused { (s t : SystemView R) (call : SystemCall) → Changes R.step R.view s call t → IsRefusedUntil call
+    ensures refused { (s t : SystemView R) (call : SystemCall) → Changes R.Raise s call t → IsRefusedUntil call
         → (n : ℕ) × (cpu : CpuView R) × IsCpu n cpu s.cpus × Asks n call s × (IsSettled R.view cpu → ⊥) }
     // A cyclic all of whose CPUs have settled is removed at once.
     ensures kept { (id calls : ℕ) (s t : SystemView R) → AreLawful R.view s
-        → Changes R.step R.view s (BeginRemove id (Ok (Kept calls))) t
+        → Changes R.Raise s (BeginRemove id (Ok (Kept calls))) t
         → (n : ℕ) × (cpu : CpuView R) × IsCpu n cpu s.cpus × IsAmong n (cpus_with id s.cpus) × (IsSettled R.view cpu → ⊥) }
     // From a CPU that has settled no turn is counted as pending.
-    ensures juggled { (n : ℕ) (report : Report) (s t : SystemView R) → Changes R.step R.view s (Juggle n (Ok report)) t
+    ensures juggled { (n : ℕ) (report : Report) (s t : SystemView R) → Changes R.Raise s (Juggle n (Ok report)) t
         → OfCpu n (IsSettled R.view) s.cpus → report.pending ≡ 0 }
     ensures left { (n : ℕ) (report : Report) (s t : SystemView R) → OfCpu n (IsSettled R.view) s.cpus
-        → Changes R.step R.view s (Offline n (Err (Left report))) t → report.pending ≡ 0 }
+        → Changes R.Raise s (Offline n (Err (Left report))) t → report.pending ≡ 0 }
     // Where all others have settled, and none switches banks by it, each turn that is counted as refused was so for want of room
     // or memory alone.
-    ensures turned { (n : ℕ) (report : Report) (s t : SystemView R) → (moves : MovesAway R.step R.view n report s t)
-        → (length (refusals_of R.step R.view n (single_ids n s) report s t moves) ≡ report.refused)
+    ensures turned { (n : ℕ) (report : Report) (s t : SystemView R) → (moves : MovesAway R.Raise n report s t)
+        → (length (refusals_of R.Raise n (single_ids n s) report s t moves) ≡ report.refused)
         × (AreSettledBeside R.view n s t
-        → All (λ e. IsUntil e → ⊥) (refusals_of R.step R.view n (single_ids n s) report s t moves)) }
+        → All (λ e. IsUntil e → ⊥) (refusals_of R.Raise n (single_ids n s) report s t moves)) }
 {}
 
 /// What `settled` told of a CPU stays true over any calls of its system, but for a fire and a switch of banks of this very CPU.
@@ -53,7 +53,7 @@ pub fn calm_law<C: Calls, R: Raise>()
     // A switch of banks is a growth of the size.
     ensures { (n : ℕ) (x y : CpuView R) (s t : RunningSystem C R) (way : List SystemCall) → IsCpu n x s.system.cpus
         → IsCpu n y t.system.cpus → IsSettled R.view x → All (FiresNot n) way → y.size ≡ x.size
-        → FoldsTo (Does C.Calls R.step R.view no_interrupts) s way t → IsSettled R.view y }
+        → FoldsTo (Does C.Calls R.Raise no_interrupts) s way t → IsSettled R.view y }
 {}
 
 /// The same where no other thread uses the levels, and soft interrupts are among the calls.
@@ -62,6 +62,6 @@ pub fn calm_law<C: Calls, R: Raise>()
 pub fn calm_core_law<C: Calls>()
     ensures { (n : ℕ) (x y : CpuView Tables) (s t : RunningSystem C Tables) (way : List SystemCall) → IsCpu n x s.system.cpus
         → IsCpu n y t.system.cpus → IsSettled firing_at x → All (FiresNot n) way → y.size ≡ x.size
-        → FoldsTo (Does C.Calls fires firing_at (Interrupts C.Calls)) s way t
+        → FoldsTo (Does C.Calls raise_tables (Interrupts C.Calls)) s way t
         → IsSettled firing_at y }
 {}

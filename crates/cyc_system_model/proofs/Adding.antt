@@ -12,7 +12,7 @@ use Rattle.cyc_types.specs.declared.refusal.Refusal.TheVariants.{Memory, BadWhen
 use Rattle.cyc_core.specs.Tables.{Tables}
 use Rattle.cyc_script.specs.declared.step.Add.{Add as AddStep}
 use Rattle.cyc_script.specs.declared.step.Step.TheVariants as steps
-use Rattle.cyc_cpu.specs.Soft.{fires, firing_at as seen}
+use Rattle.cyc_cpu.specs.Soft.{raise_tables}
 use Rattle.cyc_cpu.specs.Calls.{Reserve, Widen, Place}
 use Rattle.cyc_places.specs.declared.record.Placement.{Placement as RecordPlacement}
 use Rattle.cyc_places.specs.declared.record.Placement.TheVariants as place
@@ -96,7 +96,7 @@ module _ (a : AddStep) (series : When) (s : State) (v w : SystemView Tables) (sy
   room_at : (d : ℕ) → destination None s ≡ d → room_there s ≡ why_no_room 1 (cpu_at v.cpus d)
   room_at d dm = λ z. why_no_room 1 (get_or (h.cpus z) (dm z) absent)
 
-  pub add_accepted : (id : ℕ) → Changes fires seen v (Add a.level series s.clock (Ok id)) w → (id ≡ s.last_id + 1)
+  pub add_accepted : (id : ℕ) → Changes raise_tables v (Add a.level series s.clock (Ok id)) w → (id ≡ s.last_id + 1)
       × IsDone (steps.Add a) s w
   add_accepted id (inl (e, some, answer, same)) = absurd (let isnt : Ok id ≡ Err e = answer in cc)
   add_accepted id (inr (none, (d, dest, named, (u1, reserve, (u2, wide, (u3, put, same))), records, last))) =
@@ -164,7 +164,8 @@ module _ (a : AddStep) (series : When) (s : State) (v w : SystemView Tables) (sy
   room_refused e d none dm refused = subst (IsRefused e)
       (sym (only_room a series s is none ∙ or_none (room_there s) ∙ room_at d dm)) refused
 
-  pub add_refused : (e : Refusal) → Changes fires seen v (Add a.level series s.clock (Err e)) w → IsRefusedFor e (steps.Add a) s w
+  pub add_refused : (e : Refusal) → Changes raise_tables v (Add a.level series s.clock (Err e)) w
+      → IsRefusedFor e (steps.Add a) s w
   add_refused e (inl (own, some, answer, same)) = (
     early_refused e (asked ∙ some ∙ ap Some (sym (same_error ℕ e own (Err e) (Err own) refl refl answer))),
     subst (ShowsSystem s) (sym same) h,

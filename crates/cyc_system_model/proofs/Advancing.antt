@@ -8,7 +8,7 @@ use Rattle.std.proofs.lemmas.List.Sums.{sum_by-append}
 use Rattle.cyc_types.specs.declared.Calls.{Ghosts as Calls}
 use Rattle.cyc_types.specs.declared.refusal.Refusal.TheVariants.{Offline}
 use Rattle.cyc_core.specs.Tables.{Tables}
-use Rattle.cyc_cpu.specs.Soft.{fires, firing_at as seen}
+use Rattle.cyc_cpu.specs.Soft.{raise_tables}
 use Rattle.cyc_cpu.specs.Calls.{no_interrupts}
 use Rattle.cyc_cpu.specs.Fired.{Fired}
 use Rattle.cyc_system.specs.System.{SystemView, RunningSystem, is_online}
@@ -169,7 +169,7 @@ module _ {C : Type 0} (handler : Calls C) where
       no_more_calls n = omega arith
 
   pub has_fired : (n expired lost : ℕ) (fired : Fired) (m : State) (s t u : RunningSystem C Tables) → IsSystem t.system
-      → HasFired handler.count n expired lost m s t → Does handler fires seen no_interrupts t
+      → HasFired handler.count n expired lost m s t → Does handler raise_tables no_interrupts t
       (FireOne n m.clock (Ok fired)) u
       → HasFired handler.count (n + 1) (expired + fired.expired) (lost + fired.lost) m s u
   has_fired n expired lost fired m s t u sys h did =
@@ -177,7 +177,7 @@ module _ {C : Type 0} (handler : Calls C) where
       let o = fire_each ns m in
       let clock : o.state.clock ≡ m.clock = fires_clock m.clock ns m in
       let f = fire_accepted handler o.state t u sys h.comes.shows n fired
-      (subst (λ c. Does handler fires seen no_interrupts t (FireOne n c (Ok fired)) u) (sym clock) did) in
+      (subst (λ c. Does handler raise_tables no_interrupts t (FireOne n c (Ok fired)) u) (sym clock) did) in
       let is = none_first (no_cpu n o.state) (offline_cpu n o.state ∷ []) f.accepted in
       let there = is_cpu n o.state is.0 in
       let long = fires_long m.clock ns m in

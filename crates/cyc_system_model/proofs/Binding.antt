@@ -13,7 +13,7 @@ use Rattle.cyc_core.specs.Tables.{Tables}
 use Rattle.cyc_script.specs.declared.step.Bind.{Bind as BindStep}
 use Rattle.cyc_script.specs.declared.step.Step.TheVariants as steps
 use Rattle.cyc_cpu.specs.declared.moving.Taken.{Taken}
-use Rattle.cyc_cpu.specs.Soft.{fires, firing_at as seen}
+use Rattle.cyc_cpu.specs.Soft.{raise_tables}
 use Rattle.cyc_cpu.specs.Calls.{AskPending, Reserve, TakeNow, Widen, Place}
 use Rattle.cyc_places.specs.declared.record.Placement.TheVariants as place
 use Rattle.cyc_system.specs.Cpus.{CpusView, Works}
@@ -102,7 +102,7 @@ busy_not : (id : ℕ) (c : Cpu) → why_not_taken id c ≡ None → busy c.remov
 busy_not id c none = (both_none (busy c.removal) _ (both_none (when (not (has_cyclic id c)) NoCyclic) _ none).1).0
 
 pub went : (id source target : ℕ) (taken : Taken) (v w : CpusView Tables) → length v.online ≡ length v.cpus
-    → AreTied v → Works fires seen (moving id source target taken) v w
+    → AreTied v → Works raise_tables (moving id source target taken) v w
     → Went id source target (cyclic_with id taken.level taken.interval taken.moment taken.sent.sent taken.sent.lost) v w
 went id source target taken v w long ties (u1, ask, (u2, reserve, (u3, take, (u4, wide, (u5, put, same))))) =
     let a = done_at source (AskPending id (Some 0)) v u1 long ties ask in
@@ -265,7 +265,7 @@ module _ (id n : ℕ) (s : State) (v w : SystemView Tables) (sys : IsSystem v) (
   none_pending home quiet = ap (λ c. when (nat_lt 0 (outstanding_here id c)) Pending) (at_cpu home)
       ∙ ap (λ k. when (nat_lt 0 k) Pending) quiet
 
-  pub binds : Binds fires seen id n (Ok tt) v w
+  pub binds : Binds raise_tables id n (Ok tt) v w
       → first_refusal (no_cyclic id s ∷ omnipresent id s ∷ no_cpu n s ∷ offline_cpu n s ∷ []) ≡ None
       → (bind_id_refusal plain id n s ≡ None) × (given : List ℕ)
       × ((indexes : ℕ → ℕ) (step : ℕ) → Gives indexes s.admissions given
@@ -307,7 +307,7 @@ module _ (id n : ℕ) (s : State) (v w : SystemView Tables) (sys : IsSystem v) (
         ),
       )
 
-  pub not_bound : (e : Refusal) → Binds fires seen id n (Err e) v w → four ≡ None → IsRefused e (bind_id_refusal plain id n s)
+  pub not_bound : (e : Refusal) → Binds raise_tables id n (Err e) v w → four ≡ None → IsRefused e (bind_id_refusal plain id n s)
       × ShowsSystem s w
   not_bound e (home, at, inl (there, ok, cpus), records, last) none = absurd (let isnt : Err e ≡ Ok tt = ok in cc)
   not_bound e (home, at, inr (ne, inl (removed, (cpu, is, opened), why_is, same)), records, last) none = (
@@ -340,7 +340,7 @@ module _ (id n : ℕ) (s : State) (v w : SystemView Tables) (sys : IsSystem v) (
       )
 
 module _ (b : BindStep) (s : State) (v w : SystemView Tables) (sys : IsSystem v) (h : ShowsSystem s v) where
-  pub bind_accepted : Changes fires seen v (Bind (id_of b.name s) (Some b.cpu) (Ok tt)) w → IsDone (steps.Bind b) s w
+  pub bind_accepted : Changes raise_tables v (Bind (id_of b.name s) (Some b.cpu) (Ok tt)) w → IsDone (steps.Bind b) s w
   bind_accepted (inl (e, some, answer, same)) = absurd (let isnt : Ok tt ≡ Err e = answer in cc)
   bind_accepted (inr (none, did)) =
       let (accepted, given, comes) = binds (id_of b.name s) b.cpu s v w sys h did (first_four (id_of b.name s) b.cpu s v w sys h
@@ -352,7 +352,7 @@ module _ (b : BindStep) (s : State) (v w : SystemView Tables) (sys : IsSystem v)
         quiet = λ texts indexes step at. (comes indexes step at).1;
       }
 
-  pub bind_refused : (e : Refusal) → Changes fires seen v (Bind (id_of b.name s) (Some b.cpu) (Err e)) w
+  pub bind_refused : (e : Refusal) → Changes raise_tables v (Bind (id_of b.name s) (Some b.cpu) (Err e)) w
       → IsRefusedFor e (steps.Bind b) s w
   bind_refused e (inl (own, some, answer, same)) =
       let id = id_of b.name s in

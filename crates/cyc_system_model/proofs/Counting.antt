@@ -3,7 +3,7 @@ use Rattle.std.proofs.Common.{◌≡◌, ℕ, suc, ◌+◌, ◌<◌, ◌==◌, e
 use Rattle.std.proofs.Common.{map, sum_by, get_or, Option, Some, None, refl, ap, sym, ◌∙◌, arith}
 use Rattle.std.specs.Prelude.{is_some}
 use Rattle.cyc_core.specs.Tables.{Tables}
-use Rattle.cyc_cpu.specs.Soft.{fires, firing_at as seen}
+use Rattle.cyc_cpu.specs.Soft.{raise_tables}
 use Rattle.cyc_cpu.specs.Calls.{AskTotals}
 use Rattle.cyc_places.specs.declared.record.Record.{Record}
 use Rattle.cyc_places.specs.Places.{IsRecord}
@@ -41,7 +41,7 @@ record Tells (id : ℕ) (a : Counted) (c : Cpu) : Type 0 where
   pending : outstanding_here id c ≡ a.totals.pending
 
 tell_all : (id : ℕ) (way : List Counted) (v u : CpusView Tables) → length v.online ≡ length v.cpus → AreTied v
-    → Works fires seen (map (asked id) way) v u
+    → Works raise_tables (map (asked id) way) v u
     → (m : State) → m.cpus ≡ shown_cpus v → (shown_cpus u ≡ shown_cpus v) × OwnAll cpu_in (Tells id) way m
 tell_all id [] v u long tied same m is = (ap shown_cpus (sym same), tt)
 tell_all id (a ∷ way) v u long tied (x, did, rest) m is =
@@ -108,7 +108,7 @@ module _ (id : ℕ) (m : State) (v w : SystemView Tables) (sys : IsSystem v) (h 
       zero_plus : (i : ℕ) → 0 + i ≡ i
       zero_plus i = omega arith
 
-  pub totals_told : (totals : SystemTotals) → AsksTotals fires seen id (Some totals) v w → ShowsSystem m w
+  pub totals_told : (totals : SystemTotals) → AsksTotals raise_tables id (Some totals) v w → ShowsSystem m w
       × (counts_of id m ≡ told_in totals (m.called id))
   totals_told totals (way, r, is, ns, (works, records, last), adds) =
       let told = tell_all id way v.cpus w.cpus sys.agrees.long sys.tied works m h.cpus in
@@ -135,5 +135,5 @@ module _ (id : ℕ) (m : State) (v w : SystemView Tables) (sys : IsSystem v) (h 
         }),
       )
 
-  pub totals_none : AsksTotals fires seen id None v w → (is_unknown id m ≡ true) × (w ≡ v)
+  pub totals_none : AsksTotals raise_tables id None v w → (is_unknown id m ≡ true) × (w ≡ v)
   totals_none (none, same) = (unknown_shown id m v h ∙ ap (λ o. not (is_some o)) none, same)

@@ -11,7 +11,7 @@ use Rattle.cyc_types.specs.declared.Calls.{Ghosts as Calls}
 use Rattle.cyc_types.specs.declared.level.Soft.{Soft}
 use Rattle.cyc_core.specs.Tables.{Tables}
 use Rattle.cyc_cpu.specs.Cpu.{CpuView, running}
-use Rattle.cyc_cpu.specs.Soft.{fires, firing_at as seen, Interrupts}
+use Rattle.cyc_cpu.specs.Soft.{raise_tables, Interrupts}
 use Rattle.cyc_cpu.specs.Calls.{CpuCall, Fire, SoftInterrupt, Add, Place, Reprogram, AskPending, AskTotals, AskRoom, Reserve}
 use Rattle.cyc_cpu.specs.Calls.{Widen, BeginRemove, PollRemove, TakeNow, AskSettled, Changes, Does}
 use Rattle.cyc_system.specs.Cpus.{CpusView, IsCpu, with_cpu, on, DoesAt, RunningCpus, running_cpus, RunsAt}
@@ -67,8 +67,8 @@ cpu_is v n x long is =
 abbrev no_calls : Calls (Unit {0})
 no_calls = record { count = λ c id. 0; called = λ c id level d. ⊥; may_refuse = λ c id. ⊥ }
 
-does_of : (call : CpuCall) (x y : CpuView Tables) → Changes fires seen x call y
-    → Does no_calls fires seen (Interrupts no_calls) (running tt x) call (running tt y)
+does_of : (call : CpuCall) (x y : CpuView Tables) → Changes raise_tables x call y
+    → Does no_calls raise_tables (Interrupts no_calls) (running tt x) call (running tt y)
 does_of (Fire now answer) x y d = absurd d
 does_of (SoftInterrupt level budget answer) x y d = absurd d
 does_of (Add id level when now answer) x y d = (d, refl)
@@ -84,7 +84,7 @@ does_of (PollRemove answer) x y d = (d, refl)
 does_of (TakeNow id answer) x y d = (d, refl)
 does_of (AskSettled answer) x y d = (d, refl)
 
-no_stop : (call : CpuCall) (x y : CpuView Tables) → Changes fires seen x call y → IsStopped call → ⊥
+no_stop : (call : CpuCall) (x y : CpuView Tables) → Changes raise_tables x call y → IsStopped call → ⊥
 no_stop (Fire now answer) x y d stopped = d
 no_stop (SoftInterrupt level budget answer) x y d stopped = d
 no_stop (Add id level when now answer) x y d stopped = absurd stopped
@@ -133,7 +133,7 @@ at_same n m v w x y here rest cpu e is tie =
 
 module _ {C : Type 0} (handler : Calls C) where
   pub ran_at : (n : ℕ) (call : CpuCall) (s t : RunningCpus C Tables) → length s.cpus.online ≡ length s.cpus.cpus → AreTied s.cpus
-      → (IsStopped call → ⊥) → RunsAt handler fires seen (Interrupts handler) s (on n call) t
+      → (IsStopped call → ⊥) → RunsAt handler raise_tables (Interrupts handler) s (on n call) t
       → RanAt handler.count n call s t
   ran_at n call s t long ties goes d =
       let v = s.cpus in
@@ -177,7 +177,7 @@ pub record DoneAt (n : ℕ) (call : CpuCall) (v w : CpusView Tables) : Type 0 wh
   pub long : length w.online ≡ length w.cpus
 
 pub done_at : (n : ℕ) (call : CpuCall) (v w : CpusView Tables) → length v.online ≡ length v.cpus → AreTied v
-    → DoesAt fires seen v (on n call) w → DoneAt n call v w
+    → DoesAt raise_tables v (on n call) w → DoneAt n call v w
 done_at n call v w long ties d =
     let r = ran_at no_calls n call (running_cpus tt v) (running_cpus tt w) long ties
     (no_stop call d.before d.after d.change)

@@ -10,7 +10,7 @@ use native.Mathlib.Decide.{ℕ_discrete}
 use Rattle.cyc_types.specs.declared.firing.Sent.{Sent}
 use Rattle.cyc_types.specs.declared.level.Level.{Level}
 use Rattle.cyc_core.specs.Tables.{Tables}
-use Rattle.cyc_cpu.specs.Soft.{fires, firing_at as seen}
+use Rattle.cyc_cpu.specs.Soft.{raise_tables}
 use Rattle.cyc_cpu.specs.Calls.{CpuCall}
 use Rattle.cyc_places.specs.declared.record.Placement.{Placement as RecordPlacement}
 use Rattle.cyc_places.specs.declared.record.Record.{Record}
@@ -90,13 +90,13 @@ half_ran count n call v s t h same d =
     half_cpus v t.cpus h d.tied d.long (as_many n _ v.cpus t.cpus h.long d.long
     (d.cpus ∙ ap (λ (u : CpusView Tables). slice_set (shown_cpus u) n (here_of n d.index call (cpu_at u n)).cpu) same))
 
-pub half_works : (way : List CallOn) (v : SystemView Tables) (u : CpusView Tables) → Half v → Works fires seen way v.cpus u
+pub half_works : (way : List CallOn) (v : SystemView Tables) (u : CpusView Tables) → Half v → Works raise_tables way v.cpus u
     → Half (record v { cpus = u })
 half_works [] v u h same = half_parts v (record v { cpus = u }) h (sym same) refl refl
 half_works (c ∷ way) v u h (x, did, rest) =
     half_works way (record v { cpus = x }) u (half_done c.cpu c.call v x h (done_at c.cpu c.call v.cpus x h.long h.tied did)) rest
 
-pub half_only : (way : List CallOn) (v w : SystemView Tables) → Half v → OnlyWorks fires seen way v w → Half w
+pub half_only : (way : List CallOn) (v w : SystemView Tables) → Half v → OnlyWorks raise_tables way v w → Half w
 half_only way v w h (works, records, last) =
     half_parts (record v { cpus = w.cpus }) w (half_works way v w.cpus h works) refl records last
 
@@ -261,7 +261,7 @@ taken_full n cpus r full = (length-set r.ended n no_counts ∙ full.0, λ j past
 
 -- a call on one CPU leaves as many
 pub as_low : (n : ℕ) (call : CpuCall) (v : SystemView Tables) (u : CpusView Tables) → Half v
-    → DoesAt fires seen v.cpus (on n call) u → length u.cpus ≡ length v.cpus.cpus
+    → DoesAt raise_tables v.cpus (on n call) u → length u.cpus ≡ length v.cpus.cpus
 as_low n call v u h did =
     let d = done_at n call v.cpus u h.long h.tied did in
     as_many n _ v.cpus u h.long d.long d.cpus

@@ -12,7 +12,7 @@ use Rattle.cyc_core.specs.Tables.{Tables}
 use Rattle.cyc_script.specs.declared.step.Step.TheVariants as steps
 use Rattle.cyc_text.specs.Lines.{moved}
 use Rattle.cyc_cpu.specs.Cpu.{CpuView}
-use Rattle.cyc_cpu.specs.Soft.{fires, firing_at as seen}
+use Rattle.cyc_cpu.specs.Soft.{raise_tables}
 use Rattle.cyc_system.specs.System.{SystemView, ids_of, ids_on, removal_on}
 use Rattle.cyc_system.specs.Turn.{Turn as TurnThere}
 use Rattle.cyc_system.specs.Turn.TheVariants as there
@@ -73,7 +73,7 @@ counted_as there.StaysRefused d a b same = ap (λ (r : JuggleReport). record r {
 counted_as there.Moves d a b same = ap (λ (r : JuggleReport). record r { moved = r.moved + 1 }) same
 
 all_turns : (source : ℕ) (ids : List ℕ) (report : JuggleReport) (v w : SystemView Tables) → Half v → HaveAllRoom v.cpus
-    → Turns fires seen source ids report v w → (given : List ℕ) × ((s : State) (indexes : ℕ → ℕ) → ShowsSystem s v
+    → Turns raise_tables source ids report v w → (given : List ℕ) × ((s : State) (indexes : ℕ → ℕ) → ShowsSystem s v
     → Gives indexes s.admissions given → JugglesTo report given s (juggle_each plain indexes source ids s) w)
 all_turns source [] report v w hv all (is, same) = (
   [],
@@ -157,7 +157,7 @@ module _ (n : ℕ) (s : State) (v : SystemView Tables) (h : ShowsSystem s v) (hv
   same_single = λ z. filter (λ id. not (omnipresent_shown id s v h z)) (same_ids z)
 
   -- all that may leave have their turns
-  pub juggles : (report : JuggleReport) (w : SystemView Tables) → HaveAllRoom v.cpus → MovesAway fires seen n report v w
+  pub juggles : (report : JuggleReport) (w : SystemView Tables) → HaveAllRoom v.cpus → MovesAway raise_tables n report v w
       → (given : List ℕ) × ((indexes : ℕ → ℕ) → Gives indexes s.admissions given
       → JugglesTo report given s (juggled plain indexes n s) w)
   juggles report w all turns =
@@ -174,7 +174,7 @@ report_of d (Ok report) = report
 report_of d (Err e) = d
 
 module _ (n : ℕ) (s : State) (v w : SystemView Tables) (sys : IsSystem v) (h : ShowsSystem s v) where
-  pub juggle_accepted : HaveAllRoom v.cpus → (report : JuggleReport) → Changes fires seen v (Juggle n (Ok report)) w
+  pub juggle_accepted : HaveAllRoom v.cpus → (report : JuggleReport) → Changes raise_tables v (Juggle n (Ok report)) w
       → IsDoneWith (λ step. moved step report) (steps.Juggle n) s w
   juggle_accepted all report (inl (e, some, answer, same)) = absurd (let isnt : Ok report ≡ Err e = answer in cc)
   juggle_accepted all report (inr (none, (own, answer, turns))) =
@@ -192,7 +192,7 @@ module _ (n : ℕ) (s : State) (v w : SystemView Tables) (sys : IsSystem v) (h :
         said = λ texts indexes step gives. ap (moved step) ((j indexes gives).told ∙ sym same);
       }
 
-  pub juggle_refused : (e : Refusal) → Changes fires seen v (Juggle n (Err e)) w → IsRefusedFor e (steps.Juggle n) s w
+  pub juggle_refused : (e : Refusal) → Changes raise_tables v (Juggle n (Err e)) w → IsRefusedFor e (steps.Juggle n) s w
   juggle_refused e (inl (own, some, answer, same)) = (
     is_refused e (juggle_refusal plain n s) (same_whys n s v h (half v sys) ∙ some
         ∙ ap Some (sym (same_error JuggleReport e own (Err e) (Err own) refl refl answer))) (no_memory n s v h (half v sys)),

@@ -18,7 +18,7 @@ use Rattle.cyc_core.specs.Tables.{Tables}
 use Rattle.cyc_cpu.specs.declared.removing.Removal.{Removal}
 use Rattle.cyc_cpu.specs.declared.removing.Removal.TheVariants as on_cpu
 use Rattle.cyc_cpu.specs.Cpu.{CpuView, Running, SameCpu, running}
-use Rattle.cyc_cpu.specs.Soft.{fires, firing_at as seen, Interrupts}
+use Rattle.cyc_cpu.specs.Soft.{raise_tables, Interrupts}
 use Rattle.cyc_cpu.specs.Calls.{CpuCall, Fire, AskPending, AskRoom, Reserve, Reprogram as Reprogrammed, TakeNow, Widen}
 use Rattle.cyc_cpu.specs.Calls.{SoftInterrupt as CpuSoftInterrupt, Does as CpuDoes}
 use Rattle.cyc_cpu.specs.Calls as cpu
@@ -97,23 +97,23 @@ most_set n m x y v w here rest same = ap (most_on m) rest ∙ dite (ℕ_discrete
     there : m ≡ n → most_on m (with_cpu v n y) ≡ most_on m v
     there e = subst (λ k. most_on k (with_cpu v n y) ≡ most_on k v) (sym e) own
 
-kept_did : (c : CallOn) (v : SystemView Tables) (u : CpusView Tables) → Half v → DoesAt fires seen v.cpus c u
+kept_did : (c : CallOn) (v : SystemView Tables) (u : CpusView Tables) → Half v → DoesAt raise_tables v.cpus c u
     → Kept v (record v { cpus = u })
 kept_did c v u h did = record {
   half = half_done c.cpu c.call v u h (done_at c.cpu c.call v.cpus u h.long h.tied did);
   most = λ m. most_set c.cpu m did.before did.after v.cpus u did.here did.rest
-      (changes_most fires seen did.before did.after c.call did.change);
+      (changes_most raise_tables did.before did.after c.call did.change);
   room = room_did c v.cpus u did;
 }
 
-kept_works : (way : List CallOn) (v : SystemView Tables) (u : CpusView Tables) → Half v → Works fires seen way v.cpus u
+kept_works : (way : List CallOn) (v : SystemView Tables) (u : CpusView Tables) → Half v → Works raise_tables way v.cpus u
     → Kept v (record v { cpus = u })
 kept_works [] v u h same = kept_same v (record v { cpus = u }) h (λ z. record v { cpus = sym same z })
 kept_works (c ∷ way) v u h (x, did, rest) =
     let one = kept_did c v x h did in
     kept_then v (record v { cpus = x }) (record v { cpus = u }) one (kept_works way (record v { cpus = x }) u one.half rest)
 
-pub kept_only : (way : List CallOn) (v w : SystemView Tables) → Half v → OnlyWorks fires seen way v w → Kept v w
+pub kept_only : (way : List CallOn) (v w : SystemView Tables) → Half v → OnlyWorks raise_tables way v w → Kept v w
 kept_only way v w h (works, records, last) =
     kept_parts v (record v { cpus = w.cpus }) w (kept_works way v w.cpus h works) refl records last
 
@@ -133,7 +133,7 @@ kept_placed id p v u w h cpus (k, r, is, named, records, last) =
 
 -- a stay that ended on a CPU
 pub kept_ended : (n : ℕ) (call : CpuCall) (counts : Sent) (k : ℕ) (r : Record) (v w : SystemView Tables) → Half v
-    → DoesAt fires seen v.cpus (on n call) w.cpus
+    → DoesAt raise_tables v.cpus (on n call) w.cpus
     → IsRecord v.records k r → w.records ≡ slice_set v.records k (with_ended n (summed (ended_on n r) counts) r) → w.last ≡ v.last
     → Kept v w
 kept_ended n call counts k r v w h did is records last =
@@ -150,7 +150,7 @@ kept_ended n call counts k r v w h did is records last =
 -- ---- adding
 
 kept_each : (answer : Result (Unit {0}) Refusal) (v : SystemView Tables) (u : CpusView Tables) → Half v
-    → ReservesEach fires seen 1 answer v.cpus u → Kept v (record v { cpus = u })
+    → ReservesEach raise_tables 1 answer v.cpus u → Kept v (record v { cpus = u })
 kept_each (Ok done) v u h (x, asked_all, taken) =
     let one = kept_works (rooms 1 (online_cpus v.cpus)) v x h asked_all in
     kept_then v (record v { cpus = x }) (record v { cpus = u }) one
@@ -175,7 +175,7 @@ kept_more v u w id level p k same kept_last named cpus records last = record {
 -- ---- moves
 
 kept_goes : (id home target : ℕ) (answer : Result (Unit {0}) Refusal) (v : SystemView Tables) (w : CpusView Tables) → Half v
-    → GoesTo fires seen id home target answer v.cpus w → Kept v (record v { cpus = w })
+    → GoesTo raise_tables id home target answer v.cpus w → Kept v (record v { cpus = w })
 kept_goes id home target answer v w h (inl (e, ok, same)) =
     kept_same v (record v { cpus = w }) h (λ z. record v { cpus = same z })
 kept_goes id home target (Ok done) v w h (inr (ne, (taken, works))) = kept_works (moving id home target taken) v w h works
@@ -186,7 +186,7 @@ kept_goes id home target (Err e) v w h (inr (ne, inr (inl (still, n, some, why_i
 kept_goes id home target (Err e) v w h (inr (ne, inr (inr (still, works)))) =
     kept_works (on home (AskPending id (Some 0)) ∷ on target (Reserve 1 (Err e)) ∷ []) v w h works
 
-pub kept_turn : (source id : ℕ) (t : Turn) (v w : SystemView Tables) → Half v → TakesTurn fires seen source id t v w → Kept v w
+pub kept_turn : (source id : ℕ) (t : Turn) (v w : SystemView Tables) → Half v → TakesTurn raise_tables source id t v w → Kept v w
 kept_turn source id turn.StaysBound v w h (at, same) = kept_same v w h same
 kept_turn source id turn.StaysPending v w h (at, n, some, only) = kept_only (on source (AskPending id (Some n)) ∷ []) v w h only
 kept_turn source id turn.StaysRefused v w h (at, d, dest, e, only) =
@@ -196,13 +196,13 @@ kept_turn source id turn.Moves v w h (at, d, dest, (taken, works), records) =
     (kept_works (moving id source d taken) v w.cpus h works) refl records
 
 pub kept_turns : (source : ℕ) (ids : List ℕ) (report : JuggleReport) (v w : SystemView Tables) → Half v
-    → Turns fires seen source ids report v w → Kept v w
+    → Turns raise_tables source ids report v w → Kept v w
 kept_turns source [] report v w h (is, same) = kept_same v w h same
 kept_turns source (id ∷ ids) report v w h (t, u, rest, takes, counted, more) =
     let one = kept_turn source id t v u h takes in
     kept_then v u w one (kept_turns source ids rest u w one.half more)
 
-pub kept_retires : (n : ℕ) (ids : List ℕ) (v w : SystemView Tables) → Half v → FoldsTo (Retires fires seen n) v ids w → Kept v w
+pub kept_retires : (n : ℕ) (ids : List ℕ) (v w : SystemView Tables) → Half v → FoldsTo (Retires raise_tables n) v ids w → Kept v w
 kept_retires n [] v w h same = kept_same v w h (sym same)
 kept_retires n (id ∷ ids) v w h (u, (taken, did, k, r, is, named, records, last), rest) =
     let one = kept_ended n (TakeNow id (Ok taken)) taken.sent k r v u h did is records last in
@@ -225,7 +225,7 @@ kept_switched n b v h = record {
 }
 
 kept_leaves : (n : ℕ) (report : JuggleReport) (answer : Result (Unit {0}) Refusal) (v w : SystemView Tables) → Half v
-    → Leaves fires seen n report answer v w → Kept v w
+    → Leaves raise_tables n report answer v w → Kept v w
 kept_leaves n report answer v w h (inl (left, is, same)) = kept_same v w h same
 kept_leaves n report answer v w h (inr (inl (none, is, (before, id, stands, found, some, only)))) =
     kept_only (quiet n before ++ on n (AskPending id (Some found)) ∷ []) v w h only
@@ -239,13 +239,13 @@ kept_leaves n report answer v w h (inr (inr (none, is, (a, only, empty, retires,
 -- ---- removals
 
 kept_begins : (id : ℕ) (way : List Begun) (v w : SystemView Tables) → Half v
-    → FoldsTo (λ u b x. BeginsOn fires seen id b.cpu b.found u x) v way w → Kept v w
+    → FoldsTo (λ u b x. BeginsOn raise_tables id b.cpu b.found u x) v way w → Kept v w
 kept_begins id [] v w h same = kept_same v w h (sym same)
 kept_begins id (b ∷ way) v w h (u, did, rest) =
     let one = by b.found did in
     kept_then v u w one (kept_begins id way u w one.half rest)
   where
-    by : (found : Removal) → BeginsOn fires seen id b.cpu found v u → Kept v u
+    by : (found : Removal) → BeginsOn raise_tables id b.cpu found v u → Kept v u
     by (on_cpu.Done receipt) (did, k, r, is, named, records, last) =
         kept_ended b.cpu (cpu.BeginRemove id (Ok (on_cpu.Done receipt))) (counts_of receipt) k r v u h did is records last
     by (on_cpu.Kept left) (did, records, last) =
@@ -253,13 +253,13 @@ kept_begins id (b ∷ way) v w h (u, did, rest) =
         (kept_did (on b.cpu (cpu.BeginRemove id (Ok (on_cpu.Kept left)))) v u.cpus h did) refl records last
 
 kept_polls : (id : ℕ) (way : List Polled) (v w : SystemView Tables) → Half v
-    → FoldsTo (λ u p x. PollsOn fires seen id p.cpu p.answer u x) v way w → Kept v w
+    → FoldsTo (λ u p x. PollsOn raise_tables id p.cpu p.answer u x) v way w → Kept v w
 kept_polls id [] v w h same = kept_same v w h (sym same)
 kept_polls id (p ∷ way) v w h (u, did, rest) =
     let one = by p.answer did in
     kept_then v u w one (kept_polls id way u w one.half rest)
   where
-    by : (answer : Option Receipt) → PollsOn fires seen id p.cpu answer v u → Kept v u
+    by : (answer : Option Receipt) → PollsOn raise_tables id p.cpu answer v u → Kept v u
     by (Some receipt) (did, k, r, is, named, records, last) =
         kept_ended p.cpu (cpu.PollRemove (Some receipt)) (counts_of receipt) k r v u h did is records last
     by None (did, records, last) =
@@ -331,7 +331,7 @@ returned_full n cpus v r full = by (is_staying v r)
     by false = full
 
 kept_online : (n now : ℕ) (answer : Result (Unit {0}) Refusal) (v w : SystemView Tables) → Half v
-    → GoesOnline fires seen n now answer v w → Kept v w
+    → GoesOnline raise_tables n now answer v w → Kept v w
 kept_online n now (Err e) v w h (why_not, only) = kept_only (on n (Reserve (length (staying v)) (Err e)) ∷ []) v w h only
 kept_online n now (Ok done) v w h ((u, works, cpus), records, last) =
     let way = on n (Reserve (length (staying v)) (Ok tt)) ∷ on n (Widen (length (staying v))) ∷ returns n now (staying v) in
@@ -348,7 +348,7 @@ kept_online n now (Ok done) v w h ((u, works, cpus), records, last) =
 
 -- ---- each call
 
-changes_keep : (call : SystemCall) (v w : SystemView Tables) → Half v → Changes fires seen v call w → Kept v w
+changes_keep : (call : SystemCall) (v w : SystemView Tables) → Half v → Changes raise_tables v call w → Kept v w
 changes_keep (Add level series now answer) v w h (inl (e, some, said, same)) = kept_same v w h same
 changes_keep (Add level series now (Ok id)) v w h (inr (none, (d, dest, named, works, records, last))) =
     let way = on d (Reserve 1 (Ok tt)) ∷ entering d id level series.interval (first series.start series.interval now) in
@@ -409,9 +409,9 @@ changes_keep (SoftInterrupt n level budget answer) v w h did = absurd did
 
 module _ {C : Type 0} (handler : Calls C) where
   kept_ran : (n : ℕ) (call : CpuCall) (s t : RunningSystem C Tables) → Half s.system
-      → ((x y : Running C Tables) → CpuDoes handler fires seen (Interrupts handler) x call y
+      → ((x y : Running C Tables) → CpuDoes handler raise_tables (Interrupts handler) x call y
       → SameCpu x.cpu y.cpu)
-      → RunsAt handler fires seen (Interrupts handler) (running_cpus s.calls s.system.cpus)
+      → RunsAt handler raise_tables (Interrupts handler) (running_cpus s.calls s.system.cpus)
       (on n call) (running_cpus t.calls t.system.cpus)
       → t.system.records ≡ s.system.records → t.system.last ≡ s.system.last → Kept s.system t.system
   kept_ran n call s t h keeps did records last =
@@ -433,11 +433,11 @@ module _ {C : Type 0} (handler : Calls C) where
       }
 
   does_keep : (call : SystemCall) (s t : RunningSystem C Tables) → Half s.system
-      → Does handler fires seen (Interrupts handler) s call t → Kept s.system t.system
+      → Does handler raise_tables (Interrupts handler) s call t → Kept s.system t.system
   does_keep (FireOne n now answer) s t h (inl (e, some, said, same)) =
       kept_same s.system t.system h (ap (λ (x : RunningSystem C Tables). x.system) same)
   does_keep (FireOne n now answer) s t h (inr (none, (did, records, last))) =
-      kept_ran n (Fire now answer) s t h (λ x y d. fire_keeps handler fires seen
+      kept_ran n (Fire now answer) s t h (λ x y d. fire_keeps handler raise_tables
       (Interrupts handler) now x y answer d) did records last
   does_keep (SoftInterrupt n level budget answer) s t h (inl (e, some, said, same)) =
       kept_same s.system t.system h (ap (λ (x : RunningSystem C Tables). x.system) same)
@@ -458,16 +458,16 @@ module _ {C : Type 0} (handler : Calls C) where
   does_keep (Online n now answer) s t h (did, calls) = changes_keep (Online n now answer) s.system t.system h did
 
   pub kept : (call : SystemCall) (s t : RunningSystem C Tables)
-      → Does handler fires seen (Interrupts handler) s call t → IsSystem s.system
+      → Does handler raise_tables (Interrupts handler) s call t → IsSystem s.system
       → Agrees t.system → IsSystem t.system
   kept call s t did sys agrees = whole t.system (does_keep call s t (half s.system sys) did).half agrees
 
   pub most_kept : (call : SystemCall) (s t : RunningSystem C Tables)
-      → Does handler fires seen (Interrupts handler) s call t → IsSystem s.system
+      → Does handler raise_tables (Interrupts handler) s call t → IsSystem s.system
       → (n : ℕ) → most_on n t.system.cpus ≡ most_on n s.system.cpus
   most_kept call s t did sys = (does_keep call s t (half s.system sys) did).most
 
   pub room_kept : (call : SystemCall) (s t : RunningSystem C Tables)
-      → Does handler fires seen (Interrupts handler) s call t → IsSystem s.system
+      → Does handler raise_tables (Interrupts handler) s call t → IsSystem s.system
       → HaveAllRoom s.system.cpus → HaveAllRoom t.system.cpus
   room_kept call s t did sys = (does_keep call s t (half s.system sys) did).room

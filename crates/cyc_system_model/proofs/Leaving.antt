@@ -11,7 +11,7 @@ use Rattle.cyc_core.specs.Tables.{Tables}
 use Rattle.cyc_script.specs.declared.step.Step.TheVariants as steps
 use Rattle.cyc_text.specs.Lines.{accepted, refused, cyclics_left}
 use Rattle.cyc_cpu.specs.Cpu.{CpuView}
-use Rattle.cyc_cpu.specs.Soft.{fires, firing_at as seen}
+use Rattle.cyc_cpu.specs.Soft.{raise_tables}
 use Rattle.cyc_cpu.specs.Calls.{AskPending, TakeNow}
 use Rattle.cyc_system.specs.Cpus.{CpusView, Works, on as on_cpu}
 use Rattle.cyc_system.specs.System.{SystemView, ids_on as ids_there}
@@ -53,7 +53,7 @@ has_out n v id = nat_lt 0 (outstanding_here id (cpu_at v n))
 
 -- the CPU was asked for each of these, and none is outstanding
 none_out : (n : ℕ) (ids : List ℕ) (v w : CpusView Tables) → length v.online ≡ length v.cpus → AreTied v
-    → Works fires seen (quiet n ids) v w → (shown_cpus w ≡ shown_cpus v) × (list_any (has_out n v) ids ≡ false)
+    → Works raise_tables (quiet n ids) v w → (shown_cpus w ≡ shown_cpus v) × (list_any (has_out n v) ids ≡ false)
 none_out n [] v w long ties same = (ap shown_cpus (sym same), refl)
 none_out n (id ∷ ids) v w long ties (u, ask, rest) =
     let a = done_at n (AskPending id (Some 0)) v u long ties ask in
@@ -67,7 +67,7 @@ none_out n (id ∷ ids) v w long ties (u, ask, rest) =
 -- it was asked up to one with calls outstanding
 some_out : (n : ℕ) (before : List ℕ) (id found : ℕ) (v w : CpusView Tables) → length v.online ≡ length v.cpus → AreTied v
     → 0 < found
-    → Works fires seen (quiet n before ++ on_cpu n (AskPending id (Some found)) ∷ []) v w
+    → Works raise_tables (quiet n before ++ on_cpu n (AskPending id (Some found)) ∷ []) v w
     → (shown_cpus w ≡ shown_cpus v) × (has_out n v id ≡ true)
 some_out n [] id found v w long ties some (u, ask, same) =
     let a = done_at n (AskPending id (Some found)) v u long ties ask in
@@ -93,7 +93,7 @@ record Retired (s : State) (o : Outcome) (w : SystemView Tables) : Type 0 where
   shows : ShowsSystem o.state w
   admissions : o.state.admissions ≡ s.admissions
 
-all_retire : (n : ℕ) (ids : List ℕ) (v w : SystemView Tables) → Half v → FoldsTo (Retires fires seen n) v ids w → (s : State)
+all_retire : (n : ℕ) (ids : List ℕ) (v w : SystemView Tables) → Half v → FoldsTo (Retires raise_tables n) v ids w → (s : State)
     → ShowsSystem s v
     → Retired s (each (retire n) ids s) w
 all_retire n [] v w hv same s h = record {
@@ -250,7 +250,7 @@ module _ (n : ℕ) (s : State) (v w : SystemView Tables) (sys : IsSystem v) (h :
   not_late : (e own : Refusal) → first_refusal (juggle_refusals n v) ≡ Some own → e ≡ own → IsAtOnce e
   not_late e own some same = subst AtOnce (same_whys n s v h (half v sys) ∙ some ∙ ap Some (sym same)) (all_at_once n s)
 
-  pub offline_refused : (e : Refusal) → IsAtOnce e → Changes fires seen v (GoOffline n (Err e)) w
+  pub offline_refused : (e : Refusal) → IsAtOnce e → Changes raise_tables v (GoOffline n (Err e)) w
       → IsRefusedFor e (steps.Offline n) s w
   offline_refused e once (inl (own, some, answer, same)) = (
     is_refused e (juggle_refusal plain n s) (same_whys n s v h (half v sys) ∙ some
@@ -270,7 +270,7 @@ report_in d e = d
 
 module _ (n : ℕ) (s : State) (v w : SystemView Tables) (sys : IsSystem v) (h : ShowsSystem s v) (all : HaveAllRoom v.cpus) where
   -- cyclics are left that are not omnipresent
-  pub offline_left : (report : JuggleReport) → Changes fires seen v (GoOffline n (Err (Left report))) w
+  pub offline_left : (report : JuggleReport) → Changes raise_tables v (GoOffline n (Err (Left report))) w
       → IsDoneWith (λ step. cyclics_left step report) (steps.Offline n) s w
   offline_left report (inl (own, some, answer, same)) = absurd (not_late n s v w sys h (Left report) own some
       (same_error (Unit {0}) (Left report) own (Err (Left report)) (Err own) refl refl answer))
@@ -295,7 +295,7 @@ module _ (n : ℕ) (s : State) (v w : SystemView Tables) (sys : IsSystem v) (h :
       absurd (let isnt : Err (Left report) ≡ Ok tt = answer in cc)
 
   -- a component has calls outstanding
-  pub offline_pending : Changes fires seen v (GoOffline n (Err Pending)) w
+  pub offline_pending : Changes raise_tables v (GoOffline n (Err Pending)) w
       → IsDoneWith (λ step. refused step (number_of Pending)) (steps.Offline n) s w
   offline_pending (inl (own, some, answer, same)) = absurd (not_late n s v w sys h Pending own some
       (same_error (Unit {0}) Pending own (Err Pending) (Err own) refl refl answer))
@@ -331,7 +331,7 @@ module _ (n : ℕ) (s : State) (v w : SystemView Tables) (sys : IsSystem v) (h :
       absurd (let isnt : Err Pending ≡ Ok tt = answer in cc)
 
   -- all have left
-  pub offline_accepted : Changes fires seen v (GoOffline n (Ok tt)) w → IsDoneWith accepted (steps.Offline n) s w
+  pub offline_accepted : Changes raise_tables v (GoOffline n (Ok tt)) w → IsDoneWith accepted (steps.Offline n) s w
   offline_accepted (inl (own, some, answer, same)) = absurd (let isnt : Ok tt ≡ Err own = answer in cc)
   offline_accepted (inr (none, (own, m, turns, inl (some, answer, same)))) =
       absurd (let isnt : Ok tt ≡ Err (Left own) = answer in cc)

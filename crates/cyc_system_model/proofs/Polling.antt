@@ -8,7 +8,7 @@ use Rattle.cyc_core.specs.Tables.{Tables}
 use Rattle.cyc_soft.specs.declared.Ran.{Ran}
 use Rattle.cyc_script.specs.declared.step.Softint.{Softint as SoftintStep}
 use Rattle.cyc_text.specs.Lines.{removed, ran}
-use Rattle.cyc_cpu.specs.Soft.{fires, firing_at as seen}
+use Rattle.cyc_cpu.specs.Soft.{raise_tables}
 use Rattle.cyc_places.specs.declared.record.Record.{Record}
 use Rattle.cyc_system.specs.System.{SystemView, RunningSystem, is_leaving as leaving_there}
 use Rattle.cyc_system.specs.Polling.{Polled, PollsOn, PollsEach, PollsRemoval, leaving_cpus}
@@ -89,18 +89,18 @@ module _ (texts : List (List ℕ)) (step id : ℕ) (m : State) (v w : SystemView
   text = text_of_id id texts m.names
 
   comes_all : (way : List Polled) (u : SystemView Tables) → map cpu_in way ≡ leaving_cpus id v.cpus
-      → PollsEach fires seen id way v u
+      → PollsEach raise_tables id way v u
       → CameToAll cpu_in (λ p c. Unit {0}) way m parts u
   comes_all way u ns did =
       let all : map cpu_in way ≡ numbers (is_open id) m = ns ∙ sym (same_open id m v h sys.agrees.long) in
       subst (λ ks. CameToAll cpu_in (λ p c. Unit {0}) way m (each (poll plain id) ks m) u) all
       (all_come (poll plain id) cpu_in (λ c. c.removal ≡ Some id) (λ p c. Unit {0})
-      (λ x p y. PollsOn fires seen id p.cpu p.answer x y)
+      (λ x p y. PollsOn raise_tables id p.cpu p.answer x y)
       (λ p n x y hx shows ready one. polls_on id p n x y hx shows ready one) 0 way m v u
       (subst (RiseFrom 0) (sym all) (numbers_rise (is_open id) 0 m.cpus)) (half v sys) h
       (λ k has. open_is id (cpu_of k m) (numbers_pass (is_open id) k m (subst (Has k) all has)).1) did)
 
-  pub is_polled : (answer : Option Receipt) → PollsRemoval fires seen id (Ok answer) v w → IsPolled texts step id answer m w
+  pub is_polled : (answer : Option Receipt) → PollsRemoval raise_tables id (Ok answer) v w → IsPolled texts step id answer m w
   is_polled answer (inl (e, some, said, same)) = absurd (let isnt : Ok answer ≡ Err e = said in cc)
   is_polled (Some receipt) (inr (none, (way, u, ns, did, answers))) =
       let c = (comes_all way u ns did).came in
@@ -135,7 +135,7 @@ module _ (texts : List (List ℕ)) (step id : ℕ) (m : State) (v w : SystemView
       stays (n ∷ ns) some = refl
 
   -- what is left to be told of it, where it answers
-  pub polled_counts : (receipt : Receipt) → PollsRemoval fires seen id (Ok (Some receipt)) v w
+  pub polled_counts : (receipt : Receipt) → PollsRemoval raise_tables id (Ok (Some receipt)) v w
       → counts_of id (poll_id plain texts step id m).state ≡ told_by receipt (m.called id)
   polled_counts receipt (inl (e, some, said, same)) = absurd (let isnt : Ok (Some receipt) ≡ Err e = said in cc)
   polled_counts receipt (inr (none, (way, u, ns, did, answers))) =
@@ -165,7 +165,7 @@ module _ (texts : List (List ℕ)) (step : ℕ) (m : State) where
 
   pub polls_next : (ids lines : List ℕ) (id : ℕ) (answer : Option Receipt) (v w : SystemView Tables) → IsSystem v
       → HavePolled texts step ids lines m v
-      → PollsRemoval fires seen id (Ok answer) v w
+      → PollsRemoval raise_tables id (Ok answer) v w
       → HavePolled texts step (ids ++ id ∷ []) (lines ++ answer_line step (text_of_id id texts m.names) answer) m w
   polls_next ids lines id answer v w sys h did =
       let o = polls ids in
@@ -194,7 +194,7 @@ module _ (texts : List (List ℕ)) (step : ℕ) (m : State) where
 
   pub polls_tell : (ids lines : List ℕ) (id : ℕ) (receipt : Receipt) (v w : SystemView Tables) → IsSystem v
       → HavePolled texts step ids lines m v
-      → PollsRemoval fires seen id (Ok (Some receipt)) v w
+      → PollsRemoval raise_tables id (Ok (Some receipt)) v w
       → counts_of id (polls (ids ++ id ∷ [])).state ≡ told_by receipt (m.called id)
   polls_tell ids lines id receipt v w sys h did =
       ap (λ (x : Outcome). counts_of id x.state) (one_more ids id)

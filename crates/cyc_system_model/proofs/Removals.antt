@@ -11,7 +11,7 @@ use Rattle.cyc_core.specs.Tables.{Tables}
 use Rattle.cyc_script.specs.declared.step.Step.TheVariants as steps
 use Rattle.cyc_text.specs.Lines.{kept, removed}
 use Rattle.cyc_cpu.specs.Cpu.{CpuView}
-use Rattle.cyc_cpu.specs.Soft.{fires, firing_at as seen}
+use Rattle.cyc_cpu.specs.Soft.{raise_tables}
 use Rattle.cyc_system.specs.System.{SystemView, removal_on}
 use Rattle.cyc_system.specs.SystemRemoval.{SystemRemoval}
 use Rattle.cyc_system.specs.SystemRemoval.TheVariants as system
@@ -84,7 +84,7 @@ abbrev left_in : Begun → ℕ
 left_in b = kept_in b.found
 
 module _ (id : ℕ) (way : List Begun) (m : State) (v u : SystemView Tables) (h : ShowsSystem m v) (hv : Half v)
-    (ns : map cpu_in way ≡ cpus_with_in id v.cpus) (each_begins : BeginsEach fires seen id way v u) where
+    (ns : map cpu_in way ≡ cpus_with_in id v.cpus) (each_begins : BeginsEach raise_tables id way v u) where
   abbrev parts : Outcome
   parts = each (begin plain id) (cpus_with id m) m
 
@@ -95,7 +95,7 @@ module _ (id : ℕ) (way : List Begun) (m : State) (v u : SystemView Tables) (h 
   begun_all = subst (λ ks. CameToAll cpu_in (λ b c. outstanding_here id c ≡ left_in b) way m (each (begin plain id) ks m) u)
       all_ns
       (all_come (begin plain id) cpu_in (λ c. Unit {0}) (λ b c. outstanding_here id c ≡ left_in b)
-      (λ x b y. BeginsOn fires seen id b.cpu b.found x y)
+      (λ x b y. BeginsOn raise_tables id b.cpu b.found x y)
       (λ b n x y hx shows ready did. begins_on id b n x y hx shows ready did) 0 way m v u
       (subst (RiseFrom 0) (sym all_ns) (numbers_rise (has_cyclic id) 0 m.cpus)) hv h (λ k has. tt) each_begins)
 
@@ -145,7 +145,7 @@ module _ (name : ℕ) (m : State) (v w : SystemView Tables) (sys : IsSystem v) (
   abbrev own_id : ℕ
   own_id = id_of name m
 
-  pub remove_done : (receipt : Receipt) → BeginsRemoval fires seen (id_of name m) (Ok (system.Done receipt)) v w
+  pub remove_done : (receipt : Receipt) → BeginsRemoval raise_tables (id_of name m) (Ok (system.Done receipt)) v w
       → IsRemoved name receipt m w
   remove_done receipt (inl (e, some, answer, same)) = absurd (let isnt : Ok (system.Done receipt) ≡ Err e = answer in cc)
   remove_done receipt (inr (none, (way, u, ns, begins, answers))) =
@@ -174,7 +174,7 @@ module _ (name : ℕ) (m : State) (v w : SystemView Tables) (sys : IsSystem v) (
             ∙ counts_left own_id receipt o.state u w c.shows c.half answers ∙ ap (told_by receipt) (c.called own_id);
       }
 
-  pub remove_kept : (waits : ℕ) → BeginsRemoval fires seen (id_of name m) (Ok (system.Kept waits)) v w → IsKept name waits m w
+  pub remove_kept : (waits : ℕ) → BeginsRemoval raise_tables (id_of name m) (Ok (system.Kept waits)) v w → IsKept name waits m w
   remove_kept waits (inl (e, some, answer, same)) = absurd (let isnt : Ok (system.Kept waits) ≡ Err e = answer in cc)
   remove_kept waits (inr (none, (way, ns, begins, some, is_kept))) =
       let o = parts own_id way m v w h (half v sys) ns begins in
@@ -198,7 +198,7 @@ module _ (name : ℕ) (m : State) (v w : SystemView Tables) (sys : IsSystem v) (
             ∙ ap (kept step) (kept_is own_id way m v w h (half v sys) ns begins ∙ sym is_kept);
       }
 
-  pub remove_refused : (e : Refusal) → BeginsRemoval fires seen (id_of name m) (Err e) v w
+  pub remove_refused : (e : Refusal) → BeginsRemoval raise_tables (id_of name m) (Err e) v w
       → IsRefusedFor e (steps.Remove name) m w
   remove_refused e (inl (own, some, answer, same)) = (
     is_refused e (remove_id_refusal plain own_id m)

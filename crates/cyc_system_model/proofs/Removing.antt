@@ -8,7 +8,7 @@ use Rattle.cyc_types.specs.declared.receipt.Receipt.{Receipt}
 use Rattle.cyc_core.specs.Tables.{Tables}
 use Rattle.cyc_cpu.specs.declared.removing.Removal.{Removal}
 use Rattle.cyc_cpu.specs.declared.removing.Removal.TheVariants.{Done, Kept}
-use Rattle.cyc_cpu.specs.Soft.{fires, firing_at as seen}
+use Rattle.cyc_cpu.specs.Soft.{raise_tables}
 use Rattle.cyc_cpu.specs.Calls.{BeginRemove, PollRemove}
 use Rattle.cyc_places.specs.declared.record.Record.{Record}
 use Rattle.cyc_places.specs.Places.{IsRecord, summed, ended_on, with_ended}
@@ -249,11 +249,11 @@ module _ (id n : ℕ) (m : State) (v w : SystemView Tables) (hv : Half v) (h : S
 -- ---- by what was found
 
 pub begins_on : (id : ℕ) (b : Begun) (m : State) (v w : SystemView Tables) → Half v → ShowsSystem m v → Unit {0}
-    → BeginsOn fires seen id b.cpu b.found v w
+    → BeginsOn raise_tables id b.cpu b.found v w
     → CameTo b.cpu (λ c. outstanding_here id c ≡ kept_in b.found) m (begin plain id b.cpu m) w
 begins_on id b m v w hv h ready did = by b.found did
   where
-    by : (found : Removal) → BeginsOn fires seen id b.cpu found v w
+    by : (found : Removal) → BeginsOn raise_tables id b.cpu found v w
         → CameTo b.cpu (λ c. outstanding_here id c ≡ kept_in found) m (begin plain id b.cpu m) w
     by (Done receipt) (did, k, r, is, named, records, last) =
         done_comes id b.cpu m v w hv h receipt k r
@@ -264,7 +264,7 @@ begins_on id b m v w hv h ready did = by b.found did
 
 pub polls_on : (id : ℕ) (p : Polled) (m : State) (v w : SystemView Tables) → Half v → ShowsSystem m v
     → (cpu_of p.cpu m).removal ≡ Some id
-    → PollsOn fires seen id p.cpu p.answer v w → CameTo p.cpu (λ c. Unit {0}) m (poll plain id p.cpu m) w
+    → PollsOn raise_tables id p.cpu p.answer v w → CameTo p.cpu (λ c. Unit {0}) m (poll plain id p.cpu m) w
 polls_on id p m v w hv h open_there did = by p.answer did
   where
     removal_is : (cpu_at v.cpus p.cpu).removal ≡ Some id
@@ -279,7 +279,7 @@ polls_on id p m v w hv h open_there did = by p.answer did
         waits_comes id p.cpu m v w hv h d (subst (λ j. 0 < outstanding_here j (cpu_at v.cpus p.cpu))
         (same_some (sym is ∙ removal_is)) some) records last
 
-    by : (answer : Option Receipt) → PollsOn fires seen id p.cpu answer v w
+    by : (answer : Option Receipt) → PollsOn raise_tables id p.cpu answer v w
         → CameTo p.cpu (λ c. Unit {0}) m (poll plain id p.cpu m) w
     by (Some receipt) (did, k, r, is, named, records, last) =
         let d = done_at p.cpu (PollRemove (Some receipt)) v.cpus w.cpus hv.long hv.tied did in

@@ -11,7 +11,7 @@ use Rattle.cyc_types.specs.declared.refusal.Refusal.{Refusal}
 use Rattle.cyc_types.specs.declared.refusal.Refusal.TheVariants.{NoCyclic, Omnipresent}
 use Rattle.cyc_core.specs.Tables.{Tables}
 use Rattle.cyc_script.specs.declared.step.Step.TheVariants as steps
-use Rattle.cyc_cpu.specs.Soft.{fires, firing_at as seen}
+use Rattle.cyc_cpu.specs.Soft.{raise_tables}
 use Rattle.cyc_places.specs.declared.record.Placement.TheVariants as place
 use Rattle.cyc_places.specs.declared.record.Record.{Record}
 use Rattle.cyc_places.specs.Places.{IsRecord, HasRisingIds, with_place, ended_on}
@@ -119,7 +119,7 @@ module _ (name : ℕ) (s : State) (v w : SystemView Tables) (sys : IsSystem v) (
   same_whys = λ z. or_else (same_no_cyclic s v h sys.agrees.long (id_of name s) z)
       (or_else (same_omnipresent s v h sys.agrees.long (id_of name s) z) None)
 
-  pub unbind_accepted : Changes fires seen v (Bind (id_of name s) None (Ok tt)) w → IsDone (steps.Unbind name) s w
+  pub unbind_accepted : Changes raise_tables v (Bind (id_of name s) None (Ok tt)) w → IsDone (steps.Unbind name) s w
   unbind_accepted (inl (e, some, answer, same)) = absurd (let isnt : Ok tt ≡ Err e = answer in cc)
   unbind_accepted (inr (none, (ok, n, home, cpus, records))) = record {
     accepted = same_whys ∙ none;
@@ -134,7 +134,7 @@ module _ (name : ℕ) (s : State) (v w : SystemView Tables) (sys : IsSystem v) (
     quiet = λ texts indexes step at q. refl;
   }
 
-  pub unbind_refused : (e : Refusal) → Changes fires seen v (Bind (id_of name s) None (Err e)) w
+  pub unbind_refused : (e : Refusal) → Changes raise_tables v (Bind (id_of name s) None (Err e)) w
       → IsRefusedFor e (steps.Unbind name) s w
   unbind_refused e (inl (own, some, answer, same)) = (
     is_refused e (unbind_refusal name s) (same_whys ∙ some

@@ -6,7 +6,7 @@ use Rattle.cyc_types.specs.declared.refusal.Refusal.TheVariants.{BadWhen, NoCycl
 use Rattle.cyc_core.specs.Tables.{Tables}
 use Rattle.cyc_script.specs.declared.step.Reprogram.{Reprogram as ReprogramStep}
 use Rattle.cyc_script.specs.declared.step.Step.TheVariants as steps
-use Rattle.cyc_cpu.specs.Soft.{fires, firing_at as seen}
+use Rattle.cyc_cpu.specs.Soft.{raise_tables}
 use Rattle.cyc_cpu.specs.Calls.{Reprogram as CpuReprogram}
 use Rattle.cyc_system.specs.Cpus.{on as on_cpu}
 use Rattle.cyc_system.specs.System.{SystemView}
@@ -33,7 +33,7 @@ record Moved (n id moment : ℕ) (v w : SystemView Tables) : Type 0 where
   last : w.last ≡ v.last
 
 moved : (n id moment : ℕ) (v w : SystemView Tables) → IsSystem v
-    → OnlyWorks fires seen (on_cpu n (CpuReprogram id moment (Ok tt)) ∷ []) v w
+    → OnlyWorks raise_tables (on_cpu n (CpuReprogram id moment (Ok tt)) ∷ []) v w
     → Moved n id moment v w
 moved n id moment v w sys ((u, did, same), records, last) =
     let r = done_at n (CpuReprogram id moment (Ok tt)) v.cpus u sys.agrees.long sys.tied did in
@@ -56,7 +56,7 @@ abbrev later_whys : Option ℕ → ℕ → State → Option Refusal
 later_whys cpu id s = or_else (no_cyclic id s) (first_refusal (cpu_refusals cpu id s))
 
 module _ (id moment : ℕ) (s : State) (v w : SystemView Tables) (sys : IsSystem v) (h : ShowsSystem s v) where
-  accepted : (cpu : Option ℕ) → Changes fires seen v (reprograms cpu id moment (Ok tt)) w
+  accepted : (cpu : Option ℕ) → Changes raise_tables v (reprograms cpu id moment (Ok tt)) w
       → (later_whys cpu id s ≡ None) × ((own : ℕ) → own ≡ moment
       → ShowsSystem (on (cpu_meant cpu id s) (reprogram_here id own) s).state w)
   accepted None (inl (e, some, answer, same)) = absurd (let isnt : Ok tt ≡ Err e = answer in cc)
@@ -74,7 +74,7 @@ module _ (id moment : ℕ) (s : State) (v w : SystemView Tables) (sys : IsSystem
     λ own is. moved_shown n n id moment own s v w h refl is (moved n id moment v w sys did),
   )
 
-  refused : (cpu : Option ℕ) (e : Refusal) → Changes fires seen v (reprograms cpu id moment (Err e)) w
+  refused : (cpu : Option ℕ) (e : Refusal) → Changes raise_tables v (reprograms cpu id moment (Err e)) w
       → IsRefused e (later_whys cpu id s) × ShowsSystem s w
   refused None e (inl (own, some, answer, same)) = (
     is_refused e (later_whys None id s)
@@ -105,7 +105,7 @@ module _ (r : ReprogramStep) (moment : ℕ) (s : State) (v w : SystemView Tables
   no_bad_when : when (int_lt r.moment (pos 0)) BadWhen ≡ None
   no_bad_when = ap (λ b. when b BadWhen) is.0
 
-  pub reprogram_accepted : Changes fires seen v (reprograms r.cpu (id_of r.name s) moment (Ok tt)) w
+  pub reprogram_accepted : Changes raise_tables v (reprograms r.cpu (id_of r.name s) moment (Ok tt)) w
       → IsDone (steps.Reprogram r) s w
   reprogram_accepted did =
       let (none, shows) = accepted (id_of r.name s) moment s v w sys h r.cpu did in
@@ -120,7 +120,7 @@ module _ (r : ReprogramStep) (moment : ℕ) (s : State) (v w : SystemView Tables
         quiet = λ texts indexes step at q. refl;
       }
 
-  pub reprogram_refused : (e : Refusal) → Changes fires seen v (reprograms r.cpu (id_of r.name s) moment (Err e)) w
+  pub reprogram_refused : (e : Refusal) → Changes raise_tables v (reprograms r.cpu (id_of r.name s) moment (Err e)) w
       → IsRefusedFor e (steps.Reprogram r) s w
   reprogram_refused e did =
       let (why, shows) = refused (id_of r.name s) moment s v w sys h r.cpu e did in

@@ -17,7 +17,7 @@ use Rattle.cyc_types.specs.declared.refusal.Refusal.TheVariants.{Memory, BadNow,
 use Rattle.cyc_core.specs.Tables.{Tables}
 use Rattle.cyc_script.specs.declared.step.Step.TheVariants as steps
 use Rattle.cyc_text.specs.Lines.{accepted as accepted_line}
-use Rattle.cyc_cpu.specs.Soft.{fires, firing_at as seen}
+use Rattle.cyc_cpu.specs.Soft.{raise_tables}
 use Rattle.cyc_cpu.specs.Calls.{Reserve, Widen, Place}
 use Rattle.cyc_places.specs.declared.record.Placement.{Placement as RecordPlacement}
 use Rattle.cyc_places.specs.declared.record.Placement.TheVariants as place
@@ -131,7 +131,7 @@ GivesBack n now rs x y = (given_there : List ℕ)
 
 all_return : (n now : ℕ) (rs : List Record) (x y : CpusView Tables) → length x.online ≡ length x.cpus → AreTied x
     → HasRisingIds rs → AllEverywhere rs
-    → Works fires seen (returns n now rs) x y → GivesBack n now rs x y
+    → Works raise_tables (returns n now rs) x y → GivesBack n now rs x y
 all_return n now [] x y long tied rising every same = (
   [],
   λ s indexes cpus clock ended gives. record {
@@ -148,9 +148,9 @@ all_return n now (r ∷ rs) x y long tied rising every works =
     by (λ u long_u tied_u rest. all_return n now rs u y long_u tied_u (later_rise r rs rising)
     (λ j q at. every (suc j) q at) rest) r.place refl works
   where
-    by : ((u : CpusView Tables) → length u.online ≡ length u.cpus → AreTied u → Works fires seen (returns n now rs) u y
+    by : ((u : CpusView Tables) → length u.online ≡ length u.cpus → AreTied u → Works raise_tables (returns n now rs) u y
         → GivesBack n now rs u y) → (p : RecordPlacement) → r.place ≡ p
-        → Works fires seen (returns_at n now r.id r.level (ended_on n r) p ++ returns n now rs) x y
+        → Works raise_tables (returns_at n now r.id r.level (ended_on n r) p ++ returns n now rs) x y
         → GivesBack n now (r ∷ rs) x y
     by next (place.On m bound) is did = absurd (let isnt : false ≡ true = sym (ap everywhere_in is) ∙ every 0 r refl in cc)
     by next (place.Everywhere series skew) is (u, put, rest) =
@@ -373,7 +373,7 @@ module _ (n : ℕ) (s : State) (v w : SystemView Tables) (sys : IsSystem v) (h :
           absurd (let isnt : true ≡ false = sym passes ∙ ap (is_staying v.cpus) one ∙ is in cc))
           ∙ same c.id m ∙ h.ended i c there m
 
-  pub online_accepted : Changes fires seen v (GoOnline n s.clock (Ok tt)) w → IsDone (steps.Online n) s w
+  pub online_accepted : Changes raise_tables v (GoOnline n s.clock (Ok tt)) w → IsDone (steps.Online n) s w
   online_accepted (inl (e, some, answer, same)) = absurd (let isnt : Ok tt ≡ Err e = answer in cc)
   online_accepted (inr (none, ((cw, (u1, res, (u2, wide, rest)), cpus), records, last))) =
       let k = length stay in
@@ -439,7 +439,7 @@ module _ (n : ℕ) (s : State) (v w : SystemView Tables) (sys : IsSystem v) (h :
             ((goes indexes at).quiet q);
       }
 
-  pub online_refused : (e : Refusal) → Changes fires seen v (GoOnline n s.clock (Err e)) w → IsRefusedFor e (steps.Online n) s w
+  pub online_refused : (e : Refusal) → Changes raise_tables v (GoOnline n s.clock (Err e)) w → IsRefusedFor e (steps.Online n) s w
   online_refused e (inl (own, some, answer, same)) =
       let said = some ∙ ap Some (sym (same_error (Unit {0}) e own (Err e) (Err own) refl refl answer)) in (
         some_refused e (or_else (why.no_cpu n v) (or_else (online_there n v) (or_else (bad_now s.clock) None)))

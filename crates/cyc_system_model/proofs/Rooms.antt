@@ -7,7 +7,7 @@ use Rattle.std.proofs.lemmas.Option.{slice_get_within}
 use mathlib.Core.Logic.{dite}
 use native.Mathlib.Decide.{ℕ_discrete}
 use Rattle.cyc_types.specs.Limits.{greatest_bank}
-use Rattle.cyc_types.specs.Firing.{FiringView, FiringCall}
+use Rattle.cyc_types.specs.declared.Raise.{Ghosts as Raise}
 use Rattle.cyc_types.specs.declared.level.Level.{Level}
 use Rattle.cyc_types.specs.declared.moment.When.{When}
 use Rattle.cyc_types.specs.declared.refusal.Refusal.{Refusal}
@@ -16,7 +16,7 @@ use Rattle.cyc_core.specs.Tables.{Tables}
 use Rattle.cyc_cpu.specs.declared.removing.Removal.TheVariants.{Done, Kept}
 use Rattle.cyc_cpu.specs.Cpu.{CpuView, SameCpu, Reserves, Widens, MayWiden, size_for, bank_for, least_bank}
 use Rattle.cyc_cpu.specs.Moving.{WhyNotTaken}
-use Rattle.cyc_cpu.specs.Soft.{fires, firing_at as seen}
+use Rattle.cyc_cpu.specs.Soft.{raise_tables}
 use Rattle.cyc_cpu.specs.Calls.{CpuCall, Fire, SoftInterrupt, Add, Place, Reprogram, AskPending, AskTotals, AskRoom, Reserve}
 use Rattle.cyc_cpu.specs.Calls.{Widen, BeginRemove, PollRemove, TakeNow, AskSettled, Changes}
 use Rattle.cyc_system.specs.Cpus.{CpusView, IsCpu, CallOn, with_cpu, on, DoesAt}
@@ -39,8 +39,8 @@ module _ {R : Type 0} where
   pub room_same : (v w : CpuView R) → SameCpu v w → HasAllRoom v → HasAllRoom w
   room_same v w k h = room_as v w k.room k.size h
 
-module _ {R : Type 0} (step : R → FiringCall → R → Type 0) (view : R → FiringView) where
-  room_reserved : (more : ℕ) (v w : CpuView R) → Reserves step view more v w → HasAllRoom v → HasAllRoom w
+module _ {R : Type 0} (firing : Raise R) where
+  room_reserved : (more : ℕ) (v w : CpuView R) → Reserves firing more v w → HasAllRoom v → HasAllRoom w
   room_reserved more v w r h =
       let most = h.0 in
       let low = h.1 in
@@ -48,7 +48,7 @@ module _ {R : Type 0} (step : R → FiringCall → R → Type 0) (view : R → F
       let size = r.size in
       (omega (arith, most, room), omega (arith, low, room, size))
 
-  room_widened : (more : ℕ) (v w : CpuView R) → MayWiden view more v → Widens step view more v w → HasAllRoom v → HasAllRoom w
+  room_widened : (more : ℕ) (v w : CpuView R) → MayWiden firing.view more v → Widens firing more v w → HasAllRoom v → HasAllRoom w
   room_widened more v w may d h =
       let most = h.0 in
       let low = may.reserved in
@@ -57,18 +57,18 @@ module _ {R : Type 0} (step : R → FiringCall → R → Type 0) (view : R → F
       (omega (arith, most, room), omega (arith, low, room, size))
 
   room_not_added : (id now : ℕ) (level : Level) (when : When) (v w : CpuView R) (e : Refusal)
-      → Changes step view v (Add id level when now (Err e)) w
+      → Changes firing v (Add id level when now (Err e)) w
       → HasAllRoom v → HasAllRoom w
   room_not_added id now level when v w why.BadNow d h = room_equal v w d.2 h
   room_not_added id now level when v w e d h = room_same v w d.2.kept h
 
-  room_not_taken : (id : ℕ) (v w : CpuView R) (e : Refusal) → WhyNotTaken step view id v e w → HasAllRoom v → HasAllRoom w
+  room_not_taken : (id : ℕ) (v w : CpuView R) (e : Refusal) → WhyNotTaken firing id v e w → HasAllRoom v → HasAllRoom w
   room_not_taken id v w why.NoCyclic d h = room_equal v w d.1 h
   room_not_taken id v w (why.Busy removed) d h = room_equal v w d.2 h
   room_not_taken id v w why.Pending (still, some, n, more, a) h = room_same v w a.kept h
   room_not_taken id v w e d h = absurd d
 
-  pub changes_room : (v w : CpuView R) (call : CpuCall) → Changes step view v call w → HasAllRoom v → HasAllRoom w
+  pub changes_room : (v w : CpuView R) (call : CpuCall) → Changes firing v call w → HasAllRoom v → HasAllRoom w
   changes_room v w (Add id level when now (Ok done)) (absent, early, a) h =
       room_same a.widened w a.enters.kept (room_widened 1 a.reserved a.widened a.allowed a.widens
       (room_reserved 1 v a.reserved a.reserves h))
@@ -121,11 +121,11 @@ enough_for size n room low most = pick (nat_le n size)
     pick false = let top = bank in omega (arith, top, most)
 
 -- a CPU that has the memory for all is refused none
-never_wanting : (more : ℕ) (e : Refusal) (v w : CpuView Tables) → HasAllRoom v → Changes fires seen v (Reserve more (Err e)) w
+never_wanting : (more : ℕ) (e : Refusal) (v w : CpuView Tables) → HasAllRoom v → Changes raise_tables v (Reserve more (Err e)) w
     → e ≢ why.Memory
-never_wanting more e v w h d is = wants (subst (λ x. Changes fires seen v (Reserve more (Err x)) w) is d)
+never_wanting more e v w h d is = wants (subst (λ x. Changes raise_tables v (Reserve more (Err x)) w) is d)
   where
-    wants : Changes fires seen v (Reserve more (Err why.Memory)) w → ⊥
+    wants : Changes raise_tables v (Reserve more (Err why.Memory)) w → ⊥
     wants (looked, (fits, less)) =
         let low = enough_for v.size (length v.cyclics + more) v.room h.1 h.0 in
         absurd (omega (arith, low, less))
@@ -145,11 +145,11 @@ room_set n x y v w here rest keeps all m cpu is = dite (ℕ_discrete m n) there
         let same : y ≡ cpu = same_some (sym at ∙ sym (ap (λ (u : CpusView Tables). slice_get u.cpus n) rest) ∙ own) in
         subst HasAllRoom same (keeps (all n x here))
 
-pub room_did : (c : CallOn) (v w : CpusView Tables) → DoesAt fires seen v c w → HaveAllRoom v → HaveAllRoom w
+pub room_did : (c : CallOn) (v w : CpusView Tables) → DoesAt raise_tables v c w → HaveAllRoom v → HaveAllRoom w
 room_did c v w did = room_set c.cpu did.before did.after v w did.here did.rest
-    (changes_room fires seen did.before did.after c.call did.change)
+    (changes_room raise_tables did.before did.after c.call did.change)
 
 -- where the memory for all is there, a CPU that has no room lacks no memory
 pub no_want : (n more : ℕ) (e : Refusal) (v w : CpusView Tables) → HaveAllRoom v
-    → DoesAt fires seen v (on n (Reserve more (Err e))) w → e ≢ why.Memory
+    → DoesAt raise_tables v (on n (Reserve more (Err e))) w → e ≢ why.Memory
 no_want n more e v w all did = never_wanting more e did.before did.after (all n did.before did.here) did.change

@@ -8,7 +8,7 @@ use Rattle.cyc_soft.specs.declared.Ran.{Ran}
 use Rattle.cyc_cpu.specs.Fired.{Fired}
 use Rattle.cyc_cpu.specs.FireRefused.{FireRefused}
 use Rattle.cyc_script.specs.declared.step.Softint.{Softint as SoftintStep}
-use Rattle.cyc_cpu.specs.Soft.{fires, firing_at as seen, Interrupts}
+use Rattle.cyc_cpu.specs.Soft.{raise_tables, Interrupts}
 use Rattle.cyc_cpu.specs.Calls.{Fire, SoftInterrupt as CpuSoftInterrupt, no_interrupts}
 use Rattle.cyc_system.specs.Cpus.{running_cpus}
 use Rattle.cyc_system.specs.declared.interrupting.SoftFault.{SoftFault}
@@ -57,7 +57,7 @@ module _ {C : Type 0} (handler : Calls C)
       (or_else (same_offline m s.system h sys.agrees.long n z) None)
 
   pub fire_accepted : (n : ℕ) (fired : Fired)
-      → Does handler fires seen no_interrupts s (FireOne n m.clock (Ok fired)) t
+      → Does handler raise_tables no_interrupts s (FireOne n m.clock (Ok fired)) t
       → IsFired handler.count n fired m s t
   fire_accepted n fired (inl (e, some, answer, same)) = absurd (let isnt : Ok fired ≡ Err (no_fire e) = answer in cc)
   fire_accepted n fired (inr (none, (did, records, last))) =
@@ -79,14 +79,14 @@ module _ {C : Type 0} (handler : Calls C)
 
   pub fire_refused : (n now : ℕ) (e : Refusal) (answer : Result Fired FireRefused)
       → first_refusal (no_cpu n m ∷ offline_cpu n m ∷ []) ≡ Some e
-      → Does handler fires seen no_interrupts s (FireOne n now answer) t → (answer ≡ Err (no_fire e)) × (t ≡ s)
+      → Does handler raise_tables no_interrupts s (FireOne n now answer) t → (answer ≡ Err (no_fire e)) × (t ≡ s)
   fire_refused n now e answer is (inl (own, some, said, same)) =
       let es : own ≡ e = same_some (sym some ∙ sym (no_cpu_there n) ∙ is) in
       (said ∙ ap (λ x. Err (no_fire x)) es, same)
   fire_refused n now e answer is (inr (none, did)) = absurd (none_some (sym none ∙ sym (no_cpu_there n) ∙ is))
 
   pub softint_accepted : (i : SoftintStep) (ran : Ran)
-      → Does handler fires seen (Interrupts handler) s
+      → Does handler raise_tables (Interrupts handler) s
       (SoftInterrupt i.cpu i.level i.budget (Ok ran)) t
       → IsServed handler.count i ran m s t
   softint_accepted i ran (inl (e, some, answer, same)) = absurd (let isnt : Ok ran ≡ Err fault.NoCpu = answer in cc)
@@ -116,7 +116,7 @@ module _ {C : Type 0} (handler : Calls C)
       }
 
   pub softint_refused : (i : SoftintStep) (e : Refusal) (answer : Result Ran SoftFault) → softint_refusal i m ≡ Some e
-      → Does handler fires seen (Interrupts handler) s
+      → Does handler raise_tables (Interrupts handler) s
       (SoftInterrupt i.cpu i.level i.budget answer) t
       → (answer ≡ Err fault.NoCpu) × (t ≡ s)
   softint_refused i e answer is (inl (own, some, said, same)) = (said, same)

@@ -11,7 +11,7 @@ use Rattle.cyc_types.specs.declared.refusal.Refusal.TheVariants.{BadWhen, BadInt
 use Rattle.cyc_core.specs.Tables.{Tables}
 use Rattle.cyc_script.specs.declared.step.Omni.{Omni as OmniStep}
 use Rattle.cyc_script.specs.declared.step.Step.TheVariants as steps
-use Rattle.cyc_cpu.specs.Soft.{fires, firing_at as seen}
+use Rattle.cyc_cpu.specs.Soft.{raise_tables}
 use Rattle.cyc_cpu.specs.Calls.{AskRoom, Reserve, Widen, Place}
 use Rattle.cyc_places.specs.declared.record.Placement.TheVariants as place
 use Rattle.cyc_places.specs.Places.{IsRecord, no_counts, new_record}
@@ -69,7 +69,7 @@ enters indexes id e ns s = each (λ n t. enter indexes n (component id n e t.clo
 
 all_enter : (id : ℕ) (level : Level) (series : When) (skew now : ℕ) (ns : List ℕ) (x y : CpusView Tables)
     → length x.online ≡ length x.cpus → AreTied x
-    → Works fires seen (entering_each ns id level series skew now) x y
+    → Works raise_tables (entering_each ns id level series skew now) x y
     → (given_there : List ℕ) × ((s : State) (indexes : ℕ → ℕ) → s.cpus ≡ shown_cpus x → s.clock ≡ now
     → Gives indexes s.admissions given_there
     → Entered given_there s (enters indexes id (of_series level series skew) ns s) y)
@@ -126,7 +126,7 @@ all_enter id level series skew now (n ∷ ns) x y long tied (u1, wide, (u2, put,
 -- ---- room on each CPU
 
 all_rooms : (ns : List ℕ) (x y : CpusView Tables) → length x.online ≡ length x.cpus → AreTied x
-    → Works fires seen (rooms 1 ns) x y
+    → Works raise_tables (rooms 1 ns) x y
     → (shown_cpus y ≡ shown_cpus x) × AreTied y × (length y.online ≡ length y.cpus)
     × (first_refusal (map (λ n. why_no_room 1 (cpu_at x n)) ns) ≡ None)
 all_rooms [] x y long tied same = (
@@ -146,7 +146,7 @@ all_rooms (n ∷ ns) x y long tied (u, did, rest) =
     )
 
 all_reserved : (ns : List ℕ) (x y : CpusView Tables) → length x.online ≡ length x.cpus → AreTied x
-    → Works fires seen (reserves 1 ns) x y
+    → Works raise_tables (reserves 1 ns) x y
     → (shown_cpus y ≡ shown_cpus x) × AreTied y × (length y.online ≡ length y.cpus)
 all_reserved [] x y long tied same = (
   ap shown_cpus (sym same),
@@ -159,7 +159,7 @@ all_reserved (n ∷ ns) x y long tied (u, did, rest) =
     (r.0 ∙ unchanged x u n d.cpus, r.1, r.2)
 
 no_room_there : (before : List ℕ) (n : ℕ) (e : Refusal) (x y : CpusView Tables) → length x.online ≡ length x.cpus → AreTied x
-    → Works fires seen (rooms 1 before ++ on_cpu n (AskRoom 1 (Err e)) ∷ []) x y
+    → Works raise_tables (rooms 1 before ++ on_cpu n (AskRoom 1 (Err e)) ∷ []) x y
     → (shown_cpus y ≡ shown_cpus x) × ((rest : List ℕ)
     → first_refusal (map (λ k. why_no_room 1 (cpu_at x k)) (before ++ n ∷ rest)) ≡ Some e)
 no_room_there [] n e x y long tied (u, did, last) =
@@ -177,7 +177,7 @@ no_room_there (b ∷ before) n e x y long tied (u, did, more) =
     )
 
 no_memory_there : (before : List ℕ) (n : ℕ) (e : Refusal) (x y : CpusView Tables) → length x.online ≡ length x.cpus → AreTied x
-    → Works fires seen (reserves 1 before ++ on_cpu n (Reserve 1 (Err e)) ∷ []) x y → shown_cpus y ≡ shown_cpus x
+    → Works raise_tables (reserves 1 before ++ on_cpu n (Reserve 1 (Err e)) ∷ []) x y → shown_cpus y ≡ shown_cpus x
 no_memory_there [] n e x y long tied (u, did, last) =
     let d = done_at n (Reserve 1 (Err e)) x u long tied did in
     ap shown_cpus (sym last) ∙ unchanged x u n d.cpus
@@ -238,7 +238,7 @@ module _ (a : OmniStep) (series : When) (s : State) (v w : SystemView Tables) (s
   abbrev begun : State
   begun = given a.name (OnAll (everywhere a)) s
 
-  pub omni_accepted : (id : ℕ) → Changes fires seen v (AddOmni a.level series a.skew s.clock (Ok id)) w → (id ≡ s.last_id + 1)
+  pub omni_accepted : (id : ℕ) → Changes raise_tables v (AddOmni a.level series a.skew s.clock (Ok id)) w → (id ≡ s.last_id + 1)
       × IsDone (steps.Omni a) s w
   omni_accepted id (inl (e, some, answer, same)) = absurd (let isnt : Ok id ≡ Err e = answer in cc)
   omni_accepted id (inr (none, (named, (reserved, (asked_all, roomy, taken), works), records, last))) =
@@ -279,7 +279,7 @@ module _ (a : OmniStep) (series : When) (s : State) (v w : SystemView Tables) (s
         },
       )
 
-  pub omni_refused : (e : Refusal) → Changes fires seen v (AddOmni a.level series a.skew s.clock (Err e)) w
+  pub omni_refused : (e : Refusal) → Changes raise_tables v (AddOmni a.level series a.skew s.clock (Err e)) w
       → IsRefusedFor e (steps.Omni a) s w
   omni_refused e (inl (why_is, some, answer, same)) =
       let said : early ≡ Some e = asked ∙ some ∙ ap Some (sym (same_error ℕ e why_is (Err e) (Err why_is) refl refl answer)) in (

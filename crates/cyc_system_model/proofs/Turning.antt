@@ -7,7 +7,7 @@ use Rattle.cyc_types.specs.declared.level.Soft.{Soft}
 use Rattle.cyc_types.specs.declared.refusal.Refusal.{Refusal}
 use Rattle.cyc_types.specs.declared.refusal.Refusal.TheVariants.{Memory}
 use Rattle.cyc_core.specs.Tables.{Tables}
-use Rattle.cyc_cpu.specs.Soft.{fires, firing_at as seen}
+use Rattle.cyc_cpu.specs.Soft.{raise_tables}
 use Rattle.cyc_cpu.specs.Calls.{AskPending, Reserve}
 use Rattle.cyc_places.specs.declared.record.Placement.TheVariants as place
 use Rattle.cyc_system.specs.Cpus.{on as on_cpu}
@@ -163,7 +163,7 @@ TurnsSo source id t v w = (given : List ℕ) × ((s : State) (indexes : ℕ → 
     → TurnsTo source id t given indexes s w)
 
 pub turned : (source id : ℕ) (t : TurnThere) (v w : SystemView Tables) → Half v → HaveAllRoom v.cpus
-    → TakesTurn fires seen source id t v w → TurnsSo source id t v w
+    → TakesTurn raise_tables source id t v w → TurnsSo source id t v w
 turned source id there.StaysBound v w hv all (at, same) = (
   [],
   λ s indexes h gives. record {

@@ -14,7 +14,7 @@ ghost use Rattle.cyc_core.specs.Tables.{Tables};
 ghost use Rattle.cyc_soft.specs.declared.Ran.{Ran};
 ghost use Rattle.cyc_cpu.specs.Fired.{Fired};
 ghost use Rattle.cyc_cpu.specs.FireRefused.{FireRefused};
-ghost use Rattle.cyc_cpu.specs.Soft.{fires, firing_at, Interrupts};
+ghost use Rattle.cyc_cpu.specs.Soft.{raise_tables, fires, Interrupts};
 ghost use Rattle.cyc_cpu.specs.Calls.{no_interrupts};
 ghost use Rattle.cyc_script.specs.declared.step.Add.{Add as AddStep};
 ghost use Rattle.cyc_script.specs.declared.step.Bind.{Bind as BindStep};
@@ -67,13 +67,13 @@ pub fn begin_law()
 /// It does nothing when it runs: its clauses are the law.
 pub fn kept_law<C: Calls>()
     ensures system { (call : SystemCall) (s t : RunningSystem C Tables)
-        → Does C.Calls fires firing_at (Interrupts C.Calls) s call t
+        → Does C.Calls raise_tables (Interrupts C.Calls) s call t
         → IsSystem s.system → Agrees t.system → IsSystem t.system }
     ensures most { (call : SystemCall) (s t : RunningSystem C Tables)
-        → Does C.Calls fires firing_at (Interrupts C.Calls) s call t
+        → Does C.Calls raise_tables (Interrupts C.Calls) s call t
         → IsSystem s.system → (n : ℕ) → most_on n t.system.cpus ≡ most_on n s.system.cpus }
     ensures room { (call : SystemCall) (s t : RunningSystem C Tables)
-        → Does C.Calls fires firing_at (Interrupts C.Calls) s call t
+        → Does C.Calls raise_tables (Interrupts C.Calls) s call t
         → IsSystem s.system → HaveAllRoom s.system.cpus → HaveAllRoom t.system.cpus }
 {}
 
@@ -83,11 +83,11 @@ pub fn kept_law<C: Calls>()
 /// It does nothing when it runs: its clauses are the law.
 pub fn add_law()
     ensures accepted { (a : AddStep) (series : When) (id : ℕ) (s : State) (v w : SystemView Tables) → IsSystem v → ShowsSystem s v
-        → IsSeries a.start a.interval series → Changes fires firing_at v (Add a.level series s.clock (Ok id)) w
+        → IsSeries a.start a.interval series → Changes raise_tables v (Add a.level series s.clock (Ok id)) w
         → (id ≡ s.last_id + 1) × IsDone (steps.Add a) s w }
     ensures refused { (a : AddStep) (series : When) (e : Refusal) (s : State) (v w : SystemView Tables) → IsSystem v
         → ShowsSystem s v
-        → IsSeries a.start a.interval series → Changes fires firing_at v (Add a.level series s.clock (Err e)) w
+        → IsSeries a.start a.interval series → Changes raise_tables v (Add a.level series s.clock (Err e)) w
         → IsRefusedFor e (steps.Add a) s w }
 {}
 
@@ -98,11 +98,11 @@ pub fn add_law()
 pub fn omni_law()
     ensures accepted { (a : OmniStep) (series : When) (id : ℕ) (s : State) (v w : SystemView Tables) → IsSystem v
         → ShowsSystem s v
-        → IsSeries a.start a.interval series → Changes fires firing_at v (AddOmni a.level series a.skew s.clock (Ok id)) w
+        → IsSeries a.start a.interval series → Changes raise_tables v (AddOmni a.level series a.skew s.clock (Ok id)) w
         → (id ≡ s.last_id + 1) × IsDone (steps.Omni a) s w }
     ensures refused { (a : OmniStep) (series : When) (e : Refusal) (s : State) (v w : SystemView Tables) → IsSystem v
         → ShowsSystem s v
-        → IsSeries a.start a.interval series → Changes fires firing_at v (AddOmni a.level series a.skew s.clock (Err e)) w
+        → IsSeries a.start a.interval series → Changes raise_tables v (AddOmni a.level series a.skew s.clock (Err e)) w
         → IsRefusedFor e (steps.Omni a) s w }
 {}
 
@@ -112,11 +112,11 @@ pub fn omni_law()
 /// It does nothing when it runs: its clauses are the law.
 pub fn reprogram_law()
     ensures accepted { (r : ReprogramStep) (moment : ℕ) (s : State) (v w : SystemView Tables) → IsSystem v → ShowsSystem s v
-        → IsMoment r.moment moment → Changes fires firing_at v (reprograms r.cpu (id_of r.name s) moment (Ok tt)) w
+        → IsMoment r.moment moment → Changes raise_tables v (reprograms r.cpu (id_of r.name s) moment (Ok tt)) w
         → IsDone (steps.Reprogram r) s w }
     ensures refused { (r : ReprogramStep) (moment : ℕ) (e : Refusal) (s : State) (v w : SystemView Tables) → IsSystem v
         → ShowsSystem s v → IsMoment r.moment moment
-        → Changes fires firing_at v (reprograms r.cpu (id_of r.name s) moment (Err e)) w
+        → Changes raise_tables v (reprograms r.cpu (id_of r.name s) moment (Err e)) w
         → IsRefusedFor e (steps.Reprogram r) s w }
 {}
 
@@ -126,9 +126,9 @@ pub fn reprogram_law()
 /// It does nothing when it runs: its clauses are the law.
 pub fn bind_law()
     ensures accepted { (b : BindStep) (s : State) (v w : SystemView Tables) → IsSystem v → ShowsSystem s v
-        → Changes fires firing_at v (Bind (id_of b.name s) (Some b.cpu) (Ok tt)) w → IsDone (steps.Bind b) s w }
+        → Changes raise_tables v (Bind (id_of b.name s) (Some b.cpu) (Ok tt)) w → IsDone (steps.Bind b) s w }
     ensures refused { (b : BindStep) (e : Refusal) (s : State) (v w : SystemView Tables) → IsSystem v → ShowsSystem s v
-        → Changes fires firing_at v (Bind (id_of b.name s) (Some b.cpu) (Err e)) w → IsRefusedFor e (steps.Bind b) s w }
+        → Changes raise_tables v (Bind (id_of b.name s) (Some b.cpu) (Err e)) w → IsRefusedFor e (steps.Bind b) s w }
 {}
 
 /// A `bind` of a system with no CPU is the word `unbind`: the cyclic may be moved from now on; or both are refused, for one
@@ -137,9 +137,9 @@ pub fn bind_law()
 /// It does nothing when it runs: its clauses are the law.
 pub fn unbind_law()
     ensures accepted { (name : ℕ) (s : State) (v w : SystemView Tables) → IsSystem v → ShowsSystem s v
-        → Changes fires firing_at v (Bind (id_of name s) None (Ok tt)) w → IsDone (steps.Unbind name) s w }
+        → Changes raise_tables v (Bind (id_of name s) None (Ok tt)) w → IsDone (steps.Unbind name) s w }
     ensures refused { (name : ℕ) (e : Refusal) (s : State) (v w : SystemView Tables) → IsSystem v → ShowsSystem s v
-        → Changes fires firing_at v (Bind (id_of name s) None (Err e)) w → IsRefusedFor e (steps.Unbind name) s w }
+        → Changes raise_tables v (Bind (id_of name s) None (Err e)) w → IsRefusedFor e (steps.Unbind name) s w }
 {}
 
 /// The beginning of a removal is the word `remove`: it answers at once, with a receipt that tells what the definition has of the
@@ -148,11 +148,11 @@ pub fn unbind_law()
 /// It does nothing when it runs: its clauses are the law.
 pub fn remove_law()
     ensures answered { (name : ℕ) (receipt : Receipt) (s : State) (v w : SystemView Tables) → IsSystem v → ShowsSystem s v
-        → Changes fires firing_at v (BeginRemove (id_of name s) (Ok (removal.Done receipt))) w → IsRemoved name receipt s w }
+        → Changes raise_tables v (BeginRemove (id_of name s) (Ok (removal.Done receipt))) w → IsRemoved name receipt s w }
     ensures kept { (name waits : ℕ) (s : State) (v w : SystemView Tables) → IsSystem v → ShowsSystem s v
-        → Changes fires firing_at v (BeginRemove (id_of name s) (Ok (removal.Kept waits))) w → IsKept name waits s w }
+        → Changes raise_tables v (BeginRemove (id_of name s) (Ok (removal.Kept waits))) w → IsKept name waits s w }
     ensures refused { (name : ℕ) (e : Refusal) (s : State) (v w : SystemView Tables) → IsSystem v → ShowsSystem s v
-        → Changes fires firing_at v (BeginRemove (id_of name s) (Err e)) w → IsRefusedFor e (steps.Remove name) s w }
+        → Changes raise_tables v (BeginRemove (id_of name s) (Err e)) w → IsRefusedFor e (steps.Remove name) s w }
 {}
 
 /// An `online` of a system at the machine's clock is the word `online`: the CPU grows once, takes a component of each omnipresent
@@ -161,9 +161,9 @@ pub fn remove_law()
 /// It does nothing when it runs: its clauses are the law.
 pub fn online_law()
     ensures accepted { (n : ℕ) (s : State) (v w : SystemView Tables) → IsSystem v → ShowsSystem s v
-        → Changes fires firing_at v (Online n s.clock (Ok tt)) w → IsDone (steps.Online n) s w }
+        → Changes raise_tables v (Online n s.clock (Ok tt)) w → IsDone (steps.Online n) s w }
     ensures refused { (n : ℕ) (e : Refusal) (s : State) (v w : SystemView Tables) → IsSystem v → ShowsSystem s v
-        → Changes fires firing_at v (Online n s.clock (Err e)) w → IsRefusedFor e (steps.Online n) s w }
+        → Changes raise_tables v (Online n s.clock (Err e)) w → IsRefusedFor e (steps.Online n) s w }
 {}
 
 /// A `juggle` of a system whose CPUs have memory for as many cyclics as they can have is the word `juggle`: each cyclic of the
@@ -173,10 +173,10 @@ pub fn online_law()
 /// It does nothing when it runs: its clauses are the law.
 pub fn juggle_law()
     ensures accepted { (n : ℕ) (report : JuggleReport) (s : State) (v w : SystemView Tables) → IsSystem v → ShowsSystem s v
-        → HaveAllRoom v.cpus → Changes fires firing_at v (Juggle n (Ok report)) w
+        → HaveAllRoom v.cpus → Changes raise_tables v (Juggle n (Ok report)) w
         → IsDoneWith (λ step. moved step report) (steps.Juggle n) s w }
     ensures refused { (n : ℕ) (e : Refusal) (s : State) (v w : SystemView Tables) → IsSystem v → ShowsSystem s v
-        → Changes fires firing_at v (Juggle n (Err e)) w → IsRefusedFor e (steps.Juggle n) s w }
+        → Changes raise_tables v (Juggle n (Err e)) w → IsRefusedFor e (steps.Juggle n) s w }
 {}
 
 /// An `offline` of a system whose CPUs have memory for as many cyclics as they can have is the word `offline`: the cyclics of the
@@ -187,15 +187,15 @@ pub fn juggle_law()
 /// It does nothing when it runs: its clauses are the law.
 pub fn offline_law()
     ensures accepted { (n : ℕ) (s : State) (v w : SystemView Tables) → IsSystem v → ShowsSystem s v → HaveAllRoom v.cpus
-        → Changes fires firing_at v (Offline n (Ok tt)) w → IsDoneWith accepted (steps.Offline n) s w }
+        → Changes raise_tables v (Offline n (Ok tt)) w → IsDoneWith accepted (steps.Offline n) s w }
     ensures left { (n : ℕ) (report : JuggleReport) (s : State) (v w : SystemView Tables) → IsSystem v → ShowsSystem s v
-        → HaveAllRoom v.cpus → Changes fires firing_at v (Offline n (Err (why.Left report))) w
+        → HaveAllRoom v.cpus → Changes raise_tables v (Offline n (Err (why.Left report))) w
         → IsDoneWith (λ step. cyclics_left step report) (steps.Offline n) s w }
     ensures pending { (n : ℕ) (s : State) (v w : SystemView Tables) → IsSystem v → ShowsSystem s v → HaveAllRoom v.cpus
-        → Changes fires firing_at v (Offline n (Err why.Pending)) w
+        → Changes raise_tables v (Offline n (Err why.Pending)) w
         → IsDoneWith (λ step. refused step (number_of why.Pending)) (steps.Offline n) s w }
     ensures refused { (n : ℕ) (e : Refusal) (s : State) (v w : SystemView Tables) → IsSystem v → ShowsSystem s v → IsAtOnce e
-        → Changes fires firing_at v (Offline n (Err e)) w → IsRefusedFor e (steps.Offline n) s w }
+        → Changes raise_tables v (Offline n (Err e)) w → IsRefusedFor e (steps.Offline n) s w }
 {}
 
 /// A `fire_one` of a system that is not stopped is the definition's fire of that CPU, of which the word `advance` makes one for
@@ -205,11 +205,11 @@ pub fn offline_law()
 pub fn fire_law<C: Calls>()
     ensures accepted { (n : ℕ) (fired : Fired) (m : State) (s t : RunningSystem C Tables) → IsSystem s.system
         → ShowsSystem m s.system
-        → Does C.Calls fires firing_at no_interrupts s (FireOne n m.clock (Ok fired)) t
+        → Does C.Calls raise_tables no_interrupts s (FireOne n m.clock (Ok fired)) t
         → IsFired C.count n fired m s t }
     ensures refused { (n now : ℕ) (e : Refusal) (answer : Result Fired FireRefused) (m : State) (s t : RunningSystem C Tables)
         → IsSystem s.system → ShowsSystem m s.system → first_refusal (no_cpu n m ∷ offline_cpu n m ∷ []) ≡ Some e
-        → Does C.Calls fires firing_at no_interrupts s (FireOne n now answer) t
+        → Does C.Calls raise_tables no_interrupts s (FireOne n now answer) t
         → (answer ≡ Err (no_fire e)) × (t ≡ s) }
 {}
 
@@ -223,7 +223,7 @@ pub fn advance_law<C: Calls>()
         → HasFired C.count 0 0 0 (at_clock now m) s s }
     ensures fires { (n expired lost : ℕ) (fired : Fired) (m : State) (s t u : RunningSystem C Tables) → IsSystem t.system
         → HasFired C.count n expired lost m s t
-        → Does C.Calls fires firing_at no_interrupts t (FireOne n m.clock (Ok fired)) u
+        → Does C.Calls raise_tables no_interrupts t (FireOne n m.clock (Ok fired)) u
         → HasFired C.count (n + 1) (expired + fired.expired) (lost + fired.lost) m s u }
     ensures passes { (n expired lost : ℕ) (m : State) (s t : RunningSystem C Tables) → IsSystem t.system → n < length m.cpus
         → HasFired C.count n expired lost m s t → is_online n t.system.cpus ≡ false
@@ -237,11 +237,11 @@ pub fn advance_law<C: Calls>()
 /// It does nothing when it runs: its clauses are the law.
 pub fn softint_law<C: Calls>()
     ensures accepted { (i : SoftintStep) (ran : Ran) (m : State) (s t : RunningSystem C Tables) → IsSystem s.system
-        → ShowsSystem m s.system → Does C.Calls fires firing_at (Interrupts C.Calls) s
+        → ShowsSystem m s.system → Does C.Calls raise_tables (Interrupts C.Calls) s
         (SoftInterrupt i.cpu i.level i.budget (Ok ran)) t → IsServed C.count i ran m s t }
     ensures refused { (i : SoftintStep) (e : Refusal) (answer : Result Ran SoftFault) (m : State) (s t : RunningSystem C Tables)
         → IsSystem s.system → ShowsSystem m s.system → softint_refusal i m ≡ Some e
-        → Does C.Calls fires firing_at (Interrupts C.Calls) s
+        → Does C.Calls raise_tables (Interrupts C.Calls) s
         (SoftInterrupt i.cpu i.level i.budget answer) t → (answer ≡ Err fault.NoCpu) × (t ≡ s) }
 {}
 
@@ -254,11 +254,11 @@ pub fn poll_law<C: Calls>()
         → HavePolled texts step [] [] m v }
     ensures polls { (texts : List (List ℕ)) (step : ℕ) (ids lines : List ℕ) (id : ℕ) (answer : Option Receipt) (m : State)
         (v w : SystemView Tables) → IsSystem v → HavePolled texts step ids lines m v
-        → Changes fires firing_at v (PollRemove id (Ok answer)) w
+        → Changes raise_tables v (PollRemove id (Ok answer)) w
         → HavePolled texts step (ids ++ id ∷ []) (lines ++ answer_line step (text_of_id id texts m.names) answer) m w }
     ensures counts { (texts : List (List ℕ)) (step : ℕ) (ids lines : List ℕ) (id : ℕ) (receipt : Receipt) (m : State)
         (v w : SystemView Tables) → IsSystem v → HavePolled texts step ids lines m v
-        → Changes fires firing_at v (PollRemove id (Ok (Some receipt))) w
+        → Changes raise_tables v (PollRemove id (Ok (Some receipt))) w
         → counts_of id (each (poll_id plain texts step) (ids ++ id ∷ []) m).state ≡ told_by receipt (m.called id) }
     ensures leaving { (m : State) (v : SystemView Tables) → IsSystem v → ShowsSystem m v → leaving_ids m ≡ leaving_in v }
     ensures ends { (texts : List (List ℕ)) (step : ℕ) (i : SoftintStep) (ran : Ran) (lines : List ℕ) (m : State)
@@ -273,8 +273,8 @@ pub fn poll_law<C: Calls>()
 /// It does nothing when it runs: its clauses are the law.
 pub fn report_law()
     ensures some { (id : ℕ) (totals : SystemTotals) (m : State) (v w : SystemView Tables) → IsSystem v → ShowsSystem m v
-        → Changes fires firing_at v (AskTotals id (Some totals)) w → ShowsSystem m w
+        → Changes raise_tables v (AskTotals id (Some totals)) w → ShowsSystem m w
         × (counts_of id m ≡ told_in totals (m.called id)) }
     ensures none { (id : ℕ) (m : State) (v w : SystemView Tables) → IsSystem v → ShowsSystem m v
-        → Changes fires firing_at v (AskTotals id None) w → (is_unknown id m ≡ true) × (w ≡ v) }
+        → Changes raise_tables v (AskTotals id None) w → (is_unknown id m ≡ true) × (w ≡ v) }
 {}

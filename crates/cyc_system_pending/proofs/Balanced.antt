@@ -15,7 +15,7 @@ use Rattle.cyc_fire.specs.declared.fire.Fired.{Fired}
 use Rattle.cyc_fire.specs.declared.fire.FireRefused.{FireRefused}
 use Rattle.cyc_cpu.specs.Cpu.{CpuView, running}
 use Rattle.cyc_cpu.specs.Laws.{IsLawful}
-use Rattle.cyc_cpu.specs.Soft.{fires, firing_at, Interrupts}
+use Rattle.cyc_cpu.specs.Soft.{raise_tables, firing_at, Interrupts}
 use Rattle.cyc_cpu.specs.Calls.{Fire, AskTotals as CpuAskTotals}
 use Rattle.cyc_system_sums.specs.Accounts.{account_of}
 use Rattle.cyc_cpus.specs.Cpus.{CpusView, IsCpu, numbers_from, Works}
@@ -76,7 +76,7 @@ module _ (id : ℕ) where
 
   -- where one of two is false, both counts are 0
   pub moved_none : (n : ℕ) (s t : SystemView Tables) (call : SystemCall) → AreLawful firing_at s → AreLawful firing_at t
-      → Changes fires firing_at s call t → has n id t.cpus ≢ has n id s.cpus
+      → Changes raise_tables s call t → has n id t.cpus ≢ has n id s.cpus
       → (pending_on n id s.cpus ≡ 0) × (pending_on n id t.cpus ≡ 0)
   moved_none n s t call a b d differ = by (has n id s.cpus) (has n id t.cpus) refl refl
     where
@@ -91,12 +91,12 @@ module _ (id : ℕ) where
   all_absent t law nowhere = sum_none (pending_in id) t.cpus.cpus (λ n x at. absent_in n x t.cpus at (law n x at) (nowhere n))
 
   pub answered_none : (receipt : Receipt) (s t : SystemView Tables) → IsSound firing_at s → IsSound firing_at t
-      → Answers fires firing_at id receipt s t → (all_pending id s ≡ 0) × (all_pending id t ≡ 0)
+      → Answers raise_tables id receipt s t → (all_pending id s ≡ 0) × (all_pending id t ≡ 0)
   answered_none receipt s t a b (inl d) =
-      let x = all_absent t b.lawful (begins_forgotten fires firing_at id receipt s t a.fit.rising d).nowhere in
+      let x = all_absent t b.lawful (begins_forgotten raise_tables id receipt s t a.fit.rising d).nowhere in
       let y = (quietly id s t (BeginRemove id (Ok (over.Done receipt))) d).all in (sym y ∙ x, x)
   answered_none receipt s t a b (inr d) =
-      let x = all_absent t b.lawful (polls_forgotten fires firing_at id receipt s t a.fit.rising d).nowhere in
+      let x = all_absent t b.lawful (polls_forgotten raise_tables id receipt s t a.fit.rising d).nowhere in
       let y = (quietly id s t (PollRemove id (Ok (Some receipt))) d).all in (sym y ∙ x, x)
 
   -- ---- what totals say
@@ -111,7 +111,7 @@ module _ (id : ℕ) where
       omega (arith, a, b)
 
   asked_pending : (f : ℕ → ℕ) (way : List Counted) (v w : CpusView Tables) → ((n : ℕ) → pending_on n id v ≡ f n)
-      → Works fires firing_at (map (asked id) way) v w → sum_by (λ a. a.totals.pending) way ≡ sum_by f (map (λ a. a.cpu) way)
+      → Works raise_tables (map (asked id) way) v w → sum_by (λ a. a.totals.pending) way ≡ sum_by f (map (λ a. a.cpu) way)
   asked_pending f [] v w same run = refl
   asked_pending f (a ∷ way) v w same (u, d, rest) =
       let call = CpuAskTotals id (Some a.totals) in
@@ -144,7 +144,7 @@ module _ (id : ℕ) where
       by false is rest own all = let z = none 0 x refl is in omega (arith, rest, all, z)
 
   pub totals_all : (totals : SystemTotals) (s t : SystemView Tables) → AreLawful firing_at s
-      → Changes fires firing_at s (AskTotals id (Some totals)) t → totals.pending ≡ all_pending id s
+      → Changes raise_tables s (AskTotals id (Some totals)) t → totals.pending ≡ all_pending id s
   totals_all totals s t law (way, r, known, cpus, (works, records, last), adds) =
       let a = asked_pending (λ n. pending_on n id s.cpus) way s.cpus t.cpus (λ n. refl) works in
       let b = ap (λ ns. sum_by (λ (n : ℕ). pending_on n id s.cpus) ns) cpus in
@@ -157,10 +157,10 @@ module _ (id : ℕ) where
 -- ---- a run
 module _ {C : Type 0} (handler : Calls C) (id : ℕ) where
   abbrev Call : RunningSystem C Tables → SystemCall → RunningSystem C Tables → Type 0
-  Call = Does handler fires firing_at (Interrupts handler)
+  Call = Does handler raise_tables (Interrupts handler)
 
   abbrev D : RunningSystem C Tables → SystemCall → RunningSystem C Tables → Type 0
-  D = Steps handler fires firing_at (Interrupts handler)
+  D = Steps handler raise_tables (Interrupts handler)
 
   abbrev AllLevels : SystemView Tables → Type 0
   AllLevels s = (n : ℕ) (x : CpuView Tables) → IsCpu n x s.cpus → HasLawfulLevels x
@@ -177,9 +177,9 @@ module _ {C : Type 0} (handler : Calls C) (id : ℕ) where
       → (EndsRemoval id call → ⊥) → (d : Call s call t)
       → (all_expired id t.system ≡ all_expired id s.system + expirations_in id call s.system)
       × (all_lost id t.system ≡ all_lost id s.system
-      + losses_in handler fires firing_at (Interrupts handler) id call s t d)
+      + losses_in handler raise_tables (Interrupts handler) id call s t d)
   grown s t call a b open_still d =
-      let g = one_grows handler fires firing_at (Interrupts handler)
+      let g = one_grows handler raise_tables (Interrupts handler)
       (λ s t level budget answer d. d.1.cyclics) id s t call a b open_still d in (g.expired, g.lost)
 
   balances_same : (made : ℕ) (s t : RunningSystem C Tables) → t ≡ s → all_expired id t.system ≡ all_expired id s.system + made
@@ -190,7 +190,7 @@ module _ {C : Type 0} (handler : Calls C) (id : ℕ) where
     lawful = subst (λ (u : RunningSystem C Tables). AllLevels u.system) (sym e);
   }
 
-  balances_quiet : (s t : RunningSystem C Tables) (call : SystemCall) → Changes fires firing_at s.system call t.system
+  balances_quiet : (s t : RunningSystem C Tables) (call : SystemCall) → Changes raise_tables s.system call t.system
       × (t.calls ≡ s.calls) → all_lost id t.system ≡ all_lost id s.system + 0 → Balances 0 s t
   balances_quiet s t call (d, same) lost = let k = quietly id s.system t.system call d in record {
     sum = (let x = k.all in let y = ap (λ (c : C). handler.count c id) same in omega (arith, x, y, lost));
@@ -315,14 +315,14 @@ module _ {C : Type 0} (handler : Calls C) (id : ℕ) where
   -- a receipt's expirations are its losses and the calls that were made
   pub receipt_calls : (s t : RunningSystem C Tables) (u : SystemView Tables) (way : List SystemCall) (receipt : Receipt)
       → FoldsTo D s way t → IsSound firing_at s.system → AllLevels s.system → s.system.last < id → IsSound firing_at u
-      → All (λ call. EndsRemoval id call → ⊥) way → Answers fires firing_at id receipt t.system u
+      → All (λ call. EndsRemoval id call → ⊥) way → Answers raise_tables id receipt t.system u
       → receipt.sent + handler.count s.calls id ≡ receipt.lost + handler.count t.calls id
   receipt_calls s t u way receipt run a h new b open_still answers =
-      let after = run_sound handler fires firing_at (Interrupts handler)
+      let after = run_sound handler raise_tables (Interrupts handler)
       (λ s t level budget answer d. d.1.cyclics) id s t way run a in
-      let (sent, lost) = receipt_along handler fires firing_at (Interrupts handler)
+      let (sent, lost) = receipt_along handler raise_tables (Interrupts handler)
       (λ s t level budget answer d. d.1.cyclics) id s t u way receipt run a new open_still answers in
-      let (sent_all, lost_all) = receipt_all fires firing_at id receipt t.system u after answers in
+      let (sent_all, lost_all) = receipt_all raise_tables id receipt t.system u after answers in
       let x = (run_balances s t way run a h open_still).sum in
       let y = (answered_none id receipt t.system u after b answers).0 in
       let z = no_losses_yet firing_at id s.system a new in

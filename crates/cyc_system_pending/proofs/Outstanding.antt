@@ -22,7 +22,7 @@ use Rattle.cyc_core.specs.Reached.{Happens}
 use Rattle.cyc_core.specs.FiringSide.{Fires}
 use Rattle.cyc_core.specs.DrainingSide.{take_events, Drains}
 use Rattle.cyc_core.proofs.Changes.{held_cyclic}
-use Rattle.cyc_cpu.specs.Soft.{fires, firing_at}
+use Rattle.cyc_cpu.specs.Soft.{raise_tables}
 use Rattle.cyc_system_sums.specs.Cores.{LevelCall, OfFiring, OfSoft, LevelDoes, firing_calls, soft_calls}
 use Rattle.cyc_system_sums.proofs.Lists.{eq_true, true_eq, false_ne, false_true}
 
@@ -57,7 +57,7 @@ pub way_law : (a b : Tables) (way : List LevelCall) → FoldsTo LevelDoes a way 
 way_law a b [] run law = subst (λ (x : Tables). Lawful (level_of x)) run law
 way_law a b (call ∷ way) (m, first, rest) law = way_law m b way rest (does_law a m call first law)
 
-pub goes_law : (a b : Tables) (way : List FiringCall) → Goes fires firing_at a way b → Lawful (level_of a) → Lawful (level_of b)
+pub goes_law : (a b : Tables) (way : List FiringCall) → Goes raise_tables a way b → Lawful (level_of a) → Lawful (level_of b)
 goes_law a b [] run law = subst (λ (x : Tables). Lawful (level_of x)) run law
 goes_law a b (call ∷ way) (m, first, rest) law = goes_law m b way rest (fires_law (level_of a) (level_of m) call first.0 law)
 
@@ -167,7 +167,7 @@ module _ (id : ℕ) where
       let z = finished_on id (call ∷ []) (soft_calls way) in omega (arith, x, y, z)
 
   -- calls of the firing side alone
-  pub goes_counts : (a b : Tables) (way : List FiringCall) → Goes fires firing_at a way b
+  pub goes_counts : (a b : Tables) (way : List FiringCall) → Goes raise_tables a way b
       → count (level_of b) id + lost_by id way ≡ count (level_of a) id + raised_by id way
   goes_counts a b [] run = let e = ap (λ (x : Tables). count (level_of x) id) run in omega (arith, e)
   goes_counts a b (call ∷ way) (m, first, rest) =

@@ -20,7 +20,7 @@ use Rattle.cyc_fire.specs.declared.fire.Fired.{Fired}
 use Rattle.cyc_fire.specs.declared.fire.FireRefused.{FireRefused}
 use Rattle.cyc_cpu.specs.Cpu.{CpuView, Running, running}
 use Rattle.cyc_cpu.specs.Laws.{IsLawful}
-use Rattle.cyc_cpu.specs.Soft.{fires, firing_at, Interrupts}
+use Rattle.cyc_cpu.specs.Soft.{raise_tables, firing_at, Interrupts}
 use Rattle.cyc_cpu.specs.Calls.{CpuCall, Changes as CpuChanges, Does as CpuDoes, Fire, SoftInterrupt as CpuSoftInterrupt}
 use Rattle.cyc_system_sums.specs.Accounts.{account_of, lost_of}
 use Rattle.cyc_system_sums.proofs.Accounting.{none_made}
@@ -45,18 +45,18 @@ use Rattle.cyc_system_pending.proofs.Outstanding.{goes_law, way_law, goes_counts
 abbrev pub HasLawfulLevels : CpuView Tables → Type 0
 HasLawfulLevels x = Lawful (level_of x.lock) × Lawful (level_of x.low)
 
-pub quiet_levels : (x y : CpuView Tables) (call : CpuCall) → CpuChanges fires firing_at x call y → HasLawfulLevels x
+pub quiet_levels : (x y : CpuView Tables) (call : CpuCall) → CpuChanges raise_tables x call y → HasLawfulLevels x
     → HasLawfulLevels y
-quiet_levels x y call d (lock, low) = let st = changes_still fires firing_at x y call d in
+quiet_levels x y call d (lock, low) = let st = changes_still raise_tables x y call d in
     (goes_law x.lock y.lock st.lock.way st.lock.goes lock, goes_law x.low y.low st.low.way st.low.goes low)
 
 module _ (id : ℕ) where
   -- ---- one CPU
 
-  pub quiet_pends : (x y : CpuView Tables) (call : CpuCall) → CpuChanges fires firing_at x call y
+  pub quiet_pends : (x y : CpuView Tables) (call : CpuCall) → CpuChanges raise_tables x call y
       → pending_in id y ≡ pending_in id x
   quiet_pends x y call d =
-      let st = changes_still fires firing_at x y call d in
+      let st = changes_still raise_tables x y call d in
       let a = goes_counts id x.lock y.lock st.lock.way st.lock.goes in
       let b = goes_counts id x.low y.low st.low.way st.low.goes in
       let (p, q) = still_raises x.size y.size id st.lock.way st.lock.still in
@@ -113,7 +113,7 @@ module _ (id : ℕ) where
     lawful = λ h. at_one HasLawfulLevels m D v w c (keeps (h m c.before c.here)) h;
   }
 
-  parts_keep : (way : List CpusCall) (v w : CpusView Tables) → FoldsTo (DoesPart fires firing_at) v way w → KeepsPending v w
+  parts_keep : (way : List CpusCall) (v w : CpusView Tables) → FoldsTo (DoesPart raise_tables) v way w → KeepsPending v w
   parts_keep [] v w e = keeps_none v w (ap (λ (u : CpusView Tables). u.cpus) (sym e))
   parts_keep (OnCpu c ∷ way) v w (u, d, rest) = keeps_then v u w
       (keeps_at c.cpu _ v u d (quiet_pends d.before d.after c.call d.change) (quiet_levels d.before d.after c.call d.change))
@@ -122,18 +122,18 @@ module _ (id : ℕ) where
       (keeps_none v u (ap (λ (z : CpusView Tables). z.cpus) e)) (parts_keep way u w rest)
 
   -- a call that reaches no handler
-  pub quietly : (s t : SystemView Tables) (call : SystemCall) → Changes fires firing_at s call t → KeepsPending s.cpus t.cpus
-  quietly s t call d = let m = made_of fires firing_at s t call d in parts_keep m.way s.cpus t.cpus m.works
+  pub quietly : (s t : SystemView Tables) (call : SystemCall) → Changes raise_tables s call t → KeepsPending s.cpus t.cpus
+  quietly s t call d = let m = made_of raise_tables s t call d in parts_keep m.way s.cpus t.cpus m.works
 
 module _ {C : Type 0} (handler : Calls C) (id : ℕ) where
   abbrev Call : RunningSystem C Tables → SystemCall → RunningSystem C Tables → Type 0
-  Call = Does handler fires firing_at (Interrupts handler)
+  Call = Does handler raise_tables (Interrupts handler)
 
   abbrev CpuCalls : Running C Tables → CpuCall → Running C Tables → Type 0
-  CpuCalls = CpuDoes handler fires firing_at (Interrupts handler)
+  CpuCalls = CpuDoes handler raise_tables (Interrupts handler)
 
   abbrev lost_in : (call : SystemCall) (s t : RunningSystem C Tables) → Call s call t → ℕ
-  lost_in call s t d = losses_in handler fires firing_at (Interrupts handler) id call s t d
+  lost_in call s t d = losses_in handler raise_tables (Interrupts handler) id call s t d
 
   -- a fire of one CPU: its ends were raised for these, and these were lost
   pub record HasFired (raised high losses : ℕ) (s t : Running C Tables) : Type 0 where
@@ -145,11 +145,11 @@ module _ {C : Type 0} (handler : Calls C) (id : ℕ) where
       → (d : CpuCalls s (Fire now answer) t)
       → HasFired (raised_in (account_of (Fire now answer) s.cpu.cyclics) id)
       ((account_of (Fire now answer) s.cpu.cyclics).fired High id)
-      (losses_of_fire handler fires firing_at (Interrupts handler) id now answer s t d) s t
+      (losses_of_fire handler raise_tables (Interrupts handler) id now answer s t d) s t
   fire_pends s t now answer law d =
-      let p = fire_here handler fires firing_at (Interrupts handler)
+      let p = fire_here handler raise_tables (Interrupts handler)
       (λ s t level budget answer d. d.1.cyclics) id s t now answer law d in
-      let q = lost_here handler fires firing_at (Interrupts handler)
+      let q = lost_here handler raise_tables (Interrupts handler)
       (λ s t level budget answer d. d.1.cyclics) id s t now answer law d in
       let a = goes_counts id s.cpu.lock t.cpu.lock p.lock.way p.lock.goes in
       let b = goes_counts id s.cpu.low t.cpu.low p.low.way p.low.goes in

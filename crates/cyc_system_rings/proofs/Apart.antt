@@ -7,7 +7,8 @@ use Rattle.std.specs.List.{slice_get, FoldsTo}
 use Rattle.std.proofs.lemmas.List.Sums.{sum_by-cons}
 use Rattle.std.proofs.lemmas.Option.{slice_get_within}
 use Rattle.cyc_types.specs.declared.Calls.{Ghosts as Calls}
-use Rattle.cyc_types.specs.Firing.{FiringView, FiringCall}
+use Rattle.cyc_types.specs.declared.Raise.{Ghosts as Raise}
+use Rattle.cyc_types.specs.Firing.{FiringCall}
 use Rattle.cyc_types.specs.Runs.{Goes, raised_by, lost_by}
 use Rattle.cyc_types.specs.declared.level.Level.{Level}
 use Rattle.cyc_types.specs.declared.level.Level.TheVariants.{Low, Lock, High}
@@ -111,8 +112,8 @@ its_id id new l own given = by (new == id) refl given
     by false is given = absurd (none_some given)
 
 module _ {C R : Type 0} (handler : Calls C)
-    (step : R → FiringCall → R → Type 0) (view : R → FiringView) (raised dropped : ℕ → R → ℕ)
-    (adds : (e f : R) (way : List FiringCall) → Goes step view e way f → (id : ℕ)
+    (firing : Raise R) (raised dropped : ℕ → R → ℕ)
+    (adds : (e f : R) (way : List FiringCall) → Goes firing e way f → (id : ℕ)
     → (raised id f ≡ raised id e + raised_by id way) × (dropped id f ≡ dropped id e + lost_by id way)) (id : ℕ) where
   -- what was done of the id at a level: raises at the end, or calls
   abbrev deeds : Level → Running C R → ℕ
@@ -126,32 +127,32 @@ module _ {C R : Type 0} (handler : Calls C)
   drops High cpu = 0
 
   grows : (own : Level) (s t : Running C R) (now : ℕ) (answer : Result Fired FireRefused)
-      → Proceeds handler.count step view (account_of (Fire now answer) s.cpu.cyclics) s t
+      → Proceeds handler.count firing (account_of (Fire now answer) s.cpu.cyclics) s t
       → share own (timers s.cpu.cyclics) (made_by (Fire now answer) s.cpu.cyclics) id ≡ 0
       → (deeds own t ≡ deeds own s) × (drops own t.cpu ≡ drops own s.cpu)
   grows Lock s t now answer p z =
       let (a, b) = adds s.cpu.lock t.cpu.lock p.lock.way p.lock.goes id in let r = p.lock.raises id in let l = p.lock.losses id in
-      let few = passes_few step view _ p.lock_lost _ _ p.lock id in (omega (arith, a, r, z), omega (arith, b, l, few, z))
+      let few = passes_few firing _ p.lock_lost _ _ p.lock id in (omega (arith, a, r, z), omega (arith, b, l, few, z))
   grows Low s t now answer p z =
       let (a, b) = adds s.cpu.low t.cpu.low p.low.way p.low.goes id in let r = p.low.raises id in let l = p.low.losses id in
-      let few = passes_few step view _ p.low_lost _ _ p.low id in (omega (arith, a, r, z), omega (arith, b, l, few, z))
+      let few = passes_few firing _ p.low_lost _ _ p.low id in (omega (arith, a, r, z), omega (arith, b, l, few, z))
   grows High s t now answer p z = let h = p.called id in (omega (arith, h, z), refl)
 
   -- ---- all CPUs
 
   abbrev pub all_deeds : Level → SystemSide R C → ℕ
-  all_deeds Low s = sum_by (raised_end step view raised dropped adds id soft.Low) s.system.cpus.cpus
-  all_deeds Lock s = sum_by (raised_end step view raised dropped adds id soft.Lock) s.system.cpus.cpus
+  all_deeds Low s = sum_by (raised_end firing raised dropped adds id soft.Low) s.system.cpus.cpus
+  all_deeds Lock s = sum_by (raised_end firing raised dropped adds id soft.Lock) s.system.cpus.cpus
   all_deeds High s = counted_by handler.count id s.leads.items
 
   abbrev pub all_drops : Level → SystemSide R C → ℕ
-  all_drops Low s = sum_by (dropped_end step view raised dropped adds id soft.Low) s.system.cpus.cpus
-  all_drops Lock s = sum_by (dropped_end step view raised dropped adds id soft.Lock) s.system.cpus.cpus
+  all_drops Low s = sum_by (dropped_end firing raised dropped adds id soft.Low) s.system.cpus.cpus
+  all_drops Lock s = sum_by (dropped_end firing raised dropped adds id soft.Lock) s.system.cpus.cpus
   all_drops High s = 0
 
   -- a call that reaches no handler, and a question
   still_leads : (own : Level) (s t : SystemSide R C)
-      → ((at : Soft) → SameEnds step view raised dropped adds id at s.system.cpus.cpus t.system.cpus.cpus) → t.leads ≡ s.leads
+      → ((at : Soft) → SameEnds firing raised dropped adds id at s.system.cpus.cpus t.system.cpus.cpus) → t.leads ≡ s.leads
       → (all_deeds own t ≡ all_deeds own s) × (all_drops own t ≡ all_drops own s)
   still_leads Low s t ends same = ends soft.Low
   still_leads Lock s t ends same = ends soft.Lock
@@ -165,7 +166,7 @@ module _ {C R : Type 0} (handler : Calls C)
       → slice_get b.side.system.cpus.cpus n ≡ Some y → slice_get s.leads.items n ≡ Some l
       → slice_get b.side.leads.items n ≡ Some m → h (running m.calls y) ≡ h (running l.calls x)
 
-  module _ (now : ℕ) (s : SystemSide R C) (b : Advanced R C) (f : AllFire handler step view now s b)
+  module _ (now : ℕ) (s : SystemSide R C) (b : Advanced R C) (f : AllFire handler firing now s b)
       (ready : length s.leads.items ≡ length s.system.cpus.cpus) where
     on_cpus_as : (h : CpuView R → ℕ) → Each s b (λ r. h r.cpu) → sum_by h b.side.system.cpus.cpus ≡ sum_by h s.system.cpus.cpus
     on_cpus_as h same = sums_same h s.system.cpus.cpus b.side.system.cpus.cpus f.long
@@ -181,14 +182,14 @@ module _ {C R : Type 0} (handler : Calls C)
         let (y, q) = stands b.side.system.cpus.cpus n (omega (arith, low, ready, e)) in same n x y l m p q u v
 
     deeds_as : (own : Level) → Each s b (deeds own) → all_deeds own b.side ≡ all_deeds own s
-    deeds_as Low same = on_cpus_as (raised_end step view raised dropped adds id soft.Low) same
-    deeds_as Lock same = on_cpus_as (raised_end step view raised dropped adds id soft.Lock) same
+    deeds_as Low same = on_cpus_as (raised_end firing raised dropped adds id soft.Low) same
+    deeds_as Lock same = on_cpus_as (raised_end firing raised dropped adds id soft.Lock) same
     deeds_as High same = sums_same (λ (l : Lead C). handler.count l.calls id) s.leads.items b.side.leads.items f.long_leads
         (leads_each same)
 
     drops_as : (own : Level) → Each s b (λ r. drops own r.cpu) → all_drops own b.side ≡ all_drops own s
-    drops_as Low same = on_cpus_as (dropped_end step view raised dropped adds id soft.Low) same
-    drops_as Lock same = on_cpus_as (dropped_end step view raised dropped adds id soft.Lock) same
+    drops_as Low same = on_cpus_as (dropped_end firing raised dropped adds id soft.Low) same
+    drops_as Lock same = on_cpus_as (dropped_end firing raised dropped adds id soft.Lock) same
     drops_as High same = refl
 
   -- ---- where the id is not at this level
@@ -199,15 +200,16 @@ module _ {C R : Type 0} (handler : Calls C)
       pub drops_same : drops level t.cpu ≡ drops level s.cpu
 
     -- a CPU in an advance
-    none_fired : (up : Bool) (now : ℕ) (s t : Running C R) (answer : Option (Result Fired FireRefused)) → IsLawful view s.cpu
-        → FiresIf handler step view up now s answer t → here level id s.cpu ≡ 0 → NoneFired s t
+    none_fired : (up : Bool) (now : ℕ) (s t : Running C R) (answer : Option (Result Fired FireRefused))
+        → IsLawful firing.view s.cpu
+        → FiresIf handler firing up now s answer t → here level id s.cpu ≡ 0 → NoneFired s t
     none_fired true now s t (Some answer) law d none =
-        let p = proceeds_one handler step view s t (Fire now answer) law d in
+        let p = proceeds_one handler firing s t (Fire now answer) law d in
         let z = none_shared level id s.cpu.cyclics (made_by (Fire now answer) s.cpu.cyclics) none in
         let (a, b) = grows level s t now answer p z in
         record { none = by answer d; deeds_same = a; drops_same = b }
       where
-        by : (answer : Result Fired FireRefused) → CpuDoes handler step view no_interrupts s (Fire now answer) t
+        by : (answer : Result Fired FireRefused) → CpuDoes handler firing no_interrupts s (Fire now answer) t
             → here level id t.cpu ≡ 0
         by (Ok r) (early, kept, expired, next, makes) =
             fired_here level id now _ s.cpu.cyclics t.cpu.cyclics makes.timers_are ∙ none
@@ -254,25 +256,25 @@ module _ {C R : Type 0} (handler : Calls C)
       calls_same = calls_on level s t u a.calls_same b.calls_same;
     }
 
-    makes_apart : (s t : SystemSide R C) (call : SystemCall) → IsSound view s.system → IsSound view t.system
-        → Changes step view s.system call t.system → t.leads ≡ s.leads → GivesNot level id call → IsElsewhere level id s.system
+    makes_apart : (s t : SystemSide R C) (call : SystemCall) → IsSound firing.view s.system → IsSound firing.view t.system
+        → Changes firing s.system call t.system → t.leads ≡ s.leads → GivesNot level id call → IsElsewhere level id s.system
         → IsApart s t
     makes_apart s t call a b d same not o =
         let (p, q) = still_leads level s t
-        (λ at. changes_end step view raised dropped adds id at s.system t.system call d) same in
+        (λ at. changes_end firing raised dropped adds id at s.system t.system call d) same in
         record {
-          elsewhere = changes_elsewhere level id step view s.system t.system call a b d not o;
+          elsewhere = changes_elsewhere level id firing s.system t.system call a b d not o;
           deeds_same = p;
           drops_same = q;
           calls_same = calls_as level s t same;
         }
 
-    asks_apart : (s t : SystemSide R C) → OnlyAsked step view s t → IsElsewhere level id s.system → IsApart s t
+    asks_apart : (s t : SystemSide R C) → OnlyAsked firing s t → IsElsewhere level id s.system → IsApart s t
     asks_apart s t a o =
-        let (p, q) = still_leads level s t (λ low. asked_end step view raised dropped adds id low s.system.cpus.cpus
+        let (p, q) = still_leads level s t (λ low. asked_end firing raised dropped adds id low s.system.cpus.cpus
         t.system.cpus.cpus a.cpus) a.leads in let none = o.none in
         let e = sums_same (here level id) s.system.cpus.cpus t.system.cpus.cpus a.cpus.long (λ n x y p q. (let w =
-        a.cpus.each n x y p q in ap (λ cs. sum_by (weigh (at_it level id) id) cs) (asked_cyclics step view w.0 x y w.1))) in
+        a.cpus.each n x y p q in ap (λ cs. sum_by (weigh (at_it level id) id) cs) (asked_cyclics firing w.0 x y w.1))) in
         record {
           elsewhere = record {
             none = omega (arith, e, none);
@@ -283,8 +285,8 @@ module _ {C R : Type 0} (handler : Calls C)
           calls_same = calls_as level s t a.leads;
         }
 
-    fires_apart : (now : ℕ) (s : SystemSide R C) (b : Advanced R C) → IsSound view s.system
-        → length s.leads.items ≡ length s.system.cpus.cpus → AllFire handler step view now s b
+    fires_apart : (now : ℕ) (s : SystemSide R C) (b : Advanced R C) → IsSound firing.view s.system
+        → length s.leads.items ≡ length s.system.cpus.cpus → AllFire handler firing now s b
         → IsElsewhere level id s.system → IsApart s b.side
     fires_apart now s b sound ready f o = record {
       elsewhere = record {
@@ -316,8 +318,8 @@ module _ {C R : Type 0} (handler : Calls C)
             none_fired up now (running l.calls x) (running m.calls y) answer (sound.lawful n x p)
             (f.each n up x y l m answer at p q u v told) (zero_each (here level id) s.system.cpus.cpus n x o.none p)
 
-    leads_apart : (s t : SystemSide R C) (call : LeadCall) → Leads handler step view s call t
-        → IsSound view s.system → IsSound view t.system → length s.leads.items ≡ length s.system.cpus.cpus
+    leads_apart : (s t : SystemSide R C) (call : LeadCall) → Leads handler firing s call t
+        → IsSound firing.view s.system → IsSound firing.view t.system → length s.leads.items ≡ length s.system.cpus.cpus
         → is_own level (level_given id call) ≡ false → IsElsewhere level id s.system → IsApart s t
     leads_apart s t (Make call) (d, same) a b ready not o = makes_apart s t call a b d same not o
     leads_apart s t (FireAll now) (after, f, same) a b ready not o =
@@ -325,7 +327,7 @@ module _ {C R : Type 0} (handler : Calls C)
     leads_apart s t AskAll d a b ready not o = asks_apart s t d o
 
     -- an id that was given is not given again
-    not_again : (s t : SystemSide R C) (call : LeadCall) → Leads handler step view s call t
+    not_again : (s t : SystemSide R C) (call : LeadCall) → Leads handler firing s call t
         → id ≤ s.system.last → is_own level (level_given id call) ≡ false
     not_again s t (Make (Add own when now (Ok new))) (inl (e, why, is, same), leads) low =
         absurd (let odd : Ok new ≡ Err e = is in cc)
@@ -337,14 +339,14 @@ module _ {C R : Type 0} (handler : Calls C)
         ap (λ b. is_own level (cond b (Some own) None)) (false_ne new id (λ e. omega (arith, e, next, low)))
     not_again s t call d low = refl
 
-    last_grows : (s t : SystemSide R C) (call : LeadCall) → Leads handler step view s call t → s.system.last ≤ t.system.last
-    last_grows s t (Make call) (d, same) = (made_of step view s.system t.system call d).last
+    last_grows : (s t : SystemSide R C) (call : LeadCall) → Leads handler firing s call t → s.system.last ≤ t.system.last
+    last_grows s t (Make call) (d, same) = (made_of firing s.system t.system call d).last
     last_grows s t (FireAll now) (after, f, same) =
         let a = f.last in let b = ap (λ (x : SystemSide R C). x.system.last) same in omega (arith, a, b)
     last_grows s t AskAll a = let e = a.last in omega (arith, e)
 
     -- one that a call gave is not above the last
-    now_given : (s t : SystemSide R C) (call : LeadCall) (own : Level) → Leads handler step view s call t
+    now_given : (s t : SystemSide R C) (call : LeadCall) (own : Level) → Leads handler firing s call t
         → level_given id call ≡ Some own → id ≤ t.system.last
     now_given s t (Make (Add l when now (Ok new))) own (inl (e, why, is, same), leads) given =
         absurd (let odd : Ok new ≡ Err e = is in cc)
@@ -360,7 +362,7 @@ module _ {C R : Type 0} (handler : Calls C)
     abbrev IsBarred : SystemSide R C → List LeadCall → Type 0
     IsBarred s way = (id ≤ s.system.last) ⊎ (is_own level (level_in id way) ≡ false)
 
-    barred_on : (s u : SystemSide R C) (call : LeadCall) (way : List LeadCall) → Leads handler step view s call u
+    barred_on : (s u : SystemSide R C) (call : LeadCall) (way : List LeadCall) → Leads handler firing s call u
         → IsBarred s (call ∷ way) → (is_own level (level_given id call) ≡ false) × IsBarred u way
     barred_on s u call way d (inl low) =
         let g = last_grows s u call d in (not_again s u call d low, inl (omega (arith, g, low)))
@@ -371,8 +373,8 @@ module _ {C R : Type 0} (handler : Calls C)
         by None is e = (ap (is_own level) is, inr e)
         by (Some own) is e = (ap (is_own level) is ∙ e, inl (now_given s u call own d is))
 
-    pub run_apart : (s t : SystemSide R C) (way : List LeadCall) → FoldsTo (LeadSteps handler step view) s way t
-        → IsSound view s.system → length s.leads.items ≡ length s.system.cpus.cpus → IsBarred s way
+    pub run_apart : (s t : SystemSide R C) (way : List LeadCall) → FoldsTo (LeadSteps handler firing) s way t
+        → IsSound firing.view s.system → length s.leads.items ≡ length s.system.cpus.cpus → IsBarred s way
         → IsElsewhere level id s.system → IsApart s t
     run_apart s t [] run a ready barred o = subst (λ (x : SystemSide R C). IsApart s x) run
         (record { elsewhere = o; deeds_same = refl; drops_same = refl; calls_same = calls_as level s s refl })
@@ -380,4 +382,4 @@ module _ {C R : Type 0} (handler : Calls C)
         let (not, still) = barred_on s u call way d barred in
         let first = leads_apart s u call d a sound ready not o in
         apart_on s u t first (run_apart u t way rest sound
-        (leads_long handler step view s u call d ready) still first.elsewhere)
+        (leads_long handler firing s u call d ready) still first.elsewhere)

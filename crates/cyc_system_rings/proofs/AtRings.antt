@@ -13,7 +13,7 @@ use Rattle.cyc_types.specs.declared.level.Soft.TheVariants as soft
 use Rattle.ring_rule.specs.Trail.{raises_of, losses_of}
 use Rattle.cyc_ring.specs.declared.ends.RaiseEnd.{RaiseEnd}
 use Rattle.cyc_ring.specs.declared.closed.Closed.{Closed}
-use Rattle.cyc_ring.specs.Ends.{raise_trail, end_view, RaiseEndCall}
+use Rattle.cyc_ring.specs.Ends.{raise_trail, raise_end}
 use Rattle.cyc_ring.proofs.Ways.{raise_ways}
 use Rattle.cyc_timers.specs.Rows.{no_counts}
 use Rattle.cyc_system_workers.specs.Lead.{Lead}
@@ -33,7 +33,7 @@ raised id e = raises_of id (raise_trail e.seat)
 abbrev dropped : ℕ → RaiseEnd → ℕ
 dropped id e = losses_of id (raise_trail e.seat)
 
-ends_add : (e f : RaiseEnd) (way : List FiringCall) → Goes RaiseEndCall end_view e way f → (id : ℕ)
+ends_add : (e f : RaiseEnd) (way : List FiringCall) → Goes raise_end e way f → (id : ℕ)
     → (raised id f ≡ raised id e + raised_by id way) × (dropped id f ≡ dropped id e + lost_by id way)
 ends_add e f way goes id = let (same, up, down) = raise_ways e f way goes in (up id, down id)
 
@@ -52,9 +52,9 @@ module _ {C : Type 0} (handler : Calls C) (id : ℕ)
 
   pub at_level : (level : Level) → (deeds level t ≡ deeds level s + (counts_at level id way t.system).sent)
       × (drops level t ≡ drops level s + (counts_at level id way t.system).lost)
-  at_level Low = by_level handler RaiseEndCall end_view raised dropped ends_add id s t way l.begins l.sound l.ready l.run Low
-  at_level Lock = by_level handler RaiseEndCall end_view raised dropped ends_add id s t way l.begins l.sound l.ready l.run Lock
-  at_level High = by_level handler RaiseEndCall end_view raised dropped ends_add id s t way l.begins l.sound l.ready l.run High
+  at_level Low = by_level handler raise_end raised dropped ends_add id s t way l.begins l.sound l.ready l.run Low
+  at_level Lock = by_level handler raise_end raised dropped ends_add id s t way l.begins l.sound l.ready l.run Lock
+  at_level High = by_level handler raise_end raised dropped ends_add id s t way l.begins l.sound l.ready l.run High
 
   pub high_keeps : (counts_at High id way t.system).lost ≡ 0
   high_keeps = let (a, b) = at_level High in omega (arith, b)
@@ -62,10 +62,10 @@ module _ {C : Type 0} (handler : Calls C) (id : ℕ)
   pub not_called : is_own High (level_in id way) ≡ false
       → map (λ (x : Lead C). handler.count x.calls id) t.leads.items ≡ map (λ (x : Lead C). handler.count x.calls id)
       s.leads.items
-  not_called = uncalled handler RaiseEndCall end_view raised dropped ends_add id s t way l.begins l.sound l.ready l.run
+  not_called = uncalled handler raise_end raised dropped ends_add id s t way l.begins l.sound l.ready l.run
 
   pub none_given : level_in id way ≡ None → counts_in id way t.system ≡ no_counts
-  none_given = ungiven handler RaiseEndCall end_view raised dropped ends_add id s t way l.begins l.sound l.ready l.run
+  none_given = ungiven handler raise_end raised dropped ends_add id s t way l.begins l.sound l.ready l.run
 
 -- at ends where nothing was done nothing was raised
 module _ (id : ℕ) (s : SystemView RaiseEnd) (new : HasNewEnds s) where

@@ -7,7 +7,7 @@ use Rattle.std.specs.Option.{option_map_or}
 use Rattle.std.proofs.lemmas.List.Sums.{sum_by-insert, sum_by-remove, sum_by-set}
 use mathlib.Core.Logic.{dite}
 use native.Mathlib.Decide.{ℕ_discrete}
-use Rattle.cyc_types.specs.Firing.{FiringView, FiringCall}
+use Rattle.cyc_types.specs.declared.Raise.{Ghosts as Raise}
 use Rattle.cyc_types.specs.Series.{first}
 use Rattle.cyc_types.specs.declared.firing.Sent.{Sent}
 use Rattle.cyc_types.specs.declared.level.Level.{Level}
@@ -139,39 +139,39 @@ module _ (level : Level) (id : ℕ) where
   shift_fewer call cs cs' (inr (inr (inr (k, c, (low, at), is, out)))) not =
       let a = ap (λ xs. sum_by (weigh at_it id) xs) is in let x = sum_by-remove (weigh at_it id) cs k c low in omega (arith, a, x)
 
-  module _ {R : Type 0} (step : R → FiringCall → R → Type 0) (view : R → FiringView) where
-    fewer_at : (v w : CpusView R) (c : CallOn) → PutsNot id c.call → DoesAt step view v c w
+  module _ {R : Type 0} (firing : Raise R) where
+    fewer_at : (v w : CpusView R) (c : CallOn) → PutsNot id c.call → DoesAt firing v c w
         → on_cpus at_it id w ≤ on_cpus at_it id v
     fewer_at v w c not d =
-        let s = changes_shift step view d.before d.after c.call d.change in
+        let s = changes_shift firing d.before d.after c.call d.change in
         let a = shift_fewer c.call d.before.cyclics d.after.cyclics s not in
         let b = sum_set here v.cpus c.cpu d.before d.after d.here in let e = ap (on_cpus at_it id) d.rest in
         omega (arith, a, b, e)
 
     -- a call that doesn't touch the record of the id
-    looked : (s t : SystemView R) (call : SystemCall) → IsSound view s → Changes step view s call t
+    looked : (s t : SystemView R) (call : SystemCall) → IsSound firing.view s → Changes firing s call t
         → (TouchesRecord id call → ⊥) → IsElsewhere s → recorded t.records ≡ false
-    looked s t call a d same o = look_kept step view (λ (r : Record). same_level level r.level) false
+    looked s t call a d same o = look_kept firing (λ (r : Record). same_level level r.level) false
         (λ r n bound e. refl) (λ r n c. refl) id s t call a.fit.rising d same ∙ o.unrecorded
 
     -- a call that touches neither the stays nor the record of the id
-    quietly : (s t : SystemView R) (call : SystemCall) → IsSound view s → IsSound view t → Changes step view s call t
+    quietly : (s t : SystemView R) (call : SystemCall) → IsSound firing.view s → IsSound firing.view t → Changes firing s call t
         → (TouchesStays id call s → ⊥) → (TouchesRecord id call → ⊥) → IsElsewhere s → IsElsewhere t
     quietly s t call a b d still same o =
-        let x = stays_kept step view at_it id s t call a b d still in let n = o.none in
-        let p = stays_found view id at_it s a.lawful in let q = stays_found view id at_it t b.lawful in record {
+        let x = stays_kept firing at_it id s t call a b d still in let n = o.none in
+        let p = stays_found firing.view id at_it s a.lawful in let q = stays_found firing.view id at_it t b.lawful in record {
           none = omega (arith, x, p, q, n);
           unrecorded = looked s t call a d same o;
         }
 
     -- ---- adding
 
-    added : (own : Level) (when : When) (now : ℕ) (answer : Result ℕ Refusal) (s t : SystemView R) → IsSound view s
-        → IsSound view t → Changes step view s (Add own when now answer) t → GivesNot (Add own when now answer)
+    added : (own : Level) (when : When) (now : ℕ) (answer : Result ℕ Refusal) (s t : SystemView R) → IsSound firing.view s
+        → IsSound firing.view t → Changes firing s (Add own when now answer) t → GivesNot (Add own when now answer)
         → IsElsewhere s → IsElsewhere t
     added own when now answer s t a b (inl (e, why, is, same)) not o = subst (λ (x : SystemView R). IsElsewhere x) (sym same) o
     added own when now (Ok new) s t a b (inr (clear, (d, chosen, next, works, records, last))) not o =
-        let f = flows at_it id step view (on d (Reserve 1 (Ok tt)) ∷ entering d new own when.interval
+        let f = flows at_it id firing (on d (Reserve 1 (Ok tt)) ∷ entering d new own when.interval
         (first when.start when.interval now)) s.cpus t.cpus (tt, (tt, (tt, tt))) works in
         let z = not_brought (new == id) own not in let n = o.none in record {
           none = omega (arith, f, z, n);
@@ -190,14 +190,14 @@ module _ (level : Level) (id : ℕ) where
         ((tt, (tt, fixed)), omega (arith, a, z), omega (arith, b))
 
     added_everywhere : (own : Level) (when : When) (skew now : ℕ) (answer : Result ℕ Refusal) (s t : SystemView R)
-        → IsSound view s → IsSound view t → Changes step view s (AddOmni own when skew now answer) t
+        → IsSound firing.view s → IsSound firing.view t → Changes firing s (AddOmni own when skew now answer) t
         → GivesNot (AddOmni own when skew now answer) → IsElsewhere s → IsElsewhere t
     added_everywhere own when skew now answer s t a b (inl (e, why, is, same)) not o =
         subst (λ (x : SystemView R). IsElsewhere x) (sym same) o
     added_everywhere own when skew now (Ok new) s t a b (inr (clear, (next, (u, reserved, works), records, last))) not o =
         let (fixed, z, y) = entering_none (online_cpus s.cpus) new own when skew now not in
-        let r = reserved_same at_it id step view 1 s.cpus u reserved in
-        let f = flows at_it id step view (entering_each (online_cpus s.cpus) new own when skew now) u t.cpus fixed works in
+        let r = reserved_same at_it id firing 1 s.cpus u reserved in
+        let f = flows at_it id firing (entering_each (online_cpus s.cpus) new own when skew now) u t.cpus fixed works in
         let n = o.none in record {
           none = omega (arith, r, f, z, y, n);
           unrecorded = ap recorded records ∙ read_new s.records _ o.unrecorded (not_recorded (new == id) own not);
@@ -208,28 +208,28 @@ module _ (level : Level) (id : ℕ) where
     -- ---- removing
 
     begins_fewer : (own : ℕ) (way : List Begun) (s t : SystemView R)
-        → FoldsTo (λ u b w. BeginsOn step view own b.cpu b.found u w) s way t → all_here t ≤ all_here s
-    begins_fewer own way s t each = folds_keep (λ u (b : Begun) w. BeginsOn step view own b.cpu b.found u w)
+        → FoldsTo (λ u b w. BeginsOn firing own b.cpu b.found u w) s way t → all_here t ≤ all_here s
+    begins_fewer own way s t each = folds_keep (λ u (b : Begun) w. BeginsOn firing own b.cpu b.found u w)
         (λ (x y : SystemView R). all_here y ≤ all_here x) (λ x. omega arith) (λ x y z p q. omega (arith, p, q))
         (λ x b y. one b.cpu b.found x y) way s t each
       where
-        one : (n : ℕ) (answer : Removal) (s t : SystemView R) → BeginsOn step view own n answer s t → all_here t ≤ all_here s
+        one : (n : ℕ) (answer : Removal) (s t : SystemView R) → BeginsOn firing own n answer s t → all_here t ≤ all_here s
         one n (removal.Done receipt) s t d = fewer_at s.cpus t.cpus (on n (CpuBeginRemove own (Ok (removal.Done receipt)))) tt d.0
         one n (removal.Kept kept) s t d = fewer_at s.cpus t.cpus (on n (CpuBeginRemove own (Ok (removal.Kept kept)))) tt d.0
 
     polls_fewer : (own : ℕ) (way : List Polled) (s t : SystemView R)
-        → FoldsTo (λ u p w. PollsOn step view own p.cpu p.answer u w) s way t → all_here t ≤ all_here s
-    polls_fewer own way s t each = folds_keep (λ u (p : Polled) w. PollsOn step view own p.cpu p.answer u w)
+        → FoldsTo (λ u p w. PollsOn firing own p.cpu p.answer u w) s way t → all_here t ≤ all_here s
+    polls_fewer own way s t each = folds_keep (λ u (p : Polled) w. PollsOn firing own p.cpu p.answer u w)
         (λ (x y : SystemView R). all_here y ≤ all_here x) (λ x. omega arith) (λ x y z p q. omega (arith, p, q))
         (λ x p y. one p.cpu p.answer x y) way s t each
       where
-        one : (n : ℕ) (answer : Option Receipt) (s t : SystemView R) → PollsOn step view own n answer s t
+        one : (n : ℕ) (answer : Option Receipt) (s t : SystemView R) → PollsOn firing own n answer s t
             → all_here t ≤ all_here s
         one n (Some receipt) s t d = fewer_at s.cpus t.cpus (on n (CpuPollRemove (Some receipt))) tt d.0
         one n None s t d = fewer_at s.cpus t.cpus (on n (CpuPollRemove None)) tt d.0
 
     begins_here : (own : ℕ) (answer : Result SystemRemoval Refusal) (s t : SystemView R)
-        → BeginsRemoval step view own answer s t → all_here t ≤ all_here s
+        → BeginsRemoval firing own answer s t → all_here t ≤ all_here s
     begins_here own answer s t (inl (e, why, is, same)) = let x = ap (λ (u : SystemView R). all_here u) same in omega (arith, x)
     begins_here own (Ok (over.Done receipt)) s t (inr (clear, (way, u, cpus, each, answers))) =
         let x = begins_fewer own way s u each in let y = ap (on_cpus at_it id) answers.cpus in omega (arith, x, y)
@@ -237,7 +237,7 @@ module _ (level : Level) (id : ℕ) where
     begins_here own (Err e) s t (inr (clear, wrong)) = absurd wrong
 
     polls_here : (own : ℕ) (answer : Result (Option Receipt) Refusal) (s t : SystemView R)
-        → PollsRemoval step view own answer s t → all_here t ≤ all_here s
+        → PollsRemoval firing own answer s t → all_here t ≤ all_here s
     polls_here own answer s t (inl (e, why, is, same)) = let x = ap (λ (u : SystemView R). all_here u) same in omega (arith, x)
     polls_here own (Ok (Some receipt)) s t (inr (clear, (way, u, cpus, each, answers))) =
         let x = polls_fewer own way s u each in let y = ap (on_cpus at_it id) answers.cpus in omega (arith, x, y)
@@ -247,60 +247,60 @@ module _ (level : Level) (id : ℕ) where
     none_read : (rs : List Record) → HasNoRecord id rs → recorded rs ≡ false
     none_read rs none = ap (λ o. option_map_or (λ (r : Record). same_level level r.level) o false) (record_none id rs none)
 
-    begun_read : (own : ℕ) (answer : Result SystemRemoval Refusal) (s t : SystemView R) → IsSound view s
-        → BeginsRemoval step view own answer s t → IsElsewhere s → recorded t.records ≡ false
+    begun_read : (own : ℕ) (answer : Result SystemRemoval Refusal) (s t : SystemView R) → IsSound firing.view s
+        → BeginsRemoval firing own answer s t → IsElsewhere s → recorded t.records ≡ false
     begun_read own (Ok (over.Done receipt)) s t a d o = dite (ℕ_discrete own id)
-        (λ e. none_read t.records (begun_over step view id receipt s t a.agrees a.fit.rising
-        (subst (λ j. BeginsRemoval step view j (Ok (over.Done receipt)) s t) e d)).unknown)
+        (λ e. none_read t.records (begun_over firing id receipt s t a.agrees a.fit.rising
+        (subst (λ j. BeginsRemoval firing j (Ok (over.Done receipt)) s t) e d)).unknown)
         (λ ne. looked s t (BeginRemove own (Ok (over.Done receipt))) a d ne o)
     begun_read own (Ok (over.Kept kept)) s t a d o = looked s t (BeginRemove own (Ok (over.Kept kept))) a d (λ x. x) o
     begun_read own (Err e) s t a d o = looked s t (BeginRemove own (Err e)) a d (λ x. x) o
 
-    polled_read : (own : ℕ) (answer : Result (Option Receipt) Refusal) (s t : SystemView R) → IsSound view s
-        → PollsRemoval step view own answer s t → IsElsewhere s → recorded t.records ≡ false
+    polled_read : (own : ℕ) (answer : Result (Option Receipt) Refusal) (s t : SystemView R) → IsSound firing.view s
+        → PollsRemoval firing own answer s t → IsElsewhere s → recorded t.records ≡ false
     polled_read own (Ok (Some receipt)) s t a d o = dite (ℕ_discrete own id)
-        (λ e. none_read t.records (polled_over step view id receipt s t a.agrees a.fit.rising
-        (subst (λ j. PollsRemoval step view j (Ok (Some receipt)) s t) e d)).unknown)
+        (λ e. none_read t.records (polled_over firing id receipt s t a.agrees a.fit.rising
+        (subst (λ j. PollsRemoval firing j (Ok (Some receipt)) s t) e d)).unknown)
         (λ ne. looked s t (PollRemove own (Ok (Some receipt))) a d ne o)
     polled_read own (Ok None) s t a d o = looked s t (PollRemove own (Ok None)) a d (λ x. x) o
     polled_read own (Err e) s t a d o = looked s t (PollRemove own (Err e)) a d (λ x. x) o
 
     -- ---- offline
 
-    turn_here : (n own : ℕ) (turn : Turn) (s t : SystemView R) → TakesTurn step view n own turn s t → all_here t ≤ all_here s
+    turn_here : (n own : ℕ) (turn : Turn) (s t : SystemView R) → TakesTurn firing n own turn s t → all_here t ≤ all_here s
     turn_here n own StaysBound s t (place, same) = let x = ap (λ (u : SystemView R). all_here u) same in omega (arith, x)
     turn_here n own StaysPending s t (place, found, some, only) =
-        let x = idle_same at_it id step view (on n (AskPending own (Some found)) ∷ []) s.cpus t.cpus (tt, tt) only.0 in
+        let x = idle_same at_it id firing (on n (AskPending own (Some found)) ∷ []) s.cpus t.cpus (tt, tt) only.0 in
         omega (arith, x)
     turn_here n own StaysRefused s t (place, d, chosen, e, only) =
-        let x = idle_same at_it id step view (on n (AskPending own (Some 0)) ∷ on d (Reserve 1 (Err e)) ∷ []) s.cpus t.cpus
+        let x = idle_same at_it id firing (on n (AskPending own (Some 0)) ∷ on d (Reserve 1 (Err e)) ∷ []) s.cpus t.cpus
         (tt, (tt, tt)) only.0 in omega (arith, x)
     turn_here n own Moves s t (place, d, chosen, (taken, works), records) =
-        let x = flows at_it id step view (moving own n d taken) s.cpus t.cpus (tt, (tt, (tt, (tt, (tt, tt))))) works in
+        let x = flows at_it id firing (moving own n d taken) s.cpus t.cpus (tt, (tt, (tt, (tt, (tt, tt))))) works in
         let y = moved_even at_it id own n d taken in omega (arith, x, y)
 
-    turns_here : (n : ℕ) (ids : List ℕ) (report : JuggleReport) (s t : SystemView R) → Turns step view n ids report s t
+    turns_here : (n : ℕ) (ids : List ℕ) (report : JuggleReport) (s t : SystemView R) → Turns firing n ids report s t
         → all_here t ≤ all_here s
     turns_here n [] report s t (none, same) = let x = ap (λ (u : SystemView R). all_here u) same in omega (arith, x)
     turns_here n (own ∷ ids) report s t (turn, u, rest, first, counted, more) =
         let x = turns_here n ids rest u t more in let y = turn_here n own turn s u first in omega (arith, x, y)
 
-    retires_here : (n : ℕ) (ids : List ℕ) (s t : SystemView R) → FoldsTo (Retires step view n) s ids t
+    retires_here : (n : ℕ) (ids : List ℕ) (s t : SystemView R) → FoldsTo (Retires firing n) s ids t
         → all_here t ≤ all_here s
-    retires_here n ids s t each = folds_keep (λ u (own : ℕ) w. Retires step view n u own w)
+    retires_here n ids s t each = folds_keep (λ u (own : ℕ) w. Retires firing n u own w)
         (λ (x y : SystemView R). all_here y ≤ all_here x) (λ x. omega arith) (λ x y z p q. omega (arith, p, q))
         (λ x own y d. fewer_at x.cpus y.cpus (on n (TakeNow own (Ok d.0))) tt d.1) ids s t each
 
     leaves_here : (n : ℕ) (report : JuggleReport) (answer : Result (Unit {0}) Refusal) (s t : SystemView R)
-        → Leaves step view n report answer s t → all_here t ≤ all_here s
+        → Leaves firing n report answer s t → all_here t ≤ all_here s
     leaves_here n report answer s t (inl (left, is, same)) = let x = ap (λ (u : SystemView R). all_here u) same in
         omega (arith, x)
     leaves_here n report answer s t (inr (inl (none, is, (before, own, after, found, some, only)))) =
-        let x = idle_same at_it id step view (quiet n before ++ on n (AskPending own (Some found)) ∷ []) s.cpus t.cpus
+        let x = idle_same at_it id firing (quiet n before ++ on n (AskPending own (Some found)) ∷ []) s.cpus t.cpus
         (idle_on (quiet n before) (on n (AskPending own (Some found)) ∷ []) (idle_quiet n before) (tt, tt)) only.0 in
         omega (arith, x)
     leaves_here n report answer s t (inr (inr (none, is, (u, only, empty, each, off)))) =
-        let x = idle_same at_it id step view (quiet n (ids_on n s.cpus)) s.cpus u.cpus (idle_quiet n (ids_on n s.cpus)) only.0 in
+        let x = idle_same at_it id firing (quiet n (ids_on n s.cpus)) s.cpus u.cpus (idle_quiet n (ids_on n s.cpus)) only.0 in
         let y = retires_here n (ids_on n s.cpus) u empty each in
         let z = ap (λ (v : SystemView R). all_here v) off in omega (arith, x, y, z)
 
@@ -329,16 +329,16 @@ module _ (level : Level) (id : ℕ) where
             (returns n now (filter (is_staying v) rs)) (z 0 r refl) fixed none
         by false fixed none = (fixed, none)
 
-    online_here : (n now : ℕ) (answer : Result (Unit {0}) Refusal) (s t : SystemView R) → IsSound view s
-        → GoesOnline step view n now answer s t → IsElsewhere s → all_here t ≤ all_here s
+    online_here : (n now : ℕ) (answer : Result (Unit {0}) Refusal) (s t : SystemView R) → IsSound firing.view s
+        → GoesOnline firing n now answer s t → IsElsewhere s → all_here t ≤ all_here s
     online_here n now (Ok done) s t a ((w, works, switched), records, last) o =
         let (fixed, z) = returns_none n now s.cpus s.records
         (λ k r at. other_record s.records k r a.fit.rising o.unrecorded at) in
-        let f = flows at_it id step view (on n (Reserve (length (staying s)) (Ok tt)) ∷ on n
+        let f = flows at_it id firing (on n (Reserve (length (staying s)) (Ok tt)) ∷ on n
         (Widen (length (staying s))) ∷ returns n now (staying s)) s.cpus w (tt, (tt, fixed)) works in
         let d = ap (on_cpus at_it id) switched in omega (arith, f, z, d)
     online_here n now (Err e) s t a (why, only) o =
-        let x = idle_same at_it id step view (on n (Reserve (length (staying s)) (Err e)) ∷ []) s.cpus t.cpus (tt, tt) only.0 in
+        let x = idle_same at_it id firing (on n (Reserve (length (staying s)) (Err e)) ∷ []) s.cpus t.cpus (tt, tt) only.0 in
         omega (arith, x)
 
     -- ---- every call
@@ -350,17 +350,18 @@ module _ (level : Level) (id : ℕ) where
         omega (arith, x)
     refused_or o refused answer s t G (inr (clear, g)) goes = goes g
 
-    moments_here : (s t : SystemView R) (own n moment : ℕ) → IsSound view s → IsSound view t
-        → OnlyWorks step view (on n (CpuReprogram own moment (Ok tt)) ∷ []) s t → all_here t ≤ all_here s
+    moments_here : (s t : SystemView R) (own n moment : ℕ) → IsSound firing.view s → IsSound firing.view t
+        → OnlyWorks firing (on n (CpuReprogram own moment (Ok tt)) ∷ []) s t → all_here t ≤ all_here s
     moments_here s t own n moment a b only =
-        let x = moments_kept step view at_it id s t own n moment a b (λ a m. refl) only in
-        let p = stays_found view id at_it s a.lawful in let q = stays_found view id at_it t b.lawful in omega (arith, x, p, q)
+        let x = moments_kept firing at_it id s t own n moment a b (λ a m. refl) only in
+        let p = stays_found firing.view id at_it s a.lawful in let q = stays_found firing.view id at_it t b.lawful in
+        omega (arith, x, p, q)
 
     so : (s t : SystemView R) → all_here t ≤ all_here s → recorded t.records ≡ false → IsElsewhere s → IsElsewhere t
     so s t x e o = let n = o.none in record { none = omega (arith, x, n); unrecorded = e }
 
-    pub changes_elsewhere : (s t : SystemView R) (call : SystemCall) → IsSound view s → IsSound view t
-        → Changes step view s call t → GivesNot call → IsElsewhere s → IsElsewhere t
+    pub changes_elsewhere : (s t : SystemView R) (call : SystemCall) → IsSound firing.view s → IsSound firing.view t
+        → Changes firing s call t → GivesNot call → IsElsewhere s → IsElsewhere t
     changes_elsewhere s t (Add own when now answer) a b d not o = added own when now answer s t a b d not o
     changes_elsewhere s t (AddOmni own when skew now answer) a b d not o =
         added_everywhere own when skew now answer s t a b d not o

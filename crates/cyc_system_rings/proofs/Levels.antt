@@ -4,7 +4,8 @@ use Rattle.std.specs.Prelude.{map, sum_by}
 use Rattle.std.specs.List.{FoldsTo}
 use Rattle.std.specs.Option.{option_map_or}
 use Rattle.cyc_types.specs.declared.Calls.{Ghosts as Calls}
-use Rattle.cyc_types.specs.Firing.{FiringView, FiringCall}
+use Rattle.cyc_types.specs.declared.Raise.{Ghosts as Raise}
+use Rattle.cyc_types.specs.Firing.{FiringCall}
 use Rattle.cyc_types.specs.Runs.{Goes, raised_by, lost_by}
 use Rattle.cyc_types.specs.declared.firing.Sent.{Sent}
 use Rattle.cyc_types.specs.declared.level.Level.{Level}
@@ -53,32 +54,32 @@ module _ {R : Type 0} (id : ℕ) (s : SystemView R) (begins : IsNewSystem s) whe
       let b = ap (λ rs. option_map_or (λ r. sum_by (λ e. e.lost) r.ended) (found id rs) 0) begins.records in omega (arith, a, b)
 
 module _ {C R : Type 0} (handler : Calls C)
-    (step : R → FiringCall → R → Type 0) (view : R → FiringView) (raised dropped : ℕ → R → ℕ)
-    (adds : (e f : R) (way : List FiringCall) → Goes step view e way f → (id : ℕ)
+    (firing : Raise R) (raised dropped : ℕ → R → ℕ)
+    (adds : (e f : R) (way : List FiringCall) → Goes firing e way f → (id : ℕ)
     → (raised id f ≡ raised id e + raised_by id way) × (dropped id f ≡ dropped id e + lost_by id way)) (id : ℕ)
-    (s t : SystemSide R C) (way : List LeadCall) (begins : IsNewSystem s.system) (sound : IsSound view s.system)
+    (s t : SystemSide R C) (way : List LeadCall) (begins : IsNewSystem s.system) (sound : IsSound firing.view s.system)
     (ready : length s.leads.items ≡ length s.system.cpus.cpus)
-    (run : FoldsTo (LeadSteps handler step view) s way t) where
+    (run : FoldsTo (LeadSteps handler firing) s way t) where
   abbrev deeds_in : Level → SystemSide R C → ℕ
-  deeds_in level x = all_deeds handler step view raised dropped adds id level x
+  deeds_in level x = all_deeds handler firing raised dropped adds id level x
 
   abbrev drops_in : Level → SystemSide R C → ℕ
-  drops_in level x = all_drops handler step view raised dropped adds id level x
+  drops_in level x = all_drops handler firing raised dropped adds id level x
 
   abbrev told : Sent
-  told = counts handler step view raised dropped adds id way t.system
+  told = counts handler firing raised dropped adds id way t.system
 
   -- where this is not its level, nothing of the id was done
   apart : (level : Level) → is_own level (level_in id way) ≡ false
       → (deeds_in level t ≡ deeds_in level s) × (drops_in level t ≡ drops_in level s)
-  apart level not = let a = run_apart handler step view raised dropped adds id level s t way run sound ready
+  apart level not = let a = run_apart handler firing raised dropped adds id level s t way run sound ready
       (inr not) (new_elsewhere id s.system begins level) in (a.deeds_same, a.drops_same)
 
   -- not one of the high levels' handlers had a call of it
   pub uncalled : is_own High (level_in id way) ≡ false
       → map (λ (l : Lead C). handler.count l.calls id) t.leads.items ≡ map (λ (l : Lead C). handler.count l.calls id)
       s.leads.items
-  uncalled not = (run_apart handler step view raised dropped adds id High s t way run sound ready
+  uncalled not = (run_apart handler firing raised dropped adds id High s t way run sound ready
       (inr not) (new_elsewhere id s.system begins High)).calls_same
 
   -- all levels together
@@ -86,16 +87,16 @@ module _ {C R : Type 0} (handler : Calls C)
       ≡ deeds_in Lock t + deeds_in Low t + deeds_in High t)
       × (told.lost + (drops_in Lock s + drops_in Low s) ≡ drops_in Lock t + drops_in Low t)
   all_together =
-      let e = run_even handler step view raised dropped adds id s t way run sound ready in
+      let e = run_even handler firing raised dropped adds id s t way run sound ready in
       let x = e.expired in let y = e.losses in let a = new_expired id s.system begins in let b = new_lost id s.system begins in
-      let p = sum_both (raised_end step view raised dropped adds id soft.Lock)
-      (raised_end step view raised dropped adds id soft.Low) s.system.cpus.cpus in
-      let q = sum_both (raised_end step view raised dropped adds id soft.Lock)
-      (raised_end step view raised dropped adds id soft.Low) t.system.cpus.cpus in
-      let u = sum_both (dropped_end step view raised dropped adds id soft.Lock)
-      (dropped_end step view raised dropped adds id soft.Low) s.system.cpus.cpus in
-      let v = sum_both (dropped_end step view raised dropped adds id soft.Lock)
-      (dropped_end step view raised dropped adds id soft.Low) t.system.cpus.cpus in
+      let p = sum_both (raised_end firing raised dropped adds id soft.Lock)
+      (raised_end firing raised dropped adds id soft.Low) s.system.cpus.cpus in
+      let q = sum_both (raised_end firing raised dropped adds id soft.Lock)
+      (raised_end firing raised dropped adds id soft.Low) t.system.cpus.cpus in
+      let u = sum_both (dropped_end firing raised dropped adds id soft.Lock)
+      (dropped_end firing raised dropped adds id soft.Low) s.system.cpus.cpus in
+      let v = sum_both (dropped_end firing raised dropped adds id soft.Lock)
+      (dropped_end firing raised dropped adds id soft.Low) t.system.cpus.cpus in
       (omega (arith, x, a, p, q), omega (arith, y, b, u, v))
 
   -- what is told of the id at a level, where its own is this

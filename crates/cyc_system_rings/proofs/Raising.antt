@@ -5,7 +5,8 @@ use Rattle.std.specs.List.{slice_get, FoldsTo}
 use Rattle.std.proofs.lemmas.List.{length-set}
 use Rattle.std.proofs.lemmas.List.Sums.{sum_by-cons}
 use Rattle.cyc_types.specs.declared.Calls.{Ghosts as Calls}
-use Rattle.cyc_types.specs.Firing.{FiringView, FiringCall}
+use Rattle.cyc_types.specs.declared.Raise.{Ghosts as Raise}
+use Rattle.cyc_types.specs.Firing.{FiringCall}
 use Rattle.cyc_types.specs.Runs.{Goes, raised_by, lost_by}
 use Rattle.cyc_types.specs.declared.level.Soft.{Soft}
 use Rattle.cyc_types.specs.declared.level.Soft.TheVariants.{Low, Lock}
@@ -71,26 +72,26 @@ sums_even f g h (x ∷ xs) (y ∷ ys) (l ∷ ls) (m ∷ ms) a b c each =
     let t = sum_by-cons f x xs in let u = sum_by-cons g y ys in let v = sum_by-cons h m ms in
     omega (arith, rest, one, p, q, r, t, u, v)
 
-module _ {R : Type 0} (step : R → FiringCall → R → Type 0) (view : R → FiringView) where
-  part_long : (p : CpusCall) (v w : CpusView R) → DoesPart step view v p w → length w.cpus ≡ length v.cpus
+module _ {R : Type 0} (firing : Raise R) where
+  part_long : (p : CpusCall) (v w : CpusView R) → DoesPart firing v p w → length w.cpus ≡ length v.cpus
   part_long (OnCpu c) v w d = ap (λ (u : CpusView R). length u.cpus) d.rest ∙ length-set v.cpus c.cpu d.after
   part_long (SetOnline n online) v w e = ap (λ (u : CpusView R). length u.cpus) e
 
-  parts_long : (way : List CpusCall) (v w : CpusView R) → FoldsTo (DoesPart step view) v way w → length w.cpus ≡ length v.cpus
+  parts_long : (way : List CpusCall) (v w : CpusView R) → FoldsTo (DoesPart firing) v way w → length w.cpus ≡ length v.cpus
   parts_long [] v w e = ap (λ (u : CpusView R). length u.cpus) (sym e)
   parts_long (p ∷ way) v w (u, first, rest) = parts_long way u w rest ∙ part_long p v u first
 
   -- no call makes a CPU come or go
-  pub changes_long : (s t : SystemView R) (call : SystemCall) → Changes step view s call t
+  pub changes_long : (s t : SystemView R) (call : SystemCall) → Changes firing s call t
       → length t.cpus.cpus ≡ length s.cpus.cpus
-  changes_long s t call d = let m = made_of step view s t call d in parts_long m.way s.cpus t.cpus m.works
+  changes_long s t call d = let m = made_of firing s t call d in parts_long m.way s.cpus t.cpus m.works
 
-module _ {C R : Type 0} (handler : Calls C) (step : R → FiringCall → R → Type 0) (view : R → FiringView) where
+module _ {C R : Type 0} (handler : Calls C) (firing : Raise R) where
   -- there is still something to lead each CPU
-  pub leads_long : (s t : SystemSide R C) (call : LeadCall) → Leads handler step view s call t
+  pub leads_long : (s t : SystemSide R C) (call : LeadCall) → Leads handler firing s call t
       → length s.leads.items ≡ length s.system.cpus.cpus → length t.leads.items ≡ length t.system.cpus.cpus
   leads_long s t (Make call) (d, e) ready =
-      let a = changes_long step view s.system t.system call d in
+      let a = changes_long firing s.system t.system call d in
       let b : length t.leads.items ≡ length s.leads.items = λ i. length (e i).items in omega (arith, a, b, ready)
   leads_long s t (FireAll now) (after, f, same) ready =
       let a = f.long in let b = f.long_leads in
@@ -105,16 +106,16 @@ stands (x ∷ xs) zero low = (x, refl)
 stands (x ∷ xs) (suc n) low = stands xs n (omega (arith, low))
 
 -- CPUs that were asked have the same cyclics
-pub asked_cyclics : {R : Type 0} (step : R → FiringCall → R → Type 0) (view : R → FiringView) (answers : List Bool)
-    (x y : CpuView R) → FoldsTo (Asks step view) x answers y → y.cyclics ≡ x.cyclics
-asked_cyclics step view [] x y e = ap (λ (z : CpuView _). z.cyclics) (sym e)
-asked_cyclics step view (true ∷ answers) x y (z, (first, lawful), rest) = asked_cyclics step view answers z y rest
+pub asked_cyclics : {R : Type 0} (firing : Raise R) (answers : List Bool)
+    (x y : CpuView R) → FoldsTo (Asks firing) x answers y → y.cyclics ≡ x.cyclics
+asked_cyclics firing [] x y e = ap (λ (z : CpuView _). z.cyclics) (sym e)
+asked_cyclics firing (true ∷ answers) x y (z, (first, lawful), rest) = asked_cyclics firing answers z y rest
     ∙ first.0.cyclics
-asked_cyclics step view (false ∷ answers) x y (z, (first, lawful), rest) = asked_cyclics step view answers z y rest
+asked_cyclics firing (false ∷ answers) x y (z, (first, lawful), rest) = asked_cyclics firing answers z y rest
     ∙ first.0.cyclics
 
-module _ {R : Type 0} (step : R → FiringCall → R → Type 0) (view : R → FiringView) (raised dropped : ℕ → R → ℕ)
-    (adds : (e f : R) (way : List FiringCall) → Goes step view e way f → (id : ℕ)
+module _ {R : Type 0} (firing : Raise R) (raised dropped : ℕ → R → ℕ)
+    (adds : (e f : R) (way : List FiringCall) → Goes firing e way f → (id : ℕ)
     → (raised id f ≡ raised id e + raised_by id way) × (dropped id f ≡ dropped id e + lost_by id way)) (id : ℕ) where
   -- ---- at one soft level
 
@@ -129,16 +130,16 @@ module _ {R : Type 0} (step : R → FiringCall → R → Type 0) (view : R → F
       × (sum_by (dropped_end soft) ys ≡ sum_by (dropped_end soft) xs)
 
   -- a call that reaches no handler raises nothing
-  still_end : (soft : Soft) (x y : CpuView R) (call : CpuCall) → CpuChanges step view x call y
+  still_end : (soft : Soft) (x y : CpuView R) (call : CpuCall) → CpuChanges firing x call y
       → (raised_end soft y ≡ raised_end soft x) × (dropped_end soft y ≡ dropped_end soft x)
   still_end Lock x y call d =
-      let st = changes_still step view x y call d in let (a, b) = adds x.lock y.lock st.lock.way st.lock.goes id in
+      let st = changes_still firing x y call d in let (a, b) = adds x.lock y.lock st.lock.way st.lock.goes id in
       let (p, q) = still_raises x.size y.size id st.lock.way st.lock.still in (omega (arith, a, p), omega (arith, b, q))
   still_end Low x y call d =
-      let st = changes_still step view x y call d in let (a, b) = adds x.low y.low st.low.way st.low.goes id in
+      let st = changes_still firing x y call d in let (a, b) = adds x.low y.low st.low.way st.low.goes id in
       let (p, q) = still_raises x.size y.size id st.low.way st.low.still in (omega (arith, a, p), omega (arith, b, q))
 
-  part_same : (soft : Soft) (p : CpusCall) (v w : CpusView R) → DoesPart step view v p w → SameEnds soft v.cpus w.cpus
+  part_same : (soft : Soft) (p : CpusCall) (v w : CpusView R) → DoesPart firing v p w → SameEnds soft v.cpus w.cpus
   part_same soft (OnCpu c) v w d =
       let (a, b) = still_end soft d.before d.after c.call d.change in
       let x = sum_set (raised_end soft) v.cpus c.cpu d.before d.after d.here in
@@ -151,7 +152,7 @@ module _ {R : Type 0} (step : R → FiringCall → R → Type 0) (view : R → F
     ap (λ (u : CpusView R). sum_by (dropped_end soft) u.cpus) e,
   )
 
-  parts_same : (soft : Soft) (way : List CpusCall) (v w : CpusView R) → FoldsTo (DoesPart step view) v way w
+  parts_same : (soft : Soft) (way : List CpusCall) (v w : CpusView R) → FoldsTo (DoesPart firing) v way w
       → SameEnds soft v.cpus w.cpus
   parts_same soft [] v w e = (
     ap (λ (u : CpusView R). sum_by (raised_end soft) u.cpus) (sym e),
@@ -160,18 +161,18 @@ module _ {R : Type 0} (step : R → FiringCall → R → Type 0) (view : R → F
   parts_same soft (p ∷ way) v w (u, first, rest) =
       let (a, b) = part_same soft p v u first in let (c, d) = parts_same soft way u w rest in (c ∙ a, d ∙ b)
 
-  pub changes_end : (soft : Soft) (s t : SystemView R) (call : SystemCall) → Changes step view s call t
+  pub changes_end : (soft : Soft) (s t : SystemView R) (call : SystemCall) → Changes firing s call t
       → SameEnds soft s.cpus.cpus t.cpus.cpus
-  changes_end soft s t call d = let m = made_of step view s t call d in parts_same soft m.way s.cpus t.cpus m.works
+  changes_end soft s t call d = let m = made_of firing s t call d in parts_same soft m.way s.cpus t.cpus m.works
 
   -- nor does a question
-  asks_same : (soft : Soft) (answers : List Bool) (x y : CpuView R) → FoldsTo (Asks step view) x answers y
+  asks_same : (soft : Soft) (answers : List Bool) (x y : CpuView R) → FoldsTo (Asks firing) x answers y
       → (raised_end soft y ≡ raised_end soft x) × (dropped_end soft y ≡ dropped_end soft x)
   asks_same soft [] x y e = (ap (raised_end soft) (sym e), ap (dropped_end soft) (sym e))
   asks_same soft (answer ∷ answers) x y (z, (first, lawful), rest) =
       let (a, b) = still_end soft x z (AskSettled answer) first in let (c, d) = asks_same soft answers z y rest in (c ∙ a, d ∙ b)
 
-  pub asked_end : (soft : Soft) (xs ys : List (CpuView R)) → AllAsked step view xs ys → SameEnds soft xs ys
+  pub asked_end : (soft : Soft) (xs ys : List (CpuView R)) → AllAsked firing xs ys → SameEnds soft xs ys
   asked_end soft xs ys a = (
     sums_same (raised_end soft) xs ys a.long (λ n x y p q. (let s = a.each n x y p q in (asks_same soft s.0 x y s.1).0)),
     sums_same (dropped_end soft) xs ys a.long (λ n x y p q. (let s = a.each n x y p q in (asks_same soft s.0 x y s.1).1)),
@@ -194,9 +195,9 @@ module _ {R : Type 0} (step : R → FiringCall → R → Type 0) (view : R → F
       let r = sum_both (dropped_end Lock) (dropped_end Low) xs in let s = sum_both (dropped_end Lock) (dropped_end Low) ys in
       (omega (arith, a, c, p, q), omega (arith, b, d, r, s))
 
-  pub changes_raise : (s t : SystemView R) (call : SystemCall) → Changes step view s call t → Same s.cpus.cpus t.cpus.cpus
+  pub changes_raise : (s t : SystemView R) (call : SystemCall) → Changes firing s call t → Same s.cpus.cpus t.cpus.cpus
   changes_raise s t call d =
       both_same s.cpus.cpus t.cpus.cpus (changes_end Lock s t call d) (changes_end Low s t call d)
 
-  pub asked_raise : (xs ys : List (CpuView R)) → AllAsked step view xs ys → Same xs ys
+  pub asked_raise : (xs ys : List (CpuView R)) → AllAsked firing xs ys → Same xs ys
   asked_raise xs ys a = both_same xs ys (asked_end Lock xs ys a) (asked_end Low xs ys a)

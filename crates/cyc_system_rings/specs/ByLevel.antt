@@ -10,7 +10,7 @@ use Rattle.cyc_types.specs.declared.level.Soft.TheVariants.{Low, Lock}
 use Rattle.ring_rule.specs.Trail.{raises_of, losses_of}
 use Rattle.cyc_ring.specs.declared.ends.RaiseEnd.{RaiseEnd}
 use Rattle.cyc_ring.specs.declared.closed.Closed.{Closed}
-use Rattle.cyc_ring.specs.Ends.{raise_trail, end_view, RaiseEndCall}
+use Rattle.cyc_ring.specs.Ends.{raise_trail, raise_end, end_view}
 use Rattle.cyc_ring.specs.Books.{closed_made}
 use Rattle.cyc_timers.specs.Rows.{no_counts}
 use Rattle.cyc_fire.specs.Acts.{same_level}
@@ -85,7 +85,7 @@ pub record LeadsFromNew {C : Type 0} (handler : Calls C)
   pub sound : IsSound end_view s.system
   -- something leads each CPU
   pub ready : length s.leads.items ≡ length s.system.cpus.cpus
-  pub run : FoldsTo (LeadSteps handler RaiseEndCall end_view) s way t
+  pub run : FoldsTo (LeadSteps handler raise_end) s way t
 
 -- nothing was done at any firing end
 abbrev pub HasNewEnds : SystemView RaiseEnd → Type 0

@@ -1,7 +1,7 @@
 -- What the thread that leads a system does with it, while other threads drain its levels.
 use Rattle.std.specs.Prelude.{◌≡◌, ℕ}
 use Rattle.cyc_types.specs.declared.Calls.{Ghosts as Calls}
-use Rattle.cyc_types.specs.Firing.{FiringView, FiringCall}
+use Rattle.cyc_types.specs.declared.Raise.{Ghosts as Raise}
 use Rattle.cyc_system_counts.specs.Calls.{SystemCall, Changes}
 use Rattle.cyc_system_workers.specs.declared.side.SystemSide.{SystemSide}
 use Rattle.cyc_system_workers.specs.declared.advancing.Advanced.{Advanced}
@@ -19,14 +19,14 @@ pub data LeadCall : Type 0 where
 
 -- what each of these does
 abbrev pub Leads : {C R : Type 0} → Calls C
-    → (R → FiringCall → R → Type 0) → (R → FiringView) → SystemSide R C → LeadCall → SystemSide R C → Type 0
-Leads handler step view s (Make call) t = Changes step view s.system call t.system × (t.leads ≡ s.leads)
-Leads {C} {R} handler step view s (FireAll now) t =
-    (after : Advanced R C) × AllFire handler step view now s after × (t ≡ after.side)
-Leads handler step view s AskAll t = OnlyAsked step view s t
+    → Raise R → SystemSide R C → LeadCall → SystemSide R C → Type 0
+Leads handler firing s (Make call) t = Changes firing s.system call t.system × (t.leads ≡ s.leads)
+Leads {C} {R} handler firing s (FireAll now) t =
+    (after : Advanced R C) × AllFire handler firing now s after × (t ≡ after.side)
+Leads handler firing s AskAll t = OnlyAsked firing s t
 
 -- one of a run: the system is sound after it, as it is between any two calls
 abbrev pub LeadSteps : {C R : Type 0} → Calls C
-    → (R → FiringCall → R → Type 0) → (R → FiringView) → SystemSide R C → LeadCall → SystemSide R C → Type 0
-LeadSteps handler step view s call t =
-    Leads handler step view s call t × IsSound view t.system
+    → Raise R → SystemSide R C → LeadCall → SystemSide R C → Type 0
+LeadSteps handler firing s call t =
+    Leads handler firing s call t × IsSound firing.view t.system

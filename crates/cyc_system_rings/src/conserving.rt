@@ -4,7 +4,7 @@ ghost use Rattle.std.specs.Prelude.{◌≡◌, ℕ, ◌+◌, List, length};
 ghost use Rattle.std.specs.List.{FoldsTo};
 ghost use Rattle.cyc_ring.specs.declared.ends.RaiseEnd.{RaiseEnd as AnEnd};
 ghost use Rattle.cyc_ring.specs.declared.closed.Closed.{Closed};
-ghost use Rattle.cyc_ring.specs.Ends.{end_view, RaiseEndCall};
+ghost use Rattle.cyc_ring.specs.Ends.{raise_end, end_view};
 ghost use Rattle.cyc_system_counts.specs.System.{SystemView};
 ghost use Rattle.cyc_system_counts.specs.Counts.{all_expired, all_lost};
 ghost use Rattle.cyc_system_counts.specs.Sound.{IsSound};
@@ -21,12 +21,12 @@ use cyc_types::Calls;
 /// It does nothing when it runs: its clauses are the law.
 pub fn conserved_law<C: Calls>()
     ensures expired { (id : ℕ) (s t : SystemSide AnEnd C) (way : List LeadCall)
-        → FoldsTo (LeadSteps C.Calls RaiseEndCall end_view) s way t → IsSound end_view s.system
+        → FoldsTo (LeadSteps C.Calls raise_end) s way t → IsSound end_view s.system
         → length s.leads.items ≡ length s.system.cpus.cpus
         → (counts_in id way t.system).sent + all_raised id s.system + counted_by C.count id s.leads.items
         ≡ all_expired id s.system + all_raised id t.system + counted_by C.count id t.leads.items }
     ensures lost { (id : ℕ) (s t : SystemSide AnEnd C) (way : List LeadCall)
-        → FoldsTo (LeadSteps C.Calls RaiseEndCall end_view) s way t → IsSound end_view s.system
+        → FoldsTo (LeadSteps C.Calls raise_end) s way t → IsSound end_view s.system
         → length s.leads.items ≡ length s.system.cpus.cpus
         → (counts_in id way t.system).lost + all_dropped id s.system ≡ all_lost id s.system + all_dropped id t.system }
     // Where all CPUs have settled and the rings are closed, each raise was made or lost.

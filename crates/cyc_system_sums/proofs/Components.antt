@@ -8,7 +8,7 @@ use Rattle.std.proofs.lemmas.List.{take-append-drop}
 use Rattle.std.proofs.lemmas.List.Folds.{find-append}
 use mathlib.Core.Logic.{dite}
 use native.Mathlib.Decide.{ℕ_discrete}
-use Rattle.cyc_types.specs.Firing.{FiringView, FiringCall}
+use Rattle.cyc_types.specs.declared.Raise.{Ghosts as Raise}
 use Rattle.cyc_types.specs.declared.refusal.JuggleReport.{JuggleReport}
 use Rattle.cyc_types.specs.declared.refusal.Refusal.{Refusal}
 use Rattle.cyc_timers.specs.Rows.{Cyclic}
@@ -48,7 +48,7 @@ passes {A} p (y ∷ ys) k x e = by (p y) refl k (passes p ys) e
     by false is k rest at = rest k x at
 
 -- the CPU of this number has the same of the id, whatever calls are made that bring nothing of it there and take nothing
-module _ {R : Type 0} (step : R → FiringCall → R → Type 0) (view : R → FiringView) (m id : ℕ) where
+module _ {R : Type 0} (firing : Raise R) (m id : ℕ) where
   abbrev IsOfOther : CpuCall → Type 0
   IsOfOther (Place own level interval moment carried) = own ≢ id
   IsOfOther (TakeNow own (Ok taken)) = own ≢ id
@@ -70,7 +70,7 @@ module _ {R : Type 0} (step : R → FiringCall → R → Type 0) (view : R → F
   same_list : (x y : CpuView R) → y.cyclics ≡ x.cyclics → cyclic_in id y ≡ cyclic_in id x
   same_list x y e = ap (λ cs. find (λ (c : Cyclic). c.timer.id == id) cs) e
 
-  other_kept : (x y : CpuView R) (call : CpuCall) → IsOfOther call → CpuChanges step view x call y
+  other_kept : (x y : CpuView R) (call : CpuCall) → IsOfOther call → CpuChanges firing x call y
       → cyclic_in id y ≡ cyclic_in id x
   other_kept x y (Place own level interval moment carried) ne (may, p) =
       ap (λ cs. find (λ (c : Cyclic). c.timer.id == id) cs) p.cyclics
@@ -87,7 +87,7 @@ module _ {R : Type 0} (step : R → FiringCall → R → Type 0) (view : R → F
   other_kept x y (Widen more) ne d = same_list x y d.1.cyclics
   other_kept x y call ne d = absurd ne
 
-  one_same : (v w : CpusView R) (c : CallOn) → IsBeside c → DoesAt step view v c w → Same v w
+  one_same : (v w : CpusView R) (c : CallOn) → IsBeside c → DoesAt firing v c w → Same v w
   one_same v w c beside d = dite (ℕ_discrete c.cpu m)
       (λ e. ap (λ (u : CpusView R). cyclic_on m id u) d.rest
       ∙ kept_at v c.cpu d.before d.after d.here (λ o. option_and_then (cyclic_in id) o)
@@ -95,7 +95,7 @@ module _ {R : Type 0} (step : R → FiringCall → R → Type 0) (view : R → F
       (λ ne. ap (λ (u : CpusView R). cyclic_on m id u) d.rest
       ∙ ap (λ o. option_and_then (cyclic_in id) o) (get_set_other v.cpus c.cpu m d.after (λ e. ne (sym e))))
 
-  works_same : (way : List CallOn) (v w : CpusView R) → AreBeside way → Works step view way v w → Same v w
+  works_same : (way : List CallOn) (v w : CpusView R) → AreBeside way → Works firing way v w → Same v w
   works_same [] v w beside run = ap (λ (u : CpusView R). cyclic_on m id u) (sym run)
   works_same (c ∷ way) v w beside (u, d, rest) = works_same way u w beside.1 rest ∙ one_same v u c beside.0 d
 
@@ -110,7 +110,7 @@ module _ {R : Type 0} (step : R → FiringCall → R → Type 0) (view : R → F
   same_system : (s t : SystemView R) → t ≡ s → Same s.cpus t.cpus
   same_system s t e = ap (λ (u : SystemView R). cyclic_on m id u.cpus) e
 
-  turn_same : (n own : ℕ) (turn : Turn) (s t : SystemView R) → own ≢ id → TakesTurn step view n own turn s t
+  turn_same : (n own : ℕ) (turn : Turn) (s t : SystemView R) → own ≢ id → TakesTurn firing n own turn s t
       → Same s.cpus t.cpus
   turn_same n own StaysBound s t ne (place, same) = same_system s t same
   turn_same n own StaysPending s t ne (place, found, some, only) =
@@ -122,12 +122,12 @@ module _ {R : Type 0} (step : R → FiringCall → R → Type 0) (view : R → F
       (λ e. tt, (λ e. tt, (λ e. ne, (λ e. tt, (λ e. ne, tt))))) works
 
   turns_same : (n : ℕ) (ids : List ℕ) (report : JuggleReport) (s t : SystemView R)
-      → ((k own : ℕ) → slice_get ids k ≡ Some own → own ≢ id) → Turns step view n ids report s t → Same s.cpus t.cpus
+      → ((k own : ℕ) → slice_get ids k ≡ Some own → own ≢ id) → Turns firing n ids report s t → Same s.cpus t.cpus
   turns_same n [] report s t ne (none, same) = same_system s t same
   turns_same n (own ∷ ids) report s t ne (turn, u, rest, first, counted, more) =
       turns_same n ids rest u t (λ k own at. ne (suc k) own at) more ∙ turn_same n own turn s u (ne 0 own refl) first
 
-  retires_same : (n : ℕ) (ids : List ℕ) (s t : SystemView R) → m ≢ n → FoldsTo (Retires step view n) s ids t
+  retires_same : (n : ℕ) (ids : List ℕ) (s t : SystemView R) → m ≢ n → FoldsTo (Retires firing n) s ids t
       → Same s.cpus t.cpus
   retires_same n [] s t apart e = same_system s t (sym e)
   retires_same n (own ∷ ids) s t apart (u, (taken, does, k, r, here, named, records, last), rest) =
@@ -135,7 +135,7 @@ module _ {R : Type 0} (step : R → FiringCall → R → Type 0) (view : R → F
       ∙ one_same s.cpus u.cpus (on n (TakeNow own (Ok taken))) (λ e. absurd (apart (sym e))) does
 
   leaves_same : (n : ℕ) (report : JuggleReport) (answer : Result (Unit {0}) Refusal) (s t : SystemView R) → m ≢ n
-      → Leaves step view n report answer s t → Same s.cpus t.cpus
+      → Leaves firing n report answer s t → Same s.cpus t.cpus
   leaves_same n report answer s t apart (inl (left, is, same)) = same_system s t same
   leaves_same n report answer s t apart (inr (inl (none, is, (before, own, after, found, some, only)))) =
       works_same (quiet n before ++ on n (AskPending own (Some found)) ∷ []) s.cpus t.cpus
@@ -152,7 +152,7 @@ module _ {R : Type 0} (step : R → FiringCall → R → Type 0) (view : R → F
       let odd : false ≡ true = sym (ap not (ap (λ (i : ℕ). is_omnipresent i s) e ∙ everywhere)) ∙ single in cc)
 
   pub offline_keeps : (n : ℕ) (answer : Result (Unit {0}) Refusal) (s t : SystemView R) → is_omnipresent id s ≡ true → m ≢ n
-      → Changes step view s (Offline n answer) t → cyclic_on m id t.cpus ≡ cyclic_on m id s.cpus
+      → Changes firing s (Offline n answer) t → cyclic_on m id t.cpus ≡ cyclic_on m id s.cpus
   offline_keeps n answer s t everywhere apart (inl (e, why, is, same)) = same_system s t same
   offline_keeps n answer s t everywhere apart (inr (clear, (report, moved, moves, rest))) =
       leaves_same n report answer moved t apart rest

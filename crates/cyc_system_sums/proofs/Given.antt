@@ -5,7 +5,8 @@ use Rattle.std.specs.List.{FoldsTo}
 use Rattle.std.specs.Option.{option_map_or}
 use Rattle.std.proofs.lemmas.Option.{slice_get-get_or}
 use Rattle.cyc_types.specs.declared.Calls.{Ghosts as Calls}
-use Rattle.cyc_types.specs.Firing.{FiringView, FiringCall}
+use Rattle.cyc_types.specs.declared.Raise.{Ghosts as Raise}
+use Rattle.cyc_types.specs.Firing.{FiringView}
 use Rattle.cyc_types.specs.declared.level.Soft.{Soft}
 use Rattle.cyc_types.specs.declared.receipt.Receipt.{Receipt}
 use Rattle.cyc_types.specs.declared.firing.Sent.{Sent}
@@ -56,31 +57,31 @@ module _ {R : Type 0} (view : R → FiringView) (id : ℕ) (s : SystemView R) (s
       let b = unrecorded (λ r. sum_by (λ e. e.sent) r.ended) in omega (arith, a, b)
 
 -- what a receipt says
-pub receipt_all : {R : Type 0} (step : R → FiringCall → R → Type 0) (view : R → FiringView) (id : ℕ) (receipt : Receipt)
-    (s t : SystemView R) → IsSound view s → Answers step view id receipt s t
+pub receipt_all : {R : Type 0} (firing : Raise R) (id : ℕ) (receipt : Receipt)
+    (s t : SystemView R) → IsSound firing.view s → Answers firing id receipt s t
     → (receipt.sent ≡ all_expired id s) × (receipt.lost ≡ all_lost id s)
-receipt_all step view id receipt s t sound (inl d) = (
-  begun_done step view (λ (e : Sent). e.sent) id (λ a b. refl) receipt s t sound.fit sound.lawful d (λ r sent lost. sent),
-  begun_done step view (λ (e : Sent). e.lost) id (λ a b. refl) receipt s t sound.fit sound.lawful d (λ r sent lost. lost),
+receipt_all firing id receipt s t sound (inl d) = (
+  begun_done firing (λ (e : Sent). e.sent) id (λ a b. refl) receipt s t sound.fit sound.lawful d (λ r sent lost. sent),
+  begun_done firing (λ (e : Sent). e.lost) id (λ a b. refl) receipt s t sound.fit sound.lawful d (λ r sent lost. lost),
 )
-receipt_all step view id receipt s t sound (inr d) = (
-  poll_done step view (λ (e : Sent). e.sent) id (λ a b. refl) receipt s t sound.fit sound.lawful d (λ r sent lost. sent),
-  poll_done step view (λ (e : Sent). e.lost) id (λ a b. refl) receipt s t sound.fit sound.lawful d (λ r sent lost. lost),
+receipt_all firing id receipt s t sound (inr d) = (
+  poll_done firing (λ (e : Sent). e.sent) id (λ a b. refl) receipt s t sound.fit sound.lawful d (λ r sent lost. sent),
+  poll_done firing (λ (e : Sent). e.lost) id (λ a b. refl) receipt s t sound.fit sound.lawful d (λ r sent lost. lost),
 )
 
-module _ {C R : Type 0} (handler : Calls C) (step : R → FiringCall → R → Type 0) (view : R → FiringView)
+module _ {C R : Type 0} (handler : Calls C) (firing : Raise R)
     (interrupts : Soft → ℕ → Result Ran SoftRefused → Running C R → Running C R → Type 0)
     (serves : (s t : Running C R) (level : Soft) (budget : ℕ) (answer : Result Ran SoftRefused)
     → interrupts level budget answer s t → t.cpu.cyclics ≡ s.cpu.cyclics) (id : ℕ) where
   pub receipt_along : (s t : RunningSystem C R) (u : SystemView R) (way : List SystemCall) (receipt : Receipt)
-      (run : FoldsTo (Steps handler step view interrupts) s way t) → IsSound view s.system
-      → s.system.last < id → All (λ call. EndsRemoval id call → ⊥) way → Answers step view id receipt t.system u
-      → (receipt.sent ≡ expirations_along (Steps handler step view interrupts) id s way t run)
-      × (receipt.lost ≡ losses_along handler step view interrupts id s way t run)
+      (run : FoldsTo (Steps handler firing interrupts) s way t) → IsSound firing.view s.system
+      → s.system.last < id → All (λ call. EndsRemoval id call → ⊥) way → Answers firing id receipt t.system u
+      → (receipt.sent ≡ expirations_along (Steps handler firing interrupts) id s way t run)
+      × (receipt.lost ≡ losses_along handler firing interrupts id s way t run)
   receipt_along s t u way receipt run sound new open_still answers =
-      let (sent, lost) = receipt_all step view id receipt t.system u
-      (run_sound handler step view interrupts serves id s t way run sound) answers in
-      let g = run_grows handler step view interrupts serves id s t way run sound open_still in
+      let (sent, lost) = receipt_all firing id receipt t.system u
+      (run_sound handler firing interrupts serves id s t way run sound) answers in
+      let g = run_grows handler firing interrupts serves id s t way run sound open_still in
       let a = g.expired in let b = g.lost in
-      let c = no_counts_yet view id s.system sound new in let e = no_losses_yet view id s.system sound new in
+      let c = no_counts_yet firing.view id s.system sound new in let e = no_losses_yet firing.view id s.system sound new in
       (omega (arith, sent, a, c), omega (arith, lost, b, e))

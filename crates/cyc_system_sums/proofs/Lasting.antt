@@ -3,7 +3,7 @@ use Rattle.std.proofs.Common.{◌≡◌, ◌∙◌, ◌==◌, ℕ, inl, inr, con
 use Rattle.std.specs.Prelude.{sum_by}
 use Rattle.std.proofs.lemmas.List.Sums.{sum_by-cons}
 use Rattle.cyc_types.specs.declared.Calls.{Ghosts as Calls}
-use Rattle.cyc_types.specs.Firing.{FiringView, FiringCall}
+use Rattle.cyc_types.specs.declared.Raise.{Ghosts as Raise}
 use Rattle.cyc_types.specs.declared.level.Level.{Level}
 use Rattle.cyc_types.specs.declared.level.Soft.{Soft}
 use Rattle.cyc_soft.specs.declared.Ran.{Ran}
@@ -51,27 +51,28 @@ module _ (id : ℕ) (f : Level → ℕ → ℕ) where
   fired_kinds now made cs cs' are =
       sum_timers cs' ∙ (ap (sum_by kind) are ∙ (all_kept now made (timers cs) ∙ sym (sum_timers cs)))
 
-module _ {C R : Type 0} (handler : Calls C) (step : R → FiringCall → R → Type 0) (view : R → FiringView)
+module _ {C R : Type 0} (handler : Calls C) (firing : Raise R)
     (interrupts : Soft → ℕ → Result Ran SoftRefused → Running C R → Running C R → Type 0) (id : ℕ) where
   -- a CPU changed, and what is measured of its stays did not
   kept_at : (m : Taken → ℕ) (n : ℕ) (D : CpuView R → CpuView R → Type 0) (s t : SystemView R)
-      (c : ChangesAt n D s.cpus t.cpus) → IsSound view s → IsSound view t → on_cpu m id c.after ≡ on_cpu m id c.before
+      (c : ChangesAt n D s.cpus t.cpus) → IsSound firing.view s → IsSound firing.view t → on_cpu m id c.after
+      ≡ on_cpu m id c.before
       → over_stays m id t ≡ over_stays m id s
   kept_at m n D s t c a b same =
-      let x0 = stays_found view id m s a.lawful in let x1 = stays_found view id m t b.lawful in
+      let x0 = stays_found firing.view id m s a.lawful in let x1 = stays_found firing.view id m t b.lawful in
       let x = sum_set (on_cpu m id) s.cpus.cpus n c.before c.after c.here in let x2 = ap (on_cpus m id) c.rest in
       omega (arith, x0, x1, x, x2, same)
 
   fire_kinds : (f : Level → ℕ → ℕ) (now : ℕ) (answer : Result Fired FireRefused) (x y : Running C R)
-      → CpuDoes handler step view interrupts x (Fire now answer) y
+      → CpuDoes handler firing interrupts x (Fire now answer) y
       → on_cpu (λ a. f a.level a.interval) id y.cpu ≡ on_cpu (λ a. f a.level a.interval) id x.cpu
   fire_kinds f now (Ok r) x y (early, kept, expired, next, makes) = fired_kinds id f now _ _ _ makes.timers_are
   fire_kinds f now (Err e) x y (inl (never, is, same)) =
       ap (λ (s : Running C R). on_cpu (λ a. f a.level a.interval) id s.cpu) same
   fire_kinds f now (Err e) x y (inr (early, kept, stopped)) = fired_kinds id f now stopped.made _ _ stopped.makes.timers_are
 
-  pub fires_keep : (n now : ℕ) (answer : Result Fired FireRefused) (s t : RunningSystem C R) → IsSound view s.system
-      → IsSound view t.system → Does handler step view interrupts s (FireOne n now answer) t
+  pub fires_keep : (n now : ℕ) (answer : Result Fired FireRefused) (s t : RunningSystem C R) → IsSound firing.view s.system
+      → IsSound firing.view t.system → Does handler firing interrupts s (FireOne n now answer) t
       → (f : Level → ℕ → ℕ)
       → over_stays (λ a. f a.level a.interval) id t.system ≡ over_stays (λ a. f a.level a.interval) id s.system
   fires_keep n now answer s t a b (inl (e, why, is, same)) f =
@@ -82,8 +83,8 @@ module _ {C R : Type 0} (handler : Calls C) (step : R → FiringCall → R → T
 
   pub interrupts_keep : ((s t : Running C R) (level : Soft) (budget : ℕ) (answer : Result Ran SoftRefused)
       → interrupts level budget answer s t → t.cpu.cyclics ≡ s.cpu.cyclics)
-      → (n budget : ℕ) (level : Soft) (answer : Result Ran SoftFault) (s t : RunningSystem C R) → IsSound view s.system
-      → IsSound view t.system → Does handler step view interrupts s (SoftInterrupt n level budget answer) t
+      → (n budget : ℕ) (level : Soft) (answer : Result Ran SoftFault) (s t : RunningSystem C R) → IsSound firing.view s.system
+      → IsSound firing.view t.system → Does handler firing interrupts s (SoftInterrupt n level budget answer) t
       → (m : Taken → ℕ) → over_stays m id t.system ≡ over_stays m id s.system
   interrupts_keep serves n budget level answer s t a b (inl (e, why, is, same)) m =
       ap (λ (x : RunningSystem C R). over_stays m id x.system) same

@@ -9,7 +9,7 @@ use Rattle.std.proofs.lemmas.Option.{slice_get-map, slice_get_within, get_or_fro
 use mathlib.Core.Logic.{dite}
 use native.Mathlib.Decide.{ℕ_discrete}
 use Rattle.cyc_types.specs.declared.Calls.{Ghosts as Calls}
-use Rattle.cyc_types.specs.Firing.{FiringView, FiringCall}
+use Rattle.cyc_types.specs.declared.Raise.{Ghosts as Raise}
 use Rattle.cyc_types.specs.Runs.{raised_by, lost_by}
 use Rattle.cyc_types.specs.declared.firing.Sent.{Sent}
 use Rattle.cyc_types.specs.declared.level.Level.{Level}
@@ -78,10 +78,11 @@ is_under lock low Low n a b = b
 is_under lock low Lock n a b = a
 is_under lock low High n a b = tt
 
-module _ {R : Type 0} (step : R → FiringCall → R → Type 0) (view : R → FiringView) where
+module _ {R : Type 0} (firing : Raise R) where
   -- the ceilings of both ends
   abbrev SameCeilings : CpuView R → CpuView R → Type 0
-  SameCeilings x y = ((view y.lock).ceiling ≡ (view x.lock).ceiling) × ((view y.low).ceiling ≡ (view x.low).ceiling)
+  SameCeilings x y = ((firing.view y.lock).ceiling ≡ (firing.view x.lock).ceiling)
+      × ((firing.view y.low).ceiling ≡ (firing.view x.low).ceiling)
 
   -- each CPU is there, with its ceilings
   abbrev KeepCeilings : CpusView R → CpusView R → Type 0
@@ -105,57 +106,57 @@ module _ {R : Type 0} (step : R → FiringCall → R → Type 0) (view : R → F
   keep_same : (v w : CpusView R) → w.cpus ≡ v.cpus → KeepCeilings v w
   keep_same v w e m x at = (x, ap (λ xs. slice_get xs m) e ∙ at, (refl, refl))
 
-  quiet_ceilings : (x y : CpuView R) (call : CpuCall) → CpuChanges step view x call y → SameCeilings x y
+  quiet_ceilings : (x y : CpuView R) (call : CpuCall) → CpuChanges firing x call y → SameCeilings x y
   quiet_ceilings x y call d =
-      let st = changes_still step view x y call d in (
-        passes_ceiling step view (λ id. raised_by id st.lock.way) (λ id. lost_by id st.lock.way) x.lock y.lock
+      let st = changes_still firing x y call d in (
+        passes_ceiling firing (λ id. raised_by id st.lock.way) (λ id. lost_by id st.lock.way) x.lock y.lock
             (record { way = st.lock.way; goes = st.lock.goes; raises = λ id. refl; losses = λ id. refl }),
-        passes_ceiling step view (λ id. raised_by id st.low.way) (λ id. lost_by id st.low.way) x.low y.low
+        passes_ceiling firing (λ id. raised_by id st.low.way) (λ id. lost_by id st.low.way) x.low y.low
             (record { way = st.low.way; goes = st.low.goes; raises = λ id. refl; losses = λ id. refl }),
       )
 
-  parts_ceilings : (way : List CpusCall) (v w : CpusView R) → FoldsTo (DoesPart step view) v way w → KeepCeilings v w
+  parts_ceilings : (way : List CpusCall) (v w : CpusView R) → FoldsTo (DoesPart firing) v way w → KeepCeilings v w
   parts_ceilings [] v w e = keep_same v w (ap (λ (u : CpusView R). u.cpus) (sym e))
   parts_ceilings (OnCpu c ∷ way) v w (u, d, rest) = keep_then v u w
       (keep_at c.cpu _ v u d (quiet_ceilings d.before d.after c.call d.change)) (parts_ceilings way u w rest)
   parts_ceilings (SetOnline n online ∷ way) v w (u, e, rest) = keep_then v u w
       (keep_same v u (ap (λ (z : CpusView R). z.cpus) e)) (parts_ceilings way u w rest)
 
-module _ {C R : Type 0} (handler : Calls C) (step : R → FiringCall → R → Type 0) (view : R → FiringView)
+module _ {C R : Type 0} (handler : Calls C) (firing : Raise R)
     (interrupts : Soft → ℕ → Result Ran SoftRefused → Running C R → Running C R → Type 0)
     (serves : (s t : Running C R) (level : Soft) (budget : ℕ) (answer : Result Ran SoftRefused)
     → interrupts level budget answer s t → t.cpu.cyclics ≡ s.cpu.cyclics)
-    (limits : (s t : Running C R) (level : Soft) (budget : ℕ) (answer : Result Ran SoftRefused) → IsLawful view s.cpu
-    → interrupts level budget answer s t → KeepsLimits view s.cpu t.cpu) (id : ℕ) where
+    (limits : (s t : Running C R) (level : Soft) (budget : ℕ) (answer : Result Ran SoftRefused) → IsLawful firing.view s.cpu
+    → interrupts level budget answer s t → KeepsLimits firing.view s.cpu t.cpu) (id : ℕ) where
   abbrev Call : RunningSystem C R → SystemCall → RunningSystem C R → Type 0
-  Call = Does handler step view interrupts
+  Call = Does handler firing interrupts
 
   abbrev Keep : RunningSystem C R → RunningSystem C R → Type 0
-  Keep s t = KeepCeilings step view s.system.cpus t.system.cpus
+  Keep s t = KeepCeilings firing s.system.cpus t.system.cpus
 
-  fire_ceilings : (s t : Running C R) (now : ℕ) (answer : Result Fired FireRefused) → IsLawful view s.cpu
-      → CpuDoes handler step view interrupts s (Fire now answer) t → KeepsLimits view s.cpu t.cpu
-  fire_ceilings s t now (Ok r) law d = (proceeds_one handler step view s t (Fire now (Ok r)) law d).limits
-  fire_ceilings s t now (Err e) law d = (proceeds_one handler step view s t (Fire now (Err e)) law d).limits
+  fire_ceilings : (s t : Running C R) (now : ℕ) (answer : Result Fired FireRefused) → IsLawful firing.view s.cpu
+      → CpuDoes handler firing interrupts s (Fire now answer) t → KeepsLimits firing.view s.cpu t.cpu
+  fire_ceilings s t now (Ok r) law d = (proceeds_one handler firing s t (Fire now (Ok r)) law d).limits
+  fire_ceilings s t now (Err e) law d = (proceeds_one handler firing s t (Fire now (Err e)) law d).limits
 
-  quietly : (s t : RunningSystem C R) (call : SystemCall) → Changes step view s.system call t.system → Keep s t
-  quietly s t call d = let m = made_of step view s.system t.system call d in
-      parts_ceilings step view m.way s.system.cpus t.system.cpus m.works
+  quietly : (s t : RunningSystem C R) (call : SystemCall) → Changes firing s.system call t.system → Keep s t
+  quietly s t call d = let m = made_of firing s.system t.system call d in
+      parts_ceilings firing m.way s.system.cpus t.system.cpus m.works
 
-  ceilings : (s t : RunningSystem C R) (call : SystemCall) → IsSound view s.system → Call s call t → Keep s t
-  ceilings s t (FireOne n now answer) a (inl (e, why, is, same)) = keep_same step view s.system.cpus t.system.cpus
+  ceilings : (s t : RunningSystem C R) (call : SystemCall) → IsSound firing.view s.system → Call s call t → Keep s t
+  ceilings s t (FireOne n now answer) a (inl (e, why, is, same)) = keep_same firing s.system.cpus t.system.cpus
       (ap (λ (x : RunningSystem C R). x.system.cpus.cpus) same)
   ceilings s t (FireOne n now answer) a (inr (clear, (runs, records, last))) =
       let l = fire_ceilings (running s.calls runs.before) (running t.calls runs.after) now answer
       (a.lawful n runs.before runs.here) runs.change in
-      keep_at step view n _ s.system.cpus t.system.cpus runs (l.lock_ceiling, l.low_ceiling)
+      keep_at firing n _ s.system.cpus t.system.cpus runs (l.lock_ceiling, l.low_ceiling)
   ceilings s t (SoftInterrupt n level budget answer) a
-      (inl (e, why, is, same)) = keep_same step view s.system.cpus t.system.cpus
+      (inl (e, why, is, same)) = keep_same firing s.system.cpus t.system.cpus
       (ap (λ (x : RunningSystem C R). x.system.cpus.cpus) same)
   ceilings s t (SoftInterrupt n level budget answer) a (inr (clear, (own, is, runs, records, last))) =
       let l = limits (running s.calls runs.before) (running t.calls runs.after) level budget own
       (a.lawful n runs.before runs.here) runs.change in
-      keep_at step view n _ s.system.cpus t.system.cpus runs (l.lock_ceiling, l.low_ceiling)
+      keep_at firing n _ s.system.cpus t.system.cpus runs (l.lock_ceiling, l.low_ceiling)
   ceilings s t (Add level when now answer) a d = quietly s t (Add level when now answer) d.0
   ceilings s t (AddOmni level when skew now answer) a d = quietly s t (AddOmni level when skew now answer) d.0
   ceilings s t (Bind own cpu answer) a d = quietly s t (Bind own cpu answer) d.0
@@ -169,23 +170,23 @@ module _ {C R : Type 0} (handler : Calls C) (step : R → FiringCall → R → T
   ceilings s t (Online n now answer) a d = quietly s t (Online n now answer) d.0
 
   abbrev D : RunningSystem C R → SystemCall → RunningSystem C R → Type 0
-  D = Steps handler step view interrupts
+  D = Steps handler firing interrupts
 
-  run_ceilings : (s t : RunningSystem C R) (way : List SystemCall) → IsSound view s.system → FoldsTo D s way t → Keep s t
-  run_ceilings s t [] a run = keep_same step view s.system.cpus t.system.cpus
+  run_ceilings : (s t : RunningSystem C R) (way : List SystemCall) → IsSound firing.view s.system → FoldsTo D s way t → Keep s t
+  run_ceilings s t [] a run = keep_same firing s.system.cpus t.system.cpus
       (ap (λ (x : RunningSystem C R). x.system.cpus.cpus) (sym run))
-  run_ceilings s t (call ∷ way) a (u, (d, sound), rest) = keep_then step view s.system.cpus u.system.cpus t.system.cpus
+  run_ceilings s t (call ∷ way) a (u, (d, sound), rest) = keep_then firing s.system.cpus u.system.cpus t.system.cpus
       (ceilings s u call a d) (run_ceilings u t way sound rest)
 
   -- fewer are under the same ceilings
-  under_before : (a b : ℕ) (s t : RunningSystem C R) → a ≤ b → Keep s t → IsUnderEach view b t.system
-      → IsUnderEach view a s.system
+  under_before : (a b : ℕ) (s t : RunningSystem C R) → a ≤ b → Keep s t → IsUnderEach firing.view b t.system
+      → IsUnderEach firing.view a s.system
   under_before a b s t low keep under m x at = (let (y, there, (p, q)) = keep m x at in let (k, l) = under m y there in
       (omega (arith, low, p, k), omega (arith, low, q, l)))
 
   -- a fire changes no count that was carried in
   carried : (s t : Running C R) (now : ℕ) (answer : Result Fired FireRefused)
-      → CpuDoes handler step view interrupts s (Fire now answer) t
+      → CpuDoes handler firing interrupts s (Fire now answer) t
       → map (λ (c : Cyclic). c.carried) t.cpu.cyclics ≡ map (λ (c : Cyclic). c.carried) s.cpu.cyclics
   carried s t now (Ok r) (early, kept, expired, next, makes) = makes.carried_are
   carried s t now (Err e) (inl (late, is, same)) = ap (λ (x : Running C R). map (λ (c : Cyclic). c.carried) x.cpu.cyclics) same
@@ -195,10 +196,10 @@ module _ {C R : Type 0} (handler : Calls C) (step : R → FiringCall → R → T
   lost_here cpu = on_cpu (λ t. t.sent.lost) id cpu
 
   -- a cyclic that is fired under the ceilings loses nothing
-  fired_spared : (s t : Running C R) (now n : ℕ) (answer : Result Fired FireRefused) → IsLawful view s.cpu
-      → IsLawful view t.cpu → CpuDoes handler step view interrupts s (Fire now answer) t
-      → lost_here s.cpu ≡ 0 → on_cpu (λ t. t.sent.sent) id t.cpu ≤ n → n ≤ (view t.cpu.lock).ceiling
-      → n ≤ (view t.cpu.low).ceiling → lost_here t.cpu ≡ 0
+  fired_spared : (s t : Running C R) (now n : ℕ) (answer : Result Fired FireRefused) → IsLawful firing.view s.cpu
+      → IsLawful firing.view t.cpu → CpuDoes handler firing interrupts s (Fire now answer) t
+      → lost_here s.cpu ≡ 0 → on_cpu (λ t. t.sent.sent) id t.cpu ≤ n → n ≤ (firing.view t.cpu.lock).ceiling
+      → n ≤ (firing.view t.cpu.low).ceiling → lost_here t.cpu ≡ 0
   fired_spared s t now n answer law lawful d none few lock low = sum_none _ t.cpu.cyclics
       (λ k c at. by k c at (c.timer.id == id) refl)
     where
@@ -207,7 +208,7 @@ module _ {C R : Type 0} (handler : Calls C) (step : R → FiringCall → R → T
       by k c at true is =
           (let own = eq_true c.timer.id id is in
           let (p, was, as_named) = some_before id_in s.cpu.cyclics t.cpu.cyclics k c
-          (same_fired handler step view interrupts s t now answer d).ids at in
+          (same_fired handler firing interrupts s t now answer d).ids at in
           let (q, here, as_carried) = some_before (λ (x : Cyclic). x.carried) s.cpu.cyclics t.cpu.cyclics k c
           (carried s t now answer d) at in
           let one = ap (λ (x : Cyclic). x.carried.lost) (same_some (sym was ∙ here)) in
@@ -219,22 +220,23 @@ module _ {C R : Type 0} (handler : Calls C) (step : R → FiringCall → R → T
           let new = ap (λ (x : Sent). x.lost) as_carried in
           let more = one_of_sum (λ (x : Cyclic). cond (x.timer.id == id) x.timer.expired 0) t.cpu.cyclics k c at in
           let yours = ap (λ b. cond b c.timer.expired 0) is in
-          let spared = subst (IsSpared (view t.cpu.lock).ceiling (view t.cpu.low).ceiling)
+          let spared = subst (IsSpared (firing.view t.cpu.lock).ceiling (firing.view t.cpu.low).ceiling)
           (get_or_from_slice_get t.cpu.cyclics k c c at) (lawful.spared k c (slice_get_within t.cpu.cyclics k c at)) in
-          let same = spared (is_under (view t.cpu.lock).ceiling (view t.cpu.low).ceiling c.timer.level c.timer.expired
+          let same = spared (is_under (firing.view t.cpu.lock).ceiling
+          (firing.view t.cpu.low).ceiling c.timer.level c.timer.expired
           (omega (arith, more, yours, few, lock)) (omega (arith, more, yours, few, low))) in
           omega (arith, same, new, one, old, less, mine, none))
 
   -- one call
-  fire_spares : (n now : ℕ) (answer : Result Fired FireRefused) (s t : RunningSystem C R) → IsSound view s.system
-      → IsSound view t.system → Call s (FireOne n now answer) t → all_lost id s.system ≡ 0
-      → IsUnderEach view (all_expired id t.system) t.system → all_lost id t.system ≡ 0
+  fire_spares : (n now : ℕ) (answer : Result Fired FireRefused) (s t : RunningSystem C R) → IsSound firing.view s.system
+      → IsSound firing.view t.system → Call s (FireOne n now answer) t → all_lost id s.system ≡ 0
+      → IsUnderEach firing.view (all_expired id t.system) t.system → all_lost id t.system ≡ 0
   fire_spares n now answer s t a b (inl (e, why, is, same)) none under = ap
       (λ (x : RunningSystem C R). all_lost id x.system) same ∙ none
   fire_spares n now answer s t a b (inr (clear, (runs, records, last))) none under =
-      let y0 = stays_found view id (λ t. t.sent.lost) s.system a.lawful in
-      let y1 = stays_found view id (λ t. t.sent.lost) t.system b.lawful in
-      let x1 = stays_found view id (λ t. t.sent.sent) t.system b.lawful in
+      let y0 = stays_found firing.view id (λ t. t.sent.lost) s.system a.lawful in
+      let y1 = stays_found firing.view id (λ t. t.sent.lost) t.system b.lawful in
+      let x1 = stays_found firing.view id (λ t. t.sent.sent) t.system b.lawful in
       let y = sum_set lost_here s.system.cpus.cpus n runs.before runs.after runs.here in
       let y2 = ap (on_cpus (λ t. t.sent.lost) id) runs.rest in
       let z = one_of_sum lost_here s.system.cpus.cpus n runs.before runs.here in
@@ -247,21 +249,21 @@ module _ {C R : Type 0} (handler : Calls C) (step : R → FiringCall → R → T
       (all_expired id t.system) answer (a.lawful n runs.before runs.here) (b.lawful n runs.after there) runs.change
       (omega (arith, y0, z, none)) (omega (arith, x, x1)) lock low in omega (arith, y0, y1, y, y2, q, none, spared)
 
-  grown : (s t : RunningSystem C R) (call : SystemCall) → IsSound view s.system → IsSound view t.system
+  grown : (s t : RunningSystem C R) (call : SystemCall) → IsSound firing.view s.system → IsSound firing.view t.system
       → (EndsRemoval id call → ⊥) → (d : Call s call t)
-      → Grows handler step view interrupts serves id (expirations_in id call s.system)
-      (losses_in handler step view interrupts id call s t d) s.system t.system
-  grown s t call a b open_still d = one_grows handler step view interrupts serves id s t call a b open_still d
+      → Grows handler firing interrupts serves id (expirations_in id call s.system)
+      (losses_in handler firing interrupts id call s t d) s.system t.system
+  grown s t call a b open_still d = one_grows handler firing interrupts serves id s t call a b open_still d
 
-  still : (s t : RunningSystem C R) (call : SystemCall) → IsSound view s.system → IsSound view t.system
+  still : (s t : RunningSystem C R) (call : SystemCall) → IsSound firing.view s.system → IsSound firing.view t.system
       → (EndsRemoval id call → ⊥) → Call s call t → expirations_in id call s.system ≡ 0 → all_lost id s.system ≡ 0
       → all_lost id t.system ≡ 0
   still s t call a b open_still d nothing none = let g = grown s t call a b open_still d in let few = g.few in
       let lost = g.lost in omega (arith, few, lost, nothing, none)
 
-  one_spares : (s t : RunningSystem C R) (call : SystemCall) → IsSound view s.system → IsSound view t.system
+  one_spares : (s t : RunningSystem C R) (call : SystemCall) → IsSound firing.view s.system → IsSound firing.view t.system
       → (EndsRemoval id call → ⊥) → Call s call t → all_lost id s.system ≡ 0
-      → IsUnderEach view (all_expired id t.system) t.system → all_lost id t.system ≡ 0
+      → IsUnderEach firing.view (all_expired id t.system) t.system → all_lost id t.system ≡ 0
   one_spares s t (FireOne n now answer) a b open_still d none under = fire_spares n now answer s t a b d none under
   one_spares s t (SoftInterrupt n level budget answer) a b open_still d none under = still s t
       (SoftInterrupt n level budget answer) a b open_still d refl none
@@ -283,13 +285,13 @@ module _ {C R : Type 0} (handler : Calls C) (step : R → FiringCall → R → T
   one_spares s t (Offline n answer) a b open_still d none under = still s t (Offline n answer) a b open_still d refl none
   one_spares s t (Online n now answer) a b open_still d none under = still s t (Online n now answer) a b open_still d refl none
 
-  pub run_spares : (s t : RunningSystem C R) (way : List SystemCall) → FoldsTo D s way t → IsSound view s.system
+  pub run_spares : (s t : RunningSystem C R) (way : List SystemCall) → FoldsTo D s way t → IsSound firing.view s.system
       → All (λ call. EndsRemoval id call → ⊥) way → all_lost id s.system ≡ 0
-      → IsUnderEach view (all_expired id t.system) t.system → all_lost id t.system ≡ 0
+      → IsUnderEach firing.view (all_expired id t.system) t.system → all_lost id t.system ≡ 0
   run_spares s t [] run a open_still none under = ap (λ (x : RunningSystem C R). all_lost id x.system) (sym run) ∙ none
   run_spares s t (call ∷ way) (u, (d, sound), rest) a open_still none under =
       let after : All (λ c. EndsRemoval id c → ⊥) way = λ k e low. open_still (suc k) e (omega (arith, low)) in
-      let more = (run_grows handler step view interrupts serves id u t way rest sound after).expired in
+      let more = (run_grows handler firing interrupts serves id u t way rest sound after).expired in
       let under_here = under_before (all_expired id u.system) (all_expired id t.system) u t (omega (arith, more))
       (run_ceilings u t way sound rest) under in
       run_spares u t way rest sound after (one_spares s u call a sound (open_still 0 call (omega arith)) d none under_here) under

@@ -5,7 +5,7 @@ use Rattle.std.specs.Prelude.{sum_by}
 use Rattle.std.specs.List.{slice_get, FoldsTo}
 use Rattle.std.specs.Option.{option_map_or}
 use Rattle.cyc_types.specs.declared.Calls.{Ghosts as Calls}
-use Rattle.cyc_types.specs.Firing.{FiringView, FiringCall}
+use Rattle.cyc_types.specs.declared.Raise.{Ghosts as Raise}
 use Rattle.cyc_types.specs.declared.firing.Sent.{Sent}
 use Rattle.cyc_types.specs.declared.level.Level.TheVariants.{Low, Lock, High}
 use Rattle.cyc_types.specs.declared.level.Soft.{Soft}
@@ -56,22 +56,22 @@ refused_none {R} id n now e s = by (slice_get s.cpus.cpus n)
     by (Some cpu) = let a = none_made Lock (timers cpu.cyclics) id in let b = none_made Low (timers cpu.cyclics) id in
         let c = none_made High (timers cpu.cyclics) id in omega (arith, a, b, c)
 
-module _ {C R : Type 0} (handler : Calls C) (step : R → FiringCall → R → Type 0) (view : R → FiringView)
+module _ {C R : Type 0} (handler : Calls C) (firing : Raise R)
     (interrupts : Soft → ℕ → Result Ran SoftRefused → Running C R → Running C R → Type 0)
     (serves : (s t : Running C R) (level : Soft) (budget : ℕ) (answer : Result Ran SoftRefused)
     → interrupts level budget answer s t → t.cpu.cyclics ≡ s.cpu.cyclics) (id : ℕ) where
   -- a fire of one CPU
-  pub fire_here : (s t : Running C R) (now : ℕ) (answer : Result Fired FireRefused) → IsLawful view s.cpu
-      → CpuDoes handler step view interrupts s (Fire now answer) t
-      → Proceeds handler.count step view (account_of (Fire now answer) s.cpu.cyclics) s t
-  fire_here s t now (Ok r) law d = proceeds_one handler step view s t (Fire now (Ok r)) law d
-  fire_here s t now (Err e) law d = proceeds_one handler step view s t (Fire now (Err e)) law d
+  pub fire_here : (s t : Running C R) (now : ℕ) (answer : Result Fired FireRefused) → IsLawful firing.view s.cpu
+      → CpuDoes handler firing interrupts s (Fire now answer) t
+      → Proceeds handler.count firing (account_of (Fire now answer) s.cpu.cyclics) s t
+  fire_here s t now (Ok r) law d = proceeds_one handler firing s t (Fire now (Ok r)) law d
+  fire_here s t now (Err e) law d = proceeds_one handler firing s t (Fire now (Err e)) law d
 
   -- what it lost
-  pub lost_here : (s t : Running C R) (now : ℕ) (answer : Result Fired FireRefused) → IsLawful view s.cpu
-      → (d : CpuDoes handler step view interrupts s (Fire now answer) t)
+  pub lost_here : (s t : Running C R) (now : ℕ) (answer : Result Fired FireRefused) → IsLawful firing.view s.cpu
+      → (d : CpuDoes handler firing interrupts s (Fire now answer) t)
       → lost_of id t.cpu.cyclics
-      ≡ lost_of id s.cpu.cyclics + losses_of_fire handler step view interrupts id now answer s t d
+      ≡ lost_of id s.cpu.cyclics + losses_of_fire handler firing interrupts id now answer s t d
   lost_here s t now (Ok r) law (early, kept, expired, next, m) =
       let ts = timers s.cpu.cyclics in let made = expirations now ts in
       fired_lost id now made m.acts.lock_way m.acts.low_way s.cpu.cyclics t.cpu.cyclics law.distinct m.timers_are m.losses_are
@@ -106,15 +106,15 @@ module _ {C R : Type 0} (handler : Calls C) (step : R → FiringCall → R → T
 
   -- what one CPU gained
   gained : (n : ℕ) (D : CpuView R → CpuView R → Type 0) (s t : RunningSystem C R) (made losses : ℕ)
-      (c : ChangesAt n D s.system.cpus t.system.cpus) → IsSound view s.system → IsSound view t.system
+      (c : ChangesAt n D s.system.cpus t.system.cpus) → IsSound firing.view s.system → IsSound firing.view t.system
       → t.system.records ≡ s.system.records → expired_of id c.after.cyclics ≡ expired_of id c.before.cyclics + made
       → lost_of id c.after.cyclics ≡ lost_of id c.before.cyclics + losses → losses ≤ made
       → Grows made losses s.system t.system
   gained n D s t made losses c a b records expired lost few =
-      let x0 = stays_found view id (λ t. t.sent.sent) s.system a.lawful in
-      let x1 = stays_found view id (λ t. t.sent.sent) t.system b.lawful in
-      let y0 = stays_found view id (λ t. t.sent.lost) s.system a.lawful in
-      let y1 = stays_found view id (λ t. t.sent.lost) t.system b.lawful in
+      let x0 = stays_found firing.view id (λ t. t.sent.sent) s.system a.lawful in
+      let x1 = stays_found firing.view id (λ t. t.sent.sent) t.system b.lawful in
+      let y0 = stays_found firing.view id (λ t. t.sent.lost) s.system a.lawful in
+      let y1 = stays_found firing.view id (λ t. t.sent.lost) t.system b.lawful in
       let x = sum_set (on_cpu (λ t. t.sent.sent) id) s.system.cpus.cpus n c.before c.after c.here in
       let y = sum_set (on_cpu (λ t. t.sent.lost) id) s.system.cpus.cpus n c.before c.after c.here in
       let x2 = ap (on_cpus (λ t. t.sent.sent) id) c.rest in let y2 = ap (on_cpus (λ t. t.sent.lost) id) c.rest in
@@ -126,17 +126,17 @@ module _ {C R : Type 0} (handler : Calls C) (step : R → FiringCall → R → T
         few = few;
       }
 
-  quietly : (s t : RunningSystem C R) (call : SystemCall) → IsSound view s.system → IsSound view t.system
-      → Changes step view s.system call t.system → (EndsRemoval id call → ⊥) → Grows 0 0 s.system t.system
+  quietly : (s t : RunningSystem C R) (call : SystemCall) → IsSound firing.view s.system → IsSound firing.view t.system
+      → Changes firing s.system call t.system → (EndsRemoval id call → ⊥) → Grows 0 0 s.system t.system
   quietly s t call a b d open_still = grows_same s.system t.system
-      (counts_same step view sent refl (λ x y. refl) id s.system t.system call a b d open_still)
-      (counts_same step view lost refl (λ x y. refl) id s.system t.system call a b d open_still)
+      (counts_same firing sent refl (λ x y. refl) id s.system t.system call a b d open_still)
+      (counts_same firing lost refl (λ x y. refl) id s.system t.system call a b d open_still)
 
-  fires_one : (n now : ℕ) (answer : Result Fired FireRefused) (s t : RunningSystem C R) → IsSound view s.system
-      → IsSound view t.system
-      → (d : Does handler step view interrupts s (FireOne n now answer) t)
+  fires_one : (n now : ℕ) (answer : Result Fired FireRefused) (s t : RunningSystem C R) → IsSound firing.view s.system
+      → IsSound firing.view t.system
+      → (d : Does handler firing interrupts s (FireOne n now answer) t)
       → Grows (expirations_in id (FireOne n now answer) s.system)
-      (losses_in handler step view interrupts id (FireOne n now answer) s t d) s.system t.system
+      (losses_in handler firing interrupts id (FireOne n now answer) s t d) s.system t.system
   fires_one n now answer s t a b (inl (e, why, is, same)) =
       grows_is 0 _ 0 s.system t.system (sym
       (ap (λ (r : Result Fired FireRefused). expirations_in id (FireOne n now r) s.system) is
@@ -150,17 +150,17 @@ module _ {C R : Type 0} (handler : Calls C) (step : R → FiringCall → R → T
       let is : made ≡ expirations_in id (FireOne n now answer) s.system = ap
       (λ o. option_map_or (λ (cpu : CpuView R). fired_in (account_of (Fire now answer) cpu.cyclics) id) o 0)
       (sym runs.here) in
-      let l = p.lost id in let k = passes_few step view _ p.lock_lost _ _ p.lock id in
-      let m = passes_few step view _ p.low_lost _ _ p.low id in
+      let l = p.lost id in let k = passes_few firing _ p.lock_lost _ _ p.lock id in
+      let m = passes_few firing _ p.low_lost _ _ p.low id in
       let e = p.expired id in
       let q = lost_here (running s.calls runs.before) (running t.calls runs.after) now answer
       (a.lawful n runs.before runs.here) runs.change in
       grows_is made _ _ s.system t.system is
       (gained n _ s t made _ runs a b records (omega (arith, e)) q (omega (arith, l, k, m, q)))
 
-  pub one_grows : (s t : RunningSystem C R) (call : SystemCall) → IsSound view s.system → IsSound view t.system
-      → (EndsRemoval id call → ⊥) → (d : Does handler step view interrupts s call t)
-      → Grows (expirations_in id call s.system) (losses_in handler step view interrupts id call s t d)
+  pub one_grows : (s t : RunningSystem C R) (call : SystemCall) → IsSound firing.view s.system → IsSound firing.view t.system
+      → (EndsRemoval id call → ⊥) → (d : Does handler firing interrupts s call t)
+      → Grows (expirations_in id call s.system) (losses_in handler firing interrupts id call s t d)
       s.system t.system
   one_grows s t (FireOne n now answer) a b open_still d = fires_one n now answer s t a b d
   one_grows s t (SoftInterrupt n level budget answer) a b open_still (inl (e, why, is, same)) =
@@ -185,12 +185,12 @@ module _ {C R : Type 0} (handler : Calls C) (step : R → FiringCall → R → T
   one_grows s t (Online n now answer) a b open_still d = quietly s t (Online n now answer) a b d.0 open_still
 
   abbrev D : RunningSystem C R → SystemCall → RunningSystem C R → Type 0
-  D = Steps handler step view interrupts
+  D = Steps handler firing interrupts
 
-  pub run_grows : (s t : RunningSystem C R) (way : List SystemCall) (run : FoldsTo D s way t) → IsSound view s.system
+  pub run_grows : (s t : RunningSystem C R) (way : List SystemCall) (run : FoldsTo D s way t) → IsSound firing.view s.system
       → All (λ call. EndsRemoval id call → ⊥) way
       → Grows (expirations_along D id s way t run)
-      (losses_along handler step view interrupts id s way t run) s.system t.system
+      (losses_along handler firing interrupts id s way t run) s.system t.system
   run_grows s t [] run a open_still = grows_same s.system t.system
       (ap (λ (x : RunningSystem C R). all_expired id x.system) (sym run))
       (ap (λ (x : RunningSystem C R). all_lost id x.system) (sym run))
@@ -198,7 +198,7 @@ module _ {C R : Type 0} (handler : Calls C) (step : R → FiringCall → R → T
       grows_then _ _ _ _ s.system u.system t.system (one_grows s u call a sound (open_still 0 call (omega arith)) d)
       (run_grows u t way rest sound (λ k e low. open_still (suc k) e (omega (arith, low))))
 
-  pub run_sound : (s t : RunningSystem C R) (way : List SystemCall) → FoldsTo D s way t → IsSound view s.system
-      → IsSound view t.system
-  run_sound s t [] run a = subst (λ (x : RunningSystem C R). IsSound view x.system) run a
+  pub run_sound : (s t : RunningSystem C R) (way : List SystemCall) → FoldsTo D s way t → IsSound firing.view s.system
+      → IsSound firing.view t.system
+  run_sound s t [] run a = subst (λ (x : RunningSystem C R). IsSound firing.view x.system) run a
   run_sound s t (call ∷ way) (u, (d, sound), rest) a = run_sound u t way rest sound

@@ -4,7 +4,7 @@ use mathlib.Core.Logic.{inl, inr}
 use Rattle.std.specs.List.{slice_get, FoldsTo}
 use Rattle.std.specs.Option.{option_map_or}
 use Rattle.cyc_types.specs.declared.Calls.{Ghosts as Calls}
-use Rattle.cyc_types.specs.Firing.{FiringView, FiringCall}
+use Rattle.cyc_types.specs.declared.Raise.{Ghosts as Raise}
 use Rattle.cyc_types.specs.declared.level.Level.TheVariants.{Low, Lock, High}
 use Rattle.cyc_types.specs.declared.level.Soft.{Soft}
 use Rattle.cyc_types.specs.declared.receipt.Receipt.{Receipt}
@@ -32,11 +32,11 @@ expirations_in id (FireOne n now answer) s =
 expirations_in id call s = 0
 
 -- one call of a run: it was made on the system, which is sound after it, as it is between any two calls
-abbrev pub Steps : {C R : Type 0} → Calls C → (R → FiringCall → R → Type 0) → (R → FiringView)
+abbrev pub Steps : {C R : Type 0} → Calls C → Raise R
     → (Soft → ℕ → Result Ran SoftRefused → Running C R → Running C R → Type 0)
     → RunningSystem C R → SystemCall → RunningSystem C R → Type 0
-Steps handler step view interrupts s call t =
-    Does handler step view interrupts s call t × IsSound view t.system
+Steps handler firing interrupts s call t =
+    Does handler firing interrupts s call t × IsSound firing.view t.system
 
 -- the expirations of an id over a run, on all CPUs
 abbrev pub expirations_along : {C R : Type 0} (D : RunningSystem C R → SystemCall → RunningSystem C R → Type 0) (id : ℕ)
@@ -44,11 +44,11 @@ abbrev pub expirations_along : {C R : Type 0} (D : RunningSystem C R → SystemC
 expirations_along D id s [] t run = 0
 expirations_along D id s (call ∷ way) t run = expirations_in id call s.system + expirations_along D id run.0 way t run.2
 
-module _ {C R : Type 0} (handler : Calls C) (step : R → FiringCall → R → Type 0) (view : R → FiringView)
+module _ {C R : Type 0} (handler : Calls C) (firing : Raise R)
     (interrupts : Soft → ℕ → Result Ran SoftRefused → Running C R → Running C R → Type 0) (id : ℕ) where
   -- the raises of an id in a fire of a CPU that its two ends answered as lost at the ceiling
   abbrev pub losses_of_fire : (now : ℕ) (answer : Result Fired FireRefused) (s t : Running C R)
-      → CpuDoes handler step view interrupts s (Fire now answer) t → ℕ
+      → CpuDoes handler firing interrupts s (Fire now answer) t → ℕ
   losses_of_fire now (Ok r) s t (early, kept, expired, next, makes) =
       lost_by id makes.acts.lock_way + lost_by id makes.acts.low_way
   losses_of_fire now (Err e) s t (inl never) = 0
@@ -57,7 +57,7 @@ module _ {C R : Type 0} (handler : Calls C) (step : R → FiringCall → R → T
 
   -- those of a call: of the fire of one CPU
   abbrev pub losses_in : (call : SystemCall) (s t : RunningSystem C R)
-      → Does handler step view interrupts s call t → ℕ
+      → Does handler firing interrupts s call t → ℕ
   losses_in (FireOne n now answer) s t (inl refused) = 0
   losses_in (FireOne n now answer) s t (inr (clear, (runs, records, last))) =
       losses_of_fire now answer (running s.calls runs.before) (running t.calls runs.after) runs.change
@@ -65,12 +65,12 @@ module _ {C R : Type 0} (handler : Calls C) (step : R → FiringCall → R → T
 
   -- those over a run, on all CPUs
   abbrev pub losses_along : (s : RunningSystem C R) (way : List SystemCall) (t : RunningSystem C R)
-      → FoldsTo (Steps handler step view interrupts) s way t → ℕ
+      → FoldsTo (Steps handler firing interrupts) s way t → ℕ
   losses_along s [] t run = 0
   losses_along s (call ∷ way) t run = losses_in call s run.0 run.1.0 + losses_along run.0 way t run.2
 
 -- the removal of this id answers with this receipt, as it begins or at a poll
-abbrev pub Answers : {R : Type 0} → (R → FiringCall → R → Type 0) → (R → FiringView) → ℕ → Receipt
+abbrev pub Answers : {R : Type 0} → Raise R → ℕ → Receipt
     → SystemView R → SystemView R → Type 0
-Answers step view id receipt s t =
-    Changes step view s (BeginRemove id (Ok (Done receipt))) t ⊎ Changes step view s (PollRemove id (Ok (Some receipt))) t
+Answers firing id receipt s t =
+    Changes firing s (BeginRemove id (Ok (Done receipt))) t ⊎ Changes firing s (PollRemove id (Ok (Some receipt))) t

@@ -8,7 +8,7 @@ ghost use Rattle.cyc_fire.specs.declared.fire.Fired.{Fired};
 ghost use Rattle.cyc_fire.specs.declared.fire.FireRefused.{FireRefused};
 ghost use Rattle.cyc_soft.specs.declared.Ran.{Ran};
 ghost use Rattle.cyc_cpu.specs.Calls.{no_interrupts};
-ghost use Rattle.cyc_cpu.specs.Soft.{fires, firing_at, Interrupts};
+ghost use Rattle.cyc_cpu.specs.Soft.{raise_tables, firing_at, Interrupts};
 ghost use Rattle.cyc_system_counts.specs.SoftFault.{SoftFault};
 ghost use Rattle.cyc_system_counts.specs.System.{SystemView, RunningSystem, is_omnipresent};
 ghost use Rattle.cyc_system_counts.specs.Laws.{cyclic_on};
@@ -26,7 +26,7 @@ use cyc_types::{Calls, Raise};
 pub fn fires_law<C: Calls, R: Raise>()
     ensures { (id n now : ℕ) (answer : Result Fired FireRefused) (s t : RunningSystem C R) → IsSound R.view s.system
         → IsSound R.view t.system
-        → Does C.Calls R.step R.view no_interrupts s (FireOne n now answer) t
+        → Does C.Calls R.Raise no_interrupts s (FireOne n now answer) t
         → SameKinds id s.system t.system }
 {}
 
@@ -36,7 +36,7 @@ pub fn fires_law<C: Calls, R: Raise>()
 pub fn interrupts_law<C: Calls>()
     ensures { (id n budget : ℕ) (level : Soft) (answer : Result Ran SoftFault) (s t : RunningSystem C Tables)
         → IsSound firing_at s.system → IsSound firing_at t.system
-        → Does C.Calls fires firing_at (Interrupts C.Calls) s (SoftInterrupt n level budget answer) t
+        → Does C.Calls raise_tables (Interrupts C.Calls) s (SoftInterrupt n level budget answer) t
         → SameStays id s.system t.system }
 {}
 
@@ -47,5 +47,5 @@ pub fn interrupts_law<C: Calls>()
 /// It does nothing when it runs: its clause is the law.
 pub fn offlines_law<R: Raise>()
     ensures { (id n m : ℕ) (answer : Result (Unit {0}) Reason) (s t : SystemView R) → is_omnipresent id s ≡ true → m ≢ n
-        → Changes R.step R.view s (Offline n answer) t → cyclic_on m id t.cpus ≡ cyclic_on m id s.cpus }
+        → Changes R.Raise s (Offline n answer) t → cyclic_on m id t.cpus ≡ cyclic_on m id s.cpus }
 {}

@@ -4,7 +4,7 @@ ghost use Rattle.std.specs.Prelude.{◌≡◌, ℕ, ◌<◌, List, All};
 ghost use Rattle.std.specs.List.{FoldsTo};
 ghost use Rattle.cyc_core.specs.Tables.{Tables};
 ghost use Rattle.cyc_cpu.specs.Calls.{no_interrupts};
-ghost use Rattle.cyc_cpu.specs.Soft.{fires, firing_at, Interrupts};
+ghost use Rattle.cyc_cpu.specs.Soft.{raise_tables, firing_at, Interrupts};
 ghost use Rattle.cyc_system_counts.specs.Counts.{all_expired, all_lost};
 ghost use Rattle.cyc_system_counts.specs.System.{RunningSystem, SystemView};
 ghost use Rattle.cyc_system_counts.specs.Calls.{SystemCall};
@@ -21,7 +21,7 @@ use cyc_types::{Calls, Raise};
 /// It does nothing when it runs: its clause is the law.
 pub fn spared_law<C: Calls, R: Raise>()
     ensures { (id : ℕ) (s t : RunningSystem C R) (way : List SystemCall)
-        → FoldsTo (Steps C.Calls R.step R.view no_interrupts) s way t → IsSound R.view s.system
+        → FoldsTo (Steps C.Calls R.Raise no_interrupts) s way t → IsSound R.view s.system
         → All (λ call. EndsRemoval id call → ⊥) way → all_lost id s.system ≡ 0
         → IsUnderEach R.view (all_expired id t.system) t.system → all_lost id t.system ≡ 0 }
 {}
@@ -31,7 +31,7 @@ pub fn spared_law<C: Calls, R: Raise>()
 /// It does nothing when it runs: its clause is the law.
 pub fn spared_core_law<C: Calls>()
     ensures { (id : ℕ) (s t : RunningSystem C Tables) (way : List SystemCall)
-        → FoldsTo (Steps C.Calls fires firing_at (Interrupts C.Calls)) s way t
+        → FoldsTo (Steps C.Calls raise_tables (Interrupts C.Calls)) s way t
         → IsSound firing_at s.system → All (λ call. EndsRemoval id call → ⊥) way
         → all_lost id s.system ≡ 0 → IsUnderEach firing_at (all_expired id t.system) t.system → all_lost id t.system ≡ 0 }
 {}

@@ -5,7 +5,7 @@ ghost use Rattle.std.specs.List.{FoldsTo};
 ghost use Rattle.cyc_types.specs.declared.receipt.Receipt.{Receipt};
 ghost use Rattle.cyc_core.specs.Tables.{Tables};
 ghost use Rattle.cyc_cpu.specs.Calls.{no_interrupts};
-ghost use Rattle.cyc_cpu.specs.Soft.{fires, firing_at, Interrupts};
+ghost use Rattle.cyc_cpu.specs.Soft.{raise_tables, fires, firing_at, Interrupts};
 ghost use Rattle.cyc_system_counts.specs.Counts.{all_expired, all_lost};
 ghost use Rattle.cyc_system_counts.specs.System.{SystemView, RunningSystem};
 ghost use Rattle.cyc_system_counts.specs.Calls.{SystemCall};
@@ -22,24 +22,24 @@ use cyc_types::{Calls, Raise};
 /// It does nothing when it runs: its clauses are the law.
 pub fn expirations_law<C: Calls, R: Raise>()
     ensures expired { (id : ℕ) (s t : RunningSystem C R) (way : List SystemCall)
-        → (run : FoldsTo (Steps C.Calls R.step R.view no_interrupts) s way t) → IsSound R.view s.system
+        → (run : FoldsTo (Steps C.Calls R.Raise no_interrupts) s way t) → IsSound R.view s.system
         → All (λ call. EndsRemoval id call → ⊥) way → all_expired id t.system ≡ all_expired id s.system
-        + expirations_along (Steps C.Calls R.step R.view no_interrupts) id s way t run }
+        + expirations_along (Steps C.Calls R.Raise no_interrupts) id s way t run }
     ensures lost { (id : ℕ) (s t : RunningSystem C R) (way : List SystemCall)
-        → (run : FoldsTo (Steps C.Calls R.step R.view no_interrupts) s way t) → IsSound R.view s.system
+        → (run : FoldsTo (Steps C.Calls R.Raise no_interrupts) s way t) → IsSound R.view s.system
         → All (λ call. EndsRemoval id call → ⊥) way → all_lost id t.system ≡ all_lost id s.system
-        + losses_along C.Calls R.step R.view no_interrupts id s way t run }
+        + losses_along C.Calls R.Raise no_interrupts id s way t run }
     ensures few { (id : ℕ) (s t : RunningSystem C R) (way : List SystemCall)
-        → (run : FoldsTo (Steps C.Calls R.step R.view no_interrupts) s way t) → IsSound R.view s.system
+        → (run : FoldsTo (Steps C.Calls R.Raise no_interrupts) s way t) → IsSound R.view s.system
         → All (λ call. EndsRemoval id call → ⊥) way
-        → losses_along C.Calls R.step R.view no_interrupts id s way t run
-        ≤ expirations_along (Steps C.Calls R.step R.view no_interrupts) id s way t run }
+        → losses_along C.Calls R.Raise no_interrupts id s way t run
+        ≤ expirations_along (Steps C.Calls R.Raise no_interrupts) id s way t run }
     // The run begins before the id is given.
     ensures receipt { (id : ℕ) (s t : RunningSystem C R) (u : SystemView R) (way : List SystemCall) (receipt : Receipt)
-        → (run : FoldsTo (Steps C.Calls R.step R.view no_interrupts) s way t) → IsSound R.view s.system
-        → s.system.last < id → All (λ call. EndsRemoval id call → ⊥) way → Answers R.step R.view id receipt t.system u
-        → (receipt.sent ≡ expirations_along (Steps C.Calls R.step R.view no_interrupts) id s way t run)
-        × (receipt.lost ≡ losses_along C.Calls R.step R.view no_interrupts id s way t run) }
+        → (run : FoldsTo (Steps C.Calls R.Raise no_interrupts) s way t) → IsSound R.view s.system
+        → s.system.last < id → All (λ call. EndsRemoval id call → ⊥) way → Answers R.Raise id receipt t.system u
+        → (receipt.sent ≡ expirations_along (Steps C.Calls R.Raise no_interrupts) id s way t run)
+        × (receipt.lost ≡ losses_along C.Calls R.Raise no_interrupts id s way t run) }
 {}
 
 /// The same where no other thread uses the levels, and soft interrupts are among the calls.
@@ -47,25 +47,25 @@ pub fn expirations_law<C: Calls, R: Raise>()
 /// It does nothing when it runs: its clauses are the law.
 pub fn expirations_core_law<C: Calls>()
     ensures expired { (id : ℕ) (s t : RunningSystem C Tables) (way : List SystemCall)
-        → (run : FoldsTo (Steps C.Calls fires firing_at (Interrupts C.Calls)) s way t)
+        → (run : FoldsTo (Steps C.Calls raise_tables (Interrupts C.Calls)) s way t)
         → IsSound firing_at s.system → All (λ call. EndsRemoval id call → ⊥) way → all_expired id t.system
         ≡ all_expired id s.system + expirations_along
-        (Steps C.Calls fires firing_at (Interrupts C.Calls)) id s way t run }
+        (Steps C.Calls raise_tables (Interrupts C.Calls)) id s way t run }
     ensures lost { (id : ℕ) (s t : RunningSystem C Tables) (way : List SystemCall)
-        → (run : FoldsTo (Steps C.Calls fires firing_at (Interrupts C.Calls)) s way t)
+        → (run : FoldsTo (Steps C.Calls raise_tables (Interrupts C.Calls)) s way t)
         → IsSound firing_at s.system → All (λ call. EndsRemoval id call → ⊥) way → all_lost id t.system
-        ≡ all_lost id s.system + losses_along C.Calls fires firing_at
+        ≡ all_lost id s.system + losses_along C.Calls raise_tables
         (Interrupts C.Calls) id s way t run }
     ensures few { (id : ℕ) (s t : RunningSystem C Tables) (way : List SystemCall)
-        → (run : FoldsTo (Steps C.Calls fires firing_at (Interrupts C.Calls)) s way t)
+        → (run : FoldsTo (Steps C.Calls raise_tables (Interrupts C.Calls)) s way t)
         → IsSound firing_at s.system → All (λ call. EndsRemoval id call → ⊥) way
-        → losses_along C.Calls fires firing_at (Interrupts C.Calls) id s way t run
+        → losses_along C.Calls raise_tables (Interrupts C.Calls) id s way t run
         ≤ expirations_along
-        (Steps C.Calls fires firing_at (Interrupts C.Calls)) id s way t run }
+        (Steps C.Calls raise_tables (Interrupts C.Calls)) id s way t run }
     ensures receipt { (id : ℕ) (s t : RunningSystem C Tables) (u : SystemView Tables) (way : List SystemCall) (receipt : Receipt)
-        → (run : FoldsTo (Steps C.Calls fires firing_at (Interrupts C.Calls)) s way t)
+        → (run : FoldsTo (Steps C.Calls raise_tables (Interrupts C.Calls)) s way t)
         → IsSound firing_at s.system → s.system.last < id → All (λ call. EndsRemoval id call → ⊥) way
-        → Answers fires firing_at id receipt t.system u → (receipt.sent ≡ expirations_along
-        (Steps C.Calls fires firing_at (Interrupts C.Calls)) id s way t run)
-        × (receipt.lost ≡ losses_along C.Calls fires firing_at (Interrupts C.Calls) id s way t run) }
+        → Answers raise_tables id receipt t.system u → (receipt.sent ≡ expirations_along
+        (Steps C.Calls raise_tables (Interrupts C.Calls)) id s way t run)
+        × (receipt.lost ≡ losses_along C.Calls raise_tables (Interrupts C.Calls) id s way t run) }
 {}

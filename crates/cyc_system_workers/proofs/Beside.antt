@@ -6,7 +6,7 @@ use Rattle.std.proofs.lemmas.List.{length-append}
 use Rattle.std.proofs.lemmas.Option.{slice_get_within, same_Some}
 use Rattle.cyc_agreement.proofs.Spots.{get_some}
 use Rattle.cyc_types.specs.declared.Calls.{Ghosts as Calls}
-use Rattle.cyc_types.specs.Firing.{FiringView, FiringCall}
+use Rattle.cyc_types.specs.declared.Raise.{Ghosts as Raise}
 use Rattle.cyc_system_workers.specs.declared.lanes.Lane.{Lane}
 use Rattle.cyc_system_workers.specs.declared.lanes.LaneAfter.{LaneAfter}
 use Rattle.cyc_system_workers.specs.declared.firing.Started.{Started}
@@ -66,18 +66,18 @@ beside_then P Q S f xs ys zs p q = record {
       let y = get_some ys n (omega (arith, low, long)) in f x y.0 z (p.each n x y.0 at_x y.1) (q.each n y.0 z y.1 at_z));
 }
 
-module _ {C R : Type 0} (handler : Calls C) (step : R → FiringCall → R → Type 0) (view : R → FiringView) (now : ℕ) where
+module _ {C R : Type 0} (handler : Calls C) (firing : Raise R) (now : ℕ) where
   -- what was begun on a CPU came to its end
   kept : (lane : Lane R C) (started : Started R C) (after : LaneAfter R C)
-      → Owes handler step view now lane started
-      → Keeps handler step view started after → LaneFires handler step view now lane after
+      → Owes handler firing now lane started
+      → Keeps handler firing started after → LaneFires handler firing now lane after
   kept lane (Fires child) after owes keeps =
-      subst (λ n. LaneFires handler step view n lane after) owes.1
-      (subst (λ l. LaneFires handler step view child.promise.now l after) owes.0 keeps)
-  kept lane (Stays left) after owes keeps = subst (LaneFires handler step view now lane) (sym keeps) owes
+      subst (λ n. LaneFires handler firing n lane after) owes.1
+      (subst (λ l. LaneFires handler firing child.promise.now l after) owes.0 keeps)
+  kept lane (Stays left) after owes keeps = subst (LaneFires handler firing now lane) (sym keeps) owes
 
   pub all_kept : (lanes : List (Lane R C)) (started : List (Started R C)) (after : List (LaneAfter R C)) →
-      Beside (Owes handler step view now) lanes started
-      → Beside (Keeps handler step view) started after
-      → Beside (LaneFires handler step view now) lanes after
-  all_kept = beside_then (Owes handler step view now) (Keeps handler step view) (LaneFires handler step view now) kept
+      Beside (Owes handler firing now) lanes started
+      → Beside (Keeps handler firing) started after
+      → Beside (LaneFires handler firing now) lanes after
+  all_kept = beside_then (Owes handler firing now) (Keeps handler firing) (LaneFires handler firing now) kept

@@ -6,7 +6,7 @@ use Rattle.std.specs.Option.{option_map_or}
 use Rattle.std.proofs.lemmas.List.{length-append}
 use Rattle.std.proofs.lemmas.Option.{slice_get_within}
 use Rattle.cyc_types.specs.declared.Calls.{Ghosts as Calls}
-use Rattle.cyc_types.specs.Firing.{FiringView, FiringCall}
+use Rattle.cyc_types.specs.declared.Raise.{Ghosts as Raise}
 use Rattle.cyc_types.specs.declared.refusal.Refusal.TheVariants.{Offline}
 use Rattle.cyc_fire.specs.declared.fire.Fired.{Fired}
 use Rattle.cyc_fire.specs.declared.fire.FireRefused.{FireRefused}
@@ -35,13 +35,13 @@ set_mid [] xs x y = refl
 set_mid (p ∷ pre) xs x y = ap (λ l. p ∷ l) (set_mid pre xs x y)
 
 module _ {C R : Type 0} (handler : Calls C)
-    (step : R → FiringCall → R → Type 0) (view : R → FiringView) (leads leads' : List (Lead C)) (now : ℕ)
+    (firing : Raise R) (leads leads' : List (Lead C)) (now : ℕ)
     (online : List Bool) (records : List Record) (last : ℕ) where
   abbrev sys : List (CpuView R) → SystemView R
   sys cpus = record { cpus = record { cpus = cpus; online = online }; records = records; last = last }
 
   abbrev D : SystemView R → FireOn → SystemView R → Type 0
-  D = FiresOne handler step view leads leads' now
+  D = FiresOne handler firing leads leads' now
 
   -- what becomes of the CPU of a number, with its own handlers
   record At (n : ℕ) (up : Bool) (x y : CpuView R) : Type 0 where
@@ -50,12 +50,12 @@ module _ {C R : Type 0} (handler : Calls C)
     pub answer : Option (Result Fired FireRefused)
     pub before_is : slice_get leads n ≡ Some before
     pub after_is : slice_get leads' n ≡ Some after
-    pub fires : FiresIf handler step view up now (running before.calls x) answer (running after.calls y)
+    pub fires : FiresIf handler firing up now (running before.calls x) answer (running after.calls y)
 
   fires_one : (pre xs : List (CpuView R)) (x y : CpuView R) (l m : Lead C) (answer : Result Fired FireRefused)
       → slice_get online (length pre) ≡ Some true →
       slice_get leads (length pre) ≡ Some l → slice_get leads' (length pre) ≡ Some m →
-      Does handler step view no_interrupts (running l.calls x) (Fire now answer) (running m.calls y) →
+      Does handler firing no_interrupts (running l.calls x) (Fire now answer) (running m.calls y) →
       D (sys (pre ++ x ∷ xs)) (record { cpu = length pre; answer = answer }) (sys (pre ++ y ∷ xs))
   fires_one pre xs x y l m answer up l_is m_is does =
       let n = length pre in let s = sys (pre ++ x ∷ xs) in
@@ -98,7 +98,7 @@ module _ {C R : Type 0} (handler : Calls C)
           (subst (λ cpus. FoldsTo D (sys ((pre ++ y ∷ []) ++ xs)) rest.0 (sys cpus)) (append_assoc pre (y ∷ []) ys) rest.1)
 
       by : (b : Bool) (o : Option (Result Fired FireRefused)) → slice_get online (length pre) ≡ Some b →
-          FiresIf handler step view b now (running at.before.calls x) o (running at.after.calls y)
+          FiresIf handler firing b now (running at.before.calls x) o (running at.after.calls y)
           → From (length pre) (b ∷ ups) (pre ++ x ∷ xs) (pre ++ y ∷ ys)
       by true (Some answer) on f = (
         record { cpu = length pre; answer = answer } ∷ rest.0,
@@ -135,13 +135,13 @@ module _ {C R : Type 0} (handler : Calls C)
       (λ i. ap (slice_get online) (next i) ∙ on (suc i))
       (λ i up' x' y' p q r. subst (λ n. At n up' x' y') (sym (next i)) (each (suc i) up' x' y' p q r))))
 
-module _ {C R : Type 0} (handler : Calls C) (step : R → FiringCall → R → Type 0) (view : R → FiringView) where
+module _ {C R : Type 0} (handler : Calls C) (firing : Raise R) where
   pub are_fires : (now : ℕ) (a : SystemSide R C) (b : Advanced R C) → Agrees a.system
       → length a.leads.items ≡ length a.system.cpus.cpus →
-      AllFire handler step view now a b → IsFires handler step view now a b
+      AllFire handler firing now a b → IsFires handler firing now a b
   are_fires now a b agrees many f =
       let long = agrees.long in let long' = f.long in let leads' = f.long_leads in let answers = f.long_answers in
-      let made = from handler step view a.leads.items b.side.leads.items now a.system.cpus.online a.system.records
+      let made = from handler firing a.leads.items b.side.leads.items now a.system.cpus.online a.system.records
       a.system.last
       a.system.cpus.online [] a.system.cpus.cpus b.side.system.cpus.cpus (sym long) (f.long ∙ sym long)
       (λ i. ap (slice_get a.system.cpus.online) (let e : 0 + i ≡ i = omega arith in e))
@@ -162,7 +162,7 @@ module _ {C R : Type 0} (handler : Calls C) (step : R → FiringCall → R → T
       record {
         fires = made.0;
         made = subst (λ (t : SystemView R). FoldsTo
-            (FiresOne handler step view a.leads.items b.side.leads.items now) a.system made.0 t)
+            (FiresOne handler firing a.leads.items b.side.leads.items now) a.system made.0 t)
             (λ z. record {
               cpus = record { cpus = b.side.system.cpus.cpus; online = sym f.online z };
               records =

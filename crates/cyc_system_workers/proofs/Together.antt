@@ -5,7 +5,7 @@ use Rattle.std.specs.List.{slice_get}
 use Rattle.std.proofs.lemmas.Option.{slice_get_within, same_Some}
 use Rattle.std.proofs.lemmas.List.{length-map}
 use Rattle.cyc_types.specs.declared.Calls.{Ghosts as Calls}
-use Rattle.cyc_types.specs.Firing.{FiringView, FiringCall}
+use Rattle.cyc_types.specs.declared.Raise.{Ghosts as Raise}
 use Rattle.cyc_fire.specs.declared.fire.Fired.{Fired}
 use Rattle.cyc_fire.specs.declared.fire.FireRefused.{FireRefused}
 use Rattle.cyc_cpu.specs.Cpu.{CpuView, Running, running}
@@ -34,37 +34,40 @@ get_from f xs n y e =
     let x = get_some xs n (omega (arith, low, long)) in
     (x.0, x.1, same_Some y (f x.0) (sym e ∙ get_map f xs n x.0 x.1))
 
-module _ {C R : Type 0} (handler : Calls C) (step : R → FiringCall → R → Type 0) (view : R → FiringView) (now : ℕ) where
+module _ {C R : Type 0} (handler : Calls C) (firing : Raise R) (now : ℕ) where
   -- each lane fires
   abbrev pub EachFires : List (Lane R C) → List (LaneAfter R C) → Type 0
-  EachFires = Beside (LaneFires handler step view now)
+  EachFires = Beside (LaneFires handler firing now)
 
   back_if : (up : Bool) (s t : Running C R) (answer : Option (Result Fired FireRefused)) →
-      ((x : CpuView R) → ComesBack view x x) →
-      ((s t : Running C R) (now : ℕ) (answer : Result Fired FireRefused) → IsLawful view s.cpu → IsLawful view t.cpu →
-      Does handler step view no_interrupts s (Fire now answer) t → ComesBack view s.cpu t.cpu) →
-      IsLawful view s.cpu → IsLawful view t.cpu → FiresIf handler step view up now s answer t
-      → ComesBack view s.cpu t.cpu
+      ((x : CpuView R) → ComesBack firing.view x x) →
+      ((s t : Running C R) (now : ℕ) (answer : Result Fired FireRefused) → IsLawful firing.view s.cpu → IsLawful firing.view t.cpu
+      →
+      Does handler firing no_interrupts s (Fire now answer) t → ComesBack firing.view s.cpu t.cpu) →
+      IsLawful firing.view s.cpu → IsLawful firing.view t.cpu → FiresIf handler firing up now s answer t
+      → ComesBack firing.view s.cpu t.cpu
   back_if true s t (Some answer) same fired law law' f = fired s t now answer law law' f
   back_if true s t None same fired law law' f = absurd f
   back_if false s t (Some answer) same fired law law' f = absurd f
-  back_if false s t None same fired law law' f = subst (λ (x : Running C R). ComesBack view s.cpu x.cpu) (sym f) (same s.cpu)
+  back_if false s t None same fired law law' f = subst (λ (x : Running C R). ComesBack firing.view s.cpu x.cpu) (sym f)
+      (same s.cpu)
 
   -- each firing side may come back
   pub comes_back : (lanes : List (Lane R C)) (after : List (LaneAfter R C)) → EachFires lanes after →
-      ((x : CpuView R) → ComesBack view x x) →
-      ((s t : Running C R) (now : ℕ) (answer : Result Fired FireRefused) → IsLawful view s.cpu → IsLawful view t.cpu →
-      Does handler step view no_interrupts s (Fire now answer) t → ComesBack view s.cpu t.cpu) →
+      ((x : CpuView R) → ComesBack firing.view x x) →
+      ((s t : Running C R) (now : ℕ) (answer : Result Fired FireRefused) → IsLawful firing.view s.cpu → IsLawful firing.view t.cpu
+      →
+      Does handler firing no_interrupts s (Fire now answer) t → ComesBack firing.view s.cpu t.cpu) →
       (n : ℕ) (x y : CpuView R) → slice_get (map (λ (l : Lane R C). l.hard) lanes) n ≡ Some x
       → slice_get (map (λ (l : LaneAfter R C). l.hard) after) n ≡ Some y →
-      ComesBack view x y
+      ComesBack firing.view x y
   comes_back lanes after each same fired n x y at at' =
       let l = get_from (λ (l : Lane R C). l.hard) lanes n x at in let a = get_from (λ (l : LaneAfter R C). l.hard) after n y at'
       in
       let f = each.each n l.0 a.0 l.1 a.1 in
       let back = back_if l.0.online (running l.0.lead.calls l.0.hard)
       (running a.0.lead.calls a.0.hard) a.0.answer same fired f.before f.after f.fires in
-      subst (λ z. ComesBack view z y) (sym l.2) (subst (λ z. ComesBack view l.0.hard z) (sym a.2) back)
+      subst (λ z. ComesBack firing.view z y) (sym l.2) (subst (λ z. ComesBack firing.view l.0.hard z) (sym a.2) back)
 
   pub one_fires : (lanes : List (Lane R C)) (after : List (LaneAfter R C)) → EachFires lanes after →
       (n : ℕ) (up : Bool) (x y : CpuView R) (l m : Lead C) (answer : Option (Result Fired FireRefused)) →
@@ -74,7 +77,7 @@ module _ {C R : Type 0} (handler : Calls C) (step : R → FiringCall → R → T
       slice_get (map (λ (l : Lane R C). l.lead) lanes) n ≡ Some l
       → slice_get (map (λ (l : LaneAfter R C). l.lead) after) n ≡ Some m →
       slice_get (map (λ (l : LaneAfter R C). l.answer) after) n ≡ Some answer →
-      FiresIf handler step view up now (running l.calls x) answer (running m.calls y)
+      FiresIf handler firing up now (running l.calls x) answer (running m.calls y)
   one_fires lanes after each n up x y l m answer at_up at_x at_y at_l at_m at_answer =
       let p = get_from (λ (l : Lane R C). l.hard) lanes n x at_x in let q =
       get_from (λ (l : LaneAfter R C). l.hard) after n y at_y in
@@ -85,15 +88,15 @@ module _ {C R : Type 0} (handler : Calls C) (step : R → FiringCall → R → T
       let m_is : q.0.lead ≡ m = same_Some q.0.lead m (sym (get_map (λ (l : LaneAfter R C). l.lead) after n q.0 q.1) ∙ at_m) in
       let answer_is : q.0.answer ≡ answer = same_Some q.0.answer answer
       (sym (get_map (λ (l : LaneAfter R C). l.answer) after n q.0 q.1) ∙ at_answer) in
-      subst (λ u. FiresIf handler step view u now (running l.calls x) answer (running m.calls y)) up_is
-      (subst (λ o. FiresIf handler step view p.0.online now (running l.calls x) o (running m.calls y)) answer_is
-      (subst (λ (z : Lead C). FiresIf handler step view p.0.online now (running z.calls x) q.0.answer
+      subst (λ u. FiresIf handler firing u now (running l.calls x) answer (running m.calls y)) up_is
+      (subst (λ o. FiresIf handler firing p.0.online now (running l.calls x) o (running m.calls y)) answer_is
+      (subst (λ (z : Lead C). FiresIf handler firing p.0.online now (running z.calls x) q.0.answer
       (running m.calls y)) l_is
-      (subst (λ (z : Lead C). FiresIf handler step view p.0.online now (running p.0.lead.calls x) q.0.answer
+      (subst (λ (z : Lead C). FiresIf handler firing p.0.online now (running p.0.lead.calls x) q.0.answer
       (running z.calls y)) m_is
-      (subst (λ z. FiresIf handler step view p.0.online now (running p.0.lead.calls z) q.0.answer
+      (subst (λ z. FiresIf handler firing p.0.online now (running p.0.lead.calls z) q.0.answer
       (running q.0.lead.calls y)) (sym p.2)
-      (subst (λ z. FiresIf handler step view p.0.online now (running p.0.lead.calls p.0.hard) q.0.answer
+      (subst (λ z. FiresIf handler firing p.0.online now (running p.0.lead.calls p.0.hard) q.0.answer
       (running q.0.lead.calls z)) (sym q.2) f.fires)))))
 
   -- all of them together
@@ -105,7 +108,7 @@ module _ {C R : Type 0} (handler : Calls C) (step : R → FiringCall → R → T
       → map (λ (l : Lane R C). l.online) lanes ≡ a.system.cpus.online →
       b.side.system.cpus.cpus ≡ map (λ (l : LaneAfter R C). l.hard) after
       → b.side.leads.items ≡ map (λ (l : LaneAfter R C). l.lead) after →
-      b.answers.items ≡ map (λ (l : LaneAfter R C). l.answer) after → AllFire handler step view now a b
+      b.answers.items ≡ map (λ (l : LaneAfter R C). l.answer) after → AllFire handler firing now a b
   all_fire a b lanes after each records last online hards leads ups hards' leads' answers = record {
     records = records;
     last = last;

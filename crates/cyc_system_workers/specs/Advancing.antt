@@ -2,7 +2,7 @@
 use Rattle.std.specs.Prelude.{◌≡◌, ℕ, Bool, true, false, length, Option, Some, None, Result}
 use Rattle.std.specs.List.{slice_get}
 use Rattle.cyc_types.specs.declared.Calls.{Ghosts as Calls}
-use Rattle.cyc_types.specs.Firing.{FiringView, FiringCall}
+use Rattle.cyc_types.specs.declared.Raise.{Ghosts as Raise}
 use Rattle.cyc_fire.specs.declared.fire.Fired.{Fired}
 use Rattle.cyc_fire.specs.declared.fire.FireRefused.{FireRefused}
 use Rattle.cyc_cpu.specs.Cpu.{CpuView, Running, running}
@@ -15,24 +15,24 @@ use Rattle.cyc_system_workers.specs.declared.lanes.LaneAfter.{LaneAfter}
 use Rattle.cyc_system_workers.specs.declared.advancing.Advanced.{Advanced}
 
 -- what becomes of a CPU and its handlers: where it is online it fires, with this answer, and else it is as it was
-abbrev pub FiresIf : {C R : Type 0} → Calls C → (R → FiringCall → R → Type 0) → (R → FiringView)
+abbrev pub FiresIf : {C R : Type 0} → Calls C → Raise R
     → Bool → ℕ → Running C R → Option (Result Fired FireRefused) → Running C R → Type 0
-FiresIf handler step view true now s (Some answer) t =
-    Does handler step view no_interrupts s (Fire now answer) t
-FiresIf handler step view true now s None t = ⊥
-FiresIf handler step view false now s (Some answer) t = ⊥
-FiresIf handler step view false now s None t = t ≡ s
+FiresIf handler firing true now s (Some answer) t =
+    Does handler firing no_interrupts s (Fire now answer) t
+FiresIf handler firing true now s None t = ⊥
+FiresIf handler firing false now s (Some answer) t = ⊥
+FiresIf handler firing false now s None t = t ≡ s
 
 -- a CPU that goes into a thread, and comes out of it
 pub record LaneFires {C R : Type 0} (handler : Calls C)
-    (step : R → FiringCall → R → Type 0) (view : R → FiringView) (now : ℕ) (a : Lane R C) (b : LaneAfter R C) : Type 0 where
-  pub before : IsLawful view a.hard
-  pub fires : FiresIf handler step view a.online now (running a.lead.calls a.hard) b.answer (running b.lead.calls b.hard)
-  pub after : IsLawful view b.hard
+    (firing : Raise R) (now : ℕ) (a : Lane R C) (b : LaneAfter R C) : Type 0 where
+  pub before : IsLawful firing.view a.hard
+  pub fires : FiresIf handler firing a.online now (running a.lead.calls a.hard) b.answer (running b.lead.calls b.hard)
+  pub after : IsLawful firing.view b.hard
 
 -- Each online CPU has fired, with its own handlers, and each other CPU is as it was. So is all else of the system.
 pub record AllFire {C R : Type 0} (handler : Calls C)
-    (step : R → FiringCall → R → Type 0) (view : R → FiringView) (now : ℕ) (a : SystemSide R C) (b : Advanced R C) : Type 0 where
+    (firing : Raise R) (now : ℕ) (a : SystemSide R C) (b : Advanced R C) : Type 0 where
   pub records : b.side.system.records ≡ a.system.records
   pub last : b.side.system.last ≡ a.system.last
   pub online : b.side.system.cpus.online ≡ a.system.cpus.online
@@ -43,4 +43,4 @@ pub record AllFire {C R : Type 0} (handler : Calls C)
       → slice_get a.system.cpus.online n ≡ Some up
       → slice_get a.system.cpus.cpus n ≡ Some x → slice_get b.side.system.cpus.cpus n ≡ Some y
       → slice_get a.leads.items n ≡ Some l → slice_get b.side.leads.items n ≡ Some m → slice_get b.answers.items n ≡ Some answer
-      → FiresIf handler step view up now (running l.calls x) answer (running m.calls y)
+      → FiresIf handler firing up now (running l.calls x) answer (running m.calls y)

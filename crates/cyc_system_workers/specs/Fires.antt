@@ -2,7 +2,7 @@
 use Rattle.std.specs.Prelude.{◌≡◌, ℕ, List, map, Some, Result}
 use Rattle.std.specs.List.{slice_get, FoldsTo}
 use Rattle.cyc_types.specs.declared.Calls.{Ghosts as Calls}
-use Rattle.cyc_types.specs.Firing.{FiringView, FiringCall}
+use Rattle.cyc_types.specs.declared.Raise.{Ghosts as Raise}
 use Rattle.cyc_fire.specs.declared.fire.Fired.{Fired}
 use Rattle.cyc_fire.specs.declared.fire.FireRefused.{FireRefused}
 use Rattle.cyc_cpu.specs.Calls.{no_interrupts}
@@ -20,18 +20,18 @@ pub record FireOn : Type 0 where
 
 -- the system fired one CPU (`System::fire_one`), with that CPU's own handlers before and after it
 pub record FiresOne {C R : Type 0} (handler : Calls C)
-    (step : R → FiringCall → R → Type 0) (view : R → FiringView) (leads leads' : List (Lead C)) (now : ℕ)
+    (firing : Raise R) (leads leads' : List (Lead C)) (now : ℕ)
     (s : SystemView R) (f : FireOn) (t : SystemView R) : Type 0 where
   pub before : Lead C
   pub after : Lead C
   pub before_is : slice_get leads f.cpu ≡ Some before
   pub after_is : slice_get leads' f.cpu ≡ Some after
-  pub does : Does handler step view no_interrupts (running_system before.calls s) (FireOne f.cpu now f.answer)
+  pub does : Does handler firing no_interrupts (running_system before.calls s) (FireOne f.cpu now f.answer)
       (running_system after.calls t)
 
 -- the advance is one fire of each online CPU, by rising numbers, and nothing else
 pub record IsFires {C R : Type 0} (handler : Calls C)
-    (step : R → FiringCall → R → Type 0) (view : R → FiringView) (now : ℕ) (a : SystemSide R C) (b : Advanced R C) : Type 0 where
+    (firing : Raise R) (now : ℕ) (a : SystemSide R C) (b : Advanced R C) : Type 0 where
   pub fires : List FireOn
-  pub made : FoldsTo (FiresOne handler step view a.leads.items b.side.leads.items now) a.system fires b.side.system
+  pub made : FoldsTo (FiresOne handler firing a.leads.items b.side.leads.items now) a.system fires b.side.system
   pub all : map (λ f. f.cpu) fires ≡ online_cpus a.system.cpus

@@ -2,7 +2,7 @@
 use Rattle.std.specs.Prelude.{◌≡◌, ℕ, List, length, Some}
 use Rattle.std.specs.List.{slice_get}
 use Rattle.cyc_types.specs.declared.Calls.{Ghosts as Calls}
-use Rattle.cyc_types.specs.Firing.{FiringView, FiringCall}
+use Rattle.cyc_types.specs.declared.Raise.{Ghosts as Raise}
 use Rattle.cyc_system_workers.specs.declared.lanes.Lane.{Lane}
 use Rattle.cyc_system_workers.specs.declared.lanes.LaneAfter.{LaneAfter}
 use Rattle.cyc_system_workers.specs.declared.firing.Started.{Started}
@@ -15,14 +15,12 @@ pub record Beside {A B : Type 0} (P : A → B → Type 0) (xs : List A) (ys : Li
   pub each : (n : ℕ) (x : A) (y : B) → slice_get xs n ≡ Some x → slice_get ys n ≡ Some y → P x y
 
 -- an advance has begun on this CPU: the thread has promised to fire it at this moment; or it is not online, and as it was
-abbrev pub Owes : {C R : Type 0} → Calls C → (R → FiringCall → R → Type 0)
-    → (R → FiringView) → ℕ → Lane R C → Started R C → Type 0
-Owes handler step view now lane (Fires child) = (child.promise.lane.value ≡ lane) × (child.promise.now ≡ now)
-Owes handler step view now lane (Stays after) = LaneFires handler step view now lane after
+abbrev pub Owes : {C R : Type 0} → Calls C → Raise R → ℕ → Lane R C → Started R C → Type 0
+Owes handler firing now lane (Fires child) = (child.promise.lane.value ≡ lane) × (child.promise.now ≡ now)
+Owes handler firing now lane (Stays after) = LaneFires handler firing now lane after
 
 -- what a CPU on which an advance has begun comes to: its thread kept its promise; or there is no thread, and nothing more happens
-abbrev pub Keeps : {C R : Type 0} → Calls C → (R → FiringCall → R → Type 0)
-    → (R → FiringView) → Started R C → LaneAfter R C → Type 0
-Keeps handler step view (Fires child) after =
-    LaneFires handler step view child.promise.now child.promise.lane.value after
-Keeps handler step view (Stays lane) after = after ≡ lane
+abbrev pub Keeps : {C R : Type 0} → Calls C → Raise R → Started R C → LaneAfter R C → Type 0
+Keeps handler firing (Fires child) after =
+    LaneFires handler firing child.promise.now child.promise.lane.value after
+Keeps handler firing (Stays lane) after = after ≡ lane

@@ -33,7 +33,7 @@ pub fn advance<W: Threads + Wait, R: Raise + Send + Drop, C: Calls + Send + Drop
     now: Moment,
 ) -> Result<Advanced<R, C>, AllocError>
     requires { length side.leads.items ≡ length side.system.cpus.cpus }
-    ensures { IfOk result (λ a. AllFire C.Calls R.step R.view now side a) }
+    ensures { IfOk result (λ a. AllFire C.Calls R.Raise now side a) }
 {
     let SystemSide { system, leads } = side;
     system.law();

@@ -22,7 +22,7 @@ pub struct FiresLane<R: Raise, C> {
 }
 
 impl<R: Raise, C: Calls> Promise<LaneAfter<R, C>> for FiresLane<R, C> {
-    ghost kept_by = { λ p r. LaneFires C.Calls R.step R.view p.now p.lane.value r };
+    ghost kept_by = { λ p r. LaneFires C.Calls R.Raise p.now p.lane.value r };
 }
 
 /// A CPU of an advance that has begun.
@@ -36,7 +36,7 @@ pub enum Started<R: Raise, C: Calls> {
 
 /// Fires a CPU, and wakes its draining workers.
 fn fire_lane<R: Raise, C: Calls>(hard: Hard<R>, lead: Lead<C>, now: Moment) -> LaneAfter<R, C>
-    ensures { LaneFires C.Calls R.step R.view now
+    ensures { LaneFires C.Calls R.Raise now
         (record { hard = hard; lead = lead; online = true }) result }
 {
     hard.law();
@@ -59,7 +59,7 @@ fn start<'s, E, R: Raise + Send + Drop + 's, C: Calls + Send + Drop + 's>(
     lane: Lane<R, C>,
     now: Moment,
 ) -> Result<Started<R, C>, AllocError>
-    ensures { IfOk result (λ s. Owes C.Calls R.step R.view now lane s) }
+    ensures { IfOk result (λ s. Owes C.Calls R.Raise now lane s) }
 {
     let promise = FiresLane {
         lane: Snapshot::of(&lane),
@@ -89,7 +89,7 @@ fn start_all<'s, E, R: Raise + Send + Drop + 's, C: Calls + Send + Drop + 's>(
 ) -> Result<(), AllocError>
     requires none { started.old.items ≡ [] }
     requires room { length lanes.items ≤ vec_capacity started.old }
-    ensures begun { OnOk result (Beside (Owes C.Calls R.step R.view now) lanes.items started.new.items) }
+    ensures begun { OnOk result (Beside (Owes C.Calls R.Raise now) lanes.items started.new.items) }
     ensures few { length started.new.items ≤ length lanes.items }
 {
     for lane in lanes {
@@ -103,7 +103,7 @@ fn join<W: Threads, R: Raise + Drop, C: Calls + Drop>(
     rt: &W,
     started: Started<R, C>,
 ) -> LaneAfter<R, C>
-    ensures { Keeps C.Calls R.step R.view started result }
+    ensures { Keeps C.Calls R.Raise started result }
 {
     match started {
         Started::Fires(child) => child.join(rt),
@@ -119,7 +119,7 @@ fn join_all<W: Threads, R: Raise + Drop, C: Calls + Drop>(
 )
     requires none { after.old.items ≡ [] }
     requires room { length started.items ≤ vec_capacity after.old }
-    ensures { Beside (Keeps C.Calls R.step R.view) started.items after.new.items }
+    ensures { Beside (Keeps C.Calls R.Raise) started.items after.new.items }
 {
     for one in started {
         after.push_reserved(join(rt, one));
@@ -135,7 +135,7 @@ fn fire_in<'s, E, W: Threads, R: Raise + Send + Drop + 's, C: Calls + Send + Dro
     lanes: Vec<Lane<R, C>>,
     now: Moment,
 ) -> Result<Vec<LaneAfter<R, C>>, AllocError>
-    ensures { IfOk result (λ v. Beside (LaneFires C.Calls R.step R.view now) lanes.items v.items) }
+    ensures { IfOk result (λ v. Beside (LaneFires C.Calls R.Raise now) lanes.items v.items) }
 {
     let mut started = Vec::with_capacity(alloc, lanes.len())?;
     let mut after = Vec::with_capacity(alloc, lanes.len())?;
@@ -153,13 +153,13 @@ pub(crate) fn fire_lanes<W: Threads + Wait, R: Raise + Send + Drop, C: Calls + S
     lanes: Vec<Lane<R, C>>,
     now: Moment,
 ) -> Result<Vec<LaneAfter<R, C>>, AllocError>
-    ensures { IfOk result (λ v. Beside (LaneFires C.Calls R.step R.view now) lanes.items v.items) }
+    ensures { IfOk result (λ v. Beside (LaneFires C.Calls R.Raise now) lanes.items v.items) }
 {
     thread::scope(
         thread::scope_env(),
         rt,
         |scope| -> Result<Vec<LaneAfter<R, C>>, AllocError>
-            ensures { IfOk result (λ v. Beside (LaneFires C.Calls R.step R.view now) lanes.items v.items) }
+            ensures { IfOk result (λ v. Beside (LaneFires C.Calls R.Raise now) lanes.items v.items) }
         { fire_in(scope, rt, alloc, lanes, now) },
     )
 }

@@ -16,6 +16,6 @@ use cyc_types::{Calls, Raise};
 pub fn advance_law<C: Calls, R: Raise>()
     ensures { (now : ℕ) (a : SystemSide R C) (b : Advanced R C) → Agrees a.system
         → length a.leads.items ≡ length a.system.cpus.cpus
-        → AllFire C.Calls R.step R.view now a b
-        → IsFires C.Calls R.step R.view now a b }
+        → AllFire C.Calls R.Raise now a b
+        → IsFires C.Calls R.Raise now a b }
 {}

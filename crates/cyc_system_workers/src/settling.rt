@@ -26,7 +26,7 @@ pub fn settle<W: Wait, R: Raise, C: Calls>(
     signals: &Signals<C>,
 ) -> Asked<R, C>
     requires { length side.leads.items ≡ length side.system.cpus.cpus }
-    ensures asked { OnlyAsked R.step R.view side result.side }
+    ensures asked { OnlyAsked R.Raise side result.side }
     ensures settled { IfNone result.refused (AllSettled R.view result.side.system.cpus.cpus) }
     ensures refused { IfSome result.refused (λ id. CanRefuse C.may_refuse id) }
 {

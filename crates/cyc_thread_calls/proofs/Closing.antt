@@ -14,7 +14,7 @@ use Rattle.ring_rule.specs.Conservation.{IsAccounted}
 use Rattle.cyc_ring.specs.declared.closed.Closed.{Closed}
 use Rattle.cyc_ring.specs.declared.ends.RaiseEnd.{RaiseEnd}
 use Rattle.cyc_ring.specs.declared.seats.RaiseSeat.{RaiseSeat}
-use Rattle.cyc_ring.specs.Ends.{end_view, RaiseEndCall, raise_trail, drain_trail, seat_made}
+use Rattle.cyc_ring.specs.Ends.{raise_end, end_view, raise_trail, drain_trail, seat_made}
 use Rattle.cyc_cpu.specs.Cpu.{CpuView}
 use Rattle.cyc_cpu.specs.Moving.{IsSettled}
 use Rattle.cyc_script.specs.declared.script.Script.{Script}
@@ -106,15 +106,15 @@ sum_mapped f h (x ∷ xs) = let a = sum_by-cons (λ y. h (f y)) x xs in let b = 
 module _ {C : Type 0} (handler : Calls C) where
   -- one in which no fire is refused is one of a run
   one_leads : (s t : SystemSide RaiseEnd C) (call : LeadCall)
-      → AcceptedSteps handler RaiseEndCall end_view s call t
-      → LeadSteps handler RaiseEndCall end_view s call t
+      → AcceptedSteps handler raise_end s call t
+      → LeadSteps handler raise_end s call t
   one_leads s t (Make call) d = d
   one_leads s t (FireAll now) (after, fired, accepted, same, sound) = ((after, fired, same), sound)
   one_leads s t AskAll d = d
 
   pub all_lead : (way : List LeadCall) (s t : SystemSide RaiseEnd C)
-      → FoldsTo (AcceptedSteps handler RaiseEndCall end_view) s way t
-      → FoldsTo (LeadSteps handler RaiseEndCall end_view) s way t
+      → FoldsTo (AcceptedSteps handler raise_end) s way t
+      → FoldsTo (LeadSteps handler raise_end) s way t
   all_lead [] s t e = e
   all_lead (call ∷ way) s t (u, d, rest) = (u, one_leads s u call d, all_lead way u t rest)
 
@@ -129,8 +129,8 @@ module _ {C : Type 0} (handler : Calls C) where
           first_sound _ script.ceiling r.before r.played.first r.played.begins r.new (omega (arith, many, some))
           (omega (arith, many, few))
 
-      pub run_accepted : FoldsTo (AcceptedSteps handler RaiseEndCall end_view) r.played.first.side way r.played.told.side
-      run_accepted = all_go handler RaiseEndCall end_view script.steps.items r.lines r.played.first r.played.last
+      pub run_accepted : FoldsTo (AcceptedSteps handler raise_end) r.played.first.side way r.played.told.side
+      run_accepted = all_go handler raise_end script.steps.items r.lines r.played.first r.played.last
           r.played.told r.played.runs r.played.reports
 
       pub from_new : LeadsFromNew handler r.played.first.side way r.played.told.side
@@ -160,8 +160,8 @@ module _ {C : Type 0} (handler : Calls C) where
       run_closed = subst (λ (l : List Closed). AreClosed r.played.told.side.system.cpus.cpus l) (sym r.closed.laid)
           (closed_all r.played.told.side.system.cpus.cpus r.after r.closed.by_cpu
           (each_same firing_seats seats_on r.after r.played.told.side.system.cpus.cpus r.played.ends.firing)
-          (lines_quiet RaiseEndCall end_view r.played.reports.all r.played.last r.played.told r.played.reports.tells
-          (run_rests handler RaiseEndCall end_view r.played.first script.steps.items r.played.last
+          (lines_quiet raise_end r.played.reports.all r.played.last r.played.told r.played.reports.tells
+          (run_rests handler raise_end r.played.first script.steps.items r.played.last
           r.played.runs)).0
           r.closed.closed)
 

@@ -11,7 +11,7 @@ use Rattle.cyc_types.specs.declared.level.Soft.TheVariants as soft
 use Rattle.cyc_timers.specs.Rows.{no_counts}
 use Rattle.cyc_fire.specs.Acts.{same_level}
 use Rattle.cyc_ring.specs.declared.ends.RaiseEnd.{RaiseEnd}
-use Rattle.cyc_ring.specs.Ends.{end_view, RaiseEndCall}
+use Rattle.cyc_ring.specs.Ends.{raise_end}
 use Rattle.cyc_threads.proofs.Spots.{same_some}
 use Rattle.cyc_script.specs.declared.script.Script.{Script}
 use Rattle.cyc_threads.specs.System.{SystemView}
@@ -77,13 +77,13 @@ module _ {C : Type 0} (handler : Calls C) (script : Script)
 
   pub named_line : (name : ℕ) → name < length script.names.items → slice_get r.lines name
       ≡ Some (line_in (id_named name) way last)
-  named_line name low = each_line handler RaiseEndCall end_view (length script.names.items) name script.steps.items
+  named_line name low = each_line handler raise_end (length script.names.items) name script.steps.items
       r.lines r.played.first r.played.last r.played.told r.played.runs r.played.reports r.played.begins.names_are low
 
   -- a line is that of its name
   pub line_is : (name : ℕ) (line : Line) → slice_get r.lines name ≡ Some line → line ≡ line_in (id_named name) way last
   line_is name line at =
-      let many = as_many handler RaiseEndCall end_view (length script.names.items) script.steps.items
+      let many = as_many handler raise_end (length script.names.items) script.steps.items
       r.lines r.played.first r.played.last r.played.told r.played.runs r.played.reports r.played.begins.names_are in
       let low = slice_get_within r.lines name line at in
       same_some (sym at ∙ named_line name (omega (arith, many, low)))

@@ -4,7 +4,8 @@ use Rattle.std.specs.Prelude.{Bool, true, false, Result, Ok, Err, slice_set}
 use Rattle.std.specs.List.{slice_get, FoldsTo}
 use Rattle.std.proofs.lemmas.Option.{slice_get_within}
 use Rattle.cyc_types.specs.declared.Calls.{Ghosts as Calls}
-use Rattle.cyc_types.specs.Firing.{FiringView, FiringCall}
+use Rattle.cyc_types.specs.declared.Raise.{Ghosts as Raise}
+use Rattle.cyc_types.specs.Firing.{FiringCall}
 use Rattle.cyc_types.specs.Runs.{Goes}
 use Rattle.cyc_fire.specs.declared.fire.Fired.{Fired}
 use Rattle.cyc_fire.specs.declared.fire.FireRefused.{FireRefused}
@@ -26,8 +27,8 @@ use Rattle.cyc_threads.specs.Advancing.{AllFire, FiresIf}
 use Rattle.cyc_system_expected.specs.Leading.{LeadCall, Make, FireAll, AskAll, LeadSteps}
 use Rattle.cyc_system_expected.proofs.Raising.{changes_long}
 
-module _ {R : Type 0} (step : R → FiringCall → R → Type 0) (view : R → FiringView) (P : R → Type 0)
-    (goes_on : (e f : R) (way : List FiringCall) → Goes step view e way f → P e → P f) where
+module _ {R : Type 0} (firing : Raise R) (P : R → Type 0)
+    (goes_on : (e f : R) (way : List FiringCall) → Goes firing e way f → P e → P f) where
   -- of both ends of a CPU, and of all CPUs
   abbrev pub OfBoth : CpuView R → Type 0
   OfBoth cpu = P cpu.lock × P cpu.low
@@ -35,8 +36,8 @@ module _ {R : Type 0} (step : R → FiringCall → R → Type 0) (view : R → F
   abbrev pub OfAll : List (CpuView R) → Type 0
   OfAll xs = (n : ℕ) (x : CpuView R) → slice_get xs n ≡ Some x → OfBoth x
 
-  both_changed : (x y : CpuView R) (call : CpuCall) → CpuChanges step view x call y → OfBoth x → OfBoth y
-  both_changed x y call d (a, b) = let st = changes_still step view x y call d in
+  both_changed : (x y : CpuView R) (call : CpuCall) → CpuChanges firing x call y → OfBoth x → OfBoth y
+  both_changed x y call d (a, b) = let st = changes_still firing x y call d in
       (goes_on x.lock y.lock st.lock.way st.lock.goes a, goes_on x.low y.low st.low.way st.low.goes b)
 
   set_all : (xs : List (CpuView R)) (k : ℕ) (y : CpuView R) → OfBoth y → OfAll xs → OfAll (slice_set xs k y)
@@ -46,22 +47,22 @@ module _ {R : Type 0} (step : R → FiringCall → R → Type 0) (view : R → F
   set_all (z ∷ xs) (suc k) y own all zero x at = all 0 x at
   set_all (z ∷ xs) (suc k) y own all (suc n) x at = set_all xs k y own (λ m w is. all (suc m) w is) n x at
 
-  parts_all : (way : List CpusCall) (v w : CpusView R) → FoldsTo (DoesPart step view) v way w → OfAll v.cpus → OfAll w.cpus
+  parts_all : (way : List CpusCall) (v w : CpusView R) → FoldsTo (DoesPart firing) v way w → OfAll v.cpus → OfAll w.cpus
   parts_all [] v w e all = subst (λ (u : CpusView R). OfAll u.cpus) e all
   parts_all (OnCpu c ∷ way) v w (u, d, rest) all = parts_all way u w rest (subst (λ (z : CpusView R). OfAll z.cpus) (sym d.rest)
       (set_all v.cpus c.cpu d.after (both_changed d.before d.after c.call d.change (all c.cpu d.before d.here)) all))
   parts_all (SetOnline n online ∷ way) v w (u, e, rest) all =
       parts_all way u w rest (subst (λ (z : CpusView R). OfAll z.cpus) (sym e) all)
 
-  changed_all : (s t : SystemView R) (call : SystemCall) → Changes step view s call t → OfAll s.cpus.cpus → OfAll t.cpus.cpus
-  changed_all s t call d all = let m = made_of step view s t call d in parts_all m.way s.cpus t.cpus m.works all
+  changed_all : (s t : SystemView R) (call : SystemCall) → Changes firing s call t → OfAll s.cpus.cpus → OfAll t.cpus.cpus
+  changed_all s t call d all = let m = made_of firing s t call d in parts_all m.way s.cpus t.cpus m.works all
 
-  asks_both : (answers : List Bool) (x y : CpuView R) → FoldsTo (Asks step view) x answers y → OfBoth x → OfBoth y
+  asks_both : (answers : List Bool) (x y : CpuView R) → FoldsTo (Asks firing) x answers y → OfBoth x → OfBoth y
   asks_both [] x y e own = subst OfBoth e own
   asks_both (answer ∷ answers) x y (z, (first, lawful), rest) own =
       asks_both answers z y rest (both_changed x z (AskSettled answer) first own)
 
-  asked_all : (xs ys : List (CpuView R)) → AllAsked step view xs ys → OfAll xs → OfAll ys
+  asked_all : (xs ys : List (CpuView R)) → AllAsked firing xs ys → OfAll xs → OfAll ys
   asked_all xs ys a all n y at =
       let long = a.long in let low = slice_get_within ys n y at in
       let (x, was) = get_some xs n (omega (arith, low, long)) in
@@ -69,7 +70,7 @@ module _ {R : Type 0} (step : R → FiringCall → R → Type 0) (view : R → F
 
   module _ {C : Type 0} (handler : Calls C) where
     fired_both : (s t : Running C R) (now : ℕ) (answer : Result Fired FireRefused)
-        → Does handler step view no_interrupts s (Fire now answer) t → OfBoth s.cpu → OfBoth t.cpu
+        → Does handler firing no_interrupts s (Fire now answer) t → OfBoth s.cpu → OfBoth t.cpu
     fired_both s t now (Ok r) (early, kept, expired, next, m) (a, b) = (
       goes_on s.cpu.lock t.cpu.lock m.acts.lock_way m.acts.lock_goes a,
       goes_on s.cpu.low t.cpu.low m.acts.low_way m.acts.low_goes b,
@@ -81,14 +82,14 @@ module _ {R : Type 0} (step : R → FiringCall → R → Type 0) (view : R → F
     )
 
     fires_if : (up : Bool) (now : ℕ) (s t : Running C R) (answer : Option (Result Fired FireRefused))
-        → FiresIf handler step view up now s answer t → OfBoth s.cpu → OfBoth t.cpu
+        → FiresIf handler firing up now s answer t → OfBoth s.cpu → OfBoth t.cpu
     fires_if true now s t (Some answer) d own = fired_both s t now answer d own
     fires_if true now s t None d own = absurd d
     fires_if false now s t (Some answer) d own = absurd d
     fires_if false now s t None d own = subst (λ (x : Running C R). OfBoth x.cpu) (sym d) own
 
-    fired_all : (now : ℕ) (a : SystemSide R C) (b : Advanced R C) → IsSound view a.system
-        → length a.leads.items ≡ length a.system.cpus.cpus → AllFire handler step view now a b
+    fired_all : (now : ℕ) (a : SystemSide R C) (b : Advanced R C) → IsSound firing.view a.system
+        → length a.leads.items ≡ length a.system.cpus.cpus → AllFire handler firing now a b
         → OfAll a.system.cpus.cpus → OfAll b.side.system.cpus.cpus
     fired_all now a b sound many f all n y at =
         let low = slice_get_within b.side.system.cpus.cpus n y at in
@@ -102,12 +103,12 @@ module _ {R : Type 0} (step : R → FiringCall → R → Type 0) (view : R → F
         (all n x was)
 
     -- a run of calls
-    pub led_all : (way : List LeadCall) (s t : SystemSide R C) → IsSound view s.system
-        → length s.leads.items ≡ length s.system.cpus.cpus → FoldsTo (LeadSteps handler step view) s way t
+    pub led_all : (way : List LeadCall) (s t : SystemSide R C) → IsSound firing.view s.system
+        → length s.leads.items ≡ length s.system.cpus.cpus → FoldsTo (LeadSteps handler firing) s way t
         → OfAll s.system.cpus.cpus → OfAll t.system.cpus.cpus
     led_all [] s t sound many e all = subst (λ (x : SystemSide R C). OfAll x.system.cpus.cpus) e all
     led_all (Make call ∷ way) s t sound many (u, ((d, leads), after), rest) all =
-        led_all way u t after (let a = changes_long step view s.system u.system call d in
+        led_all way u t after (let a = changes_long firing s.system u.system call d in
         let b : length u.leads.items ≡ length s.leads.items = λ i. length (leads i).items in omega (arith, a, b, many)) rest
         (changed_all s.system u.system call d all)
     led_all (FireAll now ∷ way) s t sound many (u, ((b, f, is), after), rest) all =

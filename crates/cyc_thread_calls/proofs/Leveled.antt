@@ -4,7 +4,7 @@ use Rattle.std.proofs.Common.{refl, sym, ap, arith}
 use Rattle.std.specs.Prelude.{Bool, true, false, cond, ◌&&◌}
 use Rattle.std.specs.List.{FoldsTo}
 use Rattle.cyc_types.specs.declared.Calls.{Ghosts as Calls}
-use Rattle.cyc_types.specs.Firing.{FiringView, FiringCall}
+use Rattle.cyc_types.specs.declared.Raise.{Ghosts as Raise}
 use Rattle.cyc_types.specs.declared.level.Level.{Level}
 use Rattle.cyc_threads.proofs.Lists.{true_eq, eq_true, false_ne}
 use Rattle.cyc_threads.proofs.Spots.{same_some, none_some}
@@ -94,12 +94,12 @@ named_once name k x xs level fit later = refl
 
 -- ---- the ids that calls give
 
-module _ {C R : Type 0} (handler : Calls C) (step : R → FiringCall → R → Type 0) (view : R → FiringView) where
+module _ {C R : Type 0} (handler : Calls C) (firing : Raise R) where
   abbrev D : SystemSide R C → LeadCall → SystemSide R C → Type 0
-  D = AcceptedSteps handler step view
+  D = AcceptedSteps handler firing
 
   one_grows : (s t : SystemSide R C) (call : LeadCall) → D s call t → s.system.last ≤ t.system.last
-  one_grows s t (Make call) d = (made_of step view s.system t.system call d.0.0).last
+  one_grows s t (Make call) d = (made_of firing s.system t.system call d.0.0).last
   one_grows s t (FireAll now) (after, f, accepted, is, sound) = let a = ap (λ (x : SystemSide R C). x.system.last) is in
       let b = f.last in omega (arith, a, b)
   one_grows s t AskAll d = let a = d.0.last in omega (arith, a)
@@ -119,13 +119,13 @@ module _ {C R : Type 0} (handler : Calls C) (step : R → FiringCall → R → T
       → (s.system.last < id) × (id ≤ t.system.last)
   one_given s t (Make (Add level when now (Ok own))) id found ((d, leads), sound) e = by d
     where
-      by : Changes step view s.system (Add level when now (Ok own)) t.system → (s.system.last < id) × (id ≤ t.system.last)
+      by : Changes firing s.system (Add level when now (Ok own)) t.system → (s.system.last < id) × (id ≤ t.system.last)
       by (inl (why, first, is, same)) = absurd (let odd : Ok own ≡ Err why = is in cc)
       by (inr (clear, (spot, chosen, next, works, records, last))) = let same = own_level own id level found e in
           (omega (arith, next, same), omega (arith, last, same))
   one_given s t (Make (AddOmni level when skew now (Ok own))) id found ((d, leads), sound) e = by d
     where
-      by : Changes step view s.system (AddOmni level when skew now (Ok own)) t.system
+      by : Changes firing s.system (AddOmni level when skew now (Ok own)) t.system
           → (s.system.last < id) × (id ≤ t.system.last)
       by (inl (why, first, is, same)) = absurd (let odd : Ok own ≡ Err why = is in cc)
       by (inr (clear, (next, works, records, last))) = let same = own_level own id level found e in
@@ -149,8 +149,8 @@ module _ {C R : Type 0} (handler : Calls C) (step : R → FiringCall → R → T
 
   -- ---- steps
 
-  pub begin_none : (id : ℕ) (b : Bool) (s t : Progress R C) (w : Begins step view b s t)
-      → level_in id (begin_calls step view b s t w) ≡ None
+  pub begin_none : (id : ℕ) (b : Bool) (s t : Progress R C) (w : Begins firing b s t)
+      → level_in id (begin_calls firing b s t w) ≡ None
   begin_none id false s t w = refl
   begin_none id true s t (polls, u, run, settles) = level_on id (poll_calls polls) (AskAll ∷ [])
       ∙ ap (λ o. first_of o None) (polls_none id polls)
@@ -171,9 +171,9 @@ module _ {C R : Type 0} (handler : Calls C) (step : R → FiringCall → R → T
   none_added true id e = none_some e
   none_added false id e = none_some e
 
-  does_level : (name id : ℕ) (x : Step) (s t : Progress R C) (d : Does handler step view x s t)
-      → given_in name x (call_of handler step view x s t d) ≡ Some id
-      → HasLevel name id x (calls_in (call_of handler step view x s t d))
+  does_level : (name id : ℕ) (x : Step) (s t : Progress R C) (d : Does handler firing x s t)
+      → given_in name x (call_of handler firing x s t d) ≡ Some id
+      → HasLevel name id x (calls_in (call_of handler firing x s t d))
   does_level name id (steps.Add a) s t (inl (when, starts, lasts, long, (Ok given, did))) e =
       let (same, level) = added_level name a.name id a.level given e in
       (a.level, ap (λ b. first_of (cond b (Some a.level) None) None) (true_eq given id same), level)
@@ -200,36 +200,36 @@ module _ {C R : Type 0} (handler : Calls C) (step : R → FiringCall → R → T
   SameLevel name id xs way = (level : Level) × (level_in id way ≡ Some level) × (level_named name xs ≡ Some level)
 
   pub steps_level : (xs : List Step) (name id k : ℕ) (s t : Progress R C)
-      (run : TakesSteps handler step view s xs t) → names_fit k xs ≡ true
-      → id_in_steps handler step view name s xs t run ≡ Some id
-      → SameLevel name id xs (steps_calls handler step view s xs t run)
+      (run : TakesSteps handler firing s xs t) → names_fit k xs ≡ true
+      → id_in_steps handler firing name s xs t run ≡ Some id
+      → SameLevel name id xs (steps_calls handler firing s xs t run)
   steps_level [] name id k s t e fit is = absurd (none_some is)
   steps_level (x ∷ xs) name id k s t (u, (v, b, d), rest) fit is =
       by (λ fits given. steps_level xs name id (names_after k x) u t rest fits given)
-      (id_in_steps handler step view name u xs t rest) refl is
+      (id_in_steps handler firing name u xs t rest) refl is
     where
       before : List LeadCall
-      before = begin_calls step view (waits_first x) s v b
+      before = begin_calls firing (waits_first x) s v b
 
       own : List LeadCall
-      own = calls_in (call_of handler step view x v u d)
+      own = calls_in (call_of handler firing x v u d)
 
       after : List LeadCall
-      after = steps_calls handler step view u xs t rest
+      after = steps_calls handler firing u xs t rest
 
-      by : (names_fit (names_after k x) xs ≡ true → id_in_steps handler step view name u xs t rest ≡ Some id
+      by : (names_fit (names_after k x) xs ≡ true → id_in_steps handler firing name u xs t rest ≡ Some id
           → SameLevel name id xs after) → (o : Option ℕ)
-          → id_in_steps handler step view name u xs t rest ≡ o
-          → later_id (given_in name x (call_of handler step view x v u d)) o ≡ Some id
+          → id_in_steps handler firing name u xs t rest ≡ o
+          → later_id (given_in name x (call_of handler firing x v u d)) o ≡ Some id
           → SameLevel name id (x ∷ xs) ((before ++ own) ++ after)
       by later (Some found) there e =
           let (level, there_in, there_named) = later (both_true (name_fits k x) (names_fit (names_after k x) xs) fit).1
           (there ∙ e) in
           let high = (given_within after u.side t.side id level
-          (steps_go handler step view u xs t rest) there_in).0 in
+          (steps_go handler firing u xs t rest) there_in).0 in
           let none = not_some (level_in id (before ++ own)) (λ early at.
           (let low = (given_within (before ++ own) s.side u.side id early
-          (step_goes handler step view s x u (v, b, d)) at).1 in omega (arith, high, low))) in (
+          (step_goes handler firing s x u (v, b, d)) at).1 in omega (arith, high, low))) in (
             level,
             level_later id (before ++ own) after none ∙ there_in,
             ap (λ o. first_of o (level_named name xs)) (named_once name k x xs level fit there_named) ∙ there_named,

@@ -6,7 +6,7 @@ use Rattle.std.specs.List.{slice_get, FoldsTo}
 use Rattle.std.specs.Option.{option_map_or}
 use Rattle.std.proofs.lemmas.List.{length-map}
 use Rattle.cyc_types.specs.declared.Calls.{Ghosts as Calls}
-use Rattle.cyc_types.specs.Firing.{FiringView, FiringCall}
+use Rattle.cyc_types.specs.declared.Raise.{Ghosts as Raise}
 use Rattle.cyc_types.specs.declared.receipt.Receipt.{Receipt}
 use Rattle.cyc_ring.specs.declared.ends.RaiseEnd.{RaiseEnd}
 use Rattle.cyc_script.specs.declared.step.Step.{Step}
@@ -37,20 +37,20 @@ get_mapped f [] n d low = absurd (omega (arith, low))
 get_mapped f (x ∷ xs) zero d low = refl
 get_mapped f (x ∷ xs) (suc n) d low = get_mapped f xs n d (omega (arith, low))
 
-module _ {C R : Type 0} (step : R → FiringCall → R → Type 0) (view : R → FiringView) (id : ℕ) where
+module _ {C R : Type 0} (firing : Raise R) (id : ℕ) where
   -- no line tells of a receipt
-  no_receipt_of : (named : Named) (line : Line) (s t : Progress R C) (d : TellsOf step view named line s t)
-      → receipt_in id (told_calls_of step view named line s t d) ≡ None
+  no_receipt_of : (named : Named) (line : Line) (s t : Progress R C) (d : TellsOf firing named line s t)
+      → receipt_in id (told_calls_of firing named line s t d) ≡ None
   no_receipt_of Nothing line s t d = refl
   no_receipt_of (Cyclic own) line s t (answer, did, is) = refl
   no_receipt_of (Leaving own) line s t (answer, did, is) = refl
   no_receipt_of (Removed receipt) line s t d = refl
 
-  no_receipt : (all : List Told) (s t : Progress R C) (d : FoldsTo (Tells step view) s all t)
-      → receipt_in id (told_calls step view all s t d) ≡ None
+  no_receipt : (all : List Told) (s t : Progress R C) (d : FoldsTo (Tells firing) s all t)
+      → receipt_in id (told_calls firing all s t d) ≡ None
   no_receipt [] s t e = refl
-  no_receipt (told ∷ all) s t (u, d, rest) = receipt_none id (told_calls_of step view told.named told.line s u d)
-      (told_calls step view all u t rest)
+  no_receipt (told ∷ all) s t (u, d, rest) = receipt_none id (told_calls_of firing told.named told.line s u d)
+      (told_calls firing all u t rest)
       (no_receipt_of told.named told.line s u d) (no_receipt all u t rest)
 
 -- the line of an id, by the receipt that was told of it
@@ -73,37 +73,37 @@ module _ (given : Option ℕ) (way more : List LeadCall) (t : SystemView RaiseEn
   fit_line (Removed receipt) (id, e, r) =
       ap (told_line id t) (sym (receipt_kept id way more receipt r)) ∙ ap (λ o. line_in o (way ++ more) t) (sym e)
 
-module _ {C R : Type 0} (handler : Calls C) (step : R → FiringCall → R → Type 0) (view : R → FiringView) where
+module _ {C R : Type 0} (handler : Calls C) (firing : Raise R) where
   -- the system is sound after the last wait, and has settled
-  pub run_sound : (s : Progress R C) (xs : List Step) (t : Progress R C) → Runs handler step view s xs t
-      → IsSound view t.side.system
+  pub run_sound : (s : Progress R C) (xs : List Step) (t : Progress R C) → Runs handler firing s xs t
+      → IsSound firing.view t.side.system
   run_sound s xs t (u, taken, (polls, v, run, settles)) = settles.sound
 
-  pub run_rests : (s : Progress R C) (xs : List Step) (t : Progress R C) → Runs handler step view s xs t → Rests step view t
+  pub run_rests : (s : Progress R C) (xs : List Step) (t : Progress R C) → Runs handler firing s xs t → Rests firing t
   run_rests s xs t (u, taken, (polls, v, run, settles)) = settles.settled
 
   -- there is a line for each name
   pub as_many : (n : ℕ) (xs : List Step) (lines : List Line) (s t u : Progress R C)
-      → Runs handler step view s xs t → Reports step view lines t u
+      → Runs handler firing s xs t → Reports firing lines t u
       → s.names ≡ replicate n Nothing → length lines ≡ n
-  as_many n xs lines s t u run r none = ap (λ (l : List Line). length l) (report_is step view lines t u r (run_sound s xs t run)
+  as_many n xs lines s t u run r none = ap (λ (l : List Line). length l) (report_is firing lines t u r (run_sound s xs t run)
       (run_rests s xs t run)) ∙ length-map t.names (λ named. line_at named u.side.system)
-      ∙ (all_held handler step view n s xs t run none).long
+      ∙ (all_held handler firing n s xs t run none).long
 
-module _ {C : Type 0} (handler : Calls C) (step : RaiseEnd → FiringCall → RaiseEnd → Type 0) (view : RaiseEnd → FiringView) where
+module _ {C : Type 0} (handler : Calls C) (firing : Raise RaiseEnd) where
   -- the line of each
   pub each_line : (n name : ℕ) (xs : List Step) (lines : List Line) (s t u : Progress RaiseEnd C)
-      (run : Runs handler step view s xs t) (r : Reports step view lines t u)
+      (run : Runs handler firing s xs t) (r : Reports firing lines t u)
       → s.names ≡ replicate n Nothing → name < n
-      → slice_get lines name ≡ Some (line_in (id_given handler step view name s xs t run)
-      (all_calls handler step view xs lines s t u run r) u.side.system)
+      → slice_get lines name ≡ Some (line_in (id_given handler firing name s xs t run)
+      (all_calls handler firing xs lines s t u run r) u.side.system)
   each_line n name xs lines s t u run r none low =
-      let held = all_held handler step view n s xs t run none in
+      let held = all_held handler firing n s xs t run none in
       let long = held.long in
       let within : name < length t.names = omega (arith, long, low) in
-      ap (λ (l : List Line). slice_get l name) (report_is step view lines t u r
-      (run_sound handler step view s xs t run) (run_rests handler step view s xs t run))
+      ap (λ (l : List Line). slice_get l name) (report_is firing lines t u r
+      (run_sound handler firing s xs t run) (run_rests handler firing s xs t run))
       ∙ get_mapped (λ named. line_at named u.side.system) t.names name Nothing within
-      ∙ ap Some (fit_line (id_given handler step view name s xs t run)
-      (run_calls handler step view s xs t run) (report_calls step view lines t u r) u.side.system
-      (λ id. no_receipt step view id r.all t u r.tells) (named_at t.names name) (held.fits name within))
+      ∙ ap Some (fit_line (id_given handler firing name s xs t run)
+      (run_calls handler firing s xs t run) (report_calls firing lines t u r) u.side.system
+      (λ id. no_receipt firing id r.all t u r.tells) (named_at t.names name) (held.fits name within))

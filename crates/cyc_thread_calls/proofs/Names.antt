@@ -7,7 +7,7 @@ use Rattle.std.specs.List.{FoldsTo}
 use Rattle.std.specs.Option.{option_map_or}
 use Rattle.std.proofs.lemmas.List.{append_assoc, append-nil}
 use Rattle.cyc_types.specs.declared.Calls.{Ghosts as Calls}
-use Rattle.cyc_types.specs.Firing.{FiringView, FiringCall}
+use Rattle.cyc_types.specs.declared.Raise.{Ghosts as Raise}
 use Rattle.cyc_types.specs.declared.level.Level.{Level}
 use Rattle.cyc_types.specs.declared.moment.When.{When}
 use Rattle.cyc_types.specs.declared.receipt.Receipt.{Receipt}
@@ -50,26 +50,26 @@ reprogram_receipt : (cpu : Option ℕ) (id moment own : ℕ) (answer : Result (U
 reprogram_receipt None id moment own answer = refl
 reprogram_receipt (Some n) id moment own answer = refl
 
-module _ {C R : Type 0} (handler : Calls C) (step : R → FiringCall → R → Type 0) (view : R → FiringView) (many : ℕ) where
+module _ {C R : Type 0} (handler : Calls C) (firing : Raise R) (many : ℕ) where
   abbrev pub Held : (ℕ → Option ℕ) → List LeadCall → Progress R C → Type 0
   Held g way p = Holds many g way p.names p.side.system.last
 
   same_held : (g : ℕ → Option ℕ) (way : List LeadCall) (s t : Progress R C) → t ≡ s → Held g way s → Held g (way ++ []) t
   same_held g way s t e k = subst (λ w. Held g w t) (sym (append-nil way)) (subst (λ p. Held g way p) (sym e) k)
 
-  grows : (name : ℕ) (call : SystemCall) (s t : Progress R C) → CallsFor step view name call s t
+  grows : (name : ℕ) (call : SystemCall) (s t : Progress R C) → CallsFor firing name call s t
       → s.side.system.last ≤ t.side.system.last
-  grows name call s t c = (made_of step view s.side.system t.side.system call c.did).last
+  grows name call s t c = (made_of firing s.side.system t.side.system call c.did).last
 
   quiet : (g : ℕ → Option ℕ) (way : List LeadCall) (name : ℕ) (call : SystemCall) (s t : Progress R C)
-      → CallsFor step view name call s t → news call ≡ None → ((own : ℕ) → receipt_of own (Make call) ≡ None) → Held g way s
+      → CallsFor firing name call s t → news call ≡ None → ((own : ℕ) → receipt_of own (Make call) ≡ None) → Held g way s
       → Held g (way ++ Make call ∷ []) t
   quiet g way name call s t c e none k = holds_quiet many g way s.names s.side.system.last k
       (Make call) t.names t.side.system.last none
       (c.told ∙ ap (λ o. noted name o s.names) e) (grows name call s t c)
 
   given : (g h : ℕ → Option ℕ) (way : List LeadCall) (name id : ℕ) (call : SystemCall) (s t : Progress R C)
-      → CallsFor step view name call s t → news call ≡ Some (Cyclic id) → ((own : ℕ) → receipt_of own (Make call) ≡ None)
+      → CallsFor firing name call s t → news call ≡ Some (Cyclic id) → ((own : ℕ) → receipt_of own (Make call) ≡ None)
       → (s.side.system.last < id) × (id ≤ t.side.system.last) → h name ≡ Some id → ((m : ℕ) → m ≢ name → h m ≡ g m)
       → Held g way s → Held h (way ++ Make call ∷ []) t
   given g h way name id call s t c e none (less, low) here there k =
@@ -77,7 +77,7 @@ module _ {C R : Type 0} (handler : Calls C) (step : R → FiringCall → R → T
       (c.told ∙ ap (λ o. noted name o s.names) e) less low here there
 
   changed : (g : ℕ → Option ℕ) (way : List LeadCall) (name id : ℕ) (now : Named) (call : SystemCall) (s t : Progress R C)
-      → CallsFor step view name call s t → news call ≡ Some now → id_of (named_at s.names name) ≡ Some id
+      → CallsFor firing name call s t → news call ≡ Some now → id_of (named_at s.names name) ≡ Some id
       → ((own : ℕ) → own ≢ id → receipt_of own (Make call) ≡ None) → Fits (Some id) (Make call ∷ []) now
       → Held g way s → Held g (way ++ Make call ∷ []) t
   changed g way name id now call s t c e has others fits k =
@@ -87,7 +87,7 @@ module _ {C R : Type 0} (handler : Calls C) (step : R → FiringCall → R → T
   -- ---- removals
 
   pub begins : (g : ℕ → Option ℕ) (way : List LeadCall) (name id : ℕ) (answer : Result SystemRemoval Refusal) (s t : Progress R C)
-      → id_of (named_at s.names name) ≡ Some id → CallsFor step view name (BeginRemove id answer) s t → Held g way s
+      → id_of (named_at s.names name) ≡ Some id → CallsFor firing name (BeginRemove id answer) s t → Held g way s
       → Held g (way ++ Make (BeginRemove id answer) ∷ []) t
   begins g way name id (Ok (Kept calls)) s t has c k =
       changed g way name id (Leaving id) _ s t c refl has (λ own ne. refl) (refl, refl) k
@@ -98,7 +98,7 @@ module _ {C R : Type 0} (handler : Calls C) (step : R → FiringCall → R → T
 
   pub polls : (g : ℕ → Option ℕ) (way : List LeadCall) (name id : ℕ) (answer : Result (Option Receipt) Refusal)
       (s t : Progress R C)
-      → id_of (named_at s.names name) ≡ Some id → CallsFor step view name (PollRemove id answer) s t → Held g way s
+      → id_of (named_at s.names name) ≡ Some id → CallsFor firing name (PollRemove id answer) s t → Held g way s
       → Held g (way ++ Make (PollRemove id answer) ∷ []) t
   polls g way name id (Ok (Some receipt)) s t has c k =
       changed g way name id (Removed receipt) _ s t c refl has (λ own ne. receipt_else own id receipt ne)
@@ -120,13 +120,13 @@ module _ {C R : Type 0} (handler : Calls C) (step : R → FiringCall → R → T
   none_given o false = refl
 
   added : (g : ℕ → Option ℕ) (way : List LeadCall) (name : ℕ) (level : Level) (when : When) (now : ℕ) (answer : Result ℕ Refusal)
-      (s t : Progress R C) → CallsFor step view name (Add level when now answer) s t → Held g way s
+      (s t : Progress R C) → CallsFor firing name (Add level when now answer) s t → Held g way s
       → Held (λ n. later_id (g n) (cond (name == n) (option_map_or given_by (Some (Make (Add level when now answer))) None) None))
       (way ++ Make (Add level when now answer) ∷ []) t
   added g way name level when now (Ok id) s t c k =
       given g _ way name id _ s t c refl (λ own. refl) (by c.did) (here_given g name id) (there_given g name id) k
     where
-      by : Changes step view s.side.system (Add level when now (Ok id)) t.side.system
+      by : Changes firing s.side.system (Add level when now (Ok id)) t.side.system
           → (s.side.system.last < id) × (id ≤ t.side.system.last)
       by (inl (e, why, is, same)) = absurd (let odd : Ok id ≡ Err e = is in cc)
       by (inr (clear, (d, chosen, next, works, records, last))) = (omega (arith, next), omega (arith, last))
@@ -135,14 +135,14 @@ module _ {C R : Type 0} (handler : Calls C) (step : R → FiringCall → R → T
       (λ own. refl) k)
 
   added_everywhere : (g : ℕ → Option ℕ) (way : List LeadCall) (name : ℕ) (level : Level) (when : When) (skew now : ℕ)
-      (answer : Result ℕ Refusal) (s t : Progress R C) → CallsFor step view name (AddOmni level when skew now answer) s t
+      (answer : Result ℕ Refusal) (s t : Progress R C) → CallsFor firing name (AddOmni level when skew now answer) s t
       → Held g way s → Held (λ n. later_id (g n)
       (cond (name == n) (option_map_or given_by (Some (Make (AddOmni level when skew now answer))) None) None))
       (way ++ Make (AddOmni level when skew now answer) ∷ []) t
   added_everywhere g way name level when skew now (Ok id) s t c k =
       given g _ way name id _ s t c refl (λ own. refl) (by c.did) (here_given g name id) (there_given g name id) k
     where
-      by : Changes step view s.side.system (AddOmni level when skew now (Ok id)) t.side.system
+      by : Changes firing s.side.system (AddOmni level when skew now (Ok id)) t.side.system
           → (s.side.system.last < id) × (id ≤ t.side.system.last)
       by (inl (e, why, is, same)) = absurd (let odd : Ok id ≡ Err e = is in cc)
       by (inr (clear, (next, works, records, last))) = (omega (arith, next), omega (arith, last))
@@ -156,17 +156,17 @@ module _ {C R : Type 0} (handler : Calls C) (step : R → FiringCall → R → T
       → Option ℕ) (way : List LeadCall) (name : ℕ)
       (s t : Progress R C)
       → ((id : ℕ) (answer : Result Answer Refusal) → id_of (named_at s.names name) ≡ Some id
-      → CallsFor step view name (call id answer) s t → Held g way s → Held g (way ++ Make (call id answer) ∷ []) t)
+      → CallsFor firing name (call id answer) s t → Held g way s → Held g (way ++ Make (call id answer) ∷ []) t)
       → (id : Option ℕ) → id_of (named_at s.names name) ≡ id
-      → (d : WithId id (λ own. (answer : Result Answer Refusal) × CallsFor step view name (call own answer) s t) (t ≡ s))
-      → Held g way s → Held g (way ++ calls_in (call_with step view Answer call name s t id d)) t
+      → (d : WithId id (λ own. (answer : Result Answer Refusal) × CallsFor firing name (call own answer) s t) (t ≡ s))
+      → Held g way s → Held g (way ++ calls_in (call_with firing Answer call name s t id d)) t
   with_held Answer call g way name s t each (Some id) has (answer, did) k = each id answer has did k
   with_held Answer call g way name s t each None has e k = same_held g way s t e k
 
   pub does_held : (g : ℕ → Option ℕ) (way : List LeadCall) (x : Step) (s t : Progress R C)
-      (d : Does handler step view x s t) → Held g way s
-      → Held (λ n. later_id (g n) (given_in n x (call_of handler step view x s t d)))
-      (way ++ calls_in (call_of handler step view x s t d)) t
+      (d : Does handler firing x s t) → Held g way s
+      → Held (λ n. later_id (g n) (given_in n x (call_of handler firing x s t d)))
+      (way ++ calls_in (call_of handler firing x s t d)) t
   does_held g way (steps.Add a) s t (inl (when, starts, lasts, long, (answer, did))) k =
       added g way a.name a.level when s.clock answer s t did k
   does_held g way (steps.Add a) s t (inr (odd, e)) k =
@@ -197,7 +197,7 @@ module _ {C R : Type 0} (handler : Calls C) (step : R → FiringCall → R → T
   does_held g way (steps.Offline n) s t (answer, did) k = quiet g way 0 _ s t did refl (λ own. refl) k
   does_held g way (steps.Online n) s t (answer, did) k = quiet g way 0 _ s t did refl (λ own. refl) k
 
-  polls_held : (all : List Poll) (g : ℕ → Option ℕ) (way : List LeadCall) (s t : Progress R C) → FoldsTo (Polls step view) s all t
+  polls_held : (all : List Poll) (g : ℕ → Option ℕ) (way : List LeadCall) (s t : Progress R C) → FoldsTo (Polls firing) s all t
       → Held g way s → Held g (way ++ poll_calls all) t
   polls_held [] g way s t e k = same_held g way s t (sym e) k
   polls_held (p ∷ all) g way s t (u, (here, did), rest) k =
@@ -205,38 +205,38 @@ module _ {C R : Type 0} (handler : Calls C) (step : R → FiringCall → R → T
       (polls_held all g (way ++ Make (PollRemove p.id p.answer) ∷ []) u t rest
       (polls g way p.name p.id p.answer s u (ap id_of here) did k))
 
-  pub wait_held : (g : ℕ → Option ℕ) (way : List LeadCall) (s t : Progress R C) (w : Waits step view s t) → Held g way s
-      → Held g (way ++ wait_calls step view s t w) t
+  pub wait_held : (g : ℕ → Option ℕ) (way : List LeadCall) (s t : Progress R C) (w : Waits firing s t) → Held g way s
+      → Held g (way ++ wait_calls firing s t w) t
   wait_held g way s t (all, u, run, q) k =
       subst (λ w. Held g w t) (append_assoc way (poll_calls all) (AskAll ∷ []))
       (holds_quiet many g (way ++ poll_calls all) u.names u.side.system.last (polls_held all g way s u run k) AskAll
       t.names t.side.system.last
       (λ own. refl) q.names (let a = q.asked.last in omega (arith, a)))
 
-  pub begin_held : (g : ℕ → Option ℕ) (way : List LeadCall) (b : Bool) (s t : Progress R C) (w : Begins step view b s t)
+  pub begin_held : (g : ℕ → Option ℕ) (way : List LeadCall) (b : Bool) (s t : Progress R C) (w : Begins firing b s t)
       → Held g way s
-      → Held g (way ++ begin_calls step view b s t w) t
+      → Held g (way ++ begin_calls firing b s t w) t
   begin_held g way false s t e k = same_held g way s t e k
   begin_held g way true s t w k = wait_held g way s t w k
 
   steps_held : (xs : List Step) (g : ℕ → Option ℕ) (way : List LeadCall) (s t : Progress R C)
-      (run : TakesSteps handler step view s xs t) → Held g way s
-      → Held (λ n. later_id (g n) (id_in_steps handler step view n s xs t run))
-      (way ++ steps_calls handler step view s xs t run) t
+      (run : TakesSteps handler firing s xs t) → Held g way s
+      → Held (λ n. later_id (g n) (id_in_steps handler firing n s xs t run))
+      (way ++ steps_calls handler firing s xs t run) t
   steps_held [] g way s t e k = same_held g way s t (sym e) k
   steps_held (x ∷ xs) g way s t (u, (v, b, d), rest) k =
-      let before = begin_calls step view (waits_first x) s v b in
-      let own = calls_in (call_of handler step view x v u d) in
-      let after = steps_calls handler step view u xs t rest in
-      let h : ℕ → Option ℕ = λ n. later_id (g n) (given_in n x (call_of handler step view x v u d)) in
-      let j : ℕ → Option ℕ = λ n. later_id (h n) (id_in_steps handler step view n u xs t rest) in
+      let before = begin_calls firing (waits_first x) s v b in
+      let own = calls_in (call_of handler firing x v u d) in
+      let after = steps_calls handler firing u xs t rest in
+      let h : ℕ → Option ℕ = λ n. later_id (g n) (given_in n x (call_of handler firing x v u d)) in
+      let j : ℕ → Option ℕ = λ n. later_id (h n) (id_in_steps handler firing n u xs t rest) in
       let so : Held j (((way ++ before) ++ own) ++ after) t = steps_held xs h ((way ++ before) ++ own) u t rest
       (does_held g (way ++ before) x v u d (begin_held g way (waits_first x) s v b k)) in
       let e : (((way ++ before) ++ own) ++ after) ≡ way ++ ((before ++ own) ++ after) =
       ap (λ w. w ++ after) (append_assoc way before own) ∙ append_assoc way (before ++ own) after in
       holds_as many j _ _ t.names t.side.system.last
-      (λ n. later_later (g n) (given_in n x (call_of handler step view x v u d))
-      (id_in_steps handler step view n u xs t rest))
+      (λ n. later_later (g n) (given_in n x (call_of handler firing x v u d))
+      (id_in_steps handler firing n u xs t rest))
       (subst (λ w. Held j w t) e so)
     where
       later_later : (a b c : Option ℕ) → later_id a (later_id b c) ≡ later_id (later_id a b) c
@@ -245,22 +245,22 @@ module _ {C R : Type 0} (handler : Calls C) (step : R → FiringCall → R → T
 
   -- after all steps and the wait at the end
   pub run_held : (g : ℕ → Option ℕ) (way : List LeadCall) (s : Progress R C) (xs : List Step) (t : Progress R C)
-      (run : Runs handler step view s xs t) → Held g way s
-      → Held (λ n. later_id (g n) (id_given handler step view n s xs t run))
-      (way ++ run_calls handler step view s xs t run) t
+      (run : Runs handler firing s xs t) → Held g way s
+      → Held (λ n. later_id (g n) (id_given handler firing n s xs t run))
+      (way ++ run_calls handler firing s xs t run) t
   run_held g way s xs t (u, taken, w) k =
-      subst (λ z. Held (λ n. later_id (g n) (id_in_steps handler step view n s xs u taken)) z t)
-      (append_assoc way (steps_calls handler step view s xs u taken) (wait_calls step view u t w))
-      (wait_held (λ n. later_id (g n) (id_in_steps handler step view n s xs u taken))
-      (way ++ steps_calls handler step view s xs u taken) u t w (steps_held xs g way s u taken k))
+      subst (λ z. Held (λ n. later_id (g n) (id_in_steps handler firing n s xs u taken)) z t)
+      (append_assoc way (steps_calls handler firing s xs u taken) (wait_calls firing u t w))
+      (wait_held (λ n. later_id (g n) (id_in_steps handler firing n s xs u taken))
+      (way ++ steps_calls handler firing s xs u taken) u t w (steps_held xs g way s u taken k))
 
   -- from the beginning, where no name has anything
   pub all_held : (s : Progress R C) (xs : List Step) (t : Progress R C)
-      (run : Runs handler step view s xs t) → s.names ≡ replicate many Nothing
-      → Held (λ m. id_given handler step view m s xs t run)
-      (run_calls handler step view s xs t run) t
+      (run : Runs handler firing s xs t) → s.names ≡ replicate many Nothing
+      → Held (λ m. id_given handler firing m s xs t run)
+      (run_calls handler firing s xs t run) t
   all_held s xs t run none = holds_as many _ _ _ t.names t.side.system.last
-      (λ m. first (id_given handler step view m s xs t run))
+      (λ m. first (id_given handler firing m s xs t run))
       (run_held (λ m. None) [] s xs t run
       (subst (λ (l : List Named). Holds many (λ m. None) [] l s.side.system.last) (sym none)
       (holds_first many s.side.system.last)))

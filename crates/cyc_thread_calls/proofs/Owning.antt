@@ -5,7 +5,7 @@ use Rattle.std.proofs.Common.{refl, sym, ap, arith}
 use Rattle.std.specs.Prelude.{true, cond}
 use Rattle.std.specs.Option.{option_map_or}
 use Rattle.cyc_types.specs.declared.Calls.{Ghosts as Calls}
-use Rattle.cyc_types.specs.Firing.{FiringView, FiringCall}
+use Rattle.cyc_types.specs.declared.Raise.{Ghosts as Raise}
 use Rattle.cyc_types.specs.declared.level.Level.{Level}
 use Rattle.cyc_types.specs.declared.refusal.Refusal.{Refusal}
 use Rattle.cyc_threads.proofs.Lists.{eq_true, false_ne}
@@ -54,22 +54,22 @@ reprogram_level : (cpu : Option ℕ) (id moment own : ℕ) (answer : Result (Uni
 reprogram_level None id moment own answer = refl
 reprogram_level (Some n) id moment own answer = refl
 
-module _ {C R : Type 0} (handler : Calls C) (step : R → FiringCall → R → Type 0) (view : R → FiringView) where
+module _ {C R : Type 0} (handler : Calls C) (firing : Raise R) where
   -- no step gives an id to a name that was introduced before
-  none_given : (xs : List Step) (name k : ℕ) (s t : Progress R C) (run : TakesSteps handler step view s xs t)
-      → names_fit k xs ≡ true → name < k → id_in_steps handler step view name s xs t run ≡ None
+  none_given : (xs : List Step) (name k : ℕ) (s t : Progress R C) (run : TakesSteps handler firing s xs t)
+      → names_fit k xs ≡ true → name < k → id_in_steps handler firing name s xs t run ≡ None
   none_given [] name k s t e fit low = refl
   none_given (x ∷ xs) name k s t (u, (v, b, d), rest) fit low =
       let (here, after) = both_true (name_fits k x) (names_fit (names_after k x) xs) fit in
       let grow = names_grow k x in
-      ap (λ o. later_id (given_in name x (call_of handler step view x v u d)) o)
+      ap (λ o. later_id (given_in name x (call_of handler firing x v u d)) o)
       (none_given xs name (names_after k x) u t rest after (omega (arith, low, grow)))
-      ∙ not_given name k x (call_of handler step view x v u d) here low
+      ∙ not_given name k x (call_of handler firing x v u d) here low
 
   with_none : (Answer : Type 0) (call : ℕ → Result Answer Refusal → SystemCall) (name own : ℕ) (s t : Progress R C)
       → ((id : ℕ) (answer : Result Answer Refusal) → level_given own (Make (call id answer)) ≡ None) → (id : Option ℕ)
-      → (d : WithId id (λ j. (answer : Result Answer Refusal) × CallsFor step view name (call j answer) s t) (t ≡ s))
-      → level_in own (calls_in (call_with step view Answer call name s t id d)) ≡ None
+      → (d : WithId id (λ j. (answer : Result Answer Refusal) × CallsFor firing name (call j answer) s t) (t ≡ s))
+      → level_in own (calls_in (call_with firing Answer call name s t id d)) ≡ None
   with_none Answer call name own s t each (Some id) (answer, did) = ap (λ o. first_of o None) (each id answer)
   with_none Answer call name own s t each None e = refl
 
@@ -84,17 +84,17 @@ module _ {C R : Type 0} (handler : Calls C) (step : R → FiringCall → R → T
   added_next : (own k given id : ℕ) → (own == k) ≡ true → given ≡ id → cond (own == k) (Some given) None ≡ Some id
   added_next own k given id fit same = ap (λ b. cond b (Some given) None) fit ∙ ap Some same
 
-  does_next : (k id : ℕ) (level : Level) (x : Step) (s t : Progress R C) (d : Does handler step view x s t) → name_fits k x ≡ true
-      → level_in id (calls_in (call_of handler step view x s t d)) ≡ Some level
-      → IsNext k id x (call_of handler step view x s t d)
+  does_next : (k id : ℕ) (level : Level) (x : Step) (s t : Progress R C) (d : Does handler firing x s t) → name_fits k x ≡ true
+      → level_in id (calls_in (call_of handler firing x s t d)) ≡ Some level
+      → IsNext k id x (call_of handler firing x s t d)
   does_next k id level (steps.Add a) s t (inl (when, starts, lasts, long, (Ok given, did))) fit e = (
-    added_next a.name k given id fit (own_level handler step view given id a.level level (first_some _ level e)),
+    added_next a.name k given id fit (own_level handler firing given id a.level level (first_some _ level e)),
     refl,
   )
   does_next k id level (steps.Add a) s t (inl (when, starts, lasts, long, (Err why, did))) fit e = absurd (none_some e)
   does_next k id level (steps.Add a) s t (inr nothing) fit e = absurd (none_some e)
   does_next k id level (steps.Omni a) s t (inl (when, starts, lasts, long, (Ok given, did))) fit e = (
-    added_next a.name k given id fit (own_level handler step view given id a.level level (first_some _ level e)),
+    added_next a.name k given id fit (own_level handler firing given id a.level level (first_some _ level e)),
     refl,
   )
   does_next k id level (steps.Omni a) s t (inl (when, starts, lasts, long, (Err why, did))) fit e = absurd (none_some e)
@@ -115,27 +115,27 @@ module _ {C R : Type 0} (handler : Calls C) (step : R → FiringCall → R → T
   does_next k id level (steps.Offline n) s t d fit e = absurd (none_some e)
   does_next k id level (steps.Online n) s t d fit e = absurd (none_some e)
 
-  abbrev pub HasName : ℕ → ℕ → (xs : List Step) (s t : Progress R C) → TakesSteps handler step view s xs t → Type 0
+  abbrev pub HasName : ℕ → ℕ → (xs : List Step) (s t : Progress R C) → TakesSteps handler firing s xs t → Type 0
   HasName k id xs s t run = (name : ℕ) × (name < names_after_all k xs)
-      × (id_in_steps handler step view name s xs t run ≡ Some id)
+      × (id_in_steps handler firing name s xs t run ≡ Some id)
 
   pub steps_named : (xs : List Step) (id k : ℕ) (level : Level) (s t : Progress R C)
-      (run : TakesSteps handler step view s xs t) → names_fit k xs ≡ true
-      → level_in id (steps_calls handler step view s xs t run) ≡ Some level → HasName k id xs s t run
+      (run : TakesSteps handler firing s xs t) → names_fit k xs ≡ true
+      → level_in id (steps_calls handler firing s xs t run) ≡ Some level → HasName k id xs s t run
   steps_named [] id k level s t e fit is = absurd (none_some is)
   steps_named (x ∷ xs) id k level s t (u, (v, b, d), rest) fit is =
       by (λ after found. steps_named xs id (names_after k x) level u t rest after found) (level_in id own) refl
       (sym (level_on id (before ++ own) after ∙ ap (λ o. first_of o (level_in id after))
-      (level_later id before own (begin_none handler step view id (waits_first x) s v b))) ∙ is)
+      (level_later id before own (begin_none handler firing id (waits_first x) s v b))) ∙ is)
     where
       before : List LeadCall
-      before = begin_calls step view (waits_first x) s v b
+      before = begin_calls firing (waits_first x) s v b
 
       own : List LeadCall
-      own = calls_in (call_of handler step view x v u d)
+      own = calls_in (call_of handler firing x v u d)
 
       after : List LeadCall
-      after = steps_calls handler step view u xs t rest
+      after = steps_calls handler firing u xs t rest
 
       by : (names_fit (names_after k x) xs ≡ true → level_in id after ≡ Some level → HasName (names_after k x) id xs u t rest)
           → (o : Option Level) → level_in id own ≡ o → first_of o (level_in id after) ≡ Some level
@@ -146,10 +146,10 @@ module _ {C R : Type 0} (handler : Calls C) (step : R → FiringCall → R → T
           let more = more_names (names_after k x) xs in (
             k,
             omega (arith, next, more),
-            ap (λ o. later_id (given_in k x (call_of handler step view x v u d)) o)
+            ap (λ o. later_id (given_in k x (call_of handler firing x v u d)) o)
                 (none_given xs k (names_after k x) u t rest after_fits (omega (arith, next))) ∙ given,
           )
       by later None here e =
           let (fits, after_fits) = both_true (name_fits k x) (names_fit (names_after k x) xs) fit in
           let (name, low, given) = later after_fits e in
-          (name, low, ap (λ o. later_id (given_in name x (call_of handler step view x v u d)) o) given)
+          (name, low, ap (λ o. later_id (given_in name x (call_of handler firing x v u d)) o) given)

@@ -8,11 +8,11 @@ use Rattle.std.proofs.lemmas.List.Elements.{All-nil, All-cons, All-append}
 use mathlib.Core.Logic.{dite}
 use native.Mathlib.Decide.{ℕ_discrete}
 use Rattle.cyc_types.specs.declared.Calls.{Ghosts as Calls}
-use Rattle.cyc_types.specs.Firing.{FiringView, FiringCall}
+use Rattle.cyc_types.specs.declared.Raise.{Ghosts as Raise}
 use Rattle.cyc_types.specs.declared.receipt.Receipt.{Receipt}
 use Rattle.cyc_types.specs.declared.refusal.Refusal.{Refusal}
 use Rattle.cyc_types.specs.declared.refusal.Refusal.TheVariants.{NoCyclic}
-use Rattle.cyc_ring.specs.Ends.{end_view, RaiseEndCall}
+use Rattle.cyc_ring.specs.Ends.{raise_end}
 use Rattle.cyc_script.specs.declared.script.Script.{Script}
 use Rattle.cyc_script.specs.declared.step.Step.{Step}
 use Rattle.cyc_script.specs.declared.step.Step.TheVariants as steps
@@ -114,52 +114,53 @@ reprogram_news (Some n) id moment answer = refl
 
 -- ---- one removal
 
-module _ {R : Type 0} (step : R → FiringCall → R → Type 0) (view : R → FiringView) where
+module _ {R : Type 0} (firing : Raise R) where
   -- it is open, on every CPU that has its cyclic and on one at least
   abbrev Opens : ℕ → SystemView R → Type 0
-  Opens id s = IsQuiet step view id s × (list_any (is_leaving_here id) s.cpus.cpus ≡ true)
+  Opens id s = IsQuiet firing id s × (list_any (is_leaving_here id) s.cpus.cpus ≡ true)
 
   untouched_opens : (id : ℕ) (s t : SystemView R) → IsUntouched id s t → Opens id s → Opens id t
   untouched_opens id s t u (quiet, still) = let (n, x, at, there, own) = open_somewhere id s.cpus still in
-      (quiet_untouched step view id s t u quiet, is_open id n t.cpus (u.stays_open n there))
+      (quiet_untouched firing id s t u quiet, is_open id n t.cpus (u.stays_open n there))
 
-  some_opens : (id : ℕ) (t : SystemView R) → IsQuiet step view id t → cpus_with id t.cpus ≢ [] → Opens id t
+  some_opens : (id : ℕ) (t : SystemView R) → IsQuiet firing id t → cpus_with id t.cpus ≢ [] → Opens id t
   some_opens id t quiet some = (quiet, by (list_any (is_leaving_here id) t.cpus.cpus) refl)
     where
       by : (b : Bool) → list_any (is_leaving_here id) t.cpus.cpus ≡ b → b ≡ true
       by true e = refl
       by false e = absurd (some (nowhere id t.cpus (left_all id t.cpus e quiet)))
 
-  begun_opens : (id kept : ℕ) (s t : SystemView R) → IsSound view s → BeginsRemoval step view id (Ok (Kept kept)) s t → Opens id t
+  begun_opens : (id kept : ℕ) (s t : SystemView R) → IsSound firing.view s → BeginsRemoval firing id (Ok (Kept kept)) s t
+      → Opens id t
   begun_opens id kept s t a (inl (e, why, is, same)) = absurd (ok_err is)
   begun_opens id kept s t a (inr (clear, (way, cpus, each, some, sum))) =
-      some_opens id t (quiet_begun step view id kept s t a (inr (clear, (way, cpus, each, some, sum)))) some
+      some_opens id t (quiet_begun firing id kept s t a (inr (clear, (way, cpus, each, some, sum)))) some
 
-  polled_opens : (id : ℕ) (s t : SystemView R) → IsSound view s → PollsRemoval step view id (Ok None) s t → Opens id s
+  polled_opens : (id : ℕ) (s t : SystemView R) → IsSound firing.view s → PollsRemoval firing id (Ok None) s t → Opens id s
       → Opens id t
   polled_opens id s t a (inl (e, why, is, same)) still = absurd (ok_err is)
   polled_opens id s t a (inr (clear, (way, cpus, each, some))) (quiet, still) =
-      some_opens id t (quiet_polled step view id s t a (inr (clear, (way, cpus, each, some))) quiet) some
+      some_opens id t (quiet_polled firing id s t a (inr (clear, (way, cpus, each, some))) quiet) some
 
-  never_refused : (id : ℕ) (why : Refusal) (s t : SystemView R) → PollsRemoval step view id (Err why) s t → Opens id s → ⊥
+  never_refused : (id : ℕ) (why : Refusal) (s t : SystemView R) → PollsRemoval firing id (Err why) s t → Opens id s → ⊥
   never_refused id why s t (inl (e, first, is, same)) (quiet, still) = none_some
       (sym (passes (not_leaving id s) [] None (not_when (not (is_leaving id s)) NoCyclic (ap not still)) refl) ∙ first)
   never_refused id why s t (inr (clear, wrong)) still = wrong
 
 -- ---- a run
 
-module _ {C R : Type 0} (handler : Calls C) (step : R → FiringCall → R → Type 0) (view : R → FiringView) (many : ℕ) where
+module _ {C R : Type 0} (handler : Calls C) (firing : Raise R) (many : ℕ) where
   -- between two steps: no two names have one id, and the removal of each name that is leaving is open
   record Stands (s : Progress R C) : Type 0 where
     given : ℕ → Option ℕ
     way : List LeadCall
-    held : Held handler step view many given way s
-    sound : IsSound view s.side.system
+    held : Held handler firing many given way s
+    sound : IsSound firing.view s.side.system
     ready : length s.side.leads.items ≡ length s.side.system.cpus.cpus
-    opens : (name id : ℕ) → named_at s.names name ≡ Leaving id → Opens step view id s.side.system
+    opens : (name id : ℕ) → named_at s.names name ≡ Leaving id → Opens firing id s.side.system
 
   abbrev AllOpen : Progress R C → Type 0
-  AllOpen s = (name id : ℕ) → named_at s.names name ≡ Leaving id → Opens step view id s.side.system
+  AllOpen s = (name id : ℕ) → named_at s.names name ≡ Leaving id → Opens firing id s.side.system
 
   none_open : (s : Progress R C) → NoneLeaves s.names → AllOpen s
   none_open s none name id is = absurd (not_leaving_now (named_at s.names name) id (none name) is)
@@ -173,17 +174,18 @@ module _ {C R : Type 0} (handler : Calls C) (step : R → FiringCall → R → T
   -- ---- calls that lead the system
 
   abbrev D : SystemSide R C → LeadCall → SystemSide R C → Type 0
-  D = AcceptedSteps handler step view
+  D = AcceptedSteps handler firing
 
-  goes_sound : (way : List LeadCall) (s t : SystemSide R C) → FoldsTo D s way t → IsSound view s.system → IsSound view t.system
-  goes_sound [] s t e a = subst (λ (x : SystemSide R C). IsSound view x.system) e a
-  goes_sound (c ∷ way) s t (u, d, rest) a = goes_sound way u t rest (sound_after handler step view 0 s u c d)
+  goes_sound : (way : List LeadCall) (s t : SystemSide R C) → FoldsTo D s way t → IsSound firing.view s.system
+      → IsSound firing.view t.system
+  goes_sound [] s t e a = subst (λ (x : SystemSide R C). IsSound firing.view x.system) e a
+  goes_sound (c ∷ way) s t (u, d, rest) a = goes_sound way u t rest (sound_after handler firing 0 s u c d)
 
   goes_ready : (way : List LeadCall) (s t : SystemSide R C) → FoldsTo D s way t
       → length s.leads.items ≡ length s.system.cpus.cpus → length t.leads.items ≡ length t.system.cpus.cpus
   goes_ready [] s t e ready = subst (λ (x : SystemSide R C). length x.leads.items ≡ length x.system.cpus.cpus) e ready
   goes_ready (c ∷ way) s t (u, d, rest) ready =
-      goes_ready way u t rest (step_ready handler step view 0 s u c d ready)
+      goes_ready way u t rest (step_ready handler firing 0 s u c d ready)
 
   -- ---- a removal ends
 
@@ -208,42 +210,42 @@ module _ {C R : Type 0} (handler : Calls C) (step : R → FiringCall → R → T
 
       by : (named_at (slice_set s.names name (Removed receipt)) m ≡ named_at s.names m)
           ⊎ ((m ≡ name) × (named_at (slice_set s.names name (Removed receipt)) m ≡ Removed receipt))
-          → Opens step view own t.side.system
+          → Opens firing own t.side.system
       by (inl e) = let was = sym e ∙ now in
-          untouched_opens step view own s.side.system t.side.system (others own (other was)) (k.opens m own was)
+          untouched_opens firing own s.side.system t.side.system (others own (other was)) (k.opens m own was)
       by (inr (same, e)) = absurd (none_some (ap id_of (sym e ∙ now)))
 
   -- ---- polls
 
   poll_open : (name id : ℕ) (answer : Option Receipt) (s t : Progress R C) → named_at s.names name ≡ Leaving id
-      → CallsFor step view name (PollRemove id (Ok answer)) s t → Stands s → AllOpen t
+      → CallsFor firing name (PollRemove id (Ok answer)) s t → Stands s → AllOpen t
   poll_open name id (Some receipt) s t here did k m own is = removed_open name id receipt s t k (ap id_of here) did.told
-      (λ own ne. polls_others step view id own (Ok (Some receipt)) s.side.system t.side.system ne did.did) m own is
+      (λ own ne. polls_others firing id own (Ok (Some receipt)) s.side.system t.side.system ne did.did) m own is
   poll_open name id None s t here did k m own is =
       let was = sym (ap (λ (l : List Named). named_at l m) did.told) ∙ is in dite (ℕ_discrete own id)
-      (λ same. subst (λ (j : ℕ). Opens step view j t.side.system) (sym same)
-      (polled_opens step view id s.side.system t.side.system k.sound did.did (k.opens name id here)))
-      (λ ne. untouched_opens step view own s.side.system t.side.system
-      (polls_others step view id own (Ok None) s.side.system t.side.system ne did.did) (k.opens m own was))
+      (λ same. subst (λ (j : ℕ). Opens firing j t.side.system) (sym same)
+      (polled_opens firing id s.side.system t.side.system k.sound did.did (k.opens name id here)))
+      (λ ne. untouched_opens firing own s.side.system t.side.system
+      (polls_others firing id own (Ok None) s.side.system t.side.system ne did.did) (k.opens m own was))
 
   one_poll : (name id : ℕ) (answer : Result (Option Receipt) Refusal) (s t : Progress R C) → named_at s.names name ≡ Leaving id
-      → CallsFor step view name (PollRemove id answer) s t → Stands s → Stands t × IsAnswered (Make (PollRemove id answer))
+      → CallsFor firing name (PollRemove id answer) s t → Stands s → Stands t × IsAnswered (Make (PollRemove id answer))
   one_poll name id (Err why) s t here did k =
-      absurd (never_refused step view id why s.side.system t.side.system did.did (k.opens name id here))
+      absurd (never_refused firing id why s.side.system t.side.system did.did (k.opens name id here))
   one_poll name id (Ok answer) s t here did k = (
     record {
       given = k.given;
       way = k.way ++ Make (PollRemove id (Ok answer)) ∷ [];
-      held = polls_held_on handler step view many k.given k.way name id (Ok answer) s t (ap id_of here) did k.held;
+      held = polls_held_on handler firing many k.given k.way name id (Ok answer) s t (ap id_of here) did k.held;
       sound = did.sound;
-      ready = step_ready handler step view 0 s.side t.side (Make (PollRemove id (Ok answer)))
+      ready = step_ready handler firing 0 s.side t.side (Make (PollRemove id (Ok answer)))
           ((did.did, did.leads), did.sound) k.ready;
       opens = poll_open name id answer s t here did k;
     },
     tt,
   )
 
-  all_polls : (polls : List Poll) (s t : Progress R C) → FoldsTo (Polls step view) s polls t → Stands s
+  all_polls : (polls : List Poll) (s t : Progress R C) → FoldsTo (Polls firing) s polls t → Stands s
       → AreAnswered (poll_calls polls)
   all_polls [] s t e k = none_answered
   all_polls (p ∷ polls) s t (u, (here, did), rest) k = let (next, answered) = one_poll p.name p.id p.answer s u here did k in
@@ -251,49 +253,49 @@ module _ {C R : Type 0} (handler : Calls C) (step : R → FiringCall → R → T
 
   -- ---- the wait before a step
 
-  wait_answered : (s t : Progress R C) (w : Waits step view s t) → Stands s → AreAnswered (wait_calls step view s t w)
+  wait_answered : (s t : Progress R C) (w : Waits firing s t) → Stands s → AreAnswered (wait_calls firing s t w)
   wait_answered s t (polls, u, run, settles) k =
       both_answered (poll_calls polls) (AskAll ∷ []) (all_polls polls s u run k) (one_answered AskAll tt)
 
-  wait_rests : (s t : Progress R C) → Waits step view s t → IsSound view t.side.system × NoneLeaves t.names
+  wait_rests : (s t : Progress R C) → Waits firing s t → IsSound firing.view t.side.system × NoneLeaves t.names
   wait_rests s t (polls, u, run, settles) = (settles.sound, settles.none)
 
-  wait_stands : (s t : Progress R C) (w : Waits step view s t) → Stands s → Stands t
+  wait_stands : (s t : Progress R C) (w : Waits firing s t) → Stands s → Stands t
   wait_stands s t w k = record {
     given = k.given;
-    way = k.way ++ wait_calls step view s t w;
-    held = wait_held handler step view many k.given k.way s t w k.held;
+    way = k.way ++ wait_calls firing s t w;
+    held = wait_held handler firing many k.given k.way s t w k.held;
     sound = (wait_rests s t w).0;
-    ready = goes_ready (wait_calls step view s t w) s.side t.side (wait_goes handler step view s t w) k.ready;
+    ready = goes_ready (wait_calls firing s t w) s.side t.side (wait_goes handler firing s t w) k.ready;
     opens = none_open t (wait_rests s t w).1;
   }
 
-  begin_answered : (b : Bool) (s t : Progress R C) (w : Begins step view b s t) → Stands s
-      → AreAnswered (begin_calls step view b s t w)
+  begin_answered : (b : Bool) (s t : Progress R C) (w : Begins firing b s t) → Stands s
+      → AreAnswered (begin_calls firing b s t w)
   begin_answered false s t e k = none_answered
   begin_answered true s t w k = wait_answered s t w k
 
-  begin_stands : (b : Bool) (s t : Progress R C) → Begins step view b s t → Stands s → Stands t
+  begin_stands : (b : Bool) (s t : Progress R C) → Begins firing b s t → Stands s → Stands t
   begin_stands false s t e k = subst (λ (x : Progress R C). Stands x) (sym e) k
   begin_stands true s t w k = wait_stands s t w k
 
-  begin_none : (b : Bool) (s t : Progress R C) → Begins step view b s t → b ≡ true → NoneLeaves t.names
+  begin_none : (b : Bool) (s t : Progress R C) → Begins firing b s t → b ≡ true → NoneLeaves t.names
   begin_none false s t e is = absurd (let odd : false ≡ true = is in cc)
   begin_none true s t w is = (wait_rests s t w).1
 
   -- ---- the call of a step
 
-  one_none : (name : ℕ) (call : SystemCall) (s t : Progress R C) → CallsFor step view name call s t → news call ≡ None
+  one_none : (name : ℕ) (call : SystemCall) (s t : Progress R C) → CallsFor firing name call s t → news call ≡ None
       → NoneLeaves s.names → NoneLeaves t.names
   one_none name call s t c e none = same_names s.names t.names (c.told ∙ ap (λ o. noted name o s.names) e) none
 
-  given_none : (name id : ℕ) (call : SystemCall) (s t : Progress R C) → CallsFor step view name call s t
+  given_none : (name id : ℕ) (call : SystemCall) (s t : Progress R C) → CallsFor firing name call s t
       → news call ≡ Some (Cyclic id) → NoneLeaves s.names → NoneLeaves t.names
   given_none name id call s t c e none = same_names (slice_set s.names name (Cyclic id)) t.names
       (c.told ∙ ap (λ o. noted name o s.names) e) (set_none s.names name (Cyclic id) refl none)
 
   with_none : (Answer : Type 0) (call : ℕ → Result Answer Refusal → SystemCall) (name : ℕ) (s t : Progress R C) (id : Option ℕ)
-      → WithId id (λ own. (answer : Result Answer Refusal) × CallsFor step view name (call own answer) s t) (t ≡ s)
+      → WithId id (λ own. (answer : Result Answer Refusal) × CallsFor firing name (call own answer) s t) (t ≡ s)
       → ((own : ℕ) (answer : Result Answer Refusal) → news (call own answer) ≡ None) → NoneLeaves s.names → NoneLeaves t.names
   with_none Answer call name s t (Some own) (answer, did) quiet none =
       one_none name (call own answer) s t did (quiet own answer) none
@@ -304,47 +306,47 @@ module _ {C R : Type 0} (handler : Calls C) (step : R → FiringCall → R → T
 
   -- the removal of a name begins
   begun_open : (name id : ℕ) (answer : Result SystemRemoval Refusal) (s t : Progress R C)
-      → id_of (named_at s.names name) ≡ Some id → CallsFor step view name (BeginRemove id answer) s t → Stands s → AllOpen t
+      → id_of (named_at s.names name) ≡ Some id → CallsFor firing name (BeginRemove id answer) s t → Stands s → AllOpen t
   begun_open name id (Ok (Done receipt)) s t has did k m own is = removed_open name id receipt s t k has did.told
-      (λ own ne. begins_others step view id own (Ok (Done receipt)) s.side.system t.side.system ne did.did) m own is
+      (λ own ne. begins_others firing id own (Ok (Done receipt)) s.side.system t.side.system ne did.did) m own is
   begun_open name id (Err why) s t has did k m own is =
-      subst (λ (x : SystemView R). Opens step view own x)
-      (sym (refused_begin handler step view 0 id why s.side.system t.side.system did.did))
+      subst (λ (x : SystemView R). Opens firing own x)
+      (sym (refused_begin handler firing 0 id why s.side.system t.side.system did.did))
       (k.opens m own (sym (ap (λ (l : List Named). named_at l m) did.told) ∙ is))
   begun_open name id (Ok (Kept kept)) s t has did k m own is = dite (ℕ_discrete own id)
-      (λ same. subst (λ (j : ℕ). Opens step view j t.side.system) (sym same)
-      (begun_opens step view id kept s.side.system t.side.system k.sound did.did))
+      (λ same. subst (λ (j : ℕ). Opens firing j t.side.system) (sym same)
+      (begun_opens firing id kept s.side.system t.side.system k.sound did.did))
       (λ ne. by ne (set_at s.names name m (Leaving id)))
     where
       now : named_at (slice_set s.names name (Leaving id)) m ≡ Leaving own
       now = sym (ap (λ (l : List Named). named_at l m) did.told) ∙ is
 
       by : own ≢ id → (named_at (slice_set s.names name (Leaving id)) m ≡ named_at s.names m)
-          ⊎ ((m ≡ name) × (named_at (slice_set s.names name (Leaving id)) m ≡ Leaving id)) → Opens step view own t.side.system
-      by ne (inl e) = untouched_opens step view own s.side.system t.side.system
-          (begins_others step view id own (Ok (Kept kept)) s.side.system t.side.system ne did.did) (k.opens m own (sym e ∙ now))
+          ⊎ ((m ≡ name) × (named_at (slice_set s.names name (Leaving id)) m ≡ Leaving id)) → Opens firing own t.side.system
+      by ne (inl e) = untouched_opens firing own s.side.system t.side.system
+          (begins_others firing id own (Ok (Kept kept)) s.side.system t.side.system ne did.did) (k.opens m own (sym e ∙ now))
       by ne (inr (same, e)) = absurd (ne (sym (same_some (ap id_of (sym e ∙ now)))))
 
   remove_open : (name : ℕ) (s t : Progress R C) (id : Option ℕ) → id_of (named_at s.names name) ≡ id
-      → WithId id (λ own. (answer : Result SystemRemoval Refusal) × CallsFor step view name (BeginRemove own answer) s t) (t ≡ s)
+      → WithId id (λ own. (answer : Result SystemRemoval Refusal) × CallsFor firing name (BeginRemove own answer) s t) (t ≡ s)
       → Stands s → AllOpen t
   remove_open name s t (Some id) has (answer, did) k = begun_open name id answer s t has did k
   remove_open name s t None has e k = subst AllOpen (sym e) k.opens
 
   -- all online CPUs fire
-  fires_open : (now : ℕ) (s t : Progress R C) → Fires handler step view now s t → Stands s → AllOpen t
+  fires_open : (now : ℕ) (s t : Progress R C) → Fires handler firing now s t → Stands s → AllOpen t
   fires_open now s t f k name id is =
       let (quiet, still) = k.opens name id (sym (ap (λ (l : List Named). named_at l name) f.names) ∙ is) in
       let (n, x, at, there, own) = open_somewhere id s.side.system.cpus still in
-      let accepted = accepted_fires handler step view now s t f in
-      subst (λ (x : SystemSide R C). Opens step view id x.system) (sym f.side) (
-        quiet_fired handler step view id now s.side f.after k.sound k.ready f.fired accepted quiet,
+      let accepted = accepted_fires handler firing now s t f in
+      subst (λ (x : SystemSide R C). Opens firing id x.system) (sym f.side) (
+        quiet_fired handler firing id now s.side f.after k.sound k.ready f.fired accepted quiet,
         is_open id n f.after.side.system.cpus
-            (fired_removal handler step view id now s.side f.after k.sound k.ready f.fired accepted n ∙ there),
+            (fired_removal handler firing id now s.side f.after k.sound k.ready f.fired accepted n ∙ there),
       )
 
   -- every word but `advance` and `remove` comes where no name is leaving, and makes none leave
-  does_open : (x : Step) (s t : Progress R C) → Does handler step view x s t
+  does_open : (x : Step) (s t : Progress R C) → Does handler firing x s t
       → (waits_first x ≡ true → NoneLeaves s.names) → Stands s → AllOpen t
   does_open (steps.Add a) s t (inl (when, starts, lasts, long, (Ok id, did))) none k =
       none_open t (given_none a.name id _ s t did refl (none refl))
@@ -371,27 +373,27 @@ module _ {C R : Type 0} (handler : Calls C) (step : R → FiringCall → R → T
   does_open (steps.Offline n) s t (answer, did) none k = none_open t (one_none 0 _ s t did refl (none refl))
   does_open (steps.Online n) s t (answer, did) none k = none_open t (one_none 0 _ s t did refl (none refl))
 
-  does_stands : (x : Step) (s t : Progress R C) → Does handler step view x s t
+  does_stands : (x : Step) (s t : Progress R C) → Does handler firing x s t
       → (waits_first x ≡ true → NoneLeaves s.names) → Stands s → Stands t
   does_stands x s t d none k = record {
-    given = λ n. later_id (k.given n) (given_in n x (call_of handler step view x s t d));
-    way = k.way ++ calls_in (call_of handler step view x s t d);
-    held = does_held handler step view many k.given k.way x s t d k.held;
-    sound = goes_sound (calls_in (call_of handler step view x s t d)) s.side t.side (does_go handler step view x s t d) k.sound;
-    ready = goes_ready (calls_in (call_of handler step view x s t d)) s.side t.side (does_go handler step view x s t d) k.ready;
+    given = λ n. later_id (k.given n) (given_in n x (call_of handler firing x s t d));
+    way = k.way ++ calls_in (call_of handler firing x s t d);
+    held = does_held handler firing many k.given k.way x s t d k.held;
+    sound = goes_sound (calls_in (call_of handler firing x s t d)) s.side t.side (does_go handler firing x s t d) k.sound;
+    ready = goes_ready (calls_in (call_of handler firing x s t d)) s.side t.side (does_go handler firing x s t d) k.ready;
     opens = does_open x s t d none k;
   }
 
   with_answered : (Answer : Type 0) (call : ℕ → Result Answer Refusal → SystemCall) (name : ℕ) (s t : Progress R C)
       (id : Option ℕ)
-      (d : WithId id (λ own. (answer : Result Answer Refusal) × CallsFor step view name (call own answer) s t) (t ≡ s))
+      (d : WithId id (λ own. (answer : Result Answer Refusal) × CallsFor firing name (call own answer) s t) (t ≡ s))
       → ((own : ℕ) (answer : Result Answer Refusal) → IsAnswered (Make (call own answer)))
-      → AreAnswered (calls_in (call_with step view Answer call name s t id d))
+      → AreAnswered (calls_in (call_with firing Answer call name s t id d))
   with_answered Answer call name s t (Some own) (answer, did) each = one_answered (Make (call own answer)) (each own answer)
   with_answered Answer call name s t None e each = none_answered
 
-  does_answered : (x : Step) (s t : Progress R C) (d : Does handler step view x s t)
-      → AreAnswered (calls_in (call_of handler step view x s t d))
+  does_answered : (x : Step) (s t : Progress R C) (d : Does handler firing x s t)
+      → AreAnswered (calls_in (call_of handler firing x s t d))
   does_answered (steps.Add a) s t (inl (when, starts, lasts, long, (answer, did))) = one_answered _ tt
   does_answered (steps.Add a) s t (inr odd) = none_answered
   does_answered (steps.Omni a) s t (inl (when, starts, lasts, long, (answer, did))) = one_answered _ tt
@@ -414,37 +416,37 @@ module _ {C R : Type 0} (handler : Calls C) (step : R → FiringCall → R → T
 
   -- ---- all steps
 
-  steps_answered : (xs : List Step) (s t : Progress R C) (run : TakesSteps handler step view s xs t) → Stands s
-      → AreAnswered (steps_calls handler step view s xs t run) × Stands t
+  steps_answered : (xs : List Step) (s t : Progress R C) (run : TakesSteps handler firing s xs t) → Stands s
+      → AreAnswered (steps_calls handler firing s xs t run) × Stands t
   steps_answered [] s t e k = (none_answered, subst (λ (x : Progress R C). Stands x) e k)
   steps_answered (x ∷ xs) s t (u, (v, b, d), rest) k =
       let after = begin_stands (waits_first x) s v b k in
       let next = does_stands x v u d (begin_none (waits_first x) s v b) after in
       let (more, last) = steps_answered xs u t rest next in (
         both_answered
-            (begin_calls step view (waits_first x) s v b ++ calls_in (call_of handler step view x v u d))
-            (steps_calls handler step view u xs t rest)
-            (both_answered (begin_calls step view (waits_first x) s v b)
-            (calls_in (call_of handler step view x v u d))
+            (begin_calls firing (waits_first x) s v b ++ calls_in (call_of handler firing x v u d))
+            (steps_calls handler firing u xs t rest)
+            (both_answered (begin_calls firing (waits_first x) s v b)
+            (calls_in (call_of handler firing x v u d))
             (begin_answered (waits_first x) s v b k) (does_answered x v u d)) more,
         last,
       )
 
-  line_answered : (named : Named) (line : Line) (s t : Progress R C) (w : TellsOf step view named line s t)
-      → AreAnswered (told_calls_of step view named line s t w)
+  line_answered : (named : Named) (line : Line) (s t : Progress R C) (w : TellsOf firing named line s t)
+      → AreAnswered (told_calls_of firing named line s t w)
   line_answered Nothing line s t w = none_answered
   line_answered (Cyclic own) line s t (answer, did, is) = one_answered _ tt
   line_answered (Leaving own) line s t (answer, did, is) = one_answered _ tt
   line_answered (Removed receipt) line s t w = none_answered
 
-  lines_answered : (all : List Told) (s t : Progress R C) (w : FoldsTo (Tells step view) s all t)
-      → AreAnswered (told_calls step view all s t w)
+  lines_answered : (all : List Told) (s t : Progress R C) (w : FoldsTo (Tells firing) s all t)
+      → AreAnswered (told_calls firing all s t w)
   lines_answered [] s t w = none_answered
-  lines_answered (one ∷ all) s t (u, tells, rest) = both_answered (told_calls_of step view one.named one.line s u tells)
-      (told_calls step view all u t rest) (line_answered one.named one.line s u tells) (lines_answered all u t rest)
+  lines_answered (one ∷ all) s t (u, tells, rest) = both_answered (told_calls_of firing one.named one.line s u tells)
+      (told_calls firing all u t rest) (line_answered one.named one.line s u tells) (lines_answered all u t rest)
 
   -- before the first step no name has anything
-  first_stands : (s : Progress R C) → Holds many (λ name. None) [] s.names s.side.system.last → IsSound view s.side.system
+  first_stands : (s : Progress R C) → Holds many (λ name. None) [] s.names s.side.system.last → IsSound firing.view s.side.system
       → length s.side.leads.items ≡ length s.side.system.cpus.cpus → Stands s
   first_stands s held sound ready = record {
     given = λ name. None;
@@ -459,19 +461,19 @@ module _ {C R : Type 0} (handler : Calls C) (step : R → FiringCall → R → T
 
   -- and the wait after them, and the report
   runs_answered : (xs : List Step) (lines : List Line) (s t u : Progress R C)
-      (runs : Runs handler step view s xs t) (reports : Reports step view lines t u) → Stands s
-      → AreAnswered (all_calls handler step view xs lines s t u runs reports)
+      (runs : Runs handler firing s xs t) (reports : Reports firing lines t u) → Stands s
+      → AreAnswered (all_calls handler firing xs lines s t u runs reports)
   runs_answered xs lines s t u (v, taken, w) reports k = let (steps, after) = steps_answered xs s v taken k in both_answered _ _
-      (both_answered (steps_calls handler step view s xs v taken) (wait_calls step view v t w) steps
+      (both_answered (steps_calls handler firing s xs v taken) (wait_calls firing v t w) steps
       (wait_answered v t w after)) (lines_answered reports.all t u reports.tells)
 
 module _ {C : Type 0} (handler : Calls C) where
   pub all_answered : (script : Script) (calls : List C) (e : Ended C) (text : List ℕ)
       (r : HasRun handler script calls e text)
       → AreAnswered (lead_calls handler script calls e text r)
-  all_answered script calls e text r = runs_answered handler RaiseEndCall end_view (length script.names.items)
+  all_answered script calls e text r = runs_answered handler raise_end (length script.names.items)
       script.steps.items r.lines r.played.first r.played.last r.played.told r.played.runs r.played.reports
-      (first_stands handler RaiseEndCall end_view (length script.names.items) r.played.first
+      (first_stands handler raise_end (length script.names.items) r.played.first
       (subst (λ (l : List Named). Holds (length script.names.items) (λ name. None) [] l r.played.first.side.system.last)
       (sym r.played.begins.names_are) (holds_first (length script.names.items) r.played.first.side.system.last))
       (run_sound handler script calls e text r)

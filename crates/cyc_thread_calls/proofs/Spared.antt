@@ -9,7 +9,7 @@ use Rattle.cyc_types.specs.declared.level.Level.{Level}
 use Rattle.cyc_types.specs.declared.level.Level.TheVariants.{Low, Lock, High}
 use Rattle.ring_rule.specs.Trail.{raises_of, losses_of}
 use Rattle.cyc_ring.specs.declared.ends.RaiseEnd.{RaiseEnd}
-use Rattle.cyc_ring.specs.Ends.{end_view, RaiseEndCall, raise_trail}
+use Rattle.cyc_ring.specs.Ends.{raise_end, raise_trail}
 use Rattle.cyc_threads.proofs.Spots.{same_some, none_some}
 use Rattle.cyc_cpu.specs.Cpu.{CpuView}
 use Rattle.cyc_threads.proofs.Sums.{sum_none}
@@ -69,7 +69,7 @@ module _ {C : Type 0} (handler : Calls C) (script : Script)
     spare = λ id some. (let a = ap (losses_of id) none in absurd (omega (arith, a, some)));
   }
 
-  spare_first : OfAll RaiseEndCall end_view (IsSpare script.ceiling)
+  spare_first : OfAll raise_end (IsSpare script.ceiling)
       (goes_spare script.ceiling) r.played.first.side.system.cpus.cpus
   spare_first n cpu at =
       let (x, is, here) = is_new _ script.ceiling r.before r.played.first r.played.begins r.new n cpu at in
@@ -79,9 +79,9 @@ module _ {C : Type 0} (handler : Calls C) (script : Script)
         subst (λ (y : CpuView RaiseEnd). IsSpare script.ceiling y.low) (sym is) (spare_new x.1 q b),
       )
 
-  spare_last : OfAll RaiseEndCall end_view (IsSpare script.ceiling) (goes_spare script.ceiling) last.cpus.cpus
+  spare_last : OfAll raise_end (IsSpare script.ceiling) (goes_spare script.ceiling) last.cpus.cpus
   spare_last = let l = from_new handler script calls e text r in
-      led_all RaiseEndCall end_view (IsSpare script.ceiling) (goes_spare script.ceiling) handler way
+      led_all raise_end (IsSpare script.ceiling) (goes_spare script.ceiling) handler way
       r.played.first.side r.played.told.side l.sound l.ready l.run spare_first
 
   spared_at : (level : Level) (id : ℕ) → (counts_at level id way last).sent ≤ script.ceiling

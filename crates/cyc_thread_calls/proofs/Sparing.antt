@@ -9,7 +9,7 @@ use Rattle.cyc_level.specs.Runs.{StayCounts, stay_calls}
 use Rattle.ring_rule.specs.Trail.{raises_of, losses_of, open_stay, seen_pend}
 use Rattle.cyc_ring.specs.declared.ends.RaiseEnd.{RaiseEnd}
 use Rattle.cyc_ring.specs.Views.{stay_with}
-use Rattle.cyc_ring.specs.Ends.{end_view, RaiseEndCall, raise_trail}
+use Rattle.cyc_ring.specs.Ends.{raise_end, end_view, raise_trail}
 use Rattle.cyc_ring.proofs.Ways.{raise_ways}
 use Rattle.cyc_types.specs.Counting.{one_at}
 use mathlib.Core.Logic.{dite}
@@ -69,13 +69,13 @@ module _ (ceiling : ℕ) where
   one_counts e f id (Expands bank) d up down own some = grown e f id _ up (omega (arith, down)) own some
   one_counts e f id (Looks answer) d up down own some = grown e f id _ up (omega (arith, down)) own some
 
-  one_spare : (e f : RaiseEnd) (call : FiringCall) → Taught RaiseEndCall end_view e call f → IsSpare ceiling e → IsSpare ceiling f
+  one_spare : (e f : RaiseEnd) (call : FiringCall) → Taught raise_end e call f → IsSpare ceiling e → IsSpare ceiling f
   one_spare e f call taught own = let (same, up, down) = raise_ways e f (call ∷ []) (f, taught, refl) in record {
     same = ap (λ k. k.ceiling) same.1 ∙ own.same;
     spare = λ id some. one_counts e f id call taught.1 (up id) (down id) own some;
   }
 
-  pub goes_spare : (e f : RaiseEnd) (way : List FiringCall) → Goes RaiseEndCall end_view e way f → IsSpare ceiling e
+  pub goes_spare : (e f : RaiseEnd) (way : List FiringCall) → Goes raise_end e way f → IsSpare ceiling e
       → IsSpare ceiling f
   goes_spare e f [] same own = subst (IsSpare ceiling) same own
   goes_spare e f (call ∷ way) (m, taught, rest) own = goes_spare m f way rest (one_spare e m call taught own)

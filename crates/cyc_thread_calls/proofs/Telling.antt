@@ -4,7 +4,7 @@ use Rattle.std.proofs.Common.{subst, arith}
 use Rattle.std.specs.Prelude.{Bool, true, false, sum_by}
 use Rattle.std.specs.List.{FoldsTo}
 use Rattle.std.specs.Option.{option_map_or}
-use Rattle.cyc_types.specs.Firing.{FiringView, FiringCall}
+use Rattle.cyc_types.specs.declared.Raise.{Ghosts as Raise}
 use Rattle.cyc_threads.proofs.Lists.{among}
 use Rattle.cyc_threads.proofs.Recording.{record_here}
 use Rattle.cyc_threads.proofs.Spots.{none_some}
@@ -37,9 +37,9 @@ line_at (Here id) s = record { expired = all_expired id s; lost = all_lost id s;
 line_at (Leaving id) s = record { expired = all_expired id s; lost = all_lost id s; pending = 0 }
 line_at (Removed receipt) s = receipt_line receipt
 
-module _ {R : Type 0} (step : R → FiringCall → R → Type 0) (view : R → FiringView) (id : ℕ) where
+module _ {R : Type 0} (firing : Raise R) (id : ℕ) where
   -- an id that has no record is nowhere
-  module _ (s : SystemView R) (sound : IsSound view s) (none : record_of id s ≡ None) where
+  module _ (s : SystemView R) (sound : IsSound firing.view s) (none : record_of id s ≡ None) where
     nowhere : (n : ℕ) (b : Bool) → has n id s.cpus ≡ b → b ≡ false
     nowhere n false e = refl
     nowhere n true e = let (k, r, is, named, stands, on) = sound.agrees.known n id e in
@@ -61,42 +61,43 @@ module _ {R : Type 0} (step : R → FiringCall → R → Type 0) (view : R → F
         let b = ap (λ o. option_map_or (λ (r : Record). sum_by (λ e. e.lost) r.ended) o 0) none in omega (arith, a, b)
 
   -- what a system answers of an id
-  asked_is : (answer : Option SystemTotals) (s t : SystemView R) → IsSound view s → Changes step view s (AskTotals id answer) t
+  asked_is : (answer : Option SystemTotals) (s t : SystemView R) → IsSound firing.view s
+      → Changes firing s (AskTotals id answer) t
       → ((totals_line answer).expired ≡ all_expired id s) × ((totals_line answer).lost ≡ all_lost id s)
   asked_is (Some totals) s t sound d = (
-    totals_all step view (λ (e : Sent). e.sent) id (λ a b. refl) totals s t sound.lawful d totals.expired
+    totals_all firing (λ (e : Sent). e.sent) id (λ a b. refl) totals s t sound.lawful d totals.expired
         (λ way r sums. sums.expired),
-    totals_all step view (λ (e : Sent). e.lost) id (λ a b. refl) totals s t sound.lawful d totals.lost (λ way r sums. sums.lost),
+    totals_all firing (λ (e : Sent). e.lost) id (λ a b. refl) totals s t sound.lawful d totals.lost (λ way r sums. sums.lost),
   )
   asked_is None s t sound (none, e) = (sym (nothing_expired s sound none), sym (nothing_lost s sound none))
 
   -- the question for one changes the counts of none
-  asked_same : (own : ℕ) (answer : Option SystemTotals) (s t : SystemView R) → IsSound view s → IsSound view t
-      → Changes step view s (AskTotals own answer) t → SameCounts id s t
+  asked_same : (own : ℕ) (answer : Option SystemTotals) (s t : SystemView R) → IsSound firing.view s → IsSound firing.view t
+      → Changes firing s (AskTotals own answer) t → SameCounts id s t
   asked_same own answer s t a b d = (
-    counts_same step view (λ (e : Sent). e.sent) refl (λ x y. refl) id s t (AskTotals own answer) a b d (λ over. over),
-    counts_same step view (λ (e : Sent). e.lost) refl (λ x y. refl) id s t (AskTotals own answer) a b d (λ over. over),
+    counts_same firing (λ (e : Sent). e.sent) refl (λ x y. refl) id s t (AskTotals own answer) a b d (λ over. over),
+    counts_same firing (λ (e : Sent). e.lost) refl (λ x y. refl) id s t (AskTotals own answer) a b d (λ over. over),
   )
 
-module _ {C R : Type 0} (step : R → FiringCall → R → Type 0) (view : R → FiringView) where
+module _ {C R : Type 0} (firing : Raise R) where
   abbrev Sound : Progress R C → Type 0
-  Sound p = IsSound view p.side.system
+  Sound p = IsSound firing.view p.side.system
 
   -- a line changes no counts
-  line_same : (id : ℕ) (named : Named) (line : Line) (s t : Progress R C) → TellsOf step view named line s t → Sound s
+  line_same : (id : ℕ) (named : Named) (line : Line) (s t : Progress R C) → TellsOf firing named line s t → Sound s
       → Sound t × SameCounts id s.side.system t.side.system
   line_same id Nothing line s t (is, e) sound = stays e
     where
       stays : t ≡ s → Sound t × SameCounts id s.side.system t.side.system
       stays e = (subst Sound (sym e) sound, (ap (λ p. all_expired id p.side.system) e, ap (λ p. all_lost id p.side.system) e))
   line_same id (Here own) line s t (answer, c, is) sound =
-      (c.sound, asked_same step view id own answer s.side.system t.side.system sound c.sound c.did)
+      (c.sound, asked_same firing id own answer s.side.system t.side.system sound c.sound c.did)
   line_same id (Leaving own) line s t (answer, c, is) sound =
-      (c.sound, asked_same step view id own answer s.side.system t.side.system sound c.sound c.did)
+      (c.sound, asked_same firing id own answer s.side.system t.side.system sound c.sound c.did)
   line_same id (Removed receipt) line s t (is, e) sound =
       (subst Sound (sym e) sound, (ap (λ p. all_expired id p.side.system) e, ap (λ p. all_lost id p.side.system) e))
 
-  lines_same : (id : ℕ) (all : List Told) (s t : Progress R C) → FoldsTo (Tells step view) s all t → Sound s
+  lines_same : (id : ℕ) (all : List Told) (s t : Progress R C) → FoldsTo (Tells firing) s all t → Sound s
       → Sound t × SameCounts id s.side.system t.side.system
   lines_same id [] s t e sound =
       (subst Sound e sound, (ap (λ p. all_expired id p.side.system) (sym e), ap (λ p. all_lost id p.side.system) (sym e)))
@@ -105,18 +106,18 @@ module _ {C R : Type 0} (step : R → FiringCall → R → Type 0) (view : R →
       let (last, (p, q)) = lines_same id all u t rest mid in (last, (p ∙ a, q ∙ b))
 
   -- each line says what the system has at the end
-  asks_is : (id : ℕ) (line : Line) (s t : Progress R C) → Asks step view id line s t → Sound s → line.pending ≡ 0
+  asks_is : (id : ℕ) (line : Line) (s t : Progress R C) → Asks firing id line s t → Sound s → line.pending ≡ 0
       → (e l : ℕ) → e ≡ all_expired id s.side.system → l ≡ all_lost id s.side.system
       → line ≡ record { expired = e; lost = l; pending = 0 }
   asks_is id line s t (answer, c, is) sound none e l a b =
-      let (p, q) = asked_is step view id answer s.side.system t.side.system sound c.did in
+      let (p, q) = asked_is firing id answer s.side.system t.side.system sound c.did in
       λ i. record {
         expired = (ap (λ (x : Line). x.expired) is ∙ p ∙ sym a) i;
         lost = (ap (λ (x : Line). x.lost) is ∙ q ∙ sym b) i;
         pending = none i;
       }
 
-  line_is : (named : Named) (line : Line) (s u : Progress R C) (t : SystemView R) → TellsOf step view named line s u → Sound s
+  line_is : (named : Named) (line : Line) (s u : Progress R C) (t : SystemView R) → TellsOf firing named line s u → Sound s
       → line.pending ≡ 0 → ((id : ℕ) → SameCounts id s.side.system t) → line ≡ line_at named t
   line_is Nothing line s u t (is, e) sound none same = is
   line_is (Here id) line s u t d sound none same =
@@ -125,18 +126,18 @@ module _ {C R : Type 0} (step : R → FiringCall → R → Type 0) (view : R →
       asks_is id line s u d sound none (all_expired id t) (all_lost id t) (same id).0 (same id).1
   line_is (Removed receipt) line s u t (is, e) sound none same = is
 
-  pub lines_are : (all : List Told) (s t : Progress R C) → FoldsTo (Tells step view) s all t → Sound s → Rests step view s
+  pub lines_are : (all : List Told) (s t : Progress R C) → FoldsTo (Tells firing) s all t → Sound s → Rests firing s
       → map (λ (w : Told). w.line) all ≡ map (λ named. line_at named t.side.system) (map (λ (w : Told). w.named) all)
   lines_are [] s t e sound rests = refl
   lines_are (told ∷ all) s t (u, d, rest) sound rests =
-      let (calm, none) = lines_quiet step view (told ∷ []) s u (u, d, refl) rests in
+      let (calm, none) = lines_quiet firing (told ∷ []) s u (u, d, refl) rests in
       let (mid, one) = line_same 0 told.named told.line s u d sound in
       let here = line_is told.named told.line s u t.side.system d sound (none 0 told.line (omega arith))
       (λ id. (lines_same id (told ∷ all) s t (u, d, rest) sound).1) in
       λ i. here i ∷ lines_are all u t rest mid calm i
 
   -- the line of a name
-  pub report_is : (lines : List Line) (s t : Progress R C) → Reports step view lines s t → Sound s → Rests step view s
+  pub report_is : (lines : List Line) (s t : Progress R C) → Reports firing lines s t → Sound s → Rests firing s
       → lines ≡ map (λ named. line_at named t.side.system) s.names
   report_is lines s t r sound rests = sym r.lines_are ∙ lines_are r.all s t r.tells sound rests
       ∙ ap (λ ns. map (λ named. line_at named t.side.system) ns) r.names

@@ -3,7 +3,7 @@ use Rattle.std.proofs.Common.{◌≡◌, ◌≢◌, ◌∙◌, ℕ, ◌<◌, ◌
 use Rattle.std.specs.Prelude.{true}
 use Rattle.std.specs.List.{slice_get, FoldsTo}
 use Rattle.cyc_types.specs.declared.Calls.{Ghosts as Calls}
-use Rattle.cyc_types.specs.Firing.{FiringView, FiringCall}
+use Rattle.cyc_types.specs.declared.Raise.{Ghosts as Raise}
 use Rattle.cyc_system_expected.specs.Rings.{first_of}
 use Rattle.cyc_threads.specs.Named.{Named}
 use Rattle.cyc_threads.specs.Named.TheVariants.{Nothing, Cyclic, Leaving, Removed}
@@ -11,7 +11,7 @@ use Rattle.cyc_threads.specs.Progress.{Progress}
 use Rattle.cyc_threads.specs.ThreadStepsReporting.{Told, Tells, TellsOf}
 use Rattle.cyc_thread_calls.proofs.Owning.{steps_named}
 use Rattle.cyc_types.specs.declared.level.Level.{Level}
-use Rattle.cyc_ring.specs.Ends.{end_view, RaiseEndCall}
+use Rattle.cyc_ring.specs.Ends.{raise_end}
 use Rattle.cyc_script.specs.declared.script.Script.{Script}
 use Rattle.cyc_system_expected.specs.Leading.{LeadCall}
 use Rattle.cyc_system_expected.specs.ByLevel.{level_in}
@@ -35,19 +35,19 @@ level_first id xs ys e = level_on id xs ys ∙ ap (λ o. first_of (level_in id x
     by None = refl
     by (Some level) = refl
 
-module _ {C R : Type 0} (step : R → FiringCall → R → Type 0) (view : R → FiringView) (id : ℕ) where
-  line_level : (named : Named) (line : Line) (s t : Progress R C) (d : TellsOf step view named line s t)
-      → level_in id (told_calls_of step view named line s t d) ≡ None
+module _ {C R : Type 0} (firing : Raise R) (id : ℕ) where
+  line_level : (named : Named) (line : Line) (s t : Progress R C) (d : TellsOf firing named line s t)
+      → level_in id (told_calls_of firing named line s t d) ≡ None
   line_level Nothing line s t d = refl
   line_level (Cyclic own) line s t (answer, did, is) = refl
   line_level (Leaving own) line s t (answer, did, is) = refl
   line_level (Removed receipt) line s t d = refl
 
-  report_level : (all : List Told) (s t : Progress R C) (d : FoldsTo (Tells step view) s all t)
-      → level_in id (told_calls step view all s t d) ≡ None
+  report_level : (all : List Told) (s t : Progress R C) (d : FoldsTo (Tells firing) s all t)
+      → level_in id (told_calls firing all s t d) ≡ None
   report_level [] s t e = refl
   report_level (told ∷ all) s t (u, d, rest) =
-      level_later id (told_calls_of step view told.named told.line s u d) (told_calls step view all u t rest)
+      level_later id (told_calls_of firing told.named told.line s u d) (told_calls firing all u t rest)
       (line_level told.named told.line s u d) ∙ report_level all u t rest
 
 module _ {C : Type 0} (handler : Calls C) (script : Script)
@@ -63,22 +63,22 @@ module _ {C : Type 0} (handler : Calls C) (script : Script)
       → (level : Level) × (level_in id way ≡ Some level) × (level_named name script.steps.items ≡ Some level)
   its_level name id given = by r.played.runs given
     where
-      by : (run : Runs handler RaiseEndCall end_view r.played.first script.steps.items r.played.last)
-          → id_given handler RaiseEndCall end_view name r.played.first script.steps.items r.played.last run
+      by : (run : Runs handler raise_end r.played.first script.steps.items r.played.last)
+          → id_given handler raise_end name r.played.first script.steps.items r.played.last run
           ≡ Some id
-          → (level : Level) × (level_in id (run_calls handler RaiseEndCall end_view r.played.first
-          script.steps.items r.played.last run ++ report_calls RaiseEndCall end_view r.lines r.played.last r.played.told
+          → (level : Level) × (level_in id (run_calls handler raise_end r.played.first
+          script.steps.items r.played.last run ++ report_calls raise_end r.lines r.played.last r.played.told
           r.played.reports) ≡ Some level) × (level_named name script.steps.items ≡ Some level)
       by (u, taken, waits) given =
-          let (level, here, named) = steps_level handler RaiseEndCall end_view script.steps.items name id 0
+          let (level, here, named) = steps_level handler raise_end script.steps.items name id 0
           r.played.first u taken script.well_formed.names_in_order given in (
             level,
-            level_kept id (steps_calls handler RaiseEndCall end_view r.played.first script.steps.items u taken
-                ++ wait_calls RaiseEndCall end_view u r.played.last waits)
-                (report_calls RaiseEndCall end_view r.lines r.played.last r.played.told r.played.reports) level
-                (level_kept id (steps_calls handler RaiseEndCall end_view r.played.first script.steps.items u
+            level_kept id (steps_calls handler raise_end r.played.first script.steps.items u taken
+                ++ wait_calls raise_end u r.played.last waits)
+                (report_calls raise_end r.lines r.played.last r.played.told r.played.reports) level
+                (level_kept id (steps_calls handler raise_end r.played.first script.steps.items u
                 taken)
-                (wait_calls RaiseEndCall end_view u r.played.last waits) level here),
+                (wait_calls raise_end u r.played.last waits) level here),
             named,
           )
 
@@ -107,23 +107,23 @@ module _ {C : Type 0} (handler : Calls C) (script : Script)
       → (name : ℕ) × (name < length script.names.items) × (id_named name ≡ Some id)
   own_name id level is = by r.played.runs is
     where
-      by : (run : Runs handler RaiseEndCall end_view r.played.first script.steps.items r.played.last)
-          → level_in id (run_calls handler RaiseEndCall end_view r.played.first script.steps.items r.played.last
+      by : (run : Runs handler raise_end r.played.first script.steps.items r.played.last)
+          → level_in id (run_calls handler raise_end r.played.first script.steps.items r.played.last
           run
-          ++ report_calls RaiseEndCall end_view r.lines r.played.last r.played.told r.played.reports) ≡ Some level
+          ++ report_calls raise_end r.lines r.played.last r.played.told r.played.reports) ≡ Some level
           → (name : ℕ) × (name < length script.names.items)
-          × (id_given handler RaiseEndCall end_view name r.played.first script.steps.items r.played.last run
+          × (id_given handler raise_end name r.played.first script.steps.items r.played.last run
           ≡ Some id)
       by (u, taken, waits) is =
-          let steps = steps_calls handler RaiseEndCall end_view r.played.first script.steps.items u taken in
-          let wait = wait_calls RaiseEndCall end_view u r.played.last waits in
-          let report = report_calls RaiseEndCall end_view r.lines r.played.last r.played.told r.played.reports in
+          let steps = steps_calls handler raise_end r.played.first script.steps.items u taken in
+          let wait = wait_calls raise_end u r.played.last waits in
+          let report = report_calls raise_end r.lines r.played.last r.played.told r.played.reports in
           let at : level_in id steps ≡ Some level =
-          sym (level_first id steps wait (begin_none handler RaiseEndCall end_view id true u r.played.last waits))
+          sym (level_first id steps wait (begin_none handler raise_end id true u r.played.last waits))
           ∙ sym (level_first id (steps ++ wait) report
-          (report_level RaiseEndCall end_view id r.played.reports.all r.played.last r.played.told r.played.reports.tells))
+          (report_level raise_end id r.played.reports.all r.played.last r.played.told r.played.reports.tells))
           ∙ is in
-          let (name, low, given) = steps_named handler RaiseEndCall end_view script.steps.items id 0 level
+          let (name, low, given) = steps_named handler raise_end script.steps.items id 0 level
           r.played.first u taken script.well_formed.names_in_order at in
           let many = script.well_formed.names_introduced in
           (name, omega (arith, low, many), given)

@@ -4,7 +4,7 @@ use Rattle.cyc_types.specs.declared.Calls.{Ghosts as Calls}
 use Rattle.cyc_types.specs.declared.level.Level.{Level}
 use Rattle.cyc_types.specs.declared.level.Level.TheVariants.{Low, Lock, High}
 use Rattle.cyc_ring.specs.declared.ends.RaiseEnd.{RaiseEnd}
-use Rattle.cyc_ring.specs.Ends.{end_view, RaiseEndCall}
+use Rattle.cyc_ring.specs.Ends.{raise_end}
 use Rattle.cyc_script.specs.declared.script.Script.{Script}
 use Rattle.cyc_threads.specs.System.{SystemView}
 use Rattle.cyc_system_expected.specs.Leading.{LeadCall}
@@ -29,7 +29,7 @@ module _ {C : Type 0} (handler : Calls C) (script : Script) (calls : List C) (e 
     (r : HasRun handler script calls e text) where
   -- what led the run, from its first step to the last line of its report
   abbrev pub lead_calls : List LeadCall
-  lead_calls = all_calls handler RaiseEndCall end_view script.steps.items r.lines r.played.first r.played.last
+  lead_calls = all_calls handler raise_end script.steps.items r.lines r.played.first r.played.last
       r.played.told r.played.runs r.played.reports
 
   -- the system with which it ends
@@ -38,4 +38,4 @@ module _ {C : Type 0} (handler : Calls C) (script : Script) (calls : List C) (e 
 
   -- the id that it gave the name of this number
   abbrev pub id_of_name : ℕ → Option ℕ
-  id_of_name name = id_given handler RaiseEndCall end_view name r.played.first script.steps.items r.played.last r.played.runs
+  id_of_name name = id_given handler raise_end name r.played.first script.steps.items r.played.last r.played.runs

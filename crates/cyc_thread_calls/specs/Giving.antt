@@ -2,7 +2,7 @@
 use Rattle.std.specs.Prelude.{ℕ, ◌==◌, if◌then◌else◌, Bool, false, List, [], ◌∷◌, Option, Some, None, Ok}
 use Rattle.std.specs.Option.{option_map_or}
 use Rattle.cyc_types.specs.declared.Calls.{Ghosts as Calls}
-use Rattle.cyc_types.specs.Firing.{FiringView, FiringCall}
+use Rattle.cyc_types.specs.declared.Raise.{Ghosts as Raise}
 use Rattle.cyc_script.specs.declared.step.Step.{Step}
 use Rattle.cyc_script.specs.declared.step.Step.TheVariants as steps
 use Rattle.cyc_threads.specs.Calls.{Add, AddOmni}
@@ -33,15 +33,15 @@ abbrev pub later_id : Option ℕ → Option ℕ → Option ℕ
 later_id earlier None = earlier
 later_id earlier (Some id) = Some id
 
-module _ {C R : Type 0} (handler : Calls C) (step : R → FiringCall → R → Type 0) (view : R → FiringView) (name : ℕ) where
-  abbrev pub id_in_step : (s : Progress R C) (x : Step) (t : Progress R C) → TakesStep handler step view s x t → Option ℕ
-  id_in_step s x t (u, begins, does) = given_in name x (call_of handler step view x u t does)
+module _ {C R : Type 0} (handler : Calls C) (firing : Raise R) (name : ℕ) where
+  abbrev pub id_in_step : (s : Progress R C) (x : Step) (t : Progress R C) → TakesStep handler firing s x t → Option ℕ
+  id_in_step s x t (u, begins, does) = given_in name x (call_of handler firing x u t does)
 
   abbrev pub id_in_steps : (s : Progress R C) (xs : List Step) (t : Progress R C)
-      → TakesSteps handler step view s xs t → Option ℕ
+      → TakesSteps handler firing s xs t → Option ℕ
   id_in_steps s [] t takes = None
   id_in_steps s (x ∷ xs) t (u, takes, rest) = later_id (id_in_step s x u takes) (id_in_steps u xs t rest)
 
   -- the id that a run gave a name, which a script introduces once: None where its `add` or `omni` was refused
-  abbrev pub id_given : (s : Progress R C) (xs : List Step) (t : Progress R C) → Runs handler step view s xs t → Option ℕ
+  abbrev pub id_given : (s : Progress R C) (xs : List Step) (t : Progress R C) → Runs handler firing s xs t → Option ℕ
   id_given s xs t (u, takes, waits) = id_in_steps s xs u takes

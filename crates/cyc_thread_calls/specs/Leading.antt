@@ -4,7 +4,7 @@ use Rattle.std.specs.Option.{option_map_or}
 use Rattle.std.specs.List.{FoldsTo}
 use mathlib.Core.Logic.{inl, inr}
 use Rattle.cyc_types.specs.declared.Calls.{Ghosts as Calls}
-use Rattle.cyc_types.specs.Firing.{FiringView, FiringCall}
+use Rattle.cyc_types.specs.declared.Raise.{Ghosts as Raise}
 use Rattle.cyc_types.specs.declared.refusal.Refusal.{Refusal}
 use Rattle.cyc_script.specs.declared.step.Step.{Step}
 use Rattle.cyc_script.specs.declared.step.Step.TheVariants as steps
@@ -29,57 +29,57 @@ calls_in o = option_map_or (λ call. call ∷ []) o []
 abbrev pub poll_calls : List Poll → List LeadCall
 poll_calls polls = map (λ (p : Poll). Make (PollRemove p.id p.answer)) polls
 
-module _ {C R : Type 0} (step : R → FiringCall → R → Type 0) (view : R → FiringView) where
+module _ {C R : Type 0} (firing : Raise R) where
   -- a wait: the polls, and then the question that all CPUs answered as settled
-  abbrev pub wait_calls : (s t : Progress R C) → Waits step view s t → List LeadCall
+  abbrev pub wait_calls : (s t : Progress R C) → Waits firing s t → List LeadCall
   wait_calls s t (polls, u, polled, settles) = poll_calls polls ++ AskAll ∷ []
 
   -- what comes before the call of a step
-  abbrev pub begin_calls : (waits : Bool) (s t : Progress R C) → Begins step view waits s t → List LeadCall
+  abbrev pub begin_calls : (waits : Bool) (s t : Progress R C) → Begins firing waits s t → List LeadCall
   begin_calls false s t begins = []
   begin_calls true s t begins = wait_calls s t begins
 
   -- the call for the cyclic of a name, where the name has one
   abbrev pub call_with : (Answer : Type 0) (call : ℕ → Result Answer Refusal → SystemCall) (name : ℕ) (s t : Progress R C)
       (id : Option ℕ)
-      → WithId id (λ own. (answer : Result Answer Refusal) × CallsFor step view name (call own answer) s t) (t ≡ s)
+      → WithId id (λ own. (answer : Result Answer Refusal) × CallsFor firing name (call own answer) s t) (t ≡ s)
       → Option LeadCall
   call_with Answer call name s t (Some id) (answer, did) = Some (Make (call id answer))
   call_with Answer call name s t None same = None
 
   -- what was asked for the line of a name
-  abbrev pub told_calls_of : (named : Named) (line : Line) (s t : Progress R C) → TellsOf step view named line s t → List LeadCall
+  abbrev pub told_calls_of : (named : Named) (line : Line) (s t : Progress R C) → TellsOf firing named line s t → List LeadCall
   told_calls_of Nothing line s t tells = []
   told_calls_of (Cyclic id) line s t (answer, did, is) = Make (AskTotals id answer) ∷ []
   told_calls_of (Leaving id) line s t (answer, did, is) = Make (AskTotals id answer) ∷ []
   told_calls_of (Removed receipt) line s t tells = []
 
-  abbrev pub told_calls : (all : List Told) (s t : Progress R C) → FoldsTo (Tells step view) s all t → List LeadCall
+  abbrev pub told_calls : (all : List Told) (s t : Progress R C) → FoldsTo (Tells firing) s all t → List LeadCall
   told_calls [] s t tells = []
   told_calls (told ∷ all) s t (u, tells, rest) = told_calls_of told.named told.line s u tells ++ told_calls all u t rest
 
   -- and for the whole report
-  abbrev pub report_calls : (lines : List Line) (s t : Progress R C) → Reports step view lines s t → List LeadCall
+  abbrev pub report_calls : (lines : List Line) (s t : Progress R C) → Reports firing lines s t → List LeadCall
   report_calls lines s t reports = told_calls reports.all s t reports.tells
 
-module _ {C R : Type 0} (handler : Calls C) (step : R → FiringCall → R → Type 0) (view : R → FiringView) where
+module _ {C R : Type 0} (handler : Calls C) (firing : Raise R) where
   -- the call that a step made; a step that did nothing made none
-  abbrev pub call_of : (x : Step) (s t : Progress R C) → Does handler step view x s t → Option LeadCall
+  abbrev pub call_of : (x : Step) (s t : Progress R C) → Does handler firing x s t → Option LeadCall
   call_of (steps.Add a) s t (inl (when, starts, lasts, long, (answer, did))) = Some (Make (Add a.level when s.clock answer))
   call_of (steps.Add a) s t (inr nothing) = None
   call_of (steps.Omni a) s t (inl (when, starts, lasts, long, (answer, did))) =
       Some (Make (AddOmni a.level when a.skew s.clock answer))
   call_of (steps.Omni a) s t (inr nothing) = None
   call_of (steps.Bind b) s t does =
-      call_with step view (Unit {0}) (λ id answer. Bind id (Some b.cpu) answer) b.name s t (id_of (named_at s.names b.name)) does
+      call_with firing (Unit {0}) (λ id answer. Bind id (Some b.cpu) answer) b.name s t (id_of (named_at s.names b.name)) does
   call_of (steps.Unbind name) s t does =
-      call_with step view (Unit {0}) (λ id answer. Bind id None answer) name s t (id_of (named_at s.names name)) does
+      call_with firing (Unit {0}) (λ id answer. Bind id None answer) name s t (id_of (named_at s.names name)) does
   call_of (steps.Reprogram r) s t (inl (moment, is, does)) =
-      call_with step view (Unit {0}) (λ id answer. reprograms r.cpu id moment answer) r.name s t
+      call_with firing (Unit {0}) (λ id answer. reprograms r.cpu id moment answer) r.name s t
       (id_of (named_at s.names r.name)) does
   call_of (steps.Reprogram r) s t (inr nothing) = None
   call_of (steps.Remove name) s t does =
-      call_with step view SystemRemoval (λ id answer. BeginRemove id answer) name s t (id_of (named_at s.names name)) does
+      call_with firing SystemRemoval (λ id answer. BeginRemove id answer) name s t (id_of (named_at s.names name)) does
   call_of (steps.Advance now) s t does = Some (FireAll now)
   call_of (steps.Softint i) s t does = None
   call_of (steps.Juggle n) s t (answer, did) = Some (Make (Juggle n answer))
@@ -87,20 +87,20 @@ module _ {C R : Type 0} (handler : Calls C) (step : R → FiringCall → R → T
   call_of (steps.Online n) s t (answer, did) = Some (Make (Online n s.clock answer))
 
   -- those of a step: of the wait before it, and its own
-  abbrev pub step_calls : (s : Progress R C) (x : Step) (t : Progress R C) → TakesStep handler step view s x t → List LeadCall
-  step_calls s x t (u, begins, does) = begin_calls step view (waits_first x) s u begins ++ calls_in (call_of x u t does)
+  abbrev pub step_calls : (s : Progress R C) (x : Step) (t : Progress R C) → TakesStep handler firing s x t → List LeadCall
+  step_calls s x t (u, begins, does) = begin_calls firing (waits_first x) s u begins ++ calls_in (call_of x u t does)
 
   -- of all steps
   abbrev pub steps_calls : (s : Progress R C) (xs : List Step) (t : Progress R C)
-      → TakesSteps handler step view s xs t → List LeadCall
+      → TakesSteps handler firing s xs t → List LeadCall
   steps_calls s [] t takes = []
   steps_calls s (x ∷ xs) t (u, takes, rest) = step_calls s x u takes ++ steps_calls u xs t rest
 
   -- of all steps and of the wait after them
-  abbrev pub run_calls : (s : Progress R C) (xs : List Step) (t : Progress R C) → Runs handler step view s xs t → List LeadCall
-  run_calls s xs t (u, takes, waits) = steps_calls s xs u takes ++ wait_calls step view u t waits
+  abbrev pub run_calls : (s : Progress R C) (xs : List Step) (t : Progress R C) → Runs handler firing s xs t → List LeadCall
+  run_calls s xs t (u, takes, waits) = steps_calls s xs u takes ++ wait_calls firing u t waits
 
   -- of a run and its report
   abbrev pub all_calls : (xs : List Step) (lines : List Line) (s t u : Progress R C)
-      → Runs handler step view s xs t → Reports step view lines t u → List LeadCall
-  all_calls xs lines s t u runs reports = run_calls s xs t runs ++ report_calls step view lines t u reports
+      → Runs handler firing s xs t → Reports firing lines t u → List LeadCall
+  all_calls xs lines s t u runs reports = run_calls s xs t runs ++ report_calls firing lines t u reports

@@ -3,7 +3,7 @@ use Rattle.std.specs.Prelude.{Bool, true, false, List, [], ◌∷◌}
 use Rattle.std.specs.Result.{is_ok}
 use Rattle.std.specs.Option.{option_map_or}
 use Rattle.cyc_types.specs.declared.Calls.{Ghosts as Calls}
-use Rattle.cyc_types.specs.Firing.{FiringView, FiringCall}
+use Rattle.cyc_types.specs.declared.Raise.{Ghosts as Raise}
 use Rattle.cyc_script.specs.declared.step.Step.{Step}
 use Rattle.cyc_script.specs.declared.step.Step.TheVariants.{Softint}
 use Rattle.cyc_expected.specs.Expected.{Met}
@@ -37,20 +37,20 @@ is_taken (Make call) = is_accepted call
 is_taken (FireAll now) = true
 is_taken AskAll = true
 
-module _ {C R : Type 0} (handler : Calls C) (step : R → FiringCall → R → Type 0) (view : R → FiringView) where
+module _ {C R : Type 0} (handler : Calls C) (firing : Raise R) where
   -- A step was accepted where its call was not refused; one that did nothing was not. A `softint` makes no call, and is never
   -- refused.
-  abbrev pub accepted : (x : Step) (s t : Progress R C) → Does handler step view x s t → Bool
+  abbrev pub accepted : (x : Step) (s t : Progress R C) → Does handler firing x s t → Bool
   accepted (Softint i) s t does = true
-  accepted x s t does = option_map_or is_taken (call_of handler step view x s t does) false
+  accepted x s t does = option_map_or is_taken (call_of handler firing x s t does) false
 
   -- the steps, and which of them were accepted
   abbrev pub steps_met : (s : Progress R C) (xs : List Step) (t : Progress R C)
-      → TakesSteps handler step view s xs t → List Met
+      → TakesSteps handler firing s xs t → List Met
   steps_met s [] t takes = []
   steps_met s (x ∷ xs) t ((u, (v, begins, does), rest)) =
       record { step = x; accepted = accepted x v u does } ∷ steps_met u xs t rest
 
   -- those of a run
-  abbrev pub way_of : (s : Progress R C) (xs : List Step) (t : Progress R C) → Runs handler step view s xs t → List Met
+  abbrev pub way_of : (s : Progress R C) (xs : List Step) (t : Progress R C) → Runs handler firing s xs t → List Met
   way_of s xs t (u, takes, waits) = steps_met s xs u takes

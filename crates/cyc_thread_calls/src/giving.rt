@@ -19,10 +19,10 @@ use cyc_types::{Calls, Raise};
 ///
 /// It does nothing when it runs: its clause is the law.
 pub fn giving_law<C: Calls, R: Raise>()
-    ensures { (xs : List Step) (s t : Progress R C) (runs : Runs C.Calls R.step R.view s xs t)
+    ensures { (xs : List Step) (s t : Progress R C) (runs : Runs C.Calls R.Raise s xs t)
         (n a b id : ℕ) → s.names ≡ replicate n Nothing
-        → id_given C.Calls R.step R.view a s xs t runs ≡ Some id
-        → id_given C.Calls R.step R.view b s xs t runs ≡ Some id → a ≡ b }
+        → id_given C.Calls R.Raise a s xs t runs ≡ Some id
+        → id_given C.Calls R.Raise b s xs t runs ≡ Some id → a ≡ b }
 {}
 
 /// Each id that a call of a run of a script gave is that of exactly one of its names.

@@ -8,7 +8,7 @@ ghost use Rattle.cyc_threads.specs.Line.{Line};
 ghost use Rattle.cyc_threads.specs.Steps.{Runs};
 ghost use Rattle.cyc_threads.specs.ThreadStepsReporting.{Reports};
 ghost use Rattle.cyc_system_expected.specs.Events.{AcceptedSteps};
-ghost use Rattle.cyc_ring.specs.Ends.{end_view, RaiseEndCall};
+ghost use Rattle.cyc_ring.specs.Ends.{raise_end};
 ghost use Rattle.cyc_script.specs.declared.script.Script.{Script as OneScript};
 ghost use Rattle.cyc_system_expected.specs.ByLevel.{LeadsFromNew, HasNewEnds};
 ghost use Rattle.cyc_system_expected.specs.Rings.{AreClosed};
@@ -26,9 +26,9 @@ use cyc_types::{Calls, Raise};
 /// It does nothing when it runs: its clause is the law.
 pub fn leading_law<C: Calls, R: Raise>()
     ensures { (xs : List Step) (lines : List Line) (s t u : Progress R C)
-        (runs : Runs C.Calls R.step R.view s xs t) (reports : Reports R.step R.view lines t u)
-        → FoldsTo (AcceptedSteps C.Calls R.step R.view) s.side
-        (all_calls C.Calls R.step R.view xs lines s t u runs reports) u.side }
+        (runs : Runs C.Calls R.Raise s xs t) (reports : Reports R.Raise lines t u)
+        → FoldsTo (AcceptedSteps C.Calls R.Raise) s.side
+        (all_calls C.Calls R.Raise xs lines s t u runs reports) u.side }
 {}
 
 /// From its opening to its closing a run of a script in threads is such calls of a new system over new rings. At the end all CPUs
@@ -41,7 +41,7 @@ pub fn opened_law<C: Calls>()
         → LeadsFromNew C.Calls r.played.first.side (lead_calls C.Calls script calls e text r) r.played.told.side }
     ensures accepted { (script : OneScript) (calls : List C) (e : Ends C) (text : List ℕ)
         (r : HasRun C.Calls script calls e text)
-        → FoldsTo (AcceptedSteps C.Calls RaiseEndCall end_view) r.played.first.side
+        → FoldsTo (AcceptedSteps C.Calls raise_end) r.played.first.side
         (lead_calls C.Calls script calls e text r) r.played.told.side }
     ensures ends { (script : OneScript) (calls : List C) (e : Ends C) (text : List ℕ)
         (r : HasRun C.Calls script calls e text) → HasNewEnds r.played.first.side.system }

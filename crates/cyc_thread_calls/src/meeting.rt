@@ -16,9 +16,9 @@ use cyc_types::{Calls, Raise};
 ///
 /// It does nothing when it runs: its clauses are the law.
 pub fn meeting_law<C: Calls, R: Raise>()
-    ensures all { (xs : List Step) (s t : Progress R C) (runs : Runs C.Calls R.step R.view s xs t)
-        → map (λ m. m.step) (way_of C.Calls R.step R.view s xs t runs) ≡ xs }
-    ensures given { (x : Step) (s t : Progress R C) (does : Does C.Calls R.step R.view x s t) (name : ℕ)
-        → introduces name x ≡ true → accepted C.Calls R.step R.view x s t does
-        ≡ is_some (given_in name x (call_of C.Calls R.step R.view x s t does)) }
+    ensures all { (xs : List Step) (s t : Progress R C) (runs : Runs C.Calls R.Raise s xs t)
+        → map (λ m. m.step) (way_of C.Calls R.Raise s xs t runs) ≡ xs }
+    ensures given { (x : Step) (s t : Progress R C) (does : Does C.Calls R.Raise x s t) (name : ℕ)
+        → introduces name x ≡ true → accepted C.Calls R.Raise x s t does
+        ≡ is_some (given_in name x (call_of C.Calls R.Raise x s t does)) }
 {}

@@ -3,7 +3,7 @@
 ghost use Rattle.std.specs.Prelude.{◌≡◌, ◌<◌, ℕ, List, Some, length, replicate};
 ghost use Rattle.std.specs.List.{slice_get};
 ghost use Rattle.cyc_ring.specs.declared.ends.RaiseEnd.{RaiseEnd as AnEnd};
-ghost use Rattle.cyc_ring.specs.Ends.{end_view, RaiseEndCall};
+ghost use Rattle.cyc_ring.specs.Ends.{raise_end};
 ghost use Rattle.cyc_script.specs.declared.step.Step.{Step};
 ghost use Rattle.cyc_threads.specs.Named.TheVariants.{Nothing};
 ghost use Rattle.cyc_threads.specs.Progress.{Progress};
@@ -23,11 +23,11 @@ use cyc_types::Calls;
 /// It does nothing when it runs: its clauses are the law.
 pub fn reported_law<C: Calls>()
     ensures many { (n : ℕ) (xs : List Step) (lines : List Line) (s t u : Progress AnEnd C)
-        → Runs C.Calls RaiseEndCall end_view s xs t → Reports RaiseEndCall end_view lines t u
+        → Runs C.Calls raise_end s xs t → Reports raise_end lines t u
         → s.names ≡ replicate n Nothing → length lines ≡ n }
     ensures each { (n name : ℕ) (xs : List Step) (lines : List Line) (s t u : Progress AnEnd C)
-        (runs : Runs C.Calls RaiseEndCall end_view s xs t) (reports : Reports RaiseEndCall end_view lines t u)
+        (runs : Runs C.Calls raise_end s xs t) (reports : Reports raise_end lines t u)
         → s.names ≡ replicate n Nothing → name < n
-        → slice_get lines name ≡ Some (line_in (id_given C.Calls RaiseEndCall end_view name s xs t runs)
-        (all_calls C.Calls RaiseEndCall end_view xs lines s t u runs reports) u.side.system) }
+        → slice_get lines name ≡ Some (line_in (id_given C.Calls raise_end name s xs t runs)
+        (all_calls C.Calls raise_end xs lines s t u runs reports) u.side.system) }
 {}

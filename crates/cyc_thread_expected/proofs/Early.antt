@@ -5,7 +5,7 @@ use Rattle.std.specs.List.{FoldsTo}
 use Rattle.std.proofs.lemmas.Bool.Decides.{nat_tests}
 use Rattle.std.proofs.lemmas.List.Elements.{All-nil, All-cons, All-head, All-tail}
 use Rattle.cyc_types.specs.declared.Calls.{Ghosts as Calls}
-use Rattle.cyc_types.specs.Firing.{FiringView, FiringCall}
+use Rattle.cyc_types.specs.declared.Raise.{Ghosts as Raise}
 use Rattle.cyc_types.specs.Series.{never}
 use Rattle.cyc_types.specs.declared.refusal.Refusal.{Refusal}
 use Rattle.cyc_script.specs.WellFormed.{moment_fits, moment_after, moments_fit}
@@ -52,24 +52,24 @@ set_early : (cpu : Option ℕ) (id moment : ℕ) (answer : Result (Unit {0}) Ref
 set_early None id moment answer = tt
 set_early (Some n) id moment answer = tt
 
-module _ {C R : Type 0} (handler : Calls C) (step : R → FiringCall → R → Type 0) (view : R → FiringView) where
-  wait_early : (s t : Progress R C) (w : Waits step view s t) → AreEarly (wait_calls step view s t w)
+module _ {C R : Type 0} (handler : Calls C) (firing : Raise R) where
+  wait_early : (s t : Progress R C) (w : Waits firing s t) → AreEarly (wait_calls firing s t w)
   wait_early s t (polls, u, polled, settles) = polls_early polls
 
-  begin_early : (b : Bool) (s t : Progress R C) (w : Begins step view b s t) → AreEarly (begin_calls step view b s t w)
+  begin_early : (b : Bool) (s t : Progress R C) (w : Begins firing b s t) → AreEarly (begin_calls firing b s t w)
   begin_early false s t w = none_late
   begin_early true s t w = wait_early s t w
 
   with_early : (Answer : Type 0) (call : ℕ → Result Answer Refusal → SystemCall) (name : ℕ) (s t : Progress R C)
       (id : Option ℕ)
-      (w : WithId id (λ own. (answer : Result Answer Refusal) × CallsFor step view name (call own answer) s t) (t ≡ s))
+      (w : WithId id (λ own. (answer : Result Answer Refusal) × CallsFor firing name (call own answer) s t) (t ≡ s))
       → ((own : ℕ) (answer : Result Answer Refusal) → IsBeforeNever (Make (call own answer)))
-      → AreEarly (calls_in (call_with step view Answer call name s t id w))
+      → AreEarly (calls_in (call_with firing Answer call name s t id w))
   with_early Answer call name s t (Some own) (answer, did) early = one_early (Make (call own answer)) (early own answer)
   with_early Answer call name s t None e early = none_late
 
-  does_early : (now : ℕ) (x : Step) (s t : Progress R C) (d : Does handler step view x s t)
-      → moment_fits now x ≡ true → AreEarly (calls_in (call_of handler step view x s t d))
+  does_early : (now : ℕ) (x : Step) (s t : Progress R C) (d : Does handler firing x s t)
+      → moment_fits now x ≡ true → AreEarly (calls_in (call_of handler firing x s t d))
   does_early now (steps.Add a) s t (inl (when, starts, lasts, long, (answer, did))) fits = one_early _ tt
   does_early now (steps.Add a) s t (inr (bad, e)) fits = none_late
   does_early now (steps.Omni a) s t (inl (when, starts, lasts, long, (answer, did))) fits = one_early _ tt
@@ -93,34 +93,34 @@ module _ {C R : Type 0} (handler : Calls C) (step : R → FiringCall → R → T
   does_early now (steps.Online n) s t (answer, did) fits = one_early _ tt
 
   steps_early : (now : ℕ) (s : Progress R C) (xs : List Step) (t : Progress R C)
-      (takes : TakesSteps handler step view s xs t) → moments_fit now xs ≡ true
-      → AreEarly (steps_calls handler step view s xs t takes)
+      (takes : TakesSteps handler firing s xs t) → moments_fit now xs ≡ true
+      → AreEarly (steps_calls handler firing s xs t takes)
   steps_early now s [] t takes fits = none_late
   steps_early now s (x ∷ xs) t (u, (v, begins, does), rest) fits = both_early
-      (begin_calls step view (waits_first x) s v begins ++ calls_in (call_of handler step view x v u does))
-      (steps_calls handler step view u xs t rest)
-      (both_early (begin_calls step view (waits_first x) s v begins)
-      (calls_in (call_of handler step view x v u does)) (begin_early (waits_first x) s v begins)
+      (begin_calls firing (waits_first x) s v begins ++ calls_in (call_of handler firing x v u does))
+      (steps_calls handler firing u xs t rest)
+      (both_early (begin_calls firing (waits_first x) s v begins)
+      (calls_in (call_of handler firing x v u does)) (begin_early (waits_first x) s v begins)
       (does_early now x v u does (and_left (moment_fits now x) (moments_fit (moment_after now x) xs) fits)))
       (steps_early (moment_after now x) u xs t rest (and_right (moment_fits now x) _ fits))
 
-  line_early : (named : Named) (line : Line) (s t : Progress R C) (w : TellsOf step view named line s t)
-      → AreEarly (told_calls_of step view named line s t w)
+  line_early : (named : Named) (line : Line) (s t : Progress R C) (w : TellsOf firing named line s t)
+      → AreEarly (told_calls_of firing named line s t w)
   line_early Nothing line s t w = none_late
   line_early (Cyclic own) line s t (answer, did, is) = one_early _ tt
   line_early (Leaving own) line s t (answer, did, is) = one_early _ tt
   line_early (Removed receipt) line s t w = none_late
 
-  lines_early : (all : List Told) (s t : Progress R C) (w : FoldsTo (Tells step view) s all t)
-      → AreEarly (told_calls step view all s t w)
+  lines_early : (all : List Told) (s t : Progress R C) (w : FoldsTo (Tells firing) s all t)
+      → AreEarly (told_calls firing all s t w)
   lines_early [] s t w = none_late
-  lines_early (one ∷ all) s t (u, tells, rest) = both_early (told_calls_of step view one.named one.line s u tells)
-      (told_calls step view all u t rest) (line_early one.named one.line s u tells) (lines_early all u t rest)
+  lines_early (one ∷ all) s t (u, tells, rest) = both_early (told_calls_of firing one.named one.line s u tells)
+      (told_calls firing all u t rest) (line_early one.named one.line s u tells) (lines_early all u t rest)
 
   pub all_early : (now : ℕ) (xs : List Step) (lines : List Line) (s t u : Progress R C)
-      (runs : Runs handler step view s xs t) (reports : Reports step view lines t u)
-      → moments_fit now xs ≡ true → AreEarly (all_calls handler step view xs lines s t u runs reports)
+      (runs : Runs handler firing s xs t) (reports : Reports firing lines t u)
+      → moments_fit now xs ≡ true → AreEarly (all_calls handler firing xs lines s t u runs reports)
   all_early now xs lines s t u (v, takes, waits) reports fits = both_early _ _
-      (both_early (steps_calls handler step view s xs v takes) (wait_calls step view v t waits)
+      (both_early (steps_calls handler firing s xs v takes) (wait_calls firing v t waits)
       (steps_early now s xs v takes fits) (wait_early v t waits))
       (lines_early reports.all t u reports.tells)

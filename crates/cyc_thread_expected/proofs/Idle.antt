@@ -4,7 +4,7 @@ use Rattle.std.proofs.Common.{Ok, Err, refl, sym, ap, subst, arith}
 use Rattle.std.specs.Prelude.{⊤}
 use Rattle.std.specs.Result.{is_ok}
 use Rattle.cyc_types.specs.declared.Calls.{Ghosts as Calls}
-use Rattle.cyc_types.specs.Firing.{FiringView, FiringCall}
+use Rattle.cyc_types.specs.declared.Raise.{Ghosts as Raise}
 use Rattle.cyc_types.specs.declared.level.Level.{Level}
 use Rattle.cyc_types.specs.declared.moment.When.{When}
 use Rattle.cyc_types.specs.declared.refusal.Refusal.{Refusal}
@@ -60,7 +60,7 @@ sets_only : (cpu : Option ℕ) (moment : ℕ) → AddsNot (reprogrammed cpu mome
 sets_only None moment = tt
 sets_only (Some n) moment = tt
 
-module _ {C R : Type 0} (handler : Calls C) (step : R → FiringCall → R → Type 0) (view : R → FiringView) (k : ℕ) where
+module _ {C R : Type 0} (handler : Calls C) (firing : Raise R) (k : ℕ) where
   neither_given : (a b : Option ℕ) → later_id a b ≡ None → (a ≡ None) × (b ≡ None)
   neither_given a None e = (e, refl)
   neither_given a (Some d) e = absurd (none_some (sym e))
@@ -80,9 +80,9 @@ module _ {C R : Type 0} (handler : Calls C) (step : R → FiringCall → R → T
   not_added_on_all level when skew now clock (Ok d) false e is = tt
   not_added_on_all level when skew now clock (Err why) own e is = tt
 
-  does_not_add : (i clock : ℕ) (x : Step) (s t : Progress R C) (d : Does handler step view x s t)
-      → cond (introduces k x) (given (call_of handler step view x s t d)) None ≡ None
-      → AddsNot (event_met i k clock x (accepted handler step view x s t d))
+  does_not_add : (i clock : ℕ) (x : Step) (s t : Progress R C) (d : Does handler firing x s t)
+      → cond (introduces k x) (given (call_of handler firing x s t d)) None ≡ None
+      → AddsNot (event_met i k clock x (accepted handler firing x s t d))
   does_not_add i clock (steps.Add a) s t (inl (when, starts, lasts, long, (answer, did))) is =
       not_added a.level when s.clock clock answer (a.name == k) (Begins (magnitude a.start) (magnitude a.interval) clock) is
   does_not_add i clock (steps.Add a) s t (inr (bad, e)) is = tt
@@ -102,16 +102,16 @@ module _ {C R : Type 0} (handler : Calls C) (step : R → FiringCall → R → T
   does_not_add i clock (steps.Offline n) s t d is = adds_if _ (Leaves n) tt
   does_not_add i clock (steps.Online n) s t d is = adds_if _ (Returns n clock) tt
 
-  pub all_idle : (s : Progress R C) (xs : List Step) (t : Progress R C) (takes : TakesSteps handler step view s xs
-      t) → id_in_steps handler step view k s xs t takes ≡ None → (clock : ℕ) (told : Told) → IsIdle told
-      → IsIdle (told_by (events_of k clock (steps_met handler step view s xs t takes)) told)
+  pub all_idle : (s : Progress R C) (xs : List Step) (t : Progress R C) (takes : TakesSteps handler firing s xs
+      t) → id_in_steps handler firing k s xs t takes ≡ None → (clock : ℕ) (told : Told) → IsIdle told
+      → IsIdle (told_by (events_of k clock (steps_met handler firing s xs t takes)) told)
   all_idle s [] t takes is clock told idle = idle
   all_idle s (x ∷ xs) t (u, (v, begins, does), rest) is clock told idle =
       let (here, later) = neither_given
-      (cond (introduces k x) (given (call_of handler step view x v u does)) None)
-      (id_in_steps handler step view k u xs t rest) is in
-      let b = accepted handler step view x v u does in
-      let ms = steps_met handler step view u xs t rest in
+      (cond (introduces k x) (given (call_of handler firing x v u does)) None)
+      (id_in_steps handler firing k u xs t rest) is in
+      let b = accepted handler firing x v u does in
+      let ms = steps_met handler firing u xs t rest in
       let one = stays_idle (event_met 0 k clock x b) told (does_not_add 0 clock x v u does here) idle in
       subst IsIdle (sym (one_met 0 k x b ms clock told))
       (all_idle u xs t rest later (clock_met 0 k clock x b) (told_after (event_met 0 k clock x b) told) one)

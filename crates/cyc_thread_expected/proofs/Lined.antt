@@ -5,7 +5,7 @@ use Rattle.std.specs.List.{slice_get}
 use Rattle.std.proofs.lemmas.List.{length-map}
 use Rattle.cyc_types.specs.declared.Calls.{Ghosts as Calls}
 use Rattle.cyc_ring.specs.declared.ends.RaiseEnd.{RaiseEnd}
-use Rattle.cyc_ring.specs.Ends.{end_view, RaiseEndCall}
+use Rattle.cyc_ring.specs.Ends.{raise_end, end_view}
 use Rattle.cyc_cpus.specs.Cpus.{CpusView, new_cpu}
 use Rattle.cyc_script.specs.declared.script.Script.{Script}
 use Rattle.cyc_expected.specs.Expected.{Met, expected}
@@ -45,7 +45,7 @@ module _ {C : Type 0} (names : ℕ) (all : List (Seated C)) (first : Progress Ra
 module _ {C : Type 0} (handler : Calls C) (script : Script)
     (calls : List C) (e : Ended C) (text : List ℕ) (r : HasRun handler script calls e text) where
   pub lines_many : length r.lines ≡ length script.names.items
-  lines_many = as_many handler RaiseEndCall end_view (length script.names.items) script.steps.items r.lines
+  lines_many = as_many handler raise_end (length script.names.items) script.steps.items r.lines
       r.played.first r.played.last r.played.told r.played.runs r.played.reports r.played.begins.names_are
 
   sound : IsSound end_view r.played.first.side.system
@@ -61,7 +61,7 @@ module _ {C : Type 0} (handler : Calls C) (script : Script)
 
   -- how the steps were met
   abbrev way : List Met
-  way = way_of handler RaiseEndCall end_view r.played.first script.steps.items r.played.last r.played.runs
+  way = way_of handler raise_end r.played.first script.steps.items r.played.last r.played.runs
 
   -- the line of an id, or of none
   abbrev line_of : Option ℕ → Line

@@ -6,7 +6,7 @@ use Rattle.std.specs.List.{FoldsTo}
 use Rattle.std.specs.Option.{option_map_or}
 use Rattle.std.specs.Result.{is_ok}
 use Rattle.cyc_types.specs.declared.Calls.{Ghosts as Calls}
-use Rattle.cyc_types.specs.Firing.{FiringView, FiringCall}
+use Rattle.cyc_types.specs.declared.Raise.{Ghosts as Raise}
 use Rattle.cyc_types.specs.declared.level.Level.{Level}
 use Rattle.cyc_types.specs.declared.moment.When.{When}
 use Rattle.cyc_types.specs.declared.refusal.Refusal.{Refusal}
@@ -55,13 +55,13 @@ for_set : (cpu : Option ℕ) (d id moment : ℕ) (answer : Result (Unit {0}) Ref
 for_set None d id moment answer f = absurd f
 for_set (Some n) d id moment answer f = absurd f
 
-module _ {C R : Type 0} (handler : Calls C) (step : R → FiringCall → R → Type 0) (view : R → FiringView) where
+module _ {C R : Type 0} (handler : Calls C) (firing : Raise R) where
   -- of each step of a run
   abbrev pub AllGive : (ℕ → ℕ → Type 0) → (s : Progress R C) (xs : List Step) (t : Progress R C)
-      → TakesSteps handler step view s xs t → Type 0
+      → TakesSteps handler firing s xs t → Type 0
   AllGive P s [] t takes = ⊤
   AllGive P s (x ∷ xs) t (u, (v, begins, does), rest) =
-      Gives P x (call_of handler step view x v u does) × AllGive P u xs t rest
+      Gives P x (call_of handler firing x v u does) × AllGive P u xs t rest
 
   module _ (i k : ℕ) where
     -- what a step leaves, with its call, and accepted or not
@@ -77,7 +77,7 @@ module _ {C R : Type 0} (handler : Calls C) (step : R → FiringCall → R → T
       clock = ap (λ (p : Progress R C). p.clock) e;
     }
 
-    called_one : (name : ℕ) (call : SystemCall) (s t : Progress R C) (x : Step) → CallsFor step view name call s t
+    called_one : (name : ℕ) (call : SystemCall) (s t : Progress R C) (x : Step) → CallsFor firing name call s t
         → Owns i k s.names → ((d : ℕ) → IsFor d call → (d == i) ≡ (name == k)) → clock_after x s.clock ≡ s.clock
         → event_in i (Make call) ≡ event_met i k s.clock x (is_taken (Make call)) → Meets s t x (Some (Make call))
         (is_taken (Make call))
@@ -90,12 +90,12 @@ module _ {C R : Type 0} (handler : Calls C) (step : R → FiringCall → R → T
 
     with_one : (Answer : Type 0) (call : ℕ → Result Answer Refusal → SystemCall) (name : ℕ) (s t : Progress R C) (x : Step)
         (id : Option ℕ) → id_of (named_at s.names name) ≡ id
-        → (w : WithId id (λ own. (answer : Result Answer Refusal) × CallsFor step view name (call own answer) s t) (t ≡ s))
+        → (w : WithId id (λ own. (answer : Result Answer Refusal) × CallsFor firing name (call own answer) s t) (t ≡ s))
         → Owns i k s.names → ((own d : ℕ) (answer : Result Answer Refusal) → IsFor d (call own answer) → own ≡ d)
         → clock_after x s.clock ≡ s.clock
         → ((own : ℕ) (answer : Result Answer Refusal) → (own == i) ≡ (name == k)
         → event_in i (Make (call own answer)) ≡ event_met i k s.clock x (is_taken (Make (call own answer))))
-        → Meets s t x (call_with step view Answer call name s t id w) (taken i k (call_with step view Answer call name s t id w))
+        → Meets s t x (call_with firing Answer call name s t id w) (taken i k (call_with firing Answer call name s t id w))
     with_one Answer call name s t x (Some own) is (answer, did) owns fits still same =
         let mine = owns name own is in
         called_one name (call own answer) s t x did owns
@@ -103,7 +103,7 @@ module _ {C R : Type 0} (handler : Calls C) (step : R → FiringCall → R → T
     with_one Answer call name s t x None is e owns fits still same = idle s t x e owns
 
     -- one that is about no id
-    apart : (call : SystemCall) (s t : Progress R C) (x : Step) → CallsFor step view 0 call s t → Owns i k s.names
+    apart : (call : SystemCall) (s t : Progress R C) (x : Step) → CallsFor firing 0 call s t → Owns i k s.names
         → ((d : ℕ) → IsFor d call → ⊥) → clock_after x s.clock ≡ s.clock
         → event_in i (Make call) ≡ event_met i k s.clock x (is_taken (Make call)) → Meets s t x (Some (Make call))
         (is_taken (Make call))
@@ -112,9 +112,9 @@ module _ {C R : Type 0} (handler : Calls C) (step : R → FiringCall → R → T
     abbrev Fit : ℕ → ℕ → Type 0
     Fit j d = (d == i) ≡ (j == k)
 
-    does_meets : (x : Step) (s t : Progress R C) (d : Does handler step view x s t) → Owns i k s.names
-        → Gives Fit x (call_of handler step view x s t d)
-        → Meets s t x (call_of handler step view x s t d) (accepted handler step view x s t d)
+    does_meets : (x : Step) (s t : Progress R C) (d : Does handler firing x s t) → Owns i k s.names
+        → Gives Fit x (call_of handler firing x s t d)
+        → Meets s t x (call_of handler firing x s t d) (accepted handler firing x s t d)
     does_meets (steps.Add a) s t (inl (when, starts, lasts, long, (answer, did))) owns gives =
         called_one a.name (Add a.level when s.clock answer) s t (steps.Add a) did owns
         (λ d f. gives d (for_added d a.level when s.clock answer f)) refl
@@ -164,7 +164,7 @@ module _ {C R : Type 0} (handler : Calls C) (step : R → FiringCall → R → T
     polls_pass [] t = refl
     polls_pass (p ∷ polls) t = polls_pass polls t
 
-    polls_own : (polls : List Poll) (s t : Progress R C) → FoldsTo (Polls step view) s polls t → Owns i k s.names
+    polls_own : (polls : List Poll) (s t : Progress R C) → FoldsTo (Polls firing) s polls t → Owns i k s.names
         → Owns i k t.names × (t.clock ≡ s.clock)
     polls_own [] s t e owns =
         (subst (λ (p : Progress R C). Owns i k p.names) e owns, sym (ap (λ (p : Progress R C). p.clock) e))
@@ -174,21 +174,21 @@ module _ {C R : Type 0} (handler : Calls C) (step : R → FiringCall → R → T
         owns (λ d e. subst (λ (q : ℕ). (q == i) ≡ (p.name == k)) e mine)) in
         let (more, clock) = polls_own polls u t rest next in (more, clock ∙ did.clock)
 
-    pub waits_pass : (s t : Progress R C) (w : Waits step view s t) (told : Told)
-        → told_by (events_in i (wait_calls step view s t w)) told ≡ told
+    pub waits_pass : (s t : Progress R C) (w : Waits firing s t) (told : Told)
+        → told_by (events_in i (wait_calls firing s t w)) told ≡ told
     waits_pass s t (polls, u, polled, settles) told = polls_pass polls told
 
-    pub waits_own : (s t : Progress R C) → Waits step view s t → Owns i k s.names → Owns i k t.names × (t.clock ≡ s.clock)
+    pub waits_own : (s t : Progress R C) → Waits firing s t → Owns i k s.names → Owns i k t.names × (t.clock ≡ s.clock)
     waits_own s t (polls, u, polled, settles) owns =
         let (more, clock) = polls_own polls s u polled owns in
         (subst (Owns i k) (sym settles.names) more, settles.clock ∙ clock)
 
-    begins_pass : (b : Bool) (s t : Progress R C) (w : Begins step view b s t) (told : Told)
-        → told_by (events_in i (begin_calls step view b s t w)) told ≡ told
+    begins_pass : (b : Bool) (s t : Progress R C) (w : Begins firing b s t) (told : Told)
+        → told_by (events_in i (begin_calls firing b s t w)) told ≡ told
     begins_pass false s t w told = refl
     begins_pass true s t w told = waits_pass s t w told
 
-    begins_own : (b : Bool) (s t : Progress R C) → Begins step view b s t → Owns i k s.names
+    begins_own : (b : Bool) (s t : Progress R C) → Begins firing b s t → Owns i k s.names
         → Owns i k t.names × (t.clock ≡ s.clock)
     begins_own false s t e owns =
         (subst (λ (p : Progress R C). Owns i k p.names) (sym e) owns, ap (λ (p : Progress R C). p.clock) e)
@@ -197,18 +197,18 @@ module _ {C R : Type 0} (handler : Calls C) (step : R → FiringCall → R → T
     -- ---- all steps
 
     pub steps_same : (s : Progress R C) (xs : List Step) (t : Progress R C)
-        (takes : TakesSteps handler step view s xs t) → Owns i k s.names → AllGive Fit s xs t takes
-        → (told : Told) → told_by (events_in i (steps_calls handler step view s xs t takes)) told
-        ≡ told_by (events_of k s.clock (steps_met handler step view s xs t takes)) told
+        (takes : TakesSteps handler firing s xs t) → Owns i k s.names → AllGive Fit s xs t takes
+        → (told : Told) → told_by (events_in i (steps_calls handler firing s xs t takes)) told
+        ≡ told_by (events_of k s.clock (steps_met handler firing s xs t takes)) told
     steps_same s [] t takes owns gives told = refl
     steps_same s (x ∷ xs) t (u, (v, begins, does), rest) owns (gives, more) told =
         let (owned, clock) = begins_own (waits_first x) s v begins owns in
         let m = does_meets x v u does owned gives in
-        let o = call_of handler step view x v u does in
-        let b = accepted handler step view x v u does in
-        let before = begin_calls step view (waits_first x) s v begins in
-        let later = steps_calls handler step view u xs t rest in
-        let ms = steps_met handler step view u xs t rest in
+        let o = call_of handler firing x v u does in
+        let b = accepted handler firing x v u does in
+        let before = begin_calls firing (waits_first x) s v begins in
+        let later = steps_calls handler firing u xs t rest in
+        let ms = steps_met handler firing u xs t rest in
         let inner : told_by (events_in i (before ++ calls_in o)) told ≡ told_after (event_met i k s.clock x b) told =
         events_more i before (calls_in o) told
         ∙ (ap (λ (q : Told). told_by (events_in i (calls_in o)) q) (begins_pass (waits_first x) s v begins told)

@@ -2,7 +2,7 @@
 use Rattle.std.proofs.Common.{◌≡◌, ◌≢◌, ◌==◌, ◌∙◌, ℕ, ◌+◌, ◌<◌, ◌≤◌, Bool, true, false, cond, List, [], ◌∷◌, Option, Some}
 use Rattle.std.proofs.Common.{None, refl, sym, arith}
 use Rattle.cyc_types.specs.declared.Calls.{Ghosts as Calls}
-use Rattle.cyc_types.specs.Firing.{FiringView, FiringCall}
+use Rattle.cyc_types.specs.declared.Raise.{Ghosts as Raise}
 use Rattle.cyc_thread_calls.proofs.Lists.{eq_true, true_eq, false_ne}
 use Rattle.cyc_thread_calls.proofs.Spots.{same_some, none_some}
 use Rattle.cyc_script.specs.declared.step.Step.{Step}
@@ -66,47 +66,47 @@ module _ (All : (ℕ → ℕ → Type 0) → Type 0)
   step_known true None None own is then e = absurd (none_some e)
   step_known false o None own is then e = absurd (none_some e)
 
-module _ {C R : Type 0} (handler : Calls C) (step : R → FiringCall → R → Type 0) (view : R → FiringView) (i k : ℕ) where
+module _ {C R : Type 0} (handler : Calls C) (firing : Raise R) (i k : ℕ) where
   abbrev Give : (ℕ → ℕ → Type 0) → (s : Progress R C) (xs : List Step) (t : Progress R C)
-      → TakesSteps handler step view s xs t → Type 0
-  Give P s xs t takes = AllGive handler step view P s xs t takes
+      → TakesSteps handler firing s xs t → Type 0
+  Give P s xs t takes = AllGive handler firing P s xs t takes
 
   pub known : (n : ℕ) (s : Progress R C) (xs : List Step) (t : Progress R C)
-      (takes : TakesSteps handler step view s xs t) → names_fit n xs ≡ true
-      → id_in_steps handler step view k s xs t takes ≡ Some i
+      (takes : TakesSteps handler firing s xs t) → names_fit n xs ≡ true
+      → id_in_steps handler firing k s xs t takes ≡ Some i
       → (n ≤ k) × (s.side.system.last < i) × Give (Fit i k) s xs t takes
   known n s [] t takes fits is = absurd (none_some is)
   known n s (steps.Add a ∷ xs) t (u, (v, begins, does), rest) fits is =
       let x = steps.Add a in let ok = and_right (name_fits n x) (names_fit (n + 1) xs) fits in
-      let first = begins_rise handler step view true s v begins in
-      let then = does_rises handler step view x v u does in
-      let g = given (call_of handler step view x v u does) in
-      let later = id_in_steps handler step view k u xs t rest in
+      let first = begins_rise handler firing true s v begins in
+      let then = does_rises handler firing x v u does in
+      let g = given (call_of handler firing x v u does) in
+      let later = id_in_steps handler firing k u xs t rest in
       let own : (d : ℕ) → g ≡ Some d → (a.name ≡ n) × (s.side.system.last < d) × (d ≤ u.side.system.last) = λ d e.
-      (let (next, low, high) = does_gives handler step view n x v u does (and_left (name_fits n x) _ fits) d e in
+      (let (next, low, high) = does_gives handler firing n x v u does (and_left (name_fits n x) _ fits) d e in
       (next, omega (arith, first, low), high)) in
       let (far, low, gives, more) = step_known (λ P. Give P u xs t rest)
-      (λ P Q f. all_more handler step view P Q f u xs t rest) i k n a.name s.side.system.last u.side.system.last
-      g later own (omega (arith, first, then)) (above handler step view (n + 1) u xs t rest ok)
+      (λ P Q f. all_more handler firing P Q f u xs t rest) i k n a.name s.side.system.last u.side.system.last
+      g later own (omega (arith, first, then)) (above handler firing (n + 1) u xs t rest ok)
       (λ e. known (n + 1) u xs t rest ok e) (a.name == k) g later refl refl refl is in
       (far, low, (gives, more))
   known n s (steps.Omni a ∷ xs) t (u, (v, begins, does), rest) fits is =
       let x = steps.Omni a in let ok = and_right (name_fits n x) (names_fit (n + 1) xs) fits in
-      let first = begins_rise handler step view true s v begins in
-      let then = does_rises handler step view x v u does in
-      let g = given (call_of handler step view x v u does) in
-      let later = id_in_steps handler step view k u xs t rest in
+      let first = begins_rise handler firing true s v begins in
+      let then = does_rises handler firing x v u does in
+      let g = given (call_of handler firing x v u does) in
+      let later = id_in_steps handler firing k u xs t rest in
       let own : (d : ℕ) → g ≡ Some d → (a.name ≡ n) × (s.side.system.last < d) × (d ≤ u.side.system.last) = λ d e.
-      (let (next, low, high) = does_gives handler step view n x v u does (and_left (name_fits n x) _ fits) d e in
+      (let (next, low, high) = does_gives handler firing n x v u does (and_left (name_fits n x) _ fits) d e in
       (next, omega (arith, first, low), high)) in
       let (far, low, gives, more) = step_known (λ P. Give P u xs t rest)
-      (λ P Q f. all_more handler step view P Q f u xs t rest) i k n a.name s.side.system.last u.side.system.last
-      g later own (omega (arith, first, then)) (above handler step view (n + 1) u xs t rest ok)
+      (λ P Q f. all_more handler firing P Q f u xs t rest) i k n a.name s.side.system.last u.side.system.last
+      g later own (omega (arith, first, then)) (above handler firing (n + 1) u xs t rest ok)
       (λ e. known (n + 1) u xs t rest ok e) (a.name == k) g later refl refl refl is in
       (far, low, (gives, more))
   known n s (x ∷ xs) t (u, (v, begins, does), rest) fits is =
-      let first = begins_rise handler step view (waits_first x) s v begins in
-      let then = does_rises handler step view x v u does in
+      let first = begins_rise handler firing (waits_first x) s v begins in
+      let then = does_rises handler firing x v u does in
       let (far, low, more) = known n u xs t rest (and_right (name_fits n x) (names_fit n xs) fits)
-      (later_only (id_in_steps handler step view k u xs t rest) i is) in
+      (later_only (id_in_steps handler firing k u xs t rest) i is) in
       (far, omega (arith, first, then, low), (tt, more))

@@ -2,7 +2,7 @@
 use Rattle.std.proofs.Common.{◌≡◌, ◌∙◌, ℕ, List, [], ◌∷◌, ◌++◌, Some, None, replicate, zero, suc, refl, sym, ap, subst}
 use Rattle.std.specs.List.{FoldsTo}
 use Rattle.cyc_types.specs.declared.Calls.{Ghosts as Calls}
-use Rattle.cyc_types.specs.Firing.{FiringView, FiringCall}
+use Rattle.cyc_types.specs.declared.Raise.{Ghosts as Raise}
 use Rattle.cyc_script.specs.declared.step.Step.{Step}
 use Rattle.cyc_script.specs.WellFormed.{IsWellFormed}
 use Rattle.cyc_expected.specs.Course.{Told, untold, told_by}
@@ -29,45 +29,45 @@ nothing_yet zero j = refl
 nothing_yet (suc n) zero = refl
 nothing_yet (suc n) (suc j) = nothing_yet n j
 
-module _ {C R : Type 0} (handler : Calls C) (step : R → FiringCall → R → Type 0) (view : R → FiringView) where
+module _ {C R : Type 0} (handler : Calls C) (firing : Raise R) where
   -- the report is nothing to any cyclic
-  line_passes : (id : ℕ) (named : Named) (line : Line) (s t : Progress R C) (w : TellsOf step view named line s t) (told : Told)
-      → told_by (events_in id (told_calls_of step view named line s t w)) told ≡ told
+  line_passes : (id : ℕ) (named : Named) (line : Line) (s t : Progress R C) (w : TellsOf firing named line s t) (told : Told)
+      → told_by (events_in id (told_calls_of firing named line s t w)) told ≡ told
   line_passes id Nothing line s t w told = refl
   line_passes id (Cyclic own) line s t (answer, did, is) told = refl
   line_passes id (Leaving own) line s t (answer, did, is) told = refl
   line_passes id (Removed receipt) line s t w told = refl
 
-  lines_pass : (id : ℕ) (all : List Reported) (s t : Progress R C) (w : FoldsTo (Tells step view) s all t) (told : Told)
-      → told_by (events_in id (told_calls step view all s t w)) told ≡ told
+  lines_pass : (id : ℕ) (all : List Reported) (s t : Progress R C) (w : FoldsTo (Tells firing) s all t) (told : Told)
+      → told_by (events_in id (told_calls firing all s t w)) told ≡ told
   lines_pass id [] s t w told = refl
   lines_pass id (one ∷ all) s t (u, tells, rest) told =
-      events_more id (told_calls_of step view one.named one.line s u tells) (told_calls step view all u t rest) told
-      ∙ (ap (λ (q : Told). told_by (events_in id (told_calls step view all u t rest)) q)
+      events_more id (told_calls_of firing one.named one.line s u tells) (told_calls firing all u t rest) told
+      ∙ (ap (λ (q : Told). told_by (events_in id (told_calls firing all u t rest)) q)
       (line_passes id one.named one.line s u tells told)
       ∙ lines_pass id all u t rest told)
 
   pub calls_tell : (xs : List Step) (lines : List Line) (s t u : Progress R C) (names name id : ℕ)
-      (runs : Runs handler step view s xs t) (reports : Reports step view lines t u) (told : Told)
+      (runs : Runs handler firing s xs t) (reports : Reports firing lines t u) (told : Told)
       → IsWellFormed xs names → s.names ≡ replicate names Nothing
-      → id_given handler step view name s xs t runs ≡ Some id
-      → told_by (events_in id (all_calls handler step view xs lines s t u runs reports)) told
-      ≡ told_by (events_of name s.clock (way_of handler step view s xs t runs)) told
+      → id_given handler firing name s xs t runs ≡ Some id
+      → told_by (events_in id (all_calls handler firing xs lines s t u runs reports)) told
+      ≡ told_by (events_of name s.clock (way_of handler firing s xs t runs)) told
   calls_tell xs lines s t u names name id (v, takes, waits) reports told good none is =
       let owns : Owns id name s.names = subst (Owns id name) (sym none) (owns_none id name (replicate names Nothing)
       (nothing_yet names)) in
-      let (far, low, gives) = known handler step view id name 0 s xs v takes good.names_in_order is in
-      let first = steps_calls handler step view s xs v takes in
-      let then = wait_calls step view v t waits in
-      let last = report_calls step view lines t u reports in
+      let (far, low, gives) = known handler firing id name 0 s xs v takes good.names_in_order is in
+      let first = steps_calls handler firing s xs v takes in
+      let then = wait_calls firing v t waits in
+      let last = report_calls firing lines t u reports in
       events_more id (first ++ then) last told
       ∙ (lines_pass id reports.all t u reports.tells (told_by (events_in id (first ++ then)) told)
       ∙ (events_more id first then told
-      ∙ (waits_pass handler step view id name v t waits (told_by (events_in id first) told)
-      ∙ steps_same handler step view id name s xs v takes owns gives told)))
+      ∙ (waits_pass handler firing id name v t waits (told_by (events_in id first) told)
+      ∙ steps_same handler firing id name s xs v takes owns gives told)))
 
-  pub unnamed_tells : (xs : List Step) (s t : Progress R C) (cpus name : ℕ) (runs : Runs handler step view s xs t)
-      → id_given handler step view name s xs t runs ≡ None
-      → expected cpus (way_of handler step view s xs t runs) name ≡ 0
+  pub unnamed_tells : (xs : List Step) (s t : Progress R C) (cpus name : ℕ) (runs : Runs handler firing s xs t)
+      → id_given handler firing name s xs t runs ≡ None
+      → expected cpus (way_of handler firing s xs t runs) name ≡ 0
   unnamed_tells xs s t cpus name (v, takes, waits) is =
-      (all_idle handler step view name s xs v takes is 0 (untold cpus) (refl, refl)).1
+      (all_idle handler firing name s xs v takes is 0 (untold cpus) (refl, refl)).1

@@ -2,7 +2,7 @@
 
 ghost use Rattle.std.specs.Prelude.{◌≡◌, ℕ, List, length, Some};
 ghost use Rattle.std.specs.List.{slice_get};
-ghost use Rattle.cyc_ring.specs.Ends.{end_view, RaiseEndCall};
+ghost use Rattle.cyc_ring.specs.Ends.{raise_end};
 ghost use Rattle.cyc_script.specs.declared.script.Script.{Script};
 ghost use Rattle.cyc_thread_calls.specs.Line.{Line};
 ghost use Rattle.cyc_thread_calls.specs.Ended.{Ended};
@@ -25,6 +25,6 @@ pub fn report_law<C: Calls>()
     ensures each { (script : Script) (calls : List C) (e : Ended C) (text : List ℕ)
         (r : HasRun C.Calls script calls e text) (name : ℕ) (line : Line)
         → slice_get r.lines name ≡ Some line → IsReported script.cpus script.ceiling
-        (way_of C.Calls RaiseEndCall end_view r.played.first script.steps.items r.played.last r.played.runs)
+        (way_of C.Calls raise_end r.played.first script.steps.items r.played.last r.played.runs)
         name (counts_of line) }
 {}

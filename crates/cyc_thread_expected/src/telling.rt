@@ -23,14 +23,14 @@ use cyc_types::{Calls, Raise};
 /// It does nothing when it runs: its clauses are the law.
 pub fn telling_law<C: Calls, R: Raise>()
     ensures named { (xs : List Step) (lines : List Line) (s t u : Progress R C) (names name id : ℕ)
-        (runs : Runs C.Calls R.step R.view s xs t) (reports : Reports R.step R.view lines t u) (told : Told)
+        (runs : Runs C.Calls R.Raise s xs t) (reports : Reports R.Raise lines t u) (told : Told)
         → IsWellFormed xs names → s.names ≡ replicate names Nothing
-        → id_given C.Calls R.step R.view name s xs t runs ≡ Some id
-        → told_by (events_in id (all_calls C.Calls R.step R.view xs lines s t u runs reports)) told
-        ≡ told_by (events_of name s.clock (way_of C.Calls R.step R.view s xs t runs)) told }
+        → id_given C.Calls R.Raise name s xs t runs ≡ Some id
+        → told_by (events_in id (all_calls C.Calls R.Raise xs lines s t u runs reports)) told
+        ≡ told_by (events_of name s.clock (way_of C.Calls R.Raise s xs t runs)) told }
     // A name that got no id is expected never to expire.
     ensures unnamed { (xs : List Step) (s t : Progress R C) (cpus name : ℕ)
-        (runs : Runs C.Calls R.step R.view s xs t)
-        → id_given C.Calls R.step R.view name s xs t runs ≡ None
-        → expected cpus (way_of C.Calls R.step R.view s xs t runs) name ≡ 0 }
+        (runs : Runs C.Calls R.Raise s xs t)
+        → id_given C.Calls R.Raise name s xs t runs ≡ None
+        → expected cpus (way_of C.Calls R.Raise s xs t runs) name ≡ 0 }
 {}

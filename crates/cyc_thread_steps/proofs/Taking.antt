@@ -6,7 +6,7 @@ use Rattle.std.specs.List.{FoldsTo}
 use Rattle.std.proofs.lemmas.Bool.Decides.{nat_tests}
 use Rattle.std.proofs.lemmas.List.{take_more, take_all}
 use Rattle.cyc_types.specs.declared.Calls.{Ghosts as Calls}
-use Rattle.cyc_types.specs.Firing.{FiringView, FiringCall}
+use Rattle.cyc_types.specs.declared.Raise.{Ghosts as Raise}
 use Rattle.cyc_types.specs.Series.{never}
 use Rattle.cyc_types.proofs.Runs.{folds_more}
 use Rattle.cyc_script.specs.WellFormed.{moment_fits, moment_after, moments_fit}
@@ -48,35 +48,35 @@ fit_before xs i x low is (now, fit) = before now x (moments_fit_next now xs i x 
 pub fit_next : (xs : List Step) (i : ℕ) (x : Step) → i < length xs → x ≡ get_or xs i x → Fit (drop i xs) → Fit (drop (i + 1) xs)
 fit_next xs i x low is (now, fit) = (moment_after now x, (moments_fit_next now xs i x low is fit).1)
 
-module _ {C R : Type 0} (handler : Calls C) (step : R → FiringCall → R → Type 0) (view : R → FiringView) where
+module _ {C R : Type 0} (handler : Calls C) (firing : Raise R) where
   -- one step more
   pub steps_next : (xs : List Step) (i : ℕ) (x : Step) (s t u : Progress R C) → i < length xs → slice_index_or xs i x ≡ x
-      → TakesSteps handler step view s (take i xs) t → TakesStep handler step view t x u
-      → TakesSteps handler step view s (take (i + 1) xs) u
-  steps_next xs i x s t u low is p q = subst (λ ys. TakesSteps handler step view s ys u) (sym (take_more xs i x low))
-      (subst (λ y. TakesSteps handler step view s (take i xs ++ y ∷ []) u) (sym is)
-      (folds_more (TakesStep handler step view) s (take i xs) t x u p q))
+      → TakesSteps handler firing s (take i xs) t → TakesStep handler firing t x u
+      → TakesSteps handler firing s (take (i + 1) xs) u
+  steps_next xs i x s t u low is p q = subst (λ ys. TakesSteps handler firing s ys u) (sym (take_more xs i x low))
+      (subst (λ y. TakesSteps handler firing s (take i xs ++ y ∷ []) u) (sym is)
+      (folds_more (TakesStep handler firing) s (take i xs) t x u p q))
 
   pub steps_all : (xs : List Step) (i : ℕ) (s t : Progress R C) → length xs ≤ i
-      → TakesSteps handler step view s (take i xs) t
-      → TakesSteps handler step view s xs t
-  steps_all xs i s t far p = subst (λ ys. TakesSteps handler step view s ys t) (take_all i xs far) p
+      → TakesSteps handler firing s (take i xs) t
+      → TakesSteps handler firing s xs t
+  steps_all xs i s t far p = subst (λ ys. TakesSteps handler firing s ys t) (take_all i xs far) p
 
-  pub begun_true : (b : Bool) (s t : Progress R C) → b ≡ true → Waits step view s t → Begins step view b s t
-  begun_true b s t e w = subst (λ x. Begins step view x s t) (sym e) w
+  pub begun_true : (b : Bool) (s t : Progress R C) → b ≡ true → Waits firing s t → Begins firing b s t
+  begun_true b s t e w = subst (λ x. Begins firing x s t) (sym e) w
 
-  pub begun_false : (b : Bool) (s : Progress R C) → b ≡ false → Begins step view b s s
-  begun_false b s e = subst (λ x. Begins step view x s s) (sym e) refl
+  pub begun_false : (b : Bool) (s : Progress R C) → b ≡ false → Begins firing b s s
+  begun_false b s e = subst (λ x. Begins firing x s s) (sym e) refl
 
   -- all steps, and the wait at the end
   pub runs : (xs : List Step) (i : ℕ) (s u t : Progress R C) → length xs ≤ i
-      → TakesSteps handler step view s (take i xs) u
-      → Waits step view u t → Runs handler step view s xs t
+      → TakesSteps handler firing s (take i xs) u
+      → Waits firing u t → Runs handler firing s xs t
   runs xs i s u t far p w = (u, steps_all xs i s u far p, w)
 
   -- the first steps of a script were taken
   pub record Reached (xs : List Step) (i : ℕ) (s t : Progress R C) : Type 0 where
-    pub taken : TakesSteps handler step view s (take i xs) t
+    pub taken : TakesSteps handler firing s (take i xs) t
     pub ready : IsReady t
     pub fit : Fit (drop i xs)
 
@@ -84,10 +84,10 @@ module _ {C R : Type 0} (handler : Calls C) (step : R → FiringCall → R → T
   reached_first xs s fit ready = record { taken = refl; ready = ready; fit = (0, fit) }
 
   pub reached_next : (xs : List Step) (i : ℕ) (x : Step) (s t u : Progress R C) → i < length xs → x ≡ get_or xs i x
-      → Reached xs i s t → TakesStep handler step view t x u → Reached xs (i + 1) s u
+      → Reached xs i s t → TakesStep handler firing t x u → Reached xs (i + 1) s u
   reached_next xs i x s t u low is r d = record {
     taken = steps_next xs i x s t u low (sym is) r.taken d;
-    ready = step_ready handler step view t x u d r.ready;
+    ready = step_ready handler firing t x u d r.ready;
     fit = fit_next xs i x low is r.fit;
   }
 
@@ -95,10 +95,10 @@ module _ {C R : Type 0} (handler : Calls C) (step : R → FiringCall → R → T
       → Reached xs i s t → IsBefore x
   reached_before xs i x s t low is r = fit_before xs i x low is r.fit
 
-  pub reached_runs : (xs : List Step) (i : ℕ) (s t u : Progress R C) → length xs ≤ i → Reached xs i s t → Waits step view t u
-      → Runs handler step view s xs u
+  pub reached_runs : (xs : List Step) (i : ℕ) (s t u : Progress R C) → length xs ≤ i → Reached xs i s t → Waits firing t u
+      → Runs handler firing s xs u
   reached_runs xs i s t u far r w = runs xs i s t u far r.taken w
 
   pub reached_halts : (xs : List Step) (i : ℕ) (x : Step) (s t : Progress R C) (h : Halt) → i < length xs → x ≡ get_or xs i x
-      → Reached xs i s t → StepHalts handler step view x t h → WhyHalted handler step view s xs h
-  reached_halts xs i x s t h low is r q = halts_at handler step view xs i x s t h low (sym is) r.taken q
+      → Reached xs i s t → StepHalts handler firing x t h → WhyHalted handler firing s xs h
+  reached_halts xs i x s t h low is r q = halts_at handler firing xs i x s t h low (sym is) r.taken q

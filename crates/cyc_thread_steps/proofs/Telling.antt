@@ -5,7 +5,7 @@ use Rattle.std.specs.Prelude.{Bool, false, Result, take, slice_index_or}
 use Rattle.std.specs.List.{FoldsTo}
 use Rattle.std.proofs.lemmas.Bool.{cases_lt}
 use Rattle.std.proofs.lemmas.List.{get_or_past, take_more, take_all, map-append}
-use Rattle.cyc_types.specs.Firing.{FiringView, FiringCall}
+use Rattle.cyc_types.specs.declared.Raise.{Ghosts as Raise}
 use Rattle.cyc_types.specs.declared.receipt.Receipt.{Receipt}
 use Rattle.cyc_types.specs.declared.refusal.Refusal.{Refusal}
 use Rattle.cyc_types.proofs.Runs.{folds_more}
@@ -33,34 +33,34 @@ pub none_leaves : (names : List Named) (k : ℕ) → length names ≤ k
     → NoneLeaves names
 none_leaves names k far each name = leaves_by names k name far each (cases_lt name k)
 
-module _ {C R : Type 0} (step : R → FiringCall → R → Type 0) (view : R → FiringView) where
+module _ {C R : Type 0} (firing : Raise R) where
   -- a run of polls, and one more
   abbrev pub Polled : Progress R C → Progress R C → Type 0
-  Polled s t = (polls : List Poll) × FoldsTo (Polls step view) s polls t
+  Polled s t = (polls : List Poll) × FoldsTo (Polls firing) s polls t
 
   pub poll_none : (s : Progress R C) → Polled s s
   poll_none s = ([], refl)
 
   pub poll_next : (s t u : Progress R C) (names : List Named) (name id : ℕ) (answer : Result (Option Receipt) Refusal)
       → Polled s t → names ≡ t.names
-      → named_at t.names name ≡ Leaving id → CallsFor step view name (PollRemove id answer) (record t { names = names }) u
+      → named_at t.names name ≡ Leaving id → CallsFor firing name (PollRemove id answer) (record t { names = names }) u
       → Polled s u
   poll_next s t u names name id answer (polls, run) same here c = let p : Poll = record { name = name; id = id; answer = answer }
       in
-      let d : CallsFor step view name (PollRemove id answer) t u = record {
+      let d : CallsFor firing name (PollRemove id answer) t u = record {
         did = c.did;
         told = c.told ∙ ap (noted name (news (PollRemove id answer))) same;
         leads = c.leads;
         clock = c.clock;
         sound = c.sound;
-      } in (polls ++ p ∷ [], folds_more (Polls step view) s polls t p u run (here, d))
+      } in (polls ++ p ∷ [], folds_more (Polls firing) s polls t p u run (here, d))
 
   -- the wait after the polls
-  pub waited : (s u : Progress R C) (side : SystemSide R C) → Polled s u → OnlyAsked step view u.side side
-      → AllSettled view side.system.cpus.cpus → NoneLeaves u.names → IsSound view side.system
-      → Waits step view s (record { side = side; clock = u.clock; names = u.names })
+  pub waited : (s u : Progress R C) (side : SystemSide R C) → Polled s u → OnlyAsked firing u.side side
+      → AllSettled firing.view side.system.cpus.cpus → NoneLeaves u.names → IsSound firing.view side.system
+      → Waits firing s (record { side = side; clock = u.clock; names = u.names })
   waited s u side (polls, run) asked settled none sound =
-      let q : Settles step view u (record { side = side; clock = u.clock; names = u.names }) = record {
+      let q : Settles firing u (record { side = side; clock = u.clock; names = u.names }) = record {
         asked = asked;
         settled = settled;
         none = none;
@@ -72,7 +72,7 @@ module _ {C R : Type 0} (step : R → FiringCall → R → Type 0) (view : R →
   -- the lines of the first names
   pub record Begun (k : ℕ) (lines : List Line) (s t : Progress R C) : Type 0 where
     pub all : List Told
-    pub tells : FoldsTo (Tells step view) s all t
+    pub tells : FoldsTo (Tells firing) s all t
     pub names : map (λ told. told.named) all ≡ take k s.names
     pub lines_are : map (λ told. told.line) all ≡ lines
     pub same : t.names ≡ s.names
@@ -81,10 +81,10 @@ module _ {C R : Type 0} (step : R → FiringCall → R → Type 0) (view : R →
   none_told s = record { all = []; tells = refl; names = refl; lines_are = refl; same = refl }
 
   pub one_told : (k : ℕ) (lines : List Line) (line : Line) (s t u : Progress R C) → k < length s.names → Begun k lines s t
-      → TellsOf step view (named_at t.names k) line t u → u.names ≡ t.names → Begun (k + 1) (lines ++ line ∷ []) s u
+      → TellsOf firing (named_at t.names k) line t u → u.names ≡ t.names → Begun (k + 1) (lines ++ line ∷ []) s u
   one_told k lines line s t u low b d same = let told : Told = record { named = named_at t.names k; line = line } in record {
     all = b.all ++ told ∷ [];
-    tells = folds_more (Tells step view) s b.all t told u b.tells d;
+    tells = folds_more (Tells firing) s b.all t told u b.tells d;
     names = map-append (λ (w : Told). w.named) b.all (told ∷ []) ∙ ap (λ ns. ns ++ named_at t.names k ∷ []) b.names
         ∙ ap (λ ns. take k s.names ++ named_at ns k ∷ []) b.same ∙ sym (take_more s.names k Nothing low);
     lines_are = map-append (λ (w : Told). w.line) b.all (told ∷ []) ∙ ap (λ ls. ls ++ line ∷ []) b.lines_are;
@@ -92,7 +92,7 @@ module _ {C R : Type 0} (step : R → FiringCall → R → Type 0) (view : R →
   }
 
   pub all_told : (k : ℕ) (lines : List Line) (s t : Progress R C) → length s.names ≤ k → Begun k lines s t
-      → Reports step view lines s t
+      → Reports firing lines s t
   all_told k lines s t far b = record {
     all = b.all;
     tells = b.tells;

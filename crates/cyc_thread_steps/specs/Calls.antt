@@ -2,7 +2,7 @@
 use Rattle.std.specs.Prelude.{◌≡◌, ℕ, ◌<◌, List, length, slice_index_or, Option, Some, None, Result, Ok, Err}
 use Rattle.std.specs.List.{FoldsTo}
 use Rattle.cyc_types.specs.declared.Calls.{Ghosts as Calls}
-use Rattle.cyc_types.specs.Firing.{FiringView, FiringCall}
+use Rattle.cyc_types.specs.declared.Raise.{Ghosts as Raise}
 use Rattle.cyc_types.specs.declared.receipt.Receipt.{Receipt}
 use Rattle.cyc_types.specs.declared.refusal.Refusal.{Refusal}
 use Rattle.cyc_fire.specs.declared.fire.Fired.{Fired}
@@ -23,13 +23,13 @@ abbrev pub IsReady : {C R : Type 0} → Progress R C → Type 0
 IsReady p = length p.side.leads.items ≡ length p.side.system.cpus.cpus
 
 -- the system did this call, for the cyclic of the name of this number, which has what the answer tells; nothing else changed
-pub record CallsFor {C R : Type 0} (step : R → FiringCall → R → Type 0) (view : R → FiringView) (name : ℕ) (call : SystemCall)
+pub record CallsFor {C R : Type 0} (firing : Raise R) (name : ℕ) (call : SystemCall)
     (s t : Progress R C) : Type 0 where
-  pub did : Changes step view s.side.system call t.side.system
+  pub did : Changes firing s.side.system call t.side.system
   pub told : t.names ≡ noted name (news call) s.names
   pub leads : t.side.leads ≡ s.side.leads
   pub clock : t.clock ≡ s.clock
-  pub sound : IsSound view t.side.system
+  pub sound : IsSound firing.view t.side.system
 
 -- a poll of the open removal of a name
 pub record Poll : Type 0 where
@@ -37,22 +37,22 @@ pub record Poll : Type 0 where
   pub id : ℕ
   pub answer : Result (Option Receipt) Refusal
 
-abbrev pub Polls : {C R : Type 0} → (R → FiringCall → R → Type 0) → (R → FiringView) → Progress R C → Poll → Progress R C → Type 0
-Polls step view s p t = (named_at s.names p.name ≡ Leaving p.id) × CallsFor step view p.name (PollRemove p.id p.answer) s t
+abbrev pub Polls : {C R : Type 0} → Raise R → Progress R C → Poll → Progress R C → Type 0
+Polls firing s p t = (named_at s.names p.name ≡ Leaving p.id) × CallsFor firing p.name (PollRemove p.id p.answer) s t
 
 -- every CPU was asked until it had settled, no removal is open, and nothing else was done
-pub record Settles {C R : Type 0} (step : R → FiringCall → R → Type 0) (view : R → FiringView) (s t : Progress R C) : Type 0 where
-  pub asked : OnlyAsked step view s.side t.side
-  pub settled : AllSettled view t.side.system.cpus.cpus
+pub record Settles {C R : Type 0} (firing : Raise R) (s t : Progress R C) : Type 0 where
+  pub asked : OnlyAsked firing s.side t.side
+  pub settled : AllSettled firing.view t.side.system.cpus.cpus
   pub none : NoneLeaves t.names
   pub names : t.names ≡ s.names
   pub clock : t.clock ≡ s.clock
-  pub sound : IsSound view t.side.system
+  pub sound : IsSound firing.view t.side.system
 
 -- open removals were polled until each had answered, and then the CPUs settled
-abbrev pub Waits : {C R : Type 0} → (R → FiringCall → R → Type 0) → (R → FiringView) → Progress R C → Progress R C → Type 0
-Waits {C} {R} step view s t =
-    (polls : List Poll) × (u : Progress R C) × FoldsTo (Polls step view) s polls u × Settles step view u t
+abbrev pub Waits : {C R : Type 0} → Raise R → Progress R C → Progress R C → Type 0
+Waits {C} {R} firing s t =
+    (polls : List Poll) × (u : Progress R C) × FoldsTo (Polls firing) s polls u × Settles firing u t
 
 -- why the fire of a CPU was refused: it was not, or the CPU is not online and did not fire
 abbrev pub refusal_of : Option (Result Fired FireRefused) → Option Refusal
@@ -71,11 +71,11 @@ pub record IsFirstRefused (answers : List (Option (Result Fired FireRefused))) (
 
 -- all online CPUs fired at this moment, each in a thread of its own, and none was refused; the clock stands at it
 pub record Fires {C R : Type 0} (handler : Calls C)
-    (step : R → FiringCall → R → Type 0) (view : R → FiringView) (now : ℕ) (s t : Progress R C) : Type 0 where
+    (firing : Raise R) (now : ℕ) (s t : Progress R C) : Type 0 where
   pub after : Advanced R C
-  pub fired : AllFire handler step view now s.side after
+  pub fired : AllFire handler firing now s.side after
   pub side : t.side ≡ after.side
   pub accepted : (n : ℕ) → refusal_at after.answers.items n ≡ None
   pub names : t.names ≡ s.names
   pub clock : t.clock ≡ now
-  pub sound : IsSound view t.side.system
+  pub sound : IsSound firing.view t.side.system

@@ -1,7 +1,7 @@
 -- What is reported of each name.
 use Rattle.std.specs.Prelude.{◌≡◌, ℕ, List, map, Option, Some, None}
 use Rattle.std.specs.List.{FoldsTo}
-use Rattle.cyc_types.specs.Firing.{FiringView, FiringCall}
+use Rattle.cyc_types.specs.declared.Raise.{Ghosts as Raise}
 use Rattle.cyc_types.specs.declared.receipt.Receipt.{Receipt}
 use Rattle.cyc_system_counts.specs.SystemTotals.{SystemTotals}
 use Rattle.cyc_system_workers.specs.Calls.{AskTotals}
@@ -30,26 +30,26 @@ pub record Told : Type 0 where
   pub line : Line
 
 -- the system is asked for the totals of a cyclic that is here, and for nothing else
-abbrev pub Asks : {C R : Type 0} → (R → FiringCall → R → Type 0) → (R → FiringView)
+abbrev pub Asks : {C R : Type 0} → Raise R
     → ℕ → Line → Progress R C → Progress R C → Type 0
-Asks step view id line s t =
-    (answer : Option SystemTotals) × CallsFor step view 0 (AskTotals id answer) s t × (line ≡ totals_line answer)
+Asks firing id line s t =
+    (answer : Option SystemTotals) × CallsFor firing 0 (AskTotals id answer) s t × (line ≡ totals_line answer)
 
 -- the line of what a name has: its cyclic's totals, or what the receipt of its removal has
-abbrev pub TellsOf : {C R : Type 0} → (R → FiringCall → R → Type 0) → (R → FiringView)
+abbrev pub TellsOf : {C R : Type 0} → Raise R
     → Named → Line → Progress R C → Progress R C → Type 0
-TellsOf step view Nothing line s t = (line ≡ no_line) × (t ≡ s)
-TellsOf step view (Cyclic id) line s t = Asks step view id line s t
-TellsOf step view (Leaving id) line s t = Asks step view id line s t
-TellsOf step view (Removed receipt) line s t = (line ≡ receipt_line receipt) × (t ≡ s)
+TellsOf firing Nothing line s t = (line ≡ no_line) × (t ≡ s)
+TellsOf firing (Cyclic id) line s t = Asks firing id line s t
+TellsOf firing (Leaving id) line s t = Asks firing id line s t
+TellsOf firing (Removed receipt) line s t = (line ≡ receipt_line receipt) × (t ≡ s)
 
-abbrev pub Tells : {C R : Type 0} → (R → FiringCall → R → Type 0) → (R → FiringView) → Progress R C → Told → Progress R C → Type 0
-Tells step view s told t = TellsOf step view told.named told.line s t
+abbrev pub Tells : {C R : Type 0} → Raise R → Progress R C → Told → Progress R C → Type 0
+Tells firing s told t = TellsOf firing told.named told.line s t
 
 -- a line for each name, in order
-pub record Reports {C R : Type 0} (step : R → FiringCall → R → Type 0) (view : R → FiringView) (lines : List Line)
+pub record Reports {C R : Type 0} (firing : Raise R) (lines : List Line)
     (s t : Progress R C) : Type 0 where
   pub all : List Told
-  pub tells : FoldsTo (Tells step view) s all t
+  pub tells : FoldsTo (Tells firing) s all t
   pub names : map (λ told. told.named) all ≡ s.names
   pub lines_are : map (λ told. told.line) all ≡ lines

@@ -2,7 +2,7 @@
 use Rattle.std.specs.Prelude.{◌≡◌, ℕ, ◌<◌, ◌⊎◌, ⊤, List, length, take, slice_index_or}
 use Rattle.std.specs.List.{FoldsTo}
 use Rattle.cyc_types.specs.declared.Calls.{Ghosts as Calls}
-use Rattle.cyc_types.specs.Firing.{FiringView, FiringCall}
+use Rattle.cyc_types.specs.declared.Raise.{Ghosts as Raise}
 use Rattle.cyc_types.specs.Series.{never}
 use Rattle.cyc_types.specs.declared.refusal.Refusal.TheVariants.{Memory}
 use Rattle.cyc_script.specs.declared.step.Step.{Step}
@@ -29,41 +29,41 @@ IsTold may_refuse (halt.Refused e) = ⊥
 
 -- the steps, one after another
 abbrev pub TakesSteps : {C R : Type 0} → Calls C
-    → (R → FiringCall → R → Type 0) → (R → FiringView) → Progress R C → List Step → Progress R C → Type 0
-TakesSteps handler step view s all t = FoldsTo (TakesStep handler step view) s all t
+    → Raise R → Progress R C → List Step → Progress R C → Type 0
+TakesSteps handler firing s all t = FoldsTo (TakesStep handler firing) s all t
 
 -- all of them, and then the wait until nothing is outstanding
 abbrev pub Runs : {C R : Type 0} → Calls C
-    → (R → FiringCall → R → Type 0) → (R → FiringView) → Progress R C → List Step → Progress R C → Type 0
-Runs {C} {R} handler step view s all t =
-    (u : Progress R C) × TakesSteps handler step view s all u × Waits step view u t
+    → Raise R → Progress R C → List Step → Progress R C → Type 0
+Runs {C} {R} handler firing s all t =
+    (u : Progress R C) × TakesSteps handler firing s all u × Waits firing u t
 
 -- why an `advance` to this moment ends a run: memory for it was refused, or the fire of a CPU was, and that of none
 -- with a smaller number
 abbrev pub AdvanceHalts : {C R : Type 0} → Calls C
-    → (R → FiringCall → R → Type 0) → (R → FiringView) → ℕ → Progress R C → Halt → Type 0
-AdvanceHalts {C} {R} handler step view now s (halt.Fired n why) = (after : Advanced R C)
-    × AllFire handler step view now s.side after × IsFirstRefused after.answers.items n why
-AdvanceHalts handler step view now s (halt.Refused e) = e ≡ Memory
-AdvanceHalts handler step view now s (halt.Told id) = ⊥
+    → Raise R → ℕ → Progress R C → Halt → Type 0
+AdvanceHalts {C} {R} handler firing now s (halt.Fired n why) = (after : Advanced R C)
+    × AllFire handler firing now s.side after × IsFirstRefused after.answers.items n why
+AdvanceHalts handler firing now s (halt.Refused e) = e ≡ Memory
+AdvanceHalts handler firing now s (halt.Told id) = ⊥
 
 -- why one step ended a run: it is an `advance` that does; or the handler of a draining thread refused, which may
 abbrev pub StepHalts : {C R : Type 0} → Calls C
-    → (R → FiringCall → R → Type 0) → (R → FiringView) → Step → Progress R C → Halt → Type 0
-StepHalts handler step view x s h = IsTold handler.may_refuse h
-    ⊎ ((now : ℕ) × (x ≡ steps.Advance now) × AdvanceHalts handler step view now s h)
+    → Raise R → Step → Progress R C → Halt → Type 0
+StepHalts handler firing x s h = IsTold handler.may_refuse h
+    ⊎ ((now : ℕ) × (x ≡ steps.Advance now) × AdvanceHalts handler firing now s h)
 
 -- a step ended a run, after those before it were taken
 pub record IsHalted {C R : Type 0} (handler : Calls C)
-    (step : R → FiringCall → R → Type 0) (view : R → FiringView) (s : Progress R C) (all : List Step) (h : Halt) : Type 0 where
+    (firing : Raise R) (s : Progress R C) (all : List Step) (h : Halt) : Type 0 where
   pub place : ℕ
   pub last : Step
   pub here : (place < length all) × (slice_index_or all place last ≡ last)
   pub before : Progress R C
-  pub taken : TakesSteps handler step view s (take place all) before
-  pub halts : StepHalts handler step view last before h
+  pub taken : TakesSteps handler firing s (take place all) before
+  pub halts : StepHalts handler firing last before h
 
 -- why the steps ended early: the handler of a draining thread refused, which may; or one of them ended the run
 abbrev pub WhyHalted : {C R : Type 0} → Calls C
-    → (R → FiringCall → R → Type 0) → (R → FiringView) → Progress R C → List Step → Halt → Type 0
-WhyHalted handler step view s all h = IsTold handler.may_refuse h ⊎ IsHalted handler step view s all h
+    → Raise R → Progress R C → List Step → Halt → Type 0
+WhyHalted handler firing s all h = IsTold handler.may_refuse h ⊎ IsHalted handler firing s all h

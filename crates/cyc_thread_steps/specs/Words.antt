@@ -1,7 +1,7 @@
 -- What each word of a script is in a run in threads: at most one call of the system, with the parameters of the step.
 use Rattle.std.specs.Prelude.{◌≡◌, ℕ, ◌<◌, ◌⊎◌, ℤ, pos, ◌<ℤ◌, Bool, true, false, Option, Some, None, Result}
 use Rattle.cyc_types.specs.declared.Calls.{Ghosts as Calls}
-use Rattle.cyc_types.specs.Firing.{FiringView, FiringCall}
+use Rattle.cyc_types.specs.declared.Raise.{Ghosts as Raise}
 use Rattle.cyc_types.specs.declared.moment.When.{When}
 use Rattle.cyc_types.specs.declared.refusal.JuggleReport.{JuggleReport}
 use Rattle.cyc_types.specs.declared.refusal.Refusal.{Refusal}
@@ -37,28 +37,28 @@ reprograms (Some n) id moment answer = ReprogramOn id n moment answer
 -- The call that a step makes, at the clock, and its answer. A `softint` makes none: other threads drain the levels. The answer to
 -- a call for a CPU tells no name anything, so none is meant by the 0.
 abbrev pub Does : {C R : Type 0} → Calls C
-    → (R → FiringCall → R → Type 0) → (R → FiringView) → Step → Progress R C → Progress R C → Type 0
-Does handler step view (steps.Add a) s t = WithSeries a.start a.interval
-    (λ when. (answer : Result ℕ Refusal) × CallsFor step view a.name (Add a.level when s.clock answer) s t) (t ≡ s)
-Does handler step view (steps.Omni a) s t = WithSeries a.start a.interval
-    (λ when. (answer : Result ℕ Refusal) × CallsFor step view a.name (AddOmni a.level when a.skew s.clock answer) s t) (t ≡ s)
-Does handler step view (steps.Bind b) s t = WithId (id_of (named_at s.names b.name))
-    (λ id. (answer : Result (Unit {0}) Refusal) × CallsFor step view b.name (Bind id (Some b.cpu) answer) s t) (t ≡ s)
-Does handler step view (steps.Unbind name) s t = WithId (id_of (named_at s.names name))
-    (λ id. (answer : Result (Unit {0}) Refusal) × CallsFor step view name (Bind id None answer) s t) (t ≡ s)
-Does handler step view (steps.Reprogram r) s t = WithMoment r.moment (λ moment. WithId (id_of (named_at s.names r.name))
+    → Raise R → Step → Progress R C → Progress R C → Type 0
+Does handler firing (steps.Add a) s t = WithSeries a.start a.interval
+    (λ when. (answer : Result ℕ Refusal) × CallsFor firing a.name (Add a.level when s.clock answer) s t) (t ≡ s)
+Does handler firing (steps.Omni a) s t = WithSeries a.start a.interval
+    (λ when. (answer : Result ℕ Refusal) × CallsFor firing a.name (AddOmni a.level when a.skew s.clock answer) s t) (t ≡ s)
+Does handler firing (steps.Bind b) s t = WithId (id_of (named_at s.names b.name))
+    (λ id. (answer : Result (Unit {0}) Refusal) × CallsFor firing b.name (Bind id (Some b.cpu) answer) s t) (t ≡ s)
+Does handler firing (steps.Unbind name) s t = WithId (id_of (named_at s.names name))
+    (λ id. (answer : Result (Unit {0}) Refusal) × CallsFor firing name (Bind id None answer) s t) (t ≡ s)
+Does handler firing (steps.Reprogram r) s t = WithMoment r.moment (λ moment. WithId (id_of (named_at s.names r.name))
     (λ id. (answer : Result (Unit {0}) Refusal)
-    × CallsFor step view r.name (reprograms r.cpu id moment answer) s t) (t ≡ s)) (t ≡ s)
-Does handler step view (steps.Remove name) s t = WithId (id_of (named_at s.names name))
-    (λ id. (answer : Result SystemRemoval Refusal) × CallsFor step view name (BeginRemove id answer) s t) (t ≡ s)
-Does handler step view (steps.Advance now) s t = Fires handler step view now s t
-Does handler step view (steps.Softint i) s t = t ≡ s
-Does handler step view (steps.Juggle n) s t =
-    (answer : Result JuggleReport Refusal) × CallsFor step view 0 (Juggle n answer) s t
-Does handler step view (steps.Offline n) s t =
-    (answer : Result (Unit {0}) Refusal) × CallsFor step view 0 (Offline n answer) s t
-Does handler step view (steps.Online n) s t =
-    (answer : Result (Unit {0}) Refusal) × CallsFor step view 0 (Online n s.clock answer) s t
+    × CallsFor firing r.name (reprograms r.cpu id moment answer) s t) (t ≡ s)) (t ≡ s)
+Does handler firing (steps.Remove name) s t = WithId (id_of (named_at s.names name))
+    (λ id. (answer : Result SystemRemoval Refusal) × CallsFor firing name (BeginRemove id answer) s t) (t ≡ s)
+Does handler firing (steps.Advance now) s t = Fires handler firing now s t
+Does handler firing (steps.Softint i) s t = t ≡ s
+Does handler firing (steps.Juggle n) s t =
+    (answer : Result JuggleReport Refusal) × CallsFor firing 0 (Juggle n answer) s t
+Does handler firing (steps.Offline n) s t =
+    (answer : Result (Unit {0}) Refusal) × CallsFor firing 0 (Offline n answer) s t
+Does handler firing (steps.Online n) s t =
+    (answer : Result (Unit {0}) Refusal) × CallsFor firing 0 (Online n s.clock answer) s t
 
 -- every word but `advance` and `remove` waits first until no removal is open and all CPUs have settled
 abbrev pub waits_first : Step → Bool
@@ -67,13 +67,13 @@ waits_first (steps.Remove name) = false
 waits_first x = true
 
 -- what comes before the call of a step, which may have to wait
-abbrev pub Begins : {C R : Type 0} → (R → FiringCall → R → Type 0) → (R → FiringView)
+abbrev pub Begins : {C R : Type 0} → Raise R
     → Bool → Progress R C → Progress R C → Type 0
-Begins step view false s t = t ≡ s
-Begins step view true s t = Waits step view s t
+Begins firing false s t = t ≡ s
+Begins firing true s t = Waits firing s t
 
 -- one step of a script
 abbrev pub TakesStep : {C R : Type 0} → Calls C
-    → (R → FiringCall → R → Type 0) → (R → FiringView) → Progress R C → Step → Progress R C → Type 0
-TakesStep {C} {R} handler step view s x t =
-    (u : Progress R C) × Begins step view (waits_first x) s u × Does handler step view x u t
+    → Raise R → Progress R C → Step → Progress R C → Type 0
+TakesStep {C} {R} handler firing s x t =
+    (u : Progress R C) × Begins firing (waits_first x) s u × Does handler firing x u t

@@ -23,7 +23,7 @@ fn series_of(added: &Add) -> Option<When>
 
 /// The word `add`: adds a cyclic at the clock, and gives the name its id.
 pub(crate) fn add<R: Raise, C: Calls>(progress: Progress<R, C>, added: &Add) -> Progress<R, C>
-    ensures { Does C.Calls R.step R.view (steps.Add added.now) progress result }
+    ensures { Does C.Calls R.Raise (steps.Add added.now) progress result }
 {
     let Some(when) = series_of(added) else {
         return progress;
@@ -51,7 +51,7 @@ fn series_everywhere(added: &Omni) -> Option<When>
 
 /// The word `omni`: adds an omnipresent cyclic at the clock, and gives the name its id.
 pub(crate) fn add_omni<R: Raise, C: Calls>(progress: Progress<R, C>, added: &Omni) -> Progress<R, C>
-    ensures { Does C.Calls R.step R.view (steps.Omni added.now) progress result }
+    ensures { Does C.Calls R.Raise (steps.Omni added.now) progress result }
 {
     let Some(when) = series_everywhere(added) else {
         return progress;

@@ -69,8 +69,8 @@ pub(crate) fn advance_clock<W: Threads + Wait, R: Raise + Send + Drop, C: Calls 
 ) -> Result<Progress<R, C>, Halt>
     requires before { nanoseconds < never }
     requires ready { IsReady progress }
-    ensures fired { IfOk result (λ after. Fires C.Calls R.step R.view nanoseconds progress after) }
-    ensures halted { IfErr result (λ h. AdvanceHalts C.Calls R.step R.view nanoseconds progress h) }
+    ensures fired { IfOk result (λ after. Fires C.Calls R.Raise nanoseconds progress after) }
+    ensures halted { IfErr result (λ h. AdvanceHalts C.Calls R.Raise nanoseconds progress h) }
 {
     let now = moment_of(nanoseconds);
     let Progress {

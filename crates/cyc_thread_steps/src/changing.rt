@@ -27,7 +27,7 @@ pub(crate) fn id_of(named: Named) -> Option<CyclicId>
 
 /// The word `bind`.
 pub(crate) fn bind<R: Raise, C: Calls>(progress: Progress<R, C>, bound: &Bind) -> Progress<R, C>
-    ensures { Does C.Calls R.step R.view (steps.Bind bound.now) progress result }
+    ensures { Does C.Calls R.Raise (steps.Bind bound.now) progress result }
 {
     let Some(id) = id_of(progress.names.at(bound.name.number())) else {
         return progress;
@@ -40,7 +40,7 @@ pub(crate) fn bind<R: Raise, C: Calls>(progress: Progress<R, C>, bound: &Bind) -
 
 /// The word `unbind`.
 pub(crate) fn unbind<R: Raise, C: Calls>(progress: Progress<R, C>, name: Name) -> Progress<R, C>
-    ensures { Does C.Calls R.step R.view (steps.Unbind name) progress result }
+    ensures { Does C.Calls R.Raise (steps.Unbind name) progress result }
 {
     let Some(id) = id_of(progress.names.at(name.number())) else {
         return progress;
@@ -58,7 +58,7 @@ fn reprogram_at<R: Raise>(
     cpu: Option<u32>,
     moment: Moment,
 ) -> Result<(), Refusal>
-    ensures { Changes R.step R.view system.old (reprograms cpu id moment result) system.new }
+    ensures { Changes R.Raise system.old (reprograms cpu id moment result) system.new }
 {
     match cpu {
         Some(number) => system.reprogram_on(id, number, moment),
@@ -71,7 +71,7 @@ pub(crate) fn reprogram<R: Raise, C: Calls>(
     progress: Progress<R, C>,
     reprogram: &Reprogram,
 ) -> Progress<R, C>
-    ensures { Does C.Calls R.step R.view (steps.Reprogram reprogram.now) progress result }
+    ensures { Does C.Calls R.Raise (steps.Reprogram reprogram.now) progress result }
 {
     let Ok(moment) = Moment::new(reprogram.moment) else {
         return progress;
@@ -87,7 +87,7 @@ pub(crate) fn reprogram<R: Raise, C: Calls>(
 
 /// The word `juggle`.
 pub(crate) fn juggle<R: Raise, C: Calls>(progress: Progress<R, C>, cpu: u32) -> Progress<R, C>
-    ensures { Does C.Calls R.step R.view (steps.Juggle cpu) progress result }
+    ensures { Does C.Calls R.Raise (steps.Juggle cpu) progress result }
 {
     let mut progress = progress;
     let _answer = progress.side.system.juggle(cpu);
@@ -97,7 +97,7 @@ pub(crate) fn juggle<R: Raise, C: Calls>(progress: Progress<R, C>, cpu: u32) -> 
 
 /// The word `offline`.
 pub(crate) fn offline<R: Raise, C: Calls>(progress: Progress<R, C>, cpu: u32) -> Progress<R, C>
-    ensures { Does C.Calls R.step R.view (steps.Offline cpu) progress result }
+    ensures { Does C.Calls R.Raise (steps.Offline cpu) progress result }
 {
     let mut progress = progress;
     let _answer = progress.side.system.offline(cpu);
@@ -107,7 +107,7 @@ pub(crate) fn offline<R: Raise, C: Calls>(progress: Progress<R, C>, cpu: u32) ->
 
 /// The word `online`: the CPU takes part again from the clock on.
 pub(crate) fn online<R: Raise, C: Calls>(progress: Progress<R, C>, cpu: u32) -> Progress<R, C>
-    ensures { Does C.Calls R.step R.view (steps.Online cpu) progress result }
+    ensures { Does C.Calls R.Raise (steps.Online cpu) progress result }
 {
     let mut progress = progress;
     let _answer = progress.side.system.online(cpu, progress.clock);

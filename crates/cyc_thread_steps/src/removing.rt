@@ -27,7 +27,7 @@ fn note(names: &mut Names, name: usize, id: CyclicId, answer: Result<SystemRemov
 
 /// The word `remove`: begins the removal of a name's cyclic, and wakes the draining workers, which make the calls that it keeps.
 pub(crate) fn remove<R: Raise, C: Calls>(progress: Progress<R, C>, name: Name) -> Progress<R, C>
-    ensures { Does C.Calls R.step R.view (steps.Remove name) progress result }
+    ensures { Does C.Calls R.Raise (steps.Remove name) progress result }
 {
     let place = name.number();
     let Some(id) = id_of(progress.names.at(place)) else {

@@ -53,7 +53,7 @@ fn receipt_line(receipt: Receipt) -> Line
 
 /// Asks for the totals of a cyclic.
 fn ask<R: Raise, C>(progress: &mut Progress<R, C>, id: CyclicId) -> Line
-    ensures did { Asks R.step R.view id result progress.old progress.new }
+    ensures did { Asks R.Raise id result progress.old progress.new }
     ensures names { progress.new.names ≡ progress.old.names }
 {
     let answer = progress.side.system.totals(id);
@@ -63,7 +63,7 @@ fn ask<R: Raise, C>(progress: &mut Progress<R, C>, id: CyclicId) -> Line
 
 /// The line of the name of this number.
 fn line_of<R: Raise, C>(progress: &mut Progress<R, C>, name: usize) -> Line
-    ensures did { TellsOf R.step R.view (named_at progress.old.names name) result progress.old progress.new }
+    ensures did { TellsOf R.Raise (named_at progress.old.names name) result progress.old progress.new }
     ensures names { progress.new.names ≡ progress.old.names }
 {
     match progress.names.at(name) {
@@ -82,7 +82,7 @@ pub fn report<R: Raise, C>(
     alloc: Global,
     progress: &mut Progress<R, C>,
 ) -> Result<Vec<Line>, AllocError>
-    ensures lines { IfOk result (λ lines. Reports R.step R.view lines.items progress.old progress.new) }
+    ensures lines { IfOk result (λ lines. Reports R.Raise lines.items progress.old progress.new) }
     ensures settled { AllSettled R.view progress.old.side.system.cpus.cpus
         → AllSettled R.view progress.new.side.system.cpus.cpus }
     ensures quiet { AllSettled R.view progress.old.side.system.cpus.cpus

@@ -41,7 +41,7 @@ fn begin_step<W: Wait, R: Raise + Drop, C: Calls + Drop>(
     signals: &Signals<C>,
 ) -> Result<Progress<R, C>, Halt>
     requires { IsReady progress }
-    ensures begun { IfOk result (λ after. Begins R.step R.view (waits_first step.now) progress after) }
+    ensures begun { IfOk result (λ after. Begins R.Raise (waits_first step.now) progress after) }
     ensures halted { IfErr result (λ h. IsTold C.may_refuse h) }
 {
     if !waits_first(step) {
@@ -60,8 +60,8 @@ fn do_step<W: Threads + Wait, R: Raise + Send + Drop, C: Calls + Send + Drop>(
 ) -> Result<Progress<R, C>, Halt>
     requires ready { IsReady progress }
     requires before { IsBefore step.now }
-    ensures did { IfOk result (λ after. Does C.Calls R.step R.view step.now progress after) }
-    ensures halted { IfErr result (λ h. StepHalts C.Calls R.step R.view step.now progress h) }
+    ensures did { IfOk result (λ after. Does C.Calls R.Raise step.now progress after) }
+    ensures halted { IfErr result (λ h. StepHalts C.Calls R.Raise step.now progress h) }
 {
     match step {
         Step::Add(added) => Ok(add(progress, added)),
@@ -91,8 +91,8 @@ fn take_step<W: Threads + Wait + Sync, R: Raise + Send + Drop, C: Calls + Send +
 ) -> Result<Progress<R, C>, Halt>
     requires ready { IsReady progress }
     requires before { IsBefore step.now }
-    ensures taken { IfOk result (λ after. TakesStep C.Calls R.step R.view progress step.now after) }
-    ensures halted { IfErr result (λ h. StepHalts C.Calls R.step R.view step.now progress h) }
+    ensures taken { IfOk result (λ after. TakesStep C.Calls R.Raise progress step.now after) }
+    ensures halted { IfErr result (λ h. StepHalts C.Calls R.Raise step.now progress h) }
 {
     let begun = begin_step(rt, progress, step, signals)?;
     let after = do_step(rt, alloc, begun, step)?;
@@ -117,8 +117,8 @@ pub fn take_steps<W: Threads + Wait + Sync, R: Raise + Send + Drop, C: Calls + S
     signals: &Signals<C>,
 ) -> Result<Progress<R, C>, Halt>
     requires { IsReady progress }
-    ensures ran { IfOk result (λ after. Runs C.Calls R.step R.view progress script.now.steps.items after) }
-    ensures halted { IfErr result (λ h. WhyHalted C.Calls R.step R.view progress script.now.steps.items h) }
+    ensures ran { IfOk result (λ after. Runs C.Calls R.Raise progress script.now.steps.items after) }
+    ensures halted { IfErr result (λ h. WhyHalted C.Calls R.Raise progress script.now.steps.items h) }
 {
     let mut progress = progress;
     for place in 0..script.steps.len() {

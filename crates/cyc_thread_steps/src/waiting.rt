@@ -28,7 +28,7 @@ pub(crate) fn wake_all<C>(leads: &[Lead<C>]) {
 /// Polls the open removal of a name once.
 fn poll<R: Raise, C>(progress: &mut Progress<R, C>, leaving: (usize, CyclicId))
     ensures { (answer : Result (Option Receipt) Refusal)
-        × CallsFor R.step R.view leaving.0 (PollRemove leaving.1 answer) progress.old progress.new }
+        × CallsFor R.Raise leaving.0 (PollRemove leaving.1 answer) progress.old progress.new }
 {
     let answer = progress.side.system.poll_remove(leaving.1);
     sound(&progress.side.system);
@@ -45,7 +45,7 @@ fn poll_all<W: Wait, R: Raise, C: Calls>(
     progress: &mut Progress<R, C>,
     signals: &Signals<C>,
 ) -> Option<CyclicId>
-    ensures polled { (polls : List Poll) × FoldsTo (Polls R.step R.view) progress.old polls progress.new }
+    ensures polled { (polls : List Poll) × FoldsTo (Polls R.Raise) progress.old polls progress.new }
     ensures none { IfNone result (NoneLeaves progress.new.names) }
     ensures refused { IfSome result (λ id. CanRefuse C.may_refuse id) }
 {
@@ -70,7 +70,7 @@ pub(crate) fn wait<W: Wait, R: Raise + Drop, C: Calls + Drop>(
     signals: &Signals<C>,
 ) -> Result<Progress<R, C>, Halt>
     requires { IsReady progress }
-    ensures waited { IfOk result (λ after. Waits R.step R.view progress after) }
+    ensures waited { IfOk result (λ after. Waits R.Raise progress after) }
     ensures halted { IfErr result (λ h. IsTold C.may_refuse h) }
 {
     let mut progress = progress;

@@ -3,7 +3,7 @@ use Rattle.std.proofs.Common.{◌≡◌, ℕ, inl, inr, List, [], ◌∷◌, Opt
 use Rattle.std.specs.Prelude.{ℤ, Bool, true, false}
 use Rattle.std.specs.List.{FoldsTo}
 use Rattle.cyc_types.specs.declared.Calls.{Ghosts as Calls}
-use Rattle.cyc_types.specs.Firing.{FiringView, FiringCall}
+use Rattle.cyc_types.specs.declared.Raise.{Ghosts as Raise}
 use Rattle.cyc_types.specs.declared.moment.When.{When}
 use Rattle.cyc_script.specs.declared.step.Step.{Step}
 use Rattle.cyc_script.specs.declared.step.Step.TheVariants as steps
@@ -32,27 +32,27 @@ with_id (Some id) P Q N p go stop = go id p
 with_id None P Q N n go stop = stop n
 
 module _ {C R : Type 0} (handler : Calls C)
-    (step : R → FiringCall → R → Type 0) (view : R → FiringView) (K : Progress R C → Progress R C → Type 0)
+    (firing : Raise R) (K : Progress R C → Progress R C → Type 0)
     (same : (s : Progress R C) → K s s) (joined : (s t u : Progress R C) → K s t → K t u → K s u)
-    (calls : (name : ℕ) (call : SystemCall) (s t : Progress R C) → CallsFor step view name call s t → K s t)
-    (settles : (s t : Progress R C) → Settles step view s t → K s t)
-    (fires : (now : ℕ) (s t : Progress R C) → Fires handler step view now s t → K s t) where
+    (calls : (name : ℕ) (call : SystemCall) (s t : Progress R C) → CallsFor firing name call s t → K s t)
+    (settles : (s t : Progress R C) → Settles firing s t → K s t)
+    (fires : (now : ℕ) (s t : Progress R C) → Fires handler firing now s t → K s t) where
   is_same : (s t : Progress R C) → t ≡ s → K s t
   is_same s t e = subst (λ (x : Progress R C). K s x) (sym e) (same s)
 
-  polls_all : (polls : List Poll) (s t : Progress R C) → FoldsTo (Polls step view) s polls t → K s t
+  polls_all : (polls : List Poll) (s t : Progress R C) → FoldsTo (Polls firing) s polls t → K s t
   polls_all [] s t e = is_same s t (sym e)
   polls_all (p ∷ polls) s t (u, d, rest) =
       joined s u t (calls p.name (PollRemove p.id p.answer) s u d.1) (polls_all polls u t rest)
 
-  waits_all : (s t : Progress R C) → Waits step view s t → K s t
+  waits_all : (s t : Progress R C) → Waits firing s t → K s t
   waits_all s t (polls, u, p, q) = joined s u t (polls_all polls s u p) (settles u t q)
 
-  begins_all : (b : Bool) (s t : Progress R C) → Begins step view b s t → K s t
+  begins_all : (b : Bool) (s t : Progress R C) → Begins firing b s t → K s t
   begins_all true s t w = waits_all s t w
   begins_all false s t e = is_same s t e
 
-  does_all : (x : Step) (s t : Progress R C) → Does handler step view x s t → K s t
+  does_all : (x : Step) (s t : Progress R C) → Does handler firing x s t → K s t
   does_all (steps.Add a) s t d = with_series a.start a.interval _ (K s t) (t ≡ s) d (λ when p. calls a.name _ s t p.1)
       (is_same s t)
   does_all (steps.Omni a) s t d = with_series a.start a.interval _ (K s t) (t ≡ s) d (λ when p. calls a.name _ s t p.1)
@@ -72,26 +72,26 @@ module _ {C R : Type 0} (handler : Calls C)
   does_all (steps.Offline n) s t d = calls 0 _ s t d.1
   does_all (steps.Online n) s t d = calls 0 _ s t d.1
 
-  steps_all : (all : List Step) (s t : Progress R C) → TakesSteps handler step view s all t → K s t
+  steps_all : (all : List Step) (s t : Progress R C) → TakesSteps handler firing s all t → K s t
   steps_all [] s t e = is_same s t (sym e)
   steps_all (x ∷ all) s t (u, d, rest) =
       joined s u t (joined s d.0 u (begins_all (waits_first x) s d.0 d.1) (does_all x d.0 u d.2)) (steps_all all u t rest)
 
-  pub runs_all : (all : List Step) (s t : Progress R C) → Runs handler step view s all t → K s t
+  pub runs_all : (all : List Step) (s t : Progress R C) → Runs handler firing s all t → K s t
   runs_all all s t (u, p, q) = joined s u t (steps_all all s u p) (waits_all u t q)
 
-  tells_one : (told : Told) (s t : Progress R C) → Tells step view s told t → K s t
+  tells_one : (told : Told) (s t : Progress R C) → Tells firing s told t → K s t
   tells_one told s t d = by told.named told.line d
     where
-      by : (n : Named) (line : Line) → TellsOf step view n line s t → K s t
+      by : (n : Named) (line : Line) → TellsOf firing n line s t → K s t
       by Nothing line (e, is) = is_same s t is
       by (Cyclic id) line (answer, c, e) = calls 0 _ s t c
       by (Leaving id) line (answer, c, e) = calls 0 _ s t c
       by (Removed receipt) line (e, is) = is_same s t is
 
-  tells_all : (all : List Told) (s t : Progress R C) → FoldsTo (Tells step view) s all t → K s t
+  tells_all : (all : List Told) (s t : Progress R C) → FoldsTo (Tells firing) s all t → K s t
   tells_all [] s t e = is_same s t (sym e)
   tells_all (told ∷ all) s t (u, d, rest) = joined s u t (tells_one told s u d) (tells_all all u t rest)
 
-  pub reports_all : (lines : List Line) (s t : Progress R C) → Reports step view lines s t → K s t
+  pub reports_all : (lines : List Line) (s t : Progress R C) → Reports firing lines s t → K s t
   reports_all lines s t r = tells_all r.all s t r.tells

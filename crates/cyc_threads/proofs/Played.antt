@@ -7,7 +7,7 @@ use Rattle.cyc_types.specs.declared.refusal.Refusal.{Refusal}
 use Rattle.cyc_ring.specs.declared.ring.Ring.{Ring}
 use Rattle.cyc_ring.specs.declared.ends.RaiseEnd.{RaiseEnd}
 use Rattle.cyc_ring.specs.declared.ends.DrainEnd.{DrainEnd}
-use Rattle.cyc_ring.specs.Ends.{end_view, end_made, RaiseEndCall, DrainEndCall}
+use Rattle.cyc_ring.specs.Ends.{raise_end, end_view, end_made, DrainEndCall}
 use Rattle.cyc_cpu.specs.Cpu.{IsFresh}
 use Rattle.cyc_workers.specs.declared.settling.Lead.{Lead}
 use Rattle.cyc_script_machine.specs.Cpus.{CpusView, new_cpu, new_cpus}
@@ -85,7 +85,7 @@ begins names all att ends first e is high cpus records last clock named = record
 module _ {C : Type 0} (handler : Calls C) where
   pub not_played : (script : Script) (all : List (Seated C)) (first : Progress RaiseEnd C) (e : Refusal)
       → IsAtFirst (length script.names.items) all first →
-      WhyRefused handler RaiseEndCall end_view script.steps.items first e
+      WhyRefused handler raise_end script.steps.items first e
       → WhyNotPlayed handler script all e
   not_played script all first e b (inl m) = inl m
   not_played script all first e b (inr (inl h)) = inr (inl h)
@@ -94,7 +94,7 @@ module _ {C : Type 0} (handler : Calls C) where
   module _ (script : Script) (all : List (Seated C)) (att : List (Attached C)) (first : Progress RaiseEnd C)
       (sides : List (Levels (SoftSide DrainEnd C)))
       (worked : Worked RaiseEnd DrainEnd C) (is : sides ≡ map (λ a. a.soft) att)
-      (w : HasWorked handler RaiseEndCall end_view DrainEndCall end_made script.steps.items first sides worked)
+      (w : HasWorked handler raise_end DrainEndCall end_made script.steps.items first sides worked)
       (well : IsWell first) where
     pub kept : Keeps first worked.lead
     kept = runs_keep handler script.steps.items first worked.lead w.runs well
@@ -110,7 +110,7 @@ module _ {C : Type 0} (handler : Calls C) where
         ∙ sym (same_long first.side.system.cpus.cpus worked.lead.side.system.cpus.cpus kept.seats)
 
     module _ (k : ℕ) (after : List (Seated C)) (lines : List Line) (told : Progress RaiseEnd C)
-        (reports : Reports RaiseEndCall end_view lines worked.lead told)
+        (reports : Reports raise_end lines worked.lead told)
         (ends : IsAtLast after told) (left : map soft_seats after ≡ map soft_seats_on worked.soft.items)
         (attached : EachTwo IsAttached all att) where
       made : EachTwo (HaveMade DrainEndCall end_made handler.called handler.count) (map (λ a. a.soft) att) worked.soft.items
@@ -145,7 +145,7 @@ module _ {C : Type 0} (handler : Calls C) where
 
     -- the seats and the lines that are left
     abbrev Left : Played C → Type 0
-    Left p = (told : Progress RaiseEnd C) × Reports RaiseEndCall end_view p.lines.items worked.lead told
+    Left p = (told : Progress RaiseEnd C) × Reports raise_end p.lines.items worked.lead told
         × IsAtLast p.all.items told
 
     abbrev Same : Played C → Type 0

@@ -2,7 +2,7 @@
 use Rattle.std.proofs.Common.{ℕ, List, sym, ap, subst, ◌∙◌, length}
 use Rattle.cyc_types.specs.declared.Calls.{Ghosts as Calls}
 use Rattle.cyc_ring.specs.declared.ends.RaiseEnd.{RaiseEnd}
-use Rattle.cyc_ring.specs.Ends.{end_view, RaiseEndCall}
+use Rattle.cyc_ring.specs.Ends.{raise_end, end_view}
 use Rattle.cyc_script.specs.declared.step.Step.{Step}
 use Rattle.cyc_thread_steps.specs.SystemCalls.{SystemCall}
 use Rattle.cyc_thread_steps.specs.SystemSide.{SystemSide}
@@ -41,7 +41,7 @@ module _ {C : Type 0} (handler : Calls C) where
             b.seats;
       }
 
-  keeps_calls : (name : ℕ) (call : SystemCall) (s t : Progress RaiseEnd C) → CallsFor RaiseEndCall end_view name call s t
+  keeps_calls : (name : ℕ) (call : SystemCall) (s t : Progress RaiseEnd C) → CallsFor raise_end name call s t
       → KeepsWell s t
   keeps_calls name call s t c w = let seats = called_all s.side.system t.side.system call c.did in record {
     well = record {
@@ -52,13 +52,13 @@ module _ {C : Type 0} (handler : Calls C) where
     seats = seats;
   }
 
-  keeps_settles : (s t : Progress RaiseEnd C) → Settles RaiseEndCall end_view s t → KeepsWell s t
+  keeps_settles : (s t : Progress RaiseEnd C) → Settles raise_end s t → KeepsWell s t
   keeps_settles s t c w = record {
     well = record { ready = ap (λ (l : _). length l.items) c.asked.leads ∙ w.ready ∙ sym c.asked.cpus.long; sound = c.sound };
     seats = asked_all s.side.system.cpus.cpus t.side.system.cpus.cpus c.asked.cpus;
   }
 
-  keeps_fires : (now : ℕ) (s t : Progress RaiseEnd C) → Fires handler RaiseEndCall end_view now s t → KeepsWell s t
+  keeps_fires : (now : ℕ) (s t : Progress RaiseEnd C) → Fires handler raise_end now s t → KeepsWell s t
   keeps_fires now s t f w = record {
     well = record {
       ready = ap (λ (z : SystemSide RaiseEnd C). length z.leads.items) f.side ∙ f.fired.long_leads ∙ w.ready
@@ -69,8 +69,8 @@ module _ {C : Type 0} (handler : Calls C) where
         (fired_all handler now s.side f.after w.sound.agrees.long w.ready f.fired);
   }
 
-  pub runs_keep : (all : List Step) (s t : Progress RaiseEnd C) → Runs handler RaiseEndCall end_view s all t → KeepsWell s t
-  runs_keep = runs_all handler RaiseEndCall end_view KeepsWell keeps_same keeps_joined keeps_calls keeps_settles keeps_fires
+  pub runs_keep : (all : List Step) (s t : Progress RaiseEnd C) → Runs handler raise_end s all t → KeepsWell s t
+  runs_keep = runs_all handler raise_end KeepsWell keeps_same keeps_joined keeps_calls keeps_settles keeps_fires
 
-  pub reports_keep : (lines : List Line) (s t : Progress RaiseEnd C) → Reports RaiseEndCall end_view lines s t → KeepsWell s t
-  reports_keep = reports_all handler RaiseEndCall end_view KeepsWell keeps_same keeps_joined keeps_calls keeps_settles keeps_fires
+  pub reports_keep : (lines : List Line) (s t : Progress RaiseEnd C) → Reports raise_end lines s t → KeepsWell s t
+  reports_keep = reports_all handler raise_end KeepsWell keeps_same keeps_joined keeps_calls keeps_settles keeps_fires

@@ -6,8 +6,8 @@ use mathlib.Core.Bool.{true≢false}
 use Rattle.std.specs.declared.thread.PromisedHandle.{PromisedHandle}
 use Rattle.std.proofs.lemmas.Result.{IfOk-at_ok}
 use Rattle.cyc_types.specs.declared.Calls.{Ghosts as Calls}
+use Rattle.cyc_types.specs.declared.Raise.{Ghosts as Raise}
 use Rattle.cyc_types.specs.Draining.{DrainCall}
-use Rattle.cyc_types.specs.Firing.{FiringView, FiringCall}
 use Rattle.cyc_types.specs.Levels.{at_level}
 use Rattle.cyc_types.specs.declared.level.Level.{Level}
 use Rattle.cyc_types.specs.declared.level.Level.TheVariants.{Low, Lock}
@@ -144,12 +144,12 @@ module _ {C D : Type 0} (handler : Calls C)
       by_fire then (inr q) = by_lock then (split_level d.lock.refused (of_level d.low.refused ++ rest) e q)
 
 module _ {C R D : Type 0} (handler : Calls C)
-    (step : R → FiringCall → R → Type 0) (view : R → FiringView) (soft_step : D → DrainCall → D → Type 0) (held : D → Option ℕ)
+    (firing : Raise R) (soft_step : D → DrainCall → D → Type 0) (held : D → Option ℕ)
     (made : D → ℕ → ℕ)
     (steps : List Step) (a : Progress R C) (sides : List (Levels (SoftSide D C))) (ds : List (Levels (Drained D C)))
     (drained : EachTwo (HaveDrained soft_step held made handler) sides ds) where
   abbrev Why : Refusal → Type 0
-  Why = WhyRefused handler step view steps a
+  Why = WhyRefused handler firing steps a
 
   of_soft : (fire : Option Fire) (e : Refusal) → first_in (refusals_from 0 fire ds) ≡ Some e → HandlerRefuses handler.may_refuse e
       ⊎ IsFires fire e
@@ -160,38 +160,38 @@ module _ {C R D : Type 0} (handler : Calls C)
   no_fire e (inl h) = inr (inl h)
   no_fire e (inr (f, is, why)) = absurd (some_none (sym is))
 
-  told_why : (id : ℕ) → WhyHalted handler step view a steps (halt.Told id) → HandlerRefuses handler.may_refuse (HandlerRefused id)
+  told_why : (id : ℕ) → WhyHalted handler firing a steps (halt.Told id) → HandlerRefuses handler.may_refuse (HandlerRefused id)
   told_why id (inl can) = (id, refl, can)
   told_why id (inr h) = by h.halts
     where
-      by : StepHalts handler step view h.last h.before (halt.Told id) → HandlerRefuses handler.may_refuse (HandlerRefused id)
+      by : StepHalts handler firing h.last h.before (halt.Told id) → HandlerRefuses handler.may_refuse (HandlerRefused id)
       by (inl can) = (id, refl, can)
       by (inr (now, is, none)) = absurd none
 
-  memory_why : (x : Refusal) → WhyHalted handler step view a steps (halt.Refused x) → x ≡ Memory
+  memory_why : (x : Refusal) → WhyHalted handler firing a steps (halt.Refused x) → x ≡ Memory
   memory_why x (inl none) = absurd none
   memory_why x (inr h) = by h.halts
     where
-      by : StepHalts handler step view h.last h.before (halt.Refused x) → x ≡ Memory
+      by : StepHalts handler firing h.last h.before (halt.Refused x) → x ≡ Memory
       by (inl none) = absurd none
       by (inr (now, is, m)) = m
 
-  fired_why : (n : ℕ) (why : Refusal) → WhyHalted handler step view a steps (halt.Fired n why)
-      → IsHalted handler step view a steps (halt.Fired n why)
+  fired_why : (n : ℕ) (why : Refusal) → WhyHalted handler firing a steps (halt.Fired n why)
+      → IsHalted handler firing a steps (halt.Fired n why)
   fired_why n why (inl none) = absurd none
   fired_why n why (inr h) = h
 
-  by_fire : (n : ℕ) (why e : Refusal) → WhyHalted handler step view a steps (halt.Fired n why) →
+  by_fire : (n : ℕ) (why e : Refusal) → WhyHalted handler firing a steps (halt.Fired n why) →
       HandlerRefuses handler.may_refuse e ⊎ IsFires (Some (record { cpu = n; why = why })) e → Why e
   by_fire n why e w (inl h) = inr (inl h)
   by_fire n why e w (inr (f, is, same)) = inr (inr (
     n,
-    subst (λ (x : Refusal). IsHalted handler step view a steps (halt.Fired n x))
+    subst (λ (x : Refusal). IsHalted handler firing a steps (halt.Fired n x))
         (sym (same ∙ ap (λ (g : Fire). g.why) (sym (same_some is)))) (fired_why n why w),
   ))
 
   why_refused : {A : Type 0} (taken : Result A Halt) (e : Refusal)
-      → IfErr taken (λ h. WhyHalted handler step view a steps h) →
+      → IfErr taken (λ h. WhyHalted handler firing a steps h) →
       refusal_of taken ds ≡ Some e → Why e
   why_refused (Ok x) e w is = no_fire e (of_soft None e is)
   why_refused (Err (halt.Refused x)) e w is = inl (sym (same_some is) ∙ memory_why x w)
@@ -212,14 +212,14 @@ module _ {C R D : Type 0} (handler : Calls C)
 
   -- what all workers answer
   pub works_all : (taken : Result (Progress R C) Halt) (answer : Result (Worked R D C) Refusal) →
-      IfOk taken (λ t. Runs handler step view a steps t)
-      → IfErr taken (λ h. WhyHalted handler step view a steps h) →
+      IfOk taken (λ t. Runs handler firing a steps t)
+      → IfErr taken (λ h. WhyHalted handler firing a steps h) →
       IfOk answer (λ w. refusal_of taken ds ≡ None) → IfOk answer (λ w. taken ≡ Ok w.lead)
       → IfOk answer (λ w. w.soft.items ≡ map both_sides ds) →
       IfErr answer (λ e. (e ≡ Memory) ⊎ (refusal_of taken ds ≡ Some e))
-      → Works handler step view soft_step made steps a sides answer
+      → Works handler firing soft_step made steps a sides answer
   works_all taken (Ok w) r h none lead left why = record {
-    runs = IfOk-at_ok (λ t. Runs handler step view a steps t) lead r;
+    runs = IfOk-at_ok (λ t. Runs handler firing a steps t) lead r;
     makes = subst (λ (x : List (Levels (SoftSide D C))). EachTwo (HaveMade soft_step made handler.called handler.count) sides x)
         (sym left) (makes_all handler soft_step held made 0 sides ds drained
         (subst (λ (x : Result (Progress R C) Halt). refusal_of x ds ≡ None) lead none));

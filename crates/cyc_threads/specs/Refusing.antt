@@ -4,7 +4,7 @@ use Rattle.cyc_types.specs.declared.Calls.{Ghosts as Calls}
 use Rattle.cyc_types.specs.declared.refusal.Refusal.{Refusal}
 use Rattle.cyc_types.specs.declared.refusal.Refusal.TheVariants.{Memory}
 use Rattle.cyc_ring.specs.declared.ends.RaiseEnd.{RaiseEnd}
-use Rattle.cyc_ring.specs.Ends.{end_view, RaiseEndCall}
+use Rattle.cyc_ring.specs.Ends.{raise_end}
 use Rattle.cyc_script.specs.declared.script.Script.{Script}
 use Rattle.cyc_script_machine.specs.declared.fault.RunFault.{RunFault}
 use Rattle.cyc_script_machine.specs.declared.fault.RunFault.TheVariants as run_fault
@@ -23,7 +23,7 @@ pub record FireRefuses {C : Type 0} (handler : Calls C) (script : Script) (befor
   pub first : Progress RaiseEnd C
   pub cpu : ℕ
   pub begins : IsAtFirst (length script.names.items) before first
-  pub halted : IsHalted handler RaiseEndCall end_view first script.steps.items (halt.Fired cpu e)
+  pub halted : IsHalted handler raise_end first script.steps.items (halt.Fired cpu e)
 
 -- memory or a thread was refused; or a handler of a soft level refused, which may; or a fire was
 abbrev pub WhyNotPlayed : {C : Type 0} → Calls C → Script → List (Seated C) → Refusal → Type 0

@@ -6,7 +6,7 @@ use Rattle.cyc_types.specs.declared.level.Level.{Level}
 use Rattle.cyc_types.specs.declared.level.Level.TheVariants.{Low, Lock}
 use Rattle.cyc_ring.specs.declared.ends.RaiseEnd.{RaiseEnd}
 use Rattle.cyc_ring.specs.declared.closed.Closed.{Closed}
-use Rattle.cyc_ring.specs.Ends.{end_view, RaiseEndCall, seat_made}
+use Rattle.cyc_ring.specs.Ends.{raise_end, seat_made}
 use Rattle.cyc_script_machine.specs.Cpus.{new_cpus}
 use Rattle.cyc_script.specs.declared.script.Script.{Script}
 use Rattle.cyc_workers.specs.Serving.{HasServed}
@@ -61,8 +61,8 @@ pub record HasPlayed {C : Type 0} (handler : Calls C)
   pub last : Progress RaiseEnd C
   pub told : Progress RaiseEnd C
   pub begins : IsAtFirst (length script.names.items) before first
-  pub runs : Runs handler RaiseEndCall end_view first script.steps.items last
-  pub reports : Reports RaiseEndCall end_view lines last told
+  pub runs : Runs handler raise_end first script.steps.items last
+  pub reports : Reports raise_end lines last told
   -- the firing sides and the high handlers at last are those that are left
   pub ends : IsAtLast after told
   -- so are the soft sides and their handlers

@@ -1,8 +1,8 @@
 -- What all workers of a run do together.
 use Rattle.std.specs.Prelude.{◌≡◌, ℕ, ◌⊎◌, List, Option, Some, None, Result, Ok, Err, unwrap_or}
 use Rattle.cyc_types.specs.declared.Calls.{Ghosts as Calls}
+use Rattle.cyc_types.specs.declared.Raise.{Ghosts as Raise}
 use Rattle.cyc_types.specs.Draining.{DrainCall}
-use Rattle.cyc_types.specs.Firing.{FiringView, FiringCall}
 use Rattle.cyc_types.specs.Levels.{at_level}
 use Rattle.cyc_types.specs.declared.level.Level.{Level}
 use Rattle.cyc_types.specs.declared.level.Level.TheVariants.{Low, Lock}
@@ -42,21 +42,21 @@ HaveMade step made called count s t = Makes step made (at_level called Lock) cou
 
 -- the lead took the steps, and each CPU has settled; the draining workers made the calls of their soft sides
 pub record HasWorked {C R D : Type 0} (handler : Calls C)
-    (step : R → FiringCall → R → Type 0) (view : R → FiringView) (soft_step : D → DrainCall → D → Type 0) (made : D → ℕ → ℕ)
+    (firing : Raise R) (soft_step : D → DrainCall → D → Type 0) (made : D → ℕ → ℕ)
     (steps : List Step) (a : Progress R C) (sides : List (Levels (SoftSide D C))) (b : Worked R D C) : Type 0 where
-  pub runs : Runs handler step view a steps b.lead
+  pub runs : Runs handler firing a steps b.lead
   pub makes : EachTwo (HaveMade soft_step made handler.called handler.count) sides b.soft.items
 
 -- why the workers were refused: memory or a thread was, or a fire, or a handler of a soft level
 abbrev pub WhyRefused : {C R : Type 0} → Calls C
-    → (R → FiringCall → R → Type 0) → (R → FiringView) → List Step → Progress R C → Refusal → Type 0
-WhyRefused handler step view steps a e =
-    (e ≡ Memory) ⊎ (HandlerRefuses handler.may_refuse e ⊎ ((n : ℕ) × IsHalted handler step view a steps (halt.Fired n e)))
+    → Raise R → List Step → Progress R C → Refusal → Type 0
+WhyRefused handler firing steps a e =
+    (e ≡ Memory) ⊎ (HandlerRefuses handler.may_refuse e ⊎ ((n : ℕ) × IsHalted handler firing a steps (halt.Fired n e)))
 
 abbrev pub Works : {C R D : Type 0} → Calls C
-    → (R → FiringCall → R → Type 0) → (R → FiringView) → (D → DrainCall → D → Type 0) → (D → ℕ → ℕ)
+    → Raise R → (D → DrainCall → D → Type 0) → (D → ℕ → ℕ)
     → List Step → Progress R C → List (Levels (SoftSide D C)) → Result (Worked R D C) Refusal → Type 0
-Works handler step view soft_step made steps a sides (Ok b) =
-    HasWorked handler step view soft_step made steps a sides b
-Works handler step view soft_step made steps a sides (Err e) =
-    WhyRefused handler step view steps a e
+Works handler firing soft_step made steps a sides (Ok b) =
+    HasWorked handler firing soft_step made steps a sides b
+Works handler firing soft_step made steps a sides (Err e) =
+    WhyRefused handler firing steps a e

@@ -5,7 +5,7 @@ ghost use Rattle.std.specs.Io.KnownBytes.{Appends};
 ghost use Rattle.cyc_types.specs.declared.refusal.Refusal.TheVariants.{Memory};
 ghost use Rattle.cyc_script_machine.specs.Status.{is_write};
 ghost use Rattle.cyc_ring.specs.declared.ends.RaiseEnd.{RaiseEnd as FiringEnd};
-ghost use Rattle.cyc_ring.specs.Ends.{end_view, RaiseEndCall};
+ghost use Rattle.cyc_ring.specs.Ends.{raise_end, end_view};
 ghost use Rattle.cyc_thread_rings.specs.Laid.{EachTwo};
 ghost use Rattle.cyc_thread_rings.specs.Rings.{AreSeated, AreNew, soft_seats, soft_seats_on};
 ghost use Rattle.cyc_thread_steps.specs.declared.progress.Progress.{Progress as OneProgress};
@@ -57,7 +57,7 @@ fn leave_rings<'a, C: Calls + Drop>(
     requires sound { IsSound end_view worked.lead.side.system }
     requires soft { length worked.soft.items ≡ length worked.lead.side.system.cpus.cpus }
     ensures left { IfOk result (λ p. (told : OneProgress FiringEnd _)
-        × Reports RaiseEndCall end_view p.lines.items worked.entry.lead told × IsAtLast p.all.items told) }
+        × Reports raise_end p.lines.items worked.entry.lead told × IsAtLast p.all.items told) }
     ensures soft { IfOk result (λ p. map soft_seats p.all.items ≡ map soft_seats_on worked.entry.soft.items) }
     ensures refused { IfErr result (λ e. e ≡ Memory) }
 {

@@ -1,6 +1,7 @@
 -- What becomes of a stay over a run in which no stay of its id begins or ends: it goes on, with the raises and losses of the run.
 use Rattle.std.proofs.Common.{◌≡◌, ℕ, ◌+◌, eqb, cond, Bool, true, false, List, [], ◌∷◌, refl, sym, ap, subst, ◌∙◌, arith}
 use Rattle.std.specs.Prelude.{Option, Some, None}
+use Rattle.cyc_types.specs.declared.firing.Raise.{Ghosts as Raise}
 use Rattle.cyc_types.specs.Firing.{FiringView, FiringCall, Admits, Loads, Raises, Marks, Polls, Expands, Looks, Learns, Stay}
 use Rattle.cyc_types.specs.Firing.{edited, edit_stay}
 use Rattle.cyc_types.specs.Runs.{Goes, raises_of, losses_of, stay_changes_of, raised_by, lost_by, turned_by}
@@ -69,12 +70,12 @@ learns_stay id v w (Looks answer) s l e here =
     subst (λ (x : FiringView). GoesOn s 0 0 (x.stays id)) (sym l.1) (s, here, refl, omega arith, omega arith)
 
 -- a whole run
-pub goes_stay : {R : Type 0} (step : R → FiringCall → R → Type 0) (view : R → FiringView) (id : ℕ) (e f : R)
+pub goes_stay : {R : Type 0} (firing : Raise R) (id : ℕ) (e f : R)
     (way : List FiringCall) (s : Stay) →
-    Goes step view e way f → turned_by id way ≡ 0 → (view e).stays id ≡ Some s
-    → GoesOn s (raised_by id way) (lost_by id way) ((view f).stays id)
-goes_stay step view id e f [] s g none here = (s, ap (λ x. (view x).stays id) (sym g) ∙ here, refl, omega arith, omega arith)
-goes_stay step view id e f (call ∷ way) s (mid, taught, rest) none here =
-    let one = learns_stay id (view e) (view mid) call s taught.1 (omega (arith, none)) here in
-    let more = goes_stay step view id mid f way one.0 rest (omega (arith, none)) one.1 in
+    Goes firing e way f → turned_by id way ≡ 0 → (firing.view e).stays id ≡ Some s
+    → GoesOn s (raised_by id way) (lost_by id way) ((firing.view f).stays id)
+goes_stay firing id e f [] s g none here = (s, ap (λ x. (firing.view x).stays id) (sym g) ∙ here, refl, omega arith, omega arith)
+goes_stay firing id e f (call ∷ way) s (mid, taught, rest) none here =
+    let one = learns_stay id (firing.view e) (firing.view mid) call s taught.1 (omega (arith, none)) here in
+    let more = goes_stay firing id mid f way one.0 rest (omega (arith, none)) one.1 in
     (more.0, more.1, more.2 ∙ one.2, omega (arith, more.3, one.3), omega (arith, more.4, one.4))

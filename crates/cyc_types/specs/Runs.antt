@@ -4,16 +4,17 @@ use Rattle.std.specs.Prelude.{ℕ, ◌+◌, List, [], ◌∷◌, Some, None}
 use Rattle.std.specs.List.{FoldsTo}
 use Rattle.cyc_types.specs.Counting.{times, one_at}
 use Rattle.cyc_types.specs.Draining.{DrainCall, Takes, Finishes}
-use Rattle.cyc_types.specs.Firing.{FiringView, FiringCall, Admits, Loads, Raises, Marks, Polls, Expands, Looks, Learns}
+use Rattle.cyc_types.specs.declared.firing.Raise.{Ghosts as Raise}
+use Rattle.cyc_types.specs.Firing.{FiringCall, Admits, Loads, Raises, Marks, Polls, Expands, Looks, Learns}
 use Rattle.cyc_types.specs.declared.firing.Raised.TheVariants.{First, More, Lost}
 
 -- one call of the firing side was made, and taught the holder what it teaches
-abbrev pub Taught : {R : Type 0} → (R → FiringCall → R → Type 0) → (R → FiringView) → R → FiringCall → R → Type 0
-Taught step view e call f = step e call f × Learns (view e) call (view f)
+abbrev pub Taught : {R : Type 0} → Raise R → R → FiringCall → R → Type 0
+Taught firing e call f = firing.step e call f × Learns (firing.view e) call (firing.view f)
 
 -- these calls of the firing side, in order, led from the one value to the other
-abbrev pub Goes : {R : Type 0} → (R → FiringCall → R → Type 0) → (R → FiringView) → R → List FiringCall → R → Type 0
-Goes step view e way f = FoldsTo (Taught step view) e way f
+abbrev pub Goes : {R : Type 0} → Raise R → R → List FiringCall → R → Type 0
+Goes firing e way f = FoldsTo (Taught firing) e way f
 
 -- one where the call is a raise of the id
 abbrev pub raises_of : ℕ → FiringCall → ℕ

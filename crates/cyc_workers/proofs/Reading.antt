@@ -1,7 +1,7 @@
 -- The counts of a cyclic are asked for.
 use Rattle.std.proofs.Common.{ℕ, Some, refl}
 use Rattle.cyc_types.specs.declared.Calls.{Ghosts as Calls}
-use Rattle.cyc_types.specs.Firing.{FiringView, FiringCall}
+use Rattle.cyc_types.specs.declared.Raise.{Ghosts as Raise}
 use Rattle.cyc_cpu.specs.declared.hard.Totals.{Totals}
 use Rattle.cyc_cpu.specs.Cpu.{CpuView, running}
 use Rattle.cyc_cpu.specs.Moving.{IsSettled}
@@ -10,8 +10,8 @@ use Rattle.cyc_cpu_laws.proofs.Staying.{settled_one}
 
 -- a CPU that has settled stays so
 pub totals_settled : {C R : Type 0} (handler : Calls C)
-    (step : R → FiringCall → R → Type 0) (view : R → FiringView) (c : C) (v w : CpuView R) (id : ℕ) (t : Totals)
-    → IsSettled view v → Changes step view v (AskTotals id (Some t)) w → IsSettled view w
-totals_settled handler step view c v w id t s a = settled_one step view handler no_interrupts
+    (firing : Raise R) (c : C) (v w : CpuView R) (id : ℕ) (t : Totals)
+    → IsSettled firing.view v → Changes firing v (AskTotals id (Some t)) w → IsSettled firing.view w
+totals_settled handler firing c v w id t s a = settled_one firing handler no_interrupts
     (λ soft budget answer s t h. absurd h) (λ soft budget answer s t h k. absurd h)
     (running c v) (running c w) (AskTotals id (Some t)) s tt a.0.kept.size (a, refl)

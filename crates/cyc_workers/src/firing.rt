@@ -31,7 +31,7 @@ pub fn fire<R: Raise, C: Calls>(
     now: Moment,
     wakers: &Wakers,
 ) -> AfterFire<R, C>
-    ensures { Steps C.Calls R.step R.view no_interrupts (running side.calls side.hard)
+    ensures { Steps C.Calls R.Raise no_interrupts (running side.calls side.hard)
         (Fire now result.answer) (running result.calls result.hard) }
 {
     let FiringSide {

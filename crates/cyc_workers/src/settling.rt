@@ -17,7 +17,7 @@ use std::sync::{Arc, Wait};
 use std::thread;
 
 fn ask<R: Raise>(hard: &mut Hard<R>) -> bool
-    ensures { Asks R.step R.view hard.old result hard.new }
+    ensures { Asks R.Raise hard.old result hard.new }
 {
     let answer = hard.settled();
     hard.law();
@@ -34,7 +34,7 @@ pub fn settle<W: Wait, R: Raise, C: Calls>(
     wakers: &Wakers,
     signals: &Signals<C>,
 ) -> Option<CyclicId>
-    ensures asked { Settles R.step R.view hard.old hard.new }
+    ensures asked { Settles R.Raise hard.old hard.new }
     ensures settled { IfNone result (IsSettled R.view hard.new) }
     ensures refused { IfSome result (λ id. CanRefuse C.may_refuse id) }
 {
@@ -67,7 +67,7 @@ fn settle_at<W: Wait, R: Raise, C: Calls>(
     signals: &Signals<C>,
 ) -> Option<CyclicId>
     requires { place < length all.old.items }
-    ensures asked { AsksAt R.step R.view place all.old.items all.new.items }
+    ensures asked { AsksAt R.Raise place all.old.items all.new.items }
     ensures settled { IfNone result ((y : CpuView _) → slice_get all.new.items place ≡ Some y → IsSettled R.view y) }
     ensures refused { IfSome result (λ id. CanRefuse C.may_refuse id) }
 {
@@ -85,7 +85,7 @@ pub fn settle_all<W: Wait, R: Raise, C: Calls>(
     signals: &Signals<C>,
 ) -> Option<CyclicId>
     requires { length leads.now ≡ length all.old.items }
-    ensures asked { AllAsked R.step R.view all.old.items all.new.items }
+    ensures asked { AllAsked R.Raise all.old.items all.new.items }
     ensures settled { IfNone result (AllSettled R.view all.new.items) }
     ensures refused { IfSome result (λ id. CanRefuse C.may_refuse id) }
 {

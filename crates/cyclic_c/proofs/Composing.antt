@@ -3,7 +3,8 @@ use Rattle.std.proofs.Common.{◌≡◌, ℕ, ◌+◌, ◌==◌, Bool, true, fal
 use Rattle.std.proofs.Common.{◌∙◌, arith}
 use Rattle.std.proofs.lemmas.List.{map-append}
 use Rattle.std.proofs.lemmas.List.Elements.{filter-append}
-use Rattle.cyc_types.specs.Firing.{FiringView, FiringCall}
+use Rattle.cyc_types.specs.declared.Raise.{Ghosts as Raise}
+use Rattle.cyc_types.specs.Firing.{FiringCall}
 use Rattle.cyc_types.specs.declared.level.Level.{Level}
 use Rattle.cyc_types.specs.declared.level.Level.TheVariants.{Low, Lock, High}
 use Rattle.cyc_types.proofs.Runs.{lost_on}
@@ -95,15 +96,14 @@ lost_each a b c d (x ∷ xs) (y ∷ ys) ids lost =
     ap (λ n. lost_after c d n y.lost) i ∙ ap (λ n. lost_after c d x.timer.id n) l ∙ lost_then a b c d x.timer.id x.lost in
     λ j. first j ∷ rest j
 
-module _ {C R : Type 0} (called : C → ℕ → C → Type 0) (count : C → ℕ → ℕ) (step : R → FiringCall → R → Type 0)
-    (view : R → FiringView) where
+module _ {C R : Type 0} (called : C → ℕ → C → Type 0) (count : C → ℕ → ℕ) (firing : Raise R) where
   pub makes_more : (now : ℕ) (made more : List Expiration) (cs cs' cs'' : List Cyclic) (s m t : Sides C R) (lost lost' : ℕ) →
-      all_after now (made ++ more) (timers cs) ≡ timers cs'' → Makes called count step view now made cs cs' s m lost
-      → Makes called count step view now more cs' cs'' m t lost' →
-      Makes called count step view now (made ++ more) cs cs'' s t (lost + lost')
+      all_after now (made ++ more) (timers cs) ≡ timers cs'' → Makes called count firing now made cs cs' s m lost
+      → Makes called count firing now more cs' cs'' m t lost' →
+      Makes called count firing now (made ++ more) cs cs'' s t (lost + lost')
   makes_more now made more cs cs' cs'' s m t lost lost' whole a b =
       let on = λ (l : Level). ids_on l now (timers cs) (timers cs') made more a.timers_are in
-      let (acts, lock, low) = acts_more called count step view _ _ _ _ _ _ _ _ _ s m t a.acts b.acts (on High) (on Lock) (on Low)
+      let (acts, lock, low) = acts_more called count firing _ _ _ _ _ _ _ _ _ s m t a.acts b.acts (on High) (on Lock) (on Low)
       in
       record {
         acts = acts;

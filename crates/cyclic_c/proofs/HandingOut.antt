@@ -1,7 +1,7 @@
 -- A part of a fire calls no handler but the one that was granted.
 use Rattle.std.proofs.Common.{◌≡◌, ℕ, inl, inr, Option, Some, None, Result, Ok, Err, List, [], ◌∷◌, refl, sym, ap, subst, ◌∙◌}
 use Rattle.std.specs.List.{FoldsTo}
-use Rattle.cyc_types.specs.Firing.{FiringView, FiringCall}
+use Rattle.cyc_types.specs.declared.Raise.{Ghosts as Raise}
 use Rattle.cyc_types.specs.Levels.{at_level}
 use Rattle.cyc_types.specs.declared.level.Level.TheVariants.{High}
 use Rattle.cyc_expirations.specs.Expirations.{expirations}
@@ -32,12 +32,12 @@ handed_out None (id ∷ ids) left (m, (e, f), rest) = absurd (nothing_is id e)
 handed_out (Some x) (id ∷ []) left (m, (e, f), rest) = inr (x, refl, ap (λ n. n ∷ []) (sym (ap told e)))
 handed_out (Some x) (id ∷ (j ∷ ids)) left (m, (e, f), (n, (g, h), rest)) = absurd (counted_is id j (sym f ∙ g))
 
-pub parts : {R : Type 0} (step : R → FiringCall → R → Type 0) (view : R → FiringView) (now : ℕ)
+pub parts : {R : Type 0} (firing : Raise R) (now : ℕ)
     (answer : Result Fired FireRefused)
-    (high high' : Option ℕ) (v w : CpuView R) → Fires step view now answer high v high' w → IsPart now answer high v
-parts step view now (Ok r) high high' v w (left, (soon, same, expired, next, makes), stopped) =
+    (high high' : Option ℕ) (v w : CpuView R) → Fires firing now answer high v high' w → IsPart now answer high v
+parts firing now (Ok r) high high' v w (left, (soon, same, expired, next, makes), stopped) =
     (expired, handed_out high _ left makes.acts.called_in_order)
-parts step view now (Err e) high high' v w (left, inl (never, is, kept), stopped) =
+parts firing now (Err e) high high' v w (left, inl (never, is, kept), stopped) =
     ([], expirations now (timers v.cyclics), refl, ap (λ (x : FireRefused). x.expired) is, inl refl)
-parts step view now (Err e) high high' v w (left, inr (soon, same, s), stopped) =
+parts firing now (Err e) high high' v w (left, inr (soon, same, s), stopped) =
     (s.made, s.last ∷ s.rest, s.listed, sym s.expired, handed_out high _ s.at s.makes.acts.called_in_order)

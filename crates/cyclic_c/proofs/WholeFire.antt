@@ -8,7 +8,7 @@ use Rattle.std.proofs.lemmas.List.Sums.{sum_by-cons}
 use Rattle.std.proofs.lemmas.Bool.Decides.{nat_tests}
 use Rattle.cyc_types.specs.Counting.{times}
 use Rattle.cyc_types.specs.Series.{never}
-use Rattle.cyc_types.specs.Firing.{FiringView, FiringCall}
+use Rattle.cyc_types.specs.declared.Raise.{Ghosts as Raise}
 use Rattle.cyc_types.specs.Levels.{at_level}
 use Rattle.cyc_types.specs.declared.level.Level.{Level}
 use Rattle.cyc_types.specs.declared.level.Level.TheVariants.{High}
@@ -127,13 +127,13 @@ refused_is e id is = by_why e.why is
     by_why (why.HandlerRefused j) is = ap (λ (o : Option ℕ). why.HandlerRefused (elim o [ None ↦ j | Some z ↦ z ])) is
     by_why other is = absurd cc
 
-module _ {R : Type 0} (step : R → FiringCall → R → Type 0) (view : R → FiringView) (now : ℕ) (soon : now < never) where
+module _ {R : Type 0} (firing : Raise R) (now : ℕ) (soon : now < never) where
   -- a part, as handlers that write down would have it
   as_noted : (high : Option ℕ) (xs : List Expiration) (ids : List ℕ) (x y : CpuView R) (left : Granted) (lost : ℕ)
       → ids_at High (timers x.cyclics) xs ≡ pending high →
-      Makes (at_level granted_called High) granted_count step view now xs x.cyclics y.cyclics (sides (grant high) x)
+      Makes (at_level granted_called High) granted_count firing now xs x.cyclics y.cyclics (sides (grant high) x)
       (sides left y) lost →
-      Makes (at_level notes High) noted step view now xs x.cyclics y.cyclics (sides ids x) (sides (ids ++ pending high) y) lost
+      Makes (at_level notes High) noted firing now xs x.cyclics y.cyclics (sides ids x) (sides (ids ++ pending high) y) lost
   as_noted high xs ids x y left lost is m = record {
     acts = record {
       lock_way = m.acts.lock_way;
@@ -154,15 +154,15 @@ module _ {R : Type 0} (step : R → FiringCall → R → Type 0) (view : R → F
 
   -- where a fire in parts stands: what it made so far, for whom it called, and what it lost
   record Stands (v : CpuView R) (made : List Expiration) (ids : List ℕ) (lost : ℕ) (s : Paused R) : Type 0 where
-    pub firing : Firing now made (timers v.cyclics) (timers s.cpu.cyclics)
+    pub fires : Firing now made (timers v.cyclics) (timers s.cpu.cyclics)
     pub sound : All IsSound (timers s.cpu.cyclics)
     pub same : SameCpu v s.cpu
-    pub makes : Makes (at_level notes High) noted step view now made v.cyclics s.cpu.cyclics (sides [] v) (sides ids s.cpu) lost
+    pub makes : Makes (at_level notes High) noted firing now made v.cyclics s.cpu.cyclics (sides [] v) (sides ids s.cpu) lost
     pub next : ComesNext now s.high (timers s.cpu.cyclics)
 
   at_start : (v : CpuView R) → All IsSound (timers v.cyclics) → Stands v [] [] 0 (paused None v)
   at_start v sound = record {
-    firing = fire_start now (timers v.cyclics);
+    fires = fire_start now (timers v.cyclics);
     sound = sound;
     same = same_cpu v;
     makes = record {
@@ -194,13 +194,13 @@ module _ {R : Type 0} (step : R → FiringCall → R → Type 0) (view : R → F
   goes_on : (v : CpuView R) (made xs rest : List Expiration) (ids more : List ℕ) (lost lost' : ℕ) (s t : Paused R)
       → HasDistinctIds (timers v.cyclics) → Stands v made ids lost s →
       expirations now (timers s.cpu.cyclics) ≡ xs ++ rest → SameCpu s.cpu t.cpu →
-      Makes (at_level notes High) noted step view now xs s.cpu.cyclics t.cpu.cyclics (sides ids s.cpu) (sides more t.cpu) lost' →
+      Makes (at_level notes High) noted firing now xs s.cpu.cyclics t.cpu.cyclics (sides ids s.cpu) (sides more t.cpu) lost' →
       (expirations now (timers t.cpu.cyclics) ≡ rest → ComesNext now t.high (timers t.cpu.cyclics)) →
       Stands v (made ++ xs) more (lost + lost') t × (expirations now (timers t.cpu.cyclics) ≡ rest)
   goes_on v made xs rest ids more lost lost' s t distinct at listed same m next =
       let ts = timers s.cpu.cyclics in
-      let here = distinct_after now made (timers v.cyclics) ts at.firing.is distinct in
-      let (end, f, g, sound) = goes_through now xs rest made [] (timers v.cyclics) ts ts soon distinct here at.sound at.firing
+      let here = distinct_after now made (timers v.cyclics) ts at.fires.is distinct in
+      let (end, f, g, sound) = goes_through now xs rest made [] (timers v.cyclics) ts ts soon distinct here at.sound at.fires
       (fire_start now ts) listed in
       let is : end ≡ timers t.cpu.cyclics = g.is ∙ sym m.timers_are in
       let left : expirations now (timers t.cpu.cyclics) ≡ rest =
@@ -208,10 +208,10 @@ module _ {R : Type 0} (step : R → FiringCall → R → Type 0) (view : R → F
       (ap (λ x. xs ++ expirations now x) (sym is) ∙ sym g.whole ∙ listed) in
       let f' = subst (λ x. Firing now (made ++ xs) (timers v.cyclics) x) is f in (
         record {
-          firing = f';
+          fires = f';
           sound = subst (λ x. All IsSound x) is sound;
           same = cpu_then v s.cpu t.cpu at.same same;
-          makes = makes_more (at_level notes High) noted step view now made xs v.cyclics s.cpu.cyclics t.cpu.cyclics (sides [] v)
+          makes = makes_more (at_level notes High) noted firing now made xs v.cyclics s.cpu.cyclics t.cpu.cyclics (sides [] v)
               (sides ids s.cpu) (sides more t.cpu) lost lost' (sym f'.is) at.makes m;
           next = next left;
         },
@@ -250,24 +250,24 @@ module _ {R : Type 0} (step : R → FiringCall → R → Type 0) (view : R → F
   abbrev Whole : CpuView R → CpuView R → ℕ → Fired → List ℕ → ℕ → Type 0
   Whole v w expired last ids lost = (now ≢ never) × SameCpu v w × (expired ≡ length (expirations now (timers v.cyclics)))
       × (last.next ≡ earliest (timers w.cyclics))
-      × Makes (at_level notes High) noted step view now (expirations now (timers v.cyclics)) v.cyclics w.cyclics (sides [] v)
+      × Makes (at_level notes High) noted firing now (expirations now (timers v.cyclics)) v.cyclics w.cyclics (sides [] v)
       (sides ids w) lost
 
   through : (v w : CpuView R) (parts : List (Result Fired FireRefused)) (last : Fired) (made : List Expiration) (ids : List ℕ)
       (lost : ℕ) (s : Paused R) →
       HasDistinctIds (timers v.cyclics) → Stands v made ids lost s → All IsPaused parts
-      → FoldsTo (MakesPart step view now) s (parts ++ Ok last ∷ []) (paused None w) →
+      → FoldsTo (MakesPart firing now) s (parts ++ Ok last ∷ []) (paused None w) →
       Whole v w (length made + (sum_by expired_of parts + last.expired)) last (ids ++ (pending s.high ++ handed_out parts))
       (lost + (sum_by lost_of parts + last.lost))
   through v w [] last made ids lost s distinct at stops (m, fires, end) =
-      let (left, (later, same, expired, next, makes), stopped) = subst (λ x. MakesPart step view now s (Ok last) x) end fires in
+      let (left, (later, same, expired, next, makes), stopped) = subst (λ x. MakesPart firing now s (Ok last) x) end fires in
       let ts = timers s.cpu.cyclics in
       let xs = expirations now ts in
       let calls = calls_all s.high ts xs at.next refl (handed_is s.high (ids_at High ts xs) left makes.acts.called_in_order) in
       let (at', none) = goes_on v made xs [] ids (ids ++ pending s.high) lost last.lost s (paused None w) distinct at
       (sym (append-nil xs)) same
       (as_noted s.high xs ids s.cpu w left last.lost calls makes) (λ e. tt) in
-      let whole : expirations now (timers v.cyclics) ≡ made ++ xs = at'.firing.whole ∙ ap (λ ys. (made ++ xs) ++ ys) none
+      let whole : expirations now (timers v.cyclics) ≡ made ++ xs = at'.fires.whole ∙ ap (λ ys. (made ++ xs) ++ ys) none
       ∙ append-nil (made ++ xs) in
       let long = ap length whole in
       let both = length-append made xs in
@@ -278,11 +278,11 @@ module _ {R : Type 0} (step : R → FiringCall → R → Type 0) (view : R → F
         at'.same,
         omega (arith, long, both, expired),
         next,
-        subst (λ n. Makes (at_level notes High) noted step view now (expirations now (timers v.cyclics)) v.cyclics w.cyclics
+        subst (λ n. Makes (at_level notes High) noted firing now (expirations now (timers v.cyclics)) v.cyclics w.cyclics
             (sides [] v) (sides (ids ++ (pending s.high ++ handed_out [])) w) n) lost_are
-            (subst (λ ns. Makes (at_level notes High) noted step view now (expirations now (timers v.cyclics)) v.cyclics w.cyclics
+            (subst (λ ns. Makes (at_level notes High) noted firing now (expirations now (timers v.cyclics)) v.cyclics w.cyclics
             (sides [] v) (sides ns w) (lost + last.lost)) ids_are
-            (subst (λ ys. Makes (at_level notes High) noted step view now ys v.cyclics w.cyclics (sides [] v)
+            (subst (λ ys. Makes (at_level notes High) noted firing now ys v.cyclics w.cyclics (sides [] v)
             (sides (ids ++ pending s.high) w) (lost + last.lost)) (sym whole) at'.makes)),
       )
   through v w (Ok r ∷ parts) last made ids lost s distinct at stops way =
@@ -324,16 +324,16 @@ module _ {R : Type 0} (step : R → FiringCall → R → Type 0) (view : R → F
         b,
         omega (arith, c, both, count, sum_expired),
         d,
-        subst (λ n. Makes (at_level notes High) noted step view now (expirations now (timers v.cyclics)) v.cyclics w.cyclics
+        subst (λ n. Makes (at_level notes High) noted firing now (expirations now (timers v.cyclics)) v.cyclics w.cyclics
             (sides [] v) (sides (ids ++ (pending s.high ++ handed_out (Err e ∷ parts))) w) n) lost_are
-            (subst (λ ns. Makes (at_level notes High) noted step view now (expirations now (timers v.cyclics)) v.cyclics w.cyclics
+            (subst (λ ns. Makes (at_level notes High) noted firing now (expirations now (timers v.cyclics)) v.cyclics w.cyclics
             (sides [] v) (sides ns w) ((lost + e.lost) + (sum_by lost_of parts + last.lost))) ids_are makes),
       )
 
   pub whole : (parts : List (Result Fired FireRefused)) (last : Fired) (v w : CpuView R) → HasDistinctIds (timers v.cyclics)
       → All IsSound (timers v.cyclics) → All IsPaused parts →
-      FoldsTo (MakesPart step view now) (paused None v) (parts ++ Ok last ∷ []) (paused None w)
-      → IsOneFire step view now parts last v w
+      FoldsTo (MakesPart firing now) (paused None v) (parts ++ Ok last ∷ []) (paused None w)
+      → IsOneFire firing now parts last v w
   whole parts last v w distinct sound stops way =
       let (a, b, c, d, makes) = through v w parts last [] [] 0 (paused None v) distinct (at_start v sound) stops way in
       let n : 0 + (sum_by lost_of parts + last.lost) ≡ sum_by lost_of parts + last.lost = omega arith in (
@@ -341,6 +341,6 @@ module _ {R : Type 0} (step : R → FiringCall → R → Type 0) (view : R → F
         b,
         omega (arith, c),
         d,
-        subst (λ l. Makes (at_level notes High) noted step view now (expirations now (timers v.cyclics)) v.cyclics w.cyclics
+        subst (λ l. Makes (at_level notes High) noted firing now (expirations now (timers v.cyclics)) v.cyclics w.cyclics
             (sides [] v) (sides (handed_out parts) w) l) n makes,
       )

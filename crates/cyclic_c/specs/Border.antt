@@ -1,6 +1,6 @@
 -- What each call over the border does to the CPU behind the handle.
 use Rattle.std.specs.Prelude.{◌≡◌, ℕ, ◌<◌, ◌≤◌, ◌⊎◌, pos, ◌<ℤ◌, ◌≤ℤ◌, ℤ, Option, Some, None, Result, Ok, Err}
-use Rattle.cyc_types.specs.Firing.{FiringView, FiringCall}
+use Rattle.cyc_types.specs.declared.Raise.{Ghosts as Raise}
 use Rattle.cyc_types.specs.Limits.{last_id}
 use Rattle.cyc_types.specs.declared.level.Soft.{Soft}
 use Rattle.cyc_types.specs.declared.level.Soft.TheVariants.{Low, Lock}
@@ -15,7 +15,7 @@ use Rattle.cyc_cpu.specs.declared.removing.Removal.{Removal}
 use Rattle.cyc_cpu.specs.Cpu.{CpuView, running}
 use Rattle.cyc_cpu.specs.Calls.{Changes, Does, Add, Reprogram, AskPending, AskTotals, BeginRemove, Fire, SoftInterrupt}
 use Rattle.cyc_cpu.specs.Calls.{no_interrupts}
-use Rattle.cyc_cpu.specs.Soft.{fires, firing_at, Interrupts}
+use Rattle.cyc_cpu.specs.Soft.{raise_tables, Interrupts}
 use Rattle.cyclic_c.specs.Granted.{granted_calls}
 use Rattle.cyclic_c.specs.Numbers.{number_of, level_named}
 use Rattle.cyclic_c.specs.declared.calling.Asked.{Asked}
@@ -75,31 +75,31 @@ stopped_at (Err e) = named e.why where
   named other = None
 
 -- the calls of a CPU over any firing ends
-module _ {R : Type 0} (step : R → FiringCall → R → Type 0) (view : R → FiringView) where
+module _ {R : Type 0} (firing : Raise R) where
   -- `cyclic_reprogram`: a negative moment is refused, and no cyclic has a number that is no id
   abbrev pub Reprograms : ℕ → ℤ → Result (Unit {0}) Denied → CpuView R → CpuView R → Type 0
   Reprograms id moment answer v w = ((moment <ℤ pos 0) × Denies (Refused why.BadWhen) answer v w)
       ⊎ ((m : ℕ) × (pos m ≡ moment)
       × (((IsId id → ⊥) × Denies (Refused why.NoCyclic) answer v w)
-      ⊎ ((given : Result (Unit {0}) Refusal) × (answer ≡ denied_of given) × Changes step view v (Reprogram id m given) w)))
+      ⊎ ((given : Result (Unit {0}) Refusal) × (answer ≡ denied_of given) × Changes firing v (Reprogram id m given) w)))
 
   abbrev pub AsksPending : ℕ → Result ℕ Denied → CpuView R → CpuView R → Type 0
   AsksPending id answer v w = ((IsId id → ⊥) × Denies (Refused why.NoCyclic) answer v w)
-      ⊎ ((found : Option ℕ) × (answer ≡ found_of found) × Changes step view v (AskPending id found) w)
+      ⊎ ((found : Option ℕ) × (answer ≡ found_of found) × Changes firing v (AskPending id found) w)
 
   abbrev pub AsksTotals : ℕ → Result Totals Denied → CpuView R → CpuView R → Type 0
   AsksTotals id answer v w = ((IsId id → ⊥) × Denies (Refused why.NoCyclic) answer v w)
-      ⊎ ((found : Option Totals) × (answer ≡ found_of found) × Changes step view v (AskTotals id found) w)
+      ⊎ ((found : Option Totals) × (answer ≡ found_of found) × Changes firing v (AskTotals id found) w)
 
   abbrev pub BeginsRemoval : ℕ → Result Removal Denied → CpuView R → CpuView R → Type 0
   BeginsRemoval id answer v w = ((IsId id → ⊥) × Denies (Refused why.NoCyclic) answer v w)
-      ⊎ ((given : Result Removal Refusal) × (answer ≡ denied_of given) × Changes step view v (BeginRemove id given) w)
+      ⊎ ((given : Result Removal Refusal) × (answer ≡ denied_of given) × Changes firing v (BeginRemove id given) w)
 
   -- an add: a cyclic here has the id, or it is an add of the CPU
   abbrev pub AddsAsked : Asked → Result (Unit {0}) Denied → CpuView R → CpuView R → Type 0
-  AddsAsked a answer v w = ((n : ℕ) × (answer ≡ Err Taken) × Changes step view v (AskPending a.id (Some n)) w)
+  AddsAsked a answer v w = ((n : ℕ) × (answer ≡ Err Taken) × Changes firing v (AskPending a.id (Some n)) w)
       ⊎ ((given : Result (Unit {0}) Refusal) × (answer ≡ denied_of given)
-      × Changes step view v (Add a.id a.level a.when a.now given) w)
+      × Changes firing v (Add a.id a.level a.when a.now given) w)
 
   -- `cyclic_add`: the numbers are looked at first
   abbrev pub Adds : ℕ → ℕ → ℤ → ℤ → ℤ → Result (Unit {0}) Denied → CpuView R → CpuView R → Type 0
@@ -111,12 +111,12 @@ module _ {R : Type 0} (step : R → FiringCall → R → Type 0) (view : R → F
   -- goes up to the next high expiration.
   abbrev pub Fires : ℕ → Result Fired FireRefused → Option ℕ → CpuView R → Option ℕ → CpuView R → Type 0
   Fires now answer high v high' w = (left : Granted)
-      × Does granted_calls step view no_interrupts (running (grant high) v) (Fire now answer) (running left w)
+      × Does granted_calls firing no_interrupts (running (grant high) v) (Fire now answer) (running left w)
       × (high' ≡ stopped_at answer)
 
 -- the same of a CPU on one thread, of which nothing else changes
 abbrev pub FiresCpu : ℕ → Result Fired FireRefused → Cpu → Cpu → Type 0
-FiresCpu now answer v w = Fires fires firing_at now answer v.high v.hard w.high w.hard
+FiresCpu now answer v w = Fires raise_tables now answer v.high v.hard w.high w.hard
     × (w ≡ record v { hard = w.hard; high = w.high })
 
 -- the call of a soft level that was taken and is not finished
@@ -131,7 +131,7 @@ with_call Lock call v = record v { lock = call }
 -- a soft interrupt of one call at most, with this grant; no other thing changes but the call that is in the caller's hand
 abbrev pub Interrupts1 : Soft → Granted → Result Ran SoftRefused → Option ℕ → Cpu → Cpu → Type 0
 Interrupts1 level g answer call v w = (left : Granted)
-    × Does granted_calls fires firing_at (Interrupts granted_calls) (running g v.hard) (SoftInterrupt level 1 answer)
+    × Does granted_calls raise_tables (Interrupts granted_calls) (running g v.hard) (SoftInterrupt level 1 answer)
     (running left w.hard)
     × (w ≡ with_call level call (record v { hard = w.hard }))
 

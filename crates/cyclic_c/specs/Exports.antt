@@ -1,6 +1,6 @@
 -- What each export does, with its answer as a number.
 use Rattle.std.specs.Prelude.{◌≡◌, ◌≢◌, ℕ, ◌<◌, ◌⊎◌, pos, ◌<ℤ◌, ℤ, Option, Some, None, Result, Ok, Err, IfSome, IfNone}
-use Rattle.cyc_types.specs.Firing.{FiringView, FiringCall}
+use Rattle.cyc_types.specs.declared.Raise.{Ghosts as Raise}
 use Rattle.cyc_types.specs.declared.level.Soft.{Soft}
 use Rattle.cyc_types.specs.declared.receipt.Receipt.{Receipt}
 use Rattle.cyc_types.specs.declared.refusal.Refusal.TheVariants as why
@@ -80,32 +80,32 @@ or_zero (Some id) = id
 or_zero None = 0
 
 -- the calls of a CPU over any firing ends, as part `on` of what a handle owns
-module _ {R X : Type 0} (step : R → FiringCall → R → Type 0) (view : R → FiringView)
+module _ {R X : Type 0} (firing : Raise R)
     (on : (CpuView R → CpuView R → Type 0) → X → X → Type 0) where
   abbrev pub ReprogramsOut : ℕ → ℤ → ℕ → X → X → Type 0
   ReprogramsOut id moment r v w = (answer : Result (Unit {0}) Denied) × (r ≡ answer_of answer)
-      × on (Reprograms step view id moment answer) v w
+      × on (Reprograms firing id moment answer) v w
 
   abbrev pub AddsOut : ℕ → ℕ → ℤ → ℤ → ℤ → ℕ → ℕ → X → X → Type 0
   AddsOut id level start interval now r busy v w =
       (answer : Result (Unit {0}) Denied) × (r ≡ answer_of answer) × (busy ≡ named_by answer)
-      × on (Adds step view id level start interval now answer) v w
+      × on (Adds firing id level start interval now answer) v w
 
   abbrev pub PendingOut : ℕ → ℕ → ℕ → X → X → Type 0
   PendingOut id r pending v w = (answer : Result ℕ Denied) × (r ≡ answer_of answer) × (pending ≡ found_in answer)
-      × on (AsksPending step view id answer) v w
+      × on (AsksPending firing id answer) v w
 
   abbrev pub TotalsOut : ℕ → ℕ → CyclicTotals → CyclicTotals → X → X → Type 0
   TotalsOut id r old new v w = (answer : Result Totals Denied) × (r ≡ answer_of answer) × WritesTotals answer old new
-      × on (AsksTotals step view id answer) v w
+      × on (AsksTotals firing id answer) v w
 
   abbrev pub PollsOut : ℕ → CyclicReceipt → X → X → Type 0
   PollsOut r out v w = (r ≡ 0) × (answer : Option Receipt) × WritesReceipt answer out
-      × on (λ a b. Changes step view a (PollRemove answer) b) v w
+      × on (λ a b. Changes firing a (PollRemove answer) b) v w
 
   abbrev pub RemovesOut : ℕ → ℕ → ℕ → CyclicReceipt → ℕ → X → X → Type 0
   RemovesOut id r kept receipt busy v w = (answer : Result Removal Denied) × (r ≡ answer_of answer)
-      × (kept ≡ kept_by answer) × IsRemoved answer receipt × (busy ≡ named_by answer) × on (BeginsRemoval step view id answer) v w
+      × (kept ≡ kept_by answer) × IsRemoved answer receipt × (busy ≡ named_by answer) × on (BeginsRemoval firing id answer) v w
 
   abbrev pub NextOut : ℕ → ℤ → X → X → Type 0
   NextOut r moment v w = (r ≡ 0) × on (λ a b. (moment ≡ pos (earliest (timers a.cyclics))) × (b ≡ a)) v w

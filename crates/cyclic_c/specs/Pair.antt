@@ -4,6 +4,7 @@ use Rattle.cyc_ring.specs.Ends.{IsRaiseSeatOf, IsDrainSeatOf, raise_trail, drain
 use Rattle.cyc_ring.specs.declared.closed.Closed.{Closed}
 use Rattle.cyc_ring.specs.declared.seats.RaiseSeat.{RaiseSeat}
 use Rattle.cyc_ring.specs.declared.seats.DrainSeat.{DrainSeat}
+use Rattle.cyc_types.specs.declared.Raise.{Ghosts as Raise}
 use Rattle.cyc_types.specs.Firing.{FiringView, FiringCall}
 use Rattle.cyc_cpu.specs.Cpu.{CpuView}
 use Rattle.cyc_fire.specs.declared.fire.Fired.{Fired}
@@ -35,11 +36,15 @@ held_view e = view_in e.seat
 abbrev pub held_step : HeldEnd → FiringCall → HeldEnd → Type 0
 held_step e call f = step_in e.seat call f.seat
 
+-- both at once
+abbrev pub raise_held : Raise HeldEnd
+raise_held = record { view = held_view; step = held_step }
+
 -- the CPU's own part of a call, which changes nothing else
 abbrev pub OnSide : (CpuView HeldEnd → CpuView HeldEnd → Type 0) → Firing → Firing → Type 0
 OnSide made v w = made v.hard w.hard × (w ≡ record v { hard = w.hard })
 
 -- a part of a fire at the firing side
 abbrev pub FiresSide : ℕ → Result Fired FireRefused → Firing → Firing → Type 0
-FiresSide now answer v w = Fires held_step held_view now answer v.high v.hard w.high w.hard
+FiresSide now answer v w = Fires raise_held now answer v.high v.hard w.high w.hard
     × (w ≡ record v { hard = w.hard; high = w.high })

@@ -3,7 +3,7 @@ use Rattle.std.specs.Prelude.{◌≡◌, ℕ, ◌+◌, ◌⊎◌, List, [], ◌�
 use Rattle.std.specs.List.{filter_map}
 use Rattle.cyc_types.specs.Counting.{times}
 use Rattle.cyc_types.specs.declared.Calls.{Ghosts as Calls}
-use Rattle.cyc_types.specs.Firing.{FiringView, FiringCall}
+use Rattle.cyc_types.specs.declared.Raise.{Ghosts as Raise}
 use Rattle.cyc_types.specs.declared.level.Level.{Level}
 use Rattle.cyc_types.specs.declared.level.Level.TheVariants.{High}
 use Rattle.cyc_expirations.specs.Expirations.{Expiration, expirations}
@@ -38,9 +38,9 @@ abbrev pub paused : {R : Type 0} → Option ℕ → CpuView R → Paused R
 paused high cpu = record { cpu = cpu; high = high }
 
 -- the next part of a fire at this moment
-abbrev pub MakesPart : {R : Type 0} → (R → FiringCall → R → Type 0) → (R → FiringView) → ℕ
+abbrev pub MakesPart : {R : Type 0} → Raise R → ℕ
     → Paused R → Result Fired FireRefused → Paused R → Type 0
-MakesPart step view now s answer t = Fires step view now answer s.high s.cpu t.high t.cpu
+MakesPart firing now s answer t = Fires firing now answer s.high s.cpu t.high t.cpu
 
 -- the part stopped in front of a high cyclic
 abbrev pub IsPaused : Result Fired FireRefused → Type 0
@@ -80,7 +80,7 @@ noting = record { count = noted; called = notes; may_refuse = λ ids id. ⊥ }
 
 -- The parts are one fire of the CPU, whose handlers were called for those that were handed out, in that order: each expiration
 -- that was due is made once, in order, and counted once.
-abbrev pub IsOneFire : {R : Type 0} → (R → FiringCall → R → Type 0) → (R → FiringView) → ℕ
+abbrev pub IsOneFire : {R : Type 0} → Raise R → ℕ
     → List (Result Fired FireRefused) → Fired → CpuView R → CpuView R → Type 0
-IsOneFire step view now parts last v w = Does noting step view no_interrupts (running [] v) (Fire now (Ok (together parts last)))
+IsOneFire firing now parts last v w = Does noting firing no_interrupts (running [] v) (Fire now (Ok (together parts last)))
     (running (handed_out parts) w)

@@ -9,7 +9,7 @@ use cyc_types::{CyclicId, Moment, Raise, Refusal};
 
 /// Gives the cyclic another next expiration.
 pub fn reprogram<R: Raise>(cpu: &mut Hard<R>, id: u64, moment: i64) -> Result<(), Denied>
-    ensures { Reprograms R.step R.view id moment result cpu.old cpu.new }
+    ensures { Reprograms R.Raise id moment result cpu.old cpu.new }
 {
     let moment = Moment::new(moment)?;
     let Some(id) = CyclicId::new(id) else {
@@ -21,7 +21,7 @@ pub fn reprogram<R: Raise>(cpu: &mut Hard<R>, id: u64, moment: i64) -> Result<()
 
 /// The calls of the cyclic that are outstanding.
 pub fn pending_of<R: Raise>(cpu: &mut Hard<R>, id: u64) -> Result<u32, Denied>
-    ensures { AsksPending R.step R.view id result cpu.old cpu.new }
+    ensures { AsksPending R.Raise id result cpu.old cpu.new }
 {
     let Some(id) = CyclicId::new(id) else {
         return Err(Denied::Refused(Refusal::NoCyclic));
@@ -34,7 +34,7 @@ pub fn pending_of<R: Raise>(cpu: &mut Hard<R>, id: u64) -> Result<u32, Denied>
 
 /// The counts of the cyclic.
 pub fn totals_at<R: Raise>(cpu: &mut Hard<R>, id: u64) -> Result<Totals, Denied>
-    ensures { AsksTotals R.step R.view id result cpu.old cpu.new }
+    ensures { AsksTotals R.Raise id result cpu.old cpu.new }
 {
     let Some(id) = CyclicId::new(id) else {
         return Err(Denied::Refused(Refusal::NoCyclic));
@@ -47,7 +47,7 @@ pub fn totals_at<R: Raise>(cpu: &mut Hard<R>, id: u64) -> Result<Totals, Denied>
 
 /// Begins the removal of the cyclic.
 pub fn begin_remove<R: Raise>(cpu: &mut Hard<R>, id: u64) -> Result<Removal, Denied>
-    ensures { BeginsRemoval R.step R.view id result cpu.old cpu.new }
+    ensures { BeginsRemoval R.Raise id result cpu.old cpu.new }
 {
     let Some(id) = CyclicId::new(id) else {
         return Err(Denied::Refused(Refusal::NoCyclic));

@@ -77,7 +77,7 @@ fn read_asked(id: u64, level: u32, start: i64, interval: i64, now: i64) -> Resul
 
 /// Adds a cyclic as it is asked for, where no cyclic here has its id.
 fn add_asked<R: Raise>(cpu: &mut Hard<R>, asked: Asked) -> Result<(), Denied>
-    ensures { AddsAsked R.step R.view asked result cpu.old cpu.new }
+    ensures { AddsAsked R.Raise asked result cpu.old cpu.new }
 {
     if cpu.pending(asked.id).is_some() {
         return Err(Denied::Taken);
@@ -95,7 +95,7 @@ pub fn add<R: Raise>(
     interval: i64,
     now: i64,
 ) -> Result<(), Denied>
-    ensures { Adds R.step R.view id level start interval now result cpu.old cpu.new }
+    ensures { Adds R.Raise id level start interval now result cpu.old cpu.new }
 {
     match read_asked(id, level, start, interval, now) {
         Ok(asked) => add_asked(cpu, asked),
@@ -109,7 +109,7 @@ pub fn fire<R: Raise>(
     high: &mut Option<CyclicId>,
     now: Moment,
 ) -> Result<Fired, FireRefused>
-    ensures { Fires R.step R.view now result high.old cpu.old high.new cpu.new }
+    ensures { Fires R.Raise now result high.old cpu.old high.new cpu.new }
 {
     let mut calls = granted(*high);
     let answer = cpu.fire(now, &mut calls);

@@ -5,7 +5,7 @@ ghost use Rattle.cyclic_c.specs.Border.{Through};
 ghost use Rattle.cyclic_c.specs.Exports.{Opens, Closes, ReprogramsOut, AddsOut, PendingOut, TotalsOut, PollsOut, TakesOut};
 ghost use Rattle.cyclic_c.specs.Exports.{FinishesOut, FiresOut, RemovesOut, NextOut, named_by, kept_by, IsRemoved, OnHard};
 ghost use Rattle.cyclic_c.specs.Border.{FiresCpu};
-ghost use Rattle.cyc_cpu.specs.Soft.{fires, firing_at};
+ghost use Rattle.cyc_cpu.specs.Soft.{raise_tables};
 ghost use Rattle.cyclic_c.specs.Numbers.{answer_of};
 
 use crate::asking::{begin_remove, pending_of, reprogram, totals_at};
@@ -74,7 +74,7 @@ pub(crate) fn number_of_answer(answer: &Result<(), Denied>) -> u32
 /// Gives a cyclic another next expiration (`reprogram` of the CPU).
 #[unsafe(no_mangle)]
 pub extern "C" fn cyclic_reprogram(alloc: Global, cpu: &mut CyclicCpu, id: u64, moment: i64) -> u32
-    ensures { Through cpu.old.inner.held cpu.new.inner.held result (ReprogramsOut fires firing_at OnHard id moment result) }
+    ensures { Through cpu.old.inner.held cpu.new.inner.held result (ReprogramsOut raise_tables OnHard id moment result) }
 {
     let Some(mut open) = cpu.take(alloc) else {
         return MISUSED;
@@ -97,7 +97,7 @@ pub extern "C" fn cyclic_add(
     busy: &mut u64,
 ) -> u32
     ensures { Through cpu.old.inner.held cpu.new.inner.held result
-        (AddsOut fires firing_at OnHard id level start interval now result busy.new) }
+        (AddsOut raise_tables OnHard id level start interval now result busy.new) }
 {
     let Some(mut open) = cpu.take(alloc) else {
         return MISUSED;
@@ -126,7 +126,7 @@ pub extern "C" fn cyclic_pending(
     id: u64,
     pending: &mut u32,
 ) -> u32
-    ensures { Through cpu.old.inner.held cpu.new.inner.held result (PendingOut fires firing_at OnHard id result pending.new) }
+    ensures { Through cpu.old.inner.held cpu.new.inner.held result (PendingOut raise_tables OnHard id result pending.new) }
 {
     let Some(mut open) = cpu.take(alloc) else {
         return MISUSED;
@@ -154,7 +154,7 @@ pub extern "C" fn cyclic_totals(
     totals: &mut CyclicTotals,
 ) -> u32
     ensures { Through cpu.old.inner.held cpu.new.inner.held result
-        (TotalsOut fires firing_at OnHard id result totals.old totals.new) }
+        (TotalsOut raise_tables OnHard id result totals.old totals.new) }
 {
     let Some(mut open) = cpu.take(alloc) else {
         return MISUSED;
@@ -177,7 +177,7 @@ pub extern "C" fn cyclic_poll_remove(
     cpu: &mut CyclicCpu,
     receipt: &mut CyclicReceipt,
 ) -> u32
-    ensures { Through cpu.old.inner.held cpu.new.inner.held result (PollsOut fires firing_at OnHard result receipt.new) }
+    ensures { Through cpu.old.inner.held cpu.new.inner.held result (PollsOut raise_tables OnHard result receipt.new) }
 {
     let Some(mut open) = cpu.take(alloc) else {
         return MISUSED;
@@ -276,7 +276,7 @@ pub extern "C" fn cyclic_begin_remove(
     busy: &mut u64,
 ) -> u32
     ensures { Through cpu.old.inner.held cpu.new.inner.held result
-        (RemovesOut fires firing_at OnHard id result kept.new receipt.new busy.new) }
+        (RemovesOut raise_tables OnHard id result kept.new receipt.new busy.new) }
 {
     let Some(mut open) = cpu.take(alloc) else {
         return MISUSED;
@@ -320,7 +320,7 @@ pub(crate) fn removed_of(answer: &Result<Removal, Denied>) -> CyclicReceipt
 /// The least expiration of the CPU, never where there is none.
 #[unsafe(no_mangle)]
 pub extern "C" fn cyclic_next(alloc: Global, cpu: &mut CyclicCpu, moment: &mut i64) -> u32
-    ensures { Through cpu.old.inner.held cpu.new.inner.held result (NextOut fires firing_at OnHard result moment.new) }
+    ensures { Through cpu.old.inner.held cpu.new.inner.held result (NextOut raise_tables OnHard result moment.new) }
 {
     let Some(open) = cpu.take(alloc) else {
         return MISUSED;

@@ -3,7 +3,7 @@
 ghost use Rattle.std.specs.Prelude.{◌≡◌};
 ghost use Rattle.cyclic_c.specs.Border.{Through};
 ghost use Rattle.cyclic_c.specs.Exports.{ReprogramsOut, AddsOut, PendingOut, TotalsOut, PollsOut, FiresOut, RemovesOut, NextOut};
-ghost use Rattle.cyclic_c.specs.Pair.{held_step, held_view, OnSide, FiresSide};
+ghost use Rattle.cyclic_c.specs.Pair.{raise_held, OnSide, FiresSide};
 
 use crate::asking::{begin_remove, pending_of, reprogram, totals_at};
 use crate::calling::add;
@@ -28,7 +28,7 @@ pub extern "C" fn cyclic_firing_add(
     busy: &mut u64,
 ) -> u32
     ensures { Through firing.old.inner.held firing.new.inner.held result
-        (AddsOut held_step held_view OnSide id level start interval now result busy.new) }
+        (AddsOut raise_held OnSide id level start interval now result busy.new) }
 {
     let Some(mut open) = firing.take(alloc) else {
         return MISUSED;
@@ -48,7 +48,7 @@ pub extern "C" fn cyclic_firing_reprogram(
     moment: i64,
 ) -> u32
     ensures { Through firing.old.inner.held firing.new.inner.held result
-        (ReprogramsOut held_step held_view OnSide id moment result) }
+        (ReprogramsOut raise_held OnSide id moment result) }
 {
     let Some(mut open) = firing.take(alloc) else {
         return MISUSED;
@@ -70,7 +70,7 @@ pub extern "C" fn cyclic_firing_begin_remove(
     busy: &mut u64,
 ) -> u32
     ensures { Through firing.old.inner.held firing.new.inner.held result
-        (RemovesOut held_step held_view OnSide id result kept.new receipt.new busy.new) }
+        (RemovesOut raise_held OnSide id result kept.new receipt.new busy.new) }
 {
     let Some(mut open) = firing.take(alloc) else {
         return MISUSED;
@@ -99,7 +99,7 @@ pub extern "C" fn cyclic_firing_poll_remove(
     receipt: &mut CyclicReceipt,
 ) -> u32
     ensures { Through firing.old.inner.held firing.new.inner.held result
-        (PollsOut held_step held_view OnSide result receipt.new) }
+        (PollsOut raise_held OnSide result receipt.new) }
 {
     let Some(mut open) = firing.take(alloc) else {
         return MISUSED;
@@ -157,7 +157,7 @@ pub extern "C" fn cyclic_firing_pending(
     pending: &mut u32,
 ) -> u32
     ensures { Through firing.old.inner.held firing.new.inner.held result
-        (PendingOut held_step held_view OnSide id result pending.new) }
+        (PendingOut raise_held OnSide id result pending.new) }
 {
     let Some(mut open) = firing.take(alloc) else {
         return MISUSED;
@@ -185,7 +185,7 @@ pub extern "C" fn cyclic_firing_totals(
     totals: &mut CyclicTotals,
 ) -> u32
     ensures { Through firing.old.inner.held firing.new.inner.held result
-        (TotalsOut held_step held_view OnSide id result totals.old totals.new) }
+        (TotalsOut raise_held OnSide id result totals.old totals.new) }
 {
     let Some(mut open) = firing.take(alloc) else {
         return MISUSED;
@@ -208,7 +208,7 @@ pub extern "C" fn cyclic_firing_next(
     firing: &mut CyclicFiring,
     moment: &mut i64,
 ) -> u32
-    ensures { Through firing.old.inner.held firing.new.inner.held result (NextOut held_step held_view OnSide result moment.new) }
+    ensures { Through firing.old.inner.held firing.new.inner.held result (NextOut raise_held OnSide result moment.new) }
 {
     let Some(open) = firing.take(alloc) else {
         return MISUSED;

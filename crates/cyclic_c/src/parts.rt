@@ -19,7 +19,7 @@ use cyc_types::Raise;
 /// It does nothing when it runs: its clause is the law.
 pub fn parts_law<R: Raise>()
     ensures { (now : ℕ) (answer : Result Fired FireRefused) (high high' : Option ℕ) (v w : CpuView R)
-        → Fires R.step R.view now answer high v high' w → IsPart now answer high v }
+        → Fires R.Raise now answer high v high' w → IsPart now answer high v }
 {}
 
 /// A fire in parts is one fire: where a CPU is fired at one moment again and again, each time but the last stopping in front of a
@@ -31,6 +31,6 @@ pub fn whole_fire_law<R: Raise>()
     ensures { (now : ℕ) (parts : List (Result Fired FireRefused)) (last : Fired) (v w : CpuView R) → now < never
         → HasDistinctIds (timers v.cyclics)
         → All IsSound (timers v.cyclics) → All IsPaused parts
-        → FoldsTo (MakesPart R.step R.view now) (paused None v) (parts ++ Ok last ∷ []) (paused None w)
-        → IsOneFire R.step R.view now parts last v w }
+        → FoldsTo (MakesPart R.Raise now) (paused None v) (parts ++ Ok last ∷ []) (paused None w)
+        → IsOneFire R.Raise now parts last v w }
 {}

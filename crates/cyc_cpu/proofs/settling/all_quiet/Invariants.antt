@@ -8,8 +8,8 @@ use Rattle.cyc_cpu.proofs.settling.all_quiet.Given as goal
 -- the cyclics so far were asked for, and none of them had calls outstanding
 abbrev pub invariant-loop-place : goal.invariant-loop-place
 invariant-loop-place g l = record {
-  lock : OnlyLoads g.R.Raise.step g.R.Raise.view l.fn.lock l.lock;
-  low : OnlyLoads g.R.Raise.step g.R.Raise.view l.fn.low l.low;
+  lock : OnlyLoads g.R.Raise l.fn.lock l.lock;
+  low : OnlyLoads g.R.Raise l.fn.low l.low;
   quiet_lock : (k : ℕ) (r : Row) → k < l.place → IsRow l.table.rows k r → r.timer.level ≡ Lock
       → seen_of r.timer.id (g.R.Raise.view l.lock) ≡ 0;
   quiet_low : (k : ℕ) (r : Row) → k < l.place → IsRow l.table.rows k r → r.timer.level ≡ Low

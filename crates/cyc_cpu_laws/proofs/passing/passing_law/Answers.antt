@@ -2,16 +2,16 @@ use Rattle.cyc_cpu_laws.proofs.Ways.{passes_none, passes_one, passes_on, passes_
 use Rattle.cyc_cpu_laws.proofs.passing.passing_law.Goals as goal
 
 pub returns-clause-none : goal.returns-clause-none
-returns-clause-none g c = passes_none g.R.Raise.step g.R.Raise.view
+returns-clause-none g c = passes_none g.R.Raise
 
 pub returns-clause-one : goal.returns-clause-one
-returns-clause-one g c = passes_one g.R.Raise.step g.R.Raise.view
+returns-clause-one g c = passes_one g.R.Raise
 
 pub returns-clause-joined : goal.returns-clause-joined
-returns-clause-joined g c raised lost raised' lost' = passes_on g.R.Raise.step g.R.Raise.view raised lost raised' lost'
+returns-clause-joined g c raised lost raised' lost' = passes_on g.R.Raise raised lost raised' lost'
 
 pub returns-clause-ceiling : goal.returns-clause-ceiling
-returns-clause-ceiling g c = passes_ceiling g.R.Raise.step g.R.Raise.view
+returns-clause-ceiling g c = passes_ceiling g.R.Raise
 
 pub returns-clause-few : goal.returns-clause-few
-returns-clause-few g c = passes_few g.R.Raise.step g.R.Raise.view
+returns-clause-few g c = passes_few g.R.Raise

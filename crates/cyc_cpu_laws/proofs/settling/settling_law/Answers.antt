@@ -4,15 +4,15 @@ use Rattle.cyc_cpu_laws.proofs.settling.settling_law.Goals as goal
 
 pub returns-clause-stays : goal.returns-clause-stays
 returns-clause-stays g c =
-    settled_run g.R.Raise.step g.R.Raise.view g.C.Calls no_interrupts
+    settled_run g.R.Raise g.C.Calls no_interrupts
     (λ soft budget answer s t h. absurd h) (λ soft budget answer s t h k. absurd h)
 
 pub returns-clause-grows : goal.returns-clause-grows
 returns-clause-grows g c =
-    run_grows g.R.Raise.step g.R.Raise.view g.C.Calls no_interrupts
+    run_grows g.R.Raise g.C.Calls no_interrupts
     (λ soft budget answer s t h. absurd h) (λ soft budget answer s t h k. absurd h)
 
 pub returns-clause-at_once : goal.returns-clause-at_once
 returns-clause-at_once g c =
-    never_put_off g.R.Raise.step g.R.Raise.view g.C.Calls no_interrupts
+    never_put_off g.R.Raise g.C.Calls no_interrupts
     (λ soft budget answer s t h. absurd h) (λ soft budget answer s t h k. absurd h)

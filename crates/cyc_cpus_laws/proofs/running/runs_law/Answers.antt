@@ -4,8 +4,8 @@ use Rattle.cyc_cpus_laws.proofs.running.runs_law.Goals as goal
 
 pub returns-clause-quiet : goal.returns-clause-quiet
 returns-clause-quiet g c calls way v w run =
-    quiet_run g.C.Calls g.R.Raise.step g.R.Raise.view no_interrupts calls v way w run
+    quiet_run g.C.Calls g.R.Raise no_interrupts calls v way w run
 
 pub returns-clause-each : goal.returns-clause-each
 returns-clause-each g c n x way s t run at =
-    some_see g.C.Calls g.R.Raise.step g.R.Raise.view no_interrupts n x s way t run at
+    some_see g.C.Calls g.R.Raise no_interrupts n x s way t run at

@@ -14,14 +14,14 @@ use Rattle.cyc_everywhere.proofs.adding.add_omni.Goals as goal
 pub returns-in_err-reserve_each-clause-holds : goal.returns-in_err-reserve_each-clause-holds
 returns-in_err-reserve_each-clause-holds g c =
     let p = err_from_is_err_and c.from_residual.result c.from_residual.ensures.1 in
-    holds_refused g.R.Raise.step g.R.Raise.view c.args.cpus.now c.args.records.now.list c.args.last c.requires.holds
+    holds_refused g.R.Raise c.args.cpus.now c.args.records.now.list c.args.last c.requires.holds
     c.reserve_each.new.self c.args.records.now.list
     p.0 c.from_residual.result (Err c.in_err-reserve_each.field-0.0) p.1 refl c.in_err-reserve_each.ensures.did
 
 pub returns-in_err-reserve-clause-holds : goal.returns-in_err-reserve-clause-holds
 returns-in_err-reserve-clause-holds g c =
     let p = err_from_is_err_and c.from_residual-in_err-reserve.result c.from_residual-in_err-reserve.ensures.1 in
-    holds_refused g.R.Raise.step g.R.Raise.view c.args.cpus.now c.args.records.now.list c.args.last c.requires.holds
+    holds_refused g.R.Raise c.args.cpus.now c.args.records.now.list c.args.last c.requires.holds
     c.reserve_each.new.self c.reserve.new.self.list
     p.0 c.from_residual-in_err-reserve.result (Ok tt) p.1 c.reserve.ensures.list c.in_ok-reserve_each.ensures.did
 
@@ -31,7 +31,7 @@ returns-in_err-reserve_each-clause-did g c =
     let never_is = c.if-nanoseconds.false in
     let valid = c.in-Some.ensures.valid in
     let p = err_from_is_err_and c.from_residual.result c.from_residual.ensures.1 in
-    omni_full g.R.Raise.step g.R.Raise.view c.args.level c.args.when c.args.skew c.args.now c.args.cpus.now
+    omni_full g.R.Raise c.args.level c.args.when c.args.skew c.args.now c.args.cpus.now
     c.args.records.now.list c.args.last
     (not_never c.args.now (omega (arith, low, a)) (λ e. absurd (omega (arith, never_is, a, b, e))))
     (not_spent (seen c.args.cpus.now c.args.records.now.list c.args.last) (valid.0 refl).1)
@@ -44,7 +44,7 @@ returns-in_err-reserve-clause-did g c =
     let never_is = c.if-nanoseconds.false in
     let valid = c.in-Some.ensures.valid in
     let p = err_from_is_err_and c.from_residual-in_err-reserve.result c.from_residual-in_err-reserve.ensures.1 in
-    omni_unrecorded g.R.Raise.step g.R.Raise.view c.args.level c.args.when c.args.skew c.args.now c.args.cpus.now
+    omni_unrecorded g.R.Raise c.args.level c.args.when c.args.skew c.args.now c.args.cpus.now
     c.args.records.now.list c.args.last
     (not_never c.args.now (omega (arith, low, a)) (λ e. absurd (omega (arith, never_is, a, b, e))))
     (not_spent (seen c.args.cpus.now c.args.records.now.list c.args.last) (valid.0 refl).1)
@@ -54,7 +54,7 @@ returns-in_err-reserve-clause-did g c =
 pub enter_each-requires-clause-absent : goal.enter_each-requires-clause-absent
 enter_each-requires-clause-absent g c n cpu at =
     let next = c.in-Some.ensures.value in
-    let same = quiet_reserves g.R.Raise.step g.R.Raise.view 1
+    let same = quiet_reserves g.R.Raise 1
     (Ok tt) c.args.cpus.now c.reserve_each.new.self c.in_ok-reserve_each.ensures.did in
     none_here c.reserve_each.new.self n c.in-Some.id cpu
     (λ h. not_given _ c.in-Some.id n c.requires.holds.agrees (omega (arith, next))
@@ -70,7 +70,7 @@ returns-clause-did g c =
     let low = c.nanoseconds.ensures.valid in let a = c.nanoseconds.ensures.value in let b = c.nanoseconds-2.ensures.value in
     let never_is = c.if-nanoseconds.false in
     let valid = c.in-Some.ensures.valid in
-    omni_done g.R.Raise.step g.R.Raise.view c.args.level c.args.when c.args.skew c.args.now c.args.cpus.now
+    omni_done g.R.Raise c.args.level c.args.when c.args.skew c.args.now c.args.cpus.now
     c.args.records.now.list c.args.last
     (not_never c.args.now (omega (arith, low, a)) (λ e. absurd (omega (arith, never_is, a, b, e))))
     (not_spent (seen c.args.cpus.now c.args.records.now.list c.args.last) (valid.0 refl).1)
@@ -80,7 +80,7 @@ returns-clause-did g c =
     c.reserve.ensures.list)
 
 pub returns-clause-holds : goal.returns-clause-holds
-returns-clause-holds g c = holds_done g.R.Raise.step g.R.Raise.view c.args.cpus.now c.args.records.now.list c.args.last
+returns-clause-holds g c = holds_done g.R.Raise c.args.cpus.now c.args.records.now.list c.args.last
     c.requires.holds c.law.ensures
     c.args.level c.args.when c.args.skew c.args.now c.reserve_each.new.self c.enter_each.new.cpus c.push.new.self.list
     c.in-Some.id c.in-Some.ensures.value c.in_ok-reserve_each.ensures.did c.enter_each.ensures

@@ -7,7 +7,7 @@ use Rattle.cyc_everywhere.proofs.adding.enter_each.Goals as goal
 use Rattle.cyc_everywhere.proofs.adding.enter_each.Goals.{then-is_online, else-is_online}
 
 pub loop-number-init : goal.loop-number-init
-loop-number-init g c = entries_start _ _ _ _ _ _ _ c.args.cpus.now
+loop-number-init g c = entries_start _ _ _ _ _ _ c.args.cpus.now
     (let a = c.count-number-end.ensures in omega arith) c.requires.room c.requires.absent
 
 pub loop-number-preserved : goal.loop-number-preserved
@@ -18,20 +18,20 @@ loop-number-preserved g c =
     let r = c.loop-number.invariant in
     let series : When = record { start = c.args.start; interval = c.args.interval } in
     elim c.if-is_online.branch [
-      | then-is_online w ↦ subst (λ x. Entries g.R.Raise.step g.R.Raise.view c.args.id c.args.level series c.args.skew c.args.now
+      | then-is_online w ↦ subst (λ x. Entries g.R.Raise c.args.id c.args.level series c.args.skew c.args.now
           v (n + 1) x) (sym w.cpus-is)
-          (entries_one g.R.Raise.step g.R.Raise.view c.args.id c.args.level series c.args.skew c.args.now v u w.enter.new.cpus n r
+          (entries_one g.R.Raise c.args.id c.args.level series c.args.skew c.args.now v u w.enter.new.cpus n r
           (c.is_online.ensures ∙ ap Some w.if-is_online.true)
-          (subst (λ m. Works g.R.Raise.step g.R.Raise.view
+          (subst (λ m. Works g.R.Raise
           (entering n c.args.id c.args.level c.args.interval m) u w.enter.new.cpus)
           w.component_first-first.ensures w.enter.ensures))
-      | else-is_online w ↦ subst (λ x. Entries g.R.Raise.step g.R.Raise.view c.args.id c.args.level series c.args.skew c.args.now
+      | else-is_online w ↦ subst (λ x. Entries g.R.Raise c.args.id c.args.level series c.args.skew c.args.now
           v (n + 1) x) (sym w.cpus-is)
-          (entries_none g.R.Raise.step g.R.Raise.view c.args.id c.args.level series c.args.skew c.args.now v u n r
+          (entries_none g.R.Raise c.args.id c.args.level series c.args.skew c.args.now v u n r
           (c.is_online.ensures ∙ ap Some w.if-is_online.false))
     ]
 
 pub returns : goal.returns
-returns g c = entries_done _ _ _ _ _ _ _ c.args.cpus.now c.loop-number.cpus c.loop-number.number
+returns g c = entries_done _ _ _ _ _ _ c.args.cpus.now c.loop-number.cpus c.loop-number.number
     (let a = ap length c.loop-number.invariant.online in let b = c.count-number-end.ensures.online in
     omega arith) c.loop-number.invariant

@@ -3,4 +3,4 @@ use Rattle.cyc_everywhere.proofs.returning.bring_all_back.Given as goal
 
 abbrev pub invariant-loop-place : goal.invariant-loop-place
 invariant-loop-place g l =
-    Bringing g.R.Raise.step g.R.Raise.view l.number l.now l.fn.cpus l.fn.records.list l.place l.cpus l.records.list
+    Bringing g.R.Raise l.number l.now l.fn.cpus l.fn.records.list l.place l.cpus l.records.list

@@ -29,7 +29,7 @@ place-requires-clause-most g c = subst (λ (s : Sent). s.sent ≤ c.cpu_mut.resu
 
 pub returns-clause-did : goal.returns-clause-did
 returns-clause-did g c r at =
-    one_back g.R.Raise.step g.R.Raise.view c.args.number c.args.now r c.at.result.now c.in-Everywhere.when c.in-Everywhere.skew
+    one_back g.R.Raise c.args.number c.args.now r c.at.result.now c.in-Everywhere.when c.in-Everywhere.skew
     c.component_first-first.result c.take_ended-counts.result
     c.args.cpus.now c.cpu_mut.result.now c.place.new.self
     (same_some (sym at ∙ c.at.ensures)) c.in-Everywhere.is c.cpu_mut.ensures.cpu

@@ -17,7 +17,7 @@ returns-in_err-reserve-clause-did g c last =
     let low = c.nanoseconds.ensures.valid in let a = c.nanoseconds.ensures.value in let b = c.nanoseconds-2.ensures.value in
     let never_is = c.if-nanoseconds.false in
     let p = err_from_is_err_and c.from_residual.result c.from_residual.ensures.1 in
-    online_refused g.R.Raise.step g.R.Raise.view c.args.cpus.now c.args.records.now.list c.args.number c.args.now
+    online_refused g.R.Raise c.args.cpus.now c.args.records.now.list c.args.number c.args.now
     c.law-2.ensures.rising c.law.ensures
     c.cpu_mut.result.now c.cpu_mut.ensures.cpu
     (online_read c.args.cpus.now c.args.number false (c.is_online.ensures ∙ ap Some c.if-is_online.false))
@@ -28,7 +28,7 @@ returns-in_err-reserve-clause-did g c last =
 
 pub returns-in_err-reserve-clause-holds : goal.returns-in_err-reserve-clause-holds
 returns-in_err-reserve-clause-holds g c last a =
-    holds_refused g.R.Raise.step g.R.Raise.view c.args.cpus.now c.args.records.now.list c.args.number c.args.now
+    holds_refused g.R.Raise c.args.cpus.now c.args.records.now.list c.args.number c.args.now
     c.law-2.ensures.rising c.law.ensures
     c.cpu_mut.result.now c.cpu_mut.ensures.cpu
     (online_read c.args.cpus.now c.args.number false (c.is_online.ensures ∙ ap Some c.if-is_online.false))
@@ -45,19 +45,19 @@ pub bring_all_back-requires-clause-empty : goal.bring_all_back-requires-clause-e
 bring_all_back-requires-clause-empty g c =
     of_cpu c.args.number (λ cpu. cpu.cyclics ≡ []) c.widen.new.self
     (with_cpu (with_cpu c.args.cpus.now c.args.number c.reserve.new.self) c.args.number c.widen.new.self)
-    (at_ready g.R.Raise.step g.R.Raise.view c.args.cpus.now c.args.records.now.list c.args.number c.args.now
+    (at_ready g.R.Raise c.args.cpus.now c.args.records.now.list c.args.number c.args.now
     c.law-2.ensures.rising c.law.ensures
     c.cpu_mut.result.now c.cpu_mut.ensures.cpu
     (online_read c.args.cpus.now c.args.number false (c.is_online.ensures ∙ ap Some c.if-is_online.false))
     c.count_staying-more.result c.count_staying-more.ensures c.reserve.new.self c.cpu_mut-2.result.now c.widen.new.self
     c.in_ok-reserve.ensures c.cpu_mut-2.ensures.cpu c.widen.ensures)
-    (empty_ready g.R.Raise.step g.R.Raise.view c.args.cpus.now c.args.records.now.list c.args.number c.args.now
+    (empty_ready g.R.Raise c.args.cpus.now c.args.records.now.list c.args.number c.args.now
     c.law-2.ensures.rising c.law.ensures
     c.cpu_mut.result.now c.cpu_mut.ensures.cpu
     (online_read c.args.cpus.now c.args.number false (c.is_online.ensures ∙ ap Some c.if-is_online.false))
     c.count_staying-more.result c.count_staying-more.ensures c.reserve.new.self c.cpu_mut-2.result.now c.widen.new.self
     c.in_ok-reserve.ensures c.cpu_mut-2.ensures.cpu c.widen.ensures
-    (empty g.R.Raise.step g.R.Raise.view c.args.cpus.now c.args.records.now.list c.args.number c.args.now c.law-2.ensures.rising
+    (empty g.R.Raise c.args.cpus.now c.args.records.now.list c.args.number c.args.now c.law-2.ensures.rising
     c.law.ensures
     c.cpu_mut.result.now c.cpu_mut.ensures.cpu
     (online_read c.args.cpus.now c.args.number false (c.is_online.ensures ∙ ap Some c.if-is_online.false)) c.requires.holds.0
@@ -69,13 +69,13 @@ bring_all_back-requires-clause-room g c =
     (is_staying (with_cpu (with_cpu c.args.cpus.now c.args.number c.reserve.new.self) c.args.number c.widen.new.self))
     c.args.records.now.list) ≤ cpu.size) c.widen.new.self
     (with_cpu (with_cpu c.args.cpus.now c.args.number c.reserve.new.self) c.args.number c.widen.new.self)
-    (at_ready g.R.Raise.step g.R.Raise.view c.args.cpus.now c.args.records.now.list c.args.number c.args.now
+    (at_ready g.R.Raise c.args.cpus.now c.args.records.now.list c.args.number c.args.now
     c.law-2.ensures.rising c.law.ensures
     c.cpu_mut.result.now c.cpu_mut.ensures.cpu
     (online_read c.args.cpus.now c.args.number false (c.is_online.ensures ∙ ap Some c.if-is_online.false))
     c.count_staying-more.result c.count_staying-more.ensures c.reserve.new.self c.cpu_mut-2.result.now c.widen.new.self
     c.in_ok-reserve.ensures c.cpu_mut-2.ensures.cpu c.widen.ensures)
-    (room_ready g.R.Raise.step g.R.Raise.view c.args.cpus.now c.args.records.now.list c.args.number c.args.now
+    (room_ready g.R.Raise c.args.cpus.now c.args.records.now.list c.args.number c.args.now
     c.law-2.ensures.rising c.law.ensures
     c.cpu_mut.result.now c.cpu_mut.ensures.cpu
     (online_read c.args.cpus.now c.args.number false (c.is_online.ensures ∙ ap Some c.if-is_online.false))
@@ -86,13 +86,13 @@ pub bring_all_back-requires-clause-within : goal.bring_all_back-requires-clause-
 bring_all_back-requires-clause-within g c k r is =
     of_cpu c.args.number (λ cpu. (ended_on c.args.number r).sent ≤ cpu.most) c.widen.new.self
     (with_cpu (with_cpu c.args.cpus.now c.args.number c.reserve.new.self) c.args.number c.widen.new.self)
-    (at_ready g.R.Raise.step g.R.Raise.view c.args.cpus.now c.args.records.now.list c.args.number c.args.now
+    (at_ready g.R.Raise c.args.cpus.now c.args.records.now.list c.args.number c.args.now
     c.law-2.ensures.rising c.law.ensures
     c.cpu_mut.result.now c.cpu_mut.ensures.cpu
     (online_read c.args.cpus.now c.args.number false (c.is_online.ensures ∙ ap Some c.if-is_online.false))
     c.count_staying-more.result c.count_staying-more.ensures c.reserve.new.self c.cpu_mut-2.result.now c.widen.new.self
     c.in_ok-reserve.ensures c.cpu_mut-2.ensures.cpu c.widen.ensures)
-    (let most = most_ready g.R.Raise.step g.R.Raise.view c.args.cpus.now c.args.records.now.list c.args.number c.args.now
+    (let most = most_ready g.R.Raise c.args.cpus.now c.args.records.now.list c.args.number c.args.now
     c.law-2.ensures.rising c.law.ensures
     c.cpu_mut.result.now c.cpu_mut.ensures.cpu
     (online_read c.args.cpus.now c.args.number false (c.is_online.ensures ∙ ap Some c.if-is_online.false))
@@ -102,7 +102,7 @@ bring_all_back-requires-clause-within g c k r is =
     (ap (λ o. option_map (λ (cpu : CpuView _). cpu.most) o) c.cpu_mut.ensures.cpu) in omega (arith, most, within))
 
 pub set_online-requires : goal.set_online-requires
-set_online-requires g c = low_after g.R.Raise.step g.R.Raise.view c.args.cpus.now c.args.records.now.list c.args.number c.args.now
+set_online-requires g c = low_after g.R.Raise c.args.cpus.now c.args.records.now.list c.args.number c.args.now
     c.law-2.ensures.rising c.law.ensures
     c.cpu_mut.result.now c.cpu_mut.ensures.cpu
     (online_read c.args.cpus.now c.args.number false (c.is_online.ensures ∙ ap Some c.if-is_online.false))
@@ -115,7 +115,7 @@ pub returns-clause-did : goal.returns-clause-did
 returns-clause-did g c last =
     let low = c.nanoseconds.ensures.valid in let a = c.nanoseconds.ensures.value in let b = c.nanoseconds-2.ensures.value in
     let never_is = c.if-nanoseconds.false in
-    online_done g.R.Raise.step g.R.Raise.view c.args.cpus.now c.args.records.now.list c.args.number c.args.now
+    online_done g.R.Raise c.args.cpus.now c.args.records.now.list c.args.number c.args.now
     c.law-2.ensures.rising c.law.ensures
     c.cpu_mut.result.now c.cpu_mut.ensures.cpu
     (online_read c.args.cpus.now c.args.number false (c.is_online.ensures ∙ ap Some c.if-is_online.false))
@@ -127,7 +127,7 @@ returns-clause-did g c last =
     (not_never c.args.now (omega (arith, low, a)) (λ e. absurd (omega (arith, never_is, a, b, e))))
 
 pub returns-clause-holds : goal.returns-clause-holds
-returns-clause-holds g c last a = holds_done g.R.Raise.step g.R.Raise.view c.args.cpus.now c.args.records.now.list c.args.number
+returns-clause-holds g c last a = holds_done g.R.Raise c.args.cpus.now c.args.records.now.list c.args.number
     c.args.now c.law-2.ensures.rising c.law.ensures
     c.cpu_mut.result.now c.cpu_mut.ensures.cpu
     (online_read c.args.cpus.now c.args.number false (c.is_online.ensures ∙ ap Some c.if-is_online.false))

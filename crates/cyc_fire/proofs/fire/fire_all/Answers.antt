@@ -26,7 +26,7 @@ loop-root-init g c =
         [],
         refl,
         f,
-        makes_none (at_level g.C.Calls.called High) g.C.Calls.count g.R.Raise.step g.R.Raise.view c.args.now
+        makes_none (at_level g.C.Calls.called High) g.C.Calls.count g.R.Raise c.args.now
             (cyclics_of rows) (record { calls = c.args.calls.now; lock = c.args.lock.now; low = c.args.low.now }) f,
         omega arith,
       );
@@ -52,14 +52,14 @@ loop-root-preserved g c =
     let (k, r, is, at, moment, named, first) = c.in-Some.ensures.first in
     let i = c.loop-root.invariant in
     let (made, long, f, makes, few) = i.made in
-    let t = turn_written (at_level g.C.Calls.called High) g.C.Calls.count g.R.Raise.step g.R.Raise.view c.args.now
+    let t = turn_written (at_level g.C.Calls.called High) g.C.Calls.count g.R.Raise c.args.now
     c.loop-root.table.size c.args.most (g.R.Raise.view c.args.lock.now).marked (g.R.Raise.view c.args.low.now).marked
     c.args.table.now.rows (record { calls = c.args.calls.now; lock = c.args.lock.now; low = c.args.low.now }) made
     c.loop-root.table.rows c.expire_root.new.self.rows
     (record { calls = c.loop-root.calls; lock = c.loop-root.lock; low = c.loop-root.low })
     (record { calls = c.expire_at.new.calls; lock = c.expire_at.new.lock; low = c.expire_at.new.low })
     c.loop-root.lost c.in-Ok.more c.following.result k c.in-Some.root.1 c.in-Some.root.2 r c.record-kept.result
-    (record { rising = i.rising; sound = i.sound; ready = i.ready; firing = f; makes = makes; few = few })
+    (record { rising = i.rising; sound = i.sound; ready = i.ready; fires = f; makes = makes; few = few })
     c.law.ensures.rising is first moment named (c.record-kept.ensures k r is at) c.in-Some.ensures.due c.requires.now
     c.if-count-most.false
     (record {
@@ -81,7 +81,7 @@ loop-root-preserved g c =
       ready = subst (λ n. IsReady g.R.Raise.view n c.args.most (g.R.Raise.view c.args.lock.now).marked
           (g.R.Raise.view c.args.low.now).marked c.expire_at.new.lock c.expire_at.new.low c.expire_root.new.self.rows)
           (sym same_size) t.ready;
-      made = (made ++ next_of r.timer ∷ [], simp length-append (omega (arith, long)), t.firing, t.makes, t.few);
+      made = (made ++ next_of r.timer ∷ [], simp length-append (omega (arith, long)), t.fires, t.makes, t.few);
     }
 
 pub overflow_add-expired : goal.overflow_add-expired
@@ -167,7 +167,7 @@ returns-clause-made g c =
     let (made, long, f, makes, few) = c.loop-root.invariant.made in
     let later = recursion_from_All (λ (t : Timer). c.args.now < t.moment)
     (timers_of c.loop-root.table.rows) c.in_default.ensures.none in
-    subst (λ xs. Makes (at_level g.C.Calls.called High) g.C.Calls.count g.R.Raise.step g.R.Raise.view c.args.now xs
+    subst (λ xs. Makes (at_level g.C.Calls.called High) g.C.Calls.count g.R.Raise c.args.now xs
     (cyclics_of c.args.table.now.rows) (cyclics_of c.loop-root.table.rows)
     (record { calls = c.args.calls.now; lock = c.args.lock.now; low = c.args.low.now })
     (record { calls = c.loop-root.calls; lock = c.loop-root.lock; low = c.loop-root.low }) c.loop-root.lost)

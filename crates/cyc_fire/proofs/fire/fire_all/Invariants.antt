@@ -19,7 +19,7 @@ invariant-loop-root g l = record {
       (g.R.Raise.view l.fn.low).marked l.lock l.low l.table.rows;
   made : (made : List Expiration) × (length made ≡ l.expired)
       × Firing l.now made (timers_of l.fn.table.rows) (timers_of l.table.rows)
-      × Makes (at_level g.C.Calls.called High) g.C.Calls.count g.R.Raise.step g.R.Raise.view l.now made
+      × Makes (at_level g.C.Calls.called High) g.C.Calls.count g.R.Raise l.now made
       (cyclics_of l.fn.table.rows) (cyclics_of l.table.rows)
       (record { calls = l.fn.calls; lock = l.fn.lock; low = l.fn.low })
       (record { calls = l.calls; lock = l.lock; low = l.low }) l.lost

@@ -36,7 +36,7 @@ loop-done-preserved g c =
     let i = c.loop-done.invariant in let w = c.loop-done.cpus in let source = c.args.source in
     let there = subst (λ n. source < n) (sym i.there) c.requires.there in
     let (cpu, at) = get_some w.cpus source there in
-    walked_more g.R.Raise.step g.R.Raise.view source c.args.cpus.now c.args.records.now c.loop-done._done c.loop-done.place
+    walked_more g.R.Raise source c.args.cpus.now c.args.records.now c.loop-done._done c.loop-done.place
     c.visit-place.result c.loop-done.report c.visit-place.new.report
     w c.visit-place.new.cpus c.loop-done.records c.visit-place.new.records i c.law-in-loop-done-2.ensures.rising
     (rise_on g.R.Raise.view w source cpu at (c.law-in-loop-done.ensures source cpu at)) there c.visit-place.ensures.agrees
@@ -46,7 +46,7 @@ pub returns-clause-did : goal.returns-clause-did
 returns-clause-did g c =
     let l = length_is c.args.cpus.now c.args.source c.cpu.result.now c.cpu.ensures in let len = c.len-done-end.ensures in
     let done = c.loop-done-test.false in
-    walked_all g.R.Raise.step g.R.Raise.view c.args.source c.args.cpus.now c.args.records.now c.loop-done._done c.loop-done.place
+    walked_all g.R.Raise c.args.source c.args.cpus.now c.args.records.now c.loop-done._done c.loop-done.place
     c.loop-done.report c.loop-done.cpus c.loop-done.records
     c.loop-done.invariant (omega (arith, l, len, done))
 
@@ -54,7 +54,7 @@ pub returns-clause-left : goal.returns-clause-left
 returns-clause-left g c =
     let l = length_is c.args.cpus.now c.args.source c.cpu.result.now c.cpu.ensures in let len = c.len-done-end.ensures in
     let done = c.loop-done-test.false in
-    walked_left g.R.Raise.step g.R.Raise.view c.args.source c.args.cpus.now c.args.records.now c.loop-done._done c.loop-done.place
+    walked_left g.R.Raise c.args.source c.args.cpus.now c.args.records.now c.loop-done._done c.loop-done.place
     c.loop-done.report c.loop-done.cpus c.loop-done.records
     c.loop-done.invariant (omega (arith, l, len, done))
 

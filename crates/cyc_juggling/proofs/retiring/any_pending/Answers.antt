@@ -13,10 +13,10 @@ returns-then-ne-clause-some g c records last =
     let len = c.len-place-end.ensures in let low = c.loop-place-test.true in
     let spot = id_there w source c.cpu-in-loop-place.result.now c.cpu-in-loop-place.ensures c.loop-place.place c.id_at-id.result
     (omega (arith, l, first, same, len, low)) c.id_at-id.ensures in
-    let (n, some, did) = found_some g.R.Raise.step g.R.Raise.view c.id_at-id.result x c.pending.new.self c.pending.result
+    let (n, some, did) = found_some g.R.Raise c.id_at-id.result x c.pending.new.self c.pending.result
     (cyclic_of w source c.loop-place.place c.id_at-id.result x c.cpu_mut.ensures.cpu spot) (sym c.ne.ensures
     ∙ c.if-ne.true) c.pending.ensures in
-    finds g.R.Raise.step g.R.Raise.view source c.args.cpus.now c.loop-place.place c.id_at-id.result w x c.pending.new.self
+    finds g.R.Raise source c.args.cpus.now c.loop-place.place c.id_at-id.result w x c.pending.new.self
     c.loop-place.invariant spot c.cpu_mut.ensures.cpu n some did records last
 
 pub loop-place-preserved : goal.loop-place-preserved
@@ -28,7 +28,7 @@ loop-place-preserved g c =
     let len = c.len-place-end.ensures in let low = c.loop-place-test.true in
     let spot = id_there w source c.cpu-in-loop-place.result.now c.cpu-in-loop-place.ensures c.loop-place.place c.id_at-id.result
     (omega (arith, l, first, same, len, low)) c.id_at-id.ensures in
-    asked_more g.R.Raise.step g.R.Raise.view source c.args.cpus.now c.loop-place.place c.id_at-id.result w x c.pending.new.self
+    asked_more g.R.Raise source c.args.cpus.now c.loop-place.place c.id_at-id.result w x c.pending.new.self
     c.loop-place.invariant spot c.cpu_mut.ensures.cpu
-    (found_none g.R.Raise.step g.R.Raise.view c.id_at-id.result x c.pending.new.self c.pending.result (sym c.ne.ensures
+    (found_none g.R.Raise c.id_at-id.result x c.pending.new.self c.pending.result (sym c.ne.ensures
     ∙ c.if-ne.false) c.pending.ensures)

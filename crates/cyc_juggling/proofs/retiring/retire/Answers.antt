@@ -13,7 +13,7 @@ use Rattle.cyc_juggling.proofs.retiring.retire.Goals as goal
 
 pub unreachable-requires-in_default-take_now : goal.unreachable-requires-in_default-take_now
 unreachable-requires-in_default-take_now g c =
-    is_taken g.R.Raise.step g.R.Raise.view c.args.id c.cpu_mut.result.now c.take_now.new.self c.in_default-take_now.field-0
+    is_taken g.R.Raise c.args.id c.cpu_mut.result.now c.take_now.new.self c.in_default-take_now.field-0
     (c.requires.leaves c.cpu_mut.result.now c.cpu_mut.ensures.cpu) c.in_default-take_now.ensures.did
 
 pub add_ended-requires-clause-here : goal.add_ended-requires-clause-here
@@ -37,7 +37,7 @@ returns-clause-within g c last h =
     let (r, is, named) = c.in-Some.ensures.some in let (k, q, at, own, fresh) = c.requires.record in
     let same : r ≡ q = same_some (sym is ∙ ap (λ j. slice_get c.args.records.now.list j)
     (one_record c.args.records.now.list k c.in-Some.place q r c.law.ensures.rising at is (named ∙ sym own)) ∙ at) in
-    within_taken g.R.Raise.step g.R.Raise.view c.args.source c.args.id last c.in-Ok.taken c.args.cpus.now
+    within_taken g.R.Raise c.args.source c.args.id last c.in-Ok.taken c.args.cpus.now
     (with_cpu c.args.cpus.now c.args.source c.take_now.new.self)
     c.args.records.now c.add_ended.new.self
     (record {

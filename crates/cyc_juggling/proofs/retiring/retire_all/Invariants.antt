@@ -6,6 +6,6 @@ use Rattle.cyc_juggling.proofs.retiring.retire_all.Given as goal
 
 abbrev pub invariant-loop-done : goal.invariant-loop-done
 invariant-loop-done g l = record {
-  walk : Retired g.R.Raise.step g.R.Raise.view l.source l.fn.cpus l.fn.records l._done l.cpus l.records;
+  walk : Retired g.R.Raise l.source l.fn.cpus l.fn.records l._done l.cpus l.records;
   within : (last : ℕ) → EndedWithin (system_of l.fn.cpus l.fn.records last) → EndedWithin (system_of l.cpus l.records last);
 }

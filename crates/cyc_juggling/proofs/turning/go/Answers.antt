@@ -45,19 +45,19 @@ set_place-requires g c = let (r, is, named, place) = c.requires.record in
 pub returns-in-Ok-clause-agrees : goal.returns-in-Ok-clause-agrees
 returns-in-Ok-clause-agrees g c last a = let (r, is, named, place) = c.requires.record in
     let s = system_of c.args.cpus.now c.args.records.now last in
-    let shifts = subst (λ i. Shifts g.R.Raise.step g.R.Raise.view i c.args.source c.in-Some.target
+    let shifts = subst (λ i. Shifts g.R.Raise i c.args.source c.in-Some.target
     (Ok tt) c.args.cpus.now c.shift.new.self) (sym named) c.in-Ok.ensures in
     subst (λ rs. Agrees (record { cpus = c.shift.new.self; records = rs; last = last })) (sym (c.set_place.ensures r is))
     (Going.agrees_moved s a c.law-2.ensures.rising c.args.source c.in-Some.target c.args.place r is place (sym c.in-Some.ensures)
-    g.R.Raise.step g.R.Raise.view c.law.ensures c.shift.new.self shifts)
+    g.R.Raise c.law.ensures c.shift.new.self shifts)
 
 pub returns-in-Pending-clause-agrees : goal.returns-in-Pending-clause-agrees
 returns-in-Pending-clause-agrees g c last a = let (r, is, named, place) = c.requires.record in
     let s = system_of c.args.cpus.now c.args.records.now last in
-    let shifts = subst (λ i. Shifts g.R.Raise.step g.R.Raise.view i c.args.source c.in-Some.target
+    let shifts = subst (λ i. Shifts g.R.Raise i c.args.source c.in-Some.target
     (Err c.in-Err.why) c.args.cpus.now c.shift.new.self) (sym named) c.in-Err.ensures in
     Going.agrees_stayed s a c.law-2.ensures.rising c.args.source c.in-Some.target c.args.place r is place (sym c.in-Some.ensures)
-    g.R.Raise.step g.R.Raise.view c.law.ensures c.shift.new.self c.in-Err.why shifts
+    g.R.Raise c.law.ensures c.shift.new.self c.in-Err.why shifts
 
 pub returns-in_default-why : goal.returns-in_default-why
 returns-in_default-why g c = let (r, is, named, place) = c.requires.record in
@@ -68,7 +68,7 @@ returns-in_default-why g c = let (r, is, named, place) = c.requires.record in
         sym c.in-Some.ensures,
         c.in-Err.why,
         (
-          Going.refused g.R.Raise.step g.R.Raise.view c.args.id c.args.source c.in-Some.target c.args.cpus.now c.shift.new.self
+          Going.refused g.R.Raise c.args.id c.args.source c.in-Some.target c.args.cpus.now c.shift.new.self
               c.in-Err.why c.requires.still c.in_default-why.not-Pending c.in-Err.ensures,
           refl,
           refl,
@@ -76,9 +76,9 @@ returns-in_default-why g c = let (r, is, named, place) = c.requires.record in
       );
       agrees = λ last a.
           (let s = system_of c.args.cpus.now c.args.records.now last in
-          let shifts = subst (λ i. Shifts g.R.Raise.step g.R.Raise.view i c.args.source c.in-Some.target
+          let shifts = subst (λ i. Shifts g.R.Raise i c.args.source c.in-Some.target
           (Err c.in-Err.why) c.args.cpus.now c.shift.new.self) (sym named) c.in-Err.ensures in
           Going.agrees_stayed s a c.law-2.ensures.rising c.args.source c.in-Some.target c.args.place r is place
           (sym c.in-Some.ensures)
-          g.R.Raise.step g.R.Raise.view c.law.ensures c.shift.new.self c.in-Err.why shifts);
+          g.R.Raise c.law.ensures c.shift.new.self c.in-Err.why shifts);
     }

@@ -5,7 +5,7 @@ use Rattle.std.proofs.lemmas.List.{map-set}
 use Rattle.cyc_script.specs.declared.step.Step.TheVariants as steps
 use Rattle.cyc_script_machine.specs.System.{running_system}
 use Rattle.cyc_script_machine.specs.Calls.{Changes, Add}
-use Rattle.cyc_cpu.specs.Soft.{fires, firing_at}
+use Rattle.cyc_cpu.specs.Soft.{raise_tables}
 use Rattle.cyc_script_machine.specs.Answers.{IsRefused}
 use Rattle.cyc_model.specs.Questions.{plain}
 use Rattle.cyc_model.specs.Script.{refusal_of}
@@ -23,7 +23,7 @@ pub returns-in_err-id : goal.returns-in_err-id
 returns-in_err-id c step s r low h =
     let m = c.args.machine.now in let a = c.args.added.now in let series = c.in_ok-when.when in
     let e = c.in_err-id.field-0.0 in let t = c.add-answer.new.self in
-    let did = subst (λ k. Changes fires firing_at m.system (Add a.level series k (Err e)) t) (sym h.clock) c.in_err-id.ensures in
+    let did = subst (λ k. Changes raise_tables m.system (Add a.level series k (Err e)) t) (sym h.clock) c.in_err-id.ensures in
     let refused = c.add_law.ensures.refused a series e s m.system t h.system h.shows
     (is_series a series c.in_ok-when.ensures.ok) did in
     let call = Add a.level series m.clock (Err e) in let before = running_system m.tally m.system in
@@ -41,7 +41,7 @@ pub returns : goal.returns
 returns c step s r low h =
     let m = c.args.machine.now in let a = c.args.added.now in let series = c.in_ok-when.when in
     let id = c.in_ok-id.id in let t = c.add-answer.new.self in
-    let did = subst (λ k. Changes fires firing_at m.system (Add a.level series k (Ok id)) t) (sym h.clock) c.in_ok-id.ensures in
+    let did = subst (λ k. Changes raise_tables m.system (Add a.level series k (Ok id)) t) (sym h.clock) c.in_ok-id.ensures in
     let done = c.add_law.ensures.accepted a series id s m.system t h.system h.shows
     (is_series a series c.in_ok-when.ensures.ok) did in
     let call = Add a.level series m.clock (Ok id) in let before = running_system m.tally m.system in

@@ -2,7 +2,7 @@ use Rattle.std.proofs.Common.{◌≡◌, refl, subst}
 use Rattle.std.specs.Prelude.{Ok, Err}
 use Rattle.cyc_script_machine.specs.System.{running_system}
 use Rattle.cyc_script_machine.specs.Calls.{Changes, Juggle}
-use Rattle.cyc_cpu.specs.Soft.{fires, firing_at}
+use Rattle.cyc_cpu.specs.Soft.{raise_tables}
 use Rattle.cyc_script_machine.proofs.Doing.{keeps}
 use Rattle.cyc_placing.proofs.Turns.{juggles}
 use Rattle.cyc_placing.proofs.leaving.juggle_cpu.Goals as goal
@@ -17,6 +17,6 @@ returns c step s r h =
     (c.kept_law.ensures.room call before after (did, refl) h.system h.room) in
     juggles step n s m t r h kept answer
     (λ report is. c.juggle_law.ensures.accepted n report s m.system t h.system h.shows h.room
-    (subst (λ a. Changes fires firing_at m.system (Juggle n a) t) is did))
+    (subst (λ a. Changes raise_tables m.system (Juggle n a) t) is did))
     (λ e is. c.juggle_law.ensures.refused n e s m.system t h.system h.shows
-    (subst (λ a. Changes fires firing_at m.system (Juggle n a) t) is did))
+    (subst (λ a. Changes raise_tables m.system (Juggle n a) t) is did))

@@ -2,7 +2,7 @@ use Rattle.std.proofs.Common.{◌≡◌, refl, subst}
 use Rattle.std.specs.Prelude.{Ok, Err}
 use Rattle.cyc_script_machine.specs.System.{running_system}
 use Rattle.cyc_script_machine.specs.Calls.{Changes, Offline}
-use Rattle.cyc_cpu.specs.Soft.{fires, firing_at}
+use Rattle.cyc_cpu.specs.Soft.{raise_tables}
 use Rattle.cyc_script_machine.proofs.Doing.{keeps}
 use Rattle.cyc_placing.proofs.Turns.{goes_offline}
 use Rattle.cyc_placing.proofs.leaving.offline_cpu.Goals as goal
@@ -18,10 +18,10 @@ returns c step s r h =
     (c.kept_law.ensures.room call before after (did, refl) h.system h.room) in
     goes_offline step n s m t r h kept answer
     (λ is. c.offline_law.ensures.accepted n s m.system t h.system h.shows h.room
-    (subst (λ a. Changes fires firing_at m.system (Offline n a) t) is did))
+    (subst (λ a. Changes raise_tables m.system (Offline n a) t) is did))
     (λ report is. c.offline_law.ensures.left n report s m.system t h.system h.shows h.room
-    (subst (λ a. Changes fires firing_at m.system (Offline n a) t) is did))
+    (subst (λ a. Changes raise_tables m.system (Offline n a) t) is did))
     (λ is. c.offline_law.ensures.pending n s m.system t h.system h.shows h.room
-    (subst (λ a. Changes fires firing_at m.system (Offline n a) t) is did))
+    (subst (λ a. Changes raise_tables m.system (Offline n a) t) is did))
     (λ e once is. c.offline_law.ensures.refused n e s m.system t h.system h.shows once
-    (subst (λ a. Changes fires firing_at m.system (Offline n a) t) is did))
+    (subst (λ a. Changes raise_tables m.system (Offline n a) t) is did))

@@ -3,7 +3,7 @@ use Rattle.std.specs.Prelude.{Ok, Err}
 use Rattle.cyc_script.specs.declared.step.Step.TheVariants as steps
 use Rattle.cyc_script_machine.specs.System.{running_system}
 use Rattle.cyc_script_machine.specs.Calls.{Changes, Bind}
-use Rattle.cyc_cpu.specs.Soft.{fires, firing_at}
+use Rattle.cyc_cpu.specs.Soft.{raise_tables}
 use Rattle.cyc_model.specs.Places.{id_of}
 use Rattle.cyc_script_machine.specs.Machine.{id_at}
 use Rattle.cyc_script_machine.proofs.Doing.{keeps, answered}
@@ -29,12 +29,12 @@ returns c step s r h =
     let kept = keeps s m t h (c.kept_law.ensures.system call before after (c.bind-answer.ensures, refl) h.system c.law.ensures)
     (c.kept_law.ensures.most call before after (c.bind-answer.ensures, refl) h.system)
     (c.kept_law.ensures.room call before after (c.bind-answer.ensures, refl) h.system h.room) in
-    let did = subst (λ k. Changes fires firing_at m.system (Bind k (Some b.cpu) answer) t) (sym named) c.bind-answer.ensures in
+    let did = subst (λ k. Changes raise_tables m.system (Bind k (Some b.cpu) answer) t) (sym named) c.bind-answer.ensures in
     answered step (steps.Bind b) answer s m (record m { system = t }) r tt h kept
     (λ is. c.bind_law.ensures.accepted b s m.system t h.system h.shows
-    (subst (λ a. Changes fires firing_at m.system (Bind (id_of b.name s) (Some b.cpu) a) t) is did))
+    (subst (λ a. Changes raise_tables m.system (Bind (id_of b.name s) (Some b.cpu) a) t) is did))
     (λ e is. c.bind_law.ensures.refused b e s m.system t h.system h.shows
-    (subst (λ a. Changes fires firing_at m.system (Bind (id_of b.name s) (Some b.cpu) a) t) is did))
+    (subst (λ a. Changes raise_tables m.system (Bind (id_of b.name s) (Some b.cpu) a) t) is did))
     refl refl (record { names = refl; counted = refl; named = refl }) (record {
       clock = λ texts indexes step. (still_bind indexes step b s).clock;
       names = λ texts indexes step. (still_bind indexes step b s).names ∙ h.names;

@@ -4,7 +4,7 @@ use Rattle.std.proofs.lemmas.Result.{err_from_is_err_and}
 use Rattle.cyc_script.specs.declared.step.Step.TheVariants as steps
 use Rattle.cyc_script_machine.specs.System.{running_system}
 use Rattle.cyc_script_machine.specs.Calls.{Changes}
-use Rattle.cyc_cpu.specs.Soft.{fires, firing_at}
+use Rattle.cyc_cpu.specs.Soft.{raise_tables}
 use Rattle.cyc_script_machine.specs.SystemWords.{reprograms}
 use Rattle.cyc_script_machine.specs.Answers.{IsRefused}
 use Rattle.cyc_model.specs.Questions.{plain}
@@ -48,14 +48,14 @@ returns c step s r h =
     let made = same_kept b.cpu id moment answer m.tally m.system t c.reprogram_at.ensures.did in
     let kept = keeps s m t h (c.kept_law.ensures.system call before after made h.system c.reprogram_at.ensures.agrees)
     (c.kept_law.ensures.most call before after made h.system) (c.kept_law.ensures.room call before after made h.system h.room) in
-    let did = subst (λ k. Changes fires firing_at m.system (reprograms b.cpu k moment answer) t)
+    let did = subst (λ k. Changes raise_tables m.system (reprograms b.cpu k moment answer) t)
     (sym named) c.reprogram_at.ensures.did in
     let is = is_moment b moment c.in_ok-moment.ensures.ok in
     answered step (steps.Reprogram b) answer s m (record m { system = t }) r tt h kept
     (λ ok. c.reprogram_law.ensures.accepted b moment s m.system t h.system h.shows is
-    (subst (λ a. Changes fires firing_at m.system (reprograms b.cpu (id_of b.name s) moment a) t) ok did))
+    (subst (λ a. Changes raise_tables m.system (reprograms b.cpu (id_of b.name s) moment a) t) ok did))
     (λ e err. c.reprogram_law.ensures.refused b moment e s m.system t h.system h.shows is
-    (subst (λ a. Changes fires firing_at m.system (reprograms b.cpu (id_of b.name s) moment a) t) err did))
+    (subst (λ a. Changes raise_tables m.system (reprograms b.cpu (id_of b.name s) moment a) t) err did))
     refl refl (record { names = refl; counted = refl; named = refl }) (record {
       clock = λ texts indexes step. refl;
       names = λ texts indexes step. h.names;

@@ -2,10 +2,10 @@ use Rattle.cyc_removing.proofs.Others.{begins_others, polls_others, asks_others}
 use Rattle.cyc_removing.proofs.laws.others_law.Goals as goal
 
 pub returns-clause-begun : goal.returns-clause-begun
-returns-clause-begun g c id other answer s t = begins_others g.R.Raise.step g.R.Raise.view id other answer s t
+returns-clause-begun g c id other answer s t = begins_others g.R.Raise id other answer s t
 
 pub returns-clause-polled : goal.returns-clause-polled
-returns-clause-polled g c id other answer s t = polls_others g.R.Raise.step g.R.Raise.view id other answer s t
+returns-clause-polled g c id other answer s t = polls_others g.R.Raise id other answer s t
 
 pub returns-clause-asked : goal.returns-clause-asked
-returns-clause-asked g c id other answer s t = asks_others g.R.Raise.step g.R.Raise.view id other answer s t
+returns-clause-asked g c id other answer s t = asks_others g.R.Raise id other answer s t

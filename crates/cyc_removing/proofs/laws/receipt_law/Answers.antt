@@ -5,24 +5,24 @@ use Rattle.cyc_removing.proofs.laws.receipt_law.Goals as goal
 
 pub returns-clause-done : goal.returns-clause-done
 returns-clause-done g c id receipt s t fit lawful d = (
-  begun_done g.R.Raise.step g.R.Raise.view (λ (e : Sent). e.sent) id (λ a b. refl) receipt s t fit lawful d (λ r sent lost. sent),
-  begun_done g.R.Raise.step g.R.Raise.view (λ (e : Sent). e.lost) id (λ a b. refl) receipt s t fit lawful d (λ r sent lost. lost),
+  begun_done g.R.Raise (λ (e : Sent). e.sent) id (λ a b. refl) receipt s t fit lawful d (λ r sent lost. sent),
+  begun_done g.R.Raise (λ (e : Sent). e.lost) id (λ a b. refl) receipt s t fit lawful d (λ r sent lost. lost),
 )
 
 pub returns-clause-kept : goal.returns-clause-kept
 returns-clause-kept g c id kept s t fit lawful d = (
-  begun_kept g.R.Raise.step g.R.Raise.view (λ (e : Sent). e.sent) id (λ a b. refl) kept s t fit lawful d,
-  begun_kept g.R.Raise.step g.R.Raise.view (λ (e : Sent). e.lost) id (λ a b. refl) kept s t fit lawful d,
+  begun_kept g.R.Raise (λ (e : Sent). e.sent) id (λ a b. refl) kept s t fit lawful d,
+  begun_kept g.R.Raise (λ (e : Sent). e.lost) id (λ a b. refl) kept s t fit lawful d,
 )
 
 pub returns-clause-answered : goal.returns-clause-answered
 returns-clause-answered g c id receipt s t fit lawful d = (
-  poll_done g.R.Raise.step g.R.Raise.view (λ (e : Sent). e.sent) id (λ a b. refl) receipt s t fit lawful d (λ r sent lost. sent),
-  poll_done g.R.Raise.step g.R.Raise.view (λ (e : Sent). e.lost) id (λ a b. refl) receipt s t fit lawful d (λ r sent lost. lost),
+  poll_done g.R.Raise (λ (e : Sent). e.sent) id (λ a b. refl) receipt s t fit lawful d (λ r sent lost. sent),
+  poll_done g.R.Raise (λ (e : Sent). e.lost) id (λ a b. refl) receipt s t fit lawful d (λ r sent lost. lost),
 )
 
 pub returns-clause-waits : goal.returns-clause-waits
 returns-clause-waits g c id s t fit lawful d = (
-  poll_kept g.R.Raise.step g.R.Raise.view (λ (e : Sent). e.sent) id (λ a b. refl) s t fit lawful d,
-  poll_kept g.R.Raise.step g.R.Raise.view (λ (e : Sent). e.lost) id (λ a b. refl) s t fit lawful d,
+  poll_kept g.R.Raise (λ (e : Sent). e.sent) id (λ a b. refl) s t fit lawful d,
+  poll_kept g.R.Raise (λ (e : Sent). e.lost) id (λ a b. refl) s t fit lawful d,
 )

@@ -5,8 +5,8 @@ use Rattle.cyc_removing.proofs.laws.totals_law.Goals as goal
 
 pub returns : goal.returns
 returns g c id totals s t lawful d = (
-  totals_all g.R.Raise.step g.R.Raise.view (λ (e : Sent). e.sent) id (λ a b. refl) totals s t lawful d totals.expired
+  totals_all g.R.Raise (λ (e : Sent). e.sent) id (λ a b. refl) totals s t lawful d totals.expired
       (λ way r sums. sums.expired),
-  totals_all g.R.Raise.step g.R.Raise.view (λ (e : Sent). e.lost) id (λ a b. refl) totals s t lawful d totals.lost
+  totals_all g.R.Raise (λ (e : Sent). e.lost) id (λ a b. refl) totals s t lawful d totals.lost
       (λ way r sums. sums.lost),
 )

@@ -48,11 +48,11 @@ loop-number-preserved g c =
     elim c.if-has.branch [
       | then-has w ↦ (let low = w.begin_at-kept.ensures.few in let e = w.kept-is in record {
         few = omega arith;
-        walk = along (λ k y ts. BeginWalk g.R.Raise.step g.R.Raise.view c.args.id c.args.place (n + 1) k v y rs ts)
+        walk = along (λ k y ts. BeginWalk g.R.Raise c.args.id c.args.place (n + 1) k v y rs ts)
             (c.loop-number.kept + w.begin_at-kept.result) c.if-has.kept w.begin_at-kept.new.cpus c.if-has.cpus
             w.begin_at-kept.new.records.list c.if-has.records.list
             w.kept-is w.cpus-is (ap (λ (l : RecordsView). l.list) w.records-is)
-            (walk_one (λ (b : Begun) s t. BeginsOn g.R.Raise.step g.R.Raise.view c.args.id b.cpu b.found s t) (λ b. b.cpu)
+            (walk_one (λ (b : Begun) s t. BeginsOn g.R.Raise c.args.id b.cpu b.found s t) (λ b. b.cpu)
             (λ b. kept_in b.found)
             (λ cpu. list_any (λ own. own == c.args.id) (ids_of cpu)) c.args.id c.args.place n c.loop-number.kept v u rs ss
             c.loop-number.invariant.walk
@@ -63,10 +63,10 @@ loop-number-preserved g c =
       })
       | else-has w ↦ (let e = w.kept-is in record {
         few = omega arith;
-        walk = along (λ k y ts. BeginWalk g.R.Raise.step g.R.Raise.view c.args.id c.args.place (n + 1) k v y rs ts)
+        walk = along (λ k y ts. BeginWalk g.R.Raise c.args.id c.args.place (n + 1) k v y rs ts)
             c.loop-number.kept c.if-has.kept u c.if-has.cpus ss c.if-has.records.list
             w.kept-is w.cpus-is (ap (λ (l : RecordsView). l.list) w.records-is)
-            (walk_none (λ (b : Begun) s t. BeginsOn g.R.Raise.step g.R.Raise.view c.args.id b.cpu b.found s t) (λ b. b.cpu)
+            (walk_none (λ (b : Begun) s t. BeginsOn g.R.Raise c.args.id b.cpu b.found s t) (λ b. b.cpu)
             (λ b. kept_in b.found)
             (λ cpu. list_any (λ own. own == c.args.id) (ids_of cpu)) c.args.id c.args.place n c.loop-number.kept v u rs ss
             c.loop-number.invariant.walk

@@ -14,12 +14,12 @@ use Rattle.cyc_removing.proofs.removing.begin_remove.Goals as goal
 
 pub returns-in_default-clause-did : goal.returns-in_default-clause-did
 returns-in_default-clause-did g c last =
-    not_known g.R.Raise.step g.R.Raise.view c.args.id
+    not_known g.R.Raise c.args.id
     (system c.args.cpus.now c.args.records.now.list last) c.in_default.ensures.none
 
 pub returns-in-Some-open_removal-clause-did : goal.returns-in-Some-open_removal-clause-did
 returns-in-Some-open_removal-clause-did g c last =
-    is_busy g.R.Raise.step g.R.Raise.view c.args.id (system c.args.cpus.now c.args.records.now.list last) c.in-Some.place
+    is_busy g.R.Raise c.args.id (system c.args.cpus.now c.args.records.now.list last) c.in-Some.place
     c.in-Some-open_removal.removed c.law.ensures.rising c.in-Some.ensures.some
     (c.open_removal.ensures.first c.args.records.now.list last ∙ ap (λ o. option_map (λ r. Busy r) o) c.in-Some-open_removal.is)
 
@@ -31,7 +31,7 @@ returns-then-is_leaving-clause-did g c last =
     let (m, here, is) = leaving_somewhere c.args.id w g.R.Raise.view c.law-2.ensures (sym c.is_leaving.ensures
     ∙ c.if-is_leaving.true) in
     let (way, cpus, works, sum) = c.begin_each-kept.ensures.did last in
-    removal_kept g.R.Raise.step g.R.Raise.view c.args.id c.in-Some.place v w rs ss last o c.begin_each-kept.ensures.withdraws
+    removal_kept g.R.Raise c.args.id c.in-Some.place v w rs ss last o c.begin_each-kept.ensures.withdraws
     c.law.ensures.rising
     (c.open_removal.ensures.first rs last ∙ ap (λ o. option_map (λ r. Busy r) o)
     (is_none c.open_removal.result c.in_default-open_removal.not-Some))
@@ -51,9 +51,9 @@ returns-clause-did g c last =
     let o = owned v rs c.requires.0 c.args.id c.in-Some.place c.requires.1.agrees c.in-Some.ensures.some in
     let none = left_all c.args.id w (sym c.is_leaving.ensures ∙ c.if-is_leaving.false) c.begin_each-kept.ensures.leaving in
     let (way, cpus, works, sum) = c.begin_each-kept.ensures.did last in
-    subst (λ l. BeginsRemoval g.R.Raise.step g.R.Raise.view c.args.id (Ok (Done c.close.result)) (system v rs last)
+    subst (λ l. BeginsRemoval g.R.Raise c.args.id (Ok (Done c.close.result)) (system v rs last)
     (system w l last)) (sym c.close.ensures.records)
-    (removal_done g.R.Raise.step g.R.Raise.view c.args.id c.in-Some.place v w rs ss last o c.begin_each-kept.ensures.withdraws
+    (removal_done g.R.Raise c.args.id c.in-Some.place v w rs ss last o c.begin_each-kept.ensures.withdraws
     c.law.ensures.rising
     (c.open_removal.ensures.first rs last ∙ ap (λ o. option_map (λ r. Busy r) o)
     (is_none c.open_removal.result c.in_default-open_removal.not-Some))

@@ -33,20 +33,20 @@ loop-number-preserved g c =
     let low : n < length u.cpus = omega arith in
     let (x, at) = get_some u.cpus n low in
     elim c.if-is_leaving_at.branch [
-      | then-is_leaving_at w ↦ along (λ (k : ℕ) y ts. PollWalk g.R.Raise.step g.R.Raise.view c.args.id c.args.place
+      | then-is_leaving_at w ↦ along (λ (k : ℕ) y ts. PollWalk g.R.Raise c.args.id c.args.place
           (n + 1) v y rs ts)
           0 0 w.poll_at.new.cpus c.if-is_leaving_at.cpus w.poll_at.new.records.list c.if-is_leaving_at.records.list
           refl w.cpus-is (ap (λ (l : RecordsView). l.list) w.records-is)
-          (walk_one (λ (p : Polled) s t. PollsOn g.R.Raise.step g.R.Raise.view c.args.id p.cpu p.answer s t) (λ p. p.cpu) (λ p. 0)
+          (walk_one (λ (p : Polled) s t. PollsOn g.R.Raise c.args.id p.cpu p.answer s t) (λ p. p.cpu) (λ p. 0)
           (is_leaving_here c.args.id) c.args.id c.args.place n 0 v u rs ss walk
           0 x w.poll_at.new.cpus w.poll_at.new.records.list at (sym (c.is_leaving_at.ensures x at) ∙ w.if-is_leaving_at.true)
           (λ last. (let (answer, on) = w.poll_at.ensures.did last in (record { cpu = n; answer = answer }, refl, refl, on)))
           w.poll_at.ensures.withdraws)
-      | else-is_leaving_at w ↦ along (λ (k : ℕ) y ts. PollWalk g.R.Raise.step g.R.Raise.view c.args.id c.args.place
+      | else-is_leaving_at w ↦ along (λ (k : ℕ) y ts. PollWalk g.R.Raise c.args.id c.args.place
           (n + 1) v y rs ts)
           0 0 u c.if-is_leaving_at.cpus ss c.if-is_leaving_at.records.list
           refl w.cpus-is (ap (λ (l : RecordsView). l.list) w.records-is)
-          (walk_none (λ (p : Polled) s t. PollsOn g.R.Raise.step g.R.Raise.view c.args.id p.cpu p.answer s t) (λ p. p.cpu)
+          (walk_none (λ (p : Polled) s t. PollsOn g.R.Raise c.args.id p.cpu p.answer s t) (λ p. p.cpu)
           (λ p. 0)
           (is_leaving_here c.args.id) c.args.id c.args.place n 0 v u rs ss walk x at (sym (c.is_leaving_at.ensures x at)
           ∙ w.if-is_leaving_at.false)

@@ -29,7 +29,7 @@ returns-then-is_leaving-clause-did g c last =
     let o = owned v rs c.requires.0 c.args.id c.in-Some.place c.requires.1.agrees c.in-Some.ensures.some in
     let (m, here, is) = leaving_somewhere c.args.id w g.R.Raise.view c.law-3.ensures (sym c.is_leaving-2.ensures
     ∙ c.if-is_leaving.true) in
-    poll_waits g.R.Raise.step g.R.Raise.view c.args.id c.in-Some.place v w rs ss last o c.poll_each.ensures.withdraws
+    poll_waits g.R.Raise c.args.id c.in-Some.place v w rs ss last o c.poll_each.ensures.withdraws
     (sym c.is_leaving.ensures ∙ c.if-not-is_leaving.false) (c.poll_each.ensures.did last) m here
 
 pub close-requires : goal.close-requires
@@ -45,9 +45,9 @@ returns-clause-did g c last =
     c.poll_each.new.records.list in
     let o = owned v rs c.requires.0 c.args.id c.in-Some.place c.requires.1.agrees c.in-Some.ensures.some in
     let none = left_all c.args.id w (sym c.is_leaving-2.ensures ∙ c.if-is_leaving.false) c.poll_each.ensures.leaving in
-    subst (λ l. PollsRemoval g.R.Raise.step g.R.Raise.view c.args.id (Ok (Some c.close.result)) (system v rs last)
+    subst (λ l. PollsRemoval g.R.Raise c.args.id (Ok (Some c.close.result)) (system v rs last)
     (system w l last)) (sym c.close.ensures.records)
-    (poll_answered g.R.Raise.step g.R.Raise.view c.args.id c.in-Some.place v w rs ss last o c.poll_each.ensures.withdraws
+    (poll_answered g.R.Raise c.args.id c.in-Some.place v w rs ss last o c.poll_each.ensures.withdraws
     (sym c.is_leaving.ensures ∙ c.if-not-is_leaving.false)
     (c.poll_each.ensures.did last) c.close.result none c.close.ensures.receipt)
 

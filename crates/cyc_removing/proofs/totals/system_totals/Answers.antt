@@ -7,7 +7,7 @@ use Rattle.cyc_removing.proofs.totals.system_totals.Goals as goal
 
 pub returns-in_err-place-clause-did : goal.returns-in_err-place-clause-did
 returns-in_err-place-clause-did g c last =
-    subst (λ o. AsksTotals g.R.Raise.step g.R.Raise.view c.args.id o (system c.args.cpus.now c.args.records.now.list last)
+    subst (λ o. AsksTotals g.R.Raise c.args.id o (system c.args.cpus.now c.args.records.now.list last)
     (system c.args.cpus.now c.args.records.now.list last))
     (sym c.from_residual.ensures) (record_none c.args.id c.args.records.now.list c.in_err-place.ensures.none, refl)
 

@@ -1,7 +1,7 @@
 use Rattle.std.proofs.Common.{◌≡◌, ℕ, List, Option, ◌++◌, ◌∷◌, [], Some, None, refl, ap, sym, subst}
 use Rattle.std.specs.Prelude.{Ok, slice_set}
 use Rattle.cyc_serving.specs.Removing.{counted_by}
-use Rattle.cyc_cpu.specs.Soft.{fires, firing_at}
+use Rattle.cyc_cpu.specs.Soft.{raise_tables}
 use Rattle.cyc_script_machine.specs.System.{running_system}
 use Rattle.cyc_script_machine.specs.Calls.{Changes, PollRemove}
 use Rattle.cyc_model.specs.Softint.{interrupt}
@@ -14,7 +14,7 @@ pub returns-in_default-clause-polls : goal.returns-in_default-clause-polls
 returns-in_default-clause-polls c = λ texts step ids lines i s p.
     let m = c.args.machine.now in let t = c.poll_system-polled.new.system in let id = c.args.id in
     let n = record m { system = t } in
-    let did = subst (λ o. Changes fires firing_at m.system (PollRemove id (Ok o)) t) c.in_default.is
+    let did = subst (λ o. Changes raise_tables m.system (PollRemove id (Ok o)) t) c.in_default.is
     c.poll_system-polled.ensures.polled in
     let before = running_system m.tally m.system in let after = running_system m.tally t in
     let kept = c.kept_law.ensures in let call = PollRemove id (Ok None) in
@@ -33,7 +33,7 @@ returns-clause-polls c = λ texts step ids lines i s p.
     let m = c.args.machine.now in let t = c.poll_system-polled.new.system in let id = c.args.id in let receipt =
     c.in-Some.receipt in
     let n = record m { system = t; counted = c.keep_answered.new.counted } in
-    let did = subst (λ o. Changes fires firing_at m.system (PollRemove id (Ok o)) t) c.in-Some.is
+    let did = subst (λ o. Changes raise_tables m.system (PollRemove id (Ok o)) t) c.in-Some.is
     c.poll_system-polled.ensures.polled in
     let before = running_system m.tally m.system in let after = running_system m.tally t in
     let kept = c.kept_law.ensures in let call = PollRemove id (Ok (Some receipt)) in

@@ -1,7 +1,7 @@
 use Rattle.std.proofs.Common.{None, Some, refl, ap, sym, subst, ◌∙◌}
 use Rattle.cyc_script_machine.specs.System.{running_system}
 use Rattle.cyc_script_machine.specs.Calls.{Changes, BeginRemove}
-use Rattle.cyc_cpu.specs.Soft.{fires, firing_at}
+use Rattle.cyc_cpu.specs.Soft.{raise_tables}
 use Rattle.cyc_model.specs.Places.{id_of}
 use Rattle.cyc_script_machine.specs.Machine.{id_at}
 use Rattle.cyc_script_machine.proofs.Named.{same_id, reached_good}
@@ -27,7 +27,7 @@ returns-clause-answers c = λ step s r h.
     let before = running_system m.tally m.system in let after = running_system m.tally t in
     let system = kept.system (BeginRemove id answer) before after (c.begin_remove-answer.ensures, refl) h.system c.law.ensures in
     let most = kept.most (BeginRemove id answer) before after (c.begin_remove-answer.ensures, refl) h.system in
-    let did = subst (λ k. Changes fires firing_at m.system (BeginRemove k answer) t) (sym named) c.begin_remove-answer.ensures in
+    let did = subst (λ k. Changes raise_tables m.system (BeginRemove k answer) t) (sym named) c.begin_remove-answer.ensures in
     let room = kept.room (BeginRemove id answer) before after (c.begin_remove-answer.ensures, refl) h.system h.room in
     let at = ap (id_at m.names.items) (sym c.number-place.ensures.value) ∙ sym (sym c.in-Some.is ∙ found) in
     let counted = c.keep_begun.ensures ∙ ap (λ k. counted_begun k answer m.counted.items) c.number-place.ensures.value in
@@ -43,7 +43,7 @@ returns-clause-line c =
     let law = c.remove_law.ensures in
     begun_line_of name c.begin_remove-answer.result m t (λ s h.
     let named = same_id s m name c.number-place.result (Some id) h c.number-place.ensures.value (sym c.in-Some.is ∙ found) in
-    let did = subst (λ k. Changes fires firing_at m.system (BeginRemove k c.begin_remove-answer.result) t)
+    let did = subst (λ k. Changes raise_tables m.system (BeginRemove k c.begin_remove-answer.result) t)
     (sym named) c.begin_remove-answer.ensures in
     begun name (id_of name s) c.begin_remove-answer.result s m.system t
     (λ receipt. law.answered name receipt s m.system t h.system h.shows)

@@ -8,13 +8,13 @@ pub returns-clause-joined : goal.returns-clause-joined
 returns-clause-joined g c = back_then g.R.Raise.view
 
 pub returns-clause-fired : goal.returns-clause-fired
-returns-clause-fired g c = back_fired g.C.Calls g.R.Raise.step g.R.Raise.view
+returns-clause-fired g c = back_fired g.C.Calls g.R.Raise
 
 pub returns-clause-settled : goal.returns-clause-settled
-returns-clause-settled g c = back_settled g.C.Calls g.R.Raise.step g.R.Raise.view
+returns-clause-settled g c = back_settled g.C.Calls g.R.Raise
 
 pub returns-clause-each : goal.returns-clause-each
-returns-clause-each g c = all_of g.C.Calls g.R.Raise.step g.R.Raise.view
+returns-clause-each g c = all_of g.C.Calls g.R.Raise
 
 pub returns-clause-unused : goal.returns-clause-unused
-returns-clause-unused g c = all_same g.C.Calls g.R.Raise.step g.R.Raise.view
+returns-clause-unused g c = all_same g.C.Calls g.R.Raise

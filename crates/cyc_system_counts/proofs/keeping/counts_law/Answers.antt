@@ -5,6 +5,6 @@ use Rattle.cyc_system_counts.proofs.keeping.counts_law.Goals as goal
 
 pub returns : goal.returns
 returns g c id s t call a b d open_still = (
-  counts_same g.R.Raise.step g.R.Raise.view (λ (e : Sent). e.sent) refl (λ x y. refl) id s t call a b d open_still,
-  counts_same g.R.Raise.step g.R.Raise.view (λ (e : Sent). e.lost) refl (λ x y. refl) id s t call a b d open_still,
+  counts_same g.R.Raise (λ (e : Sent). e.sent) refl (λ x y. refl) id s t call a b d open_still,
+  counts_same g.R.Raise (λ (e : Sent). e.lost) refl (λ x y. refl) id s t call a b d open_still,
 )

@@ -19,27 +19,27 @@ level_read None = refl
 level_read (Some r) = refl
 
 pub returns-clause-stays : goal.returns-clause-stays
-returns-clause-stays g c id s t call a b d ne f = stays_kept g.R.Raise.step g.R.Raise.view f id s t call a b d ne
+returns-clause-stays g c id s t call a b d ne f = stays_kept g.R.Raise f id s t call a b d ne
 
 pub returns-clause-reprogrammed : goal.returns-clause-reprogrammed
 returns-clause-reprogrammed g c id moment s t answer a b (inl (e, why, is, same)) f blind = ap (over_stays f id) same
 returns-clause-reprogrammed g c id moment s t answer a b (inr (clear, (n, home, (is, only)))) f blind =
-    moments_kept g.R.Raise.step g.R.Raise.view f id s t id n moment a b blind only
+    moments_kept g.R.Raise f id s t id n moment a b blind only
 
 pub returns-clause-component : goal.returns-clause-component
 returns-clause-component g c id n moment s t answer a b (inl (e, why, is, same)) f blind = ap (over_stays f id) same
 returns-clause-component g c id n moment s t answer a b (inr (clear, (is, only))) f blind =
-    moments_kept g.R.Raise.step g.R.Raise.view f id s t id n moment a b blind only
+    moments_kept g.R.Raise f id s t id n moment a b blind only
 
 pub returns-clause-known : goal.returns-clause-known
 returns-clause-known g c id s t call rising d other =
-    let step = g.R.Raise.step in let view = g.R.Raise.view in record {
+    let firing = g.R.Raise in record {
       known = unknown_read (record_of id t)
-          ∙ (look_kept step view (λ (r : Record). false) true (λ r n bound e. refl) (λ r n c. refl) id s t call rising d other
+          ∙ (look_kept firing (λ (r : Record). false) true (λ r n bound e. refl) (λ r n c. refl) id s t call rising d other
           ∙ sym (unknown_read (record_of id s)));
       level = level_read (record_of id t)
-          ∙ (look_kept step view (λ (r : Record). Some r.level) None (λ r n bound e. refl)
+          ∙ (look_kept firing (λ (r : Record). Some r.level) None (λ r n bound e. refl)
           (λ r n c. refl) id s t call rising d other ∙ sym (level_read (record_of id s)));
-      everywhere = look_kept step view (λ (r : Record). is_everywhere r.place) false (λ r n bound e. sym e)
+      everywhere = look_kept firing (λ (r : Record). is_everywhere r.place) false (λ r n bound e. sym e)
           (λ r n c. refl) id s t call rising d other;
     }

@@ -3,6 +3,6 @@ use Rattle.cyc_system_expected.proofs.expecting.expected_everywhere_law.Goals as
 
 pub returns : goal.returns
 returns g c id level when skew now before s t way told online a d b ready run keeps =
-    each_from g.C.Calls g.R.Raise.step g.R.Raise.view id level when skew now
+    each_from g.C.Calls g.R.Raise id level when skew now
     before s t way
     told online a d b ready run keeps

@@ -3,4 +3,4 @@ use Rattle.cyc_system_laws.proofs.Numbers.{numbers}
 use Rattle.cyc_system_laws.proofs.numbering.numbers_law.Goals as goal
 
 pub returns : goal.returns
-returns g c = numbers g.C.Calls g.R.Raise.step g.R.Raise.view no_interrupts
+returns g c = numbers g.C.Calls g.R.Raise no_interrupts

@@ -4,5 +4,5 @@ use Rattle.cyc_system_laws.proofs.settling.calm_law.Goals as goal
 
 pub returns : goal.returns
 returns g c n x y s t way at there settled not same run =
-    run_settled g.C.Calls g.R.Raise.step g.R.Raise.view no_interrupts
+    run_settled g.C.Calls g.R.Raise no_interrupts
     (λ s t level budget answer d. absurd d) n x y s t way at there settled not same run

@@ -4,5 +4,5 @@ use Rattle.cyc_system_sums.proofs.keeping.fires_law.Goals as goal
 
 pub returns : goal.returns
 returns g c id n now answer s t a b d =
-    fires_keep g.C.Calls g.R.Raise.step g.R.Raise.view no_interrupts id n now answer
+    fires_keep g.C.Calls g.R.Raise no_interrupts id n now answer
     s t a b d

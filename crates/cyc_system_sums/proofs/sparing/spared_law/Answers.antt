@@ -4,6 +4,6 @@ use Rattle.cyc_system_sums.proofs.sparing.spared_law.Goals as goal
 
 pub returns : goal.returns
 returns g c id s t way run sound open_still none under =
-    run_spares g.C.Calls g.R.Raise.step g.R.Raise.view no_interrupts
+    run_spares g.C.Calls g.R.Raise no_interrupts
     (λ s t level budget answer d. absurd d) (λ s t level budget answer law d. absurd d) id s t way run sound
     open_still none under

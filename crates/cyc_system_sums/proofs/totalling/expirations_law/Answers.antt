@@ -5,20 +5,20 @@ use Rattle.cyc_system_sums.proofs.totalling.expirations_law.Goals as goal
 
 pub returns-clause-expired : goal.returns-clause-expired
 returns-clause-expired g c id s t way run sound open_still =
-    (run_grows g.C.Calls g.R.Raise.step g.R.Raise.view no_interrupts
+    (run_grows g.C.Calls g.R.Raise no_interrupts
     (λ s t level budget answer d. absurd d) id s t way run sound open_still).expired
 
 pub returns-clause-lost : goal.returns-clause-lost
 returns-clause-lost g c id s t way run sound open_still =
-    (run_grows g.C.Calls g.R.Raise.step g.R.Raise.view no_interrupts
+    (run_grows g.C.Calls g.R.Raise no_interrupts
     (λ s t level budget answer d. absurd d) id s t way run sound open_still).lost
 
 pub returns-clause-few : goal.returns-clause-few
 returns-clause-few g c id s t way run sound open_still =
-    (run_grows g.C.Calls g.R.Raise.step g.R.Raise.view no_interrupts
+    (run_grows g.C.Calls g.R.Raise no_interrupts
     (λ s t level budget answer d. absurd d) id s t way run sound open_still).few
 
 pub returns-clause-receipt : goal.returns-clause-receipt
 returns-clause-receipt g c id s t u way receipt run sound new open_still answers =
-    receipt_along g.C.Calls g.R.Raise.step g.R.Raise.view no_interrupts
+    receipt_along g.C.Calls g.R.Raise no_interrupts
     (λ s t level budget answer d. absurd d) id s t u way receipt run sound new open_still answers

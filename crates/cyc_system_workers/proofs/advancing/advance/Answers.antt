@@ -16,7 +16,7 @@ unite-system-requires g c =
     let long = ap (λ l. length l) back ∙ length-map after (λ (l : LaneAfter _ _). l.hard) ∙ c.in_ok-lanes-2.ensures.long
     ∙ sym (length-map lanes (λ (l : Lane _ _). l.hard)) ∙ ap (λ l. length l) left in
     c.away_law.ensures.each c.split-desk.result.0.cpus.cpus c.in_ok-hards.hards.items long (λ n x y p q.
-    comes_back g.C.Calls g.R.Raise.step g.R.Raise.view c.args.now lanes after
+    comes_back g.C.Calls g.R.Raise c.args.now lanes after
     c.in_ok-lanes-2.ensures
     c.away_law.ensures.same c.away_law.ensures.fired n x y (ap (λ z. slice_get z n) left ∙ p) (sym (ap (λ z. slice_get z n) back)
     ∙ q))
@@ -25,7 +25,7 @@ pub returns : goal.returns
 returns g c =
     let lanes = c.in_ok-lanes.lanes.items in let after = c.in_ok-lanes-2.lanes.items in
     let desk = c.split-desk.ensures.desk in let united = c.unite-system.ensures in
-    all_fire g.C.Calls g.R.Raise.step g.R.Raise.view c.args.now c.args.side
+    all_fire g.C.Calls g.R.Raise c.args.now c.args.side
     (record { side = record { system = c.unite-system.result; leads = c.in_ok-hards.leads }; answers = c.in_ok-hards.answers })
     lanes after c.in_ok-lanes-2.ensures
     (ap (λ (s : SystemView _). s.records) united ∙ ap (λ (s : SystemView _). s.records) desk)

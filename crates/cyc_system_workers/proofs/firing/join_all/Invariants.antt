@@ -9,6 +9,6 @@ invariant-loop-one g l = record {
   all : l.yielded ++ into_iter_items l.one-iterator ≡ l.fn.started.items;
   many : into_iter_len l.one-iterator ≡ length (into_iter_items l.one-iterator);
   room : vec_len l.after + into_iter_len l.one-iterator ≤ vec_capacity l.after;
-  kept : Beside (Keeps g.C.Calls g.R.Raise.step g.R.Raise.view)
+  kept : Beside (Keeps g.C.Calls g.R.Raise)
       l.yielded l.after.items;
 }

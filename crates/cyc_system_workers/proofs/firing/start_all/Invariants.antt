@@ -9,6 +9,6 @@ invariant-loop-lane g l = record {
   all : l.yielded ++ into_iter_items l.lane-iterator ≡ l.fn.lanes.items;
   many : into_iter_len l.lane-iterator ≡ length (into_iter_items l.lane-iterator);
   room : vec_len l.started + into_iter_len l.lane-iterator ≤ vec_capacity l.started;
-  begun : Beside (Owes g.C.Calls g.R.Raise.step g.R.Raise.view l.fn.now)
+  begun : Beside (Owes g.C.Calls g.R.Raise l.fn.now)
       l.yielded l.started.items;
 }

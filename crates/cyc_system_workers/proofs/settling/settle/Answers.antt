@@ -13,7 +13,7 @@ unite-system-requires g c =
     let asked = c.settle_all-refused.ensures.asked in
     c.away_law.ensures.each c.split-desk.result.0.cpus.cpus c.settle_all-refused.new.all.items
     (asked.long ∙ ap (λ l. length l) left) (λ n x y p q.
-    settles_back g.R.Raise.step g.R.Raise.view c.away_law.ensures.same c.away_law.ensures.joined c.away_law.ensures.settled x y
+    settles_back g.R.Raise c.away_law.ensures.same c.away_law.ensures.joined c.away_law.ensures.settled x y
     (asked.each n x y (ap (λ z. slice_get z n) left ∙ p) q))
 
 pub returns-clause-settled : goal.returns-clause-settled

@@ -24,7 +24,8 @@ loop-of_cpu-preserved g c =
       room = let room = inv.room in let given = step.1 in let long = c.push_reserved.ensures.len in
           let same = c.push_reserved.ensures.capacity in omega (arith, room, given, long, same);
       started = each_pushed HasPromised (map sides_of c.loop-of_cpu.yielded) c.loop-of_cpu.workers.items _ _ (sides_of x)
-          c.in_ok-start_both.field-0 (map-append sides_of c.loop-of_cpu.yielded (x ∷ [])) c.push_reserved.ensures.items inv.started
+          c.in_ok-start_both.field-0 (map-append sides_of c.loop-of_cpu.yielded (x ∷ [])) c.push_reserved.ensures.items
+          inv.started
           c.in_ok-start_both.ensures.started;
     }
 

@@ -6,11 +6,11 @@ use Rattle.cyc_thread_steps.proofs.Telling.{waited}
 use Rattle.cyc_thread_steps.proofs.waiting.wait.Goals as goal
 
 pub settle-side-requires : goal.settle-side-requires
-settle-side-requires g c = polls_ready g.C.Calls g.R.Raise.step g.R.Raise.view
+settle-side-requires g c = polls_ready g.C.Calls g.R.Raise
     c.poll_all.ensures.polled.0 c.args.progress c.poll_all.new.progress c.poll_all.ensures.polled.1 c.requires
 
 pub returns-clause-waited : goal.returns-clause-waited
-returns-clause-waited g c = waited g.R.Raise.step g.R.Raise.view c.args.progress c.poll_all.new.progress c.settle-side.result.side
+returns-clause-waited g c = waited g.R.Raise c.args.progress c.poll_all.new.progress c.settle-side.result.side
     c.poll_all.ensures.polled c.settle-side.ensures.asked
     (subst (λ o. IfNone o (AllSettled g.R.Raise.view c.settle-side.result.side.system.cpus.cpus)) c.in_default-refused.is
     c.settle-side.ensures.settled)

@@ -13,7 +13,7 @@ join_all-requires-clause-room g c =
     omega (arith, long, same, room)
 
 pub returns : goal.returns
-returns g c = works_all g.C.Calls g.R.Raise.step g.R.Raise.view g.D.Drain.step g.D.Drain.held g.D.Drain.made
+returns g c = works_all g.C.Calls g.R.Raise g.D.Drain.step g.D.Drain.held g.D.Drain.made
     c.args.script.now.steps.items c.args.lead (map sides_of c.args.drainers.items) c.join_all.new.drained.items
     (kept_all g.C.Calls g.D.Drain.step g.D.Drain.held g.D.Drain.made
     (map sides_of c.args.drainers.items) c.in_ok-workers.workers.items

@@ -8,26 +8,26 @@ use Rattle.cyc_workers.proofs.settling.settle_all.Goals as goal
 
 pub loop-place-init : goal.loop-place-init
 loop-place-init g c = record {
-  asked = none_asked g.R.Raise.step g.R.Raise.view c.args.all.now.items;
+  asked = none_asked g.R.Raise c.args.all.now.items;
   settled = λ n y low at. absurd (omega (arith, low));
 }
 
 pub loop-place-preserved : goal.loop-place-preserved
 loop-place-preserved g c = record {
-  asked = asked_at g.R.Raise.step g.R.Raise.view c.loop-place.place c.args.all.now.items c.loop-place.all.items
+  asked = asked_at g.R.Raise c.loop-place.place c.args.all.now.items c.loop-place.all.items
       c.settle_at.new.all.items c.loop-place.invariant.asked c.settle_at.ensures.asked;
-  settled = settled_at g.R.Raise.step g.R.Raise.view c.loop-place.place c.loop-place.all.items c.settle_at.new.all.items
+  settled = settled_at g.R.Raise c.loop-place.place c.loop-place.all.items c.settle_at.new.all.items
       c.loop-place.invariant.settled c.settle_at.ensures.asked
       (subst (λ o. IfNone o ((y : CpuView _) → slice_get c.settle_at.new.all.items c.loop-place.place ≡ Some y
       → IsSettled g.R.Raise.view y)) c.in_default.is c.settle_at.ensures.settled);
 }
 
 pub returns-in-Some-clause-asked : goal.returns-in-Some-clause-asked
-returns-in-Some-clause-asked g c = asked_at g.R.Raise.step g.R.Raise.view c.loop-place.place c.args.all.now.items
+returns-in-Some-clause-asked g c = asked_at g.R.Raise c.loop-place.place c.args.all.now.items
     c.loop-place.all.items c.settle_at.new.all.items c.loop-place.invariant.asked c.settle_at.ensures.asked
 
 pub returns-clause-settled : goal.returns-clause-settled
 returns-clause-settled g c = let far = c.loop-place-test.false in let long = c.loop-place.invariant.asked.long in let r =
     c.requires in
-    settled_all g.R.Raise.step g.R.Raise.view c.loop-place.place c.loop-place.all.items
+    settled_all g.R.Raise c.loop-place.place c.loop-place.all.items
     (omega (arith, far, long, r)) c.loop-place.invariant.settled

@@ -1,5 +1,5 @@
 use Rattle.std.proofs.Common.{subst, ap, to_z-of_z, ℤ}
-use Rattle.cyc_cpu.specs.Soft.{fires, firing_at}
+use Rattle.cyc_cpu.specs.Soft.{raise_tables}
 use Rattle.cyclic_c.specs.Border.{Reprograms}
 use Rattle.cyclic_c.specs.declared.cpu.Cpu.{Cpu}
 use Rattle.cyclic_c.proofs.Passing.{through}
@@ -12,8 +12,8 @@ returns c =
       answer,
       c.number_of_answer.ensures,
       (
-        subst (λ (v : Cpu). Reprograms fires firing_at c.args.id c.args.moment answer v.hard new) same
-            (subst (λ (z : ℤ). Reprograms fires firing_at c.args.id z answer c.deref_mut.result.now.hard new)
+        subst (λ (v : Cpu). Reprograms raise_tables c.args.id c.args.moment answer v.hard new) same
+            (subst (λ (z : ℤ). Reprograms raise_tables c.args.id z answer c.deref_mut.result.now.hard new)
             (to_z-of_z c.ranges.moment) c.reprogram-answer.ensures),
         ap (λ (v : Cpu). record v { hard = new }) same,
       ),

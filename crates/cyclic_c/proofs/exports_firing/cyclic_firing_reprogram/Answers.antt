@@ -1,5 +1,5 @@
 use Rattle.std.proofs.Common.{subst, ap, to_z-of_z, ℤ}
-use Rattle.cyclic_c.specs.Pair.{held_step, held_view}
+use Rattle.cyclic_c.specs.Pair.{raise_held}
 use Rattle.cyclic_c.specs.Border.{Reprograms}
 use Rattle.cyclic_c.specs.declared.pair.Firing.{Firing}
 use Rattle.cyclic_c.proofs.Passing.{through}
@@ -12,8 +12,8 @@ returns c =
       answer,
       c.number_of_answer.ensures,
       (
-        subst (λ (v : Firing). Reprograms held_step held_view c.args.id c.args.moment answer v.hard new) same
-            (subst (λ (z : ℤ). Reprograms held_step held_view c.args.id z answer c.deref_mut.result.now.hard new)
+        subst (λ (v : Firing). Reprograms raise_held c.args.id c.args.moment answer v.hard new) same
+            (subst (λ (z : ℤ). Reprograms raise_held c.args.id z answer c.deref_mut.result.now.hard new)
             (to_z-of_z c.ranges.moment) c.reprogram-answer.ensures),
         ap (λ (v : Firing). record v { hard = new }) same,
       ),

@@ -26,9 +26,9 @@ invariant_of-self g c =
     let i = c.self.inside in let e = c.load_pend-pend.ensures in let h = c.self.invariant in
     hard_kept g.R.Raise.view i.table.size i.most i.removal i.lock i.low c.load_pend-pend.new.lock c.load_pend-pend.new.low
     i.table.rows h
-    (asks_keep g.R.Raise.step g.R.Raise.view Lock c.record_at-kept.result.level c.args.id c.load_pend-pend.result i.lock
+    (asks_keep g.R.Raise Lock c.record_at-kept.result.level c.args.id c.load_pend-pend.result i.lock
     c.load_pend-pend.new.lock e.lock) (e.sound_lock h.ready.lock_end.sound)
-    (asks_keep g.R.Raise.step g.R.Raise.view Low c.record_at-kept.result.level c.args.id c.load_pend-pend.result i.low
+    (asks_keep g.R.Raise Low c.record_at-kept.result.level c.args.id c.load_pend-pend.result i.low
     c.load_pend-pend.new.low e.low) (e.sound_low h.ready.low_end.sound)
 
 pub returns-clause-some : goal.returns-clause-some
@@ -47,7 +47,7 @@ returns-clause-some g c =
       lock = c.load_pend-pend.new.lock;
       low = c.load_pend-pend.new.low;
     } in
-    subst (λ (x : CpuView _). (asks : Asks g.R.Raise.step g.R.Raise.view c.args.id n x w)
+    subst (λ (x : CpuView _). (asks : Asks g.R.Raise c.args.id n x w)
     × (c.record_at-kept.result.expired ≡ asks.cyclic.timer.expired) × (c.record_at-kept.result.lost ≡ asks.cyclic.lost)
     × IsSparedAt g.R.Raise.view x asks.cyclic) c.self.view_is (
       record {
@@ -56,9 +56,9 @@ returns-clause-some g c =
         here = is_cyclic i.table.rows c.in_ok-place.place r is;
         named = named;
         high = λ q. e.high (level ∙ q);
-        lock = subst (λ l. Goes g.R.Raise.step g.R.Raise.view i.lock
+        lock = subst (λ l. Goes g.R.Raise i.lock
             (asks_at Lock l c.args.id c.load_pend-pend.result) c.load_pend-pend.new.lock) level e.lock;
-        low = subst (λ l. Goes g.R.Raise.step g.R.Raise.view i.low
+        low = subst (λ l. Goes g.R.Raise i.low
             (asks_at Low l c.args.id c.load_pend-pend.result) c.load_pend-pend.new.low) level e.low;
         cyclics = refl;
         kept = record { removal = refl; size = refl; room = refl; most = refl };
@@ -74,15 +74,15 @@ returns-clause-seen g c =
     let (r, is, named) = c.in_ok-place.ensures.some in
     let i = c.self.inside in let e = c.load_pend-pend.ensures in let h = c.self.invariant in let n = c.load_pend-pend.result in
     let level = (c.record_at-kept.ensures r is).0 in
-    let lock = subst (λ q. Goes g.R.Raise.step g.R.Raise.view i.lock (asks_at Lock r.timer.level q n) c.load_pend-pend.new.lock)
-    (sym named) (subst (λ l. Goes g.R.Raise.step g.R.Raise.view i.lock (asks_at Lock l c.args.id n) c.load_pend-pend.new.lock)
+    let lock = subst (λ q. Goes g.R.Raise i.lock (asks_at Lock r.timer.level q n) c.load_pend-pend.new.lock)
+    (sym named) (subst (λ l. Goes g.R.Raise i.lock (asks_at Lock l c.args.id n) c.load_pend-pend.new.lock)
     level e.lock) in
-    let low = subst (λ q. Goes g.R.Raise.step g.R.Raise.view i.low (asks_at Low r.timer.level q n) c.load_pend-pend.new.low)
-    (sym named) (subst (λ l. Goes g.R.Raise.step g.R.Raise.view i.low (asks_at Low l c.args.id n) c.load_pend-pend.new.low)
+    let low = subst (λ q. Goes g.R.Raise i.low (asks_at Low r.timer.level q n) c.load_pend-pend.new.low)
+    (sym named) (subst (λ l. Goes g.R.Raise i.low (asks_at Low l c.args.id n) c.load_pend-pend.new.low)
     level e.low) in
     subst (λ q. seen_of q (g.R.Raise.view c.load_pend-pend.new.lock) + seen_of q (g.R.Raise.view c.load_pend-pend.new.low) ≡ n)
     named
-    (seen_asked g.R.Raise.step g.R.Raise.view i.table.size i.table.rows c.in_ok-place.place n r c.law.ensures.rising is
+    (seen_asked g.R.Raise i.table.size i.table.rows c.in_ok-place.place n r c.law.ensures.rising is
     r.timer.level (g.R.Raise.view i.lock).marked (g.R.Raise.view i.low).marked i.lock i.low c.load_pend-pend.new.lock
     c.load_pend-pend.new.low refl
     h.ready.lock_end h.ready.low_end lock low (λ q. e.high (level ∙ q)))

@@ -48,15 +48,15 @@ invariant_of-self g c =
     let (a, b) = e.kept c.if-left-gt0.true in
     let soft : r.timer.level ≢ High = λ q. (let z = e.high (level ∙ q) in let m = c.if-left-gt0.true in
     absurd (omega (arith, z, m))) in
-    let lock = subst (λ q. Goes g.R.Raise.step g.R.Raise.view i.lock
+    let lock = subst (λ q. Goes g.R.Raise i.lock
     (calls_at Lock r.timer.level (Marks q n ∷ [])) c.remove_at-left.new.lock) (sym named)
-    (subst (λ l. Goes g.R.Raise.step g.R.Raise.view i.lock (calls_at Lock l (Marks c.args.id n ∷ [])) c.remove_at-left.new.lock)
+    (subst (λ l. Goes g.R.Raise i.lock (calls_at Lock l (Marks c.args.id n ∷ [])) c.remove_at-left.new.lock)
     level a) in
-    let low = subst (λ q. Goes g.R.Raise.step g.R.Raise.view i.low
+    let low = subst (λ q. Goes g.R.Raise i.low
     (calls_at Low r.timer.level (Marks q n ∷ [])) c.remove_at-left.new.low) (sym named)
-    (subst (λ l. Goes g.R.Raise.step g.R.Raise.view i.low (calls_at Low l (Marks c.args.id n ∷ [])) c.remove_at-left.new.low)
+    (subst (λ l. Goes g.R.Raise i.low (calls_at Low l (Marks c.args.id n ∷ [])) c.remove_at-left.new.low)
     level b) in
-    let opened = hard_opened g.R.Raise.step g.R.Raise.view i.table.size i.table.rows c.in-Some.place n r c.law.ensures.rising is
+    let opened = hard_opened g.R.Raise i.table.size i.table.rows c.in-Some.place n r c.law.ensures.rising is
     i.most i.removal i.lock i.low c.remove_at-left.new.lock c.remove_at-left.new.low h c.in_default-removal.is soft lock low
     (e.sound_lock h.ready.lock_end.sound) (e.sound_low h.ready.low_end.sound) in
     subst (λ q. IsHard g.R.Raise.view c.reprogram.new.self.size i.most
@@ -76,7 +76,7 @@ returns-then-left-gt0 g c =
     let soft : r.timer.level ≢ High = λ q. (let z = e.high (level ∙ q) in let m = c.if-left-gt0.true in
     absurd (omega (arith, z, m))) in (
       sym (ap (λ (x : CpuView _). x.removal) c.self.view_is) ∙ c.in_default-removal.is,
-      opens_from g.R.Raise.step g.R.Raise.view c.args.id n _ _ _ c.self.view_is (record {
+      opens_from g.R.Raise c.args.id n _ _ _ c.self.view_is (record {
         place = c.in-Some.place;
         cyclic = cyclic_of r;
         here = is_cyclic i.table.rows c.in-Some.place r is;
@@ -84,9 +84,9 @@ returns-then-left-gt0 g c =
         soft = soft;
         some = c.if-left-gt0.true;
         goes = (
-          subst (λ l. Goes g.R.Raise.step g.R.Raise.view i.lock
+          subst (λ l. Goes g.R.Raise i.lock
               (calls_at Lock l (Marks c.args.id n ∷ [])) c.remove_at-left.new.lock) level a,
-          subst (λ l. Goes g.R.Raise.step g.R.Raise.view i.low (calls_at Low l (Marks c.args.id n ∷ [])) c.remove_at-left.new.low)
+          subst (λ l. Goes g.R.Raise i.low (calls_at Low l (Marks c.args.id n ∷ [])) c.remove_at-left.new.low)
               level b,
         );
         cyclics = ap cyclics_of (c.reprogram.ensures.rows r is) ∙ cyclics_set i.table.rows c.in-Some.place (at_moment never r);
@@ -105,19 +105,19 @@ invariant_of-self-2 g c =
     let level = (c.record_at-kept.ensures r is).0 in
     let few = c.if-left-gt0.false in
     let (counts, a, b) = e.ended (omega (arith, few)) in
-    let lock = subst (λ q. Goes g.R.Raise.step g.R.Raise.view i.lock
+    let lock = subst (λ q. Goes g.R.Raise i.lock
     (calls_at Lock r.timer.level (Marks q 0 ∷ Polls q (Some counts) ∷ [])) c.remove_at-left.new.lock) (sym named)
-    (subst (λ l. Goes g.R.Raise.step g.R.Raise.view i.lock
+    (subst (λ l. Goes g.R.Raise i.lock
     (calls_at Lock l (Marks c.args.id 0 ∷ Polls c.args.id (Some counts) ∷ [])) c.remove_at-left.new.lock) level a) in
-    let low = subst (λ q. Goes g.R.Raise.step g.R.Raise.view i.low
+    let low = subst (λ q. Goes g.R.Raise i.low
     (calls_at Low r.timer.level (Marks q 0 ∷ Polls q (Some counts) ∷ [])) c.remove_at-left.new.low) (sym named)
-    (subst (λ l. Goes g.R.Raise.step g.R.Raise.view i.low
+    (subst (λ l. Goes g.R.Raise i.low
     (calls_at Low l (Marks c.args.id 0 ∷ Polls c.args.id (Some counts) ∷ [])) c.remove_at-left.new.low) level b) in
     let left = hard_left g.R.Raise.view i.table.size i.table.rows c.in-Some.place r c.law.ensures.rising is i.most i.removal
     i.lock i.low c.remove_at-left.new.lock c.remove_at-left.new.low h
-    (begun_left g.R.Raise.step g.R.Raise.view Lock r.timer.level r.timer.id counts i.lock c.remove_at-left.new.lock lock
+    (begun_left g.R.Raise Lock r.timer.level r.timer.id counts i.lock c.remove_at-left.new.lock lock
     (e.sound_lock h.ready.lock_end.sound) (λ off. no_mark (g.R.Raise.view i.lock).marked i.removal h.lock_marked none))
-    (begun_left g.R.Raise.step g.R.Raise.view Low r.timer.level r.timer.id counts i.low c.remove_at-left.new.low low
+    (begun_left g.R.Raise Low r.timer.level r.timer.id counts i.low c.remove_at-left.new.low low
     (e.sound_low h.ready.low_end.sound) (λ off. no_mark (g.R.Raise.view i.low).marked i.removal h.low_marked none)) in
     subst (λ o. IsHard g.R.Raise.view c.remove.new.self.size i.most o c.remove_at-left.new.lock c.remove_at-left.new.low
     c.remove.new.self.rows) (sym none)
@@ -134,20 +134,20 @@ returns g c =
     let level = rec.0 in
     let few = c.if-left-gt0.false in
     let (counts, a, b) = e.ended (omega (arith, few)) in
-    let lock' = subst (λ q. Goes g.R.Raise.step g.R.Raise.view i.lock
+    let lock' = subst (λ q. Goes g.R.Raise i.lock
     (calls_at Lock r.timer.level (Marks q 0 ∷ Polls q (Some counts) ∷ [])) c.remove_at-left.new.lock) (sym named)
-    (subst (λ l. Goes g.R.Raise.step g.R.Raise.view i.lock
+    (subst (λ l. Goes g.R.Raise i.lock
     (calls_at Lock l (Marks c.args.id 0 ∷ Polls c.args.id (Some counts) ∷ [])) c.remove_at-left.new.lock) level a) in
-    let low' = subst (λ q. Goes g.R.Raise.step g.R.Raise.view i.low
+    let low' = subst (λ q. Goes g.R.Raise i.low
     (calls_at Low r.timer.level (Marks q 0 ∷ Polls q (Some counts) ∷ [])) c.remove_at-left.new.low) (sym named)
-    (subst (λ l. Goes g.R.Raise.step g.R.Raise.view i.low
+    (subst (λ l. Goes g.R.Raise i.low
     (calls_at Low l (Marks c.args.id 0 ∷ Polls c.args.id (Some counts) ∷ [])) c.remove_at-left.new.low) level b) in
     let polled = subst (λ (v : CpuView _). HasPolled g.R.Raise.view counts v (cyclic_of r)) c.self.view_is (record {
-      polled = has_polled g.R.Raise.step g.R.Raise.view i.table.size (g.R.Raise.view i.lock).marked
+      polled = has_polled g.R.Raise i.table.size (g.R.Raise.view i.lock).marked
           (g.R.Raise.view i.low).marked i.lock i.low c.remove_at-left.new.lock c.remove_at-left.new.low i.table.rows
           c.in-Some.place r counts _
           c.self.invariant.ready.lock_end c.self.invariant.ready.low_end is lock' low'
-          (begun_sent g.R.Raise.step g.R.Raise.view r.timer.id counts);
+          (begun_sent g.R.Raise r.timer.id counts);
       spared = spared_row g.R.Raise.view i.table.size i.table.room i.most i.removal i.lock i.low i.table.rows c.self.invariant
           c.law.ensures.rising c.in-Some.place r is;
     }) in (
@@ -157,15 +157,15 @@ returns g c =
         counts,
         (c.receipt_of.ensures.id ∙ sym named, c.receipt_of.ensures.sent ∙ rec.2, c.receipt_of.ensures.lost ∙ rec.3),
         polled,
-        leaves_from g.R.Raise.step g.R.Raise.view c.args.id (Marks c.args.id 0 ∷ Polls c.args.id (Some counts) ∷ [])
+        leaves_from g.R.Raise c.args.id (Marks c.args.id 0 ∷ Polls c.args.id (Some counts) ∷ [])
             (cyclic_of r) _ _ _ c.self.view_is (record {
               place = c.in-Some.place;
               here = is_cyclic i.table.rows c.in-Some.place r is;
               named = named;
               goes = (
-                subst (λ l. Goes g.R.Raise.step g.R.Raise.view i.lock
+                subst (λ l. Goes g.R.Raise i.lock
                     (calls_at Lock l (Marks c.args.id 0 ∷ Polls c.args.id (Some counts) ∷ [])) c.remove_at-left.new.lock) level a,
-                subst (λ l. Goes g.R.Raise.step g.R.Raise.view i.low
+                subst (λ l. Goes g.R.Raise i.low
                     (calls_at Low l (Marks c.args.id 0 ∷ Polls c.args.id (Some counts) ∷ [])) c.remove_at-left.new.low) level b,
               );
               cyclics = ap cyclics_of c.remove.ensures.rows ∙ cyclics_less i.table.rows c.in-Some.place;

@@ -31,8 +31,8 @@ returns g c =
       low = i.low;
     } in
     let early : c.args.now ≢ never = λ q. absurd (omega (arith, q)) in
-    subst (λ (v : CpuView _). Does g.C.Calls g.R.Raise.step g.R.Raise.view
+    subst (λ (v : CpuView _). Does g.C.Calls g.R.Raise
     no_interrupts (running c.args.calls.now v) (Fire c.args.now c.fire_all.result) (running n.calls w)) c.self.view_is
-    (fired g.C.Calls g.R.Raise.step g.R.Raise.view no_interrupts c.args.now
+    (fired g.C.Calls g.R.Raise no_interrupts c.args.now
     (running c.args.calls.now u) (running n.calls w) early
     (record { removal = refl; size = e.size; room = e.room; most = refl }) c.fire_all.result e.expired e.next e.made e.refused)

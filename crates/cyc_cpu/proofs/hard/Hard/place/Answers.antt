@@ -57,7 +57,7 @@ invariant_of-self g c =
     (sym rows)
     (subst (λ n. IsHard g.R.Raise.view n i.most i.removal c.admit_at.new.lock c.admit_at.new.low (insert i.table.rows q u))
     (sym c.insert-index.ensures.size)
-    (hard_entered g.R.Raise.step g.R.Raise.view i.table.size i.most i.removal i.lock i.low c.admit_at.new.lock c.admit_at.new.low
+    (hard_entered g.R.Raise i.table.size i.most i.removal i.lock i.low c.admit_at.new.lock c.admit_at.new.low
     i.table.rows q c.args.id c.insert-index.result c.args.level u
     c.self.invariant bound none still refl refl refl (record { sent = refl; lost = refl }) c.requires.lost most e.lock e.low
     e.sound_lock e.sound_low))
@@ -85,9 +85,9 @@ returns g c =
             ∙ ap (λ (x : CpuView _). insert x.cyclics q
             (cyclic_with c.args.id c.args.level c.args.interval c.args.moment c.args.carried.sent c.args.carried.lost)) v;
         rising = rising_cyclics c.insert-index.new.self.rows c.law.ensures.rising;
-        lock = subst (λ (x : CpuView _). Goes g.R.Raise.step g.R.Raise.view x.lock
+        lock = subst (λ (x : CpuView _). Goes g.R.Raise x.lock
             (admits_at Lock c.args.level c.args.id c.insert-index.result) c.admit_at.new.lock) v e.lock;
-        low = subst (λ (x : CpuView _). Goes g.R.Raise.step g.R.Raise.view x.low
+        low = subst (λ (x : CpuView _). Goes g.R.Raise x.low
             (admits_at Low c.args.level c.args.id c.insert-index.result) c.admit_at.new.low) v e.low;
         kept = record {
           removal = ap (λ (x : CpuView _). x.removal) v;

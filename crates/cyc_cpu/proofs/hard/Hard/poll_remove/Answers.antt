@@ -45,9 +45,9 @@ invariant_of-self g c =
     let i = c.self.inside in let e = c.poll_at.ensures in let h = c.self.invariant in
     let (a, b) = c.if-not-poll_at.ensures.waits in
     hard_kept g.R.Raise.view i.table.size i.most i.removal i.lock i.low c.poll_at.new.lock c.poll_at.new.low i.table.rows h
-    (polls_keep g.R.Raise.step g.R.Raise.view Lock c.record_at-kept.result.level c.in_ok-id.id i.lock c.poll_at.new.lock a)
+    (polls_keep g.R.Raise Lock c.record_at-kept.result.level c.in_ok-id.id i.lock c.poll_at.new.lock a)
     (e.sound_lock h.ready.lock_end.sound)
-    (polls_keep g.R.Raise.step g.R.Raise.view Low c.record_at-kept.result.level c.in_ok-id.id i.low c.poll_at.new.low b)
+    (polls_keep g.R.Raise Low c.record_at-kept.result.level c.in_ok-id.id i.low c.poll_at.new.low b)
     (e.sound_low h.ready.low_end.sound)
 
 pub returns-then-not-poll_at : goal.returns-then-not-poll_at
@@ -59,15 +59,15 @@ returns-then-not-poll_at g c =
     inr (
       c.in_ok-id.id,
       sym (ap (λ (x : CpuView _). x.removal) c.self.view_is) ∙ c.in_ok-id.was,
-      waits_from g.R.Raise.step g.R.Raise.view c.in_ok-id.id _ _ _ c.self.view_is (record {
+      waits_from g.R.Raise c.in_ok-id.id _ _ _ c.self.view_is (record {
         place = c.in-Some.place;
         cyclic = cyclic_of r;
         here = is_cyclic i.table.rows c.in-Some.place r is;
         named = named;
         goes = (
-          subst (λ l. Goes g.R.Raise.step g.R.Raise.view i.lock
+          subst (λ l. Goes g.R.Raise i.lock
               (calls_at Lock l (Polls c.in_ok-id.id None ∷ [])) c.poll_at.new.lock) level a,
-          subst (λ l. Goes g.R.Raise.step g.R.Raise.view i.low (calls_at Low l (Polls c.in_ok-id.id None ∷ [])) c.poll_at.new.low)
+          subst (λ l. Goes g.R.Raise i.low (calls_at Low l (Polls c.in_ok-id.id None ∷ [])) c.poll_at.new.low)
               level b,
         );
         cyclics = refl;
@@ -82,21 +82,21 @@ invariant_of-self-2 g c =
     let (counts, a, b) = c.if-not-poll_at.ensures.ended in
     let level = (c.record_at-kept.ensures r is).0 in
     let removed = c.in_ok-id.was ∙ ap Some (sym named) in
-    let lock = subst (λ q. Goes g.R.Raise.step g.R.Raise.view i.lock
+    let lock = subst (λ q. Goes g.R.Raise i.lock
     (calls_at Lock r.timer.level (Polls q (Some counts) ∷ [])) c.poll_at.new.lock) (sym named)
-    (subst (λ l. Goes g.R.Raise.step g.R.Raise.view i.lock
+    (subst (λ l. Goes g.R.Raise i.lock
     (calls_at Lock l (Polls c.in_ok-id.id (Some counts) ∷ [])) c.poll_at.new.lock) level a) in
-    let low = subst (λ q. Goes g.R.Raise.step g.R.Raise.view i.low
+    let low = subst (λ q. Goes g.R.Raise i.low
     (calls_at Low r.timer.level (Polls q (Some counts) ∷ [])) c.poll_at.new.low) (sym named)
-    (subst (λ l. Goes g.R.Raise.step g.R.Raise.view i.low
+    (subst (λ l. Goes g.R.Raise i.low
     (calls_at Low l (Polls c.in_ok-id.id (Some counts) ∷ [])) c.poll_at.new.low) level b) in
     let left = hard_left g.R.Raise.view i.table.size i.table.rows c.in-Some.place r c.law.ensures.rising is i.most i.removal
     i.lock i.low c.poll_at.new.lock c.poll_at.new.low h
-    (polled_left g.R.Raise.step g.R.Raise.view Lock r.timer.level r.timer.id counts i.lock c.poll_at.new.lock lock
+    (polled_left g.R.Raise Lock r.timer.level r.timer.id counts i.lock c.poll_at.new.lock lock
     (e.sound_lock h.ready.lock_end.sound)
     (unmarked_lock g.R.Raise.view i.table.size i.most i.removal i.lock i.low i.table.rows c.in-Some.place r h c.law.ensures.rising
     is removed))
-    (polled_left g.R.Raise.step g.R.Raise.view Low r.timer.level r.timer.id counts i.low c.poll_at.new.low low
+    (polled_left g.R.Raise Low r.timer.level r.timer.id counts i.low c.poll_at.new.low low
     (e.sound_low h.ready.low_end.sound)
     (unmarked_low g.R.Raise.view i.table.size i.most i.removal i.lock i.low i.table.rows c.in-Some.place r h c.law.ensures.rising
     is removed)) in
@@ -111,23 +111,23 @@ returns g c =
     let i = c.self.inside in
     let (counts, a, b) = c.if-not-poll_at.ensures.ended in
     let rec = c.record_at-kept.ensures r is in
-    let lock' = subst (λ q. Goes g.R.Raise.step g.R.Raise.view i.lock
+    let lock' = subst (λ q. Goes g.R.Raise i.lock
     (calls_at Lock r.timer.level (Polls q (Some counts) ∷ [])) c.poll_at.new.lock) (sym named)
-    (subst (λ l. Goes g.R.Raise.step g.R.Raise.view i.lock
+    (subst (λ l. Goes g.R.Raise i.lock
     (calls_at Lock l (Polls c.in_ok-id.id (Some counts) ∷ [])) c.poll_at.new.lock) rec.0 a) in
-    let low' = subst (λ q. Goes g.R.Raise.step g.R.Raise.view i.low
+    let low' = subst (λ q. Goes g.R.Raise i.low
     (calls_at Low r.timer.level (Polls q (Some counts) ∷ [])) c.poll_at.new.low) (sym named)
-    (subst (λ l. Goes g.R.Raise.step g.R.Raise.view i.low
+    (subst (λ l. Goes g.R.Raise i.low
     (calls_at Low l (Polls c.in_ok-id.id (Some counts) ∷ [])) c.poll_at.new.low) rec.0 b) in
     let polled = subst (λ (v : CpuView _). HasPolled g.R.Raise.view counts v (cyclic_of r)) c.self.view_is (record {
-      polled = has_polled g.R.Raise.step g.R.Raise.view i.table.size (g.R.Raise.view i.lock).marked
+      polled = has_polled g.R.Raise i.table.size (g.R.Raise.view i.lock).marked
           (g.R.Raise.view i.low).marked i.lock i.low c.poll_at.new.lock c.poll_at.new.low i.table.rows c.in-Some.place r counts _
           c.self.invariant.ready.lock_end c.self.invariant.ready.low_end is lock' low'
-          (polled_sent g.R.Raise.step g.R.Raise.view r.timer.id counts);
+          (polled_sent g.R.Raise r.timer.id counts);
       spared = spared_row g.R.Raise.view i.table.size i.table.room i.most i.removal i.lock i.low i.table.rows c.self.invariant
           c.law.ensures.rising c.in-Some.place r is;
     }) in
-    ends_from g.R.Raise.step g.R.Raise.view c.receipt_of.result c.in_ok-id.id
+    ends_from g.R.Raise c.receipt_of.result c.in_ok-id.id
     (cyclic_of r) counts _ _ _ c.self.view_is c.in_ok-id.was c.receipt_of.ensures.id
     (c.receipt_of.ensures.id ∙ sym named, c.receipt_of.ensures.sent ∙ rec.2, c.receipt_of.ensures.lost ∙ rec.3)
     polled
@@ -136,9 +136,9 @@ returns g c =
       here = is_cyclic i.table.rows c.in-Some.place r is;
       named = named;
       goes = (
-        subst (λ l. Goes g.R.Raise.step g.R.Raise.view i.lock
+        subst (λ l. Goes g.R.Raise i.lock
             (calls_at Lock l (Polls c.in_ok-id.id (Some counts) ∷ [])) c.poll_at.new.lock) rec.0 a,
-        subst (λ l. Goes g.R.Raise.step g.R.Raise.view i.low
+        subst (λ l. Goes g.R.Raise i.low
             (calls_at Low l (Polls c.in_ok-id.id (Some counts) ∷ [])) c.poll_at.new.low) rec.0 b,
       );
       cyclics = ap cyclics_of c.remove.ensures.rows ∙ cyclics_less i.table.rows c.in-Some.place;

@@ -22,7 +22,7 @@ returns g c =
           c.both_followed.new.lock;
       low = c.both_followed.new.low;
     } in
-    let looked = looked_from g.R.Raise.step g.R.Raise.view _ _ w c.self.view_is (record {
+    let looked = looked_from g.R.Raise _ _ w c.self.view_is (record {
       lock = (a ∷ [], (c.both_followed.new.lock, taught, refl));
       low = (b ∷ [], (c.both_followed.new.low, taught', refl));
       cyclics = refl;
@@ -33,7 +33,7 @@ returns g c =
     let fits = c.if-more-from.false in let grows = c.if-len-more.false in let few = c.len-len.ensures.few in let most =
     c.size-size.ensures.few in
     elim c.if-both_followed.branch [
-      | then-both_followed h ↦ subst (λ r. Changes g.R.Raise.step g.R.Raise.view c.args.self.now (AskRoom c.args.more r) w)
+      | then-both_followed h ↦ subst (λ r. Changes g.R.Raise c.args.self.now (AskRoom c.args.more r) w)
           (sym h.result-is) (
             looked,
             record {
@@ -42,7 +42,7 @@ returns g c =
                   λ more. (c.in_default.is, h.if-both_followed.ensures.yes);
             },
           )
-      | else-both_followed h ↦ subst (λ r. Changes g.R.Raise.step g.R.Raise.view c.args.self.now (AskRoom c.args.more r) w)
+      | else-both_followed h ↦ subst (λ r. Changes g.R.Raise c.args.self.now (AskRoom c.args.more r) w)
           (sym h.result-is) (
             looked,
             (

@@ -24,14 +24,14 @@ pub invariant_of-self : goal.invariant_of-self
 invariant_of-self g c =
     let i = c.self.inside in let e = c.all_quiet.ensures in let h = c.self.invariant in
     hard_kept g.R.Raise.view i.table.size i.most i.removal i.lock i.low c.all_quiet.new.lock c.all_quiet.new.low i.table.rows h
-    (only_loads_keep g.R.Raise.step g.R.Raise.view i.lock c.all_quiet.new.lock e.lock) (e.sound_lock h.ready.lock_end.sound)
-    (only_loads_keep g.R.Raise.step g.R.Raise.view i.low c.all_quiet.new.low e.low) (e.sound_low h.ready.low_end.sound)
+    (only_loads_keep g.R.Raise i.lock c.all_quiet.new.lock e.lock) (e.sound_lock h.ready.lock_end.sound)
+    (only_loads_keep g.R.Raise i.low c.all_quiet.new.low e.low) (e.sound_low h.ready.low_end.sound)
 
 pub returns-then-not-all_quiet : goal.returns-then-not-all_quiet
 returns-then-not-all_quiet g c =
     let e = c.all_quiet.ensures in
     let (id, some) = c.if-not-all_quiet.ensures.pending in (
-      inquires_from g.R.Raise.step g.R.Raise.view _ _ _ c.self.view_is (record {
+      inquires_from g.R.Raise _ _ _ c.self.view_is (record {
         lock = (c.all_quiet.new.lock, e.lock, ([], refl));
         low = (c.all_quiet.new.low, e.low, ([], refl));
         cyclics = refl;
@@ -48,10 +48,10 @@ invariant_of-self-2 g c =
     hard_kept g.R.Raise.view i.table.size i.most i.removal i.lock i.low c.both_followed.new.lock c.both_followed.new.low
     i.table.rows h
     (keeps_on (g.R.Raise.view i.lock) (g.R.Raise.view c.all_quiet.new.lock) (g.R.Raise.view c.both_followed.new.lock)
-    (only_loads_keep g.R.Raise.step g.R.Raise.view i.lock c.all_quiet.new.lock e.lock)
+    (only_loads_keep g.R.Raise i.lock c.all_quiet.new.lock e.lock)
     (looks_keep (g.R.Raise.view c.all_quiet.new.lock) (g.R.Raise.view c.both_followed.new.lock) a learns)) f.sound_lock
     (keeps_on (g.R.Raise.view i.low) (g.R.Raise.view c.all_quiet.new.low) (g.R.Raise.view c.both_followed.new.low)
-    (only_loads_keep g.R.Raise.step g.R.Raise.view i.low c.all_quiet.new.low e.low)
+    (only_loads_keep g.R.Raise i.low c.all_quiet.new.low e.low)
     (looks_keep (g.R.Raise.view c.all_quiet.new.low) (g.R.Raise.view c.both_followed.new.low) b learns')) f.sound_low
 
 pub returns : goal.returns
@@ -60,8 +60,8 @@ returns g c =
     let q = c.if-not-all_quiet.ensures in
     let (a, (stepped, learns)) = f.lock in
     let (b, (stepped', learns')) = f.low in
-    settled_either g.R.Raise.step g.R.Raise.view _ _ c.both_followed.result
-    (inquires_from g.R.Raise.step g.R.Raise.view _ _ _ c.self.view_is (record {
+    settled_either g.R.Raise _ _ c.both_followed.result
+    (inquires_from g.R.Raise _ _ _ c.self.view_is (record {
       lock = (c.all_quiet.new.lock, e.lock, (a ∷ [], (c.both_followed.new.lock, (stepped, learns), refl)));
       low = (c.all_quiet.new.low, e.low, (b ∷ [], (c.both_followed.new.low, (stepped', learns'), refl)));
       cyclics = refl;
@@ -69,14 +69,14 @@ returns g c =
     }))
     (on_true c.both_followed.result _ _ (λ both. record {
       seen = λ id.
-          let x = quiet_end g.R.Raise.step g.R.Raise.view Lock i.table.size
+          let x = quiet_end g.R.Raise Lock i.table.size
           (g.R.Raise.view i.lock).marked i.lock c.all_quiet.new.lock i.table.rows h.ready.lock_end
-          (only_loads_keep g.R.Raise.step g.R.Raise.view i.lock c.all_quiet.new.lock e.lock) q.quiet_lock id in
-          let y = quiet_end g.R.Raise.step g.R.Raise.view Low i.table.size
+          (only_loads_keep g.R.Raise i.lock c.all_quiet.new.lock e.lock) q.quiet_lock id in
+          let y = quiet_end g.R.Raise Low i.table.size
           (g.R.Raise.view i.low).marked i.low c.all_quiet.new.low i.table.rows h.ready.low_end
-          (only_loads_keep g.R.Raise.step g.R.Raise.view i.low c.all_quiet.new.low e.low) q.quiet_low id in
-          let z = looks_see g.R.Raise.step g.R.Raise.view c.all_quiet.new.lock c.both_followed.new.lock a id learns in
-          let w = looks_see g.R.Raise.step g.R.Raise.view c.all_quiet.new.low c.both_followed.new.low b id learns' in
+          (only_loads_keep g.R.Raise i.low c.all_quiet.new.low e.low) q.quiet_low id in
+          let z = looks_see g.R.Raise c.all_quiet.new.lock c.both_followed.new.lock a id learns in
+          let w = looks_see g.R.Raise c.all_quiet.new.low c.both_followed.new.low b id learns' in
           omega (arith, x, y, z, w);
       followed = both;
       still = none_some i.removal (sym c.is_some.ensures ∙ c.if-is_some.false);

@@ -40,9 +40,9 @@ invariant_of-self g c =
     let i = c.self.inside in let e = c.take_at.ensures in let h = c.self.invariant in
     let (n, some, seen, a, b) = c.if-not-take_at.ensures.pending in
     hard_kept g.R.Raise.view i.table.size i.most i.removal i.lock i.low c.take_at.new.lock c.take_at.new.low i.table.rows h
-    (asks_keep g.R.Raise.step g.R.Raise.view Lock c.record_at-kept.result.level c.args.id n i.lock c.take_at.new.lock a)
+    (asks_keep g.R.Raise Lock c.record_at-kept.result.level c.args.id n i.lock c.take_at.new.lock a)
     (e.sound_lock h.ready.lock_end.sound)
-    (asks_keep g.R.Raise.step g.R.Raise.view Low c.record_at-kept.result.level c.args.id n i.low c.take_at.new.low b)
+    (asks_keep g.R.Raise Low c.record_at-kept.result.level c.args.id n i.low c.take_at.new.low b)
     (e.sound_low h.ready.low_end.sound)
 
 pub returns-then-not-take_at-clause-did : goal.returns-then-not-take_at-clause-did
@@ -57,14 +57,14 @@ returns-then-not-take_at-clause-did g c =
       omega (arith, some, seen, lock, low),
       n,
       some,
-      asks_from g.R.Raise.step g.R.Raise.view c.args.id n _ _ _ c.self.view_is (record {
+      asks_from g.R.Raise c.args.id n _ _ _ c.self.view_is (record {
         place = c.in-Some.place;
         cyclic = cyclic_of r;
         here = is_cyclic i.table.rows c.in-Some.place r is;
         named = named;
         high = λ q. absurd (c.if-not-take_at.ensures.soft (level ∙ q));
-        lock = subst (λ l. Goes g.R.Raise.step g.R.Raise.view i.lock (asks_at Lock l c.args.id n) c.take_at.new.lock) level a;
-        low = subst (λ l. Goes g.R.Raise.step g.R.Raise.view i.low (asks_at Low l c.args.id n) c.take_at.new.low) level b;
+        lock = subst (λ l. Goes g.R.Raise i.lock (asks_at Lock l c.args.id n) c.take_at.new.lock) level a;
+        low = subst (λ l. Goes g.R.Raise i.low (asks_at Low l c.args.id n) c.take_at.new.low) level b;
         cyclics = refl;
         kept = record { removal = refl; size = refl; room = refl; most = refl };
       }),
@@ -77,21 +77,21 @@ invariant_of-self-2 g c =
     let none = c.in_default-removal.is in
     let (counts, a, b) = c.if-not-take_at.ensures.ended in
     let level = (c.record_at-kept.ensures r is).0 in
-    let lock = subst (λ q. Goes g.R.Raise.step g.R.Raise.view i.lock
+    let lock = subst (λ q. Goes g.R.Raise i.lock
     (calls_at Lock r.timer.level (Loads q 0 ∷ Marks q 0 ∷ Polls q (Some counts) ∷ [])) c.take_at.new.lock) (sym named)
-    (subst (λ l. Goes g.R.Raise.step g.R.Raise.view i.lock
+    (subst (λ l. Goes g.R.Raise i.lock
     (calls_at Lock l (Loads c.args.id 0 ∷ Marks c.args.id 0 ∷ Polls c.args.id (Some counts) ∷ [])) c.take_at.new.lock) level
     a) in
-    let low = subst (λ q. Goes g.R.Raise.step g.R.Raise.view i.low
+    let low = subst (λ q. Goes g.R.Raise i.low
     (calls_at Low r.timer.level (Loads q 0 ∷ Marks q 0 ∷ Polls q (Some counts) ∷ [])) c.take_at.new.low) (sym named)
-    (subst (λ l. Goes g.R.Raise.step g.R.Raise.view i.low
+    (subst (λ l. Goes g.R.Raise i.low
     (calls_at Low l (Loads c.args.id 0 ∷ Marks c.args.id 0 ∷ Polls c.args.id (Some counts) ∷ [])) c.take_at.new.low) level b)
     in
     let left = hard_left g.R.Raise.view i.table.size i.table.rows c.in-Some.place r c.law.ensures.rising is i.most i.removal
     i.lock i.low c.take_at.new.lock c.take_at.new.low h
-    (taken_left g.R.Raise.step g.R.Raise.view Lock r.timer.level r.timer.id counts i.lock c.take_at.new.lock lock
+    (taken_left g.R.Raise Lock r.timer.level r.timer.id counts i.lock c.take_at.new.lock lock
     (e.sound_lock h.ready.lock_end.sound) (λ off. no_mark (g.R.Raise.view i.lock).marked i.removal h.lock_marked none))
-    (taken_left g.R.Raise.step g.R.Raise.view Low r.timer.level r.timer.id counts i.low c.take_at.new.low low
+    (taken_left g.R.Raise Low r.timer.level r.timer.id counts i.low c.take_at.new.low low
     (e.sound_low h.ready.low_end.sound) (λ off. no_mark (g.R.Raise.view i.low).marked i.removal h.low_marked none)) in
     subst (λ o. IsHard g.R.Raise.view c.remove.new.self.size i.most o c.take_at.new.lock c.take_at.new.low c.remove.new.self.rows)
     (sym none)
@@ -107,21 +107,21 @@ returns-clause-did g c =
     let (counts, a, b) = c.if-not-take_at.ensures.ended in
     let rec = c.record_at-kept.ensures r is in
     let level = rec.0 in
-    let lock' = subst (λ q. Goes g.R.Raise.step g.R.Raise.view i.lock
+    let lock' = subst (λ q. Goes g.R.Raise i.lock
     (calls_at Lock r.timer.level (Loads q 0 ∷ Marks q 0 ∷ Polls q (Some counts) ∷ [])) c.take_at.new.lock) (sym named)
-    (subst (λ l. Goes g.R.Raise.step g.R.Raise.view i.lock
+    (subst (λ l. Goes g.R.Raise i.lock
     (calls_at Lock l (Loads c.args.id 0 ∷ Marks c.args.id 0 ∷ Polls c.args.id (Some counts) ∷ [])) c.take_at.new.lock) level
     a) in
-    let low' = subst (λ q. Goes g.R.Raise.step g.R.Raise.view i.low
+    let low' = subst (λ q. Goes g.R.Raise i.low
     (calls_at Low r.timer.level (Loads q 0 ∷ Marks q 0 ∷ Polls q (Some counts) ∷ [])) c.take_at.new.low) (sym named)
-    (subst (λ l. Goes g.R.Raise.step g.R.Raise.view i.low
+    (subst (λ l. Goes g.R.Raise i.low
     (calls_at Low l (Loads c.args.id 0 ∷ Marks c.args.id 0 ∷ Polls c.args.id (Some counts) ∷ [])) c.take_at.new.low) level b)
     in
     let polled = subst (λ (v : CpuView _). HasPolled g.R.Raise.view counts v (cyclic_of r)) c.self.view_is (record {
-      polled = has_polled g.R.Raise.step g.R.Raise.view i.table.size (g.R.Raise.view i.lock).marked
+      polled = has_polled g.R.Raise i.table.size (g.R.Raise.view i.lock).marked
           (g.R.Raise.view i.low).marked i.lock i.low c.take_at.new.lock c.take_at.new.low i.table.rows c.in-Some.place r counts _
           c.self.invariant.ready.lock_end c.self.invariant.ready.low_end is lock' low'
-          (taken_sent g.R.Raise.step g.R.Raise.view r.timer.id counts);
+          (taken_sent g.R.Raise r.timer.id counts);
       spared = spared_row g.R.Raise.view i.table.size i.table.room i.most i.removal i.lock i.low i.table.rows c.self.invariant
           c.law.ensures.rising c.in-Some.place r is;
     }) in (
@@ -131,18 +131,18 @@ returns-clause-did g c =
         counts,
         (level, rec.1, c.moment_at-moment.ensures r is, rec.2, rec.3),
         polled,
-        leaves_from g.R.Raise.step g.R.Raise.view c.args.id
+        leaves_from g.R.Raise c.args.id
             (Loads c.args.id 0 ∷ Marks c.args.id 0 ∷ Polls c.args.id (Some counts) ∷ []) (cyclic_of r) _ _ _ c.self.view_is
             (record {
               place = c.in-Some.place;
               here = is_cyclic i.table.rows c.in-Some.place r is;
               named = named;
               goes = (
-                subst (λ l. Goes g.R.Raise.step g.R.Raise.view i.lock
+                subst (λ l. Goes g.R.Raise i.lock
                     (calls_at Lock l (Loads c.args.id 0 ∷ Marks c.args.id 0 ∷ Polls c.args.id (Some counts)
                     ∷ [])) c.take_at.new.lock)
                     level a,
-                subst (λ l. Goes g.R.Raise.step g.R.Raise.view i.low
+                subst (λ l. Goes g.R.Raise i.low
                     (calls_at Low l (Loads c.args.id 0 ∷ Marks c.args.id 0 ∷ Polls c.args.id (Some counts)
                     ∷ [])) c.take_at.new.low)
                     level b,

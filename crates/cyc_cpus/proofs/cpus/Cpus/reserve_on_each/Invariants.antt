@@ -6,5 +6,5 @@ use Rattle.cyc_cpus.proofs.cpus.Cpus.reserve_on_each.Given as goal
 
 abbrev pub invariant-loop-number : goal.invariant-loop-number
 invariant-loop-number g l =
-    Round g.R.Raise.step g.R.Raise.view (Reserve l.more (Ok tt)) (MayWiden g.R.Raise.view l.more)
+    Round g.R.Raise (Reserve l.more (Ok tt)) (MayWiden g.R.Raise.view l.more)
     (HasRoom g.R.Raise.view l.more) l.fn.self l.number l.self

@@ -6,5 +6,5 @@ use Rattle.cyc_cpus.proofs.cpus.Cpus.room_on_each.Given as goal
 
 abbrev pub invariant-loop-number : goal.invariant-loop-number
 invariant-loop-number g l =
-    Round g.R.Raise.step g.R.Raise.view (AskRoom l.more (Ok tt)) (HasRoom g.R.Raise.view l.more)
+    Round g.R.Raise (AskRoom l.more (Ok tt)) (HasRoom g.R.Raise.view l.more)
     (λ cpu. Unit {0}) l.fn.self l.number l.self

@@ -14,7 +14,7 @@ pub returns-then-ne : goal.returns-then-ne
 returns-then-ne g c =
     let x = c.cpu_mut.result.now in
     let here = c.requires.here x c.cpu_mut.ensures.cpu in
-    let (n, some, did) = found_some g.R.Raise.step g.R.Raise.view c.args.id x c.pending.new.self c.pending.result here
+    let (n, some, did) = found_some g.R.Raise c.args.id x c.pending.new.self c.pending.result here
     (sym c.ne.ensures ∙ c.if-ne.true) c.pending.ensures in
     inr (inl (
       (c.cpu.result.now, c.cpu.ensures, sym c.removal.ensures ∙ c.in_default.is),
@@ -30,10 +30,10 @@ returns-in_err-reserve g c =
     let a = c.pending.new.self in
     let b = c.reserve.new.self in
     let v = c.args.self.now in
-    let did = found_none g.R.Raise.step g.R.Raise.view c.args.id x a c.pending.result
+    let did = found_none g.R.Raise c.args.id x a c.pending.result
     (sym c.ne.ensures ∙ c.if-ne.false) c.pending.ensures in
     let p = err_from_is_err_and c.from_residual.result c.from_residual.ensures.1 in
-    subst (λ r. Shifts g.R.Raise.step g.R.Raise.view c.args.id c.args.source c.args.target r v
+    subst (λ r. Shifts g.R.Raise c.args.id c.args.source c.args.target r v
     (with_cpu (with_cpu v c.args.source a) c.args.target b)) (sym (p.1 ∙ ap Err p.2))
     (inr (inr (
       (c.cpu.result.now, c.cpu.ensures, sym c.removal.ensures ∙ c.in_default.is),
@@ -54,12 +54,12 @@ take-taken-requires-clause-leaves g c =
     let v = c.args.self.now in
     let x = c.cpu_mut.result.now in
     let a = c.pending.new.self in
-    let did = found_none g.R.Raise.step g.R.Raise.view c.args.id x a c.pending.result
+    let did = found_none g.R.Raise c.args.id x a c.pending.result
     (sym c.ne.ensures ∙ c.if-ne.false) c.pending.ensures in
     let still = ap (λ (y : CpuView g.row.R.Denot). y.removal)
     (one_cpu c.args.source x c.cpu.result.now v c.cpu_mut.ensures.cpu c.cpu.ensures) ∙ sym c.removal.ensures
     ∙ c.in_default.is in
-    let may = may_leave g.R.Raise.step g.R.Raise.view c.args.id x a (c.requires.here x c.cpu_mut.ensures.cpu) still did in
+    let may = may_leave g.R.Raise c.args.id x a (c.requires.here x c.cpu_mut.ensures.cpu) still did in
     of_cpu c.args.source (MayLeave g.R.Raise.view c.args.id) a (with_cpu
     (with_cpu v c.args.source a) c.args.target c.reserve.new.self)
     (cpu_stays c.args.target c.args.source a c.reserve.new.self (with_cpu v c.args.source a) (λ e. c.requires.apart (sym e))
@@ -95,7 +95,7 @@ bring-requires-clause-most g c =
     let a = c.pending.new.self in
     let b = c.reserve.new.self in
     let y = c.cpu_mut-2.result.now in
-    let did = found_none g.R.Raise.step g.R.Raise.view c.args.id x a c.pending.result
+    let did = found_none g.R.Raise c.args.id x a c.pending.result
     (sym c.ne.ensures ∙ c.if-ne.false) c.pending.ensures in
     let sent = c.take-taken.ensures.counts a (cpu_stays c.args.target c.args.source a b v (λ e. c.requires.apart (sym e))
     (cpu_there c.args.source x a c.args.self.now c.cpu_mut.ensures.cpu)) in
@@ -113,7 +113,7 @@ bring-requires-clause-most g c =
 pub returns : goal.returns
 returns g c =
     let x = c.cpu_mut.result.now in
-    let did = found_none g.R.Raise.step g.R.Raise.view c.args.id x c.pending.new.self c.pending.result
+    let did = found_none g.R.Raise c.args.id x c.pending.new.self c.pending.result
     (sym c.ne.ensures ∙ c.if-ne.false) c.pending.ensures in (
       c.take-taken.result,
       (

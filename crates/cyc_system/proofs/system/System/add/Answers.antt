@@ -36,7 +36,7 @@ pub invariant_of-self : goal.invariant_of-self
 invariant_of-self g c = (
   holds_same _ c.reserve_at.new.cpus c.self.invariant.0
       (same_changed c.in-Some-destination.target _ c.self.inside.cpus c.reserve_at.new.cpus c.reserve_at.ensures
-      (same_reserve g.R.Raise.step g.R.Raise.view c.reserve_at.ensures.before c.reserve_at.ensures.after 1 c.reserve_at.result
+      (same_reserve g.R.Raise c.reserve_at.ensures.before c.reserve_at.ensures.after 1 c.reserve_at.result
       c.reserve_at.ensures.change)),
   c.self.invariant.1,
 )
@@ -45,7 +45,7 @@ pub invariant_of-self-in_err-reserve : goal.invariant_of-self-in_err-reserve
 invariant_of-self-in_err-reserve g c =
     let done = holds_same _ c.reserve_at.new.cpus c.self.invariant.0
     (same_changed c.in-Some-destination.target _ c.self.inside.cpus c.reserve_at.new.cpus c.reserve_at.ensures
-    (same_reserve g.R.Raise.step g.R.Raise.view c.reserve_at.ensures.before c.reserve_at.ensures.after 1 c.reserve_at.result
+    (same_reserve g.R.Raise c.reserve_at.ensures.before c.reserve_at.ensures.after 1 c.reserve_at.result
     c.reserve_at.ensures.change)) in (
       subst (λ rs. Holds (record { cpus = c.reserve_at.new.cpus; records = rs; last = c.self.inside.last }))
           (sym c.reserve.ensures.list) done,
@@ -55,7 +55,7 @@ invariant_of-self-in_err-reserve g c =
 pub enter-requires-clause-number : goal.enter-requires-clause-number
 enter-requires-clause-number g c =
     let same = same_changed c.in-Some-destination.target _ c.self.inside.cpus c.reserve_at.new.cpus c.reserve_at.ensures
-    (same_reserve g.R.Raise.step g.R.Raise.view c.reserve_at.ensures.before c.reserve_at.ensures.after 1 c.reserve_at.result
+    (same_reserve g.R.Raise c.reserve_at.ensures.before c.reserve_at.ensures.after 1 c.reserve_at.result
     c.reserve_at.ensures.change) in
     let low = online_low _ c.in-Some-destination.target c.self.invariant.0.agrees
     (destination_fits None c.self.inside.cpus c.in-Some-destination.target (sym c.destination.ensures
@@ -72,7 +72,7 @@ pub enter-requires-clause-absent : goal.enter-requires-clause-absent
 enter-requires-clause-absent g c cpu at =
     let next = c.in-Some.ensures.value in
     let same = same_changed c.in-Some-destination.target _ c.self.inside.cpus c.reserve_at.new.cpus c.reserve_at.ensures
-    (same_reserve g.R.Raise.step g.R.Raise.view c.reserve_at.ensures.before c.reserve_at.ensures.after 1 c.reserve_at.result
+    (same_reserve g.R.Raise c.reserve_at.ensures.before c.reserve_at.ensures.after 1 c.reserve_at.result
     c.reserve_at.ensures.change) in
     none_here c.reserve_at.new.cpus c.in-Some-destination.target c.in-Some.id cpu
     (λ h. not_given _ c.in-Some.id c.in-Some-destination.target c.self.invariant.0.agrees (omega (arith, next))
@@ -88,9 +88,9 @@ invariant_of-self-2 g c =
     let d = c.in-Some-destination.target in let id = c.in-Some.id in
     let fits = destination_fits None c.self.inside.cpus d (sym c.destination.ensures ∙ c.in-Some-destination.is) in
     let same = same_changed d _ c.self.inside.cpus c.reserve_at.new.cpus c.reserve_at.ensures
-    (same_reserve g.R.Raise.step g.R.Raise.view c.reserve_at.ensures.before c.reserve_at.ensures.after 1 c.reserve_at.result
+    (same_reserve g.R.Raise c.reserve_at.ensures.before c.reserve_at.ensures.after 1 c.reserve_at.result
     c.reserve_at.ensures.change) in
-    let (but, here, elsewhere) = entered g.R.Raise.step g.R.Raise.view d id c.args.level c.args.when.interval c.first-first.result
+    let (but, here, elsewhere) = entered g.R.Raise d id c.args.level c.args.when.interval c.first-first.result
     c.reserve_at.new.cpus c.enter.new.cpus c.enter.ensures in
     let done = agrees_added _ d id c.args.level c.enter.new.cpus c.self.invariant.0.agrees c.in-Some.ensures.value fits.0
     (but_then id c.self.inside.cpus c.reserve_at.new.cpus c.enter.new.cpus
@@ -105,7 +105,7 @@ invariant_of-self-2 g c =
           (new_record id c.args.level (On d false)) c.self.invariant.0 done
           (but_then id c.self.inside.cpus c.reserve_at.new.cpus c.enter.new.cpus
           (but_same id c.self.inside.cpus c.reserve_at.new.cpus same) but)
-          (removals_kept g.R.Raise.step g.R.Raise.view c.self.inside.cpus c.enter.new.cpus
+          (removals_kept g.R.Raise c.self.inside.cpus c.enter.new.cpus
           (on d (Reserve 1 (Ok tt)) ∷ entering d id c.args.level c.args.when.interval c.first-first.result) (tt, (tt, (tt, tt)))
           (c.reserve_at.new.cpus, c.in_ok-reserve_at.ensures, c.enter.ensures))
           (λ n e. not_given _ id n c.self.invariant.0.agrees (let next = c.in-Some.ensures.value in omega (arith, next))
@@ -124,10 +124,10 @@ returns-in_err-reserve g c =
     let low = c.nanoseconds.ensures.valid in let a = c.nanoseconds.ensures.value in let b = c.nanoseconds-2.ensures.value in
     let never_is = c.if-nanoseconds.false in
     let valid = c.in-Some.ensures.valid in
-    subst (λ (x : SystemView _). Changes g.R.Raise.step g.R.Raise.view x
+    subst (λ (x : SystemView _). Changes g.R.Raise x
     (Add c.args.level c.args.when c.args.now c.from_residual-in_err-reserve.result) t) c.self.view_is
-    (subst (λ r. Changes g.R.Raise.step g.R.Raise.view s (Add c.args.level c.args.when c.args.now r) t) (sym p.1)
-    (add_unrecorded g.R.Raise.step g.R.Raise.view s t c.args.level c.args.when c.args.now c.in-Some-destination.target
+    (subst (λ r. Changes g.R.Raise s (Add c.args.level c.args.when c.args.now r) t) (sym p.1)
+    (add_unrecorded g.R.Raise s t c.args.level c.args.when c.args.now c.in-Some-destination.target
     c.reserve_at.new.cpus
     (not_never c.args.now (omega (arith, low, a)) (λ e. absurd (omega (arith, never_is, a, b, e)))) (not_spent s (valid.0 refl).1)
     (sym c.destination.ensures ∙ c.in-Some-destination.is) c.in_ok-reserve_at.ensures p.0
@@ -142,9 +142,9 @@ returns g c =
     let low = c.nanoseconds.ensures.valid in let a = c.nanoseconds.ensures.value in let b = c.nanoseconds-2.ensures.value in
     let never_is = c.if-nanoseconds.false in
     let valid = c.in-Some.ensures.valid in
-    subst (λ (x : SystemView _). Changes g.R.Raise.step g.R.Raise.view x
+    subst (λ (x : SystemView _). Changes g.R.Raise x
     (Add c.args.level c.args.when c.args.now (Ok c.in-Some.id)) t) c.self.view_is
-    (add_done g.R.Raise.step g.R.Raise.view s t c.args.level c.args.when c.args.now c.in-Some-destination.target
+    (add_done g.R.Raise s t c.args.level c.args.when c.args.now c.in-Some-destination.target
     c.reserve_at.new.cpus
     (not_never c.args.now (omega (arith, low, a)) (λ e. absurd (omega (arith, never_is, a, b, e)))) (not_spent s (valid.0 refl).1)
     (sym c.destination.ensures ∙ c.in-Some-destination.is) c.in_ok-reserve_at.ensures c.in-Some.id c.first-first.result

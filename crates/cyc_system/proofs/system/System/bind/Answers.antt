@@ -85,7 +85,7 @@ invariant_of-self-in_err-go g c =
     c.law-2.ensures.rising q c.at.ensures c.in-On.is in
     let (cpu, at) = get_some c.self.inside.cpus.cpus c.in-On.home (has_low c.self.inside.cpus c.in-On.home c.args.id st.here) in (
       holds_same s c.go.new.cpus c.self.invariant.0
-          (stayed g.R.Raise.step g.R.Raise.view c.args.id c.in-On.home c.in-Some-cpu.target c.self.inside.cpus c.go.new.cpus
+          (stayed g.R.Raise c.args.id c.in-On.home c.in-Some-cpu.target c.self.inside.cpus c.go.new.cpus
           c.in_err-go.field-0.0
           (rise_on g.R.Raise.view c.self.inside.cpus c.in-On.home cpu at (c.law.ensures c.in-On.home cpu at))
           c.in_err-go.ensures),
@@ -103,9 +103,9 @@ invariant_of-self-2 g c =
     let st = standing s c.args.id c.in-Some.place c.in-On.home c.in-On.bound r c.at.result.now c.self.invariant.0.agrees
     c.law-2.ensures.rising q c.at.ensures c.in-On.is in
     let (cpu, at) = get_some c.self.inside.cpus.cpus c.in-On.home (has_low c.self.inside.cpus c.in-On.home c.args.id st.here) in
-    let goes = subst (λ i. GoesTo g.R.Raise.step g.R.Raise.view i c.in-On.home c.in-Some-cpu.target
+    let goes = subst (λ i. GoesTo g.R.Raise i c.in-On.home c.in-Some-cpu.target
     (Ok tt) c.self.inside.cpus c.go.new.cpus) (sym st.named) c.in_ok-go.ensures in
-    let (but, there, only) = went g.R.Raise.step g.R.Raise.view c.at.result.now.id c.in-On.home c.in-Some-cpu.target
+    let (but, there, only) = went g.R.Raise c.at.result.now.id c.in-On.home c.in-Some-cpu.target
     c.self.inside.cpus c.go.new.cpus
     (rise_on g.R.Raise.view c.self.inside.cpus c.in-On.home cpu at (c.law.ensures c.in-On.home cpu at)) st.own_here st.own_only
     goes in
@@ -118,7 +118,7 @@ invariant_of-self-2 g c =
     (slice_set c.self.inside.records.list c.in-Some.place (with_place (On c.in-Some-cpu.target true) c.at.result.now))
     c.self.inside.last)
     c.in-Some.place c.at.result.now (On c.in-Some-cpu.target true) c.self.invariant.0 done but
-    (goes_removals g.R.Raise.step g.R.Raise.view c.at.result.now.id c.in-On.home c.in-Some-cpu.target c.self.inside.cpus
+    (goes_removals g.R.Raise c.at.result.now.id c.in-On.home c.in-Some-cpu.target c.self.inside.cpus
     c.go.new.cpus goes)
     (λ n e. no_removal c.self.inside.cpus c.args.id q.still n (e ∙ ap Some st.named)) c.at.ensures refl in (
       subst (λ rs. Holds (seen c.go.new.cpus rs c.self.inside.last))
@@ -138,10 +138,10 @@ returns-in_err-go g c =
     let online = online_read c.self.inside.cpus c.in-Some-cpu.target true (c.is_online.ensures ∙ ap Some c.if-not-is_online.false)
     in
     let low = c.count.ensures.count in let less = c.if-target-count.false in
-    subst (λ (x : SystemView _). Changes g.R.Raise.step g.R.Raise.view x (Bind c.args.id c.args.cpu c.from_residual.result) t)
+    subst (λ (x : SystemView _). Changes g.R.Raise x (Bind c.args.id c.args.cpu c.from_residual.result) t)
     c.self.view_is
-    (subst (λ o. Changes g.R.Raise.step g.R.Raise.view s (Bind c.args.id o c.from_residual.result) t) (sym c.in-Some-cpu.is)
-    (subst (λ o. Changes g.R.Raise.step g.R.Raise.view s (Bind c.args.id (Some c.in-Some-cpu.target) o) t)
+    (subst (λ o. Changes g.R.Raise s (Bind c.args.id o c.from_residual.result) t) (sym c.in-Some-cpu.is)
+    (subst (λ o. Changes g.R.Raise s (Bind c.args.id (Some c.in-Some-cpu.target) o) t)
     (sym (e.1 ∙ ap Err e.2))
     (inr (
       passes _ (omnipresent c.args.id s ∷ no_cpu c.in-Some-cpu.target s ∷ offline_cpu c.in-Some-cpu.target s ∷ []) None
@@ -177,8 +177,8 @@ returns g c =
     let low = c.count.ensures.count in let less = c.if-target-count.false in
     let home = home_is s c.self.invariant.0.agrees c.args.id c.in-Some.place r c.at.result.now q c.at.ensures c.in-On.home
     c.in-On.bound c.in-On.is in
-    subst (λ (x : SystemView _). Changes g.R.Raise.step g.R.Raise.view x (Bind c.args.id c.args.cpu (Ok tt)) t) c.self.view_is
-    (subst (λ o. Changes g.R.Raise.step g.R.Raise.view s (Bind c.args.id o (Ok tt)) t) (sym c.in-Some-cpu.is)
+    subst (λ (x : SystemView _). Changes g.R.Raise x (Bind c.args.id c.args.cpu (Ok tt)) t) c.self.view_is
+    (subst (λ o. Changes g.R.Raise s (Bind c.args.id o (Ok tt)) t) (sym c.in-Some-cpu.is)
     (inr (
       passes _ (omnipresent c.args.id s ∷ no_cpu c.in-Some-cpu.target s ∷ offline_cpu c.in-Some-cpu.target s ∷ []) None
           (present_clear s c.self.invariant.0.agrees c.args.id c.in-Some.place r c.at.result.now q c.at.ensures)

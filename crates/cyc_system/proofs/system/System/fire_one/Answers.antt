@@ -8,7 +8,7 @@ pub invariant_of-self : goal.invariant_of-self
 invariant_of-self g c = (
   holds_same _ c.fire_at.new.cpus c.self.invariant.0
       (same_changed c.args.cpu _ c.self.inside.cpus c.fire_at.new.cpus c.fire_at.ensures
-      (same_fired g.C.Calls g.R.Raise.step g.R.Raise.view no_interrupts
+      (same_fired g.C.Calls g.R.Raise no_interrupts
       (running c.args.calls.now c.fire_at.ensures.before)
       (running c.fire_at.new.calls c.fire_at.ensures.after) c.args.now c.fire_at.result c.fire_at.ensures.change)),
   c.self.invariant.1,

@@ -39,7 +39,7 @@ pub invariant_of-self : goal.invariant_of-self
 invariant_of-self g c = (
   holds_same _ c.reprogram_at.new.cpus c.self.invariant.0
       (same_changed c.in-On.cpu _ c.self.inside.cpus c.reprogram_at.new.cpus c.reprogram_at.ensures
-      (same_reprogram g.R.Raise.step g.R.Raise.view c.reprogram_at.ensures.before c.reprogram_at.ensures.after c.args.id
+      (same_reprogram g.R.Raise c.reprogram_at.ensures.before c.reprogram_at.ensures.after c.args.id
       c.args.moment c.reprogram_at.ensures.change)),
   c.self.invariant.1,
 )
@@ -51,7 +51,7 @@ returns-in-On g c =
     let t = seen c.reprogram_at.new.cpus c.self.inside.records.list c.self.inside.last in
     let q = subst (λ (x : SystemView _). IsPresent c.args.id c.in-Some.place r x) (sym c.self.view_is) p in
     let a = c.self.invariant.0.agrees in let k = c.in-Some.place in let now = c.at.result.now in
-    subst (λ (x : SystemView _). Changes g.R.Raise.step g.R.Raise.view x (Reprogram c.args.id c.args.moment (Ok tt)) t)
+    subst (λ (x : SystemView _). Changes g.R.Raise x (Reprogram c.args.id c.args.moment (Ok tt)) t)
     c.self.view_is
     (inr (
       passes _ (omnipresent c.args.id s ∷ []) None (present_clear s a c.args.id k r now q c.at.ensures)
@@ -69,7 +69,7 @@ returns-in-Everywhere g c =
     let s = seen c.self.inside.cpus c.self.inside.records.list c.self.inside.last in
     let q = subst (λ (x : SystemView _). IsPresent c.args.id c.in-Some.place r x) (sym c.self.view_is) p in
     let a = c.self.invariant.0.agrees in let k = c.in-Some.place in let now = c.at.result.now in
-    subst (λ (x : SystemView _). Changes g.R.Raise.step g.R.Raise.view x (Reprogram c.args.id c.args.moment (Err Omnipresent)) x)
+    subst (λ (x : SystemView _). Changes g.R.Raise x (Reprogram c.args.id c.args.moment (Err Omnipresent)) x)
     c.self.view_is
     (inl (
       Omnipresent,

@@ -25,7 +25,7 @@ pub invariant_of-self : goal.invariant_of-self
 invariant_of-self g c = (
   holds_same _ c.reprogram_at.new.cpus c.self.invariant.0
       (same_changed c.args.cpu _ c.self.inside.cpus c.reprogram_at.new.cpus c.reprogram_at.ensures
-      (same_reprogram g.R.Raise.step g.R.Raise.view c.reprogram_at.ensures.before c.reprogram_at.ensures.after c.args.id
+      (same_reprogram g.R.Raise c.reprogram_at.ensures.before c.reprogram_at.ensures.after c.args.id
       c.args.moment c.reprogram_at.ensures.change)),
   c.self.invariant.1,
 )
