@@ -65,13 +65,13 @@ class Start:
         self.write("crates.txt", "# lowest first\nlow: thiserror\napart staticlib: low\nhigh: low\ncyclic: high low\n")
         self.write("examples/first.json", "{}")
         self.write("kit/name", "kit 1")
-        for file, text in (("bin/rt", RT), ("kit/bin/rattle", PROVER), ("kit/bin/rattle-link", LINKER)):
+        for file, text in (("kit/bin/rt", RT), ("kit/bin/rattle", PROVER), ("kit/bin/rattle-link", LINKER)):
             self.write(file, text)
             os.chmod(f"{top}/{file}", 0o755)
         os.mkdir(f"{top}/tools")
         for name in ("cyclic", "look", "tools/prove"):
             shutil.copy(f"{TOP}/{name}", f"{top}/{name}")
-        self.env = {**os.environ, "FAKE": top, "PATH": f"{top}/bin:{os.environ['PATH']}"}
+        self.env = {**os.environ, "FAKE": top, "PATH": f"{top}/kit/bin:{os.environ['PATH']}"}
 
     def write(self, file, text):
         os.makedirs(os.path.dirname(f"{self.top}/{file}") or self.top, exist_ok=True)
@@ -180,6 +180,21 @@ def tries(start):
     start.run("no kit", 4, "cyclic: the kit's command rt is not there\n", [], out="")
     os.remove(f"{start.top}/broken")
     start.run("a look", 3, "", ["try -- replay x"], word="look", out="look -- replay x\nscript")
+
+    # what was seen a second after its last change is not read again: the kit is not even asked its name
+    start.env["PROVE_PATIENCE"] = "20"
+    time.sleep(1.2)
+    start.run("seen", 0, "", [])
+    start.env["FAKE"] = "/nowhere"
+    start.run("not read again", 0, "", [])
+    start.env["FAKE"] = start.top
+    start.write("crates/low/src/lib.rt", "of an old time")
+    os.utime(f"{start.top}/crates/low/src/lib.rt", (0, 0))
+    start.run("a text of an old time", 0, FIRST + ALL + DONE, BUILDS)
+    time.sleep(1.2)
+    start.run("seen again", 0, "", [])
+    start.write("kit/name", "kit 3")
+    start.run("a kit after that", 0, FIRST + ALL + DONE, BUILDS)
 
 
 def main():
