@@ -8,7 +8,7 @@ The first is run in threads too.
 Each text is worked out here: how often a cyclic expires up to a moment is a quotient, what a level loses is what its pend would
 have above the ceiling, and which CPU is empty says where a juggle goes. Between the advances the CPUs go offline one after
 another, bound cyclics and such with calls outstanding stay, and removals wait for their calls. With --compare the text is also
-compared with that of tools/timeline, which works out each step. The first line that differs is printed, and the status is 1.
+compared with that of tools/plain_run.py, which works out each step. The first line that differs is printed, and the status is 1.
 """
 import importlib.machinery
 import importlib.util
@@ -228,11 +228,11 @@ def components():
     return made
 
 
-def timeline_text(script):
-    """The text that tools/timeline works out."""
-    loader = importlib.machinery.SourceFileLoader("timeline", os.path.join(HERE, "..", "tools", "timeline"))
+def plain_text(script):
+    """The text that tools/plain_run.py works out."""
+    loader = importlib.machinery.SourceFileLoader("plain_run", os.path.join(HERE, "..", "tools", "plain_run.py"))
     sys.dont_write_bytecode = True
-    module = importlib.util.module_from_spec(importlib.util.spec_from_loader("timeline", loader))
+    module = importlib.util.module_from_spec(importlib.util.spec_from_loader("plain_run", loader))
     loader.exec_module(module)
     return "".join(f"{line}\n" for line in module.Run(json.loads(script)).lines)
 
@@ -261,7 +261,7 @@ def main():
             ran = subprocess.run([PROGRAM, "run"], input=made.json(), capture_output=True, timeout=60)
             failed |= ran.returncode != 0 or differs("full_cpus in threads", ran.stdout.decode(), report_of(made))
         if "--compare" in sys.argv:
-            failed |= differs(f"{make.__name__} by tools/timeline", timeline_text(made.json()), wanted)
+            failed |= differs(f"{make.__name__} by tools/plain_run.py", plain_text(made.json()), wanted)
     if not failed:
         print("greatest: passed")
     return failed

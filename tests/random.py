@@ -5,10 +5,10 @@
 
 Every other script is whole: it must be accepted. The others are damaged in one to four bytes: each is accepted, or refused as a
 script. An accepted one has status 0, nothing on standard error, lines of the right forms, and a report in which the expirations
-are those called, lost and pending; and where the script was not damaged its text is the one that `tools/timeline` works out by
-itself. A refused one has status 2, no text, and one line 'script refused K', with 'step N' for 20 to 23. Every fourth pair of scripts
-is run in threads too: refused in the same words, or accepted with a report of the same names, in which nothing is pending. The same
-seed makes the same scripts. The first faulty one is printed, and the status is 1.
+are those called, lost and pending; and where the script was not damaged its text is the one that `tools/plain_run.py` works out
+by itself. A refused one has status 2, no text, and one line 'script refused K', with 'step N' for 20 to 23. Every fourth pair of
+scripts is run in threads too: refused in the same words, or accepted with a report of the same names, in which nothing is
+pending. The same seed makes the same scripts. The first faulty one is printed, and the status is 1.
 """
 import os
 import sys
@@ -33,11 +33,11 @@ LINE = re.compile(
 REPORT = re.compile(rb"[A-Za-z0-9_-]{1,32} expired (\d+) called (\d+) lost (\d+) pending (\d+)\n")
 
 
-def timeline():
-    """The module of tools/timeline."""
-    loader = importlib.machinery.SourceFileLoader("timeline", os.path.join(HERE, "..", "tools", "timeline"))
+def plain_run():
+    """The module of tools/plain_run.py."""
+    loader = importlib.machinery.SourceFileLoader("plain_run", os.path.join(HERE, "..", "tools", "plain_run.py"))
     sys.dont_write_bytecode = True
-    module = importlib.util.module_from_spec(importlib.util.spec_from_loader("timeline", loader))
+    module = importlib.util.module_from_spec(importlib.util.spec_from_loader("plain_run", loader))
     loader.exec_module(module)
     return module
 
@@ -150,14 +150,14 @@ def fault_of(text):
 
 
 def look(script, whole, run):
-    """What is wrong with the run of this script, or None. `run` is how tools/timeline runs one."""
+    """What is wrong with the run of this script, or None. `run` is how tools/plain_run.py runs one."""
     try:
         ran = subprocess.run([PROGRAM, "replay"], input=script, capture_output=True, timeout=100)
     except subprocess.TimeoutExpired:
         return "no end within 100 seconds"
     if ran.returncode == 0:
         if whole and ran.stdout.decode().splitlines() != run(json.loads(script)).lines:
-            return f"another text than that of tools/timeline: {ran.stdout!r}"
+            return f"another text than that of tools/plain_run.py: {ran.stdout!r}"
         return "words on standard error" if ran.stderr else fault_of(ran.stdout)
     if whole or ran.returncode != 2 or ran.stdout or not REFUSED.fullmatch(ran.stderr):
         return f"status {ran.returncode}, text {ran.stdout[:80]!r}, words {ran.stderr[:80]!r}"
@@ -182,7 +182,7 @@ def look_in_threads(script):
 
 def main():
     count, seed = int(sys.argv[1]), int(sys.argv[2]) if len(sys.argv) > 2 else 1
-    run = timeline().Run
+    run = plain_run().Run
     for number in range(count):
         chance = random.Random(seed * 2**32 + number)
         script, whole = Maker(chance).script(), number % 2 == 0
