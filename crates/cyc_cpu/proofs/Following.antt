@@ -15,9 +15,9 @@ use Rattle.cyc_types.specs.Series.{never}
 use Rattle.cyc_types.specs.Firing.{FiringCall, Admits, Loads, Raises, Marks, Polls, Expands, Looks}
 use Rattle.cyc_types.specs.Runs.{Goes}
 use Rattle.cyc_types.specs.Draining.{DrainCall}
-use Rattle.cyc_soft.specs.Serving.{Served}
+use Rattle.cyc_soft.specs.Serving.{Served, Serves, soft_side}
 use Rattle.cyc_types.specs.declared.firing.Sent.{Sent}
-use Rattle.cyc_types.specs.Levels.{at_level, as_level}
+use Rattle.cyc_types.specs.Levels.{Handler, at_level, as_level, handler_at}
 use Rattle.cyc_types.specs.declared.level.Level.{Level}
 use Rattle.cyc_types.specs.declared.level.Level.TheVariants as level
 use Rattle.cyc_types.specs.declared.level.Soft.{Soft}
@@ -42,7 +42,7 @@ use Rattle.cyc_cpu.specs.Cpu.{CpuView, Running, sides, Makes, Asks, Looked, Rese
 use Rattle.cyc_cpu.specs.Cpu.{AreAdmitted, HasRisingIds, with_moment}
 use Rattle.cyc_cpu.specs.Removal.{calls_at, EndGoes, Leaves}
 use Rattle.cyc_cpu.specs.Moving.{WhyNotTaken, Inquires}
-use Rattle.cyc_cpu.specs.Soft.{raise_tables, firing_at, held_at, end_at, ServesAt, SoftKept, Interrupts}
+use Rattle.cyc_cpu.specs.Soft.{raise_tables, firing_at, held_at, end_at, drain_tables, SoftKept, Interrupts}
 use Rattle.cyc_cpu.specs.Calls.{CpuCall, Fire, SoftInterrupt, Add, Place, Reprogram, AskPending, AskTotals, AskRoom, Reserve}
 use Rattle.cyc_cpu.specs.Calls.{Widen, BeginRemove, PollRemove, TakeNow, AskSettled, Changes, Does}
 use Rattle.cyc_cpu.specs.Gone.{IsAbsent, IsGone, HasLeft, PutsNot, StaysGone}
@@ -172,9 +172,10 @@ module _ {C : Type 0} (called : C → ℕ → C → Type 0) (count_of : C → �
         no_share level.High id s.cpu.cyclics made h.no_cyclic in omega (arith, a, b, c, d)),
   )
 
+module _ {C : Type 0} (handler : Handler C) (id : ℕ) where
   soft_gone : (s t : Running C Tables) (soft : Soft) (ran : List Served) (rest : List DrainCall) (at : C) → IsGone id s.cpu
-      → ServesAt called count_of (end_at soft s.cpu) s.calls ran rest (end_at soft t.cpu) at
-      → ((q : ℕ) → count_of t.calls q ≡ count_of at q) → SoftKept soft s.cpu t.cpu → StaysGone count_of id s t
+      → Serves drain_tables handler (soft_side (end_at soft s.cpu) s.calls) ran rest (soft_side (end_at soft t.cpu) at)
+      → ((q : ℕ) → handler.count t.calls q ≡ handler.count at q) → SoftKept soft s.cpu t.cpu → StaysGone handler.count id s t
   soft_gone s t soft_level.Low ran rest at h v same kept =
       let (off, none) = none_served id (held_at s.cpu.low) ran rest s.cpu.low t.cpu.low
       (off_of id (level_of s.cpu.low) h.low) v.way in (
@@ -335,10 +336,10 @@ module _ {C : Type 0} (handler : Calls C) (id : ℕ) where
       fire_gone (at_level handler.called level.High) handler.count id s t now f.made e.lost f.at h f.makes f.counted
   stays_gone s t (SoftInterrupt soft budget (Ok r)) h not (did, kept) =
       let (ran, many, serves, left) = did.served in
-      soft_gone (at_level handler.called (as_level soft)) handler.count id s t soft ran _ t.calls h serves (λ q. refl) kept
+      soft_gone (handler_at handler (as_level soft)) id s t soft ran _ t.calls h serves (λ q. refl) kept
   stays_gone s t (SoftInterrupt soft budget (Err e)) h not (did, kept) =
       let (ran, at, many, few, serves, may, same, held) = did.refused in
-      soft_gone (at_level handler.called (as_level soft)) handler.count id s t soft ran _ at h serves same kept
+      soft_gone (handler_at handler (as_level soft)) id s t soft ran _ at h serves same kept
   stays_gone s t (Add own level when now answer) h not r = quiet_gone s t (Add own level when now answer) h not r
   stays_gone s t (Place own level interval moment carried) h not r =
       quiet_gone s t (Place own level interval moment carried) h not r

@@ -22,7 +22,7 @@ use Rattle.cyc_core.specs.FiringSide.{Fires}
 use Rattle.cyc_core.specs.DrainingSide.{Drains, take_events}
 use Rattle.cyc_soft.specs.Serving.{Served, ids, way_of}
 use Rattle.cyc_cpu.specs.Gone.{IsAbsent}
-use Rattle.cyc_cpu.specs.Soft.{raise_tables, drains}
+use Rattle.cyc_cpu.specs.Soft.{raise_tables, drain_tables}
 
 -- the same, place by place
 pub record Off (id : ℕ) (l : SoftLevel) : Type 0 where
@@ -230,7 +230,7 @@ off_drains : (id : ℕ) (l m : SoftLevel) (call : DrainCall) → Off id l → Dr
 off_drains id l m (Takes answer) h d = off_looked id l m l.old_list l.new_list (eqb l.hard_bank l.soft_bank) h d.0
 off_drains id l m (Finishes a answer) h d = off_finish id l m h d.1
 
-off_drained : (id : ℕ) (a b : Tables) (way : List DrainCall) → DrainGoes drains a way b → Off id (level_of a)
+off_drained : (id : ℕ) (a b : Tables) (way : List DrainCall) → DrainGoes drain_tables a way b → Off id (level_of a)
     → Off id (level_of b)
 off_drained id a b [] g h = subst (λ (t : Tables). Off id (level_of t)) g h
 off_drained id a b (call ∷ way) (m, first, rest) h =
@@ -245,8 +245,8 @@ times_other id x xs ne none = let no : eqb x id ≡ false = grind (arith, nat_te
 
 -- one call of a soft interrupt, and then the others
 one_served : (id : ℕ) (s : Served) (ran : List Served) (rest : List DrainCall) (a b : Tables) → Off id (level_of a) →
-    DrainGoes drains a (Finishes s.id s.answer ∷ way_of (hand_after s.answer (Some s.id)) ran rest) b →
-    ((m : Tables) → Off id (level_of m) → DrainGoes drains m (way_of (hand_after s.answer (Some s.id)) ran rest) b
+    DrainGoes drain_tables a (Finishes s.id s.answer ∷ way_of (hand_after s.answer (Some s.id)) ran rest) b →
+    ((m : Tables) → Off id (level_of m) → DrainGoes drain_tables m (way_of (hand_after s.answer (Some s.id)) ran rest) b
     → Off id (level_of b) × (times id (ids ran) ≡ 0)) →
     Off id (level_of b) × (times id (ids (s ∷ ran)) ≡ 0)
 one_served id s ran rest a b h (m, first, g) later =
@@ -255,7 +255,7 @@ one_served id s ran rest a b h (m, first, g) later =
 
 -- a soft interrupt makes no call of it
 pub none_served : (id : ℕ) (hand : Option ℕ) (ran : List Served) (rest : List DrainCall) (a b : Tables) → Off id (level_of a)
-    → DrainGoes drains a (way_of hand ran rest) b → Off id (level_of b) × (times id (ids ran) ≡ 0)
+    → DrainGoes drain_tables a (way_of hand ran rest) b → Off id (level_of b) × (times id (ids ran) ≡ 0)
 none_served id hand [] rest a b h g = (off_drained id a b rest g h, refl)
 none_served id (Some held) (s ∷ ran) rest a b h g =
     one_served id s ran rest a b h g (λ m. none_served id (hand_after s.answer (Some s.id)) ran rest m b)

@@ -14,7 +14,7 @@ use Rattle.cyc_core.specs.Tables.{Tables, level_of}
 use Rattle.cyc_core.specs.FiringSide.{stay_of, firing_view}
 use Rattle.cyc_core.specs.DrainingSide.{take_events, Drains}
 use Rattle.cyc_fire.specs.Quiet.{KeepsStays}
-use Rattle.cyc_cpu.specs.Soft.{drains, firing_at}
+use Rattle.cyc_cpu.specs.Soft.{drain_tables, firing_at}
 use Rattle.cyc_fire.proofs.Readying.{keeps_itself}
 
 pub keeps_on : (u v w : FiringView) → KeepsStays u v → KeepsStays v w → KeepsStays u w
@@ -95,7 +95,7 @@ drained l m (Takes answer) h = looked l m l.old_list l.new_list (eqb l.hard_bank
 drained l m (Finishes id answer) h = finished l m h.1
 
 -- the calls of a soft interrupt, one by one
-pub serving_keeps : (a b : Tables) (way : List DrainCall) → DrainGoes drains a way b → KeepsStays (firing_at a) (firing_at b)
+pub serving_keeps : (a b : Tables) (way : List DrainCall) → DrainGoes drain_tables a way b → KeepsStays (firing_at a) (firing_at b)
 serving_keeps a b [] h = at_end (level_of a) (level_of b) (ap level_of h)
 serving_keeps a b (call ∷ way) (m, first, rest) =
     keeps_on _ _ _ (drained (level_of a) (level_of m) call first) (serving_keeps m b way rest)

@@ -1,9 +1,10 @@
 -- The soft interrupt of one level of a CPU whose levels no other thread uses.
 use Rattle.std.specs.Prelude.{◌≡◌, ℕ, List, [], Option, Result}
 use Rattle.cyc_types.specs.declared.Calls.{Ghosts as Calls}
+use Rattle.cyc_types.specs.declared.Drain.{Ghosts as Drain}
 use Rattle.cyc_types.specs.declared.Raise.{Ghosts as Raise}
 use Rattle.cyc_types.specs.Draining.{DrainCall}
-use Rattle.cyc_types.specs.Levels.{at_level, as_level}
+use Rattle.cyc_types.specs.Levels.{as_level, handler_at}
 use Rattle.cyc_types.specs.declared.level.Soft.{Soft}
 use Rattle.cyc_types.specs.declared.level.Soft.TheVariants.{Low, Lock}
 use Rattle.cyc_core.specs.Tables.{Tables, level_of}
@@ -12,7 +13,7 @@ use Rattle.cyc_core.specs.FiringSide.{firing_view, Fires}
 use Rattle.cyc_core.specs.DrainingSide.{Drains, held_of, done_of}
 use Rattle.cyc_soft.specs.declared.Ran.{Ran}
 use Rattle.cyc_soft.specs.declared.SoftRefused.{SoftRefused}
-use Rattle.cyc_soft.specs.Serving.{Served, Serves, IsSoftint}
+use Rattle.cyc_soft.specs.Serving.{IsSoftint, soft_side}
 use Rattle.cyc_cpu.specs.Cpu.{CpuView, Running, SameCpu}
 
 -- the end of a soft level
@@ -49,10 +50,9 @@ firing_at a = firing_view (level_of a)
 abbrev pub raise_tables : Raise Tables
 raise_tables = record { view = firing_at; step = fires }
 
--- these calls were made at one level, in order, and no other
-abbrev pub ServesAt : {C : Type 0} → (C → ℕ → C → Type 0) → (C → ℕ → ℕ) → Tables → C → List Served → List DrainCall → Tables → C
-    → Type 0
-ServesAt called count a calls ran rest b calls' = Serves drains held_at done_at called count a calls ran rest b calls'
+-- the soft side of such a level: the cyclic in its hand, its finished calls, and its calls
+abbrev pub drain_tables : Drain Tables
+drain_tables = record { held = held_at; made = done_at; step = drains }
 
 -- what a soft interrupt of one level leaves alone
 pub record SoftKept {R : Type 0} (level : Soft) (v w : CpuView R) : Type 0 where
@@ -67,6 +67,6 @@ HasEmptyLists a = (a.old_list ≡ []) × (a.new_list ≡ [])
 -- what a soft interrupt does to a CPU: at its level what any soft interrupt does, and nothing else
 abbrev pub Interrupts : {C : Type 0} → Calls C → Soft → ℕ → Result Ran SoftRefused → Running C Tables → Running C Tables → Type 0
 Interrupts handler level budget answer s t =
-    IsSoftint drains held_at done_at (at_level handler.called (as_level level)) handler.count handler.may_refuse
-    budget answer (end_at level s.cpu) s.calls (end_at level t.cpu) t.calls
+    IsSoftint drain_tables (handler_at handler (as_level level)) budget answer
+    (soft_side (end_at level s.cpu) s.calls) (soft_side (end_at level t.cpu) t.calls)
     × SoftKept level s.cpu t.cpu

@@ -1,13 +1,13 @@
 //! The soft interrupt of a CPU whose levels one thread has.
 
 ghost use Rattle.std.specs.Prelude.{IfOk, IsTrue};
-ghost use Rattle.cyc_types.specs.Levels.{as_level, at_level};
+ghost use Rattle.cyc_types.specs.Levels.{as_level, handler_at};
 ghost use Rattle.cyc_types.specs.Firing.{Sound};
-ghost use Rattle.cyc_soft.specs.Serving.{IsSoftint};
+ghost use Rattle.cyc_soft.specs.Serving.{IsSoftint, soft_side};
 ghost use Rattle.cyc_fire.specs.Quiet.{KeepsStays};
 ghost use Rattle.cyc_cpu.specs.Cpu.{running};
 ghost use Rattle.cyc_cpu.specs.Calls.{Does, SoftInterrupt};
-ghost use Rattle.cyc_cpu.specs.Soft.{end_at, raise_tables, drains, held_at, done_at, firing_at, HasEmptyLists, Interrupts};
+ghost use Rattle.cyc_cpu.specs.Soft.{end_at, raise_tables, drain_tables, firing_at, HasEmptyLists, Interrupts};
 
 use crate::hard::Hard;
 use cyc_core::LevelCore;
@@ -22,8 +22,8 @@ fn serve<C: Calls>(
     level: Soft,
     budget: u32,
 ) -> Result<Ran, SoftRefused>
-    ensures did { IsSoftint drains held_at done_at (at_level C.called (as_level level)) C.count C.may_refuse budget result end.old
-        calls.old end.new calls.new }
+    ensures did { IsSoftint drain_tables (handler_at C.Calls (as_level level)) budget result (soft_side end.old calls.old)
+        (soft_side end.new calls.new) }
     ensures empty { IfOk result (λ r. IsTrue r.idle → HasEmptyLists end.new) }
     ensures keeps { KeepsStays (firing_at end.old) (firing_at end.new) }
     ensures sound { Sound (firing_at end.new) }

@@ -8,7 +8,7 @@ use Rattle.cyc_types.specs.declared.Calls.{Ghosts as Calls}
 use Rattle.cyc_types.specs.Counting.{times}
 use Rattle.cyc_types.specs.Draining.{DrainCall}
 use Rattle.cyc_types.specs.Firing.{FiringCall}
-use Rattle.cyc_types.specs.Levels.{at_level, as_level}
+use Rattle.cyc_types.specs.Levels.{as_level, handler_at}
 use Rattle.cyc_types.specs.Runs.{Goes, DrainGoes, raised_by, lost_by, finishes_of, finished_by}
 use Rattle.cyc_types.specs.declared.level.Level.{Level}
 use Rattle.cyc_types.specs.declared.level.Level.TheVariants as level
@@ -18,13 +18,13 @@ use Rattle.cyc_types.proofs.Runs.{folds_on, raised_on, lost_on, finishes_on, fin
 use Rattle.cyc_cpu.specs.Tables.{Tables}
 use Rattle.cyc_soft.specs.declared.Ran.{Ran}
 use Rattle.cyc_soft.specs.declared.SoftRefused.{SoftRefused}
-use Rattle.cyc_soft.specs.Serving.{Served, ids, look_of, last_look, way_of}
+use Rattle.cyc_soft.specs.Serving.{Served, Serves, soft_side, ids, look_of, last_look, way_of}
 use Rattle.cyc_soft.proofs.Rounds.{way_finishes}
 use Rattle.cyc_cpu.specs.Shares.{share}
 use Rattle.cyc_cpu.specs.Rows.{timers}
 use Rattle.cyc_cpu.specs.Cpu.{Running}
 use Rattle.cyc_cpu.specs.Laws.{IsLawful}
-use Rattle.cyc_cpu.specs.Soft.{raise_tables, drains, held_at, firing_at, end_at, ServesAt, SoftKept, Interrupts}
+use Rattle.cyc_cpu.specs.Soft.{raise_tables, drain_tables, held_at, firing_at, end_at, SoftKept, Interrupts}
 use Rattle.cyc_cpu.specs.Calls.{CpuCall, Does, no_interrupts, Fire, SoftInterrupt, Add, Place, Reprogram, AskPending, AskTotals}
 use Rattle.cyc_cpu.specs.Calls.{AskRoom, Reserve, Widen, BeginRemove, PollRemove, TakeNow, AskSettled}
 use Rattle.cyc_cpu.proofs.Softs.{serving_keeps}
@@ -66,7 +66,7 @@ firing_goes : (a b : Tables) (way : List FiringCall) → Goes raise_tables a way
 firing_goes a b [] goes = goes
 firing_goes a b (call ∷ way) (m, first, rest) = (m, first, firing_goes m b way rest)
 
-soft_goes : (a b : Tables) (way : List DrainCall) → DrainGoes drains a way b → FoldsTo LevelDoes a (map OfSoft way) b
+soft_goes : (a b : Tables) (way : List DrainCall) → DrainGoes drain_tables a way b → FoldsTo LevelDoes a (map OfSoft way) b
 soft_goes a b [] goes = goes
 soft_goes a b (call ∷ way) (m, first, rest) = (m, first, soft_goes m b way rest)
 
@@ -112,7 +112,7 @@ core_firing r l a b p =
     }
 
 -- calls of the soft side alone
-core_soft : (a b : Tables) (way : List DrainCall) → DrainGoes drains a way b →
+core_soft : (a b : Tables) (way : List DrainCall) → DrainGoes drain_tables a way b →
     CorePasses (λ id. 0) (λ id. 0) (λ id. finished_by id way) (length (finishes_of way)) a b
 core_soft a b way goes =
     let firing = firing_of_soft way in let soft = soft_of_soft way in
@@ -211,7 +211,7 @@ module _ {C : Type 0} (handler : Calls C) where
 
   -- a level whose soft interrupt made these calls
   served_level : (own : Level) (a b : Tables) (n : ℕ) (calls calls' : C) (ran : List Served) (rest : List DrainCall) →
-      ServesAt (at_level handler.called own) handler.count a calls ran rest b calls' → finishes_of rest ≡ [] → length ran ≡ n →
+      Serves drain_tables (handler_at handler own) (soft_side a calls) ran rest (soft_side b calls') → finishes_of rest ≡ [] → length ran ≡ n →
       CorePasses (λ id. 0) (λ id. 0) (λ id. times id (ids ran)) n a b
   served_level own a b n calls calls' ran rest serves none long =
       let made = way_finishes (held_at a) ran rest ∙ ap (λ xs. ids ran ++ xs) none ∙ no_more (ids ran) in
@@ -221,8 +221,8 @@ module _ {C : Type 0} (handler : Calls C) where
 
   interrupted : (soft : Soft) (budget : ℕ) (answer : Result Ran SoftRefused) (s t : Running C Tables) (at : C)
       (ran : List Served) (rest : List DrainCall) →
-      ServesAt (at_level handler.called (as_level soft)) handler.count (end_at soft s.cpu) s.calls ran rest (end_at soft t.cpu) at
-      →
+      Serves drain_tables (handler_at handler (as_level soft)) (soft_side (end_at soft s.cpu) s.calls) ran rest
+      (soft_side (end_at soft t.cpu) at) →
       finishes_of rest ≡ [] → length ran ≡ told answer → ((q : ℕ) → handler.count t.calls q ≡ handler.count at q) →
       SoftKept soft s.cpu t.cpu → CoreProceeds handler.count (account_of (SoftInterrupt soft budget answer) s.cpu.cyclics) s t
   interrupted Low budget answer s t at ran rest serves none long same kept =

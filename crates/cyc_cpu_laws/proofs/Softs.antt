@@ -22,7 +22,7 @@ use Rattle.cyc_soft.specs.declared.Ran.{Ran}
 use Rattle.cyc_soft.specs.declared.SoftRefused.{SoftRefused}
 use Rattle.cyc_cpu.specs.Cpu.{CpuView, Running}
 use Rattle.cyc_cpu.specs.Moving.{IsSettled}
-use Rattle.cyc_cpu.specs.Soft.{drains, raise_tables, firing_at, end_at, Interrupts, SoftKept}
+use Rattle.cyc_cpu.specs.Soft.{drain_tables, raise_tables, firing_at, end_at, Interrupts, SoftKept}
 use Rattle.cyc_cpu_laws.proofs.Staying.{IsQuiet, lock_quiet, low_quiet, settled_of}
 
 finished_count : (b : Bool) (o : Option AdmittedCyclic) → seen_in (option_map stay_of o) ≡ 0 →
@@ -62,12 +62,12 @@ drained : (l m : SoftLevel) (call : DrainCall) → Drains l call m → IsQuiet (
 drained l m (Takes answer) h q = looked l m l.old_list l.new_list (eqb l.hard_bank l.soft_bank) h.0 q
 drained l m (Finishes id answer) h q = finished l m h.1 q
 
-drain_quiet : (a b : Tables) (way : List DrainCall) → DrainGoes drains a way b → IsQuiet (firing_at a) → IsQuiet (firing_at b)
+drain_quiet : (a b : Tables) (way : List DrainCall) → DrainGoes drain_tables a way b → IsQuiet (firing_at a) → IsQuiet (firing_at b)
 drain_quiet a b [] g q = subst (λ (x : Tables). IsQuiet (firing_at x)) g q
 drain_quiet a b (call ∷ way) (m, first, rest) q = drain_quiet m b way rest (drained (level_of a) (level_of m) call first q)
 
 module _ {C : Type 0} (handler : Calls C) where
-  served : (soft : Soft) (v w : CpuView Tables) (way : List DrainCall) → DrainGoes drains (end_at soft v) way (end_at soft w) →
+  served : (soft : Soft) (v w : CpuView Tables) (way : List DrainCall) → DrainGoes drain_tables (end_at soft v) way (end_at soft w) →
       SoftKept soft v w → IsSettled firing_at v → IsSettled firing_at w
   served Low v w way g k s = settled_of raise_tables w (subst (λ (x : Tables). IsQuiet (firing_at x)) (sym k.beside)
       (lock_quiet raise_tables v s)) (drain_quiet v.low w.low way g (low_quiet raise_tables v s)) (k.kept.removal ∙ s.still)

@@ -5,7 +5,7 @@ use Rattle.std.specs.Prelude.{nat_lt, nat_le, ◌&&◌, Ok, Err}
 use Rattle.std.proofs.lemmas.Bool.Decides.{nat_tests}
 use Rattle.std.proofs.lemmas.List.{length-map}
 use Rattle.cyc_types.specs.declared.Calls.{Ghosts as Calls}
-use Rattle.cyc_types.specs.Levels.{at_level, as_level}
+use Rattle.cyc_types.specs.Levels.{at_level, as_level, handler_at}
 use Rattle.cyc_types.specs.Limits.{cyclics as most_cyclics}
 use Rattle.cyc_types.specs.Series.{never}
 use Rattle.cyc_types.specs.declared.level.Level.{Level}
@@ -305,7 +305,7 @@ answers handler n online (Fire now (Err e)) s t law in_time goes does = absurd (
 answers handler n online (SoftInterrupt level budget (Ok r)) s t law in_time goes (did, kept) =
     let (ran, long, serves, left) = did.served in
     let (most, exactly) = did.within in
-    let f = serves_here (at_level handler.called (as_level level)) handler.count level n budget r.calls r.idle online s.cpu t.cpu
+    let f = serves_here (handler_at handler (as_level level)) level n budget r.calls r.idle online s.cpu t.cpu
     s.calls
     t.calls ran long serves left most exactly kept in
     (f.2, f.3)

@@ -7,6 +7,7 @@ use Rattle.std.proofs.lemmas.List.{length-map}
 use Rattle.std.proofs.lemmas.List.Sums.{sum_by-append}
 use Rattle.cyc_types.specs.Counting.{times}
 use Rattle.cyc_types.specs.Draining.{Takes, hand_after}
+use Rattle.cyc_types.specs.Levels.{Handler}
 use Rattle.cyc_types.specs.Runs.{DrainGoes}
 use Rattle.cyc_types.specs.declared.draining.Finished.{Finished}
 use Rattle.cyc_types.specs.declared.draining.Finished.TheVariants.{More, Last, LastOfRemoval}
@@ -20,8 +21,8 @@ use Rattle.cyc_level.proofs.Maps.{at_same}
 use Rattle.cyc_core.specs.Tables.{Tables, level_of}
 use Rattle.cyc_core.specs.DrainingSide.{Drains, take_events, finished_at, is_marked}
 use Rattle.cyc_cpu.specs.Cpu.{CpuView}
-use Rattle.cyc_cpu.specs.Soft.{drains, held_at, end_at, SoftKept, ServesAt}
-use Rattle.cyc_soft.specs.Serving.{Served, ids, way_of, last_look, hand_left}
+use Rattle.cyc_cpu.specs.Soft.{drain_tables, held_at, end_at, SoftKept}
+use Rattle.cyc_soft.specs.Serving.{Served, Serves, ids, way_of, last_look, hand_left, soft_side}
 use Rattle.cyc_model.specs.Acts.{Act, At, Call, call_of, calls_of, calls_in}
 use Rattle.cyc_model.specs.Cpu.{Cpu, cpu_after, happen}
 use Rattle.cyc_model.specs.Serving.{level_after, level_at, looks, look, Interrupt, calling, found_nothing, serve, interrupt_here}
@@ -186,7 +187,7 @@ goes_on n soft budget called id idle l m k e is held done rest =
 pub interrupts : (n : ℕ) (soft : Soft) (budget : ℕ) (ran : List Served) (idle : Bool) (hand : Option ℕ) (d e : Tables)
     → (level_of d).drainer_hand ≡ hand
     → FitsBudget idle (length ran) budget → (idle ≡ true → hand_left hand ran ≡ None)
-    → DrainGoes drains d (way_of hand ran (last_look idle)) e
+    → DrainGoes drain_tables d (way_of hand ran (last_look idle)) e
     → Interrupts n soft budget (ids ran) idle (level_of d) (level_of e)
 interrupts n soft zero [] false hand d e held fits left way = record {
   stopped = refl;
@@ -230,13 +231,13 @@ fits_budget false calls n budget same most exactly = omega (arith, λ (less : ca
 
 -- a last look that found nothing leaves the hand empty
 hand_empty : (ran : List Served) (hand : Option ℕ) (d e : Tables)
-    → DrainGoes drains d (way_of hand ran (Takes None ∷ [])) e → held_at e ≡ None
+    → DrainGoes drain_tables d (way_of hand ran (Takes None ∷ [])) e → held_at e ≡ None
 hand_empty [] hand d e (j, drained, last) = ap held_at (sym last) ∙ sym drained.1
 hand_empty (s ∷ ran) (Some x) d e (k, finished, rest) = hand_empty ran (hand_after s.answer (Some s.id)) k e rest
 hand_empty (s ∷ ran) None d e (j, drained, (k, finished, rest)) = hand_empty ran (hand_after s.answer (Some s.id)) k e rest
 
 idle_hand : (idle : Bool) (ran : List Served) (hand : Option ℕ) (d e : Tables)
-    → DrainGoes drains d (way_of hand ran (last_look idle)) e → idle ≡ true → held_at e ≡ None
+    → DrainGoes drain_tables d (way_of hand ran (last_look idle)) e → idle ≡ true → held_at e ≡ None
 idle_hand true ran hand d e way is = hand_empty ran hand d e way
 idle_hand false ran hand d e way is = absurd (let no : false ≡ true = is in cc)
 
@@ -270,16 +271,16 @@ level_here : (soft : Soft) (online : Bool) (v : CpuView Tables) → level_at sof
 level_here Low online v = refl
 level_here Lock online v = refl
 
-pub serves_here : {C : Type 0} (called : C → ℕ → C → Type 0) (count : C → ℕ
-    → ℕ) (soft : Soft) (n budget calls : ℕ) (idle online : Bool) (v w : CpuView Tables) (t u : C)
-    → (ran : List Served) → length ran ≡ calls → ServesAt called count (end_at soft v) t ran (last_look idle) (end_at soft w) u
+pub serves_here : {C : Type 0} (handler : Handler C) (soft : Soft) (n budget calls : ℕ) (idle online : Bool)
+    (v w : CpuView Tables) (t u : C) (ran : List Served) → length ran ≡ calls
+    → Serves drain_tables handler (soft_side (end_at soft v) t) ran (last_look idle) (soft_side (end_at soft w) u)
     → held_at (end_at soft w) ≡ hand_left (held_at (end_at soft v)) ran → calls ≤ budget → (IsTrue idle ↔ (calls < budget))
     → SoftKept soft v w
     → (shown_cpu online w ≡ (serve_here n soft budget (shown_cpu online v)).cpu)
-    × ((q : ℕ) → count u q ≡ count t q + calls_of q (serve_here n soft budget (shown_cpu online v)).acts)
+    × ((q : ℕ) → handler.count u q ≡ handler.count t q + calls_of q (serve_here n soft budget (shown_cpu online v)).acts)
     × (calls ≡ calls_in (interrupt_here n soft budget (shown_cpu online v)).acts)
     × (idle ≡ (interrupt_here n soft budget (shown_cpu online v)).idle)
-serves_here called count soft n budget calls idle online v w t u ran long serves left most exactly kept =
+serves_here handler soft n budget calls idle online v w t u ran long serves left most exactly kept =
     let c = shown_cpu online v in
     let d = end_at soft v in
     let e = end_at soft w in

@@ -2,7 +2,7 @@
 use Rattle.std.proofs.Common.{◌≡◌, ℕ, ◌+◌, length, cond, inl, inr, Bool, true, false, Some, None, refl, ap, ◌∙◌, arith}
 use Rattle.std.specs.Prelude.{Ok, Err}
 use Rattle.cyc_types.specs.declared.Calls.{Ghosts as Calls}
-use Rattle.cyc_types.specs.Levels.{at_level}
+use Rattle.cyc_types.specs.Levels.{at_level, handler_at}
 use Rattle.cyc_types.specs.declared.level.Level.{Level}
 use Rattle.cyc_types.specs.declared.level.Level.TheVariants.{Low, Lock, High}
 use Rattle.cyc_types.specs.declared.moment.When.{When}
@@ -129,7 +129,7 @@ is_here handler n online (Fire now (Err e)) s t rising rises goes does = absurd 
 is_here handler n online (SoftInterrupt level budget (Ok r)) s t rising rises goes (did, kept) =
     let (ran, long, serves, left) = did.served in
     let (most, exactly) = did.within in
-    let f = serves_here (at_level handler.called (as_level level)) handler.count level n budget r.calls r.idle online s.cpu t.cpu
+    let f = serves_here (handler_at handler (as_level level)) level n budget r.calls r.idle online s.cpu t.cpu
     s.calls
     t.calls ran long serves left most exactly kept in
     record {

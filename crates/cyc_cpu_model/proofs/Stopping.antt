@@ -22,7 +22,7 @@ use Rattle.cyc_fire.specs.declared.fire.FireRefused.{FireRefused}
 use Rattle.cyc_soft.specs.declared.SoftRefused.{SoftRefused}
 use Rattle.cyc_soft.specs.Serving.{Served, way_of, look_of, hand_left}
 use Rattle.cyc_cpu.specs.Cpu.{CpuView, Running, HasRisingIds}
-use Rattle.cyc_cpu.specs.Soft.{raise_tables, drains, end_at, SoftKept, Interrupts}
+use Rattle.cyc_cpu.specs.Soft.{raise_tables, drain_tables, end_at, SoftKept, Interrupts}
 use Rattle.cyc_cpu.specs.Calls.{CpuCall, Fire, SoftInterrupt, Does, Stopped}
 use Rattle.cyc_model.specs.Cpu.{Cyclic, handler_level_of}
 use Rattle.cyc_model.specs.Serving.{level_at}
@@ -84,7 +84,7 @@ drain_has (Takes answer) l m q (happened, found) is =
 drain_has (Finishes id answer) l m q (held, (enabled, after_it), found) is = event_has Finish l q tt (subst (Has q) after_it is)
 
 -- the soft side puts nothing in
-way_has : (way : List DrainCall) (d e : Tables) (q : ℕ) → DrainGoes drains d way e → Has q (level_of e) → Has q (level_of d)
+way_has : (way : List DrainCall) (d e : Tables) (q : ℕ) → DrainGoes drain_tables d way e → Has q (level_of e) → Has q (level_of d)
 way_has [] d e q same is = subst (λ (x : Tables). Has q (level_of x)) (sym same) is
 way_has (call ∷ way) d e q (j, first, rest) is = drain_has call (level_of d) (level_of j) q first (way_has way j e q rest is)
 

@@ -1,5 +1,6 @@
 -- What a contract says of the seats and ends of a ring.
 use Rattle.std.specs.Prelude.{◌≡◌, ℕ, Option, List, ◌++◌}
+use Rattle.cyc_types.specs.declared.Drain.{Ghosts as Drain}
 use Rattle.cyc_types.specs.declared.Raise.{Ghosts as Raise}
 use Rattle.cyc_types.specs.Firing.{FiringView, FiringCall}
 use Rattle.cyc_types.specs.Draining.{DrainCall}
@@ -83,6 +84,10 @@ end_made e id = seat_made e.seat id
 abbrev pub DrainEndCall : DrainEnd → DrainCall → DrainEnd → Type 0
 DrainEndCall e call f = IsSameDrainSeat e.seat f.seat
     × MakesDrainCall e.seat.setting (drain_seat_view e.seat) call (drain_seat_view f.seat)
+
+-- the soft side of a ring: the cyclic in its hand, its finishes, and its calls
+abbrev pub drain_end : Drain DrainEnd
+drain_end = record { held = end_hand; made = end_made; step = DrainEndCall }
 
 -- the trail gained, last, a load of the hard bank that found the soft side's bank, then a load of its producer word that found
 -- the consumer index

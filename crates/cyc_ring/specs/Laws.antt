@@ -7,7 +7,7 @@ use Rattle.ring_rule.specs.declared.Setting.{Setting}
 use Rattle.ring_rule.specs.Trail.{open_stay, raises_of, losses_of, ended_calls, made_calls}
 use Rattle.ring_rule.specs.Log.{RingStep, raise_side, drain_side}
 use Rattle.ring_rule.specs.Conservation.{LevelStands}
-use Rattle.cyc_ring.specs.Ends.{raise_trail, raise_end, end_view, end_made, DrainEndCall, IsSameRaiseSeat, IsSameDrainSeat}
+use Rattle.cyc_ring.specs.Ends.{raise_trail, raise_end, end_view, end_made, drain_end, DrainEndCall, IsSameRaiseSeat, IsSameDrainSeat}
 use Rattle.cyc_ring.specs.Ends.{FoundIdle}
 use Rattle.cyc_ring.specs.declared.ends.RaiseEnd.{RaiseEnd}
 use Rattle.cyc_ring.specs.declared.ends.DrainEnd.{DrainEnd}
@@ -21,12 +21,12 @@ RaiseWaysAddUp = (e f : RaiseEnd) (way : List FiringCall) → Goes raise_end e w
 
 -- the finishes grow by those of the run
 abbrev pub DrainWaysAddUp : Type 0
-DrainWaysAddUp = (e f : DrainEnd) (way : List DrainCall) → DrainGoes DrainEndCall e way f
+DrainWaysAddUp = (e f : DrainEnd) (way : List DrainCall) → DrainGoes drain_end e way f
     → IsSameDrainSeat e.seat f.seat × ((id : ℕ) → end_made f id ≡ end_made e id + finished_by id way)
 
 -- the last take of a run answered None because it looked
 abbrev pub IdleIsFound : Type 0
-IdleIsFound = (e before f : DrainEnd) (way : List DrainCall) → DrainGoes DrainEndCall e way before
+IdleIsFound = (e before f : DrainEnd) (way : List DrainCall) → DrainGoes drain_end e way before
     → DrainEndCall before (Takes None) f
     → FoundIdle e f
 

@@ -2,9 +2,9 @@
 #![tactic(auto)]
 
 ghost use Rattle.std.specs.Prelude.{IfOk, IsTrue};
-ghost use Rattle.cyc_types.specs.Levels.{as_level, at_level};
-ghost use Rattle.cyc_soft.specs.Serving.{IsSoftint};
-ghost use Rattle.cyc_ring.specs.Ends.{DrainEndCall, FoundIdle, end_hand, end_made};
+ghost use Rattle.cyc_types.specs.Levels.{as_level, handler_at};
+ghost use Rattle.cyc_soft.specs.Serving.{IsSoftint, soft_side};
+ghost use Rattle.cyc_ring.specs.Ends.{drain_end, FoundIdle};
 
 use cyc_ring::DrainEnd;
 use cyc_ring::laws::idle_is_found;
@@ -24,8 +24,8 @@ pub fn softint<C: Calls>(
     level: Soft,
     budget: u32,
 ) -> Result<Ran, SoftRefused>
-    ensures did { IsSoftint DrainEndCall end_hand end_made (at_level C.called (as_level level)) C.count C.may_refuse budget result
-        drain.old calls.old drain.new calls.new }
+    ensures did { IsSoftint drain_end (handler_at C.Calls (as_level level)) budget result (soft_side drain.old calls.old)
+        (soft_side drain.new calls.new) }
 
     // Where it is idle it has looked, last: at the hard bank, which is the soft side's, and then at its producer word.
     ensures found { IfOk result (λ r. IsTrue r.idle → FoundIdle drain.old drain.new) }

@@ -26,7 +26,7 @@ use Rattle.cyc_soft.specs.declared.Ran.{Ran}
 use Rattle.cyc_soft.specs.declared.SoftRefused.{SoftRefused}
 use Rattle.cyc_script.specs.declared.step.Softint.{Softint as SoftintStep}
 use Rattle.cyc_cpu.specs.Cpu.{CpuView}
-use Rattle.cyc_cpu.specs.Soft.{raise_tables, drains, end_at, Interrupts}
+use Rattle.cyc_cpu.specs.Soft.{raise_tables, drains, drain_tables, end_at, Interrupts}
 use Rattle.cyc_script_machine.specs.Cpus.{IsCpu}
 use Rattle.cyc_script_machine.specs.System.{SystemView, RunningSystem, running_system, removal_on}
 use Rattle.cyc_script_machine.proofs.Spots.{same_some, none_some}
@@ -110,7 +110,7 @@ drained : (call : DrainCall) (a b : Tables) → drains a call b → Fit (level_o
 drained (Looks answer) a b did fit = looked a.old_list a.new_list (a.hard_bank == a.soft_bank) (level_of a) (level_of b) did.0 fit
 drained (Finishes id answer) a b did fit = finished (level_of a) (level_of b) did.1 fit
 
-drained_all : (way : List DrainCall) (a b : Tables) → DrainGoes drains a way b → Fit (level_of a)
+drained_all : (way : List DrainCall) (a b : Tables) → DrainGoes drain_tables a way b → Fit (level_of a)
     → Along (level_of a) (level_of b)
 drained_all [] a b is fit = along_same (level_of a) (level_of b) (ap level_of is) fit
 drained_all (call ∷ way) a b (c, did, rest) fit =
@@ -182,7 +182,7 @@ module _ (step n budget : ℕ) (level : Soft) (s : State) (m : Machine) (low : s
       omega (arith, books, few, was)
 
   held_given : (x : CpuView Tables) (b : Tables) (way : List DrainCall) (id : ℕ) → IsCpu n x m.system.cpus
-      → DrainGoes drains (end_at level x) way b
+      → DrainGoes drain_tables (end_at level x) way b
       → (level_of b).drainer_hand ≡ Some id → (0 < id) × (id ≤ 65535)
   held_given x b way id here went held =
       let g = reached_good step s r in

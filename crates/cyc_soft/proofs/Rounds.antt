@@ -8,10 +8,13 @@ use Rattle.std.proofs.lemmas.List.{append_assoc}
 use Rattle.std.specs.List.{FoldsTo}
 use Rattle.cyc_types.specs.Counting.{times}
 use Rattle.cyc_types.specs.Draining.{DrainCall, Finishes, one_of, hand_after}
+use Rattle.cyc_types.specs.declared.draining.Drain.{Ghosts as Drain}
+use Rattle.cyc_types.specs.Levels.{Handler}
 use Rattle.cyc_types.specs.Runs.{DrainGoes, finishes_of}
 use Rattle.cyc_types.specs.declared.draining.Finished.{Finished}
 use Rattle.cyc_types.proofs.Runs.{folds_on, folds_more, times_more, finishes_on}
-use Rattle.cyc_soft.specs.Serving.{Served, Serves, ids, look_of, hand_left, way_of}
+use Rattle.cyc_soft.specs.declared.SoftSide.{SoftSide}
+use Rattle.cyc_soft.specs.Serving.{Served, Serves, ids, look_of, hand_left, way_of, soft_side}
 
 -- two ways to count one
 one_times : (q id : ℕ) → one_of q (Some id) ≡ times q (id ∷ [])
@@ -58,43 +61,44 @@ way_finishes hand (s ∷ ran) rest =
     ∙ ap (λ ys. ys ++ s.id ∷ finishes_of (way_of (hand_after s.answer (Some s.id)) ran rest)) (look_finishes hand (Some s.id))
     ∙ ap (λ ys. s.id ∷ ys) (way_finishes (hand_after s.answer (Some s.id)) ran rest)
 
-module _ {D C : Type 0} (step : D → DrainCall → D → Type 0) (held : D → Option ℕ) (made : D → ℕ → ℕ) (called : C → ℕ → C → Type 0)
-    (count : C → ℕ → ℕ) where
+module _ {D C : Type 0} (draining : Drain D) (handler : Handler C) where
   -- before the first call
-  pub serves_none : (d : D) (c : C) → Serves step held made called count d c [] [] d c
-  serves_none d c = record { way = refl; called_all = refl; counted = λ q. omega arith; finished = λ q. omega arith }
+  pub serves_none : (a : SoftSide D C) → Serves draining handler a [] [] a
+  serves_none a = record { way = refl; called_all = refl; counted = λ q. omega arith; finished = λ q. omega arith }
 
   -- a look after the calls
-  pub serves_look : (d : D) (c : C) (ran : List Served) (d1 : D) (c1 : C) (look : List DrainCall) (d2 : D)
-      → Serves step held made called count d c ran [] d1 c1 →
-      ((q : ℕ) → made d2 q ≡ made d1 q) → DrainGoes step d1 look d2 → Serves step held made called count d c ran look d2 c1
-  serves_look d c ran d1 c1 look d2 s still went = record {
-    way = subst (λ way. DrainGoes step d way d2) (sym (way_rest (held d) ran look))
-        (folds_on step d (way_of (held d) ran []) d1 look d2 s.way went);
+  pub serves_look : (a : SoftSide D C) (ran : List Served) (b : SoftSide D C) (look : List DrainCall) (d : D)
+      → Serves draining handler a ran [] b → ((q : ℕ) → draining.made d q ≡ draining.made b.drain q)
+      → DrainGoes draining b.drain look d → Serves draining handler a ran look (soft_side d b.calls)
+  serves_look a ran b look d s still went = record {
+    way = subst (λ way. DrainGoes draining a.drain way d) (sym (way_rest (draining.held a.drain) ran look))
+        (folds_on draining.step a.drain (way_of (draining.held a.drain) ran []) b.drain look d s.way went);
     called_all = s.called_all;
     counted = s.counted;
     finished = λ q. still q ∙ s.finished q;
   }
 
   -- a call that was called, counted and finished
-  pub serves_call : (d : D) (c : C) (ran : List Served) (d1 : D) (c1 : C) (id : ℕ) (answer : Finished) (d2 : D) (c2 : C) →
-      Serves step held made called count d c ran (look_of (hand_left (held d) ran) (Some id)) d1 c1 →
-      called c1 id c2 → ((q : ℕ) → count c2 q ≡ count c1 q + times q (id ∷ [])) →
-      step d1 (Finishes id answer) d2 → ((q : ℕ) → made d2 q ≡ made d1 q + one_of q (Some id)) →
-      Serves step held made called count d c (ran ++ record { id = id; answer = answer } ∷ []) [] d2 c2
-  serves_call d c ran d1 c1 id answer d2 c2 s now counts stepped more =
+  pub serves_call : (a : SoftSide D C) (ran : List Served) (b : SoftSide D C) (id : ℕ) (answer : Finished) (e : SoftSide D C) →
+      Serves draining handler a ran (look_of (hand_left (draining.held a.drain) ran) (Some id)) b →
+      handler.called b.calls id e.calls → ((q : ℕ) → handler.count e.calls q ≡ handler.count b.calls q + times q (id ∷ [])) →
+      draining.step b.drain (Finishes id answer) e.drain →
+      ((q : ℕ) → draining.made e.drain q ≡ draining.made b.drain q + one_of q (Some id)) →
+      Serves draining handler a (ran ++ record { id = id; answer = answer } ∷ []) [] e
+  serves_call a ran b id answer e s now counts stepped more =
       let one : Served = record { id = id; answer = answer } in
-      let look = look_of (hand_left (held d) ran) (Some id) in
-      let more_way : way_of (held d) (ran ++ one ∷ []) [] ≡ way_of (held d) ran look ++ Finishes id answer ∷ [] =
-      way_more (held d) ran one [] ∙ way_rest (held d) ran (look ++ Finishes id answer ∷ [])
-      ∙ sym (append_assoc (way_of (held d) ran []) look (Finishes id answer ∷ []))
-      ∙ ap (λ ys. ys ++ Finishes id answer ∷ []) (sym (way_rest (held d) ran look)) in
+      let hand = draining.held a.drain in
+      let look = look_of (hand_left hand ran) (Some id) in
+      let more_way : way_of hand (ran ++ one ∷ []) [] ≡ way_of hand ran look ++ Finishes id answer ∷ [] =
+      way_more hand ran one [] ∙ way_rest hand ran (look ++ Finishes id answer ∷ [])
+      ∙ sym (append_assoc (way_of hand ran []) look (Finishes id answer ∷ []))
+      ∙ ap (λ ys. ys ++ Finishes id answer ∷ []) (sym (way_rest hand ran look)) in
       let more_ids = ids_more ran one in
       record {
-        way = subst (λ way. DrainGoes step d way d2) (sym more_way)
-            (folds_more step d (way_of (held d) ran look) d1 (Finishes id answer) d2 s.way stepped);
-        called_all = subst (λ xs. FoldsTo called c xs c2) (sym more_ids)
-            (folds_more called c (ids ran) c1 id c2 s.called_all now);
+        way = subst (λ way. DrainGoes draining a.drain way e.drain) (sym more_way)
+            (folds_more draining.step a.drain (way_of hand ran look) b.drain (Finishes id answer) e.drain s.way stepped);
+        called_all = subst (λ xs. FoldsTo handler.called a.calls xs e.calls) (sym more_ids)
+            (folds_more handler.called a.calls (ids ran) b.calls id e.calls s.called_all now);
         counted = λ q. omega (arith, counts q, s.counted q, ap (times q) more_ids, times_more q (ids ran) id);
         finished = λ q. omega (arith, more q, s.finished q, ap (times q) more_ids, times_more q (ids ran) id, one_times q id);
       }

@@ -3,11 +3,14 @@ use Rattle.std.specs.Prelude.{◌≡◌, ℕ, ◌+◌, ◌<◌, ◌≤◌, ◌�
 use Rattle.std.specs.Prelude.{Some, None, Result, IfOk, IfErr}
 use Rattle.std.specs.List.{FoldsTo}
 use Rattle.cyc_types.specs.Counting.{times}
+use Rattle.cyc_types.specs.declared.draining.Drain.{Ghosts as Drain}
 use Rattle.cyc_types.specs.Draining.{DrainCall, Takes, Finishes, hand_after}
+use Rattle.cyc_types.specs.Levels.{Handler}
 use Rattle.cyc_types.specs.Runs.{DrainGoes}
 use Rattle.cyc_types.specs.declared.draining.Finished.{Finished}
 use Rattle.cyc_soft.specs.declared.Ran.{Ran}
 use Rattle.cyc_soft.specs.declared.SoftRefused.{SoftRefused}
+use Rattle.cyc_soft.specs.declared.SoftSide.{SoftSide}
 
 -- a handler's call that was made: the cyclic, and what its finish found
 pub record Served : Type 0 where
@@ -39,35 +42,37 @@ way_of hand [] rest = rest
 way_of hand (s ∷ ran) rest = look_of hand (Some s.id) ++ Finishes s.id s.answer ∷ way_of
     (hand_after s.answer (Some s.id)) ran rest
 
+-- the soft side of a level, and the handlers of its calls
+abbrev pub soft_side : {D C : Type 0} → D → C → SoftSide D C
+soft_side drain calls = record { drain = drain; calls = calls }
+
 -- These calls were made, in order, and no other: the soft side went just their way, and for each id the handlers' counts and
 -- the finished calls have grown by the same.
-pub record Serves {D C : Type 0} (step : D → DrainCall → D → Type 0) (held : D → Option ℕ) (made : D → ℕ → ℕ) (called : C → ℕ → C
-    → Type 0) (count : C → ℕ → ℕ)
-    (drain : D) (calls : C) (ran : List Served) (rest : List DrainCall) (drain' : D) (calls' : C) : Type 0 where
-  pub way : DrainGoes step drain (way_of (held drain) ran rest) drain'
-  pub called_all : FoldsTo called calls (ids ran) calls'
-  pub counted : (q : ℕ) → count calls' q ≡ count calls q + times q (ids ran)
-  pub finished : (q : ℕ) → made drain' q ≡ made drain q + times q (ids ran)
+pub record Serves {D C : Type 0} (draining : Drain D) (handler : Handler C) (a : SoftSide D C) (ran : List Served)
+    (rest : List DrainCall) (b : SoftSide D C) : Type 0 where
+  pub way : DrainGoes draining a.drain (way_of (draining.held a.drain) ran rest) b.drain
+  pub called_all : FoldsTo handler.called a.calls (ids ran) b.calls
+  pub counted : (q : ℕ) → handler.count b.calls q ≡ handler.count a.calls q + times q (ids ran)
+  pub finished : (q : ℕ) → draining.made b.drain q ≡ draining.made a.drain q + times q (ids ran)
 
 -- the last step of the soft side is a look that found nothing, and no cyclic is in hand
-abbrev pub EndsWithLook : {D : Type 0} → (D → DrainCall → D → Type 0) → (D → Option ℕ) → D → D → Type 0
-EndsWithLook {D} step held drain drain' = (before : D) × (way : List DrainCall)
-    × DrainGoes step drain way before × step before (Takes None) drain' × (held drain' ≡ None)
+abbrev pub EndsWithLook : {D : Type 0} → Drain D → D → D → Type 0
+EndsWithLook {D} draining d d' = (before : D) × (way : List DrainCall)
+    × DrainGoes draining d way before × draining.step before (Takes None) d' × (draining.held d' ≡ None)
 
 -- What a soft interrupt with this budget answers, and what it has done (`cyclic_softint` of cyclic.c; that it has a budget, and
 -- that a handler may refuse, are our own rules).
-pub record IsSoftint {D C : Type 0} (step : D → DrainCall → D → Type 0) (held : D → Option ℕ) (made : D → ℕ → ℕ)
-    (called : C → ℕ → C → Type 0) (count : C → ℕ → ℕ) (may_refuse : C → ℕ → Type 0)
-    (budget : ℕ) (answer : Result Ran SoftRefused) (drain : D) (calls : C) (drain' : D) (calls' : C) : Type 0 where
+pub record IsSoftint {D C : Type 0} (draining : Drain D) (handler : Handler C) (budget : ℕ) (answer : Result Ran SoftRefused)
+    (a b : SoftSide D C) : Type 0 where
   -- the calls that were made, in order, and no other; no look after the last of them but the one that found nothing
   pub served : IfOk answer (λ r. (ran : List Served) × (length ran ≡ r.calls)
-      × Serves step held made called count drain calls ran (last_look r.idle) drain' calls'
-      × (held drain' ≡ hand_left (held drain) ran))
+      × Serves draining handler a ran (last_look r.idle) b
+      × (draining.held b.drain ≡ hand_left (draining.held a.drain) ran))
   -- it is idle exactly where it stopped before the budget
   pub within : IfOk answer (λ r. (r.calls ≤ budget) × (IsTrue r.idle ↔ (r.calls < budget)))
-  pub idle : IfOk answer (λ r. IsTrue r.idle → EndsWithLook step held drain drain')
+  pub idle : IfOk answer (λ r. IsTrue r.idle → EndsWithLook draining a.drain b.drain)
   -- a handler refused that may refuse at that moment: its cyclic stays in hand, and the calls before it were made
   pub refused : IfErr answer (λ e. (ran : List Served) × (at : C) × (length ran ≡ e.calls) × (e.calls < budget)
-      × Serves step held made called count drain calls ran (look_of (hand_left (held drain) ran) (Some e.id)) drain' at
-      × may_refuse at e.id × ((q : ℕ) → count calls' q ≡ count at q)
-      × (held drain' ≡ Some e.id))
+      × Serves draining handler a ran (look_of (hand_left (draining.held a.drain) ran) (Some e.id)) (soft_side b.drain at)
+      × handler.may_refuse at e.id × ((q : ℕ) → handler.count b.calls q ≡ handler.count at q)
+      × (draining.held b.drain ≡ Some e.id))

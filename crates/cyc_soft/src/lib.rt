@@ -3,9 +3,9 @@
 
 ghost use Rattle.std.specs.Prelude.{◌≡◌, ℕ, None, IfNone};
 ghost use Rattle.cyc_types.specs.Draining.{Takes};
-ghost use Rattle.cyc_types.specs.Levels.{as_level, at_level};
+ghost use Rattle.cyc_types.specs.Levels.{as_level, handler_at};
 ghost use Rattle.cyc_types.specs.Runs.{DrainGoes};
-ghost use Rattle.cyc_soft.specs.Serving.{IsSoftint, look_of};
+ghost use Rattle.cyc_soft.specs.Serving.{IsSoftint, look_of, soft_side};
 
 use cyc_types::calls::{Calls, Refused};
 use cyc_types::draining::Drain;
@@ -30,10 +30,17 @@ pub struct SoftRefused {
     pub calls: u32,
 }
 
+/// The soft side of a level, and the handlers of its calls.
+#[derive(Drop)]
+pub struct SoftSide<D, C> {
+    pub drain: D,
+    pub calls: C,
+}
+
 /// The cyclic in hand, taken from the buffer where the hand is empty.
 fn in_hand<D: Drain>(drain: &mut D) -> Option<CyclicId>
     ensures hand { D.held drain.new ≡ result }
-    ensures way { DrainGoes D.step drain.old (look_of (D.held drain.old) result) drain.new }
+    ensures way { DrainGoes D.Drain drain.old (look_of (D.held drain.old) result) drain.new }
     ensures still { (q : ℕ) → D.made drain.new q ≡ D.made drain.old q }
     ensures none { IfNone result ((D.held drain.old ≡ None) × D.step drain.old (Takes None) drain.new) }
 {
@@ -55,8 +62,8 @@ pub fn softint<D: Drain, C: Calls>(
     level: Soft,
     budget: u32,
 ) -> Result<Ran, SoftRefused>
-    ensures { IsSoftint D.step D.held D.made (at_level C.called (as_level level)) C.count C.may_refuse budget result drain.old
-        calls.old drain.new calls.new }
+    ensures { IsSoftint D.Drain (handler_at C.Calls (as_level level)) budget result (soft_side drain.old calls.old)
+        (soft_side drain.new calls.new) }
 {
     for done in 0..budget {
         let Some(id) = in_hand(drain) else {

@@ -1,12 +1,12 @@
 -- The draining workers of a system.
-use Rattle.std.specs.Prelude.{◌≡◌, ℕ, Option}
+use Rattle.std.specs.Prelude.{◌≡◌}
 use Rattle.std.specs.declared.thread.PromisedHandle.{PromisedHandle}
 use Rattle.cyc_types.specs.declared.Calls.{Ghosts as Calls}
-use Rattle.cyc_types.specs.Draining.{DrainCall}
-use Rattle.cyc_types.specs.Levels.{as_level, at_level}
+use Rattle.cyc_types.specs.declared.Drain.{Ghosts as Drain}
+use Rattle.cyc_types.specs.Levels.{as_level, handler_at}
 use Rattle.cyc_types.specs.declared.level.Level.TheVariants as level
 use Rattle.cyc_types.specs.declared.level.Soft.TheVariants.{Lock, Low}
-use Rattle.cyc_workers.specs.declared.draining.SoftSide.{SoftSide}
+use Rattle.cyc_soft.specs.declared.SoftSide.{SoftSide}
 use Rattle.cyc_workers.specs.declared.draining.Drained.{Drained}
 use Rattle.cyc_workers.specs.declared.draining.Drains.{Drains}
 use Rattle.cyc_workers.specs.Draining.{HasDrained, side_of}
@@ -26,21 +26,17 @@ pub record HasPromised {D C : Type 0} (s : Levels (SoftSide D C)) (h : Levels (P
   pub low_level : h.low.promise.level ≡ Low
 
 -- they kept their promises
-abbrev pub HaveKept : {D C : Type 0} → (D → DrainCall → D → Type 0) → (D → Option ℕ) → (D → ℕ → ℕ)
-    → Calls C
-    → Levels (PromisedHandle (Drained D C) (Drains D C)) → Levels (Drained D C) → Type 0
-HaveKept step held made handler h d =
-    HasDrained step held made (at_level handler.called (as_level h.lock.promise.level)) handler.count handler.may_refuse
-    h.lock.promise.side.value d.lock
-    × HasDrained step held made (at_level handler.called (as_level h.low.promise.level)) handler.count handler.may_refuse
-    h.low.promise.side.value d.low
+abbrev pub HaveKept : {D C : Type 0} → Drain D → Calls C → Levels (PromisedHandle (Drained D C) (Drains D C))
+    → Levels (Drained D C) → Type 0
+HaveKept draining handler h d =
+    HasDrained draining (handler_at handler (as_level h.lock.promise.level)) h.lock.promise.side.value d.lock
+    × HasDrained draining (handler_at handler (as_level h.low.promise.level)) h.low.promise.side.value d.low
 
 -- the workers of a CPU have drained these sides, each with its own handlers at its own level
-abbrev pub HaveDrained : {D C : Type 0} → (D → DrainCall → D → Type 0) → (D → Option ℕ) → (D → ℕ → ℕ)
-    → Calls C → Levels (SoftSide D C) → Levels (Drained D C) → Type 0
-HaveDrained step held made handler s d =
-    HasDrained step held made (at_level handler.called level.Lock) handler.count handler.may_refuse s.lock d.lock
-    × HasDrained step held made (at_level handler.called level.Low) handler.count handler.may_refuse s.low d.low
+abbrev pub HaveDrained : {D C : Type 0} → Drain D → Calls C → Levels (SoftSide D C) → Levels (Drained D C) → Type 0
+HaveDrained draining handler s d =
+    HasDrained draining (handler_at handler level.Lock) s.lock d.lock
+    × HasDrained draining (handler_at handler level.Low) s.low d.low
 
 -- the soft sides that the workers of a CPU left
 abbrev pub both_sides : {D C : Type 0} → Levels (Drained D C) → Levels (SoftSide D C)

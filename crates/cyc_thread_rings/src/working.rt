@@ -2,7 +2,7 @@
 
 ghost use Rattle.std.specs.Prelude.{◌≡◌, ◌≤◌, [], map, length, vec_capacity, IfOk, IfErr, OnOk};
 ghost use Rattle.cyc_types.specs.declared.refusal.Refusal.TheVariants.{Memory};
-ghost use Rattle.cyc_types.specs.Levels.{as_level, at_level};
+ghost use Rattle.cyc_types.specs.Levels.{as_level, handler_at};
 ghost use Rattle.cyc_workers.specs.Draining.{HasDrained};
 ghost use Rattle.cyc_thread_rings.specs.Laid.{EachTwo};
 ghost use Rattle.cyc_thread_rings.specs.Working.{sides_of, both_sides, HasPromised, HaveKept};
@@ -149,8 +149,7 @@ fn join_one<R: Threads, D: Drain + Drop, C: Calls + Drop>(
     rt: &R,
     worker: Worker<D, C>,
 ) -> Drained<D, C>
-    ensures { HasDrained D.step D.held D.made (at_level C.called (as_level worker.promise.level)) C.count C.may_refuse
-        worker.promise.side.value result }
+    ensures { HasDrained D.Drain (handler_at C.Calls (as_level worker.promise.level)) worker.promise.side.value result }
 {
     worker.join(rt)
 }
@@ -175,7 +174,7 @@ pub fn join_all<R: Threads, D: Drain + Drop, C: Calls + Drop>(
 )
     requires none { drained.old.items ≡ [] }
     requires room { length workers.items ≤ vec_capacity drained.old }
-    ensures { EachTwo (HaveKept D.step D.held D.made C.Calls) workers.items drained.new.items }
+    ensures { EachTwo (HaveKept D.Drain C.Calls) workers.items drained.new.items }
 {
     for of_cpu in workers {
         let lock = join_one(rt, of_cpu.lock);

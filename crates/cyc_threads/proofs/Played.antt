@@ -7,14 +7,14 @@ use Rattle.cyc_types.specs.declared.refusal.Refusal.{Refusal}
 use Rattle.cyc_ring.specs.declared.ring.Ring.{Ring}
 use Rattle.cyc_ring.specs.declared.ends.RaiseEnd.{RaiseEnd}
 use Rattle.cyc_ring.specs.declared.ends.DrainEnd.{DrainEnd}
-use Rattle.cyc_ring.specs.Ends.{raise_end, end_view, end_made, DrainEndCall}
+use Rattle.cyc_ring.specs.Ends.{raise_end, end_view, drain_end}
 use Rattle.cyc_cpu.specs.Cpu.{IsFresh}
 use Rattle.cyc_workers.specs.declared.settling.Lead.{Lead}
 use Rattle.cyc_script_machine.specs.Cpus.{CpusView, new_cpu, new_cpus}
 use Rattle.cyc_script.specs.declared.script.Script.{Script}
 use Rattle.cyc_seats.specs.Seats.{HaveSameSeats}
 use Rattle.cyc_seats.proofs.Keeping.{then_all, same_long}
-use Rattle.cyc_workers.specs.declared.draining.SoftSide.{SoftSide}
+use Rattle.cyc_soft.specs.declared.SoftSide.{SoftSide}
 use Rattle.cyc_thread_rings.specs.declared.levels.Levels.{Levels}
 use Rattle.cyc_thread_rings.specs.declared.levels.Seated.{Seated}
 use Rattle.cyc_thread_rings.specs.declared.attaching.Attached.{Attached}
@@ -94,7 +94,7 @@ module _ {C : Type 0} (handler : Calls C) where
   module _ (script : Script) (all : List (Seated C)) (att : List (Attached C)) (first : Progress RaiseEnd C)
       (sides : List (Levels (SoftSide DrainEnd C)))
       (worked : Worked RaiseEnd DrainEnd C) (is : sides ≡ map (λ a. a.soft) att)
-      (w : HasWorked handler raise_end DrainEndCall end_made script.steps.items first sides worked)
+      (w : HasWorked handler raise_end drain_end (record { steps = script.steps.items; lead = first; sides = sides }) worked)
       (well : IsWell first) where
     pub kept : Keeps first worked.lead
     kept = runs_keep handler script.steps.items first worked.lead w.runs well
@@ -103,7 +103,7 @@ module _ {C : Type 0} (handler : Calls C) where
     pub many_soft : (ends : List (RaiseEnd × RaiseEnd)) → ends ≡ map (λ a. a.ends) att
         → first.side.system.cpus ≡ new_cpus most ends →
         length worked.soft.items ≡ length worked.lead.side.system.cpus.cpus
-    many_soft ends own cpus = each_long (HaveMade DrainEndCall end_made handler.called handler.count) sides worked.soft.items
+    many_soft ends own cpus = each_long (HaveMade drain_end handler) sides worked.soft.items
         w.makes ∙ ap (λ (x : List (Levels (SoftSide DrainEnd C))). length x) is ∙ length-map att (λ a. a.soft)
         ∙ sym (length-map att (λ a. a.ends))
         ∙ ap (λ (x : List (RaiseEnd × RaiseEnd)). length x) (sym own) ∙ sym (many_cpus ends first.side.system.cpus cpus)
@@ -113,9 +113,9 @@ module _ {C : Type 0} (handler : Calls C) where
         (reports : Reports raise_end lines worked.lead told)
         (ends : IsAtLast after told) (left : map soft_seats after ≡ map soft_seats_on worked.soft.items)
         (attached : EachTwo IsAttached all att) where
-      made : EachTwo (HaveMade DrainEndCall end_made handler.called handler.count) (map (λ a. a.soft) att) worked.soft.items
+      made : EachTwo (HaveMade drain_end handler) (map (λ a. a.soft) att) worked.soft.items
       made = subst (λ (x : List (Levels (SoftSide DrainEnd C))). EachTwo
-          (HaveMade DrainEndCall end_made handler.called handler.count) x worked.soft.items) is w.makes
+          (HaveMade drain_end handler) x worked.soft.items) is w.makes
 
       pub played : IsAtFirst (length script.names.items) all first → All (AreNew k) (map (λ s. s.seats) all)
           → HasPlayed handler script all after lines
@@ -127,14 +127,14 @@ module _ {C : Type 0} (handler : Calls C) where
         runs = w.runs;
         reports = reports;
         ends = ends;
-        served = served_all handler.called handler.count k all att worked.soft.items after new attached made
+        served = served_all handler k all att worked.soft.items after new attached made
             (each_same soft_seats soft_seats_on after worked.soft.items left);
       }
 
       pub seated : (rs : List (Levels Ring)) (own : List (RaiseEnd × RaiseEnd)) → own ≡ map (λ a. a.ends) att
           → first.side.system.cpus ≡ new_cpus most own →
           EachTwo AreSeated rs (map (λ s. s.seats) all) → EachTwo AreSeated rs (map (λ s. s.seats) after)
-      seated rs own e cpus s = seated_all handler.called handler.count rs all att told.side.system.cpus.cpus worked.soft.items
+      seated rs own e cpus s = seated_all handler rs all att told.side.system.cpus.cpus worked.soft.items
           after s attached
           (subst (λ (x : List (RaiseEnd × RaiseEnd)). HaveSameSeats (new_cpus most x).cpus told.side.system.cpus.cpus) e
           (subst (λ (x : CpusView RaiseEnd). HaveSameSeats x.cpus told.side.system.cpus.cpus) cpus

@@ -3,18 +3,18 @@ use Rattle.std.proofs.Common.{◌≡◌, ℕ, suc, List, [], ◌∷◌, Option, 
 use Rattle.std.specs.Prelude.{All}
 use Rattle.std.specs.List.{slice_get}
 use Rattle.std.proofs.lemmas.List.Elements.{All-nil, All-cons}
-use Rattle.cyc_types.specs.Levels.{at_level}
-use Rattle.cyc_types.specs.declared.level.Level.{Level}
+use Rattle.cyc_types.specs.declared.Calls.{Ghosts as Calls}
+use Rattle.cyc_types.specs.Levels.{at_level, handler_at}
 use Rattle.cyc_types.specs.declared.level.Level.TheVariants.{Low, Lock}
 use Rattle.ring_rule.specs.declared.RaiseStep.{RaiseStep}
 use Rattle.cyc_ring.specs.declared.ring.Ring.{Ring}
 use Rattle.cyc_ring.specs.declared.ends.RaiseEnd.{RaiseEnd}
 use Rattle.cyc_ring.specs.declared.ends.DrainEnd.{DrainEnd}
 use Rattle.cyc_ring.specs.Views.{firing_view}
-use Rattle.cyc_ring.specs.Ends.{end_view, end_made, seat_made, DrainEndCall, raise_trail, drain_trail}
+use Rattle.cyc_ring.specs.Ends.{end_view, seat_made, drain_end, raise_trail, drain_trail}
 use Rattle.cyc_cpu.specs.Cpu.{CpuView, IsFresh}
 use Rattle.cyc_script_machine.specs.Cpus.{new_cpu}
-use Rattle.cyc_workers.specs.declared.draining.SoftSide.{SoftSide}
+use Rattle.cyc_soft.specs.declared.SoftSide.{SoftSide}
 use Rattle.cyc_workers.specs.Serving.{HasServed}
 use Rattle.cyc_workers.proofs.Seating.{serves_seat, drains_same, raise_seat_of, drain_seat_of}
 use Rattle.cyc_seats.specs.Seats.{HasSameSeats, HaveSameSeats}
@@ -82,9 +82,9 @@ same_high (s ∷ all) (a ∷ att) e = let rest = same_high all att e.1 in λ z. 
 
 -- ---- after the last one
 
-module _ {C : Type 0} (called : C → ℕ → Level → C → Type 0) (count : C → ℕ → ℕ) where
+module _ {C : Type 0} (handler : Calls C) where
   abbrev Made : Levels (SoftSide DrainEnd C) → Levels (SoftSide DrainEnd C) → Type 0
-  Made = HaveMade DrainEndCall end_made called count
+  Made = HaveMade drain_end handler
 
   abbrev Left : Seated C → Levels (SoftSide DrainEnd C) → Type 0
   Left s t = soft_seats s ≡ soft_seats_on t
@@ -94,17 +94,19 @@ module _ {C : Type 0} (called : C → ℕ → Level → C → Type 0) (count : C
 
   served_one : (k : ℕ) (s s' : Seated C) (a : Attached C) (t : Levels (SoftSide DrainEnd C)) → AreNew k s.seats → IsAttached s a
       → Made a.soft t → Left s' t →
-      HaveServed called count s s'
+      HaveServed handler.called handler.count s s'
   served_one k s s' a t new att m left = record {
-    lock = subst (λ (c : C). HasServed (at_level called Lock) count (seat_made s'.seats.lock.drain) s.calls.lock c)
+    lock = subst
+        (λ (c : C). HasServed (at_level handler.called Lock) handler.count (seat_made s'.seats.lock.drain) s.calls.lock c)
         (sym (ap (λ p. p.0.1) left))
-        (subst (λ (c : C). HasServed (at_level called Lock) count (seat_made s'.seats.lock.drain) c t.lock.calls) att.lock
-        (serves_seat (at_level called Lock) count a.soft.lock t.lock.drain t.lock.calls s'.seats.lock.drain m.0
+        (subst (λ (c : C). HasServed (at_level handler.called Lock) handler.count (seat_made s'.seats.lock.drain) c t.lock.calls)
+        att.lock
+        (serves_seat (handler_at handler Lock) a.soft.lock t.lock s'.seats.lock.drain m.0
         (ap drain_trail att.lock_drain ∙ new.0.1) (ap (λ p. p.0.0) left)));
-    low = subst (λ (c : C). HasServed (at_level called Low) count (seat_made s'.seats.low.drain) s.calls.low c)
+    low = subst (λ (c : C). HasServed (at_level handler.called Low) handler.count (seat_made s'.seats.low.drain) s.calls.low c)
         (sym (ap (λ p. p.1.1) left))
-        (subst (λ (c : C). HasServed (at_level called Low) count (seat_made s'.seats.low.drain) c t.low.calls) att.low
-        (serves_seat (at_level called Low) count a.soft.low t.low.drain t.low.calls s'.seats.low.drain m.1
+        (subst (λ (c : C). HasServed (at_level handler.called Low) handler.count (seat_made s'.seats.low.drain) c t.low.calls) att.low
+        (serves_seat (handler_at handler Low) a.soft.low t.low s'.seats.low.drain m.1
         (ap drain_trail att.low_drain ∙ new.1.1) (ap (λ p. p.1.0) left)));
   }
 
@@ -112,7 +114,7 @@ module _ {C : Type 0} (called : C → ℕ → Level → C → Type 0) (count : C
       (after : List (Seated C)) →
       All (AreNew k) (map (λ s. s.seats) all) → EachTwo IsAttached all att → EachTwo Made (map (λ a. a.soft) att) ts
       → EachTwo Left after ts →
-      EachTwo (HaveServed called count) all after
+      EachTwo (HaveServed handler.called handler.count) all after
   served_all k [] [] [] [] new e m l = tt
   served_all k [] [] [] (s' ∷ after) new e m l = absurd l
   served_all k [] [] (t ∷ ts) after new e m l = absurd m
@@ -133,13 +135,13 @@ module _ {C : Type 0} (called : C → ℕ → Level → C → Type 0) (count : C
       raise_seat_of r.lock s.seats.lock.raise a.ends.0.seat y.lock.seat s'.seats.lock.raise own.0.0 att.lock_raise same.0
           (ap (λ p. p.0) f),
       drain_seat_of r.lock s.seats.lock.drain a.soft.lock.drain.seat t.lock.drain.seat s'.seats.lock.drain own.0.1 att.lock_drain
-          (drains_same (at_level called Lock) count a.soft.lock t.lock.drain t.lock.calls m.0) (ap (λ p. p.0.0) left),
+          (drains_same (handler_at handler Lock) a.soft.lock t.lock m.0) (ap (λ p. p.0.0) left),
     ),
     (
       raise_seat_of r.low s.seats.low.raise a.ends.1.seat y.low.seat s'.seats.low.raise own.1.0 att.low_raise same.1
           (ap (λ p. p.1) f),
       drain_seat_of r.low s.seats.low.drain a.soft.low.drain.seat t.low.drain.seat s'.seats.low.drain own.1.1 att.low_drain
-          (drains_same (at_level called Low) count a.soft.low t.low.drain t.low.calls m.1) (ap (λ p. p.1.0) left),
+          (drains_same (handler_at handler Low) a.soft.low t.low m.1) (ap (λ p. p.1.0) left),
     ),
   )
 

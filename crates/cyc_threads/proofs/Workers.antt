@@ -6,9 +6,9 @@ use mathlib.Core.Bool.{true≢false}
 use Rattle.std.specs.declared.thread.PromisedHandle.{PromisedHandle}
 use Rattle.std.proofs.lemmas.Result.{IfOk-at_ok}
 use Rattle.cyc_types.specs.declared.Calls.{Ghosts as Calls}
+use Rattle.cyc_types.specs.declared.Drain.{Ghosts as Drain}
 use Rattle.cyc_types.specs.declared.Raise.{Ghosts as Raise}
-use Rattle.cyc_types.specs.Draining.{DrainCall}
-use Rattle.cyc_types.specs.Levels.{at_level}
+use Rattle.cyc_types.specs.Levels.{handler_at}
 use Rattle.cyc_types.specs.declared.level.Level.{Level}
 use Rattle.cyc_types.specs.declared.level.Level.TheVariants.{Low, Lock}
 use Rattle.cyc_types.specs.declared.level.Soft.TheVariants as soft
@@ -16,7 +16,7 @@ use Rattle.cyc_types.specs.declared.refusal.Refusal.{Refusal}
 use Rattle.cyc_types.specs.declared.refusal.Refusal.TheVariants.{Memory, HandlerRefused}
 use Rattle.cyc_soft.specs.declared.SoftRefused.{SoftRefused}
 use Rattle.cyc_script.specs.declared.step.Step.{Step}
-use Rattle.cyc_workers.specs.declared.draining.SoftSide.{SoftSide}
+use Rattle.cyc_soft.specs.declared.SoftSide.{SoftSide}
 use Rattle.cyc_workers.specs.declared.draining.Drained.{Drained}
 use Rattle.cyc_workers.specs.declared.draining.Drains.{Drains}
 use Rattle.cyc_workers.specs.Draining.{Makes, HasLooked, HasDrained, IsRefused, side_of}
@@ -67,34 +67,31 @@ split_fire n (Some f) rs e is = either (f.cpu == n) is
     either true q = inl (f, refl, sym (same_some q))
     either false q = inr q
 
-module _ {C D : Type 0} (handler : Calls C)
-    (soft_step : D → DrainCall → D → Type 0) (held : D → Option ℕ) (made : D → ℕ → ℕ) where
+module _ {C D : Type 0} (handler : Calls C) (draining : Drain D) where
   abbrev Both : Levels (SoftSide D C) → Levels (Drained D C) → Type 0
-  Both = HaveDrained soft_step held made handler
+  Both = HaveDrained draining handler
 
   kept_one : (s : Levels (SoftSide D C)) (h : Levels (PromisedHandle (Drained D C) (Drains D C))) (d : Levels (Drained D C))
       → HasPromised s h →
-      HaveKept soft_step held made handler h d → Both s d
+      HaveKept draining handler h d → Both s d
   kept_one s h d p q = (
-    joined handler soft_step held made soft.Lock h.lock.promise.level s.lock h.lock.promise.side.value d.lock q.0
-        p.lock p.lock_level,
-    joined handler soft_step held made soft.Low h.low.promise.level s.low h.low.promise.side.value d.low q.1 p.low p.low_level,
+    joined handler draining soft.Lock h.lock.promise.level s.lock h.lock.promise.side.value d.lock q.0 p.lock p.lock_level,
+    joined handler draining soft.Low h.low.promise.level s.low h.low.promise.side.value d.low q.1 p.low p.low_level,
   )
 
   pub kept_all : (sides : List (Levels (SoftSide D C))) (hs : List (Levels (PromisedHandle (Drained D C) (Drains D C))))
       (ds : List (Levels (Drained D C))) →
-      EachTwo HasPromised sides hs → EachTwo (HaveKept soft_step held made handler) hs ds → EachTwo Both sides ds
-  kept_all sides hs ds p q = each_then HasPromised (HaveKept soft_step held made handler) Both kept_one sides hs ds p q
+      EachTwo HasPromised sides hs → EachTwo (HaveKept draining handler) hs ds → EachTwo Both sides ds
+  kept_all sides hs ds p q = each_then HasPromised (HaveKept draining handler) Both kept_one sides hs ds p q
 
-  makes_one : (level : Level) (a : SoftSide D C) (d : Drained D C)
-      → HasDrained soft_step held made (at_level handler.called level) handler.count handler.may_refuse a d → d.refused ≡ None →
-      Makes soft_step made (at_level handler.called level) handler.count a d.drain d.calls
-  makes_one level a d h none = looked_makes soft_step held made (at_level handler.called level) handler.count handler.may_refuse a
-      d (subst (λ o. IfNone o (HasLooked soft_step held made (at_level handler.called level) handler.count a d)) none h.stopped)
+  makes_one : (level : Level) (a : SoftSide D C) (d : Drained D C) → HasDrained draining (handler_at handler level) a d
+      → d.refused ≡ None → Makes draining (handler_at handler level) a (side_of d)
+  makes_one level a d h none = looked_makes draining (handler_at handler level) a d
+      (subst (λ o. IfNone o (HasLooked draining (handler_at handler level) a d)) none h.stopped)
 
   makes_all : (n : ℕ) (sides : List (Levels (SoftSide D C))) (ds : List (Levels (Drained D C))) → EachTwo Both sides ds
       → first_in (refusals_from n None ds) ≡ None →
-      EachTwo (HaveMade soft_step made handler.called handler.count) sides (map both_sides ds)
+      EachTwo (HaveMade draining handler) sides (map both_sides ds)
   makes_all n [] [] p e = tt
   makes_all n [] (d ∷ ds) p e = absurd p
   makes_all n (s ∷ sides) [] p e = absurd p
@@ -104,12 +101,10 @@ module _ {C D : Type 0} (handler : Calls C)
       ((makes_one Lock s.lock d.lock p.0.0 a.0, makes_one Low s.low d.low p.0.1 b.0), makes_all (n + 1) sides ds p.1 b.1)
 
   can_refuse : (level : Level) (a : SoftSide D C) (d : Drained D C) (r : SoftRefused) (e : Refusal)
-      → HasDrained soft_step held made (at_level handler.called level) handler.count handler.may_refuse a d →
+      → HasDrained draining (handler_at handler level) a d →
       d.refused ≡ Some r → e ≡ HandlerRefused r.id → HandlerRefuses handler.may_refuse e
   can_refuse level a d r e h some is = let x =
-      subst (λ o. IfSome o (λ y. IsRefused soft_step held made (at_level handler.called level) handler.count handler.may_refuse a
-      y (side_of d))) some
-      h.refused in
+      subst (λ o. IfSome o (λ y. IsRefused draining (handler_at handler level) a y (side_of d))) some h.refused in
       (r.id, is, (x.0, x.2))
 
   first_why : (n : ℕ) (fire : Option Fire) (sides : List (Levels (SoftSide D C))) (ds : List (Levels (Drained D C))) (e : Refusal)
@@ -143,17 +138,15 @@ module _ {C D : Type 0} (handler : Calls C)
       by_fire then (inl f) = inr f
       by_fire then (inr q) = by_lock then (split_level d.lock.refused (of_level d.low.refused ++ rest) e q)
 
-module _ {C R D : Type 0} (handler : Calls C)
-    (firing : Raise R) (soft_step : D → DrainCall → D → Type 0) (held : D → Option ℕ)
-    (made : D → ℕ → ℕ)
-    (steps : List Step) (a : Progress R C) (sides : List (Levels (SoftSide D C))) (ds : List (Levels (Drained D C)))
-    (drained : EachTwo (HaveDrained soft_step held made handler) sides ds) where
+module _ {C R D : Type 0} (handler : Calls C) (firing : Raise R) (draining : Drain D) (steps : List Step)
+    (a : Progress R C) (sides : List (Levels (SoftSide D C))) (ds : List (Levels (Drained D C)))
+    (drained : EachTwo (HaveDrained draining handler) sides ds) where
   abbrev Why : Refusal → Type 0
   Why = WhyRefused handler firing steps a
 
   of_soft : (fire : Option Fire) (e : Refusal) → first_in (refusals_from 0 fire ds) ≡ Some e → HandlerRefuses handler.may_refuse e
       ⊎ IsFires fire e
-  of_soft fire e is = first_why handler soft_step held made 0 fire sides ds e drained is
+  of_soft fire e is = first_why handler draining 0 fire sides ds e drained is
 
   -- no fire was refused
   no_fire : (e : Refusal) → HandlerRefuses handler.may_refuse e ⊎ IsFires None e → Why e
@@ -217,11 +210,11 @@ module _ {C R D : Type 0} (handler : Calls C)
       IfOk answer (λ w. refusal_of taken ds ≡ None) → IfOk answer (λ w. taken ≡ Ok w.lead)
       → IfOk answer (λ w. w.soft.items ≡ map both_sides ds) →
       IfErr answer (λ e. (e ≡ Memory) ⊎ (refusal_of taken ds ≡ Some e))
-      → Works handler firing soft_step made steps a sides answer
+      → Works handler firing draining (record { steps = steps; lead = a; sides = sides }) answer
   works_all taken (Ok w) r h none lead left why = record {
     runs = IfOk-at_ok (λ t. Runs handler firing a steps t) lead r;
-    makes = subst (λ (x : List (Levels (SoftSide D C))). EachTwo (HaveMade soft_step made handler.called handler.count) sides x)
-        (sym left) (makes_all handler soft_step held made 0 sides ds drained
+    makes = subst (λ (x : List (Levels (SoftSide D C))). EachTwo (HaveMade draining handler) sides x)
+        (sym left) (makes_all handler draining 0 sides ds drained
         (subst (λ (x : Result (Progress R C) Halt). refusal_of x ds ≡ None) lead none));
   }
   works_all taken (Err e) r h none lead left (inl m) = inl m

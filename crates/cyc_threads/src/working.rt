@@ -93,7 +93,8 @@ fn work<
     script: &Script,
 ) -> Result<Worked<R, D, C>, Refusal>
     requires { IsReady lead }
-    ensures { Works C.Calls R.Raise D.step D.made script.now.steps.items lead (map sides_of drainers.items) result }
+    ensures { Works C.Calls R.Raise D.Drain
+        (record { steps = script.now.steps.items; lead = lead; sides = map sides_of drainers.items }) result }
 {
     let mut drained = Vec::with_capacity(alloc, drainers.len())?;
     let workers = start_all(scope, rt, alloc, signals, wakers, drainers)?;
@@ -119,15 +120,19 @@ fn work_in_scope<
     script: &Script,
 ) -> Result<Worked<R, D, C>, Refusal>
     requires { IsReady lead }
-    ensures { Works C.Calls R.Raise D.step D.made script.now.steps.items lead (map sides_of drainers.items) result }
+    ensures { Works C.Calls R.Raise D.Drain
+        (record { steps = script.now.steps.items; lead = lead; sides = map sides_of drainers.items }) result }
 {
     thread::scope(
         thread::scope_env(),
         rt,
         |scope| -> Result<Worked<R, D, C>, Refusal>
             requires { IsReady lead }
-            ensures { Works C.Calls R.Raise D.step D.made script.entry.now.steps.items lead
-                (map sides_of drainers.items) result }
+            ensures { Works C.Calls R.Raise D.Drain (record {
+              steps = script.entry.now.steps.items;
+              lead = lead;
+              sides = map sides_of drainers.items;
+            }) result }
         { work(scope, rt, alloc, signals, wakers, drainers, lead, script) },
     )
 }
@@ -150,7 +155,8 @@ pub(crate) fn work_all<
     script: &Script,
 ) -> Result<Worked<R, D, C>, Refusal>
     requires { IsReady lead }
-    ensures { Works C.Calls R.Raise D.step D.made script.now.steps.items lead (map sides_of drainers.items) result }
+    ensures { Works C.Calls R.Raise D.Drain
+        (record { steps = script.now.steps.items; lead = lead; sides = map sides_of drainers.items }) result }
 {
     let signals = Signals::new();
     work_in_scope(rt, alloc, &signals, wakers, drainers, lead, script)

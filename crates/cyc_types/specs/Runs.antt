@@ -4,6 +4,7 @@ use Rattle.std.specs.Prelude.{ℕ, ◌+◌, List, [], ◌∷◌, Some, None}
 use Rattle.std.specs.List.{FoldsTo}
 use Rattle.cyc_types.specs.Counting.{times, one_at}
 use Rattle.cyc_types.specs.Draining.{DrainCall, Takes, Finishes}
+use Rattle.cyc_types.specs.declared.draining.Drain.{Ghosts as Drain}
 use Rattle.cyc_types.specs.declared.firing.Raise.{Ghosts as Raise}
 use Rattle.cyc_types.specs.Firing.{FiringCall, Admits, Loads, Raises, Marks, Polls, Expands, Looks, Learns}
 use Rattle.cyc_types.specs.declared.firing.Raised.TheVariants.{First, More, Lost}
@@ -65,8 +66,8 @@ turned_by id [] = 0
 turned_by id (call ∷ way) = stay_changes_of id call + turned_by id way
 
 -- these calls of the soft side, in order, led from the one value to the other
-abbrev pub DrainGoes : {D : Type 0} → (D → DrainCall → D → Type 0) → D → List DrainCall → D → Type 0
-DrainGoes step d way e = FoldsTo step d way e
+abbrev pub DrainGoes : {D : Type 0} → Drain D → D → List DrainCall → D → Type 0
+DrainGoes draining d way e = FoldsTo draining.step d way e
 
 -- the ids of the calls that were finished, in order
 abbrev pub finishes_of : List DrainCall → List ℕ

@@ -3,18 +3,20 @@ use Rattle.std.proofs.Common.{◌≡◌, ℕ, List, [], ◌∷◌, ◌++◌, Opt
 use Rattle.std.specs.Prelude.{Bool, true, false, Result, Ok, Err, IsTrue, IfOk, IfErr}
 use Rattle.std.specs.List.{FoldsTo}
 use Rattle.cyc_types.specs.Counting.{times}
+use Rattle.cyc_types.specs.declared.Drain.{Ghosts as Drain}
 use Rattle.cyc_types.specs.Draining.{DrainCall}
+use Rattle.cyc_types.specs.Levels.{Handler}
 use Rattle.cyc_types.specs.Runs.{finishes_of}
 use Rattle.cyc_types.proofs.Runs.{folds_on, finishes_on, finished_on}
 use Rattle.cyc_soft.specs.declared.Ran.{Ran}
 use Rattle.cyc_soft.specs.declared.SoftRefused.{SoftRefused}
-use Rattle.cyc_soft.specs.Serving.{Served, ids, look_of, last_look, hand_left, way_of, IsSoftint, EndsWithLook}
+use Rattle.cyc_soft.specs.declared.SoftSide.{SoftSide}
+use Rattle.cyc_soft.specs.Serving.{Served, ids, look_of, last_look, hand_left, way_of, IsSoftint, EndsWithLook, soft_side}
 use Rattle.cyc_soft.specs.Serving as soft
 use Rattle.cyc_soft.proofs.Rounds.{way_finishes}
-use Rattle.cyc_workers.specs.declared.draining.SoftSide.{SoftSide}
 use Rattle.cyc_workers.specs.declared.draining.Drained.{Drained}
 use Rattle.cyc_workers.specs.declared.watch.Watch.{Watch}
-use Rattle.cyc_workers.specs.Draining.{Makes, Serves, IsRefused, HasLooked, HasDrained}
+use Rattle.cyc_workers.specs.Draining.{Makes, Serves, IsRefused, HasLooked, HasDrained, side_of}
 
 look_finishes : (hand found : Option ℕ) → finishes_of (look_of hand found) ≡ []
 look_finishes None found = refl
@@ -28,21 +30,18 @@ no_more : (xs : List ℕ) → xs ++ [] ≡ xs
 no_more [] = refl
 no_more (x ∷ xs) = ap (λ ys. x ∷ ys) (no_more xs)
 
-module _ {D C : Type 0} (step : D → DrainCall → D → Type 0) (held : D → Option ℕ) (made : D → ℕ → ℕ)
-    (called : C → ℕ → C → Type 0) (count : C → ℕ → ℕ) (may_refuse : C → ℕ → Type 0) where
-  pub makes_none : (a : SoftSide D C) → Makes step made called count a a.drain a.calls
+module _ {D C : Type 0} (draining : Drain D) (handler : Handler C) where
+  pub makes_none : (a : SoftSide D C) → Makes draining handler a a
   makes_none a = record { way = []; goes = refl; called_all = refl; counted = λ id. omega arith; finished = λ id. omega arith }
 
-  pub makes_on : (a b : SoftSide D C) (drain : D) (calls : C) → Makes step made called count a b.drain b.calls
-      → Makes step made called count b drain calls →
-      Makes step made called count a drain calls
-  makes_on a b drain calls p q =
+  pub makes_on : (a b c : SoftSide D C) → Makes draining handler a b → Makes draining handler b c → Makes draining handler a c
+  makes_on a b c p q =
       let on = finishes_on p.way q.way in
       record {
         way = p.way ++ q.way;
-        goes = folds_on step a.drain p.way b.drain q.way drain p.goes q.goes;
-        called_all = subst (λ xs. FoldsTo called a.calls xs calls) (sym on)
-            (folds_on called a.calls (finishes_of p.way) b.calls (finishes_of q.way) calls p.called_all q.called_all);
+        goes = folds_on draining.step a.drain p.way b.drain q.way c.drain p.goes q.goes;
+        called_all = subst (λ xs. FoldsTo handler.called a.calls xs c.calls) (sym on)
+            (folds_on handler.called a.calls (finishes_of p.way) b.calls (finishes_of q.way) c.calls p.called_all q.called_all);
         counted = λ id. (let x = p.counted id in let y = q.counted id in let z = finished_on id p.way q.way in
             omega (arith, x, y, z));
         finished = λ id. (let x = p.finished id in let y = q.finished id in let z = finished_on id p.way q.way in
@@ -50,61 +49,59 @@ module _ {D C : Type 0} (step : D → DrainCall → D → Type 0) (held : D → 
       }
 
   -- the calls of one soft interrupt
-  interrupt_makes : (a : SoftSide D C) (ran : List Served) (rest : List DrainCall) (drain : D) (calls : C) → finishes_of rest ≡ []
-      →
-      soft.Serves step held made called count a.drain a.calls ran rest drain calls → Makes step made called count a drain calls
-  interrupt_makes a ran rest drain calls none s =
-      let all = way_finishes (held a.drain) ran rest ∙ ap (λ xs. ids ran ++ xs) none ∙ no_more (ids ran) in
+  interrupt_makes : (a : SoftSide D C) (ran : List Served) (rest : List DrainCall) (b : SoftSide D C) → finishes_of rest ≡ []
+      → soft.Serves draining handler a ran rest b → Makes draining handler a b
+  interrupt_makes a ran rest b none s =
+      let hand = draining.held a.drain in
+      let all = way_finishes hand ran rest ∙ ap (λ xs. ids ran ++ xs) none ∙ no_more (ids ran) in
       record {
-        way = way_of (held a.drain) ran rest;
+        way = way_of hand ran rest;
         goes = s.way;
-        called_all = subst (λ xs. FoldsTo called a.calls xs calls) (sym all) s.called_all;
+        called_all = subst (λ xs. FoldsTo handler.called a.calls xs b.calls) (sym all) s.called_all;
         counted = λ id. (let x = s.counted id in let y = ap (times id) all in omega (arith, x, y));
         finished = λ id. (let x = s.finished id in let y = ap (times id) all in omega (arith, x, y));
       }
 
   pub served : (budget : ℕ) (answer : Result Ran SoftRefused) (a b : SoftSide D C) →
-      IsSoftint step held made called count may_refuse budget answer a.drain a.calls b.drain b.calls →
-      IfOk answer (λ r. Serves step held made called count r.idle a b)
+      IsSoftint draining handler budget answer a b → IfOk answer (λ r. Serves draining handler r.idle a b)
   served budget (Ok r) a b s = let x = s.served in
-      (interrupt_makes a x.0 (last_look r.idle) b.drain b.calls (last_finishes r.idle) x.2, s.idle)
+      (interrupt_makes a x.0 (last_look r.idle) b (last_finishes r.idle) x.2, s.idle)
   served budget (Err e) a b s = tt
 
   pub was_refused : (budget : ℕ) (answer : Result Ran SoftRefused) (a b : SoftSide D C) →
-      IsSoftint step held made called count may_refuse budget answer a.drain a.calls b.drain b.calls →
-      IfErr answer (λ r. IsRefused step held made called count may_refuse a r b)
+      IsSoftint draining handler budget answer a b → IfErr answer (λ r. IsRefused draining handler a r b)
   was_refused budget (Ok r) a b s = tt
-  was_refused budget (Err e) a b s = let x = s.refused in let hand = hand_left (held a.drain) x.0 in
-      (x.1, interrupt_makes a x.0 (look_of hand (Some e.id)) b.drain x.1 (look_finishes hand (Some e.id)) x.4, x.5, x.6, x.7)
+  was_refused budget (Err e) a b s = let x = s.refused in let hand = hand_left (draining.held a.drain) x.0 in (
+    x.1,
+    interrupt_makes a x.0 (look_of hand (Some e.id)) (soft_side b.drain x.1) (look_finishes hand (Some e.id)) x.4,
+    x.5,
+    x.6,
+    x.7,
+  )
 
   -- it asked at m, was told to stop, and looked in vain
-  pub has_stopped : (a m b : SoftSide D C) (idle : Bool) (watch : Watch D C) → Makes step made called count a m.drain m.calls
-      → Serves step held made called count idle m b →
-      idle ≡ true → watch.told ≡ true → watch.asked.value ≡ m →
-      HasDrained step held made called count may_refuse a
-      (record { drain = b.drain; calls = b.calls; refused = None; watch = watch })
+  pub has_stopped : (a m b : SoftSide D C) (idle : Bool) (watch : Watch D C) → Makes draining handler a m
+      → Serves draining handler idle m b → idle ≡ true → watch.told ≡ true → watch.asked.value ≡ m →
+      HasDrained draining handler a (record { drain = b.drain; calls = b.calls; refused = None; watch = watch })
   has_stopped a m b idle watch before s empty told asked = record {
     stopped = record {
       told = told;
-      before = subst (λ (x : SoftSide D C). Makes step made called count a x.drain x.calls) (sym asked) before;
-      since = subst (λ (x : SoftSide D C). Makes step made called count x b.drain b.calls) (sym asked) s.0;
-      last = subst (λ (x : SoftSide D C). EndsWithLook step held x.drain b.drain) (sym asked)
-          (subst (λ x. IsTrue x → EndsWithLook step held m.drain b.drain) empty s.1 refl);
+      before = subst (λ (x : SoftSide D C). Makes draining handler a x) (sym asked) before;
+      since = subst (λ (x : SoftSide D C). Makes draining handler x (soft_side b.drain b.calls)) (sym asked) s.0;
+      last = subst (λ (x : SoftSide D C). EndsWithLook draining x.drain b.drain) (sym asked)
+          (subst (λ x. IsTrue x → EndsWithLook draining m.drain b.drain) empty s.1 refl);
     };
     refused = tt;
   }
 
   -- the calls before its last question, and those since
-  pub looked_makes : (a : SoftSide D C) (b : Drained D C) → HasLooked step held made called count a b
-      → Makes step made called count a b.drain b.calls
-  looked_makes a b l = makes_on a b.watch.asked.value b.drain b.calls l.before l.since
+  pub looked_makes : (a : SoftSide D C) (b : Drained D C) → HasLooked draining handler a b → Makes draining handler a (side_of b)
+  looked_makes a b l = makes_on a b.watch.asked.value (side_of b) l.before l.since
 
-  pub has_refused : (a m b : SoftSide D C) (r : SoftRefused) (watch : Watch D C)
-      → Makes step made called count a m.drain m.calls →
-      IsRefused step held made called count may_refuse m r b →
-      HasDrained step held made called count may_refuse a
-      (record { drain = b.drain; calls = b.calls; refused = Some r; watch = watch })
+  pub has_refused : (a m b : SoftSide D C) (r : SoftRefused) (watch : Watch D C) → Makes draining handler a m →
+      IsRefused draining handler m r b →
+      HasDrained draining handler a (record { drain = b.drain; calls = b.calls; refused = Some r; watch = watch })
   has_refused a m b r watch before s = record {
     stopped = tt;
-    refused = (s.0, makes_on a m b.drain s.0 before s.1, s.2, s.3, s.4);
+    refused = (s.0, makes_on a m (soft_side b.drain s.0) before s.1, s.2, s.3, s.4);
   }

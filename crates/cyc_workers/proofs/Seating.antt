@@ -1,24 +1,24 @@
 -- What the workers over a ring left, at the seats that they used.
 use Rattle.std.proofs.Common.{◌≡◌, ℕ, [], ap, ◌∙◌, arith}
+use Rattle.cyc_types.specs.Levels.{Handler}
 use Rattle.cyc_types.specs.Runs.{finishes_of}
 use Rattle.ring_rule.specs.Trail.{made_calls}
 use Rattle.cyc_ring.specs.declared.ends.DrainEnd.{DrainEnd}
 use Rattle.cyc_ring.specs.declared.ring.Ring.{Ring}
 use Rattle.cyc_ring.specs.declared.seats.RaiseSeat.{RaiseSeat}
 use Rattle.cyc_ring.specs.declared.seats.DrainSeat.{DrainSeat}
-use Rattle.cyc_ring.specs.Ends.{drain_trail, DrainEndCall, end_made, seat_made}
+use Rattle.cyc_ring.specs.Ends.{drain_trail, drain_end, seat_made}
 use Rattle.cyc_ring.specs.Ends.{IsSameRaiseSeat, IsSameDrainSeat, IsRaiseSeatOf, IsDrainSeatOf}
 use Rattle.cyc_ring.proofs.Ways.{drain_ways}
-use Rattle.cyc_workers.specs.declared.draining.SoftSide.{SoftSide}
+use Rattle.cyc_soft.specs.declared.SoftSide.{SoftSide}
 use Rattle.cyc_workers.specs.Draining.{Makes}
 use Rattle.cyc_workers.specs.Serving.{HasServed}
 
 -- the calls of a draining worker are those that its ring's soft side finished
-pub serves_seat : {C : Type 0} (called : C → ℕ → C → Type 0) (count : C → ℕ → ℕ) (a : SoftSide DrainEnd C) (d : DrainEnd)
-    (calls : C) (seat : DrainSeat) →
-    Makes DrainEndCall end_made called count a d calls → drain_trail a.drain.seat ≡ [] → seat ≡ d.seat
-    → HasServed called count (seat_made seat) a.calls calls
-serves_seat called count a d calls seat m empty same =
+pub serves_seat : {C : Type 0} (handler : Handler C) (a b : SoftSide DrainEnd C) (seat : DrainSeat) →
+    Makes drain_end handler a b → drain_trail a.drain.seat ≡ [] → seat ≡ b.drain.seat
+    → HasServed handler.called handler.count (seat_made seat) a.calls b.calls
+serves_seat handler a b seat m empty same =
     let none = λ (id : ℕ). ap (made_calls id) empty in
     let now = λ (id : ℕ). ap (λ (x : DrainSeat). seat_made x id) same in
     record {
@@ -29,10 +29,9 @@ serves_seat called count a d calls seat m empty same =
           omega (arith, w, x, y, z));
     }
 
-pub drains_same : {C : Type 0} (called : C → ℕ → C → Type 0) (count : C → ℕ → ℕ) (a : SoftSide DrainEnd C) (d : DrainEnd)
-    (calls : C) →
-    Makes DrainEndCall end_made called count a d calls → IsSameDrainSeat a.drain.seat d.seat
-drains_same called count a d calls m = (drain_ways a.drain d m.way m.goes).0
+pub drains_same : {C : Type 0} (handler : Handler C) (a b : SoftSide DrainEnd C) → Makes drain_end handler a b
+    → IsSameDrainSeat a.drain.seat b.drain.seat
+drains_same handler a b m = (drain_ways a.drain b.drain m.way m.goes).0
 
 -- the seats at last are their rings'
 pub raise_seat_of : (ring : Ring) (r0 r1 r2 r3 : RaiseSeat) → IsRaiseSeatOf ring r0 → r1 ≡ r0 → IsSameRaiseSeat r1 r2 → r3 ≡ r2

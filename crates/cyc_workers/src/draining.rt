@@ -1,13 +1,13 @@
 //! A draining worker: soft interrupts until it is told to stop.
 
 ghost use Rattle.std.specs.Prelude.{◌≡◌, IfOk, IfErr};
-ghost use Rattle.cyc_types.specs.Levels.{as_level, at_level};
+ghost use Rattle.cyc_types.specs.Levels.{as_level, handler_at};
 ghost use Rattle.cyc_workers.specs.Draining.{Serves, IsRefused, HasDrained};
 
 use crate::signals::Signals;
 use crate::watch::Watch;
 use crossbeam_utils::sync::Parker;
-use cyc_soft::{Ran, SoftRefused, softint};
+use cyc_soft::{Ran, SoftRefused, SoftSide, softint};
 use cyc_types::{Calls, Drain, Soft};
 use std::snapshot::Snapshot;
 use std::sync::Wait;
@@ -15,13 +15,6 @@ use std::thread::Promise;
 
 /// The most handler calls between two questions whether the worker is to stop.
 const BUDGET: u32 = 64;
-
-/// The soft side of a level, and the handlers of its calls.
-#[derive(Drop)]
-pub struct SoftSide<D, C> {
-    pub drain: D,
-    pub calls: C,
-}
 
 /// What a draining worker leaves.
 #[derive(Drop)]
@@ -43,16 +36,13 @@ pub struct Drains<D, C> {
 }
 
 impl<D: Drain, C: Calls> Promise<Drained<D, C>> for Drains<D, C> {
-    ghost kept_by = { λ p r. HasDrained D.step D.held D.made
-        (at_level C.called (as_level p.level)) C.count C.may_refuse p.side.value r };
+    ghost kept_by = { λ p r. HasDrained D.Drain (handler_at C.Calls (as_level p.level)) p.side.value r };
 }
 
 /// One soft interrupt.
 fn serve<D: Drain, C: Calls>(side: &mut SoftSide<D, C>, level: Soft) -> Result<Ran, SoftRefused>
-    ensures ran { IfOk result (λ r. Serves D.step D.held D.made
-        (at_level C.called (as_level level)) C.count r.idle side.old side.new) }
-    ensures refused { IfErr result (λ r. IsRefused D.step D.held D.made
-        (at_level C.called (as_level level)) C.count C.may_refuse side.old r side.new) }
+    ensures ran { IfOk result (λ r. Serves D.Drain (handler_at C.Calls (as_level level)) r.idle side.old side.new) }
+    ensures refused { IfErr result (λ r. IsRefused D.Drain (handler_at C.Calls (as_level level)) side.old r side.new) }
 {
     softint(&mut side.drain, &mut side.calls, level, BUDGET)
 }
@@ -68,7 +58,7 @@ pub fn drain<W: Wait, D: Drain, C: Calls>(
     level: Soft,
     side: SoftSide<D, C>,
 ) -> Drained<D, C>
-    ensures { HasDrained D.step D.held D.made (at_level C.called (as_level level)) C.count C.may_refuse side result }
+    ensures { HasDrained D.Drain (handler_at C.Calls (as_level level)) side result }
 {
     let mut side = side;
     for _ in rt.forever() {

@@ -11,7 +11,8 @@ mod wakers;
 mod watch;
 
 pub use cpu::{Handlers, Seats};
-pub use draining::{Drained, Drains, SoftSide, drain};
+pub use cyc_soft::SoftSide;
+pub use draining::{Drained, Drains, drain};
 pub use firing::{AfterFire, FiringSide, fire};
 pub use settling::{Lead, settle, settle_all};
 pub use signals::Signals;

@@ -3,8 +3,8 @@
 ghost use Rattle.std.specs.Prelude.{◌≡◌, false, is_some};
 ghost use Rattle.cyc_soft.specs.Serving.{EndsWithLook};
 
-use crate::draining::SoftSide;
 use crossbeam_utils::sync::Parker;
+use cyc_soft::SoftSide;
 use cyc_types::{Calls, Drain};
 use std::snapshot::Snapshot;
 use std::sync::{OnceToken, Wait};
@@ -47,7 +47,7 @@ impl<D: Drain, C: Calls> Watch<D, C> {
     /// Sleeps until it is unparked.
     pub(crate) fn park<W: Wait>(&self, rt: &W, parker: &Parker, side: &SoftSide<D, C>)
         requires goes_on { self.now.told ≡ false }
-        requires looked { EndsWithLook D.step D.held self.now.asked.value.drain side.now.drain }
+        requires looked { EndsWithLook D.Drain self.now.asked.value.drain side.now.drain }
     {
         let _ = side;
         parker.park(rt);

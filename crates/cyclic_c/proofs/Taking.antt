@@ -4,14 +4,14 @@ use Rattle.std.specs.Prelude.{IsTrue, IfOk, IfNone}
 use Rattle.cyc_types.specs.declared.level.Soft.{Soft}
 use Rattle.cyc_types.specs.declared.level.Soft.TheVariants.{Low, Lock}
 use Rattle.cyc_types.specs.declared.level.Level.{Level}
-use Rattle.cyc_types.specs.Levels.{at_level, as_level}
+use Rattle.cyc_types.specs.Levels.{at_level, as_level, handler_at}
 use Rattle.cyc_core.specs.Tables.{Tables}
 use Rattle.cyc_soft.specs.declared.Ran.{Ran}
 use Rattle.cyc_soft.specs.declared.SoftRefused.{SoftRefused}
-use Rattle.cyc_soft.specs.Serving.{Served, ids, IsSoftint}
+use Rattle.cyc_soft.specs.Serving.{Served, ids, IsSoftint, soft_side}
 use Rattle.std.specs.List.{FoldsTo}
-use Rattle.cyc_cpu.specs.Soft.{drains, held_at, done_at, HasEmptyLists}
-use Rattle.cyclic_c.specs.Granted.{granted_count, granted_called, GrantedRefuses}
+use Rattle.cyc_cpu.specs.Soft.{drain_tables, HasEmptyLists}
+use Rattle.cyclic_c.specs.Granted.{granted_called, granted_calls}
 use Rattle.cyclic_c.specs.Border.{refused_at, call_at, with_call}
 use Rattle.cyclic_c.specs.declared.cpu.Cpu.{Cpu}
 use Rattle.cyclic_c.specs.declared.granted.Granted.{Granted}
@@ -27,8 +27,7 @@ none_made level (s ∷ ran) left (m, (e, made), rest) = absurd (nothing_is s.id 
 
 module _ (level : Soft) (a b : Tables) (left : Granted) where
   pub idle_of : (answer : Result Ran SoftRefused)
-      → IsSoftint drains held_at done_at (at_level granted_called (as_level level)) granted_count GrantedRefuses 1 answer a
-      Nothing b left
+      → IsSoftint drain_tables (handler_at granted_calls (as_level level)) 1 answer (soft_side a Nothing) (soft_side b left)
       → IfOk answer (λ r. IsTrue r.idle → HasEmptyLists b) → IfNone (refused_at answer) (HasEmptyLists b)
   idle_of (Ok r) did empty =
       let (ran, same, serves, held) = did.served in

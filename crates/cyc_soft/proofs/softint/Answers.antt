@@ -13,7 +13,7 @@ returns-in_default g c =
       served = (
         ran,
         long,
-        serves_look _ _ _ _ _ _ _ ran _ _ _ _ s found.still (_, found.none.1, refl),
+        serves_look _ _ _ ran _ _ _ s found.still (_, found.none.1, refl),
         found.hand
             ∙ sym found.none.0 ∙ hand,
       );
@@ -26,16 +26,16 @@ pub loop-done-preserved : goal.loop-done-preserved
 loop-done-preserved g c =
     let (ran, long, s, hand) = c.loop-done.invariant in
     let found = c.in-Some.ensures in
-    let way = subst (λ h. DrainGoes g.D.Drain.step c.loop-done.drain (look_of h (Some c.in-Some.id)) c.in_hand.new.drain) hand
+    let way = subst (λ h. DrainGoes g.D.Drain c.loop-done.drain (look_of h (Some c.in-Some.id)) c.in_hand.new.drain) hand
     found.way in
     let one : Served = record { id = c.in-Some.id; answer = c.finish.result } in
     let longer : length (ran ++ one ∷ []) ≡ c.loop-done.done + 1 = simp length-append (omega (arith, long)) in
-    let looked = serves_look _ _ _ _ _ _ _ ran _ _ _ _ s found.still way in
+    let looked = serves_look _ _ _ ran _ _ _ s found.still way in
     let called = subst (λ level. g.C.Calls.called c.loop-done.calls c.in-Some.id level c.call.new.self) c.from.ensures
     c.in-Ok.ensures.called in (
       ran ++ one ∷ [],
       longer,
-      serves_call _ _ _ _ _ _ _ ran _ _ c.in-Some.id c.finish.result _ _ looked called c.in-Ok.ensures.counted
+      serves_call _ _ _ ran _ c.in-Some.id c.finish.result _ looked called c.in-Ok.ensures.counted
           (rw found.hand at c.finish.ensures.step) (rw found.hand at c.finish.ensures.made),
       (rw found.hand at c.finish.ensures.hand) ∙ sym (hand_more _ ran one),
     )
@@ -44,7 +44,7 @@ pub returns-in-Err : goal.returns-in-Err
 returns-in-Err g c =
     let (ran, long, s, hand) = c.loop-done.invariant in
     let found = c.in-Some.ensures in
-    let way = subst (λ h. DrainGoes g.D.Drain.step c.loop-done.drain (look_of h (Some c.in-Some.id)) c.in_hand.new.drain) hand
+    let way = subst (λ h. DrainGoes g.D.Drain c.loop-done.drain (look_of h (Some c.in-Some.id)) c.in_hand.new.drain) hand
     found.way in
     record {
       served = tt;
@@ -55,7 +55,7 @@ returns-in-Err g c =
         c.loop-done.calls,
         long,
         c.loop-done-test.true,
-        serves_look _ _ _ _ _ _ _ ran _ _ _ _ s found.still way,
+        serves_look _ _ _ ran _ _ _ s found.still way,
         c.in-Err.ensures.refused,
         c.in-Err.ensures.kept,
         found.hand,

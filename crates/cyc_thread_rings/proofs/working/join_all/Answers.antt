@@ -11,7 +11,7 @@ loop-of_cpu-init g c =
       all = gives.0;
       many = search rules;
       room = search rules;
-      kept = subst (EachTwo (HaveKept g.D.Drain.step g.D.Drain.held g.D.Drain.made g.C.Calls) []) (sym c.requires.none) tt;
+      kept = subst (EachTwo (HaveKept g.D.Drain g.C.Calls) []) (sym c.requires.none) tt;
     }
 
 pub loop-of_cpu-preserved : goal.loop-of_cpu-preserved
@@ -22,7 +22,7 @@ loop-of_cpu-preserved g c =
       many = taken_many _ _ x _ _ step.0 step.1 inv.many;
       room = let room = inv.room in let given = step.1 in let long = c.push_reserved.ensures.len in
           let same = c.push_reserved.ensures.capacity in omega (arith, room, given, long, same);
-      kept = each_pushed (HaveKept g.D.Drain.step g.D.Drain.held g.D.Drain.made g.C.Calls)
+      kept = each_pushed (HaveKept g.D.Drain g.C.Calls)
           c.loop-of_cpu.yielded c.loop-of_cpu.drained.items _ _ x
           (record { lock = c.join_one-lock.result; low = c.join_one-low.result })
           refl c.push_reserved.ensures.items inv.kept (c.join_one-lock.ensures, c.join_one-low.ensures);
@@ -30,6 +30,6 @@ loop-of_cpu-preserved g c =
 
 pub returns : goal.returns
 returns g c = subst
-    (λ zs. EachTwo (HaveKept g.D.Drain.step g.D.Drain.held g.D.Drain.made g.C.Calls) zs c.loop-of_cpu.drained.items)
+    (λ zs. EachTwo (HaveKept g.D.Drain g.C.Calls) zs c.loop-of_cpu.drained.items)
     (taken_none c.loop-of_cpu.yielded _ _ _ c.in-None.ensures.steps.0 c.loop-of_cpu.invariant.many c.loop-of_cpu.invariant.all)
     c.loop-of_cpu.invariant.kept

@@ -10,5 +10,5 @@ invariant-loop-of_cpu g l = record {
   all : l.yielded ++ into_iter_items l.of_cpu-iterator ≡ l.fn.workers.items;
   many : into_iter_len l.of_cpu-iterator ≡ length (into_iter_items l.of_cpu-iterator);
   room : vec_len l.drained + into_iter_len l.of_cpu-iterator ≤ vec_capacity l.drained;
-  kept : EachTwo (HaveKept g.D.Drain.step g.D.Drain.held g.D.Drain.made g.C.Calls) l.yielded l.drained.items;
+  kept : EachTwo (HaveKept g.D.Drain g.C.Calls) l.yielded l.drained.items;
 }

@@ -13,9 +13,9 @@ join_all-requires-clause-room g c =
     omega (arith, long, same, room)
 
 pub returns : goal.returns
-returns g c = works_all g.C.Calls g.R.Raise g.D.Drain.step g.D.Drain.held g.D.Drain.made
+returns g c = works_all g.C.Calls g.R.Raise g.D.Drain
     c.args.script.now.steps.items c.args.lead (map sides_of c.args.drainers.items) c.join_all.new.drained.items
-    (kept_all g.C.Calls g.D.Drain.step g.D.Drain.held g.D.Drain.made
+    (kept_all g.C.Calls g.D.Drain
     (map sides_of c.args.drainers.items) c.in_ok-workers.workers.items
     c.join_all.new.drained.items c.in_ok-workers.ensures.started c.join_all.ensures)
     c.take_steps-taken.result c.all_left.result c.take_steps-taken.ensures.ran c.take_steps-taken.ensures.halted
