@@ -48,6 +48,17 @@ IsId id = (0 < id) × (id ≤ last_id)
 abbrev pub Denies : {A X : Type 0} → Denied → Result A Denied → X → X → Type 0
 Denies e answer v w = (answer ≡ Err e) × (w ≡ v)
 
+-- the numbers of an add, as a caller in C has them
+pub record AddNumbers : Type 0 where
+  pub id : ℕ
+  pub level : ℕ
+  pub start : ℤ
+  pub interval : ℤ
+  pub now : ℤ
+
+abbrev pub add_numbers : ℕ → ℕ → ℤ → ℤ → ℤ → AddNumbers
+add_numbers id level start interval now = record { id = id; level = level; start = start; interval = interval; now = now }
+
 -- what the numbers of an add say
 abbrev pub IsAsked : ℕ → ℕ → ℤ → ℤ → ℤ → Asked → Type 0
 IsAsked id level start interval now a = (level_named level ≡ Some a.level) × IsId id × (a.id ≡ id)
@@ -102,10 +113,9 @@ module _ {R : Type 0} (firing : Raise R) where
       × Changes firing v (Add a.id a.level a.when a.now given) w)
 
   -- `cyclic_add`: the numbers are looked at first
-  abbrev pub Adds : ℕ → ℕ → ℤ → ℤ → ℤ → Result (Unit {0}) Denied → CpuView R → CpuView R → Type 0
-  Adds id level start interval now answer v w =
-      ((e : Denied) × WhyNotAsked id level start interval now e × Denies e answer v w)
-      ⊎ ((a : Asked) × IsAsked id level start interval now a × AddsAsked a answer v w)
+  abbrev pub Adds : AddNumbers → Result (Unit {0}) Denied → CpuView R → CpuView R → Type 0
+  Adds n answer v w = ((e : Denied) × WhyNotAsked n.id n.level n.start n.interval n.now e × Denies e answer v w)
+      ⊎ ((a : Asked) × IsAsked n.id n.level n.start n.interval n.now a × AddsAsked a answer v w)
 
   -- One part of a fire: the handler in front of which the last part stopped has been called, and its call is granted. The fire
   -- goes up to the next high expiration.

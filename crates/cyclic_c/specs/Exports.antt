@@ -17,7 +17,7 @@ use Rattle.cyc_cpu.specs.Cpu.{CpuView}
 use Rattle.cyc_cpu.specs.Calls.{PollRemove, Changes}
 use Rattle.cyc_cpu.specs.Soft.{end_at, held_at, HasEmptyLists}
 use Rattle.cyc_cpu.specs.declared.removing.Removal.TheVariants.{Done, Kept}
-use Rattle.cyclic_c.specs.Border.{Reprograms, Adds, AsksPending, AsksTotals, BeginsRemoval, Takes, Finishes}
+use Rattle.cyclic_c.specs.Border.{AddNumbers, Reprograms, Adds, AsksPending, AsksTotals, BeginsRemoval, Takes, Finishes}
 use Rattle.cyclic_c.specs.Records.{IsFired, IsRefused, IsTotals, IsReceipt}
 use Rattle.cyclic_c.specs.declared.records.CyclicFired.{CyclicFired}
 use Rattle.cyclic_c.specs.declared.records.CyclicTotals.{CyclicTotals}
@@ -68,6 +68,20 @@ kept_by (Ok (Kept n)) = n
 kept_by (Ok (Done r)) = 0
 kept_by (Err e) = 0
 
+-- what a caller lets an export write: the record before, and after
+pub record Written (X : Type 0) : Type 0 where
+  pub old : X
+  pub new : X
+
+abbrev pub written : {X : Type 0} → X → X → Written X
+written old new = record { old = old; new = new }
+
+-- what the begin of a removal writes
+pub record RemovalOut : Type 0 where
+  pub kept : ℕ
+  pub receipt : CyclicReceipt
+  pub busy : ℕ
+
 -- the receipt of a removal that was done at once
 abbrev pub IsRemoved : Result Removal Denied → CyclicReceipt → Type 0
 IsRemoved (Ok (Done r)) out = IsReceipt r out
@@ -86,10 +100,9 @@ module _ {R X : Type 0} (firing : Raise R)
   ReprogramsOut id moment r v w = (answer : Result (Unit {0}) Denied) × (r ≡ answer_of answer)
       × on (Reprograms firing id moment answer) v w
 
-  abbrev pub AddsOut : ℕ → ℕ → ℤ → ℤ → ℤ → ℕ → ℕ → X → X → Type 0
-  AddsOut id level start interval now r busy v w =
-      (answer : Result (Unit {0}) Denied) × (r ≡ answer_of answer) × (busy ≡ named_by answer)
-      × on (Adds firing id level start interval now answer) v w
+  abbrev pub AddsOut : AddNumbers → ℕ → ℕ → X → X → Type 0
+  AddsOut numbers r busy v w = (answer : Result (Unit {0}) Denied) × (r ≡ answer_of answer) × (busy ≡ named_by answer)
+      × on (Adds firing numbers answer) v w
 
   abbrev pub PendingOut : ℕ → ℕ → ℕ → X → X → Type 0
   PendingOut id r pending v w = (answer : Result ℕ Denied) × (r ≡ answer_of answer) × (pending ≡ found_in answer)
@@ -103,9 +116,9 @@ module _ {R X : Type 0} (firing : Raise R)
   PollsOut r out v w = (r ≡ 0) × (answer : Option Receipt) × WritesReceipt answer out
       × on (λ a b. Changes firing a (PollRemove answer) b) v w
 
-  abbrev pub RemovesOut : ℕ → ℕ → ℕ → CyclicReceipt → ℕ → X → X → Type 0
-  RemovesOut id r kept receipt busy v w = (answer : Result Removal Denied) × (r ≡ answer_of answer)
-      × (kept ≡ kept_by answer) × IsRemoved answer receipt × (busy ≡ named_by answer) × on (BeginsRemoval firing id answer) v w
+  abbrev pub RemovesOut : ℕ → ℕ → RemovalOut → X → X → Type 0
+  RemovesOut id r out v w = (answer : Result Removal Denied) × (r ≡ answer_of answer) × (out.kept ≡ kept_by answer)
+      × IsRemoved answer out.receipt × (out.busy ≡ named_by answer) × on (BeginsRemoval firing id answer) v w
 
   abbrev pub NextOut : ℕ → ℤ → X → X → Type 0
   NextOut r moment v w = (r ≡ 0) × on (λ a b. (moment ≡ pos (earliest (timers a.cyclics))) × (b ≡ a)) v w
@@ -133,8 +146,8 @@ WritesFired (Ok r) out = IsFired r out
 WritesFired (Err e) out = IsRefused e out
 
 -- a fire: a negative moment is refused; else it is a part of a fire of the CPU
-abbrev pub FiresOut : {X : Type 0} → (ℕ → Result Fired FireRefused → X → X → Type 0) → ℤ → ℕ → CyclicFired → CyclicFired → X → X
+abbrev pub FiresOut : {X : Type 0} → (ℕ → Result Fired FireRefused → X → X → Type 0) → ℤ → ℕ → Written CyclicFired → X → X
     → Type 0
-FiresOut part now r old new v w = ((now <ℤ pos 0) × (r ≡ number_of (Refused why.BadWhen)) × (new ≡ old) × (w ≡ v))
-    ⊎ ((m : ℕ) × (pos m ≡ now) × (answer : Result Fired FireRefused) × (r ≡ fire_number answer) × WritesFired answer new
+FiresOut part now r out v w = ((now <ℤ pos 0) × (r ≡ number_of (Refused why.BadWhen)) × (out.new ≡ out.old) × (w ≡ v))
+    ⊎ ((m : ℕ) × (pos m ≡ now) × (answer : Result Fired FireRefused) × (r ≡ fire_number answer) × WritesFired answer out.new
     × part m answer v w)

@@ -5,7 +5,7 @@ use Rattle.cyc_types.specs.declared.draining.Finished.{Finished}
 use Rattle.cyc_ring.specs.Books.{IsBook, IsFree}
 use Rattle.cyc_ring.specs.declared.closed.Book.{Book}
 use Rattle.cyc_ring.specs.declared.closed.Closed.{Closed}
-use Rattle.cyclic_c.specs.Exports.{or_zero}
+use Rattle.cyclic_c.specs.Exports.{Written, or_zero}
 use Rattle.cyclic_c.specs.Numbers.{number_of}
 use Rattle.cyclic_c.specs.declared.numbers.Denied.TheVariants.{Misused, Refused}
 use Rattle.cyclic_c.specs.Pair.{IsNewPair, IsClosedOf, SameRings}
@@ -17,25 +17,39 @@ use Rattle.cyclic_c.specs.declared.pair.Shelf.{Shelf}
 use Rattle.cyclic_c.specs.declared.records.CyclicBook.{CyclicBook}
 use Rattle.cyclic_c.specs.declared.soft_side.SoftSide.{SoftSide}
 
+-- the three handles of a CPU between threads, each open or closed
+pub record Handles : Type 0 where
+  pub firing : Option Firing
+  pub lock : Option SoftSide
+  pub low : Option SoftSide
+
+abbrev pub handles : Option Firing → Option SoftSide → Option SoftSide → Handles
+handles firing lock low = record { firing = firing; lock = lock; low = low }
+
+abbrev pub AreClosed : Handles → Type 0
+AreClosed g = (g.firing ≡ None) × (g.lock ≡ None) × (g.low ≡ None)
+
+abbrev pub AreSame : Handles → Handles → Type 0
+AreSame g h = (h.firing ≡ g.firing) × (h.lock ≡ g.lock) × (h.low ≡ g.low)
+
 -- An open for three threads: three new handles; or the caller misused it, or there was no memory, and nothing was opened.
-abbrev pub OpensPair : ℕ → ℕ → ℕ → Option Firing → Option SoftSide → Option SoftSide → Option Firing → Option SoftSide
-    → Option SoftSide → Type 0
-OpensPair ceiling most r f k w f' k' w' =
-    ((r ≡ 0) × (0 < ceiling) × (0 < most) × (f ≡ None) × (k ≡ None) × (w ≡ None)
-    × (hard : Firing) × (lock : SoftSide) × (low : SoftSide) × (f' ≡ Some hard) × (k' ≡ Some lock) × (w' ≡ Some low)
+abbrev pub OpensPair : ℕ → ℕ → ℕ → Handles → Handles → Type 0
+OpensPair ceiling most r g h =
+    ((r ≡ 0) × (0 < ceiling) × (0 < most) × AreClosed g
+    × (hard : Firing) × (lock : SoftSide) × (low : SoftSide) × (h.firing ≡ Some hard) × (h.lock ≡ Some lock) × (h.low ≡ Some low)
     × IsNewPair ceiling hard.hard.lock lock × IsNewPair ceiling hard.hard.low low × (hard.hard.most ≡ most) × (hard.high ≡ None))
-    ⊎ ((r ≡ number_of Misused) × ((ceiling ≡ 0) ⊎ (most ≡ 0) ⊎ (f ≢ None) ⊎ (k ≢ None) ⊎ (w ≢ None)) × (f' ≡ f) × (k' ≡ k)
-    × (w' ≡ w))
-    ⊎ ((r ≡ number_of (Refused why.Memory)) × (0 < ceiling) × (0 < most) × (f ≡ None) × (k ≡ None) × (w ≡ None)
-    × (f' ≡ None) × (k' ≡ None) × (w' ≡ None))
+    ⊎ ((r ≡ number_of Misused)
+    × ((ceiling ≡ 0) ⊎ (most ≡ 0) ⊎ (g.firing ≢ None) ⊎ (g.lock ≢ None) ⊎ (g.low ≢ None)) × AreSame g h)
+    ⊎ ((r ≡ number_of (Refused why.Memory)) × (0 < ceiling) × (0 < most) × AreClosed g × AreClosed h)
 
 -- the three handles, where they are open, are of one open
-abbrev pub OneOpen : Option Firing → Option SoftSide → Option SoftSide → Type 0
-OneOpen f k w = (hard : Firing) (lock low : SoftSide) → f ≡ Some hard → k ≡ Some lock → w ≡ Some low → SameRings hard lock low
+abbrev pub OneOpen : Handles → Type 0
+OneOpen g = (hard : Firing) (lock low : SoftSide) → g.firing ≡ Some hard → g.lock ≡ Some lock → g.low ≡ Some low
+    → SameRings hard lock low
 
 -- three open handles, and a place for the books
-abbrev pub CanClose : Option Firing → Option SoftSide → Option SoftSide → Option Books → Type 0
-CanClose f k w b = (f ≢ None) × (k ≢ None) × (w ≢ None) × (b ≡ None)
+abbrev pub CanClose : Handles → Option Books → Type 0
+CanClose g b = (g.firing ≢ None) × (g.lock ≢ None) × (g.low ≢ None) × (b ≡ None)
 
 -- the books that a handle owns, which stand on a shelf
 abbrev pub shelved : Option Shelf → Option Books
@@ -44,16 +58,14 @@ shelved (Some s) = s.books
 
 -- A close: the books of the two rings with the seats that came back. Or nothing was done, since a handle is closed or there are
 -- books, or since there was no memory for them. Or all are gone without books, since another handle of the same open is about.
-abbrev pub ClosesPair : ℕ → Option Firing → Option SoftSide → Option SoftSide → Option Books → Option Firing → Option SoftSide
-    → Option SoftSide → Option Books → Type 0
-ClosesPair r f k w b f' k' w' b' =
-    ((r ≡ 0) × (f' ≡ None) × (k' ≡ None) × (w' ≡ None)
-    × (hard : Firing) × (lock : SoftSide) × (low : SoftSide) × (books : Books)
-    × (f ≡ Some hard) × (k ≡ Some lock) × (w ≡ Some low) × (b' ≡ Some books)
+abbrev pub ClosesPair : ℕ → Handles → Option Books → Handles → Option Books → Type 0
+ClosesPair r g b h b' =
+    ((r ≡ 0) × AreClosed h × (hard : Firing) × (lock : SoftSide) × (low : SoftSide) × (books : Books)
+    × (g.firing ≡ Some hard) × (g.lock ≡ Some lock) × (g.low ≡ Some low) × (b' ≡ Some books)
     × IsClosedOf hard.hard.lock.seat lock.seat books.lock × IsClosedOf hard.hard.low.seat low.seat books.low)
-    ⊎ ((r ≡ number_of Misused) × ((f ≡ None) ⊎ (k ≡ None) ⊎ (w ≡ None) ⊎ (b ≢ None)) × (f' ≡ f) × (k' ≡ k) × (w' ≡ w) × (b' ≡ b))
-    ⊎ ((r ≡ number_of (Refused why.Memory)) × CanClose f k w b × (f' ≡ f) × (k' ≡ k) × (w' ≡ w) × (b' ≡ b))
-    ⊎ ((r ≡ number_of Misused) × CanClose f k w b × (f' ≡ None) × (k' ≡ None) × (w' ≡ None) × (b' ≡ None))
+    ⊎ ((r ≡ number_of Misused) × ((g.firing ≡ None) ⊎ (g.lock ≡ None) ⊎ (g.low ≡ None) ⊎ (b ≢ None)) × AreSame g h × (b' ≡ b))
+    ⊎ ((r ≡ number_of (Refused why.Memory)) × CanClose g b × AreSame g h × (b' ≡ b))
+    ⊎ ((r ≡ number_of Misused) × CanClose g b × AreClosed h × (b' ≡ None))
 
 abbrev pub TakesSoft : ℕ → ℕ → SoftSide → SoftSide → Type 0
 TakesSoft r id v w = (r ≡ 0) × (found : Option ℕ) × (id ≡ or_zero found) × TakesSeat found v.seat w.seat
@@ -76,9 +88,10 @@ FinishesSoft r v w = (answer : Option Finished) × (r ≡ finish_number answer) 
 abbrev pub IsBookAt : ℕ → Closed → CyclicBook → Type 0
 IsBookAt index c out = ((b : Book) × IsBook index b c × IsBookOut b out) ⊎ (IsFree index c × (out.id ≡ 0))
 
-abbrev pub BookOut : ℕ → ℕ → ℕ → CyclicBook → CyclicBook → Books → Books → Type 0
-BookOut level index r old new v w = ((r ≡ 64) × ((1 < level) ⊎ (255 < index)) × (new ≡ old) × (w ≡ v))
-    ⊎ ((r ≡ 0) × (w ≡ v) × (index < 256) × (((level ≡ 0) × IsBookAt index v.low new) ⊎ ((level ≡ 1) × IsBookAt index v.lock new)))
+abbrev pub BookOut : ℕ → ℕ → ℕ → Written CyclicBook → Books → Books → Type 0
+BookOut level index r out v w = ((r ≡ 64) × ((1 < level) ⊎ (255 < index)) × (out.new ≡ out.old) × (w ≡ v))
+    ⊎ ((r ≡ 0) × (w ≡ v) × (index < 256)
+    × (((level ≡ 0) × IsBookAt index v.low out.new) ⊎ ((level ≡ 1) × IsBookAt index v.lock out.new)))
 
 -- a handle was given up
 abbrev pub ClosesHandle : {X : Type 0} → ℕ → Option X → Option X → Type 0

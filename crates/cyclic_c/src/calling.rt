@@ -3,7 +3,7 @@
 ghost use Rattle.std.specs.Prelude.{◌≡◌, Some, None, IfSome, IfNone, IfOk, IfErr};
 ghost use Rattle.cyc_cpu.specs.Soft.{end_at, held_at, HasEmptyLists};
 ghost use Rattle.cyclic_c.specs.Border.{IsAsked, WhyNotAsked, AddsAsked, Adds, Fires, FiresCpu, refused_at, Takes, Finishes};
-ghost use Rattle.cyclic_c.specs.Border.{grant, stopped_at, call_at, with_call};
+ghost use Rattle.cyclic_c.specs.Border.{add_numbers, grant, stopped_at, call_at, with_call};
 
 use crate::cpu::Cpu;
 use crate::granted::Granted;
@@ -95,7 +95,7 @@ pub fn add<R: Raise>(
     interval: i64,
     now: i64,
 ) -> Result<(), Denied>
-    ensures { Adds R.Raise id level start interval now result cpu.old cpu.new }
+    ensures { Adds R.Raise (add_numbers id level start interval now) result cpu.old cpu.new }
 {
     match read_asked(id, level, start, interval, now) {
         Ok(asked) => add_asked(cpu, asked),

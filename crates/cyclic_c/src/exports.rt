@@ -4,7 +4,8 @@ ghost use Rattle.std.specs.Prelude.{◌≡◌};
 ghost use Rattle.cyclic_c.specs.Border.{Through};
 ghost use Rattle.cyclic_c.specs.Exports.{Opens, Closes, ReprogramsOut, AddsOut, PendingOut, TotalsOut, PollsOut, TakesOut};
 ghost use Rattle.cyclic_c.specs.Exports.{FinishesOut, FiresOut, RemovesOut, NextOut, named_by, kept_by, IsRemoved, OnHard};
-ghost use Rattle.cyclic_c.specs.Border.{FiresCpu};
+ghost use Rattle.cyclic_c.specs.Border.{FiresCpu, add_numbers};
+ghost use Rattle.cyclic_c.specs.Exports.{written};
 ghost use Rattle.cyc_cpu.specs.Soft.{raise_tables};
 ghost use Rattle.cyclic_c.specs.Numbers.{answer_of};
 
@@ -97,7 +98,7 @@ pub extern "C" fn cyclic_add(
     busy: &mut u64,
 ) -> u32
     ensures { Through cpu.old.inner.held cpu.new.inner.held result
-        (AddsOut raise_tables OnHard id level start interval now result busy.new) }
+        (AddsOut raise_tables OnHard (add_numbers id level start interval now) result busy.new) }
 {
     let Some(mut open) = cpu.take(alloc) else {
         return MISUSED;
@@ -238,7 +239,7 @@ pub extern "C" fn cyclic_fire(
     now: i64,
     fired: &mut CyclicFired,
 ) -> u32
-    ensures { Through cpu.old.inner.held cpu.new.inner.held result (FiresOut FiresCpu now result fired.old fired.new) }
+    ensures { Through cpu.old.inner.held cpu.new.inner.held result (FiresOut FiresCpu now result (written fired.old fired.new)) }
 {
     let Some(mut open) = cpu.take(alloc) else {
         return MISUSED;
@@ -276,7 +277,8 @@ pub extern "C" fn cyclic_begin_remove(
     busy: &mut u64,
 ) -> u32
     ensures { Through cpu.old.inner.held cpu.new.inner.held result
-        (RemovesOut raise_tables OnHard id result kept.new receipt.new busy.new) }
+        (RemovesOut raise_tables OnHard id result
+        (record { kept = kept.new; receipt = receipt.new; busy = busy.new })) }
 {
     let Some(mut open) = cpu.take(alloc) else {
         return MISUSED;

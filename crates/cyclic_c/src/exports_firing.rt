@@ -1,7 +1,8 @@
 //! The exports of the firing side.
 
 ghost use Rattle.std.specs.Prelude.{◌≡◌};
-ghost use Rattle.cyclic_c.specs.Border.{Through};
+ghost use Rattle.cyclic_c.specs.Border.{Through, add_numbers};
+ghost use Rattle.cyclic_c.specs.Exports.{written};
 ghost use Rattle.cyclic_c.specs.Exports.{ReprogramsOut, AddsOut, PendingOut, TotalsOut, PollsOut, FiresOut, RemovesOut, NextOut};
 ghost use Rattle.cyclic_c.specs.Pair.{raise_held, OnSide, FiresSide};
 
@@ -28,7 +29,7 @@ pub extern "C" fn cyclic_firing_add(
     busy: &mut u64,
 ) -> u32
     ensures { Through firing.old.inner.held firing.new.inner.held result
-        (AddsOut raise_held OnSide id level start interval now result busy.new) }
+        (AddsOut raise_held OnSide (add_numbers id level start interval now) result busy.new) }
 {
     let Some(mut open) = firing.take(alloc) else {
         return MISUSED;
@@ -70,7 +71,8 @@ pub extern "C" fn cyclic_firing_begin_remove(
     busy: &mut u64,
 ) -> u32
     ensures { Through firing.old.inner.held firing.new.inner.held result
-        (RemovesOut raise_held OnSide id result kept.new receipt.new busy.new) }
+        (RemovesOut raise_held OnSide id result
+        (record { kept = kept.new; receipt = receipt.new; busy = busy.new })) }
 {
     let Some(mut open) = firing.take(alloc) else {
         return MISUSED;
@@ -122,7 +124,8 @@ pub extern "C" fn cyclic_firing_fire(
     now: i64,
     fired: &mut CyclicFired,
 ) -> u32
-    ensures { Through firing.old.inner.held firing.new.inner.held result (FiresOut FiresSide now result fired.old fired.new) }
+    ensures { Through firing.old.inner.held firing.new.inner.held result
+        (FiresOut FiresSide now result (written fired.old fired.new)) }
 {
     let Some(mut open) = firing.take(alloc) else {
         return MISUSED;

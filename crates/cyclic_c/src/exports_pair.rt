@@ -2,7 +2,8 @@
 
 ghost use Rattle.std.specs.Prelude.{◌≡◌};
 ghost use Rattle.cyclic_c.specs.Border.{Through};
-ghost use Rattle.cyclic_c.specs.PairOut.{OpensPair, ClosesPair, OneOpen, TakesSoft, FinishesSoft, HandsSoft, BookOut};
+ghost use Rattle.cyclic_c.specs.Exports.{written};
+ghost use Rattle.cyclic_c.specs.PairOut.{OpensPair, ClosesPair, OneOpen, TakesSoft, FinishesSoft, HandsSoft, BookOut, handles};
 ghost use Rattle.cyclic_c.specs.PairOut.{ClosesHandle, shelved};
 
 use crate::exports::MISUSED;
@@ -25,8 +26,8 @@ pub extern "C" fn cyclic_open(
     lock: &mut CyclicSoft,
     low: &mut CyclicSoft,
 ) -> u32
-    ensures { OpensPair ceiling most result firing.old.inner.held lock.old.inner.held low.old.inner.held firing.new.inner.held
-        lock.new.inner.held low.new.inner.held }
+    ensures { OpensPair ceiling most result (handles firing.old.inner.held lock.old.inner.held low.old.inner.held)
+        (handles firing.new.inner.held lock.new.inner.held low.new.inner.held) }
 {
     let Some(ceiling) = Ceiling::new(ceiling) else {
         return MISUSED;
@@ -63,9 +64,9 @@ pub extern "C" fn cyclic_close(
     low: &mut CyclicSoft,
     books: &mut CyclicBooks,
 ) -> u32
-    requires { OneOpen firing.old.inner.held lock.old.inner.held low.old.inner.held }
-    ensures { ClosesPair result firing.old.inner.held lock.old.inner.held low.old.inner.held
-        (shelved books.old.inner.held) firing.new.inner.held lock.new.inner.held low.new.inner.held
+    requires { OneOpen (handles firing.old.inner.held lock.old.inner.held low.old.inner.held) }
+    ensures { ClosesPair result (handles firing.old.inner.held lock.old.inner.held low.old.inner.held)
+        (shelved books.old.inner.held) (handles firing.new.inner.held lock.new.inner.held low.new.inner.held)
         (shelved books.new.inner.held) }
 {
     if books.open || !firing.open || !lock.open || !low.open {
@@ -156,7 +157,7 @@ pub extern "C" fn cyclic_book(
     book: &mut CyclicBook,
 ) -> u32
     ensures { Through (shelved books.old.inner.held) (shelved books.new.inner.held) result
-        (BookOut level index result book.old book.new) }
+        (BookOut level index result (written book.old book.new)) }
 {
     let Some(open) = books.take(alloc) else {
         return MISUSED;

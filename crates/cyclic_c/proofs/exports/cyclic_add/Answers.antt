@@ -1,6 +1,6 @@
 use Rattle.std.proofs.Common.{subst, ap, to_z-of_z, to_z, of_z, w64, ℤ}
 use Rattle.cyc_cpu.specs.Soft.{raise_tables}
-use Rattle.cyclic_c.specs.Border.{Adds}
+use Rattle.cyclic_c.specs.Border.{Adds, add_numbers}
 use Rattle.cyclic_c.specs.declared.cpu.Cpu.{Cpu}
 use Rattle.cyclic_c.proofs.Passing.{through}
 use Rattle.cyclic_c.proofs.exports.cyclic_add.Goals as goal
@@ -18,10 +18,12 @@ returns c =
       c.number_of_answer.ensures,
       c.named_in.ensures,
       (
-        subst (λ (v : Cpu). Adds raise_tables id level start interval now answer v.hard new) same
-            (subst (λ (z : ℤ). Adds raise_tables id level start interval z answer old new) (to_z-of_z c.ranges.now)
-            (subst (λ (z : ℤ). Adds raise_tables id level start z (read now) answer old new) (to_z-of_z c.ranges.interval)
-            (subst (λ (z : ℤ). Adds raise_tables id level z (read interval) (read now) answer old new)
+        subst (λ (v : Cpu). Adds raise_tables (add_numbers id level start interval now) answer v.hard new) same
+            (subst (λ (z : ℤ). Adds raise_tables (add_numbers id level start interval z) answer old new)
+            (to_z-of_z c.ranges.now)
+            (subst (λ (z : ℤ). Adds raise_tables (add_numbers id level start z (read now)) answer old new)
+            (to_z-of_z c.ranges.interval)
+            (subst (λ (z : ℤ). Adds raise_tables (add_numbers id level z (read interval) (read now)) answer old new)
             (to_z-of_z c.ranges.start) c.add-answer.ensures))),
         ap (λ (v : Cpu). record v { hard = new }) same,
       ),

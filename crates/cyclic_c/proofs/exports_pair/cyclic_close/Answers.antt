@@ -15,9 +15,7 @@ closed-requires c =
 pub returns : goal.returns
 returns c = inl (
   refl,
-  c.take.ensures.closed,
-  c.take-2.ensures.closed,
-  c.take-3.ensures.closed,
+  (c.take.ensures.closed, c.take-2.ensures.closed, c.take-3.ensures.closed),
   c.into_inner.result,
   c.into_inner-2.result,
   c.into_inner-3.result,

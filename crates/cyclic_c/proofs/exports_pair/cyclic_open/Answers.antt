@@ -9,9 +9,11 @@ returns c =
       refl,
       c.in-Some.ensures.valid.0 refl,
       (let some = c.if-most-eq0.false in omega (arith, some)),
-      none_of _ _ c.args.firing.now.told c.if-firing.false,
-      none_of _ _ c.args.lock.now.told c.if-lock.false,
-      none_of _ _ c.args.low.now.told c.if-low.false,
+      (
+        none_of _ _ c.args.firing.now.told c.if-firing.false,
+        none_of _ _ c.args.lock.now.told c.if-lock.false,
+        none_of _ _ c.args.low.now.told c.if-low.false,
+      ),
       c.in-Ok.hard,
       c.in-Ok.lock_soft,
       c.in-Ok.low_soft,
@@ -29,4 +31,4 @@ returns-in_default-new c =
     let f = none_of _ _ c.args.firing.now.told c.if-firing.false in
     let k = none_of _ _ c.args.lock.now.told c.if-lock.false in
     let w = none_of _ _ c.args.low.now.told c.if-low.false in
-    inr (inr (refl, c.in-Some.ensures.valid.0 refl, (let some = c.if-most-eq0.false in omega (arith, some)), f, k, w, f, k, w))
+    inr (inr (refl, c.in-Some.ensures.valid.0 refl, (let some = c.if-most-eq0.false in omega (arith, some)), (f, k, w), (f, k, w)))
