@@ -199,8 +199,8 @@ module _ {R : Type 0} (firing : Raise R) (source : ℕ) (v : CpusView R)
         within = λ last h. within_step last p.most p.ended (i.within last h);
       }
 
-    pub walked_more : VisitsAt firing source place next report after w qs x ps
-        → Walked firing source v rs (done + 1) next after x ps
+    pub walked_more : VisitsAt firing source (record { place = place; report = report; cpus = w; records = qs })
+        (record { place = next; report = after; cpus = x; records = ps }) → Walked firing source v rs (done + 1) next after x ps
     walked_more (id, spot, turn, visits, counts, place_is) =
         subst (λ n. Walked firing source v rs (done + 1) n after x ps) (sym place_is)
         (subst (λ r. Walked firing source v rs (done + 1) (next_place turn place) r x ps) (sym counts)

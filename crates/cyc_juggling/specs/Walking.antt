@@ -32,12 +32,22 @@ next_place (Some StaysPending) place = place + 1
 next_place (Some StaysRefused) place = place + 1
 next_place (Some Moves) place = place
 
--- the cyclic at a place has its turn, whatever id was given last
-abbrev pub VisitsAt : {R : Type 0} → Raise R → ℕ → ℕ → ℕ
-    → JuggleReport → JuggleReport → CpusView R → RecordsView → CpusView R → RecordsView → Type 0
-VisitsAt firing source place next before after v rs w qs = (id : ℕ) × (slice_get (ids_on source v) place ≡ Some id)
-    × (turn : Option Turn) × ((last : ℕ) → Visits firing source id turn (system_of v rs last) (system_of w qs last))
-    × (after ≡ counted_if turn before) × (next ≡ next_place turn place)
+-- where a walk stands: the place of the next cyclic, the turns so far, the CPUs and the records
+pub record Walk (R : Type 0) : Type 0 where
+  pub place : ℕ
+  pub report : JuggleReport
+  pub cpus : CpusView R
+  pub records : RecordsView
+
+-- the system there, whose last id this is
+abbrev pub system_at : {R : Type 0} → Walk R → ℕ → SystemView R
+system_at walk last = system_of walk.cpus walk.records last
+
+-- the cyclic at the walk's place has its turn, whatever id was given last
+abbrev pub VisitsAt : {R : Type 0} → Raise R → ℕ → Walk R → Walk R → Type 0
+VisitsAt firing source a b = (id : ℕ) × (slice_get (ids_on source a.cpus) a.place ≡ Some id)
+    × (turn : Option Turn) × ((last : ℕ) → Visits firing source id turn (system_at a last) (system_at b last))
+    × (b.report ≡ counted_if turn a.report) × (b.place ≡ next_place turn a.place)
 
 -- all turns of a report
 abbrev pub all_turns : JuggleReport → ℕ

@@ -123,7 +123,9 @@ pub(crate) fn visit<R: Raise>(
     requires still { removal_on source cpus.old ≡ None }
     requires other { (d : ℕ) × (destination (Some source) cpus.old ≡ Some d) }
     requires few { all_turns report.old < 256 }
-    ensures did { VisitsAt R.Raise source place result report.old report.new cpus.old records.old cpus.new records.new }
+    ensures did { VisitsAt R.Raise source
+        (record { place = place; report = report.old; cpus = cpus.old; records = records.old })
+        (record { place = result; report = report.new; cpus = cpus.new; records = records.new }) }
     ensures agrees { (last : ℕ) → Agrees (system_of cpus.old records.old last) → Agrees (system_of cpus.new records.new last) }
 {
     cpus.law();

@@ -212,7 +212,8 @@ module _ (texts : List (List ℕ)) (step : ℕ) (i : SoftintStep) (s : State) wh
   -- after the last
   pub softint_taken : (lines line : List ℕ) (made : Ran) (first second : RunningSystem TallyView Tables) (m : Machine)
       → IsPolling texts step (leaving_ids (interrupt step i s).state) lines i s m
-      → IsInterrupted tally_count texts step i made lines s first second m.system
+      → IsInterrupted tally_count (record { texts = texts; step = step; asks = i; made = made; lines = lines }) s first second
+      m.system
       → line ≡ ran step made.calls made.idle ++ lines → TakesWord texts step (Softint i) line s m
   softint_taken lines line made first second m p d same = record {
     given = [];

@@ -218,7 +218,7 @@ module _ {C : Type 0} (count : C → ℕ → ℕ) where
       (s t : RunningSystem C Tables) (w : SystemView Tables)
       → IsServed count i made m s t → HavePolled texts step (leaving_ids (interrupt step i m).state) lines
       (interrupt step i m).state w
-      → IsInterrupted count texts step i made lines m s t w
+      → IsInterrupted count (record { texts = texts; step = step; asks = i; made = made; lines = lines }) m s t w
   interrupted texts step i made lines m s t w served h =
       let o = interrupt step i m in
       let p = each (poll_id plain texts step) (leaving_ids o.state) o.state in

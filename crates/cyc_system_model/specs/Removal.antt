@@ -11,7 +11,7 @@ use Rattle.cyc_system.specs.System.{SystemView, RunningSystem, is_leaving}
 use Rattle.cyc_system.specs.SystemTotals.{SystemTotals}
 use Rattle.cyc_model.specs.Acts.{calls_of}
 use Rattle.cyc_model.specs.Questions.{plain}
-use Rattle.cyc_model.specs.State.{State, each}
+use Rattle.cyc_model.specs.State.{State, Outcome, each}
 use Rattle.cyc_model.specs.Places.{id_of}
 use Rattle.cyc_model.specs.Softint.{poll_id, softint}
 use Rattle.cyc_model.specs.Report.{counts_of}
@@ -62,9 +62,22 @@ pub record HavePolled (texts : List (List ℕ)) (step : ℕ) (ids lines : List �
 abbrev pub leaving_in : SystemView Tables → List ℕ
 leaving_in v = filter (λ id. is_leaving id v) (map (λ r. r.id) v.records)
 
--- the system did what the word softint does: the soft interrupt, and then the polls, which wrote these lines
-pub record IsInterrupted {C : Type 0} (count : C → ℕ → ℕ) (texts : List (List ℕ)) (step : ℕ) (i : SoftintStep) (made : Ran)
-    (lines : List ℕ) (m : State) (s t : RunningSystem C Tables) (w : SystemView Tables) : Type 0 where
-  pub comes : ComesTo [] m (softint plain texts step i m) w
-  pub line : (softint plain texts step i m).line ≡ ran step made.calls made.idle ++ lines
-  pub called : (id : ℕ) → count t.calls id ≡ count s.calls id + calls_of id (softint plain texts step i m).acts
+-- a word softint that was done: the texts of the names, its number, what it asks, what its soft interrupt answered, and the lines
+-- of the polls after it
+pub record SoftintWord : Type 0 where
+  pub texts : List (List ℕ)
+  pub step : ℕ
+  pub asks : SoftintStep
+  pub made : Ran
+  pub lines : List ℕ
+
+-- what the definition makes of it
+abbrev pub outcome_of : SoftintWord → State → Outcome
+outcome_of word m = softint plain word.texts word.step word.asks m
+
+-- the system did what the word does: the soft interrupt, and then the polls, which wrote these lines
+pub record IsInterrupted {C : Type 0} (count : C → ℕ → ℕ) (word : SoftintWord) (m : State) (s t : RunningSystem C Tables)
+    (w : SystemView Tables) : Type 0 where
+  pub comes : ComesTo [] m (outcome_of word m) w
+  pub line : (outcome_of word m).line ≡ ran word.step word.made.calls word.made.idle ++ word.lines
+  pub called : (id : ℕ) → count t.calls id ≡ count s.calls id + calls_of id (outcome_of word m).acts

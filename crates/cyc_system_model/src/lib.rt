@@ -264,7 +264,7 @@ pub fn poll_law<C: Calls>()
     ensures ends { (texts : List (List ℕ)) (step : ℕ) (i : SoftintStep) (ran : Ran) (lines : List ℕ) (m : State)
         (s t : RunningSystem C Tables) (w : SystemView Tables) → IsServed C.count i ran m s t
         → HavePolled texts step (leaving_ids (interrupt step i m).state) lines (interrupt step i m).state w
-        → IsInterrupted C.count texts step i ran lines m s t w }
+        → IsInterrupted C.count (record { texts = texts; step = step; asks = i; made = ran; lines = lines }) m s t w }
 {}
 
 /// What the totals of a system tell of an id is what the definition reports of it, over all CPUs and all stays, with the calls of

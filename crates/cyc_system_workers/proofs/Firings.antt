@@ -24,7 +24,7 @@ use Rattle.cyc_workers.specs.declared.settling.Lead.{Lead}
 use Rattle.cyc_system_workers.specs.declared.side.SystemSide.{SystemSide}
 use Rattle.cyc_system_workers.specs.declared.advancing.Advanced.{Advanced}
 use Rattle.cyc_system_workers.specs.Advancing.{FiresIf, AllFire}
-use Rattle.cyc_system_workers.specs.Fires.{FireOn, FiresOne, IsFires}
+use Rattle.cyc_system_workers.specs.Fires.{FireOn, FiresOne, IsFires, firings_of}
 
 get_mid : {A : Type 0} (pre xs : List A) (x : A) → slice_get (pre ++ x ∷ xs) (length pre) ≡ Some x
 get_mid [] xs x = refl
@@ -41,7 +41,7 @@ module _ {C R : Type 0} (handler : Calls C)
   sys cpus = record { cpus = record { cpus = cpus; online = online }; records = records; last = last }
 
   abbrev D : SystemView R → FireOn → SystemView R → Type 0
-  D = FiresOne handler firing leads leads' now
+  D = FiresOne handler firing (record { now = now; leads = leads; leads_after = leads' })
 
   -- what becomes of the CPU of a number, with its own handlers
   record At (n : ℕ) (up : Bool) (x y : CpuView R) : Type 0 where
@@ -162,7 +162,7 @@ module _ {C R : Type 0} (handler : Calls C) (firing : Raise R) where
       record {
         fires = made.0;
         made = subst (λ (t : SystemView R). FoldsTo
-            (FiresOne handler firing a.leads.items b.side.leads.items now) a.system made.0 t)
+            (FiresOne handler firing (firings_of now a b)) a.system made.0 t)
             (λ z. record {
               cpus = record { cpus = b.side.system.cpus.cpus; online = sym f.online z };
               records =
