@@ -102,11 +102,16 @@ fn flushed(ended: io::Result<()>) -> Result<(), Fault> {
     ended.map_err(|_| Fault::Run(RunFault::Write))
 }
 
+/// The script on standard input.
+fn input<R: Input + AllocGlobal>(rt: &R) -> Result<Script, Fault> {
+    let bytes = read_input(rt.alloc(), &mut BoundedReader::new(rt.reader()))?;
+    script(rt.alloc(), bytes.as_slice())
+}
+
 /// Finds the faults in the order of the words, the reading, the script and the run.
 fn go<R: Env + AllocGlobal + Input + Print + Threads + Wait + Sync>(rt: &R) -> Result<(), Fault> {
     let command = command(rt)?;
-    let bytes = read_input(rt.alloc(), &mut BoundedReader::new(rt.reader()))?;
-    let script = script(rt.alloc(), bytes.as_slice())?;
+    let script = input(rt)?;
     let bounded = BoundedWriter::new(io::writer(rt));
     let writer = BufWriter::new(rt.alloc(), bounded).map_err(|_| Fault::Memory)?;
     let mut writer = match command {
