@@ -1,8 +1,8 @@
 -- Two lists beside each other.
 use Rattle.std.proofs.Common.{◌≡◌, ℕ, zero, suc, ◌+◌, ◌≤◌, List, [], ◌∷◌, ◌++◌, length, Some, refl, sym, ap, ◌∙◌, subst}
-use Rattle.std.proofs.Common.{arith, append_assoc, append-nil}
+use Rattle.std.proofs.Common.{arith, append_assoc, append-nil, map}
 use Rattle.std.specs.List.{slice_get}
-use Rattle.std.proofs.lemmas.List.{length-append}
+use Rattle.std.proofs.lemmas.List.{length-append, map-append}
 use Rattle.std.proofs.lemmas.Option.{slice_get_within, same_Some}
 use Rattle.cyc_agreement.proofs.Spots.{get_some}
 use Rattle.cyc_types.specs.declared.Calls.{Ghosts as Calls}
@@ -55,6 +55,12 @@ given_many n m x rest rest' e f g = let h = ap (λ (zs : List _). length zs) e i
 pub given_none : {A : Type 0} (ys rest all : List A) (n : ℕ) → n ≡ 0 → n ≡ length rest → ys ++ rest ≡ all → ys ≡ all
 given_none ys [] all n e f g = sym (append-nil ys) ∙ g
 given_none ys (x ∷ rest) all n e f g = absurd (omega (arith, e, f))
+
+-- one more of what the elements have
+pub same_more : {A Y : Type 0} (q : A → Y) (ws ws' : List Y) (xs : List A) (w : Y) (x : A) → ws' ≡ ws ++ w ∷ [] → ws ≡ map q xs
+    → w ≡ q x → ws' ≡ map q (xs ++ x ∷ [])
+same_more q ws ws' xs w x e f k = e ∙ ap (λ (zs : List _). zs ++ w ∷ []) f ∙ ap (λ z. map q xs ++ z ∷ []) k
+    ∙ sym (map-append q xs (x ∷ []))
 
 -- one after the other
 pub beside_then : {A B C : Type 0} (P : A → B → Type 0) (Q : B → C → Type 0) (S : A → C → Type 0)

@@ -73,9 +73,9 @@ pub(crate) fn scatter<R: Raise + Drop, C: Drop>(
     let mut answers = Vec::with_capacity(alloc, lanes.len())?;
     for lane in lanes {
         let LaneAfter { hard, lead, answer } = lane;
-        hards.push(hard)?;
-        leads.push(lead)?;
-        answers.push(answer)?;
+        hards.push_reserved(hard);
+        leads.push_reserved(lead);
+        answers.push_reserved(answer);
     }
     Ok((hards, leads, answers))
 }

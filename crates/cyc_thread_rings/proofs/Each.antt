@@ -86,6 +86,11 @@ taken_none ys (x ∷ rest) all n e f g = absurd (omega (arith, e, f))
 
 -- ---- two lists of which one part is done and the other is still to come
 
+pub same_more : {H Y : Type 0} (q : H → Y) (ws ws' : List Y) (ys : List H) (w : Y) (y : H) → ws' ≡ ws ++ w ∷ [] → ws ≡ map q ys
+    → w ≡ q y → ws' ≡ map q (ys ++ y ∷ [])
+same_more q ws ws' ys w y e f k = e ∙ ap (λ (zs : List _). zs ++ w ∷ []) f ∙ ap (λ z. map q ys ++ z ∷ []) k
+    ∙ sym (map-append q ys (y ∷ []))
+
 pub map_more : {S H Y : Type 0} (p : S → Y) (q : H → Y) (xs xs' : List S) (ys : List H) (x : S) (y : H) → xs' ≡ xs ++ x ∷ []
     → map p xs ≡ map q ys → p x ≡ q y →
     map p xs' ≡ map q (ys ++ y ∷ [])

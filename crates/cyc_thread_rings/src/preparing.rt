@@ -27,8 +27,19 @@ pub struct Prepared<'a, C> {
     pub wakers: Vec<Arc<Wakers, Global>>,
 }
 
-/// Two beds, and what wakes those who sleep there.
-fn beds(alloc: Global) -> Result<(Levels<Parker>, Wakers), Refusal>
+/// What the threads of one CPU are given.
+#[derive(Drop)]
+struct OfCpu<'a, C> {
+    ends: (RaiseEnd<'a>, RaiseEnd<'a>),
+    lead: Lead<C>,
+    drainers: Levels<Drainer<DrainEnd<'a>, C>>,
+    wakers: Arc<Wakers, Global>,
+}
+
+/// Two beds, and what wakes those who sleep there, twice.
+fn beds(
+    alloc: Global,
+) -> Result<(Levels<Parker>, Arc<Wakers, Global>, Arc<Wakers, Global>), Refusal>
     ensures { IfErr result (λ e. e ≡ Memory) }
 {
     let lock = Parker::new(alloc)?;
@@ -37,7 +48,41 @@ fn beds(alloc: Global) -> Result<(Levels<Parker>, Wakers), Refusal>
         lock: lock.unparker().clone()?,
         low: low.unparker().clone()?,
     };
-    Ok((Levels { lock, low }, wakers))
+    let wakers = Arc::new(alloc, wakers)?;
+    let same = Arc::try_clone(&wakers)?;
+    Ok((Levels { lock, low }, wakers, same))
+}
+
+/// What the threads of one CPU are given, over its ends. Its memory may be refused.
+fn prepare_one<'a, C: Drop>(
+    alloc: Global,
+    attached: Attached<'a, C>,
+) -> Result<OfCpu<'a, C>, Refusal>
+    ensures ends { IfOk result (λ p. p.ends ≡ attached.entry.ends) }
+    ensures lead { IfOk result (λ p. p.lead.calls ≡ attached.entry.high) }
+    ensures drainers { IfOk result (λ p. sides_of p.drainers ≡ attached.entry.soft) }
+    ensures refused { IfErr result (λ e. e ≡ Memory) }
+{
+    let (parkers, own, wakers) = beds(alloc)?;
+    let Attached { ends, high, soft } = attached;
+    Ok(OfCpu {
+        ends,
+        lead: Lead {
+            calls: high,
+            wakers: own,
+        },
+        drainers: Levels {
+            lock: Drainer {
+                parker: parkers.lock,
+                side: soft.lock,
+            },
+            low: Drainer {
+                parker: parkers.low,
+                side: soft.low,
+            },
+        },
+        wakers,
+    })
 }
 
 /// What the threads of a run are given, over these ends. Its memory may be refused.
@@ -55,24 +100,11 @@ pub fn prepare<'a, C: Drop>(
     let mut drainers = Vec::with_capacity(alloc, all.len())?;
     let mut wakers = Vec::with_capacity(alloc, all.len())?;
     for attached in all {
-        let (parkers, own) = beds(alloc)?;
-        let own = Arc::new(alloc, own)?;
-        wakers.push(Arc::try_clone(&own)?)?;
-        leads.push(Lead {
-            calls: attached.high,
-            wakers: own,
-        })?;
-        ends.push(attached.ends)?;
-        drainers.push(Levels {
-            lock: Drainer {
-                parker: parkers.lock,
-                side: attached.soft.lock,
-            },
-            low: Drainer {
-                parker: parkers.low,
-                side: attached.soft.low,
-            },
-        })?;
+        let own = prepare_one(alloc, attached)?;
+        ends.push_reserved(own.ends);
+        leads.push_reserved(own.lead);
+        drainers.push_reserved(own.drainers);
+        wakers.push_reserved(own.wakers);
     }
     Ok(Prepared {
         ends,
