@@ -4,8 +4,6 @@
 #[cfg(test)]
 mod firing;
 #[cfg(test)]
-mod handlers;
-#[cfg(test)]
 mod moving;
 #[cfg(test)]
 mod removed;

@@ -2,7 +2,6 @@
 
 ghost use Rattle.std.specs.Prelude.{◌≤◌};
 
-use crate::handlers::Handlers;
 use crate::steps::{Answer, Step, cpu, id, play};
 use cyc_core::LevelCore;
 use cyc_cpu::Hard;
@@ -10,6 +9,7 @@ use cyc_types::{Interval, Level, Moment, Refusal, Sent, Soft};
 use std::alloc::Global;
 use std::process::Abort;
 use std::test::Fail;
+use test_handlers::Handlers;
 
 /// Places the id, with these counts, where room for it was made.
 fn place(

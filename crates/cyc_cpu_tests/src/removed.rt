@@ -3,12 +3,12 @@
 ghost use Rattle.std.specs.Prelude.{◌≡◌};
 ghost use Rattle.std.specs.Bool.{OnTrue};
 
-use crate::handlers::Handlers;
 use crate::steps::{Answer, Step, cpu, id, play};
 use cyc_core::LevelCore;
 use cyc_cpu::{Hard, Removal};
 use cyc_types::{Calls, CyclicId, Level, Soft};
 use std::test::Fail;
+use test_handlers::Handlers;
 
 /// Removes a cyclic, and then runs a soft interrupt: where the removal has answered, no call of the cyclic was made.
 fn removed_then_served<C: Calls>(

@@ -1,12 +1,12 @@
 //! A CPU that grows until it is full.
 
-use crate::handlers::Handlers;
 use crate::steps::{Answer, FREE, Step, alone, cpu, play};
 use cyc_core::LevelCore;
 use cyc_cpu::Hard;
 use cyc_types::{Level, Refusal, Soft};
 use std::process::Abort;
 use std::test::Fail;
+use test_handlers::Handlers;
 
 const FULL: Answer = Answer::Refused(Refusal::Full);
 

@@ -5,7 +5,6 @@ ghost use Rattle.cyc_core.specs.Tables.{level_of};
 ghost use Rattle.cyc_core.specs.FiringSide.{firing_view};
 ghost use Rattle.cyc_cpu.specs.Cpu.{IsFresh};
 
-use crate::handlers::Handlers;
 use cyc_core::LevelCore;
 use cyc_cpu::{FireRefused, Fired, Hard, Removal, Taken, Totals};
 use cyc_soft::{Ran, SoftRefused};
@@ -13,6 +12,7 @@ use cyc_types::{Ceiling, CyclicId, Level, Moment, Receipt, Refusal, Sent, Soft, 
 use std::alloc::Global;
 use std::process::Abort;
 use std::test::Fail;
+use test_handlers::Handlers;
 
 /// A call of a CPU.
 #[derive(Clone, Copy)]

@@ -1,9 +1,9 @@
 //! Where numbers end: those of cyclics, of moments, and of expirations.
-use crate::handlers::Handlers;
 use crate::help::{bounded, id, level, one};
 use crate::steps::{Answer, Step, play};
 use cyc_types::{Level, Refusal, Soft};
 use std::test::Fail;
+use test_handlers::Handlers;
 
 /// The moment that never comes.
 const NEVER: u64 = 9_223_372_036_854_775_807;

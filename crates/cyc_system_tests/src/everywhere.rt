@@ -1,10 +1,10 @@
 //! Omnipresent cyclics over two CPUs.
-use crate::handlers::Handlers;
 use crate::help::{level, two};
 use crate::steps::{Answer, Step, play};
 use cyc_system::CpuOrOmni;
 use cyc_types::{Level, Refusal, Soft};
 use std::test::Fail;
+use test_handlers::Handlers;
 
 #[test]
 fn each_component_starts_a_skew_later(rt: HostRuntime) -> Result<(), Fail> {

@@ -1,10 +1,10 @@
 //! Cyclics that leave a CPU: moved, or removed.
-use crate::handlers::Handlers;
 use crate::help::{id, level, one, two};
 use crate::steps::{Answer, Step, play};
 use cyc_system::CpuOrOmni;
 use cyc_types::{JuggleReport, Level, Refusal, Soft};
 use std::test::Fail;
+use test_handlers::Handlers;
 
 #[test]
 fn a_cyclic_with_calls_outstanding_stays(rt: HostRuntime) -> Result<(), Fail> {

@@ -7,8 +7,6 @@ mod ends;
 #[cfg(test)]
 mod everywhere;
 #[cfg(test)]
-mod handlers;
-#[cfg(test)]
 mod help;
 #[cfg(test)]
 mod leaving;

@@ -1,11 +1,11 @@
 //! Worked rows of several CPUs.
 
-use crate::handlers::Handlers;
 use crate::help::{level, one, two};
 use crate::steps::{Answer, Step, play};
 use cyc_system::CpuOrOmni;
 use cyc_types::{Level, Refusal, Soft};
 use std::test::Fail;
+use test_handlers::Handlers;
 
 #[test]
 fn equal_expirations_of_one_cpu_go_by_the_smaller_id(rt: HostRuntime) -> Result<(), Fail> {

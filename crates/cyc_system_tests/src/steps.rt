@@ -1,6 +1,5 @@
 //! Calls of a system as values, so that a worked row is a table.
 
-use crate::handlers::Handlers;
 use crate::help::id;
 use cyc_core::LevelCore;
 use cyc_soft::{Ran, SoftRefused};
@@ -8,6 +7,7 @@ use cyc_system::{CpuOrOmni, FireRefused, Fired, SoftFault, System, SystemRemoval
 use cyc_types::{CyclicId, JuggleReport, Level, Moment, Receipt, Refusal, Soft, When};
 use std::process::Abort;
 use std::test::Fail;
+use test_handlers::Handlers;
 
 /// A call of a system.
 #[derive(Clone, Copy)]

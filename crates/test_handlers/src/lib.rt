@@ -1,4 +1,5 @@
-//! Handlers that count, note and refuse.
+//! Handlers for tests: they count, note and refuse.
+#![tactic(auto)]
 
 ghost use Rattle.std.specs.Prelude.{◌≡◌, ℕ, ◌+◌, ◌∷◌, [], OnOk, OnErr};
 ghost use Rattle.cyc_types.specs.Counting.{times};
@@ -12,7 +13,7 @@ const NOTED: usize = 8;
 
 /// Handlers of the ids 1 to 256. They count the calls of each, note the first ones, and refuse one call of all.
 #[derive(Drop)]
-pub(crate) struct Handlers {
+pub struct Handlers {
     tally: Tally,
     noted: [Option<(u64, Level)>; NOTED],
     made: usize,
@@ -22,7 +23,7 @@ pub(crate) struct Handlers {
 
 impl Handlers {
     /// The handlers that refuse this call, counted from 1; with 0 they refuse none.
-    pub(crate) fn new(alloc: Global, refused: u32) -> Result<Handlers, AllocError> {
+    pub fn new(alloc: Global, refused: u32) -> Result<Handlers, AllocError> {
         let first = CyclicId::new(1).unwrap();
         Ok(Handlers {
             tally: Tally::new(alloc, first, 256, u64::MAX)?,
@@ -34,12 +35,12 @@ impl Handlers {
     }
 
     /// The id and the level of the call of this number, counted from 0. None where it was not made or is not noted.
-    pub(crate) fn noted(&self, number: usize) -> Option<(u64, Level)> {
+    pub fn noted(&self, number: usize) -> Option<(u64, Level)> {
         *self.noted.get(number)?
     }
 
     /// How often the handler of this id was called.
-    pub(crate) fn count(&self, id: CyclicId) -> Option<u64> {
+    pub fn count(&self, id: CyclicId) -> Option<u64> {
         self.tally.count(id)
     }
 }
