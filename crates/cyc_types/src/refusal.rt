@@ -6,7 +6,8 @@ ghost use Rattle.cyc_types.specs.declared.refusal.Refusal.TheVariants.{Memory};
 
 use crate::id::CyclicId;
 use std::alloc::{AllocError, AllocFailed};
-use thiserror::Error;
+use std::error::Error;
+use std::fmt;
 
 /// What a juggle of one CPU did: the cyclics that moved, and those that stayed, with the reason (`cyclic_juggle`).
 #[derive(Clone, Copy, Debug, PartialEq, Eq)]
@@ -22,76 +23,53 @@ pub struct JuggleReport {
 }
 
 /// Why a call refused. The text is the name alone.
-#[derive(Clone, Copy, Debug, PartialEq, Eq, Error)]
+#[derive(Clone, Copy, Debug, PartialEq, Eq)]
 pub enum Refusal {
     /// A growth of memory was refused.
-    #[error("Memory")]
     Memory,
     /// The start is negative.
-    #[error("BadWhen")]
     BadWhen,
     /// The interval is below 1.
-    #[error("BadInterval")]
     BadInterval,
     /// The moment of a fire is never.
-    #[error("BadNow")]
     BadNow,
     /// The CPU holds as many cyclics as it can.
-    #[error("Full")]
     Full,
     /// A soft level has not yet followed the last switch of banks.
-    #[error("Expanding")]
     Expanding,
     /// The removal of this cyclic is open.
-    #[error("Busy")]
     Busy(CyclicId),
     /// There is no such cyclic here.
-    #[error("NoCyclic")]
     NoCyclic,
     /// Calls of the cyclic are outstanding.
-    #[error("Pending")]
     Pending,
     /// Every id was given.
-    #[error("IdsSpent")]
     IdsSpent,
     /// The cyclic has expired as often as it may.
-    #[error("CountSpent")]
     CountSpent(CyclicId),
     /// The handler of this cyclic refused its call.
-    #[error("HandlerRefused")]
     HandlerRefused(CyclicId),
     /// There is no such CPU.
-    #[error("NoCpu")]
     NoCpu,
     /// The CPU is offline.
-    #[error("Offline")]
     Offline,
     /// The CPU is the last one online.
-    #[error("LastCpu")]
     LastCpu,
     /// The cyclic is omnipresent.
-    #[error("Omnipresent")]
     Omnipresent,
     /// Cyclics stayed on a CPU that was to go offline.
-    #[error("Left")]
     Left(JuggleReport),
     /// The script is no JSON text.
-    #[error("ScriptSyntax")]
     ScriptSyntax,
     /// This step of the script has not the form of a step.
-    #[error("ScriptShape")]
     ScriptShape(u32),
     /// This step of the script goes back in time.
-    #[error("TimeBack")]
     TimeBack(u32),
     /// This step of the script gives a name for the second time.
-    #[error("NameTwice")]
     NameTwice(u32),
     /// This step of the script uses a name that was not given.
-    #[error("NoName")]
     NoName(u32),
     /// The CPU is online.
-    #[error("Online")]
     Online,
 }
 
@@ -126,7 +104,44 @@ impl Refusal {
             Refusal::Online => 24,
         }
     }
+
+    /// The name of the refusal.
+    fn name(&self) -> &'static str {
+        match self {
+            Refusal::Memory => "Memory",
+            Refusal::BadWhen => "BadWhen",
+            Refusal::BadInterval => "BadInterval",
+            Refusal::BadNow => "BadNow",
+            Refusal::Full => "Full",
+            Refusal::Expanding => "Expanding",
+            Refusal::Busy(_) => "Busy",
+            Refusal::NoCyclic => "NoCyclic",
+            Refusal::Pending => "Pending",
+            Refusal::IdsSpent => "IdsSpent",
+            Refusal::CountSpent(_) => "CountSpent",
+            Refusal::HandlerRefused(_) => "HandlerRefused",
+            Refusal::NoCpu => "NoCpu",
+            Refusal::Offline => "Offline",
+            Refusal::LastCpu => "LastCpu",
+            Refusal::Omnipresent => "Omnipresent",
+            Refusal::Left(_) => "Left",
+            Refusal::ScriptSyntax => "ScriptSyntax",
+            Refusal::ScriptShape(_) => "ScriptShape",
+            Refusal::TimeBack(_) => "TimeBack",
+            Refusal::NameTwice(_) => "NameTwice",
+            Refusal::NoName(_) => "NoName",
+            Refusal::Online => "Online",
+        }
+    }
 }
+
+impl fmt::Display for Refusal {
+    fn fmt<W: fmt::Write>(&self, f: &mut fmt::Formatter<W>) -> fmt::Result {
+        f.write_str(self.name())
+    }
+}
+
+impl Error for Refusal {}
 
 impl From<AllocError> for Refusal {
     ghost from_gives = { λ _ refusal. refusal ≡ Memory };
