@@ -1,12 +1,8 @@
-//! What the program `cyclic` does: its words, its faults, and the replay of a script.
-//!
-//! The reading of bytes, the reader of scripts, the lines and the sinks, the replay, and the laws of every run of a script come
-//! from `cyc_input`, `cyc_script`, `cyc_text`, `cyc_replay` and `cyc_model`; their names are given again here.
+//! What the program `cyclic` does, by one name: its words, its faults, the reader of scripts, the replay, the run in threads, and the
+//! laws of every run of a script.
 #![tactic(auto)]
 
-mod fault;
-mod words;
-
+pub use cyc_command::{Command, Fault, command_of, status_of};
 pub use cyc_input::{BoundedReader, InputFault, read_input};
 pub use cyc_model::{
     events_are_enabled, indexes_are_found, moves_lose_nothing, nothing_follows_removal,
@@ -16,5 +12,3 @@ pub use cyc_replay::{RunFault, replay, run_script};
 pub use cyc_script::{Add, Bind, Name, Omni, Reprogram, Script, Softint, Step, read_script};
 pub use cyc_text::{BoundedWriter, Out, PutFailed, Sink};
 pub use cyc_threads::{Ended, run};
-pub use fault::{Fault, status_of};
-pub use words::{Command, command_of};

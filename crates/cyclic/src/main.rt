@@ -5,10 +5,12 @@
 ghost use Rattle.std.specs.Prelude.{◌≡◌, ◌≢◌, ◌*◌, length, IfOk};
 ghost use Rattle.std.specs.IoError.{error_kind};
 
-use cyc_machine::{
-    BoundedReader, BoundedWriter, Command, Fault, Out, RunFault, Script, command_of, read_input,
-    read_script, replay, run, status_of,
-};
+use cyc_command::{Command, Fault, command_of, status_of};
+use cyc_input::{BoundedReader, read_input};
+use cyc_replay::{RunFault, replay};
+use cyc_script::{Script, read_script};
+use cyc_text::{BoundedWriter, Out};
+use cyc_threads::run;
 use cyc_types::{CyclicId, Refusal, Tally};
 use std::alloc::Global;
 use std::env::Env;
@@ -108,17 +110,26 @@ fn input<R: Input + AllocGlobal>(rt: &R) -> Result<Script, Fault> {
     script(rt.alloc(), bytes.as_slice())
 }
 
+/// Runs the script as the command asks, and writes its text to standard output.
+fn answer<R: AllocGlobal + Print + Threads + Wait + Sync>(
+    rt: &R,
+    command: Command,
+    script: &Script,
+) -> Result<(), Fault> {
+    let bounded = BoundedWriter::new(io::writer(rt));
+    let writer = BufWriter::new(rt.alloc(), bounded).map_err(|_| Fault::Memory)?;
+    let mut writer = match command {
+        Command::Replay => replay_into(rt.alloc(), script, writer)?,
+        Command::Run => run_into(rt, rt.alloc(), script, writer)?,
+    };
+    flushed(writer.flush())
+}
+
 /// Finds the faults in the order of the words, the reading, the script and the run.
 fn go<R: Env + AllocGlobal + Input + Print + Threads + Wait + Sync>(rt: &R) -> Result<(), Fault> {
     let command = command(rt)?;
     let script = input(rt)?;
-    let bounded = BoundedWriter::new(io::writer(rt));
-    let writer = BufWriter::new(rt.alloc(), bounded).map_err(|_| Fault::Memory)?;
-    let mut writer = match command {
-        Command::Replay => replay_into(rt.alloc(), &script, writer)?,
-        Command::Run => run_into(rt, rt.alloc(), &script, writer)?,
-    };
-    flushed(writer.flush())
+    answer(rt, command, &script)
 }
 
 fn main(rt: HostRuntime) -> ExitCode {

@@ -15,6 +15,19 @@ pub enum Command {
     Run,
 }
 
+/// The parser of the program's one word, which has no options.
+fn parser<'a>(alloc: Global) -> Result<clap::Command<'a>, Fault> {
+    let word = Arg::new(alloc, "command")
+        .required(true)
+        .action(ArgAction::Set);
+    let command = clap::Command::new(alloc, "cyclic")
+        .no_binary_name(true)
+        .disable_help_flag(true)
+        .disable_version_flag(true)
+        .arg(word)?;
+    Ok(command)
+}
+
 /// The command that the program's words ask for, without the program's own name.
 ///
 /// It is `Fault::Words` for all but the one word `replay` or `run`, which is exact: an option and a `--` before it are wrong
@@ -25,15 +38,7 @@ pub fn command_of(alloc: Global, words: &[&str]) -> Result<Command, Fault>
     if words.len() != 1 {
         return Err(Fault::Words);
     }
-    let word = Arg::new(alloc, "command")
-        .required(true)
-        .action(ArgAction::Set);
-    let command = clap::Command::new(alloc, "cyclic")
-        .no_binary_name(true)
-        .disable_help_flag(true)
-        .disable_version_flag(true)
-        .arg(word)?;
-    let matches = command.try_get_matches_from(words)?;
+    let matches = parser(alloc)?.try_get_matches_from(words)?;
     match matches.get_str("command") {
         Some("replay") => Ok(Command::Replay),
         Some("run") => Ok(Command::Run),

@@ -5,8 +5,8 @@ use Rattle.cyc_input.specs.declared.fault.InputFault.TheVariants as input_fault
 use Rattle.cyc_types.specs.declared.refusal.Refusal.{Refusal}
 use Rattle.cyc_types.specs.declared.refusal.Refusal.TheVariants as refusal
 use Rattle.cyc_types.specs.Refusals.{number_of}
-use Rattle.cyc_machine.specs.declared.fault.Fault.{Fault}
-use Rattle.cyc_machine.specs.declared.fault.Fault.TheVariants.{Words, Memory, Read, Script, Run}
+use Rattle.cyc_command.specs.declared.fault.Fault.{Fault}
+use Rattle.cyc_command.specs.declared.fault.Fault.TheVariants.{Words, Memory, Read, Script, Run}
 
 -- 3 where memory was refused, else 2
 abbrev pub script_status : Refusal → ℕ

@@ -1,12 +1,12 @@
 //! Why the program stopped, and its exit status.
 
 ghost use Rattle.std.specs.Prelude.{◌≡◌};
-ghost use Rattle.cyc_machine.specs.Status.{status, reading_fault};
-ghost use Rattle.cyc_machine.specs.declared.fault.Fault.TheVariants as fault;
+ghost use Rattle.cyc_command.specs.Status.{status, reading_fault};
+ghost use Rattle.cyc_command.specs.declared.fault.Fault.TheVariants as fault;
 
 use clap::error::ErrorKind;
 use cyc_input::InputFault;
-use cyc_replay::RunFault;
+use cyc_script_machine::RunFault;
 use cyc_types::Refusal;
 use std::alloc::AllocError;
 use std::error::Error;
@@ -27,25 +27,34 @@ pub enum Fault {
     Run(RunFault),
 }
 
+/// The step of a script that the refusal names.
+fn step_of(why: Refusal) -> Option<u32> {
+    match why {
+        Refusal::ScriptShape(step) => Some(step),
+        Refusal::TimeBack(step) => Some(step),
+        Refusal::NameTwice(step) => Some(step),
+        Refusal::NoName(step) => Some(step),
+        _ => None,
+    }
+}
+
+/// Writes that the script was refused.
+fn write_refused<W: fmt::Write>(why: Refusal, f: &mut fmt::Formatter<W>) -> fmt::Result {
+    let number = why.number();
+    match step_of(why) {
+        Some(step) => write!(f, "script refused {number} step {step}"),
+        None => write!(f, "script refused {number}"),
+    }
+}
+
 impl fmt::Display for Fault {
     fn fmt<W: fmt::Write>(&self, f: &mut fmt::Formatter<W>) -> fmt::Result {
         match self {
-            Fault::Words => write!(f, "usage: cyclic replay|run"),
-            Fault::Memory | Fault::Script(Refusal::Memory) => write!(f, "fault 1"),
-            Fault::Read => write!(f, "fault read"),
-            Fault::Script(
-                why @ (Refusal::ScriptShape(step)
-                | Refusal::TimeBack(step)
-                | Refusal::NameTwice(step)
-                | Refusal::NoName(step)),
-            ) => {
-                let number = why.number();
-                write!(f, "script refused {number} step {step}")
-            }
-            Fault::Script(why) => {
-                let number = why.number();
-                write!(f, "script refused {number}")
-            }
+            Fault::Words => f.write_str("usage: cyclic replay|run"),
+            Fault::Memory => f.write_str("fault 1"),
+            Fault::Read => f.write_str("fault read"),
+            Fault::Script(Refusal::Memory) => f.write_str("fault 1"),
+            Fault::Script(why) => write_refused(*why, f),
             Fault::Run(run_fault) => write!(f, "{run_fault}"),
         }
     }
