@@ -16,7 +16,7 @@ use Rattle.cyc_script.specs.declared.step.Step.{Step}
 use Rattle.cyc_script.specs.declared.step.Step.TheVariants.{Advance, Juggle, Offline, Online}
 use Rattle.cyc_script.specs.Names.{number_of}
 use Rattle.cyc_script.specs.Parameters.{shaped, at_most, whole_in, name_of, level_in_value, soft_of, whole_of, skew_of}
-use Rattle.cyc_script.specs.Parameters.{unsigned_of}
+use Rattle.cyc_script.specs.Parameters.{unsigned_of, moment_of}
 use Rattle.cyc_script.specs.Steps.{Fits, Reads, accepted}
 use Rattle.cyc_script.specs.WellFormed.{name_fits, names_after, moment_fits, moment_after}
 use Rattle.cyc_script.specs.Words.{Form, introduces, refers, advances, nameless, ◌>>=◌, add_of, omni_of, bind_of, unbind_of}
@@ -125,7 +125,7 @@ advance_at (Some (pos n)) = below_never n (nat_le n (never - 1)) refl
 advance_at (Some (negsuc n)) = tt
 
 moments : (parts : List Data) → AreSound (advance_of parts)
-unfolding advance_of
+unfolding advance_of moment_of
 moments (moment ∷ []) = advance_at (whole_in moment)
 moments _ = tt
 

@@ -77,6 +77,7 @@ named_in (Some text) f all = by_test (is_name text) refl where
 
 named : (name : Data) (f : List ℕ → Result Form Cause) → ((x : List ℕ) → is_name x ≡ true → AreNamed (f x))
     → AreNamed (name_of name >>= f)
+unfolding name_of
 named name f all = named_in (as_str name) f all
 
 -- ---- words

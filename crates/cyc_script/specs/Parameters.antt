@@ -34,19 +34,19 @@ abbrev pub number_in : ℕ → Data → Option ℕ
 number_in most d = option_and_then (at_most most) (whole_in d)
 
 -- any whole number: a start, an interval, a moment of `reprogram`
-abbrev pub whole_of : Data → Result ℤ Cause
+unfoldable pub whole_of : Data → Result ℤ Cause
 whole_of d = shaped (whole_in d)
 
 -- a moment of `advance`: below never
-abbrev pub moment_of : Data → Result ℕ Cause
+unfoldable pub moment_of : Data → Result ℕ Cause
 moment_of d = shaped (number_in (never - 1) d)
 
 -- the skew of `omni`
-abbrev pub skew_of : Data → Result ℕ Cause
+unfoldable pub skew_of : Data → Result ℕ Cause
 skew_of d = shaped (number_in never d)
 
 -- the number of a CPU, or a budget: a number of 32 bits
-abbrev pub unsigned_of : Data → Result ℕ Cause
+unfoldable pub unsigned_of : Data → Result ℕ Cause
 unsigned_of d = shaped (number_in 4294967295 d)
 
 -- ---- names
@@ -65,7 +65,7 @@ abbrev pub name_in : List ℕ → Option (List ℕ)
 name_in text = if is_name text then Some text else None
 
 -- the text of a name
-abbrev pub name_of : Data → Result (List ℕ) Cause
+unfoldable pub name_of : Data → Result (List ℕ) Cause
 name_of d = shaped (option_and_then name_in (as_str d))
 
 -- ---- levels
@@ -76,7 +76,7 @@ level_in word = if bytes_eq word (codes "low") then Some level.Low else if bytes
     else if bytes_eq word (codes "high") then Some level.High else None
 
 -- the level of a cyclic
-abbrev pub level_in_value : Data → Result Level Cause
+unfoldable pub level_in_value : Data → Result Level Cause
 level_in_value d = shaped (option_and_then level_in (as_str d))
 
 -- the soft level of a word
@@ -85,5 +85,5 @@ soft_in word = if bytes_eq word (codes "low") then Some soft.Low else if bytes_e
     else None
 
 -- the level of a soft interrupt
-abbrev pub soft_of : Data → Result Soft Cause
+unfoldable pub soft_of : Data → Result Soft Cause
 soft_of d = shaped (option_and_then soft_in (as_str d))

@@ -26,6 +26,7 @@ pub(crate) fn number(value: &Value, most: u64) -> Option<u64>
 }
 
 /// Any whole number.
+#[tactic(auto, unfolding(crate::specs::Parameters::whole_of))]
 pub(crate) fn whole(value: &Value) -> Result<i64, Cause>
     ensures { result ≡ whole_of (view value.now) }
 {
@@ -33,6 +34,7 @@ pub(crate) fn whole(value: &Value) -> Result<i64, Cause>
 }
 
 /// A moment below never, in nanoseconds.
+#[tactic(auto, unfolding(crate::specs::Parameters::moment_of))]
 pub(crate) fn moment(value: &Value) -> Result<u64, Cause>
     ensures { result ≡ moment_of (view value.now) }
 {
@@ -40,6 +42,7 @@ pub(crate) fn moment(value: &Value) -> Result<u64, Cause>
 }
 
 /// A skew, at most never.
+#[tactic(auto, unfolding(crate::specs::Parameters::skew_of))]
 pub(crate) fn skew(value: &Value) -> Result<Moment, Cause>
     ensures { result ≡ skew_of (view value.now) }
 {
@@ -50,6 +53,7 @@ pub(crate) fn skew(value: &Value) -> Result<Moment, Cause>
 }
 
 /// The number of a CPU, or a budget.
+#[tactic(auto, unfolding(crate::specs::Parameters::unsigned_of))]
 pub(crate) fn unsigned(value: &Value) -> Result<u32, Cause>
     ensures { result ≡ unsigned_of (view value.now) }
 {
@@ -83,6 +87,7 @@ fn is_name(text: &str) -> bool
 }
 
 /// The text of a name.
+#[tactic(auto, unfolding(crate::specs::Parameters::name_of))]
 pub(crate) fn name(value: &Value) -> Result<&str, Cause>
     ensures { Gives (λ text. text.now) result (name_of (view value.now)) }
 {
@@ -96,6 +101,7 @@ pub(crate) fn name(value: &Value) -> Result<&str, Cause>
 }
 
 /// The level of a cyclic.
+#[tactic(auto, unfolding(crate::specs::Parameters::level_in_value))]
 pub(crate) fn level(value: &Value) -> Result<Level, Cause>
     ensures { result ≡ level_in_value (view value.now) }
 {
@@ -115,6 +121,7 @@ pub(crate) fn level(value: &Value) -> Result<Level, Cause>
 }
 
 /// The level of a soft interrupt.
+#[tactic(auto, unfolding(crate::specs::Parameters::soft_of))]
 pub(crate) fn soft(value: &Value) -> Result<Soft, Cause>
     ensures { result ≡ soft_of (view value.now) }
 {

@@ -5,13 +5,14 @@ use Rattle.serde_json.specs.Data.{Data, string, number, unsigned, negative}
 use Rattle.cyc_types.specs.declared.level.Level.TheVariants as level
 use Rattle.cyc_types.specs.declared.level.Soft.TheVariants as soft
 use Rattle.cyc_script.specs.declared.step.Step.TheVariants.{Add, Omni, Bind, Unbind, Reprogram, Remove, Softint, Juggle, Offline}
-use Rattle.cyc_script.specs.Parameters.{is_name_byte}
+use Rattle.cyc_script.specs.Parameters.{is_name_byte, whole_of, moment_of, skew_of, unsigned_of, name_of, level_in_value, soft_of}
 use Rattle.cyc_script.specs.Words.{introduces, refers, advances, nameless, form_of, add_of, omni_of, bind_of, unbind_of}
 use Rattle.cyc_script.specs.Words.{reprogram_of, remove_of, advance_of, softint_of, only_cpu}
 
 -- what unfolds to compute a form
 unfoldable on_words : ⊤
 unfolding form_of add_of omni_of bind_of unbind_of reprogram_of remove_of advance_of softint_of only_cpu is_name_byte
+    whole_of moment_of skew_of unsigned_of name_of level_in_value soft_of
 on_words = tt
 
 abbrev a : Data

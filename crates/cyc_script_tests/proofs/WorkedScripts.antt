@@ -8,7 +8,7 @@ use Rattle.cyc_types.specs.declared.level.Level.TheVariants as level
 use Rattle.cyc_types.specs.declared.level.Soft.TheVariants as soft
 use Rattle.cyc_types.specs.declared.refusal.Refusal.TheVariants.{ScriptSyntax, ScriptShape, TimeBack, NameTwice}
 use Rattle.cyc_script.specs.declared.step.Step.TheVariants.{Add, Advance, Softint}
-use Rattle.cyc_script.specs.Parameters.{is_name_byte}
+use Rattle.cyc_script.specs.Parameters.{is_name_byte, whole_of, moment_of, unsigned_of, name_of, level_in_value, soft_of}
 use Rattle.cyc_script.specs.Script.{script_of, json_of, content_of, has_keys, is_key, cpus_of, ceiling_of, values_of}
 use Rattle.cyc_script.specs.Steps.{step_of, steps_of}
 use Rattle.cyc_script.specs.Words.{form_of_value, form_of_items, form_of, add_of, advance_of, softint_of}
@@ -16,7 +16,8 @@ use Rattle.cyc_script.specs.Words.{form_of_value, form_of_items, form_of, add_of
 -- what unfolds to compute a script
 unfoldable on_literals : ⊤
 unfolding serde_json_on_literals utf8_valid_len is_utf8 chars script_of json_of content_of has_keys is_key cpus_of ceiling_of
-    values_of steps_of step_of form_of_value form_of_items form_of add_of advance_of softint_of is_name_byte
+    values_of steps_of step_of form_of_value form_of_items form_of add_of advance_of softint_of is_name_byte whole_of moment_of
+    unsigned_of name_of level_in_value soft_of
 on_literals = tt
 
 first_script : script_of (codes "{\"cpus\":1,\"steps\":[[\"add\",\"a\",\"low\",5,10],[\"advance\",5],[\"softint\",0,\"low\",8]]}")
