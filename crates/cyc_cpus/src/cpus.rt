@@ -45,8 +45,7 @@ fn new_hards<R: Raise + Drop>(
 {
     let mut hards = Vec::with_capacity(alloc, ends.len())?;
     for (lock, low) in ends {
-        let hard = Hard::new(alloc, most, lock, low)?;
-        hards.push(hard)?;
+        hards.push_reserved(Hard::new(alloc, most, lock, low)?);
     }
     Ok(hards)
 }
