@@ -9,4 +9,5 @@ pub mod Following
 pub mod Off
 pub mod Lawful
 pub mod Calling
+pub mod Sizes
 pub use Rattle.cyc_fire.proofs.Sharing
