@@ -1,5 +1,6 @@
 pub mod Following
 pub mod Seats
+pub mod First
 pub mod Workers
 pub mod Playing
 pub mod Texts

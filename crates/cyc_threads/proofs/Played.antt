@@ -10,7 +10,7 @@ use Rattle.cyc_ring.specs.declared.ends.DrainEnd.{DrainEnd}
 use Rattle.cyc_ring.specs.Ends.{raise_end, end_view, drain_end}
 use Rattle.cyc_cpu.specs.Cpu.{IsFresh}
 use Rattle.cyc_workers.specs.declared.settling.Lead.{Lead}
-use Rattle.cyc_script_machine.specs.Cpus.{CpusView, new_cpu, new_cpus}
+use Rattle.cyc_script_machine.specs.Cpus.{CpusView, new_cpus}
 use Rattle.cyc_script.specs.declared.script.Script.{Script}
 use Rattle.cyc_seats.specs.Seats.{HaveSameSeats}
 use Rattle.cyc_seats.proofs.Keeping.{then_all, same_long}
@@ -31,6 +31,7 @@ use Rattle.cyc_threads.specs.declared.working.Worked.{Worked}
 use Rattle.cyc_threads.specs.Working.{HaveMade, HasWorked, WhyRefused}
 use Rattle.cyc_threads.specs.Running.{IsAtFirst, IsAtLast, HasPlayed, most}
 use Rattle.cyc_threads.specs.Refusing.{WhyNotPlayed}
+use Rattle.cyc_threads.proofs.First.{many_cpus}
 use Rattle.cyc_threads.proofs.Seats.{IsWell, Keeps, runs_keep, reports_keep}
 use Rattle.cyc_threads.proofs.Playing.{each_same, same_firing, same_high, fresh_all, served_all, seated_all}
 
@@ -40,10 +41,6 @@ pub many_ends : {C : Type 0} (all : List (Seated C)) (att : List (Attached C)) (
     ends ≡ map (λ a. a.ends) att → length ends ≡ length all
 many_ends all att ends e is = ap (λ (x : List (RaiseEnd × RaiseEnd)). length x) is ∙ length-map att (λ a. a.ends)
     ∙ each_long IsAttached all att e
-
-pub many_cpus : (ends : List (RaiseEnd × RaiseEnd)) (v : CpusView RaiseEnd) → v ≡ new_cpus most ends → length v.cpus ≡ length ends
-many_cpus ends v is = ap (λ (x : CpusView RaiseEnd). length x.cpus) is
-    ∙ length-map ends (λ (e : RaiseEnd × RaiseEnd). new_cpu most e.0 e.1)
 
 pub some_cpus : (n m k : ℕ) → n ≡ m → m ≡ k → 1 ≤ k → 0 < n
 some_cpus n m k e f low = omega (arith, e, f, low)

@@ -5,17 +5,18 @@ use Rattle.std.proofs.lemmas.List.{length-map}
 use Rattle.cyc_types.specs.declared.Calls.{Ghosts as Calls}
 use Rattle.cyc_types.specs.declared.refusal.Refusal.{Refusal}
 use Rattle.cyc_ring.specs.declared.closed.Closed.{Closed}
+use Rattle.cyc_ring.specs.declared.ring.Ring.{Ring}
 use Rattle.cyc_script.specs.declared.script.Script.{Script}
 use Rattle.cyc_workers.specs.declared.cpu.Handlers.{Handlers}
 use Rattle.cyc_workers.specs.declared.cpu.Seats.{Seats}
 use Rattle.cyc_thread_rings.specs.declared.levels.Levels.{Levels}
 use Rattle.cyc_thread_rings.specs.declared.levels.Seated.{Seated}
 use Rattle.cyc_thread_rings.specs.Laid.{EachTwo, three, two}
-use Rattle.cyc_thread_rings.specs.Rings.{AreNew, AreClosed}
+use Rattle.cyc_thread_rings.specs.Rings.{AreNew, AreClosed, AreSeated}
 use Rattle.cyc_thread_steps.specs.declared.reporting.Line.{Line}
 use Rattle.cyc_threads.specs.declared.running.Ended.{Ended}
 use Rattle.cyc_threads.specs.Reporting.{report_text}
-use Rattle.cyc_threads.specs.Running.{calls_of, HasPlayed, HasRun}
+use Rattle.cyc_threads.specs.Running.{calls_of, AreAllClosed, HasPlayed, HasRun}
 use Rattle.cyc_threads.specs.Refusing.{WhyNotPlayed, WhyNotRun}
 
 pub many_all : {C : Type 0} (n : ℕ) (before : List (Seated C)) (seats : List (Levels Seats)) → map (λ s. s.seats) before ≡ seats
@@ -33,36 +34,37 @@ pub new_all : {C : Type 0} (k : ℕ) (before : List (Seated C)) (seats : List (L
     All (AreNew k) (map (λ s. s.seats) before)
 new_all k before seats e new = subst (λ (x : List (Levels Seats)). All (AreNew k) x) (sym e) new
 
-module _ {C : Type 0} (handler : Calls C) (script : Script) (calls : List C)
-    (before : List (Seated C)) (handlers : List (Handlers C)) (seats : List (Levels Seats))
-    (own : map (λ s. s.calls) before ≡ handlers)
-    (laid : flat_map three handlers ≡ calls) (at : map (λ s. s.seats) before ≡ seats)
-    (new : All (AreNew script.ceiling) seats) where
-  pub not_ran : (e : Refusal) → WhyNotPlayed handler script before e → WhyNotRun handler script calls e
-  not_ran e w = inr (before, given_all before handlers calls own laid, new_all script.ceiling before seats at new, w)
+pub seated_new : {C : Type 0} (rings : List (Levels Ring)) (before : List (Seated C)) (seats : List (Levels Seats))
+    → map (λ s. s.seats) before ≡ seats → EachTwo AreSeated rings seats → EachTwo AreSeated rings (map (λ s. s.seats) before)
+seated_new rings before seats e s = subst (λ (x : List (Levels Seats)). EachTwo AreSeated rings x) (sym e) s
 
-  pub ran : (after : List (Seated C)) (lines : List Line) (text : List ℕ) (e : Ended C) (back : List (Handlers C))
-      (last : List (Levels Seats))
-      (closed : List (Levels Closed)) → length before ≡ script.cpus → HasPlayed handler script before after lines
-      →
-      text ≡ report_text (map string_bytes script.names.items) lines → back ≡ map (λ s. s.calls) after
-      → e.calls.items ≡ flat_map three back →
-      last ≡ map (λ s. s.seats) after → EachTwo AreClosed last closed → e.rings.items ≡ flat_map two closed →
-      HasRun handler script calls e text
-  ran after lines text e back last closed many played is same list left shut rings = record {
+-- the rings were closed with the seats of all CPUs
+pub closed_all : {C : Type 0} (all : List (Seated C)) (last : List (Levels Seats)) (closed : List (Levels Closed))
+    (rings : List Closed) → last ≡ map (λ s. s.seats) all → EachTwo AreClosed last closed → rings ≡ flat_map two closed →
+    AreAllClosed all rings
+closed_all all last closed rings left shut laid = record {
+  by_cpu = closed;
+  laid = laid;
+  closed = subst (λ (x : List (Levels Seats)). EachTwo AreClosed x closed) left shut;
+}
+
+module _ {C : Type 0} (handler : Calls C) (script : Script) (calls : List C) (before : List (Seated C))
+    (given : calls_of before ≡ calls) (new : All (AreNew script.ceiling) (map (λ s. s.seats) before)) where
+  pub not_ran : (e : Refusal) → WhyNotPlayed handler script before e → WhyNotRun handler script calls e
+  not_ran e w = inr (before, given, new, w)
+
+  pub ran : (after : List (Seated C)) (lines : List Line) (text : List ℕ) (e : Ended C) → length before ≡ script.cpus
+      → HasPlayed handler script before after lines → text ≡ report_text (map string_bytes script.names.items) lines
+      → e.calls.items ≡ calls_of after → AreAllClosed after e.rings.items → HasRun handler script calls e text
+  ran after lines text e many played is back closed = record {
     before = before;
     after = after;
     many = many;
-    given = given_all before handlers calls own laid;
-    back = list ∙ ap (λ (x : List (Handlers C)). flat_map three x) same;
-    new = new_all script.ceiling before seats at new;
+    given = given;
+    back = back;
+    new = new;
     lines = lines;
     played = played;
     text_is = is;
-    closed = record {
-      by_cpu = closed;
-      laid = rings;
-      closed =
-          subst (λ (x : List (Levels Seats)). EachTwo AreClosed x closed) left shut;
-    };
+    closed = closed;
   }

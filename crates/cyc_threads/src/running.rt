@@ -12,7 +12,7 @@ ghost use Rattle.cyc_thread_steps.specs.declared.progress.Progress.{Progress as 
 ghost use Rattle.cyc_thread_steps.specs.Sound.{IsSound};
 ghost use Rattle.cyc_thread_steps.specs.Calls.{IsReady};
 ghost use Rattle.cyc_thread_steps.specs.Reporting.{Reports};
-ghost use Rattle.cyc_threads.specs.Running.{IsAtLast, HasRun, HasPlayed};
+ghost use Rattle.cyc_threads.specs.Running.{calls_of, IsAtLast, AreAllClosed, HasRun, HasPlayed};
 ghost use Rattle.cyc_threads.specs.Refusing.{WhyNotPlayed, WhyNotRun, StopsBy};
 
 use crate::leading::lead;
@@ -28,7 +28,7 @@ use cyc_thread_rings::{
 };
 use cyc_thread_steps::{Line, Progress, SystemSide, report};
 use cyc_types::{Calls, Refusal};
-use std::alloc::Global;
+use std::alloc::{AllocError, Global};
 use std::sync::Wait;
 use std::thread::Threads;
 
@@ -102,6 +102,43 @@ fn play<W: Threads + Wait + Sync, C: Calls + Send + Drop>(
     leave_rings(alloc, worked)
 }
 
+/// The handlers on the seats of new rings, CPU after CPU, beside the rings. Its memory may be refused.
+fn seat_new<C: Drop>(
+    alloc: Global,
+    script: &Script,
+    calls: Vec<C>,
+) -> Result<(Vec<Levels<Ring>>, Vec<Seated<C>>), Refusal>
+    requires { length calls.items ≡ 3 * script.now.cpus }
+    ensures many { IfOk result (λ r. length r.1.items ≡ script.now.cpus) }
+    ensures given { IfOk result (λ r. calls_of r.1.items ≡ calls.items) }
+    ensures new { IfOk result (λ r. All (AreNew script.now.ceiling) (map (λ s. s.seats) r.1.items)) }
+    ensures seated { IfOk result (λ r. EachTwo AreSeated r.0.items (map (λ s. s.seats) r.1.items)) }
+    ensures refused { IfErr result (λ e. e ≡ Memory) }
+{
+    let cpus = script.cpus as usize;
+    let handlers = by_cpu(alloc, cpus, calls)?;
+    let Opened { rings, seats } = open_rings(alloc, cpus, script.ceiling, 0)?;
+    let all = seat_all(alloc, seats, handlers)?;
+    Ok((rings, all))
+}
+
+/// What a run ends with: the handlers that these CPUs had, and their rings, which it closes. Its memory may be refused.
+fn close_all<C: Drop>(
+    alloc: Global,
+    rings: Vec<Levels<Ring>>,
+    all: Vec<Seated<C>>,
+) -> Result<Ended<C>, AllocError>
+    requires { EachTwo AreSeated rings.items (map (λ s. s.seats) all.items) }
+    ensures calls { IfOk result (λ e. e.calls.items ≡ calls_of all.items) }
+    ensures rings { IfOk result (λ e. AreAllClosed all.items e.rings.items) }
+{
+    let (seats, handlers) = unseat_all(alloc, all)?;
+    let closed = close_rings(alloc, rings, seats)?;
+    let calls = in_one(alloc, handlers)?;
+    let rings = in_pairs(alloc, closed)?;
+    Ok(Ended { calls, rings })
+}
+
 /// A run without its writing: what it ends with, and its text.
 fn run_script<W: Threads + Wait + Sync, C: Calls + Send + Drop>(
     rt: &W,
@@ -113,18 +150,10 @@ fn run_script<W: Threads + Wait + Sync, C: Calls + Send + Drop>(
     ensures ran { IfOk result (λ r. HasRun C.Calls script.now calls.items r.0 (string_bytes r.1)) }
     ensures refused { IfErr result (λ e. WhyNotRun C.Calls script.now calls.items e) }
 {
-    let cpus = script.cpus as usize;
-    let handlers = by_cpu(alloc, cpus, calls)?;
-    let Opened { rings, seats } = open_rings(alloc, cpus, script.ceiling, 0)?;
-    let all = seat_all(alloc, seats, handlers)?;
+    let (rings, all) = seat_new(alloc, script, calls)?;
     let Played { all, lines } = play(rt, alloc, script, rings.as_slice(), all)?;
     let text = report_text(alloc, script.names.as_slice(), lines.as_slice())?;
-    let (seats, handlers) = unseat_all(alloc, all)?;
-    let closed = close_rings(alloc, rings, seats)?;
-    let ended = Ended {
-        calls: in_one(alloc, handlers)?,
-        rings: in_pairs(alloc, closed)?,
-    };
+    let ended = close_all(alloc, rings, all)?;
     Ok((ended, text))
 }
 
