@@ -1,8 +1,8 @@
 -- Two lists beside each other.
 use Rattle.std.proofs.Common.{◌≡◌, ℕ, zero, suc, ◌+◌, ◌≤◌, List, [], ◌∷◌, ◌++◌, length, Some, refl, sym, ap, ◌∙◌, subst}
-use Rattle.std.proofs.Common.{arith, append_assoc, append-nil, map}
+use Rattle.std.proofs.Common.{◌<◌, arith, append_assoc, append-nil, map, take, get_or}
 use Rattle.std.specs.List.{slice_get}
-use Rattle.std.proofs.lemmas.List.{length-append, map-append}
+use Rattle.std.proofs.lemmas.List.{length-append, map-append, take_more}
 use Rattle.std.proofs.lemmas.Option.{slice_get_within, same_Some}
 use Rattle.cyc_agreement.proofs.Spots.{get_some}
 use Rattle.cyc_types.specs.declared.Calls.{Ghosts as Calls}
@@ -61,6 +61,38 @@ pub same_more : {A Y : Type 0} (q : A → Y) (ws ws' : List Y) (xs : List A) (w 
     → w ≡ q x → ws' ≡ map q (xs ++ x ∷ [])
 same_more q ws ws' xs w x e f k = e ∙ ap (λ (zs : List _). zs ++ w ∷ []) f ∙ ap (λ z. map q xs ++ z ∷ []) k
     ∙ sym (map-append q xs (x ∷ []))
+
+-- what the elements have, with one more of them
+pub map_pushed : {A Y : Type 0} (q : A → Y) (xs xs' : List A) (x : A) (ys : List Y) → xs' ≡ xs ++ x ∷ [] → map q xs ≡ ys
+    → map q xs' ≡ ys ++ q x ∷ []
+map_pushed q xs xs' x ys e f = ap (λ (zs : List _). map q zs) e ∙ map-append q xs (x ∷ [])
+    ∙ ap (λ (zs : List _). zs ++ q x ∷ []) f
+
+-- the first elements of a list, with one more of them
+pub take_pushed : {A : Type 0} (xs : List A) (n m k : ℕ) (d : A) → m ≡ n + 1 → k ≡ n → n < length xs
+    → take n xs ++ get_or xs k d ∷ [] ≡ take m xs
+take_pushed xs n m k d e f h = ap (λ j. take n xs ++ get_or xs j d ∷ []) f ∙ sym (take_more xs n d h)
+    ∙ ap (λ j. take j xs) (sym e)
+
+pub take_none : {A Y : Type 0} (q : A → Y) (xs : List A) (ys : List Y) (n : ℕ) → xs ≡ [] → n ≡ 0 → map q xs ≡ take n ys
+take_none q xs ys n e f = ap (λ (zs : List _). map q zs) e ∙ sym (ap (λ j. take j ys) f)
+
+-- of the places, one more is taken and one fewer is left
+pub place_taken : (n n' left left' all : ℕ) → n' ≡ n + 1 → left' + 1 ≡ left → n + left ≡ all → n' + left' ≡ all
+place_taken n n' left left' all e f g = omega (arith, e, f, g)
+
+pub place_left : (n left left' all : ℕ) → left' + 1 ≡ left → n + left ≡ all → n < all
+place_left n left left' all f g = omega (arith, f, g)
+
+pub places_free : {A : Type 0} (n left all : ℕ) (rest xs : List A) → n ≡ 0 → left ≡ length rest → rest ≡ xs → all ≡ length xs
+    → n + left ≡ all
+places_free n left all rest xs e f g h = let k = ap (λ (zs : List _). length zs) g in omega (arith, e, f, h, k)
+
+pub places_full : (n left all : ℕ) → left ≡ 0 → n + left ≡ all → all ≤ n
+places_full n left all e f = omega (arith, e, f)
+
+pub both_full : (n left left' all : ℕ) → left ≡ 0 → n + left ≡ all → n + left' ≡ all → left' ≡ 0
+both_full n left left' all e f g = omega (arith, e, f, g)
 
 -- one after the other
 pub beside_then : {A B C : Type 0} (P : A → B → Type 0) (Q : B → C → Type 0) (S : A → C → Type 0)

@@ -43,11 +43,11 @@ pub(crate) fn gather<R: Raise + Drop, C: Drop>(
             unreachable!()
         };
         let up = online[lanes.len()];
-        lanes.push(Lane {
+        lanes.push_reserved(Lane {
             hard,
             lead,
             online: up,
-        })?;
+        });
     }
     Ok(lanes)
 }
