@@ -95,8 +95,3 @@ module _ {C R : Type 0} (firing : Raise R) where
 
   pub begun_quiet : (k : ℕ) (lines : List Line) (s t : Progress R C) → Begun firing k lines s t → Rests s → All IsQuiet lines
   begun_quiet k lines s t b rests = subst (λ (ls : List Line). All IsQuiet ls) b.lines_are (lines_quiet b.all s t b.tells rests).1
-
-  -- and after one line more
-  pub line_settled : (k : ℕ) (lines : List Line) (line : Line) (s t u : Progress R C) → Begun firing k lines s t
-      → TellsOf firing (named_at t.names k) line t u → Rests s → Rests u
-  line_settled k lines line s t u b d rests = (line_quiet (named_at t.names k) line t u d (begun_settled k lines s t b rests)).0

@@ -27,6 +27,10 @@ leaves_by : (names : List Named) (k name : ℕ) → length names ≤ k → ((j :
 leaves_by names k name far each (inl low) = each name low
 leaves_by names k name far each (inr high) = ap is_leaving (get_or_past names name Nothing (omega (arith, far, high)))
 
+-- there is room for one element more
+pub room_left : (long place all room : ℕ) → long ≡ place → place < all → all ≤ room → long < room
+room_left long place all room e f g = omega (arith, e, f, g)
+
 -- no name leaves where none does up to the last one
 pub none_leaves : (names : List Named) (k : ℕ) → length names ≤ k
     → ((name : ℕ) → name < k → is_leaving (named_at names name) ≡ false)

@@ -77,7 +77,6 @@ fn line_of<R: Raise, C>(progress: &mut Progress<R, C>, name: usize) -> Line
 /// The line of each name, in order: the totals of a cyclic that is here, what the receipt of its removal has, and zeros for a
 /// name whose add was refused. Where every CPU has settled nothing is pending, and they have settled after it. Its memory may be
 /// refused.
-#[tactic(auto, using(crate::proofs::Telling::none_told, crate::proofs::Telling::one_told, crate::proofs::Telling::all_told))]
 pub fn report<R: Raise, C>(
     alloc: Global,
     progress: &mut Progress<R, C>,
@@ -90,7 +89,7 @@ pub fn report<R: Raise, C>(
 {
     let mut lines = Vec::with_capacity(alloc, progress.names.len())?;
     for name in 0..progress.names.len() {
-        lines.push(line_of(progress, name))?;
+        lines.push_reserved(line_of(progress, name));
     }
     Ok(lines)
 }

@@ -1,5 +1,11 @@
+use Rattle.std.proofs.Common.{◌≡◌, ◌≤◌, length}
+use Rattle.std.specs.Prelude.{vec_len, vec_capacity}
 use Rattle.cyc_thread_steps.proofs.Telling.{Begun}
 use Rattle.cyc_thread_steps.proofs.reporting.report.Given as goal
 
 abbrev pub invariant-loop-name : goal.invariant-loop-name
-invariant-loop-name g l = Begun g.R.Raise l.name l.lines.items l.fn.progress l.progress
+invariant-loop-name g l = record {
+  told : Begun g.R.Raise l.name l.lines.items l.fn.progress l.progress;
+  long : vec_len l.lines ≡ l.name;
+  room : length l.fn.progress.names ≤ vec_capacity l.lines;
+}
