@@ -95,7 +95,8 @@ drained l m (Takes answer) h = looked l m l.old_list l.new_list (eqb l.hard_bank
 drained l m (Finishes id answer) h = finished l m h.1
 
 -- the calls of a soft interrupt, one by one
-pub serving_keeps : (a b : Tables) (way : List DrainCall) → DrainGoes drain_tables a way b → KeepsStays (firing_at a) (firing_at b)
+pub serving_keeps : (a b : Tables) (way : List DrainCall) → DrainGoes drain_tables a way b
+    → KeepsStays (firing_at a) (firing_at b)
 serving_keeps a b [] h = at_end (level_of a) (level_of b) (ap level_of h)
 serving_keeps a b (call ∷ way) (m, first, rest) =
     keeps_on _ _ _ (drained (level_of a) (level_of m) call first) (serving_keeps m b way rest)

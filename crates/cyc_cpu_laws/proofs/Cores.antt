@@ -211,7 +211,8 @@ module _ {C : Type 0} (handler : Calls C) where
 
   -- a level whose soft interrupt made these calls
   served_level : (own : Level) (a b : Tables) (n : ℕ) (calls calls' : C) (ran : List Served) (rest : List DrainCall) →
-      Serves drain_tables (handler_at handler own) (soft_side a calls) ran rest (soft_side b calls') → finishes_of rest ≡ [] → length ran ≡ n →
+      Serves drain_tables (handler_at handler own) (soft_side a calls) ran rest (soft_side b calls')
+      → finishes_of rest ≡ [] → length ran ≡ n →
       CorePasses (λ id. 0) (λ id. 0) (λ id. times id (ids ran)) n a b
   served_level own a b n calls calls' ran rest serves none long =
       let made = way_finishes (held_at a) ran rest ∙ ap (λ xs. ids ran ++ xs) none ∙ no_more (ids ran) in

@@ -62,13 +62,14 @@ drained : (l m : SoftLevel) (call : DrainCall) → Drains l call m → IsQuiet (
 drained l m (Takes answer) h q = looked l m l.old_list l.new_list (eqb l.hard_bank l.soft_bank) h.0 q
 drained l m (Finishes id answer) h q = finished l m h.1 q
 
-drain_quiet : (a b : Tables) (way : List DrainCall) → DrainGoes drain_tables a way b → IsQuiet (firing_at a) → IsQuiet (firing_at b)
+drain_quiet : (a b : Tables) (way : List DrainCall) → DrainGoes drain_tables a way b
+    → IsQuiet (firing_at a) → IsQuiet (firing_at b)
 drain_quiet a b [] g q = subst (λ (x : Tables). IsQuiet (firing_at x)) g q
 drain_quiet a b (call ∷ way) (m, first, rest) q = drain_quiet m b way rest (drained (level_of a) (level_of m) call first q)
 
 module _ {C : Type 0} (handler : Calls C) where
-  served : (soft : Soft) (v w : CpuView Tables) (way : List DrainCall) → DrainGoes drain_tables (end_at soft v) way (end_at soft w) →
-      SoftKept soft v w → IsSettled firing_at v → IsSettled firing_at w
+  served : (soft : Soft) (v w : CpuView Tables) (way : List DrainCall) → DrainGoes drain_tables (end_at soft v) way (end_at soft w)
+      → SoftKept soft v w → IsSettled firing_at v → IsSettled firing_at w
   served Low v w way g k s = settled_of raise_tables w (subst (λ (x : Tables). IsQuiet (firing_at x)) (sym k.beside)
       (lock_quiet raise_tables v s)) (drain_quiet v.low w.low way g (low_quiet raise_tables v s)) (k.kept.removal ∙ s.still)
   served Lock v w way g k s = settled_of raise_tables w (drain_quiet v.lock w.lock way g (lock_quiet raise_tables v s))

@@ -1,5 +1,5 @@
-//! What the program `cyclic` does, by one name: its words, its faults, the reader of scripts, the replay, the run in threads, and the
-//! laws of every run of a script.
+//! What the program `cyclic` does, by one name: its words, its faults, the reader of scripts, the replay, the run in threads, and
+//! the laws of every run of a script.
 #![tactic(auto)]
 
 pub use cyc_command::{Command, Fault, command_of, status_of};

@@ -57,7 +57,8 @@ pub fn put_steps<S: Sink>(
     requires whole { S.has_failed sink.old ≡ false }
     ensures text { Puts (S.written sink.old) (S.written sink.new) result
         (run_on no_indexes script.now.cpus script.now.ceiling (names_of script.now) script.now.steps.items).line }
-    ensures runs { OnOk result (Runs script.now.cpus script.now.ceiling (names_of script.now) script.now.steps.items machine.new) }
+    ensures runs { OnOk result (Runs script.now.cpus script.now.ceiling (names_of script.now)
+        script.now.steps.items machine.new) }
     ensures write { S.has_failed sink.new ≡ is_write result }
     ensures memory { IfErr result IsMemoryOrWrite }
 {

@@ -24,7 +24,8 @@ fn put_text<S: Sink>(
     requires new { Runs script.now.cpus script.now.ceiling (names_of script.now) [] machine.old }
     requires whole { S.has_failed sink.old ≡ false }
     ensures text { Puts (S.written sink.old) (S.written sink.new) result (text_of script.now) }
-    ensures runs { OnOk result (Runs script.now.cpus script.now.ceiling (names_of script.now) script.now.steps.items machine.new) }
+    ensures runs { OnOk result (Runs script.now.cpus script.now.ceiling (names_of script.now)
+        script.now.steps.items machine.new) }
     ensures write { S.has_failed sink.new ≡ is_write result }
     ensures memory { IfErr result IsMemoryOrWrite }
 {

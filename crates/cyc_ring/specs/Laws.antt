@@ -7,7 +7,8 @@ use Rattle.ring_rule.specs.declared.Setting.{Setting}
 use Rattle.ring_rule.specs.Trail.{open_stay, raises_of, losses_of, ended_calls, made_calls}
 use Rattle.ring_rule.specs.Log.{RingStep, raise_side, drain_side}
 use Rattle.ring_rule.specs.Conservation.{LevelStands}
-use Rattle.cyc_ring.specs.Ends.{raise_trail, raise_end, end_view, end_made, drain_end, DrainEndCall, IsSameRaiseSeat, IsSameDrainSeat}
+use Rattle.cyc_ring.specs.Ends.{raise_trail, raise_end, end_view, end_made, drain_end, DrainEndCall}
+use Rattle.cyc_ring.specs.Ends.{IsSameRaiseSeat, IsSameDrainSeat}
 use Rattle.cyc_ring.specs.Ends.{FoundIdle}
 use Rattle.cyc_ring.specs.declared.ends.RaiseEnd.{RaiseEnd}
 use Rattle.cyc_ring.specs.declared.ends.DrainEnd.{DrainEnd}

@@ -40,7 +40,8 @@ impl Ring {
         requires hand { held_entry (drain_trail drain_seat.old) ≡ None }
         ensures own { IsSameDrainSeat drain_seat.old drain_seat.new }
         ensures named { IfSome result IsId }
-        ensures call { MakesDrainCall self.now.setting (drain_seat_view drain_seat.old) (Takes result) (drain_seat_view drain_seat.new) }
+        ensures call { MakesDrainCall self.now.setting (drain_seat_view drain_seat.old) (Takes result)
+            (drain_seat_view drain_seat.new) }
     {
         loop {
             let bank = self.words.load_hard_bank::<J>(&mut drain_seat.side);

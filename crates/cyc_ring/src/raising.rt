@@ -115,7 +115,8 @@ impl Ring {
         requires unmarked { marked_of (raise_trail raise_seat.old) ≢ Some id }
         requires room { slice_index raise_seat.old.stays.value.sent index < most_sent }
         ensures own { IsSameRaiseSeat raise_seat.old raise_seat.new }
-        ensures call { MakesRaiseCall self.now.setting (raise_seat_view raise_seat.old) (Raises id result) (raise_seat_view raise_seat.new) }
+        ensures call { MakesRaiseCall self.now.setting (raise_seat_view raise_seat.old) (Raises id result)
+            (raise_seat_view raise_seat.new) }
     {
         let ceiling = raise_seat.setting.ceiling as u64;
         let entry = id.number() * ENTRY_BASE + index as u64;

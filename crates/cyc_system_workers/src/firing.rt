@@ -126,8 +126,8 @@ fn join_all<W: Threads, R: Raise + Drop, C: Calls + Drop>(
     }
 }
 
-/// Fires the CPUs that are online, each in a thread of its own, all started before the first is waited for. Memory is taken before
-/// the first is started, and where one is refused, those that were started are waited for.
+/// Fires the CPUs that are online, each in a thread of its own, all started before the first is waited for. Memory is taken
+/// before the first is started, and where one is refused, those that were started are waited for.
 fn fire_in<'s, E, W: Threads, R: Raise + Send + Drop + 's, C: Calls + Send + Drop + 's>(
     scope: &Scope<'s, E>,
     rt: &W,

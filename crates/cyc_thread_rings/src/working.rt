@@ -60,8 +60,8 @@ fn start<'s, E, W: Wait + Sync + 's, D: Drain + Send + Drop + 's, C: Calls + Sen
     }
 }
 
-/// Starts the two draining workers of a CPU, lock and low. Where one is refused, all were told to stop and woken, and no worker of
-/// this CPU is left.
+/// Starts the two draining workers of a CPU, lock and low. Where one is refused, all were told to stop and woken, and no worker
+/// of this CPU is left.
 fn start_both<
     's,
     E,

@@ -105,8 +105,8 @@ module _ {C : Type 0} (handler : Calls C) where
         (ap drain_trail att.lock_drain ∙ new.0.1) (ap (λ p. p.0.0) left)));
     low = subst (λ (c : C). HasServed (at_level handler.called Low) handler.count (seat_made s'.seats.low.drain) s.calls.low c)
         (sym (ap (λ p. p.1.1) left))
-        (subst (λ (c : C). HasServed (at_level handler.called Low) handler.count (seat_made s'.seats.low.drain) c t.low.calls) att.low
-        (serves_seat (handler_at handler Low) a.soft.low t.low s'.seats.low.drain m.1
+        (subst (λ (c : C). HasServed (at_level handler.called Low) handler.count (seat_made s'.seats.low.drain) c t.low.calls)
+        att.low (serves_seat (handler_at handler Low) a.soft.low t.low s'.seats.low.drain m.1
         (ap drain_trail att.low_drain ∙ new.1.1) (ap (λ p. p.1.0) left)));
   }
 

@@ -31,4 +31,10 @@ returns-in_default-new c =
     let f = none_of _ _ c.args.firing.now.told c.if-firing.false in
     let k = none_of _ _ c.args.lock.now.told c.if-lock.false in
     let w = none_of _ _ c.args.low.now.told c.if-low.false in
-    inr (inr (refl, c.in-Some.ensures.valid.0 refl, (let some = c.if-most-eq0.false in omega (arith, some)), (f, k, w), (f, k, w)))
+    inr (inr (
+      refl,
+      c.in-Some.ensures.valid.0 refl,
+      (let some = c.if-most-eq0.false in omega (arith, some)),
+      (f, k, w),
+      (f, k, w),
+    ))
