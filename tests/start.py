@@ -33,6 +33,7 @@ name=$3
 while [ $# -gt 1 ]; do [ "$1" != -o ] || made=$2; shift; done
 cd "$FAKE" || exit 9
 echo "$name" >> calls
+printf '%s\n' "${TMPDIR:-}" >> scratch
 [ "$(cat hang 2> /dev/null)" != "$name" ] || { echo hangs >> calls; exec sleep 100; }
 [ "$(cat fail 2> /dev/null)" != "$name" ] || { printf 'statements std: many\nerror: %s\n' "$name"; exit 1; }
 [ "$(cat slow 2> /dev/null)" != "$name" ] || sleep 0.6
@@ -211,6 +212,17 @@ def tries(start):
     start.run("seen again", 0, "", [])
     start.write("kit/name", "kit 3")
     start.run("a kit after that", 0, FIRST + ALL + DONE, BUILDS)
+
+    # the prover's own files are not left in memory, not even where it was stopped, and go where the environment says
+    with open(f"{start.top}/scratch", encoding="utf-8") as it:
+        rooms = {line for line in it.read().splitlines() if line != os.environ.get("TMPDIR", "")}
+    start.want("left in memory", [room for room in rooms if os.path.exists(room)], [])
+    start.env["TMPDIR"] = start.top
+    start.write("scratch", "")
+    start.write("kit/name", "kit 4")
+    start.run("a folder for the prover's files", 0, FIRST + ALL + DONE, BUILDS)
+    with open(f"{start.top}/scratch", encoding="utf-8") as it:
+        start.want("the folder", set(it.read().splitlines()), {start.top})
 
 
 def main():
