@@ -1,6 +1,9 @@
 -- What the calls of the soft side find.
 use Rattle.std.proofs.Common.{◌≡◌, ◌≢◌, ℕ, zero, suc, ◌+◌, ◌-◌, ◌<◌, eqb, cond, Bool, true, false, Option, Some, None, refl, sym}
-use Rattle.std.proofs.Common.{ap, ◌∙◌, subst, arith}
+use Rattle.std.proofs.Common.{ap, ◌∙◌, subst, arith, ◌==◌, List, [], ◌∷◌, length}
+use Rattle.std.specs.List.{FoldsTo}
+use Rattle.std.proofs.lemmas.List.{nil_from_length}
+use Rattle.std.proofs.lemmas.Bool.{eqb-true, eq-eqb}
 use Rattle.std.specs.Prelude.{is_some, IfSome}
 use Rattle.std.specs.Option.{option_map}
 use Rattle.std.proofs.lemmas.Bool.Decides.{nat_tests}
@@ -9,11 +12,12 @@ use native.Mathlib.Decide.{ℕ_discrete}
 use Rattle.cyc_types.specs.Draining.{one_of}
 use Rattle.cyc_types.specs.declared.draining.Finished.TheVariants.{More, Last, LastOfRemoval}
 use Rattle.cyc_level.specs.declared.Event.TheVariants.{Take, Finish, Follow}
-use Rattle.cyc_level.specs.Level.{AdmittedCyclic, SoftLevel, count, count_in}
-use Rattle.cyc_level.specs.Events.{cyclic_after_finish, hand_after_finish, after, after_finish}
+use Rattle.cyc_level.specs.Level.{AdmittedCyclic, SoftLevel, count, count_in, soft_list}
+use Rattle.cyc_level.specs.Events.{cyclic_after_finish, hand_after_finish, Enabled, after, after_finish, after_take}
 use Rattle.cyc_level.specs.Lawful.{Lawful}
 use Rattle.cyc_level.proofs.Maps.{at_same, at_other}
-use Rattle.cyc_core.specs.DrainingSide.{done_in, done_of, is_marked, finished_at}
+use Rattle.cyc_core.specs.Reached.{Happens}
+use Rattle.cyc_core.specs.DrainingSide.{done_in, done_of, is_marked, finished_at, take_events}
 use Rattle.cyc_core.proofs.Changes.{held_cyclic}
 
 module _ (l : SoftLevel) (law : Lawful l) (id : ℕ) (holds : l.drainer_hand ≡ Some id) where
@@ -112,3 +116,80 @@ done_after_take l q = refl
 
 pub done_after_follow : (l : SoftLevel) (q : ℕ) → done_of (after Follow l) q ≡ done_of l q
 done_after_follow l q = refl
+
+-- a look: the soft side followed, or it didn't have to
+pub data Looked (l m : SoftLevel) : Type 0 where
+  Followed : Enabled Follow l → m ≡ after Follow l → Looked l m
+  Stayed : (l.old_list ≡ [] → l.hard_bank ≡ l.soft_bank) → m ≡ l → Looked l m
+
+-- the events of a look, by what it found
+look_events : (l m : SoftLevel) (old new : List ℕ) (same : Bool) → l.old_list ≡ old → l.new_list ≡ new
+    → (l.hard_bank == l.soft_bank) ≡ same → FoldsTo Happens l (take_events old new same) m
+    → FoldsTo Happens l (take_events l.old_list l.new_list (l.hard_bank == l.soft_bank)) m
+look_events l m old new same is_old is_new is_same h = subst
+    (λ (p : List ℕ × List ℕ × Bool). FoldsTo Happens l (take_events p.0 p.1 p.2) m)
+    (λ z. (sym is_old z, sym is_new z, sym is_same z)) h
+
+equal_banks : (a b : ℕ) → a ≡ b → (a == b) ≡ true
+equal_banks a b e = grind (arith, nat_tests)
+
+unlike_banks : (a b : ℕ) → a ≢ b → (a == b) ≡ false
+unlike_banks a b ne = grind (arith, nat_tests)
+
+-- the list that a soft side empties that has followed
+followed_list : (l m : SoftLevel) → m ≡ after Follow l → soft_list m ≡ l.new_list
+followed_list l m is = ap soft_list is
+    ∙ ap (λ (b : Bool). cond b l.new_list l.old_list) (equal_banks l.hard_bank l.hard_bank refl)
+
+-- a look that takes nothing
+pub took_none : (l m : SoftLevel) → Looked l m → soft_list m ≡ []
+    → FoldsTo Happens l (take_events l.old_list l.new_list (l.hard_bank == l.soft_bank)) m
+took_none l m (Followed may is) none = look_events l m [] [] false may.1 (sym (followed_list l m is) ∙ none)
+    (unlike_banks l.hard_bank l.soft_bank may.0) (m, (may, is), refl)
+took_none l m (Stayed stays is) none = by (l.hard_bank == l.soft_bank) refl
+  where
+    left_none : soft_list l ≡ []
+    left_none = ap soft_list (sym is) ∙ none
+
+    by : (b : Bool) → (l.hard_bank == l.soft_bank) ≡ b
+        → FoldsTo Happens l (take_events l.old_list l.new_list (l.hard_bank == l.soft_bank)) m
+    by true e = look_events l m l.old_list [] true refl
+        (sym (ap (λ (b : Bool). cond b l.new_list l.old_list) e) ∙ left_none) e (sym is)
+    by false e = absurd (let none_old : l.old_list ≡ [] = sym (ap (λ (b : Bool). cond b l.new_list l.old_list) e) ∙ left_none in
+        let same = equal_banks l.hard_bank l.soft_bank (stays none_old) in let wrong : ⊥ = cc in wrong)
+
+-- a look that takes the first cyclic
+pub took_first : (l m n : SoftLevel) → Looked l m → l.drainer_hand ≡ None → soft_list m ≢ [] → n ≡ after Take m
+    → FoldsTo Happens l (take_events l.old_list l.new_list (l.hard_bank == l.soft_bank)) n
+took_first l m n (Followed may is) free some taken = by l.new_list refl
+  where
+    by : (new : List ℕ) → l.new_list ≡ new
+        → FoldsTo Happens l (take_events l.old_list l.new_list (l.hard_bank == l.soft_bank)) n
+    by [] e = absurd (some (followed_list l m is ∙ e))
+    by (x ∷ xs) e = look_events l n [] (x ∷ xs) false may.1 e (unlike_banks l.hard_bank l.soft_bank may.0)
+        (m, (may, is), (n, ((ap (λ (k : SoftLevel). k.drainer_hand) is ∙ free, some), taken), refl))
+took_first l m n (Stayed stays is) free some taken = by (l.hard_bank == l.soft_bank) l.old_list l.new_list refl refl refl
+  where
+    listed : (b : Bool) → (l.hard_bank == l.soft_bank) ≡ b → cond b l.new_list l.old_list ≢ []
+    listed b e none = some (ap soft_list is ∙ ap (λ (b : Bool). cond b l.new_list l.old_list) e ∙ none)
+
+    one : FoldsTo Happens l (Take ∷ []) n
+    one = (n, ((free, λ none. some (ap soft_list is ∙ none)), taken ∙ ap after_take is), refl)
+
+    by : (b : Bool) (old new : List ℕ) → (l.hard_bank == l.soft_bank) ≡ b → l.old_list ≡ old → l.new_list ≡ new
+        → FoldsTo Happens l (take_events l.old_list l.new_list (l.hard_bank == l.soft_bank)) n
+    by true old [] e is_old is_new = absurd (listed true e is_new)
+    by true old (x ∷ xs) e is_old is_new = look_events l n old (x ∷ xs) true is_old is_new e one
+    by false [] new e is_old is_new = absurd (listed false e is_old)
+    by false (x ∷ xs) new e is_old is_new = look_events l n (x ∷ xs) new false is_old is_new e one
+
+pub looked_hand : (l m : SoftLevel) → Looked l m → l.drainer_hand ≡ None → None ≡ m.drainer_hand
+looked_hand l m (Followed may is) free = sym (ap (λ (k : SoftLevel). k.drainer_hand) is ∙ free)
+looked_hand l m (Stayed stays is) free = sym (ap (λ (k : SoftLevel). k.drainer_hand) is ∙ free)
+
+-- what a test of a list's length says
+pub tested_empty : (xs : List ℕ) (n : ℕ) (b : Bool) → n ≡ length xs → b ≡ (n == 0) → b ≡ true → xs ≡ []
+tested_empty xs n b long test is = nil_from_length xs (sym long ∙ eqb-true n 0 (sym test ∙ is))
+
+pub tested_some : (xs : List ℕ) (n : ℕ) (b : Bool) → n ≡ length xs → b ≡ (n == 0) → b ≡ false → xs ≢ []
+tested_some xs n b long test is none = let yes = eq-eqb n 0 (long ∙ ap length none) in let wrong : ⊥ = cc in wrong

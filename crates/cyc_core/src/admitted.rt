@@ -4,7 +4,7 @@ use cyc_finder::HasId;
 use cyc_types::{CyclicId, Index};
 
 /// An admitted cyclic with its counts.
-#[derive(Clone, Copy, Debug)]
+#[derive(Clone, Copy)]
 pub struct Admitted {
     pub id: CyclicId,
     pub index: Index,

@@ -42,8 +42,7 @@ pub enum Place {
 fn stands_in(list: &VecDeque<CyclicId>, id: CyclicId) -> bool
     ensures { result ≡ list_any (λ other. other == id) list.now.items }
 {
-    let number = id.number();
-    list.iter().any(|other| other.number() == number)
+    list.contains(&id)
 }
 
 impl LevelCore {

@@ -37,8 +37,8 @@ fn has_index(table: &[Admitted], index: Index) -> bool
 
 /// Hints where each entry from this place on stands. Each hint is checked when it is used, so a wrong one would cost time alone.
 fn hint_from(place: usize, table: &[Admitted], hints: &mut [u8; CYCLICS as usize]) {
-    for (at, entry) in table.iter().enumerate().skip(place) {
-        hints[hint_of(entry.id)] = at.min(usize::from(u8::MAX)) as u8;
+    for at in place..table.len() {
+        hints[hint_of(table[at].id)] = at.min(usize::from(u8::MAX)) as u8;
     }
 }
 

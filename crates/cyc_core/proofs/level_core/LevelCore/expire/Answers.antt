@@ -3,6 +3,7 @@ use Rattle.cyc_level.specs.declared.Event.TheVariants.{Expire}
 use Rattle.cyc_level.specs.Level.{AdmittedCyclic}
 use Rattle.cyc_level.specs.Events.{most_sent}
 use Rattle.cyc_core.specs.Shown.{shown}
+use Rattle.std.proofs.lemmas.Option.{slice_get_within}
 use Rattle.cyc_finder.proofs.RisingIds.{rises_set}
 use Rattle.cyc_core.proofs.Changes.{found_fact, entry_is_at, entry_cyclic, level_expire, sound_by, stood}
 use Rattle.cyc_core.specs.declared.admitted.Admitted.{Admitted}
@@ -67,3 +68,11 @@ returns c =
     let made = ap (λ (x : Admitted). cyclic_of (record x { sent = entry.sent + 1; count = entry.count + 1 })) same in
     rw (← c.self.view_is) (level_expire t ordered entry.id c.args.place at entry found refl _ _ named made
     c.then_some-self-inside.ensures may.0)
+
+pub index_mut-kept-requires : goal.index_mut-kept-requires
+index_mut-kept-requires c =
+    let t = shown c.self.inside in
+    let stands = rw (← c.self.view_is) at c.requires.place in
+    let low = slice_get_within t.table c.args.place _ stands in
+    let long = c.self.inside.table.ok.0 in
+    omega (arith, low, long)

@@ -4,6 +4,7 @@ use Rattle.cyc_finder.specs.Sorted.{IsAt}
 use Rattle.cyc_core.specs.declared.admitted.Admitted.{Admitted}
 use Rattle.cyc_core.specs.Tables.{id_in, cyclic_of, level_of}
 use Rattle.cyc_core.specs.Shown.{shown}
+use Rattle.std.proofs.lemmas.Option.{slice_get_within}
 use Rattle.cyc_finder.proofs.RisingIds.{rises_set}
 use Rattle.cyc_core.proofs.Changes.{entry_is_at, entry_of, held_cyclic, held_count, level_finish, sound_by, stood, reached_lawful}
 use Rattle.cyc_core.proofs.level_core.LevelCore.finish_call.Goals as goal
@@ -83,3 +84,11 @@ returns-in-Some c =
     let made = ap (λ (x : Admitted). cyclic_of (record x { done = entry.done + 1; count = entry.count - 1 })) same in
     rw (← c.self.view_is) (level_finish t ordered c.in-Some.id c.entry_of-place.result.0 at entry found
     c.entry_of-place.ensures.id _ _ named made c.in-Some.is some c.then_some-self-inside.ensures)
+
+pub index_mut-kept-requires : goal.index_mut-kept-requires
+index_mut-kept-requires c =
+    let t = shown c.self.inside in
+    let stands = rw (← c.self.view_is) at c.entry_of-place.ensures.place in
+    let low = slice_get_within t.table c.entry_of-place.result.0 _ stands in
+    let long = c.self.inside.table.ok.0 in
+    omega (arith, low, long)

@@ -5,6 +5,7 @@ use Rattle.cyc_level.specs.Events.{most_sent}
 use Rattle.cyc_core.specs.declared.admitted.Admitted.{Admitted}
 use Rattle.cyc_core.specs.Tables.{id_in, cyclic_of, level_of}
 use Rattle.cyc_core.specs.Shown.{shown}
+use Rattle.std.proofs.lemmas.Option.{slice_get_within}
 use Rattle.cyc_finder.proofs.RisingIds.{rises_set}
 use Rattle.cyc_core.proofs.Changes.{found_fact, entry_is_at, entry_cyclic, level_lose, sound_by, stood, reached_lawful}
 use Rattle.cyc_core.proofs.level_core.LevelCore.lose.Goals as goal
@@ -80,3 +81,11 @@ returns c =
     let named = ap (λ (x : Admitted). x.id) same in
     let made = ap (λ (x : Admitted). cyclic_of (record x { sent = entry.sent + 1; lost = entry.lost + 1 })) same in
     rw (← c.self.view_is) (level_lose t ordered entry.id c.args.place at entry found refl _ named made)
+
+pub index_mut-kept-requires : goal.index_mut-kept-requires
+index_mut-kept-requires c =
+    let t = shown c.self.inside in
+    let stands = rw (← c.self.view_is) at c.requires.place in
+    let low = slice_get_within t.table c.args.place _ stands in
+    let long = c.self.inside.table.ok.0 in
+    omega (arith, low, long)
