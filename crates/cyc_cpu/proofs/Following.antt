@@ -47,7 +47,7 @@ use Rattle.cyc_cpu.specs.Calls.{CpuCall, Fire, SoftInterrupt, Add, Place, Reprog
 use Rattle.cyc_cpu.specs.Calls.{Widen, BeginRemove, PollRemove, TakeNow, AskSettled, Changes, Does}
 use Rattle.cyc_cpu.specs.Gone.{IsAbsent, IsGone, HasLeft, PutsNot, StaysGone}
 use Rattle.cyc_cpu.proofs.Gone.{off_of, absent_of, AreSpared, off_goes, none_served}
-use Rattle.cyc_cpu.proofs.Removals.{goes_here, goes_not, level_cases}
+use Rattle.cyc_cpu.proofs.Cleared.{goes_here, goes_not, level_cases}
 use Rattle.cyc_fire.proofs.Making.{same_id, length-all}
 use Rattle.cyc_fire.proofs.Sharing.{ids_add_up}
 

@@ -19,7 +19,7 @@ use Rattle.cyc_fire.specs.Ends.{IsEnd}
 use Rattle.cyc_fire.specs.Quiet.{KeepsStays, OnlyLoads, OnlyLooks, asks_at}
 use Rattle.cyc_fire.proofs.Readying.{loads_keep, looks_keep, keeps_itself}
 use Rattle.cyc_cpu.proofs.Softs.{keeps_on}
-use Rattle.cyc_cpu.proofs.Removals.{goes_here, goes_not, level_cases, one_row}
+use Rattle.cyc_cpu.proofs.Cleared.{goes_here, goes_not, level_cases, one_row}
 
 seen_less : (b : Bool) (n : ℕ) (o : Option Stay) → (b ≡ true → n ≤ seen_in o)
     → seen_in (cond b (edited (λ s. record s { seen = n }) o) o) ≤ seen_in o

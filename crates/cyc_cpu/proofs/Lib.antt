@@ -2,6 +2,7 @@ pub mod Cyclics
 pub mod Entering
 pub mod Softs
 pub mod Idling
+pub mod Cleared
 pub mod Removals
 pub mod Inquiring
 pub mod Gone

@@ -12,7 +12,7 @@ use Rattle.cyc_cpu.specs.Cpu.{CpuView, AreAdmitted, HasNoCyclic}
 use Rattle.cyc_cpu.specs.Removal.{calls_at, Leaves}
 use Rattle.cyc_cpu.specs.Laws.{IsLawful}
 use Rattle.cyc_cpu.specs.Gone.{HasLeft, IsOff}
-use Rattle.cyc_cpu.proofs.Removals.{goes_here, goes_not, level_cases, clears_poll}
+use Rattle.cyc_cpu.proofs.Cleared.{goes_here, goes_not, level_cases, clears_poll}
 use Rattle.cyc_cpu.proofs.Following.{one_cyclic, none_left}
 
 none_there : (o : Option Stay) → ((s : Stay) → o ≡ Some s → ⊥) → o ≡ None
