@@ -84,6 +84,17 @@ pub taken_none : {A : Type 0} (ys rest all : List A) (n : ℕ) → n ≡ 0 → n
 taken_none ys [] all n e f g = sym (no_more ys) ∙ g
 taken_none ys (x ∷ rest) all n e f g = absurd (omega (arith, e, f))
 
+-- an iterator gave none, and each that it gave before is in what was made
+pub mapped_all : {S Y : Type 0} (q : S → Y) (ws : List Y) (ys rest all : List S) (n : ℕ) → n ≡ 0 → n ≡ length rest
+    → ys ++ rest ≡ all → ws ≡ map q ys → ws ≡ map q all
+mapped_all q ws ys rest all n e f g m = m ∙ ap (λ (zs : List _). map q zs) (taken_none ys rest all n e f g)
+
+pub same_all : {Y : Type 0} (ws ys rest all : List Y) (n : ℕ) → n ≡ 0 → n ≡ length rest → ys ++ rest ≡ all → ws ≡ ys → ws ≡ all
+same_all ws ys rest all n e f g m = m ∙ taken_none ys rest all n e f g
+
+pub one_longer : {A : Type 0} (xs xs' : List A) (x : A) → xs' ≡ xs ++ x ∷ [] → length xs' ≡ length xs + 1
+one_longer xs xs' x e = let a = ap (λ (zs : List _). length zs) e in let b = length-append xs (x ∷ []) in omega (arith, a, b)
+
 -- ---- two lists of which one part is done and the other is still to come
 
 pub same_more : {H Y : Type 0} (q : H → Y) (ws ws' : List Y) (ys : List H) (w : Y) (y : H) → ws' ≡ ws ++ w ∷ [] → ws ≡ map q ys
@@ -129,3 +140,34 @@ module _ {S L H X Y : Type 0} (f : S → X) (g : L → X) (p : S → Y) (q : H �
       by : (r : List L) → length r ≡ 0 → map f xs ++ map g r ≡ map g ls → map f xs ≡ map g ls
       by [] e i = sym (no_more (map f xs)) ∙ i
       by (l ∷ r) e i = absurd (omega (arith, e))
+
+-- ---- two lists, of which the one is a part of what was made, and the other is still given out
+
+pub map_one_more : {S Y : Type 0} (p : S → Y) (xs xs' : List S) (ys : List Y) (x : S) (y : Y) → xs' ≡ xs ++ x ∷ [] → map p xs ≡ ys
+    → p x ≡ y → map p xs' ≡ ys ++ y ∷ []
+map_one_more p xs xs' ys x y e m k = ap (λ (ws : List _). map p ws) e ∙ map-append p xs (x ∷ [])
+    ∙ ap (λ (ws : List _). ws ++ p x ∷ []) m ∙ ap (λ w. ys ++ w ∷ []) k
+
+pub map_given : {S X : Type 0} (f : S → X) (xs xs' : List S) (rest rest' all : List X) (x : S) (l : X) → xs' ≡ xs ++ x ∷ []
+    → rest ≡ l ∷ rest' → f x ≡ l → map f xs ++ rest ≡ all → map f xs' ++ rest' ≡ all
+map_given f xs xs' rest rest' all x l e r k i = ap (λ (ws : List _). map f ws ++ rest') e
+    ∙ ap (λ (ws : List _). ws ++ rest') (map-append f xs (x ∷ []))
+    ∙ append_assoc (map f xs) (f x ∷ []) rest' ∙ ap (λ w. map f xs ++ w ∷ rest') k
+    ∙ ap (λ (ws : List _). map f xs ++ ws) (sym r) ∙ i
+
+-- as many are to come of both
+pub as_many : {S X Y : Type 0} (f : S → X) (p : S → Y) (xs : List S) (rest all : List X) (ys iter whole : List Y)
+    → map f xs ++ rest ≡ all → map p xs ≡ ys → ys ++ iter ≡ whole → length all ≡ length whole → length rest ≡ length iter
+as_many f p xs rest all ys iter whole given done through long =
+    let a = ap (λ (ws : List _). length ws) given in let b = length-append (map f xs) rest in let c = length-map xs f in
+    let d = ap (λ (ws : List _). length ws) done in let e = length-map xs p in
+    let h = ap (λ (ws : List _). length ws) through in let i = length-append ys iter in
+    omega (arith, a, b, c, d, e, h, i, long)
+
+-- nothing is to come of either
+pub given_all : {S X Y : Type 0} (f : S → X) (p : S → Y) (xs : List S) (rest all : List X) (ys iter whole : List Y) (n : ℕ)
+    → map f xs ++ rest ≡ all → map p xs ≡ ys → ys ++ iter ≡ whole → length all ≡ length whole → n ≡ 0 → n ≡ length iter
+    → map f xs ≡ all
+given_all f p xs rest all ys iter whole n given done through long e m =
+    taken_none (map f xs) rest all (length rest) (as_many f p xs rest all ys iter whole given done through long ∙ sym m ∙ e) refl
+    given

@@ -53,13 +53,13 @@ pub fn attach<'a, C: Drop>(
     requires { EachTwo AreSeated rings.now (map (λ s. s.seats) all.items) }
     ensures { IfOk result (λ v. EachTwo IsAttached all.items v.items) }
 {
-    let mut attached = Vec::with_capacity(alloc, rings.len())?;
+    let mut attached = Vec::with_capacity(alloc, all.len())?;
     for seated in all {
         let place = attached.len();
         if place >= rings.len() {
             unreachable!()
         }
-        attached.push(attach_one(&rings[place], seated))?;
+        attached.push_reserved(attach_one(&rings[place], seated));
     }
     Ok(attached)
 }

@@ -32,10 +32,10 @@ pub fn close_rings(
         let Some(of_cpu) = rest.next() else {
             unreachable!()
         };
-        closed.push(Levels {
+        closed.push_reserved(Levels {
             lock: close_ring(of_cpu.lock, own.lock),
             low: close_ring(of_cpu.low, own.low),
-        })?;
+        });
     }
     Ok(closed)
 }

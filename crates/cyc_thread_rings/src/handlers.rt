@@ -28,7 +28,7 @@ pub fn by_cpu<C: Drop>(
         let Some(low) = rest.next() else {
             unreachable!()
         };
-        all.push(Handlers { high, lock, low })?;
+        all.push_reserved(Handlers { high, lock, low });
     }
     Ok(all)
 }

@@ -51,7 +51,7 @@ pub fn leave_all<'a, C: Drop>(
         let Some(own) = rest_soft.next() else {
             unreachable!()
         };
-        all.push(leave(hard, lead, own))?;
+        all.push_reserved(leave(hard, lead, own));
     }
     Ok(all)
 }

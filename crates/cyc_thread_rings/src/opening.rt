@@ -29,6 +29,26 @@ fn open_ring(alloc: Global, ceiling: Ceiling, start: u32) -> Result<(Ring, Seats
     Ok((ring, Seats { raise, drain }))
 }
 
+/// Opens the two rings of a CPU.
+fn open_both(
+    alloc: Global,
+    ceiling: Ceiling,
+    start: u32,
+) -> Result<(Levels<Ring>, Levels<Seats>), Refusal>
+    ensures seated { IfOk result (λ r. AreSeated r.0 r.1) }
+    ensures new { IfOk result (λ r. AreNew ceiling r.1) }
+    ensures start { IfOk result (λ r. BeginAt start r.1) }
+    ensures refused { IfErr result (λ e. e ≡ Memory) }
+{
+    let (lock_ring, lock) = open_ring(alloc, ceiling, start)?;
+    let (low_ring, low) = open_ring(alloc, ceiling, start)?;
+    let rings = Levels {
+        lock: lock_ring,
+        low: low_ring,
+    };
+    Ok((rings, Levels { lock, low }))
+}
+
 /// Opens two rings for each of so many CPUs. `ceiling` is the greatest pend, and the buffer indexes begin at `start`. Takes all
 /// the memory that they will use, and refuses with Memory alone.
 pub fn open_rings(
@@ -46,13 +66,9 @@ pub fn open_rings(
     let mut rings = Vec::with_capacity(alloc, cpus)?;
     let mut seats = Vec::with_capacity(alloc, cpus)?;
     for _ in 0..cpus {
-        let (lock_ring, lock) = open_ring(alloc, ceiling, start)?;
-        let (low_ring, low) = open_ring(alloc, ceiling, start)?;
-        rings.push(Levels {
-            lock: lock_ring,
-            low: low_ring,
-        })?;
-        seats.push(Levels { lock, low })?;
+        let (own_rings, own_seats) = open_both(alloc, ceiling, start)?;
+        rings.push_reserved(own_rings);
+        seats.push_reserved(own_seats);
     }
     Ok(Opened { rings, seats })
 }

@@ -1,6 +1,6 @@
 //! What the threads of a run are given.
 
-ghost use Rattle.std.specs.Prelude.{◌≡◌, map, IfOk, IfErr};
+ghost use Rattle.std.specs.Prelude.{◌≡◌, ◌≤◌, [], map, vec_len, vec_capacity, IfOk, IfErr};
 ghost use Rattle.cyc_types.specs.declared.refusal.Refusal.TheVariants.{Memory};
 ghost use Rattle.cyc_thread_rings.specs.Working.{sides_of};
 
@@ -11,7 +11,7 @@ use crossbeam_utils::sync::Parker;
 use cyc_ring::{DrainEnd, RaiseEnd};
 use cyc_types::Refusal;
 use cyc_workers::{Lead, Wakers};
-use std::alloc::Global;
+use std::alloc::{AllocError, Global};
 use std::sync::Arc;
 
 /// What the threads of a run are given, by the numbers of the CPUs.
@@ -85,6 +85,26 @@ fn prepare_one<'a, C: Drop>(
     })
 }
 
+/// Room for what the threads of so many CPUs are given. Its memory may be refused.
+fn room<'a, C: Drop>(alloc: Global, cpus: usize) -> Result<Prepared<'a, C>, AllocError>
+    ensures ends { IfOk result (λ p. (p.ends.items ≡ []) × ((vec_len p.ends ≡ 0) × (cpus ≤ vec_capacity p.ends))) }
+    ensures leads { IfOk result (λ p. (p.leads.items ≡ []) × ((vec_len p.leads ≡ 0) × (cpus ≤ vec_capacity p.leads))) }
+    ensures drainers { IfOk result
+        (λ p. (p.drainers.items ≡ []) × ((vec_len p.drainers ≡ 0) × (cpus ≤ vec_capacity p.drainers))) }
+    ensures wakers { IfOk result (λ p. (vec_len p.wakers ≡ 0) × (cpus ≤ vec_capacity p.wakers)) }
+{
+    let wakers = Vec::with_capacity(alloc, cpus)?;
+    let leads = Vec::with_capacity(alloc, cpus)?;
+    let drainers = Vec::with_capacity(alloc, cpus)?;
+    let ends = Vec::with_capacity(alloc, cpus)?;
+    Ok(Prepared {
+        ends,
+        leads,
+        drainers,
+        wakers,
+    })
+}
+
 /// What the threads of a run are given, over these ends. Its memory may be refused.
 pub fn prepare<'a, C: Drop>(
     alloc: Global,
@@ -95,10 +115,12 @@ pub fn prepare<'a, C: Drop>(
     ensures drainers { IfOk result (λ p. map sides_of p.drainers.items ≡ map (λ a. a.soft) all.entry.items) }
     ensures refused { IfErr result (λ e. e ≡ Memory) }
 {
-    let mut ends = Vec::with_capacity(alloc, all.len())?;
-    let mut leads = Vec::with_capacity(alloc, all.len())?;
-    let mut drainers = Vec::with_capacity(alloc, all.len())?;
-    let mut wakers = Vec::with_capacity(alloc, all.len())?;
+    let Prepared {
+        mut ends,
+        mut leads,
+        mut drainers,
+        mut wakers,
+    } = room(alloc, all.len())?;
     for attached in all {
         let own = prepare_one(alloc, attached)?;
         ends.push_reserved(own.ends);

@@ -9,7 +9,7 @@ use cyc_types::Refusal;
 use cyc_workers::Drained;
 
 /// A fire that was refused.
-#[derive(Clone, Copy, Debug, Drop, PartialEq, Eq)]
+#[derive(Clone, Copy, Drop)]
 pub struct Fire {
     pub cpu: usize,
     pub why: Refusal,

@@ -22,10 +22,10 @@ pub fn seat_all<C: Drop>(
         let Some(handlers) = rest.next() else {
             unreachable!()
         };
-        all.push(Seated {
+        all.push_reserved(Seated {
             seats: own,
             calls: handlers,
-        })?;
+        });
     }
     Ok(all)
 }
@@ -42,8 +42,8 @@ pub fn unseat_all<C: Drop>(
     let mut all_calls = Vec::with_capacity(alloc, all.len())?;
     for seated in all {
         let Seated { seats, calls } = seated;
-        all_seats.push(seats)?;
-        all_calls.push(calls)?;
+        all_seats.push_reserved(seats);
+        all_calls.push_reserved(calls);
     }
     Ok((all_seats, all_calls))
 }

@@ -193,7 +193,7 @@ pub fn soft_sides<D: Drop, C: Drop>(
     let mut soft = Vec::with_capacity(alloc, drained.len())?;
     for of_cpu in drained {
         let Levels { lock, low } = of_cpu;
-        soft.push(Levels {
+        soft.push_reserved(Levels {
             lock: SoftSide {
                 drain: lock.drain,
                 calls: lock.calls,
@@ -202,7 +202,7 @@ pub fn soft_sides<D: Drop, C: Drop>(
                 drain: low.drain,
                 calls: low.calls,
             },
-        })?;
+        });
     }
     Ok(soft)
 }

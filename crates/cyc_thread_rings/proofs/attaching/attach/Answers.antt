@@ -40,8 +40,10 @@ loop-seated-preserved g c =
     record {
       all = taken_all c.loop-seated.yielded x _ _ _ step.0 inv.all;
       many = taken_many _ _ x _ _ step.0 step.1 inv.many;
+      room = let room = inv.room in let given = step.1 in let long = c.push_reserved.ensures.len in
+          let same = c.push_reserved.ensures.capacity in omega (arith, room, given, long, same);
       done = each_pushed IsAttached c.loop-seated.yielded c.loop-seated.attached.items _ _ x c.attach_one.result refl
-          c.in_ok-push.ensures.items inv.done c.attach_one.ensures;
+          c.push_reserved.ensures.items inv.done c.attach_one.ensures;
     }
 
 pub returns : goal.returns

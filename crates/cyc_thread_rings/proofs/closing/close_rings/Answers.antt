@@ -1,4 +1,4 @@
-use Rattle.std.proofs.Common.{◌≡◌, [], ◌∷◌, ◌++◌, List, length, sym, ap, subst, ◌∙◌, refl, arith}
+use Rattle.std.proofs.Common.{◌≡◌, ◌∷◌, List, length, ap, subst, refl, arith}
 use Rattle.cyc_ring.specs.declared.ring.Ring.{Ring}
 use Rattle.cyc_workers.specs.declared.cpu.Seats.{Seats}
 use Rattle.cyc_thread_rings.specs.declared.levels.Levels.{Levels}
@@ -36,11 +36,13 @@ loop-own-preserved c =
     record {
       all = taken_all c.loop-own.yielded x _ _ _ step.0 inv.all;
       many = taken_many _ _ x _ _ step.0 step.1 inv.many;
+      room = let room = inv.room in let given = step.1 in let long = c.push_reserved.ensures.len in
+          let same = c.push_reserved.ensures.capacity in omega (arith, room, given, long, same);
       many_rings = taken_many _ _ c.in-Some-next.of_cpu _ _ ring.items ring.len inv.many_rings;
       seated = (both_given _ _ _ _ c.in-Some-next.of_cpu x inv.seated ring.items step.0).1;
       closed = each_pushed AreClosed c.loop-own.yielded c.loop-own.closed.items _ _ x
           (record { lock = c.close_ring.result; low = c.close_ring-in-loop-own.result }) refl
-          c.in_ok-push.ensures.items inv.closed (c.close_ring.ensures, c.close_ring-in-loop-own.ensures);
+          c.push_reserved.ensures.items inv.closed (c.close_ring.ensures, c.close_ring-in-loop-own.ensures);
     }
 
 pub returns : goal.returns

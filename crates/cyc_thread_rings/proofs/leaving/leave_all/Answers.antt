@@ -1,4 +1,4 @@
-use Rattle.std.proofs.Common.{sym, ◌∙◌}
+use Rattle.std.proofs.Common.{sym, ◌∙◌, arith}
 use Rattle.cyc_workers.specs.declared.settling.Lead.{Lead}
 use Rattle.cyc_thread_rings.specs.declared.levels.Seated.{Seated}
 use Rattle.cyc_thread_rings.specs.Rings.{firing_seats, seats_on, soft_seats, soft_seats_on}
@@ -22,11 +22,13 @@ unreachable-requires-in_default-next g c = let inv = c.loop-hard.invariant in
 pub loop-hard-preserved : goal.loop-hard-preserved
 loop-hard-preserved g c =
     let inv = c.loop-hard.invariant in let x = c.in-Some.hard in let step = c.in-Some.ensures.steps in let more =
-    c.in_ok-push.ensures.items in
+    c.push_reserved.ensures.items in
     let lead = c.in-Some-next.ensures in let own = c.in-Some-next-2.ensures in
     record {
       all = taken_all c.loop-hard.yielded x _ _ _ step.0 inv.all;
       many = taken_many _ _ x _ _ step.0 step.1 inv.many;
+      room = let room = inv.room in let given = step.1 in let long = c.push_reserved.ensures.len in
+          let same = c.push_reserved.ensures.capacity in omega (arith, room, given, long, same);
       many_leads = taken_many _ _ c.in-Some-next.lead _ _ lead.items lead.len inv.many_leads;
       many_soft = taken_many _ _ c.in-Some-next-2.own _ _ own.items own.len inv.many_soft;
       firing = map_more firing_seats seats_on c.loop-hard.all.items _ c.loop-hard.yielded c.leave.result x more inv.firing
