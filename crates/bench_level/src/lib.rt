@@ -1,28 +1,16 @@
 //! What the benchmark measures: whole loops of calls, exported to a driver in Rust.
 #![tactic(auto)]
 
-ghost use Rattle.std.specs.Prelude.{◌≡◌, ◌+◌, ◌-◌, ◌<◌, ◌≤◌, ◌^◌, IfOk};
+ghost use Rattle.std.specs.Prelude.{◌+◌, ◌-◌, ◌<◌, ◌≤◌, ◌^◌, IfOk};
 ghost use Rattle.cyc_types.specs.Limits.{cyclics};
 ghost use Rattle.cyc_core.specs.Tables.{level_of};
 ghost use Rattle.cyc_core.specs.FiringSide.{firing_view};
-ghost use Rattle.bench_level.specs.Ready.{IsReady, IsFilled};
+ghost use Rattle.bench_sides.specs.Ready.{IsReady, IsFilled};
 
+use bench_sides::fill;
 use cyc_core::LevelCore;
-use cyc_types::{
-    CYCLICS, Ceiling, CyclicId, Drain, Finished, GREATEST_BANK, Index, Raise, Refusal,
-};
+use cyc_types::{CYCLICS, Ceiling, CyclicId, Drain, Finished, Raise, Refusal};
 use std::alloc::Global;
-
-/// Admits the next id at its index.
-fn admit_next(core: &mut LevelCore, index: u16)
-    requires index { index < cyclics }
-    requires filled { IsFilled index (firing_view (level_of core.old)) }
-    ensures { IsFilled (index + 1) (firing_view (level_of core.new)) }
-{
-    if let (Some(id), Some(place)) = (CyclicId::new(u64::from(index) + 1), Index::new(index)) {
-        core.admit(id, place);
-    }
-}
 
 /// A level in its greatest bank with the ids from 1 to `ids` admitted.
 fn filled(alloc: Global, ceiling: Ceiling, ids: u16) -> Result<LevelCore, Refusal>
@@ -30,10 +18,7 @@ fn filled(alloc: Global, ceiling: Ceiling, ids: u16) -> Result<LevelCore, Refusa
     ensures { IfOk result (λ core. IsFilled ids (firing_view (level_of core))) }
 {
     let mut core = LevelCore::new(alloc, ceiling)?;
-    core.expand(GREATEST_BANK);
-    for index in 0..ids {
-        admit_next(&mut core, index);
-    }
+    fill(&mut core, ids);
     Ok(core)
 }
 

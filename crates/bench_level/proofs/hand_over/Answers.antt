@@ -1,4 +1,4 @@
-use Rattle.bench_level.proofs.Rounds.{may_raise, raise_ready}
+use Rattle.bench_sides.proofs.Rounds.{may_raise, raise_ready}
 use Rattle.bench_level.proofs.hand_over.Goals as goal
 
 pub raise-raised-requires : goal.raise-raised-requires

@@ -1,7 +1,7 @@
 use Rattle.std.proofs.Common.{◌<◌, ◌≤◌}
 use Rattle.cyc_core.specs.Tables.{level_of}
 use Rattle.cyc_core.specs.FiringSide.{firing_view}
-use Rattle.bench_level.specs.Ready.{IsReady}
+use Rattle.bench_sides.specs.Ready.{IsReady}
 use Rattle.bench_level.proofs.hand_overs.Given as goal
 
 abbrev pub invariant-loop-round : goal.invariant-loop-round
