@@ -1,12 +1,6 @@
 pub mod Values
 pub mod Seals
-pub mod Taking
-pub mod Fresh
 pub mod Passing
 pub mod SealsFiring
 pub mod SealsSoftSide
 pub mod SealsBooks
-pub mod HandingOut
-pub mod Expiring
-pub mod Composing
-pub mod WholeFire

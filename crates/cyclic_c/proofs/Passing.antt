@@ -1,7 +1,7 @@
 -- A call that came through an open handle.
 use Rattle.std.proofs.Common.{◌≡◌, ℕ, Bool, false, Option, Some, None, refl, sym, ◌∙◌, subst}
 use Rattle.std.specs.Prelude.{IsTrue, IsSome, ◌↔◌}
-use Rattle.cyclic_c.specs.Border.{Through}
+use Rattle.cyc_border.specs.Border.{Through}
 
 pub through : {X : Type 0} (m n : Option X) (v w : X) (r : ℕ) (made : X → X → Type 0) → m ≡ Some v → n ≡ Some w → made v w
     → Through m n r made

@@ -23,7 +23,7 @@ use Rattle.std.specs.contracts.alloc.Global as global
 use Rattle.std.specs.contracts.impls.GlobalAllocator.TheImpl as heap
 use Rattle.std.proofs.alloc.Global.TheLaws as global_laws
 use Rattle.cyclic_c.specs.Owns.{may_free, owned}
-use Rattle.cyclic_c.specs.contracts.pair.Shelf as cpu
+use Rattle.cyc_border.specs.contracts.pair.Shelf as cpu
 use Rattle.cyclic_c.specs.contracts.sealed_books.SealedBooks as sealed
 
 abbrev pub R : RattleType

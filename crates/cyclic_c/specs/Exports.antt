@@ -8,8 +8,8 @@ use Rattle.cyc_fire.specs.declared.fire.Fired.{Fired}
 use Rattle.cyc_fire.specs.declared.fire.FireRefused.{FireRefused}
 use Rattle.cyc_cpu.specs.declared.hard.Totals.{Totals}
 use Rattle.cyc_cpu.specs.declared.removing.Removal.{Removal}
-use Rattle.cyclic_c.specs.Numbers.{number_of, answer_of, id_in, soft_named}
-use Rattle.cyclic_c.specs.Opening.{IsNew}
+use Rattle.cyc_border.specs.Numbers.{number_of, answer_of, id_in, soft_named}
+use Rattle.cyc_border.specs.Opening.{IsNew}
 use Rattle.cyc_expirations.specs.Timers.{earliest}
 use Rattle.cyc_timers.specs.Rows.{timers}
 use Rattle.cyc_core.specs.Tables.{Tables}
@@ -17,14 +17,14 @@ use Rattle.cyc_cpu.specs.Cpu.{CpuView}
 use Rattle.cyc_cpu.specs.Calls.{PollRemove, Changes}
 use Rattle.cyc_cpu.specs.Soft.{end_at, held_at, HasEmptyLists}
 use Rattle.cyc_cpu.specs.declared.removing.Removal.TheVariants.{Done, Kept}
-use Rattle.cyclic_c.specs.Border.{AddNumbers, Reprograms, Adds, AsksPending, AsksTotals, BeginsRemoval, Takes, Finishes}
+use Rattle.cyc_border.specs.Border.{AddNumbers, Reprograms, Adds, AsksPending, AsksTotals, BeginsRemoval, Takes, Finishes}
 use Rattle.cyclic_c.specs.Records.{IsFired, IsRefused, IsTotals, IsReceipt}
 use Rattle.cyclic_c.specs.declared.records.CyclicFired.{CyclicFired}
 use Rattle.cyclic_c.specs.declared.records.CyclicTotals.{CyclicTotals}
 use Rattle.cyclic_c.specs.declared.records.CyclicReceipt.{CyclicReceipt}
-use Rattle.cyclic_c.specs.declared.cpu.Cpu.{Cpu}
-use Rattle.cyclic_c.specs.declared.numbers.Denied.{Denied}
-use Rattle.cyclic_c.specs.declared.numbers.Denied.TheVariants.{Misused, Refused}
+use Rattle.cyc_border.specs.declared.cpu.Cpu.{Cpu}
+use Rattle.cyc_border.specs.declared.numbers.Denied.{Denied}
+use Rattle.cyc_border.specs.declared.numbers.Denied.TheVariants.{Misused, Refused}
 
 -- an open: the handle has a new CPU, or is as it was
 abbrev pub Opens : ℕ → ℕ → ℕ → Option Cpu → Option Cpu → Type 0

@@ -1,12 +1,4 @@
 pub mod Owns
-pub mod Granted
-pub mod Numbers
-pub mod Border
-pub mod Opening
 pub mod Records
 pub mod Exports
 pub mod PairOut
-pub mod Parts
-pub mod Held
-pub mod Seats
-pub mod Pair

@@ -6,16 +6,16 @@ use Rattle.cyc_ring.specs.Books.{IsBook, IsFree}
 use Rattle.cyc_ring.specs.declared.closed.Book.{Book}
 use Rattle.cyc_ring.specs.declared.closed.Closed.{Closed}
 use Rattle.cyclic_c.specs.Exports.{Written, or_zero}
-use Rattle.cyclic_c.specs.Numbers.{number_of}
-use Rattle.cyclic_c.specs.declared.numbers.Denied.TheVariants.{Misused, Refused}
-use Rattle.cyclic_c.specs.Pair.{IsNewPair, IsClosedOf, SameRings}
+use Rattle.cyc_border.specs.Numbers.{number_of}
+use Rattle.cyc_border.specs.declared.numbers.Denied.TheVariants.{Misused, Refused}
+use Rattle.cyc_border.specs.Pair.{IsNewPair, IsClosedOf, SameRings}
 use Rattle.cyclic_c.specs.Records.{IsBookOut}
-use Rattle.cyclic_c.specs.Seats.{TakesSeat, FinishesSeat, hand_in}
-use Rattle.cyclic_c.specs.declared.pair.Books.{Books}
-use Rattle.cyclic_c.specs.declared.pair.Firing.{Firing}
-use Rattle.cyclic_c.specs.declared.pair.Shelf.{Shelf}
+use Rattle.cyc_border.specs.Seats.{TakesSeat, FinishesSeat, hand_in}
+use Rattle.cyc_border.specs.declared.pair.Books.{Books}
+use Rattle.cyc_border.specs.declared.pair.Firing.{Firing}
+use Rattle.cyc_border.specs.declared.pair.Shelf.{Shelf}
 use Rattle.cyclic_c.specs.declared.records.CyclicBook.{CyclicBook}
-use Rattle.cyclic_c.specs.declared.soft_side.SoftSide.{SoftSide}
+use Rattle.cyc_border.specs.declared.soft_side.SoftSide.{SoftSide}
 
 -- the three handles of a CPU between threads, each open or closed
 pub record Handles : Type 0 where

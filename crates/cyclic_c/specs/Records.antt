@@ -5,8 +5,8 @@ use Rattle.cyc_fire.specs.declared.fire.Fired.{Fired}
 use Rattle.cyc_fire.specs.declared.fire.FireRefused.{FireRefused}
 use Rattle.cyc_cpu.specs.declared.hard.Totals.{Totals}
 use Rattle.cyc_ring.specs.declared.closed.Book.{Book}
-use Rattle.cyclic_c.specs.Numbers.{id_in}
-use Rattle.cyclic_c.specs.declared.numbers.Denied.TheVariants.{Refused}
+use Rattle.cyc_border.specs.Numbers.{id_in}
+use Rattle.cyc_border.specs.declared.numbers.Denied.TheVariants.{Refused}
 use Rattle.cyclic_c.specs.declared.records.CyclicFired.{CyclicFired}
 use Rattle.cyclic_c.specs.declared.records.CyclicTotals.{CyclicTotals}
 use Rattle.cyclic_c.specs.declared.records.CyclicReceipt.{CyclicReceipt}

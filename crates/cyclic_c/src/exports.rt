@@ -1,27 +1,24 @@
 //! The exports that open, close and drain a CPU on one thread.
 
-ghost use Rattle.std.specs.Prelude.{◌≡◌};
-ghost use Rattle.cyclic_c.specs.Border.{Through};
+ghost use Rattle.cyc_border.specs.Border.{Through};
 ghost use Rattle.cyclic_c.specs.Exports.{Opens, Closes, ReprogramsOut, AddsOut, PendingOut, TotalsOut, PollsOut, TakesOut};
-ghost use Rattle.cyclic_c.specs.Exports.{FinishesOut, FiresOut, RemovesOut, NextOut, named_by, kept_by, IsRemoved, OnHard};
-ghost use Rattle.cyclic_c.specs.Border.{FiresCpu, add_numbers};
+ghost use Rattle.cyclic_c.specs.Exports.{FinishesOut, FiresOut, RemovesOut, NextOut, OnHard};
+ghost use Rattle.cyc_border.specs.Border.{FiresCpu, add_numbers};
 ghost use Rattle.cyclic_c.specs.Exports.{written};
 ghost use Rattle.cyc_cpu.specs.Soft.{raise_tables};
-ghost use Rattle.cyclic_c.specs.Numbers.{answer_of};
 
-use crate::asking::{begin_remove, pending_of, reprogram, totals_at};
-use crate::calling::add;
-use crate::handle::CyclicCpu;
-use crate::numbers::{Denied, soft_of};
-use crate::opening::opened;
-use crate::records::{
-    CyclicFired, CyclicReceipt, CyclicTotals, fired_of, receipt_of, stopped_of, totals_of,
+use crate::answers::{
+    MISUSED, found_in, kept_of, named_in, number_of_answer, or_zero, polled, removed_of,
+    write_fired, write_totals,
 };
-use cyc_cpu::Removal;
+use crate::handle::CyclicCpu;
+use crate::records::{CyclicFired, CyclicReceipt, CyclicTotals};
+use cyc_border::asking::{begin_remove, pending_of, reprogram, totals_at};
+use cyc_border::calling::add;
+use cyc_border::numbers::soft_of;
+use cyc_border::opening::opened;
 use cyc_types::{Ceiling, Moment};
 use std::alloc::Global;
-
-pub(crate) const MISUSED: u32 = 64;
 
 /// Opens a CPU with no cyclic. Refuses with Misused where the handle is open, or `ceiling` or `most` is 0; then with Memory.
 #[unsafe(no_mangle)]
@@ -62,16 +59,6 @@ pub extern "C" fn cyclic_cpu_close(alloc: Global, cpu: &mut CyclicCpu) -> u32
     }
 }
 
-/// The number of an answer that has nothing but its refusal.
-pub(crate) fn number_of_answer(answer: &Result<(), Denied>) -> u32
-    ensures { result ≡ answer_of answer.now }
-{
-    match answer {
-        Ok(()) => 0,
-        Err(denied) => denied.number(),
-    }
-}
-
 /// Gives a cyclic another next expiration (`reprogram` of the CPU).
 #[unsafe(no_mangle)]
 pub extern "C" fn cyclic_reprogram(alloc: Global, cpu: &mut CyclicCpu, id: u64, moment: i64) -> u32
@@ -109,16 +96,6 @@ pub extern "C" fn cyclic_add(
     number_of_answer(&answer)
 }
 
-/// The id that an answer's refusal names, 0 where it names none.
-pub(crate) fn named_in(answer: &Result<(), Denied>) -> u64
-    ensures { result ≡ named_by answer.now }
-{
-    match answer {
-        Ok(()) => 0,
-        Err(denied) => denied.id(),
-    }
-}
-
 /// The calls of the cyclic that are outstanding, 0 where it is refused.
 #[unsafe(no_mangle)]
 pub extern "C" fn cyclic_pending(
@@ -134,16 +111,8 @@ pub extern "C" fn cyclic_pending(
     };
     let answer = pending_of(&mut open.hard, id);
     cpu.put(open);
-    match answer {
-        Ok(calls) => {
-            *pending = calls;
-            0
-        }
-        Err(denied) => {
-            *pending = 0;
-            denied.number()
-        }
-    }
+    *pending = found_in(&answer);
+    number_of_answer(&answer)
 }
 
 /// The counts of the cyclic; `totals` is written where they are there.
@@ -162,13 +131,8 @@ pub extern "C" fn cyclic_totals(
     };
     let answer = totals_at(&mut open.hard, id);
     cpu.put(open);
-    match answer {
-        Ok(counts) => {
-            *totals = totals_of(counts);
-            0
-        }
-        Err(denied) => denied.number(),
-    }
+    write_totals(&answer, totals);
+    number_of_answer(&answer)
 }
 
 /// Ends the open removal where its last call was made, and writes the receipt; else `receipt` gets the id 0.
@@ -185,10 +149,7 @@ pub extern "C" fn cyclic_poll_remove(
     };
     let answer = open.hard.poll_remove();
     cpu.put(open);
-    *receipt = match answer {
-        Some(counts) => receipt_of(counts),
-        None => CyclicReceipt::NONE,
-    };
+    *receipt = polled(answer);
     0
 }
 
@@ -206,10 +167,7 @@ pub extern "C" fn cyclic_take(alloc: Global, cpu: &mut CyclicCpu, level: u32, id
     };
     let found = open.take(soft);
     cpu.put(open);
-    *id = match found {
-        Some(next) => next.number(),
-        None => 0,
-    };
+    *id = or_zero(found);
     0
 }
 
@@ -244,25 +202,13 @@ pub extern "C" fn cyclic_fire(
     let Some(mut open) = cpu.take(alloc) else {
         return MISUSED;
     };
-    let moment = match Moment::new(now) {
-        Ok(moment) => moment,
-        Err(_negative) => {
-            cpu.put(open);
-            return 2;
-        }
+    let Ok(moment) = Moment::new(now) else {
+        cpu.put(open);
+        return 2;
     };
     let answer = open.fire(moment);
     cpu.put(open);
-    match answer {
-        Ok(done) => {
-            *fired = fired_of(done);
-            0
-        }
-        Err(refused) => {
-            *fired = stopped_of(refused);
-            u32::from(refused.why.number())
-        }
-    }
+    write_fired(answer, fired)
 }
 
 /// Begins the removal of a cyclic. Done at once, `receipt` is written and `kept` is 0; else `kept` gets the calls that are
@@ -287,36 +233,8 @@ pub extern "C" fn cyclic_begin_remove(
     cpu.put(open);
     *kept = kept_of(&answer);
     *receipt = removed_of(&answer);
-    match answer {
-        Ok(_) => {
-            *busy = 0;
-            0
-        }
-        Err(denied) => {
-            *busy = denied.id();
-            denied.number()
-        }
-    }
-}
-
-/// The calls that a removal waits for, 0 where it is done or refused.
-pub(crate) fn kept_of(answer: &Result<Removal, Denied>) -> u32
-    ensures { result ≡ kept_by answer.now }
-{
-    match answer {
-        Ok(Removal::Kept(calls)) => *calls,
-        _ => 0,
-    }
-}
-
-/// The receipt of a removal that was done at once, else one of no cyclic.
-pub(crate) fn removed_of(answer: &Result<Removal, Denied>) -> CyclicReceipt
-    ensures { IsRemoved answer.now result }
-{
-    match answer {
-        Ok(Removal::Done(receipt)) => receipt_of(*receipt),
-        _ => CyclicReceipt::NONE,
-    }
+    *busy = named_in(&answer);
+    number_of_answer(&answer)
 }
 
 /// The least expiration of the CPU, never where there is none.

@@ -1,18 +1,18 @@
 //! The exports of the firing side.
 
-ghost use Rattle.std.specs.Prelude.{◌≡◌};
-ghost use Rattle.cyclic_c.specs.Border.{Through, add_numbers};
+ghost use Rattle.cyc_border.specs.Border.{Through, add_numbers};
 ghost use Rattle.cyclic_c.specs.Exports.{written};
 ghost use Rattle.cyclic_c.specs.Exports.{ReprogramsOut, AddsOut, PendingOut, TotalsOut, PollsOut, FiresOut, RemovesOut, NextOut};
-ghost use Rattle.cyclic_c.specs.Pair.{raise_held, OnSide, FiresSide};
+ghost use Rattle.cyc_border.specs.Pair.{raise_held, OnSide, FiresSide};
 
-use crate::asking::{begin_remove, pending_of, reprogram, totals_at};
-use crate::calling::add;
-use crate::exports::{MISUSED, kept_of, named_in, number_of_answer, removed_of};
-use crate::handle_firing::CyclicFiring;
-use crate::records::{
-    CyclicFired, CyclicReceipt, CyclicTotals, fired_of, receipt_of, stopped_of, totals_of,
+use crate::answers::{
+    MISUSED, found_in, kept_of, named_in, number_of_answer, polled, removed_of, write_fired,
+    write_totals,
 };
+use crate::handle_firing::CyclicFiring;
+use crate::records::{CyclicFired, CyclicReceipt, CyclicTotals};
+use cyc_border::asking::{begin_remove, pending_of, reprogram, totals_at};
+use cyc_border::calling::add;
 use cyc_types::Moment;
 use std::alloc::Global;
 
@@ -81,16 +81,8 @@ pub extern "C" fn cyclic_firing_begin_remove(
     firing.put(open);
     *kept = kept_of(&answer);
     *receipt = removed_of(&answer);
-    match answer {
-        Ok(_) => {
-            *busy = 0;
-            0
-        }
-        Err(denied) => {
-            *busy = denied.id();
-            denied.number()
-        }
-    }
+    *busy = named_in(&answer);
+    number_of_answer(&answer)
 }
 
 /// Ends the open removal where its last call was made, and writes the receipt; else `receipt` gets the id 0.
@@ -108,10 +100,7 @@ pub extern "C" fn cyclic_firing_poll_remove(
     };
     let answer = open.hard.poll_remove();
     firing.put(open);
-    *receipt = match answer {
-        Some(counts) => receipt_of(counts),
-        None => CyclicReceipt::NONE,
-    };
+    *receipt = polled(answer);
     0
 }
 
@@ -130,25 +119,13 @@ pub extern "C" fn cyclic_firing_fire(
     let Some(mut open) = firing.take(alloc) else {
         return MISUSED;
     };
-    let moment = match Moment::new(now) {
-        Ok(moment) => moment,
-        Err(_negative) => {
-            firing.put(open);
-            return 2;
-        }
+    let Ok(moment) = Moment::new(now) else {
+        firing.put(open);
+        return 2;
     };
     let answer = open.fire(moment);
     firing.put(open);
-    match answer {
-        Ok(done) => {
-            *fired = fired_of(done);
-            0
-        }
-        Err(refused) => {
-            *fired = stopped_of(refused);
-            u32::from(refused.why.number())
-        }
-    }
+    write_fired(answer, fired)
 }
 
 /// The calls of the cyclic that are outstanding, 0 where it is refused.
@@ -167,16 +144,8 @@ pub extern "C" fn cyclic_firing_pending(
     };
     let answer = pending_of(&mut open.hard, id);
     firing.put(open);
-    match answer {
-        Ok(calls) => {
-            *pending = calls;
-            0
-        }
-        Err(denied) => {
-            *pending = 0;
-            denied.number()
-        }
-    }
+    *pending = found_in(&answer);
+    number_of_answer(&answer)
 }
 
 /// The counts of the cyclic; `totals` is written where they are there.
@@ -195,13 +164,8 @@ pub extern "C" fn cyclic_firing_totals(
     };
     let answer = totals_at(&mut open.hard, id);
     firing.put(open);
-    match answer {
-        Ok(counts) => {
-            *totals = totals_of(counts);
-            0
-        }
-        Err(denied) => denied.number(),
-    }
+    write_totals(&answer, totals);
+    number_of_answer(&answer)
 }
 
 /// The least expiration of the CPU, never where there is none.

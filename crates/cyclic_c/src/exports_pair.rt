@@ -1,17 +1,17 @@
 //! The exports that open and close a CPU between threads.
 
 ghost use Rattle.std.specs.Prelude.{◌≡◌};
-ghost use Rattle.cyclic_c.specs.Border.{Through};
+ghost use Rattle.cyc_border.specs.Border.{Through};
 ghost use Rattle.cyclic_c.specs.Exports.{written};
 ghost use Rattle.cyclic_c.specs.PairOut.{OpensPair, ClosesPair, OneOpen, TakesSoft, FinishesSoft, HandsSoft, BookOut, handles};
 ghost use Rattle.cyclic_c.specs.PairOut.{ClosesHandle, shelved};
 
-use crate::exports::MISUSED;
+use crate::answers::{MISUSED, or_zero};
 use crate::handle_books::CyclicBooks;
 use crate::handle_firing::CyclicFiring;
 use crate::handle_soft::CyclicSoft;
-use crate::pair::{Shelf, closed, opened};
 use crate::records::{CyclicBook, book_of};
+use cyc_border::pair::{Shelf, closed, opened};
 use cyc_types::{Ceiling, Index};
 use std::alloc::Global;
 
@@ -106,10 +106,7 @@ pub extern "C" fn cyclic_soft_take(alloc: Global, soft: &mut CyclicSoft, id: &mu
     };
     let found = open.take();
     soft.put(open);
-    *id = match found {
-        Some(next) => next.number(),
-        None => 0,
-    };
+    *id = or_zero(found);
     0
 }
 
@@ -139,10 +136,7 @@ pub extern "C" fn cyclic_soft_hand(alloc: Global, soft: &mut CyclicSoft, id: &mu
     };
     let found = open.hand();
     soft.put(open);
-    *id = match found {
-        Some(held) => held.number(),
-        None => 0,
-    };
+    *id = or_zero(found);
     0
 }
 

@@ -2,9 +2,9 @@
 
 ghost use Rattle.std.specs.Prelude.{◌≡◌, Some, None, IsSome, IfSome, IfNone, IsTrue, ◌↔◌};
 
-use crate::cpu::Cpu;
 use crate::loose::Loose;
 use crate::sealed::Sealed;
+use cyc_border::cpu::Cpu;
 use std::alloc::Global;
 
 /// A CPU as a program in C has it, or a closed handle. C copies none of it and changes none of it.

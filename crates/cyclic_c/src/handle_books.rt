@@ -4,8 +4,8 @@ ghost use Rattle.std.specs.Prelude.{◌≡◌, ◌≢◌, Some, None, IsSome, If
 ghost use Rattle.std.specs.Option.{ForSome};
 
 use crate::loose::Loose;
-use crate::pair::Shelf;
 use crate::sealed_books::SealedBooks;
+use cyc_border::pair::Shelf;
 use std::alloc::Global;
 
 /// The books of a closed CPU as a program in C has it, or a closed handle. C copies none of it and changes none of it.

@@ -3,8 +3,8 @@
 ghost use Rattle.std.specs.Prelude.{◌≡◌, Some, None, IsSome, IfSome, IfNone, IsTrue, ◌↔◌};
 
 use crate::loose::Loose;
-use crate::pair::Firing;
 use crate::sealed_firing::SealedFiring;
+use cyc_border::pair::Firing;
 use std::alloc::Global;
 
 /// The firing side of a CPU between threads as a program in C has it, or a closed handle. C copies none of it and changes none of

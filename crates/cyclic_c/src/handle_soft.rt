@@ -4,7 +4,7 @@ ghost use Rattle.std.specs.Prelude.{◌≡◌, Some, None, IsSome, IfSome, IfNon
 
 use crate::loose::Loose;
 use crate::sealed_soft::SealedSoft;
-use crate::soft_side::SoftSide;
+use cyc_border::soft_side::SoftSide;
 use std::alloc::Global;
 
 /// One soft side of a CPU between threads as a program in C has it, or a closed handle. C copies none of it and changes none of

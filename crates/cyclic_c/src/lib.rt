@@ -5,26 +5,17 @@
 //! whose type C does not see.
 #![tactic(auto)]
 
-pub mod asking;
-pub mod calling;
-pub mod cpu;
+pub mod answers;
 pub mod exports;
 pub mod exports_firing;
 pub mod exports_pair;
-pub mod granted;
 pub mod handle;
 pub mod handle_books;
 pub mod handle_firing;
 pub mod handle_soft;
-pub mod held;
 pub mod loose;
-pub mod numbers;
-pub mod opening;
-pub mod pair;
-pub mod parts;
 pub mod records;
 pub mod sealed;
 pub mod sealed_books;
 pub mod sealed_firing;
 pub mod sealed_soft;
-pub mod soft_side;

@@ -3,7 +3,7 @@
 ghost use Rattle.std.specs.Prelude.{◌≡◌};
 ghost use Rattle.cyclic_c.specs.Records.{IsFired, IsRefused, IsTotals, IsReceipt, IsBookOut};
 
-use crate::numbers::Denied;
+use cyc_border::numbers::Denied;
 use cyc_cpu::{FireRefused, Fired, Totals};
 use cyc_ring::Book;
 use cyc_types::Receipt;

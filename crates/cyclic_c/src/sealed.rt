@@ -2,11 +2,11 @@
 
 ghost use Rattle.std.specs.Prelude.{◌≡◌, Option, Some, None, IsSome};
 ghost use Rattle.cyclic_c.specs.Owns.{owned};
-ghost use Rattle.cyclic_c.specs.declared.cpu.Cpu.{Cpu};
-ghost use Rattle.cyclic_c.specs.contracts.cpu.Cpu as cpu;
+ghost use Rattle.cyc_border.specs.declared.cpu.Cpu.{Cpu};
+ghost use Rattle.cyc_border.specs.contracts.cpu.Cpu as cpu;
 
-use crate::cpu::Cpu;
 use crate::loose::Loose;
+use cyc_border::cpu::Cpu;
 use std::alloc::Global;
 use std::marker::Model;
 use std::ptr::null_mut;

@@ -2,11 +2,11 @@
 
 ghost use Rattle.std.specs.Prelude.{◌≡◌, Option, Some, None, IsSome};
 ghost use Rattle.cyclic_c.specs.Owns.{owned};
-ghost use Rattle.cyclic_c.specs.declared.pair.Shelf.{Shelf};
-ghost use Rattle.cyclic_c.specs.contracts.pair.Shelf as inner;
+ghost use Rattle.cyc_border.specs.declared.pair.Shelf.{Shelf};
+ghost use Rattle.cyc_border.specs.contracts.pair.Shelf as inner;
 
 use crate::loose::Loose;
-use crate::pair::Shelf;
+use cyc_border::pair::Shelf;
 use std::alloc::Global;
 use std::marker::Model;
 use std::ptr::null_mut;

@@ -2,11 +2,11 @@
 
 ghost use Rattle.std.specs.Prelude.{◌≡◌, Option, Some, None, IsSome};
 ghost use Rattle.cyclic_c.specs.Owns.{owned};
-ghost use Rattle.cyclic_c.specs.declared.pair.Firing.{Firing};
-ghost use Rattle.cyclic_c.specs.contracts.pair.Firing as inner;
+ghost use Rattle.cyc_border.specs.declared.pair.Firing.{Firing};
+ghost use Rattle.cyc_border.specs.contracts.pair.Firing as inner;
 
 use crate::loose::Loose;
-use crate::pair::Firing;
+use cyc_border::pair::Firing;
 use std::alloc::Global;
 use std::marker::Model;
 use std::ptr::null_mut;

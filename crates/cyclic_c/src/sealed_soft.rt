@@ -2,11 +2,11 @@
 
 ghost use Rattle.std.specs.Prelude.{◌≡◌, Option, Some, None, IsSome};
 ghost use Rattle.cyclic_c.specs.Owns.{owned};
-ghost use Rattle.cyclic_c.specs.declared.soft_side.SoftSide.{SoftSide};
-ghost use Rattle.cyclic_c.specs.contracts.soft_side.SoftSide as inner;
+ghost use Rattle.cyc_border.specs.declared.soft_side.SoftSide.{SoftSide};
+ghost use Rattle.cyc_border.specs.contracts.soft_side.SoftSide as inner;
 
 use crate::loose::Loose;
-use crate::soft_side::SoftSide;
+use cyc_border::soft_side::SoftSide;
 use std::alloc::Global;
 use std::marker::Model;
 use std::ptr::null_mut;

@@ -1,7 +1,7 @@
 use Rattle.std.proofs.Common.{subst, ap, to_z-of_z, to_z, of_z, w64, ℤ}
 use Rattle.cyc_cpu.specs.Soft.{raise_tables}
-use Rattle.cyclic_c.specs.Border.{Adds, add_numbers}
-use Rattle.cyclic_c.specs.declared.cpu.Cpu.{Cpu}
+use Rattle.cyc_border.specs.Border.{Adds, add_numbers}
+use Rattle.cyc_border.specs.declared.cpu.Cpu.{Cpu}
 use Rattle.cyclic_c.proofs.Passing.{through}
 use Rattle.cyclic_c.proofs.exports.cyclic_add.Goals as goal
 

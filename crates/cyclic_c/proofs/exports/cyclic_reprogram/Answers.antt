@@ -1,7 +1,7 @@
 use Rattle.std.proofs.Common.{subst, ap, to_z-of_z, ℤ}
 use Rattle.cyc_cpu.specs.Soft.{raise_tables}
-use Rattle.cyclic_c.specs.Border.{Reprograms}
-use Rattle.cyclic_c.specs.declared.cpu.Cpu.{Cpu}
+use Rattle.cyc_border.specs.Border.{Reprograms}
+use Rattle.cyc_border.specs.declared.cpu.Cpu.{Cpu}
 use Rattle.cyclic_c.proofs.Passing.{through}
 use Rattle.cyclic_c.proofs.exports.cyclic_reprogram.Goals as goal
 

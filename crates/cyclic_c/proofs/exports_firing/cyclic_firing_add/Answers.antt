@@ -1,7 +1,7 @@
 use Rattle.std.proofs.Common.{subst, ap, to_z-of_z, to_z, of_z, w64, ℤ}
-use Rattle.cyclic_c.specs.Pair.{raise_held}
-use Rattle.cyclic_c.specs.Border.{Adds, add_numbers}
-use Rattle.cyclic_c.specs.declared.pair.Firing.{Firing}
+use Rattle.cyc_border.specs.Pair.{raise_held}
+use Rattle.cyc_border.specs.Border.{Adds, add_numbers}
+use Rattle.cyc_border.specs.declared.pair.Firing.{Firing}
 use Rattle.cyclic_c.proofs.Passing.{through}
 use Rattle.cyclic_c.proofs.exports_firing.cyclic_firing_add.Goals as goal
 

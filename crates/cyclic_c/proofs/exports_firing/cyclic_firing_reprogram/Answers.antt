@@ -1,7 +1,7 @@
 use Rattle.std.proofs.Common.{subst, ap, to_z-of_z, ℤ}
-use Rattle.cyclic_c.specs.Pair.{raise_held}
-use Rattle.cyclic_c.specs.Border.{Reprograms}
-use Rattle.cyclic_c.specs.declared.pair.Firing.{Firing}
+use Rattle.cyc_border.specs.Pair.{raise_held}
+use Rattle.cyc_border.specs.Border.{Reprograms}
+use Rattle.cyc_border.specs.declared.pair.Firing.{Firing}
 use Rattle.cyclic_c.proofs.Passing.{through}
 use Rattle.cyclic_c.proofs.exports_firing.cyclic_firing_reprogram.Goals as goal
 

@@ -1,6 +1,6 @@
 use Rattle.std.proofs.Common.{Some, inl, refl, sym, ap, ◌∙◌}
-use Rattle.cyclic_c.specs.declared.pair.Firing.{Firing}
-use Rattle.cyclic_c.specs.declared.soft_side.SoftSide.{SoftSide}
+use Rattle.cyc_border.specs.declared.pair.Firing.{Firing}
+use Rattle.cyc_border.specs.declared.soft_side.SoftSide.{SoftSide}
 use Rattle.cyclic_c.specs.PairOut.{shelved}
 use Rattle.cyclic_c.proofs.exports_pair.cyclic_close.Goals as goal
 

@@ -1,5 +1,5 @@
 use Rattle.std.proofs.Common.{ℕ, Some, inl, inr, refl, ap, subst, ◌∙◌, arith}
-use Rattle.cyclic_c.specs.Pair.{IsNewPair}
+use Rattle.cyc_border.specs.Pair.{IsNewPair}
 use Rattle.cyclic_c.proofs.Passing.{none_of}
 use Rattle.cyclic_c.proofs.exports_pair.cyclic_open.Goals as goal
 

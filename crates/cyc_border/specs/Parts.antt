@@ -1,0 +1,86 @@
+-- What a fire that is made in parts has called: only what was handed out.
+use Rattle.std.specs.Prelude.{◌≡◌, ℕ, ◌+◌, ◌⊎◌, List, [], ◌∷◌, ◌++◌, length, sum_by, Option, Some, Result, Ok, Err}
+use Rattle.std.specs.List.{filter_map}
+use Rattle.cyc_types.specs.Counting.{times}
+use Rattle.cyc_types.specs.declared.Calls.{Ghosts as Calls}
+use Rattle.cyc_types.specs.declared.Raise.{Ghosts as Raise}
+use Rattle.cyc_types.specs.declared.level.Level.{Level}
+use Rattle.cyc_types.specs.declared.level.Level.TheVariants.{High}
+use Rattle.cyc_expirations.specs.Expirations.{Expiration, expirations}
+use Rattle.cyc_timers.specs.Rows.{timers}
+use Rattle.cyc_fire.specs.Acts.{ids_at}
+use Rattle.cyc_fire.specs.declared.fire.Fired.{Fired}
+use Rattle.cyc_fire.specs.declared.fire.FireRefused.{FireRefused}
+use Rattle.cyc_cpu.specs.Cpu.{CpuView, running}
+use Rattle.cyc_cpu.specs.Calls.{Does, Fire, no_interrupts}
+use Rattle.cyc_border.specs.Border.{Fires, stopped_at}
+
+-- none, or the one in front of which the last part stopped, once
+abbrev pub IsHandedOut : Option ℕ → List ℕ → Type 0
+IsHandedOut high ids = (ids ≡ []) ⊎ ((id : ℕ) × (high ≡ Some id) × (ids ≡ id ∷ []))
+
+-- a part of a fire makes the front of the fire's list, or all of it where it is done; and of the high cyclics only the one whose
+-- handler was called before it
+abbrev pub IsPart : {R : Type 0} → ℕ → Result Fired FireRefused → Option ℕ → CpuView R → Type 0
+IsPart now (Ok r) high v = (r.expired ≡ length (expirations now (timers v.cyclics)))
+    × IsHandedOut high (ids_at High (timers v.cyclics) (expirations now (timers v.cyclics)))
+IsPart now (Err e) high v = (made : List Expiration) × (rest : List Expiration)
+    × (expirations now (timers v.cyclics) ≡ made ++ rest) × (e.expired ≡ length made)
+    × IsHandedOut high (ids_at High (timers v.cyclics) made)
+
+-- a CPU, and the high cyclic in front of which its fire stopped
+pub record Paused (R : Type 0) : Type 0 where
+  pub cpu : CpuView R
+  pub high : Option ℕ
+
+-- a fire stopped there
+abbrev pub paused : {R : Type 0} → Option ℕ → CpuView R → Paused R
+paused high cpu = record { cpu = cpu; high = high }
+
+-- the next part of a fire at this moment
+abbrev pub MakesPart : {R : Type 0} → Raise R → ℕ
+    → Paused R → Result Fired FireRefused → Paused R → Type 0
+MakesPart firing now s answer t = Fires firing now answer s.high s.cpu t.high t.cpu
+
+-- the part stopped in front of a high cyclic
+abbrev pub IsPaused : Result Fired FireRefused → Type 0
+IsPaused answer = (id : ℕ) × (stopped_at answer ≡ Some id)
+
+-- the expirations that a part counted
+abbrev pub expired_of : Result Fired FireRefused → ℕ
+expired_of (Ok r) = r.expired
+expired_of (Err e) = e.expired
+
+-- those of them that it lost
+abbrev pub lost_of : Result Fired FireRefused → ℕ
+lost_of (Ok r) = r.lost
+lost_of (Err e) = e.lost
+
+-- the high cyclics that were handed out, in order
+abbrev pub handed_out : List (Result Fired FireRefused) → List ℕ
+handed_out parts = filter_map stopped_at parts
+
+-- what the parts and the last one counted together
+abbrev pub together : List (Result Fired FireRefused) → Fired → Fired
+together parts last = record {
+  expired = sum_by expired_of parts + last.expired;
+  lost = sum_by lost_of parts + last.lost;
+  next = last.next;
+}
+
+-- handlers that write down for whom they were called, and never refuse
+abbrev pub notes : List ℕ → ℕ → Level → List ℕ → Type 0
+notes ids id level more = more ≡ ids ++ id ∷ []
+
+abbrev pub noted : List ℕ → ℕ → ℕ
+noted ids id = times id ids
+
+abbrev pub noting : Calls (List ℕ)
+noting = record { count = noted; called = notes; may_refuse = λ ids id. ⊥ }
+
+-- The parts are one fire of the CPU, whose handlers were called for those that were handed out, in that order: each expiration
+-- that was due is made once, in order, and counted once.
+abbrev pub IsOneFire : {R : Type 0} → Raise R → ℕ
+    → List (Result Fired FireRefused) → Fired → CpuView R → CpuView R → Type 0
+IsOneFire firing now parts last v w = Does noting firing no_interrupts (running [] v) (Fire now (Ok (together parts last)))
+    (running (handed_out parts) w)

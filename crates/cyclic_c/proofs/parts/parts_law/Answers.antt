@@ -1,5 +1,0 @@
-use Rattle.cyclic_c.proofs.HandingOut.{parts}
-use Rattle.cyclic_c.proofs.parts.parts_law.Goals as goal
-
-pub returns : goal.returns
-returns g c now answer high high' v w fires = parts g.R.Raise now answer high high' v w fires
