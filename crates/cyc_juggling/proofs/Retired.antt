@@ -97,7 +97,8 @@ taken_off firing source place id taken v w rise spot takes =
       there = sized source _ v w takes;
     }
 
-filtered_none : {A : Type 0} (p : A → Bool) (xs : List A) (k : ℕ) (x : A) → filter p xs ≡ [] → slice_get xs k ≡ Some x
+-- none of a list passes
+pub filtered_none : {A : Type 0} (p : A → Bool) (xs : List A) (k : ℕ) (x : A) → filter p xs ≡ [] → slice_get xs k ≡ Some x
     → p x ≡ false
 filtered_none p [] k x e at = absurd (none_some at)
 filtered_none {A} p (y ∷ ys) k x e at = by (p y) refl e k (filtered_none p ys) at

@@ -161,7 +161,7 @@ is_opened : (id : ℕ) (c : Cpu) → c.removal ≡ Some id → is_open id c ≡ 
 is_opened id c is = ap (λ o. option_map_or (λ busy. busy == id) o false) is ∙ eq-eqb id id refl
 
 -- where a removal is open, it is open wherever the cyclic is
-all_leaving : (id k : ℕ) (s : State) → Good s → (cpu_of k s).removal ≡ Some id → Leaving id s
+pub all_leaving : (id k : ℕ) (s : State) → Good s → (cpu_of k s).removal ≡ Some id → Leaving id s
 all_leaving id k s g is = by (placement_of id s) refl (g.base.homes k id held)
   where
     held : IsSome (found id (cpu_of k s).cyclics)

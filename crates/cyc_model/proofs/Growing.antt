@@ -51,7 +51,7 @@ expired_new id x none = by (is_of id x)
     by true = none
     by false = refl
 
-expired_put : (id : ℕ) (x : Cyclic) (cs : List Cyclic) → x.timer.expired ≡ 0
+pub expired_put : (id : ℕ) (x : Cyclic) (cs : List Cyclic) → x.timer.expired ≡ 0
     → sum_by (expired_by id) (put_in x cs) ≡ sum_by (expired_by id) cs
 expired_put id x [] none = let a = sum_by-cons (expired_by id) x [] in let o = expired_new id x none in omega (arith, a, o)
 expired_put id x (y ∷ ys) none = by (nat_lt x.timer.id y.timer.id) (expired_put id x ys none)
@@ -63,7 +63,7 @@ expired_put id x (y ∷ ys) none = by (nat_lt x.timer.id y.timer.id) (expired_pu
         let a = sum_by-cons (expired_by id) y (put_in x ys) in
         let b = sum_by-cons (expired_by id) y ys in omega (arith, a, b, r)
 
-widened_same : (n : ℕ) (c : Cpu) → (widen_here n 1 c).cpu.cyclics ≡ c.cyclics
+pub widened_same : (n : ℕ) (c : Cpu) → (widen_here n 1 c).cpu.cyclics ≡ c.cyclics
 widened_same n c = by (must_grow 1 c)
   where
     by : (b : Bool) → (cond b (switch_here n (bank_for (length c.cyclics + 1)) c) (record { acts = []; cpu = c })).cpu.cyclics
@@ -109,7 +109,7 @@ grows_reprogram id n j moment s =
 -- ---- fires
 
 -- at most so many of a cyclic: it is late by no more than a second and an interval, or expires once
-few_due : (e t now : ℕ) → due e t now ≤ late + 2
+pub few_due : (e t now : ℕ) → due e t now ≤ late + 2
 few_due e t now = by (nat_lt now e) (nat_lt (e + t + late) now) refl
   where
     share : (m n : ℕ) → n ≤ m + late → n / m ≤ late + 1

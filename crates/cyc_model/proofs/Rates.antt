@@ -1,13 +1,12 @@
 -- No stay of a script counts 2^64 expirations.
-use Rattle.std.proofs.Common.{◌≡◌, ℕ, zero, suc, ◌+◌, ◌-◌, ◌*◌, ◌/◌, ◌<◌, ◌≤◌, ◌==◌, ◌&&◌, eq-eqb, ne_eqb, Bool, true, false}
+use Rattle.std.proofs.Common.{◌≡◌, ℕ, zero, suc, ◌+◌, ◌-◌, ◌*◌, ◌<◌, ◌≤◌, ◌==◌, ◌&&◌, eq-eqb, ne_eqb, Bool, true, false}
 use Rattle.std.proofs.Common.{cond, List, [], ◌∷◌, ◌++◌, map, length, Option, Some, None, refl, ap, sym, ◌∙◌, subst, inl, inr}
 use Rattle.std.proofs.Common.{arith}
-use Rattle.std.specs.Prelude.{⊤, nat_lt}
+use Rattle.std.specs.Prelude.{⊤}
 use Rattle.std.specs.Option.{option_map}
-use Rattle.std.proofs.lemmas.Bool.{ltb-false}
-use Rattle.std.proofs.Math.Nat.{div-zero, div-le_of_le-mul, add-mul}
+use Rattle.std.proofs.Math.Nat.{add-mul}
 use Rattle.std.proofs.lemmas.Nat.{mul-le}
-use Rattle.cyc_types.specs.Series.{never, late, due}
+use Rattle.cyc_types.specs.Series.{never, late}
 use Rattle.cyc_types.specs.declared.level.Soft.{Soft}
 use Rattle.cyc_types.specs.declared.level.Soft.TheVariants.{Low, Lock}
 use Rattle.cyc_types.specs.declared.level.Level.{Level}
@@ -34,6 +33,7 @@ use Rattle.cyc_model.proofs.Agreement.{AllActs}
 use Rattle.cyc_model.proofs.Rising.{found, times_cons, times_found, due_of_found}
 use Rattle.cyc_model.proofs.Fires.{one_of}
 use Rattle.cyc_model.proofs.Refusing.{before_never}
+use Rattle.cyc_model.proofs.Growing.{few_due}
 use Rattle.cyc_model.proofs.Numbers.{Has, numbers_pass}
 use Rattle.cyc_model.proofs.Spread.{Good}
 use Rattle.cyc_model.proofs.Calm.{well_fire, good_clock}
@@ -225,21 +225,6 @@ sends_all id n (p ∷ ps) c =
     let d = expire_here n p.id c in
     let a = sends_append id d.acts (expire_all n ps d.cpu).acts in let b = sends_expiry id n p.id (handler_level_of p.id c) c in
     let r = sends_all id n ps d.cpu in let t = times_cons id p ps in omega (arith, a, b, r, t)
-
--- at most so many of a cyclic: it is late by no more than a second and an interval, or expires once
-few_due : (e t now : ℕ) → due e t now ≤ late + 2
-few_due e t now = by (nat_lt now e) (nat_lt (e + t + late) now) refl
-  where
-    share : (m n : ℕ) → n ≤ m + late → n / m ≤ late + 1
-    share zero n h = let z = div-zero n in omega (arith, z)
-    share (suc m) n h = div-le_of_le-mul (suc m) {m = n} {n = late + 1} (omega (arith, h))
-
-    by : (a b : Bool) → nat_lt (e + t + late) now ≡ b → cond a 0 (cond b 1 ((now - e) / t + 1)) ≤ late + 2
-    by true b is = omega arith
-    by false true is = omega arith
-    by false false is =
-        let le = ltb-false (e + t + late) now is in
-        let h = share t (now - e) (omega (arith, le)) in omega (arith, h)
 
 sends_fire : (id n now : ℕ) (s : State) → Good s → sends_in id (fire_here n now (cpu_of n s)).acts ≤ late + 2
 sends_fire id n now s g =

@@ -1,14 +1,14 @@
 -- Only an advance brings expirations.
-use Rattle.std.proofs.Common.{◌≡◌, ℕ, zero, suc, ◌+◌, Bool, true, false, cond, List, [], ◌∷◌, map, length, sum_by, refl}
+use Rattle.std.proofs.Common.{◌≡◌, ℕ, zero, suc, ◌+◌, Bool, true, false, cond, List, [], ◌∷◌, map, sum_by, refl}
 use Rattle.std.proofs.Common.{ap, ◌∙◌, arith}
-use Rattle.std.specs.Prelude.{⊤, slice_set, slice_index_or, nat_lt, None}
+use Rattle.std.specs.Prelude.{⊤, slice_set, slice_index_or, None}
 use Rattle.std.proofs.lemmas.List.Sums.{sum_by-cons}
 use Rattle.cyc_text.specs.declared.lines.Counts.{Counts}
 use Rattle.cyc_script.specs.declared.step.Step.{Step}
 use Rattle.cyc_script.specs.declared.step.Step.TheVariants.{Add, Omni, Bind, Unbind, Reprogram, Remove, Advance, Softint, Juggle}
 use Rattle.cyc_script.specs.declared.step.Step.TheVariants.{Offline, Online}
 use Rattle.cyc_model.specs.Cpu.{Cyclic, Cpu, Here, is_of}
-use Rattle.cyc_model.specs.Moving.{put_in, must_grow, bank_for, switch_here, widen_here, place_here, enter_here, moment_at}
+use Rattle.cyc_model.specs.Moving.{put_in, widen_here, place_here, enter_here, moment_at}
 use Rattle.cyc_model.specs.Moving.{reprogram_here}
 use Rattle.cyc_model.specs.Serving.{serve_here}
 use Rattle.cyc_model.specs.Questions.{plain}
@@ -24,6 +24,7 @@ use Rattle.cyc_model.specs.Script.{refusal_of, does, text_in}
 use Rattle.cyc_model.proofs.Whole.{same_happen}
 use Rattle.cyc_model.proofs.Serves.{same_serve}
 use Rattle.cyc_model.proofs.Totals.{all_set, expired_in}
+use Rattle.cyc_model.proofs.Growing.{expired_by, expired_put, widened_same}
 use Rattle.cyc_model.proofs.Spread.{Good}
 use Rattle.cyc_model.proofs.Calm.{well_interrupt}
 use Rattle.cyc_model.proofs.Answering.{counts_removed, counts_polls}
@@ -44,36 +45,6 @@ expired_on_same id n f s e =
     let r = sum_set_same (expired_here id) s.cpus n (f (cpu_of n s)).cpu e in omega (arith, u, r)
 
 -- ---- a new cyclic
-
-abbrev expired_by : ℕ → Cyclic → ℕ
-expired_by id y = cond (is_of id y) y.timer.expired 0
-
-expired_new : (id : ℕ) (x : Cyclic) → x.timer.expired ≡ 0 → expired_by id x ≡ 0
-expired_new id x none = by (is_of id x)
-  where
-    by : (b : Bool) → cond b x.timer.expired 0 ≡ 0
-    by true = none
-    by false = refl
-
-expired_put : (id : ℕ) (x : Cyclic) (cs : List Cyclic) → x.timer.expired ≡ 0
-    → sum_by (expired_by id) (put_in x cs) ≡ sum_by (expired_by id) cs
-expired_put id x [] none = let a = sum_by-cons (expired_by id) x [] in let o = expired_new id x none in omega (arith, a, o)
-expired_put id x (y ∷ ys) none = by (nat_lt x.timer.id y.timer.id) (expired_put id x ys none)
-  where
-    by : (b : Bool) → sum_by (expired_by id) (put_in x ys) ≡ sum_by (expired_by id) ys
-        → sum_by (expired_by id) (cond b (x ∷ y ∷ ys) (y ∷ put_in x ys)) ≡ sum_by (expired_by id) (y ∷ ys)
-    by true r = let a = sum_by-cons (expired_by id) x (y ∷ ys) in let o = expired_new id x none in omega (arith, a, o)
-    by false r =
-        let a = sum_by-cons (expired_by id) y (put_in x ys) in
-        let b = sum_by-cons (expired_by id) y ys in omega (arith, a, b, r)
-
-widened_same : (n : ℕ) (c : Cpu) → (widen_here n 1 c).cpu.cyclics ≡ c.cyclics
-widened_same n c = by (must_grow 1 c)
-  where
-    by : (b : Bool) → (cond b (switch_here n (bank_for (length c.cyclics + 1)) c) (record { acts = []; cpu = c })).cpu.cyclics
-        ≡ c.cyclics
-    by true = refl
-    by false = refl
 
 pub cyclics_entered : (n index : ℕ) (x : Cyclic) (c : Cpu) → (enter_here n index x c).cpu.cyclics ≡ put_in x c.cyclics
 cyclics_entered n index x c =

@@ -1,7 +1,7 @@
 -- Once the removal of an id is open, or has answered, nothing of it is due, and so it stays.
 use Rattle.std.proofs.Common.{◌≡◌, ◌≢◌, ℕ, ◌+◌, ◌-◌, ◌/◌, ◌<◌, ◌≤◌, Bool, true, false, cond, List, [], ◌∷◌, refl}
 use Rattle.std.proofs.Common.{ap, sym, ◌∙◌, subst, Option, Some, None, inl, inr, ⊎_elim, ◌⊎◌, lt-ltb}
-use Rattle.std.specs.Prelude.{IsSome, is_some, nat_lt}
+use Rattle.std.specs.Prelude.{is_some, nat_lt}
 use mathlib.Core.Logic.{dite}
 use native.Mathlib.Decide.{ℕ_discrete}
 use Rattle.cyc_types.specs.Series.{never, late, due}
@@ -27,10 +27,10 @@ use Rattle.cyc_model.proofs.Serves.{same_serve}
 use Rattle.cyc_model.proofs.Base.{IsAt, IsGone, gone_away}
 use Rattle.cyc_model.proofs.Numbers.{numbers_rise, numbers_pass, not_leaving}
 use Rattle.cyc_model.proofs.Refusing.{before_never}
-use Rattle.cyc_model.proofs.Spread.{Leaving, Good}
+use Rattle.cyc_model.proofs.Spread.{Good}
 use Rattle.cyc_model.proofs.Calm.{good_clock, well_interrupt}
 use Rattle.cyc_model.proofs.Removing.{Removing, first_with}
-use Rattle.cyc_model.proofs.Answering.{begun_removal, open_removal, well_poll}
+use Rattle.cyc_model.proofs.Answering.{all_leaving, begun_removal, open_removal, well_poll}
 use Rattle.cyc_model.proofs.Staying.{leaving_where}
 use Rattle.cyc_model.proofs.Printing.{polls_keep}
 use Rattle.cyc_model.proofs.Reaching.{well_does}
@@ -55,19 +55,6 @@ leaving_by id m s is = by (is_leaving id s) refl
 never_due : (t now : ℕ) → now < never → due never t now ≡ 0
 never_due t now before = ap (λ (b : Bool). cond b 0 (cond (nat_lt (never + t + late) now) 1 ((now - never) / t
     + 1))) (lt-ltb now never before)
-
-all_leaving : (id k : ℕ) (s : State) → Good s → (cpu_of k s).removal ≡ Some id → Leaving id s
-all_leaving id k s g is = by (placement_of id s) refl (g.base.homes k id held)
-  where
-    held : IsSome (found id (cpu_of k s).cyclics)
-    held = (g.base.whole k).held id is
-
-    by : (o : Option Placement) → placement_of id s ≡ o → IsAt k (placement_of id s) → Leaving id s
-    by None at here = absurd (subst (λ p. IsAt k p) at here)
-    by (Some (On m bound)) at here = λ n some.
-        let a = subst (λ p. IsAt k p) at here in let b = subst (λ p. IsAt n p) at (g.base.homes n id some) in
-        ap (λ (i : ℕ). (cpu_of i s).removal) (sym b ∙ a) ∙ is
-    by (Some (OnAll e)) at here = ⊎_elim (λ full. absurd (full.1 k is)) (λ leave. leave.0) (g.spread.stands id e at)
 
 pub none_due : (id now : ℕ) (s : State) → Good s → now < never → Stopped id s → (m : ℕ)
     → due_of_found now (found id (cpu_of m s).cyclics) ≡ 0

@@ -20,7 +20,9 @@ pub chosen : {A : Type 0} (b : Bool) (x y z : A) → b ≡ true → z ≡ cond b
 chosen true x y z e h = h
 chosen false x y z e h = absurd (let odd : false ≡ true = e in cc)
 
-get_either : {A : Type 0} (xs : List A) (x : A) (i : ℕ) (r : A) → slice_get (xs ++ x ∷ []) i ≡ Some r → (slice_get xs i ≡ Some r)
+-- an element of a list with one more is of the list, or the one
+pub get_either : {A : Type 0} (xs : List A) (x : A) (i : ℕ) (r : A) → slice_get (xs ++ x ∷ []) i ≡ Some r
+    → (slice_get xs i ≡ Some r)
     ⊎ ((i ≡ length xs) × (r ≡ x))
 get_either [] x zero r e = inr (refl, sym (same_some e))
 get_either [] x (suc i) r e = absurd (none_some e)

@@ -5,6 +5,7 @@ pub mod Returned
 pub mod Turned
 pub mod Fitting
 pub mod Left
+pub use Rattle.cyc_juggling.proofs.Retired
 pub use Rattle.cyc_removing.proofs.Folds
 pub use Rattle.cyc_removing.proofs.One
 pub use Rattle.cyc_removing.proofs.Where

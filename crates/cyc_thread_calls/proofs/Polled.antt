@@ -79,7 +79,7 @@ set_answered (Some n) id moment answer = tt
 -- ---- names
 
 -- what a name has after one of them got something else
-set_at : (names : List Named) (j m : ℕ) (x : Named) → (named_at (slice_set names j x) m ≡ named_at names m)
+pub set_at : (names : List Named) (j m : ℕ) (x : Named) → (named_at (slice_set names j x) m ≡ named_at names m)
     ⊎ ((m ≡ j) × (named_at (slice_set names j x) m ≡ x))
 set_at [] zero m x = inl refl
 set_at [] (suc j) m x = inl refl

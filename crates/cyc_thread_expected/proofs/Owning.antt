@@ -1,27 +1,13 @@
 -- Which name has which id, over the calls of a run.
-use Rattle.std.proofs.Common.{◌≡◌, ◌==◌, ◌∙◌, ℕ, zero, suc, ◌⊎◌, inl, inr, List, [], ◌∷◌, Some, Ok}
-use Rattle.std.proofs.Common.{slice_set, refl, sym, ap}
+use Rattle.std.proofs.Common.{◌≡◌, ◌==◌, ◌∙◌, ℕ, ◌⊎◌, inl, inr, List, Some, Ok}
+use Rattle.std.proofs.Common.{slice_set, sym, ap}
+use Rattle.cyc_thread_calls.proofs.Polled.{set_at}
 use Rattle.cyc_thread_calls.proofs.Spots.{same_some, none_some}
 use Rattle.cyc_thread_calls.specs.SystemRemoval.TheVariants.{Done, Kept}
 use Rattle.cyc_thread_calls.specs.Calls.{SystemCall, Add, AddOmni, BeginRemove, PollRemove}
 use Rattle.cyc_thread_calls.specs.Named.{Named}
 use Rattle.cyc_thread_calls.specs.Named.TheVariants.{Nothing, Cyclic, Leaving, Removed}
 use Rattle.cyc_thread_calls.specs.ThreadStepsNamed.{named_at, id_of, news, noted}
-
--- what one name has after one of them got something else
-set_at : (names : List Named) (j m : ℕ) (x : Named) → (named_at (slice_set names j x) m ≡ named_at names m)
-    ⊎ ((m ≡ j) × (named_at (slice_set names j x) m ≡ x))
-set_at [] zero m x = inl refl
-set_at [] (suc j) m x = inl refl
-set_at (n ∷ names) zero zero x = inr (refl, refl)
-set_at (n ∷ names) zero (suc m) x = inl refl
-set_at (n ∷ names) (suc j) zero x = inl refl
-set_at (n ∷ names) (suc j) (suc m) x = by (set_at names j m x)
-  where
-    by : (named_at (slice_set names j x) m ≡ named_at names m) ⊎ ((m ≡ j) × (named_at (slice_set names j x) m ≡ x))
-        → (named_at (slice_set names j x) m ≡ named_at names m) ⊎ ((suc m ≡ suc j) × (named_at (slice_set names j x) m ≡ x))
-    by (inl e) = inl e
-    by (inr (same, e)) = inr (ap suc same, e)
 
 -- the ids that a call is about
 abbrev pub IsFor : ℕ → SystemCall → Type 0

@@ -1,4 +1,5 @@
 mod Ready
+pub mod Within
 mod Taking
 mod Refusing
 mod Telling

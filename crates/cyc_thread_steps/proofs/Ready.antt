@@ -1,25 +1,24 @@
 -- There stays something to lead each CPU.
-use Rattle.std.proofs.Common.{◌≡◌, ℕ, ◌⊎◌, inl, inr, List, [], ◌∷◌, Option, Some, None, length, refl, sym, ap, ◌∙◌, ◌<◌}
-use Rattle.std.specs.Prelude.{ℤ, pos, Bool, true, false}
+use Rattle.std.proofs.Common.{◌≡◌, ℕ, List, [], ◌∷◌, length, sym, ap, ◌∙◌}
+use Rattle.std.specs.Prelude.{Bool, true, false}
 use Rattle.std.specs.List.{FoldsTo}
 use Rattle.std.proofs.lemmas.List.{length-set}
 use Rattle.cyc_types.specs.declared.Calls.{Ghosts as Calls}
 use Rattle.cyc_types.specs.declared.Raise.{Ghosts as Raise}
-use Rattle.cyc_types.specs.declared.moment.When.{When}
 use Rattle.cyc_script.specs.declared.step.Step.{Step}
 use Rattle.cyc_script.specs.declared.step.Step.TheVariants as steps
-use Rattle.cyc_system_workers.specs.Lead.{Lead}
 use Rattle.cyc_system_counts.specs.Cpus.{CpusView}
 use Rattle.cyc_system_workers.specs.System.{SystemView}
 use Rattle.cyc_system_workers.specs.Calls.{SystemCall, Changes, PollRemove}
-use Rattle.cyc_system_laws.specs.Parts.{CpusCall, OnCpu, SetOnline, DoesPart, IsMadeOf}
+use Rattle.cyc_system_laws.specs.Parts.{CpusCall, OnCpu, SetOnline, DoesPart}
 use Rattle.cyc_system_laws.proofs.Pieces.{made_of}
 use Rattle.cyc_system_workers.specs.declared.side.SystemSide.{SystemSide}
 use Rattle.cyc_thread_steps.specs.declared.progress.Progress.{Progress}
 use Rattle.cyc_thread_steps.specs.Named.{named_at, id_of}
-use Rattle.cyc_thread_steps.specs.Calls.{CallsFor, Poll, Polls, Settles, Waits, Fires, IsReady}
+use Rattle.cyc_thread_steps.specs.Calls.{CallsFor, Poll, Polls, Waits, Fires, IsReady}
 use Rattle.cyc_thread_steps.specs.Steps.{TakesSteps}
-use Rattle.cyc_thread_steps.specs.Words.{WithSeries, WithMoment, WithId, Does, Begins, TakesStep, waits_first}
+use Rattle.cyc_thread_steps.proofs.Within.{with_series, with_moment, with_id}
+use Rattle.cyc_thread_steps.specs.Words.{Does, Begins, TakesStep, waits_first}
 
 module _ {R : Type 0} (firing : Raise R) where
   parts_long : (way : List CpusCall) (v w : CpusView R) → FoldsTo (DoesPart firing) v way w → length w.cpus ≡ length v.cpus
@@ -58,19 +57,6 @@ module _ {C R : Type 0} (handler : Calls C) (firing : Raise R) where
   fires_ready : (now : ℕ) (s t : Progress R C) → Fires handler firing now s t → IsReady s → IsReady t
   fires_ready now s t f ready = ap (λ (z : SystemSide R C). length z.leads.items) f.side ∙ f.fired.long_leads ∙ ready
       ∙ sym f.fired.long ∙ ap (λ (z : SystemSide R C). length z.system.cpus.cpus) (sym f.side)
-
-  with_series : (start interval : ℤ) (P : When → Type 0) (Q N : Type 0) → WithSeries start interval P N
-      → ((when : When) → P when → Q) → (N → Q) → Q
-  with_series start interval P Q N (inl (when, a, b, c, p)) go stop = go when p
-  with_series start interval P Q N (inr (a, n)) go stop = stop n
-
-  with_moment : (number : ℤ) (P : ℕ → Type 0) (Q N : Type 0) → WithMoment number P N → ((moment : ℕ) → P moment → Q) → (N → Q) → Q
-  with_moment number P Q N (inl (moment, a, p)) go stop = go moment p
-  with_moment number P Q N (inr (a, n)) go stop = stop n
-
-  with_id : (o : Option ℕ) (P : ℕ → Type 0) (Q N : Type 0) → WithId o P N → ((id : ℕ) → P id → Q) → (N → Q) → Q
-  with_id (Some id) P Q N p go stop = go id p
-  with_id None P Q N n go stop = stop n
 
   pub does_ready : (x : Step) (s t : Progress R C) → Does handler firing x s t → IsReady s → IsReady t
   does_ready (steps.Add a) s t d ready = with_series a.start a.interval _ (IsReady t) (t ≡ s) d

@@ -1,10 +1,9 @@
 -- What each call of a lead keeps, and its fires and its waits, a whole run keeps.
-use Rattle.std.proofs.Common.{◌≡◌, ℕ, inl, inr, List, [], ◌∷◌, Option, Some, None, sym, subst}
-use Rattle.std.specs.Prelude.{ℤ, Bool, true, false}
+use Rattle.std.proofs.Common.{◌≡◌, ℕ, List, [], ◌∷◌, sym, subst}
+use Rattle.std.specs.Prelude.{Bool, true, false}
 use Rattle.std.specs.List.{FoldsTo}
 use Rattle.cyc_types.specs.declared.Calls.{Ghosts as Calls}
 use Rattle.cyc_types.specs.declared.Raise.{Ghosts as Raise}
-use Rattle.cyc_types.specs.declared.moment.When.{When}
 use Rattle.cyc_script.specs.declared.step.Step.{Step}
 use Rattle.cyc_script.specs.declared.step.Step.TheVariants as steps
 use Rattle.cyc_thread_steps.specs.SystemCalls.{SystemCall, PollRemove}
@@ -16,20 +15,8 @@ use Rattle.cyc_thread_steps.specs.Named.{named_at, id_of}
 use Rattle.cyc_thread_steps.specs.Calls.{CallsFor, Poll, Polls, Settles, Waits, Fires}
 use Rattle.cyc_thread_steps.specs.Reporting.{Told, TellsOf, Tells, Reports}
 use Rattle.cyc_thread_steps.specs.Steps.{TakesSteps, Runs}
-use Rattle.cyc_thread_steps.specs.Words.{WithSeries, WithMoment, WithId, Does, Begins, waits_first}
-
-with_series : (start interval : ℤ) (P : When → Type 0) (Q N : Type 0) → WithSeries start interval P N
-    → ((when : When) → P when → Q) → (N → Q) → Q
-with_series start interval P Q N (inl (when, a, b, c, p)) go stop = go when p
-with_series start interval P Q N (inr (a, n)) go stop = stop n
-
-with_moment : (number : ℤ) (P : ℕ → Type 0) (Q N : Type 0) → WithMoment number P N → ((moment : ℕ) → P moment → Q) → (N → Q) → Q
-with_moment number P Q N (inl (moment, a, p)) go stop = go moment p
-with_moment number P Q N (inr (a, n)) go stop = stop n
-
-with_id : (o : Option ℕ) (P : ℕ → Type 0) (Q N : Type 0) → WithId o P N → ((id : ℕ) → P id → Q) → (N → Q) → Q
-with_id (Some id) P Q N p go stop = go id p
-with_id None P Q N n go stop = stop n
+use Rattle.cyc_thread_steps.proofs.Within.{with_series, with_moment, with_id}
+use Rattle.cyc_thread_steps.specs.Words.{Does, Begins, waits_first}
 
 module _ {C R : Type 0} (handler : Calls C)
     (firing : Raise R) (K : Progress R C → Progress R C → Type 0)
