@@ -12,6 +12,7 @@ use Rattle.std.specs.List.{slice_get, list_any}
 use Rattle.cyc_agreement.specs.System.{has, removal_on, is_leaving_here}
 use Rattle.cyc_agreement.proofs.Who.{kept_at}
 use Rattle.cyc_agreement.proofs.Presence.{has_here, not_leaving}
+use Rattle.cyc_cpus.specs.Shifting.{move_of}
 use Rattle.cyc_agreement.specs.Binding.{GoesTo}
 use Rattle.cyc_cpus.specs.Shifting.{moving}
 
@@ -99,7 +100,7 @@ no_removal {R} v id none n e = by (slice_get v.cpus n) refl e
 -- a cyclic that went to a CPU, or stayed there
 pub goes_removals : {R : Type 0} (firing : Raise R) (id home target : ℕ)
     (v w : CpusView R)
-    → GoesTo firing id home target (Ok tt) v w → (n : ℕ) → removal_on n w ≡ removal_on n v
+    → GoesTo firing (move_of id home target) (Ok tt) v w → (n : ℕ) → removal_on n w ≡ removal_on n v
 goes_removals firing id home target v w (inl (at, is, same)) n = ap (λ u. removal_on n u) same
 goes_removals firing id home target v w (inr (ne, (taken, works))) n =
     removals_kept firing v w (moving id home target taken) (tt, (tt, (tt, (tt, (tt, tt))))) works n

@@ -14,7 +14,7 @@ use Rattle.cyc_cpus.specs.Taken.{Taken}
 use Rattle.cyc_cpus.specs.Cpu.{CpuView, HasRisingIds, cyclic_with}
 use Rattle.cyc_cpus.specs.Removal.{Leaves}
 use Rattle.cyc_cpus.specs.Cpus.{CpusView, IsCpu, Works}
-use Rattle.cyc_cpus.specs.Shifting.{WhyNotShifted, moving}
+use Rattle.cyc_cpus.specs.Shifting.{move_of, WhyNotShifted, moving}
 use Rattle.std.specs.Option.{option_map}
 use Rattle.cyc_cpus.specs.Laws.{IsLawful}
 use Rattle.cyc_agreement.specs.System.{SystemView, ids_of, ids_on, has}
@@ -117,7 +117,7 @@ module _ {R : Type 0} (firing : Raise R) (id source target : ℕ) (v w : CpusVie
       })
 
   -- where it was refused, all cyclics are where they were
-  pub unmoved : (e : Refusal) → WhyNotShifted firing id source target e v w → Who.SameWho v w
+  pub unmoved : (e : Refusal) → WhyNotShifted firing (move_of id source target) e v w → Who.SameWho v w
   unmoved e (inl (removed, open_is, is, same)) = subst (λ u. Who.SameWho v u) (sym same) (Who.same_none v)
   unmoved e (inr (inl (still, n, some, is, (a, asks, last)))) =
       subst (λ u. Who.SameWho v u) last (Who.same_changed source _ v a asks
@@ -142,7 +142,7 @@ rise_on view v n cpu at law = subst Rise (sym (Who.ids_there v n cpu cpu at)) (i
 -- a cyclic that went to a CPU is there and nowhere else
 pub went : {R : Type 0} (firing : Raise R) (id home target : ℕ) (v w : CpusView R)
     → Rise (ids_on home v) → has home id v ≡ true
-    → ((m : ℕ) → m ≢ home → has m id v ≡ false) → GoesTo firing id home target (Ok tt) v w
+    → ((m : ℕ) → m ≢ home → has m id v ≡ false) → GoesTo firing (move_of id home target) (Ok tt) v w
     → Who.SameBut id v w × (has target id w ≡ true) × ((m : ℕ) → m ≢ target → has m id w ≡ false)
 went firing id home target v w rise here only (inl (at, is, same)) = (
   subst (λ u. Who.SameBut id v u) (sym same) (Who.but_same id v v (Who.same_none v)),
@@ -159,6 +159,6 @@ went firing id home target v w rise here only (inr (ne, (taken, works))) =
 -- one that was refused is where it was
 pub stayed : {R : Type 0} (firing : Raise R) (id home target : ℕ) (v w : CpusView R)
     (e : Refusal) → Rise (ids_on home v)
-    → GoesTo firing id home target (Err e) v w → Who.SameWho v w
+    → GoesTo firing (move_of id home target) (Err e) v w → Who.SameWho v w
 stayed firing id home target v w e rise (inl (at, is, same)) = subst (λ u. Who.SameWho v u) (sym same) (Who.same_none v)
 stayed firing id home target v w e rise (inr (ne, why)) = unmoved firing id home target v w (λ q. ne (sym q)) rise e why

@@ -22,14 +22,23 @@ OnlyWorks firing way s t = Works firing way s.cpus t.cpus × (t.records ≡ s.re
 abbrev pub entering : ℕ → ℕ → Level → ℕ → ℕ → List CallOn
 entering n id level interval moment = on n (Widen 1) ∷ on n (Place id level interval moment no_counts) ∷ []
 
+-- what is asked of an add: the level of the calls, when it expires, and the moment of the call
+pub record AddRequest : Type 0 where
+  pub level : Level
+  pub when : When
+  pub now : ℕ
+
+abbrev pub add_request : Level → When → ℕ → AddRequest
+add_request level when now = record { level = level; when = when; now = now }
+
 -- A new cyclic is on the CPU that has the fewest, and has the next id: its memory was taken before the CPU was switched. Or
 -- there is no room on that CPU, or no memory there or for the record; another CPU is not tried (cyclic_add).
 abbrev pub Adds : {R : Type 0} → Raise R
-    → Level → When → ℕ → Result ℕ Refusal → SystemView R → SystemView R → Type 0
-Adds firing level when now (Ok id) s t = (d : ℕ) × (destination None s.cpus ≡ Some d) × (id ≡ s.last + 1)
+    → AddRequest → Result ℕ Refusal → SystemView R → SystemView R → Type 0
+Adds firing a (Ok id) s t = (d : ℕ) × (destination None s.cpus ≡ Some d) × (id ≡ s.last + 1)
     × Works firing (on d (Reserve 1 (Ok tt))
-    ∷ entering d id level when.interval (first when.start when.interval now)) s.cpus t.cpus
-    × (t.records ≡ s.records ++ new_record id level (On d false) ∷ []) × (t.last ≡ id)
-Adds firing level when now (Err e) s t = (d : ℕ) × (destination None s.cpus ≡ Some d)
+    ∷ entering d id a.level a.when.interval (first a.when.start a.when.interval a.now)) s.cpus t.cpus
+    × (t.records ≡ s.records ++ new_record id a.level (On d false) ∷ []) × (t.last ≡ id)
+Adds firing a (Err e) s t = (d : ℕ) × (destination None s.cpus ≡ Some d)
     × (OnlyWorks firing (on d (Reserve 1 (Err e)) ∷ []) s t
     ⊎ ((e ≡ Memory) × OnlyWorks firing (on d (Reserve 1 (Ok tt)) ∷ []) s t))

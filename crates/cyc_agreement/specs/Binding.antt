@@ -7,7 +7,7 @@ use Rattle.cyc_places.specs.declared.record.Placement.TheVariants.{On}
 use Rattle.cyc_places.specs.declared.record.Record.{Record}
 use Rattle.cyc_places.specs.Places.{IsRecord, with_place}
 use Rattle.cyc_cpus.specs.Cpus.{CpusView}
-use Rattle.cyc_cpus.specs.Shifting.{Shifts}
+use Rattle.cyc_cpus.specs.Shifting.{Move, move_of, Shifts}
 use Rattle.cyc_agreement.specs.System.{SystemView}
 
 -- the cyclic, which is on one CPU, is there now
@@ -26,16 +26,15 @@ HasHome id n s = (bound : Bool) × HasPlace id n bound s
 abbrev pub Unbinds : {R : Type 0} → ℕ → Result (Unit {0}) Refusal → SystemView R → SystemView R → Type 0
 Unbinds id answer s t = (answer ≡ Ok tt) × (n : ℕ) × HasHome id n s × (t.cpus ≡ s.cpus) × Records id (On n false) s t
 
--- the cyclic goes to this CPU, where it is not there
-abbrev pub GoesTo : {R : Type 0} → Raise R
-    → ℕ → ℕ → ℕ → Result (Unit {0}) Refusal → CpusView R → CpusView R → Type 0
-GoesTo firing id home target answer v w =
-    ((home ≡ target) × (answer ≡ Ok tt) × (w ≡ v)) ⊎ ((home ≢ target) × Shifts firing id home target answer v w)
+-- the cyclic goes to the target, where it is not there
+abbrev pub GoesTo : {R : Type 0} → Raise R → Move → Result (Unit {0}) Refusal → CpusView R → CpusView R → Type 0
+GoesTo firing m answer v w =
+    ((m.source ≡ m.target) × (answer ≡ Ok tt) × (w ≡ v)) ⊎ ((m.source ≢ m.target) × Shifts firing m answer v w)
 
 -- The cyclic is bound to this CPU. Where it is not there it moves there first, or it is not bound (cyclic_bind_cpu).
 abbrev pub Binds : {R : Type 0} → Raise R
     → ℕ → ℕ → Result (Unit {0}) Refusal → SystemView R → SystemView R → Type 0
 Binds firing id target (Ok done) s t = (home : ℕ) × HasHome id home s
-    × GoesTo firing id home target (Ok tt) s.cpus t.cpus × Records id (On target true) s t
+    × GoesTo firing (move_of id home target) (Ok tt) s.cpus t.cpus × Records id (On target true) s t
 Binds firing id target (Err e) s t = (home : ℕ) × HasHome id home s
-    × GoesTo firing id home target (Err e) s.cpus t.cpus × (t.records ≡ s.records) × (t.last ≡ s.last)
+    × GoesTo firing (move_of id home target) (Err e) s.cpus t.cpus × (t.records ≡ s.records) × (t.last ≡ s.last)

@@ -25,7 +25,7 @@ use Rattle.cyc_thread_expected.specs.Removing.{unknown_cyclic, busy_on_each, cpu
 use Rattle.cyc_thread_expected.specs.Calls.{Changes, BeginRemove}
 use Rattle.cyc_thread_expected.specs.SystemSide.{SystemSide}
 use Rattle.cyc_thread_expected.specs.Advanced.{Advanced}
-use Rattle.cyc_thread_expected.specs.Advancing.{AllFire, FiresIf}
+use Rattle.cyc_thread_expected.specs.Advancing.{AllFire, moment_asked, FiresIf}
 use Rattle.cyc_thread_expected.specs.Named.{Named}
 use Rattle.cyc_thread_expected.specs.Named.TheVariants.{Nothing, Cyclic, Leaving, Removed}
 use Rattle.cyc_thread_expected.specs.Progress.{Progress}
@@ -130,7 +130,7 @@ module _ {C R : Type 0} (firing : Raise R) (cpus names given : ℕ)
 module _ {C R : Type 0} (handler : Calls C)
     (firing : Raise R) (cpus names given : ℕ) (has : ℕ → Standing) where
   fired_one : (up : Bool) (now : ℕ) (x y : CpuView R) (a b : C) (answer : Option (Result Fired FireRefused))
-      → FiresIf handler firing up now (running a x) answer (running b y) → x.removal ≡ None → y.removal ≡ None
+      → FiresIf handler firing (moment_asked up now) (running a x) answer (running b y) → x.removal ≡ None → y.removal ≡ None
   fired_one true now x y a b (Some (Ok r)) f none = f.1.removal ∙ none
   fired_one true now x y a b (Some (Err e)) (inl (late, is, same)) none = ap (λ r. r.cpu.removal) same ∙ none
   fired_one true now x y a b (Some (Err e)) (inr (early, kept, stops)) none = kept.removal ∙ none

@@ -18,12 +18,12 @@ use Rattle.cyc_cpu.specs.Calls.{AskPending, AskTotals as CpuTotals, AskRoom, Res
 use Rattle.cyc_cpu.specs.Calls.{PollRemove as CpuPoll, TakeNow, AskSettled}
 use Rattle.cyc_cpus.specs.Cpus.{CpusView, IsCpu, CallOn, on, ChangesAt, Works, online_cpus}
 use Rattle.cyc_cpus.specs.Reserving.{rooms, reserves, ReservesEach}
-use Rattle.cyc_cpus.specs.Shifting.{WhyNotShifted, moving}
+use Rattle.cyc_cpus.specs.Shifting.{move_of, WhyNotShifted, moving}
 use Rattle.cyc_cpus.proofs.Spots.{one_cpu, cpu_there, cpu_beside}
 use Rattle.cyc_thread_expected.proofs.Folds.{folds_keep}
 use Rattle.cyc_thread_expected.specs.System.{SystemView}
 use Rattle.cyc_types.specs.Series.{first}
-use Rattle.cyc_thread_expected.specs.Adding.{Adds, entering}
+use Rattle.cyc_thread_expected.specs.Adding.{add_request, Adds, entering}
 use Rattle.cyc_thread_expected.specs.Binding.{GoesTo, Binds}
 use Rattle.cyc_thread_expected.specs.SystemRemoval.{SystemRemoval}
 use Rattle.cyc_thread_expected.specs.SystemRemoval.TheVariants as over
@@ -138,7 +138,7 @@ module _ {R : Type 0} (firing : Raise R) where
       (plain_on (reserves more before) (on n (Reserve more (Err e)) ∷ []) (plain_reserves more before) (tt, tt)) works)
 
   keeps_adds : (level : Level) (when : When) (now : ℕ) (answer : Result ℕ Refusal) (s t : SystemView R)
-      → Adds firing level when now answer s t → Keeps s.cpus t.cpus
+      → Adds firing (add_request level when now) answer s t → Keeps s.cpus t.cpus
   keeps_adds level when now (Ok id) s t (d, chosen, next, works, records, last) =
       keeps_works (on d (Reserve 1 (Ok tt)) ∷ entering d id level when.interval (first when.start when.interval now))
       s.cpus t.cpus (tt, (tt, (tt, tt))) works
@@ -148,7 +148,7 @@ module _ {R : Type 0} (firing : Raise R) where
       keeps_works (on d (Reserve 1 (Ok tt)) ∷ []) s.cpus t.cpus (tt, tt) only.0
 
   keeps_omni : (level : Level) (when : When) (skew now : ℕ) (answer : Result ℕ Refusal) (s t : SystemView R)
-      → AddsOmni firing level when skew now answer s t → Keeps s.cpus t.cpus
+      → AddsOmni firing (add_request level when now) skew answer s t → Keeps s.cpus t.cpus
   keeps_omni level when skew now (Ok id) s t (next, (u, reserved, works), records, last) =
       keeps_then s.cpus u t.cpus (keeps_reserved 1 (Ok tt) s.cpus u reserved)
       (keeps_works (entering_each (online_cpus s.cpus) id level when skew now) u t.cpus (plain_entering
@@ -157,7 +157,8 @@ module _ {R : Type 0} (firing : Raise R) where
   keeps_omni level when skew now (Err e) s t (inr (is, reserved), records, last) =
       keeps_reserved 1 (Ok tt) s.cpus t.cpus reserved
 
-  keeps_unshifted : (own source target : ℕ) (e : Refusal) (v w : CpusView R) → WhyNotShifted firing own source target e v w
+  keeps_unshifted : (own source target : ℕ) (e : Refusal) (v w : CpusView R)
+      → WhyNotShifted firing (move_of own source target) e v w
       → Keeps v w
   keeps_unshifted own source target e v w (inl (removed, is_open, is, same)) = keeps_same v w same
   keeps_unshifted own source target e v w (inr (inl (still, n, some, is, works))) = keeps_works (on source (AskPending own
@@ -166,7 +167,7 @@ module _ {R : Type 0} (firing : Raise R) where
       keeps_works (on source (AskPending own (Some 0)) ∷ on target (Reserve 1 (Err e)) ∷ []) v w (tt, (tt, tt)) works
 
   keeps_goes : (own home target : ℕ) (answer : Result (Unit {0}) Refusal) (v w : CpusView R)
-      → GoesTo firing own home target answer v w → Keeps v w
+      → GoesTo firing (move_of own home target) answer v w → Keeps v w
   keeps_goes own home target answer v w (inl (at, is, same)) = keeps_same v w same
   keeps_goes own home target (Ok done) v w (inr (ne, (taken, works))) =
       keeps_works (moving own home target taken) v w (tt, (tt, (tt, (tt, (tt, tt))))) works

@@ -25,7 +25,7 @@ use Rattle.cyc_cpu.specs.declared.moving.Taken.{Taken}
 use Rattle.cyc_cpu.specs.declared.removing.Removal.{Removal}
 use Rattle.cyc_cpu.specs.Cpu.{CpuView, Running, IsCyclic, HasNoCyclic, SameCpu, sides, seen_at, with_moment, cyclic_with}
 use Rattle.cyc_cpu.specs.Cpu.{Makes, WhyStopped, Asks, Looked, HasRoom, WhyNoRoom, MayWiden, Reserves, WhyNotReserved, Widens}
-use Rattle.cyc_cpu.specs.Cpu.{Places, Enters}
+use Rattle.cyc_cpu.specs.Cpu.{Places, new_cyclic}
 use Rattle.cyc_cpu.specs.Losses.{IsSparedAt}
 use Rattle.cyc_cpu.specs.Removal.{Begins, WhyNotBegun, Ends, Waits}
 use Rattle.cyc_cpu.specs.Moving.{TakesNow, WhyNotTaken, IsSettled, Inquires}
@@ -63,7 +63,7 @@ pub record Adds {R : Type 0} (firing : Raise R)
   pub reserves : Reserves firing 1 v reserved
   pub allowed : MayWiden firing.view 1 reserved
   pub widens : Widens firing 1 reserved widened
-  pub enters : Enters firing id level when.interval (first when.start when.interval now) widened w
+  pub enters : Places firing (new_cyclic id level when.interval (first when.start when.interval now)) widened w
 
 -- what a call does that reaches no handler
 abbrev pub Changes : {R : Type 0} → Raise R → CpuView R → CpuCall → CpuView R → Type 0

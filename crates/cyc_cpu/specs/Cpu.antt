@@ -184,8 +184,7 @@ abbrev pub cyclic_with : ℕ → Level → ℕ → ℕ → ℕ → ℕ → Cycli
 cyclic_with id level interval moment expired lost =
     record {
       timer = record { id = id; level = level; interval = interval; moment = moment; expired = expired };
-      lost =
-          lost;
+      lost = lost;
       carried = record { sent = expired; lost = lost };
     }
 
@@ -204,8 +203,3 @@ pub record Places {R : Type 0} (firing : Raise R) (c : Cyclic)
   pub lock : Goes firing v.lock (admits_at Lock c.timer.level c.timer.id index) w.lock
   pub low : Goes firing v.low (admits_at Low c.timer.level c.timer.id index) w.low
   pub kept : SameCpu v w
-
--- a cyclic that has not expired yet was put in
-abbrev pub Enters : {R : Type 0} → Raise R → ℕ → Level → ℕ → ℕ → CpuView R → CpuView R
-    → Type 0
-Enters firing id level interval moment v w = Places firing (new_cyclic id level interval moment) v w

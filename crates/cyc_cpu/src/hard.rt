@@ -12,7 +12,7 @@ ghost use Rattle.cyc_fire.specs.Expirations.{Expiration, expirations};
 ghost use Rattle.cyc_fire.specs.Rows.{Cyclic, timers};
 ghost use Rattle.cyc_cpu.specs.Laws.{IsLawful};
 ghost use Rattle.cyc_cpu.specs.Losses.{IsSparedAt};
-ghost use Rattle.cyc_cpu.specs.Cpu.{running, seen_at, IsFresh, HasNoCyclic, Asks, MayWiden, Enters};
+ghost use Rattle.cyc_cpu.specs.Cpu.{running, seen_at, IsFresh, HasNoCyclic, Asks, MayWiden, Places, new_cyclic};
 ghost use Rattle.cyc_cpu.specs.Calls.{Changes, Does, no_interrupts, Fire, Add, Reprogram, AskPending, AskTotals, AskRoom};
 ghost use Rattle.cyc_cpu.specs.Calls.{Reserve, Widen};
 
@@ -300,7 +300,7 @@ impl<R: Raise> Hard<R> {
     fn enter(&mut self, id: CyclicId, level: Level, interval: Interval, moment: Moment)
         requires absent { HasNoCyclic id self.old.cyclics }
         requires free { length self.old.cyclics < self.old.size }
-        ensures { Enters R.Raise id level interval moment self.old self.new }
+        ensures { Places R.Raise (new_cyclic id level interval moment) self.old self.new }
     {
         self.place(id, level, interval, moment, Sent { sent: 0, lost: 0 });
     }

@@ -26,17 +26,25 @@ moving id source target taken =
     on source (AskPending id (Some 0)) ∷ on target (Reserve 1 (Ok tt)) ∷ on source (TakeNow id (Ok taken)) ∷ on target (Widen 1)
     ∷ on target (Place id taken.level taken.interval taken.moment taken.sent) ∷ []
 
--- Why it doesn't: a removal is open at the source; then calls of it are outstanding; then the target has no room.
-abbrev pub WhyNotShifted : {R : Type 0} → Raise R → ℕ → ℕ → ℕ → Refusal → CpusView R
-    → CpusView R → Type 0
-WhyNotShifted firing id source target e v w =
-    ((removed : ℕ) × HasRemoval source (Some removed) v × (e ≡ Busy removed) × (w ≡ v))
-    ⊎ (HasRemoval source None v × (n : ℕ) × (0 < n) × (e ≡ Pending)
-    × Works firing (on source (AskPending id (Some n)) ∷ []) v w)
-    ⊎ (HasRemoval source None v × Works firing (on source (AskPending id (Some 0)) ∷ on target (Reserve 1 (Err e)) ∷ []) v w)
+-- a move that is asked for: of this cyclic, from one CPU to another
+pub record Move : Type 0 where
+  pub id : ℕ
+  pub source : ℕ
+  pub target : ℕ
+
+abbrev pub move_of : ℕ → ℕ → ℕ → Move
+move_of id source target = record { id = id; source = source; target = target }
+
+-- Why it doesn't go: a removal is open at the source; then calls of it are outstanding; then the target has no room.
+abbrev pub WhyNotShifted : {R : Type 0} → Raise R → Move → Refusal → CpusView R → CpusView R → Type 0
+WhyNotShifted firing m e v w =
+    ((removed : ℕ) × HasRemoval m.source (Some removed) v × (e ≡ Busy removed) × (w ≡ v))
+    ⊎ (HasRemoval m.source None v × (n : ℕ) × (0 < n) × (e ≡ Pending)
+    × Works firing (on m.source (AskPending m.id (Some n)) ∷ []) v w)
+    ⊎ (HasRemoval m.source None v
+    × Works firing (on m.source (AskPending m.id (Some 0)) ∷ on m.target (Reserve 1 (Err e)) ∷ []) v w)
 
 -- the cyclic goes with all that its CPU has of it, or stays
-abbrev pub Shifts : {R : Type 0} → Raise R → ℕ → ℕ → ℕ → Result (Unit {0}) Refusal
-    → CpusView R → CpusView R → Type 0
-Shifts firing id source target (Ok done) v w = (taken : Taken) × Works firing (moving id source target taken) v w
-Shifts firing id source target (Err e) v w = WhyNotShifted firing id source target e v w
+abbrev pub Shifts : {R : Type 0} → Raise R → Move → Result (Unit {0}) Refusal → CpusView R → CpusView R → Type 0
+Shifts firing m (Ok done) v w = (taken : Taken) × Works firing (moving m.id m.source m.target taken) v w
+Shifts firing m (Err e) v w = WhyNotShifted firing m e v w

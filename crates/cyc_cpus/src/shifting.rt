@@ -5,7 +5,7 @@ ghost use Rattle.cyc_cpu.specs.Cpu.{HasNoCyclic, MayWiden};
 ghost use Rattle.cyc_cpu.specs.Removal.{HasCyclic};
 ghost use Rattle.cyc_cpu.specs.Calls.{TakeNow, Widen, Place};
 ghost use Rattle.cyc_cpus.specs.Cpus.{OfCpu, on, DoesAt, Works};
-ghost use Rattle.cyc_cpus.specs.Shifting.{MayLeave, Shifts};
+ghost use Rattle.cyc_cpus.specs.Shifting.{MayLeave, move_of, Shifts};
 
 use crate::cpus::Cpus;
 use cyc_cpu::Taken;
@@ -24,7 +24,7 @@ impl<R: Raise> Cpus<R> {
         requires here { OfCpu source (λ cpu. HasCyclic id cpu.cyclics) self.old }
         requires absent { OfCpu target (λ cpu. HasNoCyclic id cpu.cyclics) self.old }
         requires most { OfCpu source (λ from. OfCpu target (λ to. from.most ≤ to.most) self.old) self.old }
-        ensures { Shifts R.Raise id source target result self.old self.new }
+        ensures { Shifts R.Raise (move_of id source target) result self.old self.new }
     {
         if let Some(removed) = self.cpu(source).removal() {
             return Err(Refusal::Busy(removed));

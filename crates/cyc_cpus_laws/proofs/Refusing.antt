@@ -6,7 +6,7 @@ use Rattle.cyc_types.specs.declared.Raise.{Ghosts as Raise}
 use Rattle.cyc_types.specs.declared.refusal.Refusal.{Refusal}
 use Rattle.cyc_cpu.specs.Cpu.{CpuView, SameCpu}
 use Rattle.cyc_cpus.specs.Cpus.{CpusView, IsCpu, ChangesAt}
-use Rattle.cyc_cpus.specs.Shifting.{WhyNotShifted}
+use Rattle.cyc_cpus.specs.Shifting.{move_of, WhyNotShifted}
 use Rattle.cyc_cpus.proofs.Spots.{one_cpu, cpu_there, cpu_after}
 use Rattle.cyc_cpus_laws.specs.Moved.{OnlyAsked}
 
@@ -53,7 +53,7 @@ module _ {R : Type 0} where
 
   pub not_shifted : (firing : Raise R) (id source target : ℕ) (e : Refusal)
       (v w : CpusView R) →
-      WhyNotShifted firing id source target e v w → OnlyAsked v w
+      WhyNotShifted firing (move_of id source target) e v w → OnlyAsked v w
   not_shifted firing id source target e v w (inl (removed, has, why, same)) =
       subst (λ u. OnlyAsked v u) (sym same) (not_asked v)
   not_shifted firing id source target e v w (inr (inl (none, n, some, why, (v1, d1, last)))) =

@@ -5,7 +5,7 @@ ghost use Rattle.cyc_types.specs.declared.refusal.Refusal.{Refusal as Reason};
 ghost use Rattle.cyc_core.specs.Tables.{Tables};
 ghost use Rattle.cyc_cpu.specs.Soft.{raise_tables};
 ghost use Rattle.cyc_cpus.specs.Cpus.{CpusView};
-ghost use Rattle.cyc_cpus.specs.Shifting.{Shifts};
+ghost use Rattle.cyc_cpus.specs.Shifting.{move_of, Shifts};
 ghost use Rattle.cyc_cpus_laws.specs.Moved.{Moved, OnlyAsked, outstanding};
 
 use cyc_types::Raise;
@@ -16,9 +16,9 @@ use cyc_types::Raise;
 /// It does nothing when it runs: its clauses are the law.
 pub fn shift_law<R: Raise>()
     ensures moved { (id source target : ℕ) (v w : CpusView R) → target ≢ source
-        → Shifts R.Raise id source target (Ok tt) v w → Moved id source target v w }
+        → Shifts R.Raise (move_of id source target) (Ok tt) v w → Moved id source target v w }
     ensures refused { (id source target : ℕ) (e : Reason) (v w : CpusView R) → target ≢ source
-        → Shifts R.Raise id source target (Err e) v w → OnlyAsked v w }
+        → Shifts R.Raise (move_of id source target) (Err e) v w → OnlyAsked v w }
 {}
 
 /// Where no other thread uses the levels, no call of a cyclic is outstanding where it was, and none where it came: a move takes
@@ -27,7 +27,7 @@ pub fn shift_law<R: Raise>()
 /// It does nothing when it runs: its clause is the law.
 pub fn shift_core_law()
     ensures { (id source target : ℕ) (v w : CpusView Tables) → target ≢ source
-        → Shifts raise_tables id source target (Ok tt) v w
+        → Shifts raise_tables (move_of id source target) (Ok tt) v w
         → (m : Moved id source target v w) × (outstanding m.cyclic.timer.level id m.from ≡ 0)
         × (outstanding m.cyclic.timer.level id m.joined ≡ 0) }
 {}

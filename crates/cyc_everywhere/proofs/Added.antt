@@ -17,6 +17,7 @@ use Rattle.cyc_agreement.specs.Agreement.{Agrees}
 use Rattle.cyc_agreement.specs.Refusals.{Unless, ids_spent}
 use Rattle.cyc_agreement.proofs.Spots.{seen}
 use Rattle.cyc_agreement.proofs.Refusing.{passes}
+use Rattle.cyc_agreement.specs.Adding.{add_request}
 use Rattle.cyc_everywhere.specs.Omni.{entering_each, AddsOmni, last_after}
 use Rattle.cyc_agreement.specs.Holding.{Holds}
 use Rattle.cyc_agreement.proofs.Holding.{holds_same, holds_given}
@@ -38,22 +39,22 @@ module _ {R : Type 0} (firing : Raise R) (level : Level) (when : When) (skew now
       → ReservesEach firing 1 (Err e) v w
       → Unless {S = SystemView R} (bad_now now ∷ ids_spent (seen v rs last) ∷ []) (λ e. Err e) answer (seen v rs last)
       (seen w qs (last_after last answer))
-      (AddsOmni firing level when skew now answer (seen v rs last) (seen w qs (last_after last answer)))
+      (AddsOmni firing (add_request level when now) skew answer (seen v rs last) (seen w qs (last_after last answer)))
   omni_full w qs e answer is records why =
       subst (λ a. Unless {S = SystemView R} (bad_now now ∷ ids_spent (seen v rs last) ∷ []) (λ e. Err e) a (seen v rs last)
       (seen w qs (last_after last a))
-      (AddsOmni firing level when skew now a (seen v rs last) (seen w qs (last_after last a)))) (sym is)
+      (AddsOmni firing (add_request level when now) skew a (seen v rs last) (seen w qs (last_after last a)))) (sym is)
       (inr (clear, (inl why, records, refl)))
 
   pub omni_unrecorded : (w : CpusView R) (qs : List Record) (e : Refusal) (answer : Result ℕ Refusal) → answer ≡ Err e
       → e ≡ Memory → qs ≡ rs → ReservesEach firing 1 (Ok tt) v w
       → Unless {S = SystemView R} (bad_now now ∷ ids_spent (seen v rs last) ∷ []) (λ e. Err e) answer (seen v rs last)
       (seen w qs (last_after last answer))
-      (AddsOmni firing level when skew now answer (seen v rs last) (seen w qs (last_after last answer)))
+      (AddsOmni firing (add_request level when now) skew answer (seen v rs last) (seen w qs (last_after last answer)))
   omni_unrecorded w qs e answer is what records done =
       subst (λ a. Unless {S = SystemView R} (bad_now now ∷ ids_spent (seen v rs last) ∷ []) (λ e. Err e) a (seen v rs last)
       (seen w qs (last_after last a))
-      (AddsOmni firing level when skew now a (seen v rs last) (seen w qs (last_after last a)))) (sym is)
+      (AddsOmni firing (add_request level when now) skew a (seen v rs last) (seen w qs (last_after last a)))) (sym is)
       (inr (clear, (inr (what, done), records, refl)))
 
   pub omni_done : (u w : CpusView R) (qs : List Record) (id : ℕ) → id ≡ last + 1 → ReservesEach firing 1 (Ok tt) v u
@@ -61,7 +62,7 @@ module _ {R : Type 0} (firing : Raise R) (level : Level) (when : When) (skew now
       → qs ≡ rs ++ new_record id level (Everywhere when skew) ∷ []
       → Unless {S = SystemView R} (bad_now now ∷ ids_spent (seen v rs last) ∷ []) (λ e. Err e) (Ok id) (seen v rs last)
       (seen w qs id)
-      (AddsOmni firing level when skew now (Ok id) (seen v rs last) (seen w qs id))
+      (AddsOmni firing (add_request level when now) skew (Ok id) (seen v rs last) (seen w qs id))
   omni_done u w qs id next reserved works records =
       inr (clear, (next, (u, reserved, of_first u w id reserved works), records, refl))
     where

@@ -11,7 +11,7 @@ use Rattle.cyc_agreement.specs.Rows.{Cyclic}
 use Rattle.cyc_agreement.specs.Cpu.{CpuView, HasRisingIds}
 use Rattle.cyc_agreement.specs.Cpus.{CpusView, IsCpu, OfCpu, online_cpus, DoesAt, Works}
 use Rattle.cyc_agreement.specs.System.{SystemView, is_online}
-use Rattle.cyc_agreement.specs.Adding.{entering}
+use Rattle.cyc_agreement.specs.Adding.{add_request, entering}
 use Rattle.cyc_agreement.proofs.Lists.{among, false_ne, eq_true, false_true}
 use Rattle.cyc_everywhere.specs.Omni.{component_first, entering_each, AddsOmni}
 use Rattle.cyc_everywhere.specs.Laws.{Here, HasOne, new_component}
@@ -93,7 +93,7 @@ module _ {R : Type 0} (firing : Raise R) (id : ℕ) (level : Level) (when : When
 -- what the laws of add_omni say
 module _ {R : Type 0} (firing : Raise R) (s t : SystemView R) (level : Level)
     (when : When) (skew now id : ℕ)
-    (did : AddsOmni firing level when skew now (Ok id) s t) (n : ℕ) where
+    (did : AddsOmni firing (add_request level when now) skew (Ok id) s t) (n : ℕ) where
   whole : Visited firing id level when skew now n (online_cpus s.cpus) did.1.0 t.cpus
   whole = visit firing id level when skew now (online_cpus s.cpus) n did.1.0 t.cpus did.1.2
 

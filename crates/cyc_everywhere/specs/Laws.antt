@@ -13,6 +13,7 @@ use Rattle.cyc_places.specs.Places.{IsRecord, HasRisingIds, ended_on}
 use Rattle.cyc_agreement.specs.Cpus.{IsCpu, OfCpu}
 use Rattle.cyc_agreement.specs.System.{SystemView, is_online}
 use Rattle.cyc_agreement.specs.Agreement.{Agrees}
+use Rattle.cyc_agreement.specs.Adding.{add_request}
 use Rattle.cyc_everywhere.specs.Omni.{component_first, AddsOmni}
 use Rattle.cyc_everywhere.specs.Online.{is_staying, GoesOnline}
 
@@ -31,13 +32,14 @@ new_component n id level when skew now = new_cyclic id level when.interval (comp
 -- after a cyclic was added everywhere, each online CPU has one component of it, with the start of the CPU's number
 abbrev pub EachHasItsComponent : {R : Type 0} → Raise R → Type 0
 EachHasItsComponent {R} firing = (s t : SystemView R) (level : Level) (when : When) (skew now id : ℕ)
-    → AddsOmni firing level when skew now (Ok id) s t → (n : ℕ) → is_online n s.cpus ≡ true
+    → AddsOmni firing (add_request level when now) skew (Ok id) s t → (n : ℕ) → is_online n s.cpus ≡ true
     → OfCpu n (λ cpu. HasOne (new_component n id level when skew now) cpu.cyclics) t.cpus
 
 -- and every other cyclic is where it was, as it was
 abbrev pub OthersStay : {R : Type 0} → Raise R → Type 0
 OthersStay {R} firing = (s t : SystemView R) (level : Level) (when : When) (skew now id : ℕ)
-    → AddsOmni firing level when skew now (Ok id) s t → (n : ℕ) (x y : CpuView R) → IsCpu n x s.cpus → IsCpu n y t.cpus
+    → AddsOmni firing (add_request level when now) skew (Ok id) s t → (n : ℕ) (x y : CpuView R)
+    → IsCpu n x s.cpus → IsCpu n y t.cpus
     → (d : Cyclic) → d.timer.id ≢ id → (Here d x.cyclics → Here d y.cyclics) × (Here d y.cyclics → Here d x.cyclics)
 
 -- a component that comes back with what its earlier stays on this CPU came to

@@ -11,7 +11,7 @@ use Rattle.cyc_places.specs.Places.{new_record}
 use Rattle.cyc_agreement.specs.Cpus.{CpusView, CallOn, online_cpus, Works}
 use Rattle.cyc_agreement.specs.Reserving.{ReservesEach}
 use Rattle.cyc_agreement.specs.System.{SystemView}
-use Rattle.cyc_agreement.specs.Adding.{entering}
+use Rattle.cyc_agreement.specs.Adding.{AddRequest, entering}
 
 -- the start of the component on the CPU of this number
 abbrev pub component_start : ℕ → When → ℕ → ℕ
@@ -30,12 +30,12 @@ entering_each (n ∷ ns) id level when skew now =
 -- The cyclic has a component on each online CPU, and the next id: all memory was taken before the first CPU was switched. Or
 -- a CPU has no room, or there is no memory on one of them or for the record.
 abbrev pub AddsOmni : {R : Type 0} → Raise R
-    → Level → When → ℕ → ℕ → Result ℕ Refusal → SystemView R → SystemView R → Type 0
-AddsOmni {R} firing level when skew now (Ok id) s t = (id ≡ s.last + 1)
+    → AddRequest → ℕ → Result ℕ Refusal → SystemView R → SystemView R → Type 0
+AddsOmni {R} firing a skew (Ok id) s t = (id ≡ s.last + 1)
     × ((reserved : CpusView R) × ReservesEach firing 1 (Ok tt) s.cpus reserved
-    × Works firing (entering_each (online_cpus s.cpus) id level when skew now) reserved t.cpus)
-    × (t.records ≡ s.records ++ new_record id level (Everywhere when skew) ∷ []) × (t.last ≡ id)
-AddsOmni firing level when skew now (Err e) s t =
+    × Works firing (entering_each (online_cpus s.cpus) id a.level a.when skew a.now) reserved t.cpus)
+    × (t.records ≡ s.records ++ new_record id a.level (Everywhere a.when skew) ∷ []) × (t.last ≡ id)
+AddsOmni firing a skew (Err e) s t =
     (ReservesEach firing 1 (Err e) s.cpus t.cpus ⊎ ((e ≡ Memory) × ReservesEach firing 1 (Ok tt) s.cpus t.cpus))
     × (t.records ≡ s.records) × (t.last ≡ s.last)
 

@@ -6,7 +6,7 @@ ghost use Rattle.cyc_types.specs.Series.{never};
 ghost use Rattle.cyc_agreement.specs.ModelRefusals.{bad_now};
 ghost use Rattle.cyc_agreement.specs.Cpu.{HasNoCyclic, MayWiden};
 ghost use Rattle.cyc_agreement.specs.Cpus.{OfCpu, IsOnline, online_cpus, Works};
-ghost use Rattle.cyc_agreement.specs.Adding.{entering};
+ghost use Rattle.cyc_agreement.specs.Adding.{add_request, entering};
 ghost use Rattle.cyc_agreement.specs.Holding.{Holds};
 ghost use Rattle.cyc_agreement.specs.System.{SystemView};
 ghost use Rattle.cyc_agreement.specs.Refusals.{Unless, ids_spent};
@@ -82,7 +82,8 @@ pub fn add_omni<R: Raise>(
         (record { cpus = cpus.old; records = records.old.list; last = last }) ∷ [])
         (λ e. Err e) result (record { cpus = cpus.old; records = records.old.list; last = last })
         (record { cpus = cpus.new; records = records.new.list; last = last_after last result })
-        (AddsOmni R.Raise level when skew now result (record { cpus = cpus.old; records = records.old.list; last = last })
+        (AddsOmni R.Raise (add_request level when now) skew result
+        (record { cpus = cpus.old; records = records.old.list; last = last })
         (record { cpus = cpus.new; records = records.new.list; last = last_after last result })) }
     ensures holds { Holds (record { cpus = cpus.new; records = records.new.list; last = last_after last result }) }
 {

@@ -14,7 +14,7 @@ use Rattle.cyc_places.specs.declared.record.Record.{Record}
 use Rattle.cyc_places.specs.Places.{IsRecord, HasRisingIds, with_place}
 use Rattle.cyc_agreement.specs.Cpus.{CpusView, IsCpu, on, Works}
 use Rattle.cyc_agreement.specs.Destination.{destination}
-use Rattle.cyc_agreement.specs.Shifting.{Shifts}
+use Rattle.cyc_agreement.specs.Shifting.{move_of, Shifts}
 use Rattle.cyc_agreement.specs.System.{SystemView, has, is_online, removal_on}
 use Rattle.cyc_agreement.specs.Agreement.{Agrees}
 use Rattle.cyc_agreement.specs.Binding.{GoesTo}
@@ -61,27 +61,27 @@ module _ {R : Type 0} (s : SystemView R) (a : Agrees s) (rising : HasRisingIds s
   module _ (firing : Raise R) (lawful : (n : ℕ) (cpu : CpuView R) → IsCpu n cpu s.cpus
       → IsLawful firing.view cpu)
       (w : CpusView R) where
-    pub agrees_moved : Shifts firing r.id source d (Ok tt) s.cpus w
+    pub agrees_moved : Shifts firing (move_of r.id source d) (Ok tt) s.cpus w
         → Agrees (record { cpus = w; records = slice_set s.records k (with_place (On d false) r); last = s.last })
     agrees_moved shifts =
         let (cpu, at) = get_some s.cpus.cpus source low_source in
-        let goes : GoesTo firing r.id source d (Ok tt) s.cpus w = inr ((λ e. apart (sym e)), shifts) in
+        let goes : GoesTo firing (move_of r.id source d) (Ok tt) s.cpus w = inr ((λ e. apart (sym e)), shifts) in
         let (but, there, gone) = went firing r.id source d s.cpus w
         (rise_on firing.view s.cpus source cpu at (lawful source cpu at)) home only goes in
         agrees_replaced s k d false false source r w a rising is place but up there gone
 
-    pub agrees_stayed : (e : Refusal) → Shifts firing r.id source d (Err e) s.cpus w
+    pub agrees_stayed : (e : Refusal) → Shifts firing (move_of r.id source d) (Err e) s.cpus w
         → Agrees (record { cpus = w; records = s.records; last = s.last })
     agrees_stayed e shifts =
         let (cpu, at) = get_some s.cpus.cpus source low_source in
-        let goes : GoesTo firing r.id source d (Err e) s.cpus w = inr ((λ f. apart (sym f)), shifts) in
+        let goes : GoesTo firing (move_of r.id source d) (Err e) s.cpus w = inr ((λ f. apart (sym f)), shifts) in
         agrees_same s w a (stayed firing r.id source d s.cpus w e
         (rise_on firing.view s.cpus source cpu at (lawful source cpu at)) goes)
 
 -- where no removal is open at the source and no call was found outstanding, the destination refused it
 pub refused : {R : Type 0} (firing : Raise R) (id source d : ℕ) (v w : CpusView R)
     (e : Refusal) → removal_on source v ≡ None → e ≢ why.Pending
-    → Shifts firing id source d (Err e) v w
+    → Shifts firing (move_of id source d) (Err e) v w
     → Works firing (on source (AskPending id (Some 0)) ∷ on d (Reserve 1 (Err e)) ∷ []) v w
 refused firing id source d v w e still ne (inl (removed, (cpu, at, is), busy, same)) =
     absurd (none_some (sym still ∙ ap (λ o. option_and_then (λ x. x.removal) o) at ∙ is))

@@ -11,7 +11,7 @@ use Rattle.cyc_places.specs.declared.record.Placement.TheVariants.{On}
 use Rattle.cyc_places.specs.Places.{RecordsView}
 use Rattle.cyc_agreement.specs.Cpus.{CpusView, on, online_cpus}
 use Rattle.cyc_agreement.specs.Destination.{destination}
-use Rattle.cyc_agreement.specs.Shifting.{Shifts}
+use Rattle.cyc_agreement.specs.Shifting.{move_of, Shifts}
 use Rattle.cyc_agreement.specs.System.{SystemView, ids_on, removal_on, is_omnipresent}
 use Rattle.cyc_agreement.specs.Refusals.{Unless, no_cpu, offline_cpu}
 use Rattle.cyc_agreement.specs.Adding.{OnlyWorks}
@@ -36,7 +36,7 @@ TakesTurn firing source id StaysRefused s t = HasPlace id source false s
     × OnlyWorks firing (on source (AskPending id (Some 0)) ∷ on d (Reserve 1 (Err e)) ∷ []) s t
 TakesTurn firing source id Moves s t = HasPlace id source false s
     × (d : ℕ) × (destination (Some source) s.cpus ≡ Some d)
-    × Shifts firing id source d (Ok tt) s.cpus t.cpus × Records id (On d false) s t
+    × Shifts firing (move_of id source d) (Ok tt) s.cpus t.cpus × Records id (On d false) s t
 
 -- the report with one turn more
 abbrev pub counted : Turn → JuggleReport → JuggleReport

@@ -7,7 +7,7 @@ use Rattle.cyc_types.specs.declared.refusal.Refusal.{Refusal}
 use Rattle.cyc_types.specs.declared.refusal.Refusal.TheVariants.{NoCyclic}
 use Rattle.cyc_agreement.specs.ModelRefusals.{when}
 use Rattle.cyc_agreement.specs.Calls.{PollRemove}
-use Rattle.cyc_agreement.specs.Cpus.{CpusView, numbers_from}
+use Rattle.cyc_agreement.specs.Cpus.{CpusView, on, numbers_from}
 use Rattle.cyc_agreement.specs.System.{SystemView, is_leaving_here, is_leaving}
 use Rattle.cyc_agreement.specs.Refusals.{Unless}
 use Rattle.cyc_removing.specs.Removing.{OnlyDoes, EndsStay, Answers, cpus_with}
@@ -19,7 +19,7 @@ leaving_cpus id v = numbers_from 0 (map (is_leaving_here id) v.cpus)
 -- the CPU was asked whether the removal is done there
 abbrev pub PollsOn : {R : Type 0} → Raise R
     → ℕ → ℕ → Option Receipt → SystemView R → SystemView R → Type 0
-PollsOn firing id n (Some receipt) s t = EndsStay firing id n receipt (PollRemove (Some receipt)) s t
+PollsOn firing id n (Some receipt) s t = EndsStay firing id receipt (on n (PollRemove (Some receipt))) s t
 PollsOn firing id n None s t = OnlyDoes firing n (PollRemove None) s t
 
 -- what a CPU answered

@@ -12,7 +12,7 @@ use Rattle.cyc_agreement.specs.Removal.TheVariants.{Done, Kept}
 use Rattle.cyc_agreement.specs.Calls.{CpuCall, BeginRemove}
 use Rattle.cyc_places.specs.declared.record.Record.{Record}
 use Rattle.cyc_places.specs.Places.{IsRecord, IsReceiptOf, ended_on, summed, with_ended}
-use Rattle.cyc_agreement.specs.Cpus.{CpusView, on, numbers_from, DoesAt}
+use Rattle.cyc_agreement.specs.Cpus.{CpusView, CallOn, on, numbers_from, DoesAt}
 use Rattle.cyc_agreement.specs.System.{SystemView, ids_of, removal_on, is_unknown}
 use Rattle.cyc_agreement.specs.Refusals.{Unless}
 use Rattle.cyc_removing.specs.declared.removing.SystemRemoval.{SystemRemoval}
@@ -33,17 +33,18 @@ OnlyDoes firing n call s t = DoesAt firing s.cpus (on n call) t.cpus × (t.recor
 abbrev pub counts_of : Receipt → Sent
 counts_of receipt = record { sent = receipt.sent; lost = receipt.lost }
 
--- this call ended the cyclic's stay on the CPU, whose counts are kept beside those of earlier stays there
+-- this call on a CPU ended the cyclic's stay there, whose counts are kept beside those of earlier stays there
 abbrev pub EndsStay : {R : Type 0} → Raise R
-    → ℕ → ℕ → Receipt → CpuCall → SystemView R → SystemView R → Type 0
-EndsStay firing id n receipt call s t = DoesAt firing s.cpus (on n call) t.cpus
+    → ℕ → Receipt → CallOn → SystemView R → SystemView R → Type 0
+EndsStay firing id receipt it s t = DoesAt firing s.cpus it t.cpus
     × (k : ℕ) × (r : Record) × IsRecord s.records k r × (r.id ≡ id)
-    × (t.records ≡ slice_set s.records k (with_ended n (summed (ended_on n r) (counts_of receipt)) r)) × (t.last ≡ s.last)
+    × (t.records ≡ slice_set s.records k (with_ended it.cpu (summed (ended_on it.cpu r) (counts_of receipt)) r))
+    × (t.last ≡ s.last)
 
 -- the removal begins on the CPU, and ends there at once where no call is outstanding (cyclic_remove_here)
 abbrev pub BeginsOn : {R : Type 0} → Raise R
     → ℕ → ℕ → Removal → SystemView R → SystemView R → Type 0
-BeginsOn firing id n (Done receipt) s t = EndsStay firing id n receipt (BeginRemove id (Ok (Done receipt))) s t
+BeginsOn firing id n (Done receipt) s t = EndsStay firing id receipt (on n (BeginRemove id (Ok (Done receipt)))) s t
 BeginsOn firing id n (Kept kept) s t = OnlyDoes firing n (BeginRemove id (Ok (Kept kept))) s t
 
 -- ---- all CPUs

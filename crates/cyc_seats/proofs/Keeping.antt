@@ -23,7 +23,7 @@ use Rattle.cyc_system_laws.specs.Parts.{CpusCall, OnCpu, SetOnline, DoesPart}
 use Rattle.cyc_system_laws.proofs.Pieces.{made_of}
 use Rattle.cyc_system_workers.specs.declared.side.SystemSide.{SystemSide}
 use Rattle.cyc_system_workers.specs.declared.advancing.Advanced.{Advanced}
-use Rattle.cyc_system_workers.specs.Advancing.{AllFire, FiresIf}
+use Rattle.cyc_system_workers.specs.Advancing.{AllFire, moment_asked, FiresIf}
 use Rattle.cyc_seats.specs.Seats.{HasSameSeats, HaveSameSeats}
 
 same_some : {A : Type 0} {x y : A} → Some x ≡ Some y → x ≡ y
@@ -121,7 +121,7 @@ module _ {C : Type 0} (handler : Calls C) where
   )
 
   fires_if : (up : Bool) (now : ℕ) (s t : Running C RaiseEnd) (answer : Option (Result Fired FireRefused)) →
-      FiresIf handler raise_end up now s answer t → HasSameSeats s.cpu t.cpu
+      FiresIf handler raise_end (moment_asked up now) s answer t → HasSameSeats s.cpu t.cpu
   fires_if true now s t (Some answer) d = fired_one s t now answer d
   fires_if true now s t None d = absurd d
   fires_if false now s t (Some answer) d = absurd d

@@ -12,7 +12,7 @@ use Rattle.cyc_script_machine.specs.System.{RunningSystem, running_system}
 use Rattle.cyc_model.specs.State.{State, Outcome, online_cpus}
 use Rattle.cyc_model.specs.Refusals.{when, bad_now}
 use Rattle.cyc_model.specs.Advance.{advance}
-use Rattle.cyc_script_machine.specs.Advancing.{at_clock, HasFired, IsAdvanced}
+use Rattle.cyc_script_machine.specs.Advancing.{at_clock, fired_and_lost, HasFired, IsAdvanced}
 use Rattle.cyc_script_machine.specs.declared.machine.Machine.{Machine}
 use Rattle.cyc_script_machine.specs.Machine.{Holds, IsReached}
 use Rattle.cyc_script_machine.specs.Words.{Comes, TakesWord}
@@ -35,7 +35,8 @@ pub too_late : (now : ℕ) → never ≤ now → bad_now now ≡ Some BadNow
 too_late now high = ap (λ b. when b BadNow) (above_never now high)
 
 pub begins : (step now : ℕ) (s : State) (m : Machine) → step ≤ most_steps → IsReached step s → Holds s m → now < never
-    → HasFired tally_count 0 0 0 (at_clock now s) (running_system m.tally m.system) (running_system m.tally m.system)
+    → HasFired tally_count 0 (fired_and_lost 0 0) (at_clock now s) (running_system m.tally m.system)
+    (running_system m.tally m.system)
     → IsAdvancing step 0 0 0 s (running_system m.tally m.system) (record m { clock = now })
 begins step now s m few r h before fired = record {
   reached = r;
@@ -56,9 +57,10 @@ begins step now s m few r h before fired = record {
 -- the clock is the one that was set
 pub fired_at : (step n expired lost now : ℕ) (s : State) (first : RunningSystem TallyView Tables) (t : Machine)
     → IsAdvancing step n expired lost s first t → t.clock ≡ now
-    → HasFired tally_count n expired lost (at_clock now s) first (running_system t.tally t.system)
+    → HasFired tally_count n (fired_and_lost expired lost) (at_clock now s) first (running_system t.tally t.system)
 fired_at step n expired lost now s first t a clock =
-    subst (λ k. HasFired tally_count n expired lost (at_clock k s) first (running_system t.tally t.system)) clock a.fired
+    subst (λ k. HasFired tally_count n (fired_and_lost expired lost) (at_clock k s) first (running_system t.tally t.system))
+    clock a.fired
 
 -- after the last fire
 pub advanced : (step k n expired lost now : ℕ) (s : State) (first : RunningSystem TallyView Tables) (t : Machine)

@@ -37,7 +37,7 @@ use Rattle.cyc_model.proofs.Totals.{expired_in}
 use Rattle.cyc_model.proofs.Numbers.{Has}
 use Rattle.cyc_model.proofs.Calm.{good_clock}
 use Rattle.cyc_script_machine.specs.CpuModelShown.{shown}
-use Rattle.cyc_script_machine.specs.Advancing.{at_clock, online_below, HasFired}
+use Rattle.cyc_script_machine.specs.Advancing.{at_clock, online_below, fired_and_lost, HasFired}
 use Rattle.cyc_script_machine.specs.Shown.{shown_list, IsSystem}
 use Rattle.cyc_script_machine.specs.declared.machine.Machine.{Machine}
 use Rattle.cyc_script_machine.specs.Machine.{IsWide, AllMost, number_of}
@@ -254,7 +254,7 @@ low_here step n expired lost s first m a low = let e = many_here step n expired 
 pub passed_on : (step n expired lost : ℕ) (s : State) (first : RunningSystem TallyView Tables) (m t : Machine)
     → IsAdvancing step n expired lost s first m
     → running_system t.tally t.system ≡ running_system m.tally m.system → t.clock ≡ m.clock → SameNames m t
-    → HasFired tally_count (n + 1) expired lost (at_clock m.clock s) first (running_system m.tally m.system)
+    → HasFired tally_count (n + 1) (fired_and_lost expired lost) (at_clock m.clock s) first (running_system m.tally m.system)
     → IsAdvancing step (n + 1) (expired + 0) (lost + 0) s first t
 passed_on step n expired lost s first m t a same clock names next =
     let system = ap (λ (r : RunningSystem TallyView Tables). r.system) same in
@@ -265,13 +265,16 @@ passed_on step n expired lost s first m t a same clock names next =
       reached = a.reached;
       few = a.few;
       before = omega (arith, before, clock);
-      fired = subst (λ k. HasFired tally_count (n + 1) (expired + 0) k (at_clock t.clock s) first
+      fired = subst (λ k. HasFired tally_count (n + 1) (fired_and_lost (expired + 0) k) (at_clock t.clock s) first
           (running_system t.tally t.system)) (none lost)
-          (subst (λ k. HasFired tally_count (n + 1) k lost (at_clock t.clock s) first (running_system t.tally t.system))
+          (subst (λ k. HasFired tally_count (n + 1) (fired_and_lost k lost) (at_clock t.clock s) first
+          (running_system t.tally t.system))
           (none expired)
-          (subst (λ k. HasFired tally_count (n + 1) expired lost (at_clock k s) first (running_system t.tally t.system))
+          (subst (λ k. HasFired tally_count (n + 1) (fired_and_lost expired lost) (at_clock k s) first
+          (running_system t.tally t.system))
           (sym clock)
-          (subst (λ r. HasFired tally_count (n + 1) expired lost (at_clock m.clock s) first r) (sym same) next)));
+          (subst (λ r. HasFired tally_count (n + 1) (fired_and_lost expired lost) (at_clock m.clock s) first r)
+          (sym same) next)));
       called = a.called;
       system = subst (λ v. IsSystem v) (sym system) a.system;
       names = a.names ∙ sym (ap (map number_of) names.names);

@@ -8,7 +8,7 @@ use Rattle.cyc_model.specs.State.{State}
 use Rattle.cyc_script_machine.specs.System.{RunningSystem, running_system}
 use Rattle.cyc_script_machine.specs.Room.{HaveAllRoom}
 use Rattle.cyc_script_machine.specs.Shown.{IsSystem}
-use Rattle.cyc_script_machine.specs.Advancing.{at_clock, HasFired}
+use Rattle.cyc_script_machine.specs.Advancing.{at_clock, fired_and_lost, HasFired}
 use Rattle.cyc_script_machine.specs.declared.machine.Machine.{Machine}
 use Rattle.cyc_script_machine.specs.Machine.{IsReached, IsWide, AllMost, Remembers, number_of}
 
@@ -18,7 +18,7 @@ pub record IsAdvancing (step n expired lost : ℕ) (s : State) (first : RunningS
   pub reached : IsReached step s
   pub few : step ≤ most_steps
   pub before : m.clock < never
-  pub fired : HasFired tally_count n expired lost (at_clock m.clock s) first (running_system m.tally m.system)
+  pub fired : HasFired tally_count n (fired_and_lost expired lost) (at_clock m.clock s) first (running_system m.tally m.system)
   pub called : (id : ℕ) → tally_count first.calls id ≡ s.called id
   pub system : IsSystem m.system
   pub names : s.names ≡ map number_of m.names.items

@@ -12,7 +12,7 @@ use Rattle.cyc_soft.specs.declared.Ran.{Ran}
 use Rattle.cyc_soft.specs.declared.SoftRefused.{SoftRefused}
 use Rattle.cyc_cpu_laws.specs.Cpu.{Running}
 use Rattle.cyc_agreement.specs.System.{SystemView, RunningSystem}
-use Rattle.cyc_agreement.specs.Adding.{Adds}
+use Rattle.cyc_agreement.specs.Adding.{add_request, Adds}
 use Rattle.cyc_agreement.specs.Binding.{Unbinds, Binds}
 use Rattle.cyc_types.specs.declared.receipt.Receipt.{Receipt}
 use Rattle.cyc_types.specs.declared.refusal.JuggleReport.{JuggleReport}
@@ -51,7 +51,7 @@ running_or o refused answer s t G (inl (e, why, is, same)) goes =
 running_or o refused answer s t G (inr (clear, g)) goes = goes g
 
 module _ {R : Type 0} (firing : Raise R) (s t : SystemView R) where
-  adds : (level : Level) (when : When) (now : ℕ) (answer : Result ℕ Refusal) → Adds firing level when now answer s t
+  adds : (level : Level) (when : When) (now : ℕ) (answer : Result ℕ Refusal) → Adds firing (add_request level when now) answer s t
       → s.last ≤ t.last
   adds level when now (Ok id) (d, chosen, next, works, records, last) = omega (arith, next, last)
   adds level when now (Err e) (d, chosen, inl (works, records, last)) = stays s.last t.last last
@@ -62,7 +62,7 @@ module _ {R : Type 0} (firing : Raise R) (s t : SystemView R) where
   binds id n (Err e) (home, has, goes, records, last) = stays s.last t.last last
 
   omni : (level : Level) (when : When) (skew now : ℕ) (answer : Result ℕ Refusal)
-      → AddsOmni firing level when skew now answer s t → s.last ≤ t.last
+      → AddsOmni firing (add_request level when now) skew answer s t → s.last ≤ t.last
   omni level when skew now (Ok id) (next, works, records, last) = omega (arith, next, last)
   omni level when skew now (Err e) (works, records, last) = stays s.last t.last last
 

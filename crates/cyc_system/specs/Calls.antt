@@ -15,13 +15,13 @@ use Rattle.cyc_cpu_laws.specs.Fired.{Fired}
 use Rattle.cyc_cpu_laws.specs.FireRefused.{FireRefused}
 use Rattle.cyc_cpu_laws.specs.Cpu.{Running}
 use Rattle.cyc_cpu_laws.specs.Calls.{Reprogram as CpuReprogram, Fire, SoftInterrupt as CpuSoftInterrupt}
-use Rattle.cyc_agreement.specs.Cpus.{on, running_cpus, RunsAt}
+use Rattle.cyc_agreement.specs.Cpus.{CallOn, on, running_cpus, RunsAt}
 use Rattle.cyc_system.specs.declared.interrupting.SoftFault.{SoftFault}
 use Rattle.cyc_system.specs.declared.interrupting.SoftFault.TheVariants.{Refused}
 use Rattle.cyc_system.specs.declared.interrupting.SoftFault.TheVariants as fault
 use Rattle.cyc_agreement.specs.System.{SystemView, RunningSystem}
 use Rattle.cyc_agreement.specs.Refusals.{Unless, ids_spent, no_cyclic, omnipresent, no_cpu, offline_cpu, no_component}
-use Rattle.cyc_agreement.specs.Adding.{OnlyWorks, Adds}
+use Rattle.cyc_agreement.specs.Adding.{OnlyWorks, add_request, Adds}
 use Rattle.cyc_agreement.specs.Binding.{HasHome, Unbinds, Binds}
 use Rattle.cyc_removing.specs.declared.removing.SystemRemoval.{SystemRemoval}
 use Rattle.cyc_removing.specs.declared.totals.SystemTotals.{SystemTotals}
@@ -49,19 +49,22 @@ pub data SystemCall : Type 0 where
   FireOne : ℕ → ℕ → Result Fired FireRefused → SystemCall
   SoftInterrupt : ℕ → Soft → ℕ → Result Ran SoftFault → SystemCall
 
--- the cyclic's CPU gave it another moment, and nothing else changed
+-- the call by which a CPU gives a cyclic of it another moment
+abbrev pub reprogramming : ℕ → ℕ → ℕ → CallOn
+reprogramming id n moment = on n (CpuReprogram id moment (Ok tt))
+
+-- that call was made, and nothing else changed
 abbrev pub Reprograms : {R : Type 0} → Raise R
-    → ℕ → ℕ → ℕ → Result (Unit {0}) Refusal → SystemView R → SystemView R → Type 0
-Reprograms firing id n moment answer s t =
-    (answer ≡ Ok tt) × OnlyWorks firing (on n (CpuReprogram id moment (Ok tt)) ∷ []) s t
+    → CallOn → Result (Unit {0}) Refusal → SystemView R → SystemView R → Type 0
+Reprograms firing it answer s t = (answer ≡ Ok tt) × OnlyWorks firing (it ∷ []) s t
 
 -- what a call does that reaches no handler: first the reasons for which it is refused, in their order
 abbrev pub Changes : {R : Type 0} → Raise R
     → SystemView R → SystemCall → SystemView R → Type 0
 Changes firing s (Add level when now answer) t =
-    Unless (bad_now now ∷ ids_spent s ∷ []) (λ e. Err e) answer s t (Adds firing level when now answer s t)
+    Unless (bad_now now ∷ ids_spent s ∷ []) (λ e. Err e) answer s t (Adds firing (add_request level when now) answer s t)
 Changes firing s (AddOmni level when skew now answer) t =
-    Unless (bad_now now ∷ ids_spent s ∷ []) (λ e. Err e) answer s t (AddsOmni firing level when skew now answer s t)
+    Unless (bad_now now ∷ ids_spent s ∷ []) (λ e. Err e) answer s t (AddsOmni firing (add_request level when now) skew answer s t)
 Changes firing s (Bind id None answer) t =
     Unless (no_cyclic id s ∷ omnipresent id s ∷ []) (λ e. Err e) answer s t (Unbinds id answer s t)
 Changes firing s (Bind id (Some n) answer) t =
@@ -71,10 +74,10 @@ Changes firing s (BeginRemove id answer) t = BeginsRemoval firing id answer s t
 Changes firing s (PollRemove id answer) t = PollsRemoval firing id answer s t
 Changes firing s (AskTotals id answer) t = AsksTotals firing id answer s t
 Changes firing s (Reprogram id moment answer) t = Unless (no_cyclic id s ∷ omnipresent id s ∷ []) (λ e. Err e) answer s t
-    ((n : ℕ) × HasHome id n s × Reprograms firing id n moment answer s t)
+    ((n : ℕ) × HasHome id n s × Reprograms firing (reprogramming id n moment) answer s t)
 Changes firing s (ReprogramOn id n moment answer) t =
     Unless (no_cyclic id s ∷ no_cpu n s ∷ offline_cpu n s ∷ no_component id n s ∷ []) (λ e. Err e) answer s t
-    (Reprograms firing id n moment answer s t)
+    (Reprograms firing (reprogramming id n moment) answer s t)
 Changes firing s (Juggle n answer) t = Juggles firing n answer s t
 Changes firing s (Offline n answer) t = GoesOffline firing n answer s t
 Changes firing s (Online n now answer) t =

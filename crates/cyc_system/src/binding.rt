@@ -5,6 +5,7 @@ ghost use Rattle.cyc_cpu_laws.specs.Cpu.{HasNoCyclic};
 ghost use Rattle.cyc_cpu_laws.specs.Removal.{HasCyclic};
 ghost use Rattle.cyc_agreement.specs.Cpus.{OfCpu};
 ghost use Rattle.cyc_agreement.specs.Binding.{GoesTo};
+ghost use Rattle.cyc_agreement.specs.Shifting.{move_of};
 
 use crate::system::System;
 use cyc_agreement::Cpus;
@@ -18,7 +19,7 @@ fn go<R: Raise>(cpus: &mut Cpus<R>, id: CyclicId, home: u32, target: u32) -> Res
     requires here { OfCpu home (λ cpu. HasCyclic id cpu.cyclics) cpus.old }
     requires absent { target ≢ home → OfCpu target (λ cpu. HasNoCyclic id cpu.cyclics) cpus.old }
     requires most { OfCpu home (λ from. OfCpu target (λ to. from.most ≤ to.most) cpus.old) cpus.old }
-    ensures { GoesTo R.Raise id home target result cpus.old cpus.new }
+    ensures { GoesTo R.Raise (move_of id home target) result cpus.old cpus.new }
 {
     if home == target {
         return Ok(());

@@ -26,7 +26,7 @@ use Rattle.cyc_system.specs.Cpus.{CpusView, CallOn, on, Works, online_cpus}
 use Rattle.cyc_system.specs.Shifting.{moving}
 use Rattle.cyc_system.proofs.CpusSpots.{get_set_same, get_set_other}
 use Rattle.cyc_system.specs.System.{SystemView, ids_on}
-use Rattle.cyc_system.specs.Adding.{OnlyWorks, Adds, entering}
+use Rattle.cyc_system.specs.Adding.{OnlyWorks, add_request, Adds, entering}
 use Rattle.cyc_system.specs.Binding.{Records, Unbinds, Binds}
 use Rattle.cyc_system.proofs.Spots.{same_some}
 use Rattle.cyc_system.specs.Turn.{Turn}
@@ -135,7 +135,7 @@ module _ {R : Type 0} (firing : Raise R) (g : Sent
       let d = zero_if (own == id) (sum_by g (replicate 16 no_counts)) (omega (arith, z, nil)) in omega (arith, a, b, c, d)
 
   pub adds_same : (level : Level) (when : When) (now : ℕ) (answer : Result ℕ Refusal) (s t : SystemView R)
-      → Adds firing level when now answer s t → all_of t ≡ all_of s
+      → Adds firing (add_request level when now) answer s t → all_of t ≡ all_of s
   adds_same level when now (Ok own) s t (d, chosen, next, works, records, last) =
       let a = flows f id firing (on d (Reserve 1 (Ok tt)) ∷ entering d own level when.interval
       (first when.start when.interval now)) s.cpus t.cpus (tt, (tt, (tt, tt))) works in
@@ -158,7 +158,7 @@ module _ {R : Type 0} (firing : Raise R) (g : Sent
       (omega (arith, a, z), omega (arith, b))
 
   pub omni_same : (level : Level) (when : When) (skew now : ℕ) (answer : Result ℕ Refusal) (s t : SystemView R)
-      → AddsOmni firing level when skew now answer s t → all_of t ≡ all_of s
+      → AddsOmni firing (add_request level when now) skew answer s t → all_of t ≡ all_of s
   omni_same level when skew now (Ok own) s t (next, (u, reserved, works), records, last) =
       let ns = online_cpus s.cpus in
       let a = reserved_same f id firing 1 s.cpus u reserved in

@@ -6,7 +6,7 @@ use Rattle.cyc_cpu.specs.declared.moving.Taken.{Taken}
 use Rattle.cyc_cpu.specs.Calls.{CpuCall, AskPending, AskTotals, AskRoom, Reserve, Widen}
 use Rattle.cyc_system.specs.Cpus.{CpusView, CallOn, on, Works}
 use Rattle.cyc_system.specs.Reserving.{rooms, reserves, ReservesEach}
-use Rattle.cyc_system.specs.Shifting.{WhyNotShifted}
+use Rattle.cyc_system.specs.Shifting.{move_of, WhyNotShifted}
 use Rattle.std.proofs.Common.{inl, inr}
 use Rattle.cyc_system.specs.Counting.{Counted, asked}
 use Rattle.cyc_system.specs.Leaving.{quiet}
@@ -75,7 +75,7 @@ module _ (f : Taken → ℕ) (id : ℕ) where
         omega (arith, a, b)
 
     pub unshifted_same : (own source target : ℕ) (e : Refusal) (v w : CpusView R)
-        → WhyNotShifted firing own source target e v w → on_cpus f id w ≡ on_cpus f id v
+        → WhyNotShifted firing (move_of own source target) e v w → on_cpus f id w ≡ on_cpus f id v
     unshifted_same own source target e v w (inl (removed, is_open, is, same)) = ap (on_cpus f id) same
     unshifted_same own source target e v w (inr (inl (still, n, some, is, works))) = idle_same
         (on source (AskPending own (Some n)) ∷ []) v w (tt, tt) works

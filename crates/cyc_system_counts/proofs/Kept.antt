@@ -1,5 +1,5 @@
 -- The stays of an id are the same after any call that doesn't touch them.
-use Rattle.std.proofs.Common.{◌≡◌, ◌≢◌, ◌∙◌, ◌==◌, ℕ, zero, suc, ◌+◌, ◌⊎◌, inl, inr, Bool, true, false, cond, Option, Some, None}
+use Rattle.std.proofs.Common.{◌≡◌, ◌≢◌, ◌∙◌, ◌==◌, ℕ, suc, ◌+◌, ◌⊎◌, inl, inr, Bool, true, false, cond, Option, Some, None}
 use Rattle.std.proofs.Common.{Result, Ok, Err, List, [], ◌∷◌, ◌++◌, length, filter, refl, sym, ap, subst, arith}
 use Rattle.std.specs.Prelude.{not, ◌&&◌}
 use Rattle.std.specs.List.{slice_get, FoldsTo}
@@ -17,13 +17,13 @@ use Rattle.cyc_places.specs.declared.record.Placement.{Placement}
 use Rattle.cyc_places.specs.declared.record.Placement.TheVariants as stands
 use Rattle.cyc_places.specs.declared.record.Record.{Record}
 use Rattle.cyc_places.specs.Places.{IsRecord, HasRisingIds, is_everywhere, ended_on}
+use Rattle.cyc_system.proofs.Retired.{filtered_none}
 use Rattle.cyc_system.specs.Cpus.{CpusView, CallOn, on, Works, online_cpus}
 use Rattle.cyc_system.specs.Shifting.{moving}
 use Rattle.cyc_system.specs.System.{SystemView, ids_on, is_omnipresent}
-use Rattle.cyc_system.specs.Adding.{OnlyWorks, Adds, entering}
+use Rattle.cyc_system.specs.Adding.{OnlyWorks, add_request, Adds, entering}
 use Rattle.cyc_system.specs.Binding.{Binds}
 use Rattle.cyc_system.proofs.Lists.{false_ne}
-use Rattle.cyc_system.proofs.Spots.{same_some, none_some}
 use Rattle.cyc_system.proofs.Recording.{record_here}
 use Rattle.cyc_system.proofs.Others.{begins_others, polls_others, asks_others}
 use Rattle.cyc_system.specs.Turn.{Turn}
@@ -45,18 +45,6 @@ use Rattle.cyc_system_counts.proofs.Looked.{turns_look}
 not_true : (b : Bool) → not b ≡ false → b ≡ true
 not_true true e = refl
 not_true false e = absurd (let odd : true ≡ false = e in cc)
-
--- none of a list passes
-none_passes : {A : Type 0} (p : A → Bool) (xs : List A) (k : ℕ) (x : A) → filter p xs ≡ [] → slice_get xs k ≡ Some x → p x ≡ false
-none_passes p [] k x e at = absurd (none_some at)
-none_passes {A} p (y ∷ ys) k x e at = by (p y) refl e k (none_passes p ys) at
-  where
-    by : (b : Bool) → p y ≡ b → cond b (y ∷ filter p ys) (filter p ys) ≡ [] → (k : ℕ)
-        → ((k : ℕ) (z : A) → filter p ys ≡ [] → slice_get ys k ≡ Some z → p z ≡ false)
-        → slice_get (y ∷ ys) k ≡ Some x → p x ≡ false
-    by true is odd k others at = absurd (let impossible : y ∷ filter p ys ≡ [] = odd in cc)
-    by false is rest zero others at = ap p (sym (same_some at)) ∙ is
-    by false is rest (suc k) others at = others k x rest at
 
 both_true : (a b : Bool) → (a && b) ≡ true → a ≡ true
 both_true true b e = refl
@@ -91,7 +79,8 @@ module _ {R : Type 0} (firing : Raise R) (f : Taken → ℕ) (id : ℕ) where
       omega (arith, a)
 
   adds_stay : (level : Level) (when : When) (now : ℕ) (answer : Result ℕ Refusal) (s t : SystemView R)
-      → (TouchesStays id (Add level when now answer) s → ⊥) → Adds firing level when now answer s t → all_on t ≡ all_on s
+      → (TouchesStays id (Add level when now answer) s → ⊥) → Adds firing (add_request level when now) answer s t
+      → all_on t ≡ all_on s
   adds_stay level when now (Ok own) s t ne (d, chosen, next, works, records, last) =
       let a = flows f id firing (on d (Reserve 1 (Ok tt)) ∷ entering d own level when.interval
       (first when.start when.interval now)) s.cpus t.cpus (tt, (tt, (tt, tt))) works in
@@ -121,7 +110,7 @@ module _ {R : Type 0} (firing : Raise R) (f : Taken → ℕ) (id : ℕ) where
 
   omni_stays : (level : Level) (when : When) (skew now : ℕ) (answer : Result ℕ Refusal) (s t : SystemView R)
       → (TouchesStays id (AddOmni level when skew now answer) s → ⊥)
-      → AddsOmni firing level when skew now answer s t → all_on t ≡ all_on s
+      → AddsOmni firing (add_request level when now) skew answer s t → all_on t ≡ all_on s
   omni_stays level when skew now (Ok own) s t ne (next, (u, reserved, works), records, last) =
       let (fixed, z, y) = entering_stays (online_cpus s.cpus) own level when skew now ne in
       let a = reserved_same f id firing 1 s.cpus u reserved in
@@ -162,7 +151,8 @@ module _ {R : Type 0} (firing : Raise R) (f : Taken → ℕ) (id : ℕ) where
   leaves_stay n report answer s t single (inr (inr (none, is, (u, only, empty, each, off)))) =
       ap all_on off
       ∙ (retires_stay n (ids_on n s.cpus) u empty (λ p own at e. single (subst (λ (j : ℕ). is_omnipresent j s ≡ true) e
-      (not_true (is_omnipresent own s) (none_passes (λ (j : ℕ). not (is_omnipresent j s)) (ids_on n s.cpus) p own none at)))) each
+      (not_true (is_omnipresent own s) (filtered_none (λ (j : ℕ). not (is_omnipresent j s))
+      (ids_on n s.cpus) p own none at)))) each
       ∙ idle_same f id firing (quiet n (ids_on n s.cpus)) s.cpus u.cpus (idle_quiet n (ids_on n s.cpus)) only.0)
 
   -- an id whose record is read

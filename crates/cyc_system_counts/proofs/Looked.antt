@@ -18,7 +18,7 @@ use Rattle.cyc_places.specs.declared.record.Record.{Record}
 use Rattle.cyc_places.specs.Places.{IsRecord, HasRisingIds, new_record, no_counts, with_place, with_ended, is_everywhere}
 use Rattle.cyc_system.specs.Cpus.{CpusView}
 use Rattle.cyc_system.specs.System.{SystemView, ids_on}
-use Rattle.cyc_system.specs.Adding.{Adds}
+use Rattle.cyc_system.specs.Adding.{add_request, Adds}
 use Rattle.cyc_system.specs.Binding.{Records, HasPlace, Binds}
 use Rattle.cyc_system.proofs.Lists.{false_ne}
 use Rattle.cyc_system.proofs.Spots.{same_some}
@@ -123,14 +123,14 @@ module _ {R B : Type 0} (firing : Raise R) (h : Record → B) (none : B)
   binds_look own n (Err e) s t rising (home, has, goes, records, last) = looked_same s t records
 
   adds_look : (level : Level) (when : When) (now : ℕ) (answer : Result ℕ Refusal) (s t : SystemView R)
-      → (TouchesRecord id (Add level when now answer) → ⊥) → Adds firing level when now answer s t → look t ≡ look s
+      → (TouchesRecord id (Add level when now answer) → ⊥) → Adds firing (add_request level when now) answer s t → look t ≡ look s
   adds_look level when now (Ok own) s t other (d, chosen, next, works, records, last) = new_look own level _ s t other records
   adds_look level when now (Err e) s t other (d, chosen, inl (works, records, last)) = looked_same s t records
   adds_look level when now (Err e) s t other (d, chosen, inr (is, (works, records, last))) = looked_same s t records
 
   omni_look : (level : Level) (when : When) (skew now : ℕ) (answer : Result ℕ Refusal) (s t : SystemView R)
       → (TouchesRecord id (AddOmni level when skew now answer) → ⊥)
-      → AddsOmni firing level when skew now answer s t → look t ≡ look s
+      → AddsOmni firing (add_request level when now) skew answer s t → look t ≡ look s
   omni_look level when skew now (Ok own) s t other (next, works, records, last) = new_look own level _ s t other records
   omni_look level when skew now (Err e) s t other (works, records, last) = looked_same s t records
 

@@ -26,7 +26,7 @@ use Rattle.cyc_system_rings.specs.Laws.{cyclic_in}
 use Rattle.cyc_system_rings.specs.Counts.{all_expired}
 use Rattle.cyc_system_rings.specs.SystemSide.{SystemSide}
 use Rattle.cyc_system_rings.specs.Advanced.{Advanced}
-use Rattle.cyc_system_rings.specs.Advancing.{AllFire, FiresIf}
+use Rattle.cyc_system_rings.specs.Advancing.{AllFire, moment_asked, FiresIf}
 use Rattle.cyc_system_rings.specs.SystemWorkersSettling.{OnlyAsked}
 use Rattle.cyc_system_rings.specs.Sound.{IsSound}
 use Rattle.cyc_system_rings.proofs.Flow.{on_cpu}
@@ -47,7 +47,7 @@ due_never interval now low = ap (λ (b : Bool). cond {A = ℕ} b 0
 
 module _ {C R : Type 0} (handler : Calls C) (firing : Raise R) (id : ℕ) where
   same_if : (now : ℕ) (up : Bool) (s t : Running C R) (answer : Option (Result Fired FireRefused))
-      → FiresIf handler firing up now s answer t → SameIds s.cpu t.cpu
+      → FiresIf handler firing (moment_asked up now) s answer t → SameIds s.cpu t.cpu
   same_if now true s t (Some answer) d = same_fired handler firing no_interrupts s t now answer d
   same_if now true s t None d = absurd d
   same_if now false s t (Some answer) d = absurd d

@@ -35,7 +35,7 @@ use Rattle.cyc_system_rings.specs.Calls.{SystemCall, Changes, Add, AddOmni, Bind
 use Rattle.cyc_system_rings.specs.Calls.{ReprogramOn, Juggle, Offline, Online, FireOne, SoftInterrupt}
 use Rattle.cyc_system_rings.specs.SystemSide.{SystemSide}
 use Rattle.cyc_system_rings.specs.Advanced.{Advanced}
-use Rattle.cyc_system_rings.specs.Advancing.{AllFire, FiresIf}
+use Rattle.cyc_system_rings.specs.Advancing.{AllFire, moment_asked, FiresIf}
 use Rattle.cyc_system_rings.specs.SystemWorkersSettling.{OnlyAsked}
 use Rattle.cyc_expected.specs.Course.{component_first, with_component, with_moment, due_of, next_of, Event, Begins, BeginsOnAll}
 use Rattle.cyc_expected.specs.Course.{IsSet, IsSetOn, Ends, Fires, Leaves, Returns, Passes, Course, Single, Told, told_after}
@@ -83,7 +83,7 @@ module _ {C R : Type 0} (handler : Calls C) (firing : Raise R) (id : ℕ) where
 
   -- a CPU in it
   pub if_fired : (now : ℕ) (k : ℕ → ℕ → ℕ → ℕ) (up : Bool) (s t : Running C R) (answer : Option (Result Fired FireRefused))
-      → IsLawful firing.view s.cpu → FiresIf handler firing up now s answer t
+      → IsLawful firing.view s.cpu → FiresIf handler firing (moment_asked up now) s answer t
       → ((e : FireRefused) → answer ≡ Some (Err e) → ⊥) → (up ≡ false → cyclic_in id s.cpu ≡ None)
       → on_cpu (of_stay k) id t.cpu ≡ on_cpu (of_stay (later id now k)) id s.cpu
   if_fired now k true s t (Some (Ok r)) law (early, kept, expired, after, makes) accepted off =

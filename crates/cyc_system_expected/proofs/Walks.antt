@@ -18,10 +18,10 @@ use Rattle.cyc_places.specs.declared.record.Record.{Record}
 use Rattle.cyc_places.specs.Places.{ended_on, no_counts}
 use Rattle.cyc_cpus.specs.Cpus.{CpusView, CallOn, on, DoesAt, Works, online_cpus}
 use Rattle.cyc_cpus.specs.Reserving.{rooms, reserves, ReservesEach}
-use Rattle.cyc_cpus.specs.Shifting.{WhyNotShifted, moving}
+use Rattle.cyc_cpus.specs.Shifting.{move_of, WhyNotShifted, moving}
 use Rattle.cyc_system_rings.proofs.Spots.{none_some}
 use Rattle.cyc_system_rings.specs.System.{SystemView, ids_on, removal_on}
-use Rattle.cyc_system_rings.specs.Adding.{Adds, entering}
+use Rattle.cyc_system_rings.specs.Adding.{add_request, Adds, entering}
 use Rattle.cyc_system_rings.specs.Binding.{Binds}
 use Rattle.cyc_system_rings.specs.Refusals.{no_cyclic, omnipresent, no_cpu, offline_cpu, no_component}
 use Rattle.cyc_juggling.specs.declared.turning.Turn.{Turn}
@@ -98,7 +98,8 @@ module _ {R : Type 0} (firing : Raise R) (K : CpusView R → CpusView R → Type
     ),
   ) works
 
-  unmoved : (own source target : ℕ) (e : Refusal) (v w : CpusView R) → WhyNotShifted firing own source target e v w → K v w
+  unmoved : (own source target : ℕ) (e : Refusal) (v w : CpusView R)
+      → WhyNotShifted firing (move_of own source target) e v w → K v w
   unmoved own source target e v w (inl (removed, is_open, is, e')) = same v w e'
   unmoved own source target e v w (inr (inl (still, n, some, is, works))) =
       idles (on source (AskPending own (Some n)) ∷ []) v w (tt, tt) works
@@ -123,7 +124,7 @@ module _ {R : Type 0} (firing : Raise R) (K : CpusView R → CpusView R → Type
       (idles _ u w (idle_on (reserves more before) _ (idle_reserves more before) (tt, tt)) works)
 
   adds : (level : Level) (when : When) (now : ℕ) (answer : Result ℕ Refusal) (s t : SystemView R)
-      → ((own : ℕ) → answer ≡ Ok own → May own) → Adds firing level when now answer s t → K s.cpus t.cpus
+      → ((own : ℕ) → answer ≡ Ok own → May own) → Adds firing (add_request level when now) answer s t → K s.cpus t.cpus
   adds level when now (Ok own) s t may (d, chosen, next, works, records, last) =
       walk (on d (Reserve 1 (Ok tt)) ∷ entering d own level when.interval (first when.start when.interval now)) s.cpus t.cpus (
         idle (on d (Reserve 1 (Ok tt))) tt,
@@ -149,7 +150,7 @@ module _ {R : Type 0} (firing : Raise R) (K : CpusView R → CpusView R → Type
   )
 
   omnis : (level : Level) (when : When) (skew now : ℕ) (answer : Result ℕ Refusal) (s t : SystemView R)
-      → ((own : ℕ) → answer ≡ Ok own → May own) → AddsOmni firing level when skew now answer s t → K s.cpus t.cpus
+      → ((own : ℕ) → answer ≡ Ok own → May own) → AddsOmni firing (add_request level when now) skew answer s t → K s.cpus t.cpus
   omnis level when skew now (Ok own) s t may (next, (u, first, works), records, last) = then s.cpus u t.cpus
       (reserved 1 s.cpus u first)
       (walk _ u t.cpus (enter_good (online_cpus s.cpus) own level when skew now (may own refl)) works)

@@ -26,10 +26,10 @@ use Rattle.cyc_places.specs.declared.record.Record.{Record}
 use Rattle.cyc_places.specs.Places.{IsRecord, HasNoRecord}
 use Rattle.cyc_cpus.specs.Cpus.{CpusView, CallOn, on, DoesAt, Works, online_cpus}
 use Rattle.cyc_cpus.specs.Reserving.{rooms, reserves, ReservesEach}
-use Rattle.cyc_cpus.specs.Shifting.{WhyNotShifted, moving}
+use Rattle.cyc_cpus.specs.Shifting.{move_of, WhyNotShifted, moving}
 use Rattle.cyc_cpus.proofs.Spots.{get_set_same, get_set_other}
 use Rattle.cyc_system.specs.System.{SystemView, ids_on}
-use Rattle.cyc_system.specs.Adding.{OnlyWorks, Adds, entering}
+use Rattle.cyc_system.specs.Adding.{OnlyWorks, add_request, Adds, entering}
 use Rattle.cyc_system.specs.Binding.{Records, GoesTo, Unbinds, Binds}
 use Rattle.cyc_system.proofs.Spots.{same_some, get_either}
 use Rattle.cyc_system.specs.SystemRemoval.{SystemRemoval}
@@ -229,7 +229,7 @@ module _ {R : Type 0} (firing : Raise R) where
   last_of own place s t (k, r, here, named, records, last) = same_low s.last t.last last
 
   made_goes : (own home target : ℕ) (place : Placement) (s t : SystemView R)
-      → GoesTo firing own home target (Ok tt) s.cpus t.cpus
+      → GoesTo firing (move_of own home target) (Ok tt) s.cpus t.cpus
       → Records own place s t → IsMadeOf firing s t
   made_goes own home target place s t (inl (at, is, same)) records =
       made_calls s t [] (sym same) (last_of own place s t records) (λ id low none. tt) (placed_records own place s t records)
@@ -239,7 +239,7 @@ module _ {R : Type 0} (firing : Raise R) where
       (placed_records own place s t records)
 
   made_unshifted : (own source target : ℕ) (e : Refusal) (s t : SystemView R)
-      → WhyNotShifted firing own source target e s.cpus t.cpus → t.records ≡ s.records → t.last ≡ s.last
+      → WhyNotShifted firing (move_of own source target) e s.cpus t.cpus → t.records ≡ s.records → t.last ≡ s.last
       → IsMadeOf firing s t
   made_unshifted own source target e s t (inl (removed, is_open, is, same)) records last =
       made_only s t [] (λ id. tt) (sym same, records, last)
@@ -249,13 +249,14 @@ module _ {R : Type 0} (firing : Raise R) where
       made_only s t (on source (AskPending own (Some 0)) ∷ on target (Reserve 1 (Err e)) ∷ []) (λ id. (tt, (tt, tt)))
       (works, records, last)
 
-  made_stays : (own home target : ℕ) (e : Refusal) (s t : SystemView R) → GoesTo firing own home target (Err e) s.cpus t.cpus
+  made_stays : (own home target : ℕ) (e : Refusal) (s t : SystemView R)
+      → GoesTo firing (move_of own home target) (Err e) s.cpus t.cpus
       → t.records ≡ s.records → t.last ≡ s.last → IsMadeOf firing s t
   made_stays own home target e s t (inl (at, is, same)) records last = made_only s t [] (λ id. tt) (sym same, records, last)
   made_stays own home target e s t (inr (ne, why)) records last = made_unshifted own home target e s t why records last
 
   made_adds : (s t : SystemView R) (level : Level) (when : When) (now : ℕ) (answer : Result ℕ Refusal)
-      → Adds firing level when now answer s t → IsMadeOf firing s t
+      → Adds firing (add_request level when now) answer s t → IsMadeOf firing s t
   made_adds s t level when now (Ok own) (d, chosen, next, works, records, last) = made_calls s t
       (on d (Reserve 1 (Ok tt)) ∷ entering d own level when.interval (first when.start when.interval now)) works
       (omega (arith, next, last))
@@ -290,7 +291,7 @@ module _ {R : Type 0} (firing : Raise R) where
       (works, records, last))
 
   made_omni : (s t : SystemView R) (level : Level) (when : When) (skew now : ℕ) (answer : Result ℕ Refusal)
-      → AddsOmni firing level when skew now answer s t → IsMadeOf firing s t
+      → AddsOmni firing (add_request level when now) skew answer s t → IsMadeOf firing s t
   made_omni s t level when skew now (Ok own) (next, (v, reserved, works), records, last) = made_then s (with_cpus s v) t
       (made_reserved 1 (Ok tt) s (with_cpus s v) reserved refl refl)
       (made_calls (with_cpus s v) t (entering_each (online_cpus s.cpus) own level when skew now) works (omega (arith, next, last))

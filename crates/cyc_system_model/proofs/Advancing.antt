@@ -28,7 +28,7 @@ use Rattle.cyc_model.proofs.Refusing.{none_first, is_cpu, is_online as online_th
 use Rattle.cyc_cpu_model.proofs.Free.{HasNoAdmit, none_admitted, no_more, fire_none}
 use Rattle.cyc_system_model.specs.Shown.{ShowsSystem, IsSystem}
 use Rattle.cyc_system_model.specs.Words.{ComesTo}
-use Rattle.cyc_system_model.specs.Advancing.{at_clock, online_below, fire_each, HaveFired, HasFired, IsAdvanced}
+use Rattle.cyc_system_model.specs.Advancing.{at_clock, online_below, fire_each, fired_and_lost, HaveFired, HasFired, IsAdvanced}
 use Rattle.cyc_system_model.proofs.Lists.{append_assoc, nil_right}
 use Rattle.cyc_system_model.proofs.Asking.{same_offline}
 use Rattle.cyc_system_model.proofs.Running.{fire_accepted}
@@ -156,7 +156,7 @@ each_free ns m s h = record {
 
 module _ {C : Type 0} (handler : Calls C) where
   pub has_begun : (now : ℕ) (m : State) (s : RunningSystem C Tables) → ShowsSystem m s.system
-      → HasFired handler.count 0 0 0 (at_clock now m) s s
+      → HasFired handler.count 0 (fired_and_lost 0 0) (at_clock now m) s s
   has_begun now m s h = record {
     comes = each_free [] (at_clock now m) s.system
         (record { cpus = h.cpus; placed = h.placed; ended = h.ended; fresh = h.fresh; last = h.last });
@@ -169,9 +169,9 @@ module _ {C : Type 0} (handler : Calls C) where
       no_more_calls n = omega arith
 
   pub has_fired : (n expired lost : ℕ) (fired : Fired) (m : State) (s t u : RunningSystem C Tables) → IsSystem t.system
-      → HasFired handler.count n expired lost m s t → Does handler raise_tables no_interrupts t
+      → HasFired handler.count n (fired_and_lost expired lost) m s t → Does handler raise_tables no_interrupts t
       (FireOne n m.clock (Ok fired)) u
-      → HasFired handler.count (n + 1) (expired + fired.expired) (lost + fired.lost) m s u
+      → HasFired handler.count (n + 1) (fired_and_lost (expired + fired.expired) (lost + fired.lost)) m s u
   has_fired n expired lost fired m s t u sys h did =
       let ns = online_below n m in
       let o = fire_each ns m in
@@ -218,8 +218,8 @@ module _ {C : Type 0} (handler : Calls C) where
 
   -- a CPU that is offline does not fire
   pub has_passed : (n expired lost : ℕ) (m : State) (s t : RunningSystem C Tables) → IsSystem t.system → n < length m.cpus
-      → HasFired handler.count n expired lost m s t → is_online n t.system.cpus ≡ false
-      → HasFired handler.count (n + 1) expired lost m s t
+      → HasFired handler.count n (fired_and_lost expired lost) m s t → is_online n t.system.cpus ≡ false
+      → HasFired handler.count (n + 1) (fired_and_lost expired lost) m s t
   has_passed n expired lost m s t sys low h off =
       let ns = online_below n m in
       let o = fire_each ns m in
@@ -229,7 +229,7 @@ module _ {C : Type 0} (handler : Calls C) where
       let is_off : (cpu_of n m).online ≡ false = sym (ap (λ (c : Cpu). c.online) same)
       ∙ offline_then (cpu_of n o.state).online (is_online n t.system.cpus) off asked in
       let next : online_below (n + 1) m ≡ ns = below_next n m low ∙ ap (λ b. ns ++ kept_if b n []) is_off ∙ nil_right ns in
-      subst (λ ks. HaveFired handler.count ks expired lost m s t) (sym next) h
+      subst (λ ks. HaveFired handler.count ks (fired_and_lost expired lost) m s t) (sym next) h
     where
       offline_then : (a b : Bool) → b ≡ false → when (not a) Offline ≡ when (not b) Offline → a ≡ false
       offline_then a true off same = absurd (let isnt : true ≡ false = off in cc)
@@ -237,12 +237,13 @@ module _ {C : Type 0} (handler : Calls C) where
       offline_then false false off same = refl
 
   pub has_ended : (now n expired lost : ℕ) (m : State) (s t : RunningSystem C Tables) → n ≡ length m.cpus
-      → HasFired handler.count n expired lost (at_clock now m) s t → IsAdvanced handler.count now expired lost m s t
+      → HasFired handler.count n (fired_and_lost expired lost) (at_clock now m) s t
+      → IsAdvanced handler.count now expired lost m s t
   has_ended now n expired lost m s t end h =
       let all : online_below n m ≡ online_cpus m = ap (λ j. numbers_from 0 (λ (c : Cpu). c.online) (take j m.cpus)) end
       ∙ ap (numbers_from 0 (λ (c : Cpu). c.online)) (take-length m.cpus) in
-      let done : HaveFired handler.count (online_cpus m) expired lost (at_clock now m) s t =
-      subst (λ ks. HaveFired handler.count ks expired lost (at_clock now m) s t) all h in
+      let done : HaveFired handler.count (online_cpus m) (fired_and_lost expired lost) (at_clock now m) s t =
+      subst (λ ks. HaveFired handler.count ks (fired_and_lost expired lost) (at_clock now m) s t) all h in
       record {
         comes = λ step. record { shows = done.comes.shows; admissions = done.comes.admissions; free = done.comes.free };
         line = λ step. (λ z. fired_line step (sym done.expired z) (sym done.lost z));

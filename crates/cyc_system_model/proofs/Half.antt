@@ -12,6 +12,7 @@ use Rattle.cyc_types.specs.declared.level.Level.{Level}
 use Rattle.cyc_core.specs.Tables.{Tables}
 use Rattle.cyc_cpu.specs.Soft.{raise_tables}
 use Rattle.cyc_cpu.specs.Calls.{CpuCall}
+use Rattle.cyc_places.proofs.Counts.{get_either}
 use Rattle.cyc_places.specs.declared.record.Placement.{Placement as RecordPlacement}
 use Rattle.cyc_places.specs.declared.record.Record.{Record}
 use Rattle.cyc_places.specs.Places.{IsRecord, HasRisingIds, ended_on, no_counts, with_ended, new_record}
@@ -158,18 +159,6 @@ half_put v k r x h is same new = record {
     given_either i a (inl (e, own)) = let low = h.given k r is in let named : a.id ≡ x.id = ap (λ (y : Record). y.id) own in
         omega (arith, low, named, same)
     given_either i a (inr (ne, there)) = h.given i a there
-
-get_either : {A : Type 0} (xs : List A) (x : A) (i : ℕ) (r : A) → slice_get (xs ++ x ∷ []) i ≡ Some r
-    → (slice_get xs i ≡ Some r) ⊎ ((i ≡ length xs) × (r ≡ x))
-get_either [] x zero r e = inr (refl, sym (same_some e))
-get_either [] x (suc i) r e = absurd (none_some e)
-get_either (y ∷ ys) x zero r e = inl e
-get_either (y ∷ ys) x (suc i) r e = by (get_either ys x i r e)
-  where
-    by : (slice_get ys i ≡ Some r) ⊎ ((i ≡ length ys) × (r ≡ x)) → (slice_get ys i ≡ Some r)
-        ⊎ ((suc i ≡ suc (length ys)) × (r ≡ x))
-    by (inl h) = inl h
-    by (inr (a, b)) = inr (ap suc a, b)
 
 -- one more, with a greater id
 rises_more : (rs : List Record) (new : Record) → HasRisingIds rs → ((k : ℕ) (r : Record) → IsRecord rs k r → r.id < new.id)

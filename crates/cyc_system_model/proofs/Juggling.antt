@@ -3,7 +3,7 @@ use Rattle.std.proofs.Common.{◌≡◌, ℕ, zero, suc, ◌+◌, inl, inr, Bool
 use Rattle.std.proofs.Common.{None, refl, ap, sym, ◌∙◌, subst, arith}
 use Rattle.std.specs.Prelude.{nat_le, Result, Ok, Err}
 use Rattle.std.specs.List.{slice_get}
-use Rattle.std.specs.Option.{option_map_or, option_and_then}
+use Rattle.std.specs.Option.{option_map_or}
 use Rattle.cyc_types.specs.declared.refusal.JuggleReport.{JuggleReport}
 use Rattle.cyc_types.specs.declared.refusal.Refusal.{Refusal}
 use Rattle.cyc_types.specs.declared.refusal.Refusal.TheVariants.{NoCpu, Offline, LastCpu}
@@ -30,7 +30,7 @@ use Rattle.cyc_system_model.specs.Words.{Gives, IsDoneWith, IsRefusedFor}
 use Rattle.cyc_system_model.specs.Room.{HaveAllRoom}
 use Rattle.cyc_system_model.proofs.Asking.{NoMemory, omnipresent_shown, same_no_cpu, same_offline, no_memory_when, no_memory_else}
 use Rattle.cyc_system_model.proofs.Asking.{is_refused, same_error}
-use Rattle.cyc_system_model.proofs.Removals.{no_memory_busy}
+use Rattle.cyc_system_model.proofs.Removals.{removal_at, no_memory_busy}
 use Rattle.cyc_system_model.proofs.Destinations.{same_numbers}
 use Rattle.cyc_system_model.proofs.Half.{Half, half}
 use Rattle.cyc_system_model.proofs.Keeping.{kept_turn}
@@ -106,15 +106,6 @@ all_turns source (id ∷ ids) report v w hv all (t, u, rest, takes, is, more) =
     )
 
 -- ---- what is asked first
-
-removal_at : (os : List Bool) (vs : List (CpuView Tables)) (n : ℕ) → length os ≡ length vs
-    → (get_or (shown_list os vs) n absent).removal ≡ option_and_then (λ (cpu : CpuView Tables). cpu.removal) (slice_get vs n)
-removal_at [] [] zero long = refl
-removal_at [] [] (suc n) long = refl
-removal_at [] (v ∷ vs) n long = absurd (omega (arith, long))
-removal_at (o ∷ os) [] n long = absurd (omega (arith, long))
-removal_at (o ∷ os) (v ∷ vs) zero long = refl
-removal_at (o ∷ os) (v ∷ vs) (suc n) long = removal_at os vs n (omega (arith, long))
 
 ids_shown : (cs : List Timed) → map (λ (x : Cyclic). x.timer.id) (map shown cs) ≡ map (λ (c : Timed). c.timer.id) cs
 ids_shown [] = refl

@@ -35,6 +35,7 @@ use Rattle.cyc_system.specs.System.{SystemView, RunningSystem, ids_on}
 use Rattle.cyc_system.specs.Agreement.{Agrees, most_on}
 use Rattle.cyc_system.proofs.Spots.{same_some, none_some}
 use Rattle.cyc_system.specs.Adding.{OnlyWorks, entering}
+use Rattle.cyc_system.specs.Shifting.{move_of}
 use Rattle.cyc_system.specs.Binding.{GoesTo, Records}
 use Rattle.cyc_system.specs.Removing.{counts_of, BeginsOn, Begun, Answers}
 use Rattle.cyc_system.specs.SystemRemoval.TheVariants as system
@@ -175,7 +176,7 @@ kept_more v u w id level p k same kept_last named cpus records last = record {
 -- ---- moves
 
 kept_goes : (id home target : ℕ) (answer : Result (Unit {0}) Refusal) (v : SystemView Tables) (w : CpusView Tables) → Half v
-    → GoesTo raise_tables id home target answer v.cpus w → Kept v (record v { cpus = w })
+    → GoesTo raise_tables (move_of id home target) answer v.cpus w → Kept v (record v { cpus = w })
 kept_goes id home target answer v w h (inl (e, ok, same)) =
     kept_same v (record v { cpus = w }) h (λ z. record v { cpus = same z })
 kept_goes id home target (Ok done) v w h (inr (ne, (taken, works))) = kept_works (moving id home target taken) v w h works

@@ -43,7 +43,7 @@ use Rattle.cyc_system_model.proofs.Answering.{same_with, nowhere, forgotten_show
 
 -- ---- the reasons for a refusal
 
-removal_at : (os : List Bool) (vs : List (CpuView Tables)) (n : ℕ) → length os ≡ length vs
+pub removal_at : (os : List Bool) (vs : List (CpuView Tables)) (n : ℕ) → length os ≡ length vs
     → (get_or (shown_list os vs) n absent).removal ≡ option_and_then (λ (c : CpuView Tables). c.removal) (slice_get vs n)
 removal_at [] [] zero long = refl
 removal_at [] [] (suc n) long = refl

@@ -21,17 +21,25 @@ online_below n m = numbers_from 0 (λ c. c.online) (take n m.cpus)
 abbrev pub fire_each : List ℕ → State → Outcome
 fire_each ns m = each (λ n. on n (fire_here n m.clock)) ns m
 
+-- how many expirations fires made, and how many of them were lost
+pub record Expirations : Type 0 where
+  pub expired : ℕ
+  pub lost : ℕ
+
+abbrev pub fired_and_lost : ℕ → ℕ → Expirations
+fired_and_lost expired lost = record { expired = expired; lost = lost }
+
 -- from s, which the machine with its clock set shows, these CPUs have fired: they made and lost so many expirations together
-pub record HaveFired {C : Type 0} (count : C → ℕ → ℕ) (ns : List ℕ) (all all_lost : ℕ) (m : State)
+pub record HaveFired {C : Type 0} (count : C → ℕ → ℕ) (ns : List ℕ) (all : Expirations) (m : State)
     (s t : RunningSystem C Tables) : Type 0 where
   pub comes : ComesTo [] m (fire_each ns m) t.system
-  pub expired : all ≡ due_on m.clock ns m
-  pub lost : all_lost ≡ losses_in (fire_each ns m).acts
+  pub expired : all.expired ≡ due_on m.clock ns m
+  pub lost : all.lost ≡ losses_in (fire_each ns m).acts
   pub called : (id : ℕ) → count t.calls id ≡ count s.calls id + calls_of id (fire_each ns m).acts
 
 -- the online CPUs below this number have fired, and no other
-abbrev pub HasFired : {C : Type 0} → (C → ℕ → ℕ) → (n expired lost : ℕ) → State → (s t : RunningSystem C Tables) → Type 0
-HasFired count n expired lost m s t = HaveFired count (online_below n m) expired lost m s t
+abbrev pub HasFired : {C : Type 0} → (C → ℕ → ℕ) → ℕ → Expirations → State → (s t : RunningSystem C Tables) → Type 0
+HasFired count n all m s t = HaveFired count (online_below n m) all m s t
 
 -- the system did what the word advance does at this moment, and the line of the word tells these two numbers
 pub record IsAdvanced {C : Type 0} (count : C → ℕ → ℕ) (now expired lost : ℕ) (m : State)

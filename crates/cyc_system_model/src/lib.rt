@@ -45,7 +45,7 @@ ghost use Rattle.cyc_system_model.specs.Room.{HaveAllRoom};
 ghost use Rattle.cyc_system_model.specs.Shown.{ShowsSystem, IsSystem};
 ghost use Rattle.cyc_system_model.specs.Kept.{AreNew, new_system};
 ghost use Rattle.cyc_system_model.specs.Running.{IsFired, IsServed};
-ghost use Rattle.cyc_system_model.specs.Advancing.{at_clock, HasFired, IsAdvanced};
+ghost use Rattle.cyc_system_model.specs.Advancing.{at_clock, fired_and_lost, HasFired, IsAdvanced};
 ghost use Rattle.cyc_system_model.specs.Words.{IsSeries, IsMoment, IsDone, IsDoneWith, IsRefusedFor, IsAtOnce, reprograms};
 
 pub use cyc_cpu::Hard;
@@ -220,16 +220,16 @@ pub fn fire_law<C: Calls>()
 /// It does nothing when it runs: its clauses are the law.
 pub fn advance_law<C: Calls>()
     ensures begins { (now : ℕ) (m : State) (s : RunningSystem C Tables) → ShowsSystem m s.system
-        → HasFired C.count 0 0 0 (at_clock now m) s s }
+        → HasFired C.count 0 (fired_and_lost 0 0) (at_clock now m) s s }
     ensures fires { (n expired lost : ℕ) (fired : Fired) (m : State) (s t u : RunningSystem C Tables) → IsSystem t.system
-        → HasFired C.count n expired lost m s t
+        → HasFired C.count n (fired_and_lost expired lost) m s t
         → Does C.Calls raise_tables no_interrupts t (FireOne n m.clock (Ok fired)) u
-        → HasFired C.count (n + 1) (expired + fired.expired) (lost + fired.lost) m s u }
+        → HasFired C.count (n + 1) (fired_and_lost (expired + fired.expired) (lost + fired.lost)) m s u }
     ensures passes { (n expired lost : ℕ) (m : State) (s t : RunningSystem C Tables) → IsSystem t.system → n < length m.cpus
-        → HasFired C.count n expired lost m s t → is_online n t.system.cpus ≡ false
-        → HasFired C.count (n + 1) expired lost m s t }
+        → HasFired C.count n (fired_and_lost expired lost) m s t → is_online n t.system.cpus ≡ false
+        → HasFired C.count (n + 1) (fired_and_lost expired lost) m s t }
     ensures ends { (now n expired lost : ℕ) (m : State) (s t : RunningSystem C Tables) → n ≡ length m.cpus
-        → HasFired C.count n expired lost (at_clock now m) s t → IsAdvanced C.count now expired lost m s t }
+        → HasFired C.count n (fired_and_lost expired lost) (at_clock now m) s t → IsAdvanced C.count now expired lost m s t }
 {}
 
 /// A `softint` of a system that no handler stops is what the word `softint` does before it polls removals; or both are refused.

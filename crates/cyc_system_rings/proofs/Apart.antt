@@ -37,7 +37,7 @@ use Rattle.cyc_system_counts.specs.Sound.{IsSound}
 use Rattle.cyc_system_counts.proofs.Flow.{weigh}
 use Rattle.cyc_system_workers.specs.declared.side.SystemSide.{SystemSide}
 use Rattle.cyc_system_workers.specs.declared.advancing.Advanced.{Advanced}
-use Rattle.cyc_system_workers.specs.Advancing.{AllFire, FiresIf}
+use Rattle.cyc_system_workers.specs.Advancing.{AllFire, moment_asked, FiresIf}
 use Rattle.cyc_system_workers.specs.Settling.{OnlyAsked}
 use Rattle.cyc_system_rings.specs.Leading.{LeadCall, Make, FireAll, AskAll, Leads, LeadSteps}
 use Rattle.cyc_system_rings.specs.Rings.{first_of, counted_by}
@@ -202,7 +202,7 @@ module _ {C R : Type 0} (handler : Calls C)
     -- a CPU in an advance
     none_fired : (up : Bool) (now : ℕ) (s t : Running C R) (answer : Option (Result Fired FireRefused))
         → IsLawful firing.view s.cpu
-        → FiresIf handler firing up now s answer t → here level id s.cpu ≡ 0 → NoneFired s t
+        → FiresIf handler firing (moment_asked up now) s answer t → here level id s.cpu ≡ 0 → NoneFired s t
     none_fired true now s t (Some answer) law d none =
         let p = proceeds_one handler firing s t (Fire now answer) law d in
         let z = none_shared level id s.cpu.cyclics (made_by (Fire now answer) s.cpu.cyclics) none in

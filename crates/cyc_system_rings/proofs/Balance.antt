@@ -46,7 +46,7 @@ use Rattle.cyc_system_counts.proofs.Counts.{counts_same}
 use Rattle.cyc_system_workers.specs.Lead.{Lead}
 use Rattle.cyc_system_workers.specs.declared.side.SystemSide.{SystemSide}
 use Rattle.cyc_system_workers.specs.declared.advancing.Advanced.{Advanced}
-use Rattle.cyc_system_workers.specs.Advancing.{AllFire, FiresIf}
+use Rattle.cyc_system_workers.specs.Advancing.{AllFire, moment_asked, FiresIf}
 use Rattle.cyc_system_workers.specs.Settling.{OnlyAsked}
 use Rattle.cyc_system_rings.specs.Leading.{LeadCall, Make, FireAll, AskAll, Leads, LeadSteps}
 use Rattle.cyc_system_rings.specs.Rings.{counted_by, receipt_of, receipt_in, first_of}
@@ -121,7 +121,7 @@ module _ {C R : Type 0} (handler : Calls C)
 
   -- a CPU in an advance
   if_fired : (up : Bool) (now : ℕ) (s t : Running C R) (answer : Option (Result Fired FireRefused)) → IsLawful firing.view s.cpu
-      → FiresIf handler firing up now s answer t
+      → FiresIf handler firing (moment_asked up now) s answer t
       → (expired_of id t.cpu.cyclics + raised_at firing raised dropped adds id s.cpu + handler.count s.calls id
       ≡ expired_of id s.cpu.cyclics + raised_at firing raised dropped adds id t.cpu + handler.count t.calls id)
       × (lost_of id t.cpu.cyclics + dropped_at firing raised dropped adds id s.cpu + 0
@@ -259,7 +259,7 @@ module _ {C R : Type 0} (handler : Calls C)
 
   -- a CPU without the id, in an advance
   none_fired : (up : Bool) (now : ℕ) (s t : Running C R) (answer : Option (Result Fired FireRefused)) → IsLawful firing.view s.cpu
-      → FiresIf handler firing up now s answer t → HasNoCyclic id s.cpu.cyclics → NoneFired s t
+      → FiresIf handler firing (moment_asked up now) s answer t → HasNoCyclic id s.cpu.cyclics → NoneFired s t
   none_fired true now s t (Some answer) law d none =
       let p = proceeds_one handler firing s t (Fire now answer) law d in
       let gone = no_cyclic id s.cpu.cyclics none in let made = made_by (Fire now answer) s.cpu.cyclics in

@@ -1,6 +1,6 @@
 -- Two lists beside each other.
 use Rattle.std.proofs.Common.{◌≡◌, ℕ, zero, suc, ◌+◌, ◌≤◌, List, [], ◌∷◌, ◌++◌, length, Some, refl, sym, ap, ◌∙◌, subst}
-use Rattle.std.proofs.Common.{◌<◌, arith, append_assoc, append-nil, map, take, get_or}
+use Rattle.std.proofs.Common.{◌<◌, arith, map, take, get_or}
 use Rattle.std.specs.List.{slice_get}
 use Rattle.std.proofs.lemmas.List.{length-append, map-append, take_more}
 use Rattle.std.proofs.lemmas.Option.{slice_get_within, same_Some}
@@ -41,26 +41,6 @@ module _ {A B : Type 0} (P : A → B → Type 0) where
   pub begun_few : (xs rest all : List A) (ys : List B) → xs ++ rest ≡ all → Beside P xs ys → length ys ≤ length all
   begun_few xs rest all ys e b =
       let long = length-append xs rest in let n = ap (λ (l : List A). length l) e in let m = b.long in omega (arith, long, n, m)
-
--- an iterator gave one element
-pub given_all : {A : Type 0} (ys : List A) (x : A) (rest rest' all : List A) → rest ≡ x ∷ rest' → ys ++ rest ≡ all
-    → (ys ++ x ∷ []) ++ rest' ≡ all
-given_all ys x rest rest' all e f = append_assoc ys (x ∷ []) rest' ∙ ap (λ (zs : List _). ys ++ zs) (sym e) ∙ f
-
-pub given_many : {A : Type 0} (n m : ℕ) (x : A) (rest rest' : List A) → rest ≡ x ∷ rest' → n + 1 ≡ m → m ≡ length rest
-    → n ≡ length rest'
-given_many n m x rest rest' e f g = let h = ap (λ (zs : List _). length zs) e in omega (arith, f, g, h)
-
--- an iterator gave none
-pub given_none : {A : Type 0} (ys rest all : List A) (n : ℕ) → n ≡ 0 → n ≡ length rest → ys ++ rest ≡ all → ys ≡ all
-given_none ys [] all n e f g = sym (append-nil ys) ∙ g
-given_none ys (x ∷ rest) all n e f g = absurd (omega (arith, e, f))
-
--- one more of what the elements have
-pub same_more : {A Y : Type 0} (q : A → Y) (ws ws' : List Y) (xs : List A) (w : Y) (x : A) → ws' ≡ ws ++ w ∷ [] → ws ≡ map q xs
-    → w ≡ q x → ws' ≡ map q (xs ++ x ∷ [])
-same_more q ws ws' xs w x e f k = e ∙ ap (λ (zs : List _). zs ++ w ∷ []) f ∙ ap (λ z. map q xs ++ z ∷ []) k
-    ∙ sym (map-append q xs (x ∷ []))
 
 -- what the elements have, with one more of them
 pub map_pushed : {A Y : Type 0} (q : A → Y) (xs xs' : List A) (x : A) (ys : List Y) → xs' ≡ xs ++ x ∷ [] → map q xs ≡ ys

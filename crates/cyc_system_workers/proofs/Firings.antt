@@ -23,7 +23,7 @@ use Rattle.cyc_agreement.proofs.Spots.{get_some}
 use Rattle.cyc_workers.specs.declared.settling.Lead.{Lead}
 use Rattle.cyc_system_workers.specs.declared.side.SystemSide.{SystemSide}
 use Rattle.cyc_system_workers.specs.declared.advancing.Advanced.{Advanced}
-use Rattle.cyc_system_workers.specs.Advancing.{FiresIf, AllFire}
+use Rattle.cyc_system_workers.specs.Advancing.{moment_asked, FiresIf, AllFire}
 use Rattle.cyc_system_workers.specs.Fires.{FireOn, FiresOne, IsFires, firings_of}
 
 get_mid : {A : Type 0} (pre xs : List A) (x : A) → slice_get (pre ++ x ∷ xs) (length pre) ≡ Some x
@@ -50,7 +50,7 @@ module _ {C R : Type 0} (handler : Calls C)
     pub answer : Option (Result Fired FireRefused)
     pub before_is : slice_get leads n ≡ Some before
     pub after_is : slice_get leads' n ≡ Some after
-    pub fires : FiresIf handler firing up now (running before.calls x) answer (running after.calls y)
+    pub fires : FiresIf handler firing (moment_asked up now) (running before.calls x) answer (running after.calls y)
 
   fires_one : (pre xs : List (CpuView R)) (x y : CpuView R) (l m : Lead C) (answer : Result Fired FireRefused)
       → slice_get online (length pre) ≡ Some true →
@@ -98,7 +98,7 @@ module _ {C R : Type 0} (handler : Calls C)
           (subst (λ cpus. FoldsTo D (sys ((pre ++ y ∷ []) ++ xs)) rest.0 (sys cpus)) (append_assoc pre (y ∷ []) ys) rest.1)
 
       by : (b : Bool) (o : Option (Result Fired FireRefused)) → slice_get online (length pre) ≡ Some b →
-          FiresIf handler firing b now (running at.before.calls x) o (running at.after.calls y)
+          FiresIf handler firing (moment_asked b now) (running at.before.calls x) o (running at.after.calls y)
           → From (length pre) (b ∷ ups) (pre ++ x ∷ xs) (pre ++ y ∷ ys)
       by true (Some answer) on f = (
         record { cpu = length pre; answer = answer } ∷ rest.0,

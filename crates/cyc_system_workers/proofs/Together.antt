@@ -18,7 +18,7 @@ use Rattle.cyc_system_workers.specs.declared.side.SystemSide.{SystemSide}
 use Rattle.cyc_system_workers.specs.declared.lanes.Lane.{Lane}
 use Rattle.cyc_system_workers.specs.declared.lanes.LaneAfter.{LaneAfter}
 use Rattle.cyc_system_workers.specs.declared.advancing.Advanced.{Advanced}
-use Rattle.cyc_system_workers.specs.Advancing.{FiresIf, LaneFires, AllFire}
+use Rattle.cyc_system_workers.specs.Advancing.{moment_asked, FiresIf, LaneFires, AllFire}
 use Rattle.cyc_system_workers.specs.Starting.{Beside}
 
 get_map : {A B : Type 0} (f : A → B) (xs : List A) (n : ℕ) (x : A) → slice_get xs n ≡ Some x → slice_get (map f xs) n ≡ Some (f x)
@@ -44,7 +44,7 @@ module _ {C R : Type 0} (handler : Calls C) (firing : Raise R) (now : ℕ) where
       ((s t : Running C R) (now : ℕ) (answer : Result Fired FireRefused) → IsLawful firing.view s.cpu → IsLawful firing.view t.cpu
       →
       Does handler firing no_interrupts s (Fire now answer) t → ComesBack firing.view s.cpu t.cpu) →
-      IsLawful firing.view s.cpu → IsLawful firing.view t.cpu → FiresIf handler firing up now s answer t
+      IsLawful firing.view s.cpu → IsLawful firing.view t.cpu → FiresIf handler firing (moment_asked up now) s answer t
       → ComesBack firing.view s.cpu t.cpu
   back_if true s t (Some answer) same fired law law' f = fired s t now answer law law' f
   back_if true s t None same fired law law' f = absurd f
@@ -77,7 +77,7 @@ module _ {C R : Type 0} (handler : Calls C) (firing : Raise R) (now : ℕ) where
       slice_get (map (λ (l : Lane R C). l.lead) lanes) n ≡ Some l
       → slice_get (map (λ (l : LaneAfter R C). l.lead) after) n ≡ Some m →
       slice_get (map (λ (l : LaneAfter R C). l.answer) after) n ≡ Some answer →
-      FiresIf handler firing up now (running l.calls x) answer (running m.calls y)
+      FiresIf handler firing (moment_asked up now) (running l.calls x) answer (running m.calls y)
   one_fires lanes after each n up x y l m answer at_up at_x at_y at_l at_m at_answer =
       let p = get_from (λ (l : Lane R C). l.hard) lanes n x at_x in let q =
       get_from (λ (l : LaneAfter R C). l.hard) after n y at_y in
@@ -88,15 +88,15 @@ module _ {C R : Type 0} (handler : Calls C) (firing : Raise R) (now : ℕ) where
       let m_is : q.0.lead ≡ m = same_Some q.0.lead m (sym (get_map (λ (l : LaneAfter R C). l.lead) after n q.0 q.1) ∙ at_m) in
       let answer_is : q.0.answer ≡ answer = same_Some q.0.answer answer
       (sym (get_map (λ (l : LaneAfter R C). l.answer) after n q.0 q.1) ∙ at_answer) in
-      subst (λ u. FiresIf handler firing u now (running l.calls x) answer (running m.calls y)) up_is
-      (subst (λ o. FiresIf handler firing p.0.online now (running l.calls x) o (running m.calls y)) answer_is
-      (subst (λ (z : Lead C). FiresIf handler firing p.0.online now (running z.calls x) q.0.answer
+      subst (λ u. FiresIf handler firing (moment_asked u now) (running l.calls x) answer (running m.calls y)) up_is
+      (subst (λ o. FiresIf handler firing (moment_asked p.0.online now) (running l.calls x) o (running m.calls y)) answer_is
+      (subst (λ (z : Lead C). FiresIf handler firing (moment_asked p.0.online now) (running z.calls x) q.0.answer
       (running m.calls y)) l_is
-      (subst (λ (z : Lead C). FiresIf handler firing p.0.online now (running p.0.lead.calls x) q.0.answer
+      (subst (λ (z : Lead C). FiresIf handler firing (moment_asked p.0.online now) (running p.0.lead.calls x) q.0.answer
       (running z.calls y)) m_is
-      (subst (λ z. FiresIf handler firing p.0.online now (running p.0.lead.calls z) q.0.answer
+      (subst (λ z. FiresIf handler firing (moment_asked p.0.online now) (running p.0.lead.calls z) q.0.answer
       (running q.0.lead.calls y)) (sym p.2)
-      (subst (λ z. FiresIf handler firing p.0.online now (running p.0.lead.calls p.0.hard) q.0.answer
+      (subst (λ z. FiresIf handler firing (moment_asked p.0.online now) (running p.0.lead.calls p.0.hard) q.0.answer
       (running q.0.lead.calls z)) (sym q.2) f.fires)))))
 
   -- all of them together

@@ -14,20 +14,25 @@ use Rattle.cyc_system_workers.specs.declared.lanes.Lane.{Lane}
 use Rattle.cyc_system_workers.specs.declared.lanes.LaneAfter.{LaneAfter}
 use Rattle.cyc_system_workers.specs.declared.advancing.Advanced.{Advanced}
 
--- what becomes of a CPU and its handlers: where it is online it fires, with this answer, and else it is as it was
+-- the moment at which a CPU is asked to fire, where it is online
+abbrev pub moment_asked : Bool → ℕ → Option ℕ
+moment_asked true now = Some now
+moment_asked false now = None
+
+-- what becomes of a CPU and its handlers: where it is asked to fire it does, with this answer, and else it is as it was
 abbrev pub FiresIf : {C R : Type 0} → Calls C → Raise R
-    → Bool → ℕ → Running C R → Option (Result Fired FireRefused) → Running C R → Type 0
-FiresIf handler firing true now s (Some answer) t =
-    Does handler firing no_interrupts s (Fire now answer) t
-FiresIf handler firing true now s None t = ⊥
-FiresIf handler firing false now s (Some answer) t = ⊥
-FiresIf handler firing false now s None t = t ≡ s
+    → Option ℕ → Running C R → Option (Result Fired FireRefused) → Running C R → Type 0
+FiresIf handler firing (Some now) s (Some answer) t = Does handler firing no_interrupts s (Fire now answer) t
+FiresIf handler firing (Some now) s None t = ⊥
+FiresIf handler firing None s (Some answer) t = ⊥
+FiresIf handler firing None s None t = t ≡ s
 
 -- a CPU that goes into a thread, and comes out of it
 pub record LaneFires {C R : Type 0} (handler : Calls C)
     (firing : Raise R) (now : ℕ) (a : Lane R C) (b : LaneAfter R C) : Type 0 where
   pub before : IsLawful firing.view a.hard
-  pub fires : FiresIf handler firing a.online now (running a.lead.calls a.hard) b.answer (running b.lead.calls b.hard)
+  pub fires : FiresIf handler firing (moment_asked a.online now) (running a.lead.calls a.hard) b.answer
+      (running b.lead.calls b.hard)
   pub after : IsLawful firing.view b.hard
 
 -- Each online CPU has fired, with its own handlers, and each other CPU is as it was. So is all else of the system.
@@ -43,4 +48,4 @@ pub record AllFire {C R : Type 0} (handler : Calls C)
       → slice_get a.system.cpus.online n ≡ Some up
       → slice_get a.system.cpus.cpus n ≡ Some x → slice_get b.side.system.cpus.cpus n ≡ Some y
       → slice_get a.leads.items n ≡ Some l → slice_get b.side.leads.items n ≡ Some m → slice_get b.answers.items n ≡ Some answer
-      → FiresIf handler firing up now (running l.calls x) answer (running m.calls y)
+      → FiresIf handler firing (moment_asked up now) (running l.calls x) answer (running m.calls y)

@@ -23,7 +23,7 @@ use Rattle.cyc_threads.specs.Parts.{CpusCall, OnCpu, SetOnline, DoesPart}
 use Rattle.cyc_threads.proofs.Pieces.{made_of}
 use Rattle.cyc_threads.specs.SystemSide.{SystemSide}
 use Rattle.cyc_threads.specs.Advanced.{Advanced}
-use Rattle.cyc_threads.specs.Advancing.{AllFire, FiresIf}
+use Rattle.cyc_threads.specs.Advancing.{AllFire, moment_asked, FiresIf}
 use Rattle.cyc_system_expected.specs.Leading.{LeadCall, Make, FireAll, AskAll, LeadSteps}
 use Rattle.cyc_system_expected.proofs.Raising.{changes_long}
 
@@ -82,7 +82,7 @@ module _ {R : Type 0} (firing : Raise R) (P : R → Type 0)
     )
 
     fires_if : (up : Bool) (now : ℕ) (s t : Running C R) (answer : Option (Result Fired FireRefused))
-        → FiresIf handler firing up now s answer t → OfBoth s.cpu → OfBoth t.cpu
+        → FiresIf handler firing (moment_asked up now) s answer t → OfBoth s.cpu → OfBoth t.cpu
     fires_if true now s t (Some answer) d own = fired_both s t now answer d own
     fires_if true now s t None d own = absurd d
     fires_if false now s t (Some answer) d own = absurd d

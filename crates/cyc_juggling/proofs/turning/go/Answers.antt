@@ -1,6 +1,6 @@
 use Rattle.std.proofs.Common.{Ok, Err, refl, sym, ◌∙◌, subst}
 use Rattle.std.proofs.lemmas.Option.{slice_get_within}
-use Rattle.cyc_agreement.specs.Shifting.{Shifts}
+use Rattle.cyc_agreement.specs.Shifting.{move_of, Shifts}
 use Rattle.cyc_agreement.specs.Agreement.{Agrees}
 use Rattle.cyc_juggling.specs.Juggling.{system_of}
 use Rattle.cyc_juggling.proofs.Going
@@ -45,7 +45,7 @@ set_place-requires g c = let (r, is, named, place) = c.requires.record in
 pub returns-in-Ok-clause-agrees : goal.returns-in-Ok-clause-agrees
 returns-in-Ok-clause-agrees g c last a = let (r, is, named, place) = c.requires.record in
     let s = system_of c.args.cpus.now c.args.records.now last in
-    let shifts = subst (λ i. Shifts g.R.Raise i c.args.source c.in-Some.target
+    let shifts = subst (λ i. Shifts g.R.Raise (move_of i c.args.source c.in-Some.target)
     (Ok tt) c.args.cpus.now c.shift.new.self) (sym named) c.in-Ok.ensures in
     subst (λ rs. Agrees (record { cpus = c.shift.new.self; records = rs; last = last })) (sym (c.set_place.ensures r is))
     (Going.agrees_moved s a c.law-2.ensures.rising c.args.source c.in-Some.target c.args.place r is place (sym c.in-Some.ensures)
@@ -54,7 +54,7 @@ returns-in-Ok-clause-agrees g c last a = let (r, is, named, place) = c.requires.
 pub returns-in-Pending-clause-agrees : goal.returns-in-Pending-clause-agrees
 returns-in-Pending-clause-agrees g c last a = let (r, is, named, place) = c.requires.record in
     let s = system_of c.args.cpus.now c.args.records.now last in
-    let shifts = subst (λ i. Shifts g.R.Raise i c.args.source c.in-Some.target
+    let shifts = subst (λ i. Shifts g.R.Raise (move_of i c.args.source c.in-Some.target)
     (Err c.in-Err.why) c.args.cpus.now c.shift.new.self) (sym named) c.in-Err.ensures in
     Going.agrees_stayed s a c.law-2.ensures.rising c.args.source c.in-Some.target c.args.place r is place (sym c.in-Some.ensures)
     g.R.Raise c.law.ensures c.shift.new.self c.in-Err.why shifts
@@ -76,7 +76,7 @@ returns-in_default-why g c = let (r, is, named, place) = c.requires.record in
       );
       agrees = λ last a.
           (let s = system_of c.args.cpus.now c.args.records.now last in
-          let shifts = subst (λ i. Shifts g.R.Raise i c.args.source c.in-Some.target
+          let shifts = subst (λ i. Shifts g.R.Raise (move_of i c.args.source c.in-Some.target)
           (Err c.in-Err.why) c.args.cpus.now c.shift.new.self) (sym named) c.in-Err.ensures in
           Going.agrees_stayed s a c.law-2.ensures.rising c.args.source c.in-Some.target c.args.place r is place
           (sym c.in-Some.ensures)

@@ -3,7 +3,7 @@ use Rattle.std.specs.Prelude.{Ok}
 use Rattle.cyc_types.specs.Tally.{tally_count}
 use Rattle.cyc_script_machine.specs.System.{running_system}
 use Rattle.cyc_script_machine.specs.Calls.{FireOne}
-use Rattle.cyc_script_machine.specs.Advancing.{at_clock, HasFired}
+use Rattle.cyc_script_machine.specs.Advancing.{at_clock, fired_and_lost, HasFired}
 use Rattle.cyc_script_machine.proofs.Remembering.{remembers_on}
 use Rattle.cyc_serving.proofs.Fired.{most_fired, wide_fired, passed, never_fire, low_here, passed_on}
 use Rattle.cyc_serving.proofs.advancing.fire_cpu.Goals as goal
@@ -25,9 +25,9 @@ returns-in-Ok-clause-next c step expired lost s first a =
       reached = a.reached;
       few = a.few;
       before = a.before;
-      fired = subst (λ k. HasFired tally_count (c.args.cpu + 1) (expired + k) (lost + c.from-in-Ok.result)
+      fired = subst (λ k. HasFired tally_count (c.args.cpu + 1) (fired_and_lost (expired + k) (lost + c.from-in-Ok.result))
           (at_clock m.clock s) first after) (sym c.from.ensures)
-          (subst (λ k. HasFired tally_count (c.args.cpu + 1) (expired + fired.expired) (lost + k)
+          (subst (λ k. HasFired tally_count (c.args.cpu + 1) (fired_and_lost (expired + fired.expired) (lost + k))
           (at_clock m.clock s) first after) (sym c.from-in-Ok.ensures) next);
       called = a.called;
       system = c.kept_law.ensures.system (FireOne c.args.cpu m.clock (Ok fired)) before after c.in-Ok.ensures a.system

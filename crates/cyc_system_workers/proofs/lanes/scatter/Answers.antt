@@ -1,6 +1,6 @@
 use Rattle.std.proofs.Common.{◌≡◌, map, refl, subst, arith}
 use Rattle.cyc_system_workers.specs.declared.lanes.LaneAfter.{LaneAfter}
-use Rattle.cyc_system_workers.proofs.Beside.{given_all, given_many, given_none, same_more}
+use Rattle.cyc_cpus.proofs.Given.{given_all, given_many, given_none, made_more}
 use Rattle.cyc_system_workers.proofs.lanes.scatter.Goals as goal
 
 pub loop-lane-preserved : goal.loop-lane-preserved
@@ -16,9 +16,9 @@ loop-lane-preserved g c =
           omega (arith, room, given, long, same);
       room_answers = let room = inv.room_answers in let long = answers.len in let same = answers.capacity in
           omega (arith, room, given, long, same);
-      hards = same_more (λ (x : LaneAfter _ _). x.hard) _ _ c.loop-lane.yielded lane.hard lane hards.items inv.hards refl;
-      leads = same_more (λ (x : LaneAfter _ _). x.lead) _ _ c.loop-lane.yielded lane.lead lane leads.items inv.leads refl;
-      answers = same_more (λ (x : LaneAfter _ _). x.answer) _ _ c.loop-lane.yielded lane.answer lane answers.items inv.answers
+      hards = made_more (λ (x : LaneAfter _ _). x.hard) _ _ c.loop-lane.yielded lane.hard lane hards.items inv.hards refl;
+      leads = made_more (λ (x : LaneAfter _ _). x.lead) _ _ c.loop-lane.yielded lane.lead lane leads.items inv.leads refl;
+      answers = made_more (λ (x : LaneAfter _ _). x.answer) _ _ c.loop-lane.yielded lane.answer lane answers.items inv.answers
           refl;
     }
 

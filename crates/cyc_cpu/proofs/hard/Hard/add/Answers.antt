@@ -1,5 +1,5 @@
 use Rattle.std.proofs.Common.{arith, subst}
-use Rattle.cyc_cpu.specs.Cpu.{Enters}
+use Rattle.cyc_cpu.specs.Cpu.{Places, new_cyclic}
 use Rattle.cyc_cpu.proofs.hard.Hard.add.Goals as goal
 
 pub returns : goal.returns
@@ -12,7 +12,7 @@ returns g c = (
     reserves = c.in_ok-reserve.ensures.0;
     allowed = c.in_ok-reserve.ensures.1;
     widens = c.widen.ensures.1;
-    enters = subst (λ m. Enters g.R.Raise c.args.id c.args.level c.args.when.interval m c.widen.new.self
+    enters = subst (λ m. Places g.R.Raise (new_cyclic c.args.id c.args.level c.args.when.interval m) c.widen.new.self
         c.enter.new.self) c.first.ensures.value c.enter.ensures;
   },
 )

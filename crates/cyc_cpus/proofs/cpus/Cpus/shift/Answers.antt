@@ -2,7 +2,7 @@ use Rattle.std.proofs.Common.{◌≤◌, inl, inr, Err, refl, sym, ap, ◌∙◌
 use Rattle.std.proofs.lemmas.Result.{err_from_is_err_and}
 use Rattle.cyc_cpu.specs.Cpu.{CpuView, HasNoCyclic, MayWiden}
 use Rattle.cyc_cpus.specs.Cpus.{with_cpu}
-use Rattle.cyc_cpus.specs.Shifting.{MayLeave, Shifts}
+use Rattle.cyc_cpus.specs.Shifting.{MayLeave, move_of, Shifts}
 use Rattle.cyc_cpus.proofs.Spots.{changed, one_cpu, of_cpu, cpu_there, cpu_beside, cpu_stays, cpu_after}
 use Rattle.cyc_cpus.proofs.Shifts.{found_some, found_none, may_leave}
 use Rattle.cyc_cpus.proofs.cpus.Cpus.shift.Goals as goal
@@ -33,7 +33,7 @@ returns-in_err-reserve g c =
     let did = found_none g.R.Raise c.args.id x a c.pending.result
     (sym c.ne.ensures ∙ c.if-ne.false) c.pending.ensures in
     let p = err_from_is_err_and c.from_residual.result c.from_residual.ensures.1 in
-    subst (λ r. Shifts g.R.Raise c.args.id c.args.source c.args.target r v
+    subst (λ r. Shifts g.R.Raise (move_of c.args.id c.args.source c.args.target) r v
     (with_cpu (with_cpu v c.args.source a) c.args.target b)) (sym (p.1 ∙ ap Err p.2))
     (inr (inr (
       (c.cpu.result.now, c.cpu.ensures, sym c.removal.ensures ∙ c.in_default.is),

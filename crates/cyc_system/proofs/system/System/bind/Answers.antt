@@ -3,6 +3,7 @@ use Rattle.std.proofs.lemmas.Result.{err_from_is_err_and}
 use Rattle.std.proofs.lemmas.Option.{slice_get_within}
 use Rattle.cyc_agreement.specs.System.{SystemView}
 use Rattle.cyc_agreement.specs.Refusals.{IsPresent, omnipresent, no_cpu, offline_cpu}
+use Rattle.cyc_agreement.specs.Shifting.{move_of}
 use Rattle.cyc_agreement.specs.Binding.{GoesTo}
 use Rattle.cyc_agreement.specs.Holding.{Holds}
 use Rattle.cyc_places.specs.Places.{with_place}
@@ -103,7 +104,7 @@ invariant_of-self-2 g c =
     let st = standing s c.args.id c.in-Some.place c.in-On.home c.in-On.bound r c.at.result.now c.self.invariant.0.agrees
     c.law-2.ensures.rising q c.at.ensures c.in-On.is in
     let (cpu, at) = get_some c.self.inside.cpus.cpus c.in-On.home (has_low c.self.inside.cpus c.in-On.home c.args.id st.here) in
-    let goes = subst (λ i. GoesTo g.R.Raise i c.in-On.home c.in-Some-cpu.target
+    let goes = subst (λ i. GoesTo g.R.Raise (move_of i c.in-On.home c.in-Some-cpu.target)
     (Ok tt) c.self.inside.cpus c.go.new.cpus) (sym st.named) c.in_ok-go.ensures in
     let (but, there, only) = went g.R.Raise c.at.result.now.id c.in-On.home c.in-Some-cpu.target
     c.self.inside.cpus c.go.new.cpus
