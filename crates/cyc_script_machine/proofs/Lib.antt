@@ -11,3 +11,4 @@ pub mod Grown
 pub use Rattle.cyc_system_model.proofs.One
 pub use Rattle.cyc_system_model.proofs.Where
 pub use Rattle.cyc_system_model.proofs.Spots
+pub use Rattle.cyc_system_model.proofs.Removals

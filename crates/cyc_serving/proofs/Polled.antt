@@ -38,7 +38,7 @@ use Rattle.cyc_script_machine.proofs.Named.{reached_good}
 use Rattle.cyc_serving.specs.Interrupting.{HasServed, IsPolling}
 use Rattle.cyc_serving.specs.Removing.{counted_by}
 use Rattle.cyc_serving.proofs.Unknown.{unknown_polled, still_known}
-use Rattle.cyc_serving.proofs.Served.{same_removal}
+use Rattle.cyc_script_machine.proofs.Removals.{same_removal}
 use Rattle.cyc_serving.proofs.Leaving.{up_to, none_up_to, all_up_to, one_up_to, leaving_rise, leaving_open, open_leaving}
 
 module _ (texts : List (List ℕ)) (step : ℕ) (i : SoftintStep) (s : State) where

@@ -2,7 +2,7 @@
 use Rattle.std.proofs.Common.{◌≡◌, ℕ, zero, suc, ◌+◌, ◌*◌, ◌^◌, ◌<◌, ◌≤◌, ◌==◌, eqb-true, inl, inr, Bool, true, false, cond, List}
 use Rattle.std.proofs.Common.{[], ◌∷◌, length, map, find, Option, Some, None, refl, ap, sym, ◌∙◌, subst, arith}
 use Rattle.std.specs.Prelude.{⊤, nat_le, IsSome, Result, Ok, Err, slice_index_or}
-use Rattle.std.specs.Option.{option_map_or, option_and_then}
+use Rattle.std.specs.Option.{option_map_or}
 use Rattle.std.specs.List.{slice_get, FoldsTo}
 use Rattle.std.proofs.lemmas.List.{length-map}
 use Rattle.std.proofs.lemmas.List.Sums.{count_by-le-length}
@@ -28,7 +28,7 @@ use Rattle.cyc_script.specs.declared.step.Softint.{Softint as SoftintStep}
 use Rattle.cyc_cpu.specs.Cpu.{CpuView}
 use Rattle.cyc_cpu.specs.Soft.{raise_tables, drains, drain_tables, end_at, Interrupts}
 use Rattle.cyc_script_machine.specs.Cpus.{IsCpu}
-use Rattle.cyc_script_machine.specs.System.{SystemView, RunningSystem, running_system, removal_on}
+use Rattle.cyc_script_machine.specs.System.{SystemView, RunningSystem, running_system}
 use Rattle.cyc_script_machine.proofs.Spots.{same_some, none_some}
 use Rattle.cyc_script_machine.specs.Calls.{Does, SoftInterrupt}
 use Rattle.cyc_script_machine.specs.SoftFault.{SoftFault}
@@ -157,20 +157,6 @@ level_shown Low s v n x h long is = ap (λ cs. (slice_index_or cs n absent).low)
     ∙ ap (λ (c : Cpu). c.low) (shown_of v.cpus.online v.cpus.cpus n x long is).1
 level_shown Lock s v n x h long is = ap (λ cs. (slice_index_or cs n absent).lock) h.cpus
     ∙ ap (λ (c : Cpu). c.lock) (shown_of v.cpus.online v.cpus.cpus n x long is).1
-
--- the open removal on the CPU of a number
-removal_at : (os : List Bool) (vs : List (CpuView Tables)) (n : ℕ) → length os ≡ length vs
-    → (slice_index_or (shown_list os vs) n absent).removal ≡ option_and_then (λ (c : CpuView Tables). c.removal) (slice_get vs n)
-removal_at [] [] zero long = refl
-removal_at [] [] (suc n) long = refl
-removal_at [] (v ∷ vs) n long = absurd (omega (arith, long))
-removal_at (o ∷ os) [] n long = absurd (omega (arith, long))
-removal_at (o ∷ os) (v ∷ vs) zero long = refl
-removal_at (o ∷ os) (v ∷ vs) (suc n) long = removal_at os vs n (omega (arith, long))
-
-pub same_removal : (s : State) (v : SystemView Tables) → ShowsSystem s v → length v.cpus.online ≡ length v.cpus.cpus
-    → (n : ℕ) → (cpu_of n s).removal ≡ removal_on n v.cpus
-same_removal s v h long n = ap (λ cs. (slice_index_or cs n absent).removal) h.cpus ∙ removal_at v.cpus.online v.cpus.cpus n long
 
 -- ---- no call is refused
 

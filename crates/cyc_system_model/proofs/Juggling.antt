@@ -13,7 +13,7 @@ use Rattle.cyc_script.specs.declared.step.Step.TheVariants as steps
 use Rattle.cyc_text.specs.Lines.{moved}
 use Rattle.cyc_cpu.specs.Cpu.{CpuView}
 use Rattle.cyc_cpu.specs.Soft.{raise_tables}
-use Rattle.cyc_system.specs.System.{SystemView, ids_of, ids_on, removal_on}
+use Rattle.cyc_system.specs.System.{SystemView, ids_of, ids_on}
 use Rattle.cyc_system.specs.Turn.{Turn as TurnThere}
 use Rattle.cyc_system.specs.Turn.TheVariants as there
 use Rattle.cyc_system.specs.Juggling.{Turns, MovesAway, counted as counted_there, single_ids as single_there}
@@ -30,7 +30,7 @@ use Rattle.cyc_system_model.specs.Words.{Gives, IsDoneWith, IsRefusedFor}
 use Rattle.cyc_system_model.specs.Room.{HaveAllRoom}
 use Rattle.cyc_system_model.proofs.Asking.{NoMemory, omnipresent_shown, same_no_cpu, same_offline, no_memory_when, no_memory_else}
 use Rattle.cyc_system_model.proofs.Asking.{is_refused, same_error}
-use Rattle.cyc_system_model.proofs.Removals.{removal_at, no_memory_busy}
+use Rattle.cyc_system_model.proofs.Removals.{same_removal, no_memory_busy}
 use Rattle.cyc_system_model.proofs.Destinations.{same_numbers}
 use Rattle.cyc_system_model.proofs.Half.{Half, half}
 use Rattle.cyc_system_model.proofs.Keeping.{kept_turn}
@@ -125,13 +125,10 @@ module _ (n : ℕ) (s : State) (v : SystemView Tables) (h : ShowsSystem s v) (hv
   same_last = ap (λ ns. when (nat_le (length ns) 1) LastCpu)
       (ap (numbers_from 0 (λ (c : Cpu). c.online)) h.cpus ∙ same_numbers 0 v.cpus.online v.cpus.cpus hv.long)
 
-  same_removal : (cpu_of n s).removal ≡ removal_on n v.cpus
-  same_removal = ap (λ cs. (get_or cs n absent).removal) h.cpus ∙ removal_at v.cpus.online v.cpus.cpus n hv.long
-
   -- why no cyclic leaves
   pub same_whys : juggle_refusal plain n s ≡ first_refusal (juggle_refusals n v)
   same_whys = λ z. or_else (same_no_cpu s v h hv.long n z) (or_else (same_offline s v h hv.long n z)
-      (or_else (same_last z) (or_else (busy (same_removal z)) None)))
+      (or_else (same_last z) (or_else (busy (same_removal s v h hv.long n z)) None)))
 
   pub no_memory : NoMemory (juggle_refusal plain n s)
   no_memory = no_memory_else (no_cpu n s) _ (no_memory_when _ NoCpu tt)

@@ -14,7 +14,7 @@ mod Ending
 mod Coming
 mod Removing
 mod Answering
-mod Removals
+pub mod Removals
 mod Polling
 mod Counting
 mod Going

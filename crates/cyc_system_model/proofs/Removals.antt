@@ -43,7 +43,7 @@ use Rattle.cyc_system_model.proofs.Answering.{same_with, nowhere, forgotten_show
 
 -- ---- the reasons for a refusal
 
-pub removal_at : (os : List Bool) (vs : List (CpuView Tables)) (n : ℕ) → length os ≡ length vs
+removal_at : (os : List Bool) (vs : List (CpuView Tables)) (n : ℕ) → length os ≡ length vs
     → (get_or (shown_list os vs) n absent).removal ≡ option_and_then (λ (c : CpuView Tables). c.removal) (slice_get vs n)
 removal_at [] [] zero long = refl
 removal_at [] [] (suc n) long = refl
@@ -52,19 +52,22 @@ removal_at (o ∷ os) [] n long = absurd (omega (arith, long))
 removal_at (o ∷ os) (v ∷ vs) zero long = refl
 removal_at (o ∷ os) (v ∷ vs) (suc n) long = removal_at os vs n (omega (arith, long))
 
+-- the open removal on the CPU of a number
+pub same_removal : (m : State) (v : SystemView Tables) → ShowsSystem m v → length v.cpus.online ≡ length v.cpus.cpus
+    → (n : ℕ) → (cpu_of n m).removal ≡ removal_on n v.cpus
+same_removal m v h long n = ap (λ cs. (get_or cs n absent).removal) h.cpus ∙ removal_at v.cpus.online v.cpus.cpus n long
+
 busy_all : (f g : ℕ → Option ℕ) (ns : List ℕ) → ((n : ℕ) → f n ≡ g n) → map (λ n. busy (f n)) ns ≡ map (λ n. busy (g n)) ns
 busy_all f g [] same = refl
 busy_all f g (n ∷ ns) same = (λ z. busy (same n z) ∷ busy_all f g ns same z)
 
 module _ (id : ℕ) (m : State) (v : SystemView Tables) (h : ShowsSystem m v)
     (long : length v.cpus.online ≡ length v.cpus.cpus) where
-  pub same_removal : (n : ℕ) → (cpu_of n m).removal ≡ removal_on n v.cpus
-  same_removal n = ap (λ cs. (get_or cs n absent).removal) h.cpus ∙ removal_at v.cpus.online v.cpus.cpus n long
-
   same_whys : remove_id_refusal plain id m ≡ first_refusal (unknown_cyclic id v ∷ busy_in id v)
   same_whys = λ z. first_refusal (when (unknown_shown id m v h z) NoCyclic
       ∷ (ap (λ ns. busy_on_each plain ns m) (same_with id m v h long)
-      ∙ busy_all (λ n. (cpu_of n m).removal) (λ n. removal_on n v.cpus) (cpus_with_in id v.cpus) same_removal) z)
+      ∙ busy_all (λ n. (cpu_of n m).removal) (λ n. removal_on n v.cpus) (cpus_with_in id v.cpus)
+      (same_removal m v h long)) z)
 
 pub no_memory_busy : (o : Option ℕ) → NoMemory (busy o)
 no_memory_busy None = tt
