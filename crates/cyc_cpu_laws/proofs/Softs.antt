@@ -68,7 +68,8 @@ drain_quiet a b [] g q = subst (λ (x : Tables). IsQuiet (firing_at x)) g q
 drain_quiet a b (call ∷ way) (m, first, rest) q = drain_quiet m b way rest (drained (level_of a) (level_of m) call first q)
 
 module _ {C : Type 0} (handler : Calls C) where
-  served : (soft : Soft) (v w : CpuView Tables) (way : List DrainCall) → DrainGoes drain_tables (end_at soft v) way (end_at soft w)
+  served : (soft : Soft) (v w : CpuView Tables) (way : List DrainCall)
+      → DrainGoes drain_tables (end_at soft v) way (end_at soft w)
       → SoftKept soft v w → IsSettled firing_at v → IsSettled firing_at w
   served Low v w way g k s = settled_of raise_tables w (subst (λ (x : Tables). IsQuiet (firing_at x)) (sym k.beside)
       (lock_quiet raise_tables v s)) (drain_quiet v.low w.low way g (low_quiet raise_tables v s)) (k.kept.removal ∙ s.still)

@@ -167,7 +167,8 @@ impl Words {
     /// The load of the soft bank. What was seen to have followed has still followed.
     pub fn load_soft_bank<J: Served>(&self, side: &mut FiringSide) -> u64
         requires own { IsSeatOf J.setting self.now side.old.seat }
-        ensures followed { has_followed side.old.seat.me.0.raise_trail ≡ true → result ≡ hard_bank_of side.old.seat.me.0.raise_trail }
+        ensures followed { has_followed side.old.seat.me.0.raise_trail ≡ true
+            → result ≡ hard_bank_of side.old.seat.me.0.raise_trail }
         ensures step { MakesRaiseStep J.setting (LoadedSoftBank result) side.old.seat side.new.seat }
     {
         firing_steps();
