@@ -10,7 +10,7 @@
  *
  *   - A pointer is never null, and points to a value of its type that no other thread uses meanwhile.
  *   - A handle is used by one thread at a time, and never copied. Only this library writes its fields.
- *   - The program has malloc, realloc and free from one allocator, and links the file heap.c of the Rattle kit's libc (see
+ *   - The program has malloc, realloc and free from one allocator, and links c/liblibc_c.a of the Rattle kit (see
  *     docs/embedding.md). No function here is called from a signal handler, or in the forked child of a process with threads.
  *
  * Moments and intervals are nanoseconds, from 0 to CYCLIC_NEVER, on any clock that never goes back. An id is a number that the

@@ -12,8 +12,7 @@
 //! | `load` | load of the pend word | `Loaded` | none | `load_pend`, `poll_clear` | firing |
 //! | `load_to_raise` | load of the pend word | `Lost` at the ceiling, else `Loaded` | Lose, else none | `raise` | firing |
 //! | `add` | `fetch_add` of 1 on the pend word | `Added` | Expire | `raise` | firing |
-//! | `store` | store of the entry in the buffer word at the producer index of the hard bank | `Stored` | none | `raise` | firing
-//! |
+//! | `store` | store of the entry at the producer index of the hard bank | `Stored` | none | `raise` | firing |
 //! | `publish` | store of the producer word, one higher modulo 2^32 | `Published` | Publish | `raise` | firing |
 //! | `mark` | `fetch_add` of 2^32 on the pend word | `Marked` | Mark | `mark` | firing |
 //! | `clear` | store of 0 in the pend word | `Cleared` | Clear | `poll_clear` | firing |
