@@ -26,11 +26,11 @@ want() {
 }" > "$work/words"
 }
 
-# ran NAME STATUS WORD..: runs the program on standard input, for at most 20 seconds
+# ran NAME STATUS WORD..: runs the program on standard input, for at most 60 seconds
 ran() {
   local name=$1 status=$2
   shift 2
-  timeout 20 "$program" "$@" > "$work/got" 2> "$work/said"
+  timeout 60 "$program" "$@" > "$work/got" 2> "$work/said"
   say "$name" "$?" "$status"
 }
 
