@@ -1,5 +1,5 @@
 -- How many ids and expirations the steps of a run have brought.
-use Rattle.std.proofs.Common.{eq-eqb, ◌≡◌, ℕ, zero, suc, ◌+◌, ◌*◌, ◌<◌, ◌≤◌, Bool, List, [], ◌∷◌, length, map, sum_by, refl, ap}
+use Rattle.std.proofs.Common.{eq-eqb, ◌≡◌, ℕ, zero, suc, ◌*◌, ◌≤◌, Bool, List, [], ◌∷◌, length, map, sum_by, refl, ap}
 use Rattle.std.proofs.Common.{sym, ◌∙◌, subst, cond}
 use Rattle.std.proofs.Common.{arith}
 use Rattle.std.specs.Prelude.{slice_index_or}
@@ -7,7 +7,6 @@ use Rattle.std.proofs.lemmas.List.Sums.{sum_by-cons}
 use Rattle.cyc_model.specs.Cpu.{Cyclic, Cpu}
 use Rattle.cyc_model.specs.Questions.{plain}
 use Rattle.cyc_model.specs.State.{State, absent, cpu_of}
-use Rattle.cyc_model.specs.Report.{expired_here}
 use Rattle.cyc_model.specs.Laws.{AtMost, AllAtMost}
 use Rattle.cyc_model.specs.Script.{start}
 use Rattle.cyc_model.proofs.Given.{given_from_start}

@@ -1,29 +1,17 @@
 -- The bound on the expirations of a cyclic is the same on each CPU, for good.
-use Rattle.std.proofs.Common.{◌≡◌, ℕ, zero, suc, inl, inr, List, [], ◌∷◌, Option, Some, None, refl, ap, sym, ◌∙◌, subst}
-use Rattle.std.specs.Prelude.{Result, Ok, Err}
+use Rattle.std.proofs.Common.{◌≡◌, ℕ, zero, suc, List, [], ◌∷◌, Option, Some, None, refl, ap, sym, ◌∙◌, subst}
 use mathlib.Core.Logic.{dite}
 use native.Mathlib.Decide.{ℕ_discrete}
-use Rattle.cyc_types.specs.Series.{first}
-use Rattle.cyc_types.specs.declared.level.Level.{Level}
-use Rattle.cyc_types.specs.declared.moment.When.{When}
-use Rattle.cyc_types.specs.declared.refusal.Refusal.{Refusal}
 use Rattle.cyc_core.specs.Tables.{Tables}
 use Rattle.cyc_system_model.specs.Cpu.{CpuView}
 use Rattle.cyc_system_model.specs.Soft.{raise_tables}
-use Rattle.cyc_system_model.specs.CpuCalls.{AskPending, Reserve, Reprogram as CpuReprogram}
 use Rattle.cyc_system_model.proofs.Calling.{changes_most}
-use Rattle.cyc_system_model.specs.Cpus.{CpusView, IsCpu, ChangesAt, CallOn, on, Works, new_cpus}
-use Rattle.cyc_system_model.specs.Shifting.{moving}
+use Rattle.cyc_system_model.specs.Cpus.{CpusView, IsCpu, ChangesAt, CallOn, Works, new_cpus}
 use Rattle.cyc_system_model.proofs.CpusSpots.{one_cpu, cpu_there, cpu_beside}
-use Rattle.cyc_system_model.specs.System.{SystemView}
-use Rattle.cyc_system_model.specs.Adding.{entering}
-use Rattle.cyc_system_model.specs.Binding.{GoesTo}
 use Rattle.cyc_system_model.proofs.Spots.{same_some, none_some}
 use Rattle.cyc_system_model.specs.Agreement.{most_on}
 use Rattle.std.specs.List.{slice_get}
 use Rattle.std.specs.Option.{option_map}
-use Rattle.cyc_system_model.specs.Calls.{Changes, Add, Bind}
-use Rattle.cyc_system_model.specs.Words.{reprograms}
 use Rattle.cyc_script_machine.specs.Machine.{AllMost}
 
 pub most_changed : (n : ℕ) (D : CpuView Tables → CpuView Tables → Type 0) (v w : CpusView Tables)

@@ -1,25 +1,24 @@
 -- What the machine remembers of names.
-use Rattle.std.proofs.Common.{◌≡◌, ◌≢◌, ℕ, zero, suc, ◌+◌, ◌-◌, ◌<◌, ◌≤◌, ◌==◌, eq-eqb, ne_eqb, Bool, true, false, cond, List, []}
-use Rattle.std.proofs.Common.{◌∷◌, length, map, Option, Some, None, inl, inr, ⊎_elim, ◌⊎◌, refl, ap, sym, ◌∙◌, subst, arith}
+use Rattle.std.proofs.Common.{◌≡◌, ◌≢◌, ℕ, zero, suc, ◌+◌, ◌-◌, ◌<◌, ◌≤◌, ◌==◌, eq-eqb, ne_eqb, true, false, cond, List, []}
+use Rattle.std.proofs.Common.{◌∷◌, length, map, Option, Some, None, inl, inr, ⊎_elim, ◌⊎◌, refl, ap, sym, ◌∙◌, arith}
 use Rattle.std.specs.Prelude.{slice_set, slice_index_or}
-use Rattle.std.proofs.Math.ListN.{length-set, get_or-map}
+use Rattle.std.proofs.Math.ListN.{length-set}
 use Rattle.std.proofs.lemmas.List.{get_or-set_same, get_or-set_other}
 use mathlib.Core.Logic.{dite}
 use native.Mathlib.Decide.{ℕ_discrete}
 use Rattle.cyc_text.specs.declared.lines.Counts.{Counts}
 use Rattle.cyc_script.specs.declared.step.Step.{Step}
 use Rattle.cyc_model.specs.Questions.{plain}
-use Rattle.cyc_model.specs.State.{State, Outcome, Placement, Placed}
-use Rattle.cyc_model.specs.Places.{placement_of, is_unknown, given}
+use Rattle.cyc_model.specs.State.{State, Placement, Placed}
+use Rattle.cyc_model.specs.Places.{is_unknown, given}
 use Rattle.cyc_model.proofs.Placing.{place_given_new}
 use Rattle.std.specs.Prelude.{not, is_some, find}
 use Rattle.std.specs.Option.{option_map}
 use Rattle.cyc_model.specs.Softint.{text_if, text_of_id}
 use Rattle.cyc_model.specs.Report.{counts_of}
-use Rattle.cyc_model.specs.Script.{refusal_of, does, word, start, text_in}
-use Rattle.cyc_model.proofs.Base.{IsGone}
+use Rattle.cyc_model.specs.Script.{refusal_of, does, start, text_in}
 use Rattle.cyc_model.proofs.Spread.{Good}
-use Rattle.cyc_model.proofs.Reaching.{run_good, start_good, well_steps}
+use Rattle.cyc_model.proofs.Reaching.{start_good}
 use Rattle.cyc_model.proofs.Printing.{unknown_gone}
 use Rattle.cyc_model.proofs.Known.{IsLasting, unknown_before}
 use Rattle.cyc_model.proofs.Gone.{gone_does, gone_steps}

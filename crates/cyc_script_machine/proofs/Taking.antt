@@ -1,15 +1,14 @@
 -- A step that says no more than whether it was done, with its line.
-use Rattle.std.proofs.Common.{◌≡◌, ◌≢◌, ℕ, ◌+◌, Option, List, [], ◌∷◌, length, Some, None, refl, ap, sym, ◌∙◌, subst, arith}
+use Rattle.std.proofs.Common.{◌≡◌, ◌≢◌, ℕ, Option, List, [], Some, refl, ap, sym, ◌∙◌, subst, arith}
 use Rattle.std.specs.Prelude.{Result, Ok, Err, OnOk}
 use Rattle.cyc_types.specs.declared.refusal.Refusal.{Refusal}
 use Rattle.cyc_types.specs.declared.refusal.Refusal.TheVariants.{Memory}
-use Rattle.cyc_types.specs.declared.level.Soft.{Soft}
 use Rattle.cyc_text.specs.Lines.{accepted}
 use Rattle.cyc_script.specs.declared.step.Step.{Step}
 use Rattle.cyc_model.specs.Questions.{plain}
 use Rattle.cyc_model.specs.State.{State, Outcome}
 use Rattle.cyc_model.specs.Refusals.{refusal}
-use Rattle.cyc_model.specs.Script.{refusal_of, does, word}
+use Rattle.cyc_model.specs.Script.{refusal_of, does}
 use Rattle.cyc_system_model.specs.Answers.{IsRefused}
 use Rattle.cyc_script_machine.specs.declared.machine.Machine.{Machine}
 use Rattle.cyc_script_machine.specs.Machine.{Holds}

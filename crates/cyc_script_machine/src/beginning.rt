@@ -2,6 +2,7 @@
 
 ghost use Rattle.std.specs.Prelude.{◌≡◌, ◌≤◌, All, None, length, replicate, IfOk, IfErr, OnOk};
 ghost use Rattle.cyc_types.specs.declared.refusal.Refusal.TheVariants.{Memory};
+ghost use Rattle.cyc_types.specs.Tally.{tally_made};
 ghost use Rattle.cyc_script.specs.Limits.{most_cpus, most_steps};
 ghost use Rattle.cyc_model.specs.Script.{start};
 ghost use Rattle.cyc_system_model.specs.Splitting.{EachTwo};
@@ -109,6 +110,24 @@ fn no_names(alloc: Global) -> Result<Vec<usize>, Refusal>
     Ok(named)
 }
 
+/// What a machine has beside its system: the tally of its calls, the ids of names, what removals counted, the names of ids.
+fn beside(
+    alloc: Global,
+    names: usize,
+) -> Result<(Tally, Vec<Option<CyclicId>>, Vec<Counted>, Vec<usize>), Refusal>
+    ensures tally { IfOk result (λ r. r.0 ≡ tally_made 1 most_steps 18446744073709551615) }
+    ensures ids { IfOk result (λ r. r.1.items ≡ replicate names None) }
+    ensures counted { IfOk result (λ r. length r.2.items ≡ names) }
+    ensures named { IfOk result (λ r. length r.3.items ≡ most_steps) }
+    ensures err { IfErr result (λ refusal. refusal ≡ Memory) }
+{
+    let tally = Tally::new(alloc, first_id(), MOST_STEPS, u64::MAX)?;
+    let ids = no_ids(alloc, names)?;
+    let counted = none_counted(alloc, names)?;
+    let named = no_names(alloc)?;
+    Ok((tally, ids, counted, named))
+}
+
 /// So many CPUs, all online, with no cyclic, and so many names with no id.
 pub fn begin(alloc: Global, cpus: u32, ceiling: Ceiling, names: usize) -> Result<Machine, Refusal>
     requires some { 1 ≤ cpus }
@@ -122,10 +141,7 @@ pub fn begin(alloc: Global, cpus: u32, ceiling: Ceiling, names: usize) -> Result
     fresh.law();
     let system = with_room(fresh)?;
     system.law();
-    let tally = Tally::new(alloc, first_id(), MOST_STEPS, u64::MAX)?;
-    let ids = no_ids(alloc, names)?;
-    let counted = none_counted(alloc, names)?;
-    let named = no_names(alloc)?;
+    let (tally, ids, counted, named) = beside(alloc, names)?;
     Ok(Machine {
         clock: Moment::ZERO,
         system,

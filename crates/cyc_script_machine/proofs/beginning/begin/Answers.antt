@@ -1,5 +1,4 @@
-use Rattle.std.proofs.Common.{rules, ◌≡◌, ◌-◌, ◌^◌, ap, sym, subst, ◌∙◌, refl, None, ℕ, length, All}
-use Rattle.cyc_types.specs.Tally.{tally_made}
+use Rattle.std.proofs.Common.{◌≡◌, ◌-◌, sym, subst, ◌∙◌, refl, length, All}
 use Rattle.cyc_system_model.specs.Agreement.{Agrees}
 use Rattle.cyc_system_model.specs.System.{SystemView}
 use Rattle.cyc_core.specs.Tables.{Tables}
@@ -39,8 +38,7 @@ returns-clause-holds c =
     let empty = subst (λ (x : SystemView Tables). All IsEmpty x.cpus.cpus) (sym is)
     (new_empty 18446744073709551615 c.args.ceiling ends c.in_ok-levels.ensures.new) in
     held_new c.args.cpus c.args.ceiling c.args.names _ refl
-    (c.in_ok-tally.ensures ∙ ap (λ f. tally_made f 65536 (2 ^ 64 - 1)) c.first_id-2.ensures)
-    c.in_ok-ids.ensures.ids c.in_ok-counted.ensures.long c.in_ok-named.ensures.long
+    c.in_ok-tally.ensures.tally c.in_ok-tally.ensures.ids c.in_ok-tally.ensures.counted c.in_ok-tally.ensures.named
     (still_most v w two.0 two.1 rest.0 rest.1 most) (now_room v w two.0 two.1 rest.0 rest.1 empty) (
       still_system v w two.0 two.1 rest.0 rest.1 here.0 c.law-2.ensures,
       still_shows v w two.0 two.1 rest.0 rest.1 (start c.args.cpus c.args.ceiling c.args.names)

@@ -1,4 +1,4 @@
-use Rattle.std.proofs.Common.{◌≡◌, length, ℕ}
+use Rattle.std.proofs.Common.{◌≡◌, length}
 use Rattle.cyc_system_model.specs.Kept.{AreNew}
 use Rattle.cyc_script_machine.proofs.beginning.new_levels.Given as goal
 

@@ -1,5 +1,4 @@
-use Rattle.std.proofs.Common.{◌≡◌, ◌≤◌, ◌<◌, length, sym, ◌∙◌, subst, arith}
-use Rattle.cyc_script_machine.specs.Beginning.{IsEmpty}
+use Rattle.std.proofs.Common.{sym, arith}
 use Rattle.cyc_script_machine.proofs.Start.{reserving_none, reserving_one, reserving_all, empty_left}
 use Rattle.cyc_script_machine.proofs.beginning.reserve_each.Goals as goal
 
