@@ -32,14 +32,20 @@ fn words_fault(why: &io::Error) -> Fault
     }
 }
 
+/// The program's words, with its own name.
+fn words<R: Env + AllocGlobal>(rt: &R) -> Result<Vec<String>, Fault> {
+    let mut words = Vec::new(rt.alloc());
+    for word in env::args(rt).map_err(|why| words_fault(&why))? {
+        words.push(word).map_err(|_| Fault::Memory)?;
+    }
+    Ok(words)
+}
+
 /// What the program's words ask for.
 fn command<R: Env + AllocGlobal>(rt: &R) -> Result<Command, Fault> {
-    let mut owned = Vec::new(rt.alloc());
-    for word in env::args(rt).map_err(|why| words_fault(&why))? {
-        owned.push(word).map_err(|_| Fault::Memory)?;
-    }
+    let all = words(rt)?;
     let mut words = Vec::new(rt.alloc());
-    for word in owned.iter().skip(1) {
+    for word in all.iter().skip(1) {
         words.push(word.as_str()).map_err(|_| Fault::Memory)?;
     }
     command_of(rt.alloc(), words.as_slice())
@@ -110,6 +116,19 @@ fn input<R: Input + AllocGlobal>(rt: &R) -> Result<Script, Fault> {
     script(rt.alloc(), bytes.as_slice())
 }
 
+/// Runs the script as the command asks, into the writer, and gives the writer back.
+fn text_into<R: AllocGlobal + Threads + Wait + Sync, W: Write + Drop>(
+    rt: &R,
+    command: Command,
+    script: &Script,
+    writer: W,
+) -> Result<W, Fault> {
+    match command {
+        Command::Replay => replay_into(rt.alloc(), script, writer),
+        Command::Run => run_into(rt, rt.alloc(), script, writer),
+    }
+}
+
 /// Runs the script as the command asks, and writes its text to standard output.
 fn answer<R: AllocGlobal + Print + Threads + Wait + Sync>(
     rt: &R,
@@ -118,10 +137,7 @@ fn answer<R: AllocGlobal + Print + Threads + Wait + Sync>(
 ) -> Result<(), Fault> {
     let bounded = BoundedWriter::new(io::writer(rt));
     let writer = BufWriter::new(rt.alloc(), bounded).map_err(|_| Fault::Memory)?;
-    let mut writer = match command {
-        Command::Replay => replay_into(rt.alloc(), script, writer)?,
-        Command::Run => run_into(rt, rt.alloc(), script, writer)?,
-    };
+    let mut writer = text_into(rt, command, script, writer)?;
     flushed(writer.flush())
 }
 
