@@ -4,7 +4,7 @@
 # thread and no process behind. It needs a C compiler, since it puts a shim before the C library.
 set -u
 cd "$(dirname "$0")/.."
-./cyclic replay < examples/first.json > /dev/null || exit 1
+./cyclic run < examples/threads.json > /dev/null || exit 1
 work=$(mktemp -d)
 trap 'rm -rf "$work"' EXIT
 ${CC:-cc} -shared -fPIC -O1 -o "$work/shim.so" tests/shim.c || exit 2

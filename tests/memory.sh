@@ -13,7 +13,7 @@
 # step or a move where memory is refused to it, and ends where a thread is.
 set -u
 cd "$(dirname "$0")/.."
-./cyclic replay < examples/first.json > /dev/null || exit 1
+./cyclic run < examples/threads.json > /dev/null || exit 1
 program=crates/cyclic/out/cyclic
 work=$(mktemp -d)
 trap 'rm -rf "$work"' EXIT

@@ -5,7 +5,7 @@ cd "$(dirname "$0")/.."
 failed=0
 
 # where the program isn't built yet, this builds it
-./cyclic replay < examples/first.json > /dev/null || exit 1
+./cyclic run < examples/threads.json > /dev/null || exit 1
 
 program=$PWD/crates/cyclic/out/cyclic
 work=$(mktemp -d)
@@ -187,6 +187,20 @@ for script in examples/*.json; do
     failed=1
   fi
 done
+
+# the program of the word `replay` alone does what the whole one does
+tools/prove cyclic_replay 2> "$work/said" || { cat "$work/said"; exit 1; }
+alone=$PWD/crates/cyclic_replay/out/cyclic_replay
+for script in examples/*.json "$work"/{no_utf8,greatest,longer,one_step_more,steps} /tmp; do
+  timeout 60 "$program" replay < "$script" > "$work/text" 2> "$work/words"
+  status=$?
+  timeout 60 "$alone" < "$script" > "$work/got" 2> "$work/said"
+  say "the word alone, $script" "$?" "$status"
+done
+want '' 'fault write'
+: > "$work/got"
+timeout 20 "$alone" < "$work/steps" 2> "$work/said" >&-
+say 'the word alone, a closed output' "$?" 3
 
 # a run in threads gives the same bytes whatever the schedule
 for _ in $(seq 100); do

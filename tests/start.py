@@ -3,8 +3,9 @@
 
     tests/start.py
 
-In a scratch copy of the start scripts the program stands on two crates, and a third has no part in it. The pretended prover notes
-each crate that it is given, and can be told to hang, to be slow or to fail at one. Each fault is printed, and the status is then 1.
+In a scratch copy of the start scripts the program stands on two crates, a third has no part in it, and one word has a program of its
+own, which stands on one. The pretended prover notes each crate that it is given, and can be told to hang, to be slow or to fail at
+one. Each fault is printed, and the status is then 1.
 """
 import os
 import sys
@@ -44,7 +45,7 @@ LINKER = r"""#!/usr/bin/env bash
 echo link >> "$FAKE/calls"
 while [ "$1" != -o ]; do shift; done
 [ ! -e "$FAKE/unlinked" ] || exit 2
-printf '#!/bin/sh\necho ran "$@"; cat\n' > "$2" && chmod +x "$2"
+printf '#!/bin/sh\necho %s "$@"; cat\n' "${2##*/}" > "$2" && chmod +x "$2"
 """
 FIRST = """cyclic: proving and building the program first: 3 crates, some minutes
 cyclic: for a look within a minute, at the same sources unproved: ./look replay < SCRIPT
@@ -62,8 +63,9 @@ class Start:
         for name in ("low", "high", "apart"):
             self.write(f"crates/{name}/src/lib.rt", name)
         self.write("crates/cyclic/src/main.rt", "cyclic")
+        self.write("crates/cyclic_replay/src/main.rt", "replay")
         self.write("crates/high/specs/Lib.antt", "")
-        self.write("crates.txt", "# lowest first\nlow: thiserror\napart staticlib: low\nhigh: low\ncyclic: high low\n")
+        self.write("crates.txt", "# lowest first\nlow: thiserror\napart staticlib: low\nhigh: low\ncyclic: high low\ncyclic_replay: low\n")
         self.write("examples/first.json", "{}")
         self.write("kit/name", "kit 1")
         for file, text in (("kit/bin/rt", RT), ("kit/bin/rattle", PROVER), ("kit/bin/rattle-link", LINKER)):
@@ -91,10 +93,10 @@ class Start:
             print(f"start: {name}: {got!r}, and not {wanted!r}")
             self.faults += 1
 
-    def run(self, name, status, said, calls, word="cyclic", out="ran replay x\nscript", at_work=""):
+    def run(self, name, status, said, calls, word="cyclic", more=("x",), out="cyclic replay x\nscript", at_work=""):
         """Runs a start script, and wants of it this status, these words on standard error and these calls of the toolchain. Where it
         is to say what is still at work, it may say more of that, as a machine that is slow itself has it."""
-        words = [f"{self.top}/{word}", "replay", "x"]
+        words = [f"{self.top}/{word}", "replay", *more]
         ran = subprocess.run(words, input="script", capture_output=True, text=True, env=self.env, timeout=60)
         got = re.sub(r"\b\d+m\d\d\b", "T", ran.stderr)
         if at_work:
@@ -124,7 +126,7 @@ class Start:
     def stop(self, name, number):
         """Starts the program, and stops it by a signal while a crate is being proved."""
         self.write("hang", "high")
-        words = [f"{self.top}/cyclic", "replay"]
+        words = [f"{self.top}/cyclic", "run"]
         ran = subprocess.Popen(words, stdin=subprocess.DEVNULL, stderr=subprocess.PIPE, text=True, env=self.env)
         for _ in range(200):
             if "hangs" in open(f"{self.top}/calls", encoding="utf-8").read():
@@ -146,6 +148,28 @@ STOPS = (signal.SIGINT, signal.SIGTERM, signal.SIGHUP)
 def from_the(first, last=3):
     """What is said of these crates."""
     return "".join(ALL.splitlines(keepends=True)[first - 1:last])
+
+
+def tries_alone(start):
+    """The word that has a program of its own, which answers until the whole program is built."""
+    alone = "cyclic_replay"
+    said = (FIRST.replace("3 crates", "2 crates") + f"cyclic: proved 1 of 2: low, T\ncyclic: proved 2 of 2: {alone}, T\n" + DONE
+            ).replace("cyclic:", f"{alone}:")
+    def run(name, program, said="", calls=()):
+        start.run(name, 0, said, list(calls), more=(), out=f"{program} replay\nscript")
+    start.write("kit/name", "kit 5")
+    os.remove(f"{start.top}/crates/cyclic/out/cyclic")
+    run("a word alone", alone, said, ["low", alone, "link"])
+    run("a word again", alone)
+    time.sleep(1.2)
+    run("a word seen", alone)
+    start.env["FAKE"] = "/nowhere"
+    run("a word not read again", alone)
+    start.env["FAKE"] = start.top
+    start.run("another word", 0, FIRST + from_the(2) + DONE, BUILDS[1:])
+    run("the whole program for it", "cyclic")
+    start.write("crates/low/src/lib.rt", "changed")
+    run("the whole program is old", alone, said, ["low", alone, "link"])
 
 
 def tries(start):
@@ -232,6 +256,7 @@ def main():
     with tempfile.TemporaryDirectory(prefix="start-") as top:
         start = Start(top)
         tries(start)
+        tries_alone(start)
     if not start.faults:
         print("start: passed")
     return 1 if start.faults else 0
