@@ -25,7 +25,7 @@ use Rattle.cyc_agreement.specs.System.{is_unknown, record_of, is_online}
 use Rattle.cyc_agreement.specs.Refusals.{no_cyclic, omnipresent, no_component, no_cpu, offline_cpu, IsPresent}
 use Rattle.cyc_agreement.proofs.Lists.{among, any_at, any_none, any_place, any_map, eq_true, true_eq, false_ne, false_true}
 use Rattle.cyc_agreement.proofs.Who.{ids_there, id_in}
-use Rattle.cyc_agreement.proofs.Refusing.{not_when, is_when, not_le, le_true}
+use Rattle.cyc_agreement.proofs.FirstReason.{not_when, is_when, not_le, le_true}
 
 -- a CPU that has a cyclic is there
 pub has_low : {R : Type 0} (v : CpusView R) (n id : ℕ) → has n id v ≡ true → n < length v.cpus

@@ -21,9 +21,9 @@ use Rattle.cyc_cpus.specs.Ran.{Ran}
 use Rattle.cyc_cpus.specs.SoftRefused.{SoftRefused}
 use Rattle.cyc_cpus.specs.Fired.{Fired}
 use Rattle.cyc_cpus.specs.FireRefused.{FireRefused}
-use Rattle.cyc_model.specs.Expirations as expire
-use Rattle.cyc_model.specs.Expirations.{Expiration, expirations, all_after}
-use Rattle.cyc_model.specs.Timers.{Timer}
+use Rattle.cyc_types.specs.Expirations as expire
+use Rattle.cyc_types.specs.Expirations.{Expiration, expirations, all_after}
+use Rattle.cyc_types.specs.Timers.{Timer}
 use Rattle.cyc_cpus.specs.Cpus.{CpusView, IsCpu, with_cpu, ChangesAt}
 use Rattle.cyc_agreement.specs.System.{ids_of, ids_on, has, removal_on}
 use Rattle.cyc_agreement.specs.Agreement.{most_on}

@@ -3,7 +3,7 @@ use Rattle.std.specs.Prelude.{◌≡◌, ℕ, false, ◌||◌, ◌&&◌, nat_le,
 use Rattle.cyc_types.specs.Limits.{last_id as greatest_id}
 use Rattle.cyc_types.specs.declared.refusal.Refusal.{Refusal}
 use Rattle.cyc_types.specs.declared.refusal.Refusal.TheVariants.{NoCyclic, Omnipresent, NoCpu, Offline, IdsSpent}
-use Rattle.cyc_model.specs.Refusals.{first_refusal, when}
+use Rattle.cyc_types.specs.Reasons.{first_refusal, when}
 use Rattle.cyc_places.specs.declared.record.Record.{Record}
 use Rattle.cyc_places.specs.Places.{IsRecord}
 use Rattle.cyc_agreement.specs.System.{SystemView, record_of, has, is_online, is_unknown, is_leaving, is_omnipresent}

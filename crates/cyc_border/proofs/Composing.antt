@@ -8,12 +8,12 @@ use Rattle.cyc_types.specs.Firing.{FiringCall}
 use Rattle.cyc_types.specs.declared.level.Level.{Level}
 use Rattle.cyc_types.specs.declared.level.Level.TheVariants.{Low, Lock, High}
 use Rattle.cyc_types.proofs.Runs.{lost_on}
-use Rattle.cyc_expirations.specs.Expirations.{Expiration, after, all_after}
-use Rattle.cyc_expirations.specs.Timers.{Timer}
+use Rattle.cyc_types.specs.Expirations.{Expiration, after, all_after}
+use Rattle.cyc_types.specs.Timers.{Timer}
 use Rattle.cyc_timers.specs.Rows.{Cyclic, timers}
-use Rattle.cyc_fire.specs.Acts.{Sides, ids_at, is_at, is_of, same_level, timer_of, way_losses, lost_after}
-use Rattle.cyc_fire.specs.Made.{Makes}
-use Rattle.cyc_fire.proofs.Acting.{acts_more, losses_on}
+use Rattle.cyc_timers.specs.Acts.{Sides, ids_at, is_at, is_of, same_level, timer_of, way_losses, lost_after}
+use Rattle.cyc_timers.specs.Made.{Makes}
+use Rattle.cyc_timers.proofs.Acting.{acts_more, losses_on}
 
 after_level : (now : ℕ) (made : List Expiration) (t : Timer) → (after now made t).level ≡ t.level
 unfolding after

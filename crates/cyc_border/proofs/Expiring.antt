@@ -10,13 +10,13 @@ use Rattle.std.proofs.lemmas.Bool.{cases_lt}
 use Rattle.std.proofs.lemmas.Bool.Decides.{nat_tests}
 use Rattle.std.proofs.lemmas.List.{get_or_default}
 use Rattle.cyc_types.specs.Series.{due, next, never, late}
-use Rattle.cyc_expirations.specs.Expirations.{Expiration, is_before, expirations, next_of}
-use Rattle.cyc_expirations.specs.Timers.{Timer, HasDistinctIds, IsSound}
-use Rattle.cyc_expirations.proofs.Order.{before_total, before_trans}
-use Rattle.cyc_expirations.proofs.Dues.{due_step, due_later, next_later}
-use Rattle.cyc_expirations.proofs.Firings.{IsLeastAt, Expires, Firing, fire_step, expirations_none, expirations_first}
-use Rattle.cyc_expirations.proofs.Firings.{expirations_step}
-use Rattle.cyc_fire.proofs.Nexts.{next_step}
+use Rattle.cyc_types.specs.Expirations.{Expiration, is_before, expirations, next_of}
+use Rattle.cyc_types.specs.Timers.{Timer, HasDistinctIds, IsSound}
+use Rattle.cyc_types.proofs.Order.{before_total, before_trans}
+use Rattle.cyc_types.proofs.Dues.{due_step, due_later, next_later}
+use Rattle.cyc_types.proofs.Firings.{IsLeastAt, Expires, Firing, fire_step, expirations_none, expirations_first}
+use Rattle.cyc_types.proofs.Firings.{expirations_step}
+use Rattle.cyc_timers.proofs.Nexts.{next_step}
 
 -- every list of cyclics has a first to expire
 least : (t : Timer) (ts : List Timer) → (i : ℕ) × (i < length (t ∷ ts)) × IsLeastAt (t ∷ ts) i

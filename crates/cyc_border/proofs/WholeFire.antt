@@ -15,15 +15,15 @@ use Rattle.cyc_types.specs.declared.level.Level.TheVariants.{High}
 use Rattle.cyc_types.specs.declared.refusal.Refusal.{Refusal}
 use Rattle.cyc_types.specs.declared.refusal.Refusal.TheVariants as why
 use Rattle.cyc_types.proofs.Runs.{times_on}
-use Rattle.cyc_expirations.specs.Expirations.{Expiration, expirations, after, all_after}
-use Rattle.cyc_expirations.specs.Timers.{Timer, HasDistinctIds, IsSound, earliest}
-use Rattle.cyc_expirations.proofs.Firings.{Firing, fire_start}
+use Rattle.cyc_types.specs.Expirations.{Expiration, expirations, after, all_after}
+use Rattle.cyc_types.specs.Timers.{Timer, HasDistinctIds, IsSound, earliest}
+use Rattle.cyc_types.proofs.Firings.{Firing, fire_start}
 use Rattle.cyc_timers.specs.Rows.{Cyclic, timers}
-use Rattle.cyc_fire.specs.Acts.{ids_at, is_at, is_of, same_level, timer_of, lost_after}
-use Rattle.cyc_fire.specs.Made.{Makes, Stops}
-use Rattle.cyc_fire.specs.declared.fire.Fired.{Fired}
-use Rattle.cyc_fire.specs.declared.fire.FireRefused.{FireRefused}
-use Rattle.cyc_fire.proofs.Making.{same_id}
+use Rattle.cyc_timers.specs.Acts.{ids_at, is_at, is_of, same_level, timer_of, lost_after}
+use Rattle.cyc_timers.specs.Made.{Makes, Stops}
+use Rattle.cyc_timers.specs.declared.fire.Fired.{Fired}
+use Rattle.cyc_timers.specs.declared.fire.FireRefused.{FireRefused}
+use Rattle.cyc_timers.proofs.Making.{same_id}
 use Rattle.cyc_cpu.specs.Cpu.{CpuView, SameCpu, sides}
 use Rattle.cyc_border.specs.Border.{grant, stopped_at}
 use Rattle.cyc_border.specs.Granted.{granted_called, granted_count, GrantedRefuses}

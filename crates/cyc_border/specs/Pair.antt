@@ -7,8 +7,8 @@ use Rattle.cyc_ring.specs.declared.seats.DrainSeat.{DrainSeat}
 use Rattle.cyc_types.specs.declared.Raise.{Ghosts as Raise}
 use Rattle.cyc_types.specs.Firing.{FiringView, FiringCall}
 use Rattle.cyc_cpu.specs.Cpu.{CpuView}
-use Rattle.cyc_fire.specs.declared.fire.Fired.{Fired}
-use Rattle.cyc_fire.specs.declared.fire.FireRefused.{FireRefused}
+use Rattle.cyc_timers.specs.declared.fire.Fired.{Fired}
+use Rattle.cyc_timers.specs.declared.fire.FireRefused.{FireRefused}
 use Rattle.cyc_border.specs.Held.{view_in, step_in}
 use Rattle.cyc_border.specs.Border.{Fires}
 use Rattle.cyc_border.specs.declared.held.HeldEnd.{HeldEnd}

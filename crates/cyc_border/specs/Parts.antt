@@ -6,11 +6,11 @@ use Rattle.cyc_types.specs.declared.Calls.{Ghosts as Calls}
 use Rattle.cyc_types.specs.declared.Raise.{Ghosts as Raise}
 use Rattle.cyc_types.specs.declared.level.Level.{Level}
 use Rattle.cyc_types.specs.declared.level.Level.TheVariants.{High}
-use Rattle.cyc_expirations.specs.Expirations.{Expiration, expirations}
+use Rattle.cyc_types.specs.Expirations.{Expiration, expirations}
 use Rattle.cyc_timers.specs.Rows.{timers}
-use Rattle.cyc_fire.specs.Acts.{ids_at}
-use Rattle.cyc_fire.specs.declared.fire.Fired.{Fired}
-use Rattle.cyc_fire.specs.declared.fire.FireRefused.{FireRefused}
+use Rattle.cyc_timers.specs.Acts.{ids_at}
+use Rattle.cyc_timers.specs.declared.fire.Fired.{Fired}
+use Rattle.cyc_timers.specs.declared.fire.FireRefused.{FireRefused}
 use Rattle.cyc_cpu.specs.Cpu.{CpuView, running}
 use Rattle.cyc_cpu.specs.Calls.{Does, Fire, no_interrupts}
 use Rattle.cyc_border.specs.Border.{Fires, stopped_at}

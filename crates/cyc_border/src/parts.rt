@@ -3,11 +3,11 @@
 ghost use Rattle.std.specs.Prelude.{ℕ, ◌<◌, List, [], ◌∷◌, ◌++◌, All, Option, None, Result, Ok};
 ghost use Rattle.std.specs.List.{FoldsTo};
 ghost use Rattle.cyc_types.specs.Series.{never};
-ghost use Rattle.cyc_expirations.specs.Timers.{IsSound, HasDistinctIds};
+ghost use Rattle.cyc_types.specs.Timers.{IsSound, HasDistinctIds};
 ghost use Rattle.cyc_timers.specs.Rows.{timers};
 ghost use Rattle.cyc_cpu.specs.Cpu.{CpuView};
-ghost use Rattle.cyc_fire.specs.declared.fire.Fired.{Fired};
-ghost use Rattle.cyc_fire.specs.declared.fire.FireRefused.{FireRefused};
+ghost use Rattle.cyc_timers.specs.declared.fire.Fired.{Fired};
+ghost use Rattle.cyc_timers.specs.declared.fire.FireRefused.{FireRefused};
 ghost use Rattle.cyc_border.specs.Border.{Fires};
 ghost use Rattle.cyc_border.specs.Parts.{IsPart, IsPaused, MakesPart, paused, IsOneFire};
 

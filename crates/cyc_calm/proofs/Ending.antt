@@ -11,12 +11,12 @@ use Rattle.cyc_types.specs.declared.Raise.{Ghosts as Raise}
 use Rattle.cyc_types.specs.Series.{never}
 use Rattle.cyc_types.specs.declared.refusal.Refusal.{Refusal}
 use Rattle.cyc_types.specs.declared.refusal.Refusal.TheVariants as why
-use Rattle.cyc_model.specs.Refusals.{first_refusal, busy}
-use Rattle.cyc_fire.specs.declared.fire.Fired.{Fired}
-use Rattle.cyc_fire.specs.declared.fire.FireRefused.{FireRefused}
+use Rattle.cyc_types.specs.Reasons.{first_refusal, busy}
+use Rattle.cyc_timers.specs.declared.fire.Fired.{Fired}
+use Rattle.cyc_timers.specs.declared.fire.FireRefused.{FireRefused}
 use Rattle.cyc_cpu.specs.Cpu.{CpuView, running}
 use Rattle.cyc_places.specs.Places.{HasNoRecord}
-use Rattle.cyc_thread_expected.proofs.Refusing.{not_when, passes}
+use Rattle.cyc_thread_expected.proofs.FirstReason.{not_when, passes}
 use Rattle.cyc_thread_expected.proofs.Spots.{none_some, get_some}
 use Rattle.cyc_thread_expected.specs.System.{SystemView, removal_on, is_unknown}
 use Rattle.cyc_thread_expected.specs.SystemRemoval.{SystemRemoval}

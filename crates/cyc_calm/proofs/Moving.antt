@@ -11,13 +11,13 @@ use Rattle.std.proofs.lemmas.Option.{slice_get-get_or}
 use Rattle.cyc_types.specs.declared.Raise.{Ghosts as Raise}
 use Rattle.cyc_types.specs.declared.refusal.Refusal.{Refusal}
 use Rattle.cyc_types.specs.declared.refusal.Refusal.TheVariants as why
-use Rattle.cyc_model.specs.Refusals.{first_refusal, bad_now}
+use Rattle.cyc_types.specs.Reasons.{first_refusal, bad_now}
 use Rattle.cyc_cpu.specs.Cpu.{CpuView}
 use Rattle.cyc_places.specs.declared.record.Record.{Record}
 use Rattle.cyc_places.specs.Places.{is_everywhere}
 use Rattle.cyc_cpus.specs.Cpus.{CpusView}
 use Rattle.cyc_thread_expected.proofs.Lists.{any_none, eq_true}
-use Rattle.cyc_thread_expected.proofs.Refusing.{not_when, is_when, passes, stops, not_le, le_true}
+use Rattle.cyc_thread_expected.proofs.FirstReason.{not_when, is_when, passes, stops, not_le, le_true}
 use Rattle.cyc_thread_expected.proofs.Spots.{none_some, same_some}
 use Rattle.cyc_thread_expected.specs.System.{SystemView, has as has_on, removal_on, is_online, is_leaving_here}
 use Rattle.cyc_thread_expected.specs.System.{is_leaving as is_leaving_id}

@@ -14,7 +14,7 @@ use Rattle.cyc_types.specs.declared.moment.When.{When}
 use Rattle.cyc_types.specs.declared.refusal.Refusal.{Refusal}
 use Rattle.cyc_types.specs.declared.refusal.Refusal.TheVariants as why
 use Rattle.cyc_thread_expected.specs.Rows.{Cyclic}
-use Rattle.cyc_model.specs.Refusals.{first_refusal, bad_now}
+use Rattle.cyc_types.specs.Reasons.{first_refusal, bad_now}
 use Rattle.cyc_cpu.specs.Cpu.{CpuView, HasRisingIds, running}
 use Rattle.cyc_cpu.specs.Moving.{IsSettled}
 use Rattle.cyc_cpu.specs.Calls.{Changes as CpuChanges, AskRoom, Reserve, no_interrupts}
@@ -26,7 +26,7 @@ use Rattle.cyc_cpus.specs.Cpus.{CpusView, IsCpu, on, ChangesAt, Works}
 use Rattle.cyc_cpus.specs.Reserving.{rooms}
 use Rattle.cyc_cpus.proofs.Spots.{one_cpu, cpu_there, cpu_beside}
 use Rattle.cyc_thread_expected.proofs.Presence.{has_here}
-use Rattle.cyc_thread_expected.proofs.Refusing.{passes, not_never, not_spent}
+use Rattle.cyc_thread_expected.proofs.FirstReason.{passes, not_never, not_spent}
 use Rattle.cyc_thread_expected.proofs.Spots.{none_some}
 use Rattle.cyc_thread_expected.specs.System.{SystemView}
 use Rattle.cyc_thread_expected.specs.Refusals.{ids_spent}

@@ -6,7 +6,7 @@ ghost use Rattle.cyc_command.specs.declared.fault.Fault.TheVariants as fault;
 
 use clap::error::ErrorKind;
 use cyc_input::InputFault;
-use cyc_script_machine::RunFault;
+use cyc_text::RunFault;
 use cyc_types::Refusal;
 use std::alloc::AllocError;
 use std::error::Error;

@@ -7,11 +7,11 @@ use Rattle.cyc_types.specs.Series.{never}
 use Rattle.cyc_soft.specs.declared.Ran.{Ran}
 use Rattle.cyc_soft.specs.declared.SoftRefused.{SoftRefused}
 use Rattle.cyc_types.specs.declared.level.Soft.{Soft}
-use Rattle.cyc_fire.specs.Timers.{earliest}
-use Rattle.cyc_fire.specs.Expirations.{Expiration, expirations}
-use Rattle.cyc_fire.specs.Rows.{timers}
-use Rattle.cyc_fire.specs.declared.fire.Fired.{Fired}
-use Rattle.cyc_fire.specs.declared.fire.FireRefused.{FireRefused}
+use Rattle.cyc_types.specs.Timers.{earliest}
+use Rattle.cyc_types.specs.Expirations.{Expiration, expirations}
+use Rattle.cyc_timers.specs.Rows.{timers}
+use Rattle.cyc_timers.specs.declared.fire.Fired.{Fired}
+use Rattle.cyc_timers.specs.declared.fire.FireRefused.{FireRefused}
 use Rattle.cyc_types.specs.Levels.{at_level}
 use Rattle.cyc_types.specs.declared.level.Level.{Level}
 use Rattle.cyc_types.specs.declared.level.Level.TheVariants.{High}

@@ -13,11 +13,11 @@ use Rattle.cyc_types.specs.Runs.{Goes}
 use Rattle.cyc_types.specs.declared.firing.Sent.{Sent}
 use Rattle.cyc_types.specs.declared.level.Level.{Level}
 use Rattle.cyc_types.specs.declared.level.Level.TheVariants as level
-use Rattle.cyc_fire.specs.Rows.{Row, IsRow, IsRising}
-use Rattle.cyc_fire.specs.Acts.{same_level}
-use Rattle.cyc_fire.specs.Ends.{HasRow, IsEnd}
+use Rattle.cyc_timers.specs.Rows.{Row, IsRow, IsRising}
+use Rattle.cyc_timers.specs.Acts.{same_level}
+use Rattle.cyc_timers.specs.Ends.{HasRow, IsEnd}
 use Rattle.cyc_cpu.specs.Removal.{calls_at}
-use Rattle.cyc_fire.proofs.Readying.{ids_apart}
+use Rattle.cyc_timers.proofs.Readying.{ids_apart}
 
 -- a row after one was taken out
 pub row_less : (rows : List Row) (k j : ℕ) (x : Row) → k < length rows → IsRow (remove rows k) j x → (i : ℕ) × (i ≢ k)

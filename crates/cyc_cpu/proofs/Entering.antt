@@ -13,12 +13,12 @@ use Rattle.cyc_types.specs.Firing.{FiringView, Admits, Expands, Learns, Sound, S
 use Rattle.cyc_types.specs.Runs.{Goes}
 use Rattle.cyc_types.specs.declared.level.Level.{Level}
 use Rattle.cyc_types.specs.declared.level.Level.TheVariants as level
-use Rattle.cyc_fire.specs.Rows.{Row, IsRow, HasNo, cyclic_of}
+use Rattle.cyc_timers.specs.Rows.{Row, IsRow, HasNo, cyclic_of}
 use Rattle.cyc_cpu.specs.Cpu.{HasCounts}
-use Rattle.cyc_fire.specs.Acts.{same_level}
-use Rattle.cyc_fire.specs.Ends.{HasStay, HasRow, IsEnd, IsCounted, IsHard}
-use Rattle.cyc_fire.specs.Quiet.{admits_at}
-use Rattle.cyc_fire.proofs.Readying.{some_same}
+use Rattle.cyc_timers.specs.Acts.{same_level}
+use Rattle.cyc_timers.specs.Ends.{HasStay, HasRow, IsEnd, IsCounted, IsHard}
+use Rattle.cyc_timers.specs.Quiet.{admits_at}
+use Rattle.cyc_timers.proofs.Readying.{some_same}
 
 -- a row after one was put in
 pub row_in : (rows : List Row) (q k : ℕ) (u x : Row) → q ≤ length rows → IsRow (insert rows q u) k x → (x ≡ u)

@@ -31,13 +31,13 @@ use Rattle.cyc_core.specs.Event.TheVariants.{Clear}
 use Rattle.cyc_core.specs.Reached.{Happens}
 use Rattle.cyc_core.specs.Tables.{Tables, level_of}
 use Rattle.cyc_core.specs.FiringSide.{stay_of}
-use Rattle.cyc_fire.specs.Expirations.{Expiration, all_after, expirations, times_of}
-use Rattle.cyc_fire.specs.Timers.{Timer}
-use Rattle.cyc_fire.specs.Rows.{Cyclic, timers}
+use Rattle.cyc_types.specs.Expirations.{Expiration, all_after, expirations, times_of}
+use Rattle.cyc_types.specs.Timers.{Timer}
+use Rattle.cyc_timers.specs.Rows.{Cyclic, timers}
 use Rattle.cyc_cpu.specs.declared.removing.Removal.TheVariants.{Done, Kept}
-use Rattle.cyc_fire.specs.Acts.{AreRaises, is_of, timer_of}
-use Rattle.cyc_fire.specs.Shares.{share}
-use Rattle.cyc_fire.specs.Quiet.{OnlyLooks, LoadsThenLooks}
+use Rattle.cyc_timers.specs.Acts.{AreRaises, is_of, timer_of}
+use Rattle.cyc_timers.specs.Shares.{share}
+use Rattle.cyc_timers.specs.Quiet.{OnlyLooks, LoadsThenLooks}
 use Rattle.cyc_cpu.specs.Cpu.{CpuView, Running, sides, Makes, Asks, Looked, Reserves, Widens, Places, IsCyclic, HasNoCyclic}
 use Rattle.cyc_cpu.specs.Cpu.{AreAdmitted, HasRisingIds, with_moment}
 use Rattle.cyc_cpu.specs.Removal.{calls_at, EndGoes, Leaves}
@@ -48,8 +48,8 @@ use Rattle.cyc_cpu.specs.Calls.{Widen, BeginRemove, PollRemove, TakeNow, AskSett
 use Rattle.cyc_cpu.specs.Gone.{IsAbsent, IsGone, HasLeft, PutsNot, StaysGone}
 use Rattle.cyc_cpu.proofs.Gone.{off_of, absent_of, AreSpared, off_goes, none_served}
 use Rattle.cyc_cpu.proofs.Cleared.{goes_here, goes_not, level_cases}
-use Rattle.cyc_fire.proofs.Making.{same_id, length-all}
-use Rattle.cyc_fire.proofs.Sharing.{ids_add_up}
+use Rattle.cyc_timers.proofs.Making.{same_id, length-all}
+use Rattle.cyc_timers.proofs.Sharing.{ids_add_up}
 
 -- what an end of this CPU has
 abbrev ends_absent : (id : ℕ) (a b : Tables) (way : List FiringCall) → Type 0

@@ -6,7 +6,7 @@ use Rattle.cyc_types.specs.Firing.{FiringView, Loads, Looks, Learns, Stay, MayAs
 use Rattle.cyc_types.specs.Runs.{Goes}
 use Rattle.cyc_types.specs.declared.level.Level.{Level}
 use Rattle.cyc_types.specs.declared.level.Level.TheVariants as level
-use Rattle.cyc_fire.specs.Rows.{Row, IsRow, IsRising, vacant_row}
+use Rattle.cyc_timers.specs.Rows.{Row, IsRow, IsRising, vacant_row}
 use Rattle.std.specs.Prelude.{is_some, ◌⊎◌}
 use Rattle.std.specs.Bool.{OnTrue, OnFalse}
 use Rattle.cyc_cpu.specs.Cpu.{CpuView}
@@ -15,9 +15,9 @@ use Rattle.cyc_cpu.specs.Moving.{IsSettled, Inquires}
 use Rattle.cyc_types.proofs.Runs.{goes_on}
 use Rattle.std.proofs.lemmas.List.{map-append, get_or_default}
 use Rattle.std.proofs.lemmas.Bool.Decides.{nat_tests}
-use Rattle.cyc_fire.specs.Ends.{IsEnd}
-use Rattle.cyc_fire.specs.Quiet.{KeepsStays, OnlyLoads, OnlyLooks, asks_at}
-use Rattle.cyc_fire.proofs.Readying.{loads_keep, looks_keep, keeps_itself}
+use Rattle.cyc_timers.specs.Ends.{IsEnd}
+use Rattle.cyc_timers.specs.Quiet.{KeepsStays, OnlyLoads, OnlyLooks, asks_at}
+use Rattle.cyc_timers.proofs.Readying.{loads_keep, looks_keep, keeps_itself}
 use Rattle.cyc_cpu.proofs.Softs.{keeps_on}
 use Rattle.cyc_cpu.proofs.Cleared.{goes_here, goes_not, level_cases, one_row}
 

@@ -8,13 +8,13 @@ use Rattle.cyc_types.specs.Firing.{FiringView}
 use Rattle.cyc_types.specs.declared.level.Level.{Level}
 use Rattle.cyc_types.specs.declared.level.Level.TheVariants as level
 use Rattle.cyc_types.specs.Series.{never, due}
-use Rattle.cyc_fire.specs.Expirations.{expirations, times_of}
-use Rattle.cyc_fire.specs.Timers.{Timer, HasDistinctIds}
-use Rattle.cyc_fire.proofs.Dues.{due_later}
-use Rattle.cyc_fire.proofs.Laws.{times_expirations}
-use Rattle.cyc_fire.specs.Rows.{Row, Cyclic, IsRow, IsRising, no_counts, timers, cyclic_of, cyclics_of}
+use Rattle.cyc_types.specs.Expirations.{expirations, times_of}
+use Rattle.cyc_types.specs.Timers.{Timer, HasDistinctIds}
+use Rattle.cyc_types.proofs.Dues.{due_later}
+use Rattle.cyc_types.proofs.Laws.{times_expirations}
+use Rattle.cyc_timers.specs.Rows.{Row, Cyclic, IsRow, IsRising, no_counts, timers, cyclic_of, cyclics_of}
 use Rattle.cyc_cpu.specs.Cpu.{HasCounts, HasRisingIds, IsRemoved}
-use Rattle.cyc_fire.specs.Ends.{IsEnd, IsHard}
+use Rattle.cyc_timers.specs.Ends.{IsEnd, IsHard}
 use Rattle.cyc_cpu.specs.Losses.{IsUnder, IsSpared}
 use Rattle.cyc_cpu.specs.Laws.{IsLawful}
 use Rattle.cyc_cpu.proofs.Cyclics.{admitted_cyclics, rising_cyclics, counted_cyclics, removed_cyclic}

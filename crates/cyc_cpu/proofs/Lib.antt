@@ -11,4 +11,4 @@ pub mod Off
 pub mod Lawful
 pub mod Calling
 pub mod Sizes
-pub use Rattle.cyc_fire.proofs.Sharing
+pub use Rattle.cyc_timers.proofs.Sharing

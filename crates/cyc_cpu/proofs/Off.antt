@@ -7,7 +7,7 @@ use Rattle.cyc_types.specs.Runs.{Goes}
 use Rattle.cyc_types.specs.declared.firing.Sent.{Sent}
 use Rattle.cyc_types.specs.declared.level.Level.{Level}
 use Rattle.cyc_types.specs.declared.level.Level.TheVariants as level
-use Rattle.cyc_fire.specs.Rows.{Cyclic}
+use Rattle.cyc_timers.specs.Rows.{Cyclic}
 use Rattle.cyc_cpu.specs.Cpu.{CpuView, AreAdmitted, HasNoCyclic}
 use Rattle.cyc_cpu.specs.Removal.{calls_at, Leaves}
 use Rattle.cyc_cpu.specs.Laws.{IsLawful}

@@ -12,15 +12,15 @@ use Rattle.cyc_types.specs.Runs.{Goes}
 use Rattle.cyc_types.specs.declared.firing.Sent.{Sent}
 use Rattle.cyc_types.specs.declared.level.Level.{Level}
 use Rattle.cyc_types.specs.declared.level.Level.TheVariants as level
-use Rattle.cyc_fire.specs.Rows.{Row, Cyclic, IsRow, IsRising, at_moment, cyclic_of, cyclics_of}
-use Rattle.cyc_fire.specs.Acts.{same_level}
-use Rattle.cyc_fire.specs.Ends.{HasRow, IsEnd, IsCounted, IsHard}
-use Rattle.cyc_fire.specs.Quiet.{KeepsStays}
+use Rattle.cyc_timers.specs.Rows.{Row, Cyclic, IsRow, IsRising, at_moment, cyclic_of, cyclics_of}
+use Rattle.cyc_timers.specs.Acts.{same_level}
+use Rattle.cyc_timers.specs.Ends.{HasRow, IsEnd, IsCounted, IsHard}
+use Rattle.cyc_timers.specs.Quiet.{KeepsStays}
 use Rattle.cyc_cpu.specs.Cpu.{CpuView, HasCounts}
 use Rattle.cyc_cpu.specs.Removal.{calls_at, HasPolled, Opens, Leaves, Waits, Ends, IsReceipt}
 use Rattle.cyc_types.specs.declared.receipt.Receipt.{Receipt}
-use Rattle.cyc_fire.proofs.Readying.{Keeps, row_cases, row_new, ids_apart, end_moved, counted_moved, end_kept, loads_keep}
-use Rattle.cyc_fire.proofs.Readying.{keeps_itself}
+use Rattle.cyc_timers.proofs.Readying.{Keeps, row_cases, row_new, ids_apart, end_moved, counted_moved, end_kept, loads_keep}
+use Rattle.cyc_timers.proofs.Readying.{keeps_itself}
 use Rattle.cyc_cpu.proofs.Cleared.{row_less, one_row, Clears, sees_load, sees_mark, clears_poll, clears_after}
 use Rattle.cyc_cpu.proofs.Cleared.{end_left, end_off, level_cases, goes_here, goes_not}
 

@@ -13,9 +13,9 @@ use Rattle.cyc_core.specs.Reached.{Happens}
 use Rattle.cyc_core.specs.Tables.{Tables, level_of}
 use Rattle.cyc_core.specs.FiringSide.{stay_of, firing_view}
 use Rattle.cyc_core.specs.DrainingSide.{take_events, Drains}
-use Rattle.cyc_fire.specs.Quiet.{KeepsStays}
+use Rattle.cyc_timers.specs.Quiet.{KeepsStays}
 use Rattle.cyc_cpu.specs.Soft.{drain_tables, firing_at}
-use Rattle.cyc_fire.proofs.Readying.{keeps_itself}
+use Rattle.cyc_timers.proofs.Readying.{keeps_itself}
 
 pub keeps_on : (u v w : FiringView) → KeepsStays u v → KeepsStays v w → KeepsStays u w
 keeps_on u v w a b = record {

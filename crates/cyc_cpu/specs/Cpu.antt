@@ -10,10 +10,10 @@ use Rattle.cyc_types.specs.declared.level.Level.{Level}
 use Rattle.cyc_types.specs.declared.level.Level.TheVariants.{Low, Lock, High}
 use Rattle.cyc_types.specs.declared.refusal.Refusal.{Refusal}
 use Rattle.cyc_types.specs.declared.refusal.Refusal.TheVariants as why
-use Rattle.cyc_fire.specs.Rows.{Cyclic}
-use Rattle.cyc_fire.specs.Quiet.{asks_at, admits_at, OnlyLooks}
-use Rattle.cyc_fire.specs.Acts.{Sides}
-pub use Rattle.cyc_fire.specs.Made.{Makes, WhyStopped, HasCounts}
+use Rattle.cyc_timers.specs.Rows.{Cyclic}
+use Rattle.cyc_timers.specs.Quiet.{asks_at, admits_at, OnlyLooks}
+use Rattle.cyc_timers.specs.Acts.{Sides}
+pub use Rattle.cyc_timers.specs.Made.{Makes, WhyStopped, HasCounts}
 
 -- the firing side of one CPU
 pub record CpuView (R : Type 0) : Type 0 where

@@ -4,9 +4,9 @@ use Rattle.cyc_types.specs.Limits.{cyclics as most_cyclics}
 use Rattle.cyc_types.specs.Series.{never}
 use Rattle.cyc_types.specs.Firing.{FiringView, Sound}
 use Rattle.cyc_types.specs.declared.level.Level.TheVariants.{Low, Lock}
-use Rattle.cyc_fire.specs.Expirations.{expirations, times_of}
-use Rattle.cyc_fire.specs.Timers.{HasDistinctIds}
-use Rattle.cyc_fire.specs.Rows.{timers}
+use Rattle.cyc_types.specs.Expirations.{expirations, times_of}
+use Rattle.cyc_types.specs.Timers.{HasDistinctIds}
+use Rattle.cyc_timers.specs.Rows.{timers}
 use Rattle.cyc_cpu.specs.Cpu.{CpuView, AreAdmitted, HasCounts, HasRisingIds, IsRemoved}
 use Rattle.cyc_cpu.specs.Losses.{IsSpared}
 

@@ -5,10 +5,10 @@ use Rattle.cyc_types.specs.Firing.{FiringView, Loads, Marks, Polls}
 use Rattle.cyc_types.specs.declared.firing.Sent.{Sent}
 use Rattle.cyc_types.specs.declared.refusal.Refusal.{Refusal}
 use Rattle.cyc_types.specs.declared.refusal.Refusal.TheVariants as why
-use Rattle.cyc_fire.specs.Rows.{Cyclic}
+use Rattle.cyc_timers.specs.Rows.{Cyclic}
 use Rattle.cyc_cpu.specs.declared.moving.Taken.{Taken}
 use Rattle.cyc_cpu.specs.Cpu.{CpuView, seen_at, HasNoCyclic, Asks, HasFollowed, SameCpu}
-use Rattle.cyc_fire.specs.Quiet.{LoadsThenLooks}
+use Rattle.cyc_timers.specs.Quiet.{LoadsThenLooks}
 use Rattle.cyc_cpu.specs.Removal.{Leaves, HasCyclic, HasPolled}
 
 -- what was taken is all that the CPU has of this cyclic

@@ -2,7 +2,7 @@
 
 ghost use Rattle.std.specs.Prelude.{◌≡◌, ◌<◌, length};
 ghost use Rattle.std.specs.Bool.{OnTrue, OnFalse};
-ghost use Rattle.cyc_fire.specs.Rows.{Cyclic};
+ghost use Rattle.cyc_timers.specs.Rows.{Cyclic};
 
 use crate::hard::Hard;
 use cyc_types::{CyclicId, Raise};

@@ -7,7 +7,7 @@ ghost use Rattle.cyc_types.specs.Limits.{cyclics, greatest_bank};
 ghost use Rattle.cyc_types.specs.Runs.{Goes};
 ghost use Rattle.cyc_types.specs.declared.level.Level.TheVariants.{Low, Lock, High};
 ghost use Rattle.cyc_cpu.specs.Cpu.{bank_for};
-ghost use Rattle.cyc_fire.specs.Quiet.{asks_at, admits_at, Looks1};
+ghost use Rattle.cyc_timers.specs.Quiet.{asks_at, admits_at, Looks1};
 
 use cyc_types::{CyclicId, Index, Level, Raise};
 

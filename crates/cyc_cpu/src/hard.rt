@@ -7,9 +7,9 @@ ghost use Rattle.cyc_types.specs.Limits.{cyclics};
 ghost use Rattle.cyc_types.specs.declared.level.Level.TheVariants.{Low, Lock};
 ghost use Rattle.cyc_types.specs.Series.{never, first};
 ghost use Rattle.cyc_types.specs.declared.refusal.Refusal.TheVariants.{Memory, BadNow, NoCyclic};
-ghost use Rattle.cyc_fire.specs.Timers.{earliest, IsSound};
-ghost use Rattle.cyc_fire.specs.Expirations.{Expiration, expirations};
-ghost use Rattle.cyc_fire.specs.Rows.{Cyclic, timers};
+ghost use Rattle.cyc_types.specs.Timers.{earliest, IsSound};
+ghost use Rattle.cyc_types.specs.Expirations.{Expiration, expirations};
+ghost use Rattle.cyc_timers.specs.Rows.{Cyclic, timers};
 ghost use Rattle.cyc_cpu.specs.Laws.{IsLawful};
 ghost use Rattle.cyc_cpu.specs.Losses.{IsSparedAt};
 ghost use Rattle.cyc_cpu.specs.Cpu.{running, seen_at, IsFresh, HasNoCyclic, Asks, MayWiden, Places, new_cyclic};
@@ -17,7 +17,7 @@ ghost use Rattle.cyc_cpu.specs.Calls.{Changes, Does, no_interrupts, Fire, Add, R
 ghost use Rattle.cyc_cpu.specs.Calls.{Reserve, Widen};
 
 use crate::ends::{both_followed, least_bank, load_pend, places_of};
-use cyc_fire::{FireRefused, Fired, Record, Table, fire_all};
+use cyc_timers::{FireRefused, Fired, Record, Table, fire_all};
 use cyc_types::{CYCLICS, Calls, CyclicId, Interval, Level, Moment, Raise, Refusal, Sent, When};
 use std::alloc::Global;
 use std::marker::Model;
@@ -44,9 +44,9 @@ pub struct Hard<R: Raise> {
 }
 
 impl<R: Raise> Model for Hard<R> {
-    ghost use Rattle.cyc_fire.specs.Rows.{cyclics_of};
+    ghost use Rattle.cyc_timers.specs.Rows.{cyclics_of};
     ghost use Rattle.cyc_cpu.specs.Cpu.{CpuView};
-    ghost use Rattle.cyc_fire.specs.Ends.{IsHard};
+    ghost use Rattle.cyc_timers.specs.Ends.{IsHard};
 
     ghost Value = { CpuView R };
 

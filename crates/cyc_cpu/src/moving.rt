@@ -7,7 +7,7 @@ ghost use Rattle.cyc_types.specs.Series.{never};
 use crate::ends::admit_at;
 use crate::hard::Hard;
 use crate::leaving::take_at;
-use cyc_fire::Record;
+use cyc_timers::Record;
 use cyc_types::{CyclicId, Interval, Level, Moment, Raise, Refusal, Sent};
 
 /// All that a CPU has of a cyclic, as it goes to another CPU.

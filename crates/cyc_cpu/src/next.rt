@@ -1,8 +1,8 @@
 //! When the CPU's timer is to interrupt.
 
 ghost use Rattle.std.specs.Prelude.{◌≡◌};
-ghost use Rattle.cyc_fire.specs.Timers.{earliest};
-ghost use Rattle.cyc_fire.specs.Rows.{timers};
+ghost use Rattle.cyc_types.specs.Timers.{earliest};
+ghost use Rattle.cyc_timers.specs.Rows.{timers};
 
 use crate::hard::Hard;
 use cyc_types::{Moment, Raise};

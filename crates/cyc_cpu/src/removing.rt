@@ -7,7 +7,7 @@ ghost use Rattle.cyc_cpu.specs.Gone.{HasLeft, IsOff};
 
 use crate::hard::Hard;
 use crate::leaving::{poll_at, remove_at};
-use cyc_fire::Record;
+use cyc_timers::Record;
 use cyc_types::{CyclicId, Moment, Raise, Receipt, Refusal};
 
 /// What the beginning of a removal found.

@@ -4,13 +4,13 @@ ghost use Rattle.std.specs.Prelude.{◌≡◌, ℕ, ◌+◌, ◌<◌};
 ghost use Rattle.std.specs.Bool.{OnTrue, OnFalse};
 ghost use Rattle.cyc_types.specs.Firing.{MayAsk, Sound, seen_of};
 ghost use Rattle.cyc_types.specs.declared.level.Level.TheVariants.{Low, Lock};
-ghost use Rattle.cyc_fire.specs.Rows.{Row, IsRow};
-ghost use Rattle.cyc_fire.specs.Quiet.{OnlyLoads};
+ghost use Rattle.cyc_timers.specs.Rows.{Row, IsRow};
+ghost use Rattle.cyc_timers.specs.Quiet.{OnlyLoads};
 ghost use Rattle.cyc_cpu.specs.Calls.{Changes, AskSettled};
 
 use crate::ends::{both_followed, load_pend};
 use crate::hard::Hard;
-use cyc_fire::Table;
+use cyc_timers::Table;
 use cyc_types::Raise;
 
 /// Whether the load of each cyclic's pend finds no call outstanding. It stops at the first that finds one.

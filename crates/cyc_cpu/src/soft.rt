@@ -4,7 +4,7 @@ ghost use Rattle.std.specs.Prelude.{IfOk, IsTrue};
 ghost use Rattle.cyc_types.specs.Levels.{as_level, handler_at};
 ghost use Rattle.cyc_types.specs.Firing.{Sound};
 ghost use Rattle.cyc_soft.specs.Serving.{IsSoftint, soft_side};
-ghost use Rattle.cyc_fire.specs.Quiet.{KeepsStays};
+ghost use Rattle.cyc_timers.specs.Quiet.{KeepsStays};
 ghost use Rattle.cyc_cpu.specs.Cpu.{running};
 ghost use Rattle.cyc_cpu.specs.Calls.{Does, SoftInterrupt};
 ghost use Rattle.cyc_cpu.specs.Soft.{end_at, raise_tables, drain_tables, firing_at, HasEmptyLists, Interrupts};

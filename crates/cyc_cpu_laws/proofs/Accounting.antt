@@ -11,8 +11,8 @@ use Rattle.cyc_types.specs.Runs.{raised_by, lost_by}
 use Rattle.cyc_types.specs.Levels.{at_level}
 use Rattle.cyc_types.specs.declared.level.Level.{Level}
 use Rattle.cyc_types.specs.declared.level.Level.TheVariants.{Low, Lock, High}
-use Rattle.cyc_cpu.specs.Expirations.{Expiration, expirations, times_of}
-use Rattle.cyc_cpu.specs.Timers.{Timer, HasDistinctIds}
+use Rattle.cyc_types.specs.Expirations.{Expiration, expirations, times_of}
+use Rattle.cyc_types.specs.Timers.{Timer, HasDistinctIds}
 use Rattle.cyc_cpu.specs.Rows.{no_counts, timers}
 use Rattle.cyc_cpu.specs.FireRefused.{FireRefused}
 use Rattle.cyc_cpu.specs.Acts.{is_of, timer_of}

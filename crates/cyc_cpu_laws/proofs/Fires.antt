@@ -8,8 +8,8 @@ use Rattle.cyc_types.specs.Runs.{lost_by, raised_by}
 use Rattle.cyc_types.specs.declared.level.Level.{Level}
 use Rattle.cyc_types.specs.declared.level.Level.TheVariants.{Low, Lock, High}
 use Rattle.cyc_types.proofs.Runs.{lost_few}
-use Rattle.cyc_cpu.specs.Timers.{Timer, HasDistinctIds}
-use Rattle.cyc_cpu.specs.Expirations.{Expiration, times_of, after, all_after}
+use Rattle.cyc_types.specs.Timers.{Timer, HasDistinctIds}
+use Rattle.cyc_types.specs.Expirations.{Expiration, times_of, after, all_after}
 use Rattle.cyc_cpu.specs.Rows.{Cyclic, timers}
 use Rattle.cyc_cpu.specs.Acts.{timer_of, is_of, same_level, lost_after}
 use Rattle.cyc_cpu.specs.Cpu.{HasNoCyclic}

@@ -16,8 +16,6 @@ pub use Rattle.cyc_cpu.specs.Losses
 pub use Rattle.cyc_cpu.specs.Acts
 pub use Rattle.cyc_cpu.specs.Made
 pub use Rattle.cyc_cpu.specs.Quiet
-pub use Rattle.cyc_cpu.specs.Expirations
-pub use Rattle.cyc_cpu.specs.Timers
 pub use Rattle.cyc_cpu.specs.Moving
 pub use Rattle.cyc_cpu.specs.declared.moving.Taken
 pub use Rattle.cyc_cpu.specs.declared.removing.Removal as CpuRemoval

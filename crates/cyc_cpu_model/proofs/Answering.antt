@@ -15,10 +15,10 @@ use Rattle.cyc_types.specs.declared.receipt.Receipt.{Receipt}
 use Rattle.cyc_types.specs.declared.refusal.Refusal.{Refusal}
 use Rattle.cyc_types.specs.declared.refusal.Refusal.TheVariants.{Memory, BadNow, Full, Expanding, Busy, NoCyclic, Pending}
 use Rattle.cyc_level.specs.Level.{SoftLevel, count}
-use Rattle.cyc_expirations.specs.Expirations.{expirations}
+use Rattle.cyc_types.specs.Expirations.{expirations}
 use Rattle.cyc_core.specs.Tables.{Tables, level_of}
 use Rattle.cyc_timers.specs.Rows.{Cyclic as Timed}
-use Rattle.cyc_fire.specs.Acts.{same_level}
+use Rattle.cyc_timers.specs.Acts.{same_level}
 use Rattle.cyc_cpu.specs.declared.removing.Removal.TheVariants.{Done, Kept}
 use Rattle.cyc_cpu.specs.Cpu.{CpuView, Running, IsCyclic, Asks, Looked, HasRoom, WhyNoRoom, WhyNotReserved, Reserves}
 use Rattle.cyc_cpu.specs.Removal.{HasCyclic, WhyNotBegun, IsReceipt, Waits}
@@ -29,7 +29,7 @@ use Rattle.cyc_cpu.specs.Calls.{CpuCall, Fire, SoftInterrupt, Add, Place, Reprog
 use Rattle.cyc_cpu.specs.Calls.{Widen, BeginRemove, PollRemove, TakeNow, AskSettled, Changes, Does}
 use Rattle.cyc_model.specs.Cpu.{has_cyclic}
 use Rattle.cyc_model.specs.Questions.{outstanding_here}
-use Rattle.cyc_model.specs.Refusals.{first_refusal, or_else, only_if, when, busy, bad_now}
+use Rattle.cyc_types.specs.Reasons.{first_refusal, or_else, only_if, when, busy, bad_now}
 use Rattle.cyc_cpu_model.specs.Shown.{shown, shown_cpu}
 use Rattle.cyc_cpu_model.specs.Here.{IsStopped, IsInTime}
 use Rattle.cyc_cpu_model.specs.Answers.{IsAnswered, IsRefused, IsReceiptOf, why_no_room, why_not_begun, why_not_taken}

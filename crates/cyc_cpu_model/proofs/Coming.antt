@@ -10,7 +10,7 @@ use Rattle.cyc_types.specs.declared.moment.When.{When}
 use Rattle.cyc_level.specs.declared.Event.TheVariants.{Admit, Switch}
 use Rattle.cyc_core.specs.Tables.{Tables, level_of}
 use Rattle.cyc_timers.specs.Rows.{Cyclic as Timed}
-use Rattle.cyc_fire.specs.Acts.{same_level}
+use Rattle.cyc_timers.specs.Acts.{same_level}
 use Rattle.cyc_cpu.specs.Cpu.{CpuView, HasRisingIds, Looked, Reserves, Widens, Places, size_for, bank_for, least_bank}
 use Rattle.cyc_cpu.specs.Calls.{Adds}
 use Rattle.cyc_cpu.specs.Soft.{raise_tables}

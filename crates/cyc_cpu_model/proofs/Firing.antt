@@ -14,13 +14,13 @@ use Rattle.cyc_types.specs.declared.level.Soft.{Soft}
 use Rattle.cyc_types.specs.declared.level.Soft.TheVariants as soft
 use Rattle.cyc_level.specs.declared.Event.{Event}
 use Rattle.cyc_level.specs.Events.{after as event_after}
-use Rattle.cyc_expirations.specs.Expirations.{Expiration, expirations, times_of, after, all_after}
-use Rattle.cyc_expirations.specs.Timers.{Timer}
-use Rattle.cyc_expirations.proofs.Laws.{times_others}
+use Rattle.cyc_types.specs.Expirations.{Expiration, expirations, times_of, after, all_after}
+use Rattle.cyc_types.specs.Timers.{Timer}
+use Rattle.cyc_types.proofs.Laws.{times_others}
 use Rattle.cyc_core.specs.Tables.{Tables, level_of}
 use Rattle.cyc_timers.specs.Rows.{Cyclic as Timed, timers as timed}
-use Rattle.cyc_fire.specs.Acts.{ids_at, is_at, is_of as is_of_level, timer_of, same_level, lost_after}
-use Rattle.cyc_fire.specs.Made.{Makes}
+use Rattle.cyc_timers.specs.Acts.{ids_at, is_at, is_of as is_of_level, timer_of, same_level, lost_after}
+use Rattle.cyc_timers.specs.Made.{Makes}
 use Rattle.cyc_cpu.specs.Cpu.{CpuView, SameCpu}
 use Rattle.cyc_cpu.specs.Soft.{raise_tables}
 use Rattle.cyc_model.specs.Acts.{Act, At, Call, call_of, calls_of, losses_of, losses_in}

@@ -13,10 +13,10 @@ use Rattle.cyc_level.specs.declared.Event.{Event}
 use Rattle.cyc_level.specs.declared.Event.TheVariants.{Admit, Expire, Lose, Publish, Take, Finish, Mark, Clear, Switch, Follow}
 use Rattle.cyc_level.specs.Level.{SoftLevel, count}
 use Rattle.cyc_level.specs.Events.{Enabled, after}
-use Rattle.cyc_expirations.specs.Expirations.{Expiration}
+use Rattle.cyc_types.specs.Expirations.{Expiration}
 use Rattle.cyc_core.specs.Tables.{Tables, level_of}
 use Rattle.cyc_timers.specs.Rows.{Cyclic as Timed}
-use Rattle.cyc_fire.specs.Acts.{same_level}
+use Rattle.cyc_timers.specs.Acts.{same_level}
 use Rattle.cyc_cpu.specs.Cpu.{CpuView, Places}
 use Rattle.cyc_cpu.specs.Calls.{Adds}
 use Rattle.cyc_cpu.specs.Soft.{raise_tables}

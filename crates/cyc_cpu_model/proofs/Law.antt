@@ -11,8 +11,8 @@ use Rattle.cyc_types.specs.declared.refusal.Refusal.TheVariants.{BadNow, NoCycli
 use Rattle.cyc_types.specs.Levels.{as_level}
 use Rattle.cyc_level.specs.declared.Event.TheVariants.{Admit, Mark, Clear}
 use Rattle.cyc_core.specs.Tables.{Tables, level_of}
-use Rattle.cyc_fire.specs.Acts.{same_level}
-use Rattle.cyc_fire.specs.Quiet.{LoadsThenLooks}
+use Rattle.cyc_timers.specs.Acts.{same_level}
+use Rattle.cyc_timers.specs.Quiet.{LoadsThenLooks}
 use Rattle.cyc_cpu.specs.declared.removing.Removal.TheVariants.{Done, Kept}
 use Rattle.cyc_cpu.specs.Cpu.{CpuView, Running, HasRisingIds, Asks}
 use Rattle.cyc_cpu.specs.Removal.{Waits}

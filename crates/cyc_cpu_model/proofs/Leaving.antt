@@ -11,7 +11,7 @@ use Rattle.cyc_types.specs.declared.level.Level.TheVariants.{Low, Lock, High}
 use Rattle.cyc_level.specs.declared.Event.TheVariants.{Mark, Clear}
 use Rattle.cyc_core.specs.Tables.{Tables}
 use Rattle.cyc_timers.specs.Rows.{Cyclic as Timed}
-use Rattle.cyc_fire.specs.Acts.{same_level}
+use Rattle.cyc_timers.specs.Acts.{same_level}
 use Rattle.cyc_cpu.specs.Cpu.{CpuView, HasRisingIds, IsCyclic, with_moment as timed_with}
 use Rattle.cyc_cpu.specs.Removal.{Leaves, Opens}
 use Rattle.cyc_cpu.specs.Soft.{raise_tables}

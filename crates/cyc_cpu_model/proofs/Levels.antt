@@ -10,8 +10,8 @@ use Rattle.cyc_level.specs.declared.Event.TheVariants.{Admit, Mark, Clear, Switc
 use Rattle.cyc_level.specs.Level.{SoftLevel}
 use Rattle.cyc_level.specs.Events.{after}
 use Rattle.cyc_core.specs.Tables.{Tables, level_of}
-use Rattle.cyc_fire.specs.Acts.{same_level}
-use Rattle.cyc_fire.specs.Quiet.{OnlyLooks}
+use Rattle.cyc_timers.specs.Acts.{same_level}
+use Rattle.cyc_timers.specs.Quiet.{OnlyLooks}
 use Rattle.cyc_cpu.specs.Soft.{raise_tables}
 use Rattle.cyc_model.specs.Acts.{at_own, calls_of}
 use Rattle.cyc_model.specs.Cpu.{Cpu, happen}

@@ -16,7 +16,7 @@ use Rattle.cyc_level.proofs.Maps.{some_and, not_none}
 use Rattle.cyc_core.specs.Reached.{Happens}
 use Rattle.cyc_core.specs.FiringSide.{Fires, raise_events}
 use Rattle.cyc_core.specs.Tables.{Tables, level_of}
-use Rattle.cyc_fire.specs.Acts.{AreRaises, loss_in, way_losses as losses_in_way}
+use Rattle.cyc_timers.specs.Acts.{AreRaises, loss_in, way_losses as losses_in_way}
 use Rattle.cyc_cpu.specs.Soft.{raise_tables, fires}
 use Rattle.cyc_model.specs.Acts.{loss_of, is_loss}
 use Rattle.cyc_model.specs.Firing.{raised}

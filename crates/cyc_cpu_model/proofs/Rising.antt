@@ -2,8 +2,8 @@
 use Rattle.std.proofs.Common.{◌≡◌, ℕ, zero, suc, ◌<◌, List, [], ◌∷◌, length, map, get_or, refl, ap, sym, ◌∙◌, arith}
 use Rattle.std.specs.Prelude.{remove, slice_set}
 use Rattle.std.proofs.lemmas.List.{length-map, get_or-map}
-use Rattle.cyc_expirations.specs.Expirations.{Expiration, after, all_after}
-use Rattle.cyc_expirations.specs.Timers.{Timer}
+use Rattle.cyc_types.specs.Expirations.{Expiration, after, all_after}
+use Rattle.cyc_types.specs.Timers.{Timer}
 use Rattle.cyc_timers.specs.Rows.{Cyclic, timers}
 use Rattle.cyc_cpu.specs.Cpu.{HasRisingIds, IsCyclic, with_moment}
 

@@ -16,9 +16,9 @@ use Rattle.cyc_level.specs.Level.{SoftLevel}
 use Rattle.cyc_core.specs.Tables.{Tables, level_of}
 use Rattle.cyc_core.specs.DrainingSide.{Drains, take_events}
 use Rattle.cyc_core.specs.Reached.{Happens}
-use Rattle.cyc_expirations.specs.Expirations.{Expiration, expirations}
+use Rattle.cyc_types.specs.Expirations.{Expiration, expirations}
 use Rattle.cyc_timers.specs.Rows.{timers as timed}
-use Rattle.cyc_fire.specs.declared.fire.FireRefused.{FireRefused}
+use Rattle.cyc_timers.specs.declared.fire.FireRefused.{FireRefused}
 use Rattle.cyc_soft.specs.declared.SoftRefused.{SoftRefused}
 use Rattle.cyc_soft.specs.Serving.{Served, way_of, look_of, hand_left}
 use Rattle.cyc_cpu.specs.Cpu.{CpuView, Running, HasRisingIds}

@@ -18,7 +18,7 @@ use Rattle.cyc_level.specs.Level.{AdmittedCyclic, SoftLevel as Admissions}
 use Rattle.cyc_core.specs.FiringSide.{stay_of, firing_view}
 use Rattle.cyc_model.specs.Serving.{level_at}
 use Rattle.cyc_types.specs.Levels.{as_level}
-use Rattle.cyc_expirations.specs.Expirations.{expirations}
+use Rattle.cyc_types.specs.Expirations.{expirations}
 use Rattle.cyc_core.specs.Tables.{Tables, level_of}
 use Rattle.cyc_timers.specs.Rows.{Cyclic as Timed, timers as timed}
 use Rattle.cyc_cpu.specs.declared.removing.Removal.TheVariants.{Done, Kept}

@@ -17,8 +17,8 @@ use Rattle.cyc_level.specs.Level.{AdmittedCyclic, Cyclics, SoftLevel}
 use Rattle.cyc_level.specs.Events.{after, after_finish, admitted_cyclic, changed_at, cyclic_after_expire, cyclic_after_lose}
 use Rattle.cyc_level.specs.Events.{cyclic_after_finish}
 use Rattle.cyc_level.proofs.Maps.{at_same, at_other, not_none}
-use Rattle.cyc_expirations.specs.Expirations.{Expiration, after as timer_after}
-use Rattle.cyc_fire.specs.Acts.{same_level}
+use Rattle.cyc_types.specs.Expirations.{Expiration, after as timer_after}
+use Rattle.cyc_timers.specs.Acts.{same_level}
 use Rattle.cyc_model.specs.Acts.{Act, At, Call, same_soft, events_at}
 use Rattle.cyc_model.specs.Cpu.{Cyclic, Cpu, happen, nothing_here, is_of, handler_level_of, others, with_moment}
 use Rattle.cyc_model.specs.Firing.{expiry, expire_all, fired, fire_these, fire_here, due_here}

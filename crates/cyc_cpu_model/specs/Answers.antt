@@ -12,7 +12,8 @@ use Rattle.cyc_model.specs.Cpu.{Cyclic, Cpu, cyclic_of, has_cyclic}
 use Rattle.cyc_model.specs.Firing.{due_here, fire_here}
 use Rattle.cyc_model.specs.Serving.{interrupt_here}
 use Rattle.cyc_model.specs.Questions.{plain, outstanding_here}
-use Rattle.cyc_model.specs.Refusals.{first_refusal, when, busy, bad_now, no_room}
+use Rattle.cyc_types.specs.Reasons.{first_refusal, when, busy, bad_now}
+use Rattle.cyc_model.specs.Refusals.{no_room}
 
 -- why there is no room for so many more: over plain levels nobody asks for whose sake
 abbrev pub why_no_room : ℕ → Cpu → Option Refusal

@@ -13,8 +13,8 @@ use Rattle.cyc_types.specs.declared.level.Level.TheVariants.{Low, Lock}
 use Rattle.cyc_cpu.specs.Rows.{Cyclic}
 use Rattle.cyc_cpu.specs.Acts.{same_level}
 use Rattle.cyc_cpu.specs.Rows.{timers}
-use Rattle.cyc_expirations.specs.Expirations.{expirations, times_of}
-use Rattle.cyc_expirations.specs.Timers.{HasDistinctIds}
+use Rattle.cyc_types.specs.Expirations.{expirations, times_of}
+use Rattle.cyc_types.specs.Timers.{HasDistinctIds}
 use Rattle.cyc_cpu.specs.Losses.{IsSpared}
 use Rattle.cyc_cpu.specs.Cpu.{CpuView, AreAdmitted, HasCounts, HasRisingIds, IsRemoved, Asks, Looked, Reserves, MayWiden, Widens}
 use Rattle.cyc_cpu.specs.Cpu.{bank_for, least_bank}

@@ -4,7 +4,7 @@ use Rattle.std.proofs.Common.{count_by, sym, ap, ◌∙◌, subst, subst₂, ari
 use Rattle.std.proofs.Math.ListN.{set}
 use Rattle.std.proofs.lemmas.Bool.{cases_eq, cases_lt}
 use Rattle.std.proofs.lemmas.List.{length-set, get_or-set_same, get_or-set_other, set-get_or, same_lists}
-use Rattle.cyc_expirations.specs.Expirations.{Expiration, is_before}
+use Rattle.cyc_types.specs.Expirations.{Expiration, is_before}
 use Rattle.cyc_heap.specs.declared.entry.Entry.{Entry}
 use Rattle.cyc_heap.specs.Array.{nowhere, key, entry_at, key_at, index_of, index_at, slot, slots, IsLinked, IsOrdered}
 use Rattle.cyc_heap.specs.Array.{IsOrderedBut, IsBridged, IsHeap, index_positions}

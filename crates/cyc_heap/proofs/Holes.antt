@@ -3,7 +3,7 @@ use Rattle.std.proofs.Common.{◌≡◌, ◌≢◌, ℕ, ◌<◌, inl, inr, List
 use Rattle.std.proofs.Math.ListN.{set}
 use Rattle.std.proofs.lemmas.Bool.{cases_eq}
 use Rattle.std.proofs.lemmas.List.{length-set, get_or-set_same, get_or-set_other, same_lists}
-use Rattle.cyc_expirations.specs.Expirations.{Expiration}
+use Rattle.cyc_types.specs.Expirations.{Expiration}
 use Rattle.cyc_heap.specs.declared.entry.Entry.{Entry}
 use Rattle.cyc_heap.specs.Array.{nowhere, key, entry_at, key_at, index_at, slot, slots, IsLinked, index_of}
 use Rattle.cyc_heap.proofs.Slots.{length-slots, slots_at, slot_used, slot_kept}

@@ -3,7 +3,7 @@ use Rattle.std.proofs.Common.{◌≡◌, ◌≢◌, ◌≤◌, ◌<◌, ◌*◌,
 use Rattle.std.proofs.Common.{Some, get_or}
 use Rattle.std.proofs.Math.ListN.{set}
 use Rattle.std.proofs.lemmas.List.{get_or_default, length-set}
-use Rattle.cyc_expirations.specs.Expirations.{Expiration, is_before}
+use Rattle.cyc_types.specs.Expirations.{Expiration, is_before}
 use Rattle.cyc_heap.specs.declared.entry.Entry.{Entry}
 use Rattle.cyc_heap.specs.Array.{nowhere, key, key_at, entry_at, index_at, IsChild, IsLinked, IsOrdered, IsOrderedBut, IsBridged}
 use Rattle.cyc_heap.specs.Array.{slots, index_of}

@@ -6,6 +6,3 @@ pub mod Hollows
 pub mod Views
 pub mod Edits
 pub mod Widening
-pub use Rattle.cyc_expirations.proofs.Dues
-pub use Rattle.cyc_expirations.proofs.Firings
-pub use Rattle.cyc_expirations.proofs.Laws

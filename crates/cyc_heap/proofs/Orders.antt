@@ -2,8 +2,8 @@
 use Rattle.std.proofs.Common.{◌≡◌, ◌≢◌, ℕ, zero, suc, ◌-◌, ◌/◌, ◌%◌, ◌<◌, inl, inr, Bool, true, false, refl, sym, ap, ◌∙◌, subst}
 use Rattle.std.proofs.Common.{subst₂, arith}
 use Rattle.std.proofs.lemmas.Bool.{cases_eq, cases_lt}
-use Rattle.cyc_expirations.specs.Expirations.{Expiration, is_before}
-use Rattle.cyc_expirations.proofs.Order.{before_trans, before_total}
+use Rattle.cyc_types.specs.Expirations.{Expiration, is_before}
+use Rattle.cyc_types.proofs.Order.{before_trans, before_total}
 use Rattle.cyc_heap.specs.Array.{IsChild, IsOrdered, IsOrderedBut, IsBridged}
 
 pub child_low : (a c : ℕ) → IsChild a c → a < c

@@ -2,7 +2,7 @@
 use Rattle.std.proofs.Common.{◌≡◌, ℕ, ◌<◌, ◌≤◌, ltb, cond, List, length, get_or, Option, Some, None, ap}
 use Rattle.std.proofs.lemmas.Bool.{lt-ltb, le-ltb, cond-true, cond-false}
 use Rattle.std.proofs.lemmas.List.{length-map, get_or-map}
-use Rattle.cyc_expirations.specs.Expirations.{Expiration}
+use Rattle.cyc_types.specs.Expirations.{Expiration}
 use Rattle.cyc_heap.specs.declared.entry.Entry.{Entry}
 use Rattle.cyc_heap.specs.Array.{key, entry_at, key_at, slot, slots}
 

@@ -5,7 +5,7 @@ use Rattle.std.proofs.lemmas.Bool.{cases_lt, lt-ltb, le-ltb, cond-true, cond-fal
 use Rattle.std.proofs.lemmas.List.{get_or_past, get_or_default}
 use Rattle.std.proofs.lemmas.List.Sums.{sum_by-set}
 use Rattle.std.proofs.Math.ListN.{set}
-use Rattle.cyc_expirations.specs.Expirations.{Expiration, is_before}
+use Rattle.cyc_types.specs.Expirations.{Expiration, is_before}
 use Rattle.cyc_heap.specs.declared.entry.Entry.{Entry}
 use Rattle.cyc_heap.specs.Array.{key, entry_at, key_at, index_of, index_at, slots, root_of, IsLinked, IsOrdered, IsHeap}
 use Rattle.cyc_heap.specs.Heap.{HeapView, expiration_at, at_moment, with_moment, IsLeast}

@@ -5,7 +5,7 @@ use Rattle.std.proofs.lemmas.Bool.{cases_eq, cases_lt, le-ltb, cond-false}
 use Rattle.std.proofs.lemmas.List.Sums.{sum_by-append}
 use Rattle.std.proofs.lemmas.List.{append_assoc, length_push, length-map, get_or-map, get_or_append_left, get_or_push, map_push}
 use Rattle.std.proofs.lemmas.List.{replicate_more, same_lists}
-use Rattle.cyc_expirations.specs.Expirations.{Expiration}
+use Rattle.cyc_types.specs.Expirations.{Expiration}
 use Rattle.cyc_heap.specs.declared.entry.Entry.{Entry}
 use Rattle.cyc_heap.specs.Array.{nowhere, entry_at, index_of, index_at, slot, slots, root_of, IsLinked}
 use Rattle.cyc_heap.proofs.Slots.{slot_free, slot_kept}

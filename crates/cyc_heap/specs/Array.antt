@@ -3,7 +3,7 @@ use Rattle.std.specs.Prelude.{◌≡◌, ◌≢◌, ℕ, suc, ◌+◌, ◌*◌, 
 use Rattle.std.specs.Prelude.{map, count_by, slice_index, slice_index_or, Option, Some, None, is_some, if◌then◌else◌}
 use Rattle.std.specs.List.{range_with_len}
 use Rattle.cyc_types.specs.Limits.{cyclics}
-use Rattle.cyc_expirations.specs.Expirations.{Expiration, is_before}
+use Rattle.cyc_types.specs.Expirations.{Expiration, is_before}
 use Rattle.cyc_heap.specs.declared.entry.Entry.{Entry}
 
 -- what is read past the end

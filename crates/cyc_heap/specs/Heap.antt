@@ -1,7 +1,7 @@
 -- What callers see of a heap of expirations.
 use Rattle.std.specs.Prelude.{◌≡◌, ℕ, true, List, [], ◌∷◌, length, count_by, slice_index_or, slice_set, Option, Some, None}
 use Rattle.std.specs.Prelude.{is_some, option_map}
-use Rattle.cyc_expirations.specs.Expirations.{Expiration, is_before}
+use Rattle.cyc_types.specs.Expirations.{Expiration, is_before}
 
 -- for each index below the size the expiration of its cyclic, none where the index is free;
 -- the index with the least expiration; and the size up to which no call takes memory

@@ -1,4 +1,2 @@
 pub mod Heap
 pub mod Array
-pub use Rattle.cyc_expirations.specs.Expirations
-pub use Rattle.cyc_expirations.specs.Timers

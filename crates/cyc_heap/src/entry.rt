@@ -3,7 +3,7 @@
 ghost use Rattle.std.specs.Prelude.{◌≡◌, ◌+◌, ◌*◌, ◌/◌, ◌%◌, ◌<◌, ◌≤◌, ◌^◌, ◌↔◌, true, length, IfSome, IfNone, ℕ, ◌≢◌};
 ghost use Rattle.std.specs.Bool.{OnTrue, OnFalse};
 ghost use Rattle.cyc_types.specs.Limits.{cyclics};
-ghost use Rattle.cyc_expirations.specs.Expirations.{is_before};
+ghost use Rattle.cyc_types.specs.Expirations.{is_before};
 ghost use Rattle.cyc_heap.specs.Array.{key, id_of, index_of, index_at};
 
 use cyc_types::{CYCLICS, CyclicId, Index, Moment};

@@ -1,7 +1,7 @@
 //! How an entry finds its position in the heap.
 
 ghost use Rattle.std.specs.Prelude.{◌≡◌, ◌≢◌, ℕ, ◌+◌, ◌*◌, ◌<◌, ◌≤◌, ◌⊎◌, true, length, slice_set, vec_capacity, Some};
-ghost use Rattle.cyc_expirations.specs.Expirations.{is_before};
+ghost use Rattle.cyc_types.specs.Expirations.{is_before};
 ghost use Rattle.cyc_types.specs.Limits.{cyclics};
 ghost use Rattle.cyc_heap.specs.Array.{key, key_at, index_of, index_at, IsLinked, IsOrdered, IsOrderedBut, IsBridged};
 ghost use Rattle.cyc_heap.specs.Array.{index_positions};

@@ -14,7 +14,7 @@ use Rattle.cyc_level.specs.declared.Event.TheVariants.{Admit, Expire, Lose, Publ
 use Rattle.cyc_level.specs.Level.{SoftLevel, Cyclics, AdmittedCyclic, bank_size, count}
 use Rattle.cyc_level.specs.Events.{after, after_finish, changed_at, admitted_cyclic, cyclic_after_expire, cyclic_after_lose}
 use Rattle.cyc_level.specs.Events.{cyclic_after_finish}
-use Rattle.cyc_expirations.specs.Expirations.{Expiration, after as timer_after}
+use Rattle.cyc_types.specs.Expirations.{Expiration, after as timer_after}
 use Rattle.cyc_model.specs.Acts.{Act, At, Call, at_own}
 use Rattle.cyc_model.specs.Cpu.{Cyclic, Cpu, cpu_after, happen, here, is_of, handler_level_of, others, new_cpu, with_moment}
 use Rattle.cyc_model.specs.Firing.{raised, expiry, expire_here, fired}

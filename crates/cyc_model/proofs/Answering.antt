@@ -10,7 +10,7 @@ use Rattle.cyc_model.specs.Cpu.{Cpu, has_cyclic}
 use Rattle.cyc_model.specs.Questions.{plain}
 use Rattle.cyc_model.specs.State.{State, Outcome, Placement, On, OnAll, cpu_of, nothing, each, numbers, cpus_with}
 use Rattle.cyc_model.specs.Places.{id_of, placement_of, is_unknown, forgotten}
-use Rattle.cyc_model.specs.Refusals.{when, first_refusal, busy}
+use Rattle.cyc_types.specs.Reasons.{when, first_refusal, busy}
 use Rattle.cyc_model.specs.Report.{counts_of}
 use Rattle.cyc_model.specs.Remove.{busy_on_each, remove_refusal, poll, begin, answered, begun, with_answer, remove, ended_expired}
 use Rattle.cyc_model.specs.Remove.{ended_lost}

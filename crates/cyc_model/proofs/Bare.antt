@@ -15,7 +15,7 @@ use Rattle.cyc_level.specs.declared.Event.TheVariants.{Admit, Expire, Lose, Publ
 use Rattle.cyc_level.specs.Level.{AdmittedCyclic, SoftLevel, count, count_in}
 use Rattle.cyc_level.specs.Events.{after, after_finish, admitted_cyclic, cyclic_after_expire, cyclic_after_lose}
 use Rattle.cyc_level.specs.Events.{cyclic_after_finish, hand_after_expire, hand_after_finish}
-use Rattle.cyc_expirations.specs.Expirations.{Expiration}
+use Rattle.cyc_types.specs.Expirations.{Expiration}
 use Rattle.cyc_model.specs.Acts.{Act, At, Call, at_own, call_of, calls_of, calls_in, loss_of, losses_of, is_loss, losses_in}
 use Rattle.cyc_model.specs.Cpu.{Cyclic, Cpu, Here, cpu_after, happen, here, nothing_here, acts_first, then_here, handler_level_of}
 use Rattle.cyc_model.specs.Cpu.{others}

@@ -16,7 +16,8 @@ use Rattle.cyc_model.specs.Questions.{plain, outstanding_here}
 use Rattle.cyc_model.specs.State.{State, Outcome, absent, cpu_of, kept_if, numbers_from, numbers, cpus_with, online_cpus}
 use Rattle.cyc_model.specs.Places.{id_of, is_leaving, is_unknown, is_omnipresent, home_of, destination, fewest, fewer, is_not}
 use Rattle.cyc_model.specs.Places.{len_of}
-use Rattle.cyc_model.specs.Refusals.{first_refusal, when, busy, no_room, no_cpu, offline_cpu, last_cpu, bad_when, bad_now}
+use Rattle.cyc_types.specs.Reasons.{first_refusal, when, busy, bad_now}
+use Rattle.cyc_model.specs.Refusals.{no_room, no_cpu, offline_cpu, last_cpu, bad_when}
 use Rattle.cyc_model.specs.Refusals.{ids_spent}
 use Rattle.cyc_model.specs.Bind.{no_cyclic, omnipresent, pending, unless_there}
 use Rattle.cyc_model.specs.Reprogram.{cpu_refusals}

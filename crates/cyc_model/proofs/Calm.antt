@@ -7,7 +7,7 @@ use mathlib.Core.Logic.{dite}
 use native.Mathlib.Decide.{ℕ_discrete}
 use Rattle.cyc_types.specs.Series.{never}
 use Rattle.cyc_types.specs.declared.refusal.Refusal.TheVariants.{BadWhen}
-use Rattle.cyc_expirations.specs.Expirations.{times_of}
+use Rattle.cyc_types.specs.Expirations.{times_of}
 use Rattle.cyc_script.specs.declared.step.Reprogram.{Reprogram as ReprogramStep}
 use Rattle.cyc_script.specs.declared.step.Softint.{Softint as SoftintStep}
 use Rattle.cyc_model.specs.Cpu.{Cpu, Here}
@@ -16,7 +16,8 @@ use Rattle.cyc_model.specs.Serving.{serve_here}
 use Rattle.cyc_model.specs.Moving.{moment_at, reprogram_here}
 use Rattle.cyc_model.specs.State.{State, Outcome, Placement, On, OnAll, on, cpu_of, each, nothing, followed_by, online_cpus}
 use Rattle.cyc_model.specs.Places.{id_of, placement_of, put_at, home_of, home_at, is_everywhere}
-use Rattle.cyc_model.specs.Refusals.{when, first_refusal, no_cpu, offline_cpu, magnitude}
+use Rattle.cyc_types.specs.Reasons.{when, first_refusal}
+use Rattle.cyc_model.specs.Refusals.{no_cpu, offline_cpu, magnitude}
 use Rattle.cyc_model.specs.Bind.{no_cyclic, omnipresent, unbind_refusal, unbind}
 use Rattle.cyc_model.specs.Reprogram.{no_component, cpu_refusals, reprogram_refusal, cpu_meant, reprogram}
 use Rattle.cyc_model.specs.Advance.{advance, advance_refusal}

@@ -14,7 +14,8 @@ use Rattle.cyc_model.specs.Moving.{put_in, enter_here}
 use Rattle.cyc_model.specs.Questions.{plain}
 use Rattle.cyc_model.specs.State.{State, Placement, On, OnAll, Everywhere, absent, on, cpu_of, each, online_cpus}
 use Rattle.cyc_model.specs.Places.{placement_of, given, destination, home_at, is_everywhere}
-use Rattle.cyc_model.specs.Refusals.{when, first_refusal, bad_now, ids_spent, no_room}
+use Rattle.cyc_types.specs.Reasons.{when, first_refusal, bad_now}
+use Rattle.cyc_model.specs.Refusals.{ids_spent, no_room}
 use Rattle.cyc_model.specs.Add.{enter, add_refusal, added, add}
 use Rattle.cyc_model.specs.Omni.{component, no_room_on_each, omni_refusal, everywhere, omni}
 use Rattle.cyc_model.proofs.Local.{local_enter}

@@ -13,7 +13,7 @@ use Rattle.cyc_level.specs.declared.Event.{Event}
 use Rattle.cyc_level.specs.declared.Event.TheVariants.{Expire, Lose, Publish}
 use Rattle.cyc_level.specs.Level.{SoftLevel, count}
 use Rattle.cyc_level.proofs.Maps.{some_same, some_of}
-use Rattle.cyc_expirations.specs.Expirations.{Expiration, times_of, after}
+use Rattle.cyc_types.specs.Expirations.{Expiration, times_of, after}
 use Rattle.cyc_model.specs.Acts.{Act, At, events_at, calls_of, losses_of}
 use Rattle.cyc_model.specs.Cpu.{Cyclic, Cpu, handler_level_of}
 use Rattle.cyc_model.specs.Firing.{raised, expiry, expire_here, expire_all, due_here, fired, fire_here}

@@ -5,7 +5,7 @@ use Rattle.std.specs.Prelude.{⊤, not, nat_lt, filter, find, slice_index_or, sl
 use Rattle.cyc_types.specs.declared.refusal.Refusal.{Refusal}
 use Rattle.cyc_types.specs.declared.level.Soft.{Soft}
 use Rattle.cyc_types.specs.declared.level.Soft.TheVariants.{Low, Lock}
-use Rattle.cyc_expirations.specs.Expirations.{Expiration, after}
+use Rattle.cyc_types.specs.Expirations.{Expiration, after}
 use Rattle.cyc_types.specs.Series.{never}
 use Rattle.cyc_level.specs.declared.Event.TheVariants.{Mark, Clear}
 use Rattle.cyc_script.specs.declared.step.Step.{Step}

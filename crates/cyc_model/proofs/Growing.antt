@@ -6,7 +6,7 @@ use Rattle.std.proofs.lemmas.List.Sums.{sum_by-cons}
 use Rattle.std.proofs.lemmas.Bool.{ltb-false}
 use Rattle.std.proofs.Math.Nat.{div-zero, div-le_of_le-mul}
 use Rattle.cyc_types.specs.Series.{never, late, due}
-use Rattle.cyc_expirations.specs.Expirations.{times_of}
+use Rattle.cyc_types.specs.Expirations.{times_of}
 use Rattle.cyc_model.specs.Cpu.{Cyclic, Cpu, Here, is_of}
 use Rattle.cyc_model.specs.Firing.{due_here, fire_here}
 use Rattle.cyc_model.specs.Moving.{put_in, must_grow, bank_for, switch_here, widen_here, place_here, enter_here, moment_at}

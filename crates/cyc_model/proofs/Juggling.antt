@@ -13,7 +13,8 @@ use Rattle.cyc_model.specs.Questions.{plain, outstanding_here}
 use Rattle.cyc_model.specs.State.{State, Outcome, Placement, On, OnAll, cpu_of, nothing, followed_by, online_cpus}
 use Rattle.cyc_model.specs.Places.{id_of, placement_of, put_at, home_of, home_at, is_bound, is_omnipresent, is_everywhere}
 use Rattle.cyc_model.specs.Places.{destination}
-use Rattle.cyc_model.specs.Refusals.{first_refusal, busy, no_cpu, offline_cpu, last_cpu, no_room}
+use Rattle.cyc_types.specs.Reasons.{first_refusal, busy}
+use Rattle.cyc_model.specs.Refusals.{no_cpu, offline_cpu, last_cpu, no_room}
 use Rattle.cyc_model.specs.Bind.{no_cyclic, omnipresent, pending, move, move_refusals, unless_there, bind_refusal}
 use Rattle.cyc_model.specs.Bind.{move_unless_there, bind, unbind_refusal, unbind}
 use Rattle.cyc_model.specs.Juggle.{Turn, IsBound, IsPending, IsRefused, Moves, turn, take_turn, juggle_each, single_ids, juggled}

@@ -8,7 +8,7 @@ use Rattle.cyc_text.specs.Lines.{removed}
 use Rattle.cyc_model.specs.Questions.{plain, outstanding_here}
 use Rattle.cyc_model.specs.State.{State, Outcome, Placement, Placed, cpu_of, each, numbers, cpus_with}
 use Rattle.cyc_model.specs.Places.{id_of, placement_of, is_unknown, is_leaving, forgotten}
-use Rattle.cyc_model.specs.Refusals.{when}
+use Rattle.cyc_types.specs.Reasons.{when}
 use Rattle.cyc_model.specs.Remove.{busy_on_each, begin, poll, clear_if, begun}
 use Rattle.cyc_model.specs.Softint.{is_open, text_of_id, polled, poll_id, leaving_ids, interrupt}
 use Rattle.cyc_model.specs.Script.{run_on, run_of, start, names_of}

@@ -18,7 +18,7 @@ use Rattle.cyc_level.specs.Level.{SoftLevel, AdmittedCyclic, count}
 use Rattle.cyc_level.specs.Events.{after, after_finish, changed_at, admitted_cyclic, cyclic_after_expire, cyclic_after_lose}
 use Rattle.cyc_level.specs.Events.{cyclic_after_finish, most_sent}
 use Rattle.cyc_level.proofs.Maps.{some_same, at_cases}
-use Rattle.cyc_expirations.specs.Expirations.{Expiration, times_of}
+use Rattle.cyc_types.specs.Expirations.{Expiration, times_of}
 use Rattle.cyc_script.specs.declared.step.Step.{Step}
 use Rattle.cyc_script.specs.declared.step.Step.TheVariants.{Add, Omni, Bind, Unbind, Reprogram, Remove, Advance, Softint, Juggle}
 use Rattle.cyc_script.specs.declared.step.Step.TheVariants.{Offline, Online}

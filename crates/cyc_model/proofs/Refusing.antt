@@ -12,7 +12,8 @@ use Rattle.cyc_model.specs.Moving.{must_grow}
 use Rattle.cyc_model.specs.Questions.{plain, has_followed}
 use Rattle.cyc_model.specs.State.{State, Placement, On, OnAll, cpu_of}
 use Rattle.cyc_model.specs.Places.{placement_of, is_unknown, is_leaving, is_omnipresent, is_everywhere}
-use Rattle.cyc_model.specs.Refusals.{when, first_refusal, busy, only_if, no_room, no_cpu, offline_cpu, bad_now, ids_spent}
+use Rattle.cyc_types.specs.Reasons.{when, first_refusal, busy, only_if, bad_now}
+use Rattle.cyc_model.specs.Refusals.{no_room, no_cpu, offline_cpu, ids_spent}
 use Rattle.cyc_model.specs.Bind.{no_cyclic, omnipresent}
 use Rattle.cyc_model.proofs.Moves.{CanGrow}
 

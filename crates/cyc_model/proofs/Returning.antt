@@ -15,7 +15,8 @@ use Rattle.cyc_model.specs.Moving.{must_grow, widen_here, put_in, place_here}
 use Rattle.cyc_model.specs.Questions.{plain, has_followed}
 use Rattle.cyc_model.specs.State.{State, Outcome, Placement, On, OnAll, Everywhere, Placed, on, cpu_of, each, followed_by}
 use Rattle.cyc_model.specs.Places.{placement_of, home_at, is_everywhere, without_ended}
-use Rattle.cyc_model.specs.Refusals.{when, no_cpu, bad_now}
+use Rattle.cyc_types.specs.Reasons.{when, bad_now}
+use Rattle.cyc_model.specs.Refusals.{no_cpu}
 use Rattle.cyc_model.specs.Online.{staying, online_cpu, no_room_for_all, online_refusal, again, return_at, return_of, go_online}
 use Rattle.cyc_model.specs.Online.{return_all, online}
 use Rattle.cyc_model.specs.Laws.{RiseTo}

@@ -9,8 +9,8 @@ use Rattle.std.proofs.lemmas.Bool.{ltb-true, ltb-false}
 use mathlib.Core.Logic.{dite}
 use native.Mathlib.Decide.{ℕ_discrete}
 use Rattle.cyc_types.specs.Series.{due}
-use Rattle.cyc_expirations.specs.Expirations.{Expiration, series, due_of, expirations, times_of}
-use Rattle.cyc_expirations.proofs.Laws.{count_expirations}
+use Rattle.cyc_types.specs.Expirations.{Expiration, series, due_of, expirations, times_of}
+use Rattle.cyc_types.proofs.Laws.{count_expirations}
 use Rattle.cyc_level.proofs.Maps.{some_same}
 use Rattle.cyc_model.specs.Cpu.{Cyclic, timers, is_of, others}
 use Rattle.cyc_model.specs.Moving.{put_in}

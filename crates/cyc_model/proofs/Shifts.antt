@@ -8,7 +8,7 @@ use Rattle.cyc_types.specs.Series.{never}
 use Rattle.cyc_types.specs.declared.level.Soft.{Soft}
 use Rattle.cyc_level.specs.declared.Event.TheVariants.{Admit, Mark, Clear}
 use Rattle.cyc_level.specs.Lawful.{IsId}
-use Rattle.cyc_expirations.specs.Expirations.{Expiration, times_of, after}
+use Rattle.cyc_types.specs.Expirations.{Expiration, times_of, after}
 use Rattle.cyc_model.specs.Acts.{Act, at_own, losses_of, loss_of}
 use Rattle.cyc_model.specs.Cpu.{Cyclic, Cpu, Here, handler_level_of, others}
 use Rattle.cyc_model.specs.Firing.{due_here, fired, fire_here}

@@ -4,7 +4,7 @@ use Rattle.std.specs.Prelude.{pos, negsuc}
 use Rattle.std.specs.Fmt.{digits}
 use Rattle.cyc_types.specs.declared.level.Level.TheVariants as level
 use Rattle.cyc_types.specs.declared.level.Soft.TheVariants as soft
-use Rattle.cyc_expirations.specs.Expirations.{expirations, due_of, after}
+use Rattle.cyc_types.specs.Expirations.{expirations, due_of, after}
 use Rattle.cyc_text.specs.Lines.{accepted, refused, fired, ran, kept, removed, moved, cyclics_left, reported}
 use Rattle.cyc_script.specs.declared.step.Step.TheVariants.{Unbind, Remove, Advance, Juggle, Offline, Online}
 use Rattle.cyc_model.proofs.Steps.{add, omni, bind, reprogram, reprogram_on, softint, text, most}

@@ -10,7 +10,8 @@ use Rattle.cyc_model.specs.Moving.{enter_here}
 use Rattle.cyc_model.specs.Questions.{Questions}
 use Rattle.cyc_model.specs.State.{State, Outcome, On, cpu_of, on, told}
 use Rattle.cyc_model.specs.Places.{destination, given}
-use Rattle.cyc_model.specs.Refusals.{first_refusal, bad_when, bad_now, ids_spent, no_room, magnitude}
+use Rattle.cyc_types.specs.Reasons.{first_refusal, bad_now}
+use Rattle.cyc_model.specs.Refusals.{bad_when, ids_spent, no_room, magnitude}
 
 -- the cyclic of this id that has expired and lost so much
 abbrev pub cyclic_with : ℕ → Level → ℕ → ℕ → ℕ → ℕ → Cyclic

@@ -5,7 +5,7 @@ use Rattle.cyc_text.specs.Lines.{fired}
 use Rattle.cyc_model.specs.Acts.{losses_in}
 use Rattle.cyc_model.specs.Firing.{due_here, fire_here}
 use Rattle.cyc_model.specs.State.{State, Outcome, cpu_of, on, each, told, online_cpus}
-use Rattle.cyc_model.specs.Refusals.{bad_now}
+use Rattle.cyc_types.specs.Reasons.{bad_now}
 
 -- the expirations of all online CPUs
 abbrev pub due_on : ℕ → List ℕ → State → ℕ

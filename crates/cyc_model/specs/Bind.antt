@@ -9,7 +9,8 @@ use Rattle.cyc_model.specs.Moving.{take_here}
 use Rattle.cyc_model.specs.Questions.{Questions}
 use Rattle.cyc_model.specs.State.{State, Outcome, On, cpu_of, on, nothing, told, followed_by}
 use Rattle.cyc_model.specs.Places.{id_of, is_unknown, is_leaving, is_omnipresent, is_bound, home_of, put_at}
-use Rattle.cyc_model.specs.Refusals.{first_refusal, when, busy, no_cpu, offline_cpu, no_room}
+use Rattle.cyc_types.specs.Reasons.{first_refusal, when, busy}
+use Rattle.cyc_model.specs.Refusals.{no_cpu, offline_cpu, no_room}
 use Rattle.cyc_model.specs.Add.{enter}
 
 -- there is no such cyclic, or its removal is open

@@ -7,7 +7,7 @@ use Rattle.cyc_types.specs.declared.level.Level.{Level}
 use Rattle.cyc_types.specs.declared.level.Level.TheVariants as level
 use Rattle.cyc_level.specs.Level.{SoftLevel, empty_level}
 use Rattle.cyc_level.specs.Events.{after}
-use Rattle.cyc_expirations.specs.Timers.{Timer}
+use Rattle.cyc_types.specs.Timers.{Timer}
 use Rattle.cyc_model.specs.Acts.{Act, At, Call}
 
 -- a cyclic, and those of its expirations that were lost at the ceiling

@@ -6,7 +6,7 @@ use Rattle.cyc_types.specs.declared.level.Level.TheVariants as level
 use Rattle.cyc_level.specs.declared.Event.{Event}
 use Rattle.cyc_level.specs.declared.Event.TheVariants.{Expire, Lose, Publish}
 use Rattle.cyc_level.specs.Level.{SoftLevel, count}
-use Rattle.cyc_expirations.specs.Expirations.{Expiration, expirations, after}
+use Rattle.cyc_types.specs.Expirations.{Expiration, expirations, after}
 use Rattle.cyc_model.specs.Acts.{Act, At, Call, losses_of}
 use Rattle.cyc_model.specs.Cpu.{Cyclic, Cpu, Here, here, nothing_here, then_here, timers, handler_level_of}
 

@@ -6,7 +6,8 @@ use Rattle.cyc_text.specs.Lines.{moved}
 use Rattle.cyc_model.specs.Questions.{Questions}
 use Rattle.cyc_model.specs.State.{State, Outcome, cpu_of, nothing, told, before}
 use Rattle.cyc_model.specs.Places.{is_omnipresent, is_bound, destination}
-use Rattle.cyc_model.specs.Refusals.{first_refusal, busy, no_cpu, offline_cpu, last_cpu, no_room}
+use Rattle.cyc_types.specs.Reasons.{first_refusal, busy}
+use Rattle.cyc_model.specs.Refusals.{no_cpu, offline_cpu, last_cpu, no_room}
 use Rattle.cyc_model.specs.Bind.{move}
 
 -- what becomes of one cyclic

@@ -27,5 +27,3 @@ pub mod Kept
 pub mod Enabled
 pub mod Numbers
 pub mod Bounds
-pub use Rattle.cyc_expirations.specs.Expirations
-pub use Rattle.cyc_expirations.specs.Timers

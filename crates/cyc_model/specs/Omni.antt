@@ -8,7 +8,8 @@ use Rattle.cyc_model.specs.Cpu.{Cyclic}
 use Rattle.cyc_model.specs.Questions.{Questions}
 use Rattle.cyc_model.specs.State.{State, Outcome, Everywhere, OnAll, cpu_of, online_cpus, each, told}
 use Rattle.cyc_model.specs.Places.{given}
-use Rattle.cyc_model.specs.Refusals.{first_refusal, bad_when, bad_now, ids_spent, no_room, magnitude}
+use Rattle.cyc_types.specs.Reasons.{first_refusal, bad_now}
+use Rattle.cyc_model.specs.Refusals.{bad_when, ids_spent, no_room, magnitude}
 use Rattle.cyc_model.specs.Add.{new_cyclic, enter}
 
 -- the start of the component on the CPU of this number

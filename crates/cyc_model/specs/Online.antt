@@ -11,7 +11,8 @@ use Rattle.cyc_model.specs.State.{State, Outcome, Ended, Everywhere, Placement, 
 use Rattle.cyc_model.specs.State.{told}
 use Rattle.cyc_model.specs.State.{followed_by}
 use Rattle.cyc_model.specs.Places.{is_leaving, without_ended}
-use Rattle.cyc_model.specs.Refusals.{first_refusal, when, only_if, no_cpu, bad_now}
+use Rattle.cyc_types.specs.Reasons.{first_refusal, when, only_if, bad_now}
+use Rattle.cyc_model.specs.Refusals.{no_cpu}
 use Rattle.cyc_model.specs.Add.{cyclic_with, one_admitted}
 use Rattle.cyc_model.specs.Omni.{start_on}
 

@@ -1,39 +1,16 @@
--- Why a call is refused: the first reason that holds, in the order in which a call names them.
-use Rattle.std.specs.Prelude.{ℕ, ◌+◌, nat_lt, nat_le, cond, not, Bool, List, [], ◌∷◌, length, int_lt, ℤ, pos, negsuc, Option}
-use Rattle.std.specs.Prelude.{Some, None}
-use Rattle.std.specs.Option.{option_map}
+-- Why the step of a script is refused, by the CPUs and the places, and what a refused step does.
+use Rattle.std.specs.Prelude.{ℕ, ◌+◌, nat_lt, nat_le, not, List, [], ◌∷◌, length, int_lt, ℤ, pos, negsuc, Option, Some, None}
 use Rattle.cyc_types.specs.Limits.{cyclics as most_cyclics, last_id as greatest_id}
-use Rattle.cyc_types.specs.Series.{never}
+use Rattle.cyc_types.specs.Reasons.{when, first_refusal, busy, only_if}
 use Rattle.cyc_types.specs.declared.refusal.Refusal.{Refusal}
-use Rattle.cyc_types.specs.declared.refusal.Refusal.TheVariants.{BadWhen, BadInterval, BadNow, Full, Expanding, Busy, IdsSpent}
-use Rattle.cyc_types.specs.declared.refusal.Refusal.TheVariants.{NoCpu, Offline, LastCpu}
+use Rattle.cyc_types.specs.declared.refusal.Refusal.TheVariants.{BadWhen, BadInterval, Full, Expanding, IdsSpent, NoCpu, Offline}
+use Rattle.cyc_types.specs.declared.refusal.Refusal.TheVariants.{LastCpu}
 use Rattle.cyc_types.specs.Refusals.{number_of}
 use Rattle.cyc_text.specs.Lines.{refused}
 use Rattle.cyc_model.specs.Cpu.{Cpu}
 use Rattle.cyc_model.specs.Moving.{must_grow}
 use Rattle.cyc_model.specs.Questions.{Questions}
 use Rattle.cyc_model.specs.State.{State, Outcome, nothing, told, cpu_of, online_cpus}
-
--- a refusal, where its reason holds
-abbrev pub when : Bool → Refusal → Option Refusal
-when holds why = cond holds (Some why) None
-
--- the first of two
-abbrev pub or_else : Option Refusal → Option Refusal → Option Refusal
-or_else None later = later
-or_else (Some why) later = Some why
-
-abbrev pub first_refusal : List (Option Refusal) → Option Refusal
-first_refusal [] = None
-first_refusal (why ∷ whys) = or_else why (first_refusal whys)
-
--- a removal is open
-abbrev pub busy : Option ℕ → Option Refusal
-busy removal = option_map (λ id. Busy id) removal
-
--- the refusal, where the test holds
-abbrev pub only_if : Bool → Option Refusal → Option Refusal
-only_if test why = cond test why None
 
 -- why there is no room for so many more: asked for the sake of this id
 abbrev pub no_room : Questions → ℕ → ℕ → ℕ → Cpu → Option Refusal
@@ -56,9 +33,6 @@ last_cpu n s = when (nat_le (length (online_cpus s)) 1) LastCpu
 -- the start and the interval of a cyclic (When::new)
 abbrev pub bad_when : ℤ → ℤ → List (Option Refusal)
 bad_when start interval = when (int_lt start (pos 0)) BadWhen ∷ when (int_lt interval (pos 1)) BadInterval ∷ []
-
-abbrev pub bad_now : ℕ → Option Refusal
-bad_now now = when (nat_le never now) BadNow
 
 abbrev pub ids_spent : State → Option Refusal
 ids_spent s = when (nat_le greatest_id s.last_id) IdsSpent

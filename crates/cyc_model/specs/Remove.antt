@@ -8,7 +8,7 @@ use Rattle.cyc_model.specs.Moving.{mark_here, clear_here}
 use Rattle.cyc_model.specs.Questions.{Questions}
 use Rattle.cyc_model.specs.State.{State, Outcome, numbers_from, cpu_of, on, nothing, told, followed_by, each, cpus_with}
 use Rattle.cyc_model.specs.Places.{id_of, is_unknown, keep_counts, forgotten}
-use Rattle.cyc_model.specs.Refusals.{first_refusal, when, busy}
+use Rattle.cyc_types.specs.Reasons.{first_refusal, when, busy}
 
 -- a removal that is open on one of these CPUs, in their order
 abbrev pub busy_on_each : Questions → List ℕ → State → List (Option Refusal)

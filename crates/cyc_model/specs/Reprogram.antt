@@ -8,7 +8,8 @@ use Rattle.cyc_model.specs.Cpu.{has_cyclic}
 use Rattle.cyc_model.specs.Moving.{reprogram_here}
 use Rattle.cyc_model.specs.State.{State, Outcome, cpu_of, on, told}
 use Rattle.cyc_model.specs.Places.{id_of, is_omnipresent, home_of}
-use Rattle.cyc_model.specs.Refusals.{first_refusal, when, no_cpu, offline_cpu, magnitude}
+use Rattle.cyc_types.specs.Reasons.{first_refusal, when}
+use Rattle.cyc_model.specs.Refusals.{no_cpu, offline_cpu, magnitude}
 use Rattle.cyc_model.specs.Bind.{no_cyclic, omnipresent}
 
 -- only an omnipresent cyclic has components

@@ -15,7 +15,8 @@ use Rattle.cyc_model.specs.Firing.{fire_here}
 use Rattle.cyc_model.specs.Questions.{plain}
 use Rattle.cyc_model.specs.State.{State, Everywhere, OnAll, Placed, cpu_of, on, each, online_cpus, absent}
 use Rattle.cyc_model.specs.Places.{placement_of, is_omnipresent, is_everywhere, given}
-use Rattle.cyc_model.specs.Refusals.{no_cpu, offline_cpu, last_cpu, busy, bad_now, magnitude}
+use Rattle.cyc_types.specs.Reasons.{busy, bad_now}
+use Rattle.cyc_model.specs.Refusals.{no_cpu, offline_cpu, last_cpu, magnitude}
 use Rattle.cyc_model.specs.Juggle.{juggled, single_ids}
 use Rattle.cyc_model.specs.Offline.{ids_on, any_pending, last_part, leaving, retire, retire_all, go_offline}
 use Rattle.cyc_model.specs.Online.{staying, online_cpu, no_room_for_all}

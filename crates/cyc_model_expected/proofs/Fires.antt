@@ -6,8 +6,8 @@ use Rattle.std.proofs.lemmas.List.Sums.{sum_by-cons}
 use mathlib.Core.Logic.{dite}
 use native.Mathlib.Decide.{ℕ_discrete}
 use Rattle.cyc_types.specs.Series.{never, due, next}
-use Rattle.cyc_expirations.specs.Expirations.{Expiration, times_of, after}
-use Rattle.cyc_expirations.proofs.Laws.{moment_next}
+use Rattle.cyc_types.specs.Expirations.{Expiration, times_of, after}
+use Rattle.cyc_types.proofs.Laws.{moment_next}
 use Rattle.cyc_model.specs.Cpu.{Cyclic, Cpu}
 use Rattle.cyc_model.specs.Firing.{due_here, fire_here, fired}
 use Rattle.cyc_model.specs.State.{State, cpu_of, on, each}

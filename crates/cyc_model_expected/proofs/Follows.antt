@@ -14,7 +14,8 @@ use Rattle.cyc_model.specs.Moving.{reprogram_here}
 use Rattle.cyc_model.specs.Questions.{plain}
 use Rattle.cyc_model.specs.State.{State, OnAll, cpu_of, on, online_cpus, cpus_with}
 use Rattle.cyc_model.specs.Places.{id_of, placement_of, is_unknown, is_omnipresent, is_everywhere, given}
-use Rattle.cyc_model.specs.Refusals.{magnitude, when, no_cpu, offline_cpu, first_refusal}
+use Rattle.cyc_types.specs.Reasons.{when, first_refusal}
+use Rattle.cyc_model.specs.Refusals.{magnitude, no_cpu, offline_cpu}
 use Rattle.cyc_model.specs.Bind.{no_cyclic, omnipresent}
 use Rattle.cyc_model.specs.Omni.{everywhere}
 use Rattle.cyc_model.specs.Remove.{busy_on_each}

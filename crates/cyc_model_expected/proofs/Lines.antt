@@ -15,7 +15,8 @@ use Rattle.cyc_model.specs.Moving.{take_here}
 use Rattle.cyc_model.specs.Places.{keep_counts}
 use Rattle.cyc_model.specs.Questions.{plain}
 use Rattle.cyc_model.specs.State.{State, absent, cpu_of, each}
-use Rattle.cyc_model.specs.Refusals.{unless, no_cpu, offline_cpu, last_cpu, busy}
+use Rattle.cyc_types.specs.Reasons.{busy}
+use Rattle.cyc_model.specs.Refusals.{unless, no_cpu, offline_cpu, last_cpu}
 use Rattle.cyc_model.specs.Juggle.{juggled, single_ids}
 use Rattle.cyc_model.specs.Offline.{offline, offline_refusal, leaving, last_part, any_pending, ids_on, retire, go_offline}
 use Rattle.cyc_model.specs.Script.{refusal_of, does}

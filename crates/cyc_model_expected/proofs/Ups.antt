@@ -16,7 +16,8 @@ use Rattle.cyc_model.specs.Serving.{serve_here}
 use Rattle.cyc_model.specs.Questions.{plain, outstanding_here}
 use Rattle.cyc_model.specs.State.{State, Outcome, On, OnAll, cpu_of, on, each, numbers, online_cpus, cpus_with}
 use Rattle.cyc_model.specs.Places.{id_of, destination, given, keep_counts}
-use Rattle.cyc_model.specs.Refusals.{magnitude, no_cpu, offline_cpu, last_cpu, busy}
+use Rattle.cyc_types.specs.Reasons.{busy}
+use Rattle.cyc_model.specs.Refusals.{magnitude, no_cpu, offline_cpu, last_cpu}
 use Rattle.cyc_model.specs.Add.{added}
 use Rattle.cyc_model.specs.Omni.{everywhere}
 use Rattle.cyc_model.specs.Remove.{begin, poll, clear, clear_if, begun}
@@ -33,7 +34,7 @@ use Rattle.cyc_model.proofs.Refusing.{none_first, is_cpu, is_online, before_neve
 use Rattle.cyc_model.proofs.Spread.{Good}
 use Rattle.cyc_model.proofs.Calm.{good_clock}
 use Rattle.cyc_model.proofs.Reaching.{well_does}
-use Rattle.cyc_model.specs.Refusals.{bad_now}
+use Rattle.cyc_types.specs.Reasons.{bad_now}
 use Rattle.cyc_expected.specs.Course.{Told, Event, Begins, BeginsOnAll, Ends, Passes, told_after}
 use Rattle.cyc_expected.specs.Expected.{event_of, reprogrammed}
 use Rattle.cyc_model_expected.specs.Way.{is_done}

@@ -1,2 +1,14 @@
 pub mod Reading
 pub mod Running
+pub mod Series
+pub mod Moments
+pub mod Turns
+pub mod Fired
+pub mod Advanced
+pub mod Unknown
+pub mod Begun
+pub mod OpenRemovals
+pub mod Served
+pub mod Polled
+pub mod Asked
+pub mod Reported

@@ -1,1 +1,5 @@
 pub mod Replay
+pub mod Leaving
+pub mod Advancing
+pub mod Interrupting
+pub mod Removing

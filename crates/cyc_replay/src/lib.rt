@@ -1,5 +1,8 @@
 //! The replay of a script over a system of 1 to 16 CPUs.
 //!
+//! One function for each word makes the calls of a system that the word stands for; its contract says that the answer, the line
+//! and the machine after it are those of the definition (`cyc_model`).
+//!
 //! `replay` is `run_script` without the machine that the run leaves, and that is `begin`, `put_steps` and `put_reports`, one
 //! after another: the contract of each names the machine, so what stands of the text, and what stands of the machine's levels, is
 //! said of one and the same run.
@@ -16,13 +19,20 @@
 //! - the text is the same whatever indexes the cyclics get: `text_tells_no_index`
 #![tactic(auto)]
 
+mod adding;
+mod advancing;
+mod counting;
+mod interrupting;
 mod laws;
+mod leaving;
+mod moving;
+mod removing;
 mod report;
 mod run;
 mod script;
 mod steps;
 
-pub use cyc_serving::RunFault;
+pub use cyc_text::RunFault;
 pub use laws::runs_are_sound;
 pub use report::put_reports;
 pub use run::put_steps;

@@ -7,12 +7,13 @@ ghost use Rattle.cyc_model.specs.State.{State};
 ghost use Rattle.cyc_model.specs.Places.{id_of};
 ghost use Rattle.cyc_model.specs.Report.{counts_of, reports};
 ghost use Rattle.cyc_model.specs.Script.{names_of};
-ghost use Rattle.cyc_serving.specs.Machine.{Holds, IsReached};
-ghost use Rattle.cyc_serving.specs.Status.{is_write, IsMemoryOrWrite};
+ghost use Rattle.cyc_script_machine.specs.Machine.{Holds, IsReached};
+ghost use Rattle.cyc_text.specs.Status.{is_write, IsMemoryOrWrite};
 
+use crate::counting::name_counts;
 use cyc_script::Script;
-use cyc_serving::{Machine, RunFault, name_counts};
-use cyc_text::{Sink, write_report};
+use cyc_script_machine::Machine;
+use cyc_text::{RunFault, Sink, write_report};
 
 /// Puts the report of a name.
 fn put_report<S: Sink>(

@@ -3,15 +3,15 @@
 ghost use Rattle.std.specs.Prelude.{◌≡◌, [], OnOk, IfOk, IfErr, false};
 ghost use Rattle.cyc_text.specs.Puts.{Puts};
 ghost use Rattle.cyc_model.specs.Script.{names_of, text_of};
-ghost use Rattle.cyc_serving.specs.Status.{is_write, IsMemoryOrWrite};
-ghost use Rattle.cyc_serving.specs.Runs.{Runs};
+ghost use Rattle.cyc_text.specs.Status.{is_write, IsMemoryOrWrite};
+ghost use Rattle.cyc_script_machine.specs.Runs.{Runs};
 ghost use Rattle.cyc_replay.specs.Replay.{HasRun};
 
 use crate::report::put_reports;
 use crate::run::put_steps;
 use cyc_script::Script;
-use cyc_serving::{Machine, RunFault, begin};
-use cyc_text::Sink;
+use cyc_script_machine::{Machine, begin};
+use cyc_text::{RunFault, Sink};
 use std::alloc::Global;
 
 /// Takes all steps on a machine that has taken none, and puts the text.

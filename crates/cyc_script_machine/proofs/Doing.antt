@@ -11,16 +11,16 @@ use Rattle.cyc_model.specs.Refusals.{unless, refusal}
 use Rattle.cyc_model.specs.Script.{refusal_of, does, word}
 use Rattle.cyc_model.proofs.Events.{calls_append}
 use Rattle.cyc_model.proofs.Telling.{tells_steps}
-use Rattle.cyc_system_model.specs.Shown.{IsSystem, ShowsSystem}
-use Rattle.cyc_system_model.specs.Words.{Gives, IsDone, IsDoneWith, IsRefusedFor}
+use Rattle.cyc_script_machine.specs.Shown.{IsSystem, ShowsSystem}
+use Rattle.cyc_script_machine.specs.SystemWords.{Gives, IsDone, IsDoneWith, IsRefusedFor}
 use Rattle.cyc_script_machine.specs.declared.machine.Machine.{Machine}
 use Rattle.cyc_script_machine.specs.Machine.{Holds, Remembers, IsWide, IsReached, AllMost, number_of}
 use Rattle.cyc_script_machine.specs.Words.{Comes, Accepts, AcceptsWith, Answers}
 use Rattle.cyc_core.specs.Tables.{Tables}
-use Rattle.cyc_system_model.specs.System.{SystemView}
-use Rattle.cyc_system_model.specs.Agreement.{most_on}
+use Rattle.cyc_system.specs.System.{SystemView}
+use Rattle.cyc_system.specs.Agreement.{most_on}
 use Rattle.cyc_model.proofs.Known.{IsLasting}
-use Rattle.cyc_system_model.specs.Room.{HaveAllRoom}
+use Rattle.cyc_script_machine.specs.Room.{HaveAllRoom}
 use Rattle.cyc_script_machine.proofs.Mosts.{most_kept}
 use Rattle.cyc_script_machine.proofs.Named.{reached_good}
 use Rattle.cyc_script_machine.proofs.Remembering.{SameNames, remembers_on, remembers_does}

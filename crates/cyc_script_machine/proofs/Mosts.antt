@@ -3,13 +3,13 @@ use Rattle.std.proofs.Common.{◌≡◌, ℕ, zero, suc, List, [], ◌∷◌, Op
 use mathlib.Core.Logic.{dite}
 use native.Mathlib.Decide.{ℕ_discrete}
 use Rattle.cyc_core.specs.Tables.{Tables}
-use Rattle.cyc_system_model.specs.Cpu.{CpuView}
-use Rattle.cyc_system_model.specs.Soft.{raise_tables}
-use Rattle.cyc_system_model.proofs.Calling.{changes_most}
-use Rattle.cyc_system_model.specs.Cpus.{CpusView, IsCpu, ChangesAt, CallOn, Works, new_cpus}
-use Rattle.cyc_system_model.proofs.CpusSpots.{one_cpu, cpu_there, cpu_beside}
-use Rattle.cyc_system_model.proofs.Spots.{same_some, none_some}
-use Rattle.cyc_system_model.specs.Agreement.{most_on}
+use Rattle.cyc_cpu.specs.Cpu.{CpuView}
+use Rattle.cyc_cpu.specs.Soft.{raise_tables}
+use Rattle.cyc_cpu.proofs.Calling.{changes_most}
+use Rattle.cyc_system.specs.Cpus.{CpusView, IsCpu, ChangesAt, CallOn, Works, new_cpus}
+use Rattle.cyc_system.proofs.CpusSpots.{one_cpu, cpu_there, cpu_beside}
+use Rattle.cyc_system.proofs.Spots.{same_some, none_some}
+use Rattle.cyc_system.specs.Agreement.{most_on}
 use Rattle.std.specs.List.{slice_get}
 use Rattle.std.specs.Option.{option_map}
 use Rattle.cyc_script_machine.specs.Machine.{AllMost}

@@ -8,7 +8,7 @@ use Rattle.cyc_types.specs.declared.refusal.Refusal.{Refusal}
 use Rattle.cyc_types.specs.declared.refusal.Refusal.TheVariants.{NoCyclic}
 use Rattle.cyc_model.specs.State.{State, Placed}
 use Rattle.cyc_model.specs.Places.{id_of, is_unknown, is_leaving}
-use Rattle.cyc_model.specs.Refusals.{when, or_else}
+use Rattle.cyc_types.specs.Reasons.{when, or_else}
 use Rattle.cyc_model.specs.Laws.{RiseTo}
 use Rattle.cyc_model.specs.Bind.{no_cyclic}
 use Rattle.cyc_model.proofs.Spread.{Good}

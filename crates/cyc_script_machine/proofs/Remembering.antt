@@ -25,7 +25,7 @@ use Rattle.cyc_model.proofs.Gone.{gone_does, gone_steps}
 use Rattle.cyc_script_machine.specs.declared.machine.Counted.{Counted}
 use Rattle.cyc_script_machine.specs.declared.machine.Machine.{Machine}
 use Rattle.cyc_script_machine.specs.Machine.{Holds, Remembers, IsReached, id_at, number_of, name_at, counted_at, told_of}
-use Rattle.cyc_system_model.proofs.Spots.{same_some, none_some}
+use Rattle.cyc_system.proofs.Spots.{same_some, none_some}
 use Rattle.std.specs.Prelude.{replicate}
 use Rattle.cyc_model.specs.Cpu.{new_cpu}
 use Rattle.cyc_model.specs.Questions.{outstanding_here}

@@ -16,7 +16,7 @@ use Rattle.cyc_model.specs.Script.{word, steps_from, start, run_on}
 use Rattle.cyc_model.proofs.Events.{events_append}
 use Rattle.cyc_model.proofs.Telling.{tells_steps}
 use Rattle.cyc_model.proofs.Reaching.{length_new}
-use Rattle.cyc_system_model.specs.Words.{Gives}
+use Rattle.cyc_script_machine.specs.SystemWords.{Gives}
 use Rattle.cyc_script_machine.specs.declared.machine.Machine.{Machine}
 use Rattle.cyc_script_machine.specs.Machine.{Holds, IsReached}
 use Rattle.cyc_script_machine.specs.Words.{TakesWord}

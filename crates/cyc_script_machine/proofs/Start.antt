@@ -10,11 +10,11 @@ use Rattle.cyc_types.specs.Tally.{TallyView, tally_made, tally_count}
 use Rattle.cyc_level.specs.Level.{SoftLevel, empty_level}
 use Rattle.cyc_core.specs.FiringSide.{firing_view}
 use Rattle.cyc_core.specs.Tables.{Tables, level_of}
-use Rattle.cyc_system_model.specs.Cpu.{IsFresh}
-use Rattle.cyc_system_model.specs.Soft.{firing_at}
+use Rattle.cyc_cpu.specs.Cpu.{IsFresh}
+use Rattle.cyc_cpu.specs.Soft.{firing_at}
 use Rattle.cyc_model.specs.Script.{start}
-use Rattle.cyc_system_model.specs.Shown.{ShowsSystem, IsSystem}
-use Rattle.cyc_system_model.specs.Kept.{AreNew}
+use Rattle.cyc_script_machine.specs.Shown.{ShowsSystem, IsSystem}
+use Rattle.cyc_script_machine.specs.Kept.{AreNew}
 use Rattle.cyc_script_machine.specs.declared.machine.Machine.{Machine}
 use Rattle.cyc_script_machine.specs.Machine.{Holds, IsWide, AllMost, number_of, id_at}
 use Rattle.cyc_script_machine.specs.Beginning.{IsEmpty, HasReserved}
@@ -26,25 +26,25 @@ use mathlib.Core.Logic.{dite}
 use native.Mathlib.Decide.{ℕ_discrete}
 use Rattle.cyc_types.specs.declared.refusal.Refusal.{Refusal}
 use Rattle.cyc_types.specs.declared.refusal.Refusal.TheVariants.{Memory}
-use Rattle.cyc_system_model.specs.Cpu.{CpuView, size_for, HasRisingIds}
-use Rattle.cyc_system_model.specs.CpuCalls.{Reserve, Changes}
-use Rattle.cyc_system_model.specs.Soft.{raise_tables}
-use Rattle.cyc_system_model.specs.Cpus.{new_cpus}
-use Rattle.cyc_system_model.proofs.CpusRooms.{only_memory}
-use Rattle.cyc_system_model.specs.CpuModelShown.{shown, shown_cpu}
-use Rattle.cyc_system_model.specs.Tied.{IsTied, HasOwn}
+use Rattle.cyc_cpu.specs.Cpu.{CpuView, size_for, HasRisingIds}
+use Rattle.cyc_cpu.specs.Calls.{Reserve, Changes}
+use Rattle.cyc_cpu.specs.Soft.{raise_tables}
+use Rattle.cyc_system.specs.Cpus.{new_cpus}
+use Rattle.cyc_system.proofs.Rooms.{only_memory}
+use Rattle.cyc_cpu_model.specs.Shown.{shown, shown_cpu}
+use Rattle.cyc_cpu_model.specs.Tied.{IsTied, HasOwn}
 use Rattle.cyc_types.specs.Firing.{Looks}
 use Rattle.cyc_types.specs.Runs.{Goes}
-use Rattle.cyc_system_model.specs.Quiet.{OnlyLooks}
+use Rattle.cyc_cpu.specs.Quiet.{OnlyLooks}
 use Rattle.std.specs.Prelude.{Result, OnOk, IfErr}
-use Rattle.cyc_system_model.specs.Places.{IsRecord, HasRisingIds as RecordsRise}
-use Rattle.cyc_system_model.specs.System.{SystemView}
-use Rattle.cyc_system_model.specs.Agreement.{Agrees}
-use Rattle.cyc_system_model.proofs.Spots.{same_some, none_some}
+use Rattle.cyc_places.specs.Places.{IsRecord, HasRisingIds as RecordsRise}
+use Rattle.cyc_system.specs.System.{SystemView}
+use Rattle.cyc_system.specs.Agreement.{Agrees}
+use Rattle.cyc_system.proofs.Spots.{same_some, none_some}
 use Rattle.cyc_model.specs.State.{State}
-use Rattle.cyc_system_model.specs.Splitting.{EachTwo, GoesOn, IsSameEnd, index_of, AllComeBack}
-use Rattle.cyc_system_model.specs.Room.{HaveAllRoom}
-use Rattle.cyc_system_model.specs.Shown.{shown_list, shown_record, AllFull}
+use Rattle.cyc_system.specs.Splitting.{EachTwo, GoesOn, IsSameEnd, index_of, AllComeBack}
+use Rattle.cyc_script_machine.specs.Room.{HaveAllRoom}
+use Rattle.cyc_script_machine.specs.Shown.{shown_list, shown_record, AllFull}
 
 -- an empty level as its firing side sees it
 fresh : (ceiling : ℕ) (l : SoftLevel) → l ≡ empty_level ceiling → IsFresh (firing_view l)

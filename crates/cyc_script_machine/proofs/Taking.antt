@@ -9,7 +9,7 @@ use Rattle.cyc_model.specs.Questions.{plain}
 use Rattle.cyc_model.specs.State.{State, Outcome}
 use Rattle.cyc_model.specs.Refusals.{refusal}
 use Rattle.cyc_model.specs.Script.{refusal_of, does}
-use Rattle.cyc_system_model.specs.Answers.{IsRefused}
+use Rattle.cyc_cpu_model.specs.Answers.{IsRefused}
 use Rattle.cyc_script_machine.specs.declared.machine.Machine.{Machine}
 use Rattle.cyc_script_machine.specs.Machine.{Holds}
 use Rattle.cyc_script_machine.specs.Words.{Comes, Accepts, AcceptsWith, Answers, TakesWord, answer_line}

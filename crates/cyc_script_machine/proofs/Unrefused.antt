@@ -13,16 +13,16 @@ use Rattle.cyc_types.specs.declared.level.Level.TheVariants.{High}
 use Rattle.cyc_types.specs.declared.refusal.Refusal.{Refusal}
 use Rattle.cyc_types.specs.declared.refusal.Refusal.TheVariants.{CountSpent, HandlerRefused}
 use Rattle.cyc_core.specs.Tables.{Tables}
-use Rattle.cyc_expirations.specs.Expirations.{Expiration, expirations, times_of, after, all_after}
-use Rattle.cyc_expirations.specs.Timers.{Timer}
-use Rattle.cyc_system_model.specs.Rows.{timers}
-use Rattle.cyc_system_model.specs.Acts.{ids_at, is_of as is_of_level, timer_of}
-use Rattle.cyc_system_model.specs.Made.{Stops}
-use Rattle.cyc_system_model.specs.FireRefused.{FireRefused}
-use Rattle.cyc_system_model.proofs.Sharing.{ids_add_up}
-use Rattle.cyc_system_model.specs.Cpu.{CpuView, running}
-use Rattle.cyc_system_model.specs.CpuCalls.{Stopped}
-use Rattle.cyc_system_model.specs.Soft.{raise_tables}
+use Rattle.cyc_types.specs.Expirations.{Expiration, expirations, times_of, after, all_after}
+use Rattle.cyc_types.specs.Timers.{Timer}
+use Rattle.cyc_cpu_model.specs.Rows.{timers}
+use Rattle.cyc_cpu.specs.Acts.{ids_at, is_of as is_of_level, timer_of}
+use Rattle.cyc_cpu.specs.Made.{Stops}
+use Rattle.cyc_cpu.specs.FireRefused.{FireRefused}
+use Rattle.cyc_cpu.proofs.Sharing.{ids_add_up}
+use Rattle.cyc_cpu.specs.Cpu.{CpuView, running}
+use Rattle.cyc_cpu.specs.Calls.{Stopped}
+use Rattle.cyc_cpu.specs.Soft.{raise_tables}
 use Rattle.cyc_script.specs.Limits.{most_steps}
 use Rattle.cyc_script_machine.specs.Machine.{IsWide}
 

@@ -2,8 +2,8 @@
 use Rattle.std.specs.Prelude.{◌≡◌, ◌≤◌, [], None}
 use Rattle.cyc_types.specs.Limits.{cyclics as most_cyclics}
 use Rattle.cyc_core.specs.Tables.{Tables, level_of}
-use Rattle.cyc_system_model.specs.Cpu.{CpuView, HasFollowed}
-use Rattle.cyc_system_model.specs.Soft.{firing_at}
+use Rattle.cyc_cpu.specs.Cpu.{CpuView, HasFollowed}
+use Rattle.cyc_cpu.specs.Soft.{firing_at}
 
 -- a CPU with no cyclic
 pub record IsEmpty (v : CpuView Tables) : Type 0 where

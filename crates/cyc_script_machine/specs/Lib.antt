@@ -1,20 +1,20 @@
-pub mod Status
+pub mod Shown
+pub mod SystemWords
+pub mod Running
+pub mod Kept
+pub mod Advancing
+pub mod Removal
+pub mod Room
 pub mod Machine
 pub mod Words
 pub mod Runs
 pub mod Beginning
-pub use Rattle.cyc_system_model.specs.Advancing
-pub use Rattle.cyc_system_model.specs.Agreement
-pub use Rattle.cyc_system_model.specs.Calls
-pub use Rattle.cyc_system_model.specs.Removal
-pub use Rattle.cyc_system_model.specs.Removing
-pub use Rattle.cyc_system_model.specs.Room
-pub use Rattle.cyc_system_model.specs.Running
-pub use Rattle.cyc_system_model.specs.Shown
-pub use Rattle.cyc_system_model.specs.SoftFault
-pub use Rattle.cyc_system_model.specs.System
-pub use Rattle.cyc_system_model.specs.SystemRemoval
-pub use Rattle.cyc_system_model.specs.Words as SystemWords
-pub use Rattle.cyc_system_model.specs.Answers
-pub use Rattle.cyc_system_model.specs.CpuModelShown
-pub use Rattle.cyc_system_model.specs.Cpus
+pub use Rattle.cyc_system.specs.Agreement
+pub use Rattle.cyc_system.specs.Calls
+pub use Rattle.cyc_system.specs.Removing
+pub use Rattle.cyc_system.specs.declared.interrupting.SoftFault
+pub use Rattle.cyc_system.specs.System
+pub use Rattle.cyc_system.specs.SystemRemoval
+pub use Rattle.cyc_cpu_model.specs.Answers
+pub use Rattle.cyc_cpu_model.specs.Shown as CpuModelShown
+pub use Rattle.cyc_system.specs.Cpus

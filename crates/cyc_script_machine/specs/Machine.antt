@@ -9,10 +9,10 @@ use Rattle.cyc_model.specs.Places.{is_unknown}
 use Rattle.cyc_model.specs.Report.{counts_of}
 use Rattle.cyc_model.specs.Script.{run_on}
 use Rattle.cyc_core.specs.Tables.{Tables}
-use Rattle.cyc_system_model.specs.Cpu.{CpuView}
-use Rattle.cyc_system_model.specs.Cpus.{CpusView, IsCpu}
-use Rattle.cyc_system_model.specs.Room.{HaveAllRoom}
-use Rattle.cyc_system_model.specs.Shown.{ShowsSystem, IsSystem}
+use Rattle.cyc_cpu.specs.Cpu.{CpuView}
+use Rattle.cyc_system.specs.Cpus.{CpusView, IsCpu}
+use Rattle.cyc_script_machine.specs.Room.{HaveAllRoom}
+use Rattle.cyc_script_machine.specs.Shown.{ShowsSystem, IsSystem}
 use Rattle.cyc_script_machine.specs.declared.machine.Counted.{Counted}
 use Rattle.cyc_script_machine.specs.declared.machine.Machine.{Machine}
 

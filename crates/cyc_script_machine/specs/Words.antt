@@ -11,8 +11,8 @@ use Rattle.cyc_model.specs.Questions.{plain}
 use Rattle.cyc_model.specs.State.{State, Outcome, cpu_of}
 use Rattle.cyc_model.specs.Free.{AllCanBeAdmitted}
 use Rattle.cyc_model.specs.Script.{refusal_of, does, word}
-use Rattle.cyc_system_model.specs.Answers.{IsRefused}
-use Rattle.cyc_system_model.specs.Words.{Gives}
+use Rattle.cyc_cpu_model.specs.Answers.{IsRefused}
+use Rattle.cyc_script_machine.specs.SystemWords.{Gives}
 use Rattle.cyc_script_machine.specs.declared.machine.Machine.{Machine}
 use Rattle.cyc_script_machine.specs.Machine.{Holds}
 

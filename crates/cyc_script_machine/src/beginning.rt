@@ -5,14 +5,16 @@ ghost use Rattle.cyc_types.specs.declared.refusal.Refusal.TheVariants.{Memory};
 ghost use Rattle.cyc_types.specs.Tally.{tally_made};
 ghost use Rattle.cyc_script.specs.Limits.{most_cpus, most_steps};
 ghost use Rattle.cyc_model.specs.Script.{start};
-ghost use Rattle.cyc_system_model.specs.Splitting.{EachTwo};
-ghost use Rattle.cyc_system_model.specs.Kept.{AreNew};
+ghost use Rattle.cyc_system.specs.Splitting.{EachTwo};
+ghost use Rattle.cyc_script_machine.specs.Kept.{AreNew};
 ghost use Rattle.cyc_script_machine.specs.Machine.{Holds};
 ghost use Rattle.cyc_script_machine.specs.Beginning.{IsEmpty, HasReserved};
 
+use crate::laws::begin_law;
 use crate::machine::{Counted, Machine};
 use cyc_core::LevelCore;
-use cyc_system_model::{Hard, System, begin_law};
+use cyc_cpu::Hard;
+use cyc_system::System;
 use cyc_types::{CYCLICS, Ceiling, CyclicId, Moment, Refusal, Tally};
 use std::alloc::Global;
 

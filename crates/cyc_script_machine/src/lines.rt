@@ -2,11 +2,10 @@
 
 ghost use Rattle.std.specs.Prelude.{◌≡◌, ◌≢◌, OnOk, OnErr, IfErr, string_bytes, Err};
 ghost use Rattle.cyc_types.specs.declared.refusal.Refusal.TheVariants.{Memory};
-ghost use Rattle.cyc_script_machine.specs.Status.{IsMemory};
+ghost use Rattle.cyc_text.specs.Status.{IsMemory};
 ghost use Rattle.cyc_script_machine.specs.Words.{answer_line};
 
-use crate::fault::RunFault;
-use cyc_text::{write_accepted, write_refused};
+use cyc_text::{RunFault, write_accepted, write_refused};
 use cyc_types::Refusal;
 
 /// Replaces the line by that of a step which says no more than whether it was done. Where memory was refused the run is.

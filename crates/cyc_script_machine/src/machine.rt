@@ -4,7 +4,7 @@ ghost use Rattle.std.specs.Prelude.{◌≡◌, ◌-◌, ◌+◌, ◌<◌, slice_
 ghost use Rattle.cyc_script_machine.specs.Machine.{id_at, name_at, counted_at};
 
 use cyc_core::LevelCore;
-use cyc_system_model::System;
+use cyc_system::System;
 use cyc_types::{CyclicId, Moment, Tally};
 
 /// What a removal counted of its cyclic.

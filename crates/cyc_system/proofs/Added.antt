@@ -6,7 +6,7 @@ use Rattle.cyc_types.specs.declared.level.Level.{Level}
 use Rattle.cyc_types.specs.declared.moment.When.{When}
 use Rattle.cyc_types.specs.declared.refusal.Refusal.{Refusal}
 use Rattle.cyc_types.specs.declared.refusal.Refusal.TheVariants.{Memory}
-use Rattle.cyc_agreement.specs.ModelRefusals.{first_refusal, bad_now}
+use Rattle.cyc_types.specs.Reasons.{first_refusal, bad_now}
 use Rattle.cyc_cpu_laws.specs.Calls.{Reserve}
 use Rattle.cyc_places.specs.declared.record.Placement.TheVariants.{On}
 use Rattle.cyc_places.specs.Places.{new_record}
@@ -15,7 +15,7 @@ use Rattle.cyc_agreement.specs.Destination.{destination}
 use Rattle.cyc_agreement.specs.System.{SystemView}
 use Rattle.cyc_agreement.specs.Adding.{entering}
 use Rattle.cyc_agreement.specs.Refusals.{ids_spent}
-use Rattle.cyc_agreement.proofs.Refusing.{passes}
+use Rattle.cyc_agreement.proofs.FirstReason.{passes}
 use Rattle.cyc_system.specs.Calls.{Changes, Add}
 
 -- what an add did

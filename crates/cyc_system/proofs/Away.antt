@@ -16,10 +16,10 @@ use Rattle.cyc_cpu_laws.specs.FireRefused.{FireRefused}
 use Rattle.cyc_cpu_laws.specs.Acts.{Sides, AreRaises}
 use Rattle.cyc_cpu_laws.specs.Made.{Makes, HasCounts}
 use Rattle.cyc_cpu_laws.specs.Quiet.{LoadsThenLooks}
-use Rattle.cyc_cpu_laws.specs.Expirations as expire
-use Rattle.cyc_cpu_laws.specs.Expirations.{Expiration, expirations, times_of, all_after}
-use Rattle.cyc_cpu_laws.specs.Timers.{Timer}
-use Rattle.cyc_everywhere.specs.Rows.{Cyclic, timers}
+use Rattle.cyc_types.specs.Expirations as expire
+use Rattle.cyc_types.specs.Expirations.{Expiration, expirations, times_of, all_after}
+use Rattle.cyc_types.specs.Timers.{Timer}
+use Rattle.cyc_agreement.specs.Rows.{Cyclic, timers}
 use Rattle.cyc_cpu_laws.specs.Cpu.{CpuView, Running, SameCpu}
 use Rattle.cyc_cpu_laws.specs.Laws.{IsLawful}
 use Rattle.cyc_cpu_laws.specs.Losses.{IsUnder, IsSpared}

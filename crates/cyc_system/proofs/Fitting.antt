@@ -12,7 +12,7 @@ use mathlib.Core.Logic.{dite}
 use native.Mathlib.Decide.{ℕ_discrete}
 use Rattle.cyc_types.specs.declared.Raise.{Ghosts as Raise}
 use Rattle.cyc_types.specs.declared.firing.Sent.{Sent}
-use Rattle.cyc_everywhere.specs.Rows.{Cyclic}
+use Rattle.cyc_agreement.specs.Rows.{Cyclic}
 use Rattle.cyc_cpu_laws.specs.Made.{HasCounts}
 use Rattle.cyc_cpu_laws.specs.Taken.{Taken}
 use Rattle.cyc_cpu_laws.specs.Cpu.{CpuView, HasNoCyclic, HasRisingIds}
@@ -34,10 +34,10 @@ use Rattle.cyc_agreement.proofs.Spots.{same_some, none_some}
 use Rattle.cyc_agreement.proofs.Lists.{false_true}
 use Rattle.cyc_agreement.proofs.Entering.{none_here}
 use Rattle.cyc_agreement.proofs.Destinations.{destination_fits}
-use Rattle.cyc_juggling.specs.declared.turning.Turn.{Turn}
-use Rattle.cyc_juggling.specs.declared.turning.Turn.TheVariants.{StaysBound, StaysPending, StaysRefused, Moves}
-use Rattle.cyc_juggling.specs.Juggling.{TakesTurn}
-use Rattle.cyc_juggling.specs.Leaving.{quiet, Retires}
+use Rattle.cyc_agreement.specs.declared.turning.Turn.{Turn}
+use Rattle.cyc_agreement.specs.declared.turning.Turn.TheVariants.{StaysBound, StaysPending, StaysRefused, Moves}
+use Rattle.cyc_agreement.specs.Juggling.{TakesTurn}
+use Rattle.cyc_agreement.specs.GoingOffline.{quiet, Retires}
 use Rattle.cyc_system.proofs.Turned.{StillHolds, was}
 
 -- ---- the counts of a cyclic on its CPU

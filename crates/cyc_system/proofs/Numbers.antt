@@ -19,18 +19,18 @@ use Rattle.cyc_types.specs.declared.refusal.JuggleReport.{JuggleReport}
 use Rattle.cyc_cpu_laws.specs.CpuRemoval.{Removal}
 use Rattle.cyc_cpu_laws.specs.CpuRemoval.TheVariants.{Done, Kept}
 use Rattle.cyc_agreement.specs.System.{ids_on}
-use Rattle.cyc_removing.specs.declared.removing.SystemRemoval.{SystemRemoval}
-use Rattle.cyc_removing.specs.declared.removing.SystemRemoval.TheVariants as over
-use Rattle.cyc_removing.specs.declared.totals.SystemTotals.{SystemTotals}
-use Rattle.cyc_removing.specs.Removing.{Begun, BeginsOn, BeginsEach, Removes}
-use Rattle.cyc_removing.specs.Polling.{Polled, PollsOn, PollsEach, Polls}
-use Rattle.cyc_removing.specs.Counting.{AsksTotals}
-use Rattle.cyc_juggling.specs.declared.turning.Turn.{Turn}
-use Rattle.cyc_juggling.specs.declared.turning.Turn.TheVariants.{StaysBound, StaysPending, StaysRefused, Moves}
-use Rattle.cyc_juggling.specs.Juggling.{TakesTurn, Turns, single_ids}
-use Rattle.cyc_juggling.specs.Leaving.{Retires, Leaves}
-use Rattle.cyc_everywhere.specs.Omni.{AddsOmni}
-use Rattle.cyc_everywhere.specs.Online.{GoesOnline}
+use Rattle.cyc_agreement.specs.declared.removing.SystemRemoval.{SystemRemoval}
+use Rattle.cyc_agreement.specs.declared.removing.SystemRemoval.TheVariants as over
+use Rattle.cyc_agreement.specs.declared.totals.SystemTotals.{SystemTotals}
+use Rattle.cyc_agreement.specs.Removing.{Begun, BeginsOn, BeginsEach, Removes}
+use Rattle.cyc_agreement.specs.Polling.{Polled, PollsOn, PollsEach, Polls}
+use Rattle.cyc_agreement.specs.Counting.{AsksTotals}
+use Rattle.cyc_agreement.specs.declared.turning.Turn.{Turn}
+use Rattle.cyc_agreement.specs.declared.turning.Turn.TheVariants.{StaysBound, StaysPending, StaysRefused, Moves}
+use Rattle.cyc_agreement.specs.Juggling.{TakesTurn, Turns, single_ids}
+use Rattle.cyc_agreement.specs.GoingOffline.{Retires, Leaves}
+use Rattle.cyc_agreement.specs.Omni.{AddsOmni}
+use Rattle.cyc_agreement.specs.Online.{GoesOnline}
 use Rattle.cyc_system.specs.Calls.{SystemCall, Changes, Does, Add, AddOmni, Bind, BeginRemove, PollRemove, AskTotals, Reprogram}
 use Rattle.cyc_system.specs.Calls.{ReprogramOn, Juggle, Offline, Online, FireOne, SoftInterrupt}
 

@@ -8,7 +8,7 @@ use mathlib.Core.Logic.{dite}
 use native.Mathlib.Decide.{ℕ_discrete}
 use Rattle.cyc_types.specs.declared.Raise.{Ghosts as Raise}
 use Rattle.cyc_types.specs.declared.refusal.JuggleReport.{JuggleReport}
-use Rattle.cyc_everywhere.specs.Rows.{Cyclic}
+use Rattle.cyc_agreement.specs.Rows.{Cyclic}
 use Rattle.cyc_cpu_laws.specs.Cpu.{CpuView}
 use Rattle.cyc_cpu_laws.specs.Gone.{PutsNot}
 use Rattle.cyc_cpu_laws.specs.Laws.{IsLawful}
@@ -31,10 +31,10 @@ use Rattle.cyc_agreement.proofs.Spots.{same_some}
 use Rattle.cyc_agreement.proofs.Who.{id_in, ids_there, ids_now, ids_elsewhere, ids_set, kept_at}
 use Rattle.cyc_agreement.proofs.Recording.{one_record}
 use Rattle.cyc_agreement.proofs.Removals.{IsSteady, AreSteady, steady_on, removals_kept, leaving_here}
-use Rattle.cyc_juggling.specs.declared.turning.Turn.{Turn}
-use Rattle.cyc_juggling.specs.declared.turning.Turn.TheVariants.{StaysBound, StaysPending, StaysRefused, Moves}
-use Rattle.cyc_juggling.specs.Leaving.{quiet, Retires, Leaves, offline_at}
-use Rattle.cyc_juggling.specs.Juggling.{TakesTurn, Turns}
+use Rattle.cyc_agreement.specs.declared.turning.Turn.{Turn}
+use Rattle.cyc_agreement.specs.declared.turning.Turn.TheVariants.{StaysBound, StaysPending, StaysRefused, Moves}
+use Rattle.cyc_agreement.specs.GoingOffline.{quiet, Retires, Leaves, offline_at}
+use Rattle.cyc_agreement.specs.Juggling.{TakesTurn, Turns}
 
 -- ---- calls that put in no cyclic of an id
 

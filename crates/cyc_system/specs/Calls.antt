@@ -10,7 +10,7 @@ use Rattle.cyc_types.specs.declared.refusal.JuggleReport.{JuggleReport}
 use Rattle.cyc_types.specs.declared.refusal.Refusal.{Refusal}
 use Rattle.cyc_soft.specs.declared.Ran.{Ran}
 use Rattle.cyc_soft.specs.declared.SoftRefused.{SoftRefused}
-use Rattle.cyc_agreement.specs.ModelRefusals.{bad_now}
+use Rattle.cyc_types.specs.Reasons.{bad_now}
 use Rattle.cyc_cpu_laws.specs.Fired.{Fired}
 use Rattle.cyc_cpu_laws.specs.FireRefused.{FireRefused}
 use Rattle.cyc_cpu_laws.specs.Cpu.{Running}
@@ -23,15 +23,15 @@ use Rattle.cyc_agreement.specs.System.{SystemView, RunningSystem}
 use Rattle.cyc_agreement.specs.Refusals.{Unless, ids_spent, no_cyclic, omnipresent, no_cpu, offline_cpu, no_component}
 use Rattle.cyc_agreement.specs.Adding.{OnlyWorks, add_request, Adds}
 use Rattle.cyc_agreement.specs.Binding.{HasHome, Unbinds, Binds}
-use Rattle.cyc_removing.specs.declared.removing.SystemRemoval.{SystemRemoval}
-use Rattle.cyc_removing.specs.declared.totals.SystemTotals.{SystemTotals}
-use Rattle.cyc_removing.specs.Removing.{BeginsRemoval}
-use Rattle.cyc_removing.specs.Polling.{PollsRemoval}
-use Rattle.cyc_removing.specs.Counting.{AsksTotals}
-use Rattle.cyc_juggling.specs.Juggling.{Juggles}
-use Rattle.cyc_juggling.specs.Leaving.{GoesOffline}
-use Rattle.cyc_everywhere.specs.Omni.{AddsOmni}
-use Rattle.cyc_everywhere.specs.Online.{GoesOnline, online_cpu}
+use Rattle.cyc_agreement.specs.declared.removing.SystemRemoval.{SystemRemoval}
+use Rattle.cyc_agreement.specs.declared.totals.SystemTotals.{SystemTotals}
+use Rattle.cyc_agreement.specs.Removing.{BeginsRemoval}
+use Rattle.cyc_agreement.specs.Polling.{PollsRemoval}
+use Rattle.cyc_agreement.specs.Counting.{AsksTotals}
+use Rattle.cyc_agreement.specs.Juggling.{Juggles}
+use Rattle.cyc_agreement.specs.GoingOffline.{GoesOffline}
+use Rattle.cyc_agreement.specs.Omni.{AddsOmni}
+use Rattle.cyc_agreement.specs.Online.{GoesOnline, online_cpu}
 
 -- the calls on a system that can change anything, each with its parameters and its answer
 pub data SystemCall : Type 0 where

@@ -2,7 +2,7 @@
 use Rattle.std.specs.Prelude.{◌≡◌, ℕ, ◌≤◌, List, [], ◌∷◌, Option}
 use Rattle.std.specs.Option.{option_map}
 use Rattle.cyc_types.specs.Firing.{FiringView}
-use Rattle.cyc_everywhere.specs.Rows.{Cyclic}
+use Rattle.cyc_agreement.specs.Rows.{Cyclic}
 use Rattle.cyc_cpu_laws.specs.Cpu.{CpuView}
 use Rattle.cyc_cpu_laws.specs.Losses.{IsUnder}
 

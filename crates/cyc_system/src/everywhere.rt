@@ -22,7 +22,7 @@ impl<R: Raise> System<R> {
         ensures { Changes R.Raise self.old (AddOmni level when skew now result) self.new }
     {
         let last = self.last;
-        let id = cyc_everywhere::add_omni(
+        let id = cyc_agreement::add_omni(
             &mut self.cpus,
             &mut self.records,
             last,
@@ -43,6 +43,6 @@ impl<R: Raise> System<R> {
     pub fn online(&mut self, cpu: u32, now: Moment) -> Result<(), Refusal>
         ensures { Changes R.Raise self.old (Online cpu now result) self.new }
     {
-        cyc_everywhere::online(&mut self.cpus, &mut self.records, cpu, now)
+        cyc_agreement::online(&mut self.cpus, &mut self.records, cpu, now)
     }
 }

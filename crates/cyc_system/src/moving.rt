@@ -18,7 +18,7 @@ impl<R: Raise> System<R> {
     {
         self.cpus.law();
         self.records.law();
-        let answer = cyc_juggling::juggle(&mut self.cpus, &mut self.records, cpu);
+        let answer = cyc_agreement::juggle(&mut self.cpus, &mut self.records, cpu);
         self.cpus.law();
         self.records.law();
         answer
@@ -35,7 +35,7 @@ impl<R: Raise> System<R> {
     {
         self.cpus.law();
         self.records.law();
-        let answer = cyc_juggling::offline(&mut self.cpus, &mut self.records, cpu);
+        let answer = cyc_agreement::offline(&mut self.cpus, &mut self.records, cpu);
         self.cpus.law();
         self.records.law();
         answer

@@ -1,7 +1,7 @@
 //! A cyclic is removed from all CPUs.
 
 use crate::system::System;
-use cyc_removing::{SystemRemoval, SystemTotals};
+use cyc_agreement::{SystemRemoval, SystemTotals};
 use cyc_types::{CyclicId, Raise, Receipt, Refusal};
 
 impl<R: Raise> System<R> {
@@ -16,7 +16,7 @@ impl<R: Raise> System<R> {
     pub fn begin_remove(&mut self, id: CyclicId) -> Result<SystemRemoval, Refusal>
         ensures { Changes R.Raise self.old (BeginRemove id result) self.new }
     {
-        cyc_removing::begin_remove(&mut self.cpus, &mut self.records, id)
+        cyc_agreement::begin_remove(&mut self.cpus, &mut self.records, id)
     }
 
     /// Asks every CPU on which the removal of the cyclic is open whether its calls are made (the end of `cyclic_remove`). The
@@ -26,7 +26,7 @@ impl<R: Raise> System<R> {
     pub fn poll_remove(&mut self, id: CyclicId) -> Result<Option<Receipt>, Refusal>
         ensures { Changes R.Raise self.old (PollRemove id result) self.new }
     {
-        cyc_removing::poll_remove(&mut self.cpus, &mut self.records, id)
+        cyc_agreement::poll_remove(&mut self.cpus, &mut self.records, id)
     }
 
     /// The counts of a cyclic over all CPUs, with those of its stays that have ended, and its calls that are outstanding. None
@@ -34,6 +34,6 @@ impl<R: Raise> System<R> {
     pub fn totals(&mut self, id: CyclicId) -> Option<SystemTotals>
         ensures { Changes R.Raise self.old (AskTotals id result) self.new }
     {
-        cyc_removing::system_totals(&mut self.cpus, &self.records, id)
+        cyc_agreement::system_totals(&mut self.cpus, &self.records, id)
     }
 }

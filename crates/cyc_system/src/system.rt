@@ -5,7 +5,7 @@ ghost use Rattle.cyc_types.specs.declared.refusal.Refusal.TheVariants.{Memory};
 ghost use Rattle.cyc_cpu_laws.specs.Cpu.{IsFresh};
 ghost use Rattle.cyc_agreement.specs.Cpus.{new_cpus};
 ghost use Rattle.cyc_agreement.specs.Agreement.{Agrees};
-ghost use Rattle.cyc_removing.specs.Counts.{IsFit, AreLawful};
+ghost use Rattle.cyc_agreement.specs.Counts.{IsFit, AreLawful};
 
 use cyc_agreement::Cpus;
 use cyc_places::Records;

@@ -32,7 +32,7 @@ use Rattle.cyc_system.proofs.Spots.{same_some}
 use Rattle.cyc_system.specs.Turn.{Turn}
 use Rattle.cyc_system.specs.Turn.TheVariants.{StaysBound, StaysPending, StaysRefused, Moves}
 use Rattle.cyc_system.specs.Juggling.{TakesTurn, Turns}
-use Rattle.cyc_system.specs.Leaving.{quiet, Retires, Leaves}
+use Rattle.cyc_system.specs.GoingOffline.{quiet, Retires, Leaves}
 use Rattle.cyc_system.specs.Omni.{AddsOmni, entering_each}
 use Rattle.cyc_system.specs.Online.{GoesOnline, staying, is_staying, returns, return_at, after_return}
 use Rattle.cyc_system_counts.proofs.Flow.{AllFixed, all_brought, all_taken, on_cpus, flows, flow_at, sum_set}

@@ -11,7 +11,7 @@ use Rattle.cyc_types.specs.declared.firing.Sent.{Sent}
 use Rattle.cyc_types.specs.declared.receipt.Receipt.{Receipt}
 use Rattle.cyc_types.specs.declared.refusal.Refusal.{Refusal}
 use Rattle.cyc_types.specs.declared.refusal.Refusal.TheVariants.{NoCpu}
-use Rattle.cyc_system.specs.ModelRefusals.{first_refusal, or_else, when, busy, bad_now}
+use Rattle.cyc_types.specs.Reasons.{first_refusal, or_else, when, busy, bad_now}
 use Rattle.cyc_places.specs.Places.{no_counts, summed}
 use Rattle.cyc_system.specs.System.{SystemView, record_of, removal_on}
 use Rattle.cyc_system.specs.Refusals.{no_cpu, offline_cpu}
@@ -20,7 +20,7 @@ use Rattle.cyc_system.specs.SystemRemoval.{SystemRemoval}
 use Rattle.cyc_system.specs.SystemRemoval.TheVariants as over
 use Rattle.cyc_system.specs.Removing.{BeginsRemoval}
 use Rattle.cyc_system.specs.Polling.{PollsRemoval}
-use Rattle.cyc_system.specs.Laws.{IsUntouched}
+use Rattle.cyc_system.specs.RemovalLaws.{IsUntouched}
 use Rattle.cyc_system.proofs.Others.{begins_others, polls_others, asks_others}
 use Rattle.cyc_system.proofs.Receipts.{begun_kept, poll_kept}
 use Rattle.cyc_system.specs.Juggling.{single_ids, last_cpu}

@@ -16,7 +16,7 @@ use Rattle.cyc_system.specs.System.{SystemView}
 use Rattle.cyc_system.proofs.Lists.{eq_true, false_ne}
 use Rattle.cyc_system.proofs.Recording.{found}
 use Rattle.cyc_system.specs.Counts.{AreLawful}
-use Rattle.cyc_system.specs.Laws.{cyclic_in, IsUntouched}
+use Rattle.cyc_system.specs.RemovalLaws.{cyclic_in, IsUntouched}
 use Rattle.cyc_system.proofs.Sums.{sum_none}
 use Rattle.cyc_system_counts.specs.Keeping.{stay_of, over_stays}
 use Rattle.cyc_system_counts.proofs.Flow.{on_cpu, on_cpus}

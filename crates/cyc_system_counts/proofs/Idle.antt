@@ -9,7 +9,7 @@ use Rattle.cyc_system.specs.Reserving.{rooms, reserves, ReservesEach}
 use Rattle.cyc_system.specs.Shifting.{move_of, WhyNotShifted}
 use Rattle.std.proofs.Common.{inl, inr}
 use Rattle.cyc_system.specs.Counting.{Counted, asked}
-use Rattle.cyc_system.specs.Leaving.{quiet}
+use Rattle.cyc_system.specs.GoingOffline.{quiet}
 use Rattle.cyc_system_counts.proofs.Flow.{Fixed, brought, taken_off, on_cpus, flow_at}
 
 abbrev pub IsIdle : CpuCall → Type 0

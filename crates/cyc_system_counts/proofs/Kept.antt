@@ -29,7 +29,7 @@ use Rattle.cyc_system.proofs.Others.{begins_others, polls_others, asks_others}
 use Rattle.cyc_system.specs.Turn.{Turn}
 use Rattle.cyc_system.specs.Turn.TheVariants.{StaysBound, StaysPending, StaysRefused, Moves}
 use Rattle.cyc_system.specs.Juggling.{TakesTurn, Turns, single_ids}
-use Rattle.cyc_system.specs.Leaving.{quiet, Retires, Leaves}
+use Rattle.cyc_system.specs.GoingOffline.{quiet, Retires, Leaves}
 use Rattle.cyc_system.specs.Omni.{AddsOmni, entering_each}
 use Rattle.cyc_system.specs.Online.{GoesOnline, staying, is_staying, returns, return_at}
 use Rattle.cyc_system.specs.Calls.{SystemCall, Changes, Add, AddOmni, Bind, BeginRemove, PollRemove, AskTotals, Reprogram}

@@ -27,14 +27,14 @@ use Rattle.cyc_system.specs.SystemRemoval.{SystemRemoval}
 use Rattle.cyc_system.specs.SystemRemoval.TheVariants as over
 use Rattle.cyc_system.specs.Removing.{Begun, BeginsOn, BeginsRemoval}
 use Rattle.cyc_system.specs.Polling.{Polled, PollsOn, PollsRemoval}
-use Rattle.cyc_system.specs.Laws.{IsUntouched}
+use Rattle.cyc_system.specs.RemovalLaws.{IsUntouched}
 use Rattle.cyc_system.proofs.Others.{begins_others, polls_others, asks_others}
 use Rattle.cyc_system.proofs.Forgetting.{rising_set}
 use Rattle.cyc_system.proofs.Folds.{folds_keep}
 use Rattle.cyc_system.specs.Turn.{Turn}
 use Rattle.cyc_system.specs.Turn.TheVariants.{StaysBound, StaysPending, StaysRefused, Moves}
 use Rattle.cyc_system.specs.Juggling.{TakesTurn, Turns, single_ids}
-use Rattle.cyc_system.specs.Leaving.{Retires, Leaves}
+use Rattle.cyc_system.specs.GoingOffline.{Retires, Leaves}
 use Rattle.cyc_system.specs.Omni.{AddsOmni}
 use Rattle.cyc_system.specs.Online.{GoesOnline, is_staying, after_return}
 use Rattle.cyc_system.specs.Calls.{SystemCall, Changes, Add, AddOmni, Bind, BeginRemove, PollRemove, AskTotals, Reprogram}

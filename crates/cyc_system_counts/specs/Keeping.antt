@@ -6,7 +6,7 @@ use Rattle.cyc_timers.specs.Rows.{Cyclic}
 use Rattle.cyc_cpu.specs.declared.moving.Taken.{Taken}
 use Rattle.cyc_system.specs.System.{SystemView, record_of, is_unknown, is_omnipresent}
 use Rattle.cyc_system.specs.SystemRemoval.TheVariants.{Done}
-use Rattle.cyc_system.specs.Laws.{cyclic_in}
+use Rattle.cyc_system.specs.RemovalLaws.{cyclic_in}
 use Rattle.cyc_system.specs.Counts.{all_expired, all_lost}
 use Rattle.cyc_system.specs.Calls.{SystemCall, Add, AddOmni, BeginRemove, PollRemove, Reprogram, ReprogramOn, Offline, Online}
 

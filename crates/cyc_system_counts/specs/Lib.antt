@@ -4,7 +4,7 @@ pub use Rattle.cyc_system.specs.Counts
 pub use Rattle.cyc_system.specs.System
 pub use Rattle.cyc_system.specs.Calls
 pub use Rattle.cyc_system.specs.SystemRemoval
-pub use Rattle.cyc_system.specs.Laws
+pub use Rattle.cyc_system.specs.RemovalLaws as Laws
 pub use Rattle.cyc_system.specs.Removing
 pub use Rattle.cyc_system.specs.Polling
 pub use Rattle.cyc_system.specs.Counting

@@ -28,7 +28,7 @@ use Rattle.cyc_system_rings.proofs.Who.{kept_at}
 use Rattle.cyc_system_rings.proofs.Folds.{find_set, find_remove, folds_keep}
 use Rattle.cyc_system_rings.proofs.Others.{at_place}
 use Rattle.cyc_system_rings.specs.System.{SystemView, has, ids_on, removal_on, is_omnipresent}
-use Rattle.cyc_juggling.specs.Juggling.{single_ids}
+use Rattle.cyc_agreement.specs.Juggling.{single_ids}
 use Rattle.cyc_system_rings.specs.Laws.{cyclic_in, cyclic_on}
 use Rattle.cyc_system_rings.specs.Removing.{Begun, BeginsOn, BeginsRemoval}
 use Rattle.cyc_system_rings.specs.Polling.{Polled, PollsOn, PollsRemoval}

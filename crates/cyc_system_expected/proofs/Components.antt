@@ -15,7 +15,7 @@ use Rattle.cyc_types.specs.declared.level.Level.{Level}
 use Rattle.cyc_types.specs.declared.moment.When.{When}
 use Rattle.cyc_types.specs.declared.refusal.Refusal.{Refusal}
 use Rattle.cyc_types.specs.declared.refusal.Refusal.TheVariants.{Omnipresent}
-use Rattle.cyc_model.specs.Refusals.{first_refusal, when as if_so}
+use Rattle.cyc_types.specs.Reasons.{first_refusal, when as if_so}
 use Rattle.cyc_model.specs.State.{Everywhere}
 use Rattle.cyc_timers.specs.Rows.{Cyclic}
 use Rattle.cyc_cpu.specs.Cpu.{CpuView}
@@ -32,8 +32,8 @@ use Rattle.cyc_system_rings.specs.SystemRemoval.TheVariants.{Done, Kept}
 use Rattle.cyc_system_rings.specs.Laws.{cyclic_in}
 use Rattle.cyc_system_rings.specs.Counts.{all_expired}
 use Rattle.cyc_system_rings.specs.Refusals.{no_cyclic, omnipresent}
-use Rattle.cyc_everywhere.specs.Omni.{entering_each, component_first as cpu_first}
-use Rattle.cyc_everywhere.specs.Online.{staying}
+use Rattle.cyc_agreement.specs.Omni.{entering_each, component_first as cpu_first}
+use Rattle.cyc_agreement.specs.Online.{staying}
 use Rattle.cyc_system_rings.specs.Calls.{SystemCall, Changes, Add, AddOmni, Bind, BeginRemove, PollRemove, AskTotals, Reprogram}
 use Rattle.cyc_system_rings.specs.Calls.{ReprogramOn, Juggle, Offline, Online, FireOne, SoftInterrupt}
 use Rattle.cyc_system_rings.specs.SystemSide.{SystemSide}

@@ -5,9 +5,9 @@ use Rattle.std.specs.Prelude.{sum_by}
 use Rattle.std.specs.List.{slice_get}
 use Rattle.std.proofs.lemmas.List.Sums.{sum_by-cons}
 use Rattle.cyc_types.specs.Series.{due, next}
-use Rattle.cyc_expirations.specs.Timers.{Timer, HasDistinctIds}
-use Rattle.cyc_expirations.specs.Expirations.{Expiration, expirations, times_of, after, all_after}
-use Rattle.cyc_expirations.proofs.Laws.{times_expirations, moment_next, count_due}
+use Rattle.cyc_types.specs.Timers.{Timer, HasDistinctIds}
+use Rattle.cyc_types.specs.Expirations.{Expiration, expirations, times_of, after, all_after}
+use Rattle.cyc_types.proofs.Laws.{times_expirations, moment_next, count_due}
 use Rattle.cyc_timers.specs.Rows.{Cyclic, timers}
 use Rattle.cyc_system_rings.proofs.Spots.{none_some}
 

@@ -30,8 +30,8 @@ use Rattle.cyc_system_rings.proofs.Folds.{Known, folds_known}
 use Rattle.cyc_system_rings.proofs.Others.{polls_elsewhere}
 use Rattle.cyc_system_rings.specs.System.{SystemView, has, ids_of, removal_on, is_leaving_here, record_of}
 use Rattle.cyc_system_rings.specs.Refusals.{no_cyclic}
-use Rattle.cyc_juggling.specs.Juggling.{single_ids}
-use Rattle.cyc_everywhere.specs.Online.{is_staying}
+use Rattle.cyc_agreement.specs.Juggling.{single_ids}
+use Rattle.cyc_agreement.specs.Online.{is_staying}
 use Rattle.cyc_system_rings.specs.Laws.{IsUntouched}
 use Rattle.cyc_system_rings.specs.Removing.{Begun, BeginsOn, BeginsRemoval, cpus_with}
 use Rattle.cyc_system_rings.specs.Polling.{Polled, PollsOn, PollsRemoval}

@@ -15,9 +15,9 @@ use Rattle.cyc_types.specs.declared.refusal.Refusal.TheVariants.{NoCyclic}
 use Rattle.cyc_system_rings.specs.SystemRemoval.TheVariants.{Done, Kept}
 use mathlib.Core.Logic.{dite}
 use native.Mathlib.Decide.{ℕ_discrete}
-use Rattle.cyc_fire.specs.declared.fire.Fired.{Fired}
-use Rattle.cyc_fire.specs.declared.fire.FireRefused.{FireRefused}
-use Rattle.cyc_model.specs.Refusals.{first_refusal, or_else, when as if_so}
+use Rattle.cyc_timers.specs.declared.fire.Fired.{Fired}
+use Rattle.cyc_timers.specs.declared.fire.FireRefused.{FireRefused}
+use Rattle.cyc_types.specs.Reasons.{first_refusal, or_else, when as if_so}
 use Rattle.cyc_cpu.specs.Cpu.{CpuView, Running, running}
 use Rattle.cyc_cpu.specs.Laws.{IsLawful}
 use Rattle.cyc_system_rings.proofs.Lists.{among, true_eq, false_ne}

@@ -13,7 +13,7 @@ use Rattle.cyc_types.specs.declared.Raise.{Ghosts as Raise}
 use Rattle.cyc_types.specs.declared.level.Level.{Level}
 use Rattle.cyc_types.specs.declared.moment.When.{When}
 use Rattle.cyc_types.specs.declared.refusal.Refusal.TheVariants.{Omnipresent}
-use Rattle.cyc_model.specs.Refusals.{when as if_so, bad_now}
+use Rattle.cyc_types.specs.Reasons.{when as if_so, bad_now}
 use Rattle.cyc_model.specs.State.{Everywhere}
 use Rattle.cyc_timers.specs.Rows.{Cyclic}
 use Rattle.cyc_cpu.specs.Cpu.{CpuView, IsCyclic, with_moment}
@@ -30,13 +30,13 @@ use Rattle.cyc_system_rings.proofs.Removals.{leaving_here}
 use Rattle.cyc_system_rings.proofs.Spots.{same_some, none_some, get_some}
 use Rattle.cyc_system_rings.proofs.Sums.{cyclic_found}
 use Rattle.cyc_system_rings.proofs.Where.{open_somewhere}
-use Rattle.cyc_everywhere.proofs.Visits.{each_one}
-use Rattle.cyc_everywhere.proofs.Regained.{all_back}
+use Rattle.cyc_agreement.proofs.Visits.{each_one}
+use Rattle.cyc_agreement.proofs.Regained.{all_back}
 use Rattle.cyc_system_rings.specs.System.{SystemView, has, removal_on, is_online, is_leaving_here, is_omnipresent}
 use Rattle.cyc_system_rings.specs.Refusals.{omnipresent}
 use Rattle.cyc_system_rings.specs.Laws.{cyclic_in, cyclic_on}
-use Rattle.cyc_everywhere.specs.Omni.{component_first as cpu_first}
-use Rattle.cyc_everywhere.specs.Online.{online_cpu}
+use Rattle.cyc_agreement.specs.Omni.{component_first as cpu_first}
+use Rattle.cyc_agreement.specs.Online.{online_cpu}
 use Rattle.cyc_system_rings.specs.Calls.{SystemCall, Changes, Add, AddOmni, Bind, BeginRemove, PollRemove, AskTotals, Reprogram}
 use Rattle.cyc_system_rings.specs.Calls.{ReprogramOn, Juggle, Offline, Online, FireOne, SoftInterrupt}
 use Rattle.cyc_system_rings.proofs.Pieces.{made_of}

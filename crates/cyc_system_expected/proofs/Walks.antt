@@ -9,7 +9,7 @@ use Rattle.cyc_types.specs.declared.level.Level.{Level}
 use Rattle.cyc_types.specs.declared.moment.When.{When}
 use Rattle.cyc_types.specs.declared.refusal.JuggleReport.{JuggleReport}
 use Rattle.cyc_types.specs.declared.refusal.Refusal.{Refusal}
-use Rattle.cyc_model.specs.Refusals.{first_refusal, busy}
+use Rattle.cyc_types.specs.Reasons.{first_refusal, busy}
 use Rattle.cyc_cpu.specs.declared.moving.Taken.{Taken}
 use Rattle.cyc_cpu.specs.Calls.{TakeNow, Place as PlaceCall, Reserve, Widen, AskPending, Reprogram as CpuReprogram}
 use Rattle.cyc_places.specs.declared.record.Placement.{Placement}
@@ -24,12 +24,12 @@ use Rattle.cyc_system_rings.specs.System.{SystemView, ids_on, removal_on}
 use Rattle.cyc_system_rings.specs.Adding.{add_request, Adds, entering}
 use Rattle.cyc_system_rings.specs.Binding.{Binds}
 use Rattle.cyc_system_rings.specs.Refusals.{no_cyclic, omnipresent, no_cpu, offline_cpu, no_component}
-use Rattle.cyc_juggling.specs.declared.turning.Turn.{Turn}
-use Rattle.cyc_juggling.specs.declared.turning.Turn.TheVariants.{StaysBound, StaysPending, StaysRefused, Moves}
-use Rattle.cyc_juggling.specs.Juggling.{TakesTurn, Turns, single_ids, last_cpu}
-use Rattle.cyc_juggling.specs.Leaving.{quiet, Retires}
-use Rattle.cyc_everywhere.specs.Omni.{AddsOmni, entering_each, component_first}
-use Rattle.cyc_everywhere.specs.Online.{staying, returns, return_at, switched_on}
+use Rattle.cyc_agreement.specs.declared.turning.Turn.{Turn}
+use Rattle.cyc_agreement.specs.declared.turning.Turn.TheVariants.{StaysBound, StaysPending, StaysRefused, Moves}
+use Rattle.cyc_agreement.specs.Juggling.{TakesTurn, Turns, single_ids, last_cpu}
+use Rattle.cyc_agreement.specs.GoingOffline.{quiet, Retires}
+use Rattle.cyc_agreement.specs.Omni.{AddsOmni, entering_each, component_first}
+use Rattle.cyc_agreement.specs.Online.{staying, returns, return_at, switched_on}
 use Rattle.cyc_system_rings.specs.Counting.{asked}
 use Rattle.cyc_system_rings.specs.Calls.{SystemCall, Changes, Add, AddOmni, Bind, BeginRemove, PollRemove, AskTotals, Reprogram}
 use Rattle.cyc_system_rings.specs.Calls.{ReprogramOn, Juggle, Offline, Online, FireOne, SoftInterrupt}

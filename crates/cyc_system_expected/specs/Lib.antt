@@ -3,7 +3,7 @@ pub mod Beginning
 pub use Rattle.cyc_system_rings.specs.ByLevel
 pub use Rattle.cyc_system_rings.specs.Rings
 pub use Rattle.cyc_system_rings.specs.Leading
-pub use Rattle.cyc_juggling.specs.declared.turning.Turn
-pub use Rattle.cyc_juggling.specs.Juggling
-pub use Rattle.cyc_everywhere.specs.Omni
-pub use Rattle.cyc_everywhere.specs.Online
+pub use Rattle.cyc_agreement.specs.declared.turning.Turn
+pub use Rattle.cyc_agreement.specs.Juggling
+pub use Rattle.cyc_agreement.specs.Omni
+pub use Rattle.cyc_agreement.specs.Online

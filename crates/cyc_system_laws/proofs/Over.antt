@@ -29,7 +29,7 @@ use Rattle.cyc_system.proofs.Recording.{found}
 use Rattle.cyc_system.specs.SystemRemoval.TheVariants as over
 use Rattle.cyc_system.specs.Removing.{Begun, BeginsOn, BeginsRemoval, Answers, counts_of}
 use Rattle.cyc_system.specs.Polling.{Polled, PollsOn, PollsRemoval}
-use Rattle.cyc_system.specs.Laws.{IsForgotten}
+use Rattle.cyc_system.specs.RemovalLaws.{IsForgotten}
 use Rattle.cyc_system.proofs.Forgetting.{was_there, begins_forgotten, polls_forgotten}
 use Rattle.cyc_system.proofs.Folds.{folds_keep}
 use Rattle.cyc_system.specs.Calls.{SystemCall, Changes, Does, Add, AddOmni, Bind, BeginRemove, PollRemove, AskTotals, Reprogram}

@@ -13,7 +13,7 @@ use Rattle.cyc_types.specs.declared.Raise.{Ghosts as Raise}
 use Rattle.cyc_types.specs.declared.refusal.JuggleReport.{JuggleReport}
 use Rattle.cyc_types.specs.declared.refusal.Refusal.{Refusal}
 use Rattle.cyc_types.specs.declared.refusal.Refusal.TheVariants as why
-use Rattle.cyc_system.specs.ModelRefusals.{first_refusal, when, busy, bad_now}
+use Rattle.cyc_types.specs.Reasons.{first_refusal, when, busy, bad_now}
 use Rattle.cyc_cpu.specs.Cpu.{CpuView, running}
 use Rattle.cyc_cpu.specs.Moving.{IsSettled}
 use Rattle.cyc_cpu.specs.Calls.{Changes as CpuChanges, no_interrupts, AskPending, AskRoom, Reserve, TakeNow}
@@ -32,7 +32,7 @@ use Rattle.cyc_system.specs.Removing.{unknown_cyclic, cpus_with}
 use Rattle.cyc_system.specs.Turn.{Turn}
 use Rattle.cyc_system.specs.Turn.TheVariants.{StaysBound, StaysPending, StaysRefused, Moves}
 use Rattle.cyc_system.specs.Juggling.{TakesTurn, Turns, single_ids, last_cpu}
-use Rattle.cyc_system.specs.Leaving.{quiet, Leaves}
+use Rattle.cyc_system.specs.GoingOffline.{quiet, Leaves}
 use Rattle.cyc_system.specs.Online.{online_cpu, staying}
 use Rattle.cyc_system.specs.Calls.{SystemCall, Changes, Add, AddOmni, Bind, BeginRemove, Juggle, Offline, Online}
 use Rattle.cyc_system_laws.specs.Settling.{IsRefusedUntil, IsAmong, Asks}

@@ -5,7 +5,7 @@ use Rattle.cyc_types.specs.declared.Calls.{Ghosts as Calls}
 use Rattle.cyc_types.specs.declared.Raise.{Ghosts as Raise}
 use Rattle.cyc_types.specs.declared.level.Level.TheVariants.{High}
 use Rattle.cyc_cpu.specs.Tables.{Tables}
-use Rattle.cyc_expirations.specs.Expirations.{expirations}
+use Rattle.cyc_types.specs.Expirations.{expirations}
 use Rattle.cyc_cpus_laws.specs.Rows.{timers}
 use Rattle.cyc_cpu.specs.Fired.{Fired}
 use Rattle.cyc_cpu.specs.FireRefused.{FireRefused}

@@ -10,7 +10,7 @@ use Rattle.cyc_types.specs.declared.refusal.JuggleReport.{JuggleReport}
 use Rattle.cyc_types.specs.declared.refusal.Refusal.{Refusal}
 use Rattle.cyc_types.specs.declared.refusal.Refusal.TheVariants.{Left}
 use Rattle.cyc_types.specs.declared.refusal.Refusal.TheVariants as why
-use Rattle.cyc_system.specs.ModelRefusals.{first_refusal, when, busy}
+use Rattle.cyc_types.specs.Reasons.{first_refusal, when, busy}
 use Rattle.cyc_types.proofs.Runs.{folds_on}
 use Rattle.cyc_cpu.specs.Cpu.{CpuView}
 use Rattle.cyc_cpu.specs.Moving.{IsSettled}

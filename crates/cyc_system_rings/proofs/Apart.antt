@@ -14,13 +14,13 @@ use Rattle.cyc_types.specs.declared.level.Level.{Level}
 use Rattle.cyc_types.specs.declared.level.Level.TheVariants.{Low, Lock, High}
 use Rattle.cyc_types.specs.declared.level.Soft.{Soft}
 use Rattle.cyc_types.specs.declared.level.Soft.TheVariants as soft
-use Rattle.cyc_timers.specs.Expirations.{Expiration, times_of, after, all_after}
-use Rattle.cyc_timers.specs.Timers.{Timer}
+use Rattle.cyc_types.specs.Expirations.{Expiration, times_of, after, all_after}
+use Rattle.cyc_types.specs.Timers.{Timer}
 use Rattle.cyc_timers.specs.Rows.{Cyclic, timers}
-use Rattle.cyc_fire.specs.declared.fire.Fired.{Fired}
-use Rattle.cyc_fire.specs.declared.fire.FireRefused.{FireRefused}
-use Rattle.cyc_fire.specs.Acts.{timer_of, is_of, same_level}
-use Rattle.cyc_fire.specs.Shares.{share}
+use Rattle.cyc_timers.specs.declared.fire.Fired.{Fired}
+use Rattle.cyc_timers.specs.declared.fire.FireRefused.{FireRefused}
+use Rattle.cyc_timers.specs.Acts.{timer_of, is_of, same_level}
+use Rattle.cyc_timers.specs.Shares.{share}
 use Rattle.cyc_cpu.specs.Cpu.{CpuView, Running, running}
 use Rattle.cyc_cpu.specs.Laws.{IsLawful}
 use Rattle.cyc_cpu.specs.Calls.{Does as CpuDoes, Fire, no_interrupts}

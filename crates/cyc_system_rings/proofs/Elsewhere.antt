@@ -16,7 +16,7 @@ use Rattle.cyc_types.specs.declared.receipt.Receipt.{Receipt}
 use Rattle.cyc_types.specs.declared.refusal.JuggleReport.{JuggleReport}
 use Rattle.cyc_types.specs.declared.refusal.Refusal.{Refusal}
 use Rattle.cyc_timers.specs.Rows.{Cyclic}
-use Rattle.cyc_fire.specs.Acts.{same_level}
+use Rattle.cyc_timers.specs.Acts.{same_level}
 use Rattle.cyc_cpu.specs.declared.moving.Taken.{Taken}
 use Rattle.cyc_cpu.specs.declared.removing.Removal.{Removal}
 use Rattle.cyc_cpu.specs.declared.removing.Removal.TheVariants as removal
@@ -37,12 +37,12 @@ use Rattle.cyc_system_counts.specs.SystemRemoval.TheVariants as over
 use Rattle.cyc_system_workers.specs.Adding.{OnlyWorks, entering}
 use Rattle.cyc_system_counts.specs.Removing.{Begun, BeginsOn, BeginsRemoval}
 use Rattle.cyc_system_counts.specs.Polling.{Polled, PollsOn, PollsRemoval}
-use Rattle.cyc_juggling.specs.declared.turning.Turn.{Turn}
-use Rattle.cyc_juggling.specs.declared.turning.Turn.TheVariants.{StaysBound, StaysPending, StaysRefused, Moves}
-use Rattle.cyc_juggling.specs.Juggling.{TakesTurn, Turns, single_ids}
-use Rattle.cyc_juggling.specs.Leaving.{quiet, Retires, Leaves}
-use Rattle.cyc_everywhere.specs.Omni.{entering_each}
-use Rattle.cyc_everywhere.specs.Online.{GoesOnline, staying, is_staying, returns, return_at}
+use Rattle.cyc_agreement.specs.declared.turning.Turn.{Turn}
+use Rattle.cyc_agreement.specs.declared.turning.Turn.TheVariants.{StaysBound, StaysPending, StaysRefused, Moves}
+use Rattle.cyc_agreement.specs.Juggling.{TakesTurn, Turns, single_ids}
+use Rattle.cyc_agreement.specs.GoingOffline.{quiet, Retires, Leaves}
+use Rattle.cyc_agreement.specs.Omni.{entering_each}
+use Rattle.cyc_agreement.specs.Online.{GoesOnline, staying, is_staying, returns, return_at}
 use Rattle.cyc_system_counts.specs.Calls.{SystemCall, Changes, Add, AddOmni, Bind, BeginRemove, PollRemove, AskTotals, Reprogram}
 use Rattle.cyc_system_counts.specs.Calls.{ReprogramOn, Juggle, Offline, Online, FireOne, SoftInterrupt}
 use Rattle.cyc_system_counts.proofs.Lists.{eq_true, false_ne}

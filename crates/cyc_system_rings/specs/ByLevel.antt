@@ -13,7 +13,7 @@ use Rattle.cyc_ring.specs.declared.closed.Closed.{Closed}
 use Rattle.cyc_ring.specs.Ends.{raise_trail, raise_end, end_view}
 use Rattle.cyc_ring.specs.Books.{closed_made}
 use Rattle.cyc_timers.specs.Rows.{no_counts}
-use Rattle.cyc_fire.specs.Acts.{same_level}
+use Rattle.cyc_timers.specs.Acts.{same_level}
 use Rattle.cyc_cpu.specs.Cpu.{CpuView}
 use Rattle.cyc_cpus.specs.Cpus.{OfCpu}
 use Rattle.cyc_system_workers.specs.Serving.{HasServed}

@@ -17,10 +17,10 @@ use Rattle.cyc_cpu.specs.Calls.{CpuCall, Changes as CpuChanges, Place, TakeNow, 
 use Rattle.cyc_cpus.specs.Cpus.{CpusView, CallOn, on, DoesAt, Works}
 use Rattle.cyc_cpus.specs.Shifting.{moving}
 use Rattle.cyc_cpus.proofs.Spots.{get_set_other}
-use Rattle.cyc_juggling.specs.Juggling.{TakesTurn, Turns, single_ids}
-use Rattle.cyc_juggling.specs.Leaving.{quiet, Retires, Leaves}
-use Rattle.cyc_juggling.specs.declared.turning.Turn.{Turn}
-use Rattle.cyc_juggling.specs.declared.turning.Turn.TheVariants.{StaysBound, StaysPending, StaysRefused, Moves}
+use Rattle.cyc_agreement.specs.Juggling.{TakesTurn, Turns, single_ids}
+use Rattle.cyc_agreement.specs.GoingOffline.{quiet, Retires, Leaves}
+use Rattle.cyc_agreement.specs.declared.turning.Turn.{Turn}
+use Rattle.cyc_agreement.specs.declared.turning.Turn.TheVariants.{StaysBound, StaysPending, StaysRefused, Moves}
 use Rattle.cyc_system_counts.specs.System.{SystemView, ids_on, is_omnipresent}
 use Rattle.cyc_system_counts.specs.Laws.{cyclic_in, cyclic_on}
 use Rattle.cyc_system_counts.specs.Calls.{Changes, Offline}

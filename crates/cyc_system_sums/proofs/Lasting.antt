@@ -8,11 +8,11 @@ use Rattle.cyc_types.specs.declared.level.Level.{Level}
 use Rattle.cyc_types.specs.declared.level.Soft.{Soft}
 use Rattle.cyc_soft.specs.declared.Ran.{Ran}
 use Rattle.cyc_soft.specs.declared.SoftRefused.{SoftRefused}
-use Rattle.cyc_expirations.specs.Timers.{Timer}
-use Rattle.cyc_expirations.specs.Expirations.{Expiration, after, all_after}
+use Rattle.cyc_types.specs.Timers.{Timer}
+use Rattle.cyc_types.specs.Expirations.{Expiration, after, all_after}
 use Rattle.cyc_timers.specs.Rows.{Cyclic, timers}
-use Rattle.cyc_fire.specs.declared.fire.Fired.{Fired}
-use Rattle.cyc_fire.specs.declared.fire.FireRefused.{FireRefused}
+use Rattle.cyc_timers.specs.declared.fire.Fired.{Fired}
+use Rattle.cyc_timers.specs.declared.fire.FireRefused.{FireRefused}
 use Rattle.cyc_cpu.specs.Cpu.{CpuView, Running, running}
 use Rattle.cyc_cpu.specs.Calls.{Does as CpuDoes, Fire}
 use Rattle.cyc_cpu.specs.declared.moving.Taken.{Taken}

@@ -12,14 +12,14 @@ use Rattle.cyc_types.specs.declared.level.Soft.{Soft}
 use Rattle.cyc_types.specs.declared.refusal.Refusal.{Refusal}
 use Rattle.cyc_soft.specs.declared.Ran.{Ran}
 use Rattle.cyc_soft.specs.declared.SoftRefused.{SoftRefused}
-use Rattle.cyc_fire.proofs.Sharing.{raises_add_up, ids_add_up}
-use Rattle.cyc_fire.specs.declared.fire.Fired.{Fired}
-use Rattle.cyc_fire.specs.declared.fire.FireRefused.{FireRefused}
+use Rattle.cyc_timers.proofs.Sharing.{raises_add_up, ids_add_up}
+use Rattle.cyc_timers.specs.declared.fire.Fired.{Fired}
+use Rattle.cyc_timers.specs.declared.fire.FireRefused.{FireRefused}
 use Rattle.cyc_timers.specs.Rows.{timers}
 use Rattle.cyc_cpu.specs.Cpu.{CpuView, Running, running}
 use Rattle.cyc_cpu.specs.Laws.{IsLawful}
 use Rattle.cyc_cpu.specs.Calls.{Does as CpuDoes, Fire}
-use Rattle.cyc_expirations.specs.Expirations.{expirations}
+use Rattle.cyc_types.specs.Expirations.{expirations}
 use Rattle.cyc_system_laws.specs.Accounts.{account_of, Proceeds, expired_of, lost_of}
 use Rattle.cyc_system_laws.proofs.Accounting.{proceeds_one, none_made}
 use Rattle.cyc_system_laws.proofs.Fires.{fired_lost}

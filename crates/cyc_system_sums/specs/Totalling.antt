@@ -13,8 +13,8 @@ use Rattle.cyc_soft.specs.declared.SoftRefused.{SoftRefused}
 use Rattle.cyc_cpu.specs.Cpu.{Running, running}
 use Rattle.cyc_cpu.specs.Calls.{Does as CpuDoes, Fire}
 use Rattle.cyc_types.specs.Runs.{lost_by}
-use Rattle.cyc_fire.specs.declared.fire.Fired.{Fired}
-use Rattle.cyc_fire.specs.declared.fire.FireRefused.{FireRefused}
+use Rattle.cyc_timers.specs.declared.fire.Fired.{Fired}
+use Rattle.cyc_timers.specs.declared.fire.FireRefused.{FireRefused}
 use Rattle.cyc_system_laws.specs.Accounts.{Account, account_of}
 use Rattle.cyc_system_counts.specs.SystemRemoval.TheVariants.{Done}
 use Rattle.cyc_system_counts.specs.System.{SystemView, RunningSystem}

@@ -1,3 +1,4 @@
 pub mod Puts
 pub mod Lines
 pub mod Turns
+pub mod Status

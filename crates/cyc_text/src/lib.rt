@@ -1,12 +1,14 @@
-//! The lines that a replay of a script writes, and what takes their bytes.
+//! The lines that a replay of a script writes, what takes their bytes, and why a run of a script stops.
 #![tactic(auto)]
 
 mod bounded;
+mod fault;
 mod lines;
 mod sink;
 mod writer;
 
 pub use bounded::BoundedWriter;
+pub use fault::RunFault;
 pub use lines::{
     Counts, write_accepted, write_fired, write_kept, write_left, write_moved, write_ran,
     write_refused, write_removed, write_report,

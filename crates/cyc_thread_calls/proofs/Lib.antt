@@ -25,5 +25,5 @@ pub use Rattle.cyc_system_expected.proofs.Raising
 pub use Rattle.cyc_threads.proofs.Folds
 pub use Rattle.cyc_threads.proofs.Staying
 pub use Rattle.cyc_threads.proofs.Presence
-pub use Rattle.cyc_threads.proofs.Refusing
+pub use Rattle.cyc_threads.proofs.FirstReason
 pub use Rattle.cyc_threads.proofs.Settles

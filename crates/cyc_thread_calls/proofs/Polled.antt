@@ -17,7 +17,7 @@ use Rattle.cyc_script.specs.declared.script.Script.{Script}
 use Rattle.cyc_script.specs.declared.step.Step.{Step}
 use Rattle.cyc_script.specs.declared.step.Step.TheVariants as steps
 use Rattle.cyc_threads.proofs.Spots.{same_some, none_some}
-use Rattle.cyc_threads.proofs.Refusing.{passes, not_when}
+use Rattle.cyc_threads.proofs.FirstReason.{passes, not_when}
 use Rattle.cyc_threads.proofs.Others.{begins_others, polls_others}
 use Rattle.cyc_threads.proofs.Where.{open_somewhere, left_all, nowhere}
 use Rattle.cyc_threads.specs.System.{SystemView, is_leaving, is_leaving_here}

@@ -17,5 +17,5 @@ pub use Rattle.cyc_thread_calls.proofs.Raising
 pub use Rattle.cyc_thread_calls.proofs.Folds
 pub use Rattle.cyc_thread_calls.proofs.Staying
 pub use Rattle.cyc_thread_calls.proofs.Presence
-pub use Rattle.cyc_thread_calls.proofs.Refusing
+pub use Rattle.cyc_thread_calls.proofs.FirstReason
 pub use Rattle.cyc_thread_calls.proofs.Settles

@@ -19,5 +19,5 @@ pub use Rattle.cyc_system_counts.proofs.Others
 pub use Rattle.cyc_system_counts.proofs.Where
 pub use Rattle.cyc_system_laws.proofs.Staying
 pub use Rattle.cyc_system_workers.proofs.Presence
-pub use Rattle.cyc_system_workers.proofs.Refusing as AgreementRefusing
+pub use Rattle.cyc_system_workers.proofs.FirstReason
 pub use Rattle.cyc_system_laws.proofs.Settles

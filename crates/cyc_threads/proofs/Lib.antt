@@ -22,5 +22,5 @@ pub use Rattle.cyc_thread_steps.proofs.Others
 pub use Rattle.cyc_thread_steps.proofs.Where
 pub use Rattle.cyc_thread_steps.proofs.Staying
 pub use Rattle.cyc_thread_steps.proofs.Presence
-pub use Rattle.cyc_thread_steps.proofs.AgreementRefusing as Refusing
+pub use Rattle.cyc_thread_steps.proofs.FirstReason
 pub use Rattle.cyc_thread_steps.proofs.Settles

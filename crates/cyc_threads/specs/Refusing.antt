@@ -6,8 +6,8 @@ use Rattle.cyc_types.specs.declared.refusal.Refusal.TheVariants.{Memory}
 use Rattle.cyc_ring.specs.declared.ends.RaiseEnd.{RaiseEnd}
 use Rattle.cyc_ring.specs.Ends.{raise_end}
 use Rattle.cyc_script.specs.declared.script.Script.{Script}
-use Rattle.cyc_script_machine.specs.declared.fault.RunFault.{RunFault}
-use Rattle.cyc_script_machine.specs.declared.fault.RunFault.TheVariants as run_fault
+use Rattle.cyc_text.specs.declared.fault.RunFault.{RunFault}
+use Rattle.cyc_text.specs.declared.fault.RunFault.TheVariants as run_fault
 use Rattle.cyc_text.specs.Puts.{AppendsPrefix}
 use Rattle.cyc_workers.specs.Refusals.{HandlerRefuses}
 use Rattle.cyc_thread_rings.specs.declared.levels.Seated.{Seated}

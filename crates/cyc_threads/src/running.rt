@@ -3,7 +3,7 @@
 ghost use Rattle.std.specs.Prelude.{◌≡◌, ◌*◌, ℕ, List, All, map, length, string_bytes, false, IfOk, IfErr};
 ghost use Rattle.std.specs.Io.KnownBytes.{Appends};
 ghost use Rattle.cyc_types.specs.declared.refusal.Refusal.TheVariants.{Memory};
-ghost use Rattle.cyc_script_machine.specs.Status.{is_write};
+ghost use Rattle.cyc_text.specs.Status.{is_write};
 ghost use Rattle.cyc_ring.specs.declared.ends.RaiseEnd.{RaiseEnd as FiringEnd};
 ghost use Rattle.cyc_ring.specs.Ends.{raise_end, end_view};
 ghost use Rattle.cyc_thread_rings.specs.Laid.{EachTwo};
@@ -20,8 +20,7 @@ use crate::reporting::report_text;
 use crate::working::{Worked, work_all};
 use cyc_ring::{Closed, DrainEnd, RaiseEnd, Ring};
 use cyc_script::Script;
-use cyc_script_machine::RunFault;
-use cyc_text::Sink;
+use cyc_text::{RunFault, Sink};
 use cyc_thread_rings::{
     Levels, Opened, Prepared, Seated, attach, by_cpu, close_rings, in_one, in_pairs, leave_all,
     open_rings, prepare, seat_all, unseat_all,

@@ -1,8 +1,7 @@
 //! Ids, scripts and their runs for the tests.
 
 use cyc_script::{Script, read_script};
-use cyc_script_machine::RunFault;
-use cyc_text::Out;
+use cyc_text::{Out, RunFault};
 use cyc_threads::{Ended, run};
 use cyc_types::{Calls, CyclicId, Tally};
 use std::alloc::Global;

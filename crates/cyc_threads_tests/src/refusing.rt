@@ -2,7 +2,7 @@
 ghost use Rattle.cyc_types.specs.Tally.{tally_count, tally_called};
 
 use crate::help::{Outcome, id, ran};
-use cyc_script_machine::RunFault;
+use cyc_text::RunFault;
 use cyc_types::{Calls, CyclicId, Level, Refusal, Refused, Tally};
 use std::alloc::Global;
 use std::process::Abort;

@@ -1,6 +1,10 @@
 pub mod Removing
 pub mod Tables
 pub mod Widening
-pub use Rattle.cyc_heap.proofs.Dues
-pub use Rattle.cyc_heap.proofs.Firings
-pub use Rattle.cyc_heap.proofs.Laws
+pub mod Acting
+pub mod Nexts
+pub mod Readying
+pub mod Making
+pub mod Stepping
+pub mod Sharing
+pub mod Sparing

@@ -7,7 +7,7 @@ use Rattle.std.proofs.lemmas.Bool.{cases_lt}
 use Rattle.std.proofs.lemmas.List.{get_or_default, length-set, get_or-set_other, take-map, drop-map, map-append}
 use Rattle.std.proofs.lemmas.List.Edits.{length-remove, get_or-remove_below, get_or-remove_above}
 use Rattle.std.proofs.lemmas.List.Sums.{sum_by-set}
-use Rattle.cyc_heap.specs.Expirations.{Expiration}
+use Rattle.cyc_types.specs.Expirations.{Expiration}
 use Rattle.cyc_finder.proofs.RisingIds.{rises_removed}
 use Rattle.cyc_timers.specs.declared.table.Entry.{Entry}
 use Rattle.cyc_timers.specs.declared.table.Record.{Record}

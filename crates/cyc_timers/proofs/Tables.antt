@@ -10,8 +10,8 @@ use Rattle.std.proofs.lemmas.List.{get_or_past, get_or-map, get_or_default, same
 use Rattle.std.proofs.lemmas.List.{get_or-set_other, set-get_or}
 use Rattle.std.proofs.lemmas.List.Sums.{sum_by-set}
 use Rattle.cyc_types.specs.Series.{never}
-use Rattle.cyc_heap.specs.Expirations.{Expiration, is_before, next_of}
-use Rattle.cyc_heap.specs.Timers.{Timer, IsSound}
+use Rattle.cyc_types.specs.Expirations.{Expiration, is_before, next_of}
+use Rattle.cyc_types.specs.Timers.{Timer, IsSound}
 use Rattle.cyc_finder.specs.Sorted.{IsAt, IsGap}
 use Rattle.cyc_timers.specs.declared.table.Entry.{Entry}
 use Rattle.cyc_timers.specs.declared.table.Record.{Record}

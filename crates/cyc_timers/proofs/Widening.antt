@@ -10,7 +10,7 @@ use Rattle.std.proofs.lemmas.List.{length-replicate, map-append}
 use Rattle.std.proofs.lemmas.List.Edits.{length-insert, get_or-insert_below, get_or-insert_at, get_or-insert_above}
 use Rattle.std.proofs.lemmas.List.Sums.{sum_by-set, sum_by-append}
 use Rattle.cyc_types.specs.Series.{never}
-use Rattle.cyc_heap.specs.Expirations.{Expiration}
+use Rattle.cyc_types.specs.Expirations.{Expiration}
 use Rattle.cyc_finder.specs.Sorted.{IsGap}
 use Rattle.cyc_finder.proofs.RisingIds.{rises_inserted}
 use Rattle.cyc_timers.specs.declared.table.Entry.{Entry}

@@ -4,8 +4,8 @@ use Rattle.std.specs.Prelude.{None, is_some}
 use Rattle.cyc_types.specs.Series.{never}
 use Rattle.cyc_types.specs.declared.firing.Sent.{Sent}
 use Rattle.cyc_types.specs.declared.level.Level.TheVariants.{Low}
-use Rattle.cyc_heap.specs.Expirations.{Expiration, is_before, next_of}
-use Rattle.cyc_heap.specs.Timers.{Timer}
+use Rattle.cyc_types.specs.Expirations.{Expiration, is_before, next_of}
+use Rattle.cyc_types.specs.Timers.{Timer}
 use Rattle.cyc_finder.specs.Sorted.{Rises}
 use Rattle.cyc_timers.specs.declared.table.Entry.{Entry}
 use Rattle.cyc_timers.specs.declared.table.Record.{Record}

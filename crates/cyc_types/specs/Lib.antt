@@ -2,8 +2,11 @@ pub mod Limits
 pub mod Levels
 pub mod Refusals
 pub mod Series
+pub mod Reasons
 pub mod Counting
 pub mod Tally
 pub mod Firing
 pub mod Draining
 pub mod Runs
+pub mod Timers
+pub mod Expirations

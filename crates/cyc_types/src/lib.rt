@@ -1,8 +1,9 @@
-//! The values, refusals and traits that every crate of the cyclic subsystem shares.
+//! The values, refusals and traits that every crate of the cyclic subsystem shares, and which expirations a fire makes.
 #![tactic(auto)]
 
 pub mod calls;
 pub mod draining;
+pub mod expirations;
 pub mod firing;
 pub mod id;
 pub mod level;

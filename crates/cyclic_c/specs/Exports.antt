@@ -4,13 +4,13 @@ use Rattle.cyc_types.specs.declared.Raise.{Ghosts as Raise}
 use Rattle.cyc_types.specs.declared.level.Soft.{Soft}
 use Rattle.cyc_types.specs.declared.receipt.Receipt.{Receipt}
 use Rattle.cyc_types.specs.declared.refusal.Refusal.TheVariants as why
-use Rattle.cyc_fire.specs.declared.fire.Fired.{Fired}
-use Rattle.cyc_fire.specs.declared.fire.FireRefused.{FireRefused}
+use Rattle.cyc_timers.specs.declared.fire.Fired.{Fired}
+use Rattle.cyc_timers.specs.declared.fire.FireRefused.{FireRefused}
 use Rattle.cyc_cpu.specs.declared.hard.Totals.{Totals}
 use Rattle.cyc_cpu.specs.declared.removing.Removal.{Removal}
 use Rattle.cyc_border.specs.Numbers.{number_of, answer_of, id_in, soft_named}
 use Rattle.cyc_border.specs.Opening.{IsNew}
-use Rattle.cyc_expirations.specs.Timers.{earliest}
+use Rattle.cyc_types.specs.Timers.{earliest}
 use Rattle.cyc_timers.specs.Rows.{timers}
 use Rattle.cyc_core.specs.Tables.{Tables}
 use Rattle.cyc_cpu.specs.Cpu.{CpuView}

@@ -1,8 +1,8 @@
 -- What goes out through a parameter.
 use Rattle.std.specs.Prelude.{◌≡◌, ℕ, ◌-◌, ◌^◌, min, pos}
 use Rattle.cyc_types.specs.declared.receipt.Receipt.{Receipt}
-use Rattle.cyc_fire.specs.declared.fire.Fired.{Fired}
-use Rattle.cyc_fire.specs.declared.fire.FireRefused.{FireRefused}
+use Rattle.cyc_timers.specs.declared.fire.Fired.{Fired}
+use Rattle.cyc_timers.specs.declared.fire.FireRefused.{FireRefused}
 use Rattle.cyc_cpu.specs.declared.hard.Totals.{Totals}
 use Rattle.cyc_ring.specs.declared.closed.Book.{Book}
 use Rattle.cyc_border.specs.Numbers.{id_in}

@@ -3,8 +3,8 @@ use Rattle.std.proofs.lemmas.Bool.{cases_eq}
 use Rattle.cyc_types.specs.Firing.{MayAsk, seen_of}
 use Rattle.cyc_types.specs.Runs.{Goes}
 use Rattle.cyc_types.specs.declared.level.Level.TheVariants.{Low, Lock}
-use Rattle.cyc_fire.specs.Rows.{IsRow}
-use Rattle.cyc_fire.specs.Quiet.{asks_at}
+use Rattle.cyc_timers.specs.Rows.{IsRow}
+use Rattle.cyc_timers.specs.Quiet.{asks_at}
 use Rattle.cyc_cpu.proofs.Inquiring.{may_ask_still, only_loads_keep, asked_more, asked_lowers, asked_none, row_here}
 use Rattle.cyc_cpu.proofs.settling.all_quiet.Goals as goal
 

@@ -1,8 +1,8 @@
 use Rattle.std.proofs.Common.{◌≡◌, ℕ, ◌<◌}
 use Rattle.cyc_types.specs.Firing.{Sound, seen_of}
 use Rattle.cyc_types.specs.declared.level.Level.TheVariants.{Low, Lock}
-use Rattle.cyc_fire.specs.Rows.{Row, IsRow}
-use Rattle.cyc_fire.specs.Quiet.{OnlyLoads}
+use Rattle.cyc_timers.specs.Rows.{Row, IsRow}
+use Rattle.cyc_timers.specs.Quiet.{OnlyLoads}
 use Rattle.cyc_cpu.proofs.settling.all_quiet.Given as goal
 
 -- the cyclics so far were asked for, and none of them had calls outstanding

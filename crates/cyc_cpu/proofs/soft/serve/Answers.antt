@@ -1,5 +1,5 @@
 use Rattle.std.specs.Prelude.{IsTrue}
-use Rattle.cyc_fire.specs.Quiet.{KeepsStays}
+use Rattle.cyc_timers.specs.Quiet.{KeepsStays}
 use Rattle.cyc_cpu.specs.Soft.{firing_at, HasEmptyLists}
 use Rattle.cyc_cpu.proofs.Idling.{emptied, on_ok}
 use Rattle.cyc_cpu.proofs.Softs.{serving_keeps, on_answer}

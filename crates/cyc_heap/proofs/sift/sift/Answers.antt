@@ -1,10 +1,10 @@
 use Rattle.std.proofs.Common.{◌≡◌, ◌≤◌, ◌*◌, ◌+◌, ◌-◌, ◌/◌, ℕ, List, inl, inr, sym, ap, ◌∙◌, subst, subst₂, arith, true}
 use Rattle.std.proofs.Math.ListN.{set}
 use Rattle.std.proofs.lemmas.Bool.{OnTrue_at, OnFalse_at}
-use Rattle.cyc_expirations.specs.Expirations.{is_before}
+use Rattle.cyc_types.specs.Expirations.{is_before}
 use Rattle.cyc_heap.specs.declared.entry.Entry.{Entry}
 use Rattle.cyc_heap.specs.Array.{key, key_at, IsChild, IsOrdered, index_of, index_positions, slots}
-use Rattle.cyc_expirations.proofs.Order.{before_trans}
+use Rattle.cyc_types.proofs.Order.{before_trans}
 use Rattle.cyc_heap.proofs.Orders.{child_low, parent, one_parent}
 use Rattle.cyc_heap.proofs.Places.{places_are, placed}
 use Rattle.cyc_heap.proofs.Holes.{keys_written}

@@ -1,10 +1,10 @@
 use Rattle.std.proofs.Common.{◌≡◌, ◌-◌, sym, subst, ◌∙◌, refl, length, All}
-use Rattle.cyc_system_model.specs.Agreement.{Agrees}
-use Rattle.cyc_system_model.specs.System.{SystemView}
+use Rattle.cyc_system.specs.Agreement.{Agrees}
+use Rattle.cyc_system.specs.System.{SystemView}
 use Rattle.cyc_core.specs.Tables.{Tables}
 use Rattle.cyc_model.specs.Script.{start}
-use Rattle.cyc_system_model.specs.Shown.{ShowsSystem, IsSystem}
-use Rattle.cyc_system_model.specs.Kept.{new_system}
+use Rattle.cyc_script_machine.specs.Shown.{ShowsSystem, IsSystem}
+use Rattle.cyc_script_machine.specs.Kept.{new_system}
 use Rattle.cyc_script_machine.specs.Beginning.{IsEmpty}
 use Rattle.cyc_script_machine.specs.Machine.{AllMost}
 use Rattle.cyc_script_machine.proofs.Mosts.{most_new}

@@ -1,5 +1,5 @@
 use Rattle.std.proofs.Common.{◌≡◌, length}
-use Rattle.cyc_system_model.specs.Kept.{AreNew}
+use Rattle.cyc_script_machine.specs.Kept.{AreNew}
 use Rattle.cyc_script_machine.proofs.beginning.new_levels.Given as goal
 
 abbrev pub invariant-loop : goal.invariant-loop

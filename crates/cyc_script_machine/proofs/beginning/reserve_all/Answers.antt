@@ -1,6 +1,6 @@
 use Rattle.std.proofs.Common.{subst}
-use Rattle.cyc_system_model.specs.CpuCalls.{Reserve, Changes}
-use Rattle.cyc_system_model.specs.Soft.{raise_tables}
+use Rattle.cyc_cpu.specs.Calls.{Reserve, Changes}
+use Rattle.cyc_cpu.specs.Soft.{raise_tables}
 use Rattle.cyc_script_machine.proofs.Start.{reserved_or_not, only_if_refused}
 use Rattle.cyc_script_machine.proofs.beginning.reserve_all.Goals as goal
 

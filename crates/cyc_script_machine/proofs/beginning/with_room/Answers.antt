@@ -1,9 +1,9 @@
 use Rattle.std.proofs.Common.{ap, sym, ◌∙◌, subst}
 use Rattle.std.specs.Prelude.{All}
 use Rattle.cyc_core.specs.Tables.{Tables}
-use Rattle.cyc_system_model.specs.Soft.{firing_at}
-use Rattle.cyc_system_model.specs.System.{SystemView}
-use Rattle.cyc_system_model.specs.Splitting.{EachTwo, AllComeBack}
+use Rattle.cyc_cpu.specs.Soft.{firing_at}
+use Rattle.cyc_system.specs.System.{SystemView}
+use Rattle.cyc_system.specs.Splitting.{EachTwo, AllComeBack}
 use Rattle.cyc_script_machine.specs.Beginning.{IsEmpty, HasReserved}
 use Rattle.cyc_script_machine.proofs.Start.{come_back}
 use Rattle.cyc_script_machine.proofs.beginning.with_room.Goals as goal

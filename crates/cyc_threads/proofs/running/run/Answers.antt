@@ -1,6 +1,6 @@
 use Rattle.std.proofs.Common.{ℕ, List, subst}
 use Rattle.std.specs.Prelude.{string_bytes}
-use Rattle.cyc_script_machine.specs.declared.fault.RunFault.TheVariants as run_fault
+use Rattle.cyc_text.specs.declared.fault.RunFault.TheVariants as run_fault
 use Rattle.cyc_text.specs.Puts.{AppendsPrefix}
 use Rattle.cyc_workers.proofs.Joining.{at_err}
 use Rattle.cyc_threads.specs.Refusing.{StopsBy}

@@ -2,10 +2,10 @@ use Rattle.std.proofs.Common.{◌+◌, ◌≡◌, sym, ◌∙◌, subst, refl, I
 use Rattle.cyc_types.specs.Firing.{seen_of}
 use Rattle.cyc_types.specs.Runs.{Goes}
 use Rattle.cyc_types.specs.declared.level.Level.TheVariants.{Low, Lock}
-use Rattle.cyc_fire.specs.Rows.{cyclic_of, cyclics_of}
+use Rattle.cyc_timers.specs.Rows.{cyclic_of, cyclics_of}
 use Rattle.cyc_cpu.specs.Cpu.{CpuView, HasNoCyclic, Asks}
-use Rattle.cyc_fire.specs.Quiet.{asks_at}
-use Rattle.cyc_fire.proofs.Readying.{hard_kept, asks_keep}
+use Rattle.cyc_timers.specs.Quiet.{asks_at}
+use Rattle.cyc_timers.proofs.Readying.{hard_kept, asks_keep}
 use Rattle.cyc_cpu.specs.Losses.{IsSparedAt}
 use Rattle.cyc_cpu.proofs.Lawful.{spared_row}
 use Rattle.cyc_cpu.proofs.Inquiring.{seen_asked}

@@ -5,9 +5,9 @@ use Rattle.cyc_types.specs.Series.{never}
 use Rattle.cyc_types.specs.Firing.{Marks, Polls}
 use Rattle.cyc_types.specs.Runs.{Goes}
 use Rattle.cyc_types.specs.declared.level.Level.TheVariants.{Low, Lock, High}
-use Rattle.cyc_fire.specs.Rows.{cyclic_of, cyclics_of, at_moment}
+use Rattle.cyc_timers.specs.Rows.{cyclic_of, cyclics_of, at_moment}
 use Rattle.cyc_cpu.specs.Cpu.{CpuView, IsCyclic, HasNoCyclic}
-use Rattle.cyc_fire.specs.Ends.{IsHard}
+use Rattle.cyc_timers.specs.Ends.{IsHard}
 use Rattle.cyc_cpu.specs.Removal.{calls_at, HasPolled}
 use Rattle.cyc_cpu.proofs.Lawful.{spared_row}
 use Rattle.cyc_cpu.proofs.Cyclics.{is_cyclic, no_cyclic, cyclics_set}

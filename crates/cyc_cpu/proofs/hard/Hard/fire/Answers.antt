@@ -1,6 +1,6 @@
 use Rattle.std.proofs.Common.{◌≢◌, arith, subst, refl}
 use Rattle.cyc_types.specs.Series.{never}
-use Rattle.cyc_fire.specs.Rows.{cyclics_of}
+use Rattle.cyc_timers.specs.Rows.{cyclics_of}
 use Rattle.cyc_cpu.specs.Cpu.{CpuView, running}
 use Rattle.cyc_cpu.specs.Calls.{Fire, Does, no_interrupts}
 use Rattle.cyc_cpu.proofs.Calling.{fired}

@@ -1,5 +1,5 @@
 use Rattle.std.proofs.Common.{subst}
-use Rattle.cyc_fire.specs.Rows.{cyclic_of}
+use Rattle.cyc_timers.specs.Rows.{cyclic_of}
 use Rattle.cyc_cpu.specs.Cpu.{CpuView, HasNoCyclic}
 use Rattle.cyc_cpu.specs.Removal.{HasCyclic}
 use Rattle.cyc_cpu.proofs.Cyclics.{is_cyclic, no_cyclic}

@@ -1,6 +1,6 @@
 use Rattle.std.proofs.Common.{arith, length, ap, ◌∙◌, subst, sym}
 use Rattle.std.proofs.lemmas.List.{length-map}
-use Rattle.cyc_fire.specs.Rows.{Cyclic, cyclic_of}
+use Rattle.cyc_timers.specs.Rows.{Cyclic, cyclic_of}
 use Rattle.cyc_cpu.specs.Cpu.{CpuView, IsCyclic}
 use Rattle.cyc_cpu.proofs.Cyclics.{row_of_cyclic}
 use Rattle.cyc_cpu.proofs.hard.Hard.id_at.Goals as goal

@@ -1,8 +1,8 @@
 use Rattle.std.proofs.Common.{sym, ap, ◌∙◌}
-use Rattle.cyc_fire.specs.Timers.{earliest}
-use Rattle.cyc_fire.proofs.Firings.{earliest_least}
-use Rattle.cyc_fire.specs.Rows.{timers, timers_of}
-use Rattle.cyc_fire.proofs.Stepping.{timer_is, timer_low}
+use Rattle.cyc_types.specs.Timers.{earliest}
+use Rattle.cyc_types.proofs.Firings.{earliest_least}
+use Rattle.cyc_timers.specs.Rows.{timers, timers_of}
+use Rattle.cyc_timers.proofs.Stepping.{timer_is, timer_low}
 use Rattle.cyc_cpu.specs.Cpu.{CpuView}
 use Rattle.cyc_cpu.proofs.hard.Hard.next.Goals as goal
 

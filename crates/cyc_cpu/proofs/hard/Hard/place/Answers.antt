@@ -3,11 +3,11 @@ use Rattle.std.proofs.Common.{◌≤◌, length, arith, ap, sym, ◌∙◌, subs
 use Rattle.std.specs.Prelude.{insert}
 use Rattle.cyc_types.specs.Runs.{Goes}
 use Rattle.cyc_types.specs.declared.level.Level.TheVariants.{Low, Lock}
-use Rattle.cyc_fire.specs.Record.{Record}
-use Rattle.cyc_fire.specs.Rows.{cyclic_of, cyclics_of, with_record, vacant_row}
+use Rattle.cyc_timers.specs.declared.table.Record.{Record}
+use Rattle.cyc_timers.specs.Rows.{cyclic_of, cyclics_of, with_record, vacant_row}
 use Rattle.cyc_cpu.specs.Cpu.{CpuView, HasNoCyclic, cyclic_with}
-use Rattle.cyc_fire.specs.Ends.{IsHard}
-use Rattle.cyc_fire.specs.Quiet.{admits_at}
+use Rattle.cyc_timers.specs.Ends.{IsHard}
+use Rattle.cyc_timers.specs.Quiet.{admits_at}
 use Rattle.cyc_cpu.proofs.Cyclics.{no_row_of, cyclics_insert, not_removed, rising_cyclics}
 use Rattle.cyc_cpu.proofs.Entering.{hard_entered, may_admit}
 use Rattle.cyc_cpu.proofs.hard.Hard.place.Goals as goal

@@ -3,13 +3,13 @@ use Rattle.std.specs.Prelude.{remove}
 use Rattle.cyc_types.specs.Firing.{Polls, MayPoll}
 use Rattle.cyc_types.specs.Runs.{Goes}
 use Rattle.cyc_types.specs.declared.level.Level.TheVariants.{Low, Lock}
-use Rattle.cyc_fire.specs.Rows.{cyclic_of, cyclics_of}
+use Rattle.cyc_timers.specs.Rows.{cyclic_of, cyclics_of}
 use Rattle.cyc_cpu.specs.Cpu.{CpuView}
-use Rattle.cyc_fire.specs.Ends.{IsHard}
+use Rattle.cyc_timers.specs.Ends.{IsHard}
 use Rattle.cyc_cpu.specs.Removal.{calls_at, HasPolled}
 use Rattle.cyc_cpu.proofs.Lawful.{spared_row}
 use Rattle.cyc_cpu.proofs.Cyclics.{is_cyclic}
-use Rattle.cyc_fire.proofs.Readying.{hard_kept}
+use Rattle.cyc_timers.proofs.Readying.{hard_kept}
 use Rattle.cyc_cpu.proofs.Removals.{hard_left, polled_left, polls_keep, marked_lock, marked_low, unmarked_lock, unmarked_low}
 use Rattle.cyc_cpu.proofs.Removals.{cyclics_less, waits_from, ends_from, has_polled, polled_sent}
 use Rattle.cyc_cpu.proofs.hard.Hard.poll_remove.Goals as goal

@@ -1,9 +1,9 @@
 use Rattle.std.proofs.Common.{◌≢◌, ap, sym, ◌∙◌, subst, refl, inl, Some}
 use Rattle.std.proofs.Math.ListN.{set}
-use Rattle.cyc_fire.specs.Rows.{cyclic_of, cyclics_of, at_moment}
+use Rattle.cyc_timers.specs.Rows.{cyclic_of, cyclics_of, at_moment}
 use Rattle.cyc_cpu.specs.Cpu.{CpuView, IsCyclic, HasNoCyclic, with_moment}
-use Rattle.cyc_fire.specs.Ends.{IsHard}
-use Rattle.cyc_fire.proofs.Readying.{hard_moved}
+use Rattle.cyc_timers.specs.Ends.{IsHard}
+use Rattle.cyc_timers.proofs.Readying.{hard_moved}
 use Rattle.cyc_cpu.proofs.Cyclics.{is_cyclic, no_cyclic, cyclics_set}
 use Rattle.cyc_cpu.proofs.hard.Hard.reprogram.Goals as goal
 

@@ -1,6 +1,6 @@
 use Rattle.std.proofs.Common.{[], ◌∷◌, arith, sym, subst, refl}
 use Rattle.std.proofs.lemmas.List.{length-map}
-use Rattle.cyc_fire.specs.Rows.{cyclic_of}
+use Rattle.cyc_timers.specs.Rows.{cyclic_of}
 use Rattle.cyc_cpu.specs.Cpu.{CpuView}
 use Rattle.cyc_cpu.specs.Calls.{Changes, AskRoom}
 use Rattle.cyc_cpu.proofs.Cyclics.{looked_from}

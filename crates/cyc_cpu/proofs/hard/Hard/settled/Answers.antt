@@ -1,7 +1,7 @@
 use Rattle.std.proofs.Common.{[], ◌∷◌, ap, sym, ◌∙◌, refl, arith}
 use Rattle.cyc_types.specs.declared.level.Level.TheVariants.{Low, Lock}
 use Rattle.cyc_cpu.specs.Cpu.{CpuView}
-use Rattle.cyc_fire.proofs.Readying.{hard_kept, looks_keep}
+use Rattle.cyc_timers.proofs.Readying.{hard_kept, looks_keep}
 use Rattle.cyc_cpu.proofs.Softs.{keeps_on}
 use Rattle.cyc_cpu.proofs.Inquiring.{only_loads_keep, looks_see, quiet_end, none_some, some_not_none, on_true, inquires_from}
 use Rattle.cyc_cpu.proofs.Inquiring.{settled_either, no_settled}

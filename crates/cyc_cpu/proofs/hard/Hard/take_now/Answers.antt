@@ -3,14 +3,14 @@ use Rattle.std.specs.Prelude.{remove}
 use Rattle.cyc_types.specs.Firing.{Loads, Marks, Polls, seen_of}
 use Rattle.cyc_types.specs.Runs.{Goes}
 use Rattle.cyc_types.specs.declared.level.Level.TheVariants.{Low, Lock}
-use Rattle.cyc_fire.specs.Rows.{cyclic_of, cyclics_of}
+use Rattle.cyc_timers.specs.Rows.{cyclic_of, cyclics_of}
 use Rattle.cyc_cpu.specs.Cpu.{CpuView, IsCyclic, HasNoCyclic}
-use Rattle.cyc_fire.specs.Ends.{IsHard}
-use Rattle.cyc_fire.specs.Quiet.{asks_at}
+use Rattle.cyc_timers.specs.Ends.{IsHard}
+use Rattle.cyc_timers.specs.Quiet.{asks_at}
 use Rattle.cyc_cpu.specs.Removal.{calls_at, HasPolled}
 use Rattle.cyc_cpu.proofs.Lawful.{spared_row}
 use Rattle.cyc_cpu.proofs.Cyclics.{is_cyclic, no_cyclic, asks_from}
-use Rattle.cyc_fire.proofs.Readying.{hard_kept, asks_keep}
+use Rattle.cyc_timers.proofs.Readying.{hard_kept, asks_keep}
 use Rattle.cyc_cpu.proofs.Removals.{hard_left, taken_left, no_mark, cyclics_less, leaves_from, has_polled, taken_sent}
 use Rattle.cyc_cpu.proofs.hard.Hard.take_now.Goals as goal
 

@@ -1,6 +1,6 @@
 use Rattle.std.proofs.Common.{All, subst}
-use Rattle.cyc_fire.specs.Timers.{IsSound}
-use Rattle.cyc_fire.specs.Rows.{timers}
+use Rattle.cyc_types.specs.Timers.{IsSound}
+use Rattle.cyc_timers.specs.Rows.{timers}
 use Rattle.cyc_cpu.specs.Cpu.{CpuView}
 use Rattle.cyc_cpu.proofs.hard.Hard.timers_law.Goals as goal
 

@@ -2,9 +2,9 @@ use Rattle.std.proofs.Common.{◌≡◌, ◌<◌, ◌≤◌, ◌+◌, ◌^◌, l
 use Rattle.std.proofs.lemmas.List.{length-map}
 use Rattle.cyc_types.specs.Firing.{Expands}
 use Rattle.cyc_types.specs.Runs.{Taught}
-use Rattle.cyc_fire.specs.Rows.{TableView, cyclic_of, cyclics_of}
+use Rattle.cyc_timers.specs.Rows.{TableView, cyclic_of, cyclics_of}
 use Rattle.cyc_cpu.specs.Cpu.{CpuView, bank_for}
-use Rattle.cyc_fire.specs.Ends.{IsHard}
+use Rattle.cyc_timers.specs.Ends.{IsHard}
 use Rattle.cyc_cpu.proofs.Entering.{hard_expanded, pow_order}
 use Rattle.cyc_cpu.proofs.Sizes.{size_grows, size_stays}
 use Rattle.cyc_cpu.proofs.hard.Hard.widen.Goals as goal

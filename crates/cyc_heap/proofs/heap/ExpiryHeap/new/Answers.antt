@@ -1,6 +1,6 @@
 use Rattle.std.proofs.Common.{◌≡◌, ◌++◌, ◌-◌, ℕ, List, [], replicate, Option, None, is_some, count_by, length, sym, ap, ◌∙◌}
 use Rattle.std.proofs.Common.{arith}
-use Rattle.cyc_expirations.specs.Expirations.{Expiration}
+use Rattle.cyc_types.specs.Expirations.{Expiration}
 use Rattle.cyc_heap.specs.declared.entry.Entry.{Entry}
 use Rattle.cyc_heap.specs.Array.{IsLinked, index_positions, slots}
 use Rattle.cyc_heap.specs.Heap.{HeapView, new_heap}

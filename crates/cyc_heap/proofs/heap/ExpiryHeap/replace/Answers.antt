@@ -1,7 +1,7 @@
 use Rattle.std.proofs.Common.{◌≡◌, ◌≢◌, ℕ, ◌≤◌, ◌<◌, List, sym, ap, ◌∙◌, subst, arith, Some, IfNone, length}
 use Rattle.std.proofs.Math.ListN.{set}
 use Rattle.std.proofs.lemmas.List.{get_or_default}
-use Rattle.cyc_expirations.specs.Expirations.{Expiration}
+use Rattle.cyc_types.specs.Expirations.{Expiration}
 use Rattle.cyc_heap.specs.declared.entry.Entry.{Entry}
 use Rattle.cyc_heap.specs.Array.{nowhere, key, key_at, id_of, index_of, index_at, index_positions, slots}
 use Rattle.cyc_heap.specs.Heap.{HeapView, with_moment}

@@ -1,5 +1,5 @@
 use Rattle.std.proofs.Common.{◌≡◌, ◌≤◌, ◌-◌, ◌++◌, replicate, None, is_some, count_by, true, length, sym, ap, ◌∙◌, subst₂, arith}
-use Rattle.cyc_expirations.specs.Expirations.{is_before}
+use Rattle.cyc_types.specs.Expirations.{is_before}
 use Rattle.cyc_heap.specs.Array.{key, slots, index_positions}
 use Rattle.cyc_heap.specs.Heap.{HeapView, size_of}
 use Rattle.cyc_heap.proofs.Slots.{length-slots}

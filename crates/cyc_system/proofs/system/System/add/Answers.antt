@@ -19,7 +19,7 @@ use Rattle.cyc_agreement.proofs.Spots.{seen, get_last}
 use Rattle.cyc_cpu_laws.specs.Calls.{Reserve}
 use Rattle.cyc_agreement.specs.Cpus.{on}
 use Rattle.cyc_agreement.specs.Adding.{entering}
-use Rattle.cyc_agreement.proofs.Refusing.{not_never, not_spent}
+use Rattle.cyc_agreement.proofs.FirstReason.{not_never, not_spent}
 use Rattle.cyc_system.proofs.system.System.add.Goals as goal
 
 pub unreachable-requires : goal.unreachable-requires

@@ -8,7 +8,7 @@ use Rattle.cyc_agreement.proofs.Who.{same_changed, same_reprogram}
 use Rattle.cyc_agreement.proofs.Holding.{holds_same}
 use Rattle.cyc_agreement.proofs.Presence.{has_low, cyclic_here, not_leaving, present_clear, single_clear, omni_refused, at_home}
 use Rattle.cyc_agreement.proofs.Presence.{home_is}
-use Rattle.cyc_agreement.proofs.Refusing.{passes, stops}
+use Rattle.cyc_agreement.proofs.FirstReason.{passes, stops}
 use Rattle.cyc_system.proofs.system.System.reprogram.Goals as goal
 
 pub reprogram_at-requires-clause-number : goal.reprogram_at-requires-clause-number

@@ -2,7 +2,7 @@ use Rattle.std.proofs.Common.{◌<◌, length, length-set, get_or, arith, ap, sy
 use Rattle.std.proofs.Math.ListN.{set}
 use Rattle.std.proofs.lemmas.List.{length-map}
 use Rattle.std.specs.Prelude.{insert}
-use Rattle.cyc_heap.specs.Expirations.{Expiration}
+use Rattle.cyc_types.specs.Expirations.{Expiration}
 use Rattle.cyc_finder.specs.Sorted.{IsAt, IsGap}
 use Rattle.cyc_timers.specs.Rows.{Row, TableView, IsTable, HasNo, id_in, row_of, rows_of, with_record, vacant_row}
 use Rattle.cyc_timers.proofs.Tables.{row_at, row_here}

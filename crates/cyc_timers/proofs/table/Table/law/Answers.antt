@@ -1,5 +1,5 @@
 use Rattle.std.proofs.Common.{◌<◌, All, subst}
-use Rattle.cyc_heap.specs.Timers.{IsSound}
+use Rattle.cyc_types.specs.Timers.{IsSound}
 use Rattle.cyc_timers.specs.Rows.{TableView, timers_of, IsRising, HasDistinctIndexes}
 use Rattle.cyc_timers.proofs.Tables.{rows_rise, indexes_apart, indexes_low, timers_sound}
 use Rattle.cyc_timers.proofs.table.Table.law.Goals as goal

@@ -1,7 +1,7 @@
 use Rattle.std.proofs.Common.{◌≡◌, ◌-◌, ◌++◌, max, length, arith, ap, sym, ◌∙◌, subst, None, Option, length-append}
 use Rattle.std.proofs.lemmas.List.{length-replicate}
 use Rattle.std.proofs.Math.ListN.{replicate}
-use Rattle.cyc_heap.specs.Expirations.{Expiration}
+use Rattle.cyc_types.specs.Expirations.{Expiration}
 use Rattle.cyc_timers.specs.Rows.{TableView, IsTable, rows_of}
 use Rattle.cyc_timers.proofs.Widening.{wide_rows, wide_table, resized}
 use Rattle.cyc_timers.proofs.table.Table.widen.Goals as goal

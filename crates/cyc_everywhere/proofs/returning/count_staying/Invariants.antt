@@ -1,6 +1,0 @@
-use Rattle.std.proofs.Common.{◌≡◌, length, filter, take}
-use Rattle.cyc_everywhere.specs.Online.{is_staying}
-use Rattle.cyc_everywhere.proofs.returning.count_staying.Given as goal
-
-abbrev pub invariant-loop-place : goal.invariant-loop-place
-invariant-loop-place g l = l.count ≡ length (filter (is_staying l.cpus) (take l.place l.records.list))

@@ -1,4 +1,0 @@
-pub mod Order
-pub mod Dues
-pub mod Firings
-pub mod Laws

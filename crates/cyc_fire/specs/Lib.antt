@@ -1,9 +1,0 @@
-pub mod Acts
-pub mod Quiet
-pub mod Ends
-pub mod Made
-pub mod Shares
-pub use Rattle.cyc_timers.specs.Expirations
-pub use Rattle.cyc_timers.specs.declared.table.Record
-pub use Rattle.cyc_timers.specs.Rows
-pub use Rattle.cyc_timers.specs.Timers

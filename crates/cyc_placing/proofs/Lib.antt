@@ -1,3 +1,0 @@
-pub mod Series
-pub mod Moments
-pub mod Turns

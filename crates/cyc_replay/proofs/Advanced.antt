@@ -1,0 +1,102 @@
+-- An advance of the machine, from the setting of its clock to the fire of the last CPU.
+use Rattle.std.proofs.Common.{◌≡◌, ℕ, ◌<◌, ◌≤◌, refl, ap, sym, ◌∙◌, List, [], None, Some, subst, true, false, arith}
+use Rattle.std.specs.Prelude.{nat_le}
+use Rattle.std.proofs.lemmas.Bool.Decides.{nat_tests}
+use Rattle.cyc_types.specs.Series.{never}
+use Rattle.cyc_types.specs.Tally.{TallyView, tally_count}
+use Rattle.cyc_types.specs.declared.refusal.Refusal.TheVariants.{BadNow}
+use Rattle.cyc_core.specs.Tables.{Tables}
+use Rattle.cyc_script.specs.Limits.{most_steps}
+use Rattle.cyc_script.specs.declared.step.Step.TheVariants.{Advance}
+use Rattle.cyc_script_machine.specs.System.{RunningSystem, running_system}
+use Rattle.cyc_model.specs.State.{State, Outcome, online_cpus}
+use Rattle.cyc_types.specs.Reasons.{when, bad_now}
+use Rattle.cyc_model.specs.Advance.{advance}
+use Rattle.cyc_script_machine.specs.Advancing.{at_clock, fired_and_lost, HasFired, IsAdvanced}
+use Rattle.cyc_script_machine.specs.declared.machine.Machine.{Machine}
+use Rattle.cyc_script_machine.specs.Machine.{Holds, IsReached}
+use Rattle.cyc_script_machine.specs.Words.{Comes, TakesWord}
+use Rattle.cyc_script_machine.proofs.Doing.{called_done, word_done}
+use Rattle.cyc_model.proofs.Still.{still_fires}
+use Rattle.cyc_script_machine.proofs.Named.{reached_good}
+use Rattle.cyc_script_machine.proofs.Remembering.{remembers_on, remembers_does}
+use Rattle.cyc_replay.specs.Advancing.{IsAdvancing}
+
+below_never : (now : ℕ) → now < never → nat_le never now ≡ false
+below_never now low = grind (arith, nat_tests)
+
+above_never : (now : ℕ) → never ≤ now → nat_le never now ≡ true
+above_never now high = grind (arith, nat_tests)
+
+pub in_time : (now : ℕ) → now < never → bad_now now ≡ None
+in_time now low = ap (λ b. when b BadNow) (below_never now low)
+
+pub too_late : (now : ℕ) → never ≤ now → bad_now now ≡ Some BadNow
+too_late now high = ap (λ b. when b BadNow) (above_never now high)
+
+pub begins : (step now : ℕ) (s : State) (m : Machine) → step ≤ most_steps → IsReached step s → Holds s m → now < never
+    → HasFired tally_count 0 (fired_and_lost 0 0) (at_clock now s) (running_system m.tally m.system)
+    (running_system m.tally m.system)
+    → IsAdvancing step 0 0 0 s (running_system m.tally m.system) (record m { clock = now })
+begins step now s m few r h before fired = record {
+  reached = r;
+  few = few;
+  before = before;
+  fired = fired;
+  called = h.called;
+  system = h.system;
+  names = h.names;
+  remembers = remembers_on s s m (record m { clock = now }) h.remembers (record { names = refl; counted = refl; named = refl })
+      (omega arith)
+      (λ id low gone. gone) (λ id low gone. refl);
+  tally = h.tally;
+  most = h.most;
+  room = h.room;
+}
+
+-- the clock is the one that was set
+pub fired_at : (step n expired lost now : ℕ) (s : State) (first : RunningSystem TallyView Tables) (t : Machine)
+    → IsAdvancing step n expired lost s first t → t.clock ≡ now
+    → HasFired tally_count n (fired_and_lost expired lost) (at_clock now s) first (running_system t.tally t.system)
+fired_at step n expired lost now s first t a clock =
+    subst (λ k. HasFired tally_count n (fired_and_lost expired lost) (at_clock k s) first (running_system t.tally t.system))
+    clock a.fired
+
+-- after the last fire
+pub advanced : (step k n expired lost now : ℕ) (s : State) (first : RunningSystem TallyView Tables) (t : Machine)
+    → IsAdvancing step n expired lost s first t → t.clock ≡ now → now < never
+    → IsAdvanced tally_count now expired lost s first (running_system t.tally t.system) → Comes [] s (advance k now s) t
+advanced step k n expired lost now s first t a clock before d =
+    let still = still_fires now (online_cpus s) (record s { clock = now }) in
+    let o = d.comes k in
+    record {
+      holds = record {
+        system = a.system;
+        shows = o.shows;
+        clock = still.clock ∙ sym clock;
+        called = λ id.
+            let now_called = d.called k id in let was = a.called id in
+            let told = called_done [] (λ j. j) k (Advance now) s id (in_time now before) in
+            omega (arith, now_called, was, told);
+        names = still.names ∙ a.names;
+        remembers = remembers_does [] (λ j. j) k (Advance now) s t t tt (reached_good step s a.reached)
+            (in_time now before) a.remembers
+            (record { names = refl; counted = refl; named = refl }) (let last = still.last in omega (arith, last));
+        tally = a.tally;
+        most = a.most;
+        room = a.room;
+      };
+      admissions = o.admissions;
+      free = o.free;
+    }
+
+-- the word, and where it is refused
+pub advance_taken : (texts : List (List ℕ)) (step now : ℕ) (line : List ℕ) (s : State) (t : Machine) → now < never
+    → line ≡ (advance step now s).line → Comes [] s (advance step now s) t → TakesWord texts step (Advance now) line s t
+advance_taken texts step now line s t before same comes = record {
+  given = [];
+  line_is = λ indexes gives. same ∙ ap (λ (o : Outcome). o.line)
+      (sym (word_done texts indexes step (Advance now) s (in_time now before)));
+  comes = λ indexes gives. subst (λ o. Comes [] s o t) (sym (word_done texts indexes step (Advance now) s (in_time now before)))
+      comes;
+}

@@ -1,0 +1,18 @@
+use Rattle.std.proofs.Common.{◌≡◌, ℕ, ◌*◌, ◌^◌, ◌≤◌, length}
+use Rattle.cyc_types.specs.Tally.{TallyView}
+use Rattle.cyc_core.specs.Tables.{Tables}
+use Rattle.cyc_script_machine.specs.System.{RunningSystem}
+use Rattle.cyc_model.specs.State.{State}
+use Rattle.cyc_replay.specs.Advancing.{IsAdvancing}
+use Rattle.cyc_replay.proofs.advancing.fire_all.Given as goal
+
+-- the CPUs below this number have fired
+abbrev pub invariant-loop-cpu : goal.invariant-loop-cpu
+invariant-loop-cpu l = record {
+  so_far : (step : ℕ) (s : State) (first : RunningSystem TallyView Tables) → IsAdvancing step 0 0 0 s first l.initial.machine
+      → IsAdvancing step l.cpu l.made.expired l.made.lost s first l.machine;
+  clock : l.machine.clock ≡ l.initial.machine.clock;
+  many : length l.machine.system.cpus.cpus ≡ length l.initial.machine.system.cpus.cpus;
+  few_expired : l.made.expired ≤ l.cpu * 2 ^ 64;
+  few_lost : l.made.lost ≤ l.cpu * 2 ^ 64;
+}

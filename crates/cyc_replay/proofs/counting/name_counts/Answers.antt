@@ -1,0 +1,67 @@
+use Rattle.std.proofs.Common.{◌≡◌, ℕ, Option, Some, None, refl, ap, sym, ◌∙◌, subst, cond}
+use Rattle.cyc_script_machine.specs.System.{running_system}
+use Rattle.cyc_cpu.specs.Soft.{fires, firing_at}
+use Rattle.cyc_script_machine.specs.Calls.{Changes, AskTotals}
+use Rattle.cyc_script_machine.specs.Shown.{ShowsSystem}
+use Rattle.cyc_model.specs.Report.{counts_of}
+use Rattle.cyc_script_machine.specs.Machine.{id_at, counted_at}
+use Rattle.cyc_script_machine.proofs.Doing.{keeps, refuses}
+use Rattle.cyc_script_machine.proofs.Named.{same_id}
+use Rattle.cyc_script_machine.proofs.Remembering.{nobody_counts}
+use Rattle.cyc_replay.proofs.Reported.{same_counts}
+use Rattle.cyc_replay.proofs.counting.name_counts.Goals as goal
+
+pub returns-in_default-clause-counts : goal.returns-in_default-clause-counts
+returns-in_default-clause-counts c = λ step s r h.
+    let m = c.args.machine.now in let name = c.args.name in
+    let found = c.id_of.ensures ∙ ap (λ xs. id_at xs name) c.deref.ensures.value in
+    let none = same_id s m name name None h refl (sym c.in_default.is ∙ found) in
+    c.no_counts.ensures ∙ sym (ap (λ k. counts_of k s) none ∙ nobody_counts step s r)
+
+pub returns-in_default-answer-clause-counts : goal.returns-in_default-answer-clause-counts
+returns-in_default-answer-clause-counts c = λ step s r h.
+    let m = c.args.machine.now in let name = c.args.name in let id = c.in-Some.id in let w = c.totals-answer.new.self in
+    let found = c.id_of.ensures ∙ ap (λ xs. id_at xs name) c.deref.ensures.value in
+    let at = sym (sym c.in-Some.is ∙ found) in
+    let named = same_id s m name name (Some id) h refl (sym c.in-Some.is ∙ found) in
+    let gone = (c.report_law.ensures.none id s m.system w h.system h.shows c.in_default-answer.ensures).0 in
+    let counted = c.counted_of-counted.ensures ∙ ap (λ xs. counted_at xs name) c.deref-in_default-answer.ensures.value in
+    let calls = c.from-called.ensures ∙ c.called_by.ensures ∙ h.called id in
+    same_counts _ _ (λ z. (counted z).expired) calls (λ z. (counted z).lost) refl
+    ∙ sym (h.remembers.counted name id at gone) ∙ sym (ap (λ k. counts_of k s) named)
+
+pub returns-in_default-answer-clause-holds : goal.returns-in_default-answer-clause-holds
+returns-in_default-answer-clause-holds c = λ s h.
+    let m = c.args.machine.now in let id = c.in-Some.id in let w = c.totals-answer.new.self in let did =
+    c.in_default-answer.ensures in
+    let before = running_system m.tally m.system in let after = running_system m.tally w in
+    let kept = c.kept_law.ensures in let call = AskTotals id None in
+    let system = kept.system call before after (did, refl) h.system c.law.ensures in
+    let same = (c.report_law.ensures.none id s m.system w h.system h.shows did).1 in
+    refuses s m (record m { system = w }) h
+    (keeps s m w h system (kept.most call before after (did, refl) h.system)
+    (kept.room call before after (did, refl) h.system h.room))
+    (subst (λ v. ShowsSystem s v) (sym same) h.shows) refl refl (record { names = refl; counted = refl; named = refl })
+
+pub returns-clause-counts : goal.returns-clause-counts
+returns-clause-counts c = λ step s r h.
+    let m = c.args.machine.now in let name = c.args.name in let id = c.in-Some.id in let w = c.totals-answer.new.self in
+    let totals = c.in-Some-answer.totals in
+    let found = c.id_of.ensures ∙ ap (λ xs. id_at xs name) c.deref.ensures.value in
+    let named = same_id s m name name (Some id) h refl (sym c.in-Some.is ∙ found) in
+    let told = (c.report_law.ensures.some id totals s m.system w h.system h.shows c.in-Some-answer.ensures).1 in
+    let calls = c.from-called.ensures ∙ c.called_by.ensures ∙ h.called id in
+    same_counts _ _ refl calls refl refl ∙ sym told ∙ sym (ap (λ k. counts_of k s) named)
+
+pub returns-clause-holds : goal.returns-clause-holds
+returns-clause-holds c = λ s h.
+    let m = c.args.machine.now in let id = c.in-Some.id in let w = c.totals-answer.new.self in let did =
+    c.in-Some-answer.ensures in
+    let before = running_system m.tally m.system in let after = running_system m.tally w in
+    let kept = c.kept_law.ensures in let call = AskTotals id (Some c.in-Some-answer.totals) in
+    let system = kept.system call before after (did, refl) h.system c.law.ensures in
+    let shows = (c.report_law.ensures.some id c.in-Some-answer.totals s m.system w h.system h.shows did).0 in
+    refuses s m (record m { system = w }) h
+    (keeps s m w h system (kept.most call before after (did, refl) h.system)
+    (kept.room call before after (did, refl) h.system h.room))
+    shows refl refl (record { names = refl; counted = refl; named = refl })

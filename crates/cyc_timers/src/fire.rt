@@ -1,0 +1,235 @@
+//! One fire: every expiration that is due, in order.
+
+ghost use Rattle.std.specs.Prelude.{◌≡◌, ℕ, ◌+◌, ◌<◌, ◌≤◌, ◌++◌, ◌∷◌, [], length, min, All, List, Some, IfOk, IfErr, OnOk, OnErr};
+ghost use Rattle.std.specs.Prelude.{IfNone, IfSome};
+ghost use Rattle.std.specs.Bool.{OnTrue, OnFalse};
+ghost use Rattle.cyc_types.specs.Series.{due, next, never, late};
+ghost use Rattle.cyc_types.specs.Firing.{MayRaise, Sound};
+ghost use Rattle.cyc_types.specs.Levels.{at_level};
+ghost use Rattle.cyc_types.specs.declared.level.Level.TheVariants.{Low, Lock, High};
+ghost use Rattle.cyc_types.specs.Timers.{earliest};
+ghost use Rattle.cyc_types.specs.Expirations.{Expiration, expirations};
+ghost use Rattle.cyc_timers.specs.Rows.{Row, IsRow, timers_of, cyclics_of, IsFirstAt};
+ghost use Rattle.cyc_timers.specs.Ends.{IsReady};
+ghost use Rattle.cyc_timers.specs.Made.{Makes, WhyStopped};
+ghost use Rattle.cyc_timers.specs.Acts.{Sides, Acts, RaisedOnce, id_at, way_losses};
+
+use crate::table::Table;
+use cyc_types::{
+    Calls, CyclicId, Index, Interval, LATE, Level, Moment, Raise, Raised, Refusal, Refused, next,
+};
+
+/// The moment of this many nanoseconds, at most never.
+fn nearest_moment(nanoseconds: u64) -> Moment
+    ensures { result ≡ min nanoseconds never }
+{
+    let nearest = nanoseconds.min(Moment::NEVER.nanoseconds());
+    Moment::new(nearest as i64).unwrap()
+}
+
+/// Whether the expiration after one that is due, an interval later, is more than a second late. Mostly the first look answers.
+fn is_late(passed: u64, interval: u64) -> bool
+    ensures late { OnTrue result (interval + late < passed) }
+    ensures near { OnFalse result (passed ≤ interval + late) }
+{
+    passed > LATE && passed - LATE > interval
+}
+
+/// The expiration after one that is due (the loop of `cyclic_fire`).
+fn following(moment: Moment, interval: Interval, now: Moment) -> Moment
+    requires due { moment ≤ now }
+    requires now { now < never }
+    ensures due { due moment interval now ≡ 1 + due result interval now }
+    ensures next { next moment interval now ≡ next result interval now }
+    ensures follows { 0 < due result interval now → result ≡ moment + interval }
+    ensures later { moment ≤ result }
+    ensures bound { result ≤ never }
+{
+    let passed = now.nanoseconds() - moment.nanoseconds();
+    let length = interval.nanoseconds();
+    if is_late(passed, length) {
+        return next(moment, interval, now);
+    }
+    nearest_moment(moment.nanoseconds() + length)
+}
+
+/// Raises a cyclic once, and says how many expirations were lost.
+#[inline(always)]
+fn raise_once<R: Raise>(end: &mut R, id: CyclicId) -> u64
+    requires { MayRaise id (R.view end.old) }
+    ensures raised { RaisedOnce R.Raise id end.old end.new result }
+    ensures few { result ≤ 1 }
+    ensures sound { Sound (R.view end.new) }
+{
+    match end.raise(id) {
+        Raised::Lost => 1,
+        Raised::First | Raised::More => 0,
+    }
+}
+
+/// Makes one expiration at its level (`cyclic_expire`), and says how many were lost.
+pub fn expire_at<C: Calls, R: Raise>(
+    id: CyclicId,
+    level: Level,
+    calls: &mut C,
+    lock: &mut R,
+    low: &mut R,
+) -> Result<u64, Refused>
+    requires lock { level ≡ Lock → MayRaise id (R.view lock.old) }
+    requires low { level ≡ Low → MayRaise id (R.view low.old) }
+    ensures acts { IfOk result (λ lost. (a : Acts (at_level C.called High) C.count R.Raise (id_at High level id)
+        (id_at Lock level id) (id_at Low level id)
+        (record { calls = calls.old; lock = lock.old; low = low.old })
+        (record { calls = calls.new; lock = lock.new; low = low.new }))
+        × (lost ≡ way_losses a.lock_way + way_losses a.low_way)) }
+    ensures few { IfOk result (λ lost. lost ≤ 1) }
+    ensures sound_lock { Sound (R.view lock.old) → Sound (R.view lock.new) }
+    ensures sound_low { Sound (R.view low.old) → Sound (R.view low.new) }
+
+    // A refused call changes no count, and neither end.
+    ensures refused { OnErr result (C.may_refuse calls.old id) }
+    ensures high { OnErr result (level ≡ High) }
+    ensures kept { OnErr result ((q : ℕ) → C.count calls.new q ≡ C.count calls.old q) }
+    ensures lock { OnErr result (lock.new ≡ lock.old) }
+    ensures low { OnErr result (low.new ≡ low.old) }
+{
+    match level {
+        Level::High => {
+            calls.call(id, level)?;
+            Ok(0)
+        }
+        Level::Lock => Ok(raise_once(lock, id)),
+        Level::Low => Ok(raise_once(low, id)),
+    }
+}
+
+/// The cyclic that expires first, where it is due.
+fn due_root(table: &Table, now: Moment) -> Option<(Index, Moment, CyclicId)>
+    ensures none { IfNone result (All (λ t. now < t.moment) (timers_of table.now.rows)) }
+    ensures due { IfSome result (λ found. found.1 ≤ now) }
+    ensures root { IfSome result (λ found. table.now.root ≡ Some found.0) }
+    ensures first { IfSome result (λ found. (k : ℕ) × (r : Row) × IsRow table.now.rows k r × (r.index ≡ found.0)
+        × (r.timer.moment ≡ found.1) × (r.timer.id ≡ found.2) × IsFirstAt table.now.rows k) }
+{
+    let root = table.root()?;
+    if root.1.nanoseconds() > now.nanoseconds() {
+        return None;
+    }
+    Some(root)
+}
+
+/// What a fire did.
+#[derive(Clone, Copy, Debug, PartialEq, Eq)]
+pub struct Fired {
+    /// The expirations that were made.
+    pub expired: u64,
+    /// Those of them that were lost at the ceiling.
+    pub lost: u64,
+    /// The least expiration from now on, `NEVER` where there is none.
+    pub next: Moment,
+}
+
+/// A fire that stopped at an expiration that was refused.
+#[derive(Clone, Copy, Debug, PartialEq, Eq)]
+pub struct FireRefused {
+    /// The refusal.
+    pub why: Refusal,
+    /// The expirations that were made before.
+    pub expired: u64,
+    /// Those of them that were lost at the ceiling.
+    pub lost: u64,
+}
+
+/// The least expiration, `NEVER` where there is none.
+fn next_moment(table: &Table) -> Moment
+    requires { All (λ t. t.moment ≤ never) (timers_of table.now.rows) }
+    ensures { result ≡ earliest (timers_of table.now.rows) }
+{
+    match table.root() {
+        Some((_, moment, _)) => moment,
+        None => Moment::NEVER,
+    }
+}
+
+/// Makes every expiration that is due, in ascending order (`cyclic_fire`).
+pub fn fire_all<C: Calls, R: Raise>(
+    table: &mut Table,
+    lock: &mut R,
+    low: &mut R,
+    calls: &mut C,
+    most: u64,
+    now: Moment,
+) -> Result<Fired, FireRefused>
+    requires now { now < never }
+    requires ready { IsReady R.view table.old.size most (R.view lock.old).marked
+        (R.view low.old).marked lock.old low.old table.old.rows }
+
+    // The whole list was made, and no more.
+    ensures expired { IfOk result (λ r. r.expired ≡ length (expirations now (timers_of table.old.rows))) }
+    ensures next { IfOk result (λ r. r.next ≡ earliest (timers_of table.new.rows)) }
+    ensures made { IfOk result (λ r. Makes (at_level C.called High) C.count R.Raise now
+        (expirations now (timers_of table.old.rows)) (cyclics_of table.old.rows) (cyclics_of table.new.rows)
+        (record { calls = calls.old; lock = lock.old; low = low.old })
+        (record { calls = calls.new; lock = lock.new; low = low.new }) r.lost) }
+
+    // The list was made up to an expiration that was refused.
+    ensures refused { IfErr result (λ e. (made : List Expiration) × (last : Expiration) × (rest : List Expiration)
+        × (expirations now (timers_of table.old.rows) ≡ made ++ last ∷ rest) × (length made ≡ e.expired) × (at : C)
+        × Makes (at_level C.called High) C.count R.Raise now made (cyclics_of table.old.rows) (cyclics_of table.new.rows)
+        (record { calls = calls.old; lock = lock.old; low = low.old })
+        (record { calls = at; lock = lock.new; low = low.new }) e.lost
+        × ((id : ℕ) → C.count calls.new id ≡ C.count at id)
+        × WhyStopped C.may_refuse most at last (timers_of table.new.rows) e.why) }
+
+    // The CPU is ready for the next.
+    ensures ready { IsReady R.view table.new.size most (R.view lock.old).marked
+        (R.view low.old).marked lock.new low.new table.new.rows }
+    ensures size { table.new.size ≡ table.old.size }
+    ensures room { table.new.room ≡ table.old.room }
+{
+    table.law();
+    let _len = table.len();
+    let _size = table.size();
+    let mut expired = 0;
+    let mut lost = 0;
+    while let Some(root) = due_root(table, now) {
+        let index = root.0;
+        let moment = root.1;
+        let id = root.2;
+        let kept = table.record(index);
+        let count = kept.expired;
+        let level = kept.level;
+        let interval = kept.interval;
+        let before = kept.lost;
+        if count >= most {
+            return Err(FireRefused {
+                why: Refusal::CountSpent(id),
+                expired,
+                lost,
+            });
+        }
+        let more = match expire_at(id, level, calls, lock, low) {
+            Ok(more) => more,
+            Err(Refused) => {
+                return Err(FireRefused {
+                    why: Refusal::HandlerRefused(id),
+                    expired,
+                    lost,
+                });
+            }
+        };
+        table.expire_root(
+            index,
+            following(moment, interval, now),
+            count + 1,
+            before + more,
+        );
+        expired += 1;
+        lost += more;
+    }
+    Ok(Fired {
+        expired,
+        lost,
+        next: next_moment(table),
+    })
+}
