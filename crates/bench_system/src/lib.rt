@@ -2,7 +2,7 @@
 #![tactic(auto)]
 
 use cyc_core::LevelCore;
-use cyc_script_machine::{System, begin};
+use cyc_replay::{System, begin};
 use cyc_types::{Ceiling, CyclicId, Level, Moment, Refusal, Soft, Tally, When};
 use std::alloc::Global;
 

@@ -8,18 +8,18 @@ use Rattle.cyc_types.specs.declared.refusal.Refusal.TheVariants.{BadNow}
 use Rattle.cyc_core.specs.Tables.{Tables}
 use Rattle.cyc_script.specs.Limits.{most_steps}
 use Rattle.cyc_script.specs.declared.step.Step.TheVariants.{Advance}
-use Rattle.cyc_script_machine.specs.System.{RunningSystem, running_system}
+use Rattle.cyc_system.specs.System.{RunningSystem, running_system}
 use Rattle.cyc_model.specs.State.{State, Outcome, online_cpus}
 use Rattle.cyc_types.specs.Reasons.{when, bad_now}
 use Rattle.cyc_model.specs.Advance.{advance}
-use Rattle.cyc_script_machine.specs.Advancing.{at_clock, fired_and_lost, HasFired, IsAdvanced}
-use Rattle.cyc_script_machine.specs.declared.machine.Machine.{Machine}
-use Rattle.cyc_script_machine.specs.Machine.{Holds, IsReached}
-use Rattle.cyc_script_machine.specs.Words.{Comes, TakesWord}
-use Rattle.cyc_script_machine.proofs.Doing.{called_done, word_done}
+use Rattle.cyc_replay.specs.SystemAdvancing.{at_clock, fired_and_lost, HasFired, IsAdvanced}
+use Rattle.cyc_replay.specs.declared.machine.Machine.{Machine}
+use Rattle.cyc_replay.specs.Machine.{Holds, IsReached}
+use Rattle.cyc_replay.specs.Words.{Comes, TakesWord}
+use Rattle.cyc_replay.proofs.Doing.{called_done, word_done}
 use Rattle.cyc_model.proofs.Still.{still_fires}
-use Rattle.cyc_script_machine.proofs.Named.{reached_good}
-use Rattle.cyc_script_machine.proofs.Remembering.{remembers_on, remembers_does}
+use Rattle.cyc_replay.proofs.Named.{reached_good}
+use Rattle.cyc_replay.proofs.Remembering.{remembers_on, remembers_does}
 use Rattle.cyc_replay.specs.Advancing.{IsAdvancing}
 
 below_never : (now : ℕ) → now < never → nat_le never now ≡ false

@@ -11,11 +11,11 @@ use Rattle.cyc_types.specs.declared.refusal.Refusal.TheVariants.{NoCyclic}
 use Rattle.cyc_core.specs.Tables.{Tables}
 use Rattle.cyc_cpu.specs.Cpu.{CpuView}
 use Rattle.cyc_cpu.specs.Soft.{raise_tables}
-use Rattle.cyc_script_machine.specs.Cpus.{CpusView}
-use Rattle.cyc_script_machine.specs.System.{SystemView, removal_on, is_leaving_here}
-use Rattle.cyc_script_machine.proofs.Spots.{none_some}
-use Rattle.cyc_script_machine.proofs.One.{leaving_is}
-use Rattle.cyc_script_machine.specs.Calls.{Changes, PollRemove}
+use Rattle.cyc_system.specs.Cpus.{CpusView}
+use Rattle.cyc_system.specs.System.{SystemView, removal_on, is_leaving_here}
+use Rattle.cyc_system.proofs.Spots.{none_some}
+use Rattle.cyc_system.proofs.One.{leaving_is}
+use Rattle.cyc_system.specs.Calls.{Changes, PollRemove}
 use Rattle.cyc_types.specs.Reasons.{when, or_else}
 
 -- a CPU with an open removal is there

@@ -9,17 +9,17 @@ use Rattle.cyc_types.specs.declared.refusal.Refusal.TheVariants.{NoCyclic, Memor
 use Rattle.cyc_types.specs.Refusals.{number_of}
 use Rattle.cyc_core.specs.Tables.{Tables}
 use Rattle.cyc_text.specs.Lines.{refused}
-use Rattle.cyc_script_machine.specs.Answers.{IsRefused}
+use Rattle.cyc_cpu_model.specs.Answers.{IsRefused}
 use Rattle.cyc_cpu.specs.Soft.{raise_tables}
 use mathlib.Core.Logic.{dite}
 use native.Mathlib.Decide.{ℕ_discrete}
 use Rattle.cyc_text.specs.declared.lines.Counts.{Counts}
-use Rattle.cyc_script_machine.specs.Removing.{cpus_with as cpus_with_in}
-use Rattle.cyc_script_machine.specs.SystemRemoval.{SystemRemoval}
-use Rattle.cyc_script_machine.specs.SystemRemoval.TheVariants.{Done, Kept}
+use Rattle.cyc_system.specs.Removing.{cpus_with as cpus_with_in}
+use Rattle.cyc_system.specs.SystemRemoval.{SystemRemoval}
+use Rattle.cyc_system.specs.SystemRemoval.TheVariants.{Done, Kept}
 use Rattle.cyc_script.specs.declared.step.Step.TheVariants.{Remove}
-use Rattle.cyc_script_machine.specs.System.{SystemView}
-use Rattle.cyc_script_machine.specs.Calls.{Changes, BeginRemove}
+use Rattle.cyc_system.specs.System.{SystemView}
+use Rattle.cyc_system.specs.Calls.{Changes, BeginRemove}
 use Rattle.cyc_model.specs.Questions.{plain}
 use Rattle.cyc_model.specs.State.{State, cpus_with}
 use Rattle.cyc_model.specs.Places.{id_of, is_unknown}
@@ -28,19 +28,19 @@ use Rattle.cyc_model.specs.Remove.{busy_on_each, remove}
 use Rattle.cyc_model.specs.Report.{counts_of}
 use Rattle.cyc_model.proofs.Spread.{Good}
 use Rattle.cyc_model.specs.Script.{does, text_in, refusal_of}
-use Rattle.cyc_script_machine.specs.Shown.{IsSystem}
-use Rattle.cyc_script_machine.specs.SystemWords.{Gives, IsDone, IsRefusedFor}
-use Rattle.cyc_script_machine.specs.Removal.{told_by, IsRemoved, IsKept}
-use Rattle.cyc_script_machine.specs.declared.machine.Machine.{Machine}
-use Rattle.cyc_script_machine.specs.Machine.{Holds, Remembers, IsReached, id_at, told_of, number_of as id_number}
-use Rattle.cyc_script_machine.specs.Runs.{listed}
-use Rattle.cyc_script_machine.specs.Words.{Accepts, Answers, TakesWord}
+use Rattle.cyc_replay.specs.Shown.{IsSystem}
+use Rattle.cyc_replay.specs.SystemWords.{Gives, IsDone, IsRefusedFor}
+use Rattle.cyc_replay.specs.Removal.{told_by, IsRemoved, IsKept}
+use Rattle.cyc_replay.specs.declared.machine.Machine.{Machine}
+use Rattle.cyc_replay.specs.Machine.{Holds, Remembers, IsReached, id_at, told_of, number_of as id_number}
+use Rattle.cyc_replay.specs.Runs.{listed}
+use Rattle.cyc_replay.specs.Words.{Accepts, Answers, TakesWord}
 use Rattle.cyc_model.proofs.Still.{still_remove}
 use Rattle.cyc_model.proofs.Answering.{counts_removed}
-use Rattle.cyc_script_machine.proofs.Doing.{Keeps, Leaves, accepts, refuses}
-use Rattle.cyc_script_machine.proofs.Remembering.{SameNames, remembers_on, remembers_ended}
-use Rattle.cyc_script_machine.proofs.Taking.{done_takes, refused_takes, truly_refused}
-use Rattle.cyc_script_machine.proofs.Named.{zero_unknown}
+use Rattle.cyc_replay.proofs.Doing.{Keeps, Leaves, accepts, refuses}
+use Rattle.cyc_replay.proofs.Remembering.{SameNames, remembers_on, remembers_ended}
+use Rattle.cyc_replay.proofs.Taking.{done_takes, refused_takes, truly_refused}
+use Rattle.cyc_replay.proofs.Named.{zero_unknown}
 use Rattle.cyc_replay.specs.Removing.{begun_line, counted_by, counted_begun}
 use Rattle.cyc_replay.proofs.Unknown.{unknown_removed, still_known}
 

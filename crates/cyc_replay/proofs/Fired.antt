@@ -23,10 +23,10 @@ use Rattle.cyc_timers.specs.Made.{Stops}
 use Rattle.cyc_cpu.specs.Cpu.{CpuView, running}
 use Rattle.cyc_cpu.specs.Calls.{Fire, no_interrupts, Does as DoesHere}
 use Rattle.cyc_cpu.specs.Soft.{raise_tables}
-use Rattle.cyc_script_machine.specs.Cpus.{IsCpu}
-use Rattle.cyc_script_machine.specs.System.{SystemView, RunningSystem, running_system, is_online}
-use Rattle.cyc_script_machine.proofs.Spots.{same_some, none_some}
-use Rattle.cyc_script_machine.specs.Calls.{Does, FireOne, no_fire}
+use Rattle.cyc_system.specs.Cpus.{IsCpu}
+use Rattle.cyc_system.specs.System.{SystemView, RunningSystem, running_system, is_online}
+use Rattle.cyc_system.proofs.Spots.{same_some, none_some}
+use Rattle.cyc_system.specs.Calls.{Does, FireOne, no_fire}
 use Rattle.cyc_model.specs.Acts.{calls_of}
 use Rattle.cyc_model.specs.Cpu.{Cyclic, Cpu}
 use Rattle.cyc_model.specs.Firing.{fire_here}
@@ -36,20 +36,20 @@ use Rattle.cyc_model.proofs.Events.{calls_append}
 use Rattle.cyc_model.proofs.Totals.{expired_in}
 use Rattle.cyc_model.proofs.Numbers.{Has}
 use Rattle.cyc_model.proofs.Calm.{good_clock}
-use Rattle.cyc_script_machine.specs.CpuModelShown.{shown}
-use Rattle.cyc_script_machine.specs.Advancing.{at_clock, online_below, fired_and_lost, HasFired}
-use Rattle.cyc_script_machine.specs.Shown.{shown_list, IsSystem}
-use Rattle.cyc_script_machine.specs.declared.machine.Machine.{Machine}
-use Rattle.cyc_script_machine.specs.Machine.{IsWide, AllMost, number_of}
+use Rattle.cyc_cpu_model.specs.Shown.{shown}
+use Rattle.cyc_replay.specs.SystemAdvancing.{at_clock, online_below, fired_and_lost, HasFired}
+use Rattle.cyc_replay.specs.Shown.{shown_list, IsSystem}
+use Rattle.cyc_replay.specs.declared.machine.Machine.{Machine}
+use Rattle.cyc_replay.specs.Machine.{IsWide, AllMost, number_of}
 use Rattle.cyc_replay.specs.Advancing.{IsAdvancing}
-use Rattle.cyc_script_machine.proofs.Mosts.{most_changed}
-use Rattle.cyc_script_machine.proofs.Named.{reached_good}
-use Rattle.cyc_script_machine.proofs.Unrefused.{IsFew, EachTimer, same_range, still_wide, never_stopped}
+use Rattle.cyc_replay.proofs.Mosts.{most_changed}
+use Rattle.cyc_replay.proofs.Named.{reached_good}
+use Rattle.cyc_replay.proofs.Unrefused.{IsFew, EachTimer, same_range, still_wide, never_stopped}
 use Rattle.cyc_model.proofs.Bounded.{numbers_few}
 use Rattle.cyc_model.proofs.Growing.{few_times, grows_fires}
-use Rattle.cyc_script_machine.proofs.Remembering.{SameNames, remembers_on}
-use Rattle.cyc_script_machine.specs.Room.{HaveAllRoom}
-use Rattle.cyc_script_machine.proofs.Grown.{few_timers, few_reached, many_reached}
+use Rattle.cyc_replay.proofs.Remembering.{SameNames, remembers_on}
+use Rattle.cyc_replay.specs.Room.{HaveAllRoom}
+use Rattle.cyc_replay.proofs.Grown.{few_timers, few_reached, many_reached}
 
 -- ---- what a fire keeps
 

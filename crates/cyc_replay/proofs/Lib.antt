@@ -1,3 +1,42 @@
+mod Lists
+mod Cpus
+mod Asking
+mod Destinations
+mod Entering
+mod SystemAdding
+mod Reprogramming
+mod Replacing
+mod SystemRunning
+mod Binding
+mod Sums
+mod Half
+mod Ending
+mod Coming
+mod SystemRemoving
+mod Answering
+pub mod Removals
+mod Polling
+mod SystemCounting
+mod Going
+mod Spreading
+mod Returning
+mod Rooms
+mod Keeping
+mod Turning
+mod Juggling
+mod SystemLeaving
+mod SystemBeginning
+pub mod SystemAdvancing
+pub mod Mosts
+pub mod Named
+pub mod Remembering
+pub mod Doing
+pub mod Taking
+pub mod Start
+pub mod Indexes
+pub mod RunningMachine
+pub mod Unrefused
+pub mod Grown
 pub mod Reading
 pub mod Running
 pub mod Series

@@ -8,7 +8,7 @@ use Rattle.cyc_soft.specs.declared.Ran.{Ran}
 use Rattle.cyc_text.specs.Lines.{ran, removed}
 use Rattle.cyc_script.specs.declared.step.Softint.{Softint as SoftintStep}
 use Rattle.cyc_script.specs.declared.step.Step.TheVariants.{Softint}
-use Rattle.cyc_script_machine.specs.System.{RunningSystem, removal_on}
+use Rattle.cyc_system.specs.System.{RunningSystem, removal_on}
 use Rattle.cyc_model.specs.Questions.{plain}
 use Rattle.cyc_model.specs.State.{State, Outcome, each, cpu_of}
 use Rattle.cyc_model.specs.Softint.{interrupt, leaving_ids, text_of_id, poll_id}
@@ -20,25 +20,25 @@ use Rattle.cyc_model.specs.Places.{is_unknown}
 use Rattle.cyc_model.specs.Report.{counts_of}
 use Rattle.cyc_text.specs.declared.lines.Counts.{Counts}
 use Rattle.cyc_cpu.specs.Soft.{raise_tables}
-use Rattle.cyc_script_machine.specs.Calls.{Changes, PollRemove}
-use Rattle.cyc_script_machine.specs.Agreement.{Agrees}
-use Rattle.cyc_script_machine.proofs.Spots.{same_some, none_some}
+use Rattle.cyc_system.specs.Calls.{Changes, PollRemove}
+use Rattle.cyc_system.specs.Agreement.{Agrees}
+use Rattle.cyc_system.proofs.Spots.{same_some, none_some}
 use mathlib.Core.Logic.{dite}
 use native.Mathlib.Decide.{ℕ_discrete}
 use Rattle.std.specs.Prelude.{slice_set, Ok, Err}
-use Rattle.cyc_script_machine.specs.Shown.{ShowsSystem}
-use Rattle.cyc_script_machine.specs.Removal.{HavePolled, IsInterrupted, answer_line, told_by}
-use Rattle.cyc_script_machine.specs.declared.machine.Machine.{Machine}
-use Rattle.cyc_script_machine.specs.Machine.{Holds, Remembers, IsWide, id_at, name_at, told_of, number_of}
-use Rattle.cyc_script_machine.proofs.Doing.{Keeps}
-use Rattle.cyc_script_machine.proofs.Remembering.{SameNames, remembers_on, remembers_ended, remembers_nameless, no_name}
-use Rattle.cyc_script_machine.specs.Words.{Comes, TakesWord}
-use Rattle.cyc_script_machine.proofs.Doing.{word_done}
-use Rattle.cyc_script_machine.proofs.Named.{reached_good}
+use Rattle.cyc_replay.specs.Shown.{ShowsSystem}
+use Rattle.cyc_replay.specs.Removal.{HavePolled, IsInterrupted, answer_line, told_by}
+use Rattle.cyc_replay.specs.declared.machine.Machine.{Machine}
+use Rattle.cyc_replay.specs.Machine.{Holds, Remembers, IsWide, id_at, name_at, told_of, number_of}
+use Rattle.cyc_replay.proofs.Doing.{Keeps}
+use Rattle.cyc_replay.proofs.Remembering.{SameNames, remembers_on, remembers_ended, remembers_nameless, no_name}
+use Rattle.cyc_replay.specs.Words.{Comes, TakesWord}
+use Rattle.cyc_replay.proofs.Doing.{word_done}
+use Rattle.cyc_replay.proofs.Named.{reached_good}
 use Rattle.cyc_replay.specs.Interrupting.{HasServed, IsPolling}
 use Rattle.cyc_replay.specs.Removing.{counted_by}
 use Rattle.cyc_replay.proofs.Unknown.{unknown_polled, still_known}
-use Rattle.cyc_script_machine.proofs.Removals.{same_removal}
+use Rattle.cyc_replay.proofs.Removals.{same_removal}
 use Rattle.cyc_replay.proofs.OpenRemovals.{up_to, none_up_to, all_up_to, one_up_to, leaving_rise, leaving_open, open_leaving}
 
 module _ (texts : List (List ℕ)) (step : ℕ) (i : SoftintStep) (s : State) where

@@ -2,9 +2,9 @@
 use Rattle.std.proofs.Common.{◌≡◌, ℕ, List, subst}
 use Rattle.cyc_script.specs.declared.step.Step.{Step}
 use Rattle.cyc_model.specs.State.{State}
-use Rattle.cyc_script_machine.specs.declared.machine.Machine.{Machine}
-use Rattle.cyc_script_machine.specs.Machine.{Holds, IsReached}
-use Rattle.cyc_script_machine.specs.Words.{TakesWord}
+use Rattle.cyc_replay.specs.declared.machine.Machine.{Machine}
+use Rattle.cyc_replay.specs.Machine.{Holds, IsReached}
+use Rattle.cyc_replay.specs.Words.{TakesWord}
 
 -- the same over equal names
 pub takes_named : (read texts : List (List ℕ)) → read ≡ texts → (step : ℕ) (x : Step) (line : List ℕ) (m n : Machine)

@@ -9,7 +9,7 @@ use Rattle.cyc_types.specs.declared.level.Soft.TheVariants.{Low, Lock}
 use Rattle.cyc_level.specs.Level.{empty_level}
 use Rattle.cyc_core.specs.Tables.{Tables, level_of}
 use Rattle.cyc_cpu.specs.Cpu.{CpuView}
-use Rattle.cyc_script_machine.specs.Cpus.{IsCpu}
+use Rattle.cyc_system.specs.Cpus.{IsCpu}
 use Rattle.cyc_script.specs.declared.script.Script.{Script}
 use Rattle.cyc_script.specs.declared.step.Step.{Step}
 use Rattle.cyc_model.specs.Acts.{events_at}
@@ -27,12 +27,12 @@ use Rattle.cyc_model.proofs.Enabling.{events_are_enabled, new_level}
 use Rattle.cyc_model.proofs.Reaching.{well_steps, start_good, length_new}
 use Rattle.cyc_model.proofs.Telling.{tells_steps}
 use Rattle.cyc_model.proofs.Unindexed.{text_bare}
-use Rattle.cyc_script_machine.specs.CpuModelShown.{shown_cpu}
-use Rattle.cyc_script_machine.specs.Shown.{shown_list, shown_cpus}
-use Rattle.cyc_script_machine.specs.declared.machine.Machine.{Machine}
-use Rattle.cyc_script_machine.specs.Machine.{Holds}
-use Rattle.cyc_script_machine.specs.Runs.{Runs, listed}
-use Rattle.cyc_script_machine.proofs.Indexes.{same_line}
+use Rattle.cyc_cpu_model.specs.Shown.{shown_cpu}
+use Rattle.cyc_replay.specs.Shown.{shown_list, shown_cpus}
+use Rattle.cyc_replay.specs.declared.machine.Machine.{Machine}
+use Rattle.cyc_replay.specs.Machine.{Holds}
+use Rattle.cyc_replay.specs.Runs.{Runs, listed}
+use Rattle.cyc_replay.proofs.Indexes.{same_line}
 use Rattle.cyc_replay.specs.Replay.{HasRun, LevelsAreSound}
 
 -- ---- the CPUs of a machine

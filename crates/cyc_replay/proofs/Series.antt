@@ -5,12 +5,12 @@ use Rattle.std.proofs.lemmas.Bool.Decides.{nat_tests}
 use Rattle.cyc_types.specs.declared.moment.When.{When}
 use Rattle.cyc_types.specs.declared.refusal.Refusal.TheVariants.{BadWhen, BadInterval, NoCyclic}
 use Rattle.cyc_types.specs.declared.refusal.Refusal.{Refusal}
-use Rattle.cyc_script_machine.proofs.Spots.{same_some, none_some}
+use Rattle.cyc_system.proofs.Spots.{same_some, none_some}
 use Rattle.cyc_model.specs.State.{State}
 use Rattle.cyc_model.specs.Questions.{plain}
 use Rattle.cyc_types.specs.Reasons.{or_else}
 use Rattle.cyc_model.specs.Add.{add_refusal}
-use Rattle.cyc_script_machine.specs.Answers.{IsRefused}
+use Rattle.cyc_cpu_model.specs.Answers.{IsRefused}
 use Rattle.cyc_script.specs.declared.step.Add.{Add as AddStep}
 use Rattle.cyc_script.specs.declared.step.Omni.{Omni as OmniStep}
 use Rattle.cyc_model.specs.Omni.{omni_refusal}
@@ -20,7 +20,7 @@ use Rattle.cyc_model.specs.Bind.{no_cyclic}
 use Rattle.cyc_model.specs.Reprogram.{reprogram_refusal, cpu_refusals}
 use Rattle.cyc_types.specs.Reasons.{first_refusal, when}
 use Rattle.cyc_model.specs.Refusals.{bad_when, magnitude}
-use Rattle.cyc_script_machine.specs.SystemWords.{IsSeries, IsMoment}
+use Rattle.cyc_replay.specs.SystemWords.{IsSeries, IsMoment}
 
 not_below : (n m : ℕ) → m < n + 1 → nat_lt n m ≡ false
 not_below n m h = grind (arith, nat_tests)

@@ -27,12 +27,12 @@ use Rattle.cyc_soft.specs.declared.SoftRefused.{SoftRefused}
 use Rattle.cyc_script.specs.declared.step.Softint.{Softint as SoftintStep}
 use Rattle.cyc_cpu.specs.Cpu.{CpuView}
 use Rattle.cyc_cpu.specs.Soft.{raise_tables, drains, drain_tables, end_at, Interrupts}
-use Rattle.cyc_script_machine.specs.Cpus.{IsCpu}
-use Rattle.cyc_script_machine.specs.System.{SystemView, RunningSystem, running_system}
-use Rattle.cyc_script_machine.proofs.Spots.{same_some, none_some}
-use Rattle.cyc_script_machine.specs.Calls.{Does, SoftInterrupt}
-use Rattle.cyc_script_machine.specs.SoftFault.{SoftFault}
-use Rattle.cyc_script_machine.specs.SoftFault.TheVariants as fault
+use Rattle.cyc_system.specs.Cpus.{IsCpu}
+use Rattle.cyc_system.specs.System.{SystemView, RunningSystem, running_system}
+use Rattle.cyc_system.proofs.Spots.{same_some, none_some}
+use Rattle.cyc_system.specs.Calls.{Does, SoftInterrupt}
+use Rattle.cyc_system.specs.declared.interrupting.SoftFault.{SoftFault}
+use Rattle.cyc_system.specs.declared.interrupting.SoftFault.TheVariants as fault
 use Rattle.cyc_types.specs.Levels.{as_level}
 use Rattle.cyc_model.specs.Cpu.{Cyclic, Cpu, is_of, cyclic_of, handler_level_of}
 use Rattle.cyc_model.specs.Acts.{calls_of}
@@ -43,18 +43,18 @@ use Rattle.cyc_model.specs.Softint.{interrupt, softint_refusal}
 use Rattle.cyc_model.proofs.Fit.{Fit, keeps_fit, in_hand_counts}
 use Rattle.cyc_model.proofs.Whole.{all_back}
 use Rattle.cyc_model.proofs.Spread.{Good}
-use Rattle.cyc_script_machine.specs.Running.{IsServed}
-use Rattle.cyc_script_machine.specs.CpuModelShown.{shown_cpu}
-use Rattle.cyc_script_machine.specs.Shown.{shown_list, ShowsSystem, IsSystem}
-use Rattle.cyc_script_machine.specs.declared.machine.Machine.{Machine}
-use Rattle.cyc_script_machine.specs.Machine.{Holds, IsReached, IsWide, AllMost}
+use Rattle.cyc_replay.specs.Running.{IsServed}
+use Rattle.cyc_cpu_model.specs.Shown.{shown_cpu}
+use Rattle.cyc_replay.specs.Shown.{shown_list, ShowsSystem, IsSystem}
+use Rattle.cyc_replay.specs.declared.machine.Machine.{Machine}
+use Rattle.cyc_replay.specs.Machine.{Holds, IsReached, IsWide, AllMost}
 use Rattle.cyc_model.proofs.Gone.{gone_interrupt}
-use Rattle.cyc_script_machine.proofs.Doing.{Keeps}
-use Rattle.cyc_script_machine.proofs.Remembering.{remembers_on}
-use Rattle.cyc_script_machine.proofs.Named.{reached_good}
+use Rattle.cyc_replay.proofs.Doing.{Keeps}
+use Rattle.cyc_replay.proofs.Remembering.{remembers_on}
+use Rattle.cyc_replay.proofs.Named.{reached_good}
 use Rattle.cyc_model.proofs.Printing.{unknown_gone}
-use Rattle.cyc_script_machine.proofs.Unrefused.{IsFew, EachTimer, same_range, still_wide, never_refuses}
-use Rattle.cyc_script_machine.proofs.Grown.{few_timers, few_reached}
+use Rattle.cyc_replay.proofs.Unrefused.{IsFew, EachTimer, same_range, still_wide, never_refuses}
+use Rattle.cyc_replay.proofs.Grown.{few_timers, few_reached}
 use Rattle.cyc_replay.proofs.Fired.{length_shown}
 
 -- ---- the soft side leaves a level fit, and admits nothing

@@ -8,18 +8,18 @@ use Rattle.cyc_types.specs.Refusals.{number_of}
 use Rattle.cyc_core.specs.Tables.{Tables}
 use Rattle.cyc_text.specs.Lines.{accepted, refused, moved, cyclics_left}
 use Rattle.cyc_script.specs.declared.step.Step.TheVariants as steps
-use Rattle.cyc_script_machine.specs.System.{SystemView}
+use Rattle.cyc_system.specs.System.{SystemView}
 use Rattle.cyc_model.specs.Questions.{plain}
 use Rattle.cyc_model.specs.State.{State, Outcome, each}
 use Rattle.cyc_model.specs.Script.{refusal_of}
 use Rattle.cyc_model.proofs.Still.{still_juggle, still_offline}
-use Rattle.cyc_script_machine.specs.SystemWords.{IsDoneWith, IsRefusedFor, IsAtOnce}
-use Rattle.cyc_script_machine.specs.declared.machine.Machine.{Machine}
-use Rattle.cyc_script_machine.specs.Machine.{Holds, IsReached}
-use Rattle.cyc_script_machine.specs.Words.{TakesWord}
-use Rattle.cyc_script_machine.proofs.Remembering.{SameNames}
-use Rattle.cyc_script_machine.proofs.Doing.{Keeps, Leaves, refuses, lasts_with}
-use Rattle.cyc_script_machine.proofs.Taking.{truly_refused, refused_takes, takes_with}
+use Rattle.cyc_replay.specs.SystemWords.{IsDoneWith, IsRefusedFor, IsAtOnce}
+use Rattle.cyc_replay.specs.declared.machine.Machine.{Machine}
+use Rattle.cyc_replay.specs.Machine.{Holds, IsReached}
+use Rattle.cyc_replay.specs.Words.{TakesWord}
+use Rattle.cyc_replay.proofs.Remembering.{SameNames}
+use Rattle.cyc_replay.proofs.Doing.{Keeps, Leaves, refuses, lasts_with}
+use Rattle.cyc_replay.proofs.Taking.{truly_refused, refused_takes, takes_with}
 use Rattle.cyc_replay.specs.Leaving.{Juggles, GoesOffline, juggle_line, offline_line}
 
 module _ (step n : ℕ) (s : State) (m : Machine) (t : SystemView Tables) (r : IsReached step s) (h : Holds s m)

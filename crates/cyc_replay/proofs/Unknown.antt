@@ -7,11 +7,11 @@ use Rattle.std.specs.List.{slice_get}
 use Rattle.cyc_core.specs.Tables.{Tables}
 use Rattle.cyc_places.specs.declared.record.Record.{Record}
 use Rattle.cyc_places.specs.Places.{IsRecord}
-use Rattle.cyc_script_machine.specs.System.{SystemView, has}
-use Rattle.cyc_script_machine.specs.Agreement.{Agrees}
-use Rattle.cyc_script_machine.proofs.Spots.{same_some, none_some}
-use Rattle.cyc_script_machine.specs.Removing.{cpus_with as cpus_with_in}
-use Rattle.cyc_script_machine.proofs.Where.{nowhere}
+use Rattle.cyc_system.specs.System.{SystemView, has}
+use Rattle.cyc_system.specs.Agreement.{Agrees}
+use Rattle.cyc_system.proofs.Spots.{same_some, none_some}
+use Rattle.cyc_system.specs.Removing.{cpus_with as cpus_with_in}
+use Rattle.cyc_system.proofs.Where.{nowhere}
 use Rattle.cyc_model.specs.Cpu.{Cyclic, cyclic_of}
 use Rattle.cyc_model.specs.Moving.{mark_here}
 use Rattle.cyc_model.specs.Questions.{plain, outstanding_here}
@@ -20,7 +20,7 @@ use Rattle.cyc_model.specs.Places.{id_of, is_unknown, keep_counts, forgotten}
 use Rattle.cyc_model.specs.Remove.{clear_if, poll, begin, begun, remove}
 use Rattle.cyc_model.specs.Softint.{is_open, text_of_id, polled, poll_id}
 use Rattle.cyc_model.proofs.Placing.{place_forgotten_other}
-use Rattle.cyc_script_machine.specs.Shown.{ShowsSystem, shown_record}
+use Rattle.cyc_replay.specs.Shown.{ShowsSystem, shown_record}
 
 -- ---- begins and polls leave where cyclics are
 

@@ -5,12 +5,12 @@ use Rattle.cyc_types.specs.Tally.{TallyView, tally_count}
 use Rattle.cyc_core.specs.Tables.{Tables}
 use Rattle.cyc_script.specs.Limits.{most_steps}
 use Rattle.cyc_model.specs.State.{State}
-use Rattle.cyc_script_machine.specs.System.{RunningSystem, running_system}
-use Rattle.cyc_script_machine.specs.Room.{HaveAllRoom}
-use Rattle.cyc_script_machine.specs.Shown.{IsSystem}
-use Rattle.cyc_script_machine.specs.Advancing.{at_clock, fired_and_lost, HasFired}
-use Rattle.cyc_script_machine.specs.declared.machine.Machine.{Machine}
-use Rattle.cyc_script_machine.specs.Machine.{IsReached, IsWide, AllMost, Remembers, number_of}
+use Rattle.cyc_system.specs.System.{RunningSystem, running_system}
+use Rattle.cyc_replay.specs.Room.{HaveAllRoom}
+use Rattle.cyc_replay.specs.Shown.{IsSystem}
+use Rattle.cyc_replay.specs.SystemAdvancing.{at_clock, fired_and_lost, HasFired}
+use Rattle.cyc_replay.specs.declared.machine.Machine.{Machine}
+use Rattle.cyc_replay.specs.Machine.{IsReached, IsWide, AllMost, Remembers, number_of}
 
 -- The clock is set, and the online CPUs below this number have fired: they made and lost so many expirations together. `first` is
 -- the system with its tally before the first fire, which s shows.

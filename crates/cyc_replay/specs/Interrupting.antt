@@ -3,14 +3,14 @@ use Rattle.std.specs.Prelude.{◌≡◌, ℕ, None, List}
 use Rattle.cyc_types.specs.Tally.{tally_count}
 use Rattle.cyc_soft.specs.declared.Ran.{Ran}
 use Rattle.cyc_script.specs.declared.step.Softint.{Softint as SoftintStep}
-use Rattle.cyc_script_machine.specs.System.{running_system}
+use Rattle.cyc_system.specs.System.{running_system}
 use Rattle.cyc_model.specs.Questions.{plain}
 use Rattle.cyc_model.specs.State.{State, each}
 use Rattle.cyc_model.specs.Softint.{interrupt, softint_refusal, poll_id}
-use Rattle.cyc_script_machine.specs.Running.{IsServed}
-use Rattle.cyc_script_machine.specs.Removal.{HavePolled}
-use Rattle.cyc_script_machine.specs.declared.machine.Machine.{Machine}
-use Rattle.cyc_script_machine.specs.Machine.{Holds, IsReached}
+use Rattle.cyc_replay.specs.Running.{IsServed}
+use Rattle.cyc_replay.specs.Removal.{HavePolled}
+use Rattle.cyc_replay.specs.declared.machine.Machine.{Machine}
+use Rattle.cyc_replay.specs.Machine.{Holds, IsReached}
 
 -- The soft interrupt of this step was made on the machine first, which s shows: so many calls, and what they left is the machine
 -- now, before any removal is polled.

@@ -9,10 +9,10 @@ use Rattle.cyc_script.specs.declared.step.Step.TheVariants as steps
 use Rattle.cyc_model.specs.Questions.{plain}
 use Rattle.cyc_model.specs.State.{State}
 use Rattle.cyc_model.specs.Script.{refusal_of}
-use Rattle.cyc_script_machine.specs.Answers.{IsRefused}
-use Rattle.cyc_script_machine.specs.declared.machine.Machine.{Machine}
-use Rattle.cyc_script_machine.specs.Machine.{Holds}
-use Rattle.cyc_script_machine.specs.Words.{AcceptsWith}
+use Rattle.cyc_cpu_model.specs.Answers.{IsRefused}
+use Rattle.cyc_replay.specs.declared.machine.Machine.{Machine}
+use Rattle.cyc_replay.specs.Machine.{Holds}
+use Rattle.cyc_replay.specs.Words.{AcceptsWith}
 
 -- the line of a juggle
 abbrev pub juggle_line : ℕ → Result JuggleReport Refusal → List ℕ

@@ -1,3 +1,14 @@
+pub mod Shown
+pub mod SystemWords
+pub mod Running
+pub mod Kept
+pub mod SystemAdvancing
+pub mod Removal
+pub mod Room
+pub mod Machine
+pub mod Words
+pub mod Runs
+pub mod Beginning
 pub mod Replay
 pub mod Leaving
 pub mod Advancing

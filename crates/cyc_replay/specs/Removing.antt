@@ -2,10 +2,10 @@
 use Rattle.std.specs.Prelude.{ℕ, ◌==◌, ◌-◌, if◌then◌else◌, List, slice_set, Option, Some, None, Result, Ok, Err}
 use Rattle.cyc_types.specs.declared.receipt.Receipt.{Receipt}
 use Rattle.cyc_types.specs.declared.refusal.Refusal.{Refusal}
-use Rattle.cyc_script_machine.specs.SystemRemoval.{SystemRemoval}
-use Rattle.cyc_script_machine.specs.SystemRemoval.TheVariants.{Done, Kept}
+use Rattle.cyc_system.specs.SystemRemoval.{SystemRemoval}
+use Rattle.cyc_system.specs.SystemRemoval.TheVariants.{Done, Kept}
 use Rattle.cyc_text.specs.Lines.{kept, removed}
-use Rattle.cyc_script_machine.specs.declared.machine.Counted.{Counted}
+use Rattle.cyc_replay.specs.declared.machine.Counted.{Counted}
 
 -- the line of a removal that began: it has answered, with all calls of the cyclic, or waits for those that are kept
 abbrev pub begun_line : ℕ → List ℕ → SystemRemoval → List ℕ

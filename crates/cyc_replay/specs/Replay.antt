@@ -3,14 +3,14 @@ use Rattle.std.specs.Prelude.{ℕ, ◌<◌}
 use Rattle.cyc_types.specs.declared.level.Soft.{Soft}
 use Rattle.cyc_core.specs.Tables.{Tables, level_of}
 use Rattle.cyc_cpu.specs.Cpu.{CpuView}
-use Rattle.cyc_script_machine.specs.Cpus.{IsCpu}
+use Rattle.cyc_system.specs.Cpus.{IsCpu}
 use Rattle.cyc_script.specs.declared.script.Script.{Script}
 use Rattle.cyc_model.specs.Along.{IsSound}
 use Rattle.cyc_model.specs.Enabled.{CanBeDone}
 use Rattle.cyc_model.specs.Free.{AreFree}
 use Rattle.cyc_model.specs.Script.{run_of}
-use Rattle.cyc_script_machine.specs.declared.machine.Machine.{Machine}
-use Rattle.cyc_script_machine.specs.Machine.{Holds}
+use Rattle.cyc_replay.specs.declared.machine.Machine.{Machine}
+use Rattle.cyc_replay.specs.Machine.{Holds}
 
 -- both soft levels of each CPU of the machine are lawful and conserved
 abbrev pub LevelsAreSound : Machine → Type 0

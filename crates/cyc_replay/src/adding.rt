@@ -6,11 +6,12 @@ ghost use Rattle.cyc_types.specs.Reasons.{first_refusal};
 ghost use Rattle.cyc_model.specs.Refusals.{bad_when};
 ghost use Rattle.cyc_script.specs.declared.step.Step.TheVariants as steps;
 ghost use Rattle.cyc_script.specs.Limits.{most_steps};
-ghost use Rattle.cyc_script_machine.specs.Machine.{Holds, IsReached};
-ghost use Rattle.cyc_script_machine.specs.Words.{Answers};
+ghost use Rattle.cyc_replay.specs.Machine.{Holds, IsReached};
+ghost use Rattle.cyc_replay.specs.Words.{Answers};
 
+use crate::machine::{Machine, set_id, set_name};
+use crate::system_laws::{add_law, kept_law, omni_law};
 use cyc_script::{Add, Omni};
-use cyc_script_machine::{Machine, add_law, kept_law, omni_law, set_id, set_name};
 use cyc_types::{Refusal, Tally, When};
 
 /// The start and the interval of an add.

@@ -4,19 +4,22 @@ ghost use Rattle.std.specs.Prelude.{◌≡◌, ◌≤◌, ◌<◌, ◌+◌, ℕ,
 ghost use Rattle.cyc_types.specs.Series.{never};
 ghost use Rattle.cyc_types.specs.Tally.{TallyView};
 ghost use Rattle.cyc_core.specs.Tables.{Tables};
-ghost use Rattle.cyc_script_machine.specs.System.{RunningSystem};
+ghost use Rattle.cyc_system.specs.System.{RunningSystem};
 ghost use Rattle.cyc_text.specs.Lines.{fired as fired_line};
 ghost use Rattle.cyc_script.specs.Limits.{most_steps};
 ghost use Rattle.cyc_script.specs.declared.step.Step.TheVariants as steps;
 ghost use Rattle.cyc_model.specs.State.{State};
 ghost use Rattle.cyc_model.specs.Advance.{advance};
-ghost use Rattle.cyc_script_machine.specs.Machine.{Holds, IsReached};
+ghost use Rattle.cyc_replay.specs.Machine.{Holds, IsReached};
 ghost use Rattle.cyc_text.specs.Status.{IsMemory};
-ghost use Rattle.cyc_script_machine.specs.Words.{Comes, TakesWord};
+ghost use Rattle.cyc_replay.specs.Words.{Comes, TakesWord};
 ghost use Rattle.cyc_replay.specs.Advancing.{IsAdvancing};
 
+use crate::lines::write_answer;
+use crate::machine::Machine;
+use crate::system_laws::{advance_law, kept_law};
 use cyc_core::LevelCore;
-use cyc_script_machine::{Machine, System, advance_law, kept_law, write_answer};
+use cyc_system::System;
 use cyc_text::{RunFault, write_fired};
 use cyc_types::{Moment, Refusal, Tally};
 

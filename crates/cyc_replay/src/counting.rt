@@ -5,9 +5,10 @@ ghost use Rattle.cyc_types.specs.Tally.{tally_count};
 ghost use Rattle.cyc_model.specs.State.{State};
 ghost use Rattle.cyc_model.specs.Places.{id_of};
 ghost use Rattle.cyc_model.specs.Report.{counts_of};
-ghost use Rattle.cyc_script_machine.specs.Machine.{Holds, IsReached};
+ghost use Rattle.cyc_replay.specs.Machine.{Holds, IsReached};
 
-use cyc_script_machine::{Machine, counted_of, id_of, kept_law, report_law};
+use crate::machine::{Machine, counted_of, id_of};
+use crate::system_laws::{kept_law, report_law};
 use cyc_text::Counts;
 use cyc_types::{CyclicId, Tally};
 

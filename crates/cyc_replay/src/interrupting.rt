@@ -8,27 +8,27 @@ ghost use Rattle.cyc_text.specs.Lines.{removed};
 ghost use Rattle.cyc_script.specs.Limits.{most_steps};
 ghost use Rattle.cyc_script.specs.declared.step.Softint.{Softint as SoftintStep};
 ghost use Rattle.cyc_script.specs.declared.step.Step.TheVariants as steps;
-ghost use Rattle.cyc_script_machine.specs.System.{removal_on};
+ghost use Rattle.cyc_system.specs.System.{removal_on};
 ghost use Rattle.cyc_model.specs.State.{State};
 ghost use Rattle.cyc_model.specs.Softint.{interrupt, leaving_ids, softint_refusal, text_of_id};
-ghost use Rattle.cyc_script_machine.specs.Removal.{answer_line};
+ghost use Rattle.cyc_replay.specs.Removal.{answer_line};
 ghost use Rattle.cyc_text.specs.Status.{IsMemory};
-ghost use Rattle.cyc_script_machine.specs.Machine.{Holds, IsReached, id_at, name_at};
-ghost use Rattle.cyc_script_machine.specs.Words.{TakesWord};
+ghost use Rattle.cyc_replay.specs.Machine.{Holds, IsReached, id_at, name_at};
+ghost use Rattle.cyc_replay.specs.Words.{TakesWord};
 ghost use Rattle.cyc_cpu.specs.Soft.{raise_tables};
-ghost use Rattle.cyc_script_machine.specs.Agreement.{Agrees};
-ghost use Rattle.cyc_script_machine.specs.Calls.{Changes, PollRemove};
+ghost use Rattle.cyc_system.specs.Agreement.{Agrees};
+ghost use Rattle.cyc_system.specs.Calls.{Changes, PollRemove};
 ghost use Rattle.cyc_replay.specs.Removing.{counted_by};
 ghost use Rattle.cyc_replay.specs.Interrupting.{HasServed, IsPolling};
 
+use crate::lines::write_answer;
+use crate::machine::{Counted, Machine, id_of, name_of, set_counted};
 use crate::removing::{counted_in, name_text};
+use crate::system_laws::{kept_law, poll_law, softint_law};
 use cyc_core::LevelCore;
 use cyc_script::Softint;
-use cyc_script_machine::{
-    Counted, Machine, SoftFault, System, id_of, kept_law, name_of, others_law, poll_law,
-    set_counted, softint_law, write_answer,
-};
 use cyc_soft::Ran;
+use cyc_system::{SoftFault, System, others_law};
 use cyc_text::{RunFault, write_ran};
 use cyc_types::{CyclicId, Receipt, Refusal, Soft, Tally};
 use std::alloc::AllocError;

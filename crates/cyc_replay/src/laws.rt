@@ -2,8 +2,8 @@
 
 ghost use Rattle.cyc_script.specs.declared.script.Script.{Script};
 ghost use Rattle.cyc_model.specs.Script.{names_of};
-ghost use Rattle.cyc_script_machine.specs.declared.machine.Machine.{Machine};
-ghost use Rattle.cyc_script_machine.specs.Runs.{Runs};
+ghost use Rattle.cyc_replay.specs.declared.machine.Machine.{Machine};
+ghost use Rattle.cyc_replay.specs.Runs.{Runs};
 ghost use Rattle.cyc_replay.specs.Replay.{HasRun};
 
 /// The conservation theorem of the machine that all steps of a script led to, as `put_steps` says of its own: the machine's

@@ -5,11 +5,12 @@ ghost use Rattle.cyc_types.specs.declared.refusal.Refusal.TheVariants.{Memory};
 ghost use Rattle.cyc_model.specs.State.{State};
 ghost use Rattle.cyc_script.specs.declared.step.Step.TheVariants as steps;
 ghost use Rattle.cyc_text.specs.Status.{IsMemory};
-ghost use Rattle.cyc_script_machine.specs.Machine.{Holds, IsReached};
-ghost use Rattle.cyc_script_machine.specs.Words.{TakesWord};
+ghost use Rattle.cyc_replay.specs.Machine.{Holds, IsReached};
+ghost use Rattle.cyc_replay.specs.Words.{TakesWord};
 ghost use Rattle.cyc_replay.specs.Leaving.{Juggles, GoesOffline, juggle_line, why_line, offline_line};
 
-use cyc_script_machine::{Machine, juggle_law, kept_law, offline_law};
+use crate::machine::Machine;
+use crate::system_laws::{juggle_law, kept_law, offline_law};
 use cyc_text::{RunFault, write_accepted, write_left, write_moved, write_refused};
 use cyc_types::{JuggleReport, Refusal, Tally};
 

@@ -1,7 +1,10 @@
 //! The replay of a script over a system of 1 to 16 CPUs.
 //!
-//! One function for each word makes the calls of a system that the word stands for; its contract says that the answer, the line
-//! and the machine after it are those of the definition (`cyc_model`).
+//! Its machine is a system over plain levels, a clock, and a tally that counts the handlers' calls. The definitions here say
+//! when the definition's machine (`cyc_model`) shows it, and what it is that a word of a script was taken; the laws of
+//! `system_laws` say what the calls of the system are in that definition. One function for each word makes the calls of a
+//! system that the word stands for; its contract says that the answer, the line and the machine after it are those of the
+//! definition.
 //!
 //! `replay` is `run_script` without the machine that the run leaves, and that is `begin`, `put_steps` and `put_reports`, one
 //! after another: the contract of each names the machine, so what stands of the text, and what stands of the machine's levels, is
@@ -21,19 +24,29 @@
 
 mod adding;
 mod advancing;
+mod beginning;
 mod counting;
 mod interrupting;
 mod laws;
 mod leaving;
+mod lines;
+mod machine;
 mod moving;
 mod removing;
 mod report;
 mod run;
 mod script;
 mod steps;
+mod system_laws;
 
+pub use beginning::begin;
+pub use cyc_system::System;
 pub use cyc_text::RunFault;
 pub use laws::runs_are_sound;
 pub use report::put_reports;
 pub use run::put_steps;
 pub use script::{replay, run_script};
+pub use system_laws::{
+    add_law, advance_law, begin_law, bind_law, fire_law, juggle_law, kept_law, offline_law,
+    omni_law, online_law, poll_law, remove_law, report_law, reprogram_law, softint_law, unbind_law,
+};

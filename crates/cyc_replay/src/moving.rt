@@ -3,19 +3,19 @@
 ghost use Rattle.std.specs.Prelude.{◌≡◌, ℕ, true, pos, int_lt, IfOk, IfErr};
 ghost use Rattle.cyc_types.specs.declared.refusal.Refusal.TheVariants.{BadWhen};
 ghost use Rattle.cyc_cpu.specs.Soft.{raise_tables};
-ghost use Rattle.cyc_script_machine.specs.Agreement.{Agrees};
-ghost use Rattle.cyc_script_machine.specs.Calls.{Changes};
-ghost use Rattle.cyc_script_machine.specs.SystemWords.{reprograms};
+ghost use Rattle.cyc_system.specs.Agreement.{Agrees};
+ghost use Rattle.cyc_system.specs.Calls.{Changes};
+ghost use Rattle.cyc_replay.specs.SystemWords.{reprograms};
 ghost use Rattle.cyc_model.specs.State.{State};
 ghost use Rattle.cyc_script.specs.declared.step.Step.TheVariants as steps;
-ghost use Rattle.cyc_script_machine.specs.Machine.{Holds, IsReached};
-ghost use Rattle.cyc_script_machine.specs.Words.{Answers};
+ghost use Rattle.cyc_replay.specs.Machine.{Holds, IsReached};
+ghost use Rattle.cyc_replay.specs.Words.{Answers};
 
+use crate::machine::{Machine, id_of};
+use crate::system_laws::{bind_law, kept_law, online_law, reprogram_law, unbind_law};
 use cyc_core::LevelCore;
 use cyc_script::{Bind, Name, Reprogram};
-use cyc_script_machine::{
-    Machine, System, bind_law, id_of, kept_law, online_law, reprogram_law, unbind_law,
-};
+use cyc_system::System;
 use cyc_types::{CyclicId, Moment, Refusal, Tally};
 
 /// Binds the cyclic of a name to a CPU.

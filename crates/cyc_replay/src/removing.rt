@@ -6,14 +6,15 @@ ghost use Rattle.cyc_model.specs.Questions.{plain};
 ghost use Rattle.cyc_model.specs.State.{State};
 ghost use Rattle.cyc_model.specs.Script.{does, text_in};
 ghost use Rattle.cyc_text.specs.Status.{IsMemory};
-ghost use Rattle.cyc_script_machine.specs.Machine.{Holds, IsReached};
-ghost use Rattle.cyc_script_machine.specs.Words.{Answers, TakesWord};
+ghost use Rattle.cyc_replay.specs.Machine.{Holds, IsReached};
+ghost use Rattle.cyc_replay.specs.Words.{Answers, TakesWord};
 ghost use Rattle.cyc_replay.specs.Removing.{begun_line, counted_by, counted_begun};
 
+use crate::lines::write_answer;
+use crate::machine::{Counted, Machine, id_of, set_counted};
+use crate::system_laws::{kept_law, remove_law};
 use cyc_script::Name;
-use cyc_script_machine::{
-    Counted, Machine, SystemRemoval, id_of, kept_law, remove_law, set_counted, write_answer,
-};
+use cyc_system::SystemRemoval;
 use cyc_text::{RunFault, write_kept, write_removed};
 use cyc_types::{Receipt, Refusal, Tally};
 use std::alloc::AllocError;

@@ -7,12 +7,12 @@ ghost use Rattle.cyc_model.specs.State.{State};
 ghost use Rattle.cyc_model.specs.Places.{id_of};
 ghost use Rattle.cyc_model.specs.Report.{counts_of, reports};
 ghost use Rattle.cyc_model.specs.Script.{names_of};
-ghost use Rattle.cyc_script_machine.specs.Machine.{Holds, IsReached};
+ghost use Rattle.cyc_replay.specs.Machine.{Holds, IsReached};
 ghost use Rattle.cyc_text.specs.Status.{is_write, IsMemoryOrWrite};
 
 use crate::counting::name_counts;
+use crate::machine::Machine;
 use cyc_script::Script;
-use cyc_script_machine::Machine;
 use cyc_text::{RunFault, Sink, write_report};
 
 /// Puts the report of a name.

@@ -7,11 +7,11 @@ ghost use Rattle.cyc_script.specs.declared.step.Step.{Step as TheStep};
 ghost use Rattle.cyc_model.specs.Questions.{plain};
 ghost use Rattle.cyc_model.specs.Script.{word, run_on, names_of, no_indexes};
 ghost use Rattle.cyc_text.specs.Status.{is_write, IsMemoryOrWrite};
-ghost use Rattle.cyc_script_machine.specs.Runs.{Runs};
+ghost use Rattle.cyc_replay.specs.Runs.{Runs};
 
+use crate::machine::Machine;
 use crate::steps::take_step;
 use cyc_script::{Script, Step};
-use cyc_script_machine::Machine;
 use cyc_text::{RunFault, Sink};
 
 /// Takes a step of the script, and puts its line.

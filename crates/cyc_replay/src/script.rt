@@ -4,13 +4,14 @@ ghost use Rattle.std.specs.Prelude.{◌≡◌, [], OnOk, IfOk, IfErr, false};
 ghost use Rattle.cyc_text.specs.Puts.{Puts};
 ghost use Rattle.cyc_model.specs.Script.{names_of, text_of};
 ghost use Rattle.cyc_text.specs.Status.{is_write, IsMemoryOrWrite};
-ghost use Rattle.cyc_script_machine.specs.Runs.{Runs};
+ghost use Rattle.cyc_replay.specs.Runs.{Runs};
 ghost use Rattle.cyc_replay.specs.Replay.{HasRun};
 
+use crate::beginning::begin;
+use crate::machine::Machine;
 use crate::report::put_reports;
 use crate::run::put_steps;
 use cyc_script::Script;
-use cyc_script_machine::{Machine, begin};
 use cyc_text::{RunFault, Sink};
 use std::alloc::Global;
 

@@ -5,17 +5,18 @@ ghost use Rattle.cyc_script.specs.Limits.{most_steps};
 ghost use Rattle.cyc_script.specs.declared.step.Step.TheVariants as steps;
 ghost use Rattle.cyc_model.specs.State.{State};
 ghost use Rattle.cyc_text.specs.Status.{IsMemory};
-ghost use Rattle.cyc_script_machine.specs.Machine.{Holds, IsReached};
-ghost use Rattle.cyc_script_machine.specs.Words.{TakesWord};
+ghost use Rattle.cyc_replay.specs.Machine.{Holds, IsReached};
+ghost use Rattle.cyc_replay.specs.Words.{TakesWord};
 
 use crate::adding::{add_cyclic, add_omni};
 use crate::advancing::take_advance;
 use crate::interrupting::take_softint;
 use crate::leaving::{take_juggle, take_offline};
+use crate::lines::write_answer;
+use crate::machine::Machine;
 use crate::moving::{bind_cyclic, online_cpu, reprogram_cyclic, unbind_cyclic};
 use crate::removing::take_remove;
 use cyc_script::{Add, Bind, Name, Omni, Reprogram, Step};
-use cyc_script_machine::{Machine, write_answer};
 use cyc_text::RunFault;
 
 /// The word `add`.

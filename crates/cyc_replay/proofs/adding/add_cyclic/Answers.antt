@@ -3,20 +3,20 @@ use Rattle.std.specs.Prelude.{Ok, Err, slice_set}
 use Rattle.std.proofs.lemmas.Result.{err_from_is_err_and}
 use Rattle.std.proofs.lemmas.List.{map-set}
 use Rattle.cyc_script.specs.declared.step.Step.TheVariants as steps
-use Rattle.cyc_script_machine.specs.System.{running_system}
-use Rattle.cyc_script_machine.specs.Calls.{Changes, Add}
+use Rattle.cyc_system.specs.System.{running_system}
+use Rattle.cyc_system.specs.Calls.{Changes, Add}
 use Rattle.cyc_cpu.specs.Soft.{raise_tables}
-use Rattle.cyc_script_machine.specs.Answers.{IsRefused}
+use Rattle.cyc_cpu_model.specs.Answers.{IsRefused}
 use Rattle.cyc_model.specs.Questions.{plain}
 use Rattle.cyc_model.specs.Script.{refusal_of}
-use Rattle.cyc_script_machine.specs.Machine.{number_of}
+use Rattle.cyc_replay.specs.Machine.{number_of}
 use Rattle.cyc_replay.proofs.Series.{is_series, series_refused}
 use Rattle.cyc_model.specs.State.{On}
 use Rattle.cyc_model.specs.Places.{destination}
-use Rattle.cyc_script_machine.proofs.Named.{reached_good}
-use Rattle.cyc_script_machine.proofs.Grown.{few_reached}
-use Rattle.cyc_script_machine.proofs.Remembering.{remembers_added}
-use Rattle.cyc_script_machine.proofs.Doing.{keeps, accepts, refuses}
+use Rattle.cyc_replay.proofs.Named.{reached_good}
+use Rattle.cyc_replay.proofs.Grown.{few_reached}
+use Rattle.cyc_replay.proofs.Remembering.{remembers_added}
+use Rattle.cyc_replay.proofs.Doing.{keeps, accepts, refuses}
 use Rattle.cyc_replay.proofs.adding.add_cyclic.Goals as goal
 
 pub returns-in_err-id : goal.returns-in_err-id

@@ -3,13 +3,13 @@ use Rattle.std.specs.Prelude.{Ok, Err, slice_set}
 use Rattle.std.proofs.lemmas.Result.{err_from_is_err_and}
 use Rattle.std.proofs.lemmas.List.{map-set}
 use Rattle.cyc_script.specs.declared.step.Step.TheVariants as steps
-use Rattle.cyc_script_machine.specs.System.{running_system}
-use Rattle.cyc_script_machine.specs.Calls.{Changes, AddOmni}
+use Rattle.cyc_system.specs.System.{running_system}
+use Rattle.cyc_system.specs.Calls.{Changes, AddOmni}
 use Rattle.cyc_cpu.specs.Soft.{raise_tables}
-use Rattle.cyc_script_machine.specs.Answers.{IsRefused}
+use Rattle.cyc_cpu_model.specs.Answers.{IsRefused}
 use Rattle.cyc_model.specs.Questions.{plain}
 use Rattle.cyc_model.specs.Script.{refusal_of}
-use Rattle.cyc_script_machine.specs.Machine.{number_of}
+use Rattle.cyc_replay.specs.Machine.{number_of}
 use Rattle.cyc_replay.proofs.Series.{is_series_omni, omni_refused}
 use Rattle.cyc_model.specs.State.{OnAll, online_cpus}
 use Rattle.cyc_model.specs.Places.{given}
@@ -17,10 +17,10 @@ use Rattle.cyc_model.specs.Add.{enter}
 use Rattle.cyc_model.specs.Omni.{component, everywhere}
 use Rattle.cyc_model.proofs.Still.{still_enters}
 use Rattle.cyc_replay.proofs.Turns.{same_each}
-use Rattle.cyc_script_machine.proofs.Named.{reached_good}
-use Rattle.cyc_script_machine.proofs.Grown.{few_reached}
-use Rattle.cyc_script_machine.proofs.Remembering.{remembers_added}
-use Rattle.cyc_script_machine.proofs.Doing.{keeps, accepts, refuses}
+use Rattle.cyc_replay.proofs.Named.{reached_good}
+use Rattle.cyc_replay.proofs.Grown.{few_reached}
+use Rattle.cyc_replay.proofs.Remembering.{remembers_added}
+use Rattle.cyc_replay.proofs.Doing.{keeps, accepts, refuses}
 use Rattle.cyc_replay.proofs.adding.add_omni.Goals as goal
 
 pub returns-in_err-id : goal.returns-in_err-id

@@ -1,5 +1,5 @@
 use Rattle.std.proofs.Common.{sym}
-use Rattle.cyc_script_machine.specs.System.{running_system}
+use Rattle.cyc_system.specs.System.{running_system}
 use Rattle.cyc_replay.proofs.Fired.{many_here}
 use Rattle.cyc_replay.proofs.Advanced.{begins, fired_at, advanced}
 use Rattle.cyc_replay.proofs.advancing.advance_clock.Goals as goal

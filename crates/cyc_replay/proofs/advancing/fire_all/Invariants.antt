@@ -1,7 +1,7 @@
 use Rattle.std.proofs.Common.{◌≡◌, ℕ, ◌*◌, ◌^◌, ◌≤◌, length}
 use Rattle.cyc_types.specs.Tally.{TallyView}
 use Rattle.cyc_core.specs.Tables.{Tables}
-use Rattle.cyc_script_machine.specs.System.{RunningSystem}
+use Rattle.cyc_system.specs.System.{RunningSystem}
 use Rattle.cyc_model.specs.State.{State}
 use Rattle.cyc_replay.specs.Advancing.{IsAdvancing}
 use Rattle.cyc_replay.proofs.advancing.fire_all.Given as goal

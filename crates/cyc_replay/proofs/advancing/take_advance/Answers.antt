@@ -2,8 +2,8 @@ use Rattle.std.proofs.Common.{◌<◌, ◌∙◌, string_bytes, sym, subst}
 use Rattle.cyc_types.specs.Series.{never}
 use Rattle.cyc_types.specs.declared.refusal.Refusal.TheVariants.{BadNow}
 use Rattle.cyc_script.specs.declared.step.Step.TheVariants.{Advance}
-use Rattle.cyc_script_machine.proofs.Taking.{on_ok, refused_takes}
-use Rattle.cyc_script_machine.specs.Words.{TakesWord}
+use Rattle.cyc_replay.proofs.Taking.{on_ok, refused_takes}
+use Rattle.cyc_replay.specs.Words.{TakesWord}
 use Rattle.cyc_replay.proofs.Advanced.{advance_taken, too_late}
 use Rattle.cyc_replay.proofs.advancing.take_advance.Goals as goal
 

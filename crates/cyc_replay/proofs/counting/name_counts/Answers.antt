@@ -1,13 +1,13 @@
 use Rattle.std.proofs.Common.{◌≡◌, ℕ, Option, Some, None, refl, ap, sym, ◌∙◌, subst, cond}
-use Rattle.cyc_script_machine.specs.System.{running_system}
+use Rattle.cyc_system.specs.System.{running_system}
 use Rattle.cyc_cpu.specs.Soft.{fires, firing_at}
-use Rattle.cyc_script_machine.specs.Calls.{Changes, AskTotals}
-use Rattle.cyc_script_machine.specs.Shown.{ShowsSystem}
+use Rattle.cyc_system.specs.Calls.{Changes, AskTotals}
+use Rattle.cyc_replay.specs.Shown.{ShowsSystem}
 use Rattle.cyc_model.specs.Report.{counts_of}
-use Rattle.cyc_script_machine.specs.Machine.{id_at, counted_at}
-use Rattle.cyc_script_machine.proofs.Doing.{keeps, refuses}
-use Rattle.cyc_script_machine.proofs.Named.{same_id}
-use Rattle.cyc_script_machine.proofs.Remembering.{nobody_counts}
+use Rattle.cyc_replay.specs.Machine.{id_at, counted_at}
+use Rattle.cyc_replay.proofs.Doing.{keeps, refuses}
+use Rattle.cyc_replay.proofs.Named.{same_id}
+use Rattle.cyc_replay.proofs.Remembering.{nobody_counts}
 use Rattle.cyc_replay.proofs.Reported.{same_counts}
 use Rattle.cyc_replay.proofs.counting.name_counts.Goals as goal
 

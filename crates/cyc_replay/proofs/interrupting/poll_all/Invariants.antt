@@ -1,7 +1,7 @@
 use Rattle.std.proofs.Common.{◌≡◌, ◌-◌, ◌^◌, ◌<◌, ◌++◌, ℕ, List, [], map, Some}
 use Rattle.std.specs.Prelude.{◌↔◌, string_bytes}
 use Rattle.cyc_script.specs.declared.step.Softint.{Softint as SoftintStep}
-use Rattle.cyc_script_machine.specs.System.{removal_on}
+use Rattle.cyc_system.specs.System.{removal_on}
 use Rattle.cyc_model.specs.State.{State}
 use Rattle.cyc_model.specs.Softint.{interrupt, leaving_ids}
 use Rattle.cyc_replay.specs.Interrupting.{IsPolling}

@@ -2,11 +2,11 @@ use Rattle.std.proofs.Common.{◌≡◌, ℕ, List, Option, ◌++◌, ◌∷◌,
 use Rattle.std.specs.Prelude.{Ok, slice_set}
 use Rattle.cyc_replay.specs.Removing.{counted_by}
 use Rattle.cyc_cpu.specs.Soft.{raise_tables}
-use Rattle.cyc_script_machine.specs.System.{running_system}
-use Rattle.cyc_script_machine.specs.Calls.{Changes, PollRemove}
+use Rattle.cyc_system.specs.System.{running_system}
+use Rattle.cyc_system.specs.Calls.{Changes, PollRemove}
 use Rattle.cyc_model.specs.Softint.{interrupt}
-use Rattle.cyc_script_machine.specs.Machine.{id_at, name_at}
-use Rattle.cyc_script_machine.proofs.Doing.{keeps}
+use Rattle.cyc_replay.specs.Machine.{id_at, name_at}
+use Rattle.cyc_replay.proofs.Doing.{keeps}
 use Rattle.cyc_replay.proofs.Polled.{left, polling_next, remembers_open, remembers_answered}
 use Rattle.cyc_replay.proofs.interrupting.poll_removal.Goals as goal
 

@@ -2,12 +2,12 @@ use Rattle.std.proofs.Common.{sym, subst, arith}
 use Rattle.std.specs.Prelude.{Ok}
 use Rattle.cyc_types.specs.Tally.{TallyView}
 use Rattle.cyc_core.specs.Tables.{Tables}
-use Rattle.cyc_script_machine.specs.System.{RunningSystem, running_system}
+use Rattle.cyc_system.specs.System.{RunningSystem, running_system}
 use Rattle.cyc_script.specs.declared.step.Softint.{Softint as SoftintStep}
-use Rattle.cyc_script_machine.specs.Machine.{Holds}
-use Rattle.cyc_script_machine.specs.Calls.{SoftInterrupt}
-use Rattle.cyc_script_machine.proofs.Doing.{keeps}
-use Rattle.cyc_script_machine.proofs.Named.{reached_good}
+use Rattle.cyc_replay.specs.Machine.{Holds}
+use Rattle.cyc_system.specs.Calls.{SoftInterrupt}
+use Rattle.cyc_replay.proofs.Doing.{keeps}
+use Rattle.cyc_replay.proofs.Named.{reached_good}
 use Rattle.cyc_replay.proofs.Served.{never_refused, no_cpu_there, wide_served, served_holds}
 use Rattle.cyc_replay.proofs.interrupting.serve_level.Goals as goal
 

@@ -1,5 +1,5 @@
 use Rattle.std.proofs.Common.{map, string_bytes, ap, ◌++◌, ◌∙◌}
-use Rattle.cyc_script_machine.specs.System.{running_system}
+use Rattle.cyc_system.specs.System.{running_system}
 use Rattle.cyc_model.specs.Softint.{interrupt}
 use Rattle.cyc_replay.proofs.Polled.{polling_begins, softint_taken}
 use Rattle.cyc_replay.proofs.interrupting.take_softint.Goals as goal

@@ -1,6 +1,6 @@
 use Rattle.std.proofs.Common.{◌≡◌, ◌<◌, Some, refl, map, string_bytes, ap, sym, ◌∙◌, subst}
-use Rattle.cyc_script_machine.specs.Machine.{id_at, name_at}
-use Rattle.cyc_script_machine.proofs.Remembering.{text_named, text_nameless}
+use Rattle.cyc_replay.specs.Machine.{id_at, name_at}
+use Rattle.cyc_replay.proofs.Remembering.{text_named, text_nameless}
 use Rattle.cyc_replay.proofs.Asked.{not_true}
 use Rattle.cyc_replay.proofs.interrupting.text_of.Goals as goal
 

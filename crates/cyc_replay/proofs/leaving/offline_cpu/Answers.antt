@@ -1,9 +1,9 @@
 use Rattle.std.proofs.Common.{◌≡◌, refl, subst}
 use Rattle.std.specs.Prelude.{Ok, Err}
-use Rattle.cyc_script_machine.specs.System.{running_system}
-use Rattle.cyc_script_machine.specs.Calls.{Changes, Offline}
+use Rattle.cyc_system.specs.System.{running_system}
+use Rattle.cyc_system.specs.Calls.{Changes, Offline}
 use Rattle.cyc_cpu.specs.Soft.{raise_tables}
-use Rattle.cyc_script_machine.proofs.Doing.{keeps}
+use Rattle.cyc_replay.proofs.Doing.{keeps}
 use Rattle.cyc_replay.proofs.Turns.{goes_offline}
 use Rattle.cyc_replay.proofs.leaving.offline_cpu.Goals as goal
 

@@ -1,4 +1,4 @@
-use Rattle.cyc_script_machine.proofs.Taking.{on_ok}
+use Rattle.cyc_replay.proofs.Taking.{on_ok}
 use Rattle.cyc_replay.proofs.Turns.{offline_takes}
 use Rattle.cyc_replay.proofs.leaving.take_offline.Goals as goal
 

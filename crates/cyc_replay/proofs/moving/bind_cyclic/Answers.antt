@@ -1,14 +1,14 @@
 use Rattle.std.proofs.Common.{◌≡◌, ℕ, arith, None, Some, refl, ap, sym, subst, ◌∙◌}
 use Rattle.std.specs.Prelude.{Ok, Err}
 use Rattle.cyc_script.specs.declared.step.Step.TheVariants as steps
-use Rattle.cyc_script_machine.specs.System.{running_system}
-use Rattle.cyc_script_machine.specs.Calls.{Changes, Bind}
+use Rattle.cyc_system.specs.System.{running_system}
+use Rattle.cyc_system.specs.Calls.{Changes, Bind}
 use Rattle.cyc_cpu.specs.Soft.{raise_tables}
 use Rattle.cyc_model.specs.Places.{id_of}
-use Rattle.cyc_script_machine.specs.Machine.{id_at}
-use Rattle.cyc_script_machine.proofs.Doing.{keeps, answered}
+use Rattle.cyc_replay.specs.Machine.{id_at}
+use Rattle.cyc_replay.proofs.Doing.{keeps, answered}
 use Rattle.cyc_model.proofs.Still.{still_bind}
-use Rattle.cyc_script_machine.proofs.Named.{same_id, nobody_first}
+use Rattle.cyc_replay.proofs.Named.{same_id, nobody_first}
 use Rattle.cyc_replay.proofs.moving.bind_cyclic.Goals as goal
 
 pub returns-in_default : goal.returns-in_default

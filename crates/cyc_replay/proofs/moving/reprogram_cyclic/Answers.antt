@@ -2,19 +2,19 @@ use Rattle.std.proofs.Common.{◌≡◌, ℕ, arith, None, Some, refl, ap, sym, 
 use Rattle.std.specs.Prelude.{Ok, Err}
 use Rattle.std.proofs.lemmas.Result.{err_from_is_err_and}
 use Rattle.cyc_script.specs.declared.step.Step.TheVariants as steps
-use Rattle.cyc_script_machine.specs.System.{running_system}
-use Rattle.cyc_script_machine.specs.Calls.{Changes}
+use Rattle.cyc_system.specs.System.{running_system}
+use Rattle.cyc_system.specs.Calls.{Changes}
 use Rattle.cyc_cpu.specs.Soft.{raise_tables}
-use Rattle.cyc_script_machine.specs.SystemWords.{reprograms}
-use Rattle.cyc_script_machine.specs.Answers.{IsRefused}
+use Rattle.cyc_replay.specs.SystemWords.{reprograms}
+use Rattle.cyc_cpu_model.specs.Answers.{IsRefused}
 use Rattle.cyc_model.specs.Questions.{plain}
 use Rattle.cyc_model.specs.Script.{refusal_of}
 use Rattle.cyc_model.specs.Places.{id_of}
-use Rattle.cyc_script_machine.specs.Machine.{id_at}
-use Rattle.cyc_script_machine.proofs.Doing.{keeps, answered}
+use Rattle.cyc_replay.specs.Machine.{id_at}
+use Rattle.cyc_replay.proofs.Doing.{keeps, answered}
 use Rattle.cyc_replay.proofs.Series.{is_moment, moment_refused, reprogram_nobody}
 use Rattle.cyc_replay.proofs.Moments.{same_kept}
-use Rattle.cyc_script_machine.proofs.Named.{same_id, nobody_first}
+use Rattle.cyc_replay.proofs.Named.{same_id, nobody_first}
 use Rattle.cyc_replay.proofs.moving.reprogram_cyclic.Goals as goal
 
 pub returns-in_err-moment : goal.returns-in_err-moment

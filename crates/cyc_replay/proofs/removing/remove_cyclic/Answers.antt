@@ -1,11 +1,11 @@
 use Rattle.std.proofs.Common.{None, Some, refl, ap, sym, subst, ◌∙◌}
-use Rattle.cyc_script_machine.specs.System.{running_system}
-use Rattle.cyc_script_machine.specs.Calls.{Changes, BeginRemove}
+use Rattle.cyc_system.specs.System.{running_system}
+use Rattle.cyc_system.specs.Calls.{Changes, BeginRemove}
 use Rattle.cyc_cpu.specs.Soft.{raise_tables}
 use Rattle.cyc_model.specs.Places.{id_of}
-use Rattle.cyc_script_machine.specs.Machine.{id_at}
-use Rattle.cyc_script_machine.proofs.Named.{same_id, reached_good}
-use Rattle.cyc_script_machine.proofs.Doing.{keeps}
+use Rattle.cyc_replay.specs.Machine.{id_at}
+use Rattle.cyc_replay.proofs.Named.{same_id, reached_good}
+use Rattle.cyc_replay.proofs.Doing.{keeps}
 use Rattle.cyc_replay.specs.Removing.{counted_begun}
 use Rattle.cyc_replay.proofs.Begun.{begun, nobody, begun_answers, begun_line_of}
 use Rattle.cyc_replay.proofs.removing.remove_cyclic.Goals as goal

@@ -1,6 +1,6 @@
 use Rattle.std.proofs.Common.{map, string_bytes, ap, ◌∙◌}
 use Rattle.cyc_model.specs.Script.{text_in}
-use Rattle.cyc_script_machine.proofs.Taking.{on_ok}
+use Rattle.cyc_replay.proofs.Taking.{on_ok}
 use Rattle.cyc_replay.specs.Removing.{begun_line}
 use Rattle.cyc_replay.proofs.Begun.{remove_taken, remove_refused}
 use Rattle.cyc_replay.proofs.removing.take_remove.Goals as goal

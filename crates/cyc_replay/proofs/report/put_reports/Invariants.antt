@@ -3,7 +3,7 @@ use Rattle.std.specs.Io.KnownBytes.{Appends}
 use Rattle.cyc_model.specs.State.{State}
 use Rattle.cyc_model.specs.Report.{reports}
 use Rattle.cyc_model.specs.Script.{names_of}
-use Rattle.cyc_script_machine.specs.Machine.{Holds, IsReached}
+use Rattle.cyc_replay.specs.Machine.{Holds, IsReached}
 use Rattle.cyc_replay.proofs.report.put_reports.Given as goal
 
 -- the reports so far are put, and the others follow them

@@ -4,8 +4,8 @@ use Rattle.std.specs.Io.KnownBytes.{Appends}
 use Rattle.cyc_text.specs.Puts.{AppendsPrefix}
 use Rattle.cyc_text.proofs.Puts.{nothing}
 use Rattle.cyc_model.specs.Script.{run_on, names_of, no_indexes}
-use Rattle.cyc_script_machine.specs.Runs.{listed}
-use Rattle.cyc_script_machine.proofs.Running.{reached_so, takes_at}
+use Rattle.cyc_replay.specs.Runs.{listed}
+use Rattle.cyc_replay.proofs.RunningMachine.{reached_so, takes_at}
 use Rattle.cyc_replay.proofs.Reading.{takes_named}
 use Rattle.cyc_replay.proofs.run.put_step.Goals as goal
 

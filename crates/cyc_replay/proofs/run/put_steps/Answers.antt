@@ -5,8 +5,8 @@ use Rattle.std.specs.Io.KnownBytes.{Appends}
 use Rattle.cyc_text.specs.Puts.{AppendsPrefix}
 use Rattle.cyc_text.proofs.Puts.{prefix_more, stops}
 use Rattle.cyc_model.specs.Script.{names_of, no_indexes}
-use Rattle.cyc_script_machine.specs.Runs.{Runs}
-use Rattle.cyc_script_machine.proofs.Running.{take_on, number_on, whole_line, line_then}
+use Rattle.cyc_replay.specs.Runs.{Runs}
+use Rattle.cyc_replay.proofs.RunningMachine.{take_on, number_on, whole_line, line_then}
 use Rattle.cyc_replay.proofs.run.put_steps.Goals as goal
 
 pub put_step-requires-clause-few : goal.put_step-requires-clause-few

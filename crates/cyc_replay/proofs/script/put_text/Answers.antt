@@ -4,7 +4,7 @@ use Rattle.std.proofs.lemmas.Result.{err_from_is_err_and}
 use Rattle.cyc_text.specs.Puts.{Puts}
 use Rattle.cyc_text.proofs.Puts.{more, stops}
 use Rattle.cyc_model.specs.Script.{names_of, run_of, text_with}
-use Rattle.cyc_script_machine.proofs.Running.{reached_so}
+use Rattle.cyc_replay.proofs.RunningMachine.{reached_so}
 use Rattle.cyc_replay.proofs.Running.{runs_shown, whole_text}
 use Rattle.cyc_replay.proofs.script.put_text.Goals as goal
 

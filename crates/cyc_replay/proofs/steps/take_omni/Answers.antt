@@ -1,6 +1,6 @@
 use Rattle.std.proofs.Common.{refl}
 use Rattle.cyc_script.specs.declared.step.Step.TheVariants as steps
-use Rattle.cyc_script_machine.proofs.Taking.{taken, on_ok}
+use Rattle.cyc_replay.proofs.Taking.{taken, on_ok}
 use Rattle.cyc_replay.proofs.steps.take_omni.Goals as goal
 
 pub returns-clause-takes : goal.returns-clause-takes

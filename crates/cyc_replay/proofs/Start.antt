@@ -1,0 +1,333 @@
+-- The machine before the first step.
+use Rattle.std.proofs.Common.{◌≡◌, ℕ, zero, suc, ◌+◌, ◌-◌, ◌^◌, ◌<◌, ◌≤◌, inl, inr, List, [], ◌∷◌, ◌++◌, length, map, Bool, true}
+use Rattle.std.proofs.Common.{false, cond, nat_lt, get_or, All, Some, None, refl, ap, sym, ◌∙◌, subst, arith}
+use Rattle.std.specs.Prelude.{replicate}
+use Rattle.std.proofs.lemmas.List.{get_or-replicate, length-replicate}
+use Rattle.std.proofs.lemmas.List.Elements.{All-append}
+use Rattle.std.proofs.Math.ListN.{get_or-eq_default}
+use Rattle.std.proofs.lemmas.Bool.{cases_lt}
+use Rattle.cyc_types.specs.Tally.{TallyView, tally_made, tally_count}
+use Rattle.cyc_level.specs.Level.{SoftLevel, empty_level}
+use Rattle.cyc_core.specs.FiringSide.{firing_view}
+use Rattle.cyc_core.specs.Tables.{Tables, level_of}
+use Rattle.cyc_cpu.specs.Cpu.{IsFresh}
+use Rattle.cyc_cpu.specs.Soft.{firing_at}
+use Rattle.cyc_model.specs.Script.{start}
+use Rattle.cyc_replay.specs.Shown.{ShowsSystem, IsSystem}
+use Rattle.cyc_replay.specs.Kept.{AreNew}
+use Rattle.cyc_replay.specs.declared.machine.Machine.{Machine}
+use Rattle.cyc_replay.specs.Machine.{Holds, IsWide, AllMost, number_of, id_at}
+use Rattle.cyc_replay.specs.Beginning.{IsEmpty, HasReserved}
+use Rattle.std.specs.Prelude.{slice_set, Ok, Err}
+use Rattle.std.specs.List.{slice_get}
+use Rattle.std.proofs.Math.ListN.{length-set}
+use Rattle.std.proofs.lemmas.List.{get_or-set_same, get_or-set_other}
+use mathlib.Core.Logic.{dite}
+use native.Mathlib.Decide.{ℕ_discrete}
+use Rattle.cyc_types.specs.declared.refusal.Refusal.{Refusal}
+use Rattle.cyc_types.specs.declared.refusal.Refusal.TheVariants.{Memory}
+use Rattle.cyc_cpu.specs.Cpu.{CpuView, size_for, HasRisingIds}
+use Rattle.cyc_cpu.specs.Calls.{Reserve, Changes}
+use Rattle.cyc_cpu.specs.Soft.{raise_tables}
+use Rattle.cyc_system.specs.Cpus.{new_cpus}
+use Rattle.cyc_system.proofs.Rooms.{only_memory}
+use Rattle.cyc_cpu_model.specs.Shown.{shown, shown_cpu}
+use Rattle.cyc_cpu_model.specs.Tied.{IsTied, HasOwn}
+use Rattle.cyc_types.specs.Firing.{Looks}
+use Rattle.cyc_types.specs.Runs.{Goes}
+use Rattle.cyc_cpu.specs.Quiet.{OnlyLooks}
+use Rattle.std.specs.Prelude.{Result, OnOk, IfErr}
+use Rattle.cyc_places.specs.Places.{IsRecord, HasRisingIds as RecordsRise}
+use Rattle.cyc_system.specs.System.{SystemView}
+use Rattle.cyc_system.specs.Agreement.{Agrees}
+use Rattle.cyc_system.proofs.Spots.{same_some, none_some}
+use Rattle.cyc_model.specs.State.{State}
+use Rattle.cyc_system.specs.Splitting.{EachTwo, GoesOn, IsSameEnd, index_of, AllComeBack}
+use Rattle.cyc_replay.specs.Room.{HaveAllRoom}
+use Rattle.cyc_replay.specs.Shown.{shown_list, shown_record, AllFull}
+
+-- an empty level as its firing side sees it
+fresh : (ceiling : ℕ) (l : SoftLevel) → l ≡ empty_level ceiling → IsFresh (firing_view l)
+fresh ceiling l is = subst (λ (k : SoftLevel). IsFresh (firing_view k)) (sym is)
+    (record { none = λ id. refl; unmarked = refl; bank = refl; free = refl })
+
+pub fresh_levels : (ceiling : ℕ) (ends : List (Tables × Tables)) → AreNew ceiling ends
+    → All (λ e. IsFresh (firing_at e.0) × IsFresh (firing_at e.1)) ends
+fresh_levels ceiling ends new k d low =
+    let own = new k d low in (
+      fresh ceiling (level_of (get_or ends k d).0) own.0,
+      fresh ceiling
+          (level_of (get_or ends k d).1) own.1,
+    )
+
+pub one_more_new : (ceiling : ℕ) (ends : List (Tables × Tables)) (e : Tables × Tables) → AreNew ceiling ends
+    → level_of e.0 ≡ empty_level ceiling
+    → level_of e.1 ≡ empty_level ceiling → AreNew ceiling (ends ++ e ∷ [])
+one_more_new ceiling ends e new lock low =
+    All-append (λ (x : Tables × Tables). (level_of x.0 ≡ empty_level ceiling) × (level_of x.1 ≡ empty_level ceiling)) ends
+    (e ∷ []) new one
+  where
+    one : (k : ℕ) (d : Tables × Tables) → k < 1
+        → (level_of (get_or (e ∷ []) k d).0 ≡ empty_level ceiling) × (level_of (get_or (e ∷ []) k d).1 ≡ empty_level ceiling)
+    one zero d less = (lock, low)
+    one (suc k) d less = absurd (omega (arith, less))
+
+-- ---- the tally
+
+abbrev zeros : ℕ → List ℕ
+zeros n = replicate n 0
+
+zero_at : (k n : ℕ) → get_or (zeros n) k zero ≡ zero
+zero_at k n = elim (cases_lt k n) [
+  | inl near ↦ get_or-replicate n k zero zero near
+  | inr far ↦ get_or-eq_default
+      (zeros n) zero (let l = length-replicate n zero in omega (arith, far, l))
+]
+
+none_counted : (b : Bool) (k n : ℕ) → cond b zero (get_or (zeros n) k zero) ≡ zero
+none_counted true k n = refl
+none_counted false k n = zero_at k n
+
+wide : (t : TallyView) → t ≡ tally_made 1 65536 (2 ^ 64 - 1) → IsWide t
+wide t is = subst IsWide (sym is) (record { first = refl; len = length-replicate 65536 zero; most = refl })
+
+-- ---- the whole
+
+no_ids : (n : ℕ) → replicate n 0 ≡ map number_of (replicate n None)
+no_ids zero = refl
+no_ids (suc n) = ap (λ ns. 0 ∷ ns) (no_ids n)
+
+pub held_new : (cpus ceiling names : ℕ) (m : Machine) → m.clock ≡ 0 → m.tally ≡ tally_made 1 65536 (2 ^ 64 - 1)
+    → m.names.items ≡ replicate names None → length m.counted.items ≡ names → length m.named.items ≡ 65536 → AllMost m.system.cpus
+    → HaveAllRoom m.system.cpus → IsSystem m.system × ShowsSystem (start cpus ceiling names) m.system
+    → Holds (start cpus ceiling names) m
+held_new cpus ceiling names m clock tally ids counted named most room shown = record {
+  system = shown.0;
+  shows = shown.1;
+  clock = sym clock;
+  called = λ id. ap (λ t. tally_count t id) tally ∙ none_counted (nat_lt id 1) (id - 1) 65536;
+  names = no_ids names ∙ sym (ap (map number_of) ids);
+  remembers = record {
+    given = λ name id is. absurd (nobody name id is);
+    named = λ name id is. absurd (nobody name id is);
+    counted = λ name id is. absurd (nobody name id is);
+    names = counted ∙ sym (ap length ids ∙ length-replicate names None);
+    ids = named;
+  };
+  tally = wide m.tally tally;
+  most = most;
+  room = room;
+}
+  where
+    none_in : (k n id : ℕ) → id_at (replicate n None) k ≡ Some id → ⊥
+    none_in k zero id is = none_some is
+    none_in zero (suc n) id is = none_some is
+    none_in (suc k) (suc n) id is = none_in k n id is
+
+    nobody : (name id : ℕ) → id_at m.names.items name ≡ Some id → ⊥
+    nobody name id is = none_in name names id (sym (ap (λ xs. id_at xs name) ids) ∙ is)
+
+-- ---- memory for all cyclics
+
+-- a new CPU has no cyclic
+pub new_empty : (most ceiling : ℕ) (ends : List (Tables × Tables)) → AreNew ceiling ends → All IsEmpty (new_cpus most ends).cpus
+new_empty most ceiling [] new k d low = absurd (omega (arith, low))
+new_empty most ceiling (e ∷ ends) new zero d low =
+    let own = new 0 e (omega arith) in
+    record {
+      cyclics = refl;
+      removal = refl;
+      size = refl;
+      followed = (
+        ap (λ (l : SoftLevel). (firing_view l).followed) own.0,
+        ap (λ (l : SoftLevel). (firing_view l).followed) own.1,
+      );
+    }
+new_empty most ceiling (e ∷ ends) new (suc k) d low =
+    new_empty most ceiling ends (λ i x less. new (suc i) x (omega (arith, less))) k d (omega (arith, low))
+
+-- looks change nothing
+looked : (answers : List Bool) (d e : Tables) → Goes raise_tables d (map Looks answers) e → level_of e ≡ level_of d
+looked [] d e goes = ap level_of (sym goes)
+looked (answer ∷ answers) d e (x, (step, learns), rest) = looked answers x e rest ∙ step.1
+
+only_looked : (d e : Tables) → OnlyLooks raise_tables d e → level_of e ≡ level_of d
+only_looked d e (answers, goes) = looked answers d e goes
+
+reserved_so : (v w : CpuView Tables) → IsEmpty v → Changes raise_tables v (Reserve 256 (Ok tt)) w → HasReserved v w
+reserved_so v w e d = record {
+  room = subst (λ k. k ≤ w.room) (ap (λ k. size_for k (length w.cyclics + 256)) (d.0.size ∙ e.size)
+      ∙ ap (λ cs. size_for 1 (length cs + 256)) (d.0.cyclics ∙ e.cyclics)) d.1.reserved;
+  cyclics = d.0.cyclics;
+  removal = d.0.removal;
+  size = d.0.size;
+  most = d.0.most;
+  lock = only_looked v.lock w.lock d.0.lock;
+  low = only_looked v.low w.low d.0.low;
+}
+
+only_want : (v w : CpuView Tables) (e : Refusal) → IsEmpty v → Changes raise_tables v (Reserve 256 (Err e)) w → e ≡ Memory
+only_want v w e empty d = only_memory raise_tables 256 v w e
+    (record {
+      fits = let none = ap length empty.cyclics in omega (arith, none);
+      still = λ more. (empty.removal, empty.followed);
+    }) d.0 d.1
+
+pub reserved_or_not : (v w : CpuView Tables) (r : Result (Unit {0}) Refusal) → IsEmpty v
+    → Changes raise_tables v (Reserve 256 r) w
+    → OnOk r (HasReserved v w)
+reserved_or_not v w (Ok done) e d = reserved_so v w e d
+reserved_or_not v w (Err why) e d = tt
+
+pub only_if_refused : (v w : CpuView Tables) (r : Result (Unit {0}) Refusal) → IsEmpty v
+    → Changes raise_tables v (Reserve 256 r) w
+    → IfErr r (λ refusal. refusal ≡ Memory)
+only_if_refused v w (Ok done) e d = tt
+only_if_refused v w (Err why) e d = only_want v w why e d
+
+-- one CPU after the other
+pub record Reserving (n : ℕ) (vs ws : List (CpuView Tables)) : Type 0 where
+  pub long : length ws ≡ length vs
+  pub done : (k : ℕ) (d : CpuView Tables) → k < n → k < length vs → HasReserved (get_or vs k d) (get_or ws k d)
+  pub left : (k : ℕ) (d : CpuView Tables) → n ≤ k → get_or ws k d ≡ get_or vs k d
+
+pub reserving_none : (vs : List (CpuView Tables)) → Reserving 0 vs vs
+reserving_none vs = record { long = refl; done = λ k d low within. absurd (omega (arith, low)); left = λ k d low. refl }
+
+pub reserving_one : (n : ℕ) (vs ws : List (CpuView Tables)) (x y : CpuView Tables) → Reserving n vs ws → n < length ws
+    → get_or ws n x ≡ x
+    → HasReserved x y → Reserving (n + 1) vs (slice_set ws n y)
+reserving_one n vs ws x y r within is h = record {
+  long = length-set ws n y ∙ r.long;
+  done = λ k d low inside. dite (ℕ_discrete k n)
+      (λ e. subst (λ i. HasReserved (get_or vs i d) (get_or (slice_set ws n y) i d)) (sym e)
+      (subst (λ b. HasReserved (get_or vs n d) b) (sym (get_or-set_same ws n y d within))
+      (subst (λ a. HasReserved a y) (sym is ∙ there d ∙ r.left n d (omega arith)) h)))
+      (λ ne. subst (λ b. HasReserved (get_or vs k d) b) (sym (get_or-set_other ws n k y d ne))
+      (r.done k d (omega (arith, low, ne)) inside));
+  left = λ k d low. get_or-set_other ws n k y d (λ (e : k ≡ n). omega (arith, low, e)) ∙ r.left k d (omega (arith, low));
+}
+  where
+    there : (d : CpuView Tables) → get_or ws n x ≡ get_or ws n d
+    there d = same_within ws n x d within
+      where
+        same_within : (xs : List (CpuView Tables)) (k : ℕ) (a b : CpuView Tables) → k < length xs → get_or xs k a ≡ get_or xs k b
+        same_within [] k a b low = absurd (omega (arith, low))
+        same_within (z ∷ xs) zero a b low = refl
+        same_within (z ∷ xs) (suc k) a b low = same_within xs k a b (omega (arith, low))
+
+pub empty_left : (n : ℕ) (vs ws : List (CpuView Tables)) (x : CpuView Tables) → Reserving n vs ws → n < length vs
+    → x ≡ get_or ws n x
+    → All IsEmpty vs → IsEmpty x
+empty_left n vs ws x r low is empty = subst IsEmpty (sym (is ∙ r.left n x (omega arith))) (empty n x low)
+
+pub reserving_all : (n : ℕ) (vs ws : List (CpuView Tables)) → Reserving n vs ws → length vs ≤ n → EachTwo HasReserved vs ws
+reserving_all n vs ws r all = each vs ws r.long (λ k d low. r.done k d (omega (arith, low, all)) low)
+  where
+    each : (xs ys : List (CpuView Tables)) → length ys ≡ length xs
+        → ((k : ℕ) (d : CpuView Tables) → k < length xs → HasReserved (get_or xs k d) (get_or ys k d)) → EachTwo HasReserved xs ys
+    each [] [] long one = tt
+    each [] (y ∷ ys) long one = absurd (omega (arith, long))
+    each (x ∷ xs) [] long one = absurd (omega (arith, long))
+    each (x ∷ xs) (y ∷ ys) long one =
+        (one 0 x (omega arith), each xs ys (omega (arith, long)) (λ k d low. one (suc k) d (omega (arith, low))))
+
+-- they may come back to their system
+pub come_back : (vs ws : List (CpuView Tables)) → All IsEmpty vs → EachTwo HasReserved vs ws → AllComeBack firing_at vs ws
+come_back [] [] empty two = tt
+come_back [] (w ∷ ws) empty two = two
+come_back (v ∷ vs) [] empty two = two
+come_back (v ∷ vs) (w ∷ ws) empty two =
+    let none = (empty 0 v (omega arith)).cyclics in let h = two.0 in (
+      record {
+        cyclics = subst (λ cs. EachTwo (GoesOn (firing_at v.lock).ceiling (firing_at v.low).ceiling) v.cyclics cs) (sym h.cyclics)
+            (subst (λ cs. EachTwo (GoesOn (firing_at v.lock).ceiling (firing_at v.low).ceiling) cs cs) (sym none) tt);
+        removal = h.removal;
+        size = h.size;
+        most = h.most;
+        lock = same_end (level_of v.lock) (level_of w.lock) h.lock;
+        low = same_end (level_of v.low) (level_of w.low) h.low;
+      },
+      come_back vs ws (λ k d low. empty (suc k) d (omega (arith, low))) two.1,
+    )
+  where
+    same_end : (a b : SoftLevel) → b ≡ a → IsSameEnd (firing_view a) (firing_view b)
+    same_end a b is = record {
+      ceiling = ap (λ (l : SoftLevel). (firing_view l).ceiling) is;
+      indexes = λ id. ap
+          (λ (l : SoftLevel). index_of id (firing_view l)) is;
+    }
+
+-- ---- the definition has them as before
+
+same_shown : (online : Bool) (v w : CpuView Tables) → HasReserved v w → shown_cpu online w ≡ shown_cpu online v
+same_shown online v w h = λ z. record {
+  online = online;
+  cyclics = map shown (h.cyclics z);
+  size = h.size z;
+  removal = h.removal z;
+  lock = h.lock z;
+  low = h.low z;
+}
+
+shown_two : (os : List Bool) (vs ws : List (CpuView Tables)) → EachTwo HasReserved vs ws → shown_list os ws ≡ shown_list os vs
+shown_two [] vs ws two = refl
+shown_two (o ∷ os) [] [] two = refl
+shown_two (o ∷ os) [] (w ∷ ws) two = absurd two
+shown_two (o ∷ os) (v ∷ vs) [] two = absurd two
+shown_two (o ∷ os) (v ∷ vs) (w ∷ ws) two =
+    (λ z. same_shown o v w two.0 z ∷ shown_list os ws) ∙ ap (λ cs. shown_cpu o v ∷ cs) (shown_two os vs ws two.1)
+
+reserved_tied : (v w : CpuView Tables) → HasReserved v w → IsTied v → IsTied w
+reserved_tied v w h t = record {
+  rising = subst (λ cs. HasRisingIds cs) (sym h.cyclics) t.rising;
+  own = λ online. subst (λ c. HasOwn c) (sym (same_shown online v w h)) (t.own online);
+}
+
+two_at : (vs ws : List (CpuView Tables)) (n : ℕ) (w : CpuView Tables) → EachTwo HasReserved vs ws → slice_get ws n ≡ Some w
+    → (v : CpuView Tables) × (slice_get vs n ≡ Some v) × HasReserved v w
+two_at [] [] n w two is = absurd (none_some is)
+two_at [] (y ∷ ys) n w two is = absurd two
+two_at (x ∷ xs) [] n w two is = absurd two
+two_at (x ∷ xs) (y ∷ ys) zero w two is = (x, refl, subst (HasReserved x) (same_some is) two.0)
+two_at (x ∷ xs) (y ∷ ys) (suc n) w two is = two_at xs ys n w two.1 is
+
+two_long : (vs ws : List (CpuView Tables)) → EachTwo HasReserved vs ws → length ws ≡ length vs
+two_long [] [] two = refl
+two_long [] (y ∷ ys) two = absurd two
+two_long (x ∷ xs) [] two = absurd two
+two_long (x ∷ xs) (y ∷ ys) two = ap suc (two_long xs ys two.1)
+
+module _ (v w : SystemView Tables) (two : EachTwo HasReserved v.cpus.cpus w.cpus.cpus) (online : w.cpus.online ≡ v.cpus.online)
+    (records : w.records ≡ v.records) (last : w.last ≡ v.last) where
+  pub still_system : IsSystem v → Agrees w → IsSystem w
+  still_system h agrees = record {
+    agrees = agrees;
+    rising = subst (λ rs. RecordsRise rs) (sym records) h.rising;
+    full = subst (λ rs. AllFull (length w.cpus.cpus) rs) (sym records)
+        (subst (λ k. AllFull k v.records) (sym (two_long v.cpus.cpus w.cpus.cpus two)) h.full);
+    tied = λ n cpu is. let x = two_at v.cpus.cpus w.cpus.cpus n cpu two is in reserved_tied x.0 cpu x.2 (h.tied n x.0 x.1);
+  }
+
+  pub still_shows : (s : State) → ShowsSystem s v → ShowsSystem s w
+  still_shows s h = record {
+    cpus = h.cpus ∙ sym (shown_two v.cpus.online v.cpus.cpus w.cpus.cpus two) ∙ ap (λ os. shown_list os w.cpus.cpus) (sym online);
+    placed = h.placed ∙ sym (ap (map shown_record) records);
+    ended = λ k r is n. h.ended k r (subst (λ rs. IsRecord rs k r) records is) n;
+    fresh = h.fresh;
+    last = h.last ∙ sym last;
+  }
+
+  pub still_most : AllMost v.cpus → AllMost w.cpus
+  still_most all n cpu is = let x = two_at v.cpus.cpus w.cpus.cpus n cpu two is in x.2.most ∙ all n x.0 x.1
+
+  pub now_room : All IsEmpty v.cpus.cpus → HaveAllRoom w.cpus
+  now_room empty n cpu is =
+      let x = two_at v.cpus.cpus w.cpus.cpus n cpu two is in
+      let room = x.2.room in let size = x.2.size in
+      let one = (empty_at v.cpus.cpus n x.0 empty x.1).size in (room, omega (arith, room, size, one))
+    where
+      empty_at : (xs : List (CpuView Tables)) (k : ℕ) (x : CpuView Tables) → All IsEmpty xs → slice_get xs k ≡ Some x → IsEmpty x
+      empty_at [] k x all is = absurd (none_some is)
+      empty_at (y ∷ ys) zero x all is = subst IsEmpty (same_some is) (all 0 y (omega arith))
+      empty_at (y ∷ ys) (suc k) x all is = empty_at ys k x (λ i d low. all (suc i) d (omega (arith, low))) is

@@ -1,0 +1,36 @@
+use Rattle.std.proofs.Common.{ap, sym, ◌∙◌, subst}
+use Rattle.std.specs.Prelude.{All}
+use Rattle.cyc_core.specs.Tables.{Tables}
+use Rattle.cyc_cpu.specs.Soft.{firing_at}
+use Rattle.cyc_system.specs.System.{SystemView}
+use Rattle.cyc_system.specs.Splitting.{EachTwo, AllComeBack}
+use Rattle.cyc_replay.specs.Beginning.{IsEmpty, HasReserved}
+use Rattle.cyc_replay.proofs.Start.{come_back}
+use Rattle.cyc_replay.proofs.beginning.with_room.Goals as goal
+
+pub reserve_each-requires : goal.reserve_each-requires
+reserve_each-requires c = record { empty = subst (λ xs. All IsEmpty xs) (sym c.split-desk.ensures.cpus) c.requires.empty }
+
+pub unite-requires : goal.unite-requires
+unite-requires c =
+    let left = c.split-desk.ensures in
+    subst (λ xs. AllComeBack firing_at xs c.reserve_each.new.hards.items)
+    (left.cpus ∙ sym (ap (λ (v : SystemView Tables). v.cpus.cpus) left.desk))
+    (come_back c.split-desk.result.1.items c.reserve_each.new.hards.items
+    (subst (λ xs. All IsEmpty xs) (sym left.cpus) c.requires.empty) c.in_ok-reserve_each.ensures.did)
+
+pub returns-clause-cpus : goal.returns-clause-cpus
+returns-clause-cpus c =
+    let left = c.split-desk.ensures in (
+      subst (λ ys. EachTwo HasReserved c.args.system.cpus.cpus ys)
+          (sym (ap (λ (v : SystemView Tables). v.cpus.cpus) c.unite.ensures))
+          (subst (λ xs. EachTwo HasReserved xs c.reserve_each.new.hards.items) left.cpus c.in_ok-reserve_each.ensures.did),
+      ap (λ (v : SystemView Tables). v.cpus.online) c.unite.ensures ∙ ap (λ (v : SystemView Tables). v.cpus.online) left.desk,
+    )
+
+pub returns-clause-rest : goal.returns-clause-rest
+returns-clause-rest c =
+    let left = c.split-desk.ensures in (
+      ap (λ (v : SystemView Tables). v.records) c.unite.ensures ∙ ap (λ (v : SystemView Tables). v.records) left.desk,
+      ap (λ (v : SystemView Tables). v.last) c.unite.ensures ∙ ap (λ (v : SystemView Tables). v.last) left.desk,
+    )

@@ -1,0 +1,11 @@
+use Rattle.cyc_replay.proofs.Keeping.{kept, most_kept, room_kept}
+use Rattle.cyc_replay.proofs.system_laws.kept_law.Goals as goal
+
+pub returns-clause-system : goal.returns-clause-system
+returns-clause-system g c = λ call s t did sys agrees. kept g.C.Calls call s t did sys agrees
+
+pub returns-clause-most : goal.returns-clause-most
+returns-clause-most g c = λ call s t did sys. most_kept g.C.Calls call s t did sys
+
+pub returns-clause-room : goal.returns-clause-room
+returns-clause-room g c = λ call s t did sys. room_kept g.C.Calls call s t did sys

@@ -1,0 +1,155 @@
+//! The machine before the first step.
+
+ghost use Rattle.std.specs.Prelude.{◌≡◌, ◌≤◌, All, None, length, replicate, IfOk, IfErr, OnOk};
+ghost use Rattle.cyc_types.specs.declared.refusal.Refusal.TheVariants.{Memory};
+ghost use Rattle.cyc_types.specs.Tally.{tally_made};
+ghost use Rattle.cyc_script.specs.Limits.{most_cpus, most_steps};
+ghost use Rattle.cyc_model.specs.Script.{start};
+ghost use Rattle.cyc_system.specs.Splitting.{EachTwo};
+ghost use Rattle.cyc_replay.specs.Kept.{AreNew};
+ghost use Rattle.cyc_replay.specs.Machine.{Holds};
+ghost use Rattle.cyc_replay.specs.Beginning.{IsEmpty, HasReserved};
+
+use crate::machine::{Counted, Machine};
+use crate::system_laws::begin_law;
+use cyc_core::LevelCore;
+use cyc_cpu::Hard;
+use cyc_system::System;
+use cyc_types::{CYCLICS, Ceiling, CyclicId, Moment, Refusal, Tally};
+use std::alloc::Global;
+
+/// The most steps of a script: at each a cyclic can be added.
+const MOST_STEPS: usize = 65_536;
+
+/// The id that is given first.
+fn first_id() -> CyclicId
+    ensures { result ≡ 1 }
+{
+    CyclicId::new(1).unwrap()
+}
+
+/// New levels for so many CPUs: of each its lock and its low level.
+fn new_levels(
+    alloc: Global,
+    cpus: u32,
+    ceiling: Ceiling,
+) -> Result<Vec<(LevelCore, LevelCore)>, Refusal>
+    ensures long { IfOk result (λ ends. length ends.items ≡ cpus) }
+    ensures new { IfOk result (λ ends. AreNew ceiling ends.items) }
+    ensures err { IfErr result (λ refusal. refusal ≡ Memory) }
+{
+    let mut ends = Vec::new(alloc);
+    for _ in 0..cpus {
+        let lock = LevelCore::new(alloc, ceiling)?;
+        let low = LevelCore::new(alloc, ceiling)?;
+        ends.push((lock, low))?;
+    }
+    Ok(ends)
+}
+
+/// Takes the memory for all cyclics that the CPU can have.
+fn reserve_all(hard: &mut Hard<LevelCore>) -> Result<(), Refusal>
+    requires empty { IsEmpty hard.old }
+    ensures did { OnOk result (HasReserved hard.old hard.new) }
+    ensures err { IfErr result (λ refusal. refusal ≡ Memory) }
+{
+    hard.reserve(usize::from(CYCLICS))
+}
+
+/// The same on each of these CPUs.
+fn reserve_each(hards: &mut Vec<Hard<LevelCore>>) -> Result<(), Refusal>
+    requires empty { All IsEmpty hards.old.items }
+    ensures did { OnOk result (EachTwo HasReserved hards.old.items hards.new.items) }
+    ensures err { IfErr result (λ refusal. refusal ≡ Memory) }
+{
+    for number in 0..hards.len() {
+        reserve_all(&mut hards[number])?;
+    }
+    Ok(())
+}
+
+/// The system with that memory: from here on no cyclic that comes to a CPU is refused for want of memory there.
+fn with_room(system: System<LevelCore>) -> Result<System<LevelCore>, Refusal>
+    requires empty { All IsEmpty system.cpus.cpus }
+    ensures cpus { IfOk result (λ wide. EachTwo HasReserved system.cpus.cpus wide.cpus.cpus
+        × (wide.cpus.online ≡ system.cpus.online)) }
+    ensures rest { IfOk result (λ wide. (wide.records ≡ system.records) × (wide.last ≡ system.last)) }
+    ensures err { IfErr result (λ refusal. refusal ≡ Memory) }
+{
+    let (desk, mut hards) = system.split();
+    reserve_each(&mut hards)?;
+    Ok(desk.unite(hards))
+}
+
+/// No name has an id.
+fn no_ids(alloc: Global, names: usize) -> Result<Vec<Option<CyclicId>>, Refusal>
+    ensures ids { IfOk result (λ ids. ids.items ≡ replicate names None) }
+    ensures err { IfErr result (λ refusal. refusal ≡ Memory) }
+{
+    let ids = vec![in alloc; None; names]?;
+    Ok(ids)
+}
+
+/// No removal has counted anything.
+fn none_counted(alloc: Global, names: usize) -> Result<Vec<Counted>, Refusal>
+    ensures long { IfOk result (λ counted. length counted.items ≡ names) }
+    ensures err { IfErr result (λ refusal. refusal ≡ Memory) }
+{
+    let none = Counted {
+        expired: 0,
+        lost: 0,
+    };
+    let counted = vec![in alloc; none; names]?;
+    Ok(counted)
+}
+
+/// A place for the name of each id.
+fn no_names(alloc: Global) -> Result<Vec<usize>, Refusal>
+    ensures long { IfOk result (λ named. length named.items ≡ most_steps) }
+    ensures err { IfErr result (λ refusal. refusal ≡ Memory) }
+{
+    let named = vec![in alloc; 0; MOST_STEPS]?;
+    Ok(named)
+}
+
+/// What a machine has beside its system: the tally of its calls, the ids of names, what removals counted, the names of ids.
+fn beside(
+    alloc: Global,
+    names: usize,
+) -> Result<(Tally, Vec<Option<CyclicId>>, Vec<Counted>, Vec<usize>), Refusal>
+    ensures tally { IfOk result (λ r. r.0 ≡ tally_made 1 most_steps 18446744073709551615) }
+    ensures ids { IfOk result (λ r. r.1.items ≡ replicate names None) }
+    ensures counted { IfOk result (λ r. length r.2.items ≡ names) }
+    ensures named { IfOk result (λ r. length r.3.items ≡ most_steps) }
+    ensures err { IfErr result (λ refusal. refusal ≡ Memory) }
+{
+    let tally = Tally::new(alloc, first_id(), MOST_STEPS, u64::MAX)?;
+    let ids = no_ids(alloc, names)?;
+    let counted = none_counted(alloc, names)?;
+    let named = no_names(alloc)?;
+    Ok((tally, ids, counted, named))
+}
+
+/// So many CPUs, all online, with no cyclic, and so many names with no id.
+pub fn begin(alloc: Global, cpus: u32, ceiling: Ceiling, names: usize) -> Result<Machine, Refusal>
+    requires some { 1 ≤ cpus }
+    requires few { cpus ≤ most_cpus }
+    ensures holds { IfOk result (Holds (start cpus ceiling names)) }
+    ensures err { IfErr result (λ refusal. refusal ≡ Memory) }
+{
+    begin_law();
+    let levels = new_levels(alloc, cpus, ceiling)?;
+    let fresh = System::new(alloc, levels, u64::MAX, first_id())?;
+    fresh.law();
+    let system = with_room(fresh)?;
+    system.law();
+    let (tally, ids, counted, named) = beside(alloc, names)?;
+    Ok(Machine {
+        clock: Moment::ZERO,
+        system,
+        tally,
+        names: ids,
+        counted,
+        named,
+    })
+}

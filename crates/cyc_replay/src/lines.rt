@@ -1,0 +1,27 @@
+//! The line of each step.
+
+ghost use Rattle.std.specs.Prelude.{◌≡◌, ◌≢◌, OnOk, OnErr, IfErr, string_bytes, Err};
+ghost use Rattle.cyc_types.specs.declared.refusal.Refusal.TheVariants.{Memory};
+ghost use Rattle.cyc_text.specs.Status.{IsMemory};
+ghost use Rattle.cyc_replay.specs.Words.{answer_line};
+
+use cyc_text::{RunFault, write_accepted, write_refused};
+use cyc_types::Refusal;
+
+/// Replaces the line by that of a step which says no more than whether it was done. Where memory was refused the run is.
+pub fn write_answer(
+    line: &mut String,
+    step: u32,
+    answer: Result<(), Refusal>,
+) -> Result<(), RunFault>
+    ensures line { OnOk result (string_bytes line.new ≡ answer_line step answer) }
+    ensures other { OnOk result (answer ≢ Err Memory) }
+    ensures memory { IfErr result IsMemory }
+{
+    match answer {
+        Ok(()) => write_accepted(line, step)?,
+        Err(Refusal::Memory) => return Err(RunFault::Refused(Refusal::Memory)),
+        Err(why) => write_refused(line, step, why.number())?,
+    }
+    Ok(())
+}

@@ -1,9 +1,0 @@
-use Rattle.std.proofs.Common.{◌≡◌, length}
-use Rattle.cyc_script_machine.specs.Kept.{AreNew}
-use Rattle.cyc_script_machine.proofs.beginning.new_levels.Given as goal
-
-abbrev pub invariant-loop : goal.invariant-loop
-invariant-loop l = record {
-  long : length l.ends.items ≡ l.counter;
-  new : AreNew l.ceiling l.ends.items;
-}

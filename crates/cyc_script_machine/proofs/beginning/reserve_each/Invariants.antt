@@ -1,5 +1,0 @@
-use Rattle.cyc_script_machine.proofs.Start.{Reserving}
-use Rattle.cyc_script_machine.proofs.beginning.reserve_each.Given as goal
-
-abbrev pub invariant-loop-number : goal.invariant-loop-number
-invariant-loop-number l = Reserving l.number l.fn.hards.items l.hards.items

@@ -1,8 +1,0 @@
-use Rattle.cyc_script_machine.proofs.SystemRunning.{fire_accepted, fire_refused}
-use Rattle.cyc_script_machine.proofs.laws.fire_law.Goals as goal
-
-pub returns-clause-accepted : goal.returns-clause-accepted
-returns-clause-accepted g c = λ n fired m s t sys h did. fire_accepted g.C.Calls m s t sys h n fired did
-
-pub returns-clause-refused : goal.returns-clause-refused
-returns-clause-refused g c = λ n now e answer m s t sys h is did. fire_refused g.C.Calls m s t sys h n now e answer is did
