@@ -201,6 +201,11 @@ want '' 'fault write'
 : > "$work/got"
 timeout 20 "$alone" < "$work/steps" 2> "$work/said" >&-
 say 'the word alone, a closed output' "$?" 3
+if [ -e /dev/full ]; then
+  # a text that is written by the last flush alone
+  timeout 20 "$alone" < examples/first.json 2> "$work/said" > /dev/full
+  say 'the word alone, a full device' "$?" 3
+fi
 
 # a run in threads gives the same bytes whatever the schedule
 for _ in $(seq 100); do
