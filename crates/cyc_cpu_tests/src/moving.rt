@@ -35,9 +35,8 @@ fn place(
     Ok(())
 }
 
-/// A cyclic of one CPU, which is taken off it once its calls are made.
-fn leave(rt: &impl Abort, alloc: Global, calls: &mut Handlers) -> Result<(), Fail> {
-    let mut source = cpu(alloc, u64::MAX, u32::MAX)?;
+/// Adds a cyclic, which is taken off the CPU once its calls are made.
+fn take(rt: &impl Abort, source: &mut Hard<LevelCore>, calls: &mut Handlers) -> Result<(), Fail> {
     let steps = [
         (Step::Add(1, Level::Low, 1, 1, 0), Answer::Done),
         (Step::Fire(3), Answer::Fired(3, 0, 4)),
@@ -48,13 +47,18 @@ fn leave(rt: &impl Abort, alloc: Global, calls: &mut Handlers) -> Result<(), Fai
         (Step::TakeNow(1), Answer::Taken(Level::Low, 1, 4, 3, 0)),
         (Step::TakeNow(1), Answer::Refused(Refusal::NoCyclic)),
     ];
-    play(rt, &mut source, calls, &steps)
+    play(rt, source, calls, &steps)
 }
 
-/// The cyclic of `leave` on another CPU, up to the end of its removal there.
-fn arrive(rt: &impl Abort, alloc: Global, calls: &mut Handlers) -> Result<(), Fail> {
-    let mut target = cpu(alloc, u64::MAX, u32::MAX)?;
-    place(&mut target, 1, Level::Low, 1, 4, Sent { sent: 3, lost: 0 })?;
+/// Places the cyclic of `take` on another CPU, and removes it there.
+fn place_and_remove(
+    rt: &impl Abort,
+    target: &mut Hard<LevelCore>,
+    calls: &mut Handlers,
+) -> Result<(), Fail>
+    requires { 3 ≤ target.old.most }
+{
+    place(target, 1, Level::Low, 1, 4, Sent { sent: 3, lost: 0 })?;
     let busy = Refusal::Busy(id(1)?);
     let steps = [
         (Step::Fire(4), Answer::Fired(1, 0, 5)),
@@ -67,14 +71,31 @@ fn arrive(rt: &impl Abort, alloc: Global, calls: &mut Handlers) -> Result<(), Fa
         (Step::PollRemove, Answer::Nothing),
         (Step::BeginRemove(1), Answer::Refused(Refusal::NoCyclic)),
     ];
-    play(rt, &mut target, calls, &steps)
+    play(rt, target, calls, &steps)
+}
+
+/// A CPU that the cyclic leaves.
+fn leave(rt: &impl Abort, alloc: Global, calls: &mut Handlers) -> Result<(), Fail> {
+    let mut source = cpu(alloc, u64::MAX, u32::MAX)?;
+    take(rt, &mut source, calls)
+}
+
+/// The CPU to which it goes.
+fn arrive(rt: &impl Abort, alloc: Global, calls: &mut Handlers) -> Result<(), Fail> {
+    let mut target = cpu(alloc, u64::MAX, u32::MAX)?;
+    place_and_remove(rt, &mut target, calls)
+}
+
+/// Moves the cyclic, and counts its calls on both CPUs.
+fn move_and_count(rt: &impl Abort, alloc: Global, calls: &mut Handlers) -> Result<(), Fail> {
+    leave(rt, alloc, calls)?;
+    arrive(rt, alloc, calls)?;
+    assert_eq!(rt; calls.count(id(1)?), Some(4));
+    Ok(())
 }
 
 #[test]
 fn a_cyclic_goes_on_at_another_cpu_where_it_stopped(rt: HostRuntime) -> Result<(), Fail> {
     let mut calls = Handlers::new(rt.alloc(), 0)?;
-    leave(&rt, rt.alloc(), &mut calls)?;
-    arrive(&rt, rt.alloc(), &mut calls)?;
-    assert_eq!(rt; calls.count(id(1)?), Some(4));
-    Ok(())
+    move_and_count(&rt, rt.alloc(), &mut calls)
 }

@@ -76,11 +76,9 @@ fn fill(rt: &impl Abort, cpu: &mut Hard<LevelCore>, calls: &mut Handlers) -> Res
     Ok(())
 }
 
-#[test]
-fn a_cpu_holds_256_cyclics(rt: HostRuntime) -> Result<(), Fail> {
-    let mut cpu = cpu(rt.alloc(), u64::MAX, u32::MAX)?;
-    let mut calls = Handlers::new(rt.alloc(), 0)?;
-    fill(&rt, &mut cpu, &mut calls)?;
+/// Adds 256 cyclics, and tries one more.
+fn overfill(rt: &impl Abort, cpu: &mut Hard<LevelCore>, calls: &mut Handlers) -> Result<(), Fail> {
+    fill(rt, cpu, calls)?;
     let steps = [
         (Step::Len, Answer::Len(256)),
         (Step::Add(257, Level::Low, 1, 10, 0), FULL),
@@ -88,5 +86,12 @@ fn a_cpu_holds_256_cyclics(rt: HostRuntime) -> Result<(), Fail> {
         (Step::Room(0), Answer::Done),
         (Step::Fire(1), Answer::Fired(256, 0, 11)),
     ];
-    play(&rt, &mut cpu, &mut calls, &steps)
+    play(rt, cpu, calls, &steps)
+}
+
+#[test]
+fn a_cpu_holds_256_cyclics(rt: HostRuntime) -> Result<(), Fail> {
+    let mut cpu = cpu(rt.alloc(), u64::MAX, u32::MAX)?;
+    let mut calls = Handlers::new(rt.alloc(), 0)?;
+    overfill(&rt, &mut cpu, &mut calls)
 }

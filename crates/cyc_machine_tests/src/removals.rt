@@ -1,6 +1,6 @@
 //! Runs of scripts that remove cyclics.
 
-use crate::tests::written;
+use crate::tests::gives_texts;
 use cyc_machine::read_script;
 use cyc_types::Refusal;
 
@@ -90,10 +90,7 @@ static RUNS: [(&str, &str, &str); 16] = [
 
 #[test]
 fn each_removal_gives_its_text(rt: HostRuntime) {
-    for &(name, script, text) in &RUNS {
-        let written = written(&rt, script);
-        assert_eq!(rt; written.as_slice(), text.as_bytes(), "{name}");
-    }
+    gives_texts(&rt, &RUNS);
 }
 
 #[test]

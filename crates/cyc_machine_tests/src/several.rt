@@ -1,6 +1,6 @@
 //! Runs of scripts over several CPUs.
 
-use crate::tests::written;
+use crate::tests::gives_texts;
 
 /// Scripts, each with its text.
 static RUNS: [(&str, &str, &str); 28] = [
@@ -148,8 +148,5 @@ static RUNS: [(&str, &str, &str); 28] = [
 
 #[test]
 fn each_script_over_several_cpus_gives_its_text(rt: HostRuntime) {
-    for &(name, script, text) in &RUNS {
-        let written = written(&rt, script);
-        assert_eq!(rt; written.as_slice(), text.as_bytes(), "{name}");
-    }
+    gives_texts(&rt, &RUNS);
 }

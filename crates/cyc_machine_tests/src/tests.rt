@@ -122,17 +122,22 @@ fn text_of(alloc: Global, script: &Script) -> Option<Vec<u8>> {
 }
 
 /// What the replay of a script of this text writes.
-pub fn written<R: AllocGlobal + Abort>(rt: &R, script: &str) -> Vec<u8> {
+fn written<R: AllocGlobal + Abort>(rt: &R, script: &str) -> Vec<u8> {
     let script = script_of(rt, script);
     text_of(rt.alloc(), &script).expect(rt, "a text")
 }
 
-#[test]
-fn each_script_gives_its_text(rt: HostRuntime) {
-    for &(name, script, text) in &RUNS {
-        let written = written(&rt, script);
+/// Ends the test where one of the scripts, each with its name and its text, writes another text.
+pub(crate) fn gives_texts<R: AllocGlobal + Abort>(rt: &R, runs: &[(&str, &str, &str)]) {
+    for &(name, script, text) in runs {
+        let written = written(rt, script);
         assert_eq!(rt; written.as_slice(), text.as_bytes(), "{name}");
     }
+}
+
+#[test]
+fn each_script_gives_its_text(rt: HostRuntime) {
+    gives_texts(&rt, &RUNS);
 }
 
 /// Adds the cyclic of this number and drains both old banks.

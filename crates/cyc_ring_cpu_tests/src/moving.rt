@@ -104,6 +104,20 @@ fn back<R: Raise>(
     Ok(())
 }
 
+/// A cyclic that moves from one CPU to the other, and back.
+fn both_ways<R: Raise>(
+    rt: &impl Abort,
+    plain: &mut Hard<LevelCore>,
+    shared: &mut Hard<R>,
+    drain: &mut DrainEnd,
+    tally: &mut Tally,
+) -> Result<(), Fail>
+    requires { shared.old.most ≡ plain.old.most }
+{
+    there(rt, plain, shared, tally)?;
+    back(rt, plain, shared, drain, tally)
+}
+
 /// A cyclic that moves from a CPU over plain levels to this one, and back. The ceiling is 2.
 pub(crate) fn there_and_back<R: Raise>(
     rt: &impl Abort,
@@ -115,8 +129,5 @@ pub(crate) fn there_and_back<R: Raise>(
     requires { shared.old.most ≡ 2 ^ 64 - 1 }
 {
     let mut plain = plain(alloc, 2)?;
-    match there(rt, &mut plain, shared, tally) {
-        Ok(()) => back(rt, &mut plain, shared, drain, tally),
-        Err(fail) => Err(fail),
-    }
+    both_ways(rt, &mut plain, shared, drain, tally)
 }

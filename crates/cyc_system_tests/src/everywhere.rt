@@ -1,18 +1,11 @@
 //! Omnipresent cyclics over two CPUs.
-use crate::help::{level, two};
-use crate::steps::{Answer, Step, play};
+use crate::steps::{Answer, Step, on_two_cpus};
 use cyc_system::CpuOrOmni;
 use cyc_types::{Level, Refusal, Soft};
 use std::test::Fail;
-use test_handlers::Handlers;
 
 #[test]
 fn each_component_starts_a_skew_later(rt: HostRuntime) -> Result<(), Fail> {
-    let alloc = rt.alloc();
-    let first = (level(alloc)?, level(alloc)?);
-    let second = (level(alloc)?, level(alloc)?);
-    let mut system = two(alloc, first, second)?;
-    let mut calls = Handlers::new(alloc, 0)?;
     let steps = [
         (Step::Omni(Level::High, 10, 10, 3, 0), Answer::Id(1)),
         (Step::Place(1), Answer::Place(CpuOrOmni::Omni)),
@@ -38,16 +31,11 @@ fn each_component_starts_a_skew_later(rt: HostRuntime) -> Result<(), Fail> {
         (Step::Totals(1), Answer::Nothing),
         (Step::Place(1), Answer::Nothing),
     ];
-    play(&rt, &mut system, &mut calls, &steps)
+    on_two_cpus(&rt, rt.alloc(), &steps)
 }
 
 #[test]
 fn a_removal_ends_when_the_last_cpu_has_answered(rt: HostRuntime) -> Result<(), Fail> {
-    let alloc = rt.alloc();
-    let first = (level(alloc)?, level(alloc)?);
-    let second = (level(alloc)?, level(alloc)?);
-    let mut system = two(alloc, first, second)?;
-    let mut calls = Handlers::new(alloc, 0)?;
     let steps = [
         (Step::Omni(Level::Low, 10, 10, 0, 0), Answer::Id(1)),
         (Step::Fire(0, 20), Answer::Fired(2, 0, 30)),
@@ -66,16 +54,11 @@ fn a_removal_ends_when_the_last_cpu_has_answered(rt: HostRuntime) -> Result<(), 
         (Step::Poll(1), Answer::Refused(Refusal::NoCyclic)),
         (Step::Remove(1), Answer::Refused(Refusal::NoCyclic)),
     ];
-    play(&rt, &mut system, &mut calls, &steps)
+    on_two_cpus(&rt, rt.alloc(), &steps)
 }
 
 #[test]
 fn a_cpu_that_comes_back_keeps_its_counts(rt: HostRuntime) -> Result<(), Fail> {
-    let alloc = rt.alloc();
-    let first = (level(alloc)?, level(alloc)?);
-    let second = (level(alloc)?, level(alloc)?);
-    let mut system = two(alloc, first, second)?;
-    let mut calls = Handlers::new(alloc, 0)?;
     let steps = [
         (Step::Omni(Level::High, 10, 10, 3, 0), Answer::Id(1)),
         (Step::Fire(0, 23), Answer::Fired(2, 0, 30)),
@@ -94,16 +77,11 @@ fn a_cpu_that_comes_back_keeps_its_counts(rt: HostRuntime) -> Result<(), Fail> {
         (Step::Totals(1), Answer::Totals(8, 0, 0)),
         (Step::Remove(1), Answer::Receipt(8, 0)),
     ];
-    play(&rt, &mut system, &mut calls, &steps)
+    on_two_cpus(&rt, rt.alloc(), &steps)
 }
 
 #[test]
 fn a_component_with_calls_outstanding_keeps_its_cpu_online(rt: HostRuntime) -> Result<(), Fail> {
-    let alloc = rt.alloc();
-    let first = (level(alloc)?, level(alloc)?);
-    let second = (level(alloc)?, level(alloc)?);
-    let mut system = two(alloc, first, second)?;
-    let mut calls = Handlers::new(alloc, 0)?;
     let steps = [
         (Step::Omni(Level::Low, 10, 10, 0, 0), Answer::Id(1)),
         (Step::Fire(0, 10), Answer::Fired(1, 0, 20)),
@@ -114,16 +92,11 @@ fn a_component_with_calls_outstanding_keeps_its_cpu_online(rt: HostRuntime) -> R
         (Step::Totals(1), Answer::Totals(2, 0, 1)),
         (Step::Place(1), Answer::Place(CpuOrOmni::Omni)),
     ];
-    play(&rt, &mut system, &mut calls, &steps)
+    on_two_cpus(&rt, rt.alloc(), &steps)
 }
 
 #[test]
 fn a_cpu_comes_back_when_its_levels_have_followed(rt: HostRuntime) -> Result<(), Fail> {
-    let alloc = rt.alloc();
-    let first = (level(alloc)?, level(alloc)?);
-    let second = (level(alloc)?, level(alloc)?);
-    let mut system = two(alloc, first, second)?;
-    let mut calls = Handlers::new(alloc, 0)?;
     let steps = [
         (Step::Omni(Level::High, 10, 10, 0, 0), Answer::Id(1)),
         (Step::Omni(Level::High, 10, 10, 0, 0), Answer::Id(2)),
@@ -142,5 +115,5 @@ fn a_cpu_comes_back_when_its_levels_have_followed(rt: HostRuntime) -> Result<(),
         (Step::Totals(2), Answer::Totals(2, 0, 0)),
         (Step::Totals(3), Answer::Totals(2, 0, 0)),
     ];
-    play(&rt, &mut system, &mut calls, &steps)
+    on_two_cpus(&rt, rt.alloc(), &steps)
 }

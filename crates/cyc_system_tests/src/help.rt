@@ -20,7 +20,7 @@ pub(crate) fn id(number: u64) -> Result<CyclicId, Fail> {
 }
 
 /// A new level of a free ceiling.
-pub(crate) fn level(alloc: Global) -> Result<LevelCore, Fail>
+fn level(alloc: Global) -> Result<LevelCore, Fail>
     ensures { IfOk result (λ core. IsFresh (firing_view (level_of core))) }
 {
     let Some(ceiling) = Ceiling::new(u32::MAX) else {
@@ -32,21 +32,8 @@ pub(crate) fn level(alloc: Global) -> Result<LevelCore, Fail>
     }
 }
 
-/// A system of one CPU over two new ends, whose first id is this one.
-pub(crate) fn one<R: Raise + Drop>(
-    alloc: Global,
-    lock: R,
-    low: R,
-    first: u64,
-) -> Result<System<R>, Fail>
-    requires lock { IsFresh (R.view lock) }
-    requires low { IsFresh (R.view low) }
-{
-    bounded(alloc, lock, low, first, u64::MAX)
-}
-
-/// The same, whose cyclics expire at most so often.
-pub(crate) fn bounded<R: Raise + Drop>(
+/// A system of one CPU over two new ends, whose first id is this one and whose cyclics expire at most so often.
+fn bounded<R: Raise + Drop>(
     alloc: Global,
     lock: R,
     low: R,
@@ -65,6 +52,13 @@ pub(crate) fn bounded<R: Raise + Drop>(
         Ok(system) => Ok(system),
         Err(_) => Err(Fail::from("memory")),
     }
+}
+
+/// A system of one CPU over new levels, whose first id is this one and whose cyclics expire at most so often.
+pub(crate) fn of_one_cpu(alloc: Global, first: u64, most: u64) -> Result<System<LevelCore>, Fail> {
+    let lock = level(alloc)?;
+    let low = level(alloc)?;
+    bounded(alloc, lock, low, first, most)
 }
 
 /// A system of two CPUs over four new ends.
@@ -90,4 +84,11 @@ pub(crate) fn two<R: Raise + Drop>(
         Ok(system) => Ok(system),
         Err(_) => Err(Fail::from("memory")),
     }
+}
+
+/// A system of two CPUs over new levels.
+pub(crate) fn of_two_cpus(alloc: Global) -> Result<System<LevelCore>, Fail> {
+    let first = (level(alloc)?, level(alloc)?);
+    let second = (level(alloc)?, level(alloc)?);
+    two(alloc, first, second)
 }

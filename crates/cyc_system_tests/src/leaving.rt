@@ -1,18 +1,12 @@
 //! Cyclics that leave a CPU: moved, or removed.
-use crate::help::{id, level, one, two};
-use crate::steps::{Answer, Step, play};
+use crate::help::id;
+use crate::steps::{Answer, Step, on_one_cpu, on_two_cpus};
 use cyc_system::CpuOrOmni;
 use cyc_types::{JuggleReport, Level, Refusal, Soft};
 use std::test::Fail;
-use test_handlers::Handlers;
 
 #[test]
 fn a_cyclic_with_calls_outstanding_stays(rt: HostRuntime) -> Result<(), Fail> {
-    let alloc = rt.alloc();
-    let first = (level(alloc)?, level(alloc)?);
-    let second = (level(alloc)?, level(alloc)?);
-    let mut system = two(alloc, first, second)?;
-    let mut calls = Handlers::new(alloc, 0)?;
     let steps = [
         (Step::Add(Level::Low, 10, 10, 0), Answer::Id(1)),
         (Step::Fire(0, 10), Answer::Fired(1, 0, 20)),
@@ -25,14 +19,11 @@ fn a_cyclic_with_calls_outstanding_stays(rt: HostRuntime) -> Result<(), Fail> {
         (Step::Totals(1), Answer::Totals(2, 0, 0)),
         (Step::Juggle(2), Answer::Refused(Refusal::NoCpu)),
     ];
-    play(&rt, &mut system, &mut calls, &steps)
+    on_two_cpus(&rt, rt.alloc(), &steps)
 }
 
 #[test]
 fn a_removal_answers_when_its_calls_are_made(rt: HostRuntime) -> Result<(), Fail> {
-    let alloc = rt.alloc();
-    let mut system = one(alloc, level(alloc)?, level(alloc)?, 1)?;
-    let mut calls = Handlers::new(alloc, 0)?;
     let removed = id(1)?;
     let steps = [
         (Step::Add(Level::Low, 1, 1, 0), Answer::Id(1)),
@@ -50,7 +41,7 @@ fn a_removal_answers_when_its_calls_are_made(rt: HostRuntime) -> Result<(), Fail
         (Step::Fire(0, 20), Answer::Fired(2, 0, 30)),
         (Step::Remove(2), Answer::Receipt(2, 0)),
     ];
-    play(&rt, &mut system, &mut calls, &steps)
+    on_one_cpu(&rt, rt.alloc(), &steps)
 }
 
 /// An offline that leaves cyclics behind.
@@ -65,11 +56,6 @@ fn left(moved: u32, bound: u32, pending: u32, refused: u32) -> Answer {
 
 #[test]
 fn a_cpu_goes_offline_when_nothing_is_left(rt: HostRuntime) -> Result<(), Fail> {
-    let alloc = rt.alloc();
-    let first = (level(alloc)?, level(alloc)?);
-    let second = (level(alloc)?, level(alloc)?);
-    let mut system = two(alloc, first, second)?;
-    let mut calls = Handlers::new(alloc, 0)?;
     let steps = [
         (Step::Add(Level::High, 10, 10, 0), Answer::Id(1)),
         (Step::Add(Level::High, 10, 10, 0), Answer::Id(2)),
@@ -86,5 +72,5 @@ fn a_cpu_goes_offline_when_nothing_is_left(rt: HostRuntime) -> Result<(), Fail> 
         (Step::Offline(1), Answer::Refused(Refusal::LastCpu)),
         (Step::Offline(0), Answer::Refused(Refusal::Offline)),
     ];
-    play(&rt, &mut system, &mut calls, &steps)
+    on_two_cpus(&rt, rt.alloc(), &steps)
 }

@@ -71,6 +71,51 @@ fn interrupts(drain: &mut DrainEnd, tally: &mut Tally) -> Result<(u32, bool), Fa
     }
 }
 
+/// A cyclic of CPU 0 with a call outstanding stays there, and moves to CPU 1 once the call is made.
+fn goes<R: Raise>(
+    rt: &impl Abort,
+    system: &mut System<R>,
+    first: &mut DrainEnd,
+    tally: &mut Tally,
+    a: CyclicId,
+) -> Result<(), Fail> {
+    assert_eq!(rt; fire(system, tally, 0, 10)?, 1);
+    assert_eq!(rt; bind(system, a, 1), Err(Refusal::Pending));
+    assert_eq!(rt; interrupts(first, tally)?, (1, true));
+    assert_eq!(rt; bind(system, a, 1), Ok(()));
+    assert_eq!(rt; system.place_of(a), Some(CpuOrOmni::Cpu(1)));
+    Ok(())
+}
+
+/// It expires on CPU 1 alone, and its call is made there.
+fn arrives<R: Raise>(
+    rt: &impl Abort,
+    system: &mut System<R>,
+    first: &mut DrainEnd,
+    second: &mut DrainEnd,
+    tally: &mut Tally,
+) -> Result<(), Fail> {
+    assert_eq!(rt; fire(system, tally, 0, 20)?, 0);
+    assert_eq!(rt; fire(system, tally, 1, 20)?, 1);
+    assert_eq!(rt; interrupts(first, tally)?, (0, true));
+    assert_eq!(rt; interrupts(second, tally)?, (1, true));
+    Ok(())
+}
+
+fn moves_with<R: Raise>(
+    rt: &impl Abort,
+    system: &mut System<R>,
+    first: &mut DrainEnd,
+    second: &mut DrainEnd,
+    tally: &mut Tally,
+) -> Result<(), Fail> {
+    let a = add(system)?;
+    goes(rt, system, first, tally, a)?;
+    arrives(rt, system, first, second, tally)?;
+    assert_eq!(rt; tally.count(a), Some(2));
+    leaves(rt, system, a)
+}
+
 fn moves<R: Raise>(
     rt: &impl Abort,
     alloc: Global,
@@ -79,22 +124,11 @@ fn moves<R: Raise>(
     second: &mut DrainEnd,
 ) -> Result<(), Fail> {
     let mut tally = Tally::new(alloc, id(1)?, 1, u64::MAX)?;
-    let a = add(system)?;
-    assert_eq!(rt; fire(system, &mut tally, 0, 10)?, 1);
-    assert_eq!(rt; bind(system, a, 1), Err(Refusal::Pending));
-    assert_eq!(rt; interrupts(first, &mut tally)?, (1, true));
-    assert_eq!(rt; bind(system, a, 1), Ok(()));
-    assert_eq!(rt; system.place_of(a), Some(CpuOrOmni::Cpu(1)));
-    assert_eq!(rt; fire(system, &mut tally, 0, 20)?, 0);
-    assert_eq!(rt; fire(system, &mut tally, 1, 20)?, 1);
-    assert_eq!(rt; interrupts(first, &mut tally)?, (0, true));
-    assert_eq!(rt; interrupts(second, &mut tally)?, (1, true));
-    assert_eq!(rt; tally.count(a), Some(2));
-    leaves(rt, system, a)
+    moves_with(rt, system, first, second, &mut tally)
 }
 
-/// The other calls of a system, of which one moves the cyclic back and one removes it.
-fn leaves<R: Raise>(rt: &impl Abort, system: &mut System<R>, a: CyclicId) -> Result<(), Fail> {
+/// It moves back, and its CPU goes offline and comes back.
+fn goes_back<R: Raise>(rt: &impl Abort, system: &mut System<R>, a: CyclicId) -> Result<(), Fail> {
     let now = Moment::new(20)?;
     let when = When::new(0, 10)?;
     let moved = JuggleReport {
@@ -110,6 +144,12 @@ fn leaves<R: Raise>(rt: &impl Abort, system: &mut System<R>, a: CyclicId) -> Res
     let everywhere = system.add_omni(Level::High, when, Moment::new(0)?, now);
     assert_eq!(rt; everywhere, Ok(id(2)?));
     assert_eq!(rt; system.online(1, now), Ok(()));
+    Ok(())
+}
+
+/// The other calls of a system, of which one moves the cyclic back and one removes it.
+fn leaves<R: Raise>(rt: &impl Abort, system: &mut System<R>, a: CyclicId) -> Result<(), Fail> {
+    goes_back(rt, system, a)?;
     let totals = SystemTotals {
         expired: 2,
         lost: 0,
@@ -124,25 +164,79 @@ fn leaves<R: Raise>(rt: &impl Abort, system: &mut System<R>, a: CyclicId) -> Res
     Ok(())
 }
 
-#[test]
-fn a_cyclic_moves_from_rings_to_rings(rt: HostRuntime) -> Result<(), Fail> {
-    let alloc = rt.alloc();
-    let (lock, lock_seat, _) = open(alloc)?;
-    let (low, low_seat, low_drainer) = open(alloc)?;
-    let (other_lock, other_lock_seat, _) = open(alloc)?;
-    let (other_low, other_low_seat, other_drainer) = open(alloc)?;
+/// A ring with its two seats.
+type Opened = (Ring, RaiseSeat, DrainSeat);
+
+/// The new rings of a CPU: that of the lock level, and that of the low one.
+fn rings_of_a_cpu(alloc: Global) -> Result<(Opened, Opened), Fail>
+    ensures lock { IfOk result (λ r. IsRaiseSeatOf r.0.0 r.0.1 × (raise_trail r.0.1 ≡ [])) }
+    ensures low { IfOk result
+        (λ r. IsRaiseSeatOf r.1.0 r.1.1 × IsDrainSeatOf r.1.0 r.1.2 × (raise_trail r.1.1 ≡ [])) }
+{
+    let lock = open(alloc)?;
+    let low = open(alloc)?;
+    Ok((lock, low))
+}
+
+/// Parts a system into its sides, and puts it together again.
+fn part_and_unite<R: Raise + Drop>(rt: &impl Abort, system: System<R>) {
+    let (desk, hards) = system.split();
+    away_law::<Tally, R>();
+    let system = desk.unite(hards);
+    assert_eq!(rt; (system.len(0), system.len(1)), (Some(1), Some(1)));
+}
+
+/// Moves a cyclic between two CPUs over these new firing ends, whose soft interrupts are of these draining ends.
+fn moves_over<R: Raise + Drop>(
+    rt: &impl Abort,
+    alloc: Global,
+    ends: ((R, R), (R, R)),
+    first: &mut DrainEnd,
+    second: &mut DrainEnd,
+) -> Result<(), Fail>
+    requires first_lock { IsFresh (R.view ends.0.0) }
+    requires first_low { IsFresh (R.view ends.0.1) }
+    requires second_lock { IsFresh (R.view ends.1.0) }
+    requires second_low { IsFresh (R.view ends.1.1) }
+{
+    let mut system = two(alloc, ends.0, ends.1)?;
+    moves(rt, alloc, &mut system, first, second)?;
+    part_and_unite(rt, system);
+    Ok(())
+}
+
+/// Moves a cyclic between two CPUs, each over two of these rings.
+fn moves_on(
+    rt: &impl Abort,
+    alloc: Global,
+    lock: Opened,
+    low: Opened,
+    other_lock: Opened,
+    other_low: Opened,
+) -> Result<(), Fail>
+    requires lock { IsRaiseSeatOf lock.0 lock.1 × (raise_trail lock.1 ≡ []) }
+    requires low { IsRaiseSeatOf low.0 low.1 × IsDrainSeatOf low.0 low.2 × (raise_trail low.1 ≡ []) }
+    requires other_lock { IsRaiseSeatOf other_lock.0 other_lock.1 × (raise_trail other_lock.1 ≡ []) }
+    requires other_low { IsRaiseSeatOf other_low.0 other_low.1 × IsDrainSeatOf other_low.0 other_low.2
+        × (raise_trail other_low.1 ≡ []) }
+{
+    let (lock, lock_seat, _lock_drainer) = lock;
+    let (low, low_seat, low_drainer) = low;
+    let (other_lock, other_lock_seat, _other_lock_drainer) = other_lock;
+    let (other_low, other_low_seat, other_low_drainer) = other_low;
     let mut first = DrainEnd::new(&low, low_drainer);
-    let mut second = DrainEnd::new(&other_low, other_drainer);
+    let mut second = DrainEnd::new(&other_low, other_low_drainer);
     let one = (raise_end(&lock, lock_seat), raise_end(&low, low_seat));
     let other = (
         raise_end(&other_lock, other_lock_seat),
         raise_end(&other_low, other_low_seat),
     );
-    let mut system = two(alloc, one, other)?;
-    moves(&rt, alloc, &mut system, &mut first, &mut second)?;
-    let (desk, hards) = system.split();
-    away_law::<Tally, RaiseEnd>();
-    let system = desk.unite(hards);
-    assert_eq!(&rt; (system.len(0), system.len(1)), (Some(1), Some(1)));
-    Ok(())
+    moves_over(rt, alloc, (one, other), &mut first, &mut second)
+}
+
+#[test]
+fn a_cyclic_moves_from_rings_to_rings(rt: HostRuntime) -> Result<(), Fail> {
+    let (lock, low) = rings_of_a_cpu(rt.alloc())?;
+    let (other_lock, other_low) = rings_of_a_cpu(rt.alloc())?;
+    moves_on(&rt, rt.alloc(), lock, low, other_lock, other_low)
 }

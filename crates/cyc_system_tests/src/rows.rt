@@ -1,17 +1,12 @@
 //! Worked rows of several CPUs.
 
-use crate::help::{level, one, two};
-use crate::steps::{Answer, Step, play};
+use crate::steps::{Answer, Step, on_one_cpu, on_two_cpus, within};
 use cyc_system::CpuOrOmni;
 use cyc_types::{Level, Refusal, Soft};
 use std::test::Fail;
-use test_handlers::Handlers;
 
 #[test]
 fn equal_expirations_of_one_cpu_go_by_the_smaller_id(rt: HostRuntime) -> Result<(), Fail> {
-    let alloc = rt.alloc();
-    let mut system = one(alloc, level(alloc)?, level(alloc)?, 1)?;
-    let mut calls = Handlers::new(alloc, 0)?;
     let steps = [
         (Step::Add(Level::High, 10, 10, 0), Answer::Id(1)),
         (Step::Add(Level::High, 10, 10, 0), Answer::Id(2)),
@@ -25,14 +20,11 @@ fn equal_expirations_of_one_cpu_go_by_the_smaller_id(rt: HostRuntime) -> Result<
         (Step::Len(0), Answer::Len(2)),
         (Step::Len(1), Answer::Nothing),
     ];
-    play(&rt, &mut system, &mut calls, &steps)
+    on_one_cpu(&rt, rt.alloc(), &steps)
 }
 
 #[test]
 fn the_last_id_is_given_once(rt: HostRuntime) -> Result<(), Fail> {
-    let alloc = rt.alloc();
-    let mut system = one(alloc, level(alloc)?, level(alloc)?, 72057594037927935)?;
-    let mut calls = Handlers::new(alloc, 0)?;
     let steps = [
         (
             Step::Add(Level::High, 0, 10, i64::MAX),
@@ -47,16 +39,11 @@ fn the_last_id_is_given_once(rt: HostRuntime) -> Result<(), Fail> {
             Answer::Refused(Refusal::IdsSpent),
         ),
     ];
-    play(&rt, &mut system, &mut calls, &steps)
+    within(&rt, rt.alloc(), 72057594037927935, u64::MAX, &steps)
 }
 
 #[test]
 fn a_cyclic_with_calls_outstanding_is_not_bound_elsewhere(rt: HostRuntime) -> Result<(), Fail> {
-    let alloc = rt.alloc();
-    let first = (level(alloc)?, level(alloc)?);
-    let second = (level(alloc)?, level(alloc)?);
-    let mut system = two(alloc, first, second)?;
-    let mut calls = Handlers::new(alloc, 0)?;
     let steps = [
         (Step::Add(Level::Low, 10, 10, 0), Answer::Id(1)),
         (Step::Place(1), Answer::Place(CpuOrOmni::Cpu(0))),
@@ -86,16 +73,11 @@ fn a_cyclic_with_calls_outstanding_is_not_bound_elsewhere(rt: HostRuntime) -> Re
             Answer::Refused(Refusal::NoCpu),
         ),
     ];
-    play(&rt, &mut system, &mut calls, &steps)
+    on_two_cpus(&rt, rt.alloc(), &steps)
 }
 
 #[test]
 fn a_cpu_that_is_offline_takes_no_cyclic(rt: HostRuntime) -> Result<(), Fail> {
-    let alloc = rt.alloc();
-    let first = (level(alloc)?, level(alloc)?);
-    let second = (level(alloc)?, level(alloc)?);
-    let mut system = two(alloc, first, second)?;
-    let mut calls = Handlers::new(alloc, 0)?;
     let steps = [
         (Step::Add(Level::Low, 10, 10, 0), Answer::Id(1)),
         (Step::Fire(0, 10), Answer::Fired(1, 0, 20)),
@@ -122,5 +104,5 @@ fn a_cpu_that_is_offline_takes_no_cyclic(rt: HostRuntime) -> Result<(), Fail> {
         (Step::Totals(1), Answer::Totals(1, 0, 0)),
         (Step::Totals(2), Answer::Totals(0, 0, 0)),
     ];
-    play(&rt, &mut system, &mut calls, &steps)
+    on_two_cpus(&rt, rt.alloc(), &steps)
 }

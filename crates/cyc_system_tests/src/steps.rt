@@ -1,10 +1,11 @@
 //! Calls of a system as values, so that a worked row is a table.
 
-use crate::help::id;
+use crate::help::{id, of_one_cpu, of_two_cpus};
 use cyc_core::LevelCore;
 use cyc_soft::{Ran, SoftRefused};
 use cyc_system::{CpuOrOmni, FireRefused, Fired, SoftFault, System, SystemRemoval, SystemTotals};
 use cyc_types::{CyclicId, JuggleReport, Level, Moment, Receipt, Refusal, Soft, When};
+use std::alloc::Global;
 use std::process::Abort;
 use std::test::Fail;
 use test_handlers::Handlers;
@@ -245,4 +246,37 @@ pub(crate) fn play(
         assert_eq!(rt; made, answer);
     }
     Ok(())
+}
+
+/// Makes the calls on a new system of one CPU, whose first id is this one and whose cyclics expire at most so often.
+pub(crate) fn within(
+    rt: &impl Abort,
+    alloc: Global,
+    first: u64,
+    most: u64,
+    steps: &[(Step, Answer)],
+) -> Result<(), Fail> {
+    let mut system = of_one_cpu(alloc, first, most)?;
+    let mut calls = Handlers::new(alloc, 0)?;
+    play(rt, &mut system, &mut calls, steps)
+}
+
+/// Makes the calls on a new system of one CPU.
+pub(crate) fn on_one_cpu(
+    rt: &impl Abort,
+    alloc: Global,
+    steps: &[(Step, Answer)],
+) -> Result<(), Fail> {
+    within(rt, alloc, 1, u64::MAX, steps)
+}
+
+/// Makes the calls on a new system of two CPUs.
+pub(crate) fn on_two_cpus(
+    rt: &impl Abort,
+    alloc: Global,
+    steps: &[(Step, Answer)],
+) -> Result<(), Fail> {
+    let mut system = of_two_cpus(alloc)?;
+    let mut calls = Handlers::new(alloc, 0)?;
+    play(rt, &mut system, &mut calls, steps)
 }

@@ -54,16 +54,33 @@ fn meets(flag: &AtomicBool) -> bool {
     false
 }
 
-fn handler(
+/// Adds a handler of this side.
+fn push_handler(
     alloc: Global,
+    calls: &mut Vec<Meeting>,
     mine: &Arc<AtomicBool, Global>,
     other: &Arc<AtomicBool, Global>,
-) -> Result<Meeting, Fail> {
-    Ok(Meeting {
-        tally: Tally::new(alloc, id(1)?, 2, 10)?,
-        mine: Arc::try_clone(mine)?,
-        other: Arc::try_clone(other)?,
-    })
+) -> Result<(), Fail> {
+    let tally = Tally::new(alloc, id(1)?, 2, 10)?;
+    let mine = Arc::try_clone(mine)?;
+    let other = Arc::try_clone(other)?;
+    calls.push(Meeting { tally, mine, other })?;
+    Ok(())
+}
+
+/// Handlers of two sides, each of which waits for the other.
+fn handlers(alloc: Global, sides: &[bool]) -> Result<Vec<Meeting>, Fail> {
+    let first = Arc::new(alloc, AtomicBool::new(false))?;
+    let second = Arc::new(alloc, AtomicBool::new(false))?;
+    let mut calls = Vec::new(alloc);
+    for &side in sides {
+        if side {
+            push_handler(alloc, &mut calls, &first, &second)?;
+        } else {
+            push_handler(alloc, &mut calls, &second, &first)?;
+        }
+    }
+    Ok(calls)
 }
 
 /// A run whose handlers are of two sides, each of which waits for the other.
@@ -73,18 +90,7 @@ fn meet<W: Threads + Wait + Sync + Abort>(
     script: &str,
     sides: &[bool],
 ) -> Result<(), Fail> {
-    let first = Arc::new(alloc, AtomicBool::new(false))?;
-    let second = Arc::new(alloc, AtomicBool::new(false))?;
-    let mut calls = Vec::new(alloc);
-    for &side in sides {
-        let call = if side {
-            handler(alloc, &first, &second)?
-        } else {
-            handler(alloc, &second, &first)?
-        };
-        calls.push(call)?;
-    }
-    let Outcome { ended, written } = ran(rt, alloc, script, calls)?;
+    let Outcome { ended, written } = ran(rt, alloc, script, handlers(alloc, sides)?)?;
     assert!(rt; ended.is_ok(), "both handlers meet");
     assert_eq!(rt; written.as_slice(), TEXT.as_bytes());
     Ok(())

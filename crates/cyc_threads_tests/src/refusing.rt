@@ -33,6 +33,17 @@ impl Calls for Once {
     }
 }
 
+/// Handlers that may refuse their first call.
+fn handlers(alloc: Global, refuses: &[bool]) -> Result<Vec<Once>, Fail> {
+    let id = id(1)?;
+    let mut calls = Vec::new(alloc);
+    for &refuses in refuses {
+        let tally = Tally::new(alloc, id, 2, 10)?;
+        calls.push(Once { tally, refuses })?;
+    }
+    Ok(calls)
+}
+
 /// A run on one CPU, whose handlers of one kind refuse their first call, is refused by the handler of id 1 and writes nothing.
 fn refused<W: Threads + Wait + Sync + Abort>(
     rt: &W,
@@ -40,16 +51,12 @@ fn refused<W: Threads + Wait + Sync + Abort>(
     script: &str,
     refuses: &[bool],
 ) -> Result<(), Fail> {
-    let mut calls = Vec::new(alloc);
-    for &refuses in refuses {
-        let tally = Tally::new(alloc, id(1)?, 2, 10)?;
-        calls.push(Once { tally, refuses })?;
-    }
-    let Outcome { ended, written } = ran(rt, alloc, script, calls)?;
+    let wanted = RunFault::Refused(Refusal::HandlerRefused(id(1)?));
+    let Outcome { ended, written } = ran(rt, alloc, script, handlers(alloc, refuses)?)?;
     let Err(fault) = ended else {
         return Err(Fail::from("a refusal"));
     };
-    assert_eq!(rt; fault, RunFault::Refused(Refusal::HandlerRefused(id(1)?)));
+    assert_eq!(rt; fault, wanted);
     assert!(rt; written.is_empty(), "nothing is written");
     Ok(())
 }

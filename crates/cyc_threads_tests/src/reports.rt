@@ -31,21 +31,26 @@ fn counted<W: Threads + Wait + Sync>(
     }
 }
 
-// The bytes are the same on each run, and each level's handlers had the calls of their level.
+/// What a run of `FOUR` left: its bytes, and that each level's handlers had the calls of their level.
+fn is_of_four(rt: &impl Abort, ended: &Ended<Tally>, written: &[u8]) -> Result<(), Fail> {
+    let wanted = [[20u64, 0, 0], [0, 10, 0], [0, 0, 28], [0, 0, 77]];
+    assert_eq!(rt; written, FOUR_TEXT.as_bytes());
+    assert_eq!(rt; ended.calls.len(), 12);
+    assert_eq!(rt; ended.rings.len(), 8);
+    for number in 0..4 {
+        for kind in 0..3 {
+            let calls = called(ended.calls.as_slice(), kind, number as u64 + 1)?;
+            assert_eq!(rt; calls, wanted[number][kind]);
+        }
+    }
+    Ok(())
+}
+
 #[test]
 fn a_hundred_runs_write_the_same(rt: HostRuntime) -> Result<(), Fail> {
-    let wanted = [[20u64, 0, 0], [0, 10, 0], [0, 0, 28], [0, 0, 77]];
     for _ in 0..100 {
         let (ended, written) = counted(&rt, rt.alloc(), 4, FOUR)?;
-        assert_eq!(&rt; written.as_slice(), FOUR_TEXT.as_bytes());
-        assert_eq!(&rt; ended.calls.len(), 12);
-        assert_eq!(&rt; ended.rings.len(), 8);
-        for number in 0..4 {
-            for kind in 0..3 {
-                let calls = called(ended.calls.as_slice(), kind, number as u64 + 1)?;
-                assert_eq!(&rt; calls, wanted[number][kind]);
-            }
-        }
+        is_of_four(&rt, &ended, written.as_slice())?;
     }
     Ok(())
 }
@@ -73,20 +78,33 @@ fn settled(sent: u64, lost: u64) -> Result<Book, Fail> {
     })
 }
 
+/// What a run of one low cyclic on one CPU left: its bytes, the calls of the low level, and no book but this one of the low ring.
+fn is_left(
+    rt: &impl Abort,
+    ended: &Ended<Tally>,
+    written: &[u8],
+    text: &str,
+    calls: u64,
+    low: Option<Book>,
+) -> Result<(), Fail> {
+    assert_eq!(rt; written, text.as_bytes());
+    assert_eq!(rt; called(ended.calls.as_slice(), 2, 1)?, calls);
+    assert_eq!(rt; ended.rings.len(), 2);
+    assert_eq!(rt; book(ended.rings.as_slice(), 0)?, None);
+    assert_eq!(rt; book(ended.rings.as_slice(), 1)?, low);
+    Ok(())
+}
+
+/// What a run of a hundred expirations writes.
+const HUNDRED: &str = "a expired 100 called 100 lost 0 pending 0\n";
+
 // The low ring made all calls of a low cyclic, and the lock ring none.
 #[test]
 fn the_low_ring_has_the_calls(rt: HostRuntime) -> Result<(), Fail> {
     let script = "{\"cpus\":1,\"steps\":[[\"add\",\"a\",\"low\",1,1],[\"advance\",100]]}";
+    let low = settled(100, 0)?;
     let (ended, written) = counted(&rt, rt.alloc(), 1, script)?;
-    assert_eq!(&rt;
-        written.as_slice(),
-        "a expired 100 called 100 lost 0 pending 0\n".as_bytes()
-    );
-    assert_eq!(&rt; called(ended.calls.as_slice(), 2, 1)?, 100);
-    assert_eq!(&rt; ended.rings.len(), 2);
-    assert_eq!(&rt; book(ended.rings.as_slice(), 0)?, None);
-    assert_eq!(&rt; book(ended.rings.as_slice(), 1)?, Some(settled(100, 0)?));
-    Ok(())
+    is_left(&rt, &ended, written.as_slice(), HUNDRED, 100, Some(low))
 }
 
 // A removal ends the stay on its ring, and nothing expires after it.
@@ -95,14 +113,7 @@ fn a_removed_cyclic_has_no_book(rt: HostRuntime) -> Result<(), Fail> {
     let script =
         "{\"cpus\":1,\"steps\":[[\"add\",\"a\",\"low\",1,1],[\"advance\",100],[\"remove\",\"a\"],[\"advance\",200]]}";
     let (ended, written) = counted(&rt, rt.alloc(), 1, script)?;
-    assert_eq!(&rt;
-        written.as_slice(),
-        "a expired 100 called 100 lost 0 pending 0\n".as_bytes()
-    );
-    assert_eq!(&rt; called(ended.calls.as_slice(), 2, 1)?, 100);
-    assert_eq!(&rt; book(ended.rings.as_slice(), 0)?, None);
-    assert_eq!(&rt; book(ended.rings.as_slice(), 1)?, None);
-    Ok(())
+    is_left(&rt, &ended, written.as_slice(), HUNDRED, 100, None)
 }
 
 /// What a run of five expirations with so many losses writes.
@@ -116,6 +127,16 @@ fn five(lost: usize) -> Option<&'static str> {
     texts.get(lost).copied()
 }
 
+/// What a run of five expirations left, of which at most three are lost.
+fn is_of_five(rt: &impl Abort, ended: &Ended<Tally>, written: &[u8]) -> Result<(), Fail> {
+    let calls = called(ended.calls.as_slice(), 2, 1)?;
+    let lost = 5u64.saturating_sub(calls);
+    let Some(text) = five(lost as usize) else {
+        return Err(Fail::from("at most three are lost"));
+    };
+    is_left(rt, ended, written, text, calls, Some(settled(5, lost)?))
+}
+
 // Each expiration is called or lost at the ceiling: of five at most three are lost where two calls may be pending.
 #[test]
 fn at_most_three_are_lost_at_the_ceiling(rt: HostRuntime) -> Result<(), Fail> {
@@ -123,12 +144,7 @@ fn at_most_three_are_lost_at_the_ceiling(rt: HostRuntime) -> Result<(), Fail> {
         "{\"cpus\":1,\"ceiling\":2,\"steps\":[[\"add\",\"a\",\"low\",1,1],[\"advance\",5]]}";
     for _ in 0..20 {
         let (ended, written) = counted(&rt, rt.alloc(), 1, script)?;
-        let lost = 5u64.saturating_sub(called(ended.calls.as_slice(), 2, 1)?);
-        let Some(text) = five(lost as usize) else {
-            return Err(Fail::from("at most three are lost"));
-        };
-        assert_eq!(&rt; written.as_slice(), text.as_bytes());
-        assert_eq!(&rt; book(ended.rings.as_slice(), 1)?, Some(settled(5, lost)?));
+        is_of_five(&rt, &ended, written.as_slice())?;
     }
     Ok(())
 }

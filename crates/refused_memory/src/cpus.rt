@@ -82,14 +82,23 @@ fn pictured(cpu: &mut Hard<LevelCore>, first: CyclicId, second: CyclicId) -> Pic
     }
 }
 
-/// A CPU with the id 1, which expired once, and whose lock level has followed, as its low level does with the call kept.
-fn with_one(alloc: Global, id: CyclicId) -> Result<Hard<LevelCore>, Refusal> {
+fn empty(alloc: Global) -> Result<Hard<LevelCore>, Refusal> {
     let lock = level(alloc)?;
     let low = level(alloc)?;
-    let mut cpu = Hard::new(alloc, u64::MAX, lock, low)?;
+    Hard::new(alloc, u64::MAX, lock, low)
+}
+
+fn put_and_fire(cpu: &mut Hard<LevelCore>, tally: &mut Tally, id: CyclicId) -> Result<(), Refusal> {
+    put(cpu, id)?;
+    let _ = cpu.fire(Moment::new(10)?, tally);
+    Ok(())
+}
+
+/// A CPU with the id 1, which expired once, and whose lock level has followed, as its low level does with the call kept.
+fn with_one(alloc: Global, id: CyclicId) -> Result<Hard<LevelCore>, Refusal> {
     let mut tally = Tally::new(alloc, id, 2, u64::MAX)?;
-    put(&mut cpu, id)?;
-    let _ = cpu.fire(Moment::new(10)?, &mut tally);
+    let mut cpu = empty(alloc)?;
+    put_and_fire(&mut cpu, &mut tally, id)?;
     Ok(cpu)
 }
 

@@ -117,11 +117,15 @@ fn juggle_on(system: &mut System<LevelCore>, tally: &mut Tally, ids: &Three) -> 
     }
 }
 
+fn put_and_juggle(system: &mut System<LevelCore>, tally: &mut Tally) -> Result<Seen, Refusal> {
+    let ids = put_three(system)?;
+    Ok(juggle_on(system, tally, &ids))
+}
+
 fn juggled(alloc: Global) -> Result<Seen, Refusal> {
     let mut tally = tally(alloc)?;
     let mut system = two(alloc)?;
-    let ids = put_three(&mut system)?;
-    Ok(juggle_on(&mut system, &mut tally, &ids))
+    put_and_juggle(&mut system, &mut tally)
 }
 
 /// `System::juggle` of two cyclics, of which only one finds room.
@@ -249,15 +253,23 @@ fn leave_on(system: &mut System<LevelCore>, tally: &mut Tally, ids: &Cyclics, ho
     }
 }
 
+fn put_and_leave(
+    system: &mut System<LevelCore>,
+    tally: &mut Tally,
+    how: Move,
+) -> Result<Seen, Refusal> {
+    let ids = put_cyclics(system, tally)?;
+    let Some(_) = fire_all(system, tally, 20) else {
+        return Ok(Seen::Wrong);
+    };
+    settle(system, tally);
+    Ok(leave_on(system, tally, &ids, how))
+}
+
 fn left(alloc: Global, how: Move) -> Result<Seen, Refusal> {
     let mut tally = tally(alloc)?;
     let mut system = three(alloc)?;
-    let ids = put_cyclics(&mut system, &mut tally)?;
-    let Some(_) = fire_all(&mut system, &mut tally, 20) else {
-        return Ok(Seen::Wrong);
-    };
-    settle(&mut system, &mut tally);
-    Ok(leave_on(&mut system, &mut tally, &ids, how))
+    put_and_leave(&mut system, &mut tally, how)
 }
 
 /// `System::juggle` or `System::offline` of a CPU, two of whose cyclics have to go to CPUs that grow for them.

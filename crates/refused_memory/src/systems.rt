@@ -31,10 +31,19 @@ fn over(
     System::new(alloc, ends, u64::MAX, id)
 }
 
+/// The two new levels of a CPU.
+fn levels(alloc: Global) -> Result<(LevelCore, LevelCore), Refusal>
+    ensures { IfOk result (λ e. IsFresh (firing_view (level_of e.0)) × IsFresh (firing_view (level_of e.1))) }
+{
+    let lock = level(alloc)?;
+    let low = level(alloc)?;
+    Ok((lock, low))
+}
+
 /// A system of two CPUs.
 pub(crate) fn two(alloc: Global) -> Result<System<LevelCore>, Refusal> {
-    let first = (level(alloc)?, level(alloc)?);
-    let second = (level(alloc)?, level(alloc)?);
+    let first = levels(alloc)?;
+    let second = levels(alloc)?;
     over(alloc, first, second)
 }
 
@@ -61,7 +70,7 @@ pub(crate) fn three(alloc: Global) -> Result<System<LevelCore>, Refusal> {
     };
     let mut ends = Vec::new(alloc);
     for _ in 0..3u32 {
-        ends = push_ends(ends, (level(alloc)?, level(alloc)?))?;
+        ends = push_ends(ends, levels(alloc)?)?;
     }
     System::new(alloc, ends, u64::MAX, id)
 }

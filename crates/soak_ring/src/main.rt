@@ -77,10 +77,8 @@ fn wanted<R: Env + Alloc>(rt: &R) -> Result<u64> {
     Ok(word.parse::<u64>()?)
 }
 
-fn main(rt: HostRuntime) -> Result<()> {
-    let rounds = wanted(&rt)?;
-    let mut sums = Sums::new();
-    let adds_up = soak(&rt, rt.alloc(), rounds, &mut sums)?;
+/// Says the counts of each id, and those of all, on standard error.
+fn tell_counts<R: Eprint>(rt: &R, sums: &Sums) -> Result<()> {
     for at in 0..IDS {
         let Counts {
             sent,
@@ -100,8 +98,22 @@ fn main(rt: HostRuntime) -> Result<()> {
         lost,
     } = sums.in_all();
     eprintln!(rt; "in all: {sent} = {done} done + {pending} pending + {lost} lost")?;
+    Ok(())
+}
+
+/// Says what the removals and the switches of banks came to, on standard error.
+fn tell_steps<R: Eprint>(rt: &R, sums: &Sums) -> Result<()> {
     let (removals, switches) = (sums.removals, sums.switches);
     eprintln!(rt; "removals answered: {removals}, switches of banks: {switches}")?;
+    Ok(())
+}
+
+fn main(rt: HostRuntime) -> Result<()> {
+    let rounds = wanted(&rt)?;
+    let mut sums = Sums::new();
+    let adds_up = soak(&rt, rt.alloc(), rounds, &mut sums)?;
+    tell_counts(&rt, &sums)?;
+    tell_steps(&rt, &sums)?;
     if !adds_up {
         bail!("a round does not add up");
     }
