@@ -8,7 +8,7 @@ use cyc_types::{CyclicId, Level, Moment, Sent, When};
 pub const CPUS: usize = 16;
 
 /// Where a cyclic is (`cyc_id_t` of sys/cyclic_impl.h).
-#[derive(Clone, Copy, Debug, PartialEq, Eq)]
+#[derive(Clone, Copy)]
 pub enum Placement {
     /// On the CPU of this number; one that is bound stays there when the CPU's cyclics are moved.
     On { cpu: u32, bound: bool },
@@ -31,7 +31,7 @@ impl Placement {
 }
 
 /// What a system keeps of a cyclic beside what its CPUs have of it.
-#[derive(Clone, Copy, Debug)]
+#[derive(Clone, Copy)]
 pub struct Record {
     /// Its id, which never changes.
     pub id: CyclicId,

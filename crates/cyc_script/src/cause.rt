@@ -8,7 +8,7 @@ use cyc_types::Refusal;
 use std::alloc::{AllocError, AllocFailed};
 
 /// Why a step is refused, without its number.
-#[derive(Clone, Copy, Debug, PartialEq, Eq)]
+#[derive(Clone, Copy)]
 pub(crate) enum Cause {
     Memory,
     Shape,

@@ -16,7 +16,7 @@ use std::alloc::Global;
 use std::marker::Model;
 
 /// What a CPU keeps of a cyclic beside its expiration (`cyclic_t` of sys/cyclic_impl.h).
-#[derive(Clone, Copy, Debug, PartialEq, Eq)]
+#[derive(Clone, Copy)]
 pub struct Record {
     /// At which level its handler is called (`cy_level`).
     pub level: Level,
@@ -31,7 +31,7 @@ pub struct Record {
 }
 
 /// Under which index a cyclic stands in the heap and the records.
-#[derive(Clone, Copy, Debug, PartialEq, Eq)]
+#[derive(Clone, Copy)]
 pub struct Entry {
     /// The cyclic's own id, which never changes.
     pub id: CyclicId,
