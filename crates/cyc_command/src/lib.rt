@@ -1,8 +1,6 @@
-//! The words that the program `cyclic` is called with, and its faults with their exit status.
+//! The words that the program `cyclic` is called with.
 #![tactic(auto)]
 
-mod fault;
 mod words;
 
-pub use fault::{Fault, status_of};
 pub use words::{Command, command_of};

@@ -2,8 +2,9 @@
 
 ghost use Rattle.std.specs.Prelude.{◌≡◌, length, OnOk};
 
-use crate::fault::Fault;
+use clap::error::ErrorKind;
 use clap::{Arg, ArgAction};
+use cyc_text::Fault;
 use std::alloc::Global;
 
 /// What the program is asked to do.
@@ -13,6 +14,15 @@ pub enum Command {
     Replay,
     /// Run a script in threads.
     Run,
+}
+
+/// The fault of words that the parser refuses.
+fn refused(e: clap::Error) -> Fault {
+    if e.kind() == ErrorKind::OutOfMemory {
+        Fault::Memory
+    } else {
+        Fault::Words
+    }
 }
 
 /// The parser of the program's one word, which has no options.
@@ -38,7 +48,7 @@ pub fn command_of(alloc: Global, words: &[&str]) -> Result<Command, Fault>
     if words.len() != 1 {
         return Err(Fault::Words);
     }
-    let matches = parser(alloc)?.try_get_matches_from(words)?;
+    let matches = parser(alloc)?.try_get_matches_from(words).map_err(refused)?;
     match matches.get_str("command") {
         Some("replay") => Ok(Command::Replay),
         Some("run") => Ok(Command::Run),

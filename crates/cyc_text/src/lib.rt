@@ -1,4 +1,5 @@
-//! The lines that a replay of a script writes, what takes their bytes, and why a run of a script stops.
+//! The lines that a replay of a script writes, what takes their bytes, and the faults of a run and of the program, with their exit
+//! status.
 #![tactic(auto)]
 
 mod bounded;
@@ -8,7 +9,7 @@ mod sink;
 mod writer;
 
 pub use bounded::BoundedWriter;
-pub use fault::RunFault;
+pub use fault::{Fault, RunFault, status_of};
 pub use lines::{
     Counts, write_accepted, write_fired, write_kept, write_left, write_moved, write_ran,
     write_refused, write_removed, write_report,

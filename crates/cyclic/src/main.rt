@@ -5,11 +5,11 @@
 ghost use Rattle.std.specs.Prelude.{◌≡◌, ◌≢◌, ◌*◌, length, IfOk};
 ghost use Rattle.std.specs.IoError.{error_kind};
 
-use cyc_command::{Command, Fault, command_of, status_of};
+use cyc_command::{Command, command_of};
 use cyc_input::{BoundedReader, read_input};
 use cyc_replay::{RunFault, replay};
 use cyc_script::{Script, read_script};
-use cyc_text::{BoundedWriter, Out};
+use cyc_text::{BoundedWriter, Fault, Out, status_of};
 use cyc_threads::run;
 use cyc_types::{CyclicId, Refusal, Tally};
 use std::alloc::Global;

@@ -2,11 +2,10 @@
 //! script from standard input, replays it on one thread, and writes its text to standard output. It reads no words.
 #![tactic(auto)]
 
-use cyc_command::{Fault, status_of};
 use cyc_input::{BoundedReader, read_input};
 use cyc_replay::{RunFault, replay};
 use cyc_script::{Script, read_script};
-use cyc_text::{BoundedWriter, Out};
+use cyc_text::{BoundedWriter, Fault, Out, status_of};
 use cyc_types::Refusal;
 use std::alloc::Global;
 use std::io;
