@@ -10,8 +10,8 @@ use Rattle.cyc_types.specs.Reasons.{first_refusal, bad_now}
 use Rattle.cyc_places.specs.declared.record.Placement.TheVariants.{Everywhere}
 use Rattle.cyc_places.specs.declared.record.Record.{Record}
 use Rattle.cyc_places.specs.Places.{new_record, no_counts}
-use Rattle.cyc_cpus.specs.Cpus.{CpusView, IsCpu, online_cpus, numbers_from, Works}
-use Rattle.cyc_cpus.specs.Reserving.{ReservesEach}
+use Rattle.cyc_agreement.specs.Cpus.{CpusView, IsCpu, online_cpus, numbers_from, Works}
+use Rattle.cyc_agreement.specs.Reserving.{ReservesEach}
 use Rattle.cyc_agreement.specs.System.{SystemView}
 use Rattle.cyc_agreement.specs.Agreement.{Agrees}
 use Rattle.cyc_agreement.specs.Refusals.{Unless, ids_spent}
@@ -24,8 +24,8 @@ use Rattle.cyc_agreement.proofs.Holding.{holds_same, holds_given}
 use Rattle.cyc_agreement.proofs.Removals.{AreSteady, removals_kept, leaving_here}
 use Rattle.cyc_agreement.proofs.Entering.{not_given}
 use Rattle.cyc_agreement.proofs.Who.{but_same, but_then}
-use Rattle.cyc_cpus.specs.Cpu.{CpuView}
-use Rattle.cyc_cpus.specs.Laws.{IsLawful}
+use Rattle.cyc_cpu.specs.Cpu.{CpuView}
+use Rattle.cyc_cpu.specs.Laws.{IsLawful}
 use Rattle.cyc_agreement.proofs.Quiet.{quiet_reserves}
 use Rattle.cyc_agreement.proofs.Arriving.{arrives, agrees_omni}
 

@@ -7,14 +7,14 @@ use Rattle.std.specs.Option.{option_map_or}
 use Rattle.std.proofs.lemmas.List.Sums.{sum_by-cons}
 use Rattle.cyc_types.specs.declared.Raise.{Ghosts as Raise}
 use Rattle.cyc_types.specs.declared.firing.Sent.{Sent}
-use Rattle.cyc_cpus.specs.Totals.{Totals}
-use Rattle.cyc_cpus.specs.Cpu.{CpuView}
-use Rattle.cyc_cpus.specs.Laws.{IsLawful}
-use Rattle.cyc_cpus.specs.Calls.{Changes, AskTotals}
+use Rattle.cyc_cpu.specs.declared.hard.Totals.{Totals}
+use Rattle.cyc_cpu.specs.Cpu.{CpuView}
+use Rattle.cyc_cpu.specs.Laws.{IsLawful}
+use Rattle.cyc_cpu.specs.Calls.{Changes, AskTotals}
 use Rattle.cyc_places.specs.declared.record.Record.{Record}
 use Rattle.cyc_places.specs.Places.{summed}
-use Rattle.cyc_cpus.specs.Cpus.{CpusView, IsCpu, numbers_from, Works}
-use Rattle.cyc_cpus.proofs.Spots.{get_set_other}
+use Rattle.cyc_agreement.specs.Cpus.{CpusView, IsCpu, numbers_from, Works}
+use Rattle.cyc_agreement.proofs.CpuSpots.{get_set_other}
 use Rattle.cyc_agreement.specs.System.{SystemView, ids_of}
 use Rattle.cyc_agreement.proofs.Spots.{same_some}
 use Rattle.cyc_agreement.specs.Counting.{Counted, asked, AddsUp, AsksTotals}

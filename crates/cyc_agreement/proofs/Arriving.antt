@@ -7,7 +7,7 @@ use Rattle.cyc_types.specs.declared.level.Level.{Level}
 use Rattle.cyc_types.specs.declared.moment.When.{When}
 use Rattle.cyc_places.specs.declared.record.Placement.TheVariants.{On, Everywhere}
 use Rattle.cyc_places.specs.Places.{new_record}
-use Rattle.cyc_cpus.specs.Cpus.{CpusView, online_cpus, Works, DoesAt}
+use Rattle.cyc_agreement.specs.Cpus.{CpusView, online_cpus, Works, DoesAt}
 use Rattle.cyc_agreement.specs.System.{SystemView, ids_on, has, is_online}
 use Rattle.cyc_agreement.specs.Agreement.{Agrees}
 use Rattle.cyc_agreement.specs.Adding.{entering}

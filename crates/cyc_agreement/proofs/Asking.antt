@@ -7,11 +7,11 @@ use Rattle.std.proofs.lemmas.List.{append-nil, map-append, length-map, drop_all}
 use Rattle.std.proofs.lemmas.List.Sums.{sum_by_push}
 use Rattle.cyc_types.specs.declared.Raise.{Ghosts as Raise}
 use Rattle.cyc_types.proofs.Runs.{folds_more}
-use Rattle.cyc_cpus.specs.Totals.{Totals}
-use Rattle.cyc_cpus.specs.Cpu.{CpuView}
-use Rattle.cyc_cpus.specs.Calls.{Changes, AskTotals}
-use Rattle.cyc_cpus.specs.Cpus.{CpusView, IsCpu, with_cpu, numbers_from, DoesAt, Works}
-use Rattle.cyc_cpus.proofs.Spots.{get_set_other, changed}
+use Rattle.cyc_cpu.specs.declared.hard.Totals.{Totals}
+use Rattle.cyc_cpu.specs.Cpu.{CpuView}
+use Rattle.cyc_cpu.specs.Calls.{Changes, AskTotals}
+use Rattle.cyc_agreement.specs.Cpus.{CpusView, IsCpu, with_cpu, numbers_from, DoesAt, Works}
+use Rattle.cyc_agreement.proofs.CpuSpots.{get_set_other, changed}
 use Rattle.cyc_agreement.specs.System.{ids_of}
 use Rattle.cyc_agreement.proofs.Lists.{among}
 use Rattle.cyc_agreement.proofs.Presence.{has_here}

@@ -8,13 +8,13 @@ use native.Mathlib.Decide.{ℕ_discrete}
 use Rattle.cyc_types.specs.declared.Raise.{Ghosts as Raise}
 use Rattle.cyc_types.specs.declared.level.Level.TheVariants.{Low, Lock}
 use Rattle.cyc_types.proofs.Runs.{folds_more}
-use Rattle.cyc_cpus.specs.Rows.{Cyclic}
-use Rattle.cyc_cpus.specs.Cpu.{CpuView, IsCyclic, Asks, seen_at}
-use Rattle.cyc_cpus.specs.Calls.{Changes, AskPending}
-use Rattle.cyc_cpus.proofs.Inquiring.{asked_lowers}
+use Rattle.cyc_cpu.specs.Rows.{Cyclic}
+use Rattle.cyc_cpu.specs.Cpu.{CpuView, IsCyclic, Asks, seen_at}
+use Rattle.cyc_cpu.specs.Calls.{Changes, AskPending}
+use Rattle.cyc_cpu.proofs.Inquiring.{asked_lowers}
 use Rattle.cyc_places.specs.Places.{RecordsView}
-use Rattle.cyc_cpus.specs.Cpus.{CpusView, IsCpu, OfCpu, with_cpu, CallOn, on, DoesAt, Works}
-use Rattle.cyc_cpus.proofs.Spots.{of_cpu, cpu_there, changed}
+use Rattle.cyc_agreement.specs.Cpus.{CpusView, IsCpu, OfCpu, with_cpu, CallOn, on, DoesAt, Works}
+use Rattle.cyc_agreement.proofs.CpuSpots.{of_cpu, cpu_there, changed}
 use Rattle.cyc_agreement.specs.System.{ids_on}
 use Rattle.cyc_agreement.proofs.Spots.{same_some}
 use Rattle.cyc_agreement.specs.Agreement.{Agrees}

@@ -6,7 +6,7 @@ use Rattle.std.specs.Option.{option_map_or}
 use Rattle.std.specs.Prelude.{◌==◌}
 use Rattle.std.proofs.lemmas.Option.{slice_get-map}
 use Rattle.std.proofs.lemmas.List.{length-map, length-replicate}
-use Rattle.cyc_cpus.specs.Cpus.{new_cpus, new_cpu}
+use Rattle.cyc_agreement.specs.Cpus.{new_cpus, new_cpu}
 use Rattle.cyc_agreement.specs.System.{ids_of, has}
 use Rattle.cyc_agreement.specs.Agreement.{Agrees, most_on}
 use Rattle.cyc_agreement.proofs.Spots.{none_some, same_some}

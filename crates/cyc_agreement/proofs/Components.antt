@@ -8,10 +8,10 @@ use Rattle.std.proofs.lemmas.List.Edits.{length-insert, get_or-insert_below, get
 use mathlib.Core.Logic.{dite}
 use native.Mathlib.Decide.{ℕ_discrete}
 use Rattle.cyc_types.specs.declared.Raise.{Ghosts as Raise}
-use Rattle.cyc_cpus.specs.Rows.{Cyclic}
-use Rattle.cyc_cpus.specs.Cpu.{CpuView, HasRisingIds, Places}
-use Rattle.cyc_cpus.specs.Cpus.{CpusView, ChangesAt}
-use Rattle.cyc_cpus.proofs.Spots.{get_set_other, cpu_there}
+use Rattle.cyc_cpu.specs.Rows.{Cyclic}
+use Rattle.cyc_cpu.specs.Cpu.{CpuView, HasRisingIds, Places}
+use Rattle.cyc_agreement.specs.Cpus.{CpusView, ChangesAt}
+use Rattle.cyc_agreement.proofs.CpuSpots.{get_set_other, cpu_there}
 use Rattle.cyc_agreement.proofs.Lists.{among, true_eq, false_ne, false_true}
 use Rattle.cyc_agreement.specs.OmniLaws.{Here, HasOne}
 

@@ -4,8 +4,8 @@ use Rattle.std.proofs.Common.{filter, refl, sym, ap, ◌∙◌, subst, arith}
 use Rattle.std.specs.Prelude.{nat_lt}
 use Rattle.std.specs.List.{slice_get}
 use Rattle.std.specs.Option.{option_map_or}
-use Rattle.cyc_cpus.specs.Cpus.{CpusView, numbers_from, online_cpus}
-use Rattle.cyc_cpus.specs.Destination.{len_of, fewer, fewest, is_not, destination}
+use Rattle.cyc_agreement.specs.Cpus.{CpusView, numbers_from, online_cpus}
+use Rattle.cyc_agreement.specs.Destination.{len_of, fewer, fewest, is_not, destination}
 use Rattle.cyc_agreement.specs.System.{is_online}
 use Rattle.cyc_agreement.proofs.Spots.{same_some, none_some}
 use Rattle.cyc_agreement.proofs.Lists.{true_eq, false_true}

@@ -11,9 +11,9 @@ use Rattle.cyc_types.specs.declared.Raise.{Ghosts as Raise}
 use Rattle.cyc_places.specs.declared.record.Placement.TheVariants.{On}
 use Rattle.cyc_places.specs.declared.record.Record.{Record}
 use Rattle.cyc_places.specs.Places.{RecordsView, IsRecord, HasRisingIds, ended_on}
-use Rattle.cyc_cpus.specs.Cpus.{CpusView}
-use Rattle.cyc_cpus.specs.Destination.{destination}
-use Rattle.cyc_cpus.proofs.Spots.{get_set_same, get_set_other}
+use Rattle.cyc_agreement.specs.Cpus.{CpusView}
+use Rattle.cyc_agreement.specs.Destination.{destination}
+use Rattle.cyc_agreement.proofs.CpuSpots.{get_set_same, get_set_other}
 use Rattle.cyc_agreement.specs.System.{SystemView, ids_of, ids_on, has, removal_on, is_online, is_everywhere}
 use Rattle.cyc_agreement.specs.Agreement.{Agrees, Stands}
 use Rattle.cyc_agreement.proofs.Lists.{among, any_place, eq_true, false_true}

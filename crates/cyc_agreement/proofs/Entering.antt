@@ -6,12 +6,12 @@ use mathlib.Core.Logic.{dite}
 use native.Mathlib.Decide.{ℕ_discrete}
 use Rattle.cyc_types.specs.declared.Raise.{Ghosts as Raise}
 use Rattle.cyc_types.specs.declared.level.Level.{Level}
-use Rattle.cyc_cpus.specs.Cpu.{CpuView, HasNoCyclic, cyclic_with}
+use Rattle.cyc_cpu.specs.Cpu.{CpuView, HasNoCyclic, cyclic_with}
 use Rattle.cyc_places.specs.declared.record.Placement.TheVariants.{On}
 use Rattle.cyc_places.specs.declared.record.Record.{Record}
 use Rattle.cyc_places.specs.Places.{new_record}
-use Rattle.cyc_cpus.specs.Cpus.{CpusView, IsCpu, ChangesAt, Works}
-use Rattle.cyc_cpus.proofs.Spots.{cpu_there}
+use Rattle.cyc_agreement.specs.Cpus.{CpusView, IsCpu, ChangesAt, Works}
+use Rattle.cyc_agreement.proofs.CpuSpots.{cpu_there}
 use Rattle.cyc_agreement.specs.System.{SystemView, ids_on, has, is_online}
 use Rattle.cyc_agreement.specs.Agreement.{Agrees}
 use Rattle.cyc_agreement.specs.Adding.{entering}

@@ -7,10 +7,10 @@ use Rattle.cyc_types.specs.declared.Raise.{Ghosts as Raise}
 use Rattle.cyc_types.specs.declared.level.Level.{Level}
 use Rattle.cyc_types.specs.declared.moment.When.{When}
 use Rattle.cyc_types.proofs.Runs.{folds_on}
-use Rattle.cyc_cpus.specs.Cpu.{CpuView, HasNoCyclic, MayWiden}
-use Rattle.cyc_cpus.specs.Cpus.{CpusView, IsCpu, OfCpu, IsOnline, online_cpus, numbers_from, DoesAt, Works, ChangesAt}
-use Rattle.cyc_cpus.proofs.Choices.{numbers_at}
-use Rattle.cyc_cpus.proofs.Spots.{cpu_beside}
+use Rattle.cyc_cpu.specs.Cpu.{CpuView, HasNoCyclic, MayWiden}
+use Rattle.cyc_agreement.specs.Cpus.{CpusView, IsCpu, OfCpu, IsOnline, online_cpus, numbers_from, DoesAt, Works, ChangesAt}
+use Rattle.cyc_agreement.proofs.Choices.{numbers_at}
+use Rattle.cyc_agreement.proofs.CpuSpots.{cpu_beside}
 use Rattle.cyc_agreement.specs.Adding.{entering}
 use Rattle.cyc_agreement.specs.Omni.{component_first, entering_each}
 

@@ -3,8 +3,8 @@ use Rattle.std.proofs.Common.{◌≡◌, ◌≢◌, ℕ, zero, suc, ◌+◌, Boo
 use Rattle.std.proofs.Common.{refl, sym, ap, ◌∙◌, subst, arith}
 use Rattle.std.specs.Prelude.{remove}
 use Rattle.std.specs.List.{slice_get, FoldsTo}
-use Rattle.cyc_cpus.specs.Cpu.{CpuView}
-use Rattle.cyc_cpus.specs.Cpus.{IsCpu, numbers_from}
+use Rattle.cyc_cpu.specs.Cpu.{CpuView}
+use Rattle.cyc_agreement.specs.Cpus.{IsCpu, numbers_from}
 use Rattle.cyc_agreement.specs.System.{SystemView}
 use Rattle.cyc_agreement.proofs.Spots.{same_some, none_some}
 

@@ -10,7 +10,7 @@ use Rattle.cyc_places.specs.declared.record.Placement.{Placement}
 use Rattle.cyc_places.specs.declared.record.Placement.TheVariants.{On}
 use Rattle.cyc_places.specs.declared.record.Record.{Record}
 use Rattle.cyc_places.specs.Places.{IsRecord, new_record, ended_on, no_counts}
-use Rattle.cyc_cpus.specs.Cpus.{CpusView}
+use Rattle.cyc_agreement.specs.Cpus.{CpusView}
 use Rattle.cyc_agreement.specs.System.{SystemView, has, removal_on, is_online, is_everywhere}
 use Rattle.cyc_agreement.specs.Agreement.{Agrees, Stands}
 use Rattle.cyc_agreement.proofs.Spots.{get_front, get_last, get_either}

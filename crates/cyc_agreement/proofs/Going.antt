@@ -7,15 +7,15 @@ use Rattle.cyc_types.specs.Firing.{FiringView}
 use Rattle.cyc_types.specs.Limits.{cyclics as most_cyclics}
 use Rattle.cyc_types.specs.declared.refusal.Refusal.{Refusal}
 use Rattle.cyc_types.specs.declared.refusal.Refusal.TheVariants as why
-use Rattle.cyc_cpus.specs.Rows.{Cyclic}
+use Rattle.cyc_cpu.specs.Rows.{Cyclic}
 use Rattle.cyc_types.specs.Reasons.{first_refusal, bad_now}
-use Rattle.cyc_cpus.specs.Cpu.{CpuView, Looked, WhyNotReserved}
-use Rattle.cyc_cpus.specs.Laws.{IsLawful}
-use Rattle.cyc_cpus.specs.Calls.{Changes, Reserve, Widen}
+use Rattle.cyc_cpu.specs.Cpu.{CpuView, Looked, WhyNotReserved}
+use Rattle.cyc_cpu.specs.Laws.{IsLawful}
+use Rattle.cyc_cpu.specs.Calls.{Changes, Reserve, Widen}
 use Rattle.cyc_places.specs.declared.record.Record.{Record}
 use Rattle.cyc_places.specs.Places.{HasRisingIds, no_counts, with_ended}
-use Rattle.cyc_cpus.specs.Cpus.{CpusView, IsCpu, with_cpu, on, DoesAt, Works}
-use Rattle.cyc_cpus.proofs.Spots.{one_cpu, cpu_there, changed}
+use Rattle.cyc_agreement.specs.Cpus.{CpusView, IsCpu, with_cpu, on, DoesAt, Works}
+use Rattle.cyc_agreement.proofs.CpuSpots.{one_cpu, cpu_there, changed}
 use Rattle.cyc_agreement.specs.System.{SystemView, is_online}
 use Rattle.cyc_agreement.specs.Agreement.{Agrees}
 use Rattle.cyc_agreement.specs.Refusals.{Unless, no_cpu}

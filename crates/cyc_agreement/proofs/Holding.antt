@@ -8,8 +8,8 @@ use native.Mathlib.Decide.{ℕ_discrete}
 use Rattle.cyc_places.specs.declared.record.Placement.{Placement}
 use Rattle.cyc_places.specs.declared.record.Record.{Record}
 use Rattle.cyc_places.specs.Places.{IsRecord, ended_on, no_counts, with_place}
-use Rattle.cyc_cpus.specs.Cpus.{CpusView, new_cpus}
-use Rattle.cyc_cpus.proofs.Spots.{get_set_same, get_set_other}
+use Rattle.cyc_agreement.specs.Cpus.{CpusView, new_cpus}
+use Rattle.cyc_agreement.proofs.CpuSpots.{get_set_same, get_set_other}
 use Rattle.cyc_agreement.specs.System.{SystemView, has, removal_on}
 use Rattle.cyc_agreement.specs.Agreement.{Agrees, most_on}
 use Rattle.cyc_agreement.specs.Holding.{LeaveWhole, EndedWithin, Holds}

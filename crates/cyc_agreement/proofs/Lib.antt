@@ -1,3 +1,9 @@
+pub mod Choices
+pub mod CpuSpots
+pub mod Shifts
+pub mod Rounds
+pub mod Rooms
+pub mod GivenEach
 pub mod Spots
 pub mod Lists
 pub mod Who
@@ -53,5 +59,4 @@ pub mod Rejoined
 pub mod Going
 pub mod Visits
 pub mod Regained
-pub use Rattle.cyc_cpus.proofs.Spots as CpuSpots
-pub use Rattle.cyc_cpus.proofs.Rooms
+pub use Rattle.cyc_cpu.proofs.Inquiring

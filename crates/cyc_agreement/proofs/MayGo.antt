@@ -5,16 +5,16 @@ use Rattle.std.specs.Option.{option_and_then}
 use Rattle.cyc_types.specs.declared.Raise.{Ghosts as Raise}
 use Rattle.cyc_types.specs.declared.refusal.Refusal.{Refusal}
 use Rattle.cyc_types.specs.declared.refusal.Refusal.TheVariants as why
-use Rattle.cyc_cpus.specs.Cpu.{CpuView, HasNoCyclic}
-use Rattle.cyc_cpus.specs.Calls.{AskPending, Reserve}
-use Rattle.cyc_cpus.specs.Laws.{IsLawful}
-use Rattle.cyc_cpus.specs.Removal.{HasCyclic}
+use Rattle.cyc_cpu.specs.Cpu.{CpuView, HasNoCyclic}
+use Rattle.cyc_cpu.specs.Calls.{AskPending, Reserve}
+use Rattle.cyc_cpu.specs.Laws.{IsLawful}
+use Rattle.cyc_cpu.specs.Removal.{HasCyclic}
 use Rattle.cyc_places.specs.declared.record.Placement.TheVariants.{On}
 use Rattle.cyc_places.specs.declared.record.Record.{Record}
 use Rattle.cyc_places.specs.Places.{IsRecord, HasRisingIds, with_place}
-use Rattle.cyc_cpus.specs.Cpus.{CpusView, IsCpu, on, Works}
-use Rattle.cyc_cpus.specs.Destination.{destination}
-use Rattle.cyc_cpus.specs.Shifting.{move_of, Shifts}
+use Rattle.cyc_agreement.specs.Cpus.{CpusView, IsCpu, on, Works}
+use Rattle.cyc_agreement.specs.Destination.{destination}
+use Rattle.cyc_agreement.specs.Shifting.{move_of, Shifts}
 use Rattle.cyc_agreement.specs.System.{SystemView, has, is_online, removal_on}
 use Rattle.cyc_agreement.specs.Agreement.{Agrees}
 use Rattle.cyc_agreement.specs.Binding.{GoesTo}

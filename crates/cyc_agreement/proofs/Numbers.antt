@@ -3,7 +3,7 @@ use Rattle.std.proofs.Common.{◌≡◌, ℕ, zero, suc, ◌+◌, ◌<◌, Bool,
 use Rattle.std.specs.Prelude.{◌||◌}
 use Rattle.std.specs.List.{slice_get}
 use Rattle.std.specs.Option.{option_map_or}
-use Rattle.cyc_cpus.specs.Cpus.{CpusView, numbers_from, online_cpus}
+use Rattle.cyc_agreement.specs.Cpus.{CpusView, numbers_from, online_cpus}
 use Rattle.cyc_agreement.specs.System.{is_online}
 use Rattle.cyc_agreement.proofs.Lists.{among, true_eq, false_ne}
 

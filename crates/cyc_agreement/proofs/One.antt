@@ -8,15 +8,15 @@ use Rattle.cyc_types.specs.Firing.{FiringView}
 use Rattle.cyc_types.specs.declared.receipt.Receipt.{Receipt}
 use Rattle.cyc_types.specs.declared.refusal.Refusal.{Refusal}
 use Rattle.cyc_types.specs.declared.refusal.Refusal.TheVariants as why
-use Rattle.cyc_cpus.specs.Rows.{Cyclic}
-use Rattle.cyc_cpus.specs.CpuRemoval.{Removal}
-use Rattle.cyc_cpus.specs.CpuRemoval.TheVariants.{Done, Kept}
-use Rattle.cyc_cpus.specs.Cpu.{CpuView, IsCyclic}
-use Rattle.cyc_cpus.specs.Removal.{HasCyclic}
-use Rattle.cyc_cpus.specs.Laws.{IsLawful}
-use Rattle.cyc_cpus.specs.Calls.{Changes, BeginRemove, PollRemove}
-use Rattle.cyc_cpus.specs.Cpus.{CpusView, IsCpu}
-use Rattle.cyc_cpus.proofs.Shifts.{not_both}
+use Rattle.cyc_cpu.specs.Rows.{Cyclic}
+use Rattle.cyc_cpu.specs.declared.removing.Removal.{Removal}
+use Rattle.cyc_cpu.specs.declared.removing.Removal.TheVariants.{Done, Kept}
+use Rattle.cyc_cpu.specs.Cpu.{CpuView, IsCyclic}
+use Rattle.cyc_cpu.specs.Removal.{HasCyclic}
+use Rattle.cyc_cpu.specs.Laws.{IsLawful}
+use Rattle.cyc_cpu.specs.Calls.{Changes, BeginRemove, PollRemove}
+use Rattle.cyc_agreement.specs.Cpus.{CpusView, IsCpu}
+use Rattle.cyc_agreement.proofs.Shifts.{not_both}
 use Rattle.cyc_agreement.specs.System.{ids_of, has, removal_on, is_leaving_here}
 use Rattle.cyc_agreement.proofs.Spots.{same_some, none_some}
 use Rattle.cyc_agreement.proofs.Lists.{among, eq_true, true_eq, false_true}

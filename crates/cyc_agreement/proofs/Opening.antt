@@ -9,9 +9,9 @@ use native.Mathlib.Decide.{ℕ_discrete}
 use Rattle.cyc_types.specs.declared.refusal.Refusal.{Refusal}
 use Rattle.cyc_types.specs.declared.refusal.Refusal.TheVariants.{Busy}
 use Rattle.cyc_types.specs.Reasons.{first_refusal, or_else, busy}
-use Rattle.cyc_cpus.specs.Cpu.{CpuView, HasNoCyclic}
-use Rattle.cyc_cpus.specs.Removal.{HasCyclic}
-use Rattle.cyc_cpus.specs.Cpus.{CpusView, IsCpu, numbers_from}
+use Rattle.cyc_cpu.specs.Cpu.{CpuView, HasNoCyclic}
+use Rattle.cyc_cpu.specs.Removal.{HasCyclic}
+use Rattle.cyc_agreement.specs.Cpus.{CpusView, IsCpu, numbers_from}
 use Rattle.cyc_agreement.specs.System.{ids_of, has, removal_on}
 use Rattle.cyc_agreement.proofs.Lists.{among}
 use Rattle.cyc_agreement.proofs.Presence.{has_is}

@@ -5,8 +5,8 @@ use Rattle.std.specs.Prelude.{nat_le}
 use Rattle.std.specs.List.{slice_get}
 use Rattle.cyc_types.specs.declared.refusal.Refusal.TheVariants.{LastCpu, Busy}
 use Rattle.cyc_types.specs.Reasons.{first_refusal, busy}
-use Rattle.cyc_cpus.specs.Cpus.{CpusView, numbers_from, online_cpus}
-use Rattle.cyc_cpus.specs.Destination.{is_not, fewer, fewest, destination}
+use Rattle.cyc_agreement.specs.Cpus.{CpusView, numbers_from, online_cpus}
+use Rattle.cyc_agreement.specs.Destination.{is_not, fewer, fewest, destination}
 use Rattle.cyc_agreement.specs.System.{SystemView, is_online, removal_on}
 use Rattle.cyc_agreement.specs.Refusals.{offline_cpu}
 use Rattle.cyc_agreement.proofs.Spots.{same_some, none_some}

@@ -9,17 +9,17 @@ use Rattle.cyc_types.specs.declared.Raise.{Ghosts as Raise}
 use Rattle.cyc_types.specs.Firing.{FiringCall}
 use Rattle.cyc_types.specs.declared.receipt.Receipt.{Receipt}
 use Rattle.cyc_types.specs.declared.refusal.Refusal.{Refusal}
-use Rattle.cyc_cpus.specs.Rows.{Cyclic}
-use Rattle.cyc_cpus.specs.Totals.{Totals}
-use Rattle.cyc_cpus.specs.CpuRemoval.{Removal}
-use Rattle.cyc_cpus.specs.CpuRemoval.TheVariants.{Done, Kept}
-use Rattle.cyc_cpus.specs.Cpu.{CpuView, IsCyclic, with_moment}
-use Rattle.cyc_cpus.specs.Removal.{Leaves}
-use Rattle.cyc_cpus.specs.Calls.{Changes, BeginRemove, PollRemove, AskTotals}
+use Rattle.cyc_cpu.specs.Rows.{Cyclic}
+use Rattle.cyc_cpu.specs.declared.hard.Totals.{Totals}
+use Rattle.cyc_cpu.specs.declared.removing.Removal.{Removal}
+use Rattle.cyc_cpu.specs.declared.removing.Removal.TheVariants.{Done, Kept}
+use Rattle.cyc_cpu.specs.Cpu.{CpuView, IsCyclic, with_moment}
+use Rattle.cyc_cpu.specs.Removal.{Leaves}
+use Rattle.cyc_cpu.specs.Calls.{Changes, BeginRemove, PollRemove, AskTotals}
 use Rattle.cyc_places.specs.declared.record.Record.{Record}
 use Rattle.cyc_places.specs.Places.{IsRecord, with_ended, ended_on, summed}
-use Rattle.cyc_cpus.specs.Cpus.{CpusView, IsCpu, ChangesAt, Works}
-use Rattle.cyc_cpus.proofs.Spots.{get_set_other}
+use Rattle.cyc_agreement.specs.Cpus.{CpusView, IsCpu, ChangesAt, Works}
+use Rattle.cyc_agreement.proofs.CpuSpots.{get_set_other}
 use Rattle.cyc_agreement.specs.System.{SystemView, removal_on, record_of, is_leaving_here}
 use Rattle.cyc_agreement.proofs.Spots.{same_some, none_some}
 use Rattle.cyc_agreement.proofs.Lists.{false_ne}

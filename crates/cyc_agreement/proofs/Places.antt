@@ -5,11 +5,11 @@ use Rattle.std.specs.List.{slice_get}
 use Rattle.std.proofs.lemmas.Option.{slice_get-map, slice_get_within, get_or_from_slice_get}
 use Rattle.std.proofs.lemmas.List.{length-map}
 use Rattle.cyc_types.specs.Firing.{FiringView}
-use Rattle.cyc_cpus.specs.Cpu.{CpuView, IsCyclic}
-use Rattle.cyc_cpus.specs.Laws.{IsLawful}
-use Rattle.cyc_cpus.specs.Removal.{HasCyclic}
-use Rattle.cyc_cpus.specs.Rows.{Cyclic}
-use Rattle.cyc_cpus.specs.Cpus.{CpusView, IsCpu}
+use Rattle.cyc_cpu.specs.Cpu.{CpuView, IsCyclic}
+use Rattle.cyc_cpu.specs.Laws.{IsLawful}
+use Rattle.cyc_cpu.specs.Removal.{HasCyclic}
+use Rattle.cyc_cpu.specs.Rows.{Cyclic}
+use Rattle.cyc_agreement.specs.Cpus.{CpusView, IsCpu}
 use Rattle.cyc_agreement.specs.System.{ids_on, has}
 use Rattle.cyc_agreement.proofs.Lists.{any_at, true_eq}
 use Rattle.cyc_agreement.proofs.Spots.{get_some, same_some}

@@ -9,10 +9,10 @@ use Rattle.std.proofs.lemmas.Option.{slice_get_within, slice_get_past, get_or_fr
 use mathlib.Core.Logic.{dite}
 use native.Mathlib.Decide.{ℕ_discrete}
 use Rattle.cyc_types.specs.declared.refusal.Refusal.TheVariants.{NoCyclic, Omnipresent, NoCpu, Offline}
-use Rattle.cyc_cpus.specs.Rows.{Cyclic}
-use Rattle.cyc_cpus.specs.Cpu.{CpuView, HasNoCyclic}
-use Rattle.cyc_cpus.specs.Removal.{HasCyclic}
-use Rattle.cyc_cpus.specs.Cpus.{CpusView, IsCpu}
+use Rattle.cyc_cpu.specs.Rows.{Cyclic}
+use Rattle.cyc_cpu.specs.Cpu.{CpuView, HasNoCyclic}
+use Rattle.cyc_cpu.specs.Removal.{HasCyclic}
+use Rattle.cyc_agreement.specs.Cpus.{CpusView, IsCpu}
 use Rattle.cyc_places.specs.declared.record.Record.{Record}
 use Rattle.cyc_types.specs.declared.moment.When.{When}
 use Rattle.cyc_places.specs.declared.record.Placement.TheVariants.{On, Everywhere}

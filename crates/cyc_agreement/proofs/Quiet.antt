@@ -2,10 +2,10 @@
 use Rattle.std.proofs.Common.{◌≡◌, sym, ap, ◌∙◌, ℕ, Ok, Err, inl, inr, Result, List, [], ◌∷◌, ◌++◌, subst}
 use Rattle.cyc_types.specs.declared.Raise.{Ghosts as Raise}
 use Rattle.cyc_types.specs.declared.refusal.Refusal.{Refusal}
-use Rattle.cyc_cpus.specs.Cpu.{CpuView}
-use Rattle.cyc_cpus.specs.Calls.{CpuCall, Changes, AskRoom, Reserve, Widen}
-use Rattle.cyc_cpus.specs.Cpus.{CpusView, CallOn, on, Works}
-use Rattle.cyc_cpus.specs.Reserving.{rooms, reserves, ReservesEach}
+use Rattle.cyc_cpu.specs.Cpu.{CpuView}
+use Rattle.cyc_cpu.specs.Calls.{CpuCall, Changes, AskRoom, Reserve, Widen}
+use Rattle.cyc_agreement.specs.Cpus.{CpusView, CallOn, on, Works}
+use Rattle.cyc_agreement.specs.Reserving.{rooms, reserves, ReservesEach}
 use Rattle.cyc_agreement.proofs.Components.{cyclics_on, are_same}
 use Rattle.cyc_agreement.proofs.Who.{SameIds, SameWho, same_none, same_then, same_changed, same_looked, same_reserve}
 use Rattle.cyc_agreement.proofs.Who.{same_widened}

@@ -9,14 +9,14 @@ use native.Mathlib.Decide.{ℕ_discrete}
 use Rattle.cyc_types.specs.declared.Raise.{Ghosts as Raise}
 use Rattle.cyc_types.specs.declared.firing.Sent.{Sent}
 use Rattle.cyc_types.specs.declared.moment.When.{When}
-use Rattle.cyc_cpus.specs.Rows.{Cyclic}
-use Rattle.cyc_cpus.specs.Cpu.{CpuView, HasRisingIds}
+use Rattle.cyc_cpu.specs.Rows.{Cyclic}
+use Rattle.cyc_cpu.specs.Cpu.{CpuView, HasRisingIds}
 use Rattle.cyc_places.specs.declared.record.Placement.{Placement}
 use Rattle.cyc_places.specs.declared.record.Placement.TheVariants.{On, Everywhere}
 use Rattle.cyc_places.specs.declared.record.Record.{Record}
 use Rattle.cyc_places.specs.Places.{IsRecord, HasRisingIds as RecordsRise, ended_on, no_counts}
-use Rattle.cyc_cpus.specs.Cpus.{CpusView, OfCpu, DoesAt, Works}
-use Rattle.cyc_cpus.proofs.Spots.{get_set_other}
+use Rattle.cyc_agreement.specs.Cpus.{CpusView, OfCpu, DoesAt, Works}
+use Rattle.cyc_agreement.proofs.CpuSpots.{get_set_other}
 use Rattle.cyc_agreement.specs.System.{SystemView, is_online, is_everywhere}
 use Rattle.cyc_agreement.specs.Agreement.{Agrees}
 use Rattle.cyc_agreement.proofs.Lists.{among, false_true}

@@ -11,15 +11,15 @@ use native.Mathlib.Decide.{ℕ_discrete}
 use Rattle.cyc_types.specs.Firing.{FiringView}
 use Rattle.cyc_types.specs.Limits.{cyclics as most_cyclics}
 use Rattle.cyc_types.specs.declared.firing.Sent.{Sent}
-use Rattle.cyc_cpus.specs.Cpu.{CpuView}
-use Rattle.cyc_cpus.specs.Laws.{IsLawful}
-use Rattle.cyc_cpus.specs.Rows.{Cyclic}
+use Rattle.cyc_cpu.specs.Cpu.{CpuView}
+use Rattle.cyc_cpu.specs.Laws.{IsLawful}
+use Rattle.cyc_cpu.specs.Rows.{Cyclic}
 use Rattle.cyc_places.specs.declared.record.Placement.{Placement}
 use Rattle.cyc_places.specs.declared.record.Placement.TheVariants.{On, Everywhere}
 use Rattle.cyc_places.specs.declared.record.Record.{Record}
 use Rattle.cyc_places.specs.Places.{IsRecord, HasRisingIds, ended_on, no_counts, with_ended, is_everywhere}
-use Rattle.cyc_cpus.specs.Cpus.{CpusView, IsCpu}
-use Rattle.cyc_cpus.proofs.Spots.{get_set_same, get_set_other}
+use Rattle.cyc_agreement.specs.Cpus.{CpusView, IsCpu}
+use Rattle.cyc_agreement.proofs.CpuSpots.{get_set_same, get_set_other}
 use Rattle.cyc_agreement.specs.System.{SystemView, ids_of, ids_on, has, removal_on, is_online, is_leaving_here}
 use Rattle.cyc_agreement.specs.Agreement.{Agrees, Stands, most_on}
 use Rattle.cyc_agreement.proofs.Lists.{among, any_place, eq_true, true_eq, false_true}

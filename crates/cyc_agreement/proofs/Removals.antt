@@ -3,18 +3,18 @@ use Rattle.std.proofs.Common.{◌≡◌, ◌≢◌, ℕ, inl, inr, true, false, 
 use Rattle.std.specs.Option.{option_and_then}
 use Rattle.cyc_types.specs.declared.Raise.{Ghosts as Raise}
 use Rattle.cyc_types.specs.Firing.{FiringView}
-use Rattle.cyc_cpus.specs.Cpu.{CpuView}
-use Rattle.cyc_cpus.specs.Laws.{IsLawful}
-use Rattle.cyc_cpus.specs.Calls.{CpuCall, Changes, Fire, SoftInterrupt, Add, Place, Reprogram, AskPending, AskTotals, AskRoom}
-use Rattle.cyc_cpus.specs.Calls.{Reserve, Widen, BeginRemove, PollRemove, TakeNow, AskSettled}
-use Rattle.cyc_cpus.specs.Cpus.{CpusView, CallOn, IsCpu, DoesAt, Works}
+use Rattle.cyc_cpu.specs.Cpu.{CpuView}
+use Rattle.cyc_cpu.specs.Laws.{IsLawful}
+use Rattle.cyc_cpu.specs.Calls.{CpuCall, Changes, Fire, SoftInterrupt, Add, Place, Reprogram, AskPending, AskTotals, AskRoom}
+use Rattle.cyc_cpu.specs.Calls.{Reserve, Widen, BeginRemove, PollRemove, TakeNow, AskSettled}
+use Rattle.cyc_agreement.specs.Cpus.{CpusView, CallOn, IsCpu, DoesAt, Works}
 use Rattle.std.specs.List.{slice_get, list_any}
 use Rattle.cyc_agreement.specs.System.{has, removal_on, is_leaving_here}
 use Rattle.cyc_agreement.proofs.Who.{kept_at}
 use Rattle.cyc_agreement.proofs.Presence.{has_here, not_leaving}
-use Rattle.cyc_cpus.specs.Shifting.{move_of}
+use Rattle.cyc_agreement.specs.Shifting.{move_of}
 use Rattle.cyc_agreement.specs.Binding.{GoesTo}
-use Rattle.cyc_cpus.specs.Shifting.{moving}
+use Rattle.cyc_agreement.specs.Shifting.{moving}
 
 -- the call is neither, and is none of those that no system makes
 abbrev pub IsSteady : CpuCall → Type 0

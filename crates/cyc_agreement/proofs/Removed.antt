@@ -8,7 +8,7 @@ use mathlib.Core.Logic.{dite}
 use native.Mathlib.Decide.{ℕ_discrete}
 use Rattle.cyc_places.specs.declared.record.Record.{Record}
 use Rattle.cyc_places.specs.Places.{IsRecord, HasRisingIds}
-use Rattle.cyc_cpus.proofs.Spots.{get_set_same, get_set_other}
+use Rattle.cyc_agreement.proofs.CpuSpots.{get_set_same, get_set_other}
 use Rattle.cyc_agreement.proofs.Spots.{same_some, none_some}
 use Rattle.cyc_agreement.proofs.Recording.{one_record}
 

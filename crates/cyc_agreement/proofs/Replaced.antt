@@ -8,8 +8,8 @@ use native.Mathlib.Decide.{ℕ_discrete}
 use Rattle.cyc_places.specs.declared.record.Placement.TheVariants.{On}
 use Rattle.cyc_places.specs.declared.record.Record.{Record}
 use Rattle.cyc_places.specs.Places.{IsRecord, HasRisingIds, with_place, ended_on, no_counts}
-use Rattle.cyc_cpus.specs.Cpus.{CpusView}
-use Rattle.cyc_cpus.proofs.Spots.{get_set_same, get_set_other}
+use Rattle.cyc_agreement.specs.Cpus.{CpusView}
+use Rattle.cyc_agreement.proofs.CpuSpots.{get_set_same, get_set_other}
 use Rattle.cyc_agreement.specs.System.{SystemView, has, removal_on, is_online, is_everywhere}
 use Rattle.cyc_agreement.specs.Agreement.{Agrees, Stands}
 use Rattle.cyc_agreement.specs.Refusals.{IsPresent}

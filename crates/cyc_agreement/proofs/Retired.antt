@@ -14,18 +14,18 @@ use Rattle.cyc_types.specs.Runs.{Goes}
 use Rattle.cyc_types.specs.declared.firing.Sent.{Sent}
 use Rattle.cyc_types.specs.declared.level.Level.TheVariants.{Low, Lock}
 use Rattle.cyc_types.proofs.Runs.{folds_more}
-use Rattle.cyc_cpus.specs.Rows.{Cyclic}
-use Rattle.cyc_cpus.specs.Acts.{same_level}
-use Rattle.cyc_cpus.specs.Cpu.{CpuView, IsCyclic, seen_at}
-use Rattle.cyc_cpus.specs.Taken.{Taken}
-use Rattle.cyc_cpus.specs.Moving.{TakesNow}
-use Rattle.cyc_cpus.specs.Calls.{TakeNow}
-use Rattle.cyc_cpus.proofs.Inquiring.{load_lowers}
+use Rattle.cyc_cpu.specs.Rows.{Cyclic}
+use Rattle.cyc_cpu.specs.Acts.{same_level}
+use Rattle.cyc_cpu.specs.Cpu.{CpuView, IsCyclic, seen_at}
+use Rattle.cyc_cpu.specs.declared.moving.Taken.{Taken}
+use Rattle.cyc_cpu.specs.Moving.{TakesNow}
+use Rattle.cyc_cpu.specs.Calls.{TakeNow}
+use Rattle.cyc_cpu.proofs.Inquiring.{load_lowers}
 use Rattle.cyc_places.specs.declared.record.Record.{Record}
 use Rattle.cyc_places.specs.Places.{RecordsView, IsRecord, HasRisingIds, ended_on, no_counts, summed, with_ended}
-use Rattle.cyc_cpus.specs.Cpus.{CpusView, IsCpu, OfCpu, with_cpu, on, DoesAt}
-use Rattle.cyc_cpus.specs.Shifting.{MayLeave}
-use Rattle.cyc_cpus.proofs.Spots.{of_cpu, cpu_there, get_set_same, get_set_other}
+use Rattle.cyc_agreement.specs.Cpus.{CpusView, IsCpu, OfCpu, with_cpu, on, DoesAt}
+use Rattle.cyc_agreement.specs.Shifting.{MayLeave}
+use Rattle.cyc_agreement.proofs.CpuSpots.{of_cpu, cpu_there, get_set_same, get_set_other}
 use Rattle.cyc_agreement.specs.System.{ids_of, ids_on, removal_on, is_everywhere, is_omnipresent}
 use Rattle.cyc_agreement.specs.Agreement.{Agrees, most_on}
 use Rattle.cyc_agreement.proofs.Lists.{false_true}

@@ -11,15 +11,15 @@ use native.Mathlib.Decide.{ℕ_discrete}
 use Rattle.cyc_types.specs.declared.Raise.{Ghosts as Raise}
 use Rattle.cyc_types.specs.declared.firing.Sent.{Sent}
 use Rattle.cyc_types.specs.declared.moment.When.{When}
-use Rattle.cyc_cpus.specs.Rows.{Cyclic}
-use Rattle.cyc_cpus.specs.Cpu.{CpuView, Places, cyclic_with}
-use Rattle.cyc_cpus.specs.Calls.{Changes, Place as PlaceCall}
+use Rattle.cyc_cpu.specs.Rows.{Cyclic}
+use Rattle.cyc_cpu.specs.Cpu.{CpuView, Places, cyclic_with}
+use Rattle.cyc_cpu.specs.Calls.{Changes, Place as PlaceCall}
 use Rattle.cyc_places.specs.declared.record.Placement.{Placement}
 use Rattle.cyc_places.specs.declared.record.Placement.TheVariants.{On, Everywhere}
 use Rattle.cyc_places.specs.declared.record.Record.{Record}
 use Rattle.cyc_places.specs.Places.{ended_on}
-use Rattle.cyc_cpus.specs.Cpus.{CpusView, IsCpu, with_cpu, ChangesAt, DoesAt, Works}
-use Rattle.cyc_cpus.proofs.Spots.{get_set_other, cpu_there, one_cpu, changed}
+use Rattle.cyc_agreement.specs.Cpus.{CpusView, IsCpu, with_cpu, ChangesAt, DoesAt, Works}
+use Rattle.cyc_agreement.proofs.CpuSpots.{get_set_other, cpu_there, one_cpu, changed}
 use Rattle.cyc_agreement.specs.System.{ids_of, ids_on, has, removal_on, is_everywhere, is_leaving_here}
 use Rattle.cyc_agreement.specs.Agreement.{most_on}
 use Rattle.cyc_agreement.proofs.Lists.{among, true_eq, false_ne, false_true}

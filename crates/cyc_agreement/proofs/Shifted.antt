@@ -9,14 +9,14 @@ use native.Mathlib.Decide.{ℕ_discrete}
 use Rattle.cyc_types.specs.declared.Raise.{Ghosts as Raise}
 use Rattle.cyc_types.specs.Firing.{FiringView, FiringCall}
 use Rattle.cyc_types.specs.declared.refusal.Refusal.{Refusal}
-use Rattle.cyc_cpus.specs.Rows.{Cyclic}
-use Rattle.cyc_cpus.specs.Taken.{Taken}
-use Rattle.cyc_cpus.specs.Cpu.{CpuView, HasRisingIds, cyclic_with}
-use Rattle.cyc_cpus.specs.Removal.{Leaves}
-use Rattle.cyc_cpus.specs.Cpus.{CpusView, IsCpu, Works}
-use Rattle.cyc_cpus.specs.Shifting.{move_of, WhyNotShifted, moving}
+use Rattle.cyc_cpu.specs.Rows.{Cyclic}
+use Rattle.cyc_cpu.specs.declared.moving.Taken.{Taken}
+use Rattle.cyc_cpu.specs.Cpu.{CpuView, HasRisingIds, cyclic_with}
+use Rattle.cyc_cpu.specs.Removal.{Leaves}
+use Rattle.cyc_agreement.specs.Cpus.{CpusView, IsCpu, Works}
+use Rattle.cyc_agreement.specs.Shifting.{move_of, WhyNotShifted, moving}
 use Rattle.std.specs.Option.{option_map}
-use Rattle.cyc_cpus.specs.Laws.{IsLawful}
+use Rattle.cyc_cpu.specs.Laws.{IsLawful}
 use Rattle.cyc_agreement.specs.System.{SystemView, ids_of, ids_on, has}
 use Rattle.cyc_agreement.specs.Agreement.{Agrees}
 use Rattle.cyc_agreement.specs.Binding.{GoesTo}

@@ -3,7 +3,7 @@ use Rattle.std.proofs.Common.{◌≡◌, ℕ, zero, suc, ◌<◌, ◌⊎◌, inl
 use Rattle.std.proofs.Common.{ap, arith}
 use Rattle.std.specs.List.{slice_get}
 use Rattle.cyc_places.specs.declared.record.Record.{Record}
-use Rattle.cyc_cpus.specs.Cpus.{CpusView}
+use Rattle.cyc_agreement.specs.Cpus.{CpusView}
 use Rattle.cyc_agreement.specs.System.{SystemView}
 
 pub same_some : {A : Type 0} {x y : A} → Some x ≡ Some y → x ≡ y

@@ -7,7 +7,7 @@ use Rattle.cyc_types.specs.declared.refusal.Refusal.TheVariants.{NoCyclic, Busy}
 use Rattle.cyc_types.specs.Reasons.{first_refusal}
 use Rattle.cyc_places.specs.declared.record.Record.{Record}
 use Rattle.cyc_places.specs.Places.{IsRecord, IsReceiptOf, HasRisingIds, HasNoRecord}
-use Rattle.cyc_cpus.specs.Cpus.{CpusView}
+use Rattle.cyc_agreement.specs.Cpus.{CpusView}
 use Rattle.cyc_agreement.specs.System.{SystemView, has, is_unknown, is_leaving}
 use Rattle.cyc_agreement.proofs.Spots.{same_some}
 use Rattle.cyc_agreement.proofs.Recording.{record_here, record_none}

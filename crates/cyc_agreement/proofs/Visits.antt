@@ -7,9 +7,9 @@ use native.Mathlib.Decide.{ℕ_discrete}
 use Rattle.cyc_types.specs.declared.Raise.{Ghosts as Raise}
 use Rattle.cyc_types.specs.declared.level.Level.{Level}
 use Rattle.cyc_types.specs.declared.moment.When.{When}
-use Rattle.cyc_cpus.specs.Rows.{Cyclic}
-use Rattle.cyc_cpus.specs.Cpu.{CpuView, HasRisingIds}
-use Rattle.cyc_cpus.specs.Cpus.{CpusView, IsCpu, OfCpu, online_cpus, DoesAt, Works}
+use Rattle.cyc_cpu.specs.Rows.{Cyclic}
+use Rattle.cyc_cpu.specs.Cpu.{CpuView, HasRisingIds}
+use Rattle.cyc_agreement.specs.Cpus.{CpusView, IsCpu, OfCpu, online_cpus, DoesAt, Works}
 use Rattle.cyc_agreement.specs.System.{SystemView, is_online}
 use Rattle.cyc_agreement.specs.Adding.{add_request, entering}
 use Rattle.cyc_agreement.proofs.Lists.{among, false_ne, eq_true, false_true}

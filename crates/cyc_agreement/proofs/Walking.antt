@@ -11,11 +11,11 @@ use mathlib.Core.Logic.{dite}
 use native.Mathlib.Decide.{ℕ_discrete}
 use Rattle.cyc_types.proofs.Runs.{folds_more}
 use Rattle.cyc_types.specs.declared.Raise.{Ghosts as Raise}
-use Rattle.cyc_cpus.specs.Cpu.{CpuView}
+use Rattle.cyc_cpu.specs.Cpu.{CpuView}
 use Rattle.cyc_places.specs.declared.record.Record.{Record}
 use Rattle.cyc_places.specs.Places.{IsRecord}
-use Rattle.cyc_cpus.specs.Cpus.{CpusView, IsCpu, numbers_from}
-use Rattle.cyc_cpus.proofs.Choices.{numbers_at}
+use Rattle.cyc_agreement.specs.Cpus.{CpusView, IsCpu, numbers_from}
+use Rattle.cyc_agreement.proofs.Choices.{numbers_at}
 use Rattle.cyc_agreement.specs.System.{SystemView, ids_of, has, removal_on, is_leaving_here}
 use Rattle.cyc_agreement.proofs.Lists.{among}
 use Rattle.cyc_agreement.proofs.Presence.{has_low}

@@ -5,9 +5,9 @@ use Rattle.std.specs.List.{slice_get, list_any}
 use Rattle.std.specs.Option.{option_map_or}
 use Rattle.std.proofs.lemmas.Option.{slice_get-map, get_or_from_slice_get}
 use Rattle.cyc_types.specs.Firing.{FiringView}
-use Rattle.cyc_cpus.specs.Cpu.{CpuView}
-use Rattle.cyc_cpus.specs.Laws.{IsLawful}
-use Rattle.cyc_cpus.specs.Cpus.{CpusView, IsCpu, numbers_from}
+use Rattle.cyc_cpu.specs.Cpu.{CpuView}
+use Rattle.cyc_cpu.specs.Laws.{IsLawful}
+use Rattle.cyc_agreement.specs.Cpus.{CpusView, IsCpu, numbers_from}
 use Rattle.cyc_agreement.specs.System.{ids_of, has, removal_on, is_leaving_here}
 use Rattle.cyc_agreement.proofs.Spots.{get_some, same_some, none_some}
 use Rattle.cyc_agreement.proofs.Lists.{among, any_place, false_true}

@@ -11,23 +11,23 @@ use native.Mathlib.Decide.{ℕ_discrete}
 use Rattle.cyc_types.specs.declared.Calls.{Ghosts as Calls}
 use Rattle.cyc_types.specs.declared.Raise.{Ghosts as Raise}
 use Rattle.cyc_types.specs.declared.refusal.Refusal.{Refusal}
-use Rattle.cyc_cpus.specs.Rows.{Cyclic, timers}
-use Rattle.cyc_cpus.specs.Cpu.{CpuView, IsCyclic, with_moment, Asks, Looked, Reserves, Widens, Places}
-use Rattle.cyc_cpus.specs.Cpu.{Running}
-use Rattle.cyc_cpus.specs.Soft.{SoftKept}
-use Rattle.cyc_cpus.specs.Calls.{Changes, Does, Reserve, Fire, Reprogram}
+use Rattle.cyc_cpu.specs.Rows.{Cyclic, timers}
+use Rattle.cyc_cpu.specs.Cpu.{CpuView, IsCyclic, with_moment, Asks, Looked, Reserves, Widens, Places}
+use Rattle.cyc_cpu.specs.Cpu.{Running}
+use Rattle.cyc_cpu.specs.Soft.{SoftKept}
+use Rattle.cyc_cpu.specs.Calls.{Changes, Does, Reserve, Fire, Reprogram}
 use Rattle.cyc_types.specs.declared.level.Soft.{Soft}
-use Rattle.cyc_cpus.specs.Ran.{Ran}
-use Rattle.cyc_cpus.specs.SoftRefused.{SoftRefused}
-use Rattle.cyc_cpus.specs.Fired.{Fired}
-use Rattle.cyc_cpus.specs.FireRefused.{FireRefused}
+use Rattle.cyc_cpu.specs.Ran.{Ran}
+use Rattle.cyc_cpu.specs.SoftRefused.{SoftRefused}
+use Rattle.cyc_cpu.specs.Fired.{Fired}
+use Rattle.cyc_cpu.specs.FireRefused.{FireRefused}
 use Rattle.cyc_types.specs.Expirations as expire
 use Rattle.cyc_types.specs.Expirations.{Expiration, expirations, all_after}
 use Rattle.cyc_types.specs.Timers.{Timer}
-use Rattle.cyc_cpus.specs.Cpus.{CpusView, IsCpu, with_cpu, ChangesAt}
+use Rattle.cyc_agreement.specs.Cpus.{CpusView, IsCpu, with_cpu, ChangesAt}
 use Rattle.cyc_agreement.specs.System.{ids_of, ids_on, has, removal_on}
 use Rattle.cyc_agreement.specs.Agreement.{most_on}
-use Rattle.cyc_cpus.proofs.Spots.{get_set_same, get_set_other}
+use Rattle.cyc_agreement.proofs.CpuSpots.{get_set_same, get_set_other}
 use Rattle.cyc_agreement.proofs.Lists.{among, any_insert, any_map, true_eq, false_ne, false_true}
 
 -- ---- one CPU

@@ -6,8 +6,8 @@ use Rattle.cyc_places.specs.declared.record.Placement.{Placement}
 use Rattle.cyc_places.specs.declared.record.Placement.TheVariants.{On}
 use Rattle.cyc_places.specs.declared.record.Record.{Record}
 use Rattle.cyc_places.specs.Places.{IsRecord, with_place}
-use Rattle.cyc_cpus.specs.Cpus.{CpusView}
-use Rattle.cyc_cpus.specs.Shifting.{Move, move_of, Shifts}
+use Rattle.cyc_agreement.specs.Cpus.{CpusView}
+use Rattle.cyc_agreement.specs.Shifting.{Move, move_of, Shifts}
 use Rattle.cyc_agreement.specs.System.{SystemView}
 
 -- the cyclic, which is on one CPU, is there now

@@ -1,10 +1,10 @@
 -- The counts of a cyclic over all CPUs.
 use Rattle.std.specs.Prelude.{◌≡◌, ℕ, ◌+◌, List, map, sum_by, Option, Some, None}
 use Rattle.cyc_types.specs.declared.Raise.{Ghosts as Raise}
-use Rattle.cyc_cpus.specs.Totals.{Totals}
-use Rattle.cyc_cpus.specs.Calls.{AskTotals}
+use Rattle.cyc_cpu.specs.declared.hard.Totals.{Totals}
+use Rattle.cyc_cpu.specs.Calls.{AskTotals}
 use Rattle.cyc_places.specs.declared.record.Record.{Record}
-use Rattle.cyc_cpus.specs.Cpus.{CallOn, on}
+use Rattle.cyc_agreement.specs.Cpus.{CallOn, on}
 use Rattle.cyc_agreement.specs.System.{SystemView, record_of}
 use Rattle.cyc_agreement.specs.Adding.{OnlyWorks}
 use Rattle.cyc_agreement.specs.declared.totals.SystemTotals.{SystemTotals}

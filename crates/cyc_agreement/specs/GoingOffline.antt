@@ -5,12 +5,12 @@ use Rattle.cyc_types.specs.declared.Raise.{Ghosts as Raise}
 use Rattle.cyc_types.specs.declared.refusal.JuggleReport.{JuggleReport}
 use Rattle.cyc_types.specs.declared.refusal.Refusal.{Refusal}
 use Rattle.cyc_types.specs.declared.refusal.Refusal.TheVariants.{Pending, Left}
-use Rattle.cyc_cpus.specs.Taken.{Taken}
-use Rattle.cyc_cpus.specs.Calls.{AskPending, TakeNow}
+use Rattle.cyc_cpu.specs.declared.moving.Taken.{Taken}
+use Rattle.cyc_cpu.specs.Calls.{AskPending, TakeNow}
 use Rattle.cyc_places.specs.declared.record.Record.{Record}
 use Rattle.cyc_places.specs.Places.{IsRecord, ended_on, summed, with_ended}
-use Rattle.cyc_cpus.specs.Cpus.{CallOn, on, DoesAt}
-use Rattle.cyc_cpus.specs.Reserving.{StandsAfter}
+use Rattle.cyc_agreement.specs.Cpus.{CallOn, on, DoesAt}
+use Rattle.cyc_agreement.specs.Reserving.{StandsAfter}
 use Rattle.cyc_agreement.specs.System.{SystemView, ids_on}
 use Rattle.cyc_agreement.specs.Refusals.{Unless}
 use Rattle.cyc_agreement.specs.Adding.{OnlyWorks}

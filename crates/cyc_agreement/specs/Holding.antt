@@ -2,7 +2,7 @@
 use Rattle.std.specs.Prelude.{◌≡◌, ℕ, ◌≤◌, true, Some}
 use Rattle.cyc_places.specs.declared.record.Record.{Record}
 use Rattle.cyc_places.specs.Places.{IsRecord, ended_on}
-use Rattle.cyc_cpus.specs.Cpus.{CpusView}
+use Rattle.cyc_agreement.specs.Cpus.{CpusView}
 use Rattle.cyc_agreement.specs.System.{SystemView, has, removal_on}
 use Rattle.cyc_agreement.specs.Agreement.{Agrees, most_on}
 

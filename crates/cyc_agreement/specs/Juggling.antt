@@ -6,12 +6,12 @@ use Rattle.cyc_types.specs.declared.refusal.JuggleReport.{JuggleReport}
 use Rattle.cyc_types.specs.declared.refusal.Refusal.{Refusal}
 use Rattle.cyc_types.specs.declared.refusal.Refusal.TheVariants.{LastCpu}
 use Rattle.cyc_types.specs.Reasons.{when, busy}
-use Rattle.cyc_cpus.specs.Calls.{AskPending, Reserve}
+use Rattle.cyc_cpu.specs.Calls.{AskPending, Reserve}
 use Rattle.cyc_places.specs.declared.record.Placement.TheVariants.{On}
 use Rattle.cyc_places.specs.Places.{RecordsView}
-use Rattle.cyc_cpus.specs.Cpus.{CpusView, on, online_cpus}
-use Rattle.cyc_cpus.specs.Destination.{destination}
-use Rattle.cyc_cpus.specs.Shifting.{move_of, Shifts}
+use Rattle.cyc_agreement.specs.Cpus.{CpusView, on, online_cpus}
+use Rattle.cyc_agreement.specs.Destination.{destination}
+use Rattle.cyc_agreement.specs.Shifting.{move_of, Shifts}
 use Rattle.cyc_agreement.specs.System.{SystemView, ids_on, removal_on, is_omnipresent}
 use Rattle.cyc_agreement.specs.Refusals.{Unless, no_cpu, offline_cpu}
 use Rattle.cyc_agreement.specs.Adding.{OnlyWorks}

@@ -1,3 +1,8 @@
+pub mod Cpus
+pub mod Destination
+pub mod Shifting
+pub mod Reserving
+pub mod Ids
 pub mod System
 pub mod Agreement
 pub mod Holding
@@ -16,8 +21,4 @@ pub mod Walking
 pub mod Omni
 pub mod Online
 pub mod OmniLaws
-pub use Rattle.cyc_cpus.specs.Cpus
-pub use Rattle.cyc_cpus.specs.Destination
-pub use Rattle.cyc_cpus.specs.Reserving
-pub use Rattle.cyc_cpus.specs.Shifting
-pub use Rattle.cyc_cpus.specs.Rows
+pub use Rattle.cyc_cpu.specs.Rows

@@ -8,8 +8,8 @@ use Rattle.cyc_types.specs.declared.refusal.Refusal.{Refusal}
 use Rattle.cyc_types.specs.declared.refusal.Refusal.TheVariants.{Memory}
 use Rattle.cyc_places.specs.declared.record.Placement.TheVariants.{Everywhere}
 use Rattle.cyc_places.specs.Places.{new_record}
-use Rattle.cyc_cpus.specs.Cpus.{CpusView, CallOn, online_cpus, Works}
-use Rattle.cyc_cpus.specs.Reserving.{ReservesEach}
+use Rattle.cyc_agreement.specs.Cpus.{CpusView, CallOn, online_cpus, Works}
+use Rattle.cyc_agreement.specs.Reserving.{ReservesEach}
 use Rattle.cyc_agreement.specs.System.{SystemView}
 use Rattle.cyc_agreement.specs.Adding.{AddRequest, entering}
 

@@ -6,8 +6,8 @@ use Rattle.cyc_types.specs.declared.receipt.Receipt.{Receipt}
 use Rattle.cyc_types.specs.declared.refusal.Refusal.{Refusal}
 use Rattle.cyc_types.specs.declared.refusal.Refusal.TheVariants.{NoCyclic}
 use Rattle.cyc_types.specs.Reasons.{when}
-use Rattle.cyc_cpus.specs.Calls.{PollRemove}
-use Rattle.cyc_cpus.specs.Cpus.{CpusView, on, numbers_from}
+use Rattle.cyc_cpu.specs.Calls.{PollRemove}
+use Rattle.cyc_agreement.specs.Cpus.{CpusView, on, numbers_from}
 use Rattle.cyc_agreement.specs.System.{SystemView, is_leaving_here, is_leaving}
 use Rattle.cyc_agreement.specs.Refusals.{Unless}
 use Rattle.cyc_agreement.specs.Removing.{OnlyDoes, EndsStay, Answers, cpus_with}

@@ -7,12 +7,12 @@ use Rattle.cyc_types.specs.declared.receipt.Receipt.{Receipt}
 use Rattle.cyc_types.specs.declared.refusal.Refusal.{Refusal}
 use Rattle.cyc_types.specs.declared.refusal.Refusal.TheVariants.{NoCyclic}
 use Rattle.cyc_types.specs.Reasons.{when, busy}
-use Rattle.cyc_cpus.specs.CpuRemoval.{Removal}
-use Rattle.cyc_cpus.specs.CpuRemoval.TheVariants.{Done, Kept}
-use Rattle.cyc_cpus.specs.Calls.{CpuCall, BeginRemove}
+use Rattle.cyc_cpu.specs.declared.removing.Removal.{Removal}
+use Rattle.cyc_cpu.specs.declared.removing.Removal.TheVariants.{Done, Kept}
+use Rattle.cyc_cpu.specs.Calls.{CpuCall, BeginRemove}
 use Rattle.cyc_places.specs.declared.record.Record.{Record}
 use Rattle.cyc_places.specs.Places.{IsRecord, IsReceiptOf, ended_on, summed, with_ended}
-use Rattle.cyc_cpus.specs.Cpus.{CpusView, CallOn, on, numbers_from, DoesAt}
+use Rattle.cyc_agreement.specs.Cpus.{CpusView, CallOn, on, numbers_from, DoesAt}
 use Rattle.cyc_agreement.specs.System.{SystemView, ids_of, removal_on, is_unknown}
 use Rattle.cyc_agreement.specs.Refusals.{Unless}
 use Rattle.cyc_agreement.specs.declared.removing.SystemRemoval.{SystemRemoval}

@@ -4,8 +4,8 @@ use Rattle.std.specs.List.{list_any}
 use Rattle.std.specs.Option.{option_map_or}
 use Rattle.cyc_places.specs.declared.record.Record.{Record}
 pub use Rattle.cyc_places.specs.Places.{is_everywhere}
-pub use Rattle.cyc_cpus.specs.Ids.{ids_of, ids_on, removal_on, is_online, has, is_leaving_here}
-use Rattle.cyc_cpus.specs.Cpus.{CpusView}
+pub use Rattle.cyc_agreement.specs.Ids.{ids_of, ids_on, removal_on, is_online, has, is_leaving_here}
+use Rattle.cyc_agreement.specs.Cpus.{CpusView}
 
 -- the CPUs, where the cyclics are, and the id that was given last
 pub record SystemView (R : Type 0) : Type 0 where

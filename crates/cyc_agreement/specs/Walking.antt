@@ -4,10 +4,10 @@ use Rattle.std.specs.List.{slice_get}
 use Rattle.cyc_types.specs.declared.Raise.{Ghosts as Raise}
 use Rattle.cyc_types.specs.Firing.{FiringView}
 use Rattle.cyc_types.specs.declared.refusal.JuggleReport.{JuggleReport}
-use Rattle.cyc_cpus.specs.Rows.{Cyclic}
-use Rattle.cyc_cpus.specs.Cpu.{CpuView, IsCyclic, seen_at}
+use Rattle.cyc_cpu.specs.Rows.{Cyclic}
+use Rattle.cyc_cpu.specs.Cpu.{CpuView, IsCyclic, seen_at}
 use Rattle.cyc_places.specs.Places.{RecordsView}
-use Rattle.cyc_cpus.specs.Cpus.{CpusView}
+use Rattle.cyc_agreement.specs.Cpus.{CpusView}
 use Rattle.cyc_agreement.specs.System.{SystemView, ids_on, is_omnipresent}
 use Rattle.cyc_agreement.specs.declared.turning.Turn.{Turn}
 use Rattle.cyc_agreement.specs.declared.turning.Turn.TheVariants.{StaysBound, StaysPending, StaysRefused, Moves}

@@ -4,8 +4,8 @@ ghost use Rattle.std.specs.Prelude.{◌≡◌, ◌<◌, ◌≤◌, ℕ, [], ◌�
 ghost use Rattle.cyc_types.specs.Limits.{last_id};
 ghost use Rattle.cyc_types.specs.Series.{never};
 ghost use Rattle.cyc_types.specs.Reasons.{bad_now};
-ghost use Rattle.cyc_cpus.specs.Cpu.{HasNoCyclic, MayWiden};
-ghost use Rattle.cyc_cpus.specs.Cpus.{OfCpu, IsOnline, online_cpus, Works};
+ghost use Rattle.cyc_cpu.specs.Cpu.{HasNoCyclic, MayWiden};
+ghost use Rattle.cyc_agreement.specs.Cpus.{OfCpu, IsOnline, online_cpus, Works};
 ghost use Rattle.cyc_agreement.specs.Adding.{add_request, entering};
 ghost use Rattle.cyc_agreement.specs.Holding.{Holds};
 ghost use Rattle.cyc_agreement.specs.System.{SystemView};
@@ -13,7 +13,7 @@ ghost use Rattle.cyc_agreement.specs.Refusals.{Unless, ids_spent};
 ghost use Rattle.cyc_agreement.specs.Omni.{entering_each, AddsOmni, last_after};
 
 use crate::component::component_first;
-use cyc_cpus::Cpus;
+use crate::cpus::Cpus;
 use cyc_places::{Placement, Records};
 use cyc_types::{CyclicId, Interval, Level, Moment, Raise, Refusal, Sent, When};
 

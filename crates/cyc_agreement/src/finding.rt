@@ -2,10 +2,10 @@
 
 ghost use Rattle.std.specs.Prelude.{◌≡◌, ◌<◌, length};
 ghost use Rattle.std.specs.List.{list_any};
-ghost use Rattle.cyc_cpus.specs.Cpus.{OfCpu};
+ghost use Rattle.cyc_agreement.specs.Cpus.{OfCpu};
 ghost use Rattle.cyc_agreement.specs.System.{is_leaving_here};
 
-use cyc_cpus::Cpus;
+use crate::cpus::Cpus;
 use cyc_types::{CyclicId, Raise};
 
 /// Whether the removal of this id is open on the CPU.

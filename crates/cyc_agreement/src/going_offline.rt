@@ -6,10 +6,10 @@ ghost use Rattle.cyc_agreement.specs.Holding.{EndedWithin};
 ghost use Rattle.cyc_agreement.specs.Juggling.{system_of};
 ghost use Rattle.cyc_agreement.specs.GoingOffline.{GoesOffline};
 
+use crate::cpus::Cpus;
 use crate::juggling::move_away;
 use crate::refusing::may_leave;
 use crate::retiring::{any_pending, retire_all};
-use cyc_cpus::Cpus;
 use cyc_places::Records;
 use cyc_types::{Raise, Refusal};
 

@@ -1,16 +1,16 @@
 //! The juggle of a CPU: each of its cyclics has its turn.
 
 ghost use Rattle.std.specs.Prelude.{◌≡◌, ℕ, ◌<◌, ◌≤◌, length, true, Some, None};
-ghost use Rattle.cyc_cpus.specs.Destination.{destination};
+ghost use Rattle.cyc_agreement.specs.Destination.{destination};
 ghost use Rattle.cyc_agreement.specs.System.{is_online, removal_on};
 ghost use Rattle.cyc_agreement.specs.Agreement.{Agrees};
 ghost use Rattle.cyc_agreement.specs.Holding.{EndedWithin};
 ghost use Rattle.cyc_agreement.specs.Juggling.{system_of, MovesAway, Juggles, single_ids};
 ghost use Rattle.cyc_agreement.specs.Walking.{all_turns, all_left};
 
+use crate::cpus::Cpus;
 use crate::refusing::may_leave;
 use crate::turning::visit;
-use cyc_cpus::Cpus;
 use cyc_places::Records;
 use cyc_types::{JuggleReport, Raise, Refusal};
 

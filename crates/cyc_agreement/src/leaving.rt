@@ -1,7 +1,7 @@
 //! A removal on one CPU, with its record.
 
 ghost use Rattle.std.specs.Prelude.{◌≡◌, ◌<◌, ◌≤◌, ◌^◌, ℕ, List, length, slice_set, true, Some, None, Option};
-ghost use Rattle.cyc_cpus.specs.CpuRemoval.{Removal as TheRemoval};
+ghost use Rattle.cyc_cpu.specs.declared.removing.Removal.{Removal as TheRemoval};
 ghost use Rattle.cyc_places.specs.declared.record.Record.{Record};
 ghost use Rattle.cyc_places.specs.Places.{IsRecord, ended_on, no_counts, summed, with_ended};
 ghost use Rattle.cyc_types.specs.declared.receipt.Receipt.{Receipt as TheReceipt};
@@ -10,7 +10,8 @@ ghost use Rattle.cyc_agreement.specs.Removing.{BeginsOn, counts_of, kept_in};
 ghost use Rattle.cyc_agreement.specs.Polling.{PollsOn};
 ghost use Rattle.cyc_agreement.specs.Leaving.{system, Owns, WithdrawsAt};
 
-use cyc_cpus::{Cpus, Removal};
+use crate::cpus::Cpus;
+use cyc_cpu::Removal;
 use cyc_places::Records;
 use cyc_types::{CyclicId, Raise, Receipt, Sent};
 

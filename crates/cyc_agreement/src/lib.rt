@@ -1,6 +1,7 @@
-//! What is true of every system of CPUs: the CPUs and the records agree on where each cyclic is. Beside it what a new cyclic and
-//! one that goes to another CPU change, and why they are refused; and the calls of a system that go over many CPUs or many
-//! cyclics, each of which keeps the agreement:
+//! The CPUs of a system: their firing sides by number, which of them are online, and how a cyclic goes from one to another. Then what
+//! is true of every system of CPUs: the CPUs and the records agree on where each cyclic is. Beside it what a new cyclic and one that
+//! goes to another CPU change, and why they are refused; and the calls of a system that go over many CPUs or many cyclics, each of
+//! which keeps the agreement:
 //!
 //! - the removal of a cyclic from all CPUs that have it, and its counts over all of them
 //! - how the cyclics of a CPU move to other CPUs, each to the one with the fewest, and how the CPU then goes offline
@@ -10,7 +11,9 @@
 #![tactic(auto)]
 
 mod adding;
+mod choosing;
 mod component;
+mod cpus;
 mod finding;
 mod going_offline;
 mod juggling;
@@ -19,13 +22,16 @@ mod omni_laws;
 mod refusing;
 mod removal_laws;
 mod removing;
+mod reserving;
 mod retiring;
 mod returning;
+mod shifting;
 mod totals;
 mod turning;
 
 pub use adding::add_omni;
-pub use cyc_cpus::{Cpus, Removal};
+pub use cpus::Cpus;
+pub use cyc_cpu::Removal;
 pub use finding::{is_leaving, is_leaving_at};
 pub use going_offline::offline;
 pub use juggling::juggle;

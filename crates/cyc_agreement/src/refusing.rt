@@ -3,11 +3,11 @@
 ghost use Rattle.std.specs.Prelude.{◌≡◌, ℕ, ◌<◌, length, true, Some, None, IfErr, OnOk};
 ghost use Rattle.cyc_types.specs.Reasons.{first_refusal};
 ghost use Rattle.cyc_places.specs.Places.{RecordsView};
-ghost use Rattle.cyc_cpus.specs.Destination.{destination};
+ghost use Rattle.cyc_agreement.specs.Destination.{destination};
 ghost use Rattle.cyc_agreement.specs.System.{is_online, removal_on};
 ghost use Rattle.cyc_agreement.specs.Juggling.{system_of, juggle_refusals};
 
-use cyc_cpus::Cpus;
+use crate::cpus::Cpus;
 use cyc_types::{Raise, Refusal};
 
 /// Whether the cyclics of a CPU can leave it: the CPU is there and online, another is online too, and no removal is open there.

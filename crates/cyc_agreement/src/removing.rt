@@ -13,9 +13,9 @@ ghost use Rattle.cyc_agreement.specs.Removing.{Begun, BeginsEach, BeginsRemoval,
 ghost use Rattle.cyc_agreement.specs.Polling.{Polled, PollsEach, PollsRemoval, leaving_cpus};
 ghost use Rattle.cyc_agreement.specs.Leaving.{system, Owns, Withdraws};
 
+use crate::cpus::Cpus;
 use crate::finding::{is_leaving, is_leaving_at};
 use crate::leaving::{begin_at, poll_at};
-use cyc_cpus::Cpus;
 use cyc_places::Records;
 use cyc_types::{CyclicId, Raise, Receipt, Refusal};
 

@@ -5,9 +5,9 @@ ghost use Rattle.std.specs.Bool.{OnTrue, OnFalse};
 ghost use Rattle.std.specs.List.{FoldsTo};
 ghost use Rattle.cyc_places.specs.declared.record.Record.{Record};
 ghost use Rattle.cyc_places.specs.Places.{RecordsView, IsRecord, ended_on, no_counts};
-ghost use Rattle.cyc_cpus.specs.Cpus.{OfCpu, Works};
-ghost use Rattle.cyc_cpus.specs.Destination.{destination};
-ghost use Rattle.cyc_cpus.specs.Shifting.{MayLeave};
+ghost use Rattle.cyc_agreement.specs.Cpus.{OfCpu, Works};
+ghost use Rattle.cyc_agreement.specs.Destination.{destination};
+ghost use Rattle.cyc_agreement.specs.Shifting.{MayLeave};
 ghost use Rattle.cyc_agreement.specs.System.{ids_on, removal_on};
 ghost use Rattle.cyc_agreement.specs.Agreement.{Agrees};
 ghost use Rattle.cyc_agreement.specs.Holding.{EndedWithin};
@@ -15,7 +15,7 @@ ghost use Rattle.cyc_agreement.specs.Juggling.{system_of, single_ids};
 ghost use Rattle.cyc_agreement.specs.GoingOffline.{quiet, FindsPending, Retires, offline_at};
 ghost use Rattle.cyc_agreement.specs.Walking.{AreQuiet};
 
-use cyc_cpus::Cpus;
+use crate::cpus::Cpus;
 use cyc_places::Records;
 use cyc_types::{CyclicId, Raise};
 

@@ -3,10 +3,10 @@
 ghost use Rattle.std.specs.Prelude.{◌≡◌, ◌<◌, ◌≤◌, ℕ, [], ◌∷◌, Err, length, filter, map, slice_set, true};
 ghost use Rattle.cyc_types.specs.Series.{never};
 ghost use Rattle.cyc_types.specs.Reasons.{bad_now};
-ghost use Rattle.cyc_cpus.specs.Calls.{MayPlace};
+ghost use Rattle.cyc_cpu.specs.Calls.{MayPlace};
 ghost use Rattle.cyc_places.specs.declared.record.Record.{Record as TheRecord};
 ghost use Rattle.cyc_places.specs.Places.{IsRecord, HasRisingIds, HaveCounts, ended_on, no_counts, with_ended, is_everywhere};
-ghost use Rattle.cyc_cpus.specs.Cpus.{OfCpu, Works};
+ghost use Rattle.cyc_agreement.specs.Cpus.{OfCpu, Works};
 ghost use Rattle.cyc_agreement.specs.Holding.{Holds};
 ghost use Rattle.cyc_agreement.specs.System.{SystemView};
 ghost use Rattle.cyc_agreement.specs.Refusals.{Unless, no_cpu};
@@ -14,8 +14,8 @@ ghost use Rattle.cyc_agreement.specs.Online.{online_cpu, is_staying as is_stayin
 ghost use Rattle.cyc_agreement.specs.Online.{GoesOnline};
 
 use crate::component::component_first;
+use crate::cpus::Cpus;
 use crate::finding::is_leaving;
-use cyc_cpus::Cpus;
 use cyc_places::{Placement, Record, Records};
 use cyc_types::{Moment, Raise, Refusal, When};
 

@@ -1,14 +1,14 @@
 //! The counts of a cyclic over all CPUs and all stays.
 
 ghost use Rattle.std.specs.Prelude.{◌≡◌, ◌<◌, ◌≤◌, ◌*◌, ◌^◌, ℕ, List, map, length, sum_by};
-ghost use Rattle.cyc_cpus.specs.Cpus.{Works};
+ghost use Rattle.cyc_agreement.specs.Cpus.{Works};
 ghost use Rattle.cyc_places.specs.declared.record.Record.{Record};
 ghost use Rattle.cyc_agreement.specs.Holding.{Holds};
 ghost use Rattle.cyc_agreement.specs.Removing.{cpus_with};
 ghost use Rattle.cyc_agreement.specs.Counting.{Counted, asked, GoingOn, AsksTotals};
 ghost use Rattle.cyc_agreement.specs.Leaving.{system};
 
-use cyc_cpus::Cpus;
+use crate::cpus::Cpus;
 use cyc_places::Records;
 use cyc_types::{CyclicId, Raise};
 

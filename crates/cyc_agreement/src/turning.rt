@@ -5,18 +5,18 @@ ghost use Rattle.std.specs.List.{slice_get};
 ghost use Rattle.cyc_places.specs.declared.record.Placement.TheVariants.{On};
 ghost use Rattle.cyc_places.specs.declared.record.Record.{Record};
 ghost use Rattle.cyc_places.specs.Places.{IsRecord};
-ghost use Rattle.cyc_cpus.specs.Destination.{destination};
+ghost use Rattle.cyc_agreement.specs.Destination.{destination};
 ghost use Rattle.cyc_agreement.specs.System.{has, ids_on, removal_on};
 ghost use Rattle.cyc_agreement.specs.Agreement.{Agrees};
 ghost use Rattle.cyc_agreement.specs.Juggling.{system_of, TakesTurn, counted};
 ghost use Rattle.cyc_agreement.specs.Walking.{Visits, VisitsAt, all_turns};
 
-use cyc_cpus::Cpus;
+use crate::cpus::Cpus;
 use cyc_places::{Placement, Records};
 use cyc_types::{CyclicId, JuggleReport, Raise, Refusal};
 
 /// What became of one cyclic at its turn.
-#[derive(Clone, Copy, Debug, PartialEq, Eq)]
+#[derive(Clone, Copy)]
 pub enum Turn {
     /// It stays: it is bound to its CPU.
     StaysBound,

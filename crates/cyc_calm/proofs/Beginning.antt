@@ -10,7 +10,7 @@ use Rattle.cyc_ring.specs.Ends.{raise_end}
 use Rattle.cyc_cpu.specs.Cpu.{CpuView}
 use Rattle.cyc_places.specs.declared.record.Record.{Record}
 use Rattle.cyc_places.specs.Places.{HasRisingIds, HasNoRecord}
-use Rattle.cyc_cpus.specs.Cpus.{CpusView, new_cpu}
+use Rattle.cyc_agreement.specs.Cpus.{CpusView, new_cpu}
 use Rattle.cyc_thread_expected.proofs.Spots.{none_some, same_some}
 use Rattle.cyc_thread_expected.specs.Lead.{Lead}
 use Rattle.cyc_thread_expected.specs.Seated.{Seated}

@@ -16,10 +16,10 @@ use Rattle.cyc_cpu.specs.Calls.{CpuCall, Changes as CpuChanges, Fire, SoftInterr
 use Rattle.cyc_cpu.specs.Calls.{Reprogram as CpuReprogram}
 use Rattle.cyc_cpu.specs.Calls.{AskPending, AskTotals as CpuTotals, AskRoom, Reserve, Widen, BeginRemove as CpuBegin}
 use Rattle.cyc_cpu.specs.Calls.{PollRemove as CpuPoll, TakeNow, AskSettled}
-use Rattle.cyc_cpus.specs.Cpus.{CpusView, IsCpu, CallOn, on, ChangesAt, Works, online_cpus}
-use Rattle.cyc_cpus.specs.Reserving.{rooms, reserves, ReservesEach}
-use Rattle.cyc_cpus.specs.Shifting.{move_of, WhyNotShifted, moving}
-use Rattle.cyc_cpus.proofs.Spots.{one_cpu, cpu_there, cpu_beside}
+use Rattle.cyc_agreement.specs.Cpus.{CpusView, IsCpu, CallOn, on, ChangesAt, Works, online_cpus}
+use Rattle.cyc_agreement.specs.Reserving.{rooms, reserves, ReservesEach}
+use Rattle.cyc_agreement.specs.Shifting.{move_of, WhyNotShifted, moving}
+use Rattle.cyc_agreement.proofs.CpuSpots.{one_cpu, cpu_there, cpu_beside}
 use Rattle.cyc_thread_expected.proofs.Folds.{folds_keep}
 use Rattle.cyc_thread_expected.specs.System.{SystemView}
 use Rattle.cyc_types.specs.Series.{first}

@@ -15,7 +15,7 @@ use Rattle.cyc_types.specs.Reasons.{first_refusal, bad_now}
 use Rattle.cyc_cpu.specs.Cpu.{CpuView}
 use Rattle.cyc_places.specs.declared.record.Record.{Record}
 use Rattle.cyc_places.specs.Places.{is_everywhere}
-use Rattle.cyc_cpus.specs.Cpus.{CpusView}
+use Rattle.cyc_agreement.specs.Cpus.{CpusView}
 use Rattle.cyc_thread_expected.proofs.Lists.{any_none, eq_true}
 use Rattle.cyc_thread_expected.proofs.FirstReason.{not_when, is_when, passes, stops, not_le, le_true}
 use Rattle.cyc_thread_expected.proofs.Spots.{none_some, same_some}

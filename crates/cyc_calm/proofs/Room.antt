@@ -22,9 +22,9 @@ use Rattle.cyc_thread_expected.specs.CpuLawsSettled.{IsUntil}
 use Rattle.cyc_thread_expected.proofs.Staying.{settled_one, never_put_off}
 use Rattle.cyc_places.specs.declared.record.Record.{Record}
 use Rattle.cyc_places.specs.Places.{HasNoRecord}
-use Rattle.cyc_cpus.specs.Cpus.{CpusView, IsCpu, on, ChangesAt, Works}
-use Rattle.cyc_cpus.specs.Reserving.{rooms}
-use Rattle.cyc_cpus.proofs.Spots.{one_cpu, cpu_there, cpu_beside}
+use Rattle.cyc_agreement.specs.Cpus.{CpusView, IsCpu, on, ChangesAt, Works}
+use Rattle.cyc_agreement.specs.Reserving.{rooms}
+use Rattle.cyc_agreement.proofs.CpuSpots.{one_cpu, cpu_there, cpu_beside}
 use Rattle.cyc_thread_expected.proofs.Presence.{has_here}
 use Rattle.cyc_thread_expected.proofs.FirstReason.{passes, not_never, not_spent}
 use Rattle.cyc_thread_expected.proofs.Spots.{none_some}

@@ -6,8 +6,8 @@ use mathlib.Core.Logic.{dite}
 use native.Mathlib.Decide.{ℕ_discrete}
 use Rattle.std.proofs.lemmas.Bool.Decides.{nat_tests}
 use Rattle.std.proofs.lemmas.Option.{same_Some}
-use Rattle.cyc_cpus.specs.Cpus.{CpusView, numbers_from}
-use Rattle.cyc_cpus.specs.Destination.{len_of, fewer, fewest, is_not, destination}
+use Rattle.cyc_agreement.specs.Cpus.{CpusView, numbers_from}
+use Rattle.cyc_agreement.specs.Destination.{len_of, fewer, fewest, is_not, destination}
 use Rattle.cyc_cpus_laws.specs.Destinations.{IsFit, IsDestination}
 
 less_or_same : (a b i j : ℕ) → a ≤ b → i ≤ j → (a < b) ⊎ ((a ≡ b) × (i ≤ j))

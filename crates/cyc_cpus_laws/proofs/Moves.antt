@@ -8,8 +8,8 @@ use Rattle.cyc_cpu.specs.declared.moving.Taken.{Taken}
 use Rattle.cyc_cpu.specs.Cpu.{CpuView, IsCyclic, cyclic_with}
 use Rattle.cyc_cpu.specs.Moving.{IsTaken}
 use Rattle.cyc_cpu.specs.Calls.{AskPending, Reserve, TakeNow, Widen, Place}
-use Rattle.cyc_cpus.specs.Cpus.{CpusView, IsCpu, on, ChangesAt, DoesAt}
-use Rattle.cyc_cpus.proofs.Spots.{one_cpu, cpu_there, cpu_beside, cpu_after, get_set_other}
+use Rattle.cyc_agreement.specs.Cpus.{CpusView, IsCpu, on, ChangesAt, DoesAt}
+use Rattle.cyc_agreement.proofs.CpuSpots.{one_cpu, cpu_there, cpu_beside, cpu_after, get_set_other}
 use Rattle.cyc_core.specs.Tables.{Tables}
 use Rattle.cyc_cpu.specs.Soft.{raise_tables}
 use Rattle.cyc_cpus_laws.proofs.Calm.{admitted_calm, taken_calm, asked_same}

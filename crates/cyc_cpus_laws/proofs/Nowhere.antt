@@ -15,8 +15,8 @@ use Rattle.cyc_cpu.specs.Laws.{IsLawful}
 use Rattle.cyc_cpu.specs.Gone.{IsGone, IsAbsent, PutsNot}
 use Rattle.cyc_cpu.specs.Soft.{raise_tables, firing_at, Interrupts}
 use Rattle.cyc_cpu.proofs.Following.{stays_gone}
-use Rattle.cyc_cpus.specs.Cpus.{IsCpu, CallOn, RunningCpus, RunsAt}
-use Rattle.cyc_cpus.proofs.Spots.{one_cpu, cpu_there, cpu_beside}
+use Rattle.cyc_agreement.specs.Cpus.{IsCpu, CallOn, RunningCpus, RunsAt}
+use Rattle.cyc_agreement.proofs.CpuSpots.{one_cpu, cpu_there, cpu_beside}
 use Rattle.cyc_cpus_laws.specs.Gone.{IsNowhere, StaysNowhere}
 
 none_there : (o : Option AdmittedCyclic) → ((c : AdmittedCyclic) → o ≡ Some c → ⊥) → o ≡ None

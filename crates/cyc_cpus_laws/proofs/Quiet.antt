@@ -12,7 +12,7 @@ use Rattle.cyc_cpu.specs.Calls.{CpuCall, Changes, Does, Fire, SoftInterrupt, Add
 use Rattle.cyc_cpu.specs.Calls.{AskRoom, Reserve, Widen, BeginRemove, PollRemove, TakeNow, AskSettled}
 use Rattle.cyc_cpus_laws.specs.Runs.{calls_on, DoesWithSome}
 use Rattle.cyc_cpus_laws.proofs.Seen.{sees}
-use Rattle.cyc_cpus.specs.Cpus.{CpusView, IsCpu, CallOn, ChangesAt, DoesAt, Works, RunningCpus, running_cpus, RunsAt}
+use Rattle.cyc_agreement.specs.Cpus.{CpusView, IsCpu, CallOn, ChangesAt, DoesAt, Works, RunningCpus, running_cpus, RunsAt}
 
 module _ {C R : Type 0} (handler : Calls C)
     (firing : Raise R) (interrupts : Soft → ℕ → Result Ran SoftRefused →

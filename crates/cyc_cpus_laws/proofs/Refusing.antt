@@ -5,9 +5,9 @@ use native.Mathlib.Decide.{ℕ_discrete}
 use Rattle.cyc_types.specs.declared.Raise.{Ghosts as Raise}
 use Rattle.cyc_types.specs.declared.refusal.Refusal.{Refusal}
 use Rattle.cyc_cpu.specs.Cpu.{CpuView, SameCpu}
-use Rattle.cyc_cpus.specs.Cpus.{CpusView, IsCpu, ChangesAt}
-use Rattle.cyc_cpus.specs.Shifting.{move_of, WhyNotShifted}
-use Rattle.cyc_cpus.proofs.Spots.{one_cpu, cpu_there, cpu_after}
+use Rattle.cyc_agreement.specs.Cpus.{CpusView, IsCpu, ChangesAt}
+use Rattle.cyc_agreement.specs.Shifting.{move_of, WhyNotShifted}
+use Rattle.cyc_agreement.proofs.CpuSpots.{one_cpu, cpu_there, cpu_after}
 use Rattle.cyc_cpus_laws.specs.Moved.{OnlyAsked}
 
 module _ {R : Type 0} where

@@ -6,8 +6,8 @@ use Rattle.std.proofs.lemmas.Bool.Decides.{nat_tests}
 use Rattle.std.proofs.lemmas.List.{length-set}
 use Rattle.cyc_cpu.specs.Cpu.{CpuView}
 use Rattle.cyc_cpu.specs.Calls.{CpuCall}
-use Rattle.cyc_cpus.specs.Cpus.{CpusView, IsCpu, CallOn, ChangesAt}
-use Rattle.cyc_cpus.proofs.Spots.{one_cpu, cpu_there, cpu_after}
+use Rattle.cyc_agreement.specs.Cpus.{CpusView, IsCpu, CallOn, ChangesAt}
+use Rattle.cyc_agreement.proofs.CpuSpots.{one_cpu, cpu_there, cpu_after}
 use Rattle.cyc_cpus_laws.specs.Runs.{calls_on}
 
 module _ {R S : Type 0} (cpus : S → CpusView R) (D : S → CallOn → S → Type 0) (E : CpuView R → CpuCall → CpuView R → Type 0)

@@ -12,9 +12,9 @@ use Rattle.cyc_cpu.specs.Calls.{CpuCall}
 use Rattle.cyc_cpu.specs.Moving.{IsSettled}
 use Rattle.cyc_cpu_laws.specs.Settled.{IsNoFire, IsPutOff}
 use Rattle.cyc_cpu_laws.proofs.Staying.{grows, settled_one, never_put_off}
-use Rattle.cyc_cpus.specs.Cpus.{IsCpu, OfCpu, CallOn, RunningCpus, RunsAt}
+use Rattle.cyc_agreement.specs.Cpus.{IsCpu, OfCpu, CallOn, RunningCpus, RunsAt}
 use Rattle.cyc_cpus_laws.specs.Runs.{calls_on, DoesWithSome}
-use Rattle.cyc_cpus.proofs.Spots.{one_cpu}
+use Rattle.cyc_agreement.proofs.CpuSpots.{one_cpu}
 use Rattle.cyc_cpus_laws.proofs.Quiet.{some_see}
 
 module _ {C R : Type 0} (firing : Raise R)

@@ -1,7 +1,7 @@
 -- What a destination is, whatever way it is found.
 use Rattle.std.specs.Prelude.{◌≡◌, ◌≢◌, ℕ, ◌<◌, ◌≤◌, ◌⊎◌, Option, Some}
-use Rattle.cyc_cpus.specs.Cpus.{CpusView, IsOnline}
-use Rattle.cyc_cpus.specs.Destination.{len_of}
+use Rattle.cyc_agreement.specs.Cpus.{CpusView, IsOnline}
+use Rattle.cyc_agreement.specs.Destination.{len_of}
 
 -- an online CPU other than the source
 abbrev pub IsFit : {R : Type 0} → Option ℕ → ℕ → CpusView R → Type 0

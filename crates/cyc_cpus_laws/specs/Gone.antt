@@ -2,7 +2,7 @@
 use Rattle.std.specs.Prelude.{◌≡◌, ℕ}
 use Rattle.cyc_core.specs.Tables.{Tables}
 use Rattle.cyc_cpu.specs.Gone.{IsGone}
-use Rattle.cyc_cpus.specs.Cpus.{CpusView, OfCpu, RunningCpus}
+use Rattle.cyc_agreement.specs.Cpus.{CpusView, OfCpu, RunningCpus}
 
 -- no CPU has a cyclic of this id, and none of their levels has the id
 abbrev pub IsNowhere : ℕ → CpusView Tables → Type 0

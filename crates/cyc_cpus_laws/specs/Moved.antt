@@ -7,7 +7,7 @@ use Rattle.cyc_level.specs.Level.{count}
 use Rattle.cyc_core.specs.Tables.{Tables, level_of}
 use Rattle.cyc_cpu.specs.Rows.{Cyclic}
 use Rattle.cyc_cpu.specs.Cpu.{CpuView, IsCyclic, SameCpu}
-use Rattle.cyc_cpus.specs.Cpus.{CpusView, IsCpu}
+use Rattle.cyc_agreement.specs.Cpus.{CpusView, IsCpu}
 
 -- a cyclic on its new CPU: it has the same level, interval, next expiration and counts, and has carried the counts in
 abbrev pub carried_over : Cyclic → Cyclic

@@ -7,7 +7,7 @@ use Rattle.cyc_soft.specs.declared.Ran.{Ran}
 use Rattle.cyc_soft.specs.declared.SoftRefused.{SoftRefused}
 use Rattle.cyc_cpu.specs.Cpu.{CpuView, Running, running}
 use Rattle.cyc_cpu.specs.Calls.{CpuCall, Does}
-use Rattle.cyc_cpus.specs.Cpus.{CallOn}
+use Rattle.cyc_agreement.specs.Cpus.{CallOn}
 
 -- the calls that were made on the CPU of this number, in order
 abbrev pub calls_on : ℕ → List CallOn → List CpuCall

@@ -1,8 +1,8 @@
 //! The law of a destination.
 
 ghost use Rattle.std.specs.Prelude.{◌≡◌, ℕ, Option, Some, None};
-ghost use Rattle.cyc_cpus.specs.Cpus.{CpusView};
-ghost use Rattle.cyc_cpus.specs.Destination.{destination};
+ghost use Rattle.cyc_agreement.specs.Cpus.{CpusView};
+ghost use Rattle.cyc_agreement.specs.Destination.{destination};
 ghost use Rattle.cyc_cpus_laws.specs.Destinations.{IsFit, IsDestination};
 
 use cyc_types::Raise;

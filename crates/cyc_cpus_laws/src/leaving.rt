@@ -8,7 +8,7 @@ ghost use Rattle.cyc_cpu.specs.Cpu.{CpuView, HasNoCyclic};
 ghost use Rattle.cyc_cpu.specs.Laws.{IsLawful};
 ghost use Rattle.cyc_cpu.specs.Gone.{IsGone, PutsNot};
 ghost use Rattle.cyc_cpu.specs.Soft.{raise_tables, firing_at, Interrupts};
-ghost use Rattle.cyc_cpus.specs.Cpus.{CallOn, RunningCpus, RunsAt};
+ghost use Rattle.cyc_agreement.specs.Cpus.{CallOn, RunningCpus, RunsAt};
 ghost use Rattle.cyc_cpus_laws.specs.Gone.{IsNowhere, StaysNowhere};
 
 use cyc_types::Calls;

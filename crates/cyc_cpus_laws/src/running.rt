@@ -6,7 +6,7 @@ ghost use Rattle.cyc_core.specs.Tables.{Tables};
 ghost use Rattle.cyc_cpu.specs.Cpu.{CpuView};
 ghost use Rattle.cyc_cpu.specs.Soft.{raise_tables, Interrupts};
 ghost use Rattle.cyc_cpu.specs.Calls.{Changes, no_interrupts};
-ghost use Rattle.cyc_cpus.specs.Cpus.{CpusView, IsCpu, CallOn, Works, RunningCpus, running_cpus, RunsAt};
+ghost use Rattle.cyc_agreement.specs.Cpus.{CpusView, IsCpu, CallOn, Works, RunningCpus, running_cpus, RunsAt};
 ghost use Rattle.cyc_cpus_laws.specs.Runs.{calls_on, DoesWithSome};
 
 use cyc_types::{Calls, Raise};

@@ -8,7 +8,7 @@ ghost use Rattle.cyc_cpu.specs.Calls.{no_interrupts};
 ghost use Rattle.cyc_cpu.specs.Moving.{IsSettled};
 ghost use Rattle.cyc_cpu.specs.Soft.{raise_tables, firing_at, Interrupts};
 ghost use Rattle.cyc_cpu_laws.specs.Settled.{IsNoFire, IsPutOff};
-ghost use Rattle.cyc_cpus.specs.Cpus.{IsCpu, OfCpu, CallOn, RunningCpus, RunsAt};
+ghost use Rattle.cyc_agreement.specs.Cpus.{IsCpu, OfCpu, CallOn, RunningCpus, RunsAt};
 ghost use Rattle.cyc_cpus_laws.specs.Runs.{calls_on};
 
 use cyc_types::{Calls, Raise};

@@ -4,8 +4,8 @@ ghost use Rattle.std.specs.Prelude.{◌≡◌, ◌≢◌, ℕ, Ok, Err};
 ghost use Rattle.cyc_types.specs.declared.refusal.Refusal.{Refusal as Reason};
 ghost use Rattle.cyc_core.specs.Tables.{Tables};
 ghost use Rattle.cyc_cpu.specs.Soft.{raise_tables};
-ghost use Rattle.cyc_cpus.specs.Cpus.{CpusView};
-ghost use Rattle.cyc_cpus.specs.Shifting.{move_of, Shifts};
+ghost use Rattle.cyc_agreement.specs.Cpus.{CpusView};
+ghost use Rattle.cyc_agreement.specs.Shifting.{move_of, Shifts};
 ghost use Rattle.cyc_cpus_laws.specs.Moved.{Moved, OnlyAsked, outstanding};
 
 use cyc_types::Raise;

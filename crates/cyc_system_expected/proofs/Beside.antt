@@ -18,8 +18,8 @@ use Rattle.cyc_cpu.specs.Calls.{CpuCall, Changes as CpuChanges, Place, TakeNow, 
 use Rattle.cyc_cpu.specs.Calls.{AskTotals as CpuAskTotals, AskRoom, Reserve, Widen}
 use Rattle.cyc_places.specs.declared.record.Record.{Record}
 use Rattle.cyc_places.specs.Places.{IsRecord}
-use Rattle.cyc_cpus.specs.Cpus.{CpusView, CallOn, DoesAt}
-use Rattle.cyc_cpus.proofs.Spots.{get_set_other}
+use Rattle.cyc_agreement.specs.Cpus.{CpusView, CallOn, DoesAt}
+use Rattle.cyc_agreement.proofs.CpuSpots.{get_set_other}
 use Rattle.cyc_system_rings.proofs.Lists.{among, any_at, eq_true, true_eq, false_ne}
 use Rattle.cyc_system_rings.proofs.Recording.{found}
 use Rattle.cyc_system_rings.proofs.Removals.{IsSteady, removals_kept}

@@ -23,7 +23,7 @@ use Rattle.cyc_cpu.specs.Calls.{Reserve}
 use Rattle.cyc_places.specs.declared.record.Record.{Record}
 use Rattle.cyc_places.specs.declared.record.Placement.TheVariants as stands
 use Rattle.cyc_places.specs.Places.{is_everywhere, new_record}
-use Rattle.cyc_cpus.specs.Cpus.{on, online_cpus, numbers_from}
+use Rattle.cyc_agreement.specs.Cpus.{on, online_cpus, numbers_from}
 use Rattle.cyc_system_rings.proofs.Lists.{true_eq}
 use Rattle.cyc_system_rings.proofs.Spots.{none_some}
 use Rattle.cyc_system_rings.proofs.Recording.{found, record_none}

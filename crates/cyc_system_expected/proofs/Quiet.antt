@@ -18,8 +18,8 @@ use Rattle.cyc_places.specs.declared.record.Placement.{Placement}
 use Rattle.cyc_places.specs.declared.record.Placement.TheVariants as stands
 use Rattle.cyc_places.specs.declared.record.Record.{Record}
 use Rattle.cyc_places.specs.Places.{IsRecord, is_everywhere}
-use Rattle.cyc_cpus.specs.Cpus.{CpusView, IsCpu, ChangesAt, numbers_from}
-use Rattle.cyc_cpus.proofs.Spots.{get_set_other}
+use Rattle.cyc_agreement.specs.Cpus.{CpusView, IsCpu, ChangesAt, numbers_from}
+use Rattle.cyc_agreement.proofs.CpuSpots.{get_set_other}
 use Rattle.cyc_system_rings.proofs.Lists.{among}
 use Rattle.cyc_system_rings.proofs.Presence.{is_absent, is_removed, has_low}
 use Rattle.cyc_system_rings.proofs.Removals.{no_removal}

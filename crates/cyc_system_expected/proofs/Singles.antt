@@ -18,7 +18,7 @@ use Rattle.cyc_cpu.specs.Calls.{Changes as CpuChanges, Reserve, Reprogram as Cpu
 use Rattle.cyc_places.specs.declared.record.Record.{Record}
 use Rattle.cyc_places.specs.declared.record.Placement.TheVariants as stands
 use Rattle.cyc_places.specs.Places.{is_everywhere, new_record}
-use Rattle.cyc_cpus.specs.Cpus.{IsCpu, on}
+use Rattle.cyc_agreement.specs.Cpus.{IsCpu, on}
 use Rattle.cyc_system_rings.proofs.Lists.{among, eq_true, true_eq}
 use Rattle.cyc_system_rings.proofs.Spots.{none_some}
 use Rattle.cyc_system_rings.proofs.Recording.{found, record_none}

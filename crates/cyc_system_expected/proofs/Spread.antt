@@ -22,8 +22,8 @@ use Rattle.cyc_places.specs.declared.record.Placement.{Placement}
 use Rattle.cyc_places.specs.declared.record.Placement.TheVariants as stands
 use Rattle.cyc_places.specs.declared.record.Record.{Record}
 use Rattle.cyc_places.specs.Places.{is_everywhere, new_record, with_place}
-use Rattle.cyc_cpus.specs.Cpus.{CpusView}
-use Rattle.cyc_cpus.proofs.Spots.{get_set_same, get_set_other, cpu_there}
+use Rattle.cyc_agreement.specs.Cpus.{CpusView}
+use Rattle.cyc_agreement.proofs.CpuSpots.{get_set_same, get_set_other, cpu_there}
 use Rattle.cyc_system_rings.proofs.Lists.{true_eq}
 use Rattle.cyc_system_rings.proofs.Recording.{found, record_none}
 use Rattle.cyc_system_rings.proofs.Removals.{leaving_here}

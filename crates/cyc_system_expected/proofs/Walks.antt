@@ -16,9 +16,9 @@ use Rattle.cyc_places.specs.declared.record.Placement.{Placement}
 use Rattle.cyc_places.specs.declared.record.Placement.TheVariants as stands
 use Rattle.cyc_places.specs.declared.record.Record.{Record}
 use Rattle.cyc_places.specs.Places.{ended_on, no_counts}
-use Rattle.cyc_cpus.specs.Cpus.{CpusView, CallOn, on, DoesAt, Works, online_cpus}
-use Rattle.cyc_cpus.specs.Reserving.{rooms, reserves, ReservesEach}
-use Rattle.cyc_cpus.specs.Shifting.{move_of, WhyNotShifted, moving}
+use Rattle.cyc_agreement.specs.Cpus.{CpusView, CallOn, on, DoesAt, Works, online_cpus}
+use Rattle.cyc_agreement.specs.Reserving.{rooms, reserves, ReservesEach}
+use Rattle.cyc_agreement.specs.Shifting.{move_of, WhyNotShifted, moving}
 use Rattle.cyc_system_rings.proofs.Spots.{none_some}
 use Rattle.cyc_system_rings.specs.System.{SystemView, ids_on, removal_on}
 use Rattle.cyc_system_rings.specs.Adding.{add_request, Adds, entering}

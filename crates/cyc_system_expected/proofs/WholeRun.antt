@@ -17,7 +17,7 @@ use Rattle.cyc_types.specs.declared.refusal.Refusal.TheVariants.{NoCyclic}
 use Rattle.cyc_system_rings.specs.RaiseEnd.{RaiseEnd}
 use Rattle.cyc_system_rings.specs.Ends.{end_view, raise_end}
 use Rattle.cyc_model.specs.State.{Everywhere}
-use Rattle.cyc_cpus.specs.Cpus.{new_cpu, new_cpus}
+use Rattle.cyc_agreement.specs.Cpus.{new_cpu, new_cpus}
 use Rattle.cyc_types.specs.Reasons.{when as if_so}
 use Rattle.cyc_places.specs.declared.record.Record.{Record}
 use Rattle.cyc_system_rings.proofs.Lists.{eq_true, true_eq}

@@ -4,7 +4,7 @@ ghost use Rattle.std.specs.Prelude.{◌≡◌, ℕ, All, List, [], length};
 ghost use Rattle.std.specs.List.{FoldsTo};
 ghost use Rattle.cyc_system_rings.specs.RaiseEnd.{RaiseEnd as AnEnd};
 ghost use Rattle.cyc_system_rings.specs.Ends.{end_view, raise_end};
-ghost use Rattle.cyc_cpus.specs.Cpus.{new_cpus};
+ghost use Rattle.cyc_agreement.specs.Cpus.{new_cpus};
 ghost use Rattle.cyc_expected.specs.Course.{untold, told_by};
 ghost use Rattle.cyc_system_rings.specs.System.{SystemView};
 ghost use Rattle.cyc_system_rings.specs.SystemSide.{SystemSide};

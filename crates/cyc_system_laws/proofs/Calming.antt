@@ -17,8 +17,8 @@ use Rattle.cyc_cpu.specs.Calls.{PollRemove as CpuPoll, TakeNow, AskSettled}
 use Rattle.cyc_cpus_laws.specs.Settled.{IsNoFire}
 use Rattle.cyc_cpus_laws.proofs.Staying.{settled_one}
 use Rattle.cyc_cpus_laws.proofs.Stills.{changes_still}
-use Rattle.cyc_cpus.specs.Cpus.{CpusView, IsCpu, ChangesAt}
-use Rattle.cyc_cpus.proofs.Spots.{one_cpu, cpu_there, cpu_after}
+use Rattle.cyc_agreement.specs.Cpus.{CpusView, IsCpu, ChangesAt}
+use Rattle.cyc_agreement.proofs.CpuSpots.{one_cpu, cpu_there, cpu_after}
 use Rattle.cyc_system.specs.System.{RunningSystem}
 use Rattle.cyc_system.specs.Calls.{SystemCall, Changes, Does, Add, AddOmni, Bind, BeginRemove, PollRemove, AskTotals, Reprogram}
 use Rattle.cyc_system.specs.Calls.{ReprogramOn, Juggle, Offline, Online, FireOne, SoftInterrupt}

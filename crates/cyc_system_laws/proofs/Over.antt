@@ -18,8 +18,8 @@ use Rattle.cyc_cpu.specs.Gone.{PutsNot}
 use Rattle.cyc_cpu.specs.Calls.{CpuCall, Changes as CpuChanges, Does as CpuDoes, Fire}
 use Rattle.cyc_places.specs.declared.record.Record.{Record}
 use Rattle.cyc_places.specs.Places.{IsRecord, HasNoRecord, HasRisingIds, ended_on, summed, with_ended}
-use Rattle.cyc_cpus.specs.Cpus.{CpusView, IsCpu, OfCpu, ChangesAt, with_cpu}
-use Rattle.cyc_cpus.proofs.Spots.{one_cpu, cpu_there, cpu_beside}
+use Rattle.cyc_agreement.specs.Cpus.{CpusView, IsCpu, OfCpu, ChangesAt, with_cpu}
+use Rattle.cyc_agreement.proofs.CpuSpots.{one_cpu, cpu_there, cpu_beside}
 use Rattle.cyc_system.specs.System.{SystemView, RunningSystem}
 use Rattle.cyc_system.specs.Agreement.{Agrees}
 use Rattle.cyc_system.proofs.Lists.{true_eq, false_true}

@@ -19,10 +19,10 @@ use Rattle.cyc_cpu.specs.Moving.{IsSettled}
 use Rattle.cyc_cpu.specs.Calls.{Changes as CpuChanges, no_interrupts, AskPending, AskRoom, Reserve, TakeNow}
 use Rattle.cyc_cpus_laws.specs.Settled.{IsUntil}
 use Rattle.cyc_cpus_laws.proofs.Staying.{settled_one, never_put_off}
-use Rattle.cyc_cpus.specs.Cpus.{CpusView, IsCpu, CallOn, on, ChangesAt, Works, online_cpus}
-use Rattle.cyc_cpus.specs.Reserving.{rooms}
-use Rattle.cyc_cpus.specs.Shifting.{moving}
-use Rattle.cyc_cpus.proofs.Spots.{one_cpu, cpu_there, cpu_after}
+use Rattle.cyc_agreement.specs.Cpus.{CpusView, IsCpu, CallOn, on, ChangesAt, Works, online_cpus}
+use Rattle.cyc_agreement.specs.Reserving.{rooms}
+use Rattle.cyc_agreement.specs.Shifting.{moving}
+use Rattle.cyc_agreement.proofs.CpuSpots.{one_cpu, cpu_there, cpu_after}
 use Rattle.cyc_system.specs.System.{SystemView, removal_on, is_online, is_unknown}
 use Rattle.cyc_system.specs.Refusals.{no_cpu, offline_cpu, no_cyclic, omnipresent}
 use Rattle.cyc_system.specs.Binding.{Binds}

@@ -16,10 +16,10 @@ use Rattle.cyc_cpu.specs.Cpu.{CpuView}
 use Rattle.cyc_cpu.specs.Moving.{IsSettled}
 use Rattle.cyc_cpu.specs.Calls.{AskPending, Reserve}
 use Rattle.cyc_cpus_laws.specs.Settled.{IsUntil}
-use Rattle.cyc_cpus.specs.Cpus.{CpusView, OfCpu, CallOn, on, DoesAt, Works, online_cpus}
-use Rattle.cyc_cpus.specs.Destination.{destination}
-use Rattle.cyc_cpus.specs.Shifting.{moving}
-use Rattle.cyc_cpus.proofs.Spots.{one_cpu}
+use Rattle.cyc_agreement.specs.Cpus.{CpusView, OfCpu, CallOn, on, DoesAt, Works, online_cpus}
+use Rattle.cyc_agreement.specs.Destination.{destination}
+use Rattle.cyc_agreement.specs.Shifting.{moving}
+use Rattle.cyc_agreement.proofs.CpuSpots.{one_cpu}
 use Rattle.cyc_system.specs.System.{SystemView, is_online, removal_on}
 use Rattle.cyc_system.specs.Refusals.{no_cpu, offline_cpu}
 use Rattle.cyc_system.proofs.Spots.{get_some, same_some, none_some}

@@ -7,7 +7,7 @@ use Rattle.cyc_cpu.specs.Laws.{IsLawful}
 use Rattle.cyc_cpu.specs.Soft.{firing_at}
 use Rattle.cyc_cpu.specs.Gone.{IsGone}
 use Rattle.cyc_places.specs.Places.{HasNoRecord}
-use Rattle.cyc_cpus.specs.Cpus.{OfCpu}
+use Rattle.cyc_agreement.specs.Cpus.{OfCpu}
 use Rattle.cyc_system.specs.System.{SystemView, RunningSystem}
 
 -- the id was given, no record has it any more, and no CPU has a cyclic of it

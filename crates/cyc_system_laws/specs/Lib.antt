@@ -5,6 +5,6 @@ pub mod Settling
 pub use Rattle.cyc_cpus_laws.specs.Accounts
 pub use Rattle.cyc_cpus_laws.specs.Cores
 pub use Rattle.cyc_cpus_laws.specs.Settled
-pub use Rattle.cyc_cpus.specs.Cpus
+pub use Rattle.cyc_agreement.specs.Cpus
 pub use Rattle.cyc_cpu.specs.Cpu
 pub use Rattle.cyc_cpu.specs.Calls

@@ -4,7 +4,7 @@ use Rattle.std.specs.List.{FoldsTo}
 use Rattle.cyc_types.specs.declared.Raise.{Ghosts as Raise}
 use Rattle.cyc_cpu.specs.Gone.{PutsNot}
 use Rattle.cyc_places.specs.Places.{HasNoRecord}
-use Rattle.cyc_cpus.specs.Cpus.{CpusView, CallOn, DoesAt}
+use Rattle.cyc_agreement.specs.Cpus.{CpusView, CallOn, DoesAt}
 use Rattle.cyc_system.specs.System.{SystemView}
 
 -- a call on one of the CPUs, or one of them goes online or offline

@@ -7,9 +7,9 @@ use Rattle.cyc_types.specs.declared.refusal.Refusal.{Refusal}
 use Rattle.cyc_cpu.specs.Cpu.{CpuView}
 use Rattle.cyc_cpu.specs.Moving.{IsSettled}
 use Rattle.cyc_cpus_laws.specs.Settled.{IsUntil}
-use Rattle.cyc_cpus.specs.Cpus.{IsCpu, online_cpus}
-use Rattle.cyc_cpus.specs.Destination.{destination}
-use Rattle.cyc_cpus.specs.Reserving.{StandsAfter}
+use Rattle.cyc_agreement.specs.Cpus.{IsCpu, online_cpus}
+use Rattle.cyc_agreement.specs.Destination.{destination}
+use Rattle.cyc_agreement.specs.Reserving.{StandsAfter}
 use Rattle.cyc_system.specs.System.{SystemView, is_online}
 use Rattle.cyc_system.specs.Binding.{HasHome}
 use Rattle.cyc_system.specs.Removing.{cpus_with}

@@ -18,7 +18,7 @@ use Rattle.cyc_cpu.specs.Laws.{IsLawful}
 use Rattle.cyc_cpu.specs.Soft.{raise_tables, firing_at, Interrupts}
 use Rattle.cyc_cpu.specs.Calls.{Fire, AskTotals as CpuAskTotals}
 use Rattle.cyc_system_sums.specs.Accounts.{account_of}
-use Rattle.cyc_cpus.specs.Cpus.{CpusView, IsCpu, numbers_from, Works}
+use Rattle.cyc_agreement.specs.Cpus.{CpusView, IsCpu, numbers_from, Works}
 use Rattle.cyc_system_sums.specs.System.{SystemView, RunningSystem, has, ids_of}
 use Rattle.cyc_system_sums.specs.SystemRemoval.TheVariants as over
 use Rattle.cyc_system_sums.specs.SystemTotals.{SystemTotals}

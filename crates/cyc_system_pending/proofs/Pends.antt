@@ -26,8 +26,8 @@ use Rattle.cyc_system_sums.specs.Accounts.{account_of, lost_of}
 use Rattle.cyc_system_sums.proofs.Accounting.{none_made}
 use Rattle.cyc_system_sums.proofs.Cores.{core_proceeds_one}
 use Rattle.cyc_system_sums.proofs.Stills.{still_raises, changes_still}
-use Rattle.cyc_cpus.specs.Cpus.{CpusView, IsCpu, ChangesAt}
-use Rattle.cyc_cpus.proofs.Spots.{get_set_same, get_set_other}
+use Rattle.cyc_agreement.specs.Cpus.{CpusView, IsCpu, ChangesAt}
+use Rattle.cyc_agreement.proofs.CpuSpots.{get_set_same, get_set_other}
 use Rattle.cyc_system_sums.specs.System.{SystemView, RunningSystem}
 use Rattle.cyc_system_sums.specs.Calls.{SystemCall, Changes, Does, no_fire, Add, AddOmni, Bind, BeginRemove, PollRemove}
 use Rattle.cyc_system_sums.specs.Calls.{AskTotals}

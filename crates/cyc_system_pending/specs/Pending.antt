@@ -10,7 +10,7 @@ use Rattle.cyc_timers.specs.declared.fire.FireRefused.{FireRefused}
 use Rattle.cyc_cpu.specs.Cpu.{CpuView}
 use Rattle.cyc_cpu.specs.Calls.{Fire}
 use Rattle.cyc_system_sums.specs.Accounts.{Account, account_of}
-use Rattle.cyc_cpus.specs.Cpus.{CpusView}
+use Rattle.cyc_agreement.specs.Cpus.{CpusView}
 use Rattle.cyc_system_sums.specs.System.{SystemView}
 use Rattle.cyc_system_sums.specs.Calls.{SystemCall, FireOne, SoftInterrupt}
 

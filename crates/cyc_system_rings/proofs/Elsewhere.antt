@@ -29,8 +29,8 @@ use Rattle.cyc_places.specs.declared.record.Placement.{Placement}
 use Rattle.cyc_places.specs.declared.record.Placement.TheVariants as stands
 use Rattle.cyc_places.specs.declared.record.Record.{Record}
 use Rattle.cyc_places.specs.Places.{IsRecord, HasRisingIds, HasNoRecord, ended_on}
-use Rattle.cyc_cpus.specs.Cpus.{CpusView, CallOn, DoesAt, on, online_cpus}
-use Rattle.cyc_cpus.specs.Shifting.{moving}
+use Rattle.cyc_agreement.specs.Cpus.{CpusView, CallOn, DoesAt, on, online_cpus}
+use Rattle.cyc_agreement.specs.Shifting.{moving}
 use Rattle.cyc_system_counts.specs.System.{SystemView, ids_on}
 use Rattle.cyc_system_counts.specs.SystemRemoval.{SystemRemoval}
 use Rattle.cyc_system_counts.specs.SystemRemoval.TheVariants as over

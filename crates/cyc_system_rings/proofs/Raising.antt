@@ -13,7 +13,7 @@ use Rattle.cyc_types.specs.declared.level.Soft.TheVariants.{Low, Lock}
 use Rattle.cyc_cpu.specs.Cpu.{CpuView}
 use Rattle.cyc_cpu.specs.Calls.{CpuCall, Changes as CpuChanges, AskSettled}
 use Rattle.cyc_system_laws.proofs.Stills.{still_raises, changes_still}
-use Rattle.cyc_cpus.specs.Cpus.{CpusView}
+use Rattle.cyc_agreement.specs.Cpus.{CpusView}
 use Rattle.cyc_system_workers.specs.WorkersSettling.{Asks}
 use Rattle.cyc_system_workers.specs.Settled.{AllAsked}
 use Rattle.cyc_system_counts.specs.System.{SystemView}

@@ -1,6 +1,6 @@
 -- A system before its first call.
 use Rattle.std.specs.Prelude.{◌≡◌, ℕ, []}
-use Rattle.cyc_cpus.specs.Cpus.{OfCpu}
+use Rattle.cyc_agreement.specs.Cpus.{OfCpu}
 use Rattle.cyc_system_counts.specs.System.{SystemView}
 
 -- no CPU has a cyclic, there is no record, and no id was given

@@ -15,7 +15,7 @@ use Rattle.cyc_ring.specs.Books.{closed_made}
 use Rattle.cyc_timers.specs.Rows.{no_counts}
 use Rattle.cyc_timers.specs.Acts.{same_level}
 use Rattle.cyc_cpu.specs.Cpu.{CpuView}
-use Rattle.cyc_cpus.specs.Cpus.{OfCpu}
+use Rattle.cyc_agreement.specs.Cpus.{OfCpu}
 use Rattle.cyc_system_workers.specs.Serving.{HasServed}
 use Rattle.cyc_system_counts.specs.System.{SystemView}
 use Rattle.cyc_system_counts.specs.Calls.{Add, AddOmni}

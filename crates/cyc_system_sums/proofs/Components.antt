@@ -14,9 +14,9 @@ use Rattle.cyc_types.specs.declared.refusal.Refusal.{Refusal}
 use Rattle.cyc_timers.specs.Rows.{Cyclic}
 use Rattle.cyc_cpu.specs.Cpu.{CpuView, cyclic_with}
 use Rattle.cyc_cpu.specs.Calls.{CpuCall, Changes as CpuChanges, Place, TakeNow, AskPending, Reserve, Widen}
-use Rattle.cyc_cpus.specs.Cpus.{CpusView, CallOn, on, DoesAt, Works}
-use Rattle.cyc_cpus.specs.Shifting.{moving}
-use Rattle.cyc_cpus.proofs.Spots.{get_set_other}
+use Rattle.cyc_agreement.specs.Cpus.{CpusView, CallOn, on, DoesAt, Works}
+use Rattle.cyc_agreement.specs.Shifting.{moving}
+use Rattle.cyc_agreement.proofs.CpuSpots.{get_set_other}
 use Rattle.cyc_agreement.specs.Juggling.{TakesTurn, Turns, single_ids}
 use Rattle.cyc_agreement.specs.GoingOffline.{quiet, Retires, Leaves}
 use Rattle.cyc_agreement.specs.declared.turning.Turn.{Turn}

@@ -15,7 +15,7 @@ use Rattle.cyc_soft.specs.declared.SoftRefused.{SoftRefused}
 use Rattle.cyc_timers.specs.Rows.{Cyclic}
 use Rattle.cyc_cpu.specs.Cpu.{CpuView, Running}
 use Rattle.cyc_places.specs.declared.record.Record.{Record}
-use Rattle.cyc_cpus.specs.Cpus.{IsCpu}
+use Rattle.cyc_agreement.specs.Cpus.{IsCpu}
 use Rattle.cyc_system_counts.specs.System.{SystemView, RunningSystem, has, ids_of}
 use Rattle.cyc_system_counts.proofs.Lists.{among}
 use Rattle.cyc_system_counts.proofs.Recording.{found, record_none}

@@ -16,7 +16,7 @@ use Rattle.cyc_timers.specs.declared.fire.FireRefused.{FireRefused}
 use Rattle.cyc_cpu.specs.Cpu.{CpuView, Running, running}
 use Rattle.cyc_cpu.specs.Calls.{Does as CpuDoes, Fire}
 use Rattle.cyc_cpu.specs.declared.moving.Taken.{Taken}
-use Rattle.cyc_cpus.specs.Cpus.{ChangesAt}
+use Rattle.cyc_agreement.specs.Cpus.{ChangesAt}
 use Rattle.cyc_system_counts.specs.SoftFault.{SoftFault}
 use Rattle.cyc_system_counts.specs.System.{SystemView, RunningSystem}
 use Rattle.cyc_system_counts.specs.Calls.{Does, FireOne, SoftInterrupt}

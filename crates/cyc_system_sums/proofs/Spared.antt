@@ -28,8 +28,8 @@ use Rattle.cyc_system_laws.specs.Accounts.{KeepsLimits}
 use Rattle.cyc_system_laws.proofs.Stills.{changes_still}
 use Rattle.cyc_system_laws.proofs.Ways.{passes_ceiling}
 use Rattle.cyc_system_laws.proofs.Accounting.{proceeds_one}
-use Rattle.cyc_cpus.specs.Cpus.{CpusView, IsCpu, ChangesAt}
-use Rattle.cyc_cpus.proofs.Spots.{one_cpu, cpu_there, cpu_stays}
+use Rattle.cyc_agreement.specs.Cpus.{CpusView, IsCpu, ChangesAt}
+use Rattle.cyc_agreement.proofs.CpuSpots.{one_cpu, cpu_there, cpu_stays}
 use Rattle.cyc_system_counts.specs.System.{RunningSystem}
 use Rattle.cyc_system_counts.proofs.Lists.{eq_true, true_eq}
 use Rattle.cyc_system_counts.proofs.Spots.{same_some, none_some}

@@ -24,7 +24,7 @@ use Rattle.cyc_system_laws.specs.Accounts.{account_of, Proceeds, expired_of, los
 use Rattle.cyc_system_laws.proofs.Accounting.{proceeds_one, none_made}
 use Rattle.cyc_system_laws.proofs.Fires.{fired_lost}
 use Rattle.cyc_system_laws.proofs.Ways.{passes_few}
-use Rattle.cyc_cpus.specs.Cpus.{ChangesAt}
+use Rattle.cyc_agreement.specs.Cpus.{ChangesAt}
 use Rattle.cyc_system_counts.specs.System.{SystemView, RunningSystem}
 use Rattle.cyc_system_counts.proofs.Recording.{found}
 use Rattle.cyc_system_counts.specs.Counts.{all_expired, all_lost}

@@ -1,7 +1,7 @@
 -- Where no expiration can be lost.
 use Rattle.std.specs.Prelude.{ℕ, ◌≤◌}
 use Rattle.cyc_types.specs.Firing.{FiringView}
-use Rattle.cyc_cpus.specs.Cpus.{OfCpu}
+use Rattle.cyc_agreement.specs.Cpus.{OfCpu}
 use Rattle.cyc_system_counts.specs.System.{SystemView}
 
 -- so many expirations are at most the ceiling of each soft level of each CPU

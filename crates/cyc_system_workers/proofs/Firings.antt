@@ -13,7 +13,7 @@ use Rattle.cyc_timers.specs.declared.fire.FireRefused.{FireRefused}
 use Rattle.cyc_types.specs.Reasons.{first_refusal, when}
 use Rattle.cyc_cpu.specs.Cpu.{CpuView, Running, running}
 use Rattle.cyc_cpu.specs.Calls.{Does, Fire, no_interrupts}
-use Rattle.cyc_cpus.specs.Cpus.{numbers_from}
+use Rattle.cyc_agreement.specs.Cpus.{numbers_from}
 use Rattle.cyc_places.specs.declared.record.Record.{Record}
 use Rattle.cyc_system.specs.Agreement.{Agrees}
 use Rattle.cyc_system.specs.System.{SystemView}

@@ -6,7 +6,7 @@ use Rattle.cyc_types.specs.declared.Raise.{Ghosts as Raise}
 use Rattle.cyc_timers.specs.declared.fire.Fired.{Fired}
 use Rattle.cyc_timers.specs.declared.fire.FireRefused.{FireRefused}
 use Rattle.cyc_cpu.specs.Calls.{no_interrupts}
-use Rattle.cyc_cpus.specs.Cpus.{online_cpus}
+use Rattle.cyc_agreement.specs.Cpus.{online_cpus}
 use Rattle.cyc_system.specs.System.{SystemView, running_system}
 use Rattle.cyc_system.specs.Calls.{Does, FireOne}
 use Rattle.cyc_workers.specs.declared.settling.Lead.{Lead}

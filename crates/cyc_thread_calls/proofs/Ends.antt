@@ -13,7 +13,7 @@ use Rattle.cyc_threads.proofs.Spots.{same_some, none_some, get_some}
 use Rattle.cyc_cpu.specs.Cpu.{CpuView, Running, running}
 use Rattle.cyc_cpu.specs.Calls.{CpuCall, Changes as CpuChanges, Does, Fire, AskSettled, no_interrupts}
 use Rattle.cyc_threads.proofs.Stills.{changes_still}
-use Rattle.cyc_cpus.specs.Cpus.{CpusView}
+use Rattle.cyc_agreement.specs.Cpus.{CpusView}
 use Rattle.cyc_threads.specs.Settling.{Asks}
 use Rattle.cyc_threads.specs.Settled.{AllAsked}
 use Rattle.cyc_threads.specs.System.{SystemView}

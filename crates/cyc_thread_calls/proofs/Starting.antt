@@ -17,7 +17,7 @@ use Rattle.cyc_threads.proofs.Beginning.{agrees_new}
 use Rattle.cyc_threads.proofs.Spots.{same_some, none_some}
 use Rattle.cyc_cpu.specs.Cpu.{CpuView, AreAdmitted}
 use Rattle.cyc_cpu.specs.Laws.{IsLawful}
-use Rattle.cyc_cpus.specs.Cpus.{CpusView, IsCpu, new_cpu, new_cpus}
+use Rattle.cyc_agreement.specs.Cpus.{CpusView, IsCpu, new_cpu, new_cpus}
 use Rattle.cyc_threads.specs.System.{SystemView}
 use Rattle.cyc_threads.specs.Agreement.{Agrees}
 use Rattle.cyc_threads.specs.Sound.{IsSound}

@@ -8,7 +8,7 @@ use Rattle.cyc_types.specs.declared.Raise.{Ghosts as Raise}
 use Rattle.cyc_threads.proofs.Lists.{among}
 use Rattle.cyc_threads.proofs.Recording.{record_here}
 use Rattle.cyc_threads.proofs.Spots.{none_some}
-use Rattle.cyc_cpus.specs.Cpus.{IsCpu}
+use Rattle.cyc_agreement.specs.Cpus.{IsCpu}
 use Rattle.cyc_cpu.specs.Cpu.{CpuView}
 use Rattle.cyc_timers.specs.Rows.{Cyclic}
 use Rattle.cyc_types.specs.declared.firing.Sent.{Sent}

@@ -6,7 +6,7 @@ use Rattle.std.proofs.lemmas.List.{length-map}
 use Rattle.cyc_types.specs.declared.Calls.{Ghosts as Calls}
 use Rattle.cyc_ring.specs.declared.ends.RaiseEnd.{RaiseEnd}
 use Rattle.cyc_ring.specs.Ends.{raise_end, end_view}
-use Rattle.cyc_cpus.specs.Cpus.{CpusView, new_cpu}
+use Rattle.cyc_agreement.specs.Cpus.{CpusView, new_cpu}
 use Rattle.cyc_script.specs.declared.script.Script.{Script}
 use Rattle.cyc_expected.specs.Expected.{Met, expected}
 use Rattle.cyc_thread_calls.specs.Sound.{IsSound}

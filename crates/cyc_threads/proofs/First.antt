@@ -2,7 +2,7 @@
 use Rattle.std.proofs.Common.{◌≡◌, ℕ, List, [], ap, sym, subst, ◌∙◌, length}
 use Rattle.std.proofs.lemmas.List.{length-map}
 use Rattle.cyc_types.specs.Firing.{FiringView}
-use Rattle.cyc_cpus.specs.Cpus.{CpusView, new_cpu, new_cpus}
+use Rattle.cyc_agreement.specs.Cpus.{CpusView, new_cpu, new_cpus}
 use Rattle.cyc_thread_steps.specs.Sound.{IsSound}
 use Rattle.cyc_thread_steps.specs.System.{SystemView}
 use Rattle.cyc_thread_steps.specs.SystemSide.{SystemSide}

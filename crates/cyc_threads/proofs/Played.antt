@@ -10,7 +10,7 @@ use Rattle.cyc_ring.specs.declared.ends.DrainEnd.{DrainEnd}
 use Rattle.cyc_ring.specs.Ends.{raise_end, end_view, drain_end}
 use Rattle.cyc_cpu.specs.Cpu.{IsFresh}
 use Rattle.cyc_workers.specs.declared.settling.Lead.{Lead}
-use Rattle.cyc_cpus.specs.Cpus.{CpusView, new_cpus}
+use Rattle.cyc_agreement.specs.Cpus.{CpusView, new_cpus}
 use Rattle.cyc_script.specs.declared.script.Script.{Script}
 use Rattle.cyc_seats.specs.Seats.{HaveSameSeats}
 use Rattle.cyc_seats.proofs.Keeping.{then_all, same_long}

@@ -13,7 +13,7 @@ use Rattle.cyc_ring.specs.declared.ends.DrainEnd.{DrainEnd}
 use Rattle.cyc_ring.specs.Views.{firing_view}
 use Rattle.cyc_ring.specs.Ends.{end_view, seat_made, drain_end, raise_trail, drain_trail}
 use Rattle.cyc_cpu.specs.Cpu.{CpuView, IsFresh}
-use Rattle.cyc_cpus.specs.Cpus.{new_cpu}
+use Rattle.cyc_agreement.specs.Cpus.{new_cpu}
 use Rattle.cyc_soft.specs.declared.SoftSide.{SoftSide}
 use Rattle.cyc_workers.specs.Serving.{HasServed}
 use Rattle.cyc_workers.proofs.Seating.{serves_seat, drains_same, raise_seat_of, drain_seat_of}

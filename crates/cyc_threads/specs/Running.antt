@@ -7,7 +7,7 @@ use Rattle.cyc_types.specs.declared.level.Level.TheVariants.{Low, Lock}
 use Rattle.cyc_ring.specs.declared.ends.RaiseEnd.{RaiseEnd}
 use Rattle.cyc_ring.specs.declared.closed.Closed.{Closed}
 use Rattle.cyc_ring.specs.Ends.{raise_end, seat_made}
-use Rattle.cyc_cpus.specs.Cpus.{new_cpus}
+use Rattle.cyc_agreement.specs.Cpus.{new_cpus}
 use Rattle.cyc_script.specs.declared.script.Script.{Script}
 use Rattle.cyc_workers.specs.Serving.{HasServed}
 use Rattle.cyc_thread_rings.specs.declared.levels.Levels.{Levels}

@@ -3,7 +3,7 @@
 ghost use Rattle.std.specs.Prelude.{◌≡◌, ◌<◌, ◌≤◌, [], All, map, length, replicate, IfOk, IfErr};
 ghost use Rattle.cyc_types.specs.declared.refusal.Refusal.TheVariants.{Memory};
 ghost use Rattle.cyc_cpu.specs.Cpu.{IsFresh};
-ghost use Rattle.cyc_cpus.specs.Cpus.{new_cpus};
+ghost use Rattle.cyc_agreement.specs.Cpus.{new_cpus};
 ghost use Rattle.cyc_thread_steps.specs.Sound.{IsSound};
 ghost use Rattle.cyc_thread_steps.specs.Calls.{IsReady};
 ghost use Rattle.cyc_thread_steps.specs.declared.named.Named.TheVariants.{Nothing};

@@ -1,5 +1,5 @@
 use Rattle.std.proofs.Common.{refl}
-use Rattle.cyc_cpus.proofs.Spots.{changed}
+use Rattle.cyc_agreement.proofs.CpuSpots.{changed}
 use Rattle.cyc_agreement.proofs.adding.enter.Goals as goal
 
 pub returns : goal.returns

@@ -1,6 +1,6 @@
 use Rattle.std.proofs.Common.{◌+◌, length, Some, sym, ap, ◌∙◌, subst, arith}
 use Rattle.cyc_types.specs.declared.moment.When.{When}
-use Rattle.cyc_cpus.specs.Cpus.{Works}
+use Rattle.cyc_agreement.specs.Cpus.{Works}
 use Rattle.cyc_agreement.specs.Adding.{entering}
 use Rattle.cyc_agreement.proofs.Entries.{Entries, entries_start, entries_one, entries_none, entries_done}
 use Rattle.cyc_agreement.proofs.adding.enter_each.Goals as goal

@@ -1,9 +1,9 @@
 use Rattle.std.proofs.Common.{◌+◌, ◌≤◌, arith, Ok, refl, sym, ap, ◌∙◌, subst}
-use Rattle.cyc_cpus.specs.CpuRemoval.TheVariants.{Done, Kept}
+use Rattle.cyc_cpu.specs.declared.removing.Removal.TheVariants.{Done, Kept}
 use Rattle.cyc_types.specs.declared.firing.Sent.{Sent}
-use Rattle.cyc_cpus.specs.Cpu.{CpuView}
-use Rattle.cyc_cpus.specs.Calls.{Changes, BeginRemove}
-use Rattle.cyc_cpus.proofs.Spots.{changed, one_cpu}
+use Rattle.cyc_cpu.specs.Cpu.{CpuView}
+use Rattle.cyc_cpu.specs.Calls.{Changes, BeginRemove}
+use Rattle.cyc_agreement.proofs.CpuSpots.{changed, one_cpu}
 use Rattle.cyc_agreement.proofs.Presence.{cyclic_here}
 use Rattle.cyc_agreement.specs.Removing.{counts_of}
 use Rattle.cyc_places.specs.Places.{ended_on, summed}

@@ -1,8 +1,8 @@
 use Rattle.std.proofs.Common.{◌+◌, ◌≤◌, arith, Some, None, refl, sym, ap, ◌∙◌, subst}
 use Rattle.cyc_types.specs.declared.firing.Sent.{Sent}
-use Rattle.cyc_cpus.specs.Cpu.{CpuView}
-use Rattle.cyc_cpus.specs.Calls.{Changes, PollRemove}
-use Rattle.cyc_cpus.proofs.Spots.{changed, one_cpu}
+use Rattle.cyc_cpu.specs.Cpu.{CpuView}
+use Rattle.cyc_cpu.specs.Calls.{Changes, PollRemove}
+use Rattle.cyc_agreement.proofs.CpuSpots.{changed, one_cpu}
 use Rattle.cyc_agreement.specs.Removing.{counts_of}
 use Rattle.cyc_places.specs.Places.{ended_on, summed}
 use Rattle.cyc_agreement.proofs.One.{polled, less_ended, ended_fits, removal_there, is_none, open_here}

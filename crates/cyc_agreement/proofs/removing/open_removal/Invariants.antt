@@ -1,7 +1,7 @@
 use Rattle.std.proofs.Common.{◌≡◌, ℕ, ◌<◌, ◌==◌, true, None, map, drop}
 use Rattle.std.specs.List.{list_any}
 use Rattle.cyc_types.specs.Reasons.{first_refusal, busy}
-use Rattle.cyc_cpus.specs.Cpus.{numbers_from}
+use Rattle.cyc_agreement.specs.Cpus.{numbers_from}
 use Rattle.cyc_agreement.specs.System.{has, removal_on, ids_of}
 use Rattle.cyc_agreement.specs.Removing.{cpus_with}
 use Rattle.cyc_agreement.proofs.removing.open_removal.Given as goal

@@ -1,5 +1,5 @@
 use Rattle.std.proofs.Common.{length, sym, ap, ◌∙◌, arith}
-use Rattle.cyc_cpus.proofs.Shifts.{found_some, found_none}
+use Rattle.cyc_agreement.proofs.Shifts.{found_some, found_none}
 use Rattle.cyc_agreement.proofs.AskingEach.{asked_more, finds}
 use Rattle.cyc_agreement.proofs.Places.{length_is, id_there, cyclic_of}
 use Rattle.cyc_agreement.proofs.retiring.any_pending.Goals as goal

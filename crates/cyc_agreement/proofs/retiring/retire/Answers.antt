@@ -2,13 +2,13 @@ use Rattle.std.proofs.Common.{◌≡◌, refl, sym, ap, ◌∙◌}
 use Rattle.std.specs.List.{slice_get}
 use Rattle.cyc_places.specs.declared.record.Record.{Record}
 use Rattle.cyc_places.specs.Places.{ended_on}
-use Rattle.cyc_cpus.specs.Cpus.{with_cpu}
+use Rattle.cyc_agreement.specs.Cpus.{with_cpu}
 use Rattle.cyc_agreement.proofs.Recording.{one_record}
 use Rattle.cyc_agreement.proofs.Spots.{same_some}
 use Rattle.cyc_agreement.proofs.Within.{within_taken}
 use Rattle.std.proofs.lemmas.Option.{slice_get_within}
-use Rattle.cyc_cpus.proofs.Shifts.{is_taken}
-use Rattle.cyc_cpus.proofs.Spots.{changed}
+use Rattle.cyc_agreement.proofs.Shifts.{is_taken}
+use Rattle.cyc_agreement.proofs.CpuSpots.{changed}
 use Rattle.cyc_agreement.proofs.retiring.retire.Goals as goal
 
 pub unreachable-requires-in_default-take_now : goal.unreachable-requires-in_default-take_now

@@ -1,5 +1,5 @@
 use Rattle.std.proofs.Common.{◌<◌, ◌≤◌, ◌+◌, sym, ap, ◌∙◌, subst, arith}
-use Rattle.cyc_cpus.specs.Cpus.{CpusView}
+use Rattle.cyc_agreement.specs.Cpus.{CpusView}
 use Rattle.cyc_agreement.proofs.Spots.{get_some}
 use Rattle.cyc_agreement.proofs.Bringing.{Bringing, bringing_start, bringing_more, bringing_same, bringing_done, so_far, many}
 use Rattle.cyc_agreement.proofs.Bringing.{old_at, now_at, still_staying, may_come}

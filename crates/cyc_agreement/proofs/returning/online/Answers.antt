@@ -1,9 +1,9 @@
 use Rattle.std.proofs.Common.{◌≡◌, ◌≤◌, false, Some, Err, [], length, filter, refl, ap, ◌∙◌, subst, arith}
 use Rattle.std.specs.Option.{option_map}
 use Rattle.std.proofs.lemmas.Result.{err_from_is_err_and}
-use Rattle.cyc_cpus.specs.Cpu.{CpuView, MayWiden}
-use Rattle.cyc_cpus.specs.Cpus.{with_cpu}
-use Rattle.cyc_cpus.proofs.Spots.{one_cpu, cpu_there, of_cpu}
+use Rattle.cyc_cpu.specs.Cpu.{CpuView, MayWiden}
+use Rattle.cyc_agreement.specs.Cpus.{with_cpu}
+use Rattle.cyc_agreement.proofs.CpuSpots.{one_cpu, cpu_there, of_cpu}
 use Rattle.cyc_agreement.proofs.Presence.{online_read}
 use Rattle.cyc_agreement.proofs.FirstReason.{not_never}
 use Rattle.cyc_places.specs.Places.{ended_on}

@@ -1,6 +1,6 @@
 use Rattle.std.proofs.Common.{◌+◌, sym, ap, ◌∙◌, subst, arith}
-use Rattle.cyc_cpus.specs.Calls.{Changes, AskTotals}
-use Rattle.cyc_cpus.specs.Cpus.{with_cpu}
+use Rattle.cyc_cpu.specs.Calls.{Changes, AskTotals}
+use Rattle.cyc_agreement.specs.Cpus.{with_cpu}
 use Rattle.cyc_agreement.proofs.Holding.{holds_same}
 use Rattle.cyc_agreement.specs.declared.totals.SystemTotals.{SystemTotals}
 use Rattle.cyc_agreement.specs.Leaving.{system}

@@ -1,6 +1,6 @@
 use Rattle.cyc_types.proofs.Runs.{folds_on}
 use Rattle.cyc_cpu.specs.Calls.{Changes}
-use Rattle.cyc_cpus.specs.Cpus.{DoesAt}
+use Rattle.cyc_agreement.specs.Cpus.{DoesAt}
 use Rattle.cyc_cpus_laws.proofs.Seen.{sees, stays_beside, same_online}
 use Rattle.cyc_cpus_laws.proofs.running.calls_law.Goals as goal
 

@@ -1,6 +1,6 @@
 use Rattle.std.proofs.Common.{[], sym, subst, arith, rules}
 use Rattle.cyc_system_workers.specs.Starting.{Beside, Owes}
-use Rattle.cyc_cpus.proofs.Given.{given_all, given_many, given_none}
+use Rattle.cyc_agreement.proofs.GivenEach.{given_all, given_many, given_none}
 use Rattle.cyc_system_workers.proofs.Beside.{beside_none, beside_pushed, begun_few}
 use Rattle.cyc_system_workers.proofs.firing.start_all.Goals as goal
 

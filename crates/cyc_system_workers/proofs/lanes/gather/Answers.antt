@@ -2,7 +2,7 @@ use Rattle.std.proofs.Common.{◌<◌, ◌≤◌, ◌++◌, ◌∙◌, List, map
 use Rattle.std.specs.Vec.Iter.{into_iter_items}
 use Rattle.std.proofs.lemmas.List.{take_all}
 use Rattle.cyc_system_workers.specs.declared.lanes.Lane.{Lane}
-use Rattle.cyc_cpus.proofs.Given.{given_all, given_many, given_none}
+use Rattle.cyc_agreement.proofs.GivenEach.{given_all, given_many, given_none}
 use Rattle.cyc_system_workers.proofs.Beside.{map_pushed, take_pushed, take_none}
 use Rattle.cyc_system_workers.proofs.Beside.{place_taken, place_left, places_free, places_full, both_full}
 use Rattle.cyc_system_workers.proofs.lanes.gather.Goals as goal

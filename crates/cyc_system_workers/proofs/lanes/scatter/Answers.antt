@@ -1,6 +1,6 @@
 use Rattle.std.proofs.Common.{◌≡◌, map, refl, subst, arith}
 use Rattle.cyc_system_workers.specs.declared.lanes.LaneAfter.{LaneAfter}
-use Rattle.cyc_cpus.proofs.Given.{given_all, given_many, given_none, made_more}
+use Rattle.cyc_agreement.proofs.GivenEach.{given_all, given_many, given_none, made_more}
 use Rattle.cyc_system_workers.proofs.lanes.scatter.Goals as goal
 
 pub loop-lane-preserved : goal.loop-lane-preserved
