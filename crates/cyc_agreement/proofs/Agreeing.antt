@@ -17,7 +17,7 @@ use Rattle.cyc_agreement.proofs.Lists.{false_true}
 use Rattle.cyc_agreement.proofs.Recording.{one_record}
 use Rattle.cyc_agreement.proofs.Given.{online_same}
 use Rattle.cyc_agreement.specs.Holding.{LeaveWhole, EndedWithin, Holds}
-use Rattle.cyc_agreement.specs.Leaving.{system, Owns, Withdraws}
+use Rattle.cyc_agreement.specs.Withdrawing.{system, Owns, Withdraws}
 use Rattle.cyc_agreement.proofs.Removed.{either, stands_still, left_one, other_left}
 use Rattle.cyc_agreement.proofs.Withdrawing.{now_here}
 

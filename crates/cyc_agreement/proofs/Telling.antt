@@ -15,7 +15,7 @@ use Rattle.cyc_agreement.proofs.FirstReason.{not_when, is_when, passes, stops}
 use Rattle.cyc_agreement.specs.Removing.{BeginsRemoval, BeginsEach, Begun, Answers, unknown_cyclic, busy_on_each, cpus_with}
 use Rattle.cyc_agreement.specs.Removing.{kept_in}
 use Rattle.cyc_agreement.specs.Polling.{PollsRemoval, PollsEach, Polled, not_leaving, leaving_cpus}
-use Rattle.cyc_agreement.specs.Leaving.{system, Owns, Withdraws}
+use Rattle.cyc_agreement.specs.Withdrawing.{system, Owns, Withdraws}
 use Rattle.cyc_agreement.specs.declared.removing.SystemRemoval.TheVariants as removal
 use Rattle.cyc_agreement.proofs.Withdrawing.{now_here}
 use Rattle.cyc_agreement.proofs.Where.{nowhere, somewhere}

@@ -21,7 +21,7 @@ use Rattle.cyc_agreement.proofs.Lists.{among}
 use Rattle.cyc_agreement.proofs.Presence.{has_low}
 use Rattle.cyc_agreement.specs.Removing.{Begun, BeginsOn, kept_in}
 use Rattle.cyc_agreement.specs.Polling.{Polled, PollsOn}
-use Rattle.cyc_agreement.specs.Leaving.{system, Withdraws, WithdrawsAt}
+use Rattle.cyc_agreement.specs.Withdrawing.{system, Withdraws, WithdrawsAt}
 use Rattle.cyc_agreement.proofs.Withdrawing.{withdraws_none, withdraws_then}
 
 -- the numbers from one on, where its test is known

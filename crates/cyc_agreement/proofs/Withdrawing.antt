@@ -17,7 +17,7 @@ use Rattle.cyc_agreement.specs.System.{ids_of, has}
 use Rattle.cyc_agreement.specs.Agreement.{most_on}
 use Rattle.cyc_agreement.proofs.Spots.{same_some, none_some}
 use Rattle.cyc_agreement.proofs.Lists.{among, false_true}
-use Rattle.cyc_agreement.specs.Leaving.{Owns, Withdraws, WithdrawsAt}
+use Rattle.cyc_agreement.specs.Withdrawing.{Owns, Withdraws, WithdrawsAt}
 use Rattle.cyc_agreement.proofs.One.{LeavesCpu}
 
 -- ---- lists

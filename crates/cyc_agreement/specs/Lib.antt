@@ -12,7 +12,7 @@ pub mod Binding
 pub mod Removing
 pub mod Polling
 pub mod Counting
-pub mod Leaving
+pub mod Withdrawing
 pub mod RemovalLaws
 pub mod Counts
 pub mod Juggling

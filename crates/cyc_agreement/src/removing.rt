@@ -11,11 +11,11 @@ ghost use Rattle.cyc_agreement.specs.System.{has, removal_on};
 ghost use Rattle.cyc_agreement.specs.Holding.{Holds};
 ghost use Rattle.cyc_agreement.specs.Removing.{Begun, BeginsEach, BeginsRemoval, busy_on_each, cpus_with, kept_in};
 ghost use Rattle.cyc_agreement.specs.Polling.{Polled, PollsEach, PollsRemoval, leaving_cpus};
-ghost use Rattle.cyc_agreement.specs.Leaving.{system, Owns, Withdraws};
+ghost use Rattle.cyc_agreement.specs.Withdrawing.{system, Owns, Withdraws};
 
 use crate::cpus::Cpus;
 use crate::finding::{is_leaving, is_leaving_at};
-use crate::leaving::{begin_at, poll_at};
+use crate::removing_at::{begin_at, poll_at};
 use cyc_places::Records;
 use cyc_types::{CyclicId, Raise, Receipt, Refusal};
 

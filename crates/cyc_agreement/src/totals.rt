@@ -6,7 +6,7 @@ ghost use Rattle.cyc_places.specs.declared.record.Record.{Record};
 ghost use Rattle.cyc_agreement.specs.Holding.{Holds};
 ghost use Rattle.cyc_agreement.specs.Removing.{cpus_with};
 ghost use Rattle.cyc_agreement.specs.Counting.{Counted, asked, GoingOn, AsksTotals};
-ghost use Rattle.cyc_agreement.specs.Leaving.{system};
+ghost use Rattle.cyc_agreement.specs.Withdrawing.{system};
 
 use crate::cpus::Cpus;
 use cyc_places::Records;

@@ -16,7 +16,7 @@ use Rattle.cyc_cpu.specs.Calls.{CpuCall, Changes, Does, no_interrupts, Fire, Sof
 use Rattle.cyc_cpu.specs.Calls.{AskTotals, AskRoom, Reserve, Widen, BeginRemove, PollRemove, TakeNow, AskSettled}
 use Rattle.cyc_cpu_laws.specs.Runs.{Steps}
 use Rattle.cyc_cpu_laws.specs.Accounts.{made_by}
-use Rattle.cyc_cpu_laws.specs.Leaving.{StaysOff}
+use Rattle.cyc_cpu_laws.specs.Absence.{StaysOff}
 use Rattle.cyc_cpu_laws.proofs.Shifts.{changes_shift, shift_away}
 use Rattle.cyc_cpu_laws.proofs.Fires.{no_share, no_cyclic, fired_away}
 use Rattle.cyc_cpu_laws.proofs.Accounting.{proceeds_one}

@@ -3,7 +3,7 @@ pub mod Passing
 pub mod Accounts
 pub mod Cores
 pub mod Settled
-pub mod Leaving
+pub mod Absence
 pub mod Receipts
 pub use Rattle.cyc_cpu.specs.Cpu
 pub use Rattle.cyc_cpu.specs.Calls

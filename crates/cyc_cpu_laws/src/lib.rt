@@ -5,15 +5,15 @@
 //! nothing when they run. Their clauses are the laws, so that they are proved.
 #![tactic(auto)]
 
+mod absence;
 mod accounts;
-mod leaving;
 mod passing;
 mod receipts;
 mod settling;
 
+pub use absence::absence_law;
 pub use accounts::{account_core_law, account_law};
 pub use cyc_cpu::{FireRefused, Fired, Hard, LevelCore};
-pub use leaving::absence_law;
 pub use passing::passing_law;
 pub use receipts::{balance_law, receipt_law};
 pub use settling::{settling_core_law, settling_law};

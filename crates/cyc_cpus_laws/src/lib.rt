@@ -5,16 +5,16 @@
 //! when they run. Their clauses are the laws, so that they are proved.
 #![tactic(auto)]
 
+mod absence;
 mod choosing;
 mod lawful;
-mod leaving;
 mod running;
 mod settling;
 mod shifting;
 
+pub use absence::absence_core_law;
 pub use choosing::destination_law;
 pub use lawful::lawful_law;
-pub use leaving::absence_core_law;
 pub use running::{calls_law, runs_core_law, runs_law};
 pub use settling::{settling_core_law, settling_law};
 pub use shifting::{shift_core_law, shift_law};

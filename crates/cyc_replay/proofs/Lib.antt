@@ -24,7 +24,7 @@ mod Rooms
 mod Keeping
 mod Turning
 mod Juggling
-mod SystemLeaving
+mod SystemOffline
 mod SystemBeginning
 pub mod SystemAdvancing
 pub mod Mosts

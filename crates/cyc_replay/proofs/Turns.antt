@@ -20,7 +20,7 @@ use Rattle.cyc_replay.specs.Words.{TakesWord}
 use Rattle.cyc_replay.proofs.Remembering.{SameNames}
 use Rattle.cyc_replay.proofs.Doing.{Keeps, Leaves, refuses, lasts_with}
 use Rattle.cyc_replay.proofs.Taking.{truly_refused, refused_takes, takes_with}
-use Rattle.cyc_replay.specs.Leaving.{Juggles, GoesOffline, juggle_line, offline_line}
+use Rattle.cyc_replay.specs.Offline.{Juggles, GoesOffline, juggle_line, offline_line}
 
 module _ (step n : ℕ) (s : State) (m : Machine) (t : SystemView Tables) (r : IsReached step s) (h : Holds s m)
     (kept : Keeps t) where

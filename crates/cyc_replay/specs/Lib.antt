@@ -10,7 +10,7 @@ pub mod Words
 pub mod Runs
 pub mod Beginning
 pub mod Replay
-pub mod Leaving
+pub mod Offline
 pub mod Advancing
 pub mod Interrupting
 pub mod Removing

@@ -11,7 +11,7 @@ ghost use Rattle.cyc_replay.specs.Words.{TakesWord};
 use crate::adding::{add_cyclic, add_omni};
 use crate::advancing::take_advance;
 use crate::interrupting::take_softint;
-use crate::leaving::{take_juggle, take_offline};
+use crate::offline::{take_juggle, take_offline};
 use crate::lines::write_answer;
 use crate::machine::Machine;
 use crate::moving::{bind_cyclic, online_cpu, reprogram_cyclic, unbind_cyclic};

@@ -3,12 +3,12 @@
 //! clauses are the laws, so that they are proved.
 #![tactic(auto)]
 
-mod leaving;
 mod numbering;
 mod parts;
+mod removal;
 mod settling;
 
-pub use leaving::{removal_core_law, removal_law};
 pub use numbering::{numbers_core_law, numbers_law};
 pub use parts::parts_law;
+pub use removal::{removal_core_law, removal_law};
 pub use settling::{calm_core_law, calm_law, settled_law};

@@ -9,7 +9,7 @@ mod everywhere;
 #[cfg(test)]
 mod help;
 #[cfg(test)]
-mod leaving;
+mod moves;
 #[cfg(test)]
 mod rings;
 #[cfg(test)]

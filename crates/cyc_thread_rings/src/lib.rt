@@ -6,8 +6,8 @@
 
 mod attaching;
 mod closing;
+mod detaching;
 mod handlers;
-mod leaving;
 mod levels;
 mod opening;
 mod preparing;
@@ -17,8 +17,8 @@ mod working;
 
 pub use attaching::{Attached, attach, detach};
 pub use closing::{close_rings, in_pairs};
+pub use detaching::leave_all;
 pub use handlers::{by_cpu, in_one};
-pub use leaving::leave_all;
 pub use levels::{Levels, Seated};
 pub use opening::{Opened, open_rings};
 pub use preparing::{Prepared, prepare};

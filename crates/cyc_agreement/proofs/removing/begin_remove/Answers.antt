@@ -2,7 +2,7 @@ use Rattle.std.proofs.Common.{Ok, option_map, sym, ap, ◌∙◌, subst}
 use Rattle.std.proofs.lemmas.Option.{slice_get_within}
 use Rattle.cyc_types.specs.declared.refusal.Refusal.TheVariants.{Busy}
 use Rattle.cyc_agreement.specs.Holding.{Holds}
-use Rattle.cyc_agreement.specs.Leaving.{system}
+use Rattle.cyc_agreement.specs.Withdrawing.{system}
 use Rattle.cyc_agreement.specs.Removing.{BeginsRemoval}
 use Rattle.cyc_agreement.specs.declared.removing.SystemRemoval.TheVariants.{Done}
 use Rattle.cyc_agreement.proofs.One.{is_none}

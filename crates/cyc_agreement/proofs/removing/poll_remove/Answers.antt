@@ -1,7 +1,7 @@
 use Rattle.std.proofs.Common.{Some, Ok, sym, ◌∙◌, subst}
 use Rattle.std.proofs.lemmas.Option.{slice_get_within}
 use Rattle.cyc_agreement.specs.Holding.{Holds}
-use Rattle.cyc_agreement.specs.Leaving.{system}
+use Rattle.cyc_agreement.specs.Withdrawing.{system}
 use Rattle.cyc_agreement.specs.Polling.{PollsRemoval}
 use Rattle.cyc_agreement.proofs.Withdrawing.{now_here}
 use Rattle.cyc_agreement.proofs.Agreeing.{owned, has_record, holds_leaving, holds_left}

@@ -3,7 +3,7 @@ use Rattle.cyc_cpu.specs.Calls.{Changes, AskTotals}
 use Rattle.cyc_agreement.specs.Cpus.{with_cpu}
 use Rattle.cyc_agreement.proofs.Holding.{holds_same}
 use Rattle.cyc_agreement.specs.declared.totals.SystemTotals.{SystemTotals}
-use Rattle.cyc_agreement.specs.Leaving.{system}
+use Rattle.cyc_agreement.specs.Withdrawing.{system}
 use Rattle.cyc_agreement.proofs.Asking.{Asked, asked_one, asked_none, asked_all}
 use Rattle.cyc_agreement.proofs.totals.ask_each.Goals as goal
 use Rattle.cyc_agreement.proofs.totals.ask_each.Goals.{in-Some, in_default}

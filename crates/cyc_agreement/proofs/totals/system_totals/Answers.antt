@@ -2,7 +2,7 @@ use Rattle.std.proofs.Common.{refl, sym, subst, arith}
 use Rattle.std.proofs.lemmas.Option.{slice_get_within}
 use Rattle.cyc_agreement.proofs.Recording.{record_none, record_read}
 use Rattle.cyc_agreement.specs.Counting.{AsksTotals}
-use Rattle.cyc_agreement.specs.Leaving.{system}
+use Rattle.cyc_agreement.specs.Withdrawing.{system}
 use Rattle.cyc_agreement.proofs.totals.system_totals.Goals as goal
 
 pub returns-in_err-place-clause-did : goal.returns-in_err-place-clause-did

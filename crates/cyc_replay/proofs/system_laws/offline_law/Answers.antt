@@ -1,4 +1,4 @@
-use Rattle.cyc_replay.proofs.SystemLeaving.{offline_accepted, offline_left, offline_pending, offline_refused}
+use Rattle.cyc_replay.proofs.SystemOffline.{offline_accepted, offline_left, offline_pending, offline_refused}
 use Rattle.cyc_replay.proofs.system_laws.offline_law.Goals as goal
 
 pub returns-clause-accepted : goal.returns-clause-accepted
