@@ -18,7 +18,7 @@ use Rattle.cyc_thread_expected.specs.Rings.{seats_of_ends, firing_seats}
 use Rattle.cyc_thread_expected.specs.Named.{Named}
 use Rattle.cyc_thread_expected.specs.Named.TheVariants.{Nothing}
 use Rattle.cyc_thread_expected.specs.Progress.{Progress}
-use Rattle.cyc_thread_expected.specs.ThreadStepsNamed.{named_at, id_of, is_leaving}
+use Rattle.cyc_thread_expected.specs.Names.{named_at, id_of, is_leaving}
 use Rattle.cyc_thread_expected.specs.Running.{IsAtFirst, most}
 use Rattle.cyc_calm.specs.Way.{Absent}
 use Rattle.cyc_calm.proofs.Fitting.{Is, Fits}

@@ -29,8 +29,8 @@ use Rattle.cyc_thread_expected.specs.Advancing.{AllFire, moment_asked, FiresIf}
 use Rattle.cyc_thread_expected.specs.Named.{Named}
 use Rattle.cyc_thread_expected.specs.Named.TheVariants.{Nothing, Cyclic, Leaving, Removed}
 use Rattle.cyc_thread_expected.specs.Progress.{Progress}
-use Rattle.cyc_thread_expected.specs.ThreadStepsCalls.{CallsFor, Fires}
-use Rattle.cyc_thread_expected.specs.ThreadStepsNamed.{named_at, id_of, is_leaving, NoneLeaves}
+use Rattle.cyc_thread_expected.specs.StepCalls.{CallsFor, Fires}
+use Rattle.cyc_thread_expected.specs.Names.{named_at, id_of, is_leaving, NoneLeaves}
 use Rattle.cyc_thread_expected.specs.Words.{WithId}
 use Rattle.cyc_thread_expected.specs.Leading.{call_with}
 use Rattle.cyc_thread_expected.specs.Meeting.{is_taken as is_done}

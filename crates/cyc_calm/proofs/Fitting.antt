@@ -26,8 +26,8 @@ use Rattle.cyc_thread_expected.proofs.Raising.{changes_long}
 use Rattle.cyc_thread_expected.specs.Named.{Named}
 use Rattle.cyc_thread_expected.specs.Named.TheVariants.{Nothing, Cyclic, Leaving, Removed}
 use Rattle.cyc_thread_expected.specs.Progress.{Progress}
-use Rattle.cyc_thread_expected.specs.ThreadStepsCalls.{CallsFor, IsReady}
-use Rattle.cyc_thread_expected.specs.ThreadStepsNamed.{named_at, id_of}
+use Rattle.cyc_thread_expected.specs.StepCalls.{CallsFor, IsReady}
+use Rattle.cyc_thread_expected.specs.Names.{named_at, id_of}
 use Rattle.cyc_calm.specs.Way.{Standing, Absent, OnOne, OnAll, with_standing}
 
 -- ---- the names

@@ -28,8 +28,8 @@ use Rattle.cyc_thread_expected.specs.Calls.{SystemCall, Changes, Bind, Reprogram
 use Rattle.cyc_thread_expected.specs.Keeping.{TouchesRecord}
 use Rattle.cyc_thread_expected.specs.Sound.{IsSound}
 use Rattle.cyc_thread_expected.specs.Progress.{Progress}
-use Rattle.cyc_thread_expected.specs.ThreadStepsCalls.{CallsFor}
-use Rattle.cyc_thread_expected.specs.ThreadStepsNamed.{NoneLeaves}
+use Rattle.cyc_thread_expected.specs.StepCalls.{CallsFor}
+use Rattle.cyc_thread_expected.specs.Names.{NoneLeaves}
 use Rattle.cyc_thread_expected.specs.Words.{WithId, reprograms}
 use Rattle.cyc_calm.specs.Way.{Standing}
 use Rattle.cyc_calm.proofs.Keeping.{AllStill, IsMove, keeps_call, last_move, quiet_move}

@@ -13,7 +13,7 @@ use Rattle.cyc_script.specs.declared.script.Script.{Script}
 use Rattle.cyc_expected.specs.Expected.{Met, expected}
 use Rattle.cyc_thread_expected.specs.Progress.{Progress}
 use Rattle.cyc_thread_expected.specs.Line.{Line}
-use Rattle.cyc_thread_expected.specs.Reporting.{Told, Reports}
+use Rattle.cyc_thread_expected.specs.Counting.{Told, Reports}
 use Rattle.cyc_thread_expected.specs.ThreadsReporting.{counts_of, report_text}
 use Rattle.cyc_thread_expected.specs.Ended.{Ended}
 use Rattle.cyc_thread_expected.specs.Running.{HasRun}

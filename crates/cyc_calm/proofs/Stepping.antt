@@ -25,8 +25,8 @@ use Rattle.cyc_thread_expected.specs.Keeping.{TouchesRecord}
 use Rattle.cyc_thread_expected.specs.Named.{Named}
 use Rattle.cyc_thread_expected.specs.Named.TheVariants.{Cyclic}
 use Rattle.cyc_thread_expected.specs.Progress.{Progress}
-use Rattle.cyc_thread_expected.specs.ThreadStepsCalls.{CallsFor}
-use Rattle.cyc_thread_expected.specs.ThreadStepsNamed.{named_at, is_leaving, NoneLeaves}
+use Rattle.cyc_thread_expected.specs.StepCalls.{CallsFor}
+use Rattle.cyc_thread_expected.specs.Names.{named_at, is_leaving, NoneLeaves}
 use Rattle.cyc_thread_expected.specs.Words.{Does}
 use Rattle.cyc_thread_expected.specs.Leading.{call_of, calls_in}
 use Rattle.cyc_thread_expected.specs.Meeting.{accepted}

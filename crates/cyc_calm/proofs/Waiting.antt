@@ -15,8 +15,8 @@ use Rattle.cyc_thread_expected.specs.Sound.{IsSound}
 use Rattle.cyc_thread_expected.specs.Named.{Named}
 use Rattle.cyc_thread_expected.specs.Named.TheVariants.{Leaving, Removed}
 use Rattle.cyc_thread_expected.specs.Progress.{Progress}
-use Rattle.cyc_thread_expected.specs.ThreadStepsCalls.{CallsFor, Poll, Polls, Settles, Waits}
-use Rattle.cyc_thread_expected.specs.ThreadStepsNamed.{named_at, id_of, NoneLeaves}
+use Rattle.cyc_thread_expected.specs.StepCalls.{CallsFor, Poll, Polls, Settles, Waits}
+use Rattle.cyc_thread_expected.specs.Names.{named_at, id_of, NoneLeaves}
 use Rattle.cyc_calm.specs.Way.{Standing, Absent, OnOne, OnAll}
 use Rattle.cyc_calm.proofs.Keeping.{AllStill, polled_given}
 use Rattle.cyc_calm.proofs.Room.{few_cyclics, AllHaveRoom}

@@ -13,7 +13,7 @@ use Rattle.cyc_script.specs.WellFormed.{names_fit, names_after_all, moments_fit}
 use Rattle.cyc_expected.specs.Calm.{AgreeButMoves}
 use Rattle.cyc_thread_expected.proofs.Lists.{eq_true}
 use Rattle.cyc_thread_expected.specs.Progress.{Progress}
-use Rattle.cyc_thread_expected.specs.ThreadStepsNamed.{named_at, id_of}
+use Rattle.cyc_thread_expected.specs.Names.{named_at, id_of}
 use Rattle.cyc_thread_expected.specs.Words.{Does}
 use Rattle.cyc_thread_expected.specs.Steps.{TakesSteps, Runs}
 use Rattle.cyc_thread_expected.specs.Leading.{call_of, calls_in, wait_calls, step_calls, steps_calls, run_calls}

@@ -14,9 +14,9 @@ use Rattle.cyc_cpu.specs.Calls.{CpuCall, Changes as CpuChanges, Does as CpuDoes,
 use Rattle.cyc_cpu.specs.Calls.{SoftInterrupt as CpuSoftInterrupt, Add as CpuAdd, Place, Reprogram as CpuReprogram, AskPending}
 use Rattle.cyc_cpu.specs.Calls.{AskTotals as CpuAskTotals, AskRoom, Reserve, Widen, BeginRemove as CpuBegin}
 use Rattle.cyc_cpu.specs.Calls.{PollRemove as CpuPoll, TakeNow, AskSettled}
-use Rattle.cyc_cpus_laws.specs.Settled.{IsNoFire}
-use Rattle.cyc_cpus_laws.proofs.Staying.{settled_one}
-use Rattle.cyc_cpus_laws.proofs.Stills.{changes_still}
+use Rattle.cyc_cpu_laws.specs.Settled.{IsNoFire}
+use Rattle.cyc_cpu_laws.proofs.Staying.{settled_one}
+use Rattle.cyc_cpu_laws.proofs.Stills.{changes_still}
 use Rattle.cyc_agreement.specs.Cpus.{CpusView, IsCpu, ChangesAt}
 use Rattle.cyc_agreement.proofs.CpuSpots.{one_cpu, cpu_there, cpu_after}
 use Rattle.cyc_system.specs.System.{RunningSystem}

@@ -17,8 +17,8 @@ use Rattle.cyc_types.specs.Reasons.{first_refusal, when, busy, bad_now}
 use Rattle.cyc_cpu.specs.Cpu.{CpuView, running}
 use Rattle.cyc_cpu.specs.Moving.{IsSettled}
 use Rattle.cyc_cpu.specs.Calls.{Changes as CpuChanges, no_interrupts, AskPending, AskRoom, Reserve, TakeNow}
-use Rattle.cyc_cpus_laws.specs.Settled.{IsUntil}
-use Rattle.cyc_cpus_laws.proofs.Staying.{settled_one, never_put_off}
+use Rattle.cyc_cpu_laws.specs.Settled.{IsUntil}
+use Rattle.cyc_cpu_laws.proofs.Staying.{settled_one, never_put_off}
 use Rattle.cyc_agreement.specs.Cpus.{CpusView, IsCpu, CallOn, on, ChangesAt, Works, online_cpus}
 use Rattle.cyc_agreement.specs.Reserving.{rooms}
 use Rattle.cyc_agreement.specs.Shifting.{moving}

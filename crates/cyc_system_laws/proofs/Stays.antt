@@ -6,7 +6,7 @@ use Rattle.cyc_types.specs.declared.Raise.{Ghosts as Raise}
 use Rattle.cyc_types.specs.declared.level.Level.TheVariants.{High}
 use Rattle.cyc_cpu.specs.Tables.{Tables}
 use Rattle.cyc_types.specs.Expirations.{expirations}
-use Rattle.cyc_cpus_laws.specs.Rows.{timers}
+use Rattle.cyc_cpu.specs.Rows.{timers}
 use Rattle.cyc_cpu.specs.Fired.{Fired}
 use Rattle.cyc_cpu.specs.FireRefused.{FireRefused}
 use Rattle.cyc_cpu.proofs.Sharing.{ids_add_up}
@@ -16,9 +16,9 @@ use Rattle.cyc_cpu.specs.Soft.{raise_tables, Interrupts}
 use Rattle.cyc_cpu.specs.Calls.{CpuCall, Changes, Does, no_interrupts, Fire, SoftInterrupt, Add, Place, Reprogram, AskPending}
 use Rattle.cyc_cpu.specs.Calls.{AskTotals, AskRoom, Reserve, Widen, BeginRemove, PollRemove, TakeNow, AskSettled}
 use Rattle.cyc_cpu.proofs.Following.{stays_gone}
-use Rattle.cyc_cpus_laws.proofs.Shifts.{changes_shift, shift_away}
-use Rattle.cyc_cpus_laws.proofs.Fires.{no_share, no_cyclic, fired_away}
-use Rattle.cyc_cpus_laws.proofs.Nowhere.{unused_gone}
+use Rattle.cyc_cpu_laws.proofs.Shifts.{changes_shift, shift_away}
+use Rattle.cyc_cpu_laws.proofs.Fires.{no_share, no_cyclic, fired_away}
+use Rattle.cyc_system_laws.proofs.Nowhere.{unused_gone}
 use Rattle.cyc_system.specs.System.{SystemView, RunningSystem}
 use Rattle.cyc_system.specs.Calls.{SystemCall, Does as SystemDoes}
 use Rattle.cyc_system_laws.specs.Gone.{IsOver, StaysOver, IsOverWhole, StaysOverWhole, AreLevelsLawful}

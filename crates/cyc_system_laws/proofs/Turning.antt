@@ -15,7 +15,7 @@ use Rattle.cyc_types.proofs.Runs.{folds_on}
 use Rattle.cyc_cpu.specs.Cpu.{CpuView}
 use Rattle.cyc_cpu.specs.Moving.{IsSettled}
 use Rattle.cyc_cpu.specs.Calls.{AskPending, Reserve}
-use Rattle.cyc_cpus_laws.specs.Settled.{IsUntil}
+use Rattle.cyc_cpu_laws.specs.Settled.{IsUntil}
 use Rattle.cyc_agreement.specs.Cpus.{CpusView, OfCpu, CallOn, on, DoesAt, Works, online_cpus}
 use Rattle.cyc_agreement.specs.Destination.{destination}
 use Rattle.cyc_agreement.specs.Shifting.{moving}

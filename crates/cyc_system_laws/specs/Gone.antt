@@ -1,6 +1,6 @@
 -- A cyclic whose removal has answered.
 use Rattle.std.specs.Prelude.{◌≡◌, ℕ, ◌≤◌}
-use Rattle.cyc_cpus_laws.specs.Lawful.{Lawful}
+use Rattle.cyc_level.specs.Lawful.{Lawful}
 use Rattle.cyc_cpu.specs.Tables.{Tables, level_of}
 use Rattle.cyc_cpu.specs.Cpu.{HasNoCyclic}
 use Rattle.cyc_cpu.specs.Laws.{IsLawful}

@@ -6,7 +6,7 @@ use Rattle.cyc_types.specs.declared.refusal.JuggleReport.{JuggleReport}
 use Rattle.cyc_types.specs.declared.refusal.Refusal.{Refusal}
 use Rattle.cyc_cpu.specs.Cpu.{CpuView}
 use Rattle.cyc_cpu.specs.Moving.{IsSettled}
-use Rattle.cyc_cpus_laws.specs.Settled.{IsUntil}
+use Rattle.cyc_cpu_laws.specs.Settled.{IsUntil}
 use Rattle.cyc_agreement.specs.Cpus.{IsCpu, online_cpus}
 use Rattle.cyc_agreement.specs.Destination.{destination}
 use Rattle.cyc_agreement.specs.Reserving.{StandsAfter}

@@ -9,7 +9,7 @@ ghost use Rattle.cyc_cpu.specs.Calls.{no_interrupts};
 ghost use Rattle.cyc_cpu.specs.Cpu.{CpuView};
 ghost use Rattle.cyc_cpu.specs.Moving.{IsSettled};
 ghost use Rattle.cyc_cpu.specs.Soft.{raise_tables, firing_at, Interrupts};
-ghost use Rattle.cyc_cpus_laws.specs.Settled.{IsUntil};
+ghost use Rattle.cyc_cpu_laws.specs.Settled.{IsUntil};
 ghost use Rattle.cyc_agreement.specs.Cpus.{IsCpu, OfCpu};
 ghost use Rattle.cyc_system.specs.System.{SystemView, RunningSystem};
 ghost use Rattle.cyc_system.specs.SystemRemoval.TheVariants.{Kept};

@@ -28,13 +28,13 @@ use Rattle.cyc_system_laws.specs.Accounts.{made_by, account_of, Proceeds}
 use Rattle.cyc_system_laws.proofs.Accounting.{proceeds_one}
 use Rattle.cyc_system_laws.proofs.Ways.{passes_few}
 use Rattle.cyc_system_workers.specs.Lead.{Lead}
-use Rattle.cyc_system_counts.proofs.Lists.{eq_true, false_ne}
-use Rattle.cyc_system_counts.proofs.Spots.{same_some, none_some}
-use Rattle.cyc_system_counts.proofs.Sums.{sum_none}
+use Rattle.cyc_system_laws.proofs.Lists.{eq_true, false_ne}
+use Rattle.cyc_system_laws.proofs.Spots.{same_some, none_some}
+use Rattle.cyc_system_laws.proofs.Sums.{sum_none}
 use Rattle.cyc_system_laws.proofs.Pieces.{made_of}
-use Rattle.cyc_system_counts.specs.Calls.{SystemCall, Changes, Add, AddOmni}
-use Rattle.cyc_system_counts.specs.Sound.{IsSound}
-use Rattle.cyc_system_counts.proofs.Flow.{weigh}
+use Rattle.cyc_system_laws.specs.SystemCalls.{SystemCall, Changes, Add, AddOmni}
+use Rattle.cyc_system_laws.specs.Sound.{IsSound}
+use Rattle.cyc_system_laws.proofs.Flow.{weigh}
 use Rattle.cyc_system_workers.specs.declared.side.SystemSide.{SystemSide}
 use Rattle.cyc_system_workers.specs.declared.advancing.Advanced.{Advanced}
 use Rattle.cyc_system_workers.specs.Advancing.{AllFire, moment_asked, FiresIf}

@@ -17,8 +17,8 @@ use Rattle.cyc_ring.specs.Ends.{raise_trail, raise_end}
 use Rattle.cyc_ring.proofs.Ways.{raise_ways}
 use Rattle.cyc_timers.specs.Rows.{no_counts}
 use Rattle.cyc_system_workers.specs.Lead.{Lead}
-use Rattle.cyc_system_counts.proofs.Sums.{sum_none}
-use Rattle.cyc_system_counts.specs.System.{SystemView}
+use Rattle.cyc_system_laws.proofs.Sums.{sum_none}
+use Rattle.cyc_system_laws.specs.System.{SystemView}
 use Rattle.cyc_system_workers.specs.declared.side.SystemSide.{SystemSide}
 use Rattle.cyc_system_rings.specs.Leading.{LeadCall}
 use Rattle.cyc_system_rings.specs.Rings.{counted_by, counts_in, AreClosed}

@@ -23,26 +23,26 @@ use Rattle.cyc_system_laws.proofs.Accounting.{proceeds_one}
 use Rattle.cyc_system_laws.proofs.Fires.{no_share, no_cyclic, fired_away}
 use Rattle.cyc_system_laws.proofs.Ways.{passes_few}
 use Rattle.cyc_places.specs.Places.{HasNoRecord}
-use Rattle.cyc_system_counts.proofs.Lists.{eq_true, true_eq}
-use Rattle.cyc_system_counts.proofs.Spots.{same_some, none_some}
-use Rattle.cyc_system_counts.proofs.Recording.{found}
-use Rattle.cyc_system_counts.specs.SystemRemoval.TheVariants.{Done, Kept}
-use Rattle.cyc_system_counts.specs.System.{SystemView, running_system}
-use Rattle.cyc_system_counts.specs.Laws.{cyclic_in}
-use Rattle.cyc_system_counts.specs.Counts.{all_expired, all_lost}
-use Rattle.cyc_system_counts.specs.Calls.{SystemCall, Changes, Does, Add, AddOmni, Bind, BeginRemove, PollRemove, AskTotals}
-use Rattle.cyc_system_counts.specs.Calls.{Reprogram}
-use Rattle.cyc_system_counts.specs.Calls.{ReprogramOn, Juggle, Offline, Online, FireOne, SoftInterrupt}
-use Rattle.cyc_system_counts.proofs.Sums.{sum_none}
-use Rattle.cyc_system_counts.proofs.Receipts.{begun_done, poll_done}
+use Rattle.cyc_system_laws.proofs.Lists.{eq_true, true_eq}
+use Rattle.cyc_system_laws.proofs.Spots.{same_some, none_some}
+use Rattle.cyc_system_laws.proofs.Recording.{found}
+use Rattle.cyc_system_laws.specs.SystemRemoval.TheVariants.{Done, Kept}
+use Rattle.cyc_system_laws.specs.System.{SystemView, running_system}
+use Rattle.cyc_system_laws.specs.Laws.{cyclic_in}
+use Rattle.cyc_system_laws.specs.Counts.{all_expired, all_lost}
+use Rattle.cyc_system_laws.specs.SystemCalls.{SystemCall, Changes, Does, Add, AddOmni, Bind, BeginRemove, PollRemove, AskTotals}
+use Rattle.cyc_system_laws.specs.SystemCalls.{Reprogram}
+use Rattle.cyc_system_laws.specs.SystemCalls.{ReprogramOn, Juggle, Offline, Online, FireOne, SoftInterrupt}
+use Rattle.cyc_system_laws.proofs.Sums.{sum_none}
+use Rattle.cyc_system_laws.proofs.Receipts.{begun_done, poll_done}
 use Rattle.cyc_system_laws.specs.Gone.{IsOver}
 use Rattle.cyc_system_laws.proofs.Over.{begun_over, polled_over}
 use Rattle.cyc_system_laws.proofs.Stays.{stays_over}
-use Rattle.cyc_system_counts.specs.Sound.{IsSound}
-use Rattle.cyc_system_counts.specs.Keeping.{EndsRemoval}
-use Rattle.cyc_system_counts.proofs.Flow.{on_cpu}
-use Rattle.cyc_system_counts.proofs.Found.{stays_found}
-use Rattle.cyc_system_counts.proofs.Counts.{counts_same}
+use Rattle.cyc_system_laws.specs.Sound.{IsSound}
+use Rattle.cyc_system_laws.specs.Keeping.{EndsRemoval}
+use Rattle.cyc_system_laws.proofs.Flow.{on_cpu}
+use Rattle.cyc_system_laws.proofs.Found.{stays_found}
+use Rattle.cyc_system_laws.proofs.Counts.{counts_same}
 use Rattle.cyc_system_workers.specs.Lead.{Lead}
 use Rattle.cyc_system_workers.specs.declared.side.SystemSide.{SystemSide}
 use Rattle.cyc_system_workers.specs.declared.advancing.Advanced.{Advanced}

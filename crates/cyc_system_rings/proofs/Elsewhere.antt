@@ -31,32 +31,32 @@ use Rattle.cyc_places.specs.declared.record.Record.{Record}
 use Rattle.cyc_places.specs.Places.{IsRecord, HasRisingIds, HasNoRecord, ended_on}
 use Rattle.cyc_agreement.specs.Cpus.{CpusView, CallOn, DoesAt, on, online_cpus}
 use Rattle.cyc_agreement.specs.Shifting.{moving}
-use Rattle.cyc_system_counts.specs.System.{SystemView, ids_on}
-use Rattle.cyc_system_counts.specs.SystemRemoval.{SystemRemoval}
-use Rattle.cyc_system_counts.specs.SystemRemoval.TheVariants as over
+use Rattle.cyc_system_laws.specs.System.{SystemView, ids_on}
+use Rattle.cyc_system_laws.specs.SystemRemoval.{SystemRemoval}
+use Rattle.cyc_system_laws.specs.SystemRemoval.TheVariants as over
 use Rattle.cyc_system_workers.specs.Adding.{OnlyWorks, entering}
-use Rattle.cyc_system_counts.specs.Removing.{Begun, BeginsOn, BeginsRemoval}
-use Rattle.cyc_system_counts.specs.Polling.{Polled, PollsOn, PollsRemoval}
+use Rattle.cyc_system_laws.specs.Removing.{Begun, BeginsOn, BeginsRemoval}
+use Rattle.cyc_system_laws.specs.Polling.{Polled, PollsOn, PollsRemoval}
 use Rattle.cyc_agreement.specs.declared.turning.Turn.{Turn}
 use Rattle.cyc_agreement.specs.declared.turning.Turn.TheVariants.{StaysBound, StaysPending, StaysRefused, Moves}
 use Rattle.cyc_agreement.specs.Juggling.{TakesTurn, Turns, single_ids}
 use Rattle.cyc_agreement.specs.GoingOffline.{quiet, Retires, Leaves}
 use Rattle.cyc_agreement.specs.Omni.{entering_each}
 use Rattle.cyc_agreement.specs.Online.{GoesOnline, staying, is_staying, returns, return_at}
-use Rattle.cyc_system_counts.specs.Calls.{SystemCall, Changes, Add, AddOmni, Bind, BeginRemove, PollRemove, AskTotals, Reprogram}
-use Rattle.cyc_system_counts.specs.Calls.{ReprogramOn, Juggle, Offline, Online, FireOne, SoftInterrupt}
-use Rattle.cyc_system_counts.proofs.Lists.{eq_true, false_ne}
-use Rattle.cyc_system_counts.proofs.Recording.{found, record_here, record_none}
-use Rattle.cyc_system_counts.proofs.Folds.{folds_keep}
+use Rattle.cyc_system_laws.specs.SystemCalls.{SystemCall, Changes, Add, AddOmni, Bind, BeginRemove, PollRemove, AskTotals, Reprogram}
+use Rattle.cyc_system_laws.specs.SystemCalls.{ReprogramOn, Juggle, Offline, Online, FireOne, SoftInterrupt}
+use Rattle.cyc_system_laws.proofs.Lists.{eq_true, false_ne}
+use Rattle.cyc_system_laws.proofs.Recording.{found, record_here, record_none}
+use Rattle.cyc_system_laws.proofs.Folds.{folds_keep}
 use Rattle.cyc_system_laws.proofs.Over.{begun_over, polled_over}
-use Rattle.cyc_system_counts.specs.Keeping.{TouchesStays, TouchesRecord, stay_of}
-use Rattle.cyc_system_counts.specs.Sound.{IsSound}
-use Rattle.cyc_system_counts.proofs.Flow.{weigh, on_cpu, on_cpus, AllFixed, all_brought, all_taken, flows, sum_set}
-use Rattle.cyc_system_counts.proofs.Idle.{idle_on, idle_quiet, idle_same, reserved_same}
-use Rattle.cyc_system_counts.proofs.Counted.{moved_even}
-use Rattle.cyc_system_counts.proofs.Found.{stays_found}
-use Rattle.cyc_system_counts.proofs.Kept.{stays_kept, moments_kept}
-use Rattle.cyc_system_counts.proofs.Looked.{look_kept}
+use Rattle.cyc_system_laws.specs.Keeping.{TouchesStays, TouchesRecord, stay_of}
+use Rattle.cyc_system_laws.specs.Sound.{IsSound}
+use Rattle.cyc_system_laws.proofs.Flow.{weigh, on_cpu, on_cpus, AllFixed, all_brought, all_taken, flows, sum_set}
+use Rattle.cyc_system_laws.proofs.Idle.{idle_on, idle_quiet, idle_same, reserved_same}
+use Rattle.cyc_system_laws.proofs.Counted.{moved_even}
+use Rattle.cyc_system_laws.proofs.Found.{stays_found}
+use Rattle.cyc_system_laws.proofs.Kept.{stays_kept, moments_kept}
+use Rattle.cyc_system_laws.proofs.Looked.{look_kept}
 use Rattle.cyc_system_rings.specs.Leading.{Make}
 use Rattle.cyc_system_rings.specs.ByLevel.{level_given, is_own}
 

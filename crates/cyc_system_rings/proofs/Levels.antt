@@ -14,13 +14,13 @@ use Rattle.cyc_types.specs.declared.level.Soft.TheVariants as soft
 use Rattle.cyc_timers.specs.Rows.{Cyclic, no_counts}
 use Rattle.cyc_cpu.specs.Cpu.{CpuView}
 use Rattle.cyc_system_workers.specs.Lead.{Lead}
-use Rattle.cyc_system_counts.proofs.Sums.{sum_none}
-use Rattle.cyc_system_counts.specs.System.{SystemView}
-use Rattle.cyc_system_counts.specs.Laws.{cyclic_in}
-use Rattle.cyc_system_counts.specs.Counts.{all_expired, all_lost}
-use Rattle.cyc_system_counts.proofs.Recording.{found}
-use Rattle.cyc_system_counts.specs.Sound.{IsSound}
-use Rattle.cyc_system_counts.proofs.Flow.{weigh}
+use Rattle.cyc_system_laws.proofs.Sums.{sum_none}
+use Rattle.cyc_system_laws.specs.System.{SystemView}
+use Rattle.cyc_system_laws.specs.Laws.{cyclic_in}
+use Rattle.cyc_system_laws.specs.Counts.{all_expired, all_lost}
+use Rattle.cyc_system_laws.proofs.Recording.{found}
+use Rattle.cyc_system_laws.specs.Sound.{IsSound}
+use Rattle.cyc_system_laws.proofs.Flow.{weigh}
 use Rattle.cyc_system_workers.specs.declared.side.SystemSide.{SystemSide}
 use Rattle.cyc_system_rings.specs.Beginning.{IsNewSystem}
 use Rattle.cyc_system_rings.specs.Leading.{LeadCall, LeadSteps}

@@ -16,11 +16,11 @@ use Rattle.cyc_system_laws.proofs.Stills.{still_raises, changes_still}
 use Rattle.cyc_agreement.specs.Cpus.{CpusView}
 use Rattle.cyc_system_workers.specs.WorkersSettling.{Asks}
 use Rattle.cyc_system_workers.specs.Settled.{AllAsked}
-use Rattle.cyc_system_counts.specs.System.{SystemView}
-use Rattle.cyc_system_counts.specs.Calls.{SystemCall, Changes}
+use Rattle.cyc_system_laws.specs.System.{SystemView}
+use Rattle.cyc_system_laws.specs.SystemCalls.{SystemCall, Changes}
 use Rattle.cyc_system_laws.specs.Parts.{CpusCall, OnCpu, SetOnline, DoesPart}
 use Rattle.cyc_system_laws.proofs.Pieces.{made_of}
-use Rattle.cyc_system_counts.proofs.Flow.{sum_set}
+use Rattle.cyc_system_laws.proofs.Flow.{sum_set}
 use Rattle.cyc_system_workers.specs.declared.side.SystemSide.{SystemSide}
 use Rattle.cyc_system_rings.specs.Leading.{LeadCall, Make, FireAll, AskAll, Leads}
 use Rattle.cyc_system_rings.specs.ByLevel.{end_of}

@@ -17,9 +17,9 @@ use Rattle.cyc_timers.specs.Acts.{same_level}
 use Rattle.cyc_cpu.specs.Cpu.{CpuView}
 use Rattle.cyc_agreement.specs.Cpus.{OfCpu}
 use Rattle.cyc_system_workers.specs.Serving.{HasServed}
-use Rattle.cyc_system_counts.specs.System.{SystemView}
-use Rattle.cyc_system_counts.specs.Calls.{Add, AddOmni}
-use Rattle.cyc_system_counts.specs.Sound.{IsSound}
+use Rattle.cyc_system_laws.specs.System.{SystemView}
+use Rattle.cyc_system_laws.specs.SystemCalls.{Add, AddOmni}
+use Rattle.cyc_system_laws.specs.Sound.{IsSound}
 use Rattle.cyc_system_workers.specs.declared.side.SystemSide.{SystemSide}
 use Rattle.cyc_system_rings.specs.Beginning.{IsNewSystem}
 use Rattle.cyc_system_rings.specs.Leading.{LeadCall, Make, LeadSteps}

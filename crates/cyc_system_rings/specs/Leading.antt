@@ -2,12 +2,12 @@
 use Rattle.std.specs.Prelude.{◌≡◌, ℕ}
 use Rattle.cyc_types.specs.declared.Calls.{Ghosts as Calls}
 use Rattle.cyc_types.specs.declared.Raise.{Ghosts as Raise}
-use Rattle.cyc_system_counts.specs.Calls.{SystemCall, Changes}
+use Rattle.cyc_system_laws.specs.SystemCalls.{SystemCall, Changes}
 use Rattle.cyc_system_workers.specs.declared.side.SystemSide.{SystemSide}
 use Rattle.cyc_system_workers.specs.declared.advancing.Advanced.{Advanced}
 use Rattle.cyc_system_workers.specs.Advancing.{AllFire}
 use Rattle.cyc_system_workers.specs.Settling.{OnlyAsked}
-use Rattle.cyc_system_counts.specs.Sound.{IsSound}
+use Rattle.cyc_system_laws.specs.Sound.{IsSound}
 
 -- a call of the system that reaches no handler, an advance, or a question
 pub data LeadCall : Type 0 where

@@ -11,10 +11,10 @@ use Rattle.cyc_ring.specs.Ends.{raise_trail, drain_trail, end_view}
 use Rattle.cyc_ring.specs.Books.{closed_raises, closed_made}
 use Rattle.cyc_cpu.specs.Cpu.{CpuView}
 use Rattle.cyc_cpu.specs.Moving.{IsSettled}
-use Rattle.cyc_system_counts.specs.SystemRemoval.TheVariants.{Done}
-use Rattle.cyc_system_counts.specs.System.{SystemView}
-use Rattle.cyc_system_counts.specs.Counts.{all_expired, all_lost}
-use Rattle.cyc_system_counts.specs.Calls.{BeginRemove, PollRemove}
+use Rattle.cyc_system_laws.specs.SystemRemoval.TheVariants.{Done}
+use Rattle.cyc_system_laws.specs.System.{SystemView}
+use Rattle.cyc_system_laws.specs.Counts.{all_expired, all_lost}
+use Rattle.cyc_system_laws.specs.SystemCalls.{BeginRemove, PollRemove}
 use Rattle.cyc_system_workers.specs.Lead.{Lead}
 use Rattle.cyc_system_rings.specs.Leading.{LeadCall, Make}
 

@@ -21,14 +21,14 @@ use Rattle.cyc_agreement.specs.Juggling.{TakesTurn, Turns, single_ids}
 use Rattle.cyc_agreement.specs.GoingOffline.{quiet, Retires, Leaves}
 use Rattle.cyc_agreement.specs.declared.turning.Turn.{Turn}
 use Rattle.cyc_agreement.specs.declared.turning.Turn.TheVariants.{StaysBound, StaysPending, StaysRefused, Moves}
-use Rattle.cyc_system_counts.specs.System.{SystemView, ids_on, is_omnipresent}
-use Rattle.cyc_system_counts.specs.Laws.{cyclic_in, cyclic_on}
-use Rattle.cyc_system_counts.specs.Calls.{Changes, Offline}
-use Rattle.cyc_system_counts.proofs.Lists.{false_ne}
-use Rattle.cyc_system_counts.proofs.Spots.{none_some, same_some}
-use Rattle.cyc_system_counts.proofs.Who.{kept_at}
-use Rattle.cyc_system_counts.proofs.Folds.{find_remove}
-use Rattle.cyc_system_counts.proofs.Others.{at_place}
+use Rattle.cyc_system_laws.specs.System.{SystemView, ids_on, is_omnipresent}
+use Rattle.cyc_system_laws.specs.Laws.{cyclic_in, cyclic_on}
+use Rattle.cyc_system_laws.specs.SystemCalls.{Changes, Offline}
+use Rattle.cyc_system_laws.proofs.Lists.{false_ne}
+use Rattle.cyc_system_laws.proofs.Spots.{none_some, same_some}
+use Rattle.cyc_system_laws.proofs.Who.{kept_at}
+use Rattle.cyc_system_laws.proofs.Folds.{find_remove}
+use Rattle.cyc_system_laws.proofs.Others.{at_place}
 
 -- ---- lists
 

@@ -16,16 +16,16 @@ use Rattle.cyc_timers.specs.Rows.{Cyclic}
 use Rattle.cyc_cpu.specs.Cpu.{CpuView, Running}
 use Rattle.cyc_places.specs.declared.record.Record.{Record}
 use Rattle.cyc_agreement.specs.Cpus.{IsCpu}
-use Rattle.cyc_system_counts.specs.System.{SystemView, RunningSystem, has, ids_of}
-use Rattle.cyc_system_counts.proofs.Lists.{among}
-use Rattle.cyc_system_counts.proofs.Recording.{found, record_none}
-use Rattle.cyc_system_counts.specs.Counts.{all_expired, all_lost}
-use Rattle.cyc_system_counts.specs.Laws.{cyclic_in}
-use Rattle.cyc_system_counts.proofs.Sums.{sum_none, none_found}
-use Rattle.cyc_system_counts.proofs.Receipts.{begun_done, poll_done}
-use Rattle.cyc_system_counts.specs.Calls.{SystemCall}
-use Rattle.cyc_system_counts.specs.Sound.{IsSound}
-use Rattle.cyc_system_counts.specs.Keeping.{EndsRemoval}
+use Rattle.cyc_system_laws.specs.System.{SystemView, RunningSystem, has, ids_of}
+use Rattle.cyc_system_laws.proofs.Lists.{among}
+use Rattle.cyc_system_laws.proofs.Recording.{found, record_none}
+use Rattle.cyc_system_laws.specs.Counts.{all_expired, all_lost}
+use Rattle.cyc_system_laws.specs.Laws.{cyclic_in}
+use Rattle.cyc_system_laws.proofs.Sums.{sum_none, none_found}
+use Rattle.cyc_system_laws.proofs.Receipts.{begun_done, poll_done}
+use Rattle.cyc_system_laws.specs.SystemCalls.{SystemCall}
+use Rattle.cyc_system_laws.specs.Sound.{IsSound}
+use Rattle.cyc_system_laws.specs.Keeping.{EndsRemoval}
 use Rattle.cyc_system_sums.specs.Totalling.{expirations_along, losses_along, Steps, Answers}
 use Rattle.cyc_system_sums.proofs.Totals.{run_grows, run_sound}
 

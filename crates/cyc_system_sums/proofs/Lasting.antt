@@ -17,13 +17,13 @@ use Rattle.cyc_cpu.specs.Cpu.{CpuView, Running, running}
 use Rattle.cyc_cpu.specs.Calls.{Does as CpuDoes, Fire}
 use Rattle.cyc_cpu.specs.declared.moving.Taken.{Taken}
 use Rattle.cyc_agreement.specs.Cpus.{ChangesAt}
-use Rattle.cyc_system_counts.specs.SoftFault.{SoftFault}
-use Rattle.cyc_system_counts.specs.System.{SystemView, RunningSystem}
-use Rattle.cyc_system_counts.specs.Calls.{Does, FireOne, SoftInterrupt}
-use Rattle.cyc_system_counts.specs.Sound.{IsSound}
-use Rattle.cyc_system_counts.specs.Keeping.{over_stays}
-use Rattle.cyc_system_counts.proofs.Flow.{on_cpu, on_cpus, sum_set}
-use Rattle.cyc_system_counts.proofs.Found.{stays_found}
+use Rattle.cyc_system_laws.specs.SoftFault.{SoftFault}
+use Rattle.cyc_system_laws.specs.System.{SystemView, RunningSystem}
+use Rattle.cyc_system_laws.specs.SystemCalls.{Does, FireOne, SoftInterrupt}
+use Rattle.cyc_system_laws.specs.Sound.{IsSound}
+use Rattle.cyc_system_laws.specs.Keeping.{over_stays}
+use Rattle.cyc_system_laws.proofs.Flow.{on_cpu, on_cpus, sum_set}
+use Rattle.cyc_system_laws.proofs.Found.{stays_found}
 
 module _ (id : ℕ) (f : Level → ℕ → ℕ) where
   -- a measure of the timers of the id, by level and interval

@@ -30,24 +30,24 @@ use Rattle.cyc_system_laws.proofs.Ways.{passes_ceiling}
 use Rattle.cyc_system_laws.proofs.Accounting.{proceeds_one}
 use Rattle.cyc_agreement.specs.Cpus.{CpusView, IsCpu, ChangesAt}
 use Rattle.cyc_agreement.proofs.CpuSpots.{one_cpu, cpu_there, cpu_stays}
-use Rattle.cyc_system_counts.specs.System.{RunningSystem}
-use Rattle.cyc_system_counts.proofs.Lists.{eq_true, true_eq}
-use Rattle.cyc_system_counts.proofs.Spots.{same_some, none_some}
-use Rattle.cyc_system_counts.proofs.Who.{id_in, same_fired}
-use Rattle.cyc_system_counts.proofs.Recording.{found}
-use Rattle.cyc_system_counts.specs.Counts.{all_expired, all_lost}
-use Rattle.cyc_system_counts.proofs.Sums.{sum_none}
-use Rattle.cyc_system_counts.specs.Calls.{SystemCall, Changes, Does, Add, AddOmni, Bind, BeginRemove, PollRemove, AskTotals}
-use Rattle.cyc_system_counts.specs.Calls.{Reprogram}
-use Rattle.cyc_system_counts.specs.Calls.{ReprogramOn, Juggle, Offline, Online, FireOne, SoftInterrupt}
-use Rattle.cyc_system_counts.specs.Sound.{IsSound}
-use Rattle.cyc_system_counts.specs.Keeping.{EndsRemoval}
+use Rattle.cyc_system_laws.specs.System.{RunningSystem}
+use Rattle.cyc_system_laws.proofs.Lists.{eq_true, true_eq}
+use Rattle.cyc_system_laws.proofs.Spots.{same_some, none_some}
+use Rattle.cyc_system_laws.proofs.Who.{id_in, same_fired}
+use Rattle.cyc_system_laws.proofs.Recording.{found}
+use Rattle.cyc_system_laws.specs.Counts.{all_expired, all_lost}
+use Rattle.cyc_system_laws.proofs.Sums.{sum_none}
+use Rattle.cyc_system_laws.specs.SystemCalls.{SystemCall, Changes, Does, Add, AddOmni, Bind, BeginRemove, PollRemove, AskTotals}
+use Rattle.cyc_system_laws.specs.SystemCalls.{Reprogram}
+use Rattle.cyc_system_laws.specs.SystemCalls.{ReprogramOn, Juggle, Offline, Online, FireOne, SoftInterrupt}
+use Rattle.cyc_system_laws.specs.Sound.{IsSound}
+use Rattle.cyc_system_laws.specs.Keeping.{EndsRemoval}
 use Rattle.cyc_system_sums.specs.Totalling.{Steps, expirations_in, losses_in}
 use Rattle.cyc_system_sums.specs.Sparing.{IsUnderEach}
 use Rattle.cyc_system_laws.specs.Parts.{CpusCall, OnCpu, SetOnline, DoesPart}
 use Rattle.cyc_system_laws.proofs.Pieces.{made_of}
-use Rattle.cyc_system_counts.proofs.Flow.{on_cpu, on_cpus, sum_set}
-use Rattle.cyc_system_counts.proofs.Found.{stays_found}
+use Rattle.cyc_system_laws.proofs.Flow.{on_cpu, on_cpus, sum_set}
+use Rattle.cyc_system_laws.proofs.Found.{stays_found}
 use Rattle.cyc_system_sums.proofs.Totals.{one_grows, run_grows, Grows}
 
 -- one of those that are summed is at most the sum

@@ -25,19 +25,19 @@ use Rattle.cyc_system_laws.proofs.Accounting.{proceeds_one, none_made}
 use Rattle.cyc_system_laws.proofs.Fires.{fired_lost}
 use Rattle.cyc_system_laws.proofs.Ways.{passes_few}
 use Rattle.cyc_agreement.specs.Cpus.{ChangesAt}
-use Rattle.cyc_system_counts.specs.System.{SystemView, RunningSystem}
-use Rattle.cyc_system_counts.proofs.Recording.{found}
-use Rattle.cyc_system_counts.specs.Counts.{all_expired, all_lost}
-use Rattle.cyc_system_counts.specs.Calls.{SystemCall, Changes, Does, Add, AddOmni, Bind, BeginRemove, PollRemove, AskTotals}
-use Rattle.cyc_system_counts.specs.Calls.{Reprogram}
-use Rattle.cyc_system_counts.specs.Calls.{ReprogramOn, Juggle, Offline, Online, FireOne, SoftInterrupt, no_fire}
-use Rattle.cyc_system_counts.specs.Sound.{IsSound}
-use Rattle.cyc_system_counts.specs.Keeping.{EndsRemoval}
+use Rattle.cyc_system_laws.specs.System.{SystemView, RunningSystem}
+use Rattle.cyc_system_laws.proofs.Recording.{found}
+use Rattle.cyc_system_laws.specs.Counts.{all_expired, all_lost}
+use Rattle.cyc_system_laws.specs.SystemCalls.{SystemCall, Changes, Does, Add, AddOmni, Bind, BeginRemove, PollRemove, AskTotals}
+use Rattle.cyc_system_laws.specs.SystemCalls.{Reprogram}
+use Rattle.cyc_system_laws.specs.SystemCalls.{ReprogramOn, Juggle, Offline, Online, FireOne, SoftInterrupt, no_fire}
+use Rattle.cyc_system_laws.specs.Sound.{IsSound}
+use Rattle.cyc_system_laws.specs.Keeping.{EndsRemoval}
 use Rattle.cyc_system_sums.specs.Totalling.{fired_in, expirations_in, expirations_along, losses_of_fire, losses_in, losses_along}
 use Rattle.cyc_system_sums.specs.Totalling.{Steps}
-use Rattle.cyc_system_counts.proofs.Flow.{on_cpu, on_cpus, sum_set}
-use Rattle.cyc_system_counts.proofs.Found.{stays_found}
-use Rattle.cyc_system_counts.proofs.Counts.{counts_same}
+use Rattle.cyc_system_laws.proofs.Flow.{on_cpu, on_cpus, sum_set}
+use Rattle.cyc_system_laws.proofs.Found.{stays_found}
+use Rattle.cyc_system_laws.proofs.Counts.{counts_same}
 
 abbrev sent : Sent → ℕ
 sent e = e.sent

@@ -1,8 +1,8 @@
 -- What a fire and a soft interrupt keep of a cyclic.
 use Rattle.std.specs.Prelude.{◌≡◌, ℕ}
 use Rattle.cyc_types.specs.declared.level.Level.{Level}
-use Rattle.cyc_system_counts.specs.System.{SystemView}
-use Rattle.cyc_system_counts.specs.Keeping.{over_stays}
+use Rattle.cyc_system_laws.specs.System.{SystemView}
+use Rattle.cyc_system_laws.specs.Keeping.{over_stays}
 
 -- the id has as many stays of each level and interval as before, on all CPUs together; of their next expirations and counts
 -- nothing is said

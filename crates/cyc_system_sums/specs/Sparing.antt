@@ -2,7 +2,7 @@
 use Rattle.std.specs.Prelude.{ℕ, ◌≤◌}
 use Rattle.cyc_types.specs.Firing.{FiringView}
 use Rattle.cyc_agreement.specs.Cpus.{OfCpu}
-use Rattle.cyc_system_counts.specs.System.{SystemView}
+use Rattle.cyc_system_laws.specs.System.{SystemView}
 
 -- so many expirations are at most the ceiling of each soft level of each CPU
 abbrev pub IsUnderEach : {R : Type 0} → (R → FiringView) → ℕ → SystemView R → Type 0

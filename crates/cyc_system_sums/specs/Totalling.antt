@@ -16,10 +16,10 @@ use Rattle.cyc_types.specs.Runs.{lost_by}
 use Rattle.cyc_timers.specs.declared.fire.Fired.{Fired}
 use Rattle.cyc_timers.specs.declared.fire.FireRefused.{FireRefused}
 use Rattle.cyc_system_laws.specs.Accounts.{Account, account_of}
-use Rattle.cyc_system_counts.specs.SystemRemoval.TheVariants.{Done}
-use Rattle.cyc_system_counts.specs.System.{SystemView, RunningSystem}
-use Rattle.cyc_system_counts.specs.Calls.{SystemCall, Changes, Does, FireOne, BeginRemove, PollRemove}
-use Rattle.cyc_system_counts.specs.Sound.{IsSound}
+use Rattle.cyc_system_laws.specs.SystemRemoval.TheVariants.{Done}
+use Rattle.cyc_system_laws.specs.System.{SystemView, RunningSystem}
+use Rattle.cyc_system_laws.specs.SystemCalls.{SystemCall, Changes, Does, FireOne, BeginRemove, PollRemove}
+use Rattle.cyc_system_laws.specs.Sound.{IsSound}
 
 -- the expirations of an id at its level, whichever this is
 abbrev pub fired_in : Account → ℕ → ℕ

@@ -9,12 +9,12 @@ ghost use Rattle.cyc_timers.specs.declared.fire.FireRefused.{FireRefused};
 ghost use Rattle.cyc_soft.specs.declared.Ran.{Ran};
 ghost use Rattle.cyc_cpu.specs.Calls.{no_interrupts};
 ghost use Rattle.cyc_cpu.specs.Soft.{raise_tables, firing_at, Interrupts};
-ghost use Rattle.cyc_system_counts.specs.SoftFault.{SoftFault};
-ghost use Rattle.cyc_system_counts.specs.System.{SystemView, RunningSystem, is_omnipresent};
-ghost use Rattle.cyc_system_counts.specs.Laws.{cyclic_on};
-ghost use Rattle.cyc_system_counts.specs.Calls.{Changes, Does, FireOne, Offline, SoftInterrupt};
-ghost use Rattle.cyc_system_counts.specs.Sound.{IsSound};
-ghost use Rattle.cyc_system_counts.specs.Keeping.{SameStays};
+ghost use Rattle.cyc_system_laws.specs.SoftFault.{SoftFault};
+ghost use Rattle.cyc_system_laws.specs.System.{SystemView, RunningSystem, is_omnipresent};
+ghost use Rattle.cyc_system_laws.specs.Laws.{cyclic_on};
+ghost use Rattle.cyc_system_laws.specs.SystemCalls.{Changes, Does, FireOne, Offline, SoftInterrupt};
+ghost use Rattle.cyc_system_laws.specs.Sound.{IsSound};
+ghost use Rattle.cyc_system_laws.specs.Keeping.{SameStays};
 ghost use Rattle.cyc_system_sums.specs.Kinds.{SameKinds};
 
 use cyc_types::{Calls, Raise};

@@ -5,11 +5,11 @@ ghost use Rattle.std.specs.List.{FoldsTo};
 ghost use Rattle.cyc_core.specs.Tables.{Tables};
 ghost use Rattle.cyc_cpu.specs.Calls.{no_interrupts};
 ghost use Rattle.cyc_cpu.specs.Soft.{raise_tables, firing_at, Interrupts};
-ghost use Rattle.cyc_system_counts.specs.Counts.{all_expired, all_lost};
-ghost use Rattle.cyc_system_counts.specs.System.{RunningSystem, SystemView};
-ghost use Rattle.cyc_system_counts.specs.Calls.{SystemCall};
-ghost use Rattle.cyc_system_counts.specs.Sound.{IsSound};
-ghost use Rattle.cyc_system_counts.specs.Keeping.{EndsRemoval};
+ghost use Rattle.cyc_system_laws.specs.Counts.{all_expired, all_lost};
+ghost use Rattle.cyc_system_laws.specs.System.{RunningSystem, SystemView};
+ghost use Rattle.cyc_system_laws.specs.SystemCalls.{SystemCall};
+ghost use Rattle.cyc_system_laws.specs.Sound.{IsSound};
+ghost use Rattle.cyc_system_laws.specs.Keeping.{EndsRemoval};
 ghost use Rattle.cyc_system_sums.specs.Totalling.{Steps};
 ghost use Rattle.cyc_system_sums.specs.Sparing.{IsUnderEach};
 

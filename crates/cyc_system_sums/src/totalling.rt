@@ -6,11 +6,11 @@ ghost use Rattle.cyc_types.specs.declared.receipt.Receipt.{Receipt};
 ghost use Rattle.cyc_core.specs.Tables.{Tables};
 ghost use Rattle.cyc_cpu.specs.Calls.{no_interrupts};
 ghost use Rattle.cyc_cpu.specs.Soft.{raise_tables, fires, firing_at, Interrupts};
-ghost use Rattle.cyc_system_counts.specs.Counts.{all_expired, all_lost};
-ghost use Rattle.cyc_system_counts.specs.System.{SystemView, RunningSystem};
-ghost use Rattle.cyc_system_counts.specs.Calls.{SystemCall};
-ghost use Rattle.cyc_system_counts.specs.Sound.{IsSound};
-ghost use Rattle.cyc_system_counts.specs.Keeping.{EndsRemoval};
+ghost use Rattle.cyc_system_laws.specs.Counts.{all_expired, all_lost};
+ghost use Rattle.cyc_system_laws.specs.System.{SystemView, RunningSystem};
+ghost use Rattle.cyc_system_laws.specs.SystemCalls.{SystemCall};
+ghost use Rattle.cyc_system_laws.specs.Sound.{IsSound};
+ghost use Rattle.cyc_system_laws.specs.Keeping.{EndsRemoval};
 ghost use Rattle.cyc_system_sums.specs.Totalling.{Steps, expirations_along, losses_along, Answers};
 
 use cyc_types::{Calls, Raise};

@@ -9,7 +9,7 @@ use Rattle.cyc_threads.specs.Words.{Does}
 use Rattle.cyc_thread_calls.specs.Giving.{given_in, introduces}
 use Rattle.cyc_thread_calls.specs.Leading.{call_of}
 use Rattle.cyc_expected.specs.Expected.{Met}
-use Rattle.cyc_threads.specs.Progress.{Progress}
+use Rattle.cyc_threads.specs.declared.progress.Progress.{Progress}
 use Rattle.cyc_threads.specs.Steps.{TakesSteps}
 use Rattle.cyc_thread_calls.specs.Meeting.{accepted, steps_met}
 

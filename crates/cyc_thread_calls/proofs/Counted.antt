@@ -19,7 +19,7 @@ use Rattle.cyc_system_expected.specs.Leading.{LeadCall}
 use Rattle.cyc_system_expected.specs.Rings.{counts_in}
 use Rattle.cyc_system_expected.specs.ByLevel.{level_in, counts_at, is_own}
 use Rattle.cyc_system_expected.proofs.AtRings.{high_keeps, none_given}
-use Rattle.cyc_threads.specs.Line.{Line}
+use Rattle.cyc_threads.specs.declared.counting.Line.{Line}
 use Rattle.cyc_threads.specs.declared.running.Ended.{Ended}
 use Rattle.cyc_threads.specs.Reporting.{counts_of}
 use Rattle.cyc_threads.specs.Running.{HasRun}

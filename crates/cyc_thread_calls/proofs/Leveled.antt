@@ -18,8 +18,8 @@ use Rattle.cyc_system_expected.specs.Leading.{LeadCall, Make, FireAll, AskAll}
 use Rattle.cyc_system_expected.specs.Rings.{first_of}
 use Rattle.cyc_system_expected.specs.ByLevel.{level_given, level_in}
 use Rattle.cyc_system_expected.specs.Events.{AcceptedSteps}
-use Rattle.cyc_threads.specs.Progress.{Progress}
-use Rattle.cyc_threads.specs.ThreadStepsCalls.{Poll}
+use Rattle.cyc_threads.specs.declared.progress.Progress.{Progress}
+use Rattle.cyc_threads.specs.StepCalls.{Poll}
 use Rattle.cyc_threads.specs.Words.{Does, Begins, waits_first}
 use Rattle.cyc_threads.specs.Steps.{TakesSteps}
 use Rattle.cyc_thread_calls.specs.Leading.{calls_in, poll_calls, begin_calls, call_of, steps_calls}

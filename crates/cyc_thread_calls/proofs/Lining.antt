@@ -15,13 +15,13 @@ use Rattle.cyc_threads.specs.Counts.{all_expired, all_lost}
 use Rattle.cyc_system_expected.specs.Leading.{LeadCall}
 use Rattle.cyc_system_expected.specs.Rings.{receipt_in}
 use Rattle.cyc_threads.specs.Sound.{IsSound}
-use Rattle.cyc_threads.specs.Named.{Named}
-use Rattle.cyc_threads.specs.Named.TheVariants.{Nothing, Cyclic, Leaving, Removed}
-use Rattle.cyc_threads.specs.Progress.{Progress}
-use Rattle.cyc_threads.specs.Line.{Line}
-use Rattle.cyc_threads.specs.ThreadStepsNamed.{named_at}
+use Rattle.cyc_threads.specs.declared.named.Named.{Named}
+use Rattle.cyc_threads.specs.declared.named.Named.TheVariants.{Nothing, Cyclic, Leaving, Removed}
+use Rattle.cyc_threads.specs.declared.progress.Progress.{Progress}
+use Rattle.cyc_threads.specs.declared.counting.Line.{Line}
+use Rattle.cyc_threads.specs.Names.{named_at}
 use Rattle.cyc_threads.specs.Steps.{Runs}
-use Rattle.cyc_threads.specs.ThreadStepsReporting.{Told, Tells, TellsOf, Reports}
+use Rattle.cyc_threads.specs.Counting.{Told, Tells, TellsOf, Reports}
 use Rattle.cyc_thread_calls.specs.Leading.{told_calls_of, told_calls, report_calls, run_calls, all_calls}
 use Rattle.cyc_thread_calls.specs.Giving.{id_given}
 use Rattle.cyc_thread_calls.specs.Lines.{line_in, settled_line}

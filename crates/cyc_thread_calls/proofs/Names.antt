@@ -21,11 +21,11 @@ use Rattle.cyc_threads.specs.Calls.{SystemCall, Changes, Add, AddOmni, Bind, Beg
 use Rattle.cyc_threads.proofs.Pieces.{made_of}
 use Rattle.cyc_system_expected.specs.Leading.{LeadCall, Make, FireAll, AskAll}
 use Rattle.cyc_system_expected.specs.Rings.{receipt_of, first_of}
-use Rattle.cyc_threads.specs.Named.{Named}
-use Rattle.cyc_threads.specs.Named.TheVariants.{Nothing, Cyclic, Leaving, Removed}
-use Rattle.cyc_threads.specs.Progress.{Progress}
-use Rattle.cyc_threads.specs.ThreadStepsNamed.{named_at, id_of, news, noted}
-use Rattle.cyc_threads.specs.ThreadStepsCalls.{CallsFor, Poll, Polls, Waits}
+use Rattle.cyc_threads.specs.declared.named.Named.{Named}
+use Rattle.cyc_threads.specs.declared.named.Named.TheVariants.{Nothing, Cyclic, Leaving, Removed}
+use Rattle.cyc_threads.specs.declared.progress.Progress.{Progress}
+use Rattle.cyc_threads.specs.Names.{named_at, id_of, news, noted}
+use Rattle.cyc_threads.specs.StepCalls.{CallsFor, Poll, Polls, Waits}
 use Rattle.cyc_threads.specs.Words.{WithId, reprograms, Does, Begins, waits_first}
 use Rattle.cyc_threads.specs.Steps.{TakesSteps, Runs}
 use Rattle.cyc_thread_calls.specs.Leading.{calls_in, poll_calls, wait_calls, begin_calls, call_with, call_of}

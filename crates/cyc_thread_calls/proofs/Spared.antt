@@ -19,7 +19,7 @@ use Rattle.cyc_system_expected.specs.Leading.{LeadCall}
 use Rattle.cyc_system_expected.specs.Rings.{counts_in}
 use Rattle.cyc_system_expected.specs.ByLevel.{level_in, counts_at}
 use Rattle.cyc_system_expected.proofs.AtRings.{at_level, high_keeps, none_given}
-use Rattle.cyc_threads.specs.Line.{Line}
+use Rattle.cyc_threads.specs.declared.counting.Line.{Line}
 use Rattle.cyc_threads.specs.declared.running.Ended.{Ended}
 use Rattle.cyc_threads.specs.Running.{HasRun}
 use Rattle.cyc_thread_calls.specs.Calling.{lead_calls, last_system, id_of_name}

@@ -23,8 +23,8 @@ use Rattle.cyc_threads.specs.Agreement.{Agrees}
 use Rattle.cyc_threads.specs.Sound.{IsSound}
 use Rattle.cyc_threads.specs.Seated.{Seated}
 use Rattle.cyc_threads.specs.Rings.{AreNew, seats_of_ends, firing_seats}
-use Rattle.cyc_threads.specs.Progress.{Progress}
-use Rattle.cyc_threads.specs.ThreadStepsCalls.{IsReady}
+use Rattle.cyc_threads.specs.declared.progress.Progress.{Progress}
+use Rattle.cyc_threads.specs.StepCalls.{IsReady}
 use Rattle.cyc_threads.specs.Running.{IsAtFirst, most}
 
 -- ---- one CPU

@@ -11,15 +11,15 @@ use Rattle.cyc_script.specs.declared.step.Step.TheVariants as steps
 use Rattle.cyc_threads.specs.SystemRemoval.{SystemRemoval}
 use Rattle.cyc_threads.specs.Calls.{SystemCall, Add, AddOmni, Bind, BeginRemove, PollRemove, AskTotals, Juggle, Offline, Online}
 use Rattle.cyc_system_expected.specs.Leading.{LeadCall, Make, FireAll, AskAll}
-use Rattle.cyc_threads.specs.Named.{Named}
-use Rattle.cyc_threads.specs.Named.TheVariants.{Nothing, Cyclic, Leaving, Removed}
-use Rattle.cyc_threads.specs.Progress.{Progress}
-use Rattle.cyc_threads.specs.Line.{Line}
-use Rattle.cyc_threads.specs.ThreadStepsCalls.{CallsFor, Poll, Waits}
-use Rattle.cyc_threads.specs.ThreadStepsNamed.{named_at, id_of}
+use Rattle.cyc_threads.specs.declared.named.Named.{Named}
+use Rattle.cyc_threads.specs.declared.named.Named.TheVariants.{Nothing, Cyclic, Leaving, Removed}
+use Rattle.cyc_threads.specs.declared.progress.Progress.{Progress}
+use Rattle.cyc_threads.specs.declared.counting.Line.{Line}
+use Rattle.cyc_threads.specs.StepCalls.{CallsFor, Poll, Waits}
+use Rattle.cyc_threads.specs.Names.{named_at, id_of}
 use Rattle.cyc_threads.specs.Words.{WithId, reprograms, Does, Begins, TakesStep, waits_first}
 use Rattle.cyc_threads.specs.Steps.{TakesSteps, Runs}
-use Rattle.cyc_threads.specs.ThreadStepsReporting.{Told, Tells, TellsOf, Reports}
+use Rattle.cyc_threads.specs.Counting.{Told, Tells, TellsOf, Reports}
 
 -- a call, where there is one
 abbrev pub calls_in : Option LeadCall → List LeadCall

@@ -5,20 +5,20 @@ pub mod Lines
 pub mod Calling
 pub mod Levels
 pub mod Answering
-pub use Rattle.cyc_threads.specs.Line
+pub use Rattle.cyc_threads.specs.declared.counting.Line
 pub use Rattle.cyc_threads.specs.declared.running.Ended
 pub use Rattle.cyc_threads.specs.Reporting
 pub use Rattle.cyc_threads.specs.Running
 pub use Rattle.cyc_system_expected.specs.Events
-pub use Rattle.cyc_threads.specs.Named
-pub use Rattle.cyc_threads.specs.Progress
+pub use Rattle.cyc_threads.specs.declared.named.Named
+pub use Rattle.cyc_threads.specs.declared.progress.Progress
 pub use Rattle.cyc_threads.specs.Steps
-pub use Rattle.cyc_threads.specs.ThreadStepsReporting
+pub use Rattle.cyc_threads.specs.Counting
 pub use Rattle.cyc_threads.specs.SystemRemoval
 pub use Rattle.cyc_threads.specs.Calls
 pub use Rattle.cyc_system_expected.specs.Leading as SystemRingsLeading
-pub use Rattle.cyc_threads.specs.ThreadStepsNamed
-pub use Rattle.cyc_threads.specs.ThreadStepsCalls
+pub use Rattle.cyc_threads.specs.Names
+pub use Rattle.cyc_threads.specs.StepCalls
 pub use Rattle.cyc_threads.specs.Words
 pub use Rattle.cyc_threads.specs.Sound
 pub use Rattle.cyc_threads.specs.Seated

@@ -5,8 +5,8 @@ use Rattle.cyc_types.specs.declared.firing.Sent.{Sent}
 use Rattle.cyc_threads.specs.System.{SystemView}
 use Rattle.cyc_system_expected.specs.Leading.{LeadCall}
 use Rattle.cyc_system_expected.specs.Rings.{counts_in}
-use Rattle.cyc_threads.specs.Line.{Line}
-use Rattle.cyc_threads.specs.ThreadStepsReporting.{no_line}
+use Rattle.cyc_threads.specs.declared.counting.Line.{Line}
+use Rattle.cyc_threads.specs.Counting.{no_line}
 
 -- these counts, and nothing pending
 abbrev pub settled_line : Sent → Line

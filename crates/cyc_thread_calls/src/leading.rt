@@ -3,10 +3,10 @@
 ghost use Rattle.std.specs.Prelude.{ℕ, List};
 ghost use Rattle.std.specs.List.{FoldsTo};
 ghost use Rattle.cyc_script.specs.declared.step.Step.{Step};
-ghost use Rattle.cyc_threads.specs.Progress.{Progress};
-ghost use Rattle.cyc_threads.specs.Line.{Line};
+ghost use Rattle.cyc_threads.specs.declared.progress.Progress.{Progress};
+ghost use Rattle.cyc_threads.specs.declared.counting.Line.{Line};
 ghost use Rattle.cyc_threads.specs.Steps.{Runs};
-ghost use Rattle.cyc_threads.specs.ThreadStepsReporting.{Reports};
+ghost use Rattle.cyc_threads.specs.Counting.{Reports};
 ghost use Rattle.cyc_system_expected.specs.Events.{AcceptedSteps};
 ghost use Rattle.cyc_ring.specs.Ends.{raise_end};
 ghost use Rattle.cyc_script.specs.declared.script.Script.{Script as OneScript};

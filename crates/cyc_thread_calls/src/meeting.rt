@@ -3,7 +3,7 @@
 ghost use Rattle.std.specs.Prelude.{◌≡◌, ℕ, List, map, true, is_some};
 ghost use Rattle.std.specs.List.{FoldsTo};
 ghost use Rattle.cyc_script.specs.declared.step.Step.{Step};
-ghost use Rattle.cyc_threads.specs.Progress.{Progress};
+ghost use Rattle.cyc_threads.specs.declared.progress.Progress.{Progress};
 ghost use Rattle.cyc_threads.specs.Steps.{Runs};
 ghost use Rattle.cyc_threads.specs.Words.{Does};
 ghost use Rattle.cyc_thread_calls.specs.Giving.{given_in, introduces};

@@ -4,7 +4,7 @@ ghost use Rattle.std.specs.Prelude.{◌≡◌, ◌≢◌, ◌<◌, ◌≤◌, �
 ghost use Rattle.std.specs.List.{slice_get};
 ghost use Rattle.cyc_types.specs.declared.level.Level.{Level as OneLevel};
 ghost use Rattle.cyc_script.specs.declared.script.Script.{Script as OneScript};
-ghost use Rattle.cyc_threads.specs.Line.{Line as OneLine};
+ghost use Rattle.cyc_threads.specs.declared.counting.Line.{Line as OneLine};
 ghost use Rattle.cyc_threads.specs.declared.running.Ended.{Ended as Ends};
 ghost use Rattle.cyc_threads.specs.Reporting.{counts_of};
 ghost use Rattle.cyc_threads.specs.Running.{HasRun};

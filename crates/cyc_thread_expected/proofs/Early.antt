@@ -19,11 +19,11 @@ use Rattle.cyc_thread_calls.specs.Named.{Named}
 use Rattle.cyc_thread_calls.specs.Named.TheVariants.{Nothing, Cyclic, Leaving, Removed}
 use Rattle.cyc_thread_calls.specs.Progress.{Progress}
 use Rattle.cyc_thread_calls.specs.Line.{Line}
-use Rattle.cyc_thread_calls.specs.ThreadStepsNamed.{named_at, id_of}
-use Rattle.cyc_thread_calls.specs.ThreadStepsCalls.{CallsFor, Poll, Waits}
+use Rattle.cyc_thread_calls.specs.Names.{named_at, id_of}
+use Rattle.cyc_thread_calls.specs.StepCalls.{CallsFor, Poll, Waits}
 use Rattle.cyc_thread_calls.specs.Words.{WithId, reprograms, Does, Begins, waits_first}
 use Rattle.cyc_thread_calls.specs.Steps.{TakesSteps, Runs}
-use Rattle.cyc_thread_calls.specs.ThreadStepsReporting.{Told, Tells, TellsOf, Reports}
+use Rattle.cyc_thread_calls.specs.Counting.{Told, Tells, TellsOf, Reports}
 use Rattle.cyc_thread_calls.specs.Leading.{calls_in, poll_calls, wait_calls, begin_calls, call_with, call_of, steps_calls}
 use Rattle.cyc_thread_calls.specs.Leading.{told_calls_of, told_calls, all_calls}
 use Rattle.cyc_thread_expected.proofs.Rising.{and_left, and_right}

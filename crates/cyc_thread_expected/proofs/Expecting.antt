@@ -12,7 +12,7 @@ use Rattle.cyc_thread_calls.specs.Named.TheVariants.{Nothing}
 use Rattle.cyc_thread_calls.specs.Progress.{Progress}
 use Rattle.cyc_thread_calls.specs.Line.{Line}
 use Rattle.cyc_thread_calls.specs.Steps.{Runs}
-use Rattle.cyc_thread_calls.specs.ThreadStepsReporting.{Reports}
+use Rattle.cyc_thread_calls.specs.Counting.{Reports}
 use Rattle.cyc_thread_calls.specs.Leading.{all_calls}
 use Rattle.cyc_thread_calls.specs.Meeting.{way_of}
 use Rattle.cyc_thread_calls.specs.Giving.{id_given}

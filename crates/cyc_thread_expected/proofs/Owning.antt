@@ -7,7 +7,7 @@ use Rattle.cyc_thread_calls.specs.SystemRemoval.TheVariants.{Done, Kept}
 use Rattle.cyc_thread_calls.specs.Calls.{SystemCall, Add, AddOmni, BeginRemove, PollRemove}
 use Rattle.cyc_thread_calls.specs.Named.{Named}
 use Rattle.cyc_thread_calls.specs.Named.TheVariants.{Nothing, Cyclic, Leaving, Removed}
-use Rattle.cyc_thread_calls.specs.ThreadStepsNamed.{named_at, id_of, news, noted}
+use Rattle.cyc_thread_calls.specs.Names.{named_at, id_of, news, noted}
 
 -- the ids that a call is about
 abbrev pub IsFor : ℕ → SystemCall → Type 0

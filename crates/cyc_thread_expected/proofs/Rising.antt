@@ -19,8 +19,8 @@ use Rattle.cyc_thread_calls.proofs.Pieces.{made_of}
 use Rattle.cyc_thread_calls.specs.SystemRingsLeading.{LeadCall, Make}
 use Rattle.cyc_thread_calls.proofs.Singles.{ok_err}
 use Rattle.cyc_thread_calls.specs.Progress.{Progress}
-use Rattle.cyc_thread_calls.specs.ThreadStepsNamed.{named_at, id_of}
-use Rattle.cyc_thread_calls.specs.ThreadStepsCalls.{CallsFor, Poll, Polls}
+use Rattle.cyc_thread_calls.specs.Names.{named_at, id_of}
+use Rattle.cyc_thread_calls.specs.StepCalls.{CallsFor, Poll, Polls}
 use Rattle.cyc_thread_calls.specs.Words.{WithId, reprograms, Does, Begins, waits_first}
 use Rattle.cyc_thread_calls.specs.Steps.{TakesSteps}
 use Rattle.cyc_thread_calls.specs.Leading.{call_of}

@@ -12,9 +12,9 @@ use Rattle.cyc_thread_calls.specs.Named.{Named}
 use Rattle.cyc_thread_calls.specs.Named.TheVariants.{Nothing, Cyclic, Leaving, Removed}
 use Rattle.cyc_thread_calls.specs.Progress.{Progress}
 use Rattle.cyc_thread_calls.specs.Line.{Line}
-use Rattle.cyc_thread_calls.specs.ThreadStepsNamed.{named_at}
+use Rattle.cyc_thread_calls.specs.Names.{named_at}
 use Rattle.cyc_thread_calls.specs.Steps.{Runs}
-use Rattle.cyc_thread_calls.specs.ThreadStepsReporting.{Told as Reported, Tells, TellsOf, Reports}
+use Rattle.cyc_thread_calls.specs.Counting.{Told as Reported, Tells, TellsOf, Reports}
 use Rattle.cyc_thread_calls.specs.Leading.{wait_calls, steps_calls, told_calls_of, told_calls, report_calls, all_calls}
 use Rattle.cyc_thread_calls.specs.Meeting.{way_of}
 use Rattle.cyc_thread_calls.specs.Giving.{id_given}

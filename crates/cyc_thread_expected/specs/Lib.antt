@@ -9,12 +9,12 @@ pub use Rattle.cyc_thread_calls.specs.Meeting
 pub use Rattle.cyc_thread_calls.specs.SystemRingsLeading
 pub use Rattle.cyc_thread_calls.specs.Calls
 pub use Rattle.cyc_thread_calls.specs.Line
-pub use Rattle.cyc_thread_calls.specs.ThreadStepsReporting as Reporting
+pub use Rattle.cyc_thread_calls.specs.Counting
 pub use Rattle.cyc_thread_calls.specs.Reporting as ThreadsReporting
 pub use Rattle.cyc_thread_calls.specs.Keeping
 pub use Rattle.cyc_thread_calls.specs.Named
-pub use Rattle.cyc_thread_calls.specs.ThreadStepsCalls
-pub use Rattle.cyc_thread_calls.specs.ThreadStepsNamed
+pub use Rattle.cyc_thread_calls.specs.StepCalls
+pub use Rattle.cyc_thread_calls.specs.Names
 pub use Rattle.cyc_thread_calls.specs.Words
 pub use Rattle.cyc_thread_calls.specs.System
 pub use Rattle.cyc_thread_calls.specs.Sound

@@ -10,7 +10,7 @@ ghost use Rattle.cyc_thread_calls.specs.Named.TheVariants.{Nothing};
 ghost use Rattle.cyc_thread_calls.specs.Progress.{Progress};
 ghost use Rattle.cyc_thread_calls.specs.Line.{Line};
 ghost use Rattle.cyc_thread_calls.specs.Steps.{Runs};
-ghost use Rattle.cyc_thread_calls.specs.ThreadStepsReporting.{Reports};
+ghost use Rattle.cyc_thread_calls.specs.Counting.{Reports};
 ghost use Rattle.cyc_thread_calls.specs.Leading.{all_calls};
 ghost use Rattle.cyc_thread_calls.specs.Meeting.{way_of};
 ghost use Rattle.cyc_thread_calls.specs.Giving.{id_given};

@@ -3,9 +3,9 @@ use Rattle.std.proofs.Common.{◌≡◌, ℕ, List, [], ap, sym, subst, ◌∙�
 use Rattle.std.proofs.lemmas.List.{length-map}
 use Rattle.cyc_types.specs.Firing.{FiringView}
 use Rattle.cyc_agreement.specs.Cpus.{CpusView, new_cpu, new_cpus}
-use Rattle.cyc_thread_steps.specs.Sound.{IsSound}
-use Rattle.cyc_thread_steps.specs.System.{SystemView}
-use Rattle.cyc_thread_steps.specs.SystemSide.{SystemSide}
+use Rattle.cyc_system_laws.specs.Sound.{IsSound}
+use Rattle.cyc_system_workers.specs.System.{SystemView}
+use Rattle.cyc_system_workers.specs.declared.side.SystemSide.{SystemSide}
 use Rattle.cyc_threads.specs.Running.{most}
 
 -- as many CPUs as ends

@@ -6,17 +6,17 @@ use Rattle.cyc_types.specs.declared.Calls.{Ghosts as Calls}
 use Rattle.cyc_types.specs.declared.Raise.{Ghosts as Raise}
 use Rattle.cyc_script.specs.declared.step.Step.{Step}
 use Rattle.cyc_script.specs.declared.step.Step.TheVariants as steps
-use Rattle.cyc_thread_steps.specs.SystemCalls.{SystemCall, PollRemove}
-use Rattle.cyc_thread_steps.specs.declared.named.Named.{Named}
-use Rattle.cyc_thread_steps.specs.declared.named.Named.TheVariants.{Nothing, Cyclic, Leaving, Removed}
-use Rattle.cyc_thread_steps.specs.declared.progress.Progress.{Progress}
-use Rattle.cyc_thread_steps.specs.declared.reporting.Line.{Line}
-use Rattle.cyc_thread_steps.specs.Named.{named_at, id_of}
-use Rattle.cyc_thread_steps.specs.Calls.{CallsFor, Poll, Polls, Settles, Waits, Fires}
-use Rattle.cyc_thread_steps.specs.Reporting.{Told, TellsOf, Tells, Reports}
-use Rattle.cyc_thread_steps.specs.Steps.{TakesSteps, Runs}
-use Rattle.cyc_thread_steps.proofs.Within.{with_series, with_moment, with_id}
-use Rattle.cyc_thread_steps.specs.Words.{Does, Begins, waits_first}
+use Rattle.cyc_system_workers.specs.Calls.{SystemCall, PollRemove}
+use Rattle.cyc_threads.specs.declared.named.Named.{Named}
+use Rattle.cyc_threads.specs.declared.named.Named.TheVariants.{Nothing, Cyclic, Leaving, Removed}
+use Rattle.cyc_threads.specs.declared.progress.Progress.{Progress}
+use Rattle.cyc_threads.specs.declared.counting.Line.{Line}
+use Rattle.cyc_threads.specs.Names.{named_at, id_of}
+use Rattle.cyc_threads.specs.StepCalls.{CallsFor, Poll, Polls, Settles, Waits, Fires}
+use Rattle.cyc_threads.specs.Counting.{Told, TellsOf, Tells, Reports}
+use Rattle.cyc_threads.specs.Steps.{TakesSteps, Runs}
+use Rattle.cyc_threads.proofs.Within.{with_series, with_moment, with_id}
+use Rattle.cyc_threads.specs.Words.{Does, Begins, waits_first}
 
 module _ {C R : Type 0} (handler : Calls C)
     (firing : Raise R) (K : Progress R C → Progress R C → Type 0)

@@ -1,3 +1,9 @@
+mod Ready
+pub mod Within
+mod Taking
+mod Refusing
+mod Telling
+pub mod Quiet
 pub mod Following
 pub mod Seats
 pub mod First
@@ -6,21 +12,20 @@ pub mod Playing
 pub mod Texts
 pub mod Played
 pub mod Ran
-pub use Rattle.cyc_thread_steps.proofs.Quiet
-pub use Rattle.cyc_thread_steps.proofs.Spots
-pub use Rattle.cyc_thread_steps.proofs.Lists
-pub use Rattle.cyc_thread_steps.proofs.Pieces
-pub use Rattle.cyc_thread_steps.proofs.Recording
-pub use Rattle.cyc_thread_steps.proofs.Answering
-pub use Rattle.cyc_thread_steps.proofs.Sums
-pub use Rattle.cyc_thread_steps.proofs.Counts
-pub use Rattle.cyc_thread_steps.proofs.Stills
-pub use Rattle.cyc_thread_steps.proofs.Beginning
-pub use Rattle.cyc_thread_steps.proofs.Looked
-pub use Rattle.cyc_thread_steps.proofs.Folds
-pub use Rattle.cyc_thread_steps.proofs.Others
-pub use Rattle.cyc_thread_steps.proofs.Where
-pub use Rattle.cyc_thread_steps.proofs.Staying
-pub use Rattle.cyc_thread_steps.proofs.Presence
-pub use Rattle.cyc_thread_steps.proofs.FirstReason
-pub use Rattle.cyc_thread_steps.proofs.Settles
+pub use Rattle.cyc_system_laws.proofs.Spots
+pub use Rattle.cyc_system_laws.proofs.Lists
+pub use Rattle.cyc_system_laws.proofs.Pieces
+pub use Rattle.cyc_system_laws.proofs.Recording
+pub use Rattle.cyc_system_laws.proofs.Answering
+pub use Rattle.cyc_system_laws.proofs.Sums
+pub use Rattle.cyc_system_laws.proofs.Counts
+pub use Rattle.cyc_system_laws.proofs.Stills
+pub use Rattle.cyc_system_workers.proofs.Beginning
+pub use Rattle.cyc_system_laws.proofs.Looked
+pub use Rattle.cyc_system_laws.proofs.Folds
+pub use Rattle.cyc_system_laws.proofs.Others
+pub use Rattle.cyc_system_laws.proofs.Where
+pub use Rattle.cyc_system_laws.proofs.Staying
+pub use Rattle.cyc_system_workers.proofs.Presence
+pub use Rattle.cyc_system_workers.proofs.FirstReason
+pub use Rattle.cyc_system_laws.proofs.Settles

@@ -22,10 +22,10 @@ use Rattle.cyc_thread_rings.specs.Laid.{EachTwo}
 use Rattle.cyc_thread_rings.specs.Rings.{AreSeated, AreNew, IsAttached, seats_of_ends, firing_seats, seats_on, soft_seats}
 use Rattle.cyc_thread_rings.specs.Rings.{soft_seats_on}
 use Rattle.cyc_thread_rings.proofs.Each.{each_long}
-use Rattle.cyc_thread_steps.specs.declared.named.Named.TheVariants.{Nothing}
-use Rattle.cyc_thread_steps.specs.declared.progress.Progress.{Progress}
-use Rattle.cyc_thread_steps.specs.declared.reporting.Line.{Line}
-use Rattle.cyc_thread_steps.specs.Reporting.{Reports}
+use Rattle.cyc_threads.specs.declared.named.Named.TheVariants.{Nothing}
+use Rattle.cyc_threads.specs.declared.progress.Progress.{Progress}
+use Rattle.cyc_threads.specs.declared.counting.Line.{Line}
+use Rattle.cyc_threads.specs.Counting.{Reports}
 use Rattle.cyc_threads.specs.declared.running.Played.{Played}
 use Rattle.cyc_threads.specs.declared.working.Worked.{Worked}
 use Rattle.cyc_threads.specs.Working.{HaveMade, HasWorked, WhyRefused}

@@ -13,7 +13,7 @@ use Rattle.cyc_thread_rings.specs.declared.levels.Levels.{Levels}
 use Rattle.cyc_thread_rings.specs.declared.levels.Seated.{Seated}
 use Rattle.cyc_thread_rings.specs.Laid.{EachTwo, three, two}
 use Rattle.cyc_thread_rings.specs.Rings.{AreNew, AreClosed, AreSeated}
-use Rattle.cyc_thread_steps.specs.declared.reporting.Line.{Line}
+use Rattle.cyc_threads.specs.declared.counting.Line.{Line}
 use Rattle.cyc_threads.specs.declared.running.Ended.{Ended}
 use Rattle.cyc_threads.specs.Reporting.{report_text}
 use Rattle.cyc_threads.specs.Running.{calls_of, AreAllClosed, HasPlayed, HasRun}

@@ -4,16 +4,16 @@ use Rattle.cyc_types.specs.declared.Calls.{Ghosts as Calls}
 use Rattle.cyc_ring.specs.declared.ends.RaiseEnd.{RaiseEnd}
 use Rattle.cyc_ring.specs.Ends.{raise_end, end_view}
 use Rattle.cyc_script.specs.declared.step.Step.{Step}
-use Rattle.cyc_thread_steps.specs.SystemCalls.{SystemCall}
-use Rattle.cyc_thread_steps.specs.SystemSide.{SystemSide}
+use Rattle.cyc_system_workers.specs.Calls.{SystemCall}
+use Rattle.cyc_system_workers.specs.declared.side.SystemSide.{SystemSide}
 use Rattle.cyc_seats.specs.Seats.{HaveSameSeats}
 use Rattle.cyc_seats.proofs.Keeping.{same_all, then_all, called_all, asked_all, fired_all, same_long}
-use Rattle.cyc_thread_steps.specs.declared.progress.Progress.{Progress}
-use Rattle.cyc_thread_steps.specs.declared.reporting.Line.{Line}
-use Rattle.cyc_thread_steps.specs.Sound.{IsSound}
-use Rattle.cyc_thread_steps.specs.Calls.{IsReady, CallsFor, Settles, Fires}
-use Rattle.cyc_thread_steps.specs.Reporting.{Reports}
-use Rattle.cyc_thread_steps.specs.Steps.{Runs}
+use Rattle.cyc_threads.specs.declared.progress.Progress.{Progress}
+use Rattle.cyc_threads.specs.declared.counting.Line.{Line}
+use Rattle.cyc_system_laws.specs.Sound.{IsSound}
+use Rattle.cyc_threads.specs.StepCalls.{IsReady, CallsFor, Settles, Fires}
+use Rattle.cyc_threads.specs.Counting.{Reports}
+use Rattle.cyc_threads.specs.Steps.{Runs}
 use Rattle.cyc_threads.proofs.Following.{runs_all, reports_all}
 
 -- the lead is ready, and its system sound

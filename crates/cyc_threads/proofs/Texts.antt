@@ -4,7 +4,7 @@ use Rattle.std.proofs.Common.{take, length, append_assoc, get_or, map, min}
 use Rattle.std.proofs.lemmas.List.{get_or-map, get_or_default, length-map}
 use Rattle.cyc_text.specs.declared.lines.Counts.{Counts}
 use Rattle.cyc_text.specs.Lines.{reported}
-use Rattle.cyc_thread_steps.specs.declared.reporting.Line.{Line}
+use Rattle.cyc_threads.specs.declared.counting.Line.{Line}
 use Rattle.cyc_threads.specs.Reporting.{counts_of, report_text}
 
 no_more : (xs : List ℕ) → xs ++ [] ≡ xs

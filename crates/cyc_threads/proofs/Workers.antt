@@ -29,10 +29,10 @@ use Rattle.cyc_thread_rings.specs.Laid.{EachTwo}
 use Rattle.cyc_thread_rings.specs.Working.{HasPromised, HaveKept, HaveDrained, both_sides}
 use Rattle.cyc_thread_rings.specs.Refusing.{of_fire, of_level, refusals_from, first_in}
 use Rattle.cyc_thread_rings.proofs.Each.{each_then}
-use Rattle.cyc_thread_steps.specs.declared.halt.Halt.{Halt}
-use Rattle.cyc_thread_steps.specs.declared.halt.Halt.TheVariants as halt
-use Rattle.cyc_thread_steps.specs.declared.progress.Progress.{Progress}
-use Rattle.cyc_thread_steps.specs.Steps.{Runs, WhyHalted, IsHalted, StepHalts}
+use Rattle.cyc_threads.specs.declared.halt.Halt.{Halt}
+use Rattle.cyc_threads.specs.declared.halt.Halt.TheVariants as halt
+use Rattle.cyc_threads.specs.declared.progress.Progress.{Progress}
+use Rattle.cyc_threads.specs.Steps.{Runs, WhyHalted, IsHalted, StepHalts}
 use Rattle.cyc_threads.specs.declared.working.Worked.{Worked}
 use Rattle.cyc_threads.specs.Working.{refusal_of, HaveMade, WhyRefused, Works}
 

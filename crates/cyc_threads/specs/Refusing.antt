@@ -12,9 +12,9 @@ use Rattle.cyc_text.specs.Puts.{AppendsPrefix}
 use Rattle.cyc_workers.specs.Refusals.{HandlerRefuses}
 use Rattle.cyc_thread_rings.specs.declared.levels.Seated.{Seated}
 use Rattle.cyc_thread_rings.specs.Rings.{AreNew}
-use Rattle.cyc_thread_steps.specs.declared.halt.Halt.TheVariants as halt
-use Rattle.cyc_thread_steps.specs.declared.progress.Progress.{Progress}
-use Rattle.cyc_thread_steps.specs.Steps.{IsHalted}
+use Rattle.cyc_threads.specs.declared.halt.Halt.TheVariants as halt
+use Rattle.cyc_threads.specs.declared.progress.Progress.{Progress}
+use Rattle.cyc_threads.specs.Steps.{IsHalted}
 use Rattle.cyc_threads.specs.declared.running.Ended.{Ended}
 use Rattle.cyc_threads.specs.Running.{calls_of, IsAtFirst, HasRun}
 

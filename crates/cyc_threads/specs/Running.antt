@@ -14,11 +14,11 @@ use Rattle.cyc_thread_rings.specs.declared.levels.Levels.{Levels}
 use Rattle.cyc_thread_rings.specs.declared.levels.Seated.{Seated}
 use Rattle.cyc_thread_rings.specs.Laid.{EachTwo, three, two}
 use Rattle.cyc_thread_rings.specs.Rings.{AreNew, AreClosed, seats_of_ends, firing_seats, seats_on}
-use Rattle.cyc_thread_steps.specs.declared.named.Named.TheVariants.{Nothing}
-use Rattle.cyc_thread_steps.specs.declared.progress.Progress.{Progress}
-use Rattle.cyc_thread_steps.specs.declared.reporting.Line.{Line}
-use Rattle.cyc_thread_steps.specs.Steps.{Runs}
-use Rattle.cyc_thread_steps.specs.Reporting.{Reports}
+use Rattle.cyc_threads.specs.declared.named.Named.TheVariants.{Nothing}
+use Rattle.cyc_threads.specs.declared.progress.Progress.{Progress}
+use Rattle.cyc_threads.specs.declared.counting.Line.{Line}
+use Rattle.cyc_threads.specs.Steps.{Runs}
+use Rattle.cyc_threads.specs.Counting.{Reports}
 use Rattle.cyc_threads.specs.declared.running.Ended.{Ended}
 use Rattle.cyc_threads.specs.Reporting.{report_text}
 

@@ -10,15 +10,15 @@ use Rattle.cyc_types.specs.declared.refusal.Refusal.TheVariants.{Memory, Handler
 use Rattle.cyc_script.specs.declared.step.Step.{Step}
 use Rattle.cyc_soft.specs.declared.SoftSide.{SoftSide}
 use Rattle.cyc_workers.specs.declared.draining.Drained.{Drained}
-use Rattle.cyc_thread_steps.specs.declared.halt.Halt.{Halt}
-use Rattle.cyc_thread_steps.specs.declared.halt.Halt.TheVariants as halt
+use Rattle.cyc_threads.specs.declared.halt.Halt.{Halt}
+use Rattle.cyc_threads.specs.declared.halt.Halt.TheVariants as halt
 use Rattle.cyc_workers.specs.Draining.{Makes}
 use Rattle.cyc_workers.specs.Refusals.{HandlerRefuses}
 use Rattle.cyc_thread_rings.specs.declared.levels.Levels.{Levels}
 use Rattle.cyc_thread_rings.specs.Laid.{EachTwo}
 use Rattle.cyc_thread_rings.specs.Refusing.{refusals_from, first_in}
-use Rattle.cyc_thread_steps.specs.declared.progress.Progress.{Progress}
-use Rattle.cyc_thread_steps.specs.Steps.{Runs, IsHalted}
+use Rattle.cyc_threads.specs.declared.progress.Progress.{Progress}
+use Rattle.cyc_threads.specs.Steps.{Runs, IsHalted}
 use Rattle.cyc_threads.specs.declared.working.Worked.{Worked}
 
 -- the refusal that a run ends with, by how the steps ended and by what the draining workers left: where memory was refused that

@@ -4,12 +4,13 @@ ghost use Rattle.std.specs.Prelude.{◌≡◌, ◌<◌, ◌≤◌, [], All, map,
 ghost use Rattle.cyc_types.specs.declared.refusal.Refusal.TheVariants.{Memory};
 ghost use Rattle.cyc_cpu.specs.Cpu.{IsFresh};
 ghost use Rattle.cyc_agreement.specs.Cpus.{new_cpus};
-ghost use Rattle.cyc_thread_steps.specs.Sound.{IsSound};
-ghost use Rattle.cyc_thread_steps.specs.Calls.{IsReady};
-ghost use Rattle.cyc_thread_steps.specs.declared.named.Named.TheVariants.{Nothing};
+ghost use Rattle.cyc_system_laws.specs.Sound.{IsSound};
+ghost use Rattle.cyc_threads.specs.StepCalls.{IsReady};
+ghost use Rattle.cyc_threads.specs.declared.named.Named.TheVariants.{Nothing};
 ghost use Rattle.cyc_threads.specs.Running.{most};
 
-use cyc_thread_steps::{Progress, System, SystemSide, begin};
+use crate::progress::{Progress, begin};
+use cyc_system_workers::{System, SystemSide};
 use cyc_types::{CyclicId, Raise, Refusal};
 use cyc_workers::Lead;
 use std::alloc::Global;

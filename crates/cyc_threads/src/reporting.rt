@@ -3,8 +3,8 @@
 ghost use Rattle.std.specs.Prelude.{◌≡◌, map, string_bytes, IfOk};
 ghost use Rattle.cyc_threads.specs.Reporting.{counts_of, report_text};
 
+use crate::counting::Line;
 use cyc_text::{Counts, write_report};
-use cyc_thread_steps::Line;
 use std::alloc::{AllocError, Global};
 
 /// What the report says of a name: its calls are the expirations that were not lost.

@@ -8,24 +8,26 @@ ghost use Rattle.cyc_ring.specs.declared.ends.RaiseEnd.{RaiseEnd as FiringEnd};
 ghost use Rattle.cyc_ring.specs.Ends.{raise_end, end_view};
 ghost use Rattle.cyc_thread_rings.specs.Laid.{EachTwo};
 ghost use Rattle.cyc_thread_rings.specs.Rings.{AreSeated, AreNew, soft_seats, soft_seats_on};
-ghost use Rattle.cyc_thread_steps.specs.declared.progress.Progress.{Progress as OneProgress};
-ghost use Rattle.cyc_thread_steps.specs.Sound.{IsSound};
-ghost use Rattle.cyc_thread_steps.specs.Calls.{IsReady};
-ghost use Rattle.cyc_thread_steps.specs.Reporting.{Reports};
+ghost use Rattle.cyc_threads.specs.declared.progress.Progress.{Progress as OneProgress};
+ghost use Rattle.cyc_system_laws.specs.Sound.{IsSound};
+ghost use Rattle.cyc_threads.specs.StepCalls.{IsReady};
+ghost use Rattle.cyc_threads.specs.Counting.{Reports};
 ghost use Rattle.cyc_threads.specs.Running.{calls_of, IsAtLast, AreAllClosed, HasRun, HasPlayed};
 ghost use Rattle.cyc_threads.specs.Refusing.{WhyNotPlayed, WhyNotRun, StopsBy};
 
+use crate::counting::{Line, report};
 use crate::leading::lead;
+use crate::progress::Progress;
 use crate::reporting::report_text;
 use crate::working::{Worked, work_all};
 use cyc_ring::{Closed, DrainEnd, RaiseEnd, Ring};
 use cyc_script::Script;
+use cyc_system_workers::SystemSide;
 use cyc_text::{RunFault, Sink};
 use cyc_thread_rings::{
     Levels, Opened, Prepared, Seated, attach, by_cpu, close_rings, in_one, in_pairs, leave_all,
     open_rings, prepare, seat_all, unseat_all,
 };
-use cyc_thread_steps::{Line, Progress, SystemSide, report};
 use cyc_types::{Calls, Refusal};
 use std::alloc::{AllocError, Global};
 use std::sync::Wait;

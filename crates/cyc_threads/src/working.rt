@@ -3,14 +3,16 @@
 ghost use Rattle.std.specs.Prelude.{◌≡◌, ◌⊎◌, map, IfOk, IfErr, Ok, Some, None};
 ghost use Rattle.cyc_types.specs.declared.refusal.Refusal.TheVariants.{Memory};
 ghost use Rattle.cyc_thread_rings.specs.Working.{sides_of, both_sides};
-ghost use Rattle.cyc_thread_steps.specs.Calls.{IsReady};
+ghost use Rattle.cyc_threads.specs.StepCalls.{IsReady};
 ghost use Rattle.cyc_threads.specs.Working.{refusal_of, Works};
 
+use crate::halt::Halt;
+use crate::progress::Progress;
+use crate::stepping::take_steps;
 use cyc_script::Script;
 use cyc_thread_rings::{
     Drainer, Fire, Levels, first_refusal, join_all, soft_sides, start_all, stop_all,
 };
-use cyc_thread_steps::{Halt, Progress, take_steps};
 use cyc_types::{Calls, Drain, Raise, Refusal};
 use cyc_workers::{Drained, Signals, SoftSide, Wakers};
 use std::alloc::Global;

@@ -1,6 +1,6 @@
 use Rattle.std.proofs.Common.{arith}
 use Rattle.cyc_cpu.specs.Soft.{raise_tables, Interrupts}
-use Rattle.cyc_cpus_laws.proofs.Softs.{interrupts_settle}
+use Rattle.cyc_cpu_laws.proofs.Softs.{interrupts_settle}
 use Rattle.cyc_system_laws.proofs.Calming.{run_settled}
 use Rattle.cyc_system_laws.proofs.settling.calm_core_law.Goals as goal
 

@@ -1,5 +1,5 @@
 use Rattle.std.proofs.Common.{ℕ, ◌-◌, ap, ◌∙◌}
-use Rattle.cyc_thread_steps.specs.SystemSide.{SystemSide}
+use Rattle.cyc_system_workers.specs.declared.side.SystemSide.{SystemSide}
 use Rattle.cyc_threads.proofs.First.{first_cpus, first_records, first_last, first_ready, first_sound}
 use Rattle.cyc_threads.proofs.leading.lead.Goals as goal
 

@@ -1,9 +1,0 @@
-pub mod Destinations
-pub mod Gone
-pub mod Moved
-pub mod Runs
-pub use Rattle.cyc_cpu.specs.Rows
-pub use Rattle.cyc_level.specs.Lawful
-pub use Rattle.cyc_cpu_laws.specs.Settled
-pub use Rattle.cyc_cpu_laws.specs.Accounts
-pub use Rattle.cyc_cpu_laws.specs.Cores

@@ -1,8 +1,0 @@
-use Rattle.cyc_thread_steps.specs.Words.{waits_first}
-use Rattle.cyc_thread_steps.proofs.Ready.{begins_ready}
-use Rattle.cyc_thread_steps.proofs.stepping.take_step.Goals as goal
-
-pub do_step-requires-clause-ready : goal.do_step-requires-clause-ready
-do_step-requires-clause-ready g c κs within =
-    begins_ready g.C.Calls g.R.Raise
-    (waits_first c.args.step.now) c.args.progress c.in_ok-begun.begun c.in_ok-begun.ensures.begun c.requires.ready

@@ -1,0 +1,21 @@
+use Rattle.std.proofs.Common.{arith}
+use Rattle.cyc_threads.proofs.Taking.{reached_first, reached_next, reached_runs}
+use Rattle.cyc_threads.proofs.stepping.take_steps.Goals as goal
+
+pub loop-place-init : goal.loop-place-init
+loop-place-init g c = reached_first g.C.Calls g.R.Raise c.args.script.now.steps.items
+    c.args.progress c.args.script.now.well_formed.moments_in_order c.requires
+
+pub loop-place-preserved : goal.loop-place-preserved
+loop-place-preserved g c = let test = c.loop-place-test.true in let long = c.len-place-end.ensures in
+    reached_next g.C.Calls g.R.Raise c.args.script.now.steps.items
+    c.loop-place.place c.index.result.now c.args.progress c.loop-place.progress c.in_ok-progress.progress
+    (omega (arith, test, long)) c.index.ensures
+    c.loop-place.invariant c.in_ok-progress.ensures.taken
+
+pub returns-clause-ran : goal.returns-clause-ran
+returns-clause-ran g c = let test = c.loop-place-test.false in let long = c.len-place-end.ensures in
+    reached_runs g.C.Calls g.R.Raise c.args.script.now.steps.items
+    c.loop-place.place c.args.progress c.loop-place.progress c.in_ok-settled.settled
+    (omega (arith, test, long)) c.loop-place.invariant
+    c.in_ok-settled.ensures.waited

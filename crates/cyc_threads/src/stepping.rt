@@ -1,0 +1,129 @@
+//! The steps of a script.
+
+ghost use Rattle.std.specs.Prelude.{◌≡◌, ◌<◌, ℕ, IfOk, IfErr};
+ghost use Rattle.cyc_types.specs.Series.{never};
+ghost use Rattle.cyc_script.specs.declared.step.Step.TheVariants as steps;
+ghost use Rattle.cyc_threads.specs.StepCalls.{IsReady};
+ghost use Rattle.cyc_threads.specs.Words.{Begins, Does, TakesStep, waits_first};
+ghost use Rattle.cyc_threads.specs.Steps.{IsTold, IsBefore, Runs, StepHalts, WhyHalted};
+
+use crate::adding::{add, add_omni};
+use crate::advancing::advance_clock;
+use crate::changing::{bind, juggle, offline, online, reprogram, unbind};
+use crate::halt::Halt;
+use crate::progress::Progress;
+use crate::removing::remove;
+use crate::waiting::wait;
+use cyc_script::{Script, Step};
+use cyc_system_workers::Signals;
+use cyc_types::{Calls, Raise};
+use std::alloc::Global;
+use std::sync::Wait;
+use std::thread::Threads;
+
+/// Whether a step has to wait until no removal is open and every CPU has settled.
+fn waits_first(step: &Step) -> bool
+    ensures { result ≡ waits_first step.now }
+{
+    match step {
+        Step::Advance(_) => false,
+        Step::Remove(_) => false,
+        _ => true,
+    }
+}
+
+/// The wait before a step.
+#[tactic(auto, using(crate::proofs::Taking::begun_true, crate::proofs::Taking::begun_false))]
+fn begin_step<W: Wait, R: Raise + Drop, C: Calls + Drop>(
+    rt: &W,
+    progress: Progress<R, C>,
+    step: &Step,
+    signals: &Signals<C>,
+) -> Result<Progress<R, C>, Halt>
+    requires { IsReady progress }
+    ensures begun { IfOk result (λ after. Begins R.Raise (waits_first step.now) progress after) }
+    ensures halted { IfErr result (λ h. IsTold C.may_refuse h) }
+{
+    if !waits_first(step) {
+        return Ok(progress);
+    }
+    let after = wait(rt, progress, signals)?;
+    Ok(after)
+}
+
+/// The call of a step.
+fn do_step<W: Threads + Wait, R: Raise + Send + Drop, C: Calls + Send + Drop>(
+    rt: &W,
+    alloc: Global,
+    progress: Progress<R, C>,
+    step: &Step,
+) -> Result<Progress<R, C>, Halt>
+    requires ready { IsReady progress }
+    requires before { IsBefore step.now }
+    ensures did { IfOk result (λ after. Does C.Calls R.Raise step.now progress after) }
+    ensures halted { IfErr result (λ h. StepHalts C.Calls R.Raise step.now progress h) }
+{
+    match step {
+        Step::Add(added) => Ok(add(progress, added)),
+        Step::Omni(added) => Ok(add_omni(progress, added)),
+        Step::Bind(bound) => Ok(bind(progress, bound)),
+        Step::Unbind(name) => Ok(unbind(progress, *name)),
+        Step::Reprogram(moved) => Ok(reprogram(progress, moved)),
+        Step::Remove(name) => Ok(remove(progress, *name)),
+        Step::Advance(now) => match advance_clock(rt, alloc, progress, *now) {
+            Ok(after) => Ok(after),
+            Err(halt) => Err(halt),
+        },
+        Step::Softint(_) => Ok(progress),
+        Step::Juggle(cpu) => Ok(juggle(progress, *cpu)),
+        Step::Offline(cpu) => Ok(offline(progress, *cpu)),
+        Step::Online(cpu) => Ok(online(progress, *cpu)),
+    }
+}
+
+/// One step.
+fn take_step<W: Threads + Wait + Sync, R: Raise + Send + Drop, C: Calls + Send + Drop>(
+    rt: &W,
+    alloc: Global,
+    progress: Progress<R, C>,
+    step: &Step,
+    signals: &Signals<C>,
+) -> Result<Progress<R, C>, Halt>
+    requires ready { IsReady progress }
+    requires before { IsBefore step.now }
+    ensures taken { IfOk result (λ after. TakesStep C.Calls R.Raise progress step.now after) }
+    ensures halted { IfErr result (λ h. StepHalts C.Calls R.Raise step.now progress h) }
+{
+    let begun = begin_step(rt, progress, step, signals)?;
+    let after = do_step(rt, alloc, begun, step)?;
+    Ok(after)
+}
+
+/// Takes the steps of a script, one after another, and then waits until no removal is open and every CPU has settled.
+///
+/// Each word is one call of the system, at the clock; a refused one changes nothing and the steps go on, also where memory
+/// was refused. An `advance` fires all online CPUs, each in a thread of its own, and ends when they have; a `softint` does
+/// nothing, since other threads drain the levels all the while. Every other word but `remove` waits first until each open
+/// removal has answered and each CPU has settled, and wakes the draining workers between two questions.
+///
+/// It ends early where memory or a thread for an `advance` was refused, or a fire was, and where a handler of a draining worker
+/// refused; what it had is then dropped.
+#[tactic(auto, using(crate::proofs::Taking::reached_first, crate::proofs::Taking::reached_next, crate::proofs::Taking::reached_before, crate::proofs::Taking::reached_runs, crate::proofs::Taking::reached_halts))]
+pub fn take_steps<W: Threads + Wait + Sync, R: Raise + Send + Drop, C: Calls + Send + Drop>(
+    rt: &W,
+    alloc: Global,
+    progress: Progress<R, C>,
+    script: &Script,
+    signals: &Signals<C>,
+) -> Result<Progress<R, C>, Halt>
+    requires { IsReady progress }
+    ensures ran { IfOk result (λ after. Runs C.Calls R.Raise progress script.now.steps.items after) }
+    ensures halted { IfErr result (λ h. WhyHalted C.Calls R.Raise progress script.now.steps.items h) }
+{
+    let mut progress = progress;
+    for place in 0..script.steps.len() {
+        progress = take_step(rt, alloc, progress, &script.steps[place], signals)?;
+    }
+    let settled = wait(rt, progress, signals)?;
+    Ok(settled)
+}
