@@ -18,7 +18,9 @@ mod removing;
 mod reporting;
 mod running;
 mod stepping;
+mod tallying;
 mod waiting;
 mod working;
 
 pub use running::{Ended, run};
+pub use tallying::tallies;

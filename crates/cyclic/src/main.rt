@@ -2,7 +2,7 @@
 //! to standard output.
 #![tactic(auto)]
 
-ghost use Rattle.std.specs.Prelude.{◌≡◌, ◌≢◌, ◌*◌, length, IfOk};
+ghost use Rattle.std.specs.Prelude.{◌≡◌, ◌≢◌};
 ghost use Rattle.std.specs.IoError.{error_kind};
 
 use cyc_command::{Command, command_of};
@@ -10,8 +10,8 @@ use cyc_input::{BoundedReader, read_input};
 use cyc_replay::{RunFault, replay};
 use cyc_script::{Script, read_script};
 use cyc_text::{BoundedWriter, Fault, Out, status_of};
-use cyc_threads::run;
-use cyc_types::{CyclicId, Refusal, Tally};
+use cyc_threads::{run, tallies};
+use cyc_types::Refusal;
 use std::alloc::Global;
 use std::env::Env;
 use std::io::{BufWriter, ErrorKind, Write};
@@ -72,21 +72,6 @@ fn replay_into<W: Write + Drop>(alloc: Global, script: &Script, writer: W) -> Re
         Err(RunFault::Refused(why)) => Err(run_refused(why)),
         Err(RunFault::Write) => Err(Fault::Run(RunFault::Write)),
     }
-}
-
-/// Handlers that count the calls of all cyclics of the script: three for each CPU.
-fn tallies(alloc: Global, script: &Script) -> Result<Vec<Tally>, Fault>
-    ensures { IfOk result (λ calls. length calls.items ≡ 3 * script.now.cpus) }
-{
-    let Some(first) = CyclicId::new(1) else {
-        unreachable!()
-    };
-    let mut calls = Vec::new(alloc);
-    for _ in 0..3 * script.cpus {
-        let tally = Tally::new(alloc, first, script.names.len(), u64::MAX)?;
-        calls.push(tally).map_err(|_| Fault::Memory)?;
-    }
-    Ok(calls)
 }
 
 /// Runs the script in threads into the writer, and gives the writer back.
