@@ -12,7 +12,7 @@ use cyc_types::{CyclicId, Raise, Receipt};
 use std::alloc::{AllocError, Global};
 
 /// The counts of one name's cyclic, over all CPUs and all of its stays.
-#[derive(Clone, Copy, Debug, PartialEq, Eq)]
+#[derive(Clone, Copy)]
 pub struct Line {
     /// The expirations.
     pub expired: u128,

@@ -3,7 +3,7 @@
 use cyc_types::{CyclicId, Refusal};
 
 /// Why the steps of a script ended before the last one.
-#[derive(Clone, Copy, Debug, PartialEq, Eq)]
+#[derive(Clone, Copy)]
 pub enum Halt {
     /// The handler of this cyclic refused its call in a draining worker.
     Told(CyclicId),

@@ -108,7 +108,7 @@ fn take_step<W: Threads + Wait + Sync, R: Raise + Send + Drop, C: Calls + Send +
 ///
 /// It ends early where memory or a thread for an `advance` was refused, or a fire was, and where a handler of a draining worker
 /// refused; what it had is then dropped.
-#[tactic(auto, using(crate::proofs::Taking::reached_first, crate::proofs::Taking::reached_next, crate::proofs::Taking::reached_before, crate::proofs::Taking::reached_runs, crate::proofs::Taking::reached_halts))]
+#[tactic(auto, using(crate::proofs::Taking::reached_before))]
 pub fn take_steps<W: Threads + Wait + Sync, R: Raise + Send + Drop, C: Calls + Send + Drop>(
     rt: &W,
     alloc: Global,
