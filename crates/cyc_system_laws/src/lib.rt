@@ -1,8 +1,8 @@
 //! Laws of several CPUs and of a system over any calls.
 //!
-//! Of CPUs: where a cyclic goes, what a move keeps, what each CPU sees of a run of calls, what stays of a CPU that has settled, what
-//! follows where an id has left them all, and what leaves a CPU lawful. A run is any list of calls, each on the CPU of its number
-//! and on what the one before it left.
+//! Of CPUs: where a cyclic goes, what a move keeps, what each CPU sees of a run of calls, what stays of a CPU that has settled,
+//! what follows where an id has left them all, and what leaves a CPU lawful. A run is any list of calls, each on the CPU of its
+//! number and on what the one before it left.
 //!
 //! Of a system: of what calls on its CPUs each call is made, what follows once a removal has answered, which ids are given, what
 //! holds while a CPU has settled, and what each call keeps of a cyclic's level, interval, moment and counts over all CPUs.

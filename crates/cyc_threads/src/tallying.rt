@@ -7,8 +7,8 @@ use cyc_script::Script;
 use cyc_types::{CyclicId, Tally};
 use std::alloc::{AllocError, Global};
 
-/// Handlers for [`run`](crate::run), three for each CPU: each counts the calls of all cyclics of the script, from none, and none is
-/// refused below 2^64 - 1 of them. Their memory may be refused.
+/// Handlers for [`run`](crate::run), three for each CPU: each counts the calls of all cyclics of the script, from none, and
+/// refuses none below 2^64 - 1 of them. Their memory may be refused.
 pub fn tallies(alloc: Global, script: &Script) -> Result<Vec<Tally>, AllocError>
     ensures many { IfOk result (λ calls. length calls.items ≡ 3 * script.now.cpus) }
     ensures new { IfOk result (λ calls. All (λ t. t ≡ tally_made 1 (length script.now.names.items) (2 ^ 64 - 1)) calls.items) }
