@@ -5,6 +5,7 @@ use Rattle.cyc_types.specs.Limits.{cyclics}
 use Rattle.cyc_finder.specs.declared.finder.Entry.{Entry}
 use Rattle.cyc_finder.specs.Sorted.{look_up}
 
+-- the id of an entry
 abbrev pub id_in : Entry → ℕ
 id_in entry = entry.id
 

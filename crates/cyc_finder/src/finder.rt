@@ -12,7 +12,9 @@ use std::marker::Model;
 /// An id with its index.
 #[derive(Clone, Copy)]
 pub struct Entry {
+    /// The cyclic's own id, which never changes.
     pub id: CyclicId,
+    /// Its index on this CPU (`cyp_heap` of sys/cyclic_impl.h holds indexes), or at this level.
     pub index: Index,
 }
 

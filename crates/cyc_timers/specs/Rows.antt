@@ -6,8 +6,9 @@ use Rattle.cyc_types.specs.declared.firing.Sent.{Sent}
 use Rattle.cyc_types.specs.declared.level.Level.TheVariants.{Low}
 use Rattle.cyc_types.specs.Expirations.{Expiration, is_before, next_of}
 use Rattle.cyc_types.specs.Timers.{Timer}
+use Rattle.cyc_finder.specs.declared.finder.Entry.{Entry}
+use Rattle.cyc_finder.specs.Indexes.{id_in}
 use Rattle.cyc_finder.specs.Sorted.{Rises}
-use Rattle.cyc_timers.specs.declared.table.Entry.{Entry}
 use Rattle.cyc_timers.specs.declared.table.Record.{Record}
 
 -- a cyclic with its index
@@ -142,10 +143,6 @@ rows_of slots records entries = map (row_of slots records) entries
 -- the ids of the rows rise
 abbrev pub IsRising : List Row → Type 0
 IsRising rows = Rises (λ r. r.timer.id) rows
-
--- the id of an entry
-abbrev pub id_in : Entry → ℕ
-id_in entry = entry.id
 
 -- entries, records and heap speak of the same cyclics
 pub record IsTable (slots : List (Option Expiration)) (records : List Record) (entries : List Entry) : Type 0 where

@@ -12,4 +12,4 @@ pub mod table;
 
 pub use fire::{FireRefused, Fired, fire_all};
 pub use laws::share_law;
-pub use table::{Entry, Record, Table};
+pub use table::{Record, Table};

@@ -9,7 +9,7 @@ ghost use Rattle.cyc_types.specs.declared.refusal.Refusal.TheVariants.{Memory};
 ghost use Rattle.cyc_timers.specs.Rows.{Row, TableView, new_table, timers_of, IsRow, IsRising, HasNo, HasDistinctIndexes};
 ghost use Rattle.cyc_timers.specs.Rows.{vacant_row, with_record, with_counts, at_moment, IsRecordOf, IsFirstAt};
 
-use cyc_finder::{HasId, search};
+use cyc_finder::{Entry, search};
 use cyc_heap::ExpiryHeap;
 use cyc_types::{CyclicId, Index, Interval, Level, Moment, Refusal, Sent};
 use std::alloc::Global;
@@ -28,23 +28,6 @@ pub struct Record {
     pub lost: u64,
     /// What of both it carried in from another CPU (our own).
     pub carried: Sent,
-}
-
-/// Under which index a cyclic stands in the heap and the records.
-#[derive(Clone, Copy)]
-pub struct Entry {
-    /// The cyclic's own id, which never changes.
-    pub id: CyclicId,
-    /// Its index on this CPU (`cyp_heap` holds indexes).
-    pub index: Index,
-}
-
-impl HasId for Entry {
-    ghost id_of = { λ entry. entry.id };
-
-    fn id(&self) -> CyclicId {
-        self.id
-    }
 }
 
 /// The cyclics of a CPU: the expirations in a heap, the records by index, and the indexes by rising id (`cyp_heap` and

@@ -2,7 +2,8 @@ use Rattle.std.proofs.Common.{◌≡◌, ℕ, subst, Result, Ok, Err, IfOk, IfEr
 use Rattle.std.specs.Prelude.{IfSome, IfNone}
 use Rattle.std.specs.Result.{result_ok}
 use Rattle.cyc_finder.specs.Sorted.{IsAt, IsGap}
-use Rattle.cyc_timers.specs.Rows.{Row, TableView, IsRow, HasNo, id_in}
+use Rattle.cyc_finder.specs.Indexes.{id_in}
+use Rattle.cyc_timers.specs.Rows.{Row, TableView, IsRow, HasNo}
 use Rattle.cyc_timers.proofs.Tables.{row_here, no_row}
 use Rattle.cyc_timers.proofs.table.Table.find.Goals as goal
 

@@ -4,7 +4,8 @@ use Rattle.std.proofs.lemmas.List.{length-map}
 use Rattle.std.specs.Prelude.{insert}
 use Rattle.cyc_types.specs.Expirations.{Expiration}
 use Rattle.cyc_finder.specs.Sorted.{IsAt, IsGap}
-use Rattle.cyc_timers.specs.Rows.{Row, TableView, IsTable, HasNo, id_in, row_of, rows_of, with_record, vacant_row}
+use Rattle.cyc_finder.specs.Indexes.{id_in}
+use Rattle.cyc_timers.specs.Rows.{Row, TableView, IsTable, HasNo, row_of, rows_of, with_record, vacant_row}
 use Rattle.cyc_timers.proofs.Tables.{row_at, row_here}
 use Rattle.cyc_timers.proofs.Widening.{fresh, new_table_is, new_rows}
 use Rattle.cyc_timers.proofs.table.Table.insert.Goals as goal

@@ -1,7 +1,7 @@
 use Rattle.std.proofs.Common.{◌≡◌, ℕ, sym, ap, ◌∙◌, Some, None, get_or}
 use Rattle.std.specs.Option.{option_map}
 use Rattle.cyc_heap.specs.Heap.{pair_of}
-use Rattle.cyc_timers.specs.declared.table.Entry.{Entry}
+use Rattle.cyc_finder.specs.declared.finder.Entry.{Entry}
 use Rattle.cyc_timers.specs.Rows.{TableView}
 use Rattle.cyc_timers.proofs.Tables.{standing_at, place_low}
 use Rattle.cyc_timers.proofs.table.Table.moment_at.Goals as goal

@@ -1,5 +1,5 @@
 use Rattle.std.proofs.Common.{◌≡◌, sym, ap, ◌∙◌, subst, arith}
-use Rattle.cyc_timers.specs.declared.table.Entry.{Entry}
+use Rattle.cyc_finder.specs.declared.finder.Entry.{Entry}
 use Rattle.cyc_timers.specs.Rows.{TableView, IsRow}
 use Rattle.cyc_timers.proofs.Tables.{standing, standing_at, place_low, kept_at}
 use Rattle.cyc_timers.proofs.table.Table.record_at.Goals as goal

@@ -1,6 +1,6 @@
 use Rattle.std.proofs.Common.{refl, sym, ap, ◌∙◌, subst, arith, length, length-set, None, get_or, remove, IsSome}
 use Rattle.std.proofs.Math.ListN.{set}
-use Rattle.cyc_timers.specs.declared.table.Entry.{Entry}
+use Rattle.cyc_finder.specs.declared.finder.Entry.{Entry}
 use Rattle.cyc_timers.specs.Rows.{TableView, rows_of, IsTable}
 use Rattle.cyc_timers.proofs.Tables.{standing_at, place_low}
 use Rattle.cyc_timers.proofs.Removing.{fewer_rows, fewer_table}

@@ -1,7 +1,7 @@
 use Rattle.std.proofs.Common.{◌≡◌, refl, sym, ap, ◌∙◌, subst, arith, length, length-set, option_map, None, get_or, IsSome}
 use Rattle.std.proofs.Math.ListN.{set}
 use Rattle.cyc_heap.specs.Heap.{with_moment, at_moment as at_moment_of}
-use Rattle.cyc_timers.specs.declared.table.Entry.{Entry}
+use Rattle.cyc_finder.specs.declared.finder.Entry.{Entry}
 use Rattle.cyc_timers.specs.Rows.{TableView, IsRow, at_moment}
 use Rattle.cyc_timers.proofs.Tables.{standing, standing_at, place_low, replaced, table_replaced}
 use Rattle.cyc_timers.proofs.table.Table.reprogram.Goals as goal
