@@ -41,20 +41,20 @@ pub once_zero : (n : ℕ) → one_if_any n ≡ 0 → n ≡ 0
 once_zero zero h = refl
 once_zero (suc n) h = absurd (omega arith)
 
-raised_here : (id n : ℕ) (h : Option ℕ) → h ≡ None → in_hand id (hand_after_expire n id h) + one_if_any n ≡ 1
+pub raised_here : (id n : ℕ) (h : Option ℕ) → h ≡ None → in_hand id (hand_after_expire n id h) + one_if_any n ≡ 1
 raised_here id zero h e = let a = hand_here id in omega (arith, a)
 raised_here id (suc n) h e = ap (λ o. in_hand id o + 1) e
 
-raised_else : (j id n : ℕ) (h : Option ℕ) → j ≢ id → h ≡ None → in_hand j (hand_after_expire n id h) ≡ 0
+pub raised_else : (j id n : ℕ) (h : Option ℕ) → j ≢ id → h ≡ None → in_hand j (hand_after_expire n id h) ≡ 0
 raised_else j id zero h ne e = hand_else j id ne
 raised_else j id (suc n) h ne e = ap (in_hand j) e
 
-laid_here : (id n : ℕ) → 0 < n → in_hand id (hand_after_finish n (Some id)) ≡ one_if_any (n - 1)
+pub laid_here : (id n : ℕ) → 0 < n → in_hand id (hand_after_finish n (Some id)) ≡ one_if_any (n - 1)
 laid_here id zero h = absurd (omega arith)
 laid_here id (suc zero) h = refl
 laid_here id (suc (suc n)) h = hand_here id ∙ sym (once_pos (suc (suc n) - 1) (omega arith))
 
-laid_else : (j id n : ℕ) → j ≢ id → in_hand j (hand_after_finish n (Some id)) ≡ 0
+pub laid_else : (j id n : ℕ) → j ≢ id → in_hand j (hand_after_finish n (Some id)) ≡ 0
 laid_else j id zero ne = refl
 laid_else j id (suc zero) ne = refl
 laid_else j id (suc (suc n)) ne = hand_else j id ne
@@ -63,7 +63,7 @@ first_and_rest : (j : ℕ) (xs : List ℕ) → times_in j xs ≡ in_hand j (firs
 first_and_rest j [] = refl
 first_and_rest j (x ∷ xs) = refl
 
-take_sum : (b : Bool) (old new : List ℕ) (j : ℕ)
+pub take_sum : (b : Bool) (old new : List ℕ) (j : ℕ)
     → times_in j (cond b old (rest_of old)) + times_in j (cond b (rest_of new) new) + in_hand j (first_of (cond b new old))
     ≡ times_in j old + times_in j new
 take_sum true old new j = let h = first_and_rest j new in omega (arith, h)
@@ -73,11 +73,11 @@ take_less : (b : Bool) (old : List ℕ) (j : ℕ) → times_in j (cond b old (re
 take_less true old j = omega arith
 take_less false old j = let h = first_and_rest j old in omega (arith, h)
 
-nothing_taken : (b : Bool) → cond {A = List ℕ} b [] [] ≡ []
+pub nothing_taken : (b : Bool) → cond {A = List ℕ} b [] [] ≡ []
 nothing_taken true = refl
 nothing_taken false = refl
 
-changed_all : (f : AdmittedCyclic → AdmittedCyclic) (P Q : AdmittedCyclic → Type 0) → ((c : AdmittedCyclic) → P c → Q (f c))
+pub changed_all : (f : AdmittedCyclic → AdmittedCyclic) (P Q : AdmittedCyclic → Type 0) → ((c : AdmittedCyclic) → P c → Q (f c))
     → (o : Option AdmittedCyclic)
     → ((c : AdmittedCyclic) → o ≡ Some c → P c) → (d : AdmittedCyclic) → option_map f o ≡ Some d → Q d
 changed_all f P Q g None h d e = absurd (cc)
@@ -91,11 +91,11 @@ cleared_old : (m : Cyclics) (id j : ℕ) (d : AdmittedCyclic) → changed_at m i
 cleared_old m id j d e = at_cases m id (λ _. None) (λ k o. o ≡ Some d → (k ≢ id) × (m k ≡ Some d)) (λ n. absurd (cc))
     (λ k ne h. (ne, h)) j e
 
-listed_times : (j : ℕ) (h : Option ℕ) → times_in j (as_list h) ≡ in_hand j h
+pub listed_times : (j : ℕ) (h : Option ℕ) → times_in j (as_list h) ≡ in_hand j h
 listed_times j None = refl
 listed_times j (Some x) = omega arith
 
-called_count : (o : Option AdmittedCyclic)
+pub called_count : (o : Option AdmittedCyclic)
     → one_if_any (count_in o - 1) ≡ one_if_any (count_in (option_map cyclic_after_finish o))
 called_count None = refl
 called_count (Some c) = refl

@@ -1,5 +1,5 @@
 -- What holds of a level whatever indexes its cyclics get.
-use Rattle.std.proofs.Common.{◌≡◌, ℕ, zero, suc, ◌+◌, ◌-◌, ◌<◌, ◌≤◌, ◌≢◌, eqb, eq-eqb, ne_eqb, Bool, true, false, cond, List, []}
+use Rattle.std.proofs.Common.{◌≡◌, ℕ, ◌+◌, ◌-◌, ◌<◌, ◌≤◌, ◌≢◌, eqb, eq-eqb, ne_eqb, Bool, cond, List, []}
 use Rattle.std.proofs.Common.{◌∷◌, ◌++◌, sym, refl, ap, ◌∙◌, subst, arith}
 use Rattle.std.specs.Prelude.{⊤, Option, Some, None}
 use Rattle.std.specs.Option.{option_map}
@@ -16,7 +16,8 @@ use Rattle.cyc_level.specs.Events.{changed_at, admitted_cyclic, cyclic_after_exp
 use Rattle.cyc_level.specs.Events.{first_of, rest_of, as_list, hand_after_expire, hand_after_finish, after_finish, after}
 use Rattle.cyc_level.specs.Events.{IsUnused}
 use Rattle.cyc_level.proofs.Maps.{some_same, some_of, at_cases, hand_here, hand_else, times_append}
-use Rattle.cyc_level.proofs.Keeps.{once_pos, once_le}
+use Rattle.cyc_level.proofs.Keeps.{once_pos, once_le, raised_here, raised_else, laid_here, laid_else, take_sum, nothing_taken}
+use Rattle.cyc_level.proofs.Keeps.{changed_all, listed_times, called_count}
 use Rattle.cyc_model.specs.Serving.{level_after}
 use Rattle.cyc_model.specs.Laws.{CanAsSoft, AllCanAsSoft}
 use Rattle.cyc_model.specs.Agreement.{IsReady, AllReady}
@@ -60,54 +61,8 @@ abbrev pub AllRest : List Event → SoftLevel → Type 0
 AllRest [] l = ⊤
 AllRest (e ∷ es) l = Rest e l × AllRest es (after e l)
 
-raised_here : (id n : ℕ) (h : Option ℕ) → h ≡ None → in_hand id (hand_after_expire n id h) + one_if_any n ≡ 1
-raised_here id zero h e = let a = hand_here id in omega (arith, a)
-raised_here id (suc n) h e = ap (λ o. in_hand id o + 1) e
-
-raised_else : (j id n : ℕ) (h : Option ℕ) → j ≢ id → h ≡ None → in_hand j (hand_after_expire n id h) ≡ 0
-raised_else j id zero h ne e = hand_else j id ne
-raised_else j id (suc n) h ne e = ap (in_hand j) e
-
-laid_here : (id n : ℕ) → 0 < n → in_hand id (hand_after_finish n (Some id)) ≡ one_if_any (n - 1)
-laid_here id zero h = absurd (omega arith)
-laid_here id (suc zero) h = refl
-laid_here id (suc (suc n)) h = hand_here id ∙ sym (once_pos (suc (suc n) - 1) (omega arith))
-
-laid_else : (j id n : ℕ) → j ≢ id → in_hand j (hand_after_finish n (Some id)) ≡ 0
-laid_else j id zero ne = refl
-laid_else j id (suc zero) ne = refl
-laid_else j id (suc (suc n)) ne = hand_else j id ne
-
-first_and_rest : (j : ℕ) (xs : List ℕ) → times_in j xs ≡ in_hand j (first_of xs) + times_in j (rest_of xs)
-first_and_rest j [] = refl
-first_and_rest j (x ∷ xs) = refl
-
-take_sum : (b : Bool) (old new : List ℕ) (j : ℕ) → times_in j (cond b old (rest_of old)) + times_in j (cond b (rest_of new) new)
-    + in_hand j (first_of (cond b new old)) ≡ times_in j old + times_in j new
-take_sum true old new j = let h = first_and_rest j new in omega (arith, h)
-take_sum false old new j = let h = first_and_rest j old in omega (arith, h)
-
-nothing_taken : (b : Bool) → cond {A = List ℕ} b [] [] ≡ []
-nothing_taken true = refl
-nothing_taken false = refl
-
-changed_all : (f : AdmittedCyclic → AdmittedCyclic) (P Q : AdmittedCyclic → Type 0) → ((c : AdmittedCyclic) → P c → Q (f c))
-    → (o : Option AdmittedCyclic)
-    → ((c : AdmittedCyclic) → o ≡ Some c → P c) → (d : AdmittedCyclic) → option_map f o ≡ Some d → Q d
-changed_all f P Q g None h d e = absurd (cc)
-changed_all f P Q g (Some c) h d e = subst Q (some_same (f c) d e) (g c (h c refl))
-
 cleared_old : (m : Cyclics) (id j : ℕ) (d : AdmittedCyclic) → changed_at m id (λ _. None) j ≡ Some d → m j ≡ Some d
 cleared_old m id j d e = at_cases m id (λ _. None) (λ k o. o ≡ Some d → m k ≡ Some d) (λ n. absurd (cc)) (λ k ne h. h) j e
-
-listed_times : (j : ℕ) (h : Option ℕ) → times_in j (as_list h) ≡ in_hand j h
-listed_times j None = refl
-listed_times j (Some x) = omega arith
-
-called_count : (o : Option AdmittedCyclic)
-    → one_if_any (count_in o - 1) ≡ one_if_any (count_in (option_map cyclic_after_finish o))
-called_count None = refl
-called_count (Some c) = refl
 
 -- how many calls of the id an event finishes, and how many it brings
 abbrev pub finishes : ℕ → Event → SoftLevel → ℕ
