@@ -35,6 +35,7 @@ use Rattle.cyc_model.proofs.Fit.{AllRest}
 use Rattle.cyc_model.proofs.Reaching.{well_steps, start_good, length_new}
 use Rattle.cyc_model.proofs.Shaped.{IsIdle, IsNoFire, shaped_does}
 use Rattle.cyc_model.proofs.Enabling.{new_level}
+use Rattle.cyc_model.proofs.Fair.{same_itself}
 
 -- ---- where the k-th cyclic gets the index k, the indexes rise
 
@@ -140,7 +141,7 @@ fresh_fires now (n ∷ ns) s =
     (fresh_fires now ns t)
 
 -- the k-th gets k
-abbrev own_number : ℕ → ℕ
+abbrev pub own_number : ℕ → ℕ
 own_number k = k
 
 shaped_fresh : (texts : List (List ℕ)) (step : ℕ) (x : Step) (s : State) → IsNoFire x
@@ -256,10 +257,6 @@ admit_or_not (Mark id) = inr ((λ f. refl), (λ l. tt))
 admit_or_not (Clear id) = inr ((λ f. refl), (λ l. tt))
 admit_or_not (Switch bank) = inr ((λ f. refl), (λ l. tt))
 admit_or_not Follow = inr ((λ f. refl), (λ l. tt))
-
-same_itself : (soft : Soft) → same_soft soft soft ≡ true
-same_itself Low = refl
-same_itself Lock = refl
 
 seen_parts : (m : ℕ) (s : Soft) (n : ℕ) (soft : Soft) → ((m == n) && same_soft s soft) ≡ true → (m ≡ n) × (s ≡ soft)
 seen_parts m s n soft is = by (m == n) refl is

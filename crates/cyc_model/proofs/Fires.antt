@@ -215,7 +215,7 @@ whole_fired now made acts c w none = whole_retimed (fired now made acts) (fired_
     ∙ w.still id y is at)
 
 -- a cyclic at never isn't due
-never_due : (t now : ℕ) → now < never → due never t now ≡ 0
+pub never_due : (t now : ℕ) → now < never → due never t now ≡ 0
 never_due t now before = ap (λ (b : Bool). cond b 0 (cond (nat_lt (never + t + late) now) 1 ((now - never) / t
     + 1))) (lt-ltb now never before)
 

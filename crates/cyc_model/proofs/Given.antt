@@ -182,7 +182,7 @@ pub rise_append : (low high : ℕ) (place : Placement) (ps : List Placed) → Ri
 rise_append low high place [] h = (omega (arith, h), omega arith)
 rise_append low high place (p ∷ ps) h = (h.0, rise_append p.id high place ps h.1)
 
-replaced_id : (id : ℕ) (place : Placement) (p : Placed) → (replaced id place p).id ≡ p.id
+pub replaced_id : (id : ℕ) (place : Placement) (p : Placed) → (replaced id place p).id ≡ p.id
 replaced_id id place p = by (p.id == id)
   where
     by : (b : Bool) → (cond b (record p { place = place }) p).id ≡ p.id

@@ -86,7 +86,7 @@ grows_enter id n index x s none =
 
 -- ---- another moment
 
-expired_moment : (id j moment : ℕ) (cs : List Cyclic)
+pub expired_moment : (id j moment : ℕ) (cs : List Cyclic)
     → sum_by (λ y. cond (is_of id y) y.timer.expired 0) (map (moment_at j moment) cs)
     ≡ sum_by (λ y. cond (is_of id y) y.timer.expired 0) cs
 expired_moment id j moment [] = refl

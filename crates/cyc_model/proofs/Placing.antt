@@ -1,5 +1,5 @@
 -- Where the cyclics of a machine are.
-use Rattle.std.proofs.Common.{◌≡◌, ◌≢◌, ℕ, ◌+◌, ◌<◌, ◌≤◌, ◌==◌, eq-eqb, ne_eqb, Bool, true, false, cond, List, [], ◌∷◌, map}
+use Rattle.std.proofs.Common.{◌≡◌, ◌≢◌, ℕ, ◌+◌, ◌<◌, ◌≤◌, ◌==◌, eq-eqb, ne_eqb, Bool, cond, List, [], ◌∷◌, map}
 use Rattle.std.proofs.Common.{Option, Some, None, refl, ap, sym, ◌∙◌, subst, arith}
 use Rattle.std.specs.Prelude.{not, find, filter}
 use Rattle.std.specs.Option.{option_map, option_or}
@@ -10,6 +10,7 @@ use Rattle.cyc_level.proofs.Maps.{some_same}
 use Rattle.cyc_model.specs.State.{State, Placement, Placed}
 use Rattle.cyc_model.specs.Places.{placement_of, put_at, replaced, given, forgotten}
 use Rattle.cyc_model.specs.Laws.{RiseTo}
+use Rattle.cyc_model.proofs.Given.{replaced_id}
 
 abbrev pub entry : ℕ → List Placed → Option Placed
 entry id ps = find (λ p. p.id == id) ps
@@ -85,13 +86,6 @@ place_given_other name place s id ne =
     or_none None = refl
     or_none (Some p) = refl
 
-replaced_id : (id : ℕ) (place : Placement) (p : Placed) → (replaced id place p).id ≡ p.id
-replaced_id id place p = by (p.id == id)
-  where
-    by : (b : Bool) → (cond b (record p { place = place }) p).id ≡ p.id
-    by true = refl
-    by false = refl
-
 entry_replaced : (id j : ℕ) (place : Placement) (ps : List Placed)
     → entry j (map (replaced id place) ps) ≡ option_map (replaced id place) (entry j ps)
 entry_replaced id j place [] = refl
@@ -140,7 +134,7 @@ place_put_none id place s none =
     by None e = refl
     by (Some q) e = absurd (cc)
 
-abbrev kept : Bool → Placed → List Placed → List Placed
+abbrev pub kept : Bool → Placed → List Placed → List Placed
 kept b p ps = cond b (p ∷ ps) ps
 
 entry_forgotten : (id j : ℕ) (ps : List Placed) → j ≢ id → entry j (filter (λ p. not (p.id == id)) ps) ≡ entry j ps

@@ -133,7 +133,7 @@ each_poll texts step low (id ∷ ids) s g rise open_ =
     (λ j has. let a = has_above (id + 1) j ids rise.1 has in let w = open_ j (inr has) in
     (w.0, polls_keep texts step id j w.0 s g (λ (e : j ≡ id). omega (arith, a, e)) w.1)))
 
-placed_rise : (low high : ℕ) (ps : List Placed) → RiseTo low ps high → RiseFrom (low + 1) (map (λ p. p.id) ps)
+pub placed_rise : (low high : ℕ) (ps : List Placed) → RiseTo low ps high → RiseFrom (low + 1) (map (λ p. p.id) ps)
 placed_rise low high [] h = tt
 placed_rise low high (p ∷ ps) h = (let a = h.0 in omega (arith, a), placed_rise p.id high ps h.1)
 

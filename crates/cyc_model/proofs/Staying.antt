@@ -18,7 +18,7 @@ use Rattle.cyc_model.specs.Laws.{RiseTo}
 use Rattle.cyc_model.proofs.Given.{rise_filter}
 use Rattle.cyc_model.proofs.Rising.{found, found_others, length_others, first_not}
 use Rattle.cyc_model.proofs.Whole.{Whole}
-use Rattle.cyc_model.proofs.Placing.{entry, entry_id, with_entry}
+use Rattle.cyc_model.proofs.Placing.{entry, entry_id, with_entry, kept}
 use Rattle.cyc_model.proofs.Numbers.{not_leaving}
 use Rattle.cyc_model.proofs.Spread.{Full, Stands, Good}
 
@@ -56,14 +56,11 @@ not_open j s shut = by (is_leaving j s) refl
 
 -- ---- entries that pass a test
 
-entry_here : (j : ℕ) (p : Placed) (ps : List Placed) → p.id ≡ j → entry j (p ∷ ps) ≡ Some p
+pub entry_here : (j : ℕ) (p : Placed) (ps : List Placed) → p.id ≡ j → entry j (p ∷ ps) ≡ Some p
 entry_here j p ps e = ap (λ (b : Bool). with_entry b p (entry j ps)) (eq-eqb p.id j e)
 
-entry_past : (j : ℕ) (p : Placed) (ps : List Placed) → p.id ≢ j → entry j (p ∷ ps) ≡ entry j ps
+pub entry_past : (j : ℕ) (p : Placed) (ps : List Placed) → p.id ≢ j → entry j (p ∷ ps) ≡ entry j ps
 entry_past j p ps ne = ap (λ (b : Bool). with_entry b p (entry j ps)) (ne_eqb p.id j ne)
-
-abbrev kept : Bool → Placed → List Placed → List Placed
-kept b p ps = cond b (p ∷ ps) ps
 
 pub entry_filter : (test : Placed → Bool) (j : ℕ) (p : Placed) (ps : List Placed) → entry j ps ≡ Some p → test p ≡ true
     → entry j (filter test ps) ≡ Some p

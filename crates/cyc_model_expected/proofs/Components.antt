@@ -1,6 +1,6 @@
 -- The words that begin, set and end the components of an omnipresent cyclic.
 use Rattle.std.proofs.Common.{◌≡◌, ◌≢◌, ℕ, ◌+◌, ◌<◌, Bool, true, false, cond, List, [], ◌∷◌, length}
-use Rattle.std.proofs.Common.{refl, ap, sym, ◌∙◌, subst, eq-eqb, ne_eqb, arith, Option, Some, None, inl, inr, ⊎_elim}
+use Rattle.std.proofs.Common.{refl, ap, sym, ◌∙◌, subst, eq-eqb, arith, Option, Some, None, inl, inr, ⊎_elim}
 use Rattle.std.specs.Prelude.{IsSome, is_some, not, slice_set, slice_index_or}
 use Rattle.std.specs.Option.{option_map}
 use Rattle.std.proofs.lemmas.List.{get_or-set_same, get_or-set_other, length-set}
@@ -22,11 +22,11 @@ use Rattle.cyc_model.specs.Online.{is_on_all, staying, again, return_at, return_
 use Rattle.cyc_model.specs.Laws.{RiseTo}
 use Rattle.cyc_model.proofs.Agreement.{moment_same}
 use Rattle.cyc_model.proofs.Rising.{found, found_map, found_id, put_same, put_other}
-use Rattle.cyc_model.proofs.Placing.{entry, entry_id, with_entry}
+use Rattle.cyc_model.proofs.Placing.{entry, entry_id}
 use Rattle.cyc_model.proofs.Whole.{same_happen}
 use Rattle.cyc_model.proofs.Numbers.{Has, RiseFrom, has_above}
 use Rattle.cyc_model.proofs.Spread.{Good, has_number}
-use Rattle.cyc_model.proofs.Staying.{Each, each_above, entry_filter, staying_rise}
+use Rattle.cyc_model.proofs.Staying.{Each, each_above, entry_filter, staying_rise, entry_here, entry_past}
 use Rattle.cyc_expected.specs.Course.{component_first}
 use Rattle.cyc_model_expected.proofs.Seen.{seen, seen_at, on_same, removal_of, same_leaving, cpu_counts}
 use Rattle.cyc_model_expected.proofs.Counts.{cyclics_entered}
@@ -104,12 +104,6 @@ spread_set id e moments n moment s h some =
     by : {k j : ℕ} (o : Option ℕ) → Some (k, j) ≡ with_interval e.interval o → j ≡ e.interval
     by None is = absurd (cc)
     by {k} {j} (Some m) is = ap (λ p. p.1) (some_same (k, j) (m, e.interval) is)
-
-entry_here : (j : ℕ) (p : Placed) (ps : List Placed) → p.id ≡ j → entry j (p ∷ ps) ≡ Some p
-entry_here j p ps e = ap (λ (b : Bool). with_entry b p (entry j ps)) (eq-eqb p.id j e)
-
-entry_past : (j : ℕ) (p : Placed) (ps : List Placed) → p.id ≢ j → entry j (p ∷ ps) ≡ entry j ps
-entry_past j p ps ne = ap (λ (b : Bool). with_entry b p (entry j ps)) (ne_eqb p.id j ne)
 
 -- ---- online: the components of one CPU come back
 

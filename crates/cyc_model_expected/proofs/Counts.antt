@@ -1,5 +1,5 @@
 -- Only an advance brings expirations.
-use Rattle.std.proofs.Common.{◌≡◌, ℕ, zero, suc, ◌+◌, Bool, true, false, cond, List, [], ◌∷◌, map, sum_by, refl}
+use Rattle.std.proofs.Common.{◌≡◌, ℕ, zero, suc, ◌+◌, false, List, [], ◌∷◌, sum_by, refl}
 use Rattle.std.proofs.Common.{ap, ◌∙◌, arith}
 use Rattle.std.specs.Prelude.{⊤, slice_set, slice_index_or, None}
 use Rattle.std.proofs.lemmas.List.Sums.{sum_by-cons}
@@ -7,8 +7,8 @@ use Rattle.cyc_text.specs.declared.lines.Counts.{Counts}
 use Rattle.cyc_script.specs.declared.step.Step.{Step}
 use Rattle.cyc_script.specs.declared.step.Step.TheVariants.{Add, Omni, Bind, Unbind, Reprogram, Remove, Advance, Softint, Juggle}
 use Rattle.cyc_script.specs.declared.step.Step.TheVariants.{Offline, Online}
-use Rattle.cyc_model.specs.Cpu.{Cyclic, Cpu, Here, is_of}
-use Rattle.cyc_model.specs.Moving.{put_in, widen_here, place_here, enter_here, moment_at}
+use Rattle.cyc_model.specs.Cpu.{Cyclic, Cpu, Here}
+use Rattle.cyc_model.specs.Moving.{put_in, widen_here, place_here, enter_here}
 use Rattle.cyc_model.specs.Moving.{reprogram_here}
 use Rattle.cyc_model.specs.Serving.{serve_here}
 use Rattle.cyc_model.specs.Questions.{plain}
@@ -24,7 +24,7 @@ use Rattle.cyc_model.specs.Script.{refusal_of, does, text_in}
 use Rattle.cyc_model.proofs.Whole.{same_happen}
 use Rattle.cyc_model.proofs.Serves.{same_serve}
 use Rattle.cyc_model.proofs.Totals.{all_set, expired_in}
-use Rattle.cyc_model.proofs.Growing.{expired_by, expired_put, widened_same}
+use Rattle.cyc_model.proofs.Growing.{expired_by, expired_put, widened_same, expired_moment}
 use Rattle.cyc_model.proofs.Spread.{Good}
 use Rattle.cyc_model.proofs.Calm.{well_interrupt}
 use Rattle.cyc_model.proofs.Answering.{counts_removed, counts_polls}
@@ -67,21 +67,6 @@ enters_same indexes id j e (n ∷ ns) s =
     ∙ entered_same indexes id n (component j n e s.clock) s refl
 
 -- ---- another moment
-
-expired_moment : (id j moment : ℕ) (cs : List Cyclic)
-    → sum_by (λ y. cond (is_of id y) y.timer.expired 0) (map (moment_at j moment) cs)
-    ≡ sum_by (λ y. cond (is_of id y) y.timer.expired 0) cs
-expired_moment id j moment [] = refl
-expired_moment id j moment (y ∷ ys) =
-    let a = sum_by-cons (λ (z : Cyclic). cond (is_of id z) z.timer.expired 0) (moment_at j moment y) (map
-    (moment_at j moment) ys) in
-    let b = sum_by-cons (λ (z : Cyclic). cond (is_of id z) z.timer.expired 0) y ys in
-    let r = expired_moment id j moment ys in let o = own (is_of j y) in omega (arith, a, b, r, o)
-  where
-    own : (t : Bool) → cond (is_of id (cond t (record y { timer = record y.timer { moment = moment } }) y))
-        (cond t (record y { timer = record y.timer { moment = moment } }) y).timer.expired 0 ≡ cond (is_of id y) y.timer.expired 0
-    own true = refl
-    own false = refl
 
 -- ---- the words
 

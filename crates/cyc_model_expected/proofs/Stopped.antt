@@ -1,10 +1,10 @@
 -- Once the removal of an id is open, or has answered, nothing of it is due, and so it stays.
-use Rattle.std.proofs.Common.{◌≡◌, ◌≢◌, ℕ, ◌+◌, ◌-◌, ◌/◌, ◌<◌, ◌≤◌, Bool, true, false, cond, List, [], ◌∷◌, refl}
-use Rattle.std.proofs.Common.{ap, sym, ◌∙◌, subst, Option, Some, None, inl, inr, ⊎_elim, ◌⊎◌, lt-ltb}
-use Rattle.std.specs.Prelude.{is_some, nat_lt}
+use Rattle.std.proofs.Common.{◌≡◌, ◌≢◌, ℕ, ◌+◌, ◌<◌, ◌≤◌, Bool, true, false, List, [], ◌∷◌, refl}
+use Rattle.std.proofs.Common.{ap, sym, ◌∙◌, subst, Option, Some, None, inl, inr, ⊎_elim, ◌⊎◌}
+use Rattle.std.specs.Prelude.{is_some}
 use mathlib.Core.Logic.{dite}
 use native.Mathlib.Decide.{ℕ_discrete}
-use Rattle.cyc_types.specs.Series.{never, late, due}
+use Rattle.cyc_types.specs.Series.{never, due}
 use Rattle.cyc_script.specs.declared.step.Step.{Step}
 use Rattle.cyc_script.specs.declared.step.Step.TheVariants.{Add, Omni, Bind, Unbind, Reprogram, Remove, Advance, Softint, Juggle}
 use Rattle.cyc_script.specs.declared.step.Step.TheVariants.{Offline, Online}
@@ -34,6 +34,7 @@ use Rattle.cyc_model.proofs.Answering.{all_leaving, begun_removal, open_removal,
 use Rattle.cyc_model.proofs.Staying.{leaving_where}
 use Rattle.cyc_model.proofs.Printing.{polls_keep}
 use Rattle.cyc_model.proofs.Reaching.{well_does}
+use Rattle.cyc_model.proofs.Fires.{never_due}
 use Rattle.cyc_model_expected.proofs.Seen.{seen, on_same, removal_of, removal_alike, same_leaving, keeps_enter, keeps_enters}
 use Rattle.cyc_model_expected.proofs.Seen.{keeps_bind, keeps_juggle}
 use Rattle.cyc_model_expected.proofs.Seen.{keeps_offline, keeps_online}
@@ -51,10 +52,6 @@ leaving_by id m s is = by (is_leaving id s) refl
     by false e = absurd (not_leaving id s e m is)
 
 -- ---- nothing is due
-
-never_due : (t now : ℕ) → now < never → due never t now ≡ 0
-never_due t now before = ap (λ (b : Bool). cond b 0 (cond (nat_lt (never + t + late) now) 1 ((now - never) / t
-    + 1))) (lt-ltb now never before)
 
 pub none_due : (id now : ℕ) (s : State) → Good s → now < never → Stopped id s → (m : ℕ)
     → due_of_found now (found id (cpu_of m s).cyclics) ≡ 0

@@ -29,6 +29,7 @@ use Rattle.cyc_model.proofs.BareMachine.{bare, bare_out, at_bare}
 use Rattle.cyc_model.proofs.Unindexed.{acts_relabeled, steps_bare}
 use Rattle.cyc_model.proofs.Telling.{tells_steps}
 use Rattle.cyc_model.proofs.Shaped.{IsIdle, IsNoFire, shaped_does}
+use Rattle.cyc_model.proofs.Choosing.{own_number}
 
 -- ---- where the k-th cyclic gets the index k, indexes are below the admissions
 
@@ -113,9 +114,6 @@ below_fires now (n ∷ ns) s =
     below_append (fire_here n now (cpu_of n s)).acts (each (λ m. on m (fire_here m now)) ns t).acts s.admissions s.admissions
     (each (λ m. on m (fire_here m now)) ns t).state.admissions
     (omega arith, expiries_below s.admissions n (due_here now (cpu_of n s)) (cpu_of n s)) (below_fires now ns t)
-
-abbrev own_number : ℕ → ℕ
-own_number k = k
 
 below_shaped : (texts : List (List ℕ)) (step : ℕ) (x : Step) (s : State) → IsNoFire x
     → Below (does plain texts own_number step x s).acts s.admissions (does plain texts own_number step x s).state.admissions

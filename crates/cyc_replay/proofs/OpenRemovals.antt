@@ -7,12 +7,12 @@ use Rattle.std.proofs.lemmas.Bool.Decides.{nat_tests}
 use Rattle.cyc_model.specs.State.{State, Placed, cpu_of}
 use Rattle.cyc_model.specs.Places.{placement_of, is_leaving}
 use Rattle.cyc_model.specs.Softint.{leaving_ids}
-use Rattle.cyc_model.specs.Laws.{RiseTo}
 use Rattle.cyc_model.proofs.Base.{IsAt}
 use Rattle.cyc_model.proofs.Spread.{Good}
 use Rattle.cyc_model.proofs.Numbers.{Has, RiseFrom, has_above, not_leaving}
 use Rattle.cyc_model.proofs.Juggling.{filter_rise, filtered, filtering}
 use Rattle.cyc_model.proofs.Staying.{leaving_where}
+use Rattle.cyc_model.proofs.Printing.{placed_rise}
 
 -- those of these numbers that are at most this one
 abbrev pub up_to : ℕ → List ℕ → List ℕ
@@ -67,10 +67,6 @@ one_up_to low last id (x ∷ xs) rise less has least =
         ∙ ap (λ ys. ys ++ id ∷ []) (sym (none_up_to (x + 1) last xs rise.1 (omega (arith, above))))
 
 -- ---- the open removals of a machine
-
-placed_rise : (low high : ℕ) (ps : List Placed) → RiseTo low ps high → RiseFrom (low + 1) (map (λ p. p.id) ps)
-placed_rise low high [] h = tt
-placed_rise low high (p ∷ ps) h = (let a = h.0 in omega (arith, a), placed_rise p.id high ps h.1)
 
 pub leaving_rise : (s : State) → Good s → RiseFrom 1 (leaving_ids s)
 leaving_rise s g = filter_rise (λ id. is_leaving id s) 1 (map (λ (p : Placed). p.id) s.placed)

@@ -10,13 +10,10 @@ use Rattle.cyc_cpu.specs.Cpu.{HasNoCyclic, HasRisingIds}
 use Rattle.cyc_places.specs.Places.{no_counts}
 use Rattle.cyc_model.specs.Cpu.{Cyclic, Cpu, is_of}
 use Rattle.cyc_model.specs.State.{absent, kept_if, numbers_from}
-use Rattle.cyc_model.proofs.Rising.{found, first_is, first_not}
+use Rattle.cyc_model.proofs.Rising.{found, first_is, first_not, tally}
 use Rattle.cyc_cpu_model.specs.Shown.{shown}
 
 -- ---- the cyclics of one CPU
-
-abbrev pub tally : (Cyclic → ℕ) → ℕ → List Cyclic → ℕ
-tally g id cs = sum_by (λ x. cond (is_of id x) (g x) 0) cs
 
 pub tally_none : (g : Cyclic → ℕ) (id : ℕ) (cs : List Cyclic) → found id cs ≡ None → tally g id cs ≡ 0
 tally_none g id [] none = refl
