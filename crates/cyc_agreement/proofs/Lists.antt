@@ -5,6 +5,7 @@ use Rattle.std.specs.Prelude.{◌||◌, ◌==◌, insert, remove}
 use Rattle.std.specs.List.{list_any}
 use Rattle.std.proofs.lemmas.List.{take-append-drop, take-map, drop-map, map-append}
 use Rattle.std.proofs.lemmas.List.Folds.{list_any-append}
+use Rattle.std.proofs.lemmas.Bool.{or_right}
 
 -- whether an id is among these
 abbrev pub among : ℕ → List ℕ → Bool
@@ -41,11 +42,8 @@ pub any_at : {A : Type 0} (p : A → Bool) (xs : List A) (k : ℕ) (d : A) → k
     → list_any p xs ≡ true
 any_at p [] k d low passes = absurd (omega (arith, low))
 any_at p (x ∷ xs) zero d low passes = ap (λ b. b || list_any p xs) passes
-any_at p (x ∷ xs) (suc k) d low passes = ap (λ b. p x || b) (any_at p xs k d (omega (arith, low)) passes) ∙ or_true (p x)
-  where
-    or_true : (b : Bool) → (b || true) ≡ true
-    or_true true = refl
-    or_true false = refl
+any_at p (x ∷ xs) (suc k) d low passes = ap (λ b. p x || b) (any_at p xs k d (omega (arith, low)) passes)
+    ∙ or_right (p x) true refl
 
 -- the place of one that passes
 pub any_place : {A : Type 0} (p : A → Bool) (xs : List A) → list_any p xs ≡ true → (k : ℕ) × (k < length xs)

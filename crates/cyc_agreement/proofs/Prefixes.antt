@@ -6,6 +6,7 @@ use Rattle.std.specs.List.{slice_get}
 use Rattle.std.proofs.lemmas.Option.{slice_get_within, get_or_from_slice_get}
 use Rattle.std.proofs.lemmas.List.Elements.{filter_more}
 use Rattle.std.proofs.lemmas.List.Filters.{length-filter_more}
+use Rattle.std.proofs.lemmas.Bool.{or_right}
 use Rattle.cyc_places.specs.declared.record.Record.{Record}
 use Rattle.cyc_places.specs.Places.{IsRecord, HasRisingIds}
 use Rattle.cyc_agreement.proofs.Lists.{among, eq_true, true_eq, false_true}
@@ -143,13 +144,9 @@ is_in p zero r (x ∷ rs) is passes = by (p x) (ap p (same_some is) ∙ passes)
     by false e = absurd (false_true e)
 is_in p (suc k) r (x ∷ rs) is passes = by (p x) (is_in p k r rs is passes)
   where
-    or_true : (b : Bool) → (b || true) ≡ true
-    or_true true = refl
-    or_true false = refl
-
     by : (b : Bool) → among r.id (ids_in (filter p rs)) ≡ true
         → among r.id (ids_in (cond b (x ∷ filter p rs) (filter p rs))) ≡ true
-    by true e = ap (λ c. (x.id == r.id) || c) e ∙ or_true (x.id == r.id)
+    by true e = ap (λ c. (x.id == r.id) || c) e ∙ or_right (x.id == r.id) true refl
     by false e = e
 
 taken_at : (rs : List Record) (k j : ℕ) (r : Record) → IsRecord (take k rs) j r → (j < k) × IsRecord rs j r

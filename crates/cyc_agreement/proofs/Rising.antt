@@ -2,6 +2,7 @@
 use Rattle.std.proofs.Common.{◌≡◌, ◌≢◌, ℕ, suc, ◌<◌, ◌≤◌, Bool, true, false, cond, List, [], ◌∷◌, length, get_or, filter, refl}
 use Rattle.std.proofs.Common.{sym, ap, ◌∙◌, arith}
 use Rattle.std.specs.Prelude.{◌||◌, ◌==◌}
+use Rattle.std.proofs.lemmas.Bool.{or_right}
 use Rattle.cyc_places.specs.declared.record.Record.{Record}
 use Rattle.cyc_places.specs.Places.{HasRisingIds}
 use Rattle.cyc_agreement.proofs.Lists.{among, any_place, eq_true, true_eq, false_ne, false_true}
@@ -46,16 +47,12 @@ no_more [] ys rx ry within = omega arith
 no_more (x ∷ xs) [] rx ry within = absurd (false_true (within x (ap (λ b. b || among x xs) (true_eq x x refl))))
 no_more (x ∷ xs) (y ∷ ys) rx ry within = by (y == x) refl (no_more xs ys rx.1 ry.1) (no_more (x ∷ xs) ys rx ry.1)
   where
-    or_true : (b : Bool) → (b || true) ≡ true
-    or_true true = refl
-    or_true false = refl
-
     -- among the rest, unless it is the first
     rest : (q : ℕ) → y ≢ q → ((y == q) || among q ys) ≡ true → among q ys ≡ true
     rest q ne h = sym (ap (λ b. b || among q ys) (false_ne y q ne)) ∙ h
 
     later : (q : ℕ) → among q xs ≡ true → ((y == q) || among q ys) ≡ true
-    later q e = within q (ap (λ b. (x == q) || b) e ∙ or_true (x == q))
+    later q e = within q (ap (λ b. (x == q) || b) e ∙ or_right (x == q) true refl)
 
     here : ((y == x) || among x ys) ≡ true
     here = within x (ap (λ b. b || among x xs) (true_eq x x refl))

@@ -3,7 +3,7 @@ use Rattle.std.proofs.Common.{◌≡◌, ℕ, ◌+◌, List, [], ◌∷◌, ◌+
 use Rattle.std.proofs.Common.{subst, ◌∙◌, arith}
 use Rattle.std.specs.Prelude.{Bool, true, false, Result, Ok, Err}
 use Rattle.std.specs.List.{FoldsTo}
-use Rattle.std.proofs.lemmas.List.{length-map}
+use Rattle.std.proofs.lemmas.List.{length-map, append-nil}
 use Rattle.cyc_types.specs.declared.Calls.{Ghosts as Calls}
 use Rattle.cyc_types.specs.Counting.{times}
 use Rattle.cyc_types.specs.Draining.{DrainCall}
@@ -154,10 +154,6 @@ last_finishes : (idle : Bool) → finishes_of (last_look idle) ≡ []
 last_finishes true = refl
 last_finishes false = refl
 
-no_more : (xs : List ℕ) → xs ++ [] ≡ xs
-no_more [] = refl
-no_more (x ∷ xs) = ap (λ ys. x ∷ ys) (no_more xs)
-
 module _ {C : Type 0} (handler : Calls C) where
   pub core_proceeds_none : (s : Running C Tables) → CoreProceeds handler.count nothing s s
   core_proceeds_none s = record {
@@ -215,7 +211,7 @@ module _ {C : Type 0} (handler : Calls C) where
       → finishes_of rest ≡ [] → length ran ≡ n →
       CorePasses (λ id. 0) (λ id. 0) (λ id. times id (ids ran)) n a b
   served_level own a b n calls calls' ran rest serves none long =
-      let made = way_finishes (held_at a) ran rest ∙ ap (λ xs. ids ran ++ xs) none ∙ no_more (ids ran) in
+      let made = way_finishes (held_at a) ran rest ∙ ap (λ xs. ids ran ++ xs) none ∙ append-nil (ids ran) in
       core_as _ _ _ _ _ _ _ n a b (λ id. refl) (λ id. refl) (λ id. ap (times id) made)
       (ap length made ∙ length-map ran (λ (x : Served). x.id) ∙ long)
       (core_soft a b (way_of (held_at a) ran rest) serves.way)

@@ -4,6 +4,7 @@ use Rattle.std.proofs.Common.{ap, sym, ◌∙◌, subst, arith}
 use Rattle.std.specs.Prelude.{◌||◌, is_some}
 use Rattle.std.specs.List.{list_any}
 use Rattle.std.specs.Option.{option_map_or}
+use Rattle.std.proofs.lemmas.Bool.{or_right}
 use Rattle.cyc_types.specs.Firing.{Loads, Marks, Polls}
 use Rattle.cyc_types.specs.Runs.{Goes}
 use Rattle.cyc_types.specs.declared.firing.Sent.{Sent}
@@ -26,17 +27,13 @@ use Rattle.cyc_cpu_model.proofs.Lists.{find_shown, named, not_named}
 
 -- ---- whether the CPU has the cyclic
 
-or_true : (b : Bool) → (b || true) ≡ true
-or_true true = refl
-or_true false = refl
-
 pub has_shown : (cs : List Timed) (k : ℕ) (x : Timed) → IsCyclic cs k x → list_any (is_of x.timer.id) (map shown cs) ≡ true
 has_shown [] k x is = absurd (let low = is.0 in omega (arith, low))
 has_shown (c ∷ cs) zero x is =
     ap (λ b. b || list_any (is_of x.timer.id) (map shown cs)) (named x.timer.id c (ap (λ (y : Timed). y.timer.id) is.1))
 has_shown (c ∷ cs) (suc k) x is =
     ap (λ b. is_of x.timer.id (shown c) || b) (has_shown cs k x (let low = is.0 in omega (arith, low), is.1))
-    ∙ or_true (is_of x.timer.id (shown c))
+    ∙ or_right (is_of x.timer.id (shown c)) true refl
 
 pub has_it : (id : ℕ) (cs : List Timed) (k : ℕ) (x : Timed) → IsCyclic cs k x → x.timer.id ≡ id
     → list_any (is_of id) (map shown cs) ≡ true

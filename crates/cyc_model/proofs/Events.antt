@@ -1,5 +1,6 @@
 -- Lists of acts and of events, one after the other.
 use Rattle.std.proofs.Common.{◌≡◌, ℕ, ◌+◌, List, [], ◌∷◌, ◌++◌, refl, ap, sym, ◌∙◌, arith}
+use Rattle.std.proofs.lemmas.List.{append_assoc}
 use Rattle.cyc_types.specs.declared.level.Soft.{Soft}
 use Rattle.cyc_level.specs.declared.Event.{Event}
 use Rattle.cyc_level.specs.Level.{SoftLevel}
@@ -10,10 +11,6 @@ use Rattle.cyc_model.specs.Serving.{level_after}
 pub level_append : (xs ys : List Event) (l : SoftLevel) → level_after (xs ++ ys) l ≡ level_after ys (level_after xs l)
 level_append [] ys l = refl
 level_append (x ∷ xs) ys l = level_append xs ys (after x l)
-
-append_assoc : {A : Type 0} → (xs ys zs : List A) → (xs ++ ys) ++ zs ≡ xs ++ (ys ++ zs)
-append_assoc [] ys zs = refl
-append_assoc (x ∷ xs) ys zs = ap (λ ws. x ∷ ws) (append_assoc xs ys zs)
 
 pub events_append : (n : ℕ) (soft : Soft) (xs ys : List Act) → events_at n soft (xs ++ ys)
     ≡ events_at n soft xs ++ events_at n soft ys

@@ -2,7 +2,7 @@
 use Rattle.std.proofs.Common.{◌≡◌, ◌≢◌, ℕ, ◌+◌, ◌<◌, ◌≤◌, ◌==◌, eq-eqb, ne_eqb, eqb-true, Bool, true, false, cond, List, [], ◌∷◌}
 use Rattle.std.proofs.Common.{map, length, Option, Some, None, refl, ap, sym, ◌∙◌, subst, inl, inr, ⊎_elim, ◌⊎◌, arith}
 use Rattle.std.specs.Prelude.{IsSome, is_some, not, nat_lt, nat_le, filter}
-use Rattle.std.proofs.lemmas.Bool.{ltb-false, leb-false}
+use Rattle.std.proofs.lemmas.Bool.{ltb-false, leb-false, not-true}
 use mathlib.Core.Logic.{dite}
 use native.Mathlib.Decide.{ℕ_discrete}
 use Rattle.cyc_types.specs.declared.refusal.Refusal.{Refusal}
@@ -266,12 +266,8 @@ single_there : (n : ℕ) (s : State) → Good s → (j : ℕ) → Has j (single_
     → (bound : Bool) × (placement_of j s ≡ Some (On n bound))
 single_there n s g j has =
     let f = filtered (λ id. not (is_omnipresent id s)) j (ids_in (cpu_of n s).cyclics) has in
-    by (placement_of j s) (not_true (is_omnipresent j s) f.1) (g.base.homes n j (has_ids j (cpu_of n s).cyclics f.0))
+    by (placement_of j s) (not-true (is_omnipresent j s) f.1) (g.base.homes n j (has_ids j (cpu_of n s).cyclics f.0))
   where
-    not_true : (b : Bool) → not b ≡ true → b ≡ false
-    not_true true h = absurd (cc)
-    not_true false h = refl
-
     by : (o : Option Placement) → is_everywhere o ≡ false → IsAt n o → (bound : Bool) × (o ≡ Some (On n bound))
     by None single at = absurd at
     by (Some (On m bound)) single at = (bound, ap (λ k. Some (On k bound)) at)

@@ -4,6 +4,7 @@ use Rattle.std.proofs.Common.{◌∷◌, length, Option, Some, None, refl, ap, s
 use Rattle.std.specs.Prelude.{⊤, IsSome, is_some, not, filter, slice_index_or}
 use Rattle.std.specs.Option.{option_map, option_map_or}
 use Rattle.std.specs.List.{list_any}
+use Rattle.std.proofs.lemmas.Bool.{not-true}
 use mathlib.Core.Logic.{dite}
 use native.Mathlib.Decide.{ℕ_discrete}
 use Rattle.cyc_types.specs.Limits.{greatest_bank, cyclics as most_cyclics}
@@ -152,10 +153,6 @@ staying_entries s g =
     (each_filter (λ p. entry p.id s.placed ≡ Some p) (λ p. not (is_leaving p.id s)) s.placed
     (each_entry 0 s.last_id s.placed g.base.rise))
 
-not_true : (b : Bool) → not b ≡ true → b ≡ false
-not_true true h = absurd (cc)
-not_true false h = refl
-
 pub staying_all : (s : State) → Good s → Each (Stays s) (staying s)
 staying_all s g = each_then (λ p. ((entry p.id s.placed ≡ Some p) × (not (is_leaving p.id s) ≡ true))
     × (is_on_all p.place ≡ true)) (Stays s)
@@ -163,7 +160,7 @@ staying_all s g = each_then (λ p. ((entry p.id s.placed ≡ Some p) × (not (is
     ≡ Some p.place = ap (option_map (λ (q : Placed). q.place)) h.0.0 in record {
       everywhere = all;
       placed = at;
-      full = stays_full p.id s (g.spread.stands p.id all.0 (at ∙ ap Some all.1)) (not_true (is_leaving p.id s) h.0.1);
+      full = stays_full p.id s (g.spread.stands p.id all.0 (at ∙ ap Some all.1)) (not-true (is_leaving p.id s) h.0.1);
     })
     (staying s) (staying_entries s g)
 
@@ -199,7 +196,7 @@ stays_closed j s g some =
     × (is_on_all q.place ≡ true)) j p.0 (staying s)
     (staying_entries s g) p.1 in
     let id = (entry_filtered (λ q. is_on_all q.place) j p.0 (filter (λ q. not (is_leaving q.id s)) s.placed) p.1).1 in
-    not_true (is_leaving j s) (subst (λ (k : ℕ). not (is_leaving k s) ≡ true) id h.0.1)
+    not-true (is_leaving j s) (subst (λ (k : ℕ). not (is_leaving k s) ≡ true) id h.0.1)
 
 -- ---- as many as there are cyclics
 

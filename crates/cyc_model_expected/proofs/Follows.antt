@@ -3,6 +3,7 @@ use Rattle.std.proofs.Common.{◌≡◌, ◌≢◌, ℕ, ◌+◌, Bool, true, fa
 use Rattle.std.proofs.Common.{ap, sym, ◌∙◌, subst, ◌==◌, eq-eqb, eqb-true, arith, Option, Some, None}
 use Rattle.std.specs.Prelude.{IsSome, is_some, not, ◌&&◌, slice_set, slice_index_or, int_lt, pos}
 use Rattle.std.proofs.lemmas.List.{get_or-set_same, get_or-set_other}
+use Rattle.std.proofs.lemmas.Bool.{not-true}
 use Rattle.cyc_types.specs.declared.refusal.Refusal.TheVariants.{BadWhen, NoCyclic}
 use Rattle.cyc_types.specs.Series.{first}
 use Rattle.cyc_script.specs.declared.step.Step.{Step}
@@ -314,12 +315,8 @@ module _ (texts : List (List ℕ)) (f : ℕ → ℕ) (step name : ℕ) (s : Stat
       (still_id (after (Juggle n)) (still_juggle f step n s).names) u.course u.expired c
   follows_does (Offline n) why done in_ u ups c = to (after (Offline n)) (with_component n (λ e. None) u.course) u.expired
       (still_id (after (Offline n)) (still_offline f step n s).names)
-      (course_off n why (off (cpu_of n (after (Offline n))).online done) u.course c.course_is)
+      (course_off n why (not-true (cpu_of n (after (Offline n))).online done) u.course c.course_is)
       (calm_expired texts f step s h.good id (Offline n) tt why ∙ c.expired_is)
-    where
-      off : (b : Bool) → not b ≡ true → b ≡ false
-      off true wrong = absurd (cc)
-      off false is = refl
   follows_does (Online n) why done in_ u ups c =
       to (after (Online n)) (with_component n (λ e. Some (component_first n e s.clock)) u.course) u.expired
       (still_id (after (Online n)) (still_online f step n s).names) (course_on n why u.course c.course_is)

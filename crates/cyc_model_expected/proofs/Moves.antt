@@ -2,6 +2,7 @@
 use Rattle.std.proofs.Common.{◌≡◌, ◌≢◌, ℕ, Bool, true, false, List, [], ◌∷◌, refl, ap, sym, ◌∙◌, Option, Some, None}
 use Rattle.std.proofs.Common.{◌==◌, inl, inr}
 use Rattle.std.specs.Prelude.{not}
+use Rattle.std.proofs.lemmas.Bool.{not-true}
 use Rattle.cyc_script.specs.declared.step.Bind.{Bind as BindStep}
 use Rattle.cyc_model.specs.Cpu.{Cyclic, cyclic_of}
 use Rattle.cyc_model.specs.Moving.{take_here}
@@ -73,12 +74,8 @@ module _ (id : ℕ) where
   pub left_juggled : (indexes : ℕ → ℕ) (n : ℕ) (s : State) → is_omnipresent id s ≡ true
       → Left id s (juggled plain indexes n s).outcome.state
   left_juggled indexes n s all = left_turns indexes n (single_ids n s) s
-      (λ j has. other_single j s all (not_true (is_omnipresent j s)
+      (λ j has. other_single j s all (not-true (is_omnipresent j s)
       (filtered (λ i. not (is_omnipresent i s)) j (ids_in (cpu_of n s).cyclics) has).1))
-    where
-      not_true : (b : Bool) → not b ≡ true → b ≡ false
-      not_true true h = absurd (cc)
-      not_true false h = refl
 
   left_unless : (there : Bool) (indexes : ℕ → ℕ) (j n : ℕ) (s : State) → id ≢ j
       → Left id s (move_unless_there there indexes j n s).state

@@ -1,8 +1,9 @@
 -- Which CPUs are online is told, word by word.
 use Rattle.std.proofs.Common.{◌≡◌, ◌≢◌, ℕ, ◌+◌, ◌<◌, Bool, true, false, cond, List, [], ◌∷◌, length, refl, ap, sym, ◌∙◌, subst}
 use Rattle.std.proofs.Common.{Option, Some, None, ◌==◌}
-use Rattle.std.specs.Prelude.{not, slice_set, slice_index_or}
+use Rattle.std.specs.Prelude.{slice_set, slice_index_or}
 use Rattle.std.proofs.lemmas.List.{get_or-set_same, get_or-set_other, length-set}
+use Rattle.std.proofs.lemmas.Bool.{not-true}
 use mathlib.Core.Logic.{dite}
 use native.Mathlib.Decide.{ℕ_discrete}
 use Rattle.cyc_level.specs.declared.Event.TheVariants.{Mark, Clear}
@@ -184,11 +185,7 @@ module _ (texts : List (List ℕ)) (f : ℕ → ℕ) (step : ℕ) (s : State) (g
   ups_does name (Softint i) why done u h = here (Softint i) why tt u.online h
   ups_does name (Juggle n) why done u h = here (Juggle n) why tt u.online h
   ups_does name (Offline n) why done u h =
-      ups_one u.online n false (after (Offline n)) (on_cpu n why).0 (long (Offline n) why) h (still_up n) (off _ done)
-    where
-      off : (b : Bool) → not b ≡ true → b ≡ false
-      off true wrong = absurd (cc)
-      off false is = refl
+      ups_one u.online n false (after (Offline n)) (on_cpu n why).0 (long (Offline n) why) h (still_up n) (not-true _ done)
   ups_does name (Online n) why done u h =
       let room = no_room_for_all plain n (length (staying s)) (cpu_of n s) in
       let within = is_cpu n s (none_first (no_cpu n s) (online_cpu n s ∷ bad_now s.clock ∷ room ∷ []) why).0 in

@@ -3,7 +3,7 @@ use Rattle.std.proofs.Common.{◌≡◌, ◌≢◌, ℕ, ◌<◌, ◌==◌, ◌�
 use Rattle.std.proofs.Common.{length, find, get_or, Option, Some, None, refl, ap, sym, ◌∙◌, subst, arith}
 use Rattle.std.specs.Prelude.{slice_set, nat_lt, Ok, Err}
 use Rattle.std.proofs.lemmas.Bool.Decides.{nat_tests, eqb_tells}
-use Rattle.std.proofs.lemmas.List.{get_or-set_other}
+use Rattle.std.proofs.lemmas.List.{get_or-set_other, append-nil}
 use mathlib.Core.Logic.{dite}
 use native.Mathlib.Decide.{ℕ_discrete}
 use Rattle.cyc_types.specs.declared.level.Soft.{Soft}
@@ -74,10 +74,6 @@ taken_is id taken c (y, found, level, interval, moment, sent, lost) = found ∙ 
   };
   lost = sym lost z;
 })
-
-nil_right : {A : Type 0} (xs : List A) → xs ++ [] ≡ xs
-nil_right [] = refl
-nil_right (x ∷ xs) = ap (λ ys. x ∷ ys) (nil_right xs)
 
 -- ---- a move
 
@@ -163,7 +159,7 @@ module _ (id source target : ℕ) (x : Cyclic) (s : State) (v w : SystemView Tab
   can_all : (index : ℕ) → index ≡ d.index → (n : ℕ) (soft : Soft)
       → AllCanBeAdmitted (events_at n soft ((taking ++ coming index) ++ [])) (level_at soft (get_or s.cpus n absent))
   can_all index is n soft = subst (λ acts. AllCanBeAdmitted (events_at n soft acts) (level_at soft (get_or s.cpus n absent)))
-      (sym (nil_right (taking ++ coming index)))
+      (sym (append-nil (taking ++ coming index)))
       (subst (λ es. AllCanBeAdmitted es (level_at soft (get_or s.cpus n absent)))
       (sym (events_append n soft taking (coming index))) (dite (ℕ_discrete n target) there elsewhere))
     where
@@ -178,7 +174,7 @@ module _ (id source target : ℕ) (x : Cyclic) (s : State) (v w : SystemView Tab
           (level_at soft (get_or s.cpus n absent))
       elsewhere other = subst (λ es. AllCanBeAdmitted (events_at n soft taking ++ es) (level_at soft (get_or s.cpus n absent)))
           (sym (other_events (coming index) target n soft (local_enter target index x _).on other))
-          (subst (λ es. AllCanBeAdmitted es (level_at soft (get_or s.cpus n absent))) (sym (nil_right (events_at n soft taking)))
+          (subst (λ es. AllCanBeAdmitted es (level_at soft (get_or s.cpus n absent))) (sym (append-nil (events_at n soft taking)))
           (none_admitted taking n soft (level_at soft (get_or s.cpus n absent))
           (take_none source id (get_or s.cpus source absent))))
 
@@ -196,7 +192,7 @@ module _ (id source target : ℕ) (x : Cyclic) (s : State) (v w : SystemView Tab
   went_quiet : (indexes : ℕ → ℕ) → indexes s.admissions ≡ d.index → (q : ℕ)
       → calls_of q (went_to indexes id source target (Some x) s).acts ≡ 0
   went_quiet indexes is q =
-      let all = ap (λ acts. calls_of q acts) (nil_right (taking ++ coming (indexes s.admissions))) in
+      let all = ap (λ acts. calls_of q acts) (append-nil (taking ++ coming (indexes s.admissions))) in
       let whole = calls_append q taking (coming (indexes s.admissions)) in
       let first = ap (λ cs. calls_of q (take_here source id (get_or cs source absent)).acts) h.cpus ∙ d.took q in
       let rest = (λ z. calls_of q (enter_here target (is z) x (get_or (sym middle_is z) target absent)).acts) ∙ d.came q in

@@ -3,6 +3,7 @@ use Rattle.std.proofs.Common.{◌≡◌, ◌≢◌, ℕ, ◌-◌, ◌==◌, inl,
 use Rattle.std.proofs.Common.{filter, Option, Some, None, refl, ap, sym, ◌∙◌, subst, arith}
 use Rattle.std.specs.Prelude.{Ok, Err}
 use Rattle.std.specs.Option.{option_map_or}
+use Rattle.std.proofs.lemmas.List.{append-nil}
 use Rattle.cyc_types.specs.declared.receipt.Receipt.{Receipt}
 use Rattle.cyc_core.specs.Tables.{Tables}
 use Rattle.cyc_soft.specs.declared.Ran.{Ran}
@@ -26,7 +27,6 @@ use Rattle.cyc_cpu_model.proofs.Free.{HasNoAdmit, none_admitted, no_more, clear_
 use Rattle.cyc_replay.specs.Shown.{shown_record, ShowsSystem, IsSystem}
 use Rattle.cyc_replay.specs.Running.{IsServed}
 use Rattle.cyc_replay.specs.Removal.{told_by, answer_line, HavePolled, leaving_in, IsInterrupted}
-use Rattle.cyc_replay.proofs.Lists.{nil_right}
 use Rattle.cyc_replay.proofs.Asking.{leaving_shown}
 use Rattle.cyc_replay.proofs.Half.{half}
 use Rattle.cyc_replay.proofs.Coming.{CameToAll, all_come}
@@ -180,7 +180,7 @@ module _ (texts : List (List ℕ)) (step : ℕ) (m : State) where
               h.comes.admissions in omega (arith, a, b, c));
           free = λ n soft. none_admitted (polls (ids ++ id ∷ [])).acts n soft _ (polls_none texts step (ids ++ id ∷ []) m);
         };
-        said = ap (λ (x : Outcome). x.line) is ∙ ap (λ xs. o.line ++ xs) (nil_right q.line)
+        said = ap (λ (x : Outcome). x.line) is ∙ ap (λ xs. o.line ++ xs) (append-nil q.line)
             ∙ (λ z. h.said z ++ (p.line ∙ ap (λ names. answer_line step (text_of_id id texts names) answer) h.names) z);
         names = ap (λ (x : Outcome). x.state.names) is ∙ p.names ∙ h.names;
         quiet = λ j.

@@ -3,7 +3,7 @@ use Rattle.std.proofs.Common.{◌≡◌, ℕ, suc, ◌+◌, ◌<◌, inl, inr, �
 use Rattle.std.proofs.Common.{Some, None, refl, ap, sym, ◌∙◌, subst, arith}
 use Rattle.std.specs.Prelude.{Ok}
 use Rattle.std.proofs.Math.Seq.{take-suc, take-length}
-use Rattle.std.proofs.lemmas.List.{length-take-le, get_or-set_other, length-set}
+use Rattle.std.proofs.lemmas.List.{length-take-le, get_or-set_other, length-set, append_assoc, append-nil}
 use Rattle.std.proofs.lemmas.List.Sums.{sum_by-append}
 use Rattle.cyc_types.specs.declared.Calls.{Ghosts as Calls}
 use Rattle.cyc_types.specs.declared.refusal.Refusal.TheVariants.{Offline}
@@ -30,7 +30,6 @@ use Rattle.cyc_cpu_model.proofs.Free.{HasNoAdmit, none_admitted, no_more, fire_n
 use Rattle.cyc_replay.specs.Shown.{ShowsSystem, IsSystem}
 use Rattle.cyc_replay.specs.SystemWords.{ComesTo}
 use Rattle.cyc_replay.specs.SystemAdvancing.{at_clock, online_below, fire_each, fired_and_lost, HaveFired, HasFired, IsAdvanced}
-use Rattle.cyc_replay.proofs.Lists.{append_assoc, nil_right}
 use Rattle.cyc_replay.proofs.Asking.{same_offline}
 use Rattle.cyc_replay.proofs.SystemRunning.{fire_accepted}
 
@@ -229,7 +228,7 @@ module _ {C : Type 0} (handler : Calls C) where
       same_offline o.state t.system h.comes.shows sys.agrees.long n in
       let is_off : (cpu_of n m).online ≡ false = sym (ap (λ (c : Cpu). c.online) same)
       ∙ offline_then (cpu_of n o.state).online (is_online n t.system.cpus) off asked in
-      let next : online_below (n + 1) m ≡ ns = below_next n m low ∙ ap (λ b. ns ++ kept_if b n []) is_off ∙ nil_right ns in
+      let next : online_below (n + 1) m ≡ ns = below_next n m low ∙ ap (λ b. ns ++ kept_if b n []) is_off ∙ append-nil ns in
       subst (λ ks. HaveFired handler.count ks (fired_and_lost expired lost) m s t) (sym next) h
     where
       offline_then : (a b : Bool) → b ≡ false → when (not a) Offline ≡ when (not b) Offline → a ≡ false

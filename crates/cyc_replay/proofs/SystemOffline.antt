@@ -3,6 +3,7 @@ use Rattle.std.proofs.Common.{◌≡◌, ◌≢◌, ℕ, zero, suc, ◌<◌, ◌
 use Rattle.std.proofs.Common.{Option, Some, None, refl, ap, sym, ◌∙◌, subst, arith}
 use Rattle.std.specs.Prelude.{slice_set, nat_lt, Ok, Err}
 use Rattle.std.specs.List.{FoldsTo, list_any}
+use Rattle.std.proofs.lemmas.Bool.{or_right}
 use Rattle.cyc_types.specs.Refusals.{number_of}
 use Rattle.cyc_types.specs.declared.refusal.JuggleReport.{JuggleReport}
 use Rattle.cyc_types.specs.declared.refusal.Refusal.{Refusal}
@@ -81,11 +82,7 @@ some_out n (b ∷ before) id found v w long ties some (u, ask, rest) =
 
 any_after : (test : ℕ → Bool) (before rest : List ℕ) (id : ℕ) → test id ≡ true → list_any test (before ++ id ∷ rest) ≡ true
 any_after test [] rest id is = ap (λ b. b || list_any test rest) is
-any_after test (b ∷ before) rest id is = ap (λ x. test b || x) (any_after test before rest id is) ∙ or_true (test b)
-  where
-    or_true : (b : Bool) → (b || true) ≡ true
-    or_true true = refl
-    or_true false = refl
+any_after test (b ∷ before) rest id is = ap (λ x. test b || x) (any_after test before rest id is) ∙ or_right (test b) true refl
 
 -- ---- the components end
 

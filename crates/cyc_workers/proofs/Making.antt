@@ -1,7 +1,8 @@
 -- What soft interrupts make, one and then others.
-use Rattle.std.proofs.Common.{◌≡◌, ℕ, List, [], ◌∷◌, ◌++◌, Option, Some, None, refl, sym, ap, subst, ◌∙◌, arith}
+use Rattle.std.proofs.Common.{◌≡◌, ℕ, List, [], ◌++◌, Option, Some, None, refl, sym, ap, subst, ◌∙◌, arith}
 use Rattle.std.specs.Prelude.{Bool, true, false, Result, Ok, Err, IsTrue, IfOk, IfErr}
 use Rattle.std.specs.List.{FoldsTo}
+use Rattle.std.proofs.lemmas.List.{append-nil}
 use Rattle.cyc_types.specs.Counting.{times}
 use Rattle.cyc_types.specs.declared.Drain.{Ghosts as Drain}
 use Rattle.cyc_types.specs.Draining.{DrainCall}
@@ -26,10 +27,6 @@ last_finishes : (idle : Bool) → finishes_of (last_look idle) ≡ []
 last_finishes true = refl
 last_finishes false = refl
 
-no_more : (xs : List ℕ) → xs ++ [] ≡ xs
-no_more [] = refl
-no_more (x ∷ xs) = ap (λ ys. x ∷ ys) (no_more xs)
-
 module _ {D C : Type 0} (draining : Drain D) (handler : Handler C) where
   pub makes_none : (a : SoftSide D C) → Makes draining handler a a
   makes_none a = record { way = []; goes = refl; called_all = refl; counted = λ id. omega arith; finished = λ id. omega arith }
@@ -53,7 +50,7 @@ module _ {D C : Type 0} (draining : Drain D) (handler : Handler C) where
       → soft.Serves draining handler a ran rest b → Makes draining handler a b
   interrupt_makes a ran rest b none s =
       let hand = draining.held a.drain in
-      let all = way_finishes hand ran rest ∙ ap (λ xs. ids ran ++ xs) none ∙ no_more (ids ran) in
+      let all = way_finishes hand ran rest ∙ ap (λ xs. ids ran ++ xs) none ∙ append-nil (ids ran) in
       record {
         way = way_of hand ran rest;
         goes = s.way;
