@@ -11,7 +11,7 @@ use Rattle.cyc_agreement.proofs.Lists.{true_eq, false_ne}
 abbrev pub found : ℕ → List Record → Option Record
 found id rs = find (λ r. r.id == id) rs
 
-tail_rises : (x : Record) (rs : List Record) → HasRisingIds (x ∷ rs) → HasRisingIds rs
+pub tail_rises : (x : Record) (rs : List Record) → HasRisingIds (x ∷ rs) → HasRisingIds rs
 tail_rises x rs h i j r s less a b = h (suc i) (suc j) r s (omega (arith, less)) a b
 
 pub record_here : (id k : ℕ) (r : Record) (rs : List Record) → HasRisingIds rs → IsRecord rs k r → r.id ≡ id

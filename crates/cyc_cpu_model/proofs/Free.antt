@@ -168,7 +168,7 @@ take_none n id c = no_more (at_own n (handler_level_of id c) (Mark id)) _ (own_n
 
 -- ---- a cyclic that is put in
 
-can_append : (xs ys : List Event) (l : SoftLevel) → AllCanBeAdmitted xs l → AllCanBeAdmitted ys (level_after xs l)
+pub can_append : (xs ys : List Event) (l : SoftLevel) → AllCanBeAdmitted xs l → AllCanBeAdmitted ys (level_after xs l)
     → AllCanBeAdmitted (xs ++ ys) l
 can_append [] ys l first rest = rest
 can_append (x ∷ xs) ys l first rest = (first.0, can_append xs ys (after x l) first.1 rest)

@@ -32,7 +32,7 @@ level_found online k id x v rising is named =
 
 -- ---- another moment
 
-abbrev level_in : Option Cyclic → Level
+abbrev pub level_in : Option Cyclic → Level
 level_in o = option_map_or (λ y. y.timer.level) o High
 
 same_level_at : (id moment : ℕ) (y : Cyclic) (ys : List Cyclic) (b : Bool) → is_of id y ≡ b

@@ -1,5 +1,5 @@
 mod Lists
-mod Levels
+pub mod Levels
 mod Coming
 mod Leaving
 mod Raising

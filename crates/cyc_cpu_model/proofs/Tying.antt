@@ -2,7 +2,7 @@
 use Rattle.std.proofs.Common.{◌≡◌, ◌≢◌, ℕ, ◌+◌, ◌==◌, List, [], ◌∷◌, ◌++◌, length, map, find, Bool, true, false, not, cond}
 use Rattle.std.proofs.Common.{Option, Some, None, IsSome, refl, ap, sym, ◌∙◌, subst, arith}
 use Rattle.std.specs.Prelude.{nat_lt, ◌&&◌}
-use Rattle.std.specs.Option.{option_map, option_map_or}
+use Rattle.std.specs.Option.{option_map}
 use Rattle.std.proofs.lemmas.Bool.Decides.{nat_tests}
 use mathlib.Core.Logic.{dite}
 use native.Mathlib.Decide.{ℕ_discrete}
@@ -30,7 +30,7 @@ use Rattle.cyc_model.proofs.Local.{local_expire_all, local_serve, local_widen}
 use Rattle.cyc_cpu_model.specs.Tied.{HasOwn}
 use Rattle.cyc_cpu_model.proofs.Free.{IsNoAdmit, HasNoAdmit, expire_none, interrupt_none, widen_none}
 use Rattle.cyc_cpu_model.proofs.Levels.{where_own, own_cpu}
-use Rattle.cyc_cpu_model.proofs.Leaving.{marked_cpu, mark_as, cleared_cpu, clear_as, own_marked, without, take_as}
+use Rattle.cyc_cpu_model.proofs.Leaving.{marked_cpu, mark_as, cleared_cpu, clear_as, own_marked, without, take_as, level_in}
 
 -- ---- what is admitted at a level
 
@@ -87,9 +87,6 @@ acts_have (At m level e ∷ acts) n soft l q none is =
 acts_have (Call id ∷ acts) n soft l q none is = acts_have acts n soft l q none is
 
 -- ---- the levels of cyclics
-
-abbrev level_in : Option Cyclic → Level
-level_in o = option_map_or (λ y. y.timer.level) o High
 
 -- a change that keeps ids and levels
 abbrev KeepsLevels : (Cyclic → Cyclic) → Type 0

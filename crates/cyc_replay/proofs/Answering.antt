@@ -12,6 +12,7 @@ use Rattle.cyc_places.specs.Places.{IsRecord, HasRisingIds, ended_on}
 use Rattle.cyc_system.specs.Cpus.{numbers_from as online_from}
 use Rattle.cyc_system.specs.System.{SystemView, ids_of, is_leaving_here}
 use Rattle.cyc_system.proofs.Spots.{same_some, none_some}
+use Rattle.cyc_system.proofs.Recording.{tail_rises}
 use Rattle.cyc_system.specs.Removing.{cpus_with as cpus_with_in, Answers}
 use Rattle.cyc_system.specs.Polling.{leaving_cpus}
 use Rattle.cyc_model.specs.Cpu.{Cpu, is_of, has_cyclic, cyclic_of}
@@ -71,9 +72,6 @@ other_yes : (id : ℕ) (p : Placed) (ps : List Placed) → p.id ≢ id
 other_yes id p ps ne = ap (λ b. cond (not b) (p ∷ filter (λ (q : Placed). not (q.id == id)) ps)
     (filter (λ (q : Placed). not (q.id == id)) ps)) (ne_eqb p.id id ne)
 
-later_rise : (x : Record) (rs : List Record) → HasRisingIds (x ∷ rs) → HasRisingIds rs
-later_rise x rs rising i j r q less a b = rising (suc i) (suc j) r q (omega (arith, less)) a b
-
 none_goes : (id : ℕ) (rs : List Record) → ((j : ℕ) (q : Record) → IsRecord rs j q → q.id ≢ id)
     → filter (λ (p : Placed). not (p.id == id)) (map shown_record rs) ≡ map shown_record rs
 none_goes id [] none = refl
@@ -91,7 +89,7 @@ one_goes id zero r (x ∷ rs) rising is named =
 one_goes id (suc k) r (x ∷ rs) rising is named =
     let less = rising 0 (suc k) x r (omega arith) refl is in
     other_yes id (shown_record x) (map shown_record rs) (λ e. omega (arith, less, e, named))
-    ∙ ap (λ ps. shown_record x ∷ ps) (one_goes id k r rs (later_rise x rs rising) is named)
+    ∙ ap (λ ps. shown_record x ∷ ps) (one_goes id k r rs (tail_rises x rs rising) is named)
 
 -- ---- what its record has of ended stays
 

@@ -32,7 +32,7 @@ use Rattle.cyc_replay.specs.Shown.{shown_list, shown_cpus, AreTied}
 
 -- ---- the shown CPUs by number
 
-get_shown : (os : List Bool) (vs : List (CpuView Tables)) (n : ℕ) (o : Bool) (x : CpuView Tables) → length os ≡ length vs
+pub get_shown : (os : List Bool) (vs : List (CpuView Tables)) (n : ℕ) (o : Bool) (x : CpuView Tables) → length os ≡ length vs
     → n < length vs
     → get_or (shown_list os vs) n absent ≡ shown_cpu (get_or os n o) (get_or vs n x)
 get_shown [] [] n o x long low = absurd (omega (arith, low))

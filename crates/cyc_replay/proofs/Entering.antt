@@ -1,14 +1,11 @@
 -- How a cyclic comes to a CPU of a system.
-use Rattle.std.proofs.Common.{◌≡◌, ℕ, ◌<◌, List, [], ◌∷◌, ◌++◌, length, map, get_or, ap, sym, ◌∙◌, subst, arith}
+use Rattle.std.proofs.Common.{◌≡◌, ℕ, ◌<◌, List, length, map, get_or, ap, sym, ◌∙◌, subst, arith}
 use Rattle.std.specs.Prelude.{slice_set}
 use mathlib.Core.Logic.{dite}
 use native.Mathlib.Decide.{ℕ_discrete}
 use Rattle.cyc_types.specs.declared.firing.Sent.{Sent}
 use Rattle.cyc_types.specs.declared.level.Level.{Level}
 use Rattle.cyc_types.specs.declared.level.Soft.{Soft}
-use Rattle.cyc_level.specs.declared.Event.{Event}
-use Rattle.cyc_level.specs.Level.{SoftLevel}
-use Rattle.cyc_level.specs.Events.{after}
 use Rattle.cyc_core.specs.Tables.{Tables}
 use Rattle.cyc_cpu.specs.Calls.{Widen, Place}
 use Rattle.cyc_system.specs.Cpus.{CpusView}
@@ -16,22 +13,17 @@ use Rattle.cyc_system.specs.System.{SystemView}
 use Rattle.cyc_places.specs.Places.{IsRecord}
 use Rattle.cyc_model.specs.Acts.{Act, calls_of, events_at}
 use Rattle.cyc_model.specs.Cpu.{Cyclic, Cpu}
-use Rattle.cyc_model.specs.Serving.{level_at, level_after}
+use Rattle.cyc_model.specs.Serving.{level_at}
 use Rattle.cyc_model.specs.Moving.{widen_here, place_here, enter_here}
 use Rattle.cyc_model.specs.State.{State, absent, cpu_of}
 use Rattle.cyc_model.specs.Add.{cyclic_with}
 use Rattle.cyc_model.specs.Free.{AllCanBeAdmitted}
 use Rattle.cyc_model.proofs.Events.{calls_append, events_append}
 use Rattle.cyc_model.proofs.Local.{AllOn, local_widen, other_events}
-use Rattle.cyc_cpu_model.proofs.Free.{none_admitted, widen_none}
+use Rattle.cyc_cpu_model.proofs.Free.{none_admitted, widen_none, can_append}
 use Rattle.cyc_replay.specs.Shown.{shown_cpus, shown_record, ShowsSystem}
 use Rattle.cyc_replay.proofs.Lists.{set_twice, set_get, get_set}
 use Rattle.cyc_replay.proofs.Cpus.{cpu_at, DoneAt}
-
-pub can_append : (xs ys : List Event) (l : SoftLevel) → AllCanBeAdmitted xs l → AllCanBeAdmitted ys (level_after xs l)
-    → AllCanBeAdmitted (xs ++ ys) l
-can_append [] ys l first rest = rest
-can_append (x ∷ xs) ys l first rest = (first.0, can_append xs ys (after x l) first.1 rest)
 
 -- after a growth and an admission
 pub record Entered (n index : ℕ) (x : Cyclic) (v w : CpusView Tables) : Type 0 where

@@ -21,6 +21,7 @@ use Rattle.cyc_system.specs.Refusals as why
 use Rattle.cyc_system.specs.Binding.{Records}
 use Rattle.cyc_system.specs.Calls.{Changes, Bind}
 use Rattle.cyc_system.proofs.Spots.{same_some, none_some}
+use Rattle.cyc_system.proofs.Recording.{tail_rises}
 use Rattle.cyc_model.specs.State.{State, On, Placed, Placement}
 use Rattle.cyc_model.specs.Places.{id_of, replaced}
 use Rattle.cyc_types.specs.Reasons.{or_else}
@@ -31,9 +32,6 @@ use Rattle.cyc_replay.proofs.Asking.{home_shown, same_no_cyclic, same_omnipresen
 use Rattle.cyc_replay.proofs.Asking.{is_refused, same_error}
 
 -- ---- the records
-
-later_rise : (x : Record) (rs : List Record) → HasRisingIds (x ∷ rs) → HasRisingIds rs
-later_rise x rs rising i j r q less a b = rising (suc i) (suc j) r q (omega (arith, less)) a b
 
 named_so : (id : ℕ) (p : Placement) (q : Placed) → q.id ≡ id → replaced id p q ≡ record { id = q.id; place = p }
 named_so id p q is = ap (λ b. cond b (record { id = q.id; place = p }) q) (eq q.id id is)
@@ -70,7 +68,7 @@ replaced_shown id zero n b r (x ∷ rs) rising is named =
 replaced_shown id (suc k) n b r (x ∷ rs) rising is named =
     let less = rising 0 (suc k) x r (omega arith) refl is in
     (λ z. named_other id (On n b) (shown_record x) (λ e. absurd (omega (arith, less, e, named))) z
-    ∷ replaced_shown id k n b r rs (later_rise x rs rising) is named z)
+    ∷ replaced_shown id k n b r rs (tail_rises x rs rising) is named z)
 
 -- the ended stays are as they were
 ended_same : (s : State) (v : SystemView Tables) (k n : ℕ) (b : Bool) (r : Record) → ShowsSystem s v → IsRecord v.records k r

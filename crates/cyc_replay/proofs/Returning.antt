@@ -58,6 +58,7 @@ use Rattle.cyc_replay.proofs.Asking.{same_error}
 use Rattle.cyc_replay.proofs.Entering.{unchanged, same_shown}
 use Rattle.cyc_replay.proofs.Going.{Goes, goes_alike, goes_from, goes_to, goes_then, goes_on}
 use Rattle.cyc_system.proofs.Spots.{same_some, none_some}
+use Rattle.cyc_system.proofs.Recording.{tail_rises}
 
 -- ---- the cyclics that return
 
@@ -111,9 +112,6 @@ AllEverywhere rs = (j : ℕ) (r : Record) → IsRecord rs j r → everywhere_in 
 abbrev HaveEnded : ℕ → List Record → State → Type 0
 HaveEnded n rs s = (j : ℕ) (r : Record) → IsRecord rs j r → s.ended r.id n ≡ shown_counts (ended_on n r)
 
-later_rise : (x : Record) (rs : List Record) → HasRisingIds (x ∷ rs) → HasRisingIds rs
-later_rise x rs rising i j r q less a b = rising (suc i) (suc j) r q (omega (arith, less)) a b
-
 gone_here : (id n q m : ℕ) (e : Ended) → q ≡ id → m ≡ n → cond ((q == id) && (m == n)) zero_counts e ≡ zero_counts
 gone_here id n q m e same here = (λ z. cond (eq-eqb q id same z && (m == n)) zero_counts e)
     ∙ ap (λ b. cond b zero_counts e) (eq-eqb m n here)
@@ -145,7 +143,7 @@ all_return n now [] x y long tied rising every same = (
   },
 )
 all_return n now (r ∷ rs) x y long tied rising every works =
-    by (λ u long_u tied_u rest. all_return n now rs u y long_u tied_u (later_rise r rs rising)
+    by (λ u long_u tied_u rest. all_return n now rs u y long_u tied_u (tail_rises r rs rising)
     (λ j q at. every (suc j) q at) rest) r.place refl works
   where
     by : ((u : CpusView Tables) → length u.online ≡ length u.cpus → AreTied u → Works raise_tables (returns n now rs) u y
@@ -228,7 +226,7 @@ filter_there test (x ∷ rs) (suc k) r at passes = let (j, there) = filter_there
 
 filter_rises : (test : Record → Bool) (rs : List Record) → HasRisingIds rs → HasRisingIds (filter test rs)
 filter_rises test [] rising = rising
-filter_rises test (x ∷ rs) rising = by (test x) (filter_rises test rs (later_rise x rs rising))
+filter_rises test (x ∷ rs) rising = by (test x) (filter_rises test rs (tail_rises x rs rising))
   where
     by : (b : Bool) → HasRisingIds (filter test rs) → HasRisingIds (cond b (x ∷ filter test rs) (filter test rs))
     by false rest i j a c less at_a at_c = rest i j a c less at_a at_c

@@ -1,5 +1,5 @@
 -- What the steps of a whole script did to the machine.
-use Rattle.std.proofs.Common.{◌≡◌, ℕ, zero, suc, ◌<◌, ◌≤◌, Bool, true, false, List, [], ◌∷◌, ◌++◌, length, get_or, refl, ap, sym}
+use Rattle.std.proofs.Common.{◌≡◌, ℕ, ◌<◌, ◌≤◌, Bool, true, false, List, [], ◌++◌, length, get_or, refl, ap, sym}
 use Rattle.std.proofs.Common.{◌∙◌, subst, arith}
 use Rattle.std.proofs.lemmas.Bool.{ltb-true, ltb-false}
 use Rattle.std.proofs.lemmas.Option.{slice_get_within, get_or_from_slice_get}
@@ -7,8 +7,7 @@ use Rattle.std.specs.Prelude.{nat_lt, slice_index_or}
 use Rattle.cyc_types.specs.declared.level.Soft.{Soft}
 use Rattle.cyc_types.specs.declared.level.Soft.TheVariants.{Low, Lock}
 use Rattle.cyc_level.specs.Level.{empty_level}
-use Rattle.cyc_core.specs.Tables.{Tables, level_of}
-use Rattle.cyc_cpu.specs.Cpu.{CpuView}
+use Rattle.cyc_core.specs.Tables.{level_of}
 use Rattle.cyc_system.specs.Cpus.{IsCpu}
 use Rattle.cyc_script.specs.declared.script.Script.{Script}
 use Rattle.cyc_script.specs.declared.step.Step.{Step}
@@ -28,28 +27,15 @@ use Rattle.cyc_model.proofs.Reaching.{well_steps, start_good, length_new}
 use Rattle.cyc_model.proofs.Telling.{tells_steps}
 use Rattle.cyc_model.proofs.Unindexed.{text_bare}
 use Rattle.cyc_cpu_model.specs.Shown.{shown_cpu}
-use Rattle.cyc_replay.specs.Shown.{shown_list, shown_cpus}
+use Rattle.cyc_replay.specs.Shown.{shown_cpus}
 use Rattle.cyc_replay.specs.declared.machine.Machine.{Machine}
 use Rattle.cyc_replay.specs.Machine.{Holds}
 use Rattle.cyc_replay.specs.Runs.{Runs, listed}
 use Rattle.cyc_replay.proofs.Indexes.{same_line}
+use Rattle.cyc_replay.proofs.Cpus.{get_shown, long_shown}
 use Rattle.cyc_replay.specs.Replay.{HasRun, LevelsAreSound}
 
 -- ---- the CPUs of a machine
-
-get_shown : (os : List Bool) (vs : List (CpuView Tables)) (n : ℕ) (o : Bool) (x : CpuView Tables) → length os ≡ length vs
-    → n < length vs → get_or (shown_list os vs) n absent ≡ shown_cpu (get_or os n o) (get_or vs n x)
-get_shown [] [] n o x long low = absurd (omega (arith, low))
-get_shown [] (v ∷ vs) n o x long low = absurd (omega (arith, long))
-get_shown (b ∷ os) [] n o x long low = absurd (omega (arith, long))
-get_shown (b ∷ os) (v ∷ vs) zero o x long low = refl
-get_shown (b ∷ os) (v ∷ vs) (suc n) o x long low = get_shown os vs n o x (omega (arith, long)) (omega (arith, low))
-
-long_shown : (os : List Bool) (vs : List (CpuView Tables)) → length os ≡ length vs → length (shown_list os vs) ≡ length vs
-long_shown [] [] long = refl
-long_shown [] (v ∷ vs) long = absurd (omega (arith, long))
-long_shown (b ∷ os) [] long = absurd (omega (arith, long))
-long_shown (b ∷ os) (v ∷ vs) long = let r = long_shown os vs (omega (arith, long)) in omega (arith, r)
 
 -- ---- a run of a whole script
 

@@ -2,13 +2,9 @@
 use Rattle.std.proofs.Common.{◌≡◌, ℕ, zero, suc, ◌+◌, ◌<◌, ◌≤◌, List, [], ◌∷◌, ◌++◌, append_assoc, append-nil, length, get_or}
 use Rattle.std.proofs.Common.{take, drop, refl, ap, sym, ◌∙◌, subst, arith}
 use Rattle.std.proofs.lemmas.List.{length-append, length-take-le, take_more, take-append-drop}
-use Rattle.cyc_level.specs.declared.Event.{Event}
-use Rattle.cyc_level.specs.Level.{SoftLevel}
-use Rattle.cyc_level.specs.Events.{after}
 use Rattle.cyc_script.specs.declared.step.Step.{Step}
 use Rattle.cyc_model.specs.Acts.{events_at}
 use Rattle.cyc_model.specs.Questions.{Questions, plain}
-use Rattle.cyc_model.specs.Serving.{level_after}
 use Rattle.cyc_model.specs.State.{State, Outcome, before, followed_by}
 use Rattle.cyc_model.specs.Laws.{level_on}
 use Rattle.cyc_model.specs.Free.{AllCanBeAdmitted}
@@ -22,6 +18,7 @@ use Rattle.cyc_replay.specs.Machine.{Holds, IsReached}
 use Rattle.cyc_replay.specs.Words.{TakesWord}
 use Rattle.cyc_replay.specs.Runs.{Runs, listed}
 use Rattle.cyc_replay.proofs.Indexes.{same_run, same_line}
+use Rattle.cyc_cpu_model.proofs.Free.{can_append}
 
 -- ---- lists of indexes
 
@@ -89,11 +86,6 @@ module _ (cpus ceiling : ℕ) (texts : List (List ℕ)) (done : List Step) where
   run_rest f rest = steps_append plain texts f 1 done rest (start cpus ceiling (length texts))
 
 -- ---- free indexes
-
-can_append : (xs ys : List Event) (l : SoftLevel) → AllCanBeAdmitted xs l → AllCanBeAdmitted ys (level_after xs l)
-    → AllCanBeAdmitted (xs ++ ys) l
-can_append [] ys l first rest = rest
-can_append (x ∷ xs) ys l first rest = (first.0, can_append xs ys (after x l) first.1 rest)
 
 -- ---- the machine that steps so far led to
 

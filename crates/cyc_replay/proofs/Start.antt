@@ -33,9 +33,7 @@ use Rattle.cyc_system.specs.Cpus.{new_cpus}
 use Rattle.cyc_system.proofs.Rooms.{only_memory}
 use Rattle.cyc_cpu_model.specs.Shown.{shown, shown_cpu}
 use Rattle.cyc_cpu_model.specs.Tied.{IsTied, HasOwn}
-use Rattle.cyc_types.specs.Firing.{Looks}
-use Rattle.cyc_types.specs.Runs.{Goes}
-use Rattle.cyc_cpu.specs.Quiet.{OnlyLooks}
+use Rattle.cyc_cpu_model.proofs.Levels.{only_looked}
 use Rattle.std.specs.Prelude.{Result, OnOk, IfErr}
 use Rattle.cyc_places.specs.Places.{IsRecord, HasRisingIds as RecordsRise}
 use Rattle.cyc_system.specs.System.{SystemView}
@@ -145,14 +143,6 @@ new_empty most ceiling (e ∷ ends) new zero d low =
     }
 new_empty most ceiling (e ∷ ends) new (suc k) d low =
     new_empty most ceiling ends (λ i x less. new (suc i) x (omega (arith, less))) k d (omega (arith, low))
-
--- looks change nothing
-looked : (answers : List Bool) (d e : Tables) → Goes raise_tables d (map Looks answers) e → level_of e ≡ level_of d
-looked [] d e goes = ap level_of (sym goes)
-looked (answer ∷ answers) d e (x, (step, learns), rest) = looked answers x e rest ∙ step.1
-
-only_looked : (d e : Tables) → OnlyLooks raise_tables d e → level_of e ≡ level_of d
-only_looked d e (answers, goes) = looked answers d e goes
 
 reserved_so : (v w : CpuView Tables) → IsEmpty v → Changes raise_tables v (Reserve 256 (Ok tt)) w → HasReserved v w
 reserved_so v w e d = record {
