@@ -10,9 +10,7 @@ use Rattle.cyc_agreement.specs.Cpus.{new_cpus, new_cpu}
 use Rattle.cyc_agreement.specs.System.{ids_of, has}
 use Rattle.cyc_agreement.specs.Agreement.{Agrees, most_on}
 use Rattle.cyc_agreement.proofs.Spots.{none_some, same_some}
-
-false_true : false ≡ true → ⊥
-false_true e = cc
+use Rattle.cyc_agreement.proofs.Lists.{false_true}
 
 no_ids : {R : Type 0} (most : ℕ) (o : Option (R × R))
     → option_map_or ids_of (option_map (λ (e : R × R). new_cpu most e.0 e.1) o) [] ≡ []

@@ -31,12 +31,12 @@ use Rattle.cyc_agreement.specs.Agreement.{Agrees, most_on}
 use Rattle.cyc_agreement.proofs.Lists.{false_true}
 use Rattle.cyc_agreement.proofs.Spots.{same_some, none_some}
 use Rattle.cyc_agreement.proofs.Who
-use Rattle.cyc_agreement.proofs.Shifted.{Rise}
+use Rattle.cyc_agreement.proofs.Shifted.{Rise, map_remove}
 use Rattle.cyc_agreement.specs.Juggling.{system_of, single_ids}
 use Rattle.cyc_agreement.specs.GoingOffline.{Retires}
 use Rattle.cyc_agreement.specs.Walking.{AreQuiet}
 use Rattle.cyc_agreement.proofs.Here.{omni_is}
-use Rattle.cyc_agreement.proofs.ListsUpTo.{map_remove, one_place, take_more, first_at, rest_after}
+use Rattle.cyc_agreement.proofs.ListsUpTo.{one_place, take_more, first_at, rest_after}
 use Rattle.cyc_agreement.proofs.Places.{has_at, cyclic_of}
 use Rattle.cyc_agreement.proofs.Stepped.{Left, beside, sized}
 

@@ -39,7 +39,7 @@ ids_rise cs h i j less low = by cs h low
         let b = get_or-map Who.id_in (c ∷ cs) j c 0 (omega (arith, low, l)) in
         let r = h i j c less (omega (arith, low, l)) in omega (arith, a, b, r)
 
-map_remove : {A B : Type 0} (f : A → B) (xs : List A) (k : ℕ) → map f (remove xs k) ≡ remove (map f xs) k
+pub map_remove : {A B : Type 0} (f : A → B) (xs : List A) (k : ℕ) → map f (remove xs k) ≡ remove (map f xs) k
 map_remove f [] zero = refl
 map_remove f [] (suc k) = refl
 map_remove f (x ∷ xs) zero = refl

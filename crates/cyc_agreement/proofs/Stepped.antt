@@ -24,11 +24,11 @@ use Rattle.cyc_agreement.proofs.Spots.{same_some, none_some, get_some}
 use Rattle.cyc_agreement.proofs.Recording.{one_record}
 use Rattle.cyc_agreement.proofs.Destinations.{destination_fits}
 use Rattle.cyc_agreement.proofs.Who
-use Rattle.cyc_agreement.proofs.Shifted.{Rise, moved, unmoved}
+use Rattle.cyc_agreement.proofs.Shifted.{Rise, moved, unmoved, map_remove}
 use Rattle.cyc_agreement.specs.declared.turning.Turn.{Turn}
 use Rattle.cyc_agreement.specs.declared.turning.Turn.TheVariants.{StaysBound, StaysPending, StaysRefused, Moves}
 use Rattle.cyc_agreement.specs.Walking.{Visits}
-use Rattle.cyc_agreement.proofs.ListsUpTo.{map_remove, one_place}
+use Rattle.cyc_agreement.proofs.ListsUpTo.{one_place}
 
 -- the ids of the source afterwards
 abbrev pub ids_after : Option Turn → ℕ → List ℕ → List ℕ

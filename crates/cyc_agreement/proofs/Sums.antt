@@ -1,6 +1,6 @@
 -- What a removal keeps: the counts of its cyclic over all CPUs and all of its stays.
 use Rattle.std.proofs.Common.{◌≡◌, ◌==◌, ℕ, zero, suc, ◌+◌, inl, inr, Bool, true, false, cond, find, Option, Some, None, List, []}
-use Rattle.std.proofs.Common.{◌∷◌, length, map, slice_set, refl, sym, ap, ◌∙◌, subst, arith}
+use Rattle.std.proofs.Common.{◌∷◌, ◌≤◌, length, map, slice_set, refl, sym, ap, ◌∙◌, subst, arith}
 use Rattle.std.specs.Prelude.{sum_by, ◌||◌}
 use Rattle.std.specs.List.{slice_get}
 use Rattle.std.specs.Option.{option_map_or}
@@ -51,6 +51,12 @@ pub sum_none : {A : Type 0} (f : A → ℕ) (xs : List A) → ((n : ℕ) (x : A)
 sum_none f [] h = refl
 sum_none f (x ∷ xs) h = let a = sum_by-cons f x xs in let b = h 0 x refl in let c = sum_none f xs (λ n y is. h (suc n) y is) in
     omega (arith, a, b, c)
+
+-- one of those that are summed is at most the sum
+pub one_of_sum : {A : Type 0} (h : A → ℕ) (xs : List A) (n : ℕ) (x : A) → slice_get xs n ≡ Some x → h x ≤ sum_by h xs
+one_of_sum h [] n x is = absurd (none_some is)
+one_of_sum h (z ∷ xs) zero x is = let a = sum_by-cons h z xs in let b = ap h (same_some is) in omega (arith, a, b)
+one_of_sum h (z ∷ xs) (suc n) x is = let a = sum_by-cons h z xs in let b = one_of_sum h xs n x is in omega (arith, a, b)
 
 -- a change that the test and the count don't see
 found_set : {A : Type 0} (p : A → Bool) (h : A → ℕ) (xs : List A) (k : ℕ) (x y : A) → slice_get xs k ≡ Some x → p y ≡ p x

@@ -1,5 +1,5 @@
 -- What calls on a CPU add up to where no other thread uses its levels, and soft interrupts are among the calls.
-use Rattle.std.proofs.Common.{◌≡◌, ℕ, ◌+◌, List, [], ◌∷◌, ◌++◌, map, length, length-append, Option, Some, None, refl, sym, ap}
+use Rattle.std.proofs.Common.{◌≡◌, ℕ, ◌+◌, List, [], ◌∷◌, ◌++◌, map, length, length-append, refl, sym, ap}
 use Rattle.std.proofs.Common.{subst, ◌∙◌, arith}
 use Rattle.std.specs.Prelude.{Bool, true, false, Result, Ok, Err}
 use Rattle.std.specs.List.{FoldsTo}
@@ -18,8 +18,8 @@ use Rattle.cyc_types.proofs.Runs.{folds_on, raised_on, lost_on, finishes_on, fin
 use Rattle.cyc_cpu.specs.Tables.{Tables}
 use Rattle.cyc_soft.specs.declared.Ran.{Ran}
 use Rattle.cyc_soft.specs.declared.SoftRefused.{SoftRefused}
-use Rattle.cyc_soft.specs.Serving.{Served, Serves, soft_side, ids, look_of, last_look, way_of}
-use Rattle.cyc_soft.proofs.Rounds.{way_finishes}
+use Rattle.cyc_soft.specs.Serving.{Served, Serves, soft_side, ids, last_look, way_of}
+use Rattle.cyc_soft.proofs.Rounds.{way_finishes, look_finishes}
 use Rattle.cyc_cpu.specs.Shares.{share}
 use Rattle.cyc_cpu.specs.Rows.{timers}
 use Rattle.cyc_cpu.specs.Cpu.{Running}
@@ -145,12 +145,7 @@ calls_ceiling a b (OfFiring call ∷ way) (m, first, rest) =
 calls_ceiling a b (OfSoft call ∷ way) (m, first, rest) =
     calls_ceiling m b way rest ∙ (serving_keeps a m (call ∷ []) (m, first, refl)).ceiling
 
--- a look finishes nothing
-look_finishes : (hand found : Option ℕ) → finishes_of (look_of hand found) ≡ []
-look_finishes None found = refl
-look_finishes (Some id) found = refl
-
-last_finishes : (idle : Bool) → finishes_of (last_look idle) ≡ []
+pub last_finishes : (idle : Bool) → finishes_of (last_look idle) ≡ []
 last_finishes true = refl
 last_finishes false = refl
 

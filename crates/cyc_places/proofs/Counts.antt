@@ -1,20 +1,14 @@
 -- Records that grew by one, and what their counts add up to.
-use Rattle.std.proofs.Common.{◌≡◌, ℕ, zero, suc, ◌<◌, ◌≤◌, ◌⊎◌, inl, inr, Bool, true, false, cond, Option, Some, None, List, []}
+use Rattle.std.proofs.Common.{◌≡◌, ℕ, zero, suc, ◌<◌, ◌≤◌, ◌⊎◌, inl, inr, Bool, true, false, cond, Some, List, []}
 use Rattle.std.proofs.Common.{◌∷◌, ◌++◌, length, get_or, replicate, sum_by, refl, sym, ap, subst, arith}
 use Rattle.std.specs.List.{slice_get}
-use Rattle.std.proofs.lemmas.Option.{slice_get_within, get_or_from_slice_get}
+use Rattle.std.proofs.lemmas.Option.{slice_get_within, get_or_from_slice_get, same_Some, none-some}
 use Rattle.std.proofs.lemmas.List.Sums.{sum_by-cons}
 use Rattle.cyc_types.specs.declared.firing.Sent.{Sent}
 use Rattle.cyc_types.specs.declared.level.Level.{Level}
 use Rattle.cyc_places.specs.declared.record.Placement.{Placement}
 use Rattle.cyc_places.specs.declared.record.Record.{Record}
 use Rattle.cyc_places.specs.Places.{HasRisingIds, HaveCounts, HaveAllCounts, AreCounts, new_record, no_counts}
-
-same_some : {A : Type 0} {x y : A} → Some x ≡ Some y → x ≡ y
-same_some {A = A} {x = x} {y = y} e = ap (λ (o : Option A). elim o [ None ↦ x | Some z ↦ z ]) e
-
-none_some : {A : Type 0} {x : A} → None ≡ Some x → ⊥
-none_some {A = A} {x = x} e = cc
 
 pub chosen : {A : Type 0} (b : Bool) (x y z : A) → b ≡ true → z ≡ cond b x y → z ≡ x
 chosen true x y z e h = h
@@ -24,8 +18,8 @@ chosen false x y z e h = absurd (let odd : false ≡ true = e in cc)
 pub get_either : {A : Type 0} (xs : List A) (x : A) (i : ℕ) (r : A) → slice_get (xs ++ x ∷ []) i ≡ Some r
     → (slice_get xs i ≡ Some r)
     ⊎ ((i ≡ length xs) × (r ≡ x))
-get_either [] x zero r e = inr (refl, sym (same_some e))
-get_either [] x (suc i) r e = absurd (none_some e)
+get_either [] x zero r e = inr (refl, sym (same_Some x r e))
+get_either [] x (suc i) r e = absurd (none-some r e)
 get_either (y ∷ ys) x zero r e = inl e
 get_either (y ∷ ys) x (suc i) r e = by (get_either ys x i r e)
   where

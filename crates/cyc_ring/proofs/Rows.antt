@@ -1,5 +1,5 @@
 -- The arrays of a raise seat after a step.
-use Rattle.std.proofs.Common.{◌≡◌, ℕ, zero, suc, ◌+◌, ◌<◌, ◌≤◌, ◌≢◌, eqb, Bool, true, false, cond, List, ◌∷◌, length, get_or, set}
+use Rattle.std.proofs.Common.{◌≡◌, ℕ, ◌+◌, ◌<◌, ◌≤◌, ◌≢◌, eqb, Bool, true, false, cond, List, ◌∷◌, length, get_or, set}
 use Rattle.std.proofs.Common.{sym, refl, ap, ◌∙◌, subst, inl, inr, ⊎_elim, ◌⊎◌, arith, eq-eqb, ne_eqb, get_or-set_other}
 use Rattle.std.proofs.Common.{get_or-set_same}
 use Rattle.std.specs.Prelude.{Option, Some, None}
@@ -14,8 +14,6 @@ use Rattle.ring_rule.specs.Trail.{open_stay}
 use Rattle.cyc_ring.specs.Rows.{HoldsStays}
 use Rattle.std.proofs.Common.{[], replicate}
 use Rattle.std.proofs.lemmas.List.{get_or-replicate}
-use mathlib.Core.Option.{some, some-injective, some-ne-none}
-use lib.ListN.{get_elem?}
 
 module _ (ids sent lost : List ℕ) (t : List RaiseStep) (F : HoldsStays ids sent lost t) where
   pub same_place : (i j : ℕ) → i < cyclics → j < cyclics → ¬ (get_or ids i 0 ≡ 0) → get_or ids j 0 ≡ get_or ids i 0 → j ≡ i
@@ -183,8 +181,3 @@ fits_none = record {
   only =
       λ id st e. absurd (cc);
 }
-
-pub or_elem : (l : List ℕ) (i a : ℕ) → get_elem? l i ≡ some a → get_or l i 0 ≡ a
-or_elem [] i a e = absurd (some-ne-none a (sym e))
-or_elem (x ∷ xs) zero a e = some-injective x a e
-or_elem (x ∷ xs) (suc i) a e = or_elem xs i a e

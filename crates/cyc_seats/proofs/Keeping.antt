@@ -21,13 +21,11 @@ use Rattle.cyc_system_workers.specs.Splitting.{EachTwo}
 use Rattle.cyc_system_workers.specs.Calls.{SystemCall, Changes as SystemChanges}
 use Rattle.cyc_system_laws.specs.Parts.{CpusCall, OnCpu, SetOnline, DoesPart}
 use Rattle.cyc_system_laws.proofs.Pieces.{made_of}
+use Rattle.cyc_system_laws.proofs.Spots.{same_some}
 use Rattle.cyc_system_workers.specs.declared.side.SystemSide.{SystemSide}
 use Rattle.cyc_system_workers.specs.declared.advancing.Advanced.{Advanced}
 use Rattle.cyc_system_workers.specs.Advancing.{AllFire, moment_asked, FiresIf}
 use Rattle.cyc_seats.specs.Seats.{HasSameSeats, HaveSameSeats}
-
-same_some : {A : Type 0} {x y : A} → Some x ≡ Some y → x ≡ y
-same_some {A = A} {x = x} {y = y} e = ap (λ (o : Option A). elim o [ None ↦ x | Some z ↦ z ]) e
 
 same_one : (x : CpuView RaiseEnd) → HasSameSeats x x
 same_one x = ((refl, refl), (refl, refl))

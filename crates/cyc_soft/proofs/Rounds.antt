@@ -48,7 +48,7 @@ ids_more : (ran : List Served) (s : Served) → ids (ran ++ s ∷ []) ≡ ids ra
 ids_more [] s = refl
 ids_more (x ∷ ran) s = ap (λ ys. x.id ∷ ys) (ids_more ran s)
 
-look_finishes : (hand found : Option ℕ) → finishes_of (look_of hand found) ≡ []
+pub look_finishes : (hand found : Option ℕ) → finishes_of (look_of hand found) ≡ []
 look_finishes None found = refl
 look_finishes (Some id) found = refl
 

@@ -1,5 +1,5 @@
 -- A run that leads a system, from the call that gives an id.
-use Rattle.std.proofs.Common.{◌≡◌, ◌≢◌, ◌∙◌, ◌==◌, ℕ, zero, suc, ◌+◌, ◌<◌, inl, inr, All, Bool, true, false, cond, Option}
+use Rattle.std.proofs.Common.{◌≡◌, ◌≢◌, ◌∙◌, ◌==◌, ℕ, suc, ◌+◌, inl, inr, All, Bool, true, false, cond, Option}
 use Rattle.std.proofs.Common.{Some, None, Result, Ok, Err, List, [], ◌∷◌, length, refl, sym, ap, subst, arith}
 use Rattle.std.specs.Prelude.{sum_by, not, ◌&&◌}
 use Rattle.std.specs.List.{slice_get, FoldsTo}
@@ -47,7 +47,7 @@ use Rattle.cyc_system_rings.proofs.Found.{stays_found}
 use Rattle.cyc_system_sums.proofs.Given.{receipt_all}
 use Rattle.cyc_types.specs.declared.receipt.Receipt.{Receipt}
 use Rattle.cyc_system_rings.specs.Leading.{LeadCall, Make, FireAll, AskAll}
-use Rattle.cyc_system_rings.proofs.Raising.{sums_same, changes_long}
+use Rattle.cyc_system_rings.proofs.Raising.{sums_same, changes_long, stands}
 use Rattle.cyc_system_expected.specs.Events.{given_everywhere, if_own, event_in, events_in, AllAccepted, AcceptedSteps, KeepsIt}
 use Rattle.cyc_system_expected.proofs.Fires.{sums_into, later, fired_later, none_weigh}
 use Rattle.cyc_system_expected.proofs.Singles.{ok_err, of_stay, IsSingle, single_kept, single_added, single_set}
@@ -65,11 +65,6 @@ not_so false why e = absurd (none_some (sym e))
 left_true : (a b : Bool) → (a && b) ≡ true → a ≡ true
 left_true true b e = refl
 left_true false b e = absurd (let odd : false ≡ true = e in cc)
-
-stands : {A : Type 0} (xs : List A) (n : ℕ) → n < length xs → (x : A) × (slice_get xs n ≡ Some x)
-stands [] n low = absurd (omega (arith, low))
-stands (x ∷ xs) zero low = (x, refl)
-stands (x ∷ xs) (suc n) low = stands xs n (omega (arith, low))
 
 module _ {C R : Type 0} (handler : Calls C) (firing : Raise R) (id : ℕ) where
   -- what is told of it is so

@@ -1,12 +1,13 @@
 -- No call changes the counts of an id but a fire and the answer of its removal.
 use Rattle.std.proofs.Common.{◌≡◌, ◌∙◌, ◌==◌, ℕ, suc, ◌+◌, ◌<◌, inl, inr, Bool, true, false, cond, Some, Result, Ok, Err, List}
 use Rattle.std.proofs.Common.{[], ◌∷◌, ◌++◌, length, map, filter, replicate, slice_set, refl, sym, ap, subst, arith}
-use Rattle.std.specs.Prelude.{sum_by, ◌&&◌}
+use Rattle.std.specs.Prelude.{sum_by}
 use Rattle.std.specs.List.{slice_get, FoldsTo}
 use Rattle.std.proofs.lemmas.List.{length-set}
 use Rattle.std.proofs.lemmas.List.Sums.{sum_by-cons, sum_by-append}
 use Rattle.std.proofs.lemmas.List.Folds.{sum_by-replicate}
 use Rattle.std.proofs.lemmas.Option.{slice_get-get_or, slice_get_within}
+use Rattle.std.proofs.lemmas.Bool.{and_parts}
 use mathlib.Core.Logic.{dite}
 use native.Mathlib.Decide.{ℕ_discrete}
 use Rattle.cyc_types.specs.declared.Raise.{Ghosts as Raise}
@@ -61,10 +62,6 @@ moved_even f id own source target taken =
 zero_if : (b : Bool) (n : ℕ) → n ≡ 0 → cond b n 0 ≡ 0
 zero_if true n e = e
 zero_if false n e = refl
-
-both_true : (a b : Bool) → (a && b) ≡ true → a ≡ true
-both_true true b e = refl
-both_true false b e = absurd (let odd : false ≡ true = e in cc)
 
 module _ {R : Type 0} (firing : Raise R) (g : Sent
     → ℕ) (nil : g no_counts ≡ 0) (adds : (a b : Sent) → g (summed a b) ≡ g a + g b) (id : ℕ) where
@@ -291,7 +288,7 @@ module _ {R : Type 0} (firing : Raise R) (g : Sent
           × (all_taken f id (returns n now (cond b (r ∷ filter (is_staying v) rs) (filter (is_staying v) rs))) ≡ 0)
       by true is rest none =
           (let (a, b) = return_brings n now r.id r.level (ended_on n r) r.place (returns n now (filter (is_staying v) rs))
-          (both_true (is_everywhere r.place) _ is) in
+          (and_parts (is_everywhere r.place) _ is).0 in
           let long = many 0 r refl in let c = ended_less n r (omega (arith, low, long)) in
           let d = sum_by-cons of_record (with_ended n no_counts r) (map (after_return n v) rs) in
           let e = sum_by-cons of_record r rs in

@@ -1,7 +1,8 @@
 -- The stays of an id are the same after any call that doesn't touch them.
 use Rattle.std.proofs.Common.{◌≡◌, ◌≢◌, ◌∙◌, ◌==◌, ℕ, suc, ◌+◌, ◌⊎◌, inl, inr, Bool, true, false, cond, Option, Some, None}
 use Rattle.std.proofs.Common.{Result, Ok, Err, List, [], ◌∷◌, ◌++◌, length, filter, refl, sym, ap, subst, arith}
-use Rattle.std.specs.Prelude.{not, ◌&&◌}
+use Rattle.std.proofs.lemmas.Bool.{and_parts}
+use Rattle.std.specs.Prelude.{not}
 use Rattle.std.specs.List.{slice_get, FoldsTo}
 use Rattle.std.specs.Option.{option_map_or}
 use Rattle.cyc_types.specs.declared.Raise.{Ghosts as Raise}
@@ -45,10 +46,6 @@ use Rattle.cyc_system_laws.proofs.Looked.{turns_look}
 not_true : (b : Bool) → not b ≡ false → b ≡ true
 not_true true e = refl
 not_true false e = absurd (let odd : true ≡ false = e in cc)
-
-both_true : (a b : Bool) → (a && b) ≡ true → a ≡ true
-both_true true b e = refl
-both_true false b e = absurd (let odd : false ≡ true = e in cc)
 
 module _ {R : Type 0} (firing : Raise R) (f : Taken → ℕ) (id : ℕ) where
   -- the measure over all CPUs
@@ -193,7 +190,7 @@ module _ {R : Type 0} (firing : Raise R) (f : Taken → ℕ) (id : ℕ) where
       → (is_omnipresent id s ≡ true → ⊥) → GoesOnline firing n now answer s t → all_on t ≡ all_on s
   online_stays n now (Ok done) s t rising single ((w, works, switched), records, last) =
       let (fixed, z, y) = returns_stay n now s.cpus s.records
-      (λ k r at is named. single (omni_read s k r rising at named ∙ both_true (is_everywhere r.place) _ is)) in
+      (λ k r at is named. single (omni_read s k r rising at named ∙ (and_parts (is_everywhere r.place) _ is).0)) in
       let a = flows f id firing (on n (Reserve (length (staying s)) (Ok tt)) ∷ on n
       (Widen (length (staying s))) ∷ returns n now (staying s)) s.cpus w (tt, (tt, fixed)) works in
       let d = ap (on_cpus f id) switched in omega (arith, a, z, y, d)

@@ -1,10 +1,9 @@
 -- Nothing is lost of an id whose expirations are at most every ceiling.
-use Rattle.std.proofs.Common.{◌≡◌, ◌∙◌, ◌==◌, ℕ, zero, suc, ◌≤◌, inl, inr, Bool, true, false, cond, All, Option, Some, None}
+use Rattle.std.proofs.Common.{◌≡◌, ◌∙◌, ◌==◌, ℕ, suc, ◌≤◌, inl, inr, Bool, true, false, cond, All, Option, Some, None}
 use Rattle.std.proofs.Common.{Result, Ok, Err, List, [], ◌∷◌, map, refl, sym, ap, subst, arith}
 use Rattle.std.specs.Prelude.{sum_by}
 use Rattle.std.specs.List.{slice_get, FoldsTo}
 use Rattle.std.specs.Option.{option_map, option_map_or}
-use Rattle.std.proofs.lemmas.List.Sums.{sum_by-cons}
 use Rattle.std.proofs.lemmas.Option.{slice_get-map, slice_get_within, get_or_from_slice_get}
 use mathlib.Core.Logic.{dite}
 use native.Mathlib.Decide.{ℕ_discrete}
@@ -36,7 +35,7 @@ use Rattle.cyc_system_laws.proofs.Spots.{same_some, none_some}
 use Rattle.cyc_system_laws.proofs.Who.{id_in, same_fired}
 use Rattle.cyc_system_laws.proofs.Recording.{found}
 use Rattle.cyc_system_laws.specs.Counts.{all_expired, all_lost}
-use Rattle.cyc_system_laws.proofs.Sums.{sum_none}
+use Rattle.cyc_system_laws.proofs.Sums.{sum_none, one_of_sum}
 use Rattle.cyc_system_laws.specs.SystemCalls.{SystemCall, Changes, Does, Add, AddOmni, Bind, BeginRemove, PollRemove, AskTotals}
 use Rattle.cyc_system_laws.specs.SystemCalls.{Reprogram}
 use Rattle.cyc_system_laws.specs.SystemCalls.{ReprogramOn, Juggle, Offline, Online, FireOne, SoftInterrupt}
@@ -49,12 +48,6 @@ use Rattle.cyc_system_laws.proofs.Pieces.{made_of}
 use Rattle.cyc_system_laws.proofs.Flow.{on_cpu, on_cpus, sum_set}
 use Rattle.cyc_system_laws.proofs.Found.{stays_found}
 use Rattle.cyc_system_sums.proofs.Totals.{one_grows, run_grows, Grows}
-
--- one of those that are summed is at most the sum
-one_of_sum : {A : Type 0} (h : A → ℕ) (xs : List A) (n : ℕ) (x : A) → slice_get xs n ≡ Some x → h x ≤ sum_by h xs
-one_of_sum h [] n x is = absurd (none_some is)
-one_of_sum h (z ∷ xs) zero x is = let a = sum_by-cons h z xs in let b = ap h (same_some is) in omega (arith, a, b)
-one_of_sum h (z ∷ xs) (suc n) x is = let a = sum_by-cons h z xs in let b = one_of_sum h xs n x is in omega (arith, a, b)
 
 some_before : {A B : Type 0} (f : A → B) (xs ys : List A) (n : ℕ) (y : A) → map f ys ≡ map f xs → slice_get ys n ≡ Some y
     → (x : A) × (slice_get xs n ≡ Some x) × (f x ≡ f y)

@@ -1,8 +1,7 @@
 -- What expired no more often than the ceiling lost nothing in a run.
-use Rattle.std.proofs.Common.{◌≡◌, ℕ, zero, suc, ◌<◌, ◌≤◌, List, [], ◌∷◌, Option, Some, None, refl, sym, ap, subst, arith}
+use Rattle.std.proofs.Common.{◌≡◌, ℕ, zero, suc, ◌<◌, ◌≤◌, List, [], Option, Some, None, refl, sym, ap, subst, arith}
 use Rattle.std.specs.Prelude.{sum_by}
 use Rattle.std.specs.List.{slice_get}
-use Rattle.std.proofs.lemmas.List.Sums.{sum_by-cons}
 use Rattle.cyc_types.specs.declared.Calls.{Ghosts as Calls}
 use Rattle.cyc_types.specs.declared.firing.Sent.{Sent}
 use Rattle.cyc_types.specs.declared.level.Level.{Level}
@@ -10,9 +9,8 @@ use Rattle.cyc_types.specs.declared.level.Level.TheVariants.{Low, Lock, High}
 use Rattle.ring_rule.specs.Trail.{raises_of, losses_of}
 use Rattle.cyc_ring.specs.declared.ends.RaiseEnd.{RaiseEnd}
 use Rattle.cyc_ring.specs.Ends.{raise_end, raise_trail}
-use Rattle.cyc_threads.proofs.Spots.{same_some, none_some}
 use Rattle.cyc_cpu.specs.Cpu.{CpuView}
-use Rattle.cyc_threads.proofs.Sums.{sum_none}
+use Rattle.cyc_threads.proofs.Sums.{sum_none, one_of_sum}
 use Rattle.cyc_script.specs.declared.script.Script.{Script}
 use Rattle.cyc_threads.specs.System.{SystemView}
 use Rattle.cyc_system_expected.specs.Leading.{LeadCall}
@@ -29,12 +27,6 @@ use Rattle.cyc_thread_calls.proofs.Counted.{own_counts, line_is}
 use Rattle.cyc_thread_calls.proofs.Ends.{OfAll, led_all}
 use Rattle.cyc_thread_calls.proofs.Sparing.{IsSpare, goes_spare}
 use Rattle.cyc_thread_calls.proofs.Starting.{is_new, new_trails, new_ceilings}
-
--- one of those that are summed is at most the sum
-one_of_sum : {A : Type 0} (h : A → ℕ) (xs : List A) (n : ℕ) (x : A) → slice_get xs n ≡ Some x → h x ≤ sum_by h xs
-one_of_sum h [] n x is = absurd (none_some is)
-one_of_sum h (z ∷ xs) zero x is = let a = sum_by-cons h z xs in let b = ap h (same_some is) in omega (arith, a, b)
-one_of_sum h (z ∷ xs) (suc n) x is = let a = sum_by-cons h z xs in let b = one_of_sum h xs n x is in omega (arith, a, b)
 
 -- nothing was lost at one end
 not_lost : (n : ℕ) → (0 < n → ⊥) → n ≡ 0

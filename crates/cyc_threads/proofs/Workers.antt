@@ -35,12 +35,10 @@ use Rattle.cyc_threads.specs.declared.progress.Progress.{Progress}
 use Rattle.cyc_threads.specs.Steps.{Runs, WhyHalted, IsHalted, StepHalts}
 use Rattle.cyc_threads.specs.declared.working.Worked.{Worked}
 use Rattle.cyc_threads.specs.Working.{refusal_of, HaveMade, WhyRefused, Works}
+use Rattle.cyc_system_laws.proofs.Spots.{same_some}
 
 some_none : {A : Type 0} {x : A} → Some x ≡ None → ⊥
 some_none e = true≢false (ap is_some e)
-
-same_some : {A : Type 0} {x y : A} → Some x ≡ Some y → x ≡ y
-same_some {A = A} {x = x} {y = y} e = ap (λ (o : Option A). elim o [ None ↦ x | Some z ↦ z ]) e
 
 -- ---- lists of refusals
 

@@ -1,6 +1,6 @@
 -- What soft interrupts make, one and then others.
-use Rattle.std.proofs.Common.{◌≡◌, ℕ, List, [], ◌++◌, Option, Some, None, refl, sym, ap, subst, ◌∙◌, arith}
-use Rattle.std.specs.Prelude.{Bool, true, false, Result, Ok, Err, IsTrue, IfOk, IfErr}
+use Rattle.std.proofs.Common.{◌≡◌, ℕ, List, [], ◌++◌, Some, None, refl, sym, ap, subst, ◌∙◌, arith}
+use Rattle.std.specs.Prelude.{Bool, true, Result, Ok, Err, IsTrue, IfOk, IfErr}
 use Rattle.std.specs.List.{FoldsTo}
 use Rattle.std.proofs.lemmas.List.{append-nil}
 use Rattle.cyc_types.specs.Counting.{times}
@@ -14,18 +14,11 @@ use Rattle.cyc_soft.specs.declared.SoftRefused.{SoftRefused}
 use Rattle.cyc_soft.specs.declared.SoftSide.{SoftSide}
 use Rattle.cyc_soft.specs.Serving.{Served, ids, look_of, last_look, hand_left, way_of, IsSoftint, EndsWithLook, soft_side}
 use Rattle.cyc_soft.specs.Serving as soft
-use Rattle.cyc_soft.proofs.Rounds.{way_finishes}
+use Rattle.cyc_soft.proofs.Rounds.{way_finishes, look_finishes}
 use Rattle.cyc_workers.specs.declared.draining.Drained.{Drained}
 use Rattle.cyc_workers.specs.declared.watch.Watch.{Watch}
 use Rattle.cyc_workers.specs.Draining.{Makes, Serves, IsRefused, HasLooked, HasDrained, side_of}
-
-look_finishes : (hand found : Option ℕ) → finishes_of (look_of hand found) ≡ []
-look_finishes None found = refl
-look_finishes (Some id) found = refl
-
-last_finishes : (idle : Bool) → finishes_of (last_look idle) ≡ []
-last_finishes true = refl
-last_finishes false = refl
+use Rattle.cyc_cpu_laws.proofs.Cores.{last_finishes}
 
 module _ {D C : Type 0} (draining : Drain D) (handler : Handler C) where
   pub makes_none : (a : SoftSide D C) → Makes draining handler a a
