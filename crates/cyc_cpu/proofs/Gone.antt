@@ -2,7 +2,6 @@
 use Rattle.std.proofs.Common.{◌≡◌, ◌≢◌, ℕ, zero, suc, ◌+◌, Bool, true, false, cond, eqb, Option, Some, None, List, [], ◌∷◌, refl}
 use Rattle.std.proofs.Common.{sym, ap, ◌∙◌, subst, arith}
 use Rattle.std.specs.Prelude.{IsSomeAnd}
-use Rattle.std.specs.Option.{option_map}
 use Rattle.std.specs.List.{FoldsTo}
 use Rattle.std.proofs.lemmas.Bool.Decides.{nat_tests}
 use Rattle.std.proofs.lemmas.List.Sums.{sum_by-cons}
@@ -15,7 +14,7 @@ use Rattle.cyc_core.specs.Event.TheVariants.{Admit, Expire, Lose, Publish, Take,
 use Rattle.cyc_core.specs.Level.{AdmittedCyclic, SoftLevel, count, soft_list, times_in, in_hand}
 use Rattle.cyc_core.specs.Events.{admitted_cyclic, cyclic_after_expire, cyclic_after_lose, cyclic_after_finish, hand_after_expire}
 use Rattle.cyc_core.specs.Events.{hand_after_finish, as_list, first_of, rest_of, after_finish}
-use Rattle.cyc_core.proofs.Maps.{hand_here, hand_else, times_append}
+use Rattle.cyc_core.proofs.Maps.{hand_here, hand_else, times_append, mapped_none, cleared_none}
 use Rattle.cyc_core.specs.Reached.{Happens}
 use Rattle.cyc_core.specs.Tables.{Tables, level_of}
 use Rattle.cyc_core.specs.FiringSide.{Fires}
@@ -50,15 +49,6 @@ absent_of id l h = let a = h.firer in let b = h.old in let c = h.new in let d = 
 
 other : (id a : ℕ) → id ≢ a → eqb id a ≡ false
 other id a ne = grind (arith, nat_tests)
-
-mapped_none : (f : AdmittedCyclic → AdmittedCyclic) (b : Bool) (o : Option AdmittedCyclic) → o ≡ None
-    → cond b (option_map f o) o ≡ None
-mapped_none f true o e = ap (option_map f) e
-mapped_none f false o e = e
-
-cleared_none : (b : Bool) (o : Option AdmittedCyclic) → o ≡ None → cond b None o ≡ None
-cleared_none true o e = refl
-cleared_none false o e = e
 
 none_and : (P : AdmittedCyclic → Type 0) (o : Option AdmittedCyclic) → o ≡ None → IsSomeAnd o P → ⊥
 none_and P None e h = h

@@ -15,7 +15,7 @@ use Rattle.cyc_cpu.specs.Gone.{HasLeft, IsOff}
 use Rattle.cyc_cpu.proofs.Cleared.{goes_here, goes_not, level_cases, clears_poll}
 use Rattle.cyc_cpu.proofs.Following.{one_cyclic, none_left}
 
-none_there : (o : Option Stay) → ((s : Stay) → o ≡ Some s → ⊥) → o ≡ None
+pub none_there : (o : Option Stay) → ((s : Stay) → o ≡ Some s → ⊥) → o ≡ None
 none_there None h = refl
 none_there (Some s) h = absurd (h s refl)
 

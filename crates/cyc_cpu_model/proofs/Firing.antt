@@ -27,7 +27,8 @@ use Rattle.cyc_model.specs.Acts.{Act, At, Call, call_of, calls_of, losses_of, lo
 use Rattle.cyc_model.specs.Cpu.{Cyclic, Cpu, Here, happen, here, then_here, acts_first, timers, is_of, handler_level_of}
 use Rattle.cyc_model.specs.Firing.{raised, expiry, expire_all, due_here, fired, fire_these, fire_here}
 use Rattle.cyc_model.specs.Serving.{level_after}
-use Rattle.cyc_model.proofs.Events.{level_append, calls_append}
+use Rattle.cyc_model.proofs.Events.{level_append, calls_append, zero_first}
+use Rattle.cyc_model.proofs.Whole.{losses_append}
 use Rattle.cyc_cpu_model.specs.Shown.{shown, shown_cpu}
 use Rattle.cyc_cpu_model.proofs.Raising.{expiries, lost_of, lost_all, lost_of_append, lost_all_append, expired}
 
@@ -54,19 +55,8 @@ pub events_lose_all : (n : ℕ) (soft : Soft) (es : List Event) → losses_in (m
 events_lose_all n soft [] = refl
 events_lose_all n soft (e ∷ es) = let r = events_lose_all n soft es in omega (arith, r)
 
-losses_append : (id : ℕ) (xs ys : List Act) → losses_of id (xs ++ ys) ≡ losses_of id xs + losses_of id ys
-losses_append id [] ys = plain (losses_of id ys)
-  where
-    plain : (n : ℕ) → n ≡ 0 + n
-    plain n = omega arith
-losses_append id (At m s e ∷ xs) ys = let r = losses_append id xs ys in omega (arith, r)
-losses_append id (Call j ∷ xs) ys = let r = losses_append id xs ys in omega (arith, r)
-
 losses_in_append : (xs ys : List Act) → losses_in (xs ++ ys) ≡ losses_in xs + losses_in ys
-losses_in_append [] ys = plain (losses_in ys)
-  where
-    plain : (n : ℕ) → n ≡ 0 + n
-    plain n = omega arith
+losses_in_append [] ys = zero_first (losses_in ys)
 losses_in_append (At m s e ∷ xs) ys = let r = losses_in_append xs ys in omega (arith, r)
 losses_in_append (Call j ∷ xs) ys = let r = losses_in_append xs ys in omega (arith, r)
 

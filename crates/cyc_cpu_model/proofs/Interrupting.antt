@@ -27,7 +27,7 @@ use Rattle.cyc_model.specs.Acts.{Act, At, Call, call_of, calls_of, calls_in}
 use Rattle.cyc_model.specs.Cpu.{Cpu, cpu_after, happen}
 use Rattle.cyc_model.specs.Serving.{level_after, level_at, looks, look, Interrupt, calling, found_nothing, serve, interrupt_here}
 use Rattle.cyc_model.specs.Serving.{serve_here}
-use Rattle.cyc_model.proofs.Events.{calls_append}
+use Rattle.cyc_model.proofs.Events.{calls_append, zero_first}
 use Rattle.cyc_cpu_model.specs.Shown.{shown, shown_cpu}
 use Rattle.cyc_cpu_model.proofs.Raising.{folds}
 use Rattle.cyc_cpu_model.proofs.Firing.{lock_events, low_events, events_call_none}
@@ -53,10 +53,7 @@ happen_append [] ys c = refl
 happen_append (x ∷ xs) ys c = happen_append xs ys (cpu_after x c)
 
 calls_in_append : (xs ys : List Act) → calls_in (xs ++ ys) ≡ calls_in xs + calls_in ys
-calls_in_append [] ys = plain (calls_in ys)
-  where
-    plain : (n : ℕ) → n ≡ 0 + n
-    plain n = omega arith
+calls_in_append [] ys = zero_first (calls_in ys)
 calls_in_append (x ∷ xs) ys = let r = calls_in_append xs ys in omega (arith, r)
 
 events_call_nothing : (n : ℕ) (soft : Soft) (es : List Event) → calls_in (map (At n soft) es) ≡ 0

@@ -1,5 +1,6 @@
 -- The map of the admitted cyclics, changed at one id, and options.
-use Rattle.std.proofs.Common.{◌≡◌, ℕ, ◌+◌, ◌≢◌, cond, List, [], ◌∷◌, ◌++◌, sym, refl, ap, ◌∙◌, subst, arith, eq-eqb, ne_eqb}
+use Rattle.std.proofs.Common.{◌≡◌, ℕ, ◌+◌, ◌≢◌, Bool, true, false, cond, List, [], ◌∷◌, ◌++◌, sym, refl, ap, ◌∙◌, subst, arith}
+use Rattle.std.proofs.Common.{eq-eqb, ne_eqb}
 use Rattle.std.specs.Prelude.{Option, Some, None, is_some, IsSome, IsSomeAnd}
 use mathlib.Core.Logic.{dite}
 use native.Mathlib.Decide.{ℕ_discrete}
@@ -20,6 +21,16 @@ some_of (Some a) h = (a, refl)
 
 pub is_some_of : {A : Type 0} (o : Option A) (a : A) → o ≡ Some a → IsSome o
 is_some_of o a e = ap is_some e
+
+-- a value that changed, or went, of none
+pub mapped_none : (f : AdmittedCyclic → AdmittedCyclic) (b : Bool) (o : Option AdmittedCyclic) → o ≡ None
+    → cond b (option_map f o) o ≡ None
+mapped_none f true o e = ap (option_map f) e
+mapped_none f false o e = e
+
+pub cleared_none : (b : Bool) (o : Option AdmittedCyclic) → o ≡ None → cond b None o ≡ None
+cleared_none true o e = refl
+cleared_none false o e = e
 
 pub not_none : {A : Type 0} (o : Option A) → IsSome o → ¬ (o ≡ None)
 not_none None h e = absurd (cc)

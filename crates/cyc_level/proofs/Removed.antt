@@ -1,7 +1,6 @@
 -- After a Clear of an id, and before its next Admit.
 use Rattle.std.proofs.Common.{◌≡◌, ℕ, ◌+◌, eqb, Bool, true, false, cond, List, [], ◌∷◌, ◌++◌, refl, ap, ◌∙◌, arith, eq-eqb}
 use Rattle.std.specs.Prelude.{Option, Some, None}
-use Rattle.std.specs.Option.{option_map}
 use Rattle.cyc_level.specs.declared.Event.{Event}
 use Rattle.cyc_level.specs.declared.Event.TheVariants.{Admit, Expire, Lose, Publish, Take, Finish, Mark, Clear, Switch, Follow}
 use Rattle.cyc_level.specs.Level.{AdmittedCyclic, SoftLevel, count_in, place_count}
@@ -10,15 +9,7 @@ use Rattle.cyc_level.specs.Events.{admitted_cyclic, cyclic_after_expire, cyclic_
 use Rattle.cyc_level.specs.Events.{reached, AllEnabled}
 use Rattle.cyc_level.specs.Runs.{finishes, admissions, NothingFollowsClear}
 use Rattle.cyc_level.proofs.Keeps.{always_lawful}
-
-mapped_none : (f : AdmittedCyclic → AdmittedCyclic) (b : Bool) (o : Option AdmittedCyclic) → o ≡ None
-    → cond b (option_map f o) o ≡ None
-mapped_none f true o e = ap (option_map f) e
-mapped_none f false o e = e
-
-cleared_none : (b : Bool) (o : Option AdmittedCyclic) → o ≡ None → cond b None o ≡ None
-cleared_none true o e = refl
-cleared_none false o e = e
+use Rattle.cyc_level.proofs.Maps.{mapped_none, cleared_none}
 
 admitted_none : (b : Bool) (c : AdmittedCyclic) (o : Option AdmittedCyclic) (n : ℕ) → cond b 1 0 + n ≡ 0 → o ≡ None
     → cond b (Some c) o ≡ None

@@ -1,5 +1,5 @@
 -- How many ids and expirations the steps of a run can have brought.
-use Rattle.std.proofs.Common.{◌≡◌, ℕ, zero, suc, ◌+◌, ◌*◌, ◌<◌, ◌≤◌, ◌==◌, Bool, true, false, cond, List, [], ◌∷◌, length, sum_by}
+use Rattle.std.proofs.Common.{◌≡◌, ℕ, zero, suc, ◌+◌, ◌*◌, ◌<◌, ◌≤◌, ◌==◌, true, false, cond, List, [], ◌∷◌, length, sum_by}
 use Rattle.std.proofs.Common.{Option, Some, None, refl, ap, ◌∙◌, arith}
 use Rattle.std.specs.Prelude.{slice_index_or, replicate}
 use Rattle.std.proofs.lemmas.List.Sums.{sum_by-cons}
@@ -24,7 +24,7 @@ use Rattle.cyc_model.specs.Bounds.{CountsStaySmall, ScriptsStayBelow}
 use Rattle.cyc_model.proofs.Rising.{tally_found, of_found}
 use Rattle.cyc_model.proofs.Serves.{same_serve}
 use Rattle.cyc_model.proofs.Refusing.{before_never}
-use Rattle.cyc_model.proofs.Numbers.{numbers_pass}
+use Rattle.cyc_model.proofs.Numbers.{numbers_pass, numbers_few}
 use Rattle.cyc_model.proofs.Totals.{expired_in, expired_of}
 use Rattle.cyc_model.proofs.Spread.{Good}
 use Rattle.cyc_model.proofs.Calm.{good_clock, well_interrupt}
@@ -33,15 +33,6 @@ use Rattle.cyc_model.proofs.Reaching.{safe_does, well_word, length_new, start_go
 use Rattle.cyc_model.proofs.Still.{Still, still_bind, still_fires, still_enters, still_juggle, still_offline, still_online}
 use Rattle.cyc_model.proofs.Still.{still_remove, still_softint}
 use Rattle.cyc_model.proofs.Growing.{grows_on, grows_enter, grows_reprogram, grows_fires}
-
-pub numbers_few : (test : Cpu → Bool) (k : ℕ) (cs : List Cpu) → length (numbers_from k test cs) ≤ length cs
-numbers_few test k [] = omega arith
-numbers_few test k (c ∷ cs) = by (test c) (numbers_few test (k + 1) cs)
-  where
-    by : (b : Bool) → length (numbers_from (k + 1) test cs) ≤ length cs
-        → length (cond b (k ∷ numbers_from (k + 1) test cs) (numbers_from (k + 1) test cs)) ≤ suc (length cs)
-    by true h = omega (arith, h)
-    by false h = omega (arith, h)
 
 -- a step brings at most one id, and so many expirations of each
 pub record Grows (s t : State) : Type 0 where

@@ -19,9 +19,9 @@ events_append n soft (x ∷ xs) ys =
     ap (λ es. event_at n soft x ++ es) (events_append n soft xs ys)
     ∙ sym (append_assoc (event_at n soft x) (events_at n soft xs) (events_at n soft ys))
 
+pub zero_first : (n : ℕ) → n ≡ 0 + n
+zero_first n = omega arith
+
 pub calls_append : (id : ℕ) (xs ys : List Act) → calls_of id (xs ++ ys) ≡ calls_of id xs + calls_of id ys
-calls_append id [] ys = plain (calls_of id ys)
-  where
-    plain : (n : ℕ) → n ≡ 0 + n
-    plain n = omega arith
+calls_append id [] ys = zero_first (calls_of id ys)
 calls_append id (x ∷ xs) ys = let h = calls_append id xs ys in omega (arith, h)

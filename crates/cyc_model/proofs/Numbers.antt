@@ -37,6 +37,16 @@ has_or_not m [] = inr (λ h. h)
 has_or_not m (n ∷ ns) = dite (ℕ_discrete m n) (λ e. inl (inl e))
     (λ ne. ⊎_elim (λ h. inl (inr h)) (λ no. inr (λ h. ⊎_elim ne no h)) (has_or_not m ns))
 
+-- they are no more than the CPUs
+pub numbers_few : (test : Cpu → Bool) (k : ℕ) (cs : List Cpu) → length (numbers_from k test cs) ≤ length cs
+numbers_few test k [] = omega arith
+numbers_few test k (c ∷ cs) = by (test c) (numbers_few test (k + 1) cs)
+  where
+    by : (b : Bool) → length (numbers_from (k + 1) test cs) ≤ length cs
+        → length (cond b (k ∷ numbers_from (k + 1) test cs) (numbers_from (k + 1) test cs)) ≤ suc (length cs)
+    by true h = omega (arith, h)
+    by false h = omega (arith, h)
+
 module _ (test : Cpu → Bool) where
   pub numbers_rise : (k : ℕ) (cs : List Cpu) → RiseFrom k (numbers_from k test cs)
   numbers_rise k [] = tt

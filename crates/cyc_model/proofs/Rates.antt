@@ -26,7 +26,7 @@ use Rattle.cyc_model.specs.Acts.{Act, At, Call, at_own, same_soft, events_at}
 use Rattle.cyc_model.specs.Cpu.{Cyclic, Cpu, handler_level_of}
 use Rattle.cyc_model.specs.Firing.{raised, expiry, expire_here, expire_all, due_here, fire_here}
 use Rattle.cyc_model.specs.Questions.{plain}
-use Rattle.cyc_model.specs.State.{State, on, cpu_of, each, online_cpus, numbers_from}
+use Rattle.cyc_model.specs.State.{State, on, cpu_of, each, online_cpus}
 use Rattle.cyc_model.specs.Refusals.{unless}
 use Rattle.cyc_model.specs.Script.{refusal_of, does, word, steps_from}
 use Rattle.cyc_model.proofs.Agreement.{AllActs}
@@ -34,7 +34,7 @@ use Rattle.cyc_model.proofs.Rising.{found, times_cons, times_found, due_of_found
 use Rattle.cyc_model.proofs.Fires.{one_of}
 use Rattle.cyc_model.proofs.Refusing.{before_never}
 use Rattle.cyc_model.proofs.Growing.{few_due}
-use Rattle.cyc_model.proofs.Numbers.{Has, numbers_pass}
+use Rattle.cyc_model.proofs.Numbers.{Has, numbers_pass, numbers_few}
 use Rattle.cyc_model.proofs.Spread.{Good}
 use Rattle.cyc_model.proofs.Calm.{well_fire, good_clock}
 use Rattle.cyc_model.proofs.Reaching.{well_word}
@@ -247,15 +247,6 @@ sends_fires id now (n ∷ ns) s g before within =
     let b = sends_fire id n now s g in
     let r = sends_fires id now ns t w.1 before (λ m has. subst (λ k. m < k) (sym w.0.tells.as_many) (within m (inr has))) in
     omega (arith, a, b, r)
-
-numbers_few : (test : Cpu → Bool) (k : ℕ) (cs : List Cpu) → length (numbers_from k test cs) ≤ length cs
-numbers_few test k [] = omega arith
-numbers_few test k (c ∷ cs) = by (test c) (numbers_few test (k + 1) cs)
-  where
-    by : (b : Bool) → length (numbers_from (k + 1) test cs) ≤ length cs
-        → length (cond b (k ∷ numbers_from (k + 1) test cs) (numbers_from (k + 1) test cs)) ≤ suc (length cs)
-    by true h = omega (arith, h)
-    by false h = omega (arith, h)
 
 sends_does : (indexes : ℕ → ℕ) (texts : List (List ℕ)) (step : ℕ) (x : Step) (s : State) → Good s → refusal_of plain x s ≡ None
     → (id : ℕ)

@@ -20,7 +20,7 @@ use Rattle.cyc_model.specs.Serving.{level_at, level_after}
 use Rattle.cyc_types.specs.Levels.{as_level}
 use Rattle.cyc_model.specs.Agreement.{Agrees}
 use Rattle.cyc_model.proofs.Agreement.{AllActs}
-use Rattle.cyc_model.proofs.Events.{events_append, calls_append}
+use Rattle.cyc_model.proofs.Events.{events_append, calls_append, zero_first}
 use Rattle.cyc_model.proofs.Local.{Local}
 use Rattle.cyc_model.proofs.Rising.{Rising, found}
 use Rattle.cyc_model.proofs.Fit.{Fit, AllRest, fit_along, count_along, all_finishes, all_brings}
@@ -203,10 +203,7 @@ pub record Done (n : ℕ) (made : ℕ → ℕ) (c : Cpu) (d : Here) : Type 0 whe
   pub books : (id : ℕ) → outstanding_here id d.cpu + calls_of id d.acts + losses_of id d.acts ≡ outstanding_here id c + made id
 
 pub losses_append : (id : ℕ) (xs ys : List Act) → losses_of id (xs ++ ys) ≡ losses_of id xs + losses_of id ys
-losses_append id [] ys = plain (losses_of id ys)
-  where
-    plain : (n : ℕ) → n ≡ 0 + n
-    plain n = omega arith
+losses_append id [] ys = zero_first (losses_of id ys)
 losses_append id (At n soft e ∷ xs) ys = let h = losses_append id xs ys in omega (arith, h)
 losses_append id (Call j ∷ xs) ys = losses_append id xs ys
 

@@ -34,7 +34,7 @@ use Rattle.cyc_types.specs.Reasons.{when, or_else}
 use Rattle.cyc_model.specs.State.{State, absent, cpu_of, on, each, numbers_from}
 use Rattle.cyc_model.proofs.Events.{calls_append}
 use Rattle.cyc_model.proofs.Totals.{expired_in}
-use Rattle.cyc_model.proofs.Numbers.{Has}
+use Rattle.cyc_model.proofs.Numbers.{Has, numbers_few}
 use Rattle.cyc_model.proofs.Calm.{good_clock}
 use Rattle.cyc_cpu_model.specs.Shown.{shown}
 use Rattle.cyc_replay.specs.SystemAdvancing.{at_clock, online_below, fired_and_lost, HasFired}
@@ -45,7 +45,6 @@ use Rattle.cyc_replay.specs.Advancing.{IsAdvancing}
 use Rattle.cyc_replay.proofs.Mosts.{most_changed}
 use Rattle.cyc_replay.proofs.Named.{reached_good}
 use Rattle.cyc_replay.proofs.Unrefused.{IsFew, EachTimer, same_range, still_wide, never_stopped}
-use Rattle.cyc_model.proofs.Bounded.{numbers_few}
 use Rattle.cyc_model.proofs.Growing.{few_times, grows_fires}
 use Rattle.cyc_replay.proofs.Remembering.{SameNames, remembers_on}
 use Rattle.cyc_replay.specs.Room.{HaveAllRoom}
