@@ -1,5 +1,5 @@
 -- A cyclic moves from one CPU to another, and nothing of it is lost.
-use Rattle.std.proofs.Common.{◌≡◌, ◌≢◌, ℕ, ◌+◌, ◌<◌, ◌==◌, Bool, true, false, cond, List, [], ◌∷◌, map, length, Option, Some}
+use Rattle.std.proofs.Common.{◌≡◌, ◌≢◌, ℕ, ◌+◌, ◌<◌, Bool, true, false, List, [], ◌∷◌, map, length, Option, Some}
 use Rattle.std.proofs.Common.{None, refl, ap, sym, ◌∙◌, subst, arith}
 use Rattle.std.specs.Prelude.{IsSome, is_some}
 use mathlib.Core.Logic.{dite}
@@ -19,7 +19,7 @@ use Rattle.cyc_model.specs.Bind.{bring, move}
 use Rattle.cyc_model.specs.Kept.{Kept}
 use Rattle.cyc_model.proofs.Events.{calls_append}
 use Rattle.cyc_model.proofs.Local.{local_take}
-use Rattle.cyc_model.proofs.Given.{rise_map}
+use Rattle.cyc_model.proofs.Given.{rise_map, replaced_id}
 use Rattle.cyc_model.proofs.Rising.{found, found_id, put_same, found_gone, found_others}
 use Rattle.cyc_model.proofs.Whole.{Done, calls_own}
 use Rattle.cyc_model.proofs.Moves.{CanGrow, widened_calls}
@@ -56,12 +56,9 @@ kept_then s t u one two = record {
 
 replaced_ids : (id : ℕ) (place : Placement) (ps : List Placed) → map (λ p. p.id) (map (replaced id place) ps) ≡ map (λ p. p.id) ps
 replaced_ids id place [] = refl
-replaced_ids id place (p ∷ ps) = ap (λ (k : ℕ). k ∷ map (λ (q : Placed). q.id) (map (replaced id place) ps)) (by (p.id == id))
+replaced_ids id place (p ∷ ps) =
+    ap (λ (k : ℕ). k ∷ map (λ (q : Placed). q.id) (map (replaced id place) ps)) (replaced_id id place p)
     ∙ ap (λ ns. p.id ∷ ns) (replaced_ids id place ps)
-  where
-    by : (b : Bool) → (cond b (record p { place = place }) p).id ≡ p.id
-    by true = refl
-    by false = refl
 
 -- it is put down as on the CPU where it is already
 pub kept_put : (id n : ℕ) (bound was : Bool) (s : State) → placement_of id s ≡ Some (On n was) → Kept s (put_at id (On n bound) s)
