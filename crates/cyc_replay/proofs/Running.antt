@@ -7,13 +7,10 @@ use Rattle.std.specs.Prelude.{nat_lt, slice_index_or}
 use Rattle.cyc_types.specs.declared.level.Soft.{Soft}
 use Rattle.cyc_types.specs.declared.level.Soft.TheVariants.{Low, Lock}
 use Rattle.cyc_level.specs.Level.{empty_level}
-use Rattle.cyc_core.specs.Tables.{level_of}
-use Rattle.cyc_system.specs.Cpus.{IsCpu}
 use Rattle.cyc_script.specs.declared.script.Script.{Script}
 use Rattle.cyc_script.specs.declared.step.Step.{Step}
 use Rattle.cyc_model.specs.Acts.{events_at}
 use Rattle.cyc_model.specs.Cpu.{Cpu}
-use Rattle.cyc_model.specs.Serving.{level_at}
 use Rattle.cyc_model.specs.Questions.{plain}
 use Rattle.cyc_model.specs.State.{State, absent, cpu_of}
 use Rattle.cyc_model.specs.Laws.{level_on}
@@ -21,7 +18,7 @@ use Rattle.cyc_model.specs.Along.{IsSound}
 use Rattle.cyc_model.specs.Enabled.{CanBeDone}
 use Rattle.cyc_model.specs.Free.{AreFree, AllCanBeAdmitted}
 use Rattle.cyc_model.specs.Report.{reports}
-use Rattle.cyc_model.specs.Script.{start, names_of, no_indexes, run_on, run_of, text_on, text_of, text_with}
+use Rattle.cyc_model.specs.Script.{start, names_of, no_indexes, run_on, run_of, text_of, text_with}
 use Rattle.cyc_model.proofs.Enabling.{events_are_enabled, new_level}
 use Rattle.cyc_model.proofs.Reaching.{well_steps, start_good, length_new}
 use Rattle.cyc_model.proofs.Telling.{tells_steps}

@@ -17,7 +17,6 @@ use Rattle.cyc_system_laws.specs.Cpus.{CpusView, ChangesAt}
 use Rattle.cyc_system_workers.specs.WorkersSettling.{Asks}
 use Rattle.cyc_system_workers.specs.Settled.{AllAsked}
 use Rattle.cyc_system_workers.specs.System.{SystemView}
-use Rattle.cyc_system_workers.specs.Splitting.{EachTwo}
 use Rattle.cyc_system_workers.specs.Calls.{SystemCall, Changes as SystemChanges}
 use Rattle.cyc_system_laws.specs.Parts.{CpusCall, OnCpu, SetOnline, DoesPart}
 use Rattle.cyc_system_laws.proofs.Pieces.{made_of}
