@@ -32,8 +32,6 @@ use Rattle.cyc_replay.proofs.Indexes.{same_line}
 use Rattle.cyc_replay.proofs.Cpus.{get_shown, long_shown}
 use Rattle.cyc_replay.specs.Replay.{HasRun, LevelsAreSound}
 
--- ---- the CPUs of a machine
-
 -- ---- a run of a whole script
 
 -- a machine that has taken no step
