@@ -66,8 +66,6 @@ enters_same indexes id j e (n ∷ ns) s =
     enters_same indexes id j e ns (enter indexes n (component j n e s.clock) s).state
     ∙ entered_same indexes id n (component j n e s.clock) s refl
 
--- ---- another moment
-
 -- ---- the words
 
 abbrev pub IsNoAdvance : Step → Type 0

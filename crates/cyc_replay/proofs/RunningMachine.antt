@@ -85,8 +85,6 @@ module _ (cpus ceiling : ℕ) (texts : List (List ℕ)) (done : List Step) where
       ≡ followed_by (run_on f cpus ceiling texts done) (steps_from plain texts f (1 + length done) rest)
   run_rest f rest = steps_append plain texts f 1 done rest (start cpus ceiling (length texts))
 
--- ---- free indexes
-
 -- ---- the machine that steps so far led to
 
 module _ (cpus ceiling : ℕ) (texts : List (List ℕ)) (done : List Step) (m : Machine) (r : Runs cpus ceiling texts done m) where
