@@ -17,8 +17,9 @@ use crate::cpus::Cpus;
 use cyc_places::{Placement, Records};
 use cyc_types::{CyclicId, Interval, Level, Moment, Raise, Refusal, Sent, When};
 
-/// A CPU that has the memory grows where it must, and takes a cyclic that has not expired yet (`cyclic_add_here`).
-fn enter<R: Raise>(
+/// A CPU that has the memory grows where it must, and takes a cyclic that has not expired yet, with its first expiration in
+/// nanoseconds (`cyclic_add_here`). Refuses nothing, and takes no memory.
+pub fn enter<R: Raise>(
     cpus: &mut Cpus<R>,
     number: u32,
     id: CyclicId,

@@ -29,7 +29,7 @@ mod shifting;
 mod totals;
 mod turning;
 
-pub use adding::add_omni;
+pub use adding::{add_omni, enter};
 pub use cpus::Cpus;
 pub use cyc_cpu::Removal;
 pub use finding::{is_leaving, is_leaving_at};

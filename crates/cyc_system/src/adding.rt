@@ -1,16 +1,13 @@
 //! A cyclic is added.
 
-ghost use Rattle.std.specs.Prelude.{◌≡◌, ◌<◌, ◌+◌, length, IfNone, IfSome};
-ghost use Rattle.cyc_types.specs.Limits.{last_id};
-ghost use Rattle.cyc_cpu_laws.specs.Cpu.{HasNoCyclic, MayWiden};
+ghost use Rattle.std.specs.Prelude.{◌<◌, length};
 ghost use Rattle.cyc_cpu_laws.specs.Calls.{Reserve};
-ghost use Rattle.cyc_agreement.specs.Cpus.{OfCpu, on, DoesAt, Works};
-ghost use Rattle.cyc_agreement.specs.Adding.{entering};
+ghost use Rattle.cyc_agreement.specs.Cpus.{on, DoesAt};
 
 use crate::system::System;
-use cyc_agreement::Cpus;
+use cyc_agreement::{Cpus, enter};
 use cyc_places::Placement;
-use cyc_types::{CyclicId, Interval, Level, Moment, Raise, Refusal, Sent, When};
+use cyc_types::{CyclicId, Level, Moment, Raise, Refusal, When};
 
 /// A CPU takes the memory of one more cyclic.
 fn reserve_at<R: Raise>(cpus: &mut Cpus<R>, number: u32) -> Result<(), Refusal>
@@ -18,25 +15,6 @@ fn reserve_at<R: Raise>(cpus: &mut Cpus<R>, number: u32) -> Result<(), Refusal>
     ensures { DoesAt R.Raise cpus.old (on number (Reserve 1 result)) cpus.new }
 {
     cpus.cpu_mut(number).reserve(1)
-}
-
-/// A CPU that has the memory grows where it must, and takes a cyclic that has not expired yet (`cyclic_add_here`).
-fn enter<R: Raise>(
-    cpus: &mut Cpus<R>,
-    number: u32,
-    id: CyclicId,
-    level: Level,
-    interval: Interval,
-    moment: Moment,
-)
-    requires number { number < length cpus.old.cpus }
-    requires room { OfCpu number (MayWiden R.view 1) cpus.old }
-    requires absent { OfCpu number (λ cpu. HasNoCyclic id cpu.cyclics) cpus.old }
-    ensures { Works R.Raise (entering number id level interval moment) cpus.old cpus.new }
-{
-    cpus.cpu_mut(number).widen(1);
-    cpus.cpu_mut(number)
-        .place(id, level, interval, moment, Sent { sent: 0, lost: 0 });
 }
 
 impl<R: Raise> System<R> {
