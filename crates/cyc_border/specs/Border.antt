@@ -1,7 +1,7 @@
 -- What each call over the border does to the CPU behind the handle.
 use Rattle.std.specs.Prelude.{◌≡◌, ℕ, ◌<◌, ◌≤◌, ◌⊎◌, pos, ◌<ℤ◌, ◌≤ℤ◌, ℤ, Option, Some, None, Result, Ok, Err}
 use Rattle.cyc_types.specs.declared.Raise.{Ghosts as Raise}
-use Rattle.cyc_types.specs.Limits.{last_id}
+use Rattle.cyc_level.specs.Lawful.{IsId}
 use Rattle.cyc_types.specs.declared.level.Soft.{Soft}
 use Rattle.cyc_types.specs.declared.level.Soft.TheVariants.{Low, Lock}
 use Rattle.cyc_types.specs.declared.refusal.Refusal.{Refusal}
@@ -40,9 +40,6 @@ denied_of (Err e) = Err (Refused e)
 abbrev pub found_of : {A : Type 0} → Option A → Result A Denied
 found_of (Some a) = Ok a
 found_of None = Err (Refused why.NoCyclic)
-
-abbrev pub IsId : ℕ → Type 0
-IsId id = (0 < id) × (id ≤ last_id)
 
 -- no call of the CPU was made
 abbrev pub Denies : {A X : Type 0} → Denied → Result A Denied → X → X → Type 0
