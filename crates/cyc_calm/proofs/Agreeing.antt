@@ -13,7 +13,7 @@ use Rattle.cyc_script.specs.declared.step.Step.TheVariants as steps
 use Rattle.cyc_script.specs.WellFormed.{names_after, names_after_all}
 use Rattle.cyc_expected.specs.Calm.{OnlyMoves}
 use Rattle.cyc_thread_expected.specs.System.{SystemView}
-use Rattle.cyc_thread_expected.specs.Calls.{Changes, Online}
+use Rattle.cyc_thread_expected.specs.Calls.{Changes, Online, reprograms}
 use Rattle.cyc_thread_expected.specs.Sound.{IsSound}
 use Rattle.cyc_thread_expected.specs.SystemRingsLeading.{LeadCall, Make, FireAll, AskAll}
 use Rattle.cyc_thread_expected.specs.Named.{Named}
@@ -21,7 +21,7 @@ use Rattle.cyc_thread_expected.specs.Named.TheVariants.{Nothing, Cyclic, Leaving
 use Rattle.cyc_thread_expected.specs.Progress.{Progress}
 use Rattle.cyc_thread_expected.specs.StepCalls.{CallsFor}
 use Rattle.cyc_thread_expected.specs.Names.{named_at, id_of, is_leaving, NoneLeaves}
-use Rattle.cyc_thread_expected.specs.Words.{Does, WithId, reprograms}
+use Rattle.cyc_thread_expected.specs.Words.{Does, WithId}
 use Rattle.cyc_thread_expected.specs.Leading.{call_with}
 use Rattle.cyc_thread_expected.specs.Meeting.{accepted, is_taken as is_done}
 use Rattle.cyc_calm.specs.Way.{Standing, Absent, OnOne, OnAll, may_reprogram, is_taken, after_step}

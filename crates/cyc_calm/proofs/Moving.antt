@@ -24,13 +24,13 @@ use Rattle.cyc_thread_expected.specs.System.{is_leaving as is_leaving_id}
 use Rattle.cyc_thread_expected.specs.System.{is_unknown, is_omnipresent, record_of}
 use Rattle.cyc_thread_expected.specs.Refusals.{no_cyclic, omnipresent, no_cpu, offline_cpu, no_component}
 use Rattle.cyc_thread_expected.specs.Online.{online_cpu}
-use Rattle.cyc_thread_expected.specs.Calls.{SystemCall, Changes, Bind, Reprogram, ReprogramOn, Juggle, Online}
+use Rattle.cyc_thread_expected.specs.Calls.{SystemCall, Changes, Bind, Reprogram, ReprogramOn, Juggle, Online, reprograms}
 use Rattle.cyc_thread_expected.specs.Keeping.{TouchesRecord}
 use Rattle.cyc_thread_expected.specs.Sound.{IsSound}
 use Rattle.cyc_thread_expected.specs.Progress.{Progress}
 use Rattle.cyc_thread_expected.specs.StepCalls.{CallsFor}
 use Rattle.cyc_thread_expected.specs.Names.{NoneLeaves}
-use Rattle.cyc_thread_expected.specs.Words.{WithId, reprograms}
+use Rattle.cyc_thread_expected.specs.Words.{WithId}
 use Rattle.cyc_calm.specs.Way.{Standing}
 use Rattle.cyc_calm.proofs.Keeping.{AllStill, IsMove, keeps_call, last_move, quiet_move}
 use Rattle.cyc_calm.proofs.Fitting.{IsThere, Fits, fits_same}

@@ -7,8 +7,7 @@ use Rattle.cyc_types.specs.declared.refusal.Refusal.{Refusal}
 use Rattle.cyc_core.specs.Tables.{Tables}
 use Rattle.cyc_cpu.specs.Soft.{raise_tables, Interrupts}
 use Rattle.cyc_system.specs.System.{SystemView, running_system}
-use Rattle.cyc_system.specs.Calls.{Changes, Does}
-use Rattle.cyc_replay.specs.SystemWords.{reprograms}
+use Rattle.cyc_system.specs.Calls.{Changes, Does, reprograms}
 
 pub same_kept : (cpu : Option ℕ) (id moment : ℕ) (answer : Result (Unit {0}) Refusal) (tally : TallyView)
     (v w : SystemView Tables)

@@ -10,7 +10,7 @@ use Rattle.cyc_cpu.specs.Soft.{raise_tables}
 use Rattle.cyc_cpu.specs.Calls.{Reprogram as CpuReprogram}
 use Rattle.cyc_system.specs.Cpus.{on as on_cpu}
 use Rattle.cyc_system.specs.System.{SystemView}
-use Rattle.cyc_system.specs.Calls.{Changes}
+use Rattle.cyc_system.specs.Calls.{Changes, reprograms}
 use Rattle.cyc_system.specs.Adding.{OnlyWorks}
 use Rattle.cyc_model.specs.Moving.{reprogram_here}
 use Rattle.cyc_model.specs.State.{State, absent, on}
@@ -21,7 +21,7 @@ use Rattle.cyc_model.specs.Bind.{no_cyclic, omnipresent}
 use Rattle.cyc_model.specs.Reprogram.{no_component, cpu_refusals, cpu_meant}
 use Rattle.cyc_cpu_model.specs.Answers.{IsRefused}
 use Rattle.cyc_replay.specs.Shown.{shown_cpus, ShowsSystem, IsSystem}
-use Rattle.cyc_replay.specs.SystemWords.{IsMoment, IsDone, IsRefusedFor, reprograms}
+use Rattle.cyc_replay.specs.SystemWords.{IsMoment, IsDone, IsRefusedFor}
 use Rattle.cyc_replay.proofs.Cpus.{cpu_at, done_at}
 use Rattle.cyc_replay.proofs.Asking.{home_shown, same_no_cyclic, same_omnipresent, same_no_cpu, same_offline}
 use Rattle.cyc_replay.proofs.Asking.{same_no_component, no_memory_when, no_memory_else, is_refused, later, same_error}

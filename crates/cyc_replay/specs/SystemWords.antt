@@ -1,5 +1,5 @@
 -- What a call of a system over plain levels is as a word of a script.
-use Rattle.std.specs.Prelude.{◌≡◌, ℕ, ◌+◌, int_lt, ℤ, pos, ⊤, false, List, [], ◌∷◌, length, Option, Some, None, Result}
+use Rattle.std.specs.Prelude.{◌≡◌, ℕ, ◌+◌, int_lt, ℤ, pos, ⊤, false, List, [], ◌∷◌, length, None}
 use Rattle.cyc_types.specs.declared.level.Soft.{Soft}
 use Rattle.cyc_types.specs.declared.moment.When.{When}
 use Rattle.cyc_types.specs.declared.refusal.Refusal.{Refusal}
@@ -7,7 +7,6 @@ use Rattle.cyc_types.specs.declared.refusal.Refusal.TheVariants.{Pending, Left}
 use Rattle.cyc_core.specs.Tables.{Tables}
 use Rattle.cyc_script.specs.declared.step.Step.{Step}
 use Rattle.cyc_system.specs.System.{SystemView}
-use Rattle.cyc_system.specs.Calls.{SystemCall, Reprogram, ReprogramOn}
 use Rattle.cyc_model.specs.Acts.{calls_of, events_at}
 use Rattle.cyc_model.specs.Serving.{level_at}
 use Rattle.cyc_model.specs.Questions.{plain}
@@ -68,8 +67,3 @@ IsSeries start interval series = (first_refusal (bad_when start interval) ≡ No
 -- a step's moment is this one
 abbrev pub IsMoment : ℤ → ℕ → Type 0
 IsMoment z moment = (int_lt z (pos 0) ≡ false) × (magnitude z ≡ moment)
-
--- the call of a step that names no CPU, and of one that does
-abbrev pub reprograms : Option ℕ → ℕ → ℕ → Result (Unit {0}) Refusal → SystemCall
-reprograms None id moment answer = Reprogram id moment answer
-reprograms (Some n) id moment answer = ReprogramOn id n moment answer

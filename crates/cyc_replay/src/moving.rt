@@ -4,8 +4,7 @@ ghost use Rattle.std.specs.Prelude.{◌≡◌, ℕ, true, pos, int_lt, IfOk, IfE
 ghost use Rattle.cyc_types.specs.declared.refusal.Refusal.TheVariants.{BadWhen};
 ghost use Rattle.cyc_cpu.specs.Soft.{raise_tables};
 ghost use Rattle.cyc_system.specs.Agreement.{Agrees};
-ghost use Rattle.cyc_system.specs.Calls.{Changes};
-ghost use Rattle.cyc_replay.specs.SystemWords.{reprograms};
+ghost use Rattle.cyc_system.specs.Calls.{Changes, reprograms};
 ghost use Rattle.cyc_model.specs.State.{State};
 ghost use Rattle.cyc_script.specs.declared.step.Step.TheVariants as steps;
 ghost use Rattle.cyc_replay.specs.Machine.{Holds, IsReached};

@@ -26,7 +26,7 @@ ghost use Rattle.cyc_system.specs.declared.interrupting.SoftFault.TheVariants as
 ghost use Rattle.cyc_system.specs.System.{SystemView, RunningSystem, is_online};
 ghost use Rattle.cyc_system.specs.Agreement.{Agrees, most_on};
 ghost use Rattle.cyc_system.specs.Calls.{SystemCall, Changes, Does, Add, AddOmni, Bind, BeginRemove, PollRemove, AskTotals};
-ghost use Rattle.cyc_system.specs.Calls.{Juggle, Offline, Online, FireOne, SoftInterrupt, no_fire};
+ghost use Rattle.cyc_system.specs.Calls.{Juggle, Offline, Online, FireOne, SoftInterrupt, no_fire, reprograms};
 ghost use Rattle.cyc_model.specs.State.{State, each};
 ghost use Rattle.cyc_model.specs.Places.{id_of, is_unknown};
 ghost use Rattle.cyc_types.specs.Reasons.{first_refusal};
@@ -47,7 +47,6 @@ ghost use Rattle.cyc_replay.specs.Kept.{AreNew, new_system};
 ghost use Rattle.cyc_replay.specs.Running.{IsFired, IsServed};
 ghost use Rattle.cyc_replay.specs.SystemAdvancing.{at_clock, fired_and_lost, HasFired, IsAdvanced};
 ghost use Rattle.cyc_replay.specs.SystemWords.{IsSeries, IsMoment, IsDone, IsDoneWith, IsRefusedFor, IsAtOnce};
-ghost use Rattle.cyc_replay.specs.SystemWords.{reprograms};
 
 use cyc_types::Calls;
 

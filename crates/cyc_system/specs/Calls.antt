@@ -49,6 +49,11 @@ pub data SystemCall : Type 0 where
   FireOne : ℕ → ℕ → Result Fired FireRefused → SystemCall
   SoftInterrupt : ℕ → Soft → ℕ → Result Ran SoftFault → SystemCall
 
+-- the call that gives a cyclic another next expiration, or its component on a CPU where one is named
+abbrev pub reprograms : Option ℕ → ℕ → ℕ → Result (Unit {0}) Refusal → SystemCall
+reprograms None id moment answer = Reprogram id moment answer
+reprograms (Some n) id moment answer = ReprogramOn id n moment answer
+
 -- the call by which a CPU gives a cyclic of it another moment
 abbrev pub reprogramming : ℕ → ℕ → ℕ → CallOn
 reprogramming id n moment = on n (CpuReprogram id moment (Ok tt))

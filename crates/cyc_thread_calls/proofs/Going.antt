@@ -13,7 +13,7 @@ use Rattle.cyc_threads.proofs.Spots.{same_some, none_some}
 use Rattle.cyc_script.specs.declared.step.Step.{Step}
 use Rattle.cyc_script.specs.declared.step.Step.TheVariants as steps
 use Rattle.cyc_threads.specs.SystemRemoval.{SystemRemoval}
-use Rattle.cyc_threads.specs.Calls.{SystemCall, Bind, BeginRemove, PollRemove, AskTotals}
+use Rattle.cyc_threads.specs.Calls.{SystemCall, Bind, BeginRemove, PollRemove, AskTotals, reprograms}
 use Rattle.cyc_threads.specs.SystemSide.{SystemSide}
 use Rattle.cyc_system_expected.specs.Leading.{LeadCall, Make, FireAll, AskAll}
 use Rattle.cyc_system_expected.specs.Events.{AcceptedSteps, AllAccepted}
@@ -23,7 +23,7 @@ use Rattle.cyc_threads.specs.declared.progress.Progress.{Progress}
 use Rattle.cyc_threads.specs.declared.counting.Line.{Line}
 use Rattle.cyc_threads.specs.StepCalls.{CallsFor, Poll, Polls, Waits, Fires, refusal_of, refusal_at}
 use Rattle.cyc_threads.specs.Names.{named_at, id_of}
-use Rattle.cyc_threads.specs.Words.{WithId, reprograms, Does, Begins, TakesStep, waits_first}
+use Rattle.cyc_threads.specs.Words.{WithId, Does, Begins, TakesStep, waits_first}
 use Rattle.cyc_threads.specs.Steps.{TakesSteps, Runs}
 use Rattle.cyc_threads.specs.Counting.{Told, Tells, TellsOf, Reports}
 use Rattle.cyc_thread_calls.specs.Leading.{calls_in, poll_calls, wait_calls, begin_calls, call_with, told_calls_of, told_calls}

@@ -17,7 +17,7 @@ use Rattle.cyc_script.specs.declared.step.Step.{Step}
 use Rattle.cyc_script.specs.declared.step.Step.TheVariants as steps
 use Rattle.cyc_threads.specs.SystemRemoval.{SystemRemoval}
 use Rattle.cyc_threads.specs.SystemRemoval.TheVariants.{Done, Kept}
-use Rattle.cyc_threads.specs.Calls.{SystemCall, Changes, Add, AddOmni, Bind, BeginRemove, PollRemove}
+use Rattle.cyc_threads.specs.Calls.{SystemCall, Changes, Add, AddOmni, Bind, BeginRemove, PollRemove, reprograms}
 use Rattle.cyc_threads.proofs.Pieces.{made_of}
 use Rattle.cyc_system_expected.specs.Leading.{LeadCall, Make, FireAll, AskAll}
 use Rattle.cyc_system_expected.specs.Rings.{receipt_of, first_of}
@@ -26,7 +26,7 @@ use Rattle.cyc_threads.specs.declared.named.Named.TheVariants.{Nothing, Cyclic, 
 use Rattle.cyc_threads.specs.declared.progress.Progress.{Progress}
 use Rattle.cyc_threads.specs.Names.{named_at, id_of, news, noted}
 use Rattle.cyc_threads.specs.StepCalls.{CallsFor, Poll, Polls, Waits}
-use Rattle.cyc_threads.specs.Words.{WithId, reprograms, Does, Begins, waits_first}
+use Rattle.cyc_threads.specs.Words.{WithId, Does, Begins, waits_first}
 use Rattle.cyc_threads.specs.Steps.{TakesSteps, Runs}
 use Rattle.cyc_thread_calls.specs.Leading.{calls_in, poll_calls, wait_calls, begin_calls, call_with, call_of}
 use Rattle.cyc_thread_calls.specs.Leading.{steps_calls, run_calls}

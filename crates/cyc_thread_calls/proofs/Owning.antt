@@ -14,14 +14,14 @@ use Rattle.cyc_script.specs.declared.step.Step.{Step}
 use Rattle.cyc_script.specs.declared.step.Step.TheVariants as steps
 use Rattle.cyc_script.specs.WellFormed.{name_fits, names_after, names_fit, names_after_all}
 use Rattle.cyc_threads.specs.SystemRemoval.{SystemRemoval}
-use Rattle.cyc_threads.specs.Calls.{SystemCall, Bind, BeginRemove}
+use Rattle.cyc_threads.specs.Calls.{SystemCall, Bind, BeginRemove, reprograms}
 use Rattle.cyc_system_expected.specs.Leading.{LeadCall, Make}
 use Rattle.cyc_system_expected.specs.Rings.{first_of}
 use Rattle.cyc_system_expected.specs.ByLevel.{level_given, level_in}
 use Rattle.cyc_threads.specs.declared.progress.Progress.{Progress}
 use Rattle.cyc_threads.specs.StepCalls.{CallsFor}
 use Rattle.cyc_threads.specs.Names.{named_at, id_of}
-use Rattle.cyc_threads.specs.Words.{WithId, reprograms, Does, waits_first}
+use Rattle.cyc_threads.specs.Words.{WithId, Does, waits_first}
 use Rattle.cyc_threads.specs.Steps.{TakesSteps}
 use Rattle.cyc_thread_calls.specs.Leading.{calls_in, begin_calls, call_with, call_of, steps_calls}
 use Rattle.cyc_thread_calls.specs.Giving.{given_by, given_in, later_id, id_in_steps}

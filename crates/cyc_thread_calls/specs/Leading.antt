@@ -10,6 +10,7 @@ use Rattle.cyc_script.specs.declared.step.Step.{Step}
 use Rattle.cyc_script.specs.declared.step.Step.TheVariants as steps
 use Rattle.cyc_threads.specs.SystemRemoval.{SystemRemoval}
 use Rattle.cyc_threads.specs.Calls.{SystemCall, Add, AddOmni, Bind, BeginRemove, PollRemove, AskTotals, Juggle, Offline, Online}
+use Rattle.cyc_threads.specs.Calls.{reprograms}
 use Rattle.cyc_system_expected.specs.Leading.{LeadCall, Make, FireAll, AskAll}
 use Rattle.cyc_threads.specs.declared.named.Named.{Named}
 use Rattle.cyc_threads.specs.declared.named.Named.TheVariants.{Nothing, Cyclic, Leaving, Removed}
@@ -17,7 +18,7 @@ use Rattle.cyc_threads.specs.declared.progress.Progress.{Progress}
 use Rattle.cyc_threads.specs.declared.counting.Line.{Line}
 use Rattle.cyc_threads.specs.StepCalls.{CallsFor, Poll, Waits}
 use Rattle.cyc_threads.specs.Names.{named_at, id_of}
-use Rattle.cyc_threads.specs.Words.{WithId, reprograms, Does, Begins, TakesStep, waits_first}
+use Rattle.cyc_threads.specs.Words.{WithId, Does, Begins, TakesStep, waits_first}
 use Rattle.cyc_threads.specs.Steps.{TakesSteps, Runs}
 use Rattle.cyc_threads.specs.Counting.{Told, Tells, TellsOf, Reports}
 

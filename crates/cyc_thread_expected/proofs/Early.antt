@@ -12,7 +12,7 @@ use Rattle.cyc_script.specs.WellFormed.{moment_fits, moment_after, moments_fit}
 use Rattle.cyc_script.specs.declared.step.Step.{Step}
 use Rattle.cyc_script.specs.declared.step.Step.TheVariants as steps
 use Rattle.cyc_thread_calls.specs.SystemRemoval.{SystemRemoval}
-use Rattle.cyc_thread_calls.specs.Calls.{SystemCall, Bind, BeginRemove, PollRemove}
+use Rattle.cyc_thread_calls.specs.Calls.{SystemCall, Bind, BeginRemove, PollRemove, reprograms}
 use Rattle.cyc_thread_calls.specs.SystemRingsLeading.{LeadCall, Make, FireAll, AskAll}
 use Rattle.cyc_thread_calls.specs.Events.{IsBeforeNever}
 use Rattle.cyc_thread_calls.specs.Named.{Named}
@@ -21,7 +21,7 @@ use Rattle.cyc_thread_calls.specs.Progress.{Progress}
 use Rattle.cyc_thread_calls.specs.Line.{Line}
 use Rattle.cyc_thread_calls.specs.Names.{named_at, id_of}
 use Rattle.cyc_thread_calls.specs.StepCalls.{CallsFor, Poll, Waits}
-use Rattle.cyc_thread_calls.specs.Words.{WithId, reprograms, Does, Begins, waits_first}
+use Rattle.cyc_thread_calls.specs.Words.{WithId, Does, Begins, waits_first}
 use Rattle.cyc_thread_calls.specs.Steps.{TakesSteps, Runs}
 use Rattle.cyc_thread_calls.specs.Counting.{Told, Tells, TellsOf, Reports}
 use Rattle.cyc_thread_calls.specs.Leading.{calls_in, poll_calls, wait_calls, begin_calls, call_with, call_of, steps_calls}

@@ -16,10 +16,9 @@ use Rattle.cyc_expected.specs.Course.{Event, Begins, BeginsOnAll, IsSet, IsSetOn
 use Rattle.cyc_expected.specs.Expected.{Met, event_of, events_of, clock_after, reprogrammed}
 use Rattle.cyc_thread_calls.specs.SystemRemoval.{SystemRemoval}
 use Rattle.cyc_thread_calls.specs.Calls.{Add, AddOmni, BeginRemove}
-use Rattle.cyc_thread_calls.specs.Calls.{Offline, Online}
+use Rattle.cyc_thread_calls.specs.Calls.{Offline, Online, reprograms}
 use Rattle.cyc_thread_calls.specs.SystemRingsLeading.{LeadCall, Make}
 use Rattle.cyc_thread_calls.specs.Events.{event_in, events_in}
-use Rattle.cyc_thread_calls.specs.Words.{reprograms}
 use Rattle.cyc_thread_calls.specs.Leading.{calls_in}
 use Rattle.cyc_thread_calls.specs.Meeting.{is_taken}
 

@@ -16,12 +16,13 @@ use Rattle.cyc_expected.specs.Course.{Event, Passes, Told, told_after, told_by}
 use Rattle.cyc_expected.specs.Expected.{clock_after, events_of}
 use Rattle.cyc_thread_calls.specs.SystemRemoval.{SystemRemoval}
 use Rattle.cyc_thread_calls.specs.Calls.{SystemCall, Add, AddOmni, Bind, BeginRemove, PollRemove, Juggle, Offline, Online}
+use Rattle.cyc_thread_calls.specs.Calls.{reprograms}
 use Rattle.cyc_thread_calls.specs.SystemRingsLeading.{LeadCall, Make, AskAll}
 use Rattle.cyc_thread_calls.specs.Events.{event_in, events_in}
 use Rattle.cyc_thread_calls.specs.Progress.{Progress}
 use Rattle.cyc_thread_calls.specs.Names.{named_at, id_of}
 use Rattle.cyc_thread_calls.specs.StepCalls.{CallsFor, Poll, Polls, Waits}
-use Rattle.cyc_thread_calls.specs.Words.{WithId, reprograms, Does, Begins, waits_first}
+use Rattle.cyc_thread_calls.specs.Words.{WithId, Does, Begins, waits_first}
 use Rattle.cyc_thread_calls.specs.Steps.{TakesSteps}
 use Rattle.cyc_thread_calls.specs.Leading.{calls_in, poll_calls, wait_calls, begin_calls, call_with, call_of, steps_calls}
 use Rattle.cyc_thread_calls.specs.Meeting.{is_taken, accepted, steps_met}

@@ -14,14 +14,14 @@ use Rattle.cyc_script.specs.declared.step.Step.{Step}
 use Rattle.cyc_script.specs.declared.step.Step.TheVariants as steps
 use Rattle.cyc_script.specs.WellFormed.{names_after, name_fits, names_fit}
 use Rattle.cyc_thread_calls.specs.System.{SystemView}
-use Rattle.cyc_thread_calls.specs.Calls.{SystemCall, Changes, Add, AddOmni, Bind, BeginRemove, PollRemove}
+use Rattle.cyc_thread_calls.specs.Calls.{SystemCall, Changes, Add, AddOmni, Bind, BeginRemove, PollRemove, reprograms}
 use Rattle.cyc_thread_calls.proofs.Pieces.{made_of}
 use Rattle.cyc_thread_calls.specs.SystemRingsLeading.{LeadCall, Make}
 use Rattle.cyc_thread_calls.proofs.Singles.{ok_err}
 use Rattle.cyc_thread_calls.specs.Progress.{Progress}
 use Rattle.cyc_thread_calls.specs.Names.{named_at, id_of}
 use Rattle.cyc_thread_calls.specs.StepCalls.{CallsFor, Poll, Polls}
-use Rattle.cyc_thread_calls.specs.Words.{WithId, reprograms, Does, Begins, waits_first}
+use Rattle.cyc_thread_calls.specs.Words.{WithId, Does, Begins, waits_first}
 use Rattle.cyc_thread_calls.specs.Steps.{TakesSteps}
 use Rattle.cyc_thread_calls.specs.Leading.{call_of}
 use Rattle.cyc_thread_calls.specs.Giving.{given_by}

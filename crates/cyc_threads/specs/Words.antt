@@ -8,8 +8,7 @@ use Rattle.cyc_types.specs.declared.refusal.Refusal.{Refusal}
 use Rattle.cyc_script.specs.declared.step.Step.{Step}
 use Rattle.cyc_script.specs.declared.step.Step.TheVariants as steps
 use Rattle.cyc_system_laws.specs.SystemRemoval.{SystemRemoval}
-use Rattle.cyc_system_workers.specs.Calls.{SystemCall, Add, AddOmni, Bind, BeginRemove, Reprogram, ReprogramOn, Juggle, Offline}
-use Rattle.cyc_system_workers.specs.Calls.{Online}
+use Rattle.cyc_system_workers.specs.Calls.{Add, AddOmni, Bind, BeginRemove, Juggle, Offline, Online, reprograms}
 use Rattle.cyc_threads.specs.declared.progress.Progress.{Progress}
 use Rattle.cyc_threads.specs.Names.{named_at, id_of}
 use Rattle.cyc_threads.specs.StepCalls.{CallsFor, Waits, Fires}
@@ -28,11 +27,6 @@ WithMoment number Does Nothing = ((moment : ℕ) × (pos moment ≡ number) × D
 abbrev pub WithId : Option ℕ → (ℕ → Type 0) → Type 0 → Type 0
 WithId (Some id) Does Nothing = Does id
 WithId None Does Nothing = Nothing
-
--- a cyclic gets another next expiration, or its component on the CPU where the step names one
-abbrev pub reprograms : Option ℕ → ℕ → ℕ → Result (Unit {0}) Refusal → SystemCall
-reprograms None id moment answer = Reprogram id moment answer
-reprograms (Some n) id moment answer = ReprogramOn id n moment answer
 
 -- The call that a step makes, at the clock, and its answer. A `softint` makes none: other threads drain the levels. The answer to
 -- a call for a CPU tells no name anything, so none is meant by the 0.

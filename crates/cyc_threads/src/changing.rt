@@ -3,9 +3,9 @@
 ghost use Rattle.cyc_script.specs.declared.step.Step.TheVariants as steps;
 ghost use Rattle.std.specs.Prelude.{◌≡◌, Option, Result};
 ghost use Rattle.cyc_types.specs.declared.refusal.Refusal.{Refusal as AnyRefusal};
-ghost use Rattle.cyc_system_workers.specs.Calls.{Changes};
+ghost use Rattle.cyc_system_workers.specs.Calls.{Changes, reprograms};
 ghost use Rattle.cyc_threads.specs.Names.{named_at, id_of};
-ghost use Rattle.cyc_threads.specs.Words.{Does, reprograms};
+ghost use Rattle.cyc_threads.specs.Words.{Does};
 
 use crate::named::Named;
 use crate::progress::{Progress, sound};

@@ -3,9 +3,8 @@ use Rattle.std.specs.Prelude.{Ok, Err}
 use Rattle.std.proofs.lemmas.Result.{err_from_is_err_and}
 use Rattle.cyc_script.specs.declared.step.Step.TheVariants as steps
 use Rattle.cyc_system.specs.System.{running_system}
-use Rattle.cyc_system.specs.Calls.{Changes}
+use Rattle.cyc_system.specs.Calls.{Changes, reprograms}
 use Rattle.cyc_cpu.specs.Soft.{raise_tables}
-use Rattle.cyc_replay.specs.SystemWords.{reprograms}
 use Rattle.cyc_cpu_model.specs.Answers.{IsRefused}
 use Rattle.cyc_model.specs.Questions.{plain}
 use Rattle.cyc_model.specs.Script.{refusal_of}
