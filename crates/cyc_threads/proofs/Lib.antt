@@ -5,6 +5,7 @@ mod Refusing
 mod Telling
 pub mod Quiet
 pub mod Following
+pub mod KeepingSeats
 pub mod Seats
 pub mod First
 pub mod Workers

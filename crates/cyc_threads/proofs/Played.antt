@@ -12,8 +12,8 @@ use Rattle.cyc_cpu.specs.Cpu.{IsFresh}
 use Rattle.cyc_workers.specs.declared.settling.Lead.{Lead}
 use Rattle.cyc_agreement.specs.Cpus.{CpusView, new_cpus}
 use Rattle.cyc_script.specs.declared.script.Script.{Script}
-use Rattle.cyc_seats.specs.Seats.{HaveSameSeats}
-use Rattle.cyc_seats.proofs.Keeping.{then_all, same_long}
+use Rattle.cyc_threads.specs.SameSeats.{HaveSameSeats}
+use Rattle.cyc_threads.proofs.KeepingSeats.{then_all, same_long}
 use Rattle.cyc_soft.specs.declared.SoftSide.{SoftSide}
 use Rattle.cyc_thread_rings.specs.declared.levels.Levels.{Levels}
 use Rattle.cyc_thread_rings.specs.declared.levels.Seated.{Seated}

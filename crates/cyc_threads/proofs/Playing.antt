@@ -17,7 +17,7 @@ use Rattle.cyc_agreement.specs.Cpus.{new_cpu}
 use Rattle.cyc_soft.specs.declared.SoftSide.{SoftSide}
 use Rattle.cyc_workers.specs.Serving.{HasServed}
 use Rattle.cyc_workers.proofs.Seating.{serves_seat, drains_same, raise_seat_of, drain_seat_of}
-use Rattle.cyc_seats.specs.Seats.{HasSameSeats, HaveSameSeats}
+use Rattle.cyc_threads.specs.SameSeats.{HasSameSeats, HaveSameSeats}
 use Rattle.cyc_thread_rings.specs.declared.levels.Levels.{Levels}
 use Rattle.cyc_thread_rings.specs.declared.levels.Seated.{Seated}
 use Rattle.cyc_thread_rings.specs.declared.attaching.Attached.{Attached}

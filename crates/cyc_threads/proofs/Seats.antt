@@ -6,8 +6,8 @@ use Rattle.cyc_ring.specs.Ends.{raise_end, end_view}
 use Rattle.cyc_script.specs.declared.step.Step.{Step}
 use Rattle.cyc_system_workers.specs.Calls.{SystemCall}
 use Rattle.cyc_system_workers.specs.declared.side.SystemSide.{SystemSide}
-use Rattle.cyc_seats.specs.Seats.{HaveSameSeats}
-use Rattle.cyc_seats.proofs.Keeping.{same_all, then_all, called_all, asked_all, fired_all, same_long}
+use Rattle.cyc_threads.specs.SameSeats.{HaveSameSeats}
+use Rattle.cyc_threads.proofs.KeepingSeats.{same_all, then_all, called_all, asked_all, fired_all, same_long}
 use Rattle.cyc_threads.specs.declared.progress.Progress.{Progress}
 use Rattle.cyc_threads.specs.declared.counting.Line.{Line}
 use Rattle.cyc_system_laws.specs.Sound.{IsSound}

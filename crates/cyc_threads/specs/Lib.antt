@@ -1,4 +1,5 @@
 pub mod Names
+pub mod SameSeats
 pub mod StepCalls
 pub mod Words
 pub mod Steps

@@ -2,7 +2,7 @@ use Rattle.std.proofs.Common.{List, sym, ap, ◌∙◌, map, length}
 use Rattle.cyc_ring.specs.declared.ends.RaiseEnd.{RaiseEnd}
 use Rattle.cyc_cpu.specs.Cpu.{CpuView}
 use Rattle.cyc_thread_rings.specs.Rings.{seats_on}
-use Rattle.cyc_seats.proofs.Keeping.{same_long}
+use Rattle.cyc_threads.proofs.KeepingSeats.{same_long}
 use Rattle.cyc_threads.proofs.Seats.{reports_keep}
 use Rattle.cyc_threads.proofs.running.leave_rings.Goals as goal
 

@@ -1,4 +1,4 @@
-//! The law of the seats of a system's rings.
+//! The law of the seats of a system's rings: each CPU keeps its two.
 
 ghost use Rattle.std.specs.Prelude.{◌≡◌, ℕ, List, length};
 ghost use Rattle.cyc_ring.specs.declared.ends.RaiseEnd.{RaiseEnd};
@@ -10,7 +10,7 @@ ghost use Rattle.cyc_system_workers.specs.Calls.{SystemCall, Changes};
 ghost use Rattle.cyc_system_workers.specs.declared.side.SystemSide.{SystemSide};
 ghost use Rattle.cyc_system_workers.specs.declared.advancing.Advanced.{Advanced};
 ghost use Rattle.cyc_system_workers.specs.Advancing.{AllFire};
-ghost use Rattle.cyc_seats.specs.Seats.{HaveSameSeats};
+ghost use Rattle.cyc_threads.specs.SameSeats.{HaveSameSeats};
 
 use cyc_types::Calls;
 

@@ -24,7 +24,7 @@ use Rattle.cyc_system_laws.proofs.Spots.{same_some}
 use Rattle.cyc_system_workers.specs.declared.side.SystemSide.{SystemSide}
 use Rattle.cyc_system_workers.specs.declared.advancing.Advanced.{Advanced}
 use Rattle.cyc_system_workers.specs.Advancing.{AllFire, moment_asked, FiresIf}
-use Rattle.cyc_seats.specs.Seats.{HasSameSeats, HaveSameSeats}
+use Rattle.cyc_threads.specs.SameSeats.{HasSameSeats, HaveSameSeats}
 
 same_one : (x : CpuView RaiseEnd) → HasSameSeats x x
 same_one x = ((refl, refl), (refl, refl))

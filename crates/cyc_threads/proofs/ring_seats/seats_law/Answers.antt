@@ -1,5 +1,5 @@
-use Rattle.cyc_seats.proofs.Keeping.{same_all, then_all, called_all, asked_all, fired_all}
-use Rattle.cyc_seats.proofs.laws.seats_law.Goals as goal
+use Rattle.cyc_threads.proofs.KeepingSeats.{same_all, then_all, called_all, asked_all, fired_all}
+use Rattle.cyc_threads.proofs.ring_seats.seats_law.Goals as goal
 
 pub returns-clause-none : goal.returns-clause-none
 returns-clause-none g c = same_all
