@@ -29,6 +29,7 @@ use cyc_thread_rings::{
     open_rings, prepare, seat_all, unseat_all,
 };
 use cyc_types::{Calls, Refusal};
+use cyc_workers::SoftSide;
 use std::alloc::{AllocError, Global};
 use std::sync::Wait;
 use std::thread::Threads;
@@ -49,6 +50,26 @@ pub struct Played<C> {
     pub lines: Vec<Line>,
 }
 
+/// What the CPUs leave: the lead's side, CPU after CPU, with the soft sides. Its memory may be refused.
+fn leave_cpus<'a, C: Calls + Drop>(
+    alloc: Global,
+    lead: Progress<RaiseEnd<'a>, C>,
+    soft: Vec<Levels<SoftSide<DrainEnd<'a>, C>>>,
+) -> Result<Vec<Seated<C>>, AllocError>
+    requires ready { IsReady lead }
+    requires soft { length soft.items ≡ length lead.side.system.cpus.cpus }
+    ensures last { IfOk result (λ all. IsAtLast all.items lead.entry) }
+    ensures soft { IfOk result (λ all. map soft_seats all.items ≡ map soft_seats_on soft.entry.items) }
+{
+    let Progress {
+        side,
+        clock: _,
+        names: _,
+    } = lead;
+    let SystemSide { system, leads } = side;
+    leave_all(alloc, system.split().1, leads, soft)
+}
+
 /// What all workers left, without their ends.
 fn leave_rings<'a, C: Calls + Drop>(
     alloc: Global,
@@ -65,14 +86,7 @@ fn leave_rings<'a, C: Calls + Drop>(
     let Worked { lead, soft } = worked;
     let mut lead = lead;
     let lines = report(alloc, &mut lead)?;
-    let Progress {
-        side,
-        clock: _,
-        names: _,
-    } = lead;
-    let SystemSide { system, leads } = side;
-    let hards = system.split().1;
-    let all = leave_all(alloc, hards, leads, soft)?;
+    let all = leave_cpus(alloc, lead, soft)?;
     Ok(Played { all, lines })
 }
 
