@@ -1,6 +1,5 @@
 pub mod Composing
 pub mod Expiring
-pub mod Fresh
 pub mod HandingOut
 pub mod Taking
 pub mod WholeFire

@@ -1,5 +1,6 @@
 pub mod Cyclics
 pub mod Entering
+pub mod Fresh
 pub mod Softs
 pub mod Idling
 pub mod Cleared

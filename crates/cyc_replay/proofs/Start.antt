@@ -11,6 +11,7 @@ use Rattle.cyc_level.specs.Level.{SoftLevel, empty_level}
 use Rattle.cyc_core.specs.FiringSide.{firing_view}
 use Rattle.cyc_core.specs.Tables.{Tables, level_of}
 use Rattle.cyc_cpu.specs.Cpu.{IsFresh}
+use Rattle.cyc_cpu.proofs.Fresh.{empty_is_fresh}
 use Rattle.cyc_cpu.specs.Soft.{firing_at}
 use Rattle.cyc_model.specs.Script.{start}
 use Rattle.cyc_replay.specs.Shown.{ShowsSystem, IsSystem}
@@ -26,6 +27,7 @@ use mathlib.Core.Logic.{dite}
 use native.Mathlib.Decide.{ℕ_discrete}
 use Rattle.cyc_types.specs.declared.refusal.Refusal.{Refusal}
 use Rattle.cyc_types.specs.declared.refusal.Refusal.TheVariants.{Memory}
+use Rattle.cyc_types.specs.Pairs.{EachTwo}
 use Rattle.cyc_cpu.specs.Cpu.{CpuView, size_for, HasRisingIds}
 use Rattle.cyc_cpu.specs.Calls.{Reserve, Changes}
 use Rattle.cyc_cpu.specs.Soft.{raise_tables}
@@ -40,22 +42,16 @@ use Rattle.cyc_system.specs.System.{SystemView}
 use Rattle.cyc_system.specs.Agreement.{Agrees}
 use Rattle.cyc_system.proofs.Spots.{same_some, none_some}
 use Rattle.cyc_model.specs.State.{State}
-use Rattle.cyc_system.specs.Splitting.{EachTwo, GoesOn, IsSameEnd, index_of, AllComeBack}
+use Rattle.cyc_system.specs.Splitting.{GoesOn, IsSameEnd, index_of, AllComeBack}
 use Rattle.cyc_replay.specs.Room.{HaveAllRoom}
 use Rattle.cyc_replay.specs.Shown.{shown_list, shown_record, AllFull}
-
--- an empty level as its firing side sees it
-fresh : (ceiling : ℕ) (l : SoftLevel) → l ≡ empty_level ceiling → IsFresh (firing_view l)
-fresh ceiling l is = subst (λ (k : SoftLevel). IsFresh (firing_view k)) (sym is)
-    (record { none = λ id. refl; unmarked = refl; bank = refl; free = refl })
 
 pub fresh_levels : (ceiling : ℕ) (ends : List (Tables × Tables)) → AreNew ceiling ends
     → All (λ e. IsFresh (firing_at e.0) × IsFresh (firing_at e.1)) ends
 fresh_levels ceiling ends new k d low =
     let own = new k d low in (
-      fresh ceiling (level_of (get_or ends k d).0) own.0,
-      fresh ceiling
-          (level_of (get_or ends k d).1) own.1,
+      empty_is_fresh ceiling (level_of (get_or ends k d).0) own.0,
+      empty_is_fresh ceiling (level_of (get_or ends k d).1) own.1,
     )
 
 pub one_more_new : (ceiling : ℕ) (ends : List (Tables × Tables)) (e : Tables × Tables) → AreNew ceiling ends

@@ -1,4 +1,4 @@
-use Rattle.bench_cpu.proofs.Fresh.{empty_is_fresh}
+use Rattle.cyc_cpu.proofs.Fresh.{empty_is_fresh}
 use Rattle.bench_cpu.proofs.opened.Goals as goal
 
 pub new-requires-4-clause-lock : goal.new-requires-4-clause-lock

@@ -1,4 +1,4 @@
-use Rattle.cyc_border.proofs.Fresh.{empty_is_fresh}
+use Rattle.cyc_cpu.proofs.Fresh.{empty_is_fresh}
 use Rattle.cyc_border.proofs.opening.opened.Goals as goal
 
 pub new-requires-3-clause-lock : goal.new-requires-3-clause-lock

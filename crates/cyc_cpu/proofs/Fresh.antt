@@ -1,6 +1,6 @@
 -- An empty level is a fresh end of a CPU.
 use Rattle.std.proofs.Common.{◌≡◌, ℕ, refl, sym, subst}
-use Rattle.cyc_level.specs.Level.{SoftLevel, empty_level}
+use Rattle.cyc_core.specs.Level.{SoftLevel, empty_level}
 use Rattle.cyc_core.specs.FiringSide.{firing_view}
 use Rattle.cyc_cpu.specs.Cpu.{IsFresh}
 
