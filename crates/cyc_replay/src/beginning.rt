@@ -3,9 +3,9 @@
 ghost use Rattle.std.specs.Prelude.{◌≡◌, ◌≤◌, All, None, length, replicate, IfOk, IfErr, OnOk};
 ghost use Rattle.cyc_types.specs.declared.refusal.Refusal.TheVariants.{Memory};
 ghost use Rattle.cyc_types.specs.Tally.{tally_made};
+ghost use Rattle.cyc_types.specs.Pairs.{EachTwo};
 ghost use Rattle.cyc_script.specs.Limits.{most_cpus, most_steps};
 ghost use Rattle.cyc_model.specs.Script.{start};
-ghost use Rattle.cyc_system.specs.Splitting.{EachTwo};
 ghost use Rattle.cyc_replay.specs.Kept.{AreNew};
 ghost use Rattle.cyc_replay.specs.Machine.{Holds};
 ghost use Rattle.cyc_replay.specs.Beginning.{IsEmpty, HasReserved};

@@ -19,13 +19,14 @@ use Rattle.cyc_cpu_laws.specs.Quiet.{LoadsThenLooks}
 use Rattle.cyc_types.specs.Expirations as expire
 use Rattle.cyc_types.specs.Expirations.{Expiration, expirations, times_of, all_after}
 use Rattle.cyc_types.specs.Timers.{Timer}
+use Rattle.cyc_types.specs.Pairs.{EachTwo}
 use Rattle.cyc_agreement.specs.Rows.{Cyclic, timers}
 use Rattle.cyc_cpu_laws.specs.Cpu.{CpuView, Running, SameCpu}
 use Rattle.cyc_cpu_laws.specs.Laws.{IsLawful}
 use Rattle.cyc_cpu_laws.specs.Losses.{IsUnder, IsSpared}
 use Rattle.cyc_cpu_laws.specs.Moving.{Inquires}
 use Rattle.cyc_cpu_laws.specs.Calls.{Changes, Does, Fire, AskSettled, no_interrupts}
-use Rattle.cyc_system.specs.Splitting.{EachTwo, GoesOn, IsSameEnd, ComesBack, AllComeBack}
+use Rattle.cyc_system.specs.Splitting.{GoesOn, IsSameEnd, ComesBack, AllComeBack}
 
 -- ---- two lists
 

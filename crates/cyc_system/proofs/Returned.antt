@@ -3,12 +3,13 @@ use Rattle.std.proofs.Common.{◌≡◌, ℕ, zero, suc, Option, Some, List, [],
 use Rattle.std.specs.List.{slice_get}
 use Rattle.std.specs.Option.{option_map_or, option_and_then}
 use Rattle.cyc_types.specs.Firing.{FiringView}
+use Rattle.cyc_types.specs.Pairs.{EachTwo}
 use Rattle.cyc_agreement.specs.Rows.{Cyclic}
 use Rattle.cyc_cpu_laws.specs.Cpu.{CpuView}
 use Rattle.cyc_agreement.specs.Cpus.{CpusView}
 use Rattle.cyc_agreement.specs.System.{ids_of}
 use Rattle.cyc_agreement.proofs.Who.{SameWho, id_in}
-use Rattle.cyc_system.specs.Splitting.{EachTwo, GoesOn, ComesBack, AllComeBack}
+use Rattle.cyc_system.specs.Splitting.{GoesOn, ComesBack, AllComeBack}
 
 pub each_long : {A : Type 0} (P : A → A → Type 0) (xs ys : List A) → EachTwo P xs ys → length ys ≡ length xs
 each_long P [] [] h = refl

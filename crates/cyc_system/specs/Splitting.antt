@@ -1,17 +1,11 @@
 -- What becomes of the firing sides of a system's CPUs while they are away from it.
-use Rattle.std.specs.Prelude.{◌≡◌, ℕ, ◌≤◌, List, [], ◌∷◌, Option}
+use Rattle.std.specs.Prelude.{◌≡◌, ℕ, ◌≤◌, List, Option}
 use Rattle.std.specs.Option.{option_map}
 use Rattle.cyc_types.specs.Firing.{FiringView}
+use Rattle.cyc_types.specs.Pairs.{EachTwo}
 use Rattle.cyc_agreement.specs.Rows.{Cyclic}
 use Rattle.cyc_cpu_laws.specs.Cpu.{CpuView}
 use Rattle.cyc_cpu_laws.specs.Losses.{IsUnder}
-
--- two lists are of one length, and this holds of each two elements at one place
-abbrev pub EachTwo : {A : Type 0} → (A → A → Type 0) → List A → List A → Type 0
-EachTwo P [] [] = Unit {0}
-EachTwo P [] (y ∷ ys) = ⊥
-EachTwo P (x ∷ xs) [] = ⊥
-EachTwo P (x ∷ xs) (y ∷ ys) = P x y × EachTwo P xs ys
 
 -- The cyclic has its id, its level and its interval, and its counts are no smaller. One that had lost nothing has lost nothing
 -- yet where its expirations are at most the ceiling of its level.

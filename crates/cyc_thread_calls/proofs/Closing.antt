@@ -10,6 +10,7 @@ use Rattle.cyc_types.specs.declared.level.Level.{Level}
 use Rattle.cyc_types.specs.declared.level.Level.TheVariants.{Low, Lock, High}
 use Rattle.cyc_types.specs.declared.level.Soft.{Soft}
 use Rattle.cyc_types.specs.declared.level.Soft.TheVariants as soft
+use Rattle.cyc_types.specs.Pairs.{EachTwo}
 use Rattle.ring_rule.specs.Conservation.{IsAccounted}
 use Rattle.cyc_ring.specs.declared.closed.Closed.{Closed}
 use Rattle.cyc_ring.specs.declared.ends.RaiseEnd.{RaiseEnd}
@@ -29,7 +30,7 @@ use Rattle.cyc_system_expected.proofs.AtRings.{at_level as each_level, high_keep
 use Rattle.cyc_system_expected.specs.Events.{AcceptedSteps}
 use Rattle.cyc_threads.specs.Levels.{Levels}
 use Rattle.cyc_threads.specs.Seated.{Seated}
-use Rattle.cyc_threads.specs.Laid.{EachTwo, two}
+use Rattle.cyc_threads.specs.Laid.{two}
 use Rattle.cyc_threads.specs.Rings.{IsClosed, AreClosed as AreLeft, firing_seats, seats_on}
 use Rattle.cyc_threads.proofs.Quiet.{lines_quiet}
 use Rattle.cyc_threads.specs.declared.running.Ended.{Ended}

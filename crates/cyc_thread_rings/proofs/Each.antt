@@ -2,7 +2,7 @@
 use Rattle.std.proofs.Common.{◌≡◌, ℕ, suc, ◌+◌, ◌<◌, List, [], ◌∷◌, ◌++◌, refl, sym, ap, subst, ◌∙◌, length, map, get_or}
 use Rattle.std.proofs.Common.{append_assoc, arith}
 use Rattle.std.proofs.lemmas.List.{map-append, length-append, length-map}
-use Rattle.cyc_thread_rings.specs.Laid.{EachTwo}
+use Rattle.cyc_types.specs.Pairs.{EachTwo}
 
 module _ {A B : Type 0} (P : A → B → Type 0) where
   pub each_long : (xs : List A) (ys : List B) → EachTwo P xs ys → length ys ≡ length xs

@@ -1,7 +1,7 @@
 //! The seats of a system's rings go under ends, and come out again.
 
 ghost use Rattle.std.specs.Prelude.{◌≡◌, map, IfOk};
-ghost use Rattle.cyc_thread_rings.specs.Laid.{EachTwo};
+ghost use Rattle.cyc_types.specs.Pairs.{EachTwo};
 ghost use Rattle.cyc_thread_rings.specs.Rings.{AreSeated, IsAttached};
 
 use crate::levels::{Levels, Seated};

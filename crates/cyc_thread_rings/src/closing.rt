@@ -1,7 +1,8 @@
 //! All rings of a system are closed.
 
 ghost use Rattle.std.specs.Prelude.{◌≡◌, flat_map, IfOk};
-ghost use Rattle.cyc_thread_rings.specs.Laid.{EachTwo, two};
+ghost use Rattle.cyc_types.specs.Pairs.{EachTwo};
+ghost use Rattle.cyc_thread_rings.specs.Laid.{two};
 ghost use Rattle.cyc_thread_rings.specs.Rings.{IsSeated, AreSeated, IsClosed, AreClosed};
 
 use crate::levels::Levels;

@@ -2,7 +2,7 @@
 
 ghost use Rattle.std.specs.Prelude.{◌≡◌, length, All, IfOk, IfErr};
 ghost use Rattle.cyc_types.specs.declared.refusal.Refusal.TheVariants.{Memory};
-ghost use Rattle.cyc_thread_rings.specs.Laid.{EachTwo};
+ghost use Rattle.cyc_types.specs.Pairs.{EachTwo};
 ghost use Rattle.cyc_thread_rings.specs.Rings.{IsSeated, AreSeated, IsNew, AreNew, BeginsAt, BeginAt};
 
 use crate::levels::Levels;

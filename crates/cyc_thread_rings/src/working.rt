@@ -3,8 +3,8 @@
 ghost use Rattle.std.specs.Prelude.{◌≡◌, ◌≤◌, [], map, length, vec_capacity, IfOk, IfErr, OnOk};
 ghost use Rattle.cyc_types.specs.declared.refusal.Refusal.TheVariants.{Memory};
 ghost use Rattle.cyc_types.specs.Levels.{as_level, handler_at};
+ghost use Rattle.cyc_types.specs.Pairs.{EachTwo};
 ghost use Rattle.cyc_workers.specs.Draining.{HasDrained};
-ghost use Rattle.cyc_thread_rings.specs.Laid.{EachTwo};
 ghost use Rattle.cyc_thread_rings.specs.Working.{sides_of, both_sides, HasPromised, HaveKept};
 
 use crate::levels::Levels;

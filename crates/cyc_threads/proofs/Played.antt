@@ -4,6 +4,7 @@ use Rattle.std.specs.Prelude.{All, replicate, Result, Ok, Err, IfOk}
 use Rattle.std.proofs.lemmas.List.{length-map}
 use Rattle.cyc_types.specs.declared.Calls.{Ghosts as Calls}
 use Rattle.cyc_types.specs.declared.refusal.Refusal.{Refusal}
+use Rattle.cyc_types.specs.Pairs.{EachTwo}
 use Rattle.cyc_ring.specs.declared.ring.Ring.{Ring}
 use Rattle.cyc_ring.specs.declared.ends.RaiseEnd.{RaiseEnd}
 use Rattle.cyc_ring.specs.declared.ends.DrainEnd.{DrainEnd}
@@ -18,7 +19,6 @@ use Rattle.cyc_soft.specs.declared.SoftSide.{SoftSide}
 use Rattle.cyc_thread_rings.specs.declared.levels.Levels.{Levels}
 use Rattle.cyc_thread_rings.specs.declared.levels.Seated.{Seated}
 use Rattle.cyc_thread_rings.specs.declared.attaching.Attached.{Attached}
-use Rattle.cyc_thread_rings.specs.Laid.{EachTwo}
 use Rattle.cyc_thread_rings.specs.Rings.{AreSeated, AreNew, IsAttached, seats_of_ends, firing_seats, seats_on, soft_seats}
 use Rattle.cyc_thread_rings.specs.Rings.{soft_seats_on}
 use Rattle.cyc_thread_rings.proofs.Each.{each_long}

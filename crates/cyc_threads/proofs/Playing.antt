@@ -6,6 +6,7 @@ use Rattle.std.proofs.lemmas.List.Elements.{All-nil, All-cons}
 use Rattle.cyc_types.specs.declared.Calls.{Ghosts as Calls}
 use Rattle.cyc_types.specs.Levels.{at_level, handler_at}
 use Rattle.cyc_types.specs.declared.level.Level.TheVariants.{Low, Lock}
+use Rattle.cyc_types.specs.Pairs.{EachTwo}
 use Rattle.ring_rule.specs.declared.RaiseStep.{RaiseStep}
 use Rattle.cyc_ring.specs.declared.ring.Ring.{Ring}
 use Rattle.cyc_ring.specs.declared.ends.RaiseEnd.{RaiseEnd}
@@ -21,7 +22,6 @@ use Rattle.cyc_threads.specs.SameSeats.{HasSameSeats, HaveSameSeats}
 use Rattle.cyc_thread_rings.specs.declared.levels.Levels.{Levels}
 use Rattle.cyc_thread_rings.specs.declared.levels.Seated.{Seated}
 use Rattle.cyc_thread_rings.specs.declared.attaching.Attached.{Attached}
-use Rattle.cyc_thread_rings.specs.Laid.{EachTwo}
 use Rattle.cyc_thread_rings.specs.Rings.{AreSeated, AreNew, IsAttached, seats_of_ends, firing_seats, seats_on, soft_seats}
 use Rattle.cyc_thread_rings.specs.Rings.{soft_seats_on}
 use Rattle.cyc_threads.specs.Running.{HaveServed, most}

@@ -4,6 +4,7 @@ use Rattle.std.specs.Prelude.{All, flat_map, string_bytes}
 use Rattle.std.proofs.lemmas.List.{length-map}
 use Rattle.cyc_types.specs.declared.Calls.{Ghosts as Calls}
 use Rattle.cyc_types.specs.declared.refusal.Refusal.{Refusal}
+use Rattle.cyc_types.specs.Pairs.{EachTwo}
 use Rattle.cyc_ring.specs.declared.closed.Closed.{Closed}
 use Rattle.cyc_ring.specs.declared.ring.Ring.{Ring}
 use Rattle.cyc_script.specs.declared.script.Script.{Script}
@@ -11,7 +12,7 @@ use Rattle.cyc_workers.specs.declared.cpu.Handlers.{Handlers}
 use Rattle.cyc_workers.specs.declared.cpu.Seats.{Seats}
 use Rattle.cyc_thread_rings.specs.declared.levels.Levels.{Levels}
 use Rattle.cyc_thread_rings.specs.declared.levels.Seated.{Seated}
-use Rattle.cyc_thread_rings.specs.Laid.{EachTwo, three, two}
+use Rattle.cyc_thread_rings.specs.Laid.{three, two}
 use Rattle.cyc_thread_rings.specs.Rings.{AreNew, AreClosed, AreSeated}
 use Rattle.cyc_threads.specs.declared.counting.Line.{Line}
 use Rattle.cyc_threads.specs.declared.running.Ended.{Ended}

@@ -14,6 +14,7 @@ use Rattle.cyc_types.specs.declared.level.Level.TheVariants.{Low, Lock}
 use Rattle.cyc_types.specs.declared.level.Soft.TheVariants as soft
 use Rattle.cyc_types.specs.declared.refusal.Refusal.{Refusal}
 use Rattle.cyc_types.specs.declared.refusal.Refusal.TheVariants.{Memory, HandlerRefused}
+use Rattle.cyc_types.specs.Pairs.{EachTwo}
 use Rattle.cyc_soft.specs.declared.SoftRefused.{SoftRefused}
 use Rattle.cyc_script.specs.declared.step.Step.{Step}
 use Rattle.cyc_soft.specs.declared.SoftSide.{SoftSide}
@@ -25,7 +26,6 @@ use Rattle.cyc_workers.proofs.Making.{looked_makes}
 use Rattle.cyc_workers.proofs.Joining.{joined}
 use Rattle.cyc_thread_rings.specs.declared.levels.Levels.{Levels}
 use Rattle.cyc_thread_rings.specs.declared.refusing.Fire.{Fire}
-use Rattle.cyc_thread_rings.specs.Laid.{EachTwo}
 use Rattle.cyc_thread_rings.specs.Working.{HasPromised, HaveKept, HaveDrained, both_sides}
 use Rattle.cyc_thread_rings.specs.Refusing.{of_fire, of_level, refusals_from, first_in}
 use Rattle.cyc_thread_rings.proofs.Each.{each_then}

@@ -4,6 +4,7 @@ use Rattle.cyc_types.specs.declared.Calls.{Ghosts as Calls}
 use Rattle.cyc_types.specs.Levels.{at_level}
 use Rattle.cyc_types.specs.declared.level.Level.{Level}
 use Rattle.cyc_types.specs.declared.level.Level.TheVariants.{Low, Lock}
+use Rattle.cyc_types.specs.Pairs.{EachTwo}
 use Rattle.cyc_ring.specs.declared.ends.RaiseEnd.{RaiseEnd}
 use Rattle.cyc_ring.specs.declared.closed.Closed.{Closed}
 use Rattle.cyc_ring.specs.Ends.{raise_end, seat_made}
@@ -12,7 +13,7 @@ use Rattle.cyc_script.specs.declared.script.Script.{Script}
 use Rattle.cyc_workers.specs.Serving.{HasServed}
 use Rattle.cyc_thread_rings.specs.declared.levels.Levels.{Levels}
 use Rattle.cyc_thread_rings.specs.declared.levels.Seated.{Seated}
-use Rattle.cyc_thread_rings.specs.Laid.{EachTwo, three, two}
+use Rattle.cyc_thread_rings.specs.Laid.{three, two}
 use Rattle.cyc_thread_rings.specs.Rings.{AreNew, AreClosed, seats_of_ends, firing_seats, seats_on}
 use Rattle.cyc_threads.specs.declared.named.Named.TheVariants.{Nothing}
 use Rattle.cyc_threads.specs.declared.progress.Progress.{Progress}

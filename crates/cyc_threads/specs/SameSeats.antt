@@ -1,9 +1,9 @@
 -- The seats of a system's rings.
 use Rattle.std.specs.Prelude.{List}
+use Rattle.cyc_types.specs.Pairs.{EachTwo}
 use Rattle.cyc_ring.specs.declared.ends.RaiseEnd.{RaiseEnd}
 use Rattle.cyc_ring.specs.Ends.{IsSameRaiseSeat}
 use Rattle.cyc_system_laws.specs.Cpu.{CpuView}
-use Rattle.cyc_system_workers.specs.Splitting.{EachTwo}
 
 -- the CPU has the seats of the same two rings
 abbrev pub HasSameSeats : CpuView RaiseEnd → CpuView RaiseEnd → Type 0

@@ -7,6 +7,7 @@ use Rattle.cyc_types.specs.Levels.{handler_at}
 use Rattle.cyc_types.specs.declared.level.Level.TheVariants.{Low, Lock}
 use Rattle.cyc_types.specs.declared.refusal.Refusal.{Refusal}
 use Rattle.cyc_types.specs.declared.refusal.Refusal.TheVariants.{Memory, HandlerRefused}
+use Rattle.cyc_types.specs.Pairs.{EachTwo}
 use Rattle.cyc_script.specs.declared.step.Step.{Step}
 use Rattle.cyc_soft.specs.declared.SoftSide.{SoftSide}
 use Rattle.cyc_workers.specs.declared.draining.Drained.{Drained}
@@ -15,7 +16,6 @@ use Rattle.cyc_threads.specs.declared.halt.Halt.TheVariants as halt
 use Rattle.cyc_workers.specs.Draining.{Makes}
 use Rattle.cyc_workers.specs.Refusals.{HandlerRefuses}
 use Rattle.cyc_thread_rings.specs.declared.levels.Levels.{Levels}
-use Rattle.cyc_thread_rings.specs.Laid.{EachTwo}
 use Rattle.cyc_thread_rings.specs.Refusing.{refusals_from, first_in}
 use Rattle.cyc_threads.specs.declared.progress.Progress.{Progress}
 use Rattle.cyc_threads.specs.Steps.{Runs, IsHalted}

@@ -3,10 +3,10 @@
 ghost use Rattle.std.specs.Prelude.{◌≡◌, ◌*◌, ℕ, List, All, map, length, string_bytes, false, IfOk, IfErr};
 ghost use Rattle.std.specs.Io.KnownBytes.{Appends};
 ghost use Rattle.cyc_types.specs.declared.refusal.Refusal.TheVariants.{Memory};
+ghost use Rattle.cyc_types.specs.Pairs.{EachTwo};
 ghost use Rattle.cyc_text.specs.Status.{is_write};
 ghost use Rattle.cyc_ring.specs.declared.ends.RaiseEnd.{RaiseEnd as FiringEnd};
 ghost use Rattle.cyc_ring.specs.Ends.{raise_end, end_view};
-ghost use Rattle.cyc_thread_rings.specs.Laid.{EachTwo};
 ghost use Rattle.cyc_thread_rings.specs.Rings.{AreSeated, AreNew, soft_seats, soft_seats_on};
 ghost use Rattle.cyc_threads.specs.declared.progress.Progress.{Progress as OneProgress};
 ghost use Rattle.cyc_system_laws.specs.Sound.{IsSound};

@@ -10,3 +10,4 @@ pub mod Draining
 pub mod Runs
 pub mod Timers
 pub mod Expirations
+pub mod Pairs

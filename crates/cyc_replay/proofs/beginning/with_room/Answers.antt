@@ -1,9 +1,10 @@
 use Rattle.std.proofs.Common.{ap, sym, ◌∙◌, subst}
 use Rattle.std.specs.Prelude.{All}
+use Rattle.cyc_types.specs.Pairs.{EachTwo}
 use Rattle.cyc_core.specs.Tables.{Tables}
 use Rattle.cyc_cpu.specs.Soft.{firing_at}
 use Rattle.cyc_system.specs.System.{SystemView}
-use Rattle.cyc_system.specs.Splitting.{EachTwo, AllComeBack}
+use Rattle.cyc_system.specs.Splitting.{AllComeBack}
 use Rattle.cyc_replay.specs.Beginning.{IsEmpty, HasReserved}
 use Rattle.cyc_replay.proofs.Start.{come_back}
 use Rattle.cyc_replay.proofs.beginning.with_room.Goals as goal

@@ -1,8 +1,8 @@
 use Rattle.std.proofs.Common.{◌≡◌, sym, ap, subst, ◌∙◌, ◌∷◌, ◌++◌, List, map, refl, arith}
+use Rattle.cyc_types.specs.Pairs.{EachTwo}
 use Rattle.cyc_ring.specs.declared.ring.Ring.{Ring}
 use Rattle.cyc_thread_rings.specs.declared.levels.Levels.{Levels}
 use Rattle.cyc_thread_rings.specs.declared.levels.Seated.{Seated}
-use Rattle.cyc_thread_rings.specs.Laid.{EachTwo}
 use Rattle.cyc_thread_rings.specs.Rings.{AreSeated, IsAttached}
 use Rattle.cyc_thread_rings.proofs.Each.{each_at, each_low, each_long, each_of_map, each_pushed, taken_all, taken_many}
 use Rattle.cyc_thread_rings.proofs.Each.{taken_none}

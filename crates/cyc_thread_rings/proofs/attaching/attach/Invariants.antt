@@ -1,7 +1,7 @@
 use Rattle.std.proofs.Common.{◌≡◌, ◌+◌, ◌≤◌, ◌++◌, length}
 use Rattle.std.specs.Prelude.{vec_len, vec_capacity}
 use Rattle.std.specs.Vec.Iter.{into_iter_items, into_iter_len}
-use Rattle.cyc_thread_rings.specs.Laid.{EachTwo}
+use Rattle.cyc_types.specs.Pairs.{EachTwo}
 use Rattle.cyc_thread_rings.specs.Rings.{IsAttached}
 use Rattle.cyc_thread_rings.proofs.attaching.attach.Given as goal
 

@@ -1,8 +1,8 @@
 use Rattle.std.proofs.Common.{◌≡◌, ◌∷◌, List, length, ap, subst, refl, arith}
+use Rattle.cyc_types.specs.Pairs.{EachTwo}
 use Rattle.cyc_ring.specs.declared.ring.Ring.{Ring}
 use Rattle.cyc_workers.specs.declared.cpu.Seats.{Seats}
 use Rattle.cyc_thread_rings.specs.declared.levels.Levels.{Levels}
-use Rattle.cyc_thread_rings.specs.Laid.{EachTwo}
 use Rattle.cyc_thread_rings.specs.Rings.{AreSeated, AreClosed}
 use Rattle.cyc_thread_rings.proofs.Each.{each_long, each_pushed, taken_all, taken_many, taken_none}
 use Rattle.cyc_thread_rings.proofs.closing.close_rings.Goals as goal

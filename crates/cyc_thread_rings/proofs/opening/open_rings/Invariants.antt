@@ -1,6 +1,6 @@
 use Rattle.std.proofs.Common.{◌≡◌, ◌≤◌, length}
 use Rattle.std.specs.Prelude.{All, vec_capacity}
-use Rattle.cyc_thread_rings.specs.Laid.{EachTwo}
+use Rattle.cyc_types.specs.Pairs.{EachTwo}
 use Rattle.cyc_thread_rings.specs.Rings.{AreSeated, AreNew, BeginAt}
 use Rattle.cyc_thread_rings.proofs.opening.open_rings.Given as goal
 

@@ -1,5 +1,5 @@
 use Rattle.std.proofs.Common.{[], refl, sym, subst, arith, rules}
-use Rattle.cyc_thread_rings.specs.Laid.{EachTwo}
+use Rattle.cyc_types.specs.Pairs.{EachTwo}
 use Rattle.cyc_thread_rings.specs.Working.{HaveKept}
 use Rattle.cyc_thread_rings.proofs.Each.{each_pushed, taken_all, taken_many, taken_none}
 use Rattle.cyc_thread_rings.proofs.working.join_all.Goals as goal

@@ -1,6 +1,6 @@
 use Rattle.std.proofs.Common.{[], ◌∷◌, map, sym, subst, arith, rules}
 use Rattle.std.proofs.lemmas.List.{map-append}
-use Rattle.cyc_thread_rings.specs.Laid.{EachTwo}
+use Rattle.cyc_types.specs.Pairs.{EachTwo}
 use Rattle.cyc_thread_rings.specs.Working.{sides_of, HasPromised}
 use Rattle.cyc_thread_rings.proofs.Each.{each_pushed, taken_all, taken_many, taken_none}
 use Rattle.cyc_thread_rings.proofs.working.start_each.Goals as goal
