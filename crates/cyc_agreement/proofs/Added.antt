@@ -7,9 +7,10 @@ use Rattle.cyc_types.specs.declared.moment.When.{When}
 use Rattle.cyc_types.specs.declared.refusal.Refusal.{Refusal}
 use Rattle.cyc_types.specs.declared.refusal.Refusal.TheVariants.{Memory}
 use Rattle.cyc_types.specs.Reasons.{first_refusal, bad_now}
+use Rattle.cyc_types.specs.Counting.{no_counts}
 use Rattle.cyc_places.specs.declared.record.Placement.TheVariants.{Everywhere}
 use Rattle.cyc_places.specs.declared.record.Record.{Record}
-use Rattle.cyc_places.specs.Places.{new_record, no_counts}
+use Rattle.cyc_places.specs.Places.{new_record}
 use Rattle.cyc_agreement.specs.Cpus.{CpusView, IsCpu, online_cpus, numbers_from, Works}
 use Rattle.cyc_agreement.specs.Reserving.{ReservesEach}
 use Rattle.cyc_agreement.specs.System.{SystemView}

@@ -4,11 +4,12 @@ use Rattle.std.proofs.Common.{◌∙◌, subst, arith}
 use Rattle.std.specs.Prelude.{remove}
 use Rattle.std.proofs.lemmas.Option.{slice_get_within, get_or_from_slice_get}
 use mathlib.Core.Logic.{dite}
+use Rattle.cyc_types.specs.Counting.{no_counts}
 use native.Mathlib.Decide.{ℕ_discrete}
 use Rattle.cyc_places.specs.declared.record.Placement.{Placement}
 use Rattle.cyc_places.specs.declared.record.Placement.TheVariants.{On, Everywhere}
 use Rattle.cyc_places.specs.declared.record.Record.{Record}
-use Rattle.cyc_places.specs.Places.{IsRecord, HasNoRecord, HasRisingIds, ended_on, no_counts}
+use Rattle.cyc_places.specs.Places.{IsRecord, HasNoRecord, HasRisingIds, ended_on}
 use Rattle.cyc_agreement.specs.Cpus.{CpusView}
 use Rattle.cyc_agreement.specs.System.{has, removal_on, is_online, is_everywhere}
 use Rattle.cyc_agreement.specs.Agreement.{Agrees, Stands}

@@ -7,11 +7,12 @@ use Rattle.std.proofs.lemmas.List.{append-nil, take_all}
 use Rattle.cyc_types.specs.declared.Raise.{Ghosts as Raise}
 use Rattle.cyc_types.specs.declared.firing.Sent.{Sent}
 use Rattle.cyc_types.proofs.Runs.{folds_on}
+use Rattle.cyc_types.specs.Counting.{no_counts}
 use Rattle.cyc_cpu.specs.Rows.{Cyclic}
 use Rattle.cyc_cpu.specs.Cpu.{CpuView}
 use Rattle.cyc_cpu.specs.Calls.{MayPlace}
 use Rattle.cyc_places.specs.declared.record.Record.{Record}
-use Rattle.cyc_places.specs.Places.{IsRecord, HasRisingIds, HaveCounts, AreCounts, ended_on, no_counts, with_ended, is_everywhere}
+use Rattle.cyc_places.specs.Places.{IsRecord, HasRisingIds, HaveCounts, AreCounts, ended_on, with_ended, is_everywhere}
 use Rattle.cyc_agreement.specs.Cpus.{CpusView, IsCpu, DoesAt, Works}
 use Rattle.cyc_agreement.proofs.CpuSpots.{one_cpu}
 use Rattle.cyc_agreement.proofs.Who.{id_in}

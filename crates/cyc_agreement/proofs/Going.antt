@@ -9,11 +9,12 @@ use Rattle.cyc_types.specs.declared.refusal.Refusal.{Refusal}
 use Rattle.cyc_types.specs.declared.refusal.Refusal.TheVariants as why
 use Rattle.cyc_cpu.specs.Rows.{Cyclic}
 use Rattle.cyc_types.specs.Reasons.{first_refusal, bad_now}
+use Rattle.cyc_types.specs.Counting.{no_counts}
 use Rattle.cyc_cpu.specs.Cpu.{CpuView, Looked, WhyNotReserved}
 use Rattle.cyc_cpu.specs.Laws.{IsLawful}
 use Rattle.cyc_cpu.specs.Calls.{Changes, Reserve, Widen}
 use Rattle.cyc_places.specs.declared.record.Record.{Record}
-use Rattle.cyc_places.specs.Places.{HasRisingIds, no_counts, with_ended}
+use Rattle.cyc_places.specs.Places.{HasRisingIds, with_ended}
 use Rattle.cyc_agreement.specs.Cpus.{CpusView, IsCpu, with_cpu, on, DoesAt, Works}
 use Rattle.cyc_agreement.proofs.CpuSpots.{one_cpu, cpu_there, changed}
 use Rattle.cyc_agreement.specs.System.{SystemView, is_online}

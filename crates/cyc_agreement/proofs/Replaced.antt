@@ -4,10 +4,11 @@ use Rattle.std.proofs.Common.{ap, ◌∙◌, subst, arith}
 use Rattle.std.specs.List.{slice_get}
 use Rattle.std.proofs.lemmas.Option.{slice_get_within}
 use mathlib.Core.Logic.{dite}
+use Rattle.cyc_types.specs.Counting.{no_counts}
 use native.Mathlib.Decide.{ℕ_discrete}
 use Rattle.cyc_places.specs.declared.record.Placement.TheVariants.{On}
 use Rattle.cyc_places.specs.declared.record.Record.{Record}
-use Rattle.cyc_places.specs.Places.{IsRecord, HasRisingIds, with_place, ended_on, no_counts}
+use Rattle.cyc_places.specs.Places.{IsRecord, HasRisingIds, with_place, ended_on}
 use Rattle.cyc_agreement.specs.Cpus.{CpusView}
 use Rattle.cyc_agreement.proofs.CpuSpots.{get_set_same, get_set_other}
 use Rattle.cyc_agreement.specs.System.{SystemView, has, removal_on, is_online, is_everywhere}

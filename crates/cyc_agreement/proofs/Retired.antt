@@ -14,6 +14,7 @@ use Rattle.cyc_types.specs.Runs.{Goes}
 use Rattle.cyc_types.specs.declared.firing.Sent.{Sent}
 use Rattle.cyc_types.specs.declared.level.Level.TheVariants.{Low, Lock}
 use Rattle.cyc_types.proofs.Runs.{folds_more}
+use Rattle.cyc_types.specs.Counting.{no_counts}
 use Rattle.cyc_cpu.specs.Rows.{Cyclic}
 use Rattle.cyc_cpu.specs.Acts.{same_level}
 use Rattle.cyc_cpu.specs.Cpu.{CpuView, IsCyclic, seen_at}
@@ -22,7 +23,7 @@ use Rattle.cyc_cpu.specs.Moving.{TakesNow}
 use Rattle.cyc_cpu.specs.Calls.{TakeNow}
 use Rattle.cyc_cpu.proofs.Inquiring.{load_lowers}
 use Rattle.cyc_places.specs.declared.record.Record.{Record}
-use Rattle.cyc_places.specs.Places.{RecordsView, IsRecord, HasRisingIds, ended_on, no_counts, summed, with_ended}
+use Rattle.cyc_places.specs.Places.{RecordsView, IsRecord, HasRisingIds, ended_on, summed, with_ended}
 use Rattle.cyc_agreement.specs.Cpus.{CpusView, IsCpu, OfCpu, with_cpu, on, DoesAt}
 use Rattle.cyc_agreement.specs.Shifting.{MayLeave}
 use Rattle.cyc_agreement.proofs.CpuSpots.{of_cpu, cpu_there, get_set_same, get_set_other}

@@ -13,6 +13,7 @@ use Rattle.cyc_types.specs.Series.{never}
 use Rattle.cyc_types.specs.declared.Raise.{Ghosts as Raise}
 use Rattle.cyc_types.specs.declared.firing.Sent.{Sent}
 use Rattle.cyc_types.specs.declared.receipt.Receipt.{Receipt}
+use Rattle.cyc_types.specs.Counting.{no_counts}
 use Rattle.cyc_cpu.specs.Rows.{Cyclic}
 use Rattle.cyc_cpu.specs.declared.removing.Removal.{Removal}
 use Rattle.cyc_cpu.specs.declared.removing.Removal.TheVariants.{Done, Kept}
@@ -21,7 +22,7 @@ use Rattle.cyc_cpu.specs.Laws.{IsLawful}
 use Rattle.cyc_cpu.specs.Removal.{IsReceipt}
 use Rattle.cyc_cpu.specs.Calls.{Changes, PollRemove}
 use Rattle.cyc_places.specs.declared.record.Record.{Record}
-use Rattle.cyc_places.specs.Places.{IsRecord, HasRisingIds, with_ended, ended_on, summed, no_counts}
+use Rattle.cyc_places.specs.Places.{IsRecord, HasRisingIds, with_ended, ended_on, summed}
 use Rattle.cyc_agreement.specs.Cpus.{CpusView, IsCpu}
 use Rattle.cyc_agreement.proofs.CpuSpots.{get_set_same, get_set_other}
 use Rattle.cyc_agreement.specs.System.{SystemView, record_of}

@@ -8,9 +8,10 @@ use Rattle.std.proofs.lemmas.List.{length-set, get_or-set_other}
 use mathlib.Core.Logic.{dite}
 use native.Mathlib.Decide.{ℕ_discrete}
 use Rattle.cyc_types.specs.declared.firing.Sent.{Sent}
+use Rattle.cyc_types.specs.Counting.{no_counts}
 use Rattle.cyc_cpu.specs.Cpu.{CpuView}
 use Rattle.cyc_places.specs.declared.record.Record.{Record}
-use Rattle.cyc_places.specs.Places.{IsRecord, with_ended, ended_on, no_counts}
+use Rattle.cyc_places.specs.Places.{IsRecord, with_ended, ended_on}
 use Rattle.cyc_agreement.specs.Cpus.{CpusView, IsCpu, with_cpu}
 use Rattle.cyc_agreement.proofs.CpuSpots.{get_set_same, get_set_other}
 use Rattle.cyc_agreement.specs.System.{ids_of, has}

@@ -8,11 +8,12 @@ use mathlib.Core.Logic.{dite}
 use native.Mathlib.Decide.{ℕ_discrete}
 use Rattle.cyc_types.specs.declared.Raise.{Ghosts as Raise}
 use Rattle.cyc_types.specs.declared.firing.Sent.{Sent}
+use Rattle.cyc_types.specs.Counting.{no_counts}
 use Rattle.cyc_cpu.specs.Cpu.{CpuView}
 use Rattle.cyc_cpu.specs.declared.moving.Taken.{Taken}
 use Rattle.cyc_cpu.specs.Calls.{TakeNow}
 use Rattle.cyc_places.specs.declared.record.Record.{Record}
-use Rattle.cyc_places.specs.Places.{RecordsView, IsRecord, ended_on, no_counts, summed, with_ended}
+use Rattle.cyc_places.specs.Places.{RecordsView, IsRecord, ended_on, summed, with_ended}
 use Rattle.cyc_agreement.specs.Cpus.{CpusView, on, DoesAt}
 use Rattle.cyc_agreement.proofs.CpuSpots.{get_set_same, get_set_other}
 use Rattle.cyc_agreement.specs.Agreement.{most_on}

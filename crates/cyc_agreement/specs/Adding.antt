@@ -6,9 +6,10 @@ use Rattle.cyc_types.specs.declared.level.Level.{Level}
 use Rattle.cyc_types.specs.declared.moment.When.{When}
 use Rattle.cyc_types.specs.declared.refusal.Refusal.{Refusal}
 use Rattle.cyc_types.specs.declared.refusal.Refusal.TheVariants.{Memory}
+use Rattle.cyc_types.specs.Counting.{no_counts}
 use Rattle.cyc_cpu.specs.Calls.{Reserve, Widen, Place}
 use Rattle.cyc_places.specs.declared.record.Placement.TheVariants.{On}
-use Rattle.cyc_places.specs.Places.{no_counts, new_record}
+use Rattle.cyc_places.specs.Places.{new_record}
 use Rattle.cyc_agreement.specs.Cpus.{CallOn, on, Works}
 use Rattle.cyc_agreement.specs.Destination.{destination}
 use Rattle.cyc_agreement.specs.System.{SystemView}

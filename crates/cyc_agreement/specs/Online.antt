@@ -8,11 +8,12 @@ use Rattle.cyc_types.specs.declared.level.Level.{Level}
 use Rattle.cyc_types.specs.declared.refusal.Refusal.{Refusal}
 use Rattle.cyc_types.specs.declared.refusal.Refusal.TheVariants.{Memory, Expanding, Online}
 use Rattle.cyc_types.specs.Reasons.{when}
+use Rattle.cyc_types.specs.Counting.{no_counts}
 use Rattle.cyc_cpu.specs.Calls.{Reserve, Widen, Place as PlaceCall}
 use Rattle.cyc_places.specs.declared.record.Placement.{Placement}
 use Rattle.cyc_places.specs.declared.record.Placement.TheVariants.{On, Everywhere}
 use Rattle.cyc_places.specs.declared.record.Record.{Record}
-use Rattle.cyc_places.specs.Places.{no_counts, ended_on, with_ended}
+use Rattle.cyc_places.specs.Places.{ended_on, with_ended}
 use Rattle.cyc_agreement.specs.Cpus.{CpusView, CallOn, on, Works}
 use Rattle.cyc_agreement.specs.System.{SystemView, is_online, is_everywhere, is_leaving_here}
 use Rattle.cyc_agreement.specs.Adding.{OnlyWorks}

@@ -1,8 +1,9 @@
 -- What is true of the CPUs and the records while a cyclic leaves its CPUs.
 use Rattle.std.specs.Prelude.{◌≡◌, ◌≢◌, ℕ, ◌≤◌, true, false, List, length, slice_set, Some}
 use Rattle.std.specs.List.{slice_get}
+use Rattle.cyc_types.specs.Counting.{no_counts}
 use Rattle.cyc_places.specs.declared.record.Record.{Record}
-use Rattle.cyc_places.specs.Places.{IsRecord, ended_on, no_counts}
+use Rattle.cyc_places.specs.Places.{IsRecord, ended_on}
 use Rattle.cyc_agreement.specs.Cpus.{CpusView}
 use Rattle.cyc_agreement.specs.System.{SystemView, has, removal_on}
 use Rattle.cyc_agreement.specs.Agreement.{most_on}

@@ -3,8 +3,9 @@
 ghost use Rattle.std.specs.Prelude.{◌≡◌, ◌<◌, ◌≤◌, ◌^◌, ℕ, List, length, slice_set, true, Some, None, Option};
 ghost use Rattle.cyc_cpu.specs.declared.removing.Removal.{Removal as TheRemoval};
 ghost use Rattle.cyc_places.specs.declared.record.Record.{Record};
-ghost use Rattle.cyc_places.specs.Places.{IsRecord, ended_on, no_counts, summed, with_ended};
+ghost use Rattle.cyc_places.specs.Places.{IsRecord, ended_on, summed, with_ended};
 ghost use Rattle.cyc_types.specs.declared.receipt.Receipt.{Receipt as TheReceipt};
+ghost use Rattle.cyc_types.specs.Counting.{no_counts};
 ghost use Rattle.cyc_agreement.specs.System.{has, removal_on};
 ghost use Rattle.cyc_agreement.specs.Removing.{BeginsOn, counts_of, kept_in};
 ghost use Rattle.cyc_agreement.specs.Polling.{PollsOn};

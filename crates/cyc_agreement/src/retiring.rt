@@ -3,8 +3,9 @@
 ghost use Rattle.std.specs.Prelude.{◌≡◌, ℕ, ◌<◌, length, [], true, Some, None};
 ghost use Rattle.std.specs.Bool.{OnTrue, OnFalse};
 ghost use Rattle.std.specs.List.{FoldsTo};
+ghost use Rattle.cyc_types.specs.Counting.{no_counts};
 ghost use Rattle.cyc_places.specs.declared.record.Record.{Record};
-ghost use Rattle.cyc_places.specs.Places.{RecordsView, IsRecord, ended_on, no_counts};
+ghost use Rattle.cyc_places.specs.Places.{RecordsView, IsRecord, ended_on};
 ghost use Rattle.cyc_agreement.specs.Cpus.{OfCpu, Works};
 ghost use Rattle.cyc_agreement.specs.Destination.{destination};
 ghost use Rattle.cyc_agreement.specs.Shifting.{MayLeave};

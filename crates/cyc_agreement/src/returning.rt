@@ -3,9 +3,10 @@
 ghost use Rattle.std.specs.Prelude.{◌≡◌, ◌<◌, ◌≤◌, ℕ, [], ◌∷◌, Err, length, filter, map, slice_set, true};
 ghost use Rattle.cyc_types.specs.Series.{never};
 ghost use Rattle.cyc_types.specs.Reasons.{bad_now};
+ghost use Rattle.cyc_types.specs.Counting.{no_counts};
 ghost use Rattle.cyc_cpu.specs.Calls.{MayPlace};
 ghost use Rattle.cyc_places.specs.declared.record.Record.{Record as TheRecord};
-ghost use Rattle.cyc_places.specs.Places.{IsRecord, HasRisingIds, HaveCounts, ended_on, no_counts, with_ended, is_everywhere};
+ghost use Rattle.cyc_places.specs.Places.{IsRecord, HasRisingIds, HaveCounts, ended_on, with_ended, is_everywhere};
 ghost use Rattle.cyc_agreement.specs.Cpus.{OfCpu, Works};
 ghost use Rattle.cyc_agreement.specs.Holding.{Holds};
 ghost use Rattle.cyc_agreement.specs.System.{SystemView};

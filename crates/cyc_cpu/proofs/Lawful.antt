@@ -12,7 +12,8 @@ use Rattle.cyc_types.specs.Expirations.{expirations, times_of}
 use Rattle.cyc_types.specs.Timers.{Timer, HasDistinctIds}
 use Rattle.cyc_types.proofs.Dues.{due_later}
 use Rattle.cyc_types.proofs.Laws.{times_expirations}
-use Rattle.cyc_timers.specs.Rows.{Row, Cyclic, IsRow, IsRising, no_counts, timers, cyclic_of, cyclics_of}
+use Rattle.cyc_types.specs.Counting.{no_counts}
+use Rattle.cyc_timers.specs.Rows.{Row, Cyclic, IsRow, IsRising, timers, cyclic_of, cyclics_of}
 use Rattle.cyc_cpu.specs.Cpu.{HasCounts, HasRisingIds, IsRemoved}
 use Rattle.cyc_timers.specs.Ends.{IsEnd, IsHard}
 use Rattle.cyc_cpu.specs.Losses.{IsUnder, IsSpared}

@@ -13,7 +13,8 @@ use Rattle.cyc_types.specs.declared.level.Level.{Level}
 use Rattle.cyc_types.specs.declared.level.Level.TheVariants.{Low, Lock, High}
 use Rattle.cyc_types.specs.Expirations.{Expiration, expirations, times_of}
 use Rattle.cyc_types.specs.Timers.{Timer, HasDistinctIds}
-use Rattle.cyc_cpu.specs.Rows.{no_counts, timers}
+use Rattle.cyc_types.specs.Counting.{no_counts}
+use Rattle.cyc_cpu.specs.Rows.{timers}
 use Rattle.cyc_cpu.specs.FireRefused.{FireRefused}
 use Rattle.cyc_cpu.specs.Acts.{is_of, timer_of}
 use Rattle.cyc_cpu.specs.Shares.{share}

@@ -10,12 +10,13 @@ use Rattle.cyc_types.specs.Runs.{Goes}
 use Rattle.cyc_types.specs.declared.firing.Sent.{Sent}
 use Rattle.cyc_types.specs.declared.level.Level.{Level}
 use Rattle.cyc_types.specs.declared.level.Level.TheVariants.{Low, Lock, High}
+use Rattle.cyc_types.specs.Counting.{no_counts}
 use Rattle.cyc_cpu.specs.Level.{AdmittedCyclic, SoftLevel, count, count_in}
 use Rattle.cyc_cpu.specs.Lawful.{Lawful}
 use Rattle.cyc_cpu.specs.Tables.{Tables, level_of}
 use Rattle.cyc_cpu.specs.FiringSide.{stay_of}
 use Rattle.cyc_cpu.specs.DrainingSide.{done_in}
-use Rattle.cyc_cpu.specs.Rows.{Cyclic, no_counts}
+use Rattle.cyc_cpu.specs.Rows.{Cyclic}
 use Rattle.cyc_cpu.specs.declared.removing.Removal.TheVariants.{Done}
 use Rattle.cyc_cpu.specs.Cpu.{CpuView, AreAdmitted, IsCyclic}
 use Rattle.cyc_cpu.specs.Removal.{Leaves, calls_at}

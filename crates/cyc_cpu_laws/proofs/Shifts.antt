@@ -13,7 +13,8 @@ use Rattle.cyc_types.specs.declared.moment.When.{When}
 use Rattle.cyc_types.specs.declared.refusal.Refusal.{Refusal}
 use Rattle.cyc_types.specs.declared.refusal.Refusal.TheVariants as why
 use Rattle.cyc_types.specs.Series.{never}
-use Rattle.cyc_cpu.specs.Rows.{Cyclic, no_counts}
+use Rattle.cyc_types.specs.Counting.{no_counts}
+use Rattle.cyc_cpu.specs.Rows.{Cyclic}
 use Rattle.cyc_cpu.specs.declared.removing.Removal.TheVariants.{Done, Kept}
 use Rattle.cyc_cpu.specs.Gone.{PutsNot}
 use Rattle.cyc_cpu.specs.Removal.{Leaves}

@@ -10,7 +10,8 @@ use Rattle.cyc_types.specs.declared.level.Level.TheVariants.{Low, Lock, High}
 use Rattle.cyc_soft.specs.declared.Ran.{Ran}
 use Rattle.cyc_soft.specs.declared.SoftRefused.{SoftRefused}
 use Rattle.cyc_types.specs.Expirations.{Expiration, expirations}
-use Rattle.cyc_cpu.specs.Rows.{Cyclic, no_counts, timers}
+use Rattle.cyc_types.specs.Counting.{no_counts}
+use Rattle.cyc_cpu.specs.Rows.{Cyclic, timers}
 use Rattle.cyc_cpu.specs.Acts.{same_level}
 use Rattle.cyc_cpu.specs.Shares.{share}
 use Rattle.cyc_cpu.specs.declared.removing.Removal.TheVariants.{Done}

@@ -6,9 +6,10 @@ use Rattle.std.proofs.lemmas.Option.{slice_get_within, get_or_from_slice_get, sa
 use Rattle.std.proofs.lemmas.List.Sums.{sum_by-cons}
 use Rattle.cyc_types.specs.declared.firing.Sent.{Sent}
 use Rattle.cyc_types.specs.declared.level.Level.{Level}
+use Rattle.cyc_types.specs.Counting.{no_counts}
 use Rattle.cyc_places.specs.declared.record.Placement.{Placement}
 use Rattle.cyc_places.specs.declared.record.Record.{Record}
-use Rattle.cyc_places.specs.Places.{HasRisingIds, HaveCounts, HaveAllCounts, AreCounts, new_record, no_counts}
+use Rattle.cyc_places.specs.Places.{HasRisingIds, HaveCounts, HaveAllCounts, AreCounts, new_record}
 
 pub chosen : {A : Type 0} (b : Bool) (x y z : A) → b ≡ true → z ≡ cond b x y → z ≡ x
 chosen true x y z e h = h

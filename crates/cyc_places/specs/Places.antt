@@ -5,6 +5,7 @@ use Rattle.std.specs.List.{slice_get}
 use Rattle.cyc_types.specs.declared.firing.Sent.{Sent}
 use Rattle.cyc_types.specs.declared.level.Level.{Level}
 use Rattle.cyc_types.specs.declared.receipt.Receipt.{Receipt}
+use Rattle.cyc_types.specs.Counting.{no_counts}
 use Rattle.cyc_places.specs.declared.record.Placement.TheVariants.{On, Everywhere}
 use Rattle.cyc_places.specs.declared.record.Placement.{Placement}
 use Rattle.cyc_places.specs.declared.record.Record.{Record}
@@ -47,10 +48,6 @@ pub record IsReceiptOf (receipt : Receipt) (r : Record) : Type 0 where
   pub id : receipt.id ≡ r.id
   pub sent : receipt.sent ≡ sum_by (λ s. s.sent) r.ended
   pub lost : receipt.lost ≡ sum_by (λ s. s.lost) r.ended
-
--- no expiration
-abbrev pub no_counts : Sent
-no_counts = record { sent = 0; lost = 0 }
 
 -- the counts of two stays together
 abbrev pub summed : Sent → Sent → Sent

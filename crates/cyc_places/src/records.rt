@@ -4,8 +4,9 @@ ghost use Rattle.std.specs.Prelude.{◌≡◌, ℕ, ◌+◌, ◌<◌, ◌≤◌,
 ghost use Rattle.std.specs.Prelude.{OnErr, IfErr, IfNone, IfSome};
 ghost use Rattle.std.specs.List.{slice_get};
 ghost use Rattle.cyc_types.specs.declared.refusal.Refusal.TheVariants.{Memory};
+ghost use Rattle.cyc_types.specs.Counting.{no_counts};
 ghost use Rattle.cyc_places.specs.Places.{RecordsView, IsRecord, HasNoRecord, new_record, with_place, with_ended, ended_on};
-ghost use Rattle.cyc_places.specs.Places.{summed, no_counts, HasRisingIds, HaveCounts, HaveAllCounts, IsReceiptOf};
+ghost use Rattle.cyc_places.specs.Places.{summed, HasRisingIds, HaveCounts, HaveAllCounts, IsReceiptOf};
 
 use crate::record::{CPUS, Placement, Record};
 use cyc_types::{CyclicId, Level, Receipt, Refusal, Sent};

@@ -11,11 +11,12 @@ use Rattle.cyc_types.specs.declared.firing.Sent.{Sent}
 use Rattle.cyc_types.specs.declared.level.Level.{Level}
 use Rattle.cyc_types.specs.declared.level.Level.TheVariants as level
 use Rattle.cyc_types.specs.declared.level.Soft.TheVariants as soft
+use Rattle.cyc_types.specs.Counting.{no_counts}
 use Rattle.cyc_level.specs.Level.{AdmittedCyclic, count_in}
 use Rattle.cyc_level.specs.declared.Event.TheVariants.{Mark}
 use Rattle.cyc_core.specs.Tables.{Tables}
 use Rattle.cyc_places.specs.declared.record.Record.{Record}
-use Rattle.cyc_places.specs.Places.{IsRecord, ended_on, no_counts, summed, with_ended}
+use Rattle.cyc_places.specs.Places.{IsRecord, ended_on, summed, with_ended}
 use Rattle.cyc_system.specs.System.{SystemView}
 use Rattle.cyc_system.proofs.Spots.{same_some, none_some, get_some}
 use Rattle.cyc_model.specs.Acts.{at_own}

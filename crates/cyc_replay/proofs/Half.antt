@@ -9,13 +9,14 @@ use mathlib.Core.Logic.{dite}
 use native.Mathlib.Decide.{ℕ_discrete}
 use Rattle.cyc_types.specs.declared.firing.Sent.{Sent}
 use Rattle.cyc_types.specs.declared.level.Level.{Level}
+use Rattle.cyc_types.specs.Counting.{no_counts}
 use Rattle.cyc_core.specs.Tables.{Tables}
 use Rattle.cyc_cpu.specs.Soft.{raise_tables}
 use Rattle.cyc_cpu.specs.Calls.{CpuCall}
 use Rattle.cyc_places.proofs.Counts.{get_either}
 use Rattle.cyc_places.specs.declared.record.Placement.{Placement as RecordPlacement}
 use Rattle.cyc_places.specs.declared.record.Record.{Record}
-use Rattle.cyc_places.specs.Places.{IsRecord, HasRisingIds, ended_on, no_counts, with_ended, new_record}
+use Rattle.cyc_places.specs.Places.{IsRecord, HasRisingIds, ended_on, with_ended, new_record}
 use Rattle.cyc_system.specs.Cpus.{CpusView, CallOn, on, DoesAt, Works, RunningCpus}
 use Rattle.cyc_system.proofs.CpusSpots.{get_set_same, get_set_other}
 use Rattle.cyc_system.specs.System.{SystemView}

@@ -14,6 +14,7 @@ use Rattle.cyc_types.specs.declared.level.Level.{Level}
 use Rattle.cyc_types.specs.declared.receipt.Receipt.{Receipt}
 use Rattle.cyc_types.specs.declared.refusal.JuggleReport.{JuggleReport}
 use Rattle.cyc_types.specs.declared.refusal.Refusal.{Refusal}
+use Rattle.cyc_types.specs.Counting.{no_counts}
 use Rattle.cyc_core.specs.Tables.{Tables}
 use Rattle.cyc_cpu.specs.declared.removing.Removal.{Removal}
 use Rattle.cyc_cpu.specs.declared.removing.Removal.TheVariants as on_cpu
@@ -26,7 +27,7 @@ use Rattle.cyc_cpu.proofs.Calling.{changes_most, fire_keeps}
 use Rattle.cyc_places.specs.declared.record.Placement.{Placement as RecordPlacement}
 use Rattle.cyc_places.specs.declared.record.Placement.TheVariants as place
 use Rattle.cyc_places.specs.declared.record.Record.{Record}
-use Rattle.cyc_places.specs.Places.{IsRecord, HasRisingIds, with_place, with_ended, ended_on, summed, no_counts, new_record}
+use Rattle.cyc_places.specs.Places.{IsRecord, HasRisingIds, with_place, with_ended, ended_on, summed, new_record}
 use Rattle.cyc_system.specs.Cpus.{CpusView, CallOn, Works, DoesAt, RunsAt, with_cpu, on, online_cpus, running_cpus}
 use Rattle.cyc_system.specs.Shifting.{moving}
 use Rattle.cyc_system.specs.Reserving.{rooms, reserves, ReservesEach}

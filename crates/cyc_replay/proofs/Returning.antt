@@ -22,7 +22,7 @@ use Rattle.cyc_cpu.specs.Calls.{Reserve, Widen, Place}
 use Rattle.cyc_places.specs.declared.record.Placement.{Placement as RecordPlacement}
 use Rattle.cyc_places.specs.declared.record.Placement.TheVariants as place
 use Rattle.cyc_places.specs.declared.record.Record.{Record}
-use Rattle.cyc_places.specs.Places.{IsRecord, HasRisingIds, is_everywhere as everywhere_in, ended_on, no_counts, with_ended}
+use Rattle.cyc_places.specs.Places.{IsRecord, HasRisingIds, is_everywhere as everywhere_in, ended_on, with_ended}
 use Rattle.cyc_system.specs.Cpus.{CpusView, Works, on as on_cpu}
 use Rattle.cyc_system.specs.System.{SystemView, is_leaving as leaving_in}
 use Rattle.cyc_system.specs.Refusals as why
@@ -40,6 +40,7 @@ use Rattle.cyc_model.specs.State.{State, Outcome, Ended, Everywhere, Placed, abs
 use Rattle.cyc_model.specs.Places.{is_leaving, without_ended}
 use Rattle.cyc_model.specs.Add.{one_admitted}
 use Rattle.cyc_types.specs.Reasons.{or_else, when, only_if, busy, bad_now}
+use Rattle.cyc_types.specs.Counting.{no_counts}
 use Rattle.cyc_model.specs.Online.{is_on_all, staying, online_cpu, no_room_for_all, online_refusal, again, return_at, return_of}
 use Rattle.cyc_model.specs.Online.{return_all, go_online}
 use Rattle.cyc_model.proofs.Agreement.{agrees_with}

@@ -14,7 +14,7 @@ use Rattle.cyc_script.specs.declared.step.Step.TheVariants as steps
 use Rattle.cyc_cpu.specs.Soft.{raise_tables}
 use Rattle.cyc_cpu.specs.Calls.{AskRoom, Reserve, Widen, Place}
 use Rattle.cyc_places.specs.declared.record.Placement.TheVariants as place
-use Rattle.cyc_places.specs.Places.{IsRecord, no_counts, new_record}
+use Rattle.cyc_places.specs.Places.{IsRecord, new_record}
 use Rattle.cyc_system.specs.Cpus.{CpusView, Works, on as on_cpu, online_cpus as online_in}
 use Rattle.cyc_system.specs.Reserving.{rooms, reserves}
 use Rattle.cyc_system.specs.System.{SystemView}
@@ -31,6 +31,7 @@ use Rattle.cyc_model.specs.Free.{AllCanBeAdmitted}
 use Rattle.cyc_model.specs.State.{State, Outcome, Everywhere, OnAll, absent, cpu_of, numbers_from, online_cpus, on, each, told}
 use Rattle.cyc_model.specs.Places.{given}
 use Rattle.cyc_types.specs.Reasons.{first_refusal, or_else, when, only_if, busy, bad_now}
+use Rattle.cyc_types.specs.Counting.{no_counts}
 use Rattle.cyc_model.specs.Refusals.{ids_spent}
 use Rattle.cyc_model.specs.Add.{enter}
 use Rattle.cyc_model.specs.Omni.{component, everywhere, enter_each, omni_refusal, no_room_on_each}

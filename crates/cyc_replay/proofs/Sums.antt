@@ -5,9 +5,9 @@ use Rattle.std.proofs.lemmas.List.Sums.{sum_by-cons}
 use mathlib.Core.Logic.{dite}
 use native.Mathlib.Decide.{ℕ_discrete}
 use Rattle.cyc_types.specs.declared.firing.Sent.{Sent}
+use Rattle.cyc_types.specs.Counting.{no_counts}
 use Rattle.cyc_cpu_model.specs.Rows.{Cyclic as Timed}
 use Rattle.cyc_cpu.specs.Cpu.{HasNoCyclic, HasRisingIds}
-use Rattle.cyc_places.specs.Places.{no_counts}
 use Rattle.cyc_model.specs.Cpu.{Cyclic, Cpu, is_of}
 use Rattle.cyc_model.specs.State.{absent, kept_if, numbers_from}
 use Rattle.cyc_model.proofs.Rising.{found, first_is, first_not, tally}

@@ -17,7 +17,7 @@ use Rattle.cyc_cpu.specs.Calls.{Reserve, Widen, Place}
 use Rattle.cyc_places.specs.declared.record.Placement.{Placement as RecordPlacement}
 use Rattle.cyc_places.specs.declared.record.Placement.TheVariants as place
 use Rattle.cyc_places.specs.declared.record.Record.{Record}
-use Rattle.cyc_places.specs.Places.{IsRecord, no_counts, new_record, ended_on}
+use Rattle.cyc_places.specs.Places.{IsRecord, new_record, ended_on}
 use Rattle.cyc_system.specs.System.{SystemView}
 use Rattle.cyc_system.specs.Refusals as why
 use Rattle.cyc_system.specs.Calls.{Add, Changes}
@@ -31,6 +31,7 @@ use Rattle.cyc_model.specs.Questions.{plain}
 use Rattle.cyc_model.specs.State.{State, On, absent, cpu_of}
 use Rattle.cyc_model.specs.Places.{destination}
 use Rattle.cyc_types.specs.Reasons.{or_else, when, bad_now}
+use Rattle.cyc_types.specs.Counting.{no_counts}
 use Rattle.cyc_model.specs.Refusals.{ids_spent}
 use Rattle.cyc_model.specs.Add.{cyclic_with, added, add_refusal}
 use Rattle.cyc_model.proofs.Local.{local_enter}

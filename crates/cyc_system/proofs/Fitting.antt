@@ -12,6 +12,7 @@ use mathlib.Core.Logic.{dite}
 use native.Mathlib.Decide.{ℕ_discrete}
 use Rattle.cyc_types.specs.declared.Raise.{Ghosts as Raise}
 use Rattle.cyc_types.specs.declared.firing.Sent.{Sent}
+use Rattle.cyc_types.specs.Counting.{no_counts}
 use Rattle.cyc_agreement.specs.Rows.{Cyclic}
 use Rattle.cyc_cpu_laws.specs.Made.{HasCounts}
 use Rattle.cyc_cpu_laws.specs.Taken.{Taken}
@@ -22,7 +23,7 @@ use Rattle.cyc_cpu_laws.specs.Accounts.{expired_of, entered_by, left_by}
 use Rattle.cyc_cpu_laws.proofs.Shifts.{changes_shift, shift_sums}
 use Rattle.cyc_places.specs.declared.record.Placement.TheVariants as stands
 use Rattle.cyc_places.specs.declared.record.Record.{Record}
-use Rattle.cyc_places.specs.Places.{IsRecord, ended_on, no_counts, summed, with_place, with_ended}
+use Rattle.cyc_places.specs.Places.{IsRecord, ended_on, summed, with_place, with_ended}
 use Rattle.cyc_agreement.specs.Cpus.{CpusView, IsCpu, CallOn, on, DoesAt, Works}
 use Rattle.cyc_agreement.specs.Shifting.{moving}
 use Rattle.cyc_agreement.proofs.CpuSpots.{get_set_same, get_set_other}

@@ -10,12 +10,13 @@ use Rattle.cyc_types.specs.declared.moment.When.{When}
 use Rattle.cyc_types.specs.declared.refusal.JuggleReport.{JuggleReport}
 use Rattle.cyc_types.specs.declared.refusal.Refusal.{Refusal}
 use Rattle.cyc_types.specs.Reasons.{first_refusal, busy}
+use Rattle.cyc_types.specs.Counting.{no_counts}
 use Rattle.cyc_cpu.specs.declared.moving.Taken.{Taken}
 use Rattle.cyc_cpu.specs.Calls.{TakeNow, Place as PlaceCall, Reserve, Widen, AskPending, Reprogram as CpuReprogram}
 use Rattle.cyc_places.specs.declared.record.Placement.{Placement}
 use Rattle.cyc_places.specs.declared.record.Placement.TheVariants as stands
 use Rattle.cyc_places.specs.declared.record.Record.{Record}
-use Rattle.cyc_places.specs.Places.{ended_on, no_counts}
+use Rattle.cyc_places.specs.Places.{ended_on}
 use Rattle.cyc_agreement.specs.Cpus.{CpusView, CallOn, on, DoesAt, Works, online_cpus}
 use Rattle.cyc_agreement.specs.Reserving.{rooms, reserves, ReservesEach}
 use Rattle.cyc_agreement.specs.Shifting.{move_of, WhyNotShifted, moving}

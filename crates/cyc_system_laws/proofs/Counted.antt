@@ -17,12 +17,13 @@ use Rattle.cyc_types.specs.declared.level.Level.{Level}
 use Rattle.cyc_types.specs.declared.moment.When.{When}
 use Rattle.cyc_types.specs.declared.refusal.JuggleReport.{JuggleReport}
 use Rattle.cyc_types.specs.declared.refusal.Refusal.{Refusal}
+use Rattle.cyc_types.specs.Counting.{no_counts}
 use Rattle.cyc_cpu.specs.declared.moving.Taken.{Taken}
 use Rattle.cyc_cpu.specs.Calls.{TakeNow, Reserve, Widen, AskPending, Reprogram as CpuReprogram}
 use Rattle.cyc_places.specs.declared.record.Placement.{Placement}
 use Rattle.cyc_places.specs.declared.record.Placement.TheVariants as stands
 use Rattle.cyc_places.specs.declared.record.Record.{Record}
-use Rattle.cyc_places.specs.Places.{IsRecord, no_counts, summed, new_record, with_place, with_ended, ended_on, is_everywhere}
+use Rattle.cyc_places.specs.Places.{IsRecord, summed, new_record, with_place, with_ended, ended_on, is_everywhere}
 use Rattle.cyc_system.specs.Cpus.{CpusView, CallOn, on, Works, online_cpus}
 use Rattle.cyc_system.specs.Shifting.{moving}
 use Rattle.cyc_system.proofs.CpusSpots.{get_set_same, get_set_other}

@@ -12,7 +12,8 @@ use Rattle.cyc_types.specs.declared.receipt.Receipt.{Receipt}
 use Rattle.cyc_types.specs.declared.refusal.Refusal.{Refusal}
 use Rattle.cyc_types.specs.declared.refusal.Refusal.TheVariants.{NoCpu}
 use Rattle.cyc_types.specs.Reasons.{first_refusal, or_else, when, busy, bad_now}
-use Rattle.cyc_places.specs.Places.{no_counts, summed}
+use Rattle.cyc_types.specs.Counting.{no_counts}
+use Rattle.cyc_places.specs.Places.{summed}
 use Rattle.cyc_system.specs.System.{SystemView, record_of, removal_on}
 use Rattle.cyc_system.specs.Refusals.{no_cpu, offline_cpu}
 use Rattle.cyc_system.proofs.Spots.{none_some}

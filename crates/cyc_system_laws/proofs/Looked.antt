@@ -10,12 +10,13 @@ use Rattle.cyc_types.specs.declared.moment.When.{When}
 use Rattle.cyc_types.specs.declared.receipt.Receipt.{Receipt}
 use Rattle.cyc_types.specs.declared.refusal.JuggleReport.{JuggleReport}
 use Rattle.cyc_types.specs.declared.refusal.Refusal.{Refusal}
+use Rattle.cyc_types.specs.Counting.{no_counts}
 use Rattle.cyc_cpu.specs.declared.removing.Removal.{Removal}
 use Rattle.cyc_cpu.specs.declared.removing.Removal.TheVariants.{Done, Kept}
 use Rattle.cyc_places.specs.declared.record.Placement.{Placement}
 use Rattle.cyc_places.specs.declared.record.Placement.TheVariants as stands
 use Rattle.cyc_places.specs.declared.record.Record.{Record}
-use Rattle.cyc_places.specs.Places.{IsRecord, HasRisingIds, new_record, no_counts, with_place, with_ended, is_everywhere}
+use Rattle.cyc_places.specs.Places.{IsRecord, HasRisingIds, new_record, with_place, with_ended, is_everywhere}
 use Rattle.cyc_system.specs.Cpus.{CpusView}
 use Rattle.cyc_system.specs.System.{SystemView, ids_on}
 use Rattle.cyc_system.specs.Adding.{add_request, Adds}

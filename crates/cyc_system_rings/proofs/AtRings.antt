@@ -10,12 +10,12 @@ use Rattle.cyc_types.specs.declared.level.Level.{Level}
 use Rattle.cyc_types.specs.declared.level.Level.TheVariants.{Low, Lock, High}
 use Rattle.cyc_types.specs.declared.level.Soft.{Soft}
 use Rattle.cyc_types.specs.declared.level.Soft.TheVariants as soft
+use Rattle.cyc_types.specs.Counting.{no_counts}
 use Rattle.ring_rule.specs.Trail.{raises_of, losses_of}
 use Rattle.cyc_ring.specs.declared.ends.RaiseEnd.{RaiseEnd}
 use Rattle.cyc_ring.specs.declared.closed.Closed.{Closed}
 use Rattle.cyc_ring.specs.Ends.{raise_trail, raise_end}
 use Rattle.cyc_ring.proofs.Ways.{raise_ways}
-use Rattle.cyc_timers.specs.Rows.{no_counts}
 use Rattle.cyc_system_workers.specs.Lead.{Lead}
 use Rattle.cyc_system_laws.proofs.Sums.{sum_none}
 use Rattle.cyc_system_laws.specs.System.{SystemView}

@@ -11,7 +11,8 @@ use Rattle.cyc_types.specs.declared.firing.Sent.{Sent}
 use Rattle.cyc_types.specs.declared.level.Level.{Level}
 use Rattle.cyc_types.specs.declared.level.Level.TheVariants.{Low, Lock, High}
 use Rattle.cyc_types.specs.declared.level.Soft.TheVariants as soft
-use Rattle.cyc_timers.specs.Rows.{Cyclic, no_counts}
+use Rattle.cyc_types.specs.Counting.{no_counts}
+use Rattle.cyc_timers.specs.Rows.{Cyclic}
 use Rattle.cyc_cpu.specs.Cpu.{CpuView}
 use Rattle.cyc_system_workers.specs.Lead.{Lead}
 use Rattle.cyc_system_laws.proofs.Sums.{sum_none}

@@ -7,12 +7,12 @@ use Rattle.cyc_types.specs.declared.firing.Sent.{Sent}
 use Rattle.cyc_types.specs.declared.level.Level.{Level}
 use Rattle.cyc_types.specs.declared.level.Soft.{Soft}
 use Rattle.cyc_types.specs.declared.level.Soft.TheVariants.{Low, Lock}
+use Rattle.cyc_types.specs.Counting.{no_counts}
 use Rattle.ring_rule.specs.Trail.{raises_of, losses_of}
 use Rattle.cyc_ring.specs.declared.ends.RaiseEnd.{RaiseEnd}
 use Rattle.cyc_ring.specs.declared.closed.Closed.{Closed}
 use Rattle.cyc_ring.specs.Ends.{raise_trail, raise_end, end_view}
 use Rattle.cyc_ring.specs.Books.{closed_made}
-use Rattle.cyc_timers.specs.Rows.{no_counts}
 use Rattle.cyc_timers.specs.Acts.{same_level}
 use Rattle.cyc_cpu.specs.Cpu.{CpuView}
 use Rattle.cyc_agreement.specs.Cpus.{OfCpu}

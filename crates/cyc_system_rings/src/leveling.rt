@@ -4,9 +4,9 @@ ghost use Rattle.std.specs.Prelude.{◌≡◌, ℕ, ◌+◌, false, List, map, s
 ghost use Rattle.cyc_types.specs.Levels.{as_level, at_level};
 ghost use Rattle.cyc_types.specs.declared.level.Level.TheVariants.{High};
 ghost use Rattle.cyc_types.specs.declared.level.Soft.{Soft as Level};
+ghost use Rattle.cyc_types.specs.Counting.{no_counts};
 ghost use Rattle.cyc_ring.specs.declared.ends.RaiseEnd.{RaiseEnd as AnEnd};
 ghost use Rattle.cyc_ring.specs.declared.closed.Closed.{Closed};
-ghost use Rattle.cyc_timers.specs.Rows.{no_counts};
 ghost use Rattle.cyc_system_laws.specs.System.{SystemView};
 ghost use Rattle.cyc_system_workers.specs.declared.side.SystemSide.{SystemSide};
 ghost use Rattle.cyc_system_rings.specs.Leading.{LeadCall};

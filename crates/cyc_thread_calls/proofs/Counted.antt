@@ -8,7 +8,7 @@ use Rattle.cyc_types.specs.declared.firing.Sent.{Sent}
 use Rattle.cyc_types.specs.declared.level.Level.{Level}
 use Rattle.cyc_types.specs.declared.level.Level.TheVariants.{Low, Lock, High}
 use Rattle.cyc_types.specs.declared.level.Soft.TheVariants as soft
-use Rattle.cyc_timers.specs.Rows.{no_counts}
+use Rattle.cyc_types.specs.Counting.{no_counts}
 use Rattle.cyc_timers.specs.Acts.{same_level}
 use Rattle.cyc_ring.specs.declared.ends.RaiseEnd.{RaiseEnd}
 use Rattle.cyc_ring.specs.Ends.{raise_end}

@@ -15,7 +15,8 @@ use Rattle.cyc_types.specs.declared.level.Level.{Level}
 use Rattle.cyc_types.specs.Expirations.{Expiration, after, all_after}
 use Rattle.cyc_types.specs.Timers.{Timer, HasDistinctIds}
 use Rattle.cyc_types.proofs.Firings.{Firing}
-use Rattle.cyc_timers.specs.Rows.{Row, Cyclic, IsRow, IsRising, no_counts, timers_of, cyclic_of, cyclics_of}
+use Rattle.cyc_types.specs.Counting.{no_counts}
+use Rattle.cyc_timers.specs.Rows.{Row, Cyclic, IsRow, IsRising, timers_of, cyclic_of, cyclics_of}
 use Rattle.cyc_timers.specs.Acts.{AreRaises, loss_in, way_losses, id_at, ids_at, is_at, is_of, same_level, timer_of, lost_after}
 use Rattle.cyc_timers.proofs.Readying.{Edits, edits}
 use Rattle.cyc_timers.proofs.Tables.{timer_of_row, timers_long}

@@ -6,6 +6,7 @@ use Rattle.cyc_types.specs.declared.firing.Sent.{Sent}
 use Rattle.cyc_types.specs.declared.level.Level.TheVariants.{Low}
 use Rattle.cyc_types.specs.Expirations.{Expiration, is_before, next_of}
 use Rattle.cyc_types.specs.Timers.{Timer}
+use Rattle.cyc_types.specs.Counting.{no_counts}
 use Rattle.cyc_finder.specs.declared.finder.Entry.{Entry}
 use Rattle.cyc_finder.specs.Indexes.{id_in}
 use Rattle.cyc_finder.specs.Sorted.{Rises}
@@ -47,10 +48,6 @@ pub record TableView : Type 0 where
   pub root : Option ℕ
   pub size : ℕ
   pub room : ℕ
-
--- no expiration
-abbrev pub no_counts : Sent
-no_counts = record { sent = 0; lost = 0 }
 
 -- what is read where there is no record
 abbrev pub no_record : Record

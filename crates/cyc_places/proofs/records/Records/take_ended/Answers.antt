@@ -2,8 +2,9 @@ use Rattle.std.proofs.Common.{◌≡◌, ◌∙◌, ◌<◌, length, map, set, s
 use Rattle.std.specs.Box.{with_value}
 use Rattle.std.proofs.lemmas.List.{map-set, length-set}
 use Rattle.std.proofs.lemmas.Option.{same_Some}
+use Rattle.cyc_types.specs.Counting.{no_counts}
 use Rattle.cyc_places.specs.declared.record.Record.{Record}
-use Rattle.cyc_places.specs.Places.{RecordsView, IsRecord, AreCounts, with_ended, ended_on, no_counts}
+use Rattle.cyc_places.specs.Places.{RecordsView, IsRecord, AreCounts, with_ended, ended_on}
 use Rattle.cyc_places.proofs.Edits.{value, at_place, counts_set, box_rises, box_counts, box_all}
 use Rattle.cyc_places.proofs.records.Records.take_ended.Goals as goal
 
