@@ -60,17 +60,12 @@ fn script(alloc: Global, bytes: &[u8]) -> Result<Script, Fault> {
     read_script(alloc, bytes).map_err(refused)
 }
 
-fn run_refused(why: Refusal) -> Fault {
-    Fault::Run(RunFault::Refused(why))
-}
-
 /// Runs the script on one thread into the writer, and gives the writer back.
 fn replay_into<W: Write + Drop>(alloc: Global, script: &Script, writer: W) -> Result<W, Fault> {
     let mut out = Out::new(writer);
     match replay(alloc, script, &mut out) {
         Ok(()) => Ok(out.into_inner()),
-        Err(RunFault::Refused(why)) => Err(run_refused(why)),
-        Err(RunFault::Write) => Err(Fault::Run(RunFault::Write)),
+        Err(fault) => Err(Fault::Run(fault)),
     }
 }
 
@@ -85,8 +80,7 @@ fn run_into<R: Threads + Wait + Sync, W: Write + Drop>(
     let mut out = Out::new(writer);
     match run(rt, alloc, script, calls, &mut out) {
         Ok(_ended) => Ok(out.into_inner()),
-        Err(RunFault::Refused(why)) => Err(run_refused(why)),
-        Err(RunFault::Write) => Err(Fault::Run(RunFault::Write)),
+        Err(fault) => Err(Fault::Run(fault)),
     }
 }
 

@@ -32,8 +32,7 @@ fn replay_into<W: Write + Drop>(alloc: Global, script: &Script, writer: W) -> Re
     let mut out = Out::new(writer);
     match replay(alloc, script, &mut out) {
         Ok(()) => Ok(out.into_inner()),
-        Err(RunFault::Refused(why)) => Err(Fault::Run(RunFault::Refused(why))),
-        Err(RunFault::Write) => Err(Fault::Run(RunFault::Write)),
+        Err(fault) => Err(Fault::Run(fault)),
     }
 }
 
